@@ -1,0 +1,2 @@
+-- Laws of numbers on the wire and of writes.
+pub mod Laws

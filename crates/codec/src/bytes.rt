@@ -1,0 +1,56 @@
+// Numbers of two bytes, and bytes written into a lent output.
+use crate::refusals::Refusal;
+ghost use mathlib.Core.Path.{_≡_};
+ghost use Prim.Native.Nat.{_+_, _≤_};
+ghost use lib.ListN.{length};
+ghost use Rattle.codec.specs.Bytes.{wordAt, le16, putAt, putOf, putBytes};
+
+// What a call that writes comes to: the number of bytes written, or why nothing was.
+pub enum Written {
+    Bytes(usize),
+    Refused(Refusal),
+}
+
+// The number at `at`, low byte first.
+pub(crate) fn word_at(s: &[u8], at: usize) -> u16
+    requires { ⌜ at + 2 ≤ length (now s) ⌝ }
+    ensures { λ r. ⌜ r ≡ wordAt (now (s .entry)) at ⌝ }
+{
+    (s[at] as u16) + 256 * (s[at + 1] as u16)
+}
+
+// Writes the number at `at`, low byte first.
+pub(crate) fn put_word(out: &mut [u8], at: usize, n: u16)
+    requires { ⌜ at + 2 ≤ length (now out) ⌝ }
+    ensures { λ _. ⌜ now (out .exit) ≡ putAt (now (out .entry)) at (le16 n) ⌝ }
+{
+    out[at] = (n % 256) as u8;
+    out[at + 1] = (n / 256 % 256) as u8;
+}
+
+// Writes `src` from `at` on: one loop over two slices of one length, which becomes wide moves.
+pub(crate) fn copy_in(out: &mut [u8], at: usize, src: &[u8])
+    requires { ⌜ at + length (now src) ≤ length (now out) ⌝ }
+    ensures { λ _. ⌜ now (out .exit) ≡ putAt (now (out .entry)) at (now (src .entry)) ⌝ }
+{
+    let mut i = 0;
+    while i < src.len() {
+        out[at + i] = src[i];
+        i += 1;
+    }
+}
+
+// Writes `src` from `at` on, or refuses as 13 and writes nothing.
+pub fn put_bytes(out: &mut [u8], at: usize, src: &[u8]) -> Written
+    ensures { λ r. ⌜ (r ≡ putOf (now (out .entry)) at (now (src .entry)))
+        × (now (out .exit) ≡ putBytes (now (out .entry)) at (now (src .entry))) ⌝ }
+{
+    if out.len() < at {
+        return Written::Refused(Refusal::OutputTooShort);
+    }
+    if out.len() - at < src.len() {
+        return Written::Refused(Refusal::OutputTooShort);
+    }
+    copy_in(out, at, src);
+    Written::Bytes(src.len())
+}
