@@ -1,3 +1,4 @@
 -- What a reader must believe of the wire, in document 01's order.
 pub mod Refusals
 pub mod Bytes
+pub mod Submessages

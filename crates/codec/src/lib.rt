@@ -1,3 +1,4 @@
 // The wire of protocol.rs: what a datagram says, how one is written, strings and fragments.
 pub mod bytes;
 pub mod refusals;
+pub mod submessages;
