@@ -1,0 +1,200 @@
+//! Holds the port's answers to the original's, command by command, and shows the first difference.
+
+use crate::words::{bytes, hex, silent};
+use std::collections::BTreeMap;
+
+type Verdict = Result<String, String>;
+
+/// The answers of one side, taken apart by command.
+struct Side<'a> {
+    name: &'static str,
+    lines: std::str::Lines<'a>,
+}
+
+impl<'a> Side<'a> {
+    /// The lines up to the first that ends an answer, that one included.
+    fn answer(&mut self, ends: impl Fn(&str) -> bool) -> Vec<String> {
+        let mut taken = Vec::new();
+        for line in self.lines.by_ref() {
+            taken.push(line.to_string());
+            if ends(line) {
+                return taken;
+            }
+        }
+        taken.push(format!("({} has no more lines)", self.name));
+        taken
+    }
+}
+
+fn first_word(line: &str) -> &str {
+    line.split(' ').next().unwrap_or("")
+}
+
+// The line with a word's bytes read as text, ill-formed parts replaced, as document 01 compares names.
+fn lossy(line: &str, places: &[usize]) -> String {
+    let words = line.split(' ').enumerate().map(|(at, word)| match bytes(word) {
+        Some(text) if places.contains(&at) => hex(String::from_utf8_lossy(&text).as_bytes()),
+        _ => word.to_string(),
+    });
+    words.collect::<Vec<_>>().join(" ")
+}
+
+// Records are matched by number, so the order in which a table lists them is free.
+fn sorted_runs(lines: &mut [String]) {
+    for word in ["object ", "stream ", "held "] {
+        lines.chunk_by_mut(|a, b| a.starts_with(word) && b.starts_with(word)).for_each(|run| run.sort());
+    }
+}
+
+fn shown(title: &str, lines: &[String]) -> String {
+    lines.iter().fold(format!("{title}:\n"), |text, line| text + "    " + &brief(line) + "\n")
+}
+
+fn brief(line: &str) -> String {
+    match line.char_indices().nth(1500) {
+        Some((at, _)) => format!("{} .. ({} characters)", &line[..at], line.len()),
+        None => line.to_string(),
+    }
+}
+
+fn summary(what: &str, counts: &BTreeMap<&str, usize>) -> String {
+    let each: Vec<String> = counts.iter().map(|(word, count)| format!("{word} {count}")).collect();
+    let all: usize = counts.values().sum();
+    format!("{what}: {all} compared and equal ({})", each.join(", "))
+}
+
+fn nothing_left<'a>(original: &mut Side<'a>, port: &mut Side<'a>) -> Result<(), String> {
+    for side in [original, port] {
+        if let Some(line) = side.lines.next() {
+            return Err(format!("{} has lines behind the last command: {}", side.name, brief(line)));
+        }
+    }
+    Ok(())
+}
+
+fn sides<'a>(original: &'a str, port: &'a str) -> (Side<'a>, Side<'a>) {
+    (Side { name: "the original", lines: original.lines() }, Side { name: "the port", lines: port.lines() })
+}
+
+/// The commands for the layers.
+pub fn layers(commands: &str, original: &str, port: &str) -> Verdict {
+    let (mut original, mut port) = sides(original, port);
+    let mut counts = BTreeMap::new();
+    let mut since_new: BTreeMap<&str, Vec<&str>> = BTreeMap::new();
+    for (at, command) in commands.lines().enumerate().filter(|(_, line)| !silent(line)) {
+        let word = first_word(command);
+        let state = state_of(word);
+        let script = since_new.entry(state).or_default();
+        if word == state {
+            script.clear();
+        }
+        script.push(command);
+        let (ours, theirs) = (layer_answer(word, &mut original), layer_answer(word, &mut port));
+        if ours != theirs {
+            let script: Vec<String> = script.iter().map(|line| line.to_string()).collect();
+            let script = if state.is_empty() { &script[script.len() - 1..] } else { &script[..] };
+            return Err(format!(
+                "line {} differs\n{}{}{}", at + 1, shown("commands", script),
+                shown("the original", &ours), shown("the port", &theirs)
+            ));
+        }
+        if state.is_empty() {
+            script.clear();
+        }
+        *counts.entry(word).or_insert(0) += 1;
+    }
+    nothing_left(&mut original, &mut port)?;
+    Ok(summary("commands for the layers", &counts))
+}
+
+// The command that makes the state on which this one works, or none.
+fn state_of(word: &str) -> &str {
+    match word {
+        "message" | "encode" | "decode" | "cut" => "",
+        "store" | "insert" | "has" | "counts" | "assemble" => "store",
+        "stream" | "alloc" | "record" | "acknack" | "heartbeat" | "receive" | "make_acknack" | "held" => "stream",
+        _ => "table",
+    }
+}
+
+fn layer_answer(word: &str, side: &mut Side) -> Vec<String> {
+    let mut lines = side.answer(|line| {
+        let answered = first_word(line);
+        let last = match word {
+            "message" => "written",
+            "cut" | "held" => "end",
+            "dump" => "dumped",
+            _ => return true,
+        };
+        answered == last || answered == "refused" || line == "bad line"
+    });
+    sorted_runs(&mut lines);
+    if word == "decode" {
+        lines.iter_mut().for_each(|line| *line = lossy(line, &[1]));
+    }
+    lines
+}
+
+/// What one datagram, or one other event, came to: its calls, its replies and the rest, each in order.
+#[derive(Default, PartialEq, Eq)]
+struct Outcome {
+    calls: Vec<String>,
+    replies: Vec<String>,
+    rest: Vec<String>,
+}
+
+impl Outcome {
+    fn add(&mut self, lines: Vec<String>) {
+        for line in lines {
+            match first_word(&line) {
+                "call" if line.starts_with("call create_topic ") => self.calls.push(lossy(&line, &[3, 4])),
+                "call" => self.calls.push(line),
+                "reply" => self.replies.push(line),
+                _ => self.rest.push(line),
+            }
+        }
+    }
+
+    fn shown(&self, title: &str) -> String {
+        shown(title, &[&self.calls[..], &self.replies, &self.rest].concat())
+    }
+}
+
+/// Replay scripts.
+pub fn replay(script: &str, original: &str, port: &str) -> Verdict {
+    let (mut original, mut port) = sides(original, port);
+    let mut counts = BTreeMap::new();
+    let events: Vec<(usize, &str)> = script.lines().enumerate().filter(|(_, line)| !silent(line)).collect();
+    let mut setup = 0;
+    let mut at = 0;
+    while at < events.len() {
+        let first = at;
+        if first_word(events[at].1) == "setup" {
+            setup = at;
+        }
+        let (mut ours, mut theirs) = (Outcome::default(), Outcome::default());
+        while at == first || at < events.len() && is_answer(events[at].1) {
+            ours.add(original.answer(ends_event));
+            theirs.add(port.answer(ends_event));
+            *counts.entry(first_word(events[at].1)).or_insert(0) += 1;
+            at += 1;
+        }
+        if ours != theirs {
+            let since: Vec<String> = events[setup..at].iter().map(|(_, line)| line.to_string()).collect();
+            return Err(format!(
+                "the event on line {} differs\n{}{}{}", events[first].0 + 1, shown("script", &since),
+                ours.shown("the original"), theirs.shown("the port")
+            ));
+        }
+    }
+    nothing_left(&mut original, &mut port)?;
+    Ok(summary("events of replay scripts", &counts))
+}
+
+fn is_answer(line: &str) -> bool {
+    matches!(first_word(line), "created" | "done" | "data" | "none" | "failed")
+}
+
+fn ends_event(line: &str) -> bool {
+    !matches!(first_word(line), "reply" | "session" | "object" | "stream" | "moved")
+}

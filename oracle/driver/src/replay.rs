@@ -1,0 +1,260 @@
+//! Replay scripts, answered by the original. A bridge call is answered inside `process_incoming`, so the answers that
+//! follow a datagram are read ahead, and all its replies are printed with its last event: the original doesn't say
+//! which reply stood before which call.
+
+use crate::clock;
+use crate::layers::dump;
+use crate::refusals::refused;
+use crate::words::{bytes, hex, number, silent, words};
+use hdds_xrce::agent::XrceAgent;
+use hdds_xrce::config::XrceAgentConfig;
+use hdds_xrce::protocol::{parse_message, XrceError};
+use hdds_xrce::proxy::ProxyBridge;
+use hdds_xrce::transport::TransportAddr;
+use std::collections::VecDeque;
+use std::sync::{Arc, Mutex};
+
+/// What a host answers to a bridge call.
+#[derive(Debug, Clone, PartialEq, Eq)]
+pub enum Answer {
+    Created(u32),
+    Done,
+    Data(Vec<u8>),
+    NoData,
+    Failed,
+}
+
+/// Where a bridge gets its answers from: a script that is read, or one that is being made.
+pub trait Answers: Send {
+    /// The answer to `call`; only those that `fits` allows are of its kind.
+    fn answer(&mut self, call: &str, fits: fn(&Answer) -> bool) -> Answer;
+}
+
+/// The original's bridge over such answers.
+pub struct Bridge<A: Answers>(pub Mutex<A>);
+
+impl<A: Answers> Bridge<A> {
+    fn ask(&self, call: String, fits: fn(&Answer) -> bool) -> Result<Answer, XrceError> {
+        match self.0.lock().unwrap().answer(&call, fits) {
+            Answer::Failed => Err(XrceError::BridgeError("failed".into())),
+            answer => Ok(answer),
+        }
+    }
+
+    fn create(&self, call: String) -> Result<u32, XrceError> {
+        match self.ask(call, |answer| matches!(answer, Answer::Created(_) | Answer::Failed))? {
+            Answer::Created(handle) => Ok(handle),
+            other => unreachable!("{other:?}"),
+        }
+    }
+
+    fn act(&self, call: String) -> Result<(), XrceError> {
+        self.ask(call, |answer| matches!(answer, Answer::Done | Answer::Failed)).map(|_| ())
+    }
+}
+
+impl<A: Answers> ProxyBridge for Bridge<A> {
+    fn create_participant(&self, domain: u16) -> Result<u32, XrceError> {
+        self.create(format!("create_participant {domain}"))
+    }
+
+    fn create_topic(&self, participant: u32, name: &str, type_name: &str) -> Result<u32, XrceError> {
+        self.create(format!("create_topic {participant} {} {}", hex(name.as_bytes()), hex(type_name.as_bytes())))
+    }
+
+    fn create_writer(&self, participant: u32, topic: u32) -> Result<u32, XrceError> {
+        self.create(format!("create_writer {participant} {topic}"))
+    }
+
+    fn create_reader(&self, participant: u32, topic: u32) -> Result<u32, XrceError> {
+        self.create(format!("create_reader {participant} {topic}"))
+    }
+
+    fn write_data(&self, writer: u32, data: &[u8]) -> Result<(), XrceError> {
+        self.act(format!("write_data {writer} {}", hex(data)))
+    }
+
+    fn read_data(&self, reader: u32) -> Result<Option<Vec<u8>>, XrceError> {
+        let fits = |answer: &Answer| matches!(answer, Answer::Data(_) | Answer::NoData | Answer::Failed);
+        match self.ask(format!("read_data {reader}"), fits)? {
+            Answer::Data(data) => Ok(Some(data)),
+            _ => Ok(None),
+        }
+    }
+
+    fn delete_entity(&self, entity: u32) -> Result<(), XrceError> {
+        self.act(format!("delete_entity {entity}"))
+    }
+}
+
+/// An agent of the original with the two limits that document 01 keeps.
+pub fn agent<A: Answers + 'static>(max: usize, timeout: u64, bridge: Arc<Bridge<A>>) -> Result<XrceAgent, XrceError> {
+    let config = XrceAgentConfig { max_clients: max, session_timeout_ms: timeout, ..XrceAgentConfig::default() };
+    XrceAgent::new(config, bridge)
+}
+
+/// An address of its own for each datagram: the address decides nothing.
+pub fn address(count: usize) -> TransportAddr {
+    TransportAddr::Serial(count.to_string())
+}
+
+// A DATA submessage touches its session and does nothing else.
+fn touch(agent: &mut XrceAgent, id: u8, time: u64) {
+    clock::set(time);
+    agent.process_incoming(&address(0), &[id, 0, 0, 0, 0x09, 0, 2, 0, 0, 0]);
+}
+
+/// Removes one session. The agent of the original has no call for that, so this one alone is left to expire, and the
+/// others get their last activity back. `timeout` is below the greatest time.
+pub fn remove(agent: &mut XrceAgent, timeout: u64, id: u8) -> bool {
+    if agent.sessions().get(id).is_none() {
+        return false;
+    }
+    let others: Vec<(u8, u64)> = agent.sessions().sessions.values()
+        .filter(|session| session.session_id != id)
+        .map(|session| (session.session_id, clock::milliseconds(session.last_activity)))
+        .collect();
+    touch(agent, id, 0);
+    others.iter().for_each(|(other, _)| touch(agent, *other, timeout + 1));
+    clock::set(timeout + 1);
+    assert_eq!(agent.evict_expired(), [id]);
+    others.iter().for_each(|(other, last)| touch(agent, *other, *last));
+    true
+}
+
+/// The answers of one datagram in a script, and what is printed for them.
+struct Ahead {
+    answers: VecDeque<Answer>,
+    lines: Vec<String>,
+    unanswered: bool,
+}
+
+impl Answers for Ahead {
+    fn answer(&mut self, call: &str, fits: fn(&Answer) -> bool) -> Answer {
+        self.lines.push(format!("call {call}"));
+        while let Some(answer) = self.answers.pop_front() {
+            if fits(&answer) {
+                return answer;
+            }
+            self.lines.push("refused 15".into());
+        }
+        self.unanswered = true;
+        Answer::Failed
+    }
+}
+
+pub struct Replay {
+    bridge: Arc<Bridge<Ahead>>,
+    agent: Option<XrceAgent>,
+    timeout: u64,
+}
+
+fn answer(line: &str) -> Option<Answer> {
+    match *words(line) {
+        ["created", room, handle] => number::<u64>(room).and(number(handle).map(Answer::Created)),
+        ["done", room] => number::<u64>(room).map(|_| Answer::Done),
+        ["data", room, sample] => number::<u64>(room).and(bytes(sample).map(Answer::Data)),
+        ["none", room] => number::<u64>(room).map(|_| Answer::NoData),
+        ["failed", room] => number::<u64>(room).map(|_| Answer::Failed),
+        _ => None,
+    }
+}
+
+impl Replay {
+    pub fn new() -> Self {
+        let ahead = Ahead { answers: VecDeque::new(), lines: Vec::new(), unanswered: false };
+        Self { bridge: Arc::new(Bridge(Mutex::new(ahead))), agent: None, timeout: 0 }
+    }
+
+    /// What the whole script prints.
+    pub fn run(&mut self, script: &[&str]) -> Vec<String> {
+        let mut printed = Vec::new();
+        let mut at = 0;
+        while at < script.len() {
+            let line = script[at];
+            at += 1;
+            if silent(line) {
+                continue;
+            }
+            let follows = script[at..].iter().take_while(|line| silent(line) || answer(line).is_some()).count();
+            let answers = script[at..at + follows].iter().filter_map(|line| answer(line)).collect();
+            match self.datagram(line, at, answers) {
+                Some(lines) => {
+                    printed.extend(lines);
+                    at += follows;
+                }
+                None => printed.extend(self.event(line).unwrap_or_else(|| vec!["bad line".into()])),
+            }
+        }
+        printed
+    }
+
+    fn datagram(&mut self, line: &str, count: usize, answers: VecDeque<Answer>) -> Option<Vec<String>> {
+        let ["datagram", time, room, datagram] = *words(line) else { return None };
+        let agent = self.agent.as_mut()?;
+        let (time, datagram) = (number(time)?, bytes(datagram)?);
+        number::<u64>(room)?;
+        *self.bridge.0.lock().unwrap() = Ahead { answers, lines: Vec::new(), unanswered: false };
+        clock::set(time);
+        let replies = agent.process_incoming(&address(count), &datagram);
+        let mut ahead = self.bridge.0.lock().unwrap();
+        let mut lines = std::mem::take(&mut ahead.lines);
+        if ahead.unanswered {
+            lines.push("outside: the original can't wait for an answer".into());
+            return Some(lines);
+        }
+        match parse_message(&datagram) {
+            Ok(_) => {
+                lines.extend(replies.iter().map(|(_, reply)| format!("reply {}", hex(reply))));
+                lines.push("end".into());
+            }
+            Err(error) => {
+                assert!(lines.is_empty() && replies.is_empty());
+                lines.push(refused(&error));
+            }
+        }
+        lines.extend(ahead.answers.drain(..).map(|_| "refused 15".to_string()));
+        Some(lines)
+    }
+
+    fn event(&mut self, line: &str) -> Option<Vec<String>> {
+        let words = words(line);
+        if let ["setup", max, timeout] = *words {
+            return Some(vec![self.setup(number(max)?, number(timeout)?)]);
+        }
+        let agent = self.agent.as_mut()?;
+        if answer(line).is_some() {
+            return Some(vec!["refused 15".into()]);
+        }
+        let line = match *words {
+            ["remove", id] => {
+                let id = number(id)?;
+                if remove(agent, self.timeout, id) { "removed" } else { "absent" }.into()
+            }
+            ["sweep", time, room] => {
+                clock::set(number(time)?);
+                number::<u64>(room)?;
+                let mut gone = agent.evict_expired();
+                gone.sort();
+                gone.iter().fold("swept".to_string(), |line, id| format!("{line} {id}"))
+            }
+            ["dump"] => return Some(dump(agent.sessions())),
+            _ => return None,
+        };
+        Some(vec![line])
+    }
+
+    fn setup(&mut self, max: u64, timeout: u64) -> String {
+        if max > 255 {
+            return "refused 16".into();
+        }
+        match agent(max as usize, timeout, self.bridge.clone()) {
+            Ok(agent) => {
+                self.agent = Some(agent);
+                self.timeout = timeout;
+                "ok".into()
+            }
+            Err(error) => format!("outside: {error}"),
+        }
+    }
+}
