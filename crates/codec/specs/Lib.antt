@@ -2,3 +2,4 @@
 pub mod Refusals
 pub mod Bytes
 pub mod Submessages
+pub mod Cutting

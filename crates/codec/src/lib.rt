@@ -1,4 +1,5 @@
 // The wire of protocol.rs: what a datagram says, how one is written, strings and fragments.
 pub mod bytes;
+pub mod cutting;
 pub mod refusals;
 pub mod submessages;

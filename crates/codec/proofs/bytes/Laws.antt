@@ -1,11 +1,12 @@
 -- Laws of `wordAt`, `le16` and `putAt`.
 use Prim.Native.Nat.{ℕ, suc, _+_, _≤_, _<_, _/_, _%_}
 use mathlib.Core.Path.{_≡_, refl, sym, ap, _∙_}
-use mathlib.Core.List.{List, [], _∷_, _++_}
+use mathlib.Core.List.{List, [], _∷_, _++_, append-assoc, append-nil}
 use native.Mathlib.Numerals.{add-one}
 use native.Mathlib.Omega.{arith}
-use lib.ListN.{length, take, drop, set}
-use lib.Seq.{sets, sets-eq, paste, take-length}
+use lib.ListN.{length, take, drop, set, length-append, length-take, length-drop, take-append-drop}
+use lib.Seq.{sets, sets-eq, paste, take-length, length-take-le, take-at, drop-append-add, drop-drop}
+use native.Mathlib.Nat.{add-assoc, add-zero}
 use borrow.Author.Tests.{lt-ltb, le-ltb}
 use Rattle.codec.specs.Bytes.{putAt, putOf, putBytes, le16}
 use Rattle.codec.specs.declared.bytes.Written.the-variants.{Bytes, Refused}
@@ -36,3 +37,25 @@ pub put-fits : (out : List ℕ) (at : ℕ) (bytes : List ℕ) → at + length by
     → (Bytes (length bytes) ≡ putOf out at bytes) × (putAt out at bytes ≡ putBytes out at bytes)
 unfolding putOf putBytes
 put-fits out at bytes h = rw (le-ltb (length out) (at + length bytes) h) (refl, refl)
+
+-- past a front of `n` elements
+drop-past : (p q : List ℕ) (n m : ℕ) → length p ≡ n → drop (n + m) (p ++ q) ≡ drop m q
+drop-past p q n m e = rw (← e) (drop-append-add p q m)
+
+-- a write behind another is one write of both
+pub put-behind : (out : List ℕ) (at : ℕ) (x y : List ℕ) → at ≤ length out → putAt (putAt out at x) (at + length x) y ≡ putAt out at (x ++ y)
+unfolding putAt
+put-behind out at x y h =
+    let e : length (take at out ++ x) ≡ at + length x = simp (length-append, length-take-le at out h) in
+    rw (take-at (take at out ++ x) (drop (at + length x) out) (at + length x) e, drop-past (take at out ++ x) (drop (at + length x) out) (at + length x) (length y) e, drop-drop (length y) (at + length x) out)
+    (simp (append-assoc, length-append, add-assoc))
+
+-- a write of nothing
+pub put-nothing : (out : List ℕ) (at : ℕ) → putAt out at [] ≡ out
+unfolding putAt
+put-nothing out at = rw (append-nil (take at out), add-zero at) (take-append-drop at out)
+
+-- a write that fits leaves the output as long as it was
+pub length-put : (out : List ℕ) (at : ℕ) (x : List ℕ) → at + length x ≤ length out → length (putAt out at x) ≡ length out
+unfolding putAt
+length-put out at x h = simp (length-append, length-take, length-drop) (omega arith)

@@ -1,0 +1,2 @@
+-- Theorems on the definitions.
+pub mod Cases
