@@ -2,3 +2,5 @@
 pub mod Refusals
 pub mod Bytes
 pub mod Submessages
+pub mod Header
+pub mod Layouts

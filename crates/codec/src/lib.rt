@@ -1,4 +1,6 @@
 // The wire of protocol.rs: what a datagram says, how one is written, strings and fragments.
 pub mod bytes;
+pub mod header;
+pub mod layouts;
 pub mod refusals;
 pub mod submessages;

@@ -1,10 +1,11 @@
 -- Laws of `wordAt`, `le16` and `putAt`.
-use Prim.Native.Nat.{ℕ, suc, _+_, _≤_, _<_, _/_, _%_}
+use Prim.Native.Nat.{ℕ, zero, suc, _+_, _≤_, _<_, _/_, _%_}
 use mathlib.Core.Path.{_≡_, refl, sym, ap, _∙_}
 use mathlib.Core.List.{List, [], _∷_, _++_}
 use native.Mathlib.Numerals.{add-one}
+use native.Mathlib.Nat.{not-suc-le-zero, le-of-suc-le-suc}
 use native.Mathlib.Omega.{arith}
-use lib.ListN.{length, take, drop, set}
+use lib.ListN.{getD, length, take, drop, set}
 use lib.Seq.{sets, sets-eq, paste, take-length}
 use borrow.Author.Tests.{lt-ltb, le-ltb}
 use Rattle.codec.specs.Bytes.{putAt, putOf, putBytes, le16}
@@ -36,3 +37,9 @@ pub put-fits : (out : List ℕ) (at : ℕ) (bytes : List ℕ) → at + length by
     → (Bytes (length bytes) ≡ putOf out at bytes) × (putAt out at bytes ≡ putBytes out at bytes)
 unfolding putOf putBytes
 put-fits out at bytes h = rw (le-ltb (length out) (at + length bytes) h) (refl, refl)
+
+-- within the list the default doesn't matter
+pub getD-any : (l : List ℕ) (i d e : ℕ) → i < length l → getD l i d ≡ getD l i e
+getD-any [] i d e h = absurd (not-suc-le-zero h)
+getD-any (x ∷ xs) zero d e h = refl
+getD-any (x ∷ xs) (suc i) d e h = getD-any xs i d e (le-of-suc-le-suc h)
