@@ -4,3 +4,4 @@ pub mod Bytes
 pub mod Submessages
 pub mod Header
 pub mod Layouts
+pub mod Reading

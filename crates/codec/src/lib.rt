@@ -2,5 +2,6 @@
 pub mod bytes;
 pub mod header;
 pub mod layouts;
+pub mod reading;
 pub mod refusals;
 pub mod submessages;
