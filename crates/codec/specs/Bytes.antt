@@ -15,6 +15,13 @@ wordAt s at = getD s at 0 + 256 * getD s (at + 1) 0
 unfoldable pub le16 : ℕ → List ℕ
 le16 n = n % 256 ∷ n / 256 % 256 ∷ []
 
+-- the number of four bytes, low byte first
+unfoldable pub quadAt : List ℕ → ℕ → ℕ
+quadAt s at = wordAt s at + 65536 * wordAt s (at + 2)
+
+unfoldable pub le32 : ℕ → List ℕ
+le32 n = le16 n ++ le16 (n / 65536)
+
 -- a list whose elements are bytes
 unfoldable pub AllBytes : List ℕ → Type 0
 AllBytes s = (i : ℕ) → getD s i 0 < 256

@@ -3,3 +3,6 @@ pub mod Refusals
 pub mod Bytes
 pub mod Submessages
 pub mod Cutting
+pub mod Header
+pub mod Layouts
+pub mod Reading

@@ -1,10 +1,11 @@
 -- Laws of `wordAt`, `le16` and `putAt`.
-use Prim.Native.Nat.{ℕ, suc, _+_, _≤_, _<_, _/_, _%_}
+use Prim.Native.Nat.{ℕ, zero, suc, _+_, _≤_, _<_, _/_, _%_}
 use mathlib.Core.Path.{_≡_, refl, sym, ap, _∙_}
 use mathlib.Core.List.{List, [], _∷_, _++_, append-assoc, append-nil}
 use native.Mathlib.Numerals.{add-one}
+use native.Mathlib.Nat.{not-suc-le-zero, le-of-suc-le-suc}
 use native.Mathlib.Omega.{arith}
-use lib.ListN.{length, take, drop, set, length-append, length-take, length-drop, take-append-drop}
+use lib.ListN.{getD, length, take, drop, set, length-append, length-take, length-drop, take-append-drop}
 use lib.Seq.{sets, sets-eq, paste, take-length, length-take-le, take-at, drop-append-add, drop-drop}
 use native.Mathlib.Nat.{add-assoc, add-zero}
 use borrow.Author.Tests.{lt-ltb, le-ltb}
@@ -59,3 +60,9 @@ put-nothing out at = rw (append-nil (take at out), add-zero at) (take-append-dro
 pub length-put : (out : List ℕ) (at : ℕ) (x : List ℕ) → at + length x ≤ length out → length (putAt out at x) ≡ length out
 unfolding putAt
 length-put out at x h = simp (length-append, length-take, length-drop) (omega arith)
+
+-- within the list the default doesn't matter
+pub getD-any : (l : List ℕ) (i d e : ℕ) → i < length l → getD l i d ≡ getD l i e
+getD-any [] i d e h = absurd (not-suc-le-zero h)
+getD-any (x ∷ xs) zero d e h = refl
+getD-any (x ∷ xs) (suc i) d e h = getD-any xs i d e (le-of-suc-le-suc h)
