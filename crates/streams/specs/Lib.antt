@@ -2,4 +2,5 @@
 pub mod Sequence
 pub mod State
 pub mod Places
+pub mod Sent
 pub mod Received

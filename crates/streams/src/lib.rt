@@ -1,5 +1,6 @@
 // One stream of a session: session.rs's `StreamState` and its sequence numbers.
 pub mod places;
 pub mod received;
+pub mod sent;
 pub mod sequence;
 pub mod state;
