@@ -3,4 +3,5 @@ pub mod Sequence
 pub mod State
 pub mod Places
 pub mod Sent
+pub mod Acknowledged
 pub mod Received
