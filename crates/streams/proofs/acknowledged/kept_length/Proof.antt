@@ -1,0 +1,19 @@
+-- `streams::acknowledged::kept_length` meets its contract.
+use Rattle.streams.specs.Acknowledged.{keptLength}
+use borrow.Author.Needs.{needs}
+use Rattle.streams.proofs.acknowledged.kept_length.Statement.{statement}
+use Rattle.streams.proofs.acknowledged.kept_length.Tie as tie
+
+seq-lt-requires : tie.Need-seq-lt-requires
+seq-lt-requires c κs = search needs
+
+returns : tie.Need-returns
+unfolding keptLength
+returns c = rw (← c .before .seq-lt .ensures, c .if1 .taken)
+
+returns-2 : tie.Need-returns-2
+unfolding keptLength
+returns-2 c = rw (← c .before .seq-lt .ensures, c .if1 .left)
+
+pub kept-length-spec : {M : Type 1} → statement M
+kept-length-spec = tie.close (tie.spec seq-lt-requires returns returns-2)

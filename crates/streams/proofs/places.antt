@@ -1,0 +1,2 @@
+-- Laws of the search over a stream's places.
+pub mod Laws
