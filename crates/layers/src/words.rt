@@ -16,8 +16,8 @@ fn word_end(line: &[u8], from: usize) -> usize
     line.len()
 }
 
-// The part of the line between two places, and an empty one where they are none.
-fn part(line: &[u8], from: usize, end: usize) -> &[u8] {
+// The part between two places, and an empty one where there is none.
+pub fn between(line: &[u8], from: usize, end: usize) -> &[u8] {
     if from <= end {
         if end <= line.len() {
             return &line[from..end];
@@ -38,7 +38,7 @@ pub fn word(line: &[u8], index: usize) -> &[u8] {
         from = end + 1;
         left -= 1;
     }
-    part(line, from, word_end(line, from))
+    between(line, from, word_end(line, from))
 }
 
 pub fn same(a: &[u8], b: &[u8]) -> bool {

@@ -4,9 +4,6 @@ use Prim.Native.Nat.{_≤_, _-_}
 use lib.ListN.{length}
 use Rattle.layers.proofs.print.put_name.Statement.{statement}
 use Rattle.layers.proofs.print.put_name.Tie as tie
-use Rattle.layers.proofs.print.put_name.Reads as reads
-use Rattle.layers.proofs.print.put_name.Lts as lts
-use Rattle.layers.proofs.print.put.Reads as put-reads
 
 abbrev Inv-loop : tie.InvT-loop
 Inv-loop out₀ at name next₀ i₀ out next i = (i ≤ length name) × (length out ≡ length out₀)
@@ -14,35 +11,27 @@ Inv-loop out₀ at name next₀ i₀ out next i = (i ≤ length name) × (length
 abbrev μ-loop : tie.MeasureT-loop
 μ-loop out₀ at name next₀ i₀ out next i = length name - i
 
--- src/print.rt:13:5
 loop-holds : tie.Need-loop-holds Inv-loop μ-loop
 loop-holds c = search needs
 
--- src/print.rt:14:31
 shared-slice-read-put : tie.Need-shared-slice-read-put Inv-loop μ-loop
 shared-slice-read-put c = search needs
 
--- src/print.rt:14:9
 put-requires : tie.Need-put-requires Inv-loop μ-loop
 put-requires c κs = search needs
 
--- src/print.rt:15:9
 add-i : tie.Need-add-i Inv-loop μ-loop
 add-i c = search needs
 
--- src/print.rt:13:5
 loop-less : tie.Need-loop-less Inv-loop μ-loop
 loop-less c = search needs
 
--- src/print.rt:13:5
 loop-again : tie.Need-loop-again Inv-loop μ-loop
 loop-again c = search needs
 
--- src/print.rt:10:1
 same-length : tie.Need-same-length Inv-loop μ-loop
 same-length c = search needs
 
--- src/print.rt:10:1
 returns : tie.Need-returns Inv-loop μ-loop
 returns c = search needs
 

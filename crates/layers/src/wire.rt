@@ -1,0 +1,172 @@
+// Commands for the codec: what a datagram says, strings, and fragments.
+use crate::print::line_1;
+use crate::print::line_1_bytes;
+use crate::print::line_2;
+use crate::print::line_3;
+use crate::print::line_bytes;
+use crate::print::put_key;
+use crate::print::put_name;
+use crate::print::put_number;
+use crate::print::refused;
+use crate::print::settle;
+use crate::words::between;
+use codec::bytes::Written;
+use codec::cutting::FragmentCount;
+use codec::cutting::fragment;
+use codec::cutting::fragment_count;
+use codec::header::MessageHeader;
+use codec::layouts::Cursor;
+use codec::layouts::Parsed;
+use codec::reading::Checked;
+use codec::reading::check;
+use codec::reading::part;
+use codec::reading::read;
+use codec::submessages::CreateClientPayload;
+use codec::submessages::CreatePayload;
+use codec::submessages::Submessage;
+
+// The place of the next submessage, and of the next byte of the answer.
+struct Step {
+    place: usize,
+    at: usize,
+}
+
+fn create_client_line(p: CreateClientPayload, out: &mut [u8], at: usize) -> usize {
+    let next = put_name(out, at, b"create_client");
+    let next = put_key(out, next, p.client_key as u64);
+    line_1(out, next, b"", p.properties as u64)
+}
+
+fn create_line(p: CreatePayload, strings: &[u8], out: &mut [u8], at: usize) -> usize {
+    let next = put_name(out, at, b"create");
+    let next = put_number(out, next, p.object_id.0 as u64);
+    let kind = p.kind;
+    let next = put_number(out, next, kind.as_u8() as u64);
+    line_1_bytes(out, next, b"", p.parent_id as u64, strings)
+}
+
+// What a submessage says; `body` is its variable part.
+fn submessage_line(m: Submessage, body: &[u8], out: &mut [u8], at: usize) -> usize {
+    match m {
+        Submessage::CreateClient(p) => create_client_line(p, out, at),
+        Submessage::Create(p) => create_line(p, body, out, at),
+        Submessage::Delete(p) => line_1(out, at, b"delete", p.object_id.0 as u64),
+        Submessage::Status(p) => {
+            let object = p.related_object_id.0 as u64;
+            let status = p.status;
+            line_2(out, at, b"status", object, status.as_u8() as u64)
+        }
+        Submessage::WriteData(p) => {
+            line_1_bytes(out, at, b"write_data", p.writer_id.0 as u64, body)
+        }
+        Submessage::ReadData(p) => {
+            line_2(
+                out,
+                at,
+                b"read_data",
+                p.reader_id.0 as u64,
+                p.max_samples as u64,
+            )
+        }
+        Submessage::Data(p) => line_1_bytes(out, at, b"data", p.reader_id.0 as u64, body),
+        Submessage::Heartbeat(p) => {
+            line_2(
+                out,
+                at,
+                b"heartbeat",
+                p.first_unacked_seq as u64,
+                p.last_seq as u64,
+            )
+        }
+        Submessage::Acknack(p) => {
+            line_2(
+                out,
+                at,
+                b"acknack",
+                p.first_unacked_seq as u64,
+                p.nack_bitmap as u64,
+            )
+        }
+    }
+}
+
+fn one_submessage(s: &[u8], place: usize, out: &mut [u8], at: usize) -> Step {
+    match read(s, Cursor { at: place }) {
+        Parsed::Sub(m, span, next) => Step {
+            place: next.at,
+            at: submessage_line(m, part(s, span), out, at),
+        },
+        Parsed::Refused(r) => Step {
+            place,
+            at: refused(out, at, r),
+        },
+    }
+}
+
+// A line for each of the datagram's submessages.
+fn submessages(s: &[u8], count: usize, out: &mut [u8], at: usize) -> usize {
+    let mut step = Step { place: 4, at };
+    let mut left = count;
+    while 0 < left {
+        step = one_submessage(s, step.place, out, step.at);
+        left -= 1;
+    }
+    step.at
+}
+
+fn header_line(h: MessageHeader, out: &mut [u8], at: usize) -> usize {
+    line_3(
+        out,
+        at,
+        b"header",
+        h.session_id as u64,
+        h.stream_id as u64,
+        h.sequence_nr as u64,
+    )
+}
+
+// What a datagram says, and how it is written back.
+pub fn message(s: &[u8], out: &mut [u8], at: usize) -> usize {
+    match check(s) {
+        Checked::Message(h, count) => {
+            let next = header_line(h, out, at);
+            submessages(s, count, out, next)
+        }
+        Checked::Refused(r) => refused(out, at, r),
+    }
+}
+
+// The bytes that a call wrote at the start of `made`, after the name, or its refusal.
+pub fn written(name: &[u8], w: Written, made: &[u8], out: &mut [u8], at: usize) -> usize {
+    match w {
+        Written::Bytes(n) => line_bytes(out, at, name, between(made, 0, n)),
+        Written::Refused(r) => refused(out, at, r),
+    }
+}
+
+// Each fragment, from the first to the last.
+fn fragments(
+    payload: &[u8],
+    size: usize,
+    total: u16,
+    made: &mut [u8],
+    out: &mut [u8],
+    at: usize,
+) -> usize {
+    let mut next = at;
+    let mut k: u16 = 0;
+    while k < total {
+        let w = fragment(payload, size, k, made);
+        next = written(b"fragment", w, made, out, next);
+        next = settle(out, next, 100000);
+        k += 1;
+    }
+    line_1(out, next, b"end", total as u64)
+}
+
+pub fn cut(payload: &[u8], size: usize, made: &mut [u8], out: &mut [u8], at: usize) -> usize {
+    match fragment_count(payload, size) {
+        FragmentCount::Fragments(total) => fragments(payload, size, total, made, out, at),
+        FragmentCount::Refused(r) => refused(out, at, r),
+    }
+}
