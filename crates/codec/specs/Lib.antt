@@ -5,3 +5,4 @@ pub mod Submessages
 pub mod Header
 pub mod Layouts
 pub mod Reading
+pub mod Writing

@@ -5,3 +5,4 @@ pub mod layouts;
 pub mod reading;
 pub mod refusals;
 pub mod submessages;
+pub mod writing;
