@@ -1,10 +1,14 @@
 // The four bytes that begin a message, and the four that begin a submessage.
 use crate::bytes::Written;
-use crate::bytes::put_bytes;
+use crate::bytes::fits;
+use crate::bytes::put_word;
 use crate::bytes::word_at;
 use crate::refusals::Refusal;
 ghost use mathlib.Core.Path.{_≡_};
-ghost use Rattle.codec.specs.Bytes.{putOf, putBytes};
+ghost use Prim.Native.Nat.{_+_, _≤_};
+ghost use mathlib.Core.List.{_∷_};
+ghost use lib.ListN.{length};
+ghost use Rattle.codec.specs.Bytes.{le16, putAt, putOf, putBytes};
 ghost use Rattle.codec.specs.Header.{headerRead, headerBytes, subHeaderRead};
 
 pub const MESSAGE_HEADER_SIZE: usize = 4;
@@ -42,15 +46,22 @@ impl MessageHeader {
         ensures { λ r. ⌜ (r ≡ putOf (now (out .entry)) at (headerBytes self))
             × (now (out .exit) ≡ putBytes (now (out .entry)) at (headerBytes self)) ⌝ }
     {
-        let n = self.sequence_nr;
-        let bytes = [
-            self.session_id,
-            self.stream_id,
-            (n % 256) as u8,
-            (n / 256 % 256) as u8,
-        ];
-        put_bytes(out, at, &bytes)
+        if fits(out.len(), at, MESSAGE_HEADER_SIZE) {
+            put_head(out, at, self.session_id, self.stream_id, self.sequence_nr);
+            return Written::Bytes(MESSAGE_HEADER_SIZE);
+        }
+        Written::Refused(Refusal::OutputTooShort)
     }
+}
+
+// Two bytes and a number behind them: the shape of both headers.
+pub(crate) fn put_head(out: &mut [u8], at: usize, a: u8, b: u8, n: u16)
+    requires { ⌜ at + 4 ≤ length (now out) ⌝ }
+    ensures { λ _. ⌜ now (out .exit) ≡ putAt (now (out .entry)) at (a ∷ b ∷ le16 n) ⌝ }
+{
+    out[at] = a;
+    out[at + 1] = b;
+    put_word(out, at + 2, n);
 }
 
 pub struct SubmessageHeader {

@@ -6,3 +6,4 @@ pub mod layouts;
 pub mod reading;
 pub mod refusals;
 pub mod submessages;
+pub mod writing;
