@@ -3,3 +3,4 @@ pub mod Refusals
 pub mod Bytes
 pub mod Submessages
 pub mod Cutting
+pub mod Reassembly

@@ -1,5 +1,6 @@
 // The wire of protocol.rs: what a datagram says, how one is written, strings and fragments.
 pub mod bytes;
 pub mod cutting;
+pub mod reassembly;
 pub mod refusals;
 pub mod submessages;
