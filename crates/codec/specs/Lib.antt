@@ -7,3 +7,4 @@ pub mod Header
 pub mod Layouts
 pub mod Reading
 pub mod Writing
+pub mod Reassembly

@@ -4,6 +4,7 @@ pub mod cutting;
 pub mod header;
 pub mod layouts;
 pub mod reading;
+pub mod reassembly;
 pub mod refusals;
 pub mod submessages;
 pub mod writing;

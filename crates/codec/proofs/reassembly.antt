@@ -1,0 +1,2 @@
+-- Laws of a fragment store, and what is promised of it.
+pub mod Laws
