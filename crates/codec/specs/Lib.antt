@@ -6,3 +6,4 @@ pub mod Header
 pub mod Layouts
 pub mod Reading
 pub mod Writing
+pub mod Strings

@@ -4,5 +4,6 @@ pub mod header;
 pub mod layouts;
 pub mod reading;
 pub mod refusals;
+pub mod strings;
 pub mod submessages;
 pub mod writing;
