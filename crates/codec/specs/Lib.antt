@@ -7,3 +7,5 @@ pub mod Layouts
 pub mod Reading
 pub mod Writing
 pub mod Strings
+pub mod Grammar
+pub mod Promises

@@ -1,0 +1,6 @@
+-- Laws and theorems that belong to no one function.
+pub mod Either
+pub mod Pieces
+pub mod Complete
+pub mod Sound
+pub mod Promises
