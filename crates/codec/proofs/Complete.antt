@@ -115,7 +115,7 @@ span-plain (Heartbeat q) p len h = refl
 span-plain (Acknack q) p len h = refl
 
 -- the part that a span marks off, where those bytes stand
-part-is : (s : List ℕ) (start len : ℕ) (body l : List ℕ) → drop start s ≡ body ++ l → length body ≡ len → start + len ≤ length s
+pub part-is : (s : List ℕ) (start len : ℕ) (body l : List ℕ) → drop start s ≡ body ++ l → length body ≡ len → start + len ≤ length s
     → partOf s (record { start = start; len = len }) ≡ body
 unfolding partOf
 part-is s start len body l e k h = rw (le-leb (start + len) (length s) h, e) (take-at body l len k)

@@ -4,3 +4,4 @@ pub mod Pieces
 pub mod Complete
 pub mod Sound
 pub mod Promises
+pub mod Cases
