@@ -8,3 +8,6 @@ pub mod Layouts
 pub mod Reading
 pub mod Writing
 pub mod Reassembly
+pub mod Strings
+pub mod Grammar
+pub mod Promises

@@ -33,8 +33,11 @@ bodyLen (Data p) n = n
 bodyLen (Heartbeat p) n = 0
 bodyLen (Acknack p) n = 0
 
+abbrev pub carried : Submessage → List ℕ → List ℕ
+carried m body = take (bodyLen m (length body)) body
+
 unfoldable pub payloadBytes : Submessage → List ℕ → List ℕ
-payloadBytes m body = fixedBytes m ++ take (bodyLen m (length body)) body
+payloadBytes m body = fixedBytes m ++ carried m body
 
 -- "Submessage: id, flags (a byte each), length (2), payload." Flags are dropped when read, and written as 0.
 unfoldable pub subBytes : Submessage → List ℕ → List ℕ

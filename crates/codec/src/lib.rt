@@ -6,5 +6,6 @@ pub mod layouts;
 pub mod reading;
 pub mod reassembly;
 pub mod refusals;
+pub mod strings;
 pub mod submessages;
 pub mod writing;

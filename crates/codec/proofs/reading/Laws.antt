@@ -30,6 +30,7 @@ use Rattle.codec.specs.declared.submessages.KindRead.the-variants as kin
 use Rattle.codec.specs.declared.submessages.CodeRead.{CodeRead}
 use Rattle.codec.specs.declared.submessages.CodeRead.the-variants as code-read
 use Rattle.codec.specs.declared.submessages.Submessage.{Submessage}
+use Rattle.codec.proofs.Either.{either}
 use Rattle.codec.proofs.header.Laws.{sub-header-is}
 use Rattle.codec.proofs.layouts.Laws.{enough}
 
@@ -54,14 +55,9 @@ module _ (s : List ℕ) (id p len : ℕ) where
 
 -- ---- a submessage ends where its payload does, and so does its variable part
 
-abbrev Ends : ℕ → Parsed → Type 0
+abbrev pub Ends : ℕ → Parsed → Type 0
 Ends e (Sub m x c) = (c .at ≡ e) × (x .start + x .len ≡ e)
 Ends e (Refused r) = Unit
-
--- what holds of each way that a test can go
-either : (P : Parsed → Type 0) (b : Bool) (x y : Parsed) → (b ≡ true → P x) → (b ≡ false → P y) → P (cond b x y)
-either P true x y f g = f refl
-either P false x y f g = g refl
 
 module _ (s : List ℕ) (p len : ℕ) where
   ends-create : 5 ≤ len → (k : KindRead) → Ends (p + len) (createOf s p len k)
@@ -107,7 +103,7 @@ module _ (s : List ℕ) (id p len : ℕ) where
       (either E (eqb (leastOf id) 255) _ _ (λ _. tt) (λ _.
       either E (ltb len (leastOf id)) _ _ (λ _. tt) (λ k. ends-layout s p len id (ltb-false len (leastOf id) k))))
 
-  payload-placed : (m : Submessage) (x : Span) (c : Cursor) → payloadAt s id p len ≡ Sub m x c → (p + len ≤ length s) × (Ends (p + len) (Sub m x c))
+  pub payload-placed : (m : Submessage) (x : Span) (c : Cursor) → payloadAt s id p len ≡ Sub m x c → (p + len ≤ length s) × (Ends (p + len) (Sub m x c))
   payload-placed m x c e =
       elim (decLe (p + len) (length s)) [
         | yes h ↦ (h, rw e at (payload-ends h))
