@@ -1,0 +1,2 @@
+-- What a reader must believe of sessions, in document 01's order.
+pub mod Objects

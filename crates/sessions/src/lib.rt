@@ -1,0 +1,3 @@
+// The sessions of session.rs: the table of sessions by id, and the objects and streams of each.
+pub mod objects;
+pub mod rows;
