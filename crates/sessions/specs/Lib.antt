@@ -1,2 +1,3 @@
 -- What a reader must believe of sessions, in document 01's order.
 pub mod Objects
+pub mod Table
