@@ -1,3 +1,5 @@
 -- What a reader must believe of sessions, in document 01's order.
 pub mod Objects
 pub mod Table
+pub mod Streams
+pub mod Opening

@@ -29,7 +29,7 @@ returns c = let a = c .before .before .before .before .before .before .before .a
     let g = c .before .before .before .before .before .get in (
       g .ensures,
       c .before .keep-session .ensures
-      ∙ ap (λ (n : Named). keptRows n (a .sessions .now) (a .id) (a .s)) (sym (c .before .before .before .enum-told .given .1) ∙ g .ensures),
+          ∙ ap (λ (n : Named). keptRows n (a .sessions .now) (a .id) (a .s)) (sym (c .before .before .before .enum-told .given .1) ∙ g .ensures),
     )
 
 same-length-2 : tie.Need-same-length-2

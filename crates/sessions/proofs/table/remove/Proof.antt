@@ -17,10 +17,10 @@ same-length c = search needs
 returns : tie.Need-returns
 unfolding endedRows
 returns c = let a = c .before .before .before .before .args in (
-      c .before .keep-live .ensures .0,
-      c .before .keep-live .ensures .1
+  c .before .keep-live .ensures .0,
+  c .before .keep-live .ensures .1
       ∙ ap (keptRows (namedOf (a .sessions .now) (a .id)) (a .sessions .now) (a .id)) (c .before .before .before .ended .ensures),
-    )
+)
 
 pub remove-spec : {M : Type 1} → statement M
 remove-spec = tie.close (tie.spec ended-requires keep-live-requires same-length returns)

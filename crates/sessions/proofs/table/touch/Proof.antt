@@ -21,11 +21,11 @@ same-length c = search needs
 returns : tie.Need-returns
 unfolding touchedRows
 returns c = let a = c .before .before .before .before .before .before .args in (
-      c .before .keep-live .ensures .0,
-      c .before .keep-live .ensures .1
+  c .before .keep-live .ensures .0,
+  c .before .keep-live .ensures .1
       ∙ ap (keptRows (namedOf (a .sessions .now) (a .id)) (a .sessions .now) (a .id))
-        (c .before .before .before .touched .ensures ∙ ap (λ (s : ClientSession). touchedSession s (a .time)) (c .before .before .before .before .session-at .ensures)),
-    )
+      (c .before .before .before .touched .ensures ∙ ap (λ (s : ClientSession). touchedSession s (a .time)) (c .before .before .before .before .session-at .ensures)),
+)
 
 pub touch-spec : {M : Type 1} → statement M
 touch-spec =

@@ -1,4 +1,4 @@
--- Written by walkgen.py from walks/rows.find.toml, the source and the MIR. Do not edit: change the description, and write it anew.
+-- Written by walkgen.py from walks/object_rows.find.toml, the source and the MIR. Do not edit: change the description, and write it anew.
 -- Assumes nothing.
 use mathlib.Core.Path.{_≡_, refl, sym, _∙_, ap, subst}
 use Prim.Native.Nat.{ℕ, zero, suc, _+_, _-_, _*_, _<_, _≤_, _^_}
@@ -53,7 +53,7 @@ use borrow.Rule.Slice.PartMut.{midOf, putMid}
 use Rattle.walk.proofs.Parts.{part-len, lends-part, backs-part, parts-shr}
 use Rattle.walk.proofs.Arrays.{rep-is, lends-array, backs-array}
 use Rattle.sessions.specs.Objects.{placeOf, foundOf, greatestOf, storedOf, storedRow, removedRow}
-use Rattle.sessions.proofs.rows.Laws.{Under, place-under}
+use Rattle.sessions.proofs.object_rows.Laws.{Under, place-under}
 use Rattle.sessions.specs.declared.objects.Object.{Object}
 use Rattle.sessions.proofs.objects.Object as Object-t
 use Rattle.sessions.proofs.objects.Object.Laws as Object-l
@@ -75,15 +75,15 @@ use Rattle.sessions.specs.declared.objects.Place.{Place}
 use Rattle.sessions.proofs.objects.Place as Place-t
 use Rattle.sessions.proofs.objects.Place.Laws as Place-l
 use Rattle.sessions.specs.declared.objects.Place.the-variants.{At as Place-At, Nowhere as Place-Nowhere}
-use Rattle.sessions.proofs.rows.place as rows-place
-use Rattle.sessions.proofs.rows.place.Symbol as rows-place-def
-use Rattle.sessions.proofs.rows.place.Symbol.{name as #rows-place}
-use Rattle.sessions.proofs.rows.place.Met as rows-place-thm
-use Rattle.sessions.proofs.rows.find.Key.{name as #f}
-use Rattle.sessions.proofs.rows.find as f
-use Rattle.sessions.proofs.rows.find.Statement as stated
-use Rattle.sessions.proofs.rows.find.Code as code
-use Rattle.sessions.proofs.rows.find.Code.Mir as mir
+use Rattle.sessions.proofs.object_rows.place as object-rows-place
+use Rattle.sessions.proofs.object_rows.place.Symbol as object-rows-place-def
+use Rattle.sessions.proofs.object_rows.place.Symbol.{name as #object-rows-place}
+use Rattle.sessions.proofs.object_rows.place.Met as object-rows-place-thm
+use Rattle.sessions.proofs.object_rows.find.Key.{name as #f}
+use Rattle.sessions.proofs.object_rows.find as f
+use Rattle.sessions.proofs.object_rows.find.Statement as stated
+use Rattle.sessions.proofs.object_rows.find.Code as code
+use Rattle.sessions.proofs.object_rows.find.Code.Mir as mir
 
 abbrev Object-of : ObjectNumber → ℕ → ℕ → Handle → Object
 Object-of x0 x1 x2 x3 = record { number = x0; kind = x1; bridged = x2; handle = x3 }
@@ -116,8 +116,8 @@ abbrev stayed : Stays (f.ended .signature .params) (f.ended .kept)
 stayed = (stay-none-slice (0 ∷ []) tt (plain (λ _. Object-t.the-row)) yes, (stay-none (λ _. u64-p .row) yes, (stay-none (λ _. ObjectNumber-p .row) yes, tt)))
 
 module _ {M : Type 1} (𝓤 : URA M) (H : Heap 𝓤) (A : Atoms 𝓤) (mem : Memory → SProp 𝓤) (run : Routine → Fun 𝓤) where
-  abbrev Of-rows-place : Contract 𝓤
-  Of-rows-place = tripleOf 𝓤 H A rows-place.signature (rows-place.spec 𝓤 H A mem run)
+  abbrev Of-object-rows-place : Contract 𝓤
+  Of-object-rows-place = tripleOf 𝓤 H A object-rows-place.signature (object-rows-place.spec 𝓤 H A mem run)
 
 module _ {M : Type 1} (𝓤 : URA M) (H : Heap 𝓤) (A : Atoms 𝓤) (W : Given 𝓤 H A) (mem : Memory → SProp 𝓤) (run : Routine → Fun 𝓤) (κ₁ : Lft) (q₁ : Share) (b₁ o₁ : ℕ) (γ₁ : GName) (row : List Object) (used : ℕ) (number : ObjectNumber)
     (room₁ : Room Object-t.the-row (length row)) (used-is : Is (u64-p .row) used (u64-p .val used ∷ [])) (number-is : Is (ObjectNumber-p .row) number (ObjectNumber-p .val number ∷ [])) (within : used ≤ length (row)) where
@@ -147,7 +147,7 @@ module _ {M : Type 1} (𝓤 : URA M) (H : Heap 𝓤) (A : Atoms 𝓤) (W : Given
       frame ! $
       owned ! (Found-p .row) (Is (Found-p .row)) (Found-p .makes 𝓤 H A W) r _ r-is $ done !
 
-  module _ (𝓣 : Tables 𝓤 H) (known-rows-place : Triple 𝓤 (𝓣 .C #rows-place) (Of-rows-place 𝓤 H A mem run)) (l₀ l₁ l₂ l₃ l₄ l₅ l₆ l₇ l₈ l₉ l₁₀ : ℕ) where
+  module _ (𝓣 : Tables 𝓤 H) (known-object-rows-place : Triple 𝓤 (𝓣 .C #object-rows-place) (Of-object-rows-place 𝓤 H A mem run)) (l₀ l₁ l₂ l₃ l₄ l₅ l₆ l₇ l₈ l₉ l₁₀ : ℕ) where
     abbrev C : Calls 𝓤 H
     C = 𝓣 .C
 
@@ -190,28 +190,28 @@ module _ {M : Type 1} (𝓤 : URA M) (H : Heap 𝓤) (A : Atoms 𝓤) (W : Given
     begins : Sq W (‵ (ShrSlice (named 0) κ₁ Object-t.the-row .own (at-list b₁ o₁ γ₁ row) (sliceVal (b₁, o₁) n₁ ∷ [])) ∷ ‵ (flft κ₁ q₁) ∷ free 𝓤 Object-l.mir l₁₀ (free 𝓤 tyPtr l₉ (free 𝓤 (tyInt w64) l₈ (free 𝓤 Found-l.mir l₇ (free 𝓤 Object-l.mir l₆ (free 𝓤 (tyInt w64) l₅ (free 𝓤 Place-l.mir l₄ (full 𝓤 ObjectNumber-l.mir l₃ (ObjectNumber-p .val number) (full 𝓤 (tyInt w64) l₂ (u64-p .val used) (full 𝓤 (sliceTy (tyRef (named 0) imm (pointee (Object-t.the-row .written)))) l₁ (sliceVal (b₁, o₁) n₁) (free 𝓤 Found-l.mir l₀ ([])))))))))))) (runs C Λ En mir.t-1 (atRet En Post))
     begins =
         knows ! (used ≤ length (row)) (omega (arith, ltb-true, ltb-false, leb-true, leb-false, eqb-true, eqb-false)) (λ asks-1.
-        -- 1: sessions::rows::place
+        -- 1: sessions::object_rows::place
         copies-shr ! Object-t.the-row b₁ o₁ row n₁ $ nothing ! $ move ! (1 ∷ 0 ∷ []) $ join ! $
         use1 W (raw (toks 𝓤 A 1 ((κ₁, tt)) ((q₁, tt)))) (id⊢ 𝓤 _) $ nothing ! $
         owned ! (ObjectNumber-p .row) (Is (ObjectNumber-p .row)) (ObjectNumber-p .makes 𝓤 H A W) number (ObjectNumber-p .val number ∷ []) number-is $ fjoin ! $
         owned ! (u64-p .row) (Is (u64-p .row)) (u64-p .makes 𝓤 H A W) used (u64-p .val used ∷ []) used-is $ fjoin ! $ move ! (2 ∷ 0 ∷ []) $ fjoin ! $ move ! (1 ∷ 0 ∷ []) $
-        calls-any ! fm 1 [] (rows-place.signature .params) (rows-place.ended .kept) Place-p (rows-place.clauses 𝓤 H A mem run) known-rows-place (κ₁, tt) (q₁, tt) tt (at-list b₁ o₁ γ₁ row, (used, (number, tt))) (sliceVal (b₁, o₁) n₁ ∷ [], (u64-p .val used ∷ [], (ObjectNumber-p .val number ∷ [], tt))) tt (placeOf (row) used number) (λ ws-1. Unit {0}) (factI 𝓤 (used ≤ length (row)) _ asks-1) (λ r ws-1. fact-mono 𝓤 (r ≡ placeOf (row) used number) ((r ≡ (placeOf (row) used number)) × (Unit {0})) (λ e. (e, tt))) (λ _. (and-then ! (load ! (from ! (stop !)) (look ! 20 refl)) (and-then ! (load ! (from ! (stop !)) (look ! 18 refl)) (and-then ! (load ! (from ! (stop !)) (look ! 16 refl)) (no-more !))))) (λ ws-1 said-1 is-1.
+        calls-any ! fm 1 [] (object-rows-place.signature .params) (object-rows-place.ended .kept) Place-p (object-rows-place.clauses 𝓤 H A mem run) known-object-rows-place (κ₁, tt) (q₁, tt) tt (at-list b₁ o₁ γ₁ row, (used, (number, tt))) (sliceVal (b₁, o₁) n₁ ∷ [], (u64-p .val used ∷ [], (ObjectNumber-p .val number ∷ [], tt))) tt (placeOf (row) used number) (λ ws-1. Unit {0}) (factI 𝓤 (used ≤ length (row)) _ asks-1) (λ r ws-1. fact-mono 𝓤 (r ≡ placeOf (row) used number) ((r ≡ (placeOf (row) used number)) × (Unit {0})) (λ e. (e, tt))) (λ _. (and-then ! (load ! (from ! (stop !)) (look ! 20 refl)) (and-then ! (load ! (from ! (stop !)) (look ! 18 refl)) (and-then ! (load ! (from ! (stop !)) (look ! 16 refl)) (no-more !))))) (λ ws-1 said-1 is-1.
         use1 W ((‵ (flft κ₁ q₁) ⊛ ‵ ftrue)) (id⊢ 𝓤 _) $ split ! $ move ! (2 ∷ []) $ fsplit ! $ drop ! $ drop ! $ move ! (1 ∷ []) $ drop ! $
         land ! (from ! (stop !)) (init ! 14 refl (Place-p .typed 𝓤 H A W (placeOf (row) used number) is-1)) $
         first ! $ move ! (1 ∷ 0 ∷ 2 ∷ 3 ∷ 4 ∷ 5 ∷ 6 ∷ 7 ∷ 8 ∷ 9 ∷ 10 ∷ 11 ∷ 12 ∷ 13 ∷ 14 ∷ 15 ∷ 16 ∷ 17 ∷ 18 ∷ 19 ∷ 20 ∷ 21 ∷ 22 ∷ 23 ∷ []) $
         matched-2-0 asks-1 is-1 (placeOf (row) used number) refl is-1))
 
-  module _ (𝓣 : Tables 𝓤 H) (known-rows-place : Triple 𝓤 (𝓣 .C #rows-place) (Of-rows-place 𝓤 H A mem run)) where
+  module _ (𝓣 : Tables 𝓤 H) (known-object-rows-place : Triple 𝓤 (𝓣 .C #object-rows-place) (Of-object-rows-place 𝓤 H A mem run)) where
     walk : ent 𝓤 (onEntry 𝓤 H A f.signature (κ₁, tt) (q₁, tt) x at) (WpFn 𝓤 H (𝓣 .C) (𝓣 .Λ) code.function (sliceVal (b₁, o₁) n₁ ∷ u64-p .val used ∷ ObjectNumber-p .val number ∷ []) Post)
     walk =
         qed W ((‵ (flft κ₁ q₁) ⊛ ‵ ftrue) ∷ ‵ (owns (ShrSlice (named 0) κ₁ Object-t.the-row ∷ u64-p .row ∷ ObjectNumber-p .row ∷ []) x at) ∷ []) ∵ enter ! (𝓣 .C) (𝓣 .Λ) code.function (sliceVal (b₁, o₁) n₁ ∷ u64-p .val used ∷ ObjectNumber-p .val number ∷ []) _ $
         alloc1 ! (λ l₀. alloc1 ! (λ l₁. alloc1 ! (λ l₂. alloc1 ! (λ l₃. alloc1 ! (λ l₄. alloc1 ! (λ l₅. alloc1 ! (λ l₆. alloc1 ! (λ l₇. alloc1 ! (λ l₈. alloc1 ! (λ l₉. alloc1 ! (λ l₁₀. alloc0 ! $ params1 ! $ pass1 ! (init ! 18 refl (tt, (tt, (record { fits = room₁ .0 }, tt)))) $ pass1 ! (init ! 16 refl (u64-p .typed 𝓤 H A W used used-is)) $ pass1 ! (init ! 14 refl (ObjectNumber-p .typed 𝓤 H A W number number-is)) $ pass0 ! $ move ! (23 ∷ []) $ fsplit ! $ move ! (24 ∷ []) $ split ! $ move ! (1 ∷ []) $ drop ! $ move ! (2 ∷ []) $ drop ! $ move ! (1 ∷ 0 ∷ 2 ∷ 3 ∷ 4 ∷ 5 ∷ 6 ∷ 7 ∷ 8 ∷ 9 ∷ 10 ∷ 11 ∷ 12 ∷ 13 ∷ 14 ∷ 15 ∷ 16 ∷ 17 ∷ 18 ∷ 19 ∷ 20 ∷ 21 ∷ 22 ∷ 23 ∷ []) $
-        begins 𝓣 known-rows-place l₀ l₁ l₂ l₃ l₄ l₅ l₆ l₇ l₈ l₉ l₁₀)))))))))))
+        begins 𝓣 known-object-rows-place l₀ l₁ l₂ l₃ l₄ l₅ l₆ l₇ l₈ l₉ l₁₀)))))))))))
 
-module _ {M : Type 1} (𝓤 : URA M) (H : Heap 𝓤) (A : Atoms 𝓤) (W : Given 𝓤 H A) (mem : Memory → SProp 𝓤) (run : Routine → Fun 𝓤) (𝓣 : Tables 𝓤 H) (known-rows-place : Triple 𝓤 (𝓣 .C #rows-place) (Of-rows-place 𝓤 H A mem run)) where
+module _ {M : Type 1} (𝓤 : URA M) (H : Heap 𝓤) (A : Atoms 𝓤) (W : Given 𝓤 H A) (mem : Memory → SProp 𝓤) (run : Routine → Fun 𝓤) (𝓣 : Tables 𝓤 H) (known-object-rows-place : Triple 𝓤 (𝓣 .C #object-rows-place) (Of-object-rows-place 𝓤 H A mem run)) where
   walks : Walks 𝓤 H A f.ended stayed (WpFn 𝓤 H (𝓣 .C) (𝓣 .Λ) code.function) (f.clauses 𝓤 H A mem run)
   walks = walked 𝓤 H A f.ended stayed (f.clauses 𝓤 H A mem run) (WpFn 𝓤 H (𝓣 .C) (𝓣 .Λ) code.function) (λ κs. (slice-vals, ((λ y. u64-p .val y ∷ []), ((λ y. ObjectNumber-p .val y ∷ []), tt)))) (λ κs. (shr-slice-tells (named 0) (κs .0) Object-t.the-row, (u64-p .tells, (ObjectNumber-p .tells, tt))))
-      (λ κs qs bounds a g are. needs 𝓤 _ _ (λ within. walk 𝓤 H A W mem run (κs .0) (qs .0) (a .0 .ptr .0) (a .0 .ptr .1) (a .0 .name) (a .0 .now) (a .1 .0) (a .1 .1 .0) (are .0 .0 .1) (are .1 .0) (are .1 .1 .0) within 𝓣 known-rows-place))
+      (λ κs qs bounds a g are. needs 𝓤 _ _ (λ within. walk 𝓤 H A W mem run (κs .0) (qs .0) (a .0 .ptr .0) (a .0 .ptr .1) (a .0 .name) (a .0 .now) (a .1 .0) (a .1 .1 .0) (are .0 .0 .1) (are .1 .0) (are .1 .1 .0) within 𝓣 known-object-rows-place))
 
   meets : Meets 𝓤 H A f.signature (WpFn 𝓤 H (𝓣 .C) (𝓣 .Λ) code.function) (f.spec 𝓤 H A mem run)
   meets = walk-meets 𝓤 H A f.ended stayed W (goes-none-slice 𝓤 H A W 1 (0 ∷ []) tt (plain (λ _. Object-t.the-row)) yes, (goes-none 𝓤 H A W 1 (λ _. u64-p .row) yes (λ κs x f. refl), (goes-none 𝓤 H A W 1 (λ _. ObjectNumber-p .row) yes (λ κs x f. refl), tt))) (f.clauses 𝓤 H A mem run) (WpFn 𝓤 H (𝓣 .C) (𝓣 .Λ) code.function) (WpFn-mono 𝓤 H (W .laws) 𝓣 code.function) walks
@@ -222,4 +222,4 @@ find-spec 𝓤 H 𝓜 𝓖 𝓡 =
     entered 𝓤 H (tripleOf 𝓤 H (𝓖 .A) f.signature (f.spec 𝓤 H (𝓖 .A) (𝓜 .mem) (𝓡 .run)))
     (tables 𝓤 H 𝓜 𝓡 code.env .C) (tables 𝓤 H 𝓜 𝓡 code.env .Λ) #f code.function (code.unfolded 𝓤 H 𝓜 𝓡)
     (meets 𝓤 H (𝓖 .A) (givenOf 𝓤 H 𝓜 𝓖) (𝓜 .mem) (𝓡 .run) (tablesOf 𝓤 H 𝓜 (tables 𝓤 H 𝓜 𝓡 code.env))
-    (cited 𝓤 H (Of-rows-place 𝓤 H (𝓖 .A) (𝓜 .mem) (𝓡 .run)) 𝓜 𝓡 code.env #rows-place rows-place-def.routine code.calls-sessions·rows·place (rows-place-thm.met 𝓤 H 𝓜 𝓖 𝓡)))
+    (cited 𝓤 H (Of-object-rows-place 𝓤 H (𝓖 .A) (𝓜 .mem) (𝓡 .run)) 𝓜 𝓡 code.env #object-rows-place object-rows-place-def.routine code.calls-sessions·object-rows·place (object-rows-place-thm.met 𝓤 H 𝓜 𝓖 𝓡)))

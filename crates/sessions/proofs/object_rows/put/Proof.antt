@@ -1,4 +1,4 @@
--- Written by walkgen.py from walks/rows.put.toml, the source and the MIR. Do not edit: change the description, and write it anew.
+-- Written by walkgen.py from walks/object_rows.put.toml, the source and the MIR. Do not edit: change the description, and write it anew.
 -- Assumes nothing.
 use mathlib.Core.Path.{_≡_, refl, sym, _∙_, ap, subst}
 use Prim.Native.Nat.{ℕ, zero, suc, _+_, _-_, _*_, _<_, _≤_, _^_}
@@ -55,7 +55,7 @@ use Rattle.walk.proofs.Arrays.{rep-is, lends-array, backs-array}
 use Rattle.sessions.specs.Objects.{placeOf, foundOf, greatestOf, storedOf, storedRow, removedRow}
 use Rattle.sessions.specs.Objects.{bridgedOf, implicitOf, handleOf, isNumbered, greaterOf, betterOf, slotOf, countOf}
 use mathlib.Core.Bool.{cond}
-use Rattle.sessions.proofs.rows.Laws.{put-full}
+use Rattle.sessions.proofs.object_rows.Laws.{put-full}
 use Rattle.sessions.specs.declared.objects.Object.{Object}
 use Rattle.sessions.proofs.objects.Object as Object-t
 use Rattle.sessions.proofs.objects.Object.Laws as Object-l
@@ -77,10 +77,10 @@ use Rattle.sessions.specs.declared.objects.Place.{Place}
 use Rattle.sessions.proofs.objects.Place as Place-t
 use Rattle.sessions.proofs.objects.Place.Laws as Place-l
 use Rattle.sessions.specs.declared.objects.Place.the-variants.{At as Place-At, Nowhere as Place-Nowhere}
-use Rattle.sessions.proofs.rows.place as rows-place
-use Rattle.sessions.proofs.rows.place.Symbol as rows-place-def
-use Rattle.sessions.proofs.rows.place.Symbol.{name as #rows-place}
-use Rattle.sessions.proofs.rows.place.Met as rows-place-thm
+use Rattle.sessions.proofs.object_rows.place as object-rows-place
+use Rattle.sessions.proofs.object_rows.place.Symbol as object-rows-place-def
+use Rattle.sessions.proofs.object_rows.place.Symbol.{name as #object-rows-place}
+use Rattle.sessions.proofs.object_rows.place.Met as object-rows-place-thm
 use Rattle.sessions.proofs.objects.slot as objects-slot
 use Rattle.sessions.proofs.objects.slot.Symbol as objects-slot-def
 use Rattle.sessions.proofs.objects.slot.Symbol.{name as #objects-slot}
@@ -89,11 +89,11 @@ use Rattle.sessions.proofs.objects.count as objects-count
 use Rattle.sessions.proofs.objects.count.Symbol as objects-count-def
 use Rattle.sessions.proofs.objects.count.Symbol.{name as #objects-count}
 use Rattle.sessions.proofs.objects.count.Met as objects-count-thm
-use Rattle.sessions.proofs.rows.put.Key.{name as #f}
-use Rattle.sessions.proofs.rows.put as f
-use Rattle.sessions.proofs.rows.put.Statement as stated
-use Rattle.sessions.proofs.rows.put.Code as code
-use Rattle.sessions.proofs.rows.put.Code.Mir as mir
+use Rattle.sessions.proofs.object_rows.put.Key.{name as #f}
+use Rattle.sessions.proofs.object_rows.put as f
+use Rattle.sessions.proofs.object_rows.put.Statement as stated
+use Rattle.sessions.proofs.object_rows.put.Code as code
+use Rattle.sessions.proofs.object_rows.put.Code.Mir as mir
 
 abbrev Object-of : ObjectNumber → ℕ → ℕ → Handle → Object
 Object-of x0 x1 x2 x3 = record { number = x0; kind = x1; bridged = x2; handle = x3 }
@@ -126,8 +126,8 @@ abbrev stayed : Stays (f.ended .signature .params) (f.ended .kept)
 stayed = (stay-slice (0 ∷ []) tt (plain (λ _. Object-t.the-row)), (stay-none (λ _. u64-p .row) yes, (stay-none (λ _. Object-p .row) yes, tt)))
 
 module _ {M : Type 1} (𝓤 : URA M) (H : Heap 𝓤) (A : Atoms 𝓤) (mem : Memory → SProp 𝓤) (run : Routine → Fun 𝓤) where
-  abbrev Of-rows-place : Contract 𝓤
-  Of-rows-place = tripleOf 𝓤 H A rows-place.signature (rows-place.spec 𝓤 H A mem run)
+  abbrev Of-object-rows-place : Contract 𝓤
+  Of-object-rows-place = tripleOf 𝓤 H A object-rows-place.signature (object-rows-place.spec 𝓤 H A mem run)
 
   abbrev Of-objects-slot : Contract 𝓤
   Of-objects-slot = tripleOf 𝓤 H A objects-slot.signature (objects-slot.spec 𝓤 H A mem run)
@@ -165,7 +165,7 @@ module _ {M : Type 1} (𝓤 : URA M) (H : Heap 𝓤) (A : Atoms 𝓤) (W : Given
       frame ! $
       owned ! (Stored-p .row) (Is (Stored-p .row)) (Stored-p .makes 𝓤 H A W) r _ r-is $ done !
 
-  module _ (𝓣 : Tables 𝓤 H) (known-rows-place : Triple 𝓤 (𝓣 .C #rows-place) (Of-rows-place 𝓤 H A mem run)) (known-objects-slot : Triple 𝓤 (𝓣 .C #objects-slot) (Of-objects-slot 𝓤 H A mem run)) (known-objects-count : Triple 𝓤 (𝓣 .C #objects-count) (Of-objects-count 𝓤 H A mem run)) (l₀ l₁ l₂ l₃ l₄ l₅ l₆ l₇ l₈ l₉ l₁₀ l₁₁ l₁₂ l₁₃ l₁₄ : ℕ) where
+  module _ (𝓣 : Tables 𝓤 H) (known-object-rows-place : Triple 𝓤 (𝓣 .C #object-rows-place) (Of-object-rows-place 𝓤 H A mem run)) (known-objects-slot : Triple 𝓤 (𝓣 .C #objects-slot) (Of-objects-slot 𝓤 H A mem run)) (known-objects-count : Triple 𝓤 (𝓣 .C #objects-count) (Of-objects-count 𝓤 H A mem run)) (l₀ l₁ l₂ l₃ l₄ l₅ l₆ l₇ l₈ l₉ l₁₀ l₁₁ l₁₂ l₁₃ l₁₄ : ℕ) where
     abbrev C : Calls 𝓤 H
     C = 𝓣 .C
 
@@ -184,13 +184,13 @@ module _ {M : Type 1} (𝓤 : URA M) (H : Heap 𝓤) (A : Atoms 𝓤) (W : Given
         assigns ! (addr ! (from ! (fld ! refl (hop ! (look-in ! 28 (sub ! 0 refl (whole !))) (stop !))))) (from ! (stop !)) (init ! 12 refl (tt, tt)) $
         assigns ! (agg ! (and-then ! (load ! (from ! (stop !)) (look ! 12 refl)) (and-then ! (load ! (from ! (fld ! refl (stop !))) (look-in ! 28 (sub ! 1 refl (whole !)))) (no-more !)))) (from ! (stop !)) (init ! 10 refl (tt, (tt, (record { fits = room₁ .0 }, tt)))) $
         knows ! (used ≤ length (row)) (omega (arith, ltb-true, ltb-false, leb-true, leb-false, eqb-true, eqb-false)) (λ asks-4.
-        -- 4: sessions::rows::place
+        -- 4: sessions::object_rows::place
         lends-view ! tt Object-t.the-row b₁ o₁ row n₁ (refl) (λ ν-4-row δ-4-row.
         nothing ! $ move ! (1 ∷ 0 ∷ []) $ join ! $
         use1 W (raw (toks 𝓤 A 1 (((ν-4-row ∷ []), tt)) ((fullShare, tt)))) (id⊢ 𝓤 _) $ nothing ! $
         owned ! (ObjectNumber-p .row) (Is (ObjectNumber-p .row)) (ObjectNumber-p .makes 𝓤 H A W) (o .number) (ObjectNumber-p .val (o .number) ∷ []) (LL.owed Object-t.the-type Object-l.the-laws o _ o-is .0) $ fjoin ! $
         owned ! (u64-p .row) (Is (u64-p .row)) (u64-p .makes 𝓤 H A W) used (u64-p .val used ∷ []) used-is $ fjoin ! $ move ! (2 ∷ 0 ∷ []) $ fjoin ! $ move ! (1 ∷ 0 ∷ []) $
-        calls-any ! fm 1 [] (rows-place.signature .params) (rows-place.ended .kept) Place-p (rows-place.clauses 𝓤 H A mem run) known-rows-place ((ν-4-row ∷ []), tt) (fullShare, tt) tt (at-list b₁ o₁ δ-4-row row, (used, (o .number, tt))) (sliceVal (b₁, o₁) n₁ ∷ [], (u64-p .val used ∷ [], (ObjectNumber-p .val (o .number) ∷ [], tt))) tt (placeOf (row) used (o .number)) (λ ws-4. Unit {0}) (factI 𝓤 (used ≤ length (row)) _ asks-4) (λ r ws-4. fact-mono 𝓤 (r ≡ placeOf (row) used (o .number)) ((r ≡ (placeOf (row) used (o .number))) × (Unit {0})) (λ e. (e, tt))) (λ _. (and-then ! (load ! (from ! (stop !)) (look ! 10 refl)) (and-then ! (load ! (from ! (stop !)) (look ! 26 refl)) (and-then ! (load ! (from ! (stop !)) (look ! 22 refl)) (no-more !))))) (λ ws-4 said-4 is-4.
+        calls-any ! fm 1 [] (object-rows-place.signature .params) (object-rows-place.ended .kept) Place-p (object-rows-place.clauses 𝓤 H A mem run) known-object-rows-place ((ν-4-row ∷ []), tt) (fullShare, tt) tt (at-list b₁ o₁ δ-4-row row, (used, (o .number, tt))) (sliceVal (b₁, o₁) n₁ ∷ [], (u64-p .val used ∷ [], (ObjectNumber-p .val (o .number) ∷ [], tt))) tt (placeOf (row) used (o .number)) (λ ws-4. Unit {0}) (factI 𝓤 (used ≤ length (row)) _ asks-4) (λ r ws-4. fact-mono 𝓤 (r ≡ placeOf (row) used (o .number)) ((r ≡ (placeOf (row) used (o .number))) × (Unit {0})) (λ e. (e, tt))) (λ _. (and-then ! (load ! (from ! (stop !)) (look ! 10 refl)) (and-then ! (load ! (from ! (stop !)) (look ! 26 refl)) (and-then ! (load ! (from ! (stop !)) (look ! 22 refl)) (no-more !))))) (λ ws-4 said-4 is-4.
         use1 W ((‵ (flft (ν-4-row ∷ []) fullShare) ⊛ ‵ ftrue)) (id⊢ 𝓤 _) $ split ! $ move ! (2 ∷ []) $ fsplit ! $ move ! (2 ∷ 4 ∷ []) $
         backs-view ! tt Object-t.the-row b₁ o₁ row n₁ (refl) ν-4-row $ move ! (2 ∷ []) $ drop ! $ move ! (2 ∷ []) $ drop ! $ move ! (2 ∷ []) $ drop ! $
         land ! (from ! (stop !)) (init ! 20 refl (Place-p .typed 𝓤 H A W (placeOf (row) used (o .number)) is-4)) $
@@ -238,17 +238,17 @@ module _ {M : Type 1} (𝓤 : URA M) (H : Heap 𝓤) (A : Atoms 𝓤) (W : Given
         returns ! (look ! 30 refl) $ forget ! 6 refl $ forget ! 8 refl $ forget ! 10 refl $ forget ! 12 refl $ forget ! 16 refl $ forget ! 18 refl $ forget ! 20 refl $ forget ! 22 refl $ forget ! 24 refl $ forget ! 26 refl $ forget ! 28 refl $ forget ! 30 refl $ move ! (30 ∷ 31 ∷ []) $ free1 ! $ move ! (28 ∷ 29 ∷ []) $ free1 ! $ move ! (26 ∷ 27 ∷ []) $ free1 ! $ move ! (24 ∷ 25 ∷ []) $ free1 ! $ move ! (22 ∷ 23 ∷ []) $ free1 ! $ move ! (20 ∷ 21 ∷ []) $ free1 ! $ move ! (18 ∷ 19 ∷ []) $ free1 ! $ move ! (16 ∷ 17 ∷ []) $ free1 ! $ move ! (14 ∷ 15 ∷ []) $ free1 ! $ move ! (12 ∷ 13 ∷ []) $ free1 ! $ move ! (10 ∷ 11 ∷ []) $ free1 ! $ move ! (8 ∷ 9 ∷ []) $ free1 ! $ move ! (6 ∷ 7 ∷ []) $ free1 ! $ move ! (4 ∷ 5 ∷ []) $ free1 ! $ move ! (2 ∷ 3 ∷ []) $ free1 ! $ free0 ! $
         by ! (exits Stored-Full row ((if-false answer _ c-8, put-full row used o (ltb-false _ _ c-8))) (EL.owes Stored-t.the-type Stored-l.the-laws Stored-Full tt) refl)))))))
 
-  module _ (𝓣 : Tables 𝓤 H) (known-rows-place : Triple 𝓤 (𝓣 .C #rows-place) (Of-rows-place 𝓤 H A mem run)) (known-objects-slot : Triple 𝓤 (𝓣 .C #objects-slot) (Of-objects-slot 𝓤 H A mem run)) (known-objects-count : Triple 𝓤 (𝓣 .C #objects-count) (Of-objects-count 𝓤 H A mem run)) where
+  module _ (𝓣 : Tables 𝓤 H) (known-object-rows-place : Triple 𝓤 (𝓣 .C #object-rows-place) (Of-object-rows-place 𝓤 H A mem run)) (known-objects-slot : Triple 𝓤 (𝓣 .C #objects-slot) (Of-objects-slot 𝓤 H A mem run)) (known-objects-count : Triple 𝓤 (𝓣 .C #objects-count) (Of-objects-count 𝓤 H A mem run)) where
     walk : ent 𝓤 (onEntry 𝓤 H A f.signature (κ₁, tt) (q₁, tt) x at) (WpFn 𝓤 H (𝓣 .C) (𝓣 .Λ) code.function (sliceVal (b₁, o₁) n₁ ∷ u64-p .val used ∷ Object-p .val o ∷ []) Post)
     walk =
         qed W ((‵ (flft κ₁ q₁) ⊛ ‵ ftrue) ∷ ‵ (owns (MutSlice (named 0) κ₁ Object-t.the-row ∷ u64-p .row ∷ Object-p .row ∷ []) x at) ∷ []) ∵ enter ! (𝓣 .C) (𝓣 .Λ) code.function (sliceVal (b₁, o₁) n₁ ∷ u64-p .val used ∷ Object-p .val o ∷ []) _ $
         alloc1 ! (λ l₀. alloc1 ! (λ l₁. alloc1 ! (λ l₂. alloc1 ! (λ l₃. alloc1 ! (λ l₄. alloc1 ! (λ l₅. alloc1 ! (λ l₆. alloc1 ! (λ l₇. alloc1 ! (λ l₈. alloc1 ! (λ l₉. alloc1 ! (λ l₁₀. alloc1 ! (λ l₁₁. alloc1 ! (λ l₁₂. alloc1 ! (λ l₁₃. alloc1 ! (λ l₁₄. alloc0 ! $ params1 ! $ pass1 ! (init ! 26 refl (tt, (tt, (record { fits = room₁ .0 }, tt)))) $ pass1 ! (init ! 24 refl (u64-p .typed 𝓤 H A W used used-is)) $ pass1 ! (init ! 22 refl (Object-p .typed 𝓤 H A W o o-is)) $ pass0 ! $ move ! (31 ∷ []) $ fsplit ! $ move ! (32 ∷ []) $ split ! $ move ! (1 ∷ []) $ drop ! $ move ! (2 ∷ []) $ drop ! $ move ! (1 ∷ 0 ∷ 2 ∷ 3 ∷ 4 ∷ 5 ∷ 6 ∷ 7 ∷ 8 ∷ 9 ∷ 10 ∷ 11 ∷ 12 ∷ 13 ∷ 14 ∷ 15 ∷ 16 ∷ 17 ∷ 18 ∷ 19 ∷ 20 ∷ 21 ∷ 22 ∷ 23 ∷ 24 ∷ 25 ∷ 26 ∷ 27 ∷ 28 ∷ 29 ∷ 30 ∷ 31 ∷ []) $
-        begins 𝓣 known-rows-place known-objects-slot known-objects-count l₀ l₁ l₂ l₃ l₄ l₅ l₆ l₇ l₈ l₉ l₁₀ l₁₁ l₁₂ l₁₃ l₁₄)))))))))))))))
+        begins 𝓣 known-object-rows-place known-objects-slot known-objects-count l₀ l₁ l₂ l₃ l₄ l₅ l₆ l₇ l₈ l₉ l₁₀ l₁₁ l₁₂ l₁₃ l₁₄)))))))))))))))
 
-module _ {M : Type 1} (𝓤 : URA M) (H : Heap 𝓤) (A : Atoms 𝓤) (W : Given 𝓤 H A) (mem : Memory → SProp 𝓤) (run : Routine → Fun 𝓤) (𝓣 : Tables 𝓤 H) (known-rows-place : Triple 𝓤 (𝓣 .C #rows-place) (Of-rows-place 𝓤 H A mem run)) (known-objects-slot : Triple 𝓤 (𝓣 .C #objects-slot) (Of-objects-slot 𝓤 H A mem run)) (known-objects-count : Triple 𝓤 (𝓣 .C #objects-count) (Of-objects-count 𝓤 H A mem run)) where
+module _ {M : Type 1} (𝓤 : URA M) (H : Heap 𝓤) (A : Atoms 𝓤) (W : Given 𝓤 H A) (mem : Memory → SProp 𝓤) (run : Routine → Fun 𝓤) (𝓣 : Tables 𝓤 H) (known-object-rows-place : Triple 𝓤 (𝓣 .C #object-rows-place) (Of-object-rows-place 𝓤 H A mem run)) (known-objects-slot : Triple 𝓤 (𝓣 .C #objects-slot) (Of-objects-slot 𝓤 H A mem run)) (known-objects-count : Triple 𝓤 (𝓣 .C #objects-count) (Of-objects-count 𝓤 H A mem run)) where
   walks : Walks 𝓤 H A f.ended stayed (WpFn 𝓤 H (𝓣 .C) (𝓣 .Λ) code.function) (f.clauses 𝓤 H A mem run)
   walks = walked 𝓤 H A f.ended stayed (f.clauses 𝓤 H A mem run) (WpFn 𝓤 H (𝓣 .C) (𝓣 .Λ) code.function) (λ κs. (slice-vals, ((λ y. u64-p .val y ∷ []), ((λ y. Object-p .val y ∷ []), tt)))) (λ κs. (mut-slice-tells (named 0) (κs .0) Object-t.the-row, (u64-p .tells, (Object-p .tells, tt))))
-      (λ κs qs bounds a g are. needs 𝓤 _ _ (λ within. walk 𝓤 H A W mem run (κs .0) (qs .0) (a .0 .ptr .0) (a .0 .ptr .1) (a .0 .name) (a .0 .now) (a .1 .0) (a .1 .1 .0) (are .0 .0 .1) (are .1 .0) (are .1 .1 .0) within 𝓣 known-rows-place known-objects-slot known-objects-count))
+      (λ κs qs bounds a g are. needs 𝓤 _ _ (λ within. walk 𝓤 H A W mem run (κs .0) (qs .0) (a .0 .ptr .0) (a .0 .ptr .1) (a .0 .name) (a .0 .now) (a .1 .0) (a .1 .1 .0) (are .0 .0 .1) (are .1 .0) (are .1 .1 .0) within 𝓣 known-object-rows-place known-objects-slot known-objects-count))
 
   meets : Meets 𝓤 H A f.signature (WpFn 𝓤 H (𝓣 .C) (𝓣 .Λ) code.function) (f.spec 𝓤 H A mem run)
   meets = walk-meets 𝓤 H A f.ended stayed W (goes-slice 𝓤 H A W 1 0 tt (plain (λ _. Object-t.the-row)), (goes-none 𝓤 H A W 1 (λ _. u64-p .row) yes (λ κs x f. refl), (goes-none 𝓤 H A W 1 (λ _. Object-p .row) yes (λ κs x f. refl), tt))) (f.clauses 𝓤 H A mem run) (WpFn 𝓤 H (𝓣 .C) (𝓣 .Λ) code.function) (WpFn-mono 𝓤 H (W .laws) 𝓣 code.function) walks
@@ -259,6 +259,6 @@ put-spec 𝓤 H 𝓜 𝓖 𝓡 =
     entered 𝓤 H (tripleOf 𝓤 H (𝓖 .A) f.signature (f.spec 𝓤 H (𝓖 .A) (𝓜 .mem) (𝓡 .run)))
     (tables 𝓤 H 𝓜 𝓡 code.env .C) (tables 𝓤 H 𝓜 𝓡 code.env .Λ) #f code.function (code.unfolded 𝓤 H 𝓜 𝓡)
     (meets 𝓤 H (𝓖 .A) (givenOf 𝓤 H 𝓜 𝓖) (𝓜 .mem) (𝓡 .run) (tablesOf 𝓤 H 𝓜 (tables 𝓤 H 𝓜 𝓡 code.env))
-    (cited 𝓤 H (Of-rows-place 𝓤 H (𝓖 .A) (𝓜 .mem) (𝓡 .run)) 𝓜 𝓡 code.env #rows-place rows-place-def.routine code.calls-sessions·rows·place (rows-place-thm.met 𝓤 H 𝓜 𝓖 𝓡))
+    (cited 𝓤 H (Of-object-rows-place 𝓤 H (𝓖 .A) (𝓜 .mem) (𝓡 .run)) 𝓜 𝓡 code.env #object-rows-place object-rows-place-def.routine code.calls-sessions·object-rows·place (object-rows-place-thm.met 𝓤 H 𝓜 𝓖 𝓡))
     (cited 𝓤 H (Of-objects-slot 𝓤 H (𝓖 .A) (𝓜 .mem) (𝓡 .run)) 𝓜 𝓡 code.env #objects-slot objects-slot-def.routine code.calls-sessions·objects·slot (objects-slot-thm.met 𝓤 H 𝓜 𝓖 𝓡))
     (cited 𝓤 H (Of-objects-count 𝓤 H (𝓖 .A) (𝓜 .mem) (𝓡 .run)) 𝓜 𝓡 code.env #objects-count objects-count-def.routine code.calls-sessions·objects·count (objects-count-thm.met 𝓤 H 𝓜 𝓖 𝓡)))

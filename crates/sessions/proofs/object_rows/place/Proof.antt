@@ -1,4 +1,4 @@
--- Written by walkgen.py from walks/rows.place.toml, the source and the MIR. Do not edit: change the description, and write it anew.
+-- Written by walkgen.py from walks/object_rows.place.toml, the source and the MIR. Do not edit: change the description, and write it anew.
 -- Assumes nothing.
 use mathlib.Core.Path.{_≡_, refl, sym, _∙_, ap, subst}
 use Prim.Native.Nat.{ℕ, zero, suc, _+_, _-_, _*_, _<_, _≤_, _^_}
@@ -55,7 +55,7 @@ use Rattle.walk.proofs.Arrays.{rep-is, lends-array, backs-array}
 use Rattle.sessions.specs.Objects.{placeOf, foundOf, greatestOf, storedOf, storedRow, removedRow}
 use Rattle.sessions.specs.Objects.{bridgedOf, implicitOf, handleOf, isNumbered, greaterOf, betterOf, slotOf, countOf}
 use Rattle.sessions.specs.Objects.{placeFrom}
-use Rattle.sessions.proofs.rows.Laws.{place-hit, place-miss, place-end}
+use Rattle.sessions.proofs.object_rows.Laws.{place-hit, place-miss, place-end}
 use Rattle.sessions.specs.declared.objects.Object.{Object}
 use Rattle.sessions.proofs.objects.Object as Object-t
 use Rattle.sessions.proofs.objects.Object.Laws as Object-l
@@ -73,11 +73,11 @@ use Rattle.sessions.proofs.objects.is_numbered as objects-is-numbered
 use Rattle.sessions.proofs.objects.is_numbered.Symbol as objects-is-numbered-def
 use Rattle.sessions.proofs.objects.is_numbered.Symbol.{name as #objects-is-numbered}
 use Rattle.sessions.proofs.objects.is_numbered.Met as objects-is-numbered-thm
-use Rattle.sessions.proofs.rows.place.Key.{name as #f}
-use Rattle.sessions.proofs.rows.place as f
-use Rattle.sessions.proofs.rows.place.Statement as stated
-use Rattle.sessions.proofs.rows.place.Code as code
-use Rattle.sessions.proofs.rows.place.Code.Mir as mir
+use Rattle.sessions.proofs.object_rows.place.Key.{name as #f}
+use Rattle.sessions.proofs.object_rows.place as f
+use Rattle.sessions.proofs.object_rows.place.Statement as stated
+use Rattle.sessions.proofs.object_rows.place.Code as code
+use Rattle.sessions.proofs.object_rows.place.Code.Mir as mir
 
 abbrev Object-of : ObjectNumber → ℕ → ℕ → Handle → Object
 Object-of x0 x1 x2 x3 = record { number = x0; kind = x1; bridged = x2; handle = x3 }

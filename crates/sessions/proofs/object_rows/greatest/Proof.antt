@@ -1,4 +1,4 @@
--- Written by walkgen.py from walks/rows.greatest.toml, the source and the MIR. Do not edit: change the description, and write it anew.
+-- Written by walkgen.py from walks/object_rows.greatest.toml, the source and the MIR. Do not edit: change the description, and write it anew.
 -- Assumes nothing.
 use mathlib.Core.Path.{_≡_, refl, sym, _∙_, ap, subst}
 use Prim.Native.Nat.{ℕ, zero, suc, _+_, _-_, _*_, _<_, _≤_, _^_}
@@ -76,11 +76,11 @@ use Rattle.sessions.proofs.objects.better as objects-better
 use Rattle.sessions.proofs.objects.better.Symbol as objects-better-def
 use Rattle.sessions.proofs.objects.better.Symbol.{name as #objects-better}
 use Rattle.sessions.proofs.objects.better.Met as objects-better-thm
-use Rattle.sessions.proofs.rows.greatest.Key.{name as #f}
-use Rattle.sessions.proofs.rows.greatest as f
-use Rattle.sessions.proofs.rows.greatest.Statement as stated
-use Rattle.sessions.proofs.rows.greatest.Code as code
-use Rattle.sessions.proofs.rows.greatest.Code.Mir as mir
+use Rattle.sessions.proofs.object_rows.greatest.Key.{name as #f}
+use Rattle.sessions.proofs.object_rows.greatest as f
+use Rattle.sessions.proofs.object_rows.greatest.Statement as stated
+use Rattle.sessions.proofs.object_rows.greatest.Code as code
+use Rattle.sessions.proofs.object_rows.greatest.Code.Mir as mir
 
 abbrev Object-of : ObjectNumber → ℕ → ℕ → Handle → Object
 Object-of x0 x1 x2 x3 = record { number = x0; kind = x1; bridged = x2; handle = x3 }
