@@ -3,3 +3,4 @@ pub mod Objects
 pub mod Table
 pub mod Streams
 pub mod Opening
+pub mod Sweep

@@ -3,4 +3,5 @@ pub mod object_rows;
 pub mod objects;
 pub mod opening;
 pub mod stream_rows;
+pub mod sweep;
 pub mod table;
