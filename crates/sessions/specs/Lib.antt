@@ -1,0 +1,6 @@
+-- What a reader must believe of sessions, in document 01's order.
+pub mod Objects
+pub mod Table
+pub mod Streams
+pub mod Opening
+pub mod Sweep

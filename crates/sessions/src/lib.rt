@@ -1,0 +1,7 @@
+// The sessions of session.rs: the table of sessions by id, and the objects and streams of each.
+pub mod object_rows;
+pub mod objects;
+pub mod opening;
+pub mod stream_rows;
+pub mod sweep;
+pub mod table;
