@@ -1,6 +1,14 @@
 // One command: its name, its words, and the layer that answers it.
 use crate::print::line;
 use crate::print::settle;
+use crate::store::Stored;
+use crate::store::assemble;
+use crate::store::counts;
+use crate::store::empty;
+use crate::store::has;
+use crate::store::insert;
+use crate::store::kept;
+use crate::store::new_store;
 use crate::stream::Streamed;
 use crate::stream::acknack;
 use crate::stream::alloc;
@@ -10,25 +18,97 @@ use crate::stream::held_messages;
 use crate::stream::make_acknack;
 use crate::stream::receive;
 use crate::stream::record;
+use crate::table::Limits;
+use crate::table::Tabled;
+use crate::table::clear;
+use crate::table::create;
+use crate::table::dump;
+use crate::table::expired;
+use crate::table::limits_of;
+use crate::table::live;
+use crate::table::remove_session;
+use crate::table::sweep;
+use crate::table::touch_session;
 use crate::wire::cut;
+use crate::wire::decode;
+use crate::wire::encode;
 use crate::wire::message;
 use crate::words::between;
 use crate::words::bytes;
 use crate::words::index_of;
+use crate::words::key;
 use crate::words::number;
 use crate::words::word;
+use codec::reassembly::ReassemblyBuffer;
 use streams::state::StreamState;
 
-// What the commands work on, and the place of the next byte of the answers.
+// What the commands work on, the place of the next byte of the answers, and how far the input is read: `have` bytes of it
+// are there, and the next line begins at `from`.
 pub struct State {
+    pub store: ReassemblyBuffer,
     pub stream: StreamState,
+    pub limits: Limits,
     pub at: usize,
+    pub from: usize,
+    pub have: usize,
+    pub ended: bool,
 }
 
 impl State {
     pub fn new() -> State {
+        let store = empty();
         let stream = StreamState::new(0);
-        State { stream, at: 0 }
+        let limits = limits_of(0, 0);
+        State {
+            store,
+            stream,
+            limits,
+            at: 0,
+            from: 0,
+            have: 0,
+            ended: false,
+        }
+    }
+
+    pub fn reading(mut self, from: usize) -> State {
+        self.from = from;
+        self
+    }
+
+    pub fn having(mut self, have: usize) -> State {
+        self.have = have;
+        self
+    }
+
+    pub fn ending(mut self) -> State {
+        self.ended = true;
+        self
+    }
+
+    fn answered(mut self, at: usize) -> State {
+        self.at = at;
+        self
+    }
+
+    fn with_store(mut self, r: Stored) -> State {
+        let store = r.store;
+        self.store = store;
+        self.at = r.at;
+        self
+    }
+
+    fn with_table(mut self, r: Tabled) -> State {
+        let limits = r.limits;
+        self.limits = limits;
+        self.at = r.at;
+        self
+    }
+
+    fn with_stream(mut self, r: Streamed) -> State {
+        let stream = r.stream;
+        self.stream = stream;
+        self.at = r.at;
+        self
     }
 }
 
@@ -52,18 +132,64 @@ fn of_wire(
     match name {
         0 => {
             let n = bytes(word(text, 1), room);
-            message(between(room, 0, n), out, at)
+            message(between(room, 0, n), made, out, at)
         }
         3 => {
             let n = bytes(word(text, 2), room);
             let size = number(word(text, 1)) as usize;
             cut(between(room, 0, n), size, made, out, at)
         }
-        _ => line(out, at, b"bad line"),
+        1 => {
+            let n = bytes(word(text, 1), room);
+            encode(between(room, 0, n), made, out, at)
+        }
+        _ => {
+            let n = bytes(word(text, 1), room);
+            decode(between(room, 0, n), out, at)
+        }
     }
 }
 
-fn kept(stream: StreamState, at: usize) -> Streamed {
+fn of_store(
+    name: usize,
+    text: &[u8],
+    store: ReassemblyBuffer,
+    room: &mut [u8],
+    made: &mut [u8],
+    slots: &mut [u8],
+    lengths: &mut [u32],
+    out: &mut [u8],
+    at: usize,
+) -> Stored {
+    match name {
+        4 => new_store(
+            store,
+            number_16(text, 1),
+            number_16(text, 2),
+            slots,
+            lengths,
+            out,
+            at,
+        ),
+        5 => {
+            let n = bytes(word(text, 2), room);
+            insert(
+                store,
+                number_16(text, 1),
+                between(room, 0, n),
+                slots,
+                lengths,
+                out,
+                at,
+            )
+        }
+        6 => kept(store, has(store, number_16(text, 1), lengths, out, at)),
+        7 => kept(store, counts(store, out, at)),
+        _ => kept(store, assemble(store, slots, lengths, made, out, at)),
+    }
+}
+
+fn streamed(stream: StreamState, at: usize) -> Streamed {
     Streamed { stream, at }
 }
 
@@ -79,7 +205,7 @@ fn of_stream(
     match name {
         9 => {
             let made = fresh(number_8(text, 1), number_16(text, 2), number_16(text, 3));
-            kept(made, line(out, at, b"ok"))
+            streamed(made, line(out, at, b"ok"))
         }
         10 => alloc(stream, out, at),
         11 => {
@@ -94,13 +220,74 @@ fn of_stream(
             )
         }
         12 => acknack(stream, number_16(text, 1), number_16(text, 2), out, at),
-        13 => kept(stream, heartbeat(stream, out, at)),
+        13 => streamed(stream, heartbeat(stream, out, at)),
         14 => receive(stream, number_16(text, 1), out, at),
-        15 => kept(
+        15 => streamed(
             stream,
             make_acknack(stream, number_16(text, 1), number_16(text, 2), out, at),
         ),
-        _ => kept(stream, held_messages(stream, held, out, at)),
+        _ => streamed(stream, held_messages(stream, held, out, at)),
+    }
+}
+
+fn tabled(limits: Limits, at: usize) -> Tabled {
+    Tabled { limits, at }
+}
+
+fn of_table(
+    name: usize,
+    text: &[u8],
+    limits: Limits,
+    room: &mut [u8],
+    made: &mut [u8],
+    sessions: &mut [[u64; 5]],
+    streams: &mut [[u16; 35]],
+    out: &mut [u8],
+    at: usize,
+) -> Tabled {
+    let timeout = limits.timeout_ms;
+    match name {
+        17 => {
+            clear(sessions);
+            let made_anew = limits_of(number(word(text, 1)) as usize, number(word(text, 2)));
+            tabled(made_anew, line(out, at, b"ok"))
+        }
+        18 => {
+            let n = bytes(word(text, 1), room);
+            let time = number(word(text, 2));
+            create(
+                limits,
+                key(between(room, 0, n)),
+                time,
+                sessions,
+                streams,
+                out,
+                at,
+            )
+        }
+        19 => {
+            let time = number(word(text, 2));
+            tabled(
+                limits,
+                touch_session(number_8(text, 1), time, sessions, out, at),
+            )
+        }
+        20 => {
+            let time = number(word(text, 3));
+            let limit = number(word(text, 2));
+            tabled(
+                limits,
+                expired(number_8(text, 1), limit, time, sessions, out, at),
+            )
+        }
+        21 => {
+            let time = number(word(text, 1));
+            tabled(limits, sweep(timeout, time, sessions, made, out, at))
+        }
+        22 => tabled(limits, remove_session(number_8(text, 1), sessions, out, at)),
+        23 => tabled(limits, live(sessions, out, at)),
+        28 => tabled(limits, dump(sessions, out, at)),
+        _ => tabled(limits, line(out, at, b"bad line")),
     }
 }
 
@@ -117,7 +304,11 @@ pub fn answer(
     state: State,
     room: &mut [u8],
     made: &mut [u8],
+    slots: &mut [u8],
+    lengths: &mut [u32],
     held: &mut [u8],
+    sessions: &mut [[u64; 5]],
+    streams: &mut [[u16; 35]],
     out: &mut [u8],
 ) -> State {
     if silent(text) {
@@ -127,20 +318,23 @@ pub fn answer(
         b"message encode decode cut store insert has counts assemble stream alloc record acknack heartbeat receive make_acknack held table create touch expired sweep remove live open put get drop dump";
     let name = index_of(names, 29, word(text, 0));
     let at = settle(out, state.at, 100000);
+    let store = state.store;
     let stream = state.stream;
+    let limits = state.limits;
+    if name < 4 {
+        return state.answered(of_wire(name, text, room, made, out, at));
+    }
     if name < 9 {
-        return State {
-            stream,
-            at: of_wire(name, text, room, made, out, at),
-        };
+        let r = of_store(name, text, store, room, made, slots, lengths, out, at);
+        return state.with_store(r);
     }
     if name < 17 {
         let r = of_stream(name, text, stream, room, held, out, at);
-        let stream = r.stream;
-        return State { stream, at: r.at };
+        return state.with_stream(r);
     }
-    State {
-        stream,
-        at: line(out, at, b"bad line"),
+    if name < 29 {
+        let r = of_table(name, text, limits, room, made, sessions, streams, out, at);
+        return state.with_table(r);
     }
+    state.answered(line(out, at, b"bad line"))
 }

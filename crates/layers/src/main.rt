@@ -2,7 +2,9 @@
 // The format stands in oracle/README.md. It is the program that the original Rust is compared with.
 mod answer;
 mod print;
+mod store;
 mod stream;
+mod table;
 mod wire;
 mod words;
 
@@ -10,13 +12,9 @@ use answer::State;
 use answer::answer;
 use print::settle;
 use words::between;
-ghost use Prim.Native.Nat.{_≤_};
 
 // The place of the first newline at or behind `from` among the first `have` bytes, or `have`.
-fn newline(input: &[u8], from: usize, have: usize) -> usize
-    requires { ⌜ from ≤ have ⌝ }
-    ensures { λ r. ⌜ (from ≤ r) × (r ≤ have) ⌝ }
-{
+fn newline(input: &[u8], from: usize, have: usize) -> usize {
     let mut i = from;
     while i < have {
         if input.len() <= i {
@@ -70,6 +68,37 @@ fn refill(input: &mut [u8], have: usize) -> usize {
     std::num::wrapping_add_usize(have, n)
 }
 
+// Answers the line that begins at `state.from`, among the first `end` bytes.
+fn one_line(
+    input: &[u8],
+    end: usize,
+    state: State,
+    bytes: &mut [u8],
+    made: &mut [u8],
+    slots: &mut [u8],
+    lengths: &mut [u32],
+    held: &mut [u8],
+    sessions: &mut [[u64; 5]],
+    streams: &mut [[u16; 35]],
+    out: &mut [u8],
+) -> State {
+    let from = state.from;
+    let stop = newline(input, from, end);
+    let next = state.reading(std::num::wrapping_add_usize(stop, 1));
+    answer(
+        between(input, from, stop),
+        next,
+        bytes,
+        made,
+        slots,
+        lengths,
+        held,
+        sessions,
+        streams,
+        out,
+    )
+}
+
 // Answers each line of the first `end` bytes.
 fn lines(
     input: &[u8],
@@ -77,55 +106,136 @@ fn lines(
     start: State,
     bytes: &mut [u8],
     made: &mut [u8],
+    slots: &mut [u8],
+    lengths: &mut [u32],
     held: &mut [u8],
+    sessions: &mut [[u64; 5]],
+    streams: &mut [[u16; 35]],
     out: &mut [u8],
 ) -> State {
-    let mut state = start;
-    let mut from = 0;
-    while from < end {
-        let stop = newline(input, from, end);
-        if stop == end {
+    let mut state = start.reading(0);
+    let mut left = end;
+    while 0 < left {
+        if end <= state.from {
             return state;
         }
-        state = answer(
-            between(input, from, stop),
+        left -= 1;
+        state = one_line(
+            input,
+            end,
             state,
             bytes,
             made,
+            slots,
+            lengths,
             held,
+            sessions,
+            streams,
             out,
         );
-        from = stop + 1;
     }
     state
 }
 
+// Moves what is left of the input to the front, and reads once behind it.
+fn fill(input: &mut [u8], state: State) -> State {
+    let left = slide(input, state.from, state.have);
+    let have = refill(input, left);
+    if have == left {
+        return state.ending();
+    }
+    state.having(have)
+}
+
+// Answers the lines that are whole. At the end of the input the answers are written out.
+fn step(
+    input: &[u8],
+    state: State,
+    bytes: &mut [u8],
+    made: &mut [u8],
+    slots: &mut [u8],
+    lengths: &mut [u32],
+    held: &mut [u8],
+    sessions: &mut [[u64; 5]],
+    streams: &mut [[u16; 35]],
+    out: &mut [u8],
+) -> State {
+    if state.ended {
+        settle(out, state.at, 0);
+        return state;
+    }
+    let end = behind_last(input, state.have);
+    lines(
+        input,
+        end,
+        state,
+        bytes,
+        made,
+        slots,
+        lengths,
+        held,
+        sessions,
+        streams,
+        out,
+    )
+}
+
+// Reads and answers until the input ends. A proved loop has to end, so its turns are counted.
+fn run(
+    input: &mut [u8],
+    bytes: &mut [u8],
+    made: &mut [u8],
+    slots: &mut [u8],
+    lengths: &mut [u32],
+    held: &mut [u8],
+    sessions: &mut [[u64; 5]],
+    streams: &mut [[u16; 35]],
+    out: &mut [u8],
+) {
+    let mut state = State::new();
+    let mut turns = u64::MAX;
+    while 0 < turns {
+        if state.ended {
+            return;
+        }
+        turns -= 1;
+        state = fill(input, state);
+        state = step(
+            input,
+            state,
+            bytes,
+            made,
+            slots,
+            lengths,
+            held,
+            sessions,
+            streams,
+            out,
+        );
+    }
+}
+
+// The lent stores: the input, what a word's bytes and a call's result are kept in, the fragment store, the held messages
+// and the answers.
 fn main() {
     let mut input = [0u8; 262144];
     let mut bytes = [0u8; 66000];
     let mut made = [0u8; 66000];
+    let mut slots = [0u8; 65536];
+    let mut lengths = [0u32; 65536];
     let mut held = [0u8; 16384];
+    let mut sessions = [[0u64; 5]; 256];
+    let mut streams = [[0u16; 35]; 2048];
     let mut out = [0u8; 400000];
-    let mut state = State::new();
-    let mut have: usize = 0;
-    let mut turns = u64::MAX;
-    while 0 < turns {
-        let got = refill(&mut input, have);
-        if got == have {
-            settle(&out, state.at, 0);
-            return;
-        }
-        let end = behind_last(&input, got);
-        state = lines(
-            &input,
-            end,
-            state,
-            &mut bytes,
-            &mut made,
-            &mut held,
-            &mut out,
-        );
-        have = slide(&mut input, end, got);
-        turns -= 1;
-    }
+    run(
+        &mut input,
+        &mut bytes,
+        &mut made,
+        &mut slots,
+        &mut lengths,
+        &mut held,
+        &mut sessions,
+        &mut streams,
+        &mut out,
+    );
 }

@@ -24,6 +24,10 @@ pub fn wide(n: u16) -> u64 {
     n as u64
 }
 
+pub fn wide_8(n: u8) -> u64 {
+    n as u64
+}
+
 // A space and the number.
 pub fn put_number(out: &mut [u8], at: usize, n: u64) -> usize {
     let mut digits = [0u8; 20];

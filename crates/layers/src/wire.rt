@@ -4,6 +4,7 @@ use crate::print::line_1_bytes;
 use crate::print::line_2;
 use crate::print::line_3;
 use crate::print::line_bytes;
+use crate::print::put_bytes;
 use crate::print::put_key;
 use crate::print::put_name;
 use crate::print::put_number;
@@ -21,14 +22,19 @@ use codec::reading::Checked;
 use codec::reading::check;
 use codec::reading::part;
 use codec::reading::read;
+use codec::strings::StringRead;
+use codec::strings::decode_string;
+use codec::strings::encode_string;
 use codec::submessages::CreateClientPayload;
 use codec::submessages::CreatePayload;
 use codec::submessages::Submessage;
+use codec::writing::write_submessage;
 
-// The place of the next submessage, and of the next byte of the answer.
+// The place of the next submessage, of the next byte of the answer, and of the next byte that is written back.
 struct Step {
     place: usize,
     at: usize,
+    end: usize,
 }
 
 fn create_client_line(p: CreateClientPayload, out: &mut [u8], at: usize) -> usize {
@@ -90,28 +96,56 @@ fn submessage_line(m: Submessage, body: &[u8], out: &mut [u8], at: usize) -> usi
     }
 }
 
-fn one_submessage(s: &[u8], place: usize, out: &mut [u8], at: usize) -> Step {
+// The place behind what a call wrote from `end` on.
+fn behind(w: Written, end: usize) -> usize {
+    match w {
+        Written::Bytes(n) => std::num::wrapping_add_usize(end, n),
+        Written::Refused(_) => end,
+    }
+}
+
+// The submessage at a place: what it says, and how it is written back.
+fn one_submessage(s: &[u8], step: Step, made: &mut [u8], out: &mut [u8]) -> Step {
+    let place = step.place;
+    let at = step.at;
+    let end = step.end;
     match read(s, Cursor { at: place }) {
-        Parsed::Sub(m, span, next) => Step {
-            place: next.at,
-            at: submessage_line(m, part(s, span), out, at),
-        },
+        Parsed::Sub(m, span, next) => {
+            let w = write_submessage(made, end, m, part(s, span));
+            Step {
+                place: next.at,
+                at: submessage_line(m, part(s, span), out, at),
+                end: behind(w, end),
+            }
+        }
         Parsed::Refused(r) => Step {
             place,
             at: refused(out, at, r),
+            end,
         },
     }
 }
 
-// A line for each of the datagram's submessages.
-fn submessages(s: &[u8], count: usize, out: &mut [u8], at: usize) -> usize {
-    let mut step = Step { place: 4, at };
+// A line for each of the datagram's submessages, and the message written back.
+fn submessages(
+    s: &[u8],
+    count: usize,
+    header: Written,
+    made: &mut [u8],
+    out: &mut [u8],
+    at: usize,
+) -> usize {
+    let mut step = Step {
+        place: 4,
+        at,
+        end: behind(header, 0),
+    };
     let mut left = count;
     while 0 < left {
-        step = one_submessage(s, step.place, out, step.at);
+        step = one_submessage(s, step, made, out);
         left -= 1;
     }
-    step.at
+    line_bytes(out, step.at, b"written", between(made, 0, step.end))
 }
 
 fn header_line(h: MessageHeader, out: &mut [u8], at: usize) -> usize {
@@ -126,11 +160,12 @@ fn header_line(h: MessageHeader, out: &mut [u8], at: usize) -> usize {
 }
 
 // What a datagram says, and how it is written back.
-pub fn message(s: &[u8], out: &mut [u8], at: usize) -> usize {
+pub fn message(s: &[u8], made: &mut [u8], out: &mut [u8], at: usize) -> usize {
     match check(s) {
         Checked::Message(h, count) => {
             let next = header_line(h, out, at);
-            submessages(s, count, out, next)
+            let w = h.write(made, 0);
+            submessages(s, count, w, made, out, next)
         }
         Checked::Refused(r) => refused(out, at, r),
     }
@@ -168,5 +203,23 @@ pub fn cut(payload: &[u8], size: usize, made: &mut [u8], out: &mut [u8], at: usi
     match fragment_count(payload, size) {
         FragmentCount::Fragments(total) => fragments(payload, size, total, made, out, at),
         FragmentCount::Refused(r) => refused(out, at, r),
+    }
+}
+
+pub fn encode(text: &[u8], made: &mut [u8], out: &mut [u8], at: usize) -> usize {
+    let w = encode_string(made, 0, text);
+    written(b"string", w, made, out, at)
+}
+
+// The text, and how many bytes it took with its length.
+pub fn decode(s: &[u8], out: &mut [u8], at: usize) -> usize {
+    match decode_string(s, 0) {
+        StringRead::Text(span) => {
+            let next = put_name(out, at, b"string");
+            let next = put_bytes(out, next, part(s, span));
+            let used = std::num::wrapping_add_usize(span.len, 2);
+            line_1(out, next, b"", used as u64)
+        }
+        StringRead::Refused(r) => refused(out, at, r),
     }
 }

@@ -111,3 +111,18 @@ pub fn bytes(word: &[u8], out: &mut [u8]) -> usize
     }
     count
 }
+
+fn wide_32(b: u8) -> u32
+    ensures { λ r. ⌜ r < 256 ⌝ }
+{
+    b as u32
+}
+
+// A client's key: four bytes as one number, low byte first.
+pub fn key(bytes: &[u8]) -> u32 {
+    if bytes.len() < 4 {
+        return 0;
+    }
+    let low = wide_32(bytes[0]) + 256 * wide_32(bytes[1]);
+    low + 65536 * wide_32(bytes[2]) + 16777216 * wide_32(bytes[3])
+}

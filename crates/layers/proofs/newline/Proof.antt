@@ -1,10 +1,10 @@
 use borrow.Author.Needs.{needs}
-use Prim.Native.Nat.{_≤_, _-_}
+use Prim.Native.Nat.{_-_}
 use Rattle.layers.proofs.newline.Statement.{statement}
 use Rattle.layers.proofs.newline.Tie as tie
 
 abbrev Inv-loop : tie.InvT-loop
-Inv-loop input from have i₀ i = (from ≤ i) × (i ≤ have)
+Inv-loop input from have i₀ i = Unit {0}
 
 abbrev μ-loop : tie.MeasureT-loop
 μ-loop input from have i₀ i = have - i

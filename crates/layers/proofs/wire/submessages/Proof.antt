@@ -1,15 +1,17 @@
 use borrow.Author.Needs.{needs}
-use Prim.Native.Nat.{_≤_}
 use lib.ListN.{length}
 use mathlib.Core.Path.{_≡_}
 use Rattle.layers.proofs.wire.submessages.Statement.{statement}
 use Rattle.layers.proofs.wire.submessages.Tie as tie
 
 abbrev Inv-loop : tie.InvT-loop
-Inv-loop s count out₀ at step₀ left₀ out step left = (left ≤ count) × (length out ≡ length out₀)
+Inv-loop s count made₀ out₀ at step₀ left₀ t9 made out step left = (length made ≡ length made₀) × (length out ≡ length out₀)
 
 abbrev μ-loop : tie.MeasureT-loop
-μ-loop s count out₀ at step₀ left₀ out step left = left
+μ-loop s count made₀ out₀ at step₀ left₀ t9 made out step left = left
+
+behind-requires : tie.Need-behind-requires Inv-loop μ-loop
+behind-requires c κs = search needs
 
 loop-holds : tie.Need-loop-holds Inv-loop μ-loop
 loop-holds c = search needs
@@ -26,8 +28,20 @@ loop-less c = search needs
 loop-again : tie.Need-loop-again Inv-loop μ-loop
 loop-again c = search needs
 
+slice-aggregate-line-bytes : tie.Need-slice-aggregate-line-bytes Inv-loop μ-loop
+slice-aggregate-line-bytes c = search needs
+
+between-requires : tie.Need-between-requires Inv-loop μ-loop
+between-requires c κs = search needs
+
+line-bytes-requires : tie.Need-line-bytes-requires Inv-loop μ-loop
+line-bytes-requires c κs = search needs
+
 same-length : tie.Need-same-length Inv-loop μ-loop
 same-length c = search needs
+
+same-length-2 : tie.Need-same-length-2 Inv-loop μ-loop
+same-length-2 c = search needs
 
 returns : tie.Need-returns Inv-loop μ-loop
 returns c = search needs
@@ -38,10 +52,15 @@ submessages-spec =
     (tie.spec
     Inv-loop
     μ-loop
+    behind-requires
     loop-holds
     one-submessage-requires
     sub-left
     loop-less
     loop-again
+    slice-aggregate-line-bytes
+    between-requires
+    line-bytes-requires
     same-length
+    same-length-2
     returns)
