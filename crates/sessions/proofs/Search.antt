@@ -48,3 +48,9 @@ module _ (hit : ℕ → Bool) where
 
   pub found-under : (used : ℕ) → Under used (firstFrom hit 0 used)
   found-under used = under-from 0 used used (omega arith)
+
+-- ---- two searches that agree
+
+pub same-from : (p q : ℕ → Bool) (i left used : ℕ) → i + left ≤ used → ((j : ℕ) → j < used → p j ≡ q j) → firstFrom p i left ≡ firstFrom q i left
+same-from p q i zero used h e = refl
+same-from p q i (suc left) used h e = rw (e i (omega arith), same-from p q (suc i) left used (omega arith) e)

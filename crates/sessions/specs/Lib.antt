@@ -7,3 +7,4 @@ pub mod Opening
 pub mod Sweep
 pub mod SessionObjects
 pub mod SessionStreams
+pub mod View
