@@ -6,6 +6,7 @@ use lib.Dec.{eqb, ltb}
 use lib.ListN.{getD, set, length}
 use Rattle.codec.specs.declared.submessages.ObjectNumber.{ObjectNumber}
 use Rattle.codec.specs.declared.refusals.Refusal.{Refusal}
+use Rattle.sessions.specs.Search.{firstFrom}
 use Rattle.sessions.specs.declared.objects.Handle.{Handle}
 use Rattle.sessions.specs.declared.objects.Object.{Object}
 use Rattle.sessions.specs.declared.objects.ObjectHandle.{ObjectHandle}
@@ -39,14 +40,9 @@ handleOf o = cond (eqb (o .bridged) 0) Implicit (Bridged (o .handle))
 abbrev pub isNumbered : Object → ObjectNumber → Bool
 isNumbered o n = eqb (o .number .0) (n .0)
 
--- of `left` records from i on, the first that has the number
-abbrev pub placeFrom : List Object → ℕ → ℕ → ObjectNumber → Place
-placeFrom row i zero n = Nowhere
-placeFrom row i (suc left) n = cond (isNumbered (getD row i blank) n) (At i) (placeFrom row (suc i) left n)
-
 -- the search goes up from the first record
 abbrev pub placeOf : List Object → ℕ → ObjectNumber → Place
-placeOf row used n = placeFrom row 0 used n
+placeOf row used n = firstFrom (λ i. isNumbered (getD row i blank) n) 0 used
 
 abbrev pub foundOf : List Object → Place → Found
 foundOf row (At i) = Held (getD row i blank)

@@ -55,6 +55,13 @@ isFree rows id = eqb (sessionAt rows id .live) 0
 unfoldable pub namedOf : List (List ℕ) → ℕ → Named
 namedOf rows id = cond (tableFits rows) (cond (isFree rows id) NotLive Live) (Refused OverLimit)
 
+-- 16 for the records of a session: "lent store under its documented need, or tables altered past a limit"
+unfoldable pub recordsFit : ℕ → ℕ → ℕ → ℕ → Bool
+recordsFit used most store need = cond (leb need store) (leb used most) false
+
+unfoldable pub reachedOf : List (List ℕ) → ℕ → ℕ → ℕ → ℕ → ℕ → Named
+reachedOf rows id used most store need = cond (recordsFit used most store need) (namedOf rows id) (Refused OverLimit)
+
 -- a session changes only where it is live; "No such session": nothing changes
 abbrev pub keptRows : Named → List (List ℕ) → ℕ → ClientSession → List (List ℕ)
 keptRows Live rows id s = keepSession rows id s

@@ -2,6 +2,8 @@
 pub mod object_rows;
 pub mod objects;
 pub mod opening;
+pub mod session_objects;
+pub mod session_streams;
 pub mod stream_rows;
 pub mod sweep;
 pub mod table;

@@ -77,6 +77,7 @@ pub enum Found {
 pub enum Stored {
     Count(usize),
     Full,
+    NotLive,
     Refused(Refusal),
 }
 

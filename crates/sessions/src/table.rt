@@ -1,7 +1,7 @@
 // The table of sessions: a row of numbers for each id, 256 of them, of which row 0 is unused.
 use codec::refusals::Refusal;
 ghost use mathlib.Core.Path.{_≡_};
-ghost use Rattle.sessions.specs.Table.{newSession, endedSession, touchedSession, expiredOf, elapsedOf, sessionAt, keepSession, namedOf, keptRows, touchedRows, endedRows};
+ghost use Rattle.sessions.specs.Table.{newSession, endedSession, touchedSession, expiredOf, elapsedOf, sessionAt, keepSession, namedOf, reachedOf, keptRows, touchedRows, endedRows};
 
 // What the table keeps of a session. `live` is 0 where the id is free; the counts say how many of the session's
 // object records and stream records are in use.
@@ -116,6 +116,27 @@ pub fn get(sessions: &[[u64; 5]], id: u8) -> Named
     } else {
         Named::Live
     }
+}
+
+// Whether there are records of a session to look into: it is live, its store is as long as it must be, and no more of
+// its records are in use than there are.
+pub(crate) fn reached(
+    sessions: &[[u64; 5]],
+    id: u8,
+    used: u64,
+    most: u64,
+    store: usize,
+    need: usize,
+) -> Named
+    ensures { λ r. ⌜ r ≡ reachedOf (now (sessions .entry)) id used most store need ⌝ }
+{
+    if store < need {
+        return Named::Refused(Refusal::OverLimit);
+    }
+    if most < used {
+        return Named::Refused(Refusal::OverLimit);
+    }
+    get(sessions, id)
 }
 
 // Where a session is live under that id, it becomes `s`.

@@ -53,7 +53,8 @@ use borrow.Rule.Slice.PartMut.{midOf, putMid}
 use Rattle.walk.proofs.Parts.{part-len, lends-part, backs-part, parts-shr}
 use Rattle.walk.proofs.Arrays.{rep-is, lends-array, backs-array}
 use Rattle.sessions.specs.Objects.{placeOf, foundOf, greatestOf, storedOf, storedRow, removedRow}
-use Rattle.sessions.proofs.object_rows.Laws.{Under, place-under}
+use Rattle.sessions.specs.Objects.{blank, isNumbered}
+use Rattle.sessions.proofs.Search.{Under, found-under}
 use Rattle.sessions.specs.declared.objects.Object.{Object}
 use Rattle.sessions.proofs.objects.Object as Object-t
 use Rattle.sessions.proofs.objects.Object.Laws as Object-l
@@ -135,7 +136,7 @@ module _ {M : Type 1} (𝓤 : URA M) (H : Heap 𝓤) (A : Atoms 𝓤) (W : Given
 
   -- a record that is found is in use
   in-use : (i : ℕ) → placeOf row used number ≡ Place-At i → i < used
-  in-use i e = subst (Under used) e (place-under row number used)
+  in-use i e = subst (Under used) e (found-under (λ (j : ℕ). isNumbered (getD row j blank) number) used)
 
   exits : (r : Found) → (r ≡ foundOf (row) (placeOf (row) used number)) → Is (Found-p .row) r (Found-p .val r ∷ []) → ent 𝓤 (⋆ 𝓤 H A (‵ (ShrSlice (named 0) κ₁ Object-t.the-row .own (at-list b₁ o₁ γ₁ row) (sliceVal (b₁, o₁) n₁ ∷ [])) ∷ ‵ (flft κ₁ q₁) ∷ [])) (Post (Found-p .val r))
   exits r said r-is =

@@ -68,7 +68,7 @@ use Rattle.sessions.proofs.objects.Handle.Laws as Handle-l
 use Rattle.sessions.specs.declared.objects.Stored.{Stored}
 use Rattle.sessions.proofs.objects.Stored as Stored-t
 use Rattle.sessions.proofs.objects.Stored.Laws as Stored-l
-use Rattle.sessions.specs.declared.objects.Stored.the-variants.{Count as Stored-Count, Full as Stored-Full, Refused as Stored-Refused}
+use Rattle.sessions.specs.declared.objects.Stored.the-variants.{Count as Stored-Count, Full as Stored-Full, NotLive as Stored-NotLive, Refused as Stored-Refused}
 use Rattle.codec.specs.declared.refusals.Refusal.{Refusal}
 use Rattle.codec.proofs.refusals.Refusal as Refusal-t
 use Rattle.codec.proofs.refusals.Refusal.Laws as Refusal-l

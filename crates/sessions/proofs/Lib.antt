@@ -1,0 +1,5 @@
+-- Laws that belong to no one module.
+pub mod Search
+pub mod Parts
+pub mod ViewObjects
+pub mod ViewTable
