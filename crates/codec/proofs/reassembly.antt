@@ -1,2 +1,4 @@
 -- Laws of a fragment store, and what is promised of it.
 pub mod Laws
+pub mod View
+pub mod Inserts

@@ -4,3 +4,4 @@ pub mod Bytes
 pub mod Submessages
 pub mod Cutting
 pub mod Reassembly
+pub mod Inserts

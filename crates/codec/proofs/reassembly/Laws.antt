@@ -61,7 +61,7 @@ module _ (test : ℕ → Bool) (l : List ℕ) (n i : ℕ) where
   any-end h = rw (entries-end l n i h)
 
 -- neither of two
-neither : (x y : Bool) → (x || y) ≡ false → (x ≡ false) × (y ≡ false)
+pub neither : (x y : Bool) → (x || y) ≡ false → (x ≡ false) × (y ≡ false)
 neither false y e = (refl, e)
 neither true y e = absurd (true≢false e)
 
