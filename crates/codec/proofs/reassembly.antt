@@ -2,3 +2,5 @@
 pub mod Laws
 pub mod View
 pub mod Inserts
+pub mod Numbers
+pub mod Theorems

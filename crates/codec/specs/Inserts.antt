@@ -33,10 +33,10 @@ bufferAfter before (inserted.Refused why) = before
 
 unfoldable pub insertInto : Store → Piece → Store
 insertInto st p = record {
-      buffer = bufferAfter (st .buffer) (insertOf (st .buffer) (st .slots) (st .lengths) (p .nr) (p .body));
-      slots = insertSlots (st .buffer) (st .slots) (st .lengths) (p .nr) (p .body);
-      lengths = insertLengths (st .buffer) (st .slots) (st .lengths) (p .nr) (p .body);
-    }
+  buffer = bufferAfter (st .buffer) (insertOf (st .buffer) (st .slots) (st .lengths) (p .nr) (p .body));
+  slots = insertSlots (st .buffer) (st .slots) (st .lengths) (p .nr) (p .body);
+  lengths = insertLengths (st .buffer) (st .slots) (st .lengths) (p .nr) (p .body);
+}
 
 -- calls of `insert`, one after the other
 unfoldable pub inserts : Store → List Piece → Store
@@ -96,4 +96,4 @@ pub record Rebuilds (size : ℕ) (payload : List ℕ) (st : Store) (nrs : List �
   -- a further fragment of the cut is kept, and the answer says whether every number has come
   pub answers : (k : ℕ) → k < length (bodies size payload)
       → (after : ReassemblyBuffer) × (insertOf (st .buffer) (st .slots) (st .lengths) k (getD (bodies size payload) k [])
-        ≡ inserted.Held after (eqb (different (length (bodies size payload)) (nrs ++ (k ∷ []))) (length (bodies size payload))))
+      ≡ inserted.Held after (eqb (different (length (bodies size payload)) (nrs ++ (k ∷ []))) (length (bodies size payload))))
