@@ -8,7 +8,6 @@ use lib.ListN.{getD, length, take, drop}
 use Rattle.codec.specs.Bytes.{wordAt, le16, putOf, putBytes}
 use Rattle.codec.specs.declared.bytes.Written.{Written}
 use Rattle.codec.specs.declared.bytes.Written.the-variants as written
-use Rattle.codec.specs.declared.cutting.FragmentHeader.{FragmentHeader}
 use Rattle.codec.specs.declared.cutting.FragmentHeaderRead.{FragmentHeaderRead}
 use Rattle.codec.specs.declared.cutting.FragmentHeaderRead.the-variants as read
 use Rattle.codec.specs.declared.cutting.FragmentCount.{FragmentCount}

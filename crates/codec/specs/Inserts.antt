@@ -1,14 +1,13 @@
 -- Fragments put into a store in any order and any number of times: what the store holds, and what is promised of it.
 -- The definitions of a call are those that the contracts of `new`, `insert` and `assemble` cite.
-use Prim.Native.Nat.{ℕ, zero, suc, _-_, _≤_, _<_}
+use Prim.Native.Nat.{ℕ, zero, suc, _-_, _<_}
 use mathlib.Core.Path.{_≡_}
 use mathlib.Core.Bool.{Bool, true, false, cond, not, _||_, _&&_}
 use mathlib.Core.List.{List, [], _∷_, _++_}
 use lib.Dec.{eqb, ltb}
 use lib.ListN.{getD, length, take, drop}
 use Rattle.codec.specs.Bytes.{putOf, putBytes}
-use Rattle.codec.specs.Cutting.{bodies}
-use Rattle.codec.specs.Reassembly.{isFree, newLengths, insertOf, insertSlots, insertLengths, assembleOf, assembleOut}
+use Rattle.codec.specs.Reassembly.{isFree, newLengths, insertOf, insertSlots, insertLengths, hasFragment, assembleOf, assembleOut}
 use Rattle.codec.specs.declared.bytes.Written.the-variants as written
 use Rattle.codec.specs.declared.reassembly.ReassemblyBuffer.{ReassemblyBuffer}
 use Rattle.codec.specs.declared.reassembly.Inserted.{Inserted}
@@ -69,31 +68,38 @@ unfoldable pub different : ℕ → List ℕ → ℕ
 different zero nrs = 0
 different (suc n) nrs = cond (came n nrs) (suc (different n nrs)) (different n nrs)
 
--- fragments of one cut, by their numbers
+-- fragments of one cut with the bodies `bs`, by their numbers
 unfoldable pub pieces : List (List ℕ) → List ℕ → List Piece
 pieces bs [] = []
 pieces bs (nr ∷ more) = record { nr = nr; body = getD bs nr [] } ∷ pieces bs more
 
--- what is promised of fragments `nrs` of one cut, in any order and any number of times, put into a new store
-unfoldable pub storeAfter : ReassemblyBuffer → ℕ → List ℕ → List ℕ → ℕ → List ℕ → List ℕ → Store
-storeAfter buffer width slots lengths size payload nrs =
-    inserts
-    (record { buffer = buffer; slots = slots; lengths = newLengths (length (bodies size payload)) width slots lengths })
-    (pieces (bodies size payload) nrs)
+-- such fragments put into a store that `new` made for their total
+unfoldable pub storeAfter : ReassemblyBuffer → ℕ → List ℕ → List ℕ → List (List ℕ) → List ℕ → Store
+storeAfter buffer width slots lengths bs nrs =
+    inserts (record { buffer = buffer; slots = slots; lengths = newLengths (length bs) width slots lengths }) (pieces bs nrs)
 
-pub record Rebuilds (size : ℕ) (payload : List ℕ) (st : Store) (nrs : List ℕ) : Type 0 where
-  -- `received_count` is the number of different numbers that have come
-  pub count : st .buffer .«received_count» ≡ different (length (bodies size payload)) nrs
-  pub total : st .buffer .«total_fragments» ≡ length (bodies size payload)
+-- every number has come
+abbrev pub AllCame : ℕ → List ℕ → Type 0
+AllCame n nrs = (k : ℕ) → k < n → came k nrs ≡ true
+
+-- what is promised of a store after the fragments `nrs` of one cut, in any order and any number of times
+pub record Rebuilds (bs : List (List ℕ)) (payload : List ℕ) (st : Store) (nrs : List ℕ) : Type 0 where
+  pub total : st .buffer .«total_fragments» ≡ length bs
+  -- `received_count` is the number of different numbers that have come, and `has_fragment` says which
+  pub count : st .buffer .«received_count» ≡ different (length bs) nrs
+  pub has : (k : ℕ) → k < length bs → hasFragment (st .buffer) (st .lengths) k ≡ came k nrs
   -- it is the total exactly when every number has come
-  pub complete : ((k : ℕ) → k < length (bodies size payload) → came k nrs ≡ true) → st .buffer .«received_count» ≡ st .buffer .«total_fragments»
-  pub incomplete : (k : ℕ) → k < length (bodies size payload) → came k nrs ≡ false → st .buffer .«received_count» < st .buffer .«total_fragments»
-  -- then `assemble` gives the payload; before that it is refused as 11
-  pub whole : ((k : ℕ) → k < length (bodies size payload) → came k nrs ≡ true) → (out : List ℕ)
-      → (assembleOf (st .buffer) (st .slots) (st .lengths) out ≡ putOf out 0 payload) × (assembleOut (st .buffer) (st .slots) (st .lengths) out ≡ putBytes out 0 payload)
-  pub missing : (k : ℕ) → k < length (bodies size payload) → came k nrs ≡ false → (out : List ℕ)
-      → (assembleOf (st .buffer) (st .slots) (st .lengths) out ≡ written.Refused MissingFragments) × (assembleOut (st .buffer) (st .slots) (st .lengths) out ≡ out)
+  pub complete : AllCame (length bs) nrs → st .buffer .«received_count» ≡ length bs
+  pub incomplete : (k : ℕ) → k < length bs → came k nrs ≡ false → st .buffer .«received_count» < length bs
+  -- then `assemble` gives the payload
+  pub whole : AllCame (length bs) nrs → (out : List ℕ)
+      → (assembleOf (st .buffer) (st .slots) (st .lengths) out ≡ putOf out 0 payload)
+      × (assembleOut (st .buffer) (st .slots) (st .lengths) out ≡ putBytes out 0 payload)
+  -- before that it is refused as 11
+  pub missing : (k : ℕ) → k < length bs → came k nrs ≡ false → (out : List ℕ)
+      → (assembleOf (st .buffer) (st .slots) (st .lengths) out ≡ written.Refused MissingFragments)
+      × (assembleOut (st .buffer) (st .slots) (st .lengths) out ≡ out)
   -- a further fragment of the cut is kept, and the answer says whether every number has come
-  pub answers : (k : ℕ) → k < length (bodies size payload)
-      → (after : ReassemblyBuffer) × (insertOf (st .buffer) (st .slots) (st .lengths) k (getD (bodies size payload) k [])
-      ≡ inserted.Held after (eqb (different (length (bodies size payload)) (nrs ++ (k ∷ []))) (length (bodies size payload))))
+  pub answers : (k : ℕ) → k < length bs
+      → (after : ReassemblyBuffer)
+      × (insertOf (st .buffer) (st .slots) (st .lengths) k (getD bs k []) ≡ inserted.Held after (eqb (different (length bs) (nrs ++ (k ∷ []))) (length bs)))

@@ -71,7 +71,7 @@ module _ (size : ℕ) (some : 0 < size) where
       ∙ take-append-drop size (byte ∷ more)
 
 -- fragments have their bodies' numbers
-pub length-numbered : (nr total : ℕ) (bs : List (List ℕ)) → length (numbered nr total bs) ≡ length bs
+length-numbered : (nr total : ℕ) (bs : List (List ℕ)) → length (numbered nr total bs) ≡ length bs
 unfolding numbered
 length-numbered nr total [] = refl
 length-numbered nr total (body ∷ more) = ap suc (length-numbered (suc nr) total more)
@@ -113,9 +113,12 @@ module _ (size : ℕ) (some : 0 < size) (p : List ℕ) where
       omega (arith, div-mul-le-self (length p - 1) size)
 
 -- how many fragments there are
-pub length-cut : (size : ℕ) (p : List ℕ) → 0 < size → 0 < length p → length (cut size p) ≡ suc ((length p - 1) / size)
+pub cut-bodies : (size : ℕ) (p : List ℕ) → length (cut size p) ≡ length (bodies size p)
 unfolding cut
-length-cut size p some h = length-numbered 0 (length (bodies size p)) (bodies size p) ∙ length-bodies size some p h
+cut-bodies size p = length-numbered 0 (length (bodies size p)) (bodies size p)
+
+pub length-cut : (size : ℕ) (p : List ℕ) → 0 < size → 0 < length p → length (cut size p) ≡ suc ((length p - 1) / size)
+length-cut size p some h = cut-bodies size p ∙ length-bodies size some p h
 
 -- 9, and a number of fragments
 module _ (size : ℕ) (p : List ℕ) (some : 0 < size) (bytes : 0 < length p) where

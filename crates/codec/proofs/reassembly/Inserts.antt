@@ -1,19 +1,17 @@
 -- Inserts one after the other: the store stays within its limits, its count is the number of slots that hold a body, and each slot
 -- holds the body of the last insert of its number.
-use Prim.Native.Nat.{ℕ, zero, suc, _+_, _*_, _≤_, _<_}
+use Prim.Native.Nat.{ℕ, _+_, _*_, _≤_, _<_}
 use mathlib.Core.Path.{_≡_, refl, sym, ap, _∙_}
 use mathlib.Core.Bool.{Bool, true, false, cond, not, _&&_}
-use mathlib.Core.List.{List, [], _∷_, _++_}
-use native.Mathlib.Nat.{le-trans}
+use mathlib.Core.List.{List, [], _∷_}
 use native.Mathlib.Omega.{arith}
 use borrow.Author.Tests.{ltb-true, ltb-false, le-ltb, eqb-true, eqb-false}
 use lib.Dec.{ltb, eqb}
 use lib.ListN.{getD, length, take, drop, set, replicate, length-set, length-append, length-replicate}
 use lib.Seq.{length-take-le, getD-take, getD-set-same, getD-set-other, take-set-lt, take-at}
 use Rattle.codec.specs.Bytes.{putAt}
-use Rattle.codec.specs.Reassembly.{underNeed, newLengths, storeOver, grown, slotOver, insertCheck, checkOf, isFree, isPast, anyOf}
+use Rattle.codec.specs.Reassembly.{underNeed, newLengths, storeOver, grown, slotOver, insertCheck, checkOf, isPast, anyOf}
 use Rattle.codec.specs.Inserts.{Store, Piece, insertInto, inserts, Slot, free, holds, slotsOf, lastOf}
-use Rattle.codec.specs.declared.reassembly.ReassemblyBuffer.{ReassemblyBuffer}
 use Rattle.codec.specs.declared.reassembly.Check.the-variants as check
 use Rattle.codec.specs.declared.refusals.Refusal.{Refusal}
 use Rattle.codec.specs.declared.refusals.Refusal.the-variants.{FragmentNumber, StoreFull}

@@ -8,7 +8,7 @@ use borrow.Author.Tests.{le-ltb, eqb-true, eqb-false}
 use lib.Dec.{ltb, eqb}
 use lib.ListN.{getD, length, take}
 use lib.Seq.{take-suc, take-length}
-use Rattle.codec.specs.Inserts.{Piece, Slot, free, holds, lastOf, came, different, pieces}
+use Rattle.codec.specs.Inserts.{Slot, free, holds, lastOf, came, different, pieces}
 use Rattle.codec.proofs.reassembly.View.{heldIn}
 
 -- one number more

@@ -1,14 +1,13 @@
 -- Laws of the slots that a store's entries describe: an insert sets one slot, and the count is the number of slots that hold a body.
 use Prim.Native.Nat.{ℕ, zero, suc, _+_, _*_, _-_, _≤_, _<_}
 use mathlib.Core.Path.{_≡_, refl, sym, ap, _∙_}
-use mathlib.Core.Bool.{Bool, true, false, cond, _||_}
+use mathlib.Core.Bool.{Bool, true, false, cond, not}
 use mathlib.Core.List.{List, [], _∷_, _++_, map, append-assoc}
 use native.Mathlib.Nat.{zero-mul, zero-add, suc-mul, add-comm, add-assoc}
 use native.Mathlib.Numerals.{add-one}
 use native.Mathlib.Omega.{arith}
 use borrow.Author.Tests.{ltb-false, le-ltb, ne-eqb, eqb-true}
-use lib.Dec.{ltb, eqb}
-use lib.ListN.{getD, length, take, drop, set, replicate, length-take, length-drop, length-replicate}
+use lib.ListN.{getD, length, take, drop, set, replicate, length-drop}
 use lib.Seq.{length-take-le, take-append-seam, take-append-le, drop-append-le, drop-append-add, take-take, take-add, drop-drop, drop-at}
 use Rattle.codec.specs.Bytes.{putAt}
 use Rattle.codec.specs.Reassembly.{isFree, isPast, anyOf, grown, bodiesHeld}
@@ -109,6 +108,22 @@ module _ (width : ℕ) (body : List ℕ) where
   held-set slots (held ∷ more) (suc nr) h =
       held-behind (take (held - 1) slots) (slotsOf width (drop width slots) more) (set (slotsOf width (drop width slots) more) nr (holds body)) (getD more nr 0) (isFree held)
       (held-set (drop width slots) more nr (omega arith))
+
+-- whether a slot holds a body
+unfoldable pub isHeld : Slot → Bool
+isHeld free = false
+isHeld (holds body) = true
+
+held-or-free : (b : List ℕ) (t : Bool) → isHeld (cond t free (holds b)) ≡ not t
+unfolding isHeld
+held-or-free b true = refl
+held-or-free b false = refl
+
+pub held-entry : (width : ℕ) (slots es : List ℕ) (k : ℕ) → k < length es → isHeld (getD (slotsOf width slots es) k free) ≡ not (isFree (getD es k 0))
+unfolding slotsOf
+held-entry width slots [] k h = absurd (omega arith)
+held-entry width slots (held ∷ more) zero h = held-or-free (take (held - 1) slots) (isFree held)
+held-entry width slots (held ∷ more) (suc k) h = held-entry width (drop width slots) more k (omega arith)
 
 -- the body of a slot, none where it is free
 unfoldable pub bodyIn : Slot → List ℕ
