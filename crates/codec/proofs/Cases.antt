@@ -2,7 +2,8 @@
 use Prim.Native.Nat.{ℕ}
 use mathlib.Core.Path.{_≡_, refl}
 use mathlib.Core.List.{List, [], _∷_}
-use Rattle.codec.specs.Bytes.{wordAt}
+use Rattle.codec.specs.Bytes.{wordAt, le16}
+use Rattle.codec.specs.Cutting.{fragmentBytes, cutOff, bodies, numbered, cut}
 use Rattle.codec.specs.Header.{headerOf, subHeaderRead, subHeaderOf}
 use Rattle.codec.specs.Layouts.{leastOf, layoutAt}
 use Rattle.codec.specs.Reading.{partOf, payloadAt, readAt, itemsIn, itemsAt, messageOf}
@@ -30,3 +31,12 @@ case-b = refl
 pub case-c : reading (1 ∷ 0 ∷ 5 ∷ 0 ∷ 2 ∷ 0 ∷ 2 ∷ 0 ∷ 3 ∷ 0 ∷ 9 ∷ []) ≡ refuses BufferTooShort
 unfolding reading messageOf itemsAt itemsIn readAt subHeaderRead subHeaderOf payloadAt leastOf layoutAt headerOf wordAt partOf
 case-c = refl
+
+-- "k: 10 bytes cut at 4 give bodies 4, 4, 2, the last led by 02 00 03 00."
+pub case-k : (b₀ b₁ b₂ b₃ b₄ b₅ b₆ b₇ b₈ b₉ : ℕ)
+    → cut 4 (b₀ ∷ b₁ ∷ b₂ ∷ b₃ ∷ b₄ ∷ b₅ ∷ b₆ ∷ b₇ ∷ b₈ ∷ b₉ ∷ [])
+    ≡ (0x00 ∷ 0x00 ∷ 0x03 ∷ 0x00 ∷ b₀ ∷ b₁ ∷ b₂ ∷ b₃ ∷ [])
+    ∷ (0x01 ∷ 0x00 ∷ 0x03 ∷ 0x00 ∷ b₄ ∷ b₅ ∷ b₆ ∷ b₇ ∷ [])
+    ∷ (0x02 ∷ 0x00 ∷ 0x03 ∷ 0x00 ∷ b₈ ∷ b₉ ∷ []) ∷ []
+unfolding cut bodies cutOff numbered fragmentBytes le16
+case-k b₀ b₁ b₂ b₃ b₄ b₅ b₆ b₇ b₈ b₉ = refl

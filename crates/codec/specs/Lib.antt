@@ -7,5 +7,8 @@ pub mod Layouts
 pub mod Reading
 pub mod Writing
 pub mod Strings
+pub mod Cutting
+pub mod Reassembly
+pub mod Inserts
 pub mod Grammar
 pub mod Promises

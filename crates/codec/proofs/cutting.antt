@@ -1,0 +1,3 @@
+-- Laws of the cut, and what is promised of it.
+pub mod Laws
+pub mod Theorems
