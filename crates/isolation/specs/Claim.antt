@@ -3,10 +3,10 @@ use mathlib.Core.Path.{_≡_}
 use Prim.Native.Nat.{ℕ, zero, suc}
 use mathlib.Core.Bool.{true, cond}
 use mathlib.Core.Option.{Option, none, some, Option·map}
-use mathlib.Core.List.{List, [], _∷_, _++_, List·Memᴰ}
+use mathlib.Core.List.{List, [], _∷_, _++_}
 use lib.Dec.{eqb}
-use Rattle.isolation.specs.Rules.{Bytes, Outcome, done, calls, Sub, opens, names, Message, Rules, Host, datagram, answer, removal, sweep, other, Out, opened, reply, Asked, Result, refused, ran}
-use Rattle.isolation.specs.Machine.{idle, Feed, submessages, answered, swept-at, removal-of-it, Deed, handles, resumes, Moved, lives, Trail, trail}
+use Rattle.isolation.specs.Rules.{Bytes, Sub, opens, names, Message, Rules, Host, datagram, answer, removal, sweep, other, Out, opened, reply, Asked, Result, refused, ran}
+use Rattle.isolation.specs.Machine.{idle, Feed, submessages, answered, swept-at, removal-of-it, Moved, lives, Trail, trail, Handles, AllOwned}
 
 -- An agent: its states; what its host may do, with all that it brings, as the lent output; "one just set up"; what a state keeps of
 -- an id's session; one call; and which of the host's calls that is.
@@ -18,16 +18,8 @@ pub record Agent (R : Rules) : Type 1 where
   pub step : State → Event → State × Result R
   pub meant : State → Event → Host R
 
--- Handles, in the words of the rules.
-pub record Handles (R : Rules) : Type 1 where
-  pub Handle : Type 0
-  pub uses : R .Call → List Handle  -- those in a call
-  pub holds : R .Local → List (ℕ × Handle)  -- the objects that have one: number, handle
-  pub grants : R .Pending → R .Ans → List (ℕ × Handle)  -- the one that this answer returns to this CREATE: the object's number, handle
-  pub began : Deed R → R .Local  -- the tables when the submessage at work began
-
 module _ (R : Rules) where
-  open Rules R using (Opening, In, Ans, Call, Pending, Local, parse, start)
+  open Rules R using (Opening, In, Call, Local, parse, start)
 
   -- ---- which session a call is for: read off the host's calls and the agent's answers alone
 
@@ -188,20 +180,6 @@ module _ (R : Rules) where
       pub silent : (e : Event) (s : ℕ) → let r = step (reached set-up H .state) e in
           table (r .0) s ≡ none → (replies-of s (outs-of (r .1)) ≡ []) × (calls-of s (r .1) ≡ [])
 
-    module _ (X : Handles R) where
-      open Handles X using (Handle, uses, holds, grants, began)
-
-      -- Each handle in a call is that of an object held when its submessage began, and was returned to the session's own CREATE of
-      -- that object: g lists what was returned so far.
-      abbrev pub Owned : List (ℕ × Handle) → Local → Outcome Local Bytes Call Pending → Type 0
-      Owned g b (done l rs) = Unit {0}
-      Owned g b (calls l rs c p) = (x : Handle) → List·Memᴰ x (uses c) → (n : ℕ) × List·Memᴰ (n, x) (holds b) × List·Memᴰ (n, x) g
-
-      abbrev pub AllOwned : List (ℕ × Handle) → List (Deed R) → Type 0
-      AllOwned g [] = Unit {0}
-      AllOwned g (handles l i ∷ ds) = Owned g (began (handles l i)) (R .handle l i) × AllOwned g ds
-      AllOwned g (resumes l p a ∷ ds) = Owned (grants p a ++ g) (began (resumes l p a)) (R .resume l p a) × AllOwned (grants p a ++ g) ds
-
-      -- Term 3
-      abbrev pub Term3 : Type 0
-      Term3 = (H : List Event) → Isolated H × ((S : Session H) → AllOwned [] (of-machine S .deeds))
+    -- Term 3. The machine's calls are the agent's (`alone`), so its handles are too.
+    abbrev pub Term3 : Handles R → Type 0
+    Term3 X = (H : List Event) → Isolated H × ((S : Session H) → AllOwned R X [] (of-machine S .deeds))

@@ -1,8 +1,8 @@
--- The one-session machine of document 01: the rules of one session on its own tables alone.
+-- The one-session machine of document 01, on its own tables alone, and where the handles in its calls come from.
 use Prim.Native.Nat.{ℕ}
 use mathlib.Core.Bool.{Bool, true, false, cond, _&&_}
 use mathlib.Core.Option.{Option, none, some}
-use mathlib.Core.List.{List, [], _∷_, _++_}
+use mathlib.Core.List.{List, [], _∷_, _++_, List·Memᴰ}
 use Rattle.isolation.specs.Rules.{Bytes, Outcome, done, calls, Rules}
 
 module _ (R : Rules) where
@@ -81,3 +81,25 @@ module _ (R : Rules) where
 
   abbrev pub trail : Moved → Trail
   trail r = record { calls = r .calls; replies = r .replies; table = table-of (r .machine) }
+
+-- Handles, in the words of the rules.
+pub record Handles (R : Rules) : Type 1 where
+  pub Handle : Type 0
+  pub uses : R .Call → List Handle  -- those in a call
+  pub holds : R .Local → List (ℕ × Handle)  -- the objects that have one: number, handle
+  pub grants : R .Pending → R .Ans → List (ℕ × Handle)  -- the one that this answer returns to this CREATE: the object's number, handle
+  pub began : Deed R → R .Local  -- the tables when the submessage at work began
+
+module _ (R : Rules) (X : Handles R) where
+  open Handles X using (Handle, uses, holds, grants, began)
+
+  -- Each handle in a call is that of an object held when its submessage began, and was returned to the session's own CREATE of that
+  -- object: g lists what was returned so far.
+  abbrev pub Owned : List (ℕ × Handle) → R .Local → Outcome (R .Local) Bytes (R .Call) (R .Pending) → Type 0
+  Owned g b (done l rs) = Unit {0}
+  Owned g b (calls l rs c p) = (x : Handle) → List·Memᴰ x (uses c) → (n : ℕ) × List·Memᴰ (n, x) (holds b) × List·Memᴰ (n, x) g
+
+  abbrev pub AllOwned : List (ℕ × Handle) → List (Deed R) → Type 0
+  AllOwned g [] = Unit {0}
+  AllOwned g (handles l i ∷ ds) = Owned g (began (handles l i)) (R .handle l i) × AllOwned g ds
+  AllOwned g (resumes l p a ∷ ds) = let h = grants p a ++ g in Owned h (began (resumes l p a)) (R .resume l p a) × AllOwned h ds
