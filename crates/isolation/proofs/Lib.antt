@@ -6,3 +6,4 @@ pub mod Isolation
 pub mod Provenance
 pub mod Theorem
 pub mod Refine
+pub mod Ids

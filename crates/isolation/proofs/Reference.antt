@@ -8,8 +8,13 @@ use lib.Dec.{eqb}
 use Rattle.isolation.specs.Rules.{Bytes, Outcome, done, calls, Sub, opens, names, Message, Rules, Host, datagram, answer, removal, sweep, other, Out, opened, reply, Asked, Result, refused, ran}
 use Rattle.isolation.specs.Claim.{Agent}
 
--- `admits`: whether one more session may be opened beside those that are live (6, "`max_clients` sessions live")
-module _ (R : Rules) (admits : List (R .Local) → R .Opening → Bool) where
+-- Who is let in: the greatest id (255 in 01; a smaller one for examples that come round sooner), and whether one more session may be
+-- opened beside those that are live (6, "`max_clients` sessions live").
+pub record Admission (R : Rules) : Type 0 where
+  pub top : ℕ
+  pub admits : List (R .Local) → R .Opening → Bool
+
+module _ (R : Rules) (D : Admission R) where
   open Rules R using (Opening, In, Ans, Call, Pending, Local, parse, start, handle, resume, expired)
 
   -- the sessions by id, and the id from which the next free one is looked for
@@ -56,7 +61,7 @@ module _ (R : Rules) (admits : List (R .Local) → R .Opening → Bool) where
 
   -- "after 255 comes 1"
   abbrev pub after : ℕ → ℕ
-  after i = cond (eqb i 255) 1 (suc i)
+  after i = cond (eqb i (D .top)) 1 (suc i)
 
   -- the first id that is not live, of n from i on
   unfoldable pub free : ℕ → ℕ → (ℕ → Option Local) → Option ℕ
@@ -65,7 +70,7 @@ module _ (R : Rules) (admits : List (R .Local) → R .Opening → Bool) where
 
   -- the id that a CREATE_CLIENT gets, if any
   unfoldable pub chosen : Opening → Tables → Option ℕ
-  chosen o t = cond (admits (live (t .at) (ids 1 255)) o) (free 255 (t .next) (t .at)) none
+  chosen o t = cond (D .admits (live (t .at) (ids 1 (D .top))) o) (free (D .top) (t .next) (t .at)) none
 
   -- "`create_session` takes the next free id, and its pointer goes on from there"
   abbrev pub open-as : Opening → Tables → Option ℕ → Tables
@@ -118,18 +123,10 @@ module _ (R : Rules) (admits : List (R .Local) → R .Opening → Bool) where
   begin st none = refuse st 1
   begin st (some m) = settle (run (m .header) (m .subs) (st .tables))
 
-  -- a sweep keeps the sessions that are not expired, and lists the others
+  -- a sweep keeps the sessions that are not expired
   abbrev pub stays : ℕ → Option Local → Option Local
   stays now none = none
   stays now (some l) = cond (expired l now) none (some l)
-
-  abbrev pub goes : ℕ → ℕ → Option Local → List ℕ
-  goes now i none = []
-  goes now i (some l) = cond (expired l now) (i ∷ []) []
-
-  unfoldable pub expiring : ℕ → (ℕ → Option Local) → List ℕ → List ℕ
-  expiring now f [] = []
-  expiring now f (i ∷ is) = goes now i (f i) ++ expiring now f is
 
   abbrev pub with-sessions : State → (ℕ → Option Local) → Stepped
   with-sessions st f = (record { tables = record { next = st .tables .next; at = f }; wait = none }, ran [] none)

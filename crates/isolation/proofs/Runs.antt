@@ -10,7 +10,7 @@ use Rattle.isolation.specs.Rules.{Bytes, Outcome, done, calls, Sub, open
 use Rattle.isolation.specs.Machine.{Machine, ended, idle, waiting, Deed, handles, resumes, Moved, still, on, work}
 use Rattle.isolation.specs.Claim.{past, ins, replies-of, calls-of, creating, opening}
 use Rattle.isolation.proofs.Simulation.{none-some, for-it}
-use Rattle.isolation.proofs.Reference.{Tables, Wait, Ran, put, after, free, chosen, open-as, keep-as, tell, act, deliver, run, continue}
+use Rattle.isolation.proofs.Reference.{Admission, Tables, Wait, Ran, put, after, free, chosen, open-as, keep-as, tell, act, deliver, run, continue}
 
 -- ---- tests
 
@@ -31,7 +31,7 @@ apart m n e = go (eqb n m) refl
     go false p = refl
     go true p = absurd (true≢false (sym (eqb-same m) ∙ subst (λ (k : ℕ). eqb m k ≡ false) (same n m p) e))
 
-module _ (R : Rules) (admits : List (R .Local) → R .Opening → Bool) where
+module _ (R : Rules) (D : Admission R) where
   open Rules R using (Opening, In, Ans, Call, Pending, Local, start, handle, resume)
 
   -- ---- what session s gets
@@ -63,13 +63,13 @@ module _ (R : Rules) (admits : List (R .Local) → R .Opening → Bool) where
   -- ---- a session as a machine
 
   -- what the agent has of session s
-  abbrev pub seen : ℕ → Option Local → Option (Wait R admits) → Machine R
+  abbrev pub seen : ℕ → Option Local → Option (Wait R D) → Machine R
   seen s none w = ended
   seen s (some l) none = idle l
   seen s (some l) (some w) = cond (eqb (w .header) s) (waiting l (w .pending) (ins R (w .rest))) (idle l)
 
   -- a run of the agent is, for session s, a move of the machine
-  pub record Match (s : ℕ) (r : Ran R admits) (m : Moved R) : Type 0 where
+  pub record Match (s : ℕ) (r : Ran R D) (m : Moved R) : Type 0 where
     pub sees : seen s (r .tables .at s) (r .wait) ≡ m .machine
     pub says : replies-of R s (r .outs) ≡ m .replies
     pub asks : call-for s (r .call) ≡ m .calls
@@ -88,29 +88,29 @@ module _ (R : Rules) (admits : List (R .Local) → R .Opening → Bool) where
 
   -- ---- an id that is chosen was not live
 
-  free-is : (n i : ℕ) (f : ℕ → Option Local) (s : ℕ) → free R admits n i f ≡ some s → f s ≡ none
+  free-is : (n i : ℕ) (f : ℕ → Option Local) (s : ℕ) → free R D n i f ≡ some s → f s ≡ none
   unfolding free
   free-is zero i f s e = absurd (none-some e)
-  free-is (suc n) i f s e = go (f i) refl (λ e′. free-is n (after R admits i) f s e′)
+  free-is (suc n) i f s e = go (f i) refl (λ e′. free-is n (after R D i) f s e′)
     where
-      go : (x : Option Local) → f i ≡ x → (free R admits n (after R admits i) f ≡ some s → f s ≡ none) → f s ≡ none
+      go : (x : Option Local) → f i ≡ x → (free R D n (after R D i) f ≡ some s → f s ≡ none) → f s ≡ none
       go none p k = let e′ : some i ≡ some s = rw (p, free) at e in cc
       go (some l) p k = k (rw (p, free) at e)
 
-  pub chosen-is : (o : Opening) (t : Tables R admits) (s : ℕ) → chosen R admits o t ≡ some s → t .at s ≡ none
+  pub chosen-is : (o : Opening) (t : Tables R D) (s : ℕ) → chosen R D o t ≡ some s → t .at s ≡ none
   unfolding chosen
-  chosen-is o t s e = go (admits _ o) e
+  chosen-is o t s e = go (D .admits _ o) e
     where
-      go : (b : Bool) → cond b (free R admits 255 (t .next) (t .at)) none ≡ some s → t .at s ≡ none
-      go true p = free-is 255 (t .next) (t .at) s p
+      go : (b : Bool) → cond b (free R D (D .top) (t .next) (t .at)) none ≡ some s → t .at s ≡ none
+      go true p = free-is (D .top) (t .next) (t .at) s p
       go false p = absurd (none-some p)
 
   -- ---- the tables of s, after another is opened or kept
 
-  pub opened-other : (o : Opening) (t : Tables R admits) (s : ℕ) (l : Local) → t .at s ≡ some l → open-as R admits o t (chosen R admits o t) .at s ≡ some l
-  opened-other o t s l e = go (chosen R admits o t) refl
+  pub opened-other : (o : Opening) (t : Tables R D) (s : ℕ) (l : Local) → t .at s ≡ some l → open-as R D o t (chosen R D o t) .at s ≡ some l
+  opened-other o t s l e = go (chosen R D o t) refl
     where
-      go : (x : Option ℕ) → chosen R admits o t ≡ x → open-as R admits o t x .at s ≡ some l
+      go : (x : Option ℕ) → chosen R D o t ≡ x → open-as R D o t x .at s ≡ some l
       go none p = e
       go (some i) p = new (eqb s i) refl
         where
@@ -118,14 +118,14 @@ module _ (R : Rules) (admits : List (R .Local) → R .Opening → Bool) where
           new true q = absurd (none-some (sym (chosen-is o t s (rw (same s i q) p)) ∙ e))
           new false q = rw q e
 
-  kept-other : (s h : ℕ) → eqb h s ≡ false → (l : Local) (t : Tables R admits) → keep-as R admits h l t .at s ≡ t .at s
+  kept-other : (s h : ℕ) → eqb h s ≡ false → (l : Local) (t : Tables R D) → keep-as R D h l t .at s ≡ t .at s
   kept-other s h e l t = rw (apart h s e)
 
-  pub kept-mine : (s : ℕ) (l : Local) (t : Tables R admits) → keep-as R admits s l t .at s ≡ some l
+  pub kept-mine : (s : ℕ) (l : Local) (t : Tables R D) → keep-as R D s l t .at s ≡ some l
   kept-mine s l t = rw eqb-same
 
   -- a live session stays live while another is kept
-  pub kept-live : (s h : ℕ) (l l′ : Local) (t : Tables R admits) → t .at s ≡ some l → (l″ : Local) × (keep-as R admits h l′ t .at s ≡ some l″)
+  pub kept-live : (s h : ℕ) (l l′ : Local) (t : Tables R D) → t .at s ≡ some l → (l″ : Local) × (keep-as R D h l′ t .at s ≡ some l″)
   kept-live s h l l′ t e = go (eqb s h) refl
     where
       go : (b : Bool) → eqb s h ≡ b → (l″ : Local) × (cond b (some l′) (t .at s) ≡ some l″)
@@ -134,58 +134,58 @@ module _ (R : Rules) (admits : List (R .Local) → R .Opening → Bool) where
 
   -- ---- a run, with s live
 
-  act-mine : (s : ℕ) (ss : List (Sub Opening In)) (t : Tables R admits)
-      → ((l : Local) → Match s (run R admits s ss (keep-as R admits s l t)) (work R l (ins R ss)))
+  act-mine : (s : ℕ) (ss : List (Sub Opening In)) (t : Tables R D)
+      → ((l : Local) → Match s (run R D s ss (keep-as R D s l t)) (work R l (ins R ss)))
       → (d : Deed R) (x : Outcome Local Bytes Call Pending)
-      → Match s (act R admits s ss t x (λ t′. run R admits s ss t′)) (on R d x (ins R ss) (λ l. work R l (ins R ss)))
+      → Match s (act R D s ss t x (λ t′. run R D s ss t′)) (on R d x (ins R ss) (λ l. work R l (ins R ss)))
   act-mine s ss t k d (done l rs) = record { sees = k l .sees; says = replies-mine s rs _ ∙ ap (λ (z : List Bytes). rs ++ z) (k l .says); asks = k l .asks }
   act-mine s ss t k d (calls l rs c p) = record { sees = rw eqb-same (rw eqb-same); says = replies-mine-all s rs; asks = rw eqb-same }
 
-  run-mine : (s : ℕ) (ss : List (Sub Opening In)) (t : Tables R admits) (l : Local) → t .at s ≡ some l → Match s (run R admits s ss t) (work R l (ins R ss))
+  run-mine : (s : ℕ) (ss : List (Sub Opening In)) (t : Tables R D) (l : Local) → t .at s ≡ some l → Match s (run R D s ss t) (work R l (ins R ss))
   unfolding run
   run-mine s [] t l e = record { sees = rw e; says = refl; asks = refl }
   run-mine s (opens o ∷ ss) t l e =
-      let m = run-mine s ss (open-as R admits o t (chosen R admits o t)) l (opened-other o t s l e) in
+      let m = run-mine s ss (open-as R D o t (chosen R D o t)) l (opened-other o t s l e) in
       record { sees = m .sees; says = m .says; asks = m .asks }
-  run-mine s (names i ∷ ss) t l e = rw e (act-mine s ss t (λ l′. run-mine s ss (keep-as R admits s l′ t) l′ (kept-mine s l′ t)) (handles l i) (handle l i))
+  run-mine s (names i ∷ ss) t l e = rw e (act-mine s ss t (λ l′. run-mine s ss (keep-as R D s l′ t) l′ (kept-mine s l′ t)) (handles l i) (handle l i))
 
   -- the rules at work on another session
-  deliver-other : (s h : ℕ) → eqb h s ≡ false → (ss : List (Sub Opening In)) (t : Tables R admits) (l : Local) → t .at s ≡ some l
-      → ((t′ : Tables R admits) → t′ .at s ≡ some l → Match s (run R admits h ss t′) (still R true (idle l)))
+  deliver-other : (s h : ℕ) → eqb h s ≡ false → (ss : List (Sub Opening In)) (t : Tables R D) (l : Local) → t .at s ≡ some l
+      → ((t′ : Tables R D) → t′ .at s ≡ some l → Match s (run R D h ss t′) (still R true (idle l)))
       → (x : Option Local) (f : Local → Outcome Local Bytes Call Pending)
-      → Match s (deliver R admits h ss t x f (λ t′. run R admits h ss t′)) (still R true (idle l))
+      → Match s (deliver R D h ss t x f (λ t′. run R D h ss t′)) (still R true (idle l))
   deliver-other s h d ss t l e k none f = k t e
   deliver-other s h d ss t l e k (some l₀) f = go (f l₀)
     where
-      go : (x : Outcome Local Bytes Call Pending) → Match s (act R admits h ss t x (λ t′. run R admits h ss t′)) (still R true (idle l))
+      go : (x : Outcome Local Bytes Call Pending) → Match s (act R D h ss t x (λ t′. run R D h ss t′)) (still R true (idle l))
       go (done l′ rs) =
-          let m = k (keep-as R admits h l′ t) (kept-other s h d l′ t ∙ e) in
+          let m = k (keep-as R D h l′ t) (kept-other s h d l′ t ∙ e) in
           record { sees = m .sees; says = replies-other s h d rs _ ∙ m .says; asks = m .asks }
       go (calls l′ rs c p) = record { sees = rw (apart h s d, e, d); says = replies-other-all s h d rs; asks = rw d }
 
-  run-other : (s h : ℕ) → eqb h s ≡ false → (ss : List (Sub Opening In)) (t : Tables R admits) (l : Local) → t .at s ≡ some l → Match s (run R admits h ss t) (still R true (idle l))
+  run-other : (s h : ℕ) → eqb h s ≡ false → (ss : List (Sub Opening In)) (t : Tables R D) (l : Local) → t .at s ≡ some l → Match s (run R D h ss t) (still R true (idle l))
   unfolding run
   run-other s h d [] t l e = record { sees = rw e; says = refl; asks = refl }
   run-other s h d (opens o ∷ ss) t l e =
-      let m = run-other s h d ss (open-as R admits o t (chosen R admits o t)) l (opened-other o t s l e) in
+      let m = run-other s h d ss (open-as R D o t (chosen R D o t)) l (opened-other o t s l e) in
       record { sees = m .sees; says = m .says; asks = m .asks }
   run-other s h d (names i ∷ ss) t l e = deliver-other s h d ss t l e (λ t′ e′. run-other s h d ss t′ l e′) (t .at h) (λ l. handle l i)
 
-  pub run-live : (s h : ℕ) (ss : List (Sub Opening In)) (t : Tables R admits) (l : Local) → t .at s ≡ some l → Match s (run R admits h ss t) (work R l (for-it R s h ss))
+  pub run-live : (s h : ℕ) (ss : List (Sub Opening In)) (t : Tables R D) (l : Local) → t .at s ≡ some l → Match s (run R D h ss t) (work R l (for-it R s h ss))
   run-live s h ss t l e = go (eqb h s) refl
     where
-      go : (b : Bool) → eqb h s ≡ b → Match s (run R admits h ss t) (work R l (cond b (ins R ss) []))
+      go : (b : Bool) → eqb h s ≡ b → Match s (run R D h ss t) (work R l (cond b (ins R ss) []))
       go true p = rw (same h s p) (run-mine s ss t l e)
       go false p = run-other s h p ss t l e
 
   -- the answer to s's own open call, and to another's
-  pub continue-mine : (s : ℕ) (w : Wait R admits) (a : Ans) (t : Tables R admits) (l : Local) → t .at s ≡ some l → w .header ≡ s
-      → Match s (continue R admits w a t) (on R (resumes l (w .pending) a) (resume l (w .pending) a) (ins R (w .rest)) (λ l. work R l (ins R (w .rest))))
+  pub continue-mine : (s : ℕ) (w : Wait R D) (a : Ans) (t : Tables R D) (l : Local) → t .at s ≡ some l → w .header ≡ s
+      → Match s (continue R D w a t) (on R (resumes l (w .pending) a) (resume l (w .pending) a) (ins R (w .rest)) (λ l. work R l (ins R (w .rest))))
   continue-mine s w a t l e p =
-      rw (p, e) (act-mine s (w .rest) t (λ l′. run-mine s (w .rest) (keep-as R admits s l′ t) l′ (kept-mine s l′ t)) (resumes l (w .pending) a) (resume l (w .pending) a))
+      rw (p, e) (act-mine s (w .rest) t (λ l′. run-mine s (w .rest) (keep-as R D s l′ t) l′ (kept-mine s l′ t)) (resumes l (w .pending) a) (resume l (w .pending) a))
 
-  pub continue-other : (s : ℕ) (w : Wait R admits) (a : Ans) (t : Tables R admits) (l : Local) → t .at s ≡ some l → eqb (w .header) s ≡ false
-      → Match s (continue R admits w a t) (still R true (idle l))
+  pub continue-other : (s : ℕ) (w : Wait R D) (a : Ans) (t : Tables R D) (l : Local) → t .at s ≡ some l → eqb (w .header) s ≡ false
+      → Match s (continue R D w a t) (still R true (idle l))
   continue-other s w a t l e p =
       deliver-other s (w .header) p (w .rest) t l e (λ t′ e′. run-other s (w .header) p (w .rest) t′ l e′) (t .at (w .header)) (λ l. resume l (w .pending) a)
 
@@ -205,59 +205,59 @@ module _ (R : Rules) (admits : List (R .Local) → R .Opening → Bool) where
   opening-none (suc j) h (r ∷ rs) = opening-none (suc j) h rs
 
   -- no CREATE_CLIENT opens an id that is live
-  never : (s h : ℕ) (ss : List (Sub Opening In)) (j : ℕ) (t : Tables R admits) (l : Local) → t .at s ≡ some l → opening R j (run R admits h ss t .outs) ≡ some s → ⊥
+  never : (s h : ℕ) (ss : List (Sub Opening In)) (j : ℕ) (t : Tables R D) (l : Local) → t .at s ≡ some l → opening R j (run R D h ss t .outs) ≡ some s → ⊥
   unfolding run
   never s h [] j t l e p = none-some p
   never s h (opens o ∷ ss) zero t l e p = none-some (sym (chosen-is o t s p) ∙ e)
-  never s h (opens o ∷ ss) (suc j) t l e p = never s h ss j (open-as R admits o t (chosen R admits o t)) l (opened-other o t s l e) p
+  never s h (opens o ∷ ss) (suc j) t l e p = never s h ss j (open-as R D o t (chosen R D o t)) l (opened-other o t s l e) p
   never s h (names i ∷ ss) j t l e p = go (λ t′ l e p. never s h ss j t′ l e p) (t .at h) p
     where
-      go : ((t′ : Tables R admits) (l : Local) → t′ .at s ≡ some l → opening R j (run R admits h ss t′ .outs) ≡ some s → ⊥)
-          → (x : Option Local) → opening R j (deliver R admits h ss t x (λ l. handle l i) (λ t′. run R admits h ss t′) .outs) ≡ some s → ⊥
+      go : ((t′ : Tables R D) (l : Local) → t′ .at s ≡ some l → opening R j (run R D h ss t′ .outs) ≡ some s → ⊥)
+          → (x : Option Local) → opening R j (deliver R D h ss t x (λ l. handle l i) (λ t′. run R D h ss t′) .outs) ≡ some s → ⊥
       go k none q = k t l e q
       go k (some l₀) q = acts (handle l₀ i) q
         where
-          acts : (x : Outcome Local Bytes Call Pending) → opening R j (act R admits h ss t x (λ t′. run R admits h ss t′) .outs) ≡ some s → ⊥
-          acts (done l′ rs) q = let (l″, e″) = kept-live s h l l′ t e in k (keep-as R admits h l′ t) l″ e″ (sym (opening-past j h rs _) ∙ q)
+          acts : (x : Outcome Local Bytes Call Pending) → opening R j (act R D h ss t x (λ t′. run R D h ss t′) .outs) ≡ some s → ⊥
+          acts (done l′ rs) q = let (l″, e″) = kept-live s h l l′ t e in k (keep-as R D h l′ t) l″ e″ (sym (opening-past j h rs _) ∙ q)
           acts (calls l′ rs c p) q = none-some (sym (opening-none j h rs) ∙ q)
 
   -- ---- a run that opens s
 
   -- the rules at work before s is opened in the same call
-  pub deliver-birth : (s h : ℕ) (ss : List (Sub Opening In)) (j : ℕ) (t : Tables R admits) (m : Moved R)
-      → ((t′ : Tables R admits) → opening R j (run R admits h ss t′ .outs) ≡ some s → Match s (run R admits h ss t′) m)
+  pub deliver-birth : (s h : ℕ) (ss : List (Sub Opening In)) (j : ℕ) (t : Tables R D) (m : Moved R)
+      → ((t′ : Tables R D) → opening R j (run R D h ss t′ .outs) ≡ some s → Match s (run R D h ss t′) m)
       → (x : Option Local) (f : Local → Outcome Local Bytes Call Pending)
-      → opening R j (deliver R admits h ss t x f (λ t′. run R admits h ss t′) .outs) ≡ some s
-      → Match s (deliver R admits h ss t x f (λ t′. run R admits h ss t′)) m
+      → opening R j (deliver R D h ss t x f (λ t′. run R D h ss t′) .outs) ≡ some s
+      → Match s (deliver R D h ss t x f (λ t′. run R D h ss t′)) m
   deliver-birth s h ss j t m k none f q = k t q
   deliver-birth s h ss j t m k (some l) f q = acts (f l) q
     where
-      acts : (x : Outcome Local Bytes Call Pending) → opening R j (act R admits h ss t x (λ t′. run R admits h ss t′) .outs) ≡ some s
-          → Match s (act R admits h ss t x (λ t′. run R admits h ss t′)) m
+      acts : (x : Outcome Local Bytes Call Pending) → opening R j (act R D h ss t x (λ t′. run R D h ss t′) .outs) ≡ some s
+          → Match s (act R D h ss t x (λ t′. run R D h ss t′)) m
       acts (done l′ rs) q = apartness (eqb h s) refl
         where
-          q′ : opening R j (run R admits h ss (keep-as R admits h l′ t) .outs) ≡ some s
+          q′ : opening R j (run R D h ss (keep-as R D h l′ t) .outs) ≡ some s
           q′ = sym (opening-past j h rs _) ∙ q
 
-          apartness : (b : Bool) → eqb h s ≡ b → Match s (tell R admits (map (reply h) rs) (run R admits h ss (keep-as R admits h l′ t))) m
-          apartness true z = absurd (never s h ss j (keep-as R admits h l′ t) l′ (rw (same h s z) (kept-mine s l′ t)) q′)
-          apartness false z = let n = k (keep-as R admits h l′ t) q′ in record { sees = n .sees; says = replies-other s h z rs _ ∙ n .says; asks = n .asks }
+          apartness : (b : Bool) → eqb h s ≡ b → Match s (tell R D (map (reply h) rs) (run R D h ss (keep-as R D h l′ t))) m
+          apartness true z = absurd (never s h ss j (keep-as R D h l′ t) l′ (rw (same h s z) (kept-mine s l′ t)) q′)
+          apartness false z = let n = k (keep-as R D h l′ t) q′ in record { sees = n .sees; says = replies-other s h z rs _ ∙ n .says; asks = n .asks }
       acts (calls l′ rs c p) q = absurd (none-some (sym (opening-none j h rs) ∙ q))
 
-  pub run-birth : (s h : ℕ) (ss : List (Sub Opening In)) (j : ℕ) (o : Opening) (behind : List (Sub Opening In)) (t : Tables R admits)
-      → creating R j ss ≡ some (o, behind) → opening R j (run R admits h ss t .outs) ≡ some s
-      → Match s (run R admits h ss t) (work R (start s o) (for-it R s h behind))
+  pub run-birth : (s h : ℕ) (ss : List (Sub Opening In)) (j : ℕ) (o : Opening) (behind : List (Sub Opening In)) (t : Tables R D)
+      → creating R j ss ≡ some (o, behind) → opening R j (run R D h ss t .outs) ≡ some s
+      → Match s (run R D h ss t) (work R (start s o) (for-it R s h behind))
   unfolding run
   run-birth s h [] j o behind t a q = absurd (none-some q)
   run-birth s h (opens o₁ ∷ ss) zero o behind t a q =
       let pair : _≡_ {A = Opening × List (Sub Opening In)} (o₁, ss) (o, behind) = cc in
       let o-is : o₁ ≡ o = ap (λ (x : Opening × List (Sub Opening In)). x .0) pair in
       let ss-is : ss ≡ behind = ap (λ (x : Opening × List (Sub Opening In)). x .1) pair in
-      let m = run-live s h ss (open-as R admits o₁ t (some s)) (start s o₁) (rw eqb-same) in
-      let m′ : Match s (run R admits h ss (open-as R admits o₁ t (some s))) (work R (start s o) (for-it R s h behind)) = rw (← o-is, ← ss-is) m in
+      let m = run-live s h ss (open-as R D o₁ t (some s)) (start s o₁) (rw eqb-same) in
+      let m′ : Match s (run R D h ss (open-as R D o₁ t (some s))) (work R (start s o) (for-it R s h behind)) = rw (← o-is, ← ss-is) m in
       rw q (record { sees = m′ .sees; says = m′ .says; asks = m′ .asks })
   run-birth s h (opens o₁ ∷ ss) (suc j) o behind t a q =
-      let m = run-birth s h ss j o behind (open-as R admits o₁ t (chosen R admits o₁ t)) a q in
+      let m = run-birth s h ss j o behind (open-as R D o₁ t (chosen R D o₁ t)) a q in
       record { sees = m .sees; says = m .says; asks = m .asks }
   run-birth s h (names i ∷ ss) j o behind t a q =
       deliver-birth s h ss j t (work R (start s o) (for-it R s h behind)) (λ t′ q′. run-birth s h ss j o behind t′ a q′) (t .at h) (λ l. handle l i) q
@@ -282,14 +282,14 @@ module _ (R : Rules) (admits : List (R .Local) → R .Opening → Bool) where
   past-all h (r ∷ rs) ss = past-all h rs ss
 
   -- of a run of ss under header h, from replies os: the call that it leaves open is h's, and what waits behind it
-  unfoldable pub Leaves : ℕ → List (Sub Opening In) → List (Out R) → Option (Asked R) → Option (Wait R admits) → Type 0
+  unfoldable pub Leaves : ℕ → List (Sub Opening In) → List (Out R) → Option (Asked R) → Option (Wait R D) → Type 0
   Leaves h ss os none none = Unit {0}
   Leaves h ss os none (some w) = ⊥
   Leaves h ss os (some a) none = ⊥
   Leaves h ss os (some a) (some w) = (a .tag ≡ 0) × (w .header ≡ h) × ((j : ℕ) → creating R j (past R os ss) ≡ creating R j (w .rest))
 
   -- behind a submessage that is not a CREATE_CLIENT
-  leaves-names : (h : ℕ) (i : In) (ss : List (Sub Opening In)) (os : List (Out R)) (c : Option (Asked R)) (w : Option (Wait R admits)) → Leaves h ss os c w → Leaves h (names i ∷ ss) os c w
+  leaves-names : (h : ℕ) (i : In) (ss : List (Sub Opening In)) (os : List (Out R)) (c : Option (Asked R)) (w : Option (Wait R D)) → Leaves h ss os c w → Leaves h (names i ∷ ss) os c w
   unfolding Leaves
   leaves-names h i ss os none none k = tt
   leaves-names h i ss os none (some w) k = absurd k
@@ -297,7 +297,7 @@ module _ (R : Rules) (admits : List (R .Local) → R .Opening → Bool) where
   leaves-names h i ss os (some a) (some w) k = (k .0, k .1, λ j. past-names os i ss j ∙ k .2 j)
 
   -- behind replies
-  leaves-replies : (h g : ℕ) (rs : List Bytes) (ss : List (Sub Opening In)) (os : List (Out R)) (c : Option (Asked R)) (w : Option (Wait R admits)) → Leaves h ss os c w → Leaves h ss (map (reply g) rs ++ os) c w
+  leaves-replies : (h g : ℕ) (rs : List Bytes) (ss : List (Sub Opening In)) (os : List (Out R)) (c : Option (Asked R)) (w : Option (Wait R D)) → Leaves h ss os c w → Leaves h ss (map (reply g) rs ++ os) c w
   unfolding Leaves
   leaves-replies h g rs ss os none none k = tt
   leaves-replies h g rs ss os none (some w) k = absurd k
@@ -305,31 +305,31 @@ module _ (R : Rules) (admits : List (R .Local) → R .Opening → Bool) where
   leaves-replies h g rs ss os (some a) (some w) k = (k .0, k .1, λ j. rw (past-replies g rs os ss) (k .2 j))
 
   -- behind a STATUS
-  leaves-opened : (h : ℕ) (o : Opening) (x : Option ℕ) (ss : List (Sub Opening In)) (os : List (Out R)) (c : Option (Asked R)) (w : Option (Wait R admits)) → Leaves h ss os c w → Leaves h (opens o ∷ ss) (opened x ∷ os) c w
+  leaves-opened : (h : ℕ) (o : Opening) (x : Option ℕ) (ss : List (Sub Opening In)) (os : List (Out R)) (c : Option (Asked R)) (w : Option (Wait R D)) → Leaves h ss os c w → Leaves h (opens o ∷ ss) (opened x ∷ os) c w
   unfolding Leaves
   leaves-opened h o x ss os none none k = tt
   leaves-opened h o x ss os none (some w) k = absurd k
   leaves-opened h o x ss os (some a) none k = absurd k
   leaves-opened h o x ss os (some a) (some w) k = k
 
-  pub deliver-leaves : (h : ℕ) (ss : List (Sub Opening In)) (t : Tables R admits)
-      → ((t′ : Tables R admits) → Leaves h ss (run R admits h ss t′ .outs) (run R admits h ss t′ .call) (run R admits h ss t′ .wait))
+  pub deliver-leaves : (h : ℕ) (ss : List (Sub Opening In)) (t : Tables R D)
+      → ((t′ : Tables R D) → Leaves h ss (run R D h ss t′ .outs) (run R D h ss t′ .call) (run R D h ss t′ .wait))
       → (x : Option Local) (f : Local → Outcome Local Bytes Call Pending)
-      → let r = deliver R admits h ss t x f (λ t′. run R admits h ss t′) in Leaves h ss (r .outs) (r .call) (r .wait)
+      → let r = deliver R D h ss t x f (λ t′. run R D h ss t′) in Leaves h ss (r .outs) (r .call) (r .wait)
   unfolding Leaves
   deliver-leaves h ss t k none f = k t
   deliver-leaves h ss t k (some l) f = go (f l)
     where
-      go : (x : Outcome Local Bytes Call Pending) → let r = act R admits h ss t x (λ t′. run R admits h ss t′) in Leaves h ss (r .outs) (r .call) (r .wait)
-      go (done l′ rs) = let r = run R admits h ss (keep-as R admits h l′ t) in leaves-replies h h rs ss (r .outs) (r .call) (r .wait) (k (keep-as R admits h l′ t))
+      go : (x : Outcome Local Bytes Call Pending) → let r = act R D h ss t x (λ t′. run R D h ss t′) in Leaves h ss (r .outs) (r .call) (r .wait)
+      go (done l′ rs) = let r = run R D h ss (keep-as R D h l′ t) in leaves-replies h h rs ss (r .outs) (r .call) (r .wait) (k (keep-as R D h l′ t))
       go (calls l′ rs c p) = (refl, refl, λ j. rw (past-all h rs ss))
 
-  pub run-leaves : (h : ℕ) (ss : List (Sub Opening In)) (t : Tables R admits) → let r = run R admits h ss t in Leaves h ss (r .outs) (r .call) (r .wait)
+  pub run-leaves : (h : ℕ) (ss : List (Sub Opening In)) (t : Tables R D) → let r = run R D h ss t in Leaves h ss (r .outs) (r .call) (r .wait)
   unfolding run Leaves
   run-leaves h [] t = tt
   run-leaves h (opens o ∷ ss) t =
-      let r = run R admits h ss (open-as R admits o t (chosen R admits o t)) in
-      leaves-opened h o (chosen R admits o t) ss (r .outs) (r .call) (r .wait) (run-leaves h ss (open-as R admits o t (chosen R admits o t)))
+      let r = run R D h ss (open-as R D o t (chosen R D o t)) in
+      leaves-opened h o (chosen R D o t) ss (r .outs) (r .call) (r .wait) (run-leaves h ss (open-as R D o t (chosen R D o t)))
   run-leaves h (names i ∷ ss) t =
-      let r = deliver R admits h ss t (t .at h) (λ l. handle l i) (λ t′. run R admits h ss t′) in
+      let r = deliver R D h ss t (t .at h) (λ l. handle l i) (λ t′. run R D h ss t′) in
       leaves-names h i ss (r .outs) (r .call) (r .wait) (deliver-leaves h ss t (λ t′. run-leaves h ss t′) (t .at h) (λ l. handle l i))
