@@ -7,3 +7,5 @@ pub mod Provenance
 pub mod Theorem
 pub mod Refine
 pub mod Ids
+pub mod Small
+pub mod Example
