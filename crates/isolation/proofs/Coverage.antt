@@ -6,7 +6,7 @@ use mathlib.Core.Option.{Option, none, some}
 use mathlib.Core.List.{List, [], _∷_, _++_, map}
 use lib.Dec.{eqb}
 use Rattle.isolation.specs.Rules.{Bytes, Outcome, done, calls, Sub, opens, names, Rules, Out, opened, reply, Asked}
-use Rattle.isolation.specs.Claim.{replies-of, creating, opening}
+use Rattle.isolation.specs.Claim.{replies-of, client-at, status-at}
 use Rattle.isolation.proofs.Simulation.{none-some}
 use Rattle.isolation.proofs.Reference.{Admission, Tables, Ran, chosen, open-as, keep-as, act, deliver, run}
 use Rattle.isolation.proofs.Runs.{same, call-for, replies-other, replies-other-all, opened-other, kept-mine, kept-live, opening-past}
@@ -21,8 +21,8 @@ module _ (R : Rules) (D : Admission R) where
     pub number : ℕ
     pub client : Opening
     pub behind : List (Sub Opening In)
-    pub asks : creating R number ss ≡ some (client, behind)
-    pub granted : opening R number os ≡ some s
+    pub asks : client-at R number ss ≡ some (client, behind)
+    pub granted : status-at R number os ≡ some s
 
   pub deliver-born : (s h : ℕ) (ss : List (Sub Opening In)) (t : Tables R D) (l : Local) → t .at s ≡ none
       → ((t′ : Tables R D) → t′ .at s ≡ none → run R D h ss t′ .tables .at s ≡ some l → Born s ss (run R D h ss t′ .outs))

@@ -1,11 +1,11 @@
--- A list H that computes: what the small agent answers, call by call, and the sessions opened in H, each with the trail that the agent
+-- A list H that computes: what the small agent answers, call by call, and the sessions opened in H, each with the trace that the agent
 -- gives it and that its machine, fed alone, gives too. All by `refl`.
 use mathlib.Core.Path.{_≡_, refl}
 use Prim.Native.Nat.{ℕ}
 use mathlib.Core.Option.{Option, none, some}
 use mathlib.Core.List.{List, [], _∷_, _++_}
 use Rattle.isolation.specs.Rules.{Sub, opens, names, Message, Rules, Host, datagram, answer, removal, sweep, opened, reply, Asked, Result, refused, ran}
-use Rattle.isolation.specs.Machine.{Trail, trail}
+use Rattle.isolation.specs.Machine.{Trace, trace}
 use Rattle.isolation.specs.Claim.{Agent, Session, of-agent, of-machine}
 use Rattle.isolation.proofs.Reference.{run, step, ids, live, free, chosen}
 use Rattle.isolation.proofs.Small.{small, small-agent, Handle, bridge, Local, In, Act, create, write, beat, rebuilt, Call, make, put, Ans, made, finished}
@@ -163,25 +163,25 @@ fourth = record {
 
 -- ---- their trails, of the agent and of the machine
 
-Both : Session R A H → Trail R → Type 0
-Both S t = (of-agent R A S ≡ t) × (trail R (of-machine R A S) ≡ t)
+Both : Session R A H → Trace R → Type 0
+Both S t = (of-agent R A S ≡ t) × (trace R (of-machine R A S) ≡ t)
 
-first-trail : Both first (record { calls = make ∷ []; replies = (1 ∷ 0 ∷ []) ∷ (1 ∷ 5 ∷ []) ∷ (1 ∷ 6 ∷ []) ∷ []; table = none })
+first-trace : Both first (record { calls = make ∷ []; replies = (1 ∷ 0 ∷ []) ∷ (1 ∷ 5 ∷ []) ∷ (1 ∷ 6 ∷ []) ∷ []; table = none })
 unfolding Both first run step ids live free chosen
-first-trail = (refl, refl)
+first-trace = (refl, refl)
 
-second-trail : Both second (record {
+second-trace : Both second (record {
   calls = make ∷ put (bridge 10) ∷ [];
   replies = (2 ∷ 5 ∷ []) ∷ (2 ∷ 6 ∷ []) ∷ (2 ∷ 1 ∷ []) ∷ (2 ∷ 0 ∷ []) ∷ (2 ∷ 0 ∷ []) ∷ [];
   table = none;
 })
 unfolding Both second run step ids live free chosen
-second-trail = (refl, refl)
+second-trace = (refl, refl)
 
-third-trail : Both third (record { calls = []; replies = []; table = some (record { id = 3; key = 9; activity = 950; objects = [] }) })
+third-trace : Both third (record { calls = []; replies = []; table = some (record { id = 3; key = 9; activity = 950; objects = [] }) })
 unfolding Both third run step ids live free chosen
-third-trail = (refl, refl)
+third-trace = (refl, refl)
 
-fourth-trail : Both fourth (record { calls = []; replies = (1 ∷ 1 ∷ []) ∷ []; table = some (record { id = 1; key = 10; activity = 1600; objects = [] }) })
+fourth-trace : Both fourth (record { calls = []; replies = (1 ∷ 1 ∷ []) ∷ []; table = some (record { id = 1; key = 10; activity = 1600; objects = [] }) })
 unfolding Both fourth run step ids live free chosen
-fourth-trail = (refl, refl)
+fourth-trace = (refl, refl)

@@ -7,7 +7,7 @@ use mathlib.Core.List.{List, [], _∷_, _++_}
 use lib.Dec.{eqb}
 use Rattle.isolation.specs.Rules.{Sub, opens, names, Message, Rules, Host, datagram, answer, removal, sweep, other, Out, opened, reply, Asked, Result, refused, ran}
 use Rattle.isolation.specs.Machine.{Machine, ended, idle, waiting, Feed, submessages, answered, swept-at, removal-of-it, Moved, still, work, take, table-of}
-use Rattle.isolation.specs.Claim.{Book, write, works-on, behind-one, past, noted, ins, for, heard, outs-of, replies-of, calls-of, creating, opening, Isolated}
+use Rattle.isolation.specs.Claim.{OpenCalls, update, works-on, behind-client, past, open-after, but-clients, if-names, feed-of, outs-of, replies-of, calls-of, client-at, status-at, Isolated}
 use Rattle.isolation.proofs.Simulation.{none-some, for-it, for-is, Silent, Opened, Agrees, Follows, refuses, moves, Simulates, isolated-of}
 use Rattle.isolation.proofs.Reference.{Admission, Wait, State, Ran, put, run, continue, Stepped, refuse, settle, begin, stays, with-sessions, stepped, step, empty, reference}
 use Rattle.isolation.proofs.Runs.{eqb-same, same, apart, calls-is, seen, Match, work-turns, resume-turns, run-live, continue-mine, continue-other, run-birth, deliver-birth, Leaves, run-leaves, deliver-leaves}
@@ -31,46 +31,46 @@ module _ (R : Rules) (D : Admission R) where
   Noted none none = Unit {0}
   Noted none (some w) = ⊥
   Noted (some m) none = ⊥
-  Noted (some m) (some w) = (w .header ≡ m .header) × ((j : ℕ) → creating R j (m .subs) ≡ creating R j (w .rest))
+  Noted (some m) (some w) = (w .header ≡ m .header) × ((j : ℕ) → client-at R j (m .subs) ≡ client-at R j (w .rest))
 
   noted-none : (x : Option Msg) → Noted x none → x ≡ none
   unfolding Noted
   noted-none none k = refl
   noted-none (some m) k = absurd k
 
-  noted-some : (x : Option Msg) (w : Wait R D) → Noted x (some w) → (m : Msg) × (x ≡ some m) × (w .header ≡ m .header) × ((j : ℕ) → creating R j (m .subs) ≡ creating R j (w .rest))
+  noted-some : (x : Option Msg) (w : Wait R D) → Noted x (some w) → (m : Msg) × (x ≡ some m) × (w .header ≡ m .header) × ((j : ℕ) → client-at R j (m .subs) ≡ client-at R j (w .rest))
   unfolding Noted
   noted-some none w k = absurd k
   noted-some (some m) w k = (m, refl, k .0, k .1)
 
-  behind-is : (j : ℕ) (ss : List (Sub Opening In)) → creating R j (behind-one R ss) ≡ creating R (suc j) ss
+  behind-is : (j : ℕ) (ss : List (Sub Opening In)) → client-at R j (behind-client R ss) ≡ client-at R (suc j) ss
   behind-is j [] = refl
   behind-is j (opens o ∷ ss) = refl
   behind-is j (names i ∷ ss) = behind-is j ss
 
-  past-same : (os : List (Out R)) (xs ys : List (Sub Opening In)) → ((j : ℕ) → creating R j xs ≡ creating R j ys) → (j : ℕ) → creating R j (past R os xs) ≡ creating R j (past R os ys)
+  past-same : (os : List (Out R)) (xs ys : List (Sub Opening In)) → ((j : ℕ) → client-at R j xs ≡ client-at R j ys) → (j : ℕ) → client-at R j (past R os xs) ≡ client-at R j (past R os ys)
   past-same [] xs ys h j = h j
-  past-same (opened x ∷ os) xs ys h j = past-same os (behind-one R xs) (behind-one R ys) (λ j. behind-is j xs ∙ h (suc j) ∙ sym (behind-is j ys)) j
+  past-same (opened x ∷ os) xs ys h j = past-same os (behind-client R xs) (behind-client R ys) (λ j. behind-is j xs ∙ h (suc j) ∙ sym (behind-is j ys)) j
   past-same (reply g r ∷ os) xs ys h j = past-same os xs ys h j
 
   -- after a run of what is like the datagram m, the book has the call that it left open
-  ran-noted : (b : Book R) (c : Host R) (m : Msg) → works-on R b c .0 ≡ some m → works-on R b c .1 0 ≡ none
-      → (h : ℕ) (ss : List (Sub Opening In)) → h ≡ m .header → ((j : ℕ) → creating R j (m .subs) ≡ creating R j ss)
-      → (os : List (Out R)) (x : Option (Asked R)) (w : Waits) → Leaves R D h ss os x w → Noted (noted R b c (ran os x) 0) w
+  ran-noted : (b : OpenCalls R) (c : Host R) (m : Msg) → works-on R b c .0 ≡ some m → works-on R b c .1 0 ≡ none
+      → (h : ℕ) (ss : List (Sub Opening In)) → h ≡ m .header → ((j : ℕ) → client-at R j (m .subs) ≡ client-at R j ss)
+      → (os : List (Out R)) (x : Option (Asked R)) (w : Waits) → Leaves R D h ss os x w → Noted (open-after R b c (ran os x) 0) w
   unfolding Noted Leaves
   ran-noted b c m p q h ss e k os none none y = rw q tt
   ran-noted b c m p q h ss e k os none (some w) y = absurd y
   ran-noted b c m p q h ss e k os (some a) none y = absurd y
   ran-noted b c m p q h ss e k os (some a) (some w) y = rw (p, y .0) (y .1 ∙ e, λ j. past-same os (m .subs) ss k j ∙ y .2 j)
 
-  step-noted : (b : Book R) (st : St) (e : Host R) → Noted (b 0) (st .wait) → Noted (noted R b e (step R D st e .1) 0) (step R D st e .0 .wait)
+  step-noted : (b : OpenCalls R) (st : St) (e : Host R) → Noted (b 0) (st .wait) → Noted (open-after R b e (step R D st e .1) 0) (step R D st e .0 .wait)
   unfolding step
   step-noted b st e v = go (st .wait) refl e
     where
-      go : (x : Waits) → st .wait ≡ x → (e : Host R) → Noted (noted R b e (stepped R D x st e .1) 0) (stepped R D x st e .0 .wait)
+      go : (x : Waits) → st .wait ≡ x → (e : Host R) → Noted (open-after R b e (stepped R D x st e .1) 0) (stepped R D x st e .0 .wait)
       go none q (datagram d) = reads (parse d) refl
         where
-          reads : (y : Option Msg) → parse d ≡ y → Noted (noted R b (datagram d) (begin R D st y .1) 0) (begin R D st y .0 .wait)
+          reads : (y : Option Msg) → parse d ≡ y → Noted (open-after R b (datagram d) (begin R D st y .1) 0) (begin R D st y .0 .wait)
           reads none z = v
           reads (some m) z =
               let r = run R D (m .header) (m .subs) (st .tables) in
@@ -82,7 +82,7 @@ module _ (R : Rules) (D : Admission R) where
       go (some w) q (datagram d) = v
       go (some w) q (answer t a) = tagged (eqb t 0) refl
         where
-          tagged : (y : Bool) → eqb t 0 ≡ y → let r : Stepped R D = cond y (settle R D (continue R D w a (st .tables))) (refuse R D st 15) in Noted (noted R b (answer t a) (r .1) 0) (r .0 .wait)
+          tagged : (y : Bool) → eqb t 0 ≡ y → let r : Stepped R D = cond y (settle R D (continue R D w a (st .tables))) (refuse R D st 15) in Noted (open-after R b (answer t a) (r .1) 0) (r .0 .wait)
           tagged true z =
               let (m, p, h, k) = noted-some (b 0) w (rw q at v) in
               let r = continue R D w a (st .tables) in
@@ -105,7 +105,7 @@ module _ (R : Rules) (D : Admission R) where
   settled : (s : ℕ) (r : Ran R D) (m : Moved R) → Match R D s r m → m .in-turn ≡ true → Agree s (settle R D r) m
   settled s r m k t = record { sees = k .sees; says = k .says; asks = calls-is R D s (r .outs) (r .call) ∙ k .asks; turns = t }
 
-  step-live : (s : ℕ) (b : Book R) (st : St) (e : Host R) (l : Local) → Noted (b 0) (st .wait) → st .tables .at s ≡ some l → Follows R (reference R D) (view s) s b st e (step R D st e)
+  step-live : (s : ℕ) (b : OpenCalls R) (st : St) (e : Host R) (l : Local) → Noted (b 0) (st .wait) → st .tables .at s ≡ some l → Follows R (reference R D) (view s) s b st e (step R D st e)
   unfolding step
   step-live s b st e l v p = go (st .wait) refl e
     where
@@ -136,8 +136,8 @@ module _ (R : Rules) (D : Admission R) where
       go (some w) q (answer t a) = tagged (eqb t 0) refl
         where
           mine : (y : Bool) → eqb (w .header) s ≡ y
-              → Agree s (settle R D (continue R D w a (st .tables))) (take R (cond y (waiting l (w .pending) (ins R (w .rest))) (idle l)) (cond y (answered a) (submessages [])))
-          mine true z = settled s (continue R D w a (st .tables)) _ (continue-mine R D s w a (st .tables) l p (same (w .header) s z)) (resume-turns R D l (w .pending) a (ins R (w .rest)))
+              → Agree s (settle R D (continue R D w a (st .tables))) (take R (cond y (waiting l (w .pending) (but-clients R (w .rest))) (idle l)) (cond y (answered a) (submessages [])))
+          mine true z = settled s (continue R D w a (st .tables)) _ (continue-mine R D s w a (st .tables) l p (same (w .header) s z)) (resume-turns R D l (w .pending) a (but-clients R (w .rest)))
           mine false z = settled s (continue R D w a (st .tables)) _ (continue-other R D s w a (st .tables) l p z) refl
 
           tagged : (y : Bool) → eqb t 0 ≡ y → Goal (answer t a) (cond y (settle R D (continue R D w a (st .tables))) (refuse R D st 15))
@@ -154,13 +154,13 @@ module _ (R : Rules) (D : Admission R) where
   view-table s (some l) none = refl
   view-table s (some l) (some w) = go (eqb (w .header) s)
     where
-      go : (b : Bool) → table-of R (cond b (waiting l (w .pending) (ins R (w .rest))) (idle l)) ≡ some l
+      go : (b : Bool) → table-of R (cond b (waiting l (w .pending) (but-clients R (w .rest))) (idle l)) ≡ some l
       go true = refl
       go false = refl
 
   -- ---- the call that opens s
 
-  step-birth : (b : Book R) (st : St) (e : Host R) (s : ℕ) (o : Opened R s (works-on R b e .0) (step R D st e .1)) → Noted (b 0) (st .wait)
+  step-birth : (b : OpenCalls R) (st : St) (e : Host R) (s : ℕ) (o : Opened R s (works-on R b e .0) (step R D st e .1)) → Noted (b 0) (st .wait)
       → Agree s (step R D st e) (work R (start s (o .client)) (for-it R s (o .message .header) (o .behind)))
   unfolding step
   step-birth b st e s o v = go (st .wait) refl e (o .brings) (o .granted)
@@ -175,7 +175,7 @@ module _ (R : Rules) (D : Admission R) where
       Given x = x ≡ some (o .message)
 
       Gets : Stepped R D → Type 0
-      Gets r = opening R (o .number) (outs-of R (r .1)) ≡ some s
+      Gets r = status-at R (o .number) (outs-of R (r .1)) ≡ some s
 
       go : (x : Waits) → st .wait ≡ x → (e : Host R) → Given (works-on R b e .0) → Gets (stepped R D x st e) → Agree s (stepped R D x st e) m
       go none q (datagram d) g y = reads (parse d) g y
@@ -200,7 +200,7 @@ module _ (R : Rules) (D : Admission R) where
               let is : some n ≡ some (o .message) = sym n-is ∙ g′ in
               let same-message : n ≡ o .message = cc in
               let h′ : w .header ≡ o .message .header = rw same-message at h in
-              let k′ : (j : ℕ) → creating R j (o .message .subs) ≡ creating R j (w .rest) = rw same-message at k in
+              let k′ : (j : ℕ) → client-at R j (o .message .subs) ≡ client-at R j (w .rest) = rw same-message at k in
               settled s (continue R D w a (st .tables)) m
               (rw (← h′) (deliver-birth R D s (w .header) (w .rest) (o .number) (st .tables) (work R (start s (o .client)) (for-it R s (w .header) (o .behind)))
               (λ t′ q′. run-birth R D s (w .header) (w .rest) (o .number) (o .client) (o .behind) t′ (sym (k′ (o .number)) ∙ o .asks) q′) (st .tables .at (w .header)) (λ l. resume l (w .pending) a) y))
@@ -210,7 +210,7 @@ module _ (R : Rules) (D : Admission R) where
       go (some w) q (sweep now) g y = absurd (none-some y)
       go (some w) q other g y = absurd (none-some y)
 
-  step-born : (s : ℕ) (b : Book R) (st : St) (e : Host R) (l : Local) → Noted (b 0) (st .wait) → st .tables .at s ≡ none → step R D st e .0 .tables .at s ≡ some l
+  step-born : (s : ℕ) (b : OpenCalls R) (st : St) (e : Host R) (l : Local) → Noted (b 0) (st .wait) → st .tables .at s ≡ none → step R D st e .0 .tables .at s ≡ some l
       → Opened R s (works-on R b e .0) (step R D st e .1)
   unfolding step
   step-born s b st e l v p y = go (st .wait) refl e y

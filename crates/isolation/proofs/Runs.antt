@@ -7,8 +7,8 @@ use mathlib.Core.Option.{Option, none, some}
 use mathlib.Core.List.{List, [], _∷_, _++_, map}
 use lib.Dec.{eqb, T, eqb→eq, eqb-refl}
 use Rattle.isolation.specs.Rules.{Bytes, Outcome, done, calls, Sub, opens, names, Message, Rules, Out, opened, reply, Asked, ran}
-use Rattle.isolation.specs.Machine.{Machine, ended, idle, waiting, Deed, handles, resumes, Moved, still, on, work}
-use Rattle.isolation.specs.Claim.{past, ins, replies-of, calls-of, creating, opening}
+use Rattle.isolation.specs.Machine.{Machine, ended, idle, waiting, Action, handles, resumes, Moved, still, on, work}
+use Rattle.isolation.specs.Claim.{past, but-clients, replies-of, calls-of, client-at, status-at}
 use Rattle.isolation.proofs.Simulation.{none-some, for-it}
 use Rattle.isolation.proofs.Reference.{Admission, Tables, Wait, Ran, put, after, free, chosen, open-as, keep-as, tell, act, deliver, run, continue}
 
@@ -66,7 +66,7 @@ module _ (R : Rules) (D : Admission R) where
   abbrev pub seen : ℕ → Option Local → Option (Wait R D) → Machine R
   seen s none w = ended
   seen s (some l) none = idle l
-  seen s (some l) (some w) = cond (eqb (w .header) s) (waiting l (w .pending) (ins R (w .rest))) (idle l)
+  seen s (some l) (some w) = cond (eqb (w .header) s) (waiting l (w .pending) (but-clients R (w .rest))) (idle l)
 
   -- a run of the agent is, for session s, a move of the machine
   pub record Match (s : ℕ) (r : Ran R D) (m : Moved R) : Type 0 where
@@ -75,7 +75,7 @@ module _ (R : Rules) (D : Admission R) where
     pub asks : call-for s (r .call) ≡ m .calls
 
   -- what a machine works on comes in turn
-  on-turns : (d : Deed R) (x : Outcome Local Bytes Call Pending) (is : List In) → ((l : Local) → work R l is .in-turn ≡ true) → on R d x is (λ l. work R l is) .in-turn ≡ true
+  on-turns : (d : Action R) (x : Outcome Local Bytes Call Pending) (is : List In) → ((l : Local) → work R l is .in-turn ≡ true) → on R d x is (λ l. work R l is) .in-turn ≡ true
   on-turns d (done l rs) is k = k l
   on-turns d (calls l rs c p) is k = refl
 
@@ -135,13 +135,13 @@ module _ (R : Rules) (D : Admission R) where
   -- ---- a run, with s live
 
   act-mine : (s : ℕ) (ss : List (Sub Opening In)) (t : Tables R D)
-      → ((l : Local) → Match s (run R D s ss (keep-as R D s l t)) (work R l (ins R ss)))
-      → (d : Deed R) (x : Outcome Local Bytes Call Pending)
-      → Match s (act R D s ss t x (λ t′. run R D s ss t′)) (on R d x (ins R ss) (λ l. work R l (ins R ss)))
+      → ((l : Local) → Match s (run R D s ss (keep-as R D s l t)) (work R l (but-clients R ss)))
+      → (d : Action R) (x : Outcome Local Bytes Call Pending)
+      → Match s (act R D s ss t x (λ t′. run R D s ss t′)) (on R d x (but-clients R ss) (λ l. work R l (but-clients R ss)))
   act-mine s ss t k d (done l rs) = record { sees = k l .sees; says = replies-mine s rs _ ∙ ap (λ (z : List Bytes). rs ++ z) (k l .says); asks = k l .asks }
   act-mine s ss t k d (calls l rs c p) = record { sees = rw eqb-same (rw eqb-same); says = replies-mine-all s rs; asks = rw eqb-same }
 
-  run-mine : (s : ℕ) (ss : List (Sub Opening In)) (t : Tables R D) (l : Local) → t .at s ≡ some l → Match s (run R D s ss t) (work R l (ins R ss))
+  run-mine : (s : ℕ) (ss : List (Sub Opening In)) (t : Tables R D) (l : Local) → t .at s ≡ some l → Match s (run R D s ss t) (work R l (but-clients R ss))
   unfolding run
   run-mine s [] t l e = record { sees = rw e; says = refl; asks = refl }
   run-mine s (opens o ∷ ss) t l e =
@@ -174,13 +174,13 @@ module _ (R : Rules) (D : Admission R) where
   pub run-live : (s h : ℕ) (ss : List (Sub Opening In)) (t : Tables R D) (l : Local) → t .at s ≡ some l → Match s (run R D h ss t) (work R l (for-it R s h ss))
   run-live s h ss t l e = go (eqb h s) refl
     where
-      go : (b : Bool) → eqb h s ≡ b → Match s (run R D h ss t) (work R l (cond b (ins R ss) []))
+      go : (b : Bool) → eqb h s ≡ b → Match s (run R D h ss t) (work R l (cond b (but-clients R ss) []))
       go true p = rw (same h s p) (run-mine s ss t l e)
       go false p = run-other s h p ss t l e
 
   -- the answer to s's own open call, and to another's
   pub continue-mine : (s : ℕ) (w : Wait R D) (a : Ans) (t : Tables R D) (l : Local) → t .at s ≡ some l → w .header ≡ s
-      → Match s (continue R D w a t) (on R (resumes l (w .pending) a) (resume l (w .pending) a) (ins R (w .rest)) (λ l. work R l (ins R (w .rest))))
+      → Match s (continue R D w a t) (on R (resumes l (w .pending) a) (resume l (w .pending) a) (but-clients R (w .rest)) (λ l. work R l (but-clients R (w .rest))))
   continue-mine s w a t l e p =
       rw (p, e) (act-mine s (w .rest) t (λ l′. run-mine s (w .rest) (keep-as R D s l′ t) l′ (kept-mine s l′ t)) (resumes l (w .pending) a) (resume l (w .pending) a))
 
@@ -192,32 +192,32 @@ module _ (R : Rules) (D : Admission R) where
   -- ---- STATUSes
 
   -- the replies of sessions are passed over in the count of STATUSes
-  pub opening-past : (j h : ℕ) (rs : List Bytes) (os : List (Out R)) → opening R j (map (reply h) rs ++ os) ≡ opening R j os
+  pub opening-past : (j h : ℕ) (rs : List Bytes) (os : List (Out R)) → status-at R j (map (reply h) rs ++ os) ≡ status-at R j os
   opening-past zero h [] os = refl
   opening-past (suc j) h [] os = refl
   opening-past zero h (r ∷ rs) os = opening-past zero h rs os
   opening-past (suc j) h (r ∷ rs) os = opening-past (suc j) h rs os
 
-  pub opening-none : (j h : ℕ) (rs : List Bytes) → opening R j (map (reply h) rs) ≡ none
+  pub opening-none : (j h : ℕ) (rs : List Bytes) → status-at R j (map (reply h) rs) ≡ none
   opening-none zero h [] = refl
   opening-none (suc j) h [] = refl
   opening-none zero h (r ∷ rs) = opening-none zero h rs
   opening-none (suc j) h (r ∷ rs) = opening-none (suc j) h rs
 
   -- no CREATE_CLIENT opens an id that is live
-  never : (s h : ℕ) (ss : List (Sub Opening In)) (j : ℕ) (t : Tables R D) (l : Local) → t .at s ≡ some l → opening R j (run R D h ss t .outs) ≡ some s → ⊥
+  never : (s h : ℕ) (ss : List (Sub Opening In)) (j : ℕ) (t : Tables R D) (l : Local) → t .at s ≡ some l → status-at R j (run R D h ss t .outs) ≡ some s → ⊥
   unfolding run
   never s h [] j t l e p = none-some p
   never s h (opens o ∷ ss) zero t l e p = none-some (sym (chosen-is o t s p) ∙ e)
   never s h (opens o ∷ ss) (suc j) t l e p = never s h ss j (open-as R D o t (chosen R D o t)) l (opened-other o t s l e) p
   never s h (names i ∷ ss) j t l e p = go (λ t′ l e p. never s h ss j t′ l e p) (t .at h) p
     where
-      go : ((t′ : Tables R D) (l : Local) → t′ .at s ≡ some l → opening R j (run R D h ss t′ .outs) ≡ some s → ⊥)
-          → (x : Option Local) → opening R j (deliver R D h ss t x (λ l. handle l i) (λ t′. run R D h ss t′) .outs) ≡ some s → ⊥
+      go : ((t′ : Tables R D) (l : Local) → t′ .at s ≡ some l → status-at R j (run R D h ss t′ .outs) ≡ some s → ⊥)
+          → (x : Option Local) → status-at R j (deliver R D h ss t x (λ l. handle l i) (λ t′. run R D h ss t′) .outs) ≡ some s → ⊥
       go k none q = k t l e q
       go k (some l₀) q = acts (handle l₀ i) q
         where
-          acts : (x : Outcome Local Bytes Call Pending) → opening R j (act R D h ss t x (λ t′. run R D h ss t′) .outs) ≡ some s → ⊥
+          acts : (x : Outcome Local Bytes Call Pending) → status-at R j (act R D h ss t x (λ t′. run R D h ss t′) .outs) ≡ some s → ⊥
           acts (done l′ rs) q = let (l″, e″) = kept-live s h l l′ t e in k (keep-as R D h l′ t) l″ e″ (sym (opening-past j h rs _) ∙ q)
           acts (calls l′ rs c p) q = none-some (sym (opening-none j h rs) ∙ q)
 
@@ -225,18 +225,18 @@ module _ (R : Rules) (D : Admission R) where
 
   -- the rules at work before s is opened in the same call
   pub deliver-birth : (s h : ℕ) (ss : List (Sub Opening In)) (j : ℕ) (t : Tables R D) (m : Moved R)
-      → ((t′ : Tables R D) → opening R j (run R D h ss t′ .outs) ≡ some s → Match s (run R D h ss t′) m)
+      → ((t′ : Tables R D) → status-at R j (run R D h ss t′ .outs) ≡ some s → Match s (run R D h ss t′) m)
       → (x : Option Local) (f : Local → Outcome Local Bytes Call Pending)
-      → opening R j (deliver R D h ss t x f (λ t′. run R D h ss t′) .outs) ≡ some s
+      → status-at R j (deliver R D h ss t x f (λ t′. run R D h ss t′) .outs) ≡ some s
       → Match s (deliver R D h ss t x f (λ t′. run R D h ss t′)) m
   deliver-birth s h ss j t m k none f q = k t q
   deliver-birth s h ss j t m k (some l) f q = acts (f l) q
     where
-      acts : (x : Outcome Local Bytes Call Pending) → opening R j (act R D h ss t x (λ t′. run R D h ss t′) .outs) ≡ some s
+      acts : (x : Outcome Local Bytes Call Pending) → status-at R j (act R D h ss t x (λ t′. run R D h ss t′) .outs) ≡ some s
           → Match s (act R D h ss t x (λ t′. run R D h ss t′)) m
       acts (done l′ rs) q = apartness (eqb h s) refl
         where
-          q′ : opening R j (run R D h ss (keep-as R D h l′ t) .outs) ≡ some s
+          q′ : status-at R j (run R D h ss (keep-as R D h l′ t) .outs) ≡ some s
           q′ = sym (opening-past j h rs _) ∙ q
 
           apartness : (b : Bool) → eqb h s ≡ b → Match s (tell R D (map (reply h) rs) (run R D h ss (keep-as R D h l′ t))) m
@@ -245,7 +245,7 @@ module _ (R : Rules) (D : Admission R) where
       acts (calls l′ rs c p) q = absurd (none-some (sym (opening-none j h rs) ∙ q))
 
   pub run-birth : (s h : ℕ) (ss : List (Sub Opening In)) (j : ℕ) (o : Opening) (behind : List (Sub Opening In)) (t : Tables R D)
-      → creating R j ss ≡ some (o, behind) → opening R j (run R D h ss t .outs) ≡ some s
+      → client-at R j ss ≡ some (o, behind) → status-at R j (run R D h ss t .outs) ≡ some s
       → Match s (run R D h ss t) (work R (start s o) (for-it R s h behind))
   unfolding run
   run-birth s h [] j o behind t a q = absurd (none-some q)
@@ -264,11 +264,11 @@ module _ (R : Rules) (D : Admission R) where
 
   -- ---- what is left of a datagram, by the STATUSes given, has the CREATE_CLIENTs that wait behind the open call
 
-  creating-names : (j : ℕ) (i : In) (ss : List (Sub Opening In)) → creating R j (names i ∷ ss) ≡ creating R j ss
+  creating-names : (j : ℕ) (i : In) (ss : List (Sub Opening In)) → client-at R j (names i ∷ ss) ≡ client-at R j ss
   creating-names zero i ss = refl
   creating-names (suc j) i ss = refl
 
-  past-names : (os : List (Out R)) (i : In) (ss : List (Sub Opening In)) (j : ℕ) → creating R j (past R os (names i ∷ ss)) ≡ creating R j (past R os ss)
+  past-names : (os : List (Out R)) (i : In) (ss : List (Sub Opening In)) (j : ℕ) → client-at R j (past R os (names i ∷ ss)) ≡ client-at R j (past R os ss)
   past-names [] i ss j = creating-names j i ss
   past-names (opened x ∷ os) i ss j = refl
   past-names (reply h r ∷ os) i ss j = past-names os i ss j
@@ -286,7 +286,7 @@ module _ (R : Rules) (D : Admission R) where
   Leaves h ss os none none = Unit {0}
   Leaves h ss os none (some w) = ⊥
   Leaves h ss os (some a) none = ⊥
-  Leaves h ss os (some a) (some w) = (a .tag ≡ 0) × (w .header ≡ h) × ((j : ℕ) → creating R j (past R os ss) ≡ creating R j (w .rest))
+  Leaves h ss os (some a) (some w) = (a .tag ≡ 0) × (w .header ≡ h) × ((j : ℕ) → client-at R j (past R os ss) ≡ client-at R j (w .rest))
 
   -- behind a submessage that is not a CREATE_CLIENT
   leaves-names : (h : ℕ) (i : In) (ss : List (Sub Opening In)) (os : List (Out R)) (c : Option (Asked R)) (w : Option (Wait R D)) → Leaves h ss os c w → Leaves h (names i ∷ ss) os c w

@@ -9,7 +9,7 @@ use mathlib.Core.List.{List, [], _∷_, _++_, List·Memᴰ, List·Memᴰ·head, 
 use lib.ListN.{length}
 use lib.Dec.{eqb, leb, ltb}
 use Rattle.isolation.specs.Rules.{Bytes, Outcome, done, calls, Message, Rules, Host, datagram, answer, removal, sweep, other, Out, opened, reply, Result, refused}
-use Rattle.isolation.specs.Machine.{Deed, handles, resumes, Handles}
+use Rattle.isolation.specs.Machine.{Action, handles, resumes, Handles}
 use Rattle.isolation.specs.Claim.{Agent, outs-of, Term3}
 use Rattle.isolation.proofs.Simulation.{none-some}
 use Rattle.isolation.proofs.Reference.{Admission, Wait, State, reference}
@@ -129,7 +129,7 @@ module _ (timeout : ℕ) where
   abbrev R : Rules
   R = small timeout
 
-  abbrev began : Deed R → Local
+  abbrev began : Action R → Local
   began (handles l i) = l
   began (resumes l p a) = after-answer l p a
 
@@ -225,7 +225,7 @@ module _ (timeout : ℕ) where
     small-step st e = cond (of-another-kind (st .wait) (e .0)) (st, refused 15) (fits st (e .1) (B .step st (e .0)))
 
     abbrev pub small-agent : Agent R
-    small-agent = record { State = State R D; Event = Host R × ℕ; empty = B .empty; table = B .table; step = small-step; meant = λ st e. e .0 }
+    small-agent = record { State = State R D; Event = Host R × ℕ; empty = B .empty; table = B .table; step = small-step; host-call = λ st e. e .0 }
 
     goes-or-stops : (st : State R D) (e : Host R × ℕ) (r : State R D × Result R) → small-step st e ≡ r → (r ≡ B .step st (e .0)) ⊎ ((n : ℕ) × (r ≡ (st, refused n))) → InStep R small-agent B (λ st. st) st e
     goes-or-stops st e r p (inl q) = goes (e .0) refl (rw (p, q)) (rw (p, q))
