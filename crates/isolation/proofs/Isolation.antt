@@ -25,7 +25,7 @@ module _ (R : Rules) (D : Admission R) where
   abbrev Msg : Type 0
   Msg = Message Opening In
 
-  -- ---- the book has the open call
+  -- ---- the open calls of the claim are the agent's own
 
   Noted : Option Msg → Waits → Type 0
   Noted none none = Unit {0}
@@ -53,7 +53,7 @@ module _ (R : Rules) (D : Admission R) where
   past-same (opened x ∷ os) xs ys h j = past-same os (behind-client R xs) (behind-client R ys) (λ j. behind-is j xs ∙ h (suc j) ∙ sym (behind-is j ys)) j
   past-same (reply g r ∷ os) xs ys h j = past-same os xs ys h j
 
-  -- after a run of what is like the datagram m, the book has the call that it left open
+  -- after a run of what is like the datagram m, the open calls have the one that it left open
   ran-noted : (b : OpenCalls R) (c : Host R) (m : Msg) → works-on R b c .0 ≡ some m → works-on R b c .1 0 ≡ none
       → (h : ℕ) (ss : List (Sub Opening In)) → h ≡ m .header → ((j : ℕ) → client-at R j (m .subs) ≡ client-at R j ss)
       → (os : List (Out R)) (x : Option (Asked R)) (w : Waits) → Leaves R D h ss os x w → Noted (open-after R b c (ran os x) 0) w
@@ -124,13 +124,16 @@ module _ (R : Rules) (D : Admission R) where
       go none q (removal i) = moves refl (rw (p, q) (hits (eqb i s) refl))
         where
           hits : (y : Bool) → eqb i s ≡ y → Agree s (stepped R D none st (removal i)) (take R (idle l) (cond y removal-of-it (submessages [])))
-          hits true z = let z′ : eqb s i ≡ true = rw (same i s z) (eqb-same s) in record { sees = rw z′; says = refl; asks = refl; turns = refl }
-          hits false z = record { sees = rw (apart i s z, p); says = refl; asks = refl; turns = refl }
-      go none q (sweep now) = moves refl (rw (p, q) (record { sees = ends (expired l now) refl; says = refl; asks = refl; turns = refl }))
+          hits true z =
+              let it : eqb s i ≡ true = rw (same i s z) (eqb-same s) in
+              record { sees = ap (λ (y : Bool). seen R D s (cond y none (st .tables .at s)) none) it; says = refl; asks = refl; turns = refl }
+          hits false z =
+              record { sees = ap (λ (y : Bool). seen R D s (cond y none (st .tables .at s)) none) (apart i s z) ∙ ap (λ (x : Option Local). seen R D s x none) p; says = refl; asks = refl; turns = refl }
+      go none q (sweep now) = moves refl (rw (p, q) (record { sees = ap (λ (x : Option Local). seen R D s (stays R D now x) none) p ∙ ends (expired l now); says = refl; asks = refl; turns = refl }))
         where
-          ends : (y : Bool) → expired l now ≡ y → seen R D s (stays R D now (st .tables .at s)) none ≡ cond y ended (idle l)
-          ends true z = rw (p, z)
-          ends false z = rw (p, z)
+          ends : (y : Bool) → seen R D s (cond y none (some l)) none ≡ cond y ended (idle l)
+          ends true = refl
+          ends false = refl
       go none q other = refuses 15 refl refl
       go (some w) q (datagram d) = refuses 15 refl refl
       go (some w) q (answer t a) = tagged (eqb t 0) refl
@@ -143,7 +146,9 @@ module _ (R : Rules) (D : Admission R) where
           tagged : (y : Bool) → eqb t 0 ≡ y → Goal (answer t a) (cond y (settle R D (continue R D w a (st .tables))) (refuse R D st 15))
           tagged true z =
               let (m, n, h, k) = noted-some (b 0) w (rw q at v) in
-              moves refl (rw (same t 0 z, n, p, q, ← h) (mine (eqb (w .header) s) refl))
+              let own : feed-of R s b (answer t a) ≡ cond (eqb (w .header) s) (answered a) (submessages []) =
+              ap (λ (u : ℕ). if-names R s (b u) (λ ss. answered a)) (same t 0 z) ∙ ap (λ (x : Option Msg). if-names R s x (λ ss. answered a)) n ∙ ap (λ (g : ℕ). cond {A = Feed R} (eqb g s) (answered a) (submessages [])) (sym h) in
+              moves refl (rw (own, p, q) (mine (eqb (w .header) s) refl))
           tagged false z = refuses 15 refl refl
       go (some w) q (removal i) = refuses 15 refl refl
       go (some w) q (sweep now) = refuses 15 refl refl

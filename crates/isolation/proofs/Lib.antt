@@ -6,6 +6,6 @@ pub mod Isolation
 pub mod Provenance
 pub mod Theorem
 pub mod Refine
-pub mod Ids
+pub mod Range
 pub mod Small
 pub mod Example

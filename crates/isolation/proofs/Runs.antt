@@ -141,13 +141,19 @@ module _ (R : Rules) (D : Admission R) where
   act-mine s ss t k d (done l rs) = record { sees = k l .sees; says = replies-mine s rs _ ∙ ap (λ (z : List Bytes). rs ++ z) (k l .says); asks = k l .asks }
   act-mine s ss t k d (calls l rs c p) = record { sees = rw eqb-same (rw eqb-same); says = replies-mine-all s rs; asks = rw eqb-same }
 
+  deliver-mine : (s h : ℕ) → h ≡ s → (ss : List (Sub Opening In)) (t : Tables R D) (l : Local) → t .at s ≡ some l
+      → ((l : Local) → Match s (run R D s ss (keep-as R D s l t)) (work R l (but-clients R ss)))
+      → (d : Action R) (f : Local → Outcome Local Bytes Call Pending)
+      → Match s (deliver R D h ss t (t .at h) f (λ t′. run R D h ss t′)) (on R d (f l) (but-clients R ss) (λ l. work R l (but-clients R ss)))
+  deliver-mine s h p ss t l e k d f = rw (p, e) (act-mine s ss t k d (f l))
+
   run-mine : (s : ℕ) (ss : List (Sub Opening In)) (t : Tables R D) (l : Local) → t .at s ≡ some l → Match s (run R D s ss t) (work R l (but-clients R ss))
   unfolding run
   run-mine s [] t l e = record { sees = rw e; says = refl; asks = refl }
   run-mine s (opens o ∷ ss) t l e =
       let m = run-mine s ss (open-as R D o t (chosen R D o t)) l (opened-other o t s l e) in
       record { sees = m .sees; says = m .says; asks = m .asks }
-  run-mine s (names i ∷ ss) t l e = rw e (act-mine s ss t (λ l′. run-mine s ss (keep-as R D s l′ t) l′ (kept-mine s l′ t)) (handles l i) (handle l i))
+  run-mine s (names i ∷ ss) t l e = deliver-mine s s refl ss t l e (λ l′. run-mine s ss (keep-as R D s l′ t) l′ (kept-mine s l′ t)) (handles l i) (λ l. handle l i)
 
   -- the rules at work on another session
   deliver-other : (s h : ℕ) → eqb h s ≡ false → (ss : List (Sub Opening In)) (t : Tables R D) (l : Local) → t .at s ≡ some l
@@ -182,7 +188,7 @@ module _ (R : Rules) (D : Admission R) where
   pub continue-mine : (s : ℕ) (w : Wait R D) (a : Ans) (t : Tables R D) (l : Local) → t .at s ≡ some l → w .header ≡ s
       → Match s (continue R D w a t) (on R (resumes l (w .pending) a) (resume l (w .pending) a) (but-clients R (w .rest)) (λ l. work R l (but-clients R (w .rest))))
   continue-mine s w a t l e p =
-      rw (p, e) (act-mine s (w .rest) t (λ l′. run-mine s (w .rest) (keep-as R D s l′ t) l′ (kept-mine s l′ t)) (resumes l (w .pending) a) (resume l (w .pending) a))
+      deliver-mine s (w .header) p (w .rest) t l e (λ l′. run-mine s (w .rest) (keep-as R D s l′ t) l′ (kept-mine s l′ t)) (resumes l (w .pending) a) (λ l. resume l (w .pending) a)
 
   pub continue-other : (s : ℕ) (w : Wait R D) (a : Ans) (t : Tables R D) (l : Local) → t .at s ≡ some l → eqb (w .header) s ≡ false
       → Match s (continue R D w a t) (still R true (idle l))

@@ -148,7 +148,7 @@ module _ (R : Rules) where
           let v : Inv (p .open-calls) (p .state) = inv-reached (S .before) (set-up R A) inv-empty in
           let o : Opened (S .id) (works-on R (p .open-calls) (host-call (p .state) (S .call)) .0) (step (p .state) (S .call) .1) =
           record { message = S .message; number = S .number; client = S .client; behind = S .behind; brings = S .brings; asks = S .asks; granted = S .granted } in
-          rw (for-is (S .id) (S .message .header) (S .behind))
+          subst (λ (f : Feed R). Same (idle (start (S .id) (S .client))) (f ∷ feeds R A (S .id) (next R A p (S .call)) (S .later)) (of-agent R A S)) (sym (for-is (S .id) (S .message .header) (S .behind)))
           (same-more (view (S .id)) (S .id) (step (p .state) (S .call)) (idle (start (S .id) (S .client))) (submessages (for-it (S .id) (S .message .header) (S .behind)))
           (feeds R A (S .id) (next R A p (S .call)) (S .later)) (until R A (table (next R A p (S .call) .state) (S .id)) (agent-trace R A (S .id) (next R A p (S .call)) (S .later)))
           (birth (p .open-calls) (p .state) (S .call) (S .id) o v)
