@@ -11,23 +11,23 @@ use Rattle.isolation.proofs.Reference.{run, step, ids, live, free, chos
 use Rattle.isolation.proofs.Small.{small, small-agent, Handle, bridge, Local, In, Act, create, write, beat, rebuilt, Call, make, put, Ans, made, finished}
 
 -- a timeout of 1,000; ids 1 to 3; at most 3 sessions
-abbrev R : Rules
+abbrev pub R : Rules
 R = small 1000
 
-abbrev A : Agent R
+abbrev pub A : Agent R
 A = small-agent 1000 3 3
 
-abbrev Event : Type 0
+abbrev pub Event : Type 0
 Event = Host R × ℕ
 
-abbrev client : ℕ → ℕ → Sub (ℕ × ℕ) In
+abbrev pub client : ℕ → ℕ → Sub (ℕ × ℕ) In
 client key time = opens (key, time)
 
 abbrev at : ℕ → Act → Sub (ℕ × ℕ) In
 at time a = names (record { time = time; act = a })
 
 -- a datagram under a header, and an answer, each with room for 64 bytes
-abbrev to : ℕ → List (Sub (ℕ × ℕ) In) → Event
+abbrev pub to : ℕ → List (Sub (ℕ × ℕ) In) → Event
 to h ss = (datagram (some (record { header = h; subs = ss })), 64)
 
 abbrev gets : Ans → Event
@@ -37,7 +37,7 @@ abbrev results : A .State → List Event → List (Result R)
 results st [] = []
 results st (e ∷ H) = A .step st e .1 ∷ results (A .step st e .0) H
 
-abbrev opens₁ : List Event
+abbrev pub opens₁ : List Event
 opens₁ = to 0 (client 7 100 ∷ []) ∷ []
 
 abbrev opens₂ : List (Sub (ℕ × ℕ) In)

@@ -7,8 +7,8 @@ use mathlib.Core.List.{List, [], _∷_, _++_}
 use lib.Dec.{eqb}
 use Rattle.isolation.specs.Rules.{Sub, opens, names, Message, Rules, Host, datagram, answer, removal, sweep, other, Out, opened, reply, Asked, Result, refused, ran}
 use Rattle.isolation.specs.Machine.{Machine, ended, idle, waiting, Feed, submessages, answered, swept-at, removal-of-it, Moved, still, work, take, table-of}
-use Rattle.isolation.specs.Claim.{OpenCalls, update, works-on, behind-client, past, open-after, but-clients, if-names, feed-of, outs-of, replies-of, calls-of, client-at, status-at, Isolated}
-use Rattle.isolation.proofs.Simulation.{none-some, for-it, for-is, Silent, Opened, Agrees, Follows, refuses, moves, Simulates, isolated-of}
+use Rattle.isolation.specs.Claim.{OpenCalls, update, works-on, behind-client, past, open-after, but-clients, if-names, feed-of, outs-of, replies-of, calls-of, client-at, status-at}
+use Rattle.isolation.proofs.Simulation.{none-some, for-it, for-is, Silent, Opened, Agrees, Follows, refuses, moves, Simulates}
 use Rattle.isolation.proofs.Reference.{Admission, Wait, State, Ran, put, run, continue, Stepped, refuse, settle, begin, stays, with-sessions, stepped, step, empty, reference}
 use Rattle.isolation.proofs.Runs.{eqb-same, same, apart, calls-is, seen, Match, work-turns, resume-turns, run-live, continue-mine, continue-other, run-birth, deliver-birth, Leaves, run-leaves, deliver-leaves}
 use Rattle.isolation.proofs.Coverage.{Born, deliver-born, run-born, Quiet, deliver-quiet, run-quiet}
@@ -289,7 +289,7 @@ module _ (R : Rules) (D : Admission R) where
       go (some w) (sweep now) q = nothing 15
       go (some w) other q = nothing 15
 
-  -- ---- the theorem
+  -- ---- together
 
   pub simulates : Simulates R (reference R D)
   unfolding Noted
@@ -306,6 +306,3 @@ module _ (R : Rules) (D : Admission R) where
     born = step-born;
     silent = λ s b st e v q. step-silent s st e q;
   }
-
-  pub isolation : (H : List (Host R)) → Isolated R (reference R D) H
-  isolation = isolated-of R (reference R D) simulates

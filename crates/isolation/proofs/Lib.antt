@@ -9,3 +9,4 @@ pub mod Refine
 pub mod Range
 pub mod Small
 pub mod Example
+pub mod Frauds

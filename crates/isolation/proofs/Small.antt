@@ -14,10 +14,9 @@ use Rattle.isolation.specs.Claim.{Agent, outs-of, Term3}
 use Rattle.isolation.proofs.Simulation.{none-some}
 use Rattle.isolation.proofs.Reference.{Admission, Wait, State, reference}
 use Rattle.isolation.proofs.Runs.{same}
-use Rattle.isolation.proofs.Isolation.{simulates}
 use Rattle.isolation.proofs.Provenance.{Within, Fair, Honest}
 use Rattle.isolation.proofs.Theorem.{term3-of}
-use Rattle.isolation.proofs.Refine.{InStep, stops, goes, Refines, refined}
+use Rattle.isolation.proofs.Refine.{InStep, stops, goes, Refines}
 
 -- ---- the rules
 
@@ -190,7 +189,7 @@ module _ (timeout : ℕ) where
   -- ---- an agent: at most max-clients sessions, ids up to top; a call brings the room that the host lends
 
   module _ (top max-clients : ℕ) where
-    abbrev D : Admission R
+    abbrev pub D : Admission R
     D = record { top = top; admits = λ ls o. ltb (length ls) max-clients }
 
     abbrev B : Agent R
@@ -243,4 +242,4 @@ module _ (timeout : ℕ) where
     small-refines = record { Inv = λ st. Unit {0}; inv-empty = tt; inv-step = λ st e v. tt; abs = λ st. st; abs-empty = refl; abs-table = λ s st. refl; in-step = λ st e v. in-step st e }
 
     pub small-term3 : Term3 R small-agent small-handles
-    small-term3 = term3-of R small-handles small-honest small-agent (refined R small-agent B small-refines (simulates R D))
+    small-term3 = term3-of R small-handles small-honest D small-agent small-refines
