@@ -6,7 +6,7 @@ use mathlib.Core.Option.{Option, none, some}
 use mathlib.Core.List.{List, [], _∷_, _++_}
 use Rattle.isolation.specs.Rules.{Sub, opens, names, Message, Rules, Host, datagram, answer, removal, sweep, opened, reply, Asked, Result, refused, ran}
 use Rattle.isolation.specs.Machine.{Trace, trace}
-use Rattle.isolation.specs.Claim.{Agent, Session, of-agent, of-machine}
+use Rattle.isolation.specs.Claim.{Agent, works-on, outs-of, client-at, status-at, set-up, reached, Session, of-agent, of-machine}
 use Rattle.isolation.proofs.Reference.{run, step, ids, live, free, chosen}
 use Rattle.isolation.proofs.Small.{small, small-agent, Handle, bridge, Local, In, Act, create, write, beat, rebuilt, Call, make, put, Ans, made, finished}
 
@@ -61,8 +61,14 @@ ends = (sweep 1500, 0) ∷ to 1 (at 1500 beat ∷ []) ∷ []
 abbrev last : List Event
 last = to 1 (at 1600 (write 5) ∷ []) ∷ (removal 2, 0) ∷ []
 
+abbrev after₃ : List Event
+after₃ = ends ++ (to 0 (client 10 1500 ∷ []) ∷ last)
+
+abbrev after₂ : List Event
+after₂ = traffic ++ (gets finished ∷ after₃)
+
 abbrev H : List Event
-H = opens₁ ++ (to 2 opens₂ ∷ (traffic ++ (gets finished ∷ (ends ++ (to 0 (client 10 1500 ∷ []) ∷ last)))))
+H = opens₁ ++ (to 2 opens₂ ∷ after₂)
 
 abbrev asks : ℕ → Call → Option (Asked R)
 asks s c = some (record { tag = 0; session = s; call = c })
@@ -90,84 +96,40 @@ answers = refl
 
 -- ---- the sessions opened in H
 
+-- opened by the first CREATE_CLIENT of the message that a call works on
+unfoldable pub opened-by : (A : Agent R) (before : List (A .Event)) (call : A .Event) (later : List (A .Event)) (m : Message (ℕ × ℕ) In) (o : ℕ × ℕ) (behind : List (Sub (ℕ × ℕ) In)) (id : ℕ)
+    → let p = reached R A (set-up R A) before in
+    works-on R (p .open-calls) (A .host-call (p .state) call) .0 ≡ some m → client-at R 0 (m .subs) ≡ some (o, behind) → status-at R 0 (outs-of R (A .step (p .state) call .1)) ≡ some id
+    → Session R A (before ++ call ∷ later)
+opened-by A before call later m o behind id b c g =
+    record { before = before; call = call; later = later; whole = refl; message = m; number = 0; client = o; behind = behind; id = id; brings = b; asks = c; granted = g }
+
 first : Session R A H
 unfolding run step ids live free chosen
-first = record {
-  before = [];
-  call = to 0 (client 7 100 ∷ []);
-  later = to 2 opens₂ ∷ (traffic ++ (gets finished ∷ (ends ++ (to 0 (client 10 1500 ∷ []) ∷ last))));
-  whole = refl;
-  message = record { header = 0; subs = client 7 100 ∷ [] };
-  number = 0;
-  client = (7, 100);
-  behind = [];
-  id = 1;
-  brings = refl;
-  asks = refl;
-  granted = refl;
-}
+first = opened-by A [] (to 0 (client 7 100 ∷ [])) (to 2 opens₂ ∷ after₂) (record { header = 0; subs = client 7 100 ∷ [] }) (7, 100) [] 1 refl refl refl
 
 -- what stands before its CREATE_CLIENT is not for it, and what stands behind it is
 second : Session R A H
 unfolding run step ids live free chosen
-second = record {
-  before = opens₁;
-  call = to 2 opens₂;
-  later = traffic ++ (gets finished ∷ (ends ++ (to 0 (client 10 1500 ∷ []) ∷ last)));
-  whole = refl;
-  message = record { header = 2; subs = opens₂ };
-  number = 0;
-  client = (8, 100);
-  behind = at 100 beat ∷ [];
-  id = 2;
-  brings = refl;
-  asks = refl;
-  granted = refl;
-}
+second = opened-by A opens₁ (to 2 opens₂) after₂ (record { header = 2; subs = opens₂ }) (8, 100) (at 100 beat ∷ []) 2 refl refl refl
 
 -- opened by the call that brings an answer
 third : Session R A H
 unfolding run step ids live free chosen
-third = record {
-  before = opens₁ ++ (to 2 opens₂ ∷ traffic);
-  call = gets finished;
-  later = ends ++ (to 0 (client 10 1500 ∷ []) ∷ last);
-  whole = refl;
-  message = record { header = 2; subs = at 950 (rebuilt 6) ∷ client 9 950 ∷ [] };
-  number = 0;
-  client = (9, 950);
-  behind = [];
-  id = 3;
-  brings = refl;
-  asks = refl;
-  granted = refl;
-}
+third = opened-by A (opens₁ ++ (to 2 opens₂ ∷ traffic)) (gets finished) after₃ (record { header = 2; subs = at 950 (rebuilt 6) ∷ client 9 950 ∷ [] }) (9, 950) [] 3 refl refl refl
 
 -- the first one's id again
 fourth : Session R A H
 unfolding run step ids live free chosen
-fourth = record {
-  before = opens₁ ++ (to 2 opens₂ ∷ (traffic ++ (gets finished ∷ ends)));
-  call = to 0 (client 10 1500 ∷ []);
-  later = last;
-  whole = refl;
-  message = record { header = 0; subs = client 10 1500 ∷ [] };
-  number = 0;
-  client = (10, 1500);
-  behind = [];
-  id = 1;
-  brings = refl;
-  asks = refl;
-  granted = refl;
-}
+fourth = opened-by A (opens₁ ++ (to 2 opens₂ ∷ (traffic ++ (gets finished ∷ ends)))) (to 0 (client 10 1500 ∷ [])) last (record { header = 0; subs = client 10 1500 ∷ [] }) (10, 1500) [] 1 refl refl refl
 
--- ---- their trails, of the agent and of the machine
+-- ---- their traces, of the agent and of the machine
 
 Both : Session R A H → Trace R → Type 0
 Both S t = (of-agent R A S ≡ t) × (trace R (of-machine R A S) ≡ t)
 
 first-trace : Both first (record { calls = make ∷ []; replies = (1 ∷ 0 ∷ []) ∷ (1 ∷ 5 ∷ []) ∷ (1 ∷ 6 ∷ []) ∷ []; table = none })
-unfolding Both first run step ids live free chosen
+unfolding Both opened-by first run step ids live free chosen
 first-trace = (refl, refl)
 
 second-trace : Both second (record {
@@ -175,13 +137,13 @@ second-trace : Both second (record {
   replies = (2 ∷ 5 ∷ []) ∷ (2 ∷ 6 ∷ []) ∷ (2 ∷ 1 ∷ []) ∷ (2 ∷ 0 ∷ []) ∷ (2 ∷ 0 ∷ []) ∷ [];
   table = none;
 })
-unfolding Both second run step ids live free chosen
+unfolding Both opened-by second run step ids live free chosen
 second-trace = (refl, refl)
 
 third-trace : Both third (record { calls = []; replies = []; table = some (record { id = 3; key = 9; activity = 950; objects = [] }) })
-unfolding Both third run step ids live free chosen
+unfolding Both opened-by third run step ids live free chosen
 third-trace = (refl, refl)
 
 fourth-trace : Both fourth (record { calls = []; replies = (1 ∷ 1 ∷ []) ∷ []; table = some (record { id = 1; key = 10; activity = 1600; objects = [] }) })
-unfolding Both fourth run step ids live free chosen
+unfolding Both opened-by fourth run step ids live free chosen
 fourth-trace = (refl, refl)

@@ -11,7 +11,7 @@ use Rattle.isolation.specs.Claim.{Agent, works-on, set-up, reached, Sess
 use Rattle.isolation.proofs.Simulation.{none-some}
 use Rattle.isolation.proofs.Reference.{State, put, run, step, ids, live, free, chosen}
 use Rattle.isolation.proofs.Small.{small, small-agent, D, Local}
-use Rattle.isolation.proofs.Example.{R, A, Event, client, to, opens₁}
+use Rattle.isolation.proofs.Example.{R, A, Event, client, to, opens₁, opened-by}
 
 abbrev St : Type 0
 St = State R (D 1000 3 3)
@@ -31,27 +31,14 @@ touching = spoilt (λ r. (record { tables = record { next = r .0 .tables .next; 
 
 opener : Session R touching opens₁
 unfolding run step ids live free chosen
-opener = record {
-  before = [];
-  call = to 0 (client 7 100 ∷ []);
-  later = [];
-  whole = refl;
-  message = record { header = 0; subs = client 7 100 ∷ [] };
-  number = 0;
-  client = (7, 100);
-  behind = [];
-  id = 1;
-  brings = refl;
-  asks = refl;
-  granted = refl;
-}
+opener = opened-by touching [] (to 0 (client 7 100 ∷ [])) [] (record { header = 0; subs = client 7 100 ∷ [] }) (7, 100) [] 1 refl refl refl
 
 abbrev activity : Option Local → ℕ
 activity none = 0
 activity (some l) = l .activity
 
 touching-refuted : Isolated R touching opens₁ → ⊥
-unfolding opener run step ids live free chosen
+unfolding opener opened-by run step ids live free chosen
 touching-refuted isolated = let e : _≡_ {A = ℕ} 999 100 = ap (λ (t : Trace R). activity (t .table)) (isolated .alone opener) in omega arith
 
 -- ---- every call has a reply for id 3
