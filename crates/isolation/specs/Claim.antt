@@ -120,7 +120,7 @@ module _ (R : Rules) where
     reached p (e ∷ H) = reached (next p e) H
 
     -- A session opened in H. Ids are used again, so it is named by the call and the CREATE_CLIENT that opened it: the call, behind
-    -- those before it, works on a datagram; CREATE_CLIENT number j of that is answered in the call by STATUS number j with the id.
+    -- those before it, works on a datagram, whose CREATE_CLIENT of this number is answered in the call by the STATUS of this number, with the id.
     pub record Session (H : List Event) : Type 0 where
       pub before : List Event
       pub call : Event
@@ -166,7 +166,7 @@ module _ (R : Rules) where
     pub record Isolated (H : List Event) : Type 0 where
       -- Each session opened in H behaves as the machine fed alone; "every beginning of H is such a list too", so after each call.
       pub alone : (S : Session H) → of-agent S ≡ trace R (of-machine S)
-      -- That was fed "in order; while its call is open, only the answer".
+      -- The machine was fed so: "in order; while its call is open, only the answer".
       pub in-turn : (S : Session H) → of-machine S .in-turn ≡ true
       -- No session escapes: what is live after H is a session opened in H, followed to the end of H.
       pub covered : (s : ℕ) (l : Local) → table (reached set-up H .state) s ≡ some l → (S : Session H) × (S .id ≡ s) × (of-agent S .table ≡ some l)
