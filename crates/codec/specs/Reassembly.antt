@@ -52,7 +52,8 @@ grown received held = cond (isFree held) (received + 1) received
 unfoldable pub slotOver : ReassemblyBuffer → ℕ → Bool
 slotOver b held = isPast (b .width) held || ltb (b .«total_fragments») (grown (b .«received_count») held)
 
--- 16, then "a store checks 10 before 14": "fragment number not below total", "body over its slot"
+-- 16, then "a store checks 10 before 14": "fragment number not below total", "body over its slot". A number not below the total has no
+-- slot whose entry 16 could look at.
 unfoldable pub insertCheck : ReassemblyBuffer → ℕ → ℕ → ℕ → ℕ → ℕ → Check
 insertCheck b slots lengths held nr len =
     cond (storeOver b slots lengths) (check.Refused OverLimit)
@@ -90,7 +91,7 @@ insertSlots b slots lengths nr body = changedIf (checkOf b slots lengths nr body
 unfoldable pub insertLengths : ReassemblyBuffer → List ℕ → List ℕ → ℕ → List ℕ → List ℕ
 insertLengths b slots lengths nr body = changedIf (checkOf b slots lengths nr body) lengths (set lengths nr (length body + 1))
 
--- whether the fragment of that number is held
+-- whether the fragment of that number is held: none is where the number isn't below the total, or the lengths end before it
 unfoldable pub hasFragment : ReassemblyBuffer → List ℕ → ℕ → Bool
 hasFragment b lengths nr = ltb nr (b .«total_fragments») && not (isFree (getD lengths nr 0))
 

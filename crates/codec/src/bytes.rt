@@ -2,6 +2,7 @@
 use crate::refusals::Refusal;
 ghost use mathlib.Core.Path.{_≡_};
 ghost use Prim.Native.Nat.{_+_, _≤_};
+ghost use lib.Dec.{leb};
 ghost use lib.ListN.{length};
 ghost use Rattle.codec.specs.Bytes.{wordAt, le16, putAt, putOf, putBytes};
 
@@ -40,17 +41,24 @@ pub(crate) fn copy_in(out: &mut [u8], at: usize, src: &[u8])
     }
 }
 
+// Whether `n` bytes from `at` on lie within `room` bytes.
+pub(crate) fn fits(room: usize, at: usize, n: usize) -> bool
+    ensures { λ r. ⌜ r ≡ leb (at + n) room ⌝ }
+{
+    if room < at {
+        return false;
+    }
+    n <= room - at
+}
+
 // Writes `src` from `at` on, or refuses as 13 and writes nothing.
 pub fn put_bytes(out: &mut [u8], at: usize, src: &[u8]) -> Written
     ensures { λ r. ⌜ (r ≡ putOf (now (out .entry)) at (now (src .entry)))
         × (now (out .exit) ≡ putBytes (now (out .entry)) at (now (src .entry))) ⌝ }
 {
-    if out.len() < at {
-        return Written::Refused(Refusal::OutputTooShort);
+    if fits(out.len(), at, src.len()) {
+        copy_in(out, at, src);
+        return Written::Bytes(src.len());
     }
-    if out.len() - at < src.len() {
-        return Written::Refused(Refusal::OutputTooShort);
-    }
-    copy_in(out, at, src);
-    Written::Bytes(src.len())
+    Written::Refused(Refusal::OutputTooShort)
 }

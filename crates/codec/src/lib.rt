@@ -1,6 +1,11 @@
 // The wire of protocol.rs: what a datagram says, how one is written, strings and fragments.
 pub mod bytes;
 pub mod cutting;
+pub mod header;
+pub mod layouts;
+pub mod reading;
 pub mod reassembly;
 pub mod refusals;
+pub mod strings;
 pub mod submessages;
+pub mod writing;

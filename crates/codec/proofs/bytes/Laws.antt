@@ -1,16 +1,19 @@
 -- Laws of `wordAt`, `le16` and `putAt`.
-use Prim.Native.Nat.{ℕ, suc, _+_, _≤_, _<_, _/_, _%_}
+use Prim.Native.Nat.{ℕ, zero, suc, _+_, _-_, _≤_, _<_, _/_, _%_}
 use mathlib.Core.Path.{_≡_, refl, sym, ap, _∙_}
 use mathlib.Core.List.{List, [], _∷_, _++_, append-assoc, append-nil}
 use native.Mathlib.Numerals.{add-one}
+use native.Mathlib.Nat.{not-suc-le-zero, le-of-suc-le-suc, add-zero}
 use native.Mathlib.Omega.{arith}
-use lib.ListN.{length, take, drop, set, length-append, length-take, length-drop, take-append-drop}
-use lib.Seq.{sets, sets-eq, paste, take-length, length-take-le, take-at, drop-append-add, drop-drop}
-use native.Mathlib.Nat.{add-assoc, add-zero}
-use borrow.Author.Tests.{lt-ltb, le-ltb}
-use Rattle.codec.specs.Bytes.{putAt, putOf, putBytes, le16}
+use lib.ListN.{getD, length, take, drop, set, length-append, length-drop, take-append-drop}
+use lib.Seq.{sets, sets-eq, paste, take-length, length-take-le, take-at, drop-at, drop-drop}
+use mathlib.Core.Bool.{Bool, true, false}
+use native.Mathlib.Decide.{decLe}
+use lib.Dec.{leb}
+use borrow.Author.Tests.{lt-ltb, le-ltb, le-leb, lt-leb, leb-true, leb-false}
+use Rattle.codec.specs.Bytes.{putAt, putOf, putBytes, writeOf, writeBytes, le16}
 use Rattle.codec.specs.declared.bytes.Written.the-variants.{Bytes, Refused}
-use Rattle.codec.specs.declared.refusals.Refusal.the-variants.{OutputTooShort}
+use Rattle.codec.specs.declared.refusals.Refusal.the-variants.{TooLong, OutputTooShort}
 
 -- stores one behind the other are one write
 pub put-sets : (out : List ℕ) (at : ℕ) (bytes : List ℕ) → at + length bytes ≤ length out → sets out at bytes ≡ putAt out at bytes
@@ -38,24 +41,69 @@ pub put-fits : (out : List ℕ) (at : ℕ) (bytes : List ℕ) → at + length by
 unfolding putOf putBytes
 put-fits out at bytes h = rw (le-ltb (length out) (at + length bytes) h) (refl, refl)
 
--- past a front of `n` elements
-drop-past : (p q : List ℕ) (n m : ℕ) → length p ≡ n → drop (n + m) (p ++ q) ≡ drop m q
-drop-past p q n m e = rw (← e) (drop-append-add p q m)
+-- within the list the default doesn't matter
+pub getD-any : (l : List ℕ) (i d e : ℕ) → i < length l → getD l i d ≡ getD l i e
+getD-any [] i d e h = absurd (not-suc-le-zero h)
+getD-any (x ∷ xs) zero d e h = refl
+getD-any (x ∷ xs) (suc i) d e h = getD-any xs i d e (le-of-suc-le-suc h)
 
--- a write behind another is one write of both
-pub put-behind : (out : List ℕ) (at : ℕ) (x y : List ℕ) → at ≤ length out → putAt (putAt out at x) (at + length x) y ≡ putAt out at (x ++ y)
+-- ---- writes one behind the other
+
+length-head : (out : List ℕ) (at : ℕ) (a : List ℕ) → at ≤ length out → length (take at out ++ a) ≡ at + length a
+length-head out at a h = rw (length-append (take at out) a, length-take-le at out h)
+
+pub length-put : (out : List ℕ) (at : ℕ) (a : List ℕ) → at + length a ≤ length out → length (putAt out at a) ≡ length out
 unfolding putAt
-put-behind out at x y h =
-    let e : length (take at out ++ x) ≡ at + length x = simp (length-append, length-take-le at out h) in
-    rw (take-at (take at out ++ x) (drop (at + length x) out) (at + length x) e, drop-past (take at out ++ x) (drop (at + length x) out) (at + length x) (length y) e, drop-drop (length y) (at + length x) out)
-    (simp (append-assoc, length-append, add-assoc))
+length-put out at a h =
+    rw (length-append (take at out ++ a) (drop (at + length a) out), length-head out at a (omega arith), length-drop (at + length a) out) (omega arith)
+
+pub put-behind : (out : List ℕ) (at : ℕ) (a b : List ℕ) → at ≤ length out → putAt (putAt out at a) (at + length a) b ≡ putAt out at (a ++ b)
+unfolding putAt
+put-behind out at a b h =
+    let head = take at out ++ a in
+    let n = length-head out at a h in
+    let e : at + length (a ++ b) ≡ at + length a + length b = omega (arith, length-append a b) in
+    rw (take-at head (drop (at + length a) out) (at + length a) n, ← drop-drop (length b) (at + length a) (head ++ drop (at + length a) out), drop-at head (drop (at + length a) out) (at + length a) n, drop-drop (length b) (at + length a) out, e, append-assoc (take at out) a b)
+
+pub put-put : (out : List ℕ) (at : ℕ) (a b : List ℕ) → at + length a + length b ≤ length out
+    → putAt (putAt out at a) (at + length a) b ≡ putAt out at (a ++ b)
+put-put out at a b h = put-behind out at a b (omega arith)
+
+-- one store is a write of one byte
+pub put-one : (out : List ℕ) (i v : ℕ) → i < length out → set out i v ≡ putAt out i (v ∷ [])
+put-one out i v h = put-sets out i (v ∷ []) (omega arith)
+
+-- ---- whether a write fits
+
+pub leb-shift : (room at n : ℕ) → at ≤ room → leb n (room - at) ≡ leb (at + n) room
+leb-shift room at n h =
+    elim (decLe (at + n) room) [
+      | yes k ↦ le-leb n (room - at) (omega arith) ∙ sym (le-leb (at + n) room k)
+      | no k ↦ lt-leb n (room - at) (omega arith) ∙ sym (lt-leb (at + n) room (omega arith))
+    ]
+
+-- what the answer of `fits` tells
+pub fits-yes : (r : Bool) (a b : ℕ) → r ≡ leb a b → r ≡ true → a ≤ b
+fits-yes r a b e t = leb-true a b (sym e ∙ t)
+
+pub fits-no : (r : Bool) (a b : ℕ) → r ≡ leb a b → r ≡ false → b < a
+fits-no r a b e t = leb-false a b (sym e ∙ t)
+
+-- 12, then 13, then what fits
+module _ (n : ℕ) (out : List ℕ) (at : ℕ) (bytes : List ℕ) where
+  pub write-over : 65535 < n → (Refused TooLong ≡ writeOf n out at bytes) × (out ≡ writeBytes n out at bytes)
+  unfolding writeOf writeBytes
+  write-over h = rw (lt-ltb 65535 n h) (refl, refl)
+
+  pub write-short : n ≤ 65535 → length out < at + length bytes → (Refused OutputTooShort ≡ writeOf n out at bytes) × (out ≡ writeBytes n out at bytes)
+  unfolding writeOf writeBytes
+  write-short h k = rw (le-ltb 65535 n h) (put-short out at bytes k)
+
+  pub write-fits : n ≤ 65535 → at + length bytes ≤ length out → (Bytes (length bytes) ≡ writeOf n out at bytes) × (putAt out at bytes ≡ writeBytes n out at bytes)
+  unfolding writeOf writeBytes
+  write-fits h k = rw (le-ltb 65535 n h) (put-fits out at bytes k)
 
 -- a write of nothing
 pub put-nothing : (out : List ℕ) (at : ℕ) → putAt out at [] ≡ out
 unfolding putAt
 put-nothing out at = rw (append-nil (take at out), add-zero at) (take-append-drop at out)
-
--- a write that fits leaves the output as long as it was
-pub length-put : (out : List ℕ) (at : ℕ) (x : List ℕ) → at + length x ≤ length out → length (putAt out at x) ≡ length out
-unfolding putAt
-length-put out at x h = simp (length-append, length-take, length-drop) (omega arith)

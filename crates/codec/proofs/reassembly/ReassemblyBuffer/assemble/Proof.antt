@@ -18,7 +18,8 @@ enum-told : tie.Need-enum-told
 enum-told c = search needs
 
 -- the check has passed
-passed : (c : tie.After-enum-told) → assembleCheck (c .before .before .before .before .before .before .args .self) (length (c .before .before .before .before .before .before .args .slots .now)) (c .before .before .before .before .before .before .args .lengths .now) ≡ check.Passes
+passed : (c : tie.After-enum-told)
+    → assembleCheck (c .before .before .before .before .before .before .args .self) (length (c .before .before .before .before .before .before .args .slots .now)) (c .before .before .before .before .before .before .args .lengths .now) ≡ check.Passes
 passed c = sym (c .before .before .assemble-check .ensures) ∙ c .enum-told .given .1
 
 bytes-held-requires : tie.Need-bytes-held-requires

@@ -1,0 +1,108 @@
+-- The promises of `specs/Promises.antt`, proved.
+use Prim.Native.Nat.{ℕ, _+_, _≤_, _<_, _^_}
+use mathlib.Core.Path.{_≡_, refl, sym, ap, _∙_}
+use mathlib.Core.List.{List, [], _∷_, _++_, map}
+use native.Mathlib.Omega.{arith}
+use borrow.Author.Tests.{le-leb}
+use lib.ListN.{length, take, drop, length-append}
+use lib.Seq.{take-length, take-nil, drop-at}
+use Rattle.codec.specs.Bytes.{AllBytes, le16, wordAt}
+use Rattle.codec.specs.Header.{headerBytes}
+use Rattle.codec.specs.Reading.{partOf}
+use Rattle.codec.specs.Strings.{stringBytes, stringAt}
+use Rattle.codec.specs.Submessages.{idOf}
+use Rattle.codec.specs.Writing.{fixedBytes, bodyLen, carried, payloadBytes, subBytes}
+use Rattle.codec.specs.Grammar.{Said, Ranged, HeaderRanged, Bodied, Payload, bodied, plain, OneSub, one, Subs, none, next, IsMessage, whole, reading, says}
+use Rattle.codec.specs.Promises.{ReadsExactly, subsBytes, written, Writable, kept, ReadsBack, SaysTheSame, StringsReadBack}
+use Rattle.codec.specs.declared.header.MessageHeader.{MessageHeader}
+use Rattle.codec.specs.declared.submessages.Submessage.{Submessage}
+use Rattle.codec.specs.declared.submessages.Submessage.the-variants.{CreateClient, Create, Delete, Status, WriteData, ReadData, Data, Heartbeat, Acknack}
+use Rattle.codec.proofs.Complete.{complete, part-is}
+use Rattle.codec.proofs.Sound.{sound}
+use Rattle.codec.proofs.Pieces.{word-back, drop-behind}
+use Rattle.codec.proofs.strings.Laws.{string-whole}
+
+pub reads-exactly : ReadsExactly
+reads-exactly s small h xs = (complete s h xs, sound s small h xs)
+
+-- ---- what is written is in the grammar
+
+payload-written : (m : Submessage) (body : List ℕ) → Payload m (carried m body) (fixedBytes m ++ carried m body)
+payload-written (Create p) body = bodied (Create p) (take (length body) body) tt
+payload-written (WriteData p) body = bodied (WriteData p) (take (length body) body) tt
+payload-written (Data p) body = bodied (Data p) (take (length body) body) tt
+payload-written (CreateClient p) body = plain (CreateClient p) [] (λ z. z)
+payload-written (Delete p) body = plain (Delete p) [] (λ z. z)
+payload-written (Status p) body = plain (Status p) [] (λ z. z)
+payload-written (ReadData p) body = plain (ReadData p) [] (λ z. z)
+payload-written (Heartbeat p) body = plain (Heartbeat p) [] (λ z. z)
+payload-written (Acknack p) body = plain (Acknack p) [] (λ z. z)
+
+one-written : (x : Said) → Ranged (x .fields) → length (payloadBytes (x .fields) (x .body)) ≤ 65535 → OneSub (kept x) (subBytes (x .fields) (x .body))
+unfolding subBytes payloadBytes
+one-written x r h = one (x .fields) (carried (x .fields) (x .body)) _ 0 r (payload-written (x .fields) (x .body)) (omega arith)
+
+subs-written : (xs : List Said) → Writable xs → Subs (map kept xs) (subsBytes xs)
+subs-written [] w = none
+subs-written (x ∷ xs) w = next (one-written x (w .0 .0) (w .0 .1)) (subs-written xs (w .1))
+
+pub reads-back : ReadsBack
+unfolding written
+reads-back h x xs r w = complete _ h (map kept (x ∷ xs)) (whole h (kept x) (map kept xs) (subsBytes (x ∷ xs)) r (subs-written (x ∷ xs) w))
+
+-- ---- what was read can be written, and nothing of it is lost
+
+carried-bodied : (m : Submessage) (body : List ℕ) → Bodied m → carried m body ≡ body
+carried-bodied (Create p) body h = take-length body
+carried-bodied (WriteData p) body h = take-length body
+carried-bodied (Data p) body h = take-length body
+carried-bodied (CreateClient p) body h = absurd h
+carried-bodied (Delete p) body h = absurd h
+carried-bodied (Status p) body h = absurd h
+carried-bodied (ReadData p) body h = absurd h
+carried-bodied (Heartbeat p) body h = absurd h
+carried-bodied (Acknack p) body h = absurd h
+
+payload-kept : (m : Submessage) (body payload : List ℕ) → Payload m body payload → (carried m body ≡ body) × (length (payloadBytes m body) ≤ length payload)
+unfolding payloadBytes
+payload-kept m body payload (bodied m′ body′ k) =
+    let e = carried-bodied m body k in
+    (e, rw e (omega arith))
+payload-kept m body payload (plain m′ ignored k) =
+    let e = take-nil {A = ℕ} (bodyLen m 0) in
+    (e, rw e (omega (arith, length-append (fixedBytes m) [], length-append (fixedBytes m) ignored)))
+
+one-kept : {x : Said} {a : List ℕ} → OneSub x a → (kept x ≡ x) × (Ranged (x .fields) × (length (payloadBytes (x .fields) (x .body)) ≤ 65535))
+one-kept (one m body payload flags r k small) =
+    let p = payload-kept m body payload k in
+    (rw (p .0), (r, omega (arith, p .1)))
+
+subs-kept : {xs : List Said} {bytes : List ℕ} → Subs xs bytes → (map kept xs ≡ xs) × Writable xs
+subs-kept none = (refl, tt)
+subs-kept (next {x} {xs} o r) =
+    let a = one-kept o in
+    let b = subs-kept r in
+    (rw (a .0, b .0), (a .1, b .1))
+
+same-said : (h : MessageHeader) (xs : List Said) (s : List ℕ) → IsMessage h xs s → reading (written h xs) ≡ says h xs
+same-said h xs s (whole h′ x ys bytes r k) =
+    let a = subs-kept k in
+    reads-back h x ys r (a .1) ∙ ap (λ (l : List Said). says h l) (a .0)
+
+pub says-the-same : SaysTheSame
+says-the-same s small h xs e = same-said h xs s (sound s small h xs e)
+
+-- ---- strings
+
+pub strings-read-back : StringsReadBack
+unfolding stringBytes le16
+strings-read-back before text behind h =
+    let at = length before in
+    let n = length text in
+    let s = before ++ (stringBytes text ++ behind) in
+    let d : drop at s ≡ le16 n ++ (text ++ behind) = drop-at before (stringBytes text ++ behind) at refl in
+    let w : wordAt s at ≡ n = word-back s at n (text ++ behind) d (omega arith) in
+    let total : length s ≡ at + (2 + (n + length behind)) = omega (arith, length-append before (stringBytes text ++ behind), length-append text behind) in
+    ( record { start = at + 2; len = n }
+    , sym (string-whole s at (omega (arith, w, total))) ∙ rw w
+    , part-is s (at + 2) n text behind (drop-behind s at (le16 n) (text ++ behind) 2 d refl) refl (omega (arith, total)))

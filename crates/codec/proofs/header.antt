@@ -1,0 +1,2 @@
+-- Laws of the two headers.
+pub mod Laws

@@ -1,0 +1,2 @@
+-- Laws of the payload layouts.
+pub mod Laws

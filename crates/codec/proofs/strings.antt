@@ -1,0 +1,2 @@
+-- Laws of strings.
+pub mod Laws

@@ -1,0 +1,34 @@
+-- Laws of strings: each answer to reading one, its bytes written in two pieces, and that a string written reads back.
+use Prim.Native.Nat.{ℕ, _+_, _≤_, _<_}
+use mathlib.Core.Path.{_≡_, refl, sym, _∙_}
+use mathlib.Core.List.{List, _++_}
+use native.Mathlib.Omega.{arith}
+use borrow.Author.Tests.{lt-ltb, le-ltb}
+use lib.ListN.{length, length-append}
+use Rattle.codec.specs.Bytes.{wordAt, le16, putAt}
+use Rattle.codec.specs.Strings.{stringBytes, stringAt}
+use Rattle.codec.specs.declared.refusals.Refusal.the-variants.{BufferTooShort}
+use Rattle.codec.specs.declared.strings.StringRead.the-variants.{Text, Refused}
+use Rattle.codec.proofs.bytes.Laws.{put-put}
+
+module _ (s : List ℕ) (at : ℕ) where
+  pub string-none : length s < at + 2 → Refused BufferTooShort ≡ stringAt s at
+  unfolding stringAt
+  string-none h = rw (lt-ltb (length s) (at + 2) h)
+
+  pub string-cut : at + 2 ≤ length s → length s < at + 2 + wordAt s at → Refused BufferTooShort ≡ stringAt s at
+  unfolding stringAt
+  string-cut h k = rw (le-ltb (length s) (at + 2) h, lt-ltb (length s) (at + 2 + wordAt s at) k)
+
+  pub string-whole : at + 2 + wordAt s at ≤ length s → Text (record { start = at + 2; len = wordAt s at }) ≡ stringAt s at
+  unfolding stringAt
+  string-whole h = rw (le-ltb (length s) (at + 2) (omega arith), le-ltb (length s) (at + 2 + wordAt s at) h)
+
+pub length-string : (text : List ℕ) → length (stringBytes text) ≡ 2 + length text
+unfolding stringBytes le16
+length-string text = length-append (le16 (length text)) text
+
+pub string-put : (out : List ℕ) (at : ℕ) (text : List ℕ) → at + 2 + length text ≤ length out
+    → putAt (putAt out at (le16 (length text))) (at + 2) text ≡ putAt out at (stringBytes text)
+unfolding stringBytes le16
+string-put out at text h = put-put out at (le16 (length text)) text h

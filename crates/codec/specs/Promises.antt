@@ -1,0 +1,56 @@
+-- What is promised of the wire, as statements; `proofs/Promises.antt` proves each.
+use Prim.Native.Nat.{ℕ, _≤_, _+_}
+use mathlib.Core.Path.{_≡_}
+use mathlib.Core.List.{List, [], _∷_, _++_, map}
+use lib.ListN.{length}
+use Rattle.codec.specs.Bytes.{AllBytes}
+use Rattle.codec.specs.Header.{headerBytes}
+use Rattle.codec.specs.Reading.{partOf}
+use Rattle.codec.specs.Writing.{carried, payloadBytes, subBytes}
+use Rattle.codec.specs.Strings.{stringBytes, stringAt}
+use Rattle.codec.specs.Grammar.{Said, Ranged, HeaderRanged, IsMessage, reading, says, refuses}
+use Rattle.codec.specs.declared.header.MessageHeader.{MessageHeader}
+use Rattle.codec.specs.declared.layouts.Span.{Span}
+use Rattle.codec.specs.declared.strings.StringRead.the-variants.{Text}
+
+-- "a datagram is accepted exactly if the layouts allow it", and read as they say
+abbrev pub ReadsExactly : Type 0
+ReadsExactly =
+    (s : List ℕ) → AllBytes s → (h : MessageHeader) (xs : List Said)
+    → (IsMessage h xs s → reading s ≡ says h xs) × (reading s ≡ says h xs → IsMessage h xs s)
+
+-- the bytes of a message: its header, then each submessage as `write_submessage` writes it
+abbrev pub subsBytes : List Said → List ℕ
+subsBytes [] = []
+subsBytes (x ∷ xs) = subBytes (x .fields) (x .body) ++ subsBytes xs
+
+unfoldable pub written : MessageHeader → List Said → List ℕ
+written h xs = headerBytes h ++ subsBytes xs
+
+-- what can be written: numbers in their ranges, payloads up to 65,535 bytes
+abbrev pub Writable : List Said → Type 0
+Writable [] = Unit
+Writable (x ∷ xs) = (Ranged (x .fields) × (length (payloadBytes (x .fields) (x .body)) ≤ 65535)) × Writable xs
+
+-- what of it is written: the whole body of CREATE, WRITE_DATA and DATA; the other layouts carry none
+abbrev pub kept : Said → Said
+kept x = record { fields = x .fields; body = carried (x .fields) (x .body) }
+
+-- "written messages read back equal"
+abbrev pub ReadsBack : Type 0
+ReadsBack =
+    (h : MessageHeader) (x : Said) (xs : List Said) → HeaderRanged h → Writable (x ∷ xs)
+    → reading (written h (x ∷ xs)) ≡ says h (map kept (x ∷ xs))
+
+-- "So written bytes need not equal those once read": flags and ignored bytes are gone, and what the message says is the same
+abbrev pub SaysTheSame : Type 0
+SaysTheSame =
+    (s : List ℕ) → AllBytes s → (h : MessageHeader) (xs : List Said) → reading s ≡ says h xs
+    → reading (written h xs) ≡ says h xs
+
+-- a string that was written, wherever it stands, reads back: its span is found, and that part of the bytes is the string
+abbrev pub StringsReadBack : Type 0
+StringsReadBack =
+    (before text behind : List ℕ) → length text ≤ 65535
+    → (span : Span) × (stringAt (before ++ (stringBytes text ++ behind)) (length before) ≡ Text span)
+    × (partOf (before ++ (stringBytes text ++ behind)) span ≡ text)
