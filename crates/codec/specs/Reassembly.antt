@@ -48,6 +48,9 @@ storeOver b slots lengths =
 unfoldable pub grown : ℕ → ℕ → ℕ
 grown received held = cond (isFree held) (received + 1) received
 
+abbrev pub recounted : ReassemblyBuffer → ℕ → ReassemblyBuffer
+recounted b held = record { «total_fragments» = b .«total_fragments»; «received_count» = grown (b .«received_count») held; width = b .width }
+
 -- the slot's own length past the width, or a free slot in a store whose count says that all are held
 unfoldable pub slotOver : ReassemblyBuffer → ℕ → Bool
 slotOver b held = isPast (b .width) held || ltb (b .«total_fragments») (grown (b .«received_count») held)
@@ -82,7 +85,7 @@ checkOf b slots lengths nr body = insertCheck b (length slots) (length lengths) 
 unfoldable pub insertOf : ReassemblyBuffer → List ℕ → List ℕ → ℕ → List ℕ → Inserted
 insertOf b slots lengths nr body =
     insertedIf (checkOf b slots lengths nr body)
-    (inserted.Held (record { «total_fragments» = b .«total_fragments»; «received_count» = grown (b .«received_count») (getD lengths nr 0); width = b .width })
+    (inserted.Held (recounted b (getD lengths nr 0))
     (eqb (grown (b .«received_count») (getD lengths nr 0)) (b .«total_fragments»)))
 
 unfoldable pub insertSlots : ReassemblyBuffer → List ℕ → List ℕ → ℕ → List ℕ → List ℕ

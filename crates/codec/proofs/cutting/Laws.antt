@@ -171,7 +171,9 @@ module _ (p : List ℕ) (size k : ℕ) (out : List ℕ) where
   fragment-there total e h =
       let t = count-tells size p total e in
       let l = t .2 in
-      let at : getD (cut size p) k [] ≡ fragmentBytes k total (take size (drop (k * size) p)) = fragment-at size (t .0) p k (omega arith) ∙ ap (λ (n : ℕ). fragmentBytes k n (take size (drop (k * size) p))) l in
+      let body = take size (drop (k * size) p) in
+      let at : getD (cut size p) k [] ≡ fragmentBytes k total body =
+      fragment-at size (t .0) p k (omega arith) ∙ ap (λ (n : ℕ). fragmentBytes k n body) l in
       rw (e, lt-ltb k total h, at) (refl, refl)
 
 -- a fragment's bytes, and how they are written

@@ -12,7 +12,7 @@ use lib.ListN.{getD, length, take, drop, set, replicate, length-append, length-t
 use lib.Seq.{drop-cons, drop-drop, getD-take, length-take-le}
 use Rattle.codec.specs.Bytes.{putAt}
 use Rattle.codec.specs.Cutting.{joined}
-use Rattle.codec.specs.Reassembly.{underNeed, newOf, newLengths, storeOver, grown, slotOver, insertCheck, checkOf, insertOf, insertSlots, insertLengths, isFree, isPast, anyOf, bytesHeld, bodiesHeld, payloadOf, assembleCheck, assembleOf, assembleOut}
+use Rattle.codec.specs.Reassembly.{underNeed, newOf, newLengths, storeOver, grown, recounted, slotOver, insertCheck, checkOf, insertOf, insertSlots, insertLengths, isFree, isPast, anyOf, bytesHeld, bodiesHeld, payloadOf, assembleCheck, assembleOf, assembleOut}
 use Rattle.codec.specs.declared.bytes.Written.the-variants as written
 use Rattle.codec.specs.declared.reassembly.ReassemblyBuffer.{ReassemblyBuffer}
 use Rattle.codec.specs.declared.reassembly.StoreMade.the-variants as made
@@ -135,7 +135,8 @@ length-joined width slots (held ∷ more) there e =
     let h = ltb-false (width + 1) held (t .0) in
     let m = suc-mul (length more) width in
     let d = length-drop width slots in
-    rw (length-append (take (held - 1) slots) (joined (bodiesHeld width (drop width slots) more)), length-take-le (held - 1) slots (omega arith), length-joined width (drop width slots) more (omega arith) (t .1))
+    let behind = length-joined width (drop width slots) more (omega arith) (t .1) in
+    rw (length-append (take (held - 1) slots) (joined (bodiesHeld width (drop width slots) more)), length-take-le (held - 1) slots (omega arith), behind)
 
 -- a store that no check of 16 stops
 pub store-fits : (b : ReassemblyBuffer) (slots lengths : ℕ) → storeOver b slots lengths ≡ false
@@ -259,7 +260,7 @@ module _ (b : ReassemblyBuffer) (slots lengths : List ℕ) (nr : ℕ) (body : Li
   insert-refused why e = rw e (refl, (refl, refl))
 
   pub insert-held : checkOf b slots lengths nr body ≡ check.Passes
-      → (inserted.Held (record { «total_fragments» = b .«total_fragments»; «received_count» = grown (b .«received_count») (getD lengths nr 0); width = b .width }) (eqb (grown (b .«received_count») (getD lengths nr 0)) (b .«total_fragments»))
+      → (inserted.Held (recounted b (getD lengths nr 0)) (eqb (grown (b .«received_count») (getD lengths nr 0)) (b .«total_fragments»))
       ≡ insertOf b slots lengths nr body)
       × ((putAt slots (nr * b .width) body ≡ insertSlots b slots lengths nr body) × (set lengths nr (length body + 1) ≡ insertLengths b slots lengths nr body))
   unfolding insertOf insertSlots insertLengths
@@ -325,6 +326,7 @@ module _ (b : ReassemblyBuffer) (slots lengths out : List ℕ) where
   assemble-short e h = let n = length-payload e in rw e (put-short out 0 (payloadOf b slots lengths) (omega arith))
 
   pub assemble-written : assembleCheck b (length slots) lengths ≡ check.Passes → bytesHeld (take (b .«total_fragments») lengths) ≤ length out
-      → (written.Bytes (bytesHeld (take (b .«total_fragments») lengths)) ≡ assembleOf b slots lengths out) × (putAt out 0 (payloadOf b slots lengths) ≡ assembleOut b slots lengths out)
+      → (written.Bytes (bytesHeld (take (b .«total_fragments») lengths)) ≡ assembleOf b slots lengths out)
+      × (putAt out 0 (payloadOf b slots lengths) ≡ assembleOut b slots lengths out)
   unfolding assembleOf assembleOut
   assemble-written e h = let n = length-payload e in rw (e, ← n) (put-fits out 0 (payloadOf b slots lengths) (omega arith))

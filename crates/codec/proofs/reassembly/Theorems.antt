@@ -102,7 +102,8 @@ module _ (bs : List (List ℕ)) (payload : List ℕ) (width : ℕ) (joins : join
     unfolding assembleCheck
     check-passes =
         let n = length-take-le (length bs) lengths (good .entries) in
-        rw (store-good (length bs) width good, good .within, le-ltb received (length bs) (omega (arith, full)), all-held width slots (take (length bs) lengths) (sym (good .counted) ∙ full ∙ sym n))
+        let held = all-held width slots (take (length bs) lengths) (sym (good .counted) ∙ full ∙ sym n) in
+        rw (store-good (length bs) width good, good .within, le-ltb received (length bs) (omega (arith, full)), held)
 
     bodies-are : bodiesHeld width slots (take (length bs) lengths) ≡ bs
     unfolding bodyIn
@@ -159,7 +160,8 @@ module _ (bs : List (List ℕ)) (payload : List ℕ) (width : ℕ) (joins : join
         rw (good .counted, ← getD-take (length bs) lengths k 0 below, ← held-set width (getD bs k []) slots (take (length bs) lengths) k (omega arith)) (after ∙ rw l)
 
     answers : (after : ReassemblyBuffer)
-        × (insertOf (made (length bs) width received slots lengths .buffer) slots lengths k (getD bs k []) ≡ inserted.Held after (eqb (different (length bs) (nrs ++ (k ∷ []))) (length bs)))
+        × (insertOf (made (length bs) width received slots lengths .buffer) slots lengths k (getD bs k [])
+        ≡ inserted.Held after (eqb (different (length bs) (nrs ++ (k ∷ []))) (length bs)))
     answers =
         let e : checkOf (made (length bs) width received slots lengths .buffer) slots lengths k (getD bs k []) ≡ check.Passes =
         check-good (length bs) width good k (getD bs k []) true (lt-ltb k (length bs) below) ∙ rw (le-ltb width (length (getD bs k [])) (fits k)) in

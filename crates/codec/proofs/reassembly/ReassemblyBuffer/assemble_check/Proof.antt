@@ -16,8 +16,11 @@ returns : tie.Need-returns
 returns c = assemble-need _ _ _ (sym (c .before .under-need .ensures) ∙ c .if1 .taken)
 
 -- past the first test
+abbrev start : tie.Else1 → tie.Start
+start c = c .before .before .before
+
 enough : (c : tie.Else1)
-    → underNeed (c .before .before .before .args .self .«total_fragments») (c .before .before .before .args .self .width) (c .before .before .before .args .slots) (length (c .before .before .before .args .lengths .now))
+    → underNeed (start c .args .self .«total_fragments») (start c .args .self .width) (start c .args .slots) (length (start c .args .lengths .now))
     ≡ false
 enough c = sym (c .before .under-need .ensures) ∙ c .if1 .left
 
@@ -32,19 +35,22 @@ returns-3 c = assemble-past _ _ _ (enough (c .before .before .before .before)) (
 
 returns-4 : tie.Need-returns-4
 returns-4 c =
-    assemble-few _ _ _ (enough (c .before .before .before .before .before .before)) (omega arith) (sym (c .before .before .before .any-past .ensures) ∙ c .before .before .if3 .left) (c .if4 .taken)
+    let past = sym (c .before .before .before .any-past .ensures) ∙ c .before .before .if3 .left in
+    assemble-few _ _ _ (enough (c .before .before .before .before .before .before)) (omega arith) past (c .if4 .taken)
 
 any-free-requires : tie.Need-any-free-requires
 any-free-requires c κs = need-fits _ _ _ _ (enough (c .before .before .before .before .before .before)) .1
 
 returns-5 : tie.Need-returns-5
 returns-5 c =
-    assemble-free _ _ _ (enough (c .before .before .before .before .before .before .before .before)) (omega arith) (sym (c .before .before .before .before .before .any-past .ensures) ∙ c .before .before .before .before .if3 .left)
+    let past = sym (c .before .before .before .before .before .any-past .ensures) ∙ c .before .before .before .before .if3 .left in
+    assemble-free _ _ _ (enough (c .before .before .before .before .before .before .before .before)) (omega arith) past
     (omega arith) (sym (c .before .any-free .ensures) ∙ c .if5 .taken)
 
 returns-6 : tie.Need-returns-6
 returns-6 c =
-    assemble-passes _ _ _ (enough (c .before .before .before .before .before .before .before .before)) (omega arith) (sym (c .before .before .before .before .before .any-past .ensures) ∙ c .before .before .before .before .if3 .left)
+    let past = sym (c .before .before .before .before .before .any-past .ensures) ∙ c .before .before .before .before .if3 .left in
+    assemble-passes _ _ _ (enough (c .before .before .before .before .before .before .before .before)) (omega arith) past
     (omega arith) (sym (c .before .any-free .ensures) ∙ c .if5 .left)
 
 pub assemble-check-spec : {M : Type 1} → statement M

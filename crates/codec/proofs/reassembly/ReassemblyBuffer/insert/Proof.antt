@@ -74,12 +74,15 @@ cast-all : tie.Need-cast-all
 cast-all c = search needs
 
 -- the count after the insert
+abbrev told : tie.After-struct-known2 → tie.After-enum-told
+told c = c .before .before .before .before .before .before .before
+
 counted : (c : tie.After-struct-known2) → c .before .grown-count .result
-    ≡ grown (start (c .before .before .before .before .before .before .before) .args .self .«received_count») (getD (start (c .before .before .before .before .before .before .before) .args .lengths .now) (start (c .before .before .before .before .before .before .before) .args .«fragment-nr») 0)
-counted c = c .before .grown-count .ensures ∙ ap (grown (start (c .before .before .before .before .before .before .before) .args .self .«received_count»)) (c .before .before .before .before .before .before .before .before .before .before .entry-at .ensures)
+    ≡ grown (start (told c) .args .self .«received_count») (getD (start (told c) .args .lengths .now) (start (told c) .args .«fragment-nr») 0)
+counted c = c .before .grown-count .ensures ∙ ap (grown (start (told c) .args .self .«received_count»)) (told c .before .before .before .entry-at .ensures)
 
 cast-t27 : tie.Need-cast-t27
-cast-t27 c = omega (arith, counted c, fits (c .before .before .before .before .before .before .before) .count, c .struct-known2 .given)
+cast-t27 c = omega (arith, counted c, fits (told c) .count, c .struct-known2 .given)
 
 same-length : tie.Need-same-length
 same-length c = search needs
@@ -98,7 +101,7 @@ same-length-3 c = search needs
 
 returns-2 : tie.Need-returns-2
 returns-2 c =
-    let h = insert-held _ _ _ _ _ (passed (c .before .before .before .before .before .before .before)) in
+    let h = insert-held _ _ _ _ _ (passed (told c)) in
     (rw (counted c) (h .0), (c .before .before .before .before .copy-in .ensures ∙ h .1 .0, h .1 .1))
 
 pub insert-spec : {M : Type 1} → statement M

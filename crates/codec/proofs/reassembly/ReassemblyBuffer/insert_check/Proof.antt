@@ -50,16 +50,21 @@ cast-if6 : tie.Need-cast-if6
 cast-if6 c = search needs
 
 -- past the test of the count
-within : (c : tie.Else5) → grown (c .before .before .before .before .before .before .before .before .before .before .before .args .self .«received_count») (c .before .before .before .before .before .before .before .before .before .before .before .args .held) ≤ c .before .before .before .before .before .before .before .before .before .before .before .args .self .«total_fragments»
+abbrev start : tie.Else5 → tie.Start
+start c = c .before .before .before .before .before .before .before .before .before .before .before
+
+within : (c : tie.Else5) → grown (start c .args .self .«received_count») (start c .args .held) ≤ start c .args .self .«total_fragments»
 within c = rw (c .before .grown-count .ensures) at (c .if5 .left)
 
 returns-6 : tie.Need-returns-6
 returns-6 c =
-    insert-long _ _ _ _ _ _ (enough (c .before .before .before .before .before .before .before .before .before .before .before)) (omega arith) (omega arith) (omega arith) (within (c .before .before)) (c .if6 .taken)
+    let e = enough (c .before .before .before .before .before .before .before .before .before .before .before) in
+    insert-long _ _ _ _ _ _ e (omega arith) (omega arith) (omega arith) (within (c .before .before)) (c .if6 .taken)
 
 returns-7 : tie.Need-returns-7
 returns-7 c =
-    insert-passes _ _ _ _ _ _ (enough (c .before .before .before .before .before .before .before .before .before .before .before)) (omega arith) (omega arith) (omega arith) (within (c .before .before)) (c .if6 .left)
+    let e = enough (c .before .before .before .before .before .before .before .before .before .before .before) in
+    insert-passes _ _ _ _ _ _ e (omega arith) (omega arith) (omega arith) (within (c .before .before)) (c .if6 .left)
 
 pub insert-check-spec : {M : Type 1} → statement M
 insert-check-spec =
