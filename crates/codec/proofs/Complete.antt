@@ -174,12 +174,13 @@ one-back s at l (one m body payload flags r k small) e h =
     let d = drop-behind s at head (payload ++ l) 4 e′ refl in
     let fits : at + 4 + length payload ≤ length s = omega (arith, total, n) in
     let end : at + 4 + length payload ≡ at + length (head ++ payload) = omega (arith, n) in
-    record
-    { span = spanOf m (at + 4) (length payload)
-    ; read = rw (← end) (read-payload s at (idOf m) (length payload) (omega (arith, fits)) id len ∙ payload-back s (at + 4) l m body payload k r d fits)
-    ; part = body-back s (at + 4) l m body payload k d fits
-    ; ahead = omega (arith, n)
-    ; within = omega (arith, fits, n) }
+    record {
+      span = spanOf m (at + 4) (length payload);
+      read = rw (← end) (read-payload s at (idOf m) (length payload) (omega (arith, fits)) id len ∙ payload-back s (at + 4) l m body payload k r d fits);
+      part = body-back s (at + 4) l m body payload k d fits;
+      ahead = omega (arith, n);
+      within = omega (arith, fits, n);
+    }
 
 -- the submessages of the grammar are those that are read
 record Read (s : List ℕ) (at : ℕ) (xs : List Said) : Type 0 where
@@ -189,10 +190,11 @@ record Read (s : List ℕ) (at : ℕ) (xs : List Said) : Type 0 where
 
 read-next : (s : List ℕ) (at : ℕ) (x : Said) (xs : List Said) (a : List ℕ) → Back s at x a → Read s (at + length a) xs → Read s at (x ∷ xs)
 read-next s at x xs a o r =
-    record
-    { found = record { says = x .fields; span = o .span } ∷ r .found
-    ; read = items-more s at (omega (arith, o .ahead, o .within)) ∙ rw (o .read, r .read)
-    ; said = rw (o .part, r .said) }
+    record {
+      found = record { says = x .fields; span = o .span } ∷ r .found;
+      read = items-more s at (omega (arith, o .ahead, o .within)) ∙ rw (o .read, r .read);
+      said = rw (o .part, r .said);
+    }
 
 subs-back : {xs : List Said} {bytes : List ℕ} (s : List ℕ) (at : ℕ) → Subs xs bytes → drop at s ≡ bytes → at ≤ length s → Read s at xs
 subs-back s at none e h =

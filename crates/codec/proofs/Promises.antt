@@ -102,7 +102,8 @@ strings-read-back before text behind h =
     let s = before ++ (stringBytes text ++ behind) in
     let d : drop at s ≡ le16 n ++ (text ++ behind) = drop-at before (stringBytes text ++ behind) at refl in
     let w : wordAt s at ≡ n = word-back s at n (text ++ behind) d (omega arith) in
-    let total : length s ≡ at + (2 + (n + length behind)) = omega (arith, length-append before (stringBytes text ++ behind), length-append text behind) in
-    ( record { start = at + 2; len = n }
-    , sym (string-whole s at (omega (arith, w, total))) ∙ rw w
-    , part-is s (at + 2) n text behind (drop-behind s at (le16 n) (text ++ behind) 2 d refl) refl (omega (arith, total)))
+    let total : length s ≡ at + (2 + (n + length behind)) = omega (arith, length-append before (stringBytes text ++ behind), length-append text behind) in (
+      record { start = at + 2; len = n },
+      sym (string-whole s at (omega (arith, w, total))) ∙ rw w,
+      part-is s (at + 2) n text behind (drop-behind s at (le16 n) (text ++ behind) 2 d refl) refl (omega (arith, total)),
+    )

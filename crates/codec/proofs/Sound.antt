@@ -92,21 +92,23 @@ module _ (s : List ℕ) (small : AllBytes s) (p len : ℕ) (fits : p + len ≤ l
   right-client : 5 ≤ len → RightIf s 0 p len (layoutAt s 0 p len)
   unfolding layoutAt Ranged fixedBytes leastOf
   right-client h =
-      record
-      { own = refl
-      ; ranged = (quad-small s small p, byte-small s small (p + 4))
-      ; fixed = piece-piece s p 4 1 _ _ (quad-piece s small p (omega arith)) (byte-piece s (p + 4) (omega arith))
-      ; body = inr ((λ z. z), refl) }
+      record {
+        own = refl;
+        ranged = (quad-small s small p, byte-small s small (p + 4));
+        fixed = piece-piece s p 4 1 _ _ (quad-piece s small p (omega arith)) (byte-piece s (p + 4) (omega arith));
+        body = inr ((λ z. z), refl);
+      }
 
   right-create : 5 ≤ len → (k : KindRead) → KindIs (getD s (p + 2) 0) k → RightIf s 1 p len (createOf s p len k)
   unfolding Ranged fixedBytes leastOf le16
   right-create h (kind-read.Kind k) e =
       let third : kindByte k ∷ [] ≡ take 1 (drop (p + 2) s) = rw e (byte-piece s (p + 2) (omega arith)) in
-      record
-      { own = refl
-      ; ranged = (word-small s small p, word-small s small (p + 3))
-      ; fixed = piece-piece s p 3 2 _ _ (piece-piece s p 2 1 (le16 (wordAt s p)) (kindByte k ∷ []) (word-piece s small p (omega arith)) third) (word-piece s small (p + 3) (omega arith))
-      ; body = inl (tt, refl) }
+      record {
+        own = refl;
+        ranged = (word-small s small p, word-small s small (p + 3));
+        fixed = piece-piece s p 3 2 _ _ (piece-piece s p 2 1 (le16 (wordAt s p)) (kindByte k ∷ []) (word-piece s small p (omega arith)) third) (word-piece s small (p + 3) (omega arith));
+        body = inl (tt, refl);
+      }
   right-create h (kind-read.Refused r) e = tt
 
   right-delete : 2 ≤ len → RightIf s 2 p len (layoutAt s 2 p len)
@@ -171,15 +173,18 @@ module _ (s : List ℕ) (small : AllBytes s) where
   right-payload : (id p len : ℕ) (m : Submessage) (x : Span) (c : Cursor) → payloadAt s id p len ≡ Sub m x c
       → (Right s id p len m x) × (leastOf id ≤ len) × (p + len ≤ length s)
   right-payload id p len m x c e =
-      elim (decLe (p + len) (length s))
-      [ no k ↦ let z : _≡_ {A = ℕ} 0 1 = cc (payload-cut s id p len (lt-of-not-le k)) in absurd (omega arith)
-      | yes k ↦
-        elim (ℕ-discrete (leastOf id) 255)
-        [ yes u ↦ let z : _≡_ {A = ℕ} 0 1 = cc (payload-unlisted s id p len k u) in absurd (omega arith)
-        | no u ↦
-          elim (decLe (leastOf id) len)
-          [ no j ↦ let z : _≡_ {A = ℕ} 0 1 = cc (payload-under s id p len k u (lt-of-not-le j)) in absurd (omega arith)
-          | yes j ↦ (right-laid id p len m x c k j (payload-laid s id p len k u j ∙ e), j, k) ] ] ]
+      elim (decLe (p + len) (length s)) [
+        | no k ↦ let z : _≡_ {A = ℕ} 0 1 = cc (payload-cut s id p len (lt-of-not-le k)) in absurd (omega arith)
+        | yes k ↦
+            elim (ℕ-discrete (leastOf id) 255) [
+              | yes u ↦ let z : _≡_ {A = ℕ} 0 1 = cc (payload-unlisted s id p len k u) in absurd (omega arith)
+              | no u ↦
+                  elim (decLe (leastOf id) len) [
+                    | no j ↦ let z : _≡_ {A = ℕ} 0 1 = cc (payload-under s id p len k u (lt-of-not-le j)) in absurd (omega arith)
+                    | yes j ↦ (right-laid id p len m x c k j (payload-laid s id p len k u j ∙ e), j, k)
+                  ]
+            ]
+      ]
 
   -- the bytes of the payload: the fixed ones, and what follows them
   payload-split : (id p len : ℕ) (m : Submessage) (x : Span) → Right s id p len m x → leastOf id ≤ len → p + len ≤ length s
@@ -209,7 +214,7 @@ module _ (s : List ℕ) (small : AllBytes s) where
       let payload = take len (drop (at + 4) s) in
       let n : length payload ≡ len = length-take-le len (drop (at + 4) s) (rw (length-drop (at + 4) s) (omega arith)) in
       let bytes : (idOf m ∷ getD s (at + 1) 0 ∷ le16 (length payload)) ++ payload ≡ take (4 + len) (drop at s)
-          = rw (n, r .own) (piece-piece s at 4 len _ payload (head-piece at h) refl) in
+      = rw (n, r .own) (piece-piece s at 4 len _ payload (head-piece at h) refl) in
       rw (← bytes) (one m (partOf s x) payload (getD s (at + 1) 0) (r .ranged) (payload-split (getD s at 0) (at + 4) len m x r least fits) (rw n (word-small s small (at + 2))))
 
   -- one submessage that was read: it stands there, and reading goes on behind it
@@ -226,11 +231,12 @@ module _ (s : List ℕ) (small : AllBytes s) where
       let d′ : payloadAt s (getD s at 0) (at + 4) (wordAt s (at + 2)) ≡ Sub m x c = rw (k .1) at d in
       let r = right-payload (getD s at 0) (at + 4) (wordAt s (at + 2)) m x c d′ in
       let ends = payload-placed s (getD s at 0) (at + 4) (wordAt s (at + 2)) m x c d′ in
-      record
-      { size = wordAt s (at + 2)
-      ; sub = sub-laid at m x (k .0) (r .0) (r .1) (r .2)
-      ; end = omega (arith, ends .1 .0)
-      ; within = omega (arith, r .2) }
+      record {
+        size = wordAt s (at + 2);
+        sub = sub-laid at m x (k .0) (r .0) (r .1) (r .2);
+        end = omega (arith, ends .1 .0);
+        within = omega (arith, r .2);
+      }
   taken-behind at (sub-header-read.Refused r) e m x c d = let z : _≡_ {A = ℕ} 0 1 = cc in absurd (omega arith)
 
   taken : (at : ℕ) (m : Submessage) (x : Span) (c : Cursor) → readAt s at ≡ Sub m x c → Taken at m x c
@@ -269,11 +275,12 @@ module _ (s : List ℕ) (small : AllBytes s) where
   laid-items : (left at : ℕ) (xs : List Item) → length s - at ≤ left → itemsAt s at ≡ items xs → Laid at xs
   laid-items zero at xs h e = laid-end at xs (omega arith) e
   laid-items (suc left) at xs h e =
-      elim (decLe (length s) at)
-      [ yes k ↦ laid-end at xs k e
-      | no k ↦
-        let k′ = lt-of-not-le k in
-        laid-onward at xs (readAt s at) refl (λ n ys j. laid-items left n ys (omega arith)) (onward (readAt s at) (itemsAt s)) refl (sym (items-more s at k′) ∙ e) ]
+      elim (decLe (length s) at) [
+        | yes k ↦ laid-end at xs k e
+        | no k ↦
+            let k′ = lt-of-not-le k in
+            laid-onward at xs (readAt s at) refl (λ n ys j. laid-items left n ys (omega arith)) (onward (readAt s at) (itemsAt s)) refl (sym (items-more s at k′) ∙ e)
+      ]
 
   -- ---- the whole datagram
 
@@ -304,6 +311,7 @@ module _ (s : List ℕ) (small : AllBytes s) where
   pub sound : (h : MessageHeader) (xs : List Said) → reading s ≡ says h xs → IsMessage h xs s
   unfolding reading messageOf
   sound h xs e =
-      elim (decLe (length s) 4)
-      [ yes k ↦ let e′ = rw (le-leb (length s) 4 k) at e in let z : _≡_ {A = ℕ} 0 1 = cc in absurd (omega arith)
-      | no k ↦ sound-items h xs (lt-of-not-le k) (itemsAt s 4) refl (rw (lt-leb (length s) 4 (lt-of-not-le k)) at e) ]
+      elim (decLe (length s) 4) [
+        | yes k ↦ let e′ = rw (le-leb (length s) 4 k) at e in let z : _≡_ {A = ℕ} 0 1 = cc in absurd (omega arith)
+        | no k ↦ sound-items h xs (lt-of-not-le k) (itemsAt s 4) refl (rw (lt-leb (length s) 4 (lt-of-not-le k)) at e)
+      ]

@@ -19,8 +19,8 @@ unfoldable pub fragmentBytes : ℕ → ℕ → List ℕ → List ℕ
 fragmentBytes nr total body = le16 nr ++ (le16 total ++ body)
 
 -- the number and the total that a fragment begins with; 1, "bytes missing"
-unfoldable pub headerOf : List ℕ → FragmentHeaderRead
-headerOf buf =
+unfoldable pub fragmentHeaderOf : List ℕ → FragmentHeaderRead
+fragmentHeaderOf buf =
     cond (ltb (length buf) 4) (read.Refused BufferTooShort)
     (read.Header (record { «fragment_nr» = wordAt buf 0; «total_fragments» = wordAt buf 2 }))
 

@@ -7,7 +7,7 @@ use native.Mathlib.Omega.{arith}
 use borrow.Author.Tests.{le-ltb}
 use lib.ListN.{getD, length, take, drop, length-take, length-drop}
 use Rattle.codec.specs.Bytes.{wordAt, le16}
-use Rattle.codec.specs.Cutting.{fragmentBytes, headerOf, bodies, cut, Cut}
+use Rattle.codec.specs.Cutting.{fragmentBytes, fragmentHeaderOf, bodies, cut, Cut}
 use Rattle.codec.specs.declared.cutting.FragmentHeaderRead.the-variants as read
 use Rattle.codec.proofs.cutting.Laws.{body-at, length-bodies, joined-bodies, length-fragment, cut-bodies, fragment-at}
 
@@ -36,13 +36,13 @@ two-bytes : (n : ℕ) → n ≤ 65535 → n % 256 + 256 * (n / 256 % 256) ≡ n
 two-bytes n h = omega arith
 
 header-reads : (nr total : ℕ) (body : List ℕ) → nr ≤ 65535 → total ≤ 65535
-    → (headerOf (fragmentBytes nr total body) ≡ read.Header (record { «fragment_nr» = nr; «total_fragments» = total })) × (drop 4 (fragmentBytes nr total body) ≡ body)
-unfolding headerOf fragmentBytes le16 wordAt
+    → (fragmentHeaderOf (fragmentBytes nr total body) ≡ read.Header (record { «fragment_nr» = nr; «total_fragments» = total })) × (drop 4 (fragmentBytes nr total body) ≡ body)
+unfolding fragmentHeaderOf fragmentBytes le16 wordAt
 header-reads nr total body h h′ = (rw (le-ltb (length (fragmentBytes nr total body)) 4 (omega (arith, length-fragment nr total body)), two-bytes nr h, two-bytes total h′), refl)
 
 -- fragment k of a cut reads as number k of that total, with body k behind the header
 pub fragment-reads : (size : ℕ) (payload : List ℕ) → 0 < size → (k : ℕ) → k < length (cut size payload) → length (cut size payload) ≤ 65535
-    → (headerOf (getD (cut size payload) k []) ≡ read.Header (record { «fragment_nr» = k; «total_fragments» = length (bodies size payload) }))
+    → (fragmentHeaderOf (getD (cut size payload) k []) ≡ read.Header (record { «fragment_nr» = k; «total_fragments» = length (bodies size payload) }))
     × (drop 4 (getD (cut size payload) k []) ≡ getD (bodies size payload) k [])
 fragment-reads size payload some k below few =
     let n = cut-bodies size payload in
