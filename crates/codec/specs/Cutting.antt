@@ -34,18 +34,6 @@ cutOff (suc turns) size (byte ∷ more) = take size (byte ∷ more) ∷ cutOff t
 unfoldable pub bodies : ℕ → List ℕ → List (List ℕ)
 bodies size payload = cutOff (length payload) size payload
 
--- bodies one behind the other
-unfoldable pub joined : List (List ℕ) → List ℕ
-joined [] = []
-joined (body ∷ more) = body ++ joined more
-
--- what is promised of a cut: its bodies joined are the payload; every body but the last has the size, and the last has 1 byte at least
-pub record Cut (size : ℕ) (payload : List ℕ) : Type 0 where
-  pub whole : joined (bodies size payload) ≡ payload
-  pub full : (k : ℕ) → suc k < length (bodies size payload) → length (getD (bodies size payload) k []) ≡ size
-  pub some : 0 < length (bodies size payload)
-  pub last : (k : ℕ) → suc k ≡ length (bodies size payload) → (0 < length (getD (bodies size payload) k [])) × (length (getD (bodies size payload) k []) ≤ size)
-
 -- the bodies numbered from `nr` on, as fragments
 unfoldable pub numbered : ℕ → ℕ → List (List ℕ) → List (List ℕ)
 numbered nr total [] = []
@@ -78,3 +66,16 @@ fragmentOf payload size k out = answered (countOf payload size) k (putOf out 0 (
 
 unfoldable pub fragmentOut : List ℕ → ℕ → ℕ → List ℕ → List ℕ
 fragmentOut payload size k out = changed (countOf payload size) k out (putBytes out 0 (getD (cut size payload) k []))
+
+-- bodies one behind the other
+unfoldable pub joined : List (List ℕ) → List ℕ
+joined [] = []
+joined (body ∷ more) = body ++ joined more
+
+-- what is promised of a cut: its bodies joined are the payload; every body but the last has the size, and the last has 1 byte to as many
+pub record Cut (size : ℕ) (payload : List ℕ) : Type 0 where
+  pub whole : joined (bodies size payload) ≡ payload
+  pub full : (k : ℕ) → suc k < length (bodies size payload) → length (getD (bodies size payload) k []) ≡ size
+  pub some : 0 < length (bodies size payload)
+  pub last : (k : ℕ) → suc k ≡ length (bodies size payload)
+      → (0 < length (getD (bodies size payload) k [])) × (length (getD (bodies size payload) k []) ≤ size)

@@ -67,7 +67,8 @@ module _ (total width : ℕ) where
 
     -- it refuses only 10 and 14
     pub check-good : (nr : ℕ) (body : List ℕ) (t : Bool) → ltb nr total ≡ t
-        → checkOf (made received slots lengths .buffer) slots lengths nr body ≡ cond t (cond (ltb width (length body)) (check.Refused StoreFull) check.Passes) (check.Refused FragmentNumber)
+        → checkOf (made received slots lengths .buffer) slots lengths nr body
+        ≡ cond t (cond (ltb width (length body)) (check.Refused StoreFull) check.Passes) (check.Refused FragmentNumber)
     unfolding checkOf insertCheck
     check-good nr body true e = rw (store-good, e, slot-good nr (ltb-true nr total e))
     check-good nr body false e = rw (store-good, e)
@@ -106,7 +107,8 @@ module _ (total width : ℕ) where
         let n = length-take-le total lengths (good .entries) in
         let ends = slot-ends (p .nr) total width below in
         let there = good .there in
-        let entry : take total (set lengths (p .nr) (length (p .body) + 1)) ≡ set (take total lengths) (p .nr) (length (p .body) + 1) = take-set-lt total lengths (p .nr) (length (p .body) + 1) below in
+        let entry : take total (set lengths (p .nr) (length (p .body) + 1)) ≡ set (take total lengths) (p .nr) (length (p .body) + 1) =
+        take-set-lt total lengths (p .nr) (length (p .body) + 1) below in
         let put : length (putAt slots (p .nr * width) (p .body)) ≡ length slots = length-put slots (p .nr * width) (p .body) (omega arith) in
         let sized : length (set lengths (p .nr) (length (p .body) + 1)) ≡ length lengths = length-set lengths (p .nr) (length (p .body) + 1) in
         let now : view (putAt slots (p .nr * width) (p .body)) (set lengths (p .nr) (length (p .body) + 1)) ≡ set (view slots lengths) (p .nr) (holds (p .body)) =

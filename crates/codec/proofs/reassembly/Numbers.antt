@@ -32,7 +32,8 @@ unfolding different
 different-all zero nrs all = refl
 different-all (suc n) nrs all = rw (all n (omega arith)) (ap suc (different-all n nrs (λ k h. all k (omega arith))))
 
-less-step : (n k : ℕ) (nrs : List ℕ) → k < suc n → came k nrs ≡ false → (k < n → different n nrs < n) → (t : Bool) → eqb k n ≡ t → cond (came n nrs) (suc (different n nrs)) (different n nrs) < suc n
+less-step : (n k : ℕ) (nrs : List ℕ) → k < suc n → came k nrs ≡ false → (k < n → different n nrs < n) → (t : Bool) → eqb k n ≡ t
+    → cond (came n nrs) (suc (different n nrs)) (different n nrs) < suc n
 less-step n k nrs h gone more true e = let z : k ≡ n = eqb-true k n e in rw (← z) (rw gone (rw z (omega (arith, different-most n nrs))))
 less-step n k nrs h gone more false e =
     let z = eqb-false k n e in
@@ -69,11 +70,13 @@ module _ (bs : List (List ℕ)) (v : List Slot) (nrs : List ℕ) (so : (k : ℕ)
 
 -- what slot k holds after fragments of one cut
 module _ (width : ℕ) (bs : List (List ℕ)) (k : ℕ) (fits : length (getD bs k []) ≤ width) where
-  piece-slot : (nr : ℕ) (s : Slot) (t : Bool) → eqb nr k ≡ t → cond (t && not (ltb width (length (getD bs nr [])))) (holds (getD bs nr [])) s ≡ cond t (holds (getD bs k [])) s
+  piece-slot : (nr : ℕ) (s : Slot) (t : Bool) → eqb nr k ≡ t
+      → cond (t && not (ltb width (length (getD bs nr [])))) (holds (getD bs nr [])) s ≡ cond t (holds (getD bs k [])) s
   piece-slot nr s true e = let z : nr ≡ k = eqb-true nr k e in rw (z, le-ltb width (length (getD bs k [])) fits)
   piece-slot nr s false e = refl
 
-  stays-step : (more : List ℕ) (t : Bool) → lastOf width k (pieces bs more) (holds (getD bs k [])) ≡ holds (getD bs k []) → lastOf width k (pieces bs more) (cond t (holds (getD bs k [])) (holds (getD bs k []))) ≡ holds (getD bs k [])
+  stays-step : (more : List ℕ) (t : Bool) → lastOf width k (pieces bs more) (holds (getD bs k [])) ≡ holds (getD bs k [])
+      → lastOf width k (pieces bs more) (cond t (holds (getD bs k [])) (holds (getD bs k []))) ≡ holds (getD bs k [])
   stays-step more true e = e
   stays-step more false e = e
 

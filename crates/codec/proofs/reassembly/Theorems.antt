@@ -28,11 +28,13 @@ use Rattle.codec.proofs.reassembly.Inserts.{made, view, Good, length-vi
 use Rattle.codec.proofs.reassembly.Numbers.{came-more, different-all, different-less, held-different, arrives}
 
 -- An insert that is refused changes nothing, whatever the store.
-refused-check : (c : Check) (b : ReassemblyBuffer) (all : Bool) (why : Refusal) → insertedIf c (inserted.Held b all) ≡ inserted.Refused why → c ≡ check.Refused why
+refused-check : (c : Check) (b : ReassemblyBuffer) (all : Bool) (why : Refusal) → insertedIf c (inserted.Held b all) ≡ inserted.Refused why
+    → c ≡ check.Refused why
 refused-check (check.Refused other) b all why e = cc
 refused-check check.Passes b all why e = let z : _≡_ {A = ℕ} 0 1 = cc in absurd (omega arith)
 
-pub refused-keeps : (st : Store) (p : Piece) (why : Refusal) → insertOf (st .buffer) (st .slots) (st .lengths) (p .nr) (p .body) ≡ inserted.Refused why → insertInto st p ≡ st
+pub refused-keeps : (st : Store) (p : Piece) (why : Refusal)
+    → insertOf (st .buffer) (st .slots) (st .lengths) (p .nr) (p .body) ≡ inserted.Refused why → insertInto st p ≡ st
 unfolding insertInto insertOf
 refused-keeps st p why e =
     let c = refused-check (checkOf (st .buffer) (st .slots) (st .lengths) (p .nr) (p .body)) _ _ why e in
@@ -40,7 +42,8 @@ refused-keeps st p why e =
     rw (← q .0, ← q .1 .0, ← q .1 .1)
 
 -- What `new` tells of the store that it made.
-new-picks : (t : Bool) (a b : ReassemblyBuffer) → cond t (made-answer.Refused OverLimit) (made-answer.Store a) ≡ made-answer.Store b → (t ≡ false) × (a ≡ b)
+new-picks : (t : Bool) (a b : ReassemblyBuffer) → cond t (made-answer.Refused OverLimit) (made-answer.Store a) ≡ made-answer.Store b
+    → (t ≡ false) × (a ≡ b)
 new-picks false a b e = (refl, cc)
 new-picks true a b e = let z : _≡_ {A = ℕ} 0 1 = cc in absurd (omega arith)
 
@@ -99,7 +102,8 @@ module _ (bs : List (List ℕ)) (payload : List ℕ) (width : ℕ) (joins : join
     unfolding assembleCheck
     check-passes =
         let n = length-take-le (length bs) lengths (good .entries) in
-        rw (store-good (length bs) width good, good .within, le-ltb received (length bs) (omega (arith, full)), all-held width slots (take (length bs) lengths) (sym (good .counted) ∙ full ∙ sym n))
+        let held = all-held width slots (take (length bs) lengths) (sym (good .counted) ∙ full ∙ sym n) in
+        rw (store-good (length bs) width good, good .within, le-ltb received (length bs) (omega (arith, full)), held)
 
     bodies-are : bodiesHeld width slots (take (length bs) lengths) ≡ bs
     unfolding bodyIn
@@ -156,7 +160,8 @@ module _ (bs : List (List ℕ)) (payload : List ℕ) (width : ℕ) (joins : join
         rw (good .counted, ← getD-take (length bs) lengths k 0 below, ← held-set width (getD bs k []) slots (take (length bs) lengths) k (omega arith)) (after ∙ rw l)
 
     answers : (after : ReassemblyBuffer)
-        × (insertOf (made (length bs) width received slots lengths .buffer) slots lengths k (getD bs k []) ≡ inserted.Held after (eqb (different (length bs) (nrs ++ (k ∷ []))) (length bs)))
+        × (insertOf (made (length bs) width received slots lengths .buffer) slots lengths k (getD bs k [])
+        ≡ inserted.Held after (eqb (different (length bs) (nrs ++ (k ∷ []))) (length bs)))
     answers =
         let e : checkOf (made (length bs) width received slots lengths .buffer) slots lengths k (getD bs k []) ≡ check.Passes =
         check-good (length bs) width good k (getD bs k []) true (lt-ltb k (length bs) below) ∙ rw (le-ltb width (length (getD bs k [])) (fits k)) in

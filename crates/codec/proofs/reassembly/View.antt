@@ -91,17 +91,20 @@ grown-suc n held true = omega arith
 grown-suc n held false = refl
 
 module _ (width : ℕ) (body : List ℕ) where
-  held-here : (b : List ℕ) (v : List Slot) (t : Bool) → suc (heldIn v) ≡ cond t (heldIn (cond t free (holds b) ∷ v) + 1) (heldIn (cond t free (holds b) ∷ v))
+  held-here : (b : List ℕ) (v : List Slot) (t : Bool)
+      → suc (heldIn v) ≡ cond t (heldIn (cond t free (holds b) ∷ v) + 1) (heldIn (cond t free (holds b) ∷ v))
   unfolding heldIn
   held-here b v true = sym (add-one (heldIn v))
   held-here b v false = refl
 
-  held-behind : (b : List ℕ) (v w : List Slot) (held : ℕ) (t : Bool) → heldIn w ≡ grown (heldIn v) held → heldIn (cond t free (holds b) ∷ w) ≡ grown (heldIn (cond t free (holds b) ∷ v)) held
+  held-behind : (b : List ℕ) (v w : List Slot) (held : ℕ) (t : Bool) → heldIn w ≡ grown (heldIn v) held
+      → heldIn (cond t free (holds b) ∷ w) ≡ grown (heldIn (cond t free (holds b) ∷ v)) held
   unfolding heldIn grown
   held-behind b v w held true e = e
   held-behind b v w held false e = ap suc e ∙ grown-suc (heldIn v) held (isFree held)
 
-  pub held-set : (slots es : List ℕ) (nr : ℕ) → nr < length es → heldIn (set (slotsOf width slots es) nr (holds body)) ≡ grown (heldIn (slotsOf width slots es)) (getD es nr 0)
+  pub held-set : (slots es : List ℕ) (nr : ℕ) → nr < length es
+      → heldIn (set (slotsOf width slots es) nr (holds body)) ≡ grown (heldIn (slotsOf width slots es)) (getD es nr 0)
   unfolding slotsOf grown heldIn
   held-set slots [] nr h = absurd (omega arith)
   held-set slots (held ∷ more) zero h = held-here (take (held - 1) slots) (slotsOf width (drop width slots) more) (isFree held)
@@ -130,7 +133,8 @@ unfoldable pub bodyIn : Slot → List ℕ
 bodyIn free = []
 bodyIn (holds body) = body
 
-body-of-entry : (slots : List ℕ) (held : ℕ) (t : Bool) → isFree held ≡ t → take (held - 1) slots ≡ bodyIn (cond t free (holds (take (held - 1) slots)))
+body-of-entry : (slots : List ℕ) (held : ℕ) (t : Bool) → isFree held ≡ t
+    → take (held - 1) slots ≡ bodyIn (cond t free (holds (take (held - 1) slots)))
 unfolding bodyIn
 body-of-entry slots held true e = let z : held ≡ 0 = eqb-true held 0 e in rw z
 body-of-entry slots held false e = refl
@@ -144,7 +148,8 @@ bodies-of-slots width slots (held ∷ more) =
     (ap (λ (bs : List (List ℕ)). take (held - 1) slots ∷ bs) (bodies-of-slots width (drop width slots) more))
 
 -- where every slot holds a body none is free
-all-held-step : (b : List ℕ) (v : List Slot) (n : ℕ) (t : Bool) → length v ≡ n → heldIn (cond t free (holds b) ∷ v) ≡ suc n → (t ≡ false) × (heldIn v ≡ n)
+all-held-step : (b : List ℕ) (v : List Slot) (n : ℕ) (t : Bool) → length v ≡ n → heldIn (cond t free (holds b) ∷ v) ≡ suc n
+    → (t ≡ false) × (heldIn v ≡ n)
 unfolding heldIn
 all-held-step b v n true l e = let m = held-most v in absurd (omega arith)
 all-held-step b v n false l e = (refl, omega arith)
