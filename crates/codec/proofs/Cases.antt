@@ -1,4 +1,4 @@
--- Lettered cases of document 01 that speak of the wire.
+-- Document 01's lettered cases a, b, c and k, as one table.
 use Prim.Native.Nat.{ℕ}
 use mathlib.Core.Path.{_≡_, refl}
 use mathlib.Core.List.{List, [], _∷_}
@@ -12,31 +12,31 @@ use Rattle.codec.specs.declared.refusals.Refusal.the-variants.{BufferToo
 use Rattle.codec.specs.declared.submessages.Submessage.the-variants.{Delete}
 
 -- "session 1, stream 0, sequence 5, DELETE 3"
-abbrev delete3 : Reading
+abbrev pub delete3 : Reading
 delete3 =
     says (record { «session_id» = 1; «stream_id» = 0; «sequence_nr» = 5 })
     (record { fields = Delete (record { «object_id» = record { 0 = 3 } }); body = [] } ∷ [])
 
--- a: 01 00 05 00 02 00 02 00 03 00
-pub case-a : reading (1 ∷ 0 ∷ 5 ∷ 0 ∷ 2 ∷ 0 ∷ 2 ∷ 0 ∷ 3 ∷ 0 ∷ []) ≡ delete3
-unfolding reading messageOf itemsAt itemsIn readAt subHeaderRead subHeaderOf payloadAt leastOf layoutAt headerOf wordAt partOf
-case-a = refl
-
--- b: "the same with length 3 and 09 added reads equal to a"
-pub case-b : reading (1 ∷ 0 ∷ 5 ∷ 0 ∷ 2 ∷ 0 ∷ 3 ∷ 0 ∷ 3 ∷ 0 ∷ 9 ∷ []) ≡ delete3
-unfolding reading messageOf itemsAt itemsIn readAt subHeaderRead subHeaderOf payloadAt leastOf layoutAt headerOf wordAt partOf
-case-b = refl
-
--- c: "09 added alone is refused as 1"
-pub case-c : reading (1 ∷ 0 ∷ 5 ∷ 0 ∷ 2 ∷ 0 ∷ 2 ∷ 0 ∷ 3 ∷ 0 ∷ 9 ∷ []) ≡ refuses BufferTooShort
-unfolding reading messageOf itemsAt itemsIn readAt subHeaderRead subHeaderOf payloadAt leastOf layoutAt headerOf wordAt partOf
-case-c = refl
-
--- "k: 10 bytes cut at 4 give bodies 4, 4, 2, the last led by 02 00 03 00."
-pub case-k : (b₀ b₁ b₂ b₃ b₄ b₅ b₆ b₇ b₈ b₉ : ℕ)
+-- a fragment of ten bytes cut at 4, with its header's four bytes written out
+abbrev pub CutAt4 : Type 0
+CutAt4 =
+    (b₀ b₁ b₂ b₃ b₄ b₅ b₆ b₇ b₈ b₉ : ℕ)
     → cut 4 (b₀ ∷ b₁ ∷ b₂ ∷ b₃ ∷ b₄ ∷ b₅ ∷ b₆ ∷ b₇ ∷ b₈ ∷ b₉ ∷ [])
     ≡ (0x00 ∷ 0x00 ∷ 0x03 ∷ 0x00 ∷ b₀ ∷ b₁ ∷ b₂ ∷ b₃ ∷ [])
     ∷ (0x01 ∷ 0x00 ∷ 0x03 ∷ 0x00 ∷ b₄ ∷ b₅ ∷ b₆ ∷ b₇ ∷ [])
-    ∷ (0x02 ∷ 0x00 ∷ 0x03 ∷ 0x00 ∷ b₈ ∷ b₉ ∷ []) ∷ []
-unfolding cut bodies cutOff numbered fragmentBytes le16
-case-k b₀ b₁ b₂ b₃ b₄ b₅ b₆ b₇ b₈ b₉ = refl
+    ∷ (0x02 ∷ 0x00 ∷ 0x03 ∷ 0x00 ∷ b₈ ∷ b₉ ∷ [])
+    ∷ []
+
+pub record Table : Type 0 where
+  -- "a: 01 00 05 00 02 00 02 00 03 00 is session 1, stream 0, sequence 5, DELETE 3."
+  pub a : reading (1 ∷ 0 ∷ 5 ∷ 0 ∷ 2 ∷ 0 ∷ 2 ∷ 0 ∷ 3 ∷ 0 ∷ []) ≡ delete3
+  -- "b: the same with length 3 and 09 added reads equal to a"
+  pub b : reading (1 ∷ 0 ∷ 5 ∷ 0 ∷ 2 ∷ 0 ∷ 3 ∷ 0 ∷ 3 ∷ 0 ∷ 9 ∷ []) ≡ delete3
+  -- "c: 09 added alone is refused as 1"
+  pub c : reading (1 ∷ 0 ∷ 5 ∷ 0 ∷ 2 ∷ 0 ∷ 2 ∷ 0 ∷ 3 ∷ 0 ∷ 9 ∷ []) ≡ refuses BufferTooShort
+  -- "k: 10 bytes cut at 4 give bodies 4, 4, 2, the last led by 02 00 03 00."
+  pub k : CutAt4
+
+pub cases : Table
+unfolding reading messageOf itemsAt itemsIn readAt subHeaderRead subHeaderOf payloadAt leastOf layoutAt headerOf wordAt partOf cut bodies cutOff numbered fragmentBytes le16
+cases = record { a = refl; b = refl; c = refl; k = λ b₀ b₁ b₂ b₃ b₄ b₅ b₆ b₇ b₈ b₉. refl }

@@ -4,17 +4,19 @@ use mathlib.Core.Path.{_≡_, refl, sym, ap, _∙_}
 use mathlib.Core.List.{List, [], _∷_, _++_, map}
 use native.Mathlib.Omega.{arith}
 use borrow.Author.Tests.{le-leb}
-use lib.ListN.{length, take, drop, length-append}
+use lib.ListN.{length, take, drop, length-append, length-map}
 use lib.Seq.{take-length, take-nil, drop-at}
 use Rattle.codec.specs.Bytes.{AllBytes, le16, wordAt}
 use Rattle.codec.specs.Header.{headerBytes}
-use Rattle.codec.specs.Reading.{partOf}
+use Rattle.codec.specs.Reading.{partOf, Item, Message, message, refused, messageOf, checkedOf, checkOf}
 use Rattle.codec.specs.Strings.{stringBytes, stringAt}
 use Rattle.codec.specs.Submessages.{idOf}
 use Rattle.codec.specs.Writing.{fixedBytes, bodyLen, carried, payloadBytes, subBytes}
-use Rattle.codec.specs.Grammar.{Said, Ranged, HeaderRanged, Bodied, Payload, bodied, plain, OneSub, one, Subs, none, next, IsMessage, whole, reading, says}
-use Rattle.codec.specs.Promises.{ReadsExactly, subsBytes, written, Writable, kept, ReadsBack, SaysTheSame, StringsReadBack}
+use Rattle.codec.specs.Grammar.{Said, Ranged, HeaderRanged, Bodied, Payload, bodied, plain, OneSub, one, Subs, none, next, IsMessage, whole, saidIn, reading, readingOf, says, refuses}
+use Rattle.codec.specs.Promises.{ReadsExactly, ChecksWhole, subsBytes, written, Writable, kept, ReadsBack, SaysTheSame, StringsReadBack}
 use Rattle.codec.specs.declared.header.MessageHeader.{MessageHeader}
+use Rattle.codec.specs.declared.reading.Checked.the-variants as checked
+use Rattle.codec.specs.declared.refusals.Refusal.{Refusal}
 use Rattle.codec.specs.declared.submessages.Submessage.{Submessage}
 use Rattle.codec.specs.declared.submessages.Submessage.the-variants.{CreateClient, Create, Delete, Status, WriteData, ReadData, Data, Heartbeat, Acknack}
 use Rattle.codec.proofs.Complete.{complete, part-is}
@@ -24,6 +26,26 @@ use Rattle.codec.proofs.strings.Laws.{string-whole}
 
 pub reads-exactly : ReadsExactly
 reads-exactly s small h xs = (complete s h xs, sound s small h xs)
+
+-- ---- the check
+
+length-said : (s : List ℕ) (xs : List Item) (ys : List Said) → map (saidIn s) xs ≡ ys → length xs ≡ length ys
+length-said s xs ys e = sym (length-map xs (saidIn s)) ∙ ap length e
+
+checks-said : (s : List ℕ) (m : Message) (h : MessageHeader) (ys : List Said) → readingOf s m ≡ says h ys → checkedOf m ≡ checked.Message h (length ys)
+checks-said s (message g xs) h ys e =
+    let a : g ≡ h = cc in
+    let b : map (saidIn s) xs ≡ ys = cc in
+    rw (a, length-said s xs ys b)
+checks-said s (refused r) h ys e = let z : _≡_ {A = ℕ} 0 1 = cc in absurd (omega arith)
+
+checks-refused : (s : List ℕ) (m : Message) (r : Refusal) → readingOf s m ≡ refuses r → checkedOf m ≡ checked.Refused r
+checks-refused s (message g xs) r e = let z : _≡_ {A = ℕ} 0 1 = cc in absurd (omega arith)
+checks-refused s (refused q) r e = cc
+
+pub checks-whole : ChecksWhole
+unfolding reading checkOf
+checks-whole s = (checks-said s (messageOf s), checks-refused s (messageOf s))
 
 -- ---- what is written is in the grammar
 

@@ -1,2 +1,6 @@
 -- Laws of a fragment store, and what is promised of it.
 pub mod Laws
+pub mod View
+pub mod Inserts
+pub mod Numbers
+pub mod Theorems

@@ -8,7 +8,6 @@ use lib.ListN.{getD, length, take, drop}
 use Rattle.codec.specs.Bytes.{wordAt, le16, putOf, putBytes}
 use Rattle.codec.specs.declared.bytes.Written.{Written}
 use Rattle.codec.specs.declared.bytes.Written.the-variants as written
-use Rattle.codec.specs.declared.cutting.FragmentHeader.{FragmentHeader}
 use Rattle.codec.specs.declared.cutting.FragmentHeaderRead.{FragmentHeaderRead}
 use Rattle.codec.specs.declared.cutting.FragmentHeaderRead.the-variants as read
 use Rattle.codec.specs.declared.cutting.FragmentCount.{FragmentCount}
@@ -20,8 +19,8 @@ unfoldable pub fragmentBytes : ℕ → ℕ → List ℕ → List ℕ
 fragmentBytes nr total body = le16 nr ++ (le16 total ++ body)
 
 -- the number and the total that a fragment begins with; 1, "bytes missing"
-unfoldable pub headerOf : List ℕ → FragmentHeaderRead
-headerOf buf =
+unfoldable pub fragmentHeaderOf : List ℕ → FragmentHeaderRead
+fragmentHeaderOf buf =
     cond (ltb (length buf) 4) (read.Refused BufferTooShort)
     (read.Header (record { «fragment_nr» = wordAt buf 0; «total_fragments» = wordAt buf 2 }))
 
@@ -34,18 +33,6 @@ cutOff (suc turns) size (byte ∷ more) = take size (byte ∷ more) ∷ cutOff t
 -- its bodies: a body takes a byte at least, so a turn for each byte is enough
 unfoldable pub bodies : ℕ → List ℕ → List (List ℕ)
 bodies size payload = cutOff (length payload) size payload
-
--- bodies one behind the other
-unfoldable pub joined : List (List ℕ) → List ℕ
-joined [] = []
-joined (body ∷ more) = body ++ joined more
-
--- what is promised of a cut: its bodies joined are the payload; every body but the last has the size, and the last has 1 byte at least
-pub record Cut (size : ℕ) (payload : List ℕ) : Type 0 where
-  pub whole : joined (bodies size payload) ≡ payload
-  pub full : (k : ℕ) → suc k < length (bodies size payload) → length (getD (bodies size payload) k []) ≡ size
-  pub some : 0 < length (bodies size payload)
-  pub last : (k : ℕ) → suc k ≡ length (bodies size payload) → (0 < length (getD (bodies size payload) k [])) × (length (getD (bodies size payload) k []) ≤ size)
 
 -- the bodies numbered from `nr` on, as fragments
 unfoldable pub numbered : ℕ → ℕ → List (List ℕ) → List (List ℕ)
@@ -79,3 +66,16 @@ fragmentOf payload size k out = answered (countOf payload size) k (putOf out 0 (
 
 unfoldable pub fragmentOut : List ℕ → ℕ → ℕ → List ℕ → List ℕ
 fragmentOut payload size k out = changed (countOf payload size) k out (putBytes out 0 (getD (cut size payload) k []))
+
+-- bodies one behind the other
+unfoldable pub joined : List (List ℕ) → List ℕ
+joined [] = []
+joined (body ∷ more) = body ++ joined more
+
+-- what is promised of a cut: its bodies joined are the payload; every body but the last has the size, and the last has 1 byte to as many
+pub record Cut (size : ℕ) (payload : List ℕ) : Type 0 where
+  pub whole : joined (bodies size payload) ≡ payload
+  pub full : (k : ℕ) → suc k < length (bodies size payload) → length (getD (bodies size payload) k []) ≡ size
+  pub some : 0 < length (bodies size payload)
+  pub last : (k : ℕ) → suc k ≡ length (bodies size payload)
+      → (0 < length (getD (bodies size payload) k [])) × (length (getD (bodies size payload) k []) ≤ size)

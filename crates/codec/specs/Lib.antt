@@ -2,12 +2,13 @@
 pub mod Refusals
 pub mod Bytes
 pub mod Submessages
-pub mod Cutting
 pub mod Header
 pub mod Layouts
 pub mod Reading
 pub mod Writing
-pub mod Reassembly
 pub mod Strings
+pub mod Cutting
+pub mod Reassembly
+pub mod Inserts
 pub mod Grammar
 pub mod Promises

@@ -5,12 +5,14 @@ use mathlib.Core.List.{List, [], _∷_, _++_, map}
 use lib.ListN.{length}
 use Rattle.codec.specs.Bytes.{AllBytes}
 use Rattle.codec.specs.Header.{headerBytes}
-use Rattle.codec.specs.Reading.{partOf}
+use Rattle.codec.specs.Reading.{partOf, checkOf}
 use Rattle.codec.specs.Writing.{carried, payloadBytes, subBytes}
 use Rattle.codec.specs.Strings.{stringBytes, stringAt}
 use Rattle.codec.specs.Grammar.{Said, Ranged, HeaderRanged, IsMessage, reading, says, refuses}
 use Rattle.codec.specs.declared.header.MessageHeader.{MessageHeader}
 use Rattle.codec.specs.declared.layouts.Span.{Span}
+use Rattle.codec.specs.declared.reading.Checked.the-variants as checked
+use Rattle.codec.specs.declared.refusals.Refusal.{Refusal}
 use Rattle.codec.specs.declared.strings.StringRead.the-variants.{Text}
 
 -- "a datagram is accepted exactly if the layouts allow it", and read as they say
@@ -18,6 +20,13 @@ abbrev pub ReadsExactly : Type 0
 ReadsExactly =
     (s : List ℕ) → AllBytes s → (h : MessageHeader) (xs : List Said)
     → (IsMessage h xs s → reading s ≡ says h xs) × (reading s ≡ says h xs → IsMessage h xs s)
+
+-- the check of a whole datagram goes by the same reading: its header and the number of its submessages, or its refusal
+abbrev pub ChecksWhole : Type 0
+ChecksWhole =
+    (s : List ℕ)
+    → ((h : MessageHeader) (xs : List Said) → reading s ≡ says h xs → checkOf s ≡ checked.Message h (length xs))
+    × ((r : Refusal) → reading s ≡ refuses r → checkOf s ≡ checked.Refused r)
 
 -- the bytes of a message: its header, then each submessage as `write_submessage` writes it
 abbrev pub subsBytes : List Said → List ℕ

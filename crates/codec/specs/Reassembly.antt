@@ -1,6 +1,6 @@
 -- Document 01, "Reassembly: lent slots of one width, with lengths." What each call on a fragment store gives and leaves.
-use Prim.Native.Nat.{ℕ, zero, suc, _+_, _*_, _-_}
-use mathlib.Core.Bool.{Bool, true, false, cond, not, _||_, _&&_}
+use Prim.Native.Nat.{ℕ, _+_, _*_, _-_}
+use mathlib.Core.Bool.{Bool, false, cond, not, _||_, _&&_}
 use mathlib.Core.List.{List, [], _∷_, _++_}
 use lib.Dec.{eqb, ltb}
 use lib.ListN.{getD, length, take, drop, set, replicate}
@@ -48,11 +48,15 @@ storeOver b slots lengths =
 unfoldable pub grown : ℕ → ℕ → ℕ
 grown received held = cond (isFree held) (received + 1) received
 
+abbrev pub recounted : ReassemblyBuffer → ℕ → ReassemblyBuffer
+recounted b held = record { «total_fragments» = b .«total_fragments»; «received_count» = grown (b .«received_count») held; width = b .width }
+
 -- the slot's own length past the width, or a free slot in a store whose count says that all are held
 unfoldable pub slotOver : ReassemblyBuffer → ℕ → Bool
 slotOver b held = isPast (b .width) held || ltb (b .«total_fragments») (grown (b .«received_count») held)
 
--- 16, then "a store checks 10 before 14": "fragment number not below total", "body over its slot"
+-- 16, then "a store checks 10 before 14": "fragment number not below total", "body over its slot". A number not below the total has no
+-- slot whose entry 16 could look at.
 unfoldable pub insertCheck : ReassemblyBuffer → ℕ → ℕ → ℕ → ℕ → ℕ → Check
 insertCheck b slots lengths held nr len =
     cond (storeOver b slots lengths) (check.Refused OverLimit)
@@ -81,7 +85,7 @@ checkOf b slots lengths nr body = insertCheck b (length slots) (length lengths) 
 unfoldable pub insertOf : ReassemblyBuffer → List ℕ → List ℕ → ℕ → List ℕ → Inserted
 insertOf b slots lengths nr body =
     insertedIf (checkOf b slots lengths nr body)
-    (inserted.Held (record { «total_fragments» = b .«total_fragments»; «received_count» = grown (b .«received_count») (getD lengths nr 0); width = b .width })
+    (inserted.Held (recounted b (getD lengths nr 0))
     (eqb (grown (b .«received_count») (getD lengths nr 0)) (b .«total_fragments»)))
 
 unfoldable pub insertSlots : ReassemblyBuffer → List ℕ → List ℕ → ℕ → List ℕ → List ℕ
@@ -90,7 +94,7 @@ insertSlots b slots lengths nr body = changedIf (checkOf b slots lengths nr body
 unfoldable pub insertLengths : ReassemblyBuffer → List ℕ → List ℕ → ℕ → List ℕ → List ℕ
 insertLengths b slots lengths nr body = changedIf (checkOf b slots lengths nr body) lengths (set lengths nr (length body + 1))
 
--- whether the fragment of that number is held
+-- whether the fragment of that number is held: none is where the number isn't below the total, or the lengths end before it
 unfoldable pub hasFragment : ReassemblyBuffer → List ℕ → ℕ → Bool
 hasFragment b lengths nr = ltb nr (b .«total_fragments») && not (isFree (getD lengths nr 0))
 

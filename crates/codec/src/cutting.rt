@@ -9,7 +9,7 @@ ghost use mathlib.Core.List.{[]};
 ghost use Prim.Native.Nat.{_*_, _≤_, _<_};
 ghost use lib.ListN.{length, take, drop};
 ghost use Rattle.codec.specs.Bytes.{putAt, putOf, putBytes};
-ghost use Rattle.codec.specs.Cutting.{fragmentBytes, headerOf, countOf, fragmentOf, fragmentOut};
+ghost use Rattle.codec.specs.Cutting.{fragmentBytes, fragmentHeaderOf, countOf, fragmentOf, fragmentOut};
 
 pub struct FragmentHeader {
     pub fragment_nr: u16,
@@ -30,7 +30,7 @@ pub enum FragmentCount {
 impl FragmentHeader {
     // The header at the start of a fragment.
     pub fn parse(buf: &[u8]) -> FragmentHeaderRead
-        ensures { λ r. ⌜ r ≡ headerOf (now (buf .entry)) ⌝ }
+        ensures { λ r. ⌜ r ≡ fragmentHeaderOf (now (buf .entry)) ⌝ }
     {
         if buf.len() < 4 {
             return FragmentHeaderRead::Refused(Refusal::BufferTooShort);

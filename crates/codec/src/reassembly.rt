@@ -1,6 +1,6 @@
 // Reassembly: the fragments of one payload, kept in lent slots of one width, with lengths.
 // Slot k is the `width` bytes from `k * width` on. `lengths[k]` is 0 while it is free, and 1 more than its body's length while it
-// holds one. So the store's need is its slots and 4 bytes for each.
+// holds one, since a body may have no bytes. So the store's need is its slots and 4 bytes for each.
 use crate::bytes::Written;
 use crate::bytes::copy_in;
 use crate::refusals::Refusal;
@@ -31,7 +31,7 @@ pub enum Inserted {
 }
 
 // Whether a call on a store goes on.
-pub enum Check {
+enum Check {
     Passes,
     Refused(Refusal),
 }
@@ -267,7 +267,7 @@ fn bytes_held(lengths: &[u32], total: u16) -> usize
     sum
 }
 
-// Copies the body of slot `i`, whose entry is `held`, to `at`, and gives the place behind it.
+// Copies the body at `start`, whose slot has the entry `held`, to `at`, and gives the place behind it.
 fn copy_slot(slots: &[u8], start: usize, held: u32, out: &mut [u8], at: usize) -> usize
     requires { ⌜ (0 < held) × ((start + (held - 1) ≤ length (now slots)) × (at + (held - 1) ≤ length (now out))) ⌝ }
     ensures { λ r. ⌜ (r ≡ at + (held - 1)) × (now (out .exit) ≡ putAt (now (out .entry)) at (take (held - 1) (drop start (now (slots .entry))))) ⌝ }

@@ -3,10 +3,11 @@ use Prim.Native.Nat.{ℕ, zero, suc, _+_, _-_, _≤_, _<_, _/_, _%_}
 use mathlib.Core.Path.{_≡_, refl, sym, ap, _∙_}
 use mathlib.Core.List.{List, [], _∷_, _++_, append-assoc, append-nil}
 use native.Mathlib.Numerals.{add-one}
-use native.Mathlib.Nat.{not-suc-le-zero, le-of-suc-le-suc, add-assoc, add-zero}
+use native.Mathlib.Nat.{not-suc-le-zero, le-of-suc-le-suc}
 use native.Mathlib.Omega.{arith}
+use native.Mathlib.Nat.{add-assoc, add-zero}
 use lib.ListN.{getD, length, take, drop, set, length-append, length-take, length-drop, take-append-drop}
-use lib.Seq.{sets, sets-eq, paste, take-length, length-take-le, take-at, drop-at, drop-append-add, drop-drop}
+use lib.Seq.{sets, sets-eq, paste, take-length, length-take-le, take-at, drop-append-add, drop-drop}
 use mathlib.Core.Bool.{Bool, true, false}
 use native.Mathlib.Decide.{decLe}
 use lib.Dec.{leb}
@@ -41,6 +42,14 @@ pub put-fits : (out : List ℕ) (at : ℕ) (bytes : List ℕ) → at + length by
 unfolding putOf putBytes
 put-fits out at bytes h = rw (le-ltb (length out) (at + length bytes) h) (refl, refl)
 
+-- within the list the default doesn't matter
+pub getD-any : (l : List ℕ) (i d e : ℕ) → i < length l → getD l i d ≡ getD l i e
+getD-any [] i d e h = absurd (not-suc-le-zero h)
+getD-any (x ∷ xs) zero d e h = refl
+getD-any (x ∷ xs) (suc i) d e h = getD-any xs i d e (le-of-suc-le-suc h)
+
+-- ---- writes one behind the other
+
 -- past a front of `n` elements
 drop-past : (p q : List ℕ) (n m : ℕ) → length p ≡ n → drop (n + m) (p ++ q) ≡ drop m q
 drop-past p q n m e = rw (← e) (drop-append-add p q m)
@@ -58,30 +67,10 @@ pub put-nothing : (out : List ℕ) (at : ℕ) → putAt out at [] ≡ out
 unfolding putAt
 put-nothing out at = rw (append-nil (take at out), add-zero at) (take-append-drop at out)
 
--- within the list the default doesn't matter
-pub getD-any : (l : List ℕ) (i d e : ℕ) → i < length l → getD l i d ≡ getD l i e
-getD-any [] i d e h = absurd (not-suc-le-zero h)
-getD-any (x ∷ xs) zero d e h = refl
-getD-any (x ∷ xs) (suc i) d e h = getD-any xs i d e (le-of-suc-le-suc h)
-
--- ---- writes one behind the other
-
-length-head : (out : List ℕ) (at : ℕ) (a : List ℕ) → at ≤ length out → length (take at out ++ a) ≡ at + length a
-length-head out at a h = rw (length-append (take at out) a, length-take-le at out h)
-
-pub length-put : (out : List ℕ) (at : ℕ) (a : List ℕ) → at + length a ≤ length out → length (putAt out at a) ≡ length out
+-- a write that fits leaves the output as long as it was
+pub length-put : (out : List ℕ) (at : ℕ) (x : List ℕ) → at + length x ≤ length out → length (putAt out at x) ≡ length out
 unfolding putAt
-length-put out at a h =
-    rw (length-append (take at out ++ a) (drop (at + length a) out), length-head out at a (omega arith), length-drop (at + length a) out) (omega arith)
-
-pub put-put : (out : List ℕ) (at : ℕ) (a b : List ℕ) → at + length a + length b ≤ length out
-    → putAt (putAt out at a) (at + length a) b ≡ putAt out at (a ++ b)
-unfolding putAt
-put-put out at a b h =
-    let head = take at out ++ a in
-    let n = length-head out at a (omega arith) in
-    let e : at + length (a ++ b) ≡ at + length a + length b = omega (arith, length-append a b) in
-    rw (take-at head (drop (at + length a) out) (at + length a) n, ← drop-drop (length b) (at + length a) (head ++ drop (at + length a) out), drop-at head (drop (at + length a) out) (at + length a) n, drop-drop (length b) (at + length a) out, e, append-assoc (take at out) a b)
+length-put out at x h = simp (length-append, length-take, length-drop) (omega arith)
 
 -- one store is a write of one byte
 pub put-one : (out : List ℕ) (i v : ℕ) → i < length out → set out i v ≡ putAt out i (v ∷ [])

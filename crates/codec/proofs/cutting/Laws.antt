@@ -71,12 +71,13 @@ module _ (size : ℕ) (some : 0 < size) where
       ∙ take-append-drop size (byte ∷ more)
 
 -- fragments have their bodies' numbers
-pub length-numbered : (nr total : ℕ) (bs : List (List ℕ)) → length (numbered nr total bs) ≡ length bs
+length-numbered : (nr total : ℕ) (bs : List (List ℕ)) → length (numbered nr total bs) ≡ length bs
 unfolding numbered
 length-numbered nr total [] = refl
 length-numbered nr total (body ∷ more) = ap suc (length-numbered (suc nr) total more)
 
-numbered-at : (nr total : ℕ) (bs : List (List ℕ)) (k : ℕ) → k < length bs → getD (numbered nr total bs) k [] ≡ fragmentBytes (nr + k) total (getD bs k [])
+numbered-at : (nr total : ℕ) (bs : List (List ℕ)) (k : ℕ) → k < length bs
+    → getD (numbered nr total bs) k [] ≡ fragmentBytes (nr + k) total (getD bs k [])
 unfolding numbered
 numbered-at nr total [] k h = absurd (omega arith)
 numbered-at nr total (body ∷ more) zero h = rw (add-zero nr)
@@ -113,9 +114,12 @@ module _ (size : ℕ) (some : 0 < size) (p : List ℕ) where
       omega (arith, div-mul-le-self (length p - 1) size)
 
 -- how many fragments there are
-pub length-cut : (size : ℕ) (p : List ℕ) → 0 < size → 0 < length p → length (cut size p) ≡ suc ((length p - 1) / size)
+pub cut-bodies : (size : ℕ) (p : List ℕ) → length (cut size p) ≡ length (bodies size p)
 unfolding cut
-length-cut size p some h = length-numbered 0 (length (bodies size p)) (bodies size p) ∙ length-bodies size some p h
+cut-bodies size p = length-numbered 0 (length (bodies size p)) (bodies size p)
+
+pub length-cut : (size : ℕ) (p : List ℕ) → 0 < size → 0 < length p → length (cut size p) ≡ suc ((length p - 1) / size)
+length-cut size p some h = cut-bodies size p ∙ length-bodies size some p h
 
 -- 9, and a number of fragments
 module _ (size : ℕ) (p : List ℕ) (some : 0 < size) (bytes : 0 < length p) where
@@ -139,7 +143,8 @@ count-picks total n true y z a b e = let q : _≡_ {A = ℕ} 0 1 = cc in absurd 
 count-picks total n false true z a b e = let q : _≡_ {A = ℕ} 0 1 = cc in absurd (omega arith)
 count-picks total n false false true a b e = let q : _≡_ {A = ℕ} 0 1 = cc in absurd (omega arith)
 
-pub count-tells : (size : ℕ) (p : List ℕ) (total : ℕ) → countOf p size ≡ count.Fragments total → (0 < size) × (0 < length p) × (length (cut size p) ≡ total)
+pub count-tells : (size : ℕ) (p : List ℕ) (total : ℕ) → countOf p size ≡ count.Fragments total
+    → (0 < size) × (0 < length p) × (length (cut size p) ≡ total)
 unfolding countOf
 count-tells size p total e =
     let t = count-picks total (length (cut size p)) (eqb size 0) (eqb (length p) 0) (ltb 65535 (length (cut size p))) _ _ e in
@@ -149,11 +154,13 @@ count-tells size p total e =
 
 -- each answer of `fragment`
 module _ (p : List ℕ) (size k : ℕ) (out : List ℕ) where
-  pub fragment-refused : (why : Refusal) → countOf p size ≡ count.Refused why → (written.Refused why ≡ fragmentOf p size k out) × (out ≡ fragmentOut p size k out)
+  pub fragment-refused : (why : Refusal) → countOf p size ≡ count.Refused why
+      → (written.Refused why ≡ fragmentOf p size k out) × (out ≡ fragmentOut p size k out)
   unfolding fragmentOf fragmentOut
   fragment-refused why e = rw e (refl, refl)
 
-  pub fragment-past : (total : ℕ) → countOf p size ≡ count.Fragments total → total ≤ k → (written.Refused FragmentNumber ≡ fragmentOf p size k out) × (out ≡ fragmentOut p size k out)
+  pub fragment-past : (total : ℕ) → countOf p size ≡ count.Fragments total → total ≤ k
+      → (written.Refused FragmentNumber ≡ fragmentOf p size k out) × (out ≡ fragmentOut p size k out)
   unfolding fragmentOf fragmentOut
   fragment-past total e h = rw (e, le-ltb k total h) (refl, refl)
 
@@ -164,7 +171,9 @@ module _ (p : List ℕ) (size k : ℕ) (out : List ℕ) where
   fragment-there total e h =
       let t = count-tells size p total e in
       let l = t .2 in
-      let at : getD (cut size p) k [] ≡ fragmentBytes k total (take size (drop (k * size) p)) = fragment-at size (t .0) p k (omega arith) ∙ ap (λ (n : ℕ). fragmentBytes k n (take size (drop (k * size) p))) l in
+      let body = take size (drop (k * size) p) in
+      let at : getD (cut size p) k [] ≡ fragmentBytes k total body =
+      fragment-at size (t .0) p k (omega arith) ∙ ap (λ (n : ℕ). fragmentBytes k n body) l in
       rw (e, lt-ltb k total h, at) (refl, refl)
 
 -- a fragment's bytes, and how they are written
@@ -176,6 +185,7 @@ pub put-header : (out : List ℕ) (nr total : ℕ) → putAt (putAt out 0 (le16 
 unfolding fragmentBytes le16
 put-header out nr total = put-behind out 0 (le16 nr) (le16 total) (omega arith)
 
-pub put-body : (out : List ℕ) (nr total : ℕ) (body : List ℕ) → putAt (putAt out 0 (fragmentBytes nr total [])) 4 body ≡ putAt out 0 (fragmentBytes nr total body)
+pub put-body : (out : List ℕ) (nr total : ℕ) (body : List ℕ)
+    → putAt (putAt out 0 (fragmentBytes nr total [])) 4 body ≡ putAt out 0 (fragmentBytes nr total body)
 unfolding fragmentBytes le16
 put-body out nr total body = put-behind out 0 (fragmentBytes nr total []) body (omega arith)

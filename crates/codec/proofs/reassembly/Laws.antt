@@ -1,25 +1,25 @@
 -- Laws of a store's entries and checks, as the code meets them.
 use Prim.Native.Nat.{ℕ, zero, suc, _+_, _*_, _-_, _≤_, _<_}
-use mathlib.Core.Path.{_≡_, refl, sym, ap, _∙_}
+use mathlib.Core.Path.{_≡_, refl}
 use mathlib.Core.Bool.{Bool, true, false, cond, _||_, true≢false}
 use mathlib.Core.List.{List, [], _∷_, _++_}
 use native.Mathlib.Nat.{mul-le-mul, mul-le-mul-right, suc-mul}
 use native.Mathlib.Numerals.{add-one}
 use native.Mathlib.Omega.{arith}
-use borrow.Author.Tests.{ltb-true, ltb-false, lt-ltb, le-ltb, ne-eqb, eqb-false}
+use borrow.Author.Tests.{ltb-true, ltb-false, lt-ltb, le-ltb, eqb-false}
 use lib.Dec.{ltb, eqb}
 use lib.ListN.{getD, length, take, drop, set, replicate, length-append, length-take, length-drop, drop-of-length-le}
 use lib.Seq.{drop-cons, drop-drop, getD-take, length-take-le}
 use Rattle.codec.specs.Bytes.{putAt}
 use Rattle.codec.specs.Cutting.{joined}
-use Rattle.codec.specs.Reassembly.{underNeed, newOf, newLengths, storeOver, grown, slotOver, insertCheck, checkOf, insertOf, insertSlots, insertLengths, isFree, isPast, anyOf, bytesHeld, bodiesHeld, payloadOf, assembleCheck, assembleOf, assembleOut}
+use Rattle.codec.specs.Reassembly.{underNeed, newOf, newLengths, storeOver, grown, recounted, slotOver, insertCheck, checkOf, insertOf, insertSlots, insertLengths, isFree, isPast, anyOf, bytesHeld, bodiesHeld, payloadOf, assembleCheck, assembleOf, assembleOut}
 use Rattle.codec.specs.declared.bytes.Written.the-variants as written
 use Rattle.codec.specs.declared.reassembly.ReassemblyBuffer.{ReassemblyBuffer}
 use Rattle.codec.specs.declared.reassembly.StoreMade.the-variants as made
 use Rattle.codec.specs.declared.reassembly.Inserted.the-variants as inserted
 use Rattle.codec.specs.declared.reassembly.Check.the-variants as check
 use Rattle.codec.specs.declared.refusals.Refusal.{Refusal}
-use Rattle.codec.specs.declared.refusals.Refusal.the-variants.{OutputTooShort, OverLimit}
+use Rattle.codec.specs.declared.refusals.Refusal.the-variants.{FragmentNumber, MissingFragments, OutputTooShort, StoreFull, OverLimit}
 use Rattle.codec.proofs.bytes.Laws.{put-behind, put-nothing, put-short, put-fits}
 
 -- two numbers of 16 bits have a product of 32
@@ -61,7 +61,7 @@ module _ (test : ℕ → Bool) (l : List ℕ) (n i : ℕ) where
   any-end h = rw (entries-end l n i h)
 
 -- neither of two
-neither : (x y : Bool) → (x || y) ≡ false → (x ≡ false) × (y ≡ false)
+pub neither : (x y : Bool) → (x || y) ≡ false → (x ≡ false) × (y ≡ false)
 neither false y e = (refl, e)
 neither true y e = absurd (true≢false e)
 
@@ -88,7 +88,8 @@ module _ (l : List ℕ) (n i : ℕ) where
   held-fits width e below fits = ltb-false (width + 1) (getD l i 0) (none-at (isPast width) l n i e below fits)
 
 -- the bytes held, from entry i on
-pub bytes-next : (l : List ℕ) (n i : ℕ) → i < n → n ≤ length l → bytesHeld (drop i (take n l)) ≡ (getD l i 0 - 1) + bytesHeld (drop (i + 1) (take n l))
+pub bytes-next : (l : List ℕ) (n i : ℕ) → i < n → n ≤ length l
+    → bytesHeld (drop i (take n l)) ≡ (getD l i 0 - 1) + bytesHeld (drop (i + 1) (take n l))
 unfolding bytesHeld
 bytes-next l n i below fits = rw (entries-step l n i below fits)
 
@@ -125,7 +126,8 @@ module _ (out : List ℕ) (at width : ℕ) (slots l : List ℕ) (n i : ℕ) wher
   join-end h = rw (bodies-end width (drop (i * width) slots) l n i h) (put-nothing out at)
 
 -- the payload is as long as its bodies together
-length-joined : (width : ℕ) (slots es : List ℕ) → length es * width ≤ length slots → anyOf (isPast width) es ≡ false → length (joined (bodiesHeld width slots es)) ≡ bytesHeld es
+length-joined : (width : ℕ) (slots es : List ℕ) → length es * width ≤ length slots → anyOf (isPast width) es ≡ false
+    → length (joined (bodiesHeld width slots es)) ≡ bytesHeld es
 unfolding joined bodiesHeld bytesHeld anyOf
 length-joined width slots [] there e = refl
 length-joined width slots (held ∷ more) there e =
@@ -133,7 +135,8 @@ length-joined width slots (held ∷ more) there e =
     let h = ltb-false (width + 1) held (t .0) in
     let m = suc-mul (length more) width in
     let d = length-drop width slots in
-    rw (length-append (take (held - 1) slots) (joined (bodiesHeld width (drop width slots) more)), length-take-le (held - 1) slots (omega arith), length-joined width (drop width slots) more (omega arith) (t .1))
+    let behind = length-joined width (drop width slots) more (omega arith) (t .1) in
+    rw (length-append (take (held - 1) slots) (joined (bodiesHeld width (drop width slots) more)), length-take-le (held - 1) slots (omega arith), behind)
 
 -- a store that no check of 16 stops
 pub store-fits : (b : ReassemblyBuffer) (slots lengths : ℕ) → storeOver b slots lengths ≡ false
@@ -149,6 +152,71 @@ unfolding underNeed
 need-fits total width slots lengths e =
     let u = neither (ltb slots (total * width)) (ltb lengths total) e in
     (ltb-false _ _ (u .0), ltb-false _ _ (u .1))
+
+-- each answer of an insert's check, by the tests that lead to it
+module _ (b : ReassemblyBuffer) (slots lengths held nr len : ℕ) where
+  pub insert-need : underNeed (b .«total_fragments») (b .width) slots lengths ≡ true → check.Refused OverLimit ≡ insertCheck b slots lengths held nr len
+  unfolding insertCheck storeOver
+  insert-need e = rw e
+
+  module _ (enough : underNeed (b .«total_fragments») (b .width) slots lengths ≡ false) where
+    pub insert-count : b .«total_fragments» < b .«received_count» → check.Refused OverLimit ≡ insertCheck b slots lengths held nr len
+    unfolding insertCheck storeOver
+    insert-count h = rw (enough, lt-ltb _ _ h)
+
+    module _ (counted : b .«received_count» ≤ b .«total_fragments») where
+      pub insert-number : b .«total_fragments» ≤ nr → check.Refused FragmentNumber ≡ insertCheck b slots lengths held nr len
+      unfolding insertCheck storeOver
+      insert-number h = rw (enough, le-ltb _ _ counted, le-ltb _ _ h)
+
+      module _ (below : nr < b .«total_fragments») where
+        pub insert-entry : b .width + 1 < held → check.Refused OverLimit ≡ insertCheck b slots lengths held nr len
+        unfolding insertCheck storeOver slotOver
+        insert-entry h = rw (enough, le-ltb _ _ counted, lt-ltb _ _ below, lt-ltb _ _ h)
+
+        module _ (entry : held ≤ b .width + 1) where
+          pub insert-grown : b .«total_fragments» < grown (b .«received_count») held → check.Refused OverLimit ≡ insertCheck b slots lengths held nr len
+          unfolding insertCheck storeOver slotOver
+          insert-grown h = rw (enough, le-ltb _ _ counted, lt-ltb _ _ below, le-ltb _ _ entry, lt-ltb _ _ h)
+
+          module _ (more : grown (b .«received_count») held ≤ b .«total_fragments») where
+            pub insert-long : b .width < len → check.Refused StoreFull ≡ insertCheck b slots lengths held nr len
+            unfolding insertCheck storeOver slotOver
+            insert-long h = rw (enough, le-ltb _ _ counted, lt-ltb _ _ below, le-ltb _ _ entry, le-ltb _ _ more, lt-ltb _ _ h)
+
+            pub insert-passes : len ≤ b .width → check.Passes ≡ insertCheck b slots lengths held nr len
+            unfolding insertCheck storeOver slotOver
+            insert-passes h = rw (enough, le-ltb _ _ counted, lt-ltb _ _ below, le-ltb _ _ entry, le-ltb _ _ more, le-ltb _ _ h)
+
+-- each answer of an assembly's check
+module _ (b : ReassemblyBuffer) (slots : ℕ) (lengths : List ℕ) where
+  pub assemble-need : underNeed (b .«total_fragments») (b .width) slots (length lengths) ≡ true → check.Refused OverLimit ≡ assembleCheck b slots lengths
+  unfolding assembleCheck storeOver
+  assemble-need e = rw e
+
+  module _ (enough : underNeed (b .«total_fragments») (b .width) slots (length lengths) ≡ false) where
+    pub assemble-count : b .«total_fragments» < b .«received_count» → check.Refused OverLimit ≡ assembleCheck b slots lengths
+    unfolding assembleCheck storeOver
+    assemble-count h = rw (enough, lt-ltb _ _ h)
+
+    module _ (counted : b .«received_count» ≤ b .«total_fragments») where
+      pub assemble-past : anyOf (isPast (b .width)) (take (b .«total_fragments») lengths) ≡ true → check.Refused OverLimit ≡ assembleCheck b slots lengths
+      unfolding assembleCheck storeOver
+      assemble-past e = rw (enough, le-ltb _ _ counted, e)
+
+      module _ (within : anyOf (isPast (b .width)) (take (b .«total_fragments») lengths) ≡ false) where
+        pub assemble-few : b .«received_count» < b .«total_fragments» → check.Refused MissingFragments ≡ assembleCheck b slots lengths
+        unfolding assembleCheck storeOver
+        assemble-few h = rw (enough, le-ltb _ _ counted, within, lt-ltb _ _ h)
+
+        module _ (full : b .«total_fragments» ≤ b .«received_count») where
+          pub assemble-free : anyOf isFree (take (b .«total_fragments») lengths) ≡ true → check.Refused MissingFragments ≡ assembleCheck b slots lengths
+          unfolding assembleCheck storeOver
+          assemble-free e = rw (enough, le-ltb _ _ counted, within, le-ltb _ _ full, e)
+
+          pub assemble-passes : anyOf isFree (take (b .«total_fragments») lengths) ≡ false → check.Passes ≡ assembleCheck b slots lengths
+          unfolding assembleCheck storeOver
+          assemble-passes e = rw (enough, le-ltb _ _ counted, within, le-ltb _ _ full, e)
 
 -- what is known where an insert's check passes
 pub record Fits (b : ReassemblyBuffer) (slots lengths held nr len : ℕ) : Type 0 where
@@ -168,7 +236,8 @@ insert-picks false false z w p q r s e = let i : _≡_ {A = ℕ} 0 1 = cc in abs
 insert-picks false true true w p q r s e = let i : _≡_ {A = ℕ} 0 1 = cc in absurd (omega arith)
 insert-picks false true false true p q r s e = let i : _≡_ {A = ℕ} 0 1 = cc in absurd (omega arith)
 
-pub insert-fits : (b : ReassemblyBuffer) (slots lengths held nr len : ℕ) → insertCheck b slots lengths held nr len ≡ check.Passes → Fits b slots lengths held nr len
+pub insert-fits : (b : ReassemblyBuffer) (slots lengths held nr len : ℕ) → insertCheck b slots lengths held nr len ≡ check.Passes
+    → Fits b slots lengths held nr len
 unfolding insertCheck slotOver
 insert-fits b slots lengths held nr len e =
     let t = insert-picks (storeOver b slots lengths) (ltb nr (b .«total_fragments»)) (slotOver b held) (ltb (b .width) len) _ _ _ _ e in
@@ -191,7 +260,7 @@ module _ (b : ReassemblyBuffer) (slots lengths : List ℕ) (nr : ℕ) (body : Li
   insert-refused why e = rw e (refl, (refl, refl))
 
   pub insert-held : checkOf b slots lengths nr body ≡ check.Passes
-      → (inserted.Held (record { «total_fragments» = b .«total_fragments»; «received_count» = grown (b .«received_count») (getD lengths nr 0); width = b .width }) (eqb (grown (b .«received_count») (getD lengths nr 0)) (b .«total_fragments»))
+      → (inserted.Held (recounted b (getD lengths nr 0)) (eqb (grown (b .«received_count») (getD lengths nr 0)) (b .«total_fragments»))
       ≡ insertOf b slots lengths nr body)
       × ((putAt slots (nr * b .width) body ≡ insertSlots b slots lengths nr body) × (set lengths nr (length body + 1) ≡ insertLengths b slots lengths nr body))
   unfolding insertOf insertSlots insertLengths
@@ -199,7 +268,8 @@ module _ (b : ReassemblyBuffer) (slots lengths : List ℕ) (nr : ℕ) (body : Li
 
 -- each answer of `new`
 module _ (total width : ℕ) (slots lengths : List ℕ) where
-  pub new-refused : underNeed total width (length slots) (length lengths) ≡ true → (made.Refused OverLimit ≡ newOf total width slots lengths) × (lengths ≡ newLengths total width slots lengths)
+  pub new-refused : underNeed total width (length slots) (length lengths) ≡ true
+      → (made.Refused OverLimit ≡ newOf total width slots lengths) × (lengths ≡ newLengths total width slots lengths)
   unfolding newOf newLengths
   new-refused e = rw e (refl, refl)
 
@@ -216,7 +286,8 @@ pub record Whole (b : ReassemblyBuffer) (slots : ℕ) (lengths : List ℕ) : Typ
   pub within : anyOf (isPast (b .width)) (take (b .«total_fragments») lengths) ≡ false
   pub all : anyOf isFree (take (b .«total_fragments») lengths) ≡ false
 
-assemble-picks : (x y : Bool) (p q : Refusal) → cond x (check.Refused p) (cond y (check.Refused q) check.Passes) ≡ check.Passes → (x ≡ false) × (y ≡ false)
+assemble-picks : (x y : Bool) (p q : Refusal) → cond x (check.Refused p) (cond y (check.Refused q) check.Passes) ≡ check.Passes
+    → (x ≡ false) × (y ≡ false)
 assemble-picks false false p q e = (refl, refl)
 assemble-picks true y p q e = let i : _≡_ {A = ℕ} 0 1 = cc in absurd (omega arith)
 assemble-picks false true p q e = let i : _≡_ {A = ℕ} 0 1 = cc in absurd (omega arith)
@@ -242,7 +313,8 @@ module _ (b : ReassemblyBuffer) (slots lengths out : List ℕ) where
   unfolding assembleOf assembleOut
   assemble-refused why e = rw e (refl, refl)
 
-  pub length-payload : assembleCheck b (length slots) lengths ≡ check.Passes → length (payloadOf b slots lengths) ≡ bytesHeld (take (b .«total_fragments») lengths)
+  pub length-payload : assembleCheck b (length slots) lengths ≡ check.Passes
+      → length (payloadOf b slots lengths) ≡ bytesHeld (take (b .«total_fragments») lengths)
   unfolding payloadOf
   length-payload e =
       let w = assemble-whole b (length slots) lengths e in
@@ -254,6 +326,7 @@ module _ (b : ReassemblyBuffer) (slots lengths out : List ℕ) where
   assemble-short e h = let n = length-payload e in rw e (put-short out 0 (payloadOf b slots lengths) (omega arith))
 
   pub assemble-written : assembleCheck b (length slots) lengths ≡ check.Passes → bytesHeld (take (b .«total_fragments») lengths) ≤ length out
-      → (written.Bytes (bytesHeld (take (b .«total_fragments») lengths)) ≡ assembleOf b slots lengths out) × (putAt out 0 (payloadOf b slots lengths) ≡ assembleOut b slots lengths out)
+      → (written.Bytes (bytesHeld (take (b .«total_fragments») lengths)) ≡ assembleOf b slots lengths out)
+      × (putAt out 0 (payloadOf b slots lengths) ≡ assembleOut b slots lengths out)
   unfolding assembleOf assembleOut
   assemble-written e h = let n = length-payload e in rw (e, ← n) (put-fits out 0 (payloadOf b slots lengths) (omega arith))

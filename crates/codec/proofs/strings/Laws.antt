@@ -9,7 +9,7 @@ use Rattle.codec.specs.Bytes.{wordAt, le16, putAt}
 use Rattle.codec.specs.Strings.{stringBytes, stringAt}
 use Rattle.codec.specs.declared.refusals.Refusal.the-variants.{BufferTooShort}
 use Rattle.codec.specs.declared.strings.StringRead.the-variants.{Text, Refused}
-use Rattle.codec.proofs.bytes.Laws.{put-put}
+use Rattle.codec.proofs.bytes.Laws.{put-behind}
 
 module _ (s : List ℕ) (at : ℕ) where
   pub string-none : length s < at + 2 → Refused BufferTooShort ≡ stringAt s at
@@ -31,4 +31,4 @@ length-string text = length-append (le16 (length text)) text
 pub string-put : (out : List ℕ) (at : ℕ) (text : List ℕ) → at + 2 + length text ≤ length out
     → putAt (putAt out at (le16 (length text))) (at + 2) text ≡ putAt out at (stringBytes text)
 unfolding stringBytes le16
-string-put out at text h = put-put out at (le16 (length text)) text h
+string-put out at text h = put-behind out at (le16 (length text)) text (omega arith)

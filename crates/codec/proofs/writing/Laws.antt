@@ -11,7 +11,7 @@ use Rattle.codec.specs.Submessages.{idOf}
 use Rattle.codec.specs.Writing.{fixedBytes, bodyLen, payloadBytes, subBytes, messageBytes}
 use Rattle.codec.specs.Header.{headerBytes}
 use Rattle.codec.specs.declared.header.MessageHeader.{MessageHeader}
-use Rattle.codec.proofs.bytes.Laws.{put-put}
+use Rattle.codec.proofs.bytes.Laws.{put-behind}
 use Rattle.codec.specs.declared.submessages.Submessage.{Submessage}
 use Rattle.codec.specs.declared.submessages.Submessage.the-variants.{CreateClient, Create, Delete, Status, WriteData, ReadData, Data, Heartbeat, Acknack}
 
@@ -68,17 +68,17 @@ module _ (m : Submessage) (body : List ℕ) where
   unfolding payloadBytes
   payload-put out at h =
       let part = take (bodyLen m (length body)) body in
-      rw (← length-fixed m) (put-put out at (fixedBytes m) part (omega (arith, h, length-append (fixedBytes m) part)))
+      rw (← length-fixed m) (put-behind out at (fixedBytes m) part (omega arith))
 
   pub sub-put : (out : List ℕ) (at : ℕ) → at + 4 + length (payloadBytes m body) ≤ length out
       → putAt (putAt out at (idOf m ∷ 0 ∷ le16 (length (payloadBytes m body)))) (at + 4) (payloadBytes m body) ≡ putAt out at (subBytes m body)
   unfolding subBytes le16
-  sub-put out at h = put-put out at (idOf m ∷ 0 ∷ le16 (length (payloadBytes m body))) (payloadBytes m body) h
+  sub-put out at h = put-behind out at (idOf m ∷ 0 ∷ le16 (length (payloadBytes m body))) (payloadBytes m body) (omega arith)
 
   pub message-put : (h : MessageHeader) (out : List ℕ) (at : ℕ) → at + 4 + length (subBytes m body) ≤ length out
       → putAt (putAt out at (headerBytes h)) (at + 4) (subBytes m body) ≡ putAt out at (messageBytes h m body)
   unfolding messageBytes headerBytes le16
-  message-put h out at k = put-put out at (headerBytes h) (subBytes m body) k
+  message-put h out at k = put-behind out at (headerBytes h) (subBytes m body) (omega arith)
 
   pub length-message : (h : MessageHeader) → length (messageBytes h m body) ≡ 4 + length (subBytes m body)
   unfolding messageBytes headerBytes le16

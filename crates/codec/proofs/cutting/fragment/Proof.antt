@@ -34,7 +34,8 @@ same-length c = search needs
 
 returns-3 : tie.Need-returns-3
 returns-3 c =
-    let f = fragment-there _ _ _ _ _ (sym (c .before .before .before .before .before .before .before .before .before .fragment-count .ensures) ∙ c .before .before .before .before .before .before .before .total .given .1) (c .before .before .before .before .before .if1 .left) in
+    let n = sym (c .before .before .before .before .before .before .before .before .before .fragment-count .ensures) ∙ c .before .before .before .before .before .before .before .total .given .1 in
+    let f = fragment-there _ _ _ _ _ n (c .before .before .before .before .before .if1 .left) in
     let p = c .before .before .put-with .ensures in
     let b = c .before .before .before .before .body-of .ensures in
     (rw b at (p .0) ∙ f .0, rw b at (p .1) ∙ f .1)

@@ -6,7 +6,7 @@ use native.Mathlib.Numerals.{add-one}
 use native.Mathlib.Omega.{arith}
 use lib.ListN.{length-set}
 use Rattle.codec.specs.Bytes.{le16}
-use Rattle.codec.proofs.bytes.Laws.{put-sets, put-put}
+use Rattle.codec.proofs.bytes.Laws.{put-sets, put-behind}
 use borrow.Author.Needs.{needs}
 use Rattle.codec.proofs.header.put_head.Statement.{statement}
 use Rattle.codec.proofs.header.put_head.Tie as tie
@@ -36,7 +36,7 @@ returns c =
     let two = a .a ∷ a .b ∷ [] in
     c .before .before .put-word .ensures
     ∙ rw (add-one (a .at), put-sets (a .out .now) (a .at) two (omega arith))
-    (put-put (a .out .now) (a .at) two (le16 (a .n)) (omega arith))
+    (put-behind (a .out .now) (a .at) two (le16 (a .n)) (omega arith))
 
 pub put-head-spec : {M : Type 1} → statement M
 put-head-spec =

@@ -1,5 +1,5 @@
 -- `codec::reassembly::join` meets its contract. The invariant: what is still to be written, written from here on, is the whole.
-use Prim.Native.Nat.{_≤_, _<_, _+_, _-_, _*_}
+use Prim.Native.Nat.{ℕ, _≤_, _<_, _+_, _-_, _*_}
 use mathlib.Core.Path.{_≡_, refl, sym, _∙_}
 use native.Mathlib.Nat.{zero-add, zero-mul}
 use native.Mathlib.Omega.{arith}
@@ -19,14 +19,21 @@ Inv-loop slots lengths total width out₀ at₀ i₀ out at i =
 abbrev μ-loop : tie.MeasureT-loop
 μ-loop slots lengths total width out₀ at₀ i₀ out at i = total - i
 
+-- the function's entry, and the entry of the slot that a turn looks at
+abbrev start : tie.In-loop Inv-loop μ-loop → tie.Start Inv-loop μ-loop
+start c = c .before .before .before .before .before
+
+abbrev held : tie.In-loop Inv-loop μ-loop → ℕ
+held c = getD (start c .args .lengths .now) (c .before .loop .i) 0
+
 -- what a turn copies: a body that is held, within its slot, for which there is room
 turn : (c : tie.In-loop Inv-loop μ-loop)
-    → (0 < getD (c .before .before .before .before .before .args .lengths .now) (c .before .loop .i) 0)
-    × ((c .before .loop .i * c .before .before .before .before .before .args .width + (getD (c .before .before .before .before .before .args .lengths .now) (c .before .loop .i) 0 - 1) ≤ length (c .before .before .before .before .before .args .slots .now))
-    × (c .before .loop .at + (getD (c .before .before .before .before .before .args .lengths .now) (c .before .loop .i) 0 - 1) ≤ length (c .before .loop .out)))
+    → (0 < held c)
+    × ((c .before .loop .i * start c .args .width + (held c - 1) ≤ length (start c .args .slots .now))
+    × (c .before .loop .at + (held c - 1) ≤ length (c .before .loop .out)))
 turn c =
-    let a = c .before .before .before .before .before .args in
-    let pre = c .before .before .before .before .before .pre in
+    let a = start c .args in
+    let pre = start c .pre in
     let l = c .before .loop in
     let some = held-some (a .lengths .now) (a .total) (l .i) (pre .1 .1 .1 .0) (omega arith) (pre .1 .0) in
     let fits = held-fits (a .lengths .now) (a .total) (l .i) (a .width) (pre .1 .1 .0) (omega arith) (pre .1 .0) in

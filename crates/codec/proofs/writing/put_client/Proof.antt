@@ -5,7 +5,7 @@ use mathlib.Core.List.{[], _∷_, _++_}
 use native.Mathlib.Omega.{arith}
 use lib.ListN.{length-set}
 use Rattle.codec.specs.Bytes.{le16, le32}
-use Rattle.codec.proofs.bytes.Laws.{put-put, put-one}
+use Rattle.codec.proofs.bytes.Laws.{put-behind, put-one}
 use borrow.Author.Needs.{needs}
 use Rattle.codec.proofs.writing.put_client.Statement.{statement}
 use Rattle.codec.proofs.writing.put_client.Tie as tie
@@ -43,8 +43,8 @@ returns c =
     let low = le16 (a .key % 65536) in
     let high = le16 (a .key / 65536) in
     put-one (v .last .0) (a .at + 4) (a .properties) (omega (arith, u .kept .0, v .kept .0))
-    ∙ rw (v .ensures, u .ensures, put-put (a .out .now) (a .at) low high (omega arith))
-    (put-put (a .out .now) (a .at) (low ++ high) (a .properties ∷ []) (omega arith))
+    ∙ rw (v .ensures, u .ensures, put-behind (a .out .now) (a .at) low high (omega arith))
+    (put-behind (a .out .now) (a .at) (low ++ high) (a .properties ∷ []) (omega arith))
 
 pub put-client-spec : {M : Type 1} → statement M
 put-client-spec =

@@ -5,7 +5,7 @@ use native.Mathlib.Omega.{arith}
 use Rattle.codec.specs.Bytes.{le16, le32}
 use Rattle.codec.specs.Submessages.{kindByte}
 use Rattle.codec.specs.Writing.{fixedBytes}
-use Rattle.codec.proofs.bytes.Laws.{put-put}
+use Rattle.codec.proofs.bytes.Laws.{put-behind}
 use borrow.Author.Needs.{needs}
 use Rattle.codec.proofs.writing.put_fixed.Statement.{statement}
 use Rattle.codec.proofs.writing.put_fixed.Tie as tie
@@ -104,7 +104,7 @@ returns-2 c =
     let marked = le16 (p .«object_id» .0) ++ (kindByte (p .kind) ∷ []) in
     let room = rw (c .before .before .before .before .before .before .before .before .before .before .m2 .given .1) at (c .before .before .before .before .before .before .before .before .before .before .before .before .before .pre) in
     rw (c .before .before .before .before .before .before .before .before .before .before .m2 .given .1)
-    (c .before .before .put-word .ensures ∙ rw (c .before .before .before .before .before .before .put-marked .ensures, c .before .before .before .before .before .before .before .as-u8 .ensures) (put-put (a .out .now) (a .at) marked (le16 (p .«parent_id»)) (omega (arith, room))))
+    (c .before .before .put-word .ensures ∙ rw (c .before .before .before .before .before .before .put-marked .ensures, c .before .before .before .before .before .before .before .as-u8 .ensures) (put-behind (a .out .now) (a .at) marked (le16 (p .«parent_id»)) (omega (arith, room))))
 
 same-length-3 : tie.Need-same-length-3
 same-length-3 c = search needs

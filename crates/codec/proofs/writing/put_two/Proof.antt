@@ -2,7 +2,7 @@
 use mathlib.Core.Path.{_∙_}
 use native.Mathlib.Omega.{arith}
 use Rattle.codec.specs.Bytes.{le16}
-use Rattle.codec.proofs.bytes.Laws.{put-put}
+use Rattle.codec.proofs.bytes.Laws.{put-behind}
 use borrow.Author.Needs.{needs}
 use Rattle.codec.proofs.writing.put_two.Statement.{statement}
 use Rattle.codec.proofs.writing.put_two.Tie as tie
@@ -24,7 +24,7 @@ unfolding le16
 returns c =
     let a = c .before .before .before .before .before .before .before .before .before .args in
     c .before .before .put-word2 .ensures
-    ∙ rw (c .before .before .before .before .before .before .put-word .ensures) (put-put (a .out .now) (a .at) (le16 (a .a)) (le16 (a .b)) (omega arith))
+    ∙ rw (c .before .before .before .before .before .before .put-word .ensures) (put-behind (a .out .now) (a .at) (le16 (a .a)) (le16 (a .b)) (omega arith))
 
 pub put-two-spec : {M : Type 1} → statement M
 put-two-spec =

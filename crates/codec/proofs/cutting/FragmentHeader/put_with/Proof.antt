@@ -1,6 +1,5 @@
 use borrow.Author.Needs.{needs}
 use mathlib.Core.Path.{_∙_}
-use mathlib.Core.List.{[]}
 use native.Mathlib.Omega.{arith}
 use Rattle.codec.specs.Cutting.{fragmentBytes}
 use Rattle.codec.proofs.bytes.Laws.{put-short, put-fits}

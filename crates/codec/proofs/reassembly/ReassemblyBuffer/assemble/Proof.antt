@@ -17,8 +17,12 @@ enum-known-r c = search needs
 enum-told : tie.Need-enum-told
 enum-told c = search needs
 
--- the check has passed
-passed : (c : tie.After-enum-told) → assembleCheck (c .before .before .before .before .before .before .args .self) (length (c .before .before .before .before .before .before .args .slots .now)) (c .before .before .before .before .before .before .args .lengths .now) ≡ check.Passes
+-- the function's entry, from where its check has passed
+abbrev start : tie.After-enum-told → tie.Start
+start c = c .before .before .before .before .before .before
+
+passed : (c : tie.After-enum-told)
+    → assembleCheck (start c .args .self) (length (start c .args .slots .now)) (start c .args .lengths .now) ≡ check.Passes
 passed c = sym (c .before .before .assemble-check .ensures) ∙ c .enum-told .given .1
 
 bytes-held-requires : tie.Need-bytes-held-requires

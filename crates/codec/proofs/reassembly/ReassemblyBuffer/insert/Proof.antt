@@ -26,20 +26,28 @@ enum-told c = search needs
 cast-start : tie.Need-cast-start
 cast-start c = search needs
 
--- the check has passed
-passed : (c : tie.After-enum-told) → checkOf (c .before .before .before .before .before .before .before .before .args .self) (c .before .before .before .before .before .before .before .before .args .slots .now) (c .before .before .before .before .before .before .before .before .args .lengths .now) (c .before .before .before .before .before .before .before .before .args .«fragment-nr») (c .before .before .before .before .before .before .before .before .args .body .now) ≡ check.Passes
+-- the function's entry, from where its check has passed
+abbrev start : tie.After-enum-told → tie.Start
+start c = c .before .before .before .before .before .before .before .before
+
+passed : (c : tie.After-enum-told)
+    → checkOf (start c .args .self) (start c .args .slots .now) (start c .args .lengths .now) (start c .args .«fragment-nr») (start c .args .body .now)
+    ≡ check.Passes
 unfolding checkOf
 passed c = rw (c .before .before .before .entry-at .ensures) at (sym (c .before .before .insert-check .ensures) ∙ c .enum-told .given .1)
 
-fits : (c : tie.After-enum-told) → Fits (c .before .before .before .before .before .before .before .before .args .self) (length (c .before .before .before .before .before .before .before .before .args .slots .now)) (length (c .before .before .before .before .before .before .before .before .args .lengths .now)) (getD (c .before .before .before .before .before .before .before .before .args .lengths .now) (c .before .before .before .before .before .before .before .before .args .«fragment-nr») 0) (c .before .before .before .before .before .before .before .before .args .«fragment-nr») (length (c .before .before .before .before .before .before .before .before .args .body .now))
+fits : (c : tie.After-enum-told)
+    → Fits (start c .args .self) (length (start c .args .slots .now)) (length (start c .args .lengths .now))
+    (getD (start c .args .lengths .now) (start c .args .«fragment-nr») 0) (start c .args .«fragment-nr») (length (start c .args .body .now))
 unfolding checkOf
 fits c = insert-fits _ _ _ _ _ _ (passed c)
 
 -- its slot is within the slots
-ends : (c : tie.After-enum-told) → c .before .before .before .before .before .before .before .before .args .«fragment-nr» * c .before .before .before .before .before .before .before .before .args .self .width + c .before .before .before .before .before .before .before .before .args .self .width ≤ length (c .before .before .before .before .before .before .before .before .args .slots .now)
+ends : (c : tie.After-enum-told)
+    → start c .args .«fragment-nr» * start c .args .self .width + start c .args .self .width ≤ length (start c .args .slots .now)
 ends c =
-    let f = fits c in
-    le-trans (slot-ends (c .before .before .before .before .before .before .before .before .args .«fragment-nr») (c .before .before .before .before .before .before .before .before .args .self .«total_fragments») (c .before .before .before .before .before .before .before .before .args .self .width) (f .below)) (f .there)
+    let a = start c .args in
+    le-trans (slot-ends (a .«fragment-nr») (a .self .«total_fragments») (a .self .width) (fits c .below)) (fits c .there)
 
 mul-start : tie.Need-mul-start
 mul-start c = omega (arith, ends (c .before))
@@ -66,18 +74,24 @@ cast-all : tie.Need-cast-all
 cast-all c = search needs
 
 -- the count after the insert
-counted : (c : tie.After-struct-known2) → c .before .grown-count .result ≡ grown (c .before .before .before .before .before .before .before .before .before .before .before .before .before .before .before .args .self .«received_count») (getD (c .before .before .before .before .before .before .before .before .before .before .before .before .before .before .before .args .lengths .now) (c .before .before .before .before .before .before .before .before .before .before .before .before .before .before .before .args .«fragment-nr») 0)
-counted c = c .before .grown-count .ensures ∙ ap (grown (c .before .before .before .before .before .before .before .before .before .before .before .before .before .before .before .args .self .«received_count»)) (c .before .before .before .before .before .before .before .before .before .before .entry-at .ensures)
+abbrev told : tie.After-struct-known2 → tie.After-enum-told
+told c = c .before .before .before .before .before .before .before
+
+counted : (c : tie.After-struct-known2) → c .before .grown-count .result
+    ≡ grown (start (told c) .args .self .«received_count») (getD (start (told c) .args .lengths .now) (start (told c) .args .«fragment-nr») 0)
+counted c = c .before .grown-count .ensures ∙ ap (grown (start (told c) .args .self .«received_count»)) (told c .before .before .before .entry-at .ensures)
 
 cast-t27 : tie.Need-cast-t27
-cast-t27 c = omega (arith, counted c, fits (c .before .before .before .before .before .before .before) .count, c .struct-known2 .given)
+cast-t27 c = omega (arith, counted c, fits (told c) .count, c .struct-known2 .given)
 
 same-length : tie.Need-same-length
 same-length c = search needs
 
 returns : tie.Need-returns
 unfolding checkOf
-returns c = insert-refused _ _ _ _ _ _ (rw (c .before .before .before .before .entry-at .ensures) at (sym (c .before .before .before .insert-check .ensures) ∙ c .before .r .given .1))
+returns c =
+    insert-refused _ _ _ _ _ _
+    (rw (c .before .before .before .before .entry-at .ensures) at (sym (c .before .before .before .insert-check .ensures) ∙ c .before .r .given .1))
 
 same-length-2 : tie.Need-same-length-2
 same-length-2 c = search needs
@@ -87,7 +101,7 @@ same-length-3 c = search needs
 
 returns-2 : tie.Need-returns-2
 returns-2 c =
-    let h = insert-held _ _ _ _ _ (passed (c .before .before .before .before .before .before .before)) in
+    let h = insert-held _ _ _ _ _ (passed (told c)) in
     (rw (counted c) (h .0), (c .before .before .before .before .copy-in .ensures ∙ h .1 .0, h .1 .1))
 
 pub insert-spec : {M : Type 1} → statement M
