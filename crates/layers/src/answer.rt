@@ -26,6 +26,7 @@ use crate::table::dump;
 use crate::table::expired;
 use crate::table::limits_of;
 use crate::table::live;
+use crate::table::open_one;
 use crate::table::remove_session;
 use crate::table::sweep;
 use crate::table::touch_session;
@@ -156,7 +157,7 @@ fn of_store(
     store: ReassemblyBuffer,
     room: &mut [u8],
     made: &mut [u8],
-    slots: &mut [u8],
+    held: &mut [u8],
     lengths: &mut [u32],
     out: &mut [u8],
     at: usize,
@@ -166,7 +167,7 @@ fn of_store(
             store,
             number_16(text, 1),
             number_16(text, 2),
-            slots,
+            held,
             lengths,
             out,
             at,
@@ -177,7 +178,7 @@ fn of_store(
                 store,
                 number_16(text, 1),
                 between(room, 0, n),
-                slots,
+                held,
                 lengths,
                 out,
                 at,
@@ -185,7 +186,7 @@ fn of_store(
         }
         6 => kept(store, has(store, number_16(text, 1), lengths, out, at)),
         7 => kept(store, counts(store, out, at)),
-        _ => kept(store, assemble(store, slots, lengths, made, out, at)),
+        _ => kept(store, assemble(store, held, lengths, made, out, at)),
     }
 }
 
@@ -234,60 +235,76 @@ fn tabled(limits: Limits, at: usize) -> Tabled {
     Tabled { limits, at }
 }
 
-fn of_table(
-    name: usize,
+fn new_table(text: &[u8], sessions: &mut [[u64; 5]], out: &mut [u8], at: usize) -> Tabled {
+    clear(sessions);
+    let limits = limits_of(number(word(text, 1)) as usize, number(word(text, 2)));
+    tabled(limits, line(out, at, b"ok"))
+}
+
+fn create_command(
     text: &[u8],
     limits: Limits,
     room: &mut [u8],
-    made: &mut [u8],
     sessions: &mut [[u64; 5]],
     streams: &mut [[u16; 35]],
     out: &mut [u8],
     at: usize,
 ) -> Tabled {
-    let timeout = limits.timeout_ms;
+    let n = bytes(word(text, 1), room);
+    let client_key = key(between(room, 0, n));
+    let time = number(word(text, 2));
+    create(limits, client_key, time, sessions, streams, out, at)
+}
+
+fn expired_command(text: &[u8], sessions: &[[u64; 5]], out: &mut [u8], at: usize) -> usize {
+    let timeout = number(word(text, 2));
+    let time = number(word(text, 3));
+    expired(number_8(text, 1), timeout, time, sessions, out, at)
+}
+
+// Commands that change which sessions there are.
+fn of_table(
+    name: usize,
+    text: &[u8],
+    limits: Limits,
+    room: &mut [u8],
+    sessions: &mut [[u64; 5]],
+    streams: &mut [[u16; 35]],
+    out: &mut [u8],
+    at: usize,
+) -> Tabled {
     match name {
-        17 => {
-            clear(sessions);
-            let made_anew = limits_of(number(word(text, 1)) as usize, number(word(text, 2)));
-            tabled(made_anew, line(out, at, b"ok"))
-        }
-        18 => {
-            let n = bytes(word(text, 1), room);
-            let time = number(word(text, 2));
-            create(
-                limits,
-                key(between(room, 0, n)),
-                time,
-                sessions,
-                streams,
-                out,
-                at,
-            )
-        }
-        19 => {
-            let time = number(word(text, 2));
-            tabled(
-                limits,
-                touch_session(number_8(text, 1), time, sessions, out, at),
-            )
-        }
-        20 => {
-            let time = number(word(text, 3));
-            let limit = number(word(text, 2));
-            tabled(
-                limits,
-                expired(number_8(text, 1), limit, time, sessions, out, at),
-            )
-        }
-        21 => {
-            let time = number(word(text, 1));
-            tabled(limits, sweep(timeout, time, sessions, made, out, at))
-        }
-        22 => tabled(limits, remove_session(number_8(text, 1), sessions, out, at)),
-        23 => tabled(limits, live(sessions, out, at)),
-        28 => tabled(limits, dump(sessions, out, at)),
-        _ => tabled(limits, line(out, at, b"bad line")),
+        17 => new_table(text, sessions, out, at),
+        _ => create_command(text, limits, room, sessions, streams, out, at),
+    }
+}
+
+// Commands for the sessions there are.
+fn of_sessions(
+    name: usize,
+    text: &[u8],
+    timeout: u64,
+    made: &mut [u8],
+    sessions: &mut [[u64; 5]],
+    streams: &mut [[u16; 35]],
+    out: &mut [u8],
+    at: usize,
+) -> usize {
+    match name {
+        19 => touch_session(number_8(text, 1), number(word(text, 2)), sessions, out, at),
+        20 => expired_command(text, sessions, out, at),
+        21 => sweep(timeout, number(word(text, 1)), sessions, made, out, at),
+        22 => remove_session(number_8(text, 1), sessions, out, at),
+        23 => live(sessions, out, at),
+        24 => open_one(
+            number_8(text, 1),
+            number_8(text, 2),
+            sessions,
+            streams,
+            out,
+            at,
+        ),
+        _ => dump(sessions, streams, out, at),
     }
 }
 
@@ -299,14 +316,20 @@ fn silent(text: &[u8]) -> bool {
     text[0] == b'#'
 }
 
+// The command's place in the list of all.
+fn name_of(text: &[u8]) -> usize {
+    let names =
+        b"message encode decode cut store insert has counts assemble stream alloc record acknack heartbeat receive make_acknack held table create touch expired sweep remove live open dump";
+    index_of(names, 26, word(text, 0))
+}
+
 pub fn answer(
     text: &[u8],
     state: State,
     room: &mut [u8],
     made: &mut [u8],
-    slots: &mut [u8],
-    lengths: &mut [u32],
     held: &mut [u8],
+    lengths: &mut [u32],
     sessions: &mut [[u64; 5]],
     streams: &mut [[u16; 35]],
     out: &mut [u8],
@@ -314,27 +337,34 @@ pub fn answer(
     if silent(text) {
         return state;
     }
-    let names =
-        b"message encode decode cut store insert has counts assemble stream alloc record acknack heartbeat receive make_acknack held table create touch expired sweep remove live open put get drop dump";
-    let name = index_of(names, 29, word(text, 0));
+    let name = name_of(text);
     let at = settle(out, state.at, 100000);
-    let store = state.store;
-    let stream = state.stream;
-    let limits = state.limits;
     if name < 4 {
         return state.answered(of_wire(name, text, room, made, out, at));
     }
     if name < 9 {
-        let r = of_store(name, text, store, room, made, slots, lengths, out, at);
-        return state.with_store(r);
+        let store = state.store;
+        return state.with_store(of_store(name, text, store, room, made, held, lengths, out, at));
     }
     if name < 17 {
-        let r = of_stream(name, text, stream, room, held, out, at);
-        return state.with_stream(r);
+        let stream = state.stream;
+        return state.with_stream(of_stream(name, text, stream, room, held, out, at));
     }
-    if name < 29 {
-        let r = of_table(name, text, limits, room, made, sessions, streams, out, at);
-        return state.with_table(r);
+    let limits = state.limits;
+    if name < 19 {
+        return state.with_table(of_table(name, text, limits, room, sessions, streams, out, at));
+    }
+    if name < 26 {
+        return state.answered(of_sessions(
+            name,
+            text,
+            limits.timeout_ms,
+            made,
+            sessions,
+            streams,
+            out,
+            at,
+        ));
     }
     state.answered(line(out, at, b"bad line"))
 }

@@ -75,9 +75,8 @@ fn one_line(
     state: State,
     bytes: &mut [u8],
     made: &mut [u8],
-    slots: &mut [u8],
-    lengths: &mut [u32],
     held: &mut [u8],
+    lengths: &mut [u32],
     sessions: &mut [[u64; 5]],
     streams: &mut [[u16; 35]],
     out: &mut [u8],
@@ -90,9 +89,8 @@ fn one_line(
         next,
         bytes,
         made,
-        slots,
-        lengths,
         held,
+        lengths,
         sessions,
         streams,
         out,
@@ -106,9 +104,8 @@ fn lines(
     start: State,
     bytes: &mut [u8],
     made: &mut [u8],
-    slots: &mut [u8],
-    lengths: &mut [u32],
     held: &mut [u8],
+    lengths: &mut [u32],
     sessions: &mut [[u64; 5]],
     streams: &mut [[u16; 35]],
     out: &mut [u8],
@@ -126,9 +123,8 @@ fn lines(
             state,
             bytes,
             made,
-            slots,
-            lengths,
             held,
+            lengths,
             sessions,
             streams,
             out,
@@ -153,9 +149,8 @@ fn step(
     state: State,
     bytes: &mut [u8],
     made: &mut [u8],
-    slots: &mut [u8],
-    lengths: &mut [u32],
     held: &mut [u8],
+    lengths: &mut [u32],
     sessions: &mut [[u64; 5]],
     streams: &mut [[u16; 35]],
     out: &mut [u8],
@@ -171,9 +166,8 @@ fn step(
         state,
         bytes,
         made,
-        slots,
-        lengths,
         held,
+        lengths,
         sessions,
         streams,
         out,
@@ -185,9 +179,8 @@ fn run(
     input: &mut [u8],
     bytes: &mut [u8],
     made: &mut [u8],
-    slots: &mut [u8],
-    lengths: &mut [u32],
     held: &mut [u8],
+    lengths: &mut [u32],
     sessions: &mut [[u64; 5]],
     streams: &mut [[u16; 35]],
     out: &mut [u8],
@@ -205,9 +198,8 @@ fn run(
             state,
             bytes,
             made,
-            slots,
-            lengths,
             held,
+            lengths,
             sessions,
             streams,
             out,
@@ -215,15 +207,14 @@ fn run(
     }
 }
 
-// The lent stores: the input, what a word's bytes and a call's result are kept in, the fragment store, the held messages
-// and the answers.
+// The lent stores: the input, what a word's bytes and a call's result are kept in, the held messages with the fragments
+// behind them, the fragments' lengths, the tables, and the answers.
 fn main() {
     let mut input = [0u8; 262144];
     let mut bytes = [0u8; 66000];
     let mut made = [0u8; 66000];
-    let mut slots = [0u8; 65536];
+    let mut held = [0u8; 81920];
     let mut lengths = [0u32; 65536];
-    let mut held = [0u8; 16384];
     let mut sessions = [[0u64; 5]; 256];
     let mut streams = [[0u16; 35]; 2048];
     let mut out = [0u8; 400000];
@@ -231,9 +222,8 @@ fn main() {
         &mut input,
         &mut bytes,
         &mut made,
-        &mut slots,
-        &mut lengths,
         &mut held,
+        &mut lengths,
         &mut sessions,
         &mut streams,
         &mut out,

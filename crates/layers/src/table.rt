@@ -2,6 +2,7 @@
 use crate::print::end_line;
 use crate::print::line;
 use crate::print::line_1;
+use crate::print::line_3;
 use crate::print::put_key;
 use crate::print::put_name;
 use crate::print::put_number;
@@ -14,12 +15,17 @@ use sessions::opening::Counted;
 use sessions::opening::Created;
 use sessions::opening::create_session;
 use sessions::opening::len;
+use sessions::session_streams::StreamOpened;
+use sessions::session_streams::open_stream;
+use sessions::session_streams::read_stream;
 use sessions::sweep::evict_expired;
+use sessions::table::ClientSession;
 use sessions::table::Named;
 use sessions::table::get;
 use sessions::table::remove;
 use sessions::table::session_at;
 use sessions::table::touch;
+use streams::state::StreamState;
 
 // What a table is set up with, and the id from which the next free one is looked for.
 pub struct Limits {
@@ -151,24 +157,80 @@ pub fn live(sessions: &[[u64; 5]], out: &mut [u8], at: usize) -> usize {
     }
 }
 
-fn session_lines(id: u8, sessions: &[[u64; 5]], out: &mut [u8], at: usize) -> usize {
-    let s = session_at(sessions, id);
-    if s.live == 0 {
-        return at;
+// Opens a stream of a session.
+pub fn open_one(
+    id: u8,
+    stream: u8,
+    sessions: &mut [[u64; 5]],
+    streams: &mut [[u16; 35]],
+    out: &mut [u8],
+    at: usize,
+) -> usize {
+    match open_stream(sessions, streams, id, stream) {
+        StreamOpened::Stream(_) => line(out, at, b"ok"),
+        StreamOpened::Full => line(out, at, b"full"),
+        StreamOpened::NotLive => line(out, at, b"absent"),
+        StreamOpened::Refused(r) => refused(out, at, r),
     }
+}
+
+fn stream_line(s: StreamState, out: &mut [u8], at: usize) -> usize {
+    line_3(
+        out,
+        at,
+        b"stream",
+        s.stream_id as u64,
+        s.next_send_seq as u64,
+        s.next_recv_seq as u64,
+    )
+}
+
+fn stream_lines(id: u8, count: u64, streams: &[[u16; 35]], out: &mut [u8], at: usize) -> usize {
+    let mut next = at;
+    let mut k: usize = 0;
+    while k < 8 {
+        if count <= wide_64(k) {
+            return next;
+        }
+        next = stream_line(read_stream(streams, id, k), out, next);
+        k += 1;
+    }
+    next
+}
+
+fn wide_64(k: usize) -> u64 {
+    k as u64
+}
+
+fn head_line(id: u8, s: ClientSession, out: &mut [u8], at: usize) -> usize {
     let next = put_name(out, at, b"session");
     let next = put_number(out, next, id as u64);
     let next = put_key(out, next, s.client_key);
     line_1(out, next, b"", s.last_activity)
 }
 
+fn session_lines(
+    id: u8,
+    sessions: &[[u64; 5]],
+    streams: &[[u16; 35]],
+    out: &mut [u8],
+    at: usize,
+) -> usize {
+    let s = session_at(sessions, id);
+    if s.live == 0 {
+        return at;
+    }
+    let next = head_line(id, s, out, at);
+    stream_lines(id, s.streams, streams, out, next)
+}
+
 // Each live session with what it holds, ids ascending.
-pub fn dump(sessions: &[[u64; 5]], out: &mut [u8], at: usize) -> usize {
+pub fn dump(sessions: &[[u64; 5]], streams: &[[u16; 35]], out: &mut [u8], at: usize) -> usize {
     let mut next = at;
     let mut id: u8 = 0;
     while id < 255 {
         id += 1;
-        next = session_lines(id, sessions, out, next);
+        next = session_lines(id, sessions, streams, out, next);
     }
     line(out, next, b"dumped")
 }

@@ -25,9 +25,16 @@ use codec::reading::read;
 use codec::strings::StringRead;
 use codec::strings::decode_string;
 use codec::strings::encode_string;
+use codec::submessages::AcknackPayload;
 use codec::submessages::CreateClientPayload;
 use codec::submessages::CreatePayload;
+use codec::submessages::DataPayload;
+use codec::submessages::DeletePayload;
+use codec::submessages::HeartbeatPayload;
+use codec::submessages::ReadDataPayload;
+use codec::submessages::StatusPayload;
 use codec::submessages::Submessage;
+use codec::submessages::WriteDataPayload;
 use codec::writing::write_submessage;
 
 // The place of the next submessage, of the next byte of the answer, and of the next byte that is written back.
@@ -51,48 +58,71 @@ fn create_line(p: CreatePayload, strings: &[u8], out: &mut [u8], at: usize) -> u
     line_1_bytes(out, next, b"", p.parent_id as u64, strings)
 }
 
+fn delete_line(p: DeletePayload, out: &mut [u8], at: usize) -> usize {
+    line_1(out, at, b"delete", p.object_id.0 as u64)
+}
+
+fn status_line(p: StatusPayload, out: &mut [u8], at: usize) -> usize {
+    let status = p.status;
+    line_2(
+        out,
+        at,
+        b"status",
+        p.related_object_id.0 as u64,
+        status.as_u8() as u64,
+    )
+}
+
+fn write_data_line(p: WriteDataPayload, data: &[u8], out: &mut [u8], at: usize) -> usize {
+    line_1_bytes(out, at, b"write_data", p.writer_id.0 as u64, data)
+}
+
+fn read_data_line(p: ReadDataPayload, out: &mut [u8], at: usize) -> usize {
+    line_2(
+        out,
+        at,
+        b"read_data",
+        p.reader_id.0 as u64,
+        p.max_samples as u64,
+    )
+}
+
+fn data_line(p: DataPayload, data: &[u8], out: &mut [u8], at: usize) -> usize {
+    line_1_bytes(out, at, b"data", p.reader_id.0 as u64, data)
+}
+
+fn heartbeat_line(p: HeartbeatPayload, out: &mut [u8], at: usize) -> usize {
+    line_2(
+        out,
+        at,
+        b"heartbeat",
+        p.first_unacked_seq as u64,
+        p.last_seq as u64,
+    )
+}
+
+fn acknack_line(p: AcknackPayload, out: &mut [u8], at: usize) -> usize {
+    line_2(
+        out,
+        at,
+        b"acknack",
+        p.first_unacked_seq as u64,
+        p.nack_bitmap as u64,
+    )
+}
+
 // What a submessage says; `body` is its variable part.
 fn submessage_line(m: Submessage, body: &[u8], out: &mut [u8], at: usize) -> usize {
     match m {
         Submessage::CreateClient(p) => create_client_line(p, out, at),
         Submessage::Create(p) => create_line(p, body, out, at),
-        Submessage::Delete(p) => line_1(out, at, b"delete", p.object_id.0 as u64),
-        Submessage::Status(p) => {
-            let object = p.related_object_id.0 as u64;
-            let status = p.status;
-            line_2(out, at, b"status", object, status.as_u8() as u64)
-        }
-        Submessage::WriteData(p) => {
-            line_1_bytes(out, at, b"write_data", p.writer_id.0 as u64, body)
-        }
-        Submessage::ReadData(p) => {
-            line_2(
-                out,
-                at,
-                b"read_data",
-                p.reader_id.0 as u64,
-                p.max_samples as u64,
-            )
-        }
-        Submessage::Data(p) => line_1_bytes(out, at, b"data", p.reader_id.0 as u64, body),
-        Submessage::Heartbeat(p) => {
-            line_2(
-                out,
-                at,
-                b"heartbeat",
-                p.first_unacked_seq as u64,
-                p.last_seq as u64,
-            )
-        }
-        Submessage::Acknack(p) => {
-            line_2(
-                out,
-                at,
-                b"acknack",
-                p.first_unacked_seq as u64,
-                p.nack_bitmap as u64,
-            )
-        }
+        Submessage::Delete(p) => delete_line(p, out, at),
+        Submessage::Status(p) => status_line(p, out, at),
+        Submessage::WriteData(p) => write_data_line(p, body, out, at),
+        Submessage::ReadData(p) => read_data_line(p, out, at),
+        Submessage::Data(p) => data_line(p, body, out, at),
+        Submessage::Heartbeat(p) => heartbeat_line(p, out, at),
+        Submessage::Acknack(p) => acknack_line(p, out, at),
     }
 }
 
@@ -104,25 +134,30 @@ fn behind(w: Written, end: usize) -> usize {
     }
 }
 
-// The submessage at a place: what it says, and how it is written back.
+// What the submessage says, and how it is written back.
+fn said(
+    m: Submessage,
+    body: &[u8],
+    next: usize,
+    step: Step,
+    made: &mut [u8],
+    out: &mut [u8],
+) -> Step {
+    let end = step.end;
+    let w = write_submessage(made, end, m, body);
+    Step {
+        place: next,
+        at: submessage_line(m, body, out, step.at),
+        end: behind(w, end),
+    }
+}
+
+// The submessage at a place. The datagram was checked, so none is refused here.
 fn one_submessage(s: &[u8], step: Step, made: &mut [u8], out: &mut [u8]) -> Step {
     let place = step.place;
-    let at = step.at;
-    let end = step.end;
     match read(s, Cursor { at: place }) {
-        Parsed::Sub(m, span, next) => {
-            let w = write_submessage(made, end, m, part(s, span));
-            Step {
-                place: next.at,
-                at: submessage_line(m, part(s, span), out, at),
-                end: behind(w, end),
-            }
-        }
-        Parsed::Refused(r) => Step {
-            place,
-            at: refused(out, at, r),
-            end,
-        },
+        Parsed::Sub(m, span, next) => said(m, part(s, span), next.at, step, made, out),
+        Parsed::Refused(_) => step,
     }
 }
 

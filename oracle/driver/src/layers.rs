@@ -146,23 +146,6 @@ impl Layers {
                     session.stream(stream);
                 })
             }
-            ["put", id, at, kind, handle] => {
-                let object = XrceObject {
-                    object_id: number(at)?,
-                    kind: ObjectKind::from_u8(number(kind)?).ok()?,
-                    bridge_handle: number(handle)?,
-                };
-                found(table.get_mut(number(id)?), |session| session.add_object(object))
-            }
-            ["get", id, at] => {
-                let at = number(at)?;
-                table.get(number(id)?).map_or("absent".into(), |session| object_or_none(session.get_object(at)))
-            }
-            ["drop", id, at] => {
-                let at = number(at)?;
-                let session = table.get_mut(number(id)?);
-                session.map_or("absent".into(), |session| object_or_none(session.remove_object(at).as_ref()))
-            }
             ["dump"] => return Some(dump(table)),
             _ => return None,
         };
@@ -245,10 +228,6 @@ fn object(object: &XrceObject) -> String {
         _ => object.bridge_handle.to_string(),
     };
     format!("object {} {kind} {handle}", object.object_id)
-}
-
-fn object_or_none(found: Option<&XrceObject>) -> String {
-    found.map_or("none".into(), object)
 }
 
 /// The tables as REPLAY.md prints them.

@@ -1,5 +1,5 @@
 //! Commands for the layers by chance, inside document 01's domain of comparison. The original answers along, so that
-//! the limits (16 held messages, 32 objects, 8 streams) are met and not passed.
+//! the limits (16 held messages, 8 streams) are met and not passed.
 
 use crate::chance::Chance;
 use crate::datagrams;
@@ -378,7 +378,7 @@ impl Making {
 
     fn table_command(&mut self, time: u64, timeout: u64) {
         let id = self.live_or_any();
-        match self.chance.below(24) {
+        match self.chance.below(17) {
             0..=5 => {
                 let key = self.chance.bytes(4);
                 self.say(format!("create {} {time}", hex(&key)));
@@ -392,16 +392,7 @@ impl Making {
             11 => self.say(format!("remove {id}")),
             12 => self.say("live".into()),
             13 => self.say("dump".into()),
-            14 | 15 => self.open(id),
-            16..=19 => self.put(id),
-            20 | 21 => {
-                let at = self.chance.below(40);
-                self.say(format!("get {id} {at}"));
-            }
-            _ => {
-                let at = self.chance.below(40);
-                self.say(format!("drop {id} {at}"));
-            }
+            _ => self.open(id),
         }
     }
 
@@ -421,18 +412,6 @@ impl Making {
         });
         if !ninth {
             self.say(format!("open {id} {stream}"));
-        }
-    }
-
-    fn put(&mut self, id: u8) {
-        let at = if self.chance.one_in(20) { self.chance.word() as u16 } else { self.chance.below(40) as u16 };
-        let surplus = self.original.table.get(id).is_some_and(|session| {
-            session.objects.len() == 32 && !session.objects.contains_key(&at)
-        });
-        if !surplus {
-            let kind = self.chance.within(1, 6);
-            let handle = self.chance.pick(&[0, 1, 7, 300, u32::MAX]);
-            self.say(format!("put {id} {at} {kind} {handle}"));
         }
     }
 }
