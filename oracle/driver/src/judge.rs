@@ -107,6 +107,30 @@ pub fn layers(commands: &str, original: &str, port: &str) -> Verdict {
     Ok(summary("commands for the layers", &counts))
 }
 
+/// Of the commands, one block in `every` whose answers are the same on both sides byte for byte, with those answers: a
+/// list that can be replayed with no Rust at hand. A block is a command that needs no state, or all on one state.
+pub fn sample(commands: &str, original: &str, port: &str, every: usize) -> (String, String) {
+    let (mut original, mut port) = sides(original, port);
+    let (mut blocks, mut kept): (BTreeMap<&str, usize>, BTreeMap<&str, bool>) = Default::default();
+    let (mut stdin, mut stdout) = (String::new(), String::new());
+    for command in commands.lines().filter(|line| !silent(line)) {
+        let word = first_word(command);
+        let state = state_of(word);
+        if state.is_empty() || word == state {
+            let block = blocks.entry(if state.is_empty() { word } else { state }).or_insert(0);
+            kept.insert(state, *block % every == 0);
+            *block += 1;
+        }
+        let (ours, theirs) = (raw_answer(word, &mut original), raw_answer(word, &mut port));
+        let short = command.len() + ours.iter().map(String::len).sum::<usize>() < 4000;
+        if ours == theirs && short && kept[state] {
+            stdin.push_str(&format!("{command}\n"));
+            ours.iter().for_each(|line| stdout.push_str(&format!("{line}\n")));
+        }
+    }
+    (stdin, stdout)
+}
+
 // The command that makes the state on which this one works, or none.
 fn state_of(word: &str) -> &str {
     match word {
@@ -117,8 +141,8 @@ fn state_of(word: &str) -> &str {
     }
 }
 
-fn layer_answer(word: &str, side: &mut Side) -> Vec<String> {
-    let mut lines = side.answer(|line| {
+fn raw_answer(word: &str, side: &mut Side) -> Vec<String> {
+    side.answer(|line| {
         let answered = first_word(line);
         let last = match word {
             "message" => "written",
@@ -127,7 +151,11 @@ fn layer_answer(word: &str, side: &mut Side) -> Vec<String> {
             _ => return true,
         };
         answered == last || answered == "refused" || line == "bad line"
-    });
+    })
+}
+
+fn layer_answer(word: &str, side: &mut Side) -> Vec<String> {
+    let mut lines = raw_answer(word, side);
     sorted_runs(&mut lines);
     if word == "decode" {
         lines.iter_mut().for_each(|line| *line = lossy(line, &[1]));

@@ -15,12 +15,17 @@ use std::io::{BufWriter, Read, Write};
 
 const USAGE: &str = "oracle layers | replay                     answers the commands or the script on standard input
 oracle make layers | replay SEED COUNT     writes commands or scripts
-oracle judge layers | replay COMMANDS ORIGINAL PORT   shows the first difference";
+oracle judge layers | replay COMMANDS ORIGINAL PORT   shows the first difference
+oracle sample COMMANDS ORIGINAL PORT EVERY STDIN STDOUT   writes a fixed list of one block in EVERY";
 
 fn standard_input() -> String {
     let mut text = String::new();
     std::io::stdin().read_to_string(&mut text).expect("standard input is text");
     text
+}
+
+fn file(path: &str) -> String {
+    std::fs::read_to_string(path).expect("a file of lines")
 }
 
 fn print(lines: impl IntoIterator<Item = String>) {
@@ -52,8 +57,7 @@ fn main() {
             }
         }
         ["judge", what, commands, original, port] => {
-            let text = |path| std::fs::read_to_string(path).expect("a file of lines");
-            let (commands, original, port) = (text(commands), text(original), text(port));
+            let (commands, original, port) = (file(commands), file(original), file(port));
             let verdict = match what {
                 "layers" => judge::layers(&commands, &original, &port),
                 "replay" => judge::replay(&commands, &original, &port),
@@ -66,6 +70,12 @@ fn main() {
                     std::process::exit(1);
                 }
             }
+        }
+        ["sample", commands, original, port, every, stdin, stdout] => {
+            let every = words::number(every).expect("EVERY is a number");
+            let (commands, answers) = judge::sample(&file(commands), &file(original), &file(port), every);
+            std::fs::write(stdin, commands).expect("STDIN can be written");
+            std::fs::write(stdout, answers).expect("STDOUT can be written");
         }
         _ => usage(),
     }
