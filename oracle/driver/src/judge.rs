@@ -107,8 +107,9 @@ pub fn layers(commands: &str, original: &str, port: &str) -> Verdict {
     Ok(summary("commands for the layers", &counts))
 }
 
-/// Of the commands, one block in `every` whose answers are the same on both sides byte for byte, with those answers: a
-/// list that can be replayed with no Rust at hand. A block is a command that needs no state, or all on one state.
+/// Of the commands that need no state one in `every`, and of the rest one block in an eighth of that, where the answers are
+/// the same on both sides byte for byte, with those answers: a list that can be replayed with no Rust at hand. A block is
+/// all the commands on one state.
 pub fn sample(commands: &str, original: &str, port: &str, every: usize) -> (String, String) {
     let (mut original, mut port) = sides(original, port);
     let (mut blocks, mut kept): (BTreeMap<&str, usize>, BTreeMap<&str, bool>) = Default::default();
@@ -118,7 +119,8 @@ pub fn sample(commands: &str, original: &str, port: &str, every: usize) -> (Stri
         let state = state_of(word);
         if state.is_empty() || word == state {
             let block = blocks.entry(if state.is_empty() { word } else { state }).or_insert(0);
-            kept.insert(state, *block % every == 0);
+            let step = if state.is_empty() { every } else { (every / 8).max(1) };
+            kept.insert(state, *block % step == 0);
             *block += 1;
         }
         let (ours, theirs) = (raw_answer(word, &mut original), raw_answer(word, &mut port));

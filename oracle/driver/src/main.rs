@@ -16,7 +16,7 @@ use std::io::{BufWriter, Read, Write};
 const USAGE: &str = "oracle layers | replay                     answers the commands or the script on standard input
 oracle make layers | replay SEED COUNT     writes commands or scripts
 oracle judge layers | replay COMMANDS ORIGINAL PORT   shows the first difference
-oracle sample COMMANDS ORIGINAL PORT EVERY STDIN STDOUT   writes a fixed list of one block in EVERY";
+oracle sample COMMANDS ORIGINAL PORT EVERY STDIN STDOUT   writes a fixed list, one command in EVERY";
 
 fn standard_input() -> String {
     let mut text = String::new();
