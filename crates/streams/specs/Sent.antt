@@ -2,7 +2,6 @@
 use Prim.Native.Nat.{ℕ, _+_, _-_, _*_}
 use mathlib.Core.Bool.{cond, not}
 use mathlib.Core.List.{List, []}
-use mathlib.Core.Option.{Option, none, some}
 use lib.Dec.{eqb, ltb, leb}
 use lib.ListN.{getD, set, length, take, drop}
 use Rattle.codec.specs.Bytes.{putAt}
@@ -16,7 +15,7 @@ use Rattle.streams.specs.declared.sent.Recorded.{Recorded}
 use Rattle.streams.specs.declared.sent.Held.{Held}
 use Rattle.streams.specs.declared.sent.Held.the-variants as held
 use Rattle.streams.specs.Sequence.{plus}
-use Rattle.streams.specs.Places.{placeOf, isHeld, inLimits, placeFor}
+use Rattle.streams.specs.Places.{placeOf, inLimits, placeFor}
 
 -- the number to send next, and the stream with the one behind it; "after 65,535 comes 0"
 unfoldable pub allocOf : StreamState → Allocated
@@ -88,7 +87,3 @@ abbrev pub heldNumber : Held → ℕ
 heldNumber (held.At place len) = 0
 heldNumber held.Nothing = 0
 heldNumber (held.Refused r) = numberOf r
-
--- the messages held, as the Rust's map from numbers to bytes
-unfoldable pub messageOf : StreamState → List ℕ → ℕ → Option (List ℕ)
-messageOf s buffer n = cond (isHeld s n) (some (take (getD (s .lengths) (placeOf s n) 0 - 1) (drop (placeOf s n * 1024) buffer))) none
