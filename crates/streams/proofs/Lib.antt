@@ -3,3 +3,8 @@ pub mod Serial
 pub mod Slots
 pub mod Dropped
 pub mod View
+pub mod Soundness
+pub mod History
+pub mod Repeats
+pub mod Heartbeat
+pub mod Cases

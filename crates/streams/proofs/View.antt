@@ -25,7 +25,7 @@ use Rattle.streams.proofs.Slots.{read-same, read-before, read-behind}
 
 -- a message that is recorded at a place
 module _ (s : StreamState) (sound : Sound s) (n len p : ℕ) (low : p < 16) where
-  at-same : (m : ℕ) → holdsAt (withMessage s p n len) m p ≡ eqb n m
+  pub at-same : (m : ℕ) → holdsAt (withMessage s p n len) m p ≡ eqb n m
   unfolding holdsAt withMessage holds
   at-same m =
       rw (
@@ -34,7 +34,7 @@ module _ (s : StreamState) (sound : Sound s) (n len p : ℕ) (low : p < 16) wher
         ne-eqb (len + 1) 0 (omega arith),
       )
 
-  at-other : (m j : ℕ) → (j ≡ p → ⊥) → holdsAt (withMessage s p n len) m j ≡ holdsAt s m j
+  pub at-other : (m j : ℕ) → (j ≡ p → ⊥) → holdsAt (withMessage s p n len) m j ≡ holdsAt s m j
   unfolding holdsAt withMessage
   at-other m j h = rw (getD-set-other (s .numbers) p j n 0 h, getD-set-other (s .lengths) p j (len + 1) 0 h)
 
