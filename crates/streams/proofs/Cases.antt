@@ -1,16 +1,15 @@
 -- Document 01's lettered cases d to j, as one table.
 use Prim.Native.Nat.{ℕ, suc}
-use mathlib.Core.Path.{_≡_, refl, sym, ap, _∙_}
+use mathlib.Core.Path.{_≡_, refl, ap, _∙_}
 use mathlib.Core.Bool.{Bool, true, false, cond, _||_}
 use mathlib.Core.List.{List, [], _∷_}
 use native.Mathlib.Omega.{arith}
 use borrow.Author.Tests.{eqb-true}
 use lib.Dec.{eqb}
-use Rattle.codec.specs.declared.submessages.HeartbeatPayload.{HeartbeatPayload}
 use Rattle.streams.specs.declared.state.StreamState.{StreamState}
-use Rattle.streams.specs.Sequence.{plus, minus, seqLt}
+use Rattle.streams.specs.Sequence.{plus, seqLt}
 use Rattle.streams.specs.Places.{isHeld}
-use Rattle.streams.specs.Acknowledged.{bitOf, wanted, repeatsFrom, repeats, acknowledge, repeatsOf, padded, firstUnacked, heartbeatOf}
+use Rattle.streams.specs.Acknowledged.{wanted, repeatsFrom, repeats, acknowledge, repeatsOf, padded, firstUnacked, heartbeatOf}
 use Rattle.streams.specs.Received.{bitValue, bitmapFrom, bitmapOf, acknackOf}
 use Rattle.streams.proofs.Repeats.{left}
 use Rattle.streams.proofs.Heartbeat.{least}

@@ -1,20 +1,20 @@
 -- What an ACKNACK leaves held: exactly the numbers that don't come before its first one.
-use Prim.Native.Nat.{ℕ, zero, suc, _+_, _-_, _*_, _≤_, _<_}
+use Prim.Native.Nat.{ℕ, zero, suc, _+_, _<_}
 use mathlib.Core.Path.{_≡_, refl, sym, ap, _∙_}
 use mathlib.Core.Bool.{Bool, true, false, cond}
-use mathlib.Core.List.{List, [], _∷_}
-use mathlib.Core.Option.{none, some}
-use native.Mathlib.Nat.{le-of-suc-le-suc, not-suc-le-zero, add-suc, add-zero}
+use mathlib.Core.List.{List}
+use mathlib.Core.Option.{none}
+use native.Mathlib.Nat.{le-of-suc-le-suc, not-suc-le-zero, add-zero}
 use native.Mathlib.Omega.{arith}
-use borrow.Author.Tests.{eqb-true, eqb-false, lt-ltb}
+use borrow.Author.Tests.{eqb-true, eqb-false}
 use lib.Dec.{eqb, ltb}
-use lib.ListN.{getD, length, take, drop}
+use lib.ListN.{getD, length}
 use Rattle.streams.specs.declared.state.StreamState.{StreamState}
 use Rattle.streams.specs.Sequence.{seqLt}
 use Rattle.streams.specs.Places.{holds, holdsAt, placeOf, isHeld}
 use Rattle.streams.specs.Acknowledged.{keptLength, keptAt, listFrom, sixteen, dropBefore}
 use Rattle.streams.specs.View.{messageOf}
-use Rattle.streams.proofs.places.Laws.{never, first-none, first-agree}
+use Rattle.streams.proofs.places.Laws.{first-none, first-agree}
 use Rattle.streams.proofs.places.Held.{holds-free, holds-other, holds-number, held-low, free-place, held-there, message-at, message-none}
 
 -- the sixteen values of a function

@@ -1,14 +1,13 @@
 -- A held message reads back byte for byte until it is replaced or acknowledged, whatever else is called.
-use Prim.Native.Nat.{ℕ, _-_, _*_, _≤_, _<_}
-use mathlib.Core.Path.{_≡_, refl, sym, ap, _∙_}
-use mathlib.Core.Bool.{Bool, true, false, cond, not}
+use Prim.Native.Nat.{ℕ, _-_, _*_, _≤_}
+use mathlib.Core.Path.{_≡_, refl, sym, _∙_}
+use mathlib.Core.Bool.{Bool, true, false, cond}
 use mathlib.Core.List.{List, [], _∷_}
-use mathlib.Core.Option.{Option, none, some}
+use mathlib.Core.Option.{none, some}
 use native.Mathlib.Omega.{arith}
 use borrow.Author.Tests.{eqb-false, eq-eqb, ne-eqb, le-ltb, lt-leb, not-true}
-use lib.Dec.{eqb, ltb}
-use lib.ListN.{getD, length, take, drop}
-use Rattle.codec.specs.declared.refusals.Refusal.{Refusal}
+use lib.Dec.{eqb}
+use lib.ListN.{getD, length}
 use Rattle.streams.specs.declared.state.StreamState.{StreamState}
 use Rattle.streams.specs.declared.received.Received.{Received}
 use Rattle.streams.specs.declared.sent.Slot.{Slot}
@@ -16,7 +15,7 @@ use Rattle.streams.specs.declared.sent.Slot.the-variants as slot
 use Rattle.streams.specs.declared.sent.Held.the-variants as held
 use Rattle.streams.specs.Sequence.{seqLt, plus}
 use Rattle.streams.specs.Places.{placeOf, isHeld}
-use Rattle.streams.specs.Sent.{need, allocOf, slotFor, withMessage, recordAt, recordOf, bytesAt, recordBytes, heldOf, heldBytes}
+use Rattle.streams.specs.Sent.{need, allocOf, slotFor, recordAt, recordOf, bytesAt, recordBytes, heldOf, heldBytes}
 use Rattle.streams.specs.Acknowledged.{acknowledge, repeatsOf}
 use Rattle.streams.specs.Received.{receivedOf, expecting}
 use Rattle.streams.specs.View.{messageOf, Sound, Stream, Call, allocate, send, acknack, receive, after, afterAll, spares, AllSpare}

@@ -4,6 +4,7 @@ pub mod Slots
 pub mod Dropped
 pub mod View
 pub mod Soundness
+pub mod Answers
 pub mod History
 pub mod Repeats
 pub mod Heartbeat

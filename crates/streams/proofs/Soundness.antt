@@ -1,19 +1,17 @@
 -- Every call leaves a sound state, and of a sound state no length is past its limit.
 use Prim.Native.Nat.{ℕ, zero, suc, _+_, _≤_, _<_}
-use mathlib.Core.Path.{_≡_, refl, sym, ap, _∙_}
-use mathlib.Core.Bool.{Bool, true, false, cond, not}
+use mathlib.Core.Path.{_≡_, refl, sym, _∙_}
+use mathlib.Core.Bool.{Bool, true, false, cond}
 use mathlib.Core.List.{List}
-use native.Mathlib.Nat.{le-of-suc-le-suc}
 use native.Mathlib.Omega.{arith}
-use borrow.Author.Tests.{ltb-true, ltb-false, eqb-true, eqb-false, le-leb, le-ltb, lt-ltb}
-use lib.Dec.{eqb, ltb, leb}
-use lib.ListN.{getD, length, set, replicate, length-set, List·getD-eq-default}
+use borrow.Author.Tests.{ltb-true, ltb-false, eqb-true, eqb-false, lt-ltb}
+use lib.Dec.{eqb, ltb}
+use lib.ListN.{getD, set, replicate, length-set, List·getD-eq-default}
 use lib.Seq.{getD-set-same, getD-set-other}
 use Rattle.streams.specs.declared.state.StreamState.{StreamState}
-use Rattle.streams.specs.declared.received.Received.{Received}
-use Rattle.streams.specs.Sequence.{plus, seqLt}
+use Rattle.streams.specs.Sequence.{seqLt}
 use Rattle.streams.specs.State.{newStream}
-use Rattle.streams.specs.Places.{holds, within, holdsAt, lengthAt, placeOf, placeBetween, isHeld, inLimits, placeFor}
+use Rattle.streams.specs.Places.{within, holdsAt, lengthAt, placeOf, placeBetween, isHeld, inLimits, placeFor}
 use Rattle.streams.specs.Sent.{withMessage}
 use Rattle.streams.specs.Acknowledged.{keptLength, keptAt, sixteen, dropBefore}
 use Rattle.streams.specs.View.{Sound, messageOf}

@@ -1,21 +1,18 @@
 -- What each call does to the messages held, as a map from numbers to bytes; and a message reads back until it is replaced or acknowledged.
-use Prim.Native.Nat.{ℕ, suc, _+_, _-_, _*_, _≤_, _<_}
+use Prim.Native.Nat.{ℕ, _+_, _-_, _*_, _≤_, _<_}
 use mathlib.Core.Path.{_≡_, refl, sym, ap, _∙_}
-use mathlib.Core.Bool.{Bool, true, false, cond, not}
-use mathlib.Core.List.{List, [], _∷_}
-use mathlib.Core.Option.{Option, none, some}
-use mathlib.Core.Logic.{⊎-elim}
-use native.Mathlib.Nat.{eq-or-lt-of-le}
+use mathlib.Core.Bool.{Bool, true, false, cond}
+use mathlib.Core.List.{List}
+use mathlib.Core.Option.{some}
 use native.Mathlib.Omega.{arith}
-use borrow.Author.Tests.{ltb-true, ltb-false, eqb-true, eqb-false, eq-eqb, ne-eqb, lt-ltb, le-leb}
+use borrow.Author.Tests.{ltb-true, ltb-false, eqb-true, eqb-false, eq-eqb, ne-eqb}
 use lib.Dec.{eqb, ltb}
-use lib.ListN.{getD, length, take, drop, set}
+use lib.ListN.{getD, length, take, drop}
 use lib.Seq.{getD-set-same, getD-set-other}
 use Rattle.codec.specs.Bytes.{putAt}
 use Rattle.streams.specs.declared.state.StreamState.{StreamState}
-use Rattle.streams.specs.declared.sent.Slot.{Slot}
 use Rattle.streams.specs.declared.sent.Slot.the-variants as slot
-use Rattle.streams.specs.Places.{firstPlace, holds, holdsAt, placeOf, isHeld, placeFor}
+use Rattle.streams.specs.Places.{holds, holdsAt, placeOf, isHeld}
 use Rattle.streams.specs.Sent.{need, slotFor, withMessage}
 use Rattle.streams.specs.View.{messageOf, Sound}
 use Rattle.streams.proofs.places.Laws.{never, first-is, first-agree}

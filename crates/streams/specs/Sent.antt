@@ -33,6 +33,7 @@ need = 16384
 -- Where a message of `len` bytes goes that is sent under n.
 -- "Best effort (stream 0) records nothing, never gives 14": nothing of the buffer and of the places is looked at.
 -- 16, "lent store under its documented need, or tables altered past a limit"; then 14, "17th held number; message over 1,024".
+-- What is recorded is a finished message and no payload or string: 12 was given, if at all, where it was written.
 unfoldable pub slotFor : StreamState → ℕ → ℕ → ℕ → Slot
 slotFor s n len room =
     cond (eqb (s .«stream_id») 0) slot.Nowhere
@@ -78,11 +79,13 @@ heldOf s n room =
     (cond (ltb 1025 (getD (s .lengths) (placeOf s n) 0)) (held.Refused OverLimit)
     (held.At (placeOf s n) (getD (s .lengths) (placeOf s n) 0 - 1))))
 
+-- the message as that part of the buffer, or an empty part
 unfoldable pub heldBytes : Held → List ℕ → List ℕ
 heldBytes (held.At place len) buffer = take len (drop (place * 1024) buffer)
 heldBytes held.Nothing buffer = []
 heldBytes (held.Refused r) buffer = []
 
+-- as `slotNumber`
 abbrev pub heldNumber : Held → ℕ
 heldNumber (held.At place len) = 0
 heldNumber held.Nothing = 0
