@@ -1,4 +1,4 @@
--- Laws of the definitions, and the lettered cases.
+-- Theorems on the definitions, and the laws that they rest on.
 pub mod Serial
 pub mod Slots
 pub mod Dropped

@@ -25,7 +25,7 @@ zero-at zero i = refl
 zero-at (suc k) zero = refl
 zero-at (suc k) (suc i) = zero-at k i
 
--- a stream that was just opened holds nothing
+-- a stream that was just opened is sound and holds nothing
 pub new-sound : (id : ℕ) → Sound (newStream id)
 unfolding holdsAt
 new-sound id = record {
@@ -34,6 +34,11 @@ new-sound id = record {
   short = λ i. rw (zero-at 16 i) (omega arith);
   once = λ n i j hi hj a b. absurd (never a (holds-free (getD (replicate 16 0) i 0) (getD (replicate 16 0) i 0) n (zero-at 16 i)));
 }
+
+pub new-empty : (id n : ℕ) → isHeld (newStream id) n ≡ false
+unfolding isHeld placeOf holdsAt
+new-empty id n =
+    rw (first-none (holdsAt (newStream id) n) (λ j h. holds-free (getD (replicate 16 0) j 0) (getD (replicate 16 0) j 0) n (zero-at 16 j)))
 
 -- a sound state is never refused for its lengths
 pub sound-limits : (s : StreamState) → Sound s → inLimits s ≡ true
