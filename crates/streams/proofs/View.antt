@@ -1,4 +1,4 @@
--- What each call does to the messages held, as a map from numbers to bytes; and a message reads back until it is replaced or acknowledged.
+-- What recording a message does to the messages held, as a map from numbers to bytes.
 use Prim.Native.Nat.{ℕ, _+_, _-_, _*_, _≤_, _<_}
 use mathlib.Core.Path.{_≡_, refl, sym, ap, _∙_}
 use mathlib.Core.Bool.{Bool, true, false, cond}
