@@ -21,7 +21,7 @@ use Rattle.streams.specs.Received.{receivedOf, expecting}
 use Rattle.streams.specs.View.{messageOf, Sound, Stream, Call, allocate, send, acknack, receive, after, afterAll, spares, AllSpare}
 use Rattle.streams.proofs.places.Held.{held-low, free-place, message-at, message-none}
 use Rattle.streams.proofs.sent.Laws.{slot-at}
-use Rattle.streams.proofs.Slots.{same-length}
+use Rattle.codec.proofs.bytes.Laws.{length-put}
 use Rattle.streams.proofs.Dropped.{acknowledged}
 use Rattle.streams.proofs.View.{recorded}
 use Rattle.streams.proofs.Soundness.{same-sound, same-messages, drop-sound, record-sound}
@@ -55,7 +55,7 @@ module _ (x : Stream) (d : Sound (x .state)) (m : ℕ) (message : List ℕ) wher
   unfolding bytesAt
   sent-room (slot.At p) e =
       let k = slot-at (x .state) m (length message) (length (x .buffer)) p e in
-      same-length (x .buffer) (p * 1024) message (omega (arith, k .low, k .short, k .room-for))
+      length-put (x .buffer) (p * 1024) message (omega (arith, k .low, k .short, k .room-for))
   sent-room slot.Nowhere e = refl
   sent-room (slot.Refused r) e = refl
 

@@ -39,7 +39,3 @@ module _ (buffer : List ℕ) (at : ℕ) (bytes : List ℕ) (fits : at + length b
       let front = take at buffer in
       rw (append-assoc front bytes (drop (at + length bytes) buffer)) (cut from k h (bytes ++ drop (at + length bytes) buffer))
       ∙ sym (rw (take-append-drop at buffer) at (cut from k h (drop at buffer)))
-
-  pub same-length : length (putAt buffer at bytes) ≡ length buffer
-  unfolding putAt
-  same-length = simp (length-append, length-drop) (omega (arith, head))
