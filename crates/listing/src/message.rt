@@ -24,14 +24,8 @@ fn put_sub(out: &mut [u8], at: usize, m: Submessage, here: usize, end: usize) ->
     requires { ⌜ here + 4 ≤ end ⌝ }
     ensures { λ r. ⌜ Put (now (out .entry)) at (lineOf subWord (idOf m ∷ here ∷ (end - (here + 4)) ∷ [])) r (now (out .exit)) ⌝ }
 {
-    put_three(
-        out,
-        at,
-        b"sub",
-        m.id() as usize,
-        here,
-        end - (here + SUBMESSAGE_HEADER_SIZE),
-    )
+    let payload = here + SUBMESSAGE_HEADER_SIZE;
+    put_three(out, at, b"sub", m.id() as usize, here, end - payload)
 }
 
 // A line for each submessage of a datagram that is accepted.

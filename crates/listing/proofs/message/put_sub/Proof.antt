@@ -3,6 +3,9 @@ use borrow.Author.Needs.{needs}
 use Rattle.listing.proofs.message.put_sub.Statement.{statement}
 use Rattle.listing.proofs.message.put_sub.Tie as tie
 
+add-payload : tie.Need-add-payload
+add-payload c = search needs
+
 slice-aggregate-put-three : tie.Need-slice-aggregate-put-three
 slice-aggregate-put-three c = search needs
 
@@ -11,9 +14,6 @@ id-requires c κs = search needs
 
 cast-put-three : tie.Need-cast-put-three
 cast-put-three c = search needs
-
-add-put-three : tie.Need-add-put-three
-add-put-three c = search needs
 
 sub-put-three : tie.Need-sub-put-three
 sub-put-three c = search needs
@@ -31,10 +31,10 @@ pub put-sub-spec : {M : Type 1} → statement M
 put-sub-spec =
     tie.close
     (tie.spec
+    add-payload
     slice-aggregate-put-three
     id-requires
     cast-put-three
-    add-put-three
     sub-put-three
     put-three-requires
     same-length
