@@ -6,7 +6,7 @@ use native.Mathlib.Decide.{decLe}
 use native.Mathlib.Nat.{lt-of-not-le}
 use native.Mathlib.Omega.{arith}
 use borrow.Author.Tests.{lt-ltb, le-ltb}
-use Rattle.listing.specs.Decimal.{decimalIn, decimalOf, valueFrom}
+use Rattle.listing.specs.Decimal.{decimalIn, decimalOf, valueFrom, Digits}
 
 -- any count that is large enough gives the same digits
 enough : (f g n : ℕ) → n < f → n < g → decimalIn f n ≡ decimalIn g n
@@ -51,3 +51,22 @@ value-in (suc f) n h =
 pub decimal-back : (n : ℕ) → valueFrom 0 (decimalOf n) ≡ n
 unfolding decimalOf
 decimal-back n = value-in (suc n) n (omega arith)
+
+digits-append : (a b : List ℕ) → Digits a → Digits b → Digits (a ++ b)
+digits-append [] b p q = q
+digits-append (d ∷ a) b p q = (p .0, digits-append a b (p .1) q)
+
+digits-in : (f n : ℕ) → n < f → Digits (decimalIn f n)
+unfolding decimalIn
+digits-in zero n h = absurd (omega arith)
+digits-in (suc f) n h =
+    elim (decLe 10 n) [
+      | yes k ↦
+          rw (le-ltb n 10 k)
+          (digits-append (decimalIn f (n / 10)) ((48 + n % 10) ∷ []) (digits-in f (n / 10) (omega arith)) ((omega arith, omega arith), tt))
+      | no k ↦ rw (lt-ltb n 10 (lt-of-not-le k)) ((omega arith, omega arith), tt)
+    ]
+
+pub decimal-digits : (n : ℕ) → Digits (decimalOf n)
+unfolding decimalOf
+decimal-digits n = digits-in (suc n) n (omega arith)

@@ -2,3 +2,4 @@
 pub mod Decimal
 pub mod Counts
 pub mod InOrder
+pub mod Cases

@@ -1,5 +1,5 @@
 -- Numbers in decimal, the highest digit first and no zero in front.
-use Prim.Native.Nat.{ℕ, zero, suc, _+_, _-_, _*_, _/_, _%_}
+use Prim.Native.Nat.{ℕ, zero, suc, _+_, _-_, _*_, _/_, _%_, _≤_}
 use mathlib.Core.Bool.{cond}
 use mathlib.Core.List.{List, [], _∷_, _++_}
 use lib.Dec.{ltb}
@@ -17,3 +17,8 @@ decimalOf n = decimalIn (suc n) n
 abbrev pub valueFrom : ℕ → List ℕ → ℕ
 valueFrom v [] = v
 valueFrom v (d ∷ ds) = valueFrom (10 * v + (d - 48)) ds
+
+-- each byte is one of `0` to `9`: the theorem `decimal-digits` says so of those of n
+abbrev pub Digits : List ℕ → Type 0
+Digits [] = Unit
+Digits (d ∷ ds) = ((48 ≤ d) × (d ≤ 57)) × Digits ds
