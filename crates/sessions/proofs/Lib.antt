@@ -3,3 +3,5 @@ pub mod Search
 pub mod Parts
 pub mod ViewObjects
 pub mod ViewTable
+pub mod ViewStores
+pub mod Chosen
