@@ -5,3 +5,6 @@ pub mod ViewObjects
 pub mod ViewTable
 pub mod ViewStores
 pub mod Chosen
+pub mod Cases
+pub mod Within
+pub mod ViewStreams
