@@ -1,0 +1,2 @@
+-- Laws of what an ACKNACK drops and lists.
+pub mod Laws

@@ -1,0 +1,2 @@
+-- Laws of the bits of an ACKNACK.
+pub mod Laws

@@ -1,0 +1,2 @@
+-- Laws of held messages.
+pub mod Laws

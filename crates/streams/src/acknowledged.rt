@@ -1,0 +1,130 @@
+// What an ACKNACK acknowledges and asks for, and the HEARTBEAT that says what is still held.
+use crate::sequence::seq_add;
+use crate::sequence::seq_lt;
+use crate::sequence::seq_sub;
+use crate::state::PLACES;
+use crate::state::StreamState;
+use codec::submessages::HeartbeatPayload;
+ghost use mathlib.Core.Path.{_≡_};
+ghost use Prim.Native.Nat.{_<_};
+ghost use Rattle.streams.specs.Acknowledged.{keptLength, dropBefore, wanted, repeatsOf, acknowledge, older, firstUnacked, heartbeatOf};
+
+// The numbers to repeat, in the order of their bits: the first `count` of the sixteen.
+pub struct Acknowledged {
+    pub state: StreamState,
+    pub repeats: [u16; PLACES],
+    pub count: usize,
+}
+
+// The oldest number met so far; `any` says whether one was met.
+struct Oldest {
+    pub any: bool,
+    pub seq: u16,
+}
+
+// The length of a place when what comes before `first` is dropped.
+fn kept_length(number: u16, length: u16, first: u16) -> u16
+    ensures { λ r. ⌜ r ≡ keptLength number length first ⌝ }
+{
+    if seq_lt(number, first) { 0 } else { length }
+}
+
+// The choice of the number that a HEARTBEAT names first: the numerically least.
+fn older(best: Oldest, number: u16, length: u16) -> Oldest
+    ensures { λ r. ⌜ r ≡ older best number length ⌝ }
+{
+    if length == 0 {
+        return best;
+    }
+    if best.any {
+        if best.seq <= number {
+            return best;
+        }
+    }
+    Oldest {
+        any: true,
+        seq: number,
+    }
+}
+
+impl StreamState {
+    // The stream without the numbers before the first unacknowledged one.
+    fn drop_before(self, first_unacked_seq: u16) -> StreamState
+        ensures { λ r. ⌜ r ≡ dropBefore self «first_unacked_seq» ⌝ }
+    {
+        let mut lengths = [0u16; PLACES];
+        let mut i = 0;
+        while i < PLACES {
+            lengths[i] = kept_length(self.numbers[i], self.lengths[i], first_unacked_seq);
+            i += 1;
+        }
+        let mut state = self;
+        state.lengths = lengths;
+        state
+    }
+
+    // Whether a bit is set and its number is held.
+    fn wanted(self, first_unacked_seq: u16, nack_bitmap: u16, bit: u16) -> bool
+        requires { ⌜ bit < 16 ⌝ }
+        ensures { λ r. ⌜ r ≡ wanted self «first_unacked_seq» «nack_bitmap» bit ⌝ }
+    {
+        if (nack_bitmap >> bit) % 2 == 1 {
+            self.is_held(seq_add(first_unacked_seq, bit))
+        } else {
+            false
+        }
+    }
+
+    fn list_repeats(self, first_unacked_seq: u16, nack_bitmap: u16) -> Acknowledged
+        ensures { λ r. ⌜ r ≡ repeatsOf self «first_unacked_seq» «nack_bitmap» ⌝ }
+    {
+        let mut repeats = [0u16; PLACES];
+        let mut count: usize = 0;
+        let mut bit: u16 = 0;
+        while bit < 16 {
+            if self.wanted(first_unacked_seq, nack_bitmap, bit) {
+                repeats[count] = seq_add(first_unacked_seq, bit);
+                count += 1;
+            }
+            bit += 1;
+        }
+        Acknowledged {
+            state: self,
+            repeats,
+            count,
+        }
+    }
+
+    // Drops what is acknowledged, and lists what of the rest is asked for.
+    pub fn process_acknack(self, first_unacked_seq: u16, nack_bitmap: u16) -> Acknowledged
+        ensures { λ r. ⌜ r ≡ acknowledge self «first_unacked_seq» «nack_bitmap» ⌝ }
+    {
+        self.drop_before(first_unacked_seq)
+            .list_repeats(first_unacked_seq, nack_bitmap)
+    }
+
+    fn first_unacked(self) -> u16
+        ensures { λ r. ⌜ r ≡ firstUnacked self ⌝ }
+    {
+        let mut best = Oldest {
+            any: false,
+            seq: self.next_send_seq,
+        };
+        let mut i = 0;
+        while i < PLACES {
+            best = older(best, self.numbers[i], self.lengths[i]);
+            i += 1;
+        }
+        best.seq
+    }
+
+    pub fn make_heartbeat(self) -> HeartbeatPayload
+        ensures { λ r. ⌜ r ≡ heartbeatOf self ⌝ }
+    {
+        let first = self.first_unacked();
+        HeartbeatPayload {
+            first_unacked_seq: first,
+            last_seq: seq_sub(self.next_send_seq, 1),
+        }
+    }
+}
