@@ -8,3 +8,4 @@ pub mod Chosen
 pub mod Cases
 pub mod Within
 pub mod ViewStreams
+pub mod Kept
