@@ -1,0 +1,137 @@
+-- The view of a session's objects: a row changed by an operation shows the list changed by document 01's.
+use Prim.Native.Nat.{ℕ, zero, suc, _+_, _-_, _<_, _≤_}
+use mathlib.Core.Path.{_≡_, refl, sym, ap, _∙_}
+use mathlib.Core.Bool.{Bool, true, false, cond}
+use mathlib.Core.Option.{Option, none, some}
+use mathlib.Core.List.{List, [], _∷_, _++_, map, map-append}
+use native.Mathlib.Omega.{arith}
+use native.Mathlib.Numerals.{add-one}
+use lib.Dec.{eqb, ltb}
+use lib.ListN.{length, take, getD, set, length-map, List·getD-map}
+use lib.Seq.{length-take-le, getD-take, take-take, take-set-lt, take-suc-set}
+use Rattle.codec.specs.declared.submessages.ObjectNumber.{ObjectNumber}
+use Rattle.sessions.specs.Search.{firstFrom}
+use Rattle.sessions.specs.Objects.{blank, isNumbered, placeOf, foundOf, greaterOf, greatestOf, slotOf, countOf, storedRow, removedRow}
+use Rattle.sessions.specs.View.{Entry, entryOf, blankEntry, listed, placeIn, heldAt, findIn, putAt, putIn, dropAt, dropIn, greaterIn, greatestUpTo, greatestIn}
+use Rattle.sessions.specs.declared.objects.Object.{Object}
+use Rattle.sessions.specs.declared.objects.Place.{Place}
+use Rattle.sessions.specs.declared.objects.Place.the-variants.{At, Nowhere}
+use Rattle.sessions.specs.declared.objects.Found.{Found}
+use Rattle.sessions.specs.declared.objects.Found.the-variants.{Held, Nothing, Refused}
+use Rattle.sessions.proofs.Search.{Under, found-under, same-from}
+use Rattle.sessions.proofs.Parts.{map-set, map-take}
+
+-- the record that was found, as an entry
+abbrev pub entryFound : Found → Option Entry
+entryFound (Held o) = some (entryOf o)
+entryFound Nothing = none
+entryFound (Refused r) = none
+
+-- a search by kind is never refused
+abbrev Plain : Found → Type 0
+Plain (Held o) = Unit {0}
+Plain Nothing = Unit {0}
+Plain (Refused r) = ⊥
+
+module _ (row : List Object) (used : ℕ) (fits : used ≤ length row) where
+  pub listed-length : length (listed used row) ≡ used
+  unfolding listed
+  listed-length = length-map (take used row) entryOf ∙ length-take-le used row fits
+
+  listed-at : (i : ℕ) → i < used → getD (listed used row) i blankEntry ≡ entryOf (getD row i blank)
+  unfolding listed
+  listed-at i h = List·getD-map entryOf (take used row) i blank ∙ ap entryOf (getD-take used row i blank h)
+
+  -- the search in the row is the search in the list
+  pub place-shown : (n : ObjectNumber) → placeOf row used n ≡ placeIn (listed used row) (n .0)
+  place-shown n =
+      same-from (λ (i : ℕ). isNumbered (getD row i blank) n) (λ (i : ℕ). eqb (getD (listed used row) i blankEntry .number) (n .0)) 0 used used (omega arith)
+      (λ i h. ap (λ (e : Entry). eqb (e .number) (n .0)) (sym (listed-at i h)))
+      ∙ ap (firstFrom (λ (i : ℕ). eqb (getD (listed used row) i blankEntry .number) (n .0)) 0) (sym listed-length)
+
+  pub place-under : (n : ObjectNumber) → Under used (placeOf row used n)
+  place-under n = found-under (λ (i : ℕ). isNumbered (getD row i blank) n) used
+
+  -- ---- find
+
+  held-shown : (p : Place) → Under used p → entryFound (foundOf row p) ≡ heldAt (listed used row) p
+  held-shown (At i) h = ap some (sym (listed-at i h))
+  held-shown Nowhere h = refl
+
+  pub find-shown : (n : ObjectNumber) → entryFound (foundOf row (placeOf row used n)) ≡ findIn (listed used row) (n .0)
+  find-shown n = held-shown (placeOf row used n) (place-under n) ∙ ap (heldAt (listed used row)) (place-shown n)
+
+  -- ---- the greatest of a kind
+
+  plain-step : (b : Bool) (f : Found) (o : Object) → Plain f → Plain (cond b (greaterOf f o) f)
+  plain-step false f o h = h
+  plain-step true (Held a) o h = by (ltb (a .number .0) (o .number .0))
+    where
+      by : (b : Bool) → Plain (cond b (Held o) (Held a))
+      by true = tt
+      by false = tt
+  plain-step true Nothing o h = tt
+  plain-step true (Refused r) o h = h
+
+  greatest-plain : (k kind : ℕ) → Plain (greatestOf row k kind)
+  greatest-plain zero kind = tt
+  greatest-plain (suc k) kind = plain-step (eqb (getD row k blank .kind) kind) (greatestOf row k kind) (getD row k blank) (greatest-plain k kind)
+
+  step-shown : (b : Bool) (f : Found) (o : Object) → Plain f → entryFound (cond b (greaterOf f o) f) ≡ cond b (greaterIn (entryFound f) (entryOf o)) (entryFound f)
+  step-shown false f o h = refl
+  step-shown true (Held a) o h = by (ltb (a .number .0) (o .number .0))
+    where
+      by : (b : Bool) → entryFound (cond b (Held o) (Held a)) ≡ cond b (some (entryOf o)) (some (entryOf a))
+      by true = refl
+      by false = refl
+  step-shown true Nothing o h = refl
+  step-shown true (Refused r) o h = absurd h
+
+  greatest-to : (k kind : ℕ) → k ≤ used → entryFound (greatestOf row k kind) ≡ greatestUpTo (listed used row) k kind
+  greatest-to zero kind h = refl
+  greatest-to (suc k) kind h =
+      step-shown (eqb (getD row k blank .kind) kind) (greatestOf row k kind) (getD row k blank) (greatest-plain k kind)
+      ∙ rw (greatest-to k kind (omega arith), listed-at k (omega arith))
+
+  pub greatest-shown : (kind : ℕ) → entryFound (greatestOf row used kind) ≡ greatestIn (listed used row) kind
+  greatest-shown kind = greatest-to used kind (omega arith) ∙ ap (λ (k : ℕ). greatestUpTo (listed used row) k kind) (sym listed-length)
+
+  -- ---- put
+
+  put-at : (p : Place) (o : Object) → Under used p → slotOf p used < length row → listed (countOf p used) (set row (slotOf p used) o) ≡ putAt (listed used row) p (entryOf o)
+  unfolding listed
+  put-at (At i) o h l = ap (map entryOf) (take-set-lt used row i o h) ∙ map-set entryOf (take used row) i o
+  put-at Nowhere o h l =
+      ap (λ (k : ℕ). map entryOf (take k (set row used o))) (add-one used)
+      ∙ ap (map entryOf) (take-suc-set row used o l)
+      ∙ map-append entryOf (take used row) (o ∷ [])
+
+  pub put-shown : (o : Object) → slotOf (placeOf row used (o .number)) used < length row
+      → listed (countOf (placeOf row used (o .number)) used) (storedRow row used o) ≡ putIn (listed used row) (entryOf o)
+  put-shown o l = put-at (placeOf row used (o .number)) o (place-under (o .number)) l ∙ ap (λ (p : Place). putAt (listed used row) p (entryOf o)) (place-shown (o .number))
+
+  -- ---- remove
+
+  -- how many records a removal leaves
+  abbrev pub left : Place → ℕ
+  left (At i) = used - 1
+  left Nowhere = used
+
+  drop-at : (i : ℕ) → i < used → listed (used - 1) (removedRow row used (At i)) ≡ dropAt (listed used row) (At i)
+  unfolding listed
+  drop-at i h =
+      let x = getD row (used - 1) blank in
+      let last : getD (map entryOf (take used row)) (used - 1) blankEntry ≡ entryOf x = List·getD-map entryOf (take used row) (used - 1) blank ∙ ap entryOf (getD-take used row (used - 1) blank (omega arith)) in
+      ap (map entryOf) (sym (take-take (used - 1) used (set row i x) (omega arith)))
+      ∙ map-take entryOf (used - 1) (take used (set row i x))
+      ∙ ap (λ (l : List Object). take (used - 1) (map entryOf l)) (take-set-lt used row i x h)
+      ∙ ap (take (used - 1)) (map-set entryOf (take used row) i x)
+      ∙ ap (λ (e : Entry). take (used - 1) (set (map entryOf (take used row)) i e)) (sym last)
+      ∙ ap (λ (n : ℕ). take (n - 1) (set (map entryOf (take used row)) i (getD (map entryOf (take used row)) (n - 1) blankEntry))) (sym (length-map (take used row) entryOf ∙ length-take-le used row fits))
+
+  pub drop-shown : (n : ObjectNumber) → listed (left (placeOf row used n)) (removedRow row used (placeOf row used n)) ≡ dropIn (listed used row) (n .0)
+  drop-shown n = by (placeOf row used n) (place-under n) ∙ ap (dropAt (listed used row)) (place-shown n)
+    where
+      by : (p : Place) → Under used p → listed (left p) (removedRow row used p) ≡ dropAt (listed used row) p
+      by (At i) h = drop-at i h
+      by Nowhere h = refl

@@ -1,0 +1,2 @@
+-- Laws of the row of objects.
+pub mod Laws

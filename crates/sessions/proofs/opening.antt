@@ -1,0 +1,2 @@
+-- Laws of opening a session.
+pub mod Laws

@@ -1,0 +1,2 @@
+-- Laws of the objects of a session.
+pub mod Laws

@@ -1,0 +1,2 @@
+-- Laws of the streams of a session.
+pub mod Laws

@@ -1,0 +1,2 @@
+-- Laws of the rows of streams.
+pub mod Laws

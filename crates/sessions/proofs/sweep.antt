@@ -1,0 +1,2 @@
+-- Laws of a sweep.
+pub mod Laws

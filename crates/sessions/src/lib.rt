@@ -1,0 +1,10 @@
+// The sessions of session.rs: the table of sessions by id, and the objects and streams of each.
+pub mod need;
+pub mod object_rows;
+pub mod objects;
+pub mod opening;
+pub mod session_objects;
+pub mod session_streams;
+pub mod stream_rows;
+pub mod sweep;
+pub mod table;

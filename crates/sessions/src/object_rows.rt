@@ -1,0 +1,98 @@
+// The objects of one session: a lent row of records, of which the first `used` are in use. Every function only fetches
+// and stores; what it decides by is in `objects`.
+use crate::objects::Found;
+use crate::objects::Object;
+use crate::objects::Place;
+use crate::objects::Stored;
+use crate::objects::better;
+use crate::objects::count;
+use crate::objects::is_numbered;
+use crate::objects::slot;
+use codec::submessages::ObjectNumber;
+ghost use mathlib.Core.Path.{_≡_};
+ghost use Prim.Native.Nat.{_≤_};
+ghost use lib.ListN.{length};
+ghost use Rattle.sessions.specs.Objects.{placeOf, foundOf, greatestOf, storedOf, storedRow, removedRow};
+
+// Where the record of that number is: the search goes up from the first record.
+pub(crate) fn place(row: &[Object], used: usize, number: ObjectNumber) -> Place
+    requires { ⌜ used ≤ length (now row) ⌝ }
+    ensures { λ r. ⌜ r ≡ placeOf (now (row .entry)) used number ⌝ }
+{
+    let mut i = 0;
+    while i < used {
+        let o = row[i];
+        let hit = is_numbered(o, number);
+        if hit {
+            return Place::At(i);
+        }
+        i = i + 1;
+    }
+    Place::Nowhere
+}
+
+pub(crate) fn find(row: &[Object], used: usize, number: ObjectNumber) -> Found
+    requires { ⌜ used ≤ length (now row) ⌝ }
+    ensures { λ r. ⌜ r ≡ foundOf (now (row .entry)) (placeOf (now (row .entry)) used number) ⌝ }
+{
+    let p = place(row, used, number);
+    match p {
+        Place::At(i) => {
+            let o = row[i];
+            Found::Held(o)
+        }
+        Place::Nowhere => Found::Nothing,
+    }
+}
+
+// Of the records of that kind, the one with the greatest number.
+pub(crate) fn greatest(row: &[Object], used: usize, kind: u8) -> Found
+    requires { ⌜ used ≤ length (now row) ⌝ }
+    ensures { λ r. ⌜ r ≡ greatestOf (now (row .entry)) used kind ⌝ }
+{
+    let mut i = 0;
+    let mut best = Found::Nothing;
+    while i < used {
+        let o = row[i];
+        best = better(best, o, kind);
+        i = i + 1;
+    }
+    best
+}
+
+// Replaces the record of that number, else adds one behind the last; in a full row another number has no place.
+pub(crate) fn put(row: &mut [Object], used: usize, o: Object) -> Stored
+    requires { ⌜ (used ≤ length (now row)) × (length (now row) ≤ 32) ⌝ }
+    ensures { λ r. ⌜ (r ≡ storedOf (now (row .entry)) used o) × (now (row .exit) ≡ storedRow (now (row .entry)) used o) ⌝ }
+{
+    let n = o.number;
+    let p = place(row, used, n);
+    let i = slot(p, used);
+    let len = row.len();
+    if i < len {
+        row[i] = o;
+        let n = count(p, used);
+        Stored::Count(n)
+    } else {
+        Stored::Full
+    }
+}
+
+// Takes the record of that number out; the last one moves into its place.
+pub(crate) fn remove(row: &mut [Object], used: usize, number: ObjectNumber) -> Found
+    requires { ⌜ used ≤ length (now row) ⌝ }
+    ensures { λ r. ⌜ (r ≡ foundOf (now (row .entry)) (placeOf (now (row .entry)) used number))
+        × (now (row .exit) ≡ removedRow (now (row .entry)) used (placeOf (now (row .entry)) used number)) ⌝ }
+{
+    let p = place(row, used, number);
+    match p {
+        Place::At(i) => {
+            let o = row[i];
+            let last = used - 1;
+            let moved = row[last];
+            row[i] = moved;
+            Found::Held(o)
+        }
+        Place::Nowhere => Found::Nothing,
+    }
+}

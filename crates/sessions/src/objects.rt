@@ -1,0 +1,136 @@
+// The record of an object, and every decision that the rows of objects take, by value.
+use codec::refusals::Refusal;
+use codec::submessages::ObjectNumber;
+ghost use mathlib.Core.Path.{_≡_};
+ghost use Prim.Native.Nat.{_<_};
+ghost use Rattle.sessions.specs.Objects.{bridgedOf, implicitOf, handleOf, isNumbered, greaterOf, betterOf, slotOf, countOf};
+
+// What the bridge knows an entity by. One is made of a bridge's answer, or read out of a record that holds one: a bridge
+// call takes this struct alone, so an object number never stands where a handle is due.
+pub struct Handle(pub u32);
+
+// Numbers only, so that a C host can lend a row of these. `bridged` is 0 where the object has no handle; the
+// handle beside it is then not one, and no function hands it out.
+pub struct Object {
+    pub number: ObjectNumber,
+    pub kind: u8,
+    pub bridged: u8,
+    pub handle: Handle,
+}
+
+pub enum ObjectHandle {
+    Bridged(Handle),
+    Implicit,
+}
+
+impl Object {
+    // An object that the bridge made.
+    pub fn bridged(number: ObjectNumber, kind: u8, handle: Handle) -> Object
+        ensures { λ r. ⌜ r ≡ bridgedOf number kind handle ⌝ }
+    {
+        Object {
+            number,
+            kind,
+            bridged: 1,
+            handle,
+        }
+    }
+
+    // A Publisher or Subscriber, which has no handle.
+    pub fn implicit(number: ObjectNumber, kind: u8) -> Object
+        ensures { λ r. ⌜ r ≡ implicitOf number kind ⌝ }
+    {
+        Object {
+            number,
+            kind,
+            bridged: 0,
+            handle: Handle(0),
+        }
+    }
+
+    pub fn bridge_handle(self) -> ObjectHandle
+        ensures { λ r. ⌜ r ≡ handleOf self ⌝ }
+    {
+        let handle = self.handle;
+        if self.bridged == 0 {
+            ObjectHandle::Implicit
+        } else {
+            ObjectHandle::Bridged(handle)
+        }
+    }
+}
+
+// The place of a record in a row.
+pub enum Place {
+    At(usize),
+    Nowhere,
+}
+
+// The record that was looked for.
+pub enum Found {
+    Held(Object),
+    Nothing,
+    Refused(Refusal),
+}
+
+// What storing a record comes to: the number of records now in use, or that there is no place for another.
+pub enum Stored {
+    Count(usize),
+    Full,
+    NotLive,
+    Refused(Refusal),
+}
+
+pub(crate) fn is_numbered(o: Object, n: ObjectNumber) -> bool
+    ensures { λ r. ⌜ r ≡ isNumbered o n ⌝ }
+{
+    let held = o.number.0;
+    let asked = n.0;
+    held == asked
+}
+
+// Of the best record so far and another of its kind, the one with the greater number.
+fn greater(best: Found, o: Object) -> Found
+    ensures { λ r. ⌜ r ≡ greaterOf best o ⌝ }
+{
+    match best {
+        Found::Held(b) => {
+            let old = b.number.0;
+            let new = o.number.0;
+            if old < new { Found::Held(o) } else { best }
+        }
+        Found::Nothing => Found::Held(o),
+        Found::Refused(_) => best,
+    }
+}
+
+pub(crate) fn better(best: Found, o: Object, kind: u8) -> Found
+    ensures { λ r. ⌜ r ≡ betterOf best o kind ⌝ }
+{
+    if o.kind == kind {
+        greater(best, o)
+    } else {
+        best
+    }
+}
+
+// Where a record goes: in the place of the older one of its number, else behind the last.
+pub(crate) fn slot(p: Place, used: usize) -> usize
+    ensures { λ r. ⌜ r ≡ slotOf p used ⌝ }
+{
+    match p {
+        Place::At(i) => i,
+        Place::Nowhere => used,
+    }
+}
+
+// How many records are in use once one is stored.
+pub(crate) fn count(p: Place, used: usize) -> usize
+    requires { ⌜ used < 64 ⌝ }
+    ensures { λ r. ⌜ r ≡ countOf p used ⌝ }
+{
+    match p {
+        Place::At(_) => used,
+        Place::Nowhere => used + 1,
+    }
+}

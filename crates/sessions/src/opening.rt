@@ -1,0 +1,164 @@
+// Opening a session: which id it gets, and what it starts with.
+use crate::stream_rows::first_stream;
+use crate::stream_rows::keep_stream;
+use crate::table::ClientSession;
+use crate::table::keep_session;
+use crate::table::session_at;
+use codec::refusals::Refusal;
+use streams::state::StreamState;
+ghost use mathlib.Core.Path.{_≡_};
+ghost use mathlib.Core.Bool.{cond};
+ghost use Prim.Native.Nat.{_≤_};
+ghost use lib.Dec.{eqb};
+ghost use lib.ListN.{length};
+ghost use Rattle.sessions.specs.Opening.{after, liveOf, freeOf, countedOf, openFits, chosenOf, createdOf, openedRows, openedStreams};
+
+pub enum Counted {
+    Sessions(usize),
+    Refused(Refusal),
+}
+
+// The id of the new session, and the id from which the next free one is looked for.
+pub enum Created {
+    Opened { id: u8, next: u8 },
+    Refused(Refusal),
+}
+
+fn flag(live: u64) -> usize
+    ensures { λ r. ⌜ (r ≡ cond (eqb live 0) 0 1) × (r ≤ 1) ⌝ }
+{
+    if live == 0 { 0 } else { 1 }
+}
+
+// After 255 comes 1.
+fn after_id(id: u8) -> u8
+    ensures { λ r. ⌜ r ≡ after id ⌝ }
+{
+    if id == 255 { 1 } else { id + 1 }
+}
+
+fn live_count(sessions: &[[u64; 5]]) -> usize
+    requires { ⌜ 256 ≤ length (now sessions) ⌝ }
+    ensures { λ r. ⌜ r ≡ liveOf (now (sessions .entry)) ⌝ }
+{
+    let mut i: usize = 256;
+    let mut n: usize = 0;
+    while 1 < i {
+        i -= 1;
+        let live = sessions[i][0];
+        n += flag(live);
+    }
+    n
+}
+
+// The first id that is not live, from `next` on; 0 if all are.
+fn free_id(sessions: &[[u64; 5]], next: u8) -> u8
+    ensures { λ r. ⌜ r ≡ freeOf (now (sessions .entry)) next ⌝ }
+{
+    let mut id = next;
+    let mut left: usize = 255;
+    while 0 < left {
+        if session_at(sessions, id).live == 0 {
+            return id;
+        }
+        id = after_id(id);
+        left -= 1;
+    }
+    0
+}
+
+// The number of live sessions.
+pub fn len(sessions: &[[u64; 5]]) -> Counted
+    ensures { λ r. ⌜ r ≡ countedOf (now (sessions .entry)) ⌝ }
+{
+    if sessions.len() < 256 {
+        return Counted::Refused(Refusal::OverLimit);
+    }
+    let n = live_count(sessions);
+    Counted::Sessions(n)
+}
+
+// 16 where a lent store or a number is past its limit.
+fn fits(sessions: &[[u64; 5]], streams: &[[u16; 35]], max_clients: usize, next: u8) -> bool
+    ensures { λ r. ⌜ r ≡ openFits (now (sessions .entry)) (now (streams .entry)) «max_clients» next ⌝ }
+{
+    if sessions.len() < 256 {
+        return false;
+    }
+    if streams.len() < 2048 {
+        return false;
+    }
+    if 255 < max_clients {
+        return false;
+    }
+    0 < next
+}
+
+fn choose(sessions: &[[u64; 5]], max_clients: usize, next: u8) -> Created
+    requires { ⌜ 256 ≤ length (now sessions) ⌝ }
+    ensures { λ r. ⌜ r ≡ chosenOf (now (sessions .entry)) «max_clients» next ⌝ }
+{
+    let live = live_count(sessions);
+    if max_clients <= live {
+        return Created::Refused(Refusal::SessionFull);
+    }
+    let id = free_id(sessions, next);
+    if id == 0 {
+        return Created::Refused(Refusal::SessionFull);
+    }
+    Created::Opened {
+        id,
+        next: after_id(id),
+    }
+}
+
+// Which id a new session gets, or why it gets none.
+fn admit(sessions: &[[u64; 5]], streams: &[[u16; 35]], max_clients: usize, next: u8) -> Created
+    ensures { λ r. ⌜ r ≡ createdOf (now (sessions .entry)) (now (streams .entry)) «max_clients» next ⌝ }
+{
+    if fits(sessions, streams, max_clients, next) {
+        choose(sessions, max_clients, next)
+    } else {
+        Created::Refused(Refusal::OverLimit)
+    }
+}
+
+fn open_as(
+    sessions: &mut [[u64; 5]],
+    streams: &mut [[u16; 35]],
+    created: Created,
+    client_key: u32,
+    time: u64,
+)
+    ensures { λ _. ⌜ (now (sessions .exit) ≡ openedRows created (now (sessions .entry)) «client_key» time)
+        × (now (streams .exit) ≡ openedStreams created (now (streams .entry))) ⌝ }
+{
+    match created {
+        Created::Opened { id, next: _ } => {
+            let s = ClientSession::new(client_key, time);
+            keep_session(sessions, id, s);
+            let at = first_stream(id);
+            let stream = StreamState::new(0);
+            keep_stream(streams, at, stream);
+        }
+        Created::Refused(_) => {}
+    }
+}
+
+// Opens a session under the next free id. The caller keeps `next` for the next one.
+pub fn create_session(
+    sessions: &mut [[u64; 5]],
+    streams: &mut [[u16; 35]],
+    max_clients: usize,
+    next: u8,
+    client_key: u32,
+    time: u64,
+) -> Created
+    ensures { λ r. ⌜ (r ≡ createdOf (now (sessions .entry)) (now (streams .entry)) «max_clients» next)
+        × (now (sessions .exit) ≡ openedRows r (now (sessions .entry)) «client_key» time)
+        × (now (streams .exit) ≡ openedStreams r (now (streams .entry))) ⌝ }
+{
+    let r = admit(sessions, streams, max_clients, next);
+    open_as(sessions, streams, r, client_key, time);
+    r
+}
