@@ -1,7 +1,7 @@
 -- The promises of `specs/Promises.antt`, proved.
 use Prim.Native.Nat.{ℕ, _+_, _≤_, _<_, _^_}
 use mathlib.Core.Path.{_≡_, refl, sym, ap, _∙_}
-use mathlib.Core.List.{List, [], _∷_, _++_, map}
+use mathlib.Core.List.{List, [], _∷_, _++_, map, append-nil}
 use native.Mathlib.Omega.{arith}
 use borrow.Author.Tests.{le-leb}
 use lib.ListN.{length, take, drop, length-append, length-map}
@@ -13,7 +13,7 @@ use Rattle.codec.specs.Strings.{stringBytes, stringAt}
 use Rattle.codec.specs.Submessages.{idOf}
 use Rattle.codec.specs.Writing.{fixedBytes, bodyLen, carried, payloadBytes, subBytes}
 use Rattle.codec.specs.Grammar.{Said, Ranged, HeaderRanged, Bodied, Payload, bodied, plain, OneSub, one, Subs, none, next, IsMessage, whole, saidIn, reading, readingOf, says, refuses}
-use Rattle.codec.specs.Promises.{ReadsExactly, ChecksWhole, subsBytes, written, Writable, kept, ReadsBack, SaysTheSame, StringsReadBack}
+use Rattle.codec.specs.Promises.{ReadsExactly, ChecksWhole, subsBytes, written, HeaderAlone, Writable, kept, ReadsBack, SaysTheSame, StringsReadBack}
 use Rattle.codec.specs.declared.header.MessageHeader.{MessageHeader}
 use Rattle.codec.specs.declared.reading.Checked.the-variants as checked
 use Rattle.codec.specs.declared.refusals.Refusal.{Refusal}
@@ -48,6 +48,10 @@ unfolding reading checkOf
 checks-whole s = (checks-said s (messageOf s), checks-refused s (messageOf s))
 
 -- ---- what is written is in the grammar
+
+pub header-alone : HeaderAlone
+unfolding written
+header-alone h = append-nil (headerBytes h)
 
 payload-written : (m : Submessage) (body : List ℕ) → Payload m (carried m body) (fixedBytes m ++ carried m body)
 payload-written (Create p) body = bodied (Create p) (take (length body) body) tt

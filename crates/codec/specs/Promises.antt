@@ -36,6 +36,10 @@ subsBytes (x ∷ xs) = subBytes (x .fields) (x .body) ++ subsBytes xs
 unfoldable pub written : MessageHeader → List Said → List ℕ
 written h xs = headerBytes h ++ subsBytes xs
 
+-- "A message of no submessages is written as its four header bytes."
+abbrev pub HeaderAlone : Type 0
+HeaderAlone = (h : MessageHeader) → written h [] ≡ headerBytes h
+
 -- what can be written: numbers in their ranges, payloads up to 65,535 bytes
 abbrev pub Writable : List Said → Type 0
 Writable [] = Unit

@@ -3,6 +3,8 @@ use Prim.Native.Nat.{ℕ, zero, suc, _+_, _-_, _<_, _≤_}
 use mathlib.Core.Path.{_≡_, refl, sym, ap, _∙_}
 use mathlib.Core.Bool.{Bool, true, false, cond}
 use native.Mathlib.Omega.{arith}
+use borrow.Author.Tests.{leb-true, leb-false}
+use lib.Dec.{leb}
 use Rattle.sessions.specs.Search.{firstFrom}
 use Rattle.sessions.specs.declared.objects.Place.{Place}
 use Rattle.sessions.specs.declared.objects.Place.the-variants.{At, Nowhere}
@@ -54,3 +56,32 @@ module _ (hit : ℕ → Bool) where
 pub same-from : (p q : ℕ → Bool) (i left used : ℕ) → i + left ≤ used → ((j : ℕ) → j < used → p j ≡ q j) → firstFrom p i left ≡ firstFrom q i left
 same-from p q i zero used h e = refl
 same-from p q i (suc left) used h e = rw (e i (omega arith), same-from p q (suc i) left used (omega arith) e)
+
+-- ---- what is found, and what is not
+
+module _ (hit : ℕ → Bool) where
+  hit-from : (i left k : ℕ) → firstFrom hit i left ≡ At k → hit k ≡ true
+  hit-from i zero k e = let z : _≡_ {A = ℕ} 0 1 = cc in absurd (omega arith)
+  hit-from i (suc left) k e = by (hit i) refl (hit-from (suc i) left k) e
+    where
+      by : (b : Bool) → hit i ≡ b → (firstFrom hit (suc i) left ≡ At k → hit k ≡ true) → cond b (At i) (firstFrom hit (suc i) left) ≡ At k → hit k ≡ true
+      by true q ih z = let w : i ≡ k = cc in rw w at q
+      by false q ih z = ih z
+
+  -- a place that is found is a hit
+  pub found-hit : (used k : ℕ) → firstFrom hit 0 used ≡ At k → hit k ≡ true
+  found-hit used k e = hit-from 0 used k e
+
+  none-from : (i left j : ℕ) → firstFrom hit i left ≡ Nowhere → i ≤ j → j < i + left → hit j ≡ false
+  none-from i zero j e a b = let z : ⊥ = omega arith in absurd z
+  none-from i (suc left) j e a b = by (hit i) refl (λ z q. none-from (suc i) left j z q (omega arith)) (leb (suc i) j) refl e
+    where
+      by : (c : Bool) → hit i ≡ c → (firstFrom hit (suc i) left ≡ Nowhere → suc i ≤ j → hit j ≡ false) → (g : Bool) → leb (suc i) j ≡ g
+          → cond c (At i) (firstFrom hit (suc i) left) ≡ Nowhere → hit j ≡ false
+      by true q ih g r z = let o : _≡_ {A = ℕ} 0 1 = cc in absurd (omega arith)
+      by false q ih true r z = ih z (leb-true (suc i) j r)
+      by false q ih false r z = let w : i ≡ j = omega (arith, leb-false (suc i) j r) in rw w at q
+
+  -- where nothing is found there is no hit
+  pub found-none : (used j : ℕ) → firstFrom hit 0 used ≡ Nowhere → j < used → hit j ≡ false
+  found-none used j e h = none-from 0 used j e (omega arith) (omega arith)

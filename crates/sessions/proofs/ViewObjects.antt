@@ -49,8 +49,8 @@ module _ (row : List Object) (used : ℕ) (fits : used ≤ length row) where
       (λ i h. ap (λ (e : Entry). eqb (e .number) (n .0)) (sym (listed-at i h)))
       ∙ ap (firstFrom (λ (i : ℕ). eqb (getD (listed used row) i blankEntry .number) (n .0)) 0) (sym listed-length)
 
-  under : (n : ObjectNumber) → Under used (placeOf row used n)
-  under n = found-under (λ (i : ℕ). isNumbered (getD row i blank) n) used
+  pub place-under : (n : ObjectNumber) → Under used (placeOf row used n)
+  place-under n = found-under (λ (i : ℕ). isNumbered (getD row i blank) n) used
 
   -- ---- find
 
@@ -59,7 +59,7 @@ module _ (row : List Object) (used : ℕ) (fits : used ≤ length row) where
   held-shown Nowhere h = refl
 
   pub find-shown : (n : ObjectNumber) → entryFound (foundOf row (placeOf row used n)) ≡ findIn (listed used row) (n .0)
-  find-shown n = held-shown (placeOf row used n) (under n) ∙ ap (heldAt (listed used row)) (place-shown n)
+  find-shown n = held-shown (placeOf row used n) (place-under n) ∙ ap (heldAt (listed used row)) (place-shown n)
 
   -- ---- the greatest of a kind
 
@@ -108,7 +108,7 @@ module _ (row : List Object) (used : ℕ) (fits : used ≤ length row) where
 
   pub put-shown : (o : Object) → slotOf (placeOf row used (o .number)) used < length row
       → listed (countOf (placeOf row used (o .number)) used) (storedRow row used o) ≡ putIn (listed used row) (entryOf o)
-  put-shown o l = put-at (placeOf row used (o .number)) o (under (o .number)) l ∙ ap (λ (p : Place). putAt (listed used row) p (entryOf o)) (place-shown (o .number))
+  put-shown o l = put-at (placeOf row used (o .number)) o (place-under (o .number)) l ∙ ap (λ (p : Place). putAt (listed used row) p (entryOf o)) (place-shown (o .number))
 
   -- ---- remove
 
@@ -130,7 +130,7 @@ module _ (row : List Object) (used : ℕ) (fits : used ≤ length row) where
       ∙ ap (λ (n : ℕ). take (n - 1) (set (map entryOf (take used row)) i (getD (map entryOf (take used row)) (n - 1) blankEntry))) (sym (length-map (take used row) entryOf ∙ length-take-le used row fits))
 
   pub drop-shown : (n : ObjectNumber) → listed (left (placeOf row used n)) (removedRow row used (placeOf row used n)) ≡ dropIn (listed used row) (n .0)
-  drop-shown n = by (placeOf row used n) (under n) ∙ ap (dropAt (listed used row)) (place-shown n)
+  drop-shown n = by (placeOf row used n) (place-under n) ∙ ap (dropAt (listed used row)) (place-shown n)
     where
       by : (p : Place) → Under used p → listed (left p) (removedRow row used p) ≡ dropAt (listed used row) p
       by (At i) h = drop-at i h

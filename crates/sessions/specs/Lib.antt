@@ -8,3 +8,4 @@ pub mod Sweep
 pub mod SessionObjects
 pub mod SessionStreams
 pub mod View
+pub mod Need

@@ -1,1 +1,11 @@
--- Laws of the definitions, and the lettered cases.
+-- Theorems on the definitions, and the laws that they rest on.
+pub mod Serial
+pub mod Slots
+pub mod Dropped
+pub mod View
+pub mod Soundness
+pub mod Answers
+pub mod History
+pub mod Repeats
+pub mod Heartbeat
+pub mod Cases

@@ -1,2 +1,3 @@
--- Laws of the search over a stream's places.
+-- Laws of the search over a stream's places, and of what a place holds.
 pub mod Laws
+pub mod Held

@@ -30,10 +30,11 @@ unfoldable pub dropBefore : StreamState → ℕ → StreamState
 dropBefore s first =
     record { «stream_id» = s .«stream_id»; «next_send_seq» = s .«next_send_seq»; «next_recv_seq» = s .«next_recv_seq»; numbers = s .numbers; lengths = sixteen (keptAt s first) }
 
--- "then lists those still held whose bit is set, in bit order": the numbers of k bits from one on
+-- whether a bit is set
 abbrev pub bitOf : ℕ → ℕ → Bool
 bitOf bitmap bit = eqb (bitmap / 2 ^ bit % 2) 1
 
+-- "then lists those still held whose bit is set, in bit order": the numbers of k bits from one on
 unfoldable pub wanted : StreamState → ℕ → ℕ → ℕ → Bool
 wanted s first bitmap bit = cond (bitOf bitmap bit) (isHeld s (plus first bit)) false
 
@@ -52,10 +53,11 @@ padded l = l ++ replicate (16 - length l) 0
 unfoldable pub repeatsOf : StreamState → ℕ → ℕ → Acknowledged
 repeatsOf s first bitmap = record { state = s; repeats = padded (repeats s first bitmap); count = length (repeats s first bitmap) }
 
+-- first what is acknowledged is dropped, then what is still held is listed
 unfoldable pub acknowledge : StreamState → ℕ → ℕ → Acknowledged
 acknowledge s first bitmap = repeatsOf (dropBefore s first) first bitmap
 
--- "`make_heartbeat` names the numerically least held number": of two numbers the one that is named
+-- "`make_heartbeat` names the numerically least held number": the choice between the best so far and one more place
 unfoldable pub older : Oldest → ℕ → ℕ → Oldest
 older best number len =
     cond (eqb len 0) best

@@ -5,3 +5,4 @@ pub mod Places
 pub mod Sent
 pub mod Acknowledged
 pub mod Received
+pub mod View

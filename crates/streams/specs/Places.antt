@@ -1,6 +1,6 @@
 -- "A stream holds 16 unacknowledged messages of up to 1,024 bytes": which of the sixteen places holds which number.
 use Prim.Native.Nat.{ℕ, zero, suc}
-use mathlib.Core.Bool.{Bool, true, false, cond, _&&_}
+use mathlib.Core.Bool.{Bool, false, cond}
 use lib.Dec.{eqb, ltb, leb}
 use lib.ListN.{getD}
 use Rattle.streams.specs.declared.state.StreamState.{StreamState}
@@ -38,7 +38,9 @@ isHeld s n = ltb (placeOf s n) 16
 unfoldable pub placeBetween : StreamState → ℕ → ℕ → ℕ
 placeBetween s least most = firstPlace (lengthAt s least most)
 
--- a length is at most that of 1,024 bytes, which is written 1,025
+-- "tables altered past a limit": a length is at most that of 1,024 bytes, written 1,025; 16 bits hold none past 65,535.
+-- `record_sent` looks at every length, `find_held` at the one that it uses. Every other call asks of a length only
+-- whether it is 0, and of a number nothing, so that any value is allowed there.
 unfoldable pub inLimits : StreamState → Bool
 inLimits s = leb 16 (placeBetween s 1026 65535)
 

@@ -1,6 +1,6 @@
 -- What a stream has received: the number it expects, and the ACKNACK that asks for what is missing.
 use Prim.Native.Nat.{ℕ, zero, suc, _+_, _^_}
-use mathlib.Core.Bool.{Bool, true, false, cond, not}
+use mathlib.Core.Bool.{true, false, cond}
 use lib.Dec.{eqb}
 use Rattle.codec.specs.declared.submessages.AcknackPayload.{AcknackPayload}
 use Rattle.streams.specs.declared.state.StreamState.{StreamState}

@@ -2,7 +2,6 @@
 use Prim.Native.Nat.{ℕ, _+_, _-_, _*_}
 use mathlib.Core.Bool.{cond, not}
 use mathlib.Core.List.{List, []}
-use mathlib.Core.Option.{Option, none, some}
 use lib.Dec.{eqb, ltb, leb}
 use lib.ListN.{getD, set, length, take, drop}
 use Rattle.codec.specs.Bytes.{putAt}
@@ -16,7 +15,7 @@ use Rattle.streams.specs.declared.sent.Recorded.{Recorded}
 use Rattle.streams.specs.declared.sent.Held.{Held}
 use Rattle.streams.specs.declared.sent.Held.the-variants as held
 use Rattle.streams.specs.Sequence.{plus}
-use Rattle.streams.specs.Places.{placeOf, isHeld, inLimits, placeFor}
+use Rattle.streams.specs.Places.{placeOf, inLimits, placeFor}
 
 -- the number to send next, and the stream with the one behind it; "after 65,535 comes 0"
 unfoldable pub allocOf : StreamState → Allocated
@@ -34,6 +33,7 @@ need = 16384
 -- Where a message of `len` bytes goes that is sent under n.
 -- "Best effort (stream 0) records nothing, never gives 14": nothing of the buffer and of the places is looked at.
 -- 16, "lent store under its documented need, or tables altered past a limit"; then 14, "17th held number; message over 1,024".
+-- What is recorded is a finished message and no payload or string: 12 was given, if at all, where it was written.
 unfoldable pub slotFor : StreamState → ℕ → ℕ → ℕ → Slot
 slotFor s n len room =
     cond (eqb (s .«stream_id») 0) slot.Nowhere
@@ -79,16 +79,14 @@ heldOf s n room =
     (cond (ltb 1025 (getD (s .lengths) (placeOf s n) 0)) (held.Refused OverLimit)
     (held.At (placeOf s n) (getD (s .lengths) (placeOf s n) 0 - 1))))
 
+-- the message as that part of the buffer, or an empty part
 unfoldable pub heldBytes : Held → List ℕ → List ℕ
 heldBytes (held.At place len) buffer = take len (drop (place * 1024) buffer)
 heldBytes held.Nothing buffer = []
 heldBytes (held.Refused r) buffer = []
 
+-- as `slotNumber`
 abbrev pub heldNumber : Held → ℕ
 heldNumber (held.At place len) = 0
 heldNumber held.Nothing = 0
 heldNumber (held.Refused r) = numberOf r
-
--- the messages held, as the Rust's map from numbers to bytes
-unfoldable pub messageOf : StreamState → List ℕ → ℕ → Option (List ℕ)
-messageOf s buffer n = cond (isHeld s n) (some (take (getD (s .lengths) (placeOf s n) 0 - 1) (drop (placeOf s n * 1024) buffer))) none

@@ -2,6 +2,7 @@
 use crate::sequence::seq_add;
 use crate::sequence::seq_lt;
 use crate::sequence::seq_sub;
+use crate::state::PLACES;
 use crate::state::StreamState;
 use codec::submessages::HeartbeatPayload;
 ghost use mathlib.Core.Path.{_≡_};
@@ -11,7 +12,7 @@ ghost use Rattle.streams.specs.Acknowledged.{keptLength, dropBefore, wan
 // The numbers to repeat, in the order of their bits: the first `count` of the sixteen.
 pub struct Acknowledged {
     pub state: StreamState,
-    pub repeats: [u16; 16],
+    pub repeats: [u16; PLACES],
     pub count: usize,
 }
 
@@ -21,14 +22,11 @@ struct Oldest {
     pub seq: u16,
 }
 
-fn kept_length(number: u16, length: u16, first_unacked_seq: u16) -> u16
-    ensures { λ r. ⌜ r ≡ keptLength number length «first_unacked_seq» ⌝ }
+// The length of a place when what comes before `first` is dropped.
+fn kept_length(number: u16, length: u16, first: u16) -> u16
+    ensures { λ r. ⌜ r ≡ keptLength number length first ⌝ }
 {
-    if seq_lt(number, first_unacked_seq) {
-        0
-    } else {
-        length
-    }
+    if seq_lt(number, first) { 0 } else { length }
 }
 
 // The choice of the number that a HEARTBEAT names first: the numerically least.
@@ -54,9 +52,9 @@ impl StreamState {
     fn drop_before(self, first_unacked_seq: u16) -> StreamState
         ensures { λ r. ⌜ r ≡ dropBefore self «first_unacked_seq» ⌝ }
     {
-        let mut lengths = [0u16; 16];
+        let mut lengths = [0u16; PLACES];
         let mut i = 0;
-        while i < 16 {
+        while i < PLACES {
             lengths[i] = kept_length(self.numbers[i], self.lengths[i], first_unacked_seq);
             i += 1;
         }
@@ -80,7 +78,7 @@ impl StreamState {
     fn list_repeats(self, first_unacked_seq: u16, nack_bitmap: u16) -> Acknowledged
         ensures { λ r. ⌜ r ≡ repeatsOf self «first_unacked_seq» «nack_bitmap» ⌝ }
     {
-        let mut repeats = [0u16; 16];
+        let mut repeats = [0u16; PLACES];
         let mut count: usize = 0;
         let mut bit: u16 = 0;
         while bit < 16 {
@@ -113,7 +111,7 @@ impl StreamState {
             seq: self.next_send_seq,
         };
         let mut i = 0;
-        while i < 16 {
+        while i < PLACES {
             best = older(best, self.numbers[i], self.lengths[i]);
             i += 1;
         }

@@ -1,4 +1,5 @@
 // Which of a stream's sixteen places holds a number, is free, or is past a limit.
+use crate::state::PLACES;
 use crate::state::StreamState;
 ghost use mathlib.Core.Path.{_≡_};
 ghost use Rattle.streams.specs.Places.{holds, within, placeOf, placeBetween, isHeld, inLimits, placeFor};
@@ -25,13 +26,13 @@ impl StreamState {
         ensures { λ r. ⌜ r ≡ placeOf self seq ⌝ }
     {
         let mut i = 0;
-        while i < 16 {
+        while i < PLACES {
             if holds(self.numbers[i], self.lengths[i], seq) {
                 return i;
             }
             i += 1;
         }
-        16
+        PLACES
     }
 
     // The first place whose length lies between the two, or 16.
@@ -39,26 +40,26 @@ impl StreamState {
         ensures { λ r. ⌜ r ≡ placeBetween self least most ⌝ }
     {
         let mut i = 0;
-        while i < 16 {
+        while i < PLACES {
             if within(self.lengths[i], least, most) {
                 return i;
             }
             i += 1;
         }
-        16
+        PLACES
     }
 
     pub fn is_held(self, seq: u16) -> bool
         ensures { λ r. ⌜ r ≡ isHeld self seq ⌝ }
     {
-        self.place_of(seq) < 16
+        self.place_of(seq) < PLACES
     }
 
-    // Whether no length is past its limit, as where the state is what the last call left.
+    // Whether no length is past LONGEST, as where the state is what the last call left.
     pub fn in_limits(self) -> bool
         ensures { λ r. ⌜ r ≡ inLimits self ⌝ }
     {
-        16 <= self.place_between(1026, 65535)
+        PLACES <= self.place_between(1026, 65535)
     }
 
     // The place for a message under `seq`: the one that holds it already, else the first free one, or 16.
@@ -66,7 +67,7 @@ impl StreamState {
         ensures { λ r. ⌜ r ≡ placeFor self seq ⌝ }
     {
         let held = self.place_of(seq);
-        if held < 16 {
+        if held < PLACES {
             return held;
         }
         self.place_between(0, 0)

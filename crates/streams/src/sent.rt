@@ -1,5 +1,9 @@
 // What a stream has sent: the next number, and the messages held until they are acknowledged.
 use crate::sequence::seq_add;
+use crate::state::BUFFER_BYTES;
+use crate::state::LONGEST;
+use crate::state::PLACES;
+use crate::state::SLOT_BYTES;
 use crate::state::StreamState;
 use codec::bytes::put_bytes;
 use codec::refusals::Refusal;
@@ -50,17 +54,17 @@ impl StreamState {
         if self.stream_id == 0 {
             return Slot::Nowhere;
         }
-        if room < 16384 {
+        if room < BUFFER_BYTES {
             return Slot::Refused(Refusal::OverLimit);
         }
         if !self.in_limits() {
             return Slot::Refused(Refusal::OverLimit);
         }
-        if 1024 < len {
+        if SLOT_BYTES < len {
             return Slot::Refused(Refusal::StoreFull);
         }
         let place = self.place_for(seq);
-        if 16 <= place {
+        if PLACES <= place {
             return Slot::Refused(Refusal::StoreFull);
         }
         Slot::At(place)
@@ -83,7 +87,7 @@ impl StreamState {
         let slot = self.slot_for(seq, message.len(), buffer.len());
         match slot {
             Slot::At(place) => {
-                put_bytes(buffer, place * 1024, message);
+                put_bytes(buffer, place * SLOT_BYTES, message);
                 let state = self.with_message(place, seq, message.len());
                 Recorded {
                     slot: Slot::At(place),
@@ -105,15 +109,15 @@ impl StreamState {
     pub fn find_held(self, seq: u16, room: usize) -> Held
         ensures { λ r. ⌜ r ≡ heldOf self seq room ⌝ }
     {
-        if room < 16384 {
+        if room < BUFFER_BYTES {
             return Held::Refused(Refusal::OverLimit);
         }
         let place = self.place_of(seq);
-        if 16 <= place {
+        if PLACES <= place {
             return Held::Nothing;
         }
         let length = self.lengths[place];
-        if 1025 < length {
+        if LONGEST < length {
             return Held::Refused(Refusal::OverLimit);
         }
         Held::At(place, (length as usize) - 1)
@@ -126,7 +130,7 @@ impl StreamState {
         let held = self.find_held(seq, buffer.len());
         match held {
             Held::At(place, len) => {
-                let at = place * 1024;
+                let at = place * SLOT_BYTES;
                 &buffer[at..at + len]
             }
             Held::Nothing => &buffer[0..0],

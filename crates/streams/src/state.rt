@@ -2,6 +2,15 @@
 ghost use mathlib.Core.Path.{_≡_};
 ghost use Rattle.streams.specs.State.{kindOf, newStream};
 
+// A stream holds up to PLACES messages of up to SLOT_BYTES bytes each, in a lent buffer of at least BUFFER_BYTES.
+pub const PLACES: usize = 16;
+
+pub const SLOT_BYTES: usize = 1024;
+
+pub const BUFFER_BYTES: usize = 16384;
+// A message of SLOT_BYTES bytes, as `lengths` writes it.
+pub const LONGEST: u16 = 1025;
+
 pub enum StreamKind {
     BestEffort,
     Reliable,
@@ -26,8 +35,8 @@ pub struct StreamState {
     pub stream_id: u8,
     pub next_send_seq: u16,
     pub next_recv_seq: u16,
-    pub numbers: [u16; 16],
-    pub lengths: [u16; 16],
+    pub numbers: [u16; PLACES],
+    pub lengths: [u16; PLACES],
 }
 
 impl StreamState {
@@ -38,8 +47,8 @@ impl StreamState {
             stream_id,
             next_send_seq: 0,
             next_recv_seq: 0,
-            numbers: [0; 16],
-            lengths: [0; 16],
+            numbers: [0; PLACES],
+            lengths: [0; PLACES],
         }
     }
 }

@@ -1,17 +1,27 @@
 -- Laws of what an ACKNACK drops and lists, and of the first number of a HEARTBEAT: what a loop does turn by turn.
-use Prim.Native.Nat.{ℕ, zero, suc, _+_, _-_, _≤_, _<_}
+use Prim.Native.Nat.{ℕ, suc, _+_, _-_, _≤_, _<_}
 use mathlib.Core.Path.{_≡_, refl, sym, ap, _∙_}
-use mathlib.Core.Bool.{Bool, true, false, cond}
+use mathlib.Core.Bool.{true, false}
 use mathlib.Core.List.{List, [], _∷_, _++_, append-assoc, append-nil}
 use native.Mathlib.Numerals.{add-one}
 use native.Mathlib.Omega.{arith}
-use lib.ListN.{getD, length, take, drop, set, replicate, length-set, length-append, length-replicate, take-append-drop}
-use lib.Seq.{take-suc-set, drop-set-lt, take-length, length-take-le, drop-drop, take-all}
+use lib.ListN.{getD, length, take, drop, set, replicate, length-set, take-append-drop}
+use lib.Seq.{take-suc-set, drop-set-lt, length-take-le, drop-drop, take-all}
 use Rattle.streams.specs.declared.state.StreamState.{StreamState}
 use Rattle.streams.specs.declared.acknowledged.Oldest.{Oldest}
-use Rattle.streams.specs.Sequence.{plus}
-use Rattle.streams.specs.Acknowledged.{listFrom, sixteen, wanted, repeatsFrom, repeats, padded, older, oldestFrom, firstUnacked}
+use Rattle.streams.specs.Sequence.{plus, seqLt}
+use Rattle.streams.specs.Acknowledged.{keptLength, listFrom, sixteen, wanted, repeatsFrom, repeats, padded, older, oldestFrom, firstUnacked}
 use Rattle.streams.proofs.places.Laws.{left-suc}
+
+-- the length of a place whose number is dropped, and of one whose number stays
+module _ (number len first : ℕ) where
+  pub length-dropped : seqLt number first ≡ true → 0 ≡ keptLength number len first
+  unfolding keptLength
+  length-dropped e = rw e
+
+  pub length-stays : seqLt number first ≡ false → len ≡ keptLength number len first
+  unfolding keptLength
+  length-stays e = rw e
 
 -- the first i of sixteen values stand in a list of sixteen
 unfoldable pub Written : (ℕ → ℕ) → List ℕ → ℕ → Type 0

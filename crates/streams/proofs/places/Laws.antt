@@ -1,6 +1,6 @@
 -- Laws of the search over a stream's places: what a loop over them does turn by turn.
 use Prim.Native.Nat.{ℕ, zero, suc, _+_, _-_, _≤_, _<_}
-use mathlib.Core.Path.{_≡_, refl, sym, _∙_}
+use mathlib.Core.Path.{_≡_, refl}
 use mathlib.Core.Bool.{Bool, true, false, cond}
 use mathlib.Core.Logic.{⊎-elim}
 use native.Mathlib.Nat.{eq-or-lt-of-le}
@@ -85,3 +85,19 @@ module _ (t : ℕ → Bool) where
       let low : firstPlace t < p → ⊥ = λ l. never (first-found (omega arith)) (f (firstPlace t) l) in
       let high : p < firstPlace t → ⊥ = λ l. never e (first-before p l) in
       omega (arith, low, high)
+
+-- two tests that agree at each place have one answer
+agree-from : (t u : ℕ → Bool) (k i : ℕ) → ((j : ℕ) → i ≤ j → j < i + k → t j ≡ u j) → firstFrom t k i ≡ firstFrom u k i
+unfolding firstFrom
+agree-from t u zero i f = refl
+agree-from t u (suc k) i f =
+    rw (f i (omega arith) (omega arith), agree-from t u k (suc i) (λ j h l. f j (omega arith) (omega arith)))
+
+pub first-agree : (t u : ℕ → Bool) → ((j : ℕ) → j < 16 → t j ≡ u j) → firstPlace t ≡ firstPlace u
+unfolding firstPlace
+first-agree t u f = agree-from t u 16 0 (λ j h l. f j l)
+
+pub first-none : (t : ℕ → Bool) → ((j : ℕ) → j < 16 → t j ≡ false) → firstPlace t ≡ 16
+first-none t f =
+    let low : firstPlace t < 16 → ⊥ = λ l. never (first-found t l) (f (firstPlace t) l) in
+    omega (arith, low, first-most t)

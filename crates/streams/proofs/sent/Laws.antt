@@ -1,6 +1,6 @@
 -- Laws of held messages: what an answer that isn't a refusal says of its numbers.
 use Prim.Native.Nat.{ℕ, _+_, _-_, _*_, _≤_, _<_}
-use mathlib.Core.Path.{_≡_, refl, sym, ap, _∙_}
+use mathlib.Core.Path.{_≡_, refl, sym, _∙_}
 use mathlib.Core.Bool.{Bool, true, false, cond, not}
 use native.Mathlib.Omega.{arith}
 use borrow.Author.Tests.{ltb-false, leb-false, eqb-false}
@@ -16,9 +16,9 @@ use Rattle.streams.specs.declared.sent.Slot.{Slot}
 use Rattle.streams.specs.declared.sent.Slot.the-variants as slot
 use Rattle.streams.specs.declared.sent.Held.{Held}
 use Rattle.streams.specs.declared.sent.Held.the-variants as held
-use Rattle.streams.specs.Places.{placeOf, holdsAt, holds, inLimits, placeFor}
+use Rattle.streams.specs.Places.{placeOf, holdsAt, inLimits, placeFor}
 use Rattle.streams.specs.Sent.{slotFor, heldOf, need, withMessage, recordOf, recordAt, recordBytes, bytesAt}
-use Rattle.streams.proofs.places.Laws.{first-found, never}
+use Rattle.streams.proofs.places.Held.{holds-nonzero, held-there}
 
 -- a choice between a refusal and the rest that comes to a place is the rest
 past-slot : (p : ℕ) (t : Bool) (r : Refusal) (x : Slot) → cond t (slot.Refused r) x ≡ slot.At p → (t ≡ false) × (x ≡ slot.At p)
@@ -64,18 +64,10 @@ slot-at s n len room p e =
       place = same;
     }
 
-nonzero-of : (number len n : ℕ) (b : Bool) → eqb len 0 ≡ b → cond b false (eqb number n) ≡ true → 1 ≤ len
-nonzero-of number len n true e h = absurd (never h refl)
-nonzero-of number len n false e h = omega (arith, eqb-false len 0 e)
-
 -- a number that is held has a length that isn't 0
-nonzero : (number len n : ℕ) → holds number len n ≡ true → 1 ≤ len
-unfolding holds
-nonzero number len n e = nonzero-of number len n (eqb len 0) refl e
-
 pub held-length : (s : StreamState) (n : ℕ) → placeOf s n < 16 → 1 ≤ getD (s .lengths) (placeOf s n) 0
-unfolding placeOf holdsAt
-held-length s n h = nonzero (getD (s .numbers) (placeOf s n) 0) (getD (s .lengths) (placeOf s n) 0) n (first-found (holdsAt s n) h)
+unfolding holdsAt
+held-length s n h = holds-nonzero (getD (s .numbers) (placeOf s n) 0) (getD (s .lengths) (placeOf s n) 0) n (held-there s n h)
 
 -- what `find_held` finds lies within the buffer
 pub record HeldAt (s : StreamState) (n room p k : ℕ) : Type 0 where

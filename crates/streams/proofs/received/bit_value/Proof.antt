@@ -11,7 +11,7 @@ shl-result c = search needs
 
 returns : tie.Need-returns
 unfolding bitValue
-returns c = rw (eq-eqb _ _ (c .if1 .taken)) (one-shl (c .before .args .bit) (c .before .pre))
+returns c = rw (eq-eqb (c .before .args .seq) (c .before .args .expected) (c .if1 .taken)) (one-shl (c .before .args .bit) (c .before .pre))
 
 seq-lt-requires : tie.Need-seq-lt-requires
 seq-lt-requires c κs = search needs
@@ -21,11 +21,11 @@ shl-result-2 c = search needs
 
 returns-2 : tie.Need-returns-2
 unfolding bitValue
-returns-2 c = rw (ne-eqb _ _ (c .before .before .if1 .left), ← c .before .seq-lt .ensures, c .if2 .taken)
+returns-2 c = rw (ne-eqb (c .before .before .before .args .seq) (c .before .before .before .args .expected) (c .before .before .if1 .left), ← c .before .seq-lt .ensures, c .if2 .taken)
 
 returns-3 : tie.Need-returns-3
 unfolding bitValue
-returns-3 c = rw (ne-eqb _ _ (c .before .before .if1 .left), ← c .before .seq-lt .ensures, c .if2 .left) (one-shl (c .before .before .before .args .bit) (c .before .before .before .pre))
+returns-3 c = rw (ne-eqb (c .before .before .before .args .seq) (c .before .before .before .args .expected) (c .before .before .if1 .left), ← c .before .seq-lt .ensures, c .if2 .left) (one-shl (c .before .before .before .args .bit) (c .before .before .before .pre))
 
 pub bit-value-spec : {M : Type 1} → statement M
 bit-value-spec =

@@ -1,0 +1,44 @@
+-- `datagrams::show` is safe and ends: no more of the output is written than the lines fill.
+use mathlib.Core.Path.{sym}
+use lib.Seq.{length-take-le}
+use Rattle.listing.proofs.Counts.{filled-counts}
+use borrow.Author.Needs.{needs}
+use Rattle.datagrams.proofs.show.Statement.{statement}
+use Rattle.datagrams.proofs.show.Tie as tie
+
+slice-aggregate-lines : tie.Need-slice-aggregate-lines
+slice-aggregate-lines c = sym (length-take-le _ _ (c .before .if1 .taken))
+
+lines-requires : tie.Need-lines-requires
+lines-requires c κs = search needs
+
+slice-reshare-prefix-write-all : tie.Need-slice-reshare-prefix-write-all
+slice-reshare-prefix-write-all c = filled-counts _ _ _ _ (c .before .before .lines .ensures) .0
+
+slice-aggregate-write-all : tie.Need-slice-aggregate-write-all
+slice-aggregate-write-all c = filled-counts _ _ _ _ (c .before .before .before .lines .ensures) .1
+
+write-all-requires : tie.Need-write-all-requires
+write-all-requires c κs = search needs
+
+same-length : tie.Need-same-length
+same-length c = search needs
+
+returns : tie.Need-returns
+returns c = search needs
+
+returns-2 : tie.Need-returns-2
+returns-2 c = search needs
+
+pub show-spec : {M : Type 1} → statement M
+show-spec =
+    tie.close
+    (tie.spec
+    slice-aggregate-lines
+    lines-requires
+    slice-reshare-prefix-write-all
+    slice-aggregate-write-all
+    write-all-requires
+    same-length
+    returns
+    returns-2)

@@ -1,0 +1,2 @@
+-- Laws of text in a lent output.
+pub mod Laws

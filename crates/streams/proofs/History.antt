@@ -1,0 +1,153 @@
+-- A held message reads back byte for byte until it is replaced or acknowledged, whatever else is called.
+use Prim.Native.Nat.{ℕ, _-_, _*_, _≤_}
+use mathlib.Core.Path.{_≡_, refl, sym, _∙_}
+use mathlib.Core.Bool.{Bool, true, false, cond}
+use mathlib.Core.List.{List, [], _∷_}
+use mathlib.Core.Option.{none, some}
+use native.Mathlib.Omega.{arith}
+use borrow.Author.Tests.{eqb-false, eq-eqb, ne-eqb, le-ltb, lt-leb, not-true}
+use lib.Dec.{eqb}
+use lib.ListN.{getD, length}
+use Rattle.streams.specs.declared.state.StreamState.{StreamState}
+use Rattle.streams.specs.declared.received.Received.{Received}
+use Rattle.streams.specs.declared.sent.Slot.{Slot}
+use Rattle.streams.specs.declared.sent.Slot.the-variants as slot
+use Rattle.streams.specs.declared.sent.Held.the-variants as held
+use Rattle.streams.specs.Sequence.{seqLt, plus}
+use Rattle.streams.specs.Places.{placeOf, isHeld}
+use Rattle.streams.specs.Sent.{need, allocOf, slotFor, recordAt, recordOf, bytesAt, recordBytes, heldOf, heldBytes}
+use Rattle.streams.specs.Acknowledged.{acknowledge, repeatsOf}
+use Rattle.streams.specs.Received.{receivedOf, expecting}
+use Rattle.streams.specs.View.{messageOf, Sound, Stream, Call, allocate, send, acknack, receive, after, afterAll, spares, AllSpare}
+use Rattle.streams.proofs.places.Held.{held-low, free-place, message-at, message-none}
+use Rattle.streams.proofs.sent.Laws.{slot-at}
+use Rattle.codec.proofs.bytes.Laws.{length-put}
+use Rattle.streams.proofs.Dropped.{acknowledged}
+use Rattle.streams.proofs.View.{recorded}
+use Rattle.streams.proofs.Soundness.{same-sound, same-messages, drop-sound, record-sound}
+
+-- what `check_recv_seq` and `alloc_send_seq` leave as it is
+alloc-same : (s : StreamState) → (allocOf s .state .numbers ≡ s .numbers) × (allocOf s .state .lengths ≡ s .lengths)
+unfolding allocOf
+alloc-same s = (refl, refl)
+
+receive-same : (s : StreamState) (n : ℕ) → (receivedOf s n .state .numbers ≡ s .numbers) × (receivedOf s n .state .lengths ≡ s .lengths)
+unfolding receivedOf expecting
+receive-same s n = by (eqb (s .«stream_id») 0) (eqb n (s .«next_recv_seq»))
+  where
+    answer : Bool → Bool → Received
+    answer t u = cond t (record { accepted = true; state = s }) (cond u (record { accepted = true; state = expecting s (plus n 1) }) (record { accepted = false; state = s }))
+
+    by : (t u : Bool) → (answer t u .state .numbers ≡ s .numbers) × (answer t u .state .lengths ≡ s .lengths)
+    by true u = (refl, refl)
+    by false true = (refl, refl)
+    by false false = (refl, refl)
+
+-- one message is sent, and what `record_sent` answers
+module _ (x : Stream) (d : Sound (x .state)) (m : ℕ) (message : List ℕ) where
+  sent-sound : (a : Slot) → slotFor (x .state) m (length message) (length (x .buffer)) ≡ a → Sound (recordAt a (x .state) m (length message))
+  unfolding recordAt
+  sent-sound (slot.At p) e = let k = slot-at (x .state) m (length message) (length (x .buffer)) p e in record-sound (x .state) d m (length message) p (k .place) (k .low) (k .short)
+  sent-sound slot.Nowhere e = d
+  sent-sound (slot.Refused r) e = d
+
+  sent-room : (a : Slot) → slotFor (x .state) m (length message) (length (x .buffer)) ≡ a → length (bytesAt a message (x .buffer)) ≡ length (x .buffer)
+  unfolding bytesAt
+  sent-room (slot.At p) e =
+      let k = slot-at (x .state) m (length message) (length (x .buffer)) p e in
+      length-put (x .buffer) (p * 1024) message (omega (arith, k .low, k .short, k .room-for))
+  sent-room slot.Nowhere e = refl
+  sent-room (slot.Refused r) e = refl
+
+  sent-others : (n : ℕ) → (n ≡ m → ⊥) → (a : Slot) → slotFor (x .state) m (length message) (length (x .buffer)) ≡ a
+      → messageOf (recordAt a (x .state) m (length message)) (bytesAt a message (x .buffer)) n ≡ messageOf (x .state) (x .buffer) n
+  unfolding recordAt bytesAt
+  sent-others n h (slot.At p) e = recorded (x .state) d m message (x .buffer) p e n ∙ rw (ne-eqb n m h)
+  sent-others n h slot.Nowhere e = refl
+  sent-others n h (slot.Refused r) e = refl
+
+-- one call
+module _ (x : Stream) (d : Sound (x .state)) where
+  pub step-sound : (c : Call) → Sound (after c x .state)
+  unfolding after recordOf acknowledge repeatsOf
+  step-sound allocate = same-sound (x .state) _ (alloc-same (x .state)) d
+  step-sound (send m message) = sent-sound x d m message (slotFor (x .state) m (length message) (length (x .buffer))) refl
+  step-sound (acknack first bitmap) = drop-sound (x .state) first d
+  step-sound (receive m) = same-sound (x .state) _ (receive-same (x .state) m) d
+
+  pub step-room : (c : Call) → length (after c x .buffer) ≡ length (x .buffer)
+  unfolding after recordBytes
+  step-room allocate = refl
+  step-room (send m message) = sent-room x d m message (slotFor (x .state) m (length message) (length (x .buffer))) refl
+  step-room (acknack first bitmap) = refl
+  step-room (receive m) = refl
+
+  pub step-kept : (n : ℕ) (c : Call) → spares n c ≡ true → messageOf (after c x .state) (after c x .buffer) n ≡ messageOf (x .state) (x .buffer) n
+  unfolding after recordOf recordBytes acknowledge repeatsOf spares
+  step-kept n allocate e = same-messages (x .state) _ (alloc-same (x .state)) (x .buffer) n
+  step-kept n (send m message) e =
+      sent-others x d m message n (λ q. eqb-false m n (not-true (eqb m n) e) (sym q)) (slotFor (x .state) m (length message) (length (x .buffer))) refl
+  step-kept n (acknack first bitmap) e = acknowledged (x .state) first n (x .buffer) ∙ rw (not-true (seqLt n first) e)
+  step-kept n (receive m) e = same-messages (x .state) _ (receive-same (x .state) m) (x .buffer) n
+
+-- a message that was just recorded is held
+just-recorded : (x : Stream) → Sound (x .state) → (n : ℕ) (message : List ℕ) (p : ℕ) → slotFor (x .state) n (length message) (length (x .buffer)) ≡ slot.At p
+    → messageOf (after (send n message) x .state) (after (send n message) x .buffer) n ≡ some message
+unfolding after recordOf recordAt recordBytes bytesAt
+just-recorded x d n message p e = rw e (recorded (x .state) d n message (x .buffer) p e n ∙ rw (eq-eqb n n refl))
+
+-- any calls one behind the other
+pub all-sound : (cs : List Call) (x : Stream) → Sound (x .state) → Sound (afterAll cs x .state)
+unfolding afterAll
+all-sound [] x d = d
+all-sound (c ∷ cs) x d = all-sound cs (after c x) (step-sound x d c)
+
+pub all-room : (cs : List Call) (x : Stream) → Sound (x .state) → length (afterAll cs x .buffer) ≡ length (x .buffer)
+unfolding afterAll
+all-room [] x d = refl
+all-room (c ∷ cs) x d = all-room cs (after c x) (step-sound x d c) ∙ step-room x d c
+
+pub all-kept : (n : ℕ) (cs : List Call) (x : Stream) → Sound (x .state) → AllSpare n cs
+    → messageOf (afterAll cs x .state) (afterAll cs x .buffer) n ≡ messageOf (x .state) (x .buffer) n
+unfolding afterAll AllSpare
+all-kept n [] x d e = refl
+all-kept n (c ∷ cs) x d e = all-kept n cs (after c x) (step-sound x d c) (e .1) ∙ step-kept x d n c (e .0)
+
+-- `held_message` hands back the message that is held, and `find_held` says so where none is
+module _ (s : StreamState) (d : Sound s) (buffer : List ℕ) (room : need ≤ length buffer) (n : ℕ) where
+  found : isHeld s n ≡ true → heldOf s n (length buffer) ≡ held.At (placeOf s n) (getD (s .lengths) (placeOf s n) 0 - 1)
+  unfolding heldOf
+  found k =
+      rw (
+        le-ltb (length buffer) need room,
+        lt-leb 16 (placeOf s n) (held-low s n k),
+        le-ltb 1025 (getD (s .lengths) (placeOf s n) 0) (d .short (placeOf s n)),
+      )
+
+  pub reads-held : (bytes : List ℕ) → messageOf s buffer n ≡ some bytes → heldBytes (heldOf s n (length buffer)) buffer ≡ bytes
+  unfolding heldBytes
+  reads-held bytes e = by (isHeld s n) refl
+    where
+      by : (t : Bool) → isHeld s n ≡ t → heldBytes (heldOf s n (length buffer)) buffer ≡ bytes
+      by true k = rw (found k) (let same = message-at s n buffer (placeOf s n) refl (held-low s n k) in cc)
+      by false k = absurd (let no = message-none s n buffer (free-place s n k) in let z : _≡_ {A = ℕ} 0 1 = cc in omega arith)
+
+  pub reads-nothing : messageOf s buffer n ≡ none → heldOf s n (length buffer) ≡ held.Nothing
+  unfolding heldOf
+  reads-nothing e = by (isHeld s n) refl
+    where
+      by : (t : Bool) → isHeld s n ≡ t → heldOf s n (length buffer) ≡ held.Nothing
+      by true k = absurd (let same = message-at s n buffer (placeOf s n) refl (held-low s n k) in let z : _≡_ {A = ℕ} 0 1 = cc in omega arith)
+      by false k = rw (le-ltb (length buffer) need room, free-place s n k)
+
+-- a message that was recorded reads back after any calls that neither record its number anew nor acknowledge it
+pub reads-back : (x : Stream) → Sound (x .state) → (n : ℕ) (message : List ℕ) (p : ℕ) → slotFor (x .state) n (length message) (length (x .buffer)) ≡ slot.At p
+    → (cs : List Call) → AllSpare n cs
+    → let y = afterAll cs (after (send n message) x) in heldBytes (heldOf (y .state) n (length (y .buffer))) (y .buffer) ≡ message
+reads-back x d n message p e cs spared =
+    let z = after (send n message) x in
+    let dz = step-sound x d (send n message) in
+    let y = afterAll cs z in
+    let k = slot-at (x .state) n (length message) (length (x .buffer)) p e in
+    reads-held (y .state) (all-sound cs z dz) (y .buffer) (omega (arith, k .room-for, all-room cs z dz, step-room x d (send n message))) n message
+    (all-kept n cs z dz spared ∙ just-recorded x d n message p e)
