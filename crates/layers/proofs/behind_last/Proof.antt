@@ -1,3 +1,4 @@
+-- `layers::behind_last` is safe and ends. The measure is `i`; the invariant keeps the lengths and places that the turns rely on.
 use borrow.Author.Needs.{needs}
 use Prim.Native.Nat.{_≤_}
 use Rattle.layers.proofs.behind_last.Statement.{statement}

@@ -1,3 +1,4 @@
+-- `layers::newline` is safe and ends. The measure is `have - i`; nothing has to hold from turn to turn.
 use borrow.Author.Needs.{needs}
 use Prim.Native.Nat.{_-_}
 use Rattle.layers.proofs.newline.Statement.{statement}

@@ -1,3 +1,4 @@
+-- `layers::print::put_bytes` is safe and ends. The measure is `length bytes - i`; the invariant keeps the lengths and places that the turns rely on.
 use mathlib.Core.Path.{_≡_}
 use borrow.Author.Needs.{needs}
 use Prim.Native.Nat.{_≤_, _-_}

@@ -1,3 +1,4 @@
+-- `layers::wire::fragments` is safe and ends. The measure is `total - k`; the invariant keeps the lengths and places that the turns rely on.
 use borrow.Author.Needs.{needs}
 use Prim.Native.Nat.{_≤_, _-_}
 use lib.ListN.{length}

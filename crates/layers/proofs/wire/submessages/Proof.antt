@@ -1,3 +1,4 @@
+-- `layers::wire::submessages` is safe and ends. The measure is `left`; the invariant keeps the lengths and places that the turns rely on.
 use borrow.Author.Needs.{needs}
 use lib.ListN.{length}
 use mathlib.Core.Path.{_≡_}

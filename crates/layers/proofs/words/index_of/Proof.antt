@@ -1,3 +1,4 @@
+-- `layers::words::index_of` is safe and ends. The measure is `count - i`; nothing has to hold from turn to turn.
 use borrow.Author.Needs.{needs}
 use Prim.Native.Nat.{_-_}
 use Rattle.layers.proofs.words.index_of.Statement.{statement}

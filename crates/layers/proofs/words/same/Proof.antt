@@ -1,3 +1,4 @@
+-- `layers::words::same` is safe and ends. The measure is `length a - i`; the invariant keeps the lengths and places that the turns rely on.
 use borrow.Author.Needs.{needs}
 use Prim.Native.Nat.{_≤_, _-_}
 use lib.ListN.{length}

@@ -1,3 +1,4 @@
+-- `layers::words::word` is safe and ends. The measure is `left`; nothing has to hold from turn to turn.
 use borrow.Author.Needs.{needs}
 use Rattle.layers.proofs.words.word.Statement.{statement}
 use Rattle.layers.proofs.words.word.Tie as tie
