@@ -45,7 +45,11 @@ fn payload(chance: &mut Chance, id: u8, least: usize) -> Vec<u8> {
 }
 
 fn flags(chance: &mut Chance) -> u8 {
-    if chance.one_in(2) { 0 } else { chance.byte() }
+    if chance.one_in(2) {
+        0
+    } else {
+        chance.byte()
+    }
 }
 
 pub fn whole_submessage(chance: &mut Chance) -> Vec<u8> {

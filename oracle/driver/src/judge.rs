@@ -94,8 +94,11 @@ pub fn layers(commands: &str, original: &str, port: &str) -> Verdict {
             let script: Vec<String> = script.iter().map(|line| line.to_string()).collect();
             let script = if state.is_empty() { &script[script.len() - 1..] } else { &script[..] };
             return Err(format!(
-                "line {} differs\n{}{}{}", at + 1, shown("commands", script),
-                shown("the original", &ours), shown("the port", &theirs)
+                "line {} differs\n{}{}{}",
+                at + 1,
+                shown("commands", script),
+                shown("the original", &ours),
+                shown("the port", &theirs)
             ));
         }
         if state.is_empty() {
@@ -212,8 +215,11 @@ pub fn replay(script: &str, original: &str, port: &str) -> Verdict {
         if ours != theirs {
             let since: Vec<String> = events[setup..at].iter().map(|(_, line)| line.to_string()).collect();
             return Err(format!(
-                "the event on line {} differs\n{}{}{}", events[first].0 + 1, shown("script", &since),
-                ours.shown("the original"), theirs.shown("the port")
+                "the event on line {} differs\n{}{}{}",
+                events[first].0 + 1,
+                shown("script", &since),
+                ours.shown("the original"),
+                theirs.shown("the port")
             ));
         }
     }

@@ -266,7 +266,9 @@ impl Making {
         let mut tries = 0;
         while wanted > 0 && tries < 30 {
             tries += 1;
-            let id = self.chance.pick(&[0x01, 0x01, 0x01, 0x01, 0x01, 0x07, 0x07, 0x08, 0x08, 0x08, 0x02, 0x0D, 0x0E, 0x00, 0x05, 0x09]);
+            let id = self.chance.pick(&[
+                0x01, 0x01, 0x01, 0x01, 0x01, 0x07, 0x07, 0x08, 0x08, 0x08, 0x02, 0x0D, 0x0E, 0x00, 0x05, 0x09,
+            ]);
             let longer = [&datagram[..], &self.submessage(session, id)].concat();
             if inside(&self.agent, &longer) {
                 datagram = longer;
@@ -308,7 +310,8 @@ impl Making {
             0x0E => [self.chance.sequence().to_le_bytes(), (self.chance.word() as u16).to_le_bytes()].concat(),
             _ => object,
         };
-        let behind = if self.chance.one_in(8) && !matches!(id, 0x01 | 0x07 | 0x09) { self.chance.within(1, 4) } else { 0 };
+        let behind =
+            if self.chance.one_in(8) && !matches!(id, 0x01 | 0x07 | 0x09) { self.chance.within(1, 4) } else { 0 };
         let payload = [payload, self.chance.bytes(behind)].concat();
         datagrams::submessage(id, self.chance.pick(&[0, 0, 1, 255]), &payload)
     }

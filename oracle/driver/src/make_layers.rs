@@ -70,12 +70,15 @@ impl Making {
             self.say(format!("decode {}", hex(&buf)));
             self.say(format!("decode {}", hex(&buf[..buf.len() - 1])));
         }
-        for text in ["", "a", "ä", "€", "𝄞", "\u{7f}", "\u{80}", "\u{7ff}", "\u{800}", "\u{ffff}", "\u{10ffff}", "\0"] {
+        for text in ["", "a", "ä", "€", "𝄞", "\u{7f}", "\u{80}", "\u{7ff}", "\u{800}", "\u{ffff}", "\u{10ffff}", "\0"]
+        {
             self.say(format!("encode {}", hex(text.as_bytes())));
             let buf = [&(text.len() as u16).to_le_bytes()[..], text.as_bytes()].concat();
             self.say(format!("decode {}", hex(&buf)));
         }
-        for ill in [&b"\x80"[..], b"\xc0\x80", b"\xed\xa0\x80", b"\xf4\x90\x80\x80", b"\xf0\x9f\x92", b"a\xffb", b"\xe4"] {
+        for ill in
+            [&b"\x80"[..], b"\xc0\x80", b"\xed\xa0\x80", b"\xf4\x90\x80\x80", b"\xf0\x9f\x92", b"a\xffb", b"\xe4"]
+        {
             let buf = [&(ill.len() as u16).to_le_bytes()[..], ill].concat();
             self.say(format!("decode {}", hex(&buf)));
         }
@@ -254,7 +257,8 @@ impl Making {
         for _ in 0..count {
             match self.chance.below(8) {
                 0..=4 => {
-                    let at = if self.chance.one_in(8) { total + self.chance.below(3) } else { self.chance.below(total + 1) };
+                    let at =
+                        if self.chance.one_in(8) { total + self.chance.below(3) } else { self.chance.below(total + 1) };
                     let length = self.chance.below(width + 1);
                     let body = self.chance.bytes(length);
                     self.say(format!("insert {at} {}", hex(&body)));
@@ -407,9 +411,10 @@ impl Making {
 
     fn open(&mut self, id: u8) {
         let stream = self.chance.pick(&[0, 1, 2, 3, 4, 5, 6, 7, 127, 128, 255]);
-        let ninth = self.original.table.get(id).is_some_and(|session| {
-            session.stream_states.len() == 8 && !session.stream_states.contains_key(&stream)
-        });
+        let ninth =
+            self.original.table.get(id).is_some_and(|session| {
+                session.stream_states.len() == 8 && !session.stream_states.contains_key(&stream)
+            });
         if !ninth {
             self.say(format!("open {id} {stream}"));
         }

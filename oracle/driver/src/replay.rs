@@ -110,7 +110,10 @@ pub fn remove(agent: &mut XrceAgent, timeout: u64, id: u8) -> bool {
     if agent.sessions().get(id).is_none() {
         return false;
     }
-    let others: Vec<(u8, u64)> = agent.sessions().sessions.values()
+    let others: Vec<(u8, u64)> = agent
+        .sessions()
+        .sessions
+        .values()
         .filter(|session| session.session_id != id)
         .map(|session| (session.session_id, clock::milliseconds(session.last_activity)))
         .collect();

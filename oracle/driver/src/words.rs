@@ -3,7 +3,7 @@
 
 use std::fmt::Write;
 
-/// The words of a line, or none where it isn't a line of the format.
+/// The words of a line.
 pub fn words(line: &str) -> Vec<&str> {
     line.split(' ').collect()
 }
