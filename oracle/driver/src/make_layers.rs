@@ -19,7 +19,7 @@ pub fn commands(seed: u64, count: u64) -> Vec<String> {
     making.short();
     for script in 0..count {
         making.say(format!("# script {script} of seed {seed}"));
-        making.messages(240);
+        making.messages(420);
         making.strings(20);
         making.cuts(12);
         making.reassembly(45);
