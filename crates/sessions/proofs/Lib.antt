@@ -9,3 +9,4 @@ pub mod Cases
 pub mod Within
 pub mod ViewStreams
 pub mod Kept
+pub mod Reached
