@@ -14,10 +14,10 @@ use Rattle.streams.specs.State.{newStream}
 use Rattle.streams.specs.declared.state.StreamState.{StreamState}
 use Rattle.sessions.specs.Table.{sessionAt, sessionOf, rowOf, keepSession, isFree, namedOf, keptRows, touchedSession, touchedRows, endedSession, endedRows, newSession}
 use Rattle.sessions.specs.Opening.{openedRows, openedStreams}
-use Rattle.sessions.specs.Sweep.{goes, sweptAt, sweptFrom, sweptRows}
+use Rattle.sessions.specs.Sweep.{goes, expiredFrom, sweptAt, sweptFrom, sweptRows}
 use Rattle.sessions.specs.SessionObjects.{objectRow}
 use Rattle.sessions.specs.Streams.{streamOf, rowFrom, streamRow, keepStream, firstStream}
-use Rattle.sessions.specs.View.{Tables, Local, startOf, expired, streamRows, listed, opened, localFrom, localOf}
+use Rattle.sessions.specs.View.{Tables, Local, startOf, expired, streamRows, listed, opened, localFrom, localOf, lapsed, lapsedIn}
 use Rattle.sessions.specs.declared.objects.Object.{Object}
 use Rattle.sessions.specs.declared.table.ClientSession.{ClientSession}
 use Rattle.sessions.specs.declared.table.Named.{Named}
@@ -230,22 +230,18 @@ module _ (time timeout : ℕ) where
           ∙ ap (cond (goes rows time timeout j) endedSession) o
 
   -- a session of the view goes exactly if it is expired
-  abbrev pub goesLocal : Option Local → Bool
-  goesLocal none = false
-  goesLocal (some l) = expired l time timeout
-
-  pub goes-view : (t : Tables) (j : ℕ) → goes (t .sessions) time timeout j ≡ goesLocal (localOf t j)
+  pub goes-view : (t : Tables) (j : ℕ) → goes (t .sessions) time timeout j ≡ lapsed time timeout (localOf t j)
   unfolding goes
   goes-view t j = by (isFree (t .sessions) j)
     where
       by : (b : Bool) → cond b false (ltb timeout (time - sessionAt (t .sessions) j .«last_activity»))
-          ≡ goesLocal (cond b none (some (record { key = sessionAt (t .sessions) j .«client_key»; last = sessionAt (t .sessions) j .«last_activity»; objects = listed (sessionAt (t .sessions) j .objects) (objectRow (t .objects) j); streams = opened (sessionAt (t .sessions) j .streams) (streamRows (t .streams) j) })))
+          ≡ lapsed time timeout (cond b none (some (record { key = sessionAt (t .sessions) j .«client_key»; last = sessionAt (t .sessions) j .«last_activity»; objects = listed (sessionAt (t .sessions) j .objects) (objectRow (t .objects) j); streams = opened (sessionAt (t .sessions) j .streams) (streamRows (t .streams) j) })))
       by true = refl
       by false = refl
 
   -- "a sweep when it is expired, ends it"; every other session stays
   pub sweep-view : (t : Tables) (j : ℕ) → 256 ≤ length (t .sessions) → 1 ≤ j → j < 256
-      → localOf (withSessions t (sweptRows (t .sessions) time timeout)) j ≡ cond (goesLocal (localOf t j)) none (localOf t j)
+      → localOf (withSessions t (sweptRows (t .sessions) time timeout)) j ≡ cond (lapsed time timeout (localOf t j)) none (localOf t j)
   unfolding sweptRows
   sweep-view t j long a b =
       ap (λ (s : ClientSession). localFrom s (objectRow (t .objects) j) (streamRows (t .streams) j)) (swept-inside (t .sessions) 1 255 j (omega arith) a (omega arith))
@@ -255,3 +251,9 @@ module _ (time timeout : ℕ) where
       by : (g : Bool) → localFrom (cond g endedSession (sessionAt (t .sessions) j)) (objectRow (t .objects) j) (streamRows (t .streams) j) ≡ cond g none (localOf t j)
       by true = refl
       by false = refl
+
+  -- the ids that a sweep lists are those of the expired sessions
+  pub listed-view : (t : Tables) (i n : ℕ) → expiredFrom (t .sessions) time timeout i n ≡ lapsedIn time timeout (localOf t) i n
+  unfolding expiredFrom lapsedIn
+  listed-view t i zero = refl
+  listed-view t i (suc n) = rw (goes-view t i, listed-view t (suc i) n)

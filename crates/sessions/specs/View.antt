@@ -10,6 +10,7 @@ use Rattle.streams.specs.State.{newStream}
 use Rattle.streams.specs.declared.state.StreamState.{StreamState}
 use Rattle.sessions.specs.Search.{firstFrom}
 use Rattle.sessions.specs.Table.{sessionAt, isFree, elapsedOf}
+use Rattle.sessions.specs.Opening.{after}
 use Rattle.sessions.specs.SessionObjects.{objectRow}
 use Rattle.sessions.specs.Streams.{streamOf, firstStream}
 use Rattle.sessions.specs.declared.objects.Object.{Object}
@@ -75,6 +76,30 @@ streamsOf t id = opened (sessionAt (t .sessions) id .streams) (streamRows (t .st
 
 abbrev pub localOf : Tables → ℕ → Option Local
 localOf t id = localFrom (sessionAt (t .sessions) id) (objectRow (t .objects) id) (streamRows (t .streams) id)
+
+-- ---- all sessions
+
+abbrev pub absent : Option Local → Bool
+absent none = true
+absent (some l) = false
+
+-- a live session that is expired
+abbrev pub lapsed : ℕ → ℕ → Option Local → Bool
+lapsed time timeout none = false
+lapsed time timeout (some l) = expired l time timeout
+
+-- of n ids from i on: how many are live, the first that is not live (or 0), and those whose sessions are expired, ascending
+unfoldable pub liveIn : (ℕ → Option Local) → ℕ → ℕ → ℕ
+liveIn at i zero = 0
+liveIn at i (suc n) = cond (absent (at i)) 0 1 + liveIn at (suc i) n
+
+unfoldable pub freeIn : (ℕ → Option Local) → ℕ → ℕ → ℕ
+freeIn at i zero = 0
+freeIn at i (suc n) = cond (absent (at i)) i (freeIn at (after i) n)
+
+unfoldable pub lapsedIn : ℕ → ℕ → (ℕ → Option Local) → ℕ → ℕ → List ℕ
+lapsedIn time timeout at i zero = []
+lapsedIn time timeout at i (suc n) = cond (lapsed time timeout (at i)) (i ∷ lapsedIn time timeout at (suc i) n) (lapsedIn time timeout at (suc i) n)
 
 -- ---- document 01's list operations
 

@@ -7,10 +7,12 @@ ghost use Rattle.sessions.specs.Objects.{bridgedOf, implicitOf, handleOf
 
 // What the bridge knows an entity by. One is made of a bridge's answer, or read out of a record that holds one: a bridge
 // call takes this struct alone, so an object number never stands where a handle is due.
+#[repr(C)]
 pub struct Handle(pub u32);
 
 // Numbers only, so that a C host can lend a row of these. `bridged` is 0 where the object has no handle; the
 // handle beside it is then not one, and no function hands it out.
+#[repr(C)]
 pub struct Object {
     pub number: ObjectNumber,
     pub kind: u8,
