@@ -1,3 +1,4 @@
+-- `codec::cutting::body_of` meets its contract: a whole body, or what is left of the payload.
 use borrow.Author.Needs.{needs}
 use Prim.Native.Nat.{_+_, _-_, _*_}
 use mathlib.Core.Path.{_≡_, _∙_, sym}

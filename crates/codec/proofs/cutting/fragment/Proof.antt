@@ -1,3 +1,4 @@
+-- `codec::cutting::fragment` meets its contract: 7, 8, 9, then 10, then 13, then the k-th fragment.
 use borrow.Author.Needs.{needs}
 use mathlib.Core.Path.{_∙_, sym}
 use native.Mathlib.Omega.{arith}

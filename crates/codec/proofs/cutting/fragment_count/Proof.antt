@@ -1,3 +1,4 @@
+-- `codec::cutting::fragment_count` meets its contract: 7, 8, 9, or the number of fragments.
 use borrow.Author.Needs.{needs}
 use borrow.Author.Tests.{eq-eqb, ne-eqb}
 use native.Mathlib.Omega.{arith}

@@ -1,3 +1,4 @@
+-- `codec::cutting::FragmentHeader::parse` meets its contract: 1, or the two numbers.
 use borrow.Author.Needs.{needs}
 use borrow.Author.Tests.{lt-ltb, le-ltb}
 use Rattle.codec.specs.Cutting.{fragmentHeaderOf}

@@ -1,3 +1,4 @@
+-- `codec::cutting::FragmentHeader::put` meets its contract: two numbers, one behind the other.
 use borrow.Author.Needs.{needs}
 use mathlib.Core.Path.{_∙_}
 use Rattle.codec.proofs.cutting.Laws.{put-header}

@@ -1,3 +1,4 @@
+-- `codec::cutting::FragmentHeader::put_with` meets its contract: 13, or the header and the body behind it.
 use borrow.Author.Needs.{needs}
 use mathlib.Core.Path.{_∙_}
 use native.Mathlib.Omega.{arith}

@@ -1,3 +1,4 @@
+-- `codec::cutting::FragmentHeader::write` meets its contract: 13, or the header's four bytes.
 use borrow.Author.Needs.{needs}
 use mathlib.Core.Path.{_∙_}
 use mathlib.Core.List.{[]}

@@ -1,3 +1,4 @@
+-- `StreamState::drop_before` meets its contract. The invariant: the lengths of the places passed are those that are kept.
 use mathlib.Core.Path.{refl}
 -- `streams::state::StreamState::drop_before` meets its contract: the first `i` lengths are written.
 use Prim.Native.Nat.{_-_}

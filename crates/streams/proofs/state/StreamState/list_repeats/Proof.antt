@@ -1,3 +1,4 @@
+-- `StreamState::list_repeats` meets its contract. The invariant: what is listed, and what the bits left will add, is the whole list.
 use mathlib.Core.Path.{sym, _∙_}
 use mathlib.Core.Logic.{⊎-elim}
 -- `streams::state::StreamState::list_repeats` meets its contract: the numbers of the bits below `bit` are listed.

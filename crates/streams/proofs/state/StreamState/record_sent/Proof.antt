@@ -1,3 +1,4 @@
+-- `StreamState::record_sent` meets its contract: the message at its place, or nothing changes.
 use mathlib.Core.Path.{_≡_, sym, _∙_}
 use lib.ListN.{length}
 use Rattle.streams.specs.declared.sent.Slot.the-variants.{At}
