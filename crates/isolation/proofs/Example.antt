@@ -2,6 +2,7 @@
 -- gives it and that its machine, fed alone, gives too. All by `refl`.
 use mathlib.Core.Path.{_≡_, refl}
 use Prim.Native.Nat.{ℕ}
+use mathlib.Core.Bool.{true}
 use mathlib.Core.Option.{Option, none, some}
 use mathlib.Core.List.{List, [], _∷_, _++_}
 use Rattle.isolation.specs.Rules.{Sub, opens, names, Message, Rules, Host, datagram, answer, removal, sweep, opened, reply, Asked, Result, refused, ran}
@@ -23,14 +24,14 @@ Event = Host R × ℕ
 abbrev pub client : ℕ → ℕ → Sub (ℕ × ℕ) In
 client key time = opens (key, time)
 
-abbrev at : ℕ → Act → Sub (ℕ × ℕ) In
+abbrev pub at : ℕ → Act → Sub (ℕ × ℕ) In
 at time a = names (record { time = time; act = a })
 
 -- a datagram under a header, and an answer, each with room for 64 bytes
 abbrev pub to : ℕ → List (Sub (ℕ × ℕ) In) → Event
 to h ss = (datagram (some (record { header = h; subs = ss })), 64)
 
-abbrev gets : Ans → Event
+abbrev pub gets : Ans → Event
 gets a = (answer 0 a, 64)
 
 abbrev results : A .State → List Event → List (Result R)
@@ -50,7 +51,7 @@ traffic =
     ∷ gets finished
     ∷ (answer 0 (made (bridge 9)), 5)
     ∷ gets (made (bridge 9))
-    ∷ to 2 (at 900 (write 5) ∷ [])
+    ∷ to 2 (at 900 (write 5) ∷ at 900 beat ∷ [])
     ∷ to 2 (at 950 (rebuilt 6) ∷ client 9 950 ∷ [])
     ∷ gets (made (bridge 10))
     ∷ []
@@ -74,20 +75,20 @@ abbrev asks : ℕ → Call → Option (Asked R)
 asks s c = some (record { tag = 0; session = s; call = c })
 
 answers : results (A .empty) H ≡
-    ran (opened (some 1) ∷ []) none
-    ∷ ran (opened (some 2) ∷ reply 2 (2 ∷ 5 ∷ []) ∷ reply 2 (2 ∷ 6 ∷ []) ∷ []) none  -- session 2 used in the datagram that opens it
+    ran (opened (some 1) (1 ∷ 0 ∷ []) ∷ []) none
+    ∷ ran (opened (some 2) (2 ∷ 0 ∷ []) ∷ reply 2 (2 ∷ 5 ∷ []) ∷ reply 2 (2 ∷ 6 ∷ []) ∷ []) none  -- session 2 used in the datagram that opens it
     ∷ ran [] (asks 1 make)
     ∷ refused 15  -- a datagram while a call is open
     ∷ refused 15  -- an answer of another kind
     ∷ refused 13  -- room for 5 bytes, where 6 are due
     ∷ ran (reply 1 (1 ∷ 0 ∷ []) ∷ reply 1 (1 ∷ 5 ∷ []) ∷ reply 1 (1 ∷ 6 ∷ []) ∷ []) none
-    ∷ ran (reply 2 (2 ∷ 1 ∷ []) ∷ []) none  -- object 5 is session 1's
+    ∷ ran (reply 2 (2 ∷ 1 ∷ []) ∷ reply 2 (2 ∷ 5 ∷ []) ∷ reply 2 (2 ∷ 6 ∷ []) ∷ []) none  -- object 5 is session 1's
     ∷ ran [] (asks 2 make)
     ∷ ran (reply 2 (2 ∷ 0 ∷ []) ∷ []) (asks 2 (put (bridge 10)))  -- an answer that leads to another call
-    ∷ ran (reply 2 (2 ∷ 0 ∷ []) ∷ opened (some 3) ∷ []) none  -- session 3 is opened behind it
+    ∷ ran (reply 2 (2 ∷ 0 ∷ []) ∷ opened (some 3) (3 ∷ 0 ∷ []) ∷ []) none  -- session 3 is opened behind it
     ∷ ran [] none  -- a sweep ends session 1, and not 2 and 3
     ∷ ran [] none  -- so 1 gets no reply
-    ∷ ran (opened (some 1) ∷ []) none  -- the id is used again
+    ∷ ran (opened (some 1) (1 ∷ 0 ∷ []) ∷ []) none  -- the id is used again
     ∷ ran (reply 1 (1 ∷ 1 ∷ []) ∷ []) none  -- by a session that has no object 5
     ∷ ran [] none
     ∷ []
@@ -99,7 +100,7 @@ answers = refl
 -- opened by the first CREATE_CLIENT of the message that a call works on
 unfoldable pub opened-by : (A : Agent R) (before : List (A .Event)) (call : A .Event) (later : List (A .Event)) (m : Message (ℕ × ℕ) In) (o : ℕ × ℕ) (behind : List (Sub (ℕ × ℕ) In)) (id : ℕ)
     → let p = reached R A (set-up R A) before in
-    works-on R (p .open-calls) (A .host-call (p .state) call) .0 ≡ some m → client-at R 0 (m .subs) ≡ some (o, behind) → status-at R 0 (outs-of R (A .step (p .state) call .1)) ≡ some id
+    works-on R (p .open-calls) (A .host-call call) .0 ≡ some m → client-at R 0 (m .subs) ≡ some (o, behind) → status-at R 0 (outs-of R (A .step (p .state) call .1)) ≡ some id
     → Session R A (before ++ call ∷ later)
 opened-by A before call later m o behind id b c g =
     record { before = before; call = call; later = later; whole = refl; message = m; number = 0; client = o; behind = behind; id = id; brings = b; asks = c; granted = g }
@@ -123,27 +124,27 @@ fourth : Session R A H
 unfolding run step ids live free chosen
 fourth = opened-by A (opens₁ ++ (to 2 opens₂ ∷ (traffic ++ (gets finished ∷ ends)))) (to 0 (client 10 1500 ∷ [])) last (record { header = 0; subs = client 10 1500 ∷ [] }) (10, 1500) [] 1 refl refl refl
 
--- ---- their traces, of the agent and of the machine
+-- ---- their traces, of the agent and of the machine, which was fed in turn
 
 Both : Session R A H → Trace R → Type 0
-Both S t = (of-agent R A S ≡ t) × (trace R (of-machine R A S) ≡ t)
+Both S t = (of-agent R A S ≡ t) × (trace R (of-machine R A S) ≡ t) × (of-machine R A S .in-turn ≡ true)
 
 first-trace : Both first (record { calls = make ∷ []; replies = (1 ∷ 0 ∷ []) ∷ (1 ∷ 5 ∷ []) ∷ (1 ∷ 6 ∷ []) ∷ []; table = none })
 unfolding Both opened-by first run step ids live free chosen
-first-trace = (refl, refl)
+first-trace = (refl, refl, refl)
 
 second-trace : Both second (record {
   calls = make ∷ put (bridge 10) ∷ [];
-  replies = (2 ∷ 5 ∷ []) ∷ (2 ∷ 6 ∷ []) ∷ (2 ∷ 1 ∷ []) ∷ (2 ∷ 0 ∷ []) ∷ (2 ∷ 0 ∷ []) ∷ [];
+  replies = (2 ∷ 5 ∷ []) ∷ (2 ∷ 6 ∷ []) ∷ (2 ∷ 1 ∷ []) ∷ (2 ∷ 5 ∷ []) ∷ (2 ∷ 6 ∷ []) ∷ (2 ∷ 0 ∷ []) ∷ (2 ∷ 0 ∷ []) ∷ [];
   table = none;
 })
 unfolding Both opened-by second run step ids live free chosen
-second-trace = (refl, refl)
+second-trace = (refl, refl, refl)
 
 third-trace : Both third (record { calls = []; replies = []; table = some (record { id = 3; key = 9; activity = 950; objects = [] }) })
 unfolding Both opened-by third run step ids live free chosen
-third-trace = (refl, refl)
+third-trace = (refl, refl, refl)
 
 fourth-trace : Both fourth (record { calls = []; replies = (1 ∷ 1 ∷ []) ∷ []; table = some (record { id = 1; key = 10; activity = 1600; objects = [] }) })
 unfolding Both opened-by fourth run step ids live free chosen
-fourth-trace = (refl, refl)
+fourth-trace = (refl, refl, refl)

@@ -5,12 +5,12 @@ use mathlib.Core.Bool.{Bool, true, false, cond}
 use mathlib.Core.Option.{Option, none, some}
 use mathlib.Core.List.{List, [], _∷_, _++_}
 use lib.Dec.{eqb}
-use Rattle.isolation.specs.Rules.{Sub, opens, names, Message, Rules, Host, datagram, answer, removal, sweep, other, Out, opened, reply, Asked, Result, refused, ran}
+use Rattle.isolation.specs.Rules.{Bytes, Outcome, Sub, opens, names, Message, Rules, Host, datagram, answer, removal, sweep, other, Out, opened, reply, Asked, Result, refused, ran}
 use Rattle.isolation.specs.Machine.{Machine, ended, idle, waiting, Feed, submessages, answered, swept-at, removal-of-it, Moved, still, work, take, table-of}
-use Rattle.isolation.specs.Claim.{OpenCalls, update, works-on, behind-client, past, open-after, but-clients, if-names, feed-of, outs-of, replies-of, calls-of, client-at, status-at}
-use Rattle.isolation.proofs.Simulation.{none-some, for-it, for-is, Silent, Opened, Agrees, Follows, refuses, moves, Simulates}
+use Rattle.isolation.specs.Claim.{OpenCalls, update, works-on, behind-client, past, Greeted, subs-of, Silent, Fresh, OwnTag, open-after, but-clients, if-names, feed-of, outs-of, call-of, replies-of, calls-of, client-at, status-at}
+use Rattle.isolation.proofs.Simulation.{none-some, for-it, for-is, Opened, Agrees, Follows, refuses, moves, Simulates}
 use Rattle.isolation.proofs.Reference.{Admission, Wait, State, Ran, put, run, continue, Stepped, refuse, settle, begin, stays, with-sessions, stepped, step, empty, reference}
-use Rattle.isolation.proofs.Runs.{eqb-same, same, apart, calls-is, seen, Match, work-turns, resume-turns, run-live, continue-mine, continue-other, run-birth, deliver-birth, Leaves, run-leaves, deliver-leaves}
+use Rattle.isolation.proofs.Runs.{eqb-same, same, apart, calls-is, seen, Match, work-turns, resume-turns, run-live, continue-mine, continue-other, run-birth, deliver-birth, deliver-never, never, deliver-once, run-once, Leaves, leaves-tag, run-leaves, deliver-leaves, behind-same, greets-same, deliver-greets, run-greets}
 use Rattle.isolation.proofs.Coverage.{Born, deliver-born, run-born, Quiet, deliver-quiet, run-quiet}
 
 module _ (R : Rules) (D : Admission R) where
@@ -43,14 +43,9 @@ module _ (R : Rules) (D : Admission R) where
   noted-some none w k = absurd k
   noted-some (some m) w k = (m, refl, k .0, k .1)
 
-  behind-is : (j : ℕ) (ss : List (Sub Opening In)) → client-at R j (behind-client R ss) ≡ client-at R (suc j) ss
-  behind-is j [] = refl
-  behind-is j (opens o ∷ ss) = refl
-  behind-is j (names i ∷ ss) = behind-is j ss
-
   past-same : (os : List (Out R)) (xs ys : List (Sub Opening In)) → ((j : ℕ) → client-at R j xs ≡ client-at R j ys) → (j : ℕ) → client-at R j (past R os xs) ≡ client-at R j (past R os ys)
   past-same [] xs ys h j = h j
-  past-same (opened x ∷ os) xs ys h j = past-same os (behind-client R xs) (behind-client R ys) (λ j. behind-is j xs ∙ h (suc j) ∙ sym (behind-is j ys)) j
+  past-same (opened x r ∷ os) xs ys h j = past-same os (behind-client R xs) (behind-client R ys) (behind-same R D xs ys h) j
   past-same (reply g r ∷ os) xs ys h j = past-same os xs ys h j
 
   -- after a run of what is like the datagram m, the open calls have the one that it left open
@@ -261,10 +256,10 @@ module _ (R : Rules) (D : Admission R) where
   step-silent s st e q = go (st .wait) e q
     where
       nothing : (n : ℕ) → Silent R s (refused n)
-      nothing n = record { no-reply = refl; no-call = refl }
+      nothing n = (refl, refl)
 
       ran-quiet : (os : List (Out R)) (c : Option (Asked R)) → Quiet R D s os c → Silent R s (ran os c)
-      ran-quiet os c k = record { no-reply = k .no-reply; no-call = calls-is R D s os c ∙ k .no-call }
+      ran-quiet os c k = (k .no-reply, calls-is R D s os c ∙ k .no-call)
 
       go : (x : Waits) (e : Host R) → stepped R D x st e .0 .tables .at s ≡ none → Silent R s (stepped R D x st e .1)
       go none (datagram d) q = reads (parse d) q
@@ -273,8 +268,8 @@ module _ (R : Rules) (D : Admission R) where
           reads none q = nothing 1
           reads (some m) q = let r = run R D (m .header) (m .subs) (st .tables) in ran-quiet (r .outs) (r .call) (run-quiet R D s (m .header) (m .subs) (st .tables) q)
       go none (answer t a) q = nothing 15
-      go none (removal i) q = record { no-reply = refl; no-call = refl }
-      go none (sweep now) q = record { no-reply = refl; no-call = refl }
+      go none (removal i) q = (refl, refl)
+      go none (sweep now) q = (refl, refl)
       go none other q = nothing 15
       go (some w) (datagram d) q = nothing 15
       go (some w) (answer t a) q = tagged (eqb t 0) q
@@ -288,6 +283,114 @@ module _ (R : Rules) (D : Admission R) where
       go (some w) (removal i) q = nothing 15
       go (some w) (sweep now) q = nothing 15
       go (some w) other q = nothing 15
+
+  -- ---- the STATUSes of a call
+
+  step-greets : (b : OpenCalls R) (st : St) (e : Host R) → Noted (b 0) (st .wait) → Greeted R (subs-of R (works-on R b e .0)) (step R D st e .1)
+  unfolding step
+  step-greets b st e v = go (st .wait) refl e
+    where
+      go : (x : Waits) → st .wait ≡ x → (e : Host R) → Greeted R (subs-of R (works-on R b e .0)) (stepped R D x st e .1)
+      go none q (datagram d) = reads (parse d)
+        where
+          reads : (y : Option Msg) → Greeted R (subs-of R y) (begin R D st y .1)
+          reads none = tt
+          reads (some m) = run-greets R D (m .header) (m .subs) (st .tables)
+      go none q (answer t a) = tt
+      go none q (removal i) = refl
+      go none q (sweep now) = refl
+      go none q other = tt
+      go (some w) q (datagram d) = tt
+      go (some w) q (answer t a) = tagged (eqb t 0) refl
+        where
+          tagged : (y : Bool) → eqb t 0 ≡ y → Greeted R (subs-of R (b t)) ((cond {A = Stepped R D} y (settle R D (continue R D w a (st .tables))) (refuse R D st 15)) .1)
+          tagged true z =
+              let (m, m-is, h, k) = noted-some (b 0) w (rw q at v) in
+              let r = continue R D w a (st .tables) in
+              rw (same t 0 z, m-is) (greets-same R D (r .outs) (r .call) (m .subs) (w .rest) k
+              (deliver-greets R D (w .header) (w .rest) (st .tables) (λ t′. run-greets R D (w .header) (w .rest) t′) (st .tables .at (w .header)) (λ l. resume l (w .pending) a)))
+          tagged false z = tt
+      go (some w) q (removal i) = tt
+      go (some w) q (sweep now) = tt
+      go (some w) q other = tt
+
+  -- ---- the ids in the STATUSes of a call
+
+  -- what no live id has
+  not-live : (s : ℕ) (x : Option Local) → ((l : Local) → x ≡ some l → ⊥) → x ≡ none
+  not-live s none k = refl
+  not-live s (some l) k = absurd (k l refl)
+
+  step-fresh : (st : St) (e : Host R) → Fresh R (st .tables .at) (step R D st e .1)
+  unfolding step
+  step-fresh st e = go (st .wait) e
+    where
+      Goal : Stepped R D → Type 0
+      Goal r = Fresh R (st .tables .at) (r .1)
+
+      nothing : (j s : ℕ) → _≡_ {A = Option ℕ} none (some s) → (st .tables .at s ≡ none) × ((k : ℕ) → _≡_ {A = Option ℕ} none (some s) → k ≡ j)
+      nothing j s y = absurd (none-some y)
+
+      go : (x : Waits) (e : Host R) → Goal (stepped R D x st e)
+      go none (datagram d) = reads (parse d)
+        where
+          reads : (z : Option Msg) → Goal (begin R D st z)
+          reads none = nothing
+          reads (some m) = λ j s y.
+              (not-live s (st .tables .at s) (λ l e. never R D s (m .header) (m .subs) j (st .tables) l e y), λ k z. run-once R D s (m .header) (m .subs) j k (st .tables) y z)
+      go none (answer t a) = nothing
+      go none (removal i) = nothing
+      go none (sweep now) = nothing
+      go none other = nothing
+      go (some w) (datagram d) = nothing
+      go (some w) (answer t a) = tagged (eqb t 0)
+        where
+          rule : Local → Outcome Local Bytes Call Pending
+          rule l = resume l (w .pending) a
+
+          tagged : (z : Bool) → let r : Stepped R D = cond z (settle R D (continue R D w a (st .tables))) (refuse R D st 15) in Goal r
+          tagged true = λ j s y. (
+            not-live s (st .tables .at s) (λ l e. deliver-never R D s (w .header) (w .rest) j (st .tables) l e (λ t′ l e q. never R D s (w .header) (w .rest) j t′ l e q) (st .tables .at (w .header)) rule y),
+            λ k z. deliver-once R D s (w .header) (w .rest) j k (st .tables) (λ t′ p q. run-once R D s (w .header) (w .rest) j k t′ p q) (st .tables .at (w .header)) rule y z,
+          )
+          tagged false = nothing
+      go (some w) (removal i) = nothing
+      go (some w) (sweep now) = nothing
+      go (some w) other = nothing
+
+  -- ---- the tag of a call handed out
+
+  step-tag : (b : OpenCalls R) (st : St) (e : Host R) → Noted (b 0) (st .wait) → OwnTag R (works-on R b e .1) (step R D st e .1)
+  unfolding step
+  step-tag b st e v c y = go (st .wait) refl e y
+    where
+      go : (x : Waits) → st .wait ≡ x → (e : Host R) → call-of R (stepped R D x st e .1) ≡ some c → works-on R b e .1 (c .tag) ≡ none
+      go none q (datagram d) y = reads (parse d) y
+        where
+          reads : (z : Option Msg) → call-of R (begin R D st z .1) ≡ some c → b (c .tag) ≡ none
+          reads none y = absurd (none-some y)
+          reads (some m) y =
+              let r = run R D (m .header) (m .subs) (st .tables) in
+              let z = leaves-tag R D (m .header) (m .subs) (r .outs) (r .call) (r .wait) (run-leaves R D (m .header) (m .subs) (st .tables)) c y in
+              rw z (noted-none (b 0) (rw q at v))
+      go none q (answer t a) y = absurd (none-some y)
+      go none q (removal i) y = absurd (none-some y)
+      go none q (sweep now) y = absurd (none-some y)
+      go none q other y = absurd (none-some y)
+      go (some w) q (datagram d) y = absurd (none-some y)
+      go (some w) q (answer t a) y = tagged (eqb t 0) refl y
+        where
+          tagged : (z : Bool) → eqb t 0 ≡ z → let r : Stepped R D = cond z (settle R D (continue R D w a (st .tables))) (refuse R D st 15) in
+              call-of R (r .1) ≡ some c → update R t none b (c .tag) ≡ none
+          tagged true z y =
+              let r = continue R D w a (st .tables) in
+              let l = deliver-leaves R D (w .header) (w .rest) (st .tables) (λ t′. run-leaves R D (w .header) (w .rest) t′) (st .tables .at (w .header)) (λ l. resume l (w .pending) a) in
+              let n = leaves-tag R D (w .header) (w .rest) (r .outs) (r .call) (r .wait) l c y in
+              rw (same t 0 z, n)
+          tagged false z y = absurd (none-some y)
+      go (some w) q (removal i) y = absurd (none-some y)
+      go (some w) q (sweep now) y = absurd (none-some y)
+      go (some w) q other y = absurd (none-some y)
 
   -- ---- together
 
@@ -305,4 +408,7 @@ module _ (R : Rules) (D : Admission R) where
     birth = step-birth;
     born = step-born;
     silent = λ s b st e v q. step-silent s st e q;
+    greets = step-greets;
+    fresh = λ b st e v. step-fresh st e;
+    own-tag = step-tag;
   }

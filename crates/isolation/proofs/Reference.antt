@@ -1,6 +1,6 @@
 -- A proof device: the agent of document 01 over any rules, on a table of sessions by id. It has no claim to be believed of itself:
 -- `Refine` hands term 3 on from it to an agent that goes in step with it, and that refuses what it likes besides (13, 14, 16, ..).
-use Prim.Native.Nat.{ℕ, zero, suc}
+use Prim.Native.Nat.{ℕ, zero, suc, _+_}
 use mathlib.Core.Bool.{Bool, cond}
 use mathlib.Core.Option.{Option, none, some}
 use mathlib.Core.List.{List, [], _∷_, _++_, map}
@@ -15,7 +15,7 @@ pub record Admission (R : Rules) : Type 0 where
   pub admits : List (R .Local) → R .Opening → Bool
 
 module _ (R : Rules) (D : Admission R) where
-  open Rules R using (Opening, In, Ans, Call, Pending, Local, parse, start, handle, resume, expired)
+  open Rules R using (Opening, In, Ans, Call, Pending, Local, parse, status, start, handle, resume, expired)
 
   -- the sessions by id, and the id from which the next free one is looked for
   pub record Tables : Type 0 where
@@ -61,7 +61,7 @@ module _ (R : Rules) (D : Admission R) where
 
   -- "after 255 comes 1"
   abbrev pub after : ℕ → ℕ
-  after i = cond (eqb i (D .top)) 1 (suc i)
+  after i = cond (eqb i (D .top)) 1 (i + 1)
 
   -- the first id that is not live, of n from i on
   unfoldable pub free : ℕ → ℕ → (ℕ → Option Local) → Option ℕ
@@ -100,7 +100,7 @@ module _ (R : Rules) (D : Admission R) where
   -- the submessages ss under header h, in order, to the first bridge call or the end
   unfoldable pub run : ℕ → List (Sub Opening In) → Tables → Ran
   run h [] t = record { tables = t; wait = none; outs = []; call = none }
-  run h (opens o ∷ ss) t = tell (opened (chosen o t) ∷ []) (run h ss (open-as o t (chosen o t)))
+  run h (opens o ∷ ss) t = tell (opened (chosen o t) (status (chosen o t)) ∷ []) (run h ss (open-as o t (chosen o t)))
   run h (names i ∷ ss) t = deliver h ss t (t .at h) (λ l. handle l i) (λ t′. run h ss t′)
 
   -- the answer to the open call, then the submessages behind it
@@ -151,4 +151,4 @@ module _ (R : Rules) (D : Admission R) where
   empty = record { tables = record { next = 1; at = λ i. none }; wait = none }
 
   abbrev pub reference : Agent R
-  reference = record { State = State; Event = Host R; empty = empty; table = λ st. st .tables .at; step = step; host-call = λ st e. e }
+  reference = record { State = State; Event = Host R; empty = empty; table = λ st. st .tables .at; step = step; host-call = λ e. e }

@@ -7,8 +7,8 @@ use mathlib.Core.Option.{Option, none, some}
 use mathlib.Core.List.{List, []}
 use Rattle.isolation.specs.Rules.{Rules, Host, other, Result, refused, ran}
 use Rattle.isolation.specs.Machine.{Machine, ended, idle, waiting, submessages, still, take, work, table-of}
-use Rattle.isolation.specs.Claim.{Agent, OpenCalls, open-after, works-on}
-use Rattle.isolation.proofs.Simulation.{none-some, for-it, Silent, Opened, Agrees, Follows, refuses, moves, Simulates}
+use Rattle.isolation.specs.Claim.{Agent, OpenCalls, open-after, works-on, subs-of, Greeted, Silent, Fresh, OwnTag}
+use Rattle.isolation.proofs.Simulation.{none-some, for-it, Opened, Agrees, Follows, refuses, moves, Simulates}
 
 module _ (R : Rules) (A B : Agent R) where
   open Rules R using (Local, start)
@@ -16,8 +16,8 @@ module _ (R : Rules) (A B : Agent R) where
   -- one call: refused; or it concerns no session; or it is a call of the other agent, with the same answer
   pub data InStep (abs : A .State → B .State) (st : A .State) (e : A .Event) : Type 0 where
     stops : (n : ℕ) → A .step st e .1 ≡ refused n → abs (A .step st e .0) ≡ abs st → InStep abs st e
-    aside : A .host-call st e ≡ other → A .step st e .1 ≡ ran [] none → abs (A .step st e .0) ≡ abs st → InStep abs st e
-    goes : (e′ : B .Event) → A .host-call st e ≡ B .host-call (abs st) e′ → abs (A .step st e .0) ≡ B .step (abs st) e′ .0 → A .step st e .1 ≡ B .step (abs st) e′ .1 → InStep abs st e
+    aside : A .host-call e ≡ other → A .step st e .1 ≡ ran [] none → abs (A .step st e .0) ≡ abs st → InStep abs st e
+    goes : (e′ : B .Event) → A .host-call e ≡ B .host-call e′ → abs (A .step st e .0) ≡ B .step (abs st) e′ .0 → A .step st e .1 ≡ B .step (abs st) e′ .1 → InStep abs st e
 
   pub record Refines : Type 1 where
     pub Inv : A .State → Type 0
@@ -37,7 +37,7 @@ module _ (R : Rules) (A B : Agent R) where
     abbrev Both : OpenCalls R → A .State → Type 0
     Both b st = Inv st × sim .Inv b (abs st)
 
-    both-step : (b : OpenCalls R) (st : A .State) (e : A .Event) → sim .Inv b (abs st) → InStep abs st e → sim .Inv (open-after R b (A .host-call st e) (A .step st e .1)) (abs (A .step st e .0))
+    both-step : (b : OpenCalls R) (st : A .State) (e : A .Event) → sim .Inv b (abs st) → InStep abs st e → sim .Inv (open-after R b (A .host-call e) (A .step st e .1)) (abs (A .step st e .0))
     both-step b st e u (stops n q z) = rw (q, z) u
     both-step b st e u (aside m q z) = rw (m, q, z) u
     both-step b st e u (goes e′ m z q) = rw (m, q, z) (sim .inv-step b (abs st) e′ u)
@@ -50,7 +50,7 @@ module _ (R : Rules) (A B : Agent R) where
     live : (s : ℕ) (b : OpenCalls R) (st : A .State) (e : A .Event) (l : Local) → Both b st → A .table st s ≡ some l → Follows R A (view s) s b st e (A .step st e)
     live s b st e l (v, u) t = go (in-step st e v)
       where
-        behind : (e′ : B .Event) → A .host-call st e ≡ B .host-call (abs st) e′ → abs (A .step st e .0) ≡ B .step (abs st) e′ .0 → A .step st e .1 ≡ B .step (abs st) e′ .1
+        behind : (e′ : B .Event) → A .host-call e ≡ B .host-call e′ → abs (A .step st e .0) ≡ B .step (abs st) e′ .0 → A .step st e .1 ≡ B .step (abs st) e′ .1
             → Follows R B (sim .view s) s b (abs st) e′ (B .step (abs st) e′) → Follows R A (view s) s b st e (A .step st e)
         behind e′ m z q (refuses n x y) = refuses n (q ∙ x) (ap (λ (st : B .State). sim .view s st) z ∙ y)
         behind e′ m z q (moves w a) = moves (rw q w) (rw m (record { sees = ap (λ (st : B .State). sim .view s st) z ∙ a .sees; says = rw q (a .says); asks = rw q (a .asks); turns = a .turns }))
@@ -60,7 +60,7 @@ module _ (R : Rules) (A B : Agent R) where
         go (aside m q z) = moves (rw q) (rw (m, take-nothing (sim .view s (abs st))) (record { sees = ap (λ (st : B .State). sim .view s st) z; says = rw q; asks = rw q; turns = refl }))
         go (goes e′ m z q) = behind e′ m z q (sim .live s b (abs st) e′ l u (sym (abs-table s st) ∙ t))
 
-    birth : (b : OpenCalls R) (st : A .State) (e : A .Event) (s : ℕ) (o : Opened R s (works-on R b (A .host-call st e) .0) (A .step st e .1)) → Both b st
+    birth : (b : OpenCalls R) (st : A .State) (e : A .Event) (s : ℕ) (o : Opened R s (works-on R b (A .host-call e) .0) (A .step st e .1)) → Both b st
         → Agrees R A (view s) s (A .step st e) (work R (start s (o .client)) (for-it R s (o .message .header) (o .behind)))
     birth b st e s o (v, u) = go (in-step st e v)
       where
@@ -68,13 +68,13 @@ module _ (R : Rules) (A B : Agent R) where
         go (stops n q z) = absurd (none-some (rw q at (o .granted)))
         go (aside m q z) = absurd (none-some (rw q at (o .granted)))
         go (goes e′ m z q) =
-            let o′ : Opened R s (works-on R b (B .host-call (abs st) e′) .0) (B .step (abs st) e′ .1) =
+            let o′ : Opened R s (works-on R b (B .host-call e′) .0) (B .step (abs st) e′ .1) =
             record { message = o .message; number = o .number; client = o .client; behind = o .behind; brings = rw (← m) (o .brings); asks = o .asks; granted = rw (← q) (o .granted) } in
             let a = sim .birth b (abs st) e′ s o′ u in
             record { sees = ap (λ (st : B .State). sim .view s st) z ∙ a .sees; says = rw q (a .says); asks = rw q (a .asks); turns = a .turns }
 
     born : (s : ℕ) (b : OpenCalls R) (st : A .State) (e : A .Event) (l : Local) → Both b st → A .table st s ≡ none → A .table (A .step st e .0) s ≡ some l
-        → Opened R s (works-on R b (A .host-call st e) .0) (A .step st e .1)
+        → Opened R s (works-on R b (A .host-call e) .0) (A .step st e .1)
     born s b st e l (v, u) t y = go (in-step st e v)
       where
         was : B .table (abs st) s ≡ none
@@ -83,7 +83,7 @@ module _ (R : Rules) (A B : Agent R) where
         is : B .table (abs (A .step st e .0)) s ≡ some l
         is = sym (abs-table s (A .step st e .0)) ∙ y
 
-        go : InStep abs st e → Opened R s (works-on R b (A .host-call st e) .0) (A .step st e .1)
+        go : InStep abs st e → Opened R s (works-on R b (A .host-call e) .0) (A .step st e .1)
         go (stops n q z) = absurd (none-some (sym was ∙ (rw z at is)))
         go (aside m q z) = absurd (none-some (sym was ∙ (rw z at is)))
         go (goes e′ m z q) = rw (m, q) (sim .born s b (abs st) e′ l u was (rw z at is))
@@ -92,9 +92,33 @@ module _ (R : Rules) (A B : Agent R) where
     silent s b st e (v, u) y = go (in-step st e v)
       where
         go : InStep abs st e → Silent R s (A .step st e .1)
-        go (stops n q z) = rw q (record { no-reply = refl; no-call = refl })
-        go (aside m q z) = rw q (record { no-reply = refl; no-call = refl })
+        go (stops n q z) = rw q (refl, refl)
+        go (aside m q z) = rw q (refl, refl)
         go (goes e′ m z q) = rw q (sim .silent s b (abs st) e′ u (ap (λ (st : B .State). B .table st s) (sym z) ∙ sym (abs-table s (A .step st e .0)) ∙ y))
+
+    greets : (b : OpenCalls R) (st : A .State) (e : A .Event) → Both b st → Greeted R (subs-of R (works-on R b (A .host-call e) .0)) (A .step st e .1)
+    greets b st e (v, u) = go (in-step st e v)
+      where
+        go : InStep abs st e → Greeted R (subs-of R (works-on R b (A .host-call e) .0)) (A .step st e .1)
+        go (stops n q z) = rw q tt
+        go (aside m q z) = rw (m, q)
+        go (goes e′ m z q) = rw (m, q) (sim .greets b (abs st) e′ u)
+
+    fresh : (b : OpenCalls R) (st : A .State) (e : A .Event) → Both b st → Fresh R (A .table st) (A .step st e .1)
+    fresh b st e (v, u) = go (in-step st e v)
+      where
+        go : InStep abs st e → Fresh R (A .table st) (A .step st e .1)
+        go (stops n q z) = rw q (λ j s y. absurd (none-some y))
+        go (aside m q z) = rw q (λ j s y. absurd (none-some y))
+        go (goes e′ m z q) = rw q (λ j s y. let (f, o) = sim .fresh b (abs st) e′ u j s y in (abs-table s st ∙ f, o))
+
+    own-tag : (b : OpenCalls R) (st : A .State) (e : A .Event) → Both b st → OwnTag R (works-on R b (A .host-call e) .1) (A .step st e .1)
+    own-tag b st e (v, u) = go (in-step st e v)
+      where
+        go : InStep abs st e → OwnTag R (works-on R b (A .host-call e) .1) (A .step st e .1)
+        go (stops n q z) = rw q (λ a y. absurd (none-some y))
+        go (aside m q z) = rw q (λ a y. absurd (none-some y))
+        go (goes e′ m z q) = rw (m, q) (sim .own-tag b (abs st) e′ u)
 
     pub refined : Simulates R A
     refined = record {
@@ -109,4 +133,7 @@ module _ (R : Rules) (A B : Agent R) where
       birth = birth;
       born = born;
       silent = silent;
+      greets = greets;
+      fresh = fresh;
+      own-tag = own-tag;
     }

@@ -8,7 +8,7 @@ use mathlib.Core.List.{List, [], _∷_, _++_, map}
 use lib.Dec.{eqb, T, eqb→eq, eqb-refl}
 use Rattle.isolation.specs.Rules.{Bytes, Outcome, done, calls, Sub, opens, names, Message, Rules, Out, opened, reply, Asked, ran}
 use Rattle.isolation.specs.Machine.{Machine, ended, idle, waiting, Action, handles, resumes, Moved, still, on, work}
-use Rattle.isolation.specs.Claim.{past, but-clients, replies-of, calls-of, client-at, status-at}
+use Rattle.isolation.specs.Claim.{behind-client, past, Greets, but-clients, replies-of, calls-of, client-at, status-at}
 use Rattle.isolation.proofs.Simulation.{none-some, for-it}
 use Rattle.isolation.proofs.Reference.{Admission, Tables, Wait, Ran, put, after, free, chosen, open-as, keep-as, tell, act, deliver, run, continue}
 
@@ -118,6 +118,10 @@ module _ (R : Rules) (D : Admission R) where
           new true q = absurd (none-some (sym (chosen-is o t s (rw (same s i q) p)) ∙ e))
           new false q = rw q e
 
+  -- the session that a CREATE_CLIENT opens is live then
+  now-live : (o : Opening) (t : Tables R D) (s : ℕ) → chosen R D o t ≡ some s → open-as R D o t (chosen R D o t) .at s ≡ some (start s o)
+  now-live o t s p = rw (p, eqb-same)
+
   kept-other : (s h : ℕ) → eqb h s ≡ false → (l : Local) (t : Tables R D) → keep-as R D h l t .at s ≡ t .at s
   kept-other s h e l t = rw (apart h s e)
 
@@ -210,22 +214,44 @@ module _ (R : Rules) (D : Admission R) where
   opening-none zero h (r ∷ rs) = opening-none zero h rs
   opening-none (suc j) h (r ∷ rs) = opening-none (suc j) h rs
 
-  -- no CREATE_CLIENT opens an id that is live
-  never : (s h : ℕ) (ss : List (Sub Opening In)) (j : ℕ) (t : Tables R D) (l : Local) → t .at s ≡ some l → status-at R j (run R D h ss t .outs) ≡ some s → ⊥
+  -- no CREATE_CLIENT opens an id that is live: behind the rules at work, and in a run
+  pub deliver-never : (s h : ℕ) (ss : List (Sub Opening In)) (j : ℕ) (t : Tables R D) (l : Local) → t .at s ≡ some l
+      → ((t′ : Tables R D) (l : Local) → t′ .at s ≡ some l → status-at R j (run R D h ss t′ .outs) ≡ some s → ⊥)
+      → (x : Option Local) (f : Local → Outcome Local Bytes Call Pending) → status-at R j (deliver R D h ss t x f (λ t′. run R D h ss t′) .outs) ≡ some s → ⊥
+  deliver-never s h ss j t l e k none f q = k t l e q
+  deliver-never s h ss j t l e k (some l₀) f q = go (f l₀) q
+    where
+      go : (x : Outcome Local Bytes Call Pending) → status-at R j (act R D h ss t x (λ t′. run R D h ss t′) .outs) ≡ some s → ⊥
+      go (done l′ rs) q = let (l″, e″) = kept-live s h l l′ t e in k (keep-as R D h l′ t) l″ e″ (sym (opening-past j h rs _) ∙ q)
+      go (calls l′ rs c p) q = none-some (sym (opening-none j h rs) ∙ q)
+
+  pub never : (s h : ℕ) (ss : List (Sub Opening In)) (j : ℕ) (t : Tables R D) (l : Local) → t .at s ≡ some l → status-at R j (run R D h ss t .outs) ≡ some s → ⊥
   unfolding run
   never s h [] j t l e p = none-some p
   never s h (opens o ∷ ss) zero t l e p = none-some (sym (chosen-is o t s p) ∙ e)
   never s h (opens o ∷ ss) (suc j) t l e p = never s h ss j (open-as R D o t (chosen R D o t)) l (opened-other o t s l e) p
-  never s h (names i ∷ ss) j t l e p = go (λ t′ l e p. never s h ss j t′ l e p) (t .at h) p
+  never s h (names i ∷ ss) j t l e p = deliver-never s h ss j t l e (λ t′ l e p. never s h ss j t′ l e p) (t .at h) (λ l. handle l i) p
+
+  -- no id is in two STATUSes of a run
+  pub deliver-once : (s h : ℕ) (ss : List (Sub Opening In)) (j k : ℕ) (t : Tables R D)
+      → ((t′ : Tables R D) → status-at R j (run R D h ss t′ .outs) ≡ some s → status-at R k (run R D h ss t′ .outs) ≡ some s → k ≡ j)
+      → (x : Option Local) (f : Local → Outcome Local Bytes Call Pending) → let os = deliver R D h ss t x f (λ t′. run R D h ss t′) .outs in
+      status-at R j os ≡ some s → status-at R k os ≡ some s → k ≡ j
+  deliver-once s h ss j k t once none f p q = once t p q
+  deliver-once s h ss j k t once (some l) f p q = go (f l) p q
     where
-      go : ((t′ : Tables R D) (l : Local) → t′ .at s ≡ some l → status-at R j (run R D h ss t′ .outs) ≡ some s → ⊥)
-          → (x : Option Local) → status-at R j (deliver R D h ss t x (λ l. handle l i) (λ t′. run R D h ss t′) .outs) ≡ some s → ⊥
-      go k none q = k t l e q
-      go k (some l₀) q = acts (handle l₀ i) q
-        where
-          acts : (x : Outcome Local Bytes Call Pending) → status-at R j (act R D h ss t x (λ t′. run R D h ss t′) .outs) ≡ some s → ⊥
-          acts (done l′ rs) q = let (l″, e″) = kept-live s h l l′ t e in k (keep-as R D h l′ t) l″ e″ (sym (opening-past j h rs _) ∙ q)
-          acts (calls l′ rs c p) q = none-some (sym (opening-none j h rs) ∙ q)
+      go : (x : Outcome Local Bytes Call Pending) → let os = act R D h ss t x (λ t′. run R D h ss t′) .outs in status-at R j os ≡ some s → status-at R k os ≡ some s → k ≡ j
+      go (done l′ rs) p q = once (keep-as R D h l′ t) (sym (opening-past j h rs _) ∙ p) (sym (opening-past k h rs _) ∙ q)
+      go (calls l′ rs c y) p q = absurd (none-some (sym (opening-none j h rs) ∙ p))
+
+  pub run-once : (s h : ℕ) (ss : List (Sub Opening In)) (j k : ℕ) (t : Tables R D) → let os = run R D h ss t .outs in status-at R j os ≡ some s → status-at R k os ≡ some s → k ≡ j
+  unfolding run
+  run-once s h [] j k t p q = absurd (none-some p)
+  run-once s h (opens o ∷ ss) zero zero t p q = refl
+  run-once s h (opens o ∷ ss) zero (suc k) t p q = absurd (never s h ss k (open-as R D o t (chosen R D o t)) (start s o) (now-live o t s p) q)
+  run-once s h (opens o ∷ ss) (suc j) zero t p q = absurd (never s h ss j (open-as R D o t (chosen R D o t)) (start s o) (now-live o t s q) p)
+  run-once s h (opens o ∷ ss) (suc j) (suc k) t p q = ap suc (run-once s h ss j k (open-as R D o t (chosen R D o t)) p q)
+  run-once s h (names i ∷ ss) j k t p q = deliver-once s h ss j k t (λ t′ p q. run-once s h ss j k t′ p q) (t .at h) (λ l. handle l i) p q
 
   -- ---- a run that opens s
 
@@ -276,7 +302,7 @@ module _ (R : Rules) (D : Admission R) where
 
   past-names : (os : List (Out R)) (i : In) (ss : List (Sub Opening In)) (j : ℕ) → client-at R j (past R os (names i ∷ ss)) ≡ client-at R j (past R os ss)
   past-names [] i ss j = creating-names j i ss
-  past-names (opened x ∷ os) i ss j = refl
+  past-names (opened x r ∷ os) i ss j = refl
   past-names (reply h r ∷ os) i ss j = past-names os i ss j
 
   past-replies : (h : ℕ) (rs : List Bytes) (os : List (Out R)) (ss : List (Sub Opening In)) → past R (map (reply h) rs ++ os) ss ≡ past R os ss
@@ -293,6 +319,13 @@ module _ (R : Rules) (D : Admission R) where
   Leaves h ss os none (some w) = ⊥
   Leaves h ss os (some a) none = ⊥
   Leaves h ss os (some a) (some w) = (a .tag ≡ 0) × (w .header ≡ h) × ((j : ℕ) → client-at R j (past R os ss) ≡ client-at R j (w .rest))
+
+  -- the tag of the call is 0
+  pub leaves-tag : (h : ℕ) (ss : List (Sub Opening In)) (os : List (Out R)) (c : Option (Asked R)) (w : Option (Wait R D)) → Leaves h ss os c w → (a : Asked R) → c ≡ some a → a .tag ≡ 0
+  unfolding Leaves
+  leaves-tag h ss os none w k a e = absurd (none-some e)
+  leaves-tag h ss os (some c) none k a e = absurd k
+  leaves-tag h ss os (some c) (some w) k a e = let z : c ≡ a = cc in rw (← z) (k .0)
 
   -- behind a submessage that is not a CREATE_CLIENT
   leaves-names : (h : ℕ) (i : In) (ss : List (Sub Opening In)) (os : List (Out R)) (c : Option (Asked R)) (w : Option (Wait R D)) → Leaves h ss os c w → Leaves h (names i ∷ ss) os c w
@@ -311,12 +344,12 @@ module _ (R : Rules) (D : Admission R) where
   leaves-replies h g rs ss os (some a) (some w) k = (k .0, k .1, λ j. rw (past-replies g rs os ss) (k .2 j))
 
   -- behind a STATUS
-  leaves-opened : (h : ℕ) (o : Opening) (x : Option ℕ) (ss : List (Sub Opening In)) (os : List (Out R)) (c : Option (Asked R)) (w : Option (Wait R D)) → Leaves h ss os c w → Leaves h (opens o ∷ ss) (opened x ∷ os) c w
+  leaves-opened : (h : ℕ) (o : Opening) (x : Option ℕ) (b : Bytes) (ss : List (Sub Opening In)) (os : List (Out R)) (c : Option (Asked R)) (w : Option (Wait R D)) → Leaves h ss os c w → Leaves h (opens o ∷ ss) (opened x b ∷ os) c w
   unfolding Leaves
-  leaves-opened h o x ss os none none k = tt
-  leaves-opened h o x ss os none (some w) k = absurd k
-  leaves-opened h o x ss os (some a) none k = absurd k
-  leaves-opened h o x ss os (some a) (some w) k = k
+  leaves-opened h o x b ss os none none k = tt
+  leaves-opened h o x b ss os none (some w) k = absurd k
+  leaves-opened h o x b ss os (some a) none k = absurd k
+  leaves-opened h o x b ss os (some a) (some w) k = k
 
   pub deliver-leaves : (h : ℕ) (ss : List (Sub Opening In)) (t : Tables R D)
       → ((t′ : Tables R D) → Leaves h ss (run R D h ss t′ .outs) (run R D h ss t′ .call) (run R D h ss t′ .wait))
@@ -335,7 +368,49 @@ module _ (R : Rules) (D : Admission R) where
   run-leaves h [] t = tt
   run-leaves h (opens o ∷ ss) t =
       let r = run R D h ss (open-as R D o t (chosen R D o t)) in
-      leaves-opened h o (chosen R D o t) ss (r .outs) (r .call) (r .wait) (run-leaves h ss (open-as R D o t (chosen R D o t)))
+      leaves-opened h o (chosen R D o t) (R .status (chosen R D o t)) ss (r .outs) (r .call) (r .wait) (run-leaves h ss (open-as R D o t (chosen R D o t)))
   run-leaves h (names i ∷ ss) t =
       let r = deliver R D h ss t (t .at h) (λ l. handle l i) (λ t′. run R D h ss t′) in
       leaves-names h i ss (r .outs) (r .call) (r .wait) (deliver-leaves h ss t (λ t′. run-leaves h ss t′) (t .at h) (λ l. handle l i))
+
+  -- ---- the STATUSes of a run answer its CREATE_CLIENTs, in order
+
+  behind-is : (j : ℕ) (ss : List (Sub Opening In)) → client-at R j (behind-client R ss) ≡ client-at R (suc j) ss
+  behind-is j [] = refl
+  behind-is j (opens o ∷ ss) = refl
+  behind-is j (names i ∷ ss) = behind-is j ss
+
+  -- only the CREATE_CLIENTs count
+  pub behind-same : (xs ys : List (Sub Opening In)) → ((j : ℕ) → client-at R j xs ≡ client-at R j ys) → (j : ℕ) → client-at R j (behind-client R xs) ≡ client-at R j (behind-client R ys)
+  behind-same xs ys h j = behind-is j xs ∙ h (suc j) ∙ sym (behind-is j ys)
+
+  pub greets-same : (os : List (Out R)) (c : Option (Asked R)) (xs ys : List (Sub Opening In)) → ((j : ℕ) → client-at R j xs ≡ client-at R j ys) → Greets R ys os c → Greets R xs os c
+  greets-same [] none xs ys h g = h 0 ∙ g
+  greets-same [] (some a) xs ys h g = tt
+  greets-same (opened x r ∷ os) c xs ys h g = (g .0, (g .1 .0, h 0 ∙ g .1 .1), greets-same os c (behind-client R xs) (behind-client R ys) (behind-same xs ys h) (g .2))
+  greets-same (reply k r ∷ os) c xs ys h g = greets-same os c xs ys h g
+
+  greets-replies : (h : ℕ) (rs : List Bytes) (ss : List (Sub Opening In)) (os : List (Out R)) (c : Option (Asked R)) → Greets R ss os c → Greets R ss (map (reply h) rs ++ os) c
+  greets-replies h [] ss os c g = g
+  greets-replies h (r ∷ rs) ss os c g = greets-replies h rs ss os c g
+
+  greets-all : (h : ℕ) (rs : List Bytes) (ss : List (Sub Opening In)) (a : Asked R) → Greets R ss (map (reply h) rs) (some a)
+  greets-all h [] ss a = tt
+  greets-all h (r ∷ rs) ss a = greets-all h rs ss a
+
+  pub deliver-greets : (h : ℕ) (ss : List (Sub Opening In)) (t : Tables R D) → ((t′ : Tables R D) → let r = run R D h ss t′ in Greets R ss (r .outs) (r .call))
+      → (x : Option Local) (f : Local → Outcome Local Bytes Call Pending) → let r = deliver R D h ss t x f (λ t′. run R D h ss t′) in Greets R ss (r .outs) (r .call)
+  deliver-greets h ss t k none f = k t
+  deliver-greets h ss t k (some l) f = go (f l)
+    where
+      go : (x : Outcome Local Bytes Call Pending) → let r = act R D h ss t x (λ t′. run R D h ss t′) in Greets R ss (r .outs) (r .call)
+      go (done l′ rs) = let r = run R D h ss (keep-as R D h l′ t) in greets-replies h rs ss (r .outs) (r .call) (k (keep-as R D h l′ t))
+      go (calls l′ rs c p) = greets-all h rs ss _
+
+  pub run-greets : (h : ℕ) (ss : List (Sub Opening In)) (t : Tables R D) → let r = run R D h ss t in Greets R ss (r .outs) (r .call)
+  unfolding run
+  run-greets h [] t = refl
+  run-greets h (opens o ∷ ss) t = (refl, ((o, ss), refl), run-greets h ss (open-as R D o t (chosen R D o t)))
+  run-greets h (names i ∷ ss) t =
+      let r = deliver R D h ss t (t .at h) (λ l. handle l i) (λ t′. run R D h ss t′) in
+      greets-same (r .outs) (r .call) (names i ∷ ss) ss (λ j. creating-names j i ss) (deliver-greets h ss t (λ t′. run-greets h ss t′) (t .at h) (λ l. handle l i))

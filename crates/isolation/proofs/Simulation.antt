@@ -8,7 +8,7 @@ use mathlib.Core.List.{List, [], _∷_, _++_}
 use lib.Dec.{eqb}
 use Rattle.isolation.specs.Rules.{Sub, Message, Rules, Host, Result, refused, ran}
 use Rattle.isolation.specs.Machine.{Machine, ended, idle, Feed, submessages, Moved, take, takes, work, Trace, table-of, trace}
-use Rattle.isolation.specs.Claim.{Agent, OpenCalls, works-on, open-after, but-clients, if-names, feed-of, unless-refused, outs-of, replies-of, calls-of, client-at, status-at, Point, set-up, next, reached, Session, until, agent-trace, of-agent, feeds, fed, Isolated}
+use Rattle.isolation.specs.Claim.{Agent, OpenCalls, works-on, open-after, but-clients, if-names, feed-of, unless-refused, outs-of, replies-of, calls-of, client-at, status-at, subs-of, Greeted, Silent, Fresh, OwnTag, Point, set-up, next, reached, Session, until, agent-trace, of-agent, feeds, fed, Isolated}
 
 pub none-some : {B : Type 0} {b : B} → _≡_ {A = Option B} none (some b) → ⊥
 none-some {B} {b} e = let z : _≡_ {A = ℕ} 0 1 = cc in omega arith
@@ -31,11 +31,6 @@ module _ (R : Rules) where
   abbrev pub went : Result R → Bool
   went (refused n) = false
   went (ran os c) = true
-
-  -- nothing for s in it
-  pub record Silent (s : ℕ) (r : Result R) : Type 0 where
-    pub no-reply : replies-of R s (outs-of R r) ≡ []
-    pub no-call : calls-of R s r ≡ []
 
   -- a CREATE_CLIENT of a datagram that was answered with s
   pub record Opened (s : ℕ) (x : Option (Message Opening In)) (r : Result R) : Type 0 where
@@ -60,24 +55,27 @@ module _ (R : Rules) where
     -- with s live, a call is refused and leaves s as it was, or s moves as the machine that is fed its part of the call
     pub data Follows (view : State → Machine R) (s : ℕ) (b : OpenCalls R) (st : State) (e : Event) (r : State × Result R) : Type 0 where
       refuses : (n : ℕ) → r .1 ≡ refused n → view (r .0) ≡ view st → Follows view s b st e r
-      moves : went (r .1) ≡ true → Agrees view s r (take R (view st) (feed-of R s b (host-call st e))) → Follows view s b st e r
+      moves : went (r .1) ≡ true → Agrees view s r (take R (view st) (feed-of R s b (host-call e))) → Follows view s b st e r
 
     pub record Simulates : Type 1 where
       pub Inv : OpenCalls R → State → Type 0
       pub bare : (s : ℕ) → table empty s ≡ none
       pub inv-empty : Inv (λ t. none) empty
-      pub inv-step : (b : OpenCalls R) (st : State) (e : Event) → Inv b st → Inv (open-after R b (host-call st e) (step st e .1)) (step st e .0)
+      pub inv-step : (b : OpenCalls R) (st : State) (e : Event) → Inv b st → Inv (open-after R b (host-call e) (step st e .1)) (step st e .0)
       -- what a state keeps of a session, as a machine
       pub view : ℕ → State → Machine R
       pub view-table : (s : ℕ) (st : State) → table-of R (view s st) ≡ table st s
       pub view-gone : (s : ℕ) (st : State) → table st s ≡ none → view s st ≡ ended
       pub live : (s : ℕ) (b : OpenCalls R) (st : State) (e : Event) (l : Local) → Inv b st → table st s ≡ some l → Follows (view s) s b st e (step st e)
       -- the call that opens s leaves it as the machine that ran what names it behind its CREATE_CLIENT
-      pub birth : (b : OpenCalls R) (st : State) (e : Event) (s : ℕ) (o : Opened s (works-on R b (host-call st e) .0) (step st e .1)) → Inv b st
+      pub birth : (b : OpenCalls R) (st : State) (e : Event) (s : ℕ) (o : Opened s (works-on R b (host-call e) .0) (step st e .1)) → Inv b st
           → Agrees (view s) s (step st e) (work R (start s (o .client)) (for-it s (o .message .header) (o .behind)))
       pub born : (s : ℕ) (b : OpenCalls R) (st : State) (e : Event) (l : Local) → Inv b st → table st s ≡ none → table (step st e .0) s ≡ some l
-          → Opened s (works-on R b (host-call st e) .0) (step st e .1)
-      pub silent : (s : ℕ) (b : OpenCalls R) (st : State) (e : Event) → Inv b st → table (step st e .0) s ≡ none → Silent s (step st e .1)
+          → Opened s (works-on R b (host-call e) .0) (step st e .1)
+      pub silent : (s : ℕ) (b : OpenCalls R) (st : State) (e : Event) → Inv b st → table (step st e .0) s ≡ none → Silent R s (step st e .1)
+      pub greets : (b : OpenCalls R) (st : State) (e : Event) → Inv b st → Greeted R (subs-of R (works-on R b (host-call e) .0)) (step st e .1)
+      pub fresh : (b : OpenCalls R) (st : State) (e : Event) → Inv b st → Fresh R (table st) (step st e .1)
+      pub own-tag : (b : OpenCalls R) (st : State) (e : Event) → Inv b st → OwnTag R (works-on R b (host-call e) .1) (step st e .1)
 
     -- ---- a trace is that of a machine that lives through what it is fed, all in turn
 
@@ -107,7 +105,7 @@ module _ (R : Rules) where
     fed-went (ran os c) f fs w = refl
 
     module _ (sim : Simulates) where
-      open Simulates sim using (Inv, inv-empty, inv-step, view, view-table, view-gone, live, birth, born, silent)
+      open Simulates sim using (Inv, inv-empty, inv-step, view, view-table, view-gone, live, birth, born, silent, greets, fresh, own-tag)
 
       inv-reached : (H : List Event) (p : Point R A) → Inv (p .open-calls) (p .state) → Inv (reached R A p H .open-calls) (reached R A p H .state)
       inv-reached [] p v = v
@@ -131,8 +129,8 @@ module _ (R : Rules) where
           → Follow s (next R A p e) H (until R A (table (next R A p e .state) s) (agent-trace R A s (next R A p e) H)) → Follow s p (e ∷ H) (agent-trace R A s p (e ∷ H))
       follow-step s p e H (refuses n q v) k = rw (q, ← v) (rw q at k)
       follow-step s p e H (moves w a) k =
-          rw (fed-went (step (p .state) e .1) (feed-of R s (p .open-calls) (host-call (p .state) e)) (feeds R A s (next R A p e) H) w)
-          (same-more (view s) s (step (p .state) e) (view s (p .state)) (feed-of R s (p .open-calls) (host-call (p .state) e)) (feeds R A s (next R A p e) H)
+          rw (fed-went (step (p .state) e .1) (feed-of R s (p .open-calls) (host-call e)) (feeds R A s (next R A p e) H) w)
+          (same-more (view s) s (step (p .state) e) (view s (p .state)) (feed-of R s (p .open-calls) (host-call e)) (feeds R A s (next R A p e) H)
           (until R A (table (next R A p e .state) s) (agent-trace R A s (next R A p e) H)) a k)
 
       follow : (s : ℕ) (H : List Event) (p : Point R A) (l : Local) → Inv (p .open-calls) (p .state) → table (p .state) s ≡ some l → Follow s p H (agent-trace R A s p H)
@@ -146,7 +144,7 @@ module _ (R : Rules) where
       session {H} S =
           let p = reached R A (set-up R A) (S .before) in
           let v : Inv (p .open-calls) (p .state) = inv-reached (S .before) (set-up R A) inv-empty in
-          let o : Opened (S .id) (works-on R (p .open-calls) (host-call (p .state) (S .call)) .0) (step (p .state) (S .call) .1) =
+          let o : Opened (S .id) (works-on R (p .open-calls) (host-call (S .call)) .0) (step (p .state) (S .call) .1) =
           record { message = S .message; number = S .number; client = S .client; behind = S .behind; brings = S .brings; asks = S .asks; granted = S .granted } in
           subst (λ (f : Feed R). Same (idle (start (S .id) (S .client))) (f ∷ feeds R A (S .id) (next R A p (S .call)) (S .later)) (of-agent R A S)) (sym (for-is (S .id) (S .message .header) (S .behind)))
           (same-more (view (S .id)) (S .id) (step (p .state) (S .call)) (idle (start (S .id) (S .client))) (submessages (for-it (S .id) (S .message .header) (S .behind)))
@@ -162,7 +160,7 @@ module _ (R : Rules) where
         call : Event
         later : List Event
         whole : H ≡ before ++ call ∷ later
-        opened : Opened s (works-on R (reached R A p before .open-calls) (host-call (reached R A p before .state) call) .0) (step (reached R A p before .state) call .1)
+        opened : Opened s (works-on R (reached R A p before .open-calls) (host-call call) .0) (step (reached R A p before .state) call .1)
         stays : agent-trace R A s (reached R A p before) (call ∷ later) .table ≡ some l
 
       data Source (p : Point R A) (H : List Event) (s : ℕ) (l : Local) : Type 0 where
@@ -201,8 +199,14 @@ module _ (R : Rules) where
         alone = λ S. session S .alike;
         in-turn = λ S. session S .turns;
         covered = covers (Simulates.bare sim) H;
-        silent = λ e s q.
-            let p = reached R A (set-up R A) H in
-            let m = silent s (p .open-calls) (p .state) e (inv-reached H (set-up R A) inv-empty) q in
-            (m .no-reply, m .no-call);
+        silent = λ e s q. silent s (now .open-calls) (now .state) e holds q;
+        greets = λ e. greets (now .open-calls) (now .state) e holds;
+        fresh = λ e. fresh (now .open-calls) (now .state) e holds;
+        own-tag = λ e. own-tag (now .open-calls) (now .state) e holds;
       }
+        where
+          now : Point R A
+          now = reached R A (set-up R A) H
+
+          holds : Inv (now .open-calls) (now .state)
+          holds = inv-reached H (set-up R A) inv-empty

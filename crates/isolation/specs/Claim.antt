@@ -8,26 +8,30 @@ use lib.Dec.{eqb}
 use Rattle.isolation.specs.Rules.{Bytes, Sub, opens, names, Message, Rules, Host, datagram, answer, removal, sweep, other, Out, opened, reply, Asked, Result, refused, ran}
 use Rattle.isolation.specs.Machine.{idle, Feed, submessages, answered, swept-at, removal-of-it, Moved, takes, Trace, trace, Handles, AllOwned}
 
+-- "Term 3 is one claim about the whole list H": an agent, as that sees it: what a call of the host does to its state, and what it answers.
 pub record Agent (R : Rules) : Type 1 where
   pub State : Type 0
   pub Event : Type 0  -- what the agent's host may do, with all that it brings, the lent output too
   pub empty : State  -- "An empty agent is one just set up."
   pub table : State → ℕ → Option (R .Local)  -- the tables of an id's session, if it is live
   pub step : State → Event → State × Result R
-  pub host-call : State → Event → Host R  -- which of the host's calls that is
+  pub host-call : Event → Host R  -- which of the host's calls that is: it looks at no state, so it has nothing that the host did not bring
 
 module _ (R : Rules) where
-  open Rules R using (Opening, In, Call, Local, parse, start)
+  open Rules R using (Opening, In, Call, Local, parse, status, start)
 
-  -- The datagrams whose bridge call is open, by the call's tag, each from behind the last CREATE_CLIENT in it that was answered. They
-  -- are read off the host's calls and the agent's answers, so that no agent says itself whose answer or whose CREATE_CLIENT it got.
+  -- "at most one open call with its submessage": the datagrams whose bridge call is open, by the call's tag, each from behind the last
+  -- CREATE_CLIENT in it that was answered. They are read off the host's calls and the agent's answers, so that no agent says itself
+  -- whose answer or whose CREATE_CLIENT it got.
   abbrev pub OpenCalls : Type 0
   OpenCalls = ℕ → Option (Message Opening In)
 
+  -- the open calls with x for tag t
   abbrev pub update : ℕ → Option (Message Opening In) → OpenCalls → OpenCalls
   update t x b u = cond (eqb u t) x (b u)
 
-  -- the datagram that a call works on, which it brings or whose bridge call it answers; and the other open ones
+  -- "the agent hands out a call, the host hands in the answer": the datagram that a host's call works on, which it brings or whose
+  -- bridge call it answers; and the other open ones
   abbrev pub works-on : OpenCalls → Host R → Option (Message Opening In) × OpenCalls
   works-on b (datagram d) = (parse d, b)
   works-on b (answer t a) = (b t, update t none b)
@@ -35,14 +39,16 @@ module _ (R : Rules) where
   works-on b (sweep now) = (none, b)
   works-on b other = (none, b)
 
+  -- what stands behind the first CREATE_CLIENT
   abbrev pub behind-client : List (Sub Opening In) → List (Sub Opening In)
   behind-client [] = []
   behind-client (opens o ∷ ss) = ss
   behind-client (names i ∷ ss) = behind-client ss
 
+  -- what stands behind the CREATE_CLIENTs that these replies answer
   abbrev pub past : List (Out R) → List (Sub Opening In) → List (Sub Opening In)
   past [] ss = ss
-  past (opened x ∷ os) ss = past os (behind-client ss)
+  past (opened x r ∷ os) ss = past os (behind-client ss)
   past (reply h r ∷ os) ss = past os ss
 
   -- "a refused bridge answer leaves the call open"
@@ -51,11 +57,13 @@ module _ (R : Rules) where
   open-after b c (ran os none) = works-on b c .1
   open-after b c (ran os (some a)) = update (a .tag) (Option·map (λ m. record { header = m .header; subs = past os (m .subs) }) (works-on b c .0)) (works-on b c .1)
 
+  -- "every later submessage but CREATE_CLIENT"
   abbrev pub but-clients : List (Sub Opening In) → List In
   but-clients [] = []
   but-clients (opens o ∷ ss) = but-clients ss
   but-clients (names i ∷ ss) = i ∷ but-clients ss
 
+  -- "whose header names that id": a feed for s of a datagram; of another's there is nothing for it
   abbrev pub if-names : ℕ → Option (Message Opening In) → (List (Sub Opening In) → Feed R) → Feed R
   if-names s none f = submessages []
   if-names s (some m) f = cond (eqb (m .header) s) (f (m .subs)) (submessages [])
@@ -74,16 +82,22 @@ module _ (R : Rules) where
   unless-refused (refused n) f fs = fs
   unless-refused (ran os c) f fs = f ∷ fs
 
+  -- what an answer has: its replies, and the bridge call that it hands out
   abbrev pub outs-of : Result R → List (Out R)
   outs-of (refused n) = []
   outs-of (ran os c) = os
 
+  abbrev pub call-of : Result R → Option (Asked R)
+  call-of (refused n) = none
+  call-of (ran os c) = c
+
   -- "The STATUS that answers a CREATE_CLIENT is among no session's replies."
   abbrev pub replies-of : ℕ → List (Out R) → List Bytes
   replies-of s [] = []
-  replies-of s (opened x ∷ os) = replies-of s os
+  replies-of s (opened x r ∷ os) = replies-of s os
   replies-of s (reply h r ∷ os) = cond (eqb h s) (r ∷ replies-of s os) (replies-of s os)
 
+  -- "Calls are compared whole": the one for session s
   abbrev pub calls-of : ℕ → Result R → List Call
   calls-of s (refused n) = []
   calls-of s (ran os none) = []
@@ -98,22 +112,55 @@ module _ (R : Rules) where
 
   abbrev pub status-at : ℕ → List (Out R) → Option ℕ
   status-at j [] = none
-  status-at zero (opened x ∷ os) = x
-  status-at (suc j) (opened x ∷ os) = status-at j os
+  status-at zero (opened x r ∷ os) = x
+  status-at (suc j) (opened x r ∷ os) = status-at j os
   status-at j (reply h r ∷ os) = status-at j os
+
+  -- the submessages of the datagram at work, if there is one
+  abbrev pub subs-of : Option (Message Opening In) → List (Sub Opening In)
+  subs-of none = []
+  subs-of (some m) = m .subs
+
+  -- "Its reply is a STATUS for object 0 on stream 0, with the new id and OK, or id 0 and ERR_RESOURCES": each STATUS has the bytes of its
+  -- id and answers the next CREATE_CLIENT of the datagram at work; where the datagram is at its end, none is left unanswered.
+  abbrev pub Greets : List (Sub Opening In) → List (Out R) → Option (Asked R) → Type 0
+  Greets ss [] none = client-at zero ss ≡ none
+  Greets ss [] (some a) = Unit {0}
+  Greets ss (opened x r ∷ os) c = (r ≡ status x) × ((o : Opening × List (Sub Opening In)) × (client-at zero ss ≡ some o)) × Greets (behind-client ss) os c
+  Greets ss (reply h r ∷ os) c = Greets ss os c
+
+  -- a refused call answers nobody
+  abbrev pub Greeted : List (Sub Opening In) → Result R → Type 0
+  Greeted ss (refused n) = Unit {0}
+  Greeted ss (ran os c) = Greets ss os c
+
+  -- "No such session: no reply", and no bridge call: nothing for s
+  abbrev pub Silent : ℕ → Result R → Type 0
+  Silent s r = (replies-of s (outs-of r) ≡ []) × (calls-of s r ≡ [])
+
+  -- "CREATE_CLIENT always opens a new session, whatever the key": an id in a STATUS is that of no session live before, and of no other STATUS
+  abbrev pub Fresh : (ℕ → Option Local) → Result R → Type 0
+  Fresh live r = (j s : ℕ) → status-at j (outs-of r) ≡ some s → (live s ≡ none) × ((k : ℕ) → status-at k (outs-of r) ≡ some s → k ≡ j)
+
+  -- "the answer to its call": a call is handed out under a tag that no other open call has, so that no answer can be another's
+  abbrev pub OwnTag : OpenCalls → Result R → Type 0
+  OwnTag others r = (a : Asked R) → call-of r ≡ some a → others (a .tag) ≡ none
 
   module _ (A : Agent R) where
     open Agent A using (State, Event, empty, table, step, host-call)
 
+    -- where a list of calls has led: the agent's state, and the open calls
     pub record Point : Type 0 where
       pub state : State
       pub open-calls : OpenCalls
 
+    -- "An empty agent is one just set up."
     abbrev pub set-up : Point
     set-up = record { state = empty; open-calls = λ t. none }
 
+    -- one call on, and all calls of a list
     abbrev pub next : Point → Event → Point
-    next p e = let r = step (p .state) e in record { state = r .0; open-calls = open-after (p .open-calls) (host-call (p .state) e) (r .1) }
+    next p e = let r = step (p .state) e in record { state = r .0; open-calls = open-after (p .open-calls) (host-call e) (r .1) }
 
     abbrev pub reached : Point → List Event → Point
     reached p [] = p
@@ -131,11 +178,11 @@ module _ (R : Rules) where
       pub client : Opening
       pub behind : List (Sub Opening In)
       pub id : ℕ
-      pub brings : works-on (reached set-up before .open-calls) (host-call (reached set-up before .state) call) .0 ≡ some message
+      pub brings : works-on (reached set-up before .open-calls) (host-call call) .0 ≡ some message
       pub asks : client-at number (message .subs) ≡ some (client, behind)
       pub granted : status-at number (outs-of (step (reached set-up before .state) call .1)) ≡ some id
 
-    -- the agent's side: the session from its opening to its removal or the end of H
+    -- the agent's side: the session's calls, replies and tables from its opening to its end or the end of H
     abbrev pub until : Option Local → Trace R → Trace R
     until none t = record { calls = []; replies = []; table = none }
     until (some l) t = t
@@ -153,7 +200,7 @@ module _ (R : Rules) where
     -- the machine's side: what names it, "those in the rest of the opening datagram included", then its feeds of the later calls
     abbrev pub feeds : ℕ → Point → List Event → List (Feed R)
     feeds s p [] = []
-    feeds s p (e ∷ H) = unless-refused (step (p .state) e .1) (feed-of s (p .open-calls) (host-call (p .state) e)) (feeds s (next p e) H)
+    feeds s p (e ∷ H) = unless-refused (step (p .state) e .1) (feed-of s (p .open-calls) (host-call e)) (feeds s (next p e) H)
 
     abbrev pub fed : {H : List Event} → Session H → List (Feed R)
     fed S =
@@ -170,9 +217,14 @@ module _ (R : Rules) where
       pub in-turn : (S : Session H) → of-machine S .in-turn ≡ true
       -- No session escapes: what is live after H is a session opened in H, followed to the end of H.
       pub covered : (s : ℕ) (l : Local) → table (reached set-up H .state) s ≡ some l → (S : Session H) × (S .id ≡ s) × (of-agent S .table ≡ some l)
-      -- An id that is not live after one call more gets no reply and no bridge call in it.
-      pub silent : (e : Event) (s : ℕ) → let r = step (reached set-up H .state) e in
-          table (r .0) s ≡ none → (replies-of s (outs-of (r .1)) ≡ []) × (calls-of s (r .1) ≡ [])
+      -- In one call more: an id that is not live after it gets no reply and no bridge call.
+      pub silent : (e : Event) (s : ℕ) → let r = step (reached set-up H .state) e in table (r .0) s ≡ none → Silent s (r .1)
+      -- No reply hides as a STATUS, and no CREATE_CLIENT is passed over.
+      pub greets : (e : Event) → let p = reached set-up H in Greeted (subs-of (works-on (p .open-calls) (host-call e) .0)) (step (p .state) e .1)
+      -- No two live sessions are one.
+      pub fresh : (e : Event) → let p = reached set-up H in Fresh (table (p .state)) (step (p .state) e .1)
+      -- No answer is taken for another's.
+      pub own-tag : (e : Event) → let p = reached set-up H in OwnTag (works-on (p .open-calls) (host-call e) .1) (step (p .state) e .1)
 
     -- Term 3. The agent's calls for a session are the machine's (`alone`), so the handles in them are those of the machine's actions.
     abbrev pub Term3 : Handles R → Type 0

@@ -4,6 +4,7 @@ use mathlib.Core.Bool.{Bool}
 use mathlib.Core.Option.{Option}
 use mathlib.Core.List.{List}
 
+-- "replies byte for byte"
 abbrev pub Bytes : Type 0
 Bytes = List ℕ
 
@@ -13,12 +14,12 @@ pub data Outcome (Local Reply Call Pending : Type 0) : Type 0 where
   done : Local → List Reply → Outcome Local Reply Call Pending
   calls : Local → List Reply → Call → Pending → Outcome Local Reply Call Pending
 
--- a submessage: CREATE_CLIENT, or any other, which is for the session that the header names
+-- "The header's session id decides for every other submessage": a submessage is CREATE_CLIENT, or one for the session that the header names.
 pub data Sub (Opening In : Type 0) : Type 0 where
   opens : Opening → Sub Opening In
   names : In → Sub Opening In
 
--- a datagram read: the session id in the header, and the submessages in order
+-- "Header: session, stream (a byte each), sequence (2). Submessage: ..": a datagram read, its session id and its submessages in order
 pub record Message (Opening In : Type 0) : Type 0 where
   pub header : ℕ
   pub subs : List (Sub Opening In)
@@ -33,13 +34,15 @@ pub record Rules : Type 1 where
   pub Pending : Type 0  -- what is kept of the submessage of an open call
   pub Local : Type 0  -- the tables of one session: "the session's own record", its objects, its streams
   pub parse : Datagram → Option (Message Opening In)  -- none: "stopped by 1 to 5"
+  pub status : Option ℕ → Bytes  -- the STATUS that answers a CREATE_CLIENT, by the id opened: with it and OK, or with id 0 and ERR_RESOURCES
   pub start : ℕ → Opening → Local  -- "It starts with the id given, the opening datagram's time as last activity, no objects, and .."
   pub handle : Local → In → Outcome Local Bytes Call Pending  -- "The time becomes the last activity; then the rules above work on its lists alone."
   pub resume : Local → Pending → Ans → Outcome Local Bytes Call Pending  -- "The same rules give the reply."
   pub expired : Local → ℕ → Bool  -- "now minus last activity .. exceeds the timeout"
 
 module _ (R : Rules) where
-  -- A call of the host. An answer is to the open call of its tag; 01 has at most one call open, and its tag is 0.
+  -- "datagrams, bridge answers, removals and sweeps": a call of the host. An answer is to the open call of its tag; 01 has at most one call
+  -- open, and its tag is 0.
   pub data Host : Type 0 where
     datagram : R .Datagram → Host
     answer : ℕ → R .Ans → Host
@@ -47,12 +50,13 @@ module _ (R : Rules) where
     sweep : ℕ → Host  -- at a time
     other : Host  -- a call that concerns no session: 01 has none
 
-  -- A reply: the STATUS that answers a CREATE_CLIENT, with the id opened or none; or bytes, in the session that the header names.
+  -- "The STATUS that answers a CREATE_CLIENT is among no session's replies": a reply with its bytes is such a STATUS, by the id opened or none;
+  -- or one of the session that the header names.
   pub data Out : Type 0 where
-    opened : Option ℕ → Out
+    opened : Option ℕ → Bytes → Out
     reply : ℕ → Bytes → Out
 
-  -- A bridge call handed out: its tag, which is not compared, the session that it is for, and the call.
+  -- "the agent hands out a call": its tag, which is not compared, the session that it is for, and the call
   pub record Asked : Type 0 where
     pub tag : ℕ
     pub session : ℕ
