@@ -1,21 +1,19 @@
 -- Bytes that the grammar allows are read as it says.
-use Prim.Native.Nat.{ℕ, zero, suc, _+_, _-_, _≤_, _<_, _^_}
+use Prim.Native.Nat.{ℕ, _+_, _-_, _≤_, _<_}
 use mathlib.Core.Path.{_≡_, refl, sym, ap, _∙_}
 use mathlib.Core.List.{List, [], _∷_, _++_, map, append-assoc}
 use native.Mathlib.Omega.{arith}
-use borrow.Author.Tests.{le-leb, le-ltb, lt-leb}
-use lib.ListN.{getD, length, take, drop, length-append, length-drop}
-use lib.Seq.{take-at, length-take-le}
-use Rattle.codec.specs.Bytes.{wordAt, le16, le32}
-use Rattle.codec.specs.Header.{headerOf, headerBytes, subHeaderRead, subHeaderOf}
+use borrow.Author.Tests.{le-leb, lt-leb}
+use lib.ListN.{length, drop, length-append, length-drop}
+use lib.Seq.{take-at}
+use Rattle.codec.specs.Bytes.{le16, le32}
+use Rattle.codec.specs.Header.{headerOf, headerBytes}
 use Rattle.codec.specs.Submessages.{idOf, kindByte, kindOf, codeByte, codeOf}
-use Rattle.codec.specs.Layouts as layouts
 use Rattle.codec.specs.Layouts.{leastOf, layoutAt, createAt, statusAt}
-use Rattle.codec.specs.Reading.{Item, Items, items, stopped, before, onward, readAt, itemsAt, payloadAt, partOf, Message, message, refused, messageOf, under}
+use Rattle.codec.specs.Reading.{Item, items, readAt, itemsAt, payloadAt, partOf, messageOf}
 use Rattle.codec.specs.Writing.{fixedBytes}
-use Rattle.codec.specs.Grammar.{Said, Ranged, HeaderRanged, Bodied, Payload, bodied, plain, OneSub, one, Subs, none, next, IsMessage, whole, saidIn, says, readingOf, reading}
+use Rattle.codec.specs.Grammar.{Said, Ranged, HeaderRanged, Bodied, Payload, bodied, plain, OneSub, one, Subs, none, next, IsMessage, whole, saidIn, says, reading}
 use Rattle.codec.specs.declared.header.MessageHeader.{MessageHeader}
-use Rattle.codec.specs.declared.layouts.Parsed.{Parsed}
 use Rattle.codec.specs.declared.layouts.Parsed.the-variants.{Sub}
 use Rattle.codec.specs.declared.layouts.Span.{Span}
 use Rattle.codec.specs.declared.submessages.ObjectKind.{ObjectKind}
@@ -27,8 +25,7 @@ use Rattle.codec.specs.declared.submessages.CodeRead.the-variants.{Code}
 use Rattle.codec.specs.declared.submessages.Submessage.{Submessage}
 use Rattle.codec.specs.declared.submessages.Submessage.the-variants.{CreateClient, Create, Delete, Status, WriteData, ReadData, Data, Heartbeat, Acknack}
 use Rattle.codec.proofs.Pieces.{drop-behind, byte-back, word-back, quad-back}
-use Rattle.codec.proofs.header.Laws.{sub-header-there}
-use Rattle.codec.proofs.reading.Laws.{payload-laid, items-end, items-more}
+use Rattle.codec.proofs.reading.Laws.{read-payload, payload-laid, items-end, items-more}
 use Rattle.codec.proofs.writing.Laws.{length-fixed, least-small}
 
 -- a kind's and a code's own byte reads back
@@ -147,11 +144,6 @@ module _ (s : List ℕ) (p : ℕ) (l : List ℕ) where
       let f = fixed-first m body payload k e in
       let listed : leastOf (idOf m) ≡ 255 → ⊥ = λ z. omega (arith, z, least-small m) in
       sym (payload-laid s (idOf m) p (length payload) h listed (f .2)) ∙ laid m s p (length payload) (f .0) (f .1) r
-
--- where the header of a submessage stands, reading goes by its id and its length
-read-payload : (s : List ℕ) (at id len : ℕ) → at + 4 ≤ length s → getD s at 0 ≡ id → wordAt s (at + 2) ≡ len → readAt s at ≡ payloadAt s id (at + 4) len
-unfolding readAt subHeaderOf
-read-payload s at id len h i l = rw (← sub-header-there s at h, i, l)
 
 -- a submessage at a place is read whole, and reading goes on behind it
 record Back (s : List ℕ) (at : ℕ) (x : Said) (a : List ℕ) : Type 0 where

@@ -4,4 +4,5 @@ pub mod Pieces
 pub mod Complete
 pub mod Sound
 pub mod Promises
+pub mod Writes
 pub mod Cases

@@ -6,21 +6,20 @@ use native.Mathlib.Omega.{arith}
 use borrow.Author.Tests.{le-leb}
 use lib.ListN.{length, take, drop, length-append, length-map}
 use lib.Seq.{take-length, take-nil, drop-at}
+use Rattle.codec.specs.Answers.{gives, refusedAs, checkedAnswer, stringAnswer}
 use Rattle.codec.specs.Bytes.{AllBytes, le16, wordAt}
 use Rattle.codec.specs.Header.{headerBytes}
 use Rattle.codec.specs.Reading.{partOf, Item, Message, message, refused, messageOf, checkedOf, checkOf}
 use Rattle.codec.specs.Strings.{stringBytes, stringAt}
 use Rattle.codec.specs.Submessages.{idOf}
 use Rattle.codec.specs.Writing.{fixedBytes, bodyLen, carried, payloadBytes, subBytes}
-use Rattle.codec.specs.Grammar.{Said, Ranged, HeaderRanged, Bodied, Payload, bodied, plain, OneSub, one, Subs, none, next, IsMessage, whole, saidIn, reading, readingOf, says, refuses}
+use Rattle.codec.specs.Grammar.{Said, Ranged, HeaderRanged, Bodied, Payload, bodied, plain, OneSub, one, Subs, none, next, IsMessage, whole, saidIn, reading, readingOf, says}
 use Rattle.codec.specs.Promises.{ReadsExactly, ChecksWhole, subsBytes, written, HeaderAlone, Writable, kept, ReadsBack, SaysTheSame, StringsReadBack}
 use Rattle.codec.specs.declared.header.MessageHeader.{MessageHeader}
-use Rattle.codec.specs.declared.reading.Checked.the-variants as checked
-use Rattle.codec.specs.declared.refusals.Refusal.{Refusal}
 use Rattle.codec.specs.declared.submessages.Submessage.{Submessage}
 use Rattle.codec.specs.declared.submessages.Submessage.the-variants.{CreateClient, Create, Delete, Status, WriteData, ReadData, Data, Heartbeat, Acknack}
 use Rattle.codec.proofs.Complete.{complete, part-is}
-use Rattle.codec.proofs.Sound.{sound}
+use Rattle.codec.proofs.Sound.{says-same, sound}
 use Rattle.codec.proofs.Pieces.{word-back, drop-behind}
 use Rattle.codec.proofs.strings.Laws.{string-whole}
 
@@ -32,16 +31,15 @@ reads-exactly s small h xs = (complete s h xs, sound s small h xs)
 length-said : (s : List ℕ) (xs : List Item) (ys : List Said) → map (saidIn s) xs ≡ ys → length xs ≡ length ys
 length-said s xs ys e = sym (length-map xs (saidIn s)) ∙ ap length e
 
-checks-said : (s : List ℕ) (m : Message) (h : MessageHeader) (ys : List Said) → readingOf s m ≡ says h ys → checkedOf m ≡ checked.Message h (length ys)
+checks-said : (s : List ℕ) (m : Message) (h : MessageHeader) (ys : List Said) → readingOf s m ≡ says h ys → checkedAnswer (checkedOf m) ≡ gives (h, length ys)
 checks-said s (message g xs) h ys e =
-    let a : g ≡ h = cc in
-    let b : map (saidIn s) xs ≡ ys = cc in
-    rw (a, length-said s xs ys b)
+    let same = says-same e in
+    rw (same .0, length-said s xs ys (same .1))
 checks-said s (refused r) h ys e = let z : _≡_ {A = ℕ} 0 1 = cc in absurd (omega arith)
 
-checks-refused : (s : List ℕ) (m : Message) (r : Refusal) → readingOf s m ≡ refuses r → checkedOf m ≡ checked.Refused r
-checks-refused s (message g xs) r e = let z : _≡_ {A = ℕ} 0 1 = cc in absurd (omega arith)
-checks-refused s (refused q) r e = cc
+checks-refused : (s : List ℕ) (m : Message) (number byte : ℕ) → readingOf s m ≡ refusedAs number byte → checkedAnswer (checkedOf m) ≡ refusedAs number byte
+checks-refused s (message g xs) number byte e = let z : _≡_ {A = ℕ} 0 1 = cc in absurd (omega arith)
+checks-refused s (refused q) number byte e = cc
 
 pub checks-whole : ChecksWhole
 unfolding reading checkOf
@@ -130,6 +128,6 @@ strings-read-back before text behind h =
     let w : wordAt s at ≡ n = word-back s at n (text ++ behind) d (omega arith) in
     let total : length s ≡ at + (2 + (n + length behind)) = omega (arith, length-append before (stringBytes text ++ behind), length-append text behind) in (
       record { start = at + 2; len = n },
-      sym (string-whole s at (omega (arith, w, total))) ∙ rw w,
+      ap stringAnswer (sym (string-whole s at (omega (arith, w, total)))) ∙ rw w,
       part-is s (at + 2) n text behind (drop-behind s at (le16 n) (text ++ behind) 2 d refl) refl (omega (arith, total)),
     )

@@ -1,76 +1,49 @@
 -- What is read is what the grammar allows.
-use Prim.Native.Nat.{ℕ, zero, suc, _+_, _-_, _≤_, _<_, _^_}
+use Prim.Native.Nat.{ℕ, zero, suc, _+_, _-_, _≤_, _<_}
 use mathlib.Core.Path.{_≡_, refl, sym, ap, _∙_}
 use mathlib.Core.Logic.{_⊎_, inl, inr, ⊎-elim}
-use mathlib.Core.Bool.{Bool, true, false, cond}
+use mathlib.Core.Bool.{true}
 use mathlib.Core.List.{List, [], _∷_, _++_, map}
-use native.Mathlib.Decide.{decLe, ℕ-discrete}
+use native.Mathlib.Decide.{decLe}
 use native.Mathlib.Nat.{lt-of-not-le}
 use native.Mathlib.Omega.{arith}
 use borrow.Author.Tests.{eqb-true, lt-leb, le-leb}
 use lib.Dec.{eqb}
-use lib.ListN.{getD, length, take, drop, length-append, length-drop, length-take, take-append-drop, drop-of-length-le}
-use lib.Seq.{length-take-le, take-add, drop-drop}
-use Rattle.codec.specs.Bytes.{wordAt, quadAt, le16, le32, AllBytes}
+use lib.ListN.{getD, length, take, drop, length-drop, take-append-drop, drop-of-length-le}
+use lib.Seq.{length-take-le, drop-drop}
+use Rattle.codec.specs.Bytes.{wordAt, le16, AllBytes}
 use Rattle.codec.specs.Header.{headerOf, headerBytes, subHeaderRead, subHeaderOf}
 use Rattle.codec.specs.Submessages.{idOf, kindByte, kindOf, codeByte, codeOf}
 use Rattle.codec.specs.Layouts.{leastOf, layoutAt, createAt, createOf, statusAt, statusOf}
 use Rattle.codec.specs.declared.header.SubmessageHeaderRead.{SubmessageHeaderRead}
 use Rattle.codec.specs.declared.header.SubmessageHeaderRead.the-variants as sub-header-read
-use Rattle.codec.specs.Reading.{behind, Item, Items, items, stopped, before, onward, readAt, itemsAt, payloadAt, partOf, Message, message, refused, messageOf, under}
-use Rattle.codec.specs.Writing.{fixedBytes, bodyLen}
-use Rattle.codec.specs.Grammar.{Said, Ranged, HeaderRanged, Bodied, Payload, bodied, plain, OneSub, one, Subs, none, next, IsMessage, whole, saidIn, says, refuses, readingOf, reading}
+use Rattle.codec.specs.Reading.{behind, Item, Items, items, stopped, before, onward, readAt, itemsAt, payloadAt, partOf, messageOf, under}
+use Rattle.codec.specs.Writing.{fixedBytes}
+use Rattle.codec.specs.Grammar.{Said, Ranged, HeaderRanged, Bodied, Payload, bodied, plain, OneSub, one, Subs, none, next, IsMessage, whole, saidIn, says, readingOf, reading}
 use Rattle.codec.specs.declared.header.MessageHeader.{MessageHeader}
 use Rattle.codec.specs.declared.layouts.Parsed.{Parsed}
 use Rattle.codec.specs.declared.layouts.Parsed.the-variants.{Sub, Refused}
 use Rattle.codec.specs.declared.layouts.Span.{Span}
 use Rattle.codec.specs.declared.layouts.Cursor.{Cursor}
-use Rattle.codec.specs.declared.submessages.ObjectKind.{ObjectKind}
-use Rattle.codec.specs.declared.submessages.StatusCode.{StatusCode}
 use Rattle.codec.specs.declared.submessages.KindRead.{KindRead}
 use Rattle.codec.specs.declared.submessages.KindRead.the-variants as kind-read
 use Rattle.codec.specs.declared.submessages.CodeRead.{CodeRead}
 use Rattle.codec.specs.declared.submessages.CodeRead.the-variants as code-read
 use Rattle.codec.specs.declared.submessages.Submessage.{Submessage}
-use Rattle.codec.specs.declared.submessages.Submessage.the-variants.{CreateClient, Create, Delete, Status, WriteData, ReadData, Data, Heartbeat, Acknack}
 use Rattle.codec.proofs.Either.{either}
+use Rattle.codec.proofs.submessages.Laws.{KindIs, kind-is, CodeIs, code-is}
+use Rattle.codec.proofs.failures.Laws.{same-number, payload-met}
 use Rattle.codec.proofs.Pieces.{byte-small, word-small, quad-small, byte-piece, word-piece, quad-piece, piece-piece}
 use Rattle.codec.proofs.header.Laws.{sub-header-is}
-use Rattle.codec.proofs.reading.Laws.{payload-placed, payload-cut, payload-unlisted, payload-under, payload-laid, items-end, items-more}
+use Rattle.codec.proofs.reading.Laws.{payload-placed, items-end, items-more}
 use Rattle.codec.proofs.layouts.Laws.{enough}
 
--- ---- a kind or a code that was read has its own byte
+-- ---- two messages that say the same have the same header and the same submessages
 
-abbrev KindIs : ℕ → KindRead → Type 0
-KindIs b (kind-read.Kind k) = kindByte k ≡ b
-KindIs b (kind-read.Refused r) = Unit
-
-kind-is : (b : ℕ) → KindIs b (kindOf b)
-unfolding kindOf
-kind-is b =
-    let P = KindIs b in
-    let own : (n : ℕ) → eqb b n ≡ true → n ≡ b = λ n e. sym (eqb-true b n e) in
-    either P (eqb b 1) _ _ (own 1) (λ _.
-    either P (eqb b 2) _ _ (own 2) (λ _.
-    either P (eqb b 3) _ _ (own 3) (λ _.
-    either P (eqb b 4) _ _ (own 4) (λ _.
-    either P (eqb b 5) _ _ (own 5) (λ _.
-    either P (eqb b 6) _ _ (own 6) (λ _. tt))))))
-
-abbrev CodeIs : ℕ → CodeRead → Type 0
-CodeIs b (code-read.Code k) = codeByte k ≡ b
-CodeIs b (code-read.Refused r) = Unit
-
-code-is : (b : ℕ) → CodeIs b (codeOf b)
-unfolding codeOf
-code-is b =
-    let P = CodeIs b in
-    let own : (n : ℕ) → eqb b n ≡ true → n ≡ b = λ n e. sym (eqb-true b n e) in
-    either P (eqb b 0) _ _ (own 0) (λ _.
-    either P (eqb b 1) _ _ (own 1) (λ _.
-    either P (eqb b 2) _ _ (own 2) (λ _.
-    either P (eqb b 3) _ _ (own 3) (λ _.
-    either P (eqb b 4) _ _ (own 4) (λ _. tt)))))
+pub says-same : {g h : MessageHeader} {ys xs : List Said} → says g ys ≡ says h xs → (g ≡ h) × (ys ≡ xs)
+says-same {g} {h} {ys} {xs} e =
+    let p : _≡_ {A = MessageHeader × List Said} (g, ys) (h, xs) = cc in
+    (ap (λ (z : MessageHeader × List Said). z .0) p, ap (λ (z : MessageHeader × List Said). z .1) p)
 
 -- ---- a layout that was read
 
@@ -173,18 +146,8 @@ module _ (s : List ℕ) (small : AllBytes s) where
   right-payload : (id p len : ℕ) (m : Submessage) (x : Span) (c : Cursor) → payloadAt s id p len ≡ Sub m x c
       → (Right s id p len m x) × (leastOf id ≤ len) × (p + len ≤ length s)
   right-payload id p len m x c e =
-      elim (decLe (p + len) (length s)) [
-        | no k ↦ let z : _≡_ {A = ℕ} 0 1 = cc (payload-cut s id p len (lt-of-not-le k)) in absurd (omega arith)
-        | yes k ↦
-            elim (ℕ-discrete (leastOf id) 255) [
-              | yes u ↦ let z : _≡_ {A = ℕ} 0 1 = cc (payload-unlisted s id p len k u) in absurd (omega arith)
-              | no u ↦
-                  elim (decLe (leastOf id) len) [
-                    | no j ↦ let z : _≡_ {A = ℕ} 0 1 = cc (payload-under s id p len k u (lt-of-not-le j)) in absurd (omega arith)
-                    | yes j ↦ (right-laid id p len m x c k j (payload-laid s id p len k u j ∙ e), j, k)
-                  ]
-            ]
-      ]
+      let met = payload-met s id p len (same-number e) in
+      (right-laid id p len m x c (met .room) (met .least) (met .laid ∙ e), met .least, met .room)
 
   -- the bytes of the payload: the fixed ones, and what follows them
   payload-split : (id p len : ℕ) (m : Submessage) (x : Span) → Right s id p len m x → leastOf id ≤ len → p + len ≤ length s
@@ -302,9 +265,8 @@ module _ (s : List ℕ) (small : AllBytes s) where
 
   sound-items : (h : MessageHeader) (xs : List Said) → 4 < length s → (i : Items) → itemsAt s 4 ≡ i → readingOf s (under (headerOf s) i) ≡ says h xs → IsMessage h xs s
   sound-items h xs long (items ys) e k =
-      let a : headerOf s ≡ h = cc in
-      let b : map (saidIn s) ys ≡ xs = cc in
-      rw (← a, ← b) (message-laid ys long (laid-items (length s) 4 ys (omega arith) e))
+      let same = says-same k in
+      rw (← same .0, ← same .1) (message-laid ys long (laid-items (length s) 4 ys (omega arith) e))
   sound-items h xs long (stopped r) e k = let z : _≡_ {A = ℕ} 0 1 = cc in absurd (omega arith)
 
   -- what is read is what the grammar allows

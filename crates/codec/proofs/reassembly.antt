@@ -2,5 +2,6 @@
 pub mod Laws
 pub mod View
 pub mod Inserts
+pub mod Held
 pub mod Numbers
 pub mod Theorems

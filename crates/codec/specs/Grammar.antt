@@ -1,14 +1,14 @@
 -- Document 01, "The wire", as a grammar: which bytes are a message, and what it says.
-use Prim.Native.Nat.{ℕ, _<_, _≤_, _^_}
+use Prim.Native.Nat.{ℕ, _<_, _^_}
 use mathlib.Core.List.{List, [], _∷_, _++_, map}
 use lib.ListN.{length}
+use Rattle.codec.specs.Answers.{Answer, gives, refusal}
 use Rattle.codec.specs.Bytes.{le16}
 use Rattle.codec.specs.Header.{headerBytes}
 use Rattle.codec.specs.Submessages.{idOf}
 use Rattle.codec.specs.Writing.{fixedBytes}
 use Rattle.codec.specs.Reading.{Item, Message, message, refused, messageOf, partOf}
 use Rattle.codec.specs.declared.header.MessageHeader.{MessageHeader}
-use Rattle.codec.specs.declared.refusals.Refusal.{Refusal}
 use Rattle.codec.specs.declared.submessages.Submessage.{Submessage}
 use Rattle.codec.specs.declared.submessages.Submessage.the-variants.{CreateClient, Create, Delete, Status, WriteData, ReadData, Data, Heartbeat, Acknack}
 
@@ -62,17 +62,16 @@ pub data Subs : List Said → List ℕ → Type 0 where
 pub data IsMessage : MessageHeader → List Said → List ℕ → Type 0 where
   whole : (h : MessageHeader) (x : Said) (xs : List Said) (bytes : List ℕ) → HeaderRanged h → Subs (x ∷ xs) bytes → IsMessage h (x ∷ xs) (headerBytes h ++ bytes)
 
--- what the reading of `Reading` says in these terms: a span stands for the bytes of that part
-pub data Reading : Type 0 where
-  says : MessageHeader → List Said → Reading
-  refuses : Refusal → Reading
+-- what a datagram says in these terms, or the number of its refusal; a span stands for the bytes of that part
+abbrev pub says : MessageHeader → List Said → Answer (MessageHeader × List Said)
+says h xs = gives (h, xs)
 
 abbrev pub saidIn : List ℕ → Item → Said
 saidIn s x = record { fields = x .says; body = partOf s (x .span) }
 
-abbrev pub readingOf : List ℕ → Message → Reading
+abbrev pub readingOf : List ℕ → Message → Answer (MessageHeader × List Said)
 readingOf s (message h xs) = says h (map (saidIn s) xs)
-readingOf s (refused r) = refuses r
+readingOf s (refused r) = refusal r
 
-unfoldable pub reading : List ℕ → Reading
+unfoldable pub reading : List ℕ → Answer (MessageHeader × List Said)
 reading s = readingOf s (messageOf s)

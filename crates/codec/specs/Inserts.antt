@@ -1,18 +1,18 @@
 -- Fragments put into a store in any order and any number of times: what the store holds, and what is promised of it.
 -- The definitions of a call are those that the contracts of `new`, `insert` and `assemble` cite.
-use Prim.Native.Nat.{ℕ, zero, suc, _-_, _<_}
+use Prim.Native.Nat.{ℕ, zero, suc, _*_, _-_, _<_, _≤_}
 use mathlib.Core.Path.{_≡_}
 use mathlib.Core.Bool.{Bool, true, false, cond, not, _||_, _&&_}
 use mathlib.Core.List.{List, [], _∷_, _++_}
 use lib.Dec.{eqb, ltb}
 use lib.ListN.{getD, length, take, drop}
+use Rattle.codec.specs.Answers.{gives, refusedAs, writtenAnswer, madeAnswer, insertedAnswer}
 use Rattle.codec.specs.Bytes.{putOf, putBytes}
-use Rattle.codec.specs.Reassembly.{isFree, newLengths, insertOf, insertSlots, insertLengths, hasFragment, assembleOf, assembleOut}
-use Rattle.codec.specs.declared.bytes.Written.the-variants as written
+use Rattle.codec.specs.Cutting.{bodies}
+use Rattle.codec.specs.Reassembly.{isFree, isPast, anyOf, newOf, newLengths, insertOf, insertSlots, insertLengths, hasFragment, payloadOf, assembleOf, assembleOut}
 use Rattle.codec.specs.declared.reassembly.ReassemblyBuffer.{ReassemblyBuffer}
 use Rattle.codec.specs.declared.reassembly.Inserted.{Inserted}
 use Rattle.codec.specs.declared.reassembly.Inserted.the-variants as inserted
-use Rattle.codec.specs.declared.refusals.Refusal.the-variants.{MissingFragments}
 
 -- a store as the host keeps it between calls
 pub record Store : Type 0 where
@@ -51,8 +51,58 @@ unfoldable pub slotsOf : ℕ → List ℕ → List ℕ → List Slot
 slotsOf width slots [] = []
 slotsOf width slots (held ∷ more) = cond (isFree held) free (holds (take (held - 1) slots)) ∷ slotsOf width (drop width slots) more
 
-unfoldable pub slotsIn : Store → List Slot
+abbrev pub slotsIn : Store → List Slot
 slotsIn st = slotsOf (st .buffer .width) (st .slots) (take (st .buffer .«total_fragments») (st .lengths))
+
+-- how many slots hold a body
+unfoldable pub heldIn : List Slot → ℕ
+heldIn [] = 0
+heldIn (free ∷ more) = heldIn more
+heldIn (holds body ∷ more) = suc (heldIn more)
+
+-- a store as the calls keep it: nothing in it is under its need or past a limit (16), and its count is the number of slots that hold a body
+pub record Sound (st : Store) : Type 0 where
+  pub there : st .buffer .«total_fragments» * st .buffer .width ≤ length (st .slots)
+  pub entries : st .buffer .«total_fragments» ≤ length (st .lengths)
+  pub within : anyOf (isPast (st .buffer .width)) (take (st .buffer .«total_fragments») (st .lengths)) ≡ false
+  pub counted : st .buffer .«received_count» ≡ heldIn (slotsIn st)
+
+-- `new` makes such a store, and every list of inserts keeps one
+abbrev pub NewSound : Type 0
+NewSound =
+    (total width : ℕ) (slots lengths : List ℕ) (buffer : ReassemblyBuffer) → madeAnswer (newOf total width slots lengths) ≡ gives buffer
+    → Sound (record { buffer = buffer; slots = slots; lengths = newLengths total width slots lengths })
+
+abbrev pub InsertsSound : Type 0
+InsertsSound = (st : Store) (ps : List Piece) → Sound st → Sound (inserts st ps)
+
+-- whether the number k is held, as `has_fragment` says; every number below the total is
+abbrev pub holdsNumber : Store → ℕ → Bool
+holdsNumber st k = hasFragment (st .buffer) (st .lengths) k
+
+abbrev pub AllHeld : Store → Type 0
+AllHeld st = (k : ℕ) → k < st .buffer .«total_fragments» → holdsNumber st k ≡ true
+
+-- what is promised of every such store, whatever was put into it
+pub record Tells (st : Store) : Type 0 where
+  -- `assemble` is refused as 11, "fragments missing", where a number below the total isn't held
+  pub missing : (k : ℕ) → k < st .buffer .«total_fragments» → holdsNumber st k ≡ false → (out : List ℕ)
+      → (writtenAnswer (assembleOf (st .buffer) (st .slots) (st .lengths) out) ≡ refusedAs 11 0)
+      × (assembleOut (st .buffer) (st .slots) (st .lengths) out ≡ out)
+  -- and only there: 11 isn't said too early
+  pub not-early : (out : List ℕ) → writtenAnswer (assembleOf (st .buffer) (st .slots) (st .lengths) out) ≡ refusedAs 11 0
+      → (k : ℕ) × (k < st .buffer .«total_fragments») × (holdsNumber st k ≡ false)
+  -- where every number is held it gives the bodies, one behind the other
+  pub whole : AllHeld st → (out : List ℕ)
+      → (assembleOf (st .buffer) (st .slots) (st .lengths) out ≡ putOf out 0 (payloadOf (st .buffer) (st .slots) (st .lengths)))
+      × (assembleOut (st .buffer) (st .slots) (st .lengths) out ≡ putBytes out 0 (payloadOf (st .buffer) (st .slots) (st .lengths)))
+  -- an insert that is kept answers "all there" exactly if every number is held then
+  pub all-there : (p : Piece) (after : ReassemblyBuffer) (all : Bool)
+      → insertedAnswer (insertOf (st .buffer) (st .slots) (st .lengths) (p .nr) (p .body)) ≡ gives (after, all)
+      → (all ≡ true → AllHeld (insertInto st p)) × (AllHeld (insertInto st p) → all ≡ true)
+
+abbrev pub SoundTells : Type 0
+SoundTells = (st : Store) → Sound st → Tells st
 
 -- "A repeated fragment replaces the body held": slot k holds the body of the last insert of that number, among those that its width allows
 unfoldable pub lastOf : ℕ → ℕ → List Piece → Slot → Slot
@@ -97,9 +147,18 @@ pub record Rebuilds (bs : List (List ℕ)) (payload : List ℕ) (st : Store) (nr
       × (assembleOut (st .buffer) (st .slots) (st .lengths) out ≡ putBytes out 0 payload)
   -- before that it is refused as 11
   pub missing : (k : ℕ) → k < length bs → came k nrs ≡ false → (out : List ℕ)
-      → (assembleOf (st .buffer) (st .slots) (st .lengths) out ≡ written.Refused MissingFragments)
+      → (writtenAnswer (assembleOf (st .buffer) (st .slots) (st .lengths) out) ≡ refusedAs 11 0)
       × (assembleOut (st .buffer) (st .slots) (st .lengths) out ≡ out)
   -- a further fragment of the cut is kept, and the answer says whether every number has come
   pub answers : (k : ℕ) → k < length bs
       → (after : ReassemblyBuffer)
-      × (insertOf (st .buffer) (st .slots) (st .lengths) k (getD bs k []) ≡ inserted.Held after (eqb (different (length bs) (nrs ++ (k ∷ []))) (length bs)))
+      × (insertedAnswer (insertOf (st .buffer) (st .slots) (st .lengths) k (getD bs k [])) ≡ gives (after, eqb (different (length bs) (nrs ++ (k ∷ []))) (length bs)))
+
+-- Fragments rebuild the payload, in any order and however often, and not before: for every payload, every size above 0 and every store
+-- that `new` made for the cut's total, where each body fits its slot
+abbrev pub Rebuild : Type 0
+Rebuild =
+    (size : ℕ) (payload : List ℕ) (width : ℕ) (slots lengths : List ℕ) (buffer : ReassemblyBuffer) (nrs : List ℕ) → 0 < size
+    → ((k : ℕ) → k < length (bodies size payload) → length (getD (bodies size payload) k []) ≤ width)
+    → madeAnswer (newOf (length (bodies size payload)) width slots lengths) ≡ gives buffer
+    → Rebuilds (bodies size payload) payload (storeAfter buffer width slots lengths (bodies size payload) nrs) nrs

@@ -24,12 +24,12 @@ unfoldable pub leastOf : ℕ → ℕ
 leastOf id = getD leastTable id 255
 
 -- "Payload bytes beyond a fixed layout are ignored": no variable part; the next submessage begins behind the payload
-abbrev pub plain : Submessage → ℕ → ℕ → Parsed
-plain m p len = Sub m (record { start = p + len; len = 0 }) (record { at = p + len })
+abbrev pub plainAt : Submessage → ℕ → ℕ → Parsed
+plainAt m p len = Sub m (record { start = p + len; len = 0 }) (record { at = p + len })
 
 -- strings and data are all that follows the fixed bytes of a layout
-abbrev pub bodied : Submessage → ℕ → ℕ → ℕ → Parsed
-bodied m fixed p len = Sub m (record { start = p + fixed; len = len - fixed }) (record { at = p + len })
+abbrev pub bodiedAt : Submessage → ℕ → ℕ → ℕ → Parsed
+bodiedAt m fixed p len = Sub m (record { start = p + fixed; len = len - fixed }) (record { at = p + len })
 
 -- 0x00 CREATE_CLIENT: key 4, properties 1
 abbrev pub createClientAt : List ℕ → ℕ → Submessage
@@ -38,7 +38,7 @@ createClientAt s p = CreateClient (record { «client_key» = quadAt s p; propert
 -- 0x01 CREATE: object 2, kind 1, parent 2, strings
 abbrev pub createOf : List ℕ → ℕ → ℕ → KindRead → Parsed
 createOf s p len (kind-read.Kind k) =
-    bodied (Create (record { «object_id» = record { 0 = wordAt s p }; kind = k; «parent_id» = wordAt s (p + 3) })) 5 p len
+    bodiedAt (Create (record { «object_id» = record { 0 = wordAt s p }; kind = k; «parent_id» = wordAt s (p + 3) })) 5 p len
 createOf s p len (kind-read.Refused r) = Refused r
 
 unfoldable pub createAt : List ℕ → ℕ → ℕ → Parsed
@@ -50,7 +50,7 @@ deleteAt s p = Delete (record { «object_id» = record { 0 = wordAt s p } })
 
 -- 0x05 STATUS: object 2, code 1
 abbrev pub statusOf : List ℕ → ℕ → ℕ → CodeRead → Parsed
-statusOf s p len (code-read.Code k) = plain (Status (record { «related_object_id» = record { 0 = wordAt s p }; status = k })) p len
+statusOf s p len (code-read.Code k) = plainAt (Status (record { «related_object_id» = record { 0 = wordAt s p }; status = k })) p len
 statusOf s p len (code-read.Refused r) = Refused r
 
 unfoldable pub statusAt : List ℕ → ℕ → ℕ → Parsed
@@ -79,13 +79,13 @@ acknackAt s p = Acknack (record { «first_unacked_seq» = wordAt s p; «nack_bit
 -- "The submessage id alone decides which layout is read"
 unfoldable pub layoutAt : List ℕ → ℕ → ℕ → ℕ → Parsed
 layoutAt s id p len =
-    cond (eqb id 0x00) (plain (createClientAt s p) p len)
+    cond (eqb id 0x00) (plainAt (createClientAt s p) p len)
     (cond (eqb id 0x01) (createAt s p len)
-    (cond (eqb id 0x02) (plain (deleteAt s p) p len)
+    (cond (eqb id 0x02) (plainAt (deleteAt s p) p len)
     (cond (eqb id 0x05) (statusAt s p len)
-    (cond (eqb id 0x07) (bodied (writeDataAt s p) 2 p len)
-    (cond (eqb id 0x08) (plain (readDataAt s p) p len)
-    (cond (eqb id 0x09) (bodied (dataAt s p) 2 p len)
-    (cond (eqb id 0x0D) (plain (heartbeatAt s p) p len)
-    (cond (eqb id 0x0E) (plain (acknackAt s p) p len)
+    (cond (eqb id 0x07) (bodiedAt (writeDataAt s p) 2 p len)
+    (cond (eqb id 0x08) (plainAt (readDataAt s p) p len)
+    (cond (eqb id 0x09) (bodiedAt (dataAt s p) 2 p len)
+    (cond (eqb id 0x0D) (plainAt (heartbeatAt s p) p len)
+    (cond (eqb id 0x0E) (plainAt (acknackAt s p) p len)
     (Refused (UnknownSubmessageId id))))))))))

@@ -2,6 +2,7 @@
 pub mod Refusals
 pub mod Bytes
 pub mod Submessages
+pub mod Answers
 pub mod Header
 pub mod Layouts
 pub mod Reading
@@ -12,3 +13,4 @@ pub mod Reassembly
 pub mod Inserts
 pub mod Grammar
 pub mod Promises
+pub mod Writes

@@ -3,17 +3,15 @@ use Prim.Native.Nat.{ℕ, _≤_, _+_}
 use mathlib.Core.Path.{_≡_}
 use mathlib.Core.List.{List, [], _∷_, _++_, map}
 use lib.ListN.{length}
+use Rattle.codec.specs.Answers.{gives, refusedAs, checkedAnswer, stringAnswer}
 use Rattle.codec.specs.Bytes.{AllBytes}
 use Rattle.codec.specs.Header.{headerBytes}
 use Rattle.codec.specs.Reading.{partOf, checkOf}
 use Rattle.codec.specs.Writing.{carried, payloadBytes, subBytes}
 use Rattle.codec.specs.Strings.{stringBytes, stringAt}
-use Rattle.codec.specs.Grammar.{Said, Ranged, HeaderRanged, IsMessage, reading, says, refuses}
+use Rattle.codec.specs.Grammar.{Said, Ranged, HeaderRanged, IsMessage, reading, says}
 use Rattle.codec.specs.declared.header.MessageHeader.{MessageHeader}
 use Rattle.codec.specs.declared.layouts.Span.{Span}
-use Rattle.codec.specs.declared.reading.Checked.the-variants as checked
-use Rattle.codec.specs.declared.refusals.Refusal.{Refusal}
-use Rattle.codec.specs.declared.strings.StringRead.the-variants.{Text}
 
 -- "a datagram is accepted exactly if the layouts allow it", and read as they say
 abbrev pub ReadsExactly : Type 0
@@ -21,12 +19,12 @@ ReadsExactly =
     (s : List ℕ) → AllBytes s → (h : MessageHeader) (xs : List Said)
     → (IsMessage h xs s → reading s ≡ says h xs) × (reading s ≡ says h xs → IsMessage h xs s)
 
--- the check of a whole datagram goes by the same reading: its header and the number of its submessages, or its refusal
+-- the check of a whole datagram goes by the same reading: its header and the number of its submessages, or the number of its refusal
 abbrev pub ChecksWhole : Type 0
 ChecksWhole =
     (s : List ℕ)
-    → ((h : MessageHeader) (xs : List Said) → reading s ≡ says h xs → checkOf s ≡ checked.Message h (length xs))
-    × ((r : Refusal) → reading s ≡ refuses r → checkOf s ≡ checked.Refused r)
+    → ((h : MessageHeader) (xs : List Said) → reading s ≡ says h xs → checkedAnswer (checkOf s) ≡ gives (h, length xs))
+    × ((number byte : ℕ) → reading s ≡ refusedAs number byte → checkedAnswer (checkOf s) ≡ refusedAs number byte)
 
 -- the bytes of a message: its header, then each submessage as `write_submessage` writes it
 abbrev pub subsBytes : List Said → List ℕ
@@ -65,5 +63,5 @@ SaysTheSame =
 abbrev pub StringsReadBack : Type 0
 StringsReadBack =
     (before text behind : List ℕ) → length text ≤ 65535
-    → (span : Span) × (stringAt (before ++ (stringBytes text ++ behind)) (length before) ≡ Text span)
+    → (span : Span) × (stringAnswer (stringAt (before ++ (stringBytes text ++ behind)) (length before)) ≡ gives span)
     × (partOf (before ++ (stringBytes text ++ behind)) span ≡ text)

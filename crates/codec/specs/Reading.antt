@@ -4,13 +4,13 @@ use mathlib.Core.Bool.{cond}
 use mathlib.Core.List.{List, [], _∷_}
 use lib.Dec.{eqb, leb, ltb}
 use lib.ListN.{length, take, drop}
+use Rattle.codec.specs.Answers.{numberIn, parsedAnswer}
 use Rattle.codec.specs.Header.{headerOf, subHeaderRead}
 use Rattle.codec.specs.Layouts.{leastOf, layoutAt}
 use Rattle.codec.specs.declared.header.MessageHeader.{MessageHeader}
 use Rattle.codec.specs.declared.header.SubmessageHeaderRead.{SubmessageHeaderRead}
 use Rattle.codec.specs.declared.header.SubmessageHeaderRead.the-variants as sub-header-read
 use Rattle.codec.specs.declared.layouts.Span.{Span}
-use Rattle.codec.specs.declared.layouts.Cursor.{Cursor}
 use Rattle.codec.specs.declared.layouts.Parsed.{Parsed}
 use Rattle.codec.specs.declared.layouts.Parsed.the-variants as parsed
 use Rattle.codec.specs.declared.reading.Checked.{Checked}
@@ -24,6 +24,7 @@ unfoldable pub partOf : List ℕ → Span → List ℕ
 partOf s x = cond (leb (x .start + x .len) (length s)) (take (x .len) (drop (x .start) s)) []
 
 -- "Per submessage: four header bytes, then the whole payload, then a known id, then the least length, then kind or status code."
+-- These rules stand here once: `read` gives what they say, and `check` goes by the number of the first failure.
 unfoldable pub payloadAt : List ℕ → ℕ → ℕ → ℕ → Parsed
 payloadAt s id p len =
     cond (ltb (length s) (p + len)) (parsed.Refused BufferTooShort)
@@ -37,6 +38,10 @@ behind s at (sub-header-read.Refused r) = parsed.Refused r
 
 unfoldable pub readAt : List ℕ → ℕ → Parsed
 readAt s at = behind s at (subHeaderRead s at)
+
+-- the number of the first failure of the submessage at a place, 0 where there is none
+unfoldable pub failureAt : List ℕ → ℕ → ℕ
+failureAt s at = numberIn (parsedAnswer (readAt s at))
 
 -- one submessage of a datagram: its fixed fields, and where its variable part stands
 pub record Item : Type 0 where

@@ -79,20 +79,20 @@ changedIf (check.Refused why) before after = before
 changedIf check.Passes before after = after
 
 -- "A repeated fragment replaces the body held." The answer says whether every fragment is there.
-unfoldable pub checkOf : ReassemblyBuffer → List ℕ → List ℕ → ℕ → List ℕ → Check
-checkOf b slots lengths nr body = insertCheck b (length slots) (length lengths) (getD lengths nr 0) nr (length body)
+unfoldable pub insertCheckOf : ReassemblyBuffer → List ℕ → List ℕ → ℕ → List ℕ → Check
+insertCheckOf b slots lengths nr body = insertCheck b (length slots) (length lengths) (getD lengths nr 0) nr (length body)
 
 unfoldable pub insertOf : ReassemblyBuffer → List ℕ → List ℕ → ℕ → List ℕ → Inserted
 insertOf b slots lengths nr body =
-    insertedIf (checkOf b slots lengths nr body)
+    insertedIf (insertCheckOf b slots lengths nr body)
     (inserted.Held (recounted b (getD lengths nr 0))
     (eqb (grown (b .«received_count») (getD lengths nr 0)) (b .«total_fragments»)))
 
 unfoldable pub insertSlots : ReassemblyBuffer → List ℕ → List ℕ → ℕ → List ℕ → List ℕ
-insertSlots b slots lengths nr body = changedIf (checkOf b slots lengths nr body) slots (putAt slots (nr * b .width) body)
+insertSlots b slots lengths nr body = changedIf (insertCheckOf b slots lengths nr body) slots (putAt slots (nr * b .width) body)
 
 unfoldable pub insertLengths : ReassemblyBuffer → List ℕ → List ℕ → ℕ → List ℕ → List ℕ
-insertLengths b slots lengths nr body = changedIf (checkOf b slots lengths nr body) lengths (set lengths nr (length body + 1))
+insertLengths b slots lengths nr body = changedIf (insertCheckOf b slots lengths nr body) lengths (set lengths nr (length body + 1))
 
 -- whether the fragment of that number is held: none is where the number isn't below the total, or the lengths end before it
 unfoldable pub hasFragment : ReassemblyBuffer → List ℕ → ℕ → Bool

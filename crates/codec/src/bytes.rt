@@ -1,6 +1,7 @@
 // Numbers of two bytes, and bytes written into a lent output.
 use crate::refusals::Refusal;
 ghost use mathlib.Core.Path.{_≡_};
+ghost use mathlib.Core.List.{_++_};
 ghost use Prim.Native.Nat.{_+_, _≤_};
 ghost use lib.Dec.{leb};
 ghost use lib.ListN.{length};
@@ -27,6 +28,15 @@ pub(crate) fn put_word(out: &mut [u8], at: usize, n: u16)
 {
     out[at] = (n % 256) as u8;
     out[at + 1] = (n / 256 % 256) as u8;
+}
+
+// Writes two numbers, one behind the other.
+pub(crate) fn put_two(out: &mut [u8], at: usize, a: u16, b: u16)
+    requires { ⌜ at + 4 ≤ length (now out) ⌝ }
+    ensures { λ _. ⌜ now (out .exit) ≡ putAt (now (out .entry)) at (le16 a ++ le16 b) ⌝ }
+{
+    put_word(out, at, a);
+    put_word(out, at + 2, b);
 }
 
 // Writes `src` from `at` on: one loop over two slices of one length, which becomes wide moves.

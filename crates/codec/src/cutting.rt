@@ -1,14 +1,14 @@
 // Cutting a payload into fragments: number, total, body.
 use crate::bytes::Written;
 use crate::bytes::copy_in;
-use crate::bytes::put_word;
+use crate::bytes::put_two;
 use crate::bytes::word_at;
 use crate::refusals::Refusal;
 ghost use mathlib.Core.Path.{_≡_};
 ghost use mathlib.Core.List.{[]};
-ghost use Prim.Native.Nat.{_*_, _≤_, _<_};
+ghost use Prim.Native.Nat.{_*_, _<_};
 ghost use lib.ListN.{length, take, drop};
-ghost use Rattle.codec.specs.Bytes.{putAt, putOf, putBytes};
+ghost use Rattle.codec.specs.Bytes.{putOf, putBytes};
 ghost use Rattle.codec.specs.Cutting.{fragmentBytes, fragmentHeaderOf, countOf, fragmentOf, fragmentOut};
 
 pub struct FragmentHeader {
@@ -49,16 +49,8 @@ impl FragmentHeader {
         if out.len() < 4 {
             return Written::Refused(Refusal::OutputTooShort);
         }
-        self.put(out);
+        put_two(out, 0, self.fragment_nr, self.total_fragments);
         Written::Bytes(4)
-    }
-
-    fn put(self, out: &mut [u8])
-        requires { ⌜ 4 ≤ length (now out) ⌝ }
-        ensures { λ _. ⌜ now (out .exit) ≡ putAt (now (out .entry)) 0 (fragmentBytes (self .«fragment_nr») (self .«total_fragments») []) ⌝ }
-    {
-        put_word(out, 0, self.fragment_nr);
-        put_word(out, 2, self.total_fragments);
     }
 
     // The header and the body behind it, or 13 and no byte.
@@ -72,7 +64,7 @@ impl FragmentHeader {
         if out.len() - 4 < body.len() {
             return Written::Refused(Refusal::OutputTooShort);
         }
-        self.put(out);
+        put_two(out, 0, self.fragment_nr, self.total_fragments);
         copy_in(out, 4, body);
         Written::Bytes(4 + body.len())
     }

@@ -20,7 +20,7 @@ ghost use mathlib.Core.Path.{_≡_};
 ghost use Prim.Native.Nat.{_+_, _≤_, _<_, _^_};
 ghost use lib.ListN.{length};
 ghost use Rattle.codec.specs.Bytes.{wordAt, quadAt};
-ghost use Rattle.codec.specs.Layouts.{leastOf, plain, bodied, createAt, statusAt, layoutAt};
+ghost use Rattle.codec.specs.Layouts.{leastOf, plainAt, bodiedAt, createAt, statusAt, layoutAt};
 ghost use Rattle.codec.specs.Layouts.{createClientAt, deleteAt, writeDataAt, readDataAt, dataAt, heartbeatAt, acknackAt};
 
 // A part of a datagram: `len` bytes from `start` on.
@@ -60,7 +60,7 @@ pub fn least_len(id: u8) -> u8
 // A layout with no variable part: bytes beyond it are ignored.
 fn plain_at(m: Submessage, p: usize, len: usize) -> Parsed
     requires { ⌜ p + len < 2 ^ 64 ⌝ }
-    ensures { λ r. ⌜ r ≡ plain m p len ⌝ }
+    ensures { λ r. ⌜ r ≡ plainAt m p len ⌝ }
 {
     Parsed::Sub(
         m,
@@ -75,7 +75,7 @@ fn plain_at(m: Submessage, p: usize, len: usize) -> Parsed
 // A layout whose variable part is all that follows its `fixed` bytes.
 fn bodied_at(m: Submessage, fixed: usize, p: usize, len: usize) -> Parsed
     requires { ⌜ (p + len < 2 ^ 64) × (fixed ≤ len) ⌝ }
-    ensures { λ r. ⌜ r ≡ bodied m fixed p len ⌝ }
+    ensures { λ r. ⌜ r ≡ bodiedAt m fixed p len ⌝ }
 {
     Parsed::Sub(
         m,

@@ -1,6 +1,7 @@
 // The wire of protocol.rs: what a datagram says, how one is written, strings and fragments.
 pub mod bytes;
 pub mod cutting;
+mod failures;
 pub mod header;
 pub mod layouts;
 pub mod reading;

@@ -5,6 +5,7 @@ ghost use mathlib.Core.Path.{_≡_};
 ghost use Rattle.codec.specs.Submessages.{kindByte, kindOf, codeByte, codeOf, idOf};
 
 // The number by which a session names an object. It is never a bridge handle.
+#[repr(C)]
 pub struct ObjectNumber(pub u16);
 
 pub enum ObjectKind {

@@ -3,6 +3,7 @@
 use crate::bytes::Written;
 use crate::bytes::copy_in;
 use crate::bytes::fits;
+use crate::bytes::put_two;
 use crate::bytes::put_word;
 use crate::header::MESSAGE_HEADER_SIZE;
 use crate::header::MessageHeader;
@@ -24,13 +25,6 @@ ghost use Rattle.codec.specs.Writing.{fixedBytes, bodyLen, payloadBytes,
 // A length on the wire has two bytes.
 pub const MAX_PAYLOAD: usize = 65535;
 
-// The fixed bytes of a layout are as many as its least length.
-fn fixed_len(m: Submessage) -> usize
-    ensures { λ r. ⌜ r ≡ leastOf (idOf m) ⌝ }
-{
-    least_len(m.id()) as usize
-}
-
 // How much of a body of `n` bytes the submessage carries: all of it, or nothing where its layout has no variable part.
 fn body_len(m: Submessage, n: usize) -> usize
     ensures { λ r. ⌜ r ≡ bodyLen m n ⌝ }
@@ -48,11 +42,12 @@ fn body_len(m: Submessage, n: usize) -> usize
     }
 }
 
+// The fixed bytes of a layout are as many as its least length.
 fn payload_len(m: Submessage, n: usize) -> usize
     requires { ⌜ n < 2 ^ 63 ⌝ }
     ensures { λ r. ⌜ r ≡ leastOf (idOf m) + bodyLen m n ⌝ }
 {
-    fixed_len(m) + body_len(m, n)
+    least_len(m.id()) as usize + body_len(m, n)
 }
 
 // CREATE_CLIENT's key and properties.
@@ -63,14 +58,6 @@ fn put_client(out: &mut [u8], at: usize, key: u32, properties: u8)
     put_word(out, at, (key % 65536) as u16);
     put_word(out, at + 2, (key / 65536) as u16);
     out[at + 4] = properties;
-}
-
-fn put_two(out: &mut [u8], at: usize, a: u16, b: u16)
-    requires { ⌜ at + 4 ≤ length (now out) ⌝ }
-    ensures { λ _. ⌜ now (out .exit) ≡ putAt (now (out .entry)) at (le16 a ++ le16 b) ⌝ }
-{
-    put_word(out, at, a);
-    put_word(out, at + 2, b);
 }
 
 fn put_marked(out: &mut [u8], at: usize, n: ObjectNumber, mark: u8)
@@ -111,7 +98,7 @@ fn put_payload(out: &mut [u8], at: usize, m: Submessage, body: &[u8])
     requires { ⌜ at + length (payloadBytes m (now body)) ≤ length (now out) ⌝ }
     ensures { λ _. ⌜ now (out .exit) ≡ putAt (now (out .entry)) at (payloadBytes m (now (body .entry))) ⌝ }
 {
-    let fixed = fixed_len(m);
+    let fixed = least_len(m.id()) as usize;
     let n = body_len(m, body.len());
     put_fixed(out, at, m);
     copy_in(out, at + fixed, &body[..n]);

@@ -1,5 +1,6 @@
 // The lines of many datagrams, one behind the other on standard input, each led by its length (4 bytes, low byte first).
 // tools/datagrams.py makes the input and, by its own reading of the layouts, what is to be printed.
+use codec::bytes::Written;
 use libc::STDIN_FILENO;
 use libc::STDOUT_FILENO;
 ghost use mathlib.Core.Path.{_≡_};
@@ -10,6 +11,9 @@ ghost use lib.ListN.{length};
 const MOST: usize = 1000;
 
 const ROOM: usize = 70000;
+
+// Room for its lines: a submessage has 4 bytes at least, and its line 22 at most.
+const LINES: usize = 400000;
 
 // The length that leads a datagram, and no more than there is room for.
 fn length_of(lead: &[u8; 4]) -> usize {
@@ -26,8 +30,11 @@ fn wide(x: u8) -> usize
 // Prints the lines of the first `n` bytes.
 fn show(datagram: &[u8], n: usize, out: &mut [u8]) {
     if n <= datagram.len() {
-        let k = listing::lines(&datagram[..n], out);
-        io::write_all(STDOUT_FILENO, &out[..k]);
+        match listing::lines(&datagram[..n], out) {
+            Written::Bytes(k) => io::write_all(STDOUT_FILENO, &out[..k]),
+            Written::Refused(_) => io::write_all(STDOUT_FILENO, b"refused 13\n"),
+        }
+        ;
     }
 }
 
@@ -59,14 +66,8 @@ fn all(datagram: &mut [u8], out: &mut [u8]) {
     }
 }
 
-fn room() -> [u8; ROOM]
-    ensures { λ r. ⌜ 70000 ≡ length r ⌝ }
-{
-    [0; ROOM]
-}
-
 fn main() {
-    let mut datagram = room();
-    let mut out = io::large_buffer();
+    let mut datagram = [0u8; ROOM];
+    let mut out = [0u8; LINES];
     all(&mut datagram, &mut out);
 }

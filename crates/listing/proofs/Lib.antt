@@ -2,4 +2,5 @@
 pub mod Decimal
 pub mod Counts
 pub mod InOrder
+pub mod Room
 pub mod Cases

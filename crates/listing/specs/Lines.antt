@@ -1,8 +1,10 @@
 -- Document 01, the small program: the lines that say what a datagram says.
-use Prim.Native.Nat.{ℕ, _+_, _-_, _≤_}
+use Prim.Native.Nat.{ℕ, _+_, _-_, _*_, _≤_, _<_}
 use mathlib.Core.Path.{_≡_}
 use mathlib.Core.List.{List, [], _∷_, _++_}
 use lib.ListN.{length}
+use Rattle.codec.specs.Answers.{gives, writtenAnswer}
+use Rattle.codec.specs.Bytes.{AllBytes, putOf}
 use Rattle.codec.specs.Refusals.{numberOf}
 use Rattle.codec.specs.Submessages.{idOf}
 use Rattle.codec.specs.Reading.{Item, Items, items, stopped, Message, message, refused, messageOf, readAt}
@@ -64,3 +66,10 @@ listed (stopped r) = []
 abbrev pub InOrder : List ℕ → ℕ → List Item → Type 0
 InOrder s at [] = length s ≤ at
 InOrder s at (x ∷ xs) = (readAt s at ≡ Sub (x .says) (x .span) (record { at = endOf x })) × InOrder s (endOf x) xs
+
+-- a submessage has 4 bytes at least and its line 22 at most, with 35 bytes for the first and the last line: so the lines of the small
+-- program's 4,096 bytes fit in the 65,536 that it lends
+abbrev pub LinesFit : Type 0
+LinesFit =
+    (s out : List ℕ) → AllBytes s → length s < 100000 → 22 * length s + 140 ≤ 4 * length out
+    → writtenAnswer (putOf out 0 (linesOf s)) ≡ gives (length (linesOf s))

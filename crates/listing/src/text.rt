@@ -1,5 +1,5 @@
-// Text put into a lent output a piece at a time; what has no place in it any more is left out.
-ghost use mathlib.Core.Path.{_≡_};
+// Text put into a lent output a piece at a time. A byte that has no place is left out, and what follows it is past the end: the
+// place behind the last byte tells whether all of them fit. Where `write` is false nothing is written, and the text is only measured.
 ghost use mathlib.Core.List.{[], _∷_};
 ghost use Rattle.listing.specs.Text.{Put};
 ghost use Rattle.listing.specs.Decimal.{decimalOf};
@@ -13,71 +13,62 @@ const NEWLINE: u8 = 10;
 const ZERO: u8 = 48;
 
 // One byte at `at`.
-fn put_byte(out: &mut [u8], at: usize, b: u8) -> usize
-    ensures { λ r. ⌜ Put (now (out .entry)) at (b ∷ []) r (now (out .exit)) ⌝ }
+fn put_byte(out: &mut [u8], at: usize, b: u8, write: bool) -> usize
+    ensures { λ r. ⌜ Put write (now (out .entry)) at (b ∷ []) r (now (out .exit)) ⌝ }
 {
-    if at < out.len() {
+    if out.len() < at {
+        return at;
+    }
+    if at == out.len() {
+        return at + 1;
+    }
+    if write {
         out[at] = b;
         return at + 1;
     }
-    at
+    at + 1
 }
 
-// A word from `at` on.
-fn put_word(out: &mut [u8], at: usize, word: &[u8]) -> usize
-    ensures { λ r. ⌜ Put (now (out .entry)) at (now (word .entry)) r (now (out .exit)) ⌝ }
+// Bytes from `at` on.
+fn put_text(out: &mut [u8], at: usize, text: &[u8], write: bool) -> usize
+    ensures { λ r. ⌜ Put write (now (out .entry)) at (now (text .entry)) r (now (out .exit)) ⌝ }
 {
     let mut end = at;
     let mut i = 0;
-    while i < word.len() {
-        end = put_byte(out, end, word[i]);
+    while i < text.len() {
+        end = put_byte(out, end, text[i], write);
         i += 1;
     }
     end
 }
 
 // The digits of `n` from `at` on: those of its tenth part first.
-fn put_decimal(out: &mut [u8], at: usize, n: usize) -> usize
-    ensures { λ r. ⌜ Put (now (out .entry)) at (decimalOf n) r (now (out .exit)) ⌝ }
+fn put_decimal(out: &mut [u8], at: usize, n: usize, write: bool) -> usize
+    ensures { λ r. ⌜ Put write (now (out .entry)) at (decimalOf n) r (now (out .exit)) ⌝ }
 {
     if n < 10 {
-        return put_byte(out, at, ZERO + n as u8);
+        return put_byte(out, at, ZERO + n as u8, write);
     }
-    let end = put_decimal(out, at, n / 10);
-    put_byte(out, end, ZERO + (n % 10) as u8)
+    let end = put_decimal(out, at, n / 10, write);
+    put_byte(out, end, ZERO + (n % 10) as u8, write)
 }
 
-// A space and a number.
-fn put_field(out: &mut [u8], at: usize, n: usize) -> usize
-    ensures { λ r. ⌜ Put (now (out .entry)) at (32 ∷ decimalOf n) r (now (out .exit)) ⌝ }
-{
-    let end = put_byte(out, at, SPACE);
-    put_decimal(out, end, n)
-}
-
-// A line of a word and one number.
-pub(crate) fn put_one(out: &mut [u8], at: usize, word: &[u8], n: usize) -> usize
-    ensures { λ r. ⌜ Put (now (out .entry)) at (lineOf (now (word .entry)) (n ∷ [])) r (now (out .exit)) ⌝ }
-{
-    let a = put_word(out, at, word);
-    let b = put_field(out, a, n);
-    put_byte(out, b, NEWLINE)
-}
-
-// A line of a word and three numbers.
-pub(crate) fn put_three(
+// A line: a word, and each number behind a space.
+pub(crate) fn put_line(
     out: &mut [u8],
     at: usize,
     word: &[u8],
-    x: usize,
-    y: usize,
-    z: usize,
+    numbers: &[usize],
+    write: bool,
 ) -> usize
-    ensures { λ r. ⌜ Put (now (out .entry)) at (lineOf (now (word .entry)) (x ∷ y ∷ z ∷ [])) r (now (out .exit)) ⌝ }
+    ensures { λ r. ⌜ Put write (now (out .entry)) at (lineOf (now (word .entry)) (now (numbers .entry))) r (now (out .exit)) ⌝ }
 {
-    let a = put_word(out, at, word);
-    let b = put_field(out, a, x);
-    let c = put_field(out, b, y);
-    let d = put_field(out, c, z);
-    put_byte(out, d, NEWLINE)
+    let mut end = put_text(out, at, word, write);
+    let mut i = 0;
+    while i < numbers.len() {
+        end = put_byte(out, end, SPACE, write);
+        end = put_decimal(out, end, numbers[i], write);
+        i += 1;
+    }
+    put_byte(out, end, NEWLINE, write)
 }

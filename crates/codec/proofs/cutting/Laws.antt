@@ -181,11 +181,10 @@ pub length-fragment : (nr total : ℕ) (body : List ℕ) → length (fragmentByt
 unfolding fragmentBytes le16
 length-fragment nr total body = omega arith
 
-pub put-header : (out : List ℕ) (nr total : ℕ) → putAt (putAt out 0 (le16 nr)) 2 (le16 total) ≡ putAt out 0 (fragmentBytes nr total [])
+pub header-bytes : (nr total : ℕ) → le16 nr ++ le16 total ≡ fragmentBytes nr total []
 unfolding fragmentBytes le16
-put-header out nr total = put-behind out 0 (le16 nr) (le16 total) (omega arith)
+header-bytes nr total = refl
 
-pub put-body : (out : List ℕ) (nr total : ℕ) (body : List ℕ)
-    → putAt (putAt out 0 (fragmentBytes nr total [])) 4 body ≡ putAt out 0 (fragmentBytes nr total body)
+pub put-body : (out : List ℕ) (nr total : ℕ) (body : List ℕ) → putAt (putAt out 0 (le16 nr ++ le16 total)) 4 body ≡ putAt out 0 (fragmentBytes nr total body)
 unfolding fragmentBytes le16
-put-body out nr total body = put-behind out 0 (fragmentBytes nr total []) body (omega arith)
+put-body out nr total body = put-behind out 0 (le16 nr ++ le16 total) body (omega arith)

@@ -1,15 +1,16 @@
 -- Laws of reading: each answer to a payload, that a submessage ends behind its header and within the datagram,
 -- and the submessages of a datagram one at a time.
 use Prim.Native.Nat.{ℕ, zero, suc, _+_, _-_, _≤_, _<_}
-use mathlib.Core.Path.{_≡_, refl, sym, _∙_, ap}
-use mathlib.Core.Bool.{Bool, true, false, cond}
-use mathlib.Core.List.{List, [], _∷_}
+use mathlib.Core.Path.{_≡_, refl}
+use mathlib.Core.Bool.{true}
+use mathlib.Core.List.{List, []}
 use native.Mathlib.Decide.{decLe}
 use native.Mathlib.Nat.{lt-of-not-le}
 use native.Mathlib.Omega.{arith}
-use borrow.Author.Tests.{lt-ltb, le-ltb, le-leb, lt-leb, ne-eqb, eq-eqb, eqb-true, ltb-true, ltb-false, eqb-false}
+use borrow.Author.Tests.{lt-ltb, le-ltb, le-leb, lt-leb, ne-eqb, eq-eqb, eqb-true, ltb-false}
 use lib.Dec.{eqb, ltb}
-use lib.ListN.{length}
+use lib.ListN.{getD, length}
+use Rattle.codec.specs.Bytes.{wordAt}
 use Rattle.codec.specs.Header.{headerOf, subHeaderRead, subHeaderOf}
 use Rattle.codec.specs.Layouts.{leastOf, layoutAt, createAt, createOf, statusAt, statusOf}
 use Rattle.codec.specs.Submessages.{kindOf, codeOf}
@@ -31,7 +32,7 @@ use Rattle.codec.specs.declared.submessages.CodeRead.{CodeRead}
 use Rattle.codec.specs.declared.submessages.CodeRead.the-variants as code-read
 use Rattle.codec.specs.declared.submessages.Submessage.{Submessage}
 use Rattle.codec.proofs.Either.{either}
-use Rattle.codec.proofs.header.Laws.{sub-header-is}
+use Rattle.codec.proofs.header.Laws.{sub-header-there, sub-header-short}
 use Rattle.codec.proofs.layouts.Laws.{enough}
 
 -- ---- a payload: its four answers
@@ -95,7 +96,7 @@ placed s at p len m x c e h d = record { ahead = omega (arith, d .0); within = o
 
 -- whatever a payload says, it ends where the payload does
 module _ (s : List ℕ) (id p len : ℕ) where
-  payload-ends : p + len ≤ length s → Ends (p + len) (payloadAt s id p len)
+  pub payload-ends : p + len ≤ length s → Ends (p + len) (payloadAt s id p len)
   unfolding payloadAt
   payload-ends h =
       let E = Ends (p + len) in
@@ -109,6 +110,17 @@ module _ (s : List ℕ) (id p len : ℕ) where
         | yes h ↦ (h, rw e at (payload-ends h))
         | no h ↦ let z : _≡_ {A = ℕ} 0 1 = cc (payload-cut s id p len (lt-of-not-le h)) in absurd (omega arith)
       ]
+
+-- ---- a submessage: its header, then its payload
+
+-- where the header of a submessage stands, reading goes by its id and its length
+pub read-payload : (s : List ℕ) (at id len : ℕ) → at + 4 ≤ length s → getD s at 0 ≡ id → wordAt s (at + 2) ≡ len → readAt s at ≡ payloadAt s id (at + 4) len
+unfolding readAt subHeaderOf
+read-payload s at id len h i l = rw (← sub-header-there s at h, i, l)
+
+pub read-short : (s : List ℕ) (at : ℕ) → length s < at + 4 → Refused BufferTooShort ≡ readAt s at
+unfolding readAt
+read-short s at h = rw (← sub-header-short s at h)
 
 read-behind : (s : List ℕ) (at : ℕ) (q : SubmessageHeaderRead) → subHeaderRead s at ≡ q → (m : Submessage) (x : Span) (c : Cursor)
     → behind s at q ≡ Sub m x c → Placed s at x c

@@ -10,14 +10,14 @@ use lib.Dec.{ltb, eqb}
 use lib.ListN.{getD, length, take, drop, set, replicate, length-set, length-append, length-replicate}
 use lib.Seq.{length-take-le, getD-take, getD-set-same, getD-set-other, take-set-lt, take-at}
 use Rattle.codec.specs.Bytes.{putAt}
-use Rattle.codec.specs.Reassembly.{underNeed, newLengths, storeOver, grown, slotOver, insertCheck, checkOf, isPast, anyOf}
-use Rattle.codec.specs.Inserts.{Store, Piece, insertInto, inserts, Slot, free, holds, slotsOf, lastOf}
+use Rattle.codec.specs.Reassembly.{underNeed, newLengths, storeOver, grown, slotOver, insertCheck, insertCheckOf, isPast}
+use Rattle.codec.specs.Inserts.{Store, Piece, insertInto, inserts, Slot, free, holds, slotsOf, Sound, lastOf}
 use Rattle.codec.specs.declared.reassembly.Check.the-variants as check
 use Rattle.codec.specs.declared.refusals.Refusal.{Refusal}
 use Rattle.codec.specs.declared.refusals.Refusal.the-variants.{FragmentNumber, StoreFull}
 use Rattle.codec.proofs.bytes.Laws.{length-put}
 use Rattle.codec.proofs.reassembly.Laws.{slot-ends, none-at, need-fits, new-made, insert-refused, insert-held}
-use Rattle.codec.proofs.reassembly.View.{heldIn, held-most, length-slots, within-set, slots-set, held-set, none-held, all-free, none-past}
+use Rattle.codec.proofs.reassembly.View.{held-most, length-slots, within-set, slots-set, held-set, none-held, all-free, none-past}
 
 module _ (total width : ℕ) where
   -- a store of that total and width
@@ -32,12 +32,8 @@ module _ (total width : ℕ) where
   abbrev pub view : List ℕ → List ℕ → List Slot
   view slots lengths = slotsOf width slots (take total lengths)
 
-  -- within its limits, and rightly counted
-  pub record Good (received : ℕ) (slots lengths : List ℕ) : Type 0 where
-    pub there : total * width ≤ length slots
-    pub entries : total ≤ length lengths
-    pub within : anyOf (isPast width) (take total lengths) ≡ false
-    pub counted : received ≡ heldIn (view slots lengths)
+  abbrev pub Good : ℕ → List ℕ → List ℕ → Type 0
+  Good received slots lengths = Sound (made received slots lengths)
 
   module _ {received : ℕ} {slots lengths : List ℕ} (good : Good received slots lengths) where
     pub length-view : length (view slots lengths) ≡ total
@@ -67,9 +63,9 @@ module _ (total width : ℕ) where
 
     -- it refuses only 10 and 14
     pub check-good : (nr : ℕ) (body : List ℕ) (t : Bool) → ltb nr total ≡ t
-        → checkOf (made received slots lengths .buffer) slots lengths nr body
+        → insertCheckOf (made received slots lengths .buffer) slots lengths nr body
         ≡ cond t (cond (ltb width (length body)) (check.Refused StoreFull) check.Passes) (check.Refused FragmentNumber)
-    unfolding checkOf insertCheck
+    unfolding insertCheckOf insertCheck
     check-good nr body true e = rw (store-good, e, slot-good nr (ltb-true nr total e))
     check-good nr body false e = rw (store-good, e)
 
@@ -84,7 +80,7 @@ module _ (total width : ℕ) where
 
   module _ {received : ℕ} {slots lengths : List ℕ} (good : Good received slots lengths) (p : Piece) where
     -- a refusal leaves all as it was
-    refuses : (why : Refusal) → checkOf (made received slots lengths .buffer) slots lengths (p .nr) (p .body) ≡ check.Refused why
+    refuses : (why : Refusal) → insertCheckOf (made received slots lengths .buffer) slots lengths (p .nr) (p .body) ≡ check.Refused why
         → (ltb (p .nr) total && not (ltb width (length (p .body)))) ≡ false → After received slots lengths p
     unfolding insertInto
     refuses why e out =
@@ -99,7 +95,7 @@ module _ (total width : ℕ) where
         }
 
     -- the body is kept
-    keeps : checkOf (made received slots lengths .buffer) slots lengths (p .nr) (p .body) ≡ check.Passes → p .nr < total → length (p .body) ≤ width
+    keeps : insertCheckOf (made received slots lengths .buffer) slots lengths (p .nr) (p .body) ≡ check.Passes → p .nr < total → length (p .body) ≤ width
         → (ltb (p .nr) total && not (ltb width (length (p .body)))) ≡ true → After received slots lengths p
     unfolding insertInto
     keeps e below small in-it =

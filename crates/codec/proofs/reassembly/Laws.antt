@@ -1,6 +1,6 @@
 -- Laws of a store's entries and checks, as the code meets them.
 use Prim.Native.Nat.{ℕ, zero, suc, _+_, _*_, _-_, _≤_, _<_}
-use mathlib.Core.Path.{_≡_, refl}
+use mathlib.Core.Path.{_≡_, refl, sym}
 use mathlib.Core.Bool.{Bool, true, false, cond, _||_, true≢false}
 use mathlib.Core.List.{List, [], _∷_, _++_}
 use native.Mathlib.Nat.{mul-le-mul, mul-le-mul-right, suc-mul}
@@ -12,7 +12,7 @@ use lib.ListN.{getD, length, take, drop, set, replicate, length-append, length-t
 use lib.Seq.{drop-cons, drop-drop, getD-take, length-take-le}
 use Rattle.codec.specs.Bytes.{putAt}
 use Rattle.codec.specs.Cutting.{joined}
-use Rattle.codec.specs.Reassembly.{underNeed, newOf, newLengths, storeOver, grown, recounted, slotOver, insertCheck, checkOf, insertOf, insertSlots, insertLengths, isFree, isPast, anyOf, bytesHeld, bodiesHeld, payloadOf, assembleCheck, assembleOf, assembleOut}
+use Rattle.codec.specs.Reassembly.{underNeed, newOf, newLengths, storeOver, grown, recounted, slotOver, insertCheck, insertCheckOf, insertOf, insertSlots, insertLengths, isFree, isPast, anyOf, bytesHeld, bodiesHeld, payloadOf, assembleCheck, assembleOf, assembleOut}
 use Rattle.codec.specs.declared.bytes.Written.the-variants as written
 use Rattle.codec.specs.declared.reassembly.ReassemblyBuffer.{ReassemblyBuffer}
 use Rattle.codec.specs.declared.reassembly.StoreMade.the-variants as made
@@ -76,6 +76,24 @@ pub none-at : (test : ℕ → Bool) (l : List ℕ) (n i : ℕ) → anyOf test (t
 none-at test l n i e below fits =
     let s = length-take-le n l fits in
     rw (← getD-take n l i 0 below) (none-in test (take n l) e i (omega arith))
+
+-- a search that says yes has found one
+any-step : (test : ℕ → Bool) (held : ℕ) (more : List ℕ) → (anyOf test more ≡ true → (k : ℕ) × (k < length more) × (test (getD more k 0) ≡ true))
+    → (t : Bool) → test held ≡ t → (t || anyOf test more) ≡ true → (k : ℕ) × (k < suc (length more)) × (test (getD (held ∷ more) k 0) ≡ true)
+any-step test held more found true e so = (0, omega arith, e)
+any-step test held more found false e so = let f = found so in (suc (f .0), omega (arith, f .1), f .2)
+
+any-in : (test : ℕ → Bool) (es : List ℕ) → anyOf test es ≡ true → (k : ℕ) × (k < length es) × (test (getD es k 0) ≡ true)
+unfolding anyOf
+any-in test [] e = absurd (true≢false (sym e))
+any-in test (held ∷ more) e = any-step test held more (any-in test more) (test held) refl e
+
+pub any-at : (test : ℕ → Bool) (l : List ℕ) (n : ℕ) → anyOf test (take n l) ≡ true → n ≤ length l → (k : ℕ) × (k < n) × (test (getD l k 0) ≡ true)
+any-at test l n e fits =
+    let f = any-in test (take n l) e in
+    let s = length-take-le n l fits in
+    let below : f .0 < n = omega (arith, f .1) in
+    (f .0, below, rw (getD-take n l (f .0) 0 below) at (f .2))
 
 -- a slot that isn't free holds a body, whose length fits
 module _ (l : List ℕ) (n i : ℕ) where
@@ -254,12 +272,12 @@ insert-fits b slots lengths held nr len e =
 
 -- each answer of `insert`
 module _ (b : ReassemblyBuffer) (slots lengths : List ℕ) (nr : ℕ) (body : List ℕ) where
-  pub insert-refused : (why : Refusal) → checkOf b slots lengths nr body ≡ check.Refused why
+  pub insert-refused : (why : Refusal) → insertCheckOf b slots lengths nr body ≡ check.Refused why
       → (inserted.Refused why ≡ insertOf b slots lengths nr body) × ((slots ≡ insertSlots b slots lengths nr body) × (lengths ≡ insertLengths b slots lengths nr body))
   unfolding insertOf insertSlots insertLengths
   insert-refused why e = rw e (refl, (refl, refl))
 
-  pub insert-held : checkOf b slots lengths nr body ≡ check.Passes
+  pub insert-held : insertCheckOf b slots lengths nr body ≡ check.Passes
       → (inserted.Held (recounted b (getD lengths nr 0)) (eqb (grown (b .«received_count») (getD lengths nr 0)) (b .«total_fragments»))
       ≡ insertOf b slots lengths nr body)
       × ((putAt slots (nr * b .width) body ≡ insertSlots b slots lengths nr body) × (set lengths nr (length body + 1) ≡ insertLengths b slots lengths nr body))

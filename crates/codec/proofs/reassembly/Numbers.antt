@@ -8,8 +8,7 @@ use borrow.Author.Tests.{le-ltb, eqb-true, eqb-false}
 use lib.Dec.{ltb, eqb}
 use lib.ListN.{getD, length, take}
 use lib.Seq.{take-suc, take-length}
-use Rattle.codec.specs.Inserts.{Slot, free, holds, lastOf, came, different, pieces}
-use Rattle.codec.proofs.reassembly.View.{heldIn}
+use Rattle.codec.specs.Inserts.{Slot, free, holds, heldIn, lastOf, came, different, pieces}
 
 -- one number more
 pub came-more : (k : ℕ) (nrs : List ℕ) (nr : ℕ) → came k (nrs ++ (nr ∷ [])) ≡ (came k nrs || eqb nr k)

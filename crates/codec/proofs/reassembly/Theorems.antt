@@ -1,68 +1,57 @@
 -- What is promised of a fragment store, for every list of inserts.
-use Prim.Native.Nat.{ℕ, _*_, _≤_, _<_}
+use Prim.Native.Nat.{ℕ, _*_, _≤_, _<_, min}
 use mathlib.Core.Path.{_≡_, refl, sym, ap, _∙_}
 use mathlib.Core.Bool.{Bool, true, false, cond, _||_, or-true, or-false}
 use mathlib.Core.List.{List, [], _∷_, _++_, map}
-use native.Mathlib.Nat.{zero-mul}
+use native.Mathlib.Decide.{decLe}
+use native.Mathlib.Nat.{zero-mul, lt-of-not-le, min-le-left, min-le-right}
 use native.Mathlib.Omega.{arith}
 use borrow.Author.Tests.{lt-ltb, le-ltb, eqb-true, eqb-false}
 use lib.Dec.{eqb}
-use lib.ListN.{getD, length, take, drop, set, length-set, length-map, List·getD-map, length-take}
+use lib.ListN.{getD, length, take, drop, set, length-set, length-map, List·getD-map, List·getD-eq-default, length-take, length-drop}
 use lib.Seq.{ext-getD, length-take-le, getD-take, getD-set-same, getD-set-other}
+use Rattle.codec.specs.Answers.{gives, refusedAs, madeAnswer, insertedAnswer}
 use Rattle.codec.specs.Bytes.{putOf, putBytes}
 use Rattle.codec.specs.Cutting.{bodies, joined}
-use Rattle.codec.specs.Reassembly.{underNeed, newOf, newLengths, storeOver, grown, checkOf, insertOf, insertedIf, anyOf, hasFragment, bodiesHeld, payloadOf, assembleCheck, assembleOf, assembleOut}
-use Rattle.codec.specs.Inserts.{Store, Piece, insertInto, inserts, free, holds, slotsIn, lastOf, came, different, pieces, storeAfter, AllCame, Rebuilds}
-use Rattle.codec.specs.declared.bytes.Written.the-variants as written
+use Rattle.codec.specs.Reassembly.{newOf, newLengths, storeOver, underNeed, grown, insertCheckOf, insertOf, insertedIf, anyOf, hasFragment, bodiesHeld, payloadOf, assembleCheck, assembleOf, assembleOut}
+use Rattle.codec.specs.Inserts.{Store, Piece, insertInto, inserts, free, holds, slotsIn, lastOf, came, different, pieces, storeAfter, AllCame, Rebuilds, Tells, Rebuild}
 use Rattle.codec.specs.declared.reassembly.ReassemblyBuffer.{ReassemblyBuffer}
-use Rattle.codec.specs.declared.reassembly.StoreMade.the-variants as made-answer
 use Rattle.codec.specs.declared.reassembly.Inserted.the-variants as inserted
 use Rattle.codec.specs.declared.reassembly.Check.{Check}
 use Rattle.codec.specs.declared.reassembly.Check.the-variants as check
 use Rattle.codec.specs.declared.refusals.Refusal.{Refusal}
-use Rattle.codec.specs.declared.refusals.Refusal.the-variants.{MissingFragments, OverLimit}
 use Rattle.codec.proofs.cutting.Laws.{body-at, joined-bodies}
-use Rattle.codec.proofs.reassembly.Laws.{insert-refused, insert-held, assemble-refused}
-use Rattle.codec.proofs.reassembly.View.{held-set, bodyIn, bodies-of-slots, all-held, isHeld, held-entry}
-use Rattle.codec.proofs.reassembly.Inserts.{made, view, Good, length-view, store-good, check-good, run, new-good, new-free}
+use Rattle.codec.proofs.reassembly.Laws.{insert-refused, insert-held}
+use Rattle.codec.proofs.reassembly.View.{held-set, bodyIn, bodies-of-slots, isHeld, held-entry}
+use Rattle.codec.proofs.reassembly.Inserts.{made, view, Good, length-view, check-good, run, new-good, new-free}
+use Rattle.codec.proofs.reassembly.Held.{new-tells, sound-tells}
 use Rattle.codec.proofs.reassembly.Numbers.{came-more, different-all, different-less, held-different, arrives}
 
 -- An insert that is refused changes nothing, whatever the store.
-refused-check : (c : Check) (b : ReassemblyBuffer) (all : Bool) (why : Refusal) → insertedIf c (inserted.Held b all) ≡ inserted.Refused why
-    → c ≡ check.Refused why
-refused-check (check.Refused other) b all why e = cc
-refused-check check.Passes b all why e = let z : _≡_ {A = ℕ} 0 1 = cc in absurd (omega arith)
+refused-check : (c : Check) (b : ReassemblyBuffer) (all : Bool) (number byte : ℕ) → insertedAnswer (insertedIf c (inserted.Held b all)) ≡ refusedAs number byte
+    → (why : Refusal) × (c ≡ check.Refused why)
+refused-check (check.Refused why) b all number byte e = (why, refl)
+refused-check check.Passes b all number byte e = let z : _≡_ {A = ℕ} 0 1 = cc in absurd (omega arith)
 
-pub refused-keeps : (st : Store) (p : Piece) (why : Refusal)
-    → insertOf (st .buffer) (st .slots) (st .lengths) (p .nr) (p .body) ≡ inserted.Refused why → insertInto st p ≡ st
+pub refused-keeps : (st : Store) (p : Piece) (number byte : ℕ)
+    → insertedAnswer (insertOf (st .buffer) (st .slots) (st .lengths) (p .nr) (p .body)) ≡ refusedAs number byte → insertInto st p ≡ st
 unfolding insertInto insertOf
-refused-keeps st p why e =
-    let c = refused-check (checkOf (st .buffer) (st .slots) (st .lengths) (p .nr) (p .body)) _ _ why e in
-    let q = insert-refused (st .buffer) (st .slots) (st .lengths) (p .nr) (p .body) why c in
+refused-keeps st p number byte e =
+    let c = refused-check (insertCheckOf (st .buffer) (st .slots) (st .lengths) (p .nr) (p .body)) _ _ number byte e in
+    let q = insert-refused (st .buffer) (st .slots) (st .lengths) (p .nr) (p .body) (c .0) (c .1) in
     rw (← q .0, ← q .1 .0, ← q .1 .1)
 
--- What `new` tells of the store that it made.
-new-picks : (t : Bool) (a b : ReassemblyBuffer) → cond t (made-answer.Refused OverLimit) (made-answer.Store a) ≡ made-answer.Store b
-    → (t ≡ false) × (a ≡ b)
-new-picks false a b e = (refl, cc)
-new-picks true a b e = let z : _≡_ {A = ℕ} 0 1 = cc in absurd (omega arith)
-
-module _ (total width : ℕ) (slots lengths : List ℕ) (buffer : ReassemblyBuffer) (new : newOf total width slots lengths ≡ made-answer.Store buffer) where
-  new-tells : (underNeed total width (length slots) (length lengths) ≡ false) × (made total width 0 slots lengths .buffer ≡ buffer)
-  unfolding newOf
-  new-tells = new-picks (underNeed total width (length slots) (length lengths)) (made total width 0 slots lengths .buffer) buffer new
-
+module _ (total width : ℕ) (slots lengths : List ℕ) (buffer : ReassemblyBuffer) (new : madeAnswer (newOf total width slots lengths) ≡ gives buffer) where
   -- A repeated fragment replaces the body held: after any inserts into a new store, slot k holds the body of the last with that number.
   pub last-held : (ps : List Piece) (k : ℕ) → k < total
       → getD (slotsIn (inserts (record { buffer = buffer; slots = slots; lengths = newLengths total width slots lengths }) ps)) k free ≡ lastOf width k ps free
-  unfolding slotsIn
   last-held ps k h =
-      let t = new-tells in
+      let t = new-tells total width slots lengths buffer new in
       let r = run total width 0 slots (newLengths total width slots lengths) (new-good total width slots lengths (t .0)) ps in
       rw (← t .1, r .is) (r .last k h ∙ ap (lastOf width k ps) (new-free total width slots lengths (t .0) k))
 
 -- A store for 0 fragments is complete from the start and assembles to nothing.
-pub none-asked : (width : ℕ) (slots lengths : List ℕ) → newOf 0 width slots lengths ≡ made-answer.Store (made 0 width 0 slots lengths .buffer)
+pub none-asked : (width : ℕ) (slots lengths : List ℕ) → madeAnswer (newOf 0 width slots lengths) ≡ gives (made 0 width 0 slots lengths .buffer)
 unfolding newOf underNeed
 none-asked width slots lengths = rw (zero-mul width, le-ltb (length slots) 0 (omega arith), le-ltb (length lengths) 0 (omega arith))
 
@@ -93,17 +82,13 @@ module _ (bs : List (List ℕ)) (payload : List ℕ) (width : ℕ) (joins : join
       rw (lt-ltb k (length bs) below, ← getD-take (length bs) lengths k 0 below, ← held-entry width slots (take (length bs) lengths) k (omega arith), so k below)
       (held-if (getD bs k []) (came k nrs))
 
+  tells : Tells (made (length bs) width received slots lengths)
+  tells = sound-tells (made (length bs) width received slots lengths) good
+
   -- every number has come
   module _ (all : AllCame (length bs) nrs) where
     full : received ≡ length bs
     full = count ∙ different-all (length bs) nrs all
-
-    check-passes : assembleCheck (made (length bs) width received slots lengths .buffer) (length slots) lengths ≡ check.Passes
-    unfolding assembleCheck
-    check-passes =
-        let n = length-take-le (length bs) lengths (good .entries) in
-        let held = all-held width slots (take (length bs) lengths) (sym (good .counted) ∙ full ∙ sym n) in
-        rw (store-good (length bs) width good, good .within, le-ltb received (length bs) (omega (arith, full)), held)
 
     bodies-are : bodiesHeld width slots (take (length bs) lengths) ≡ bs
     unfolding bodyIn
@@ -117,24 +102,13 @@ module _ (bs : List (List ℕ)) (payload : List ℕ) (width : ℕ) (joins : join
     assembles : (out : List ℕ)
         → (assembleOf (made (length bs) width received slots lengths .buffer) slots lengths out ≡ putOf out 0 payload)
         × (assembleOut (made (length bs) width received slots lengths .buffer) slots lengths out ≡ putBytes out 0 payload)
-    unfolding assembleOf assembleOut payloadOf
-    assembles out = rw (check-passes, bodies-are, joins) (refl, refl)
+    unfolding payloadOf
+    assembles out = rw (bodies-are, joins) at (tells .whole (λ k h. has k h ∙ all k h) out)
 
   -- a number is missing
   module _ (k : ℕ) (below : k < length bs) (gone : came k nrs ≡ false) where
     lacks : received < length bs
     lacks = rw count (different-less (length bs) nrs k below gone)
-
-    check-missing : assembleCheck (made (length bs) width received slots lengths .buffer) (length slots) lengths ≡ check.Refused MissingFragments
-    unfolding assembleCheck
-    check-missing = rw (store-good (length bs) width good, good .within, lt-ltb received (length bs) lacks)
-
-    refuses : (out : List ℕ)
-        → (assembleOf (made (length bs) width received slots lengths .buffer) slots lengths out ≡ written.Refused MissingFragments)
-        × (assembleOut (made (length bs) width received slots lengths .buffer) slots lengths out ≡ out)
-    refuses out =
-        let q = assemble-refused (made (length bs) width received slots lengths .buffer) slots lengths out MissingFragments check-missing in
-        (sym (q .0), sym (q .1))
 
   -- one fragment more
   module _ (k : ℕ) (below : k < length bs) where
@@ -160,28 +134,40 @@ module _ (bs : List (List ℕ)) (payload : List ℕ) (width : ℕ) (joins : join
         rw (good .counted, ← getD-take (length bs) lengths k 0 below, ← held-set width (getD bs k []) slots (take (length bs) lengths) k (omega arith)) (after ∙ rw l)
 
     answers : (after : ReassemblyBuffer)
-        × (insertOf (made (length bs) width received slots lengths .buffer) slots lengths k (getD bs k [])
-        ≡ inserted.Held after (eqb (different (length bs) (nrs ++ (k ∷ []))) (length bs)))
+        × (insertedAnswer (insertOf (made (length bs) width received slots lengths .buffer) slots lengths k (getD bs k []))
+        ≡ gives (after, eqb (different (length bs) (nrs ++ (k ∷ []))) (length bs)))
     answers =
-        let e : checkOf (made (length bs) width received slots lengths .buffer) slots lengths k (getD bs k []) ≡ check.Passes =
+        let e : insertCheckOf (made (length bs) width received slots lengths .buffer) slots lengths k (getD bs k []) ≡ check.Passes =
         check-good (length bs) width good k (getD bs k []) true (lt-ltb k (length bs) below) ∙ rw (le-ltb width (length (getD bs k [])) (fits k)) in
         let q = insert-held (made (length bs) width received slots lengths .buffer) slots lengths k (getD bs k []) e in
-        (made (length bs) width (grown received (getD lengths k 0)) slots lengths .buffer, sym (q .0) ∙ rw grown-is)
+        (made (length bs) width (grown received (getD lengths k 0)) slots lengths .buffer, ap insertedAnswer (sym (q .0)) ∙ rw grown-is)
 
   rebuilds : Rebuilds bs payload (made (length bs) width received slots lengths) nrs
-  rebuilds = record { total = refl; count = count; has = has; complete = full; incomplete = lacks; whole = assembles; missing = refuses; answers = answers }
+  rebuilds = record { total = refl; count = count; has = has; complete = full; incomplete = lacks; whole = assembles; missing = λ k below gone. tells .missing k below (has k below ∙ gone); answers = answers }
 
--- Fragments rebuild the payload, in any order and however often, and not before: for every payload, every size above 0 and every store that
--- `new` made for the cut's total, with slots as wide as its bodies.
-pub rebuild : (size : ℕ) (payload : List ℕ) (width : ℕ) (slots lengths : List ℕ) (buffer : ReassemblyBuffer) (nrs : List ℕ) → 0 < size → size ≤ width
-    → newOf (length (bodies size payload)) width slots lengths ≡ made-answer.Store buffer
-    → Rebuilds (bodies size payload) payload (storeAfter buffer width slots lengths (bodies size payload) nrs) nrs
+-- a number past the last body has none, which fits too
+bodies-fit : (bs : List (List ℕ)) (width : ℕ) → ((k : ℕ) → k < length bs → length (getD bs k []) ≤ width) → (k : ℕ) → length (getD bs k []) ≤ width
+bodies-fit bs width fits k =
+    elim (decLe (length bs) k) [
+      | yes h ↦ rw (List·getD-eq-default bs [] h) (omega arith)
+      | no h ↦ fits k (lt-of-not-le h)
+    ]
+
+pub rebuild : Rebuild
 unfolding storeAfter
-rebuild size payload width slots lengths buffer nrs some wide new =
+rebuild size payload width slots lengths buffer nrs some small new =
     let bs = bodies size payload in
-    let fits : (k : ℕ) → length (getD bs k []) ≤ width = λ k. rw (body-at size some payload k, length-take size (drop (k * size) payload)) (omega arith) in
+    let fits = bodies-fit bs width small in
     let t = new-tells (length bs) width slots lengths buffer new in
     let r = run (length bs) width 0 slots (newLengths (length bs) width slots lengths) (new-good (length bs) width slots lengths (t .0)) (pieces bs nrs) in
     rw (← t .1, r .is)
     (rebuilds bs payload width (joined-bodies size some payload) fits nrs (r .count) (r .bytes) (r .sizes) (r .good)
     (λ k h. r .last k h ∙ ap (lastOf width k (pieces bs nrs)) (new-free (length bs) width slots lengths (t .0) k) ∙ arrives width bs k (fits k) nrs))
+
+-- bodies fit where the size does, and where the whole payload does
+pub size-fits : (size : ℕ) (payload : List ℕ) (width : ℕ) → 0 < size → min size (length payload) ≤ width
+    → (k : ℕ) → length (getD (bodies size payload) k []) ≤ width
+size-fits size payload width some wide k =
+    let d = length-drop (k * size) payload in
+    let t = length-take size (drop (k * size) payload) in
+    rw (body-at size some payload k) (omega (arith, min-le-left size (length (drop (k * size) payload)), min-le-right size (length (drop (k * size) payload))))

@@ -1,7 +1,7 @@
 -- Laws of the slots that a store's entries describe: an insert sets one slot, and the count is the number of slots that hold a body.
 use Prim.Native.Nat.{ℕ, zero, suc, _+_, _*_, _-_, _≤_, _<_}
 use mathlib.Core.Path.{_≡_, refl, sym, ap, _∙_}
-use mathlib.Core.Bool.{Bool, true, false, cond, not}
+use mathlib.Core.Bool.{Bool, true, false, cond, not, true≢false}
 use mathlib.Core.List.{List, [], _∷_, _++_, map, append-assoc}
 use native.Mathlib.Nat.{zero-mul, zero-add, suc-mul, add-comm, add-assoc}
 use native.Mathlib.Numerals.{add-one}
@@ -11,7 +11,7 @@ use lib.ListN.{getD, length, take, drop, set, replicate, length-drop}
 use lib.Seq.{length-take-le, take-append-seam, take-append-le, drop-append-le, drop-append-add, take-take, take-add, drop-drop, drop-at}
 use Rattle.codec.specs.Bytes.{putAt}
 use Rattle.codec.specs.Reassembly.{isFree, isPast, anyOf, grown, bodiesHeld}
-use Rattle.codec.specs.Inserts.{Slot, free, holds, slotsOf}
+use Rattle.codec.specs.Inserts.{Slot, free, holds, slotsOf, heldIn}
 use Rattle.codec.proofs.reassembly.Laws.{neither, slot-ends}
 
 -- parts of an output before, at and behind a write
@@ -39,12 +39,6 @@ module _ (out : List ℕ) (x : List ℕ) where
       let f : drop n (take (n + m) out) ≡ take m (drop n out) = rw (take-add n m out) (drop-at (take n out) (take m (drop n out)) n (length-take-le n out (omega arith))) in
       let g : drop (n + m + length x) out ≡ drop (m + length x) (drop n out) = rw (add-assoc n m (length x)) (sym (drop-drop (m + length x) n out)) in
       rw (append-assoc (take (n + m) out) x (drop (n + m + length x) out), drop-append-le n (take (n + m) out) (x ++ drop (n + m + length x) out) (omega arith), f, g) (sym (append-assoc (take m (drop n out)) x (drop (m + length x) (drop n out))))
-
--- how many slots hold a body
-unfoldable pub heldIn : List Slot → ℕ
-heldIn [] = 0
-heldIn (free ∷ more) = heldIn more
-heldIn (holds body ∷ more) = suc (heldIn more)
 
 pub held-most : (v : List Slot) → heldIn v ≤ length v
 unfolding heldIn
@@ -160,6 +154,19 @@ all-held width slots [] e = refl
 all-held width slots (held ∷ more) e =
     let t = all-held-step (take (held - 1) slots) (slotsOf width (drop width slots) more) (length more) (isFree held) (length-slots width (drop width slots) more) e in
     rw (t .0) (all-held width (drop width slots) more (t .1))
+
+-- and where none is free every slot holds one
+counted-step : (b : List ℕ) (v : List Slot) (n : ℕ) → heldIn v ≡ n → (t : Bool) → t ≡ false → heldIn (cond t free (holds b) ∷ v) ≡ suc n
+unfolding heldIn
+counted-step b v n e true z = absurd (true≢false z)
+counted-step b v n e false z = ap suc e
+
+pub none-free : (width : ℕ) (slots es : List ℕ) → anyOf isFree es ≡ false → heldIn (slotsOf width slots es) ≡ length es
+unfolding slotsOf anyOf heldIn
+none-free width slots [] e = refl
+none-free width slots (held ∷ more) e =
+    let t = neither (isFree held) (anyOf isFree more) e in
+    counted-step (take (held - 1) slots) (slotsOf width (drop width slots) more) (length more) (none-free width (drop width slots) more (t .1)) (isFree held) (t .0)
 
 -- a new store: no slot holds a body
 pub none-held : (width n : ℕ) (slots : List ℕ) → heldIn (slotsOf width slots (replicate n 0)) ≡ 0

@@ -1,5 +1,5 @@
 -- `datagram::main` is safe and ends: no more of the output is written than the lines fill.
-use Rattle.listing.proofs.Counts.{filled-counts}
+use Rattle.listing.proofs.Counts.{lines-within}
 use borrow.Author.Needs.{needs}
 use Rattle.datagram.proofs.main.Statement.{statement}
 use Rattle.datagram.proofs.main.Tie as tie
@@ -28,17 +28,32 @@ slice-aggregate-lines-2 c = search needs
 lines-requires : tie.Need-lines-requires
 lines-requires c κs = search needs
 
+enum-known-k : tie.Need-enum-known-k
+enum-known-k c = search needs
+
 array-share-prefix-out : tie.Need-array-share-prefix-out
-array-share-prefix-out c = filled-counts _ _ _ _ (c .before .lines .ensures) .0
+array-share-prefix-out c = lines-within _ _ _ _ _ (c .before .before .before .before .lines .ensures) (c .before .k .given .1) .0
 
 slice-aggregate-write-all : tie.Need-slice-aggregate-write-all
-slice-aggregate-write-all c = filled-counts _ _ _ _ (c .before .before .lines .ensures) .1
+slice-aggregate-write-all c = lines-within _ _ _ _ _ (c .before .before .before .before .before .lines .ensures) (c .before .before .k .given .1) .1
 
 write-all-requires : tie.Need-write-all-requires
 write-all-requires c κs = search needs
 
+enum-told : tie.Need-enum-told
+enum-told c = search needs
+
+slice-aggregate-write-all-2 : tie.Need-slice-aggregate-write-all-2
+slice-aggregate-write-all-2 c = search needs
+
+write-all-requires-2 : tie.Need-write-all-requires-2
+write-all-requires-2 c κs = search needs
+
 returns : tie.Need-returns
 returns c = search needs
+
+returns-2 : tie.Need-returns-2
+returns-2 c = search needs
 
 pub main-spec : {M : Type 1} → statement M
 main-spec =
@@ -52,7 +67,12 @@ main-spec =
     slice-aggregate-lines
     slice-aggregate-lines-2
     lines-requires
+    enum-known-k
     array-share-prefix-out
     slice-aggregate-write-all
     write-all-requires
-    returns)
+    enum-told
+    slice-aggregate-write-all-2
+    write-all-requires-2
+    returns
+    returns-2)

@@ -1,6 +1,6 @@
 -- The lines of a datagram, a submessage at a time: how the listing goes on, and what the codec's check tells of it.
 use Prim.Native.Nat.{ℕ, _+_, _-_, _≤_, _<_}
-use mathlib.Core.Path.{_≡_, refl, sym, ap, _∙_}
+use mathlib.Core.Path.{_≡_, refl, sym, _∙_}
 use mathlib.Core.Bool.{Bool, true, false, cond}
 use mathlib.Core.List.{List, [], _∷_, _++_, append-assoc, append-nil}
 use native.Mathlib.Omega.{arith}
@@ -18,7 +18,7 @@ use Rattle.codec.specs.declared.reading.Checked.the-variants as checked
 use Rattle.codec.specs.declared.refusals.Refusal.{Refusal}
 use Rattle.codec.specs.declared.refusals.Refusal.the-variants.{BufferTooShort}
 use Rattle.codec.specs.declared.submessages.Submessage.{Submessage}
-use Rattle.codec.proofs.reading.Laws.{items-more, items-end, Placed, read-placed}
+use Rattle.codec.proofs.reading.Laws.{items-more, items-end, read-placed}
 use Rattle.listing.specs.Text.{Put}
 use Rattle.listing.specs.Lines.{lineOf, headerWord, subWord, endWord, refusedWord, subLine, subLines, endOf, shown, linesOf, listed}
 use Rattle.listing.proofs.text.Laws.{put-none, put-then}
@@ -26,30 +26,30 @@ use Rattle.listing.proofs.text.Laws.{put-none, put-then}
 -- ---- the submessages, a line for each
 
 -- a listing that has come to `here`: what is left, what is put, and that both make the whole
-pub record Going (s out₀ : List ℕ) (at : ℕ) (out : List ℕ) (end here : ℕ) : Type 0 where
+pub record Going (write : Bool) (s out₀ : List ℕ) (at : ℕ) (out : List ℕ) (end here : ℕ) : Type 0 where
   pub rest : List Item
   pub done : List ℕ
   pub left : itemsAt s here ≡ items rest
-  pub put : Put out₀ at done end out
+  pub put : Put write out₀ at done end out
   pub whole : done ++ subLines here rest ≡ subLines 4 (listed (itemsAt s 4))
 
-pub going-none : (s out : List ℕ) (at : ℕ) → itemsAt s 4 ≡ items (listed (itemsAt s 4)) → Going s out at out at 4
-going-none s out at h = record { rest = listed (itemsAt s 4); done = []; left = h; put = put-none out at; whole = refl }
+pub going-none : (write : Bool) (s out : List ℕ) (at : ℕ) → itemsAt s 4 ≡ items (listed (itemsAt s 4)) → Going write s out at out at 4
+going-none write s out at h = record { rest = listed (itemsAt s 4); done = []; left = h; put = put-none write out at; whole = refl }
 
 pub before-items : (x : Item) (i : Items) (rest : List Item) → before x i ≡ items rest → (i ≡ items (listed i)) × (rest ≡ x ∷ listed i)
 before-items x (items xs) rest e = (refl, cc)
 before-items x (stopped r) rest e = let z : _≡_ {A = ℕ} 0 1 = cc in absurd (omega arith)
 
-module _ (s out₀ : List ℕ) (at : ℕ) (out : List ℕ) (end here : ℕ) (g : Going s out₀ at out end here) where
+module _ (write : Bool) (s out₀ : List ℕ) (at : ℕ) (out : List ℕ) (end here : ℕ) (g : Going write s out₀ at out end here) where
   pub going-sub : (m : Submessage) (x : Span) (c : Cursor) (end′ : ℕ) (out′ : List ℕ) → here < length s → readAt s here ≡ Sub m x c
-      → Put out end (lineOf subWord (idOf m ∷ here ∷ (c .at - (here + 4)) ∷ [])) end′ out′ → Going s out₀ at out′ end′ (c .at)
+      → Put write out end (lineOf subWord (idOf m ∷ here ∷ (c .at - (here + 4)) ∷ [])) end′ out′ → Going write s out₀ at out′ end′ (c .at)
   unfolding subLine subLines
   going-sub m x c end′ out′ k e p =
       let i : Item = record { says = m; span = x } in
       let closed : endOf i ≡ c .at = read-placed s here m x c e .closed in
       let more : before i (itemsAt s (c .at)) ≡ items (g .rest) = sym (rw e at (items-more s here k)) ∙ g .left in
       let split = before-items i (itemsAt s (c .at)) (g .rest) more in
-      let line : Put out end (subLine here i) end′ out′ = rw closed p in
+      let line : Put write out end (subLine here i) end′ out′ = rw closed p in
       let same : (g .done ++ subLine here i) ++ subLines (c .at) (listed (itemsAt s (c .at))) ≡ g .done ++ subLines here (g .rest)
       = append-assoc (g .done) (subLine here i) _ ∙ rw (split .1, closed) in
       record {
@@ -67,7 +67,7 @@ module _ (s out₀ : List ℕ) (at : ℕ) (out : List ℕ) (end here : ℕ) (g :
       let z : _≡_ {A = ℕ} 0 1 = cc (g .left) in
       omega arith
 
-  pub going-end : length s ≤ here → Put out₀ at (subLines 4 (listed (itemsAt s 4))) end out
+  pub going-end : length s ≤ here → Put write out₀ at (subLines 4 (listed (itemsAt s 4))) end out
   unfolding subLines
   going-end k =
       let none : items [] ≡ items (g .rest) = sym (items-end s here k) ∙ g .left in

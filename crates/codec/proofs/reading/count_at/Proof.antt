@@ -1,13 +1,12 @@
 -- `codec::reading::count_at` meets its contract. The invariant: what is left from here, added to what was counted, is the whole.
-use Prim.Native.Nat.{_≤_, _-_, _+_}
+use Prim.Native.Nat.{_≤_, _<_, _-_}
 use mathlib.Core.Path.{_≡_, sym, _∙_}
-use mathlib.Core.List.{[]}
 use native.Mathlib.Omega.{arith}
 use borrow.Author.Needs.{needs}
 use lib.ListN.{length}
-use Rattle.codec.specs.Reading.{itemsAt, countAt, readAt}
-use Rattle.codec.specs.declared.layouts.Parsed.the-variants.{Sub}
-use Rattle.codec.proofs.reading.Laws.{counted, counted-none, counted-sub, counted-stopped, counted-end, Placed, read-placed}
+use Rattle.codec.specs.Reading.{itemsAt, countAt, failureAt}
+use Rattle.codec.proofs.failures.Laws.{MetAt, read-met, counted-met}
+use Rattle.codec.proofs.reading.Laws.{counted, counted-none, counted-stopped, counted-end}
 use Rattle.codec.proofs.reading.count_at.Statement.{statement}
 use Rattle.codec.proofs.reading.count_at.Tie as tie
 
@@ -21,40 +20,55 @@ loop-holds : tie.Need-loop-holds Inv-loop μ-loop
 unfolding countAt
 loop-holds c = (omega arith, counted-none (c .before .args .header) (itemsAt (c .before .args .s .now) (c .before .args .from)))
 
-read-requires : tie.Need-read-requires Inv-loop μ-loop
-read-requires c κs = tt
+failure-at-requires : tie.Need-failure-at-requires Inv-loop μ-loop
+failure-at-requires c κs = tt
 
-enum-known-next : tie.Need-enum-known-next Inv-loop μ-loop
-enum-known-next c = search needs
+-- the loop goes on where bytes are left, and ends where none are
+more : (c : tie.In-loop Inv-loop μ-loop) → c .before .loop .at < length (c .before .before .before .args .s .now)
+more c = omega arith
 
--- a submessage more
-was : (c : tie.After-next Inv-loop μ-loop) → readAt (c .before .before .before .before .before .before .args .s .now) (c .before .before .before .before .loop .at) ≡ Sub (c .next .given .0 .0) (c .next .given .0 .1 .0) (c .next .given .0 .1 .1 .0)
-was c = sym (c .before .before .read .ensures) ∙ c .next .given .1
+ended : (c : tie.After-loop Inv-loop μ-loop) → length (c .before .before .before .args .s .now) ≤ c .before .loop .at
+ended c = omega arith
 
-there : (c : tie.After-next Inv-loop μ-loop) → Placed (c .before .before .before .before .before .before .args .s .now) (c .before .before .before .before .loop .at) (c .next .given .0 .1 .0) (c .next .given .0 .1 .1 .0)
-there c = read-placed _ _ _ _ _ (was c)
+-- no failure: the submessage is there, and the next begins behind its payload
+none : (c : tie.Else1 Inv-loop μ-loop) → failureAt (c .before .before .before .before .before .args .s .now) (c .before .before .before .loop .at) ≡ 0
+none c = sym (c .before .failure-at .ensures) ∙ c .if1 .left
 
-add-n : tie.Need-add-n Inv-loop μ-loop
-add-n c = omega (arith, there (c .before))
+met : (c : tie.Else1 Inv-loop μ-loop) → MetAt (c .before .before .before .before .before .args .s .now) (c .before .before .before .loop .at)
+met c = read-met _ _ (none c)
 
-loop-less : tie.Need-loop-less Inv-loop μ-loop
-loop-less c = omega (arith, there (c .before))
-
-loop-again : tie.Need-loop-again Inv-loop μ-loop
-loop-again c = (
-  omega (arith, there (c .before)),
-  sym (counted-sub _ _ _ _ _ _ _ (c .before .before .before .before .loop-test .taken) (was (c .before))) ∙ c .before .before .before .before .before .loop .inv .1,
-)
-
-enum-known-r : tie.Need-enum-known-r Inv-loop μ-loop
-enum-known-r c = search needs
+refusal-at-requires : tie.Need-refusal-at-requires Inv-loop μ-loop
+refusal-at-requires c κs = (sym (c .before .failure-at .ensures), omega (arith, c .if1 .taken))
 
 returns : tie.Need-returns Inv-loop μ-loop
-returns c =
-    sym (counted-stopped _ _ _ _ _ (c .before .before .before .before .loop-test .taken) (sym (c .before .before .before .read .ensures) ∙ c .before .r .given .1)) ∙ c .before .before .before .before .before .loop .inv .1
+returns c = sym (counted-stopped _ _ _ _ _ (more (c .before .before .before)) (sym (c .refusal-at .ensures))) ∙ c .before .before .before .before .loop .inv .1
+
+add-at : tie.Need-add-at Inv-loop μ-loop
+add-at c = omega (arith, met c .room)
+
+add-word-at : tie.Need-add-word-at Inv-loop μ-loop
+add-word-at c = omega (arith, met c .room)
+
+word-at-requires : tie.Need-word-at-requires Inv-loop μ-loop
+word-at-requires c κs = omega (arith, met c .room)
+
+cast-at : tie.Need-cast-at Inv-loop μ-loop
+cast-at c = search needs
+
+add-at-2 : tie.Need-add-at-2 Inv-loop μ-loop
+add-at-2 c = omega (arith, met (c .before) .room, c .word-at .ensures)
+
+add-n : tie.Need-add-n Inv-loop μ-loop
+add-n c = omega (arith, met (c .before) .room, c .before .before .before .before .loop .inv .0)
+
+loop-less : tie.Need-loop-less Inv-loop μ-loop
+loop-less c = omega (arith, met (c .before) .room, c .word-at .ensures)
+
+loop-again : tie.Need-loop-again Inv-loop μ-loop
+loop-again c = (omega arith, rw (c .word-at .ensures) (sym (counted-met _ _ _ _ (more (c .before .before .before)) (none (c .before))) ∙ c .before .before .before .before .loop .inv .1))
 
 returns-2 : tie.Need-returns-2 Inv-loop μ-loop
-returns-2 c = sym (counted-end _ _ _ _ (c .loop-test .left)) ∙ c .before .loop .inv .1
+returns-2 c = sym (counted-end _ _ _ _ (ended c)) ∙ c .before .loop .inv .1
 
 pub count-at-spec : {M : Type 1} → statement M
 count-at-spec =
@@ -63,11 +77,15 @@ count-at-spec =
     Inv-loop
     μ-loop
     loop-holds
-    read-requires
-    enum-known-next
+    failure-at-requires
+    refusal-at-requires
+    returns
+    add-at
+    add-word-at
+    word-at-requires
+    cast-at
+    add-at-2
     add-n
     loop-less
     loop-again
-    enum-known-r
-    returns
     returns-2)

@@ -1,47 +1,55 @@
--- `codec::reading::read` meets its contract: the header first, then what stands behind it.
+-- `codec::reading::read` meets its contract: the refusal of the first failure, or what the layout says where there is none.
 use mathlib.Core.Path.{sym, _∙_}
 use native.Mathlib.Omega.{arith}
-use Rattle.codec.specs.Reading.{readAt}
-use Rattle.codec.proofs.header.Laws.{sub-header-is}
+use Rattle.codec.proofs.failures.Laws.{MetAt, read-met}
 use borrow.Author.Needs.{needs}
 use Rattle.codec.proofs.reading.read.Statement.{statement}
 use Rattle.codec.proofs.reading.read.Tie as tie
 
-parse-requires : tie.Need-parse-requires
-parse-requires c κs = search needs
+met : (c : tie.Else1) → MetAt (c .before .before .before .args .s .now) (c .before .before .before .args .c .at)
+met c = read-met _ _ (sym (c .before .failure-at .ensures) ∙ c .if1 .left)
 
-enum-known-h : tie.Need-enum-known-h
-enum-known-h c = search needs
+failure-at-requires : tie.Need-failure-at-requires
+failure-at-requires c κs = search needs
 
-add-payload-at : tie.Need-add-payload-at
-add-payload-at c = omega (arith, sub-header-is _ _ _ (sym (c .before .before .before .parse .ensures) ∙ c .before .h .given .1))
-
-cast-payload-at : tie.Need-cast-payload-at
-cast-payload-at c = search needs
-
-payload-at-requires : tie.Need-payload-at-requires
-payload-at-requires c κs = omega (arith, sub-header-is _ _ _ (sym (c .before .before .before .before .parse .ensures) ∙ c .before .before .h .given .1))
-
-enum-known-r : tie.Need-enum-known-r
-enum-known-r c = search needs
+refusal-at-requires : tie.Need-refusal-at-requires
+refusal-at-requires c κs = search needs
 
 returns : tie.Need-returns
-unfolding readAt
-returns c = rw (← c .before .before .before .before .before .parse .ensures, c .before .before .before .h .given .1) (c .payload-at .ensures)
+returns c = search needs
+
+add-word-at : tie.Need-add-word-at
+add-word-at c = omega (arith, met c .room)
+
+word-at-requires : tie.Need-word-at-requires
+word-at-requires c κs = omega (arith, met c .room)
+
+cast-len : tie.Need-cast-len
+cast-len c = search needs
+
+shared-slice-read-layout-at : tie.Need-shared-slice-read-layout-at
+shared-slice-read-layout-at c = omega (arith, met (c .before .before) .room)
+
+add-layout-at : tie.Need-add-layout-at
+add-layout-at c = omega (arith, met (c .before .before) .room)
+
+layout-at-requires : tie.Need-layout-at-requires
+layout-at-requires c κs = rw (c .before .word-at .ensures) (met (c .before .before) .room, met (c .before .before) .least)
 
 returns-2 : tie.Need-returns-2
-unfolding readAt
-returns-2 c = rw (← c .before .before .before .parse .ensures, c .before .r .given .1)
+returns-2 c = c .layout-at .ensures ∙ rw (c .before .before .word-at .ensures) (met (c .before .before .before) .laid)
 
 pub read-spec : {M : Type 1} → statement M
 read-spec =
     tie.close
     (tie.spec
-    parse-requires
-    enum-known-h
-    add-payload-at
-    cast-payload-at
-    payload-at-requires
-    enum-known-r
+    failure-at-requires
+    refusal-at-requires
     returns
+    add-word-at
+    word-at-requires
+    cast-len
+    shared-slice-read-layout-at
+    add-layout-at
+    layout-at-requires
     returns-2)

@@ -1,5 +1,4 @@
 -- `listing::text::put_decimal` meets its contract. The measure is the number: its tenth part is less.
-use mathlib.Core.Path.{_≡_, sym}
 use native.Mathlib.Omega.{arith}
 use borrow.Author.Needs.{needs}
 use Rattle.listing.proofs.Decimal.{decimal-one, decimal-more}

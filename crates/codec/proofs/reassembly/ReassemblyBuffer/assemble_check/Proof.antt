@@ -36,7 +36,7 @@ returns-3 c = assemble-past _ _ _ (enough (c .before .before .before .before)) (
 returns-4 : tie.Need-returns-4
 returns-4 c =
     let past = sym (c .before .before .before .any-past .ensures) ∙ c .before .before .if3 .left in
-    assemble-few _ _ _ (enough (c .before .before .before .before .before .before)) (omega arith) past (c .if4 .taken)
+    assemble-few _ _ _ (enough (c .before .before .before .before .before .before)) (omega arith) past (omega arith)
 
 any-free-requires : tie.Need-any-free-requires
 any-free-requires c κs = need-fits _ _ _ _ (enough (c .before .before .before .before .before .before)) .1

@@ -4,7 +4,7 @@ use mathlib.Core.Path.{_≡_, sym, ap, _∙_}
 use native.Mathlib.Nat.{le-trans, lt-of-lt-of-le}
 use native.Mathlib.Omega.{arith}
 use lib.ListN.{length, getD}
-use Rattle.codec.specs.Reassembly.{grown, checkOf}
+use Rattle.codec.specs.Reassembly.{grown, insertCheckOf}
 use Rattle.codec.specs.declared.reassembly.Check.the-variants as check
 use Rattle.codec.proofs.reassembly.Laws.{slot-ends, Fits, insert-fits, insert-refused, insert-held}
 use borrow.Author.Needs.{needs}
@@ -31,15 +31,15 @@ abbrev start : tie.After-enum-told → tie.Start
 start c = c .before .before .before .before .before .before .before .before
 
 passed : (c : tie.After-enum-told)
-    → checkOf (start c .args .self) (start c .args .slots .now) (start c .args .lengths .now) (start c .args .«fragment-nr») (start c .args .body .now)
+    → insertCheckOf (start c .args .self) (start c .args .slots .now) (start c .args .lengths .now) (start c .args .«fragment-nr») (start c .args .body .now)
     ≡ check.Passes
-unfolding checkOf
+unfolding insertCheckOf
 passed c = rw (c .before .before .before .entry-at .ensures) at (sym (c .before .before .insert-check .ensures) ∙ c .enum-told .given .1)
 
 fits : (c : tie.After-enum-told)
     → Fits (start c .args .self) (length (start c .args .slots .now)) (length (start c .args .lengths .now))
     (getD (start c .args .lengths .now) (start c .args .«fragment-nr») 0) (start c .args .«fragment-nr») (length (start c .args .body .now))
-unfolding checkOf
+unfolding insertCheckOf
 fits c = insert-fits _ _ _ _ _ _ (passed c)
 
 -- its slot is within the slots
@@ -88,7 +88,7 @@ same-length : tie.Need-same-length
 same-length c = search needs
 
 returns : tie.Need-returns
-unfolding checkOf
+unfolding insertCheckOf
 returns c =
     insert-refused _ _ _ _ _ _
     (rw (c .before .before .before .before .entry-at .ensures) at (sym (c .before .before .before .insert-check .ensures) ∙ c .before .r .given .1))

@@ -1,11 +1,11 @@
--- `codec::writing::put_two` meets its contract.
+-- `codec::bytes::put_two` meets its contract.
 use mathlib.Core.Path.{_∙_}
 use native.Mathlib.Omega.{arith}
 use Rattle.codec.specs.Bytes.{le16}
 use Rattle.codec.proofs.bytes.Laws.{put-behind}
 use borrow.Author.Needs.{needs}
-use Rattle.codec.proofs.writing.put_two.Statement.{statement}
-use Rattle.codec.proofs.writing.put_two.Tie as tie
+use Rattle.codec.proofs.bytes.put_two.Statement.{statement}
+use Rattle.codec.proofs.bytes.put_two.Tie as tie
 
 put-word-requires : tie.Need-put-word-requires
 put-word-requires c κs = search needs

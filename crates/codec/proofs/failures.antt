@@ -1,0 +1,2 @@
+-- Laws of failures.
+pub mod Laws

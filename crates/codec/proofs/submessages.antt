@@ -1,0 +1,2 @@
+-- Laws of kinds and codes.
+pub mod Laws
