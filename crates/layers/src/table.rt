@@ -1,31 +1,38 @@
 // Commands for the session table.
+use crate::names;
+use crate::names::say;
 use crate::print::end_line;
+use crate::print::key;
 use crate::print::line;
 use crate::print::line_1;
-use crate::print::line_3;
-use crate::print::put_key;
-use crate::print::put_name;
-use crate::print::put_number;
+use crate::print::number;
 use crate::print::refused;
-use crate::print::wide_8;
+use crate::print::wide;
 use crate::print::yes;
+use crate::stream::counters;
+use crate::words::Command;
 use crate::words::between;
+use crate::words::low_8;
 use codec::bytes::Written;
 use sessions::opening::Counted;
 use sessions::opening::Created;
 use sessions::opening::create_session;
 use sessions::opening::len;
+use sessions::session_streams::StreamNamed;
 use sessions::session_streams::StreamOpened;
+use sessions::session_streams::StreamRead;
 use sessions::session_streams::open_stream;
 use sessions::session_streams::read_stream;
+use sessions::stream_rows::StreamRow;
 use sessions::sweep::evict_expired;
 use sessions::table::ClientSession;
+use sessions::table::Got;
 use sessions::table::Named;
+use sessions::table::SessionRow;
 use sessions::table::get;
 use sessions::table::remove;
-use sessions::table::session_at;
 use sessions::table::touch;
-use streams::state::StreamState;
+ghost use Prim.Native.Nat.{_<_};
 
 // What a table is set up with, and the id from which the next free one is looked for.
 pub struct Limits {
@@ -34,203 +41,213 @@ pub struct Limits {
     pub next: u8,
 }
 
-// The limits after a command, and the place of the next byte of the answer.
-pub struct Tabled {
-    pub limits: Limits,
-    pub at: usize,
+// An empty table: whatever session was live is ended.
+fn clear(sessions: &mut [SessionRow]) {
+    let mut id: u8 = 0;
+    while id < 255 {
+        id += 1;
+        remove(sessions, id);
+    }
 }
 
-pub fn limits_of(max_clients: usize, timeout_ms: u64) -> Limits {
+fn new_table(c: Command, sessions: &mut [SessionRow]) -> Limits {
+    clear(sessions);
+    line(names::OK);
     Limits {
-        max_clients,
-        timeout_ms,
+        max_clients: c.first as usize,
+        timeout_ms: c.second,
         next: 1,
     }
 }
 
-// An empty table: no session is live.
-pub fn clear(sessions: &mut [[u64; 5]]) {
-    let mut i = 0;
-    while i < sessions.len() {
-        sessions[i] = [0, 0, 0, 0, 0];
-        i += 1;
-    }
+fn wide_32(b: u8) -> u32
+    ensures { λ r. ⌜ r < 256 ⌝ }
+{
+    b as u32
 }
 
-pub fn create(
-    l: Limits,
-    key: u32,
-    time: u64,
-    sessions: &mut [[u64; 5]],
-    streams: &mut [[u16; 35]],
-    out: &mut [u8],
-    at: usize,
-) -> Tabled {
-    match create_session(sessions, streams, l.max_clients, l.next, key, time) {
+// A client's key: four bytes as one number, low byte first.
+fn key_of(bytes: &[u8]) -> u32 {
+    if bytes.len() < 4 {
+        return 0;
+    }
+    let low = wide_32(bytes[0]) + 256 * wide_32(bytes[1]);
+    low + 65536 * wide_32(bytes[2]) + 16777216 * wide_32(bytes[3])
+}
+
+fn create(
+    c: Command,
+    client_key: u32,
+    limits: Limits,
+    sessions: &mut [SessionRow],
+    streams: &mut [StreamRow],
+) -> Limits {
+    let l = limits;
+    match create_session(
+        sessions,
+        streams,
+        l.max_clients,
+        l.next,
+        client_key,
+        c.second,
+    ) {
         Created::Opened { id, next } => {
-            let mut limits = l;
-            limits.next = next;
-            Tabled {
-                limits,
-                at: line_1(out, at, b"session", id as u64),
+            line_1(names::SESSION, id as u64);
+            Limits {
+                max_clients: l.max_clients,
+                timeout_ms: l.timeout_ms,
+                next,
             }
         }
-        Created::Refused(r) => Tabled {
-            limits: l,
-            at: refused(out, at, r),
-        },
+        Created::Refused(r) => {
+            refused(r);
+            limits
+        }
     }
 }
 
 // The name where the session is live.
-fn named(n: Named, name: &[u8], out: &mut [u8], at: usize) -> usize {
+fn named(n: Named, name: usize) {
     match n {
-        Named::Live => line(out, at, name),
-        Named::NotLive => line(out, at, b"absent"),
-        Named::Refused(r) => refused(out, at, r),
+        Named::Live => line(name),
+        Named::NotLive => line(names::ABSENT),
+        Named::Refused(r) => refused(r),
     }
 }
 
-pub fn touch_session(
-    id: u8,
-    time: u64,
-    sessions: &mut [[u64; 5]],
-    out: &mut [u8],
-    at: usize,
-) -> usize {
-    let n = touch(sessions, id, time);
-    named(n, b"ok", out, at)
+fn touch_session(c: Command, sessions: &mut [SessionRow]) {
+    named(touch(sessions, low_8(c.first), c.second), names::OK);
 }
 
-pub fn remove_session(id: u8, sessions: &mut [[u64; 5]], out: &mut [u8], at: usize) -> usize {
-    let n = remove(sessions, id);
-    named(n, b"removed", out, at)
+fn remove_session(c: Command, sessions: &mut [SessionRow]) {
+    named(remove(sessions, low_8(c.first)), names::REMOVED);
 }
 
-pub fn expired(
-    id: u8,
-    timeout_ms: u64,
-    time: u64,
-    sessions: &[[u64; 5]],
-    out: &mut [u8],
-    at: usize,
-) -> usize {
-    let n = get(sessions, id);
-    match n {
-        Named::Live => {
-            let gone = session_at(sessions, id).is_expired(time, timeout_ms);
-            yes(out, at, gone)
-        }
-        Named::NotLive => line(out, at, b"absent"),
-        Named::Refused(r) => refused(out, at, r),
+fn expired(c: Command, sessions: &[SessionRow]) {
+    match get(sessions, low_8(c.first)) {
+        Got::Session(s) => yes(s.is_expired(c.third, c.second)),
+        Got::NotLive => line(names::ABSENT),
+        Got::Refused(r) => refused(r),
     }
 }
 
-fn ids(swept: &[u8], out: &mut [u8], at: usize) -> usize {
-    let mut next = put_name(out, at, b"swept");
+fn swept(ids: &[u8]) {
+    say(names::SWEPT);
     let mut i = 0;
-    while i < swept.len() {
-        next = put_number(out, next, wide_8(swept[i]));
+    while i < ids.len() {
+        number(wide(ids[i]));
         i += 1;
     }
-    end_line(out, next)
+    end_line();
 }
 
-pub fn sweep(
-    timeout_ms: u64,
-    time: u64,
-    sessions: &mut [[u64; 5]],
-    made: &mut [u8],
-    out: &mut [u8],
-    at: usize,
-) -> usize {
-    match evict_expired(sessions, time, timeout_ms, made) {
-        Written::Bytes(n) => ids(between(made, 0, n), out, at),
-        Written::Refused(r) => refused(out, at, r),
+fn sweep(c: Command, timeout_ms: u64, sessions: &mut [SessionRow]) {
+    let mut ids = [0u8; 255];
+    match evict_expired(sessions, c.first, timeout_ms, &mut ids) {
+        Written::Bytes(n) => swept(between(&ids, 0, n)),
+        Written::Refused(r) => refused(r),
     }
 }
 
-pub fn live(sessions: &[[u64; 5]], out: &mut [u8], at: usize) -> usize {
+fn live(sessions: &[SessionRow]) {
     match len(sessions) {
-        Counted::Sessions(n) => line_1(out, at, b"live", n as u64),
-        Counted::Refused(r) => refused(out, at, r),
+        Counted::Sessions(n) => line_1(names::LIVE, n as u64),
+        Counted::Refused(r) => refused(r),
     }
 }
 
-// Opens a stream of a session.
-pub fn open_one(
-    id: u8,
-    stream: u8,
-    sessions: &mut [[u64; 5]],
-    streams: &mut [[u16; 35]],
-    out: &mut [u8],
-    at: usize,
-) -> usize {
-    match open_stream(sessions, streams, id, stream) {
-        StreamOpened::Stream(_) => line(out, at, b"ok"),
-        StreamOpened::Full => line(out, at, b"full"),
-        StreamOpened::NotLive => line(out, at, b"absent"),
-        StreamOpened::Refused(r) => refused(out, at, r),
+fn open_one(c: Command, sessions: &mut [SessionRow], streams: &mut [StreamRow]) {
+    match open_stream(sessions, streams, low_8(c.first), low_8(c.second)) {
+        StreamOpened::Open => line(names::OK),
+        StreamOpened::Full => line(names::FULL),
+        StreamOpened::NotLive => line(names::ABSENT),
+        StreamOpened::Refused(r) => refused(r),
     }
 }
 
-fn stream_line(s: StreamState, out: &mut [u8], at: usize) -> usize {
-    line_3(
-        out,
-        at,
-        b"stream",
-        s.stream_id as u64,
-        s.next_send_seq as u64,
-        s.next_recv_seq as u64,
-    )
-}
-
-fn stream_lines(id: u8, count: u64, streams: &[[u16; 35]], out: &mut [u8], at: usize) -> usize {
-    let mut next = at;
-    let mut k: usize = 0;
-    while k < 8 {
-        if count <= wide_64(k) {
-            return next;
+fn stream_line(r: StreamRead) {
+    let answer = r.answer;
+    match answer {
+        StreamNamed::Open => {
+            let s = r.state;
+            counters(s)
         }
-        next = stream_line(read_stream(streams, id, k), out, next);
-        k += 1;
+        _ => (),
     }
-    next
 }
 
-fn wide_64(k: usize) -> u64 {
-    k as u64
-}
-
-fn head_line(id: u8, s: ClientSession, out: &mut [u8], at: usize) -> usize {
-    let next = put_name(out, at, b"session");
-    let next = put_number(out, next, id as u64);
-    let next = put_key(out, next, s.client_key);
-    line_1(out, next, b"", s.last_activity)
-}
-
-fn session_lines(
-    id: u8,
-    sessions: &[[u64; 5]],
-    streams: &[[u16; 35]],
-    out: &mut [u8],
-    at: usize,
-) -> usize {
-    let s = session_at(sessions, id);
-    if s.live == 0 {
-        return at;
+// A line for each of a session's streams: it has those whose numbers are open.
+fn stream_lines(id: u8, sessions: &[SessionRow], streams: &[StreamRow]) {
+    let mut n: u16 = 0;
+    while n < 256 {
+        stream_line(read_stream(sessions, streams, id, n as u8));
+        n += 1;
     }
-    let next = head_line(id, s, out, at);
-    stream_lines(id, s.streams, streams, out, next)
+}
+
+fn session_line(id: u8, s: ClientSession) {
+    say(names::SESSION);
+    number(id as u64);
+    key(s.client_key);
+    number(s.last_activity);
+    end_line();
+}
+
+fn session_lines(id: u8, sessions: &[SessionRow], streams: &[StreamRow]) {
+    match get(sessions, id) {
+        Got::Session(s) => {
+            session_line(id, s);
+            stream_lines(id, sessions, streams)
+        }
+        Got::NotLive => (),
+        Got::Refused(r) => refused(r),
+    }
 }
 
 // Each live session with what it holds, ids ascending.
-pub fn dump(sessions: &[[u64; 5]], streams: &[[u16; 35]], out: &mut [u8], at: usize) -> usize {
-    let mut next = at;
+fn dump(sessions: &[SessionRow], streams: &[StreamRow]) {
     let mut id: u8 = 0;
     while id < 255 {
         id += 1;
-        next = session_lines(id, sessions, streams, out, next);
+        session_lines(id, sessions, streams);
     }
-    line(out, next, b"dumped")
+    line(names::DUMPED);
+}
+
+// Commands for the sessions that there are.
+fn on_sessions(
+    c: Command,
+    timeout_ms: u64,
+    sessions: &mut [SessionRow],
+    streams: &mut [StreamRow],
+) {
+    let name = c.name;
+    match name {
+        names::TOUCH => touch_session(c, sessions),
+        names::EXPIRED => expired(c, sessions),
+        names::SWEEP => sweep(c, timeout_ms, sessions),
+        names::REMOVE => remove_session(c, sessions),
+        names::LIVE => live(sessions),
+        names::OPEN => open_one(c, sessions, streams),
+        names::DUMP => dump(sessions, streams),
+        _ => (),
+    }
+}
+
+pub fn answer(
+    c: Command,
+    given: &[u8],
+    limits: Limits,
+    sessions: &mut [SessionRow],
+    streams: &mut [StreamRow],
+) -> Limits {
+    let name = c.name;
+    match name {
+        names::TABLE => new_table(c, sessions),
+        names::CREATE => create(c, key_of(given), limits, sessions, streams),
+        _ => {
+            on_sessions(c, limits.timeout_ms, sessions, streams);
+            limits
+        }
+    }
 }

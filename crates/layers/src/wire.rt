@@ -1,15 +1,15 @@
 // Commands for the codec: what a datagram says, strings, and fragments.
+use crate::names;
+use crate::names::say;
+use crate::print::bytes;
+use crate::print::end_line;
 use crate::print::line_1;
-use crate::print::line_1_bytes;
-use crate::print::line_2;
 use crate::print::line_3;
 use crate::print::line_bytes;
-use crate::print::put_bytes;
-use crate::print::put_key;
-use crate::print::put_name;
-use crate::print::put_number;
+use crate::print::number;
 use crate::print::refused;
-use crate::print::settle;
+use crate::submessages::submessage;
+use crate::words::Command;
 use crate::words::between;
 use codec::bytes::Written;
 use codec::cutting::FragmentCount;
@@ -25,105 +25,17 @@ use codec::reading::read;
 use codec::strings::StringRead;
 use codec::strings::decode_string;
 use codec::strings::encode_string;
-use codec::submessages::AcknackPayload;
-use codec::submessages::CreateClientPayload;
-use codec::submessages::CreatePayload;
-use codec::submessages::DataPayload;
-use codec::submessages::DeletePayload;
-use codec::submessages::HeartbeatPayload;
-use codec::submessages::ReadDataPayload;
-use codec::submessages::StatusPayload;
 use codec::submessages::Submessage;
-use codec::submessages::WriteDataPayload;
 use codec::writing::write_submessage;
+use libc::STDOUT_FILENO;
+ghost use mathlib.Core.Path.{_≡_};
+ghost use lib.ListN.{length};
 
-// The place of the next submessage, of the next byte of the answer, and of the next byte that is written back.
-struct Step {
-    place: usize,
-    at: usize,
-    end: usize,
-}
-
-fn create_client_line(p: CreateClientPayload, out: &mut [u8], at: usize) -> usize {
-    let next = put_name(out, at, b"create_client");
-    let next = put_key(out, next, p.client_key as u64);
-    line_1(out, next, b"", p.properties as u64)
-}
-
-fn create_line(p: CreatePayload, strings: &[u8], out: &mut [u8], at: usize) -> usize {
-    let next = put_name(out, at, b"create");
-    let next = put_number(out, next, p.object_id.0 as u64);
-    let kind = p.kind;
-    let next = put_number(out, next, kind.as_u8() as u64);
-    line_1_bytes(out, next, b"", p.parent_id as u64, strings)
-}
-
-fn delete_line(p: DeletePayload, out: &mut [u8], at: usize) -> usize {
-    line_1(out, at, b"delete", p.object_id.0 as u64)
-}
-
-fn status_line(p: StatusPayload, out: &mut [u8], at: usize) -> usize {
-    let status = p.status;
-    line_2(
-        out,
-        at,
-        b"status",
-        p.related_object_id.0 as u64,
-        status.as_u8() as u64,
-    )
-}
-
-fn write_data_line(p: WriteDataPayload, data: &[u8], out: &mut [u8], at: usize) -> usize {
-    line_1_bytes(out, at, b"write_data", p.writer_id.0 as u64, data)
-}
-
-fn read_data_line(p: ReadDataPayload, out: &mut [u8], at: usize) -> usize {
-    line_2(
-        out,
-        at,
-        b"read_data",
-        p.reader_id.0 as u64,
-        p.max_samples as u64,
-    )
-}
-
-fn data_line(p: DataPayload, data: &[u8], out: &mut [u8], at: usize) -> usize {
-    line_1_bytes(out, at, b"data", p.reader_id.0 as u64, data)
-}
-
-fn heartbeat_line(p: HeartbeatPayload, out: &mut [u8], at: usize) -> usize {
-    line_2(
-        out,
-        at,
-        b"heartbeat",
-        p.first_unacked_seq as u64,
-        p.last_seq as u64,
-    )
-}
-
-fn acknack_line(p: AcknackPayload, out: &mut [u8], at: usize) -> usize {
-    line_2(
-        out,
-        at,
-        b"acknack",
-        p.first_unacked_seq as u64,
-        p.nack_bitmap as u64,
-    )
-}
-
-// What a submessage says; `body` is its variable part.
-fn submessage_line(m: Submessage, body: &[u8], out: &mut [u8], at: usize) -> usize {
-    match m {
-        Submessage::CreateClient(p) => create_client_line(p, out, at),
-        Submessage::Create(p) => create_line(p, body, out, at),
-        Submessage::Delete(p) => delete_line(p, out, at),
-        Submessage::Status(p) => status_line(p, out, at),
-        Submessage::WriteData(p) => write_data_line(p, body, out, at),
-        Submessage::ReadData(p) => read_data_line(p, out, at),
-        Submessage::Data(p) => data_line(p, body, out, at),
-        Submessage::Heartbeat(p) => heartbeat_line(p, out, at),
-        Submessage::Acknack(p) => acknack_line(p, out, at),
-    }
+// Room for the longest result, a submessage of 65,535 bytes with its headers. The `ensures` is what lending it needs.
+pub fn room() -> [u8; 66000]
+    ensures { λ r. ⌜ 66000 ≡ length r ⌝ }
+{
+    [0; 66000]
 }
 
 // The place behind what a call wrote from `end` on.
@@ -134,127 +46,103 @@ fn behind(w: Written, end: usize) -> usize {
     }
 }
 
-// What the submessage says, and how it is written back.
-fn said(
-    m: Submessage,
-    body: &[u8],
-    next: usize,
-    step: Step,
-    made: &mut [u8],
-    out: &mut [u8],
-) -> Step {
-    let end = step.end;
-    let w = write_submessage(made, end, m, body);
-    Step {
-        place: next,
-        at: submessage_line(m, body, out, step.at),
-        end: behind(w, end),
-    }
-}
-
-// The submessage at a place. The datagram was checked, so none is refused here.
-fn one_submessage(s: &[u8], step: Step, made: &mut [u8], out: &mut [u8]) -> Step {
-    let place = step.place;
-    match read(s, Cursor { at: place }) {
-        Parsed::Sub(m, span, next) => said(m, part(s, span), next.at, step, made, out),
-        Parsed::Refused(_) => step,
-    }
-}
-
-// A line for each of the datagram's submessages, and the message written back.
-fn submessages(
-    s: &[u8],
-    count: usize,
-    header: Written,
-    made: &mut [u8],
-    out: &mut [u8],
-    at: usize,
-) -> usize {
-    let mut step = Step {
-        place: 4,
-        at,
-        end: behind(header, 0),
-    };
+// A line for each of the datagram's submessages, and the message written back. The datagram was checked, so none of them
+// is refused.
+fn submessages(s: &[u8], header: MessageHeader, count: usize, made: &mut [u8]) {
+    let mut end = behind(header.write(made, 0), 0);
+    let mut place = 4;
     let mut left = count;
     while 0 < left {
-        step = one_submessage(s, step, made, out);
         left -= 1;
+        match read(s, Cursor { at: place }) {
+            Parsed::Sub(m, span, next) => {
+                let body = part(s, span);
+                submessage(m, body);
+                end = behind(write_submessage(made, end, m, body), end);
+                place = next.at;
+            }
+            Parsed::Refused(_) => return,
+        }
     }
-    line_bytes(out, step.at, b"written", between(made, 0, step.end))
-}
-
-fn header_line(h: MessageHeader, out: &mut [u8], at: usize) -> usize {
-    line_3(
-        out,
-        at,
-        b"header",
-        h.session_id as u64,
-        h.stream_id as u64,
-        h.sequence_nr as u64,
-    )
+    line_bytes(names::WRITTEN, between(made, 0, end));
 }
 
 // What a datagram says, and how it is written back.
-pub fn message(s: &[u8], made: &mut [u8], out: &mut [u8], at: usize) -> usize {
+fn message(s: &[u8]) {
     match check(s) {
         Checked::Message(h, count) => {
-            let next = header_line(h, out, at);
-            let w = h.write(made, 0);
-            submessages(s, count, w, made, out, next)
+            line_3(
+                names::HEADER,
+                h.session_id as u64,
+                h.stream_id as u64,
+                h.sequence_nr as u64,
+            );
+            let mut made = room();
+            submessages(s, h, count, &mut made)
         }
-        Checked::Refused(r) => refused(out, at, r),
+        Checked::Refused(r) => refused(r),
     }
 }
 
 // The bytes that a call wrote at the start of `made`, after the name, or its refusal.
-pub fn written(name: &[u8], w: Written, made: &[u8], out: &mut [u8], at: usize) -> usize {
+pub fn written(name: usize, w: Written, made: &[u8]) {
     match w {
-        Written::Bytes(n) => line_bytes(out, at, name, between(made, 0, n)),
-        Written::Refused(r) => refused(out, at, r),
+        Written::Bytes(n) => line_bytes(name, between(made, 0, n)),
+        Written::Refused(r) => refused(r),
+    }
+}
+
+fn encode(text: &[u8]) {
+    let mut made = room();
+    let w = encode_string(&mut made, 0, text);
+    written(names::STRING, w, &made);
+}
+
+// The text, and how many bytes it took with its length.
+fn decode(s: &[u8]) {
+    match decode_string(s, 0) {
+        StringRead::Text(span) => {
+            say(names::STRING);
+            bytes(part(s, span));
+            let used = std::num::wrapping_add_usize(span.len, 2);
+            number(used as u64);
+            end_line()
+        }
+        StringRead::Refused(r) => refused(r),
     }
 }
 
 // Each fragment, from the first to the last.
-fn fragments(
-    payload: &[u8],
-    size: usize,
-    total: u16,
-    made: &mut [u8],
-    out: &mut [u8],
-    at: usize,
-) -> usize {
-    let mut next = at;
+fn fragments(payload: &[u8], size: usize, total: u16, made: &mut [u8]) {
     let mut k: u16 = 0;
     while k < total {
         let w = fragment(payload, size, k, made);
-        next = written(b"fragment", w, made, out, next);
-        next = settle(out, next, 100000);
+        written(names::FRAGMENT, w, made);
         k += 1;
     }
-    line_1(out, next, b"end", total as u64)
+    line_1(names::END, total as u64);
 }
 
-pub fn cut(payload: &[u8], size: usize, made: &mut [u8], out: &mut [u8], at: usize) -> usize {
+fn cut(payload: &[u8], size: usize) {
     match fragment_count(payload, size) {
-        FragmentCount::Fragments(total) => fragments(payload, size, total, made, out, at),
-        FragmentCount::Refused(r) => refused(out, at, r),
+        FragmentCount::Fragments(total) => {
+            let mut made = room();
+            fragments(payload, size, total, &mut made)
+        }
+        FragmentCount::Refused(r) => refused(r),
     }
 }
 
-pub fn encode(text: &[u8], made: &mut [u8], out: &mut [u8], at: usize) -> usize {
-    let w = encode_string(made, 0, text);
-    written(b"string", w, made, out, at)
-}
-
-// The text, and how many bytes it took with its length.
-pub fn decode(s: &[u8], out: &mut [u8], at: usize) -> usize {
-    match decode_string(s, 0) {
-        StringRead::Text(span) => {
-            let next = put_name(out, at, b"string");
-            let next = put_bytes(out, next, part(s, span));
-            let used = std::num::wrapping_add_usize(span.len, 2);
-            line_1(out, next, b"", used as u64)
+pub fn answer(c: Command, given: &[u8]) {
+    let name = c.name;
+    match name {
+        names::MESSAGE => message(given),
+        names::ENCODE => encode(given),
+        names::DECODE => decode(given),
+        names::CUT => cut(given, c.first as usize),
+        names::UNKNOWN => {
+            io::write_all(STDOUT_FILENO, b"bad line\n");
         }
-        StringRead::Refused(r) => refused(out, at, r),
+        _ => (),
     }
 }

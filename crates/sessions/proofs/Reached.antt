@@ -1,39 +1,37 @@
 -- When a call reaches a session and its records: from the view, and from what 16 looks at.
-use Prim.Native.Nat.{ℕ, zero, suc, _+_, _<_, _≤_}
+use Prim.Native.Nat.{ℕ, _<_, _≤_}
 use mathlib.Core.Path.{_≡_, refl, sym, ap, _∙_}
 use mathlib.Core.Bool.{Bool, true, false, cond}
-use mathlib.Core.Option.{Option, none, some}
+use mathlib.Core.Option.{none, some}
 use mathlib.Core.List.{List}
 use borrow.Author.Tests.{le-leb, lt-ltb}
 use lib.ListN.{length}
-use Rattle.sessions.specs.Table.{sessionAt, isFree, namedOf}
-use Rattle.sessions.specs.Opening.{after, liveFrom, freeFrom, openFits, chosenOf, createdOf}
-use Rattle.sessions.specs.SessionObjects.{objectRow, usedOf, objectsNamed}
+use Rattle.sessions.specs.Table.{isFree, namedOf}
+use Rattle.sessions.specs.Opening.{liveFrom, freeFrom, openFits, chosenOf, createdOf}
+use Rattle.sessions.specs.SessionObjects.{usedOf, objectsNamed}
 use Rattle.sessions.specs.SessionStreams.{streamsUsed, streamsNamed}
-use Rattle.sessions.specs.View.{Tables, Local, listed, opened, streamRows, localOf, absent, liveIn, freeIn}
-use Rattle.sessions.specs.declared.table.Named.{Named}
+use Rattle.sessions.specs.View.{Tables, tablePart, sessionShown, absent, freeIds}
 use Rattle.sessions.specs.declared.table.Named.the-variants.{Live, NotLive}
 use Rattle.sessions.proofs.table.Laws.{reach-named}
 
 -- ---- an id that is not live shows no session, and the other way round
 
-pub free-view : (t : Tables) (id : ℕ) → isFree (t .sessions) id ≡ absent (localOf t id)
+pub free-view : (t : Tables) (id : ℕ) → isFree (t .sessions) id ≡ freeIds t id
 free-view t id = by (isFree (t .sessions) id)
   where
-    by : (b : Bool) → b ≡ absent (cond b none (some (record { key = sessionAt (t .sessions) id .«client_key»; last = sessionAt (t .sessions) id .«last_activity»; objects = listed (sessionAt (t .sessions) id .objects) (objectRow (t .objects) id); streams = opened (sessionAt (t .sessions) id .streams) (streamRows (t .streams) id) })))
+    by : (b : Bool) → b ≡ absent (cond b none (some (sessionShown id (tablePart t id))))
     by true = refl
     by false = refl
 
--- so what is counted and what is free is seen in the view
-pub live-view : (t : Tables) (i n : ℕ) → liveFrom (t .sessions) i n ≡ liveIn (localOf t) i n
-unfolding liveFrom liveIn
-live-view t i zero = refl
-live-view t i (suc n) = ap (λ (b : Bool). cond b 0 1 + liveFrom (t .sessions) (suc i) n) (free-view t i) ∙ ap (λ (m : ℕ). cond (absent (localOf t i)) 0 1 + m) (live-view t (suc i) n)
+pub free-ids : (t : Tables) → _≡_ {A = ℕ → Bool} (isFree (t .sessions)) (freeIds t)
+free-ids t = λ i id. free-view t id i
 
-pub next-view : (t : Tables) (i n : ℕ) → freeFrom (t .sessions) i n ≡ freeIn (localOf t) i n
-unfolding freeFrom freeIn
-next-view t i zero = refl
-next-view t i (suc n) = ap (λ (b : Bool). cond b i (freeFrom (t .sessions) (after i) n)) (free-view t i) ∙ ap (cond (absent (localOf t i)) i) (next-view t (after i) n)
+-- so what is counted and what is free is seen in the view
+pub live-view : (t : Tables) (i n : ℕ) → liveFrom (isFree (t .sessions)) i n ≡ liveFrom (freeIds t) i n
+live-view t i n = ap (λ (free : ℕ → Bool). liveFrom free i n) (free-ids t)
+
+pub next-view : (t : Tables) (i n : ℕ) → freeFrom (isFree (t .sessions)) i n ≡ freeFrom (freeIds t) i n
+next-view t i n = ap (λ (free : ℕ → Bool). freeFrom free i n) (free-ids t)
 
 -- ---- a table of 256 rows
 

@@ -10,15 +10,14 @@ use lib.Dec.{eqb, ltb}
 use lib.ListN.{length, take, getD, set, length-map, List·getD-map}
 use lib.Seq.{length-take-le, getD-take, take-take, take-set-lt, take-suc-set}
 use Rattle.codec.specs.declared.submessages.ObjectNumber.{ObjectNumber}
-use Rattle.sessions.specs.Search.{firstFrom}
-use Rattle.sessions.specs.Objects.{blank, isNumbered, placeOf, foundOf, greaterOf, greatestOf, slotOf, countOf, storedRow, removedRow}
-use Rattle.sessions.specs.View.{Entry, entryOf, blankEntry, listed, placeIn, heldAt, findIn, putAt, putIn, dropAt, dropIn, greaterIn, greatestUpTo, greatestIn}
+use Rattle.sessions.specs.Objects.{blank, objectPlace, foundOf, greater, greaterOf, greatestOf, slotOf, usedAfter, storedRow, removedRow}
+use Rattle.sessions.specs.View.{Entry, entryOf, blankEntry, listed, placeIn, heldAt, findIn, putEntry, putIn, dropAt, dropIn, greaterIn, greatestUpTo, greatestIn}
 use Rattle.sessions.specs.declared.objects.Object.{Object}
 use Rattle.sessions.specs.declared.objects.Place.{Place}
 use Rattle.sessions.specs.declared.objects.Place.the-variants.{At, Nowhere}
 use Rattle.sessions.specs.declared.objects.Found.{Found}
 use Rattle.sessions.specs.declared.objects.Found.the-variants.{Held, Nothing, Refused}
-use Rattle.sessions.proofs.Search.{Under, found-under, same-from}
+use Rattle.sessions.proofs.ObjectSearch.{Under, place-under, place-shown}
 use Rattle.sessions.proofs.Parts.{map-set, map-take}
 
 -- the record that was found, as an entry
@@ -42,34 +41,20 @@ module _ (row : List Object) (used : ℕ) (fits : used ≤ length row) where
   unfolding listed
   listed-at i h = List·getD-map entryOf (take used row) i blank ∙ ap entryOf (getD-take used row i blank h)
 
-  -- the search in the row is the search in the list
-  pub place-shown : (n : ObjectNumber) → placeOf row used n ≡ placeIn (listed used row) (n .0)
-  place-shown n =
-      same-from (λ (i : ℕ). isNumbered (getD row i blank) n) (λ (i : ℕ). eqb (getD (listed used row) i blankEntry .number) (n .0)) 0 used used (omega arith)
-      (λ i h. ap (λ (e : Entry). eqb (e .number) (n .0)) (sym (listed-at i h)))
-      ∙ ap (firstFrom (λ (i : ℕ). eqb (getD (listed used row) i blankEntry .number) (n .0)) 0) (sym listed-length)
-
-  pub place-under : (n : ObjectNumber) → Under used (placeOf row used n)
-  place-under n = found-under (λ (i : ℕ). isNumbered (getD row i blank) n) used
-
   -- ---- find
 
   held-shown : (p : Place) → Under used p → entryFound (foundOf row p) ≡ heldAt (listed used row) p
   held-shown (At i) h = ap some (sym (listed-at i h))
   held-shown Nowhere h = refl
 
-  pub find-shown : (n : ObjectNumber) → entryFound (foundOf row (placeOf row used n)) ≡ findIn (listed used row) (n .0)
-  find-shown n = held-shown (placeOf row used n) (place-under n) ∙ ap (heldAt (listed used row)) (place-shown n)
+  pub find-shown : (n : ObjectNumber) → entryFound (foundOf row (objectPlace row used n)) ≡ findIn (listed used row) (n .0)
+  find-shown n = held-shown (objectPlace row used n) (place-under row n used) ∙ ap (heldAt (listed used row)) (place-shown row n used fits)
 
   -- ---- the greatest of a kind
 
   plain-step : (b : Bool) (f : Found) (o : Object) → Plain f → Plain (cond b (greaterOf f o) f)
   plain-step false f o h = h
-  plain-step true (Held a) o h = by (ltb (a .number .0) (o .number .0))
-    where
-      by : (b : Bool) → Plain (cond b (Held o) (Held a))
-      by true = tt
-      by false = tt
+  plain-step true (Held a) o h = tt
   plain-step true Nothing o h = tt
   plain-step true (Refused r) o h = h
 
@@ -81,7 +66,7 @@ module _ (row : List Object) (used : ℕ) (fits : used ≤ length row) where
   step-shown false f o h = refl
   step-shown true (Held a) o h = by (ltb (a .number .0) (o .number .0))
     where
-      by : (b : Bool) → entryFound (cond b (Held o) (Held a)) ≡ cond b (some (entryOf o)) (some (entryOf a))
+      by : (b : Bool) → some (entryOf (cond b o a)) ≡ some (cond b (entryOf o) (entryOf a))
       by true = refl
       by false = refl
   step-shown true Nothing o h = refl
@@ -98,7 +83,7 @@ module _ (row : List Object) (used : ℕ) (fits : used ≤ length row) where
 
   -- ---- put
 
-  put-at : (p : Place) (o : Object) → Under used p → slotOf p used < length row → listed (countOf p used) (set row (slotOf p used) o) ≡ putAt (listed used row) p (entryOf o)
+  put-at : (p : Place) (o : Object) → Under used p → slotOf p used < length row → listed (usedAfter p used) (set row (slotOf p used) o) ≡ putEntry (listed used row) p (entryOf o)
   unfolding listed
   put-at (At i) o h l = ap (map entryOf) (take-set-lt used row i o h) ∙ map-set entryOf (take used row) i o
   put-at Nowhere o h l =
@@ -106,9 +91,9 @@ module _ (row : List Object) (used : ℕ) (fits : used ≤ length row) where
       ∙ ap (map entryOf) (take-suc-set row used o l)
       ∙ map-append entryOf (take used row) (o ∷ [])
 
-  pub put-shown : (o : Object) → slotOf (placeOf row used (o .number)) used < length row
-      → listed (countOf (placeOf row used (o .number)) used) (storedRow row used o) ≡ putIn (listed used row) (entryOf o)
-  put-shown o l = put-at (placeOf row used (o .number)) o (place-under (o .number)) l ∙ ap (λ (p : Place). putAt (listed used row) p (entryOf o)) (place-shown (o .number))
+  pub put-shown : (o : Object) → slotOf (objectPlace row used (o .number)) used < length row
+      → listed (usedAfter (objectPlace row used (o .number)) used) (storedRow row used o) ≡ putIn (listed used row) (entryOf o)
+  put-shown o l = put-at (objectPlace row used (o .number)) o (place-under row (o .number) used) l ∙ ap (λ (p : Place). putEntry (listed used row) p (entryOf o)) (place-shown row (o .number) used fits)
 
   -- ---- remove
 
@@ -129,8 +114,8 @@ module _ (row : List Object) (used : ℕ) (fits : used ≤ length row) where
       ∙ ap (λ (e : Entry). take (used - 1) (set (map entryOf (take used row)) i e)) (sym last)
       ∙ ap (λ (n : ℕ). take (n - 1) (set (map entryOf (take used row)) i (getD (map entryOf (take used row)) (n - 1) blankEntry))) (sym (length-map (take used row) entryOf ∙ length-take-le used row fits))
 
-  pub drop-shown : (n : ObjectNumber) → listed (left (placeOf row used n)) (removedRow row used (placeOf row used n)) ≡ dropIn (listed used row) (n .0)
-  drop-shown n = by (placeOf row used n) (place-under n) ∙ ap (dropAt (listed used row)) (place-shown n)
+  pub drop-shown : (n : ObjectNumber) → listed (left (objectPlace row used n)) (removedRow row used (objectPlace row used n)) ≡ dropIn (listed used row) (n .0)
+  drop-shown n = by (objectPlace row used n) (place-under row n used) ∙ ap (dropAt (listed used row)) (place-shown row n used fits)
     where
       by : (p : Place) → Under used p → listed (left p) (removedRow row used p) ≡ dropAt (listed used row) p
       by (At i) h = drop-at i h

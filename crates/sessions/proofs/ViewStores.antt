@@ -1,34 +1,32 @@
 -- The view of a session's objects in the tables: what find, put and remove show and change of it, and that they change nothing else.
-use Prim.Native.Nat.{ℕ, zero, suc, _+_, _-_, _*_, _<_, _≤_}
-use mathlib.Core.Path.{_≡_, refl, sym, ap, _∙_, subst}
+use Prim.Native.Nat.{ℕ, _+_, _-_, _*_, _<_, _≤_}
+use mathlib.Core.Path.{_≡_, refl, sym, ap, _∙_}
 use mathlib.Core.Logic.{_≢_}
 use mathlib.Core.Bool.{Bool, true, false, cond}
 use mathlib.Core.Option.{Option, none, some}
-use mathlib.Core.List.{List, [], _∷_, _++_, map}
+use mathlib.Core.List.{List, _++_}
 use native.Mathlib.Omega.{arith}
 use borrow.Author.Tests.{lt-ltb, le-ltb, leb-true, leb-false}
-use borrow.Rule.Slice.PartMut.{midOf, putMid, set-mid-at, put-same}
-use lib.Dec.{eqb, leb, ltb}
+use borrow.Rule.Slice.PartMut.{set-mid-at, put-same}
+use lib.Dec.{eqb, leb}
 use lib.ListN.{length, take, drop, getD, set, length-set, length-drop}
 use lib.Seq.{drop-drop, drop-at, take-at, length-take-le, set-out}
 use Rattle.codec.specs.declared.submessages.ObjectNumber.{ObjectNumber}
 use Rattle.sessions.specs.Table.{sessionAt}
-use Rattle.sessions.specs.Objects.{blank, placeOf, foundOf, greatestOf, slotOf, countOf, storedOf, storedRow, removedRow}
-use Rattle.sessions.specs.SessionObjects.{firstObject, objectRow, withObjectRow, usedOf, countedSession, keepUsed, objectsNamed, foundObject, greatestObject, storedObject, storedObjects, keepStored, removedObjects, keepRemoved}
-use Rattle.sessions.specs.View.{Tables, Entry, Local, entryOf, listed, opened, streamRows, localFrom, localOf, objectsOf, findIn, putIn, dropIn, greatestIn}
+use Rattle.sessions.specs.Objects.{blank, objectPlace, foundOf, slotOf, usedAfter, storedRow, removedRow}
+use Rattle.sessions.specs.SessionObjects.{firstObject, objectRow, withObjectRow, usedOf, countedSession, keepUsed, objectsNamed, foundObject, greatestObject, storedObject, storedObjects, keepStored, keepRemoved}
+use Rattle.sessions.specs.View.{Tables, Entry, Local, Part, entryOf, listed, streamRows, tablePart, sessionShown, localShown, localOf, objectsOf, findIn, putIn, dropIn, greatestIn}
+use Rattle.sessions.specs.Calls.{putTables, dropTables}
 use Rattle.sessions.specs.declared.objects.Object.{Object}
 use Rattle.sessions.specs.declared.objects.Place.{Place}
 use Rattle.sessions.specs.declared.objects.Place.the-variants.{At, Nowhere}
-use Rattle.sessions.specs.declared.objects.Found.{Found}
-use Rattle.sessions.specs.declared.objects.Stored.{Stored}
 use Rattle.sessions.specs.declared.objects.Stored.the-variants.{Count, Full}
-use Rattle.sessions.specs.declared.table.ClientSession.{ClientSession}
 use Rattle.sessions.specs.declared.table.Named.the-variants.{Live}
-use Rattle.sessions.proofs.Search.{Under}
+use Rattle.sessions.proofs.ObjectSearch.{Under, place-under}
 use Rattle.sessions.proofs.Parts.{part-below, part-above}
-use Rattle.sessions.proofs.ViewObjects.{entryFound, find-shown, greatest-shown, put-shown, left, drop-shown, place-under}
+use Rattle.sessions.proofs.ViewObjects.{entryFound, find-shown, greatest-shown, put-shown, left, drop-shown}
 use Rattle.sessions.proofs.ViewTable.{kept-here, kept-elsewhere}
-use Rattle.sessions.proofs.session_objects.Laws.{lent-row, row-lent, found-is, greatest-is, stored-is, kept-is, removed-is}
+use Rattle.sessions.proofs.session_objects.Laws.{lent-row, found-is, greatest-is, stored-is, kept-is, removed-is}
 use Rattle.sessions.proofs.table.Laws.{live-fits}
 
 -- ---- a session's row in the store
@@ -71,22 +69,16 @@ row-elsewhere objects id k j x h n = by (leb j id) refl
 -- a session with other objects
 abbrev pub withObjects : List Entry → Option Local → Option Local
 withObjects es none = none
-withObjects es (some l) = some (record { key = l .key; last = l .last; objects = es; streams = l .streams })
+withObjects es (some l) = some (record { id = l .id; key = l .key; last = l .last; objects = es; streams = l .streams })
 
-abbrev pub putTables : Tables → ℕ → Object → Tables
-putTables t id o =
-    record { sessions = keepStored (t .sessions) id (storedObject (t .sessions) (t .objects) id o); streams = t .streams; objects = storedObjects (t .sessions) (t .objects) id o }
+-- a part with n objects in another row
+abbrev pub withCounted : ℕ → List Object → Part → Part
+withCounted n row p = record { session = countedSession (p .session) n; objects = row; streams = p .streams }
 
-abbrev pub dropTables : Tables → ℕ → ObjectNumber → Tables
-dropTables t id n =
-    record { sessions = keepRemoved (t .sessions) id (foundObject (t .sessions) (t .objects) id n); streams = t .streams; objects = removedObjects (t .sessions) (t .objects) id n }
-
--- a session with n objects in another row
-counted-shown : (s : ClientSession) (n : ℕ) (row row′ : List Object) (rows : List (List ℕ)) → localFrom (countedSession s n) row′ rows ≡ withObjects (listed n row′) (localFrom s row rows)
-counted-shown s n row row′ rows = by (eqb (s .live) 0)
+counted-shown : (id n : ℕ) (row : List Object) (p : Part) → localShown id (withCounted n row p) ≡ withObjects (listed n row) (localShown id p)
+counted-shown id n row p = by (eqb (p .session .live) 0)
   where
-    by : (b : Bool) → cond b none (some (record { key = s .«client_key»; last = s .«last_activity»; objects = listed n row′; streams = opened (s .streams) rows }))
-        ≡ withObjects (listed n row′) (cond b none (some (record { key = s .«client_key»; last = s .«last_activity»; objects = listed (s .objects) row; streams = opened (s .streams) rows })))
+    by : (b : Bool) → cond b none (some (sessionShown id (withCounted n row p))) ≡ withObjects (listed n row) (cond b none (some (sessionShown id p)))
     by true = refl
     by false = refl
 
@@ -98,12 +90,12 @@ module _ (t : Tables) (id : ℕ) (id< : id < 256) (live : objectsNamed (t .sessi
   used = usedOf (t .sessions) id
 
   abbrev place : ObjectNumber → Place
-  place n = placeOf row used n
+  place n = objectPlace row used n
 
-  inside : firstObject id + 32 ≤ length (t .objects)
+  pub inside : firstObject id + 32 ≤ length (t .objects)
   inside = lent-row (t .sessions) (t .objects) id live id< .inside
 
-  fits : used ≤ length row
+  pub fits : used ≤ length row
   fits = let w = lent-row (t .sessions) (t .objects) id live id< in rw (row-length (t .objects) id inside) (omega (arith, w .within, w .long))
 
   rows-long : id < length (t .sessions)
@@ -121,43 +113,46 @@ module _ (t : Tables) (id : ℕ) (id< : id < 256) (live : objectsNamed (t .sessi
   -- ---- put
 
   module _ (o : Object) (room : slotOf (place (o .number)) used < 32) where
-    in-row : slotOf (place (o .number)) used < length row
+    pub in-row : slotOf (place (o .number)) used < length row
     in-row = rw (row-length (t .objects) id inside) room
 
     -- the answer is the number of objects
-    pub put-counts : storedObject (t .sessions) (t .objects) id o ≡ Count (countOf (place (o .number)) used)
+    pub put-counts : storedObject (t .sessions) (t .objects) id o ≡ Count (usedAfter (place (o .number)) used)
     put-counts =
         sym (stored-is (t .sessions) (t .objects) id o Live live)
-        ∙ ap (λ (b : Bool). cond b (Count (countOf (place (o .number)) used)) Full) (lt-ltb (slotOf (place (o .number)) used) (length row) in-row)
+        ∙ ap (λ (b : Bool). cond b (Count (usedAfter (place (o .number)) used)) Full) (lt-ltb (slotOf (place (o .number)) used) (length row) in-row)
 
-    put-rows : keepStored (t .sessions) id (storedObject (t .sessions) (t .objects) id o) ≡ keepUsed (t .sessions) id (countOf (place (o .number)) used)
+    pub put-rows : keepStored (t .sessions) id (storedObject (t .sessions) (t .objects) id o) ≡ keepUsed (t .sessions) id (usedAfter (place (o .number)) used)
     put-rows = ap (keepStored (t .sessions) id) put-counts
 
     put-store : storedObjects (t .sessions) (t .objects) id o ≡ withObjectRow (t .objects) id (storedRow row used o)
     put-store = sym (kept-is (t .sessions) (t .objects) id o Live live)
 
+    pub put-set : storedObjects (t .sessions) (t .objects) id o ≡ set (t .objects) (firstObject id + slotOf (place (o .number)) used) o
+    put-set = put-store ∙ row-set (t .objects) id inside (slotOf (place (o .number)) used) o room
+
+    pub put-part : tablePart (putTables t id o) id ≡ withCounted (usedAfter (place (o .number)) used) (storedRow row used o) (tablePart t id)
+    put-part = λ i. record {
+      session = (ap (λ (rows : List (List ℕ)). sessionAt rows id) put-rows ∙ kept-here (t .sessions) id (countedSession (sessionAt (t .sessions) id) (usedAfter (place (o .number)) used)) rows-long) i;
+      objects = (ap (λ (l : List Object). objectRow l id) put-store ∙ row-seen (t .objects) id inside (storedRow row used o) (length-set row (slotOf (place (o .number)) used) o ∙ row-length (t .objects) id inside)) i;
+      streams = streamRows (t .streams) id;
+    }
+
+    pub put-part-elsewhere : (j : ℕ) → j ≢ id → tablePart (putTables t id o) j ≡ tablePart t j
+    put-part-elsewhere j h = λ i. record {
+      session = (ap (λ (rows : List (List ℕ)). sessionAt rows j) put-rows ∙ kept-elsewhere (t .sessions) id (countedSession (sessionAt (t .sessions) id) (usedAfter (place (o .number)) used)) j h) i;
+      objects = (ap (λ (l : List Object). objectRow l j) put-set ∙ row-elsewhere (t .objects) id (slotOf (place (o .number)) used) j o room h) i;
+      streams = streamRows (t .streams) j;
+    }
+
     pub put-here : localOf (putTables t id o) id ≡ withObjects (putIn (objectsOf t id) (entryOf o)) (localOf t id)
     put-here =
-        let n = countOf (place (o .number)) used in
-        let s : sessionAt (putTables t id o .sessions) id ≡ countedSession (sessionAt (t .sessions) id) n =
-        ap (λ (rows : List (List ℕ)). sessionAt rows id) put-rows ∙ kept-here (t .sessions) id (countedSession (sessionAt (t .sessions) id) n) (rows-long) in
-        let r : objectRow (putTables t id o .objects) id ≡ storedRow row used o =
-        ap (λ (l : List Object). objectRow l id) put-store ∙ row-seen (t .objects) id inside (storedRow row used o) (length-set row (slotOf (place (o .number)) used) o ∙ row-length (t .objects) id inside) in
-        ap (λ (x : ClientSession). localFrom x (objectRow (putTables t id o .objects) id) (streamRows (t .streams) id)) s
-        ∙ ap (λ (l : List Object). localFrom (countedSession (sessionAt (t .sessions) id) n) l (streamRows (t .streams) id)) r
-        ∙ counted-shown (sessionAt (t .sessions) id) n row (storedRow row used o) (streamRows (t .streams) id)
+        ap (localShown id) put-part
+        ∙ counted-shown id (usedAfter (place (o .number)) used) (storedRow row used o) (tablePart t id)
         ∙ ap (λ (es : List Entry). withObjects es (localOf t id)) (put-shown row used fits o in-row)
 
     pub put-elsewhere : (j : ℕ) → j ≢ id → localOf (putTables t id o) j ≡ localOf t j
-    put-elsewhere j h =
-        let n = countOf (place (o .number)) used in
-        let s : sessionAt (putTables t id o .sessions) j ≡ sessionAt (t .sessions) j =
-        ap (λ (rows : List (List ℕ)). sessionAt rows j) put-rows ∙ kept-elsewhere (t .sessions) id (countedSession (sessionAt (t .sessions) id) n) j h in
-        let r : objectRow (putTables t id o .objects) j ≡ objectRow (t .objects) j =
-        ap (λ (l : List Object). objectRow l j) (put-store ∙ row-set (t .objects) id inside (slotOf (place (o .number)) used) o room)
-        ∙ row-elsewhere (t .objects) id (slotOf (place (o .number)) used) j o room h in
-        ap (λ (x : ClientSession). localFrom x (objectRow (putTables t id o .objects) j) (streamRows (t .streams) j)) s
-        ∙ ap (λ (l : List Object). localFrom (sessionAt (t .sessions) j) l (streamRows (t .streams) j)) r
+    put-elsewhere j h = ap (localShown j) (put-part-elsewhere j h)
 
   -- a 33rd number has no place, and nothing changes
   module _ (o : Object) (none-left : 32 ≤ slotOf (place (o .number)) used) where
@@ -167,7 +162,7 @@ module _ (t : Tables) (id : ℕ) (id< : id < 256) (live : objectsNamed (t .sessi
     pub put-full : storedObject (t .sessions) (t .objects) id o ≡ Full
     put-full =
         sym (stored-is (t .sessions) (t .objects) id o Live live)
-        ∙ ap (λ (b : Bool). cond b (Count (countOf (place (o .number)) used)) Full) (le-ltb (slotOf (place (o .number)) used) (length row) past-row)
+        ∙ ap (λ (b : Bool). cond b (Count (usedAfter (place (o .number)) used)) Full) (le-ltb (slotOf (place (o .number)) used) (length row) past-row)
 
     pub put-nothing : putTables t id o ≡ t
     put-nothing = λ i. record { sessions = ap (keepStored (t .sessions) id) put-full i; streams = t .streams; objects = kept i }
@@ -178,41 +173,50 @@ module _ (t : Tables) (id : ℕ) (id< : id < 256) (live : objectsNamed (t .sessi
   -- ---- remove
 
   -- the tables after a removal, by the place of what is removed
-  abbrev dropped : Place → Tables
+  abbrev pub dropped : Place → Tables
   dropped p = record { sessions = keepRemoved (t .sessions) id (foundOf row p); streams = t .streams; objects = withObjectRow (t .objects) id (removedRow row used p) }
 
-  by-place : (n : ObjectNumber) → dropTables t id n ≡ dropped (place n)
+  pub by-place : (n : ObjectNumber) → dropTables t id n ≡ dropped (place n)
   by-place n = λ i. record {
     sessions = ap (keepRemoved (t .sessions) id) (sym (found-is (t .sessions) (t .objects) id n Live live)) i;
     streams = t .streams;
     objects = sym (removed-is (t .sessions) (t .objects) id n Live live) i;
   }
 
-  dropped-here : (p : Place) → Under used p → localOf (dropped p) id ≡ withObjects (listed (left row used fits p) (removedRow row used p)) (localOf t id)
-  dropped-here (At k) h =
-      let x = getD row (used - 1) blank in
-      ap (λ (s : ClientSession). localFrom s (objectRow (dropped (At k) .objects) id) (streamRows (t .streams) id)) (kept-here (t .sessions) id (countedSession (sessionAt (t .sessions) id) (used - 1)) rows-long)
-      ∙ ap (λ (l : List Object). localFrom (countedSession (sessionAt (t .sessions) id) (used - 1)) l (streamRows (t .streams) id))
-      (row-seen (t .objects) id inside (set row k x) (length-set row k x ∙ row-length (t .objects) id inside))
-      ∙ counted-shown (sessionAt (t .sessions) id) (used - 1) row (set row k x) (streamRows (t .streams) id)
-  dropped-here Nowhere h =
-      ap (λ (l : List Object). localFrom (sessionAt (t .sessions) id) l (streamRows (t .streams) id)) (row-seen (t .objects) id inside row (row-length (t .objects) id inside))
-      ∙ counted-shown (sessionAt (t .sessions) id) used row row (streamRows (t .streams) id)
+  pub dropped-part : (p : Place) → Under used p → tablePart (dropped p) id ≡ withCounted (left row used fits p) (removedRow row used p) (tablePart t id)
+  dropped-part (At k) h = λ i. record {
+    session = kept-here (t .sessions) id (countedSession (sessionAt (t .sessions) id) (used - 1)) rows-long i;
+    objects = row-seen (t .objects) id inside (set row k (getD row (used - 1) blank)) (length-set row k (getD row (used - 1) blank) ∙ row-length (t .objects) id inside) i;
+    streams = streamRows (t .streams) id;
+  }
+  dropped-part Nowhere h = λ i. record {
+    session = sessionAt (t .sessions) id;
+    objects = row-seen (t .objects) id inside row (row-length (t .objects) id inside) i;
+    streams = streamRows (t .streams) id;
+  }
+
+  -- the store with a record less, as one record that is set
+  pub dropped-set : (k : ℕ) → k < used → dropped (At k) .objects ≡ set (t .objects) (firstObject id + k) (getD row (used - 1) blank)
+  dropped-set k h = row-set (t .objects) id inside k (getD row (used - 1) blank) (omega (arith, row-length (t .objects) id inside, fits))
+
+  pub dropped-part-elsewhere : (j : ℕ) → j ≢ id → (p : Place) → Under used p → tablePart (dropped p) j ≡ tablePart t j
+  dropped-part-elsewhere j h (At k) u = λ i. record {
+    session = kept-elsewhere (t .sessions) id (countedSession (sessionAt (t .sessions) id) (used - 1)) j h i;
+    objects = (ap (λ (l : List Object). objectRow l j) (dropped-set k u) ∙ row-elsewhere (t .objects) id k j (getD row (used - 1) blank) (omega (arith, row-length (t .objects) id inside, fits)) h) i;
+    streams = streamRows (t .streams) j;
+  }
+  dropped-part-elsewhere j h Nowhere u = λ i. record {
+    session = sessionAt (t .sessions) j;
+    objects = ap (λ (l : List Object). objectRow l j) (row-same (t .objects) id inside) i;
+    streams = streamRows (t .streams) j;
+  }
 
   pub drop-here : (n : ObjectNumber) → localOf (dropTables t id n) id ≡ withObjects (dropIn (objectsOf t id) (n .0)) (localOf t id)
   drop-here n =
       ap (λ (u : Tables). localOf u id) (by-place n)
-      ∙ dropped-here (place n) (place-under row used fits n)
+      ∙ ap (localShown id) (dropped-part (place n) (place-under row n used))
+      ∙ counted-shown id (left row used fits (place n)) (removedRow row used (place n)) (tablePart t id)
       ∙ ap (λ (es : List Entry). withObjects es (localOf t id)) (drop-shown row used fits n)
 
-  dropped-elsewhere : (j : ℕ) → j ≢ id → (p : Place) → Under used p → localOf (dropped p) j ≡ localOf t j
-  dropped-elsewhere j h (At k) u =
-      let x = getD row (used - 1) blank in
-      let k< : k < 32 = omega (arith, row-length (t .objects) id inside, fits) in
-      ap (λ (s : ClientSession). localFrom s (objectRow (dropped (At k) .objects) j) (streamRows (t .streams) j)) (kept-elsewhere (t .sessions) id (countedSession (sessionAt (t .sessions) id) (used - 1)) j h)
-      ∙ ap (λ (l : List Object). localFrom (sessionAt (t .sessions) j) (objectRow l j) (streamRows (t .streams) j)) (row-set (t .objects) id inside k x k<)
-      ∙ ap (λ (l : List Object). localFrom (sessionAt (t .sessions) j) l (streamRows (t .streams) j)) (row-elsewhere (t .objects) id k j x k< h)
-  dropped-elsewhere j h Nowhere u = ap (λ (l : List Object). localFrom (sessionAt (t .sessions) j) (objectRow l j) (streamRows (t .streams) j)) (row-same (t .objects) id inside)
-
   pub drop-elsewhere : (n : ObjectNumber) (j : ℕ) → j ≢ id → localOf (dropTables t id n) j ≡ localOf t j
-  drop-elsewhere n j h = ap (λ (u : Tables). localOf u j) (by-place n) ∙ dropped-elsewhere j h (place n) (place-under row used fits n)
+  drop-elsewhere n j h = ap (λ (u : Tables). localOf u j) (by-place n) ∙ ap (localShown j) (dropped-part-elsewhere j h (place n) (place-under row n used))

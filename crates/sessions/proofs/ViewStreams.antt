@@ -1,101 +1,125 @@
--- The view of a session's streams in the tables: what finding, opening, reading and writing back show and change of it.
-use Prim.Native.Nat.{ℕ, zero, suc, _+_, _-_, _*_, _%_, _<_, _≤_}
-use mathlib.Core.Path.{_≡_, refl, sym, ap, _∙_}
+-- The view of a session's streams in the tables: what opening, reading and writing back show and change of it, and that they change nothing else.
+use Prim.Native.Nat.{ℕ, zero, suc, _+_, _-_, _<_, _≤_}
+use mathlib.Core.Path.{_≡_, refl, sym, ap, _∙_, subst}
 use mathlib.Core.Logic.{_≢_}
 use mathlib.Core.Bool.{Bool, true, false, cond}
-use mathlib.Core.Option.{Option, none, some}
+use mathlib.Core.Option.{Option, none, some, Option·map}
 use mathlib.Core.List.{List, [], _∷_, _++_, map, map-append}
 use native.Mathlib.Omega.{arith}
 use native.Mathlib.Numerals.{add-one}
-use borrow.Author.Tests.{lt-ltb, lt-leb, le-leb}
+use borrow.Author.Tests.{lt-ltb, le-ltb, ltb-true, ltb-false, leb-true, leb-false}
 use lib.Dec.{eqb, leb, ltb}
-use lib.ListN.{length, take, drop, getD, set, length-map, length-drop, List·getD-map, replicate}
+use lib.ListN.{length, take, drop, getD, set, length-map, List·getD-map}
 use lib.Seq.{length-take-le, getD-take, getD-drop, take-set-lt, take-suc-set}
+use Rattle.codec.specs.Answers.{Answer, gives, refusedAs}
+use Rattle.streams.specs.Places.{firstFrom}
 use Rattle.streams.specs.State.{newStream}
+use Rattle.streams.specs.View.{Kept, keptOf, lengthIn, freshOf}
 use Rattle.streams.specs.declared.state.StreamState.{StreamState}
-use Rattle.sessions.specs.Search.{firstFrom}
+use Rattle.streams.proofs.places.Laws.{found-from, before-from}
 use Rattle.sessions.specs.Table.{sessionAt}
-use Rattle.sessions.specs.Streams.{wordsFrom, rowFrom, streamRow, streamOf, streamAt, keepStream, firstStream}
-use Rattle.sessions.specs.SessionStreams.{streamsUsed, streamedSession, streamsNamed, isStream, placedAs, placeBy, streamPlace, openedCount, openedIn, readOf, writtenOf}
+use Rattle.sessions.specs.Streams.{streamRow, streamAt, firstStream}
+use Rattle.sessions.specs.SessionStreams.{streamsUsed, streamedSession, streamsNamed, isStream, placedAs, streamPlace, openedAs, openedCount, openedIn, namedAs, readAs, writtenIn}
 use Rattle.sessions.specs.SessionObjects.{objectRow}
-use Rattle.sessions.specs.View.{Tables, Local, listed, opened, streamRows, localFrom, localOf, streamsOf}
-use Rattle.sessions.specs.declared.objects.Object.{Object}
-use Rattle.sessions.specs.declared.objects.Place.{Place}
-use Rattle.sessions.specs.declared.objects.Place.the-variants.{At, Nowhere}
+use Rattle.sessions.specs.View.{Tables, KeptStream, Local, Part, streamShown, opened, streamRows, tablePart, sessionShown, localShown, localOf, streamsOf, streamIn, openIf, openIn, writeIn}
+use Rattle.sessions.specs.Answers.{openedAnswer, streamAnswer, readAnswer}
+use Rattle.sessions.specs.Calls.{openTables, writeTables}
 use Rattle.sessions.specs.declared.session_streams.StreamPlace.{StreamPlace}
 use Rattle.sessions.specs.declared.session_streams.StreamPlace.the-variants.{Have, Add, Full, NotLive, Refused}
-use Rattle.sessions.specs.declared.table.ClientSession.{ClientSession}
+use Rattle.sessions.specs.declared.session_streams.StreamNamed.the-variants as stream
 use Rattle.sessions.specs.declared.table.Named.the-variants as named
-use Rattle.sessions.proofs.Search.{Under, found-under, same-from}
 use Rattle.sessions.proofs.Parts.{map-set}
+use Rattle.sessions.proofs.StreamBack.{new-shown, row-shown}
 use Rattle.sessions.proofs.ViewTable.{kept-here, kept-elsewhere, streams-here, streams-elsewhere, streams-length}
 use Rattle.sessions.proofs.session_streams.Laws.{place-is}
 use Rattle.sessions.proofs.table.Laws.{live-fits}
 
--- ---- a stream and its row
+-- ---- document 01's list of streams, by the place of a number
 
-words-all : (xs ys : List ℕ) (i : ℕ) → ((j : ℕ) → getD ys (i + j) 0 ≡ getD xs j 0) → wordsFrom ys i (length xs) ≡ xs
-words-all [] ys i h = refl
-words-all (x ∷ xs) ys i h =
-    let z : i + 0 ≡ i = omega arith in
-    ap (λ (k : ℕ). getD ys k 0 ∷ wordsFrom ys (suc i) (length xs)) (sym z)
-    ∙ ap (λ (y : ℕ). y ∷ wordsFrom ys (suc i) (length xs)) (h 0)
-    ∙ ap (λ (l : List ℕ). x ∷ l) (words-all xs ys (suc i) (λ j. let e : suc i + j ≡ i + suc j = omega arith in ap (λ (k : ℕ). getD ys k 0) e ∙ h (suc j)))
+module _ {A : Type 0} (blank : Kept A) where
+  abbrev hit : List (Kept A) → ℕ → ℕ → Bool
+  hit ks n j = eqb (getD ks j blank .number) n
 
-sixteen : (xs : List ℕ) → length xs ≡ 16 → wordsFrom xs 0 16 ≡ xs
-sixteen xs e = ap (wordsFrom xs 0) (sym e) ∙ words-all xs xs 0 (λ j. let z : 0 + j ≡ j = omega arith in ap (λ (k : ℕ). getD xs k 0) z)
+  -- the first stream of that number is found, and is the one that is written over
+  found-at : (ks : List (Kept A)) (n p : ℕ) → p < length ks → hit ks n p ≡ true → ((j : ℕ) → j < p → hit ks n j ≡ false) → streamIn ks n ≡ some (getD ks p blank)
+  unfolding streamIn
+  found-at [] n p h e f = let z : ⊥ = omega arith in absurd z
+  found-at (k ∷ ks) n zero h e f = rw e
+  found-at (k ∷ ks) n (suc p) h e f = rw (f 0 (omega arith)) (found-at ks n p (omega arith) e (λ j l. f (suc j) (omega arith)))
 
--- a stream that is written is the stream that is read
-pub stream-back : (s : StreamState) → s .«stream_id» < 256 → length (s .numbers) ≡ 16 → length (s .lengths) ≡ 16 → streamOf (streamRow s) ≡ s
-unfolding streamOf rowFrom
-stream-back s a b c =
-    let m : s .«stream_id» % 256 ≡ s .«stream_id» = omega arith in
-    λ i. record { «stream_id» = m i; «next_send_seq» = s .«next_send_seq»; «next_recv_seq» = s .«next_recv_seq»; numbers = sixteen (s .numbers) b i; lengths = sixteen (s .lengths) c i }
+  written-at : (ks : List (Kept A)) (k : Kept A) (p : ℕ) → p < length ks → hit ks (k .number) p ≡ true → ((j : ℕ) → j < p → hit ks (k .number) j ≡ false) → writeIn ks k ≡ set ks p k
+  unfolding writeIn
+  written-at [] k p h e f = let z : ⊥ = omega arith in absurd z
+  written-at (x ∷ xs) k zero h e f = rw e
+  written-at (x ∷ xs) k (suc p) h e f = rw (f 0 (omega arith)) (ap (λ (l : List (Kept A)). x ∷ l) (written-at xs k p (omega arith) e (λ j l. f (suc j) (omega arith))))
 
-pub new-back : (n : ℕ) → n < 256 → streamOf (streamRow (newStream n)) ≡ newStream n
-new-back n h = stream-back (newStream n) h refl refl
+  -- where none has that number, none is found and nothing is written
+  not-found : (ks : List (Kept A)) (n : ℕ) → ((j : ℕ) → j < length ks → hit ks n j ≡ false) → streamIn ks n ≡ none
+  unfolding streamIn
+  not-found [] n f = refl
+  not-found (k ∷ ks) n f = rw (f 0 (omega arith)) (not-found ks n (λ j l. f (suc j) (omega arith)))
 
--- ---- document 01's list of streams
+  not-written : (ks : List (Kept A)) (k : Kept A) → ((j : ℕ) → j < length ks → hit ks (k .number) j ≡ false) → writeIn ks k ≡ ks
+  unfolding writeIn
+  not-written [] k f = refl
+  not-written (x ∷ xs) k f = rw (f 0 (omega arith)) (ap (λ (l : List (Kept A)). x ∷ l) (not-written xs k (λ j l. f (suc j) (omega arith))))
 
-abbrev pub streamIn : List StreamState → ℕ → Place
-streamIn ss n = firstFrom (λ k. eqb (getD ss k (streamOf []) .«stream_id») n) 0 (length ss)
+-- ---- a session with other streams
 
--- the stream of that number is opened where it is not
-abbrev pub openAt : List StreamState → Place → ℕ → List StreamState
-openAt ss (At k) n = ss
-openAt ss Nowhere n = ss ++ (newStream n ∷ [])
+abbrev pub withStreams : List KeptStream → Option Local → Option Local
+withStreams ks none = none
+withStreams ks (some l) = some (record { id = l .id; key = l .key; last = l .last; objects = l .objects; streams = ks })
 
-abbrev pub openIn : List StreamState → ℕ → List StreamState
-openIn ss n = openAt ss (streamIn ss n) n
+-- a part with n streams in other rows
+abbrev pub withStreamed : ℕ → List (List ℕ) → Part → Part
+withStreamed n rows p = record { session = streamedSession (p .session) n; objects = p .objects; streams = rows }
 
--- a session with other streams
-abbrev pub withStreams : List StreamState → Option Local → Option Local
-withStreams ss none = none
-withStreams ss (some l) = some (record { key = l .key; last = l .last; objects = l .objects; streams = ss })
-
-streamed-shown : (s : ClientSession) (n : ℕ) (row : List Object) (rows rows′ : List (List ℕ)) → localFrom (streamedSession s n) row rows′ ≡ withStreams (opened n rows′) (localFrom s row rows)
-streamed-shown s n row rows rows′ = by (eqb (s .live) 0)
+streamed-shown : (id n : ℕ) (rows : List (List ℕ)) (p : Part) → localShown id (withStreamed n rows p) ≡ withStreams (opened n rows) (localShown id p)
+streamed-shown id n rows p = by (eqb (p .session .live) 0)
   where
-    by : (b : Bool) → cond b none (some (record { key = s .«client_key»; last = s .«last_activity»; objects = listed (s .objects) row; streams = opened n rows′ }))
-        ≡ withStreams (opened n rows′) (cond b none (some (record { key = s .«client_key»; last = s .«last_activity»; objects = listed (s .objects) row; streams = opened (s .streams) rows })))
+    by : (b : Bool) → cond b none (some (sessionShown id (withStreamed n rows p))) ≡ withStreams (opened n rows) (cond b none (some (sessionShown id p)))
     by true = refl
     by false = refl
 
+-- ---- answers
+
+-- a stream that was read, as the view shows it
+abbrev pub readShown : Answer (Option (Option StreamState)) → Answer (Option (Option KeptStream))
+readShown (gives none) = gives none
+readShown (gives (some o)) = gives (some (Option·map (keptOf lengthIn) o))
+readShown (refusedAs number byte) = refusedAs number byte
+
+-- whether a stream is open
+abbrev pub isOpen : {A : Type 0} → Option (Kept A) → Bool
+isOpen (some k) = true
+isOpen none = false
+
 -- ---- the tables
 
-abbrev pub openTables : Tables → ℕ → ℕ → Tables
-openTables t id n =
-    record { sessions = openedCount (streamPlace (t .sessions) (t .streams) id n) (t .sessions) id; streams = openedIn (streamPlace (t .sessions) (t .streams) id n) (t .streams) id n; objects = t .objects }
+-- "No such session": nothing is opened, read or written
+module _ (t : Tables) (id : ℕ) (gone : streamsNamed (t .sessions) (length (t .streams)) id ≡ named.NotLive) where
+  no-place : (n : ℕ) → streamPlace (t .sessions) (t .streams) id n ≡ NotLive
+  no-place n = sym (place-is (t .sessions) (t .streams) id n named.NotLive gone)
 
-abbrev pub writeTables : Tables → ℕ → ℕ → StreamState → Tables
-writeTables t id k s = record { sessions = t .sessions; streams = writtenOf (t .streams) id k s; objects = t .objects }
+  pub open-gone : (n : ℕ) → (openedAnswer (openedAs (streamPlace (t .sessions) (t .streams) id n)) ≡ gives none) × (openTables t id n ≡ t)
+  open-gone n =
+      (ap (λ (p : StreamPlace). openedAnswer (openedAs p)) (no-place n), λ i. record { sessions = openedCount (no-place n i) (t .sessions) id; streams = openedIn (no-place n i) (t .streams) id n; objects = t .objects })
+
+  pub read-gone : (n : ℕ) → readAs (streamPlace (t .sessions) (t .streams) id n) (t .streams) id ≡ record { answer = stream.NotLive; state = newStream 0 }
+  read-gone n = ap (λ (p : StreamPlace). readAs p (t .streams) id) (no-place n)
+
+  pub write-gone : (s : StreamState) → (streamAnswer (namedAs (streamPlace (t .sessions) (t .streams) id (s .«stream_id»))) ≡ gives none) × (writeTables t id s ≡ t)
+  write-gone s = (ap (λ (p : StreamPlace). streamAnswer (namedAs p)) (no-place (s .«stream_id»)), λ i. record { sessions = t .sessions; streams = writtenIn (no-place (s .«stream_id») i) (t .streams) id s; objects = t .objects })
 
 module _ (t : Tables) (id : ℕ) (id< : id < 256) (live : streamsNamed (t .sessions) (length (t .streams)) id ≡ named.Live) where
-  abbrev rows : List (List ℕ)
+  abbrev pub rows : List (List ℕ)
   rows = streamRows (t .streams) id
 
-  abbrev used : ℕ
+  abbrev pub used : ℕ
   used = streamsUsed (t .sessions) id
+
+  abbrev pub shown : List KeptStream
+  shown = streamsOf t id
 
   few : used ≤ 8
   unfolding streamsNamed
@@ -109,112 +133,217 @@ module _ (t : Tables) (id : ℕ) (id< : id < 256) (live : streamsNamed (t .sessi
   unfolding streamsNamed
   rows-long = omega (arith, live-fits (t .sessions) id used 8 (length (t .streams)) 2048 live .rows-long)
 
-  eight : length rows ≡ 8
+  pub eight : length rows ≡ 8
   eight = streams-length (t .streams) id store id<
 
-  open-length : length (streamsOf t id) ≡ used
+  open-length : length shown ≡ used
   unfolding opened
-  open-length = length-map (take used rows) streamOf ∙ length-take-le used rows (rw eight few)
+  open-length = length-map (take used rows) streamShown ∙ length-take-le used rows (rw eight few)
 
-  row-at : (k : ℕ) → k < 8 → getD rows k [] ≡ getD (t .streams) (firstStream id + k) []
+  pub row-at : (k : ℕ) → k < 8 → getD rows k [] ≡ getD (t .streams) (firstStream id + k) []
   unfolding streamRows
   row-at k h = getD-take 8 (drop (firstStream id) (t .streams)) k [] h ∙ getD-drop (firstStream id) (t .streams) k []
 
-  open-at : (k : ℕ) → k < used → getD (streamsOf t id) k (streamOf []) ≡ streamAt (t .streams) (firstStream id + k)
+  open-at : (k : ℕ) → k < used → getD shown k (streamShown []) ≡ keptOf lengthIn (streamAt (t .streams) (firstStream id + k))
   unfolding opened
-  open-at k h = List·getD-map streamOf (take used rows) k [] ∙ ap streamOf (getD-take used rows k [] h ∙ row-at k (omega (arith, few)))
+  open-at k h = List·getD-map streamShown (take used rows) k [] ∙ ap streamShown (getD-take used rows k [] h ∙ row-at k (omega (arith, few)))
+
+  -- ---- where the stream of a number is, read off the list
+
+  module _ (n : ℕ) where
+    abbrev pub place : StreamPlace
+    place = streamPlace (t .sessions) (t .streams) id n
+
+    sought : ℕ
+    sought = firstFrom (isStream (t .streams) (firstStream id) n) used 0
+
+    hit-is : (j : ℕ) → j < used → hit (streamShown []) shown n j ≡ isStream (t .streams) (firstStream id) n j
+    hit-is j h = ap (λ (k : KeptStream). eqb (k .number) n) (open-at j h)
+
+    before : (j : ℕ) → j < used → j < sought → hit (streamShown []) shown n j ≡ false
+    unfolding sought
+    before j h l = hit-is j h ∙ before-from (isStream (t .streams) (firstStream id) n) used 0 j (omega arith) l
+
+    there : sought < used → hit (streamShown []) shown n sought ≡ true
+    unfolding sought
+    there h = hit-is sought h ∙ found-from (isStream (t .streams) (firstStream id) n) used 0 (omega arith)
+
+    -- what a place says of the list
+    abbrev pub Seen : StreamPlace → Type 0
+    Seen (Have k) = (k < used) × (streamIn shown n ≡ some (getD shown k (streamShown []))) × ((x : KeptStream) → x .number ≡ n → writeIn shown x ≡ set shown k x)
+    Seen (Add k) = (k ≡ used) × (used < 8) × (streamIn shown n ≡ none) × ((x : KeptStream) → x .number ≡ n → writeIn shown x ≡ shown)
+    Seen Full = (8 ≤ used) × (streamIn shown n ≡ none) × ((x : KeptStream) → x .number ≡ n → writeIn shown x ≡ shown)
+    Seen NotLive = ⊥
+    Seen (Refused r) = ⊥
+
+    seen-place : Seen (placedAs sought used)
+    seen-place = by (ltb sought used) refl (leb 8 used) refl
+      where
+        none-has : used ≤ sought → (j : ℕ) → j < length shown → hit (streamShown []) shown n j ≡ false
+        none-has h j l = before j (omega (arith, open-length)) (omega (arith, open-length))
+
+        miss : ltb sought used ≡ false → (streamIn shown n ≡ none) × ((x : KeptStream) → x .number ≡ n → writeIn shown x ≡ shown)
+        miss a = (
+          not-found (streamShown []) shown n (none-has (ltb-false sought used a)),
+          λ x e. not-written (streamShown []) shown x (rw e (none-has (ltb-false sought used a))),
+        )
+
+        by : (a : Bool) → ltb sought used ≡ a → (b : Bool) → leb 8 used ≡ b → Seen (cond a (Have sought) (cond b Full (Add used)))
+        by true a b c =
+            let h : sought < used = ltb-true sought used a in
+            let l : sought < length shown = omega (arith, open-length) in (
+              h,
+              found-at (streamShown []) shown n sought l (there h) (λ j k. before j (omega arith) k),
+              λ x e. written-at (streamShown []) shown x sought l (rw e (there h)) (λ j k. rw e (before j (omega arith) k)),
+            )
+        by false a true c = (leb-true 8 used c, miss a .0, miss a .1)
+        by false a false c = (refl, leb-false 8 used c, miss a .0, miss a .1)
+
+    pub seen : Seen place
+    unfolding sought
+    seen = subst Seen (place-is (t .sessions) (t .streams) id n named.Live live) seen-place
+
+  opened-set : (k : ℕ) → k < used → (w : List ℕ) → opened used (set rows k w) ≡ set shown k (streamShown w)
+  unfolding opened
+  opened-set k h w = ap (map streamShown) (take-set-lt used rows k w h) ∙ map-set streamShown (take used rows) k w
+
+  -- where nothing is written the list stays
+  same-streams : localOf t id ≡ withStreams shown (localOf t id)
+  same-streams = streamed-shown id used rows (tablePart t id)
 
   -- ---- read
 
-  pub read-view : (k : ℕ) → k < used → readOf (t .streams) id k ≡ getD (streamsOf t id) k (streamOf [])
-  unfolding readOf
-  read-view k h = rw (lt-ltb k 8 (omega (arith, few))) (sym (open-at k h))
+  pub read-view : (n : ℕ) → readShown (readAnswer (readAs (place n) (t .streams) id)) ≡ gives (some (streamIn shown n))
+  read-view n = by (place n) (seen n)
+    where
+      by : (p : StreamPlace) → Seen n p → readShown (readAnswer (readAs p (t .streams) id)) ≡ gives (some (streamIn shown n))
+      by (Have k) s = ap (λ (o : Option KeptStream). gives (some o)) (ap some (sym (open-at k (s .0))) ∙ sym (s .1))
+      by (Add k) s = ap (λ (o : Option KeptStream). gives (some o)) (sym (s .2))
+      by Full s = ap (λ (o : Option KeptStream). gives (some o)) (sym (s .1))
+      by NotLive s = absurd s
+      by (Refused r) s = absurd s
 
-  -- the search among the rows is the search in the list
-  pub stream-shown : (n : ℕ) → firstFrom (isStream (t .streams) (firstStream id) n) 0 used ≡ streamIn (streamsOf t id) n
-  stream-shown n =
-      same-from (isStream (t .streams) (firstStream id) n) (λ (k : ℕ). eqb (getD (streamsOf t id) k (streamOf []) .«stream_id») n) 0 used used (omega arith)
-      (λ k h. ap (λ (s : StreamState). eqb (s .«stream_id») n) (sym (open-at k h)))
-      ∙ ap (firstFrom (λ (k : ℕ). eqb (getD (streamsOf t id) k (streamOf []) .«stream_id») n) 0) (sym open-length)
-
-  pub place-view : (n : ℕ) → streamPlace (t .sessions) (t .streams) id n ≡ placedAs (streamIn (streamsOf t id) n) (length (streamsOf t id))
-  place-view n =
-      sym (place-is (t .sessions) (t .streams) id n named.Live live)
-      ∙ ap (λ (p : Place). placedAs p used) (stream-shown n)
-      ∙ ap (placedAs (streamIn (streamsOf t id) n)) (sym open-length)
-
-  opened-set : (k : ℕ) → k < used → (w : List ℕ) → opened used (set rows k w) ≡ set (streamsOf t id) k (streamOf w)
-  unfolding opened
-  opened-set k h w = ap (map streamOf) (take-set-lt used rows k w h) ∙ map-set streamOf (take used rows) k w
-
-  opened-more : used < 8 → (n : ℕ) → n < 256 → opened (used + 1) (set rows used (streamRow (newStream n))) ≡ streamsOf t id ++ (newStream n ∷ [])
-  unfolding opened
-  opened-more h n l =
-      ap (λ (k : ℕ). map streamOf (take k (set rows used (streamRow (newStream n))))) (add-one used)
-      ∙ ap (map streamOf) (take-suc-set rows used (streamRow (newStream n)) (rw eight h))
-      ∙ map-append streamOf (take used rows) (streamRow (newStream n) ∷ [])
-      ∙ ap (λ (s : StreamState). map streamOf (take used rows) ++ (s ∷ [])) (new-back n l)
+  -- what writing back answers
+  pub write-answer : (n : ℕ) → streamAnswer (namedAs (place n)) ≡ gives (some (isOpen (streamIn shown n)))
+  write-answer n = by (place n) (seen n)
+    where
+      by : (p : StreamPlace) → Seen n p → streamAnswer (namedAs p) ≡ gives (some (isOpen (streamIn shown n)))
+      by (Have k) s = ap (λ (o : Option KeptStream). gives (some (isOpen o))) (sym (s .1))
+      by (Add k) s = ap (λ (o : Option KeptStream). gives (some (isOpen o))) (sym (s .2))
+      by Full s = ap (λ (o : Option KeptStream). gives (some (isOpen o))) (sym (s .1))
+      by NotLive s = absurd s
+      by (Refused r) s = absurd s
 
   -- ---- write back
 
-  module _ (k : ℕ) (k< : k < used) (s : StreamState) where
-    k<8 : k < 8
-    k<8 = omega (arith, few)
+  module _ (s : StreamState) (s< : s .«stream_id» < 256) where
+    -- the tables, by the place of the stream
+    abbrev pub writing : StreamPlace → Tables
+    writing p = record { sessions = t .sessions; streams = writtenIn p (t .streams) id s; objects = t .objects }
 
-    written : writtenOf (t .streams) id k s ≡ set (t .streams) (firstStream id + k) (streamRow s)
-    unfolding writtenOf
-    written = rw (lt-ltb k 8 k<8) refl
+    pub written-part : (k : ℕ) → k < used → tablePart (writing (Have k)) id ≡ withStreamed used (set rows k (streamRow s)) (tablePart t id)
+    written-part k h = λ i. record { session = sessionAt (t .sessions) id; objects = objectRow (t .objects) id; streams = streams-here (t .streams) id k (streamRow s) (omega (arith, few)) i }
 
-    pub write-here : localOf (writeTables t id k s) id ≡ withStreams (set (streamsOf t id) k (streamOf (streamRow s))) (localOf t id)
-    write-here =
-        ap (λ (l : List (List ℕ)). localFrom (sessionAt (t .sessions) id) (objectRow (t .objects) id) (streamRows l id)) written
-        ∙ ap (localFrom (sessionAt (t .sessions) id) (objectRow (t .objects) id)) (streams-here (t .streams) id k (streamRow s) k<8)
-        ∙ streamed-shown (sessionAt (t .sessions) id) used (objectRow (t .objects) id) rows (set rows k (streamRow s))
-        ∙ ap (λ (ss : List StreamState). withStreams ss (localOf t id)) (opened-set k k< (streamRow s))
+    pub written-elsewhere : (k : ℕ) → k < used → (j : ℕ) → j ≢ id → tablePart (writing (Have k)) j ≡ tablePart t j
+    written-elsewhere k h j l = λ i. record { session = sessionAt (t .sessions) j; objects = objectRow (t .objects) j; streams = streams-elsewhere (t .streams) id k j (streamRow s) (omega (arith, few)) l i }
 
-    pub write-elsewhere : (j : ℕ) → j ≢ id → localOf (writeTables t id k s) j ≡ localOf t j
-    write-elsewhere j h =
-        ap (λ (l : List (List ℕ)). localFrom (sessionAt (t .sessions) j) (objectRow (t .objects) j) (streamRows l j)) written
-        ∙ ap (localFrom (sessionAt (t .sessions) j) (objectRow (t .objects) j)) (streams-elsewhere (t .streams) id k j (streamRow s) k<8 h)
+    pub written-shown : (k : ℕ) → Seen (s .«stream_id») (Have k) → opened used (set rows k (streamRow s)) ≡ writeIn shown (keptOf lengthIn s)
+    written-shown k e = opened-set k (e .0) (streamRow s) ∙ ap (set shown k) (row-shown s s<) ∙ sym (e .2 (keptOf lengthIn s) refl)
+
+    -- the stream of that number is written over; where there is none, nothing is written
+    pub write-here : localOf (writeTables t id s) id ≡ withStreams (writeIn shown (keptOf lengthIn s)) (localOf t id)
+    write-here = by (place (s .«stream_id»)) (seen (s .«stream_id»))
+      where
+        by : (p : StreamPlace) → Seen (s .«stream_id») p → localOf (writing p) id ≡ withStreams (writeIn shown (keptOf lengthIn s)) (localOf t id)
+        by (Have k) e =
+            ap (localShown id) (written-part k (e .0))
+            ∙ streamed-shown id used (set rows k (streamRow s)) (tablePart t id)
+            ∙ ap (λ (ks : List KeptStream). withStreams ks (localOf t id)) (written-shown k e)
+        by (Add k) e = same-streams ∙ ap (λ (ks : List KeptStream). withStreams ks (localOf t id)) (sym (e .3 (keptOf lengthIn s) refl))
+        by Full e = same-streams ∙ ap (λ (ks : List KeptStream). withStreams ks (localOf t id)) (sym (e .2 (keptOf lengthIn s) refl))
+        by NotLive e = absurd e
+        by (Refused r) e = absurd e
+
+    pub write-elsewhere : (j : ℕ) → j ≢ id → localOf (writeTables t id s) j ≡ localOf t j
+    write-elsewhere j h = by (place (s .«stream_id»)) (seen (s .«stream_id»))
+      where
+        by : (p : StreamPlace) → Seen (s .«stream_id») p → localOf (writing p) j ≡ localOf t j
+        by (Have k) e = ap (localShown j) (written-elsewhere k (e .0) j h)
+        by (Add k) e = refl
+        by Full e = refl
+        by NotLive e = refl
+        by (Refused r) e = refl
 
   -- ---- open
 
+  -- it is open where it was, or where the session has fewer than eight
+  pub open-answer : (n : ℕ) → openedAnswer (openedAs (place n)) ≡ gives (some (cond (isOpen (streamIn shown n)) true (ltb (length shown) 8)))
+  open-answer n = by (place n) (seen n)
+    where
+      by : (p : StreamPlace) → Seen n p → openedAnswer (openedAs p) ≡ gives (some (cond (isOpen (streamIn shown n)) true (ltb (length shown) 8)))
+      by (Have k) s = rw (s .1) refl
+      by (Add k) s = rw (s .2, lt-ltb (length shown) 8 (omega (arith, open-length, s .1))) refl
+      by Full s = rw (s .1, le-ltb (length shown) 8 (omega (arith, open-length, s .0))) refl
+      by NotLive s = absurd s
+      by (Refused r) s = absurd s
+
   module _ (n : ℕ) (n< : n < 256) where
-    -- a stream that is open is kept
-    pub open-kept : (k : ℕ) → streamIn (streamsOf t id) n ≡ At k → openTables t id n ≡ t
-    open-kept k e =
-        let p : streamPlace (t .sessions) (t .streams) id n ≡ Have k = place-view n ∙ ap (λ (q : Place). placedAs q (length (streamsOf t id))) e in
-        λ i. record { sessions = ap (λ (q : StreamPlace). openedCount q (t .sessions) id) p i; streams = ap (λ (q : StreamPlace). openedIn q (t .streams) id n) p i; objects = t .objects }
+    -- the tables, by the place of the stream
+    abbrev pub joined : StreamPlace → Tables
+    joined p = record { sessions = openedCount p (t .sessions) id; streams = openedIn p (t .streams) id n; objects = t .objects }
 
-    module _ (e : streamIn (streamsOf t id) n ≡ Nowhere) where
-      -- a ninth is not opened
-      pub open-full : used ≡ 8 → (streamPlace (t .sessions) (t .streams) id n ≡ Full) × (openTables t id n ≡ t)
-      open-full h =
-          let p : streamPlace (t .sessions) (t .streams) id n ≡ Full =
-          place-view n ∙ ap (λ (q : Place). placedAs q (length (streamsOf t id))) e ∙ ap (λ (b : Bool). cond b Full (Add (length (streamsOf t id)))) (le-leb 8 (length (streamsOf t id)) (omega (arith, open-length))) in
-          (p, λ i. record { sessions = ap (λ (q : StreamPlace). openedCount q (t .sessions) id) p i; streams = ap (λ (q : StreamPlace). openedIn q (t .streams) id n) p i; objects = t .objects })
+    opened-more : used < 8 → opened (used + 1) (set rows used (streamRow (newStream n))) ≡ shown ++ (freshOf n ∷ [])
+    unfolding opened
+    opened-more h =
+        ap (λ (k : ℕ). map streamShown (take k (set rows used (streamRow (newStream n))))) (add-one used)
+        ∙ ap (map streamShown) (take-suc-set rows used (streamRow (newStream n)) (rw eight h))
+        ∙ map-append streamShown (take used rows) (streamRow (newStream n) ∷ [])
+        ∙ ap (λ (k : KeptStream). map streamShown (take used rows) ++ (k ∷ [])) (new-shown n n<)
 
-      module _ (room : used < 8) where
-        added : streamPlace (t .sessions) (t .streams) id n ≡ Add used
-        added =
-            place-view n
-            ∙ ap (λ (q : Place). placedAs q (length (streamsOf t id))) e
-            ∙ ap (λ (b : Bool). cond b Full (Add (length (streamsOf t id)))) (lt-leb 8 (length (streamsOf t id)) (omega (arith, open-length)))
-            ∙ ap Add open-length
+    pub added-part : used < 8 → tablePart (joined (Add used)) id ≡ withStreamed (used + 1) (set rows used (streamRow (newStream n))) (tablePart t id)
+    added-part room = λ i. record {
+      session = kept-here (t .sessions) id (streamedSession (sessionAt (t .sessions) id) (used + 1)) rows-long i;
+      objects = objectRow (t .objects) id;
+      streams = streams-here (t .streams) id used (streamRow (newStream n)) room i;
+    }
 
-        by-place : openTables t id n ≡ record { sessions = openedCount (Add used) (t .sessions) id; streams = openedIn (Add used) (t .streams) id n; objects = t .objects }
-        by-place = λ i. record { sessions = ap (λ (q : StreamPlace). openedCount q (t .sessions) id) added i; streams = ap (λ (q : StreamPlace). openedIn q (t .streams) id n) added i; objects = t .objects }
+    pub added-elsewhere : used < 8 → (j : ℕ) → j ≢ id → tablePart (joined (Add used)) j ≡ tablePart t j
+    added-elsewhere room j h = λ i. record {
+      session = kept-elsewhere (t .sessions) id (streamedSession (sessionAt (t .sessions) id) (used + 1)) j h i;
+      objects = objectRow (t .objects) j;
+      streams = streams-elsewhere (t .streams) id used j (streamRow (newStream n)) room h i;
+    }
 
-        pub open-here : localOf (openTables t id n) id ≡ withStreams (streamsOf t id ++ (newStream n ∷ [])) (localOf t id)
-        open-here =
-            ap (λ (u : Tables). localOf u id) by-place
-            ∙ ap (λ (s : ClientSession). localFrom s (objectRow (t .objects) id) (streamRows (keepStream (t .streams) (firstStream id + used) (newStream n)) id)) (kept-here (t .sessions) id (streamedSession (sessionAt (t .sessions) id) (used + 1)) rows-long)
-            ∙ ap (localFrom (streamedSession (sessionAt (t .sessions) id) (used + 1)) (objectRow (t .objects) id)) (streams-here (t .streams) id used (streamRow (newStream n)) room)
-            ∙ streamed-shown (sessionAt (t .sessions) id) (used + 1) (objectRow (t .objects) id) rows (set rows used (streamRow (newStream n)))
-            ∙ ap (λ (ss : List StreamState). withStreams ss (localOf t id)) (opened-more room n n<)
+    pub added-shown : used < 8 → streamIn shown n ≡ none → opened (used + 1) (set rows used (streamRow (newStream n))) ≡ openIn shown n
+    added-shown room e =
+        opened-more room
+        ∙ ap (λ (b : Bool). cond b (shown ++ (freshOf n ∷ [])) shown) (sym (lt-ltb (length shown) 8 (omega (arith, open-length))))
+        ∙ ap (λ (o : Option KeptStream). openIf o shown n) (sym e)
 
-        pub open-elsewhere : (j : ℕ) → j ≢ id → localOf (openTables t id n) j ≡ localOf t j
-        open-elsewhere j h =
-            ap (λ (u : Tables). localOf u j) by-place
-            ∙ ap (λ (s : ClientSession). localFrom s (objectRow (t .objects) j) (streamRows (keepStream (t .streams) (firstStream id + used) (newStream n)) j)) (kept-elsewhere (t .sessions) id (streamedSession (sessionAt (t .sessions) id) (used + 1)) j h)
-            ∙ ap (localFrom (sessionAt (t .sessions) j) (objectRow (t .objects) j)) (streams-elsewhere (t .streams) id used j (streamRow (newStream n)) room h)
+    -- the stream is opened where it is not; a ninth isn't
+    pub open-here : localOf (openTables t id n) id ≡ withStreams (openIn shown n) (localOf t id)
+    open-here = by (place n) (seen n)
+      where
+        by : (p : StreamPlace) → Seen n p → localOf (joined p) id ≡ withStreams (openIn shown n) (localOf t id)
+        by (Have k) s = same-streams ∙ ap (λ (o : Option KeptStream). withStreams (openIf o shown n) (localOf t id)) (sym (s .1))
+        by (Add k) s =
+            ap (λ (m : ℕ). localOf (joined (Add m)) id) (s .0)
+            ∙ ap (localShown id) (added-part (s .1))
+            ∙ streamed-shown id (used + 1) (set rows used (streamRow (newStream n))) (tablePart t id)
+            ∙ ap (λ (ks : List KeptStream). withStreams ks (localOf t id)) (added-shown (s .1) (s .2))
+        by Full s =
+            same-streams
+            ∙ ap (λ (b : Bool). withStreams (cond b (shown ++ (freshOf n ∷ [])) shown) (localOf t id)) (sym (le-ltb (length shown) 8 (omega (arith, open-length, s .0))))
+            ∙ ap (λ (o : Option KeptStream). withStreams (openIf o shown n) (localOf t id)) (sym (s .1))
+        by NotLive s = absurd s
+        by (Refused r) s = absurd s
+
+    pub open-elsewhere : (j : ℕ) → j ≢ id → localOf (openTables t id n) j ≡ localOf t j
+    open-elsewhere j h = by (place n) (seen n)
+      where
+        by : (p : StreamPlace) → Seen n p → localOf (joined p) j ≡ localOf t j
+        by (Have k) s = refl
+        by (Add k) s = ap (λ (m : ℕ). localOf (joined (Add m)) j) (s .0) ∙ ap (localShown j) (added-elsewhere (s .1) j h)
+        by Full s = refl
+        by NotLive s = refl
+        by (Refused r) s = refl

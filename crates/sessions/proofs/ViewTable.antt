@@ -1,28 +1,28 @@
 -- The view of the sessions: what touching, removing, opening and sweeping change of it, and that they change nothing else.
 use Prim.Native.Nat.{ℕ, zero, suc, _+_, _-_, _*_, _<_, _≤_}
-use mathlib.Core.Path.{_≡_, refl, sym, ap, _∙_, subst}
+use mathlib.Core.Path.{_≡_, refl, sym, ap, _∙_}
 use mathlib.Core.Logic.{_≢_}
 use mathlib.Core.Bool.{Bool, true, false, cond}
 use mathlib.Core.Option.{Option, none, some}
 use mathlib.Core.List.{List, [], _∷_, map}
 use native.Mathlib.Omega.{arith}
-use borrow.Author.Tests.{le-leb, eq-eqb, ne-eqb, eqb-true, eqb-false, leb-true, leb-false}
+use borrow.Author.Tests.{le-leb, eqb-true, eqb-false, leb-true, leb-false}
 use lib.Dec.{eqb, leb, ltb}
-use lib.ListN.{length, take, drop, getD, set, length-set, length-drop}
+use lib.ListN.{length, take, drop, set, length-set, length-drop}
 use lib.Seq.{getD-set-same, getD-set-other, length-take-le}
 use Rattle.streams.specs.State.{newStream}
-use Rattle.streams.specs.declared.state.StreamState.{StreamState}
+use Rattle.streams.specs.View.{freshOf}
 use Rattle.sessions.specs.Table.{sessionAt, sessionOf, rowOf, keepSession, isFree, namedOf, keptRows, touchedSession, touchedRows, endedSession, endedRows, newSession}
-use Rattle.sessions.specs.Opening.{openedRows, openedStreams}
 use Rattle.sessions.specs.Sweep.{goes, expiredFrom, sweptAt, sweptFrom, sweptRows}
 use Rattle.sessions.specs.SessionObjects.{objectRow}
-use Rattle.sessions.specs.Streams.{streamOf, rowFrom, streamRow, keepStream, firstStream}
-use Rattle.sessions.specs.View.{Tables, Local, startOf, expired, streamRows, listed, opened, localFrom, localOf, lapsed, lapsedIn}
-use Rattle.sessions.specs.declared.objects.Object.{Object}
+use Rattle.sessions.specs.Streams.{streamRow, firstStream}
+use Rattle.sessions.specs.View.{Tables, KeptStream, Local, Part, startOf, streamShown, streamRows, listed, opened, tablePart, sessionShown, localShown, localOf, lapsed, expiredAt}
+use Rattle.sessions.specs.Calls.{withSessions, createTables}
 use Rattle.sessions.specs.declared.table.ClientSession.{ClientSession}
 use Rattle.sessions.specs.declared.table.Named.{Named}
 use Rattle.sessions.specs.declared.table.Named.the-variants.{Live, NotLive, Refused}
 use Rattle.sessions.specs.declared.opening.Created.the-variants.{Opened}
+use Rattle.sessions.proofs.StreamBack.{new-shown}
 use Rattle.sessions.proofs.Parts.{part-below, part-above, part-within}
 
 -- ---- one row of the table
@@ -59,50 +59,51 @@ module _ (rows : List (List ℕ)) (id : ℕ) (s : ClientSession) where
 
 -- ---- the tables with other sessions in them
 
-abbrev pub withSessions : Tables → List (List ℕ) → Tables
-withSessions t rows = record { sessions = rows; streams = t .streams; objects = t .objects }
+abbrev pub withSession : ClientSession → Part → Part
+withSession s p = record { session = s; objects = p .objects; streams = p .streams }
 
 module _ (t : Tables) (id : ℕ) (long : 256 ≤ length (t .sessions)) (id< : id < 256) where
   -- a live session that becomes s, and the others
   module _ (s : ClientSession) where
-    abbrev changed : Tables
+    abbrev pub changed : Tables
     changed = withSessions t (keptRows (namedOf (t .sessions) id) (t .sessions) id s)
 
-    shown-here : isFree (t .sessions) id ≡ false → localOf changed id ≡ localFrom s (objectRow (t .objects) id) (streamRows (t .streams) id)
-    shown-here e = ap (λ (x : ClientSession). localFrom x (objectRow (t .objects) id) (streamRows (t .streams) id)) (live-here (t .sessions) id s long id< e)
+    pub changed-here : isFree (t .sessions) id ≡ false → tablePart changed id ≡ withSession s (tablePart t id)
+    changed-here e = ap (λ (x : ClientSession). withSession x (tablePart t id)) (live-here (t .sessions) id s long id< e)
 
-    shown-elsewhere : (j : ℕ) → j ≢ id → localOf changed j ≡ localOf t j
-    shown-elsewhere j h = ap (λ (x : ClientSession). localFrom x (objectRow (t .objects) j) (streamRows (t .streams) j)) (live-elsewhere (t .sessions) id s j h)
+    pub changed-elsewhere : (j : ℕ) → j ≢ id → tablePart changed j ≡ tablePart t j
+    changed-elsewhere j h = ap (λ (x : ClientSession). withSession x (tablePart t j)) (live-elsewhere (t .sessions) id s j h)
 
-    shown-free : isFree (t .sessions) id ≡ true → localOf changed id ≡ none
-    shown-free e = rw (free-kept (t .sessions) id s long e, e) refl
+    -- an id that is not live stays so
+    pub changed-free : isFree (t .sessions) id ≡ true → changed ≡ t
+    changed-free e = ap (withSessions t) (free-kept (t .sessions) id s long e)
 
-    not-live : isFree (t .sessions) id ≡ true → localOf t id ≡ none
-    not-live e = rw e refl
+  not-live : isFree (t .sessions) id ≡ true → localOf t id ≡ none
+  not-live e = rw e refl
 
   -- ---- touch
 
   abbrev pub touchedLocal : ℕ → Option Local → Option Local
   touchedLocal time none = none
-  touchedLocal time (some l) = some (record { key = l .key; last = time; objects = l .objects; streams = l .streams })
+  touchedLocal time (some l) = some (record { id = l .id; key = l .key; last = time; objects = l .objects; streams = l .streams })
 
   pub touch-here : (time : ℕ) → localOf (withSessions t (touchedRows (t .sessions) id time)) id ≡ touchedLocal time (localOf t id)
   unfolding touchedRows
   touch-here time = by (isFree (t .sessions) id) refl
     where
-      same : (b : Bool) → eqb (sessionAt (t .sessions) id .live) 0 ≡ b
-          → localFrom (touchedSession (sessionAt (t .sessions) id) time) (objectRow (t .objects) id) (streamRows (t .streams) id) ≡ touchedLocal time (localOf t id)
-      same true e = rw e refl
-      same false e = rw e refl
+      s : ClientSession
+      s = touchedSession (sessionAt (t .sessions) id) time
 
-      by : (b : Bool) → isFree (t .sessions) id ≡ b
-          → localOf (withSessions t (keptRows (namedOf (t .sessions) id) (t .sessions) id (touchedSession (sessionAt (t .sessions) id) time))) id ≡ touchedLocal time (localOf t id)
-      by true e = shown-free (touchedSession (sessionAt (t .sessions) id) time) e ∙ sym (ap (touchedLocal time) (not-live (sessionAt (t .sessions) id) e))
-      by false e = shown-here (touchedSession (sessionAt (t .sessions) id) time) e ∙ same false e
+      shown : eqb (sessionAt (t .sessions) id .live) 0 ≡ false → localShown id (withSession s (tablePart t id)) ≡ touchedLocal time (localOf t id)
+      shown e = rw e refl
+
+      by : (b : Bool) → isFree (t .sessions) id ≡ b → localOf (changed s) id ≡ touchedLocal time (localOf t id)
+      by true e = ap (λ (u : Tables). localOf u id) (changed-free s e) ∙ not-live e ∙ sym (ap (touchedLocal time) (not-live e))
+      by false e = ap (localShown id) (changed-here s e) ∙ shown e
 
   pub touch-elsewhere : (time j : ℕ) → j ≢ id → localOf (withSessions t (touchedRows (t .sessions) id time)) j ≡ localOf t j
   unfolding touchedRows
-  touch-elsewhere time j h = shown-elsewhere (touchedSession (sessionAt (t .sessions) id) time) j h
+  touch-elsewhere time j h = ap (localShown j) (changed-elsewhere (touchedSession (sessionAt (t .sessions) id) time) j h)
 
   -- ---- remove: nothing is left of the session
 
@@ -110,19 +111,19 @@ module _ (t : Tables) (id : ℕ) (long : 256 ≤ length (t .sessions)) (id< : id
   unfolding endedRows
   remove-here = by (isFree (t .sessions) id) refl
     where
-      by : (b : Bool) → isFree (t .sessions) id ≡ b → localOf (withSessions t (keptRows (namedOf (t .sessions) id) (t .sessions) id endedSession)) id ≡ none
-      by true e = shown-free endedSession e
-      by false e = shown-here endedSession e
+      by : (b : Bool) → isFree (t .sessions) id ≡ b → localOf (changed endedSession) id ≡ none
+      by true e = ap (λ (u : Tables). localOf u id) (changed-free endedSession e) ∙ not-live e
+      by false e = ap (localShown id) (changed-here endedSession e)
 
   pub remove-elsewhere : (j : ℕ) → j ≢ id → localOf (withSessions t (endedRows (t .sessions) id)) j ≡ localOf t j
   unfolding endedRows
-  remove-elsewhere j h = shown-elsewhere endedSession j h
+  remove-elsewhere j h = ap (localShown j) (changed-elsewhere endedSession j h)
 
 -- ---- create_session
 
+-- the tables where it opens one
 abbrev pub openedTables : Tables → ℕ → ℕ → ℕ → ℕ → Tables
-openedTables t id next key time =
-    record { sessions = openedRows (Opened id next) (t .sessions) key time; streams = openedStreams (Opened id next) (t .streams); objects = t .objects }
+openedTables t id next key time = createTables (Opened id next) t key time
 
 -- a row of streams that another session's does not touch
 pub streams-elsewhere : (streams : List (List ℕ)) (id k j : ℕ) (w : List ℕ) → k < 8 → j ≢ id → streamRows (set streams (firstStream id + k) w) j ≡ streamRows streams j
@@ -137,40 +138,52 @@ pub streams-here : (streams : List (List ℕ)) (id k : ℕ) (w : List ℕ) → k
 unfolding streamRows
 streams-here streams id k w h = part-within streams (8 * id) 8 k w h
 
+first-row : (id : ℕ) → firstStream id ≡ firstStream id + 0
+first-row id = omega arith
+
+pub streams-first : (streams : List (List ℕ)) (id : ℕ) (w : List ℕ) → streamRows (set streams (firstStream id) w) id ≡ set (streamRows streams id) 0 w
+streams-first streams id w = ap (λ (k : ℕ). streamRows (set streams k w) id) (first-row id) ∙ streams-here streams id 0 w (omega arith)
+
+pub first-elsewhere : (streams : List (List ℕ)) (id j : ℕ) (w : List ℕ) → j ≢ id → streamRows (set streams (firstStream id) w) j ≡ streamRows streams j
+first-elsewhere streams id j w h = ap (λ (k : ℕ). streamRows (set streams k w) j) (first-row id) ∙ streams-elsewhere streams id 0 j w (omega arith) h
+
 pub streams-length : (streams : List (List ℕ)) (id : ℕ) → 2048 ≤ length streams → id < 256 → length (streamRows streams id) ≡ 8
 unfolding streamRows
 streams-length streams id h l = length-take-le 8 (drop (8 * id) streams) (rw (length-drop (8 * id) streams) (omega arith))
 
-fresh : streamOf (streamRow (newStream 0)) ≡ newStream 0
-unfolding streamOf rowFrom
-fresh = refl
-
 module _ (t : Tables) (id next key time : ℕ) (long : 256 ≤ length (t .sessions)) (store : 2048 ≤ length (t .streams)) (id< : id < 256) where
-  first-row : firstStream id ≡ firstStream id + 0
-  first-row = omega arith
+  -- the part of the new session: nothing of the last holder of its rows is in use
+  pub opened-here : tablePart (openedTables t id next key time) id
+      ≡ record { session = newSession key time; objects = objectRow (t .objects) id; streams = set (streamRows (t .streams) id) 0 (streamRow (newStream 0)) }
+  opened-here = λ i. record {
+    session = kept-here (t .sessions) id (newSession key time) (omega arith) i;
+    objects = objectRow (t .objects) id;
+    streams = streams-first (t .streams) id (streamRow (newStream 0)) i;
+  }
 
-  one-open : opened 1 (streamRows (keepStream (t .streams) (firstStream id) (newStream 0)) id) ≡ newStream 0 ∷ []
+  pub opened-elsewhere : (j : ℕ) → j ≢ id → tablePart (openedTables t id next key time) j ≡ tablePart t j
+  opened-elsewhere j h = λ i. record {
+    session = kept-elsewhere (t .sessions) id (newSession key time) j h i;
+    objects = objectRow (t .objects) j;
+    streams = first-elsewhere (t .streams) id j (streamRow (newStream 0)) h i;
+  }
+
+  pub one-open : opened 1 (set (streamRows (t .streams) id) 0 (streamRow (newStream 0))) ≡ freshOf 0 ∷ []
   unfolding opened
-  one-open =
-      ap (λ (k : ℕ). map streamOf (take 1 (streamRows (keepStream (t .streams) k (newStream 0)) id))) first-row
-      ∙ ap (λ (l : List (List ℕ)). map streamOf (take 1 l)) (streams-here (t .streams) id 0 (streamRow (newStream 0)) (omega arith))
-      ∙ by (streamRows (t .streams) id) (streams-length (t .streams) id store id<)
+  one-open = by (streamRows (t .streams) id) (streams-length (t .streams) id store id<)
     where
-      by : (l : List (List ℕ)) → length l ≡ 8 → map streamOf (take 1 (set l 0 (streamRow (newStream 0)))) ≡ newStream 0 ∷ []
+      by : (l : List (List ℕ)) → length l ≡ 8 → map streamShown (take 1 (set l 0 (streamRow (newStream 0)))) ≡ freshOf 0 ∷ []
       by [] e = let z : ⊥ = omega arith in absurd z
-      by (x ∷ l) e = ap (λ (s : StreamState). s ∷ []) fresh
+      by (x ∷ l) e = ap (λ (k : KeptStream). k ∷ []) (new-shown 0 (omega arith))
 
-  pub open-here : localOf (openedTables t id next key time) id ≡ some (startOf key time)
+  pub open-here : localOf (openedTables t id next key time) id ≡ some (startOf id key time)
   unfolding listed
   open-here =
-      ap (λ (s : ClientSession). localFrom s (objectRow (t .objects) id) (streamRows (keepStream (t .streams) (firstStream id) (newStream 0)) id)) (kept-here (t .sessions) id (newSession key time) (omega arith))
-      ∙ ap (λ (l : List StreamState). some (record { key = key; last = time; objects = []; streams = l })) one-open
+      ap (localShown id) opened-here
+      ∙ ap (λ (ks : List KeptStream). some (record { id = id; key = key; last = time; objects = []; streams = ks })) one-open
 
   pub open-elsewhere : (j : ℕ) → j ≢ id → localOf (openedTables t id next key time) j ≡ localOf t j
-  open-elsewhere j h =
-      ap (λ (s : ClientSession). localFrom s (objectRow (t .objects) j) (streamRows (keepStream (t .streams) (firstStream id) (newStream 0)) j)) (kept-elsewhere (t .sessions) id (newSession key time) j h)
-      ∙ ap (λ (k : ℕ). localFrom (sessionAt (t .sessions) j) (objectRow (t .objects) j) (streamRows (keepStream (t .streams) k (newStream 0)) j)) first-row
-      ∙ ap (localFrom (sessionAt (t .sessions) j) (objectRow (t .objects) j)) (streams-elsewhere (t .streams) id 0 j (streamRow (newStream 0)) (omega arith) h)
+  open-elsewhere j h = ap (localShown j) (opened-elsewhere j h)
 
 -- ---- a sweep
 
@@ -199,12 +212,17 @@ module _ (time timeout : ℕ) where
       by true = length-set rows i (rowOf endedSession)
       by false = refl
 
+  pub swept-all : (rows : List (List ℕ)) (i n : ℕ) → length (sweptFrom rows time timeout i n) ≡ length rows
+  unfolding sweptFrom
+  swept-all rows i zero = refl
+  swept-all rows i (suc n) = swept-all (sweptAt rows time timeout i) (suc i) n ∙ swept-length rows i
+
   -- what goes is seen in the session's own row
   goes-same : (rows rows′ : List (List ℕ)) (j : ℕ) → sessionAt rows′ j ≡ sessionAt rows j → goes rows′ time timeout j ≡ goes rows time timeout j
   unfolding goes
   goes-same rows rows′ j e = ap (λ (s : ClientSession). cond (eqb (s .live) 0) false (ltb timeout (time - s .«last_activity»))) e
 
-  swept-outside : (rows : List (List ℕ)) (i n j : ℕ) → (i ≤ j → j < i + n → ⊥) → sessionAt (sweptFrom rows time timeout i n) j ≡ sessionAt rows j
+  pub swept-outside : (rows : List (List ℕ)) (i n j : ℕ) → (i ≤ j → j < i + n → ⊥) → sessionAt (sweptFrom rows time timeout i n) j ≡ sessionAt rows j
   unfolding sweptFrom
   swept-outside rows i zero j h = refl
   swept-outside rows i (suc n) j h =
@@ -235,25 +253,28 @@ module _ (time timeout : ℕ) where
   goes-view t j = by (isFree (t .sessions) j)
     where
       by : (b : Bool) → cond b false (ltb timeout (time - sessionAt (t .sessions) j .«last_activity»))
-          ≡ lapsed time timeout (cond b none (some (record { key = sessionAt (t .sessions) j .«client_key»; last = sessionAt (t .sessions) j .«last_activity»; objects = listed (sessionAt (t .sessions) j .objects) (objectRow (t .objects) j); streams = opened (sessionAt (t .sessions) j .streams) (streamRows (t .streams) j) })))
+          ≡ lapsed time timeout (cond b none (some (sessionShown j (tablePart t j))))
       by true = refl
       by false = refl
+
+  -- what is left of a session's part
+  pub swept-part : (t : Tables) (j : ℕ) → 256 ≤ length (t .sessions) → 1 ≤ j → j < 256
+      → tablePart (withSessions t (sweptRows (t .sessions) time timeout)) j ≡ withSession (cond (goes (t .sessions) time timeout j) endedSession (sessionAt (t .sessions) j)) (tablePart t j)
+  unfolding sweptRows
+  swept-part t j long a b = ap (λ (s : ClientSession). withSession s (tablePart t j)) (swept-inside (t .sessions) 1 255 j (omega arith) a (omega arith))
 
   -- "a sweep when it is expired, ends it"; every other session stays
   pub sweep-view : (t : Tables) (j : ℕ) → 256 ≤ length (t .sessions) → 1 ≤ j → j < 256
       → localOf (withSessions t (sweptRows (t .sessions) time timeout)) j ≡ cond (lapsed time timeout (localOf t j)) none (localOf t j)
-  unfolding sweptRows
-  sweep-view t j long a b =
-      ap (λ (s : ClientSession). localFrom s (objectRow (t .objects) j) (streamRows (t .streams) j)) (swept-inside (t .sessions) 1 255 j (omega arith) a (omega arith))
-      ∙ by (goes (t .sessions) time timeout j)
-      ∙ ap (λ (g : Bool). cond g none (localOf t j)) (goes-view t j)
+  sweep-view t j long a b = ap (localShown j) (swept-part t j long a b) ∙ by (goes (t .sessions) time timeout j) ∙ ap (λ (g : Bool). cond g none (localOf t j)) (goes-view t j)
     where
-      by : (g : Bool) → localFrom (cond g endedSession (sessionAt (t .sessions) j)) (objectRow (t .objects) j) (streamRows (t .streams) j) ≡ cond g none (localOf t j)
+      by : (g : Bool) → localShown j (withSession (cond g endedSession (sessionAt (t .sessions) j)) (tablePart t j)) ≡ cond g none (localOf t j)
       by true = refl
       by false = refl
 
   -- the ids that a sweep lists are those of the expired sessions
-  pub listed-view : (t : Tables) (i n : ℕ) → expiredFrom (t .sessions) time timeout i n ≡ lapsedIn time timeout (localOf t) i n
-  unfolding expiredFrom lapsedIn
-  listed-view t i zero = refl
-  listed-view t i (suc n) = rw (goes-view t i, listed-view t (suc i) n)
+  pub listed-view : (t : Tables) (i n : ℕ) → expiredFrom (goes (t .sessions) time timeout) i n ≡ expiredFrom (expiredAt t time timeout) i n
+  listed-view t i n = ap (λ (gone : ℕ → Bool). expiredFrom gone i n) same
+    where
+      same : _≡_ {A = ℕ → Bool} (goes (t .sessions) time timeout) (expiredAt t time timeout)
+      same = λ i id. goes-view t id i

@@ -1,5 +1,5 @@
 -- What a reader must believe of sessions, in document 01's order.
-pub mod Search
+pub mod Need
 pub mod Objects
 pub mod Table
 pub mod Streams
@@ -8,4 +8,8 @@ pub mod Sweep
 pub mod SessionObjects
 pub mod SessionStreams
 pub mod View
-pub mod Need
+pub mod Answers
+pub mod Setup
+pub mod Limits
+pub mod Room
+pub mod Calls

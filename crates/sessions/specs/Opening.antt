@@ -17,24 +17,24 @@ use Rattle.sessions.specs.declared.opening.Created.the-variants.{Opened,
 abbrev pub after : ℕ → ℕ
 after id = cond (eqb id 255) 1 (id + 1)
 
--- how many of n ids from i on are live; the ids are 1 to 255
-unfoldable pub liveFrom : List (List ℕ) → ℕ → ℕ → ℕ
-liveFrom rows i zero = 0
-liveFrom rows i (suc n) = cond (isFree rows i) 0 1 + liveFrom rows (suc i) n
+-- how many of n ids from i on are live, by a test that says which are free; the ids are 1 to 255
+unfoldable pub liveFrom : (ℕ → Bool) → ℕ → ℕ → ℕ
+liveFrom free i zero = 0
+liveFrom free i (suc n) = cond (free i) 0 1 + liveFrom free (suc i) n
 
 unfoldable pub liveOf : List (List ℕ) → ℕ
-liveOf rows = liveFrom rows 1 255
+liveOf rows = liveFrom (isFree rows) 1 255
 
 unfoldable pub countedOf : List (List ℕ) → Counted
 countedOf rows = cond (tableFits rows) (counted.Sessions (liveOf rows)) (counted.Refused OverLimit)
 
--- "the next free id": of n ids from i on the first that is not live, or 0
-unfoldable pub freeFrom : List (List ℕ) → ℕ → ℕ → ℕ
-freeFrom rows i zero = 0
-freeFrom rows i (suc n) = cond (isFree rows i) i (freeFrom rows (after i) n)
+-- "the next free id": of n ids from i on the first that is free, or 0
+unfoldable pub freeFrom : (ℕ → Bool) → ℕ → ℕ → ℕ
+freeFrom free i zero = 0
+freeFrom free i (suc n) = cond (free i) i (freeFrom free (after i) n)
 
 unfoldable pub freeOf : List (List ℕ) → ℕ → ℕ
-freeOf rows next = freeFrom rows next 255
+freeOf rows next = freeFrom (isFree rows) next 255
 
 -- 16: "`max_clients` over 255, lent store under its documented need"; the id from which the next free one is looked for is 1 to 255
 unfoldable pub openFits : List (List ℕ) → List (List ℕ) → ℕ → ℕ → Bool

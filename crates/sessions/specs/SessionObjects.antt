@@ -3,8 +3,9 @@ use Prim.Native.Nat.{ℕ, _+_, _-_, _*_}
 use mathlib.Core.List.{List, [], _∷_, _++_}
 use lib.ListN.{length, take, drop}
 use Rattle.codec.specs.declared.submessages.ObjectNumber.{ObjectNumber}
+use Rattle.sessions.specs.Need.{mostObjects, objectsNeed}
 use Rattle.sessions.specs.Table.{sessionAt, keepSession, reachedOf}
-use Rattle.sessions.specs.Objects.{placeOf, foundOf, greatestOf, storedOf, storedRow, removedRow}
+use Rattle.sessions.specs.Objects.{objectPlace, foundOf, greatestOf, storedOf, storedRow, removedRow}
 use Rattle.sessions.specs.declared.objects.Object.{Object}
 use Rattle.sessions.specs.declared.objects.Found.{Found}
 use Rattle.sessions.specs.declared.objects.Found.the-variants as found
@@ -17,14 +18,14 @@ use Rattle.sessions.specs.declared.table.Named.the-variants.{Live, NotLi
 -- ---- a session's row
 
 abbrev pub firstObject : ℕ → ℕ
-firstObject id = 32 * id
+firstObject id = mostObjects * id
 
 -- its records, and the store with others in their place
 unfoldable pub objectRow : List Object → ℕ → List Object
-objectRow objects id = take 32 (drop (firstObject id) objects)
+objectRow objects id = take mostObjects (drop (firstObject id) objects)
 
 unfoldable pub withObjectRow : List Object → ℕ → List Object → List Object
-withObjectRow objects id row = take (firstObject id) objects ++ (row ++ drop (firstObject id + 32) objects)
+withObjectRow objects id row = take (firstObject id) objects ++ (row ++ drop (firstObject id + mostObjects) objects)
 
 -- how many are in use
 abbrev pub usedOf : List (List ℕ) → ℕ → ℕ
@@ -38,12 +39,12 @@ keepUsed sessions id n = keepSession sessions id (countedSession (sessionAt sess
 
 -- "A session holds 32 objects", for each of 256 ids
 unfoldable pub objectsNamed : List (List ℕ) → ℕ → ℕ → Named
-objectsNamed sessions objects id = reachedOf sessions id (usedOf sessions id) 32 objects 8192
+objectsNamed sessions objects id = reachedOf sessions id (usedOf sessions id) mostObjects objects objectsNeed
 
 -- ---- find; an id that is not live has no objects
 
 abbrev pub foundBy : Named → List (List ℕ) → List Object → ℕ → ObjectNumber → Found
-foundBy Live sessions objects id n = foundOf (objectRow objects id) (placeOf (objectRow objects id) (usedOf sessions id) n)
+foundBy Live sessions objects id n = foundOf (objectRow objects id) (objectPlace (objectRow objects id) (usedOf sessions id) n)
 foundBy NotLive sessions objects id n = found.Nothing
 foundBy (Refused r) sessions objects id n = found.Refused r
 
@@ -87,7 +88,7 @@ keepStored sessions id (stored.Refused r) = sessions
 
 abbrev pub removedIn : Named → List (List ℕ) → List Object → ℕ → ObjectNumber → List Object
 removedIn Live sessions objects id n =
-    withObjectRow objects id (removedRow (objectRow objects id) (usedOf sessions id) (placeOf (objectRow objects id) (usedOf sessions id) n))
+    withObjectRow objects id (removedRow (objectRow objects id) (usedOf sessions id) (objectPlace (objectRow objects id) (usedOf sessions id) n))
 removedIn NotLive sessions objects id n = objects
 removedIn (Refused r) sessions objects id n = objects
 

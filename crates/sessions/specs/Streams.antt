@@ -6,21 +6,23 @@ use mathlib.Core.Bool.{Bool}
 use lib.ListN.{getD, set, length}
 use Rattle.streams.specs.declared.state.StreamState.{StreamState}
 use Rattle.streams.specs.State.{newStream}
+use Rattle.streams.specs.Acknowledged.{listFrom, sixteen}
+use Rattle.sessions.specs.Need.{mostStreams, streamsNeed}
 
--- n numbers of a row, from i on
-abbrev pub wordsFrom : List ℕ → ℕ → ℕ → List ℕ
-wordsFrom w i zero = []
-wordsFrom w i (suc n) = getD w i 0 ∷ wordsFrom w (suc i) n
+-- a number of a row
+abbrev pub numberAt : List ℕ → ℕ → ℕ
+numberAt w i = getD w i 0
 
 -- a row: the stream's number, the next to send, the expected one, the held numbers and their lengths
 unfoldable pub rowFrom : ℕ → ℕ → ℕ → List ℕ → List ℕ → List ℕ
-rowFrom id send expected numbers lengths = id ∷ send ∷ expected ∷ (wordsFrom numbers 0 16 ++ wordsFrom lengths 0 16)
+rowFrom id send expected numbers lengths = id ∷ send ∷ expected ∷ (sixteen (numberAt numbers) ++ sixteen (numberAt lengths))
 
 abbrev pub streamRow : StreamState → List ℕ
 streamRow s = rowFrom (s .«stream_id») (s .«next_send_seq») (s .«next_recv_seq») (s .numbers) (s .lengths)
 
 unfoldable pub streamOf : List ℕ → StreamState
-streamOf w = record { «stream_id» = getD w 0 0 % 256; «next_send_seq» = getD w 1 0; «next_recv_seq» = getD w 2 0; numbers = wordsFrom w 3 16; lengths = wordsFrom w 19 16 }
+streamOf w =
+    record { «stream_id» = numberAt w 0 % 256; «next_send_seq» = numberAt w 1; «next_recv_seq» = numberAt w 2; numbers = listFrom (numberAt w) 16 3; lengths = listFrom (numberAt w) 16 19 }
 
 abbrev pub streamAt : List (List ℕ) → ℕ → StreamState
 streamAt rows at = streamOf (getD rows at [])
@@ -30,7 +32,7 @@ keepStream rows at s = set rows at (streamRow s)
 
 -- 16, "lent store under its documented need": eight rows for each of 256 ids
 abbrev pub streamsFit : List (List ℕ) → Bool
-streamsFit rows = leb 2048 (length rows)
+streamsFit rows = leb streamsNeed (length rows)
 
 abbrev pub firstStream : ℕ → ℕ
-firstStream id = 8 * id
+firstStream id = mostStreams * id

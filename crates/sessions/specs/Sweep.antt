@@ -14,11 +14,10 @@ use Rattle.sessions.specs.Table.{sessionAt, isFree, expiredOf, keepSessi
 unfoldable pub goes : List (List ℕ) → ℕ → ℕ → ℕ → Bool
 goes rows time timeout id = cond (isFree rows id) false (expiredOf (sessionAt rows id) time timeout)
 
--- of n ids from i on, those that go, ascending
-unfoldable pub expiredFrom : List (List ℕ) → ℕ → ℕ → ℕ → ℕ → List ℕ
-expiredFrom rows time timeout i zero = []
-expiredFrom rows time timeout i (suc n) =
-    cond (goes rows time timeout i) (i ∷ expiredFrom rows time timeout (suc i) n) (expiredFrom rows time timeout (suc i) n)
+-- of n ids from i on, those whose sessions are expired, ascending, by a test that says which are
+unfoldable pub expiredFrom : (ℕ → Bool) → ℕ → ℕ → List ℕ
+expiredFrom gone i zero = []
+expiredFrom gone i (suc n) = cond (gone i) (i ∷ expiredFrom gone (suc i) n) (expiredFrom gone (suc i) n)
 
 -- the table with id i swept, and with n ids from i on
 unfoldable pub sweptAt : List (List ℕ) → ℕ → ℕ → ℕ → List (List ℕ)
@@ -30,7 +29,7 @@ sweptFrom rows time timeout i (suc n) = sweptFrom (sweptAt rows time timeout i) 
 
 -- the ids are 1 to 255
 unfoldable pub expiredIds : List (List ℕ) → ℕ → ℕ → List ℕ
-expiredIds rows time timeout = expiredFrom rows time timeout 1 255
+expiredIds rows time timeout = expiredFrom (goes rows time timeout) 1 255
 
 unfoldable pub sweptRows : List (List ℕ) → ℕ → ℕ → List (List ℕ)
 sweptRows rows time timeout = sweptFrom rows time timeout 1 255

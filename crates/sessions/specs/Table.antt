@@ -6,9 +6,12 @@ use lib.Dec.{eqb, leb, ltb}
 use lib.ListN.{getD, set, length}
 use Rattle.codec.specs.declared.refusals.Refusal.{Refusal}
 use Rattle.codec.specs.declared.refusals.Refusal.the-variants.{OverLimit}
+use Rattle.sessions.specs.Need.{sessionsNeed}
 use Rattle.sessions.specs.declared.table.ClientSession.{ClientSession}
 use Rattle.sessions.specs.declared.table.Named.{Named}
 use Rattle.sessions.specs.declared.table.Named.the-variants.{Live, NotLive, Refused}
+use Rattle.sessions.specs.declared.table.Got.{Got}
+use Rattle.sessions.specs.declared.table.Got.the-variants as got
 
 -- ---- a session and its row
 
@@ -47,13 +50,22 @@ expiredOf s time timeout = ltb timeout (elapsedOf (s .«last_activity») time)
 
 -- 16, "lent store under its documented need"
 abbrev pub tableFits : List (List ℕ) → Bool
-tableFits rows = leb 256 (length rows)
+tableFits rows = leb sessionsNeed (length rows)
 
 abbrev pub isFree : List (List ℕ) → ℕ → Bool
 isFree rows id = eqb (sessionAt rows id .live) 0
 
 unfoldable pub namedOf : List (List ℕ) → ℕ → Named
 namedOf rows id = cond (tableFits rows) (cond (isFree rows id) NotLive Live) (Refused OverLimit)
+
+-- the session that the id names
+abbrev pub gotBy : Named → List (List ℕ) → ℕ → Got
+gotBy Live rows id = got.Session (sessionAt rows id)
+gotBy NotLive rows id = got.NotLive
+gotBy (Refused r) rows id = got.Refused r
+
+unfoldable pub gotOf : List (List ℕ) → ℕ → Got
+gotOf rows id = gotBy (namedOf rows id) rows id
 
 -- 16 for the records of a session: "lent store under its documented need, or tables altered past a limit"
 unfoldable pub recordsFit : ℕ → ℕ → ℕ → ℕ → Bool

@@ -1,16 +1,14 @@
 -- What the tables keep of a session, read as document 01's lists.
-use Prim.Native.Nat.{ℕ, zero, suc, _+_, _-_, _<_}
+use Prim.Native.Nat.{ℕ, zero, suc, _-_, _<_}
 use mathlib.Core.Path.{_≡_}
 use mathlib.Core.Bool.{Bool, true, false, cond}
 use mathlib.Core.Option.{Option, none, some}
 use mathlib.Core.List.{List, [], _∷_, _++_, map}
 use lib.Dec.{eqb, ltb}
 use lib.ListN.{length, take, drop, getD, set}
-use Rattle.streams.specs.State.{newStream}
-use Rattle.streams.specs.declared.state.StreamState.{StreamState}
-use Rattle.sessions.specs.Search.{firstFrom}
-use Rattle.sessions.specs.Table.{sessionAt, isFree, elapsedOf}
-use Rattle.sessions.specs.Opening.{after}
+use Rattle.streams.specs.View.{Kept, keptOf, lengthIn, freshOf}
+use Rattle.sessions.specs.Table.{sessionAt, elapsedOf}
+use Rattle.sessions.specs.Objects.{greater}
 use Rattle.sessions.specs.SessionObjects.{objectRow}
 use Rattle.sessions.specs.Streams.{streamOf, firstStream}
 use Rattle.sessions.specs.declared.objects.Object.{Object}
@@ -34,18 +32,26 @@ pub record Entry : Type 0 where
   pub handle : Option ℕ
 
 abbrev pub entryOf : Object → Entry
-entryOf o = record { number = o .number .0; kind = o .kind; handle = cond (eqb (o .bridged) 0) none (some (o .handle .0)) }
+entryOf o = record { number = o .number .0; kind = o .kind; handle = cond (eqb (o .bridged) 0) none (some (o .handle)) }
+
+-- "a list of streams (number, next to send, expected, held messages)"; no bytes of messages are lent, so of each its length is read
+abbrev pub KeptStream : Type 0
+KeptStream = Kept ℕ
+
+abbrev pub streamShown : List ℕ → KeptStream
+streamShown w = keptOf lengthIn (streamOf w)
 
 -- "an id and what else the tables keep of its opening, a last activity, a list of objects .., a list of streams"
 pub record Local : Type 0 where
+  pub id : ℕ
   pub key : ℕ
   pub last : ℕ
   pub objects : List Entry
-  pub streams : List StreamState
+  pub streams : List KeptStream
 
--- "It starts with .. the opening datagram's time as last activity, no objects, and the streams that `create_session` opens."
-abbrev pub startOf : ℕ → ℕ → Local
-startOf key time = record { key = key; last = time; objects = []; streams = newStream 0 ∷ [] }
+-- "It starts with the id given, the opening datagram's time as last activity, no objects, and the streams that `create_session` opens."
+abbrev pub startOf : ℕ → ℕ → ℕ → Local
+startOf id key time = record { id = id; key = key; last = time; objects = []; streams = freshOf 0 ∷ [] }
 
 -- "Expired: now minus last activity (0 if the clock went back) exceeds the timeout."
 abbrev pub expired : Local → ℕ → ℕ → Bool
@@ -53,29 +59,44 @@ expired l time timeout = ltb timeout (elapsedOf (l .last) time)
 
 -- ---- the session's part of the tables
 
+pub record Part : Type 0 where
+  pub session : ClientSession
+  pub objects : List Object
+  pub streams : List (List ℕ)
+
 unfoldable pub streamRows : List (List ℕ) → ℕ → List (List ℕ)
 streamRows streams id = take 8 (drop (firstStream id) streams)
 
 unfoldable pub listed : ℕ → List Object → List Entry
 listed used row = map entryOf (take used row)
 
-unfoldable pub opened : ℕ → List (List ℕ) → List StreamState
-opened used rows = map streamOf (take used rows)
+unfoldable pub opened : ℕ → List (List ℕ) → List KeptStream
+opened used rows = map streamShown (take used rows)
 
-abbrev pub localFrom : ClientSession → List Object → List (List ℕ) → Option Local
-localFrom s row rows =
-    cond (eqb (s .live) 0) none
-    (some (record { key = s .«client_key»; last = s .«last_activity»; objects = listed (s .objects) row; streams = opened (s .streams) rows }))
+abbrev pub tablePart : Tables → ℕ → Part
+tablePart t id = record { session = sessionAt (t .sessions) id; objects = objectRow (t .objects) id; streams = streamRows (t .streams) id }
 
 -- a session's objects, its streams, and the session, or none where the id is not live
-abbrev pub objectsOf : Tables → ℕ → List Entry
-objectsOf t id = listed (sessionAt (t .sessions) id .objects) (objectRow (t .objects) id)
+abbrev pub objectsShown : Part → List Entry
+objectsShown p = listed (p .session .objects) (p .objects)
 
-abbrev pub streamsOf : Tables → ℕ → List StreamState
-streamsOf t id = opened (sessionAt (t .sessions) id .streams) (streamRows (t .streams) id)
+abbrev pub streamsShown : Part → List KeptStream
+streamsShown p = opened (p .session .streams) (p .streams)
+
+abbrev pub sessionShown : ℕ → Part → Local
+sessionShown id p = record { id = id; key = p .session .«client_key»; last = p .session .«last_activity»; objects = objectsShown p; streams = streamsShown p }
+
+abbrev pub localShown : ℕ → Part → Option Local
+localShown id p = cond (eqb (p .session .live) 0) none (some (sessionShown id p))
+
+abbrev pub objectsOf : Tables → ℕ → List Entry
+objectsOf t id = objectsShown (tablePart t id)
+
+abbrev pub streamsOf : Tables → ℕ → List KeptStream
+streamsOf t id = streamsShown (tablePart t id)
 
 abbrev pub localOf : Tables → ℕ → Option Local
-localOf t id = localFrom (sessionAt (t .sessions) id) (objectRow (t .objects) id) (streamRows (t .streams) id)
+localOf t id = localShown id (tablePart t id)
 
 -- ---- all sessions
 
@@ -88,26 +109,26 @@ abbrev pub lapsed : ℕ → ℕ → Option Local → Bool
 lapsed time timeout none = false
 lapsed time timeout (some l) = expired l time timeout
 
--- of n ids from i on: how many are live, the first that is not live (or 0), and those whose sessions are expired, ascending
-unfoldable pub liveIn : (ℕ → Option Local) → ℕ → ℕ → ℕ
-liveIn at i zero = 0
-liveIn at i (suc n) = cond (absent (at i)) 0 1 + liveIn at (suc i) n
+-- which ids are free, and whose sessions are expired: the tests by which `liveFrom`, `freeFrom` and `expiredFrom` count, choose and list
+abbrev pub freeIds : Tables → ℕ → Bool
+freeIds t id = absent (localOf t id)
 
-unfoldable pub freeIn : (ℕ → Option Local) → ℕ → ℕ → ℕ
-freeIn at i zero = 0
-freeIn at i (suc n) = cond (absent (at i)) i (freeIn at (after i) n)
+abbrev pub expiredAt : Tables → ℕ → ℕ → ℕ → Bool
+expiredAt t time timeout id = lapsed time timeout (localOf t id)
 
-unfoldable pub lapsedIn : ℕ → ℕ → (ℕ → Option Local) → ℕ → ℕ → List ℕ
-lapsedIn time timeout at i zero = []
-lapsedIn time timeout at i (suc n) = cond (lapsed time timeout (at i)) (i ∷ lapsedIn time timeout at (suc i) n) (lapsedIn time timeout at (suc i) n)
-
--- ---- document 01's list operations
+-- ---- document 01's list of objects
 
 abbrev pub blankEntry : Entry
 blankEntry = record { number = 0; kind = 0; handle = none }
 
+-- the place of the first object of that number
+abbrev pub onePast : Place → Place
+onePast (At i) = At (suc i)
+onePast Nowhere = Nowhere
+
 abbrev pub placeIn : List Entry → ℕ → Place
-placeIn es n = firstFrom (λ i. eqb (getD es i blankEntry .number) n) 0 (length es)
+placeIn [] n = Nowhere
+placeIn (e ∷ es) n = cond (eqb (e .number) n) (At 0) (onePast (placeIn es n))
 
 abbrev pub heldAt : List Entry → Place → Option Entry
 heldAt es (At i) = some (getD es i blankEntry)
@@ -117,12 +138,12 @@ abbrev pub findIn : List Entry → ℕ → Option Entry
 findIn es n = heldAt es (placeIn es n)
 
 -- "lists its object .., in place of one of that number"
-abbrev pub putAt : List Entry → Place → Entry → List Entry
-putAt es (At i) e = set es i e
-putAt es Nowhere e = es ++ (e ∷ [])
+abbrev pub putEntry : List Entry → Place → Entry → List Entry
+putEntry es (At i) e = set es i e
+putEntry es Nowhere e = es ++ (e ∷ [])
 
 abbrev pub putIn : List Entry → Entry → List Entry
-putIn es e = putAt es (placeIn es (e .number)) e
+putIn es e = putEntry es (placeIn es (e .number)) e
 
 -- an object is dropped: the last one moves into its place
 abbrev pub dropAt : List Entry → Place → List Entry
@@ -135,7 +156,7 @@ dropIn es n = dropAt es (placeIn es n)
 -- "Of several Participants or Topics, the greatest object number is taken"
 abbrev pub greaterIn : Option Entry → Entry → Option Entry
 greaterIn none e = some e
-greaterIn (some b) e = cond (ltb (b .number) (e .number)) (some e) (some b)
+greaterIn (some b) e = some (greater (λ (x : Entry). x .number) b e)
 
 abbrev pub greatestUpTo : List Entry → ℕ → ℕ → Option Entry
 greatestUpTo es zero kind = none
@@ -145,6 +166,33 @@ greatestUpTo es (suc k) kind =
 abbrev pub greatestIn : List Entry → ℕ → Option Entry
 greatestIn es kind = greatestUpTo es (length es) kind
 
--- no two objects have one number
-unfoldable pub Distinct : List Entry → Type 0
-Distinct es = (i j : ℕ) → i < length es → j < length es → getD es i blankEntry .number ≡ getD es j blankEntry .number → i ≡ j
+-- ---- document 01's list of streams
+
+-- the stream of a number
+unfoldable pub streamIn : {A : Type 0} → List (Kept A) → ℕ → Option (Kept A)
+streamIn [] n = none
+streamIn (k ∷ ks) n = cond (eqb (k .number) n) (some k) (streamIn ks n)
+
+-- "A session holds .. 8 streams, stream 0 included": the stream of a number is opened where it is not; a ninth isn't
+abbrev pub openIf : {A : Type 0} → Option (Kept A) → List (Kept A) → ℕ → List (Kept A)
+openIf (some k) ks n = ks
+openIf none ks n = cond (ltb (length ks) 8) (ks ++ (freshOf n ∷ [])) ks
+
+abbrev pub openIn : {A : Type 0} → List (Kept A) → ℕ → List (Kept A)
+openIn ks n = openIf (streamIn ks n) ks n
+
+-- a stream is written back in the place of its number
+unfoldable pub writeIn : {A : Type 0} → List (Kept A) → Kept A → List (Kept A)
+writeIn [] k = []
+writeIn (x ∷ xs) k = cond (eqb (x .number) (k .number)) (k ∷ xs) (x ∷ writeIn xs k)
+
+-- ---- no two of a list have one number
+
+unfoldable pub Distinct : List ℕ → Type 0
+Distinct ns = (i j : ℕ) → i < length ns → j < length ns → getD ns i 0 ≡ getD ns j 0 → i ≡ j
+
+abbrev pub objectNumbers : List Entry → List ℕ
+objectNumbers es = map (λ (e : Entry). e .number) es
+
+abbrev pub streamNumbers : {A : Type 0} → List (Kept A) → List ℕ
+streamNumbers {A} ks = map (λ (k : Kept A). k .number) ks

@@ -12,12 +12,12 @@ use codec::submessages::ObjectNumber;
 ghost use mathlib.Core.Path.{_≡_};
 ghost use Prim.Native.Nat.{_≤_};
 ghost use lib.ListN.{length};
-ghost use Rattle.sessions.specs.Objects.{placeOf, foundOf, greatestOf, storedOf, storedRow, removedRow};
+ghost use Rattle.sessions.specs.Objects.{objectPlace, foundOf, greatestOf, storedOf, storedRow, removedRow};
 
 // Where the record of that number is: the search goes up from the first record.
 pub(crate) fn place(row: &[Object], used: usize, number: ObjectNumber) -> Place
     requires { ⌜ used ≤ length (now row) ⌝ }
-    ensures { λ r. ⌜ r ≡ placeOf (now (row .entry)) used number ⌝ }
+    ensures { λ r. ⌜ r ≡ objectPlace (now (row .entry)) used number ⌝ }
 {
     let mut i = 0;
     while i < used {
@@ -33,7 +33,7 @@ pub(crate) fn place(row: &[Object], used: usize, number: ObjectNumber) -> Place
 
 pub(crate) fn find(row: &[Object], used: usize, number: ObjectNumber) -> Found
     requires { ⌜ used ≤ length (now row) ⌝ }
-    ensures { λ r. ⌜ r ≡ foundOf (now (row .entry)) (placeOf (now (row .entry)) used number) ⌝ }
+    ensures { λ r. ⌜ r ≡ foundOf (now (row .entry)) (objectPlace (now (row .entry)) used number) ⌝ }
 {
     let p = place(row, used, number);
     match p {
@@ -81,8 +81,8 @@ pub(crate) fn put(row: &mut [Object], used: usize, o: Object) -> Stored
 // Takes the record of that number out; the last one moves into its place.
 pub(crate) fn remove(row: &mut [Object], used: usize, number: ObjectNumber) -> Found
     requires { ⌜ used ≤ length (now row) ⌝ }
-    ensures { λ r. ⌜ (r ≡ foundOf (now (row .entry)) (placeOf (now (row .entry)) used number))
-        × (now (row .exit) ≡ removedRow (now (row .entry)) used (placeOf (now (row .entry)) used number)) ⌝ }
+    ensures { λ r. ⌜ (r ≡ foundOf (now (row .entry)) (objectPlace (now (row .entry)) used number))
+        × (now (row .exit) ≡ removedRow (now (row .entry)) used (objectPlace (now (row .entry)) used number)) ⌝ }
 {
     let p = place(row, used, number);
     match p {

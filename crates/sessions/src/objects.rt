@@ -3,21 +3,21 @@ use codec::refusals::Refusal;
 use codec::submessages::ObjectNumber;
 ghost use mathlib.Core.Path.{_≡_};
 ghost use Prim.Native.Nat.{_<_};
-ghost use Rattle.sessions.specs.Objects.{bridgedOf, implicitOf, handleOf, isNumbered, greaterOf, betterOf, slotOf, countOf};
+ghost use Rattle.sessions.specs.Objects.{bridgedOf, implicitOf, handleOf, isNumbered, greaterOf, betterOf, slotOf, usedAfter};
 
 // What the bridge knows an entity by. One is made of a bridge's answer, or read out of a record that holds one: a bridge
 // call takes this struct alone, so an object number never stands where a handle is due.
 #[repr(C)]
 pub struct Handle(pub u32);
 
-// Numbers only, so that a C host can lend a row of these. `bridged` is 0 where the object has no handle; the
-// handle beside it is then not one, and no function hands it out.
+// Numbers only, so that a C host can lend a row of these. `bridged` is 0 where the object has no handle; the number
+// `handle` becomes a `Handle` in `bridge_handle` alone, and only where there is one.
 #[repr(C)]
 pub struct Object {
     pub number: ObjectNumber,
     pub kind: u8,
     pub bridged: u8,
-    pub handle: Handle,
+    pub handle: u32,
 }
 
 pub enum ObjectHandle {
@@ -34,7 +34,7 @@ impl Object {
             number,
             kind,
             bridged: 1,
-            handle,
+            handle: handle.0,
         }
     }
 
@@ -46,7 +46,7 @@ impl Object {
             number,
             kind,
             bridged: 0,
-            handle: Handle(0),
+            handle: 0,
         }
     }
 
@@ -57,7 +57,7 @@ impl Object {
         if self.bridged == 0 {
             ObjectHandle::Implicit
         } else {
-            ObjectHandle::Bridged(handle)
+            ObjectHandle::Bridged(Handle(handle))
         }
     }
 }
@@ -129,7 +129,7 @@ pub(crate) fn slot(p: Place, used: usize) -> usize
 // How many records are in use once one is stored.
 pub(crate) fn count(p: Place, used: usize) -> usize
     requires { ⌜ used < 64 ⌝ }
-    ensures { λ r. ⌜ r ≡ countOf p used ⌝ }
+    ensures { λ r. ⌜ r ≡ usedAfter p used ⌝ }
 {
     match p {
         Place::At(_) => used,

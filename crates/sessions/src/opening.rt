@@ -1,7 +1,11 @@
 // Opening a session: which id it gets, and what it starts with.
+use crate::need::SESSIONS;
+use crate::need::STREAMS;
+use crate::stream_rows::StreamRow;
 use crate::stream_rows::first_stream;
 use crate::stream_rows::keep_stream;
 use crate::table::ClientSession;
+use crate::table::SessionRow;
 use crate::table::keep_session;
 use crate::table::session_at;
 use codec::refusals::Refusal;
@@ -37,11 +41,11 @@ fn after_id(id: u8) -> u8
     if id == 255 { 1 } else { id + 1 }
 }
 
-fn live_count(sessions: &[[u64; 5]]) -> usize
+fn live_count(sessions: &[SessionRow]) -> usize
     requires { ⌜ 256 ≤ length (now sessions) ⌝ }
     ensures { λ r. ⌜ r ≡ liveOf (now (sessions .entry)) ⌝ }
 {
-    let mut i: usize = 256;
+    let mut i: usize = SESSIONS;
     let mut n: usize = 0;
     while 1 < i {
         i -= 1;
@@ -52,7 +56,7 @@ fn live_count(sessions: &[[u64; 5]]) -> usize
 }
 
 // The first id that is not live, from `next` on; 0 if all are.
-fn free_id(sessions: &[[u64; 5]], next: u8) -> u8
+fn free_id(sessions: &[SessionRow], next: u8) -> u8
     ensures { λ r. ⌜ r ≡ freeOf (now (sessions .entry)) next ⌝ }
 {
     let mut id = next;
@@ -68,10 +72,10 @@ fn free_id(sessions: &[[u64; 5]], next: u8) -> u8
 }
 
 // The number of live sessions.
-pub fn len(sessions: &[[u64; 5]]) -> Counted
+pub fn len(sessions: &[SessionRow]) -> Counted
     ensures { λ r. ⌜ r ≡ countedOf (now (sessions .entry)) ⌝ }
 {
-    if sessions.len() < 256 {
+    if sessions.len() < SESSIONS {
         return Counted::Refused(Refusal::OverLimit);
     }
     let n = live_count(sessions);
@@ -79,13 +83,13 @@ pub fn len(sessions: &[[u64; 5]]) -> Counted
 }
 
 // 16 where a lent store or a number is past its limit.
-fn fits(sessions: &[[u64; 5]], streams: &[[u16; 35]], max_clients: usize, next: u8) -> bool
+fn fits(sessions: &[SessionRow], streams: &[StreamRow], max_clients: usize, next: u8) -> bool
     ensures { λ r. ⌜ r ≡ openFits (now (sessions .entry)) (now (streams .entry)) «max_clients» next ⌝ }
 {
-    if sessions.len() < 256 {
+    if sessions.len() < SESSIONS {
         return false;
     }
-    if streams.len() < 2048 {
+    if streams.len() < STREAMS {
         return false;
     }
     if 255 < max_clients {
@@ -94,7 +98,7 @@ fn fits(sessions: &[[u64; 5]], streams: &[[u16; 35]], max_clients: usize, next: 
     0 < next
 }
 
-fn choose(sessions: &[[u64; 5]], max_clients: usize, next: u8) -> Created
+fn choose(sessions: &[SessionRow], max_clients: usize, next: u8) -> Created
     requires { ⌜ 256 ≤ length (now sessions) ⌝ }
     ensures { λ r. ⌜ r ≡ chosenOf (now (sessions .entry)) «max_clients» next ⌝ }
 {
@@ -113,7 +117,7 @@ fn choose(sessions: &[[u64; 5]], max_clients: usize, next: u8) -> Created
 }
 
 // Which id a new session gets, or why it gets none.
-fn admit(sessions: &[[u64; 5]], streams: &[[u16; 35]], max_clients: usize, next: u8) -> Created
+fn admit(sessions: &[SessionRow], streams: &[StreamRow], max_clients: usize, next: u8) -> Created
     ensures { λ r. ⌜ r ≡ createdOf (now (sessions .entry)) (now (streams .entry)) «max_clients» next ⌝ }
 {
     if fits(sessions, streams, max_clients, next) {
@@ -124,8 +128,8 @@ fn admit(sessions: &[[u64; 5]], streams: &[[u16; 35]], max_clients: usize, next:
 }
 
 fn open_as(
-    sessions: &mut [[u64; 5]],
-    streams: &mut [[u16; 35]],
+    sessions: &mut [SessionRow],
+    streams: &mut [StreamRow],
     created: Created,
     client_key: u32,
     time: u64,
@@ -147,8 +151,8 @@ fn open_as(
 
 // Opens a session under the next free id. The caller keeps `next` for the next one.
 pub fn create_session(
-    sessions: &mut [[u64; 5]],
-    streams: &mut [[u16; 35]],
+    sessions: &mut [SessionRow],
+    streams: &mut [StreamRow],
     max_clients: usize,
     next: u8,
     client_key: u32,

@@ -1,11 +1,14 @@
 // The objects of a session, by its id: 32 records a session, those of session s from record 32 * s on. Each function lends
 // the session's own row and nothing else.
+use crate::need::MOST_OBJECTS;
+use crate::need::OBJECTS;
 use crate::object_rows;
 use crate::objects::Found;
 use crate::objects::Object;
 use crate::objects::Stored;
 use crate::table::ClientSession;
 use crate::table::Named;
+use crate::table::SessionRow;
 use crate::table::keep_session;
 use crate::table::reached;
 use crate::table::session_at;
@@ -16,14 +19,14 @@ ghost use Prim.Native.Nat.{_+_, _-_};
 ghost use lib.ListN.{length};
 ghost use Rattle.sessions.specs.SessionObjects.{objectsNamed, usedOf, firstObject, countedSession, keepUsed, foundObject, greatestObject, storedObject, storedObjects, keepStored, removedObjects, keepRemoved};
 
-fn reach(sessions: &[[u64; 5]], objects: usize, id: u8) -> Named
+fn reach(sessions: &[SessionRow], objects: usize, id: u8) -> Named
     ensures { λ r. ⌜ r ≡ objectsNamed (now (sessions .entry)) objects id ⌝ }
 {
     let used = session_at(sessions, id).objects;
-    reached(sessions, id, used, 32, objects, 8192)
+    reached(sessions, id, used, MOST_OBJECTS as u64, objects, OBJECTS)
 }
 
-fn used(sessions: &[[u64; 5]], id: u8) -> usize
+fn used(sessions: &[SessionRow], id: u8) -> usize
     ensures { λ r. ⌜ r ≡ usedOf (now (sessions .entry)) id ⌝ }
 {
     session_at(sessions, id).objects as usize
@@ -32,13 +35,13 @@ fn used(sessions: &[[u64; 5]], id: u8) -> usize
 fn first(id: u8) -> usize
     ensures { λ r. ⌜ r ≡ firstObject id ⌝ }
 {
-    32 * (id as usize)
+    MOST_OBJECTS * (id as usize)
 }
 
 fn behind(id: u8) -> usize
     ensures { λ r. ⌜ r ≡ firstObject id + 32 ⌝ }
 {
-    first(id) + 32
+    first(id) + MOST_OBJECTS
 }
 
 fn counted(s: ClientSession, objects: u64) -> ClientSession
@@ -53,14 +56,14 @@ fn counted(s: ClientSession, objects: u64) -> ClientSession
     }
 }
 
-fn keep_used(sessions: &mut [[u64; 5]], id: u8, n: u64)
+fn keep_used(sessions: &mut [SessionRow], id: u8, n: u64)
     ensures { λ _. ⌜ now (sessions .exit) ≡ keepUsed (now (sessions .entry)) id n ⌝ }
 {
     let s = counted(session_at(sessions, id), n);
     keep_session(sessions, id, s);
 }
 
-fn keep_stored(sessions: &mut [[u64; 5]], id: u8, r: Stored)
+fn keep_stored(sessions: &mut [SessionRow], id: u8, r: Stored)
     ensures { λ _. ⌜ now (sessions .exit) ≡ keepStored (now (sessions .entry)) id r ⌝ }
 {
     match r {
@@ -79,7 +82,7 @@ fn one_less(n: u64) -> u64
     if n == 0 { 0 } else { n - 1 }
 }
 
-fn keep_removed(sessions: &mut [[u64; 5]], id: u8, r: Found)
+fn keep_removed(sessions: &mut [SessionRow], id: u8, r: Found)
     ensures { λ _. ⌜ now (sessions .exit) ≡ keepRemoved (now (sessions .entry)) id r ⌝ }
 {
     match r {
@@ -93,7 +96,12 @@ fn keep_removed(sessions: &mut [[u64; 5]], id: u8, r: Found)
 }
 
 // The object of that number.
-pub fn find_object(sessions: &[[u64; 5]], objects: &[Object], id: u8, number: ObjectNumber) -> Found
+pub fn find_object(
+    sessions: &[SessionRow],
+    objects: &[Object],
+    id: u8,
+    number: ObjectNumber,
+) -> Found
     ensures { λ r. ⌜ r ≡ foundObject (now (sessions .entry)) (now (objects .entry)) id number ⌝ }
 {
     let len = objects.len();
@@ -111,7 +119,7 @@ pub fn find_object(sessions: &[[u64; 5]], objects: &[Object], id: u8, number: Ob
 }
 
 // Of the objects of that kind, the one with the greatest number.
-pub fn greatest_object(sessions: &[[u64; 5]], objects: &[Object], id: u8, kind: u8) -> Found
+pub fn greatest_object(sessions: &[SessionRow], objects: &[Object], id: u8, kind: u8) -> Found
     ensures { λ r. ⌜ r ≡ greatestObject (now (sessions .entry)) (now (objects .entry)) id kind ⌝ }
 {
     let len = objects.len();
@@ -129,7 +137,7 @@ pub fn greatest_object(sessions: &[[u64; 5]], objects: &[Object], id: u8, kind: 
 }
 
 // Lists an object in place of one of its number.
-pub fn put_object(sessions: &mut [[u64; 5]], objects: &mut [Object], id: u8, o: Object) -> Stored
+pub fn put_object(sessions: &mut [SessionRow], objects: &mut [Object], id: u8, o: Object) -> Stored
     ensures { λ r. ⌜ (r ≡ storedObject (now (sessions .entry)) (now (objects .entry)) id o)
         × (now (sessions .exit) ≡ keepStored (now (sessions .entry)) id r)
         × (now (objects .exit) ≡ storedObjects (now (sessions .entry)) (now (objects .entry)) id o) ⌝ }
@@ -152,7 +160,7 @@ pub fn put_object(sessions: &mut [[u64; 5]], objects: &mut [Object], id: u8, o: 
 
 // Drops the object of that number, and hands it back.
 pub fn remove_object(
-    sessions: &mut [[u64; 5]],
+    sessions: &mut [SessionRow],
     objects: &mut [Object],
     id: u8,
     number: ObjectNumber,

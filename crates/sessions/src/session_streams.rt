@@ -1,10 +1,13 @@
-// The streams of a session, by its id: found, opened and written back.
-use crate::objects::Place;
+// The streams of a session, by its id and their own numbers: opened, read and written back.
+use crate::need::MOST_STREAMS;
+use crate::need::STREAMS;
+use crate::stream_rows::StreamRow;
 use crate::stream_rows::first_stream;
 use crate::stream_rows::keep_stream;
 use crate::stream_rows::stream_at;
 use crate::table::ClientSession;
 use crate::table::Named;
+use crate::table::SessionRow;
 use crate::table::keep_session;
 use crate::table::reached;
 use crate::table::session_at;
@@ -12,11 +15,12 @@ use codec::refusals::Refusal;
 use streams::state::StreamState;
 ghost use mathlib.Core.Path.{_≡_};
 ghost use Prim.Native.Nat.{_+_, _≤_};
-ghost use Rattle.sessions.specs.Search.{firstFrom};
-ghost use Rattle.sessions.specs.SessionStreams.{streamsNamed, streamedSession, isStream, placedAs, streamPlace, openedAs, openedIn, openedCount, readOf, writtenOf};
+ghost use Rattle.streams.specs.Places.{firstFrom};
+ghost use Rattle.streams.specs.State.{newStream};
+ghost use Rattle.sessions.specs.SessionStreams.{streamsNamed, streamedSession, isStream, placedAs, streamPlace, openedAs, openedIn, openedCount, readAs, namedAs, writtenIn};
 
 // The place that a stream has among its session's eight, or the place that it would get: there is none for a ninth.
-pub enum StreamPlace {
+enum StreamPlace {
     Have(usize),
     Add(usize),
     Full,
@@ -24,57 +28,72 @@ pub enum StreamPlace {
     Refused(Refusal),
 }
 
-// The place of a stream that is open.
+// What opening a stream comes to. It is open whether it was before or not; a ninth is not opened.
 pub enum StreamOpened {
-    Stream(usize),
+    Open,
     Full,
     NotLive,
     Refused(Refusal),
 }
 
-fn reach(sessions: &[[u64; 5]], streams: usize, id: u8) -> Named
+// What a stream's number names.
+pub enum StreamNamed {
+    Open,
+    NotOpen,
+    NotLive,
+    Refused(Refusal),
+}
+
+// A stream that was read: where it is not open, a new stream 0 stands in its place.
+pub struct StreamRead {
+    pub answer: StreamNamed,
+    pub state: StreamState,
+}
+
+fn reach(sessions: &[SessionRow], streams: usize, id: u8) -> Named
     ensures { λ r. ⌜ r ≡ streamsNamed (now (sessions .entry)) streams id ⌝ }
 {
     let used = session_at(sessions, id).streams;
-    reached(sessions, id, used, 8, streams, 2048)
+    reached(sessions, id, used, MOST_STREAMS as u64, streams, STREAMS)
 }
 
-fn is_stream(streams: &[[u16; 35]], first: usize, n: u8, k: usize) -> bool
+fn is_stream(streams: &[StreamRow], first: usize, n: u8, k: usize) -> bool
     requires { ⌜ first + k ≤ 65536 ⌝ }
     ensures { λ r. ⌜ r ≡ isStream (now (streams .entry)) first n k ⌝ }
 {
     stream_at(streams, first + k).stream_id == n
 }
 
-fn search(streams: &[[u16; 35]], first: usize, n: u8, used: usize) -> Place
+// The place of the stream of that number, or the one behind those in use.
+fn search(streams: &[StreamRow], first: usize, n: u8, used: usize) -> usize
     requires { ⌜ first + used ≤ 65536 ⌝ }
-    ensures { λ r. ⌜ r ≡ firstFrom (isStream (now (streams .entry)) first n) 0 used ⌝ }
+    ensures { λ r. ⌜ r ≡ firstFrom (isStream (now (streams .entry)) first n) used 0 ⌝ }
 {
     let mut k = 0;
     while k < used {
         if is_stream(streams, first, n, k) {
-            return Place::At(k);
+            return k;
         }
         k += 1;
     }
-    Place::Nowhere
+    used
 }
 
-fn placed(p: Place, used: usize) -> StreamPlace
-    ensures { λ r. ⌜ r ≡ placedAs p used ⌝ }
+fn placed(k: usize, used: usize) -> StreamPlace
+    ensures { λ r. ⌜ r ≡ placedAs k used ⌝ }
 {
-    match p {
-        Place::At(k) => StreamPlace::Have(k),
-        Place::Nowhere => if 8 <= used {
-            StreamPlace::Full
-        } else {
-            StreamPlace::Add(used)
-        },
+    if k < used {
+        return StreamPlace::Have(k);
+    }
+    if MOST_STREAMS <= used {
+        StreamPlace::Full
+    } else {
+        StreamPlace::Add(used)
     }
 }
 
 // Where the stream of that number is, or would be.
-pub fn find_stream(sessions: &[[u64; 5]], streams: &[[u16; 35]], id: u8, n: u8) -> StreamPlace
+fn find_stream(sessions: &[SessionRow], streams: &[StreamRow], id: u8, n: u8) -> StreamPlace
     ensures { λ r. ⌜ r ≡ streamPlace (now (sessions .entry)) (now (streams .entry)) id n ⌝ }
 {
     let named = reach(sessions, streams.len(), id);
@@ -82,8 +101,8 @@ pub fn find_stream(sessions: &[[u64; 5]], streams: &[[u16; 35]], id: u8, n: u8) 
         Named::Live => {
             let first = first_stream(id);
             let used = session_at(sessions, id).streams as usize;
-            let p = search(streams, first, n, used);
-            placed(p, used)
+            let k = search(streams, first, n, used);
+            placed(k, used)
         }
         Named::NotLive => StreamPlace::NotLive,
         Named::Refused(x) => StreamPlace::Refused(x),
@@ -102,28 +121,8 @@ fn streamed(s: ClientSession, streams: u64) -> ClientSession
     }
 }
 
-// One of a session's eight streams; there is no other.
-pub fn read_stream(streams: &[[u16; 35]], id: u8, k: usize) -> StreamState
-    ensures { λ r. ⌜ r ≡ readOf (now (streams .entry)) id k ⌝ }
-{
-    if k < 8 {
-        stream_at(streams, first_stream(id) + k)
-    } else {
-        StreamState::new(0)
-    }
-}
-
-// Writes one of a session's eight streams back.
-pub fn write_stream(streams: &mut [[u16; 35]], id: u8, k: usize, s: StreamState)
-    ensures { λ _. ⌜ now (streams .exit) ≡ writtenOf (now (streams .entry)) id k s ⌝ }
-{
-    if k < 8 {
-        keep_stream(streams, first_stream(id) + k, s);
-    }
-}
-
 // A stream that was just opened joins its session's at place k.
-fn add_stream(sessions: &mut [[u64; 5]], streams: &mut [[u16; 35]], id: u8, k: usize, n: u8)
+fn add_stream(sessions: &mut [SessionRow], streams: &mut [StreamRow], id: u8, k: usize, n: u8)
     requires { ⌜ k ≤ 8 ⌝ }
     ensures { λ _. ⌜ (now (sessions .exit) ≡ openedCount (StreamPlace.Add k) (now (sessions .entry)) id)
         × (now (streams .exit) ≡ openedIn (StreamPlace.Add k) (now (streams .entry)) id n) ⌝ }
@@ -136,8 +135,8 @@ fn add_stream(sessions: &mut [[u64; 5]], streams: &mut [[u16; 35]], id: u8, k: u
 
 // The stream of that number, opened if it was not.
 pub fn open_stream(
-    sessions: &mut [[u64; 5]],
-    streams: &mut [[u16; 35]],
+    sessions: &mut [SessionRow],
+    streams: &mut [StreamRow],
     id: u8,
     n: u8,
 ) -> StreamOpened
@@ -147,13 +146,65 @@ pub fn open_stream(
 {
     let p = find_stream(sessions, streams, id, n);
     match p {
-        StreamPlace::Have(k) => StreamOpened::Stream(k),
+        StreamPlace::Have(_) => StreamOpened::Open,
         StreamPlace::Add(k) => {
             add_stream(sessions, streams, id, k, n);
-            StreamOpened::Stream(k)
+            StreamOpened::Open
         }
         StreamPlace::Full => StreamOpened::Full,
         StreamPlace::NotLive => StreamOpened::NotLive,
         StreamPlace::Refused(x) => StreamOpened::Refused(x),
+    }
+}
+
+fn unread(answer: StreamNamed) -> StreamRead
+    ensures { λ r. ⌜ r ≡ record { answer = answer; state = newStream 0 } ⌝ }
+{
+    StreamRead {
+        answer,
+        state: StreamState::new(0),
+    }
+}
+
+// The open stream of that number.
+pub fn read_stream(sessions: &[SessionRow], streams: &[StreamRow], id: u8, n: u8) -> StreamRead
+    ensures { λ r. ⌜ r ≡ readAs (streamPlace (now (sessions .entry)) (now (streams .entry)) id n) (now (streams .entry)) id ⌝ }
+{
+    let p = find_stream(sessions, streams, id, n);
+    match p {
+        StreamPlace::Have(k) => {
+            let state = stream_at(streams, first_stream(id) + k);
+            StreamRead {
+                answer: StreamNamed::Open,
+                state,
+            }
+        }
+        StreamPlace::Add(_) => unread(StreamNamed::NotOpen),
+        StreamPlace::Full => unread(StreamNamed::NotOpen),
+        StreamPlace::NotLive => unread(StreamNamed::NotLive),
+        StreamPlace::Refused(x) => unread(StreamNamed::Refused(x)),
+    }
+}
+
+// Writes an open stream back, in the place of its own number: whatever a caller writes, the numbers stay what they are.
+pub fn write_stream(
+    sessions: &[SessionRow],
+    streams: &mut [StreamRow],
+    id: u8,
+    s: StreamState,
+) -> StreamNamed
+    ensures { λ r. ⌜ (r ≡ namedAs (streamPlace (now (sessions .entry)) (now (streams .entry)) id (s .«stream_id»)))
+        × (now (streams .exit) ≡ writtenIn (streamPlace (now (sessions .entry)) (now (streams .entry)) id (s .«stream_id»)) (now (streams .entry)) id s) ⌝ }
+{
+    let p = find_stream(sessions, streams, id, s.stream_id);
+    match p {
+        StreamPlace::Have(k) => {
+            keep_stream(streams, first_stream(id) + k, s);
+            StreamNamed::Open
+        }
+        StreamPlace::Add(_) => StreamNamed::NotOpen,
+        StreamPlace::Full => StreamNamed::NotOpen,
+        StreamPlace::NotLive => StreamNamed::NotLive,
+        StreamPlace::Refused(x) => StreamNamed::Refused(x),
     }
 }

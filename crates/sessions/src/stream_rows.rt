@@ -1,15 +1,20 @@
 // The streams of a session: eight records a session, each a row of numbers, those of session s from row 8 * s on.
+use crate::need::MOST_STREAMS;
 use streams::state::StreamState;
 ghost use mathlib.Core.Path.{_≡_};
 ghost use Prim.Native.Nat.{_+_, _≤_};
 ghost use lib.ListN.{length};
 ghost use Rattle.codec.specs.Bytes.{putAt};
-ghost use Rattle.sessions.specs.Streams.{wordsFrom, rowFrom, streamRow, streamOf, streamAt, keepStream, firstStream};
+ghost use Rattle.streams.specs.Acknowledged.{listFrom};
+ghost use Rattle.sessions.specs.Streams.{numberAt, rowFrom, streamRow, streamOf, streamAt, keepStream, firstStream};
+
+// The row of a stream: its number, the next to send and the expected one, then the numbers and the lengths of what it holds.
+pub type StreamRow = [u16; 35];
 
 // Sixteen numbers of a row.
 fn copy_words(out: &mut [u16], at: usize, src: &[u16], from: usize)
     requires { ⌜ (at + 16 ≤ length (now out)) × (from + 16 ≤ length (now src)) ⌝ }
-    ensures { λ _. ⌜ now (out .exit) ≡ putAt (now (out .entry)) at (wordsFrom (now (src .entry)) from 16) ⌝ }
+    ensures { λ _. ⌜ now (out .exit) ≡ putAt (now (out .entry)) at (listFrom (numberAt (now (src .entry))) 16 from) ⌝ }
 {
     let mut i = 0;
     while i < 16 {
@@ -18,8 +23,7 @@ fn copy_words(out: &mut [u16], at: usize, src: &[u16], from: usize)
     }
 }
 
-// A row is the stream's number, the next to send and the expected one, then the numbers and the lengths of what it holds.
-fn stream_of(w: [u16; 35]) -> StreamState
+fn stream_of(w: StreamRow) -> StreamState
     ensures { λ r. ⌜ r ≡ streamOf w ⌝ }
 {
     let mut numbers = [0u16; 16];
@@ -35,7 +39,7 @@ fn stream_of(w: [u16; 35]) -> StreamState
     }
 }
 
-fn row_from(id: u8, send: u16, expected: u16, numbers: [u16; 16], lengths: [u16; 16]) -> [u16; 35]
+fn row_from(id: u8, send: u16, expected: u16, numbers: [u16; 16], lengths: [u16; 16]) -> StreamRow
     ensures { λ r. ⌜ r ≡ rowFrom id send expected numbers lengths ⌝ }
 {
     let mut w = [0u16; 35];
@@ -47,7 +51,7 @@ fn row_from(id: u8, send: u16, expected: u16, numbers: [u16; 16], lengths: [u16;
     w
 }
 
-fn row_of(s: StreamState) -> [u16; 35]
+fn row_of(s: StreamState) -> StreamRow
     ensures { λ r. ⌜ r ≡ streamRow s ⌝ }
 {
     let numbers = s.numbers;
@@ -62,7 +66,7 @@ fn row_of(s: StreamState) -> [u16; 35]
 }
 
 // Any number may stand in a row; past the store's end all are 0.
-pub(crate) fn stream_at(streams: &[[u16; 35]], at: usize) -> StreamState
+pub(crate) fn stream_at(streams: &[StreamRow], at: usize) -> StreamState
     ensures { λ r. ⌜ r ≡ streamAt (now (streams .entry)) at ⌝ }
 {
     if at < streams.len() {
@@ -74,7 +78,7 @@ pub(crate) fn stream_at(streams: &[[u16; 35]], at: usize) -> StreamState
 }
 
 // A row is written whole; past the store's end nothing is.
-pub(crate) fn keep_stream(streams: &mut [[u16; 35]], at: usize, s: StreamState)
+pub(crate) fn keep_stream(streams: &mut [StreamRow], at: usize, s: StreamState)
     ensures { λ _. ⌜ now (streams .exit) ≡ keepStream (now (streams .entry)) at s ⌝ }
 {
     let w = row_of(s);
@@ -87,5 +91,5 @@ pub(crate) fn keep_stream(streams: &mut [[u16; 35]], at: usize, s: StreamState)
 pub(crate) fn first_stream(id: u8) -> usize
     ensures { λ r. ⌜ r ≡ firstStream id ⌝ }
 {
-    8 * (id as usize)
+    MOST_STREAMS * (id as usize)
 }

@@ -1,5 +1,7 @@
 // A sweep: every expired session ends, and their ids are listed.
+use crate::need::SESSIONS;
 use crate::table::ClientSession;
+use crate::table::SessionRow;
 use crate::table::keep_session;
 use crate::table::session_at;
 use codec::bytes::Written;
@@ -12,7 +14,7 @@ ghost use Rattle.codec.specs.Bytes.{putAt};
 ghost use Rattle.sessions.specs.Sweep.{goes, expiredIds, sweptAt, sweptRows, evictedOf, evictedOut, evictedRows};
 
 // Whether a live session has expired.
-fn goes(sessions: &[[u64; 5]], id: u8, time: u64, timeout_ms: u64) -> bool
+fn goes(sessions: &[SessionRow], id: u8, time: u64, timeout_ms: u64) -> bool
     ensures { λ r. ⌜ r ≡ goes (now (sessions .entry)) time «timeout_ms» id ⌝ }
 {
     let s = session_at(sessions, id);
@@ -28,7 +30,7 @@ fn flag(b: bool) -> usize
     if b { 1 } else { 0 }
 }
 
-fn count_expired(sessions: &[[u64; 5]], time: u64, timeout_ms: u64) -> usize
+fn count_expired(sessions: &[SessionRow], time: u64, timeout_ms: u64) -> usize
     ensures { λ r. ⌜ r ≡ length (expiredIds (now (sessions .entry)) time «timeout_ms») ⌝ }
 {
     let mut id: u8 = 255;
@@ -51,7 +53,7 @@ fn list_id(out: &mut [u8], at: usize, id: u8)
 
 // One id: if its session goes, it is listed and ended.
 fn sweep_one(
-    sessions: &mut [[u64; 5]],
+    sessions: &mut [SessionRow],
     out: &mut [u8],
     id: u8,
     at: usize,
@@ -73,14 +75,14 @@ fn sweep_one(
     }
 }
 
-fn sweep(sessions: &mut [[u64; 5]], out: &mut [u8], time: u64, timeout_ms: u64)
+fn sweep(sessions: &mut [SessionRow], out: &mut [u8], time: u64, timeout_ms: u64)
     requires { ⌜ length (expiredIds (now sessions) time «timeout_ms») ≤ length (now out) ⌝ }
     ensures { λ _. ⌜ (now (sessions .exit) ≡ sweptRows (now (sessions .entry)) time «timeout_ms»)
         × (now (out .exit) ≡ putAt (now (out .entry)) 0 (expiredIds (now (sessions .entry)) time «timeout_ms»)) ⌝ }
 {
     let mut i: usize = 1;
     let mut at: usize = 0;
-    while i < 256 {
+    while i < SESSIONS {
         at = sweep_one(sessions, out, i as u8, at, time, timeout_ms);
         i += 1;
     }
@@ -88,7 +90,7 @@ fn sweep(sessions: &mut [[u64; 5]], out: &mut [u8], time: u64, timeout_ms: u64)
 
 // Ends every expired session and lists their ids, ascending, a byte each.
 pub fn evict_expired(
-    sessions: &mut [[u64; 5]],
+    sessions: &mut [SessionRow],
     time: u64,
     timeout_ms: u64,
     out: &mut [u8],
@@ -97,7 +99,7 @@ pub fn evict_expired(
         × (now (sessions .exit) ≡ evictedRows (now (sessions .entry)) time «timeout_ms» (now (out .entry)))
         × (now (out .exit) ≡ evictedOut (now (sessions .entry)) time «timeout_ms» (now (out .entry))) ⌝ }
 {
-    if sessions.len() < 256 {
+    if sessions.len() < SESSIONS {
         return Written::Refused(Refusal::OverLimit);
     }
     let n = count_expired(sessions, time, timeout_ms);

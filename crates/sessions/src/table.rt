@@ -1,7 +1,11 @@
 // The table of sessions: a row of numbers for each id, 256 of them, of which row 0 is unused.
+use crate::need::SESSIONS;
 use codec::refusals::Refusal;
 ghost use mathlib.Core.Path.{_≡_};
-ghost use Rattle.sessions.specs.Table.{newSession, endedSession, touchedSession, expiredOf, elapsedOf, sessionAt, keepSession, namedOf, reachedOf, keptRows, touchedRows, endedRows};
+ghost use Rattle.sessions.specs.Table.{newSession, endedSession, touchedSession, expiredOf, elapsedOf, sessionAt, keepSession, namedOf, gotOf, reachedOf, keptRows, touchedRows, endedRows};
+
+// The row of an id: the numbers of `ClientSession`, in its order.
+pub type SessionRow = [u64; 5];
 
 // What the table keeps of a session. `live` is 0 where the id is free; the counts say how many of the session's
 // object records and stream records are in use.
@@ -16,6 +20,13 @@ pub struct ClientSession {
 // What an id names.
 pub enum Named {
     Live,
+    NotLive,
+    Refused(Refusal),
+}
+
+// The session that an id names.
+pub enum Got {
+    Session(ClientSession),
     NotLive,
     Refused(Refusal),
 }
@@ -76,7 +87,7 @@ impl ClientSession {
 }
 
 // Any number may stand in a row; past the table's end all are 0.
-pub fn session_at(sessions: &[[u64; 5]], id: u8) -> ClientSession
+pub(crate) fn session_at(sessions: &[SessionRow], id: u8) -> ClientSession
     ensures { λ r. ⌜ r ≡ sessionAt (now (sessions .entry)) id ⌝ }
 {
     let i = id as usize;
@@ -94,7 +105,7 @@ pub fn session_at(sessions: &[[u64; 5]], id: u8) -> ClientSession
 }
 
 // A row is written whole; past the table's end nothing is.
-pub(crate) fn keep_session(sessions: &mut [[u64; 5]], id: u8, s: ClientSession)
+pub(crate) fn keep_session(sessions: &mut [SessionRow], id: u8, s: ClientSession)
     ensures { λ _. ⌜ now (sessions .exit) ≡ keepSession (now (sessions .entry)) id s ⌝ }
 {
     let i = id as usize;
@@ -105,10 +116,10 @@ pub(crate) fn keep_session(sessions: &mut [[u64; 5]], id: u8, s: ClientSession)
 }
 
 // Whether a session is live under that id.
-pub fn get(sessions: &[[u64; 5]], id: u8) -> Named
+fn live_at(sessions: &[SessionRow], id: u8) -> Named
     ensures { λ r. ⌜ r ≡ namedOf (now (sessions .entry)) id ⌝ }
 {
-    if sessions.len() < 256 {
+    if sessions.len() < SESSIONS {
         return Named::Refused(Refusal::OverLimit);
     }
     if session_at(sessions, id).live == 0 {
@@ -118,10 +129,25 @@ pub fn get(sessions: &[[u64; 5]], id: u8) -> Named
     }
 }
 
+// The session that is live under that id, as the table keeps it.
+pub fn get(sessions: &[SessionRow], id: u8) -> Got
+    ensures { λ r. ⌜ r ≡ gotOf (now (sessions .entry)) id ⌝ }
+{
+    let named = live_at(sessions, id);
+    match named {
+        Named::Live => {
+            let s = session_at(sessions, id);
+            Got::Session(s)
+        }
+        Named::NotLive => Got::NotLive,
+        Named::Refused(x) => Got::Refused(x),
+    }
+}
+
 // Whether there are records of a session to look into: it is live, its store is as long as it must be, and no more of
 // its records are in use than there are.
 pub(crate) fn reached(
-    sessions: &[[u64; 5]],
+    sessions: &[SessionRow],
     id: u8,
     used: u64,
     most: u64,
@@ -136,15 +162,15 @@ pub(crate) fn reached(
     if most < used {
         return Named::Refused(Refusal::OverLimit);
     }
-    get(sessions, id)
+    live_at(sessions, id)
 }
 
 // Where a session is live under that id, it becomes `s`.
-fn keep_live(sessions: &mut [[u64; 5]], id: u8, s: ClientSession) -> Named
+fn keep_live(sessions: &mut [SessionRow], id: u8, s: ClientSession) -> Named
     ensures { λ r. ⌜ (r ≡ namedOf (now (sessions .entry)) id)
         × (now (sessions .exit) ≡ keptRows (namedOf (now (sessions .entry)) id) (now (sessions .entry)) id s) ⌝ }
 {
-    let r = get(sessions, id);
+    let r = live_at(sessions, id);
     match r {
         Named::Live => {
             keep_session(sessions, id, s);
@@ -156,7 +182,7 @@ fn keep_live(sessions: &mut [[u64; 5]], id: u8, s: ClientSession) -> Named
 }
 
 // A live session's last activity becomes `time`, even backwards.
-pub fn touch(sessions: &mut [[u64; 5]], id: u8, time: u64) -> Named
+pub fn touch(sessions: &mut [SessionRow], id: u8, time: u64) -> Named
     ensures { λ r. ⌜ (r ≡ namedOf (now (sessions .entry)) id)
         × (now (sessions .exit) ≡ touchedRows (now (sessions .entry)) id time) ⌝ }
 {
@@ -165,7 +191,7 @@ pub fn touch(sessions: &mut [[u64; 5]], id: u8, time: u64) -> Named
 }
 
 // Ends a live session. Its id is free again, and nothing is left of it.
-pub fn remove(sessions: &mut [[u64; 5]], id: u8) -> Named
+pub fn remove(sessions: &mut [SessionRow], id: u8) -> Named
     ensures { λ r. ⌜ (r ≡ namedOf (now (sessions .entry)) id)
         × (now (sessions .exit) ≡ endedRows (now (sessions .entry)) id) ⌝ }
 {

@@ -1,9 +1,8 @@
 -- What an ACKNACK leaves held: exactly the numbers that don't come before its first one.
-use Prim.Native.Nat.{ℕ, zero, suc, _+_, _<_}
+use Prim.Native.Nat.{ℕ, zero, suc, _+_, _-_, _<_}
 use mathlib.Core.Path.{_≡_, refl, sym, ap, _∙_}
 use mathlib.Core.Bool.{Bool, true, false, cond}
-use mathlib.Core.List.{List}
-use mathlib.Core.Option.{none}
+use mathlib.Core.Option.{none, some}
 use native.Mathlib.Nat.{le-of-suc-le-suc, not-suc-le-zero, add-zero}
 use native.Mathlib.Omega.{arith}
 use borrow.Author.Tests.{eqb-true, eqb-false}
@@ -13,12 +12,12 @@ use Rattle.streams.specs.declared.state.StreamState.{StreamState}
 use Rattle.streams.specs.Sequence.{seqLt}
 use Rattle.streams.specs.Places.{holds, holdsAt, placeOf, isHeld}
 use Rattle.streams.specs.Acknowledged.{keptLength, keptAt, listFrom, sixteen, dropBefore}
-use Rattle.streams.specs.View.{messageOf}
+use Rattle.streams.specs.View.{heldBy}
 use Rattle.streams.proofs.places.Laws.{first-none, first-agree}
-use Rattle.streams.proofs.places.Held.{holds-free, holds-other, holds-number, held-low, free-place, held-there, message-at, message-none}
+use Rattle.streams.proofs.places.Held.{holds-free, holds-other, holds-number, held-low, free-place, held-there, read-at, read-none}
 
 -- the sixteen values of a function
-listed-at : (f : ℕ → ℕ) (k i j : ℕ) → j < k → getD (listFrom f k i) j 0 ≡ f (i + j)
+pub listed-at : (f : ℕ → ℕ) (k i j : ℕ) → j < k → getD (listFrom f k i) j 0 ≡ f (i + j)
 unfolding listFrom
 listed-at f zero i j h = absurd (not-suc-le-zero h)
 listed-at f (suc k) i zero h = ap f (sym (add-zero i))
@@ -86,14 +85,15 @@ module _ (s : StreamState) (first : ℕ) where
         by true e = rw (place-dropped e)
         by false e = rw (place-kept e)
 
-    pub acknowledged : (buffer : List ℕ) → messageOf (dropBefore s first) buffer m ≡ cond (seqLt m first) none (messageOf s buffer m)
-    acknowledged buffer = by (seqLt m first) (isHeld s m) refl refl
-      where
-        by : (t u : Bool) → seqLt m first ≡ t → isHeld s m ≡ u → messageOf (dropBefore s first) buffer m ≡ cond t none (messageOf s buffer m)
-        by true u e k = message-none (dropBefore s first) m buffer (place-dropped e)
-        by false false e k =
-            message-none (dropBefore s first) m buffer (place-kept e ∙ free-place s m k) ∙ sym (message-none s m buffer (free-place s m k))
-        by false true e k =
-            let l = held-low s m k in
-            message-at (dropBefore s first) m buffer (placeOf s m) (place-kept e) l
-            ∙ rw (length-kept e l) (sym (message-at s m buffer (placeOf s m) refl l))
+    module _ {A : Type 0} (read : ℕ → ℕ → A) where
+      pub acknowledged : heldBy read (dropBefore s first) m ≡ cond (seqLt m first) none (heldBy read s m)
+      acknowledged = by (seqLt m first) (isHeld s m) refl refl
+        where
+          by : (t u : Bool) → seqLt m first ≡ t → isHeld s m ≡ u → heldBy read (dropBefore s first) m ≡ cond t none (heldBy read s m)
+          by true u e k = read-none (dropBefore s first) m read (place-dropped e)
+          by false false e k = read-none (dropBefore s first) m read (place-kept e ∙ free-place s m k) ∙ sym (read-none s m read (free-place s m k))
+          by false true e k =
+              let l = held-low s m k in
+              read-at (dropBefore s first) m read (placeOf s m) (place-kept e) l
+              ∙ ap (λ (len : ℕ). some (read (placeOf s m) (len - 1))) (length-kept e l)
+              ∙ sym (read-at s m read (placeOf s m) refl l)

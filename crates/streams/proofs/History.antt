@@ -1,7 +1,7 @@
 -- A held message reads back byte for byte until it is replaced or acknowledged, whatever else is called.
 use Prim.Native.Nat.{ℕ, _-_, _*_, _≤_}
-use mathlib.Core.Path.{_≡_, refl, sym, _∙_}
-use mathlib.Core.Bool.{Bool, true, false, cond}
+use mathlib.Core.Path.{_≡_, refl, sym, ap, _∙_}
+use mathlib.Core.Bool.{Bool, true, false}
 use mathlib.Core.List.{List, [], _∷_}
 use mathlib.Core.Option.{none, some}
 use native.Mathlib.Omega.{arith}
@@ -9,39 +9,21 @@ use borrow.Author.Tests.{eqb-false, eq-eqb, ne-eqb, le-ltb, lt-leb, not-true}
 use lib.Dec.{eqb}
 use lib.ListN.{getD, length}
 use Rattle.streams.specs.declared.state.StreamState.{StreamState}
-use Rattle.streams.specs.declared.received.Received.{Received}
 use Rattle.streams.specs.declared.sent.Slot.{Slot}
 use Rattle.streams.specs.declared.sent.Slot.the-variants as slot
 use Rattle.streams.specs.declared.sent.Held.the-variants as held
-use Rattle.streams.specs.Sequence.{seqLt, plus}
+use Rattle.streams.specs.Sequence.{seqLt}
 use Rattle.streams.specs.Places.{placeOf, isHeld}
-use Rattle.streams.specs.Sent.{need, allocOf, slotFor, recordAt, recordOf, bytesAt, recordBytes, heldOf, heldBytes}
+use Rattle.streams.specs.Sent.{need, slotFor, recordAt, recordOf, bytesAt, recordBytes, heldOf, bytesIn, heldBytes}
 use Rattle.streams.specs.Acknowledged.{acknowledge, repeatsOf}
-use Rattle.streams.specs.Received.{receivedOf, expecting}
-use Rattle.streams.specs.View.{messageOf, Sound, Stream, Call, allocate, send, acknack, receive, after, afterAll, spares, AllSpare}
-use Rattle.streams.proofs.places.Held.{held-low, free-place, message-at, message-none}
+use Rattle.streams.specs.View.{messageOf, Kept, Sound, Stream, Call, allocate, send, acknack, receive, after, afterAll, spares, AllSpare}
+use Rattle.streams.proofs.places.Held.{held-low, free-place, read-at, read-none}
 use Rattle.streams.proofs.sent.Laws.{slot-at}
 use Rattle.codec.proofs.bytes.Laws.{length-put}
 use Rattle.streams.proofs.Dropped.{acknowledged}
 use Rattle.streams.proofs.View.{recorded}
-use Rattle.streams.proofs.Soundness.{same-sound, same-messages, drop-sound, record-sound}
-
--- what `check_recv_seq` and `alloc_send_seq` leave as it is
-alloc-same : (s : StreamState) → (allocOf s .state .numbers ≡ s .numbers) × (allocOf s .state .lengths ≡ s .lengths)
-unfolding allocOf
-alloc-same s = (refl, refl)
-
-receive-same : (s : StreamState) (n : ℕ) → (receivedOf s n .state .numbers ≡ s .numbers) × (receivedOf s n .state .lengths ≡ s .lengths)
-unfolding receivedOf expecting
-receive-same s n = by (eqb (s .«stream_id») 0) (eqb n (s .«next_recv_seq»))
-  where
-    answer : Bool → Bool → Received
-    answer t u = cond t (record { accepted = true; state = s }) (cond u (record { accepted = true; state = expecting s (plus n 1) }) (record { accepted = false; state = s }))
-
-    by : (t u : Bool) → (answer t u .state .numbers ≡ s .numbers) × (answer t u .state .lengths ≡ s .lengths)
-    by true u = (refl, refl)
-    by false true = (refl, refl)
-    by false false = (refl, refl)
+use Rattle.streams.proofs.Soundness.{alloc-sound, receive-sound, drop-sound, record-sound}
+use Rattle.streams.proofs.Kept.{alloc-kept, receive-held}
 
 -- one message is sent, and what `record_sent` answers
 module _ (x : Stream) (d : Sound (x .state)) (m : ℕ) (message : List ℕ) where
@@ -70,10 +52,10 @@ module _ (x : Stream) (d : Sound (x .state)) (m : ℕ) (message : List ℕ) wher
 module _ (x : Stream) (d : Sound (x .state)) where
   pub step-sound : (c : Call) → Sound (after c x .state)
   unfolding after recordOf acknowledge repeatsOf
-  step-sound allocate = same-sound (x .state) _ (alloc-same (x .state)) d
+  step-sound allocate = alloc-sound (x .state) d
   step-sound (send m message) = sent-sound x d m message (slotFor (x .state) m (length message) (length (x .buffer))) refl
   step-sound (acknack first bitmap) = drop-sound (x .state) first d
-  step-sound (receive m) = same-sound (x .state) _ (receive-same (x .state) m) d
+  step-sound (receive m) = receive-sound (x .state) m d
 
   pub step-room : (c : Call) → length (after c x .buffer) ≡ length (x .buffer)
   unfolding after recordBytes
@@ -84,11 +66,11 @@ module _ (x : Stream) (d : Sound (x .state)) where
 
   pub step-kept : (n : ℕ) (c : Call) → spares n c ≡ true → messageOf (after c x .state) (after c x .buffer) n ≡ messageOf (x .state) (x .buffer) n
   unfolding after recordOf recordBytes acknowledge repeatsOf spares
-  step-kept n allocate e = same-messages (x .state) _ (alloc-same (x .state)) (x .buffer) n
+  step-kept n allocate e = ap (λ (k : Kept (List ℕ)). k .held n) (alloc-kept (bytesIn (x .buffer)) (x .state))
   step-kept n (send m message) e =
       sent-others x d m message n (λ q. eqb-false m n (not-true (eqb m n) e) (sym q)) (slotFor (x .state) m (length message) (length (x .buffer))) refl
-  step-kept n (acknack first bitmap) e = acknowledged (x .state) first n (x .buffer) ∙ rw (not-true (seqLt n first) e)
-  step-kept n (receive m) e = same-messages (x .state) _ (receive-same (x .state) m) (x .buffer) n
+  step-kept n (acknack first bitmap) e = acknowledged (x .state) first n (bytesIn (x .buffer)) ∙ rw (not-true (seqLt n first) e)
+  step-kept n (receive m) e = receive-held (bytesIn (x .buffer)) (x .state) m n
 
 -- a message that was just recorded is held
 just-recorded : (x : Stream) → Sound (x .state) → (n : ℕ) (message : List ℕ) (p : ℕ) → slotFor (x .state) n (length message) (length (x .buffer)) ≡ slot.At p
@@ -129,15 +111,15 @@ module _ (s : StreamState) (d : Sound s) (buffer : List ℕ) (room : need ≤ le
   reads-held bytes e = by (isHeld s n) refl
     where
       by : (t : Bool) → isHeld s n ≡ t → heldBytes (heldOf s n (length buffer)) buffer ≡ bytes
-      by true k = rw (found k) (let same = message-at s n buffer (placeOf s n) refl (held-low s n k) in cc)
-      by false k = absurd (let no = message-none s n buffer (free-place s n k) in let z : _≡_ {A = ℕ} 0 1 = cc in omega arith)
+      by true k = rw (found k) (let same = read-at s n (bytesIn buffer) (placeOf s n) refl (held-low s n k) in cc)
+      by false k = absurd (let no = read-none s n (bytesIn buffer) (free-place s n k) in let z : _≡_ {A = ℕ} 0 1 = cc in omega arith)
 
   pub reads-nothing : messageOf s buffer n ≡ none → heldOf s n (length buffer) ≡ held.Nothing
   unfolding heldOf
   reads-nothing e = by (isHeld s n) refl
     where
       by : (t : Bool) → isHeld s n ≡ t → heldOf s n (length buffer) ≡ held.Nothing
-      by true k = absurd (let same = message-at s n buffer (placeOf s n) refl (held-low s n k) in let z : _≡_ {A = ℕ} 0 1 = cc in omega arith)
+      by true k = absurd (let same = read-at s n (bytesIn buffer) (placeOf s n) refl (held-low s n k) in let z : _≡_ {A = ℕ} 0 1 = cc in omega arith)
       by false k = rw (le-ltb (length buffer) need room, free-place s n k)
 
 -- a message that was recorded reads back after any calls that neither record its number anew nor acknowledge it

@@ -3,9 +3,12 @@ pub mod Serial
 pub mod Slots
 pub mod Dropped
 pub mod View
+pub mod Agree
 pub mod Soundness
+pub mod Kept
 pub mod Answers
 pub mod History
 pub mod Repeats
 pub mod Heartbeat
+pub mod Seen
 pub mod Cases

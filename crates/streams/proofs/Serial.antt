@@ -1,14 +1,14 @@
 -- Theorems of sequence numbers and of what a stream accepts.
 use Prim.Native.Nat.{ℕ, _<_}
-use mathlib.Core.Path.{_≡_, refl}
+use mathlib.Core.Path.{_≡_, refl, ap, _∙_}
 use mathlib.Core.Bool.{Bool, true, false, not, cond}
 use native.Mathlib.Omega.{arith}
 use borrow.Author.Tests.{lt-ltb, le-ltb, eq-eqb, ne-eqb, ltb-true, ltb-false}
 use lib.Dec.{eqb, ltb}
 use Rattle.streams.specs.declared.state.StreamState.{StreamState}
-use Rattle.streams.specs.declared.received.Received.{Received}
 use Rattle.streams.specs.Sequence.{plus, minus, seqLt}
 use Rattle.streams.specs.Received.{receivedOf, expecting}
+use Rattle.streams.proofs.Soundness.{receive-is}
 
 module _ (a b : ℕ) (ha : a < 65536) (hb : b < 65536) where
   -- "At distance 32,768 it holds both ways"
@@ -32,12 +32,7 @@ module _ (a b : ℕ) (ha : a < 65536) (hb : b < 65536) where
 -- "A reliable stream accepts only the expected one; after 65,535 comes 0."
 module _ (s : StreamState) (other : s .«stream_id» ≡ 0 → ⊥) where
   pub only-expected : (n : ℕ) → receivedOf s n .accepted ≡ eqb n (s .«next_recv_seq»)
-  unfolding receivedOf
-  only-expected n = rw (ne-eqb (s .«stream_id») 0 other) (answer (eqb n (s .«next_recv_seq»)) (expecting s (plus n 1)))
-    where
-      answer : (t : Bool) (x : StreamState) → cond {A = Received} t (record { accepted = true; state = x }) (record { accepted = false; state = s }) .accepted ≡ t
-      answer true x = refl
-      answer false x = refl
+  only-expected n = receive-is s n .0 ∙ ap (λ (b : Bool). cond b true (eqb n (s .«next_recv_seq»))) (ne-eqb (s .«stream_id») 0 other)
 
   pub expects-next : receivedOf s (s .«next_recv_seq») .state ≡ expecting s (plus (s .«next_recv_seq») 1)
   unfolding receivedOf

@@ -2,22 +2,24 @@
 use Prim.Native.Nat.{ℕ, zero, suc, _+_, _≤_, _<_}
 use mathlib.Core.Path.{_≡_, refl, sym, _∙_}
 use mathlib.Core.Bool.{Bool, true, false, cond}
-use mathlib.Core.List.{List}
 use native.Mathlib.Omega.{arith}
 use borrow.Author.Tests.{ltb-true, ltb-false, eqb-true, eqb-false, lt-ltb}
 use lib.Dec.{eqb, ltb}
 use lib.ListN.{getD, set, replicate, length-set, List·getD-eq-default}
 use lib.Seq.{getD-set-same, getD-set-other}
 use Rattle.streams.specs.declared.state.StreamState.{StreamState}
-use Rattle.streams.specs.Sequence.{seqLt}
+use Rattle.streams.specs.declared.received.Received.{Received}
+use Rattle.streams.specs.Sequence.{plus, seqLt}
 use Rattle.streams.specs.State.{newStream}
 use Rattle.streams.specs.Places.{within, holdsAt, lengthAt, placeOf, placeBetween, isHeld, inLimits, placeFor}
-use Rattle.streams.specs.Sent.{withMessage}
+use Rattle.streams.specs.Sent.{allocOf, withMessage}
 use Rattle.streams.specs.Acknowledged.{keptLength, keptAt, sixteen, dropBefore}
-use Rattle.streams.specs.View.{Sound, messageOf}
+use Rattle.streams.specs.Received.{receivedOf, expecting}
+use Rattle.streams.specs.View.{Sound}
 use Rattle.streams.proofs.places.Laws.{never, first-none}
 use Rattle.streams.proofs.places.Held.{holds-free, held-low, held-there, held-anywhere}
 use Rattle.streams.proofs.Dropped.{sixteen-at, sixteen-length, kept-at}
+use Rattle.streams.proofs.Agree.{same-sound}
 use Rattle.streams.proofs.View.{at-same, at-other}
 
 zero-at : (k i : ℕ) → _≡_ {A = ℕ} (getD (replicate k 0) i 0) 0
@@ -46,24 +48,33 @@ unfolding inLimits placeBetween lengthAt within
 sound-limits s d =
     rw (first-none (lengthAt s 1026 65535) (λ j h. rw (lt-ltb (getD (s .lengths) j 0) 1026 (omega (arith, d .short j)))))
 
--- what is kept of a state with the same numbers and lengths
-module _ (s t : StreamState) (same : (t .numbers ≡ s .numbers) × (t .lengths ≡ s .lengths)) where
-  pub same-sound : Sound s → Sound t
-  unfolding holdsAt
-  same-sound d = record {
-    numbers-count = rw (same .0) (d .numbers-count);
-    lengths-count = rw (same .1) (d .lengths-count);
-    short = λ i. rw (same .1) (d .short i);
-    once = λ n i j. rw (same .0, same .1) (d .once n i j);
-  }
+-- what `alloc_send_seq` and `check_recv_seq` leave is as sound as what they found
+pub alloc-sound : (s : StreamState) → Sound s → Sound (allocOf s .state)
+unfolding allocOf
+alloc-sound s d = same-sound s (allocOf s .state) (λ j h. (refl, refl)) d (d .numbers-count) (d .lengths-count)
 
-  same-place : (n : ℕ) → placeOf t n ≡ placeOf s n
-  unfolding placeOf holdsAt
-  same-place n = rw (same .0, same .1)
+pub receive-is : (s : StreamState) (n : ℕ)
+    → (receivedOf s n .accepted ≡ cond (eqb (s .«stream_id») 0) true (eqb n (s .«next_recv_seq»)))
+    × (receivedOf s n .state ≡ cond (eqb (s .«stream_id») 0) s (cond (eqb n (s .«next_recv_seq»)) (expecting s (plus n 1)) s))
+unfolding receivedOf
+receive-is s n = by (eqb (s .«stream_id») 0) (eqb n (s .«next_recv_seq»))
+  where
+    answer : Bool → Bool → Received
+    answer t u = cond t (record { accepted = true; state = s }) (cond u (record { accepted = true; state = expecting s (plus n 1) }) (record { accepted = false; state = s }))
 
-  pub same-messages : (buffer : List ℕ) (n : ℕ) → messageOf t buffer n ≡ messageOf s buffer n
-  unfolding messageOf isHeld
-  same-messages buffer n = rw (same-place n, same .1)
+    by : (t u : Bool) → (answer t u .accepted ≡ cond t true u) × (answer t u .state ≡ cond t s (cond u (expecting s (plus n 1)) s))
+    by true u = (refl, refl)
+    by false true = (refl, refl)
+    by false false = (refl, refl)
+
+pub receive-sound : (s : StreamState) (n : ℕ) → Sound s → Sound (receivedOf s n .state)
+unfolding expecting
+receive-sound s n d = rw (receive-is s n .1) (by (eqb (s .«stream_id») 0) (eqb n (s .«next_recv_seq»)))
+  where
+    by : (t u : Bool) → Sound (cond t s (cond u (expecting s (plus n 1)) s))
+    by true u = d
+    by false true = same-sound s (expecting s (plus n 1)) (λ j h. (refl, refl)) d (d .numbers-count) (d .lengths-count)
+    by false false = d
 
 -- what is dropped leaves the rest as it was
 pub drop-sound : (s : StreamState) (first : ℕ) → Sound s → Sound (dropBefore s first)

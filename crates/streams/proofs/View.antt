@@ -1,4 +1,4 @@
--- What recording a message does to the messages held, as a map from numbers to bytes.
+-- What recording a message does to the messages held, as a map from their numbers.
 use Prim.Native.Nat.{ℕ, _+_, _-_, _*_, _≤_, _<_}
 use mathlib.Core.Path.{_≡_, refl, sym, ap, _∙_}
 use mathlib.Core.Bool.{Bool, true, false, cond}
@@ -13,10 +13,10 @@ use Rattle.codec.specs.Bytes.{putAt}
 use Rattle.streams.specs.declared.state.StreamState.{StreamState}
 use Rattle.streams.specs.declared.sent.Slot.the-variants as slot
 use Rattle.streams.specs.Places.{holds, holdsAt, placeOf, isHeld}
-use Rattle.streams.specs.Sent.{need, slotFor, withMessage}
-use Rattle.streams.specs.View.{messageOf, Sound}
+use Rattle.streams.specs.Sent.{need, slotFor, withMessage, bytesIn}
+use Rattle.streams.specs.View.{heldBy, messageOf, Sound}
 use Rattle.streams.proofs.places.Laws.{never, first-is, first-agree}
-use Rattle.streams.proofs.places.Held.{ChosenFor, chosen, held-low, free-place, held-there, message-at, message-none}
+use Rattle.streams.proofs.places.Held.{ChosenFor, chosen, held-low, free-place, held-there, read-at, read-none}
 use Rattle.streams.proofs.sent.Laws.{SlotAt, slot-at}
 use Rattle.streams.proofs.Slots.{read-same, read-before, read-behind}
 
@@ -74,40 +74,46 @@ module _ (buffer message : List ℕ) (p q k : ℕ) (low : p < 16) (short : lengt
       by true e = read-before buffer (p * 1024) message fits (q * 1024) k (omega (arith, ltb-true q p e))
       by false e = ap (take k) (read-behind buffer (p * 1024) message fits (q * 1024) (omega (arith, h, ltb-false q p e)))
 
--- "A number recorded again replaces its message"; the others stay as they are
-module _ (s : StreamState) (sound : Sound s) (n : ℕ) (message buffer : List ℕ) (p : ℕ) (answer : slotFor s n (length message) (length buffer) ≡ slot.At p) where
-  pub recorded : (m : ℕ) → messageOf (withMessage s p n (length message)) (putAt buffer (p * 1024) message) m ≡ cond (eqb m n) (some message) (messageOf s buffer m)
-  recorded m = by (eqb m n) refl
+-- "A number recorded again replaces its message"; the others stay as they are. What is read of a message may be anything
+-- that is x at its place afterwards, and at every other place what it was.
+module _ {A : Type 0} (read read′ : ℕ → ℕ → A) (x : A) (s : StreamState) (sound : Sound s) (n len room p : ℕ) (answer : slotFor s n len room ≡ slot.At p)
+    (here : read′ p len ≡ x) (elsewhere : (q k : ℕ) → (q ≡ p → ⊥) → k ≤ 1024 → read′ q k ≡ read q k) where
+  pub recorded-by : (m : ℕ) → heldBy read′ (withMessage s p n len) m ≡ cond (eqb m n) (some x) (heldBy read s m)
+  recorded-by m = by (eqb m n) refl
     where
-      a : SlotAt s n (length message) (length buffer) p
-      a = slot-at s n (length message) (length buffer) p answer
+      a : SlotAt s n len room p
+      a = slot-at s n len room p answer
 
       c : ChosenFor s n p
       c = chosen s n p (a .place) (a .low)
 
       s′ : StreamState
-      s′ = withMessage s p n (length message)
+      s′ = withMessage s p n len
 
-      after : List ℕ
-      after = putAt buffer (p * 1024) message
-
-      other : (h : m ≡ n → ⊥) (t : Bool) → isHeld s m ≡ t → messageOf s′ after m ≡ messageOf s buffer m
+      other : (h : m ≡ n → ⊥) (t : Bool) → isHeld s m ≡ t → heldBy read′ s′ m ≡ heldBy read s m
       other h true e =
           let l = held-low s m e in
           let q = placeOf s m in
-          let far = apart s sound n (length message) p (a .low) c m h l in
-          message-at s′ m after q (place-other s sound n (length message) p (a .low) c m h) l
-          ∙ ap some
-          (rw (length-other s sound n (length message) p (a .low) q far)
-          (slot-kept buffer message p q (getD (s .lengths) q 0 - 1) (a .low) (a .short) (a .room-for) (omega (arith, sound .short q)) far))
-          ∙ sym (message-at s m buffer q refl l)
+          let far = apart s sound n len p (a .low) c m h l in
+          read-at s′ m read′ q (place-other s sound n len p (a .low) c m h) l
+          ∙ ap (λ (k : ℕ). some (read′ q (k - 1))) (length-other s sound n len p (a .low) q far)
+          ∙ ap some (elsewhere q (getD (s .lengths) q 0 - 1) far (omega (arith, sound .short q)))
+          ∙ sym (read-at s m read q refl l)
       other h false e =
-          message-none s′ m after (place-other s sound n (length message) p (a .low) c m h ∙ free-place s m e) ∙ sym (message-none s m buffer (free-place s m e))
+          read-none s′ m read′ (place-other s sound n len p (a .low) c m h ∙ free-place s m e) ∙ sym (read-none s m read (free-place s m e))
 
-      by : (t : Bool) → eqb m n ≡ t → messageOf s′ after m ≡ cond t (some message) (messageOf s buffer m)
+      by : (t : Bool) → eqb m n ≡ t → heldBy read′ s′ m ≡ cond t (some x) (heldBy read s m)
       by true e =
           rw (eqb-true m n e)
-          (message-at s′ n after p (place-same s sound n (length message) p (a .low) c) (a .low)
-          ∙ ap some
-          (rw (length-same s sound n (length message) p (a .low)) (read-same buffer (p * 1024) message (omega (arith, a .low, a .short, a .room-for)))))
+          (read-at s′ n read′ p (place-same s sound n len p (a .low) c) (a .low)
+          ∙ ap some (ap (read′ p) (length-same s sound n len p (a .low)) ∙ here))
       by false e = other (eqb-false m n e) (isHeld s m) refl
+
+-- its bytes
+pub recorded : (s : StreamState) → Sound s → (n : ℕ) (message buffer : List ℕ) (p : ℕ) → slotFor s n (length message) (length buffer) ≡ slot.At p
+    → (m : ℕ) → messageOf (withMessage s p n (length message)) (putAt buffer (p * 1024) message) m ≡ cond (eqb m n) (some message) (messageOf s buffer m)
+recorded s sound n message buffer p answer =
+    let a = slot-at s n (length message) (length buffer) p answer in
+    recorded-by (bytesIn buffer) (bytesIn (putAt buffer (p * 1024) message)) message s sound n (length message) (length buffer) p answer
+    (read-same buffer (p * 1024) message (omega (arith, a .low, a .short, a .room-for)))
+    (λ q k h small. slot-kept buffer message p q k (a .low) (a .short) (a .room-for) small h)

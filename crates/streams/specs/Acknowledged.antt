@@ -57,16 +57,21 @@ repeatsOf s first bitmap = record { state = s; repeats = padded (repeats s first
 unfoldable pub acknowledge : StreamState → ℕ → ℕ → Acknowledged
 acknowledge s first bitmap = repeatsOf (dropBefore s first) first bitmap
 
--- "`make_heartbeat` names the numerically least held number": the choice between the best so far and one more place
-unfoldable pub older : Oldest → ℕ → ℕ → Oldest
-older best number len =
+-- "`make_heartbeat` names the numerically least held number": whether a is named rather than b, on a stream whose next to send is given.
+-- An order by the distance to the next to send, as document 02 asks for, is a change of this definition and of its laws.
+unfoldable pub namedFirst : ℕ → ℕ → ℕ → Bool
+namedFirst next a b = leb a b
+
+-- the choice between the best so far and one more place
+unfoldable pub older : ℕ → Oldest → ℕ → ℕ → Oldest
+older next best number len =
     cond (eqb len 0) best
-    (cond (best .any) (cond (leb (best .seq) number) best (record { any = true; seq = number }))
+    (cond (best .any) (cond (namedFirst next (best .seq) number) best (record { any = true; seq = number }))
     (record { any = true; seq = number }))
 
 unfoldable pub oldestFrom : StreamState → Oldest → ℕ → ℕ → Oldest
 oldestFrom s best zero i = best
-oldestFrom s best (suc k) i = oldestFrom s (older best (getD (s .numbers) i 0) (getD (s .lengths) i 0)) k (suc i)
+oldestFrom s best (suc k) i = oldestFrom s (older (s .«next_send_seq») best (getD (s .numbers) i 0) (getD (s .lengths) i 0)) k (suc i)
 
 -- "or the next to send if none is held"
 unfoldable pub firstUnacked : StreamState → ℕ

@@ -2,10 +2,11 @@
 use Prim.Native.Nat.{ℕ, _+_, _-_, _*_}
 use mathlib.Core.Bool.{cond, not}
 use mathlib.Core.List.{List, []}
+use mathlib.Core.Option.{Option, none, some}
 use lib.Dec.{eqb, ltb, leb}
 use lib.ListN.{getD, set, length, take, drop}
 use Rattle.codec.specs.Bytes.{putAt}
-use Rattle.codec.specs.Refusals.{numberOf}
+use Rattle.codec.specs.Answers.{Answer, gives, refusal}
 use Rattle.codec.specs.declared.refusals.Refusal.the-variants.{OverLimit, StoreFull}
 use Rattle.streams.specs.declared.state.StreamState.{StreamState}
 use Rattle.streams.specs.declared.sent.Allocated.{Allocated}
@@ -65,11 +66,11 @@ bytesAt (slot.Refused r) message buffer = buffer
 unfoldable pub recordBytes : StreamState → ℕ → List ℕ → List ℕ → List ℕ
 recordBytes s n message buffer = bytesAt (slotFor s n (length message) (length buffer)) message buffer
 
--- document 01's number of each answer, 0 where nothing is refused
-abbrev pub slotNumber : Slot → ℕ
-slotNumber (slot.At place) = 0
-slotNumber slot.Nowhere = 0
-slotNumber (slot.Refused r) = numberOf r
+-- the answer in document 01's numbers and values: the place, or none on best effort
+abbrev pub slotAnswer : Slot → Answer (Option ℕ)
+slotAnswer (slot.At place) = gives (some place)
+slotAnswer slot.Nowhere = gives none
+slotAnswer (slot.Refused r) = refusal r
 
 -- where the message n lies, and how long it is; 16 as above, of the one length that is used
 unfoldable pub heldOf : StreamState → ℕ → ℕ → Held
@@ -79,14 +80,18 @@ heldOf s n room =
     (cond (ltb 1025 (getD (s .lengths) (placeOf s n) 0)) (held.Refused OverLimit)
     (held.At (placeOf s n) (getD (s .lengths) (placeOf s n) 0 - 1))))
 
--- the message as that part of the buffer, or an empty part
+-- the message of a place as that part of the buffer
+abbrev pub bytesIn : List ℕ → ℕ → ℕ → List ℕ
+bytesIn buffer place len = take len (drop (place * 1024) buffer)
+
+-- or an empty part, where there is none
 unfoldable pub heldBytes : Held → List ℕ → List ℕ
-heldBytes (held.At place len) buffer = take len (drop (place * 1024) buffer)
+heldBytes (held.At place len) buffer = bytesIn buffer place len
 heldBytes held.Nothing buffer = []
 heldBytes (held.Refused r) buffer = []
 
--- as `slotNumber`
-abbrev pub heldNumber : Held → ℕ
-heldNumber (held.At place len) = 0
-heldNumber held.Nothing = 0
-heldNumber (held.Refused r) = numberOf r
+-- the place and the number of bytes, or none where the number isn't held
+abbrev pub heldAnswer : Held → Answer (Option (ℕ × ℕ))
+heldAnswer (held.At place len) = gives (some (place, len))
+heldAnswer held.Nothing = gives none
+heldAnswer (held.Refused r) = refusal r

@@ -1,21 +1,75 @@
--- The held messages as the Rust's map from numbers to bytes, and what calls one behind the other make of it.
-use Prim.Native.Nat.{ℕ, _-_, _*_, _≤_, _<_}
+-- What the tables keep of a stream, read as document 01's "number, next to send, expected, held messages", and what calls make of it.
+use Prim.Native.Nat.{ℕ, _-_, _≤_, _<_}
 use mathlib.Core.Path.{_≡_}
 use mathlib.Core.Bool.{Bool, true, cond, not}
 use mathlib.Core.List.{List, [], _∷_}
 use mathlib.Core.Option.{Option, none, some}
 use lib.Dec.{eqb}
-use lib.ListN.{getD, length, take, drop}
+use lib.ListN.{getD, length}
 use Rattle.streams.specs.declared.state.StreamState.{StreamState}
-use Rattle.streams.specs.Sequence.{seqLt}
+use Rattle.streams.specs.declared.sent.Slot.{Slot}
+use Rattle.streams.specs.declared.sent.Slot.the-variants as slot
+use Rattle.streams.specs.Sequence.{plus, seqLt}
 use Rattle.streams.specs.Places.{holdsAt, placeOf, isHeld}
-use Rattle.streams.specs.Sent.{allocOf, recordOf, recordBytes}
+use Rattle.streams.specs.Sent.{allocOf, recordOf, recordBytes, bytesIn}
 use Rattle.streams.specs.Acknowledged.{acknowledge}
 use Rattle.streams.specs.Received.{receivedOf}
 
--- the message that is held under a number
-unfoldable pub messageOf : StreamState → List ℕ → ℕ → Option (List ℕ)
-messageOf s buffer n = cond (isHeld s n) (some (take (getD (s .lengths) (placeOf s n) 0 - 1) (drop (placeOf s n * 1024) buffer))) none
+-- ---- the held messages, as the Rust's map from their numbers
+
+-- what is read of the message held under a number, given its place and how many bytes it has
+unfoldable pub heldBy : {A : Type 0} → (ℕ → ℕ → A) → StreamState → ℕ → Option A
+heldBy read s n = cond (isHeld s n) (some (read (placeOf s n) (getD (s .lengths) (placeOf s n) 0 - 1))) none
+
+-- its bytes, in a lent buffer
+abbrev pub messageOf : StreamState → List ℕ → ℕ → Option (List ℕ)
+messageOf s buffer n = heldBy (bytesIn buffer) s n
+
+-- how many it has, where no buffer is lent
+abbrev pub lengthIn : ℕ → ℕ → ℕ
+lengthIn place len = len
+
+-- ---- "number, next to send, expected, held messages"
+
+-- A is what is read of a message. Numbers that stand in free places are not seen.
+pub record Kept (A : Type 0) : Type 0 where
+  pub number : ℕ
+  pub next : ℕ
+  pub expected : ℕ
+  pub held : ℕ → Option A
+
+abbrev pub keptOf : {A : Type 0} → (ℕ → ℕ → A) → StreamState → Kept A
+keptOf read s = record { number = s .«stream_id»; next = s .«next_send_seq»; expected = s .«next_recv_seq»; held = heldBy read s }
+
+-- a stream that was just opened
+abbrev pub freshOf : {A : Type 0} → ℕ → Kept A
+freshOf n = record { number = n; next = 0; expected = 0; held = λ m. none }
+
+-- "after 65,535 comes 0"
+abbrev pub allocIn : {A : Type 0} → Kept A → Kept A
+allocIn k = record { number = k .number; next = plus (k .next) 1; expected = k .expected; held = k .held }
+
+-- "A number recorded again replaces its message. Best effort (stream 0) records nothing"; nor does a refusal
+abbrev pub holding : {A : Type 0} → ℕ → A → Kept A → Kept A
+holding n x k = record { number = k .number; next = k .next; expected = k .expected; held = λ m. cond (eqb m n) (some x) (k .held m) }
+
+abbrev pub recordIn : {A : Type 0} → Slot → ℕ → A → Kept A → Kept A
+recordIn (slot.At place) n x k = holding n x k
+recordIn slot.Nowhere n x k = k
+recordIn (slot.Refused r) n x k = k
+
+-- "`process_acknack` drops held numbers before `first_unacked_seq`"
+abbrev pub acknackIn : {A : Type 0} → ℕ → Kept A → Kept A
+acknackIn first k = record { number = k .number; next = k .next; expected = k .expected; held = λ m. cond (seqLt m first) none (k .held m) }
+
+-- "Best effort (stream 0) .. accepts all numbers. A reliable stream accepts only the expected one; after 65,535 comes 0."
+abbrev pub receiveIn : {A : Type 0} → ℕ → Kept A → Kept A
+receiveIn n k =
+    cond (eqb (k .number) 0) k
+    (cond (eqb n (k .expected)) (record { number = k .number; next = k .next; expected = plus n 1; held = k .held })
+    k)
+
+-- ---- the states that calls lead to
 
 -- a state as the calls leave it: sixteen places, messages of up to 1,024 bytes, and no number held twice
 pub record Sound (s : StreamState) : Type 0 where

@@ -29,9 +29,9 @@ fn kept_length(number: u16, length: u16, first: u16) -> u16
     if seq_lt(number, first) { 0 } else { length }
 }
 
-// The choice of the number that a HEARTBEAT names first: the numerically least.
-fn older(best: Oldest, number: u16, length: u16) -> Oldest
-    ensures { λ r. ⌜ r ≡ older best number length ⌝ }
+// The choice of the number that a HEARTBEAT names first: the numerically least, wherever the next to send stands.
+fn older(next: u16, best: Oldest, number: u16, length: u16) -> Oldest
+    ensures { λ r. ⌜ r ≡ older next best number length ⌝ }
 {
     if length == 0 {
         return best;
@@ -112,7 +112,7 @@ impl StreamState {
         };
         let mut i = 0;
         while i < PLACES {
-            best = older(best, self.numbers[i], self.lengths[i]);
+            best = older(self.next_send_seq, best, self.numbers[i], self.lengths[i]);
             i += 1;
         }
         best.seq

@@ -10,7 +10,7 @@ use Rattle.sessions.specs.Table.{reachedOf}
 use Rattle.sessions.proofs.table.Laws.{live-fits}
 use Rattle.codec.specs.declared.submessages.ObjectNumber.{ObjectNumber}
 use Rattle.walk.proofs.Parts.{part-len}
-use Rattle.sessions.specs.Objects.{placeOf, foundOf, greatestOf, storedOf, storedRow, removedRow}
+use Rattle.sessions.specs.Objects.{objectPlace, foundOf, greatestOf, storedOf, storedRow, removedRow}
 use Rattle.sessions.specs.SessionObjects.{firstObject, objectRow, withObjectRow, usedOf, objectsNamed, foundBy, foundObject, greatestBy, greatestObject, storedBy, storedObject, storedIn, storedObjects, removedIn, removedObjects}
 use Rattle.sessions.specs.declared.objects.Object.{Object}
 use Rattle.sessions.specs.declared.table.Named.{Named}
@@ -40,7 +40,7 @@ module _ (sessions : List (List ℕ)) (objects : List Object) (id : ℕ) where
     pub long : length lent ≡ 32
     pub within : usedOf sessions id ≤ length lent
 
-  named-is : objectsNamed sessions (length objects) id ≡ reachedOf sessions id (usedOf sessions id) 32 (length objects) 8192
+  pub named-is : objectsNamed sessions (length objects) id ≡ reachedOf sessions id (usedOf sessions id) 32 (length objects) 8192
   unfolding objectsNamed
   named-is = refl
 
@@ -56,18 +56,18 @@ module _ (sessions : List (List ℕ)) (objects : List Object) (id : ℕ) where
     unfolding foundObject
     found-is w e = ap (λ (v : Named). foundBy v sessions objects id n) (sym e)
 
-    pub found-lent : objectsNamed sessions (length objects) id ≡ Live → foundOf lent (placeOf lent (usedOf sessions id) n) ≡ foundObject sessions objects id n
-    found-lent e = ap (λ (row : List Object). foundOf row (placeOf row (usedOf sessions id) n)) (row-lent objects id) ∙ found-is Live e
+    pub found-lent : objectsNamed sessions (length objects) id ≡ Live → foundOf lent (objectPlace lent (usedOf sessions id) n) ≡ foundObject sessions objects id n
+    found-lent e = ap (λ (row : List Object). foundOf row (objectPlace row (usedOf sessions id) n)) (row-lent objects id) ∙ found-is Live e
 
     pub removed-is : (w : Named) → objectsNamed sessions (length objects) id ≡ w → removedIn w sessions objects id n ≡ removedObjects sessions objects id n
     unfolding removedObjects
     removed-is w e = ap (λ (v : Named). removedIn v sessions objects id n) (sym e)
 
     pub removed-lent : objectsNamed sessions (length objects) id ≡ Live
-        → putMid (firstObject id) (firstObject id + 32 - firstObject id) objects (removedRow lent (usedOf sessions id) (placeOf lent (usedOf sessions id) n)) ≡ removedObjects sessions objects id n
+        → putMid (firstObject id) (firstObject id + 32 - firstObject id) objects (removedRow lent (usedOf sessions id) (objectPlace lent (usedOf sessions id) n)) ≡ removedObjects sessions objects id n
     removed-lent e =
-        row-back objects id (removedRow lent (usedOf sessions id) (placeOf lent (usedOf sessions id) n))
-        ∙ ap (λ (row : List Object). withObjectRow objects id (removedRow row (usedOf sessions id) (placeOf row (usedOf sessions id) n))) (row-lent objects id)
+        row-back objects id (removedRow lent (usedOf sessions id) (objectPlace lent (usedOf sessions id) n))
+        ∙ ap (λ (row : List Object). withObjectRow objects id (removedRow row (usedOf sessions id) (objectPlace row (usedOf sessions id) n))) (row-lent objects id)
         ∙ removed-is Live e
 
   module _ (kind : ℕ) where

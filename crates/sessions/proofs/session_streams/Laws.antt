@@ -1,19 +1,18 @@
 -- Laws of where a stream is.
 use Prim.Native.Nat.{ℕ, zero, suc, _+_, _<_, _≤_}
-use mathlib.Core.Path.{_≡_, refl, sym, ap, _∙_}
+use mathlib.Core.Path.{_≡_, refl, sym, ap, _∙_, subst}
 use mathlib.Core.Bool.{Bool, true, false, cond}
 use mathlib.Core.List.{List}
 use native.Mathlib.Omega.{arith}
-use borrow.Author.Tests.{leb-false}
-use lib.Dec.{leb}
+use borrow.Author.Tests.{ltb-true, leb-false}
+use lib.Dec.{leb, ltb}
 use lib.ListN.{length}
-use Rattle.sessions.specs.Search.{firstFrom}
+use Rattle.streams.specs.Places.{firstFrom}
+use Rattle.streams.specs.declared.state.StreamState.{StreamState}
 use Rattle.sessions.specs.Table.{sessionAt}
 use Rattle.sessions.specs.Streams.{firstStream}
-use Rattle.sessions.specs.SessionStreams.{streamsUsed, streamsNamed, isStream, placedAs, placeBy, streamPlace, openedAs, openedCount, openedIn}
+use Rattle.sessions.specs.SessionStreams.{streamsUsed, streamsNamed, isStream, placedAs, placeBy, streamPlace, openedAs, openedCount, openedIn, namedAs, readAs, writtenIn}
 use Rattle.sessions.proofs.table.Laws.{live-fits}
-use Rattle.sessions.specs.declared.objects.Place.{Place}
-use Rattle.sessions.specs.declared.objects.Place.the-variants.{At, Nowhere}
 use Rattle.sessions.specs.declared.session_streams.StreamPlace.{StreamPlace}
 use Rattle.sessions.specs.declared.session_streams.StreamPlace.the-variants.{Have, Add, Full, NotLive, Refused}
 use Rattle.sessions.specs.declared.table.ClientSession.{ClientSession}
@@ -31,34 +30,44 @@ module _ (sessions streams : List (List ℕ)) (id : ℕ) where
     place-is w e = ap (λ (v : Named). placeBy v sessions streams id n) (sym e)
 
     -- a place that was found step by step
-    pub place-live : (p : Place) (first : ℕ) (s : ClientSession) → p ≡ firstFrom (isStream streams first n) 0 (s .streams) → first ≡ firstStream id → s ≡ sessionAt sessions id
+    pub place-live : (p first : ℕ) (s : ClientSession) → p ≡ firstFrom (isStream streams first n) (s .streams) 0 → first ≡ firstStream id → s ≡ sessionAt sessions id
         → streamsNamed sessions (length streams) id ≡ named.Live → placedAs p (s .streams) ≡ streamPlace sessions streams id n
     place-live p first s a b c e =
-        ap (λ (q : Place). placedAs q (s .streams)) a
-        ∙ ap (λ (f : ℕ). placedAs (firstFrom (isStream streams f n) 0 (s .streams)) (s .streams)) b
-        ∙ ap (λ (t : ClientSession). placedAs (firstFrom (isStream streams (firstStream id) n) 0 (t .streams)) (t .streams)) c
+        ap (λ (q : ℕ). placedAs q (s .streams)) a
+        ∙ ap (λ (f : ℕ). placedAs (firstFrom (isStream streams f n) (s .streams) 0) (s .streams)) b
+        ∙ ap (λ (t : ClientSession). placedAs (firstFrom (isStream streams (firstStream id) n) (t .streams) 0) (t .streams)) c
         ∙ place-is named.Live e
 
-    -- a new stream's place is one of eight
-    pub add-small : (k : ℕ) → streamPlace sessions streams id n ≡ Add k → k < 8
+    -- a place is one of eight
+    abbrev pub Small : StreamPlace → Type 0
+    Small (Have k) = k < 8
+    Small (Add k) = k < 8
+    Small Full = Unit {0}
+    Small NotLive = Unit {0}
+    Small (Refused r) = Unit {0}
+
+    all-small : Small (streamPlace sessions streams id n)
     unfolding streamPlace
-    add-small k e = by (streamsNamed sessions (length streams) id) e
+    all-small = by (streamsNamed sessions (length streams) id) refl
       where
         used : ℕ
         used = streamsUsed sessions id
 
-        room : (b : Bool) → leb 8 used ≡ b → cond b Full (Add used) ≡ Add k → k < 8
-        room true p z = let o : _≡_ {A = ℕ} 0 1 = cc in absurd (omega arith)
-        room false p z = let u : used ≡ k = cc in omega (arith, leb-false 8 used p)
+        room : (b : Bool) → leb 8 used ≡ b → Small (cond b Full (Add used))
+        room true p = tt
+        room false p = leb-false 8 used p
 
-        place : (p : Place) → placedAs p used ≡ Add k → k < 8
-        place (At j) z = let o : _≡_ {A = ℕ} 0 1 = cc in absurd (omega arith)
-        place Nowhere z = room (leb 8 used) refl z
+        place : (j : ℕ) (b : Bool) → ltb j used ≡ b → used ≤ 8 → Small (cond b (Have j) (cond (leb 8 used) Full (Add used)))
+        place j true p u = omega (arith, ltb-true j used p)
+        place j false p u = room (leb 8 used) refl
 
-        by : (w : Named) → placeBy w sessions streams id n ≡ Add k → k < 8
-        by named.Live z = place (firstFrom (isStream streams (firstStream id) n) 0 used) z
-        by named.NotLive z = let o : _≡_ {A = ℕ} 0 1 = cc in absurd (omega arith)
-        by (named.Refused r) z = let o : _≡_ {A = ℕ} 0 1 = cc in absurd (omega arith)
+        by : (w : Named) → streamsNamed sessions (length streams) id ≡ w → Small (placeBy w sessions streams id n)
+        by named.Live e = let j = firstFrom (isStream streams (firstStream id) n) used 0 in place j (ltb j used) refl (streams-few e)
+        by named.NotLive e = tt
+        by (named.Refused r) e = tt
+
+    pub place-small : (w : StreamPlace) → w ≡ streamPlace sessions streams id n → Small w
+    place-small w e = subst Small (sym e) all-small
 
     -- what opening comes to, by the place
     pub opened-by : (w : StreamPlace) → w ≡ streamPlace sessions streams id n
@@ -66,3 +75,14 @@ module _ (sessions streams : List (List ℕ)) (id : ℕ) where
         × (openedCount w sessions id ≡ openedCount (streamPlace sessions streams id n) sessions id)
         × (openedIn w streams id n ≡ openedIn (streamPlace sessions streams id n) streams id n)
     opened-by w e = (ap openedAs e, ap (λ (v : StreamPlace). openedCount v sessions id) e, ap (λ (v : StreamPlace). openedIn v streams id n) e)
+
+    -- and what reading does
+    pub read-by : (w : StreamPlace) → w ≡ streamPlace sessions streams id n → readAs w streams id ≡ readAs (streamPlace sessions streams id n) streams id
+    read-by w e = ap (λ (v : StreamPlace). readAs v streams id) e
+
+-- and what writing back does
+module _ (sessions streams : List (List ℕ)) (id : ℕ) (s : StreamState) where
+  pub written-by : (w : StreamPlace) → w ≡ streamPlace sessions streams id (s .«stream_id»)
+      → (namedAs w ≡ namedAs (streamPlace sessions streams id (s .«stream_id»)))
+      × (writtenIn w streams id s ≡ writtenIn (streamPlace sessions streams id (s .«stream_id»)) streams id s)
+  written-by w e = (ap namedAs e, ap (λ (v : StreamPlace). writtenIn v streams id s) e)

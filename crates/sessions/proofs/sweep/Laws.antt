@@ -21,27 +21,27 @@ module _ (time timeout : ℕ) where
   unfolding goes
   goes-other rows i j w h = rw (getD-set-other rows i j w [] (λ e. omega arith))
 
-  expired-other : (rows : List (List ℕ)) (i : ℕ) (w : List ℕ) (j n : ℕ) → i < j → expiredFrom (set rows i w) time timeout j n ≡ expiredFrom rows time timeout j n
+  expired-other : (rows : List (List ℕ)) (i : ℕ) (w : List ℕ) (j n : ℕ) → i < j → expiredFrom (goes (set rows i w) time timeout) j n ≡ expiredFrom (goes rows time timeout) j n
   unfolding expiredFrom
   expired-other rows i w j zero h = refl
   expired-other rows i w j (suc n) h = rw (goes-other rows i j w h, expired-other rows i w (suc j) n (omega arith))
 
   -- a swept id changes nothing of those behind it
-  expired-swept : (rows : List (List ℕ)) (i n : ℕ) → expiredFrom (sweptAt rows time timeout i) time timeout (suc i) n ≡ expiredFrom rows time timeout (suc i) n
+  expired-swept : (rows : List (List ℕ)) (i n : ℕ) → expiredFrom (goes (sweptAt rows time timeout i) time timeout) (suc i) n ≡ expiredFrom (goes rows time timeout) (suc i) n
   unfolding sweptAt
   expired-swept rows i n = go (goes rows time timeout i)
     where
-      go : (b : Bool) → expiredFrom (cond b (set rows i (rowOf endedSession)) rows) time timeout (suc i) n ≡ expiredFrom rows time timeout (suc i) n
+      go : (b : Bool) → expiredFrom (goes (cond b (set rows i (rowOf endedSession)) rows) time timeout) (suc i) n ≡ expiredFrom (goes rows time timeout) (suc i) n
       go true = expired-other rows i (rowOf endedSession) (suc i) n (omega arith)
       go false = refl
 
   module _ (rows : List (List ℕ)) where
-    pub count-none : (i : ℕ) → 0 ≡ length (expiredFrom rows time timeout i 0)
+    pub count-none : (i : ℕ) → 0 ≡ length (expiredFrom (goes rows time timeout) i 0)
     unfolding expiredFrom
     count-none i = refl
 
     pub count-more : (i : ℕ) → 0 < i → i ≤ 255
-        → length (expiredFrom rows time timeout (i - 1 + 1) (255 - (i - 1))) ≡ cond (goes rows time timeout i) 1 0 + length (expiredFrom rows time timeout (i + 1) (255 - i))
+        → length (expiredFrom (goes rows time timeout) (i - 1 + 1) (255 - (i - 1))) ≡ cond (goes rows time timeout i) 1 0 + length (expiredFrom (goes rows time timeout) (i + 1) (255 - i))
     unfolding expiredFrom
     count-more i h l = go (i - 1 + 1) (255 - (i - 1)) (255 - i) (i + 1) (omega arith) (omega arith) (omega arith)
       where
@@ -49,10 +49,10 @@ module _ (time timeout : ℕ) where
         by true ids = omega arith
         by false ids = omega arith
 
-        go : (j m n k : ℕ) → j ≡ i → m ≡ suc n → k ≡ suc i → length (expiredFrom rows time timeout j m) ≡ cond (goes rows time timeout i) 1 0 + length (expiredFrom rows time timeout k n)
-        go j m n k d e f = rw (d, e, f) (by (goes rows time timeout i) (expiredFrom rows time timeout (suc i) n))
+        go : (j m n k : ℕ) → j ≡ i → m ≡ suc n → k ≡ suc i → length (expiredFrom (goes rows time timeout) j m) ≡ cond (goes rows time timeout i) 1 0 + length (expiredFrom (goes rows time timeout) k n)
+        go j m n k d e f = rw (d, e, f) (by (goes rows time timeout i) (expiredFrom (goes rows time timeout) (suc i) n))
 
-    pub count-all : (i : ℕ) → i ≡ 0 → length (expiredFrom rows time timeout (i + 1) (255 - i)) ≡ length (expiredIds rows time timeout)
+    pub count-all : (i : ℕ) → i ≡ 0 → length (expiredFrom (goes rows time timeout) (i + 1) (255 - i)) ≡ length (expiredIds rows time timeout)
     unfolding expiredIds
     count-all i e = rw e refl
 
@@ -66,8 +66,8 @@ module _ (time timeout : ℕ) where
 
     -- the ids listed from i on, written behind those before
     listed-step : (out : List ℕ) (i at : ℕ) → i < 256
-        → sets (cond (goes rows time timeout i) (set out at i) out) (cond (goes rows time timeout i) (at + 1) at) (expiredFrom (sweptAt rows time timeout i) time timeout (i + 1) (256 - (i + 1)))
-        ≡ sets out at (expiredFrom rows time timeout i (256 - i))
+        → sets (cond (goes rows time timeout i) (set out at i) out) (cond (goes rows time timeout i) (at + 1) at) (expiredFrom (goes (sweptAt rows time timeout i) time timeout) (i + 1) (256 - (i + 1)))
+        ≡ sets out at (expiredFrom (goes rows time timeout) i (256 - i))
     unfolding expiredFrom
     listed-step out i at h = go (256 - i) (256 - (i + 1)) (i + 1) (omega arith) (omega arith)
       where
@@ -79,9 +79,9 @@ module _ (time timeout : ℕ) where
         by false ids = refl
 
         go : (m n k : ℕ) → m ≡ suc n → k ≡ suc i
-            → sets (cond (goes rows time timeout i) (set out at i) out) (cond (goes rows time timeout i) (at + 1) at) (expiredFrom (sweptAt rows time timeout i) time timeout k n)
-            ≡ sets out at (expiredFrom rows time timeout i m)
-        go m n k e f = rw (e, f, expired-swept rows i n) (by (goes rows time timeout i) (expiredFrom rows time timeout (suc i) n))
+            → sets (cond (goes rows time timeout i) (set out at i) out) (cond (goes rows time timeout i) (at + 1) at) (expiredFrom (goes (sweptAt rows time timeout i) time timeout) k n)
+            ≡ sets out at (expiredFrom (goes rows time timeout) i m)
+        go m n k e f = rw (e, f, expired-swept rows i n) (by (goes rows time timeout i) (expiredFrom (goes rows time timeout) (suc i) n))
 
     -- a turn of the sweep
     module _ (i at : ℕ) (i< : i < 256) (out : List ℕ) (rows′ : List (List ℕ)) (out′ : List ℕ) (at′ : ℕ)
@@ -90,7 +90,7 @@ module _ (time timeout : ℕ) where
       pub swept-turn : sweptFrom rows′ time timeout (i + 1) (256 - (i + 1)) ≡ sweptFrom rows time timeout i (256 - i)
       swept-turn = rw r (swept-step i i<)
 
-      pub listed-turn : sets out′ at′ (expiredFrom rows′ time timeout (i + 1) (256 - (i + 1))) ≡ sets out at (expiredFrom rows time timeout i (256 - i))
+      pub listed-turn : sets out′ at′ (expiredFrom (goes rows′ time timeout) (i + 1) (256 - (i + 1))) ≡ sets out at (expiredFrom (goes rows time timeout) i (256 - i))
       listed-turn = rw (a, r, o) (listed-step out i at i<)
 
       pub at-turn : at < i → at′ < i + 1
@@ -104,7 +104,7 @@ module _ (time timeout : ℕ) where
     unfolding sweptFrom
     swept-end i e = rw e refl
 
-    pub listed-end : (out : List ℕ) (i at : ℕ) → i ≡ 256 → out ≡ sets out at (expiredFrom rows time timeout i (256 - i))
+    pub listed-end : (out : List ℕ) (i at : ℕ) → i ≡ 256 → out ≡ sets out at (expiredFrom (goes rows time timeout) i (256 - i))
     unfolding expiredFrom
     listed-end out i at e = rw e refl
 

@@ -8,7 +8,7 @@ use lib.Dec.{leb}
 use borrow.Author.Tests.{lt-leb, le-leb, leb-true, eq-eqb, ne-eqb}
 use lib.ListN.{getD, length}
 use Rattle.codec.specs.declared.refusals.Refusal.the-variants.{OverLimit}
-use Rattle.sessions.specs.Table.{sessionAt, isFree, namedOf, recordsFit, reachedOf}
+use Rattle.sessions.specs.Table.{sessionAt, isFree, namedOf, gotBy, gotOf, recordsFit, reachedOf}
 use Rattle.sessions.specs.declared.table.ClientSession.{ClientSession}
 use Rattle.sessions.specs.declared.table.Named.{Named}
 use Rattle.sessions.specs.declared.table.Named.the-variants.{Live, NotLive, Refused}
@@ -26,6 +26,11 @@ module _ (rows : List (List ℕ)) (id : ℕ) where
     pub named-live : (s .live ≡ 0 → ⊥) → Live ≡ namedOf rows id
     unfolding namedOf
     named-live h = rw (le-leb 256 (length rows) long, ne-eqb (sessionAt rows id .live) 0 (λ z. h (ap (λ (t : ClientSession). t .live) e ∙ z)))
+
+  -- the session that is got, by what the id names
+  pub got-by : (w : Named) → w ≡ namedOf rows id → gotBy w rows id ≡ gotOf rows id
+  unfolding gotOf
+  got-by w e = ap (λ (v : Named). gotBy v rows id) e
 
 -- ---- the records of a session
 
@@ -61,3 +66,13 @@ module _ (rows : List (List ℕ)) (id used most store need : ℕ) where
       go true true false f p q r s z = let n : _≡_ {A = ℕ} 0 1 = cc in absurd (omega arith)
       go true false d f p q r s z = let n : _≡_ {A = ℕ} 0 1 = cc in absurd (omega arith)
       go false b d f p q r s z = let n : _≡_ {A = ℕ} 0 1 = cc in absurd (omega arith)
+
+  pub free-named : reachedOf rows id used most store need ≡ NotLive → isFree rows id ≡ true
+  unfolding reachedOf recordsFit namedOf
+  free-named e = go (cond (leb need store) (leb used most) false) (leb 256 (length rows)) (isFree rows id) refl e
+    where
+      go : (a b f : Bool) → isFree rows id ≡ f → cond a (cond b (cond f NotLive Live) (Refused OverLimit)) (Refused OverLimit) ≡ NotLive → isFree rows id ≡ true
+      go true true true s z = s
+      go true true false s z = let n : _≡_ {A = ℕ} 0 1 = cc in absurd (omega arith)
+      go true false f s z = let n : _≡_ {A = ℕ} 0 1 = cc in absurd (omega arith)
+      go false b f s z = let n : _≡_ {A = ℕ} 0 1 = cc in absurd (omega arith)

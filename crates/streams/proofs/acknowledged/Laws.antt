@@ -97,7 +97,7 @@ module _ (s : StreamState) where
   unfolding Sought firstUnacked
   sought-start = (omega arith, refl)
 
-  pub sought-step : (best : Oldest) (i : ℕ) → Sought s best i → i < 16 → Sought s (older best (getD (s .numbers) i 0) (getD (s .lengths) i 0)) (i + 1)
+  pub sought-step : (best : Oldest) (i : ℕ) → Sought s best i → i < 16 → Sought s (older (s .«next_send_seq») best (getD (s .numbers) i 0) (getD (s .lengths) i 0)) (i + 1)
   unfolding Sought oldestFrom
   sought-step best i k h = (omega arith, rw (add-one i) (rw (left-suc i h, add-one i) at (k .1)))
 

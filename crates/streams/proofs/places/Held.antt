@@ -1,16 +1,15 @@
 -- What a place holds, and which place is chosen for a number.
-use Prim.Native.Nat.{ℕ, _-_, _*_, _≤_, _<_}
+use Prim.Native.Nat.{ℕ, _-_, _≤_, _<_}
 use mathlib.Core.Path.{_≡_, refl, sym, _∙_}
 use mathlib.Core.Bool.{Bool, true, false, cond}
-use mathlib.Core.List.{List}
 use mathlib.Core.Option.{none, some}
 use native.Mathlib.Omega.{arith}
 use borrow.Author.Tests.{ltb-true, ltb-false, leb-true, eqb-true, eqb-false, lt-ltb, eq-eqb, ne-eqb}
 use lib.Dec.{eqb, ltb, leb}
-use lib.ListN.{getD, take, drop}
+use lib.ListN.{getD}
 use Rattle.streams.specs.declared.state.StreamState.{StreamState}
 use Rattle.streams.specs.Places.{firstPlace, holds, within, holdsAt, lengthAt, placeOf, placeBetween, isHeld, placeFor}
-use Rattle.streams.specs.View.{messageOf}
+use Rattle.streams.specs.View.{heldBy}
 use Rattle.streams.proofs.places.Laws.{never, first-found, first-before, first-most}
 
 -- one place: its number, its length, and a number that is asked for
@@ -66,14 +65,15 @@ module _ (s : StreamState) (n : ℕ) where
       let some-place : i < placeOf s n → ⊥ = λ l. never e (held-before i l) in
       lt-ltb (placeOf s n) 16 (omega (arith, some-place))
 
-  -- the message under n, by its place
-  pub message-at : (buffer : List ℕ) (q : ℕ) → placeOf s n ≡ q → q < 16 → messageOf s buffer n ≡ some (take (getD (s .lengths) q 0 - 1) (drop (q * 1024) buffer))
-  unfolding messageOf isHeld
-  message-at buffer q e h = rw (e, lt-ltb q 16 h)
+  -- what is read of the message under n, by its place
+  module _ {A : Type 0} (read : ℕ → ℕ → A) where
+    pub read-at : (q : ℕ) → placeOf s n ≡ q → q < 16 → heldBy read s n ≡ some (read q (getD (s .lengths) q 0 - 1))
+    unfolding heldBy isHeld
+    read-at q e h = rw (e, lt-ltb q 16 h)
 
-  pub message-none : (buffer : List ℕ) → placeOf s n ≡ 16 → messageOf s buffer n ≡ none
-  unfolding messageOf isHeld
-  message-none buffer e = rw e
+    pub read-none : placeOf s n ≡ 16 → heldBy read s n ≡ none
+    unfolding heldBy isHeld
+    read-none e = rw e
 
   -- the place for n: no place before it holds n, and it holds no other number
   pub record ChosenFor (p : ℕ) : Type 0 where

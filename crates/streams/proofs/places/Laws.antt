@@ -1,6 +1,6 @@
 -- Laws of the search over a stream's places: what a loop over them does turn by turn.
 use Prim.Native.Nat.{ℕ, zero, suc, _+_, _-_, _≤_, _<_}
-use mathlib.Core.Path.{_≡_, refl}
+use mathlib.Core.Path.{_≡_, refl, sym, ap, _∙_}
 use mathlib.Core.Bool.{Bool, true, false, cond}
 use mathlib.Core.Logic.{⊎-elim}
 use native.Mathlib.Nat.{eq-or-lt-of-le}
@@ -8,31 +8,36 @@ use native.Mathlib.Numerals.{add-one}
 use native.Mathlib.Omega.{arith}
 use Rattle.streams.specs.Places.{firstFrom, firstPlace}
 
--- what is left of sixteen behind i, as a search from i on counts it
-module _ (i : ℕ) where
-  pub left-suc : i < 16 → 16 - i ≡ suc (16 - (i + 1))
-  left-suc h = omega arith
+-- what is left of k places behind i, as a search from i on counts it
+pub left-of : (k i : ℕ) → i < k → k - i ≡ suc (k - (i + 1))
+left-of k i h = omega arith
 
--- a search that has come to i without success has still the same answer
-unfoldable pub Open : (ℕ → Bool) → ℕ → Type 0
-Open t i = (i ≤ 16) × (firstFrom t (16 - i) i ≡ firstPlace t)
+pub left-suc : (i : ℕ) → i < 16 → 16 - i ≡ suc (16 - (i + 1))
+left-suc i h = left-of 16 i h
 
-pub open-start : (t : ℕ → Bool) → Open t 0
-unfolding firstPlace Open
-open-start t = (omega arith, refl)
+-- a search of k places that has come to i without success has still the same answer
+unfoldable pub Open : (ℕ → Bool) → ℕ → ℕ → Type 0
+Open t k i = (i ≤ k) × (firstFrom t (k - i) i ≡ firstFrom t k 0)
 
-module _ (t : ℕ → Bool) (i : ℕ) where
-  pub open-end : Open t i → 16 ≤ i → 16 ≡ firstPlace t
+pub open-start : (t : ℕ → Bool) (k : ℕ) → Open t k 0
+unfolding Open
+open-start t k = let e : k - 0 ≡ k = omega arith in (omega arith, ap (λ (m : ℕ). firstFrom t m 0) e)
+
+module _ (t : ℕ → Bool) (k i : ℕ) where
+  pub open-end : Open t k i → k ≤ i → k ≡ firstFrom t k 0
   unfolding firstFrom Open
-  open-end o h = let e : i ≡ 16 = omega arith in (rw e at (o .1))
+  open-end o h =
+      let e : i ≡ k = omega arith in
+      let z : k - i ≡ 0 = omega arith in
+      sym e ∙ (rw z at (o .1))
 
-  pub open-hit : Open t i → i < 16 → t i ≡ true → i ≡ firstPlace t
+  pub open-hit : Open t k i → i < k → t i ≡ true → i ≡ firstFrom t k 0
   unfolding firstFrom Open
-  open-hit o h e = (rw (left-suc i h, e) at (o .1))
+  open-hit o h e = (rw (left-of k i h, e) at (o .1))
 
-  pub open-miss : Open t i → i < 16 → t i ≡ false → Open t (i + 1)
+  pub open-miss : Open t k i → i < k → t i ≡ false → Open t k (i + 1)
   unfolding firstFrom Open
-  open-miss o h e = (omega arith, rw (add-one i) (rw (left-suc i h, e, add-one i) at (o .1)))
+  open-miss o h e = (omega arith, rw (add-one i) (rw (left-of k i h, e, add-one i) at (o .1)))
 
 -- a test doesn't both hold and fail
 pub never : {b : Bool} → b ≡ true → b ≡ false → ⊥
@@ -52,17 +57,17 @@ most-at i k m true h = omega arith
 most-at i k m false h = omega arith
 
 module _ (t : ℕ → Bool) where
-  found-from : (k i : ℕ) → firstFrom t k i < i + k → t (firstFrom t k i) ≡ true
+  pub found-from : (k i : ℕ) → firstFrom t k i < i + k → t (firstFrom t k i) ≡ true
   unfolding firstFrom
   found-from zero i h = absurd (omega arith)
   found-from (suc k) i h = found-at t i k (firstFrom t k (suc i)) (t i) refl (found-from k (suc i)) h
 
-  before-from : (k i j : ℕ) → i ≤ j → j < firstFrom t k i → t j ≡ false
+  pub before-from : (k i j : ℕ) → i ≤ j → j < firstFrom t k i → t j ≡ false
   unfolding firstFrom
   before-from zero i j h l = absurd (omega arith)
   before-from (suc k) i j h l = before-at t i (firstFrom t k (suc i)) j (t i) refl (before-from k (suc i) j) h l
 
-  most-from : (k i : ℕ) → firstFrom t k i ≤ i + k
+  pub most-from : (k i : ℕ) → firstFrom t k i ≤ i + k
   unfolding firstFrom
   most-from zero i = omega arith
   most-from (suc k) i = most-at i k (firstFrom t k (suc i)) (t i) (most-from k (suc i))
@@ -87,7 +92,7 @@ module _ (t : ℕ → Bool) where
       omega (arith, low, high)
 
 -- two tests that agree at each place have one answer
-agree-from : (t u : ℕ → Bool) (k i : ℕ) → ((j : ℕ) → i ≤ j → j < i + k → t j ≡ u j) → firstFrom t k i ≡ firstFrom u k i
+pub agree-from : (t u : ℕ → Bool) (k i : ℕ) → ((j : ℕ) → i ≤ j → j < i + k → t j ≡ u j) → firstFrom t k i ≡ firstFrom u k i
 unfolding firstFrom
 agree-from t u zero i f = refl
 agree-from t u (suc k) i f =

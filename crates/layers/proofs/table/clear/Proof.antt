@@ -1,28 +1,25 @@
--- `layers::table::clear` is safe and ends. The measure is `length sessions₀ - i`; the invariant keeps the lengths and places that the turns rely on.
+-- `layers::table::clear` is safe and ends. The measure is the number of ids that are left; the calls keep the length of the table.
 use borrow.Author.Needs.{needs}
-use Prim.Native.Nat.{_-_}
+use Prim.Native.Nat.{_≤_, _-_}
 use lib.ListN.{length}
 use mathlib.Core.Path.{_≡_}
 use Rattle.layers.proofs.table.clear.Statement.{statement}
 use Rattle.layers.proofs.table.clear.Tie as tie
 
 abbrev Inv-loop : tie.InvT-loop
-Inv-loop sessions₀ i₀ sessions i = length sessions ≡ length sessions₀
+Inv-loop sessions₀ id₀ sessions id = (id ≤ 255) × (length sessions ≡ length sessions₀)
 
 abbrev μ-loop : tie.MeasureT-loop
-μ-loop sessions₀ i₀ sessions i = length sessions₀ - i
+μ-loop sessions₀ id₀ sessions id = 255 - id
 
 loop-holds : tie.Need-loop-holds Inv-loop μ-loop
 loop-holds c = search needs
 
-mul-t3 : tie.Need-mul-t3 Inv-loop μ-loop
-mul-t3 c = search needs
+add-id : tie.Need-add-id Inv-loop μ-loop
+add-id c = search needs
 
-slice-set-from-sessions : tie.Need-slice-set-from-sessions Inv-loop μ-loop
-slice-set-from-sessions c = search needs
-
-add-i : tie.Need-add-i Inv-loop μ-loop
-add-i c = search needs
+remove-requires : tie.Need-remove-requires Inv-loop μ-loop
+remove-requires c κs = search needs
 
 loop-less : tie.Need-loop-less Inv-loop μ-loop
 loop-less c = search needs
@@ -43,9 +40,8 @@ clear-spec =
     Inv-loop
     μ-loop
     loop-holds
-    mul-t3
-    slice-set-from-sessions
-    add-i
+    add-id
+    remove-requires
     loop-less
     loop-again
     same-length

@@ -1,16 +1,14 @@
--- `layers::table::dump` is safe and ends. The measure is `255 - id`; the invariant keeps the lengths and places that the turns rely on.
+-- `layers::table::dump` is safe and ends. The measure is the number of ids that are left.
 use borrow.Author.Needs.{needs}
-use Prim.Native.Nat.{_-_}
-use lib.ListN.{length}
-use mathlib.Core.Path.{_≡_}
+use Prim.Native.Nat.{_≤_, _-_}
 use Rattle.layers.proofs.table.dump.Statement.{statement}
 use Rattle.layers.proofs.table.dump.Tie as tie
 
 abbrev Inv-loop : tie.InvT-loop
-Inv-loop sessions streams out₀ at next₀ id₀ t7 out next id = length out ≡ length out₀
+Inv-loop sessions streams id₀ id = id ≤ 255
 
 abbrev μ-loop : tie.MeasureT-loop
-μ-loop sessions streams out₀ at next₀ id₀ t7 out next id = 255 - id
+μ-loop sessions streams id₀ id = 255 - id
 
 loop-holds : tie.Need-loop-holds Inv-loop μ-loop
 loop-holds c = search needs
@@ -27,14 +25,8 @@ loop-less c = search needs
 loop-again : tie.Need-loop-again Inv-loop μ-loop
 loop-again c = search needs
 
-slice-aggregate-line : tie.Need-slice-aggregate-line Inv-loop μ-loop
-slice-aggregate-line c = search needs
-
 line-requires : tie.Need-line-requires Inv-loop μ-loop
 line-requires c κs = search needs
-
-same-length : tie.Need-same-length Inv-loop μ-loop
-same-length c = search needs
 
 returns : tie.Need-returns Inv-loop μ-loop
 returns c = search needs
@@ -50,7 +42,5 @@ dump-spec =
     session-lines-requires
     loop-less
     loop-again
-    slice-aggregate-line
     line-requires
-    same-length
     returns)

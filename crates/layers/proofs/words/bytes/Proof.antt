@@ -1,67 +1,71 @@
--- `layers::words::bytes` is safe and ends. The measure is `count - i`; the invariant keeps the lengths and places that the turns rely on.
-use mathlib.Core.Path.{_≡_}
+-- `layers::words::bytes` is safe and ends. The measure is what is left of the line; a byte is written no further on than its digits are read.
 use borrow.Author.Needs.{needs}
-use Prim.Native.Nat.{_≤_, _*_, _-_}
+use Prim.Native.Nat.{_≤_, _-_}
 use lib.ListN.{length}
+use mathlib.Core.Path.{_≡_}
 use Rattle.layers.proofs.words.bytes.Statement.{statement}
 use Rattle.layers.proofs.words.bytes.Tie as tie
 
 abbrev Inv-loop : tie.InvT-loop
-Inv-loop word out₀ count i₀ out i = (i ≤ count) × ((count * 2 ≤ length word) × ((count ≤ length out) × (length out ≡ length out₀)))
+Inv-loop line₀ index from end i₀ at₀ line i at =
+    (i ≤ at) × ((at ≤ length line₀) × (length line ≡ length line₀))
 
 abbrev μ-loop : tie.MeasureT-loop
-μ-loop word out₀ count i₀ out i = count - i
+μ-loop line₀ index from end i₀ at₀ line i at = length line₀ - at
 
-returns : tie.Need-returns Inv-loop μ-loop
-returns c = search needs
+word-start-requires : tie.Need-word-start-requires Inv-loop μ-loop
+word-start-requires c κs = search needs
+
+word-end-requires : tie.Need-word-end-requires Inv-loop μ-loop
+word-end-requires c κs = search needs
 
 loop-holds : tie.Need-loop-holds Inv-loop μ-loop
 loop-holds c = search needs
 
-mul-digit : tie.Need-mul-digit Inv-loop μ-loop
-mul-digit c = search needs
+add-loop : tie.Need-add-loop Inv-loop μ-loop
+add-loop c = search needs
 
-shared-slice-read-digit : tie.Need-shared-slice-read-digit Inv-loop μ-loop
-shared-slice-read-digit c = search needs
+slice-read-digit : tie.Need-slice-read-digit Inv-loop μ-loop
+slice-read-digit c = search needs
 
 digit-requires : tie.Need-digit-requires Inv-loop μ-loop
 digit-requires c κs = search needs
 
-mul-out : tie.Need-mul-out Inv-loop μ-loop
-mul-out c = search needs
-
-mul-digit-2 : tie.Need-mul-digit-2 Inv-loop μ-loop
-mul-digit-2 c = search needs
+mul-line : tie.Need-mul-line Inv-loop μ-loop
+mul-line c = search needs
 
 add-digit : tie.Need-add-digit Inv-loop μ-loop
 add-digit c = search needs
 
-shared-slice-read-digit-2 : tie.Need-shared-slice-read-digit-2 Inv-loop μ-loop
-shared-slice-read-digit-2 c = search needs
+slice-read-digit-2 : tie.Need-slice-read-digit-2 Inv-loop μ-loop
+slice-read-digit-2 c = search needs
 
 digit-requires-2 : tie.Need-digit-requires-2 Inv-loop μ-loop
 digit-requires-2 c κs = search needs
 
-add-out : tie.Need-add-out Inv-loop μ-loop
-add-out c = search needs
+add-line : tie.Need-add-line Inv-loop μ-loop
+add-line c = search needs
 
-slice-write-out : tie.Need-slice-write-out Inv-loop μ-loop
-slice-write-out c = search needs
+slice-write-line : tie.Need-slice-write-line Inv-loop μ-loop
+slice-write-line c = search needs
 
 add-i : tie.Need-add-i Inv-loop μ-loop
 add-i c = search needs
+
+add-at : tie.Need-add-at Inv-loop μ-loop
+add-at c = search needs
 
 loop-less : tie.Need-loop-less Inv-loop μ-loop
 loop-less c = search needs
 
 loop-again : tie.Need-loop-again Inv-loop μ-loop
-loop-again c = search needs
+loop-again c = (search needs, (search needs, search needs))
 
 same-length : tie.Need-same-length Inv-loop μ-loop
 same-length c = search needs
 
-returns-2 : tie.Need-returns-2 Inv-loop μ-loop
-returns-2 c = search needs
+returns : tie.Need-returns Inv-loop μ-loop
+returns c = search needs
 
 pub bytes-spec : {M : Type 1} → statement M
 bytes-spec =
@@ -69,20 +73,21 @@ bytes-spec =
     (tie.spec
     Inv-loop
     μ-loop
-    returns
+    word-start-requires
+    word-end-requires
     loop-holds
-    mul-digit
-    shared-slice-read-digit
+    add-loop
+    slice-read-digit
     digit-requires
-    mul-out
-    mul-digit-2
+    mul-line
     add-digit
-    shared-slice-read-digit-2
+    slice-read-digit-2
     digit-requires-2
-    add-out
-    slice-write-out
+    add-line
+    slice-write-line
     add-i
+    add-at
     loop-less
     loop-again
     same-length
-    returns-2)
+    returns)

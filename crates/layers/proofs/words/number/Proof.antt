@@ -1,24 +1,24 @@
--- `layers::words::number` is safe and ends. The measure is `length word - i`; the invariant keeps the lengths and places that the turns rely on.
+-- `layers::words::number` is safe and ends. The measure is what is left of the word; nothing has to hold from turn to turn.
 use borrow.Author.Needs.{needs}
-use Prim.Native.Nat.{_≤_, _-_}
+use Prim.Native.Nat.{_-_}
 use lib.ListN.{length}
 use Rattle.layers.proofs.words.number.Statement.{statement}
 use Rattle.layers.proofs.words.number.Tie as tie
 
 abbrev Inv-loop : tie.InvT-loop
-Inv-loop word n₀ i₀ n i = i ≤ length word
+Inv-loop line index digits n₀ i₀ n i = Unit {0}
 
 abbrev μ-loop : tie.MeasureT-loop
-μ-loop word n₀ i₀ n i = length word - i
+μ-loop line index digits n₀ i₀ n i = length digits - i
+
+word-requires : tie.Need-word-requires Inv-loop μ-loop
+word-requires c κs = search needs
 
 loop-holds : tie.Need-loop-holds Inv-loop μ-loop
 loop-holds c = search needs
 
-shared-slice-read-digit : tie.Need-shared-slice-read-digit Inv-loop μ-loop
-shared-slice-read-digit c = search needs
-
-digit-requires : tie.Need-digit-requires Inv-loop μ-loop
-digit-requires c κs = search needs
+shared-slice-read-with-digit : tie.Need-shared-slice-read-with-digit Inv-loop μ-loop
+shared-slice-read-with-digit c = search needs
 
 with-digit-requires : tie.Need-with-digit-requires Inv-loop μ-loop
 with-digit-requires c κs = search needs
@@ -41,9 +41,9 @@ number-spec =
     (tie.spec
     Inv-loop
     μ-loop
+    word-requires
     loop-holds
-    shared-slice-read-digit
-    digit-requires
+    shared-slice-read-with-digit
     with-digit-requires
     add-i
     loop-less

@@ -1,13 +1,13 @@
--- `layers::words::same` is safe and ends. The measure is `length a - i`; the invariant keeps the lengths and places that the turns rely on.
+-- `layers::words::same` is safe and ends. The measure is what is left; the lengths are the same.
 use borrow.Author.Needs.{needs}
-use Prim.Native.Nat.{_≤_, _-_}
+use Prim.Native.Nat.{_-_}
 use lib.ListN.{length}
 use mathlib.Core.Path.{_≡_}
 use Rattle.layers.proofs.words.same.Statement.{statement}
 use Rattle.layers.proofs.words.same.Tie as tie
 
 abbrev Inv-loop : tie.InvT-loop
-Inv-loop a b i₀ i = (i ≤ length a) × (length a ≡ length b)
+Inv-loop a b i₀ i = length a ≡ length b
 
 abbrev μ-loop : tie.MeasureT-loop
 μ-loop a b i₀ i = length a - i

@@ -1,4 +1,4 @@
--- `layers::words::word_end` is safe and ends. The measure is `length line - i`; nothing has to hold from turn to turn.
+-- `layers::words::word_end` is safe and ends. The measure is what is left of the line; nothing has to hold from turn to turn.
 use borrow.Author.Needs.{needs}
 use Prim.Native.Nat.{_-_}
 use lib.ListN.{length}

@@ -52,8 +52,8 @@ use Rattle.walk.proofs.Steps.{past, one, yes-of, no-of, in-block, arm-of, holds
 use borrow.Rule.Slice.PartMut.{midOf, putMid}
 use Rattle.walk.proofs.Parts.{part-len, lends-part, backs-part, parts-shr}
 use Rattle.walk.proofs.Arrays.{rep-is, lends-array, backs-array}
-use Rattle.sessions.specs.Objects.{placeOf, foundOf, greatestOf, storedOf, storedRow, removedRow}
-use Rattle.sessions.specs.Objects.{bridgedOf, implicitOf, handleOf, isNumbered, greaterOf, betterOf, slotOf, countOf}
+use Rattle.sessions.specs.Objects.{objectPlace, foundOf, greatestOf, storedOf, storedRow, removedRow}
+use Rattle.sessions.specs.Objects.{bridgedOf, implicitOf, handleOf, isNumbered, greaterOf, betterOf, slotOf, usedAfter}
 use Rattle.sessions.specs.Objects.{blank}
 use Rattle.sessions.specs.declared.objects.Object.{Object}
 use Rattle.sessions.proofs.objects.Object as Object-t
@@ -61,9 +61,6 @@ use Rattle.sessions.proofs.objects.Object.Laws as Object-l
 use Rattle.codec.specs.declared.submessages.ObjectNumber.{ObjectNumber}
 use Rattle.codec.proofs.submessages.ObjectNumber as ObjectNumber-t
 use Rattle.codec.proofs.submessages.ObjectNumber.Laws as ObjectNumber-l
-use Rattle.sessions.specs.declared.objects.Handle.{Handle}
-use Rattle.sessions.proofs.objects.Handle as Handle-t
-use Rattle.sessions.proofs.objects.Handle.Laws as Handle-l
 use Rattle.sessions.specs.declared.objects.Found.{Found}
 use Rattle.sessions.proofs.objects.Found as Found-t
 use Rattle.sessions.proofs.objects.Found.Laws as Found-l
@@ -82,7 +79,7 @@ use Rattle.sessions.proofs.object_rows.greatest.Statement as stated
 use Rattle.sessions.proofs.object_rows.greatest.Code as code
 use Rattle.sessions.proofs.object_rows.greatest.Code.Mir as mir
 
-abbrev Object-of : ObjectNumber → ℕ → ℕ → Handle → Object
+abbrev Object-of : ObjectNumber → ℕ → ℕ → ℕ → Object
 Object-of x0 x1 x2 x3 = record { number = x0; kind = x1; bridged = x2; handle = x3 }
 
 abbrev Object-p : Plain
@@ -93,12 +90,6 @@ ObjectNumber-of x0 = record { 0 = x0 }
 
 abbrev ObjectNumber-p : Plain
 ObjectNumber-p = record { row = ObjectNumber-t.the-row; val = LL.val ObjectNumber-t.the-type ObjectNumber-l.the-laws; tells = LL.tells ObjectNumber-t.the-type ObjectNumber-l.the-laws; makes = λ 𝓤 H A W. LL.makes ObjectNumber-t.the-type ObjectNumber-l.the-plain 𝓤 H A; ty = ObjectNumber-l.mir; typed = λ 𝓤 H A W x is. LL.lawful ObjectNumber-t.the-type ObjectNumber-l.the-laws 𝓤 H A W .typed x _ is .0; copies = λ 𝓤 H A W. LL.copy ObjectNumber-t.the-type ObjectNumber-l.the-copy 𝓤 H A W }
-
-abbrev Handle-of : ℕ → Handle
-Handle-of x0 = record { 0 = x0 }
-
-abbrev Handle-p : Plain
-Handle-p = record { row = Handle-t.the-row; val = LL.val Handle-t.the-type Handle-l.the-laws; tells = LL.tells Handle-t.the-type Handle-l.the-laws; makes = λ 𝓤 H A W. LL.makes Handle-t.the-type Handle-l.the-plain 𝓤 H A; ty = Handle-l.mir; typed = λ 𝓤 H A W x is. LL.lawful Handle-t.the-type Handle-l.the-laws 𝓤 H A W .typed x _ is .0; copies = λ 𝓤 H A W. LL.copy Handle-t.the-type Handle-l.the-copy 𝓤 H A W }
 
 abbrev Found-p : Plain
 Found-p = record { row = Found-t.the-row; val = EL.val Found-t.the-type Found-l.the-laws; tells = EL.tells Found-t.the-type Found-l.the-laws; makes = λ 𝓤 H A W. EL.makes Found-t.the-type Found-l.the-plain 𝓤 H A; ty = Found-l.mir; typed = λ 𝓤 H A W x is. EL.lawful Found-t.the-type Found-l.the-laws 𝓤 H A W tt .typed x _ is .0; copies = λ 𝓤 H A W. EL.copy Found-t.the-type Found-l.the-copy 𝓤 H A W }
@@ -188,22 +179,22 @@ module _ {M : Type 1} (𝓤 : URA M) (H : Heap 𝓤) (A : Atoms 𝓤) (W : Given
           assigns ! (bin ! (load ! (from ! (fld ! refl (stop !))) (look-in ! 20 (sub ! 0 refl (whole !)))) (load ! (from ! (stop !)) (look ! 6 refl)) tt) (from ! (stop !)) (init ! 4 refl (tt, tt)) $
           rewrite ! 4 (λ (p : ℕ). ‵ (fat fullShare tyPtr l₉ 0 (vptr b₁ p))) (sym (place-is 8 o₁ i)) refl $
           knows ! (i < length row) (omega (arith, ltb-true, ltb-false, leb-true, leb-false, eqb-true, eqb-false)) (λ index-3·5.
-          views-elem ! tt Object-p b₁ o₁ row n₁ (refl) i ((Object-of (ObjectNumber-of 0) 0 0 (Handle-of 0))) index-3·5 (λ s-3·5 is-3·5.
-          assigns ! (of-opd ! (load ! (from ! (hop ! (look ! 8 refl) (stop !))) (look-raw ! 0 refl))) (from ! (stop !)) (init ! 6 refl (Object-p .typed 𝓤 H A W (getD row i ((Object-of (ObjectNumber-of 0) 0 0 (Handle-of 0)))) is-3·5)) $
-          unviews-elem ! tt Object-p b₁ o₁ row n₁ (refl) room₁ i ((Object-of (ObjectNumber-of 0) 0 0 (Handle-of 0))) index-3·5 s-3·5 $
-          assigns ! (of-opd ! (load ! (from ! (stop !)) (look ! 2 refl))) (from ! (stop !)) (init ! 10 refl (Object-p .typed 𝓤 H A W (getD row i ((Object-of (ObjectNumber-of 0) 0 0 (Handle-of 0)))) is-3·5)) $
+          views-elem ! tt Object-p b₁ o₁ row n₁ (refl) i ((Object-of (ObjectNumber-of 0) 0 0 0)) index-3·5 (λ s-3·5 is-3·5.
+          assigns ! (of-opd ! (load ! (from ! (hop ! (look ! 8 refl) (stop !))) (look-raw ! 0 refl))) (from ! (stop !)) (init ! 6 refl (Object-p .typed 𝓤 H A W (getD row i ((Object-of (ObjectNumber-of 0) 0 0 0))) is-3·5)) $
+          unviews-elem ! tt Object-p b₁ o₁ row n₁ (refl) room₁ i ((Object-of (ObjectNumber-of 0) 0 0 0)) index-3·5 s-3·5 $
+          assigns ! (of-opd ! (load ! (from ! (stop !)) (look ! 2 refl))) (from ! (stop !)) (init ! 10 refl (Object-p .typed 𝓤 H A W (getD row i ((Object-of (ObjectNumber-of 0) 0 0 0))) is-3·5)) $
           -- 3.7: sessions::objects::better
           nothing ! $
           use1 W (raw (toks 𝓤 A 0 (tt) (tt))) (id⊢ 𝓤 _) $ nothing ! $
           owned ! (u8-p .row) (Is (u8-p .row)) (u8-p .makes 𝓤 H A W) kind (u8-p .val kind ∷ []) kind-is $ fjoin ! $
-          owned ! (Object-p .row) (Is (Object-p .row)) (Object-p .makes 𝓤 H A W) (getD row i ((Object-of (ObjectNumber-of 0) 0 0 (Handle-of 0)))) (Object-p .val (getD row i ((Object-of (ObjectNumber-of 0) 0 0 (Handle-of 0)))) ∷ []) is-3·5 $ fjoin ! $
+          owned ! (Object-p .row) (Is (Object-p .row)) (Object-p .makes 𝓤 H A W) (getD row i ((Object-of (ObjectNumber-of 0) 0 0 0))) (Object-p .val (getD row i ((Object-of (ObjectNumber-of 0) 0 0 0))) ∷ []) is-3·5 $ fjoin ! $
           owned ! (Found-p .row) (Is (Found-p .row)) (Found-p .makes 𝓤 H A W) best (Found-p .val best ∷ []) best-is $ fjoin ! $ move ! (1 ∷ 0 ∷ []) $
-          calls-any ! fm 0 [] (objects-better.signature .params) (objects-better.ended .kept) Found-p (objects-better.clauses 𝓤 H A mem run) known-objects-better tt tt tt (best, (getD row i ((Object-of (ObjectNumber-of 0) 0 0 (Handle-of 0))), (kind, tt))) (Found-p .val best ∷ [], (Object-p .val (getD row i ((Object-of (ObjectNumber-of 0) 0 0 (Handle-of 0)))) ∷ [], (u8-p .val kind ∷ [], tt))) tt (betterOf best (getD row i ((Object-of (ObjectNumber-of 0) 0 0 (Handle-of 0)))) kind) (λ ws-3·7. Unit {0}) (id⊢ 𝓤 _) (λ r ws-3·7. fact-mono 𝓤 (r ≡ betterOf best (getD row i ((Object-of (ObjectNumber-of 0) 0 0 (Handle-of 0)))) kind) ((r ≡ (betterOf best (getD row i ((Object-of (ObjectNumber-of 0) 0 0 (Handle-of 0)))) kind)) × (Unit {0})) (λ e. (e, tt))) (λ _. (and-then ! (load ! (from ! (stop !)) (look ! 13 refl)) (and-then ! (load ! (from ! (stop !)) (look ! 11 refl)) (and-then ! (load ! (from ! (stop !)) (look ! 17 refl)) (no-more !))))) (λ ws-3·7 said-3·7 is-3·7.
+          calls-any ! fm 0 [] (objects-better.signature .params) (objects-better.ended .kept) Found-p (objects-better.clauses 𝓤 H A mem run) known-objects-better tt tt tt (best, (getD row i ((Object-of (ObjectNumber-of 0) 0 0 0)), (kind, tt))) (Found-p .val best ∷ [], (Object-p .val (getD row i ((Object-of (ObjectNumber-of 0) 0 0 0))) ∷ [], (u8-p .val kind ∷ [], tt))) tt (betterOf best (getD row i ((Object-of (ObjectNumber-of 0) 0 0 0))) kind) (λ ws-3·7. Unit {0}) (id⊢ 𝓤 _) (λ r ws-3·7. fact-mono 𝓤 (r ≡ betterOf best (getD row i ((Object-of (ObjectNumber-of 0) 0 0 0))) kind) ((r ≡ (betterOf best (getD row i ((Object-of (ObjectNumber-of 0) 0 0 0))) kind)) × (Unit {0})) (λ e. (e, tt))) (λ _. (and-then ! (load ! (from ! (stop !)) (look ! 13 refl)) (and-then ! (load ! (from ! (stop !)) (look ! 11 refl)) (and-then ! (load ! (from ! (stop !)) (look ! 17 refl)) (no-more !))))) (λ ws-3·7 said-3·7 is-3·7.
           drop ! $ drop ! $
-          land ! (from ! (stop !)) (store ! 12 refl (Found-p .typed 𝓤 H A W (betterOf best (getD row i ((Object-of (ObjectNumber-of 0) 0 0 (Handle-of 0)))) kind) is-3·7)) $
+          land ! (from ! (stop !)) (store ! 12 refl (Found-p .typed 𝓤 H A W (betterOf best (getD row i ((Object-of (ObjectNumber-of 0) 0 0 0))) kind) is-3·7)) $
           knows ! (i + 1 < 2 ^ 64) (omega (arith, ltb-true, ltb-false, leb-true, leb-false, eqb-true, eqb-false)) (λ fits-3·8.
           assigns-last ! (bin ! (load ! (from ! (stop !)) (look ! 14 refl)) (lit ! tt) (record { fits = fits-3·8 })) (from ! (stop !)) (store ! 14 refl (u64-p .typed 𝓤 H A W (i + 1) ((refl, fits-3·8)))) $ forget ! 2 refl $ forget ! 4 refl $ forget ! 6 refl $ forget ! 8 refl $ forget ! 10 refl $
-          by ! (again-3 t-3 (i + 1) (betterOf best (getD row i ((Object-of (ObjectNumber-of 0) 0 0 (Handle-of 0)))) kind) ((refl, fits-3·8)) is-3·7 (((omega (arith, ltb-true, ltb-false, leb-true, leb-false, eqb-true, eqb-false)), ap (λ (b : Found). betterOf b (getD row i blank) kind) (inv-3 .1) ∙ along (λ (m : ℕ). greatestOf row m kind) (suc i) (i + 1) (omega (arith, ltb-true, ltb-false, leb-true, leb-false, eqb-true, eqb-false)))) (omega (arith, ltb-true, ltb-false, leb-true, leb-false, eqb-true, eqb-false))))))))))
+          by ! (again-3 t-3 (i + 1) (betterOf best (getD row i ((Object-of (ObjectNumber-of 0) 0 0 0))) kind) ((refl, fits-3·8)) is-3·7 (((omega (arith, ltb-true, ltb-false, leb-true, leb-false, eqb-true, eqb-false)), ap (λ (b : Found). betterOf b (getD row i blank) kind) (inv-3 .1) ∙ along (λ (m : ℕ). greatestOf row m kind) (suc i) (i + 1) (omega (arith, ltb-true, ltb-false, leb-true, leb-false, eqb-true, eqb-false)))) (omega (arith, ltb-true, ltb-false, leb-true, leb-false, eqb-true, eqb-false))))))))))
           (λ h-3·2.
           knows ! (ltb i used ≡ false) (fails (ltb i used) (T-not (ltb i used) h-3·2)) (λ c-3·2.
           jumps ! $

@@ -52,20 +52,16 @@ use Rattle.walk.proofs.Steps.{past, one, yes-of, no-of, in-block, arm-of, holds
 use borrow.Rule.Slice.PartMut.{midOf, putMid}
 use Rattle.walk.proofs.Parts.{part-len, lends-part, backs-part, parts-shr}
 use Rattle.walk.proofs.Arrays.{rep-is, lends-array, backs-array}
-use Rattle.sessions.specs.Objects.{placeOf, foundOf, greatestOf, storedOf, storedRow, removedRow}
-use Rattle.sessions.specs.Objects.{bridgedOf, implicitOf, handleOf, isNumbered, greaterOf, betterOf, slotOf, countOf}
-use Rattle.sessions.specs.Search.{firstFrom}
-use Rattle.sessions.specs.Objects.{blank}
-use Rattle.sessions.proofs.Search.{at-hit, past-miss, at-end, at-start}
+use Rattle.sessions.specs.Objects.{objectPlace, foundOf, greatestOf, storedOf, storedRow, removedRow}
+use Rattle.sessions.specs.Objects.{bridgedOf, implicitOf, handleOf, isNumbered, greaterOf, betterOf, slotOf, usedAfter}
+use Rattle.sessions.specs.Objects.{objectFrom}
+use Rattle.sessions.proofs.ObjectSearch.{at-hit, past-miss, at-end, at-start}
 use Rattle.sessions.specs.declared.objects.Object.{Object}
 use Rattle.sessions.proofs.objects.Object as Object-t
 use Rattle.sessions.proofs.objects.Object.Laws as Object-l
 use Rattle.codec.specs.declared.submessages.ObjectNumber.{ObjectNumber}
 use Rattle.codec.proofs.submessages.ObjectNumber as ObjectNumber-t
 use Rattle.codec.proofs.submessages.ObjectNumber.Laws as ObjectNumber-l
-use Rattle.sessions.specs.declared.objects.Handle.{Handle}
-use Rattle.sessions.proofs.objects.Handle as Handle-t
-use Rattle.sessions.proofs.objects.Handle.Laws as Handle-l
 use Rattle.sessions.specs.declared.objects.Place.{Place}
 use Rattle.sessions.proofs.objects.Place as Place-t
 use Rattle.sessions.proofs.objects.Place.Laws as Place-l
@@ -80,7 +76,7 @@ use Rattle.sessions.proofs.object_rows.place.Statement as stated
 use Rattle.sessions.proofs.object_rows.place.Code as code
 use Rattle.sessions.proofs.object_rows.place.Code.Mir as mir
 
-abbrev Object-of : ObjectNumber → ℕ → ℕ → Handle → Object
+abbrev Object-of : ObjectNumber → ℕ → ℕ → ℕ → Object
 Object-of x0 x1 x2 x3 = record { number = x0; kind = x1; bridged = x2; handle = x3 }
 
 abbrev Object-p : Plain
@@ -91,12 +87,6 @@ ObjectNumber-of x0 = record { 0 = x0 }
 
 abbrev ObjectNumber-p : Plain
 ObjectNumber-p = record { row = ObjectNumber-t.the-row; val = LL.val ObjectNumber-t.the-type ObjectNumber-l.the-laws; tells = LL.tells ObjectNumber-t.the-type ObjectNumber-l.the-laws; makes = λ 𝓤 H A W. LL.makes ObjectNumber-t.the-type ObjectNumber-l.the-plain 𝓤 H A; ty = ObjectNumber-l.mir; typed = λ 𝓤 H A W x is. LL.lawful ObjectNumber-t.the-type ObjectNumber-l.the-laws 𝓤 H A W .typed x _ is .0; copies = λ 𝓤 H A W. LL.copy ObjectNumber-t.the-type ObjectNumber-l.the-copy 𝓤 H A W }
-
-abbrev Handle-of : ℕ → Handle
-Handle-of x0 = record { 0 = x0 }
-
-abbrev Handle-p : Plain
-Handle-p = record { row = Handle-t.the-row; val = LL.val Handle-t.the-type Handle-l.the-laws; tells = LL.tells Handle-t.the-type Handle-l.the-laws; makes = λ 𝓤 H A W. LL.makes Handle-t.the-type Handle-l.the-plain 𝓤 H A; ty = Handle-l.mir; typed = λ 𝓤 H A W x is. LL.lawful Handle-t.the-type Handle-l.the-laws 𝓤 H A W .typed x _ is .0; copies = λ 𝓤 H A W. LL.copy Handle-t.the-type Handle-l.the-copy 𝓤 H A W }
 
 abbrev Place-p : Plain
 Place-p = record { row = Place-t.the-row; val = EL.val Place-t.the-type Place-l.the-laws; tells = EL.tells Place-t.the-type Place-l.the-laws; makes = λ 𝓤 H A W. EL.makes Place-t.the-type Place-l.the-plain 𝓤 H A; ty = Place-l.mir; typed = λ 𝓤 H A W x is. EL.lawful Place-t.the-type Place-l.the-laws 𝓤 H A W tt .typed x _ is .0; copies = λ 𝓤 H A W. EL.copy Place-t.the-type Place-l.the-copy 𝓤 H A W }
@@ -122,10 +112,7 @@ module _ {M : Type 1} (𝓤 : URA M) (H : Heap 𝓤) (A : Atoms 𝓤) (W : Given
   abbrev Post : Val → SProp 𝓤
   Post = walkOf 𝓤 H A f.ended stayed (f.clauses 𝓤 H A mem run) .post (((κ₁, tt), (q₁, tt), tt, x, at), tt)
 
-  abbrev hit : ℕ → Bool
-  hit i = isNumbered (getD row i blank) number
-
-  exits : (r : Place) → (r ≡ placeOf (row) used number) → Is (Place-p .row) r (Place-p .val r ∷ []) → ent 𝓤 (⋆ 𝓤 H A (‵ (ShrSlice (named 0) κ₁ Object-t.the-row .own (at-list b₁ o₁ γ₁ row) (sliceVal (b₁, o₁) n₁ ∷ [])) ∷ ‵ (flft κ₁ q₁) ∷ [])) (Post (Place-p .val r))
+  exits : (r : Place) → (r ≡ objectPlace (row) used number) → Is (Place-p .row) r (Place-p .val r ∷ []) → ent 𝓤 (⋆ 𝓤 H A (‵ (ShrSlice (named 0) κ₁ Object-t.the-row .own (at-list b₁ o₁ γ₁ row) (sliceVal (b₁, o₁) n₁ ∷ [])) ∷ ‵ (flft κ₁ q₁) ∷ [])) (Post (Place-p .val r))
   exits r said r-is =
       qed W (‵ (ShrSlice (named 0) κ₁ Object-t.the-row .own (at-list b₁ o₁ γ₁ row) (sliceVal (b₁, o₁) n₁ ∷ [])) ∷ ‵ (flft κ₁ q₁) ∷ []) ∵
       suffices ! _ (ends-at 𝓤 H A f.ended stayed (f.clauses 𝓤 H A mem run) W (((κ₁, tt), (q₁, tt), tt, x, at), tt) (Place-p .val r) r (tt, (tt, (tt, tt))) (tt, (tt, (tt, tt)))) $ says ! said $ nothing ! $ move ! (2 ∷ 0 ∷ []) $ join ! $
@@ -153,7 +140,7 @@ module _ {M : Type 1} (𝓤 : URA M) (H : Heap 𝓤) (A : Atoms 𝓤) (W : Given
       At-2 i = ‵ (ShrSlice (named 0) κ₁ Object-t.the-row .own (at-list b₁ o₁ γ₁ row) (sliceVal (b₁, o₁) n₁ ∷ [])) ∷ ‵ (flft κ₁ q₁) ∷ free 𝓤 Object-l.mir l₁₀ (free 𝓤 tyPtr l₉ (free 𝓤 (tyInt w64) l₈ (free 𝓤 tyBool l₇ (free 𝓤 tyBool l₆ (free 𝓤 Object-l.mir l₅ (full 𝓤 (tyInt w64) l₄ (u64-p .val i) (full 𝓤 ObjectNumber-l.mir l₃ (ObjectNumber-p .val number) (full 𝓤 (tyInt w64) l₂ (u64-p .val used) (full 𝓤 (sliceTy (tyRef (named 0) imm (pointee (Object-t.the-row .written)))) l₁ (sliceVal (b₁, o₁) n₁) (free 𝓤 Place-l.mir l₀ ([])))))))))))
 
       abbrev Facts-2 : ℕ → (i : ℕ) → Type 0
-      Facts-2 t i = (t ≡ used - i) × (Is (u64-p .row) i (u64-p .val i ∷ [])) × ((i ≤ used) × (firstFrom hit i (used - i) ≡ placeOf row used number))
+      Facts-2 t i = (t ≡ used - i) × (Is (u64-p .row) i (u64-p .val i ∷ [])) × ((i ≤ used) × (objectFrom row number i (used - i) ≡ objectPlace row used number))
 
       abbrev Inv-2 : ℕ → SProp 𝓤
       Inv-2 t = ex 𝓤 (λ (i : ℕ). guard 𝓤 (Facts-2 t i) (⋆ 𝓤 H A (At-2 i)))
@@ -167,10 +154,10 @@ module _ {M : Type 1} (𝓤 : URA M) (H : Heap 𝓤) (A : Atoms 𝓤) (W : Given
       inv-at-2 : (t : ℕ) → (i : ℕ) → Facts-2 t i → ent 𝓤 (⋆ 𝓤 H A (At-2 i)) (Inv-2 t)
       inv-at-2 t i fs = via 𝓤 (guard 𝓤 (Facts-2 t i) (⋆ 𝓤 H A (At-2 i))) (guardI 𝓤 (Facts-2 t i) (⋆ 𝓤 H A (At-2 i)) fs) (exI 𝓤 (λ (i : ℕ). guard 𝓤 (Facts-2 t i) (⋆ 𝓤 H A (At-2 i))) i)
 
-      again-2 : (t : ℕ) → (i : ℕ) → (i-is : Is (u64-p .row) i (u64-p .val i ∷ [])) → ((i ≤ used) × (firstFrom hit i (used - i) ≡ placeOf row used number)) → ((used - i) < t) → ent 𝓤 (⋆ 𝓤 H A (At-2 i)) (Below-2 t)
+      again-2 : (t : ℕ) → (i : ℕ) → (i-is : Is (u64-p .row) i (u64-p .val i ∷ [])) → ((i ≤ used) × (objectFrom row number i (used - i) ≡ objectPlace row used number)) → ((used - i) < t) → ent 𝓤 (⋆ 𝓤 H A (At-2 i)) (Below-2 t)
       again-2 t i i-is inv less = via 𝓤 (Inv-2 (used - i)) (inv-at-2 (used - i) i (refl, i-is, inv)) (via 𝓤 (guard 𝓤 ((used - i) < t) (Inv-2 (used - i))) (guardI 𝓤 ((used - i) < t) (Inv-2 (used - i)) less) (exI 𝓤 (λ (u : ℕ). guard 𝓤 (u < t) (Inv-2 u)) (used - i)))
 
-      turn-2 : (i : ℕ) → (t-2 : ℕ) → (i-is : Is (u64-p .row) i (u64-p .val i ∷ [])) → (t-is-2 : t-2 ≡ used - i) → (inv-2 : (i ≤ used) × (firstFrom hit i (used - i) ≡ placeOf row used number)) → ent 𝓤 (⋆ 𝓤 H A (At-2 i)) (Wp 𝓤 H C Λ En mir.turn-1 (afterTurn 𝓤 H (Below-2 t-2) Left-2))
+      turn-2 : (i : ℕ) → (t-2 : ℕ) → (i-is : Is (u64-p .row) i (u64-p .val i ∷ [])) → (t-is-2 : t-2 ≡ used - i) → (inv-2 : (i ≤ used) × (objectFrom row number i (used - i) ≡ objectPlace row used number)) → ent 𝓤 (⋆ 𝓤 H A (At-2 i)) (Wp 𝓤 H C Λ En mir.turn-1 (afterTurn 𝓤 H (Below-2 t-2) Left-2))
       unfolding afterTurn
       turn-2 i t-2 i-is t-is-2 inv-2 =
           qed W (At-2 i) ∵ exec ! C Λ En mir.turn-1 (anyQ (afterTurn 𝓤 H (Below-2 t-2) Left-2)) $
@@ -186,45 +173,45 @@ module _ {M : Type 1} (𝓤 : URA M) (H : Heap 𝓤) (A : Atoms 𝓤) (W : Given
           assigns ! (bin ! (load ! (from ! (fld ! refl (stop !))) (look-in ! 20 (sub ! 0 refl (whole !)))) (load ! (from ! (stop !)) (look ! 6 refl)) tt) (from ! (stop !)) (init ! 4 refl (tt, tt)) $
           rewrite ! 4 (λ (p : ℕ). ‵ (fat fullShare tyPtr l₉ 0 (vptr b₁ p))) (sym (place-is 8 o₁ i)) refl $
           knows ! (i < length row) (omega (arith, ltb-true, ltb-false, leb-true, leb-false, eqb-true, eqb-false)) (λ index-2·5.
-          views-elem ! tt Object-p b₁ o₁ row n₁ (refl) i ((Object-of (ObjectNumber-of 0) 0 0 (Handle-of 0))) index-2·5 (λ s-2·5 is-2·5.
-          assigns ! (of-opd ! (load ! (from ! (hop ! (look ! 8 refl) (stop !))) (look-raw ! 0 refl))) (from ! (stop !)) (init ! 6 refl (Object-p .typed 𝓤 H A W (getD row i ((Object-of (ObjectNumber-of 0) 0 0 (Handle-of 0)))) is-2·5)) $
-          unviews-elem ! tt Object-p b₁ o₁ row n₁ (refl) room₁ i ((Object-of (ObjectNumber-of 0) 0 0 (Handle-of 0))) index-2·5 s-2·5 $
-          assigns ! (of-opd ! (load ! (from ! (stop !)) (look ! 2 refl))) (from ! (stop !)) (init ! 12 refl (Object-p .typed 𝓤 H A W (getD row i ((Object-of (ObjectNumber-of 0) 0 0 (Handle-of 0)))) is-2·5)) $
+          views-elem ! tt Object-p b₁ o₁ row n₁ (refl) i ((Object-of (ObjectNumber-of 0) 0 0 0)) index-2·5 (λ s-2·5 is-2·5.
+          assigns ! (of-opd ! (load ! (from ! (hop ! (look ! 8 refl) (stop !))) (look-raw ! 0 refl))) (from ! (stop !)) (init ! 6 refl (Object-p .typed 𝓤 H A W (getD row i ((Object-of (ObjectNumber-of 0) 0 0 0))) is-2·5)) $
+          unviews-elem ! tt Object-p b₁ o₁ row n₁ (refl) room₁ i ((Object-of (ObjectNumber-of 0) 0 0 0)) index-2·5 s-2·5 $
+          assigns ! (of-opd ! (load ! (from ! (stop !)) (look ! 2 refl))) (from ! (stop !)) (init ! 12 refl (Object-p .typed 𝓤 H A W (getD row i ((Object-of (ObjectNumber-of 0) 0 0 0))) is-2·5)) $
           -- 2.7: sessions::objects::is_numbered
           nothing ! $
           use1 W (raw (toks 𝓤 A 0 (tt) (tt))) (id⊢ 𝓤 _) $ nothing ! $
           owned ! (ObjectNumber-p .row) (Is (ObjectNumber-p .row)) (ObjectNumber-p .makes 𝓤 H A W) number (ObjectNumber-p .val number ∷ []) number-is $ fjoin ! $
-          owned ! (Object-p .row) (Is (Object-p .row)) (Object-p .makes 𝓤 H A W) (getD row i ((Object-of (ObjectNumber-of 0) 0 0 (Handle-of 0)))) (Object-p .val (getD row i ((Object-of (ObjectNumber-of 0) 0 0 (Handle-of 0)))) ∷ []) is-2·5 $ fjoin ! $ move ! (1 ∷ 0 ∷ []) $
-          calls-any ! fm 0 [] (objects-is-numbered.signature .params) (objects-is-numbered.ended .kept) bool-p (objects-is-numbered.clauses 𝓤 H A mem run) known-objects-is-numbered tt tt tt (getD row i ((Object-of (ObjectNumber-of 0) 0 0 (Handle-of 0))), (number, tt)) (Object-p .val (getD row i ((Object-of (ObjectNumber-of 0) 0 0 (Handle-of 0)))) ∷ [], (ObjectNumber-p .val number ∷ [], tt)) tt (isNumbered (getD row i ((Object-of (ObjectNumber-of 0) 0 0 (Handle-of 0)))) number) (λ ws-2·7. Unit {0}) (id⊢ 𝓤 _) (λ r ws-2·7. fact-mono 𝓤 (r ≡ isNumbered (getD row i ((Object-of (ObjectNumber-of 0) 0 0 (Handle-of 0)))) number) ((r ≡ (isNumbered (getD row i ((Object-of (ObjectNumber-of 0) 0 0 (Handle-of 0)))) number)) × (Unit {0})) (λ e. (e, tt))) (λ _. (and-then ! (load ! (from ! (stop !)) (look ! 13 refl)) (and-then ! (load ! (from ! (stop !)) (look ! 17 refl)) (no-more !)))) (λ ws-2·7 said-2·7 is-2·7.
+          owned ! (Object-p .row) (Is (Object-p .row)) (Object-p .makes 𝓤 H A W) (getD row i ((Object-of (ObjectNumber-of 0) 0 0 0))) (Object-p .val (getD row i ((Object-of (ObjectNumber-of 0) 0 0 0))) ∷ []) is-2·5 $ fjoin ! $ move ! (1 ∷ 0 ∷ []) $
+          calls-any ! fm 0 [] (objects-is-numbered.signature .params) (objects-is-numbered.ended .kept) bool-p (objects-is-numbered.clauses 𝓤 H A mem run) known-objects-is-numbered tt tt tt (getD row i ((Object-of (ObjectNumber-of 0) 0 0 0)), (number, tt)) (Object-p .val (getD row i ((Object-of (ObjectNumber-of 0) 0 0 0))) ∷ [], (ObjectNumber-p .val number ∷ [], tt)) tt (isNumbered (getD row i ((Object-of (ObjectNumber-of 0) 0 0 0))) number) (λ ws-2·7. Unit {0}) (id⊢ 𝓤 _) (λ r ws-2·7. fact-mono 𝓤 (r ≡ isNumbered (getD row i ((Object-of (ObjectNumber-of 0) 0 0 0))) number) ((r ≡ (isNumbered (getD row i ((Object-of (ObjectNumber-of 0) 0 0 0))) number)) × (Unit {0})) (λ e. (e, tt))) (λ _. (and-then ! (load ! (from ! (stop !)) (look ! 13 refl)) (and-then ! (load ! (from ! (stop !)) (look ! 17 refl)) (no-more !)))) (λ ws-2·7 said-2·7 is-2·7.
           drop ! $ drop ! $
-          land ! (from ! (stop !)) (init ! 10 refl (bool-p .typed 𝓤 H A W (isNumbered (getD row i ((Object-of (ObjectNumber-of 0) 0 0 (Handle-of 0)))) number) is-2·7)) $
-          assigns ! (of-opd ! (load ! (from ! (stop !)) (look ! 10 refl))) (from ! (stop !)) (store ! 8 refl (bool-p .typed 𝓤 H A W (isNumbered (getD row i ((Object-of (ObjectNumber-of 0) 0 0 (Handle-of 0)))) number) is-2·7)) $
+          land ! (from ! (stop !)) (init ! 10 refl (bool-p .typed 𝓤 H A W (isNumbered (getD row i ((Object-of (ObjectNumber-of 0) 0 0 0))) number) is-2·7)) $
+          assigns ! (of-opd ! (load ! (from ! (stop !)) (look ! 10 refl))) (from ! (stop !)) (store ! 8 refl (bool-p .typed 𝓤 H A W (isNumbered (getD row i ((Object-of (ObjectNumber-of 0) 0 0 0))) number) is-2·7)) $
           first ! $
           branches ! (load ! (from ! (stop !)) (look ! 8 refl))
           (λ h-2·9.
-          knows ! (isNumbered (getD row i ((Object-of (ObjectNumber-of 0) 0 0 (Handle-of 0)))) number ≡ true) (holds (isNumbered (getD row i ((Object-of (ObjectNumber-of 0) 0 0 (Handle-of 0)))) number) h-2·9) (λ c-2·9.
+          knows ! (isNumbered (getD row i ((Object-of (ObjectNumber-of 0) 0 0 0))) number ≡ true) (holds (isNumbered (getD row i ((Object-of (ObjectNumber-of 0) 0 0 0))) number) h-2·9) (λ c-2·9.
           assigns ! (agg ! (and-then ! (lit ! tt) (and-then ! (load ! (from ! (stop !)) (look ! 14 refl)) (no-more !)))) (from ! (stop !)) (init ! 22 refl (Place-p .typed 𝓤 H A W (Place-At i) (EL.owes Place-t.the-type Place-l.the-laws (Place-At i) (i-is, tt)))) $
           returns-within ! Post refl (look ! 22 refl) $ forget ! 2 refl $ forget ! 4 refl $ forget ! 6 refl $ forget ! 8 refl $ forget ! 10 refl $ forget ! 12 refl $ forget ! 14 refl $ forget ! 16 refl $ forget ! 18 refl $ forget ! 20 refl $ forget ! 22 refl $ move ! (22 ∷ 23 ∷ []) $ free1 ! $ move ! (20 ∷ 21 ∷ []) $ free1 ! $ move ! (18 ∷ 19 ∷ []) $ free1 ! $ move ! (16 ∷ 17 ∷ []) $ free1 ! $ move ! (14 ∷ 15 ∷ []) $ free1 ! $ move ! (12 ∷ 13 ∷ []) $ free1 ! $ move ! (10 ∷ 11 ∷ []) $ free1 ! $ move ! (8 ∷ 9 ∷ []) $ free1 ! $ move ! (6 ∷ 7 ∷ []) $ free1 ! $ move ! (4 ∷ 5 ∷ []) $ free1 ! $ move ! (2 ∷ 3 ∷ []) $ free1 ! $ free0 ! $
-          by ! (exits (Place-At i) (at-hit hit i used (omega (arith, ltb-true, ltb-false, leb-true, leb-false, eqb-true, eqb-false)) c-2·9 ∙ inv-2 .1) (EL.owes Place-t.the-type Place-l.the-laws (Place-At i) (i-is, tt)))))
+          by ! (exits (Place-At i) (at-hit row number i used (omega (arith, ltb-true, ltb-false, leb-true, leb-false, eqb-true, eqb-false)) c-2·9 ∙ inv-2 .1) (EL.owes Place-t.the-type Place-l.the-laws (Place-At i) (i-is, tt)))))
           (λ h-2·9.
-          knows ! (isNumbered (getD row i ((Object-of (ObjectNumber-of 0) 0 0 (Handle-of 0)))) number ≡ false) (fails (isNumbered (getD row i ((Object-of (ObjectNumber-of 0) 0 0 (Handle-of 0)))) number) (T-not (isNumbered (getD row i ((Object-of (ObjectNumber-of 0) 0 0 (Handle-of 0)))) number) h-2·9)) (λ c-2·9.
+          knows ! (isNumbered (getD row i ((Object-of (ObjectNumber-of 0) 0 0 0))) number ≡ false) (fails (isNumbered (getD row i ((Object-of (ObjectNumber-of 0) 0 0 0))) number) (T-not (isNumbered (getD row i ((Object-of (ObjectNumber-of 0) 0 0 0))) number) h-2·9)) (λ c-2·9.
           skips ! $
           exec ! C Λ En (past 9 mir.turn-1) (anyQ (afterTurn 𝓤 H (Below-2 t-2) Left-2)) $
           knows ! (i + 1 < 2 ^ 64) (omega (arith, ltb-true, ltb-false, leb-true, leb-false, eqb-true, eqb-false)) (λ fits-2·10.
           assigns-last ! (bin ! (load ! (from ! (stop !)) (look ! 14 refl)) (lit ! tt) (record { fits = fits-2·10 })) (from ! (stop !)) (store ! 14 refl (u64-p .typed 𝓤 H A W (i + 1) ((refl, fits-2·10)))) $ forget ! 2 refl $ forget ! 4 refl $ forget ! 6 refl $ forget ! 8 refl $ forget ! 10 refl $ forget ! 12 refl $
-          by ! (again-2 t-2 (i + 1) ((refl, fits-2·10)) (((omega (arith, ltb-true, ltb-false, leb-true, leb-false, eqb-true, eqb-false)), past-miss hit i used (omega (arith, ltb-true, ltb-false, leb-true, leb-false, eqb-true, eqb-false)) c-2·9 ∙ inv-2 .1)) (omega (arith, ltb-true, ltb-false, leb-true, leb-false, eqb-true, eqb-false))))))))))))
+          by ! (again-2 t-2 (i + 1) ((refl, fits-2·10)) (((omega (arith, ltb-true, ltb-false, leb-true, leb-false, eqb-true, eqb-false)), past-miss row number i used (omega (arith, ltb-true, ltb-false, leb-true, leb-false, eqb-true, eqb-false)) c-2·9 ∙ inv-2 .1)) (omega (arith, ltb-true, ltb-false, leb-true, leb-false, eqb-true, eqb-false))))))))))))
           (λ h-2·2.
           knows ! (ltb i used ≡ false) (fails (ltb i used) (T-not (ltb i used) h-2·2)) (λ c-2·2.
           jumps ! $
           exec ! C Λ En mir.t-3 (atRet En Post) $
           assigns ! (agg ! (and-then ! (lit ! tt) (no-more !))) (from ! (stop !)) (init ! 22 refl (Place-p .typed 𝓤 H A W Place-Nowhere (EL.owes Place-t.the-type Place-l.the-laws Place-Nowhere tt))) $
           returns ! (look ! 22 refl) $ forget ! 8 refl $ forget ! 14 refl $ forget ! 16 refl $ forget ! 18 refl $ forget ! 20 refl $ forget ! 22 refl $ move ! (22 ∷ 23 ∷ []) $ free1 ! $ move ! (20 ∷ 21 ∷ []) $ free1 ! $ move ! (18 ∷ 19 ∷ []) $ free1 ! $ move ! (16 ∷ 17 ∷ []) $ free1 ! $ move ! (14 ∷ 15 ∷ []) $ free1 ! $ move ! (12 ∷ 13 ∷ []) $ free1 ! $ move ! (10 ∷ 11 ∷ []) $ free1 ! $ move ! (8 ∷ 9 ∷ []) $ free1 ! $ move ! (6 ∷ 7 ∷ []) $ free1 ! $ move ! (4 ∷ 5 ∷ []) $ free1 ! $ move ! (2 ∷ 3 ∷ []) $ free1 ! $ free0 ! $
-          by ! (exits Place-Nowhere (at-end hit i used (omega (arith, ltb-true, ltb-false, leb-true, leb-false, eqb-true, eqb-false)) ∙ inv-2 .1) (EL.owes Place-t.the-type Place-l.the-laws Place-Nowhere tt))))
+          by ! (exits Place-Nowhere (at-end row number i used (omega (arith, ltb-true, ltb-false, leb-true, leb-false, eqb-true, eqb-false)) ∙ inv-2 .1) (EL.owes Place-t.the-type Place-l.the-laws Place-Nowhere tt))))
 
       turns-2 : (t : ℕ) → ent 𝓤 (Inv-2 t) (Wp 𝓤 H C Λ En mir.turn-1 (afterTurn 𝓤 H (Below-2 t) Left-2))
       turns-2 t = exE 𝓤 (λ (i : ℕ). guard 𝓤 (Facts-2 t i) (⋆ 𝓤 H A (At-2 i))) (λ i. guardE 𝓤 (Facts-2 t i) (⋆ 𝓤 H A (At-2 i)) (λ fs. turn-2 i t (fs .1) (fs .0) (fs .2)))
 
-      loops-2 : (i : ℕ) (i-is : Is (u64-p .row) i (u64-p .val i ∷ [])) → ((i ≤ used) × (firstFrom hit i (used - i) ≡ placeOf row used number)) → ent 𝓤 (⋆ 𝓤 H A (At-2 i)) (Wp 𝓤 H C Λ En (loop mir.turn-1) Left-2)
+      loops-2 : (i : ℕ) (i-is : Is (u64-p .row) i (u64-p .val i ∷ [])) → ((i ≤ used) × (objectFrom row number i (used - i) ≡ objectPlace row used number)) → ent 𝓤 (⋆ 𝓤 H A (At-2 i)) (Wp 𝓤 H C Λ En (loop mir.turn-1) Left-2)
       loops-2 i i-is inv = via 𝓤 (Inv-2 (used - i)) (inv-at-2 (used - i) i (refl, i-is, inv)) (loop-rule 𝓤 H (W .laws) 𝓣 _<_ (Nat·lt-wfRel .wf) En mir.turn-1 Left-2 Inv-2 turns-2 (used - i))
 
     begins : Sq W (‵ (ShrSlice (named 0) κ₁ Object-t.the-row .own (at-list b₁ o₁ γ₁ row) (sliceVal (b₁, o₁) n₁ ∷ [])) ∷ ‵ (flft κ₁ q₁) ∷ free 𝓤 Object-l.mir l₁₀ (free 𝓤 tyPtr l₉ (free 𝓤 (tyInt w64) l₈ (free 𝓤 tyBool l₇ (free 𝓤 tyBool l₆ (free 𝓤 Object-l.mir l₅ (free 𝓤 (tyInt w64) l₄ (full 𝓤 ObjectNumber-l.mir l₃ (ObjectNumber-p .val number) (full 𝓤 (tyInt w64) l₂ (u64-p .val used) (full 𝓤 (sliceTy (tyRef (named 0) imm (pointee (Object-t.the-row .written)))) l₁ (sliceVal (b₁, o₁) n₁) (free 𝓤 Place-l.mir l₀ ([])))))))))))) (runs C Λ En mir.t-1 (atRet En Post))
@@ -232,7 +219,7 @@ module _ {M : Type 1} (𝓤 : URA M) (H : Heap 𝓤) (A : Atoms 𝓤) (W : Given
         assigns ! (of-opd ! (lit ! tt)) (from ! (stop !)) (init ! 14 refl (u64-p .typed 𝓤 H A W 0 ((refl, lit< tt)))) $
         first ! $
         blocks ! $
-        by ! (loops-2 0 ((refl, lit< tt)) (((omega (arith, ltb-true, ltb-false, leb-true, leb-false, eqb-true, eqb-false)), at-start hit used)))
+        by ! (loops-2 0 ((refl, lit< tt)) (((omega (arith, ltb-true, ltb-false, leb-true, leb-false, eqb-true, eqb-false)), at-start row number used)))
 
   module _ (𝓣 : Tables 𝓤 H) (known-objects-is-numbered : Triple 𝓤 (𝓣 .C #objects-is-numbered) (Of-objects-is-numbered 𝓤 H A mem run)) where
     walk : ent 𝓤 (onEntry 𝓤 H A f.signature (κ₁, tt) (q₁, tt) x at) (WpFn 𝓤 H (𝓣 .C) (𝓣 .Λ) code.function (sliceVal (b₁, o₁) n₁ ∷ u64-p .val used ∷ ObjectNumber-p .val number ∷ []) Post)

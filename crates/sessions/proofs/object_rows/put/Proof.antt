@@ -52,8 +52,8 @@ use Rattle.walk.proofs.Steps.{past, one, yes-of, no-of, in-block, arm-of, holds
 use borrow.Rule.Slice.PartMut.{midOf, putMid}
 use Rattle.walk.proofs.Parts.{part-len, lends-part, backs-part, parts-shr}
 use Rattle.walk.proofs.Arrays.{rep-is, lends-array, backs-array}
-use Rattle.sessions.specs.Objects.{placeOf, foundOf, greatestOf, storedOf, storedRow, removedRow}
-use Rattle.sessions.specs.Objects.{bridgedOf, implicitOf, handleOf, isNumbered, greaterOf, betterOf, slotOf, countOf}
+use Rattle.sessions.specs.Objects.{objectPlace, foundOf, greatestOf, storedOf, storedRow, removedRow}
+use Rattle.sessions.specs.Objects.{bridgedOf, implicitOf, handleOf, isNumbered, greaterOf, betterOf, slotOf, usedAfter}
 use mathlib.Core.Bool.{cond}
 use Rattle.sessions.proofs.object_rows.Laws.{put-full}
 use Rattle.sessions.specs.declared.objects.Object.{Object}
@@ -62,9 +62,6 @@ use Rattle.sessions.proofs.objects.Object.Laws as Object-l
 use Rattle.codec.specs.declared.submessages.ObjectNumber.{ObjectNumber}
 use Rattle.codec.proofs.submessages.ObjectNumber as ObjectNumber-t
 use Rattle.codec.proofs.submessages.ObjectNumber.Laws as ObjectNumber-l
-use Rattle.sessions.specs.declared.objects.Handle.{Handle}
-use Rattle.sessions.proofs.objects.Handle as Handle-t
-use Rattle.sessions.proofs.objects.Handle.Laws as Handle-l
 use Rattle.sessions.specs.declared.objects.Stored.{Stored}
 use Rattle.sessions.proofs.objects.Stored as Stored-t
 use Rattle.sessions.proofs.objects.Stored.Laws as Stored-l
@@ -95,7 +92,7 @@ use Rattle.sessions.proofs.object_rows.put.Statement as stated
 use Rattle.sessions.proofs.object_rows.put.Code as code
 use Rattle.sessions.proofs.object_rows.put.Code.Mir as mir
 
-abbrev Object-of : ObjectNumber → ℕ → ℕ → Handle → Object
+abbrev Object-of : ObjectNumber → ℕ → ℕ → ℕ → Object
 Object-of x0 x1 x2 x3 = record { number = x0; kind = x1; bridged = x2; handle = x3 }
 
 abbrev Object-p : Plain
@@ -106,12 +103,6 @@ ObjectNumber-of x0 = record { 0 = x0 }
 
 abbrev ObjectNumber-p : Plain
 ObjectNumber-p = record { row = ObjectNumber-t.the-row; val = LL.val ObjectNumber-t.the-type ObjectNumber-l.the-laws; tells = LL.tells ObjectNumber-t.the-type ObjectNumber-l.the-laws; makes = λ 𝓤 H A W. LL.makes ObjectNumber-t.the-type ObjectNumber-l.the-plain 𝓤 H A; ty = ObjectNumber-l.mir; typed = λ 𝓤 H A W x is. LL.lawful ObjectNumber-t.the-type ObjectNumber-l.the-laws 𝓤 H A W .typed x _ is .0; copies = λ 𝓤 H A W. LL.copy ObjectNumber-t.the-type ObjectNumber-l.the-copy 𝓤 H A W }
-
-abbrev Handle-of : ℕ → Handle
-Handle-of x0 = record { 0 = x0 }
-
-abbrev Handle-p : Plain
-Handle-p = record { row = Handle-t.the-row; val = LL.val Handle-t.the-type Handle-l.the-laws; tells = LL.tells Handle-t.the-type Handle-l.the-laws; makes = λ 𝓤 H A W. LL.makes Handle-t.the-type Handle-l.the-plain 𝓤 H A; ty = Handle-l.mir; typed = λ 𝓤 H A W x is. LL.lawful Handle-t.the-type Handle-l.the-laws 𝓤 H A W .typed x _ is .0; copies = λ 𝓤 H A W. LL.copy Handle-t.the-type Handle-l.the-copy 𝓤 H A W }
 
 abbrev Stored-p : Plain
 Stored-p = record { row = Stored-t.the-row; val = EL.val Stored-t.the-type Stored-l.the-laws; tells = EL.tells Stored-t.the-type Stored-l.the-laws; makes = λ 𝓤 H A W. EL.makes Stored-t.the-type Stored-l.the-plain 𝓤 H A; ty = Stored-l.mir; typed = λ 𝓤 H A W x is. EL.lawful Stored-t.the-type Stored-l.the-laws 𝓤 H A W tt .typed x _ is .0; copies = λ 𝓤 H A W. EL.copy Stored-t.the-type Stored-l.the-copy 𝓤 H A W }
@@ -150,10 +141,10 @@ module _ {M : Type 1} (𝓤 : URA M) (H : Heap 𝓤) (A : Atoms 𝓤) (W : Given
   Post = walkOf 𝓤 H A f.ended stayed (f.clauses 𝓤 H A mem run) .post (((κ₁, tt), (q₁, tt), tt, x, at), tt)
 
   abbrev p : Place
-  p = placeOf row used (o .number)
+  p = objectPlace row used (o .number)
 
   abbrev answer : Bool → Stored
-  answer b = cond b (Stored-Count (countOf p used)) Stored-Full
+  answer b = cond b (Stored-Count (usedAfter p used)) Stored-Full
 
   exits : (r : Stored) (ws₁ : List Object) → ((r ≡ storedOf (row) used o) × (ws₁ ≡ storedRow (row) used o)) → Is (Stored-p .row) r (Stored-p .val r ∷ []) → length ws₁ ≡ n₁ → ent 𝓤 (⋆ 𝓤 H A (‵ (MutSlice (named 0) κ₁ Object-t.the-row .own (at-list b₁ o₁ γ₁ ws₁) (sliceVal (b₁, o₁) n₁ ∷ [])) ∷ ‵ (flft κ₁ q₁) ∷ [])) (Post (Stored-p .val r))
   exits r ws₁ said r-is len₁ =
@@ -190,48 +181,48 @@ module _ {M : Type 1} (𝓤 : URA M) (H : Heap 𝓤) (A : Atoms 𝓤) (W : Given
         use1 W (raw (toks 𝓤 A 1 (((ν-4-row ∷ []), tt)) ((fullShare, tt)))) (id⊢ 𝓤 _) $ nothing ! $
         owned ! (ObjectNumber-p .row) (Is (ObjectNumber-p .row)) (ObjectNumber-p .makes 𝓤 H A W) (o .number) (ObjectNumber-p .val (o .number) ∷ []) (LL.owed Object-t.the-type Object-l.the-laws o _ o-is .0) $ fjoin ! $
         owned ! (u64-p .row) (Is (u64-p .row)) (u64-p .makes 𝓤 H A W) used (u64-p .val used ∷ []) used-is $ fjoin ! $ move ! (2 ∷ 0 ∷ []) $ fjoin ! $ move ! (1 ∷ 0 ∷ []) $
-        calls-any ! fm 1 [] (object-rows-place.signature .params) (object-rows-place.ended .kept) Place-p (object-rows-place.clauses 𝓤 H A mem run) known-object-rows-place ((ν-4-row ∷ []), tt) (fullShare, tt) tt (at-list b₁ o₁ δ-4-row row, (used, (o .number, tt))) (sliceVal (b₁, o₁) n₁ ∷ [], (u64-p .val used ∷ [], (ObjectNumber-p .val (o .number) ∷ [], tt))) tt (placeOf (row) used (o .number)) (λ ws-4. Unit {0}) (factI 𝓤 (used ≤ length (row)) _ asks-4) (λ r ws-4. fact-mono 𝓤 (r ≡ placeOf (row) used (o .number)) ((r ≡ (placeOf (row) used (o .number))) × (Unit {0})) (λ e. (e, tt))) (λ _. (and-then ! (load ! (from ! (stop !)) (look ! 10 refl)) (and-then ! (load ! (from ! (stop !)) (look ! 26 refl)) (and-then ! (load ! (from ! (stop !)) (look ! 22 refl)) (no-more !))))) (λ ws-4 said-4 is-4.
+        calls-any ! fm 1 [] (object-rows-place.signature .params) (object-rows-place.ended .kept) Place-p (object-rows-place.clauses 𝓤 H A mem run) known-object-rows-place ((ν-4-row ∷ []), tt) (fullShare, tt) tt (at-list b₁ o₁ δ-4-row row, (used, (o .number, tt))) (sliceVal (b₁, o₁) n₁ ∷ [], (u64-p .val used ∷ [], (ObjectNumber-p .val (o .number) ∷ [], tt))) tt (objectPlace (row) used (o .number)) (λ ws-4. Unit {0}) (factI 𝓤 (used ≤ length (row)) _ asks-4) (λ r ws-4. fact-mono 𝓤 (r ≡ objectPlace (row) used (o .number)) ((r ≡ (objectPlace (row) used (o .number))) × (Unit {0})) (λ e. (e, tt))) (λ _. (and-then ! (load ! (from ! (stop !)) (look ! 10 refl)) (and-then ! (load ! (from ! (stop !)) (look ! 26 refl)) (and-then ! (load ! (from ! (stop !)) (look ! 22 refl)) (no-more !))))) (λ ws-4 said-4 is-4.
         use1 W ((‵ (flft (ν-4-row ∷ []) fullShare) ⊛ ‵ ftrue)) (id⊢ 𝓤 _) $ split ! $ move ! (2 ∷ []) $ fsplit ! $ move ! (2 ∷ 4 ∷ []) $
         backs-view ! tt Object-t.the-row b₁ o₁ row n₁ (refl) ν-4-row $ move ! (2 ∷ []) $ drop ! $ move ! (2 ∷ []) $ drop ! $ move ! (2 ∷ []) $ drop ! $
-        land ! (from ! (stop !)) (init ! 20 refl (Place-p .typed 𝓤 H A W (placeOf (row) used (o .number)) is-4)) $
+        land ! (from ! (stop !)) (init ! 20 refl (Place-p .typed 𝓤 H A W (objectPlace (row) used (o .number)) is-4)) $
         -- 5: sessions::objects::slot
         nothing ! $
         use1 W (raw (toks 𝓤 A 0 (tt) (tt))) (id⊢ 𝓤 _) $ nothing ! $
         owned ! (u64-p .row) (Is (u64-p .row)) (u64-p .makes 𝓤 H A W) used (u64-p .val used ∷ []) used-is $ fjoin ! $
-        owned ! (Place-p .row) (Is (Place-p .row)) (Place-p .makes 𝓤 H A W) (placeOf (row) used (o .number)) (Place-p .val (placeOf (row) used (o .number)) ∷ []) is-4 $ fjoin ! $ move ! (1 ∷ 0 ∷ []) $
-        calls-any ! fm 0 [] (objects-slot.signature .params) (objects-slot.ended .kept) u64-p (objects-slot.clauses 𝓤 H A mem run) known-objects-slot tt tt tt (placeOf (row) used (o .number), (used, tt)) (Place-p .val (placeOf (row) used (o .number)) ∷ [], (u64-p .val used ∷ [], tt)) tt (slotOf (placeOf (row) used (o .number)) used) (λ ws-5. Unit {0}) (id⊢ 𝓤 _) (λ r ws-5. fact-mono 𝓤 (r ≡ slotOf (placeOf (row) used (o .number)) used) ((r ≡ (slotOf (placeOf (row) used (o .number)) used)) × (Unit {0})) (λ e. (e, tt))) (λ _. (and-then ! (load ! (from ! (stop !)) (look ! 21 refl)) (and-then ! (load ! (from ! (stop !)) (look ! 27 refl)) (no-more !)))) (λ ws-5 said-5 is-5.
+        owned ! (Place-p .row) (Is (Place-p .row)) (Place-p .makes 𝓤 H A W) (objectPlace (row) used (o .number)) (Place-p .val (objectPlace (row) used (o .number)) ∷ []) is-4 $ fjoin ! $ move ! (1 ∷ 0 ∷ []) $
+        calls-any ! fm 0 [] (objects-slot.signature .params) (objects-slot.ended .kept) u64-p (objects-slot.clauses 𝓤 H A mem run) known-objects-slot tt tt tt (objectPlace (row) used (o .number), (used, tt)) (Place-p .val (objectPlace (row) used (o .number)) ∷ [], (u64-p .val used ∷ [], tt)) tt (slotOf (objectPlace (row) used (o .number)) used) (λ ws-5. Unit {0}) (id⊢ 𝓤 _) (λ r ws-5. fact-mono 𝓤 (r ≡ slotOf (objectPlace (row) used (o .number)) used) ((r ≡ (slotOf (objectPlace (row) used (o .number)) used)) × (Unit {0})) (λ e. (e, tt))) (λ _. (and-then ! (load ! (from ! (stop !)) (look ! 21 refl)) (and-then ! (load ! (from ! (stop !)) (look ! 27 refl)) (no-more !)))) (λ ws-5 said-5 is-5.
         drop ! $ drop ! $
-        land ! (from ! (stop !)) (init ! 18 refl (u64-p .typed 𝓤 H A W (slotOf (placeOf (row) used (o .number)) used) is-5)) $
+        land ! (from ! (stop !)) (init ! 18 refl (u64-p .typed 𝓤 H A W (slotOf (objectPlace (row) used (o .number)) used) is-5)) $
         assigns ! (of-opd ! (load ! (from ! (fld ! refl (stop !))) (look-in ! 28 (sub ! 1 refl (whole !))))) (from ! (stop !)) (init ! 16 refl (u64-p .typed 𝓤 H A W n₁ ((refl, room₁ .0)))) $
-        assigns ! (bin ! (load ! (from ! (stop !)) (look ! 18 refl)) (load ! (from ! (stop !)) (look ! 16 refl)) (tt)) (from ! (stop !)) (init ! 8 refl (bool-p .typed 𝓤 H A W (ltb (slotOf (placeOf (row) used (o .number)) used) n₁) refl)) $
+        assigns ! (bin ! (load ! (from ! (stop !)) (look ! 18 refl)) (load ! (from ! (stop !)) (look ! 16 refl)) (tt)) (from ! (stop !)) (init ! 8 refl (bool-p .typed 𝓤 H A W (ltb (slotOf (objectPlace (row) used (o .number)) used) n₁) refl)) $
         first ! $
         branches ! (load ! (from ! (stop !)) (look ! 8 refl))
         (λ h-8.
-        knows ! (ltb (slotOf (placeOf (row) used (o .number)) used) n₁ ≡ true) (holds (ltb (slotOf (placeOf (row) used (o .number)) used) n₁) h-8) (λ c-8.
-        knows ! ((slotOf (placeOf (row) used (o .number)) used) * 8 < 2 ^ 64) (omega (arith, ltb-true, ltb-false, leb-true, leb-false, eqb-true, eqb-false)) (λ fits-8·yes·1.
-        assigns ! (bin ! (load ! (from ! (stop !)) (look ! 18 refl)) (lit ! tt) (record { fits = fits-8·yes·1 })) (from ! (stop !)) (init ! 4 refl (u64-p .typed 𝓤 H A W ((slotOf (placeOf (row) used (o .number)) used) * 8) ((refl, fits-8·yes·1)))) $
+        knows ! (ltb (slotOf (objectPlace (row) used (o .number)) used) n₁ ≡ true) (holds (ltb (slotOf (objectPlace (row) used (o .number)) used) n₁) h-8) (λ c-8.
+        knows ! ((slotOf (objectPlace (row) used (o .number)) used) * 8 < 2 ^ 64) (omega (arith, ltb-true, ltb-false, leb-true, leb-false, eqb-true, eqb-false)) (λ fits-8·yes·1.
+        assigns ! (bin ! (load ! (from ! (stop !)) (look ! 18 refl)) (lit ! tt) (record { fits = fits-8·yes·1 })) (from ! (stop !)) (init ! 4 refl (u64-p .typed 𝓤 H A W ((slotOf (objectPlace (row) used (o .number)) used) * 8) ((refl, fits-8·yes·1)))) $
         assigns ! (bin ! (load ! (from ! (fld ! refl (stop !))) (look-in ! 28 (sub ! 0 refl (whole !)))) (load ! (from ! (stop !)) (look ! 4 refl)) tt) (from ! (stop !)) (init ! 2 refl (tt, tt)) $
-        rewrite ! 2 (λ (p : ℕ). ‵ (fat fullShare tyPtr l₁₄ 0 (vptr b₁ p))) (sym (place-is 8 o₁ (slotOf (placeOf (row) used (o .number)) used))) refl $
-        knows ! (slotOf (placeOf (row) used (o .number)) used < length row) (omega (arith, ltb-true, ltb-false, leb-true, leb-false, eqb-true, eqb-false)) (λ index-8·yes·3.
-        opens-elem ! tt Object-p b₁ o₁ row n₁ (refl) (slotOf (placeOf (row) used (o .number)) used) ((Object-of (ObjectNumber-of 0) 0 0 (Handle-of 0))) index-8·yes·3 (λ _.
+        rewrite ! 2 (λ (p : ℕ). ‵ (fat fullShare tyPtr l₁₄ 0 (vptr b₁ p))) (sym (place-is 8 o₁ (slotOf (objectPlace (row) used (o .number)) used))) refl $
+        knows ! (slotOf (objectPlace (row) used (o .number)) used < length row) (omega (arith, ltb-true, ltb-false, leb-true, leb-false, eqb-true, eqb-false)) (λ index-8·yes·3.
+        opens-elem ! tt Object-p b₁ o₁ row n₁ (refl) (slotOf (objectPlace (row) used (o .number)) used) ((Object-of (ObjectNumber-of 0) 0 0 0)) index-8·yes·3 (λ _.
         assigns ! (of-opd ! (load ! (from ! (stop !)) (look ! 28 refl))) (from ! (hop ! (look ! 6 refl) (stop !))) (store-raw ! 0 refl (Object-p .typed 𝓤 H A W o o-is)) $
-        puts-elem ! tt Object-p b₁ o₁ row n₁ (refl) room₁ (slotOf (placeOf (row) used (o .number)) used) ((Object-of (ObjectNumber-of 0) 0 0 (Handle-of 0))) o index-8·yes·3 o-is (λ len-8·yes·3.
+        puts-elem ! tt Object-p b₁ o₁ row n₁ (refl) room₁ (slotOf (objectPlace (row) used (o .number)) used) ((Object-of (ObjectNumber-of 0) 0 0 0)) o index-8·yes·3 o-is (λ len-8·yes·3.
         knows ! (used < 64) (omega (arith, ltb-true, ltb-false, leb-true, leb-false, eqb-true, eqb-false)) (λ asks-8·yes·4.
         -- 8.yes.4: sessions::objects::count
         nothing ! $
         use1 W (raw (toks 𝓤 A 0 (tt) (tt))) (id⊢ 𝓤 _) $ nothing ! $
         owned ! (u64-p .row) (Is (u64-p .row)) (u64-p .makes 𝓤 H A W) used (u64-p .val used ∷ []) used-is $ fjoin ! $
-        owned ! (Place-p .row) (Is (Place-p .row)) (Place-p .makes 𝓤 H A W) (placeOf (row) used (o .number)) (Place-p .val (placeOf (row) used (o .number)) ∷ []) is-4 $ fjoin ! $ move ! (1 ∷ 0 ∷ []) $
-        calls-any ! fm 0 [] (objects-count.signature .params) (objects-count.ended .kept) u64-p (objects-count.clauses 𝓤 H A mem run) known-objects-count tt tt tt (placeOf (row) used (o .number), (used, tt)) (Place-p .val (placeOf (row) used (o .number)) ∷ [], (u64-p .val used ∷ [], tt)) tt (countOf (placeOf (row) used (o .number)) used) (λ ws-8·yes·4. Unit {0}) (factI 𝓤 (used < 64) _ asks-8·yes·4) (λ r ws-8·yes·4. fact-mono 𝓤 (r ≡ countOf (placeOf (row) used (o .number)) used) ((r ≡ (countOf (placeOf (row) used (o .number)) used)) × (Unit {0})) (λ e. (e, tt))) (λ _. (and-then ! (load ! (from ! (stop !)) (look ! 21 refl)) (and-then ! (load ! (from ! (stop !)) (look ! 27 refl)) (no-more !)))) (λ ws-8·yes·4 said-8·yes·4 is-8·yes·4.
+        owned ! (Place-p .row) (Is (Place-p .row)) (Place-p .makes 𝓤 H A W) (objectPlace (row) used (o .number)) (Place-p .val (objectPlace (row) used (o .number)) ∷ []) is-4 $ fjoin ! $ move ! (1 ∷ 0 ∷ []) $
+        calls-any ! fm 0 [] (objects-count.signature .params) (objects-count.ended .kept) u64-p (objects-count.clauses 𝓤 H A mem run) known-objects-count tt tt tt (objectPlace (row) used (o .number), (used, tt)) (Place-p .val (objectPlace (row) used (o .number)) ∷ [], (u64-p .val used ∷ [], tt)) tt (usedAfter (objectPlace (row) used (o .number)) used) (λ ws-8·yes·4. Unit {0}) (factI 𝓤 (used < 64) _ asks-8·yes·4) (λ r ws-8·yes·4. fact-mono 𝓤 (r ≡ usedAfter (objectPlace (row) used (o .number)) used) ((r ≡ (usedAfter (objectPlace (row) used (o .number)) used)) × (Unit {0})) (λ e. (e, tt))) (λ _. (and-then ! (load ! (from ! (stop !)) (look ! 21 refl)) (and-then ! (load ! (from ! (stop !)) (look ! 27 refl)) (no-more !)))) (λ ws-8·yes·4 said-8·yes·4 is-8·yes·4.
         drop ! $ drop ! $
-        land ! (from ! (stop !)) (init ! 14 refl (u64-p .typed 𝓤 H A W (countOf (placeOf (row) used (o .number)) used) is-8·yes·4)) $
-        assigns-last ! (agg ! (and-then ! (lit ! tt) (and-then ! (load ! (from ! (stop !)) (look ! 14 refl)) (no-more !)))) (from ! (stop !)) (init ! 6 refl (Stored-p .typed 𝓤 H A W (Stored-Count (countOf (placeOf (row) used (o .number)) used)) (EL.owes Stored-t.the-type Stored-l.the-laws (Stored-Count (countOf (placeOf (row) used (o .number)) used)) (is-8·yes·4, tt)))) $
+        land ! (from ! (stop !)) (init ! 14 refl (u64-p .typed 𝓤 H A W (usedAfter (objectPlace (row) used (o .number)) used) is-8·yes·4)) $
+        assigns-last ! (agg ! (and-then ! (lit ! tt) (and-then ! (load ! (from ! (stop !)) (look ! 14 refl)) (no-more !)))) (from ! (stop !)) (init ! 6 refl (Stored-p .typed 𝓤 H A W (Stored-Count (usedAfter (objectPlace (row) used (o .number)) used)) (EL.owes Stored-t.the-type Stored-l.the-laws (Stored-Count (usedAfter (objectPlace (row) used (o .number)) used)) (is-8·yes·4, tt)))) $
         exec ! C Λ En mir.t-9 (atRet En Post) $
-        assigns ! (of-opd ! (load ! (from ! (stop !)) (look ! 6 refl))) (from ! (stop !)) (init ! 30 refl (Stored-p .typed 𝓤 H A W (Stored-Count (countOf (placeOf (row) used (o .number)) used)) (EL.owes Stored-t.the-type Stored-l.the-laws (Stored-Count (countOf (placeOf (row) used (o .number)) used)) (is-8·yes·4, tt)))) $
+        assigns ! (of-opd ! (load ! (from ! (stop !)) (look ! 6 refl))) (from ! (stop !)) (init ! 30 refl (Stored-p .typed 𝓤 H A W (Stored-Count (usedAfter (objectPlace (row) used (o .number)) used)) (EL.owes Stored-t.the-type Stored-l.the-laws (Stored-Count (usedAfter (objectPlace (row) used (o .number)) used)) (is-8·yes·4, tt)))) $
         returns ! (look ! 30 refl) $ forget ! 2 refl $ forget ! 4 refl $ forget ! 6 refl $ forget ! 8 refl $ forget ! 10 refl $ forget ! 12 refl $ forget ! 14 refl $ forget ! 16 refl $ forget ! 18 refl $ forget ! 20 refl $ forget ! 22 refl $ forget ! 24 refl $ forget ! 26 refl $ forget ! 28 refl $ forget ! 30 refl $ move ! (30 ∷ 31 ∷ []) $ free1 ! $ move ! (28 ∷ 29 ∷ []) $ free1 ! $ move ! (26 ∷ 27 ∷ []) $ free1 ! $ move ! (24 ∷ 25 ∷ []) $ free1 ! $ move ! (22 ∷ 23 ∷ []) $ free1 ! $ move ! (20 ∷ 21 ∷ []) $ free1 ! $ move ! (18 ∷ 19 ∷ []) $ free1 ! $ move ! (16 ∷ 17 ∷ []) $ free1 ! $ move ! (14 ∷ 15 ∷ []) $ free1 ! $ move ! (12 ∷ 13 ∷ []) $ free1 ! $ move ! (10 ∷ 11 ∷ []) $ free1 ! $ move ! (8 ∷ 9 ∷ []) $ free1 ! $ move ! (6 ∷ 7 ∷ []) $ free1 ! $ move ! (4 ∷ 5 ∷ []) $ free1 ! $ move ! (2 ∷ 3 ∷ []) $ free1 ! $ free0 ! $
-        by ! (exits (Stored-Count (countOf (placeOf (row) used (o .number)) used)) (set row (slotOf (placeOf (row) used (o .number)) used) o) ((if-true answer _ c-8, refl)) (EL.owes Stored-t.the-type Stored-l.the-laws (Stored-Count (countOf (placeOf (row) used (o .number)) used)) (is-8·yes·4, tt)) len-8·yes·3)))))))))
+        by ! (exits (Stored-Count (usedAfter (objectPlace (row) used (o .number)) used)) (set row (slotOf (objectPlace (row) used (o .number)) used) o) ((if-true answer _ c-8, refl)) (EL.owes Stored-t.the-type Stored-l.the-laws (Stored-Count (usedAfter (objectPlace (row) used (o .number)) used)) (is-8·yes·4, tt)) len-8·yes·3)))))))))
         (λ h-8.
-        knows ! (ltb (slotOf (placeOf (row) used (o .number)) used) n₁ ≡ false) (fails (ltb (slotOf (placeOf (row) used (o .number)) used) n₁) (T-not (ltb (slotOf (placeOf (row) used (o .number)) used) n₁) h-8)) (λ c-8.
+        knows ! (ltb (slotOf (objectPlace (row) used (o .number)) used) n₁ ≡ false) (fails (ltb (slotOf (objectPlace (row) used (o .number)) used) n₁) (T-not (ltb (slotOf (objectPlace (row) used (o .number)) used) n₁) h-8)) (λ c-8.
         assigns-last ! (agg ! (and-then ! (lit ! tt) (no-more !))) (from ! (stop !)) (init ! 6 refl (Stored-p .typed 𝓤 H A W Stored-Full (EL.owes Stored-t.the-type Stored-l.the-laws Stored-Full tt))) $
         exec ! C Λ En mir.t-9 (atRet En Post) $
         assigns ! (of-opd ! (load ! (from ! (stop !)) (look ! 6 refl))) (from ! (stop !)) (init ! 30 refl (Stored-p .typed 𝓤 H A W Stored-Full (EL.owes Stored-t.the-type Stored-l.the-laws Stored-Full tt))) $

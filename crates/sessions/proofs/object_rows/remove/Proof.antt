@@ -52,18 +52,14 @@ use Rattle.walk.proofs.Steps.{past, one, yes-of, no-of, in-block, arm-of, holds
 use borrow.Rule.Slice.PartMut.{midOf, putMid}
 use Rattle.walk.proofs.Parts.{part-len, lends-part, backs-part, parts-shr}
 use Rattle.walk.proofs.Arrays.{rep-is, lends-array, backs-array}
-use Rattle.sessions.specs.Objects.{placeOf, foundOf, greatestOf, storedOf, storedRow, removedRow}
-use Rattle.sessions.specs.Objects.{blank, isNumbered}
-use Rattle.sessions.proofs.Search.{Under, found-under}
+use Rattle.sessions.specs.Objects.{objectPlace, foundOf, greatestOf, storedOf, storedRow, removedRow}
+use Rattle.sessions.proofs.ObjectSearch.{Under, place-under}
 use Rattle.sessions.specs.declared.objects.Object.{Object}
 use Rattle.sessions.proofs.objects.Object as Object-t
 use Rattle.sessions.proofs.objects.Object.Laws as Object-l
 use Rattle.codec.specs.declared.submessages.ObjectNumber.{ObjectNumber}
 use Rattle.codec.proofs.submessages.ObjectNumber as ObjectNumber-t
 use Rattle.codec.proofs.submessages.ObjectNumber.Laws as ObjectNumber-l
-use Rattle.sessions.specs.declared.objects.Handle.{Handle}
-use Rattle.sessions.proofs.objects.Handle as Handle-t
-use Rattle.sessions.proofs.objects.Handle.Laws as Handle-l
 use Rattle.sessions.specs.declared.objects.Found.{Found}
 use Rattle.sessions.proofs.objects.Found as Found-t
 use Rattle.sessions.proofs.objects.Found.Laws as Found-l
@@ -86,7 +82,7 @@ use Rattle.sessions.proofs.object_rows.remove.Statement as stated
 use Rattle.sessions.proofs.object_rows.remove.Code as code
 use Rattle.sessions.proofs.object_rows.remove.Code.Mir as mir
 
-abbrev Object-of : ObjectNumber → ℕ → ℕ → Handle → Object
+abbrev Object-of : ObjectNumber → ℕ → ℕ → ℕ → Object
 Object-of x0 x1 x2 x3 = record { number = x0; kind = x1; bridged = x2; handle = x3 }
 
 abbrev Object-p : Plain
@@ -97,12 +93,6 @@ ObjectNumber-of x0 = record { 0 = x0 }
 
 abbrev ObjectNumber-p : Plain
 ObjectNumber-p = record { row = ObjectNumber-t.the-row; val = LL.val ObjectNumber-t.the-type ObjectNumber-l.the-laws; tells = LL.tells ObjectNumber-t.the-type ObjectNumber-l.the-laws; makes = λ 𝓤 H A W. LL.makes ObjectNumber-t.the-type ObjectNumber-l.the-plain 𝓤 H A; ty = ObjectNumber-l.mir; typed = λ 𝓤 H A W x is. LL.lawful ObjectNumber-t.the-type ObjectNumber-l.the-laws 𝓤 H A W .typed x _ is .0; copies = λ 𝓤 H A W. LL.copy ObjectNumber-t.the-type ObjectNumber-l.the-copy 𝓤 H A W }
-
-abbrev Handle-of : ℕ → Handle
-Handle-of x0 = record { 0 = x0 }
-
-abbrev Handle-p : Plain
-Handle-p = record { row = Handle-t.the-row; val = LL.val Handle-t.the-type Handle-l.the-laws; tells = LL.tells Handle-t.the-type Handle-l.the-laws; makes = λ 𝓤 H A W. LL.makes Handle-t.the-type Handle-l.the-plain 𝓤 H A; ty = Handle-l.mir; typed = λ 𝓤 H A W x is. LL.lawful Handle-t.the-type Handle-l.the-laws 𝓤 H A W .typed x _ is .0; copies = λ 𝓤 H A W. LL.copy Handle-t.the-type Handle-l.the-copy 𝓤 H A W }
 
 abbrev Found-p : Plain
 Found-p = record { row = Found-t.the-row; val = EL.val Found-t.the-type Found-l.the-laws; tells = EL.tells Found-t.the-type Found-l.the-laws; makes = λ 𝓤 H A W. EL.makes Found-t.the-type Found-l.the-plain 𝓤 H A; ty = Found-l.mir; typed = λ 𝓤 H A W x is. EL.lawful Found-t.the-type Found-l.the-laws 𝓤 H A W tt .typed x _ is .0; copies = λ 𝓤 H A W. EL.copy Found-t.the-type Found-l.the-copy 𝓤 H A W }
@@ -135,10 +125,10 @@ module _ {M : Type 1} (𝓤 : URA M) (H : Heap 𝓤) (A : Atoms 𝓤) (W : Given
   Post = walkOf 𝓤 H A f.ended stayed (f.clauses 𝓤 H A mem run) .post (((κ₁, tt), (q₁, tt), tt, x, at), tt)
 
   -- a record that is found is in use
-  in-use : (i : ℕ) → placeOf row used number ≡ Place-At i → i < used
-  in-use i e = subst (Under used) e (found-under (λ (j : ℕ). isNumbered (getD row j blank) number) used)
+  in-use : (i : ℕ) → objectPlace row used number ≡ Place-At i → i < used
+  in-use i e = subst (Under used) e (place-under row number used)
 
-  exits : (r : Found) (ws₁ : List Object) → ((r ≡ foundOf (row) (placeOf (row) used number)) × (ws₁ ≡ removedRow (row) used (placeOf (row) used number))) → Is (Found-p .row) r (Found-p .val r ∷ []) → length ws₁ ≡ n₁ → ent 𝓤 (⋆ 𝓤 H A (‵ (MutSlice (named 0) κ₁ Object-t.the-row .own (at-list b₁ o₁ γ₁ ws₁) (sliceVal (b₁, o₁) n₁ ∷ [])) ∷ ‵ (flft κ₁ q₁) ∷ [])) (Post (Found-p .val r))
+  exits : (r : Found) (ws₁ : List Object) → ((r ≡ foundOf (row) (objectPlace (row) used number)) × (ws₁ ≡ removedRow (row) used (objectPlace (row) used number))) → Is (Found-p .row) r (Found-p .val r ∷ []) → length ws₁ ≡ n₁ → ent 𝓤 (⋆ 𝓤 H A (‵ (MutSlice (named 0) κ₁ Object-t.the-row .own (at-list b₁ o₁ γ₁ ws₁) (sliceVal (b₁, o₁) n₁ ∷ [])) ∷ ‵ (flft κ₁ q₁) ∷ [])) (Post (Found-p .val r))
   exits r ws₁ said r-is len₁ =
       qed W (‵ (MutSlice (named 0) κ₁ Object-t.the-row .own (at-list b₁ o₁ γ₁ ws₁) (sliceVal (b₁, o₁) n₁ ∷ [])) ∷ ‵ (flft κ₁ q₁) ∷ []) ∵
       suffices ! _ (ends-at 𝓤 H A f.ended stayed (f.clauses 𝓤 H A mem run) W (((κ₁, tt), (q₁, tt), tt, x, at), tt) (Found-p .val r) r (ws₁, (tt, (tt, tt))) (len₁, (tt, (tt, tt)))) $ says ! said $ nothing ! $ move ! (2 ∷ 0 ∷ []) $ join ! $
@@ -161,7 +151,7 @@ module _ {M : Type 1} (𝓤 : URA M) (H : Heap 𝓤) (A : Atoms 𝓤) (W : Given
     abbrev En : Env 𝓤 H
     En = (Found-l.mir, l₀) ∷ ((sliceTy (tyRef (named 0) mut (pointee (Object-t.the-row .written)))), l₁) ∷ ((tyInt w64), l₂) ∷ (ObjectNumber-l.mir, l₃) ∷ (Place-l.mir, l₄) ∷ ((tyInt w64), l₅) ∷ (Object-l.mir, l₆) ∷ ((tyInt w64), l₇) ∷ (Object-l.mir, l₈) ∷ ((tyRef erased imm (pointee (Object-t.the-row .written))), l₉) ∷ ((sliceTy (tyRef erased imm (pointee (Object-t.the-row .written)))), l₁₀) ∷ (Found-l.mir, l₁₁) ∷ ((tyInt w64), l₁₂) ∷ (tyPtr, l₁₃) ∷ (Object-l.mir, l₁₄) ∷ (tyPtr, l₁₅) ∷ (tyPtr, l₁₆) ∷ []
 
-    matched-4-0 : (asks-3 : used ≤ length (row)) → (is-3 : Is (Place-p .row) (placeOf (row) used number) (Place-p .val (placeOf (row) used number) ∷ [])) → (z : Place) → (placeOf (row) used number) ≡ z → Is (Place-p .row) z (Place-p .val z ∷ []) → Sq W (‵ (MutSlice (named 0) κ₁ Object-t.the-row .own (at-list b₁ o₁ γ₁ row) (sliceVal (b₁, o₁) n₁ ∷ [])) ∷ ‵ (flft κ₁ q₁) ∷ free 𝓤 tyPtr l₁₆ (free 𝓤 tyPtr l₁₅ (free 𝓤 Object-l.mir l₁₄ (free 𝓤 tyPtr l₁₃ (free 𝓤 (tyInt w64) l₁₂ (free 𝓤 Found-l.mir l₁₁ (full 𝓤 (sliceTy (tyRef erased imm (pointee (Object-t.the-row .written)))) l₁₀ (sliceVal (b₁, o₁) n₁) (full 𝓤 (tyRef erased imm (pointee (Object-t.the-row .written))) l₉ (vptr b₁ o₁) (free 𝓤 Object-l.mir l₈ (free 𝓤 (tyInt w64) l₇ (free 𝓤 Object-l.mir l₆ (free 𝓤 (tyInt w64) l₅ (full 𝓤 Place-l.mir l₄ (Place-p .val z) (full 𝓤 ObjectNumber-l.mir l₃ (ObjectNumber-p .val number) (full 𝓤 (tyInt w64) l₂ (u64-p .val used) (full 𝓤 (sliceTy (tyRef (named 0) mut (pointee (Object-t.the-row .written)))) l₁ (sliceVal (b₁, o₁) n₁) (free 𝓤 Found-l.mir l₀ ([])))))))))))))))))) (runs C Λ En (one mir.t-4) (anyQ (afterSeq 𝓤 H (Wp 𝓤 H C Λ En mir.t-5 (atReturn 𝓤 H En Post)) (atReturn 𝓤 H En Post))))
+    matched-4-0 : (asks-3 : used ≤ length (row)) → (is-3 : Is (Place-p .row) (objectPlace (row) used number) (Place-p .val (objectPlace (row) used number) ∷ [])) → (z : Place) → (objectPlace (row) used number) ≡ z → Is (Place-p .row) z (Place-p .val z ∷ []) → Sq W (‵ (MutSlice (named 0) κ₁ Object-t.the-row .own (at-list b₁ o₁ γ₁ row) (sliceVal (b₁, o₁) n₁ ∷ [])) ∷ ‵ (flft κ₁ q₁) ∷ free 𝓤 tyPtr l₁₆ (free 𝓤 tyPtr l₁₅ (free 𝓤 Object-l.mir l₁₄ (free 𝓤 tyPtr l₁₃ (free 𝓤 (tyInt w64) l₁₂ (free 𝓤 Found-l.mir l₁₁ (full 𝓤 (sliceTy (tyRef erased imm (pointee (Object-t.the-row .written)))) l₁₀ (sliceVal (b₁, o₁) n₁) (full 𝓤 (tyRef erased imm (pointee (Object-t.the-row .written))) l₉ (vptr b₁ o₁) (free 𝓤 Object-l.mir l₈ (free 𝓤 (tyInt w64) l₇ (free 𝓤 Object-l.mir l₆ (free 𝓤 (tyInt w64) l₅ (full 𝓤 Place-l.mir l₄ (Place-p .val z) (full 𝓤 ObjectNumber-l.mir l₃ (ObjectNumber-p .val number) (full 𝓤 (tyInt w64) l₂ (u64-p .val used) (full 𝓤 (sliceTy (tyRef (named 0) mut (pointee (Object-t.the-row .written)))) l₁ (sliceVal (b₁, o₁) n₁) (free 𝓤 Found-l.mir l₀ ([])))))))))))))))))) (runs C Λ En (one mir.t-4) (anyQ (afterSeq 𝓤 H (Wp 𝓤 H C Λ En mir.t-5 (atReturn 𝓤 H En Post)) (atReturn 𝓤 H En Post))))
     matched-4-0 asks-3 is-3 (Place-At i) e-4 good-4 =
         knows ! (Is (u64-p .row) i (u64-p .val i ∷ [])) (EL.owed Place-t.the-type Place-l.the-laws (Place-At i) _ good-4 .0) (λ i-is.
         switches-on ! (load ! (from ! (vrt ! refl (fld ! refl (stop !)))) (look-tag ! 26 (whole !))) $ exec ! C Λ En (arm-of 0 (one mir.t-4)) (anyQ (afterSeq 𝓤 H (Wp 𝓤 H C Λ En mir.t-5 (atReturn 𝓤 H En Post)) (atReturn 𝓤 H En Post))) $
@@ -171,10 +161,10 @@ module _ {M : Type 1} (𝓤 : URA M) (H : Heap 𝓤) (A : Atoms 𝓤) (W : Given
         assigns ! (bin ! (load ! (from ! (fld ! refl (stop !))) (look-in ! 32 (sub ! 0 refl (whole !)))) (load ! (from ! (stop !)) (look ! 10 refl)) tt) (from ! (stop !)) (init ! 8 refl (tt, tt)) $
         rewrite ! 8 (λ (p : ℕ). ‵ (fat fullShare tyPtr l₁₃ 0 (vptr b₁ p))) (sym (place-is 8 o₁ i)) refl $
         knows ! (i < length row) ((omega (arith, ltb-true, ltb-false, leb-true, leb-false, eqb-true, eqb-false, in-use i e-4))) (λ index-4·At·4.
-        opens-elem ! tt Object-p b₁ o₁ row n₁ (refl) i ((Object-of (ObjectNumber-of 0) 0 0 (Handle-of 0))) index-4·At·4 (λ is-4·At·4.
-        assigns ! (of-opd ! (load ! (from ! (hop ! (look ! 12 refl) (stop !))) (look-raw ! 0 refl))) (from ! (stop !)) (init ! 10 refl (Object-p .typed 𝓤 H A W (getD row i ((Object-of (ObjectNumber-of 0) 0 0 (Handle-of 0)))) is-4·At·4)) $
-        shuts-elem ! tt Object-p b₁ o₁ row n₁ (refl) room₁ i ((Object-of (ObjectNumber-of 0) 0 0 (Handle-of 0))) index-4·At·4 $
-        assigns ! (of-opd ! (load ! (from ! (stop !)) (look ! 6 refl))) (from ! (stop !)) (init ! 22 refl (Object-p .typed 𝓤 H A W (getD row i ((Object-of (ObjectNumber-of 0) 0 0 (Handle-of 0)))) is-4·At·4)) $
+        opens-elem ! tt Object-p b₁ o₁ row n₁ (refl) i ((Object-of (ObjectNumber-of 0) 0 0 0)) index-4·At·4 (λ is-4·At·4.
+        assigns ! (of-opd ! (load ! (from ! (hop ! (look ! 12 refl) (stop !))) (look-raw ! 0 refl))) (from ! (stop !)) (init ! 10 refl (Object-p .typed 𝓤 H A W (getD row i ((Object-of (ObjectNumber-of 0) 0 0 0))) is-4·At·4)) $
+        shuts-elem ! tt Object-p b₁ o₁ row n₁ (refl) room₁ i ((Object-of (ObjectNumber-of 0) 0 0 0)) index-4·At·4 $
+        assigns ! (of-opd ! (load ! (from ! (stop !)) (look ! 6 refl))) (from ! (stop !)) (init ! 22 refl (Object-p .typed 𝓤 H A W (getD row i ((Object-of (ObjectNumber-of 0) 0 0 0))) is-4·At·4)) $
         knows ! (1 ≤ used) ((omega (arith, ltb-true, ltb-false, leb-true, leb-false, eqb-true, eqb-false, in-use i e-4))) (λ le-4·At·6.
         knows ! (used - 1 < 2 ^ 64) (omega (arith, used-is .1)) (λ fits-4·At·6.
         assigns ! (bin ! (load ! (from ! (stop !)) (look ! 30 refl)) (lit ! tt) (le-4·At·6)) (from ! (stop !)) (init ! 20 refl (u64-p .typed 𝓤 H A W (used - 1) ((refl, fits-4·At·6)))) $
@@ -183,23 +173,23 @@ module _ {M : Type 1} (𝓤 : URA M) (H : Heap 𝓤) (A : Atoms 𝓤) (W : Given
         assigns ! (bin ! (load ! (from ! (fld ! refl (stop !))) (look-in ! 32 (sub ! 0 refl (whole !)))) (load ! (from ! (stop !)) (look ! 10 refl)) tt) (from ! (stop !)) (init ! 4 refl (tt, tt)) $
         rewrite ! 4 (λ (p : ℕ). ‵ (fat fullShare tyPtr l₁₅ 0 (vptr b₁ p))) (sym (place-is 8 o₁ (used - 1))) refl $
         knows ! (used - 1 < length row) ((omega (arith, ltb-true, ltb-false, leb-true, leb-false, eqb-true, eqb-false, in-use i e-4))) (λ index-4·At·9.
-        opens-elem ! tt Object-p b₁ o₁ row n₁ (refl) (used - 1) ((Object-of (ObjectNumber-of 0) 0 0 (Handle-of 0))) index-4·At·9 (λ is-4·At·9.
-        assigns ! (of-opd ! (load ! (from ! (hop ! (look ! 8 refl) (stop !))) (look-raw ! 0 refl))) (from ! (stop !)) (store ! 10 refl (Object-p .typed 𝓤 H A W (getD row (used - 1) ((Object-of (ObjectNumber-of 0) 0 0 (Handle-of 0)))) is-4·At·9)) $
-        shuts-elem ! tt Object-p b₁ o₁ row n₁ (refl) room₁ (used - 1) ((Object-of (ObjectNumber-of 0) 0 0 (Handle-of 0))) index-4·At·9 $
-        assigns ! (of-opd ! (load ! (from ! (stop !)) (look ! 6 refl))) (from ! (stop !)) (init ! 18 refl (Object-p .typed 𝓤 H A W (getD row (used - 1) ((Object-of (ObjectNumber-of 0) 0 0 (Handle-of 0)))) is-4·At·9)) $
+        opens-elem ! tt Object-p b₁ o₁ row n₁ (refl) (used - 1) ((Object-of (ObjectNumber-of 0) 0 0 0)) index-4·At·9 (λ is-4·At·9.
+        assigns ! (of-opd ! (load ! (from ! (hop ! (look ! 8 refl) (stop !))) (look-raw ! 0 refl))) (from ! (stop !)) (store ! 10 refl (Object-p .typed 𝓤 H A W (getD row (used - 1) ((Object-of (ObjectNumber-of 0) 0 0 0))) is-4·At·9)) $
+        shuts-elem ! tt Object-p b₁ o₁ row n₁ (refl) room₁ (used - 1) ((Object-of (ObjectNumber-of 0) 0 0 0)) index-4·At·9 $
+        assigns ! (of-opd ! (load ! (from ! (stop !)) (look ! 6 refl))) (from ! (stop !)) (init ! 18 refl (Object-p .typed 𝓤 H A W (getD row (used - 1) ((Object-of (ObjectNumber-of 0) 0 0 0))) is-4·At·9)) $
         knows ! (i * 8 < 2 ^ 64) ((omega (arith, ltb-true, ltb-false, leb-true, leb-false, eqb-true, eqb-false, in-use i e-4))) (λ fits-4·At·11.
         assigns ! (bin ! (load ! (from ! (stop !)) (look ! 24 refl)) (lit ! tt) (record { fits = fits-4·At·11 })) (from ! (stop !)) (store ! 10 refl (u64-p .typed 𝓤 H A W (i * 8) ((refl, fits-4·At·11)))) $
         assigns ! (bin ! (load ! (from ! (fld ! refl (stop !))) (look-in ! 32 (sub ! 0 refl (whole !)))) (load ! (from ! (stop !)) (look ! 10 refl)) tt) (from ! (stop !)) (init ! 2 refl (tt, tt)) $
         rewrite ! 2 (λ (p : ℕ). ‵ (fat fullShare tyPtr l₁₆ 0 (vptr b₁ p))) (sym (place-is 8 o₁ i)) refl $
         knows ! (i < length row) ((omega (arith, ltb-true, ltb-false, leb-true, leb-false, eqb-true, eqb-false, in-use i e-4))) (λ index-4·At·13.
-        opens-elem ! tt Object-p b₁ o₁ row n₁ (refl) i ((Object-of (ObjectNumber-of 0) 0 0 (Handle-of 0))) index-4·At·13 (λ _.
-        assigns ! (of-opd ! (load ! (from ! (stop !)) (look ! 22 refl))) (from ! (hop ! (look ! 6 refl) (stop !))) (store-raw ! 0 refl (Object-p .typed 𝓤 H A W (getD row (used - 1) ((Object-of (ObjectNumber-of 0) 0 0 (Handle-of 0)))) is-4·At·9)) $
-        puts-elem ! tt Object-p b₁ o₁ row n₁ (refl) room₁ i ((Object-of (ObjectNumber-of 0) 0 0 (Handle-of 0))) (getD row (used - 1) ((Object-of (ObjectNumber-of 0) 0 0 (Handle-of 0)))) index-4·At·13 is-4·At·9 (λ len-4·At·13.
-        assigns-last ! (agg ! (and-then ! (lit ! tt) (and-then ! (load ! (from ! (stop !)) (look ! 22 refl)) (no-more !)))) (from ! (stop !)) (init ! 12 refl (Found-p .typed 𝓤 H A W (Found-Held (getD row i ((Object-of (ObjectNumber-of 0) 0 0 (Handle-of 0))))) (EL.owes Found-t.the-type Found-l.the-laws (Found-Held (getD row i ((Object-of (ObjectNumber-of 0) 0 0 (Handle-of 0))))) (is-4·At·4, tt)))) $
+        opens-elem ! tt Object-p b₁ o₁ row n₁ (refl) i ((Object-of (ObjectNumber-of 0) 0 0 0)) index-4·At·13 (λ _.
+        assigns ! (of-opd ! (load ! (from ! (stop !)) (look ! 22 refl))) (from ! (hop ! (look ! 6 refl) (stop !))) (store-raw ! 0 refl (Object-p .typed 𝓤 H A W (getD row (used - 1) ((Object-of (ObjectNumber-of 0) 0 0 0))) is-4·At·9)) $
+        puts-elem ! tt Object-p b₁ o₁ row n₁ (refl) room₁ i ((Object-of (ObjectNumber-of 0) 0 0 0)) (getD row (used - 1) ((Object-of (ObjectNumber-of 0) 0 0 0))) index-4·At·13 is-4·At·9 (λ len-4·At·13.
+        assigns-last ! (agg ! (and-then ! (lit ! tt) (and-then ! (load ! (from ! (stop !)) (look ! 22 refl)) (no-more !)))) (from ! (stop !)) (init ! 12 refl (Found-p .typed 𝓤 H A W (Found-Held (getD row i ((Object-of (ObjectNumber-of 0) 0 0 0)))) (EL.owes Found-t.the-type Found-l.the-laws (Found-Held (getD row i ((Object-of (ObjectNumber-of 0) 0 0 0)))) (is-4·At·4, tt)))) $
         exec ! C Λ En mir.t-5 (atRet En Post) $
-        assigns ! (of-opd ! (load ! (from ! (stop !)) (look ! 12 refl))) (from ! (stop !)) (init ! 34 refl (Found-p .typed 𝓤 H A W (Found-Held (getD row i ((Object-of (ObjectNumber-of 0) 0 0 (Handle-of 0))))) (EL.owes Found-t.the-type Found-l.the-laws (Found-Held (getD row i ((Object-of (ObjectNumber-of 0) 0 0 (Handle-of 0))))) (is-4·At·4, tt)))) $
+        assigns ! (of-opd ! (load ! (from ! (stop !)) (look ! 12 refl))) (from ! (stop !)) (init ! 34 refl (Found-p .typed 𝓤 H A W (Found-Held (getD row i ((Object-of (ObjectNumber-of 0) 0 0 0)))) (EL.owes Found-t.the-type Found-l.the-laws (Found-Held (getD row i ((Object-of (ObjectNumber-of 0) 0 0 0)))) (is-4·At·4, tt)))) $
         returns ! (look ! 34 refl) $ forget ! 2 refl $ forget ! 4 refl $ forget ! 6 refl $ forget ! 8 refl $ forget ! 10 refl $ forget ! 12 refl $ forget ! 14 refl $ forget ! 16 refl $ forget ! 18 refl $ forget ! 20 refl $ forget ! 22 refl $ forget ! 24 refl $ forget ! 26 refl $ forget ! 28 refl $ forget ! 30 refl $ forget ! 32 refl $ forget ! 34 refl $ move ! (34 ∷ 35 ∷ []) $ free1 ! $ move ! (32 ∷ 33 ∷ []) $ free1 ! $ move ! (30 ∷ 31 ∷ []) $ free1 ! $ move ! (28 ∷ 29 ∷ []) $ free1 ! $ move ! (26 ∷ 27 ∷ []) $ free1 ! $ move ! (24 ∷ 25 ∷ []) $ free1 ! $ move ! (22 ∷ 23 ∷ []) $ free1 ! $ move ! (20 ∷ 21 ∷ []) $ free1 ! $ move ! (18 ∷ 19 ∷ []) $ free1 ! $ move ! (16 ∷ 17 ∷ []) $ free1 ! $ move ! (14 ∷ 15 ∷ []) $ free1 ! $ move ! (12 ∷ 13 ∷ []) $ free1 ! $ move ! (10 ∷ 11 ∷ []) $ free1 ! $ move ! (8 ∷ 9 ∷ []) $ free1 ! $ move ! (6 ∷ 7 ∷ []) $ free1 ! $ move ! (4 ∷ 5 ∷ []) $ free1 ! $ move ! (2 ∷ 3 ∷ []) $ free1 ! $ free0 ! $
-        by ! (exits (Found-Held (getD row i ((Object-of (ObjectNumber-of 0) 0 0 (Handle-of 0))))) (set row i (getD row (used - 1) ((Object-of (ObjectNumber-of 0) 0 0 (Handle-of 0))))) ((ap (foundOf row) (sym e-4), ap (removedRow row used) (sym e-4))) (EL.owes Found-t.the-type Found-l.the-laws (Found-Held (getD row i ((Object-of (ObjectNumber-of 0) 0 0 (Handle-of 0))))) (is-4·At·4, tt)) len-4·At·13))))))))))))))
+        by ! (exits (Found-Held (getD row i ((Object-of (ObjectNumber-of 0) 0 0 0)))) (set row i (getD row (used - 1) ((Object-of (ObjectNumber-of 0) 0 0 0)))) ((ap (foundOf row) (sym e-4), ap (removedRow row used) (sym e-4))) (EL.owes Found-t.the-type Found-l.the-laws (Found-Held (getD row i ((Object-of (ObjectNumber-of 0) 0 0 0)))) (is-4·At·4, tt)) len-4·At·13))))))))))))))
     matched-4-0 asks-3 is-3 (Place-Nowhere) e-4 good-4 =
         switches-on ! (load ! (from ! (vrt ! refl (fld ! refl (stop !)))) (look-tag ! 26 (whole !))) $ exec ! C Λ En (arm-of 1 (one mir.t-4)) (anyQ (afterSeq 𝓤 H (Wp 𝓤 H C Λ En mir.t-5 (atReturn 𝓤 H En Post)) (atReturn 𝓤 H En Post))) $
         assigns-last ! (agg ! (and-then ! (lit ! tt) (no-more !))) (from ! (stop !)) (init ! 12 refl (Found-p .typed 𝓤 H A W Found-Nothing (EL.owes Found-t.the-type Found-l.the-laws Found-Nothing tt))) $
@@ -219,12 +209,12 @@ module _ {M : Type 1} (𝓤 : URA M) (H : Heap 𝓤) (A : Atoms 𝓤) (W : Given
         use1 W (raw (toks 𝓤 A 1 (((ν-3-row ∷ []), tt)) ((fullShare, tt)))) (id⊢ 𝓤 _) $ nothing ! $
         owned ! (ObjectNumber-p .row) (Is (ObjectNumber-p .row)) (ObjectNumber-p .makes 𝓤 H A W) number (ObjectNumber-p .val number ∷ []) number-is $ fjoin ! $
         owned ! (u64-p .row) (Is (u64-p .row)) (u64-p .makes 𝓤 H A W) used (u64-p .val used ∷ []) used-is $ fjoin ! $ move ! (2 ∷ 0 ∷ []) $ fjoin ! $ move ! (1 ∷ 0 ∷ []) $
-        calls-any ! fm 1 [] (object-rows-place.signature .params) (object-rows-place.ended .kept) Place-p (object-rows-place.clauses 𝓤 H A mem run) known-object-rows-place ((ν-3-row ∷ []), tt) (fullShare, tt) tt (at-list b₁ o₁ δ-3-row row, (used, (number, tt))) (sliceVal (b₁, o₁) n₁ ∷ [], (u64-p .val used ∷ [], (ObjectNumber-p .val number ∷ [], tt))) tt (placeOf (row) used number) (λ ws-3. Unit {0}) (factI 𝓤 (used ≤ length (row)) _ asks-3) (λ r ws-3. fact-mono 𝓤 (r ≡ placeOf (row) used number) ((r ≡ (placeOf (row) used number)) × (Unit {0})) (λ e. (e, tt))) (λ _. (and-then ! (load ! (from ! (stop !)) (look ! 14 refl)) (and-then ! (load ! (from ! (stop !)) (look ! 30 refl)) (and-then ! (load ! (from ! (stop !)) (look ! 28 refl)) (no-more !))))) (λ ws-3 said-3 is-3.
+        calls-any ! fm 1 [] (object-rows-place.signature .params) (object-rows-place.ended .kept) Place-p (object-rows-place.clauses 𝓤 H A mem run) known-object-rows-place ((ν-3-row ∷ []), tt) (fullShare, tt) tt (at-list b₁ o₁ δ-3-row row, (used, (number, tt))) (sliceVal (b₁, o₁) n₁ ∷ [], (u64-p .val used ∷ [], (ObjectNumber-p .val number ∷ [], tt))) tt (objectPlace (row) used number) (λ ws-3. Unit {0}) (factI 𝓤 (used ≤ length (row)) _ asks-3) (λ r ws-3. fact-mono 𝓤 (r ≡ objectPlace (row) used number) ((r ≡ (objectPlace (row) used number)) × (Unit {0})) (λ e. (e, tt))) (λ _. (and-then ! (load ! (from ! (stop !)) (look ! 14 refl)) (and-then ! (load ! (from ! (stop !)) (look ! 30 refl)) (and-then ! (load ! (from ! (stop !)) (look ! 28 refl)) (no-more !))))) (λ ws-3 said-3 is-3.
         use1 W ((‵ (flft (ν-3-row ∷ []) fullShare) ⊛ ‵ ftrue)) (id⊢ 𝓤 _) $ split ! $ move ! (2 ∷ []) $ fsplit ! $ move ! (2 ∷ 4 ∷ []) $
         backs-view ! tt Object-t.the-row b₁ o₁ row n₁ (refl) ν-3-row $ move ! (2 ∷ []) $ drop ! $ move ! (2 ∷ []) $ drop ! $ move ! (2 ∷ []) $ drop ! $
-        land ! (from ! (stop !)) (init ! 26 refl (Place-p .typed 𝓤 H A W (placeOf (row) used number) is-3)) $
+        land ! (from ! (stop !)) (init ! 26 refl (Place-p .typed 𝓤 H A W (objectPlace (row) used number) is-3)) $
         first ! $
-        matched-4-0 asks-3 is-3 (placeOf (row) used number) refl is-3)))
+        matched-4-0 asks-3 is-3 (objectPlace (row) used number) refl is-3)))
 
   module _ (𝓣 : Tables 𝓤 H) (known-object-rows-place : Triple 𝓤 (𝓣 .C #object-rows-place) (Of-object-rows-place 𝓤 H A mem run)) where
     walk : ent 𝓤 (onEntry 𝓤 H A f.signature (κ₁, tt) (q₁, tt) x at) (WpFn 𝓤 H (𝓣 .C) (𝓣 .Λ) code.function (sliceVal (b₁, o₁) n₁ ∷ u64-p .val used ∷ ObjectNumber-p .val number ∷ []) Post)

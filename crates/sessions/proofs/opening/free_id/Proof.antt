@@ -4,12 +4,13 @@ use mathlib.Core.Path.{_≡_, refl, _∙_}
 use native.Mathlib.Omega.{arith}
 use borrow.Author.Needs.{needs}
 use Rattle.sessions.proofs.opening.Laws.{free-hit, free-miss, free-none}
+use Rattle.sessions.specs.Table.{isFree}
 use Rattle.sessions.specs.Opening.{freeFrom, freeOf}
 use Rattle.sessions.proofs.opening.free_id.Statement.{statement}
 use Rattle.sessions.proofs.opening.free_id.Tie as tie
 
 abbrev Inv-loop : tie.InvT-loop
-Inv-loop sessions next id₀ left₀ id left = (left ≤ 255) × (freeFrom sessions id left ≡ freeOf sessions next)
+Inv-loop sessions next id₀ left₀ id left = (left ≤ 255) × (freeFrom (isFree sessions) id left ≡ freeOf sessions next)
 
 abbrev μ-loop : tie.MeasureT-loop
 μ-loop sessions next id₀ left₀ id left = left

@@ -4,12 +4,13 @@ use mathlib.Core.Path.{_≡_, _∙_}
 use native.Mathlib.Omega.{arith}
 use borrow.Author.Needs.{needs}
 use Rattle.sessions.proofs.opening.Laws.{live-none, live-more, live-all}
+use Rattle.sessions.specs.Table.{isFree}
 use Rattle.sessions.specs.Opening.{liveFrom}
 use Rattle.sessions.proofs.opening.live_count.Statement.{statement}
 use Rattle.sessions.proofs.opening.live_count.Tie as tie
 
 abbrev Inv-loop : tie.InvT-loop
-Inv-loop sessions i₀ n₀ i n = (1 ≤ i) × (i ≤ 256) × (n + i ≤ 256) × (n ≡ liveFrom sessions i (256 - i))
+Inv-loop sessions i₀ n₀ i n = (1 ≤ i) × (i ≤ 256) × (n + i ≤ 256) × (n ≡ liveFrom (isFree sessions) i (256 - i))
 
 abbrev μ-loop : tie.MeasureT-loop
 μ-loop sessions i₀ n₀ i n = i

@@ -53,7 +53,7 @@ use borrow.Rule.Slice.PartMut.{midOf, putMid}
 use Rattle.walk.proofs.Parts.{part-len, lends-part, backs-part, parts-shr}
 use Rattle.walk.proofs.Arrays.{rep-is, lends-array, backs-array}
 use Rattle.sessions.specs.SessionObjects.{objectsNamed, usedOf, firstObject, countedSession, keepUsed, foundObject, greatestObject, storedObject, storedObjects, keepStored, removedObjects, keepRemoved}
-use Rattle.sessions.specs.Objects.{placeOf, foundOf, greatestOf, storedOf, storedRow, removedRow}
+use Rattle.sessions.specs.Objects.{objectPlace, foundOf, greatestOf, storedOf, storedRow, removedRow}
 use Rattle.sessions.proofs.session_objects.Laws.{lent-row, found-is, found-lent, removed-is, removed-lent}
 use Rattle.sessions.specs.declared.objects.Object.{Object}
 use Rattle.sessions.proofs.objects.Object as Object-t
@@ -61,9 +61,6 @@ use Rattle.sessions.proofs.objects.Object.Laws as Object-l
 use Rattle.codec.specs.declared.submessages.ObjectNumber.{ObjectNumber}
 use Rattle.codec.proofs.submessages.ObjectNumber as ObjectNumber-t
 use Rattle.codec.proofs.submessages.ObjectNumber.Laws as ObjectNumber-l
-use Rattle.sessions.specs.declared.objects.Handle.{Handle}
-use Rattle.sessions.proofs.objects.Handle as Handle-t
-use Rattle.sessions.proofs.objects.Handle.Laws as Handle-l
 use Rattle.sessions.specs.declared.objects.Found.{Found}
 use Rattle.sessions.proofs.objects.Found as Found-t
 use Rattle.sessions.proofs.objects.Found.Laws as Found-l
@@ -106,7 +103,7 @@ use Rattle.sessions.proofs.session_objects.remove_object.Statement as s
 use Rattle.sessions.proofs.session_objects.remove_object.Code as code
 use Rattle.sessions.proofs.session_objects.remove_object.Code.Mir as mir
 
-abbrev Object-of : ObjectNumber → ℕ → ℕ → Handle → Object
+abbrev Object-of : ObjectNumber → ℕ → ℕ → ℕ → Object
 Object-of x0 x1 x2 x3 = record { number = x0; kind = x1; bridged = x2; handle = x3 }
 
 abbrev Object-p : Plain
@@ -117,12 +114,6 @@ ObjectNumber-of x0 = record { 0 = x0 }
 
 abbrev ObjectNumber-p : Plain
 ObjectNumber-p = record { row = ObjectNumber-t.the-row; val = LL.val ObjectNumber-t.the-type ObjectNumber-l.the-laws; tells = LL.tells ObjectNumber-t.the-type ObjectNumber-l.the-laws; makes = λ 𝓤 H A W. LL.makes ObjectNumber-t.the-type ObjectNumber-l.the-plain 𝓤 H A; ty = ObjectNumber-l.mir; typed = λ 𝓤 H A W x is. LL.lawful ObjectNumber-t.the-type ObjectNumber-l.the-laws 𝓤 H A W .typed x _ is .0; copies = λ 𝓤 H A W. LL.copy ObjectNumber-t.the-type ObjectNumber-l.the-copy 𝓤 H A W }
-
-abbrev Handle-of : ℕ → Handle
-Handle-of x0 = record { 0 = x0 }
-
-abbrev Handle-p : Plain
-Handle-p = record { row = Handle-t.the-row; val = LL.val Handle-t.the-type Handle-l.the-laws; tells = LL.tells Handle-t.the-type Handle-l.the-laws; makes = λ 𝓤 H A W. LL.makes Handle-t.the-type Handle-l.the-plain 𝓤 H A; ty = Handle-l.mir; typed = λ 𝓤 H A W x is. LL.lawful Handle-t.the-type Handle-l.the-laws 𝓤 H A W .typed x _ is .0; copies = λ 𝓤 H A W. LL.copy Handle-t.the-type Handle-l.the-copy 𝓤 H A W }
 
 abbrev Found-p : Plain
 Found-p = record { row = Found-t.the-row; val = EL.val Found-t.the-type Found-l.the-laws; tells = EL.tells Found-t.the-type Found-l.the-laws; makes = λ 𝓤 H A W. EL.makes Found-t.the-type Found-l.the-plain 𝓤 H A; ty = Found-l.mir; typed = λ 𝓤 H A W x is. EL.lawful Found-t.the-type Found-l.the-laws 𝓤 H A W tt .typed x _ is .0; copies = λ 𝓤 H A W. EL.copy Found-t.the-type Found-l.the-copy 𝓤 H A W }
@@ -195,7 +186,7 @@ module _ {M : Type 1} (𝓤 : URA M) (H : Heap 𝓤) (A : Atoms 𝓤) (W : Given
     abbrev En : Env 𝓤 H
     En = (Found-l.mir, l₀) ∷ ((sliceTy (tyRef (named 0) mut (pointee ((Array u64 5) .written)))), l₁) ∷ ((sliceTy (tyRef (named 1) mut (pointee (Object-t.the-row .written)))), l₂) ∷ ((tyInt w8), l₃) ∷ (ObjectNumber-l.mir, l₄) ∷ ((tyInt w64), l₅) ∷ (Named-l.mir, l₆) ∷ ((tyInt w64), l₇) ∷ ((tyInt w64), l₈) ∷ ((tyInt w64), l₉) ∷ (Found-l.mir, l₁₀) ∷ (Refusal-l.mir, l₁₁) ∷ ((tyRef erased imm (pointee ((Array u64 5) .written))), l₁₂) ∷ ((sliceTy (tyRef erased imm (pointee ((Array u64 5) .written)))), l₁₃) ∷ (Found-l.mir, l₁₄) ∷ ((tyRef erased imm (pointee ((Array u64 5) .written))), l₁₅) ∷ ((sliceTy (tyRef erased imm (pointee ((Array u64 5) .written)))), l₁₆) ∷ ((tyInt w64), l₁₇) ∷ (tyPtr, l₁₈) ∷ ((tyInt w64), l₁₉) ∷ ((tyRef erased mut (pointee (Object-t.the-row .written))), l₂₀) ∷ ((sliceTy (tyRef erased mut (pointee (Object-t.the-row .written)))), l₂₁) ∷ (tyUnit, l₂₂) ∷ ((tyRef erased mut (pointee ((Array u64 5) .written))), l₂₃) ∷ ((sliceTy (tyRef erased mut (pointee ((Array u64 5) .written)))), l₂₄) ∷ []
 
-    part-5·Live·12-0 : (is-4 : Is (Named-p .row) (objectsNamed (sessions) n₂ id) (Named-p .val (objectsNamed (sessions) n₂ id) ∷ [])) → (e-5 : objectsNamed (sessions) n₂ id ≡ Named-Live) → (good-5 : Is (Named-p .row) Named-Live (Named-p .val Named-Live ∷ [])) → (is-5·Live·1 : Is (u64-p .row) (firstObject id) (u64-p .val (firstObject id) ∷ [])) → (is-5·Live·2 : Is (u64-p .row) (firstObject id + 32) (u64-p .val (firstObject id + 32) ∷ [])) → (is-5·Live·5 : Is (u64-p .row) (usedOf (sessions) id) (u64-p .val (usedOf (sessions) id) ∷ [])) → (fits-5·Live·6 : (firstObject id) * 8 < 2 ^ 64) → (le-5·Live·8 : (firstObject id) ≤ (firstObject id + 32)) → (fits-5·Live·8 : (firstObject id + 32) - (firstObject id) < 2 ^ 64) → (part-5·Live·11-objects : (firstObject id) + ((firstObject id + 32) - (firstObject id)) ≤ length objects) → (ppart-5·Live·11-objects : length (midOf (firstObject id) ((firstObject id + 32) - (firstObject id)) objects) ≡ ((firstObject id + 32) - (firstObject id))) → (asks-5·Live·11 : (usedOf (sessions) id) ≤ length ((midOf (firstObject id) ((firstObject id + 32) - (firstObject id)) objects))) → (len-5·Live·11-objects : length (putMid (firstObject id) ((firstObject id + 32) - (firstObject id)) objects (removedRow ((midOf (firstObject id) ((firstObject id + 32) - (firstObject id)) objects)) (usedOf (sessions) id) (placeOf ((midOf (firstObject id) ((firstObject id + 32) - (firstObject id)) objects)) (usedOf (sessions) id) number))) ≡ n₂) → (is-5·Live·11 : Is (Found-p .row) (foundOf ((midOf (firstObject id) ((firstObject id + 32) - (firstObject id)) objects)) (placeOf ((midOf (firstObject id) ((firstObject id + 32) - (firstObject id)) objects)) (usedOf (sessions) id) number)) (Found-p .val (foundOf ((midOf (firstObject id) ((firstObject id + 32) - (firstObject id)) objects)) (placeOf ((midOf (firstObject id) ((firstObject id + 32) - (firstObject id)) objects)) (usedOf (sessions) id) number)) ∷ [])) → Sq W (‵ (MutSlice (named 0) κ₁ (Array u64 5) .own (at-list b₁ o₁ γ₁ sessions) (sliceVal (b₁, o₁) n₁ ∷ [])) ∷ ‵ (flft κ₁ q₁) ∷ ‵ (MutSlice (named 0) κ₂ Object-t.the-row .own (at-list b₂ o₂ γ₂ (putMid (firstObject id) ((firstObject id + 32) - (firstObject id)) objects (removedRow ((midOf (firstObject id) ((firstObject id + 32) - (firstObject id)) objects)) (usedOf (sessions) id) (placeOf ((midOf (firstObject id) ((firstObject id + 32) - (firstObject id)) objects)) (usedOf (sessions) id) number)))) (sliceVal (b₂, o₂) n₂ ∷ [])) ∷ ‵ (flft κ₂ q₂) ∷ free 𝓤 (sliceTy (tyRef erased mut (pointee ((Array u64 5) .written)))) l₂₄ (free 𝓤 (tyRef erased mut (pointee ((Array u64 5) .written))) l₂₃ (free 𝓤 tyUnit l₂₂ (full 𝓤 (sliceTy (tyRef erased mut (pointee (Object-t.the-row .written)))) l₂₁ (sliceVal (b₂, place 8 o₂ (firstObject id)) ((firstObject id + 32) - (firstObject id))) (full 𝓤 (tyRef erased mut (pointee (Object-t.the-row .written))) l₂₀ (vptr b₂ (place 8 o₂ (firstObject id))) (full 𝓤 (tyInt w64) l₁₉ (u64-p .val ((firstObject id + 32) - (firstObject id))) (full 𝓤 tyPtr l₁₈ (vptr b₂ (place 8 o₂ (firstObject id))) (full 𝓤 (tyInt w64) l₁₇ (u64-p .val ((firstObject id) * 8)) (full 𝓤 (sliceTy (tyRef erased imm (pointee ((Array u64 5) .written)))) l₁₆ (sliceVal (b₁, o₁) n₁) (full 𝓤 (tyRef erased imm (pointee ((Array u64 5) .written))) l₁₅ (vptr b₁ o₁) (free 𝓤 Found-l.mir l₁₄ (full 𝓤 (sliceTy (tyRef erased imm (pointee ((Array u64 5) .written)))) l₁₃ (sliceVal (b₁, o₁) n₁) (full 𝓤 (tyRef erased imm (pointee ((Array u64 5) .written))) l₁₂ (vptr b₁ o₁) (free 𝓤 Refusal-l.mir l₁₁ (full 𝓤 Found-l.mir l₁₀ (Found-p .val (foundOf ((midOf (firstObject id) ((firstObject id + 32) - (firstObject id)) objects)) (placeOf ((midOf (firstObject id) ((firstObject id + 32) - (firstObject id)) objects)) (usedOf (sessions) id) number))) (full 𝓤 (tyInt w64) l₉ (u64-p .val (usedOf (sessions) id)) (full 𝓤 (tyInt w64) l₈ (u64-p .val (firstObject id + 32)) (full 𝓤 (tyInt w64) l₇ (u64-p .val (firstObject id)) (full 𝓤 Named-l.mir l₆ (Named-p .val Named-Live) (full 𝓤 (tyInt w64) l₅ (u64-p .val n₂) (full 𝓤 ObjectNumber-l.mir l₄ (ObjectNumber-p .val number) (full 𝓤 (tyInt w8) l₃ (u8-p .val id) (full 𝓤 (sliceTy (tyRef (named 1) mut (pointee (Object-t.the-row .written)))) l₂ (sliceVal (b₂, o₂) n₂) (full 𝓤 (sliceTy (tyRef (named 0) mut (pointee ((Array u64 5) .written)))) l₁ (sliceVal (b₁, o₁) n₁) (free 𝓤 Found-l.mir l₀ ([])))))))))))))))))))))))))) (runs C Λ En (past 11 (arm-of 0 (one mir.t-5))) (anyQ (afterSeq 𝓤 H (Wp 𝓤 H C Λ En mir.t-6 (atReturn 𝓤 H En Post)) (atReturn 𝓤 H En Post))))
+    part-5·Live·12-0 : (is-4 : Is (Named-p .row) (objectsNamed (sessions) n₂ id) (Named-p .val (objectsNamed (sessions) n₂ id) ∷ [])) → (e-5 : objectsNamed (sessions) n₂ id ≡ Named-Live) → (good-5 : Is (Named-p .row) Named-Live (Named-p .val Named-Live ∷ [])) → (is-5·Live·1 : Is (u64-p .row) (firstObject id) (u64-p .val (firstObject id) ∷ [])) → (is-5·Live·2 : Is (u64-p .row) (firstObject id + 32) (u64-p .val (firstObject id + 32) ∷ [])) → (is-5·Live·5 : Is (u64-p .row) (usedOf (sessions) id) (u64-p .val (usedOf (sessions) id) ∷ [])) → (fits-5·Live·6 : (firstObject id) * 8 < 2 ^ 64) → (le-5·Live·8 : (firstObject id) ≤ (firstObject id + 32)) → (fits-5·Live·8 : (firstObject id + 32) - (firstObject id) < 2 ^ 64) → (part-5·Live·11-objects : (firstObject id) + ((firstObject id + 32) - (firstObject id)) ≤ length objects) → (ppart-5·Live·11-objects : length (midOf (firstObject id) ((firstObject id + 32) - (firstObject id)) objects) ≡ ((firstObject id + 32) - (firstObject id))) → (asks-5·Live·11 : (usedOf (sessions) id) ≤ length ((midOf (firstObject id) ((firstObject id + 32) - (firstObject id)) objects))) → (len-5·Live·11-objects : length (putMid (firstObject id) ((firstObject id + 32) - (firstObject id)) objects (removedRow ((midOf (firstObject id) ((firstObject id + 32) - (firstObject id)) objects)) (usedOf (sessions) id) (objectPlace ((midOf (firstObject id) ((firstObject id + 32) - (firstObject id)) objects)) (usedOf (sessions) id) number))) ≡ n₂) → (is-5·Live·11 : Is (Found-p .row) (foundOf ((midOf (firstObject id) ((firstObject id + 32) - (firstObject id)) objects)) (objectPlace ((midOf (firstObject id) ((firstObject id + 32) - (firstObject id)) objects)) (usedOf (sessions) id) number)) (Found-p .val (foundOf ((midOf (firstObject id) ((firstObject id + 32) - (firstObject id)) objects)) (objectPlace ((midOf (firstObject id) ((firstObject id + 32) - (firstObject id)) objects)) (usedOf (sessions) id) number)) ∷ [])) → Sq W (‵ (MutSlice (named 0) κ₁ (Array u64 5) .own (at-list b₁ o₁ γ₁ sessions) (sliceVal (b₁, o₁) n₁ ∷ [])) ∷ ‵ (flft κ₁ q₁) ∷ ‵ (MutSlice (named 0) κ₂ Object-t.the-row .own (at-list b₂ o₂ γ₂ (putMid (firstObject id) ((firstObject id + 32) - (firstObject id)) objects (removedRow ((midOf (firstObject id) ((firstObject id + 32) - (firstObject id)) objects)) (usedOf (sessions) id) (objectPlace ((midOf (firstObject id) ((firstObject id + 32) - (firstObject id)) objects)) (usedOf (sessions) id) number)))) (sliceVal (b₂, o₂) n₂ ∷ [])) ∷ ‵ (flft κ₂ q₂) ∷ free 𝓤 (sliceTy (tyRef erased mut (pointee ((Array u64 5) .written)))) l₂₄ (free 𝓤 (tyRef erased mut (pointee ((Array u64 5) .written))) l₂₃ (free 𝓤 tyUnit l₂₂ (full 𝓤 (sliceTy (tyRef erased mut (pointee (Object-t.the-row .written)))) l₂₁ (sliceVal (b₂, place 8 o₂ (firstObject id)) ((firstObject id + 32) - (firstObject id))) (full 𝓤 (tyRef erased mut (pointee (Object-t.the-row .written))) l₂₀ (vptr b₂ (place 8 o₂ (firstObject id))) (full 𝓤 (tyInt w64) l₁₉ (u64-p .val ((firstObject id + 32) - (firstObject id))) (full 𝓤 tyPtr l₁₈ (vptr b₂ (place 8 o₂ (firstObject id))) (full 𝓤 (tyInt w64) l₁₇ (u64-p .val ((firstObject id) * 8)) (full 𝓤 (sliceTy (tyRef erased imm (pointee ((Array u64 5) .written)))) l₁₆ (sliceVal (b₁, o₁) n₁) (full 𝓤 (tyRef erased imm (pointee ((Array u64 5) .written))) l₁₅ (vptr b₁ o₁) (free 𝓤 Found-l.mir l₁₄ (full 𝓤 (sliceTy (tyRef erased imm (pointee ((Array u64 5) .written)))) l₁₃ (sliceVal (b₁, o₁) n₁) (full 𝓤 (tyRef erased imm (pointee ((Array u64 5) .written))) l₁₂ (vptr b₁ o₁) (free 𝓤 Refusal-l.mir l₁₁ (full 𝓤 Found-l.mir l₁₀ (Found-p .val (foundOf ((midOf (firstObject id) ((firstObject id + 32) - (firstObject id)) objects)) (objectPlace ((midOf (firstObject id) ((firstObject id + 32) - (firstObject id)) objects)) (usedOf (sessions) id) number))) (full 𝓤 (tyInt w64) l₉ (u64-p .val (usedOf (sessions) id)) (full 𝓤 (tyInt w64) l₈ (u64-p .val (firstObject id + 32)) (full 𝓤 (tyInt w64) l₇ (u64-p .val (firstObject id)) (full 𝓤 Named-l.mir l₆ (Named-p .val Named-Live) (full 𝓤 (tyInt w64) l₅ (u64-p .val n₂) (full 𝓤 ObjectNumber-l.mir l₄ (ObjectNumber-p .val number) (full 𝓤 (tyInt w8) l₃ (u8-p .val id) (full 𝓤 (sliceTy (tyRef (named 1) mut (pointee (Object-t.the-row .written)))) l₂ (sliceVal (b₂, o₂) n₂) (full 𝓤 (sliceTy (tyRef (named 0) mut (pointee ((Array u64 5) .written)))) l₁ (sliceVal (b₁, o₁) n₁) (free 𝓤 Found-l.mir l₀ ([])))))))))))))))))))))))))) (runs C Λ En (past 11 (arm-of 0 (one mir.t-5))) (anyQ (afterSeq 𝓤 H (Wp 𝓤 H C Λ En mir.t-6 (atReturn 𝓤 H En Post)) (atReturn 𝓤 H En Post))))
     part-5·Live·12-0 is-4 e-5 good-5 is-5·Live·1 is-5·Live·2 is-5·Live·5 fits-5·Live·6 le-5·Live·8 fits-5·Live·8 part-5·Live·11-objects ppart-5·Live·11-objects asks-5·Live·11 len-5·Live·11-objects is-5·Live·11 =
         assigns ! (addr ! (from ! (fld ! refl (hop ! (look-in ! 50 (sub ! 0 refl (whole !))) (stop !))))) (from ! (stop !)) (init ! 6 refl (tt, tt)) $
         assigns ! (agg ! (and-then ! (load ! (from ! (stop !)) (look ! 6 refl)) (and-then ! (load ! (from ! (fld ! refl (stop !))) (look-in ! 50 (sub ! 1 refl (whole !)))) (no-more !)))) (from ! (stop !)) (init ! 4 refl (tt, (tt, (record { fits = room₁ .0 }, tt)))) $
@@ -203,20 +194,20 @@ module _ {M : Type 1} (𝓤 : URA M) (H : Heap 𝓤) (A : Atoms 𝓤) (W : Given
         lends-mut ! tt (Array u64 5) b₁ o₁ sessions n₁ (refl) (λ ν-5·Live·14-sessions δ-5·Live·14-sessions.
         nothing ! $ move ! (1 ∷ 0 ∷ []) $ join ! $
         use1 W (raw (toks 𝓤 A 1 (((ν-5·Live·14-sessions ∷ []), tt)) ((fullShare, tt)))) (id⊢ 𝓤 _) $ nothing ! $
-        owned ! (Found-p .row) (Is (Found-p .row)) (Found-p .makes 𝓤 H A W) (foundOf ((midOf (firstObject id) ((firstObject id + 32) - (firstObject id)) objects)) (placeOf ((midOf (firstObject id) ((firstObject id + 32) - (firstObject id)) objects)) (usedOf (sessions) id) number)) (Found-p .val (foundOf ((midOf (firstObject id) ((firstObject id + 32) - (firstObject id)) objects)) (placeOf ((midOf (firstObject id) ((firstObject id + 32) - (firstObject id)) objects)) (usedOf (sessions) id) number)) ∷ []) is-5·Live·11 $ fjoin ! $
+        owned ! (Found-p .row) (Is (Found-p .row)) (Found-p .makes 𝓤 H A W) (foundOf ((midOf (firstObject id) ((firstObject id + 32) - (firstObject id)) objects)) (objectPlace ((midOf (firstObject id) ((firstObject id + 32) - (firstObject id)) objects)) (usedOf (sessions) id) number)) (Found-p .val (foundOf ((midOf (firstObject id) ((firstObject id + 32) - (firstObject id)) objects)) (objectPlace ((midOf (firstObject id) ((firstObject id + 32) - (firstObject id)) objects)) (usedOf (sessions) id) number)) ∷ []) is-5·Live·11 $ fjoin ! $
         owned ! (u8-p .row) (Is (u8-p .row)) (u8-p .makes 𝓤 H A W) id (u8-p .val id ∷ []) id-is $ fjoin ! $ move ! (2 ∷ 0 ∷ []) $ fjoin ! $ move ! (1 ∷ 0 ∷ []) $
-        calls-any ! fm 1 [] (session-objects-keep-removed.signature .params) (session-objects-keep-removed.ended .kept) unit-p (session-objects-keep-removed.clauses 𝓤 H A mem run) known-session-objects-keep-removed ((ν-5·Live·14-sessions ∷ []), tt) (fullShare, tt) tt (at-list b₁ o₁ δ-5·Live·14-sessions sessions, (id, (foundOf ((midOf (firstObject id) ((firstObject id + 32) - (firstObject id)) objects)) (placeOf ((midOf (firstObject id) ((firstObject id + 32) - (firstObject id)) objects)) (usedOf (sessions) id) number), tt))) (sliceVal (b₁, o₁) n₁ ∷ [], (u8-p .val id ∷ [], (Found-p .val (foundOf ((midOf (firstObject id) ((firstObject id + 32) - (firstObject id)) objects)) (placeOf ((midOf (firstObject id) ((firstObject id + 32) - (firstObject id)) objects)) (usedOf (sessions) id) number)) ∷ [], tt))) tt tt (λ ws-5·Live·14. (ws-5·Live·14 .0 ≡ keepRemoved (sessions) id (foundOf ((midOf (firstObject id) ((firstObject id + 32) - (firstObject id)) objects)) (placeOf ((midOf (firstObject id) ((firstObject id + 32) - (firstObject id)) objects)) (usedOf (sessions) id) number)))) (id⊢ 𝓤 _) (λ r ws-5·Live·14. fact-mono 𝓤 ((ws-5·Live·14 .0) ≡ keepRemoved (sessions) id (foundOf ((midOf (firstObject id) ((firstObject id + 32) - (firstObject id)) objects)) (placeOf ((midOf (firstObject id) ((firstObject id + 32) - (firstObject id)) objects)) (usedOf (sessions) id) number))) ((r ≡ tt) × ((ws-5·Live·14 .0 ≡ keepRemoved (sessions) id (foundOf ((midOf (firstObject id) ((firstObject id + 32) - (firstObject id)) objects)) (placeOf ((midOf (firstObject id) ((firstObject id + 32) - (firstObject id)) objects)) (usedOf (sessions) id) number))))) (λ e. (refl, e))) (λ _. (and-then ! (load ! (from ! (stop !)) (look ! 4 refl)) (and-then ! (load ! (from ! (stop !)) (look ! 46 refl)) (and-then ! (load ! (from ! (stop !)) (look ! 32 refl)) (no-more !))))) (λ ws-5·Live·14 said-5·Live·14 is-5·Live·14.
+        calls-any ! fm 1 [] (session-objects-keep-removed.signature .params) (session-objects-keep-removed.ended .kept) unit-p (session-objects-keep-removed.clauses 𝓤 H A mem run) known-session-objects-keep-removed ((ν-5·Live·14-sessions ∷ []), tt) (fullShare, tt) tt (at-list b₁ o₁ δ-5·Live·14-sessions sessions, (id, (foundOf ((midOf (firstObject id) ((firstObject id + 32) - (firstObject id)) objects)) (objectPlace ((midOf (firstObject id) ((firstObject id + 32) - (firstObject id)) objects)) (usedOf (sessions) id) number), tt))) (sliceVal (b₁, o₁) n₁ ∷ [], (u8-p .val id ∷ [], (Found-p .val (foundOf ((midOf (firstObject id) ((firstObject id + 32) - (firstObject id)) objects)) (objectPlace ((midOf (firstObject id) ((firstObject id + 32) - (firstObject id)) objects)) (usedOf (sessions) id) number)) ∷ [], tt))) tt tt (λ ws-5·Live·14. (ws-5·Live·14 .0 ≡ keepRemoved (sessions) id (foundOf ((midOf (firstObject id) ((firstObject id + 32) - (firstObject id)) objects)) (objectPlace ((midOf (firstObject id) ((firstObject id + 32) - (firstObject id)) objects)) (usedOf (sessions) id) number)))) (id⊢ 𝓤 _) (λ r ws-5·Live·14. fact-mono 𝓤 ((ws-5·Live·14 .0) ≡ keepRemoved (sessions) id (foundOf ((midOf (firstObject id) ((firstObject id + 32) - (firstObject id)) objects)) (objectPlace ((midOf (firstObject id) ((firstObject id + 32) - (firstObject id)) objects)) (usedOf (sessions) id) number))) ((r ≡ tt) × ((ws-5·Live·14 .0 ≡ keepRemoved (sessions) id (foundOf ((midOf (firstObject id) ((firstObject id + 32) - (firstObject id)) objects)) (objectPlace ((midOf (firstObject id) ((firstObject id + 32) - (firstObject id)) objects)) (usedOf (sessions) id) number))))) (λ e. (refl, e))) (λ _. (and-then ! (load ! (from ! (stop !)) (look ! 4 refl)) (and-then ! (load ! (from ! (stop !)) (look ! 46 refl)) (and-then ! (load ! (from ! (stop !)) (look ! 32 refl)) (no-more !))))) (λ ws-5·Live·14 said-5·Live·14 is-5·Live·14.
         use1 W ((‵ (flft (ν-5·Live·14-sessions ∷ []) fullShare) ⊛ ‵ ftrue)) (id⊢ 𝓤 _) $ split ! $ move ! (2 ∷ []) $ fsplit ! $ fsplit ! $ move ! (1 ∷ []) $
         feqL ! (λ wlen-5·Live·14-0.
         move ! (2 ∷ 4 ∷ 0 ∷ []) $
-        backs-mut ! tt (Array u64 5) b₁ o₁ sessions n₁ (refl) room₁ ν-5·Live·14-sessions δ-5·Live·14-sessions (ws-5·Live·14 .0) (keepRemoved (sessions) id (foundOf ((midOf (firstObject id) ((firstObject id + 32) - (firstObject id)) objects)) (placeOf ((midOf (firstObject id) ((firstObject id + 32) - (firstObject id)) objects)) (usedOf (sessions) id) number))) wlen-5·Live·14-0 (said-5·Live·14) (λ len-5·Live·14-sessions.
+        backs-mut ! tt (Array u64 5) b₁ o₁ sessions n₁ (refl) room₁ ν-5·Live·14-sessions δ-5·Live·14-sessions (ws-5·Live·14 .0) (keepRemoved (sessions) id (foundOf ((midOf (firstObject id) ((firstObject id + 32) - (firstObject id)) objects)) (objectPlace ((midOf (firstObject id) ((firstObject id + 32) - (firstObject id)) objects)) (usedOf (sessions) id) number))) wlen-5·Live·14-0 (said-5·Live·14) (λ len-5·Live·14-sessions.
         move ! (2 ∷ []) $ drop ! $ move ! (2 ∷ []) $ drop ! $
         land ! (from ! (stop !)) (init ! 8 refl (unit-p .typed 𝓤 H A W tt is-5·Live·14)) $
-        assigns-last ! (of-opd ! (load ! (from ! (stop !)) (look ! 32 refl))) (from ! (stop !)) (init ! 24 refl (Found-p .typed 𝓤 H A W (foundOf ((midOf (firstObject id) ((firstObject id + 32) - (firstObject id)) objects)) (placeOf ((midOf (firstObject id) ((firstObject id + 32) - (firstObject id)) objects)) (usedOf (sessions) id) number)) is-5·Live·11)) $
+        assigns-last ! (of-opd ! (load ! (from ! (stop !)) (look ! 32 refl))) (from ! (stop !)) (init ! 24 refl (Found-p .typed 𝓤 H A W (foundOf ((midOf (firstObject id) ((firstObject id + 32) - (firstObject id)) objects)) (objectPlace ((midOf (firstObject id) ((firstObject id + 32) - (firstObject id)) objects)) (usedOf (sessions) id) number)) is-5·Live·11)) $
         exec ! C Λ En mir.t-6 (atRet En Post) $
-        assigns ! (of-opd ! (load ! (from ! (stop !)) (look ! 24 refl))) (from ! (stop !)) (init ! 52 refl (Found-p .typed 𝓤 H A W (foundOf ((midOf (firstObject id) ((firstObject id + 32) - (firstObject id)) objects)) (placeOf ((midOf (firstObject id) ((firstObject id + 32) - (firstObject id)) objects)) (usedOf (sessions) id) number)) is-5·Live·11)) $
+        assigns ! (of-opd ! (load ! (from ! (stop !)) (look ! 24 refl))) (from ! (stop !)) (init ! 52 refl (Found-p .typed 𝓤 H A W (foundOf ((midOf (firstObject id) ((firstObject id + 32) - (firstObject id)) objects)) (objectPlace ((midOf (firstObject id) ((firstObject id + 32) - (firstObject id)) objects)) (usedOf (sessions) id) number)) is-5·Live·11)) $
         returns ! (look ! 52 refl) $ forget ! 4 refl $ forget ! 6 refl $ forget ! 8 refl $ forget ! 10 refl $ forget ! 12 refl $ forget ! 14 refl $ forget ! 16 refl $ forget ! 18 refl $ forget ! 20 refl $ forget ! 22 refl $ forget ! 24 refl $ forget ! 26 refl $ forget ! 28 refl $ forget ! 32 refl $ forget ! 34 refl $ forget ! 36 refl $ forget ! 38 refl $ forget ! 40 refl $ forget ! 42 refl $ forget ! 44 refl $ forget ! 46 refl $ forget ! 48 refl $ forget ! 50 refl $ forget ! 52 refl $ move ! (52 ∷ 53 ∷ []) $ free1 ! $ move ! (50 ∷ 51 ∷ []) $ free1 ! $ move ! (48 ∷ 49 ∷ []) $ free1 ! $ move ! (46 ∷ 47 ∷ []) $ free1 ! $ move ! (44 ∷ 45 ∷ []) $ free1 ! $ move ! (42 ∷ 43 ∷ []) $ free1 ! $ move ! (40 ∷ 41 ∷ []) $ free1 ! $ move ! (38 ∷ 39 ∷ []) $ free1 ! $ move ! (36 ∷ 37 ∷ []) $ free1 ! $ move ! (34 ∷ 35 ∷ []) $ free1 ! $ move ! (32 ∷ 33 ∷ []) $ free1 ! $ move ! (30 ∷ 31 ∷ []) $ free1 ! $ move ! (28 ∷ 29 ∷ []) $ free1 ! $ move ! (26 ∷ 27 ∷ []) $ free1 ! $ move ! (24 ∷ 25 ∷ []) $ free1 ! $ move ! (22 ∷ 23 ∷ []) $ free1 ! $ move ! (20 ∷ 21 ∷ []) $ free1 ! $ move ! (18 ∷ 19 ∷ []) $ free1 ! $ move ! (16 ∷ 17 ∷ []) $ free1 ! $ move ! (14 ∷ 15 ∷ []) $ free1 ! $ move ! (12 ∷ 13 ∷ []) $ free1 ! $ move ! (10 ∷ 11 ∷ []) $ free1 ! $ move ! (8 ∷ 9 ∷ []) $ free1 ! $ move ! (6 ∷ 7 ∷ []) $ free1 ! $ move ! (4 ∷ 5 ∷ []) $ free1 ! $ free0 ! $
-        by ! (exits (foundOf ((midOf (firstObject id) ((firstObject id + 32) - (firstObject id)) objects)) (placeOf ((midOf (firstObject id) ((firstObject id + 32) - (firstObject id)) objects)) (usedOf (sessions) id) number)) (keepRemoved (sessions) id (foundOf ((midOf (firstObject id) ((firstObject id + 32) - (firstObject id)) objects)) (placeOf ((midOf (firstObject id) ((firstObject id + 32) - (firstObject id)) objects)) (usedOf (sessions) id) number))) (putMid (firstObject id) ((firstObject id + 32) - (firstObject id)) objects (removedRow ((midOf (firstObject id) ((firstObject id + 32) - (firstObject id)) objects)) (usedOf (sessions) id) (placeOf ((midOf (firstObject id) ((firstObject id + 32) - (firstObject id)) objects)) (usedOf (sessions) id) number))) ((found-lent sessions objects id number e-5, refl, removed-lent sessions objects id number e-5)) is-5·Live·11 len-5·Live·14-sessions len-5·Live·11-objects)))))
+        by ! (exits (foundOf ((midOf (firstObject id) ((firstObject id + 32) - (firstObject id)) objects)) (objectPlace ((midOf (firstObject id) ((firstObject id + 32) - (firstObject id)) objects)) (usedOf (sessions) id) number)) (keepRemoved (sessions) id (foundOf ((midOf (firstObject id) ((firstObject id + 32) - (firstObject id)) objects)) (objectPlace ((midOf (firstObject id) ((firstObject id + 32) - (firstObject id)) objects)) (usedOf (sessions) id) number))) (putMid (firstObject id) ((firstObject id + 32) - (firstObject id)) objects (removedRow ((midOf (firstObject id) ((firstObject id + 32) - (firstObject id)) objects)) (usedOf (sessions) id) (objectPlace ((midOf (firstObject id) ((firstObject id + 32) - (firstObject id)) objects)) (usedOf (sessions) id) number))) ((found-lent sessions objects id number e-5, refl, removed-lent sessions objects id number e-5)) is-5·Live·11 len-5·Live·14-sessions len-5·Live·11-objects)))))
 
     matched-5-0 : (is-4 : Is (Named-p .row) (objectsNamed (sessions) n₂ id) (Named-p .val (objectsNamed (sessions) n₂ id) ∷ [])) → (z : Named) → (objectsNamed (sessions) n₂ id) ≡ z → Is (Named-p .row) z (Named-p .val z ∷ []) → Sq W (‵ (MutSlice (named 0) κ₁ (Array u64 5) .own (at-list b₁ o₁ γ₁ sessions) (sliceVal (b₁, o₁) n₁ ∷ [])) ∷ ‵ (flft κ₁ q₁) ∷ ‵ (MutSlice (named 0) κ₂ Object-t.the-row .own (at-list b₂ o₂ γ₂ objects) (sliceVal (b₂, o₂) n₂ ∷ [])) ∷ ‵ (flft κ₂ q₂) ∷ free 𝓤 (sliceTy (tyRef erased mut (pointee ((Array u64 5) .written)))) l₂₄ (free 𝓤 (tyRef erased mut (pointee ((Array u64 5) .written))) l₂₃ (free 𝓤 tyUnit l₂₂ (free 𝓤 (sliceTy (tyRef erased mut (pointee (Object-t.the-row .written)))) l₂₁ (free 𝓤 (tyRef erased mut (pointee (Object-t.the-row .written))) l₂₀ (free 𝓤 (tyInt w64) l₁₉ (free 𝓤 tyPtr l₁₈ (free 𝓤 (tyInt w64) l₁₇ (free 𝓤 (sliceTy (tyRef erased imm (pointee ((Array u64 5) .written)))) l₁₆ (free 𝓤 (tyRef erased imm (pointee ((Array u64 5) .written))) l₁₅ (free 𝓤 Found-l.mir l₁₄ (full 𝓤 (sliceTy (tyRef erased imm (pointee ((Array u64 5) .written)))) l₁₃ (sliceVal (b₁, o₁) n₁) (full 𝓤 (tyRef erased imm (pointee ((Array u64 5) .written))) l₁₂ (vptr b₁ o₁) (free 𝓤 Refusal-l.mir l₁₁ (free 𝓤 Found-l.mir l₁₀ (free 𝓤 (tyInt w64) l₉ (free 𝓤 (tyInt w64) l₈ (free 𝓤 (tyInt w64) l₇ (full 𝓤 Named-l.mir l₆ (Named-p .val z) (full 𝓤 (tyInt w64) l₅ (u64-p .val n₂) (full 𝓤 ObjectNumber-l.mir l₄ (ObjectNumber-p .val number) (full 𝓤 (tyInt w8) l₃ (u8-p .val id) (full 𝓤 (sliceTy (tyRef (named 1) mut (pointee (Object-t.the-row .written)))) l₂ (sliceVal (b₂, o₂) n₂) (full 𝓤 (sliceTy (tyRef (named 0) mut (pointee ((Array u64 5) .written)))) l₁ (sliceVal (b₁, o₁) n₁) (free 𝓤 Found-l.mir l₀ ([])))))))))))))))))))))))))) (runs C Λ En (one mir.t-5) (anyQ (afterSeq 𝓤 H (Wp 𝓤 H C Λ En mir.t-6 (atReturn 𝓤 H En Post)) (atReturn 𝓤 H En Post))))
     matched-5-0 is-4 (Named-Live) e-5 good-5 =
@@ -265,13 +256,13 @@ module _ {M : Type 1} (𝓤 : URA M) (H : Heap 𝓤) (A : Atoms 𝓤) (W : Given
         use1 W (raw (toks 𝓤 A 1 (((ν-5·Live·11-objects ∷ []), tt)) ((fullShare, tt)))) (id⊢ 𝓤 _) $ nothing ! $
         owned ! (ObjectNumber-p .row) (Is (ObjectNumber-p .row)) (ObjectNumber-p .makes 𝓤 H A W) number (ObjectNumber-p .val number ∷ []) number-is $ fjoin ! $
         owned ! (u64-p .row) (Is (u64-p .row)) (u64-p .makes 𝓤 H A W) (usedOf (sessions) id) (u64-p .val (usedOf (sessions) id) ∷ []) is-5·Live·5 $ fjoin ! $ move ! (2 ∷ 0 ∷ []) $ fjoin ! $ move ! (1 ∷ 0 ∷ []) $
-        calls-any ! fm 1 [] (object-rows-remove.signature .params) (object-rows-remove.ended .kept) Found-p (object-rows-remove.clauses 𝓤 H A mem run) known-object-rows-remove ((ν-5·Live·11-objects ∷ []), tt) (fullShare, tt) tt (at-list b₂ (place 8 o₂ (firstObject id)) δ-5·Live·11-objects (midOf (firstObject id) ((firstObject id + 32) - (firstObject id)) objects), (usedOf (sessions) id, (number, tt))) (sliceVal (b₂, (place 8 o₂ (firstObject id))) ((firstObject id + 32) - (firstObject id)) ∷ [], (u64-p .val (usedOf (sessions) id) ∷ [], (ObjectNumber-p .val number ∷ [], tt))) tt (foundOf ((midOf (firstObject id) ((firstObject id + 32) - (firstObject id)) objects)) (placeOf ((midOf (firstObject id) ((firstObject id + 32) - (firstObject id)) objects)) (usedOf (sessions) id) number)) (λ ws-5·Live·11. (ws-5·Live·11 .0 ≡ removedRow ((midOf (firstObject id) ((firstObject id + 32) - (firstObject id)) objects)) (usedOf (sessions) id) (placeOf ((midOf (firstObject id) ((firstObject id + 32) - (firstObject id)) objects)) (usedOf (sessions) id) number))) (factI 𝓤 ((usedOf (sessions) id) ≤ length ((midOf (firstObject id) ((firstObject id + 32) - (firstObject id)) objects))) _ asks-5·Live·11) (λ r ws-5·Live·11. fact-mono 𝓤 ((r ≡ foundOf ((midOf (firstObject id) ((firstObject id + 32) - (firstObject id)) objects)) (placeOf ((midOf (firstObject id) ((firstObject id + 32) - (firstObject id)) objects)) (usedOf (sessions) id) number)) × ((ws-5·Live·11 .0) ≡ removedRow ((midOf (firstObject id) ((firstObject id + 32) - (firstObject id)) objects)) (usedOf (sessions) id) (placeOf ((midOf (firstObject id) ((firstObject id + 32) - (firstObject id)) objects)) (usedOf (sessions) id) number))) ((r ≡ (foundOf ((midOf (firstObject id) ((firstObject id + 32) - (firstObject id)) objects)) (placeOf ((midOf (firstObject id) ((firstObject id + 32) - (firstObject id)) objects)) (usedOf (sessions) id) number))) × ((ws-5·Live·11 .0 ≡ removedRow ((midOf (firstObject id) ((firstObject id + 32) - (firstObject id)) objects)) (usedOf (sessions) id) (placeOf ((midOf (firstObject id) ((firstObject id + 32) - (firstObject id)) objects)) (usedOf (sessions) id) number)))) (λ e. (e .0, e .1))) (λ _. (and-then ! (load ! (from ! (stop !)) (look ! 10 refl)) (and-then ! (load ! (from ! (stop !)) (look ! 34 refl)) (and-then ! (load ! (from ! (stop !)) (look ! 44 refl)) (no-more !))))) (λ ws-5·Live·11 said-5·Live·11 is-5·Live·11.
+        calls-any ! fm 1 [] (object-rows-remove.signature .params) (object-rows-remove.ended .kept) Found-p (object-rows-remove.clauses 𝓤 H A mem run) known-object-rows-remove ((ν-5·Live·11-objects ∷ []), tt) (fullShare, tt) tt (at-list b₂ (place 8 o₂ (firstObject id)) δ-5·Live·11-objects (midOf (firstObject id) ((firstObject id + 32) - (firstObject id)) objects), (usedOf (sessions) id, (number, tt))) (sliceVal (b₂, (place 8 o₂ (firstObject id))) ((firstObject id + 32) - (firstObject id)) ∷ [], (u64-p .val (usedOf (sessions) id) ∷ [], (ObjectNumber-p .val number ∷ [], tt))) tt (foundOf ((midOf (firstObject id) ((firstObject id + 32) - (firstObject id)) objects)) (objectPlace ((midOf (firstObject id) ((firstObject id + 32) - (firstObject id)) objects)) (usedOf (sessions) id) number)) (λ ws-5·Live·11. (ws-5·Live·11 .0 ≡ removedRow ((midOf (firstObject id) ((firstObject id + 32) - (firstObject id)) objects)) (usedOf (sessions) id) (objectPlace ((midOf (firstObject id) ((firstObject id + 32) - (firstObject id)) objects)) (usedOf (sessions) id) number))) (factI 𝓤 ((usedOf (sessions) id) ≤ length ((midOf (firstObject id) ((firstObject id + 32) - (firstObject id)) objects))) _ asks-5·Live·11) (λ r ws-5·Live·11. fact-mono 𝓤 ((r ≡ foundOf ((midOf (firstObject id) ((firstObject id + 32) - (firstObject id)) objects)) (objectPlace ((midOf (firstObject id) ((firstObject id + 32) - (firstObject id)) objects)) (usedOf (sessions) id) number)) × ((ws-5·Live·11 .0) ≡ removedRow ((midOf (firstObject id) ((firstObject id + 32) - (firstObject id)) objects)) (usedOf (sessions) id) (objectPlace ((midOf (firstObject id) ((firstObject id + 32) - (firstObject id)) objects)) (usedOf (sessions) id) number))) ((r ≡ (foundOf ((midOf (firstObject id) ((firstObject id + 32) - (firstObject id)) objects)) (objectPlace ((midOf (firstObject id) ((firstObject id + 32) - (firstObject id)) objects)) (usedOf (sessions) id) number))) × ((ws-5·Live·11 .0 ≡ removedRow ((midOf (firstObject id) ((firstObject id + 32) - (firstObject id)) objects)) (usedOf (sessions) id) (objectPlace ((midOf (firstObject id) ((firstObject id + 32) - (firstObject id)) objects)) (usedOf (sessions) id) number)))) (λ e. (e .0, e .1))) (λ _. (and-then ! (load ! (from ! (stop !)) (look ! 10 refl)) (and-then ! (load ! (from ! (stop !)) (look ! 34 refl)) (and-then ! (load ! (from ! (stop !)) (look ! 44 refl)) (no-more !))))) (λ ws-5·Live·11 said-5·Live·11 is-5·Live·11.
         use1 W ((‵ (flft (ν-5·Live·11-objects ∷ []) fullShare) ⊛ ‵ ftrue)) (id⊢ 𝓤 _) $ split ! $ move ! (2 ∷ []) $ fsplit ! $ fsplit ! $ move ! (1 ∷ []) $
         feqL ! (λ wlen-5·Live·11-0.
         move ! (2 ∷ 4 ∷ 0 ∷ []) $
-        backs-part ! tt Object-t.the-row b₂ o₂ objects n₂ (refl) (firstObject id) ((firstObject id + 32) - (firstObject id)) ν-5·Live·11-objects δ-5·Live·11-objects (ws-5·Live·11 .0) (removedRow ((midOf (firstObject id) ((firstObject id + 32) - (firstObject id)) objects)) (usedOf (sessions) id) (placeOf ((midOf (firstObject id) ((firstObject id + 32) - (firstObject id)) objects)) (usedOf (sessions) id) number)) (said-5·Live·11) (λ len-5·Live·11-objects.
+        backs-part ! tt Object-t.the-row b₂ o₂ objects n₂ (refl) (firstObject id) ((firstObject id + 32) - (firstObject id)) ν-5·Live·11-objects δ-5·Live·11-objects (ws-5·Live·11 .0) (removedRow ((midOf (firstObject id) ((firstObject id + 32) - (firstObject id)) objects)) (usedOf (sessions) id) (objectPlace ((midOf (firstObject id) ((firstObject id + 32) - (firstObject id)) objects)) (usedOf (sessions) id) number)) (said-5·Live·11) (λ len-5·Live·11-objects.
         move ! (2 ∷ []) $ drop ! $ move ! (2 ∷ []) $ drop ! $
-        land ! (from ! (stop !)) (init ! 32 refl (Found-p .typed 𝓤 H A W (foundOf ((midOf (firstObject id) ((firstObject id + 32) - (firstObject id)) objects)) (placeOf ((midOf (firstObject id) ((firstObject id + 32) - (firstObject id)) objects)) (usedOf (sessions) id) number)) is-5·Live·11)) $ move ! (2 ∷ 3 ∷ 0 ∷ 1 ∷ 4 ∷ 5 ∷ 6 ∷ 7 ∷ 8 ∷ 9 ∷ 10 ∷ 11 ∷ 12 ∷ 13 ∷ 14 ∷ 15 ∷ 16 ∷ 17 ∷ 18 ∷ 19 ∷ 20 ∷ 21 ∷ 22 ∷ 23 ∷ 24 ∷ 25 ∷ 26 ∷ 27 ∷ 28 ∷ 29 ∷ 30 ∷ 31 ∷ 32 ∷ 33 ∷ 34 ∷ 35 ∷ 36 ∷ 37 ∷ 38 ∷ 39 ∷ 40 ∷ 41 ∷ 42 ∷ 43 ∷ 44 ∷ 45 ∷ 46 ∷ 47 ∷ 48 ∷ 49 ∷ 50 ∷ 51 ∷ 52 ∷ 53 ∷ []) $
+        land ! (from ! (stop !)) (init ! 32 refl (Found-p .typed 𝓤 H A W (foundOf ((midOf (firstObject id) ((firstObject id + 32) - (firstObject id)) objects)) (objectPlace ((midOf (firstObject id) ((firstObject id + 32) - (firstObject id)) objects)) (usedOf (sessions) id) number)) is-5·Live·11)) $ move ! (2 ∷ 3 ∷ 0 ∷ 1 ∷ 4 ∷ 5 ∷ 6 ∷ 7 ∷ 8 ∷ 9 ∷ 10 ∷ 11 ∷ 12 ∷ 13 ∷ 14 ∷ 15 ∷ 16 ∷ 17 ∷ 18 ∷ 19 ∷ 20 ∷ 21 ∷ 22 ∷ 23 ∷ 24 ∷ 25 ∷ 26 ∷ 27 ∷ 28 ∷ 29 ∷ 30 ∷ 31 ∷ 32 ∷ 33 ∷ 34 ∷ 35 ∷ 36 ∷ 37 ∷ 38 ∷ 39 ∷ 40 ∷ 41 ∷ 42 ∷ 43 ∷ 44 ∷ 45 ∷ 46 ∷ 47 ∷ 48 ∷ 49 ∷ 50 ∷ 51 ∷ 52 ∷ 53 ∷ []) $
         part-5·Live·12-0 is-4 e-5 good-5 is-5·Live·1 is-5·Live·2 is-5·Live·5 fits-5·Live·6 le-5·Live·8 fits-5·Live·8 part-5·Live·11-objects ppart-5·Live·11-objects asks-5·Live·11 len-5·Live·11-objects is-5·Live·11))))))))))))))
     matched-5-0 is-4 (Named-NotLive) e-5 good-5 =
         switches-on ! (load ! (from ! (vrt ! refl (fld ! refl (stop !)))) (look-tag ! 40 (whole !))) $ exec ! C Λ En (arm-of 1 (one mir.t-5)) (anyQ (afterSeq 𝓤 H (Wp 𝓤 H C Λ En mir.t-6 (atReturn 𝓤 H En Post)) (atReturn 𝓤 H En Post))) $

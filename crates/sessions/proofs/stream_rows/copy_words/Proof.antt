@@ -5,26 +5,28 @@ use native.Mathlib.Numerals.{add-one}
 use native.Mathlib.Omega.{arith}
 use lib.ListN.{length, set, getD}
 use lib.Seq.{paste, paste-zero, paste-suc, length-paste}
-use Rattle.sessions.proofs.stream_rows.Laws.{words-at}
-use Rattle.sessions.specs.Streams.{wordsFrom}
+use Rattle.streams.specs.Acknowledged.{listFrom}
+use Rattle.streams.proofs.Dropped.{listed-at}
+use Rattle.sessions.specs.Streams.{numberAt}
 use Rattle.codec.proofs.bytes.Laws.{put-copied}
 use Rattle.sessions.proofs.stream_rows.copy_words.Statement.{statement}
 use Rattle.sessions.proofs.stream_rows.copy_words.Tie as tie
 
 abbrev Inv-loop : tie.InvT-loop
-Inv-loop out₀ at src from i₀ out i = (i ≤ 16) × (out ≡ paste out₀ at (wordsFrom src from 16) i)
+Inv-loop out₀ at src from i₀ out i = (i ≤ 16) × (out ≡ paste out₀ at (listFrom (numberAt src) 16 from) i)
 
 abbrev μ-loop : tie.MeasureT-loop
 μ-loop out₀ at src from i₀ out i = 16 - i
 
 -- a turn leaves the row as long as it was
 kept : (c : tie.At-loop Inv-loop μ-loop) → length (c .loop .out) ≡ length (c .before .args .out .now)
+unfolding listFrom
 kept c =
     let a = c .before .args in
-    rw (c .loop .inv .1) (length-paste (a .out .now) (a .at) (wordsFrom (a .src .now) (a .from) 16) (c .loop .i) (omega arith) (omega arith))
+    rw (c .loop .inv .1) (length-paste (a .out .now) (a .at) (listFrom (numberAt (a .src .now)) 16 (a .from)) (c .loop .i) (omega arith) (omega arith))
 
 loop-holds : tie.Need-loop-holds Inv-loop μ-loop
-loop-holds c = (omega arith, paste-zero (c .args .out .now) (c .args .at) (wordsFrom (c .args .src .now) (c .args .from) 16))
+loop-holds c = (omega arith, paste-zero (c .args .out .now) (c .args .at) (listFrom (numberAt (c .args .src .now)) 16 (c .args .from)))
 
 add-out : tie.Need-add-out Inv-loop μ-loop
 add-out c = omega arith
@@ -51,11 +53,12 @@ loop-less : tie.Need-loop-less Inv-loop μ-loop
 loop-less c = omega arith
 
 loop-again : tie.Need-loop-again Inv-loop μ-loop
+unfolding listFrom
 loop-again c = let a = c .before .before .before .args in
     let l = c .before .before .loop in
-    let w = wordsFrom (a .src .now) (a .from) 16 in (
+    let w = listFrom (numberAt (a .src .now)) 16 (a .from) in (
       omega arith,
-      rw (l .inv .1, add-one (l .i), ← words-at (a .src .now) (a .from) 16 (l .i) (omega arith))
+      rw (l .inv .1, add-one (l .i), ← listed-at (numberAt (a .src .now)) 16 (a .from) (l .i) (omega arith))
           (paste-suc (a .out .now) (a .at) w (l .i) 0 (omega (arith, c .before .before .before .pre)) (omega arith)),
     )
 
@@ -63,10 +66,11 @@ same-length : tie.Need-same-length Inv-loop μ-loop
 same-length c = kept (c .before)
 
 returns : tie.Need-returns Inv-loop μ-loop
+unfolding listFrom
 returns c = let a = c .before .before .args in
     let l = c .before .loop in
     let e : l .i ≡ 16 = omega arith in
-    l .inv .1 ∙ rw e (put-copied (a .out .now) (a .at) (wordsFrom (a .src .now) (a .from) 16))
+    l .inv .1 ∙ rw e (put-copied (a .out .now) (a .at) (listFrom (numberAt (a .src .now)) 16 (a .from)))
 
 pub copy-words-spec : {M : Type 1} → statement M
 copy-words-spec =

@@ -2,6 +2,7 @@
 use borrow.Author.Needs.{needs}
 use lib.ListN.{List·getD-eq-default}
 use mathlib.Core.List.{[]}
+use Rattle.streams.specs.Acknowledged.{listFrom}
 use Rattle.sessions.specs.Streams.{streamOf}
 use Rattle.sessions.proofs.stream_rows.stream_at.Statement.{statement}
 use Rattle.sessions.proofs.stream_rows.stream_at.Tie as tie
@@ -22,7 +23,7 @@ returns : tie.Need-returns
 returns c = search needs
 
 returns-2 : tie.Need-returns-2
-unfolding streamOf
+unfolding streamOf listFrom
 returns-2 c = rw (c .new .ensures, List·getD-eq-default (c .before .before .args .streams .now) [] (c .before .if1 .left))
 
 pub stream-at-spec : {M : Type 1} → statement M

@@ -5,12 +5,12 @@ use native.Mathlib.Omega.{arith}
 use borrow.Author.Needs.{needs}
 use lib.ListN.{length}
 use Rattle.sessions.proofs.sweep.Laws.{count-none, count-more, count-all}
-use Rattle.sessions.specs.Sweep.{expiredFrom}
+use Rattle.sessions.specs.Sweep.{goes, expiredFrom}
 use Rattle.sessions.proofs.sweep.count_expired.Statement.{statement}
 use Rattle.sessions.proofs.sweep.count_expired.Tie as tie
 
 abbrev Inv-loop : tie.InvT-loop
-Inv-loop sessions time timeout-ms id₀ n₀ id n = (id ≤ 255) × (n + id ≤ 255) × (n ≡ length (expiredFrom sessions time timeout-ms (id + 1) (255 - id)))
+Inv-loop sessions time timeout-ms id₀ n₀ id n = (id ≤ 255) × (n + id ≤ 255) × (n ≡ length (expiredFrom (goes sessions time timeout-ms) (id + 1) (255 - id)))
 
 abbrev μ-loop : tie.MeasureT-loop
 μ-loop sessions time timeout-ms id₀ n₀ id n = id

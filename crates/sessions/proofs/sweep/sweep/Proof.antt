@@ -6,7 +6,7 @@ use borrow.Author.Needs.{needs}
 use lib.ListN.{length}
 use lib.Seq.{sets}
 use Rattle.sessions.proofs.sweep.Laws.{swept-turn, listed-turn, at-turn, swept-end, listed-end, listed-all}
-use Rattle.sessions.specs.Sweep.{expiredFrom, expiredIds, sweptFrom, sweptRows}
+use Rattle.sessions.specs.Sweep.{goes, expiredFrom, expiredIds, sweptFrom, sweptRows}
 use Rattle.sessions.proofs.sweep.sweep.Statement.{statement}
 use Rattle.sessions.proofs.sweep.sweep.Tie as tie
 
@@ -14,7 +14,7 @@ abbrev Inv-loop : tie.InvT-loop
 Inv-loop sessions₀ out₀ time timeout-ms i₀ at₀ sessions out i at =
     (1 ≤ i) × (i ≤ 256) × (at < i) × (length sessions ≡ length sessions₀) × (length out ≡ length out₀)
     × (sweptFrom sessions time timeout-ms i (256 - i) ≡ sweptRows sessions₀ time timeout-ms)
-    × (sets out at (expiredFrom sessions time timeout-ms i (256 - i)) ≡ sets out₀ 0 (expiredIds sessions₀ time timeout-ms))
+    × (sets out at (expiredFrom (goes sessions time timeout-ms) i (256 - i)) ≡ sets out₀ 0 (expiredIds sessions₀ time timeout-ms))
 
 abbrev μ-loop : tie.MeasureT-loop
 μ-loop sessions₀ out₀ time timeout-ms i₀ at₀ sessions out i at = 256 - i

@@ -6,8 +6,8 @@ use Rattle.sessions.specs.Table.{keptRows}
 use Rattle.sessions.proofs.table.keep_live.Statement.{statement}
 use Rattle.sessions.proofs.table.keep_live.Tie as tie
 
-get-requires : tie.Need-get-requires
-get-requires c κs = search needs
+live-at-requires : tie.Need-live-at-requires
+live-at-requires c κs = search needs
 
 enum-told : tie.Need-enum-told
 enum-told c = search needs
@@ -26,7 +26,7 @@ same-length c = search needs
 
 returns : tie.Need-returns
 returns c = let a = c .before .before .before .before .before .before .before .args in
-    let g = c .before .before .before .before .before .get in (
+    let g = c .before .before .before .before .before .live-at in (
       g .ensures,
       c .before .keep-session .ensures
           ∙ ap (λ (n : Named). keptRows n (a .sessions .now) (a .id) (a .s)) (sym (c .before .before .before .enum-told .given .1) ∙ g .ensures),
@@ -37,7 +37,7 @@ same-length-2 c = search needs
 
 returns-2 : tie.Need-returns-2
 returns-2 c = let a = c .before .before .before .before .args in
-    let g = c .before .before .get in (
+    let g = c .before .before .live-at in (
       g .ensures,
       ap (λ (n : Named). keptRows n (a .sessions .now) (a .id) (a .s)) (sym (c .enum-told2 .given .1) ∙ g .ensures),
     )
@@ -47,7 +47,7 @@ same-length-3 c = search needs
 
 returns-3 : tie.Need-returns-3
 returns-3 c = let a = c .before .before .before .before .args in
-    let g = c .before .before .get in (
+    let g = c .before .before .live-at in (
       g .ensures,
       ap (λ (n : Named). keptRows n (a .sessions .now) (a .id) (a .s)) (sym (c .enum-told3 .given .1) ∙ g .ensures),
     )
@@ -56,7 +56,7 @@ pub keep-live-spec : {M : Type 1} → statement M
 keep-live-spec =
     tie.close
     (tie.spec
-    get-requires
+    live-at-requires
     enum-told
     keep-session-requires
     enum-told-2

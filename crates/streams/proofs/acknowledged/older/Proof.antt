@@ -1,6 +1,6 @@
 -- `streams::acknowledged::older` meets its contract.
 use borrow.Author.Tests.{eq-eqb, ne-eqb, le-leb, lt-leb}
-use Rattle.streams.specs.Acknowledged.{older}
+use Rattle.streams.specs.Acknowledged.{namedFirst, older}
 use Rattle.streams.proofs.acknowledged.older.Statement.{statement}
 use Rattle.streams.proofs.acknowledged.older.Tie as tie
 
@@ -9,13 +9,13 @@ unfolding older
 returns c = rw (eq-eqb (c .before .args .length) 0 (c .if1 .taken))
 
 returns-2 : tie.Need-returns-2
-unfolding older
+unfolding namedFirst older
 returns-2 c =
     let a = c .before .before .before .before .args in
     rw (ne-eqb (a .length) 0 (c .before .before .before .if1 .left), c .before .before .if2 .taken, le-leb (a .best .seq) (a .number) (c .if3 .taken))
 
 returns-3 : tie.Need-returns-3
-unfolding older
+unfolding namedFirst older
 returns-3 c =
     let a = c .before .before .before .before .args in
     rw (ne-eqb (a .length) 0 (c .before .before .before .if1 .left), c .before .before .if2 .taken, lt-leb (a .best .seq) (a .number) (c .if3 .left))

@@ -1,0 +1,236 @@
+-- What is known before anything is touched: within the limits no call answers 16, and room is what a put finds.
+use Prim.Native.Nat.{ℕ, zero, suc, _<_, _≤_}
+use mathlib.Core.Path.{_≡_, refl, sym, ap, _∙_}
+use mathlib.Core.Bool.{Bool, true, false, cond}
+use mathlib.Core.List.{List}
+use native.Mathlib.Omega.{arith}
+use borrow.Author.Tests.{lt-ltb}
+use lib.Dec.{eqb, leb, ltb}
+use lib.ListN.{length, getD}
+use Rattle.codec.specs.Answers.{gives, numberIn}
+use Rattle.codec.specs.declared.submessages.ObjectNumber.{ObjectNumber}
+use Rattle.streams.specs.Places.{firstFrom}
+use Rattle.sessions.specs.Table.{sessionAt, isFree, namedOf, gotBy, gotOf}
+use Rattle.sessions.specs.Objects.{blank, objectPlace, foundOf, greaterOf, betterOf, greatestOf, slotOf, usedAfter}
+use Rattle.sessions.specs.SessionObjects.{objectRow, usedOf, objectsNamed, foundBy, foundObject, greatestBy, greatestObject, storedBy, storedObject}
+use Rattle.sessions.specs.Streams.{firstStream}
+use Rattle.sessions.specs.SessionStreams.{streamsUsed, streamsNamed, isStream, placeBy, streamPlace, openedAs, namedAs}
+use Rattle.sessions.specs.Limits.{limitsOf}
+use Rattle.sessions.specs.Room.{roomFor, roomOf}
+use Rattle.sessions.specs.Answers.{limitsAnswer, gotAnswer, namedAnswer, foundAnswer, storedAnswer, roomAnswer, openedAnswer, streamAnswer}
+use Rattle.sessions.specs.declared.limits.Limits.{Limits}
+use Rattle.sessions.specs.declared.limits.Limits.the-variants as limits
+use Rattle.sessions.specs.declared.objects.Object.{Object}
+use Rattle.sessions.specs.declared.objects.Found.{Found}
+use Rattle.sessions.specs.declared.objects.Found.the-variants as found
+use Rattle.sessions.specs.declared.objects.Place.{Place}
+use Rattle.sessions.specs.declared.objects.Place.the-variants.{At, Nowhere}
+use Rattle.sessions.specs.declared.objects.Stored.{Stored}
+use Rattle.sessions.specs.declared.objects.Stored.the-variants as stored
+use Rattle.sessions.specs.declared.room.Room.{Room}
+use Rattle.sessions.specs.declared.room.Room.the-variants.{Free, Full, NotLive, Refused}
+use Rattle.sessions.specs.declared.session_streams.StreamPlace.{StreamPlace}
+use Rattle.sessions.specs.declared.session_streams.StreamPlace.the-variants.{Have, Add}
+use Rattle.sessions.specs.declared.session_streams.StreamPlace.the-variants as place
+use Rattle.sessions.specs.declared.table.Named.{Named}
+use Rattle.sessions.specs.declared.table.Named.the-variants as named
+use Rattle.sessions.proofs.ObjectSearch.{Under, place-under}
+use Rattle.sessions.proofs.Reached.{named-when}
+use Rattle.sessions.proofs.limits.Laws.{Kept, kept-limits}
+use Rattle.sessions.proofs.table.Laws.{reach-named, live-fits, free-named}
+use Rattle.sessions.proofs.session_objects.Laws.{lent-row, row-lent, named-is}
+
+-- ---- within the limits no call on that id is refused
+
+module _ (sessions streams : List (List ℕ)) (objects : List Object) (id : ℕ) where
+  -- each number is 0, so that none is 16
+  pub record NoneRefused : Type 0 where
+    pub get : numberIn (gotAnswer (gotOf sessions id)) ≡ 0
+    -- touch and remove
+    pub named : numberIn (namedAnswer (namedOf sessions id)) ≡ 0
+    -- find_object and remove_object
+    pub find : (n : ObjectNumber) → numberIn (foundAnswer (foundObject sessions objects id n)) ≡ 0
+    pub greatest : (kind : ℕ) → numberIn (foundAnswer (greatestObject sessions objects id kind)) ≡ 0
+    pub put : (o : Object) → numberIn (storedAnswer (storedObject sessions objects id o)) ≡ 0
+    pub room : (n : ObjectNumber) → numberIn (roomAnswer (roomOf sessions objects id n)) ≡ 0
+    pub open-stream : (n : ℕ) → numberIn (openedAnswer (openedAs (streamPlace sessions streams id n))) ≡ 0
+    -- read_stream and write_stream
+    pub stream : (n : ℕ) → numberIn (streamAnswer (namedAs (streamPlace sessions streams id n))) ≡ 0
+
+  -- what an id names, by whether it is free
+  abbrev byFree : Bool → Named
+  byFree free = cond free named.NotLive named.Live
+
+  module _ (k : Kept sessions streams objects id) where
+    names : namedOf sessions id ≡ byFree (isFree sessions id)
+    names = named-when sessions id (k .sessions-long)
+
+    names-objects : objectsNamed sessions (length objects) id ≡ byFree (isFree sessions id)
+    unfolding objectsNamed
+    names-objects = sym (reach-named sessions id (usedOf sessions id) 32 (length objects) 8192 (k .objects-long) (k .objects-few)) ∙ names
+
+    names-streams : streamsNamed sessions (length streams) id ≡ byFree (isFree sessions id)
+    unfolding streamsNamed
+    names-streams = sym (reach-named sessions id (streamsUsed sessions id) 8 (length streams) 2048 (k .streams-long) (k .streams-few)) ∙ names
+
+    got-none : numberIn (gotAnswer (gotOf sessions id)) ≡ 0
+    unfolding gotOf
+    got-none = rw names (by (isFree sessions id))
+      where
+        by : (f : Bool) → numberIn (gotAnswer (gotBy (byFree f) sessions id)) ≡ 0
+        by true = refl
+        by false = refl
+
+    named-none : numberIn (namedAnswer (namedOf sessions id)) ≡ 0
+    named-none = rw names (by (isFree sessions id))
+      where
+        by : (f : Bool) → numberIn (namedAnswer (byFree f)) ≡ 0
+        by true = refl
+        by false = refl
+
+    -- a search and a choice refuse nothing
+    held : (row : List Object) (p : Place) → numberIn (foundAnswer (foundOf row p)) ≡ 0
+    held row (At i) = refl
+    held row Nowhere = refl
+
+    better : (best : Found) (o : Object) (kind : ℕ) → numberIn (foundAnswer best) ≡ 0 → numberIn (foundAnswer (betterOf best o kind)) ≡ 0
+    better best o kind e = by (eqb (o .kind) kind) best e
+      where
+        by : (f : Bool) (best : Found) → numberIn (foundAnswer best) ≡ 0 → numberIn (foundAnswer (cond f (greaterOf best o) best)) ≡ 0
+        by true (found.Held b) e = refl
+        by true found.Nothing e = refl
+        by true (found.Refused r) e = e
+        by false best e = e
+
+    best : (row : List Object) (used kind : ℕ) → numberIn (foundAnswer (greatestOf row used kind)) ≡ 0
+    best row zero kind = refl
+    best row (suc used) kind = better (greatestOf row used kind) (getD row used blank) kind (best row used kind)
+
+    find-none : (n : ObjectNumber) → numberIn (foundAnswer (foundObject sessions objects id n)) ≡ 0
+    unfolding foundObject
+    find-none n = rw names-objects (by (isFree sessions id))
+      where
+        by : (f : Bool) → numberIn (foundAnswer (foundBy (byFree f) sessions objects id n)) ≡ 0
+        by true = refl
+        by false = held (objectRow objects id) (objectPlace (objectRow objects id) (usedOf sessions id) n)
+
+    greatest-none : (kind : ℕ) → numberIn (foundAnswer (greatestObject sessions objects id kind)) ≡ 0
+    unfolding greatestObject
+    greatest-none kind = rw names-objects (by (isFree sessions id))
+      where
+        by : (f : Bool) → numberIn (foundAnswer (greatestBy (byFree f) sessions objects id kind)) ≡ 0
+        by true = refl
+        by false = best (objectRow objects id) (usedOf sessions id) kind
+
+    put-none : (o : Object) → numberIn (storedAnswer (storedObject sessions objects id o)) ≡ 0
+    unfolding storedObject
+    put-none o = rw names-objects (by (isFree sessions id))
+      where
+        fits : (f : Bool) (n : ℕ) → numberIn (storedAnswer (cond f (stored.Count n) stored.Full)) ≡ 0
+        fits true n = refl
+        fits false n = refl
+
+        by : (f : Bool) → numberIn (storedAnswer (storedBy (byFree f) sessions objects id o)) ≡ 0
+        by true = refl
+        by false = let p = objectPlace (objectRow objects id) (usedOf sessions id) (o .number) in fits (ltb (slotOf p (usedOf sessions id)) (length (objectRow objects id))) (usedAfter p (usedOf sessions id))
+
+    room-none : (n : ObjectNumber) → numberIn (roomAnswer (roomOf sessions objects id n)) ≡ 0
+    unfolding roomOf
+    room-none n = by (foundObject sessions objects id n) (find-none n)
+      where
+        beside : (f g : Bool) → numberIn (roomAnswer (cond f NotLive (cond g Free Full))) ≡ 0
+        beside true g = refl
+        beside false true = refl
+        beside false false = refl
+
+        by : (r : Found) → numberIn (foundAnswer r) ≡ 0 → numberIn (roomAnswer (roomFor r (sessionAt sessions id))) ≡ 0
+        by (found.Held o) e = refl
+        by found.Nothing e = beside (isFree sessions id) (ltb (usedOf sessions id) 32)
+        by (found.Refused r) e = e
+
+    stream-none : (n : ℕ) → (numberIn (openedAnswer (openedAs (streamPlace sessions streams id n))) ≡ 0) × (numberIn (streamAnswer (namedAs (streamPlace sessions streams id n))) ≡ 0)
+    unfolding streamPlace
+    stream-none n = rw names-streams (by (isFree sessions id))
+      where
+        Fine : StreamPlace → Type 0
+        Fine p = (numberIn (openedAnswer (openedAs p)) ≡ 0) × (numberIn (streamAnswer (namedAs p)) ≡ 0)
+
+        placed : (f g : Bool) (k used : ℕ) → Fine (cond f (Have k) (cond g place.Full (Add used)))
+        placed true g k used = (refl, refl)
+        placed false true k used = (refl, refl)
+        placed false false k used = (refl, refl)
+
+        by : (f : Bool) → Fine (placeBy (byFree f) sessions streams id n)
+        by true = (refl, refl)
+        by false =
+            let used = streamsUsed sessions id in
+            let k = firstFrom (isStream streams (firstStream id) n) used 0 in
+            placed (ltb k used) (leb 8 used) k used
+
+  -- "right after 15", with one check for all of them
+  pub within-none : limitsAnswer (limitsOf sessions streams objects id) ≡ gives tt → NoneRefused
+  within-none e =
+      let k = kept-limits sessions streams objects id (by (limitsOf sessions streams objects id) e) in
+      record {
+        get = got-none k;
+        named = named-none k;
+        find = find-none k;
+        greatest = greatest-none k;
+        put = put-none k;
+        room = room-none k;
+        open-stream = λ n. stream-none k n .0;
+        stream = λ n. stream-none k n .1;
+      }
+    where
+      by : (r : Limits) → limitsAnswer r ≡ gives tt → r ≡ limits.Within
+      by limits.Within e = refl
+      by (limits.Refused r) e = let z : _≡_ {A = ℕ} 0 1 = cc in absurd (omega arith)
+
+-- ---- room
+
+-- what storing an object comes to, told as room
+abbrev pub roomAs : Stored → Room
+roomAs (stored.Count n) = Free
+roomAs stored.Full = Full
+roomAs stored.NotLive = NotLive
+roomAs (stored.Refused r) = Refused r
+
+module _ (sessions : List (List ℕ)) (objects : List Object) (id : ℕ) (id< : id < 256) (o : Object) where
+  abbrev row : List Object
+  row = objectRow objects id
+
+  abbrev used : ℕ
+  used = usedOf sessions id
+
+  in-row : isFree sessions id ≡ false → used ≤ 32 → length row ≡ 32 → (p : Place) → Under used p
+      → roomFor (foundOf row p) (sessionAt sessions id) ≡ roomAs (cond (ltb (slotOf p used) (length row)) (stored.Count (usedAfter p used)) stored.Full)
+  in-row live few long (At i) u = rw (lt-ltb i (length row) (omega arith)) refl
+  in-row live few long Nowhere u = rw (live, long) (by (ltb used 32))
+    where
+      by : (b : Bool) → cond b Free Full ≡ roomAs (cond b (stored.Count (usedAfter Nowhere used)) stored.Full)
+      by true = refl
+      by false = refl
+
+  -- there is room exactly where putting an object of that number finds it
+  pub room-put : roomOf sessions objects id (o .number) ≡ roomAs (storedObject sessions objects id o)
+  unfolding roomOf foundObject storedObject
+  room-put = by (objectsNamed sessions (length objects) id) refl
+    where
+      by : (w : Named) → objectsNamed sessions (length objects) id ≡ w → roomFor (foundBy w sessions objects id (o .number)) (sessionAt sessions id) ≡ roomAs (storedBy w sessions objects id o)
+      by named.Live e =
+          let f = live-fits sessions id used 32 (length objects) 8192 (sym (named-is sessions objects id) ∙ e) in
+          let l = lent-row sessions objects id e id< in
+          in-row (f .live) (f .count) (sym (ap length (row-lent objects id)) ∙ l .long) (objectPlace row used (o .number)) (place-under row (o .number) used)
+      by named.NotLive e = rw (free-named sessions id used 32 (length objects) 8192 (sym (named-is sessions objects id) ∙ e)) refl
+      by (named.Refused r) e = refl
+
+  -- "full" exactly if a put would say so
+  pub full-exactly : (roomOf sessions objects id (o .number) ≡ Full → storedObject sessions objects id o ≡ stored.Full)
+      × (storedObject sessions objects id o ≡ stored.Full → roomOf sessions objects id (o .number) ≡ Full)
+  full-exactly = (λ e. by (storedObject sessions objects id o) (sym room-put ∙ e), λ e. room-put ∙ ap roomAs e)
+    where
+      by : (r : Stored) → roomAs r ≡ Full → r ≡ stored.Full
+      by (stored.Count n) e = let z : _≡_ {A = ℕ} 0 1 = cc in absurd (omega arith)
+      by stored.Full e = refl
+      by stored.NotLive e = let z : _≡_ {A = ℕ} 0 1 = cc in absurd (omega arith)
+      by (stored.Refused r) e = let z : _≡_ {A = ℕ} 0 1 = cc in absurd (omega arith)

@@ -1,0 +1,2 @@
+-- Laws of what 16 looks at.
+pub mod Laws

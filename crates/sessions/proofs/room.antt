@@ -1,0 +1,2 @@
+-- Laws of room for an object.
+pub mod Laws

@@ -1,0 +1,2 @@
+-- Laws of set-up.
+pub mod Laws

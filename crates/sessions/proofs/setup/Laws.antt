@@ -1,0 +1,69 @@
+-- A store that is cleared record by record, and what set-up accepts.
+use Prim.Native.Nat.{ℕ, zero, suc, _+_, _<_, _≤_}
+use mathlib.Core.Path.{_≡_, refl, sym, ap, _∙_}
+use mathlib.Core.Bool.{Bool, true, false, cond}
+use mathlib.Core.List.{List, [], _∷_, _++_}
+use native.Mathlib.Omega.{arith}
+use borrow.Author.Tests.{lt-leb, le-leb, leb-true}
+use lib.Dec.{leb}
+use lib.ListN.{length, set, getD, drop, replicate, length-append, length-drop, length-replicate, getD-replicate, List·getD-append}
+use Rattle.codec.specs.declared.refusals.Refusal.the-variants.{OverLimit}
+use Rattle.sessions.specs.Need.{storesFit}
+use Rattle.sessions.specs.Setup.{cleared, firstId, setUpFits, setUpOf}
+use Rattle.sessions.specs.declared.setup.SetUp.the-variants.{Ready, Refused}
+
+-- ---- one record more
+
+module _ {A : Type 0} (x : A) where
+  pub cleared-none : (store : List A) → store ≡ cleared 0 x store
+  unfolding cleared
+  cleared-none store = refl
+
+  one-more : (n : ℕ) (store : List A) → n < length store → set (replicate n x ++ drop n store) n x ≡ replicate (suc n) x ++ drop (suc n) store
+  one-more n [] h = let z : ⊥ = omega arith in absurd z
+  one-more zero (y ∷ store) h = refl
+  one-more (suc n) (y ∷ store) h = ap (λ (t : List A). x ∷ t) (one-more n store (omega arith))
+
+  pub cleared-more : (n : ℕ) (store : List A) → n < length store → set (cleared n x store) n x ≡ cleared (n + 1) x store
+  unfolding cleared
+  cleared-more n store h = let e : suc n ≡ n + 1 = omega arith in one-more n store h ∙ ap (λ (k : ℕ). replicate k x ++ drop k store) e
+
+  pub cleared-length : (n : ℕ) (store : List A) → n ≤ length store → length (cleared n x store) ≡ length store
+  unfolding cleared
+  cleared-length n store h = rw (length-append (replicate n x) (drop n store), length-replicate n x, length-drop n store) (omega arith)
+
+  pub cleared-at : (n : ℕ) (store : List A) (i : ℕ) (d : A) → i < n → getD (cleared n x store) i d ≡ x
+  unfolding cleared
+  cleared-at n store i d h = List·getD-append (replicate n x) (drop n store) d i (rw (length-replicate n x) h) ∙ getD-replicate n i x d h
+
+-- ---- what is accepted
+
+module _ (sessions streams objects max : ℕ) where
+  pub over-clients : 255 < max → false ≡ setUpFits sessions streams objects max
+  unfolding setUpFits
+  over-clients h = rw (lt-leb max 255 h)
+
+  pub by-stores : max ≤ 255 → storesFit sessions streams objects ≡ setUpFits sessions streams objects max
+  unfolding setUpFits
+  by-stores h = rw (le-leb max 255 h)
+
+  pub record Long : Type 0 where
+    pub clients : max ≤ 255
+    pub sessions-long : 256 ≤ sessions
+    pub streams-long : 2048 ≤ streams
+    pub objects-long : 8192 ≤ objects
+
+  pub accepts : setUpFits sessions streams objects max ≡ true → Long
+  unfolding setUpFits storesFit
+  accepts e = go (leb max 255) (leb 256 sessions) (leb 2048 streams) (leb 8192 objects) refl refl refl refl e
+    where
+      go : (a b c d : Bool) → leb max 255 ≡ a → leb 256 sessions ≡ b → leb 2048 streams ≡ c → leb 8192 objects ≡ d → cond a (cond b (cond c d false) false) false ≡ true → Long
+      go true true true true p q r s z = record { clients = leb-true max 255 p; sessions-long = leb-true 256 sessions q; streams-long = leb-true 2048 streams r; objects-long = leb-true 8192 objects s }
+      go true true true false p q r s z = let n : _≡_ {A = ℕ} 0 1 = cc in absurd (omega arith)
+      go true true false d p q r s z = let n : _≡_ {A = ℕ} 0 1 = cc in absurd (omega arith)
+      go true false c d p q r s z = let n : _≡_ {A = ℕ} 0 1 = cc in absurd (omega arith)
+      go false b c d p q r s z = let n : _≡_ {A = ℕ} 0 1 = cc in absurd (omega arith)
+
+  pub set-up-by : (b : Bool) → setUpFits sessions streams objects max ≡ b → cond b (Ready firstId) (Refused OverLimit) ≡ setUpOf sessions streams objects max
+  unfolding setUpOf
+  set-up-by b e = ap (λ (f : Bool). cond f (Ready firstId) (Refused OverLimit)) (sym e)

@@ -1,0 +1,86 @@
+-- What a stream answers is seen in what is kept of it: what stands in free places has no say, nor which place a message has.
+use Prim.Native.Nat.{ℕ, zero, suc}
+use mathlib.Core.Path.{_≡_, refl, sym, ap, _∙_}
+use mathlib.Core.Bool.{Bool, true, false, cond}
+use mathlib.Core.Option.{Option, none, some}
+use native.Mathlib.Omega.{arith}
+use lib.Dec.{eqb}
+use Rattle.streams.specs.declared.state.StreamState.{StreamState}
+use Rattle.streams.specs.Sequence.{plus, minus}
+use Rattle.streams.specs.Places.{isHeld}
+use Rattle.streams.specs.Acknowledged.{wanted, repeatsFrom, repeats, padded, repeatsOf, dropBefore, acknowledge, firstUnacked, heartbeatOf}
+use Rattle.streams.specs.Received.{bitmapOf, acknackOf, receivedOf}
+use Rattle.streams.specs.View.{heldBy, Kept, keptOf, acknackIn}
+use Rattle.streams.proofs.places.Laws.{never}
+use Rattle.streams.proofs.Heartbeat.{least, named, next-if-none}
+use Rattle.streams.proofs.Soundness.{receive-is}
+use Rattle.streams.proofs.Kept.{drop-kept}
+
+told : {A : Type 0} → Option A → Bool
+told (some x) = true
+told none = false
+
+-- two streams that hold the same numbers
+module _ (s t : StreamState) (same : (m : ℕ) → isHeld s m ≡ isHeld t m) where
+  repeats-from : (first bitmap k bit : ℕ) → repeatsFrom s first bitmap k bit ≡ repeatsFrom t first bitmap k bit
+  unfolding repeatsFrom wanted
+  repeats-from first bitmap zero bit = refl
+  repeats-from first bitmap (suc k) bit = rw (same (plus first bit), repeats-from first bitmap k (suc bit))
+
+  repeats-same : (first bitmap : ℕ) → repeats s first bitmap ≡ repeats t first bitmap
+  unfolding repeats
+  repeats-same first bitmap = repeats-from first bitmap 16 0
+
+  first-same : s .«next_send_seq» ≡ t .«next_send_seq» → firstUnacked s ≡ firstUnacked t
+  first-same next = by (isHeld s (firstUnacked s)) refl
+    where
+      nothing : isHeld s (firstUnacked s) ≡ false → (m : ℕ) (b : Bool) → isHeld s m ≡ b → isHeld s m ≡ false
+      nothing e m true h = absurd (never (named s m h) e)
+      nothing e m false h = h
+
+      by : (b : Bool) → isHeld s (firstUnacked s) ≡ b → firstUnacked s ≡ firstUnacked t
+      by true e =
+          let there = sym (same (firstUnacked s)) ∙ e in
+          let back = same (firstUnacked t) ∙ named t (firstUnacked s) there in
+          omega (arith, least s (firstUnacked t) back, least t (firstUnacked s) there)
+      by false e =
+          next-if-none s (λ m. nothing e m (isHeld s m) refl)
+          ∙ next
+          ∙ sym (next-if-none t (λ m. sym (same m) ∙ nothing e m (isHeld s m) refl))
+
+module _ {A : Type 0} (read : ℕ → ℕ → A) where
+  told-held : (s : StreamState) (m : ℕ) → told (heldBy read s m) ≡ isHeld s m
+  unfolding heldBy told
+  told-held s m = by (isHeld s m) _
+    where
+      by : (b : Bool) (x : A) → told (cond b (some x) none) ≡ b
+      by true x = refl
+      by false x = refl
+
+  module _ (s t : StreamState) (same : keptOf read s ≡ keptOf read t) where
+    held-same : (m : ℕ) → isHeld s m ≡ isHeld t m
+    held-same m = sym (told-held s m) ∙ ap (λ (k : Kept A). told (k .held m)) same ∙ told-held t m
+
+    pub accepts-same : (n : ℕ) → receivedOf s n .accepted ≡ receivedOf t n .accepted
+    accepts-same n = receive-is s n .0 ∙ ap (λ (k : Kept A). cond (eqb (k .number) 0) true (eqb n (k .expected))) same ∙ sym (receive-is t n .0)
+
+    pub acknack-same : (first last : ℕ) → acknackOf s first last ≡ acknackOf t first last
+    unfolding acknackOf
+    acknack-same first last =
+        let e : s .«next_recv_seq» ≡ t .«next_recv_seq» = ap (λ (k : Kept A). k .expected) same in
+        λ i. record { «first_unacked_seq» = e i; «nack_bitmap» = bitmapOf (e i) first last }
+
+    pub heartbeat-same : heartbeatOf s ≡ heartbeatOf t
+    unfolding heartbeatOf
+    heartbeat-same =
+        let e : s .«next_send_seq» ≡ t .«next_send_seq» = ap (λ (k : Kept A). k .next) same in
+        λ i. record { «first_unacked_seq» = first-same s t held-same e i; «last_seq» = minus (e i) 1 }
+
+  -- what is listed of the numbers that an ACKNACK leaves
+  pub lists-same : (s t : StreamState) → keptOf read s ≡ keptOf read t → (first bitmap : ℕ)
+      → (acknowledge s first bitmap .repeats ≡ acknowledge t first bitmap .repeats) × (acknowledge s first bitmap .count ≡ acknowledge t first bitmap .count)
+  unfolding acknowledge repeatsOf
+  lists-same s t same first bitmap =
+      let left : keptOf read (dropBefore s first) ≡ keptOf read (dropBefore t first) = drop-kept read s first ∙ ap (acknackIn first) same ∙ sym (drop-kept read t first) in
+      let e : repeats (dropBefore s first) first bitmap ≡ repeats (dropBefore t first) first bitmap = repeats-same (dropBefore s first) (dropBefore t first) (held-same (dropBefore s first) (dropBefore t first) left) first bitmap in
+      (ap padded e, rw e refl)
