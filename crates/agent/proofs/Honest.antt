@@ -1,0 +1,117 @@
+-- The rules are honest about handles: a call has handles of the session's own objects only, and a handle is listed only where a CREATE got it.
+use mathlib.Core.Path.{_≡_, refl, sym, ap, _∙_}
+use Prim.Native.Nat.{ℕ}
+use mathlib.Core.Bool.{Bool, true, false, cond}
+use mathlib.Core.Option.{Option, none, some}
+use mathlib.Core.Logic.{_⊎_, inl, inr}
+use mathlib.Core.List.{List, [], _∷_, _++_, List·Memᴰ, List·Memᴰ·not-nil, List·Memᴰ·cases-cons, List·Memᴰ·eq-of-singleton}
+use Rattle.codec.specs.declared.submessages.ObjectKind.{ObjectKind}
+use Rattle.codec.specs.declared.submessages.ObjectKind.the-variants.{Participant, Topic, Publisher, Subscriber, DataWriter, DataReader}
+use Rattle.codec.specs.declared.submessages.Submessage.{Submessage}
+use Rattle.codec.specs.declared.submessages.Submessage.the-variants.{CreateClient, Create, Delete, Status, WriteData, ReadData, Data, Heartbeat, Acknack}
+use Rattle.isolation.proofs.Provenance.{Within, Fair, Honest}
+use Rattle.sessions.specs.View.{Entry, Local, findIn}
+use Rattle.agent.specs.Local.{touched, full, handleAt, handleOfKind}
+use Rattle.agent.specs.Calls.{Call, createWriter, createReader, Answer, created, succeeded, sample, noSample, failed, Task, creating, deleting, writing, reading, Pending}
+use Rattle.agent.specs.RulesObjects.{Move, ifHandle, createWith, createOf, deleteFound}
+use Rattle.agent.specs.RulesAnswers.{answerOf}
+use Rattle.agent.specs.Rules.{In, onSubmessage, rules, handlesIn, heldIn, grantedBy, handlesOf}
+use Rattle.agent.proofs.Held.{put-held, drop-held, Holds, find-held, greatest-held}
+
+module _ (timeout : ℕ) where
+  -- a rule at work on tables that hold what b holds
+  abbrev Good : Local → Move → Type 0
+  Good b m = Fair (rules timeout) (handlesOf timeout) b (heldIn (b .objects)) m
+
+  abbrev Uses : Local → Call → Type 0
+  Uses b c = (x : ℕ) → List·Memᴰ x (handlesIn c) → Holds (b .objects) x
+
+  no-handle : (b : Local) (x : ℕ) → List·Memᴰ x [] → Holds (b .objects) x
+  no-handle b x m = absurd (List·Memᴰ·not-nil m)
+
+  one-handle : (b : Local) (h : ℕ) → Holds (b .objects) h → (x : ℕ) → List·Memᴰ x (h ∷ []) → Holds (b .objects) x
+  one-handle b h p x m = rw (List·Memᴰ·eq-of-singleton m) p
+
+  two-handles : (b : Local) (h k : ℕ) → Holds (b .objects) h → Holds (b .objects) k → (x : ℕ) → List·Memᴰ x (h ∷ k ∷ []) → Holds (b .objects) x
+  two-handles b h k p q x m = go (List·Memᴰ·cases-cons m)
+    where
+      go : (x ≡ h) ⊎ List·Memᴰ x (k ∷ []) → Holds (b .objects) x
+      go (inl e) = rw e p
+      go (inr m) = one-handle b k q x m
+
+  module _ (b : Local) (time : ℕ) where
+    abbrev l : Local
+    l = touched time b
+
+    handle-fair : (x : Option ℕ) (f : ℕ → Move) (other : Move) → ((h : ℕ) → x ≡ some h → Good b (f h)) → Good b other → Good b (ifHandle x f other)
+    handle-fair none f other p q = q
+    handle-fair (some h) f other p q = p h refl
+
+    kept : (y : ℕ × ℕ) → List·Memᴰ y (heldIn (b .objects)) → List·Memᴰ y (heldIn (b .objects))
+    kept y m = m
+
+    -- a call with a Participant's and a Topic's handle
+    with-fair : (stream number : ℕ) (call : ℕ → ℕ → Call) → ((h k : ℕ) → handlesIn (call h k) ≡ h ∷ k ∷ []) → Good b (createWith stream number call l)
+    with-fair stream number call u =
+        handle-fair (handleOfKind 1 l) _ _
+        (λ h p. handle-fair (handleOfKind 2 l) _ _
+        (λ k q. (kept, kept, λ x m. two-handles b h k (greatest-held (b .objects) 1 h p) (greatest-held (b .objects) 2 k q) x (rw (← u h k) m))) kept) kept
+
+    create-fair : (kind : ObjectKind) (stream number parent : ℕ) (body : List ℕ) → Good b (createOf kind stream number parent body l)
+    create-fair Participant stream number parent body = (kept, kept, no-handle b)
+    create-fair Topic stream number parent body = handle-fair (handleAt parent l) _ _ (λ h e. (kept, kept, one-handle b h (find-held (b .objects) parent h e))) kept
+    create-fair Publisher stream number parent body = λ y m. put-held (b .objects) (record { number = number; kind = 3; handle = none }) y m
+    create-fair Subscriber stream number parent body = λ y m. put-held (b .objects) (record { number = number; kind = 4; handle = none }) y m
+    create-fair DataWriter stream number parent body = with-fair stream number createWriter (λ h k. refl)
+    create-fair DataReader stream number parent body = with-fair stream number createReader (λ h k. refl)
+
+    either : (c : Bool) (x y : Move) → Good b x → Good b y → Good b (cond c x y)
+    either true x y p q = p
+    either false x y p q = q
+
+    delete-fair : (stream number : ℕ) (x : Option Entry) → findIn (b .objects) number ≡ x → Good b (deleteFound stream number x l)
+    delete-fair stream number none e = kept
+    delete-fair stream number (some o) e =
+        handle-fair (o .handle) _ _
+        (λ h q. ((λ y m. drop-held (b .objects) number y m), kept, one-handle b h (find-held (b .objects) number h (rw e q)))) (λ y m. drop-held (b .objects) number y m)
+
+    submessage-fair : (m : Submessage) (body : List ℕ) (stream : ℕ) → Good b (onSubmessage m body stream l)
+    submessage-fair (CreateClient p) body stream = kept
+    submessage-fair (Create p) body stream = either (full (p .«object_id» .0) l) _ _ kept (create-fair (p .kind) stream (p .«object_id» .0) (p .«parent_id») body)
+    submessage-fair (Delete p) body stream = delete-fair stream (p .«object_id» .0) (findIn (b .objects) (p .«object_id» .0)) refl
+    submessage-fair (Status p) body stream = kept
+    submessage-fair (WriteData p) body stream = let n = p .«writer_id» .0 in handle-fair (handleAt n l) _ _ (λ h e. (kept, kept, one-handle b h (find-held (b .objects) n h e))) kept
+    submessage-fair (ReadData p) body stream = let n = p .«reader_id» .0 in handle-fair (handleAt n l) _ _ (λ h e. (kept, kept, one-handle b h (find-held (b .objects) n h e))) kept
+    submessage-fair (Data p) body stream = kept
+    submessage-fair (Heartbeat p) body stream = kept
+    submessage-fair (Acknack p) body stream = kept
+
+  answer-fair : (l : Local) (stream number : ℕ) (t : Task) (a : Answer)
+      → Fair (rules timeout) (handlesOf timeout) l (grantedBy t number a ++ heldIn (l .objects)) (answerOf t stream number a l)
+  answer-fair l stream number (creating kind) (created h) = λ y m. put-held (l .objects) (record { number = number; kind = kind; handle = some h }) y m
+  answer-fair l stream number (creating kind) succeeded = λ y m. m
+  answer-fair l stream number (creating kind) (sample d) = λ y m. m
+  answer-fair l stream number (creating kind) noSample = λ y m. m
+  answer-fair l stream number (creating kind) failed = λ y m. m
+  answer-fair l stream number deleting (created h) = λ y m. m
+  answer-fair l stream number deleting succeeded = λ y m. m
+  answer-fair l stream number deleting (sample d) = λ y m. m
+  answer-fair l stream number deleting noSample = λ y m. m
+  answer-fair l stream number deleting failed = λ y m. m
+  answer-fair l stream number writing (created h) = λ y m. m
+  answer-fair l stream number writing succeeded = λ y m. m
+  answer-fair l stream number writing (sample d) = λ y m. m
+  answer-fair l stream number writing noSample = λ y m. m
+  answer-fair l stream number writing failed = λ y m. m
+  answer-fair l stream number reading (created h) = λ y m. m
+  answer-fair l stream number reading succeeded = λ y m. m
+  answer-fair l stream number reading (sample d) = λ y m. m
+  answer-fair l stream number reading noSample = λ y m. m
+  answer-fair l stream number reading failed = λ y m. m
+
+  pub honest : Honest (rules timeout) (handlesOf timeout)
+  honest = record {
+    starts = λ i o y m. m;
+    on-submessages = λ l i. submessage-fair l (i .time) (i .fields) (i .body) (i .stream);
+    on-answers = λ l p a. answer-fair l (p .stream) (p .number) (p .task) a;
+  }

@@ -1,0 +1,97 @@
+-- CREATE, DELETE, WRITE_DATA and READ_DATA, on the tables of a session that was just touched. `stream` is the header's.
+use Prim.Native.Nat.{ℕ, _+_}
+use mathlib.Core.Bool.{cond}
+use mathlib.Core.Option.{Option, none, some}
+use mathlib.Core.List.{List, [], _∷_}
+use Rattle.codec.specs.Reading.{partOf}
+use Rattle.codec.specs.Strings.{stringAt}
+use Rattle.codec.specs.Submessages.{kindByte}
+use Rattle.codec.specs.declared.layouts.Span.{Span}
+use Rattle.codec.specs.declared.strings.StringRead.{StringRead}
+use Rattle.codec.specs.declared.strings.StringRead.the-variants as string
+use Rattle.codec.specs.declared.submessages.ObjectKind.{ObjectKind}
+use Rattle.codec.specs.declared.submessages.ObjectKind.the-variants.{Participant, Topic, Publisher, Subscriber, DataWriter, DataReader}
+use Rattle.codec.specs.declared.submessages.StatusCode.{StatusCode}
+use Rattle.codec.specs.declared.submessages.StatusCode.the-variants.{Ok, ErrUnknownRef, ErrInvalidData, ErrResources}
+use Rattle.isolation.specs.Rules.{Bytes, Outcome, done, calls}
+use Rattle.sessions.specs.View.{Entry, Local, findIn}
+use Rattle.agent.specs.Local.{listing, dropping, full, handleAt, handleOfKind}
+use Rattle.agent.specs.Calls.{Call, createParticipant, createTopic, createWriter, createReader, writeData, readData, deleteEntity, taskOf, Pending}
+use Rattle.agent.specs.Replies.{statusBytes}
+
+-- "It replies, hands out one call and waits, or does neither."
+abbrev pub Move : Type 0
+Move = Outcome Local Bytes Call Pending
+
+-- it replies STATUS for an object
+abbrev pub says : ℕ → ℕ → StatusCode → Local → Move
+says stream number code l = done l (statusBytes (l .id) stream number code ∷ [])
+
+-- it hands out a call for an object
+abbrev pub asks : ℕ → ℕ → Call → Local → Move
+asks stream number call l = calls l [] call (record { stream = stream; number = number; task = taskOf call })
+
+-- one thing with an object's handle, another where there is no such object or it has none
+abbrev pub ifHandle : Option ℕ → (ℕ → Move) → Move → Move
+ifHandle (some h) with without = with h
+ifHandle none with without = without
+
+-- ---- CREATE
+
+-- "Topic: name and type are two strings; if either is cut short, both become empty."
+pub record Names : Type 0 where
+  pub name : List ℕ
+  pub type : List ℕ
+
+abbrev pub noNames : Names
+noNames = record { name = []; type = [] }
+
+abbrev pub typeBehind : List ℕ → Span → StringRead → Names
+typeBehind body name (string.Text type) = record { name = partOf body name; type = partOf body type }
+typeBehind body name (string.Refused r) = noNames
+
+abbrev pub namesFrom : List ℕ → StringRead → Names
+namesFrom body (string.Text name) = typeBehind body name (stringAt body (name .start + name .len))
+namesFrom body (string.Refused r) = noNames
+
+unfoldable pub namesOf : List ℕ → Names
+namesOf body = namesFrom body (stringAt body 0)
+
+-- "DataWriter and DataReader ignore their parent number and use a Participant and a Topic of the session."
+abbrev pub createWith : ℕ → ℕ → (ℕ → ℕ → Call) → Local → Move
+createWith stream number call l =
+    ifHandle (handleOfKind (kindByte Participant) l)
+    (λ p. ifHandle (handleOfKind (kindByte Topic) l) (λ t. asks stream number (call p t) l) (says stream number ErrInvalidData l))
+    (says stream number ErrInvalidData l)
+
+-- A CREATE of each object kind: "The parent's handle comes from any object of that number."; "Publishers and Subscribers have no bridge
+-- handle."; "Within the object limit every failed CREATE answers ERR_INVALID_DATA and keeps an older object of that number."
+abbrev pub createOf : ObjectKind → ℕ → ℕ → ℕ → List ℕ → Local → Move
+createOf Participant stream number parent body l = asks stream number (createParticipant parent) l
+createOf Topic stream number parent body l =
+    ifHandle (handleAt parent l) (λ p. asks stream number (createTopic p (namesOf body .name) (namesOf body .type)) l) (says stream number ErrInvalidData l)
+createOf Publisher stream number parent body l = says stream number Ok (listing number (kindByte Publisher) none l)
+createOf Subscriber stream number parent body l = says stream number Ok (listing number (kindByte Subscriber) none l)
+createOf DataWriter stream number parent body l = createWith stream number createWriter l
+createOf DataReader stream number parent body l = createWith stream number createReader l
+
+-- "CREATE of a 33rd number answers ERR_RESOURCES before any lookup or call."
+abbrev pub onCreate : ObjectKind → ℕ → ℕ → ℕ → List ℕ → Local → Move
+onCreate kind stream number parent body l = cond (full number l) (says stream number ErrResources l) (createOf kind stream number parent body l)
+
+-- ---- DELETE, WRITE_DATA and READ_DATA "take an object of any kind"; "unknown objects ERR_UNKNOWN_REF"
+
+-- "DELETE drops its object before its call."; of a Publisher or Subscriber it "answers OK without a call"
+abbrev pub deleteFound : ℕ → ℕ → Option Entry → Local → Move
+deleteFound stream number none l = says stream number ErrUnknownRef l
+deleteFound stream number (some e) l = ifHandle (e .handle) (λ h. asks stream number (deleteEntity h) (dropping number l)) (says stream number Ok (dropping number l))
+
+abbrev pub onDelete : ℕ → ℕ → Local → Move
+onDelete stream number l = deleteFound stream number (findIn (l .objects) number) l
+
+abbrev pub onWrite : ℕ → ℕ → List ℕ → Local → Move
+onWrite stream number body l = ifHandle (handleAt number l) (λ h. asks stream number (writeData h body) l) (says stream number ErrUnknownRef l)
+
+-- "`max_samples` is unused"
+abbrev pub onRead : ℕ → ℕ → Local → Move
+onRead stream number l = ifHandle (handleAt number l) (λ h. asks stream number (readData h) l) (says stream number ErrUnknownRef l)
