@@ -11,8 +11,8 @@ use Rattle.isolation.proofs.Simulation.{none-some}
 use Rattle.sessions.specs.declared.objects.Place.{Place}
 use Rattle.sessions.specs.declared.objects.Place.the-variants.{At, Nowhere}
 use Rattle.sessions.specs.View.{Entry, blankEntry, placeIn, heldAt, findIn, putEntry, putIn, dropAt, dropIn, greaterIn, greatestUpTo, greatestIn}
-use Rattle.agent.specs.Local.{handleOf}
-use Rattle.agent.specs.Rules.{heldAs, heldIn}
+use Rattle.agent.specs.Local.{entryHandle}
+use Rattle.agent.specs.Rules.{heldAs, handlesHeld}
 
 abbrev Pairs : Type 0
 Pairs = List (ℕ × ℕ)
@@ -53,77 +53,77 @@ past x e a b f y m = go (split (x .number) (x .handle) a y m)
 
 -- ---- the operations on lists
 
-pub getD-held : (es : List Entry) (i h : ℕ) → getD es i blankEntry .handle ≡ some h → List·Memᴰ (getD es i blankEntry .number, h) (heldIn es)
+pub getD-held : (es : List Entry) (i h : ℕ) → getD es i blankEntry .handle ≡ some h → List·Memᴰ (getD es i blankEntry .number, h) (handlesHeld es)
 getD-held [] i h e = absurd (none-some e)
-getD-held (x ∷ es) zero h e = here (x .number) h (x .handle) (heldIn es) e
-getD-held (x ∷ es) (suc i) h e = under (x .number) (x .handle) (heldIn es) _ (getD-held es i h e)
+getD-held (x ∷ es) zero h e = here (x .number) h (x .handle) (handlesHeld es) e
+getD-held (x ∷ es) (suc i) h e = under (x .number) (x .handle) (handlesHeld es) _ (getD-held es i h e)
 
-set-held : (es : List Entry) (i : ℕ) (e : Entry) (y : ℕ × ℕ) → List·Memᴰ y (heldIn (set es i e)) → List·Memᴰ y (heldAs (e .number) (e .handle) (heldIn es))
+set-held : (es : List Entry) (i : ℕ) (e : Entry) (y : ℕ × ℕ) → List·Memᴰ y (handlesHeld (set es i e)) → List·Memᴰ y (heldAs (e .number) (e .handle) (handlesHeld es))
 set-held [] i e y m = absurd (List·Memᴰ·not-nil m)
-set-held (x ∷ es) zero e y m = mono (e .number) (e .handle) (heldIn es) _ (λ z k. under (x .number) (x .handle) (heldIn es) z k) y m
-set-held (x ∷ es) (suc i) e y m = past x e (heldIn (set es i e)) (heldIn es) (λ z k. set-held es i e z k) y m
+set-held (x ∷ es) zero e y m = mono (e .number) (e .handle) (handlesHeld es) _ (λ z k. under (x .number) (x .handle) (handlesHeld es) z k) y m
+set-held (x ∷ es) (suc i) e y m = past x e (handlesHeld (set es i e)) (handlesHeld es) (λ z k. set-held es i e z k) y m
 
-append-held : (es : List Entry) (e : Entry) (y : ℕ × ℕ) → List·Memᴰ y (heldIn (es ++ (e ∷ []))) → List·Memᴰ y (heldAs (e .number) (e .handle) (heldIn es))
+append-held : (es : List Entry) (e : Entry) (y : ℕ × ℕ) → List·Memᴰ y (handlesHeld (es ++ (e ∷ []))) → List·Memᴰ y (heldAs (e .number) (e .handle) (handlesHeld es))
 append-held [] e y m = m
-append-held (x ∷ es) e y m = past x e (heldIn (es ++ (e ∷ []))) (heldIn es) (λ z k. append-held es e z k) y m
+append-held (x ∷ es) e y m = past x e (handlesHeld (es ++ (e ∷ []))) (handlesHeld es) (λ z k. append-held es e z k) y m
 
-take-held : (k : ℕ) (es : List Entry) (y : ℕ × ℕ) → List·Memᴰ y (heldIn (take k es)) → List·Memᴰ y (heldIn es)
+take-held : (k : ℕ) (es : List Entry) (y : ℕ × ℕ) → List·Memᴰ y (handlesHeld (take k es)) → List·Memᴰ y (handlesHeld es)
 take-held zero es y m = absurd (List·Memᴰ·not-nil m)
 take-held (suc k) [] y m = m
-take-held (suc k) (x ∷ es) y m = mono (x .number) (x .handle) (heldIn (take k es)) (heldIn es) (λ z n. take-held k es z n) y m
+take-held (suc k) (x ∷ es) y m = mono (x .number) (x .handle) (handlesHeld (take k es)) (handlesHeld es) (λ z n. take-held k es z n) y m
 
 -- a put lists the object's own handle and no other
-pub put-held : (es : List Entry) (e : Entry) (y : ℕ × ℕ) → List·Memᴰ y (heldIn (putIn es e)) → List·Memᴰ y (heldAs (e .number) (e .handle) (heldIn es))
+pub put-held : (es : List Entry) (e : Entry) (y : ℕ × ℕ) → List·Memᴰ y (handlesHeld (putIn es e)) → List·Memᴰ y (heldAs (e .number) (e .handle) (handlesHeld es))
 put-held es e y m = go (placeIn es (e .number)) m
   where
-    go : (p : Place) → List·Memᴰ y (heldIn (putEntry es p e)) → List·Memᴰ y (heldAs (e .number) (e .handle) (heldIn es))
+    go : (p : Place) → List·Memᴰ y (handlesHeld (putEntry es p e)) → List·Memᴰ y (heldAs (e .number) (e .handle) (handlesHeld es))
     go (At i) m = set-held es i e y m
     go Nowhere m = append-held es e y m
 
 -- a drop lists no other
-pub drop-held : (es : List Entry) (n : ℕ) (y : ℕ × ℕ) → List·Memᴰ y (heldIn (dropIn es n)) → List·Memᴰ y (heldIn es)
+pub drop-held : (es : List Entry) (n : ℕ) (y : ℕ × ℕ) → List·Memᴰ y (handlesHeld (dropIn es n)) → List·Memᴰ y (handlesHeld es)
 drop-held es n y m = go (placeIn es n) m
   where
     last : Entry
     last = getD es (length es - 1) blankEntry
 
-    pick : ((h : ℕ) × (last .handle ≡ some h) × (y ≡ (last .number, h))) ⊎ List·Memᴰ y (heldIn es) → List·Memᴰ y (heldIn es)
+    pick : ((h : ℕ) × (last .handle ≡ some h) × (y ≡ (last .number, h))) ⊎ List·Memᴰ y (handlesHeld es) → List·Memᴰ y (handlesHeld es)
     pick (inl (h, p, q)) = Memᴰ·cast q (getD-held es (length es - 1) h p)
     pick (inr m) = m
 
-    go : (p : Place) → List·Memᴰ y (heldIn (dropAt es p)) → List·Memᴰ y (heldIn es)
-    go (At i) m = pick (split (last .number) (last .handle) (heldIn es) y (set-held es i last y (take-held (length es - 1) (set es i last) y m)))
+    go : (p : Place) → List·Memᴰ y (handlesHeld (dropAt es p)) → List·Memᴰ y (handlesHeld es)
+    go (At i) m = pick (split (last .number) (last .handle) (handlesHeld es) y (set-held es i last y (take-held (length es - 1) (set es i last) y m)))
     go Nowhere m = m
 
 -- a handle that is found is held
 abbrev pub Holds : List Entry → ℕ → Type 0
-Holds es h = (n : ℕ) × List·Memᴰ (n, h) (heldIn es)
+Holds es h = (n : ℕ) × List·Memᴰ (n, h) (handlesHeld es)
 
-pub find-held : (es : List Entry) (n h : ℕ) → handleOf (findIn es n) ≡ some h → Holds es h
+pub find-held : (es : List Entry) (n h : ℕ) → entryHandle (findIn es n) ≡ some h → Holds es h
 find-held es n h e = go (placeIn es n) e
   where
-    go : (p : Place) → handleOf (heldAt es p) ≡ some h → Holds es h
+    go : (p : Place) → entryHandle (heldAt es p) ≡ some h → Holds es h
     go (At i) e = (getD es i blankEntry .number, getD-held es i h e)
     go Nowhere e = absurd (none-some e)
 
-greatest-up-to : (es : List Entry) (k kind h : ℕ) → handleOf (greatestUpTo es k kind) ≡ some h → Holds es h
+greatest-up-to : (es : List Entry) (k kind h : ℕ) → entryHandle (greatestUpTo es k kind) ≡ some h → Holds es h
 greatest-up-to es zero kind h e = absurd (none-some e)
 greatest-up-to es (suc k) kind h e = go (eqb (getD es k blankEntry .kind) kind) e (λ e. greatest-up-to es k kind h e)
   where
     x : Entry
     x = getD es k blankEntry
 
-    pick : (b : Bool) (best : Entry) → handleOf (some (cond b x best)) ≡ some h → (handleOf (some best) ≡ some h → Holds es h) → Holds es h
+    pick : (b : Bool) (best : Entry) → entryHandle (some (cond b x best)) ≡ some h → (entryHandle (some best) ≡ some h → Holds es h) → Holds es h
     pick true best e below = (x .number, getD-held es k h e)
     pick false best e below = below e
 
-    better : (best : Option Entry) → handleOf (greaterIn best x) ≡ some h → (handleOf best ≡ some h → Holds es h) → Holds es h
+    better : (best : Option Entry) → entryHandle (greaterIn best x) ≡ some h → (entryHandle best ≡ some h → Holds es h) → Holds es h
     better none e below = (x .number, getD-held es k h e)
     better (some best) e below = pick (ltb (best .number) (x .number)) best e below
 
-    go : (b : Bool) → handleOf (cond b (greaterIn (greatestUpTo es k kind) x) (greatestUpTo es k kind)) ≡ some h → (handleOf (greatestUpTo es k kind) ≡ some h → Holds es h) → Holds es h
+    go : (b : Bool) → entryHandle (cond b (greaterIn (greatestUpTo es k kind) x) (greatestUpTo es k kind)) ≡ some h → (entryHandle (greatestUpTo es k kind) ≡ some h → Holds es h) → Holds es h
     go true e below = better (greatestUpTo es k kind) e below
     go false e below = below e
 
-pub greatest-held : (es : List Entry) (kind h : ℕ) → handleOf (greatestIn es kind) ≡ some h → Holds es h
+pub greatest-held : (es : List Entry) (kind h : ℕ) → entryHandle (greatestIn es kind) ≡ some h → Holds es h
 greatest-held es kind h e = greatest-up-to es (length es) kind h e

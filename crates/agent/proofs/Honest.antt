@@ -13,15 +13,15 @@ use Rattle.isolation.proofs.Provenance.{Within, Fair, Honest}
 use Rattle.sessions.specs.View.{Entry, Local, findIn}
 use Rattle.agent.specs.Local.{touched, full, handleAt, handleOfKind}
 use Rattle.agent.specs.Calls.{Call, createWriter, createReader, Answer, created, succeeded, sample, noSample, failed, Task, creating, deleting, writing, reading, Pending}
-use Rattle.agent.specs.RulesObjects.{Move, ifHandle, createWith, createOf, deleteFound}
+use Rattle.agent.specs.RulesObjects.{Move, ifHandle, createWith, createFor, deleteFound}
 use Rattle.agent.specs.RulesAnswers.{answerOf}
-use Rattle.agent.specs.Rules.{In, onSubmessage, rules, handlesIn, heldIn, grantedBy, handlesOf}
+use Rattle.agent.specs.Rules.{In, onSubmessage, rules, handlesIn, handlesHeld, grantedBy, handlesOf}
 use Rattle.agent.proofs.Held.{put-held, drop-held, Holds, find-held, greatest-held}
 
 module _ (timeout : ℕ) where
   -- a rule at work on tables that hold what b holds
   abbrev Good : Local → Move → Type 0
-  Good b m = Fair (rules timeout) (handlesOf timeout) b (heldIn (b .objects)) m
+  Good b m = Fair (rules timeout) (handlesOf timeout) b (handlesHeld (b .objects)) m
 
   abbrev Uses : Local → Call → Type 0
   Uses b c = (x : ℕ) → List·Memᴰ x (handlesIn c) → Holds (b .objects) x
@@ -47,7 +47,7 @@ module _ (timeout : ℕ) where
     handle-fair none f other p q = q
     handle-fair (some h) f other p q = p h refl
 
-    kept : (y : ℕ × ℕ) → List·Memᴰ y (heldIn (b .objects)) → List·Memᴰ y (heldIn (b .objects))
+    kept : (y : ℕ × ℕ) → List·Memᴰ y (handlesHeld (b .objects)) → List·Memᴰ y (handlesHeld (b .objects))
     kept y m = m
 
     -- a call with a Participant's and a Topic's handle
@@ -57,7 +57,7 @@ module _ (timeout : ℕ) where
         (λ h p. handle-fair (handleOfKind 2 l) _ _
         (λ k q. (kept, kept, λ x m. two-handles b h k (greatest-held (b .objects) 1 h p) (greatest-held (b .objects) 2 k q) x (rw (← u h k) m))) kept) kept
 
-    create-fair : (kind : ObjectKind) (stream number parent : ℕ) (body : List ℕ) → Good b (createOf kind stream number parent body l)
+    create-fair : (kind : ObjectKind) (stream number parent : ℕ) (body : List ℕ) → Good b (createFor kind stream number parent body l)
     create-fair Participant stream number parent body = (kept, kept, no-handle b)
     create-fair Topic stream number parent body = handle-fair (handleAt parent l) _ _ (λ h e. (kept, kept, one-handle b h (find-held (b .objects) parent h e))) kept
     create-fair Publisher stream number parent body = λ y m. put-held (b .objects) (record { number = number; kind = 3; handle = none }) y m
@@ -87,7 +87,7 @@ module _ (timeout : ℕ) where
     submessage-fair (Acknack p) body stream = kept
 
   answer-fair : (l : Local) (stream number : ℕ) (t : Task) (a : Answer)
-      → Fair (rules timeout) (handlesOf timeout) l (grantedBy t number a ++ heldIn (l .objects)) (answerOf t stream number a l)
+      → Fair (rules timeout) (handlesOf timeout) l (grantedBy t number a ++ handlesHeld (l .objects)) (answerOf t stream number a l)
   answer-fair l stream number (creating kind) (created h) = λ y m. put-held (l .objects) (record { number = number; kind = kind; handle = some h }) y m
   answer-fair l stream number (creating kind) succeeded = λ y m. m
   answer-fair l stream number (creating kind) (sample d) = λ y m. m

@@ -23,7 +23,7 @@ use Rattle.agent.specs.Replies.{clientBytes}
 use Rattle.agent.specs.RulesObjects.{Move}
 use Rattle.agent.specs.RulesAnswers.{onAnswer}
 use Rattle.agent.specs.Rules.{Opening, In, parse, parsedAs, messageFrom, handle, rules}
-use Rattle.agent.specs.Step.{Tables, Open, Agent, nextFree, chosen, openAs, Reply, opened, replied, Ran, behind, keep, act, deliver, run, continued, Event, datagram, answer, removal, sweep, Result, refused, ran, removed, swept, Did, refuse, finish, joined, callOf, openOf, withTables, settle, begin, tooLong, withId, isLive, stays, lapsedIds, withSessions, stepped, step}
+use Rattle.agent.specs.Step.{Tables, Open, Agent, nextFree, chosen, openAs, Reply, opened, replied, Ran, behind, keep, act, deliver, run, continued, Event, datagram, answer, removal, sweep, Result, refused, ran, removed, swept, Did, refuse, finish, joinedReplies, callOf, openOf, withTables, settle, begin, tooLong, withId, isLive, stays, lapsedIds, withLocals, stepped, step}
 use Rattle.agent.specs.Claim.{Hosted, hostCall, outOf, askedOf, resultOf, agent}
 
 module _ (max timeout : ℕ) where
@@ -150,7 +150,7 @@ module _ (max timeout : ℕ) where
 
   settle-goes : (st : Agent) (out : List ℕ) (r : Ran) (q : ref.Ran R D) → ranOf r ≡ q → Goes st (settle st out r) (ref.settle R D q)
   settle-goes st out r q e =
-      finish-goes st out (withTables st (r .tables) (openOf (r .stop))) (joined (r .replies)) (ran (r .replies) (callOf (r .stop))) (ref.settle R D q)
+      finish-goes st out (withTables st (r .tables) (openOf (r .stop))) (joinedReplies (r .replies)) (ran (r .replies) (callOf (r .stop))) (ref.settle R D q)
       (ap (λ (q : ref.Ran R D). ref.settle R D q .0) e) (ap (λ (q : ref.Ran R D). ref.settle R D q .1) e) (refl, refl)
 
   -- the state with this limit and this timeout
@@ -170,10 +170,10 @@ module _ (max timeout : ℕ) where
   stepped-goes : (t : Tables) (w : Option Open) (e : Event) (out : List ℕ) → let st = made t w in Goes st (stepped w st e out) (ref.stepped R D (Option·map waitOf w) (stateOf st) (hostCall max timeout e))
   stepped-goes t none (datagram time bytes) out = begin-goes t out time (reading bytes)
   stepped-goes t none (answer a) out = refuse-goes (made t none) out 15 0 _
-  stepped-goes t none (removal id) out = finish-goes (made t none) out (withSessions (made t none) (withId id none (t .at))) [] (removed (isLive (t .at id))) _ refl refl (refl, refl)
+  stepped-goes t none (removal id) out = finish-goes (made t none) out (withLocals (made t none) (withId id none (t .at))) [] (removed (isLive (t .at id))) _ refl refl (refl, refl)
   stepped-goes t none (sweep now) out =
       let ids = lapsedIds timeout now (t .at) in
-      finish-goes (made t none) out (withSessions (made t none) (λ i. stays timeout now (t .at i))) ids (swept ids)
+      finish-goes (made t none) out (withLocals (made t none) (λ i. stays timeout now (t .at i))) ids (swept ids)
       (ref.stepped R D none (stateOf (made t none)) (iso.sweep now)) (λ j. record { tables = record { next = t .next; at = λ i. stays-same now (t .at i) j }; wait = none }) refl (refl, refl)
   stepped-goes t (some w) (datagram time bytes) out = refuse-goes (made t (some w)) out 15 0 _
   stepped-goes t (some w) (answer a) out = go (fits (w .pending .task) a) (tooLong (w .pending) a)

@@ -25,10 +25,10 @@ use Rattle.sessions.specs.View.{Entry, KeptStream, Local, findIn, streamIn}
 use Rattle.agent.specs.Local.{full, touched, opening, handleAt, handleOfKind}
 use Rattle.agent.specs.Calls.{Call, Answer, fits}
 use Rattle.agent.specs.Replies.{statusBytes, acknackBytes, clientBytes}
-use Rattle.agent.specs.RulesObjects.{Move, ifHandle, createWith, createOf, deleteFound}
+use Rattle.agent.specs.RulesObjects.{Move, ifHandle, createWith, createFor, deleteFound}
 use Rattle.agent.specs.RulesStreams.{acknackFrom}
 use Rattle.agent.specs.Rules.{Opening, In, messageFrom, onSubmessage, handle}
-use Rattle.agent.specs.Step.{Tables, Open, Agent, withId, chosen, openAs, Reply, opened, replied, bytesOf, Ran, keep, act, deliver, run, continued, Event, datagram, answer, removal, sweep, Result, refused, ran, removed, swept, Did, refuse, finish, joined, callOf, openOf, withTables, settle, begin, tooLong, isLive, stays, lapsedIds, withSessions, stepped, step}
+use Rattle.agent.specs.Step.{Tables, Open, Agent, withId, chosen, openAs, Reply, opened, replied, bytesOf, Ran, keep, act, deliver, run, continued, Event, datagram, answer, removal, sweep, Result, refused, ran, removed, swept, Did, refuse, finish, joinedReplies, callOf, openOf, withTables, settle, begin, tooLong, isLive, stays, lapsedIds, withLocals, stepped, step}
 
 -- ---- a refused call changes nothing; the output keeps its length
 
@@ -68,7 +68,7 @@ finish-keeps st out st′ bytes q w = go (ltb (length out) (length bytes)) refl
     go false e = record { nothing = λ n b z. absurd (went-not q n b w z); long = put-long out bytes (ltb-false (length out) (length bytes) e) }
 
 settle-keeps : (st : Agent) (out : List ℕ) (r : Ran) → Kept st out (settle st out r)
-settle-keeps st out r = finish-keeps st out (withTables st (r .tables) (openOf (r .stop))) (joined (r .replies)) (ran (r .replies) (callOf (r .stop))) refl
+settle-keeps st out r = finish-keeps st out (withTables st (r .tables) (openOf (r .stop))) (joinedReplies (r .replies)) (ran (r .replies) (callOf (r .stop))) refl
 
 begin-keeps : (st : Agent) (out : List ℕ) (time : ℕ) (x : Read (MessageHeader × List Said)) → Kept st out (begin st out time x)
 begin-keeps st out time (refusedAs number byte) = refuse-keeps st out number byte
@@ -77,10 +77,10 @@ begin-keeps st out time (gives x) = let m = messageFrom time (x .0) (x .1) in se
 stepped-keeps : (w : Option Open) (st : Agent) (e : Event) (out : List ℕ) → Kept st out (stepped w st e out)
 stepped-keeps none st (datagram time bytes) out = begin-keeps st out time (reading bytes)
 stepped-keeps none st (answer a) out = refuse-keeps st out 15 0
-stepped-keeps none st (removal id) out = finish-keeps st out (withSessions st (withId id none (st .tables .at))) [] (removed (isLive (st .tables .at id))) refl
+stepped-keeps none st (removal id) out = finish-keeps st out (withLocals st (withId id none (st .tables .at))) [] (removed (isLive (st .tables .at id))) refl
 stepped-keeps none st (sweep now) out =
     let ids = lapsedIds (st .timeout) now (st .tables .at) in
-    finish-keeps st out (withSessions st (λ i. stays (st .timeout) now (st .tables .at i))) ids (swept ids) refl
+    finish-keeps st out (withLocals st (λ i. stays (st .timeout) now (st .tables .at i))) ids (swept ids) refl
 stepped-keeps (some w) st (datagram time bytes) out = refuse-keeps st out 15 0
 stepped-keeps (some w) st (answer a) out = go (fits (w .pending .task) a) (tooLong (w .pending) a)
   where
@@ -138,7 +138,7 @@ with-short : (stream number : ℕ) (call : ℕ → ℕ → Call) (l : Local) →
 with-short stream number call l =
     handle-short (handleOfKind 1 l) _ _ (λ h. handle-short (handleOfKind 2 l) _ _ (λ k. nothing-short) (says-short (l .id) stream number _)) (says-short (l .id) stream number _)
 
-create-short : (kind : ObjectKind) (stream number parent : ℕ) (body : List ℕ) (l : Local) → Short (createOf kind stream number parent body l)
+create-short : (kind : ObjectKind) (stream number parent : ℕ) (body : List ℕ) (l : Local) → Short (createFor kind stream number parent body l)
 create-short Participant stream number parent body l = nothing-short
 create-short Topic stream number parent body l = handle-short (handleAt parent l) _ _ (λ h. nothing-short) (says-short (l .id) stream number _)
 create-short Publisher stream number parent body l = says-short (l .id) stream number _
@@ -169,18 +169,18 @@ submessage-short (Data p) body stream l = nothing-short
 submessage-short (Heartbeat p) body stream l = acknack-short (l .id) (p .«first_unacked_seq») (p .«last_seq») (streamIn (opening stream l .streams) stream)
 submessage-short (Acknack p) body stream l = nothing-short
 
-joined-size : (id : ℕ) (bs : List (List ℕ)) (rs : List Reply) → length (joined (map (replied id) bs ++ rs)) ≡ size bs + length (joined rs)
-unfolding joined
-joined-size id [] rs = omega arith
-joined-size id (b ∷ bs) rs = let a = length-append b (joined (map (replied id) bs ++ rs)) in let c = joined-size id bs rs in omega (arith, a, c)
+joinedReplies-size : (id : ℕ) (bs : List (List ℕ)) (rs : List Reply) → length (joinedReplies (map (replied id) bs ++ rs)) ≡ size bs + length (joinedReplies rs)
+unfolding joinedReplies
+joinedReplies-size id [] rs = omega arith
+joinedReplies-size id (b ∷ bs) rs = let a = length-append b (joinedReplies (map (replied id) bs ++ rs)) in let c = joinedReplies-size id bs rs in omega (arith, a, c)
 
-joined-all : (id : ℕ) (bs : List (List ℕ)) → length (joined (map (replied id) bs)) ≡ size bs
-unfolding joined
-joined-all id [] = refl
-joined-all id (b ∷ bs) = let a = length-append b (joined (map (replied id) bs)) in let c = joined-all id bs in omega (arith, a, c)
+joinedReplies-all : (id : ℕ) (bs : List (List ℕ)) → length (joinedReplies (map (replied id) bs)) ≡ size bs
+unfolding joinedReplies
+joinedReplies-all id [] = refl
+joinedReplies-all id (b ∷ bs) = let a = length-append b (joinedReplies (map (replied id) bs)) in let c = joinedReplies-all id bs in omega (arith, a, c)
 
 abbrev pub room : Ran → ℕ
-room r = length (joined (r .replies))
+room r = length (joinedReplies (r .replies))
 
 -- what a rule says first, and then the rest
 deliver-room : (id n : ℕ) (rest : List (Sub Opening In)) (t : Tables) (x : Option Local) (rule : Local → Move) (go : Tables → Ran) (most : ℕ)
@@ -189,17 +189,17 @@ deliver-room id n rest t none rule go most p q = let a = q t in omega (arith, a)
 deliver-room id n rest t (some l) rule go most p q = by (rule l) (p l)
   where
     by : (m : Move) → size (repliesIn m) ≤ n → room (act id rest t m go) ≤ n + most
-    by (done l′ bs) h = let a = joined-size id bs (go (keep id l′ t) .replies) in let b = q (keep id l′ t) in omega (arith, a, b, h)
-    by (calls l′ bs c p) h = let a = joined-all id bs in omega (arith, a, h)
+    by (done l′ bs) h = let a = joinedReplies-size id bs (go (keep id l′ t) .replies) in let b = q (keep id l′ t) in omega (arith, a, b, h)
+    by (calls l′ bs c p) h = let a = joinedReplies-all id bs in omega (arith, a, h)
 
 -- "13 cannot apply" where 12 bytes a submessage are lent
 pub run-room : (max id : ℕ) (ss : List (Sub Opening In)) (t : Tables) → room (run max id ss t) ≤ 12 * length ss
-unfolding run joined
+unfolding run joinedReplies
 run-room max id [] t = omega arith
 run-room max id (opens o ∷ ss) t =
     let x = chosen max t in
     let r = run max id ss (openAs o t x) in
-    let a = length-append (clientBytes x) (joined (r .replies)) in
+    let a = length-append (clientBytes x) (joinedReplies (r .replies)) in
     let b = client-long x in
     let c = run-room max id ss (openAs o t x) in
     omega (arith, a, b, c)

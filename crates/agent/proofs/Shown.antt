@@ -16,25 +16,25 @@ use Rattle.isolation.specs.Claim.{outs-of}
 use Rattle.agent.specs.Calls.{Answer, fits}
 use Rattle.agent.specs.Replies.{clientBytes}
 use Rattle.agent.specs.Rules.{messageFrom, rules}
-use Rattle.agent.specs.Step.{Open, Agent, Reply, opened, replied, Ran, run, continued, Event, datagram, answer, removal, sweep, Result, refused, ran, removed, swept, Did, refuse, finish, joined, callOf, openOf, withTables, settle, begin, tooLong, withId, isLive, stays, lapsedIds, withSessions, stepped, step}
-use Rattle.agent.specs.Claim.{Hosted, outOf, resultOf, bytesIn, idsIn, Shown}
+use Rattle.agent.specs.Step.{Open, Agent, Reply, opened, replied, Ran, run, continued, Event, datagram, answer, removal, sweep, Result, refused, ran, removed, swept, Did, refuse, finish, joinedReplies, callOf, openOf, withTables, settle, begin, tooLong, withId, isLive, stays, lapsedIds, withLocals, stepped, step}
+use Rattle.agent.specs.Claim.{Hosted, outOf, resultOf, outBytes, idsIn, Shown}
 
 module _ (max timeout : ℕ) where
   -- what a result says, beside the call then open
   abbrev said : Option Open → Result → List ℕ
-  said w q = bytesIn max timeout (outs-of (rules timeout) (resultOf max timeout w q)) ++ idsIn max timeout q
+  said w q = outBytes max timeout (outs-of (rules timeout) (resultOf max timeout w q)) ++ idsIn max timeout q
 
   abbrev Shows : List ℕ → Did → Type 0
   Shows out d = let bytes = said (d .agent .waits) (d .result) in (length bytes ≤ length out) × (d .out ≡ putAt out 0 bytes)
 
-  joined-same : (rs : List Reply) → joined rs ≡ bytesIn max timeout (map (outOf max timeout) rs)
-  unfolding joined bytesIn
-  joined-same [] = refl
-  joined-same (opened x ∷ rs) = ap (λ (bs : List ℕ). clientBytes x ++ bs) (joined-same rs)
-  joined-same (replied id bytes ∷ rs) = ap (λ (bs : List ℕ). bytes ++ bs) (joined-same rs)
+  joinedReplies-same : (rs : List Reply) → joinedReplies rs ≡ outBytes max timeout (map (outOf max timeout) rs)
+  unfolding joinedReplies outBytes
+  joinedReplies-same [] = refl
+  joinedReplies-same (opened x ∷ rs) = ap (λ (bs : List ℕ). clientBytes x ++ bs) (joinedReplies-same rs)
+  joinedReplies-same (replied id bytes ∷ rs) = ap (λ (bs : List ℕ). bytes ++ bs) (joinedReplies-same rs)
 
   refuse-shows : (st : Agent) (out : List ℕ) (number byte : ℕ) → Shows out (refuse st out number byte)
-  unfolding bytesIn putAt
+  unfolding outBytes putAt
   refuse-shows st out number byte = (omega arith, refl)
 
   finish-shows : (st : Agent) (out : List ℕ) (st′ : Agent) (bytes : List ℕ) (q : Result) → bytes ≡ said (st′ .waits) q → Shows out (finish st out st′ bytes q)
@@ -46,21 +46,21 @@ module _ (max timeout : ℕ) where
 
   settle-shows : (st : Agent) (out : List ℕ) (r : Ran) → Shows out (settle st out r)
   settle-shows st out r =
-      finish-shows st out (withTables st (r .tables) (openOf (r .stop))) (joined (r .replies)) (ran (r .replies) (callOf (r .stop)))
-      (joined-same (r .replies) ∙ sym (append-nil (bytesIn max timeout (map (outOf max timeout) (r .replies)))))
+      finish-shows st out (withTables st (r .tables) (openOf (r .stop))) (joinedReplies (r .replies)) (ran (r .replies) (callOf (r .stop)))
+      (joinedReplies-same (r .replies) ∙ sym (append-nil (outBytes max timeout (map (outOf max timeout) (r .replies)))))
 
   begin-shows : (st : Agent) (out : List ℕ) (time : ℕ) (x : Read (MessageHeader × List Said)) → Shows out (begin st out time x)
   begin-shows st out time (refusedAs number byte) = refuse-shows st out number byte
   begin-shows st out time (gives x) = let m = messageFrom time (x .0) (x .1) in settle-shows st out (run (st .max) (m .header) (m .subs) (st .tables))
 
   stepped-shows : (w : Option Open) (st : Agent) (e : Event) (out : List ℕ) → Shows out (stepped w st e out)
-  unfolding bytesIn
+  unfolding outBytes
   stepped-shows none st (datagram time bytes) out = begin-shows st out time (reading bytes)
   stepped-shows none st (answer a) out = refuse-shows st out 15 0
-  stepped-shows none st (removal id) out = finish-shows st out (withSessions st (withId id none (st .tables .at))) [] (removed (isLive (st .tables .at id))) refl
+  stepped-shows none st (removal id) out = finish-shows st out (withLocals st (withId id none (st .tables .at))) [] (removed (isLive (st .tables .at id))) refl
   stepped-shows none st (sweep now) out =
       let ids = lapsedIds (st .timeout) now (st .tables .at) in
-      finish-shows st out (withSessions st (λ i. stays (st .timeout) now (st .tables .at i))) ids (swept ids) refl
+      finish-shows st out (withLocals st (λ i. stays (st .timeout) now (st .tables .at i))) ids (swept ids) refl
   stepped-shows (some w) st (datagram time bytes) out = refuse-shows st out 15 0
   stepped-shows (some w) st (answer a) out = go (fits (w .pending .task) a) (tooLong (w .pending) a)
     where

@@ -53,10 +53,10 @@ module _ (max timeout : ℕ) where
   -- ---- no reply is hidden
 
   -- the bytes of an answer's replies, in order, the STATUSes too
-  unfoldable pub bytesIn : List (isolation.Out (rules timeout)) → List ℕ
-  bytesIn [] = []
-  bytesIn (isolation.opened x bytes ∷ os) = bytes ++ bytesIn os
-  bytesIn (isolation.reply id bytes ∷ os) = bytes ++ bytesIn os
+  unfoldable pub outBytes : List (isolation.Out (rules timeout)) → List ℕ
+  outBytes [] = []
+  outBytes (isolation.opened x bytes ∷ os) = bytes ++ outBytes os
+  outBytes (isolation.reply id bytes ∷ os) = bytes ++ outBytes os
 
   -- the ids that a sweep lists, which are no replies
   abbrev pub idsIn : Result → List ℕ
@@ -66,10 +66,10 @@ module _ (max timeout : ℕ) where
   idsIn (swept ids) = ids
 
   -- what a call writes into the lent output
-  abbrev pub written : Agent → Hosted → List ℕ
-  written st e = bytesIn (claim.outs-of (rules timeout) (agent .step st e .1)) ++ idsIn (step st (e .event) (e .out) .result)
+  abbrev pub writtenBy : Agent → Hosted → List ℕ
+  writtenBy st e = outBytes (claim.outs-of (rules timeout) (agent .step st e .1)) ++ idsIn (step st (e .event) (e .out) .result)
 
   -- The lent output after any call: the bytes of its replies in order, or a sweep's ids, for which it has room; then what stood there before.
   -- So each reply that term 3 speaks of is there whole, and nothing else is written. (A refused call has no replies.)
   abbrev pub Shown : Type 0
-  Shown = (st : Agent) (e : Hosted) → (length (written st e) ≤ length (e .out)) × (step st (e .event) (e .out) .out ≡ putAt (e .out) 0 (written st e))
+  Shown = (st : Agent) (e : Hosted) → (length (writtenBy st e) ≤ length (e .out)) × (step st (e .event) (e .out) .out ≡ putAt (e .out) 0 (writtenBy st e))

@@ -33,17 +33,17 @@ abbrev pub full : ℕ → Local → Bool
 full number l = noPlace (findIn (l .objects) number) (l .objects)
 
 -- the handle of an object, if it is there and has one: "as writer, reader or parent it counts as unknown"
-abbrev pub handleOf : Option Entry → Option ℕ
-handleOf none = none
-handleOf (some e) = e .handle
+abbrev pub entryHandle : Option Entry → Option ℕ
+entryHandle none = none
+entryHandle (some e) = e .handle
 
 -- "from any object of that number"
 abbrev pub handleAt : ℕ → Local → Option ℕ
-handleAt number l = handleOf (findIn (l .objects) number)
+handleAt number l = entryHandle (findIn (l .objects) number)
 
 -- "Of several Participants or Topics, the greatest object number is taken"
 abbrev pub handleOfKind : ℕ → Local → Option ℕ
-handleOfKind kind l = handleOf (greatestIn (l .objects) kind)
+handleOfKind kind l = entryHandle (greatestIn (l .objects) kind)
 
 -- ---- streams
 

@@ -116,9 +116,9 @@ abbrev pub heldAs : ℕ → Option ℕ → List (ℕ × ℕ) → List (ℕ × �
 heldAs number none more = more
 heldAs number (some h) more = (number, h) ∷ more
 
-abbrev pub heldIn : List Entry → List (ℕ × ℕ)
-heldIn [] = []
-heldIn (e ∷ es) = heldAs (e .number) (e .handle) (heldIn es)
+abbrev pub handlesHeld : List Entry → List (ℕ × ℕ)
+handlesHeld [] = []
+handlesHeld (e ∷ es) = heldAs (e .number) (e .handle) (handlesHeld es)
 
 -- a handle is granted by the answer `created` to a CREATE, and by nothing else
 abbrev pub grantedBy : Task → ℕ → Answer → List (ℕ × ℕ)
@@ -139,7 +139,7 @@ abbrev pub handlesOf : (timeout : ℕ) → Handles (rules timeout)
 handlesOf timeout = record {
   Handle = ℕ;
   uses = handlesIn;
-  holds = λ l. heldIn (l .objects);
+  holds = λ l. handlesHeld (l .objects);
   grants = λ p a. grantedBy (p .task) (p .number) a;
   began = began timeout;
 }

@@ -66,18 +66,18 @@ createWith stream number call l =
 
 -- A CREATE of each object kind: "The parent's handle comes from any object of that number."; "Publishers and Subscribers have no bridge
 -- handle."; "Within the object limit every failed CREATE answers ERR_INVALID_DATA and keeps an older object of that number."
-abbrev pub createOf : ObjectKind → ℕ → ℕ → ℕ → List ℕ → Local → Move
-createOf Participant stream number parent body l = asks stream number (createParticipant parent) l
-createOf Topic stream number parent body l =
+abbrev pub createFor : ObjectKind → ℕ → ℕ → ℕ → List ℕ → Local → Move
+createFor Participant stream number parent body l = asks stream number (createParticipant parent) l
+createFor Topic stream number parent body l =
     ifHandle (handleAt parent l) (λ p. asks stream number (createTopic p (namesOf body .name) (namesOf body .type)) l) (says stream number ErrInvalidData l)
-createOf Publisher stream number parent body l = says stream number Ok (listing number (kindByte Publisher) none l)
-createOf Subscriber stream number parent body l = says stream number Ok (listing number (kindByte Subscriber) none l)
-createOf DataWriter stream number parent body l = createWith stream number createWriter l
-createOf DataReader stream number parent body l = createWith stream number createReader l
+createFor Publisher stream number parent body l = says stream number Ok (listing number (kindByte Publisher) none l)
+createFor Subscriber stream number parent body l = says stream number Ok (listing number (kindByte Subscriber) none l)
+createFor DataWriter stream number parent body l = createWith stream number createWriter l
+createFor DataReader stream number parent body l = createWith stream number createReader l
 
 -- "CREATE of a 33rd number answers ERR_RESOURCES before any lookup or call."
 abbrev pub onCreate : ObjectKind → ℕ → ℕ → ℕ → List ℕ → Local → Move
-onCreate kind stream number parent body l = cond (full number l) (says stream number ErrResources l) (createOf kind stream number parent body l)
+onCreate kind stream number parent body l = cond (full number l) (says stream number ErrResources l) (createFor kind stream number parent body l)
 
 -- ---- DELETE, WRITE_DATA and READ_DATA "take an object of any kind"; "unknown objects ERR_UNKNOWN_REF"
 

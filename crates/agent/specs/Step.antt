@@ -147,9 +147,9 @@ finish st out st′ bytes result =
     cond (ltb (length out) (length bytes)) (refuse st out 13 0)
     (record { agent = st′; out = putAt out 0 bytes; result = result })
 
-unfoldable pub joined : List Reply → List ℕ
-joined [] = []
-joined (r ∷ rs) = bytesOf r ++ joined rs
+unfoldable pub joinedReplies : List Reply → List ℕ
+joinedReplies [] = []
+joinedReplies (r ∷ rs) = bytesOf r ++ joinedReplies rs
 
 abbrev pub callOf : Option (Call × Open) → Option Call
 callOf none = none
@@ -163,7 +163,7 @@ abbrev pub withTables : Agent → Tables → Option Open → Agent
 withTables st t w = record { max = st .max; timeout = st .timeout; tables = t; waits = w }
 
 abbrev pub settle : Agent → List ℕ → Ran → Did
-settle st out r = finish st out (withTables st (r .tables) (openOf (r .stop))) (joined (r .replies)) (ran (r .replies) (callOf (r .stop)))
+settle st out r = finish st out (withTables st (r .tables) (openOf (r .stop))) (joinedReplies (r .replies)) (ran (r .replies) (callOf (r .stop)))
 
 -- 1 to 5; "The first failure refuses the whole datagram."
 abbrev pub begin : Agent → List ℕ → ℕ → Read (MessageHeader × List Said) → Did
@@ -191,17 +191,17 @@ stays timeout now (some l) = cond (expired l now timeout) none (some l)
 unfoldable pub lapsedIds : ℕ → ℕ → (ℕ → Option Local) → List ℕ
 lapsedIds timeout now at = expiredFrom (λ i. lapsed now timeout (at i)) 1 255
 
-abbrev pub withSessions : Agent → (ℕ → Option Local) → Agent
-withSessions st at = withTables st (record { next = st .tables .next; at = at }) none
+abbrev pub withLocals : Agent → (ℕ → Option Local) → Agent
+withLocals st at = withTables st (record { next = st .tables .next; at = at }) none
 
 -- 15, first: "While a bridge call is open, datagrams, removals and sweeps are out of turn"; "answer, no call open", "or answer of another kind"
 abbrev pub stepped : Option Open → Agent → Event → List ℕ → Did
 stepped none st (datagram time bytes) out = begin st out time (reading bytes)
 stepped none st (answer a) out = refuse st out 15 0
-stepped none st (removal id) out = finish st out (withSessions st (withId id none (st .tables .at))) [] (removed (isLive (st .tables .at id)))
+stepped none st (removal id) out = finish st out (withLocals st (withId id none (st .tables .at))) [] (removed (isLive (st .tables .at id)))
 stepped none st (sweep now) out =
     let ids = lapsedIds (st .timeout) now (st .tables .at) in
-    finish st out (withSessions st (λ i. stays (st .timeout) now (st .tables .at i))) ids (swept ids)
+    finish st out (withLocals st (λ i. stays (st .timeout) now (st .tables .at i))) ids (swept ids)
 stepped (some w) st (datagram time bytes) out = refuse st out 15 0
 stepped (some w) st (answer a) out =
     cond (fits (w .pending .task) a)

@@ -35,6 +35,10 @@ fn fill(input: &mut [u8], r: Reading) -> Reading {
     }
 }
 
+fn byte_at(input: &[u8], at: usize) -> u8 {
+    if at < input.len() { input[at] } else { b'\n' }
+}
+
 // Puts the next line with its newline at the start of `line`; what is past its room is the next line.
 fn read_line(input: &mut [u8], line: &mut [u8], start: Reading) -> Reading {
     let mut r = start;
@@ -45,11 +49,8 @@ fn read_line(input: &mut [u8], line: &mut [u8], start: Reading) -> Reading {
         if r.have <= at {
             return r;
         }
-        if input.len() <= at {
-            return r;
-        }
         r.at = at + 1;
-        line[len] = input[at];
+        line[len] = byte_at(input, at);
         if line[len] == b'\n' {
             return r;
         }

@@ -77,25 +77,25 @@ fn key_of(bytes: &[u8]) -> u32 {
 
 fn create(
     c: Command,
-    client_key: u32,
+    given: &[u8],
     limits: Limits,
     sessions: &mut [SessionRow],
     streams: &mut [StreamRow],
 ) -> Limits {
-    let l = limits;
+    let client_key = key_of(given);
     match create_session(
         sessions,
         streams,
-        l.max_clients,
-        l.next,
+        limits.max_clients,
+        limits.next,
         client_key,
         c.second,
     ) {
         Created::Opened { id, next } => {
             line_1(names::SESSION, id as u64);
             Limits {
-                max_clients: l.max_clients,
-                timeout_ms: l.timeout_ms,
+                max_clients: limits.max_clients,
+                timeout_ms: limits.timeout_ms,
                 next,
             }
         }
@@ -244,7 +244,7 @@ pub fn answer(
     let name = c.name;
     match name {
         names::TABLE => new_table(c, sessions),
-        names::CREATE => create(c, key_of(given), limits, sessions, streams),
+        names::CREATE => create(c, given, limits, sessions, streams),
         _ => {
             on_sessions(c, limits.timeout_ms, sessions, streams);
             limits

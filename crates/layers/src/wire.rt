@@ -38,6 +38,12 @@ pub fn room() -> [u8; 66000]
     [0; 66000]
 }
 
+// The place of the next submessage, and of the next byte that is written back.
+struct Step {
+    place: usize,
+    end: usize,
+}
+
 // The place behind what a call wrote from `end` on.
 fn behind(w: Written, end: usize) -> usize {
     match w {
@@ -46,25 +52,35 @@ fn behind(w: Written, end: usize) -> usize {
     }
 }
 
-// A line for each of the datagram's submessages, and the message written back. The datagram was checked, so none of them
-// is refused.
+// What the submessage at a place says, and how it is written back. The datagram was checked, so none is refused here.
+fn one_submessage(s: &[u8], step: Step, made: &mut [u8]) -> Step {
+    let place = step.place;
+    match read(s, Cursor { at: place }) {
+        Parsed::Sub(m, span, next) => {
+            let body = part(s, span);
+            submessage(m, body);
+            let end = step.end;
+            Step {
+                place: next.at,
+                end: behind(write_submessage(made, end, m, body), end),
+            }
+        }
+        Parsed::Refused(_) => step,
+    }
+}
+
+// A line for each of the datagram's submessages, and the message written back.
 fn submessages(s: &[u8], header: MessageHeader, count: usize, made: &mut [u8]) {
-    let mut end = behind(header.write(made, 0), 0);
-    let mut place = 4;
+    let mut step = Step {
+        place: 4,
+        end: behind(header.write(made, 0), 0),
+    };
     let mut left = count;
     while 0 < left {
         left -= 1;
-        match read(s, Cursor { at: place }) {
-            Parsed::Sub(m, span, next) => {
-                let body = part(s, span);
-                submessage(m, body);
-                end = behind(write_submessage(made, end, m, body), end);
-                place = next.at;
-            }
-            Parsed::Refused(_) => return,
-        }
+        step = one_submessage(s, step, made);
     }
-    line_bytes(names::WRITTEN, between(made, 0, end));
+    line_bytes(names::WRITTEN, between(made, 0, step.end));
 }
 
 // What a datagram says, and how it is written back.

@@ -106,6 +106,10 @@ fn number(line: &[u8], index: usize) -> u64 {
     n
 }
 
+fn two_digits(high: u8, low: u8) -> u8 {
+    16 * digit(high) + digit(low)
+}
+
 // Writes the bytes that the word with that index gives over the line's start, and says how many they are.
 fn bytes(line: &mut [u8], index: usize) -> usize {
     let from = word_start(line, index);
@@ -113,7 +117,7 @@ fn bytes(line: &mut [u8], index: usize) -> usize {
     let mut i = 0;
     let mut at = from;
     while at + 1 < end {
-        line[i] = 16 * digit(line[at]) + digit(line[at + 1]);
+        line[i] = two_digits(line[at], line[at + 1]);
         i += 1;
         at += 2;
     }

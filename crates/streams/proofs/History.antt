@@ -16,7 +16,7 @@ use Rattle.streams.specs.Sequence.{seqLt}
 use Rattle.streams.specs.Places.{placeOf, isHeld}
 use Rattle.streams.specs.Sent.{need, slotFor, recordAt, recordOf, bytesAt, recordBytes, heldOf, bytesIn, heldBytes}
 use Rattle.streams.specs.Acknowledged.{acknowledge, repeatsOf}
-use Rattle.streams.specs.View.{messageOf, Kept, Sound, Stream, Call, allocate, send, acknack, receive, after, afterAll, spares, AllSpare}
+use Rattle.streams.specs.View.{messageHeld, Kept, Sound, Stream, Call, allocate, send, acknack, receive, after, afterAll, spares, AllSpare}
 use Rattle.streams.proofs.places.Held.{held-low, free-place, read-at, read-none}
 use Rattle.streams.proofs.sent.Laws.{slot-at}
 use Rattle.codec.proofs.bytes.Laws.{length-put}
@@ -42,7 +42,7 @@ module _ (x : Stream) (d : Sound (x .state)) (m : ℕ) (message : List ℕ) wher
   sent-room (slot.Refused r) e = refl
 
   sent-others : (n : ℕ) → (n ≡ m → ⊥) → (a : Slot) → slotFor (x .state) m (length message) (length (x .buffer)) ≡ a
-      → messageOf (recordAt a (x .state) m (length message)) (bytesAt a message (x .buffer)) n ≡ messageOf (x .state) (x .buffer) n
+      → messageHeld (recordAt a (x .state) m (length message)) (bytesAt a message (x .buffer)) n ≡ messageHeld (x .state) (x .buffer) n
   unfolding recordAt bytesAt
   sent-others n h (slot.At p) e = recorded (x .state) d m message (x .buffer) p e n ∙ rw (ne-eqb n m h)
   sent-others n h slot.Nowhere e = refl
@@ -64,7 +64,7 @@ module _ (x : Stream) (d : Sound (x .state)) where
   step-room (acknack first bitmap) = refl
   step-room (receive m) = refl
 
-  pub step-kept : (n : ℕ) (c : Call) → spares n c ≡ true → messageOf (after c x .state) (after c x .buffer) n ≡ messageOf (x .state) (x .buffer) n
+  pub step-kept : (n : ℕ) (c : Call) → spares n c ≡ true → messageHeld (after c x .state) (after c x .buffer) n ≡ messageHeld (x .state) (x .buffer) n
   unfolding after recordOf recordBytes acknowledge repeatsOf spares
   step-kept n allocate e = ap (λ (k : Kept (List ℕ)). k .held n) (alloc-kept (bytesIn (x .buffer)) (x .state))
   step-kept n (send m message) e =
@@ -74,7 +74,7 @@ module _ (x : Stream) (d : Sound (x .state)) where
 
 -- a message that was just recorded is held
 just-recorded : (x : Stream) → Sound (x .state) → (n : ℕ) (message : List ℕ) (p : ℕ) → slotFor (x .state) n (length message) (length (x .buffer)) ≡ slot.At p
-    → messageOf (after (send n message) x .state) (after (send n message) x .buffer) n ≡ some message
+    → messageHeld (after (send n message) x .state) (after (send n message) x .buffer) n ≡ some message
 unfolding after recordOf recordAt recordBytes bytesAt
 just-recorded x d n message p e = rw e (recorded (x .state) d n message (x .buffer) p e n ∙ rw (eq-eqb n n refl))
 
@@ -90,7 +90,7 @@ all-room [] x d = refl
 all-room (c ∷ cs) x d = all-room cs (after c x) (step-sound x d c) ∙ step-room x d c
 
 pub all-kept : (n : ℕ) (cs : List Call) (x : Stream) → Sound (x .state) → AllSpare n cs
-    → messageOf (afterAll cs x .state) (afterAll cs x .buffer) n ≡ messageOf (x .state) (x .buffer) n
+    → messageHeld (afterAll cs x .state) (afterAll cs x .buffer) n ≡ messageHeld (x .state) (x .buffer) n
 unfolding afterAll AllSpare
 all-kept n [] x d e = refl
 all-kept n (c ∷ cs) x d e = all-kept n cs (after c x) (step-sound x d c) (e .1) ∙ step-kept x d n c (e .0)
@@ -106,7 +106,7 @@ module _ (s : StreamState) (d : Sound s) (buffer : List ℕ) (room : need ≤ le
         le-ltb 1025 (getD (s .lengths) (placeOf s n) 0) (d .short (placeOf s n)),
       )
 
-  pub reads-held : (bytes : List ℕ) → messageOf s buffer n ≡ some bytes → heldBytes (heldOf s n (length buffer)) buffer ≡ bytes
+  pub reads-held : (bytes : List ℕ) → messageHeld s buffer n ≡ some bytes → heldBytes (heldOf s n (length buffer)) buffer ≡ bytes
   unfolding heldBytes
   reads-held bytes e = by (isHeld s n) refl
     where
@@ -114,7 +114,7 @@ module _ (s : StreamState) (d : Sound s) (buffer : List ℕ) (room : need ≤ le
       by true k = rw (found k) (let same = read-at s n (bytesIn buffer) (placeOf s n) refl (held-low s n k) in cc)
       by false k = absurd (let no = read-none s n (bytesIn buffer) (free-place s n k) in let z : _≡_ {A = ℕ} 0 1 = cc in omega arith)
 
-  pub reads-nothing : messageOf s buffer n ≡ none → heldOf s n (length buffer) ≡ held.Nothing
+  pub reads-nothing : messageHeld s buffer n ≡ none → heldOf s n (length buffer) ≡ held.Nothing
   unfolding heldOf
   reads-nothing e = by (isHeld s n) refl
     where

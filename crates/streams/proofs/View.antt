@@ -14,7 +14,7 @@ use Rattle.streams.specs.declared.state.StreamState.{StreamState}
 use Rattle.streams.specs.declared.sent.Slot.the-variants as slot
 use Rattle.streams.specs.Places.{holds, holdsAt, placeOf, isHeld}
 use Rattle.streams.specs.Sent.{need, slotFor, withMessage, bytesIn}
-use Rattle.streams.specs.View.{heldBy, messageOf, Sound}
+use Rattle.streams.specs.View.{heldBy, messageHeld, Sound}
 use Rattle.streams.proofs.places.Laws.{never, first-is, first-agree}
 use Rattle.streams.proofs.places.Held.{ChosenFor, chosen, held-low, free-place, held-there, read-at, read-none}
 use Rattle.streams.proofs.sent.Laws.{SlotAt, slot-at}
@@ -111,7 +111,7 @@ module _ {A : Type 0} (read read′ : ℕ → ℕ → A) (x : A) (s : StreamStat
 
 -- its bytes
 pub recorded : (s : StreamState) → Sound s → (n : ℕ) (message buffer : List ℕ) (p : ℕ) → slotFor s n (length message) (length buffer) ≡ slot.At p
-    → (m : ℕ) → messageOf (withMessage s p n (length message)) (putAt buffer (p * 1024) message) m ≡ cond (eqb m n) (some message) (messageOf s buffer m)
+    → (m : ℕ) → messageHeld (withMessage s p n (length message)) (putAt buffer (p * 1024) message) m ≡ cond (eqb m n) (some message) (messageHeld s buffer m)
 recorded s sound n message buffer p answer =
     let a = slot-at s n (length message) (length buffer) p answer in
     recorded-by (bytesIn buffer) (bytesIn (putAt buffer (p * 1024) message)) message s sound n (length message) (length buffer) p answer

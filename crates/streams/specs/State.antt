@@ -8,8 +8,8 @@ use Rattle.streams.specs.declared.state.StreamKind.the-variants.{BestEff
 use Rattle.streams.specs.declared.state.StreamState.{StreamState}
 
 -- "Best effort (stream 0)"; every other stream is reliable
-abbrev pub kindOf : ℕ → StreamKind
-kindOf id = cond (eqb id 0) BestEffort Reliable
+abbrev pub streamKind : ℕ → StreamKind
+streamKind id = cond (eqb id 0) BestEffort Reliable
 
 -- a stream that was just opened: both numbers 0, and nothing held
 abbrev pub newStream : ℕ → StreamState

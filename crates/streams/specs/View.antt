@@ -22,8 +22,8 @@ unfoldable pub heldBy : {A : Type 0} → (ℕ → ℕ → A) → StreamState →
 heldBy read s n = cond (isHeld s n) (some (read (placeOf s n) (getD (s .lengths) (placeOf s n) 0 - 1))) none
 
 -- its bytes, in a lent buffer
-abbrev pub messageOf : StreamState → List ℕ → ℕ → Option (List ℕ)
-messageOf s buffer n = heldBy (bytesIn buffer) s n
+abbrev pub messageHeld : StreamState → List ℕ → ℕ → Option (List ℕ)
+messageHeld s buffer n = heldBy (bytesIn buffer) s n
 
 -- how many it has, where no buffer is lent
 abbrev pub lengthIn : ℕ → ℕ → ℕ

@@ -1,6 +1,6 @@
 // The state of one stream, and where its held messages lie.
 ghost use mathlib.Core.Path.{_≡_};
-ghost use Rattle.streams.specs.State.{kindOf, newStream};
+ghost use Rattle.streams.specs.State.{streamKind, newStream};
 
 // A stream holds up to PLACES messages of up to SLOT_BYTES bytes each, in a lent buffer of at least BUFFER_BYTES.
 pub const PLACES: usize = 16;
@@ -18,7 +18,7 @@ pub enum StreamKind {
 
 impl StreamKind {
     pub fn from_stream_id(id: u8) -> StreamKind
-        ensures { λ r. ⌜ r ≡ kindOf id ⌝ }
+        ensures { λ r. ⌜ r ≡ streamKind id ⌝ }
     {
         if id == 0 {
             StreamKind::BestEffort

@@ -7,8 +7,7 @@ use Rattle.layers.proofs.words.bytes.Statement.{statement}
 use Rattle.layers.proofs.words.bytes.Tie as tie
 
 abbrev Inv-loop : tie.InvT-loop
-Inv-loop line₀ index from end i₀ at₀ line i at =
-    (i ≤ at) × ((at ≤ length line₀) × (length line ≡ length line₀))
+Inv-loop line₀ index from end i₀ at₀ line i at = (i ≤ at) × ((at ≤ length line₀) × (length line ≡ length line₀))
 
 abbrev μ-loop : tie.MeasureT-loop
 μ-loop line₀ index from end i₀ at₀ line i at = length line₀ - at
@@ -25,26 +24,17 @@ loop-holds c = search needs
 add-loop : tie.Need-add-loop Inv-loop μ-loop
 add-loop c = search needs
 
-slice-read-digit : tie.Need-slice-read-digit Inv-loop μ-loop
-slice-read-digit c = search needs
+slice-read-two-digits : tie.Need-slice-read-two-digits Inv-loop μ-loop
+slice-read-two-digits c = search needs
 
-digit-requires : tie.Need-digit-requires Inv-loop μ-loop
-digit-requires c κs = search needs
+add-two-digits : tie.Need-add-two-digits Inv-loop μ-loop
+add-two-digits c = search needs
 
-mul-line : tie.Need-mul-line Inv-loop μ-loop
-mul-line c = search needs
+slice-read-two-digits-2 : tie.Need-slice-read-two-digits-2 Inv-loop μ-loop
+slice-read-two-digits-2 c = search needs
 
-add-digit : tie.Need-add-digit Inv-loop μ-loop
-add-digit c = search needs
-
-slice-read-digit-2 : tie.Need-slice-read-digit-2 Inv-loop μ-loop
-slice-read-digit-2 c = search needs
-
-digit-requires-2 : tie.Need-digit-requires-2 Inv-loop μ-loop
-digit-requires-2 c κs = search needs
-
-add-line : tie.Need-add-line Inv-loop μ-loop
-add-line c = search needs
+two-digits-requires : tie.Need-two-digits-requires Inv-loop μ-loop
+two-digits-requires c κs = search needs
 
 slice-write-line : tie.Need-slice-write-line Inv-loop μ-loop
 slice-write-line c = search needs
@@ -77,13 +67,10 @@ bytes-spec =
     word-end-requires
     loop-holds
     add-loop
-    slice-read-digit
-    digit-requires
-    mul-line
-    add-digit
-    slice-read-digit-2
-    digit-requires-2
-    add-line
+    slice-read-two-digits
+    add-two-digits
+    slice-read-two-digits-2
+    two-digits-requires
     slice-write-line
     add-i
     add-at
