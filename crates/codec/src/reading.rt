@@ -48,8 +48,9 @@ pub fn read(s: &[u8], c: Cursor) -> Parsed
     layout_at(s, s[at], at + SUBMESSAGE_HEADER_SIZE, len)
 }
 
-// The submessages from `from` to the end of the datagram, counted; the first failure refuses the whole. Nothing is built on the way.
-fn count_at(s: &[u8], header: MessageHeader, from: usize) -> Checked
+// The submessages from `from` to the end of the datagram, counted under the header given; the first failure refuses the whole. Nothing is
+// built on the way. A datagram that is lent again is checked so from its place on.
+pub fn count_at(s: &[u8], header: MessageHeader, from: usize) -> Checked
     ensures { λ r. ⌜ r ≡ countAt header (now (s .entry)) from ⌝ }
 {
     let mut at = from;
