@@ -23,6 +23,7 @@ import re
 import shutil
 import tempfile
 import unittest
+import unittest.mock
 
 import walkgen
 from walks.contract import Contract
@@ -30,7 +31,7 @@ from walks.imports import USES
 from walks.mir import read_program
 from walks.source import Repository
 from walks.types import Types
-from walks.words import Stop, conjuncts, parens, split_top, unwrapped
+from walks.words import Stop, conjuncts, field_name, parens, split_top, unwrapped
 
 FIXTURES = os.path.dirname(os.path.abspath(__file__)) + '/walk_fixtures'
 SHARED = '[the imports of head.txt]'
@@ -126,6 +127,13 @@ class WrittenProofs(RecordedCase):
         self.assertEqual(re.findall(r'^    (part-\S+) :', text, re.M),
                          ['part-5·At·5-0', 'part-5·Nothing·4-1', 'part-5-0'])
 
+    def test_arms_apart(self):
+        """Where the arms of a `match` lend many slices, each is a lemma that its clause cites."""
+        with unittest.mock.patch('walks.branches.SLICES_IN_CLAUSES', 1):
+            text = walkgen.proof_text(self.repository(), 'shapes', 'put')
+        self.assertEqual(re.findall(r'^    (matched-\S+) :', text, re.M),
+                         ['matched-5-At-0', 'matched-5-Nothing-1', 'matched-5-0'])
+        self.assertRegex(text, r'\(Found-At i\) e-5 good-5 =\n +matched-5-At-0 asks-4 is-4 i e-5 good-5\n')
 
     def test_forgets_at_a_loop(self):
         """What the loop assigns before anything reads it holds nothing at the head of a turn."""
@@ -202,6 +210,10 @@ class Mistakes(RecordedCase):
         self.refused('the end of cells::cell_at is reached with no `return`', 'cells', 'cell_at',
                      mir=[('return', 'skip')])
 
+    def test_local_array_of_bools(self):
+        self.refused('a local array of bool that is lent: only arrays of numbers, structs and enums', 'shapes', 'numbers',
+                     mir=[('(repeat (int 8 0) 2)', '(repeat opdTrue 2)')])
+
     def test_store_that_ends_a_turn(self):
         store = ('(assign (place 7 (lcons (deref (tyNamed (pair "cells::Cell" lnil))) lnil))'
                  ' (rvOpd (copy (place 3 lnil))))')
@@ -241,6 +253,8 @@ class Reading(RecordedCase):
         self.assertEqual(split_top('a, f (b, c), [d, e]', ','), ['a', 'f (b, c)', '[d, e]'])
         self.assertEqual(unwrapped('((a) × (b))'), '(a) × (b)')
         self.assertEqual((parens('x .y'), parens('n₁')), ('(x .y)', 'n₁'))
+        self.assertEqual([field_name(name) for name in ('0', 'used', 'max_len', 'data')],
+                         ['0', 'used', '«max_len»', '«data»'])
 
     def test_conjuncts(self):
         self.assertEqual(conjuncts('(a ≡ b) × ((c < d) × (e ≤ f))'),
@@ -256,6 +270,7 @@ class Reading(RecordedCase):
         text = '(r ≡ f (now (row .entry)) o) × (now (row .exit) ≡ g used (o .used))'
         self.assertEqual(contract.at(text, dict(row='set xs i o', used='used′', o='z'), dict(row='ws .0'), 'r-3'),
                          '(r-3 ≡ f ((set xs i o)) z) × ((ws .0) ≡ g used′ (z .used))')
+        self.assertEqual(contract.at('«used» ≡ o .«used»', dict(row='xs', used='n', o='z'), {}, ''), 'n ≡ z .«used»')
 
     def test_types(self):
         """Sizes and alignments, which elements' addresses are computed with, and what stands past a list's end."""

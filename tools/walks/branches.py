@@ -1,8 +1,11 @@
 """The rules for `if` and `match`. Each arm is walked to the end of the function, with what follows the branch."""
 from .held import Value
-from .mir import arms_of, local_of, statements, steps_of
+from .mir import arms_of, is_place, items, local_of, statements, steps_of
 from .part import Part
 from .words import parens, projection, stop
+
+# where the arms of a `match` lend more slices, each arm is a lemma of its own
+SLICES_IN_CLAUSES = 4
 
 
 class Branches:
@@ -93,9 +96,13 @@ class Branches:
         context = self.context_text()
         self.restore(saved)
         clauses = []
-        for variant, (label, fields) in enumerate(self.types.declared(scrutinee.type.path)['variants']):
-            arm = next((arm for arm, (keys, _) in enumerate(arms) if str(variant) in keys), len(arms))
-            body = arms[arm][1] if arm < len(arms) else default
+        variants = self.types.declared(scrutinee.type.path)['variants']
+        chosen = [next((arm for arm, (keys, _) in enumerate(arms) if str(variant) in keys), len(arms))
+                  for variant in range(len(variants))]
+        bodies = [arms[arm][1] if arm < len(arms) else default for arm in chosen]
+        # the prover checks the clauses together, and twice; a lemma by itself, and once
+        apart = sum(self.slices_lent(body) for body in bodies) > SLICES_IN_CLAUSES
+        for (label, fields), arm, body in zip(variants, chosen, bodies):
             if body is None:
                 stop('statement %s: no arm for %s' % (ident, label))
             if arm == len(arms):
@@ -105,7 +112,8 @@ class Branches:
             inner = Part(statements(body), '(arm-of %d %s)' % (arm, part.at(place)), '%s.%s' % (ident, tag),
                               ('seq', part, place), after, then)
             value, bound = self.variant_value(alias, label, fields, ident)
-            script = self.script_of(lambda: self.matched(inner, arm, part.at(place), local, label, value, bound, ident))
+            walks = self.matched_apart if apart else self.matched
+            script = self.script_of(lambda: walks(inner, arm, part.at(place), local, label, value, bound, ident))
             clauses.append('%s %s (%s) e-%s good-%s =\n' % (name, names, value, number, number) + '\x00' + script)
         unfolding = '\nunfolding afterTurn' if self.in_loop else ''
         self.write('%s : %s(z : %s) → %s ≡ z → Is (%s .row) z (%s .val z ∷ []) → Sq W (%s) (runs C Λ En %s %s)%s\n'
@@ -124,20 +132,44 @@ class Branches:
         return ' '.join([alias + '-' + label] + names), list(zip(names, fields))
 
     def matched(self, inner, arm, text, local, label, value, bound, ident):
-        """Walks the arm of one variant: its fields are known, and what follows from the enum's relation."""
+        """Walks the arm of one variant."""
+        self.enter_variant(local, label, value, bound, ident)
+        self.walk_arm(inner, arm, text, local, value, bound, ident)
+
+    def matched_apart(self, inner, arm, text, local, label, value, bound, ident):
+        """The same, in a lemma of its own."""
+        self.enter_variant(local, label, value, bound, ident)
+        self.calls = 0
+        name = 'matched-%s-%s-%d' % (self.dashed(ident), label, len(self.lemmas))
+        binders, names, context = self.binders(), self.bound_names(), self.context_text()
+        script = self.script_of(lambda: self.walk_arm(inner, arm, text, local, value, bound, ident))
+        self.write_run(name, binders, names, context, text, inner.after, script)
+        self.emit('%s %s' % (name, names))
+
+    def enter_variant(self, local, label, value, bound, ident):
+        """The local holds this variant."""
         number = self.dashed(ident)
         scrutinee = self.held[local]
-        declaration = self.types.declared(scrutinee.type.path)
-        alias, plain = declaration['alias'], self.types.plain(scrutinee.type)
+        plain = self.types.plain(scrutinee.type)
         self.choices.append('%s.%s' % (ident, label))
-        bound = [(name, self.types.of_source(field, declaration['module'])) for name, field in bound]
-        for name, type_ in bound:
+        for name, type_ in self.field_types(scrutinee, bound):
             self.scope.append((name, self.types.values(type_)))
         self.scope.append(('e-' + number, '%s ≡ %s' % (scrutinee.text, value)))
         good = 'Is (%s .row) %s (%s .val %s ∷ [])' % (plain, parens(value), plain, parens(value))
         self.scope.append(('good-' + number, good))
+        self.held[local] = Value(scrutinee.type, value, 'good-' + number)
+
+    def field_types(self, scrutinee, bound):
+        module = self.types.declared(scrutinee.type.path)['module']
+        return [(name, self.types.of_source(field, module)) for name, field in bound]
+
+    def walk_arm(self, inner, arm, text, local, value, bound, ident):
+        """The variant's fields are known, and what follows from the enum's relation."""
+        number = self.dashed(ident)
+        scrutinee = self.held[local]
+        alias = self.types.alias(scrutinee.type.path)
         fields = []
-        for field, (name, type_) in enumerate(bound):
+        for field, (name, type_) in enumerate(self.field_types(scrutinee, bound)):
             field_plain = self.types.plain(type_)
             self.knows(name + '-is', 'Is (%s .row) %s (%s .val %s ∷ [])' % (field_plain, name, field_plain, name),
                        'EL.owed %s-t.the-type %s-l.the-laws %s _ good-%s%s'
@@ -147,3 +179,12 @@ class Branches:
         self.emit('switches-on ! (load ! (from ! (vrt ! refl (fld ! refl (stop !)))) (look-tag ! %d (whole !)))'
                   ' $ exec ! C Λ En (arm-of %d %s) %s $' % (self.at('l%d' % local), arm, text, inner.after))
         self.run(inner, 0)
+
+    def slices_lent(self, statement):
+        """How many slices the calls in a statement lend."""
+        if not isinstance(statement, list):
+            return 0
+        if statement[:1] == ['call']:
+            return sum(1 for operand in items(statement[2])
+                       if is_place(operand) and self.local_types[local_of(operand[1])].kind == 'slice')
+        return sum(map(self.slices_lent, statement))

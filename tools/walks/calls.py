@@ -478,8 +478,11 @@ class Call:
         value, relation = self.back_array(argument, argument.lifetime, argument.ghost, '(%s)' % as_left)
         values = walk.types.values(walk.held[local].element)
         name = 'ais-%s-%d' % (self.number, local)
-        walk.knows(name, self.is_array(argument, parens(last), value), 'subst (λ (us : List %s). %s) (%s) %s'
-                   % (values, self.is_array(argument, 'us', value), same, relation))
+        proof = relation
+        if as_left != last:
+            proof = ('subst (λ (us : List %s). %s) (%s) %s'
+                     % (values, self.is_array(argument, 'us', value), same, relation))
+        walk.knows(name, self.is_array(argument, parens(last), value), proof)
         walk.held[local] = replace(walk.held[local], list=last, value=value, relation=name)
 
     def take_back_array_view(self, argument):

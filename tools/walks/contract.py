@@ -3,6 +3,8 @@ import re
 
 from .words import NAME_CHAR, parens, stop, whole_word
 
+# stands for a parameter, or with no name for the result, until all are found
+MARK = '⟪%s⟫'
 ENTRY = r'now\s*\(\s*%s\s*\.entry\s*\)', r'now\s+%s', r'\(\s*%s\s*\.entry\s*\)', r'%s\s*\.entry\b'
 
 
@@ -51,16 +53,17 @@ class Contract:
         at `result`."""
         # marks first, so that no value is taken for a parameter
         for param in self.params:
+            text = re.sub(r'(?<!\.)«%s»' % param, param, text)
             name = whole_word(param)
-            mark = '«' + param + '»'
+            mark = MARK % param
             if param in lasts:
                 text = re.sub(r'now\s*\(\s*%s\s*\.exit\s*\)' % name, lambda found: parens(lasts[param]), text)
             for form in ENTRY:
                 text = re.sub(form % name, lambda found: mark, text)
         if self.result != '_':
-            text = re.sub(whole_word(self.result), lambda found: '«»', text)
+            text = re.sub(whole_word(self.result), lambda found: MARK % '', text)
         for param in self.params:
-            text = re.sub(whole_word(param) + r'(?!»)', lambda found: '«' + param + '»', text)
+            text = re.sub(whole_word(param) + r'(?!⟫)', lambda found: MARK % param, text)
         for param in self.params:
-            text = text.replace('«' + param + '»', parens(values[param]))
-        return text.replace('«»', parens(result))
+            text = text.replace(MARK % param, parens(values[param]))
+        return text.replace(MARK % '', parens(result))

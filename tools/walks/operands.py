@@ -2,7 +2,7 @@
 from .held import ArrayPointer, ArraySlice, Element, LocalArray, Slice, SlicePart, SlicePointer, Value
 from .mir import is_place, items, local_of, show_place, steps_of
 from .types import BOOL, UNIT, USIZE
-from .words import AUTO, bound_of, nested, parens, projection, stop
+from .words import AUTO, bound_of, field_name, nested, parens, projection, stop
 
 LITERALS = {
     'true': ('(true-lit !)', BOOL, 'true'),
@@ -30,7 +30,9 @@ class Operands:
             return text, Value(type_, value, 'refl')
         if operand[0] == 'int':
             type_ = self.types.of_mir(['tyInt', operand[1]])
-            return '(lit ! tt)', Value(type_, operand[2], '(refl, lit< tt)', literal=int(operand[2]))
+            # above 1023 the code has the number as `intBig`
+            rule = '(lit ! tt)' if int(operand[2]) < 1024 else '(big-lit ! (lit< tt))'
+            return rule, Value(type_, operand[2], '(refl, lit< tt)', literal=int(operand[2]))
         if not is_place(operand):
             stop('statement %s: the operand %s is not known. %s' % (self.now, operand[0], BY_VALUE))
         local = local_of(operand[1])
@@ -77,7 +79,7 @@ class Operands:
             owed = ('LL.owed %s-t.the-type %s-l.the-laws %s _ %s%s'
                     % (alias, alias, parens(value.text), parens(value.relation), projection(field)))
             type_ = self.types.of_source(text, declaration['module'])
-            value = Value(type_, '%s .%s' % (parens(value.text), name), owed)
+            value = Value(type_, '%s .%s' % (parens(value.text), field_name(name)), owed)
             part = '(sub ! %d refl %s)' % (field, part)
             walk = '(fld ! refl %s)' % walk
         return '(load ! (from ! %s) (look-in ! %d %s))' % (walk, place, part), value
@@ -122,7 +124,7 @@ class Operands:
             stop('statement %s: a part of a local array: lend the whole array' % ident)
         if isinstance(held, (SlicePointer, Element)) and steps == 1:
             return '(addr ! (from ! (hop ! (%s) (stop !))))' % self.look(local), held
-        stop('statement %s: a reference to %s. Walks lend whole slices, and local arrays of structs'
+        stop('statement %s: a reference to %s. Walks lend whole slices, and local arrays'
              % (ident, show_place(place)))
 
     def repeat(self, right):
@@ -131,8 +133,10 @@ class Operands:
         count = right[2] if isinstance(right[2], str) else right[2][1]
         value = parens(held.text)
         plain = self.types.plain(held.type)
+        # a bare numeral would not tell its type
+        replicate = 'replicate {A = ℕ}' if held.type.kind == 'int' else 'replicate'
         array = LocalArray(
-            element=held.type, count=count, list='replicate %s %s' % (count, value),
+            element=held.type, count=count, list='%s %s %s' % (replicate, count, value),
             value='(vstruct (ofList (replicate %s (%s .val %s))))' % (count, plain, value),
             relation='rep-is %s %s %s (%s .val %s) %s'
                      % (self.types.row(held.type), count, value, plain, value, parens(held.relation)))
@@ -224,5 +228,7 @@ class Operands:
         fits, least = 'fits-' + self.dashed(ident), 'le-' + self.dashed(ident)
         value = '%s - %s' % (parens(left.text), parens(right.text))
         self.knows(least, '%s ≤ %s' % (parens(right.text), parens(left.text)), self.proof_of(ident, 'fits', AUTO % ''))
-        self.knows(fits, '%s < 2 ^ %s' % (value, left.type.width), 'omega (arith, %s)' % bound_of(left.relation))
+        # a literal's bound says nothing that the literal doesn't
+        bound = '' if left.literal is not None else ', ' + bound_of(left.relation)
+        self.knows(fits, '%s < 2 ^ %s' % (value, left.type.width), 'omega (arith%s)' % bound)
         return Value(left.type, value, '(refl, %s)' % fits), '(%s)' % least

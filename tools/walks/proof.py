@@ -308,7 +308,7 @@ class Proof:
         dotted = '.'.join(walk.function.split('::'))
         types, definitions = walk.types.imports()
         uses = ['use ' + use for contract in [walk.contract] + [callee.contract for callee in self.callees]
-                for use in contract.uses]
+                for use in contract.uses] + sorted(walk.uses)
         own = [line.strip() for line in walk.description.get('uses', '').strip().split('\n') if line.strip()]
         lines = [WRITTEN_BY % dotted, '-- Assumes nothing.'] + imported_once(USES + uses + own + types)
         for callee in self.callees:

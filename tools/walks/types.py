@@ -4,7 +4,7 @@ from dataclasses import dataclass
 from typing import Any, Optional
 
 from .mir import items
-from .words import Stop, stop
+from .words import Stop, field_name, stop
 
 
 @dataclass(frozen=True)
@@ -302,7 +302,8 @@ class Types:
         alias = declaration['alias']
         names = ['x%d' % place for place in range(len(declaration['fields']))]
         types = ' → '.join([self.values(type_) for type_ in self.fields(declaration)] + [alias])
-        fields = '; '.join('%s = %s' % (field, name) for (field, _), name in zip(declaration['fields'], names))
+        fields = '; '.join('%s = %s' % (field_name(field), name)
+                           for (field, _), name in zip(declaration['fields'], names))
         return 'abbrev %s-of : %s\n%s = record { %s }\n' % (alias, types, ' '.join([alias + '-of'] + names), fields)
 
 

@@ -55,6 +55,7 @@ class Walk(Operands, Elements, Branches, Loops):
         self.keys_used = set()
         self.taken = {}  # imported names, with their origins
         self.renamed = {}
+        self.uses = set()  # imports that only some rules ask for
         for line in USES + [line.strip() for line in description.get('uses', '').strip().split('\n')]:
             module, names = import_line(line) or ('', [])
             for name in names:
@@ -338,8 +339,11 @@ class Walk(Operands, Elements, Branches, Loops):
                    parens(held.relation)))
 
     def typed_element(self, type_):
+        if type_.kind == 'int':
+            self.uses.add('use denote.Plain.{uint-lawful}')
+            return 'uint-lawful 𝓤 H A W w%s .typed x vs p' % type_.width
         if type_.kind != 'named':
-            stop('statement %s: a local array of %s that is lent: only arrays of structs and enums'
+            stop('statement %s: a local array of %s that is lent: only arrays of numbers, structs and enums'
                  % (self.now, self.types.show(type_)))
         alias = self.types.alias(type_.path)
         laws = self.types.laws(type_.path)

@@ -6,6 +6,9 @@ SUBSCRIPTS = str.maketrans('0123456789', '₀₁₂₃₄₅₆₇₈₉')
 # a character of a name in a proof
 NAME_CHAR = r"[\w′″·\-₀-₉'!?]"
 
+# words of the proofs' own language, which a field may have as its name
+QUOTED = 'as', 'data', 'in', 'open', 'use'
+
 # linear arithmetic, with what the tests on the way have said; %s takes more facts, each behind a comma
 AUTO = 'omega (arith, ltb-true, ltb-false, leb-true, leb-false, eqb-true, eqb-false%s)'
 
@@ -24,7 +27,12 @@ def subscript(number):
 
 def whole_word(name):
     """A pattern for the name where it stands alone, and is no field."""
-    return r'(?<!%s)(?<!\.)%s(?!%s)' % (NAME_CHAR, re.escape(name), NAME_CHAR)
+    return r'(?<!%s)(?<![.«])%s(?!%s)' % (NAME_CHAR, re.escape(name), NAME_CHAR)
+
+
+def field_name(name):
+    """A field as a proof writes it: in guillemets where the bare word would be read as something else."""
+    return '«%s»' % name if '_' in name or name in QUOTED else name
 
 
 def parens(text):
