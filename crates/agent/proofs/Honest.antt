@@ -1,5 +1,5 @@
 -- The rules are honest about handles: a call has handles of the session's own objects only, and a handle is listed only where a CREATE got it.
-use mathlib.Core.Path.{_≡_, refl, sym, ap, _∙_}
+use mathlib.Core.Path.{_≡_, refl}
 use Prim.Native.Nat.{ℕ}
 use mathlib.Core.Bool.{Bool, true, false, cond}
 use mathlib.Core.Option.{Option, none, some}
@@ -9,13 +9,13 @@ use Rattle.codec.specs.declared.submessages.ObjectKind.{ObjectKind}
 use Rattle.codec.specs.declared.submessages.ObjectKind.the-variants.{Participant, Topic, Publisher, Subscriber, DataWriter, DataReader}
 use Rattle.codec.specs.declared.submessages.Submessage.{Submessage}
 use Rattle.codec.specs.declared.submessages.Submessage.the-variants.{CreateClient, Create, Delete, Status, WriteData, ReadData, Data, Heartbeat, Acknack}
-use Rattle.isolation.proofs.Provenance.{Within, Fair, Honest}
+use Rattle.isolation.proofs.Provenance.{Fair, Honest}
 use Rattle.sessions.specs.View.{Entry, Local, findIn}
 use Rattle.agent.specs.Local.{touched, full, handleAt, handleOfKind}
-use Rattle.agent.specs.Calls.{Call, createWriter, createReader, Answer, created, succeeded, sample, noSample, failed, Task, creating, deleting, writing, reading, Pending}
+use Rattle.agent.specs.Calls.{Call, createWriter, createReader, Answer, created, succeeded, sample, noSample, failed, Task, creating, deleting, writing, reading}
 use Rattle.agent.specs.RulesObjects.{Move, ifHandle, createWith, createFor, deleteFound}
 use Rattle.agent.specs.RulesAnswers.{answerOf}
-use Rattle.agent.specs.Rules.{In, onSubmessage, rules, handlesIn, handlesHeld, grantedBy, handlesOf}
+use Rattle.agent.specs.Rules.{onSubmessage, rules, handlesIn, handlesHeld, grantedBy, handlesOf}
 use Rattle.agent.proofs.Held.{put-held, drop-held, Holds, find-held, greatest-held}
 
 module _ (timeout : ℕ) where

@@ -18,11 +18,11 @@ use Rattle.isolation.proofs.Reference as ref
 use Rattle.isolation.proofs.Refine.{InStep, stops, goes, Refines}
 use Rattle.sessions.specs.Opening.{after, liveFrom}
 use Rattle.sessions.specs.View.{Local, absent}
-use Rattle.agent.specs.Calls.{Call, Answer, Pending, fits}
+use Rattle.agent.specs.Calls.{Call, Answer, fits}
 use Rattle.agent.specs.Replies.{clientBytes}
 use Rattle.agent.specs.RulesObjects.{Move}
 use Rattle.agent.specs.RulesAnswers.{onAnswer}
-use Rattle.agent.specs.Rules.{Opening, In, parse, parsedAs, messageFrom, handle, rules}
+use Rattle.agent.specs.Rules.{Opening, In, parsedAs, messageFrom, handle, rules}
 use Rattle.agent.specs.Step.{Tables, Open, Agent, nextFree, chosen, openAs, Reply, opened, replied, Ran, behind, keep, act, deliver, run, continued, Event, datagram, answer, removal, sweep, Result, refused, ran, removed, swept, Did, refuse, finish, joinedReplies, callOf, openOf, withTables, settle, begin, tooLong, withId, isLive, stays, lapsedIds, withLocals, stepped, step}
 use Rattle.agent.specs.Claim.{Hosted, hostCall, outOf, askedOf, resultOf, agent}
 

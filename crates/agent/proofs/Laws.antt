@@ -1,6 +1,6 @@
 -- Laws of the step: a refused call leaves everything as it was, the output keeps its length, and how much room a run may need.
-use mathlib.Core.Path.{_≡_, refl, sym, ap, _∙_}
-use Prim.Native.Nat.{ℕ, zero, suc, _+_, _-_, _*_, _≤_, _<_}
+use mathlib.Core.Path.{_≡_, refl}
+use Prim.Native.Nat.{ℕ, _+_, _*_, _≤_}
 use mathlib.Core.Bool.{Bool, true, false, cond}
 use mathlib.Core.Option.{Option, none, some}
 use mathlib.Core.List.{List, [], _∷_, _++_, map}
@@ -23,12 +23,12 @@ use Rattle.streams.specs.Received.{bitmapOf}
 use Rattle.isolation.specs.Rules.{done, calls, Sub, opens, names}
 use Rattle.sessions.specs.View.{Entry, KeptStream, Local, findIn, streamIn}
 use Rattle.agent.specs.Local.{full, touched, opening, handleAt, handleOfKind}
-use Rattle.agent.specs.Calls.{Call, Answer, fits}
+use Rattle.agent.specs.Calls.{Call, fits}
 use Rattle.agent.specs.Replies.{statusBytes, acknackBytes, clientBytes}
 use Rattle.agent.specs.RulesObjects.{Move, ifHandle, createWith, createFor, deleteFound}
 use Rattle.agent.specs.RulesStreams.{acknackFrom}
 use Rattle.agent.specs.Rules.{Opening, In, messageFrom, onSubmessage, handle}
-use Rattle.agent.specs.Step.{Tables, Open, Agent, withId, chosen, openAs, Reply, opened, replied, bytesOf, Ran, keep, act, deliver, run, continued, Event, datagram, answer, removal, sweep, Result, refused, ran, removed, swept, Did, refuse, finish, joinedReplies, callOf, openOf, withTables, settle, begin, tooLong, isLive, stays, lapsedIds, withLocals, stepped, step}
+use Rattle.agent.specs.Step.{Tables, Open, Agent, withId, chosen, openAs, Reply, replied, Ran, keep, act, deliver, run, continued, Event, datagram, answer, removal, sweep, Result, refused, ran, removed, swept, Did, refuse, finish, joinedReplies, callOf, openOf, withTables, settle, begin, tooLong, isLive, stays, lapsedIds, withLocals, stepped, step}
 
 -- ---- a refused call changes nothing; the output keeps its length
 
@@ -37,13 +37,13 @@ record Kept (st : Agent) (out : List ℕ) (d : Did) : Type 0 where
   long : length (d .out) ≡ length out
 
 -- a result that is no refusal
-abbrev went : Result → Bool
+abbrev pub went : Result → Bool
 went (refused number byte) = false
 went (ran rs c) = true
 went (removed b) = true
 went (swept ids) = true
 
-went-not : (q : Result) (number byte : ℕ) → went q ≡ true → q ≡ refused number byte → ⊥
+pub went-not : (q : Result) (number byte : ℕ) → went q ≡ true → q ≡ refused number byte → ⊥
 went-not (refused n b) number byte w e = let z : _≡_ {A = ℕ} 0 1 = cc in omega arith
 went-not (ran rs c) number byte w e = let z : _≡_ {A = ℕ} 0 1 = cc in omega arith
 went-not (removed b) number byte w e = let z : _≡_ {A = ℕ} 0 1 = cc in omega arith
@@ -101,11 +101,11 @@ output-long st e out = stepped-keeps (st .waits) st e out .long
 
 -- ---- room: a submessage's replies take 12 bytes at most
 
-status-long : (session stream number : ℕ) (code : StatusCode) → length (statusBytes session stream number code) ≡ 11
+pub status-long : (session stream number : ℕ) (code : StatusCode) → length (statusBytes session stream number code) ≡ 11
 unfolding messageBytes headerBytes subBytes payloadBytes fixedBytes le16
 status-long session stream number code = refl
 
-acknack-long : (session stream first bitmap : ℕ) → length (acknackBytes session stream first bitmap) ≡ 12
+pub acknack-long : (session stream first bitmap : ℕ) → length (acknackBytes session stream first bitmap) ≡ 12
 unfolding messageBytes headerBytes subBytes payloadBytes fixedBytes le16
 acknack-long session stream first bitmap = refl
 

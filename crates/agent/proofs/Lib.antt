@@ -1,8 +1,34 @@
--- What is proved of the agent's definitions: the rules are honest about handles, the agent goes in step with `isolation`'s, and so has term 3; no reply is hidden.
+-- What is proved of the agent's definitions: the rules are honest about handles, the agent goes in step with `isolation`'s, and so has term 3; no reply is hidden; document 01's frauds are
+-- shut out; and the definitions over the lent tables do what the rules and the step over lists do.
 pub mod Held
 pub mod Honest
 pub mod InStep
 pub mod Term3
+pub mod Frauds
 pub mod Shown
 pub mod Laws
 pub mod Place
+pub mod MoveBytes
+pub mod Strings
+pub mod NameParts
+pub mod Square
+pub mod SquareObjects
+pub mod SquareStreams
+pub mod SquareHandled
+pub mod SquareOpen
+pub mod SquareRun
+pub mod SquareHost
+pub mod Written
+pub mod Turns
+pub mod Running
+pub mod CallRoom
+pub mod SquareAnswer
+pub mod SquareStep
+pub mod WholeInStep
+pub mod WireNumbers
+pub mod Planned
+pub mod Promised
+pub mod Back
+pub mod Frame
+pub mod Judged
+pub mod Thirteen

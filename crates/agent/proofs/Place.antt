@@ -10,7 +10,7 @@ use native.Mathlib.Nat.{lt-of-not-le}
 use lib.Dec.{leb}
 use lib.ListN.{length}
 use Rattle.codec.specs.Header.{headerOf}
-use Rattle.codec.specs.Reading.{partOf, Item, Items, items, stopped, before, onward, readAt, itemsAt, Message, message, refused, under, messageOf}
+use Rattle.codec.specs.Reading.{partOf, Item, Items, items, stopped, before, onward, readAt, itemsAt, refused, under, messageOf}
 use Rattle.codec.specs.Answers.{Answer, gives, refusedAs, refusal}
 use Rattle.codec.specs.Grammar.{Said, saidIn, says, readingOf, reading}
 use Rattle.codec.specs.declared.header.MessageHeader.{MessageHeader}
@@ -28,10 +28,10 @@ use Rattle.sessions.specs.View.{Local}
 use Rattle.agent.specs.Calls.{Call}
 use Rattle.agent.specs.RulesObjects.{Move}
 use Rattle.agent.specs.Rules.{Opening, In, subFrom, subOf, messageFrom, handle}
-use Rattle.agent.specs.Step.{Tables, Open, chosen, openAs, Ran, keep, act, deliver, run}
+use Rattle.agent.specs.Step.{Tables, Open, chosen, openAs, keep, act, deliver, run}
 use Rattle.agent.specs.Place.{subsFrom, subsAt}
 
-items-not : (xs : List Item) (r : Refusal) → stopped r ≡ items xs → ⊥
+pub items-not : (xs : List Item) (r : Refusal) → stopped r ≡ items xs → ⊥
 items-not xs r e = let z : _≡_ {A = ℕ} 0 1 = cc in omega arith
 
 says-not : (h : MessageHeader) (xs : List Said) (r : Refusal) → refusal r ≡ says h xs → ⊥

@@ -13,11 +13,11 @@ use Rattle.codec.specs.Answers.{Answer as Read, gives, refusedAs}
 use Rattle.codec.specs.Grammar.{Said, reading}
 use Rattle.codec.specs.declared.header.MessageHeader.{MessageHeader}
 use Rattle.isolation.specs.Claim.{outs-of}
-use Rattle.agent.specs.Calls.{Answer, fits}
+use Rattle.agent.specs.Calls.{fits}
 use Rattle.agent.specs.Replies.{clientBytes}
 use Rattle.agent.specs.Rules.{messageFrom, rules}
-use Rattle.agent.specs.Step.{Open, Agent, Reply, opened, replied, Ran, run, continued, Event, datagram, answer, removal, sweep, Result, refused, ran, removed, swept, Did, refuse, finish, joinedReplies, callOf, openOf, withTables, settle, begin, tooLong, withId, isLive, stays, lapsedIds, withLocals, stepped, step}
-use Rattle.agent.specs.Claim.{Hosted, outOf, resultOf, outBytes, idsIn, Shown}
+use Rattle.agent.specs.Step.{Open, Agent, Reply, opened, replied, Ran, run, continued, Event, datagram, answer, removal, sweep, Result, ran, removed, swept, Did, refuse, finish, joinedReplies, callOf, openOf, withTables, settle, begin, tooLong, withId, isLive, stays, lapsedIds, withLocals, stepped, step}
+use Rattle.agent.specs.Claim.{outOf, resultOf, outBytes, idsIn, Shown}
 
 module _ (max timeout : ℕ) where
   -- what a result says, beside the call then open
@@ -27,7 +27,7 @@ module _ (max timeout : ℕ) where
   abbrev Shows : List ℕ → Did → Type 0
   Shows out d = let bytes = said (d .agent .waits) (d .result) in (length bytes ≤ length out) × (d .out ≡ putAt out 0 bytes)
 
-  joinedReplies-same : (rs : List Reply) → joinedReplies rs ≡ outBytes max timeout (map (outOf max timeout) rs)
+  pub joinedReplies-same : (rs : List Reply) → joinedReplies rs ≡ outBytes max timeout (map (outOf max timeout) rs)
   unfolding joinedReplies outBytes
   joinedReplies-same [] = refl
   joinedReplies-same (opened x ∷ rs) = ap (λ (bs : List ℕ). clientBytes x ++ bs) (joinedReplies-same rs)

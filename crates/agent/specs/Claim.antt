@@ -1,7 +1,7 @@
 -- The agent as `isolation` speaks of one: the host's calls, and an answer's replies by session.
 use mathlib.Core.Path.{_≡_}
 use Prim.Native.Nat.{ℕ, _≤_}
-use mathlib.Core.Option.{Option, none, some, Option·map}
+use mathlib.Core.Option.{Option, none, some}
 use mathlib.Core.List.{List, [], _∷_, _++_, map}
 use lib.ListN.{length}
 use Rattle.codec.specs.Bytes.{putAt}

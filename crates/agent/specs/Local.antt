@@ -1,9 +1,9 @@
 -- What the rules do to the tables of the one-session machine: its id, key, last activity, objects and streams (sessions' `Local`).
 use Prim.Native.Nat.{ℕ}
-use mathlib.Core.Bool.{Bool, true, false, cond}
+use mathlib.Core.Bool.{Bool, false}
 use mathlib.Core.Option.{Option, none, some}
-use mathlib.Core.List.{List, [], _∷_, _++_}
-use lib.Dec.{eqb, leb, ltb}
+use mathlib.Core.List.{List}
+use lib.Dec.{leb}
 use lib.ListN.{length}
 use Rattle.streams.specs.View.{acknackIn}
 use Rattle.sessions.specs.View.{Entry, KeptStream, Local, findIn, putIn, dropIn, greatestIn, streamIn, openIn, writeIn}

@@ -1,6 +1,5 @@
 -- The rules of one session: document 01's one-session machine, as an instance of `isolation`'s rules; and its handles.
 use Prim.Native.Nat.{ℕ}
-use mathlib.Core.Bool.{Bool}
 use mathlib.Core.Option.{Option, none, some}
 use mathlib.Core.List.{List, [], _∷_, map}
 use Rattle.codec.specs.Answers.{Answer as Read, gives, refusedAs}

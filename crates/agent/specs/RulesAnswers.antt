@@ -1,7 +1,7 @@
 -- The answer to a session's call: "The same rules give the reply."
 use Prim.Native.Nat.{ℕ}
 use mathlib.Core.Option.{some}
-use mathlib.Core.List.{List, [], _∷_}
+use mathlib.Core.List.{[], _∷_}
 use Rattle.codec.specs.declared.submessages.StatusCode.the-variants.{Ok, ErrUnknownRef, ErrInvalidData}
 use Rattle.isolation.specs.Rules.{done}
 use Rattle.sessions.specs.View.{Local}

@@ -1,5 +1,5 @@
 -- The agent: a state, and what each call of the host does to it.
-use Prim.Native.Nat.{ℕ, zero, suc, _+_}
+use Prim.Native.Nat.{ℕ, zero, suc}
 use mathlib.Core.Bool.{Bool, true, false, cond}
 use mathlib.Core.Option.{Option, none, some}
 use mathlib.Core.List.{List, [], _∷_, _++_, map}
@@ -9,11 +9,11 @@ use Rattle.codec.specs.Bytes.{putAt}
 use Rattle.codec.specs.Answers.{Answer as Read, gives, refusedAs}
 use Rattle.codec.specs.Grammar.{Said, reading}
 use Rattle.codec.specs.declared.header.MessageHeader.{MessageHeader}
-use Rattle.isolation.specs.Rules.{Outcome, done, calls, Sub, opens, names, Message}
+use Rattle.isolation.specs.Rules.{done, calls, Sub, opens, names}
 use Rattle.sessions.specs.Opening.{after, liveFrom}
 use Rattle.sessions.specs.Sweep.{expiredFrom}
 use Rattle.sessions.specs.View.{Local, absent, expired, lapsed}
-use Rattle.agent.specs.Calls.{Call, Answer, created, succeeded, sample, noSample, failed, Task, creating, deleting, writing, reading as readingTask, Pending, fits}
+use Rattle.agent.specs.Calls.{Call, Answer, created, succeeded, sample, noSample, failed, Pending, fits}
 use Rattle.agent.specs.Replies.{clientBytes, dataPayload}
 use Rattle.agent.specs.RulesObjects.{Move}
 use Rattle.agent.specs.RulesAnswers.{onAnswer}

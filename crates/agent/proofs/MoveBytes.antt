@@ -1,0 +1,87 @@
+-- The bytes that a move replies: their length, that the code's value has the same, and that they are written as they stand.
+use Prim.Native.Nat.{ℕ, _+_, _≤_}
+use mathlib.Core.Path.{_≡_, refl, sym}
+use mathlib.Core.Bool.{Bool, true, false, cond}
+use mathlib.Core.List.{List, []}
+use native.Mathlib.Omega.{arith}
+use borrow.Author.Tests.{le-ltb}
+use lib.Dec.{ltb}
+use lib.ListN.{length}
+use Rattle.codec.specs.Bytes.{putAt, putBytes, writeBytes}
+use Rattle.codec.specs.Layouts.{leastOf}
+use Rattle.codec.specs.Writing.{payloadBytes}
+use Rattle.codec.specs.declared.submessages.Submessage.{Submessage}
+use Rattle.codec.proofs.bytes.Laws.{put-nothing}
+use Rattle.codec.proofs.writing.Laws.{length-payload, length-sub, length-message, least-small, body-within}
+use Rattle.sessions.specs.declared.opening.Created.{Created}
+use Rattle.sessions.specs.declared.opening.Created.the-variants as created
+use Rattle.agent.specs.Replies.{dataOf, dataPayload, dataBytes}
+use Rattle.agent.specs.Moves.{moveBytes, saidOf, saidBytes}
+use Rattle.agent.specs.Run.{greeting, greetingBytes}
+use Rattle.agent.specs.declared.moves.Move.{Move}
+use Rattle.agent.specs.declared.moves.Move.the-variants.{Greets, Status, Acknack, Calls, Silent}
+use Rattle.agent.proofs.Laws.{status-long, acknack-long}
+
+-- ---- lengths
+
+abbrev pub moveLong : Move → ℕ
+moveLong (Greets id code) = 11
+moveLong (Status number code) = 11
+moveLong (Acknack p) = 12
+moveLong (Calls number task call) = 0
+moveLong Silent = 0
+
+-- a reply is as long for any session and stream
+pub move-long : (session stream : ℕ) (m : Move) → length (moveBytes session stream m) ≡ moveLong m
+move-long session stream (Greets id code) = status-long id 0 0 code
+move-long session stream (Status number code) = status-long session stream (number .0) code
+move-long session stream (Acknack p) = acknack-long session stream (p .«first_unacked_seq») (p .«nack_bitmap»)
+move-long session stream (Calls number task call) = refl
+move-long session stream Silent = refl
+
+pub data-payload-long : (number : ℕ) (body : List ℕ) → length (dataPayload number body) ≡ 2 + length body
+unfolding leastOf
+data-payload-long number body = length-payload (dataOf number) body
+
+pub data-long : (session stream number : ℕ) (body : List ℕ) → length (dataBytes session stream number body) ≡ 10 + length body
+data-long session stream number body =
+    let a = length-message (dataOf number) body (record { «session_id» = session; «stream_id» = stream; «sequence_nr» = 0 }) in
+    let b = length-sub (dataOf number) body in
+    let c = data-payload-long number body in
+    omega (arith, a, b, c)
+
+-- ---- the code's value
+
+pub said-bytes : (session stream : ℕ) (m : Move) → saidBytes (saidOf session stream m) ≡ moveBytes session stream m
+said-bytes session stream (Greets id code) = refl
+said-bytes session stream (Status number code) = refl
+said-bytes session stream (Acknack p) = refl
+said-bytes session stream (Calls number task call) = refl
+said-bytes session stream Silent = refl
+
+-- CREATE_CLIENT's STATUS goes by no header
+pub greeting-bytes : (session stream : ℕ) (c : Created) → moveBytes session stream (greeting c) ≡ greetingBytes c
+greeting-bytes session stream (created.Opened id next) = refl
+greeting-bytes session stream (created.Refused r) = refl
+
+-- ---- written: 12 does not apply
+
+pub write-put : (n : ℕ) (out : List ℕ) (at : ℕ) (bytes : List ℕ) → n ≤ 65535 → writeBytes n out at bytes ≡ putBytes out at bytes
+unfolding writeBytes
+write-put n out at bytes h = rw (le-ltb 65535 n h)
+
+-- a submessage without a body is short
+pub payload-short : (m : Submessage) → length (payloadBytes m []) ≤ 65535
+payload-short m = let a = length-payload m [] in let b = least-small m in let c = body-within m 0 in omega (arith, a, b, c)
+
+pub data-short : (number : ℕ) (body : List ℕ) → length body ≤ 65533 → length (dataPayload number body) ≤ 65535
+data-short number body h = let a = data-payload-long number body in omega (arith, a, h)
+
+-- a reply of nothing
+pub put-none : (out : List ℕ) (at : ℕ) → out ≡ putBytes out at []
+unfolding putBytes
+put-none out at = go (ltb (length out) (at + 0))
+  where
+    go : (b : Bool) → out ≡ cond b out (putAt out at [])
+    go true = refl
+    go false = sym (put-nothing out at)

@@ -1,0 +1,274 @@
+-- The square of CREATE, DELETE, WRITE_DATA and READ_DATA.
+use Prim.Native.Nat.{ℕ, _<_, _≤_}
+use mathlib.Core.Path.{_≡_, refl, sym, ap, _∙_, subst}
+use mathlib.Core.Bool.{Bool, true, false, cond}
+use mathlib.Core.Option.{Option, none, some}
+use mathlib.Core.List.{List}
+use native.Mathlib.Omega.{arith}
+use borrow.Author.Tests.{lt-leb, le-leb, leb-false, ltb-true, ltb-false}
+use lib.Dec.{eqb, leb, ltb}
+use lib.ListN.{length}
+use Rattle.codec.specs.Reading.{partOf}
+use Rattle.codec.specs.declared.layouts.Span.{Span}
+use Rattle.codec.specs.declared.submessages.CreatePayload.{CreatePayload}
+use Rattle.codec.specs.declared.submessages.ObjectKind.{ObjectKind}
+use Rattle.codec.specs.declared.submessages.ObjectKind.the-variants.{Participant, Topic, Publisher, Subscriber, DataWriter, DataReader}
+use Rattle.codec.specs.declared.submessages.ObjectNumber.{ObjectNumber}
+use Rattle.codec.specs.declared.submessages.DeletePayload.{DeletePayload}
+use Rattle.codec.specs.declared.submessages.ReadDataPayload.{ReadDataPayload}
+use Rattle.codec.specs.declared.submessages.WriteDataPayload.{WriteDataPayload}
+use Rattle.codec.specs.declared.submessages.StatusCode.the-variants.{Ok, ErrUnknownRef, ErrInvalidData, ErrResources}
+use Rattle.codec.specs.declared.submessages.Submessage.the-variants as sub
+use Rattle.streams.specs.View.{Sound}
+use Rattle.isolation.proofs.Simulation.{none-some}
+use Rattle.sessions.specs.Table.{isFree, sessionAt}
+use Rattle.sessions.specs.Objects.{handleOf, implicitOf, objectPlace, foundOf, slotOf}
+use Rattle.sessions.specs.SessionObjects.{objectRow, usedOf, foundObject, greatestObject}
+use Rattle.sessions.specs.Room.{roomFor, roomOf}
+use Rattle.sessions.specs.View.{Tables, Entry, Local, entryOf, placeIn, heldAt, findIn, putIn, dropAt, dropIn}
+use Rattle.sessions.specs.Calls.{SoundTables, putTables}
+use Rattle.sessions.specs.declared.objects.Found.{Found}
+use Rattle.sessions.specs.declared.objects.Found.the-variants as found
+use Rattle.sessions.specs.declared.objects.Object.{Object}
+use Rattle.sessions.specs.declared.objects.ObjectHandle.{ObjectHandle}
+use Rattle.sessions.specs.declared.objects.ObjectHandle.the-variants.{Bridged, Implicit}
+use Rattle.sessions.specs.declared.objects.Place.{Place}
+use Rattle.sessions.specs.declared.objects.Place.the-variants.{At, Nowhere}
+use Rattle.sessions.specs.declared.room.Room.{Room}
+use Rattle.sessions.specs.declared.room.Room.the-variants as room
+use Rattle.sessions.specs.declared.table.Named.the-variants.{Live}
+use Rattle.sessions.proofs.ObjectSearch.{Under, place-under, place-shown}
+use Rattle.sessions.proofs.ViewObjects.{entryFound, listed-length}
+use Rattle.sessions.proofs.ViewStores as stores
+use Rattle.sessions.proofs.ViewStores.{fits, find-view, greatest-view, put-here, put-elsewhere, drop-here, drop-elsewhere}
+use Rattle.sessions.proofs.session_objects.Laws.{found-is}
+use Rattle.agent.specs.Calls.{Call, createTopic, createWriter, createReader, writeData, readData, deleteEntity}
+use Rattle.agent.specs.Local.{withObjects, noPlace, full, listing, dropping, entryHandle, handleAt, handleOfKind}
+use Rattle.agent.specs.Names.{namesIn}
+use Rattle.agent.specs.Moves.{foundHandle, topicBy, endpointFor, writeBy, readBy, writeMove, readMove, droppedMove, deleteMove}
+use Rattle.agent.specs.Rows.{createMove, createdSessions, createdObjects, roomMove, roomSessions, roomObjects}
+use Rattle.agent.specs.RulesObjects.{Move, Names, says, asks, ifHandle, namesOf, createWith, createFor, onCreate, deleteFound, onDelete, onWrite, onRead}
+use Rattle.agent.specs.declared.moves.Move as code
+use Rattle.agent.specs.declared.moves.Move.the-variants.{Status}
+use Rattle.agent.proofs.NameParts.{names-same}
+use Rattle.agent.proofs.Square.{outcome, shownAt, Meets, Squares, shown-live, reach-objects}
+
+-- ---- handles
+
+-- a handle as the rules have it
+abbrev pub handleShown : ObjectHandle → Option ℕ
+handleShown (Bridged h) = some (h .0)
+handleShown Implicit = none
+
+own-shown : (o : Object) → handleShown (handleOf o) ≡ entryOf o .handle
+own-shown o = by (eqb (o .bridged) 0)
+  where
+    by : (b : Bool) → handleShown (cond b Implicit (Bridged (record { 0 = o .handle }))) ≡ cond b none (some (o .handle))
+    by true = refl
+    by false = refl
+
+handle-shown : (f : Found) → handleShown (foundHandle f) ≡ entryHandle (entryFound f)
+handle-shown (found.Held o) = own-shown o
+handle-shown found.Nothing = refl
+handle-shown (found.Refused r) = refl
+
+module _ (t : Tables) (sound : SoundTables Sound t) (id : ℕ) (id< : id < 256) (live : isFree (t .sessions) id ≡ false) (d : List ℕ) (n : ℕ) (body : Span) where
+  abbrev l : Local
+  l = shownAt t id
+
+  abbrev foundAt : ObjectNumber → Found
+  foundAt number = foundObject (t .sessions) (t .objects) id number
+
+  abbrev greatestAt : ℕ → Found
+  greatestAt kind = greatestObject (t .sessions) (t .objects) id kind
+
+  handle-view : (number : ObjectNumber) → handleAt (number .0) l ≡ handleShown (foundHandle (foundAt number))
+  handle-view number = ap entryHandle (sym (find-view t id id< (reach-objects t sound id id< live) number)) ∙ sym (handle-shown (foundAt number))
+
+  kind-view : (kind : ℕ) → handleOfKind kind l ≡ handleShown (foundHandle (greatestAt kind))
+  kind-view kind = ap entryHandle (sym (greatest-view t id id< (reach-objects t sound id id< live) kind)) ∙ sym (handle-shown (greatestAt kind))
+
+  -- where the tables stay
+  stays : (rule : Move) (m : code.Move) → rule ≡ outcome d id n l m → Meets t d id n rule t m
+  stays rule m e = record { after = l; shows = shown-live t id live; moves = e; elsewhere = λ j h. refl }
+
+  -- ---- WRITE_DATA and READ_DATA
+
+  write-moves : (number : ObjectNumber) (h : ObjectHandle)
+      → ifHandle (handleShown h) (λ w. asks n (number .0) (writeData w (partOf d body)) l) (says n (number .0) ErrUnknownRef l) ≡ outcome d id n l (writeBy number body h)
+  write-moves number (Bridged w) = refl
+  write-moves number Implicit = refl
+
+  pub write-square : (p : WriteDataPayload) → Squares (sub.WriteData p) t d id n body
+  write-square p =
+      let number = p .«writer_id» in
+      stays (onWrite n (number .0) (partOf d body) l) (writeMove number body (foundAt number))
+      (ap (λ (h : Option ℕ). ifHandle h (λ w. asks n (number .0) (writeData w (partOf d body)) l) (says n (number .0) ErrUnknownRef l)) (handle-view number)
+      ∙ write-moves number (foundHandle (foundAt number)))
+
+  read-moves : (number : ObjectNumber) (h : ObjectHandle)
+      → ifHandle (handleShown h) (λ x. asks n (number .0) (readData x) l) (says n (number .0) ErrUnknownRef l) ≡ outcome d id n l (readBy number h)
+  read-moves number (Bridged x) = refl
+  read-moves number Implicit = refl
+
+  pub read-square : (p : ReadDataPayload) → Squares (sub.ReadData p) t d id n body
+  read-square p =
+      let number = p .«reader_id» in
+      stays (onRead n (number .0) l) (readMove number (foundAt number))
+      (ap (λ (h : Option ℕ). ifHandle h (λ x. asks n (number .0) (readData x) l) (says n (number .0) ErrUnknownRef l)) (handle-view number)
+      ∙ read-moves number (foundHandle (foundAt number)))
+
+  -- ---- DELETE
+
+  -- of a number that is not held nothing is dropped
+  none-dropped : (number : ℕ) → findIn (l .objects) number ≡ none → dropping number l ≡ l
+  none-dropped number e = by (placeIn (l .objects) number) e
+    where
+      by : (p : Place) → heldAt (l .objects) p ≡ none → withObjects l (dropAt (l .objects) p) ≡ l
+      by (At i) e = absurd (none-some (sym e))
+      by Nowhere e = refl
+
+  delete-moves : (number : ObjectNumber) (f : Found) → entryFound f ≡ findIn (l .objects) (number .0)
+      → onDelete n (number .0) l ≡ outcome d id n (dropping (number .0) l) (deleteMove number f)
+  delete-moves number f e = ap (λ (x : Option Entry). deleteFound n (number .0) x l) (sym e) ∙ by f e
+    where
+      left : Local
+      left = dropping (number .0) l
+
+      has : (h : ObjectHandle) → ifHandle (handleShown h) (λ x. asks n (number .0) (deleteEntity x) left) (says n (number .0) Ok left) ≡ outcome d id n left (droppedMove number h)
+      has (Bridged h) = refl
+      has Implicit = refl
+
+      unknown : none ≡ findIn (l .objects) (number .0) → says n (number .0) ErrUnknownRef l ≡ outcome d id n left (Status number ErrUnknownRef)
+      unknown e = ap (λ (x : Local). outcome d id n x (Status number ErrUnknownRef)) (sym (none-dropped (number .0) (sym e)))
+
+      by : (f : Found) → entryFound f ≡ findIn (l .objects) (number .0) → deleteFound n (number .0) (entryFound f) l ≡ outcome d id n left (deleteMove number f)
+      by (found.Held o) e = ap (λ (h : Option ℕ). ifHandle h (λ x. asks n (number .0) (deleteEntity x) left) (says n (number .0) Ok left)) (sym (own-shown o)) ∙ has (handleOf o)
+      by found.Nothing e = unknown e
+      by (found.Refused r) e = unknown e
+
+  pub delete-square : (p : DeletePayload) → Squares (sub.Delete p) t d id n body
+  delete-square p =
+      let number = p .«object_id» in
+      let reached = reach-objects t sound id id< live in
+      record {
+        after = dropping (number .0) l;
+        shows = drop-here t id id< reached number ∙ ap (stores.withObjects (dropIn (l .objects) (number .0))) (shown-live t id live);
+        moves = delete-moves number (foundAt number) (find-view t id id< reached number);
+        elsewhere = drop-elsewhere t id id< reached number;
+      }
+
+  -- ---- CREATE
+
+  abbrev row : List Object
+  row = objectRow (t .objects) id
+
+  abbrev used : ℕ
+  used = usedOf (t .sessions) id
+
+  count-shown : length (l .objects) ≡ used
+  count-shown = listed-length row used (fits t id id< (reach-objects t sound id id< live))
+
+  place-view : (number : ObjectNumber) → objectPlace row used number ≡ placeIn (l .objects) (number .0)
+  place-view number = place-shown row number used (fits t id id< (reach-objects t sound id id< live))
+
+  room-view : (number : ObjectNumber) → roomOf (t .sessions) (t .objects) id number ≡ cond (full (number .0) l) room.Full room.Free
+  unfolding roomOf
+  room-view number =
+      ap (λ (f : Found). roomFor f (sessionAt (t .sessions) id)) (sym (found-is (t .sessions) (t .objects) id number Live (reach-objects t sound id id< live)))
+      ∙ by (objectPlace row used number)
+      ∙ ap (λ (p : Place). cond (noPlace (heldAt (l .objects) p) (l .objects)) room.Full room.Free) (place-view number)
+    where
+      count : (b : Bool) → ltb used 32 ≡ b → cond b room.Free room.Full ≡ cond (leb 32 (length (l .objects))) room.Full room.Free
+      count true e = rw (lt-leb 32 (length (l .objects)) (rw count-shown (ltb-true used 32 e))) refl
+      count false e = rw (le-leb 32 (length (l .objects)) (rw count-shown (ltb-false used 32 e))) refl
+
+      by : (p : Place) → roomFor (foundOf row p) (sessionAt (t .sessions) id) ≡ cond (noPlace (heldAt (l .objects) p) (l .objects)) room.Full room.Free
+      by (At i) = refl
+      by Nowhere = ap (λ (b : Bool). cond b room.NotLive (cond (ltb used 32) room.Free room.Full)) live ∙ count (ltb used 32) refl
+
+  -- where there is room, the object has a place in the row
+  pub slot-in : (number : ObjectNumber) → full (number .0) l ≡ false → slotOf (objectPlace row used number) used < 32
+  slot-in number e =
+      by (objectPlace row used number) (place-under row number used) (ap (λ (p : Place). noPlace (heldAt (l .objects) p) (l .objects)) (place-view number) ∙ e)
+    where
+      few : used ≤ 32
+      few = sound .each id id< .few-objects
+
+      by : (p : Place) → Under used p → noPlace (heldAt (l .objects) p) (l .objects) ≡ false → slotOf p used < 32
+      by (At i) h e = omega (arith, few)
+      by Nowhere h e = let a : length (l .objects) < 32 = leb-false 32 (length (l .objects)) e in omega (arith, count-shown)
+
+  topic-moves : (number : ObjectNumber) (h : ObjectHandle)
+      → ifHandle (handleShown h) (λ p. asks n (number .0) (createTopic p (namesOf (partOf d body) .name) (namesOf (partOf d body) .type)) l) (says n (number .0) ErrInvalidData l)
+      ≡ outcome d id n l (topicBy number (namesIn d body) h)
+  topic-moves number (Bridged p) = ap (λ (x : Names). asks n (number .0) (createTopic (p .0) (x .name) (x .type)) l) (sym (names-same d body))
+  topic-moves number Implicit = refl
+
+  abbrev withBoth : ObjectNumber → (ℕ → ℕ → Call) → Option ℕ → Option ℕ → Move
+  withBoth number call p t = ifHandle p (λ p. ifHandle t (λ t. asks n (number .0) (call p t) l) (says n (number .0) ErrInvalidData l)) (says n (number .0) ErrInvalidData l)
+
+  writer-moves : (number : ObjectNumber) (p t : ObjectHandle) → withBoth number createWriter (handleShown p) (handleShown t) ≡ outcome d id n l (endpointFor number 5 p t)
+  writer-moves number (Bridged p) (Bridged t) = refl
+  writer-moves number (Bridged p) Implicit = refl
+  writer-moves number Implicit t = refl
+
+  reader-moves : (number : ObjectNumber) (p t : ObjectHandle) → withBoth number createReader (handleShown p) (handleShown t) ≡ outcome d id n l (endpointFor number 6 p t)
+  reader-moves number (Bridged p) (Bridged t) = refl
+  reader-moves number (Bridged p) Implicit = refl
+  reader-moves number Implicit t = refl
+
+  both-view : (number : ObjectNumber) (call : ℕ → ℕ → Call)
+      → createWith n (number .0) call l ≡ withBoth number call (handleShown (foundHandle (greatestAt 1))) (handleShown (foundHandle (greatestAt 2)))
+  both-view number call = λ i. withBoth number call (kind-view 1 i) (kind-view 2 i)
+
+  -- a Publisher or a Subscriber is listed
+  lists : (number : ObjectNumber) (kind : ℕ) → full (number .0) l ≡ false
+      → Meets t d id n (says n (number .0) Ok (listing (number .0) kind none l)) (putTables t id (implicitOf number kind)) (Status number Ok)
+  lists number kind e =
+      let o = implicitOf number kind in
+      let reached = reach-objects t sound id id< live in
+      record {
+        after = listing (number .0) kind none l;
+        shows = put-here t id id< reached o (slot-in number e) ∙ ap (stores.withObjects (putIn (l .objects) (entryOf o))) (shown-live t id live);
+        moves = refl;
+        elsewhere = put-elsewhere t id id< reached o (slot-in number e);
+      }
+
+  module _ (p : CreatePayload) where
+    abbrev number : ObjectNumber
+    number = p .«object_id»
+
+    abbrev rule : Move
+    rule = createFor (p .kind) n (number .0) (p .«parent_id») (partOf d body) l
+
+    abbrev createdIn : ObjectKind → Tables
+    createdIn k =
+        record { sessions = createdSessions k (t .sessions) (t .objects) id number; streams = t .streams; objects = createdObjects k (t .sessions) (t .objects) id number }
+
+    -- each kind, where there is room
+    free-square : (k : ObjectKind) → full (number .0) l ≡ false
+        → Meets t d id n (createFor k n (number .0) (p .«parent_id») (partOf d body) l) (createdIn k) (createMove k (t .sessions) (t .objects) d id p body)
+    free-square Participant e = stays _ _ refl
+    free-square Topic e =
+        let parent : ObjectNumber = record { 0 = p .«parent_id» } in
+        stays _ _
+        (ap (λ (h : Option ℕ). ifHandle h (λ x. asks n (number .0) (createTopic x (namesOf (partOf d body) .name) (namesOf (partOf d body) .type)) l) (says n (number .0) ErrInvalidData l)) (handle-view parent)
+        ∙ topic-moves number (foundHandle (foundAt parent)))
+    free-square Publisher e = lists number 3 e
+    free-square Subscriber e = lists number 4 e
+    free-square DataWriter e = stays _ _ (both-view number createWriter ∙ writer-moves number (foundHandle (greatestAt 1)) (foundHandle (greatestAt 2)))
+    free-square DataReader e = stays _ _ (both-view number createReader ∙ reader-moves number (foundHandle (greatestAt 1)) (foundHandle (greatestAt 2)))
+
+    abbrev roomTables : Room → Tables
+    roomTables r = record { sessions = roomSessions r (t .sessions) (t .objects) id p; streams = t .streams; objects = roomObjects r (t .sessions) (t .objects) id p }
+
+    pub create-square : Squares (sub.Create p) t d id n body
+    create-square =
+        subst (λ (r : Room). Meets t d id n (onCreate (p .kind) n (number .0) (p .«parent_id») (partOf d body) l) (roomTables r) (roomMove r (t .sessions) (t .objects) d id p body))
+        (sym (room-view number)) (by (full (number .0) l) refl)
+      where
+        by : (b : Bool) → full (number .0) l ≡ b
+            → Meets t d id n (cond b (says n (number .0) ErrResources l) rule) (roomTables (cond b room.Full room.Free)) (roomMove (cond b room.Full room.Free) (t .sessions) (t .objects) d id p body)
+        by true e = stays _ _ refl
+        by false e = free-square (p .kind) e

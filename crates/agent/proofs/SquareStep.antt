@@ -1,0 +1,459 @@
+-- The square of one call of the host: what the entry points' definitions leave, read as the step over lists has it, is what that step leaves.
+use Prim.Native.Nat.{ℕ, _+_, _<_, _≤_}
+use mathlib.Core.Path.{_≡_, refl, sym, ap, _∙_, subst}
+use mathlib.Core.Bool.{Bool, true, false, cond}
+use mathlib.Core.Option.{Option, none}
+use mathlib.Core.List.{List, [], _++_, map}
+use native.Mathlib.Omega.{arith}
+use borrow.Author.Tests.{ltb-true, ltb-false, lt-ltb, le-ltb, le-leb, leb-false, ne-eqb}
+use lib.Dec.{leb, ltb}
+use lib.ListN.{length, getD}
+use Rattle.codec.specs.Bytes.{AllBytes, putAt}
+use Rattle.codec.specs.Header.{headerOf}
+use Rattle.codec.specs.Reading.{Item, Items, items, stopped, Message, message, refused, under, messageOf, checkedOf, countAt, checkOf, itemsAt}
+use Rattle.codec.specs.Grammar.{saidIn, readingOf, reading}
+use Rattle.codec.specs.Refusals.{numberOf, byteOf}
+use Rattle.codec.specs.declared.refusals.Refusal.{Refusal}
+use Rattle.codec.specs.declared.refusals.Refusal.the-variants.{BufferTooShort, OutOfTurn, OverLimit, TooLong, OutputTooShort}
+use Rattle.isolation.specs.Rules.{Sub}
+use Rattle.streams.specs.View.{Sound}
+use Rattle.sessions.specs.Limits.{limitsOf}
+use Rattle.sessions.specs.Setup.{setUpOf}
+use Rattle.sessions.specs.Sweep.{expiredIds, evictedRows, sweptRows}
+use Rattle.sessions.specs.Table.{isFree, gotOf, endedRows}
+use Rattle.sessions.specs.View.{Tables, Local, localOf}
+use Rattle.sessions.specs.Calls.{SoundTables, withSessions, setUpTables}
+use Rattle.sessions.specs.declared.limits.Limits.{Limits}
+use Rattle.sessions.specs.declared.limits.Limits.the-variants.{Within}
+use Rattle.sessions.specs.declared.setup.SetUp.{SetUp}
+use Rattle.sessions.specs.declared.setup.SetUp.the-variants as setup
+use Rattle.sessions.specs.declared.table.Named.{Named}
+use Rattle.sessions.specs.declared.table.Named.the-variants as named
+use Rattle.sessions.proofs.Calls.{sound-lasts, within-limits}
+use Rattle.sessions.proofs.Empty.{long, first-is}
+use Rattle.sessions.proofs.Reached.{named-when}
+use Rattle.sessions.proofs.Steps.{remove-led, sweep-led, ready-led}
+use Rattle.agent.specs.Calls as calls
+use Rattle.agent.specs.Calls.{fits}
+use Rattle.agent.specs.Proxy.{answerAs, taskAs}
+use Rattle.agent.specs.Rules.{Opening, In}
+use Rattle.agent.specs.Place.{subsAt}
+use Rattle.agent.specs.Step as step
+use Rattle.agent.specs.Step.{Reply, joinedReplies, withId, run, continued, settle, begin, stays, lapsedIds, isLive, emptyAgent, callOf, openOf, withTables, withLocals}
+use Rattle.agent.specs.Run.{Turned, runAt}
+use Rattle.agent.specs.Judge as judge
+use Rattle.agent.specs.Judge.{recordSound, datagramStart, answerStart, checkedJudged, datagramJudged, restJudged, answerJudged, sessionOf, judgedBy, judgeOf}
+use Rattle.agent.specs.Answered.{answeredBy}
+use Rattle.agent.specs.Host as host
+use Rattle.agent.specs.Host.{Leaves, performed, begunTables, firstRan, finishedOf, finish, processedBy, processOf, idleOf, removedAs, removedBy, removedRows, setUpAs}
+use Rattle.agent.specs.Whole.{State, Event, datagram, answer, removal, sweep, Did, didBy, removedResult, withRows, stepOf, sessionIn, agentOf, eventOf, setUpWith, emptyOf}
+use Rattle.agent.specs.declared.agent.AgentSetUp.the-variants as ready
+use Rattle.agent.specs.declared.agent.Idle.{Idle}
+use Rattle.agent.specs.declared.agent.Idle.the-variants as idle
+use Rattle.agent.specs.declared.judge.Input.the-variants as input
+use Rattle.agent.specs.declared.judge.Judged.{Judged}
+use Rattle.agent.specs.declared.judge.Judged.the-variants as judged
+use Rattle.agent.specs.declared.judge.Start.{Start}
+use Rattle.agent.specs.declared.judge.Turn.the-variants as turn
+use Rattle.agent.specs.declared.proxy.BridgeAnswer.{BridgeAnswer}
+use Rattle.agent.specs.declared.proxy.BridgeAnswer.the-variants.{Created, Done, Sample, NoSample, Failed}
+use Rattle.agent.specs.declared.proxy.Task.{Task}
+use Rattle.agent.specs.declared.proxy.Task.the-variants.{Creating, Writing, Reading, Deleting}
+use Rattle.agent.specs.declared.state.Agent.{Agent}
+use Rattle.agent.specs.declared.state.Pending.{Pending}
+use Rattle.agent.specs.declared.state.Waiting.{Waiting}
+use Rattle.agent.specs.declared.state.Waiting.the-variants as waiting
+use Rattle.agent.specs.declared.turn.Frame.{Frame}
+use Rattle.agent.specs.declared.turn.Stop.{Stop}
+use Rattle.agent.specs.declared.turn.Stop.the-variants as stop
+use Rattle.agent.proofs.CallRoom.{RoomAt, StopRoom, stop-room}
+use Rattle.agent.proofs.MoveBytes.{data-payload-long}
+use Rattle.agent.proofs.Place.{whole-as}
+use Rattle.agent.proofs.Planned.{sweepTo, swept-as}
+use Rattle.agent.proofs.Running.{performed-told}
+use Rattle.agent.proofs.Square.{led-on, shown-live}
+use Rattle.agent.proofs.SquareAnswer.{begins}
+use Rattle.agent.proofs.SquareHost.{empty-view, remove-view, swept-view, swept-ids}
+use Rattle.agent.proofs.SquareOpen.{viewOf, at-in}
+use Rattle.agent.proofs.SquareRun.{stopAs, RunSquare, run-square}
+
+-- ---- what holds of all states that calls lead to
+
+-- the open call: its datagram reads from its place on, and what its answer may list has room
+pub record WaitsFor (t : Tables) (d : List ℕ) (p : Pending) : Type 0 where
+  pub session-in : p .«session_id» < 256
+  pub stream-in : p .«stream_id» < 256
+  pub within : p .at ≤ length d
+  pub reads : (ys : List Item) × (itemsAt d (p .at) ≡ items ys)
+  pub room : RoomAt (taskAs (p .task)) (p .number .0) (sessionIn t (p .«session_id»))
+
+abbrev pub Waits : Tables → List ℕ → Waiting → Type 0
+Waits t d waiting.Nothing = Unit {0}
+Waits t d (waiting.Call p) = WaitsFor t d p
+
+pub record Inv (st : State) : Type 0 where
+  pub few : st .agent .«max_clients» ≤ 255
+  pub low : 1 ≤ st .agent .next
+  pub high : st .agent .next ≤ 255
+  pub sound : SoundTables Sound (st .tables)
+  pub waits : Waits (st .tables) (st .lent) (st .agent .waits)
+
+-- a call's result against the step's over lists, and the state that it leaves
+pub record Same (c : Did) (d : step.Did) : Type 0 where
+  pub agent : agentOf (c .state) ≡ d .agent
+  pub out : c .out ≡ d .out
+  pub result : c .result ≡ d .result
+  pub inv : Inv (c .state)
+
+refuses : (st : State) (d out : List ℕ) (r : Refusal) → Inv st → Same (didBy d (st .lent) (host.refuse (st .agent) (st .tables) out r)) (step.refuse (agentOf st) out (numberOf r) (byteOf r))
+refuses st d out r v = record { agent = refl; out = refl; result = refl; inv = v }
+
+-- ---- behind a run: 13, or the replies and what is open then
+
+module _ (st : State) (v : Inv st) (out d : List ℕ) (x : Start) (session-in : x .frame .«session_id» < 256) (stream-in : x .frame .«stream_id» < 256) where
+  abbrev f : Frame
+  f = x .frame
+
+  abbrev turnedAs : ℕ → ℕ → ℕ → Stop → Tables → List Reply → Turned
+  turnedAs next at wrote s t rs = record { ran = record { next = next; at = at; wrote = wrote; stop = s }; tables = t; replies = rs }
+
+  abbrev leavesAs : Bool → Turned → Leaves
+  leavesAs b y =
+      cond b (host.refuse (st .agent) (st .tables) out OutputTooShort)
+      (record { processed = finishedOf (st .agent) x (y .ran); tables = y .tables; out = putAt out 0 (joinedReplies (y .replies)); replies = y .replies })
+
+  abbrev ranAs : ℕ → ℕ → Stop → Tables → List Reply → step.Ran
+  ranAs next at s t rs = record { tables = viewOf next t; replies = rs; stop = stopAs f d s at }
+
+  abbrev settledAs : Bool → step.Ran → step.Did
+  settledAs b r =
+      cond b (step.refuse (agentOf st) out 13 0)
+      (record { agent = withTables (agentOf st) (r .tables) (openOf (r .stop)); out = putAt out 0 (joinedReplies (r .replies)); result = step.ran (r .replies) (callOf (r .stop)) })
+
+  module _ (next at wrote : ℕ) (t : Tables) (rs : List Reply) (low : 1 ≤ next) (high : next ≤ 255) (within : at ≤ length d) (reads : (ys : List Item) × (itemsAt d at ≡ items ys)) (sound : SoundTables Sound t) where
+    finishes : (s : Stop) (b : Bool) → StopRoom (stopAs f d s at) (viewOf next t) → Same (didBy d (st .lent) (leavesAs b (turnedAs next at wrote s t rs))) (settledAs b (ranAs next at s t rs))
+    finishes s true e = refuses st d out OutputTooShort v
+    finishes stop.Nothing false e =
+        record { agent = refl; out = refl; result = refl; inv = record { few = v .few; low = low; high = high; sound = sound; waits = tt } }
+    finishes (stop.Call number task call) false e =
+        record {
+          agent = refl;
+          out = refl;
+          result = refl;
+          inv = record { few = v .few; low = low; high = high; sound = sound; waits = record { session-in = session-in; stream-in = stream-in; within = within; reads = reads; room = e } };
+        }
+
+  settles : (t : Tables) (y : Turned) (r : step.Ran) → y .ran .wrote ≡ length (joinedReplies (y .replies)) → RunSquare f d t r y → StopRoom (r .stop) (r .tables)
+      → Same (didBy d (st .lent) (finish (st .agent) (st .tables) out x y)) (settle (agentOf st) out r)
+  settles t y r w q e =
+      let z : r ≡ ranAs (y .ran .next) (y .ran .at) (y .ran .stop) (y .tables) (y .replies) = λ i. record { tables = q .tables i; replies = q .replies i; stop = q .stop i } in
+      subst (λ (r : step.Ran). Same (didBy d (st .lent) (finish (st .agent) (st .tables) out x y)) (settle (agentOf st) out r)) (sym z)
+      (subst (λ (k : ℕ). Same (didBy d (st .lent) (leavesAs (ltb (length out) k) y)) (settle (agentOf st) out (ranAs (y .ran .next) (y .ran .at) (y .ran .stop) (y .tables) (y .replies)))) (sym w)
+      (finishes (y .ran .next) (y .ran .at) (y .ran .wrote) (y .tables) (y .replies) (q .low) (q .high) (q .within) (q .reads) (q .led .sound) (y .ran .stop) (ltb (length out) (length (joinedReplies (y .replies))))
+      (subst (λ (r : step.Ran). StopRoom (r .stop) (r .tables)) z e)))
+
+-- ---- an answer in its turn, and 12
+
+fits-same : (task : Task) (b : BridgeAnswer) (sample : List ℕ) → fits (taskAs task) (answerAs b sample) ≡ fits (taskAs task) (answerAs b [])
+fits-same task (Created h) sample = refl
+fits-same task Done sample = refl
+fits-same (Creating kind) Sample sample = refl
+fits-same Writing Sample sample = refl
+fits-same Reading Sample sample = refl
+fits-same Deleting Sample sample = refl
+fits-same task NoSample sample = refl
+fits-same task Failed sample = refl
+
+long-same : (p : calls.Pending) (b : BridgeAnswer) (sample : List ℕ) → step.tooLong p (answerAs b sample) ≡ judge.tooLong b (length sample)
+long-same p (Created h) sample = refl
+long-same p Done sample = refl
+long-same p Sample sample = ap (λ (k : ℕ). ltb 65535 k) (data-payload-long (p .number) sample) ∙ by (ltb 65533 (length sample)) refl
+  where
+    by : (b : Bool) → ltb 65533 (length sample) ≡ b → ltb 65535 (2 + length sample) ≡ b
+    by true e = let h = ltb-true 65533 (length sample) e in lt-ltb 65535 (2 + length sample) (omega (arith, h))
+    by false e = let h = ltb-false 65533 (length sample) e in le-ltb 65535 (2 + length sample) (omega (arith, h))
+long-same p NoSample sample = refl
+long-same p Failed sample = refl
+
+-- ---- 16 is never answered
+
+module _ (t : Tables) (sound : SoundTables Sound t) (max timeout next : ℕ) (few : max ≤ 255) (low : 1 ≤ next) (high : next ≤ 255) (lent : List ℕ) where
+  abbrev agentWith : Waiting → Agent
+  agentWith w = record { «max_clients» = max; «timeout_ms» = timeout; next = next; waits = w }
+
+  abbrev stateWith : Waiting → State
+  stateWith w = record { agent = agentWith w; tables = t; lent = lent }
+
+  record-sound : (w : Waiting) → recordSound (agentWith w) ≡ true
+  record-sound w = rw (le-ltb 255 max few, ne-eqb next 0 (λ e. omega arith)) refl
+
+  limits : (id : ℕ) → id < 256 → limitsOf (t .sessions) (t .streams) (t .objects) id ≡ Within
+  limits id h = within-limits Sound sound-lasts t sound id h
+
+  free : idleOf waiting.Nothing (agentWith waiting.Nothing) ≡ idle.Free
+  free = ap (λ (b : Bool). cond b idle.Free (idle.Refused OverLimit)) (record-sound waiting.Nothing)
+
+  -- ---- a datagram
+
+  module _ (time : ℕ) (d out : List ℕ) (small : AllBytes d) where
+    abbrev a : Agent
+    a = agentWith waiting.Nothing
+
+    abbrev st : State
+    st = stateWith waiting.Nothing
+
+    v : Inv st
+    v = record { few = few; low = low; high = high; sound = sound; waits = tt }
+
+    first-in : getD d 0 0 < 256
+    unfolding AllBytes
+    first-in = small 0
+
+    second-in : getD d 1 0 < 256
+    unfolding AllBytes
+    second-in = small 1
+
+    judge-datagram : judgeOf t d a (input.Datagram time) 0 ≡ checkedJudged a time (checkedOf (messageOf d))
+    unfolding judgeOf checkOf
+    judge-datagram =
+        ap (λ (l : Limits). datagramJudged d a l time) (limits (getD d 0 0) first-in)
+        ∙ ap (λ (b : Bool). cond b (checkedJudged a time (checkOf d)) (judged.Refused OverLimit)) (record-sound waiting.Nothing)
+
+    abbrev Goes : Message → Type 0
+    Goes m = Same (didBy d lent (processedBy (checkedJudged a time (checkedOf m)) a t out d [])) (begin (agentOf st) out time (readingOf d m))
+
+    message-goes : (xs : List Item) → 4 < length d → itemsAt d 4 ≡ items xs → messageOf d ≡ message (headerOf d) xs → Goes (message (headerOf d) xs)
+    unfolding performed joinedReplies headerOf reading
+    message-goes xs h e m =
+        let head = headerOf d in
+        let x = datagramStart a time head in
+        let r = firstRan x 0 in
+        let q = run-square (x .frame) d few first-in second-in r t xs sound refl low high (omega arith) e in
+        subst (λ (ss : List (Sub Opening In)). Same (didBy d lent (finish a t out x (runAt (x .frame) d r t))) (settle (agentOf st) out (run max (head .«session_id») ss (viewOf next t))))
+        (sym (whole-as time d head (map (saidIn d) xs) (ap (readingOf d) m)))
+        (settles st v out d x first-in second-in t (runAt (x .frame) d r t) (run max (head .«session_id») (subsAt time (head .«stream_id») d 4) (viewOf next t))
+        (performed-told x t d []) q (stop-room max (head .«session_id») (subsAt time (head .«stream_id») d 4) (viewOf next t)))
+
+    message-is : (b : Bool) → leb (length d) 4 ≡ b → (i : Items) → itemsAt d 4 ≡ i → messageOf d ≡ cond b (refused BufferTooShort) (under (headerOf d) i)
+    unfolding messageOf
+    message-is b e i q =
+        ap (λ (b : Bool). cond b (refused BufferTooShort) (under (headerOf d) (itemsAt d 4))) e
+        ∙ ap (λ (i : Items). cond b (refused BufferTooShort) (under (headerOf d) i)) q
+
+    goes : (b : Bool) → leb (length d) 4 ≡ b → (i : Items) → itemsAt d 4 ≡ i → Goes (messageOf d)
+    goes true e i q = subst Goes (sym (message-is true e i q)) (refuses st d out BufferTooShort v)
+    goes false e (stopped r) q = subst Goes (sym (message-is false e (stopped r) q)) (refuses st d out r v)
+    goes false e (items xs) q = let m = message-is false e (items xs) q in subst Goes (sym m) (message-goes xs (leb-false (length d) 4 e) q m)
+
+    datagram-same : Same (stepOf st (datagram time d small) out) (step.step (agentOf st) (step.datagram time d) out)
+    unfolding stepOf processOf step.step reading
+    datagram-same =
+        subst (λ (j : Judged). Same (didBy d lent (processedBy j a t out d [])) (begin (agentOf st) out time (readingOf d (messageOf d)))) (sym judge-datagram)
+        (goes (leb (length d) 4) refl (itemsAt d 4) refl)
+
+  -- ---- a removal and a sweep
+
+  idle-inv : (t′ : Tables) → SoundTables Sound t′ → Inv (record { agent = agentWith waiting.Nothing; tables = t′; lent = lent })
+  idle-inv t′ s = record { few = few; low = low; high = high; sound = s; waits = tt }
+
+  removal-same : (id : ℕ) (small : id < 256) (out : List ℕ) → Same (stepOf (stateWith waiting.Nothing) (removal id small) out) (step.step (agentOf (stateWith waiting.Nothing)) (step.removal id) out)
+  unfolding stepOf step.step putAt
+  removal-same id small out =
+      subst (λ (i : Idle). Same (removes i) (lists (ltb (length out) 0))) (sym free)
+      (subst (λ (b : Bool). Same (removes idle.Free) (lists b)) (sym (le-ltb (length out) 0 (omega arith)))
+      record {
+        agent = ap (λ (u : step.Tables). record { max = max; timeout = timeout; tables = u; waits = none }) (remove-view t sound next id small);
+        out = refl;
+        result = ap (λ (w : Named). removedResult (removedAs w)) (named-when (t .sessions) id (sound .sessions-need)) ∙ live-is (isFree (t .sessions) id) refl;
+        inv = idle-inv (withSessions t (endedRows (t .sessions) id)) (remove-led Sound sound-lasts t sound id small .sound);
+      })
+    where
+      removes : Idle → Did
+      removes i = record { state = withRows (stateWith waiting.Nothing) (removedRows i (t .sessions) id); out = out; result = removedResult (removedBy i (t .sessions) id) }
+
+      lists : Bool → step.Did
+      lists b =
+          cond b (step.refuse (agentOf (stateWith waiting.Nothing)) out 13 0)
+          (record { agent = withLocals (agentOf (stateWith waiting.Nothing)) (withId id none (sessionIn t)); out = putAt out 0 []; result = step.removed (isLive (sessionIn t id)) })
+
+      live-is : (b : Bool) → isFree (t .sessions) id ≡ b → removedResult (removedAs (cond b named.NotLive named.Live)) ≡ step.removed (isLive (sessionIn t id))
+      live-is true e = let z : localOf t id ≡ none = rw e refl in sym (ap (λ (x : Option Local). step.removed (isLive x)) (at-in t id small ∙ z))
+      live-is false e = sym (ap (λ (x : Option Local). step.removed (isLive x)) (at-in t id small ∙ shown-live t id e))
+
+  swept-sound : (now : ℕ) (out : List ℕ) → leb 256 (length (t .sessions)) ≡ true → ltb (length out) (length (expiredIds (t .sessions) now timeout)) ≡ false → SoundTables Sound (withSessions t (sweptRows (t .sessions) now timeout))
+  unfolding evictedRows
+  swept-sound now out need e =
+      let s = t .sessions in
+      let z : evictedRows s now timeout out ≡ sweptRows s now timeout =
+      ap (λ (f : Bool). cond f (cond (ltb (length out) (length (expiredIds s now timeout))) s (sweptRows s now timeout)) s) need ∙ ap (λ (b : Bool). cond b s (sweptRows s now timeout)) e in
+      subst (λ (rows : List (List ℕ)). SoundTables Sound (withSessions t rows)) z (sweep-led Sound sound-lasts t sound now timeout out .sound)
+
+  sweep-same : (now : ℕ) (out : List ℕ) → Same (stepOf (stateWith waiting.Nothing) (sweep now) out) (step.step (agentOf (stateWith waiting.Nothing)) (step.sweep now) out)
+  unfolding step.step
+  sweep-same now out =
+      subst (λ (d : Did). Same d (lists (lapsedIds timeout now (sessionIn t)))) (sym (swept-as (stateWith waiting.Nothing) now out free need))
+      (subst (λ (is : List ℕ). Same (sweepTo (stateWith waiting.Nothing) now (ltb (length out) (length ids)) out) (lists is)) (swept-ids t sound now timeout) (by (ltb (length out) (length ids)) refl))
+    where
+      need : leb 256 (length (t .sessions)) ≡ true
+      need = le-leb 256 (length (t .sessions)) (sound .sessions-need)
+
+      ids : List ℕ
+      ids = expiredIds (t .sessions) now timeout
+
+      lists : List ℕ → step.Did
+      lists is = step.finish (agentOf (stateWith waiting.Nothing)) out (withLocals (agentOf (stateWith waiting.Nothing)) (λ i. stays timeout now (sessionIn t i))) is (step.swept is)
+
+      listsIf : Bool → step.Did
+      listsIf b =
+          cond b (step.refuse (agentOf (stateWith waiting.Nothing)) out 13 0)
+          (record { agent = withLocals (agentOf (stateWith waiting.Nothing)) (λ i. stays timeout now (sessionIn t i)); out = putAt out 0 ids; result = step.swept ids })
+
+      by : (b : Bool) → ltb (length out) (length ids) ≡ b → Same (sweepTo (stateWith waiting.Nothing) now b out) (listsIf b)
+      by true e = record { agent = refl; out = refl; result = refl; inv = idle-inv t sound }
+      by false e =
+          record {
+            agent = ap (λ (u : step.Tables). record { max = max; timeout = timeout; tables = u; waits = none }) (swept-view t sound now timeout next);
+            out = refl;
+            result = refl;
+            inv = idle-inv (withSessions t (sweptRows (t .sessions) now timeout)) (swept-sound now out need e);
+          }
+
+  -- ---- an answer, and what is out of turn
+
+  module _ (p : Pending) (w : WaitsFor t lent p) where
+    abbrev busy : State
+    busy = stateWith (waiting.Call p)
+
+    busy-inv : Inv busy
+    busy-inv = record { few = few; low = low; high = high; sound = sound; waits = w }
+
+    module _ (b : BridgeAnswer) (sample out : List ℕ) where
+      abbrev c : Agent
+      c = agentWith (waiting.Call p)
+
+      abbrev x : Start
+      x = answerStart c p b
+
+      abbrev n : ℕ
+      n = length sample
+
+      abbrev session : ℕ
+      session = p .«session_id»
+
+      abbrev rest : List (Sub Opening In)
+      rest = subsAt (p .time) (p .«stream_id») lent (p .at)
+
+      abbrev waits : step.Open
+      waits = record { session = session; pending = record { stream = p .«stream_id»; number = p .number .0; task = taskAs (p .task) }; rest = rest }
+
+      abbrev restAs : Judged
+      restAs = cond (judge.tooLong b n) (judged.Refused TooLong) (judged.Goes x (length (w .reads .0)))
+
+      rest-judged : answerJudged lent c Within p b n ≡ restAs
+      unfolding countAt
+      rest-judged =
+          ap (λ (e : Bool). cond e (cond (ltb (length lent) (p .at)) (judged.Refused OverLimit) (restJudged c p b n (countAt (judge.headerOf p) lent (p .at)))) (judged.Refused OverLimit)) (record-sound (waiting.Call p))
+          ∙ ap (λ (e : Bool). cond e (judged.Refused OverLimit) (restJudged c p b n (countAt (judge.headerOf p) lent (p .at)))) (le-ltb (length lent) (p .at) (w .within))
+          ∙ ap (λ (i : Items). restJudged c p b n (checkedOf (under (judge.headerOf p) i))) (w .reads .1)
+
+      judge-answer : judgeOf t lent c (input.Answer b) n ≡ cond (fits (taskAs (p .task)) (answerAs b [])) restAs (judged.Refused OutOfTurn)
+      unfolding judgeOf
+      judge-answer = by (fits (taskAs (p .task)) (answerAs b []))
+        where
+          by : (e : Bool)
+              → (let x = cond e (turn.Answer p b) (turn.Refused OutOfTurn) in judgedBy lent c (limitsOf (t .sessions) (t .streams) (t .objects) (sessionOf lent x)) x n)
+              ≡ cond e restAs (judged.Refused OutOfTurn)
+          by true = ap (λ (l : Limits). answerJudged lent c l p b n) (limits session (w .session-in)) ∙ rest-judged
+          by false = refl
+
+      answer-goes : Same (didBy lent lent (finish c t out x (performed x t lent sample))) (settle (agentOf busy) out (continued max waits (answerAs b sample) (viewOf next t)))
+      unfolding performed
+      answer-goes =
+          let f = x .frame in
+          let rs = answeredBy (gotOf (t .sessions) session) f sample (p .number) (p .task) b in
+          let a = begins t sound f (w .session-in) (p .number) sample (p .task) b next (w .room) in
+          let u = begunTables x t in
+          let r = firstRan x (length (joinedReplies rs)) in
+          let y = runAt f lent r u in
+          let q = run-square f lent few (w .session-in) (w .stream-in) r u (w .reads .0) (a .led .sound) refl low high (w .within) (w .reads .1) in
+          let s : RunSquare f lent t (step.behind rs (run max session rest (viewOf next u))) (host.behind rs y) =
+          record {
+            tables = q .tables;
+            replies = ap (λ (xs : List Reply). rs ++ xs) (q .replies);
+            stop = q .stop;
+            led = led-on (a .led) (q .led);
+            low = q .low;
+            high = q .high;
+            within = q .within;
+            reads = q .reads;
+          } in
+          subst (λ (r : step.Ran). Same (didBy lent lent (finish c t out x (host.behind rs y))) (settle (agentOf busy) out r)) (sym (a .goes rest (λ v. run max session rest v)))
+          (settles busy busy-inv out lent x (w .session-in) (w .stream-in) t (host.behind rs y) (step.behind rs (run max session rest (viewOf next u)))
+          (performed-told x t lent sample) s (stop-room max session rest (viewOf next u)))
+
+      answer-same : Same (stepOf busy (answer b sample) out) (step.step (agentOf busy) (step.answer (answerAs b sample)) out)
+      unfolding stepOf processOf step.step
+      answer-same =
+          subst (λ (j : Judged). Same (didBy lent lent (processedBy j c t out lent sample)) (steps (fits (taskAs (p .task)) (answerAs b sample)) (step.tooLong (waits .pending) (answerAs b sample)))) (sym judge-answer)
+          (subst (λ (e : Bool). Same (judges (fits (taskAs (p .task)) (answerAs b [])) (judge.tooLong b n)) (steps e (step.tooLong (waits .pending) (answerAs b sample)))) (sym (fits-same (p .task) b sample))
+          (subst (λ (e : Bool). Same (judges (fits (taskAs (p .task)) (answerAs b [])) (judge.tooLong b n)) (steps (fits (taskAs (p .task)) (answerAs b [])) e)) (sym (long-same (waits .pending) b sample))
+          (by (fits (taskAs (p .task)) (answerAs b [])) (judge.tooLong b n))))
+        where
+          judges : Bool → Bool → Did
+          judges e z = didBy lent lent (processedBy (cond e (cond z (judged.Refused TooLong) (judged.Goes x (length (w .reads .0)))) (judged.Refused OutOfTurn)) c t out lent sample)
+
+          steps : Bool → Bool → step.Did
+          steps e z =
+              cond e (cond z (step.refuse (agentOf busy) out 12 0) (settle (agentOf busy) out (continued max waits (answerAs b sample) (viewOf next t)))) (step.refuse (agentOf busy) out 15 0)
+
+          by : (e z : Bool) → Same (judges e z) (steps e z)
+          by true true = refuses busy lent out TooLong busy-inv
+          by true false = answer-goes
+          by false z = refuses busy lent out OutOfTurn busy-inv
+
+    busy-same : (e : Event) (out : List ℕ) → Same (stepOf busy e out) (step.step (agentOf busy) (eventOf e) out)
+    unfolding stepOf processOf judgeOf step.step
+    busy-same (datagram time bytes small) out = refuses busy bytes out OutOfTurn busy-inv
+    busy-same (answer b sample) out = answer-same b sample out
+    busy-same (removal id small) out = record { agent = refl; out = refl; result = refl; inv = busy-inv }
+    busy-same (sweep now) out = record { agent = refl; out = refl; result = refl; inv = busy-inv }
+
+  idle-same : (e : Event) (out : List ℕ) → Same (stepOf (stateWith waiting.Nothing) e out) (step.step (agentOf (stateWith waiting.Nothing)) (eventOf e) out)
+  unfolding stepOf processOf judgeOf step.step
+  idle-same (datagram time bytes small) out = datagram-same time bytes out small
+  idle-same (answer b sample) out = refuses (stateWith waiting.Nothing) lent out OutOfTurn (idle-inv t sound)
+  idle-same (removal id small) out = removal-same id small out
+  idle-same (sweep now) out = sweep-same now out
+
+  pub call-same : (w : Waiting) → Waits t lent w → (e : Event) (out : List ℕ) → Same (stepOf (stateWith w) e out) (step.step (agentOf (stateWith w)) (eventOf e) out)
+  call-same waiting.Nothing z e out = idle-same e out
+  call-same (waiting.Call p) z e out = busy-same p z e out
+
+-- every call of the host, in every state that calls lead to
+pub step-square : (st : State) → Inv st → (e : Event) (out : List ℕ) → Same (stepOf st e out) (step.step (agentOf st) (eventOf e) out)
+step-square st v e out = call-same (st .tables) (v .sound) (st .agent .«max_clients») (st .agent .«timeout_ms») (st .agent .next) (v .few) (v .low) (v .high) (st .lent) (st .agent .waits) (v .waits) e out
+
+-- ---- an agent just set up
+
+pub record Empty (t : Tables) (max timeout : ℕ) (a : Agent) : Type 0 where
+  pub agent : agentOf (emptyOf t max a) ≡ emptyAgent max timeout
+  pub inv : Inv (emptyOf t max a)
+
+pub empty-square : (t : Tables) (max timeout : ℕ) (a : Agent) → setUpWith t max timeout ≡ ready.Ready a → Empty t max timeout a
+empty-square t max timeout a e = by (setUpOf (length (t .sessions)) (length (t .streams)) (length (t .objects)) max) refl e
+  where
+    states : SetUp → Agent → State
+    states r a = record { agent = a; tables = setUpTables r t; lent = [] }
+
+    by : (r : SetUp) → setUpOf (length (t .sessions)) (length (t .streams)) (length (t .objects)) max ≡ r → setUpAs r max timeout ≡ ready.Ready a → Empty t max timeout a
+    by (setup.Refused r) q z = let k : _≡_ {A = ℕ} 0 1 = cc in let n : ⊥ = omega arith in absurd n
+    by (setup.Ready next) q z =
+        let fresh : Agent = record { «max_clients» = max; «timeout_ms» = timeout; next = next; waits = waiting.Nothing } in
+        let same : fresh ≡ a = cc in
+        let first = first-is (t .sessions) (t .streams) (t .objects) max next q in
+        let kept = long (t .sessions) (t .streams) (t .objects) max next q in
+        let st : states (setup.Ready next) fresh ≡ emptyOf t max a = λ i. states (sym q i) (same i) in
+        record {
+          agent = sym (ap agentOf st) ∙ ap (λ (u : step.Tables). record { max = max; timeout = timeout; tables = u; waits = none }) (empty-view t max timeout next first);
+          inv = subst Inv st (record { few = kept .clients; low = omega (arith, first); high = omega (arith, first); sound = ready-led Sound sound-lasts t max next kept .sound; waits = tt });
+        }

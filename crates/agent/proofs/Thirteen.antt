@@ -1,0 +1,160 @@
+-- 13 is exact: what is roomy is never too short; and what a call then leaves.
+use Prim.Native.Nat.{ℕ, _+_, _-_, _*_, _/_, _<_, _≤_}
+use mathlib.Core.Path.{_≡_, refl, sym, ap, _∙_}
+use mathlib.Core.Bool.{Bool, true, false, cond}
+use mathlib.Core.List.{List, []}
+use native.Mathlib.Omega.{arith}
+use borrow.Author.Tests.{ltb-false, leb-true, le-ltb, le-leb, lt-leb, lt-ltb}
+use lib.Dec.{leb, ltb}
+use lib.ListN.{length, length-append}
+use Rattle.codec.specs.declared.submessages.ObjectNumber.{ObjectNumber}
+use Rattle.codec.specs.declared.submessages.StatusCode.{StatusCode}
+use Rattle.codec.specs.declared.submessages.StatusCode.the-variants.{Ok, ErrUnknownRef, ErrInvalidData}
+use Rattle.sessions.specs.Table.{gotOf}
+use Rattle.sessions.specs.View.{Tables}
+use Rattle.sessions.specs.declared.table.Got.{Got}
+use Rattle.sessions.specs.declared.table.Got.the-variants as got
+use Rattle.agent.specs.Step.{joinedReplies}
+use Rattle.agent.specs.Calls.{fits}
+use Rattle.agent.specs.Proxy.{answerAs, taskAs}
+use Rattle.agent.specs.Answered.{saysOf, saysFits, saysBytes, answeredBy}
+use Rattle.agent.specs.Judge.{judgeOf}
+use Rattle.agent.specs.Host.{begunBy, performed, resumesFit, answerMost, firstMost, roomy, neededOf, Leaves, finishedOf, refuse, finish, processedBy, processOf}
+use Rattle.agent.specs.declared.answers.Says.the-variants as says
+use Rattle.agent.specs.declared.judge.Input.{Input}
+use Rattle.agent.specs.declared.judge.Judged.{Judged}
+use Rattle.agent.specs.declared.judge.Resumes.{Resumes}
+use Rattle.agent.specs.declared.judge.Resumes.the-variants as resumes
+use Rattle.agent.specs.declared.judge.Start.{Start}
+use Rattle.agent.specs.declared.proxy.BridgeAnswer.{BridgeAnswer}
+use Rattle.agent.specs.declared.proxy.BridgeAnswer.the-variants.{Created, Done, Sample, NoSample, Failed}
+use Rattle.agent.specs.declared.proxy.Task.{Task}
+use Rattle.agent.specs.declared.proxy.Task.the-variants.{Creating, Writing, Reading, Deleting}
+use Rattle.agent.specs.declared.state.Agent.{Agent}
+use Rattle.agent.specs.declared.turn.Frame.{Frame}
+use Rattle.agent.proofs.Laws.{status-long}
+use Rattle.agent.proofs.MoveBytes.{data-long}
+use Rattle.agent.proofs.Running.{fits-whole, performed-told, performed-most}
+use Rattle.codec.specs.Bytes.{putAt}
+use Rattle.agent.specs.Run.{putReplies, Turned}
+use Rattle.agent.proofs.Judged.{AnswerFits, Sound}
+use Rattle.codec.specs.declared.refusals.Refusal.the-variants.{OutputTooShort}
+
+-- ---- the bound, as it is computed
+
+pub sample-within : (told : BridgeAnswer) (n : ℕ) → told ≡ Sample → n ≤ 65533 → 10 + n ≡ answerMost told n
+sample-within told n e h = sym (ap (λ (a : BridgeAnswer). answerMost a n) e ∙ ap (λ (b : Bool). cond b (10 + n) 65543) (le-leb n 65533 h))
+
+pub sample-over : (told : BridgeAnswer) (n : ℕ) → told ≡ Sample → 65533 < n → 65543 ≡ answerMost told n
+sample-over told n e h = sym (ap (λ (a : BridgeAnswer). answerMost a n) e ∙ ap (λ (b : Bool). cond b (10 + n) 65543) (lt-leb n 65533 h))
+
+module _ (room : ℕ) (x : Resumes) (n sample first : ℕ) (e : first ≡ firstMost x sample) where
+  roomy-first : cond (ltb room first) false (leb n ((room - first) / 12)) ≡ roomy room x n sample
+  roomy-first = ap (λ (k : ℕ). cond (ltb room k) false (leb n ((room - k) / 12))) e
+
+  pub no-room : room < first → false ≡ roomy room x n sample
+  no-room h = ap (λ (b : Bool). cond b false (leb n ((room - first) / 12))) (sym (lt-ltb room first h)) ∙ roomy-first
+
+  pub room-for : first ≤ room → leb n ((room - first) / 12) ≡ roomy room x n sample
+  room-for h = ap (λ (b : Bool). cond b false (leb n ((room - first) / 12))) (sym (le-ltb room first h)) ∙ roomy-first
+
+-- ---- how much a call can reply
+
+no-fit : false ≡ true → ⊥
+no-fit e = let z : _≡_ {A = ℕ} 0 1 = ap (λ (b : Bool). cond b 1 0) e in omega (arith, z)
+
+module _ (f : Frame) (bytes : List ℕ) (number : ObjectNumber) where
+  status-most : (code : StatusCode) → length (saysBytes (says.Status code) f number bytes) ≤ 11
+  status-most code = let e = status-long (f .«session_id») (f .«stream_id») (number .0) code in omega (arith, e)
+
+  -- an answer that fits its call: DATA to a sample, else a STATUS
+  says-most : (task : Task) (a : BridgeAnswer) → saysFits (saysOf task a) (length bytes) ≡ true → fits (taskAs task) (answerAs a []) ≡ true → length (saysBytes (saysOf task a) f number bytes) ≤ answerMost a (length bytes)
+  says-most (Creating kind) (Created h) e m = status-most Ok
+  says-most (Creating kind) Done e m = status-most ErrInvalidData
+  says-most (Creating kind) Sample e m = absurd (no-fit m)
+  says-most (Creating kind) NoSample e m = status-most ErrInvalidData
+  says-most (Creating kind) Failed e m = status-most ErrInvalidData
+  says-most Writing (Created h) e m = status-most ErrInvalidData
+  says-most Writing Done e m = status-most Ok
+  says-most Writing Sample e m = absurd (no-fit m)
+  says-most Writing NoSample e m = status-most ErrInvalidData
+  says-most Writing Failed e m = status-most ErrInvalidData
+  says-most Reading (Created h) e m = status-most ErrInvalidData
+  says-most Reading Done e m = status-most ErrInvalidData
+  says-most Reading Sample e m = rw e (let l = data-long (f .«session_id») (f .«stream_id») (number .0) bytes in omega (arith, l))
+  says-most Reading NoSample e m = status-most Ok
+  says-most Reading Failed e m = status-most ErrInvalidData
+  says-most Deleting (Created h) e m = status-most ErrUnknownRef
+  says-most Deleting Done e m = status-most Ok
+  says-most Deleting Sample e m = absurd (no-fit m)
+  says-most Deleting NoSample e m = status-most ErrUnknownRef
+  says-most Deleting Failed e m = status-most ErrUnknownRef
+
+begun-most : (x : Resumes) (s : List (List ℕ)) (f : Frame) (bytes : List ℕ) → resumesFit x (length bytes) ≡ true → AnswerFits x → length (joinedReplies (begunBy x s f bytes)) ≤ firstMost x (length bytes)
+unfolding joinedReplies
+begun-most resumes.Nothing s f bytes e m = omega arith
+begun-most (resumes.Answer number task a) s f bytes e m = go (gotOf s (f .«session_id»))
+  where
+    go : (g : Got) → length (joinedReplies (answeredBy g f bytes number task a)) ≤ answerMost a (length bytes)
+    go (got.Session y) =
+        let l = length-append (saysBytes (saysOf task a) f number bytes) [] in
+        let k = says-most f bytes number task a e m in
+        omega (arith, l, k)
+    go got.NotLive = omega arith
+    go (got.Refused r) = omega arith
+
+module _ (t : Tables) (d sample : List ℕ) (x : Start) (n room : ℕ) (k : Sound t d (length sample) x n) where
+  roomy-most : roomy room (x .resumes) n (length sample) ≡ true → performed x t d sample .ran .wrote ≤ room
+  roomy-most e = go (ltb room (firstMost (x .resumes) (length sample))) refl e
+    where
+      most : performed x t d sample .ran .wrote ≤ firstMost (x .resumes) (length sample) + 12 * n
+      most =
+          let p = performed-most x t d sample (k .counted .0) (k .counted .1) in
+          let q = begun-most (x .resumes) (t .sessions) (x .frame) sample (k .sample-fits) (k .answer-fits) in
+          let c = k .counted .2 in
+          omega (arith, p, q, c)
+
+      go : (b : Bool) → ltb room (firstMost (x .resumes) (length sample)) ≡ b → cond b false (leb n ((room - firstMost (x .resumes) (length sample)) / 12)) ≡ true → performed x t d sample .ran .wrote ≤ room
+      go true p q = let z : _≡_ {A = ℕ} 0 1 = ap (λ (b : Bool). cond b 1 0) q in absurd (omega (arith, z))
+      go false p q =
+          let l = ltb-false room (firstMost (x .resumes) (length sample)) p in
+          let m = leb-true n ((room - firstMost (x .resumes) (length sample)) / 12) q in
+          omega (arith, l, m, most)
+
+  pub thirteen : ltb room (neededOf (roomy room (x .resumes) n (length sample)) (performed x t d sample .ran .wrote)) ≡ ltb room (performed x t d sample .ran .wrote)
+  thirteen = go (roomy room (x .resumes) n (length sample)) refl
+    where
+      w : ℕ
+      w = performed x t d sample .ran .wrote
+
+      go : (b : Bool) → roomy room (x .resumes) n (length sample) ≡ b → ltb room (neededOf b w) ≡ ltb room w
+      go true e = le-ltb room 0 (omega arith) ∙ sym (le-ltb room w (roomy-most e))
+      go false e = refl
+
+-- ---- what the call leaves
+
+module _ (a : Agent) (t : Tables) (out d sample : List ℕ) (x : Start) where
+  abbrev pub y : Turned
+  y = performed x t d sample
+
+  abbrev pub went : Leaves
+  went = record { processed = finishedOf a x (y .ran); tables = y .tables; out = putAt out 0 (joinedReplies (y .replies)); replies = y .replies }
+
+  finish-by : (b : Bool) → ltb (length out) (y .ran .wrote) ≡ b → cond b (refuse a t out OutputTooShort) went ≡ finish a t out x y
+  finish-by b e = ap (λ (c : Bool). cond c (refuse a t out OutputTooShort) went) (sym e)
+
+  pub finish-short : ltb (length out) (y .ran .wrote) ≡ true → refuse a t out OutputTooShort ≡ finish a t out x y
+  finish-short e = finish-by true e
+
+  pub finish-went : ltb (length out) (y .ran .wrote) ≡ false → went ≡ finish a t out x y
+  finish-went e = finish-by false e
+
+  pub finish-out : ltb (length out) (y .ran .wrote) ≡ false → putReplies out 0 (y .replies) ≡ putAt out 0 (joinedReplies (y .replies))
+  finish-out e =
+      let l = ltb-false (length out) (y .ran .wrote) e in
+      let w = performed-told x t d sample in
+      fits-whole out (y .replies) (omega (arith, l, w))
+
+pub process-by : (a : Agent) (t : Tables) (out d sample : List ℕ) (i : Input) (j : Judged) → judgeOf t d a i (length sample) ≡ j → processedBy j a t out d sample ≡ processOf a t out d sample i
+unfolding processOf
+process-by a t out d sample i j e = ap (λ (k : Judged). processedBy k a t out d sample) (sym e)

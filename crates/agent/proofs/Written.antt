@@ -1,0 +1,69 @@
+-- What one submessage writes to the lent output: the bytes of its move are those of its replies.
+use mathlib.Core.Path.{_≡_, refl, sym, ap, _∙_}
+use Prim.Native.Nat.{ℕ}
+use mathlib.Core.Bool.{Bool, cond}
+use mathlib.Core.List.{List, [], _∷_}
+use lib.ListN.{length}
+use Rattle.codec.specs.Bytes.{putBytes}
+use Rattle.codec.specs.Reading.{readAt}
+use Rattle.codec.specs.declared.layouts.Parsed.{Parsed}
+use Rattle.codec.specs.declared.layouts.Parsed.the-variants as parsed
+use Rattle.codec.specs.declared.layouts.Span.{Span}
+use Rattle.codec.specs.declared.submessages.Submessage.{Submessage}
+use Rattle.sessions.specs.View.{Tables}
+use Rattle.sessions.specs.declared.opening.Created.{Created}
+use Rattle.sessions.specs.declared.opening.Created.the-variants.{Opened, Refused}
+use Rattle.agent.specs.Moves.{moveBytes}
+use Rattle.agent.specs.Rows.{handledMove}
+use Rattle.agent.specs.Run.{Turned, putReplies, repliesOf, greetingBytes, idOpened, openingOf, passed, subTurned, isRead, messageRead, bodyRead, endRead, turnedBy, turned}
+use Rattle.agent.specs.Step.{opened}
+use Rattle.agent.specs.declared.moves.Move.{Move}
+use Rattle.agent.specs.declared.moves.Move.the-variants.{Greets, Status, Acknack, Calls, Silent}
+use Rattle.agent.specs.declared.turn.Frame.{Frame}
+use Rattle.agent.specs.declared.turn.Ran.{Ran}
+use Rattle.agent.proofs.MoveBytes.{put-none}
+use Rattle.agent.proofs.Turns.{Most, handled-fair}
+
+pub no-replies : (out : List ℕ) (at : ℕ) → out ≡ putReplies out at []
+unfolding putReplies
+no-replies out at = refl
+
+move-written : (out : List ℕ) (at : ℕ) (f : Frame) (m : Move) (n : ℕ) → Most n m → putBytes out at (moveBytes (f .«session_id») (f .«stream_id») m) ≡ putReplies out at (repliesOf f m)
+unfolding putReplies
+move-written out at f (Greets id code) n most = absurd most
+move-written out at f (Status number code) n most = refl
+move-written out at f (Acknack p) n most = refl
+move-written out at f (Calls number task call) n most = sym (put-none out at)
+move-written out at f Silent n most = sym (put-none out at)
+
+pub handled-written : (out : List ℕ) (at : ℕ) (f : Frame) (m : Submessage) (t : Tables) (d : List ℕ) (body : Span)
+    → putBytes out at (moveBytes (f .«session_id») (f .«stream_id») (handledMove m t d (f .«session_id») (f .«stream_id») body))
+    ≡ putReplies out at (repliesOf f (handledMove m t d (f .«session_id») (f .«stream_id») body))
+handled-written out at f m t d body =
+    let y = handled-fair m t d (f .«session_id») (f .«stream_id») body in
+    move-written out at f (handledMove m t d (f .«session_id») (f .«stream_id») body) (y .most) (y .is)
+
+pub greeting-written : (out : List ℕ) (at : ℕ) (c : Created) → putBytes out at (greetingBytes c) ≡ putReplies out at (opened (idOpened c) ∷ [])
+unfolding putReplies
+greeting-written out at (Opened id next) = refl
+greeting-written out at (Refused r) = refl
+
+-- what was read, taken apart, is handled as it is whole
+abbrev pub takenTurned : Bool → Parsed → Frame → Tables → List ℕ → Ran → Turned
+takenTurned is p f t d r =
+    cond is (subTurned (openingOf (messageRead p)) f t d r (messageRead p) (bodyRead p) (endRead p (length d))) (record { ran = passed r (endRead p (length d)); tables = t; replies = [] })
+
+taken-by : (p : Parsed) (f : Frame) (t : Tables) (d : List ℕ) (r : Ran) → takenTurned (isRead p) p f t d r ≡ turnedBy p f t d r
+taken-by (parsed.Sub m body next) f t d r = refl
+taken-by (parsed.Refused x) f t d r = refl
+
+pub taken-turned : (f : Frame) (t : Tables) (d : List ℕ) (r : Ran) → takenTurned (isRead (readAt d (r .at))) (readAt d (r .at)) f t d r ≡ turned f t d r
+unfolding turned
+taken-turned f t d r = taken-by (readAt d (r .at)) f t d r
+
+-- all that a submessage leaves, where what it was matched to is equal to what it is
+pub as-left : (out out′ : List ℕ) (at : ℕ) (x y : Turned) → x ≡ y → out′ ≡ putReplies out at (x .replies)
+    → (x .ran ≡ y .ran) × (x .tables .sessions ≡ y .tables .sessions) × (x .tables .streams ≡ y .tables .streams) × (x .tables .objects ≡ y .tables .objects)
+    × (out′ ≡ putReplies out at (y .replies))
+as-left out out′ at x y e written =
+    (ap (λ (t : Turned). t .ran) e, ap (λ (t : Turned). t .tables .sessions) e, ap (λ (t : Turned). t .tables .streams) e, ap (λ (t : Turned). t .tables .objects) e, written ∙ ap (λ (t : Turned). putReplies out at (t .replies)) e)

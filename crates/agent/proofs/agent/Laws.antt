@@ -1,0 +1,51 @@
+-- A datagram is processed without a look at the sample.
+use Prim.Native.Nat.{ℕ}
+use mathlib.Core.Path.{_≡_, refl, ap}
+use mathlib.Core.Bool.{Bool, true, false, cond}
+use mathlib.Core.List.{List}
+use lib.ListN.{length}
+use Rattle.codec.specs.Reading.{checkOf}
+use Rattle.codec.specs.declared.header.MessageHeader.{MessageHeader}
+use Rattle.codec.specs.declared.reading.Checked.{Checked}
+use Rattle.codec.specs.declared.reading.Checked.the-variants as checked
+use Rattle.codec.specs.declared.refusals.Refusal.the-variants.{OverLimit}
+use Rattle.sessions.specs.Limits.{limitsOf}
+use Rattle.sessions.specs.View.{Tables}
+use Rattle.agent.specs.Host.{Leaves, performed, finish, processedBy, processOf}
+use Rattle.agent.specs.Judge.{turnOf, sessionOf, soundOf, datagramStart, checkedJudged, judgedBy, judgeOf}
+use Rattle.agent.specs.Run.{Turned}
+use Rattle.agent.specs.declared.judge.Input.the-variants.{Datagram}
+use Rattle.agent.specs.declared.judge.Judged.the-variants.{Refused}
+use Rattle.agent.specs.declared.state.Agent.{Agent}
+use Rattle.agent.specs.declared.state.Waiting.{Waiting}
+use Rattle.agent.specs.declared.state.Waiting.the-variants as waiting
+
+module _ (a : Agent) (t : Tables) (out d s u : List ℕ) (time : ℕ) where
+  performed-any : (h : MessageHeader) → performed (datagramStart a time h) t d s ≡ performed (datagramStart a time h) t d u
+  unfolding performed
+  performed-any h = refl
+
+  checked-any : (c : Checked) → processedBy (checkedJudged a time c) a t out d s ≡ processedBy (checkedJudged a time c) a t out d u
+  checked-any (checked.Message h n) = ap (λ (y : Turned). finish a t out (datagramStart a time h) y) (performed-any h)
+  checked-any (checked.Refused r) = refl
+
+  sound-any : (b : Bool) (c : Checked)
+      → processedBy (cond b (checkedJudged a time c) (Refused OverLimit)) a t out d s ≡ processedBy (cond b (checkedJudged a time c) (Refused OverLimit)) a t out d u
+  sound-any true c = checked-any c
+  sound-any false c = refl
+
+  turn-any : (w : Waiting)
+      → processedBy (judgedBy d a (limitsOf (t .sessions) (t .streams) (t .objects) (sessionOf d (turnOf w (Datagram time)))) (turnOf w (Datagram time)) (length s)) a t out d s
+      ≡ processedBy (judgedBy d a (limitsOf (t .sessions) (t .streams) (t .objects) (sessionOf d (turnOf w (Datagram time)))) (turnOf w (Datagram time)) (length u)) a t out d u
+  turn-any waiting.Nothing = sound-any (soundOf a (limitsOf (t .sessions) (t .streams) (t .objects) (sessionOf d (turnOf waiting.Nothing (Datagram time))))) (checkOf d)
+  turn-any (waiting.Call p) = refl
+
+  pub any-sample : processOf a t out d s (Datagram time) ≡ processOf a t out d u (Datagram time)
+  unfolding processOf judgeOf
+  any-sample = turn-any (a .waits)
+
+-- all that a call leaves, the replies apart
+pub same-leaves : (x y : Leaves) → x ≡ y
+    → (x .processed ≡ y .processed) × (x .tables .sessions ≡ y .tables .sessions) × (x .tables .streams ≡ y .tables .streams) × (x .tables .objects ≡ y .tables .objects) × (x .out ≡ y .out)
+same-leaves x y e =
+    (ap (λ (l : Leaves). l .processed) e, ap (λ (l : Leaves). l .tables .sessions) e, ap (λ (l : Leaves). l .tables .streams) e, ap (λ (l : Leaves). l .tables .objects) e, ap (λ (l : Leaves). l .out) e)

@@ -1,0 +1,19 @@
+-- `agent::process::waits_of` meets its contract.
+use borrow.Author.Needs.{needs}
+use Rattle.agent.proofs.process.waits_of.Statement.{statement}
+use Rattle.agent.proofs.process.waits_of.Tie as tie
+
+enum-told : tie.Need-enum-told
+enum-told c = search needs
+
+enum-known-stop : tie.Need-enum-known-stop
+enum-known-stop c = search needs
+
+returns : tie.Need-returns
+returns c = search needs
+
+returns-2 : tie.Need-returns-2
+returns-2 c = rw (c .before .stop .given .1)
+
+pub waits-of-spec : {M : Type 1} → statement M
+waits-of-spec = tie.close (tie.spec enum-told enum-known-stop returns returns-2)

@@ -1,0 +1,52 @@
+-- `agent::replies::reply_len` meets its contract.
+use borrow.Author.Needs.{needs}
+use mathlib.Core.Path.{refl}
+use native.Mathlib.Omega.{arith}
+use Rattle.agent.proofs.MoveBytes.{move-long}
+use Rattle.agent.proofs.replies.reply_len.Statement.{statement}
+use Rattle.agent.proofs.replies.reply_len.Tie as tie
+
+enum-told : tie.Need-enum-told
+enum-told c = search needs
+
+enum-told-2 : tie.Need-enum-told-2
+enum-told-2 c = search needs
+
+enum-told-3 : tie.Need-enum-told-3
+enum-told-3 c = search needs
+
+enum-told-4 : tie.Need-enum-told-4
+enum-told-4 c = search needs
+
+enum-told-5 : tie.Need-enum-told-5
+enum-told-5 c = search needs
+
+returns : tie.Need-returns
+returns c = rw (move-long 0 0 (c .before .before .args .m), c .enum-told .given .1) (refl, omega arith)
+
+returns-2 : tie.Need-returns-2
+returns-2 c = rw (move-long 0 0 (c .before .before .args .m), c .enum-told2 .given .1) (refl, omega arith)
+
+returns-3 : tie.Need-returns-3
+returns-3 c = rw (move-long 0 0 (c .before .before .args .m), c .enum-told3 .given .1) (refl, omega arith)
+
+returns-4 : tie.Need-returns-4
+returns-4 c = search needs
+
+returns-5 : tie.Need-returns-5
+returns-5 c = search needs
+
+pub reply-len-spec : {M : Type 1} → statement M
+reply-len-spec =
+    tie.close
+    (tie.spec
+    enum-told
+    enum-told-2
+    enum-told-3
+    enum-told-4
+    enum-told-5
+    returns
+    returns-2
+    returns-3
+    returns-4
+    returns-5)

@@ -1,0 +1,19 @@
+-- `agent::turn::body_of` meets its contract.
+use borrow.Author.Needs.{needs}
+use Rattle.agent.proofs.turn.body_of.Statement.{statement}
+use Rattle.agent.proofs.turn.body_of.Tie as tie
+
+enum-known-p : tie.Need-enum-known-p
+enum-known-p c = search needs
+
+enum-told : tie.Need-enum-told
+enum-told c = search needs
+
+returns : tie.Need-returns
+returns c = search needs
+
+returns-2 : tie.Need-returns-2
+returns-2 c = rw (c .enum-told .given .1)
+
+pub body-of-spec : {M : Type 1} → statement M
+body-of-spec = tie.close (tie.spec enum-known-p enum-told returns returns-2)

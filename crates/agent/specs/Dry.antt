@@ -1,0 +1,51 @@
+-- What a call is tried on no output with: the records of the lent stores that it may change are copied, and put back behind it.
+use Prim.Native.Nat.{ℕ, zero, suc, _+_, _-_, _*_}
+use mathlib.Core.Bool.{cond}
+use mathlib.Core.List.{List}
+use lib.Dec.{ltb}
+use lib.ListN.{getD, set, replicate}
+use Rattle.agent.specs.declared.dry.SessionCopy.{SessionCopy}
+use Rattle.agent.specs.declared.dry.StreamCopy.{StreamCopy}
+
+-- a row, as it is copied
+abbrev pub sessionCopy : List ℕ → SessionCopy
+sessionCopy row = record { 0 = row }
+
+abbrev pub sessionBack : SessionCopy → List ℕ
+sessionBack c = c .0
+
+abbrev pub noSession : SessionCopy
+noSession = sessionCopy (replicate 5 0)
+
+abbrev pub streamCopy : List ℕ → StreamCopy
+streamCopy row = record { 0 = row }
+
+abbrev pub streamBack : StreamCopy → List ℕ
+streamBack c = c .0
+
+abbrev pub noStream : StreamCopy
+noStream = streamCopy (replicate 35 0)
+
+abbrev pub same : {A : Type 0} → A → A
+same x = x
+
+-- which record is copied k-th: of the sessions each; of the streams the first of each session, which `create_session` opens, then
+-- the eight of the session that the call names; of the objects that session's
+abbrev pub sessionSpot : ℕ → ℕ
+sessionSpot k = k
+
+abbrev pub streamSpot : ℕ → ℕ → ℕ
+streamSpot id k = cond (ltb k 256) (8 * k) (8 * id + (k - 256))
+
+abbrev pub objectSpot : ℕ → ℕ → ℕ
+objectSpot first k = first + k
+
+-- the first n copies are of the records at those spots
+unfoldable pub copied : {A B : Type 0} → (A → B) → A → (ℕ → ℕ) → ℕ → List A → List B → List B
+copied copy none spot zero from to = to
+copied copy none spot (suc k) from to = set (copied copy none spot k from to) k (copy (getD from (spot k) none))
+
+-- and go back to them
+unfoldable pub restored : {A B : Type 0} → (B → A) → B → (ℕ → ℕ) → ℕ → List B → List A → List A
+restored back none spot zero from to = to
+restored back none spot (suc k) from to = set (restored back none spot k from to) (spot k) (back (getD from k none))

@@ -1,0 +1,184 @@
+-- The host's calls over the lent tables: what the contracts of the five entry points are equal to, and the agent's state and step.
+use Prim.Native.Nat.{ℕ, _+_, _-_, _/_}
+use mathlib.Core.Bool.{Bool, true, false, cond}
+use mathlib.Core.List.{List, [], _++_}
+use lib.Dec.{leb, ltb}
+use lib.ListN.{length}
+use Rattle.codec.specs.Bytes.{putAt}
+use Rattle.codec.specs.declared.bytes.Written.{Written}
+use Rattle.codec.specs.declared.bytes.Written.the-variants as written
+use Rattle.codec.specs.declared.refusals.Refusal.{Refusal}
+use Rattle.codec.specs.declared.refusals.Refusal.the-variants.{OutOfTurn, OverLimit, OutputTooShort}
+use Rattle.sessions.specs.Table.{gotOf, namedOf, endedRows}
+use Rattle.sessions.specs.Sweep.{evictedOf, evictedOut, evictedRows}
+use Rattle.sessions.specs.View.{Tables}
+use Rattle.sessions.specs.declared.objects.Object.{Object}
+use Rattle.sessions.specs.declared.setup.SetUp.{SetUp}
+use Rattle.sessions.specs.declared.setup.SetUp.the-variants as setup
+use Rattle.sessions.specs.declared.table.Named.{Named}
+use Rattle.sessions.specs.declared.table.Named.the-variants as named
+use Rattle.agent.specs.Step.{Reply, joinedReplies}
+use Rattle.agent.specs.Run.{Turned, runAt}
+use Rattle.agent.specs.Answered.{keepsOf, saysOf, saysFits, answeredBy, answeredSessions, answeredObjects}
+use Rattle.agent.specs.Judge.{judgeOf, recordSound}
+use Rattle.agent.specs.declared.agent.AgentSetUp.{AgentSetUp}
+use Rattle.agent.specs.declared.agent.AgentSetUp.the-variants as ready
+use Rattle.agent.specs.declared.agent.Idle.{Idle}
+use Rattle.agent.specs.declared.agent.Idle.the-variants as idle
+use Rattle.agent.specs.declared.agent.Removed.{Removed}
+use Rattle.agent.specs.declared.agent.Removed.the-variants as removed
+use Rattle.agent.specs.declared.state.Agent.{Agent}
+use Rattle.agent.specs.declared.judge.Input.{Input}
+use Rattle.agent.specs.declared.judge.Input.the-variants as input
+use Rattle.agent.specs.declared.judge.Judged.{Judged}
+use Rattle.agent.specs.declared.judge.Judged.the-variants as judged
+use Rattle.agent.specs.declared.judge.Resumes.{Resumes}
+use Rattle.agent.specs.declared.judge.Resumes.the-variants as resumes
+use Rattle.agent.specs.declared.judge.Start.{Start}
+use Rattle.agent.specs.declared.state.Waiting.{Waiting}
+use Rattle.agent.specs.declared.state.Waiting.the-variants as waiting
+use Rattle.agent.specs.declared.process.Outcome.{Outcome}
+use Rattle.agent.specs.declared.process.Outcome.the-variants.{Replied, Called, Refused}
+use Rattle.agent.specs.declared.process.Processed.{Processed}
+use Rattle.agent.specs.declared.proxy.BridgeAnswer.{BridgeAnswer}
+use Rattle.agent.specs.declared.proxy.BridgeAnswer.the-variants.{Created, Done, Sample, NoSample, Failed}
+use Rattle.agent.specs.declared.turn.Frame.{Frame}
+use Rattle.agent.specs.declared.turn.Ran.{Ran}
+use Rattle.agent.specs.declared.turn.Stop.{Stop}
+use Rattle.agent.specs.declared.turn.Stop.the-variants as stop
+
+-- ---- once nothing refuses it: the answer's part, if it is one, then the submessages behind it
+
+abbrev pub begunBy : Resumes → List (List ℕ) → Frame → List ℕ → List Reply
+begunBy resumes.Nothing s f sample = []
+begunBy (resumes.Answer number task a) s f sample = answeredBy (gotOf s (f .«session_id»)) f sample number task a
+
+abbrev pub begunSessions : Resumes → List (List ℕ) → List Object → Frame → List (List ℕ)
+begunSessions resumes.Nothing s o f = s
+begunSessions (resumes.Answer number task a) s o f = answeredSessions (gotOf s (f .«session_id»)) (keepsOf number task a) s o (f .«session_id»)
+
+abbrev pub begunObjects : Resumes → List (List ℕ) → List Object → Frame → List Object
+begunObjects resumes.Nothing s o f = o
+begunObjects (resumes.Answer number task a) s o f = answeredObjects (gotOf s (f .«session_id»)) (keepsOf number task a) s o (f .«session_id»)
+
+abbrev pub begunTables : Start → Tables → Tables
+begunTables x t =
+    record { sessions = begunSessions (x .resumes) (t .sessions) (t .objects) (x .frame); streams = t .streams; objects = begunObjects (x .resumes) (t .sessions) (t .objects) (x .frame) }
+
+abbrev pub firstRan : Start → ℕ → Ran
+firstRan x wrote = record { next = x .next; at = x .at; wrote = wrote; stop = stop.Nothing }
+
+abbrev pub behind : List Reply → Turned → Turned
+behind rs y = record { ran = y .ran; tables = y .tables; replies = rs ++ y .replies }
+
+unfoldable pub performed : Start → Tables → List ℕ → List ℕ → Turned
+performed x t d sample =
+    let rs = begunBy (x .resumes) (t .sessions) (x .frame) sample in
+    behind rs (runAt (x .frame) d (firstRan x (length (joinedReplies rs))) (begunTables x t))
+
+-- 12 has refused a longer sample
+abbrev pub resumesFit : Resumes → ℕ → Bool
+resumesFit resumes.Nothing n = true
+resumesFit (resumes.Answer number task a) n = saysFits (saysOf task a) n
+
+-- ---- 13, last, and the answer to the host
+
+-- the bound on what a call can reply, for 13: to the answer, and 12 bytes to each submessage
+abbrev pub answerMost : BridgeAnswer → ℕ → ℕ
+answerMost Sample n = cond (leb n 65533) (10 + n) 65543
+answerMost (Created h) n = 11
+answerMost Done n = 11
+answerMost NoSample n = 11
+answerMost Failed n = 11
+
+abbrev pub firstMost : Resumes → ℕ → ℕ
+firstMost resumes.Nothing n = 0
+firstMost (resumes.Answer number task a) n = answerMost a n
+
+abbrev pub roomy : ℕ → Resumes → ℕ → ℕ → Bool
+roomy room x n sample = cond (ltb room (firstMost x sample)) false (leb n ((room - firstMost x sample) / 12))
+
+abbrev pub neededOf : Bool → ℕ → ℕ
+neededOf true n = 0
+neededOf false n = n
+
+abbrev pub outcomeOf : Stop → ℕ → Outcome
+outcomeOf stop.Nothing wrote = Replied wrote
+outcomeOf (stop.Call number task call) wrote = Called call wrote
+
+abbrev pub waitsOf : Frame → Stop → ℕ → Waiting
+waitsOf f stop.Nothing at = waiting.Nothing
+waitsOf f (stop.Call number task call) at =
+    waiting.Call (record { «session_id» = f .«session_id»; «stream_id» = f .«stream_id»; number = number; task = task; at = at; time = f .time })
+
+abbrev pub finishedOf : Agent → Start → Ran → Processed
+finishedOf a x r =
+    record { agent = record { «max_clients» = a .«max_clients»; «timeout_ms» = a .«timeout_ms»; next = r .next; waits = waitsOf (x .frame) (r .stop) (r .at) }; outcome = outcomeOf (r .stop) (r .wrote) }
+
+-- what a call leaves: the record and the outcome, the tables, the lent output; and the replies in it, one by one
+pub record Leaves : Type 0 where
+  pub processed : Processed
+  pub tables : Tables
+  pub out : List ℕ
+  pub replies : List Reply
+
+-- a refusal changes no table and no lent byte
+abbrev pub refusedOf : Agent → Refusal → Processed
+refusedOf a r = record { agent = a; outcome = Refused r }
+
+abbrev pub refuse : Agent → Tables → List ℕ → Refusal → Leaves
+refuse a t out r = record { processed = refusedOf a r; tables = t; out = out; replies = [] }
+
+abbrev pub finish : Agent → Tables → List ℕ → Start → Turned → Leaves
+finish a t out x y =
+    cond (ltb (length out) (y .ran .wrote)) (refuse a t out OutputTooShort)
+    (record { processed = finishedOf a x (y .ran); tables = y .tables; out = putAt out 0 (joinedReplies (y .replies)); replies = y .replies })
+
+abbrev pub processedBy : Judged → Agent → Tables → List ℕ → List ℕ → List ℕ → Leaves
+processedBy (judged.Goes x n) a t out d sample = finish a t out x (performed x t d sample)
+processedBy (judged.Refused r) a t out d sample = refuse a t out r
+
+unfoldable pub processOf : Agent → Tables → List ℕ → List ℕ → List ℕ → Input → Leaves
+processOf a t out d sample i = processedBy (judgeOf t d a i (length sample)) a t out d sample
+
+-- ---- the five entry points
+
+abbrev pub setUpAs : SetUp → ℕ → ℕ → AgentSetUp
+setUpAs (setup.Ready next) max timeout = ready.Ready (record { «max_clients» = max; «timeout_ms» = timeout; next = next; waits = waiting.Nothing })
+setUpAs (setup.Refused r) max timeout = ready.Refused r
+
+abbrev pub incomingOf : Agent → Tables → List ℕ → List ℕ → ℕ → Leaves
+incomingOf a t out d time = processOf a t out d [] (input.Datagram time)
+
+abbrev pub answerOf : Agent → Tables → List ℕ → List ℕ → List ℕ → BridgeAnswer → Leaves
+answerOf a t out d sample b = processOf a t out d sample (input.Answer b)
+
+-- 15, then 16 of the record: whether a removal or a sweep may run
+abbrev pub idleOf : Waiting → Agent → Idle
+idleOf waiting.Nothing a = cond (recordSound a) idle.Free (idle.Refused OverLimit)
+idleOf (waiting.Call p) a = idle.Refused OutOfTurn
+
+abbrev pub removedAs : Named → Removed
+removedAs named.Live = removed.Session
+removedAs named.NotLive = removed.NotLive
+removedAs (named.Refused r) = removed.Refused r
+
+abbrev pub removedBy : Idle → List (List ℕ) → ℕ → Removed
+removedBy idle.Free s id = removedAs (namedOf s id)
+removedBy (idle.Refused r) s id = removed.Refused r
+
+abbrev pub removedRows : Idle → List (List ℕ) → ℕ → List (List ℕ)
+removedRows idle.Free s id = endedRows s id
+removedRows (idle.Refused r) s id = s
+
+abbrev pub sweptBy : Idle → Agent → List (List ℕ) → ℕ → List ℕ → Written
+sweptBy idle.Free a s time out = evictedOf s time (a .«timeout_ms») out
+sweptBy (idle.Refused r) a s time out = written.Refused r
+
+abbrev pub sweptRows : Idle → Agent → List (List ℕ) → ℕ → List ℕ → List (List ℕ)
+sweptRows idle.Free a s time out = evictedRows s time (a .«timeout_ms») out
+sweptRows (idle.Refused r) a s time out = s
+
+abbrev pub sweptOut : Idle → Agent → List (List ℕ) → ℕ → List ℕ → List ℕ
+sweptOut idle.Free a s time out = evictedOut s time (a .«timeout_ms») out
+sweptOut (idle.Refused r) a s time out = out

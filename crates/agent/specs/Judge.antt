@@ -1,0 +1,113 @@
+-- What refuses a datagram or an answer before it runs: "15 is checked first", 16 "right after 15", then 1 to 5, then 12.
+use Prim.Native.Nat.{ℕ}
+use mathlib.Core.Bool.{Bool, false, cond, not}
+use mathlib.Core.List.{List, []}
+use lib.Dec.{eqb, ltb}
+use lib.ListN.{length, getD}
+use Rattle.codec.specs.Reading.{countAt, checkOf}
+use Rattle.codec.specs.declared.header.MessageHeader.{MessageHeader}
+use Rattle.codec.specs.declared.reading.Checked.{Checked}
+use Rattle.codec.specs.declared.reading.Checked.the-variants as checked
+use Rattle.codec.specs.declared.refusals.Refusal.the-variants.{OutOfTurn, OverLimit, TooLong}
+use Rattle.sessions.specs.Limits.{limitsOf}
+use Rattle.sessions.specs.View.{Tables}
+use Rattle.sessions.specs.declared.limits.Limits.{Limits}
+use Rattle.sessions.specs.declared.limits.Limits.the-variants as limits
+use Rattle.agent.specs.Calls.{fits}
+use Rattle.agent.specs.Proxy.{answerAs, taskAs}
+use Rattle.agent.specs.declared.state.Agent.{Agent}
+use Rattle.agent.specs.declared.judge.Input.{Input}
+use Rattle.agent.specs.declared.judge.Input.the-variants as input
+use Rattle.agent.specs.declared.judge.Judged.{Judged}
+use Rattle.agent.specs.declared.judge.Judged.the-variants.{Goes, Refused}
+use Rattle.agent.specs.declared.state.Pending.{Pending}
+use Rattle.agent.specs.declared.judge.Resumes.the-variants as resumes
+use Rattle.agent.specs.declared.judge.Start.{Start}
+use Rattle.agent.specs.declared.judge.Turn.{Turn}
+use Rattle.agent.specs.declared.judge.Turn.the-variants as turn
+use Rattle.agent.specs.declared.state.Waiting.{Waiting}
+use Rattle.agent.specs.declared.state.Waiting.the-variants as waiting
+use Rattle.agent.specs.declared.proxy.BridgeAnswer.{BridgeAnswer}
+use Rattle.agent.specs.declared.proxy.BridgeAnswer.the-variants.{Created, Done, Sample, NoSample, Failed}
+
+-- ---- 15: "While a bridge call is open, datagrams .. are out of turn"; "answer, no call open", "or answer of another kind"
+
+abbrev pub answersOf : Pending → BridgeAnswer → Turn
+answersOf p a = cond (fits (taskAs (p .task)) (answerAs a [])) (turn.Answer p a) (turn.Refused OutOfTurn)
+
+abbrev pub idleTurn : Input → Turn
+idleTurn (input.Datagram time) = turn.Datagram time
+idleTurn (input.Answer a) = turn.Refused OutOfTurn
+
+abbrev pub busyTurn : Pending → Input → Turn
+busyTurn p (input.Datagram time) = turn.Refused OutOfTurn
+busyTurn p (input.Answer a) = answersOf p a
+
+abbrev pub turnOf : Waiting → Input → Turn
+turnOf waiting.Nothing i = idleTurn i
+turnOf (waiting.Call p) i = busyTurn p i
+
+-- ---- 16: of the record, the stores, and the rows of the session that the call names
+
+abbrev pub sessionOf : List ℕ → Turn → ℕ
+sessionOf d (turn.Datagram time) = getD d 0 0
+sessionOf d (turn.Answer p a) = p .«session_id»
+sessionOf d (turn.Refused r) = 0
+
+abbrev pub recordSound : Agent → Bool
+recordSound a = cond (ltb 255 (a .«max_clients»)) false (not (eqb (a .next) 0))
+
+abbrev pub soundOf : Agent → Limits → Bool
+soundOf a limits.Within = recordSound a
+soundOf a (limits.Refused r) = false
+
+-- ---- 1 to 5
+
+abbrev pub datagramStart : Agent → ℕ → MessageHeader → Start
+datagramStart a time h =
+    record { frame = record { «max_clients» = a .«max_clients»; time = time; «session_id» = h .«session_id»; «stream_id» = h .«stream_id» }; next = a .next; at = 4; resumes = resumes.Nothing }
+
+abbrev pub checkedJudged : Agent → ℕ → Checked → Judged
+checkedJudged a time (checked.Message h n) = Goes (datagramStart a time h) n
+checkedJudged a time (checked.Refused r) = Refused r
+
+abbrev pub datagramJudged : List ℕ → Agent → Limits → ℕ → Judged
+datagramJudged d a l time = cond (soundOf a l) (checkedJudged a time (checkOf d)) (Refused OverLimit)
+
+-- ---- 12, "payload or string over 65,535 bytes": the DATA that a sample would need
+
+abbrev pub tooLong : BridgeAnswer → ℕ → Bool
+tooLong Sample n = ltb 65533 n
+tooLong (Created h) n = false
+tooLong Done n = false
+tooLong NoSample n = false
+tooLong Failed n = false
+
+-- the submessages behind the call's own, in the datagram lent again, with the time and the header that it had
+abbrev pub answerStart : Agent → Pending → BridgeAnswer → Start
+answerStart a p b =
+    record { frame = record { «max_clients» = a .«max_clients»; time = p .time; «session_id» = p .«session_id»; «stream_id» = p .«stream_id» }; next = a .next; at = p .at; resumes = resumes.Answer (p .number) (p .task) b }
+
+abbrev pub restJudged : Agent → Pending → BridgeAnswer → ℕ → Checked → Judged
+restJudged a p b sample (checked.Message h n) = cond (tooLong b sample) (Refused TooLong) (Goes (answerStart a p b) n)
+restJudged a p b sample (checked.Refused r) = Refused OverLimit
+
+abbrev pub headerOf : Pending → MessageHeader
+headerOf p = record { «session_id» = p .«session_id»; «stream_id» = p .«stream_id»; «sequence_nr» = 0 }
+
+-- "A datagram whose bridge call is open may be lent again with the answer": it reads from the call's place to its end, else 16
+abbrev pub answerJudged : List ℕ → Agent → Limits → Pending → BridgeAnswer → ℕ → Judged
+answerJudged d a l p b sample =
+    cond (soundOf a l)
+    (cond (ltb (length d) (p .at)) (Refused OverLimit) (restJudged a p b sample (countAt (headerOf p) d (p .at))))
+    (Refused OverLimit)
+
+abbrev pub judgedBy : List ℕ → Agent → Limits → Turn → ℕ → Judged
+judgedBy d a l (turn.Datagram time) sample = datagramJudged d a l time
+judgedBy d a l (turn.Answer p b) sample = answerJudged d a l p b sample
+judgedBy d a l (turn.Refused r) sample = Refused r
+
+unfoldable pub judgeOf : Tables → List ℕ → Agent → Input → ℕ → Judged
+judgeOf t d a i sample =
+    let x = turnOf (a .waits) i in
+    judgedBy d a (limitsOf (t .sessions) (t .streams) (t .objects) (sessionOf d x)) x sample

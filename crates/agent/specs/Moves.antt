@@ -1,0 +1,122 @@
+-- What a submessage comes to, by value: from what the tables were found to hold.
+use Prim.Native.Nat.{ℕ}
+use mathlib.Core.Bool.{Bool, true, false, cond}
+use mathlib.Core.List.{List, []}
+use lib.Dec.{eqb}
+use Rattle.codec.specs.declared.layouts.Span.{Span}
+use Rattle.codec.specs.declared.submessages.HeartbeatPayload.{HeartbeatPayload}
+use Rattle.codec.specs.declared.submessages.ObjectNumber.{ObjectNumber}
+use Rattle.codec.specs.declared.submessages.StatusCode.{StatusCode}
+use Rattle.codec.specs.declared.submessages.StatusCode.the-variants.{Ok, ErrUnknownRef, ErrInvalidData}
+use Rattle.codec.specs.declared.submessages.Submessage.the-variants as sub
+use Rattle.streams.specs.Received.{acknackOf}
+use Rattle.sessions.specs.Objects.{handleOf}
+use Rattle.sessions.specs.declared.objects.Found.{Found}
+use Rattle.sessions.specs.declared.objects.Found.the-variants.{Held, Nothing, Refused}
+use Rattle.sessions.specs.declared.objects.Handle.{Handle}
+use Rattle.sessions.specs.declared.objects.ObjectHandle.{ObjectHandle}
+use Rattle.sessions.specs.declared.objects.ObjectHandle.the-variants.{Bridged, Implicit}
+use Rattle.sessions.specs.declared.session_streams.StreamNamed.{StreamNamed}
+use Rattle.sessions.specs.declared.session_streams.StreamNamed.the-variants as stream
+use Rattle.sessions.specs.declared.session_streams.StreamRead.{StreamRead}
+use Rattle.streams.specs.declared.state.StreamState.{StreamState}
+use Rattle.agent.specs.Replies.{replyBytes, statusBytes, acknackBytes}
+use Rattle.agent.specs.declared.names.Names.{Names}
+use Rattle.agent.specs.declared.moves.Move.{Move}
+use Rattle.agent.specs.declared.moves.Move.the-variants.{Greets, Status, Acknack, Calls, Silent}
+use Rattle.agent.specs.declared.proxy.BridgeCall.{BridgeCall}
+use Rattle.agent.specs.declared.proxy.BridgeCall.the-variants.{CreateParticipant, CreateTopic, CreateWriter, CreateReader, WriteData, ReadData, DeleteEntity}
+use Rattle.agent.specs.declared.proxy.Task.the-variants.{Creating, Writing, Reading, Deleting}
+use Rattle.agent.specs.declared.replies.Said.{Said}
+
+-- the handle of an object, if it is there and has one
+abbrev pub foundHandle : Found → ObjectHandle
+foundHandle (Held o) = handleOf o
+foundHandle Nothing = Implicit
+foundHandle (Refused r) = Implicit
+
+-- ---- CREATE
+
+abbrev pub participantMove : ObjectNumber → ℕ → Move
+participantMove number domain = Calls number (Creating 1) (CreateParticipant domain)
+
+abbrev pub topicBy : ObjectNumber → Names → ObjectHandle → Move
+topicBy number names (Bridged p) = Calls number (Creating 2) (CreateTopic p (names .name) (names .«type_name»))
+topicBy number names Implicit = Status number ErrInvalidData
+
+abbrev pub topicMove : ObjectNumber → Names → Found → Move
+topicMove number names parent = topicBy number names (foundHandle parent)
+
+abbrev pub endpointCall : ℕ → Handle → Handle → BridgeCall
+endpointCall kind p t = cond (eqb kind 5) (CreateWriter p t) (CreateReader p t)
+
+abbrev pub endpointBy : ObjectNumber → ℕ → Handle → ObjectHandle → Move
+endpointBy number kind p (Bridged t) = Calls number (Creating kind) (endpointCall kind p t)
+endpointBy number kind p Implicit = Status number ErrInvalidData
+
+abbrev pub endpointFor : ObjectNumber → ℕ → ObjectHandle → ObjectHandle → Move
+endpointFor number kind (Bridged p) t = endpointBy number kind p t
+endpointFor number kind Implicit t = Status number ErrInvalidData
+
+abbrev pub endpointMove : ObjectNumber → ℕ → Found → Found → Move
+endpointMove number kind participant topic = endpointFor number kind (foundHandle participant) (foundHandle topic)
+
+-- ---- WRITE_DATA, READ_DATA, DELETE
+
+abbrev pub writeBy : ObjectNumber → Span → ObjectHandle → Move
+writeBy number body (Bridged w) = Calls number Writing (WriteData w body)
+writeBy number body Implicit = Status number ErrUnknownRef
+
+abbrev pub writeMove : ObjectNumber → Span → Found → Move
+writeMove number body f = writeBy number body (foundHandle f)
+
+abbrev pub readBy : ObjectNumber → ObjectHandle → Move
+readBy number (Bridged x) = Calls number Reading (ReadData x)
+readBy number Implicit = Status number ErrUnknownRef
+
+abbrev pub readMove : ObjectNumber → Found → Move
+readMove number f = readBy number (foundHandle f)
+
+abbrev pub droppedMove : ObjectNumber → ObjectHandle → Move
+droppedMove number (Bridged h) = Calls number Deleting (DeleteEntity h)
+droppedMove number Implicit = Status number Ok
+
+abbrev pub deleteMove : ObjectNumber → Found → Move
+deleteMove number (Held o) = droppedMove number (handleOf o)
+deleteMove number Nothing = Status number ErrUnknownRef
+deleteMove number (Refused r) = Status number ErrUnknownRef
+
+-- ---- HEARTBEAT, on its stream as it is read behind its opening
+
+abbrev pub heartbeatOn : StreamNamed → StreamState → HeartbeatPayload → Move
+heartbeatOn stream.Open s p = Acknack (acknackOf s (p .«first_unacked_seq») (p .«last_seq»))
+heartbeatOn stream.NotOpen s p = Silent
+heartbeatOn stream.NotLive s p = Silent
+heartbeatOn (stream.Refused r) s p = Silent
+
+abbrev pub heartbeatMove : StreamRead → HeartbeatPayload → Move
+heartbeatMove r p = heartbeatOn (r .answer) (r .state) p
+
+-- ---- the reply, for the header's session and stream
+
+abbrev pub moveBytes : ℕ → ℕ → Move → List ℕ
+moveBytes session stream (Greets id code) = statusBytes id 0 0 code
+moveBytes session stream (Status number code) = statusBytes session stream (number .0) code
+moveBytes session stream (Acknack p) = acknackBytes session stream (p .«first_unacked_seq») (p .«nack_bitmap»)
+moveBytes session stream (Calls number task call) = []
+moveBytes session stream Silent = []
+
+-- the same as the code's value
+abbrev pub statusTo : ℕ → ℕ → ObjectNumber → StatusCode → Bool → Said
+statusTo session stream number code any =
+    record { any = any; «session_id» = session; «stream_id» = stream; message = sub.Status (record { «related_object_id» = number; status = code }) }
+
+abbrev pub saidOf : ℕ → ℕ → Move → Said
+saidOf session stream (Greets id code) = statusTo id 0 (record { 0 = 0 }) code true
+saidOf session stream (Status number code) = statusTo session stream number code true
+saidOf session stream (Acknack p) = record { any = true; «session_id» = session; «stream_id» = stream; message = sub.Acknack p }
+saidOf session stream (Calls number task call) = statusTo 0 0 (record { 0 = 0 }) Ok false
+saidOf session stream Silent = statusTo 0 0 (record { 0 = 0 }) Ok false
+
+abbrev pub saidBytes : Said → List ℕ
+saidBytes m = cond (m .any) (replyBytes (m .«session_id») (m .«stream_id») (m .message) []) []

@@ -1,0 +1,168 @@
+-- A run over the lent tables: the submessages from a place of the datagram on, until a bridge call is handed out or the end.
+use Prim.Native.Nat.{ℕ, zero, suc, _+_, _-_}
+use mathlib.Core.Bool.{Bool, true, false, cond}
+use mathlib.Core.Option.{Option, none, some}
+use mathlib.Core.List.{List, [], _∷_, _++_}
+use lib.Dec.{ltb}
+use lib.ListN.{length}
+use Rattle.codec.specs.Bytes.{putBytes}
+use Rattle.codec.specs.Reading.{readAt}
+use Rattle.codec.specs.declared.layouts.Parsed.{Parsed}
+use Rattle.codec.specs.declared.layouts.Parsed.the-variants as parsed
+use Rattle.codec.specs.declared.layouts.Span.{Span}
+use Rattle.codec.specs.declared.submessages.StatusCode.the-variants.{Ok, ErrResources}
+use Rattle.codec.specs.declared.submessages.Submessage.{Submessage}
+use Rattle.codec.specs.declared.submessages.Submessage.the-variants as sub
+use Rattle.sessions.specs.Table.{namedOf, touchedRows}
+use Rattle.sessions.specs.Opening.{createdOf}
+use Rattle.sessions.specs.Calls.{withSessions, createTables}
+use Rattle.sessions.specs.View.{Tables}
+use Rattle.sessions.specs.declared.opening.Created.{Created}
+use Rattle.sessions.specs.declared.opening.Created.the-variants as created
+use Rattle.sessions.specs.declared.table.Named.{Named}
+use Rattle.sessions.specs.declared.table.Named.the-variants.{Live, NotLive, Refused}
+use Rattle.agent.specs.Moves.{moveBytes}
+use Rattle.agent.specs.Rows.{handledMove, handledTables}
+use Rattle.agent.specs.Step.{Reply, opened, replied, bytesOf}
+use Rattle.agent.specs.declared.clients.Opening.{Opening}
+use Rattle.agent.specs.declared.clients.Opening.the-variants.{Client, Other}
+use Rattle.agent.specs.declared.moves.Move.{Move}
+use Rattle.agent.specs.declared.moves.Move.the-variants.{Greets, Status, Acknack, Calls, Silent}
+use Rattle.agent.specs.declared.turn.Frame.{Frame}
+use Rattle.agent.specs.declared.turn.Ran.{Ran}
+use Rattle.agent.specs.declared.turn.Stop.{Stop}
+use Rattle.agent.specs.declared.turn.Stop.the-variants as stop
+
+-- ---- replies in the lent output, each written only where it fits
+
+unfoldable pub putReplies : List ℕ → ℕ → List Reply → List ℕ
+putReplies out at [] = out
+putReplies out at (r ∷ rs) = putReplies (putBytes out at (bytesOf r)) (at + length (bytesOf r)) rs
+
+-- ---- one submessage
+
+-- what it leaves: the run so far, the tables, and its replies
+pub record Turned : Type 0 where
+  pub ran : Ran
+  pub tables : Tables
+  pub replies : List Reply
+
+-- only a call ends the run
+abbrev pub stopOf : Move → Stop
+stopOf (Calls number task call) = stop.Call number task call
+stopOf (Greets id code) = stop.Nothing
+stopOf (Status number code) = stop.Nothing
+stopOf (Acknack p) = stop.Nothing
+stopOf Silent = stop.Nothing
+
+abbrev pub settled : Frame → ℕ → ℕ → Move → ℕ → Ran
+settled f next wrote m at = record { next = next; at = at; wrote = wrote + length (moveBytes (f .«session_id») (f .«stream_id») m); stop = stopOf m }
+
+-- CREATE_CLIENT: "with the new id and OK, or id 0 and ERR_RESOURCES"; the pointer goes on from the id taken
+abbrev pub greeting : Created → Move
+greeting (created.Opened id next) = Greets id Ok
+greeting (created.Refused r) = Greets 0 ErrResources
+
+abbrev pub greetingBytes : Created → List ℕ
+greetingBytes c = moveBytes 0 0 (greeting c)
+
+abbrev pub pointerOf : Created → ℕ → ℕ
+pointerOf (created.Opened id n) next = n
+pointerOf (created.Refused r) next = next
+
+abbrev pub idOpened : Created → Option ℕ
+idOpened (created.Opened id next) = some id
+idOpened (created.Refused r) = none
+
+abbrev pub greeted : Frame → Ran → ℕ → ℕ → Created → Ran
+greeted f r key at c = settled f (pointerOf c (r .next)) (r .wrote) (greeting c) at
+
+abbrev pub opening : Frame → Tables → Ran → ℕ → ℕ → Turned
+opening f t r key at =
+    let c = createdOf (t .sessions) (t .streams) (f .«max_clients») (r .next) in
+    record { ran = greeted f r key at c; tables = createTables c t key (f .time); replies = opened (idOpened c) ∷ [] }
+
+-- any other: "No such session: no reply. Otherwise the session is touched first with the datagram's time."
+abbrev pub passed : Ran → ℕ → Ran
+passed r at = record { next = r .next; at = at; wrote = r .wrote; stop = r .stop }
+
+abbrev pub repliesOf : Frame → Move → List Reply
+repliesOf f (Greets id code) = []
+repliesOf f (Status number code) = replied (f .«session_id») (moveBytes (f .«session_id») (f .«stream_id») (Status number code)) ∷ []
+repliesOf f (Acknack p) = replied (f .«session_id») (moveBytes (f .«session_id») (f .«stream_id») (Acknack p)) ∷ []
+repliesOf f (Calls number task call) = []
+repliesOf f Silent = []
+
+abbrev pub touchedTables : Frame → Tables → Tables
+touchedTables f t = withSessions t (touchedRows (t .sessions) (f .«session_id») (f .time))
+
+abbrev pub acted : Frame → Ran → ℕ → Move → Tables → Turned
+acted f r at m t = record { ran = settled f (r .next) (r .wrote) m at; tables = t; replies = repliesOf f m }
+
+abbrev pub delivered : Named → Frame → Tables → List ℕ → Ran → Submessage → Span → ℕ → Turned
+delivered Live f t d r m body at =
+    let u = touchedTables f t in
+    acted f r at (handledMove m u d (f .«session_id») (f .«stream_id») body) (handledTables m u (f .«session_id») (f .«stream_id»))
+delivered NotLive f t d r m body at = record { ran = passed r at; tables = touchedTables f t; replies = [] }
+delivered (Refused x) f t d r m body at = record { ran = passed r at; tables = touchedTables f t; replies = [] }
+
+abbrev pub openingOf : Submessage → Opening
+openingOf (sub.CreateClient p) = Client (p .«client_key»)
+openingOf (sub.Create p) = Other
+openingOf (sub.Delete p) = Other
+openingOf (sub.Status p) = Other
+openingOf (sub.WriteData p) = Other
+openingOf (sub.ReadData p) = Other
+openingOf (sub.Data p) = Other
+openingOf (sub.Heartbeat p) = Other
+openingOf (sub.Acknack p) = Other
+
+abbrev pub subTurned : Opening → Frame → Tables → List ℕ → Ran → Submessage → Span → ℕ → Turned
+subTurned (Client key) f t d r m body at = opening f t r key at
+subTurned Other f t d r m body at = delivered (namedOf (t .sessions) (f .«session_id»)) f t d r m body at
+
+-- what was read at a place, as the code takes it apart: where nothing was, a STATUS stands for it
+abbrev pub isRead : Parsed → Bool
+isRead (parsed.Sub m body next) = true
+isRead (parsed.Refused x) = false
+
+abbrev pub messageRead : Parsed → Submessage
+messageRead (parsed.Sub m body next) = m
+messageRead (parsed.Refused x) = sub.Status (record { «related_object_id» = record { 0 = 0 }; status = Ok })
+
+abbrev pub bodyRead : Parsed → Span
+bodyRead (parsed.Sub m body next) = body
+bodyRead (parsed.Refused x) = record { start = 0; len = 0 }
+
+abbrev pub endRead : Parsed → ℕ → ℕ
+endRead (parsed.Sub m body next) len = next .at
+endRead (parsed.Refused x) len = len
+
+-- the datagram was checked before, so that a submessage is always read
+abbrev pub turnedBy : Parsed → Frame → Tables → List ℕ → Ran → Turned
+turnedBy (parsed.Sub m body next) f t d r = subTurned (openingOf m) f t d r m body (next .at)
+turnedBy (parsed.Refused x) f t d r = record { ran = passed r (length d); tables = t; replies = [] }
+
+unfoldable pub turned : Frame → Tables → List ℕ → Ran → Turned
+turned f t d r = turnedBy (readAt d (r .at)) f t d r
+
+-- ---- all of them
+
+abbrev pub isCall : Stop → Bool
+isCall stop.Nothing = false
+isCall (stop.Call number task call) = true
+
+abbrev pub goesOn : ℕ → Ran → Bool
+goesOn len r = cond (isCall (r .stop)) false (ltb (r .at) len)
+
+abbrev pub before : Turned → (Ran → Tables → Turned) → Turned
+before x go = let y = go (x .ran) (x .tables) in record { ran = y .ran; tables = y .tables; replies = x .replies ++ y .replies }
+
+unfoldable pub runIn : ℕ → Frame → List ℕ → Ran → Tables → Turned
+runIn zero f d r t = record { ran = r; tables = t; replies = [] }
+runIn (suc left) f d r t =
+    cond (goesOn (length d) r) (before (turned f t d r) (λ r′ t′. runIn left f d r′ t′)) (record { ran = r; tables = t; replies = [] })
+
+-- each submessage takes bytes, so there are no more turns than bytes left
+unfoldable pub runAt : Frame → List ℕ → Ran → Tables → Turned
+runAt f d r t = runIn (length d - r .at) f d r t

@@ -1,0 +1,192 @@
+// The host's five entry points. Each takes the `Agent` by value and hands it back; tables and output are lent, and a refused
+// call changes neither.
+use crate::judge::Input;
+use crate::judge::sound_record;
+use crate::process::Processed;
+use crate::process::process;
+use crate::proxy::BridgeAnswer;
+use crate::state::Agent;
+use crate::state::Waiting;
+use codec::bytes::Written;
+use codec::refusals::Refusal;
+use sessions::objects::Object;
+use sessions::setup::SetUp;
+use sessions::setup::set_up;
+use sessions::stream_rows::StreamRow;
+use sessions::sweep;
+use sessions::table;
+use sessions::table::Named;
+use sessions::table::SessionRow;
+ghost use mathlib.Core.Path.{_≡_};
+ghost use lib.ListN.{length};
+ghost use Rattle.sessions.specs.Setup.{setUpOf};
+ghost use Rattle.sessions.specs.Calls.{setUpTables};
+ghost use Rattle.agent.specs.Rows.{lent};
+ghost use Rattle.agent.specs.Host.{setUpAs, incomingOf, answerOf, idleOf, removedAs, removedBy, removedRows, sweptBy, sweptRows, sweptOut};
+
+pub enum AgentSetUp {
+    Ready(Agent),
+    Refused(Refusal),
+}
+
+// What the host gives with a datagram.
+pub struct Given {
+    pub time: u64,
+}
+
+pub enum Removed {
+    Session,
+    NotLive,
+    Refused(Refusal),
+}
+
+fn ready(s: SetUp, max_clients: usize, timeout_ms: u64) -> AgentSetUp
+    ensures { λ r. ⌜ r ≡ setUpAs s «max_clients» «timeout_ms» ⌝ }
+{
+    match s {
+        SetUp::Ready { next } => AgentSetUp::Ready(Agent {
+            max_clients,
+            timeout_ms,
+            next,
+            waits: Waiting::Nothing,
+        }),
+        SetUp::Refused(x) => AgentSetUp::Refused(x),
+    }
+}
+
+// An empty agent over the lent tables, whatever stood in them.
+pub fn setup(
+    sessions: &mut [SessionRow],
+    streams: &mut [StreamRow],
+    objects: &mut [Object],
+    max_clients: usize,
+    timeout_ms: u64,
+) -> AgentSetUp
+    ensures { λ a. ⌜ (a ≡ setUpAs (setUpOf (length (now (sessions .entry))) (length (now (streams .entry))) (length (now (objects .entry))) «max_clients») «max_clients» «timeout_ms»)
+        × (now (sessions .exit) ≡ setUpTables (setUpOf (length (now (sessions .entry))) (length (now (streams .entry))) (length (now (objects .entry))) «max_clients») (lent (now (sessions .entry)) (now (streams .entry)) (now (objects .entry))) .sessions)
+        × (now (streams .exit) ≡ setUpTables (setUpOf (length (now (sessions .entry))) (length (now (streams .entry))) (length (now (objects .entry))) «max_clients») (lent (now (sessions .entry)) (now (streams .entry)) (now (objects .entry))) .streams)
+        × (now (objects .exit) ≡ setUpTables (setUpOf (length (now (sessions .entry))) (length (now (streams .entry))) (length (now (objects .entry))) «max_clients») (lent (now (sessions .entry)) (now (streams .entry)) (now (objects .entry))) .objects) ⌝ }
+{
+    let s = set_up(sessions, streams, objects, max_clients);
+    ready(s, max_clients, timeout_ms)
+}
+
+// A datagram: its replies stand one behind the other at the start of the output.
+pub fn process_incoming(
+    sessions: &mut [SessionRow],
+    streams: &mut [StreamRow],
+    objects: &mut [Object],
+    out: &mut [u8],
+    datagram: &[u8],
+    agent: Agent,
+    given: Given,
+) -> Processed
+    ensures { λ p. ⌜ (p ≡ incomingOf agent (lent (now (sessions .entry)) (now (streams .entry)) (now (objects .entry))) (now (out .entry)) (now (datagram .entry)) (given .time) .processed)
+        × (now (sessions .exit) ≡ incomingOf agent (lent (now (sessions .entry)) (now (streams .entry)) (now (objects .entry))) (now (out .entry)) (now (datagram .entry)) (given .time) .tables .sessions)
+        × (now (streams .exit) ≡ incomingOf agent (lent (now (sessions .entry)) (now (streams .entry)) (now (objects .entry))) (now (out .entry)) (now (datagram .entry)) (given .time) .tables .streams)
+        × (now (objects .exit) ≡ incomingOf agent (lent (now (sessions .entry)) (now (streams .entry)) (now (objects .entry))) (now (out .entry)) (now (datagram .entry)) (given .time) .tables .objects)
+        × (now (out .exit) ≡ incomingOf agent (lent (now (sessions .entry)) (now (streams .entry)) (now (objects .entry))) (now (out .entry)) (now (datagram .entry)) (given .time) .out) ⌝ }
+{
+    // A datagram is processed without a look at a sample.
+    let none = [0u8; 2];
+    process(
+        sessions,
+        streams,
+        objects,
+        out,
+        datagram,
+        &none,
+        agent,
+        Input::Datagram(given.time),
+    )
+}
+
+// The bridge's answer to the open call, with the sample's bytes, and the call's datagram lent again.
+pub fn process_answer(
+    sessions: &mut [SessionRow],
+    streams: &mut [StreamRow],
+    objects: &mut [Object],
+    out: &mut [u8],
+    datagram: &[u8],
+    sample: &[u8],
+    agent: Agent,
+    answer: BridgeAnswer,
+) -> Processed
+    ensures { λ p. ⌜ (p ≡ answerOf agent (lent (now (sessions .entry)) (now (streams .entry)) (now (objects .entry))) (now (out .entry)) (now (datagram .entry)) (now (sample .entry)) answer .processed)
+        × (now (sessions .exit) ≡ answerOf agent (lent (now (sessions .entry)) (now (streams .entry)) (now (objects .entry))) (now (out .entry)) (now (datagram .entry)) (now (sample .entry)) answer .tables .sessions)
+        × (now (streams .exit) ≡ answerOf agent (lent (now (sessions .entry)) (now (streams .entry)) (now (objects .entry))) (now (out .entry)) (now (datagram .entry)) (now (sample .entry)) answer .tables .streams)
+        × (now (objects .exit) ≡ answerOf agent (lent (now (sessions .entry)) (now (streams .entry)) (now (objects .entry))) (now (out .entry)) (now (datagram .entry)) (now (sample .entry)) answer .tables .objects)
+        × (now (out .exit) ≡ answerOf agent (lent (now (sessions .entry)) (now (streams .entry)) (now (objects .entry))) (now (out .entry)) (now (datagram .entry)) (now (sample .entry)) answer .out) ⌝ }
+{
+    process(
+        sessions,
+        streams,
+        objects,
+        out,
+        datagram,
+        sample,
+        agent,
+        Input::Answer(answer),
+    )
+}
+
+// Whether a removal or a sweep may run.
+enum Idle {
+    Free,
+    Refused(Refusal),
+}
+
+// 15: "While a bridge call is open, .. removals and sweeps are out of turn"; then 16, of the record.
+fn is_idle(agent: Agent) -> Idle
+    ensures { λ r. ⌜ r ≡ idleOf (agent .waits) agent ⌝ }
+{
+    let waits = agent.waits;
+    match waits {
+        Waiting::Nothing => if sound_record(agent) {
+            Idle::Free
+        } else {
+            Idle::Refused(Refusal::OverLimit)
+        },
+        Waiting::Call(_) => Idle::Refused(Refusal::OutOfTurn),
+    }
+}
+
+fn removed_as(n: Named) -> Removed
+    ensures { λ r. ⌜ r ≡ removedAs n ⌝ }
+{
+    match n {
+        Named::Live => Removed::Session,
+        Named::NotLive => Removed::NotLive,
+        Named::Refused(x) => Removed::Refused(x),
+    }
+}
+
+// Ends a session; its objects are forgotten without a bridge call.
+pub fn remove_session(sessions: &mut [SessionRow], agent: Agent, id: u8) -> Removed
+    ensures { λ r. ⌜ (r ≡ removedBy (idleOf (agent .waits) agent) (now (sessions .entry)) id)
+        × (now (sessions .exit) ≡ removedRows (idleOf (agent .waits) agent) (now (sessions .entry)) id) ⌝ }
+{
+    let i = is_idle(agent);
+    match i {
+        Idle::Free => removed_as(table::remove(sessions, id)),
+        Idle::Refused(x) => Removed::Refused(x),
+    }
+}
+
+// A sweep: ends the sessions that are expired, and lists their ids ascending at the start of the output.
+pub fn evict_expired(
+    sessions: &mut [SessionRow],
+    out: &mut [u8],
+    agent: Agent,
+    time: u64,
+) -> Written
+    ensures { λ r. ⌜ (r ≡ sweptBy (idleOf (agent .waits) agent) agent (now (sessions .entry)) time (now (out .entry)))
+        × (now (sessions .exit) ≡ sweptRows (idleOf (agent .waits) agent) agent (now (sessions .entry)) time (now (out .entry)))
+        × (now (out .exit) ≡ sweptOut (idleOf (agent .waits) agent) agent (now (sessions .entry)) time (now (out .entry))) ⌝ }
+{
+    let i = is_idle(agent);
+    match i {
+        Idle::Free => sweep::evict_expired(sessions, time, agent.timeout_ms, out),
+        Idle::Refused(x) => Written::Refused(x),
+    }
+}

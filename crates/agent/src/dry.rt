@@ -1,0 +1,196 @@
+// 13 is exact: where the output may be too short, the call runs once on no output, which tells what it would write, and the
+// records that it may have changed are put back: all sessions', the first stream's of each, and the named session's streams
+// and objects.
+use crate::judge::Start;
+use crate::perform::perform;
+use codec::submessages::ObjectNumber;
+use sessions::objects::Object;
+use sessions::stream_rows::StreamRow;
+use sessions::table::SessionRow;
+ghost use mathlib.Core.Path.{_≡_};
+ghost use mathlib.Core.Bool.{true};
+ghost use mathlib.Core.List.{[]};
+ghost use Prim.Native.Nat.{_+_, _*_, _<_, _≤_};
+ghost use lib.ListN.{length, getD, set};
+ghost use Rattle.sessions.specs.Objects.{blank};
+ghost use Rattle.agent.specs.Rows.{lent};
+ghost use Rattle.agent.specs.Host.{resumesFit, performed};
+ghost use Rattle.agent.specs.Dry.{sessionCopy, sessionBack, noSession, streamCopy, streamBack, noStream, same, sessionSpot, streamSpot, objectSpot, copied, restored};
+
+// A row, as an element of a local array that is lent.
+pub struct SessionCopy(pub [u64; 5]);
+
+pub struct StreamCopy(pub [u16; 35]);
+
+fn no_session() -> SessionCopy
+    ensures { λ r. ⌜ r ≡ noSession ⌝ }
+{
+    SessionCopy([0u64; 5])
+}
+
+fn no_stream() -> StreamCopy
+    ensures { λ r. ⌜ r ≡ noStream ⌝ }
+{
+    StreamCopy([0u16; 35])
+}
+
+fn first_object(id: u8) -> usize
+    ensures { λ r. ⌜ r ≡ 32 * id ⌝ }
+{
+    32 * (id as usize)
+}
+
+// The row of the k-th stream that is copied.
+fn stream_spot(id: u8, k: usize) -> usize
+    requires { ⌜ k < 264 ⌝ }
+    ensures { λ r. ⌜ (r ≡ streamSpot id k) × (r < 2048) ⌝ }
+{
+    if k < 256 {
+        return 8 * k;
+    }
+    8 * (id as usize) + (k - 256)
+}
+
+fn session_at(from: &[SessionRow], i: usize) -> SessionCopy
+    requires { ⌜ i < length (now from) ⌝ }
+    ensures { λ r. ⌜ r ≡ sessionCopy (getD (now (from .entry)) i []) ⌝ }
+{
+    SessionCopy(from[i])
+}
+
+fn session_back(to: &mut [SessionRow], i: usize, row: SessionCopy)
+    requires { ⌜ i < length (now to) ⌝ }
+    ensures { λ _. ⌜ now (to .exit) ≡ set (now (to .entry)) i (sessionBack row) ⌝ }
+{
+    let words = row.0;
+    to[i] = words;
+}
+
+fn stream_at(from: &[StreamRow], id: u8, k: usize) -> StreamCopy
+    requires { ⌜ (k < 264) × (2048 ≤ length (now from)) ⌝ }
+    ensures { λ r. ⌜ r ≡ streamCopy (getD (now (from .entry)) (streamSpot id k) []) ⌝ }
+{
+    let at = stream_spot(id, k);
+    StreamCopy(from[at])
+}
+
+fn stream_back(to: &mut [StreamRow], id: u8, k: usize, row: StreamCopy)
+    requires { ⌜ (k < 264) × (2048 ≤ length (now to)) ⌝ }
+    ensures { λ _. ⌜ now (to .exit) ≡ set (now (to .entry)) (streamSpot id k) (streamBack row) ⌝ }
+{
+    let at = stream_spot(id, k);
+    let words = row.0;
+    to[at] = words;
+}
+
+fn copy_sessions(from: &[SessionRow], to: &mut [SessionCopy], n: usize)
+    requires { ⌜ (n ≤ length (now from)) × (n ≤ length (now to)) ⌝ }
+    ensures { λ _. ⌜ now (to .exit) ≡ copied sessionCopy [] sessionSpot n (now (from .entry)) (now (to .entry)) ⌝ }
+{
+    let mut i = 0;
+    while i < n {
+        let row = session_at(from, i);
+        to[i] = row;
+        i = i + 1;
+    }
+}
+
+fn restore_sessions(from: &[SessionCopy], to: &mut [SessionRow], n: usize)
+    requires { ⌜ (n ≤ length (now from)) × (n ≤ length (now to)) ⌝ }
+    ensures { λ _. ⌜ now (to .exit) ≡ restored sessionBack noSession sessionSpot n (now (from .entry)) (now (to .entry)) ⌝ }
+{
+    let mut i = 0;
+    while i < n {
+        let row = from[i];
+        session_back(to, i, row);
+        i = i + 1;
+    }
+}
+
+fn copy_streams(from: &[StreamRow], to: &mut [StreamCopy], id: u8, n: usize)
+    requires { ⌜ (n ≤ 264) × (2048 ≤ length (now from)) × (n ≤ length (now to)) ⌝ }
+    ensures { λ _. ⌜ now (to .exit) ≡ copied streamCopy [] (streamSpot id) n (now (from .entry)) (now (to .entry)) ⌝ }
+{
+    let mut i = 0;
+    while i < n {
+        let row = stream_at(from, id, i);
+        to[i] = row;
+        i = i + 1;
+    }
+}
+
+fn restore_streams(from: &[StreamCopy], to: &mut [StreamRow], id: u8, n: usize)
+    requires { ⌜ (n ≤ 264) × (n ≤ length (now from)) × (2048 ≤ length (now to)) ⌝ }
+    ensures { λ _. ⌜ now (to .exit) ≡ restored streamBack noStream (streamSpot id) n (now (from .entry)) (now (to .entry)) ⌝ }
+{
+    let mut i = 0;
+    while i < n {
+        let row = from[i];
+        stream_back(to, id, i, row);
+        i = i + 1;
+    }
+}
+
+fn copy_objects(from: &[Object], to: &mut [Object], first: usize, n: usize)
+    requires { ⌜ (first + n ≤ length (now from)) × (n ≤ length (now to)) ⌝ }
+    ensures { λ _. ⌜ now (to .exit) ≡ copied same blank (objectSpot first) n (now (from .entry)) (now (to .entry)) ⌝ }
+{
+    let mut i = 0;
+    while i < n {
+        let o = from[first + i];
+        to[i] = o;
+        i = i + 1;
+    }
+}
+
+fn restore_objects(from: &[Object], to: &mut [Object], first: usize, n: usize)
+    requires { ⌜ (n ≤ length (now from)) × (first + n ≤ length (now to)) ⌝ }
+    ensures { λ _. ⌜ now (to .exit) ≡ restored same blank (objectSpot first) n (now (from .entry)) (now (to .entry)) ⌝ }
+{
+    let mut i = 0;
+    while i < n {
+        let o = from[i];
+        to[first + i] = o;
+        i = i + 1;
+    }
+}
+
+// The number of bytes that the call would write; every lent store is left as it was.
+pub(crate) fn dry(
+    sessions: &mut [SessionRow],
+    streams: &mut [StreamRow],
+    objects: &mut [Object],
+    out: &mut [u8],
+    d: &[u8],
+    sample: &[u8],
+    start: Start,
+) -> usize
+    requires { ⌜ (resumesFit (start .resumes) (length (now sample)) ≡ true)
+        × (256 ≤ length (now sessions))
+        × (2048 ≤ length (now streams))
+        × (8192 ≤ length (now objects)) ⌝ }
+    ensures { λ n. ⌜ (n ≡ performed start (lent (now (sessions .entry)) (now (streams .entry)) (now (objects .entry))) (now (d .entry)) (now (sample .entry)) .ran .wrote)
+        × (now (sessions .exit) ≡ now (sessions .entry))
+        × (now (streams .exit) ≡ now (streams .entry))
+        × (now (objects .exit) ≡ now (objects .entry))
+        × (now (out .exit) ≡ now (out .entry)) ⌝ }
+{
+    let frame = start.frame;
+    let id = frame.session_id;
+    let first = first_object(id);
+    let session = no_session();
+    let mut session_rows = [session; 256];
+    let stream = no_stream();
+    let mut stream_rows = [stream; 264];
+    let number = ObjectNumber(0);
+    let o = Object::implicit(number, 0);
+    let mut records = [o; 32];
+    copy_sessions(sessions, &mut session_rows, 256);
+    copy_streams(streams, &mut stream_rows, id, 264);
+    copy_objects(objects, &mut records, first, 32);
+    let ran = perform(sessions, streams, objects, &mut out[0..0], d, sample, start);
+    restore_sessions(&session_rows, sessions, 256);
+    restore_streams(&stream_rows, streams, id, 264);
+    restore_objects(&records, objects, first, 32);
+    ran.wrote
+}

@@ -1,0 +1,264 @@
+// What refuses a call before it runs, in document 01's order: 15, 16, 1 to 5, 12.
+use crate::proxy::BridgeAnswer;
+use crate::proxy::Task;
+use crate::proxy::fits;
+use crate::state::Agent;
+use crate::state::Pending;
+use crate::state::Waiting;
+use crate::turn::Frame;
+use codec::header::MessageHeader;
+use codec::reading::Checked;
+use codec::reading::check;
+use codec::reading::count_at;
+use codec::refusals::Refusal;
+use codec::submessages::ObjectNumber;
+use sessions::limits::Limits;
+use sessions::limits::within_limits;
+use sessions::objects::Object;
+use sessions::stream_rows::StreamRow;
+use sessions::table::SessionRow;
+ghost use mathlib.Core.Path.{_≡_};
+ghost use lib.ListN.{getD};
+ghost use Rattle.sessions.specs.Limits.{limitsOf};
+ghost use Rattle.agent.specs.Rows.{lent};
+ghost use Rattle.agent.specs.Judge.{answersOf, idleTurn, busyTurn, turnOf, sessionOf, recordSound, soundOf, tooLong, datagramStart, answerStart, datagramJudged, restJudged, answerJudged, judgedBy, judgeOf};
+
+// A call of the host: a datagram with its time, or the bridge's answer.
+pub(crate) enum Input {
+    Datagram(u64),
+    Answer(BridgeAnswer),
+}
+
+// The call in its turn, with the submessage that it answers.
+enum Turn {
+    Datagram(u64),
+    Answer(Pending, BridgeAnswer),
+    Refused(Refusal),
+}
+
+// The answer that a run begins with.
+pub(crate) enum Resumes {
+    Nothing,
+    Answer(ObjectNumber, Task, BridgeAnswer),
+}
+
+// Where a run starts.
+pub(crate) struct Start {
+    pub frame: Frame,
+    pub next: u8,
+    pub at: usize,
+    pub resumes: Resumes,
+}
+
+// A start with the number of submessages to run, or the refusal.
+pub(crate) enum Judged {
+    Goes(Start, usize),
+    Refused(Refusal),
+}
+
+fn answers(p: Pending, told: BridgeAnswer) -> Turn
+    ensures { λ r. ⌜ r ≡ answersOf p told ⌝ }
+{
+    let task = p.task;
+    if fits(task, told) {
+        Turn::Answer(p, told)
+    } else {
+        Turn::Refused(Refusal::OutOfTurn)
+    }
+}
+
+fn idle(input: Input) -> Turn
+    ensures { λ r. ⌜ r ≡ idleTurn input ⌝ }
+{
+    match input {
+        Input::Datagram(time) => Turn::Datagram(time),
+        Input::Answer(_) => Turn::Refused(Refusal::OutOfTurn),
+    }
+}
+
+fn busy(p: Pending, input: Input) -> Turn
+    ensures { λ r. ⌜ r ≡ busyTurn p input ⌝ }
+{
+    match input {
+        Input::Datagram(_) => Turn::Refused(Refusal::OutOfTurn),
+        Input::Answer(told) => answers(p, told),
+    }
+}
+
+// 15: "While a bridge call is open, datagrams .. are out of turn"; "answer, no call open", "or answer of another kind".
+fn whose_turn(a: Agent, input: Input) -> Turn
+    ensures { λ r. ⌜ r ≡ turnOf (a .waits) input ⌝ }
+{
+    let waits = a.waits;
+    match waits {
+        Waiting::Nothing => idle(input),
+        Waiting::Call(p) => busy(p, input),
+    }
+}
+
+// The session that the call names.
+fn session_of(d: &[u8], t: Turn) -> u8
+    ensures { λ r. ⌜ r ≡ sessionOf (now (d .entry)) t ⌝ }
+{
+    match t {
+        Turn::Datagram(_) => first_byte(d),
+        Turn::Answer(p, _) => p.session_id,
+        Turn::Refused(_) => 0,
+    }
+}
+
+fn first_byte(d: &[u8]) -> u8
+    ensures { λ r. ⌜ r ≡ getD (now (d .entry)) 0 0 ⌝ }
+{
+    if 0 < d.len() { d[0] } else { 0 }
+}
+
+// 16, of the record.
+pub(crate) fn sound_record(a: Agent) -> bool
+    ensures { λ r. ⌜ r ≡ recordSound a ⌝ }
+{
+    if 255 < a.max_clients {
+        return false;
+    }
+    a.next != 0
+}
+
+// 16, of the record and of the session's rows.
+fn sound(a: Agent, limits: Limits) -> bool
+    ensures { λ r. ⌜ r ≡ soundOf a limits ⌝ }
+{
+    match limits {
+        Limits::Within => sound_record(a),
+        Limits::Refused(_) => false,
+    }
+}
+
+fn start_datagram(a: Agent, time: u64, header: MessageHeader) -> Start
+    ensures { λ r. ⌜ r ≡ datagramStart a time header ⌝ }
+{
+    let frame = Frame {
+        max_clients: a.max_clients,
+        time,
+        session_id: header.session_id,
+        stream_id: header.stream_id,
+    };
+    Start {
+        frame,
+        next: a.next,
+        at: 4,
+        resumes: Resumes::Nothing,
+    }
+}
+
+// 1 to 5
+fn judge_datagram(d: &[u8], a: Agent, limits: Limits, time: u64) -> Judged
+    ensures { λ r. ⌜ r ≡ datagramJudged (now (d .entry)) a limits time ⌝ }
+{
+    if sound(a, limits) {
+        match check(d) {
+            Checked::Message(header, n) => Judged::Goes(start_datagram(a, time, header), n),
+            Checked::Refused(x) => Judged::Refused(x),
+        }
+    } else {
+        Judged::Refused(Refusal::OverLimit)
+    }
+}
+
+fn start_answer(a: Agent, p: Pending, told: BridgeAnswer) -> Start
+    ensures { λ r. ⌜ r ≡ answerStart a p told ⌝ }
+{
+    let frame = Frame {
+        max_clients: a.max_clients,
+        time: p.time,
+        session_id: p.session_id,
+        stream_id: p.stream_id,
+    };
+    let number = p.number;
+    let task = p.task;
+    Start {
+        frame,
+        next: a.next,
+        at: p.at,
+        resumes: Resumes::Answer(number, task, told),
+    }
+}
+
+// 12: the DATA that a sample would need.
+fn too_long(told: BridgeAnswer, sample: usize) -> bool
+    ensures { λ r. ⌜ r ≡ tooLong told sample ⌝ }
+{
+    match told {
+        BridgeAnswer::Sample => 65533 < sample,
+        BridgeAnswer::Created(_) => false,
+        BridgeAnswer::Done => false,
+        BridgeAnswer::NoSample => false,
+        BridgeAnswer::Failed => false,
+    }
+}
+
+fn judge_rest(a: Agent, p: Pending, told: BridgeAnswer, sample: usize, rest: Checked) -> Judged
+    ensures { λ r. ⌜ r ≡ restJudged a p told sample rest ⌝ }
+{
+    match rest {
+        Checked::Message(_, n) => if too_long(told, sample) {
+            Judged::Refused(Refusal::TooLong)
+        } else {
+            Judged::Goes(start_answer(a, p, told), n)
+        },
+        Checked::Refused(_) => Judged::Refused(Refusal::OverLimit),
+    }
+}
+
+// The datagram lent again must read from the open call's place to its end, else 16.
+fn judge_answer(
+    d: &[u8],
+    a: Agent,
+    limits: Limits,
+    p: Pending,
+    told: BridgeAnswer,
+    sample: usize,
+) -> Judged
+    ensures { λ r. ⌜ r ≡ answerJudged (now (d .entry)) a limits p told sample ⌝ }
+{
+    if sound(a, limits) {
+        if d.len() < p.at {
+            return Judged::Refused(Refusal::OverLimit);
+        }
+        let header = MessageHeader {
+            session_id: p.session_id,
+            stream_id: p.stream_id,
+            sequence_nr: 0,
+        };
+        let rest = count_at(d, header, p.at);
+        judge_rest(a, p, told, sample, rest)
+    } else {
+        Judged::Refused(Refusal::OverLimit)
+    }
+}
+
+fn judged_by(d: &[u8], a: Agent, limits: Limits, t: Turn, sample: usize) -> Judged
+    ensures { λ r. ⌜ r ≡ judgedBy (now (d .entry)) a limits t sample ⌝ }
+{
+    match t {
+        Turn::Datagram(time) => judge_datagram(d, a, limits, time),
+        Turn::Answer(p, told) => judge_answer(d, a, limits, p, told, sample),
+        Turn::Refused(x) => Judged::Refused(x),
+    }
+}
+
+pub(crate) fn judge(
+    sessions: &[SessionRow],
+    streams: &[StreamRow],
+    objects: &[Object],
+    d: &[u8],
+    a: Agent,
+    input: Input,
+    sample: usize,
+) -> Judged
+    ensures { λ j. ⌜ j ≡ judgeOf (lent (now (sessions .entry)) (now (streams .entry)) (now (objects .entry))) (now (d .entry)) a input sample ⌝ }
+{
+    let turn = whose_turn(a, input);
+    let id = session_of(d, turn);
+    let limits = within_limits(sessions, streams, objects, id);
+    judged_by(d, a, limits, turn, sample)
+}

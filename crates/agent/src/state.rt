@@ -1,0 +1,27 @@
+// The agent between two calls of the host, beside the lent tables.
+use crate::proxy::Task;
+use codec::submessages::ObjectNumber;
+
+// The submessage of the open call: its header's session and stream, its object, what the call is for, the place behind it
+// in its datagram, and that datagram's time.
+pub struct Pending {
+    pub session_id: u8,
+    pub stream_id: u8,
+    pub number: ObjectNumber,
+    pub task: Task,
+    pub at: usize,
+    pub time: u64,
+}
+
+pub enum Waiting {
+    Nothing,
+    Call(Pending),
+}
+
+// Its limits, the id pointer, and the open bridge call.
+pub struct Agent {
+    pub max_clients: usize,
+    pub timeout_ms: u64,
+    pub next: u8,
+    pub waits: Waiting,
+}
