@@ -1,0 +1,209 @@
+// The events. Those that need the objects lend them to the agent's entry points, and do all else by functions that don't.
+use crate::command::Command;
+use crate::dump::dump;
+use crate::host::Host;
+use crate::host::after;
+use crate::host::after_datagram;
+use crate::host::answer_of;
+use crate::host::max_clients;
+use crate::host::say;
+use crate::host::set_up_said;
+use crate::names;
+use crate::objects::pack_all;
+use crate::output::cover;
+use crate::output::moved;
+use crate::output::within;
+use crate::print;
+use crate::words::between;
+use crate::words::least;
+use agent::agent::Given;
+use agent::agent::Removed;
+use agent::agent::evict_expired;
+use agent::agent::process_answer;
+use agent::agent::process_incoming;
+use agent::agent::remove_session;
+use agent::agent::setup;
+use codec::bytes::Written;
+use sessions::objects::Object;
+use sessions::stream_rows::StreamRow;
+use sessions::table::SessionRow;
+
+fn low_8(n: u64) -> u8 {
+    (n % 256) as u8
+}
+
+fn removed_said(r: Removed) {
+    match r {
+        Removed::Session => print::line(b"removed"),
+        Removed::NotLive => print::line(b"absent"),
+        Removed::Refused(x) => print::refused(x),
+    }
+}
+
+fn wide(b: u8) -> u64 {
+    b as u64
+}
+
+fn swept(ids: &[u8]) {
+    print::text(b"swept");
+    let mut i = 0;
+    while i < ids.len() {
+        print::number(wide(ids[i]));
+        i += 1;
+    }
+    print::end_line();
+}
+
+fn swept_said(out: &[u8], room: usize, w: Written) {
+    match w {
+        Written::Bytes(n) => {
+            moved(out, n, room);
+            swept(between(out, 0, n))
+        }
+        Written::Refused(x) => {
+            moved(out, 0, room);
+            print::refused(x)
+        }
+    }
+}
+
+fn sweep(sessions: &mut [SessionRow], out: &mut [u8], host: Host, c: Command) {
+    cover(out, c.second);
+    let room = within(c.second, out.len());
+    let agent = host.agent;
+    let w = evict_expired(sessions, &mut out[..room], agent, c.first);
+    swept_said(out, room, w);
+}
+
+// The events that need no objects.
+fn without_objects(sessions: &mut [SessionRow], out: &mut [u8], host: Host, c: Command) {
+    let name = c.name;
+    match name {
+        names::REMOVE => {
+            let agent = host.agent;
+            removed_said(remove_session(sessions, agent, low_8(c.first)))
+        }
+        names::SWEEP => sweep(sessions, out, host, c),
+        names::BAD => print::line(b"bad line"),
+        _ => (),
+    }
+}
+
+fn set_up(
+    sessions: &mut [SessionRow],
+    streams: &mut [StreamRow],
+    objects: &mut [Object],
+    host: Host,
+    c: Command,
+) -> Host {
+    let max = max_clients(c);
+    let made = setup(sessions, streams, objects, max, c.second);
+    set_up_said(made, host)
+}
+
+fn datagram(
+    sessions: &mut [SessionRow],
+    streams: &mut [StreamRow],
+    objects: &mut [Object],
+    out: &mut [u8],
+    line: &[u8],
+    kept: &mut [u8],
+    host: Host,
+    c: Command,
+) -> Host {
+    cover(out, c.second);
+    let room = within(c.second, out.len());
+    let count = least(c.count, line.len());
+    let agent = host.agent;
+    let given = Given { time: c.first };
+    let p = process_incoming(
+        sessions,
+        streams,
+        objects,
+        &mut out[..room],
+        &line[..count],
+        agent,
+        given,
+    );
+    say(out, room, line, p);
+    let older = host.kept;
+    after_datagram(kept, line, count, p, older)
+}
+
+fn answer(
+    sessions: &mut [SessionRow],
+    streams: &mut [StreamRow],
+    objects: &mut [Object],
+    out: &mut [u8],
+    line: &[u8],
+    kept: &[u8],
+    host: Host,
+    c: Command,
+) -> Host {
+    cover(out, c.first);
+    let room = within(c.first, out.len());
+    let count = least(c.count, line.len());
+    let length = least(host.kept, kept.len());
+    let agent = host.agent;
+    let told = answer_of(c);
+    let p = process_answer(
+        sessions,
+        streams,
+        objects,
+        &mut out[..room],
+        &kept[..length],
+        &line[..count],
+        agent,
+        told,
+    );
+    say(out, room, kept, p);
+    after(p, length)
+}
+
+// Which stores an event needs.
+enum Group {
+    SetUp,
+    Datagram,
+    Answer,
+    Dump,
+    Other,
+}
+
+fn group_of(c: Command) -> Group {
+    let name = c.name;
+    match name {
+        names::SETUP => Group::SetUp,
+        names::DATAGRAM => Group::Datagram,
+        names::CREATED | names::DONE | names::DATA | names::NONE | names::FAILED => Group::Answer,
+        names::DUMP => Group::Dump,
+        _ => Group::Other,
+    }
+}
+
+pub fn event(
+    sessions: &mut [SessionRow],
+    streams: &mut [StreamRow],
+    objects: &mut [Object],
+    out: &mut [u8],
+    line: &[u8],
+    kept: &mut [u8],
+    packed: &mut [u64],
+    host: Host,
+    c: Command,
+) -> Host {
+    let g = group_of(c);
+    match g {
+        Group::SetUp => set_up(sessions, streams, objects, host, c),
+        Group::Datagram => datagram(sessions, streams, objects, out, line, kept, host, c),
+        Group::Answer => answer(sessions, streams, objects, out, line, kept, host, c),
+        Group::Dump => {
+            pack_all(objects, packed);
+            dump(sessions, streams, packed);
+            host
+        }
+        Group::Other => {
+            without_objects(sessions, out, host, c);
+            host
+        }
+    }
+}

@@ -1,0 +1,67 @@
+// The script, event by event, over the lent stores.
+use crate::command::parse;
+use crate::events::event;
+use crate::host::nobody;
+use crate::reading::first_reading;
+use crate::reading::read_line;
+use codec::submessages::ObjectNumber;
+use sessions::objects::Object;
+use sessions::stream_rows::StreamRow;
+use sessions::table::SessionRow;
+
+// A proved loop has to end, so its turns are counted.
+fn all_turns() -> u64 {
+    u64::MAX
+}
+
+// Reads and answers until the input ends.
+fn serve(
+    input: &mut [u8],
+    line: &mut [u8],
+    kept: &mut [u8],
+    out: &mut [u8],
+    sessions: &mut [SessionRow],
+    streams: &mut [StreamRow],
+    objects: &mut [Object],
+    packed: &mut [u64],
+) {
+    let mut reading = first_reading();
+    let mut host = nobody();
+    let mut turns = all_turns();
+    while 0 < turns {
+        reading = read_line(input, line, reading);
+        let any = reading.any;
+        if !any {
+            return;
+        }
+        let ready = host.ready;
+        let c = parse(line, reading, ready);
+        host = event(sessions, streams, objects, out, line, kept, packed, host, c);
+        turns = turns - 1;
+    }
+}
+
+// Owns the objects.
+pub fn own(
+    input: &mut [u8],
+    line: &mut [u8],
+    kept: &mut [u8],
+    out: &mut [u8],
+    sessions: &mut [SessionRow],
+    streams: &mut [StreamRow],
+    packed: &mut [u64],
+) {
+    let number = ObjectNumber(0);
+    let o = Object::implicit(number, 0);
+    let mut objects = [o; 8192];
+    serve(
+        input,
+        line,
+        kept,
+        out,
+        sessions,
+        streams,
+        &mut objects,
+        packed,
+    );
+}
