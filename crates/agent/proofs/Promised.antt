@@ -15,18 +15,22 @@ use Rattle.codec.specs.Answers.{Answer as Read, gives, refusedAs}
 use Rattle.codec.specs.Reading.{refused}
 use Rattle.codec.specs.declared.header.MessageHeader.{MessageHeader}
 use Rattle.isolation.specs.Claim as claim
+use Rattle.codec.specs.declared.refusals.Refusal.the-variants.{OverLimit}
+use Rattle.sessions.specs.Setup.{setUpFits, setUpOf}
 use Rattle.sessions.specs.View.{Tables}
+use Rattle.sessions.specs.declared.setup.SetUp.the-variants as setup
 use Rattle.agent.specs.Calls.{fits}
 use Rattle.agent.specs.Rules.{rules, messageFrom}
 use Rattle.agent.specs.Step as step
 use Rattle.agent.specs.Step.{Open, joinedReplies, run, continued, settle, begin}
 use Rattle.agent.specs.Judge.{tooLong}
-use Rattle.agent.specs.Host.{finish}
+use Rattle.agent.specs.Host.{finish, setUpAs}
 use Rattle.agent.specs.Claim as lists
 use Rattle.agent.specs.Whole as whole
-use Rattle.agent.specs.Whole.{State, Event, datagram, answer, removal, sweep, Did, stepOf, opensAs, agentOf, eventOf, Hosted, setUpWith}
+use Rattle.agent.specs.Whole.{State, Event, datagram, answer, removal, sweep, Did, stepOf, opensAs, agentOf, eventOf, Hosted, setUpWith, setUpAnswer}
 use Rattle.agent.specs.declared.agent.AgentSetUp.the-variants.{Ready}
 use Rattle.agent.specs.declared.state.Agent.{Agent}
+use Rattle.agent.specs.declared.state.Waiting.the-variants as waiting
 use Rattle.agent.proofs.Laws.{went, went-not}
 use Rattle.agent.proofs.Shown.{joinedReplies-same}
 use Rattle.agent.proofs.SquareStep.{Inv, step-square}
@@ -227,3 +231,16 @@ module _ (t : Tables) (max timeout : ℕ) (a : Agent) (made : setUpWith t max ti
 
   pub never-16 : (H : List Hosted) (e : Hosted) (byte : ℕ) → stepOf (stateAfter H) (e .event) (e .out) .result ≡ step.refused 16 byte → ⊥
   never-16 H e byte z = listed-16 16 (listed (stateAfter H) (inv-after H) (e .event) (e .out) 16 byte z) refl
+
+-- 16, "`max_clients` over 255, lent store under its documented need": set-up is refused exactly so, and else the agent is empty
+pub set-up-answers : (t : Tables) (max timeout : ℕ)
+    → setUpAnswer (setUpWith t max timeout)
+    ≡ cond (setUpFits (length (t .sessions)) (length (t .streams)) (length (t .objects)) max) (gives (record { «max_clients» = max; «timeout_ms» = timeout; next = 1; waits = waiting.Nothing })) (refusedAs 16 0)
+unfolding setUpOf
+set-up-answers t max timeout = by (setUpFits (length (t .sessions)) (length (t .streams)) (length (t .objects)) max)
+  where
+    by : (b : Bool)
+        → setUpAnswer (setUpAs (cond b (setup.Ready 1) (setup.Refused OverLimit)) max timeout)
+        ≡ cond b (gives (record { «max_clients» = max; «timeout_ms» = timeout; next = 1; waits = waiting.Nothing })) (refusedAs 16 0)
+    by true = refl
+    by false = refl

@@ -38,10 +38,11 @@ use Rattle.agent.specs.declared.proxy.BridgeAnswer.the-variants.{Created
 use Rattle.agent.specs.declared.proxy.Task.{Task}
 use Rattle.agent.specs.declared.proxy.Task.the-variants.{Creating, Writing, Reading, Deleting}
 use Rattle.agent.specs.declared.turn.Frame.{Frame}
+use Rattle.agent.specs.Whole.{sessionIn}
 use Rattle.agent.proofs.CallRoom.{RoomFor, RoomAt}
 use Rattle.agent.proofs.Square.{shownAt, shown-live, reach-objects}
 use Rattle.agent.proofs.SquareObjects.{slot-in}
-use Rattle.agent.proofs.SquareOpen.{localAt, viewOf, at-in, keep-view}
+use Rattle.agent.proofs.SquareOpen.{viewOf, at-in, keep-view}
 
 module _ (t : Tables) (sound : SoundTables Sound t) (f : Frame) (id< : f .«session_id» < 256) (number : ObjectNumber) (sample : List ℕ) where
   abbrev id : ℕ
@@ -130,7 +131,7 @@ module _ (t : Tables) (sound : SoundTables Sound t) (f : Frame) (id< : f .«sess
     -- its reply, then what follows
     pub record Begins (g : Got) : Type 0 where
       pub goes : (rest : List (Sub Opening In)) (go : agent.Tables → agent.Ran)
-          → deliver id rest (viewOf next t) (localAt t id) (rule task b) go ≡ behind (answeredBy g f sample number task b) (go (viewOf next (begun g)))
+          → deliver id rest (viewOf next t) (sessionIn t id) (rule task b) go ≡ behind (answeredBy g f sample number task b) (go (viewOf next (begun g)))
       pub led : LeadsTo Sound t (begun g)
 
     live-begins : isFree (t .sessions) id ≡ false → RoomFor (taskAs task) (number .0) l → Begins (got.Session (sessionAt (t .sessions) id))
@@ -151,7 +152,7 @@ module _ (t : Tables) (sound : SoundTables Sound t) (f : Frame) (id< : f .«sess
       led = same-led Sound sound-lasts t sound;
     }
 
-    pub begins : RoomAt (taskAs task) (number .0) (localAt t id) → Begins (gotOf (t .sessions) id)
+    pub begins : RoomAt (taskAs task) (number .0) (sessionIn t id) → Begins (gotOf (t .sessions) id)
     unfolding gotOf
     begins e = by (isFree (t .sessions) id) refl
       where

@@ -16,7 +16,8 @@ use Rattle.sessions.specs.declared.table.ClientSession.{ClientSession}
 use Rattle.sessions.proofs.Empty.{none-live}
 use Rattle.sessions.proofs.ViewTable.{withSession, remove-here, remove-elsewhere, swept-outside, goes-view, sweep-view}
 use Rattle.agent.specs.Step.{withId, stays, lapsedIds, emptyAgent}
-use Rattle.agent.proofs.SquareOpen.{localAt, viewOf, at-in, with-view}
+use Rattle.agent.specs.Whole.{sessionIn}
+use Rattle.agent.proofs.SquareOpen.{viewOf, at-in, with-view}
 
 free-none : (t : Tables) (id : ℕ) → isFree (t .sessions) id ≡ true → localOf t id ≡ none
 free-none t id e = rw e refl
@@ -26,7 +27,7 @@ free-none t id e = rw e refl
 pub empty-view : (t : Tables) (max timeout next : ℕ) → next ≡ 1 → viewOf next (setUpTables (Ready next) t) ≡ emptyAgent max timeout .tables
 empty-view t max timeout next e = λ i. record { next = e i; at = λ id. at-none id i }
   where
-    at-none : (id : ℕ) → localAt (setUpTables (Ready next) t) id ≡ none
+    at-none : (id : ℕ) → sessionIn (setUpTables (Ready next) t) id ≡ none
     at-none id = by (ltb id 256) refl
       where
         by : (b : Bool) → ltb id 256 ≡ b → cond b (localOf (setUpTables (Ready next) t) id) none ≡ none
@@ -36,7 +37,7 @@ empty-view t max timeout next e = λ i. record { next = e i; at = λ id. at-none
 module _ (t : Tables) (sound : SoundTables Sound t) where
   -- ---- a removal
 
-  pub remove-view : (next id : ℕ) → id < 256 → viewOf next (withSessions t (endedRows (t .sessions) id)) ≡ record { next = next; at = withId id none (localAt t) }
+  pub remove-view : (next id : ℕ) → id < 256 → viewOf next (withSessions t (endedRows (t .sessions) id)) ≡ record { next = next; at = withId id none (sessionIn t) }
   remove-view next id h =
       λ i. record {
         next = next;
@@ -62,22 +63,22 @@ module _ (t : Tables) (sound : SoundTables Sound t) where
     swept-local zero h = let z = free-none t 0 (sound .zero-free) in zero-stays ∙ z ∙ sym (ap (stays timeout time) z)
     swept-local (suc j) h = sweep-view time timeout t (suc j) (sound .sessions-need) (omega arith) h ∙ stays-as (localOf t (suc j))
 
-    pub swept-view : (next : ℕ) → viewOf next swept ≡ record { next = next; at = λ j. stays timeout time (localAt t j) }
+    pub swept-view : (next : ℕ) → viewOf next swept ≡ record { next = next; at = λ j. stays timeout time (sessionIn t j) }
     swept-view next = λ i. record { next = next; at = λ j. at-swept j i }
       where
-        at-swept : (j : ℕ) → localAt swept j ≡ stays timeout time (localAt t j)
+        at-swept : (j : ℕ) → sessionIn swept j ≡ stays timeout time (sessionIn t j)
         at-swept j = by (ltb j 256) refl
           where
             by : (b : Bool) → ltb j 256 ≡ b → cond b (localOf swept j) none ≡ stays timeout time (cond b (localOf t j) none)
             by true e = swept-local j (ltb-true j 256 e)
             by false e = refl
 
-    listed-same : (n i : ℕ) → i + n ≤ 256 → expiredFrom (goes (t .sessions) time timeout) i n ≡ expiredFrom (λ j. lapsed time timeout (localAt t j)) i n
+    listed-same : (n i : ℕ) → i + n ≤ 256 → expiredFrom (goes (t .sessions) time timeout) i n ≡ expiredFrom (λ j. lapsed time timeout (sessionIn t j)) i n
     unfolding expiredFrom
     listed-same zero i h = refl
     listed-same (suc n) i h = rw (goes-view time timeout t i, at-in t i (omega arith), listed-same n (suc i) (omega arith)) refl
 
     -- the ids that are listed
-    pub swept-ids : expiredIds (t .sessions) time timeout ≡ lapsedIds timeout time (localAt t)
+    pub swept-ids : expiredIds (t .sessions) time timeout ≡ lapsedIds timeout time (sessionIn t)
     unfolding expiredIds lapsedIds
     swept-ids = listed-same 255 1 (omega arith)

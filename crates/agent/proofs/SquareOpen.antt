@@ -23,28 +23,26 @@ use Rattle.sessions.proofs.ViewTable.{open-here, open-elsewhere}
 use Rattle.agent.specs.Run.{pointerOf, idOpened}
 use Rattle.agent.specs.Step as agent
 use Rattle.agent.specs.Step.{withId, nextFree, chosen, openAs, keep}
+use Rattle.agent.specs.Whole.{sessionIn}
 
 -- ---- the view: 256 ids, of which the rows beyond are never read
 
-abbrev pub localAt : Tables → ℕ → Option Local
-localAt t id = cond (ltb id 256) (localOf t id) none
-
 abbrev pub viewOf : ℕ → Tables → agent.Tables
-viewOf next t = record { next = next; at = localAt t }
+viewOf next t = record { next = next; at = sessionIn t }
 
-pub at-in : (t : Tables) (id : ℕ) → id < 256 → localAt t id ≡ localOf t id
+pub at-in : (t : Tables) (id : ℕ) → id < 256 → sessionIn t id ≡ localOf t id
 at-in t id h = rw (lt-ltb id 256 h) refl
 
 -- another session for an id, and the others as they were
 module _ (t t′ : Tables) (id : ℕ) (id< : id < 256) (x : Option Local) (here : localOf t′ id ≡ x) (elsewhere : (j : ℕ) → j ≢ id → localOf t′ j ≡ localOf t j) where
-  with-at : (j : ℕ) → withId id x (localAt t) j ≡ localAt t′ j
+  with-at : (j : ℕ) → withId id x (sessionIn t) j ≡ sessionIn t′ j
   with-at j = by (eqb j id) refl
     where
-      by : (b : Bool) → eqb j id ≡ b → cond b x (localAt t j) ≡ localAt t′ j
+      by : (b : Bool) → eqb j id ≡ b → cond b x (sessionIn t j) ≡ sessionIn t′ j
       by true e = let q : j ≡ id = eqb-true j id e in rw q (sym here ∙ sym (at-in t′ id id<))
       by false e = ap (λ (y : Option Local). cond (ltb j 256) y none) (sym (elsewhere j (eqb-false j id e)))
 
-  pub with-view : _≡_ {A = ℕ → Option Local} (withId id x (localAt t)) (localAt t′)
+  pub with-view : _≡_ {A = ℕ → Option Local} (withId id x (sessionIn t)) (sessionIn t′)
   with-view = λ i j. with-at j i
 
 pub keep-view : (next : ℕ) (t t′ : Tables) (id : ℕ) (l : Local) → id < 256 → localOf t′ id ≡ some l → ((j : ℕ) → j ≢ id → localOf t′ j ≡ localOf t j) → keep id l (viewOf next t) ≡ viewOf next t′
@@ -60,22 +58,22 @@ after-in i a b = by (eqb i 255) refl
     by false e = let q : i ≢ 255 = eqb-false i 255 e in (omega arith, omega (arith, q))
 
 module _ (t : Tables) where
-  free-at : (i : ℕ) → i < 256 → absent (localAt t i) ≡ isFree (t .sessions) i
+  free-at : (i : ℕ) → i < 256 → absent (sessionIn t i) ≡ isFree (t .sessions) i
   free-at i h = ap absent (at-in t i h) ∙ sym (free-view t i)
 
-  live-same : (n i : ℕ) → i + n ≤ 256 → liveFrom (λ i. absent (localAt t i)) i n ≡ liveFrom (isFree (t .sessions)) i n
+  live-same : (n i : ℕ) → i + n ≤ 256 → liveFrom (λ i. absent (sessionIn t i)) i n ≡ liveFrom (isFree (t .sessions)) i n
   unfolding liveFrom
   live-same zero i h = refl
   live-same (suc n) i h = rw (free-at i (omega arith), live-same n (suc i) (omega arith)) refl
 
-  free-same : (n i : ℕ) → 1 ≤ i → i ≤ 255 → idOpened (takenAs (freeFrom (isFree (t .sessions)) i n)) ≡ nextFree (localAt t) i n
+  free-same : (n i : ℕ) → 1 ≤ i → i ≤ 255 → idOpened (takenAs (freeFrom (isFree (t .sessions)) i n)) ≡ nextFree (sessionIn t) i n
   unfolding freeFrom nextFree
   free-same zero i a b = refl
-  free-same (suc n) i a b = by (localAt t i) (free-at i (omega arith)) (free-same n (after i) (after-in i a b .0) (after-in i a b .1))
+  free-same (suc n) i a b = by (sessionIn t i) (free-at i (omega arith)) (free-same n (after i) (after-in i a b .0) (after-in i a b .1))
     where
-      by : (x : Option Local) → absent x ≡ isFree (t .sessions) i → idOpened (takenAs (freeFrom (isFree (t .sessions)) (after i) n)) ≡ nextFree (localAt t) (after i) n
+      by : (x : Option Local) → absent x ≡ isFree (t .sessions) i → idOpened (takenAs (freeFrom (isFree (t .sessions)) (after i) n)) ≡ nextFree (sessionIn t) (after i) n
           → _≡_ {A = Option ℕ} (idOpened (takenAs (cond (isFree (t .sessions) i) i (freeFrom (isFree (t .sessions)) (after i) n))))
-          (elim x [ none ↦ some i | some l ↦ nextFree (localAt t) (after i) n ])
+          (elim x [ none ↦ some i | some l ↦ nextFree (sessionIn t) (after i) n ])
       by none e later = rw (← e, ne-eqb i 0 (λ z. omega arith)) refl
       by (some l) e later = rw (← e) later
 
@@ -91,9 +89,9 @@ module _ (t : Tables) (sound : SoundTables Sound t) (max next : ℕ) (max≤ : m
   chosen-view =
       ap idOpened made-is
       ∙ by (ltb (liveFrom (isFree (t .sessions)) 1 255) max)
-      ∙ ap (λ (k : ℕ). cond (ltb k max) (nextFree (localAt t) next 255) none) (sym (live-same t 255 1 (omega arith)))
+      ∙ ap (λ (k : ℕ). cond (ltb k max) (nextFree (sessionIn t) next 255) none) (sym (live-same t 255 1 (omega arith)))
     where
-      by : (b : Bool) → idOpened (cond b (takenAs (freeFrom (isFree (t .sessions)) next 255)) (Refused SessionFull)) ≡ cond b (nextFree (localAt t) next 255) none
+      by : (b : Bool) → idOpened (cond b (takenAs (freeFrom (isFree (t .sessions)) next 255)) (Refused SessionFull)) ≡ cond b (nextFree (sessionIn t) next 255) none
       by true = free-same t 255 next low high
       by false = refl
 

@@ -11,7 +11,7 @@ use Rattle.agent.specs.Rules.{rules}
 use Rattle.agent.specs.Step as step
 use Rattle.agent.specs.Claim as lists
 use Rattle.agent.specs.Whole as whole
-use Rattle.agent.specs.Whole.{State, Event, datagram, answer, removal, sweep, agentOf, eventOf, Hosted, setUpWith}
+use Rattle.agent.specs.Whole.{State, agentOf, eventOf, Hosted, setUpWith}
 use Rattle.agent.specs.declared.agent.AgentSetUp.the-variants.{Ready}
 use Rattle.agent.specs.declared.state.Agent.{Agent}
 use Rattle.agent.proofs.InStep as abstract
@@ -40,12 +40,6 @@ module _ (t : Tables) (max timeout : ℕ) (a : Agent) (made : setUpWith t max ti
   abbrev pub Holds : State → Type 0
   Holds st = Inv st × abstract.Inv max timeout (agentOf st)
 
-  same-call : (e : Event) → whole.hostCall t max timeout a e ≡ lists.hostCall max timeout (eventOf e)
-  same-call (datagram time bytes small) = refl
-  same-call (answer b sample) = refl
-  same-call (removal id small) = refl
-  same-call (sweep now) = refl
-
   module _ (st : State) (e : Hosted) (v : Holds st) where
     same-state : agentOf (A .step st e .0) ≡ L .step (agentOf st) (listed e) .0
     same-state = step-square st (v .0) (e .event) (e .out) .agent
@@ -63,8 +57,8 @@ module _ (t : Tables) (max timeout : ℕ) (a : Agent) (made : setUpWith t max ti
       where
         by : refine.InStep R L B (abstract.stateOf max timeout) (agentOf st) (listed e) → refine.InStep R A B abs st e
         by (refine.stops n r z) = refine.stops n (same-result ∙ r) (ap (abstract.stateOf max timeout) same-state ∙ z)
-        by (refine.aside h r z) = refine.aside (same-call (e .event) ∙ h) (same-result ∙ r) (ap (abstract.stateOf max timeout) same-state ∙ z)
-        by (refine.goes e′ h z r) = refine.goes e′ (same-call (e .event) ∙ h) (ap (abstract.stateOf max timeout) same-state ∙ z) (same-result ∙ r)
+        by (refine.aside h r z) = refine.aside h (same-result ∙ r) (ap (abstract.stateOf max timeout) same-state ∙ z)
+        by (refine.goes e′ h z r) = refine.goes e′ h (ap (abstract.stateOf max timeout) same-state ∙ z) (same-result ∙ r)
 
   pub holds-empty : Holds (A .empty)
   holds-empty = let q = empty-square t max timeout a made in (q .inv, (ap (λ (st : step.Agent). st .max) (q .agent), ap (λ (st : step.Agent). st .timeout) (q .agent)))

@@ -1,4 +1,4 @@
--- The host's calls over the lent tables: what the contracts of the five entry points are equal to, and the agent's state and step.
+-- The host's calls over the lent tables: what the contracts of the five entry points are equal to.
 use Prim.Native.Nat.{ℕ, _+_, _-_, _/_}
 use mathlib.Core.Bool.{Bool, true, false, cond}
 use mathlib.Core.List.{List, [], _++_}

@@ -39,17 +39,10 @@ pub record Agent : Type 0 where
   pub tables : Tables
   pub waits : Option Open
 
--- ---- set-up: 16, "`max_clients` over 255"; "An empty agent is one just set up."
+-- ---- set-up: "An empty agent is one just set up."
 
 abbrev pub emptyAgent : ℕ → ℕ → Agent
 emptyAgent max timeout = record { max = max; timeout = timeout; tables = record { next = 1; at = λ id. none }; waits = none }
-
-pub data SetUp : Type 0 where
-  ready : Agent → SetUp
-  notReady : (number : ℕ) → SetUp
-
-abbrev pub setUp : ℕ → ℕ → SetUp
-setUp max timeout = cond (ltb 255 max) (notReady 16) (ready (emptyAgent max timeout))
 
 -- ---- opening a session
 

@@ -8,10 +8,10 @@ use lib.Dec.{ltb}
 use mathlib.Core.Bool.{cond}
 use lib.ListN.{length, take}
 use Rattle.codec.specs.Bytes.{AllBytes}
+use Rattle.codec.specs.Answers.{Answer, gives, refusal}
 use Rattle.codec.specs.Refusals.{numberOf, byteOf}
 use Rattle.codec.specs.declared.bytes.Written.{Written}
 use Rattle.codec.specs.declared.bytes.Written.the-variants as written
-use Rattle.isolation.specs.Rules as isolation
 use Rattle.isolation.specs.Claim as claim
 use Rattle.sessions.specs.Setup.{setUpOf}
 use Rattle.sessions.specs.Calls.{withSessions, setUpTables}
@@ -20,10 +20,11 @@ use Rattle.agent.specs.Proxy.{callAs, answerAs, taskAs}
 use Rattle.agent.specs.Rules.{rules}
 use Rattle.agent.specs.Step as step
 use Rattle.agent.specs.Step.{Reply}
-use Rattle.agent.specs.Claim.{resultOf}
+use Rattle.agent.specs.Claim.{hostCall, resultOf}
 use Rattle.agent.specs.Place.{subsAt}
 use Rattle.agent.specs.Host.{Leaves, setUpAs, incomingOf, answerOf, idleOf, removedBy, removedRows, sweptBy, sweptRows, sweptOut}
 use Rattle.agent.specs.declared.agent.AgentSetUp.{AgentSetUp}
+use Rattle.agent.specs.declared.agent.AgentSetUp.the-variants as set-up
 use Rattle.agent.specs.declared.agent.Removed.{Removed}
 use Rattle.agent.specs.declared.agent.Removed.the-variants as removed
 use Rattle.agent.specs.declared.process.Outcome.{Outcome}
@@ -125,16 +126,15 @@ pub record Hosted : Type 0 where
 abbrev pub setUpWith : Tables → ℕ → ℕ → AgentSetUp
 setUpWith t max timeout = setUpAs (setUpOf (length (t .sessions)) (length (t .streams)) (length (t .objects)) max) max timeout
 
+-- its answer in document 01's numbers
+abbrev pub setUpAnswer : AgentSetUp → Answer Agent
+setUpAnswer (set-up.Ready a) = gives a
+setUpAnswer (set-up.Refused r) = refusal r
+
 abbrev pub emptyOf : Tables → ℕ → Agent → State
 emptyOf t max a = record { agent = a; tables = setUpTables (setUpOf (length (t .sessions)) (length (t .streams)) (length (t .objects)) max) t; lent = [] }
 
 module _ (t : Tables) (max timeout : ℕ) (a : Agent) where
-  abbrev pub hostCall : Event → isolation.Host (rules timeout)
-  hostCall (datagram time bytes small) = isolation.datagram (record { time = time; bytes = bytes })
-  hostCall (answer b sample) = isolation.answer 0 (answerAs b sample)
-  hostCall (removal id small) = isolation.removal id
-  hostCall (sweep now) = isolation.sweep now
-
   abbrev pub agent : claim.Agent (rules timeout)
   agent = record {
     State = State;
@@ -142,5 +142,5 @@ module _ (t : Tables) (max timeout : ℕ) (a : Agent) where
     empty = emptyOf t max a;
     table = λ st. sessionIn (st .tables);
     step = λ st e. let d = stepOf st (e .event) (e .out) in (d .state, resultOf max timeout (opensAs (d .state .lent) (d .state .agent .waits)) (d .result));
-    host-call = λ e. hostCall (e .event);
+    host-call = λ e. hostCall max timeout (eventOf (e .event));
   }

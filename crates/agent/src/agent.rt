@@ -1,5 +1,5 @@
-// The host's five entry points. Each takes the `Agent` by value and hands it back; tables and output are lent, and a refused
-// call changes neither.
+// The host's five entry points. A datagram and an answer take the `Agent` by value and hand it back, a removal and a sweep leave
+// it as it is; tables and output are lent, and a refused call changes neither.
 use crate::judge::Input;
 use crate::judge::sound_record;
 use crate::process::Processed;
