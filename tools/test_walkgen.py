@@ -127,6 +127,15 @@ class WrittenProofs(RecordedCase):
         self.assertEqual(re.findall(r'^    (part-\S+) :', text, re.M),
                          ['part-5·At·5-0', 'part-5·Nothing·4-1', 'part-5-0'])
 
+    def test_end_once(self):
+        """A description may ask for one lemma that frees the locals; every `return` cites it."""
+        repository = self.repository()
+        repository.describe('shapes', 'put', 'cut = 1\nend = "once"\n' + read(FIXTURES + '/shapes/put.toml'))
+        text = walkgen.proof_text(repository, 'shapes', 'put')
+        self.assertEqual(len(re.findall(r'^    frees-all :', text, re.M)), 1)
+        self.assertEqual(len(re.findall(r'^ +frees-all .*\(exits ', text, re.M)), 2)
+        self.assertEqual(text.count('free0 ! $'), 1)
+
     def test_arms_apart(self):
         """Where the arms of a `match` lend many slices, each is a lemma that its clause cites."""
         with unittest.mock.patch('walks.branches.SLICES_IN_CLAUSES', 1):
@@ -170,6 +179,9 @@ class Mistakes(RecordedCase):
     def test_unknown_entry(self):
         self.refused('crates/cells/walks/lowest.toml: unknown entry `loops` (known: uses, ', 'cells', 'lowest',
                      '[loops]\n')
+
+    def test_another_end(self):
+        self.refused('crates/cells/walks/cell_at.toml: `end` is "once", or left out', 'cells', 'cell_at', 'end = "twice"\n')
 
     def test_key_of_another_form(self):
         self.refused('the key "index of 3" of [prove] is not "STATEMENT WHAT"', 'cells', 'cell_at',

@@ -477,7 +477,28 @@ class Walk(Operands, Elements, Branches, Loops):
         """A `return`: the locals are freed, and the result and the last lists are as the contract says."""
         step = 'returns ! (%s) $' if part.after == '(atRet En Post)' else 'returns-within ! Post refl (%s) $'
         self.emit(step % self.look(0))
-        self.forget(self.filled)
+        once = self.description.get('end') == 'once' and not self.in_loop
+        if once:
+            self.forget(self.filled - self.kept_to_the_end())
+            self.in_order()
+        else:
+            self.forget(self.filled)
+            self.free_locals()
+        result = self.held[0]
+        lent = [self.current[param.name] for param in self.slices if param.kind == 'mut']
+        arguments = [parens(result.text)] + [parens(last) for last, _ in lent]
+        if self.contract.ensures:
+            arguments.append('(%s)' % self.proof_of(ident, 'said', self.default_said()))
+        arguments += [parens(result.relation)] + [parens(length) for _, length in lent]
+        ends = 'exits %s' % ' '.join(arguments)
+        if once:
+            self.emit('%s %s (%s)' % (self.one_end(), ' '.join([parens(result.text)] + [parens(last) for last, _ in lent]),
+                                      ends))
+        else:
+            self.emit('by ! (%s)' % ends)
+
+    def free_locals(self):
+        """Frees the locals, which hold nothing more; the slices are left."""
         self.tidy()
         for local in range(len(self.local_types)):
             self.front('l%d' % local, 'd%d' % local)
@@ -486,13 +507,41 @@ class Walk(Operands, Elements, Branches, Loops):
         self.emit('free0 ! $')
         if self.slices:
             self.front(*self.slice_labels())
-        result = self.held[0]
-        lent = [self.current[param.name] for param in self.slices if param.kind == 'mut']
-        arguments = [parens(result.text)] + [parens(last) for last, _ in lent]
-        if self.contract.ensures:
-            arguments.append('(%s)' % self.proof_of(ident, 'said', self.default_said()))
-        arguments += [parens(result.relation)] + [parens(length) for _, length in lent]
-        self.emit('by ! (exits %s)' % ' '.join(arguments))
+
+    def kept_to_the_end(self):
+        """The locals that hold the same at every `return`: the result, and the parameters as they came."""
+        return {0} | {local for local, held in self.at_entry().items() if self.held[local] == held}
+
+    def one_end(self):
+        """The lemma that frees the locals, for a description with `end = "once"`: every `return` cites it."""
+        if not any(lemma.lstrip().startswith('frees-all :') for lemma in self.lemmas):
+            kept = self.save()
+            self.uses.add('use types.Kit.{frees, prop}')
+            changed = [param for param in self.slices if param.kind == 'mut']
+            self.current = {param.name: ('ws' + param.number if param.kind == 'mut' else param.name, '')
+                            for param in self.slices}
+            self.held[0] = Value(self.local_types[0], 'r', '')
+            self.filled = self.kept_to_the_end()
+            self.context = self.slice_labels() + self.local_labels()
+            context = self.context_text()
+            owned = ''.join('‵ (%s (named %d) κ%s %s .own (at-list b%s o%s γ%s %s) (sliceVal (b%s, o%s) n%s ∷ []))'
+                            ' ∷ ‵ (flft κ%s q%s) ∷ '
+                            % (('MutSlice' if param.kind == 'mut' else 'ShrSlice', param.lifetime, param.number, param.row)
+                               + (param.number,) * 3 + (self.current[param.name][0],) + (param.number,) * 5)
+                            for param in self.slices) + '[]'
+            post = 'Post (%s .val r)' % self.result_plain
+            script, self.script = self.script, Script()
+            self.forget(self.filled)
+            self.free_locals()
+            self.emit('by ! ends')
+            text, self.script = self.script.text('    '), script
+            self.restore(kept)
+            self.write('frees-all : (r : %s)%s → ent 𝓤 (⋆ 𝓤 H A (%s)) (%s) → Sq W (%s) (frees En (prop (%s)))\nfrees-all r %sends =\n'
+                       % (self.types.values(self.local_types[0]),
+                          ''.join(' (ws%s : List %s)' % (param.number, param.values) for param in changed),
+                          owned, post, context, post, ''.join('ws%s ' % param.number for param in changed))
+                       + '\x00' + text)
+        return 'frees-all'
 
     def default_said(self):
         """What is tried for the ensures: each equation computes, but for a length, which is arithmetic."""

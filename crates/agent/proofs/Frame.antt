@@ -52,23 +52,23 @@ use Rattle.sessions.specs.declared.table.Got.the-variants as got
 use Rattle.sessions.specs.declared.table.Named.{Named}
 use Rattle.sessions.specs.declared.table.Named.the-variants as named
 use Rattle.sessions.proofs.table.Laws.{live-fits}
-use Rattle.agent.specs.Rows.{createdSessions, createdObjects, roomSessions, roomObjects, objectSessions, objectRows, groupOf, handledIn, handledTables}
+use Rattle.agent.specs.Rows.{createdSessions, createdObjects, roomSessions, roomObjects, groupOf, createIn, numberIn, handledIn, handledTables}
 use Rattle.agent.specs.RowsStreams.{openedSessions, openedRows, readOf, acknowledgedRows, streamRows}
 use Rattle.agent.specs.Step.{Reply, opened, joinedReplies}
-use Rattle.agent.specs.Run.{putReplies, Turned, pointerOf, greeted, idOpened, opening, touchedTables, delivered, openingOf, subTurned, turnedBy, turned, goesOn, before, runIn, runAt}
+use Rattle.agent.specs.Run.{putReplies, Turned, pointerOf, greeted, idOpened, opening, touchedTables, delivered, openingRead, messageRead, bodyRead, endRead, keyIn, subTurned, turnedBy, turned, goesOn, before, runIn, runAt}
 use Rattle.agent.specs.Answered.{keepsOf, answeredSessions, answeredObjects}
 use Rattle.agent.specs.Host.{begunBy, begunSessions, begunObjects, begunTables, firstRan, performed}
 use Rattle.agent.specs.Dry.{sessionCopy, sessionBack, noSession, streamCopy, streamBack, noStream, same, sessionSpot, streamSpot, objectSpot, copied, restored}
 use Rattle.agent.specs.declared.answers.Keeps.{Keeps}
 use Rattle.agent.specs.declared.answers.Keeps.the-variants as keeps
 use Rattle.agent.specs.declared.clients.Opening.{Opening}
-use Rattle.agent.specs.declared.clients.Opening.the-variants.{Client, Other}
+use Rattle.agent.specs.declared.clients.Opening.the-variants.{Client, Other, Unread}
 use Rattle.agent.specs.declared.judge.Resumes.{Resumes}
 use Rattle.agent.specs.declared.judge.Resumes.the-variants as resumes
 use Rattle.agent.specs.declared.judge.Start.{Start}
 use Rattle.agent.specs.declared.turn.Frame.{Frame}
 use Rattle.agent.specs.declared.turn.Group.{Group}
-use Rattle.agent.specs.declared.turn.Group.the-variants.{Objects, Streams, Neither}
+use Rattle.agent.specs.declared.turn.Group.the-variants.{Creates, Deletes, Writes, Reads, Streams, Neither}
 use Rattle.agent.specs.declared.turn.Ran.{Ran}
 use Rattle.agent.proofs.Running.{empty-output}
 use Rattle.agent.proofs.Back.{spot-first, spot-own, KeptBut, kept-same, kept-then, kept-set, copies-long, put-back}
@@ -336,28 +336,6 @@ module _ (id : ℕ) (below : id < 256) where
   room-objects room.NotLive s o p = records-same id o
   room-objects (room.Refused x) s o p = records-same id o
 
-  object-sessions : (m : Submessage) (s : List (List ℕ)) (o : List Object) → Rows s (objectSessions m s o id)
-  object-sessions (sub.Create p) s o = room-sessions (roomOf s o id (p .«object_id»)) s o p
-  object-sessions (sub.Delete p) s o = less-kept id below s (foundObject s o id (p .«object_id»))
-  object-sessions (sub.WriteData p) s o = rows-same s
-  object-sessions (sub.ReadData p) s o = rows-same s
-  object-sessions (sub.CreateClient p) s o = rows-same s
-  object-sessions (sub.Status p) s o = rows-same s
-  object-sessions (sub.Data p) s o = rows-same s
-  object-sessions (sub.Heartbeat p) s o = rows-same s
-  object-sessions (sub.Acknack p) s o = rows-same s
-
-  object-records : (m : Submessage) (s : List (List ℕ)) (o : List Object) → RecordsOf id o (objectRows m s o id)
-  object-records (sub.Create p) s o = room-objects (roomOf s o id (p .«object_id»)) s o p
-  object-records (sub.Delete p) s o = removed-kept s o id (p .«object_id»)
-  object-records (sub.WriteData p) s o = records-same id o
-  object-records (sub.ReadData p) s o = records-same id o
-  object-records (sub.CreateClient p) s o = records-same id o
-  object-records (sub.Status p) s o = records-same id o
-  object-records (sub.Data p) s o = records-same id o
-  object-records (sub.Heartbeat p) s o = records-same id o
-  object-records (sub.Acknack p) s o = records-same id o
-
   acknowledged-kept : (s x : List (List ℕ)) (a : StreamNamed) (state : StreamState) (p : AcknackPayload) → RowsOf id x (acknowledgedRows s x id a state p)
   acknowledged-kept s x named-stream.Open state p = written-rows s x id _ _
   acknowledged-kept s x named-stream.NotOpen state p = streams-same id x
@@ -376,11 +354,20 @@ module _ (id : ℕ) (below : id < 256) where
   stream-rows (sub.Data p) s x r = streams-same id x
 
   handled-kept : (g : Group) (m : Submessage) (t : Tables) (n : ℕ) → TablesKept id t (handledIn g m t id n)
-  handled-kept Objects m t n = record {
-    sessions-kept = object-sessions m (t .sessions) (t .objects);
+  handled-kept Creates m t n =
+      let room = roomOf (t .sessions) (t .objects) id (createIn m .«object_id») in
+      record {
+        sessions-kept = room-sessions room (t .sessions) (t .objects) (createIn m);
+        streams-kept = streams-same id (t .streams);
+        objects-kept = room-objects room (t .sessions) (t .objects) (createIn m);
+      }
+  handled-kept Deletes m t n = record {
+    sessions-kept = less-kept id below (t .sessions) (foundObject (t .sessions) (t .objects) id (numberIn m));
     streams-kept = streams-same id (t .streams);
-    objects-kept = object-records m (t .sessions) (t .objects);
+    objects-kept = removed-kept (t .sessions) (t .objects) id (numberIn m);
   }
+  handled-kept Writes m t n = same-tables id t
+  handled-kept Reads m t n = same-tables id t
   handled-kept Streams m t n =
       let s = openedSessions (t .sessions) (t .streams) id n in
       let x = openedRows (t .sessions) (t .streams) id n in
@@ -431,12 +418,12 @@ module _ (f : Frame) (below : f .«session_id» < 256) where
   delivered-goes (named.Refused x) t d r m body at h = record { tables-kept = touched-tables t; next-low = h }
 
   sub-goes : (o : Opening) (t : Tables) (d : List ℕ) (r : Ran) (m : Submessage) (body : Span) (at : ℕ) → r .next < 256 → Goes named-id t (subTurned o f t d r m body at)
-  sub-goes (Client key) t d r m body at h = opening-goes t r key at h
+  sub-goes Client t d r m body at h = opening-goes t r (keyIn m) at h
   sub-goes Other t d r m body at h = delivered-goes (namedOf (t .sessions) named-id) t d r m body at h
+  sub-goes Unread t d r m body at h = record { tables-kept = same-tables named-id t; next-low = h }
 
   turned-by-goes : (p : Parsed) (t : Tables) (d : List ℕ) (r : Ran) → r .next < 256 → Goes named-id t (turnedBy p f t d r)
-  turned-by-goes (parsed.Sub m body c) t d r h = sub-goes (openingOf m) t d r m body (c .at) h
-  turned-by-goes (parsed.Refused x) t d r h = record { tables-kept = same-tables named-id t; next-low = h }
+  turned-by-goes p t d r h = sub-goes (openingRead p) t d r (messageRead p) (bodyRead p) (endRead p (length d)) h
 
   turned-goes : (t : Tables) (d : List ℕ) (r : Ran) → r .next < 256 → Goes named-id t (turned f t d r)
   unfolding turned

@@ -1,7 +1,7 @@
 -- What the judge lets through: the stores are long enough, the answer fits its call, and the submessages to run are counted.
 use Prim.Native.Nat.{ℕ, _≤_}
-use mathlib.Core.Path.{_≡_, refl, subst}
-use mathlib.Core.Bool.{Bool, true, false, cond}
+use mathlib.Core.Path.{_≡_, refl, sym, subst}
+use mathlib.Core.Bool.{Bool, true, false, cond, true≢false}
 use mathlib.Core.List.{List, []}
 use borrow.Author.Tests.{ltb-false, le-leb}
 use lib.Dec.{leb, ltb}
@@ -20,7 +20,7 @@ use Rattle.sessions.proofs.limits.Laws.{kept-limits}
 use Rattle.agent.specs.Calls.{fits}
 use Rattle.agent.specs.Proxy.{answerAs, taskAs}
 use Rattle.agent.specs.Answered.{saysOf, saysFits}
-use Rattle.agent.specs.Judge.{answersOf, turnOf, sessionOf, recordSound, checkedJudged, datagramJudged, tooLong, answerStart, restJudged, headerOf, answerJudged, judgedBy, judgeOf}
+use Rattle.agent.specs.Judge.{answersOf, turnOf, sessionOf, recordSound, checkedJudged, datagramJudged, tooLong, answerStart, restJudged, headerOf, answerJudged, judgedBy, judgeOf, goesOf, startIn, countIn, refusalIn}
 use Rattle.agent.specs.Host.{resumesFit}
 use Rattle.agent.specs.declared.judge.Input.{Input}
 use Rattle.agent.specs.declared.judge.Input.the-variants as input
@@ -83,6 +83,15 @@ pub record Sound (t : Tables) (d : List ℕ) (sample : ℕ) (x : Start) (n : ℕ
 abbrev pub JudgedSound : Tables → List ℕ → ℕ → Judged → Type 0
 JudgedSound t d sample (judged.Goes x n) = Sound t d sample x n
 JudgedSound t d sample (judged.Refused r) = Unit {0}
+
+-- what was judged, put together again
+pub goes-is : (j : Judged) → goesOf j ≡ true → j ≡ judged.Goes (startIn j) (countIn j)
+goes-is (judged.Goes x n) c = refl
+goes-is (judged.Refused r) c = absurd (true≢false (sym c))
+
+pub refused-is : (j : Judged) → goesOf j ≡ false → j ≡ judged.Refused (refusalIn j)
+refused-is (judged.Goes x n) c = absurd (true≢false c)
+refused-is (judged.Refused r) c = refl
 
 -- 12 has refused the sample that is too long
 says-fits : (task : Task) (a : BridgeAnswer) (sample : ℕ) → tooLong a sample ≡ false → saysFits (saysOf task a) sample ≡ true

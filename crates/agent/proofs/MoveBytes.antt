@@ -1,22 +1,24 @@
--- The bytes that a move replies: their length, that the code's value has the same, and that they are written as they stand.
-use Prim.Native.Nat.{ℕ, _+_, _≤_}
+-- The bytes that a move replies: their length, each byte of a reply of fixed layout, and that they are written as they stand.
+use Prim.Native.Nat.{ℕ, _+_, _≤_, _%_, _/_}
 use mathlib.Core.Path.{_≡_, refl, sym}
 use mathlib.Core.Bool.{Bool, true, false, cond}
-use mathlib.Core.List.{List, []}
+use mathlib.Core.List.{List, [], _∷_}
 use native.Mathlib.Omega.{arith}
 use borrow.Author.Tests.{le-ltb}
 use lib.Dec.{ltb}
 use lib.ListN.{length}
-use Rattle.codec.specs.Bytes.{putAt, putBytes, writeBytes}
+use Rattle.codec.specs.Bytes.{le16, putAt, putBytes, writeBytes}
 use Rattle.codec.specs.Layouts.{leastOf}
-use Rattle.codec.specs.Writing.{payloadBytes}
-use Rattle.codec.specs.declared.submessages.Submessage.{Submessage}
+use Rattle.codec.specs.Header.{headerBytes}
+use Rattle.codec.specs.Submessages.{codeByte}
+use Rattle.codec.specs.Writing.{fixedBytes, payloadBytes, subBytes, messageBytes}
+use Rattle.codec.specs.declared.submessages.StatusCode.{StatusCode}
 use Rattle.codec.proofs.bytes.Laws.{put-nothing}
-use Rattle.codec.proofs.writing.Laws.{length-payload, length-sub, length-message, least-small, body-within}
+use Rattle.codec.proofs.writing.Laws.{length-payload, length-sub, length-message}
 use Rattle.sessions.specs.declared.opening.Created.{Created}
 use Rattle.sessions.specs.declared.opening.Created.the-variants as created
-use Rattle.agent.specs.Replies.{dataOf, dataPayload, dataBytes}
-use Rattle.agent.specs.Moves.{moveBytes, saidOf, saidBytes}
+use Rattle.agent.specs.Replies.{statusBytes, acknackBytes, dataOf, dataPayload, dataBytes}
+use Rattle.agent.specs.Moves.{moveBytes}
 use Rattle.agent.specs.Run.{greeting, greetingBytes}
 use Rattle.agent.specs.declared.moves.Move.{Move}
 use Rattle.agent.specs.declared.moves.Move.the-variants.{Greets, Status, Acknack, Calls, Silent}
@@ -50,14 +52,17 @@ data-long session stream number body =
     let c = data-payload-long number body in
     omega (arith, a, b, c)
 
--- ---- the code's value
+-- ---- a reply of fixed layout, byte by byte
 
-pub said-bytes : (session stream : ℕ) (m : Move) → saidBytes (saidOf session stream m) ≡ moveBytes session stream m
-said-bytes session stream (Greets id code) = refl
-said-bytes session stream (Status number code) = refl
-said-bytes session stream (Acknack p) = refl
-said-bytes session stream (Calls number task call) = refl
-said-bytes session stream Silent = refl
+pub status-line : (session stream number : ℕ) (code : StatusCode)
+    → session ∷ stream ∷ 0 ∷ 0 ∷ 5 ∷ 0 ∷ 3 ∷ 0 ∷ number % 256 ∷ number / 256 % 256 ∷ codeByte code ∷ [] ≡ statusBytes session stream number code
+unfolding messageBytes headerBytes subBytes payloadBytes fixedBytes le16
+status-line session stream number code = refl
+
+pub acknack-line : (session stream first bits : ℕ)
+    → session ∷ stream ∷ 0 ∷ 0 ∷ 14 ∷ 0 ∷ 4 ∷ 0 ∷ first % 256 ∷ first / 256 % 256 ∷ bits % 256 ∷ bits / 256 % 256 ∷ [] ≡ acknackBytes session stream first bits
+unfolding messageBytes headerBytes subBytes payloadBytes fixedBytes le16
+acknack-line session stream first bits = refl
 
 -- CREATE_CLIENT's STATUS goes by no header
 pub greeting-bytes : (session stream : ℕ) (c : Created) → moveBytes session stream (greeting c) ≡ greetingBytes c
@@ -69,10 +74,6 @@ greeting-bytes session stream (created.Refused r) = refl
 pub write-put : (n : ℕ) (out : List ℕ) (at : ℕ) (bytes : List ℕ) → n ≤ 65535 → writeBytes n out at bytes ≡ putBytes out at bytes
 unfolding writeBytes
 write-put n out at bytes h = rw (le-ltb 65535 n h)
-
--- a submessage without a body is short
-pub payload-short : (m : Submessage) → length (payloadBytes m []) ≤ 65535
-payload-short m = let a = length-payload m [] in let b = least-small m in let c = body-within m 0 in omega (arith, a, b, c)
 
 pub data-short : (number : ℕ) (body : List ℕ) → length body ≤ 65533 → length (dataPayload number body) ≤ 65535
 data-short number body h = let a = data-payload-long number body in omega (arith, a, h)

@@ -158,3 +158,9 @@ module _ (a : Agent) (t : Tables) (out d sample : List ℕ) (x : Start) where
 pub process-by : (a : Agent) (t : Tables) (out d sample : List ℕ) (i : Input) (j : Judged) → judgeOf t d a i (length sample) ≡ j → processedBy j a t out d sample ≡ processOf a t out d sample i
 unfolding processOf
 process-by a t out d sample i j e = ap (λ (k : Judged). processedBy k a t out d sample) (sym e)
+
+-- all that a call leaves, the replies apart
+pub same-leaves : (x y : Leaves) → x ≡ y
+    → (x .processed ≡ y .processed) × (x .tables .sessions ≡ y .tables .sessions) × (x .tables .streams ≡ y .tables .streams) × (x .tables .objects ≡ y .tables .objects) × (x .out ≡ y .out)
+same-leaves x y e =
+    (ap (λ (l : Leaves). l .processed) e, ap (λ (l : Leaves). l .tables .sessions) e, ap (λ (l : Leaves). l .tables .streams) e, ap (λ (l : Leaves). l .tables .objects) e, ap (λ (l : Leaves). l .out) e)

@@ -57,10 +57,10 @@ use Rattle.agent.specs.Moves.{foundHandle, topicBy, endpointFor, writeBy
 use Rattle.agent.specs.Names.{namesIn}
 use Rattle.agent.specs.Rows.{createMove, roomMove, handledMove}
 use Rattle.agent.specs.RowsStreams.{openedSessions, openedRows, readOf}
-use Rattle.agent.specs.Run.{Turned, greeting, idOpened, opening, passed, repliesOf, touchedTables, acted, delivered, openingOf, subTurned, turnedBy, turned}
+use Rattle.agent.specs.Run.{Turned, greeting, idOpened, opening, passed, repliesOf, touchedTables, acted, delivered, openingOf, keyIn, subTurned, turnedBy, turned}
 use Rattle.agent.specs.Step.{Reply, opened, bytesOf, joinedReplies}
 use Rattle.agent.specs.declared.clients.Opening.{Opening}
-use Rattle.agent.specs.declared.clients.Opening.the-variants.{Client, Other}
+use Rattle.agent.specs.declared.clients.Opening.the-variants.{Client, Other, Unread}
 use Rattle.agent.specs.declared.moves.Move.{Move}
 use Rattle.agent.specs.declared.moves.Move.the-variants.{Greets, Status, Acknack, Calls, Silent}
 use Rattle.agent.specs.declared.names.Names.{Names}
@@ -267,8 +267,9 @@ module _ (f : Frame) (t : Tables) (d : List ℕ) (r : Ran) (m : Submessage) (bod
   delivered-leaves (named.Refused x) = passed-leaves _ r at _
 
   sub-leaves : (o : Opening) → Leaves r at (11 * (4 + leastOf (idOf m))) (subTurned o f t d r m body at)
-  sub-leaves (Client key) = let a = least-two m in opening-leaves f t r key at _ (omega (arith, a))
+  sub-leaves Client = let a = least-two m in opening-leaves f t r (keyIn m) at _ (omega (arith, a))
   sub-leaves Other = delivered-leaves (namedOf (t .sessions) (f .«session_id»))
+  sub-leaves Unread = passed-leaves t r at _
 
 -- ---- a turn, where the datagram isn't at its end
 

@@ -15,7 +15,7 @@ use Rattle.sessions.specs.declared.opening.Created.{Created}
 use Rattle.sessions.specs.declared.opening.Created.the-variants.{Opened, Refused}
 use Rattle.agent.specs.Moves.{moveBytes}
 use Rattle.agent.specs.Rows.{handledMove}
-use Rattle.agent.specs.Run.{Turned, putReplies, repliesOf, greetingBytes, idOpened, openingOf, passed, subTurned, isRead, messageRead, bodyRead, endRead, turnedBy, turned}
+use Rattle.agent.specs.Run.{Turned, putReplies, repliesOf, greetingBytes, idOpened, turnedBy, turned}
 use Rattle.agent.specs.Step.{opened}
 use Rattle.agent.specs.declared.moves.Move.{Move}
 use Rattle.agent.specs.declared.moves.Move.the-variants.{Greets, Status, Acknack, Calls, Silent}
@@ -48,18 +48,9 @@ unfolding putReplies
 greeting-written out at (Opened id next) = refl
 greeting-written out at (Refused r) = refl
 
--- what was read, taken apart, is handled as it is whole
-abbrev pub takenTurned : Bool → Parsed → Frame → Tables → List ℕ → Ran → Turned
-takenTurned is p f t d r =
-    cond is (subTurned (openingOf (messageRead p)) f t d r (messageRead p) (bodyRead p) (endRead p (length d))) (record { ran = passed r (endRead p (length d)); tables = t; replies = [] })
-
-taken-by : (p : Parsed) (f : Frame) (t : Tables) (d : List ℕ) (r : Ran) → takenTurned (isRead p) p f t d r ≡ turnedBy p f t d r
-taken-by (parsed.Sub m body next) f t d r = refl
-taken-by (parsed.Refused x) f t d r = refl
-
-pub taken-turned : (f : Frame) (t : Tables) (d : List ℕ) (r : Ran) → takenTurned (isRead (readAt d (r .at))) (readAt d (r .at)) f t d r ≡ turned f t d r
+pub turned-as : (f : Frame) (t : Tables) (d : List ℕ) (r : Ran) → turnedBy (readAt d (r .at)) f t d r ≡ turned f t d r
 unfolding turned
-taken-turned f t d r = taken-by (readAt d (r .at)) f t d r
+turned-as f t d r = refl
 
 -- all that a submessage leaves, where what it was matched to is equal to what it is
 pub as-left : (out out′ : List ℕ) (at : ℕ) (x y : Turned) → x ≡ y → out′ ≡ putReplies out at (x .replies)

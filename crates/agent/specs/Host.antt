@@ -9,15 +9,20 @@ use Rattle.codec.specs.declared.bytes.Written.{Written}
 use Rattle.codec.specs.declared.bytes.Written.the-variants as written
 use Rattle.codec.specs.declared.refusals.Refusal.{Refusal}
 use Rattle.codec.specs.declared.refusals.Refusal.the-variants.{OutOfTurn, OverLimit, OutputTooShort}
+use Rattle.codec.specs.declared.submessages.ObjectNumber.{ObjectNumber}
+use Rattle.codec.specs.declared.submessages.StatusCode.the-variants.{Ok}
 use Rattle.sessions.specs.Table.{gotOf, namedOf, endedRows}
 use Rattle.sessions.specs.Sweep.{evictedOf, evictedOut, evictedRows}
 use Rattle.sessions.specs.View.{Tables}
 use Rattle.sessions.specs.declared.objects.Object.{Object}
 use Rattle.sessions.specs.declared.setup.SetUp.{SetUp}
 use Rattle.sessions.specs.declared.setup.SetUp.the-variants as setup
+use Rattle.sessions.specs.declared.table.Got.{Got}
+use Rattle.sessions.specs.declared.table.Got.the-variants as got
 use Rattle.sessions.specs.declared.table.Named.{Named}
 use Rattle.sessions.specs.declared.table.Named.the-variants as named
 use Rattle.agent.specs.Step.{Reply, joinedReplies}
+use Rattle.agent.specs.Rows.{noObject}
 use Rattle.agent.specs.Run.{Turned, runAt}
 use Rattle.agent.specs.Answered.{keepsOf, saysOf, saysFits, answeredBy, answeredSessions, answeredObjects}
 use Rattle.agent.specs.Judge.{judgeOf, recordSound}
@@ -27,6 +32,10 @@ use Rattle.agent.specs.declared.agent.Idle.{Idle}
 use Rattle.agent.specs.declared.agent.Idle.the-variants as idle
 use Rattle.agent.specs.declared.agent.Removed.{Removed}
 use Rattle.agent.specs.declared.agent.Removed.the-variants as removed
+use Rattle.agent.specs.declared.answers.Keeps.{Keeps}
+use Rattle.agent.specs.declared.answers.Keeps.the-variants as keeps
+use Rattle.agent.specs.declared.answers.Says.{Says}
+use Rattle.agent.specs.declared.answers.Says.the-variants as says
 use Rattle.agent.specs.declared.state.Agent.{Agent}
 use Rattle.agent.specs.declared.judge.Input.{Input}
 use Rattle.agent.specs.declared.judge.Input.the-variants as input
@@ -60,6 +69,25 @@ begunSessions (resumes.Answer number task a) s o f = answeredSessions (gotOf s (
 abbrev pub begunObjects : Resumes → List (List ℕ) → List Object → Frame → List Object
 begunObjects resumes.Nothing s o f = o
 begunObjects (resumes.Answer number task a) s o f = answeredObjects (gotOf s (f .«session_id»)) (keepsOf number task a) s o (f .«session_id»)
+
+-- the same, as the code takes an answer apart
+abbrev pub answersNow : Resumes → Got → Bool
+answersNow resumes.Nothing g = false
+answersNow (resumes.Answer number task a) (got.Session s) = true
+answersNow (resumes.Answer number task a) got.NotLive = false
+answersNow (resumes.Answer number task a) (got.Refused r) = false
+
+abbrev pub keepsBy : Resumes → Keeps
+keepsBy resumes.Nothing = keeps.Nothing
+keepsBy (resumes.Answer number task a) = keepsOf number task a
+
+abbrev pub saysBy : Resumes → Says
+saysBy resumes.Nothing = says.Status Ok
+saysBy (resumes.Answer number task a) = saysOf task a
+
+abbrev pub numberBy : Resumes → ObjectNumber
+numberBy resumes.Nothing = noObject
+numberBy (resumes.Answer number task a) = number
 
 abbrev pub begunTables : Start → Tables → Tables
 begunTables x t =

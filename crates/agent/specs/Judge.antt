@@ -1,6 +1,6 @@
 -- What refuses a datagram or an answer before it runs: "15 is checked first", 16 "right after 15", then 1 to 5, then 12.
 use Prim.Native.Nat.{ℕ}
-use mathlib.Core.Bool.{Bool, false, cond, not}
+use mathlib.Core.Bool.{Bool, true, false, cond, not}
 use mathlib.Core.List.{List, []}
 use lib.Dec.{eqb, ltb}
 use lib.ListN.{length, getD}
@@ -8,6 +8,7 @@ use Rattle.codec.specs.Reading.{countAt, checkOf}
 use Rattle.codec.specs.declared.header.MessageHeader.{MessageHeader}
 use Rattle.codec.specs.declared.reading.Checked.{Checked}
 use Rattle.codec.specs.declared.reading.Checked.the-variants as checked
+use Rattle.codec.specs.declared.refusals.Refusal.{Refusal}
 use Rattle.codec.specs.declared.refusals.Refusal.the-variants.{OutOfTurn, OverLimit, TooLong}
 use Rattle.sessions.specs.Limits.{limitsOf}
 use Rattle.sessions.specs.View.{Tables}
@@ -111,3 +112,23 @@ unfoldable pub judgeOf : Tables → List ℕ → Agent → Input → ℕ → Jud
 judgeOf t d a i sample =
     let x = turnOf (a .waits) i in
     judgedBy d a (limitsOf (t .sessions) (t .streams) (t .objects) (sessionOf d x)) x sample
+
+-- a start or a refusal, as the code takes them apart
+abbrev pub goesOf : Judged → Bool
+goesOf (Goes x n) = true
+goesOf (Refused r) = false
+
+abbrev pub noStart : Start
+noStart = record { frame = record { «max_clients» = 0; time = 0; «session_id» = 0; «stream_id» = 0 }; next = 0; at = 0; resumes = resumes.Nothing }
+
+abbrev pub startIn : Judged → Start
+startIn (Goes x n) = x
+startIn (Refused r) = noStart
+
+abbrev pub countIn : Judged → ℕ
+countIn (Goes x n) = n
+countIn (Refused r) = 0
+
+abbrev pub refusalIn : Judged → Refusal
+refusalIn (Goes x n) = OverLimit
+refusalIn (Refused r) = r

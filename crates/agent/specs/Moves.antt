@@ -1,6 +1,6 @@
 -- What a submessage comes to, by value: from what the tables were found to hold.
 use Prim.Native.Nat.{ℕ}
-use mathlib.Core.Bool.{Bool, true, false, cond}
+use mathlib.Core.Bool.{cond}
 use mathlib.Core.List.{List, []}
 use lib.Dec.{eqb}
 use Rattle.codec.specs.declared.layouts.Span.{Span}
@@ -8,7 +8,6 @@ use Rattle.codec.specs.declared.submessages.HeartbeatPayload.{HeartbeatPayload}
 use Rattle.codec.specs.declared.submessages.ObjectNumber.{ObjectNumber}
 use Rattle.codec.specs.declared.submessages.StatusCode.{StatusCode}
 use Rattle.codec.specs.declared.submessages.StatusCode.the-variants.{Ok, ErrUnknownRef, ErrInvalidData}
-use Rattle.codec.specs.declared.submessages.Submessage.the-variants as sub
 use Rattle.streams.specs.Received.{acknackOf}
 use Rattle.sessions.specs.Objects.{handleOf}
 use Rattle.sessions.specs.declared.objects.Found.{Found}
@@ -20,14 +19,13 @@ use Rattle.sessions.specs.declared.session_streams.StreamNamed.{StreamNamed}
 use Rattle.sessions.specs.declared.session_streams.StreamNamed.the-variants as stream
 use Rattle.sessions.specs.declared.session_streams.StreamRead.{StreamRead}
 use Rattle.streams.specs.declared.state.StreamState.{StreamState}
-use Rattle.agent.specs.Replies.{replyBytes, statusBytes, acknackBytes}
+use Rattle.agent.specs.Replies.{statusBytes, acknackBytes}
 use Rattle.agent.specs.declared.names.Names.{Names}
 use Rattle.agent.specs.declared.moves.Move.{Move}
 use Rattle.agent.specs.declared.moves.Move.the-variants.{Greets, Status, Acknack, Calls, Silent}
 use Rattle.agent.specs.declared.proxy.BridgeCall.{BridgeCall}
 use Rattle.agent.specs.declared.proxy.BridgeCall.the-variants.{CreateParticipant, CreateTopic, CreateWriter, CreateReader, WriteData, ReadData, DeleteEntity}
 use Rattle.agent.specs.declared.proxy.Task.the-variants.{Creating, Writing, Reading, Deleting}
-use Rattle.agent.specs.declared.replies.Said.{Said}
 
 -- the handle of an object, if it is there and has one
 abbrev pub foundHandle : Found → ObjectHandle
@@ -105,18 +103,3 @@ moveBytes session stream (Status number code) = statusBytes session stream (numb
 moveBytes session stream (Acknack p) = acknackBytes session stream (p .«first_unacked_seq») (p .«nack_bitmap»)
 moveBytes session stream (Calls number task call) = []
 moveBytes session stream Silent = []
-
--- the same as the code's value
-abbrev pub statusTo : ℕ → ℕ → ObjectNumber → StatusCode → Bool → Said
-statusTo session stream number code any =
-    record { any = any; «session_id» = session; «stream_id» = stream; message = sub.Status (record { «related_object_id» = number; status = code }) }
-
-abbrev pub saidOf : ℕ → ℕ → Move → Said
-saidOf session stream (Greets id code) = statusTo id 0 (record { 0 = 0 }) code true
-saidOf session stream (Status number code) = statusTo session stream number code true
-saidOf session stream (Acknack p) = record { any = true; «session_id» = session; «stream_id» = stream; message = sub.Acknack p }
-saidOf session stream (Calls number task call) = statusTo 0 0 (record { 0 = 0 }) Ok false
-saidOf session stream Silent = statusTo 0 0 (record { 0 = 0 }) Ok false
-
-abbrev pub saidBytes : Said → List ℕ
-saidBytes m = cond (m .any) (replyBytes (m .«session_id») (m .«stream_id») (m .message) []) []

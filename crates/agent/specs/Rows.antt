@@ -1,5 +1,6 @@
 -- What a submessage comes to and leaves, over the lent tables: what is fetched, what is stored, and the move.
 use Prim.Native.Nat.{ℕ}
+use mathlib.Core.Bool.{Bool, true, false, cond}
 use mathlib.Core.List.{List}
 use Rattle.codec.specs.declared.layouts.Span.{Span}
 use Rattle.codec.specs.declared.submessages.CreatePayload.{CreatePayload}
@@ -22,7 +23,7 @@ use Rattle.agent.specs.RowsStreams.{openedSessions, openedRows, readOf, 
 use Rattle.agent.specs.declared.moves.Move.{Move}
 use Rattle.agent.specs.declared.moves.Move.the-variants.{Status, Silent}
 use Rattle.agent.specs.declared.turn.Group.{Group}
-use Rattle.agent.specs.declared.turn.Group.the-variants.{Objects, Streams, Neither}
+use Rattle.agent.specs.declared.turn.Group.the-variants.{Creates, Deletes, Writes, Reads, Streams, Neither}
 
 abbrev pub lent : List (List ℕ) → List (List ℕ) → List Object → Tables
 lent sessions streams objects = record { sessions = sessions; streams = streams; objects = objects }
@@ -57,74 +58,74 @@ createdObjects DataWriter s o id number = o
 createdObjects DataReader s o id number = o
 
 -- "CREATE of a 33rd number answers ERR_RESOURCES before any lookup or call."
+abbrev pub isFree : Room → Bool
+isFree Free = true
+isFree Full = false
+isFree NotLive = false
+isFree (Refused r) = false
+
+abbrev pub noRoomMove : ObjectNumber → Room → Move
+noRoomMove number Free = Silent
+noRoomMove number Full = Status number ErrResources
+noRoomMove number NotLive = Silent
+noRoomMove number (Refused r) = Silent
+
 abbrev pub roomMove : Room → List (List ℕ) → List Object → List ℕ → ℕ → CreatePayload → Span → Move
-roomMove Free s o d id p body = createMove (p .kind) s o d id p body
-roomMove Full s o d id p body = Status (p .«object_id») ErrResources
-roomMove NotLive s o d id p body = Silent
-roomMove (Refused r) s o d id p body = Silent
+roomMove r s o d id p body = cond (isFree r) (createMove (p .kind) s o d id p body) (noRoomMove (p .«object_id») r)
 
 abbrev pub roomSessions : Room → List (List ℕ) → List Object → ℕ → CreatePayload → List (List ℕ)
-roomSessions Free s o id p = createdSessions (p .kind) s o id (p .«object_id»)
-roomSessions Full s o id p = s
-roomSessions NotLive s o id p = s
-roomSessions (Refused r) s o id p = s
+roomSessions r s o id p = cond (isFree r) (createdSessions (p .kind) s o id (p .«object_id»)) s
 
 abbrev pub roomObjects : Room → List (List ℕ) → List Object → ℕ → CreatePayload → List Object
-roomObjects Free s o id p = createdObjects (p .kind) s o id (p .«object_id»)
-roomObjects Full s o id p = o
-roomObjects NotLive s o id p = o
-roomObjects (Refused r) s o id p = o
+roomObjects r s o id p = cond (isFree r) (createdObjects (p .kind) s o id (p .«object_id»)) o
 
--- ---- the submessages about objects
-
-abbrev pub objectMove : Submessage → List (List ℕ) → List Object → List ℕ → ℕ → Span → Move
-objectMove (sub.Create p) s o d id body = roomMove (roomOf s o id (p .«object_id»)) s o d id p body
-objectMove (sub.Delete p) s o d id body = deleteMove (p .«object_id») (foundObject s o id (p .«object_id»))
-objectMove (sub.WriteData p) s o d id body = writeMove (p .«writer_id») body (foundObject s o id (p .«writer_id»))
-objectMove (sub.ReadData p) s o d id body = readMove (p .«reader_id») (foundObject s o id (p .«reader_id»))
-objectMove (sub.CreateClient p) s o d id body = Silent
-objectMove (sub.Status p) s o d id body = Silent
-objectMove (sub.Data p) s o d id body = Silent
-objectMove (sub.Heartbeat p) s o d id body = Silent
-objectMove (sub.Acknack p) s o d id body = Silent
-
-abbrev pub objectSessions : Submessage → List (List ℕ) → List Object → ℕ → List (List ℕ)
-objectSessions (sub.Create p) s o id = roomSessions (roomOf s o id (p .«object_id»)) s o id p
-objectSessions (sub.Delete p) s o id = keepRemoved s id (foundObject s o id (p .«object_id»))
-objectSessions (sub.WriteData p) s o id = s
-objectSessions (sub.ReadData p) s o id = s
-objectSessions (sub.CreateClient p) s o id = s
-objectSessions (sub.Status p) s o id = s
-objectSessions (sub.Data p) s o id = s
-objectSessions (sub.Heartbeat p) s o id = s
-objectSessions (sub.Acknack p) s o id = s
-
-abbrev pub objectRows : Submessage → List (List ℕ) → List Object → ℕ → List Object
-objectRows (sub.Create p) s o id = roomObjects (roomOf s o id (p .«object_id»)) s o id p
-objectRows (sub.Delete p) s o id = removedObjects s o id (p .«object_id»)
-objectRows (sub.WriteData p) s o id = o
-objectRows (sub.ReadData p) s o id = o
-objectRows (sub.CreateClient p) s o id = o
-objectRows (sub.Status p) s o id = o
-objectRows (sub.Data p) s o id = o
-objectRows (sub.Heartbeat p) s o id = o
-objectRows (sub.Acknack p) s o id = o
-
--- ---- all submessages but CREATE_CLIENT, by whose tables they are about
+-- ---- all submessages but CREATE_CLIENT, by what they are about
 
 abbrev pub groupOf : Submessage → Group
 groupOf (sub.CreateClient p) = Neither
-groupOf (sub.Create p) = Objects
-groupOf (sub.Delete p) = Objects
+groupOf (sub.Create p) = Creates
+groupOf (sub.Delete p) = Deletes
 groupOf (sub.Status p) = Neither
-groupOf (sub.WriteData p) = Objects
-groupOf (sub.ReadData p) = Objects
+groupOf (sub.WriteData p) = Writes
+groupOf (sub.ReadData p) = Reads
 groupOf (sub.Data p) = Neither
 groupOf (sub.Heartbeat p) = Streams
 groupOf (sub.Acknack p) = Streams
 
+-- a CREATE, and the object that a DELETE, WRITE_DATA or READ_DATA names, as the code takes them out; of any other, zeros
+abbrev pub noObject : ObjectNumber
+noObject = record { 0 = 0 }
+
+abbrev pub noCreate : CreatePayload
+noCreate = record { «object_id» = noObject; kind = Participant; «parent_id» = 0 }
+
+abbrev pub createIn : Submessage → CreatePayload
+createIn (sub.Create p) = p
+createIn (sub.CreateClient p) = noCreate
+createIn (sub.Delete p) = noCreate
+createIn (sub.Status p) = noCreate
+createIn (sub.WriteData p) = noCreate
+createIn (sub.ReadData p) = noCreate
+createIn (sub.Data p) = noCreate
+createIn (sub.Heartbeat p) = noCreate
+createIn (sub.Acknack p) = noCreate
+
+abbrev pub numberIn : Submessage → ObjectNumber
+numberIn (sub.Delete p) = p .«object_id»
+numberIn (sub.WriteData p) = p .«writer_id»
+numberIn (sub.ReadData p) = p .«reader_id»
+numberIn (sub.CreateClient p) = noObject
+numberIn (sub.Create p) = noObject
+numberIn (sub.Status p) = noObject
+numberIn (sub.Data p) = noObject
+numberIn (sub.Heartbeat p) = noObject
+numberIn (sub.Acknack p) = noObject
+
 abbrev pub handledBy : Group → Submessage → Tables → List ℕ → ℕ → ℕ → Span → Move
-handledBy Objects m t d id n body = objectMove m (t .sessions) (t .objects) d id body
+handledBy Creates m t d id n body = roomMove (roomOf (t .sessions) (t .objects) id (createIn m .«object_id»)) (t .sessions) (t .objects) d id (createIn m) body
+handledBy Deletes m t d id n body = deleteMove (numberIn m) (foundObject (t .sessions) (t .objects) id (numberIn m))
+handledBy Writes m t d id n body = writeMove (numberIn m) body (foundObject (t .sessions) (t .objects) id (numberIn m))
+handledBy Reads m t d id n body = readMove (numberIn m) (foundObject (t .sessions) (t .objects) id (numberIn m))
 handledBy Streams m t d id n body =
     streamMove m (readOf (openedSessions (t .sessions) (t .streams) id n) (openedRows (t .sessions) (t .streams) id n) id n)
 handledBy Neither m t d id n body = Silent
@@ -133,7 +134,13 @@ abbrev pub handledMove : Submessage → Tables → List ℕ → ℕ → ℕ → 
 handledMove m t d id n body = handledBy (groupOf m) m t d id n body
 
 abbrev pub handledIn : Group → Submessage → Tables → ℕ → ℕ → Tables
-handledIn Objects m t id n = record { sessions = objectSessions m (t .sessions) (t .objects) id; streams = t .streams; objects = objectRows m (t .sessions) (t .objects) id }
+handledIn Creates m t id n =
+    let room = roomOf (t .sessions) (t .objects) id (createIn m .«object_id») in
+    record { sessions = roomSessions room (t .sessions) (t .objects) id (createIn m); streams = t .streams; objects = roomObjects room (t .sessions) (t .objects) id (createIn m) }
+handledIn Deletes m t id n =
+    record { sessions = keepRemoved (t .sessions) id (foundObject (t .sessions) (t .objects) id (numberIn m)); streams = t .streams; objects = removedObjects (t .sessions) (t .objects) id (numberIn m) }
+handledIn Writes m t id n = t
+handledIn Reads m t id n = t
 handledIn Streams m t id n =
     let s = openedSessions (t .sessions) (t .streams) id n in
     let x = openedRows (t .sessions) (t .streams) id n in

@@ -25,7 +25,7 @@ use Rattle.agent.specs.Moves.{moveBytes}
 use Rattle.agent.specs.Rows.{handledMove, handledTables}
 use Rattle.agent.specs.Step.{Reply, opened, replied, bytesOf}
 use Rattle.agent.specs.declared.clients.Opening.{Opening}
-use Rattle.agent.specs.declared.clients.Opening.the-variants.{Client, Other}
+use Rattle.agent.specs.declared.clients.Opening.the-variants.{Client, Other, Unread}
 use Rattle.agent.specs.declared.moves.Move.{Move}
 use Rattle.agent.specs.declared.moves.Move.the-variants.{Greets, Status, Acknack, Calls, Silent}
 use Rattle.agent.specs.declared.turn.Frame.{Frame}
@@ -99,33 +99,19 @@ touchedTables f t = withSessions t (touchedRows (t .sessions) (f .«session_id»
 abbrev pub acted : Frame → Ran → ℕ → Move → Tables → Turned
 acted f r at m t = record { ran = settled f (r .next) (r .wrote) m at; tables = t; replies = repliesOf f m }
 
+abbrev pub isLive : Named → Bool
+isLive Live = true
+isLive NotLive = false
+isLive (Refused x) = false
+
 abbrev pub delivered : Named → Frame → Tables → List ℕ → Ran → Submessage → Span → ℕ → Turned
-delivered Live f t d r m body at =
+delivered w f t d r m body at =
     let u = touchedTables f t in
-    acted f r at (handledMove m u d (f .«session_id») (f .«stream_id») body) (handledTables m u (f .«session_id») (f .«stream_id»))
-delivered NotLive f t d r m body at = record { ran = passed r at; tables = touchedTables f t; replies = [] }
-delivered (Refused x) f t d r m body at = record { ran = passed r at; tables = touchedTables f t; replies = [] }
-
-abbrev pub openingOf : Submessage → Opening
-openingOf (sub.CreateClient p) = Client (p .«client_key»)
-openingOf (sub.Create p) = Other
-openingOf (sub.Delete p) = Other
-openingOf (sub.Status p) = Other
-openingOf (sub.WriteData p) = Other
-openingOf (sub.ReadData p) = Other
-openingOf (sub.Data p) = Other
-openingOf (sub.Heartbeat p) = Other
-openingOf (sub.Acknack p) = Other
-
-abbrev pub subTurned : Opening → Frame → Tables → List ℕ → Ran → Submessage → Span → ℕ → Turned
-subTurned (Client key) f t d r m body at = opening f t r key at
-subTurned Other f t d r m body at = delivered (namedOf (t .sessions) (f .«session_id»)) f t d r m body at
+    cond (isLive w)
+    (acted f r at (handledMove m u d (f .«session_id») (f .«stream_id») body) (handledTables m u (f .«session_id») (f .«stream_id»)))
+    (record { ran = passed r at; tables = u; replies = [] })
 
 -- what was read at a place, as the code takes it apart: where nothing was, a STATUS stands for it
-abbrev pub isRead : Parsed → Bool
-isRead (parsed.Sub m body next) = true
-isRead (parsed.Refused x) = false
-
 abbrev pub messageRead : Parsed → Submessage
 messageRead (parsed.Sub m body next) = m
 messageRead (parsed.Refused x) = sub.Status (record { «related_object_id» = record { 0 = 0 }; status = Ok })
@@ -138,10 +124,41 @@ abbrev pub endRead : Parsed → ℕ → ℕ
 endRead (parsed.Sub m body next) len = next .at
 endRead (parsed.Refused x) len = len
 
+-- whether it opens a session, with its key
+abbrev pub openingOf : Submessage → Opening
+openingOf (sub.CreateClient p) = Client
+openingOf (sub.Create p) = Other
+openingOf (sub.Delete p) = Other
+openingOf (sub.Status p) = Other
+openingOf (sub.WriteData p) = Other
+openingOf (sub.ReadData p) = Other
+openingOf (sub.Data p) = Other
+openingOf (sub.Heartbeat p) = Other
+openingOf (sub.Acknack p) = Other
+
+abbrev pub openingRead : Parsed → Opening
+openingRead (parsed.Sub m body next) = openingOf m
+openingRead (parsed.Refused x) = Unread
+
+abbrev pub keyIn : Submessage → ℕ
+keyIn (sub.CreateClient p) = p .«client_key»
+keyIn (sub.Create p) = 0
+keyIn (sub.Delete p) = 0
+keyIn (sub.Status p) = 0
+keyIn (sub.WriteData p) = 0
+keyIn (sub.ReadData p) = 0
+keyIn (sub.Data p) = 0
+keyIn (sub.Heartbeat p) = 0
+keyIn (sub.Acknack p) = 0
+
+abbrev pub subTurned : Opening → Frame → Tables → List ℕ → Ran → Submessage → Span → ℕ → Turned
+subTurned Client f t d r m body at = opening f t r (keyIn m) at
+subTurned Other f t d r m body at = delivered (namedOf (t .sessions) (f .«session_id»)) f t d r m body at
+subTurned Unread f t d r m body at = record { ran = passed r at; tables = t; replies = [] }
+
 -- the datagram was checked before, so that a submessage is always read
 abbrev pub turnedBy : Parsed → Frame → Tables → List ℕ → Ran → Turned
-turnedBy (parsed.Sub m body next) f t d r = subTurned (openingOf m) f t d r m body (next .at)
-turnedBy (parsed.Refused x) f t d r = record { ran = passed r (length d); tables = t; replies = [] }
+turnedBy p f t d r = subTurned (openingRead p) f t d r (messageRead p) (bodyRead p) (endRead p (length d))
 
 unfoldable pub turned : Frame → Tables → List ℕ → Ran → Turned
 turned f t d r = turnedBy (readAt d (r .at)) f t d r

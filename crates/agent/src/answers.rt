@@ -1,4 +1,5 @@
 // The answer to a session's call: what it lists, and the reply.
+use crate::judge::Resumes;
 use crate::moves::Move;
 use crate::proxy::BridgeAnswer;
 use crate::proxy::Task;
@@ -16,10 +17,10 @@ ghost use mathlib.Core.Path.{_≡_};
 ghost use mathlib.Core.Bool.{true};
 ghost use lib.ListN.{length};
 ghost use Rattle.codec.specs.Bytes.{putBytes};
-ghost use Rattle.sessions.specs.Table.{gotOf};
 ghost use Rattle.agent.specs.Step.{joinedReplies};
 ghost use Rattle.agent.specs.Run.{putReplies};
-ghost use Rattle.agent.specs.Answered.{createdKeeps, keepsOf, createdSays, doneSays, readSays, saysOf, keptSessions, keptObjects, saysFits, saysBytes, answeredBy, answeredSessions, answeredObjects};
+ghost use Rattle.agent.specs.Answered.{createdKeeps, keepsOf, createdSays, doneSays, readSays, saysOf, keptSessions, keptObjects, saysFits, saysBytes};
+ghost use Rattle.agent.specs.Host.{answersNow, keepsBy, saysBy, numberBy, begunBy, begunSessions, begunObjects, resumesFit};
 
 // What an answer lists: a CREATE that succeeds lists its object with the handle returned.
 enum Keeps {
@@ -133,33 +134,71 @@ fn reply_says(out: &mut [u8], sample: &[u8], frame: Frame, number: ObjectNumber,
     }
 }
 
-// "The same rules give the reply"; an answer touches no session.
-pub(crate) fn answer(
+// Whether the run begins with an answer, and its session is live.
+fn answers_now(resumes: Resumes, got: Got) -> bool
+    ensures { λ r. ⌜ r ≡ answersNow resumes got ⌝ }
+{
+    match resumes {
+        Resumes::Nothing => false,
+        Resumes::Answer(_, _, _) => match got {
+            Got::Session(_) => true,
+            Got::NotLive => false,
+            Got::Refused(_) => false,
+        },
+    }
+}
+
+fn keeps_by(resumes: Resumes) -> Keeps
+    ensures { λ r. ⌜ r ≡ keepsBy resumes ⌝ }
+{
+    match resumes {
+        Resumes::Nothing => Keeps::Nothing,
+        Resumes::Answer(number, task, told) => what_keeps(number, task, told),
+    }
+}
+
+fn says_by(resumes: Resumes) -> Says
+    ensures { λ r. ⌜ r ≡ saysBy resumes ⌝ }
+{
+    match resumes {
+        Resumes::Nothing => Says::Status(StatusCode::Ok),
+        Resumes::Answer(_, task, told) => what_says(task, told),
+    }
+}
+
+fn number_by(resumes: Resumes) -> ObjectNumber
+    ensures { λ r. ⌜ r ≡ numberBy resumes ⌝ }
+{
+    match resumes {
+        Resumes::Nothing => ObjectNumber(0),
+        Resumes::Answer(number, _, _) => number,
+    }
+}
+
+// The answer's part of a call, if it is one: "The same rules give the reply"; an answer touches no session.
+pub(crate) fn begin(
     sessions: &mut [SessionRow],
     objects: &mut [Object],
     out: &mut [u8],
     sample: &[u8],
     frame: Frame,
-    number: ObjectNumber,
-    task: Task,
-    told: BridgeAnswer,
+    resumes: Resumes,
 ) -> usize
-    requires { ⌜ saysFits (saysOf task told) (length (now sample)) ≡ true ⌝ }
-    ensures { λ n. ⌜ (n ≡ length (joinedReplies (answeredBy (gotOf (now (sessions .entry)) (frame .«session_id»)) frame (now (sample .entry)) number task told)))
-        × (now (sessions .exit) ≡ answeredSessions (gotOf (now (sessions .entry)) (frame .«session_id»)) (keepsOf number task told) (now (sessions .entry)) (now (objects .entry)) (frame .«session_id»))
-        × (now (objects .exit) ≡ answeredObjects (gotOf (now (sessions .entry)) (frame .«session_id»)) (keepsOf number task told) (now (sessions .entry)) (now (objects .entry)) (frame .«session_id»))
-        × (now (out .exit) ≡ putReplies (now (out .entry)) 0 (answeredBy (gotOf (now (sessions .entry)) (frame .«session_id»)) frame (now (sample .entry)) number task told)) ⌝ }
+    requires { ⌜ resumesFit resumes (length (now sample)) ≡ true ⌝ }
+    ensures { λ n. ⌜ (n ≡ length (joinedReplies (begunBy resumes (now (sessions .entry)) frame (now (sample .entry)))))
+        × (now (sessions .exit) ≡ begunSessions resumes (now (sessions .entry)) (now (objects .entry)) frame)
+        × (now (objects .exit) ≡ begunObjects resumes (now (sessions .entry)) (now (objects .entry)) frame)
+        × (now (out .exit) ≡ putReplies (now (out .entry)) 0 (begunBy resumes (now (sessions .entry)) frame (now (sample .entry)))) ⌝ }
 {
     let id = frame.session_id;
     let got = get(sessions, id);
-    match got {
-        Got::Session(_) => {
-            let k = what_keeps(number, task, told);
-            keep(sessions, objects, id, k);
-            let s = what_says(task, told);
-            reply_says(out, sample, frame, number, s)
-        }
-        Got::NotLive => 0,
-        Got::Refused(_) => 0,
+    if answers_now(resumes, got) {
+        let k = keeps_by(resumes);
+        keep(sessions, objects, id, k);
+        let s = says_by(resumes);
+        let number = number_by(resumes);
+        reply_says(out, sample, frame, number, s)
+    } else {
+        0
     }
 }

@@ -4,19 +4,20 @@ use codec::submessages::StatusCode;
 use codec::submessages::Submessage;
 use sessions::opening::Created;
 ghost use mathlib.Core.Path.{_≡_};
-ghost use Rattle.agent.specs.Run.{greeting, pointerOf, openingOf};
+ghost use Rattle.agent.specs.Run.{greeting, pointerOf, openingOf, keyIn};
 
-// Whether a submessage opens a session, with its key.
+// Whether a submessage opens a session; `Unread` where none was read.
 pub(crate) enum Opening {
-    Client(u32),
+    Client,
     Other,
+    Unread,
 }
 
 pub(crate) fn opening_of(m: Submessage) -> Opening
     ensures { λ r. ⌜ r ≡ openingOf m ⌝ }
 {
     match m {
-        Submessage::CreateClient(p) => Opening::Client(p.client_key),
+        Submessage::CreateClient(_) => Opening::Client,
         Submessage::Create(_) => Opening::Other,
         Submessage::Delete(_) => Opening::Other,
         Submessage::Status(_) => Opening::Other,
@@ -25,6 +26,22 @@ pub(crate) fn opening_of(m: Submessage) -> Opening
         Submessage::Data(_) => Opening::Other,
         Submessage::Heartbeat(_) => Opening::Other,
         Submessage::Acknack(_) => Opening::Other,
+    }
+}
+
+pub(crate) fn key_in(m: Submessage) -> u32
+    ensures { λ r. ⌜ r ≡ keyIn m ⌝ }
+{
+    match m {
+        Submessage::CreateClient(p) => p.client_key,
+        Submessage::Create(_) => 0,
+        Submessage::Delete(_) => 0,
+        Submessage::Status(_) => 0,
+        Submessage::WriteData(_) => 0,
+        Submessage::ReadData(_) => 0,
+        Submessage::Data(_) => 0,
+        Submessage::Heartbeat(_) => 0,
+        Submessage::Acknack(_) => 0,
     }
 }
 

@@ -155,7 +155,62 @@ fn restore_objects(from: &[Object], to: &mut [Object], first: usize, n: usize)
     }
 }
 
-// The number of bytes that the call would write; every lent store is left as it was.
+// The number of bytes that the call would write, with one store after the other put back: the sessions' rows are as they were.
+fn dry_sessions(
+    sessions: &mut [SessionRow],
+    streams: &mut [StreamRow],
+    objects: &mut [Object],
+    out: &mut [u8],
+    d: &[u8],
+    sample: &[u8],
+    start: Start,
+) -> usize
+    requires { ⌜ (resumesFit (start .resumes) (length (now sample)) ≡ true)
+        × (256 ≤ length (now sessions)) ⌝ }
+    ensures { λ n. ⌜ (n ≡ performed start (lent (now (sessions .entry)) (now (streams .entry)) (now (objects .entry))) (now (d .entry)) (now (sample .entry)) .ran .wrote)
+        × (now (sessions .exit) ≡ now (sessions .entry))
+        × (now (streams .exit) ≡ performed start (lent (now (sessions .entry)) (now (streams .entry)) (now (objects .entry))) (now (d .entry)) (now (sample .entry)) .tables .streams)
+        × (now (objects .exit) ≡ performed start (lent (now (sessions .entry)) (now (streams .entry)) (now (objects .entry))) (now (d .entry)) (now (sample .entry)) .tables .objects)
+        × (now (out .exit) ≡ now (out .entry)) ⌝ }
+{
+    let session = no_session();
+    let mut rows = [session; 256];
+    copy_sessions(sessions, &mut rows, 256);
+    let ran = perform(sessions, streams, objects, &mut out[0..0], d, sample, start);
+    restore_sessions(&rows, sessions, 256);
+    ran.wrote
+}
+
+// The streams' too.
+fn dry_streams(
+    sessions: &mut [SessionRow],
+    streams: &mut [StreamRow],
+    objects: &mut [Object],
+    out: &mut [u8],
+    d: &[u8],
+    sample: &[u8],
+    start: Start,
+) -> usize
+    requires { ⌜ (resumesFit (start .resumes) (length (now sample)) ≡ true)
+        × (256 ≤ length (now sessions))
+        × (2048 ≤ length (now streams)) ⌝ }
+    ensures { λ n. ⌜ (n ≡ performed start (lent (now (sessions .entry)) (now (streams .entry)) (now (objects .entry))) (now (d .entry)) (now (sample .entry)) .ran .wrote)
+        × (now (sessions .exit) ≡ now (sessions .entry))
+        × (now (streams .exit) ≡ now (streams .entry))
+        × (now (objects .exit) ≡ performed start (lent (now (sessions .entry)) (now (streams .entry)) (now (objects .entry))) (now (d .entry)) (now (sample .entry)) .tables .objects)
+        × (now (out .exit) ≡ now (out .entry)) ⌝ }
+{
+    let frame = start.frame;
+    let id = frame.session_id;
+    let stream = no_stream();
+    let mut rows = [stream; 264];
+    copy_streams(streams, &mut rows, id, 264);
+    let n = dry_sessions(sessions, streams, objects, out, d, sample, start);
+    restore_streams(&rows, streams, id, 264);
+    n
+}
+
+// And the objects': every lent store is left as it was.
 pub(crate) fn dry(
     sessions: &mut [SessionRow],
     streams: &mut [StreamRow],
@@ -178,19 +233,11 @@ pub(crate) fn dry(
     let frame = start.frame;
     let id = frame.session_id;
     let first = first_object(id);
-    let session = no_session();
-    let mut session_rows = [session; 256];
-    let stream = no_stream();
-    let mut stream_rows = [stream; 264];
     let number = ObjectNumber(0);
     let o = Object::implicit(number, 0);
     let mut records = [o; 32];
-    copy_sessions(sessions, &mut session_rows, 256);
-    copy_streams(streams, &mut stream_rows, id, 264);
     copy_objects(objects, &mut records, first, 32);
-    let ran = perform(sessions, streams, objects, &mut out[0..0], d, sample, start);
-    restore_sessions(&session_rows, sessions, 256);
-    restore_streams(&stream_rows, streams, id, 264);
+    let n = dry_streams(sessions, streams, objects, out, d, sample, start);
     restore_objects(&records, objects, first, 32);
-    ran.wrote
+    n
 }

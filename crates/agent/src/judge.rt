@@ -21,10 +21,10 @@ ghost use mathlib.Core.Path.{_≡_};
 ghost use lib.ListN.{getD};
 ghost use Rattle.sessions.specs.Limits.{limitsOf};
 ghost use Rattle.agent.specs.Rows.{lent};
-ghost use Rattle.agent.specs.Judge.{answersOf, idleTurn, busyTurn, turnOf, sessionOf, recordSound, soundOf, tooLong, datagramStart, answerStart, datagramJudged, restJudged, answerJudged, judgedBy, judgeOf};
+ghost use Rattle.agent.specs.Judge.{answersOf, idleTurn, busyTurn, turnOf, sessionOf, recordSound, soundOf, tooLong, datagramStart, answerStart, datagramJudged, restJudged, answerJudged, judgedBy, judgeOf, goesOf, noStart, startIn, countIn, refusalIn};
 
 // A call of the host: a datagram with its time, or the bridge's answer.
-pub(crate) enum Input {
+pub enum Input {
     Datagram(u64),
     Answer(BridgeAnswer),
 }
@@ -261,4 +261,59 @@ pub(crate) fn judge(
     let id = session_of(d, turn);
     let limits = within_limits(sessions, streams, objects, id);
     judged_by(d, a, limits, turn, sample)
+}
+
+// What was judged, taken apart: whether the call goes on, where it starts, how many submessages there are to run, and why
+// not.
+pub(crate) fn goes(j: Judged) -> bool
+    ensures { λ r. ⌜ r ≡ goesOf j ⌝ }
+{
+    match j {
+        Judged::Goes(_, _) => true,
+        Judged::Refused(_) => false,
+    }
+}
+
+fn no_start() -> Start
+    ensures { λ r. ⌜ r ≡ noStart ⌝ }
+{
+    let frame = Frame {
+        max_clients: 0,
+        time: 0,
+        session_id: 0,
+        stream_id: 0,
+    };
+    Start {
+        frame,
+        next: 0,
+        at: 0,
+        resumes: Resumes::Nothing,
+    }
+}
+
+pub(crate) fn start_in(j: Judged) -> Start
+    ensures { λ r. ⌜ r ≡ startIn j ⌝ }
+{
+    match j {
+        Judged::Goes(start, _) => start,
+        Judged::Refused(_) => no_start(),
+    }
+}
+
+pub(crate) fn count_in(j: Judged) -> usize
+    ensures { λ r. ⌜ r ≡ countIn j ⌝ }
+{
+    match j {
+        Judged::Goes(_, n) => n,
+        Judged::Refused(_) => 0,
+    }
+}
+
+pub(crate) fn refusal_in(j: Judged) -> Refusal
+    ensures { λ r. ⌜ r ≡ refusalIn j ⌝ }
+{
+    match j {
+        Judged::Goes(_, _) => Refusal::OverLimit,
+        Judged::Refused(x) => x,
+    }
 }

@@ -13,7 +13,6 @@ use codec::submessages::CreatePayload;
 use codec::submessages::ObjectKind;
 use codec::submessages::ObjectNumber;
 use codec::submessages::StatusCode;
-use codec::submessages::Submessage;
 use sessions::objects::Found;
 use sessions::objects::Object;
 use sessions::objects::Stored;
@@ -30,7 +29,7 @@ ghost use Rattle.sessions.specs.SessionObjects.{foundObject, greatestObject, st
 ghost use Rattle.sessions.specs.Room.{roomOf};
 ghost use Rattle.agent.specs.Moves.{writeMove, readMove, deleteMove, topicMove, endpointMove};
 ghost use Rattle.agent.specs.Names.{namesIn};
-ghost use Rattle.agent.specs.Rows.{okMove, createMove, createdSessions, createdObjects, roomMove, roomSessions, roomObjects, objectMove, objectSessions, objectRows};
+ghost use Rattle.agent.specs.Rows.{okMove, createMove, createdSessions, createdObjects, isFree, noRoomMove, roomMove, roomSessions, roomObjects};
 
 pub(crate) fn write_data(
     sessions: &[SessionRow],
@@ -146,6 +145,28 @@ fn create_kind(
 }
 
 // "CREATE of a 33rd number answers ERR_RESOURCES before any lookup or call."
+fn is_free(room: Room) -> bool
+    ensures { λ r. ⌜ r ≡ isFree room ⌝ }
+{
+    match room {
+        Room::Free => true,
+        Room::Full => false,
+        Room::NotLive => false,
+        Room::Refused(_) => false,
+    }
+}
+
+fn no_room_move(number: ObjectNumber, room: Room) -> Move
+    ensures { λ r. ⌜ r ≡ noRoomMove number room ⌝ }
+{
+    match room {
+        Room::Free => Move::Silent,
+        Room::Full => Move::Status(number, StatusCode::ErrResources),
+        Room::NotLive => Move::Silent,
+        Room::Refused(_) => Move::Silent,
+    }
+}
+
 pub(crate) fn create(
     sessions: &mut [SessionRow],
     objects: &mut [Object],
@@ -160,36 +181,9 @@ pub(crate) fn create(
 {
     let number = p.object_id;
     let room = has_room(sessions, objects, id, number);
-    match room {
-        Room::Free => create_kind(sessions, objects, d, id, p, body),
-        Room::Full => Move::Status(number, StatusCode::ErrResources),
-        Room::NotLive => Move::Silent,
-        Room::Refused(_) => Move::Silent,
-    }
-}
-
-// The submessages about objects; the others change nothing here.
-pub(crate) fn handle_object(
-    sessions: &mut [SessionRow],
-    objects: &mut [Object],
-    d: &[u8],
-    id: u8,
-    m: Submessage,
-    body: Span,
-) -> Move
-    ensures { λ r. ⌜ (r ≡ objectMove m (now (sessions .entry)) (now (objects .entry)) (now (d .entry)) id body)
-        × (now (sessions .exit) ≡ objectSessions m (now (sessions .entry)) (now (objects .entry)) id)
-        × (now (objects .exit) ≡ objectRows m (now (sessions .entry)) (now (objects .entry)) id) ⌝ }
-{
-    match m {
-        Submessage::Create(p) => create(sessions, objects, d, id, p, body),
-        Submessage::Delete(p) => delete(sessions, objects, id, p.object_id),
-        Submessage::WriteData(p) => write_data(sessions, objects, id, p.writer_id, body),
-        Submessage::ReadData(p) => read_data(sessions, objects, id, p.reader_id),
-        Submessage::CreateClient(_) => Move::Silent,
-        Submessage::Status(_) => Move::Silent,
-        Submessage::Data(_) => Move::Silent,
-        Submessage::Heartbeat(_) => Move::Silent,
-        Submessage::Acknack(_) => Move::Silent,
+    if is_free(room) {
+        create_kind(sessions, objects, d, id, p, body)
+    } else {
+        no_room_move(number, room)
     }
 }

@@ -1,9 +1,7 @@
 // What a call does once nothing refuses it: the answer's part, if it is one, then the submessages behind it.
-use crate::answers::answer;
-use crate::judge::Resumes;
+use crate::answers::begin;
 use crate::judge::Start;
 use crate::run::run;
-use crate::turn::Frame;
 use crate::turn::Ran;
 use crate::turn::Stop;
 use sessions::objects::Object;
@@ -12,39 +10,9 @@ use sessions::table::SessionRow;
 ghost use mathlib.Core.Path.{_≡_};
 ghost use mathlib.Core.Bool.{true};
 ghost use lib.ListN.{length};
-ghost use Rattle.agent.specs.Step.{joinedReplies};
 ghost use Rattle.agent.specs.Rows.{lent};
 ghost use Rattle.agent.specs.Run.{putReplies};
-ghost use Rattle.agent.specs.Host.{begunBy, begunSessions, begunObjects, resumesFit, performed, firstRan};
-
-fn begin(
-    sessions: &mut [SessionRow],
-    objects: &mut [Object],
-    out: &mut [u8],
-    sample: &[u8],
-    frame: Frame,
-    resumes: Resumes,
-) -> usize
-    requires { ⌜ resumesFit resumes (length (now sample)) ≡ true ⌝ }
-    ensures { λ n. ⌜ (n ≡ length (joinedReplies (begunBy resumes (now (sessions .entry)) frame (now (sample .entry)))))
-        × (now (sessions .exit) ≡ begunSessions resumes (now (sessions .entry)) (now (objects .entry)) frame)
-        × (now (objects .exit) ≡ begunObjects resumes (now (sessions .entry)) (now (objects .entry)) frame)
-        × (now (out .exit) ≡ putReplies (now (out .entry)) 0 (begunBy resumes (now (sessions .entry)) frame (now (sample .entry)))) ⌝ }
-{
-    match resumes {
-        Resumes::Nothing => 0,
-        Resumes::Answer(number, task, told) => answer(
-            sessions,
-            objects,
-            out,
-            sample,
-            frame,
-            number,
-            task,
-            told,
-        ),
-    }
-}
+ghost use Rattle.agent.specs.Host.{resumesFit, performed, firstRan};
 
 fn first_ran(start: Start, wrote: usize) -> Ran
     ensures { λ r. ⌜ r ≡ firstRan start wrote ⌝ }

@@ -1,10 +1,13 @@
 // A datagram or an answer, whole: judged, run, and 13 last.
 use crate::dry::dry;
 use crate::judge::Input;
-use crate::judge::Judged;
 use crate::judge::Resumes;
 use crate::judge::Start;
+use crate::judge::count_in;
+use crate::judge::goes;
 use crate::judge::judge;
+use crate::judge::refusal_in;
+use crate::judge::start_in;
 use crate::perform::perform;
 use crate::proxy::BridgeAnswer;
 use crate::proxy::BridgeCall;
@@ -189,7 +192,7 @@ fn go(
     }
 }
 
-pub(crate) fn process(
+pub fn process(
     sessions: &mut [SessionRow],
     streams: &mut [StreamRow],
     objects: &mut [Object],
@@ -207,8 +210,12 @@ pub(crate) fn process(
 {
     let long = sample.len();
     let j = judge(sessions, streams, objects, d, agent, input, long);
-    match j {
-        Judged::Goes(start, n) => go(sessions, streams, objects, out, d, sample, agent, start, n),
-        Judged::Refused(x) => refused(agent, x),
+    if goes(j) {
+        let start = start_in(j);
+        let n = count_in(j);
+        go(sessions, streams, objects, out, d, sample, agent, start, n)
+    } else {
+        let why = refusal_in(j);
+        refused(agent, why)
     }
 }

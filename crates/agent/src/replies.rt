@@ -1,81 +1,83 @@
 // The bytes of a reply in the lent output, written only where they fit; the count goes on as if they did, so that a run on
 // no output tells what it would need (13).
 use crate::moves::Move;
-use codec::bytes::Written;
+use codec::bytes::put_bytes;
 use codec::header::MessageHeader;
+use codec::submessages::AcknackPayload;
 use codec::submessages::DataPayload;
 use codec::submessages::ObjectNumber;
 use codec::submessages::StatusCode;
-use codec::submessages::StatusPayload;
 use codec::submessages::Submessage;
 use codec::writing::write_message;
 ghost use mathlib.Core.Path.{_≡_};
-ghost use Prim.Native.Nat.{_+_, _≤_};
+ghost use Prim.Native.Nat.{_+_, _≤_, _%_, _/_};
 ghost use lib.ListN.{length};
 ghost use Rattle.codec.specs.Bytes.{putBytes};
-ghost use Rattle.agent.specs.Replies.{dataBytes};
-ghost use Rattle.agent.specs.Moves.{statusTo, saidOf, moveBytes, saidBytes};
+ghost use Rattle.agent.specs.Replies.{statusBytes, acknackBytes, dataBytes};
+ghost use Rattle.agent.specs.Moves.{moveBytes};
 
-// A reply's session, stream and submessage, if there is one.
-struct Said {
-    any: bool,
-    session_id: u8,
-    stream_id: u8,
-    message: Submessage,
+// The low and the high byte of a number, in the order that they stand on the wire.
+fn low(n: u16) -> u8
+    ensures { λ r. ⌜ r ≡ n % 256 ⌝ }
+{
+    (n % 256) as u8
 }
 
-fn status_to(
+fn high(n: u16) -> u8
+    ensures { λ r. ⌜ r ≡ n / 256 % 256 ⌝ }
+{
+    (n / 256 % 256) as u8
+}
+
+// A STATUS, whole: a reply of fixed layout has its own writer, which is a few stores.
+fn put_status(
+    out: &mut [u8],
+    at: usize,
     session_id: u8,
     stream_id: u8,
     number: ObjectNumber,
     code: StatusCode,
-    any: bool,
-) -> Said
-    ensures { λ r. ⌜ r ≡ statusTo «session_id» «stream_id» number code any ⌝ }
+)
+    ensures { λ _. ⌜ now (out .exit) ≡ putBytes (now (out .entry)) at (statusBytes «session_id» «stream_id» (number .0) code) ⌝ }
 {
-    let message = Submessage::Status(StatusPayload {
-        related_object_id: number,
-        status: code,
-    });
-    Said {
-        any,
-        session_id,
-        stream_id,
-        message,
-    }
+    let n = number.0;
+    let lo = low(n);
+    let hi = high(n);
+    let byte = code.as_u8();
+    let line = [session_id, stream_id, 0, 0, 5, 0, 3, 0, lo, hi, byte];
+    put_bytes(out, at, &line);
+}
+
+// An ACKNACK, whole.
+fn put_acknack(out: &mut [u8], at: usize, session_id: u8, stream_id: u8, p: AcknackPayload)
+    ensures { λ _. ⌜ now (out .exit) ≡ putBytes (now (out .entry)) at (acknackBytes «session_id» «stream_id» (p .«first_unacked_seq») (p .«nack_bitmap»)) ⌝ }
+{
+    let first = p.first_unacked_seq;
+    let bits = p.nack_bitmap;
+    let a = low(first);
+    let b = high(first);
+    let c = low(bits);
+    let d = high(bits);
+    let line = [session_id, stream_id, 0, 0, 14, 0, 4, 0, a, b, c, d];
+    put_bytes(out, at, &line);
 }
 
 // "Replies carry .., CREATE_CLIENT's apart, the header's session and stream."
-fn said_by(session_id: u8, stream_id: u8, m: Move) -> Said
-    ensures { λ r. ⌜ r ≡ saidOf «session_id» «stream_id» m ⌝ }
+fn put_move(out: &mut [u8], at: usize, session_id: u8, stream_id: u8, m: Move)
+    ensures { λ _. ⌜ now (out .exit) ≡ putBytes (now (out .entry)) at (moveBytes «session_id» «stream_id» m) ⌝ }
 {
     match m {
-        Move::Greets(id, code) => status_to(id, 0, ObjectNumber(0), code, true),
-        Move::Status(number, code) => status_to(session_id, stream_id, number, code, true),
-        Move::Acknack(p) => Said {
-            any: true,
-            session_id,
-            stream_id,
-            message: Submessage::Acknack(p),
-        },
-        Move::Calls(_, _, _) => status_to(0, 0, ObjectNumber(0), StatusCode::Ok, false),
-        Move::Silent => status_to(0, 0, ObjectNumber(0), StatusCode::Ok, false),
-    }
-}
-
-fn put_said(out: &mut [u8], at: usize, m: Said)
-    ensures { λ _. ⌜ now (out .exit) ≡ putBytes (now (out .entry)) at (saidBytes m) ⌝ }
-{
-    let any = m.any;
-    let message = m.message;
-    if any {
-        let header = MessageHeader {
-            session_id: m.session_id,
-            stream_id: m.stream_id,
-            sequence_nr: 0,
-        };
-        let none = [0u8; 1];
-        write_message(out, at, header, message, &none[0..0]);
+        Move::Greets(id, code) => {
+            put_status(out, at, id, 0, ObjectNumber(0), code);
+        }
+        Move::Status(number, code) => {
+            put_status(out, at, session_id, stream_id, number, code);
+        }
+        Move::Acknack(p) => {
+            put_acknack(out, at, session_id, stream_id, p);
+        }
+        Move::Calls(_, _, _) => {}
+        Move::Silent => {}
     }
 }
 
@@ -97,8 +99,7 @@ pub(crate) fn reply(out: &mut [u8], at: usize, session_id: u8, stream_id: u8, m:
     ensures { λ r. ⌜ (r ≡ at + length (moveBytes «session_id» «stream_id» m))
         × (now (out .exit) ≡ putBytes (now (out .entry)) at (moveBytes «session_id» «stream_id» m)) ⌝ }
 {
-    let s = said_by(session_id, stream_id, m);
-    put_said(out, at, s);
+    put_move(out, at, session_id, stream_id, m);
     at + reply_len(m)
 }
 

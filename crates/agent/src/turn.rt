@@ -1,10 +1,14 @@
 // One submessage of a datagram: read, opened or touched, handled, replied to.
 use crate::clients::Opening;
 use crate::clients::greeting;
+use crate::clients::key_in;
 use crate::clients::opening_of;
 use crate::clients::pointer;
 use crate::moves::Move;
-use crate::objects::handle_object;
+use crate::objects::create;
+use crate::objects::delete;
+use crate::objects::read_data;
+use crate::objects::write_data;
 use crate::proxy::BridgeCall;
 use crate::proxy::Task;
 use crate::replies::reply;
@@ -13,6 +17,8 @@ use codec::layouts::Cursor;
 use codec::layouts::Parsed;
 use codec::layouts::Span;
 use codec::reading::read;
+use codec::submessages::CreatePayload;
+use codec::submessages::ObjectKind;
 use codec::submessages::ObjectNumber;
 use codec::submessages::StatusCode;
 use codec::submessages::StatusPayload;
@@ -29,8 +35,8 @@ ghost use Rattle.codec.specs.Bytes.{putBytes};
 ghost use Rattle.sessions.specs.Table.{namedOf};
 ghost use Rattle.sessions.specs.Opening.{createdOf, openedRows, openedStreams};
 ghost use Rattle.agent.specs.Moves.{moveBytes};
-ghost use Rattle.agent.specs.Rows.{lent, groupOf, handledMove, handledTables};
-ghost use Rattle.agent.specs.Run.{putReplies, settled, stopOf, openingOf, greetingBytes, greeted, passed, delivered, subTurned, isRead, messageRead, bodyRead, endRead, turned};
+ghost use Rattle.agent.specs.Rows.{lent, groupOf, noObject, noCreate, createIn, numberIn, handledMove, handledTables};
+ghost use Rattle.agent.specs.Run.{putReplies, settled, stopOf, greetingBytes, greeted, passed, isLive, delivered, openingRead, messageRead, bodyRead, endRead, turned};
 
 // What a datagram's submessages have in common: the limit, the time, and the header's session and stream.
 pub(crate) struct Frame {
@@ -53,9 +59,12 @@ pub(crate) struct Ran {
     pub stop: Stop,
 }
 
-// Whose tables a submessage is about.
+// What a submessage is about.
 enum Group {
-    Objects,
+    Creates,
+    Deletes,
+    Writes,
+    Reads,
     Streams,
     Neither,
 }
@@ -65,14 +74,62 @@ fn group_of(m: Submessage) -> Group
 {
     match m {
         Submessage::CreateClient(_) => Group::Neither,
-        Submessage::Create(_) => Group::Objects,
-        Submessage::Delete(_) => Group::Objects,
+        Submessage::Create(_) => Group::Creates,
+        Submessage::Delete(_) => Group::Deletes,
         Submessage::Status(_) => Group::Neither,
-        Submessage::WriteData(_) => Group::Objects,
-        Submessage::ReadData(_) => Group::Objects,
+        Submessage::WriteData(_) => Group::Writes,
+        Submessage::ReadData(_) => Group::Reads,
         Submessage::Data(_) => Group::Neither,
         Submessage::Heartbeat(_) => Group::Streams,
         Submessage::Acknack(_) => Group::Streams,
+    }
+}
+
+fn no_object() -> ObjectNumber
+    ensures { λ r. ⌜ r ≡ noObject ⌝ }
+{
+    ObjectNumber(0)
+}
+
+fn no_create() -> CreatePayload
+    ensures { λ r. ⌜ r ≡ noCreate ⌝ }
+{
+    CreatePayload {
+        object_id: ObjectNumber(0),
+        kind: ObjectKind::Participant,
+        parent_id: 0,
+    }
+}
+
+fn create_in(m: Submessage) -> CreatePayload
+    ensures { λ r. ⌜ r ≡ createIn m ⌝ }
+{
+    match m {
+        Submessage::Create(p) => p,
+        Submessage::CreateClient(_) => no_create(),
+        Submessage::Delete(_) => no_create(),
+        Submessage::Status(_) => no_create(),
+        Submessage::WriteData(_) => no_create(),
+        Submessage::ReadData(_) => no_create(),
+        Submessage::Data(_) => no_create(),
+        Submessage::Heartbeat(_) => no_create(),
+        Submessage::Acknack(_) => no_create(),
+    }
+}
+
+fn number_in(m: Submessage) -> ObjectNumber
+    ensures { λ r. ⌜ r ≡ numberIn m ⌝ }
+{
+    match m {
+        Submessage::Delete(p) => p.object_id,
+        Submessage::WriteData(p) => p.writer_id,
+        Submessage::ReadData(p) => p.reader_id,
+        Submessage::CreateClient(_) => no_object(),
+        Submessage::Create(_) => no_object(),
+        Submessage::Status(_) => no_object(),
+        Submessage::Data(_) => no_object(),
+        Submessage::Heartbeat(_) => no_object(),
+        Submessage::Acknack(_) => no_object(),
     }
 }
 
@@ -92,8 +149,13 @@ fn handle(
         × (now (objects .exit) ≡ handledTables m (lent (now (sessions .entry)) (now (streams .entry)) (now (objects .entry))) id n .objects) ⌝ }
 {
     let g = group_of(m);
+    let p = create_in(m);
+    let number = number_in(m);
     match g {
-        Group::Objects => handle_object(sessions, objects, d, id, m, body),
+        Group::Creates => create(sessions, objects, d, id, p, body),
+        Group::Deletes => delete(sessions, objects, id, number),
+        Group::Writes => write_data(sessions, objects, id, number, body),
+        Group::Reads => read_data(sessions, objects, id, number),
         Group::Streams => handle_stream(sessions, streams, id, n, m),
         Group::Neither => Move::Silent,
     }
@@ -161,6 +223,16 @@ fn passed(r: Ran, at: usize) -> Ran
     }
 }
 
+fn is_live(named: Named) -> bool
+    ensures { λ r. ⌜ r ≡ isLive named ⌝ }
+{
+    match named {
+        Named::Live => true,
+        Named::NotLive => false,
+        Named::Refused(_) => false,
+    }
+}
+
 // Any other submessage: "the session is touched first with the datagram's time."
 fn deliver(
     sessions: &mut [SessionRow],
@@ -184,50 +256,22 @@ fn deliver(
     let id = f.session_id;
     let n = f.stream_id;
     let named = touch(sessions, id, f.time);
-    match named {
-        Named::Live => {
-            let v = handle(sessions, streams, objects, d, id, n, m, body);
-            settle(out, f, r.next, r.wrote, v, at)
-        }
-        Named::NotLive => passed(r, at),
-        Named::Refused(_) => passed(r, at),
-    }
-}
-
-fn submessage(
-    sessions: &mut [SessionRow],
-    streams: &mut [StreamRow],
-    objects: &mut [Object],
-    out: &mut [u8],
-    d: &[u8],
-    f: Frame,
-    r: Ran,
-    m: Submessage,
-    body: Span,
-    at: usize,
-) -> Ran
-    requires { ⌜ r .wrote ≤ 18446744073709551600 ⌝ }
-    ensures { λ x. ⌜ (x ≡ subTurned (openingOf m) f (lent (now (sessions .entry)) (now (streams .entry)) (now (objects .entry))) (now (d .entry)) r m body at .ran)
-        × (now (sessions .exit) ≡ subTurned (openingOf m) f (lent (now (sessions .entry)) (now (streams .entry)) (now (objects .entry))) (now (d .entry)) r m body at .tables .sessions)
-        × (now (streams .exit) ≡ subTurned (openingOf m) f (lent (now (sessions .entry)) (now (streams .entry)) (now (objects .entry))) (now (d .entry)) r m body at .tables .streams)
-        × (now (objects .exit) ≡ subTurned (openingOf m) f (lent (now (sessions .entry)) (now (streams .entry)) (now (objects .entry))) (now (d .entry)) r m body at .tables .objects)
-        × (now (out .exit) ≡ putReplies (now (out .entry)) (r .wrote) (subTurned (openingOf m) f (lent (now (sessions .entry)) (now (streams .entry)) (now (objects .entry))) (now (d .entry)) r m body at .replies)) ⌝ }
-{
-    let o = opening_of(m);
-    match o {
-        Opening::Client(key) => greet(sessions, streams, out, f, r, key, at),
-        Opening::Other => deliver(sessions, streams, objects, out, d, f, r, m, body, at),
+    if is_live(named) {
+        let v = handle(sessions, streams, objects, d, id, n, m, body);
+        settle(out, f, r.next, r.wrote, v, at)
+    } else {
+        passed(r, at)
     }
 }
 
 // What was read at a place of the datagram, and where the next one begins. Where no submessage was read a STATUS stands
 // for it, and the next place is the end.
-fn is_read(p: Parsed) -> bool
-    ensures { λ r. ⌜ r ≡ isRead p ⌝ }
+fn opening_read(p: Parsed) -> Opening
+    ensures { λ r. ⌜ r ≡ openingRead p ⌝ }
 {
     match p {
-        Parsed::Sub(_, _, _) => true,
-        Parsed::Refused(_) => false,
+        Parsed::Sub(m, _, _) => opening_of(m),
+        Parsed::Refused(_) => Opening::Unread,
     }
 }
 
@@ -281,11 +325,13 @@ pub(crate) fn turn(
     let c = Cursor { at: r.at };
     let p = read(d, c);
     let at = end_of(p, d.len());
-    if is_read(p) {
-        let m = message_of(p);
-        let body = body_of(p);
-        submessage(sessions, streams, objects, out, d, f, r, m, body, at)
-    } else {
-        passed(r, at)
+    let m = message_of(p);
+    let body = body_of(p);
+    let key = key_in(m);
+    let o = opening_read(p);
+    match o {
+        Opening::Client => greet(sessions, streams, out, f, r, key, at),
+        Opening::Other => deliver(sessions, streams, objects, out, d, f, r, m, body, at),
+        Opening::Unread => passed(r, at),
     }
 }

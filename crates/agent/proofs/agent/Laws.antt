@@ -11,7 +11,7 @@ use Rattle.codec.specs.declared.reading.Checked.the-variants as checked
 use Rattle.codec.specs.declared.refusals.Refusal.the-variants.{OverLimit}
 use Rattle.sessions.specs.Limits.{limitsOf}
 use Rattle.sessions.specs.View.{Tables}
-use Rattle.agent.specs.Host.{Leaves, performed, finish, processedBy, processOf}
+use Rattle.agent.specs.Host.{performed, finish, processedBy, processOf}
 use Rattle.agent.specs.Judge.{turnOf, sessionOf, soundOf, datagramStart, checkedJudged, judgedBy, judgeOf}
 use Rattle.agent.specs.Run.{Turned}
 use Rattle.agent.specs.declared.judge.Input.the-variants.{Datagram}
@@ -43,9 +43,3 @@ module _ (a : Agent) (t : Tables) (out d s u : List ℕ) (time : ℕ) where
   pub any-sample : processOf a t out d s (Datagram time) ≡ processOf a t out d u (Datagram time)
   unfolding processOf judgeOf
   any-sample = turn-any (a .waits)
-
--- all that a call leaves, the replies apart
-pub same-leaves : (x y : Leaves) → x ≡ y
-    → (x .processed ≡ y .processed) × (x .tables .sessions ≡ y .tables .sessions) × (x .tables .streams ≡ y .tables .streams) × (x .tables .objects ≡ y .tables .objects) × (x .out ≡ y .out)
-same-leaves x y e =
-    (ap (λ (l : Leaves). l .processed) e, ap (λ (l : Leaves). l .tables .sessions) e, ap (λ (l : Leaves). l .tables .streams) e, ap (λ (l : Leaves). l .tables .objects) e, ap (λ (l : Leaves). l .out) e)

@@ -58,7 +58,8 @@ use Rattle.agent.specs.Rows.{lent}
 use Rattle.agent.specs.Host.{setUpAs, incomingOf, answerOf, idleOf, removedAs, removedBy, removedRows, sweptBy, sweptRows, sweptOut}
 use Rattle.agent.specs.Host.{outcomeOf, waitsOf, finishedOf, refusedOf, answerMost, firstMost, roomy, neededOf, resumesFit, performed, finish, processOf}
 use denote.Plain.{uint-lawful}
-use Rattle.agent.proofs.agent.Laws.{any-sample, same-leaves}
+use Rattle.agent.proofs.agent.Laws.{any-sample}
+use Rattle.agent.proofs.Thirteen.{same-leaves}
 use Rattle.sessions.specs.declared.objects.Object.{Object}
 use Rattle.sessions.proofs.objects.Object as Object-t
 use Rattle.sessions.proofs.objects.Object.Laws as Object-l

@@ -53,10 +53,10 @@ use borrow.Rule.Slice.PartMut.{midOf, putMid}
 use Rattle.walk.proofs.Parts.{part-len, lends-part, backs-part, parts-shr}
 use Rattle.walk.proofs.Arrays.{rep-is, lends-array, backs-array}
 use Rattle.codec.specs.Bytes.{putBytes}
-use Rattle.sessions.specs.Table.{gotOf}
 use Rattle.agent.specs.Step.{joinedReplies}
 use Rattle.agent.specs.Run.{putReplies}
-use Rattle.agent.specs.Answered.{createdKeeps, keepsOf, createdSays, doneSays, readSays, saysOf, keptSessions, keptObjects, saysFits, saysBytes, answeredBy, answeredSessions, answeredObjects}
+use Rattle.agent.specs.Answered.{createdKeeps, keepsOf, createdSays, doneSays, readSays, saysOf, keptSessions, keptObjects, saysFits, saysBytes}
+use Rattle.agent.specs.Host.{answersNow, keepsBy, saysBy, numberBy, begunBy, begunSessions, begunObjects, resumesFit}
 use Rattle.sessions.specs.SessionObjects.{objectsNamed, usedOf, firstObject, countedSession, keepUsed, foundObject, greatestObject, storedObject, storedObjects, keepStored, removedObjects, keepRemoved}
 use Rattle.sessions.specs.declared.objects.Object.{Object}
 use Rattle.sessions.proofs.objects.Object as Object-t

@@ -54,7 +54,7 @@ use Rattle.walk.proofs.Parts.{part-len, lends-part, backs-part, parts-shr}
 use Rattle.walk.proofs.Arrays.{rep-is, lends-array, backs-array}
 use Rattle.sessions.specs.Limits.{limitsOf}
 use Rattle.agent.specs.Rows.{lent}
-use Rattle.agent.specs.Judge.{answersOf, idleTurn, busyTurn, turnOf, sessionOf, recordSound, soundOf, tooLong, datagramStart, answerStart, datagramJudged, restJudged, answerJudged, judgedBy, judgeOf}
+use Rattle.agent.specs.Judge.{answersOf, idleTurn, busyTurn, turnOf, sessionOf, recordSound, soundOf, tooLong, datagramStart, answerStart, datagramJudged, restJudged, answerJudged, judgedBy, judgeOf, goesOf, noStart, startIn, countIn, refusalIn}
 use Rattle.sessions.specs.Table.{sessionAt}
 use Rattle.sessions.specs.Limits.{limitsFrom}
 use Rattle.agent.proofs.judge.Laws.{judged-whole}

@@ -57,9 +57,11 @@ use Rattle.sessions.specs.SessionObjects.{foundObject, greatestObject, storedOb
 use Rattle.sessions.specs.Room.{roomOf}
 use Rattle.agent.specs.Moves.{writeMove, readMove, deleteMove, topicMove, endpointMove}
 use Rattle.agent.specs.Names.{namesIn}
-use Rattle.agent.specs.Rows.{okMove, createMove, createdSessions, createdObjects, roomMove, roomSessions, roomObjects, objectMove, objectSessions, objectRows}
+use Rattle.agent.specs.Rows.{okMove, createMove, createdSessions, createdObjects, isFree, noRoomMove, roomMove, roomSessions, roomObjects}
 use Rattle.sessions.specs.Table.{sessionAt}
 use Rattle.sessions.specs.Room.{roomFor}
+use types.Kit.{frees, prop}
+use mathlib.Core.Bool.{cond}
 use Rattle.sessions.specs.declared.objects.Object.{Object}
 use Rattle.sessions.proofs.objects.Object as Object-t
 use Rattle.sessions.proofs.objects.Object.Laws as Object-l
@@ -110,10 +112,18 @@ use Rattle.sessions.proofs.room.has_room as room-has-room
 use Rattle.sessions.proofs.room.has_room.Symbol as room-has-room-def
 use Rattle.sessions.proofs.room.has_room.Symbol.{name as #room-has-room}
 use Rattle.sessions.proofs.room.has_room.Met as room-has-room-thm
+use Rattle.agent.proofs.objects.is_free as objects-is-free
+use Rattle.agent.proofs.objects.is_free.Symbol as objects-is-free-def
+use Rattle.agent.proofs.objects.is_free.Symbol.{name as #objects-is-free}
+use Rattle.agent.proofs.objects.is_free.Met as objects-is-free-thm
 use Rattle.agent.proofs.objects.create_kind as objects-create-kind
 use Rattle.agent.proofs.objects.create_kind.Symbol as objects-create-kind-def
 use Rattle.agent.proofs.objects.create_kind.Symbol.{name as #objects-create-kind}
 use Rattle.agent.proofs.objects.create_kind.Met as objects-create-kind-thm
+use Rattle.agent.proofs.objects.no_room_move as objects-no-room-move
+use Rattle.agent.proofs.objects.no_room_move.Symbol as objects-no-room-move-def
+use Rattle.agent.proofs.objects.no_room_move.Symbol.{name as #objects-no-room-move}
+use Rattle.agent.proofs.objects.no_room_move.Met as objects-no-room-move-thm
 use Rattle.agent.proofs.objects.create.Key.{name as #f}
 use Rattle.agent.proofs.objects.create as f
 use Rattle.agent.proofs.objects.create.Statement as stated
@@ -184,8 +194,14 @@ module _ {M : Type 1} (𝓤 : URA M) (H : Heap 𝓤) (A : Atoms 𝓤) (mem : Mem
   abbrev Of-room-has-room : Contract 𝓤
   Of-room-has-room = tripleOf 𝓤 H A room-has-room.signature (room-has-room.spec 𝓤 H A mem run)
 
+  abbrev Of-objects-is-free : Contract 𝓤
+  Of-objects-is-free = tripleOf 𝓤 H A objects-is-free.signature (objects-is-free.spec 𝓤 H A mem run)
+
   abbrev Of-objects-create-kind : Contract 𝓤
   Of-objects-create-kind = tripleOf 𝓤 H A objects-create-kind.signature (objects-create-kind.spec 𝓤 H A mem run)
+
+  abbrev Of-objects-no-room-move : Contract 𝓤
+  Of-objects-no-room-move = tripleOf 𝓤 H A objects-no-room-move.signature (objects-no-room-move.spec 𝓤 H A mem run)
 
 module _ {M : Type 1} (𝓤 : URA M) (H : Heap 𝓤) (A : Atoms 𝓤) (W : Given 𝓤 H A) (mem : Memory → SProp 𝓤) (run : Routine → Fun 𝓤) (κ₁ : Lft) (q₁ : Share) (b₁ o₁ : ℕ) (γ₁ : GName) (sessions : List (List ℕ)) (κ₂ : Lft) (q₂ : Share) (b₂ o₂ : ℕ) (γ₂ : GName) (objects : List Object) (κ₃ : Lft) (q₃ : Share) (b₃ o₃ : ℕ) (γ₃ : GName) (d : List ℕ) (id : ℕ) (p : CreatePayload) (body : Span)
     (room₁ : Room (Array u64 5) (length sessions)) (room₂ : Room Object-t.the-row (length objects)) (room₃ : Room u8 (length d)) (id-is : Is (u8-p .row) id (u8-p .val id ∷ [])) (p-is : Is (CreatePayload-p .row) p (CreatePayload-p .val p ∷ [])) (body-is : Is (Span-p .row) body (Span-p .val body ∷ [])) where
@@ -207,6 +223,18 @@ module _ {M : Type 1} (𝓤 : URA M) (H : Heap 𝓤) (A : Atoms 𝓤) (W : Given
   abbrev Post : Val → SProp 𝓤
   Post = walkOf 𝓤 H A f.ended stayed (f.clauses 𝓤 H A mem run) .post (((κ₁, (κ₂, (κ₃, tt))), (q₁, (q₂, (q₃, tt))), tt, x, at), tt)
 
+  abbrev room : Room′
+  room = roomOf sessions objects id (p .«object_id»)
+
+  abbrev moved : Bool → Move
+  moved b = cond b (createMove (p .kind) sessions objects d id p body) (noRoomMove (p .«object_id») room)
+
+  abbrev sessions-left : Bool → List (List ℕ)
+  sessions-left b = cond b (createdSessions (p .kind) sessions objects id (p .«object_id»)) sessions
+
+  abbrev objects-left : Bool → List Object
+  objects-left b = cond b (createdObjects (p .kind) sessions objects id (p .«object_id»)) objects
+
   exits : (r : Move) (ws₁ : List (List ℕ)) (ws₂ : List Object) → ((r ≡ roomMove (roomOf (sessions) (objects) id (p .«object_id»)) (sessions) (objects) (d) id p body) × (ws₁ ≡ roomSessions (roomOf (sessions) (objects) id (p .«object_id»)) (sessions) (objects) id p) × (ws₂ ≡ roomObjects (roomOf (sessions) (objects) id (p .«object_id»)) (sessions) (objects) id p)) → Is (Move-p .row) r (Move-p .val r ∷ []) → length ws₁ ≡ n₁ → length ws₂ ≡ n₂ → ent 𝓤 (⋆ 𝓤 H A (‵ (MutSlice (named 0) κ₁ (Array u64 5) .own (at-list b₁ o₁ γ₁ ws₁) (sliceVal (b₁, o₁) n₁ ∷ [])) ∷ ‵ (flft κ₁ q₁) ∷ ‵ (MutSlice (named 1) κ₂ Object-t.the-row .own (at-list b₂ o₂ γ₂ ws₂) (sliceVal (b₂, o₂) n₂ ∷ [])) ∷ ‵ (flft κ₂ q₂) ∷ ‵ (ShrSlice (named 2) κ₃ u8 .own (at-list b₃ o₃ γ₃ d) (sliceVal (b₃, o₃) n₃ ∷ [])) ∷ ‵ (flft κ₃ q₃) ∷ [])) (Post (Move-p .val r))
   exits r ws₁ ws₂ said r-is len₁ len₂ =
       qed W (‵ (MutSlice (named 0) κ₁ (Array u64 5) .own (at-list b₁ o₁ γ₁ ws₁) (sliceVal (b₁, o₁) n₁ ∷ [])) ∷ ‵ (flft κ₁ q₁) ∷ ‵ (MutSlice (named 1) κ₂ Object-t.the-row .own (at-list b₂ o₂ γ₂ ws₂) (sliceVal (b₂, o₂) n₂ ∷ [])) ∷ ‵ (flft κ₂ q₂) ∷ ‵ (ShrSlice (named 2) κ₃ u8 .own (at-list b₃ o₃ γ₃ d) (sliceVal (b₃, o₃) n₃ ∷ [])) ∷ ‵ (flft κ₃ q₃) ∷ []) ∵
@@ -218,7 +246,7 @@ module _ {M : Type 1} (𝓤 : URA M) (H : Heap 𝓤) (A : Atoms 𝓤) (W : Given
       frame ! $
       owned ! (Move-p .row) (Is (Move-p .row)) (Move-p .makes 𝓤 H A W) r _ r-is $ done !
 
-  module _ (𝓣 : Tables 𝓤 H) (known-room-has-room : Triple 𝓤 (𝓣 .C #room-has-room) (Of-room-has-room 𝓤 H A mem run)) (known-objects-create-kind : Triple 𝓤 (𝓣 .C #objects-create-kind) (Of-objects-create-kind 𝓤 H A mem run)) (l₀ l₁ l₂ l₃ l₄ l₅ l₆ l₇ l₈ l₉ l₁₀ l₁₁ l₁₂ l₁₃ l₁₄ l₁₅ l₁₆ l₁₇ l₁₈ : ℕ) where
+  module _ (𝓣 : Tables 𝓤 H) (known-room-has-room : Triple 𝓤 (𝓣 .C #room-has-room) (Of-room-has-room 𝓤 H A mem run)) (known-objects-is-free : Triple 𝓤 (𝓣 .C #objects-is-free) (Of-objects-is-free 𝓤 H A mem run)) (known-objects-create-kind : Triple 𝓤 (𝓣 .C #objects-create-kind) (Of-objects-create-kind 𝓤 H A mem run)) (known-objects-no-room-move : Triple 𝓤 (𝓣 .C #objects-no-room-move) (Of-objects-no-room-move 𝓤 H A mem run)) (l₀ l₁ l₂ l₃ l₄ l₅ l₆ l₇ l₈ l₉ l₁₀ l₁₁ l₁₂ l₁₃ l₁₄ l₁₅ l₁₆ l₁₇ l₁₈ : ℕ) where
     abbrev C : Calls 𝓤 H
     C = 𝓣 .C
 
@@ -229,65 +257,83 @@ module _ {M : Type 1} (𝓤 : URA M) (H : Heap 𝓤) (A : Atoms 𝓤) (W : Given
     fm = fmOf 𝓤 H (W .laws) 𝓣
 
     abbrev En : Env 𝓤 H
-    En = (Move-l.mir, l₀) ∷ ((sliceTy (tyRef (named 0) mut (pointee ((Array u64 5) .written)))), l₁) ∷ ((sliceTy (tyRef (named 1) mut (pointee (Object-t.the-row .written)))), l₂) ∷ ((sliceTy (tyRef (named 2) imm (pointee (u8 .written)))), l₃) ∷ ((tyInt w8), l₄) ∷ (CreatePayload-l.mir, l₅) ∷ (Span-l.mir, l₆) ∷ (ObjectNumber-l.mir, l₇) ∷ (Room′-l.mir, l₈) ∷ ((tyRef erased imm (pointee ((Array u64 5) .written))), l₉) ∷ ((sliceTy (tyRef erased imm (pointee ((Array u64 5) .written)))), l₁₀) ∷ ((tyRef erased imm (pointee (Object-t.the-row .written))), l₁₁) ∷ ((sliceTy (tyRef erased imm (pointee (Object-t.the-row .written)))), l₁₂) ∷ (Move-l.mir, l₁₃) ∷ ((tyRef erased mut (pointee ((Array u64 5) .written))), l₁₄) ∷ ((sliceTy (tyRef erased mut (pointee ((Array u64 5) .written)))), l₁₅) ∷ ((tyRef erased mut (pointee (Object-t.the-row .written))), l₁₆) ∷ ((sliceTy (tyRef erased mut (pointee (Object-t.the-row .written)))), l₁₇) ∷ (StatusCode-l.mir, l₁₈) ∷ []
+    En = (Move-l.mir, l₀) ∷ ((sliceTy (tyRef (named 0) mut (pointee ((Array u64 5) .written)))), l₁) ∷ ((sliceTy (tyRef (named 1) mut (pointee (Object-t.the-row .written)))), l₂) ∷ ((sliceTy (tyRef (named 2) imm (pointee (u8 .written)))), l₃) ∷ ((tyInt w8), l₄) ∷ (CreatePayload-l.mir, l₅) ∷ (Span-l.mir, l₆) ∷ (ObjectNumber-l.mir, l₇) ∷ (Room′-l.mir, l₈) ∷ ((tyRef erased imm (pointee ((Array u64 5) .written))), l₉) ∷ ((sliceTy (tyRef erased imm (pointee ((Array u64 5) .written)))), l₁₀) ∷ ((tyRef erased imm (pointee (Object-t.the-row .written))), l₁₁) ∷ ((sliceTy (tyRef erased imm (pointee (Object-t.the-row .written)))), l₁₂) ∷ (tyBool, l₁₃) ∷ (Move-l.mir, l₁₄) ∷ ((tyRef erased mut (pointee ((Array u64 5) .written))), l₁₅) ∷ ((sliceTy (tyRef erased mut (pointee ((Array u64 5) .written)))), l₁₆) ∷ ((tyRef erased mut (pointee (Object-t.the-row .written))), l₁₇) ∷ ((sliceTy (tyRef erased mut (pointee (Object-t.the-row .written)))), l₁₈) ∷ []
 
-    matched-7-0 : (is-6 : Is (Room′-p .row) (roomOf (sessions) (objects) id (p .«object_id»)) (Room′-p .val (roomOf (sessions) (objects) id (p .«object_id»)) ∷ [])) → (z : Room′) → (roomOf (sessions) (objects) id (p .«object_id»)) ≡ z → Is (Room′-p .row) z (Room′-p .val z ∷ []) → Sq W (‵ (MutSlice (named 0) κ₁ (Array u64 5) .own (at-list b₁ o₁ γ₁ sessions) (sliceVal (b₁, o₁) n₁ ∷ [])) ∷ ‵ (flft κ₁ q₁) ∷ ‵ (MutSlice (named 0) κ₂ Object-t.the-row .own (at-list b₂ o₂ γ₂ objects) (sliceVal (b₂, o₂) n₂ ∷ [])) ∷ ‵ (flft κ₂ q₂) ∷ ‵ (ShrSlice (named 0) κ₃ u8 .own (at-list b₃ o₃ γ₃ d) (sliceVal (b₃, o₃) n₃ ∷ [])) ∷ ‵ (flft κ₃ q₃) ∷ free 𝓤 StatusCode-l.mir l₁₈ (free 𝓤 (sliceTy (tyRef erased mut (pointee (Object-t.the-row .written)))) l₁₇ (free 𝓤 (tyRef erased mut (pointee (Object-t.the-row .written))) l₁₆ (free 𝓤 (sliceTy (tyRef erased mut (pointee ((Array u64 5) .written)))) l₁₅ (free 𝓤 (tyRef erased mut (pointee ((Array u64 5) .written))) l₁₄ (free 𝓤 Move-l.mir l₁₃ (full 𝓤 (sliceTy (tyRef erased imm (pointee (Object-t.the-row .written)))) l₁₂ (sliceVal (b₂, o₂) n₂) (full 𝓤 (tyRef erased imm (pointee (Object-t.the-row .written))) l₁₁ (vptr b₂ o₂) (full 𝓤 (sliceTy (tyRef erased imm (pointee ((Array u64 5) .written)))) l₁₀ (sliceVal (b₁, o₁) n₁) (full 𝓤 (tyRef erased imm (pointee ((Array u64 5) .written))) l₉ (vptr b₁ o₁) (full 𝓤 Room′-l.mir l₈ (Room′-p .val z) (full 𝓤 ObjectNumber-l.mir l₇ (ObjectNumber-p .val (p .«object_id»)) (full 𝓤 Span-l.mir l₆ (Span-p .val body) (full 𝓤 CreatePayload-l.mir l₅ (CreatePayload-p .val p) (full 𝓤 (tyInt w8) l₄ (u8-p .val id) (full 𝓤 (sliceTy (tyRef (named 2) imm (pointee (u8 .written)))) l₃ (sliceVal (b₃, o₃) n₃) (full 𝓤 (sliceTy (tyRef (named 1) mut (pointee (Object-t.the-row .written)))) l₂ (sliceVal (b₂, o₂) n₂) (full 𝓤 (sliceTy (tyRef (named 0) mut (pointee ((Array u64 5) .written)))) l₁ (sliceVal (b₁, o₁) n₁) (free 𝓤 Move-l.mir l₀ ([])))))))))))))))))))) (runs C Λ En (one mir.t-7) (anyQ (afterSeq 𝓤 H (Wp 𝓤 H C Λ En mir.t-8 (atReturn 𝓤 H En Post)) (atReturn 𝓤 H En Post))))
-    matched-7-0 is-6 (Room′-Free) e-7 good-7 =
-        switches-on ! (load ! (from ! (vrt ! refl (fld ! refl (stop !)))) (look-tag ! 26 (whole !))) $ exec ! C Λ En (arm-of 0 (one mir.t-7)) (anyQ (afterSeq 𝓤 H (Wp 𝓤 H C Λ En mir.t-8 (atReturn 𝓤 H En Post)) (atReturn 𝓤 H En Post))) $
-        assigns ! (addr ! (from ! (fld ! refl (hop ! (look-in ! 40 (sub ! 0 refl (whole !))) (stop !))))) (from ! (stop !)) (init ! 14 refl (tt, tt)) $
-        assigns ! (agg ! (and-then ! (load ! (from ! (stop !)) (look ! 14 refl)) (and-then ! (load ! (from ! (fld ! refl (stop !))) (look-in ! 40 (sub ! 1 refl (whole !)))) (no-more !)))) (from ! (stop !)) (init ! 12 refl (tt, (tt, (record { fits = room₁ .0 }, tt)))) $
-        assigns ! (addr ! (from ! (fld ! refl (hop ! (look-in ! 38 (sub ! 0 refl (whole !))) (stop !))))) (from ! (stop !)) (init ! 10 refl (tt, tt)) $
-        assigns ! (agg ! (and-then ! (load ! (from ! (stop !)) (look ! 10 refl)) (and-then ! (load ! (from ! (fld ! refl (stop !))) (look-in ! 38 (sub ! 1 refl (whole !)))) (no-more !)))) (from ! (stop !)) (init ! 8 refl (tt, (tt, (record { fits = room₂ .0 }, tt)))) $
-        -- 7.Free.5: agent::objects::create_kind
-        lends-mut ! tt (Array u64 5) b₁ o₁ sessions n₁ (refl) (λ ν-7·Free·5-sessions δ-7·Free·5-sessions.
+    frees-all : (r : Move) (ws₁ : List (List ℕ)) (ws₂ : List Object) → ent 𝓤 (⋆ 𝓤 H A (‵ (MutSlice (named 0) κ₁ (Array u64 5) .own (at-list b₁ o₁ γ₁ ws₁) (sliceVal (b₁, o₁) n₁ ∷ [])) ∷ ‵ (flft κ₁ q₁) ∷ ‵ (MutSlice (named 1) κ₂ Object-t.the-row .own (at-list b₂ o₂ γ₂ ws₂) (sliceVal (b₂, o₂) n₂ ∷ [])) ∷ ‵ (flft κ₂ q₂) ∷ ‵ (ShrSlice (named 2) κ₃ u8 .own (at-list b₃ o₃ γ₃ d) (sliceVal (b₃, o₃) n₃ ∷ [])) ∷ ‵ (flft κ₃ q₃) ∷ [])) (Post (Move-p .val r)) → Sq W (‵ (MutSlice (named 0) κ₁ (Array u64 5) .own (at-list b₁ o₁ γ₁ ws₁) (sliceVal (b₁, o₁) n₁ ∷ [])) ∷ ‵ (flft κ₁ q₁) ∷ ‵ (MutSlice (named 0) κ₂ Object-t.the-row .own (at-list b₂ o₂ γ₂ ws₂) (sliceVal (b₂, o₂) n₂ ∷ [])) ∷ ‵ (flft κ₂ q₂) ∷ ‵ (ShrSlice (named 0) κ₃ u8 .own (at-list b₃ o₃ γ₃ d) (sliceVal (b₃, o₃) n₃ ∷ [])) ∷ ‵ (flft κ₃ q₃) ∷ free 𝓤 (sliceTy (tyRef erased mut (pointee (Object-t.the-row .written)))) l₁₈ (free 𝓤 (tyRef erased mut (pointee (Object-t.the-row .written))) l₁₇ (free 𝓤 (sliceTy (tyRef erased mut (pointee ((Array u64 5) .written)))) l₁₆ (free 𝓤 (tyRef erased mut (pointee ((Array u64 5) .written))) l₁₅ (free 𝓤 Move-l.mir l₁₄ (free 𝓤 tyBool l₁₃ (free 𝓤 (sliceTy (tyRef erased imm (pointee (Object-t.the-row .written)))) l₁₂ (free 𝓤 (tyRef erased imm (pointee (Object-t.the-row .written))) l₁₁ (free 𝓤 (sliceTy (tyRef erased imm (pointee ((Array u64 5) .written)))) l₁₀ (free 𝓤 (tyRef erased imm (pointee ((Array u64 5) .written))) l₉ (free 𝓤 Room′-l.mir l₈ (free 𝓤 ObjectNumber-l.mir l₇ (full 𝓤 Span-l.mir l₆ (Span-p .val body) (full 𝓤 CreatePayload-l.mir l₅ (CreatePayload-p .val p) (full 𝓤 (tyInt w8) l₄ (u8-p .val id) (full 𝓤 (sliceTy (tyRef (named 2) imm (pointee (u8 .written)))) l₃ (sliceVal (b₃, o₃) n₃) (full 𝓤 (sliceTy (tyRef (named 1) mut (pointee (Object-t.the-row .written)))) l₂ (sliceVal (b₂, o₂) n₂) (full 𝓤 (sliceTy (tyRef (named 0) mut (pointee ((Array u64 5) .written)))) l₁ (sliceVal (b₁, o₁) n₁) (full 𝓤 Move-l.mir l₀ (Move-p .val r) ([])))))))))))))))))))) (frees En (prop (Post (Move-p .val r))))
+    frees-all r ws₁ ws₂ ends =
+        forget ! 30 refl $ forget ! 32 refl $ forget ! 34 refl $ forget ! 36 refl $ forget ! 38 refl $ forget ! 40 refl $ forget ! 42 refl $ move ! (42 ∷ 43 ∷ []) $ free1 ! $ move ! (40 ∷ 41 ∷ []) $ free1 ! $ move ! (38 ∷ 39 ∷ []) $ free1 ! $ move ! (36 ∷ 37 ∷ []) $ free1 ! $ move ! (34 ∷ 35 ∷ []) $ free1 ! $ move ! (32 ∷ 33 ∷ []) $ free1 ! $ move ! (30 ∷ 31 ∷ []) $ free1 ! $ move ! (28 ∷ 29 ∷ []) $ free1 ! $ move ! (26 ∷ 27 ∷ []) $ free1 ! $ move ! (24 ∷ 25 ∷ []) $ free1 ! $ move ! (22 ∷ 23 ∷ []) $ free1 ! $ move ! (20 ∷ 21 ∷ []) $ free1 ! $ move ! (18 ∷ 19 ∷ []) $ free1 ! $ move ! (16 ∷ 17 ∷ []) $ free1 ! $ move ! (14 ∷ 15 ∷ []) $ free1 ! $ move ! (12 ∷ 13 ∷ []) $ free1 ! $ move ! (10 ∷ 11 ∷ []) $ free1 ! $ move ! (8 ∷ 9 ∷ []) $ free1 ! $ move ! (6 ∷ 7 ∷ []) $ free1 ! $ free0 ! $
+        by ! ends
+
+    part-9-0 : (is-6 : Is (Room′-p .row) (roomOf (sessions) (objects) id (p .«object_id»)) (Room′-p .val (roomOf (sessions) (objects) id (p .«object_id»)) ∷ [])) → (is-7 : Is (bool-p .row) (isFree (roomOf (sessions) (objects) id (p .«object_id»))) (bool-p .val (isFree (roomOf (sessions) (objects) id (p .«object_id»))) ∷ [])) → (c-8 : isFree (roomOf (sessions) (objects) id (p .«object_id»)) ≡ true) → (len-8·yes·5-sessions : length (createdSessions (p .kind) (sessions) (objects) id (p .«object_id»)) ≡ n₁) → (len-8·yes·5-objects : length (createdObjects (p .kind) (sessions) (objects) id (p .«object_id»)) ≡ n₂) → (is-8·yes·5 : Is (Move-p .row) (createMove (p .kind) (sessions) (objects) (d) id p body) (Move-p .val (createMove (p .kind) (sessions) (objects) (d) id p body) ∷ [])) → Sq W (‵ (MutSlice (named 0) κ₁ (Array u64 5) .own (at-list b₁ o₁ γ₁ (createdSessions (p .kind) (sessions) (objects) id (p .«object_id»))) (sliceVal (b₁, o₁) n₁ ∷ [])) ∷ ‵ (flft κ₁ q₁) ∷ ‵ (MutSlice (named 0) κ₂ Object-t.the-row .own (at-list b₂ o₂ γ₂ (createdObjects (p .kind) (sessions) (objects) id (p .«object_id»))) (sliceVal (b₂, o₂) n₂ ∷ [])) ∷ ‵ (flft κ₂ q₂) ∷ ‵ (ShrSlice (named 0) κ₃ u8 .own (at-list b₃ o₃ γ₃ d) (sliceVal (b₃, o₃) n₃ ∷ [])) ∷ ‵ (flft κ₃ q₃) ∷ full 𝓤 (sliceTy (tyRef erased mut (pointee (Object-t.the-row .written)))) l₁₈ (sliceVal (b₂, o₂) n₂) (full 𝓤 (tyRef erased mut (pointee (Object-t.the-row .written))) l₁₇ (vptr b₂ o₂) (full 𝓤 (sliceTy (tyRef erased mut (pointee ((Array u64 5) .written)))) l₁₆ (sliceVal (b₁, o₁) n₁) (full 𝓤 (tyRef erased mut (pointee ((Array u64 5) .written))) l₁₅ (vptr b₁ o₁) (full 𝓤 Move-l.mir l₁₄ (Move-p .val (createMove (p .kind) (sessions) (objects) (d) id p body)) (full 𝓤 tyBool l₁₃ (bool-p .val (isFree (roomOf (sessions) (objects) id (p .«object_id»)))) (full 𝓤 (sliceTy (tyRef erased imm (pointee (Object-t.the-row .written)))) l₁₂ (sliceVal (b₂, o₂) n₂) (full 𝓤 (tyRef erased imm (pointee (Object-t.the-row .written))) l₁₁ (vptr b₂ o₂) (full 𝓤 (sliceTy (tyRef erased imm (pointee ((Array u64 5) .written)))) l₁₀ (sliceVal (b₁, o₁) n₁) (full 𝓤 (tyRef erased imm (pointee ((Array u64 5) .written))) l₉ (vptr b₁ o₁) (full 𝓤 Room′-l.mir l₈ (Room′-p .val (roomOf (sessions) (objects) id (p .«object_id»))) (full 𝓤 ObjectNumber-l.mir l₇ (ObjectNumber-p .val (p .«object_id»)) (full 𝓤 Span-l.mir l₆ (Span-p .val body) (full 𝓤 CreatePayload-l.mir l₅ (CreatePayload-p .val p) (full 𝓤 (tyInt w8) l₄ (u8-p .val id) (full 𝓤 (sliceTy (tyRef (named 2) imm (pointee (u8 .written)))) l₃ (sliceVal (b₃, o₃) n₃) (full 𝓤 (sliceTy (tyRef (named 1) mut (pointee (Object-t.the-row .written)))) l₂ (sliceVal (b₂, o₂) n₂) (full 𝓤 (sliceTy (tyRef (named 0) mut (pointee ((Array u64 5) .written)))) l₁ (sliceVal (b₁, o₁) n₁) (free 𝓤 Move-l.mir l₀ ([])))))))))))))))))))) (runs C Λ En mir.t-9 (atRet En Post))
+    part-9-0 is-6 is-7 c-8 len-8·yes·5-sessions len-8·yes·5-objects is-8·yes·5 =
+        assigns ! (of-opd ! (load ! (from ! (stop !)) (look ! 14 refl))) (from ! (stop !)) (init ! 42 refl (Move-p .typed 𝓤 H A W (createMove (p .kind) (sessions) (objects) (d) id p body) is-8·yes·5)) $
+        returns ! (look ! 42 refl) $ forget ! 6 refl $ forget ! 8 refl $ forget ! 10 refl $ forget ! 12 refl $ forget ! 14 refl $ forget ! 16 refl $ forget ! 18 refl $ forget ! 20 refl $ forget ! 22 refl $ forget ! 24 refl $ forget ! 26 refl $ forget ! 28 refl $
+        frees-all (createMove (p .kind) (sessions) (objects) (d) id p body) (createdSessions (p .kind) (sessions) (objects) id (p .«object_id»)) (createdObjects (p .kind) (sessions) (objects) id (p .«object_id»)) (exits (createMove (p .kind) (sessions) (objects) (d) id p body) (createdSessions (p .kind) (sessions) (objects) id (p .«object_id»)) (createdObjects (p .kind) (sessions) (objects) id (p .«object_id»)) ((if-true moved _ c-8, if-true sessions-left _ c-8, if-true objects-left _ c-8)) is-8·yes·5 len-8·yes·5-sessions len-8·yes·5-objects)
+
+    part-9-2 : (is-6 : Is (Room′-p .row) (roomOf (sessions) (objects) id (p .«object_id»)) (Room′-p .val (roomOf (sessions) (objects) id (p .«object_id»)) ∷ [])) → (is-7 : Is (bool-p .row) (isFree (roomOf (sessions) (objects) id (p .«object_id»))) (bool-p .val (isFree (roomOf (sessions) (objects) id (p .«object_id»))) ∷ [])) → (c-8 : isFree (roomOf (sessions) (objects) id (p .«object_id»)) ≡ false) → (is-8·no·1 : Is (Move-p .row) (noRoomMove (p .«object_id») (roomOf (sessions) (objects) id (p .«object_id»))) (Move-p .val (noRoomMove (p .«object_id») (roomOf (sessions) (objects) id (p .«object_id»))) ∷ [])) → Sq W (‵ (MutSlice (named 0) κ₁ (Array u64 5) .own (at-list b₁ o₁ γ₁ sessions) (sliceVal (b₁, o₁) n₁ ∷ [])) ∷ ‵ (flft κ₁ q₁) ∷ ‵ (MutSlice (named 0) κ₂ Object-t.the-row .own (at-list b₂ o₂ γ₂ objects) (sliceVal (b₂, o₂) n₂ ∷ [])) ∷ ‵ (flft κ₂ q₂) ∷ ‵ (ShrSlice (named 0) κ₃ u8 .own (at-list b₃ o₃ γ₃ d) (sliceVal (b₃, o₃) n₃ ∷ [])) ∷ ‵ (flft κ₃ q₃) ∷ free 𝓤 (sliceTy (tyRef erased mut (pointee (Object-t.the-row .written)))) l₁₈ (free 𝓤 (tyRef erased mut (pointee (Object-t.the-row .written))) l₁₇ (free 𝓤 (sliceTy (tyRef erased mut (pointee ((Array u64 5) .written)))) l₁₆ (free 𝓤 (tyRef erased mut (pointee ((Array u64 5) .written))) l₁₅ (full 𝓤 Move-l.mir l₁₄ (Move-p .val (noRoomMove (p .«object_id») (roomOf (sessions) (objects) id (p .«object_id»)))) (full 𝓤 tyBool l₁₃ (bool-p .val (isFree (roomOf (sessions) (objects) id (p .«object_id»)))) (full 𝓤 (sliceTy (tyRef erased imm (pointee (Object-t.the-row .written)))) l₁₂ (sliceVal (b₂, o₂) n₂) (full 𝓤 (tyRef erased imm (pointee (Object-t.the-row .written))) l₁₁ (vptr b₂ o₂) (full 𝓤 (sliceTy (tyRef erased imm (pointee ((Array u64 5) .written)))) l₁₀ (sliceVal (b₁, o₁) n₁) (full 𝓤 (tyRef erased imm (pointee ((Array u64 5) .written))) l₉ (vptr b₁ o₁) (full 𝓤 Room′-l.mir l₈ (Room′-p .val (roomOf (sessions) (objects) id (p .«object_id»))) (full 𝓤 ObjectNumber-l.mir l₇ (ObjectNumber-p .val (p .«object_id»)) (full 𝓤 Span-l.mir l₆ (Span-p .val body) (full 𝓤 CreatePayload-l.mir l₅ (CreatePayload-p .val p) (full 𝓤 (tyInt w8) l₄ (u8-p .val id) (full 𝓤 (sliceTy (tyRef (named 2) imm (pointee (u8 .written)))) l₃ (sliceVal (b₃, o₃) n₃) (full 𝓤 (sliceTy (tyRef (named 1) mut (pointee (Object-t.the-row .written)))) l₂ (sliceVal (b₂, o₂) n₂) (full 𝓤 (sliceTy (tyRef (named 0) mut (pointee ((Array u64 5) .written)))) l₁ (sliceVal (b₁, o₁) n₁) (free 𝓤 Move-l.mir l₀ ([])))))))))))))))))))) (runs C Λ En mir.t-9 (atRet En Post))
+    part-9-2 is-6 is-7 c-8 is-8·no·1 =
+        assigns ! (of-opd ! (load ! (from ! (stop !)) (look ! 14 refl))) (from ! (stop !)) (init ! 42 refl (Move-p .typed 𝓤 H A W (noRoomMove (p .«object_id») (roomOf (sessions) (objects) id (p .«object_id»))) is-8·no·1)) $
+        returns ! (look ! 42 refl) $ forget ! 14 refl $ forget ! 16 refl $ forget ! 18 refl $ forget ! 20 refl $ forget ! 22 refl $ forget ! 24 refl $ forget ! 26 refl $ forget ! 28 refl $
+        frees-all (noRoomMove (p .«object_id») (roomOf (sessions) (objects) id (p .«object_id»))) sessions objects (exits (noRoomMove (p .«object_id») (roomOf (sessions) (objects) id (p .«object_id»))) sessions objects ((if-false moved _ c-8, if-false sessions-left _ c-8, if-false objects-left _ c-8)) is-8·no·1 refl refl)
+
+    part-8-0 : (is-6 : Is (Room′-p .row) (roomOf (sessions) (objects) id (p .«object_id»)) (Room′-p .val (roomOf (sessions) (objects) id (p .«object_id»)) ∷ [])) → (is-7 : Is (bool-p .row) (isFree (roomOf (sessions) (objects) id (p .«object_id»))) (bool-p .val (isFree (roomOf (sessions) (objects) id (p .«object_id»))) ∷ [])) → Sq W (‵ (MutSlice (named 0) κ₁ (Array u64 5) .own (at-list b₁ o₁ γ₁ sessions) (sliceVal (b₁, o₁) n₁ ∷ [])) ∷ ‵ (flft κ₁ q₁) ∷ ‵ (MutSlice (named 0) κ₂ Object-t.the-row .own (at-list b₂ o₂ γ₂ objects) (sliceVal (b₂, o₂) n₂ ∷ [])) ∷ ‵ (flft κ₂ q₂) ∷ ‵ (ShrSlice (named 0) κ₃ u8 .own (at-list b₃ o₃ γ₃ d) (sliceVal (b₃, o₃) n₃ ∷ [])) ∷ ‵ (flft κ₃ q₃) ∷ free 𝓤 (sliceTy (tyRef erased mut (pointee (Object-t.the-row .written)))) l₁₈ (free 𝓤 (tyRef erased mut (pointee (Object-t.the-row .written))) l₁₇ (free 𝓤 (sliceTy (tyRef erased mut (pointee ((Array u64 5) .written)))) l₁₆ (free 𝓤 (tyRef erased mut (pointee ((Array u64 5) .written))) l₁₅ (free 𝓤 Move-l.mir l₁₄ (full 𝓤 tyBool l₁₃ (bool-p .val (isFree (roomOf (sessions) (objects) id (p .«object_id»)))) (full 𝓤 (sliceTy (tyRef erased imm (pointee (Object-t.the-row .written)))) l₁₂ (sliceVal (b₂, o₂) n₂) (full 𝓤 (tyRef erased imm (pointee (Object-t.the-row .written))) l₁₁ (vptr b₂ o₂) (full 𝓤 (sliceTy (tyRef erased imm (pointee ((Array u64 5) .written)))) l₁₀ (sliceVal (b₁, o₁) n₁) (full 𝓤 (tyRef erased imm (pointee ((Array u64 5) .written))) l₉ (vptr b₁ o₁) (full 𝓤 Room′-l.mir l₈ (Room′-p .val (roomOf (sessions) (objects) id (p .«object_id»))) (full 𝓤 ObjectNumber-l.mir l₇ (ObjectNumber-p .val (p .«object_id»)) (full 𝓤 Span-l.mir l₆ (Span-p .val body) (full 𝓤 CreatePayload-l.mir l₅ (CreatePayload-p .val p) (full 𝓤 (tyInt w8) l₄ (u8-p .val id) (full 𝓤 (sliceTy (tyRef (named 2) imm (pointee (u8 .written)))) l₃ (sliceVal (b₃, o₃) n₃) (full 𝓤 (sliceTy (tyRef (named 1) mut (pointee (Object-t.the-row .written)))) l₂ (sliceVal (b₂, o₂) n₂) (full 𝓤 (sliceTy (tyRef (named 0) mut (pointee ((Array u64 5) .written)))) l₁ (sliceVal (b₁, o₁) n₁) (free 𝓤 Move-l.mir l₀ ([])))))))))))))))))))) (runs C Λ En mir.t-8 (atRet En Post))
+    part-8-0 is-6 is-7 =
+        first ! $
+        branches ! (load ! (from ! (stop !)) (look ! 16 refl))
+        (λ h-8.
+        knows ! (isFree (roomOf (sessions) (objects) id (p .«object_id»)) ≡ true) (holds (isFree (roomOf (sessions) (objects) id (p .«object_id»))) h-8) (λ c-8.
+        assigns ! (addr ! (from ! (fld ! refl (hop ! (look-in ! 40 (sub ! 0 refl (whole !))) (stop !))))) (from ! (stop !)) (init ! 12 refl (tt, tt)) $
+        assigns ! (agg ! (and-then ! (load ! (from ! (stop !)) (look ! 12 refl)) (and-then ! (load ! (from ! (fld ! refl (stop !))) (look-in ! 40 (sub ! 1 refl (whole !)))) (no-more !)))) (from ! (stop !)) (init ! 10 refl (tt, (tt, (record { fits = room₁ .0 }, tt)))) $
+        assigns ! (addr ! (from ! (fld ! refl (hop ! (look-in ! 38 (sub ! 0 refl (whole !))) (stop !))))) (from ! (stop !)) (init ! 8 refl (tt, tt)) $
+        assigns ! (agg ! (and-then ! (load ! (from ! (stop !)) (look ! 8 refl)) (and-then ! (load ! (from ! (fld ! refl (stop !))) (look-in ! 38 (sub ! 1 refl (whole !)))) (no-more !)))) (from ! (stop !)) (init ! 6 refl (tt, (tt, (record { fits = room₂ .0 }, tt)))) $
+        -- 8.yes.5: agent::objects::create_kind
+        lends-mut ! tt (Array u64 5) b₁ o₁ sessions n₁ (refl) (λ ν-8·yes·5-sessions δ-8·yes·5-sessions.
         move ! (3 ∷ 4 ∷ []) $
-        lends-mut ! tt Object-t.the-row b₂ o₂ objects n₂ (refl) (λ ν-7·Free·5-objects δ-7·Free·5-objects.
+        lends-mut ! tt Object-t.the-row b₂ o₂ objects n₂ (refl) (λ ν-8·yes·5-objects δ-8·yes·5-objects.
         move ! (6 ∷ 7 ∷ []) $
         copies-shr ! u8 b₃ o₃ d n₃ $ nothing ! $ move ! (1 ∷ 0 ∷ []) $ join ! $ move ! (3 ∷ 0 ∷ []) $ join ! $ move ! (5 ∷ 0 ∷ []) $ join ! $
-        use1 W (raw (toks 𝓤 A 3 (((ν-7·Free·5-sessions ∷ []), ((ν-7·Free·5-objects ∷ []), (κ₃, tt)))) ((fullShare, (fullShare, (q₃, tt)))))) (id⊢ 𝓤 _) $ nothing ! $
+        use1 W (raw (toks 𝓤 A 3 (((ν-8·yes·5-sessions ∷ []), ((ν-8·yes·5-objects ∷ []), (κ₃, tt)))) ((fullShare, (fullShare, (q₃, tt)))))) (id⊢ 𝓤 _) $ nothing ! $
         owned ! (Span-p .row) (Is (Span-p .row)) (Span-p .makes 𝓤 H A W) body (Span-p .val body ∷ []) body-is $ fjoin ! $
         owned ! (CreatePayload-p .row) (Is (CreatePayload-p .row)) (CreatePayload-p .makes 𝓤 H A W) p (CreatePayload-p .val p ∷ []) p-is $ fjoin ! $
         owned ! (u8-p .row) (Is (u8-p .row)) (u8-p .makes 𝓤 H A W) id (u8-p .val id ∷ []) id-is $ fjoin ! $ move ! (2 ∷ 0 ∷ []) $ fjoin ! $ move ! (3 ∷ 0 ∷ []) $ fjoin ! $ move ! (4 ∷ 0 ∷ []) $ fjoin ! $ move ! (1 ∷ 0 ∷ []) $
-        calls-any-last ! fm 3 [] (objects-create-kind.signature .params) (objects-create-kind.ended .kept) Move-p (objects-create-kind.clauses 𝓤 H A mem run) known-objects-create-kind ((ν-7·Free·5-sessions ∷ []), ((ν-7·Free·5-objects ∷ []), (κ₃, tt))) (fullShare, (fullShare, (q₃, tt))) tt (at-list b₁ o₁ δ-7·Free·5-sessions sessions, (at-list b₂ o₂ δ-7·Free·5-objects objects, (at-list b₃ o₃ γ₃ d, (id, (p, (body, tt)))))) (sliceVal (b₁, o₁) n₁ ∷ [], (sliceVal (b₂, o₂) n₂ ∷ [], (sliceVal (b₃, o₃) n₃ ∷ [], (u8-p .val id ∷ [], (CreatePayload-p .val p ∷ [], (Span-p .val body ∷ [], tt)))))) tt (createMove (p .kind) (sessions) (objects) (d) id p body) (λ ws-7·Free·5. (ws-7·Free·5 .0 ≡ createdSessions (p .kind) (sessions) (objects) id (p .«object_id»)) × (ws-7·Free·5 .1 .0 ≡ createdObjects (p .kind) (sessions) (objects) id (p .«object_id»))) (id⊢ 𝓤 _) (λ r ws-7·Free·5. fact-mono 𝓤 ((r ≡ createMove (p .kind) (sessions) (objects) (d) id p body) × ((ws-7·Free·5 .0) ≡ createdSessions (p .kind) (sessions) (objects) id (p .«object_id»)) × ((ws-7·Free·5 .1 .0) ≡ createdObjects (p .kind) (sessions) (objects) id (p .«object_id»))) ((r ≡ (createMove (p .kind) (sessions) (objects) (d) id p body)) × ((ws-7·Free·5 .0 ≡ createdSessions (p .kind) (sessions) (objects) id (p .«object_id»)) × (ws-7·Free·5 .1 .0 ≡ createdObjects (p .kind) (sessions) (objects) id (p .«object_id»)))) (λ e. (e .0, (e .1, e .2)))) (λ _. (and-then ! (load ! (from ! (stop !)) (look ! 10 refl)) (and-then ! (load ! (from ! (stop !)) (look ! 6 refl)) (and-then ! (load ! (from ! (stop !)) (look ! 34 refl)) (and-then ! (load ! (from ! (stop !)) (look ! 32 refl)) (and-then ! (load ! (from ! (stop !)) (look ! 30 refl)) (and-then ! (load ! (from ! (stop !)) (look ! 28 refl)) (no-more !)))))))) (λ ws-7·Free·5 said-7·Free·5 is-7·Free·5.
-        use1 W ((‵ (flft (ν-7·Free·5-sessions ∷ []) fullShare) ⊛ (‵ (flft (ν-7·Free·5-objects ∷ []) fullShare) ⊛ (‵ (flft κ₃ q₃) ⊛ ‵ ftrue)))) (id⊢ 𝓤 _) $ split ! $ move ! (1 ∷ []) $ split ! $ move ! (1 ∷ []) $ split ! $ move ! (4 ∷ []) $ fsplit ! $ fsplit ! $ move ! (1 ∷ []) $
-        feqL ! (λ wlen-7·Free·5-0.
+        calls-any-last ! fm 3 [] (objects-create-kind.signature .params) (objects-create-kind.ended .kept) Move-p (objects-create-kind.clauses 𝓤 H A mem run) known-objects-create-kind ((ν-8·yes·5-sessions ∷ []), ((ν-8·yes·5-objects ∷ []), (κ₃, tt))) (fullShare, (fullShare, (q₃, tt))) tt (at-list b₁ o₁ δ-8·yes·5-sessions sessions, (at-list b₂ o₂ δ-8·yes·5-objects objects, (at-list b₃ o₃ γ₃ d, (id, (p, (body, tt)))))) (sliceVal (b₁, o₁) n₁ ∷ [], (sliceVal (b₂, o₂) n₂ ∷ [], (sliceVal (b₃, o₃) n₃ ∷ [], (u8-p .val id ∷ [], (CreatePayload-p .val p ∷ [], (Span-p .val body ∷ [], tt)))))) tt (createMove (p .kind) (sessions) (objects) (d) id p body) (λ ws-8·yes·5. (ws-8·yes·5 .0 ≡ createdSessions (p .kind) (sessions) (objects) id (p .«object_id»)) × (ws-8·yes·5 .1 .0 ≡ createdObjects (p .kind) (sessions) (objects) id (p .«object_id»))) (id⊢ 𝓤 _) (λ r ws-8·yes·5. fact-mono 𝓤 ((r ≡ createMove (p .kind) (sessions) (objects) (d) id p body) × ((ws-8·yes·5 .0) ≡ createdSessions (p .kind) (sessions) (objects) id (p .«object_id»)) × ((ws-8·yes·5 .1 .0) ≡ createdObjects (p .kind) (sessions) (objects) id (p .«object_id»))) ((r ≡ (createMove (p .kind) (sessions) (objects) (d) id p body)) × ((ws-8·yes·5 .0 ≡ createdSessions (p .kind) (sessions) (objects) id (p .«object_id»)) × (ws-8·yes·5 .1 .0 ≡ createdObjects (p .kind) (sessions) (objects) id (p .«object_id»)))) (λ e. (e .0, (e .1, e .2)))) (λ _. (and-then ! (load ! (from ! (stop !)) (look ! 8 refl)) (and-then ! (load ! (from ! (stop !)) (look ! 4 refl)) (and-then ! (load ! (from ! (stop !)) (look ! 34 refl)) (and-then ! (load ! (from ! (stop !)) (look ! 32 refl)) (and-then ! (load ! (from ! (stop !)) (look ! 30 refl)) (and-then ! (load ! (from ! (stop !)) (look ! 28 refl)) (no-more !)))))))) (λ ws-8·yes·5 said-8·yes·5 is-8·yes·5.
+        use1 W ((‵ (flft (ν-8·yes·5-sessions ∷ []) fullShare) ⊛ (‵ (flft (ν-8·yes·5-objects ∷ []) fullShare) ⊛ (‵ (flft κ₃ q₃) ⊛ ‵ ftrue)))) (id⊢ 𝓤 _) $ split ! $ move ! (1 ∷ []) $ split ! $ move ! (1 ∷ []) $ split ! $ move ! (4 ∷ []) $ fsplit ! $ fsplit ! $ move ! (1 ∷ []) $
+        feqL ! (λ wlen-8·yes·5-0.
         move ! (1 ∷ []) $ fsplit ! $ fsplit ! $ move ! (1 ∷ []) $
-        feqL ! (λ wlen-7·Free·5-1.
+        feqL ! (λ wlen-8·yes·5-1.
         move ! (1 ∷ []) $ fsplit ! $ move ! (7 ∷ 10 ∷ 3 ∷ []) $
-        backs-mut ! tt (Array u64 5) b₁ o₁ sessions n₁ (refl) room₁ ν-7·Free·5-sessions δ-7·Free·5-sessions (ws-7·Free·5 .0) (createdSessions (p .kind) (sessions) (objects) id (p .«object_id»)) wlen-7·Free·5-0 (said-7·Free·5 .0) (λ len-7·Free·5-sessions.
+        backs-mut ! tt (Array u64 5) b₁ o₁ sessions n₁ (refl) room₁ ν-8·yes·5-sessions δ-8·yes·5-sessions (ws-8·yes·5 .0) (createdSessions (p .kind) (sessions) (objects) id (p .«object_id»)) wlen-8·yes·5-0 (said-8·yes·5 .0) (λ len-8·yes·5-sessions.
         move ! (7 ∷ 9 ∷ 4 ∷ []) $
-        backs-mut ! tt Object-t.the-row b₂ o₂ objects n₂ (refl) room₂ ν-7·Free·5-objects δ-7·Free·5-objects (ws-7·Free·5 .1 .0) (createdObjects (p .kind) (sessions) (objects) id (p .«object_id»)) wlen-7·Free·5-1 (said-7·Free·5 .1) (λ len-7·Free·5-objects.
+        backs-mut ! tt Object-t.the-row b₂ o₂ objects n₂ (refl) room₂ ν-8·yes·5-objects δ-8·yes·5-objects (ws-8·yes·5 .1 .0) (createdObjects (p .kind) (sessions) (objects) id (p .«object_id»)) wlen-8·yes·5-1 (said-8·yes·5 .1) (λ len-8·yes·5-objects.
         move ! (4 ∷ []) $ drop ! $ move ! (4 ∷ []) $ drop ! $ move ! (5 ∷ []) $ drop ! $
-        land-last ! (from ! (stop !)) (init ! 16 refl (Move-p .typed 𝓤 H A W (createMove (p .kind) (sessions) (objects) (d) id p body) is-7·Free·5)) $
-        exec ! C Λ En mir.t-8 (atRet En Post) $
-        assigns ! (of-opd ! (load ! (from ! (stop !)) (look ! 16 refl))) (from ! (stop !)) (init ! 42 refl (Move-p .typed 𝓤 H A W (createMove (p .kind) (sessions) (objects) (d) id p body) is-7·Free·5)) $
-        returns ! (look ! 42 refl) $ forget ! 8 refl $ forget ! 10 refl $ forget ! 12 refl $ forget ! 14 refl $ forget ! 16 refl $ forget ! 18 refl $ forget ! 20 refl $ forget ! 22 refl $ forget ! 24 refl $ forget ! 26 refl $ forget ! 28 refl $ forget ! 30 refl $ forget ! 32 refl $ forget ! 34 refl $ forget ! 36 refl $ forget ! 38 refl $ forget ! 40 refl $ forget ! 42 refl $ move ! (42 ∷ 43 ∷ []) $ free1 ! $ move ! (40 ∷ 41 ∷ []) $ free1 ! $ move ! (38 ∷ 39 ∷ []) $ free1 ! $ move ! (36 ∷ 37 ∷ []) $ free1 ! $ move ! (34 ∷ 35 ∷ []) $ free1 ! $ move ! (32 ∷ 33 ∷ []) $ free1 ! $ move ! (30 ∷ 31 ∷ []) $ free1 ! $ move ! (28 ∷ 29 ∷ []) $ free1 ! $ move ! (26 ∷ 27 ∷ []) $ free1 ! $ move ! (24 ∷ 25 ∷ []) $ free1 ! $ move ! (22 ∷ 23 ∷ []) $ free1 ! $ move ! (20 ∷ 21 ∷ []) $ free1 ! $ move ! (18 ∷ 19 ∷ []) $ free1 ! $ move ! (16 ∷ 17 ∷ []) $ free1 ! $ move ! (14 ∷ 15 ∷ []) $ free1 ! $ move ! (12 ∷ 13 ∷ []) $ free1 ! $ move ! (10 ∷ 11 ∷ []) $ free1 ! $ move ! (8 ∷ 9 ∷ []) $ free1 ! $ move ! (6 ∷ 7 ∷ []) $ free1 ! $ free0 ! $ move ! (2 ∷ 3 ∷ 0 ∷ 1 ∷ 5 ∷ 4 ∷ []) $
-        by ! (exits (createMove (p .kind) (sessions) (objects) (d) id p body) (createdSessions (p .kind) (sessions) (objects) id (p .«object_id»)) (createdObjects (p .kind) (sessions) (objects) id (p .«object_id»)) ((ap (λ (x : Room′). roomMove x sessions objects d id p body) (sym e-7), ap (λ (x : Room′). roomSessions x sessions objects id p) (sym e-7), ap (λ (x : Room′). roomObjects x sessions objects id p) (sym e-7))) is-7·Free·5 len-7·Free·5-sessions len-7·Free·5-objects))))))))
-    matched-7-0 is-6 (Room′-Full) e-7 good-7 =
-        switches-on ! (load ! (from ! (vrt ! refl (fld ! refl (stop !)))) (look-tag ! 26 (whole !))) $ exec ! C Λ En (arm-of 1 (one mir.t-7)) (anyQ (afterSeq 𝓤 H (Wp 𝓤 H C Λ En mir.t-8 (atReturn 𝓤 H En Post)) (atReturn 𝓤 H En Post))) $
-        assigns ! (agg ! (and-then ! (lit ! tt) (no-more !))) (from ! (stop !)) (init ! 6 refl (StatusCode-p .typed 𝓤 H A W StatusCode-ErrResources (EL.owes StatusCode-t.the-type StatusCode-l.the-laws StatusCode-ErrResources tt))) $
-        assigns-last ! (agg ! (and-then ! (lit ! tt) (and-then ! (load ! (from ! (stop !)) (look ! 28 refl)) (and-then ! (load ! (from ! (stop !)) (look ! 6 refl)) (no-more !))))) (from ! (stop !)) (init ! 16 refl (Move-p .typed 𝓤 H A W (Move-Status (p .«object_id») StatusCode-ErrResources) (EL.owes Move-t.the-type Move-l.the-laws (Move-Status (p .«object_id») StatusCode-ErrResources) (LL.owed CreatePayload-t.the-type CreatePayload-l.the-laws p _ p-is .0, (EL.owes StatusCode-t.the-type StatusCode-l.the-laws StatusCode-ErrResources tt, tt))))) $
-        exec ! C Λ En mir.t-8 (atRet En Post) $
-        assigns ! (of-opd ! (load ! (from ! (stop !)) (look ! 16 refl))) (from ! (stop !)) (init ! 42 refl (Move-p .typed 𝓤 H A W (Move-Status (p .«object_id») StatusCode-ErrResources) (EL.owes Move-t.the-type Move-l.the-laws (Move-Status (p .«object_id») StatusCode-ErrResources) (LL.owed CreatePayload-t.the-type CreatePayload-l.the-laws p _ p-is .0, (EL.owes StatusCode-t.the-type StatusCode-l.the-laws StatusCode-ErrResources tt, tt))))) $
-        returns ! (look ! 42 refl) $ forget ! 6 refl $ forget ! 16 refl $ forget ! 18 refl $ forget ! 20 refl $ forget ! 22 refl $ forget ! 24 refl $ forget ! 26 refl $ forget ! 28 refl $ forget ! 30 refl $ forget ! 32 refl $ forget ! 34 refl $ forget ! 36 refl $ forget ! 38 refl $ forget ! 40 refl $ forget ! 42 refl $ move ! (42 ∷ 43 ∷ []) $ free1 ! $ move ! (40 ∷ 41 ∷ []) $ free1 ! $ move ! (38 ∷ 39 ∷ []) $ free1 ! $ move ! (36 ∷ 37 ∷ []) $ free1 ! $ move ! (34 ∷ 35 ∷ []) $ free1 ! $ move ! (32 ∷ 33 ∷ []) $ free1 ! $ move ! (30 ∷ 31 ∷ []) $ free1 ! $ move ! (28 ∷ 29 ∷ []) $ free1 ! $ move ! (26 ∷ 27 ∷ []) $ free1 ! $ move ! (24 ∷ 25 ∷ []) $ free1 ! $ move ! (22 ∷ 23 ∷ []) $ free1 ! $ move ! (20 ∷ 21 ∷ []) $ free1 ! $ move ! (18 ∷ 19 ∷ []) $ free1 ! $ move ! (16 ∷ 17 ∷ []) $ free1 ! $ move ! (14 ∷ 15 ∷ []) $ free1 ! $ move ! (12 ∷ 13 ∷ []) $ free1 ! $ move ! (10 ∷ 11 ∷ []) $ free1 ! $ move ! (8 ∷ 9 ∷ []) $ free1 ! $ move ! (6 ∷ 7 ∷ []) $ free1 ! $ free0 ! $
-        by ! (exits (Move-Status (p .«object_id») StatusCode-ErrResources) sessions objects ((ap (λ (x : Room′). roomMove x sessions objects d id p body) (sym e-7), ap (λ (x : Room′). roomSessions x sessions objects id p) (sym e-7), ap (λ (x : Room′). roomObjects x sessions objects id p) (sym e-7))) (EL.owes Move-t.the-type Move-l.the-laws (Move-Status (p .«object_id») StatusCode-ErrResources) (LL.owed CreatePayload-t.the-type CreatePayload-l.the-laws p _ p-is .0, (EL.owes StatusCode-t.the-type StatusCode-l.the-laws StatusCode-ErrResources tt, tt))) refl refl)
-    matched-7-0 is-6 (Room′-NotLive) e-7 good-7 =
-        switches-on ! (load ! (from ! (vrt ! refl (fld ! refl (stop !)))) (look-tag ! 26 (whole !))) $ exec ! C Λ En (arm-of 2 (one mir.t-7)) (anyQ (afterSeq 𝓤 H (Wp 𝓤 H C Λ En mir.t-8 (atReturn 𝓤 H En Post)) (atReturn 𝓤 H En Post))) $
-        assigns-last ! (agg ! (and-then ! (lit ! tt) (no-more !))) (from ! (stop !)) (init ! 16 refl (Move-p .typed 𝓤 H A W Move-Silent (EL.owes Move-t.the-type Move-l.the-laws Move-Silent tt))) $
-        exec ! C Λ En mir.t-8 (atRet En Post) $
-        assigns ! (of-opd ! (load ! (from ! (stop !)) (look ! 16 refl))) (from ! (stop !)) (init ! 42 refl (Move-p .typed 𝓤 H A W Move-Silent (EL.owes Move-t.the-type Move-l.the-laws Move-Silent tt))) $
-        returns ! (look ! 42 refl) $ forget ! 16 refl $ forget ! 18 refl $ forget ! 20 refl $ forget ! 22 refl $ forget ! 24 refl $ forget ! 26 refl $ forget ! 28 refl $ forget ! 30 refl $ forget ! 32 refl $ forget ! 34 refl $ forget ! 36 refl $ forget ! 38 refl $ forget ! 40 refl $ forget ! 42 refl $ move ! (42 ∷ 43 ∷ []) $ free1 ! $ move ! (40 ∷ 41 ∷ []) $ free1 ! $ move ! (38 ∷ 39 ∷ []) $ free1 ! $ move ! (36 ∷ 37 ∷ []) $ free1 ! $ move ! (34 ∷ 35 ∷ []) $ free1 ! $ move ! (32 ∷ 33 ∷ []) $ free1 ! $ move ! (30 ∷ 31 ∷ []) $ free1 ! $ move ! (28 ∷ 29 ∷ []) $ free1 ! $ move ! (26 ∷ 27 ∷ []) $ free1 ! $ move ! (24 ∷ 25 ∷ []) $ free1 ! $ move ! (22 ∷ 23 ∷ []) $ free1 ! $ move ! (20 ∷ 21 ∷ []) $ free1 ! $ move ! (18 ∷ 19 ∷ []) $ free1 ! $ move ! (16 ∷ 17 ∷ []) $ free1 ! $ move ! (14 ∷ 15 ∷ []) $ free1 ! $ move ! (12 ∷ 13 ∷ []) $ free1 ! $ move ! (10 ∷ 11 ∷ []) $ free1 ! $ move ! (8 ∷ 9 ∷ []) $ free1 ! $ move ! (6 ∷ 7 ∷ []) $ free1 ! $ free0 ! $
-        by ! (exits Move-Silent sessions objects ((ap (λ (x : Room′). roomMove x sessions objects d id p body) (sym e-7), ap (λ (x : Room′). roomSessions x sessions objects id p) (sym e-7), ap (λ (x : Room′). roomObjects x sessions objects id p) (sym e-7))) (EL.owes Move-t.the-type Move-l.the-laws Move-Silent tt) refl refl)
-    matched-7-0 is-6 (Room′-Refused m7) e-7 good-7 =
-        knows ! (Is (Refusal-p .row) m7 (Refusal-p .val m7 ∷ [])) (EL.owed Room′-t.the-type Room′-l.the-laws (Room′-Refused m7) _ good-7 .0) (λ m7-is.
-        switches-on ! (load ! (from ! (vrt ! refl (fld ! refl (stop !)))) (look-tag ! 26 (whole !))) $ exec ! C Λ En (arm-of 3 (one mir.t-7)) (anyQ (afterSeq 𝓤 H (Wp 𝓤 H C Λ En mir.t-8 (atReturn 𝓤 H En Post)) (atReturn 𝓤 H En Post))) $
-        assigns-last ! (agg ! (and-then ! (lit ! tt) (no-more !))) (from ! (stop !)) (init ! 16 refl (Move-p .typed 𝓤 H A W Move-Silent (EL.owes Move-t.the-type Move-l.the-laws Move-Silent tt))) $
-        exec ! C Λ En mir.t-8 (atRet En Post) $
-        assigns ! (of-opd ! (load ! (from ! (stop !)) (look ! 16 refl))) (from ! (stop !)) (init ! 42 refl (Move-p .typed 𝓤 H A W Move-Silent (EL.owes Move-t.the-type Move-l.the-laws Move-Silent tt))) $
-        returns ! (look ! 42 refl) $ forget ! 16 refl $ forget ! 18 refl $ forget ! 20 refl $ forget ! 22 refl $ forget ! 24 refl $ forget ! 26 refl $ forget ! 28 refl $ forget ! 30 refl $ forget ! 32 refl $ forget ! 34 refl $ forget ! 36 refl $ forget ! 38 refl $ forget ! 40 refl $ forget ! 42 refl $ move ! (42 ∷ 43 ∷ []) $ free1 ! $ move ! (40 ∷ 41 ∷ []) $ free1 ! $ move ! (38 ∷ 39 ∷ []) $ free1 ! $ move ! (36 ∷ 37 ∷ []) $ free1 ! $ move ! (34 ∷ 35 ∷ []) $ free1 ! $ move ! (32 ∷ 33 ∷ []) $ free1 ! $ move ! (30 ∷ 31 ∷ []) $ free1 ! $ move ! (28 ∷ 29 ∷ []) $ free1 ! $ move ! (26 ∷ 27 ∷ []) $ free1 ! $ move ! (24 ∷ 25 ∷ []) $ free1 ! $ move ! (22 ∷ 23 ∷ []) $ free1 ! $ move ! (20 ∷ 21 ∷ []) $ free1 ! $ move ! (18 ∷ 19 ∷ []) $ free1 ! $ move ! (16 ∷ 17 ∷ []) $ free1 ! $ move ! (14 ∷ 15 ∷ []) $ free1 ! $ move ! (12 ∷ 13 ∷ []) $ free1 ! $ move ! (10 ∷ 11 ∷ []) $ free1 ! $ move ! (8 ∷ 9 ∷ []) $ free1 ! $ move ! (6 ∷ 7 ∷ []) $ free1 ! $ free0 ! $
-        by ! (exits Move-Silent sessions objects ((ap (λ (x : Room′). roomMove x sessions objects d id p body) (sym e-7), ap (λ (x : Room′). roomSessions x sessions objects id p) (sym e-7), ap (λ (x : Room′). roomObjects x sessions objects id p) (sym e-7))) (EL.owes Move-t.the-type Move-l.the-laws Move-Silent tt) refl refl))
+        land-last ! (from ! (stop !)) (init ! 14 refl (Move-p .typed 𝓤 H A W (createMove (p .kind) (sessions) (objects) (d) id p body) is-8·yes·5)) $
+        exec ! C Λ En mir.t-9 (atRet En Post) $ move ! (2 ∷ 3 ∷ 0 ∷ 1 ∷ 5 ∷ 4 ∷ 6 ∷ 7 ∷ 8 ∷ 9 ∷ 10 ∷ 11 ∷ 12 ∷ 13 ∷ 14 ∷ 15 ∷ 16 ∷ 17 ∷ 18 ∷ 19 ∷ 20 ∷ 21 ∷ 22 ∷ 23 ∷ 24 ∷ 25 ∷ 26 ∷ 27 ∷ 28 ∷ 29 ∷ 30 ∷ 31 ∷ 32 ∷ 33 ∷ 34 ∷ 35 ∷ 36 ∷ 37 ∷ 38 ∷ 39 ∷ 40 ∷ 41 ∷ 42 ∷ 43 ∷ []) $
+        part-9-0 is-6 is-7 c-8 len-8·yes·5-sessions len-8·yes·5-objects is-8·yes·5)))))))))
+        (λ h-8.
+        knows ! (isFree (roomOf (sessions) (objects) id (p .«object_id»)) ≡ false) (fails (isFree (roomOf (sessions) (objects) id (p .«object_id»))) (T-not (isFree (roomOf (sessions) (objects) id (p .«object_id»))) h-8)) (λ c-8.
+        -- 8.no.1: agent::objects::no_room_move
+        nothing ! $
+        use1 W (raw (toks 𝓤 A 0 (tt) (tt))) (id⊢ 𝓤 _) $ nothing ! $
+        owned ! (Room′-p .row) (Is (Room′-p .row)) (Room′-p .makes 𝓤 H A W) (roomOf (sessions) (objects) id (p .«object_id»)) (Room′-p .val (roomOf (sessions) (objects) id (p .«object_id»)) ∷ []) is-6 $ fjoin ! $
+        owned ! (ObjectNumber-p .row) (Is (ObjectNumber-p .row)) (ObjectNumber-p .makes 𝓤 H A W) (p .«object_id») (ObjectNumber-p .val (p .«object_id») ∷ []) (LL.owed CreatePayload-t.the-type CreatePayload-l.the-laws p _ p-is .0) $ fjoin ! $ move ! (1 ∷ 0 ∷ []) $
+        calls-any-last ! fm 0 [] (objects-no-room-move.signature .params) (objects-no-room-move.ended .kept) Move-p (objects-no-room-move.clauses 𝓤 H A mem run) known-objects-no-room-move tt tt tt (p .«object_id», (roomOf (sessions) (objects) id (p .«object_id»), tt)) (ObjectNumber-p .val (p .«object_id») ∷ [], (Room′-p .val (roomOf (sessions) (objects) id (p .«object_id»)) ∷ [], tt)) tt (noRoomMove (p .«object_id») (roomOf (sessions) (objects) id (p .«object_id»))) (λ ws-8·no·1. Unit {0}) (id⊢ 𝓤 _) (λ r ws-8·no·1. fact-mono 𝓤 (r ≡ noRoomMove (p .«object_id») (roomOf (sessions) (objects) id (p .«object_id»))) ((r ≡ (noRoomMove (p .«object_id») (roomOf (sessions) (objects) id (p .«object_id»)))) × (Unit {0})) (λ e. (e, tt))) (λ _. (and-then ! (load ! (from ! (stop !)) (look ! 29 refl)) (and-then ! (load ! (from ! (stop !)) (look ! 27 refl)) (no-more !)))) (λ ws-8·no·1 said-8·no·1 is-8·no·1.
+        drop ! $ drop ! $
+        land-last ! (from ! (stop !)) (init ! 14 refl (Move-p .typed 𝓤 H A W (noRoomMove (p .«object_id») (roomOf (sessions) (objects) id (p .«object_id»))) is-8·no·1)) $
+        exec ! C Λ En mir.t-9 (atRet En Post) $
+        part-9-2 is-6 is-7 c-8 is-8·no·1)))
 
-    begins : Sq W (‵ (MutSlice (named 0) κ₁ (Array u64 5) .own (at-list b₁ o₁ γ₁ sessions) (sliceVal (b₁, o₁) n₁ ∷ [])) ∷ ‵ (flft κ₁ q₁) ∷ ‵ (MutSlice (named 0) κ₂ Object-t.the-row .own (at-list b₂ o₂ γ₂ objects) (sliceVal (b₂, o₂) n₂ ∷ [])) ∷ ‵ (flft κ₂ q₂) ∷ ‵ (ShrSlice (named 0) κ₃ u8 .own (at-list b₃ o₃ γ₃ d) (sliceVal (b₃, o₃) n₃ ∷ [])) ∷ ‵ (flft κ₃ q₃) ∷ free 𝓤 StatusCode-l.mir l₁₈ (free 𝓤 (sliceTy (tyRef erased mut (pointee (Object-t.the-row .written)))) l₁₇ (free 𝓤 (tyRef erased mut (pointee (Object-t.the-row .written))) l₁₆ (free 𝓤 (sliceTy (tyRef erased mut (pointee ((Array u64 5) .written)))) l₁₅ (free 𝓤 (tyRef erased mut (pointee ((Array u64 5) .written))) l₁₄ (free 𝓤 Move-l.mir l₁₃ (free 𝓤 (sliceTy (tyRef erased imm (pointee (Object-t.the-row .written)))) l₁₂ (free 𝓤 (tyRef erased imm (pointee (Object-t.the-row .written))) l₁₁ (free 𝓤 (sliceTy (tyRef erased imm (pointee ((Array u64 5) .written)))) l₁₀ (free 𝓤 (tyRef erased imm (pointee ((Array u64 5) .written))) l₉ (free 𝓤 Room′-l.mir l₈ (free 𝓤 ObjectNumber-l.mir l₇ (full 𝓤 Span-l.mir l₆ (Span-p .val body) (full 𝓤 CreatePayload-l.mir l₅ (CreatePayload-p .val p) (full 𝓤 (tyInt w8) l₄ (u8-p .val id) (full 𝓤 (sliceTy (tyRef (named 2) imm (pointee (u8 .written)))) l₃ (sliceVal (b₃, o₃) n₃) (full 𝓤 (sliceTy (tyRef (named 1) mut (pointee (Object-t.the-row .written)))) l₂ (sliceVal (b₂, o₂) n₂) (full 𝓤 (sliceTy (tyRef (named 0) mut (pointee ((Array u64 5) .written)))) l₁ (sliceVal (b₁, o₁) n₁) (free 𝓤 Move-l.mir l₀ ([])))))))))))))))))))) (runs C Λ En mir.t-1 (atRet En Post))
+    part-7-0 : (is-6 : Is (Room′-p .row) (roomOf (sessions) (objects) id (p .«object_id»)) (Room′-p .val (roomOf (sessions) (objects) id (p .«object_id»)) ∷ [])) → Sq W (‵ (MutSlice (named 0) κ₁ (Array u64 5) .own (at-list b₁ o₁ γ₁ sessions) (sliceVal (b₁, o₁) n₁ ∷ [])) ∷ ‵ (flft κ₁ q₁) ∷ ‵ (MutSlice (named 0) κ₂ Object-t.the-row .own (at-list b₂ o₂ γ₂ objects) (sliceVal (b₂, o₂) n₂ ∷ [])) ∷ ‵ (flft κ₂ q₂) ∷ ‵ (ShrSlice (named 0) κ₃ u8 .own (at-list b₃ o₃ γ₃ d) (sliceVal (b₃, o₃) n₃ ∷ [])) ∷ ‵ (flft κ₃ q₃) ∷ free 𝓤 (sliceTy (tyRef erased mut (pointee (Object-t.the-row .written)))) l₁₈ (free 𝓤 (tyRef erased mut (pointee (Object-t.the-row .written))) l₁₇ (free 𝓤 (sliceTy (tyRef erased mut (pointee ((Array u64 5) .written)))) l₁₆ (free 𝓤 (tyRef erased mut (pointee ((Array u64 5) .written))) l₁₅ (free 𝓤 Move-l.mir l₁₄ (free 𝓤 tyBool l₁₃ (full 𝓤 (sliceTy (tyRef erased imm (pointee (Object-t.the-row .written)))) l₁₂ (sliceVal (b₂, o₂) n₂) (full 𝓤 (tyRef erased imm (pointee (Object-t.the-row .written))) l₁₁ (vptr b₂ o₂) (full 𝓤 (sliceTy (tyRef erased imm (pointee ((Array u64 5) .written)))) l₁₀ (sliceVal (b₁, o₁) n₁) (full 𝓤 (tyRef erased imm (pointee ((Array u64 5) .written))) l₉ (vptr b₁ o₁) (full 𝓤 Room′-l.mir l₈ (Room′-p .val (roomOf (sessions) (objects) id (p .«object_id»))) (full 𝓤 ObjectNumber-l.mir l₇ (ObjectNumber-p .val (p .«object_id»)) (full 𝓤 Span-l.mir l₆ (Span-p .val body) (full 𝓤 CreatePayload-l.mir l₅ (CreatePayload-p .val p) (full 𝓤 (tyInt w8) l₄ (u8-p .val id) (full 𝓤 (sliceTy (tyRef (named 2) imm (pointee (u8 .written)))) l₃ (sliceVal (b₃, o₃) n₃) (full 𝓤 (sliceTy (tyRef (named 1) mut (pointee (Object-t.the-row .written)))) l₂ (sliceVal (b₂, o₂) n₂) (full 𝓤 (sliceTy (tyRef (named 0) mut (pointee ((Array u64 5) .written)))) l₁ (sliceVal (b₁, o₁) n₁) (free 𝓤 Move-l.mir l₀ ([])))))))))))))))))))) (runs C Λ En mir.t-7 (atRet En Post))
+    part-7-0 is-6 =
+        -- 7: agent::objects::is_free
+        nothing ! $
+        use1 W (raw (toks 𝓤 A 0 (tt) (tt))) (id⊢ 𝓤 _) $ nothing ! $
+        owned ! (Room′-p .row) (Is (Room′-p .row)) (Room′-p .makes 𝓤 H A W) (roomOf (sessions) (objects) id (p .«object_id»)) (Room′-p .val (roomOf (sessions) (objects) id (p .«object_id»)) ∷ []) is-6 $ fjoin ! $ move ! (1 ∷ 0 ∷ []) $
+        calls-any ! fm 0 [] (objects-is-free.signature .params) (objects-is-free.ended .kept) bool-p (objects-is-free.clauses 𝓤 H A mem run) known-objects-is-free tt tt tt (roomOf (sessions) (objects) id (p .«object_id»), tt) (Room′-p .val (roomOf (sessions) (objects) id (p .«object_id»)) ∷ [], tt) tt (isFree (roomOf (sessions) (objects) id (p .«object_id»))) (λ ws-7. Unit {0}) (id⊢ 𝓤 _) (λ r ws-7. fact-mono 𝓤 (r ≡ isFree (roomOf (sessions) (objects) id (p .«object_id»))) ((r ≡ (isFree (roomOf (sessions) (objects) id (p .«object_id»)))) × (Unit {0})) (λ e. (e, tt))) (λ _. (and-then ! (load ! (from ! (stop !)) (look ! 27 refl)) (no-more !))) (λ ws-7 said-7 is-7.
+        drop ! $ drop ! $
+        land ! (from ! (stop !)) (init ! 16 refl (bool-p .typed 𝓤 H A W (isFree (roomOf (sessions) (objects) id (p .«object_id»))) is-7)) $
+        part-8-0 is-6 is-7)
+
+    begins : Sq W (‵ (MutSlice (named 0) κ₁ (Array u64 5) .own (at-list b₁ o₁ γ₁ sessions) (sliceVal (b₁, o₁) n₁ ∷ [])) ∷ ‵ (flft κ₁ q₁) ∷ ‵ (MutSlice (named 0) κ₂ Object-t.the-row .own (at-list b₂ o₂ γ₂ objects) (sliceVal (b₂, o₂) n₂ ∷ [])) ∷ ‵ (flft κ₂ q₂) ∷ ‵ (ShrSlice (named 0) κ₃ u8 .own (at-list b₃ o₃ γ₃ d) (sliceVal (b₃, o₃) n₃ ∷ [])) ∷ ‵ (flft κ₃ q₃) ∷ free 𝓤 (sliceTy (tyRef erased mut (pointee (Object-t.the-row .written)))) l₁₈ (free 𝓤 (tyRef erased mut (pointee (Object-t.the-row .written))) l₁₇ (free 𝓤 (sliceTy (tyRef erased mut (pointee ((Array u64 5) .written)))) l₁₆ (free 𝓤 (tyRef erased mut (pointee ((Array u64 5) .written))) l₁₅ (free 𝓤 Move-l.mir l₁₄ (free 𝓤 tyBool l₁₃ (free 𝓤 (sliceTy (tyRef erased imm (pointee (Object-t.the-row .written)))) l₁₂ (free 𝓤 (tyRef erased imm (pointee (Object-t.the-row .written))) l₁₁ (free 𝓤 (sliceTy (tyRef erased imm (pointee ((Array u64 5) .written)))) l₁₀ (free 𝓤 (tyRef erased imm (pointee ((Array u64 5) .written))) l₉ (free 𝓤 Room′-l.mir l₈ (free 𝓤 ObjectNumber-l.mir l₇ (full 𝓤 Span-l.mir l₆ (Span-p .val body) (full 𝓤 CreatePayload-l.mir l₅ (CreatePayload-p .val p) (full 𝓤 (tyInt w8) l₄ (u8-p .val id) (full 𝓤 (sliceTy (tyRef (named 2) imm (pointee (u8 .written)))) l₃ (sliceVal (b₃, o₃) n₃) (full 𝓤 (sliceTy (tyRef (named 1) mut (pointee (Object-t.the-row .written)))) l₂ (sliceVal (b₂, o₂) n₂) (full 𝓤 (sliceTy (tyRef (named 0) mut (pointee ((Array u64 5) .written)))) l₁ (sliceVal (b₁, o₁) n₁) (free 𝓤 Move-l.mir l₀ ([])))))))))))))))))))) (runs C Λ En mir.t-1 (atRet En Post))
     begins =
         assigns ! (of-opd ! (load ! (from ! (fld ! refl (stop !))) (look-in ! 32 (sub ! 0 refl (whole !))))) (from ! (stop !)) (init ! 28 refl (ObjectNumber-p .typed 𝓤 H A W (p .«object_id») (LL.owed CreatePayload-t.the-type CreatePayload-l.the-laws p _ p-is .0))) $
         assigns ! (addr ! (from ! (fld ! refl (hop ! (look-in ! 40 (sub ! 0 refl (whole !))) (stop !))))) (from ! (stop !)) (init ! 24 refl (tt, tt)) $
@@ -306,21 +352,20 @@ module _ {M : Type 1} (𝓤 : URA M) (H : Heap 𝓤) (A : Atoms 𝓤) (W : Given
         use1 W ((‵ (flft (ν-6-sessions ∷ []) fullShare) ⊛ (‵ (flft (ν-6-objects ∷ []) fullShare) ⊛ ‵ ftrue))) (id⊢ 𝓤 _) $ split ! $ move ! (1 ∷ []) $ split ! $ move ! (3 ∷ []) $ fsplit ! $ move ! (1 ∷ []) $ fsplit ! $ move ! (5 ∷ 7 ∷ []) $
         backs-view ! tt (Array u64 5) b₁ o₁ sessions n₁ (refl) ν-6-sessions $ move ! (5 ∷ 7 ∷ []) $
         backs-view ! tt Object-t.the-row b₂ o₂ objects n₂ (refl) ν-6-objects $ move ! (4 ∷ []) $ drop ! $ move ! (4 ∷ []) $ drop ! $ move ! (4 ∷ []) $ drop ! $ move ! (4 ∷ []) $ drop ! $
-        land ! (from ! (stop !)) (init ! 26 refl (Room′-p .typed 𝓤 H A W (roomOf (sessions) (objects) id (p .«object_id»)) is-6)) $
-        first ! $ move ! (2 ∷ 3 ∷ 0 ∷ 1 ∷ 4 ∷ 5 ∷ 6 ∷ 7 ∷ 8 ∷ 9 ∷ 10 ∷ 11 ∷ 12 ∷ 13 ∷ 14 ∷ 15 ∷ 16 ∷ 17 ∷ 18 ∷ 19 ∷ 20 ∷ 21 ∷ 22 ∷ 23 ∷ 24 ∷ 25 ∷ 26 ∷ 27 ∷ 28 ∷ 29 ∷ 30 ∷ 31 ∷ 32 ∷ 33 ∷ 34 ∷ 35 ∷ 36 ∷ 37 ∷ 38 ∷ 39 ∷ 40 ∷ 41 ∷ 42 ∷ 43 ∷ []) $
-        matched-7-0 is-6 (roomOf (sessions) (objects) id (p .«object_id»)) refl is-6)))
+        land ! (from ! (stop !)) (init ! 26 refl (Room′-p .typed 𝓤 H A W (roomOf (sessions) (objects) id (p .«object_id»)) is-6)) $ move ! (2 ∷ 3 ∷ 0 ∷ 1 ∷ 4 ∷ 5 ∷ 6 ∷ 7 ∷ 8 ∷ 9 ∷ 10 ∷ 11 ∷ 12 ∷ 13 ∷ 14 ∷ 15 ∷ 16 ∷ 17 ∷ 18 ∷ 19 ∷ 20 ∷ 21 ∷ 22 ∷ 23 ∷ 24 ∷ 25 ∷ 26 ∷ 27 ∷ 28 ∷ 29 ∷ 30 ∷ 31 ∷ 32 ∷ 33 ∷ 34 ∷ 35 ∷ 36 ∷ 37 ∷ 38 ∷ 39 ∷ 40 ∷ 41 ∷ 42 ∷ 43 ∷ []) $
+        part-7-0 is-6)))
 
-  module _ (𝓣 : Tables 𝓤 H) (known-room-has-room : Triple 𝓤 (𝓣 .C #room-has-room) (Of-room-has-room 𝓤 H A mem run)) (known-objects-create-kind : Triple 𝓤 (𝓣 .C #objects-create-kind) (Of-objects-create-kind 𝓤 H A mem run)) where
+  module _ (𝓣 : Tables 𝓤 H) (known-room-has-room : Triple 𝓤 (𝓣 .C #room-has-room) (Of-room-has-room 𝓤 H A mem run)) (known-objects-is-free : Triple 𝓤 (𝓣 .C #objects-is-free) (Of-objects-is-free 𝓤 H A mem run)) (known-objects-create-kind : Triple 𝓤 (𝓣 .C #objects-create-kind) (Of-objects-create-kind 𝓤 H A mem run)) (known-objects-no-room-move : Triple 𝓤 (𝓣 .C #objects-no-room-move) (Of-objects-no-room-move 𝓤 H A mem run)) where
     walk : ent 𝓤 (onEntry 𝓤 H A f.signature (κ₁, (κ₂, (κ₃, tt))) (q₁, (q₂, (q₃, tt))) x at) (WpFn 𝓤 H (𝓣 .C) (𝓣 .Λ) code.function (sliceVal (b₁, o₁) n₁ ∷ sliceVal (b₂, o₂) n₂ ∷ sliceVal (b₃, o₃) n₃ ∷ u8-p .val id ∷ CreatePayload-p .val p ∷ Span-p .val body ∷ []) Post)
     walk =
         qed W ((‵ (flft κ₁ q₁) ⊛ (‵ (flft κ₂ q₂) ⊛ (‵ (flft κ₃ q₃) ⊛ ‵ ftrue))) ∷ ‵ (owns (MutSlice (named 0) κ₁ (Array u64 5) ∷ MutSlice (named 1) κ₂ Object-t.the-row ∷ ShrSlice (named 2) κ₃ u8 ∷ u8-p .row ∷ CreatePayload-p .row ∷ Span-p .row ∷ []) x at) ∷ []) ∵ enter ! (𝓣 .C) (𝓣 .Λ) code.function (sliceVal (b₁, o₁) n₁ ∷ sliceVal (b₂, o₂) n₂ ∷ sliceVal (b₃, o₃) n₃ ∷ u8-p .val id ∷ CreatePayload-p .val p ∷ Span-p .val body ∷ []) _ $
         alloc1 ! (λ l₀. alloc1 ! (λ l₁. alloc1 ! (λ l₂. alloc1 ! (λ l₃. alloc1 ! (λ l₄. alloc1 ! (λ l₅. alloc1 ! (λ l₆. alloc1 ! (λ l₇. alloc1 ! (λ l₈. alloc1 ! (λ l₉. alloc1 ! (λ l₁₀. alloc1 ! (λ l₁₁. alloc1 ! (λ l₁₂. alloc1 ! (λ l₁₃. alloc1 ! (λ l₁₄. alloc1 ! (λ l₁₅. alloc1 ! (λ l₁₆. alloc1 ! (λ l₁₇. alloc1 ! (λ l₁₈. alloc0 ! $ params1 ! $ pass1 ! (init ! 34 refl (tt, (tt, (record { fits = room₁ .0 }, tt)))) $ pass1 ! (init ! 32 refl (tt, (tt, (record { fits = room₂ .0 }, tt)))) $ pass1 ! (init ! 30 refl (tt, (tt, (record { fits = room₃ .0 }, tt)))) $ pass1 ! (init ! 28 refl (u8-p .typed 𝓤 H A W id id-is)) $ pass1 ! (init ! 26 refl (CreatePayload-p .typed 𝓤 H A W p p-is)) $ pass1 ! (init ! 24 refl (Span-p .typed 𝓤 H A W body body-is)) $ pass0 ! $ move ! (39 ∷ []) $ fsplit ! $ move ! (1 ∷ []) $ fsplit ! $ move ! (1 ∷ []) $ fsplit ! $ move ! (42 ∷ []) $ split ! $ move ! (1 ∷ []) $ split ! $ move ! (1 ∷ []) $ split ! $ move ! (1 ∷ []) $ drop ! $ move ! (4 ∷ []) $ drop ! $ move ! (5 ∷ 2 ∷ 4 ∷ 1 ∷ 3 ∷ 0 ∷ 6 ∷ 7 ∷ 8 ∷ 9 ∷ 10 ∷ 11 ∷ 12 ∷ 13 ∷ 14 ∷ 15 ∷ 16 ∷ 17 ∷ 18 ∷ 19 ∷ 20 ∷ 21 ∷ 22 ∷ 23 ∷ 24 ∷ 25 ∷ 26 ∷ 27 ∷ 28 ∷ 29 ∷ 30 ∷ 31 ∷ 32 ∷ 33 ∷ 34 ∷ 35 ∷ 36 ∷ 37 ∷ 38 ∷ 39 ∷ 40 ∷ 41 ∷ 42 ∷ 43 ∷ []) $
-        begins 𝓣 known-room-has-room known-objects-create-kind l₀ l₁ l₂ l₃ l₄ l₅ l₆ l₇ l₈ l₉ l₁₀ l₁₁ l₁₂ l₁₃ l₁₄ l₁₅ l₁₆ l₁₇ l₁₈)))))))))))))))))))
+        begins 𝓣 known-room-has-room known-objects-is-free known-objects-create-kind known-objects-no-room-move l₀ l₁ l₂ l₃ l₄ l₅ l₆ l₇ l₈ l₉ l₁₀ l₁₁ l₁₂ l₁₃ l₁₄ l₁₅ l₁₆ l₁₇ l₁₈)))))))))))))))))))
 
-module _ {M : Type 1} (𝓤 : URA M) (H : Heap 𝓤) (A : Atoms 𝓤) (W : Given 𝓤 H A) (mem : Memory → SProp 𝓤) (run : Routine → Fun 𝓤) (𝓣 : Tables 𝓤 H) (known-room-has-room : Triple 𝓤 (𝓣 .C #room-has-room) (Of-room-has-room 𝓤 H A mem run)) (known-objects-create-kind : Triple 𝓤 (𝓣 .C #objects-create-kind) (Of-objects-create-kind 𝓤 H A mem run)) where
+module _ {M : Type 1} (𝓤 : URA M) (H : Heap 𝓤) (A : Atoms 𝓤) (W : Given 𝓤 H A) (mem : Memory → SProp 𝓤) (run : Routine → Fun 𝓤) (𝓣 : Tables 𝓤 H) (known-room-has-room : Triple 𝓤 (𝓣 .C #room-has-room) (Of-room-has-room 𝓤 H A mem run)) (known-objects-is-free : Triple 𝓤 (𝓣 .C #objects-is-free) (Of-objects-is-free 𝓤 H A mem run)) (known-objects-create-kind : Triple 𝓤 (𝓣 .C #objects-create-kind) (Of-objects-create-kind 𝓤 H A mem run)) (known-objects-no-room-move : Triple 𝓤 (𝓣 .C #objects-no-room-move) (Of-objects-no-room-move 𝓤 H A mem run)) where
   walks : Walks 𝓤 H A f.ended stayed (WpFn 𝓤 H (𝓣 .C) (𝓣 .Λ) code.function) (f.clauses 𝓤 H A mem run)
   walks = walked 𝓤 H A f.ended stayed (f.clauses 𝓤 H A mem run) (WpFn 𝓤 H (𝓣 .C) (𝓣 .Λ) code.function) (λ κs. (slice-vals, (slice-vals, (slice-vals, ((λ y. u8-p .val y ∷ []), ((λ y. CreatePayload-p .val y ∷ []), ((λ y. Span-p .val y ∷ []), tt))))))) (λ κs. (mut-slice-tells (named 0) (κs .0) (Array u64 5), (mut-slice-tells (named 1) (κs .1 .0) Object-t.the-row, (shr-slice-tells (named 2) (κs .1 .1 .0) u8, (u8-p .tells, (CreatePayload-p .tells, (Span-p .tells, tt)))))))
-      (λ κs qs bounds a g are. via 𝓤 _ (fst∗ 𝓤 _ (emp 𝓤)) (walk 𝓤 H A W mem run (κs .0) (qs .0) (a .0 .ptr .0) (a .0 .ptr .1) (a .0 .name) (a .0 .now) (κs .1 .0) (qs .1 .0) (a .1 .0 .ptr .0) (a .1 .0 .ptr .1) (a .1 .0 .name) (a .1 .0 .now) (κs .1 .1 .0) (qs .1 .1 .0) (a .1 .1 .0 .ptr .0) (a .1 .1 .0 .ptr .1) (a .1 .1 .0 .name) (a .1 .1 .0 .now) (a .1 .1 .1 .0) (a .1 .1 .1 .1 .0) (a .1 .1 .1 .1 .1 .0) (are .0 .0 .1) (are .1 .0 .0 .1) (are .1 .1 .0 .0 .1) (are .1 .1 .1 .0) (are .1 .1 .1 .1 .0) (are .1 .1 .1 .1 .1 .0) 𝓣 known-room-has-room known-objects-create-kind))
+      (λ κs qs bounds a g are. via 𝓤 _ (fst∗ 𝓤 _ (emp 𝓤)) (walk 𝓤 H A W mem run (κs .0) (qs .0) (a .0 .ptr .0) (a .0 .ptr .1) (a .0 .name) (a .0 .now) (κs .1 .0) (qs .1 .0) (a .1 .0 .ptr .0) (a .1 .0 .ptr .1) (a .1 .0 .name) (a .1 .0 .now) (κs .1 .1 .0) (qs .1 .1 .0) (a .1 .1 .0 .ptr .0) (a .1 .1 .0 .ptr .1) (a .1 .1 .0 .name) (a .1 .1 .0 .now) (a .1 .1 .1 .0) (a .1 .1 .1 .1 .0) (a .1 .1 .1 .1 .1 .0) (are .0 .0 .1) (are .1 .0 .0 .1) (are .1 .1 .0 .0 .1) (are .1 .1 .1 .0) (are .1 .1 .1 .1 .0) (are .1 .1 .1 .1 .1 .0) 𝓣 known-room-has-room known-objects-is-free known-objects-create-kind known-objects-no-room-move))
 
   meets : Meets 𝓤 H A f.signature (WpFn 𝓤 H (𝓣 .C) (𝓣 .Λ) code.function) (f.spec 𝓤 H A mem run)
   meets = walk-meets 𝓤 H A f.ended stayed W (goes-slice 𝓤 H A W 3 0 tt (plain (λ _. (Array u64 5))), (goes-slice 𝓤 H A W 3 1 tt (plain (λ _. Object-t.the-row)), (goes-none-slice 𝓤 H A W 3 (2 ∷ []) tt (plain (λ _. u8)) yes, (goes-none 𝓤 H A W 3 (λ _. u8-p .row) yes (λ κs x f. refl), (goes-none 𝓤 H A W 3 (λ _. CreatePayload-p .row) yes (λ κs x f. refl), (goes-none 𝓤 H A W 3 (λ _. Span-p .row) yes (λ κs x f. refl), tt)))))) (f.clauses 𝓤 H A mem run) (WpFn 𝓤 H (𝓣 .C) (𝓣 .Λ) code.function) (WpFn-mono 𝓤 H (W .laws) 𝓣 code.function) walks
@@ -332,4 +377,6 @@ create-spec 𝓤 H 𝓜 𝓖 𝓡 =
     (tables 𝓤 H 𝓜 𝓡 code.env .C) (tables 𝓤 H 𝓜 𝓡 code.env .Λ) #f code.function (code.unfolded 𝓤 H 𝓜 𝓡)
     (meets 𝓤 H (𝓖 .A) (givenOf 𝓤 H 𝓜 𝓖) (𝓜 .mem) (𝓡 .run) (tablesOf 𝓤 H 𝓜 (tables 𝓤 H 𝓜 𝓡 code.env))
     (cited 𝓤 H (Of-room-has-room 𝓤 H (𝓖 .A) (𝓜 .mem) (𝓡 .run)) 𝓜 𝓡 code.env #room-has-room room-has-room-def.routine code.calls-sessions·room·has-room (room-has-room-thm.met 𝓤 H 𝓜 𝓖 𝓡))
-    (cited 𝓤 H (Of-objects-create-kind 𝓤 H (𝓖 .A) (𝓜 .mem) (𝓡 .run)) 𝓜 𝓡 code.env #objects-create-kind objects-create-kind-def.routine code.calls-agent·objects·create-kind (objects-create-kind-thm.met 𝓤 H 𝓜 𝓖 𝓡)))
+    (cited 𝓤 H (Of-objects-is-free 𝓤 H (𝓖 .A) (𝓜 .mem) (𝓡 .run)) 𝓜 𝓡 code.env #objects-is-free objects-is-free-def.routine code.calls-agent·objects·is-free (objects-is-free-thm.met 𝓤 H 𝓜 𝓖 𝓡))
+    (cited 𝓤 H (Of-objects-create-kind 𝓤 H (𝓖 .A) (𝓜 .mem) (𝓡 .run)) 𝓜 𝓡 code.env #objects-create-kind objects-create-kind-def.routine code.calls-agent·objects·create-kind (objects-create-kind-thm.met 𝓤 H 𝓜 𝓖 𝓡))
+    (cited 𝓤 H (Of-objects-no-room-move 𝓤 H (𝓖 .A) (𝓜 .mem) (𝓡 .run)) 𝓜 𝓡 code.env #objects-no-room-move objects-no-room-move-def.routine code.calls-agent·objects·no-room-move (objects-no-room-move-thm.met 𝓤 H 𝓜 𝓖 𝓡)))

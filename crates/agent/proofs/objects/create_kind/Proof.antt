@@ -57,8 +57,9 @@ use Rattle.sessions.specs.SessionObjects.{foundObject, greatestObject, storedOb
 use Rattle.sessions.specs.Room.{roomOf}
 use Rattle.agent.specs.Moves.{writeMove, readMove, deleteMove, topicMove, endpointMove}
 use Rattle.agent.specs.Names.{namesIn}
-use Rattle.agent.specs.Rows.{okMove, createMove, createdSessions, createdObjects, roomMove, roomSessions, roomObjects, objectMove, objectSessions, objectRows}
+use Rattle.agent.specs.Rows.{okMove, createMove, createdSessions, createdObjects, isFree, noRoomMove, roomMove, roomSessions, roomObjects}
 use Rattle.agent.specs.Moves.{foundHandle, participantMove, endpointCall, endpointBy, droppedMove, heartbeatMove}
+use types.Kit.{frees, prop}
 use Rattle.sessions.specs.declared.objects.Object.{Object}
 use Rattle.sessions.proofs.objects.Object as Object-t
 use Rattle.sessions.proofs.objects.Object.Laws as Object-l
@@ -230,6 +231,11 @@ module _ {M : Type 1} (𝓤 : URA M) (H : Heap 𝓤) (A : Atoms 𝓤) (W : Given
     abbrev En : Env 𝓤 H
     En = (Move-l.mir, l₀) ∷ ((sliceTy (tyRef (named 0) mut (pointee ((Array u64 5) .written)))), l₁) ∷ ((sliceTy (tyRef (named 1) mut (pointee (Object-t.the-row .written)))), l₂) ∷ ((sliceTy (tyRef (named 2) imm (pointee (u8 .written)))), l₃) ∷ ((tyInt w8), l₄) ∷ (CreatePayload-l.mir, l₅) ∷ (Span-l.mir, l₆) ∷ (ObjectNumber-l.mir, l₇) ∷ ((tyInt w16), l₈) ∷ (ObjectKind-l.mir, l₉) ∷ (Move-l.mir, l₁₀) ∷ ((tyRef erased imm (pointee ((Array u64 5) .written))), l₁₁) ∷ ((sliceTy (tyRef erased imm (pointee ((Array u64 5) .written)))), l₁₂) ∷ ((tyRef erased imm (pointee (Object-t.the-row .written))), l₁₃) ∷ ((sliceTy (tyRef erased imm (pointee (Object-t.the-row .written)))), l₁₄) ∷ ((tyRef erased mut (pointee ((Array u64 5) .written))), l₁₅) ∷ ((sliceTy (tyRef erased mut (pointee ((Array u64 5) .written)))), l₁₆) ∷ ((tyRef erased mut (pointee (Object-t.the-row .written))), l₁₇) ∷ ((sliceTy (tyRef erased mut (pointee (Object-t.the-row .written)))), l₁₈) ∷ ((tyRef erased mut (pointee ((Array u64 5) .written))), l₁₉) ∷ ((sliceTy (tyRef erased mut (pointee ((Array u64 5) .written)))), l₂₀) ∷ ((tyRef erased mut (pointee (Object-t.the-row .written))), l₂₁) ∷ ((sliceTy (tyRef erased mut (pointee (Object-t.the-row .written)))), l₂₂) ∷ ((tyRef erased imm (pointee ((Array u64 5) .written))), l₂₃) ∷ ((sliceTy (tyRef erased imm (pointee ((Array u64 5) .written)))), l₂₄) ∷ ((tyRef erased imm (pointee (Object-t.the-row .written))), l₂₅) ∷ ((sliceTy (tyRef erased imm (pointee (Object-t.the-row .written)))), l₂₆) ∷ ((tyRef erased imm (pointee ((Array u64 5) .written))), l₂₇) ∷ ((sliceTy (tyRef erased imm (pointee ((Array u64 5) .written)))), l₂₈) ∷ ((tyRef erased imm (pointee (Object-t.the-row .written))), l₂₉) ∷ ((sliceTy (tyRef erased imm (pointee (Object-t.the-row .written)))), l₃₀) ∷ []
 
+    frees-all : (r : Move) (ws₁ : List (List ℕ)) (ws₂ : List Object) → ent 𝓤 (⋆ 𝓤 H A (‵ (MutSlice (named 0) κ₁ (Array u64 5) .own (at-list b₁ o₁ γ₁ ws₁) (sliceVal (b₁, o₁) n₁ ∷ [])) ∷ ‵ (flft κ₁ q₁) ∷ ‵ (MutSlice (named 1) κ₂ Object-t.the-row .own (at-list b₂ o₂ γ₂ ws₂) (sliceVal (b₂, o₂) n₂ ∷ [])) ∷ ‵ (flft κ₂ q₂) ∷ ‵ (ShrSlice (named 2) κ₃ u8 .own (at-list b₃ o₃ γ₃ d) (sliceVal (b₃, o₃) n₃ ∷ [])) ∷ ‵ (flft κ₃ q₃) ∷ [])) (Post (Move-p .val r)) → Sq W (‵ (MutSlice (named 0) κ₁ (Array u64 5) .own (at-list b₁ o₁ γ₁ ws₁) (sliceVal (b₁, o₁) n₁ ∷ [])) ∷ ‵ (flft κ₁ q₁) ∷ ‵ (MutSlice (named 0) κ₂ Object-t.the-row .own (at-list b₂ o₂ γ₂ ws₂) (sliceVal (b₂, o₂) n₂ ∷ [])) ∷ ‵ (flft κ₂ q₂) ∷ ‵ (ShrSlice (named 0) κ₃ u8 .own (at-list b₃ o₃ γ₃ d) (sliceVal (b₃, o₃) n₃ ∷ [])) ∷ ‵ (flft κ₃ q₃) ∷ free 𝓤 (sliceTy (tyRef erased imm (pointee (Object-t.the-row .written)))) l₃₀ (free 𝓤 (tyRef erased imm (pointee (Object-t.the-row .written))) l₂₉ (free 𝓤 (sliceTy (tyRef erased imm (pointee ((Array u64 5) .written)))) l₂₈ (free 𝓤 (tyRef erased imm (pointee ((Array u64 5) .written))) l₂₇ (free 𝓤 (sliceTy (tyRef erased imm (pointee (Object-t.the-row .written)))) l₂₆ (free 𝓤 (tyRef erased imm (pointee (Object-t.the-row .written))) l₂₅ (free 𝓤 (sliceTy (tyRef erased imm (pointee ((Array u64 5) .written)))) l₂₄ (free 𝓤 (tyRef erased imm (pointee ((Array u64 5) .written))) l₂₃ (free 𝓤 (sliceTy (tyRef erased mut (pointee (Object-t.the-row .written)))) l₂₂ (free 𝓤 (tyRef erased mut (pointee (Object-t.the-row .written))) l₂₁ (free 𝓤 (sliceTy (tyRef erased mut (pointee ((Array u64 5) .written)))) l₂₀ (free 𝓤 (tyRef erased mut (pointee ((Array u64 5) .written))) l₁₉ (free 𝓤 (sliceTy (tyRef erased mut (pointee (Object-t.the-row .written)))) l₁₈ (free 𝓤 (tyRef erased mut (pointee (Object-t.the-row .written))) l₁₇ (free 𝓤 (sliceTy (tyRef erased mut (pointee ((Array u64 5) .written)))) l₁₆ (free 𝓤 (tyRef erased mut (pointee ((Array u64 5) .written))) l₁₅ (free 𝓤 (sliceTy (tyRef erased imm (pointee (Object-t.the-row .written)))) l₁₄ (free 𝓤 (tyRef erased imm (pointee (Object-t.the-row .written))) l₁₃ (free 𝓤 (sliceTy (tyRef erased imm (pointee ((Array u64 5) .written)))) l₁₂ (free 𝓤 (tyRef erased imm (pointee ((Array u64 5) .written))) l₁₁ (free 𝓤 Move-l.mir l₁₀ (free 𝓤 ObjectKind-l.mir l₉ (free 𝓤 (tyInt w16) l₈ (free 𝓤 ObjectNumber-l.mir l₇ (full 𝓤 Span-l.mir l₆ (Span-p .val body) (full 𝓤 CreatePayload-l.mir l₅ (CreatePayload-p .val p) (full 𝓤 (tyInt w8) l₄ (u8-p .val id) (full 𝓤 (sliceTy (tyRef (named 2) imm (pointee (u8 .written)))) l₃ (sliceVal (b₃, o₃) n₃) (full 𝓤 (sliceTy (tyRef (named 1) mut (pointee (Object-t.the-row .written)))) l₂ (sliceVal (b₂, o₂) n₂) (full 𝓤 (sliceTy (tyRef (named 0) mut (pointee ((Array u64 5) .written)))) l₁ (sliceVal (b₁, o₁) n₁) (full 𝓤 Move-l.mir l₀ (Move-p .val r) ([])))))))))))))))))))))))))))))))) (frees En (prop (Post (Move-p .val r))))
+    frees-all r ws₁ ws₂ ends =
+        forget ! 54 refl $ forget ! 56 refl $ forget ! 58 refl $ forget ! 60 refl $ forget ! 62 refl $ forget ! 64 refl $ forget ! 66 refl $ move ! (66 ∷ 67 ∷ []) $ free1 ! $ move ! (64 ∷ 65 ∷ []) $ free1 ! $ move ! (62 ∷ 63 ∷ []) $ free1 ! $ move ! (60 ∷ 61 ∷ []) $ free1 ! $ move ! (58 ∷ 59 ∷ []) $ free1 ! $ move ! (56 ∷ 57 ∷ []) $ free1 ! $ move ! (54 ∷ 55 ∷ []) $ free1 ! $ move ! (52 ∷ 53 ∷ []) $ free1 ! $ move ! (50 ∷ 51 ∷ []) $ free1 ! $ move ! (48 ∷ 49 ∷ []) $ free1 ! $ move ! (46 ∷ 47 ∷ []) $ free1 ! $ move ! (44 ∷ 45 ∷ []) $ free1 ! $ move ! (42 ∷ 43 ∷ []) $ free1 ! $ move ! (40 ∷ 41 ∷ []) $ free1 ! $ move ! (38 ∷ 39 ∷ []) $ free1 ! $ move ! (36 ∷ 37 ∷ []) $ free1 ! $ move ! (34 ∷ 35 ∷ []) $ free1 ! $ move ! (32 ∷ 33 ∷ []) $ free1 ! $ move ! (30 ∷ 31 ∷ []) $ free1 ! $ move ! (28 ∷ 29 ∷ []) $ free1 ! $ move ! (26 ∷ 27 ∷ []) $ free1 ! $ move ! (24 ∷ 25 ∷ []) $ free1 ! $ move ! (22 ∷ 23 ∷ []) $ free1 ! $ move ! (20 ∷ 21 ∷ []) $ free1 ! $ move ! (18 ∷ 19 ∷ []) $ free1 ! $ move ! (16 ∷ 17 ∷ []) $ free1 ! $ move ! (14 ∷ 15 ∷ []) $ free1 ! $ move ! (12 ∷ 13 ∷ []) $ free1 ! $ move ! (10 ∷ 11 ∷ []) $ free1 ! $ move ! (8 ∷ 9 ∷ []) $ free1 ! $ move ! (6 ∷ 7 ∷ []) $ free1 ! $ free0 ! $
+        by ! ends
+
     matched-4-Participant-0 : (e-4 : p .kind ≡ ObjectKind-Participant) → (good-4 : Is (ObjectKind-p .row) ObjectKind-Participant (ObjectKind-p .val ObjectKind-Participant ∷ [])) → Sq W (‵ (MutSlice (named 0) κ₁ (Array u64 5) .own (at-list b₁ o₁ γ₁ sessions) (sliceVal (b₁, o₁) n₁ ∷ [])) ∷ ‵ (flft κ₁ q₁) ∷ ‵ (MutSlice (named 0) κ₂ Object-t.the-row .own (at-list b₂ o₂ γ₂ objects) (sliceVal (b₂, o₂) n₂ ∷ [])) ∷ ‵ (flft κ₂ q₂) ∷ ‵ (ShrSlice (named 0) κ₃ u8 .own (at-list b₃ o₃ γ₃ d) (sliceVal (b₃, o₃) n₃ ∷ [])) ∷ ‵ (flft κ₃ q₃) ∷ free 𝓤 (sliceTy (tyRef erased imm (pointee (Object-t.the-row .written)))) l₃₀ (free 𝓤 (tyRef erased imm (pointee (Object-t.the-row .written))) l₂₉ (free 𝓤 (sliceTy (tyRef erased imm (pointee ((Array u64 5) .written)))) l₂₈ (free 𝓤 (tyRef erased imm (pointee ((Array u64 5) .written))) l₂₇ (free 𝓤 (sliceTy (tyRef erased imm (pointee (Object-t.the-row .written)))) l₂₆ (free 𝓤 (tyRef erased imm (pointee (Object-t.the-row .written))) l₂₅ (free 𝓤 (sliceTy (tyRef erased imm (pointee ((Array u64 5) .written)))) l₂₄ (free 𝓤 (tyRef erased imm (pointee ((Array u64 5) .written))) l₂₃ (free 𝓤 (sliceTy (tyRef erased mut (pointee (Object-t.the-row .written)))) l₂₂ (free 𝓤 (tyRef erased mut (pointee (Object-t.the-row .written))) l₂₁ (free 𝓤 (sliceTy (tyRef erased mut (pointee ((Array u64 5) .written)))) l₂₀ (free 𝓤 (tyRef erased mut (pointee ((Array u64 5) .written))) l₁₉ (free 𝓤 (sliceTy (tyRef erased mut (pointee (Object-t.the-row .written)))) l₁₈ (free 𝓤 (tyRef erased mut (pointee (Object-t.the-row .written))) l₁₇ (free 𝓤 (sliceTy (tyRef erased mut (pointee ((Array u64 5) .written)))) l₁₆ (free 𝓤 (tyRef erased mut (pointee ((Array u64 5) .written))) l₁₅ (free 𝓤 (sliceTy (tyRef erased imm (pointee (Object-t.the-row .written)))) l₁₄ (free 𝓤 (tyRef erased imm (pointee (Object-t.the-row .written))) l₁₃ (free 𝓤 (sliceTy (tyRef erased imm (pointee ((Array u64 5) .written)))) l₁₂ (free 𝓤 (tyRef erased imm (pointee ((Array u64 5) .written))) l₁₁ (free 𝓤 Move-l.mir l₁₀ (full 𝓤 ObjectKind-l.mir l₉ (ObjectKind-p .val ObjectKind-Participant) (full 𝓤 (tyInt w16) l₈ (u16-p .val (p .«parent_id»)) (full 𝓤 ObjectNumber-l.mir l₇ (ObjectNumber-p .val (p .«object_id»)) (full 𝓤 Span-l.mir l₆ (Span-p .val body) (full 𝓤 CreatePayload-l.mir l₅ (CreatePayload-p .val p) (full 𝓤 (tyInt w8) l₄ (u8-p .val id) (full 𝓤 (sliceTy (tyRef (named 2) imm (pointee (u8 .written)))) l₃ (sliceVal (b₃, o₃) n₃) (full 𝓤 (sliceTy (tyRef (named 1) mut (pointee (Object-t.the-row .written)))) l₂ (sliceVal (b₂, o₂) n₂) (full 𝓤 (sliceTy (tyRef (named 0) mut (pointee ((Array u64 5) .written)))) l₁ (sliceVal (b₁, o₁) n₁) (free 𝓤 Move-l.mir l₀ ([])))))))))))))))))))))))))))))))) (runs C Λ En (one mir.t-4) (anyQ (afterSeq 𝓤 H (Wp 𝓤 H C Λ En mir.t-5 (atReturn 𝓤 H En Post)) (atReturn 𝓤 H En Post))))
     matched-4-Participant-0 e-4 good-4 =
         switches-on ! (load ! (from ! (vrt ! refl (fld ! refl (stop !)))) (look-tag ! 48 (whole !))) $ exec ! C Λ En (arm-of 0 (one mir.t-4)) (anyQ (afterSeq 𝓤 H (Wp 𝓤 H C Λ En mir.t-5 (atReturn 𝓤 H En Post)) (atReturn 𝓤 H En Post))) $
@@ -243,11 +249,11 @@ module _ {M : Type 1} (𝓤 : URA M) (H : Heap 𝓤) (A : Atoms 𝓤) (W : Given
         land-last ! (from ! (stop !)) (init ! 46 refl (Move-p .typed 𝓤 H A W (participantMove (p .«object_id») (p .«parent_id»)) is-4·Participant·1)) $
         exec ! C Λ En mir.t-5 (atRet En Post) $
         assigns ! (of-opd ! (load ! (from ! (stop !)) (look ! 46 refl))) (from ! (stop !)) (init ! 66 refl (Move-p .typed 𝓤 H A W (participantMove (p .«object_id») (p .«parent_id»)) is-4·Participant·1)) $
-        returns ! (look ! 66 refl) $ forget ! 46 refl $ forget ! 48 refl $ forget ! 50 refl $ forget ! 52 refl $ forget ! 54 refl $ forget ! 56 refl $ forget ! 58 refl $ forget ! 60 refl $ forget ! 62 refl $ forget ! 64 refl $ forget ! 66 refl $ move ! (66 ∷ 67 ∷ []) $ free1 ! $ move ! (64 ∷ 65 ∷ []) $ free1 ! $ move ! (62 ∷ 63 ∷ []) $ free1 ! $ move ! (60 ∷ 61 ∷ []) $ free1 ! $ move ! (58 ∷ 59 ∷ []) $ free1 ! $ move ! (56 ∷ 57 ∷ []) $ free1 ! $ move ! (54 ∷ 55 ∷ []) $ free1 ! $ move ! (52 ∷ 53 ∷ []) $ free1 ! $ move ! (50 ∷ 51 ∷ []) $ free1 ! $ move ! (48 ∷ 49 ∷ []) $ free1 ! $ move ! (46 ∷ 47 ∷ []) $ free1 ! $ move ! (44 ∷ 45 ∷ []) $ free1 ! $ move ! (42 ∷ 43 ∷ []) $ free1 ! $ move ! (40 ∷ 41 ∷ []) $ free1 ! $ move ! (38 ∷ 39 ∷ []) $ free1 ! $ move ! (36 ∷ 37 ∷ []) $ free1 ! $ move ! (34 ∷ 35 ∷ []) $ free1 ! $ move ! (32 ∷ 33 ∷ []) $ free1 ! $ move ! (30 ∷ 31 ∷ []) $ free1 ! $ move ! (28 ∷ 29 ∷ []) $ free1 ! $ move ! (26 ∷ 27 ∷ []) $ free1 ! $ move ! (24 ∷ 25 ∷ []) $ free1 ! $ move ! (22 ∷ 23 ∷ []) $ free1 ! $ move ! (20 ∷ 21 ∷ []) $ free1 ! $ move ! (18 ∷ 19 ∷ []) $ free1 ! $ move ! (16 ∷ 17 ∷ []) $ free1 ! $ move ! (14 ∷ 15 ∷ []) $ free1 ! $ move ! (12 ∷ 13 ∷ []) $ free1 ! $ move ! (10 ∷ 11 ∷ []) $ free1 ! $ move ! (8 ∷ 9 ∷ []) $ free1 ! $ move ! (6 ∷ 7 ∷ []) $ free1 ! $ free0 ! $
-        by ! (exits (participantMove (p .«object_id») (p .«parent_id»)) sessions objects ((ap (λ (k : ObjectKind). createMove k sessions objects d id p body) (sym e-4), ap (λ (k : ObjectKind). createdSessions k sessions objects id (p .«object_id»)) (sym e-4), ap (λ (k : ObjectKind). createdObjects k sessions objects id (p .«object_id»)) (sym e-4))) is-4·Participant·1 refl refl))
+        returns ! (look ! 66 refl) $ forget ! 46 refl $ forget ! 48 refl $ forget ! 50 refl $ forget ! 52 refl $
+        frees-all (participantMove (p .«object_id») (p .«parent_id»)) sessions objects (exits (participantMove (p .«object_id») (p .«parent_id»)) sessions objects ((ap (λ (k : ObjectKind). createMove k sessions objects d id p body) (sym e-4), ap (λ (k : ObjectKind). createdSessions k sessions objects id (p .«object_id»)) (sym e-4), ap (λ (k : ObjectKind). createdObjects k sessions objects id (p .«object_id»)) (sym e-4))) is-4·Participant·1 refl refl))
 
-    matched-4-Topic-1 : (e-4 : p .kind ≡ ObjectKind-Topic) → (good-4 : Is (ObjectKind-p .row) ObjectKind-Topic (ObjectKind-p .val ObjectKind-Topic ∷ [])) → Sq W (‵ (MutSlice (named 0) κ₁ (Array u64 5) .own (at-list b₁ o₁ γ₁ sessions) (sliceVal (b₁, o₁) n₁ ∷ [])) ∷ ‵ (flft κ₁ q₁) ∷ ‵ (MutSlice (named 0) κ₂ Object-t.the-row .own (at-list b₂ o₂ γ₂ objects) (sliceVal (b₂, o₂) n₂ ∷ [])) ∷ ‵ (flft κ₂ q₂) ∷ ‵ (ShrSlice (named 0) κ₃ u8 .own (at-list b₃ o₃ γ₃ d) (sliceVal (b₃, o₃) n₃ ∷ [])) ∷ ‵ (flft κ₃ q₃) ∷ free 𝓤 (sliceTy (tyRef erased imm (pointee (Object-t.the-row .written)))) l₃₀ (free 𝓤 (tyRef erased imm (pointee (Object-t.the-row .written))) l₂₉ (free 𝓤 (sliceTy (tyRef erased imm (pointee ((Array u64 5) .written)))) l₂₈ (free 𝓤 (tyRef erased imm (pointee ((Array u64 5) .written))) l₂₇ (free 𝓤 (sliceTy (tyRef erased imm (pointee (Object-t.the-row .written)))) l₂₆ (free 𝓤 (tyRef erased imm (pointee (Object-t.the-row .written))) l₂₅ (free 𝓤 (sliceTy (tyRef erased imm (pointee ((Array u64 5) .written)))) l₂₄ (free 𝓤 (tyRef erased imm (pointee ((Array u64 5) .written))) l₂₃ (free 𝓤 (sliceTy (tyRef erased mut (pointee (Object-t.the-row .written)))) l₂₂ (free 𝓤 (tyRef erased mut (pointee (Object-t.the-row .written))) l₂₁ (free 𝓤 (sliceTy (tyRef erased mut (pointee ((Array u64 5) .written)))) l₂₀ (free 𝓤 (tyRef erased mut (pointee ((Array u64 5) .written))) l₁₉ (free 𝓤 (sliceTy (tyRef erased mut (pointee (Object-t.the-row .written)))) l₁₈ (free 𝓤 (tyRef erased mut (pointee (Object-t.the-row .written))) l₁₇ (free 𝓤 (sliceTy (tyRef erased mut (pointee ((Array u64 5) .written)))) l₁₆ (free 𝓤 (tyRef erased mut (pointee ((Array u64 5) .written))) l₁₅ (free 𝓤 (sliceTy (tyRef erased imm (pointee (Object-t.the-row .written)))) l₁₄ (free 𝓤 (tyRef erased imm (pointee (Object-t.the-row .written))) l₁₃ (free 𝓤 (sliceTy (tyRef erased imm (pointee ((Array u64 5) .written)))) l₁₂ (free 𝓤 (tyRef erased imm (pointee ((Array u64 5) .written))) l₁₁ (free 𝓤 Move-l.mir l₁₀ (full 𝓤 ObjectKind-l.mir l₉ (ObjectKind-p .val ObjectKind-Topic) (full 𝓤 (tyInt w16) l₈ (u16-p .val (p .«parent_id»)) (full 𝓤 ObjectNumber-l.mir l₇ (ObjectNumber-p .val (p .«object_id»)) (full 𝓤 Span-l.mir l₆ (Span-p .val body) (full 𝓤 CreatePayload-l.mir l₅ (CreatePayload-p .val p) (full 𝓤 (tyInt w8) l₄ (u8-p .val id) (full 𝓤 (sliceTy (tyRef (named 2) imm (pointee (u8 .written)))) l₃ (sliceVal (b₃, o₃) n₃) (full 𝓤 (sliceTy (tyRef (named 1) mut (pointee (Object-t.the-row .written)))) l₂ (sliceVal (b₂, o₂) n₂) (full 𝓤 (sliceTy (tyRef (named 0) mut (pointee ((Array u64 5) .written)))) l₁ (sliceVal (b₁, o₁) n₁) (free 𝓤 Move-l.mir l₀ ([])))))))))))))))))))))))))))))))) (runs C Λ En (one mir.t-4) (anyQ (afterSeq 𝓤 H (Wp 𝓤 H C Λ En mir.t-5 (atReturn 𝓤 H En Post)) (atReturn 𝓤 H En Post))))
-    matched-4-Topic-1 e-4 good-4 =
+    matched-4-Topic-2 : (e-4 : p .kind ≡ ObjectKind-Topic) → (good-4 : Is (ObjectKind-p .row) ObjectKind-Topic (ObjectKind-p .val ObjectKind-Topic ∷ [])) → Sq W (‵ (MutSlice (named 0) κ₁ (Array u64 5) .own (at-list b₁ o₁ γ₁ sessions) (sliceVal (b₁, o₁) n₁ ∷ [])) ∷ ‵ (flft κ₁ q₁) ∷ ‵ (MutSlice (named 0) κ₂ Object-t.the-row .own (at-list b₂ o₂ γ₂ objects) (sliceVal (b₂, o₂) n₂ ∷ [])) ∷ ‵ (flft κ₂ q₂) ∷ ‵ (ShrSlice (named 0) κ₃ u8 .own (at-list b₃ o₃ γ₃ d) (sliceVal (b₃, o₃) n₃ ∷ [])) ∷ ‵ (flft κ₃ q₃) ∷ free 𝓤 (sliceTy (tyRef erased imm (pointee (Object-t.the-row .written)))) l₃₀ (free 𝓤 (tyRef erased imm (pointee (Object-t.the-row .written))) l₂₉ (free 𝓤 (sliceTy (tyRef erased imm (pointee ((Array u64 5) .written)))) l₂₈ (free 𝓤 (tyRef erased imm (pointee ((Array u64 5) .written))) l₂₇ (free 𝓤 (sliceTy (tyRef erased imm (pointee (Object-t.the-row .written)))) l₂₆ (free 𝓤 (tyRef erased imm (pointee (Object-t.the-row .written))) l₂₅ (free 𝓤 (sliceTy (tyRef erased imm (pointee ((Array u64 5) .written)))) l₂₄ (free 𝓤 (tyRef erased imm (pointee ((Array u64 5) .written))) l₂₃ (free 𝓤 (sliceTy (tyRef erased mut (pointee (Object-t.the-row .written)))) l₂₂ (free 𝓤 (tyRef erased mut (pointee (Object-t.the-row .written))) l₂₁ (free 𝓤 (sliceTy (tyRef erased mut (pointee ((Array u64 5) .written)))) l₂₀ (free 𝓤 (tyRef erased mut (pointee ((Array u64 5) .written))) l₁₉ (free 𝓤 (sliceTy (tyRef erased mut (pointee (Object-t.the-row .written)))) l₁₈ (free 𝓤 (tyRef erased mut (pointee (Object-t.the-row .written))) l₁₇ (free 𝓤 (sliceTy (tyRef erased mut (pointee ((Array u64 5) .written)))) l₁₆ (free 𝓤 (tyRef erased mut (pointee ((Array u64 5) .written))) l₁₅ (free 𝓤 (sliceTy (tyRef erased imm (pointee (Object-t.the-row .written)))) l₁₄ (free 𝓤 (tyRef erased imm (pointee (Object-t.the-row .written))) l₁₃ (free 𝓤 (sliceTy (tyRef erased imm (pointee ((Array u64 5) .written)))) l₁₂ (free 𝓤 (tyRef erased imm (pointee ((Array u64 5) .written))) l₁₁ (free 𝓤 Move-l.mir l₁₀ (full 𝓤 ObjectKind-l.mir l₉ (ObjectKind-p .val ObjectKind-Topic) (full 𝓤 (tyInt w16) l₈ (u16-p .val (p .«parent_id»)) (full 𝓤 ObjectNumber-l.mir l₇ (ObjectNumber-p .val (p .«object_id»)) (full 𝓤 Span-l.mir l₆ (Span-p .val body) (full 𝓤 CreatePayload-l.mir l₅ (CreatePayload-p .val p) (full 𝓤 (tyInt w8) l₄ (u8-p .val id) (full 𝓤 (sliceTy (tyRef (named 2) imm (pointee (u8 .written)))) l₃ (sliceVal (b₃, o₃) n₃) (full 𝓤 (sliceTy (tyRef (named 1) mut (pointee (Object-t.the-row .written)))) l₂ (sliceVal (b₂, o₂) n₂) (full 𝓤 (sliceTy (tyRef (named 0) mut (pointee ((Array u64 5) .written)))) l₁ (sliceVal (b₁, o₁) n₁) (free 𝓤 Move-l.mir l₀ ([])))))))))))))))))))))))))))))))) (runs C Λ En (one mir.t-4) (anyQ (afterSeq 𝓤 H (Wp 𝓤 H C Λ En mir.t-5 (atReturn 𝓤 H En Post)) (atReturn 𝓤 H En Post))))
+    matched-4-Topic-2 e-4 good-4 =
         switches-on ! (load ! (from ! (vrt ! refl (fld ! refl (stop !)))) (look-tag ! 48 (whole !))) $ exec ! C Λ En (arm-of 1 (one mir.t-4)) (anyQ (afterSeq 𝓤 H (Wp 𝓤 H C Λ En mir.t-5 (atReturn 𝓤 H En Post)) (atReturn 𝓤 H En Post))) $
         assigns ! (addr ! (from ! (fld ! refl (hop ! (look-in ! 64 (sub ! 0 refl (whole !))) (stop !))))) (from ! (stop !)) (init ! 44 refl (tt, tt)) $
         assigns ! (agg ! (and-then ! (load ! (from ! (stop !)) (look ! 44 refl)) (and-then ! (load ! (from ! (fld ! refl (stop !))) (look-in ! 64 (sub ! 1 refl (whole !)))) (no-more !)))) (from ! (stop !)) (init ! 42 refl (tt, (tt, (record { fits = room₁ .0 }, tt)))) $
@@ -271,11 +277,11 @@ module _ {M : Type 1} (𝓤 : URA M) (H : Heap 𝓤) (A : Atoms 𝓤) (W : Given
         land-last ! (from ! (stop !)) (init ! 46 refl (Move-p .typed 𝓤 H A W (topicMove (p .«object_id») (namesIn (d) body) (foundObject (sessions) (objects) id (record { 0 = (p .«parent_id») }))) is-4·Topic·5)) $
         exec ! C Λ En mir.t-5 (atRet En Post) $
         assigns ! (of-opd ! (load ! (from ! (stop !)) (look ! 46 refl))) (from ! (stop !)) (init ! 66 refl (Move-p .typed 𝓤 H A W (topicMove (p .«object_id») (namesIn (d) body) (foundObject (sessions) (objects) id (record { 0 = (p .«parent_id») }))) is-4·Topic·5)) $
-        returns ! (look ! 66 refl) $ forget ! 38 refl $ forget ! 40 refl $ forget ! 42 refl $ forget ! 44 refl $ forget ! 46 refl $ forget ! 48 refl $ forget ! 50 refl $ forget ! 52 refl $ forget ! 54 refl $ forget ! 56 refl $ forget ! 58 refl $ forget ! 60 refl $ forget ! 62 refl $ forget ! 64 refl $ forget ! 66 refl $ move ! (66 ∷ 67 ∷ []) $ free1 ! $ move ! (64 ∷ 65 ∷ []) $ free1 ! $ move ! (62 ∷ 63 ∷ []) $ free1 ! $ move ! (60 ∷ 61 ∷ []) $ free1 ! $ move ! (58 ∷ 59 ∷ []) $ free1 ! $ move ! (56 ∷ 57 ∷ []) $ free1 ! $ move ! (54 ∷ 55 ∷ []) $ free1 ! $ move ! (52 ∷ 53 ∷ []) $ free1 ! $ move ! (50 ∷ 51 ∷ []) $ free1 ! $ move ! (48 ∷ 49 ∷ []) $ free1 ! $ move ! (46 ∷ 47 ∷ []) $ free1 ! $ move ! (44 ∷ 45 ∷ []) $ free1 ! $ move ! (42 ∷ 43 ∷ []) $ free1 ! $ move ! (40 ∷ 41 ∷ []) $ free1 ! $ move ! (38 ∷ 39 ∷ []) $ free1 ! $ move ! (36 ∷ 37 ∷ []) $ free1 ! $ move ! (34 ∷ 35 ∷ []) $ free1 ! $ move ! (32 ∷ 33 ∷ []) $ free1 ! $ move ! (30 ∷ 31 ∷ []) $ free1 ! $ move ! (28 ∷ 29 ∷ []) $ free1 ! $ move ! (26 ∷ 27 ∷ []) $ free1 ! $ move ! (24 ∷ 25 ∷ []) $ free1 ! $ move ! (22 ∷ 23 ∷ []) $ free1 ! $ move ! (20 ∷ 21 ∷ []) $ free1 ! $ move ! (18 ∷ 19 ∷ []) $ free1 ! $ move ! (16 ∷ 17 ∷ []) $ free1 ! $ move ! (14 ∷ 15 ∷ []) $ free1 ! $ move ! (12 ∷ 13 ∷ []) $ free1 ! $ move ! (10 ∷ 11 ∷ []) $ free1 ! $ move ! (8 ∷ 9 ∷ []) $ free1 ! $ move ! (6 ∷ 7 ∷ []) $ free1 ! $ free0 ! $ move ! (2 ∷ 3 ∷ 0 ∷ 1 ∷ 5 ∷ 4 ∷ []) $
-        by ! (exits (topicMove (p .«object_id») (namesIn (d) body) (foundObject (sessions) (objects) id (record { 0 = (p .«parent_id») }))) sessions objects ((ap (λ (k : ObjectKind). createMove k sessions objects d id p body) (sym e-4), ap (λ (k : ObjectKind). createdSessions k sessions objects id (p .«object_id»)) (sym e-4), ap (λ (k : ObjectKind). createdObjects k sessions objects id (p .«object_id»)) (sym e-4))) is-4·Topic·5 refl refl))))
+        returns ! (look ! 66 refl) $ forget ! 38 refl $ forget ! 40 refl $ forget ! 42 refl $ forget ! 44 refl $ forget ! 46 refl $ forget ! 48 refl $ forget ! 50 refl $ forget ! 52 refl $ move ! (2 ∷ 3 ∷ 0 ∷ 1 ∷ 5 ∷ 4 ∷ 6 ∷ 7 ∷ 8 ∷ 9 ∷ 10 ∷ 11 ∷ 12 ∷ 13 ∷ 14 ∷ 15 ∷ 16 ∷ 17 ∷ 18 ∷ 19 ∷ 20 ∷ 21 ∷ 22 ∷ 23 ∷ 24 ∷ 25 ∷ 26 ∷ 27 ∷ 28 ∷ 29 ∷ 30 ∷ 31 ∷ 32 ∷ 33 ∷ 34 ∷ 35 ∷ 36 ∷ 37 ∷ 38 ∷ 39 ∷ 40 ∷ 41 ∷ 42 ∷ 43 ∷ 44 ∷ 45 ∷ 46 ∷ 47 ∷ 48 ∷ 49 ∷ 50 ∷ 51 ∷ 52 ∷ 53 ∷ 54 ∷ 55 ∷ 56 ∷ 57 ∷ 58 ∷ 59 ∷ 60 ∷ 61 ∷ 62 ∷ 63 ∷ 64 ∷ 65 ∷ 66 ∷ 67 ∷ []) $
+        frees-all (topicMove (p .«object_id») (namesIn (d) body) (foundObject (sessions) (objects) id (record { 0 = (p .«parent_id») }))) sessions objects (exits (topicMove (p .«object_id») (namesIn (d) body) (foundObject (sessions) (objects) id (record { 0 = (p .«parent_id») }))) sessions objects ((ap (λ (k : ObjectKind). createMove k sessions objects d id p body) (sym e-4), ap (λ (k : ObjectKind). createdSessions k sessions objects id (p .«object_id»)) (sym e-4), ap (λ (k : ObjectKind). createdObjects k sessions objects id (p .«object_id»)) (sym e-4))) is-4·Topic·5 refl refl))))
 
-    matched-4-Publisher-2 : (e-4 : p .kind ≡ ObjectKind-Publisher) → (good-4 : Is (ObjectKind-p .row) ObjectKind-Publisher (ObjectKind-p .val ObjectKind-Publisher ∷ [])) → Sq W (‵ (MutSlice (named 0) κ₁ (Array u64 5) .own (at-list b₁ o₁ γ₁ sessions) (sliceVal (b₁, o₁) n₁ ∷ [])) ∷ ‵ (flft κ₁ q₁) ∷ ‵ (MutSlice (named 0) κ₂ Object-t.the-row .own (at-list b₂ o₂ γ₂ objects) (sliceVal (b₂, o₂) n₂ ∷ [])) ∷ ‵ (flft κ₂ q₂) ∷ ‵ (ShrSlice (named 0) κ₃ u8 .own (at-list b₃ o₃ γ₃ d) (sliceVal (b₃, o₃) n₃ ∷ [])) ∷ ‵ (flft κ₃ q₃) ∷ free 𝓤 (sliceTy (tyRef erased imm (pointee (Object-t.the-row .written)))) l₃₀ (free 𝓤 (tyRef erased imm (pointee (Object-t.the-row .written))) l₂₉ (free 𝓤 (sliceTy (tyRef erased imm (pointee ((Array u64 5) .written)))) l₂₈ (free 𝓤 (tyRef erased imm (pointee ((Array u64 5) .written))) l₂₇ (free 𝓤 (sliceTy (tyRef erased imm (pointee (Object-t.the-row .written)))) l₂₆ (free 𝓤 (tyRef erased imm (pointee (Object-t.the-row .written))) l₂₅ (free 𝓤 (sliceTy (tyRef erased imm (pointee ((Array u64 5) .written)))) l₂₄ (free 𝓤 (tyRef erased imm (pointee ((Array u64 5) .written))) l₂₃ (free 𝓤 (sliceTy (tyRef erased mut (pointee (Object-t.the-row .written)))) l₂₂ (free 𝓤 (tyRef erased mut (pointee (Object-t.the-row .written))) l₂₁ (free 𝓤 (sliceTy (tyRef erased mut (pointee ((Array u64 5) .written)))) l₂₀ (free 𝓤 (tyRef erased mut (pointee ((Array u64 5) .written))) l₁₉ (free 𝓤 (sliceTy (tyRef erased mut (pointee (Object-t.the-row .written)))) l₁₈ (free 𝓤 (tyRef erased mut (pointee (Object-t.the-row .written))) l₁₇ (free 𝓤 (sliceTy (tyRef erased mut (pointee ((Array u64 5) .written)))) l₁₆ (free 𝓤 (tyRef erased mut (pointee ((Array u64 5) .written))) l₁₅ (free 𝓤 (sliceTy (tyRef erased imm (pointee (Object-t.the-row .written)))) l₁₄ (free 𝓤 (tyRef erased imm (pointee (Object-t.the-row .written))) l₁₃ (free 𝓤 (sliceTy (tyRef erased imm (pointee ((Array u64 5) .written)))) l₁₂ (free 𝓤 (tyRef erased imm (pointee ((Array u64 5) .written))) l₁₁ (free 𝓤 Move-l.mir l₁₀ (full 𝓤 ObjectKind-l.mir l₉ (ObjectKind-p .val ObjectKind-Publisher) (full 𝓤 (tyInt w16) l₈ (u16-p .val (p .«parent_id»)) (full 𝓤 ObjectNumber-l.mir l₇ (ObjectNumber-p .val (p .«object_id»)) (full 𝓤 Span-l.mir l₆ (Span-p .val body) (full 𝓤 CreatePayload-l.mir l₅ (CreatePayload-p .val p) (full 𝓤 (tyInt w8) l₄ (u8-p .val id) (full 𝓤 (sliceTy (tyRef (named 2) imm (pointee (u8 .written)))) l₃ (sliceVal (b₃, o₃) n₃) (full 𝓤 (sliceTy (tyRef (named 1) mut (pointee (Object-t.the-row .written)))) l₂ (sliceVal (b₂, o₂) n₂) (full 𝓤 (sliceTy (tyRef (named 0) mut (pointee ((Array u64 5) .written)))) l₁ (sliceVal (b₁, o₁) n₁) (free 𝓤 Move-l.mir l₀ ([])))))))))))))))))))))))))))))))) (runs C Λ En (one mir.t-4) (anyQ (afterSeq 𝓤 H (Wp 𝓤 H C Λ En mir.t-5 (atReturn 𝓤 H En Post)) (atReturn 𝓤 H En Post))))
-    matched-4-Publisher-2 e-4 good-4 =
+    matched-4-Publisher-3 : (e-4 : p .kind ≡ ObjectKind-Publisher) → (good-4 : Is (ObjectKind-p .row) ObjectKind-Publisher (ObjectKind-p .val ObjectKind-Publisher ∷ [])) → Sq W (‵ (MutSlice (named 0) κ₁ (Array u64 5) .own (at-list b₁ o₁ γ₁ sessions) (sliceVal (b₁, o₁) n₁ ∷ [])) ∷ ‵ (flft κ₁ q₁) ∷ ‵ (MutSlice (named 0) κ₂ Object-t.the-row .own (at-list b₂ o₂ γ₂ objects) (sliceVal (b₂, o₂) n₂ ∷ [])) ∷ ‵ (flft κ₂ q₂) ∷ ‵ (ShrSlice (named 0) κ₃ u8 .own (at-list b₃ o₃ γ₃ d) (sliceVal (b₃, o₃) n₃ ∷ [])) ∷ ‵ (flft κ₃ q₃) ∷ free 𝓤 (sliceTy (tyRef erased imm (pointee (Object-t.the-row .written)))) l₃₀ (free 𝓤 (tyRef erased imm (pointee (Object-t.the-row .written))) l₂₉ (free 𝓤 (sliceTy (tyRef erased imm (pointee ((Array u64 5) .written)))) l₂₈ (free 𝓤 (tyRef erased imm (pointee ((Array u64 5) .written))) l₂₇ (free 𝓤 (sliceTy (tyRef erased imm (pointee (Object-t.the-row .written)))) l₂₆ (free 𝓤 (tyRef erased imm (pointee (Object-t.the-row .written))) l₂₅ (free 𝓤 (sliceTy (tyRef erased imm (pointee ((Array u64 5) .written)))) l₂₄ (free 𝓤 (tyRef erased imm (pointee ((Array u64 5) .written))) l₂₃ (free 𝓤 (sliceTy (tyRef erased mut (pointee (Object-t.the-row .written)))) l₂₂ (free 𝓤 (tyRef erased mut (pointee (Object-t.the-row .written))) l₂₁ (free 𝓤 (sliceTy (tyRef erased mut (pointee ((Array u64 5) .written)))) l₂₀ (free 𝓤 (tyRef erased mut (pointee ((Array u64 5) .written))) l₁₉ (free 𝓤 (sliceTy (tyRef erased mut (pointee (Object-t.the-row .written)))) l₁₈ (free 𝓤 (tyRef erased mut (pointee (Object-t.the-row .written))) l₁₇ (free 𝓤 (sliceTy (tyRef erased mut (pointee ((Array u64 5) .written)))) l₁₆ (free 𝓤 (tyRef erased mut (pointee ((Array u64 5) .written))) l₁₅ (free 𝓤 (sliceTy (tyRef erased imm (pointee (Object-t.the-row .written)))) l₁₄ (free 𝓤 (tyRef erased imm (pointee (Object-t.the-row .written))) l₁₃ (free 𝓤 (sliceTy (tyRef erased imm (pointee ((Array u64 5) .written)))) l₁₂ (free 𝓤 (tyRef erased imm (pointee ((Array u64 5) .written))) l₁₁ (free 𝓤 Move-l.mir l₁₀ (full 𝓤 ObjectKind-l.mir l₉ (ObjectKind-p .val ObjectKind-Publisher) (full 𝓤 (tyInt w16) l₈ (u16-p .val (p .«parent_id»)) (full 𝓤 ObjectNumber-l.mir l₇ (ObjectNumber-p .val (p .«object_id»)) (full 𝓤 Span-l.mir l₆ (Span-p .val body) (full 𝓤 CreatePayload-l.mir l₅ (CreatePayload-p .val p) (full 𝓤 (tyInt w8) l₄ (u8-p .val id) (full 𝓤 (sliceTy (tyRef (named 2) imm (pointee (u8 .written)))) l₃ (sliceVal (b₃, o₃) n₃) (full 𝓤 (sliceTy (tyRef (named 1) mut (pointee (Object-t.the-row .written)))) l₂ (sliceVal (b₂, o₂) n₂) (full 𝓤 (sliceTy (tyRef (named 0) mut (pointee ((Array u64 5) .written)))) l₁ (sliceVal (b₁, o₁) n₁) (free 𝓤 Move-l.mir l₀ ([])))))))))))))))))))))))))))))))) (runs C Λ En (one mir.t-4) (anyQ (afterSeq 𝓤 H (Wp 𝓤 H C Λ En mir.t-5 (atReturn 𝓤 H En Post)) (atReturn 𝓤 H En Post))))
+    matched-4-Publisher-3 e-4 good-4 =
         switches-on ! (load ! (from ! (vrt ! refl (fld ! refl (stop !)))) (look-tag ! 48 (whole !))) $ exec ! C Λ En (arm-of 2 (one mir.t-4)) (anyQ (afterSeq 𝓤 H (Wp 𝓤 H C Λ En mir.t-5 (atReturn 𝓤 H En Post)) (atReturn 𝓤 H En Post))) $
         assigns ! (addr ! (from ! (fld ! refl (hop ! (look-in ! 64 (sub ! 0 refl (whole !))) (stop !))))) (from ! (stop !)) (init ! 36 refl (tt, tt)) $
         assigns ! (agg ! (and-then ! (load ! (from ! (stop !)) (look ! 36 refl)) (and-then ! (load ! (from ! (fld ! refl (stop !))) (look-in ! 64 (sub ! 1 refl (whole !)))) (no-more !)))) (from ! (stop !)) (init ! 34 refl (tt, (tt, (record { fits = room₁ .0 }, tt)))) $
@@ -303,11 +309,11 @@ module _ {M : Type 1} (𝓤 : URA M) (H : Heap 𝓤) (A : Atoms 𝓤) (W : Given
         land-last ! (from ! (stop !)) (init ! 46 refl (Move-p .typed 𝓤 H A W (okMove (p .«object_id»)) is-4·Publisher·5)) $
         exec ! C Λ En mir.t-5 (atRet En Post) $
         assigns ! (of-opd ! (load ! (from ! (stop !)) (look ! 46 refl))) (from ! (stop !)) (init ! 66 refl (Move-p .typed 𝓤 H A W (okMove (p .«object_id»)) is-4·Publisher·5)) $
-        returns ! (look ! 66 refl) $ forget ! 30 refl $ forget ! 32 refl $ forget ! 34 refl $ forget ! 36 refl $ forget ! 46 refl $ forget ! 48 refl $ forget ! 50 refl $ forget ! 52 refl $ forget ! 54 refl $ forget ! 56 refl $ forget ! 58 refl $ forget ! 60 refl $ forget ! 62 refl $ forget ! 64 refl $ forget ! 66 refl $ move ! (66 ∷ 67 ∷ []) $ free1 ! $ move ! (64 ∷ 65 ∷ []) $ free1 ! $ move ! (62 ∷ 63 ∷ []) $ free1 ! $ move ! (60 ∷ 61 ∷ []) $ free1 ! $ move ! (58 ∷ 59 ∷ []) $ free1 ! $ move ! (56 ∷ 57 ∷ []) $ free1 ! $ move ! (54 ∷ 55 ∷ []) $ free1 ! $ move ! (52 ∷ 53 ∷ []) $ free1 ! $ move ! (50 ∷ 51 ∷ []) $ free1 ! $ move ! (48 ∷ 49 ∷ []) $ free1 ! $ move ! (46 ∷ 47 ∷ []) $ free1 ! $ move ! (44 ∷ 45 ∷ []) $ free1 ! $ move ! (42 ∷ 43 ∷ []) $ free1 ! $ move ! (40 ∷ 41 ∷ []) $ free1 ! $ move ! (38 ∷ 39 ∷ []) $ free1 ! $ move ! (36 ∷ 37 ∷ []) $ free1 ! $ move ! (34 ∷ 35 ∷ []) $ free1 ! $ move ! (32 ∷ 33 ∷ []) $ free1 ! $ move ! (30 ∷ 31 ∷ []) $ free1 ! $ move ! (28 ∷ 29 ∷ []) $ free1 ! $ move ! (26 ∷ 27 ∷ []) $ free1 ! $ move ! (24 ∷ 25 ∷ []) $ free1 ! $ move ! (22 ∷ 23 ∷ []) $ free1 ! $ move ! (20 ∷ 21 ∷ []) $ free1 ! $ move ! (18 ∷ 19 ∷ []) $ free1 ! $ move ! (16 ∷ 17 ∷ []) $ free1 ! $ move ! (14 ∷ 15 ∷ []) $ free1 ! $ move ! (12 ∷ 13 ∷ []) $ free1 ! $ move ! (10 ∷ 11 ∷ []) $ free1 ! $ move ! (8 ∷ 9 ∷ []) $ free1 ! $ move ! (6 ∷ 7 ∷ []) $ free1 ! $ free0 ! $ move ! (2 ∷ 3 ∷ 0 ∷ 1 ∷ 4 ∷ 5 ∷ []) $
-        by ! (exits (okMove (p .«object_id»)) (keepStored (sessions) id (storedObject (sessions) (objects) id (implicitOf (p .«object_id») 3))) (storedObjects (sessions) (objects) id (implicitOf (p .«object_id») 3)) ((ap (λ (k : ObjectKind). createMove k sessions objects d id p body) (sym e-4), ap (λ (k : ObjectKind). createdSessions k sessions objects id (p .«object_id»)) (sym e-4), ap (λ (k : ObjectKind). createdObjects k sessions objects id (p .«object_id»)) (sym e-4))) is-4·Publisher·5 len-4·Publisher·5-sessions len-4·Publisher·5-objects))))))))
+        returns ! (look ! 66 refl) $ forget ! 30 refl $ forget ! 32 refl $ forget ! 34 refl $ forget ! 36 refl $ forget ! 46 refl $ forget ! 48 refl $ forget ! 50 refl $ forget ! 52 refl $ move ! (2 ∷ 3 ∷ 0 ∷ 1 ∷ 4 ∷ 5 ∷ 6 ∷ 7 ∷ 8 ∷ 9 ∷ 10 ∷ 11 ∷ 12 ∷ 13 ∷ 14 ∷ 15 ∷ 16 ∷ 17 ∷ 18 ∷ 19 ∷ 20 ∷ 21 ∷ 22 ∷ 23 ∷ 24 ∷ 25 ∷ 26 ∷ 27 ∷ 28 ∷ 29 ∷ 30 ∷ 31 ∷ 32 ∷ 33 ∷ 34 ∷ 35 ∷ 36 ∷ 37 ∷ 38 ∷ 39 ∷ 40 ∷ 41 ∷ 42 ∷ 43 ∷ 44 ∷ 45 ∷ 46 ∷ 47 ∷ 48 ∷ 49 ∷ 50 ∷ 51 ∷ 52 ∷ 53 ∷ 54 ∷ 55 ∷ 56 ∷ 57 ∷ 58 ∷ 59 ∷ 60 ∷ 61 ∷ 62 ∷ 63 ∷ 64 ∷ 65 ∷ 66 ∷ 67 ∷ []) $
+        frees-all (okMove (p .«object_id»)) (keepStored (sessions) id (storedObject (sessions) (objects) id (implicitOf (p .«object_id») 3))) (storedObjects (sessions) (objects) id (implicitOf (p .«object_id») 3)) (exits (okMove (p .«object_id»)) (keepStored (sessions) id (storedObject (sessions) (objects) id (implicitOf (p .«object_id») 3))) (storedObjects (sessions) (objects) id (implicitOf (p .«object_id») 3)) ((ap (λ (k : ObjectKind). createMove k sessions objects d id p body) (sym e-4), ap (λ (k : ObjectKind). createdSessions k sessions objects id (p .«object_id»)) (sym e-4), ap (λ (k : ObjectKind). createdObjects k sessions objects id (p .«object_id»)) (sym e-4))) is-4·Publisher·5 len-4·Publisher·5-sessions len-4·Publisher·5-objects))))))))
 
-    matched-4-Subscriber-3 : (e-4 : p .kind ≡ ObjectKind-Subscriber) → (good-4 : Is (ObjectKind-p .row) ObjectKind-Subscriber (ObjectKind-p .val ObjectKind-Subscriber ∷ [])) → Sq W (‵ (MutSlice (named 0) κ₁ (Array u64 5) .own (at-list b₁ o₁ γ₁ sessions) (sliceVal (b₁, o₁) n₁ ∷ [])) ∷ ‵ (flft κ₁ q₁) ∷ ‵ (MutSlice (named 0) κ₂ Object-t.the-row .own (at-list b₂ o₂ γ₂ objects) (sliceVal (b₂, o₂) n₂ ∷ [])) ∷ ‵ (flft κ₂ q₂) ∷ ‵ (ShrSlice (named 0) κ₃ u8 .own (at-list b₃ o₃ γ₃ d) (sliceVal (b₃, o₃) n₃ ∷ [])) ∷ ‵ (flft κ₃ q₃) ∷ free 𝓤 (sliceTy (tyRef erased imm (pointee (Object-t.the-row .written)))) l₃₀ (free 𝓤 (tyRef erased imm (pointee (Object-t.the-row .written))) l₂₉ (free 𝓤 (sliceTy (tyRef erased imm (pointee ((Array u64 5) .written)))) l₂₈ (free 𝓤 (tyRef erased imm (pointee ((Array u64 5) .written))) l₂₇ (free 𝓤 (sliceTy (tyRef erased imm (pointee (Object-t.the-row .written)))) l₂₆ (free 𝓤 (tyRef erased imm (pointee (Object-t.the-row .written))) l₂₅ (free 𝓤 (sliceTy (tyRef erased imm (pointee ((Array u64 5) .written)))) l₂₄ (free 𝓤 (tyRef erased imm (pointee ((Array u64 5) .written))) l₂₃ (free 𝓤 (sliceTy (tyRef erased mut (pointee (Object-t.the-row .written)))) l₂₂ (free 𝓤 (tyRef erased mut (pointee (Object-t.the-row .written))) l₂₁ (free 𝓤 (sliceTy (tyRef erased mut (pointee ((Array u64 5) .written)))) l₂₀ (free 𝓤 (tyRef erased mut (pointee ((Array u64 5) .written))) l₁₉ (free 𝓤 (sliceTy (tyRef erased mut (pointee (Object-t.the-row .written)))) l₁₈ (free 𝓤 (tyRef erased mut (pointee (Object-t.the-row .written))) l₁₇ (free 𝓤 (sliceTy (tyRef erased mut (pointee ((Array u64 5) .written)))) l₁₆ (free 𝓤 (tyRef erased mut (pointee ((Array u64 5) .written))) l₁₅ (free 𝓤 (sliceTy (tyRef erased imm (pointee (Object-t.the-row .written)))) l₁₄ (free 𝓤 (tyRef erased imm (pointee (Object-t.the-row .written))) l₁₃ (free 𝓤 (sliceTy (tyRef erased imm (pointee ((Array u64 5) .written)))) l₁₂ (free 𝓤 (tyRef erased imm (pointee ((Array u64 5) .written))) l₁₁ (free 𝓤 Move-l.mir l₁₀ (full 𝓤 ObjectKind-l.mir l₉ (ObjectKind-p .val ObjectKind-Subscriber) (full 𝓤 (tyInt w16) l₈ (u16-p .val (p .«parent_id»)) (full 𝓤 ObjectNumber-l.mir l₇ (ObjectNumber-p .val (p .«object_id»)) (full 𝓤 Span-l.mir l₆ (Span-p .val body) (full 𝓤 CreatePayload-l.mir l₅ (CreatePayload-p .val p) (full 𝓤 (tyInt w8) l₄ (u8-p .val id) (full 𝓤 (sliceTy (tyRef (named 2) imm (pointee (u8 .written)))) l₃ (sliceVal (b₃, o₃) n₃) (full 𝓤 (sliceTy (tyRef (named 1) mut (pointee (Object-t.the-row .written)))) l₂ (sliceVal (b₂, o₂) n₂) (full 𝓤 (sliceTy (tyRef (named 0) mut (pointee ((Array u64 5) .written)))) l₁ (sliceVal (b₁, o₁) n₁) (free 𝓤 Move-l.mir l₀ ([])))))))))))))))))))))))))))))))) (runs C Λ En (one mir.t-4) (anyQ (afterSeq 𝓤 H (Wp 𝓤 H C Λ En mir.t-5 (atReturn 𝓤 H En Post)) (atReturn 𝓤 H En Post))))
-    matched-4-Subscriber-3 e-4 good-4 =
+    matched-4-Subscriber-4 : (e-4 : p .kind ≡ ObjectKind-Subscriber) → (good-4 : Is (ObjectKind-p .row) ObjectKind-Subscriber (ObjectKind-p .val ObjectKind-Subscriber ∷ [])) → Sq W (‵ (MutSlice (named 0) κ₁ (Array u64 5) .own (at-list b₁ o₁ γ₁ sessions) (sliceVal (b₁, o₁) n₁ ∷ [])) ∷ ‵ (flft κ₁ q₁) ∷ ‵ (MutSlice (named 0) κ₂ Object-t.the-row .own (at-list b₂ o₂ γ₂ objects) (sliceVal (b₂, o₂) n₂ ∷ [])) ∷ ‵ (flft κ₂ q₂) ∷ ‵ (ShrSlice (named 0) κ₃ u8 .own (at-list b₃ o₃ γ₃ d) (sliceVal (b₃, o₃) n₃ ∷ [])) ∷ ‵ (flft κ₃ q₃) ∷ free 𝓤 (sliceTy (tyRef erased imm (pointee (Object-t.the-row .written)))) l₃₀ (free 𝓤 (tyRef erased imm (pointee (Object-t.the-row .written))) l₂₉ (free 𝓤 (sliceTy (tyRef erased imm (pointee ((Array u64 5) .written)))) l₂₈ (free 𝓤 (tyRef erased imm (pointee ((Array u64 5) .written))) l₂₇ (free 𝓤 (sliceTy (tyRef erased imm (pointee (Object-t.the-row .written)))) l₂₆ (free 𝓤 (tyRef erased imm (pointee (Object-t.the-row .written))) l₂₅ (free 𝓤 (sliceTy (tyRef erased imm (pointee ((Array u64 5) .written)))) l₂₄ (free 𝓤 (tyRef erased imm (pointee ((Array u64 5) .written))) l₂₃ (free 𝓤 (sliceTy (tyRef erased mut (pointee (Object-t.the-row .written)))) l₂₂ (free 𝓤 (tyRef erased mut (pointee (Object-t.the-row .written))) l₂₁ (free 𝓤 (sliceTy (tyRef erased mut (pointee ((Array u64 5) .written)))) l₂₀ (free 𝓤 (tyRef erased mut (pointee ((Array u64 5) .written))) l₁₉ (free 𝓤 (sliceTy (tyRef erased mut (pointee (Object-t.the-row .written)))) l₁₈ (free 𝓤 (tyRef erased mut (pointee (Object-t.the-row .written))) l₁₇ (free 𝓤 (sliceTy (tyRef erased mut (pointee ((Array u64 5) .written)))) l₁₆ (free 𝓤 (tyRef erased mut (pointee ((Array u64 5) .written))) l₁₅ (free 𝓤 (sliceTy (tyRef erased imm (pointee (Object-t.the-row .written)))) l₁₄ (free 𝓤 (tyRef erased imm (pointee (Object-t.the-row .written))) l₁₃ (free 𝓤 (sliceTy (tyRef erased imm (pointee ((Array u64 5) .written)))) l₁₂ (free 𝓤 (tyRef erased imm (pointee ((Array u64 5) .written))) l₁₁ (free 𝓤 Move-l.mir l₁₀ (full 𝓤 ObjectKind-l.mir l₉ (ObjectKind-p .val ObjectKind-Subscriber) (full 𝓤 (tyInt w16) l₈ (u16-p .val (p .«parent_id»)) (full 𝓤 ObjectNumber-l.mir l₇ (ObjectNumber-p .val (p .«object_id»)) (full 𝓤 Span-l.mir l₆ (Span-p .val body) (full 𝓤 CreatePayload-l.mir l₅ (CreatePayload-p .val p) (full 𝓤 (tyInt w8) l₄ (u8-p .val id) (full 𝓤 (sliceTy (tyRef (named 2) imm (pointee (u8 .written)))) l₃ (sliceVal (b₃, o₃) n₃) (full 𝓤 (sliceTy (tyRef (named 1) mut (pointee (Object-t.the-row .written)))) l₂ (sliceVal (b₂, o₂) n₂) (full 𝓤 (sliceTy (tyRef (named 0) mut (pointee ((Array u64 5) .written)))) l₁ (sliceVal (b₁, o₁) n₁) (free 𝓤 Move-l.mir l₀ ([])))))))))))))))))))))))))))))))) (runs C Λ En (one mir.t-4) (anyQ (afterSeq 𝓤 H (Wp 𝓤 H C Λ En mir.t-5 (atReturn 𝓤 H En Post)) (atReturn 𝓤 H En Post))))
+    matched-4-Subscriber-4 e-4 good-4 =
         switches-on ! (load ! (from ! (vrt ! refl (fld ! refl (stop !)))) (look-tag ! 48 (whole !))) $ exec ! C Λ En (arm-of 3 (one mir.t-4)) (anyQ (afterSeq 𝓤 H (Wp 𝓤 H C Λ En mir.t-5 (atReturn 𝓤 H En Post)) (atReturn 𝓤 H En Post))) $
         assigns ! (addr ! (from ! (fld ! refl (hop ! (look-in ! 64 (sub ! 0 refl (whole !))) (stop !))))) (from ! (stop !)) (init ! 28 refl (tt, tt)) $
         assigns ! (agg ! (and-then ! (load ! (from ! (stop !)) (look ! 28 refl)) (and-then ! (load ! (from ! (fld ! refl (stop !))) (look-in ! 64 (sub ! 1 refl (whole !)))) (no-more !)))) (from ! (stop !)) (init ! 26 refl (tt, (tt, (record { fits = room₁ .0 }, tt)))) $
@@ -335,11 +341,11 @@ module _ {M : Type 1} (𝓤 : URA M) (H : Heap 𝓤) (A : Atoms 𝓤) (W : Given
         land-last ! (from ! (stop !)) (init ! 46 refl (Move-p .typed 𝓤 H A W (okMove (p .«object_id»)) is-4·Subscriber·5)) $
         exec ! C Λ En mir.t-5 (atRet En Post) $
         assigns ! (of-opd ! (load ! (from ! (stop !)) (look ! 46 refl))) (from ! (stop !)) (init ! 66 refl (Move-p .typed 𝓤 H A W (okMove (p .«object_id»)) is-4·Subscriber·5)) $
-        returns ! (look ! 66 refl) $ forget ! 22 refl $ forget ! 24 refl $ forget ! 26 refl $ forget ! 28 refl $ forget ! 46 refl $ forget ! 48 refl $ forget ! 50 refl $ forget ! 52 refl $ forget ! 54 refl $ forget ! 56 refl $ forget ! 58 refl $ forget ! 60 refl $ forget ! 62 refl $ forget ! 64 refl $ forget ! 66 refl $ move ! (66 ∷ 67 ∷ []) $ free1 ! $ move ! (64 ∷ 65 ∷ []) $ free1 ! $ move ! (62 ∷ 63 ∷ []) $ free1 ! $ move ! (60 ∷ 61 ∷ []) $ free1 ! $ move ! (58 ∷ 59 ∷ []) $ free1 ! $ move ! (56 ∷ 57 ∷ []) $ free1 ! $ move ! (54 ∷ 55 ∷ []) $ free1 ! $ move ! (52 ∷ 53 ∷ []) $ free1 ! $ move ! (50 ∷ 51 ∷ []) $ free1 ! $ move ! (48 ∷ 49 ∷ []) $ free1 ! $ move ! (46 ∷ 47 ∷ []) $ free1 ! $ move ! (44 ∷ 45 ∷ []) $ free1 ! $ move ! (42 ∷ 43 ∷ []) $ free1 ! $ move ! (40 ∷ 41 ∷ []) $ free1 ! $ move ! (38 ∷ 39 ∷ []) $ free1 ! $ move ! (36 ∷ 37 ∷ []) $ free1 ! $ move ! (34 ∷ 35 ∷ []) $ free1 ! $ move ! (32 ∷ 33 ∷ []) $ free1 ! $ move ! (30 ∷ 31 ∷ []) $ free1 ! $ move ! (28 ∷ 29 ∷ []) $ free1 ! $ move ! (26 ∷ 27 ∷ []) $ free1 ! $ move ! (24 ∷ 25 ∷ []) $ free1 ! $ move ! (22 ∷ 23 ∷ []) $ free1 ! $ move ! (20 ∷ 21 ∷ []) $ free1 ! $ move ! (18 ∷ 19 ∷ []) $ free1 ! $ move ! (16 ∷ 17 ∷ []) $ free1 ! $ move ! (14 ∷ 15 ∷ []) $ free1 ! $ move ! (12 ∷ 13 ∷ []) $ free1 ! $ move ! (10 ∷ 11 ∷ []) $ free1 ! $ move ! (8 ∷ 9 ∷ []) $ free1 ! $ move ! (6 ∷ 7 ∷ []) $ free1 ! $ free0 ! $ move ! (2 ∷ 3 ∷ 0 ∷ 1 ∷ 4 ∷ 5 ∷ []) $
-        by ! (exits (okMove (p .«object_id»)) (keepStored (sessions) id (storedObject (sessions) (objects) id (implicitOf (p .«object_id») 4))) (storedObjects (sessions) (objects) id (implicitOf (p .«object_id») 4)) ((ap (λ (k : ObjectKind). createMove k sessions objects d id p body) (sym e-4), ap (λ (k : ObjectKind). createdSessions k sessions objects id (p .«object_id»)) (sym e-4), ap (λ (k : ObjectKind). createdObjects k sessions objects id (p .«object_id»)) (sym e-4))) is-4·Subscriber·5 len-4·Subscriber·5-sessions len-4·Subscriber·5-objects))))))))
+        returns ! (look ! 66 refl) $ forget ! 22 refl $ forget ! 24 refl $ forget ! 26 refl $ forget ! 28 refl $ forget ! 46 refl $ forget ! 48 refl $ forget ! 50 refl $ forget ! 52 refl $ move ! (2 ∷ 3 ∷ 0 ∷ 1 ∷ 4 ∷ 5 ∷ 6 ∷ 7 ∷ 8 ∷ 9 ∷ 10 ∷ 11 ∷ 12 ∷ 13 ∷ 14 ∷ 15 ∷ 16 ∷ 17 ∷ 18 ∷ 19 ∷ 20 ∷ 21 ∷ 22 ∷ 23 ∷ 24 ∷ 25 ∷ 26 ∷ 27 ∷ 28 ∷ 29 ∷ 30 ∷ 31 ∷ 32 ∷ 33 ∷ 34 ∷ 35 ∷ 36 ∷ 37 ∷ 38 ∷ 39 ∷ 40 ∷ 41 ∷ 42 ∷ 43 ∷ 44 ∷ 45 ∷ 46 ∷ 47 ∷ 48 ∷ 49 ∷ 50 ∷ 51 ∷ 52 ∷ 53 ∷ 54 ∷ 55 ∷ 56 ∷ 57 ∷ 58 ∷ 59 ∷ 60 ∷ 61 ∷ 62 ∷ 63 ∷ 64 ∷ 65 ∷ 66 ∷ 67 ∷ []) $
+        frees-all (okMove (p .«object_id»)) (keepStored (sessions) id (storedObject (sessions) (objects) id (implicitOf (p .«object_id») 4))) (storedObjects (sessions) (objects) id (implicitOf (p .«object_id») 4)) (exits (okMove (p .«object_id»)) (keepStored (sessions) id (storedObject (sessions) (objects) id (implicitOf (p .«object_id») 4))) (storedObjects (sessions) (objects) id (implicitOf (p .«object_id») 4)) ((ap (λ (k : ObjectKind). createMove k sessions objects d id p body) (sym e-4), ap (λ (k : ObjectKind). createdSessions k sessions objects id (p .«object_id»)) (sym e-4), ap (λ (k : ObjectKind). createdObjects k sessions objects id (p .«object_id»)) (sym e-4))) is-4·Subscriber·5 len-4·Subscriber·5-sessions len-4·Subscriber·5-objects))))))))
 
-    matched-4-DataWriter-4 : (e-4 : p .kind ≡ ObjectKind-DataWriter) → (good-4 : Is (ObjectKind-p .row) ObjectKind-DataWriter (ObjectKind-p .val ObjectKind-DataWriter ∷ [])) → Sq W (‵ (MutSlice (named 0) κ₁ (Array u64 5) .own (at-list b₁ o₁ γ₁ sessions) (sliceVal (b₁, o₁) n₁ ∷ [])) ∷ ‵ (flft κ₁ q₁) ∷ ‵ (MutSlice (named 0) κ₂ Object-t.the-row .own (at-list b₂ o₂ γ₂ objects) (sliceVal (b₂, o₂) n₂ ∷ [])) ∷ ‵ (flft κ₂ q₂) ∷ ‵ (ShrSlice (named 0) κ₃ u8 .own (at-list b₃ o₃ γ₃ d) (sliceVal (b₃, o₃) n₃ ∷ [])) ∷ ‵ (flft κ₃ q₃) ∷ free 𝓤 (sliceTy (tyRef erased imm (pointee (Object-t.the-row .written)))) l₃₀ (free 𝓤 (tyRef erased imm (pointee (Object-t.the-row .written))) l₂₉ (free 𝓤 (sliceTy (tyRef erased imm (pointee ((Array u64 5) .written)))) l₂₈ (free 𝓤 (tyRef erased imm (pointee ((Array u64 5) .written))) l₂₇ (free 𝓤 (sliceTy (tyRef erased imm (pointee (Object-t.the-row .written)))) l₂₆ (free 𝓤 (tyRef erased imm (pointee (Object-t.the-row .written))) l₂₅ (free 𝓤 (sliceTy (tyRef erased imm (pointee ((Array u64 5) .written)))) l₂₄ (free 𝓤 (tyRef erased imm (pointee ((Array u64 5) .written))) l₂₃ (free 𝓤 (sliceTy (tyRef erased mut (pointee (Object-t.the-row .written)))) l₂₂ (free 𝓤 (tyRef erased mut (pointee (Object-t.the-row .written))) l₂₁ (free 𝓤 (sliceTy (tyRef erased mut (pointee ((Array u64 5) .written)))) l₂₀ (free 𝓤 (tyRef erased mut (pointee ((Array u64 5) .written))) l₁₉ (free 𝓤 (sliceTy (tyRef erased mut (pointee (Object-t.the-row .written)))) l₁₈ (free 𝓤 (tyRef erased mut (pointee (Object-t.the-row .written))) l₁₇ (free 𝓤 (sliceTy (tyRef erased mut (pointee ((Array u64 5) .written)))) l₁₆ (free 𝓤 (tyRef erased mut (pointee ((Array u64 5) .written))) l₁₅ (free 𝓤 (sliceTy (tyRef erased imm (pointee (Object-t.the-row .written)))) l₁₄ (free 𝓤 (tyRef erased imm (pointee (Object-t.the-row .written))) l₁₃ (free 𝓤 (sliceTy (tyRef erased imm (pointee ((Array u64 5) .written)))) l₁₂ (free 𝓤 (tyRef erased imm (pointee ((Array u64 5) .written))) l₁₁ (free 𝓤 Move-l.mir l₁₀ (full 𝓤 ObjectKind-l.mir l₉ (ObjectKind-p .val ObjectKind-DataWriter) (full 𝓤 (tyInt w16) l₈ (u16-p .val (p .«parent_id»)) (full 𝓤 ObjectNumber-l.mir l₇ (ObjectNumber-p .val (p .«object_id»)) (full 𝓤 Span-l.mir l₆ (Span-p .val body) (full 𝓤 CreatePayload-l.mir l₅ (CreatePayload-p .val p) (full 𝓤 (tyInt w8) l₄ (u8-p .val id) (full 𝓤 (sliceTy (tyRef (named 2) imm (pointee (u8 .written)))) l₃ (sliceVal (b₃, o₃) n₃) (full 𝓤 (sliceTy (tyRef (named 1) mut (pointee (Object-t.the-row .written)))) l₂ (sliceVal (b₂, o₂) n₂) (full 𝓤 (sliceTy (tyRef (named 0) mut (pointee ((Array u64 5) .written)))) l₁ (sliceVal (b₁, o₁) n₁) (free 𝓤 Move-l.mir l₀ ([])))))))))))))))))))))))))))))))) (runs C Λ En (one mir.t-4) (anyQ (afterSeq 𝓤 H (Wp 𝓤 H C Λ En mir.t-5 (atReturn 𝓤 H En Post)) (atReturn 𝓤 H En Post))))
-    matched-4-DataWriter-4 e-4 good-4 =
+    matched-4-DataWriter-5 : (e-4 : p .kind ≡ ObjectKind-DataWriter) → (good-4 : Is (ObjectKind-p .row) ObjectKind-DataWriter (ObjectKind-p .val ObjectKind-DataWriter ∷ [])) → Sq W (‵ (MutSlice (named 0) κ₁ (Array u64 5) .own (at-list b₁ o₁ γ₁ sessions) (sliceVal (b₁, o₁) n₁ ∷ [])) ∷ ‵ (flft κ₁ q₁) ∷ ‵ (MutSlice (named 0) κ₂ Object-t.the-row .own (at-list b₂ o₂ γ₂ objects) (sliceVal (b₂, o₂) n₂ ∷ [])) ∷ ‵ (flft κ₂ q₂) ∷ ‵ (ShrSlice (named 0) κ₃ u8 .own (at-list b₃ o₃ γ₃ d) (sliceVal (b₃, o₃) n₃ ∷ [])) ∷ ‵ (flft κ₃ q₃) ∷ free 𝓤 (sliceTy (tyRef erased imm (pointee (Object-t.the-row .written)))) l₃₀ (free 𝓤 (tyRef erased imm (pointee (Object-t.the-row .written))) l₂₉ (free 𝓤 (sliceTy (tyRef erased imm (pointee ((Array u64 5) .written)))) l₂₈ (free 𝓤 (tyRef erased imm (pointee ((Array u64 5) .written))) l₂₇ (free 𝓤 (sliceTy (tyRef erased imm (pointee (Object-t.the-row .written)))) l₂₆ (free 𝓤 (tyRef erased imm (pointee (Object-t.the-row .written))) l₂₅ (free 𝓤 (sliceTy (tyRef erased imm (pointee ((Array u64 5) .written)))) l₂₄ (free 𝓤 (tyRef erased imm (pointee ((Array u64 5) .written))) l₂₃ (free 𝓤 (sliceTy (tyRef erased mut (pointee (Object-t.the-row .written)))) l₂₂ (free 𝓤 (tyRef erased mut (pointee (Object-t.the-row .written))) l₂₁ (free 𝓤 (sliceTy (tyRef erased mut (pointee ((Array u64 5) .written)))) l₂₀ (free 𝓤 (tyRef erased mut (pointee ((Array u64 5) .written))) l₁₉ (free 𝓤 (sliceTy (tyRef erased mut (pointee (Object-t.the-row .written)))) l₁₈ (free 𝓤 (tyRef erased mut (pointee (Object-t.the-row .written))) l₁₇ (free 𝓤 (sliceTy (tyRef erased mut (pointee ((Array u64 5) .written)))) l₁₆ (free 𝓤 (tyRef erased mut (pointee ((Array u64 5) .written))) l₁₅ (free 𝓤 (sliceTy (tyRef erased imm (pointee (Object-t.the-row .written)))) l₁₄ (free 𝓤 (tyRef erased imm (pointee (Object-t.the-row .written))) l₁₃ (free 𝓤 (sliceTy (tyRef erased imm (pointee ((Array u64 5) .written)))) l₁₂ (free 𝓤 (tyRef erased imm (pointee ((Array u64 5) .written))) l₁₁ (free 𝓤 Move-l.mir l₁₀ (full 𝓤 ObjectKind-l.mir l₉ (ObjectKind-p .val ObjectKind-DataWriter) (full 𝓤 (tyInt w16) l₈ (u16-p .val (p .«parent_id»)) (full 𝓤 ObjectNumber-l.mir l₇ (ObjectNumber-p .val (p .«object_id»)) (full 𝓤 Span-l.mir l₆ (Span-p .val body) (full 𝓤 CreatePayload-l.mir l₅ (CreatePayload-p .val p) (full 𝓤 (tyInt w8) l₄ (u8-p .val id) (full 𝓤 (sliceTy (tyRef (named 2) imm (pointee (u8 .written)))) l₃ (sliceVal (b₃, o₃) n₃) (full 𝓤 (sliceTy (tyRef (named 1) mut (pointee (Object-t.the-row .written)))) l₂ (sliceVal (b₂, o₂) n₂) (full 𝓤 (sliceTy (tyRef (named 0) mut (pointee ((Array u64 5) .written)))) l₁ (sliceVal (b₁, o₁) n₁) (free 𝓤 Move-l.mir l₀ ([])))))))))))))))))))))))))))))))) (runs C Λ En (one mir.t-4) (anyQ (afterSeq 𝓤 H (Wp 𝓤 H C Λ En mir.t-5 (atReturn 𝓤 H En Post)) (atReturn 𝓤 H En Post))))
+    matched-4-DataWriter-5 e-4 good-4 =
         switches-on ! (load ! (from ! (vrt ! refl (fld ! refl (stop !)))) (look-tag ! 48 (whole !))) $ exec ! C Λ En (arm-of 4 (one mir.t-4)) (anyQ (afterSeq 𝓤 H (Wp 𝓤 H C Λ En mir.t-5 (atReturn 𝓤 H En Post)) (atReturn 𝓤 H En Post))) $
         assigns ! (addr ! (from ! (fld ! refl (hop ! (look-in ! 64 (sub ! 0 refl (whole !))) (stop !))))) (from ! (stop !)) (init ! 20 refl (tt, tt)) $
         assigns ! (agg ! (and-then ! (load ! (from ! (stop !)) (look ! 20 refl)) (and-then ! (load ! (from ! (fld ! refl (stop !))) (look-in ! 64 (sub ! 1 refl (whole !)))) (no-more !)))) (from ! (stop !)) (init ! 18 refl (tt, (tt, (record { fits = room₁ .0 }, tt)))) $
@@ -361,11 +367,11 @@ module _ {M : Type 1} (𝓤 : URA M) (H : Heap 𝓤) (A : Atoms 𝓤) (W : Given
         land-last ! (from ! (stop !)) (init ! 46 refl (Move-p .typed 𝓤 H A W (endpointMove (p .«object_id») 5 (greatestObject (sessions) (objects) id 1) (greatestObject (sessions) (objects) id 2)) is-4·DataWriter·5)) $
         exec ! C Λ En mir.t-5 (atRet En Post) $
         assigns ! (of-opd ! (load ! (from ! (stop !)) (look ! 46 refl))) (from ! (stop !)) (init ! 66 refl (Move-p .typed 𝓤 H A W (endpointMove (p .«object_id») 5 (greatestObject (sessions) (objects) id 1) (greatestObject (sessions) (objects) id 2)) is-4·DataWriter·5)) $
-        returns ! (look ! 66 refl) $ forget ! 14 refl $ forget ! 16 refl $ forget ! 18 refl $ forget ! 20 refl $ forget ! 46 refl $ forget ! 48 refl $ forget ! 50 refl $ forget ! 52 refl $ forget ! 54 refl $ forget ! 56 refl $ forget ! 58 refl $ forget ! 60 refl $ forget ! 62 refl $ forget ! 64 refl $ forget ! 66 refl $ move ! (66 ∷ 67 ∷ []) $ free1 ! $ move ! (64 ∷ 65 ∷ []) $ free1 ! $ move ! (62 ∷ 63 ∷ []) $ free1 ! $ move ! (60 ∷ 61 ∷ []) $ free1 ! $ move ! (58 ∷ 59 ∷ []) $ free1 ! $ move ! (56 ∷ 57 ∷ []) $ free1 ! $ move ! (54 ∷ 55 ∷ []) $ free1 ! $ move ! (52 ∷ 53 ∷ []) $ free1 ! $ move ! (50 ∷ 51 ∷ []) $ free1 ! $ move ! (48 ∷ 49 ∷ []) $ free1 ! $ move ! (46 ∷ 47 ∷ []) $ free1 ! $ move ! (44 ∷ 45 ∷ []) $ free1 ! $ move ! (42 ∷ 43 ∷ []) $ free1 ! $ move ! (40 ∷ 41 ∷ []) $ free1 ! $ move ! (38 ∷ 39 ∷ []) $ free1 ! $ move ! (36 ∷ 37 ∷ []) $ free1 ! $ move ! (34 ∷ 35 ∷ []) $ free1 ! $ move ! (32 ∷ 33 ∷ []) $ free1 ! $ move ! (30 ∷ 31 ∷ []) $ free1 ! $ move ! (28 ∷ 29 ∷ []) $ free1 ! $ move ! (26 ∷ 27 ∷ []) $ free1 ! $ move ! (24 ∷ 25 ∷ []) $ free1 ! $ move ! (22 ∷ 23 ∷ []) $ free1 ! $ move ! (20 ∷ 21 ∷ []) $ free1 ! $ move ! (18 ∷ 19 ∷ []) $ free1 ! $ move ! (16 ∷ 17 ∷ []) $ free1 ! $ move ! (14 ∷ 15 ∷ []) $ free1 ! $ move ! (12 ∷ 13 ∷ []) $ free1 ! $ move ! (10 ∷ 11 ∷ []) $ free1 ! $ move ! (8 ∷ 9 ∷ []) $ free1 ! $ move ! (6 ∷ 7 ∷ []) $ free1 ! $ free0 ! $ move ! (2 ∷ 3 ∷ 0 ∷ 1 ∷ 4 ∷ 5 ∷ []) $
-        by ! (exits (endpointMove (p .«object_id») 5 (greatestObject (sessions) (objects) id 1) (greatestObject (sessions) (objects) id 2)) sessions objects ((ap (λ (k : ObjectKind). createMove k sessions objects d id p body) (sym e-4), ap (λ (k : ObjectKind). createdSessions k sessions objects id (p .«object_id»)) (sym e-4), ap (λ (k : ObjectKind). createdObjects k sessions objects id (p .«object_id»)) (sym e-4))) is-4·DataWriter·5 refl refl))))
+        returns ! (look ! 66 refl) $ forget ! 14 refl $ forget ! 16 refl $ forget ! 18 refl $ forget ! 20 refl $ forget ! 46 refl $ forget ! 48 refl $ forget ! 50 refl $ forget ! 52 refl $ move ! (2 ∷ 3 ∷ 0 ∷ 1 ∷ 4 ∷ 5 ∷ 6 ∷ 7 ∷ 8 ∷ 9 ∷ 10 ∷ 11 ∷ 12 ∷ 13 ∷ 14 ∷ 15 ∷ 16 ∷ 17 ∷ 18 ∷ 19 ∷ 20 ∷ 21 ∷ 22 ∷ 23 ∷ 24 ∷ 25 ∷ 26 ∷ 27 ∷ 28 ∷ 29 ∷ 30 ∷ 31 ∷ 32 ∷ 33 ∷ 34 ∷ 35 ∷ 36 ∷ 37 ∷ 38 ∷ 39 ∷ 40 ∷ 41 ∷ 42 ∷ 43 ∷ 44 ∷ 45 ∷ 46 ∷ 47 ∷ 48 ∷ 49 ∷ 50 ∷ 51 ∷ 52 ∷ 53 ∷ 54 ∷ 55 ∷ 56 ∷ 57 ∷ 58 ∷ 59 ∷ 60 ∷ 61 ∷ 62 ∷ 63 ∷ 64 ∷ 65 ∷ 66 ∷ 67 ∷ []) $
+        frees-all (endpointMove (p .«object_id») 5 (greatestObject (sessions) (objects) id 1) (greatestObject (sessions) (objects) id 2)) sessions objects (exits (endpointMove (p .«object_id») 5 (greatestObject (sessions) (objects) id 1) (greatestObject (sessions) (objects) id 2)) sessions objects ((ap (λ (k : ObjectKind). createMove k sessions objects d id p body) (sym e-4), ap (λ (k : ObjectKind). createdSessions k sessions objects id (p .«object_id»)) (sym e-4), ap (λ (k : ObjectKind). createdObjects k sessions objects id (p .«object_id»)) (sym e-4))) is-4·DataWriter·5 refl refl))))
 
-    matched-4-DataReader-5 : (e-4 : p .kind ≡ ObjectKind-DataReader) → (good-4 : Is (ObjectKind-p .row) ObjectKind-DataReader (ObjectKind-p .val ObjectKind-DataReader ∷ [])) → Sq W (‵ (MutSlice (named 0) κ₁ (Array u64 5) .own (at-list b₁ o₁ γ₁ sessions) (sliceVal (b₁, o₁) n₁ ∷ [])) ∷ ‵ (flft κ₁ q₁) ∷ ‵ (MutSlice (named 0) κ₂ Object-t.the-row .own (at-list b₂ o₂ γ₂ objects) (sliceVal (b₂, o₂) n₂ ∷ [])) ∷ ‵ (flft κ₂ q₂) ∷ ‵ (ShrSlice (named 0) κ₃ u8 .own (at-list b₃ o₃ γ₃ d) (sliceVal (b₃, o₃) n₃ ∷ [])) ∷ ‵ (flft κ₃ q₃) ∷ free 𝓤 (sliceTy (tyRef erased imm (pointee (Object-t.the-row .written)))) l₃₀ (free 𝓤 (tyRef erased imm (pointee (Object-t.the-row .written))) l₂₉ (free 𝓤 (sliceTy (tyRef erased imm (pointee ((Array u64 5) .written)))) l₂₈ (free 𝓤 (tyRef erased imm (pointee ((Array u64 5) .written))) l₂₇ (free 𝓤 (sliceTy (tyRef erased imm (pointee (Object-t.the-row .written)))) l₂₆ (free 𝓤 (tyRef erased imm (pointee (Object-t.the-row .written))) l₂₅ (free 𝓤 (sliceTy (tyRef erased imm (pointee ((Array u64 5) .written)))) l₂₄ (free 𝓤 (tyRef erased imm (pointee ((Array u64 5) .written))) l₂₃ (free 𝓤 (sliceTy (tyRef erased mut (pointee (Object-t.the-row .written)))) l₂₂ (free 𝓤 (tyRef erased mut (pointee (Object-t.the-row .written))) l₂₁ (free 𝓤 (sliceTy (tyRef erased mut (pointee ((Array u64 5) .written)))) l₂₀ (free 𝓤 (tyRef erased mut (pointee ((Array u64 5) .written))) l₁₉ (free 𝓤 (sliceTy (tyRef erased mut (pointee (Object-t.the-row .written)))) l₁₈ (free 𝓤 (tyRef erased mut (pointee (Object-t.the-row .written))) l₁₇ (free 𝓤 (sliceTy (tyRef erased mut (pointee ((Array u64 5) .written)))) l₁₆ (free 𝓤 (tyRef erased mut (pointee ((Array u64 5) .written))) l₁₅ (free 𝓤 (sliceTy (tyRef erased imm (pointee (Object-t.the-row .written)))) l₁₄ (free 𝓤 (tyRef erased imm (pointee (Object-t.the-row .written))) l₁₃ (free 𝓤 (sliceTy (tyRef erased imm (pointee ((Array u64 5) .written)))) l₁₂ (free 𝓤 (tyRef erased imm (pointee ((Array u64 5) .written))) l₁₁ (free 𝓤 Move-l.mir l₁₀ (full 𝓤 ObjectKind-l.mir l₉ (ObjectKind-p .val ObjectKind-DataReader) (full 𝓤 (tyInt w16) l₈ (u16-p .val (p .«parent_id»)) (full 𝓤 ObjectNumber-l.mir l₇ (ObjectNumber-p .val (p .«object_id»)) (full 𝓤 Span-l.mir l₆ (Span-p .val body) (full 𝓤 CreatePayload-l.mir l₅ (CreatePayload-p .val p) (full 𝓤 (tyInt w8) l₄ (u8-p .val id) (full 𝓤 (sliceTy (tyRef (named 2) imm (pointee (u8 .written)))) l₃ (sliceVal (b₃, o₃) n₃) (full 𝓤 (sliceTy (tyRef (named 1) mut (pointee (Object-t.the-row .written)))) l₂ (sliceVal (b₂, o₂) n₂) (full 𝓤 (sliceTy (tyRef (named 0) mut (pointee ((Array u64 5) .written)))) l₁ (sliceVal (b₁, o₁) n₁) (free 𝓤 Move-l.mir l₀ ([])))))))))))))))))))))))))))))))) (runs C Λ En (one mir.t-4) (anyQ (afterSeq 𝓤 H (Wp 𝓤 H C Λ En mir.t-5 (atReturn 𝓤 H En Post)) (atReturn 𝓤 H En Post))))
-    matched-4-DataReader-5 e-4 good-4 =
+    matched-4-DataReader-6 : (e-4 : p .kind ≡ ObjectKind-DataReader) → (good-4 : Is (ObjectKind-p .row) ObjectKind-DataReader (ObjectKind-p .val ObjectKind-DataReader ∷ [])) → Sq W (‵ (MutSlice (named 0) κ₁ (Array u64 5) .own (at-list b₁ o₁ γ₁ sessions) (sliceVal (b₁, o₁) n₁ ∷ [])) ∷ ‵ (flft κ₁ q₁) ∷ ‵ (MutSlice (named 0) κ₂ Object-t.the-row .own (at-list b₂ o₂ γ₂ objects) (sliceVal (b₂, o₂) n₂ ∷ [])) ∷ ‵ (flft κ₂ q₂) ∷ ‵ (ShrSlice (named 0) κ₃ u8 .own (at-list b₃ o₃ γ₃ d) (sliceVal (b₃, o₃) n₃ ∷ [])) ∷ ‵ (flft κ₃ q₃) ∷ free 𝓤 (sliceTy (tyRef erased imm (pointee (Object-t.the-row .written)))) l₃₀ (free 𝓤 (tyRef erased imm (pointee (Object-t.the-row .written))) l₂₉ (free 𝓤 (sliceTy (tyRef erased imm (pointee ((Array u64 5) .written)))) l₂₈ (free 𝓤 (tyRef erased imm (pointee ((Array u64 5) .written))) l₂₇ (free 𝓤 (sliceTy (tyRef erased imm (pointee (Object-t.the-row .written)))) l₂₆ (free 𝓤 (tyRef erased imm (pointee (Object-t.the-row .written))) l₂₅ (free 𝓤 (sliceTy (tyRef erased imm (pointee ((Array u64 5) .written)))) l₂₄ (free 𝓤 (tyRef erased imm (pointee ((Array u64 5) .written))) l₂₃ (free 𝓤 (sliceTy (tyRef erased mut (pointee (Object-t.the-row .written)))) l₂₂ (free 𝓤 (tyRef erased mut (pointee (Object-t.the-row .written))) l₂₁ (free 𝓤 (sliceTy (tyRef erased mut (pointee ((Array u64 5) .written)))) l₂₀ (free 𝓤 (tyRef erased mut (pointee ((Array u64 5) .written))) l₁₉ (free 𝓤 (sliceTy (tyRef erased mut (pointee (Object-t.the-row .written)))) l₁₈ (free 𝓤 (tyRef erased mut (pointee (Object-t.the-row .written))) l₁₇ (free 𝓤 (sliceTy (tyRef erased mut (pointee ((Array u64 5) .written)))) l₁₆ (free 𝓤 (tyRef erased mut (pointee ((Array u64 5) .written))) l₁₅ (free 𝓤 (sliceTy (tyRef erased imm (pointee (Object-t.the-row .written)))) l₁₄ (free 𝓤 (tyRef erased imm (pointee (Object-t.the-row .written))) l₁₃ (free 𝓤 (sliceTy (tyRef erased imm (pointee ((Array u64 5) .written)))) l₁₂ (free 𝓤 (tyRef erased imm (pointee ((Array u64 5) .written))) l₁₁ (free 𝓤 Move-l.mir l₁₀ (full 𝓤 ObjectKind-l.mir l₉ (ObjectKind-p .val ObjectKind-DataReader) (full 𝓤 (tyInt w16) l₈ (u16-p .val (p .«parent_id»)) (full 𝓤 ObjectNumber-l.mir l₇ (ObjectNumber-p .val (p .«object_id»)) (full 𝓤 Span-l.mir l₆ (Span-p .val body) (full 𝓤 CreatePayload-l.mir l₅ (CreatePayload-p .val p) (full 𝓤 (tyInt w8) l₄ (u8-p .val id) (full 𝓤 (sliceTy (tyRef (named 2) imm (pointee (u8 .written)))) l₃ (sliceVal (b₃, o₃) n₃) (full 𝓤 (sliceTy (tyRef (named 1) mut (pointee (Object-t.the-row .written)))) l₂ (sliceVal (b₂, o₂) n₂) (full 𝓤 (sliceTy (tyRef (named 0) mut (pointee ((Array u64 5) .written)))) l₁ (sliceVal (b₁, o₁) n₁) (free 𝓤 Move-l.mir l₀ ([])))))))))))))))))))))))))))))))) (runs C Λ En (one mir.t-4) (anyQ (afterSeq 𝓤 H (Wp 𝓤 H C Λ En mir.t-5 (atReturn 𝓤 H En Post)) (atReturn 𝓤 H En Post))))
+    matched-4-DataReader-6 e-4 good-4 =
         switches-on ! (load ! (from ! (vrt ! refl (fld ! refl (stop !)))) (look-tag ! 48 (whole !))) $ exec ! C Λ En (arm-of 5 (one mir.t-4)) (anyQ (afterSeq 𝓤 H (Wp 𝓤 H C Λ En mir.t-5 (atReturn 𝓤 H En Post)) (atReturn 𝓤 H En Post))) $
         assigns ! (addr ! (from ! (fld ! refl (hop ! (look-in ! 64 (sub ! 0 refl (whole !))) (stop !))))) (from ! (stop !)) (init ! 12 refl (tt, tt)) $
         assigns ! (agg ! (and-then ! (load ! (from ! (stop !)) (look ! 12 refl)) (and-then ! (load ! (from ! (fld ! refl (stop !))) (look-in ! 64 (sub ! 1 refl (whole !)))) (no-more !)))) (from ! (stop !)) (init ! 10 refl (tt, (tt, (record { fits = room₁ .0 }, tt)))) $
@@ -387,22 +393,22 @@ module _ {M : Type 1} (𝓤 : URA M) (H : Heap 𝓤) (A : Atoms 𝓤) (W : Given
         land-last ! (from ! (stop !)) (init ! 46 refl (Move-p .typed 𝓤 H A W (endpointMove (p .«object_id») 6 (greatestObject (sessions) (objects) id 1) (greatestObject (sessions) (objects) id 2)) is-4·DataReader·5)) $
         exec ! C Λ En mir.t-5 (atRet En Post) $
         assigns ! (of-opd ! (load ! (from ! (stop !)) (look ! 46 refl))) (from ! (stop !)) (init ! 66 refl (Move-p .typed 𝓤 H A W (endpointMove (p .«object_id») 6 (greatestObject (sessions) (objects) id 1) (greatestObject (sessions) (objects) id 2)) is-4·DataReader·5)) $
-        returns ! (look ! 66 refl) $ forget ! 6 refl $ forget ! 8 refl $ forget ! 10 refl $ forget ! 12 refl $ forget ! 46 refl $ forget ! 48 refl $ forget ! 50 refl $ forget ! 52 refl $ forget ! 54 refl $ forget ! 56 refl $ forget ! 58 refl $ forget ! 60 refl $ forget ! 62 refl $ forget ! 64 refl $ forget ! 66 refl $ move ! (66 ∷ 67 ∷ []) $ free1 ! $ move ! (64 ∷ 65 ∷ []) $ free1 ! $ move ! (62 ∷ 63 ∷ []) $ free1 ! $ move ! (60 ∷ 61 ∷ []) $ free1 ! $ move ! (58 ∷ 59 ∷ []) $ free1 ! $ move ! (56 ∷ 57 ∷ []) $ free1 ! $ move ! (54 ∷ 55 ∷ []) $ free1 ! $ move ! (52 ∷ 53 ∷ []) $ free1 ! $ move ! (50 ∷ 51 ∷ []) $ free1 ! $ move ! (48 ∷ 49 ∷ []) $ free1 ! $ move ! (46 ∷ 47 ∷ []) $ free1 ! $ move ! (44 ∷ 45 ∷ []) $ free1 ! $ move ! (42 ∷ 43 ∷ []) $ free1 ! $ move ! (40 ∷ 41 ∷ []) $ free1 ! $ move ! (38 ∷ 39 ∷ []) $ free1 ! $ move ! (36 ∷ 37 ∷ []) $ free1 ! $ move ! (34 ∷ 35 ∷ []) $ free1 ! $ move ! (32 ∷ 33 ∷ []) $ free1 ! $ move ! (30 ∷ 31 ∷ []) $ free1 ! $ move ! (28 ∷ 29 ∷ []) $ free1 ! $ move ! (26 ∷ 27 ∷ []) $ free1 ! $ move ! (24 ∷ 25 ∷ []) $ free1 ! $ move ! (22 ∷ 23 ∷ []) $ free1 ! $ move ! (20 ∷ 21 ∷ []) $ free1 ! $ move ! (18 ∷ 19 ∷ []) $ free1 ! $ move ! (16 ∷ 17 ∷ []) $ free1 ! $ move ! (14 ∷ 15 ∷ []) $ free1 ! $ move ! (12 ∷ 13 ∷ []) $ free1 ! $ move ! (10 ∷ 11 ∷ []) $ free1 ! $ move ! (8 ∷ 9 ∷ []) $ free1 ! $ move ! (6 ∷ 7 ∷ []) $ free1 ! $ free0 ! $ move ! (2 ∷ 3 ∷ 0 ∷ 1 ∷ 4 ∷ 5 ∷ []) $
-        by ! (exits (endpointMove (p .«object_id») 6 (greatestObject (sessions) (objects) id 1) (greatestObject (sessions) (objects) id 2)) sessions objects ((ap (λ (k : ObjectKind). createMove k sessions objects d id p body) (sym e-4), ap (λ (k : ObjectKind). createdSessions k sessions objects id (p .«object_id»)) (sym e-4), ap (λ (k : ObjectKind). createdObjects k sessions objects id (p .«object_id»)) (sym e-4))) is-4·DataReader·5 refl refl))))
+        returns ! (look ! 66 refl) $ forget ! 6 refl $ forget ! 8 refl $ forget ! 10 refl $ forget ! 12 refl $ forget ! 46 refl $ forget ! 48 refl $ forget ! 50 refl $ forget ! 52 refl $ move ! (2 ∷ 3 ∷ 0 ∷ 1 ∷ 4 ∷ 5 ∷ 6 ∷ 7 ∷ 8 ∷ 9 ∷ 10 ∷ 11 ∷ 12 ∷ 13 ∷ 14 ∷ 15 ∷ 16 ∷ 17 ∷ 18 ∷ 19 ∷ 20 ∷ 21 ∷ 22 ∷ 23 ∷ 24 ∷ 25 ∷ 26 ∷ 27 ∷ 28 ∷ 29 ∷ 30 ∷ 31 ∷ 32 ∷ 33 ∷ 34 ∷ 35 ∷ 36 ∷ 37 ∷ 38 ∷ 39 ∷ 40 ∷ 41 ∷ 42 ∷ 43 ∷ 44 ∷ 45 ∷ 46 ∷ 47 ∷ 48 ∷ 49 ∷ 50 ∷ 51 ∷ 52 ∷ 53 ∷ 54 ∷ 55 ∷ 56 ∷ 57 ∷ 58 ∷ 59 ∷ 60 ∷ 61 ∷ 62 ∷ 63 ∷ 64 ∷ 65 ∷ 66 ∷ 67 ∷ []) $
+        frees-all (endpointMove (p .«object_id») 6 (greatestObject (sessions) (objects) id 1) (greatestObject (sessions) (objects) id 2)) sessions objects (exits (endpointMove (p .«object_id») 6 (greatestObject (sessions) (objects) id 1) (greatestObject (sessions) (objects) id 2)) sessions objects ((ap (λ (k : ObjectKind). createMove k sessions objects d id p body) (sym e-4), ap (λ (k : ObjectKind). createdSessions k sessions objects id (p .«object_id»)) (sym e-4), ap (λ (k : ObjectKind). createdObjects k sessions objects id (p .«object_id»)) (sym e-4))) is-4·DataReader·5 refl refl))))
 
     matched-4-0 : (z : ObjectKind) → (p .kind) ≡ z → Is (ObjectKind-p .row) z (ObjectKind-p .val z ∷ []) → Sq W (‵ (MutSlice (named 0) κ₁ (Array u64 5) .own (at-list b₁ o₁ γ₁ sessions) (sliceVal (b₁, o₁) n₁ ∷ [])) ∷ ‵ (flft κ₁ q₁) ∷ ‵ (MutSlice (named 0) κ₂ Object-t.the-row .own (at-list b₂ o₂ γ₂ objects) (sliceVal (b₂, o₂) n₂ ∷ [])) ∷ ‵ (flft κ₂ q₂) ∷ ‵ (ShrSlice (named 0) κ₃ u8 .own (at-list b₃ o₃ γ₃ d) (sliceVal (b₃, o₃) n₃ ∷ [])) ∷ ‵ (flft κ₃ q₃) ∷ free 𝓤 (sliceTy (tyRef erased imm (pointee (Object-t.the-row .written)))) l₃₀ (free 𝓤 (tyRef erased imm (pointee (Object-t.the-row .written))) l₂₉ (free 𝓤 (sliceTy (tyRef erased imm (pointee ((Array u64 5) .written)))) l₂₈ (free 𝓤 (tyRef erased imm (pointee ((Array u64 5) .written))) l₂₇ (free 𝓤 (sliceTy (tyRef erased imm (pointee (Object-t.the-row .written)))) l₂₆ (free 𝓤 (tyRef erased imm (pointee (Object-t.the-row .written))) l₂₅ (free 𝓤 (sliceTy (tyRef erased imm (pointee ((Array u64 5) .written)))) l₂₄ (free 𝓤 (tyRef erased imm (pointee ((Array u64 5) .written))) l₂₃ (free 𝓤 (sliceTy (tyRef erased mut (pointee (Object-t.the-row .written)))) l₂₂ (free 𝓤 (tyRef erased mut (pointee (Object-t.the-row .written))) l₂₁ (free 𝓤 (sliceTy (tyRef erased mut (pointee ((Array u64 5) .written)))) l₂₀ (free 𝓤 (tyRef erased mut (pointee ((Array u64 5) .written))) l₁₉ (free 𝓤 (sliceTy (tyRef erased mut (pointee (Object-t.the-row .written)))) l₁₈ (free 𝓤 (tyRef erased mut (pointee (Object-t.the-row .written))) l₁₇ (free 𝓤 (sliceTy (tyRef erased mut (pointee ((Array u64 5) .written)))) l₁₆ (free 𝓤 (tyRef erased mut (pointee ((Array u64 5) .written))) l₁₅ (free 𝓤 (sliceTy (tyRef erased imm (pointee (Object-t.the-row .written)))) l₁₄ (free 𝓤 (tyRef erased imm (pointee (Object-t.the-row .written))) l₁₃ (free 𝓤 (sliceTy (tyRef erased imm (pointee ((Array u64 5) .written)))) l₁₂ (free 𝓤 (tyRef erased imm (pointee ((Array u64 5) .written))) l₁₁ (free 𝓤 Move-l.mir l₁₀ (full 𝓤 ObjectKind-l.mir l₉ (ObjectKind-p .val z) (full 𝓤 (tyInt w16) l₈ (u16-p .val (p .«parent_id»)) (full 𝓤 ObjectNumber-l.mir l₇ (ObjectNumber-p .val (p .«object_id»)) (full 𝓤 Span-l.mir l₆ (Span-p .val body) (full 𝓤 CreatePayload-l.mir l₅ (CreatePayload-p .val p) (full 𝓤 (tyInt w8) l₄ (u8-p .val id) (full 𝓤 (sliceTy (tyRef (named 2) imm (pointee (u8 .written)))) l₃ (sliceVal (b₃, o₃) n₃) (full 𝓤 (sliceTy (tyRef (named 1) mut (pointee (Object-t.the-row .written)))) l₂ (sliceVal (b₂, o₂) n₂) (full 𝓤 (sliceTy (tyRef (named 0) mut (pointee ((Array u64 5) .written)))) l₁ (sliceVal (b₁, o₁) n₁) (free 𝓤 Move-l.mir l₀ ([])))))))))))))))))))))))))))))))) (runs C Λ En (one mir.t-4) (anyQ (afterSeq 𝓤 H (Wp 𝓤 H C Λ En mir.t-5 (atReturn 𝓤 H En Post)) (atReturn 𝓤 H En Post))))
     matched-4-0 (ObjectKind-Participant) e-4 good-4 =
         matched-4-Participant-0 e-4 good-4
     matched-4-0 (ObjectKind-Topic) e-4 good-4 =
-        matched-4-Topic-1 e-4 good-4
+        matched-4-Topic-2 e-4 good-4
     matched-4-0 (ObjectKind-Publisher) e-4 good-4 =
-        matched-4-Publisher-2 e-4 good-4
+        matched-4-Publisher-3 e-4 good-4
     matched-4-0 (ObjectKind-Subscriber) e-4 good-4 =
-        matched-4-Subscriber-3 e-4 good-4
+        matched-4-Subscriber-4 e-4 good-4
     matched-4-0 (ObjectKind-DataWriter) e-4 good-4 =
-        matched-4-DataWriter-4 e-4 good-4
+        matched-4-DataWriter-5 e-4 good-4
     matched-4-0 (ObjectKind-DataReader) e-4 good-4 =
-        matched-4-DataReader-5 e-4 good-4
+        matched-4-DataReader-6 e-4 good-4
 
     begins : Sq W (‵ (MutSlice (named 0) κ₁ (Array u64 5) .own (at-list b₁ o₁ γ₁ sessions) (sliceVal (b₁, o₁) n₁ ∷ [])) ∷ ‵ (flft κ₁ q₁) ∷ ‵ (MutSlice (named 0) κ₂ Object-t.the-row .own (at-list b₂ o₂ γ₂ objects) (sliceVal (b₂, o₂) n₂ ∷ [])) ∷ ‵ (flft κ₂ q₂) ∷ ‵ (ShrSlice (named 0) κ₃ u8 .own (at-list b₃ o₃ γ₃ d) (sliceVal (b₃, o₃) n₃ ∷ [])) ∷ ‵ (flft κ₃ q₃) ∷ free 𝓤 (sliceTy (tyRef erased imm (pointee (Object-t.the-row .written)))) l₃₀ (free 𝓤 (tyRef erased imm (pointee (Object-t.the-row .written))) l₂₉ (free 𝓤 (sliceTy (tyRef erased imm (pointee ((Array u64 5) .written)))) l₂₈ (free 𝓤 (tyRef erased imm (pointee ((Array u64 5) .written))) l₂₇ (free 𝓤 (sliceTy (tyRef erased imm (pointee (Object-t.the-row .written)))) l₂₆ (free 𝓤 (tyRef erased imm (pointee (Object-t.the-row .written))) l₂₅ (free 𝓤 (sliceTy (tyRef erased imm (pointee ((Array u64 5) .written)))) l₂₄ (free 𝓤 (tyRef erased imm (pointee ((Array u64 5) .written))) l₂₃ (free 𝓤 (sliceTy (tyRef erased mut (pointee (Object-t.the-row .written)))) l₂₂ (free 𝓤 (tyRef erased mut (pointee (Object-t.the-row .written))) l₂₁ (free 𝓤 (sliceTy (tyRef erased mut (pointee ((Array u64 5) .written)))) l₂₀ (free 𝓤 (tyRef erased mut (pointee ((Array u64 5) .written))) l₁₉ (free 𝓤 (sliceTy (tyRef erased mut (pointee (Object-t.the-row .written)))) l₁₈ (free 𝓤 (tyRef erased mut (pointee (Object-t.the-row .written))) l₁₇ (free 𝓤 (sliceTy (tyRef erased mut (pointee ((Array u64 5) .written)))) l₁₆ (free 𝓤 (tyRef erased mut (pointee ((Array u64 5) .written))) l₁₅ (free 𝓤 (sliceTy (tyRef erased imm (pointee (Object-t.the-row .written)))) l₁₄ (free 𝓤 (tyRef erased imm (pointee (Object-t.the-row .written))) l₁₃ (free 𝓤 (sliceTy (tyRef erased imm (pointee ((Array u64 5) .written)))) l₁₂ (free 𝓤 (tyRef erased imm (pointee ((Array u64 5) .written))) l₁₁ (free 𝓤 Move-l.mir l₁₀ (free 𝓤 ObjectKind-l.mir l₉ (free 𝓤 (tyInt w16) l₈ (free 𝓤 ObjectNumber-l.mir l₇ (full 𝓤 Span-l.mir l₆ (Span-p .val body) (full 𝓤 CreatePayload-l.mir l₅ (CreatePayload-p .val p) (full 𝓤 (tyInt w8) l₄ (u8-p .val id) (full 𝓤 (sliceTy (tyRef (named 2) imm (pointee (u8 .written)))) l₃ (sliceVal (b₃, o₃) n₃) (full 𝓤 (sliceTy (tyRef (named 1) mut (pointee (Object-t.the-row .written)))) l₂ (sliceVal (b₂, o₂) n₂) (full 𝓤 (sliceTy (tyRef (named 0) mut (pointee ((Array u64 5) .written)))) l₁ (sliceVal (b₁, o₁) n₁) (free 𝓤 Move-l.mir l₀ ([])))))))))))))))))))))))))))))))) (runs C Λ En mir.t-1 (atRet En Post))
     begins =

@@ -57,7 +57,7 @@ use Rattle.sessions.specs.SessionObjects.{foundObject, greatestObject, storedOb
 use Rattle.sessions.specs.Room.{roomOf}
 use Rattle.agent.specs.Moves.{writeMove, readMove, deleteMove, topicMove, endpointMove}
 use Rattle.agent.specs.Names.{namesIn}
-use Rattle.agent.specs.Rows.{okMove, createMove, createdSessions, createdObjects, roomMove, roomSessions, roomObjects, objectMove, objectSessions, objectRows}
+use Rattle.agent.specs.Rows.{okMove, createMove, createdSessions, createdObjects, isFree, noRoomMove, roomMove, roomSessions, roomObjects}
 use Rattle.sessions.specs.SessionObjects.{objectsNamed, usedOf, firstObject, countedSession, keepUsed}
 use Rattle.codec.specs.Reading.{partOf}
 use Rattle.codec.specs.Strings.{stringAt}

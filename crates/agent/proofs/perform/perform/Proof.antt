@@ -52,10 +52,13 @@ use Rattle.walk.proofs.Steps.{past, one, yes-of, no-of, in-block, arm-of, holds
 use borrow.Rule.Slice.PartMut.{midOf, putMid}
 use Rattle.walk.proofs.Parts.{part-len, lends-part, backs-part, parts-shr}
 use Rattle.walk.proofs.Arrays.{rep-is, lends-array, backs-array}
-use Rattle.agent.specs.Step.{joinedReplies}
 use Rattle.agent.specs.Rows.{lent}
 use Rattle.agent.specs.Run.{putReplies}
-use Rattle.agent.specs.Host.{begunBy, begunSessions, begunObjects, resumesFit, performed, firstRan}
+use Rattle.agent.specs.Host.{resumesFit, performed, firstRan}
+use Rattle.codec.specs.Bytes.{putBytes}
+use Rattle.agent.specs.Step.{joinedReplies}
+use Rattle.agent.specs.Answered.{createdKeeps, keepsOf, createdSays, doneSays, readSays, saysOf, keptSessions, keptObjects, saysFits, saysBytes}
+use Rattle.agent.specs.Host.{answersNow, keepsBy, saysBy, numberBy, begunBy, begunSessions, begunObjects}
 use Rattle.agent.specs.Run.{isCall, goesOn, runAt}
 use Rattle.agent.proofs.Running.{begun-long, performed-by}
 use Rattle.sessions.specs.declared.objects.Object.{Object}
@@ -99,10 +102,10 @@ use Rattle.agent.specs.declared.proxy.BridgeCall.the-variants.{CreatePar
 use Rattle.codec.specs.declared.layouts.Span.{Span}
 use Rattle.codec.proofs.layouts.Span as Span-t
 use Rattle.codec.proofs.layouts.Span.Laws as Span-l
-use Rattle.agent.proofs.perform.begin as perform-begin
-use Rattle.agent.proofs.perform.begin.Symbol as perform-begin-def
-use Rattle.agent.proofs.perform.begin.Symbol.{name as #perform-begin}
-use Rattle.agent.proofs.perform.begin.Met as perform-begin-thm
+use Rattle.agent.proofs.answers.begin as answers-begin
+use Rattle.agent.proofs.answers.begin.Symbol as answers-begin-def
+use Rattle.agent.proofs.answers.begin.Symbol.{name as #answers-begin}
+use Rattle.agent.proofs.answers.begin.Met as answers-begin-thm
 use Rattle.agent.proofs.perform.first_ran as perform-first-ran
 use Rattle.agent.proofs.perform.first_ran.Symbol as perform-first-ran-def
 use Rattle.agent.proofs.perform.first_ran.Symbol.{name as #perform-first-ran}
@@ -178,8 +181,8 @@ abbrev stayed : Stays (f.ended .signature .params) (f.ended .kept)
 stayed = (stay-slice (0 ∷ []) tt (plain (λ _. (Array u64 5))), (stay-slice (1 ∷ []) tt (plain (λ _. (Array u16 35))), (stay-slice (2 ∷ []) tt (plain (λ _. Object-t.the-row)), (stay-slice (3 ∷ []) tt (plain (λ _. u8)), (stay-none-slice (4 ∷ []) tt (plain (λ _. u8)) yes, (stay-none-slice (5 ∷ []) tt (plain (λ _. u8)) yes, (stay-none (λ _. Start-p .row) yes, tt)))))))
 
 module _ {M : Type 1} (𝓤 : URA M) (H : Heap 𝓤) (A : Atoms 𝓤) (mem : Memory → SProp 𝓤) (run : Routine → Fun 𝓤) where
-  abbrev Of-perform-begin : Contract 𝓤
-  Of-perform-begin = tripleOf 𝓤 H A perform-begin.signature (perform-begin.spec 𝓤 H A mem run)
+  abbrev Of-answers-begin : Contract 𝓤
+  Of-answers-begin = tripleOf 𝓤 H A answers-begin.signature (answers-begin.spec 𝓤 H A mem run)
 
   abbrev Of-perform-first-ran : Contract 𝓤
   Of-perform-first-ran = tripleOf 𝓤 H A perform-first-ran.signature (perform-first-ran.spec 𝓤 H A mem run)
@@ -225,7 +228,7 @@ module _ {M : Type 1} (𝓤 : URA M) (H : Heap 𝓤) (A : Atoms 𝓤) (W : Given
       frame ! $
       owned ! (Ran-p .row) (Is (Ran-p .row)) (Ran-p .makes 𝓤 H A W) r _ r-is $ done !
 
-  module _ (𝓣 : Tables 𝓤 H) (known-perform-begin : Triple 𝓤 (𝓣 .C #perform-begin) (Of-perform-begin 𝓤 H A mem run)) (known-perform-first-ran : Triple 𝓤 (𝓣 .C #perform-first-ran) (Of-perform-first-ran 𝓤 H A mem run)) (known-run-run : Triple 𝓤 (𝓣 .C #run-run) (Of-run-run 𝓤 H A mem run)) (l₀ l₁ l₂ l₃ l₄ l₅ l₆ l₇ l₈ l₉ l₁₀ l₁₁ l₁₂ l₁₃ l₁₄ l₁₅ l₁₆ l₁₇ l₁₈ l₁₉ l₂₀ l₂₁ l₂₂ l₂₃ l₂₄ l₂₅ : ℕ) where
+  module _ (𝓣 : Tables 𝓤 H) (known-answers-begin : Triple 𝓤 (𝓣 .C #answers-begin) (Of-answers-begin 𝓤 H A mem run)) (known-perform-first-ran : Triple 𝓤 (𝓣 .C #perform-first-ran) (Of-perform-first-ran 𝓤 H A mem run)) (known-run-run : Triple 𝓤 (𝓣 .C #run-run) (Of-run-run 𝓤 H A mem run)) (l₀ l₁ l₂ l₃ l₄ l₅ l₆ l₇ l₈ l₉ l₁₀ l₁₁ l₁₂ l₁₃ l₁₄ l₁₅ l₁₆ l₁₇ l₁₈ l₁₉ l₂₀ l₂₁ l₂₂ l₂₃ l₂₄ l₂₅ : ℕ) where
     abbrev C : Calls 𝓤 H
     C = 𝓣 .C
 
@@ -238,51 +241,13 @@ module _ {M : Type 1} (𝓤 : URA M) (H : Heap 𝓤) (A : Atoms 𝓤) (W : Given
     abbrev En : Env 𝓤 H
     En = (Ran-l.mir, l₀) ∷ ((sliceTy (tyRef (named 0) mut (pointee ((Array u64 5) .written)))), l₁) ∷ ((sliceTy (tyRef (named 1) mut (pointee ((Array u16 35) .written)))), l₂) ∷ ((sliceTy (tyRef (named 2) mut (pointee (Object-t.the-row .written)))), l₃) ∷ ((sliceTy (tyRef (named 3) mut (pointee (u8 .written)))), l₄) ∷ ((sliceTy (tyRef (named 4) imm (pointee (u8 .written)))), l₅) ∷ ((sliceTy (tyRef (named 5) imm (pointee (u8 .written)))), l₆) ∷ (Start-l.mir, l₇) ∷ (Frame-l.mir, l₈) ∷ (Resumes-l.mir, l₉) ∷ ((tyInt w64), l₁₀) ∷ (Ran-l.mir, l₁₁) ∷ ((tyRef erased mut (pointee ((Array u64 5) .written))), l₁₂) ∷ ((sliceTy (tyRef erased mut (pointee ((Array u64 5) .written)))), l₁₃) ∷ ((tyRef erased mut (pointee (Object-t.the-row .written))), l₁₄) ∷ ((sliceTy (tyRef erased mut (pointee (Object-t.the-row .written)))), l₁₅) ∷ ((tyRef erased mut (pointee (u8 .written))), l₁₆) ∷ ((sliceTy (tyRef erased mut (pointee (u8 .written)))), l₁₇) ∷ ((tyRef erased mut (pointee ((Array u64 5) .written))), l₁₈) ∷ ((sliceTy (tyRef erased mut (pointee ((Array u64 5) .written)))), l₁₉) ∷ ((tyRef erased mut (pointee ((Array u16 35) .written))), l₂₀) ∷ ((sliceTy (tyRef erased mut (pointee ((Array u16 35) .written)))), l₂₁) ∷ ((tyRef erased mut (pointee (Object-t.the-row .written))), l₂₂) ∷ ((sliceTy (tyRef erased mut (pointee (Object-t.the-row .written)))), l₂₃) ∷ ((tyRef erased mut (pointee (u8 .written))), l₂₄) ∷ ((sliceTy (tyRef erased mut (pointee (u8 .written)))), l₂₅) ∷ []
 
-    begins : Sq W (‵ (MutSlice (named 0) κ₁ (Array u64 5) .own (at-list b₁ o₁ γ₁ sessions) (sliceVal (b₁, o₁) n₁ ∷ [])) ∷ ‵ (flft κ₁ q₁) ∷ ‵ (MutSlice (named 0) κ₂ (Array u16 35) .own (at-list b₂ o₂ γ₂ streams) (sliceVal (b₂, o₂) n₂ ∷ [])) ∷ ‵ (flft κ₂ q₂) ∷ ‵ (MutSlice (named 0) κ₃ Object-t.the-row .own (at-list b₃ o₃ γ₃ objects) (sliceVal (b₃, o₃) n₃ ∷ [])) ∷ ‵ (flft κ₃ q₃) ∷ ‵ (MutSlice (named 0) κ₄ u8 .own (at-list b₄ o₄ γ₄ out) (sliceVal (b₄, o₄) n₄ ∷ [])) ∷ ‵ (flft κ₄ q₄) ∷ ‵ (ShrSlice (named 0) κ₅ u8 .own (at-list b₅ o₅ γ₅ d) (sliceVal (b₅, o₅) n₅ ∷ [])) ∷ ‵ (flft κ₅ q₅) ∷ ‵ (ShrSlice (named 0) κ₆ u8 .own (at-list b₆ o₆ γ₆ sample) (sliceVal (b₆, o₆) n₆ ∷ [])) ∷ ‵ (flft κ₆ q₆) ∷ free 𝓤 (sliceTy (tyRef erased mut (pointee (u8 .written)))) l₂₅ (free 𝓤 (tyRef erased mut (pointee (u8 .written))) l₂₄ (free 𝓤 (sliceTy (tyRef erased mut (pointee (Object-t.the-row .written)))) l₂₃ (free 𝓤 (tyRef erased mut (pointee (Object-t.the-row .written))) l₂₂ (free 𝓤 (sliceTy (tyRef erased mut (pointee ((Array u16 35) .written)))) l₂₁ (free 𝓤 (tyRef erased mut (pointee ((Array u16 35) .written))) l₂₀ (free 𝓤 (sliceTy (tyRef erased mut (pointee ((Array u64 5) .written)))) l₁₉ (free 𝓤 (tyRef erased mut (pointee ((Array u64 5) .written))) l₁₈ (free 𝓤 (sliceTy (tyRef erased mut (pointee (u8 .written)))) l₁₇ (free 𝓤 (tyRef erased mut (pointee (u8 .written))) l₁₆ (free 𝓤 (sliceTy (tyRef erased mut (pointee (Object-t.the-row .written)))) l₁₅ (free 𝓤 (tyRef erased mut (pointee (Object-t.the-row .written))) l₁₄ (free 𝓤 (sliceTy (tyRef erased mut (pointee ((Array u64 5) .written)))) l₁₃ (free 𝓤 (tyRef erased mut (pointee ((Array u64 5) .written))) l₁₂ (free 𝓤 Ran-l.mir l₁₁ (free 𝓤 (tyInt w64) l₁₀ (free 𝓤 Resumes-l.mir l₉ (free 𝓤 Frame-l.mir l₈ (full 𝓤 Start-l.mir l₇ (Start-p .val start) (full 𝓤 (sliceTy (tyRef (named 5) imm (pointee (u8 .written)))) l₆ (sliceVal (b₆, o₆) n₆) (full 𝓤 (sliceTy (tyRef (named 4) imm (pointee (u8 .written)))) l₅ (sliceVal (b₅, o₅) n₅) (full 𝓤 (sliceTy (tyRef (named 3) mut (pointee (u8 .written)))) l₄ (sliceVal (b₄, o₄) n₄) (full 𝓤 (sliceTy (tyRef (named 2) mut (pointee (Object-t.the-row .written)))) l₃ (sliceVal (b₃, o₃) n₃) (full 𝓤 (sliceTy (tyRef (named 1) mut (pointee ((Array u16 35) .written)))) l₂ (sliceVal (b₂, o₂) n₂) (full 𝓤 (sliceTy (tyRef (named 0) mut (pointee ((Array u64 5) .written)))) l₁ (sliceVal (b₁, o₁) n₁) (free 𝓤 Ran-l.mir l₀ ([]))))))))))))))))))))))))))) (runs C Λ En mir.t-1 (atRet En Post))
-    begins =
-        assigns ! (of-opd ! (load ! (from ! (fld ! refl (stop !))) (look-in ! 48 (sub ! 0 refl (whole !))))) (from ! (stop !)) (init ! 46 refl (Frame-p .typed 𝓤 H A W (start .frame) (LL.owed Start-t.the-type Start-l.the-laws start _ start-is .0))) $
-        assigns ! (of-opd ! (load ! (from ! (fld ! refl (stop !))) (look-in ! 48 (sub ! 3 refl (whole !))))) (from ! (stop !)) (init ! 44 refl (Resumes-p .typed 𝓤 H A W (start .resumes) (LL.owed Start-t.the-type Start-l.the-laws start _ start-is .1 .1 .1 .0))) $
-        assigns ! (addr ! (from ! (fld ! refl (hop ! (look-in ! 60 (sub ! 0 refl (whole !))) (stop !))))) (from ! (stop !)) (init ! 38 refl (tt, tt)) $
-        assigns ! (agg ! (and-then ! (load ! (from ! (stop !)) (look ! 38 refl)) (and-then ! (load ! (from ! (fld ! refl (stop !))) (look-in ! 60 (sub ! 1 refl (whole !)))) (no-more !)))) (from ! (stop !)) (init ! 36 refl (tt, (tt, (record { fits = room₁ .0 }, tt)))) $
-        assigns ! (addr ! (from ! (fld ! refl (hop ! (look-in ! 56 (sub ! 0 refl (whole !))) (stop !))))) (from ! (stop !)) (init ! 34 refl (tt, tt)) $
-        assigns ! (agg ! (and-then ! (load ! (from ! (stop !)) (look ! 34 refl)) (and-then ! (load ! (from ! (fld ! refl (stop !))) (look-in ! 56 (sub ! 1 refl (whole !)))) (no-more !)))) (from ! (stop !)) (init ! 32 refl (tt, (tt, (record { fits = room₃ .0 }, tt)))) $
-        assigns ! (addr ! (from ! (fld ! refl (hop ! (look-in ! 54 (sub ! 0 refl (whole !))) (stop !))))) (from ! (stop !)) (init ! 30 refl (tt, tt)) $
-        assigns ! (agg ! (and-then ! (load ! (from ! (stop !)) (look ! 30 refl)) (and-then ! (load ! (from ! (fld ! refl (stop !))) (look-in ! 54 (sub ! 1 refl (whole !)))) (no-more !)))) (from ! (stop !)) (init ! 28 refl (tt, (tt, (record { fits = room₄ .0 }, tt)))) $
-        knows ! (resumesFit (start .resumes) (length (sample)) ≡ true) (within) (λ asks-9.
-        -- 9: agent::perform::begin
-        lends-mut ! tt (Array u64 5) b₁ o₁ sessions n₁ (refl) (λ ν-9-sessions δ-9-sessions.
-        move ! (5 ∷ 6 ∷ []) $
-        lends-mut ! tt Object-t.the-row b₃ o₃ objects n₃ (refl) (λ ν-9-objects δ-9-objects.
-        move ! (8 ∷ 9 ∷ []) $
-        lends-mut ! tt u8 b₄ o₄ out n₄ (refl) (λ ν-9-out δ-9-out.
-        move ! (13 ∷ 14 ∷ []) $
-        copies-shr ! u8 b₆ o₆ sample n₆ $ nothing ! $ move ! (1 ∷ 0 ∷ []) $ join ! $ move ! (3 ∷ 0 ∷ []) $ join ! $ move ! (5 ∷ 0 ∷ []) $ join ! $ move ! (7 ∷ 0 ∷ []) $ join ! $
-        use1 W (raw (toks 𝓤 A 4 (((ν-9-sessions ∷ []), ((ν-9-objects ∷ []), ((ν-9-out ∷ []), (κ₆, tt))))) ((fullShare, (fullShare, (fullShare, (q₆, tt))))))) (id⊢ 𝓤 _) $ nothing ! $
-        owned ! (Resumes-p .row) (Is (Resumes-p .row)) (Resumes-p .makes 𝓤 H A W) (start .resumes) (Resumes-p .val (start .resumes) ∷ []) (LL.owed Start-t.the-type Start-l.the-laws start _ start-is .1 .1 .1 .0) $ fjoin ! $
-        owned ! (Frame-p .row) (Is (Frame-p .row)) (Frame-p .makes 𝓤 H A W) (start .frame) (Frame-p .val (start .frame) ∷ []) (LL.owed Start-t.the-type Start-l.the-laws start _ start-is .0) $ fjoin ! $ move ! (2 ∷ 0 ∷ []) $ fjoin ! $ move ! (3 ∷ 0 ∷ []) $ fjoin ! $ move ! (4 ∷ 0 ∷ []) $ fjoin ! $ move ! (5 ∷ 0 ∷ []) $ fjoin ! $ move ! (1 ∷ 0 ∷ []) $
-        calls-any ! fm 4 [] (perform-begin.signature .params) (perform-begin.ended .kept) u64-p (perform-begin.clauses 𝓤 H A mem run) known-perform-begin ((ν-9-sessions ∷ []), ((ν-9-objects ∷ []), ((ν-9-out ∷ []), (κ₆, tt)))) (fullShare, (fullShare, (fullShare, (q₆, tt)))) tt (at-list b₁ o₁ δ-9-sessions sessions, (at-list b₃ o₃ δ-9-objects objects, (at-list b₄ o₄ δ-9-out out, (at-list b₆ o₆ γ₆ sample, (start .frame, (start .resumes, tt)))))) (sliceVal (b₁, o₁) n₁ ∷ [], (sliceVal (b₃, o₃) n₃ ∷ [], (sliceVal (b₄, o₄) n₄ ∷ [], (sliceVal (b₆, o₆) n₆ ∷ [], (Frame-p .val (start .frame) ∷ [], (Resumes-p .val (start .resumes) ∷ [], tt)))))) tt (length (joinedReplies (begunBy (start .resumes) (sessions) (start .frame) (sample)))) (λ ws-9. (ws-9 .0 ≡ begunSessions (start .resumes) (sessions) (objects) (start .frame)) × (ws-9 .1 .0 ≡ begunObjects (start .resumes) (sessions) (objects) (start .frame)) × (ws-9 .1 .1 .0 ≡ putReplies (out) 0 (begunBy (start .resumes) (sessions) (start .frame) (sample)))) (factI 𝓤 (resumesFit (start .resumes) (length (sample)) ≡ true) _ asks-9) (λ r ws-9. fact-mono 𝓤 ((r ≡ length (joinedReplies (begunBy (start .resumes) (sessions) (start .frame) (sample)))) × ((ws-9 .0) ≡ begunSessions (start .resumes) (sessions) (objects) (start .frame)) × ((ws-9 .1 .0) ≡ begunObjects (start .resumes) (sessions) (objects) (start .frame)) × ((ws-9 .1 .1 .0) ≡ putReplies (out) 0 (begunBy (start .resumes) (sessions) (start .frame) (sample)))) ((r ≡ (length (joinedReplies (begunBy (start .resumes) (sessions) (start .frame) (sample))))) × ((ws-9 .0 ≡ begunSessions (start .resumes) (sessions) (objects) (start .frame)) × (ws-9 .1 .0 ≡ begunObjects (start .resumes) (sessions) (objects) (start .frame)) × (ws-9 .1 .1 .0 ≡ putReplies (out) 0 (begunBy (start .resumes) (sessions) (start .frame) (sample))))) (λ e. (e .0, (e .1, e .2, e .3)))) (λ _. (and-then ! (load ! (from ! (stop !)) (look ! 33 refl)) (and-then ! (load ! (from ! (stop !)) (look ! 29 refl)) (and-then ! (load ! (from ! (stop !)) (look ! 25 refl)) (and-then ! (load ! (from ! (stop !)) (look ! 47 refl)) (and-then ! (load ! (from ! (stop !)) (look ! 43 refl)) (and-then ! (load ! (from ! (stop !)) (look ! 41 refl)) (no-more !)))))))) (λ ws-9 said-9 is-9.
-        use1 W ((‵ (flft (ν-9-sessions ∷ []) fullShare) ⊛ (‵ (flft (ν-9-objects ∷ []) fullShare) ⊛ (‵ (flft (ν-9-out ∷ []) fullShare) ⊛ (‵ (flft κ₆ q₆) ⊛ ‵ ftrue))))) (id⊢ 𝓤 _) $ split ! $ move ! (1 ∷ []) $ split ! $ move ! (1 ∷ []) $ split ! $ move ! (1 ∷ []) $ split ! $ move ! (5 ∷ []) $ fsplit ! $ fsplit ! $ move ! (1 ∷ []) $
-        feqL ! (λ wlen-9-0.
-        move ! (1 ∷ []) $ fsplit ! $ fsplit ! $ move ! (1 ∷ []) $
-        feqL ! (λ wlen-9-1.
-        move ! (1 ∷ []) $ fsplit ! $ fsplit ! $ move ! (1 ∷ []) $
-        feqL ! (λ wlen-9-2.
-        move ! (1 ∷ []) $ fsplit ! $ move ! (9 ∷ 13 ∷ 4 ∷ []) $
-        backs-mut ! tt (Array u64 5) b₁ o₁ sessions n₁ (refl) room₁ ν-9-sessions δ-9-sessions (ws-9 .0) (begunSessions (start .resumes) (sessions) (objects) (start .frame)) wlen-9-0 (said-9 .0) (λ len-9-sessions.
-        move ! (9 ∷ 12 ∷ 5 ∷ []) $
-        backs-mut ! tt Object-t.the-row b₃ o₃ objects n₃ (refl) room₃ ν-9-objects δ-9-objects (ws-9 .1 .0) (begunObjects (start .resumes) (sessions) (objects) (start .frame)) wlen-9-1 (said-9 .1) (λ len-9-objects.
-        move ! (9 ∷ 11 ∷ 6 ∷ []) $
-        backs-mut ! tt u8 b₄ o₄ out n₄ (refl) room₄ ν-9-out δ-9-out (ws-9 .1 .1 .0) (putReplies (out) 0 (begunBy (start .resumes) (sessions) (start .frame) (sample))) wlen-9-2 (said-9 .2) (λ len-9-out.
-        move ! (6 ∷ []) $ drop ! $ move ! (6 ∷ []) $ drop ! $ move ! (7 ∷ []) $ drop ! $
-        land ! (from ! (stop !)) (init ! 42 refl (u64-p .typed 𝓤 H A W (length (joinedReplies (begunBy (start .resumes) (sessions) (start .frame) (sample)))) is-9)) $
-        -- 10: agent::perform::first_ran
-        nothing ! $
-        use1 W (raw (toks 𝓤 A 0 (tt) (tt))) (id⊢ 𝓤 _) $ nothing ! $
-        owned ! (u64-p .row) (Is (u64-p .row)) (u64-p .makes 𝓤 H A W) (length (joinedReplies (begunBy (start .resumes) (sessions) (start .frame) (sample)))) (u64-p .val (length (joinedReplies (begunBy (start .resumes) (sessions) (start .frame) (sample)))) ∷ []) is-9 $ fjoin ! $
-        owned ! (Start-p .row) (Is (Start-p .row)) (Start-p .makes 𝓤 H A W) start (Start-p .val start ∷ []) start-is $ fjoin ! $ move ! (1 ∷ 0 ∷ []) $
-        calls-any ! fm 0 [] (perform-first-ran.signature .params) (perform-first-ran.ended .kept) Ran-p (perform-first-ran.clauses 𝓤 H A mem run) known-perform-first-ran tt tt tt (start, (length (joinedReplies (begunBy (start .resumes) (sessions) (start .frame) (sample))), tt)) (Start-p .val start ∷ [], (u64-p .val (length (joinedReplies (begunBy (start .resumes) (sessions) (start .frame) (sample)))) ∷ [], tt)) tt (firstRan start (length (joinedReplies (begunBy (start .resumes) (sessions) (start .frame) (sample))))) (λ ws-10. Unit {0}) (id⊢ 𝓤 _) (λ r ws-10. fact-mono 𝓤 (r ≡ firstRan start (length (joinedReplies (begunBy (start .resumes) (sessions) (start .frame) (sample))))) ((r ≡ (firstRan start (length (joinedReplies (begunBy (start .resumes) (sessions) (start .frame) (sample)))))) × (Unit {0})) (λ e. (e, tt))) (λ _. (and-then ! (load ! (from ! (stop !)) (look ! 49 refl)) (and-then ! (load ! (from ! (stop !)) (look ! 43 refl)) (no-more !)))) (λ ws-10 said-10 is-10.
-        drop ! $ drop ! $
-        land ! (from ! (stop !)) (init ! 40 refl (Ran-p .typed 𝓤 H A W (firstRan start (length (joinedReplies (begunBy (start .resumes) (sessions) (start .frame) (sample))))) is-10)) $
+    part-20-0 : (asks-9 : resumesFit (start .resumes) (length (sample)) ≡ true) → (len-9-sessions : length (begunSessions (start .resumes) (sessions) (objects) (start .frame)) ≡ n₁) → (len-9-objects : length (begunObjects (start .resumes) (sessions) (objects) (start .frame)) ≡ n₃) → (len-9-out : length (putReplies (out) 0 (begunBy (start .resumes) (sessions) (start .frame) (sample))) ≡ n₄) → (is-9 : Is (u64-p .row) (length (joinedReplies (begunBy (start .resumes) (sessions) (start .frame) (sample)))) (u64-p .val (length (joinedReplies (begunBy (start .resumes) (sessions) (start .frame) (sample)))) ∷ [])) → (is-10 : Is (Ran-p .row) (firstRan start (length (joinedReplies (begunBy (start .resumes) (sessions) (start .frame) (sample))))) (Ran-p .val (firstRan start (length (joinedReplies (begunBy (start .resumes) (sessions) (start .frame) (sample))))) ∷ [])) → (asks-19 : (firstRan start (length (joinedReplies (begunBy (start .resumes) (sessions) (start .frame) (sample))))) .wrote ≤ 65543) → (len-19-sessions : length (runAt (start .frame) (d) (firstRan start (length (joinedReplies (begunBy (start .resumes) (sessions) (start .frame) (sample))))) (lent ((begunSessions (start .resumes) (sessions) (objects) (start .frame))) (streams) ((begunObjects (start .resumes) (sessions) (objects) (start .frame)))) .tables .sessions) ≡ n₁) → (len-19-streams : length (runAt (start .frame) (d) (firstRan start (length (joinedReplies (begunBy (start .resumes) (sessions) (start .frame) (sample))))) (lent ((begunSessions (start .resumes) (sessions) (objects) (start .frame))) (streams) ((begunObjects (start .resumes) (sessions) (objects) (start .frame)))) .tables .streams) ≡ n₂) → (len-19-objects : length (runAt (start .frame) (d) (firstRan start (length (joinedReplies (begunBy (start .resumes) (sessions) (start .frame) (sample))))) (lent ((begunSessions (start .resumes) (sessions) (objects) (start .frame))) (streams) ((begunObjects (start .resumes) (sessions) (objects) (start .frame)))) .tables .objects) ≡ n₃) → (len-19-out : length (putReplies ((putReplies (out) 0 (begunBy (start .resumes) (sessions) (start .frame) (sample)))) ((firstRan start (length (joinedReplies (begunBy (start .resumes) (sessions) (start .frame) (sample))))) .wrote) (runAt (start .frame) (d) (firstRan start (length (joinedReplies (begunBy (start .resumes) (sessions) (start .frame) (sample))))) (lent ((begunSessions (start .resumes) (sessions) (objects) (start .frame))) (streams) ((begunObjects (start .resumes) (sessions) (objects) (start .frame)))) .replies)) ≡ n₄) → (is-19 : Is (Ran-p .row) (runAt (start .frame) (d) (firstRan start (length (joinedReplies (begunBy (start .resumes) (sessions) (start .frame) (sample))))) (lent ((begunSessions (start .resumes) (sessions) (objects) (start .frame))) (streams) ((begunObjects (start .resumes) (sessions) (objects) (start .frame)))) .ran) (Ran-p .val (runAt (start .frame) (d) (firstRan start (length (joinedReplies (begunBy (start .resumes) (sessions) (start .frame) (sample))))) (lent ((begunSessions (start .resumes) (sessions) (objects) (start .frame))) (streams) ((begunObjects (start .resumes) (sessions) (objects) (start .frame)))) .ran) ∷ [])) → Sq W (‵ (MutSlice (named 0) κ₁ (Array u64 5) .own (at-list b₁ o₁ γ₁ (runAt (start .frame) (d) (firstRan start (length (joinedReplies (begunBy (start .resumes) (sessions) (start .frame) (sample))))) (lent ((begunSessions (start .resumes) (sessions) (objects) (start .frame))) (streams) ((begunObjects (start .resumes) (sessions) (objects) (start .frame)))) .tables .sessions)) (sliceVal (b₁, o₁) n₁ ∷ [])) ∷ ‵ (flft κ₁ q₁) ∷ ‵ (MutSlice (named 0) κ₂ (Array u16 35) .own (at-list b₂ o₂ γ₂ (runAt (start .frame) (d) (firstRan start (length (joinedReplies (begunBy (start .resumes) (sessions) (start .frame) (sample))))) (lent ((begunSessions (start .resumes) (sessions) (objects) (start .frame))) (streams) ((begunObjects (start .resumes) (sessions) (objects) (start .frame)))) .tables .streams)) (sliceVal (b₂, o₂) n₂ ∷ [])) ∷ ‵ (flft κ₂ q₂) ∷ ‵ (MutSlice (named 0) κ₃ Object-t.the-row .own (at-list b₃ o₃ γ₃ (runAt (start .frame) (d) (firstRan start (length (joinedReplies (begunBy (start .resumes) (sessions) (start .frame) (sample))))) (lent ((begunSessions (start .resumes) (sessions) (objects) (start .frame))) (streams) ((begunObjects (start .resumes) (sessions) (objects) (start .frame)))) .tables .objects)) (sliceVal (b₃, o₃) n₃ ∷ [])) ∷ ‵ (flft κ₃ q₃) ∷ ‵ (MutSlice (named 0) κ₄ u8 .own (at-list b₄ o₄ γ₄ (putReplies ((putReplies (out) 0 (begunBy (start .resumes) (sessions) (start .frame) (sample)))) ((firstRan start (length (joinedReplies (begunBy (start .resumes) (sessions) (start .frame) (sample))))) .wrote) (runAt (start .frame) (d) (firstRan start (length (joinedReplies (begunBy (start .resumes) (sessions) (start .frame) (sample))))) (lent ((begunSessions (start .resumes) (sessions) (objects) (start .frame))) (streams) ((begunObjects (start .resumes) (sessions) (objects) (start .frame)))) .replies))) (sliceVal (b₄, o₄) n₄ ∷ [])) ∷ ‵ (flft κ₄ q₄) ∷ ‵ (ShrSlice (named 0) κ₅ u8 .own (at-list b₅ o₅ γ₅ d) (sliceVal (b₅, o₅) n₅ ∷ [])) ∷ ‵ (flft κ₅ q₅) ∷ ‵ (ShrSlice (named 0) κ₆ u8 .own (at-list b₆ o₆ γ₆ sample) (sliceVal (b₆, o₆) n₆ ∷ [])) ∷ ‵ (flft κ₆ q₆) ∷ full 𝓤 (sliceTy (tyRef erased mut (pointee (u8 .written)))) l₂₅ (sliceVal (b₄, o₄) n₄) (full 𝓤 (tyRef erased mut (pointee (u8 .written))) l₂₄ (vptr b₄ o₄) (full 𝓤 (sliceTy (tyRef erased mut (pointee (Object-t.the-row .written)))) l₂₃ (sliceVal (b₃, o₃) n₃) (full 𝓤 (tyRef erased mut (pointee (Object-t.the-row .written))) l₂₂ (vptr b₃ o₃) (full 𝓤 (sliceTy (tyRef erased mut (pointee ((Array u16 35) .written)))) l₂₁ (sliceVal (b₂, o₂) n₂) (full 𝓤 (tyRef erased mut (pointee ((Array u16 35) .written))) l₂₀ (vptr b₂ o₂) (full 𝓤 (sliceTy (tyRef erased mut (pointee ((Array u64 5) .written)))) l₁₉ (sliceVal (b₁, o₁) n₁) (full 𝓤 (tyRef erased mut (pointee ((Array u64 5) .written))) l₁₈ (vptr b₁ o₁) (full 𝓤 (sliceTy (tyRef erased mut (pointee (u8 .written)))) l₁₇ (sliceVal (b₄, o₄) n₄) (full 𝓤 (tyRef erased mut (pointee (u8 .written))) l₁₆ (vptr b₄ o₄) (full 𝓤 (sliceTy (tyRef erased mut (pointee (Object-t.the-row .written)))) l₁₅ (sliceVal (b₃, o₃) n₃) (full 𝓤 (tyRef erased mut (pointee (Object-t.the-row .written))) l₁₄ (vptr b₃ o₃) (full 𝓤 (sliceTy (tyRef erased mut (pointee ((Array u64 5) .written)))) l₁₃ (sliceVal (b₁, o₁) n₁) (full 𝓤 (tyRef erased mut (pointee ((Array u64 5) .written))) l₁₂ (vptr b₁ o₁) (full 𝓤 Ran-l.mir l₁₁ (Ran-p .val (firstRan start (length (joinedReplies (begunBy (start .resumes) (sessions) (start .frame) (sample)))))) (full 𝓤 (tyInt w64) l₁₀ (u64-p .val (length (joinedReplies (begunBy (start .resumes) (sessions) (start .frame) (sample))))) (full 𝓤 Resumes-l.mir l₉ (Resumes-p .val (start .resumes)) (full 𝓤 Frame-l.mir l₈ (Frame-p .val (start .frame)) (full 𝓤 Start-l.mir l₇ (Start-p .val start) (full 𝓤 (sliceTy (tyRef (named 5) imm (pointee (u8 .written)))) l₆ (sliceVal (b₆, o₆) n₆) (full 𝓤 (sliceTy (tyRef (named 4) imm (pointee (u8 .written)))) l₅ (sliceVal (b₅, o₅) n₅) (full 𝓤 (sliceTy (tyRef (named 3) mut (pointee (u8 .written)))) l₄ (sliceVal (b₄, o₄) n₄) (full 𝓤 (sliceTy (tyRef (named 2) mut (pointee (Object-t.the-row .written)))) l₃ (sliceVal (b₃, o₃) n₃) (full 𝓤 (sliceTy (tyRef (named 1) mut (pointee ((Array u16 35) .written)))) l₂ (sliceVal (b₂, o₂) n₂) (full 𝓤 (sliceTy (tyRef (named 0) mut (pointee ((Array u64 5) .written)))) l₁ (sliceVal (b₁, o₁) n₁) (full 𝓤 Ran-l.mir l₀ (Ran-p .val (runAt (start .frame) (d) (firstRan start (length (joinedReplies (begunBy (start .resumes) (sessions) (start .frame) (sample))))) (lent ((begunSessions (start .resumes) (sessions) (objects) (start .frame))) (streams) ((begunObjects (start .resumes) (sessions) (objects) (start .frame)))) .ran)) ([]))))))))))))))))))))))))))) (runs C Λ En mir.t-20 (atRet En Post))
+    part-20-0 asks-9 len-9-sessions len-9-objects len-9-out is-9 is-10 asks-19 len-19-sessions len-19-streams len-19-objects len-19-out is-19 =
+        returns ! (look ! 62 refl) $ forget ! 12 refl $ forget ! 14 refl $ forget ! 16 refl $ forget ! 18 refl $ forget ! 20 refl $ forget ! 22 refl $ forget ! 24 refl $ forget ! 26 refl $ forget ! 28 refl $ forget ! 30 refl $ forget ! 32 refl $ forget ! 34 refl $ forget ! 36 refl $ forget ! 38 refl $ forget ! 40 refl $ forget ! 42 refl $ forget ! 44 refl $ forget ! 46 refl $ forget ! 48 refl $ forget ! 50 refl $ forget ! 52 refl $ forget ! 54 refl $ forget ! 56 refl $ forget ! 58 refl $ forget ! 60 refl $ forget ! 62 refl $ move ! (62 ∷ 63 ∷ []) $ free1 ! $ move ! (60 ∷ 61 ∷ []) $ free1 ! $ move ! (58 ∷ 59 ∷ []) $ free1 ! $ move ! (56 ∷ 57 ∷ []) $ free1 ! $ move ! (54 ∷ 55 ∷ []) $ free1 ! $ move ! (52 ∷ 53 ∷ []) $ free1 ! $ move ! (50 ∷ 51 ∷ []) $ free1 ! $ move ! (48 ∷ 49 ∷ []) $ free1 ! $ move ! (46 ∷ 47 ∷ []) $ free1 ! $ move ! (44 ∷ 45 ∷ []) $ free1 ! $ move ! (42 ∷ 43 ∷ []) $ free1 ! $ move ! (40 ∷ 41 ∷ []) $ free1 ! $ move ! (38 ∷ 39 ∷ []) $ free1 ! $ move ! (36 ∷ 37 ∷ []) $ free1 ! $ move ! (34 ∷ 35 ∷ []) $ free1 ! $ move ! (32 ∷ 33 ∷ []) $ free1 ! $ move ! (30 ∷ 31 ∷ []) $ free1 ! $ move ! (28 ∷ 29 ∷ []) $ free1 ! $ move ! (26 ∷ 27 ∷ []) $ free1 ! $ move ! (24 ∷ 25 ∷ []) $ free1 ! $ move ! (22 ∷ 23 ∷ []) $ free1 ! $ move ! (20 ∷ 21 ∷ []) $ free1 ! $ move ! (18 ∷ 19 ∷ []) $ free1 ! $ move ! (16 ∷ 17 ∷ []) $ free1 ! $ move ! (14 ∷ 15 ∷ []) $ free1 ! $ move ! (12 ∷ 13 ∷ []) $ free1 ! $ free0 ! $
+        by ! (exits (runAt (start .frame) (d) (firstRan start (length (joinedReplies (begunBy (start .resumes) (sessions) (start .frame) (sample))))) (lent ((begunSessions (start .resumes) (sessions) (objects) (start .frame))) (streams) ((begunObjects (start .resumes) (sessions) (objects) (start .frame)))) .ran) (runAt (start .frame) (d) (firstRan start (length (joinedReplies (begunBy (start .resumes) (sessions) (start .frame) (sample))))) (lent ((begunSessions (start .resumes) (sessions) (objects) (start .frame))) (streams) ((begunObjects (start .resumes) (sessions) (objects) (start .frame)))) .tables .sessions) (runAt (start .frame) (d) (firstRan start (length (joinedReplies (begunBy (start .resumes) (sessions) (start .frame) (sample))))) (lent ((begunSessions (start .resumes) (sessions) (objects) (start .frame))) (streams) ((begunObjects (start .resumes) (sessions) (objects) (start .frame)))) .tables .streams) (runAt (start .frame) (d) (firstRan start (length (joinedReplies (begunBy (start .resumes) (sessions) (start .frame) (sample))))) (lent ((begunSessions (start .resumes) (sessions) (objects) (start .frame))) (streams) ((begunObjects (start .resumes) (sessions) (objects) (start .frame)))) .tables .objects) (putReplies ((putReplies (out) 0 (begunBy (start .resumes) (sessions) (start .frame) (sample)))) ((firstRan start (length (joinedReplies (begunBy (start .resumes) (sessions) (start .frame) (sample))))) .wrote) (runAt (start .frame) (d) (firstRan start (length (joinedReplies (begunBy (start .resumes) (sessions) (start .frame) (sample))))) (lent ((begunSessions (start .resumes) (sessions) (objects) (start .frame))) (streams) ((begunObjects (start .resumes) (sessions) (objects) (start .frame)))) .replies)) (performed-by start (lent sessions streams objects) d sample out) is-19 len-19-sessions len-19-streams len-19-objects len-19-out)
+
+    part-11-0 : (asks-9 : resumesFit (start .resumes) (length (sample)) ≡ true) → (len-9-sessions : length (begunSessions (start .resumes) (sessions) (objects) (start .frame)) ≡ n₁) → (len-9-objects : length (begunObjects (start .resumes) (sessions) (objects) (start .frame)) ≡ n₃) → (len-9-out : length (putReplies (out) 0 (begunBy (start .resumes) (sessions) (start .frame) (sample))) ≡ n₄) → (is-9 : Is (u64-p .row) (length (joinedReplies (begunBy (start .resumes) (sessions) (start .frame) (sample)))) (u64-p .val (length (joinedReplies (begunBy (start .resumes) (sessions) (start .frame) (sample)))) ∷ [])) → (is-10 : Is (Ran-p .row) (firstRan start (length (joinedReplies (begunBy (start .resumes) (sessions) (start .frame) (sample))))) (Ran-p .val (firstRan start (length (joinedReplies (begunBy (start .resumes) (sessions) (start .frame) (sample))))) ∷ [])) → Sq W (‵ (MutSlice (named 0) κ₁ (Array u64 5) .own (at-list b₁ o₁ γ₁ (begunSessions (start .resumes) (sessions) (objects) (start .frame))) (sliceVal (b₁, o₁) n₁ ∷ [])) ∷ ‵ (flft κ₁ q₁) ∷ ‵ (MutSlice (named 0) κ₂ (Array u16 35) .own (at-list b₂ o₂ γ₂ streams) (sliceVal (b₂, o₂) n₂ ∷ [])) ∷ ‵ (flft κ₂ q₂) ∷ ‵ (MutSlice (named 0) κ₃ Object-t.the-row .own (at-list b₃ o₃ γ₃ (begunObjects (start .resumes) (sessions) (objects) (start .frame))) (sliceVal (b₃, o₃) n₃ ∷ [])) ∷ ‵ (flft κ₃ q₃) ∷ ‵ (MutSlice (named 0) κ₄ u8 .own (at-list b₄ o₄ γ₄ (putReplies (out) 0 (begunBy (start .resumes) (sessions) (start .frame) (sample)))) (sliceVal (b₄, o₄) n₄ ∷ [])) ∷ ‵ (flft κ₄ q₄) ∷ ‵ (ShrSlice (named 0) κ₅ u8 .own (at-list b₅ o₅ γ₅ d) (sliceVal (b₅, o₅) n₅ ∷ [])) ∷ ‵ (flft κ₅ q₅) ∷ ‵ (ShrSlice (named 0) κ₆ u8 .own (at-list b₆ o₆ γ₆ sample) (sliceVal (b₆, o₆) n₆ ∷ [])) ∷ ‵ (flft κ₆ q₆) ∷ free 𝓤 (sliceTy (tyRef erased mut (pointee (u8 .written)))) l₂₅ (free 𝓤 (tyRef erased mut (pointee (u8 .written))) l₂₄ (free 𝓤 (sliceTy (tyRef erased mut (pointee (Object-t.the-row .written)))) l₂₃ (free 𝓤 (tyRef erased mut (pointee (Object-t.the-row .written))) l₂₂ (free 𝓤 (sliceTy (tyRef erased mut (pointee ((Array u16 35) .written)))) l₂₁ (free 𝓤 (tyRef erased mut (pointee ((Array u16 35) .written))) l₂₀ (free 𝓤 (sliceTy (tyRef erased mut (pointee ((Array u64 5) .written)))) l₁₉ (free 𝓤 (tyRef erased mut (pointee ((Array u64 5) .written))) l₁₈ (full 𝓤 (sliceTy (tyRef erased mut (pointee (u8 .written)))) l₁₇ (sliceVal (b₄, o₄) n₄) (full 𝓤 (tyRef erased mut (pointee (u8 .written))) l₁₆ (vptr b₄ o₄) (full 𝓤 (sliceTy (tyRef erased mut (pointee (Object-t.the-row .written)))) l₁₅ (sliceVal (b₃, o₃) n₃) (full 𝓤 (tyRef erased mut (pointee (Object-t.the-row .written))) l₁₄ (vptr b₃ o₃) (full 𝓤 (sliceTy (tyRef erased mut (pointee ((Array u64 5) .written)))) l₁₃ (sliceVal (b₁, o₁) n₁) (full 𝓤 (tyRef erased mut (pointee ((Array u64 5) .written))) l₁₂ (vptr b₁ o₁) (full 𝓤 Ran-l.mir l₁₁ (Ran-p .val (firstRan start (length (joinedReplies (begunBy (start .resumes) (sessions) (start .frame) (sample)))))) (full 𝓤 (tyInt w64) l₁₀ (u64-p .val (length (joinedReplies (begunBy (start .resumes) (sessions) (start .frame) (sample))))) (full 𝓤 Resumes-l.mir l₉ (Resumes-p .val (start .resumes)) (full 𝓤 Frame-l.mir l₈ (Frame-p .val (start .frame)) (full 𝓤 Start-l.mir l₇ (Start-p .val start) (full 𝓤 (sliceTy (tyRef (named 5) imm (pointee (u8 .written)))) l₆ (sliceVal (b₆, o₆) n₆) (full 𝓤 (sliceTy (tyRef (named 4) imm (pointee (u8 .written)))) l₅ (sliceVal (b₅, o₅) n₅) (full 𝓤 (sliceTy (tyRef (named 3) mut (pointee (u8 .written)))) l₄ (sliceVal (b₄, o₄) n₄) (full 𝓤 (sliceTy (tyRef (named 2) mut (pointee (Object-t.the-row .written)))) l₃ (sliceVal (b₃, o₃) n₃) (full 𝓤 (sliceTy (tyRef (named 1) mut (pointee ((Array u16 35) .written)))) l₂ (sliceVal (b₂, o₂) n₂) (full 𝓤 (sliceTy (tyRef (named 0) mut (pointee ((Array u64 5) .written)))) l₁ (sliceVal (b₁, o₁) n₁) (free 𝓤 Ran-l.mir l₀ ([]))))))))))))))))))))))))))) (runs C Λ En mir.t-11 (atRet En Post))
+    part-11-0 asks-9 len-9-sessions len-9-objects len-9-out is-9 is-10 =
         assigns ! (addr ! (from ! (fld ! refl (hop ! (look-in ! 60 (sub ! 0 refl (whole !))) (stop !))))) (from ! (stop !)) (init ! 26 refl (tt, tt)) $
         assigns ! (agg ! (and-then ! (load ! (from ! (stop !)) (look ! 26 refl)) (and-then ! (load ! (from ! (fld ! refl (stop !))) (look-in ! 60 (sub ! 1 refl (whole !)))) (no-more !)))) (from ! (stop !)) (init ! 24 refl (tt, (tt, (record { fits = room₁ .0 }, tt)))) $
         assigns ! (addr ! (from ! (fld ! refl (hop ! (look-in ! 58 (sub ! 0 refl (whole !))) (stop !))))) (from ! (stop !)) (init ! 22 refl (tt, tt)) $
@@ -293,15 +258,14 @@ module _ {M : Type 1} (𝓤 : URA M) (H : Heap 𝓤) (A : Atoms 𝓤) (W : Given
         assigns ! (agg ! (and-then ! (load ! (from ! (stop !)) (look ! 14 refl)) (and-then ! (load ! (from ! (fld ! refl (stop !))) (look-in ! 54 (sub ! 1 refl (whole !)))) (no-more !)))) (from ! (stop !)) (init ! 12 refl (tt, (tt, (record { fits = room₄ .0 }, tt)))) $
         knows ! ((firstRan start (length (joinedReplies (begunBy (start .resumes) (sessions) (start .frame) (sample))))) .wrote ≤ 65543) (begun-long sessions objects (start .frame) sample out (start .resumes) within) (λ asks-19.
         -- 19: agent::run::run
-        move ! (4 ∷ 5 ∷ []) $
         lends-mut ! tt (Array u64 5) b₁ o₁ (begunSessions (start .resumes) (sessions) (objects) (start .frame)) n₁ (len-9-sessions) (λ ν-19-sessions δ-19-sessions.
-        move ! (9 ∷ 10 ∷ []) $
+        move ! (3 ∷ 4 ∷ []) $
         lends-mut ! tt (Array u16 35) b₂ o₂ streams n₂ (refl) (λ ν-19-streams δ-19-streams.
-        move ! (8 ∷ 9 ∷ []) $
+        move ! (6 ∷ 7 ∷ []) $
         lends-mut ! tt Object-t.the-row b₃ o₃ (begunObjects (start .resumes) (sessions) (objects) (start .frame)) n₃ (len-9-objects) (λ ν-19-objects δ-19-objects.
         move ! (9 ∷ 10 ∷ []) $
         lends-mut ! tt u8 b₄ o₄ (putReplies (out) 0 (begunBy (start .resumes) (sessions) (start .frame) (sample))) n₄ (len-9-out) (λ ν-19-out δ-19-out.
-        move ! (14 ∷ 15 ∷ []) $
+        move ! (12 ∷ 13 ∷ []) $
         copies-shr ! u8 b₅ o₅ d n₅ $ nothing ! $ move ! (1 ∷ 0 ∷ []) $ join ! $ move ! (3 ∷ 0 ∷ []) $ join ! $ move ! (5 ∷ 0 ∷ []) $ join ! $ move ! (7 ∷ 0 ∷ []) $ join ! $ move ! (9 ∷ 0 ∷ []) $ join ! $
         use1 W (raw (toks 𝓤 A 5 (((ν-19-sessions ∷ []), ((ν-19-streams ∷ []), ((ν-19-objects ∷ []), ((ν-19-out ∷ []), (κ₅, tt)))))) ((fullShare, (fullShare, (fullShare, (fullShare, (q₅, tt)))))))) (id⊢ 𝓤 _) $ nothing ! $
         owned ! (Ran-p .row) (Is (Ran-p .row)) (Ran-p .makes 𝓤 H A W) (firstRan start (length (joinedReplies (begunBy (start .resumes) (sessions) (start .frame) (sample))))) (Ran-p .val (firstRan start (length (joinedReplies (begunBy (start .resumes) (sessions) (start .frame) (sample))))) ∷ []) is-10 $ fjoin ! $
@@ -324,21 +288,71 @@ module _ {M : Type 1} (𝓤 : URA M) (H : Heap 𝓤) (A : Atoms 𝓤) (W : Given
         move ! (11 ∷ 13 ∷ 8 ∷ []) $
         backs-mut ! tt u8 b₄ o₄ (putReplies (out) 0 (begunBy (start .resumes) (sessions) (start .frame) (sample))) n₄ (len-9-out) room₄ ν-19-out δ-19-out (ws-19 .1 .1 .1 .0) (putReplies ((putReplies (out) 0 (begunBy (start .resumes) (sessions) (start .frame) (sample)))) ((firstRan start (length (joinedReplies (begunBy (start .resumes) (sessions) (start .frame) (sample))))) .wrote) (runAt (start .frame) (d) (firstRan start (length (joinedReplies (begunBy (start .resumes) (sessions) (start .frame) (sample))))) (lent ((begunSessions (start .resumes) (sessions) (objects) (start .frame))) (streams) ((begunObjects (start .resumes) (sessions) (objects) (start .frame)))) .replies)) wlen-19-3 (said-19 .3) (λ len-19-out.
         move ! (8 ∷ []) $ drop ! $ move ! (8 ∷ []) $ drop ! $ move ! (9 ∷ []) $ drop ! $
-        land ! (from ! (stop !)) (init ! 62 refl (Ran-p .typed 𝓤 H A W (runAt (start .frame) (d) (firstRan start (length (joinedReplies (begunBy (start .resumes) (sessions) (start .frame) (sample))))) (lent ((begunSessions (start .resumes) (sessions) (objects) (start .frame))) (streams) ((begunObjects (start .resumes) (sessions) (objects) (start .frame)))) .ran) is-19)) $
-        returns ! (look ! 62 refl) $ forget ! 12 refl $ forget ! 14 refl $ forget ! 16 refl $ forget ! 18 refl $ forget ! 20 refl $ forget ! 22 refl $ forget ! 24 refl $ forget ! 26 refl $ forget ! 28 refl $ forget ! 30 refl $ forget ! 32 refl $ forget ! 34 refl $ forget ! 36 refl $ forget ! 38 refl $ forget ! 40 refl $ forget ! 42 refl $ forget ! 44 refl $ forget ! 46 refl $ forget ! 48 refl $ forget ! 50 refl $ forget ! 52 refl $ forget ! 54 refl $ forget ! 56 refl $ forget ! 58 refl $ forget ! 60 refl $ forget ! 62 refl $ move ! (62 ∷ 63 ∷ []) $ free1 ! $ move ! (60 ∷ 61 ∷ []) $ free1 ! $ move ! (58 ∷ 59 ∷ []) $ free1 ! $ move ! (56 ∷ 57 ∷ []) $ free1 ! $ move ! (54 ∷ 55 ∷ []) $ free1 ! $ move ! (52 ∷ 53 ∷ []) $ free1 ! $ move ! (50 ∷ 51 ∷ []) $ free1 ! $ move ! (48 ∷ 49 ∷ []) $ free1 ! $ move ! (46 ∷ 47 ∷ []) $ free1 ! $ move ! (44 ∷ 45 ∷ []) $ free1 ! $ move ! (42 ∷ 43 ∷ []) $ free1 ! $ move ! (40 ∷ 41 ∷ []) $ free1 ! $ move ! (38 ∷ 39 ∷ []) $ free1 ! $ move ! (36 ∷ 37 ∷ []) $ free1 ! $ move ! (34 ∷ 35 ∷ []) $ free1 ! $ move ! (32 ∷ 33 ∷ []) $ free1 ! $ move ! (30 ∷ 31 ∷ []) $ free1 ! $ move ! (28 ∷ 29 ∷ []) $ free1 ! $ move ! (26 ∷ 27 ∷ []) $ free1 ! $ move ! (24 ∷ 25 ∷ []) $ free1 ! $ move ! (22 ∷ 23 ∷ []) $ free1 ! $ move ! (20 ∷ 21 ∷ []) $ free1 ! $ move ! (18 ∷ 19 ∷ []) $ free1 ! $ move ! (16 ∷ 17 ∷ []) $ free1 ! $ move ! (14 ∷ 15 ∷ []) $ free1 ! $ move ! (12 ∷ 13 ∷ []) $ free1 ! $ free0 ! $ move ! (6 ∷ 7 ∷ 4 ∷ 5 ∷ 2 ∷ 3 ∷ 0 ∷ 1 ∷ 9 ∷ 8 ∷ 11 ∷ 10 ∷ []) $
-        by ! (exits (runAt (start .frame) (d) (firstRan start (length (joinedReplies (begunBy (start .resumes) (sessions) (start .frame) (sample))))) (lent ((begunSessions (start .resumes) (sessions) (objects) (start .frame))) (streams) ((begunObjects (start .resumes) (sessions) (objects) (start .frame)))) .ran) (runAt (start .frame) (d) (firstRan start (length (joinedReplies (begunBy (start .resumes) (sessions) (start .frame) (sample))))) (lent ((begunSessions (start .resumes) (sessions) (objects) (start .frame))) (streams) ((begunObjects (start .resumes) (sessions) (objects) (start .frame)))) .tables .sessions) (runAt (start .frame) (d) (firstRan start (length (joinedReplies (begunBy (start .resumes) (sessions) (start .frame) (sample))))) (lent ((begunSessions (start .resumes) (sessions) (objects) (start .frame))) (streams) ((begunObjects (start .resumes) (sessions) (objects) (start .frame)))) .tables .streams) (runAt (start .frame) (d) (firstRan start (length (joinedReplies (begunBy (start .resumes) (sessions) (start .frame) (sample))))) (lent ((begunSessions (start .resumes) (sessions) (objects) (start .frame))) (streams) ((begunObjects (start .resumes) (sessions) (objects) (start .frame)))) .tables .objects) (putReplies ((putReplies (out) 0 (begunBy (start .resumes) (sessions) (start .frame) (sample)))) ((firstRan start (length (joinedReplies (begunBy (start .resumes) (sessions) (start .frame) (sample))))) .wrote) (runAt (start .frame) (d) (firstRan start (length (joinedReplies (begunBy (start .resumes) (sessions) (start .frame) (sample))))) (lent ((begunSessions (start .resumes) (sessions) (objects) (start .frame))) (streams) ((begunObjects (start .resumes) (sessions) (objects) (start .frame)))) .replies)) (performed-by start (lent sessions streams objects) d sample out) is-19 len-19-sessions len-19-streams len-19-objects len-19-out)))))))))))))))))))))))))))
+        land ! (from ! (stop !)) (init ! 62 refl (Ran-p .typed 𝓤 H A W (runAt (start .frame) (d) (firstRan start (length (joinedReplies (begunBy (start .resumes) (sessions) (start .frame) (sample))))) (lent ((begunSessions (start .resumes) (sessions) (objects) (start .frame))) (streams) ((begunObjects (start .resumes) (sessions) (objects) (start .frame)))) .ran) is-19)) $ move ! (6 ∷ 7 ∷ 4 ∷ 5 ∷ 2 ∷ 3 ∷ 0 ∷ 1 ∷ 9 ∷ 8 ∷ 10 ∷ 11 ∷ 12 ∷ 13 ∷ 14 ∷ 15 ∷ 16 ∷ 17 ∷ 18 ∷ 19 ∷ 20 ∷ 21 ∷ 22 ∷ 23 ∷ 24 ∷ 25 ∷ 26 ∷ 27 ∷ 28 ∷ 29 ∷ 30 ∷ 31 ∷ 32 ∷ 33 ∷ 34 ∷ 35 ∷ 36 ∷ 37 ∷ 38 ∷ 39 ∷ 40 ∷ 41 ∷ 42 ∷ 43 ∷ 44 ∷ 45 ∷ 46 ∷ 47 ∷ 48 ∷ 49 ∷ 50 ∷ 51 ∷ 52 ∷ 53 ∷ 54 ∷ 55 ∷ 56 ∷ 57 ∷ 58 ∷ 59 ∷ 60 ∷ 61 ∷ 62 ∷ 63 ∷ []) $
+        part-20-0 asks-9 len-9-sessions len-9-objects len-9-out is-9 is-10 asks-19 len-19-sessions len-19-streams len-19-objects len-19-out is-19))))))))))))))
 
-  module _ (𝓣 : Tables 𝓤 H) (known-perform-begin : Triple 𝓤 (𝓣 .C #perform-begin) (Of-perform-begin 𝓤 H A mem run)) (known-perform-first-ran : Triple 𝓤 (𝓣 .C #perform-first-ran) (Of-perform-first-ran 𝓤 H A mem run)) (known-run-run : Triple 𝓤 (𝓣 .C #run-run) (Of-run-run 𝓤 H A mem run)) where
+    part-10-0 : (asks-9 : resumesFit (start .resumes) (length (sample)) ≡ true) → (len-9-sessions : length (begunSessions (start .resumes) (sessions) (objects) (start .frame)) ≡ n₁) → (len-9-objects : length (begunObjects (start .resumes) (sessions) (objects) (start .frame)) ≡ n₃) → (len-9-out : length (putReplies (out) 0 (begunBy (start .resumes) (sessions) (start .frame) (sample))) ≡ n₄) → (is-9 : Is (u64-p .row) (length (joinedReplies (begunBy (start .resumes) (sessions) (start .frame) (sample)))) (u64-p .val (length (joinedReplies (begunBy (start .resumes) (sessions) (start .frame) (sample)))) ∷ [])) → Sq W (‵ (MutSlice (named 0) κ₁ (Array u64 5) .own (at-list b₁ o₁ γ₁ (begunSessions (start .resumes) (sessions) (objects) (start .frame))) (sliceVal (b₁, o₁) n₁ ∷ [])) ∷ ‵ (flft κ₁ q₁) ∷ ‵ (MutSlice (named 0) κ₂ (Array u16 35) .own (at-list b₂ o₂ γ₂ streams) (sliceVal (b₂, o₂) n₂ ∷ [])) ∷ ‵ (flft κ₂ q₂) ∷ ‵ (MutSlice (named 0) κ₃ Object-t.the-row .own (at-list b₃ o₃ γ₃ (begunObjects (start .resumes) (sessions) (objects) (start .frame))) (sliceVal (b₃, o₃) n₃ ∷ [])) ∷ ‵ (flft κ₃ q₃) ∷ ‵ (MutSlice (named 0) κ₄ u8 .own (at-list b₄ o₄ γ₄ (putReplies (out) 0 (begunBy (start .resumes) (sessions) (start .frame) (sample)))) (sliceVal (b₄, o₄) n₄ ∷ [])) ∷ ‵ (flft κ₄ q₄) ∷ ‵ (ShrSlice (named 0) κ₅ u8 .own (at-list b₅ o₅ γ₅ d) (sliceVal (b₅, o₅) n₅ ∷ [])) ∷ ‵ (flft κ₅ q₅) ∷ ‵ (ShrSlice (named 0) κ₆ u8 .own (at-list b₆ o₆ γ₆ sample) (sliceVal (b₆, o₆) n₆ ∷ [])) ∷ ‵ (flft κ₆ q₆) ∷ free 𝓤 (sliceTy (tyRef erased mut (pointee (u8 .written)))) l₂₅ (free 𝓤 (tyRef erased mut (pointee (u8 .written))) l₂₄ (free 𝓤 (sliceTy (tyRef erased mut (pointee (Object-t.the-row .written)))) l₂₃ (free 𝓤 (tyRef erased mut (pointee (Object-t.the-row .written))) l₂₂ (free 𝓤 (sliceTy (tyRef erased mut (pointee ((Array u16 35) .written)))) l₂₁ (free 𝓤 (tyRef erased mut (pointee ((Array u16 35) .written))) l₂₀ (free 𝓤 (sliceTy (tyRef erased mut (pointee ((Array u64 5) .written)))) l₁₉ (free 𝓤 (tyRef erased mut (pointee ((Array u64 5) .written))) l₁₈ (full 𝓤 (sliceTy (tyRef erased mut (pointee (u8 .written)))) l₁₇ (sliceVal (b₄, o₄) n₄) (full 𝓤 (tyRef erased mut (pointee (u8 .written))) l₁₆ (vptr b₄ o₄) (full 𝓤 (sliceTy (tyRef erased mut (pointee (Object-t.the-row .written)))) l₁₅ (sliceVal (b₃, o₃) n₃) (full 𝓤 (tyRef erased mut (pointee (Object-t.the-row .written))) l₁₄ (vptr b₃ o₃) (full 𝓤 (sliceTy (tyRef erased mut (pointee ((Array u64 5) .written)))) l₁₃ (sliceVal (b₁, o₁) n₁) (full 𝓤 (tyRef erased mut (pointee ((Array u64 5) .written))) l₁₂ (vptr b₁ o₁) (free 𝓤 Ran-l.mir l₁₁ (full 𝓤 (tyInt w64) l₁₀ (u64-p .val (length (joinedReplies (begunBy (start .resumes) (sessions) (start .frame) (sample))))) (full 𝓤 Resumes-l.mir l₉ (Resumes-p .val (start .resumes)) (full 𝓤 Frame-l.mir l₈ (Frame-p .val (start .frame)) (full 𝓤 Start-l.mir l₇ (Start-p .val start) (full 𝓤 (sliceTy (tyRef (named 5) imm (pointee (u8 .written)))) l₆ (sliceVal (b₆, o₆) n₆) (full 𝓤 (sliceTy (tyRef (named 4) imm (pointee (u8 .written)))) l₅ (sliceVal (b₅, o₅) n₅) (full 𝓤 (sliceTy (tyRef (named 3) mut (pointee (u8 .written)))) l₄ (sliceVal (b₄, o₄) n₄) (full 𝓤 (sliceTy (tyRef (named 2) mut (pointee (Object-t.the-row .written)))) l₃ (sliceVal (b₃, o₃) n₃) (full 𝓤 (sliceTy (tyRef (named 1) mut (pointee ((Array u16 35) .written)))) l₂ (sliceVal (b₂, o₂) n₂) (full 𝓤 (sliceTy (tyRef (named 0) mut (pointee ((Array u64 5) .written)))) l₁ (sliceVal (b₁, o₁) n₁) (free 𝓤 Ran-l.mir l₀ ([]))))))))))))))))))))))))))) (runs C Λ En mir.t-10 (atRet En Post))
+    part-10-0 asks-9 len-9-sessions len-9-objects len-9-out is-9 =
+        -- 10: agent::perform::first_ran
+        nothing ! $
+        use1 W (raw (toks 𝓤 A 0 (tt) (tt))) (id⊢ 𝓤 _) $ nothing ! $
+        owned ! (u64-p .row) (Is (u64-p .row)) (u64-p .makes 𝓤 H A W) (length (joinedReplies (begunBy (start .resumes) (sessions) (start .frame) (sample)))) (u64-p .val (length (joinedReplies (begunBy (start .resumes) (sessions) (start .frame) (sample)))) ∷ []) is-9 $ fjoin ! $
+        owned ! (Start-p .row) (Is (Start-p .row)) (Start-p .makes 𝓤 H A W) start (Start-p .val start ∷ []) start-is $ fjoin ! $ move ! (1 ∷ 0 ∷ []) $
+        calls-any ! fm 0 [] (perform-first-ran.signature .params) (perform-first-ran.ended .kept) Ran-p (perform-first-ran.clauses 𝓤 H A mem run) known-perform-first-ran tt tt tt (start, (length (joinedReplies (begunBy (start .resumes) (sessions) (start .frame) (sample))), tt)) (Start-p .val start ∷ [], (u64-p .val (length (joinedReplies (begunBy (start .resumes) (sessions) (start .frame) (sample)))) ∷ [], tt)) tt (firstRan start (length (joinedReplies (begunBy (start .resumes) (sessions) (start .frame) (sample))))) (λ ws-10. Unit {0}) (id⊢ 𝓤 _) (λ r ws-10. fact-mono 𝓤 (r ≡ firstRan start (length (joinedReplies (begunBy (start .resumes) (sessions) (start .frame) (sample))))) ((r ≡ (firstRan start (length (joinedReplies (begunBy (start .resumes) (sessions) (start .frame) (sample)))))) × (Unit {0})) (λ e. (e, tt))) (λ _. (and-then ! (load ! (from ! (stop !)) (look ! 49 refl)) (and-then ! (load ! (from ! (stop !)) (look ! 43 refl)) (no-more !)))) (λ ws-10 said-10 is-10.
+        drop ! $ drop ! $
+        land ! (from ! (stop !)) (init ! 40 refl (Ran-p .typed 𝓤 H A W (firstRan start (length (joinedReplies (begunBy (start .resumes) (sessions) (start .frame) (sample))))) is-10)) $
+        part-11-0 asks-9 len-9-sessions len-9-objects len-9-out is-9 is-10)
+
+    begins : Sq W (‵ (MutSlice (named 0) κ₁ (Array u64 5) .own (at-list b₁ o₁ γ₁ sessions) (sliceVal (b₁, o₁) n₁ ∷ [])) ∷ ‵ (flft κ₁ q₁) ∷ ‵ (MutSlice (named 0) κ₂ (Array u16 35) .own (at-list b₂ o₂ γ₂ streams) (sliceVal (b₂, o₂) n₂ ∷ [])) ∷ ‵ (flft κ₂ q₂) ∷ ‵ (MutSlice (named 0) κ₃ Object-t.the-row .own (at-list b₃ o₃ γ₃ objects) (sliceVal (b₃, o₃) n₃ ∷ [])) ∷ ‵ (flft κ₃ q₃) ∷ ‵ (MutSlice (named 0) κ₄ u8 .own (at-list b₄ o₄ γ₄ out) (sliceVal (b₄, o₄) n₄ ∷ [])) ∷ ‵ (flft κ₄ q₄) ∷ ‵ (ShrSlice (named 0) κ₅ u8 .own (at-list b₅ o₅ γ₅ d) (sliceVal (b₅, o₅) n₅ ∷ [])) ∷ ‵ (flft κ₅ q₅) ∷ ‵ (ShrSlice (named 0) κ₆ u8 .own (at-list b₆ o₆ γ₆ sample) (sliceVal (b₆, o₆) n₆ ∷ [])) ∷ ‵ (flft κ₆ q₆) ∷ free 𝓤 (sliceTy (tyRef erased mut (pointee (u8 .written)))) l₂₅ (free 𝓤 (tyRef erased mut (pointee (u8 .written))) l₂₄ (free 𝓤 (sliceTy (tyRef erased mut (pointee (Object-t.the-row .written)))) l₂₃ (free 𝓤 (tyRef erased mut (pointee (Object-t.the-row .written))) l₂₂ (free 𝓤 (sliceTy (tyRef erased mut (pointee ((Array u16 35) .written)))) l₂₁ (free 𝓤 (tyRef erased mut (pointee ((Array u16 35) .written))) l₂₀ (free 𝓤 (sliceTy (tyRef erased mut (pointee ((Array u64 5) .written)))) l₁₉ (free 𝓤 (tyRef erased mut (pointee ((Array u64 5) .written))) l₁₈ (free 𝓤 (sliceTy (tyRef erased mut (pointee (u8 .written)))) l₁₇ (free 𝓤 (tyRef erased mut (pointee (u8 .written))) l₁₆ (free 𝓤 (sliceTy (tyRef erased mut (pointee (Object-t.the-row .written)))) l₁₅ (free 𝓤 (tyRef erased mut (pointee (Object-t.the-row .written))) l₁₄ (free 𝓤 (sliceTy (tyRef erased mut (pointee ((Array u64 5) .written)))) l₁₃ (free 𝓤 (tyRef erased mut (pointee ((Array u64 5) .written))) l₁₂ (free 𝓤 Ran-l.mir l₁₁ (free 𝓤 (tyInt w64) l₁₀ (free 𝓤 Resumes-l.mir l₉ (free 𝓤 Frame-l.mir l₈ (full 𝓤 Start-l.mir l₇ (Start-p .val start) (full 𝓤 (sliceTy (tyRef (named 5) imm (pointee (u8 .written)))) l₆ (sliceVal (b₆, o₆) n₆) (full 𝓤 (sliceTy (tyRef (named 4) imm (pointee (u8 .written)))) l₅ (sliceVal (b₅, o₅) n₅) (full 𝓤 (sliceTy (tyRef (named 3) mut (pointee (u8 .written)))) l₄ (sliceVal (b₄, o₄) n₄) (full 𝓤 (sliceTy (tyRef (named 2) mut (pointee (Object-t.the-row .written)))) l₃ (sliceVal (b₃, o₃) n₃) (full 𝓤 (sliceTy (tyRef (named 1) mut (pointee ((Array u16 35) .written)))) l₂ (sliceVal (b₂, o₂) n₂) (full 𝓤 (sliceTy (tyRef (named 0) mut (pointee ((Array u64 5) .written)))) l₁ (sliceVal (b₁, o₁) n₁) (free 𝓤 Ran-l.mir l₀ ([]))))))))))))))))))))))))))) (runs C Λ En mir.t-1 (atRet En Post))
+    begins =
+        assigns ! (of-opd ! (load ! (from ! (fld ! refl (stop !))) (look-in ! 48 (sub ! 0 refl (whole !))))) (from ! (stop !)) (init ! 46 refl (Frame-p .typed 𝓤 H A W (start .frame) (LL.owed Start-t.the-type Start-l.the-laws start _ start-is .0))) $
+        assigns ! (of-opd ! (load ! (from ! (fld ! refl (stop !))) (look-in ! 48 (sub ! 3 refl (whole !))))) (from ! (stop !)) (init ! 44 refl (Resumes-p .typed 𝓤 H A W (start .resumes) (LL.owed Start-t.the-type Start-l.the-laws start _ start-is .1 .1 .1 .0))) $
+        assigns ! (addr ! (from ! (fld ! refl (hop ! (look-in ! 60 (sub ! 0 refl (whole !))) (stop !))))) (from ! (stop !)) (init ! 38 refl (tt, tt)) $
+        assigns ! (agg ! (and-then ! (load ! (from ! (stop !)) (look ! 38 refl)) (and-then ! (load ! (from ! (fld ! refl (stop !))) (look-in ! 60 (sub ! 1 refl (whole !)))) (no-more !)))) (from ! (stop !)) (init ! 36 refl (tt, (tt, (record { fits = room₁ .0 }, tt)))) $
+        assigns ! (addr ! (from ! (fld ! refl (hop ! (look-in ! 56 (sub ! 0 refl (whole !))) (stop !))))) (from ! (stop !)) (init ! 34 refl (tt, tt)) $
+        assigns ! (agg ! (and-then ! (load ! (from ! (stop !)) (look ! 34 refl)) (and-then ! (load ! (from ! (fld ! refl (stop !))) (look-in ! 56 (sub ! 1 refl (whole !)))) (no-more !)))) (from ! (stop !)) (init ! 32 refl (tt, (tt, (record { fits = room₃ .0 }, tt)))) $
+        assigns ! (addr ! (from ! (fld ! refl (hop ! (look-in ! 54 (sub ! 0 refl (whole !))) (stop !))))) (from ! (stop !)) (init ! 30 refl (tt, tt)) $
+        assigns ! (agg ! (and-then ! (load ! (from ! (stop !)) (look ! 30 refl)) (and-then ! (load ! (from ! (fld ! refl (stop !))) (look-in ! 54 (sub ! 1 refl (whole !)))) (no-more !)))) (from ! (stop !)) (init ! 28 refl (tt, (tt, (record { fits = room₄ .0 }, tt)))) $
+        knows ! (resumesFit (start .resumes) (length (sample)) ≡ true) (within) (λ asks-9.
+        -- 9: agent::answers::begin
+        lends-mut ! tt (Array u64 5) b₁ o₁ sessions n₁ (refl) (λ ν-9-sessions δ-9-sessions.
+        move ! (5 ∷ 6 ∷ []) $
+        lends-mut ! tt Object-t.the-row b₃ o₃ objects n₃ (refl) (λ ν-9-objects δ-9-objects.
+        move ! (8 ∷ 9 ∷ []) $
+        lends-mut ! tt u8 b₄ o₄ out n₄ (refl) (λ ν-9-out δ-9-out.
+        move ! (13 ∷ 14 ∷ []) $
+        copies-shr ! u8 b₆ o₆ sample n₆ $ nothing ! $ move ! (1 ∷ 0 ∷ []) $ join ! $ move ! (3 ∷ 0 ∷ []) $ join ! $ move ! (5 ∷ 0 ∷ []) $ join ! $ move ! (7 ∷ 0 ∷ []) $ join ! $
+        use1 W (raw (toks 𝓤 A 4 (((ν-9-sessions ∷ []), ((ν-9-objects ∷ []), ((ν-9-out ∷ []), (κ₆, tt))))) ((fullShare, (fullShare, (fullShare, (q₆, tt))))))) (id⊢ 𝓤 _) $ nothing ! $
+        owned ! (Resumes-p .row) (Is (Resumes-p .row)) (Resumes-p .makes 𝓤 H A W) (start .resumes) (Resumes-p .val (start .resumes) ∷ []) (LL.owed Start-t.the-type Start-l.the-laws start _ start-is .1 .1 .1 .0) $ fjoin ! $
+        owned ! (Frame-p .row) (Is (Frame-p .row)) (Frame-p .makes 𝓤 H A W) (start .frame) (Frame-p .val (start .frame) ∷ []) (LL.owed Start-t.the-type Start-l.the-laws start _ start-is .0) $ fjoin ! $ move ! (2 ∷ 0 ∷ []) $ fjoin ! $ move ! (3 ∷ 0 ∷ []) $ fjoin ! $ move ! (4 ∷ 0 ∷ []) $ fjoin ! $ move ! (5 ∷ 0 ∷ []) $ fjoin ! $ move ! (1 ∷ 0 ∷ []) $
+        calls-any ! fm 4 [] (answers-begin.signature .params) (answers-begin.ended .kept) u64-p (answers-begin.clauses 𝓤 H A mem run) known-answers-begin ((ν-9-sessions ∷ []), ((ν-9-objects ∷ []), ((ν-9-out ∷ []), (κ₆, tt)))) (fullShare, (fullShare, (fullShare, (q₆, tt)))) tt (at-list b₁ o₁ δ-9-sessions sessions, (at-list b₃ o₃ δ-9-objects objects, (at-list b₄ o₄ δ-9-out out, (at-list b₆ o₆ γ₆ sample, (start .frame, (start .resumes, tt)))))) (sliceVal (b₁, o₁) n₁ ∷ [], (sliceVal (b₃, o₃) n₃ ∷ [], (sliceVal (b₄, o₄) n₄ ∷ [], (sliceVal (b₆, o₆) n₆ ∷ [], (Frame-p .val (start .frame) ∷ [], (Resumes-p .val (start .resumes) ∷ [], tt)))))) tt (length (joinedReplies (begunBy (start .resumes) (sessions) (start .frame) (sample)))) (λ ws-9. (ws-9 .0 ≡ begunSessions (start .resumes) (sessions) (objects) (start .frame)) × (ws-9 .1 .0 ≡ begunObjects (start .resumes) (sessions) (objects) (start .frame)) × (ws-9 .1 .1 .0 ≡ putReplies (out) 0 (begunBy (start .resumes) (sessions) (start .frame) (sample)))) (factI 𝓤 (resumesFit (start .resumes) (length (sample)) ≡ true) _ asks-9) (λ r ws-9. fact-mono 𝓤 ((r ≡ length (joinedReplies (begunBy (start .resumes) (sessions) (start .frame) (sample)))) × ((ws-9 .0) ≡ begunSessions (start .resumes) (sessions) (objects) (start .frame)) × ((ws-9 .1 .0) ≡ begunObjects (start .resumes) (sessions) (objects) (start .frame)) × ((ws-9 .1 .1 .0) ≡ putReplies (out) 0 (begunBy (start .resumes) (sessions) (start .frame) (sample)))) ((r ≡ (length (joinedReplies (begunBy (start .resumes) (sessions) (start .frame) (sample))))) × ((ws-9 .0 ≡ begunSessions (start .resumes) (sessions) (objects) (start .frame)) × (ws-9 .1 .0 ≡ begunObjects (start .resumes) (sessions) (objects) (start .frame)) × (ws-9 .1 .1 .0 ≡ putReplies (out) 0 (begunBy (start .resumes) (sessions) (start .frame) (sample))))) (λ e. (e .0, (e .1, e .2, e .3)))) (λ _. (and-then ! (load ! (from ! (stop !)) (look ! 33 refl)) (and-then ! (load ! (from ! (stop !)) (look ! 29 refl)) (and-then ! (load ! (from ! (stop !)) (look ! 25 refl)) (and-then ! (load ! (from ! (stop !)) (look ! 47 refl)) (and-then ! (load ! (from ! (stop !)) (look ! 43 refl)) (and-then ! (load ! (from ! (stop !)) (look ! 41 refl)) (no-more !)))))))) (λ ws-9 said-9 is-9.
+        use1 W ((‵ (flft (ν-9-sessions ∷ []) fullShare) ⊛ (‵ (flft (ν-9-objects ∷ []) fullShare) ⊛ (‵ (flft (ν-9-out ∷ []) fullShare) ⊛ (‵ (flft κ₆ q₆) ⊛ ‵ ftrue))))) (id⊢ 𝓤 _) $ split ! $ move ! (1 ∷ []) $ split ! $ move ! (1 ∷ []) $ split ! $ move ! (1 ∷ []) $ split ! $ move ! (5 ∷ []) $ fsplit ! $ fsplit ! $ move ! (1 ∷ []) $
+        feqL ! (λ wlen-9-0.
+        move ! (1 ∷ []) $ fsplit ! $ fsplit ! $ move ! (1 ∷ []) $
+        feqL ! (λ wlen-9-1.
+        move ! (1 ∷ []) $ fsplit ! $ fsplit ! $ move ! (1 ∷ []) $
+        feqL ! (λ wlen-9-2.
+        move ! (1 ∷ []) $ fsplit ! $ move ! (9 ∷ 13 ∷ 4 ∷ []) $
+        backs-mut ! tt (Array u64 5) b₁ o₁ sessions n₁ (refl) room₁ ν-9-sessions δ-9-sessions (ws-9 .0) (begunSessions (start .resumes) (sessions) (objects) (start .frame)) wlen-9-0 (said-9 .0) (λ len-9-sessions.
+        move ! (9 ∷ 12 ∷ 5 ∷ []) $
+        backs-mut ! tt Object-t.the-row b₃ o₃ objects n₃ (refl) room₃ ν-9-objects δ-9-objects (ws-9 .1 .0) (begunObjects (start .resumes) (sessions) (objects) (start .frame)) wlen-9-1 (said-9 .1) (λ len-9-objects.
+        move ! (9 ∷ 11 ∷ 6 ∷ []) $
+        backs-mut ! tt u8 b₄ o₄ out n₄ (refl) room₄ ν-9-out δ-9-out (ws-9 .1 .1 .0) (putReplies (out) 0 (begunBy (start .resumes) (sessions) (start .frame) (sample))) wlen-9-2 (said-9 .2) (λ len-9-out.
+        move ! (6 ∷ []) $ drop ! $ move ! (6 ∷ []) $ drop ! $ move ! (7 ∷ []) $ drop ! $
+        land ! (from ! (stop !)) (init ! 42 refl (u64-p .typed 𝓤 H A W (length (joinedReplies (begunBy (start .resumes) (sessions) (start .frame) (sample)))) is-9)) $ move ! (4 ∷ 5 ∷ 8 ∷ 9 ∷ 2 ∷ 3 ∷ 0 ∷ 1 ∷ 10 ∷ 11 ∷ 7 ∷ 6 ∷ 12 ∷ 13 ∷ 14 ∷ 15 ∷ 16 ∷ 17 ∷ 18 ∷ 19 ∷ 20 ∷ 21 ∷ 22 ∷ 23 ∷ 24 ∷ 25 ∷ 26 ∷ 27 ∷ 28 ∷ 29 ∷ 30 ∷ 31 ∷ 32 ∷ 33 ∷ 34 ∷ 35 ∷ 36 ∷ 37 ∷ 38 ∷ 39 ∷ 40 ∷ 41 ∷ 42 ∷ 43 ∷ 44 ∷ 45 ∷ 46 ∷ 47 ∷ 48 ∷ 49 ∷ 50 ∷ 51 ∷ 52 ∷ 53 ∷ 54 ∷ 55 ∷ 56 ∷ 57 ∷ 58 ∷ 59 ∷ 60 ∷ 61 ∷ 62 ∷ 63 ∷ []) $
+        part-10-0 asks-9 len-9-sessions len-9-objects len-9-out is-9)))))))))))
+
+  module _ (𝓣 : Tables 𝓤 H) (known-answers-begin : Triple 𝓤 (𝓣 .C #answers-begin) (Of-answers-begin 𝓤 H A mem run)) (known-perform-first-ran : Triple 𝓤 (𝓣 .C #perform-first-ran) (Of-perform-first-ran 𝓤 H A mem run)) (known-run-run : Triple 𝓤 (𝓣 .C #run-run) (Of-run-run 𝓤 H A mem run)) where
     walk : ent 𝓤 (onEntry 𝓤 H A f.signature (κ₁, (κ₂, (κ₃, (κ₄, (κ₅, (κ₆, tt)))))) (q₁, (q₂, (q₃, (q₄, (q₅, (q₆, tt)))))) x at) (WpFn 𝓤 H (𝓣 .C) (𝓣 .Λ) code.function (sliceVal (b₁, o₁) n₁ ∷ sliceVal (b₂, o₂) n₂ ∷ sliceVal (b₃, o₃) n₃ ∷ sliceVal (b₄, o₄) n₄ ∷ sliceVal (b₅, o₅) n₅ ∷ sliceVal (b₆, o₆) n₆ ∷ Start-p .val start ∷ []) Post)
     walk =
         qed W ((‵ (flft κ₁ q₁) ⊛ (‵ (flft κ₂ q₂) ⊛ (‵ (flft κ₃ q₃) ⊛ (‵ (flft κ₄ q₄) ⊛ (‵ (flft κ₅ q₅) ⊛ (‵ (flft κ₆ q₆) ⊛ ‵ ftrue)))))) ∷ ‵ (owns (MutSlice (named 0) κ₁ (Array u64 5) ∷ MutSlice (named 1) κ₂ (Array u16 35) ∷ MutSlice (named 2) κ₃ Object-t.the-row ∷ MutSlice (named 3) κ₄ u8 ∷ ShrSlice (named 4) κ₅ u8 ∷ ShrSlice (named 5) κ₆ u8 ∷ Start-p .row ∷ []) x at) ∷ []) ∵ enter ! (𝓣 .C) (𝓣 .Λ) code.function (sliceVal (b₁, o₁) n₁ ∷ sliceVal (b₂, o₂) n₂ ∷ sliceVal (b₃, o₃) n₃ ∷ sliceVal (b₄, o₄) n₄ ∷ sliceVal (b₅, o₅) n₅ ∷ sliceVal (b₆, o₆) n₆ ∷ Start-p .val start ∷ []) _ $
         alloc1 ! (λ l₀. alloc1 ! (λ l₁. alloc1 ! (λ l₂. alloc1 ! (λ l₃. alloc1 ! (λ l₄. alloc1 ! (λ l₅. alloc1 ! (λ l₆. alloc1 ! (λ l₇. alloc1 ! (λ l₈. alloc1 ! (λ l₉. alloc1 ! (λ l₁₀. alloc1 ! (λ l₁₁. alloc1 ! (λ l₁₂. alloc1 ! (λ l₁₃. alloc1 ! (λ l₁₄. alloc1 ! (λ l₁₅. alloc1 ! (λ l₁₆. alloc1 ! (λ l₁₇. alloc1 ! (λ l₁₈. alloc1 ! (λ l₁₉. alloc1 ! (λ l₂₀. alloc1 ! (λ l₂₁. alloc1 ! (λ l₂₂. alloc1 ! (λ l₂₃. alloc1 ! (λ l₂₄. alloc1 ! (λ l₂₅. alloc0 ! $ params1 ! $ pass1 ! (init ! 48 refl (tt, (tt, (record { fits = room₁ .0 }, tt)))) $ pass1 ! (init ! 46 refl (tt, (tt, (record { fits = room₂ .0 }, tt)))) $ pass1 ! (init ! 44 refl (tt, (tt, (record { fits = room₃ .0 }, tt)))) $ pass1 ! (init ! 42 refl (tt, (tt, (record { fits = room₄ .0 }, tt)))) $ pass1 ! (init ! 40 refl (tt, (tt, (record { fits = room₅ .0 }, tt)))) $ pass1 ! (init ! 38 refl (tt, (tt, (record { fits = room₆ .0 }, tt)))) $ pass1 ! (init ! 36 refl (Start-p .typed 𝓤 H A W start start-is)) $ pass0 ! $ move ! (53 ∷ []) $ fsplit ! $ move ! (1 ∷ []) $ fsplit ! $ move ! (1 ∷ []) $ fsplit ! $ move ! (1 ∷ []) $ fsplit ! $ move ! (1 ∷ []) $ fsplit ! $ move ! (1 ∷ []) $ fsplit ! $ move ! (59 ∷ []) $ split ! $ move ! (1 ∷ []) $ split ! $ move ! (1 ∷ []) $ split ! $ move ! (1 ∷ []) $ split ! $ move ! (1 ∷ []) $ split ! $ move ! (1 ∷ []) $ split ! $ move ! (1 ∷ []) $ drop ! $ move ! (7 ∷ []) $ drop ! $ move ! (11 ∷ 5 ∷ 10 ∷ 4 ∷ 9 ∷ 3 ∷ 8 ∷ 2 ∷ 7 ∷ 1 ∷ 6 ∷ 0 ∷ 12 ∷ 13 ∷ 14 ∷ 15 ∷ 16 ∷ 17 ∷ 18 ∷ 19 ∷ 20 ∷ 21 ∷ 22 ∷ 23 ∷ 24 ∷ 25 ∷ 26 ∷ 27 ∷ 28 ∷ 29 ∷ 30 ∷ 31 ∷ 32 ∷ 33 ∷ 34 ∷ 35 ∷ 36 ∷ 37 ∷ 38 ∷ 39 ∷ 40 ∷ 41 ∷ 42 ∷ 43 ∷ 44 ∷ 45 ∷ 46 ∷ 47 ∷ 48 ∷ 49 ∷ 50 ∷ 51 ∷ 52 ∷ 53 ∷ 54 ∷ 55 ∷ 56 ∷ 57 ∷ 58 ∷ 59 ∷ 60 ∷ 61 ∷ 62 ∷ 63 ∷ []) $
-        begins 𝓣 known-perform-begin known-perform-first-ran known-run-run l₀ l₁ l₂ l₃ l₄ l₅ l₆ l₇ l₈ l₉ l₁₀ l₁₁ l₁₂ l₁₃ l₁₄ l₁₅ l₁₆ l₁₇ l₁₈ l₁₉ l₂₀ l₂₁ l₂₂ l₂₃ l₂₄ l₂₅))))))))))))))))))))))))))
+        begins 𝓣 known-answers-begin known-perform-first-ran known-run-run l₀ l₁ l₂ l₃ l₄ l₅ l₆ l₇ l₈ l₉ l₁₀ l₁₁ l₁₂ l₁₃ l₁₄ l₁₅ l₁₆ l₁₇ l₁₈ l₁₉ l₂₀ l₂₁ l₂₂ l₂₃ l₂₄ l₂₅))))))))))))))))))))))))))
 
-module _ {M : Type 1} (𝓤 : URA M) (H : Heap 𝓤) (A : Atoms 𝓤) (W : Given 𝓤 H A) (mem : Memory → SProp 𝓤) (run : Routine → Fun 𝓤) (𝓣 : Tables 𝓤 H) (known-perform-begin : Triple 𝓤 (𝓣 .C #perform-begin) (Of-perform-begin 𝓤 H A mem run)) (known-perform-first-ran : Triple 𝓤 (𝓣 .C #perform-first-ran) (Of-perform-first-ran 𝓤 H A mem run)) (known-run-run : Triple 𝓤 (𝓣 .C #run-run) (Of-run-run 𝓤 H A mem run)) where
+module _ {M : Type 1} (𝓤 : URA M) (H : Heap 𝓤) (A : Atoms 𝓤) (W : Given 𝓤 H A) (mem : Memory → SProp 𝓤) (run : Routine → Fun 𝓤) (𝓣 : Tables 𝓤 H) (known-answers-begin : Triple 𝓤 (𝓣 .C #answers-begin) (Of-answers-begin 𝓤 H A mem run)) (known-perform-first-ran : Triple 𝓤 (𝓣 .C #perform-first-ran) (Of-perform-first-ran 𝓤 H A mem run)) (known-run-run : Triple 𝓤 (𝓣 .C #run-run) (Of-run-run 𝓤 H A mem run)) where
   walks : Walks 𝓤 H A f.ended stayed (WpFn 𝓤 H (𝓣 .C) (𝓣 .Λ) code.function) (f.clauses 𝓤 H A mem run)
   walks = walked 𝓤 H A f.ended stayed (f.clauses 𝓤 H A mem run) (WpFn 𝓤 H (𝓣 .C) (𝓣 .Λ) code.function) (λ κs. (slice-vals, (slice-vals, (slice-vals, (slice-vals, (slice-vals, (slice-vals, ((λ y. Start-p .val y ∷ []), tt)))))))) (λ κs. (mut-slice-tells (named 0) (κs .0) (Array u64 5), (mut-slice-tells (named 1) (κs .1 .0) (Array u16 35), (mut-slice-tells (named 2) (κs .1 .1 .0) Object-t.the-row, (mut-slice-tells (named 3) (κs .1 .1 .1 .0) u8, (shr-slice-tells (named 4) (κs .1 .1 .1 .1 .0) u8, (shr-slice-tells (named 5) (κs .1 .1 .1 .1 .1 .0) u8, (Start-p .tells, tt))))))))
-      (λ κs qs bounds a g are. needs 𝓤 _ _ (λ within. walk 𝓤 H A W mem run (κs .0) (qs .0) (a .0 .ptr .0) (a .0 .ptr .1) (a .0 .name) (a .0 .now) (κs .1 .0) (qs .1 .0) (a .1 .0 .ptr .0) (a .1 .0 .ptr .1) (a .1 .0 .name) (a .1 .0 .now) (κs .1 .1 .0) (qs .1 .1 .0) (a .1 .1 .0 .ptr .0) (a .1 .1 .0 .ptr .1) (a .1 .1 .0 .name) (a .1 .1 .0 .now) (κs .1 .1 .1 .0) (qs .1 .1 .1 .0) (a .1 .1 .1 .0 .ptr .0) (a .1 .1 .1 .0 .ptr .1) (a .1 .1 .1 .0 .name) (a .1 .1 .1 .0 .now) (κs .1 .1 .1 .1 .0) (qs .1 .1 .1 .1 .0) (a .1 .1 .1 .1 .0 .ptr .0) (a .1 .1 .1 .1 .0 .ptr .1) (a .1 .1 .1 .1 .0 .name) (a .1 .1 .1 .1 .0 .now) (κs .1 .1 .1 .1 .1 .0) (qs .1 .1 .1 .1 .1 .0) (a .1 .1 .1 .1 .1 .0 .ptr .0) (a .1 .1 .1 .1 .1 .0 .ptr .1) (a .1 .1 .1 .1 .1 .0 .name) (a .1 .1 .1 .1 .1 .0 .now) (a .1 .1 .1 .1 .1 .1 .0) (are .0 .0 .1) (are .1 .0 .0 .1) (are .1 .1 .0 .0 .1) (are .1 .1 .1 .0 .0 .1) (are .1 .1 .1 .1 .0 .0 .1) (are .1 .1 .1 .1 .1 .0 .0 .1) (are .1 .1 .1 .1 .1 .1 .0) within 𝓣 known-perform-begin known-perform-first-ran known-run-run))
+      (λ κs qs bounds a g are. needs 𝓤 _ _ (λ within. walk 𝓤 H A W mem run (κs .0) (qs .0) (a .0 .ptr .0) (a .0 .ptr .1) (a .0 .name) (a .0 .now) (κs .1 .0) (qs .1 .0) (a .1 .0 .ptr .0) (a .1 .0 .ptr .1) (a .1 .0 .name) (a .1 .0 .now) (κs .1 .1 .0) (qs .1 .1 .0) (a .1 .1 .0 .ptr .0) (a .1 .1 .0 .ptr .1) (a .1 .1 .0 .name) (a .1 .1 .0 .now) (κs .1 .1 .1 .0) (qs .1 .1 .1 .0) (a .1 .1 .1 .0 .ptr .0) (a .1 .1 .1 .0 .ptr .1) (a .1 .1 .1 .0 .name) (a .1 .1 .1 .0 .now) (κs .1 .1 .1 .1 .0) (qs .1 .1 .1 .1 .0) (a .1 .1 .1 .1 .0 .ptr .0) (a .1 .1 .1 .1 .0 .ptr .1) (a .1 .1 .1 .1 .0 .name) (a .1 .1 .1 .1 .0 .now) (κs .1 .1 .1 .1 .1 .0) (qs .1 .1 .1 .1 .1 .0) (a .1 .1 .1 .1 .1 .0 .ptr .0) (a .1 .1 .1 .1 .1 .0 .ptr .1) (a .1 .1 .1 .1 .1 .0 .name) (a .1 .1 .1 .1 .1 .0 .now) (a .1 .1 .1 .1 .1 .1 .0) (are .0 .0 .1) (are .1 .0 .0 .1) (are .1 .1 .0 .0 .1) (are .1 .1 .1 .0 .0 .1) (are .1 .1 .1 .1 .0 .0 .1) (are .1 .1 .1 .1 .1 .0 .0 .1) (are .1 .1 .1 .1 .1 .1 .0) within 𝓣 known-answers-begin known-perform-first-ran known-run-run))
 
   meets : Meets 𝓤 H A f.signature (WpFn 𝓤 H (𝓣 .C) (𝓣 .Λ) code.function) (f.spec 𝓤 H A mem run)
   meets = walk-meets 𝓤 H A f.ended stayed W (goes-slice 𝓤 H A W 6 0 tt (plain (λ _. (Array u64 5))), (goes-slice 𝓤 H A W 6 1 tt (plain (λ _. (Array u16 35))), (goes-slice 𝓤 H A W 6 2 tt (plain (λ _. Object-t.the-row)), (goes-slice 𝓤 H A W 6 3 tt (plain (λ _. u8)), (goes-none-slice 𝓤 H A W 6 (4 ∷ []) tt (plain (λ _. u8)) yes, (goes-none-slice 𝓤 H A W 6 (5 ∷ []) tt (plain (λ _. u8)) yes, (goes-none 𝓤 H A W 6 (λ _. Start-p .row) yes (λ κs x f. refl), tt))))))) (f.clauses 𝓤 H A mem run) (WpFn 𝓤 H (𝓣 .C) (𝓣 .Λ) code.function) (WpFn-mono 𝓤 H (W .laws) 𝓣 code.function) walks
@@ -349,6 +363,6 @@ perform-spec 𝓤 H 𝓜 𝓖 𝓡 =
     entered 𝓤 H (tripleOf 𝓤 H (𝓖 .A) f.signature (f.spec 𝓤 H (𝓖 .A) (𝓜 .mem) (𝓡 .run)))
     (tables 𝓤 H 𝓜 𝓡 code.env .C) (tables 𝓤 H 𝓜 𝓡 code.env .Λ) #f code.function (code.unfolded 𝓤 H 𝓜 𝓡)
     (meets 𝓤 H (𝓖 .A) (givenOf 𝓤 H 𝓜 𝓖) (𝓜 .mem) (𝓡 .run) (tablesOf 𝓤 H 𝓜 (tables 𝓤 H 𝓜 𝓡 code.env))
-    (cited 𝓤 H (Of-perform-begin 𝓤 H (𝓖 .A) (𝓜 .mem) (𝓡 .run)) 𝓜 𝓡 code.env #perform-begin perform-begin-def.routine code.calls-agent·perform·begin (perform-begin-thm.met 𝓤 H 𝓜 𝓖 𝓡))
+    (cited 𝓤 H (Of-answers-begin 𝓤 H (𝓖 .A) (𝓜 .mem) (𝓡 .run)) 𝓜 𝓡 code.env #answers-begin answers-begin-def.routine code.calls-agent·answers·begin (answers-begin-thm.met 𝓤 H 𝓜 𝓖 𝓡))
     (cited 𝓤 H (Of-perform-first-ran 𝓤 H (𝓖 .A) (𝓜 .mem) (𝓡 .run)) 𝓜 𝓡 code.env #perform-first-ran perform-first-ran-def.routine code.calls-agent·perform·first-ran (perform-first-ran-thm.met 𝓤 H 𝓜 𝓖 𝓡))
     (cited 𝓤 H (Of-run-run 𝓤 H (𝓖 .A) (𝓜 .mem) (𝓡 .run)) 𝓜 𝓡 code.env #run-run run-run-def.routine code.calls-agent·run·run (run-run-thm.met 𝓤 H 𝓜 𝓖 𝓡)))

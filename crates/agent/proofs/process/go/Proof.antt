@@ -54,13 +54,13 @@ use Rattle.walk.proofs.Parts.{part-len, lends-part, backs-part, parts-shr}
 use Rattle.walk.proofs.Arrays.{rep-is, lends-array, backs-array}
 use Rattle.agent.specs.Rows.{lent}
 use Rattle.agent.specs.Host.{outcomeOf, waitsOf, finishedOf, refusedOf, answerMost, firstMost, roomy, neededOf, resumesFit, performed, finish, processOf}
-use Rattle.agent.specs.Step.{joinedReplies}
 use Rattle.agent.specs.Run.{putReplies}
-use Rattle.agent.specs.Host.{begunBy, begunSessions, begunObjects, firstRan}
+use Rattle.agent.specs.Host.{firstRan}
+use types.Kit.{frees, prop}
 use Rattle.codec.specs.declared.refusals.Refusal.the-variants.{OutputTooShort}
 use Rattle.sessions.specs.View.{Tables as Stores}
 use Rattle.agent.specs.Host.{Leaves, refuse}
-use Rattle.agent.proofs.Thirteen.{finish-short, finish-went, finish-out, went}
+use Rattle.agent.proofs.Thirteen.{finish-short, finish-went, finish-out, went, same-leaves}
 use Rattle.sessions.specs.declared.objects.Object.{Object}
 use Rattle.sessions.proofs.objects.Object as Object-t
 use Rattle.sessions.proofs.objects.Object.Laws as Object-l
@@ -313,6 +313,100 @@ module _ {M : Type 1} (𝓤 : URA M) (H : Heap 𝓤) (A : Atoms 𝓤) (W : Given
     abbrev En : Env 𝓤 H
     En = (Processed-l.mir, l₀) ∷ ((sliceTy (tyRef (named 0) mut (pointee ((Array u64 5) .written)))), l₁) ∷ ((sliceTy (tyRef (named 1) mut (pointee ((Array u16 35) .written)))), l₂) ∷ ((sliceTy (tyRef (named 2) mut (pointee (Object-t.the-row .written)))), l₃) ∷ ((sliceTy (tyRef (named 3) mut (pointee (u8 .written)))), l₄) ∷ ((sliceTy (tyRef (named 4) imm (pointee (u8 .written)))), l₅) ∷ ((sliceTy (tyRef (named 5) imm (pointee (u8 .written)))), l₆) ∷ (Agent-l.mir, l₇) ∷ (Start-l.mir, l₈) ∷ ((tyInt w64), l₉) ∷ ((tyInt w64), l₁₀) ∷ ((tyInt w64), l₁₁) ∷ (Ran-l.mir, l₁₂) ∷ ((tyRef erased mut (pointee ((Array u64 5) .written))), l₁₃) ∷ ((sliceTy (tyRef erased mut (pointee ((Array u64 5) .written)))), l₁₄) ∷ ((tyRef erased mut (pointee ((Array u16 35) .written))), l₁₅) ∷ ((sliceTy (tyRef erased mut (pointee ((Array u16 35) .written)))), l₁₆) ∷ ((tyRef erased mut (pointee (Object-t.the-row .written))), l₁₇) ∷ ((sliceTy (tyRef erased mut (pointee (Object-t.the-row .written)))), l₁₈) ∷ ((tyRef erased mut (pointee (u8 .written))), l₁₉) ∷ ((sliceTy (tyRef erased mut (pointee (u8 .written)))), l₂₀) ∷ (tyBool, l₂₁) ∷ (Processed-l.mir, l₂₂) ∷ (Refusal-l.mir, l₂₃) ∷ ((tyRef erased mut (pointee ((Array u64 5) .written))), l₂₄) ∷ ((sliceTy (tyRef erased mut (pointee ((Array u64 5) .written)))), l₂₅) ∷ ((tyRef erased mut (pointee ((Array u16 35) .written))), l₂₆) ∷ ((sliceTy (tyRef erased mut (pointee ((Array u16 35) .written)))), l₂₇) ∷ ((tyRef erased mut (pointee (Object-t.the-row .written))), l₂₈) ∷ ((sliceTy (tyRef erased mut (pointee (Object-t.the-row .written)))), l₂₉) ∷ ((tyRef erased mut (pointee (u8 .written))), l₃₀) ∷ ((sliceTy (tyRef erased mut (pointee (u8 .written)))), l₃₁) ∷ []
 
+    frees-all : (r : Processed) (ws₁ : List (List ℕ)) (ws₂ : List (List ℕ)) (ws₃ : List Object) (ws₄ : List ℕ) → ent 𝓤 (⋆ 𝓤 H A (‵ (MutSlice (named 0) κ₁ (Array u64 5) .own (at-list b₁ o₁ γ₁ ws₁) (sliceVal (b₁, o₁) n₁ ∷ [])) ∷ ‵ (flft κ₁ q₁) ∷ ‵ (MutSlice (named 1) κ₂ (Array u16 35) .own (at-list b₂ o₂ γ₂ ws₂) (sliceVal (b₂, o₂) n₂ ∷ [])) ∷ ‵ (flft κ₂ q₂) ∷ ‵ (MutSlice (named 2) κ₃ Object-t.the-row .own (at-list b₃ o₃ γ₃ ws₃) (sliceVal (b₃, o₃) n₃ ∷ [])) ∷ ‵ (flft κ₃ q₃) ∷ ‵ (MutSlice (named 3) κ₄ u8 .own (at-list b₄ o₄ γ₄ ws₄) (sliceVal (b₄, o₄) n₄ ∷ [])) ∷ ‵ (flft κ₄ q₄) ∷ ‵ (ShrSlice (named 4) κ₅ u8 .own (at-list b₅ o₅ γ₅ d) (sliceVal (b₅, o₅) n₅ ∷ [])) ∷ ‵ (flft κ₅ q₅) ∷ ‵ (ShrSlice (named 5) κ₆ u8 .own (at-list b₆ o₆ γ₆ sample) (sliceVal (b₆, o₆) n₆ ∷ [])) ∷ ‵ (flft κ₆ q₆) ∷ [])) (Post (Processed-p .val r)) → Sq W (‵ (MutSlice (named 0) κ₁ (Array u64 5) .own (at-list b₁ o₁ γ₁ ws₁) (sliceVal (b₁, o₁) n₁ ∷ [])) ∷ ‵ (flft κ₁ q₁) ∷ ‵ (MutSlice (named 0) κ₂ (Array u16 35) .own (at-list b₂ o₂ γ₂ ws₂) (sliceVal (b₂, o₂) n₂ ∷ [])) ∷ ‵ (flft κ₂ q₂) ∷ ‵ (MutSlice (named 0) κ₃ Object-t.the-row .own (at-list b₃ o₃ γ₃ ws₃) (sliceVal (b₃, o₃) n₃ ∷ [])) ∷ ‵ (flft κ₃ q₃) ∷ ‵ (MutSlice (named 0) κ₄ u8 .own (at-list b₄ o₄ γ₄ ws₄) (sliceVal (b₄, o₄) n₄ ∷ [])) ∷ ‵ (flft κ₄ q₄) ∷ ‵ (ShrSlice (named 0) κ₅ u8 .own (at-list b₅ o₅ γ₅ d) (sliceVal (b₅, o₅) n₅ ∷ [])) ∷ ‵ (flft κ₅ q₅) ∷ ‵ (ShrSlice (named 0) κ₆ u8 .own (at-list b₆ o₆ γ₆ sample) (sliceVal (b₆, o₆) n₆ ∷ [])) ∷ ‵ (flft κ₆ q₆) ∷ free 𝓤 (sliceTy (tyRef erased mut (pointee (u8 .written)))) l₃₁ (free 𝓤 (tyRef erased mut (pointee (u8 .written))) l₃₀ (free 𝓤 (sliceTy (tyRef erased mut (pointee (Object-t.the-row .written)))) l₂₉ (free 𝓤 (tyRef erased mut (pointee (Object-t.the-row .written))) l₂₈ (free 𝓤 (sliceTy (tyRef erased mut (pointee ((Array u16 35) .written)))) l₂₇ (free 𝓤 (tyRef erased mut (pointee ((Array u16 35) .written))) l₂₆ (free 𝓤 (sliceTy (tyRef erased mut (pointee ((Array u64 5) .written)))) l₂₅ (free 𝓤 (tyRef erased mut (pointee ((Array u64 5) .written))) l₂₄ (free 𝓤 Refusal-l.mir l₂₃ (free 𝓤 Processed-l.mir l₂₂ (free 𝓤 tyBool l₂₁ (free 𝓤 (sliceTy (tyRef erased mut (pointee (u8 .written)))) l₂₀ (free 𝓤 (tyRef erased mut (pointee (u8 .written))) l₁₉ (free 𝓤 (sliceTy (tyRef erased mut (pointee (Object-t.the-row .written)))) l₁₈ (free 𝓤 (tyRef erased mut (pointee (Object-t.the-row .written))) l₁₇ (free 𝓤 (sliceTy (tyRef erased mut (pointee ((Array u16 35) .written)))) l₁₆ (free 𝓤 (tyRef erased mut (pointee ((Array u16 35) .written))) l₁₅ (free 𝓤 (sliceTy (tyRef erased mut (pointee ((Array u64 5) .written)))) l₁₄ (free 𝓤 (tyRef erased mut (pointee ((Array u64 5) .written))) l₁₃ (free 𝓤 Ran-l.mir l₁₂ (free 𝓤 (tyInt w64) l₁₁ (free 𝓤 (tyInt w64) l₁₀ (full 𝓤 (tyInt w64) l₉ (u64-p .val n′) (full 𝓤 Start-l.mir l₈ (Start-p .val start) (full 𝓤 Agent-l.mir l₇ (Agent-p .val agent) (full 𝓤 (sliceTy (tyRef (named 5) imm (pointee (u8 .written)))) l₆ (sliceVal (b₆, o₆) n₆) (full 𝓤 (sliceTy (tyRef (named 4) imm (pointee (u8 .written)))) l₅ (sliceVal (b₅, o₅) n₅) (full 𝓤 (sliceTy (tyRef (named 3) mut (pointee (u8 .written)))) l₄ (sliceVal (b₄, o₄) n₄) (full 𝓤 (sliceTy (tyRef (named 2) mut (pointee (Object-t.the-row .written)))) l₃ (sliceVal (b₃, o₃) n₃) (full 𝓤 (sliceTy (tyRef (named 1) mut (pointee ((Array u16 35) .written)))) l₂ (sliceVal (b₂, o₂) n₂) (full 𝓤 (sliceTy (tyRef (named 0) mut (pointee ((Array u64 5) .written)))) l₁ (sliceVal (b₁, o₁) n₁) (full 𝓤 Processed-l.mir l₀ (Processed-p .val r) ([]))))))))))))))))))))))))))))))))) (frees En (prop (Post (Processed-p .val r))))
+    frees-all r ws₁ ws₂ ws₃ ws₄ ends =
+        forget ! 56 refl $ forget ! 58 refl $ forget ! 60 refl $ forget ! 62 refl $ forget ! 64 refl $ forget ! 66 refl $ forget ! 68 refl $ forget ! 70 refl $ forget ! 72 refl $ forget ! 74 refl $ move ! (74 ∷ 75 ∷ []) $ free1 ! $ move ! (72 ∷ 73 ∷ []) $ free1 ! $ move ! (70 ∷ 71 ∷ []) $ free1 ! $ move ! (68 ∷ 69 ∷ []) $ free1 ! $ move ! (66 ∷ 67 ∷ []) $ free1 ! $ move ! (64 ∷ 65 ∷ []) $ free1 ! $ move ! (62 ∷ 63 ∷ []) $ free1 ! $ move ! (60 ∷ 61 ∷ []) $ free1 ! $ move ! (58 ∷ 59 ∷ []) $ free1 ! $ move ! (56 ∷ 57 ∷ []) $ free1 ! $ move ! (54 ∷ 55 ∷ []) $ free1 ! $ move ! (52 ∷ 53 ∷ []) $ free1 ! $ move ! (50 ∷ 51 ∷ []) $ free1 ! $ move ! (48 ∷ 49 ∷ []) $ free1 ! $ move ! (46 ∷ 47 ∷ []) $ free1 ! $ move ! (44 ∷ 45 ∷ []) $ free1 ! $ move ! (42 ∷ 43 ∷ []) $ free1 ! $ move ! (40 ∷ 41 ∷ []) $ free1 ! $ move ! (38 ∷ 39 ∷ []) $ free1 ! $ move ! (36 ∷ 37 ∷ []) $ free1 ! $ move ! (34 ∷ 35 ∷ []) $ free1 ! $ move ! (32 ∷ 33 ∷ []) $ free1 ! $ move ! (30 ∷ 31 ∷ []) $ free1 ! $ move ! (28 ∷ 29 ∷ []) $ free1 ! $ move ! (26 ∷ 27 ∷ []) $ free1 ! $ move ! (24 ∷ 25 ∷ []) $ free1 ! $ move ! (22 ∷ 23 ∷ []) $ free1 ! $ move ! (20 ∷ 21 ∷ []) $ free1 ! $ move ! (18 ∷ 19 ∷ []) $ free1 ! $ move ! (16 ∷ 17 ∷ []) $ free1 ! $ move ! (14 ∷ 15 ∷ []) $ free1 ! $ move ! (12 ∷ 13 ∷ []) $ free1 ! $ free0 ! $
+        by ! ends
+
+    part-13-0 : (asks-10 : (resumesFit (start .resumes) (length (sample)) ≡ true) × (256 ≤ length (sessions)) × (2048 ≤ length (streams)) × (8192 ≤ length (objects))) → (len-10-sessions : length sessions ≡ n₁) → (len-10-streams : length streams ≡ n₂) → (len-10-objects : length objects ≡ n₃) → (len-10-out : length out ≡ n₄) → (is-10 : Is (u64-p .row) (neededOf (roomy (length (out)) (start .resumes) n′ (length (sample))) (performed start (lent (sessions) (streams) (objects)) (d) (sample) .ran .wrote)) (u64-p .val (neededOf (roomy (length (out)) (start .resumes) n′ (length (sample))) (performed start (lent (sessions) (streams) (objects)) (d) (sample) .ran .wrote)) ∷ [])) → (c-12 : ltb n₄ (neededOf (roomy (length (out)) (start .resumes) n′ (length (sample))) (performed start (lent (sessions) (streams) (objects)) (d) (sample) .ran .wrote)) ≡ true) → (is-12·yes·2 : Is (Processed-p .row) (refusedOf agent Refusal-OutputTooShort) (Processed-p .val (refusedOf agent Refusal-OutputTooShort) ∷ [])) → Sq W (‵ (MutSlice (named 0) κ₁ (Array u64 5) .own (at-list b₁ o₁ γ₁ sessions) (sliceVal (b₁, o₁) n₁ ∷ [])) ∷ ‵ (flft κ₁ q₁) ∷ ‵ (MutSlice (named 0) κ₂ (Array u16 35) .own (at-list b₂ o₂ γ₂ streams) (sliceVal (b₂, o₂) n₂ ∷ [])) ∷ ‵ (flft κ₂ q₂) ∷ ‵ (MutSlice (named 0) κ₃ Object-t.the-row .own (at-list b₃ o₃ γ₃ objects) (sliceVal (b₃, o₃) n₃ ∷ [])) ∷ ‵ (flft κ₃ q₃) ∷ ‵ (MutSlice (named 0) κ₄ u8 .own (at-list b₄ o₄ γ₄ out) (sliceVal (b₄, o₄) n₄ ∷ [])) ∷ ‵ (flft κ₄ q₄) ∷ ‵ (ShrSlice (named 0) κ₅ u8 .own (at-list b₅ o₅ γ₅ d) (sliceVal (b₅, o₅) n₅ ∷ [])) ∷ ‵ (flft κ₅ q₅) ∷ ‵ (ShrSlice (named 0) κ₆ u8 .own (at-list b₆ o₆ γ₆ sample) (sliceVal (b₆, o₆) n₆ ∷ [])) ∷ ‵ (flft κ₆ q₆) ∷ free 𝓤 (sliceTy (tyRef erased mut (pointee (u8 .written)))) l₃₁ (free 𝓤 (tyRef erased mut (pointee (u8 .written))) l₃₀ (free 𝓤 (sliceTy (tyRef erased mut (pointee (Object-t.the-row .written)))) l₂₉ (free 𝓤 (tyRef erased mut (pointee (Object-t.the-row .written))) l₂₈ (free 𝓤 (sliceTy (tyRef erased mut (pointee ((Array u16 35) .written)))) l₂₇ (free 𝓤 (tyRef erased mut (pointee ((Array u16 35) .written))) l₂₆ (free 𝓤 (sliceTy (tyRef erased mut (pointee ((Array u64 5) .written)))) l₂₅ (free 𝓤 (tyRef erased mut (pointee ((Array u64 5) .written))) l₂₄ (full 𝓤 Refusal-l.mir l₂₃ (Refusal-p .val Refusal-OutputTooShort) (full 𝓤 Processed-l.mir l₂₂ (Processed-p .val (refusedOf agent Refusal-OutputTooShort)) (full 𝓤 tyBool l₂₁ (bool-p .val (ltb n₄ (neededOf (roomy (length (out)) (start .resumes) n′ (length (sample))) (performed start (lent (sessions) (streams) (objects)) (d) (sample) .ran .wrote)))) (full 𝓤 (sliceTy (tyRef erased mut (pointee (u8 .written)))) l₂₀ (sliceVal (b₄, o₄) n₄) (full 𝓤 (tyRef erased mut (pointee (u8 .written))) l₁₉ (vptr b₄ o₄) (full 𝓤 (sliceTy (tyRef erased mut (pointee (Object-t.the-row .written)))) l₁₈ (sliceVal (b₃, o₃) n₃) (full 𝓤 (tyRef erased mut (pointee (Object-t.the-row .written))) l₁₇ (vptr b₃ o₃) (full 𝓤 (sliceTy (tyRef erased mut (pointee ((Array u16 35) .written)))) l₁₆ (sliceVal (b₂, o₂) n₂) (full 𝓤 (tyRef erased mut (pointee ((Array u16 35) .written))) l₁₅ (vptr b₂ o₂) (full 𝓤 (sliceTy (tyRef erased mut (pointee ((Array u64 5) .written)))) l₁₄ (sliceVal (b₁, o₁) n₁) (full 𝓤 (tyRef erased mut (pointee ((Array u64 5) .written))) l₁₃ (vptr b₁ o₁) (free 𝓤 Ran-l.mir l₁₂ (full 𝓤 (tyInt w64) l₁₁ (u64-p .val (neededOf (roomy (length (out)) (start .resumes) n′ (length (sample))) (performed start (lent (sessions) (streams) (objects)) (d) (sample) .ran .wrote))) (full 𝓤 (tyInt w64) l₁₀ (u64-p .val n₄) (full 𝓤 (tyInt w64) l₉ (u64-p .val n′) (full 𝓤 Start-l.mir l₈ (Start-p .val start) (full 𝓤 Agent-l.mir l₇ (Agent-p .val agent) (full 𝓤 (sliceTy (tyRef (named 5) imm (pointee (u8 .written)))) l₆ (sliceVal (b₆, o₆) n₆) (full 𝓤 (sliceTy (tyRef (named 4) imm (pointee (u8 .written)))) l₅ (sliceVal (b₅, o₅) n₅) (full 𝓤 (sliceTy (tyRef (named 3) mut (pointee (u8 .written)))) l₄ (sliceVal (b₄, o₄) n₄) (full 𝓤 (sliceTy (tyRef (named 2) mut (pointee (Object-t.the-row .written)))) l₃ (sliceVal (b₃, o₃) n₃) (full 𝓤 (sliceTy (tyRef (named 1) mut (pointee ((Array u16 35) .written)))) l₂ (sliceVal (b₂, o₂) n₂) (full 𝓤 (sliceTy (tyRef (named 0) mut (pointee ((Array u64 5) .written)))) l₁ (sliceVal (b₁, o₁) n₁) (free 𝓤 Processed-l.mir l₀ ([]))))))))))))))))))))))))))))))))) (runs C Λ En mir.t-13 (atRet En Post))
+    part-13-0 asks-10 len-10-sessions len-10-streams len-10-objects len-10-out is-10 c-12 is-12·yes·2 =
+        assigns ! (of-opd ! (load ! (from ! (stop !)) (look ! 30 refl))) (from ! (stop !)) (init ! 74 refl (Processed-p .typed 𝓤 H A W (refusedOf agent Refusal-OutputTooShort) is-12·yes·2)) $
+        returns ! (look ! 74 refl) $ forget ! 28 refl $ forget ! 30 refl $ forget ! 32 refl $ forget ! 34 refl $ forget ! 36 refl $ forget ! 38 refl $ forget ! 40 refl $ forget ! 42 refl $ forget ! 44 refl $ forget ! 46 refl $ forget ! 48 refl $ forget ! 52 refl $ forget ! 54 refl $
+        frees-all (refusedOf agent Refusal-OutputTooShort) sessions streams objects out (exits (refusedOf agent Refusal-OutputTooShort) sessions streams objects out (same-leaves _ _ (is-short c-12)) is-12·yes·2 len-10-sessions len-10-streams len-10-objects len-10-out)
+
+    part-13-2 : (asks-10 : (resumesFit (start .resumes) (length (sample)) ≡ true) × (256 ≤ length (sessions)) × (2048 ≤ length (streams)) × (8192 ≤ length (objects))) → (len-10-sessions : length sessions ≡ n₁) → (len-10-streams : length streams ≡ n₂) → (len-10-objects : length objects ≡ n₃) → (len-10-out : length out ≡ n₄) → (is-10 : Is (u64-p .row) (neededOf (roomy (length (out)) (start .resumes) n′ (length (sample))) (performed start (lent (sessions) (streams) (objects)) (d) (sample) .ran .wrote)) (u64-p .val (neededOf (roomy (length (out)) (start .resumes) n′ (length (sample))) (performed start (lent (sessions) (streams) (objects)) (d) (sample) .ran .wrote)) ∷ [])) → (c-12 : ltb n₄ (neededOf (roomy (length (out)) (start .resumes) n′ (length (sample))) (performed start (lent (sessions) (streams) (objects)) (d) (sample) .ran .wrote)) ≡ false) → (asks-12·no·9 : resumesFit (start .resumes) (length (sample)) ≡ true) → (len-12·no·9-sessions : length (performed start (lent (sessions) (streams) (objects)) (d) (sample) .tables .sessions) ≡ n₁) → (len-12·no·9-streams : length (performed start (lent (sessions) (streams) (objects)) (d) (sample) .tables .streams) ≡ n₂) → (len-12·no·9-objects : length (performed start (lent (sessions) (streams) (objects)) (d) (sample) .tables .objects) ≡ n₃) → (len-12·no·9-out : length (putReplies (out) 0 (performed start (lent (sessions) (streams) (objects)) (d) (sample) .replies)) ≡ n₄) → (is-12·no·9 : Is (Ran-p .row) (performed start (lent (sessions) (streams) (objects)) (d) (sample) .ran) (Ran-p .val (performed start (lent (sessions) (streams) (objects)) (d) (sample) .ran) ∷ [])) → (is-12·no·10 : Is (Processed-p .row) (finishedOf agent start (performed start (lent (sessions) (streams) (objects)) (d) (sample) .ran)) (Processed-p .val (finishedOf agent start (performed start (lent (sessions) (streams) (objects)) (d) (sample) .ran)) ∷ [])) → Sq W (‵ (MutSlice (named 0) κ₁ (Array u64 5) .own (at-list b₁ o₁ γ₁ (performed start (lent (sessions) (streams) (objects)) (d) (sample) .tables .sessions)) (sliceVal (b₁, o₁) n₁ ∷ [])) ∷ ‵ (flft κ₁ q₁) ∷ ‵ (MutSlice (named 0) κ₂ (Array u16 35) .own (at-list b₂ o₂ γ₂ (performed start (lent (sessions) (streams) (objects)) (d) (sample) .tables .streams)) (sliceVal (b₂, o₂) n₂ ∷ [])) ∷ ‵ (flft κ₂ q₂) ∷ ‵ (MutSlice (named 0) κ₃ Object-t.the-row .own (at-list b₃ o₃ γ₃ (performed start (lent (sessions) (streams) (objects)) (d) (sample) .tables .objects)) (sliceVal (b₃, o₃) n₃ ∷ [])) ∷ ‵ (flft κ₃ q₃) ∷ ‵ (MutSlice (named 0) κ₄ u8 .own (at-list b₄ o₄ γ₄ (putReplies (out) 0 (performed start (lent (sessions) (streams) (objects)) (d) (sample) .replies))) (sliceVal (b₄, o₄) n₄ ∷ [])) ∷ ‵ (flft κ₄ q₄) ∷ ‵ (ShrSlice (named 0) κ₅ u8 .own (at-list b₅ o₅ γ₅ d) (sliceVal (b₅, o₅) n₅ ∷ [])) ∷ ‵ (flft κ₅ q₅) ∷ ‵ (ShrSlice (named 0) κ₆ u8 .own (at-list b₆ o₆ γ₆ sample) (sliceVal (b₆, o₆) n₆ ∷ [])) ∷ ‵ (flft κ₆ q₆) ∷ full 𝓤 (sliceTy (tyRef erased mut (pointee (u8 .written)))) l₃₁ (sliceVal (b₄, o₄) n₄) (full 𝓤 (tyRef erased mut (pointee (u8 .written))) l₃₀ (vptr b₄ o₄) (full 𝓤 (sliceTy (tyRef erased mut (pointee (Object-t.the-row .written)))) l₂₉ (sliceVal (b₃, o₃) n₃) (full 𝓤 (tyRef erased mut (pointee (Object-t.the-row .written))) l₂₈ (vptr b₃ o₃) (full 𝓤 (sliceTy (tyRef erased mut (pointee ((Array u16 35) .written)))) l₂₇ (sliceVal (b₂, o₂) n₂) (full 𝓤 (tyRef erased mut (pointee ((Array u16 35) .written))) l₂₆ (vptr b₂ o₂) (full 𝓤 (sliceTy (tyRef erased mut (pointee ((Array u64 5) .written)))) l₂₅ (sliceVal (b₁, o₁) n₁) (full 𝓤 (tyRef erased mut (pointee ((Array u64 5) .written))) l₂₄ (vptr b₁ o₁) (free 𝓤 Refusal-l.mir l₂₃ (full 𝓤 Processed-l.mir l₂₂ (Processed-p .val (finishedOf agent start (performed start (lent (sessions) (streams) (objects)) (d) (sample) .ran))) (full 𝓤 tyBool l₂₁ (bool-p .val (ltb n₄ (neededOf (roomy (length (out)) (start .resumes) n′ (length (sample))) (performed start (lent (sessions) (streams) (objects)) (d) (sample) .ran .wrote)))) (full 𝓤 (sliceTy (tyRef erased mut (pointee (u8 .written)))) l₂₀ (sliceVal (b₄, o₄) n₄) (full 𝓤 (tyRef erased mut (pointee (u8 .written))) l₁₉ (vptr b₄ o₄) (full 𝓤 (sliceTy (tyRef erased mut (pointee (Object-t.the-row .written)))) l₁₈ (sliceVal (b₃, o₃) n₃) (full 𝓤 (tyRef erased mut (pointee (Object-t.the-row .written))) l₁₇ (vptr b₃ o₃) (full 𝓤 (sliceTy (tyRef erased mut (pointee ((Array u16 35) .written)))) l₁₆ (sliceVal (b₂, o₂) n₂) (full 𝓤 (tyRef erased mut (pointee ((Array u16 35) .written))) l₁₅ (vptr b₂ o₂) (full 𝓤 (sliceTy (tyRef erased mut (pointee ((Array u64 5) .written)))) l₁₄ (sliceVal (b₁, o₁) n₁) (full 𝓤 (tyRef erased mut (pointee ((Array u64 5) .written))) l₁₃ (vptr b₁ o₁) (full 𝓤 Ran-l.mir l₁₂ (Ran-p .val (performed start (lent (sessions) (streams) (objects)) (d) (sample) .ran)) (full 𝓤 (tyInt w64) l₁₁ (u64-p .val (neededOf (roomy (length (out)) (start .resumes) n′ (length (sample))) (performed start (lent (sessions) (streams) (objects)) (d) (sample) .ran .wrote))) (full 𝓤 (tyInt w64) l₁₀ (u64-p .val n₄) (full 𝓤 (tyInt w64) l₉ (u64-p .val n′) (full 𝓤 Start-l.mir l₈ (Start-p .val start) (full 𝓤 Agent-l.mir l₇ (Agent-p .val agent) (full 𝓤 (sliceTy (tyRef (named 5) imm (pointee (u8 .written)))) l₆ (sliceVal (b₆, o₆) n₆) (full 𝓤 (sliceTy (tyRef (named 4) imm (pointee (u8 .written)))) l₅ (sliceVal (b₅, o₅) n₅) (full 𝓤 (sliceTy (tyRef (named 3) mut (pointee (u8 .written)))) l₄ (sliceVal (b₄, o₄) n₄) (full 𝓤 (sliceTy (tyRef (named 2) mut (pointee (Object-t.the-row .written)))) l₃ (sliceVal (b₃, o₃) n₃) (full 𝓤 (sliceTy (tyRef (named 1) mut (pointee ((Array u16 35) .written)))) l₂ (sliceVal (b₂, o₂) n₂) (full 𝓤 (sliceTy (tyRef (named 0) mut (pointee ((Array u64 5) .written)))) l₁ (sliceVal (b₁, o₁) n₁) (free 𝓤 Processed-l.mir l₀ ([]))))))))))))))))))))))))))))))))) (runs C Λ En mir.t-13 (atRet En Post))
+    part-13-2 asks-10 len-10-sessions len-10-streams len-10-objects len-10-out is-10 c-12 asks-12·no·9 len-12·no·9-sessions len-12·no·9-streams len-12·no·9-objects len-12·no·9-out is-12·no·9 is-12·no·10 =
+        assigns ! (of-opd ! (load ! (from ! (stop !)) (look ! 30 refl))) (from ! (stop !)) (init ! 74 refl (Processed-p .typed 𝓤 H A W (finishedOf agent start (performed start (lent (sessions) (streams) (objects)) (d) (sample) .ran)) is-12·no·10)) $
+        returns ! (look ! 74 refl) $ forget ! 12 refl $ forget ! 14 refl $ forget ! 16 refl $ forget ! 18 refl $ forget ! 20 refl $ forget ! 22 refl $ forget ! 24 refl $ forget ! 26 refl $ forget ! 30 refl $ forget ! 32 refl $ forget ! 34 refl $ forget ! 36 refl $ forget ! 38 refl $ forget ! 40 refl $ forget ! 42 refl $ forget ! 44 refl $ forget ! 46 refl $ forget ! 48 refl $ forget ! 50 refl $ forget ! 52 refl $ forget ! 54 refl $
+        frees-all (finishedOf agent start (performed start (lent (sessions) (streams) (objects)) (d) (sample) .ran)) (performed start (lent (sessions) (streams) (objects)) (d) (sample) .tables .sessions) (performed start (lent (sessions) (streams) (objects)) (d) (sample) .tables .streams) (performed start (lent (sessions) (streams) (objects)) (d) (sample) .tables .objects) (putReplies (out) 0 (performed start (lent (sessions) (streams) (objects)) (d) (sample) .replies)) (exits (finishedOf agent start (performed start (lent (sessions) (streams) (objects)) (d) (sample) .ran)) (performed start (lent (sessions) (streams) (objects)) (d) (sample) .tables .sessions) (performed start (lent (sessions) (streams) (objects)) (d) (sample) .tables .streams) (performed start (lent (sessions) (streams) (objects)) (d) (sample) .tables .objects) (putReplies (out) 0 (performed start (lent (sessions) (streams) (objects)) (d) (sample) .replies)) ((ap (λ (l : Leaves). l .processed) (has-room c-12), ap (λ (l : Leaves). l .tables .sessions) (has-room c-12), ap (λ (l : Leaves). l .tables .streams) (has-room c-12), ap (λ (l : Leaves). l .tables .objects) (has-room c-12), finish-out agent tables-lent out d sample start (sym (within .1) ∙ c-12) ∙ ap (λ (l : Leaves). l .out) (has-room c-12))) is-12·no·10 len-12·no·9-sessions len-12·no·9-streams len-12·no·9-objects len-12·no·9-out)
+
+    part-12·no·10-2 : (asks-10 : (resumesFit (start .resumes) (length (sample)) ≡ true) × (256 ≤ length (sessions)) × (2048 ≤ length (streams)) × (8192 ≤ length (objects))) → (len-10-sessions : length sessions ≡ n₁) → (len-10-streams : length streams ≡ n₂) → (len-10-objects : length objects ≡ n₃) → (len-10-out : length out ≡ n₄) → (is-10 : Is (u64-p .row) (neededOf (roomy (length (out)) (start .resumes) n′ (length (sample))) (performed start (lent (sessions) (streams) (objects)) (d) (sample) .ran .wrote)) (u64-p .val (neededOf (roomy (length (out)) (start .resumes) n′ (length (sample))) (performed start (lent (sessions) (streams) (objects)) (d) (sample) .ran .wrote)) ∷ [])) → (c-12 : ltb n₄ (neededOf (roomy (length (out)) (start .resumes) n′ (length (sample))) (performed start (lent (sessions) (streams) (objects)) (d) (sample) .ran .wrote)) ≡ false) → (asks-12·no·9 : resumesFit (start .resumes) (length (sample)) ≡ true) → (len-12·no·9-sessions : length (performed start (lent (sessions) (streams) (objects)) (d) (sample) .tables .sessions) ≡ n₁) → (len-12·no·9-streams : length (performed start (lent (sessions) (streams) (objects)) (d) (sample) .tables .streams) ≡ n₂) → (len-12·no·9-objects : length (performed start (lent (sessions) (streams) (objects)) (d) (sample) .tables .objects) ≡ n₃) → (len-12·no·9-out : length (putReplies (out) 0 (performed start (lent (sessions) (streams) (objects)) (d) (sample) .replies)) ≡ n₄) → (is-12·no·9 : Is (Ran-p .row) (performed start (lent (sessions) (streams) (objects)) (d) (sample) .ran) (Ran-p .val (performed start (lent (sessions) (streams) (objects)) (d) (sample) .ran) ∷ [])) → Sq W (‵ (MutSlice (named 0) κ₁ (Array u64 5) .own (at-list b₁ o₁ γ₁ (performed start (lent (sessions) (streams) (objects)) (d) (sample) .tables .sessions)) (sliceVal (b₁, o₁) n₁ ∷ [])) ∷ ‵ (flft κ₁ q₁) ∷ ‵ (MutSlice (named 0) κ₂ (Array u16 35) .own (at-list b₂ o₂ γ₂ (performed start (lent (sessions) (streams) (objects)) (d) (sample) .tables .streams)) (sliceVal (b₂, o₂) n₂ ∷ [])) ∷ ‵ (flft κ₂ q₂) ∷ ‵ (MutSlice (named 0) κ₃ Object-t.the-row .own (at-list b₃ o₃ γ₃ (performed start (lent (sessions) (streams) (objects)) (d) (sample) .tables .objects)) (sliceVal (b₃, o₃) n₃ ∷ [])) ∷ ‵ (flft κ₃ q₃) ∷ ‵ (MutSlice (named 0) κ₄ u8 .own (at-list b₄ o₄ γ₄ (putReplies (out) 0 (performed start (lent (sessions) (streams) (objects)) (d) (sample) .replies))) (sliceVal (b₄, o₄) n₄ ∷ [])) ∷ ‵ (flft κ₄ q₄) ∷ ‵ (ShrSlice (named 0) κ₅ u8 .own (at-list b₅ o₅ γ₅ d) (sliceVal (b₅, o₅) n₅ ∷ [])) ∷ ‵ (flft κ₅ q₅) ∷ ‵ (ShrSlice (named 0) κ₆ u8 .own (at-list b₆ o₆ γ₆ sample) (sliceVal (b₆, o₆) n₆ ∷ [])) ∷ ‵ (flft κ₆ q₆) ∷ full 𝓤 (sliceTy (tyRef erased mut (pointee (u8 .written)))) l₃₁ (sliceVal (b₄, o₄) n₄) (full 𝓤 (tyRef erased mut (pointee (u8 .written))) l₃₀ (vptr b₄ o₄) (full 𝓤 (sliceTy (tyRef erased mut (pointee (Object-t.the-row .written)))) l₂₉ (sliceVal (b₃, o₃) n₃) (full 𝓤 (tyRef erased mut (pointee (Object-t.the-row .written))) l₂₈ (vptr b₃ o₃) (full 𝓤 (sliceTy (tyRef erased mut (pointee ((Array u16 35) .written)))) l₂₇ (sliceVal (b₂, o₂) n₂) (full 𝓤 (tyRef erased mut (pointee ((Array u16 35) .written))) l₂₆ (vptr b₂ o₂) (full 𝓤 (sliceTy (tyRef erased mut (pointee ((Array u64 5) .written)))) l₂₅ (sliceVal (b₁, o₁) n₁) (full 𝓤 (tyRef erased mut (pointee ((Array u64 5) .written))) l₂₄ (vptr b₁ o₁) (free 𝓤 Refusal-l.mir l₂₃ (free 𝓤 Processed-l.mir l₂₂ (full 𝓤 tyBool l₂₁ (bool-p .val (ltb n₄ (neededOf (roomy (length (out)) (start .resumes) n′ (length (sample))) (performed start (lent (sessions) (streams) (objects)) (d) (sample) .ran .wrote)))) (full 𝓤 (sliceTy (tyRef erased mut (pointee (u8 .written)))) l₂₀ (sliceVal (b₄, o₄) n₄) (full 𝓤 (tyRef erased mut (pointee (u8 .written))) l₁₉ (vptr b₄ o₄) (full 𝓤 (sliceTy (tyRef erased mut (pointee (Object-t.the-row .written)))) l₁₈ (sliceVal (b₃, o₃) n₃) (full 𝓤 (tyRef erased mut (pointee (Object-t.the-row .written))) l₁₇ (vptr b₃ o₃) (full 𝓤 (sliceTy (tyRef erased mut (pointee ((Array u16 35) .written)))) l₁₆ (sliceVal (b₂, o₂) n₂) (full 𝓤 (tyRef erased mut (pointee ((Array u16 35) .written))) l₁₅ (vptr b₂ o₂) (full 𝓤 (sliceTy (tyRef erased mut (pointee ((Array u64 5) .written)))) l₁₄ (sliceVal (b₁, o₁) n₁) (full 𝓤 (tyRef erased mut (pointee ((Array u64 5) .written))) l₁₃ (vptr b₁ o₁) (full 𝓤 Ran-l.mir l₁₂ (Ran-p .val (performed start (lent (sessions) (streams) (objects)) (d) (sample) .ran)) (full 𝓤 (tyInt w64) l₁₁ (u64-p .val (neededOf (roomy (length (out)) (start .resumes) n′ (length (sample))) (performed start (lent (sessions) (streams) (objects)) (d) (sample) .ran .wrote))) (full 𝓤 (tyInt w64) l₁₀ (u64-p .val n₄) (full 𝓤 (tyInt w64) l₉ (u64-p .val n′) (full 𝓤 Start-l.mir l₈ (Start-p .val start) (full 𝓤 Agent-l.mir l₇ (Agent-p .val agent) (full 𝓤 (sliceTy (tyRef (named 5) imm (pointee (u8 .written)))) l₆ (sliceVal (b₆, o₆) n₆) (full 𝓤 (sliceTy (tyRef (named 4) imm (pointee (u8 .written)))) l₅ (sliceVal (b₅, o₅) n₅) (full 𝓤 (sliceTy (tyRef (named 3) mut (pointee (u8 .written)))) l₄ (sliceVal (b₄, o₄) n₄) (full 𝓤 (sliceTy (tyRef (named 2) mut (pointee (Object-t.the-row .written)))) l₃ (sliceVal (b₃, o₃) n₃) (full 𝓤 (sliceTy (tyRef (named 1) mut (pointee ((Array u16 35) .written)))) l₂ (sliceVal (b₂, o₂) n₂) (full 𝓤 (sliceTy (tyRef (named 0) mut (pointee ((Array u64 5) .written)))) l₁ (sliceVal (b₁, o₁) n₁) (free 𝓤 Processed-l.mir l₀ ([]))))))))))))))))))))))))))))))))) (runs C Λ En (past 9 (no-of (one mir.t-12))) (anyQ (afterSeq 𝓤 H (Wp 𝓤 H C Λ En mir.t-13 (atReturn 𝓤 H En Post)) (atReturn 𝓤 H En Post))))
+    part-12·no·10-2 asks-10 len-10-sessions len-10-streams len-10-objects len-10-out is-10 c-12 asks-12·no·9 len-12·no·9-sessions len-12·no·9-streams len-12·no·9-objects len-12·no·9-out is-12·no·9 =
+        -- 12.no.10: agent::process::finished
+        nothing ! $
+        use1 W (raw (toks 𝓤 A 0 (tt) (tt))) (id⊢ 𝓤 _) $ nothing ! $
+        owned ! (Ran-p .row) (Is (Ran-p .row)) (Ran-p .makes 𝓤 H A W) (performed start (lent (sessions) (streams) (objects)) (d) (sample) .ran) (Ran-p .val (performed start (lent (sessions) (streams) (objects)) (d) (sample) .ran) ∷ []) is-12·no·9 $ fjoin ! $
+        owned ! (Start-p .row) (Is (Start-p .row)) (Start-p .makes 𝓤 H A W) start (Start-p .val start ∷ []) start-is $ fjoin ! $
+        owned ! (Agent-p .row) (Is (Agent-p .row)) (Agent-p .makes 𝓤 H A W) agent (Agent-p .val agent ∷ []) agent-is $ fjoin ! $ move ! (1 ∷ 0 ∷ []) $
+        calls-any-last ! fm 0 [] (process-finished.signature .params) (process-finished.ended .kept) Processed-p (process-finished.clauses 𝓤 H A mem run) known-process-finished tt tt tt (agent, (start, (performed start (lent (sessions) (streams) (objects)) (d) (sample) .ran, tt))) (Agent-p .val agent ∷ [], (Start-p .val start ∷ [], (Ran-p .val (performed start (lent (sessions) (streams) (objects)) (d) (sample) .ran) ∷ [], tt))) tt (finishedOf agent start (performed start (lent (sessions) (streams) (objects)) (d) (sample) .ran)) (λ ws-12·no·10. Unit {0}) (id⊢ 𝓤 _) (λ r ws-12·no·10. fact-mono 𝓤 (r ≡ finishedOf agent start (performed start (lent (sessions) (streams) (objects)) (d) (sample) .ran)) ((r ≡ (finishedOf agent start (performed start (lent (sessions) (streams) (objects)) (d) (sample) .ran))) × (Unit {0})) (λ e. (e, tt))) (λ _. (and-then ! (load ! (from ! (stop !)) (look ! 61 refl)) (and-then ! (load ! (from ! (stop !)) (look ! 59 refl)) (and-then ! (load ! (from ! (stop !)) (look ! 51 refl)) (no-more !))))) (λ ws-12·no·10 said-12·no·10 is-12·no·10.
+        drop ! $ drop ! $
+        land-last ! (from ! (stop !)) (init ! 30 refl (Processed-p .typed 𝓤 H A W (finishedOf agent start (performed start (lent (sessions) (streams) (objects)) (d) (sample) .ran)) is-12·no·10)) $
+        exec ! C Λ En mir.t-13 (atRet En Post) $
+        part-13-2 asks-10 len-10-sessions len-10-streams len-10-objects len-10-out is-10 c-12 asks-12·no·9 len-12·no·9-sessions len-12·no·9-streams len-12·no·9-objects len-12·no·9-out is-12·no·9 is-12·no·10)
+
+    part-11-0 : (asks-10 : (resumesFit (start .resumes) (length (sample)) ≡ true) × (256 ≤ length (sessions)) × (2048 ≤ length (streams)) × (8192 ≤ length (objects))) → (len-10-sessions : length sessions ≡ n₁) → (len-10-streams : length streams ≡ n₂) → (len-10-objects : length objects ≡ n₃) → (len-10-out : length out ≡ n₄) → (is-10 : Is (u64-p .row) (neededOf (roomy (length (out)) (start .resumes) n′ (length (sample))) (performed start (lent (sessions) (streams) (objects)) (d) (sample) .ran .wrote)) (u64-p .val (neededOf (roomy (length (out)) (start .resumes) n′ (length (sample))) (performed start (lent (sessions) (streams) (objects)) (d) (sample) .ran .wrote)) ∷ [])) → Sq W (‵ (MutSlice (named 0) κ₁ (Array u64 5) .own (at-list b₁ o₁ γ₁ sessions) (sliceVal (b₁, o₁) n₁ ∷ [])) ∷ ‵ (flft κ₁ q₁) ∷ ‵ (MutSlice (named 0) κ₂ (Array u16 35) .own (at-list b₂ o₂ γ₂ streams) (sliceVal (b₂, o₂) n₂ ∷ [])) ∷ ‵ (flft κ₂ q₂) ∷ ‵ (MutSlice (named 0) κ₃ Object-t.the-row .own (at-list b₃ o₃ γ₃ objects) (sliceVal (b₃, o₃) n₃ ∷ [])) ∷ ‵ (flft κ₃ q₃) ∷ ‵ (MutSlice (named 0) κ₄ u8 .own (at-list b₄ o₄ γ₄ out) (sliceVal (b₄, o₄) n₄ ∷ [])) ∷ ‵ (flft κ₄ q₄) ∷ ‵ (ShrSlice (named 0) κ₅ u8 .own (at-list b₅ o₅ γ₅ d) (sliceVal (b₅, o₅) n₅ ∷ [])) ∷ ‵ (flft κ₅ q₅) ∷ ‵ (ShrSlice (named 0) κ₆ u8 .own (at-list b₆ o₆ γ₆ sample) (sliceVal (b₆, o₆) n₆ ∷ [])) ∷ ‵ (flft κ₆ q₆) ∷ free 𝓤 (sliceTy (tyRef erased mut (pointee (u8 .written)))) l₃₁ (free 𝓤 (tyRef erased mut (pointee (u8 .written))) l₃₀ (free 𝓤 (sliceTy (tyRef erased mut (pointee (Object-t.the-row .written)))) l₂₉ (free 𝓤 (tyRef erased mut (pointee (Object-t.the-row .written))) l₂₈ (free 𝓤 (sliceTy (tyRef erased mut (pointee ((Array u16 35) .written)))) l₂₇ (free 𝓤 (tyRef erased mut (pointee ((Array u16 35) .written))) l₂₆ (free 𝓤 (sliceTy (tyRef erased mut (pointee ((Array u64 5) .written)))) l₂₅ (free 𝓤 (tyRef erased mut (pointee ((Array u64 5) .written))) l₂₄ (free 𝓤 Refusal-l.mir l₂₃ (free 𝓤 Processed-l.mir l₂₂ (free 𝓤 tyBool l₂₁ (full 𝓤 (sliceTy (tyRef erased mut (pointee (u8 .written)))) l₂₀ (sliceVal (b₄, o₄) n₄) (full 𝓤 (tyRef erased mut (pointee (u8 .written))) l₁₉ (vptr b₄ o₄) (full 𝓤 (sliceTy (tyRef erased mut (pointee (Object-t.the-row .written)))) l₁₈ (sliceVal (b₃, o₃) n₃) (full 𝓤 (tyRef erased mut (pointee (Object-t.the-row .written))) l₁₇ (vptr b₃ o₃) (full 𝓤 (sliceTy (tyRef erased mut (pointee ((Array u16 35) .written)))) l₁₆ (sliceVal (b₂, o₂) n₂) (full 𝓤 (tyRef erased mut (pointee ((Array u16 35) .written))) l₁₅ (vptr b₂ o₂) (full 𝓤 (sliceTy (tyRef erased mut (pointee ((Array u64 5) .written)))) l₁₄ (sliceVal (b₁, o₁) n₁) (full 𝓤 (tyRef erased mut (pointee ((Array u64 5) .written))) l₁₃ (vptr b₁ o₁) (free 𝓤 Ran-l.mir l₁₂ (full 𝓤 (tyInt w64) l₁₁ (u64-p .val (neededOf (roomy (length (out)) (start .resumes) n′ (length (sample))) (performed start (lent (sessions) (streams) (objects)) (d) (sample) .ran .wrote))) (full 𝓤 (tyInt w64) l₁₀ (u64-p .val n₄) (full 𝓤 (tyInt w64) l₉ (u64-p .val n′) (full 𝓤 Start-l.mir l₈ (Start-p .val start) (full 𝓤 Agent-l.mir l₇ (Agent-p .val agent) (full 𝓤 (sliceTy (tyRef (named 5) imm (pointee (u8 .written)))) l₆ (sliceVal (b₆, o₆) n₆) (full 𝓤 (sliceTy (tyRef (named 4) imm (pointee (u8 .written)))) l₅ (sliceVal (b₅, o₅) n₅) (full 𝓤 (sliceTy (tyRef (named 3) mut (pointee (u8 .written)))) l₄ (sliceVal (b₄, o₄) n₄) (full 𝓤 (sliceTy (tyRef (named 2) mut (pointee (Object-t.the-row .written)))) l₃ (sliceVal (b₃, o₃) n₃) (full 𝓤 (sliceTy (tyRef (named 1) mut (pointee ((Array u16 35) .written)))) l₂ (sliceVal (b₂, o₂) n₂) (full 𝓤 (sliceTy (tyRef (named 0) mut (pointee ((Array u64 5) .written)))) l₁ (sliceVal (b₁, o₁) n₁) (free 𝓤 Processed-l.mir l₀ ([]))))))))))))))))))))))))))))))))) (runs C Λ En mir.t-11 (atRet En Post))
+    part-11-0 asks-10 len-10-sessions len-10-streams len-10-objects len-10-out is-10 =
+        assigns ! (bin ! (load ! (from ! (stop !)) (look ! 54 refl)) (load ! (from ! (stop !)) (look ! 52 refl)) (tt)) (from ! (stop !)) (init ! 32 refl (bool-p .typed 𝓤 H A W (ltb n₄ (neededOf (roomy (length (out)) (start .resumes) n′ (length (sample))) (performed start (lent (sessions) (streams) (objects)) (d) (sample) .ran .wrote))) refl)) $
+        first ! $
+        branches ! (load ! (from ! (stop !)) (look ! 32 refl))
+        (λ h-12.
+        knows ! (ltb n₄ (neededOf (roomy (length (out)) (start .resumes) n′ (length (sample))) (performed start (lent (sessions) (streams) (objects)) (d) (sample) .ran .wrote)) ≡ true) (holds (ltb n₄ (neededOf (roomy (length (out)) (start .resumes) n′ (length (sample))) (performed start (lent (sessions) (streams) (objects)) (d) (sample) .ran .wrote))) h-12) (λ c-12.
+        assigns ! (agg ! (and-then ! (lit ! tt) (no-more !))) (from ! (stop !)) (init ! 28 refl (Refusal-p .typed 𝓤 H A W Refusal-OutputTooShort (EL.owes Refusal-t.the-type Refusal-l.the-laws Refusal-OutputTooShort tt))) $
+        -- 12.yes.2: agent::process::refused
+        nothing ! $
+        use1 W (raw (toks 𝓤 A 0 (tt) (tt))) (id⊢ 𝓤 _) $ nothing ! $
+        owned ! (Refusal-p .row) (Is (Refusal-p .row)) (Refusal-p .makes 𝓤 H A W) Refusal-OutputTooShort (Refusal-p .val Refusal-OutputTooShort ∷ []) (EL.owes Refusal-t.the-type Refusal-l.the-laws Refusal-OutputTooShort tt) $ fjoin ! $
+        owned ! (Agent-p .row) (Is (Agent-p .row)) (Agent-p .makes 𝓤 H A W) agent (Agent-p .val agent ∷ []) agent-is $ fjoin ! $ move ! (1 ∷ 0 ∷ []) $
+        calls-any-last ! fm 0 [] (process-refused.signature .params) (process-refused.ended .kept) Processed-p (process-refused.clauses 𝓤 H A mem run) known-process-refused tt tt tt (agent, (Refusal-OutputTooShort, tt)) (Agent-p .val agent ∷ [], (Refusal-p .val Refusal-OutputTooShort ∷ [], tt)) tt (refusedOf agent Refusal-OutputTooShort) (λ ws-12·yes·2. Unit {0}) (id⊢ 𝓤 _) (λ r ws-12·yes·2. fact-mono 𝓤 (r ≡ refusedOf agent Refusal-OutputTooShort) ((r ≡ (refusedOf agent Refusal-OutputTooShort)) × (Unit {0})) (λ e. (e, tt))) (λ _. (and-then ! (load ! (from ! (stop !)) (look ! 61 refl)) (and-then ! (load ! (from ! (stop !)) (look ! 29 refl)) (no-more !)))) (λ ws-12·yes·2 said-12·yes·2 is-12·yes·2.
+        drop ! $ drop ! $
+        land-last ! (from ! (stop !)) (init ! 30 refl (Processed-p .typed 𝓤 H A W (refusedOf agent Refusal-OutputTooShort) is-12·yes·2)) $
+        exec ! C Λ En mir.t-13 (atRet En Post) $
+        part-13-0 asks-10 len-10-sessions len-10-streams len-10-objects len-10-out is-10 c-12 is-12·yes·2)))
+        (λ h-12.
+        knows ! (ltb n₄ (neededOf (roomy (length (out)) (start .resumes) n′ (length (sample))) (performed start (lent (sessions) (streams) (objects)) (d) (sample) .ran .wrote)) ≡ false) (fails (ltb n₄ (neededOf (roomy (length (out)) (start .resumes) n′ (length (sample))) (performed start (lent (sessions) (streams) (objects)) (d) (sample) .ran .wrote))) (T-not (ltb n₄ (neededOf (roomy (length (out)) (start .resumes) n′ (length (sample))) (performed start (lent (sessions) (streams) (objects)) (d) (sample) .ran .wrote))) h-12)) (λ c-12.
+        assigns ! (addr ! (from ! (fld ! refl (hop ! (look-in ! 72 (sub ! 0 refl (whole !))) (stop !))))) (from ! (stop !)) (init ! 26 refl (tt, tt)) $
+        assigns ! (agg ! (and-then ! (load ! (from ! (stop !)) (look ! 26 refl)) (and-then ! (load ! (from ! (fld ! refl (stop !))) (look-in ! 72 (sub ! 1 refl (whole !)))) (no-more !)))) (from ! (stop !)) (init ! 24 refl (tt, (tt, (record { fits = room₁ .0 }, tt)))) $
+        assigns ! (addr ! (from ! (fld ! refl (hop ! (look-in ! 70 (sub ! 0 refl (whole !))) (stop !))))) (from ! (stop !)) (init ! 22 refl (tt, tt)) $
+        assigns ! (agg ! (and-then ! (load ! (from ! (stop !)) (look ! 22 refl)) (and-then ! (load ! (from ! (fld ! refl (stop !))) (look-in ! 70 (sub ! 1 refl (whole !)))) (no-more !)))) (from ! (stop !)) (init ! 20 refl (tt, (tt, (record { fits = room₂ .0 }, tt)))) $
+        assigns ! (addr ! (from ! (fld ! refl (hop ! (look-in ! 68 (sub ! 0 refl (whole !))) (stop !))))) (from ! (stop !)) (init ! 18 refl (tt, tt)) $
+        assigns ! (agg ! (and-then ! (load ! (from ! (stop !)) (look ! 18 refl)) (and-then ! (load ! (from ! (fld ! refl (stop !))) (look-in ! 68 (sub ! 1 refl (whole !)))) (no-more !)))) (from ! (stop !)) (init ! 16 refl (tt, (tt, (record { fits = room₃ .0 }, tt)))) $
+        assigns ! (addr ! (from ! (fld ! refl (hop ! (look-in ! 66 (sub ! 0 refl (whole !))) (stop !))))) (from ! (stop !)) (init ! 14 refl (tt, tt)) $
+        assigns ! (agg ! (and-then ! (load ! (from ! (stop !)) (look ! 14 refl)) (and-then ! (load ! (from ! (fld ! refl (stop !))) (look-in ! 66 (sub ! 1 refl (whole !)))) (no-more !)))) (from ! (stop !)) (init ! 12 refl (tt, (tt, (record { fits = room₄ .0 }, tt)))) $
+        knows ! (resumesFit (start .resumes) (length (sample)) ≡ true) (within .0) (λ asks-12·no·9.
+        -- 12.no.9: agent::perform::perform
+        lends-mut ! tt (Array u64 5) b₁ o₁ sessions n₁ (len-10-sessions) (λ ν-12·no·9-sessions δ-12·no·9-sessions.
+        move ! (3 ∷ 4 ∷ []) $
+        lends-mut ! tt (Array u16 35) b₂ o₂ streams n₂ (len-10-streams) (λ ν-12·no·9-streams δ-12·no·9-streams.
+        move ! (6 ∷ 7 ∷ []) $
+        lends-mut ! tt Object-t.the-row b₃ o₃ objects n₃ (len-10-objects) (λ ν-12·no·9-objects δ-12·no·9-objects.
+        move ! (9 ∷ 10 ∷ []) $
+        lends-mut ! tt u8 b₄ o₄ out n₄ (len-10-out) (λ ν-12·no·9-out δ-12·no·9-out.
+        move ! (12 ∷ 13 ∷ []) $
+        copies-shr ! u8 b₅ o₅ d n₅ $ move ! (15 ∷ 16 ∷ []) $
+        copies-shr ! u8 b₆ o₆ sample n₆ $ nothing ! $ move ! (1 ∷ 0 ∷ []) $ join ! $ move ! (3 ∷ 0 ∷ []) $ join ! $ move ! (5 ∷ 0 ∷ []) $ join ! $ move ! (7 ∷ 0 ∷ []) $ join ! $ move ! (9 ∷ 0 ∷ []) $ join ! $ move ! (11 ∷ 0 ∷ []) $ join ! $
+        use1 W (raw (toks 𝓤 A 6 (((ν-12·no·9-sessions ∷ []), ((ν-12·no·9-streams ∷ []), ((ν-12·no·9-objects ∷ []), ((ν-12·no·9-out ∷ []), (κ₅, (κ₆, tt))))))) ((fullShare, (fullShare, (fullShare, (fullShare, (q₅, (q₆, tt))))))))) (id⊢ 𝓤 _) $ nothing ! $
+        owned ! (Start-p .row) (Is (Start-p .row)) (Start-p .makes 𝓤 H A W) start (Start-p .val start ∷ []) start-is $ fjoin ! $ move ! (2 ∷ 0 ∷ []) $ fjoin ! $ move ! (3 ∷ 0 ∷ []) $ fjoin ! $ move ! (4 ∷ 0 ∷ []) $ fjoin ! $ move ! (5 ∷ 0 ∷ []) $ fjoin ! $ move ! (6 ∷ 0 ∷ []) $ fjoin ! $ move ! (7 ∷ 0 ∷ []) $ fjoin ! $ move ! (1 ∷ 0 ∷ []) $
+        calls-any ! fm 6 [] (perform-perform.signature .params) (perform-perform.ended .kept) Ran-p (perform-perform.clauses 𝓤 H A mem run) known-perform-perform ((ν-12·no·9-sessions ∷ []), ((ν-12·no·9-streams ∷ []), ((ν-12·no·9-objects ∷ []), ((ν-12·no·9-out ∷ []), (κ₅, (κ₆, tt)))))) (fullShare, (fullShare, (fullShare, (fullShare, (q₅, (q₆, tt)))))) tt (at-list b₁ o₁ δ-12·no·9-sessions sessions, (at-list b₂ o₂ δ-12·no·9-streams streams, (at-list b₃ o₃ δ-12·no·9-objects objects, (at-list b₄ o₄ δ-12·no·9-out out, (at-list b₅ o₅ γ₅ d, (at-list b₆ o₆ γ₆ sample, (start, tt))))))) (sliceVal (b₁, o₁) n₁ ∷ [], (sliceVal (b₂, o₂) n₂ ∷ [], (sliceVal (b₃, o₃) n₃ ∷ [], (sliceVal (b₄, o₄) n₄ ∷ [], (sliceVal (b₅, o₅) n₅ ∷ [], (sliceVal (b₆, o₆) n₆ ∷ [], (Start-p .val start ∷ [], tt))))))) tt (performed start (lent (sessions) (streams) (objects)) (d) (sample) .ran) (λ ws-12·no·9. (ws-12·no·9 .0 ≡ performed start (lent (sessions) (streams) (objects)) (d) (sample) .tables .sessions) × (ws-12·no·9 .1 .0 ≡ performed start (lent (sessions) (streams) (objects)) (d) (sample) .tables .streams) × (ws-12·no·9 .1 .1 .0 ≡ performed start (lent (sessions) (streams) (objects)) (d) (sample) .tables .objects) × (ws-12·no·9 .1 .1 .1 .0 ≡ putReplies (out) 0 (performed start (lent (sessions) (streams) (objects)) (d) (sample) .replies))) (factI 𝓤 (resumesFit (start .resumes) (length (sample)) ≡ true) _ asks-12·no·9) (λ r ws-12·no·9. fact-mono 𝓤 ((r ≡ performed start (lent (sessions) (streams) (objects)) (d) (sample) .ran) × ((ws-12·no·9 .0) ≡ performed start (lent (sessions) (streams) (objects)) (d) (sample) .tables .sessions) × ((ws-12·no·9 .1 .0) ≡ performed start (lent (sessions) (streams) (objects)) (d) (sample) .tables .streams) × ((ws-12·no·9 .1 .1 .0) ≡ performed start (lent (sessions) (streams) (objects)) (d) (sample) .tables .objects) × ((ws-12·no·9 .1 .1 .1 .0) ≡ putReplies (out) 0 (performed start (lent (sessions) (streams) (objects)) (d) (sample) .replies))) ((r ≡ (performed start (lent (sessions) (streams) (objects)) (d) (sample) .ran)) × ((ws-12·no·9 .0 ≡ performed start (lent (sessions) (streams) (objects)) (d) (sample) .tables .sessions) × (ws-12·no·9 .1 .0 ≡ performed start (lent (sessions) (streams) (objects)) (d) (sample) .tables .streams) × (ws-12·no·9 .1 .1 .0 ≡ performed start (lent (sessions) (streams) (objects)) (d) (sample) .tables .objects) × (ws-12·no·9 .1 .1 .1 .0 ≡ putReplies (out) 0 (performed start (lent (sessions) (streams) (objects)) (d) (sample) .replies)))) (λ e. (e .0, (e .1, e .2, e .3, e .4)))) (λ _. (and-then ! (load ! (from ! (stop !)) (look ! 19 refl)) (and-then ! (load ! (from ! (stop !)) (look ! 15 refl)) (and-then ! (load ! (from ! (stop !)) (look ! 11 refl)) (and-then ! (load ! (from ! (stop !)) (look ! 7 refl)) (and-then ! (load ! (from ! (stop !)) (look ! 59 refl)) (and-then ! (load ! (from ! (stop !)) (look ! 57 refl)) (and-then ! (load ! (from ! (stop !)) (look ! 53 refl)) (no-more !))))))))) (λ ws-12·no·9 said-12·no·9 is-12·no·9.
+        use1 W ((‵ (flft (ν-12·no·9-sessions ∷ []) fullShare) ⊛ (‵ (flft (ν-12·no·9-streams ∷ []) fullShare) ⊛ (‵ (flft (ν-12·no·9-objects ∷ []) fullShare) ⊛ (‵ (flft (ν-12·no·9-out ∷ []) fullShare) ⊛ (‵ (flft κ₅ q₅) ⊛ (‵ (flft κ₆ q₆) ⊛ ‵ ftrue))))))) (id⊢ 𝓤 _) $ split ! $ move ! (1 ∷ []) $ split ! $ move ! (1 ∷ []) $ split ! $ move ! (1 ∷ []) $ split ! $ move ! (1 ∷ []) $ split ! $ move ! (1 ∷ []) $ split ! $ move ! (7 ∷ []) $ fsplit ! $ fsplit ! $ move ! (1 ∷ []) $
+        feqL ! (λ wlen-12·no·9-0.
+        move ! (1 ∷ []) $ fsplit ! $ fsplit ! $ move ! (1 ∷ []) $
+        feqL ! (λ wlen-12·no·9-1.
+        move ! (1 ∷ []) $ fsplit ! $ fsplit ! $ move ! (1 ∷ []) $
+        feqL ! (λ wlen-12·no·9-2.
+        move ! (1 ∷ []) $ fsplit ! $ fsplit ! $ move ! (1 ∷ []) $
+        feqL ! (λ wlen-12·no·9-3.
+        move ! (1 ∷ []) $ fsplit ! $ move ! (1 ∷ []) $ fsplit ! $ move ! (13 ∷ 19 ∷ 6 ∷ []) $
+        backs-mut ! tt (Array u64 5) b₁ o₁ sessions n₁ (len-10-sessions) room₁ ν-12·no·9-sessions δ-12·no·9-sessions (ws-12·no·9 .0) (performed start (lent (sessions) (streams) (objects)) (d) (sample) .tables .sessions) wlen-12·no·9-0 (said-12·no·9 .0) (λ len-12·no·9-sessions.
+        move ! (13 ∷ 18 ∷ 7 ∷ []) $
+        backs-mut ! tt (Array u16 35) b₂ o₂ streams n₂ (len-10-streams) room₂ ν-12·no·9-streams δ-12·no·9-streams (ws-12·no·9 .1 .0) (performed start (lent (sessions) (streams) (objects)) (d) (sample) .tables .streams) wlen-12·no·9-1 (said-12·no·9 .1) (λ len-12·no·9-streams.
+        move ! (13 ∷ 17 ∷ 8 ∷ []) $
+        backs-mut ! tt Object-t.the-row b₃ o₃ objects n₃ (len-10-objects) room₃ ν-12·no·9-objects δ-12·no·9-objects (ws-12·no·9 .1 .1 .0) (performed start (lent (sessions) (streams) (objects)) (d) (sample) .tables .objects) wlen-12·no·9-2 (said-12·no·9 .2) (λ len-12·no·9-objects.
+        move ! (13 ∷ 16 ∷ 9 ∷ []) $
+        backs-mut ! tt u8 b₄ o₄ out n₄ (len-10-out) room₄ ν-12·no·9-out δ-12·no·9-out (ws-12·no·9 .1 .1 .1 .0) (putReplies (out) 0 (performed start (lent (sessions) (streams) (objects)) (d) (sample) .replies)) wlen-12·no·9-3 (said-12·no·9 .3) (λ len-12·no·9-out.
+        move ! (8 ∷ []) $ drop ! $ move ! (8 ∷ []) $ drop ! $ move ! (8 ∷ []) $ drop ! $ move ! (9 ∷ []) $ drop ! $
+        land ! (from ! (stop !)) (init ! 50 refl (Ran-p .typed 𝓤 H A W (performed start (lent (sessions) (streams) (objects)) (d) (sample) .ran) is-12·no·9)) $ move ! (6 ∷ 7 ∷ 4 ∷ 5 ∷ 2 ∷ 3 ∷ 0 ∷ 1 ∷ 11 ∷ 9 ∷ 10 ∷ 8 ∷ 12 ∷ 13 ∷ 14 ∷ 15 ∷ 16 ∷ 17 ∷ 18 ∷ 19 ∷ 20 ∷ 21 ∷ 22 ∷ 23 ∷ 24 ∷ 25 ∷ 26 ∷ 27 ∷ 28 ∷ 29 ∷ 30 ∷ 31 ∷ 32 ∷ 33 ∷ 34 ∷ 35 ∷ 36 ∷ 37 ∷ 38 ∷ 39 ∷ 40 ∷ 41 ∷ 42 ∷ 43 ∷ 44 ∷ 45 ∷ 46 ∷ 47 ∷ 48 ∷ 49 ∷ 50 ∷ 51 ∷ 52 ∷ 53 ∷ 54 ∷ 55 ∷ 56 ∷ 57 ∷ 58 ∷ 59 ∷ 60 ∷ 61 ∷ 62 ∷ 63 ∷ 64 ∷ 65 ∷ 66 ∷ 67 ∷ 68 ∷ 69 ∷ 70 ∷ 71 ∷ 72 ∷ 73 ∷ 74 ∷ 75 ∷ []) $
+        part-12·no·10-2 asks-10 len-10-sessions len-10-streams len-10-objects len-10-out is-10 c-12 asks-12·no·9 len-12·no·9-sessions len-12·no·9-streams len-12·no·9-objects len-12·no·9-out is-12·no·9))))))))))))))))
+
     begins : Sq W (‵ (MutSlice (named 0) κ₁ (Array u64 5) .own (at-list b₁ o₁ γ₁ sessions) (sliceVal (b₁, o₁) n₁ ∷ [])) ∷ ‵ (flft κ₁ q₁) ∷ ‵ (MutSlice (named 0) κ₂ (Array u16 35) .own (at-list b₂ o₂ γ₂ streams) (sliceVal (b₂, o₂) n₂ ∷ [])) ∷ ‵ (flft κ₂ q₂) ∷ ‵ (MutSlice (named 0) κ₃ Object-t.the-row .own (at-list b₃ o₃ γ₃ objects) (sliceVal (b₃, o₃) n₃ ∷ [])) ∷ ‵ (flft κ₃ q₃) ∷ ‵ (MutSlice (named 0) κ₄ u8 .own (at-list b₄ o₄ γ₄ out) (sliceVal (b₄, o₄) n₄ ∷ [])) ∷ ‵ (flft κ₄ q₄) ∷ ‵ (ShrSlice (named 0) κ₅ u8 .own (at-list b₅ o₅ γ₅ d) (sliceVal (b₅, o₅) n₅ ∷ [])) ∷ ‵ (flft κ₅ q₅) ∷ ‵ (ShrSlice (named 0) κ₆ u8 .own (at-list b₆ o₆ γ₆ sample) (sliceVal (b₆, o₆) n₆ ∷ [])) ∷ ‵ (flft κ₆ q₆) ∷ free 𝓤 (sliceTy (tyRef erased mut (pointee (u8 .written)))) l₃₁ (free 𝓤 (tyRef erased mut (pointee (u8 .written))) l₃₀ (free 𝓤 (sliceTy (tyRef erased mut (pointee (Object-t.the-row .written)))) l₂₉ (free 𝓤 (tyRef erased mut (pointee (Object-t.the-row .written))) l₂₈ (free 𝓤 (sliceTy (tyRef erased mut (pointee ((Array u16 35) .written)))) l₂₇ (free 𝓤 (tyRef erased mut (pointee ((Array u16 35) .written))) l₂₆ (free 𝓤 (sliceTy (tyRef erased mut (pointee ((Array u64 5) .written)))) l₂₅ (free 𝓤 (tyRef erased mut (pointee ((Array u64 5) .written))) l₂₄ (free 𝓤 Refusal-l.mir l₂₃ (free 𝓤 Processed-l.mir l₂₂ (free 𝓤 tyBool l₂₁ (free 𝓤 (sliceTy (tyRef erased mut (pointee (u8 .written)))) l₂₀ (free 𝓤 (tyRef erased mut (pointee (u8 .written))) l₁₉ (free 𝓤 (sliceTy (tyRef erased mut (pointee (Object-t.the-row .written)))) l₁₈ (free 𝓤 (tyRef erased mut (pointee (Object-t.the-row .written))) l₁₇ (free 𝓤 (sliceTy (tyRef erased mut (pointee ((Array u16 35) .written)))) l₁₆ (free 𝓤 (tyRef erased mut (pointee ((Array u16 35) .written))) l₁₅ (free 𝓤 (sliceTy (tyRef erased mut (pointee ((Array u64 5) .written)))) l₁₄ (free 𝓤 (tyRef erased mut (pointee ((Array u64 5) .written))) l₁₃ (free 𝓤 Ran-l.mir l₁₂ (free 𝓤 (tyInt w64) l₁₁ (free 𝓤 (tyInt w64) l₁₀ (full 𝓤 (tyInt w64) l₉ (u64-p .val n′) (full 𝓤 Start-l.mir l₈ (Start-p .val start) (full 𝓤 Agent-l.mir l₇ (Agent-p .val agent) (full 𝓤 (sliceTy (tyRef (named 5) imm (pointee (u8 .written)))) l₆ (sliceVal (b₆, o₆) n₆) (full 𝓤 (sliceTy (tyRef (named 4) imm (pointee (u8 .written)))) l₅ (sliceVal (b₅, o₅) n₅) (full 𝓤 (sliceTy (tyRef (named 3) mut (pointee (u8 .written)))) l₄ (sliceVal (b₄, o₄) n₄) (full 𝓤 (sliceTy (tyRef (named 2) mut (pointee (Object-t.the-row .written)))) l₃ (sliceVal (b₃, o₃) n₃) (full 𝓤 (sliceTy (tyRef (named 1) mut (pointee ((Array u16 35) .written)))) l₂ (sliceVal (b₂, o₂) n₂) (full 𝓤 (sliceTy (tyRef (named 0) mut (pointee ((Array u64 5) .written)))) l₁ (sliceVal (b₁, o₁) n₁) (free 𝓤 Processed-l.mir l₀ ([]))))))))))))))))))))))))))))))))) (runs C Λ En mir.t-1 (atRet En Post))
     begins =
         assigns ! (of-opd ! (load ! (from ! (fld ! refl (stop !))) (look-in ! 66 (sub ! 1 refl (whole !))))) (from ! (stop !)) (init ! 54 refl (u64-p .typed 𝓤 H A W n₄ ((refl, room₄ .0)))) $
@@ -357,82 +451,8 @@ module _ {M : Type 1} (𝓤 : URA M) (H : Heap 𝓤) (A : Atoms 𝓤) (W : Given
         move ! (13 ∷ 16 ∷ 9 ∷ []) $
         backs-mut ! tt u8 b₄ o₄ out n₄ (refl) room₄ ν-10-out δ-10-out (ws-10 .1 .1 .1 .0) out wlen-10-3 (said-10 .3) (λ len-10-out.
         move ! (8 ∷ []) $ drop ! $ move ! (8 ∷ []) $ drop ! $ move ! (8 ∷ []) $ drop ! $ move ! (9 ∷ []) $ drop ! $
-        land ! (from ! (stop !)) (init ! 52 refl (u64-p .typed 𝓤 H A W (neededOf (roomy (length (out)) (start .resumes) n′ (length (sample))) (performed start (lent (sessions) (streams) (objects)) (d) (sample) .ran .wrote)) is-10)) $
-        assigns ! (bin ! (load ! (from ! (stop !)) (look ! 54 refl)) (load ! (from ! (stop !)) (look ! 52 refl)) (tt)) (from ! (stop !)) (init ! 32 refl (bool-p .typed 𝓤 H A W (ltb n₄ (neededOf (roomy (length (out)) (start .resumes) n′ (length (sample))) (performed start (lent (sessions) (streams) (objects)) (d) (sample) .ran .wrote))) refl)) $
-        first ! $
-        branches ! (load ! (from ! (stop !)) (look ! 32 refl))
-        (λ h-12.
-        knows ! (ltb n₄ (neededOf (roomy (length (out)) (start .resumes) n′ (length (sample))) (performed start (lent (sessions) (streams) (objects)) (d) (sample) .ran .wrote)) ≡ true) (holds (ltb n₄ (neededOf (roomy (length (out)) (start .resumes) n′ (length (sample))) (performed start (lent (sessions) (streams) (objects)) (d) (sample) .ran .wrote))) h-12) (λ c-12.
-        assigns ! (agg ! (and-then ! (lit ! tt) (no-more !))) (from ! (stop !)) (init ! 28 refl (Refusal-p .typed 𝓤 H A W Refusal-OutputTooShort (EL.owes Refusal-t.the-type Refusal-l.the-laws Refusal-OutputTooShort tt))) $
-        -- 12.yes.2: agent::process::refused
-        nothing ! $
-        use1 W (raw (toks 𝓤 A 0 (tt) (tt))) (id⊢ 𝓤 _) $ nothing ! $
-        owned ! (Refusal-p .row) (Is (Refusal-p .row)) (Refusal-p .makes 𝓤 H A W) Refusal-OutputTooShort (Refusal-p .val Refusal-OutputTooShort ∷ []) (EL.owes Refusal-t.the-type Refusal-l.the-laws Refusal-OutputTooShort tt) $ fjoin ! $
-        owned ! (Agent-p .row) (Is (Agent-p .row)) (Agent-p .makes 𝓤 H A W) agent (Agent-p .val agent ∷ []) agent-is $ fjoin ! $ move ! (1 ∷ 0 ∷ []) $
-        calls-any-last ! fm 0 [] (process-refused.signature .params) (process-refused.ended .kept) Processed-p (process-refused.clauses 𝓤 H A mem run) known-process-refused tt tt tt (agent, (Refusal-OutputTooShort, tt)) (Agent-p .val agent ∷ [], (Refusal-p .val Refusal-OutputTooShort ∷ [], tt)) tt (refusedOf agent Refusal-OutputTooShort) (λ ws-12·yes·2. Unit {0}) (id⊢ 𝓤 _) (λ r ws-12·yes·2. fact-mono 𝓤 (r ≡ refusedOf agent Refusal-OutputTooShort) ((r ≡ (refusedOf agent Refusal-OutputTooShort)) × (Unit {0})) (λ e. (e, tt))) (λ _. (and-then ! (load ! (from ! (stop !)) (look ! 61 refl)) (and-then ! (load ! (from ! (stop !)) (look ! 29 refl)) (no-more !)))) (λ ws-12·yes·2 said-12·yes·2 is-12·yes·2.
-        drop ! $ drop ! $
-        land-last ! (from ! (stop !)) (init ! 30 refl (Processed-p .typed 𝓤 H A W (refusedOf agent Refusal-OutputTooShort) is-12·yes·2)) $
-        exec ! C Λ En mir.t-13 (atRet En Post) $
-        assigns ! (of-opd ! (load ! (from ! (stop !)) (look ! 30 refl))) (from ! (stop !)) (init ! 74 refl (Processed-p .typed 𝓤 H A W (refusedOf agent Refusal-OutputTooShort) is-12·yes·2)) $
-        returns ! (look ! 74 refl) $ forget ! 28 refl $ forget ! 30 refl $ forget ! 32 refl $ forget ! 34 refl $ forget ! 36 refl $ forget ! 38 refl $ forget ! 40 refl $ forget ! 42 refl $ forget ! 44 refl $ forget ! 46 refl $ forget ! 48 refl $ forget ! 52 refl $ forget ! 54 refl $ forget ! 56 refl $ forget ! 58 refl $ forget ! 60 refl $ forget ! 62 refl $ forget ! 64 refl $ forget ! 66 refl $ forget ! 68 refl $ forget ! 70 refl $ forget ! 72 refl $ forget ! 74 refl $ move ! (74 ∷ 75 ∷ []) $ free1 ! $ move ! (72 ∷ 73 ∷ []) $ free1 ! $ move ! (70 ∷ 71 ∷ []) $ free1 ! $ move ! (68 ∷ 69 ∷ []) $ free1 ! $ move ! (66 ∷ 67 ∷ []) $ free1 ! $ move ! (64 ∷ 65 ∷ []) $ free1 ! $ move ! (62 ∷ 63 ∷ []) $ free1 ! $ move ! (60 ∷ 61 ∷ []) $ free1 ! $ move ! (58 ∷ 59 ∷ []) $ free1 ! $ move ! (56 ∷ 57 ∷ []) $ free1 ! $ move ! (54 ∷ 55 ∷ []) $ free1 ! $ move ! (52 ∷ 53 ∷ []) $ free1 ! $ move ! (50 ∷ 51 ∷ []) $ free1 ! $ move ! (48 ∷ 49 ∷ []) $ free1 ! $ move ! (46 ∷ 47 ∷ []) $ free1 ! $ move ! (44 ∷ 45 ∷ []) $ free1 ! $ move ! (42 ∷ 43 ∷ []) $ free1 ! $ move ! (40 ∷ 41 ∷ []) $ free1 ! $ move ! (38 ∷ 39 ∷ []) $ free1 ! $ move ! (36 ∷ 37 ∷ []) $ free1 ! $ move ! (34 ∷ 35 ∷ []) $ free1 ! $ move ! (32 ∷ 33 ∷ []) $ free1 ! $ move ! (30 ∷ 31 ∷ []) $ free1 ! $ move ! (28 ∷ 29 ∷ []) $ free1 ! $ move ! (26 ∷ 27 ∷ []) $ free1 ! $ move ! (24 ∷ 25 ∷ []) $ free1 ! $ move ! (22 ∷ 23 ∷ []) $ free1 ! $ move ! (20 ∷ 21 ∷ []) $ free1 ! $ move ! (18 ∷ 19 ∷ []) $ free1 ! $ move ! (16 ∷ 17 ∷ []) $ free1 ! $ move ! (14 ∷ 15 ∷ []) $ free1 ! $ move ! (12 ∷ 13 ∷ []) $ free1 ! $ free0 ! $ move ! (6 ∷ 7 ∷ 4 ∷ 5 ∷ 2 ∷ 3 ∷ 0 ∷ 1 ∷ 11 ∷ 9 ∷ 10 ∷ 8 ∷ []) $
-        by ! (exits (refusedOf agent Refusal-OutputTooShort) sessions streams objects out ((ap (λ (l : Leaves). l .processed) (is-short c-12), ap (λ (l : Leaves). l .tables .sessions) (is-short c-12), ap (λ (l : Leaves). l .tables .streams) (is-short c-12), ap (λ (l : Leaves). l .tables .objects) (is-short c-12), ap (λ (l : Leaves). l .out) (is-short c-12))) is-12·yes·2 len-10-sessions len-10-streams len-10-objects len-10-out))))
-        (λ h-12.
-        knows ! (ltb n₄ (neededOf (roomy (length (out)) (start .resumes) n′ (length (sample))) (performed start (lent (sessions) (streams) (objects)) (d) (sample) .ran .wrote)) ≡ false) (fails (ltb n₄ (neededOf (roomy (length (out)) (start .resumes) n′ (length (sample))) (performed start (lent (sessions) (streams) (objects)) (d) (sample) .ran .wrote))) (T-not (ltb n₄ (neededOf (roomy (length (out)) (start .resumes) n′ (length (sample))) (performed start (lent (sessions) (streams) (objects)) (d) (sample) .ran .wrote))) h-12)) (λ c-12.
-        assigns ! (addr ! (from ! (fld ! refl (hop ! (look-in ! 72 (sub ! 0 refl (whole !))) (stop !))))) (from ! (stop !)) (init ! 26 refl (tt, tt)) $
-        assigns ! (agg ! (and-then ! (load ! (from ! (stop !)) (look ! 26 refl)) (and-then ! (load ! (from ! (fld ! refl (stop !))) (look-in ! 72 (sub ! 1 refl (whole !)))) (no-more !)))) (from ! (stop !)) (init ! 24 refl (tt, (tt, (record { fits = room₁ .0 }, tt)))) $
-        assigns ! (addr ! (from ! (fld ! refl (hop ! (look-in ! 70 (sub ! 0 refl (whole !))) (stop !))))) (from ! (stop !)) (init ! 22 refl (tt, tt)) $
-        assigns ! (agg ! (and-then ! (load ! (from ! (stop !)) (look ! 22 refl)) (and-then ! (load ! (from ! (fld ! refl (stop !))) (look-in ! 70 (sub ! 1 refl (whole !)))) (no-more !)))) (from ! (stop !)) (init ! 20 refl (tt, (tt, (record { fits = room₂ .0 }, tt)))) $
-        assigns ! (addr ! (from ! (fld ! refl (hop ! (look-in ! 68 (sub ! 0 refl (whole !))) (stop !))))) (from ! (stop !)) (init ! 18 refl (tt, tt)) $
-        assigns ! (agg ! (and-then ! (load ! (from ! (stop !)) (look ! 18 refl)) (and-then ! (load ! (from ! (fld ! refl (stop !))) (look-in ! 68 (sub ! 1 refl (whole !)))) (no-more !)))) (from ! (stop !)) (init ! 16 refl (tt, (tt, (record { fits = room₃ .0 }, tt)))) $
-        assigns ! (addr ! (from ! (fld ! refl (hop ! (look-in ! 66 (sub ! 0 refl (whole !))) (stop !))))) (from ! (stop !)) (init ! 14 refl (tt, tt)) $
-        assigns ! (agg ! (and-then ! (load ! (from ! (stop !)) (look ! 14 refl)) (and-then ! (load ! (from ! (fld ! refl (stop !))) (look-in ! 66 (sub ! 1 refl (whole !)))) (no-more !)))) (from ! (stop !)) (init ! 12 refl (tt, (tt, (record { fits = room₄ .0 }, tt)))) $
-        knows ! (resumesFit (start .resumes) (length (sample)) ≡ true) (within .0) (λ asks-12·no·9.
-        -- 12.no.9: agent::perform::perform
-        move ! (6 ∷ 7 ∷ []) $
-        lends-mut ! tt (Array u64 5) b₁ o₁ sessions n₁ (len-10-sessions) (λ ν-12·no·9-sessions δ-12·no·9-sessions.
-        move ! (7 ∷ 8 ∷ []) $
-        lends-mut ! tt (Array u16 35) b₂ o₂ streams n₂ (len-10-streams) (λ ν-12·no·9-streams δ-12·no·9-streams.
-        move ! (8 ∷ 9 ∷ []) $
-        lends-mut ! tt Object-t.the-row b₃ o₃ objects n₃ (len-10-objects) (λ ν-12·no·9-objects δ-12·no·9-objects.
-        move ! (9 ∷ 10 ∷ []) $
-        lends-mut ! tt u8 b₄ o₄ out n₄ (len-10-out) (λ ν-12·no·9-out δ-12·no·9-out.
-        move ! (15 ∷ 13 ∷ []) $
-        copies-shr ! u8 b₅ o₅ d n₅ $ move ! (16 ∷ 15 ∷ []) $
-        copies-shr ! u8 b₆ o₆ sample n₆ $ nothing ! $ move ! (1 ∷ 0 ∷ []) $ join ! $ move ! (3 ∷ 0 ∷ []) $ join ! $ move ! (5 ∷ 0 ∷ []) $ join ! $ move ! (7 ∷ 0 ∷ []) $ join ! $ move ! (9 ∷ 0 ∷ []) $ join ! $ move ! (11 ∷ 0 ∷ []) $ join ! $
-        use1 W (raw (toks 𝓤 A 6 (((ν-12·no·9-sessions ∷ []), ((ν-12·no·9-streams ∷ []), ((ν-12·no·9-objects ∷ []), ((ν-12·no·9-out ∷ []), (κ₅, (κ₆, tt))))))) ((fullShare, (fullShare, (fullShare, (fullShare, (q₅, (q₆, tt))))))))) (id⊢ 𝓤 _) $ nothing ! $
-        owned ! (Start-p .row) (Is (Start-p .row)) (Start-p .makes 𝓤 H A W) start (Start-p .val start ∷ []) start-is $ fjoin ! $ move ! (2 ∷ 0 ∷ []) $ fjoin ! $ move ! (3 ∷ 0 ∷ []) $ fjoin ! $ move ! (4 ∷ 0 ∷ []) $ fjoin ! $ move ! (5 ∷ 0 ∷ []) $ fjoin ! $ move ! (6 ∷ 0 ∷ []) $ fjoin ! $ move ! (7 ∷ 0 ∷ []) $ fjoin ! $ move ! (1 ∷ 0 ∷ []) $
-        calls-any ! fm 6 [] (perform-perform.signature .params) (perform-perform.ended .kept) Ran-p (perform-perform.clauses 𝓤 H A mem run) known-perform-perform ((ν-12·no·9-sessions ∷ []), ((ν-12·no·9-streams ∷ []), ((ν-12·no·9-objects ∷ []), ((ν-12·no·9-out ∷ []), (κ₅, (κ₆, tt)))))) (fullShare, (fullShare, (fullShare, (fullShare, (q₅, (q₆, tt)))))) tt (at-list b₁ o₁ δ-12·no·9-sessions sessions, (at-list b₂ o₂ δ-12·no·9-streams streams, (at-list b₃ o₃ δ-12·no·9-objects objects, (at-list b₄ o₄ δ-12·no·9-out out, (at-list b₅ o₅ γ₅ d, (at-list b₆ o₆ γ₆ sample, (start, tt))))))) (sliceVal (b₁, o₁) n₁ ∷ [], (sliceVal (b₂, o₂) n₂ ∷ [], (sliceVal (b₃, o₃) n₃ ∷ [], (sliceVal (b₄, o₄) n₄ ∷ [], (sliceVal (b₅, o₅) n₅ ∷ [], (sliceVal (b₆, o₆) n₆ ∷ [], (Start-p .val start ∷ [], tt))))))) tt (performed start (lent (sessions) (streams) (objects)) (d) (sample) .ran) (λ ws-12·no·9. (ws-12·no·9 .0 ≡ performed start (lent (sessions) (streams) (objects)) (d) (sample) .tables .sessions) × (ws-12·no·9 .1 .0 ≡ performed start (lent (sessions) (streams) (objects)) (d) (sample) .tables .streams) × (ws-12·no·9 .1 .1 .0 ≡ performed start (lent (sessions) (streams) (objects)) (d) (sample) .tables .objects) × (ws-12·no·9 .1 .1 .1 .0 ≡ putReplies (out) 0 (performed start (lent (sessions) (streams) (objects)) (d) (sample) .replies))) (factI 𝓤 (resumesFit (start .resumes) (length (sample)) ≡ true) _ asks-12·no·9) (λ r ws-12·no·9. fact-mono 𝓤 ((r ≡ performed start (lent (sessions) (streams) (objects)) (d) (sample) .ran) × ((ws-12·no·9 .0) ≡ performed start (lent (sessions) (streams) (objects)) (d) (sample) .tables .sessions) × ((ws-12·no·9 .1 .0) ≡ performed start (lent (sessions) (streams) (objects)) (d) (sample) .tables .streams) × ((ws-12·no·9 .1 .1 .0) ≡ performed start (lent (sessions) (streams) (objects)) (d) (sample) .tables .objects) × ((ws-12·no·9 .1 .1 .1 .0) ≡ putReplies (out) 0 (performed start (lent (sessions) (streams) (objects)) (d) (sample) .replies))) ((r ≡ (performed start (lent (sessions) (streams) (objects)) (d) (sample) .ran)) × ((ws-12·no·9 .0 ≡ performed start (lent (sessions) (streams) (objects)) (d) (sample) .tables .sessions) × (ws-12·no·9 .1 .0 ≡ performed start (lent (sessions) (streams) (objects)) (d) (sample) .tables .streams) × (ws-12·no·9 .1 .1 .0 ≡ performed start (lent (sessions) (streams) (objects)) (d) (sample) .tables .objects) × (ws-12·no·9 .1 .1 .1 .0 ≡ putReplies (out) 0 (performed start (lent (sessions) (streams) (objects)) (d) (sample) .replies)))) (λ e. (e .0, (e .1, e .2, e .3, e .4)))) (λ _. (and-then ! (load ! (from ! (stop !)) (look ! 19 refl)) (and-then ! (load ! (from ! (stop !)) (look ! 15 refl)) (and-then ! (load ! (from ! (stop !)) (look ! 11 refl)) (and-then ! (load ! (from ! (stop !)) (look ! 7 refl)) (and-then ! (load ! (from ! (stop !)) (look ! 59 refl)) (and-then ! (load ! (from ! (stop !)) (look ! 57 refl)) (and-then ! (load ! (from ! (stop !)) (look ! 53 refl)) (no-more !))))))))) (λ ws-12·no·9 said-12·no·9 is-12·no·9.
-        use1 W ((‵ (flft (ν-12·no·9-sessions ∷ []) fullShare) ⊛ (‵ (flft (ν-12·no·9-streams ∷ []) fullShare) ⊛ (‵ (flft (ν-12·no·9-objects ∷ []) fullShare) ⊛ (‵ (flft (ν-12·no·9-out ∷ []) fullShare) ⊛ (‵ (flft κ₅ q₅) ⊛ (‵ (flft κ₆ q₆) ⊛ ‵ ftrue))))))) (id⊢ 𝓤 _) $ split ! $ move ! (1 ∷ []) $ split ! $ move ! (1 ∷ []) $ split ! $ move ! (1 ∷ []) $ split ! $ move ! (1 ∷ []) $ split ! $ move ! (1 ∷ []) $ split ! $ move ! (7 ∷ []) $ fsplit ! $ fsplit ! $ move ! (1 ∷ []) $
-        feqL ! (λ wlen-12·no·9-0.
-        move ! (1 ∷ []) $ fsplit ! $ fsplit ! $ move ! (1 ∷ []) $
-        feqL ! (λ wlen-12·no·9-1.
-        move ! (1 ∷ []) $ fsplit ! $ fsplit ! $ move ! (1 ∷ []) $
-        feqL ! (λ wlen-12·no·9-2.
-        move ! (1 ∷ []) $ fsplit ! $ fsplit ! $ move ! (1 ∷ []) $
-        feqL ! (λ wlen-12·no·9-3.
-        move ! (1 ∷ []) $ fsplit ! $ move ! (1 ∷ []) $ fsplit ! $ move ! (13 ∷ 19 ∷ 6 ∷ []) $
-        backs-mut ! tt (Array u64 5) b₁ o₁ sessions n₁ (len-10-sessions) room₁ ν-12·no·9-sessions δ-12·no·9-sessions (ws-12·no·9 .0) (performed start (lent (sessions) (streams) (objects)) (d) (sample) .tables .sessions) wlen-12·no·9-0 (said-12·no·9 .0) (λ len-12·no·9-sessions.
-        move ! (13 ∷ 18 ∷ 7 ∷ []) $
-        backs-mut ! tt (Array u16 35) b₂ o₂ streams n₂ (len-10-streams) room₂ ν-12·no·9-streams δ-12·no·9-streams (ws-12·no·9 .1 .0) (performed start (lent (sessions) (streams) (objects)) (d) (sample) .tables .streams) wlen-12·no·9-1 (said-12·no·9 .1) (λ len-12·no·9-streams.
-        move ! (13 ∷ 17 ∷ 8 ∷ []) $
-        backs-mut ! tt Object-t.the-row b₃ o₃ objects n₃ (len-10-objects) room₃ ν-12·no·9-objects δ-12·no·9-objects (ws-12·no·9 .1 .1 .0) (performed start (lent (sessions) (streams) (objects)) (d) (sample) .tables .objects) wlen-12·no·9-2 (said-12·no·9 .2) (λ len-12·no·9-objects.
-        move ! (13 ∷ 16 ∷ 9 ∷ []) $
-        backs-mut ! tt u8 b₄ o₄ out n₄ (len-10-out) room₄ ν-12·no·9-out δ-12·no·9-out (ws-12·no·9 .1 .1 .1 .0) (putReplies (out) 0 (performed start (lent (sessions) (streams) (objects)) (d) (sample) .replies)) wlen-12·no·9-3 (said-12·no·9 .3) (λ len-12·no·9-out.
-        move ! (8 ∷ []) $ drop ! $ move ! (8 ∷ []) $ drop ! $ move ! (8 ∷ []) $ drop ! $ move ! (9 ∷ []) $ drop ! $
-        land ! (from ! (stop !)) (init ! 50 refl (Ran-p .typed 𝓤 H A W (performed start (lent (sessions) (streams) (objects)) (d) (sample) .ran) is-12·no·9)) $
-        -- 12.no.10: agent::process::finished
-        nothing ! $
-        use1 W (raw (toks 𝓤 A 0 (tt) (tt))) (id⊢ 𝓤 _) $ nothing ! $
-        owned ! (Ran-p .row) (Is (Ran-p .row)) (Ran-p .makes 𝓤 H A W) (performed start (lent (sessions) (streams) (objects)) (d) (sample) .ran) (Ran-p .val (performed start (lent (sessions) (streams) (objects)) (d) (sample) .ran) ∷ []) is-12·no·9 $ fjoin ! $
-        owned ! (Start-p .row) (Is (Start-p .row)) (Start-p .makes 𝓤 H A W) start (Start-p .val start ∷ []) start-is $ fjoin ! $
-        owned ! (Agent-p .row) (Is (Agent-p .row)) (Agent-p .makes 𝓤 H A W) agent (Agent-p .val agent ∷ []) agent-is $ fjoin ! $ move ! (1 ∷ 0 ∷ []) $
-        calls-any-last ! fm 0 [] (process-finished.signature .params) (process-finished.ended .kept) Processed-p (process-finished.clauses 𝓤 H A mem run) known-process-finished tt tt tt (agent, (start, (performed start (lent (sessions) (streams) (objects)) (d) (sample) .ran, tt))) (Agent-p .val agent ∷ [], (Start-p .val start ∷ [], (Ran-p .val (performed start (lent (sessions) (streams) (objects)) (d) (sample) .ran) ∷ [], tt))) tt (finishedOf agent start (performed start (lent (sessions) (streams) (objects)) (d) (sample) .ran)) (λ ws-12·no·10. Unit {0}) (id⊢ 𝓤 _) (λ r ws-12·no·10. fact-mono 𝓤 (r ≡ finishedOf agent start (performed start (lent (sessions) (streams) (objects)) (d) (sample) .ran)) ((r ≡ (finishedOf agent start (performed start (lent (sessions) (streams) (objects)) (d) (sample) .ran))) × (Unit {0})) (λ e. (e, tt))) (λ _. (and-then ! (load ! (from ! (stop !)) (look ! 61 refl)) (and-then ! (load ! (from ! (stop !)) (look ! 59 refl)) (and-then ! (load ! (from ! (stop !)) (look ! 51 refl)) (no-more !))))) (λ ws-12·no·10 said-12·no·10 is-12·no·10.
-        drop ! $ drop ! $
-        land-last ! (from ! (stop !)) (init ! 30 refl (Processed-p .typed 𝓤 H A W (finishedOf agent start (performed start (lent (sessions) (streams) (objects)) (d) (sample) .ran)) is-12·no·10)) $
-        exec ! C Λ En mir.t-13 (atRet En Post) $
-        assigns ! (of-opd ! (load ! (from ! (stop !)) (look ! 30 refl))) (from ! (stop !)) (init ! 74 refl (Processed-p .typed 𝓤 H A W (finishedOf agent start (performed start (lent (sessions) (streams) (objects)) (d) (sample) .ran)) is-12·no·10)) $
-        returns ! (look ! 74 refl) $ forget ! 12 refl $ forget ! 14 refl $ forget ! 16 refl $ forget ! 18 refl $ forget ! 20 refl $ forget ! 22 refl $ forget ! 24 refl $ forget ! 26 refl $ forget ! 30 refl $ forget ! 32 refl $ forget ! 34 refl $ forget ! 36 refl $ forget ! 38 refl $ forget ! 40 refl $ forget ! 42 refl $ forget ! 44 refl $ forget ! 46 refl $ forget ! 48 refl $ forget ! 50 refl $ forget ! 52 refl $ forget ! 54 refl $ forget ! 56 refl $ forget ! 58 refl $ forget ! 60 refl $ forget ! 62 refl $ forget ! 64 refl $ forget ! 66 refl $ forget ! 68 refl $ forget ! 70 refl $ forget ! 72 refl $ forget ! 74 refl $ move ! (74 ∷ 75 ∷ []) $ free1 ! $ move ! (72 ∷ 73 ∷ []) $ free1 ! $ move ! (70 ∷ 71 ∷ []) $ free1 ! $ move ! (68 ∷ 69 ∷ []) $ free1 ! $ move ! (66 ∷ 67 ∷ []) $ free1 ! $ move ! (64 ∷ 65 ∷ []) $ free1 ! $ move ! (62 ∷ 63 ∷ []) $ free1 ! $ move ! (60 ∷ 61 ∷ []) $ free1 ! $ move ! (58 ∷ 59 ∷ []) $ free1 ! $ move ! (56 ∷ 57 ∷ []) $ free1 ! $ move ! (54 ∷ 55 ∷ []) $ free1 ! $ move ! (52 ∷ 53 ∷ []) $ free1 ! $ move ! (50 ∷ 51 ∷ []) $ free1 ! $ move ! (48 ∷ 49 ∷ []) $ free1 ! $ move ! (46 ∷ 47 ∷ []) $ free1 ! $ move ! (44 ∷ 45 ∷ []) $ free1 ! $ move ! (42 ∷ 43 ∷ []) $ free1 ! $ move ! (40 ∷ 41 ∷ []) $ free1 ! $ move ! (38 ∷ 39 ∷ []) $ free1 ! $ move ! (36 ∷ 37 ∷ []) $ free1 ! $ move ! (34 ∷ 35 ∷ []) $ free1 ! $ move ! (32 ∷ 33 ∷ []) $ free1 ! $ move ! (30 ∷ 31 ∷ []) $ free1 ! $ move ! (28 ∷ 29 ∷ []) $ free1 ! $ move ! (26 ∷ 27 ∷ []) $ free1 ! $ move ! (24 ∷ 25 ∷ []) $ free1 ! $ move ! (22 ∷ 23 ∷ []) $ free1 ! $ move ! (20 ∷ 21 ∷ []) $ free1 ! $ move ! (18 ∷ 19 ∷ []) $ free1 ! $ move ! (16 ∷ 17 ∷ []) $ free1 ! $ move ! (14 ∷ 15 ∷ []) $ free1 ! $ move ! (12 ∷ 13 ∷ []) $ free1 ! $ free0 ! $ move ! (6 ∷ 7 ∷ 4 ∷ 5 ∷ 2 ∷ 3 ∷ 0 ∷ 1 ∷ 11 ∷ 9 ∷ 10 ∷ 8 ∷ []) $
-        by ! (exits (finishedOf agent start (performed start (lent (sessions) (streams) (objects)) (d) (sample) .ran)) (performed start (lent (sessions) (streams) (objects)) (d) (sample) .tables .sessions) (performed start (lent (sessions) (streams) (objects)) (d) (sample) .tables .streams) (performed start (lent (sessions) (streams) (objects)) (d) (sample) .tables .objects) (putReplies (out) 0 (performed start (lent (sessions) (streams) (objects)) (d) (sample) .replies)) ((ap (λ (l : Leaves). l .processed) (has-room c-12), ap (λ (l : Leaves). l .tables .sessions) (has-room c-12), ap (λ (l : Leaves). l .tables .streams) (has-room c-12), ap (λ (l : Leaves). l .tables .objects) (has-room c-12), finish-out agent tables-lent out d sample start (sym (within .1) ∙ c-12) ∙ ap (λ (l : Leaves). l .out) (has-room c-12))) is-12·no·10 len-12·no·9-sessions len-12·no·9-streams len-12·no·9-objects len-12·no·9-out))))))))))))))))))))))))))))))))
+        land ! (from ! (stop !)) (init ! 52 refl (u64-p .typed 𝓤 H A W (neededOf (roomy (length (out)) (start .resumes) n′ (length (sample))) (performed start (lent (sessions) (streams) (objects)) (d) (sample) .ran .wrote)) is-10)) $ move ! (6 ∷ 7 ∷ 4 ∷ 5 ∷ 2 ∷ 3 ∷ 0 ∷ 1 ∷ 11 ∷ 9 ∷ 10 ∷ 8 ∷ 12 ∷ 13 ∷ 14 ∷ 15 ∷ 16 ∷ 17 ∷ 18 ∷ 19 ∷ 20 ∷ 21 ∷ 22 ∷ 23 ∷ 24 ∷ 25 ∷ 26 ∷ 27 ∷ 28 ∷ 29 ∷ 30 ∷ 31 ∷ 32 ∷ 33 ∷ 34 ∷ 35 ∷ 36 ∷ 37 ∷ 38 ∷ 39 ∷ 40 ∷ 41 ∷ 42 ∷ 43 ∷ 44 ∷ 45 ∷ 46 ∷ 47 ∷ 48 ∷ 49 ∷ 50 ∷ 51 ∷ 52 ∷ 53 ∷ 54 ∷ 55 ∷ 56 ∷ 57 ∷ 58 ∷ 59 ∷ 60 ∷ 61 ∷ 62 ∷ 63 ∷ 64 ∷ 65 ∷ 66 ∷ 67 ∷ 68 ∷ 69 ∷ 70 ∷ 71 ∷ 72 ∷ 73 ∷ 74 ∷ 75 ∷ []) $
+        part-11-0 asks-10 len-10-sessions len-10-streams len-10-objects len-10-out is-10))))))))))))))
 
   module _ (𝓣 : Tables 𝓤 H) (known-process-needed : Triple 𝓤 (𝓣 .C #process-needed) (Of-process-needed 𝓤 H A mem run)) (known-process-refused : Triple 𝓤 (𝓣 .C #process-refused) (Of-process-refused 𝓤 H A mem run)) (known-perform-perform : Triple 𝓤 (𝓣 .C #perform-perform) (Of-perform-perform 𝓤 H A mem run)) (known-process-finished : Triple 𝓤 (𝓣 .C #process-finished) (Of-process-finished 𝓤 H A mem run)) where
     walk : ent 𝓤 (onEntry 𝓤 H A f.signature (κ₁, (κ₂, (κ₃, (κ₄, (κ₅, (κ₆, tt)))))) (q₁, (q₂, (q₃, (q₄, (q₅, (q₆, tt)))))) x at) (WpFn 𝓤 H (𝓣 .C) (𝓣 .Λ) code.function (sliceVal (b₁, o₁) n₁ ∷ sliceVal (b₂, o₂) n₂ ∷ sliceVal (b₃, o₃) n₃ ∷ sliceVal (b₄, o₄) n₄ ∷ sliceVal (b₅, o₅) n₅ ∷ sliceVal (b₆, o₆) n₆ ∷ Agent-p .val agent ∷ Start-p .val start ∷ u64-p .val n′ ∷ []) Post)

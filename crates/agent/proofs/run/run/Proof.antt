@@ -58,8 +58,8 @@ use Rattle.codec.specs.Bytes.{putBytes}
 use Rattle.sessions.specs.Table.{namedOf}
 use Rattle.sessions.specs.Opening.{createdOf, openedRows, openedStreams}
 use Rattle.agent.specs.Moves.{moveBytes}
-use Rattle.agent.specs.Rows.{groupOf, handledMove, handledTables}
-use Rattle.agent.specs.Run.{settled, stopOf, openingOf, greetingBytes, greeted, passed, delivered, subTurned, isRead, messageRead, bodyRead, endRead, turned}
+use Rattle.agent.specs.Rows.{groupOf, noObject, noCreate, createIn, numberIn, handledMove, handledTables}
+use Rattle.agent.specs.Run.{settled, stopOf, greetingBytes, greeted, passed, isLive, delivered, openingRead, messageRead, bodyRead, endRead, turned}
 use Rattle.agent.proofs.Running.{Left, left-start, left-again, left-less, left-small, left-end}
 use Rattle.sessions.specs.declared.objects.Object.{Object}
 use Rattle.sessions.proofs.objects.Object as Object-t
@@ -231,18 +231,9 @@ module _ {M : Type 1} (𝓤 : URA M) (H : Heap 𝓤) (A : Atoms 𝓤) (W : Given
       again-3 : (t : ℕ) → (v : Ran) → (ss : List (List ℕ)) → (xs : List (List ℕ)) → (os : List Object) → (w : List ℕ) → (v-is : Is (Ran-p .row) v (Ran-p .val v ∷ [])) → (ss-len : length ss ≡ n₁) → (xs-len : length xs ≡ n₂) → (os-len : length os ≡ n₃) → (w-len : length w ≡ n₄) → (Left f′ d start (lent sessions streams objects) out v (lent ss xs os) w) → ((length d - v .at) < t) → ent 𝓤 (⋆ 𝓤 H A (At-3 v ss xs os w)) (Below-3 t)
       again-3 t v ss xs os w v-is ss-len xs-len os-len w-len inv less = via 𝓤 (Inv-3 (length d - v .at)) (inv-at-3 (length d - v .at) v ss xs os w (refl, v-is, ss-len, xs-len, os-len, w-len, inv)) (via 𝓤 (guard 𝓤 ((length d - v .at) < t) (Inv-3 (length d - v .at))) (guardI 𝓤 ((length d - v .at) < t) (Inv-3 (length d - v .at)) less) (exI 𝓤 (λ (u : ℕ). guard 𝓤 (u < t) (Inv-3 u)) (length d - v .at)))
 
-      turn-3 : (v : Ran) → (ss : List (List ℕ)) → (xs : List (List ℕ)) → (os : List Object) → (w : List ℕ) → (t-3 : ℕ) → (v-is : Is (Ran-p .row) v (Ran-p .val v ∷ [])) → (ss-len : length ss ≡ n₁) → (xs-len : length xs ≡ n₂) → (os-len : length os ≡ n₃) → (w-len : length w ≡ n₄) → (t-is-3 : t-3 ≡ length d - v .at) → (inv-3 : Left f′ d start (lent sessions streams objects) out v (lent ss xs os) w) → ent 𝓤 (⋆ 𝓤 H A (At-3 v ss xs os w)) (Wp 𝓤 H C Λ En mir.turn-1 (afterTurn 𝓤 H (Below-3 t-3) Left-3))
+      part-3·2-8 : (v : Ran) → (ss : List (List ℕ)) → (xs : List (List ℕ)) → (os : List Object) → (w : List ℕ) → (t-3 : ℕ) → (v-is : Is (Ran-p .row) v (Ran-p .val v ∷ [])) → (ss-len : length ss ≡ n₁) → (xs-len : length xs ≡ n₂) → (os-len : length os ≡ n₃) → (w-len : length w ≡ n₄) → (t-is-3 : t-3 ≡ length d - v .at) → (inv-3 : Left f′ d start (lent sessions streams objects) out v (lent ss xs os) w) → (is-3·1 : Is (bool-p .row) (goesOn n₅ v) (bool-p .val (goesOn n₅ v) ∷ [])) → Sq W (‵ (MutSlice (named 0) κ₁ (Array u64 5) .own (at-list b₁ o₁ γ₁ ss) (sliceVal (b₁, o₁) n₁ ∷ [])) ∷ ‵ (flft κ₁ q₁) ∷ ‵ (MutSlice (named 0) κ₂ (Array u16 35) .own (at-list b₂ o₂ γ₂ xs) (sliceVal (b₂, o₂) n₂ ∷ [])) ∷ ‵ (flft κ₂ q₂) ∷ ‵ (MutSlice (named 0) κ₃ Object-t.the-row .own (at-list b₃ o₃ γ₃ os) (sliceVal (b₃, o₃) n₃ ∷ [])) ∷ ‵ (flft κ₃ q₃) ∷ ‵ (MutSlice (named 0) κ₄ u8 .own (at-list b₄ o₄ γ₄ w) (sliceVal (b₄, o₄) n₄ ∷ [])) ∷ ‵ (flft κ₄ q₄) ∷ ‵ (ShrSlice (named 0) κ₅ u8 .own (at-list b₅ o₅ γ₅ d) (sliceVal (b₅, o₅) n₅ ∷ [])) ∷ ‵ (flft κ₅ q₅) ∷ free 𝓤 (sliceTy (tyRef erased mut (pointee (u8 .written)))) l₁₈ (free 𝓤 (tyRef erased mut (pointee (u8 .written))) l₁₇ (free 𝓤 (sliceTy (tyRef erased mut (pointee (Object-t.the-row .written)))) l₁₆ (free 𝓤 (tyRef erased mut (pointee (Object-t.the-row .written))) l₁₅ (free 𝓤 (sliceTy (tyRef erased mut (pointee ((Array u16 35) .written)))) l₁₄ (free 𝓤 (tyRef erased mut (pointee ((Array u16 35) .written))) l₁₃ (free 𝓤 (sliceTy (tyRef erased mut (pointee ((Array u64 5) .written)))) l₁₂ (free 𝓤 (tyRef erased mut (pointee ((Array u64 5) .written))) l₁₁ (full 𝓤 tyBool l₁₀ (bool-p .val (goesOn n₅ v)) (full 𝓤 Ran-l.mir l₉ (Ran-p .val v) (full 𝓤 (tyInt w64) l₈ (u64-p .val n₅) (full 𝓤 Ran-l.mir l₇ (Ran-p .val start) (full 𝓤 Frame-l.mir l₆ (Frame-p .val f′) (full 𝓤 (sliceTy (tyRef (named 4) imm (pointee (u8 .written)))) l₅ (sliceVal (b₅, o₅) n₅) (full 𝓤 (sliceTy (tyRef (named 3) mut (pointee (u8 .written)))) l₄ (sliceVal (b₄, o₄) n₄) (full 𝓤 (sliceTy (tyRef (named 2) mut (pointee (Object-t.the-row .written)))) l₃ (sliceVal (b₃, o₃) n₃) (full 𝓤 (sliceTy (tyRef (named 1) mut (pointee ((Array u16 35) .written)))) l₂ (sliceVal (b₂, o₂) n₂) (full 𝓤 (sliceTy (tyRef (named 0) mut (pointee ((Array u64 5) .written)))) l₁ (sliceVal (b₁, o₁) n₁) (free 𝓤 Ran-l.mir l₀ ([])))))))))))))))))))) (runs C Λ En (past 1 mir.turn-1) (anyQ (afterTurn 𝓤 H (Below-3 t-3) Left-3)))
       unfolding afterTurn
-      turn-3 v ss xs os w t-3 v-is ss-len xs-len os-len w-len t-is-3 inv-3 =
-          qed W (At-3 v ss xs os w) ∵ exec ! C Λ En mir.turn-1 (anyQ (afterTurn 𝓤 H (Below-3 t-3) Left-3)) $
-          -- 3.1: agent::run::goes_on
-          nothing ! $
-          use1 W (raw (toks 𝓤 A 0 (tt) (tt))) (id⊢ 𝓤 _) $ nothing ! $
-          owned ! (Ran-p .row) (Is (Ran-p .row)) (Ran-p .makes 𝓤 H A W) v (Ran-p .val v ∷ []) v-is $ fjoin ! $
-          owned ! (u64-p .row) (Is (u64-p .row)) (u64-p .makes 𝓤 H A W) n₅ (u64-p .val n₅ ∷ []) ((refl, room₅ .0)) $ fjoin ! $ move ! (1 ∷ 0 ∷ []) $
-          calls-any ! fm 0 [] (run-goes-on.signature .params) (run-goes-on.ended .kept) bool-p (run-goes-on.clauses 𝓤 H A mem run) known-run-goes-on tt tt tt (n₅, (v, tt)) (u64-p .val n₅ ∷ [], (Ran-p .val v ∷ [], tt)) tt (goesOn n₅ v) (λ ws-3·1. Unit {0}) (id⊢ 𝓤 _) (λ r ws-3·1. fact-mono 𝓤 (r ≡ goesOn n₅ v) ((r ≡ (goesOn n₅ v)) × (Unit {0})) (λ e. (e, tt))) (λ _. (and-then ! (load ! (from ! (stop !)) (look ! 31 refl)) (and-then ! (load ! (from ! (stop !)) (look ! 29 refl)) (no-more !)))) (λ ws-3·1 said-3·1 is-3·1.
-          drop ! $ drop ! $
-          land ! (from ! (stop !)) (init ! 26 refl (bool-p .typed 𝓤 H A W (goesOn n₅ v) is-3·1)) $
+      part-3·2-8 v ss xs os w t-3 v-is ss-len xs-len os-len w-len t-is-3 inv-3 is-3·1 =
           first ! $
           branches ! (load ! (from ! (stop !)) (look ! 26 refl))
           (λ h-3·2.
@@ -297,7 +288,21 @@ module _ {M : Type 1} (𝓤 : URA M) (H : Heap 𝓤) (A : Atoms 𝓤) (W : Given
           exec ! C Λ En mir.t-4 (atRet En Post) $
           assigns ! (of-opd ! (load ! (from ! (stop !)) (look ! 28 refl))) (from ! (stop !)) (init ! 46 refl (Ran-p .typed 𝓤 H A W v v-is)) $
           returns ! (look ! 46 refl) $ forget ! 26 refl $ forget ! 28 refl $ forget ! 30 refl $ forget ! 32 refl $ forget ! 34 refl $ forget ! 36 refl $ forget ! 38 refl $ forget ! 40 refl $ forget ! 42 refl $ forget ! 44 refl $ forget ! 46 refl $ move ! (46 ∷ 47 ∷ []) $ free1 ! $ move ! (44 ∷ 45 ∷ []) $ free1 ! $ move ! (42 ∷ 43 ∷ []) $ free1 ! $ move ! (40 ∷ 41 ∷ []) $ free1 ! $ move ! (38 ∷ 39 ∷ []) $ free1 ! $ move ! (36 ∷ 37 ∷ []) $ free1 ! $ move ! (34 ∷ 35 ∷ []) $ free1 ! $ move ! (32 ∷ 33 ∷ []) $ free1 ! $ move ! (30 ∷ 31 ∷ []) $ free1 ! $ move ! (28 ∷ 29 ∷ []) $ free1 ! $ move ! (26 ∷ 27 ∷ []) $ free1 ! $ move ! (24 ∷ 25 ∷ []) $ free1 ! $ move ! (22 ∷ 23 ∷ []) $ free1 ! $ move ! (20 ∷ 21 ∷ []) $ free1 ! $ move ! (18 ∷ 19 ∷ []) $ free1 ! $ move ! (16 ∷ 17 ∷ []) $ free1 ! $ move ! (14 ∷ 15 ∷ []) $ free1 ! $ move ! (12 ∷ 13 ∷ []) $ free1 ! $ move ! (10 ∷ 11 ∷ []) $ free1 ! $ free0 ! $
-          by ! (exits v ss xs os w (left-end f′ d start (lent sessions streams objects) out v (lent ss xs os) w inv-3 c-3·2) v-is ss-len xs-len os-len w-len))))
+          by ! (exits v ss xs os w (left-end f′ d start (lent sessions streams objects) out v (lent ss xs os) w inv-3 c-3·2) v-is ss-len xs-len os-len w-len)))
+
+      turn-3 : (v : Ran) → (ss : List (List ℕ)) → (xs : List (List ℕ)) → (os : List Object) → (w : List ℕ) → (t-3 : ℕ) → (v-is : Is (Ran-p .row) v (Ran-p .val v ∷ [])) → (ss-len : length ss ≡ n₁) → (xs-len : length xs ≡ n₂) → (os-len : length os ≡ n₃) → (w-len : length w ≡ n₄) → (t-is-3 : t-3 ≡ length d - v .at) → (inv-3 : Left f′ d start (lent sessions streams objects) out v (lent ss xs os) w) → ent 𝓤 (⋆ 𝓤 H A (At-3 v ss xs os w)) (Wp 𝓤 H C Λ En mir.turn-1 (afterTurn 𝓤 H (Below-3 t-3) Left-3))
+      unfolding afterTurn
+      turn-3 v ss xs os w t-3 v-is ss-len xs-len os-len w-len t-is-3 inv-3 =
+          qed W (At-3 v ss xs os w) ∵ exec ! C Λ En mir.turn-1 (anyQ (afterTurn 𝓤 H (Below-3 t-3) Left-3)) $
+          -- 3.1: agent::run::goes_on
+          nothing ! $
+          use1 W (raw (toks 𝓤 A 0 (tt) (tt))) (id⊢ 𝓤 _) $ nothing ! $
+          owned ! (Ran-p .row) (Is (Ran-p .row)) (Ran-p .makes 𝓤 H A W) v (Ran-p .val v ∷ []) v-is $ fjoin ! $
+          owned ! (u64-p .row) (Is (u64-p .row)) (u64-p .makes 𝓤 H A W) n₅ (u64-p .val n₅ ∷ []) ((refl, room₅ .0)) $ fjoin ! $ move ! (1 ∷ 0 ∷ []) $
+          calls-any ! fm 0 [] (run-goes-on.signature .params) (run-goes-on.ended .kept) bool-p (run-goes-on.clauses 𝓤 H A mem run) known-run-goes-on tt tt tt (n₅, (v, tt)) (u64-p .val n₅ ∷ [], (Ran-p .val v ∷ [], tt)) tt (goesOn n₅ v) (λ ws-3·1. Unit {0}) (id⊢ 𝓤 _) (λ r ws-3·1. fact-mono 𝓤 (r ≡ goesOn n₅ v) ((r ≡ (goesOn n₅ v)) × (Unit {0})) (λ e. (e, tt))) (λ _. (and-then ! (load ! (from ! (stop !)) (look ! 31 refl)) (and-then ! (load ! (from ! (stop !)) (look ! 29 refl)) (no-more !)))) (λ ws-3·1 said-3·1 is-3·1.
+          drop ! $ drop ! $
+          land ! (from ! (stop !)) (init ! 26 refl (bool-p .typed 𝓤 H A W (goesOn n₅ v) is-3·1)) $
+          part-3·2-8 v ss xs os w t-3 v-is ss-len xs-len os-len w-len t-is-3 inv-3 is-3·1)
 
       turns-3 : (t : ℕ) → ent 𝓤 (Inv-3 t) (Wp 𝓤 H C Λ En mir.turn-1 (afterTurn 𝓤 H (Below-3 t) Left-3))
       turns-3 t = exE 𝓤 (λ (v : Ran). ex 𝓤 (λ (ss : List (List ℕ)). ex 𝓤 (λ (xs : List (List ℕ)). ex 𝓤 (λ (os : List Object). ex 𝓤 (λ (w : List ℕ). guard 𝓤 (Facts-3 t v ss xs os w) (⋆ 𝓤 H A (At-3 v ss xs os w))))))) (λ v. exE 𝓤 (λ (ss : List (List ℕ)). ex 𝓤 (λ (xs : List (List ℕ)). ex 𝓤 (λ (os : List Object). ex 𝓤 (λ (w : List ℕ). guard 𝓤 (Facts-3 t v ss xs os w) (⋆ 𝓤 H A (At-3 v ss xs os w)))))) (λ ss. exE 𝓤 (λ (xs : List (List ℕ)). ex 𝓤 (λ (os : List Object). ex 𝓤 (λ (w : List ℕ). guard 𝓤 (Facts-3 t v ss xs os w) (⋆ 𝓤 H A (At-3 v ss xs os w))))) (λ xs. exE 𝓤 (λ (os : List Object). ex 𝓤 (λ (w : List ℕ). guard 𝓤 (Facts-3 t v ss xs os w) (⋆ 𝓤 H A (At-3 v ss xs os w)))) (λ os. exE 𝓤 (λ (w : List ℕ). guard 𝓤 (Facts-3 t v ss xs os w) (⋆ 𝓤 H A (At-3 v ss xs os w))) (λ w. guardE 𝓤 (Facts-3 t v ss xs os w) (⋆ 𝓤 H A (At-3 v ss xs os w)) (λ fs. turn-3 v ss xs os w t (fs .1) (fs .2) (fs .3) (fs .4) (fs .5) (fs .0) (fs .6)))))))

@@ -56,10 +56,13 @@ use Rattle.codec.specs.Bytes.{putBytes}
 use Rattle.sessions.specs.Table.{namedOf}
 use Rattle.sessions.specs.Opening.{createdOf, openedRows, openedStreams}
 use Rattle.agent.specs.Moves.{moveBytes}
-use Rattle.agent.specs.Rows.{lent, groupOf, handledMove, handledTables}
-use Rattle.agent.specs.Run.{putReplies, settled, stopOf, openingOf, greetingBytes, greeted, passed, delivered, subTurned, isRead, messageRead, bodyRead, endRead, turned}
+use Rattle.agent.specs.Rows.{lent, groupOf, noObject, noCreate, createIn, numberIn, handledMove, handledTables}
+use Rattle.agent.specs.Run.{putReplies, settled, stopOf, greetingBytes, greeted, passed, isLive, delivered, openingRead, messageRead, bodyRead, endRead, turned}
 use Rattle.sessions.specs.Table.{newSession, endedSession, touchedSession, expiredOf, elapsedOf, sessionAt, keepSession, gotOf, reachedOf, keptRows, touchedRows, endedRows}
-use Rattle.agent.specs.Run.{Turned}
+use types.Kit.{frees, prop}
+use mathlib.Core.Bool.{cond}
+use Rattle.sessions.specs.View.{Tables as Stores}
+use Rattle.agent.specs.Run.{Turned, touchedTables, acted}
 use Rattle.agent.proofs.Written.{as-left, handled-written, no-replies}
 use Rattle.sessions.specs.declared.objects.Object.{Object}
 use Rattle.sessions.proofs.objects.Object as Object-t
@@ -146,6 +149,10 @@ use Rattle.sessions.proofs.table.touch as table-touch
 use Rattle.sessions.proofs.table.touch.Symbol as table-touch-def
 use Rattle.sessions.proofs.table.touch.Symbol.{name as #table-touch}
 use Rattle.sessions.proofs.table.touch.Met as table-touch-thm
+use Rattle.agent.proofs.turn.is_live as turn-is-live
+use Rattle.agent.proofs.turn.is_live.Symbol as turn-is-live-def
+use Rattle.agent.proofs.turn.is_live.Symbol.{name as #turn-is-live}
+use Rattle.agent.proofs.turn.is_live.Met as turn-is-live-thm
 use Rattle.agent.proofs.turn.handle as turn-handle
 use Rattle.agent.proofs.turn.handle.Symbol as turn-handle-def
 use Rattle.agent.proofs.turn.handle.Symbol.{name as #turn-handle}
@@ -288,6 +295,9 @@ module _ {M : Type 1} (𝓤 : URA M) (H : Heap 𝓤) (A : Atoms 𝓤) (mem : Mem
   abbrev Of-table-touch : Contract 𝓤
   Of-table-touch = tripleOf 𝓤 H A table-touch.signature (table-touch.spec 𝓤 H A mem run)
 
+  abbrev Of-turn-is-live : Contract 𝓤
+  Of-turn-is-live = tripleOf 𝓤 H A turn-is-live.signature (turn-is-live.spec 𝓤 H A mem run)
+
   abbrev Of-turn-handle : Contract 𝓤
   Of-turn-handle = tripleOf 𝓤 H A turn-handle.signature (turn-handle.spec 𝓤 H A mem run)
 
@@ -323,8 +333,17 @@ module _ {M : Type 1} (𝓤 : URA M) (H : Heap 𝓤) (A : Atoms 𝓤) (W : Given
   abbrev Post : Val → SProp 𝓤
   Post = walkOf 𝓤 H A f.ended stayed (f.clauses 𝓤 H A mem run) .post (((κ₁, (κ₂, (κ₃, (κ₄, (κ₅, tt))))), (q₁, (q₂, (q₃, (q₄, (q₅, tt))))), tt, x, at), tt)
 
-  abbrev left : Named → Turned
-  left x = delivered x f′ (lent sessions streams objects) d r′ m body at′
+  abbrev touched : Stores
+  touched = touchedTables f′ (lent sessions streams objects)
+
+  abbrev left : Bool → Turned
+  left b =
+      cond b
+      (acted f′ r′ at′ (handledMove m touched d (f′ .«session_id») (f′ .«stream_id») body) (handledTables m touched (f′ .«session_id») (f′ .«stream_id»)))
+      (record { ran = passed r′ at′; tables = touched; replies = [] })
+
+  abbrev live : Bool
+  live = isLive (namedOf sessions (f′ .«session_id»))
 
   exits : (r : Ran) (ws₁ : List (List ℕ)) (ws₂ : List (List ℕ)) (ws₃ : List Object) (ws₄ : List ℕ) → ((r ≡ delivered (namedOf (sessions) (f′ .«session_id»)) f′ (lent (sessions) (streams) (objects)) (d) r′ m body at′ .ran) × (ws₁ ≡ delivered (namedOf (sessions) (f′ .«session_id»)) f′ (lent (sessions) (streams) (objects)) (d) r′ m body at′ .tables .sessions) × (ws₂ ≡ delivered (namedOf (sessions) (f′ .«session_id»)) f′ (lent (sessions) (streams) (objects)) (d) r′ m body at′ .tables .streams) × (ws₃ ≡ delivered (namedOf (sessions) (f′ .«session_id»)) f′ (lent (sessions) (streams) (objects)) (d) r′ m body at′ .tables .objects) × (ws₄ ≡ putReplies (out) (r′ .wrote) (delivered (namedOf (sessions) (f′ .«session_id»)) f′ (lent (sessions) (streams) (objects)) (d) r′ m body at′ .replies))) → Is (Ran-p .row) r (Ran-p .val r ∷ []) → length ws₁ ≡ n₁ → length ws₂ ≡ n₂ → length ws₃ ≡ n₃ → length ws₄ ≡ n₄ → ent 𝓤 (⋆ 𝓤 H A (‵ (MutSlice (named 0) κ₁ (Array u64 5) .own (at-list b₁ o₁ γ₁ ws₁) (sliceVal (b₁, o₁) n₁ ∷ [])) ∷ ‵ (flft κ₁ q₁) ∷ ‵ (MutSlice (named 1) κ₂ (Array u16 35) .own (at-list b₂ o₂ γ₂ ws₂) (sliceVal (b₂, o₂) n₂ ∷ [])) ∷ ‵ (flft κ₂ q₂) ∷ ‵ (MutSlice (named 2) κ₃ Object-t.the-row .own (at-list b₃ o₃ γ₃ ws₃) (sliceVal (b₃, o₃) n₃ ∷ [])) ∷ ‵ (flft κ₃ q₃) ∷ ‵ (MutSlice (named 3) κ₄ u8 .own (at-list b₄ o₄ γ₄ ws₄) (sliceVal (b₄, o₄) n₄ ∷ [])) ∷ ‵ (flft κ₄ q₄) ∷ ‵ (ShrSlice (named 4) κ₅ u8 .own (at-list b₅ o₅ γ₅ d) (sliceVal (b₅, o₅) n₅ ∷ [])) ∷ ‵ (flft κ₅ q₅) ∷ [])) (Post (Ran-p .val r))
   exits r ws₁ ws₂ ws₃ ws₄ said r-is len₁ len₂ len₃ len₄ =
@@ -339,7 +358,7 @@ module _ {M : Type 1} (𝓤 : URA M) (H : Heap 𝓤) (A : Atoms 𝓤) (W : Given
       frame ! $
       owned ! (Ran-p .row) (Is (Ran-p .row)) (Ran-p .makes 𝓤 H A W) r _ r-is $ done !
 
-  module _ (𝓣 : Tables 𝓤 H) (known-table-touch : Triple 𝓤 (𝓣 .C #table-touch) (Of-table-touch 𝓤 H A mem run)) (known-turn-handle : Triple 𝓤 (𝓣 .C #turn-handle) (Of-turn-handle 𝓤 H A mem run)) (known-turn-settle : Triple 𝓤 (𝓣 .C #turn-settle) (Of-turn-settle 𝓤 H A mem run)) (known-turn-passed : Triple 𝓤 (𝓣 .C #turn-passed) (Of-turn-passed 𝓤 H A mem run)) (l₀ l₁ l₂ l₃ l₄ l₅ l₆ l₇ l₈ l₉ l₁₀ l₁₁ l₁₂ l₁₃ l₁₄ l₁₅ l₁₆ l₁₇ l₁₈ l₁₉ l₂₀ l₂₁ l₂₂ l₂₃ l₂₄ l₂₅ : ℕ) where
+  module _ (𝓣 : Tables 𝓤 H) (known-table-touch : Triple 𝓤 (𝓣 .C #table-touch) (Of-table-touch 𝓤 H A mem run)) (known-turn-is-live : Triple 𝓤 (𝓣 .C #turn-is-live) (Of-turn-is-live 𝓤 H A mem run)) (known-turn-handle : Triple 𝓤 (𝓣 .C #turn-handle) (Of-turn-handle 𝓤 H A mem run)) (known-turn-settle : Triple 𝓤 (𝓣 .C #turn-settle) (Of-turn-settle 𝓤 H A mem run)) (known-turn-passed : Triple 𝓤 (𝓣 .C #turn-passed) (Of-turn-passed 𝓤 H A mem run)) (l₀ l₁ l₂ l₃ l₄ l₅ l₆ l₇ l₈ l₉ l₁₀ l₁₁ l₁₂ l₁₃ l₁₄ l₁₅ l₁₆ l₁₇ l₁₈ l₁₉ l₂₀ l₂₁ l₂₂ l₂₃ l₂₄ l₂₅ l₂₆ : ℕ) where
     abbrev C : Calls 𝓤 H
     C = 𝓣 .C
 
@@ -350,144 +369,147 @@ module _ {M : Type 1} (𝓤 : URA M) (H : Heap 𝓤) (A : Atoms 𝓤) (W : Given
     fm = fmOf 𝓤 H (W .laws) 𝓣
 
     abbrev En : Env 𝓤 H
-    En = (Ran-l.mir, l₀) ∷ ((sliceTy (tyRef (named 0) mut (pointee ((Array u64 5) .written)))), l₁) ∷ ((sliceTy (tyRef (named 1) mut (pointee ((Array u16 35) .written)))), l₂) ∷ ((sliceTy (tyRef (named 2) mut (pointee (Object-t.the-row .written)))), l₃) ∷ ((sliceTy (tyRef (named 3) mut (pointee (u8 .written)))), l₄) ∷ ((sliceTy (tyRef (named 4) imm (pointee (u8 .written)))), l₅) ∷ (Frame-l.mir, l₆) ∷ (Ran-l.mir, l₇) ∷ (Submessage-l.mir, l₈) ∷ (Span-l.mir, l₉) ∷ ((tyInt w64), l₁₀) ∷ ((tyInt w8), l₁₁) ∷ ((tyInt w8), l₁₂) ∷ (Named-l.mir, l₁₃) ∷ (Move-l.mir, l₁₄) ∷ ((tyRef erased mut (pointee ((Array u64 5) .written))), l₁₅) ∷ ((sliceTy (tyRef erased mut (pointee ((Array u64 5) .written)))), l₁₆) ∷ (Ran-l.mir, l₁₇) ∷ ((tyRef erased mut (pointee ((Array u64 5) .written))), l₁₈) ∷ ((sliceTy (tyRef erased mut (pointee ((Array u64 5) .written)))), l₁₉) ∷ ((tyRef erased mut (pointee ((Array u16 35) .written))), l₂₀) ∷ ((sliceTy (tyRef erased mut (pointee ((Array u16 35) .written)))), l₂₁) ∷ ((tyRef erased mut (pointee (Object-t.the-row .written))), l₂₂) ∷ ((sliceTy (tyRef erased mut (pointee (Object-t.the-row .written)))), l₂₃) ∷ ((tyRef erased mut (pointee (u8 .written))), l₂₄) ∷ ((sliceTy (tyRef erased mut (pointee (u8 .written)))), l₂₅) ∷ []
+    En = (Ran-l.mir, l₀) ∷ ((sliceTy (tyRef (named 0) mut (pointee ((Array u64 5) .written)))), l₁) ∷ ((sliceTy (tyRef (named 1) mut (pointee ((Array u16 35) .written)))), l₂) ∷ ((sliceTy (tyRef (named 2) mut (pointee (Object-t.the-row .written)))), l₃) ∷ ((sliceTy (tyRef (named 3) mut (pointee (u8 .written)))), l₄) ∷ ((sliceTy (tyRef (named 4) imm (pointee (u8 .written)))), l₅) ∷ (Frame-l.mir, l₆) ∷ (Ran-l.mir, l₇) ∷ (Submessage-l.mir, l₈) ∷ (Span-l.mir, l₉) ∷ ((tyInt w64), l₁₀) ∷ ((tyInt w8), l₁₁) ∷ ((tyInt w8), l₁₂) ∷ (Named-l.mir, l₁₃) ∷ (Move-l.mir, l₁₄) ∷ ((tyRef erased mut (pointee ((Array u64 5) .written))), l₁₅) ∷ ((sliceTy (tyRef erased mut (pointee ((Array u64 5) .written)))), l₁₆) ∷ (tyBool, l₁₇) ∷ (Ran-l.mir, l₁₈) ∷ ((tyRef erased mut (pointee ((Array u64 5) .written))), l₁₉) ∷ ((sliceTy (tyRef erased mut (pointee ((Array u64 5) .written)))), l₂₀) ∷ ((tyRef erased mut (pointee ((Array u16 35) .written))), l₂₁) ∷ ((sliceTy (tyRef erased mut (pointee ((Array u16 35) .written)))), l₂₂) ∷ ((tyRef erased mut (pointee (Object-t.the-row .written))), l₂₃) ∷ ((sliceTy (tyRef erased mut (pointee (Object-t.the-row .written)))), l₂₄) ∷ ((tyRef erased mut (pointee (u8 .written))), l₂₅) ∷ ((sliceTy (tyRef erased mut (pointee (u8 .written)))), l₂₆) ∷ []
 
-    matched-6-Live-0 : (len-5-sessions : length (touchedRows (sessions) (f′ .«session_id») (f′ .time)) ≡ n₁) → (is-5 : Is (Named-p .row) (namedOf (sessions) (f′ .«session_id»)) (Named-p .val (namedOf (sessions) (f′ .«session_id»)) ∷ [])) → (e-6 : namedOf (sessions) (f′ .«session_id») ≡ Named-Live) → (good-6 : Is (Named-p .row) Named-Live (Named-p .val Named-Live ∷ [])) → Sq W (‵ (MutSlice (named 0) κ₁ (Array u64 5) .own (at-list b₁ o₁ γ₁ (touchedRows (sessions) (f′ .«session_id») (f′ .time))) (sliceVal (b₁, o₁) n₁ ∷ [])) ∷ ‵ (flft κ₁ q₁) ∷ ‵ (MutSlice (named 0) κ₂ (Array u16 35) .own (at-list b₂ o₂ γ₂ streams) (sliceVal (b₂, o₂) n₂ ∷ [])) ∷ ‵ (flft κ₂ q₂) ∷ ‵ (MutSlice (named 0) κ₃ Object-t.the-row .own (at-list b₃ o₃ γ₃ objects) (sliceVal (b₃, o₃) n₃ ∷ [])) ∷ ‵ (flft κ₃ q₃) ∷ ‵ (MutSlice (named 0) κ₄ u8 .own (at-list b₄ o₄ γ₄ out) (sliceVal (b₄, o₄) n₄ ∷ [])) ∷ ‵ (flft κ₄ q₄) ∷ ‵ (ShrSlice (named 0) κ₅ u8 .own (at-list b₅ o₅ γ₅ d) (sliceVal (b₅, o₅) n₅ ∷ [])) ∷ ‵ (flft κ₅ q₅) ∷ free 𝓤 (sliceTy (tyRef erased mut (pointee (u8 .written)))) l₂₅ (free 𝓤 (tyRef erased mut (pointee (u8 .written))) l₂₄ (free 𝓤 (sliceTy (tyRef erased mut (pointee (Object-t.the-row .written)))) l₂₃ (free 𝓤 (tyRef erased mut (pointee (Object-t.the-row .written))) l₂₂ (free 𝓤 (sliceTy (tyRef erased mut (pointee ((Array u16 35) .written)))) l₂₁ (free 𝓤 (tyRef erased mut (pointee ((Array u16 35) .written))) l₂₀ (free 𝓤 (sliceTy (tyRef erased mut (pointee ((Array u64 5) .written)))) l₁₉ (free 𝓤 (tyRef erased mut (pointee ((Array u64 5) .written))) l₁₈ (free 𝓤 Ran-l.mir l₁₇ (full 𝓤 (sliceTy (tyRef erased mut (pointee ((Array u64 5) .written)))) l₁₆ (sliceVal (b₁, o₁) n₁) (full 𝓤 (tyRef erased mut (pointee ((Array u64 5) .written))) l₁₅ (vptr b₁ o₁) (free 𝓤 Move-l.mir l₁₄ (full 𝓤 Named-l.mir l₁₃ (Named-p .val Named-Live) (full 𝓤 (tyInt w8) l₁₂ (u8-p .val (f′ .«stream_id»)) (full 𝓤 (tyInt w8) l₁₁ (u8-p .val (f′ .«session_id»)) (full 𝓤 (tyInt w64) l₁₀ (u64-p .val at′) (full 𝓤 Span-l.mir l₉ (Span-p .val body) (full 𝓤 Submessage-l.mir l₈ (Submessage-p .val m) (full 𝓤 Ran-l.mir l₇ (Ran-p .val r′) (full 𝓤 Frame-l.mir l₆ (Frame-p .val f′) (full 𝓤 (sliceTy (tyRef (named 4) imm (pointee (u8 .written)))) l₅ (sliceVal (b₅, o₅) n₅) (full 𝓤 (sliceTy (tyRef (named 3) mut (pointee (u8 .written)))) l₄ (sliceVal (b₄, o₄) n₄) (full 𝓤 (sliceTy (tyRef (named 2) mut (pointee (Object-t.the-row .written)))) l₃ (sliceVal (b₃, o₃) n₃) (full 𝓤 (sliceTy (tyRef (named 1) mut (pointee ((Array u16 35) .written)))) l₂ (sliceVal (b₂, o₂) n₂) (full 𝓤 (sliceTy (tyRef (named 0) mut (pointee ((Array u64 5) .written)))) l₁ (sliceVal (b₁, o₁) n₁) (free 𝓤 Ran-l.mir l₀ ([]))))))))))))))))))))))))))) (runs C Λ En (one mir.t-6) (anyQ (afterSeq 𝓤 H (Wp 𝓤 H C Λ En mir.t-7 (atReturn 𝓤 H En Post)) (atReturn 𝓤 H En Post))))
-    matched-6-Live-0 len-5-sessions is-5 e-6 good-6 =
-        switches-on ! (load ! (from ! (vrt ! refl (fld ! refl (stop !)))) (look-tag ! 34 (whole !))) $ exec ! C Λ En (arm-of 0 (one mir.t-6)) (anyQ (afterSeq 𝓤 H (Wp 𝓤 H C Λ En mir.t-7 (atReturn 𝓤 H En Post)) (atReturn 𝓤 H En Post))) $
-        assigns ! (addr ! (from ! (fld ! refl (hop ! (look-in ! 58 (sub ! 0 refl (whole !))) (stop !))))) (from ! (stop !)) (init ! 24 refl (tt, tt)) $
-        assigns ! (agg ! (and-then ! (load ! (from ! (stop !)) (look ! 24 refl)) (and-then ! (load ! (from ! (fld ! refl (stop !))) (look-in ! 58 (sub ! 1 refl (whole !)))) (no-more !)))) (from ! (stop !)) (init ! 22 refl (tt, (tt, (record { fits = room₁ .0 }, tt)))) $
-        assigns ! (addr ! (from ! (fld ! refl (hop ! (look-in ! 56 (sub ! 0 refl (whole !))) (stop !))))) (from ! (stop !)) (init ! 20 refl (tt, tt)) $
-        assigns ! (agg ! (and-then ! (load ! (from ! (stop !)) (look ! 20 refl)) (and-then ! (load ! (from ! (fld ! refl (stop !))) (look-in ! 56 (sub ! 1 refl (whole !)))) (no-more !)))) (from ! (stop !)) (init ! 18 refl (tt, (tt, (record { fits = room₂ .0 }, tt)))) $
-        assigns ! (addr ! (from ! (fld ! refl (hop ! (look-in ! 54 (sub ! 0 refl (whole !))) (stop !))))) (from ! (stop !)) (init ! 16 refl (tt, tt)) $
-        assigns ! (agg ! (and-then ! (load ! (from ! (stop !)) (look ! 16 refl)) (and-then ! (load ! (from ! (fld ! refl (stop !))) (look-in ! 54 (sub ! 1 refl (whole !)))) (no-more !)))) (from ! (stop !)) (init ! 14 refl (tt, (tt, (record { fits = room₃ .0 }, tt)))) $
-        -- 6.Live.7: agent::turn::handle
-        lends-mut ! tt (Array u64 5) b₁ o₁ (touchedRows (sessions) (f′ .«session_id») (f′ .time)) n₁ (len-5-sessions) (λ ν-6·Live·7-sessions δ-6·Live·7-sessions.
-        move ! (3 ∷ 4 ∷ []) $
-        lends-mut ! tt (Array u16 35) b₂ o₂ streams n₂ (refl) (λ ν-6·Live·7-streams δ-6·Live·7-streams.
+    frees-all : (r : Ran) (ws₁ : List (List ℕ)) (ws₂ : List (List ℕ)) (ws₃ : List Object) (ws₄ : List ℕ) → ent 𝓤 (⋆ 𝓤 H A (‵ (MutSlice (named 0) κ₁ (Array u64 5) .own (at-list b₁ o₁ γ₁ ws₁) (sliceVal (b₁, o₁) n₁ ∷ [])) ∷ ‵ (flft κ₁ q₁) ∷ ‵ (MutSlice (named 1) κ₂ (Array u16 35) .own (at-list b₂ o₂ γ₂ ws₂) (sliceVal (b₂, o₂) n₂ ∷ [])) ∷ ‵ (flft κ₂ q₂) ∷ ‵ (MutSlice (named 2) κ₃ Object-t.the-row .own (at-list b₃ o₃ γ₃ ws₃) (sliceVal (b₃, o₃) n₃ ∷ [])) ∷ ‵ (flft κ₃ q₃) ∷ ‵ (MutSlice (named 3) κ₄ u8 .own (at-list b₄ o₄ γ₄ ws₄) (sliceVal (b₄, o₄) n₄ ∷ [])) ∷ ‵ (flft κ₄ q₄) ∷ ‵ (ShrSlice (named 4) κ₅ u8 .own (at-list b₅ o₅ γ₅ d) (sliceVal (b₅, o₅) n₅ ∷ [])) ∷ ‵ (flft κ₅ q₅) ∷ [])) (Post (Ran-p .val r)) → Sq W (‵ (MutSlice (named 0) κ₁ (Array u64 5) .own (at-list b₁ o₁ γ₁ ws₁) (sliceVal (b₁, o₁) n₁ ∷ [])) ∷ ‵ (flft κ₁ q₁) ∷ ‵ (MutSlice (named 0) κ₂ (Array u16 35) .own (at-list b₂ o₂ γ₂ ws₂) (sliceVal (b₂, o₂) n₂ ∷ [])) ∷ ‵ (flft κ₂ q₂) ∷ ‵ (MutSlice (named 0) κ₃ Object-t.the-row .own (at-list b₃ o₃ γ₃ ws₃) (sliceVal (b₃, o₃) n₃ ∷ [])) ∷ ‵ (flft κ₃ q₃) ∷ ‵ (MutSlice (named 0) κ₄ u8 .own (at-list b₄ o₄ γ₄ ws₄) (sliceVal (b₄, o₄) n₄ ∷ [])) ∷ ‵ (flft κ₄ q₄) ∷ ‵ (ShrSlice (named 0) κ₅ u8 .own (at-list b₅ o₅ γ₅ d) (sliceVal (b₅, o₅) n₅ ∷ [])) ∷ ‵ (flft κ₅ q₅) ∷ free 𝓤 (sliceTy (tyRef erased mut (pointee (u8 .written)))) l₂₆ (free 𝓤 (tyRef erased mut (pointee (u8 .written))) l₂₅ (free 𝓤 (sliceTy (tyRef erased mut (pointee (Object-t.the-row .written)))) l₂₄ (free 𝓤 (tyRef erased mut (pointee (Object-t.the-row .written))) l₂₃ (free 𝓤 (sliceTy (tyRef erased mut (pointee ((Array u16 35) .written)))) l₂₂ (free 𝓤 (tyRef erased mut (pointee ((Array u16 35) .written))) l₂₁ (free 𝓤 (sliceTy (tyRef erased mut (pointee ((Array u64 5) .written)))) l₂₀ (free 𝓤 (tyRef erased mut (pointee ((Array u64 5) .written))) l₁₉ (free 𝓤 Ran-l.mir l₁₈ (free 𝓤 tyBool l₁₇ (free 𝓤 (sliceTy (tyRef erased mut (pointee ((Array u64 5) .written)))) l₁₆ (free 𝓤 (tyRef erased mut (pointee ((Array u64 5) .written))) l₁₅ (free 𝓤 Move-l.mir l₁₄ (free 𝓤 Named-l.mir l₁₃ (free 𝓤 (tyInt w8) l₁₂ (free 𝓤 (tyInt w8) l₁₁ (full 𝓤 (tyInt w64) l₁₀ (u64-p .val at′) (full 𝓤 Span-l.mir l₉ (Span-p .val body) (full 𝓤 Submessage-l.mir l₈ (Submessage-p .val m) (full 𝓤 Ran-l.mir l₇ (Ran-p .val r′) (full 𝓤 Frame-l.mir l₆ (Frame-p .val f′) (full 𝓤 (sliceTy (tyRef (named 4) imm (pointee (u8 .written)))) l₅ (sliceVal (b₅, o₅) n₅) (full 𝓤 (sliceTy (tyRef (named 3) mut (pointee (u8 .written)))) l₄ (sliceVal (b₄, o₄) n₄) (full 𝓤 (sliceTy (tyRef (named 2) mut (pointee (Object-t.the-row .written)))) l₃ (sliceVal (b₃, o₃) n₃) (full 𝓤 (sliceTy (tyRef (named 1) mut (pointee ((Array u16 35) .written)))) l₂ (sliceVal (b₂, o₂) n₂) (full 𝓤 (sliceTy (tyRef (named 0) mut (pointee ((Array u64 5) .written)))) l₁ (sliceVal (b₁, o₁) n₁) (full 𝓤 Ran-l.mir l₀ (Ran-p .val r) ([])))))))))))))))))))))))))))) (frees En (prop (Post (Ran-p .val r))))
+    frees-all r ws₁ ws₂ ws₃ ws₄ ends =
+        forget ! 42 refl $ forget ! 44 refl $ forget ! 46 refl $ forget ! 48 refl $ forget ! 50 refl $ forget ! 52 refl $ forget ! 54 refl $ forget ! 56 refl $ forget ! 58 refl $ forget ! 60 refl $ forget ! 62 refl $ move ! (62 ∷ 63 ∷ []) $ free1 ! $ move ! (60 ∷ 61 ∷ []) $ free1 ! $ move ! (58 ∷ 59 ∷ []) $ free1 ! $ move ! (56 ∷ 57 ∷ []) $ free1 ! $ move ! (54 ∷ 55 ∷ []) $ free1 ! $ move ! (52 ∷ 53 ∷ []) $ free1 ! $ move ! (50 ∷ 51 ∷ []) $ free1 ! $ move ! (48 ∷ 49 ∷ []) $ free1 ! $ move ! (46 ∷ 47 ∷ []) $ free1 ! $ move ! (44 ∷ 45 ∷ []) $ free1 ! $ move ! (42 ∷ 43 ∷ []) $ free1 ! $ move ! (40 ∷ 41 ∷ []) $ free1 ! $ move ! (38 ∷ 39 ∷ []) $ free1 ! $ move ! (36 ∷ 37 ∷ []) $ free1 ! $ move ! (34 ∷ 35 ∷ []) $ free1 ! $ move ! (32 ∷ 33 ∷ []) $ free1 ! $ move ! (30 ∷ 31 ∷ []) $ free1 ! $ move ! (28 ∷ 29 ∷ []) $ free1 ! $ move ! (26 ∷ 27 ∷ []) $ free1 ! $ move ! (24 ∷ 25 ∷ []) $ free1 ! $ move ! (22 ∷ 23 ∷ []) $ free1 ! $ move ! (20 ∷ 21 ∷ []) $ free1 ! $ move ! (18 ∷ 19 ∷ []) $ free1 ! $ move ! (16 ∷ 17 ∷ []) $ free1 ! $ move ! (14 ∷ 15 ∷ []) $ free1 ! $ move ! (12 ∷ 13 ∷ []) $ free1 ! $ move ! (10 ∷ 11 ∷ []) $ free1 ! $ free0 ! $
+        by ! ends
+
+    part-8-0 : (len-5-sessions : length (touchedRows (sessions) (f′ .«session_id») (f′ .time)) ≡ n₁) → (is-5 : Is (Named-p .row) (namedOf (sessions) (f′ .«session_id»)) (Named-p .val (namedOf (sessions) (f′ .«session_id»)) ∷ [])) → (is-6 : Is (bool-p .row) (isLive (namedOf (sessions) (f′ .«session_id»))) (bool-p .val (isLive (namedOf (sessions) (f′ .«session_id»))) ∷ [])) → (c-7 : isLive (namedOf (sessions) (f′ .«session_id»)) ≡ true) → (len-7·yes·7-sessions : length (handledTables m (lent ((touchedRows (sessions) (f′ .«session_id») (f′ .time))) (streams) (objects)) (f′ .«session_id») (f′ .«stream_id») .sessions) ≡ n₁) → (len-7·yes·7-streams : length (handledTables m (lent ((touchedRows (sessions) (f′ .«session_id») (f′ .time))) (streams) (objects)) (f′ .«session_id») (f′ .«stream_id») .streams) ≡ n₂) → (len-7·yes·7-objects : length (handledTables m (lent ((touchedRows (sessions) (f′ .«session_id») (f′ .time))) (streams) (objects)) (f′ .«session_id») (f′ .«stream_id») .objects) ≡ n₃) → (is-7·yes·7 : Is (Move-p .row) (handledMove m (lent ((touchedRows (sessions) (f′ .«session_id») (f′ .time))) (streams) (objects)) (d) (f′ .«session_id») (f′ .«stream_id») body) (Move-p .val (handledMove m (lent ((touchedRows (sessions) (f′ .«session_id») (f′ .time))) (streams) (objects)) (d) (f′ .«session_id») (f′ .«stream_id») body) ∷ [])) → (asks-7·yes·10 : (r′ .wrote) ≤ 18446744073709551600) → (len-7·yes·10-out : length (putBytes (out) (r′ .wrote) (moveBytes (f′ .«session_id») (f′ .«stream_id») (handledMove m (lent ((touchedRows (sessions) (f′ .«session_id») (f′ .time))) (streams) (objects)) (d) (f′ .«session_id») (f′ .«stream_id») body))) ≡ n₄) → (is-7·yes·10 : Is (Ran-p .row) (settled f′ (r′ .next) (r′ .wrote) (handledMove m (lent ((touchedRows (sessions) (f′ .«session_id») (f′ .time))) (streams) (objects)) (d) (f′ .«session_id») (f′ .«stream_id») body) at′) (Ran-p .val (settled f′ (r′ .next) (r′ .wrote) (handledMove m (lent ((touchedRows (sessions) (f′ .«session_id») (f′ .time))) (streams) (objects)) (d) (f′ .«session_id») (f′ .«stream_id») body) at′) ∷ [])) → Sq W (‵ (MutSlice (named 0) κ₁ (Array u64 5) .own (at-list b₁ o₁ γ₁ (handledTables m (lent ((touchedRows (sessions) (f′ .«session_id») (f′ .time))) (streams) (objects)) (f′ .«session_id») (f′ .«stream_id») .sessions)) (sliceVal (b₁, o₁) n₁ ∷ [])) ∷ ‵ (flft κ₁ q₁) ∷ ‵ (MutSlice (named 0) κ₂ (Array u16 35) .own (at-list b₂ o₂ γ₂ (handledTables m (lent ((touchedRows (sessions) (f′ .«session_id») (f′ .time))) (streams) (objects)) (f′ .«session_id») (f′ .«stream_id») .streams)) (sliceVal (b₂, o₂) n₂ ∷ [])) ∷ ‵ (flft κ₂ q₂) ∷ ‵ (MutSlice (named 0) κ₃ Object-t.the-row .own (at-list b₃ o₃ γ₃ (handledTables m (lent ((touchedRows (sessions) (f′ .«session_id») (f′ .time))) (streams) (objects)) (f′ .«session_id») (f′ .«stream_id») .objects)) (sliceVal (b₃, o₃) n₃ ∷ [])) ∷ ‵ (flft κ₃ q₃) ∷ ‵ (MutSlice (named 0) κ₄ u8 .own (at-list b₄ o₄ γ₄ (putBytes (out) (r′ .wrote) (moveBytes (f′ .«session_id») (f′ .«stream_id») (handledMove m (lent ((touchedRows (sessions) (f′ .«session_id») (f′ .time))) (streams) (objects)) (d) (f′ .«session_id») (f′ .«stream_id») body)))) (sliceVal (b₄, o₄) n₄ ∷ [])) ∷ ‵ (flft κ₄ q₄) ∷ ‵ (ShrSlice (named 0) κ₅ u8 .own (at-list b₅ o₅ γ₅ d) (sliceVal (b₅, o₅) n₅ ∷ [])) ∷ ‵ (flft κ₅ q₅) ∷ full 𝓤 (sliceTy (tyRef erased mut (pointee (u8 .written)))) l₂₆ (sliceVal (b₄, o₄) n₄) (full 𝓤 (tyRef erased mut (pointee (u8 .written))) l₂₅ (vptr b₄ o₄) (full 𝓤 (sliceTy (tyRef erased mut (pointee (Object-t.the-row .written)))) l₂₄ (sliceVal (b₃, o₃) n₃) (full 𝓤 (tyRef erased mut (pointee (Object-t.the-row .written))) l₂₃ (vptr b₃ o₃) (full 𝓤 (sliceTy (tyRef erased mut (pointee ((Array u16 35) .written)))) l₂₂ (sliceVal (b₂, o₂) n₂) (full 𝓤 (tyRef erased mut (pointee ((Array u16 35) .written))) l₂₁ (vptr b₂ o₂) (full 𝓤 (sliceTy (tyRef erased mut (pointee ((Array u64 5) .written)))) l₂₀ (sliceVal (b₁, o₁) n₁) (full 𝓤 (tyRef erased mut (pointee ((Array u64 5) .written))) l₁₉ (vptr b₁ o₁) (full 𝓤 Ran-l.mir l₁₈ (Ran-p .val (settled f′ (r′ .next) (r′ .wrote) (handledMove m (lent ((touchedRows (sessions) (f′ .«session_id») (f′ .time))) (streams) (objects)) (d) (f′ .«session_id») (f′ .«stream_id») body) at′)) (full 𝓤 tyBool l₁₇ (bool-p .val (isLive (namedOf (sessions) (f′ .«session_id»)))) (full 𝓤 (sliceTy (tyRef erased mut (pointee ((Array u64 5) .written)))) l₁₆ (sliceVal (b₁, o₁) n₁) (full 𝓤 (tyRef erased mut (pointee ((Array u64 5) .written))) l₁₅ (vptr b₁ o₁) (full 𝓤 Move-l.mir l₁₄ (Move-p .val (handledMove m (lent ((touchedRows (sessions) (f′ .«session_id») (f′ .time))) (streams) (objects)) (d) (f′ .«session_id») (f′ .«stream_id») body)) (full 𝓤 Named-l.mir l₁₃ (Named-p .val (namedOf (sessions) (f′ .«session_id»))) (full 𝓤 (tyInt w8) l₁₂ (u8-p .val (f′ .«stream_id»)) (full 𝓤 (tyInt w8) l₁₁ (u8-p .val (f′ .«session_id»)) (full 𝓤 (tyInt w64) l₁₀ (u64-p .val at′) (full 𝓤 Span-l.mir l₉ (Span-p .val body) (full 𝓤 Submessage-l.mir l₈ (Submessage-p .val m) (full 𝓤 Ran-l.mir l₇ (Ran-p .val r′) (full 𝓤 Frame-l.mir l₆ (Frame-p .val f′) (full 𝓤 (sliceTy (tyRef (named 4) imm (pointee (u8 .written)))) l₅ (sliceVal (b₅, o₅) n₅) (full 𝓤 (sliceTy (tyRef (named 3) mut (pointee (u8 .written)))) l₄ (sliceVal (b₄, o₄) n₄) (full 𝓤 (sliceTy (tyRef (named 2) mut (pointee (Object-t.the-row .written)))) l₃ (sliceVal (b₃, o₃) n₃) (full 𝓤 (sliceTy (tyRef (named 1) mut (pointee ((Array u16 35) .written)))) l₂ (sliceVal (b₂, o₂) n₂) (full 𝓤 (sliceTy (tyRef (named 0) mut (pointee ((Array u64 5) .written)))) l₁ (sliceVal (b₁, o₁) n₁) (free 𝓤 Ran-l.mir l₀ ([])))))))))))))))))))))))))))) (runs C Λ En mir.t-8 (atRet En Post))
+    part-8-0 len-5-sessions is-5 is-6 c-7 len-7·yes·7-sessions len-7·yes·7-streams len-7·yes·7-objects is-7·yes·7 asks-7·yes·10 len-7·yes·10-out is-7·yes·10 =
+        assigns ! (of-opd ! (load ! (from ! (stop !)) (look ! 26 refl))) (from ! (stop !)) (init ! 62 refl (Ran-p .typed 𝓤 H A W (settled f′ (r′ .next) (r′ .wrote) (handledMove m (lent ((touchedRows (sessions) (f′ .«session_id») (f′ .time))) (streams) (objects)) (d) (f′ .«session_id») (f′ .«stream_id») body) at′) is-7·yes·10)) $
+        returns ! (look ! 62 refl) $ forget ! 10 refl $ forget ! 12 refl $ forget ! 14 refl $ forget ! 16 refl $ forget ! 18 refl $ forget ! 20 refl $ forget ! 22 refl $ forget ! 24 refl $ forget ! 26 refl $ forget ! 28 refl $ forget ! 30 refl $ forget ! 32 refl $ forget ! 34 refl $ forget ! 36 refl $ forget ! 38 refl $ forget ! 40 refl $
+        frees-all (settled f′ (r′ .next) (r′ .wrote) (handledMove m (lent ((touchedRows (sessions) (f′ .«session_id») (f′ .time))) (streams) (objects)) (d) (f′ .«session_id») (f′ .«stream_id») body) at′) (handledTables m (lent ((touchedRows (sessions) (f′ .«session_id») (f′ .time))) (streams) (objects)) (f′ .«session_id») (f′ .«stream_id») .sessions) (handledTables m (lent ((touchedRows (sessions) (f′ .«session_id») (f′ .time))) (streams) (objects)) (f′ .«session_id») (f′ .«stream_id») .streams) (handledTables m (lent ((touchedRows (sessions) (f′ .«session_id») (f′ .time))) (streams) (objects)) (f′ .«session_id») (f′ .«stream_id») .objects) (putBytes (out) (r′ .wrote) (moveBytes (f′ .«session_id») (f′ .«stream_id») (handledMove m (lent ((touchedRows (sessions) (f′ .«session_id») (f′ .time))) (streams) (objects)) (d) (f′ .«session_id») (f′ .«stream_id») body))) (exits (settled f′ (r′ .next) (r′ .wrote) (handledMove m (lent ((touchedRows (sessions) (f′ .«session_id») (f′ .time))) (streams) (objects)) (d) (f′ .«session_id») (f′ .«stream_id») body) at′) (handledTables m (lent ((touchedRows (sessions) (f′ .«session_id») (f′ .time))) (streams) (objects)) (f′ .«session_id») (f′ .«stream_id») .sessions) (handledTables m (lent ((touchedRows (sessions) (f′ .«session_id») (f′ .time))) (streams) (objects)) (f′ .«session_id») (f′ .«stream_id») .streams) (handledTables m (lent ((touchedRows (sessions) (f′ .«session_id») (f′ .time))) (streams) (objects)) (f′ .«session_id») (f′ .«stream_id») .objects) (putBytes (out) (r′ .wrote) (moveBytes (f′ .«session_id») (f′ .«stream_id») (handledMove m (lent ((touchedRows (sessions) (f′ .«session_id») (f′ .time))) (streams) (objects)) (d) (f′ .«session_id») (f′ .«stream_id») body))) (as-left out _ (r′ .wrote) (left true) (left live) (if-true left _ c-7) (handled-written out (r′ .wrote) f′ m touched d body)) is-7·yes·10 len-7·yes·7-sessions len-7·yes·7-streams len-7·yes·7-objects len-7·yes·10-out)
+
+    part-7·yes·8-0 : (len-5-sessions : length (touchedRows (sessions) (f′ .«session_id») (f′ .time)) ≡ n₁) → (is-5 : Is (Named-p .row) (namedOf (sessions) (f′ .«session_id»)) (Named-p .val (namedOf (sessions) (f′ .«session_id»)) ∷ [])) → (is-6 : Is (bool-p .row) (isLive (namedOf (sessions) (f′ .«session_id»))) (bool-p .val (isLive (namedOf (sessions) (f′ .«session_id»))) ∷ [])) → (c-7 : isLive (namedOf (sessions) (f′ .«session_id»)) ≡ true) → (len-7·yes·7-sessions : length (handledTables m (lent ((touchedRows (sessions) (f′ .«session_id») (f′ .time))) (streams) (objects)) (f′ .«session_id») (f′ .«stream_id») .sessions) ≡ n₁) → (len-7·yes·7-streams : length (handledTables m (lent ((touchedRows (sessions) (f′ .«session_id») (f′ .time))) (streams) (objects)) (f′ .«session_id») (f′ .«stream_id») .streams) ≡ n₂) → (len-7·yes·7-objects : length (handledTables m (lent ((touchedRows (sessions) (f′ .«session_id») (f′ .time))) (streams) (objects)) (f′ .«session_id») (f′ .«stream_id») .objects) ≡ n₃) → (is-7·yes·7 : Is (Move-p .row) (handledMove m (lent ((touchedRows (sessions) (f′ .«session_id») (f′ .time))) (streams) (objects)) (d) (f′ .«session_id») (f′ .«stream_id») body) (Move-p .val (handledMove m (lent ((touchedRows (sessions) (f′ .«session_id») (f′ .time))) (streams) (objects)) (d) (f′ .«session_id») (f′ .«stream_id») body) ∷ [])) → Sq W (‵ (MutSlice (named 0) κ₁ (Array u64 5) .own (at-list b₁ o₁ γ₁ (handledTables m (lent ((touchedRows (sessions) (f′ .«session_id») (f′ .time))) (streams) (objects)) (f′ .«session_id») (f′ .«stream_id») .sessions)) (sliceVal (b₁, o₁) n₁ ∷ [])) ∷ ‵ (flft κ₁ q₁) ∷ ‵ (MutSlice (named 0) κ₂ (Array u16 35) .own (at-list b₂ o₂ γ₂ (handledTables m (lent ((touchedRows (sessions) (f′ .«session_id») (f′ .time))) (streams) (objects)) (f′ .«session_id») (f′ .«stream_id») .streams)) (sliceVal (b₂, o₂) n₂ ∷ [])) ∷ ‵ (flft κ₂ q₂) ∷ ‵ (MutSlice (named 0) κ₃ Object-t.the-row .own (at-list b₃ o₃ γ₃ (handledTables m (lent ((touchedRows (sessions) (f′ .«session_id») (f′ .time))) (streams) (objects)) (f′ .«session_id») (f′ .«stream_id») .objects)) (sliceVal (b₃, o₃) n₃ ∷ [])) ∷ ‵ (flft κ₃ q₃) ∷ ‵ (MutSlice (named 0) κ₄ u8 .own (at-list b₄ o₄ γ₄ out) (sliceVal (b₄, o₄) n₄ ∷ [])) ∷ ‵ (flft κ₄ q₄) ∷ ‵ (ShrSlice (named 0) κ₅ u8 .own (at-list b₅ o₅ γ₅ d) (sliceVal (b₅, o₅) n₅ ∷ [])) ∷ ‵ (flft κ₅ q₅) ∷ free 𝓤 (sliceTy (tyRef erased mut (pointee (u8 .written)))) l₂₆ (free 𝓤 (tyRef erased mut (pointee (u8 .written))) l₂₅ (full 𝓤 (sliceTy (tyRef erased mut (pointee (Object-t.the-row .written)))) l₂₄ (sliceVal (b₃, o₃) n₃) (full 𝓤 (tyRef erased mut (pointee (Object-t.the-row .written))) l₂₃ (vptr b₃ o₃) (full 𝓤 (sliceTy (tyRef erased mut (pointee ((Array u16 35) .written)))) l₂₂ (sliceVal (b₂, o₂) n₂) (full 𝓤 (tyRef erased mut (pointee ((Array u16 35) .written))) l₂₁ (vptr b₂ o₂) (full 𝓤 (sliceTy (tyRef erased mut (pointee ((Array u64 5) .written)))) l₂₀ (sliceVal (b₁, o₁) n₁) (full 𝓤 (tyRef erased mut (pointee ((Array u64 5) .written))) l₁₉ (vptr b₁ o₁) (free 𝓤 Ran-l.mir l₁₈ (full 𝓤 tyBool l₁₇ (bool-p .val (isLive (namedOf (sessions) (f′ .«session_id»)))) (full 𝓤 (sliceTy (tyRef erased mut (pointee ((Array u64 5) .written)))) l₁₆ (sliceVal (b₁, o₁) n₁) (full 𝓤 (tyRef erased mut (pointee ((Array u64 5) .written))) l₁₅ (vptr b₁ o₁) (full 𝓤 Move-l.mir l₁₄ (Move-p .val (handledMove m (lent ((touchedRows (sessions) (f′ .«session_id») (f′ .time))) (streams) (objects)) (d) (f′ .«session_id») (f′ .«stream_id») body)) (full 𝓤 Named-l.mir l₁₃ (Named-p .val (namedOf (sessions) (f′ .«session_id»))) (full 𝓤 (tyInt w8) l₁₂ (u8-p .val (f′ .«stream_id»)) (full 𝓤 (tyInt w8) l₁₁ (u8-p .val (f′ .«session_id»)) (full 𝓤 (tyInt w64) l₁₀ (u64-p .val at′) (full 𝓤 Span-l.mir l₉ (Span-p .val body) (full 𝓤 Submessage-l.mir l₈ (Submessage-p .val m) (full 𝓤 Ran-l.mir l₇ (Ran-p .val r′) (full 𝓤 Frame-l.mir l₆ (Frame-p .val f′) (full 𝓤 (sliceTy (tyRef (named 4) imm (pointee (u8 .written)))) l₅ (sliceVal (b₅, o₅) n₅) (full 𝓤 (sliceTy (tyRef (named 3) mut (pointee (u8 .written)))) l₄ (sliceVal (b₄, o₄) n₄) (full 𝓤 (sliceTy (tyRef (named 2) mut (pointee (Object-t.the-row .written)))) l₃ (sliceVal (b₃, o₃) n₃) (full 𝓤 (sliceTy (tyRef (named 1) mut (pointee ((Array u16 35) .written)))) l₂ (sliceVal (b₂, o₂) n₂) (full 𝓤 (sliceTy (tyRef (named 0) mut (pointee ((Array u64 5) .written)))) l₁ (sliceVal (b₁, o₁) n₁) (free 𝓤 Ran-l.mir l₀ ([])))))))))))))))))))))))))))) (runs C Λ En (past 7 (yes-of (one mir.t-7))) (anyQ (afterSeq 𝓤 H (Wp 𝓤 H C Λ En mir.t-8 (atReturn 𝓤 H En Post)) (atReturn 𝓤 H En Post))))
+    part-7·yes·8-0 len-5-sessions is-5 is-6 c-7 len-7·yes·7-sessions len-7·yes·7-streams len-7·yes·7-objects is-7·yes·7 =
+        assigns ! (addr ! (from ! (fld ! refl (hop ! (look-in ! 54 (sub ! 0 refl (whole !))) (stop !))))) (from ! (stop !)) (init ! 12 refl (tt, tt)) $
+        assigns ! (agg ! (and-then ! (load ! (from ! (stop !)) (look ! 12 refl)) (and-then ! (load ! (from ! (fld ! refl (stop !))) (look-in ! 54 (sub ! 1 refl (whole !)))) (no-more !)))) (from ! (stop !)) (init ! 10 refl (tt, (tt, (record { fits = room₄ .0 }, tt)))) $
+        knows ! ((r′ .wrote) ≤ 18446744073709551600) (omega (arith, ltb-true, ltb-false, leb-true, leb-false, eqb-true, eqb-false)) (λ asks-7·yes·10.
+        -- 7.yes.10: agent::turn::settle
         move ! (6 ∷ 7 ∷ []) $
-        lends-mut ! tt Object-t.the-row b₃ o₃ objects n₃ (refl) (λ ν-6·Live·7-objects δ-6·Live·7-objects.
+        lends-mut ! tt u8 b₄ o₄ out n₄ (refl) (λ ν-7·yes·10-out δ-7·yes·10-out.
+        nothing ! $ move ! (1 ∷ 0 ∷ []) $ join ! $
+        use1 W (raw (toks 𝓤 A 1 (((ν-7·yes·10-out ∷ []), tt)) ((fullShare, tt)))) (id⊢ 𝓤 _) $ nothing ! $
+        owned ! (u64-p .row) (Is (u64-p .row)) (u64-p .makes 𝓤 H A W) at′ (u64-p .val at′ ∷ []) at′-is $ fjoin ! $
+        owned ! (Move-p .row) (Is (Move-p .row)) (Move-p .makes 𝓤 H A W) (handledMove m (lent ((touchedRows (sessions) (f′ .«session_id») (f′ .time))) (streams) (objects)) (d) (f′ .«session_id») (f′ .«stream_id») body) (Move-p .val (handledMove m (lent ((touchedRows (sessions) (f′ .«session_id») (f′ .time))) (streams) (objects)) (d) (f′ .«session_id») (f′ .«stream_id») body) ∷ []) is-7·yes·7 $ fjoin ! $
+        owned ! (u64-p .row) (Is (u64-p .row)) (u64-p .makes 𝓤 H A W) (r′ .wrote) (u64-p .val (r′ .wrote) ∷ []) (LL.owed Ran-t.the-type Ran-l.the-laws r′ _ r′-is .1 .1 .0) $ fjoin ! $
+        owned ! (u8-p .row) (Is (u8-p .row)) (u8-p .makes 𝓤 H A W) (r′ .next) (u8-p .val (r′ .next) ∷ []) (LL.owed Ran-t.the-type Ran-l.the-laws r′ _ r′-is .0) $ fjoin ! $
+        owned ! (Frame-p .row) (Is (Frame-p .row)) (Frame-p .makes 𝓤 H A W) f′ (Frame-p .val f′ ∷ []) f′-is $ fjoin ! $ move ! (2 ∷ 0 ∷ []) $ fjoin ! $ move ! (1 ∷ 0 ∷ []) $
+        calls-any-last ! fm 1 [] (turn-settle.signature .params) (turn-settle.ended .kept) Ran-p (turn-settle.clauses 𝓤 H A mem run) known-turn-settle ((ν-7·yes·10-out ∷ []), tt) (fullShare, tt) tt (at-list b₄ o₄ δ-7·yes·10-out out, (f′, (r′ .next, (r′ .wrote, (handledMove m (lent ((touchedRows (sessions) (f′ .«session_id») (f′ .time))) (streams) (objects)) (d) (f′ .«session_id») (f′ .«stream_id») body, (at′, tt)))))) (sliceVal (b₄, o₄) n₄ ∷ [], (Frame-p .val f′ ∷ [], (u8-p .val (r′ .next) ∷ [], (u64-p .val (r′ .wrote) ∷ [], (Move-p .val (handledMove m (lent ((touchedRows (sessions) (f′ .«session_id») (f′ .time))) (streams) (objects)) (d) (f′ .«session_id») (f′ .«stream_id») body) ∷ [], (u64-p .val at′ ∷ [], tt)))))) tt (settled f′ (r′ .next) (r′ .wrote) (handledMove m (lent ((touchedRows (sessions) (f′ .«session_id») (f′ .time))) (streams) (objects)) (d) (f′ .«session_id») (f′ .«stream_id») body) at′) (λ ws-7·yes·10. (ws-7·yes·10 .0 ≡ putBytes (out) (r′ .wrote) (moveBytes (f′ .«session_id») (f′ .«stream_id») (handledMove m (lent ((touchedRows (sessions) (f′ .«session_id») (f′ .time))) (streams) (objects)) (d) (f′ .«session_id») (f′ .«stream_id») body)))) (factI 𝓤 ((r′ .wrote) ≤ 18446744073709551600) _ asks-7·yes·10) (λ r ws-7·yes·10. fact-mono 𝓤 ((r ≡ settled f′ (r′ .next) (r′ .wrote) (handledMove m (lent ((touchedRows (sessions) (f′ .«session_id») (f′ .time))) (streams) (objects)) (d) (f′ .«session_id») (f′ .«stream_id») body) at′) × ((ws-7·yes·10 .0) ≡ putBytes (out) (r′ .wrote) (moveBytes (f′ .«session_id») (f′ .«stream_id») (handledMove m (lent ((touchedRows (sessions) (f′ .«session_id») (f′ .time))) (streams) (objects)) (d) (f′ .«session_id») (f′ .«stream_id») body)))) ((r ≡ (settled f′ (r′ .next) (r′ .wrote) (handledMove m (lent ((touchedRows (sessions) (f′ .«session_id») (f′ .time))) (streams) (objects)) (d) (f′ .«session_id») (f′ .«stream_id») body) at′)) × ((ws-7·yes·10 .0 ≡ putBytes (out) (r′ .wrote) (moveBytes (f′ .«session_id») (f′ .«stream_id») (handledMove m (lent ((touchedRows (sessions) (f′ .«session_id») (f′ .time))) (streams) (objects)) (d) (f′ .«session_id») (f′ .«stream_id») body))))) (λ e. (e .0, e .1))) (λ _. (and-then ! (load ! (from ! (stop !)) (look ! 10 refl)) (and-then ! (load ! (from ! (stop !)) (look ! 50 refl)) (and-then ! (load ! (from ! (fld ! refl (stop !))) (look-in ! 48 (sub ! 0 refl (whole !)))) (and-then ! (load ! (from ! (fld ! refl (stop !))) (look-in ! 48 (sub ! 2 refl (whole !)))) (and-then ! (load ! (from ! (stop !)) (look ! 34 refl)) (and-then ! (load ! (from ! (stop !)) (look ! 42 refl)) (no-more !)))))))) (λ ws-7·yes·10 said-7·yes·10 is-7·yes·10.
+        use1 W ((‵ (flft (ν-7·yes·10-out ∷ []) fullShare) ⊛ ‵ ftrue)) (id⊢ 𝓤 _) $ split ! $ move ! (2 ∷ []) $ fsplit ! $ fsplit ! $ move ! (1 ∷ []) $
+        feqL ! (λ wlen-7·yes·10-0.
+        move ! (2 ∷ 4 ∷ 0 ∷ []) $
+        backs-mut ! tt u8 b₄ o₄ out n₄ (refl) room₄ ν-7·yes·10-out δ-7·yes·10-out (ws-7·yes·10 .0) (putBytes (out) (r′ .wrote) (moveBytes (f′ .«session_id») (f′ .«stream_id») (handledMove m (lent ((touchedRows (sessions) (f′ .«session_id») (f′ .time))) (streams) (objects)) (d) (f′ .«session_id») (f′ .«stream_id») body))) wlen-7·yes·10-0 (said-7·yes·10) (λ len-7·yes·10-out.
+        move ! (2 ∷ []) $ drop ! $ move ! (2 ∷ []) $ drop ! $
+        land-last ! (from ! (stop !)) (init ! 26 refl (Ran-p .typed 𝓤 H A W (settled f′ (r′ .next) (r′ .wrote) (handledMove m (lent ((touchedRows (sessions) (f′ .«session_id») (f′ .time))) (streams) (objects)) (d) (f′ .«session_id») (f′ .«stream_id») body) at′) is-7·yes·10)) $
+        exec ! C Λ En mir.t-8 (atRet En Post) $ move ! (2 ∷ 3 ∷ 4 ∷ 5 ∷ 6 ∷ 7 ∷ 0 ∷ 1 ∷ 8 ∷ 9 ∷ 10 ∷ 11 ∷ 12 ∷ 13 ∷ 14 ∷ 15 ∷ 16 ∷ 17 ∷ 18 ∷ 19 ∷ 20 ∷ 21 ∷ 22 ∷ 23 ∷ 24 ∷ 25 ∷ 26 ∷ 27 ∷ 28 ∷ 29 ∷ 30 ∷ 31 ∷ 32 ∷ 33 ∷ 34 ∷ 35 ∷ 36 ∷ 37 ∷ 38 ∷ 39 ∷ 40 ∷ 41 ∷ 42 ∷ 43 ∷ 44 ∷ 45 ∷ 46 ∷ 47 ∷ 48 ∷ 49 ∷ 50 ∷ 51 ∷ 52 ∷ 53 ∷ 54 ∷ 55 ∷ 56 ∷ 57 ∷ 58 ∷ 59 ∷ 60 ∷ 61 ∷ 62 ∷ 63 ∷ []) $
+        part-8-0 len-5-sessions is-5 is-6 c-7 len-7·yes·7-sessions len-7·yes·7-streams len-7·yes·7-objects is-7·yes·7 asks-7·yes·10 len-7·yes·10-out is-7·yes·10)))))
+
+    part-8-3 : (len-5-sessions : length (touchedRows (sessions) (f′ .«session_id») (f′ .time)) ≡ n₁) → (is-5 : Is (Named-p .row) (namedOf (sessions) (f′ .«session_id»)) (Named-p .val (namedOf (sessions) (f′ .«session_id»)) ∷ [])) → (is-6 : Is (bool-p .row) (isLive (namedOf (sessions) (f′ .«session_id»))) (bool-p .val (isLive (namedOf (sessions) (f′ .«session_id»))) ∷ [])) → (c-7 : isLive (namedOf (sessions) (f′ .«session_id»)) ≡ false) → (is-7·no·1 : Is (Ran-p .row) (passed r′ at′) (Ran-p .val (passed r′ at′) ∷ [])) → Sq W (‵ (MutSlice (named 0) κ₁ (Array u64 5) .own (at-list b₁ o₁ γ₁ (touchedRows (sessions) (f′ .«session_id») (f′ .time))) (sliceVal (b₁, o₁) n₁ ∷ [])) ∷ ‵ (flft κ₁ q₁) ∷ ‵ (MutSlice (named 0) κ₂ (Array u16 35) .own (at-list b₂ o₂ γ₂ streams) (sliceVal (b₂, o₂) n₂ ∷ [])) ∷ ‵ (flft κ₂ q₂) ∷ ‵ (MutSlice (named 0) κ₃ Object-t.the-row .own (at-list b₃ o₃ γ₃ objects) (sliceVal (b₃, o₃) n₃ ∷ [])) ∷ ‵ (flft κ₃ q₃) ∷ ‵ (MutSlice (named 0) κ₄ u8 .own (at-list b₄ o₄ γ₄ out) (sliceVal (b₄, o₄) n₄ ∷ [])) ∷ ‵ (flft κ₄ q₄) ∷ ‵ (ShrSlice (named 0) κ₅ u8 .own (at-list b₅ o₅ γ₅ d) (sliceVal (b₅, o₅) n₅ ∷ [])) ∷ ‵ (flft κ₅ q₅) ∷ free 𝓤 (sliceTy (tyRef erased mut (pointee (u8 .written)))) l₂₆ (free 𝓤 (tyRef erased mut (pointee (u8 .written))) l₂₅ (free 𝓤 (sliceTy (tyRef erased mut (pointee (Object-t.the-row .written)))) l₂₄ (free 𝓤 (tyRef erased mut (pointee (Object-t.the-row .written))) l₂₃ (free 𝓤 (sliceTy (tyRef erased mut (pointee ((Array u16 35) .written)))) l₂₂ (free 𝓤 (tyRef erased mut (pointee ((Array u16 35) .written))) l₂₁ (free 𝓤 (sliceTy (tyRef erased mut (pointee ((Array u64 5) .written)))) l₂₀ (free 𝓤 (tyRef erased mut (pointee ((Array u64 5) .written))) l₁₉ (full 𝓤 Ran-l.mir l₁₈ (Ran-p .val (passed r′ at′)) (full 𝓤 tyBool l₁₇ (bool-p .val (isLive (namedOf (sessions) (f′ .«session_id»)))) (full 𝓤 (sliceTy (tyRef erased mut (pointee ((Array u64 5) .written)))) l₁₆ (sliceVal (b₁, o₁) n₁) (full 𝓤 (tyRef erased mut (pointee ((Array u64 5) .written))) l₁₅ (vptr b₁ o₁) (free 𝓤 Move-l.mir l₁₄ (full 𝓤 Named-l.mir l₁₃ (Named-p .val (namedOf (sessions) (f′ .«session_id»))) (full 𝓤 (tyInt w8) l₁₂ (u8-p .val (f′ .«stream_id»)) (full 𝓤 (tyInt w8) l₁₁ (u8-p .val (f′ .«session_id»)) (full 𝓤 (tyInt w64) l₁₀ (u64-p .val at′) (full 𝓤 Span-l.mir l₉ (Span-p .val body) (full 𝓤 Submessage-l.mir l₈ (Submessage-p .val m) (full 𝓤 Ran-l.mir l₇ (Ran-p .val r′) (full 𝓤 Frame-l.mir l₆ (Frame-p .val f′) (full 𝓤 (sliceTy (tyRef (named 4) imm (pointee (u8 .written)))) l₅ (sliceVal (b₅, o₅) n₅) (full 𝓤 (sliceTy (tyRef (named 3) mut (pointee (u8 .written)))) l₄ (sliceVal (b₄, o₄) n₄) (full 𝓤 (sliceTy (tyRef (named 2) mut (pointee (Object-t.the-row .written)))) l₃ (sliceVal (b₃, o₃) n₃) (full 𝓤 (sliceTy (tyRef (named 1) mut (pointee ((Array u16 35) .written)))) l₂ (sliceVal (b₂, o₂) n₂) (full 𝓤 (sliceTy (tyRef (named 0) mut (pointee ((Array u64 5) .written)))) l₁ (sliceVal (b₁, o₁) n₁) (free 𝓤 Ran-l.mir l₀ ([])))))))))))))))))))))))))))) (runs C Λ En mir.t-8 (atRet En Post))
+    part-8-3 len-5-sessions is-5 is-6 c-7 is-7·no·1 =
+        assigns ! (of-opd ! (load ! (from ! (stop !)) (look ! 26 refl))) (from ! (stop !)) (init ! 62 refl (Ran-p .typed 𝓤 H A W (passed r′ at′) is-7·no·1)) $
+        returns ! (look ! 62 refl) $ forget ! 26 refl $ forget ! 28 refl $ forget ! 30 refl $ forget ! 32 refl $ forget ! 36 refl $ forget ! 38 refl $ forget ! 40 refl $
+        frees-all (passed r′ at′) (touchedRows (sessions) (f′ .«session_id») (f′ .time)) streams objects out (exits (passed r′ at′) (touchedRows (sessions) (f′ .«session_id») (f′ .time)) streams objects out (as-left out _ (r′ .wrote) (left false) (left live) (if-false left _ c-7) (no-replies out (r′ .wrote))) is-7·no·1 len-5-sessions refl refl refl)
+
+    part-7-0 : (len-5-sessions : length (touchedRows (sessions) (f′ .«session_id») (f′ .time)) ≡ n₁) → (is-5 : Is (Named-p .row) (namedOf (sessions) (f′ .«session_id»)) (Named-p .val (namedOf (sessions) (f′ .«session_id»)) ∷ [])) → (is-6 : Is (bool-p .row) (isLive (namedOf (sessions) (f′ .«session_id»))) (bool-p .val (isLive (namedOf (sessions) (f′ .«session_id»))) ∷ [])) → Sq W (‵ (MutSlice (named 0) κ₁ (Array u64 5) .own (at-list b₁ o₁ γ₁ (touchedRows (sessions) (f′ .«session_id») (f′ .time))) (sliceVal (b₁, o₁) n₁ ∷ [])) ∷ ‵ (flft κ₁ q₁) ∷ ‵ (MutSlice (named 0) κ₂ (Array u16 35) .own (at-list b₂ o₂ γ₂ streams) (sliceVal (b₂, o₂) n₂ ∷ [])) ∷ ‵ (flft κ₂ q₂) ∷ ‵ (MutSlice (named 0) κ₃ Object-t.the-row .own (at-list b₃ o₃ γ₃ objects) (sliceVal (b₃, o₃) n₃ ∷ [])) ∷ ‵ (flft κ₃ q₃) ∷ ‵ (MutSlice (named 0) κ₄ u8 .own (at-list b₄ o₄ γ₄ out) (sliceVal (b₄, o₄) n₄ ∷ [])) ∷ ‵ (flft κ₄ q₄) ∷ ‵ (ShrSlice (named 0) κ₅ u8 .own (at-list b₅ o₅ γ₅ d) (sliceVal (b₅, o₅) n₅ ∷ [])) ∷ ‵ (flft κ₅ q₅) ∷ free 𝓤 (sliceTy (tyRef erased mut (pointee (u8 .written)))) l₂₆ (free 𝓤 (tyRef erased mut (pointee (u8 .written))) l₂₅ (free 𝓤 (sliceTy (tyRef erased mut (pointee (Object-t.the-row .written)))) l₂₄ (free 𝓤 (tyRef erased mut (pointee (Object-t.the-row .written))) l₂₃ (free 𝓤 (sliceTy (tyRef erased mut (pointee ((Array u16 35) .written)))) l₂₂ (free 𝓤 (tyRef erased mut (pointee ((Array u16 35) .written))) l₂₁ (free 𝓤 (sliceTy (tyRef erased mut (pointee ((Array u64 5) .written)))) l₂₀ (free 𝓤 (tyRef erased mut (pointee ((Array u64 5) .written))) l₁₉ (free 𝓤 Ran-l.mir l₁₈ (full 𝓤 tyBool l₁₇ (bool-p .val (isLive (namedOf (sessions) (f′ .«session_id»)))) (full 𝓤 (sliceTy (tyRef erased mut (pointee ((Array u64 5) .written)))) l₁₆ (sliceVal (b₁, o₁) n₁) (full 𝓤 (tyRef erased mut (pointee ((Array u64 5) .written))) l₁₅ (vptr b₁ o₁) (free 𝓤 Move-l.mir l₁₄ (full 𝓤 Named-l.mir l₁₃ (Named-p .val (namedOf (sessions) (f′ .«session_id»))) (full 𝓤 (tyInt w8) l₁₂ (u8-p .val (f′ .«stream_id»)) (full 𝓤 (tyInt w8) l₁₁ (u8-p .val (f′ .«session_id»)) (full 𝓤 (tyInt w64) l₁₀ (u64-p .val at′) (full 𝓤 Span-l.mir l₉ (Span-p .val body) (full 𝓤 Submessage-l.mir l₈ (Submessage-p .val m) (full 𝓤 Ran-l.mir l₇ (Ran-p .val r′) (full 𝓤 Frame-l.mir l₆ (Frame-p .val f′) (full 𝓤 (sliceTy (tyRef (named 4) imm (pointee (u8 .written)))) l₅ (sliceVal (b₅, o₅) n₅) (full 𝓤 (sliceTy (tyRef (named 3) mut (pointee (u8 .written)))) l₄ (sliceVal (b₄, o₄) n₄) (full 𝓤 (sliceTy (tyRef (named 2) mut (pointee (Object-t.the-row .written)))) l₃ (sliceVal (b₃, o₃) n₃) (full 𝓤 (sliceTy (tyRef (named 1) mut (pointee ((Array u16 35) .written)))) l₂ (sliceVal (b₂, o₂) n₂) (full 𝓤 (sliceTy (tyRef (named 0) mut (pointee ((Array u64 5) .written)))) l₁ (sliceVal (b₁, o₁) n₁) (free 𝓤 Ran-l.mir l₀ ([])))))))))))))))))))))))))))) (runs C Λ En mir.t-7 (atRet En Post))
+    part-7-0 len-5-sessions is-5 is-6 =
+        first ! $
+        branches ! (load ! (from ! (stop !)) (look ! 28 refl))
+        (λ h-7.
+        knows ! (isLive (namedOf (sessions) (f′ .«session_id»)) ≡ true) (holds (isLive (namedOf (sessions) (f′ .«session_id»))) h-7) (λ c-7.
+        assigns ! (addr ! (from ! (fld ! refl (hop ! (look-in ! 60 (sub ! 0 refl (whole !))) (stop !))))) (from ! (stop !)) (init ! 24 refl (tt, tt)) $
+        assigns ! (agg ! (and-then ! (load ! (from ! (stop !)) (look ! 24 refl)) (and-then ! (load ! (from ! (fld ! refl (stop !))) (look-in ! 60 (sub ! 1 refl (whole !)))) (no-more !)))) (from ! (stop !)) (init ! 22 refl (tt, (tt, (record { fits = room₁ .0 }, tt)))) $
+        assigns ! (addr ! (from ! (fld ! refl (hop ! (look-in ! 58 (sub ! 0 refl (whole !))) (stop !))))) (from ! (stop !)) (init ! 20 refl (tt, tt)) $
+        assigns ! (agg ! (and-then ! (load ! (from ! (stop !)) (look ! 20 refl)) (and-then ! (load ! (from ! (fld ! refl (stop !))) (look-in ! 58 (sub ! 1 refl (whole !)))) (no-more !)))) (from ! (stop !)) (init ! 18 refl (tt, (tt, (record { fits = room₂ .0 }, tt)))) $
+        assigns ! (addr ! (from ! (fld ! refl (hop ! (look-in ! 56 (sub ! 0 refl (whole !))) (stop !))))) (from ! (stop !)) (init ! 16 refl (tt, tt)) $
+        assigns ! (agg ! (and-then ! (load ! (from ! (stop !)) (look ! 16 refl)) (and-then ! (load ! (from ! (fld ! refl (stop !))) (look-in ! 56 (sub ! 1 refl (whole !)))) (no-more !)))) (from ! (stop !)) (init ! 14 refl (tt, (tt, (record { fits = room₃ .0 }, tt)))) $
+        -- 7.yes.7: agent::turn::handle
+        lends-mut ! tt (Array u64 5) b₁ o₁ (touchedRows (sessions) (f′ .«session_id») (f′ .time)) n₁ (len-5-sessions) (λ ν-7·yes·7-sessions δ-7·yes·7-sessions.
+        move ! (3 ∷ 4 ∷ []) $
+        lends-mut ! tt (Array u16 35) b₂ o₂ streams n₂ (refl) (λ ν-7·yes·7-streams δ-7·yes·7-streams.
+        move ! (6 ∷ 7 ∷ []) $
+        lends-mut ! tt Object-t.the-row b₃ o₃ objects n₃ (refl) (λ ν-7·yes·7-objects δ-7·yes·7-objects.
         move ! (11 ∷ 12 ∷ []) $
         copies-shr ! u8 b₅ o₅ d n₅ $ nothing ! $ move ! (1 ∷ 0 ∷ []) $ join ! $ move ! (3 ∷ 0 ∷ []) $ join ! $ move ! (5 ∷ 0 ∷ []) $ join ! $ move ! (7 ∷ 0 ∷ []) $ join ! $
-        use1 W (raw (toks 𝓤 A 4 (((ν-6·Live·7-sessions ∷ []), ((ν-6·Live·7-streams ∷ []), ((ν-6·Live·7-objects ∷ []), (κ₅, tt))))) ((fullShare, (fullShare, (fullShare, (q₅, tt))))))) (id⊢ 𝓤 _) $ nothing ! $
+        use1 W (raw (toks 𝓤 A 4 (((ν-7·yes·7-sessions ∷ []), ((ν-7·yes·7-streams ∷ []), ((ν-7·yes·7-objects ∷ []), (κ₅, tt))))) ((fullShare, (fullShare, (fullShare, (q₅, tt))))))) (id⊢ 𝓤 _) $ nothing ! $
         owned ! (Span-p .row) (Is (Span-p .row)) (Span-p .makes 𝓤 H A W) body (Span-p .val body ∷ []) body-is $ fjoin ! $
         owned ! (Submessage-p .row) (Is (Submessage-p .row)) (Submessage-p .makes 𝓤 H A W) m (Submessage-p .val m ∷ []) m-is $ fjoin ! $
         owned ! (u8-p .row) (Is (u8-p .row)) (u8-p .makes 𝓤 H A W) (f′ .«stream_id») (u8-p .val (f′ .«stream_id») ∷ []) (LL.owed Frame-t.the-type Frame-l.the-laws f′ _ f′-is .1 .1 .1 .0) $ fjoin ! $
         owned ! (u8-p .row) (Is (u8-p .row)) (u8-p .makes 𝓤 H A W) (f′ .«session_id») (u8-p .val (f′ .«session_id») ∷ []) (LL.owed Frame-t.the-type Frame-l.the-laws f′ _ f′-is .1 .1 .0) $ fjoin ! $ move ! (2 ∷ 0 ∷ []) $ fjoin ! $ move ! (3 ∷ 0 ∷ []) $ fjoin ! $ move ! (4 ∷ 0 ∷ []) $ fjoin ! $ move ! (5 ∷ 0 ∷ []) $ fjoin ! $ move ! (1 ∷ 0 ∷ []) $
-        calls-any ! fm 4 [] (turn-handle.signature .params) (turn-handle.ended .kept) Move-p (turn-handle.clauses 𝓤 H A mem run) known-turn-handle ((ν-6·Live·7-sessions ∷ []), ((ν-6·Live·7-streams ∷ []), ((ν-6·Live·7-objects ∷ []), (κ₅, tt)))) (fullShare, (fullShare, (fullShare, (q₅, tt)))) tt (at-list b₁ o₁ δ-6·Live·7-sessions (touchedRows (sessions) (f′ .«session_id») (f′ .time)), (at-list b₂ o₂ δ-6·Live·7-streams streams, (at-list b₃ o₃ δ-6·Live·7-objects objects, (at-list b₅ o₅ γ₅ d, (f′ .«session_id», (f′ .«stream_id», (m, (body, tt)))))))) (sliceVal (b₁, o₁) n₁ ∷ [], (sliceVal (b₂, o₂) n₂ ∷ [], (sliceVal (b₃, o₃) n₃ ∷ [], (sliceVal (b₅, o₅) n₅ ∷ [], (u8-p .val (f′ .«session_id») ∷ [], (u8-p .val (f′ .«stream_id») ∷ [], (Submessage-p .val m ∷ [], (Span-p .val body ∷ [], tt)))))))) tt (handledMove m (lent ((touchedRows (sessions) (f′ .«session_id») (f′ .time))) (streams) (objects)) (d) (f′ .«session_id») (f′ .«stream_id») body) (λ ws-6·Live·7. (ws-6·Live·7 .0 ≡ handledTables m (lent ((touchedRows (sessions) (f′ .«session_id») (f′ .time))) (streams) (objects)) (f′ .«session_id») (f′ .«stream_id») .sessions) × (ws-6·Live·7 .1 .0 ≡ handledTables m (lent ((touchedRows (sessions) (f′ .«session_id») (f′ .time))) (streams) (objects)) (f′ .«session_id») (f′ .«stream_id») .streams) × (ws-6·Live·7 .1 .1 .0 ≡ handledTables m (lent ((touchedRows (sessions) (f′ .«session_id») (f′ .time))) (streams) (objects)) (f′ .«session_id») (f′ .«stream_id») .objects)) (id⊢ 𝓤 _) (λ r ws-6·Live·7. fact-mono 𝓤 ((r ≡ handledMove m (lent ((touchedRows (sessions) (f′ .«session_id») (f′ .time))) (streams) (objects)) (d) (f′ .«session_id») (f′ .«stream_id») body) × ((ws-6·Live·7 .0) ≡ handledTables m (lent ((touchedRows (sessions) (f′ .«session_id») (f′ .time))) (streams) (objects)) (f′ .«session_id») (f′ .«stream_id») .sessions) × ((ws-6·Live·7 .1 .0) ≡ handledTables m (lent ((touchedRows (sessions) (f′ .«session_id») (f′ .time))) (streams) (objects)) (f′ .«session_id») (f′ .«stream_id») .streams) × ((ws-6·Live·7 .1 .1 .0) ≡ handledTables m (lent ((touchedRows (sessions) (f′ .«session_id») (f′ .time))) (streams) (objects)) (f′ .«session_id») (f′ .«stream_id») .objects)) ((r ≡ (handledMove m (lent ((touchedRows (sessions) (f′ .«session_id») (f′ .time))) (streams) (objects)) (d) (f′ .«session_id») (f′ .«stream_id») body)) × ((ws-6·Live·7 .0 ≡ handledTables m (lent ((touchedRows (sessions) (f′ .«session_id») (f′ .time))) (streams) (objects)) (f′ .«session_id») (f′ .«stream_id») .sessions) × (ws-6·Live·7 .1 .0 ≡ handledTables m (lent ((touchedRows (sessions) (f′ .«session_id») (f′ .time))) (streams) (objects)) (f′ .«session_id») (f′ .«stream_id») .streams) × (ws-6·Live·7 .1 .1 .0 ≡ handledTables m (lent ((touchedRows (sessions) (f′ .«session_id») (f′ .time))) (streams) (objects)) (f′ .«session_id») (f′ .«stream_id») .objects))) (λ e. (e .0, (e .1, e .2, e .3)))) (λ _. (and-then ! (load ! (from ! (stop !)) (look ! 19 refl)) (and-then ! (load ! (from ! (stop !)) (look ! 15 refl)) (and-then ! (load ! (from ! (stop !)) (look ! 11 refl)) (and-then ! (load ! (from ! (stop !)) (look ! 47 refl)) (and-then ! (load ! (from ! (stop !)) (look ! 35 refl)) (and-then ! (load ! (from ! (stop !)) (look ! 33 refl)) (and-then ! (load ! (from ! (stop !)) (look ! 41 refl)) (and-then ! (load ! (from ! (stop !)) (look ! 39 refl)) (no-more !)))))))))) (λ ws-6·Live·7 said-6·Live·7 is-6·Live·7.
-        use1 W ((‵ (flft (ν-6·Live·7-sessions ∷ []) fullShare) ⊛ (‵ (flft (ν-6·Live·7-streams ∷ []) fullShare) ⊛ (‵ (flft (ν-6·Live·7-objects ∷ []) fullShare) ⊛ (‵ (flft κ₅ q₅) ⊛ ‵ ftrue))))) (id⊢ 𝓤 _) $ split ! $ move ! (1 ∷ []) $ split ! $ move ! (1 ∷ []) $ split ! $ move ! (1 ∷ []) $ split ! $ move ! (5 ∷ []) $ fsplit ! $ fsplit ! $ move ! (1 ∷ []) $
-        feqL ! (λ wlen-6·Live·7-0.
+        calls-any ! fm 4 [] (turn-handle.signature .params) (turn-handle.ended .kept) Move-p (turn-handle.clauses 𝓤 H A mem run) known-turn-handle ((ν-7·yes·7-sessions ∷ []), ((ν-7·yes·7-streams ∷ []), ((ν-7·yes·7-objects ∷ []), (κ₅, tt)))) (fullShare, (fullShare, (fullShare, (q₅, tt)))) tt (at-list b₁ o₁ δ-7·yes·7-sessions (touchedRows (sessions) (f′ .«session_id») (f′ .time)), (at-list b₂ o₂ δ-7·yes·7-streams streams, (at-list b₃ o₃ δ-7·yes·7-objects objects, (at-list b₅ o₅ γ₅ d, (f′ .«session_id», (f′ .«stream_id», (m, (body, tt)))))))) (sliceVal (b₁, o₁) n₁ ∷ [], (sliceVal (b₂, o₂) n₂ ∷ [], (sliceVal (b₃, o₃) n₃ ∷ [], (sliceVal (b₅, o₅) n₅ ∷ [], (u8-p .val (f′ .«session_id») ∷ [], (u8-p .val (f′ .«stream_id») ∷ [], (Submessage-p .val m ∷ [], (Span-p .val body ∷ [], tt)))))))) tt (handledMove m (lent ((touchedRows (sessions) (f′ .«session_id») (f′ .time))) (streams) (objects)) (d) (f′ .«session_id») (f′ .«stream_id») body) (λ ws-7·yes·7. (ws-7·yes·7 .0 ≡ handledTables m (lent ((touchedRows (sessions) (f′ .«session_id») (f′ .time))) (streams) (objects)) (f′ .«session_id») (f′ .«stream_id») .sessions) × (ws-7·yes·7 .1 .0 ≡ handledTables m (lent ((touchedRows (sessions) (f′ .«session_id») (f′ .time))) (streams) (objects)) (f′ .«session_id») (f′ .«stream_id») .streams) × (ws-7·yes·7 .1 .1 .0 ≡ handledTables m (lent ((touchedRows (sessions) (f′ .«session_id») (f′ .time))) (streams) (objects)) (f′ .«session_id») (f′ .«stream_id») .objects)) (id⊢ 𝓤 _) (λ r ws-7·yes·7. fact-mono 𝓤 ((r ≡ handledMove m (lent ((touchedRows (sessions) (f′ .«session_id») (f′ .time))) (streams) (objects)) (d) (f′ .«session_id») (f′ .«stream_id») body) × ((ws-7·yes·7 .0) ≡ handledTables m (lent ((touchedRows (sessions) (f′ .«session_id») (f′ .time))) (streams) (objects)) (f′ .«session_id») (f′ .«stream_id») .sessions) × ((ws-7·yes·7 .1 .0) ≡ handledTables m (lent ((touchedRows (sessions) (f′ .«session_id») (f′ .time))) (streams) (objects)) (f′ .«session_id») (f′ .«stream_id») .streams) × ((ws-7·yes·7 .1 .1 .0) ≡ handledTables m (lent ((touchedRows (sessions) (f′ .«session_id») (f′ .time))) (streams) (objects)) (f′ .«session_id») (f′ .«stream_id») .objects)) ((r ≡ (handledMove m (lent ((touchedRows (sessions) (f′ .«session_id») (f′ .time))) (streams) (objects)) (d) (f′ .«session_id») (f′ .«stream_id») body)) × ((ws-7·yes·7 .0 ≡ handledTables m (lent ((touchedRows (sessions) (f′ .«session_id») (f′ .time))) (streams) (objects)) (f′ .«session_id») (f′ .«stream_id») .sessions) × (ws-7·yes·7 .1 .0 ≡ handledTables m (lent ((touchedRows (sessions) (f′ .«session_id») (f′ .time))) (streams) (objects)) (f′ .«session_id») (f′ .«stream_id») .streams) × (ws-7·yes·7 .1 .1 .0 ≡ handledTables m (lent ((touchedRows (sessions) (f′ .«session_id») (f′ .time))) (streams) (objects)) (f′ .«session_id») (f′ .«stream_id») .objects))) (λ e. (e .0, (e .1, e .2, e .3)))) (λ _. (and-then ! (load ! (from ! (stop !)) (look ! 19 refl)) (and-then ! (load ! (from ! (stop !)) (look ! 15 refl)) (and-then ! (load ! (from ! (stop !)) (look ! 11 refl)) (and-then ! (load ! (from ! (stop !)) (look ! 49 refl)) (and-then ! (load ! (from ! (stop !)) (look ! 37 refl)) (and-then ! (load ! (from ! (stop !)) (look ! 35 refl)) (and-then ! (load ! (from ! (stop !)) (look ! 43 refl)) (and-then ! (load ! (from ! (stop !)) (look ! 41 refl)) (no-more !)))))))))) (λ ws-7·yes·7 said-7·yes·7 is-7·yes·7.
+        use1 W ((‵ (flft (ν-7·yes·7-sessions ∷ []) fullShare) ⊛ (‵ (flft (ν-7·yes·7-streams ∷ []) fullShare) ⊛ (‵ (flft (ν-7·yes·7-objects ∷ []) fullShare) ⊛ (‵ (flft κ₅ q₅) ⊛ ‵ ftrue))))) (id⊢ 𝓤 _) $ split ! $ move ! (1 ∷ []) $ split ! $ move ! (1 ∷ []) $ split ! $ move ! (1 ∷ []) $ split ! $ move ! (5 ∷ []) $ fsplit ! $ fsplit ! $ move ! (1 ∷ []) $
+        feqL ! (λ wlen-7·yes·7-0.
         move ! (1 ∷ []) $ fsplit ! $ fsplit ! $ move ! (1 ∷ []) $
-        feqL ! (λ wlen-6·Live·7-1.
+        feqL ! (λ wlen-7·yes·7-1.
         move ! (1 ∷ []) $ fsplit ! $ fsplit ! $ move ! (1 ∷ []) $
-        feqL ! (λ wlen-6·Live·7-2.
+        feqL ! (λ wlen-7·yes·7-2.
         move ! (1 ∷ []) $ fsplit ! $ move ! (9 ∷ 13 ∷ 4 ∷ []) $
-        backs-mut ! tt (Array u64 5) b₁ o₁ (touchedRows (sessions) (f′ .«session_id») (f′ .time)) n₁ (len-5-sessions) room₁ ν-6·Live·7-sessions δ-6·Live·7-sessions (ws-6·Live·7 .0) (handledTables m (lent ((touchedRows (sessions) (f′ .«session_id») (f′ .time))) (streams) (objects)) (f′ .«session_id») (f′ .«stream_id») .sessions) wlen-6·Live·7-0 (said-6·Live·7 .0) (λ len-6·Live·7-sessions.
+        backs-mut ! tt (Array u64 5) b₁ o₁ (touchedRows (sessions) (f′ .«session_id») (f′ .time)) n₁ (len-5-sessions) room₁ ν-7·yes·7-sessions δ-7·yes·7-sessions (ws-7·yes·7 .0) (handledTables m (lent ((touchedRows (sessions) (f′ .«session_id») (f′ .time))) (streams) (objects)) (f′ .«session_id») (f′ .«stream_id») .sessions) wlen-7·yes·7-0 (said-7·yes·7 .0) (λ len-7·yes·7-sessions.
         move ! (9 ∷ 12 ∷ 5 ∷ []) $
-        backs-mut ! tt (Array u16 35) b₂ o₂ streams n₂ (refl) room₂ ν-6·Live·7-streams δ-6·Live·7-streams (ws-6·Live·7 .1 .0) (handledTables m (lent ((touchedRows (sessions) (f′ .«session_id») (f′ .time))) (streams) (objects)) (f′ .«session_id») (f′ .«stream_id») .streams) wlen-6·Live·7-1 (said-6·Live·7 .1) (λ len-6·Live·7-streams.
+        backs-mut ! tt (Array u16 35) b₂ o₂ streams n₂ (refl) room₂ ν-7·yes·7-streams δ-7·yes·7-streams (ws-7·yes·7 .1 .0) (handledTables m (lent ((touchedRows (sessions) (f′ .«session_id») (f′ .time))) (streams) (objects)) (f′ .«session_id») (f′ .«stream_id») .streams) wlen-7·yes·7-1 (said-7·yes·7 .1) (λ len-7·yes·7-streams.
         move ! (9 ∷ 11 ∷ 6 ∷ []) $
-        backs-mut ! tt Object-t.the-row b₃ o₃ objects n₃ (refl) room₃ ν-6·Live·7-objects δ-6·Live·7-objects (ws-6·Live·7 .1 .1 .0) (handledTables m (lent ((touchedRows (sessions) (f′ .«session_id») (f′ .time))) (streams) (objects)) (f′ .«session_id») (f′ .«stream_id») .objects) wlen-6·Live·7-2 (said-6·Live·7 .2) (λ len-6·Live·7-objects.
+        backs-mut ! tt Object-t.the-row b₃ o₃ objects n₃ (refl) room₃ ν-7·yes·7-objects δ-7·yes·7-objects (ws-7·yes·7 .1 .1 .0) (handledTables m (lent ((touchedRows (sessions) (f′ .«session_id») (f′ .time))) (streams) (objects)) (f′ .«session_id») (f′ .«stream_id») .objects) wlen-7·yes·7-2 (said-7·yes·7 .2) (λ len-7·yes·7-objects.
         move ! (6 ∷ []) $ drop ! $ move ! (6 ∷ []) $ drop ! $ move ! (7 ∷ []) $ drop ! $
-        land ! (from ! (stop !)) (init ! 32 refl (Move-p .typed 𝓤 H A W (handledMove m (lent ((touchedRows (sessions) (f′ .«session_id») (f′ .time))) (streams) (objects)) (d) (f′ .«session_id») (f′ .«stream_id») body) is-6·Live·7)) $
-        assigns ! (addr ! (from ! (fld ! refl (hop ! (look-in ! 52 (sub ! 0 refl (whole !))) (stop !))))) (from ! (stop !)) (init ! 12 refl (tt, tt)) $
-        assigns ! (agg ! (and-then ! (load ! (from ! (stop !)) (look ! 12 refl)) (and-then ! (load ! (from ! (fld ! refl (stop !))) (look-in ! 52 (sub ! 1 refl (whole !)))) (no-more !)))) (from ! (stop !)) (init ! 10 refl (tt, (tt, (record { fits = room₄ .0 }, tt)))) $
-        knows ! ((r′ .wrote) ≤ 18446744073709551600) (omega (arith, ltb-true, ltb-false, leb-true, leb-false, eqb-true, eqb-false)) (λ asks-6·Live·10.
-        -- 6.Live.10: agent::turn::settle
-        move ! (8 ∷ 9 ∷ []) $
-        lends-mut ! tt u8 b₄ o₄ out n₄ (refl) (λ ν-6·Live·10-out δ-6·Live·10-out.
-        nothing ! $ move ! (1 ∷ 0 ∷ []) $ join ! $
-        use1 W (raw (toks 𝓤 A 1 (((ν-6·Live·10-out ∷ []), tt)) ((fullShare, tt)))) (id⊢ 𝓤 _) $ nothing ! $
-        owned ! (u64-p .row) (Is (u64-p .row)) (u64-p .makes 𝓤 H A W) at′ (u64-p .val at′ ∷ []) at′-is $ fjoin ! $
-        owned ! (Move-p .row) (Is (Move-p .row)) (Move-p .makes 𝓤 H A W) (handledMove m (lent ((touchedRows (sessions) (f′ .«session_id») (f′ .time))) (streams) (objects)) (d) (f′ .«session_id») (f′ .«stream_id») body) (Move-p .val (handledMove m (lent ((touchedRows (sessions) (f′ .«session_id») (f′ .time))) (streams) (objects)) (d) (f′ .«session_id») (f′ .«stream_id») body) ∷ []) is-6·Live·7 $ fjoin ! $
-        owned ! (u64-p .row) (Is (u64-p .row)) (u64-p .makes 𝓤 H A W) (r′ .wrote) (u64-p .val (r′ .wrote) ∷ []) (LL.owed Ran-t.the-type Ran-l.the-laws r′ _ r′-is .1 .1 .0) $ fjoin ! $
-        owned ! (u8-p .row) (Is (u8-p .row)) (u8-p .makes 𝓤 H A W) (r′ .next) (u8-p .val (r′ .next) ∷ []) (LL.owed Ran-t.the-type Ran-l.the-laws r′ _ r′-is .0) $ fjoin ! $
-        owned ! (Frame-p .row) (Is (Frame-p .row)) (Frame-p .makes 𝓤 H A W) f′ (Frame-p .val f′ ∷ []) f′-is $ fjoin ! $ move ! (2 ∷ 0 ∷ []) $ fjoin ! $ move ! (1 ∷ 0 ∷ []) $
-        calls-any-last ! fm 1 [] (turn-settle.signature .params) (turn-settle.ended .kept) Ran-p (turn-settle.clauses 𝓤 H A mem run) known-turn-settle ((ν-6·Live·10-out ∷ []), tt) (fullShare, tt) tt (at-list b₄ o₄ δ-6·Live·10-out out, (f′, (r′ .next, (r′ .wrote, (handledMove m (lent ((touchedRows (sessions) (f′ .«session_id») (f′ .time))) (streams) (objects)) (d) (f′ .«session_id») (f′ .«stream_id») body, (at′, tt)))))) (sliceVal (b₄, o₄) n₄ ∷ [], (Frame-p .val f′ ∷ [], (u8-p .val (r′ .next) ∷ [], (u64-p .val (r′ .wrote) ∷ [], (Move-p .val (handledMove m (lent ((touchedRows (sessions) (f′ .«session_id») (f′ .time))) (streams) (objects)) (d) (f′ .«session_id») (f′ .«stream_id») body) ∷ [], (u64-p .val at′ ∷ [], tt)))))) tt (settled f′ (r′ .next) (r′ .wrote) (handledMove m (lent ((touchedRows (sessions) (f′ .«session_id») (f′ .time))) (streams) (objects)) (d) (f′ .«session_id») (f′ .«stream_id») body) at′) (λ ws-6·Live·10. (ws-6·Live·10 .0 ≡ putBytes (out) (r′ .wrote) (moveBytes (f′ .«session_id») (f′ .«stream_id») (handledMove m (lent ((touchedRows (sessions) (f′ .«session_id») (f′ .time))) (streams) (objects)) (d) (f′ .«session_id») (f′ .«stream_id») body)))) (factI 𝓤 ((r′ .wrote) ≤ 18446744073709551600) _ asks-6·Live·10) (λ r ws-6·Live·10. fact-mono 𝓤 ((r ≡ settled f′ (r′ .next) (r′ .wrote) (handledMove m (lent ((touchedRows (sessions) (f′ .«session_id») (f′ .time))) (streams) (objects)) (d) (f′ .«session_id») (f′ .«stream_id») body) at′) × ((ws-6·Live·10 .0) ≡ putBytes (out) (r′ .wrote) (moveBytes (f′ .«session_id») (f′ .«stream_id») (handledMove m (lent ((touchedRows (sessions) (f′ .«session_id») (f′ .time))) (streams) (objects)) (d) (f′ .«session_id») (f′ .«stream_id») body)))) ((r ≡ (settled f′ (r′ .next) (r′ .wrote) (handledMove m (lent ((touchedRows (sessions) (f′ .«session_id») (f′ .time))) (streams) (objects)) (d) (f′ .«session_id») (f′ .«stream_id») body) at′)) × ((ws-6·Live·10 .0 ≡ putBytes (out) (r′ .wrote) (moveBytes (f′ .«session_id») (f′ .«stream_id») (handledMove m (lent ((touchedRows (sessions) (f′ .«session_id») (f′ .time))) (streams) (objects)) (d) (f′ .«session_id») (f′ .«stream_id») body))))) (λ e. (e .0, e .1))) (λ _. (and-then ! (load ! (from ! (stop !)) (look ! 10 refl)) (and-then ! (load ! (from ! (stop !)) (look ! 48 refl)) (and-then ! (load ! (from ! (fld ! refl (stop !))) (look-in ! 46 (sub ! 0 refl (whole !)))) (and-then ! (load ! (from ! (fld ! refl (stop !))) (look-in ! 46 (sub ! 2 refl (whole !)))) (and-then ! (load ! (from ! (stop !)) (look ! 32 refl)) (and-then ! (load ! (from ! (stop !)) (look ! 40 refl)) (no-more !)))))))) (λ ws-6·Live·10 said-6·Live·10 is-6·Live·10.
-        use1 W ((‵ (flft (ν-6·Live·10-out ∷ []) fullShare) ⊛ ‵ ftrue)) (id⊢ 𝓤 _) $ split ! $ move ! (2 ∷ []) $ fsplit ! $ fsplit ! $ move ! (1 ∷ []) $
-        feqL ! (λ wlen-6·Live·10-0.
-        move ! (2 ∷ 4 ∷ 0 ∷ []) $
-        backs-mut ! tt u8 b₄ o₄ out n₄ (refl) room₄ ν-6·Live·10-out δ-6·Live·10-out (ws-6·Live·10 .0) (putBytes (out) (r′ .wrote) (moveBytes (f′ .«session_id») (f′ .«stream_id») (handledMove m (lent ((touchedRows (sessions) (f′ .«session_id») (f′ .time))) (streams) (objects)) (d) (f′ .«session_id») (f′ .«stream_id») body))) wlen-6·Live·10-0 (said-6·Live·10) (λ len-6·Live·10-out.
-        move ! (2 ∷ []) $ drop ! $ move ! (2 ∷ []) $ drop ! $
-        land-last ! (from ! (stop !)) (init ! 26 refl (Ran-p .typed 𝓤 H A W (settled f′ (r′ .next) (r′ .wrote) (handledMove m (lent ((touchedRows (sessions) (f′ .«session_id») (f′ .time))) (streams) (objects)) (d) (f′ .«session_id») (f′ .«stream_id») body) at′) is-6·Live·10)) $
-        exec ! C Λ En mir.t-7 (atRet En Post) $
-        assigns ! (of-opd ! (load ! (from ! (stop !)) (look ! 26 refl))) (from ! (stop !)) (init ! 60 refl (Ran-p .typed 𝓤 H A W (settled f′ (r′ .next) (r′ .wrote) (handledMove m (lent ((touchedRows (sessions) (f′ .«session_id») (f′ .time))) (streams) (objects)) (d) (f′ .«session_id») (f′ .«stream_id») body) at′) is-6·Live·10)) $
-        returns ! (look ! 60 refl) $ forget ! 10 refl $ forget ! 12 refl $ forget ! 14 refl $ forget ! 16 refl $ forget ! 18 refl $ forget ! 20 refl $ forget ! 22 refl $ forget ! 24 refl $ forget ! 26 refl $ forget ! 28 refl $ forget ! 30 refl $ forget ! 32 refl $ forget ! 34 refl $ forget ! 36 refl $ forget ! 38 refl $ forget ! 40 refl $ forget ! 42 refl $ forget ! 44 refl $ forget ! 46 refl $ forget ! 48 refl $ forget ! 50 refl $ forget ! 52 refl $ forget ! 54 refl $ forget ! 56 refl $ forget ! 58 refl $ forget ! 60 refl $ move ! (60 ∷ 61 ∷ []) $ free1 ! $ move ! (58 ∷ 59 ∷ []) $ free1 ! $ move ! (56 ∷ 57 ∷ []) $ free1 ! $ move ! (54 ∷ 55 ∷ []) $ free1 ! $ move ! (52 ∷ 53 ∷ []) $ free1 ! $ move ! (50 ∷ 51 ∷ []) $ free1 ! $ move ! (48 ∷ 49 ∷ []) $ free1 ! $ move ! (46 ∷ 47 ∷ []) $ free1 ! $ move ! (44 ∷ 45 ∷ []) $ free1 ! $ move ! (42 ∷ 43 ∷ []) $ free1 ! $ move ! (40 ∷ 41 ∷ []) $ free1 ! $ move ! (38 ∷ 39 ∷ []) $ free1 ! $ move ! (36 ∷ 37 ∷ []) $ free1 ! $ move ! (34 ∷ 35 ∷ []) $ free1 ! $ move ! (32 ∷ 33 ∷ []) $ free1 ! $ move ! (30 ∷ 31 ∷ []) $ free1 ! $ move ! (28 ∷ 29 ∷ []) $ free1 ! $ move ! (26 ∷ 27 ∷ []) $ free1 ! $ move ! (24 ∷ 25 ∷ []) $ free1 ! $ move ! (22 ∷ 23 ∷ []) $ free1 ! $ move ! (20 ∷ 21 ∷ []) $ free1 ! $ move ! (18 ∷ 19 ∷ []) $ free1 ! $ move ! (16 ∷ 17 ∷ []) $ free1 ! $ move ! (14 ∷ 15 ∷ []) $ free1 ! $ move ! (12 ∷ 13 ∷ []) $ free1 ! $ move ! (10 ∷ 11 ∷ []) $ free1 ! $ free0 ! $ move ! (6 ∷ 7 ∷ 4 ∷ 5 ∷ 2 ∷ 3 ∷ 0 ∷ 1 ∷ 9 ∷ 8 ∷ []) $
-        by ! (exits (settled f′ (r′ .next) (r′ .wrote) (handledMove m (lent ((touchedRows (sessions) (f′ .«session_id») (f′ .time))) (streams) (objects)) (d) (f′ .«session_id») (f′ .«stream_id») body) at′) (handledTables m (lent ((touchedRows (sessions) (f′ .«session_id») (f′ .time))) (streams) (objects)) (f′ .«session_id») (f′ .«stream_id») .sessions) (handledTables m (lent ((touchedRows (sessions) (f′ .«session_id») (f′ .time))) (streams) (objects)) (f′ .«session_id») (f′ .«stream_id») .streams) (handledTables m (lent ((touchedRows (sessions) (f′ .«session_id») (f′ .time))) (streams) (objects)) (f′ .«session_id») (f′ .«stream_id») .objects) (putBytes (out) (r′ .wrote) (moveBytes (f′ .«session_id») (f′ .«stream_id») (handledMove m (lent ((touchedRows (sessions) (f′ .«session_id») (f′ .time))) (streams) (objects)) (d) (f′ .«session_id») (f′ .«stream_id») body))) (as-left out _ (r′ .wrote) (left Named-Live) (left (namedOf sessions (f′ .«session_id»))) (ap left (sym e-6)) (handled-written out (r′ .wrote) f′ m (lent (touchedRows sessions (f′ .«session_id») (f′ .time)) streams objects) d body)) is-6·Live·10 len-6·Live·7-sessions len-6·Live·7-streams len-6·Live·7-objects len-6·Live·10-out))))))))))))))))
-
-    matched-6-NotLive-1 : (len-5-sessions : length (touchedRows (sessions) (f′ .«session_id») (f′ .time)) ≡ n₁) → (is-5 : Is (Named-p .row) (namedOf (sessions) (f′ .«session_id»)) (Named-p .val (namedOf (sessions) (f′ .«session_id»)) ∷ [])) → (e-6 : namedOf (sessions) (f′ .«session_id») ≡ Named-NotLive) → (good-6 : Is (Named-p .row) Named-NotLive (Named-p .val Named-NotLive ∷ [])) → Sq W (‵ (MutSlice (named 0) κ₁ (Array u64 5) .own (at-list b₁ o₁ γ₁ (touchedRows (sessions) (f′ .«session_id») (f′ .time))) (sliceVal (b₁, o₁) n₁ ∷ [])) ∷ ‵ (flft κ₁ q₁) ∷ ‵ (MutSlice (named 0) κ₂ (Array u16 35) .own (at-list b₂ o₂ γ₂ streams) (sliceVal (b₂, o₂) n₂ ∷ [])) ∷ ‵ (flft κ₂ q₂) ∷ ‵ (MutSlice (named 0) κ₃ Object-t.the-row .own (at-list b₃ o₃ γ₃ objects) (sliceVal (b₃, o₃) n₃ ∷ [])) ∷ ‵ (flft κ₃ q₃) ∷ ‵ (MutSlice (named 0) κ₄ u8 .own (at-list b₄ o₄ γ₄ out) (sliceVal (b₄, o₄) n₄ ∷ [])) ∷ ‵ (flft κ₄ q₄) ∷ ‵ (ShrSlice (named 0) κ₅ u8 .own (at-list b₅ o₅ γ₅ d) (sliceVal (b₅, o₅) n₅ ∷ [])) ∷ ‵ (flft κ₅ q₅) ∷ free 𝓤 (sliceTy (tyRef erased mut (pointee (u8 .written)))) l₂₅ (free 𝓤 (tyRef erased mut (pointee (u8 .written))) l₂₄ (free 𝓤 (sliceTy (tyRef erased mut (pointee (Object-t.the-row .written)))) l₂₃ (free 𝓤 (tyRef erased mut (pointee (Object-t.the-row .written))) l₂₂ (free 𝓤 (sliceTy (tyRef erased mut (pointee ((Array u16 35) .written)))) l₂₁ (free 𝓤 (tyRef erased mut (pointee ((Array u16 35) .written))) l₂₀ (free 𝓤 (sliceTy (tyRef erased mut (pointee ((Array u64 5) .written)))) l₁₉ (free 𝓤 (tyRef erased mut (pointee ((Array u64 5) .written))) l₁₈ (free 𝓤 Ran-l.mir l₁₇ (full 𝓤 (sliceTy (tyRef erased mut (pointee ((Array u64 5) .written)))) l₁₆ (sliceVal (b₁, o₁) n₁) (full 𝓤 (tyRef erased mut (pointee ((Array u64 5) .written))) l₁₅ (vptr b₁ o₁) (free 𝓤 Move-l.mir l₁₄ (full 𝓤 Named-l.mir l₁₃ (Named-p .val Named-NotLive) (full 𝓤 (tyInt w8) l₁₂ (u8-p .val (f′ .«stream_id»)) (full 𝓤 (tyInt w8) l₁₁ (u8-p .val (f′ .«session_id»)) (full 𝓤 (tyInt w64) l₁₀ (u64-p .val at′) (full 𝓤 Span-l.mir l₉ (Span-p .val body) (full 𝓤 Submessage-l.mir l₈ (Submessage-p .val m) (full 𝓤 Ran-l.mir l₇ (Ran-p .val r′) (full 𝓤 Frame-l.mir l₆ (Frame-p .val f′) (full 𝓤 (sliceTy (tyRef (named 4) imm (pointee (u8 .written)))) l₅ (sliceVal (b₅, o₅) n₅) (full 𝓤 (sliceTy (tyRef (named 3) mut (pointee (u8 .written)))) l₄ (sliceVal (b₄, o₄) n₄) (full 𝓤 (sliceTy (tyRef (named 2) mut (pointee (Object-t.the-row .written)))) l₃ (sliceVal (b₃, o₃) n₃) (full 𝓤 (sliceTy (tyRef (named 1) mut (pointee ((Array u16 35) .written)))) l₂ (sliceVal (b₂, o₂) n₂) (full 𝓤 (sliceTy (tyRef (named 0) mut (pointee ((Array u64 5) .written)))) l₁ (sliceVal (b₁, o₁) n₁) (free 𝓤 Ran-l.mir l₀ ([]))))))))))))))))))))))))))) (runs C Λ En (one mir.t-6) (anyQ (afterSeq 𝓤 H (Wp 𝓤 H C Λ En mir.t-7 (atReturn 𝓤 H En Post)) (atReturn 𝓤 H En Post))))
-    matched-6-NotLive-1 len-5-sessions is-5 e-6 good-6 =
-        switches-on ! (load ! (from ! (vrt ! refl (fld ! refl (stop !)))) (look-tag ! 34 (whole !))) $ exec ! C Λ En (arm-of 1 (one mir.t-6)) (anyQ (afterSeq 𝓤 H (Wp 𝓤 H C Λ En mir.t-7 (atReturn 𝓤 H En Post)) (atReturn 𝓤 H En Post))) $
-        -- 6.NotLive.1: agent::turn::passed
+        land ! (from ! (stop !)) (init ! 34 refl (Move-p .typed 𝓤 H A W (handledMove m (lent ((touchedRows (sessions) (f′ .«session_id») (f′ .time))) (streams) (objects)) (d) (f′ .«session_id») (f′ .«stream_id») body) is-7·yes·7)) $ move ! (4 ∷ 5 ∷ 2 ∷ 3 ∷ 0 ∷ 1 ∷ 8 ∷ 9 ∷ 7 ∷ 6 ∷ 10 ∷ 11 ∷ 12 ∷ 13 ∷ 14 ∷ 15 ∷ 16 ∷ 17 ∷ 18 ∷ 19 ∷ 20 ∷ 21 ∷ 22 ∷ 23 ∷ 24 ∷ 25 ∷ 26 ∷ 27 ∷ 28 ∷ 29 ∷ 30 ∷ 31 ∷ 32 ∷ 33 ∷ 34 ∷ 35 ∷ 36 ∷ 37 ∷ 38 ∷ 39 ∷ 40 ∷ 41 ∷ 42 ∷ 43 ∷ 44 ∷ 45 ∷ 46 ∷ 47 ∷ 48 ∷ 49 ∷ 50 ∷ 51 ∷ 52 ∷ 53 ∷ 54 ∷ 55 ∷ 56 ∷ 57 ∷ 58 ∷ 59 ∷ 60 ∷ 61 ∷ 62 ∷ 63 ∷ []) $
+        part-7·yes·8-0 len-5-sessions is-5 is-6 c-7 len-7·yes·7-sessions len-7·yes·7-streams len-7·yes·7-objects is-7·yes·7))))))))))))
+        (λ h-7.
+        knows ! (isLive (namedOf (sessions) (f′ .«session_id»)) ≡ false) (fails (isLive (namedOf (sessions) (f′ .«session_id»))) (T-not (isLive (namedOf (sessions) (f′ .«session_id»))) h-7)) (λ c-7.
+        -- 7.no.1: agent::turn::passed
         nothing ! $
         use1 W (raw (toks 𝓤 A 0 (tt) (tt))) (id⊢ 𝓤 _) $ nothing ! $
         owned ! (u64-p .row) (Is (u64-p .row)) (u64-p .makes 𝓤 H A W) at′ (u64-p .val at′ ∷ []) at′-is $ fjoin ! $
         owned ! (Ran-p .row) (Is (Ran-p .row)) (Ran-p .makes 𝓤 H A W) r′ (Ran-p .val r′ ∷ []) r′-is $ fjoin ! $ move ! (1 ∷ 0 ∷ []) $
-        calls-any-last ! fm 0 [] (turn-passed.signature .params) (turn-passed.ended .kept) Ran-p (turn-passed.clauses 𝓤 H A mem run) known-turn-passed tt tt tt (r′, (at′, tt)) (Ran-p .val r′ ∷ [], (u64-p .val at′ ∷ [], tt)) tt (passed r′ at′) (λ ws-6·NotLive·1. Unit {0}) (id⊢ 𝓤 _) (λ r ws-6·NotLive·1. fact-mono 𝓤 (r ≡ passed r′ at′) ((r ≡ (passed r′ at′)) × (Unit {0})) (λ e. (e, tt))) (λ _. (and-then ! (load ! (from ! (stop !)) (look ! 47 refl)) (and-then ! (load ! (from ! (stop !)) (look ! 41 refl)) (no-more !)))) (λ ws-6·NotLive·1 said-6·NotLive·1 is-6·NotLive·1.
+        calls-any-last ! fm 0 [] (turn-passed.signature .params) (turn-passed.ended .kept) Ran-p (turn-passed.clauses 𝓤 H A mem run) known-turn-passed tt tt tt (r′, (at′, tt)) (Ran-p .val r′ ∷ [], (u64-p .val at′ ∷ [], tt)) tt (passed r′ at′) (λ ws-7·no·1. Unit {0}) (id⊢ 𝓤 _) (λ r ws-7·no·1. fact-mono 𝓤 (r ≡ passed r′ at′) ((r ≡ (passed r′ at′)) × (Unit {0})) (λ e. (e, tt))) (λ _. (and-then ! (load ! (from ! (stop !)) (look ! 49 refl)) (and-then ! (load ! (from ! (stop !)) (look ! 43 refl)) (no-more !)))) (λ ws-7·no·1 said-7·no·1 is-7·no·1.
         drop ! $ drop ! $
-        land-last ! (from ! (stop !)) (init ! 26 refl (Ran-p .typed 𝓤 H A W (passed r′ at′) is-6·NotLive·1)) $
-        exec ! C Λ En mir.t-7 (atRet En Post) $
-        assigns ! (of-opd ! (load ! (from ! (stop !)) (look ! 26 refl))) (from ! (stop !)) (init ! 60 refl (Ran-p .typed 𝓤 H A W (passed r′ at′) is-6·NotLive·1)) $
-        returns ! (look ! 60 refl) $ forget ! 26 refl $ forget ! 28 refl $ forget ! 30 refl $ forget ! 34 refl $ forget ! 36 refl $ forget ! 38 refl $ forget ! 40 refl $ forget ! 42 refl $ forget ! 44 refl $ forget ! 46 refl $ forget ! 48 refl $ forget ! 50 refl $ forget ! 52 refl $ forget ! 54 refl $ forget ! 56 refl $ forget ! 58 refl $ forget ! 60 refl $ move ! (60 ∷ 61 ∷ []) $ free1 ! $ move ! (58 ∷ 59 ∷ []) $ free1 ! $ move ! (56 ∷ 57 ∷ []) $ free1 ! $ move ! (54 ∷ 55 ∷ []) $ free1 ! $ move ! (52 ∷ 53 ∷ []) $ free1 ! $ move ! (50 ∷ 51 ∷ []) $ free1 ! $ move ! (48 ∷ 49 ∷ []) $ free1 ! $ move ! (46 ∷ 47 ∷ []) $ free1 ! $ move ! (44 ∷ 45 ∷ []) $ free1 ! $ move ! (42 ∷ 43 ∷ []) $ free1 ! $ move ! (40 ∷ 41 ∷ []) $ free1 ! $ move ! (38 ∷ 39 ∷ []) $ free1 ! $ move ! (36 ∷ 37 ∷ []) $ free1 ! $ move ! (34 ∷ 35 ∷ []) $ free1 ! $ move ! (32 ∷ 33 ∷ []) $ free1 ! $ move ! (30 ∷ 31 ∷ []) $ free1 ! $ move ! (28 ∷ 29 ∷ []) $ free1 ! $ move ! (26 ∷ 27 ∷ []) $ free1 ! $ move ! (24 ∷ 25 ∷ []) $ free1 ! $ move ! (22 ∷ 23 ∷ []) $ free1 ! $ move ! (20 ∷ 21 ∷ []) $ free1 ! $ move ! (18 ∷ 19 ∷ []) $ free1 ! $ move ! (16 ∷ 17 ∷ []) $ free1 ! $ move ! (14 ∷ 15 ∷ []) $ free1 ! $ move ! (12 ∷ 13 ∷ []) $ free1 ! $ move ! (10 ∷ 11 ∷ []) $ free1 ! $ free0 ! $
-        by ! (exits (passed r′ at′) (touchedRows (sessions) (f′ .«session_id») (f′ .time)) streams objects out (as-left out _ (r′ .wrote) (left Named-NotLive) (left (namedOf sessions (f′ .«session_id»))) (ap left (sym e-6)) (no-replies out (r′ .wrote))) is-6·NotLive·1 len-5-sessions refl refl refl))
+        land-last ! (from ! (stop !)) (init ! 26 refl (Ran-p .typed 𝓤 H A W (passed r′ at′) is-7·no·1)) $
+        exec ! C Λ En mir.t-8 (atRet En Post) $
+        part-8-3 len-5-sessions is-5 is-6 c-7 is-7·no·1)))
 
-    matched-6-Refused-2 : (len-5-sessions : length (touchedRows (sessions) (f′ .«session_id») (f′ .time)) ≡ n₁) → (is-5 : Is (Named-p .row) (namedOf (sessions) (f′ .«session_id»)) (Named-p .val (namedOf (sessions) (f′ .«session_id»)) ∷ [])) → (y : Refusal) → (e-6 : namedOf (sessions) (f′ .«session_id») ≡ Named-Refused y) → (good-6 : Is (Named-p .row) (Named-Refused y) (Named-p .val (Named-Refused y) ∷ [])) → Sq W (‵ (MutSlice (named 0) κ₁ (Array u64 5) .own (at-list b₁ o₁ γ₁ (touchedRows (sessions) (f′ .«session_id») (f′ .time))) (sliceVal (b₁, o₁) n₁ ∷ [])) ∷ ‵ (flft κ₁ q₁) ∷ ‵ (MutSlice (named 0) κ₂ (Array u16 35) .own (at-list b₂ o₂ γ₂ streams) (sliceVal (b₂, o₂) n₂ ∷ [])) ∷ ‵ (flft κ₂ q₂) ∷ ‵ (MutSlice (named 0) κ₃ Object-t.the-row .own (at-list b₃ o₃ γ₃ objects) (sliceVal (b₃, o₃) n₃ ∷ [])) ∷ ‵ (flft κ₃ q₃) ∷ ‵ (MutSlice (named 0) κ₄ u8 .own (at-list b₄ o₄ γ₄ out) (sliceVal (b₄, o₄) n₄ ∷ [])) ∷ ‵ (flft κ₄ q₄) ∷ ‵ (ShrSlice (named 0) κ₅ u8 .own (at-list b₅ o₅ γ₅ d) (sliceVal (b₅, o₅) n₅ ∷ [])) ∷ ‵ (flft κ₅ q₅) ∷ free 𝓤 (sliceTy (tyRef erased mut (pointee (u8 .written)))) l₂₅ (free 𝓤 (tyRef erased mut (pointee (u8 .written))) l₂₄ (free 𝓤 (sliceTy (tyRef erased mut (pointee (Object-t.the-row .written)))) l₂₃ (free 𝓤 (tyRef erased mut (pointee (Object-t.the-row .written))) l₂₂ (free 𝓤 (sliceTy (tyRef erased mut (pointee ((Array u16 35) .written)))) l₂₁ (free 𝓤 (tyRef erased mut (pointee ((Array u16 35) .written))) l₂₀ (free 𝓤 (sliceTy (tyRef erased mut (pointee ((Array u64 5) .written)))) l₁₉ (free 𝓤 (tyRef erased mut (pointee ((Array u64 5) .written))) l₁₈ (free 𝓤 Ran-l.mir l₁₇ (full 𝓤 (sliceTy (tyRef erased mut (pointee ((Array u64 5) .written)))) l₁₆ (sliceVal (b₁, o₁) n₁) (full 𝓤 (tyRef erased mut (pointee ((Array u64 5) .written))) l₁₅ (vptr b₁ o₁) (free 𝓤 Move-l.mir l₁₄ (full 𝓤 Named-l.mir l₁₃ (Named-p .val (Named-Refused y)) (full 𝓤 (tyInt w8) l₁₂ (u8-p .val (f′ .«stream_id»)) (full 𝓤 (tyInt w8) l₁₁ (u8-p .val (f′ .«session_id»)) (full 𝓤 (tyInt w64) l₁₀ (u64-p .val at′) (full 𝓤 Span-l.mir l₉ (Span-p .val body) (full 𝓤 Submessage-l.mir l₈ (Submessage-p .val m) (full 𝓤 Ran-l.mir l₇ (Ran-p .val r′) (full 𝓤 Frame-l.mir l₆ (Frame-p .val f′) (full 𝓤 (sliceTy (tyRef (named 4) imm (pointee (u8 .written)))) l₅ (sliceVal (b₅, o₅) n₅) (full 𝓤 (sliceTy (tyRef (named 3) mut (pointee (u8 .written)))) l₄ (sliceVal (b₄, o₄) n₄) (full 𝓤 (sliceTy (tyRef (named 2) mut (pointee (Object-t.the-row .written)))) l₃ (sliceVal (b₃, o₃) n₃) (full 𝓤 (sliceTy (tyRef (named 1) mut (pointee ((Array u16 35) .written)))) l₂ (sliceVal (b₂, o₂) n₂) (full 𝓤 (sliceTy (tyRef (named 0) mut (pointee ((Array u64 5) .written)))) l₁ (sliceVal (b₁, o₁) n₁) (free 𝓤 Ran-l.mir l₀ ([]))))))))))))))))))))))))))) (runs C Λ En (one mir.t-6) (anyQ (afterSeq 𝓤 H (Wp 𝓤 H C Λ En mir.t-7 (atReturn 𝓤 H En Post)) (atReturn 𝓤 H En Post))))
-    matched-6-Refused-2 len-5-sessions is-5 y e-6 good-6 =
-        knows ! (Is (Refusal-p .row) y (Refusal-p .val y ∷ [])) (EL.owed Named-t.the-type Named-l.the-laws (Named-Refused y) _ good-6 .0) (λ y-is.
-        switches-on ! (load ! (from ! (vrt ! refl (fld ! refl (stop !)))) (look-tag ! 34 (whole !))) $ exec ! C Λ En (arm-of 2 (one mir.t-6)) (anyQ (afterSeq 𝓤 H (Wp 𝓤 H C Λ En mir.t-7 (atReturn 𝓤 H En Post)) (atReturn 𝓤 H En Post))) $
-        -- 6.Refused.1: agent::turn::passed
+    part-6-0 : (len-5-sessions : length (touchedRows (sessions) (f′ .«session_id») (f′ .time)) ≡ n₁) → (is-5 : Is (Named-p .row) (namedOf (sessions) (f′ .«session_id»)) (Named-p .val (namedOf (sessions) (f′ .«session_id»)) ∷ [])) → Sq W (‵ (MutSlice (named 0) κ₁ (Array u64 5) .own (at-list b₁ o₁ γ₁ (touchedRows (sessions) (f′ .«session_id») (f′ .time))) (sliceVal (b₁, o₁) n₁ ∷ [])) ∷ ‵ (flft κ₁ q₁) ∷ ‵ (MutSlice (named 0) κ₂ (Array u16 35) .own (at-list b₂ o₂ γ₂ streams) (sliceVal (b₂, o₂) n₂ ∷ [])) ∷ ‵ (flft κ₂ q₂) ∷ ‵ (MutSlice (named 0) κ₃ Object-t.the-row .own (at-list b₃ o₃ γ₃ objects) (sliceVal (b₃, o₃) n₃ ∷ [])) ∷ ‵ (flft κ₃ q₃) ∷ ‵ (MutSlice (named 0) κ₄ u8 .own (at-list b₄ o₄ γ₄ out) (sliceVal (b₄, o₄) n₄ ∷ [])) ∷ ‵ (flft κ₄ q₄) ∷ ‵ (ShrSlice (named 0) κ₅ u8 .own (at-list b₅ o₅ γ₅ d) (sliceVal (b₅, o₅) n₅ ∷ [])) ∷ ‵ (flft κ₅ q₅) ∷ free 𝓤 (sliceTy (tyRef erased mut (pointee (u8 .written)))) l₂₆ (free 𝓤 (tyRef erased mut (pointee (u8 .written))) l₂₅ (free 𝓤 (sliceTy (tyRef erased mut (pointee (Object-t.the-row .written)))) l₂₄ (free 𝓤 (tyRef erased mut (pointee (Object-t.the-row .written))) l₂₃ (free 𝓤 (sliceTy (tyRef erased mut (pointee ((Array u16 35) .written)))) l₂₂ (free 𝓤 (tyRef erased mut (pointee ((Array u16 35) .written))) l₂₁ (free 𝓤 (sliceTy (tyRef erased mut (pointee ((Array u64 5) .written)))) l₂₀ (free 𝓤 (tyRef erased mut (pointee ((Array u64 5) .written))) l₁₉ (free 𝓤 Ran-l.mir l₁₈ (free 𝓤 tyBool l₁₇ (full 𝓤 (sliceTy (tyRef erased mut (pointee ((Array u64 5) .written)))) l₁₆ (sliceVal (b₁, o₁) n₁) (full 𝓤 (tyRef erased mut (pointee ((Array u64 5) .written))) l₁₅ (vptr b₁ o₁) (free 𝓤 Move-l.mir l₁₄ (full 𝓤 Named-l.mir l₁₃ (Named-p .val (namedOf (sessions) (f′ .«session_id»))) (full 𝓤 (tyInt w8) l₁₂ (u8-p .val (f′ .«stream_id»)) (full 𝓤 (tyInt w8) l₁₁ (u8-p .val (f′ .«session_id»)) (full 𝓤 (tyInt w64) l₁₀ (u64-p .val at′) (full 𝓤 Span-l.mir l₉ (Span-p .val body) (full 𝓤 Submessage-l.mir l₈ (Submessage-p .val m) (full 𝓤 Ran-l.mir l₇ (Ran-p .val r′) (full 𝓤 Frame-l.mir l₆ (Frame-p .val f′) (full 𝓤 (sliceTy (tyRef (named 4) imm (pointee (u8 .written)))) l₅ (sliceVal (b₅, o₅) n₅) (full 𝓤 (sliceTy (tyRef (named 3) mut (pointee (u8 .written)))) l₄ (sliceVal (b₄, o₄) n₄) (full 𝓤 (sliceTy (tyRef (named 2) mut (pointee (Object-t.the-row .written)))) l₃ (sliceVal (b₃, o₃) n₃) (full 𝓤 (sliceTy (tyRef (named 1) mut (pointee ((Array u16 35) .written)))) l₂ (sliceVal (b₂, o₂) n₂) (full 𝓤 (sliceTy (tyRef (named 0) mut (pointee ((Array u64 5) .written)))) l₁ (sliceVal (b₁, o₁) n₁) (free 𝓤 Ran-l.mir l₀ ([])))))))))))))))))))))))))))) (runs C Λ En mir.t-6 (atRet En Post))
+    part-6-0 len-5-sessions is-5 =
+        -- 6: agent::turn::is_live
         nothing ! $
         use1 W (raw (toks 𝓤 A 0 (tt) (tt))) (id⊢ 𝓤 _) $ nothing ! $
-        owned ! (u64-p .row) (Is (u64-p .row)) (u64-p .makes 𝓤 H A W) at′ (u64-p .val at′ ∷ []) at′-is $ fjoin ! $
-        owned ! (Ran-p .row) (Is (Ran-p .row)) (Ran-p .makes 𝓤 H A W) r′ (Ran-p .val r′ ∷ []) r′-is $ fjoin ! $ move ! (1 ∷ 0 ∷ []) $
-        calls-any-last ! fm 0 [] (turn-passed.signature .params) (turn-passed.ended .kept) Ran-p (turn-passed.clauses 𝓤 H A mem run) known-turn-passed tt tt tt (r′, (at′, tt)) (Ran-p .val r′ ∷ [], (u64-p .val at′ ∷ [], tt)) tt (passed r′ at′) (λ ws-6·Refused·1. Unit {0}) (id⊢ 𝓤 _) (λ r ws-6·Refused·1. fact-mono 𝓤 (r ≡ passed r′ at′) ((r ≡ (passed r′ at′)) × (Unit {0})) (λ e. (e, tt))) (λ _. (and-then ! (load ! (from ! (stop !)) (look ! 47 refl)) (and-then ! (load ! (from ! (stop !)) (look ! 41 refl)) (no-more !)))) (λ ws-6·Refused·1 said-6·Refused·1 is-6·Refused·1.
+        owned ! (Named-p .row) (Is (Named-p .row)) (Named-p .makes 𝓤 H A W) (namedOf (sessions) (f′ .«session_id»)) (Named-p .val (namedOf (sessions) (f′ .«session_id»)) ∷ []) is-5 $ fjoin ! $ move ! (1 ∷ 0 ∷ []) $
+        calls-any ! fm 0 [] (turn-is-live.signature .params) (turn-is-live.ended .kept) bool-p (turn-is-live.clauses 𝓤 H A mem run) known-turn-is-live tt tt tt (namedOf (sessions) (f′ .«session_id»), tt) (Named-p .val (namedOf (sessions) (f′ .«session_id»)) ∷ [], tt) tt (isLive (namedOf (sessions) (f′ .«session_id»))) (λ ws-6. Unit {0}) (id⊢ 𝓤 _) (λ r ws-6. fact-mono 𝓤 (r ≡ isLive (namedOf (sessions) (f′ .«session_id»))) ((r ≡ (isLive (namedOf (sessions) (f′ .«session_id»)))) × (Unit {0})) (λ e. (e, tt))) (λ _. (and-then ! (load ! (from ! (stop !)) (look ! 37 refl)) (no-more !))) (λ ws-6 said-6 is-6.
         drop ! $ drop ! $
-        land-last ! (from ! (stop !)) (init ! 26 refl (Ran-p .typed 𝓤 H A W (passed r′ at′) is-6·Refused·1)) $
-        exec ! C Λ En mir.t-7 (atRet En Post) $
-        assigns ! (of-opd ! (load ! (from ! (stop !)) (look ! 26 refl))) (from ! (stop !)) (init ! 60 refl (Ran-p .typed 𝓤 H A W (passed r′ at′) is-6·Refused·1)) $
-        returns ! (look ! 60 refl) $ forget ! 26 refl $ forget ! 28 refl $ forget ! 30 refl $ forget ! 34 refl $ forget ! 36 refl $ forget ! 38 refl $ forget ! 40 refl $ forget ! 42 refl $ forget ! 44 refl $ forget ! 46 refl $ forget ! 48 refl $ forget ! 50 refl $ forget ! 52 refl $ forget ! 54 refl $ forget ! 56 refl $ forget ! 58 refl $ forget ! 60 refl $ move ! (60 ∷ 61 ∷ []) $ free1 ! $ move ! (58 ∷ 59 ∷ []) $ free1 ! $ move ! (56 ∷ 57 ∷ []) $ free1 ! $ move ! (54 ∷ 55 ∷ []) $ free1 ! $ move ! (52 ∷ 53 ∷ []) $ free1 ! $ move ! (50 ∷ 51 ∷ []) $ free1 ! $ move ! (48 ∷ 49 ∷ []) $ free1 ! $ move ! (46 ∷ 47 ∷ []) $ free1 ! $ move ! (44 ∷ 45 ∷ []) $ free1 ! $ move ! (42 ∷ 43 ∷ []) $ free1 ! $ move ! (40 ∷ 41 ∷ []) $ free1 ! $ move ! (38 ∷ 39 ∷ []) $ free1 ! $ move ! (36 ∷ 37 ∷ []) $ free1 ! $ move ! (34 ∷ 35 ∷ []) $ free1 ! $ move ! (32 ∷ 33 ∷ []) $ free1 ! $ move ! (30 ∷ 31 ∷ []) $ free1 ! $ move ! (28 ∷ 29 ∷ []) $ free1 ! $ move ! (26 ∷ 27 ∷ []) $ free1 ! $ move ! (24 ∷ 25 ∷ []) $ free1 ! $ move ! (22 ∷ 23 ∷ []) $ free1 ! $ move ! (20 ∷ 21 ∷ []) $ free1 ! $ move ! (18 ∷ 19 ∷ []) $ free1 ! $ move ! (16 ∷ 17 ∷ []) $ free1 ! $ move ! (14 ∷ 15 ∷ []) $ free1 ! $ move ! (12 ∷ 13 ∷ []) $ free1 ! $ move ! (10 ∷ 11 ∷ []) $ free1 ! $ free0 ! $
-        by ! (exits (passed r′ at′) (touchedRows (sessions) (f′ .«session_id») (f′ .time)) streams objects out (as-left out _ (r′ .wrote) (left (Named-Refused y)) (left (namedOf sessions (f′ .«session_id»))) (ap left (sym e-6)) (no-replies out (r′ .wrote))) is-6·Refused·1 len-5-sessions refl refl refl)))
+        land ! (from ! (stop !)) (init ! 28 refl (bool-p .typed 𝓤 H A W (isLive (namedOf (sessions) (f′ .«session_id»))) is-6)) $
+        part-7-0 len-5-sessions is-5 is-6)
 
-    matched-6-0 : (len-5-sessions : length (touchedRows (sessions) (f′ .«session_id») (f′ .time)) ≡ n₁) → (is-5 : Is (Named-p .row) (namedOf (sessions) (f′ .«session_id»)) (Named-p .val (namedOf (sessions) (f′ .«session_id»)) ∷ [])) → (z : Named) → (namedOf (sessions) (f′ .«session_id»)) ≡ z → Is (Named-p .row) z (Named-p .val z ∷ []) → Sq W (‵ (MutSlice (named 0) κ₁ (Array u64 5) .own (at-list b₁ o₁ γ₁ (touchedRows (sessions) (f′ .«session_id») (f′ .time))) (sliceVal (b₁, o₁) n₁ ∷ [])) ∷ ‵ (flft κ₁ q₁) ∷ ‵ (MutSlice (named 0) κ₂ (Array u16 35) .own (at-list b₂ o₂ γ₂ streams) (sliceVal (b₂, o₂) n₂ ∷ [])) ∷ ‵ (flft κ₂ q₂) ∷ ‵ (MutSlice (named 0) κ₃ Object-t.the-row .own (at-list b₃ o₃ γ₃ objects) (sliceVal (b₃, o₃) n₃ ∷ [])) ∷ ‵ (flft κ₃ q₃) ∷ ‵ (MutSlice (named 0) κ₄ u8 .own (at-list b₄ o₄ γ₄ out) (sliceVal (b₄, o₄) n₄ ∷ [])) ∷ ‵ (flft κ₄ q₄) ∷ ‵ (ShrSlice (named 0) κ₅ u8 .own (at-list b₅ o₅ γ₅ d) (sliceVal (b₅, o₅) n₅ ∷ [])) ∷ ‵ (flft κ₅ q₅) ∷ free 𝓤 (sliceTy (tyRef erased mut (pointee (u8 .written)))) l₂₅ (free 𝓤 (tyRef erased mut (pointee (u8 .written))) l₂₄ (free 𝓤 (sliceTy (tyRef erased mut (pointee (Object-t.the-row .written)))) l₂₃ (free 𝓤 (tyRef erased mut (pointee (Object-t.the-row .written))) l₂₂ (free 𝓤 (sliceTy (tyRef erased mut (pointee ((Array u16 35) .written)))) l₂₁ (free 𝓤 (tyRef erased mut (pointee ((Array u16 35) .written))) l₂₀ (free 𝓤 (sliceTy (tyRef erased mut (pointee ((Array u64 5) .written)))) l₁₉ (free 𝓤 (tyRef erased mut (pointee ((Array u64 5) .written))) l₁₈ (free 𝓤 Ran-l.mir l₁₇ (full 𝓤 (sliceTy (tyRef erased mut (pointee ((Array u64 5) .written)))) l₁₆ (sliceVal (b₁, o₁) n₁) (full 𝓤 (tyRef erased mut (pointee ((Array u64 5) .written))) l₁₅ (vptr b₁ o₁) (free 𝓤 Move-l.mir l₁₄ (full 𝓤 Named-l.mir l₁₃ (Named-p .val z) (full 𝓤 (tyInt w8) l₁₂ (u8-p .val (f′ .«stream_id»)) (full 𝓤 (tyInt w8) l₁₁ (u8-p .val (f′ .«session_id»)) (full 𝓤 (tyInt w64) l₁₀ (u64-p .val at′) (full 𝓤 Span-l.mir l₉ (Span-p .val body) (full 𝓤 Submessage-l.mir l₈ (Submessage-p .val m) (full 𝓤 Ran-l.mir l₇ (Ran-p .val r′) (full 𝓤 Frame-l.mir l₆ (Frame-p .val f′) (full 𝓤 (sliceTy (tyRef (named 4) imm (pointee (u8 .written)))) l₅ (sliceVal (b₅, o₅) n₅) (full 𝓤 (sliceTy (tyRef (named 3) mut (pointee (u8 .written)))) l₄ (sliceVal (b₄, o₄) n₄) (full 𝓤 (sliceTy (tyRef (named 2) mut (pointee (Object-t.the-row .written)))) l₃ (sliceVal (b₃, o₃) n₃) (full 𝓤 (sliceTy (tyRef (named 1) mut (pointee ((Array u16 35) .written)))) l₂ (sliceVal (b₂, o₂) n₂) (full 𝓤 (sliceTy (tyRef (named 0) mut (pointee ((Array u64 5) .written)))) l₁ (sliceVal (b₁, o₁) n₁) (free 𝓤 Ran-l.mir l₀ ([]))))))))))))))))))))))))))) (runs C Λ En (one mir.t-6) (anyQ (afterSeq 𝓤 H (Wp 𝓤 H C Λ En mir.t-7 (atReturn 𝓤 H En Post)) (atReturn 𝓤 H En Post))))
-    matched-6-0 len-5-sessions is-5 (Named-Live) e-6 good-6 =
-        matched-6-Live-0 len-5-sessions is-5 e-6 good-6
-    matched-6-0 len-5-sessions is-5 (Named-NotLive) e-6 good-6 =
-        matched-6-NotLive-1 len-5-sessions is-5 e-6 good-6
-    matched-6-0 len-5-sessions is-5 (Named-Refused y) e-6 good-6 =
-        matched-6-Refused-2 len-5-sessions is-5 y e-6 good-6
-
-    begins : Sq W (‵ (MutSlice (named 0) κ₁ (Array u64 5) .own (at-list b₁ o₁ γ₁ sessions) (sliceVal (b₁, o₁) n₁ ∷ [])) ∷ ‵ (flft κ₁ q₁) ∷ ‵ (MutSlice (named 0) κ₂ (Array u16 35) .own (at-list b₂ o₂ γ₂ streams) (sliceVal (b₂, o₂) n₂ ∷ [])) ∷ ‵ (flft κ₂ q₂) ∷ ‵ (MutSlice (named 0) κ₃ Object-t.the-row .own (at-list b₃ o₃ γ₃ objects) (sliceVal (b₃, o₃) n₃ ∷ [])) ∷ ‵ (flft κ₃ q₃) ∷ ‵ (MutSlice (named 0) κ₄ u8 .own (at-list b₄ o₄ γ₄ out) (sliceVal (b₄, o₄) n₄ ∷ [])) ∷ ‵ (flft κ₄ q₄) ∷ ‵ (ShrSlice (named 0) κ₅ u8 .own (at-list b₅ o₅ γ₅ d) (sliceVal (b₅, o₅) n₅ ∷ [])) ∷ ‵ (flft κ₅ q₅) ∷ free 𝓤 (sliceTy (tyRef erased mut (pointee (u8 .written)))) l₂₅ (free 𝓤 (tyRef erased mut (pointee (u8 .written))) l₂₄ (free 𝓤 (sliceTy (tyRef erased mut (pointee (Object-t.the-row .written)))) l₂₃ (free 𝓤 (tyRef erased mut (pointee (Object-t.the-row .written))) l₂₂ (free 𝓤 (sliceTy (tyRef erased mut (pointee ((Array u16 35) .written)))) l₂₁ (free 𝓤 (tyRef erased mut (pointee ((Array u16 35) .written))) l₂₀ (free 𝓤 (sliceTy (tyRef erased mut (pointee ((Array u64 5) .written)))) l₁₉ (free 𝓤 (tyRef erased mut (pointee ((Array u64 5) .written))) l₁₈ (free 𝓤 Ran-l.mir l₁₇ (free 𝓤 (sliceTy (tyRef erased mut (pointee ((Array u64 5) .written)))) l₁₆ (free 𝓤 (tyRef erased mut (pointee ((Array u64 5) .written))) l₁₅ (free 𝓤 Move-l.mir l₁₄ (free 𝓤 Named-l.mir l₁₃ (free 𝓤 (tyInt w8) l₁₂ (free 𝓤 (tyInt w8) l₁₁ (full 𝓤 (tyInt w64) l₁₀ (u64-p .val at′) (full 𝓤 Span-l.mir l₉ (Span-p .val body) (full 𝓤 Submessage-l.mir l₈ (Submessage-p .val m) (full 𝓤 Ran-l.mir l₇ (Ran-p .val r′) (full 𝓤 Frame-l.mir l₆ (Frame-p .val f′) (full 𝓤 (sliceTy (tyRef (named 4) imm (pointee (u8 .written)))) l₅ (sliceVal (b₅, o₅) n₅) (full 𝓤 (sliceTy (tyRef (named 3) mut (pointee (u8 .written)))) l₄ (sliceVal (b₄, o₄) n₄) (full 𝓤 (sliceTy (tyRef (named 2) mut (pointee (Object-t.the-row .written)))) l₃ (sliceVal (b₃, o₃) n₃) (full 𝓤 (sliceTy (tyRef (named 1) mut (pointee ((Array u16 35) .written)))) l₂ (sliceVal (b₂, o₂) n₂) (full 𝓤 (sliceTy (tyRef (named 0) mut (pointee ((Array u64 5) .written)))) l₁ (sliceVal (b₁, o₁) n₁) (free 𝓤 Ran-l.mir l₀ ([]))))))))))))))))))))))))))) (runs C Λ En mir.t-1 (atRet En Post))
+    begins : Sq W (‵ (MutSlice (named 0) κ₁ (Array u64 5) .own (at-list b₁ o₁ γ₁ sessions) (sliceVal (b₁, o₁) n₁ ∷ [])) ∷ ‵ (flft κ₁ q₁) ∷ ‵ (MutSlice (named 0) κ₂ (Array u16 35) .own (at-list b₂ o₂ γ₂ streams) (sliceVal (b₂, o₂) n₂ ∷ [])) ∷ ‵ (flft κ₂ q₂) ∷ ‵ (MutSlice (named 0) κ₃ Object-t.the-row .own (at-list b₃ o₃ γ₃ objects) (sliceVal (b₃, o₃) n₃ ∷ [])) ∷ ‵ (flft κ₃ q₃) ∷ ‵ (MutSlice (named 0) κ₄ u8 .own (at-list b₄ o₄ γ₄ out) (sliceVal (b₄, o₄) n₄ ∷ [])) ∷ ‵ (flft κ₄ q₄) ∷ ‵ (ShrSlice (named 0) κ₅ u8 .own (at-list b₅ o₅ γ₅ d) (sliceVal (b₅, o₅) n₅ ∷ [])) ∷ ‵ (flft κ₅ q₅) ∷ free 𝓤 (sliceTy (tyRef erased mut (pointee (u8 .written)))) l₂₆ (free 𝓤 (tyRef erased mut (pointee (u8 .written))) l₂₅ (free 𝓤 (sliceTy (tyRef erased mut (pointee (Object-t.the-row .written)))) l₂₄ (free 𝓤 (tyRef erased mut (pointee (Object-t.the-row .written))) l₂₃ (free 𝓤 (sliceTy (tyRef erased mut (pointee ((Array u16 35) .written)))) l₂₂ (free 𝓤 (tyRef erased mut (pointee ((Array u16 35) .written))) l₂₁ (free 𝓤 (sliceTy (tyRef erased mut (pointee ((Array u64 5) .written)))) l₂₀ (free 𝓤 (tyRef erased mut (pointee ((Array u64 5) .written))) l₁₉ (free 𝓤 Ran-l.mir l₁₈ (free 𝓤 tyBool l₁₇ (free 𝓤 (sliceTy (tyRef erased mut (pointee ((Array u64 5) .written)))) l₁₆ (free 𝓤 (tyRef erased mut (pointee ((Array u64 5) .written))) l₁₅ (free 𝓤 Move-l.mir l₁₄ (free 𝓤 Named-l.mir l₁₃ (free 𝓤 (tyInt w8) l₁₂ (free 𝓤 (tyInt w8) l₁₁ (full 𝓤 (tyInt w64) l₁₀ (u64-p .val at′) (full 𝓤 Span-l.mir l₉ (Span-p .val body) (full 𝓤 Submessage-l.mir l₈ (Submessage-p .val m) (full 𝓤 Ran-l.mir l₇ (Ran-p .val r′) (full 𝓤 Frame-l.mir l₆ (Frame-p .val f′) (full 𝓤 (sliceTy (tyRef (named 4) imm (pointee (u8 .written)))) l₅ (sliceVal (b₅, o₅) n₅) (full 𝓤 (sliceTy (tyRef (named 3) mut (pointee (u8 .written)))) l₄ (sliceVal (b₄, o₄) n₄) (full 𝓤 (sliceTy (tyRef (named 2) mut (pointee (Object-t.the-row .written)))) l₃ (sliceVal (b₃, o₃) n₃) (full 𝓤 (sliceTy (tyRef (named 1) mut (pointee ((Array u16 35) .written)))) l₂ (sliceVal (b₂, o₂) n₂) (full 𝓤 (sliceTy (tyRef (named 0) mut (pointee ((Array u64 5) .written)))) l₁ (sliceVal (b₁, o₁) n₁) (free 𝓤 Ran-l.mir l₀ ([])))))))))))))))))))))))))))) (runs C Λ En mir.t-1 (atRet En Post))
     begins =
-        assigns ! (of-opd ! (load ! (from ! (fld ! refl (stop !))) (look-in ! 48 (sub ! 2 refl (whole !))))) (from ! (stop !)) (init ! 38 refl (u8-p .typed 𝓤 H A W (f′ .«session_id») (LL.owed Frame-t.the-type Frame-l.the-laws f′ _ f′-is .1 .1 .0))) $
-        assigns ! (of-opd ! (load ! (from ! (fld ! refl (stop !))) (look-in ! 48 (sub ! 3 refl (whole !))))) (from ! (stop !)) (init ! 36 refl (u8-p .typed 𝓤 H A W (f′ .«stream_id») (LL.owed Frame-t.the-type Frame-l.the-laws f′ _ f′-is .1 .1 .1 .0))) $
-        assigns ! (addr ! (from ! (fld ! refl (hop ! (look-in ! 58 (sub ! 0 refl (whole !))) (stop !))))) (from ! (stop !)) (init ! 30 refl (tt, tt)) $
-        assigns ! (agg ! (and-then ! (load ! (from ! (stop !)) (look ! 30 refl)) (and-then ! (load ! (from ! (fld ! refl (stop !))) (look-in ! 58 (sub ! 1 refl (whole !)))) (no-more !)))) (from ! (stop !)) (init ! 28 refl (tt, (tt, (record { fits = room₁ .0 }, tt)))) $
+        assigns ! (of-opd ! (load ! (from ! (fld ! refl (stop !))) (look-in ! 50 (sub ! 2 refl (whole !))))) (from ! (stop !)) (init ! 40 refl (u8-p .typed 𝓤 H A W (f′ .«session_id») (LL.owed Frame-t.the-type Frame-l.the-laws f′ _ f′-is .1 .1 .0))) $
+        assigns ! (of-opd ! (load ! (from ! (fld ! refl (stop !))) (look-in ! 50 (sub ! 3 refl (whole !))))) (from ! (stop !)) (init ! 38 refl (u8-p .typed 𝓤 H A W (f′ .«stream_id») (LL.owed Frame-t.the-type Frame-l.the-laws f′ _ f′-is .1 .1 .1 .0))) $
+        assigns ! (addr ! (from ! (fld ! refl (hop ! (look-in ! 60 (sub ! 0 refl (whole !))) (stop !))))) (from ! (stop !)) (init ! 32 refl (tt, tt)) $
+        assigns ! (agg ! (and-then ! (load ! (from ! (stop !)) (look ! 32 refl)) (and-then ! (load ! (from ! (fld ! refl (stop !))) (look-in ! 60 (sub ! 1 refl (whole !)))) (no-more !)))) (from ! (stop !)) (init ! 30 refl (tt, (tt, (record { fits = room₁ .0 }, tt)))) $
         -- 5: sessions::table::touch
         lends-mut ! tt (Array u64 5) b₁ o₁ sessions n₁ (refl) (λ ν-5-sessions δ-5-sessions.
         nothing ! $ move ! (1 ∷ 0 ∷ []) $ join ! $
         use1 W (raw (toks 𝓤 A 1 (((ν-5-sessions ∷ []), tt)) ((fullShare, tt)))) (id⊢ 𝓤 _) $ nothing ! $
         owned ! (u64-p .row) (Is (u64-p .row)) (u64-p .makes 𝓤 H A W) (f′ .time) (u64-p .val (f′ .time) ∷ []) (LL.owed Frame-t.the-type Frame-l.the-laws f′ _ f′-is .1 .0) $ fjoin ! $
         owned ! (u8-p .row) (Is (u8-p .row)) (u8-p .makes 𝓤 H A W) (f′ .«session_id») (u8-p .val (f′ .«session_id») ∷ []) (LL.owed Frame-t.the-type Frame-l.the-laws f′ _ f′-is .1 .1 .0) $ fjoin ! $ move ! (2 ∷ 0 ∷ []) $ fjoin ! $ move ! (1 ∷ 0 ∷ []) $
-        calls-any ! fm 1 [] (table-touch.signature .params) (table-touch.ended .kept) Named-p (table-touch.clauses 𝓤 H A mem run) known-table-touch ((ν-5-sessions ∷ []), tt) (fullShare, tt) tt (at-list b₁ o₁ δ-5-sessions sessions, (f′ .«session_id», (f′ .time, tt))) (sliceVal (b₁, o₁) n₁ ∷ [], (u8-p .val (f′ .«session_id») ∷ [], (u64-p .val (f′ .time) ∷ [], tt))) tt (namedOf (sessions) (f′ .«session_id»)) (λ ws-5. (ws-5 .0 ≡ touchedRows (sessions) (f′ .«session_id») (f′ .time))) (id⊢ 𝓤 _) (λ r ws-5. fact-mono 𝓤 ((r ≡ namedOf (sessions) (f′ .«session_id»)) × ((ws-5 .0) ≡ touchedRows (sessions) (f′ .«session_id») (f′ .time))) ((r ≡ (namedOf (sessions) (f′ .«session_id»))) × ((ws-5 .0 ≡ touchedRows (sessions) (f′ .«session_id») (f′ .time)))) (λ e. (e .0, e .1))) (λ _. (and-then ! (load ! (from ! (stop !)) (look ! 28 refl)) (and-then ! (load ! (from ! (stop !)) (look ! 38 refl)) (and-then ! (load ! (from ! (fld ! refl (stop !))) (look-in ! 48 (sub ! 1 refl (whole !)))) (no-more !))))) (λ ws-5 said-5 is-5.
+        calls-any ! fm 1 [] (table-touch.signature .params) (table-touch.ended .kept) Named-p (table-touch.clauses 𝓤 H A mem run) known-table-touch ((ν-5-sessions ∷ []), tt) (fullShare, tt) tt (at-list b₁ o₁ δ-5-sessions sessions, (f′ .«session_id», (f′ .time, tt))) (sliceVal (b₁, o₁) n₁ ∷ [], (u8-p .val (f′ .«session_id») ∷ [], (u64-p .val (f′ .time) ∷ [], tt))) tt (namedOf (sessions) (f′ .«session_id»)) (λ ws-5. (ws-5 .0 ≡ touchedRows (sessions) (f′ .«session_id») (f′ .time))) (id⊢ 𝓤 _) (λ r ws-5. fact-mono 𝓤 ((r ≡ namedOf (sessions) (f′ .«session_id»)) × ((ws-5 .0) ≡ touchedRows (sessions) (f′ .«session_id») (f′ .time))) ((r ≡ (namedOf (sessions) (f′ .«session_id»))) × ((ws-5 .0 ≡ touchedRows (sessions) (f′ .«session_id») (f′ .time)))) (λ e. (e .0, e .1))) (λ _. (and-then ! (load ! (from ! (stop !)) (look ! 30 refl)) (and-then ! (load ! (from ! (stop !)) (look ! 40 refl)) (and-then ! (load ! (from ! (fld ! refl (stop !))) (look-in ! 50 (sub ! 1 refl (whole !)))) (no-more !))))) (λ ws-5 said-5 is-5.
         use1 W ((‵ (flft (ν-5-sessions ∷ []) fullShare) ⊛ ‵ ftrue)) (id⊢ 𝓤 _) $ split ! $ move ! (2 ∷ []) $ fsplit ! $ fsplit ! $ move ! (1 ∷ []) $
         feqL ! (λ wlen-5-0.
         move ! (2 ∷ 4 ∷ 0 ∷ []) $
         backs-mut ! tt (Array u64 5) b₁ o₁ sessions n₁ (refl) room₁ ν-5-sessions δ-5-sessions (ws-5 .0) (touchedRows (sessions) (f′ .«session_id») (f′ .time)) wlen-5-0 (said-5) (λ len-5-sessions.
         move ! (2 ∷ []) $ drop ! $ move ! (2 ∷ []) $ drop ! $
-        land ! (from ! (stop !)) (init ! 34 refl (Named-p .typed 𝓤 H A W (namedOf (sessions) (f′ .«session_id»)) is-5)) $
-        first ! $
-        matched-6-0 len-5-sessions is-5 (namedOf (sessions) (f′ .«session_id»)) refl is-5))))
+        land ! (from ! (stop !)) (init ! 36 refl (Named-p .typed 𝓤 H A W (namedOf (sessions) (f′ .«session_id»)) is-5)) $
+        part-6-0 len-5-sessions is-5))))
 
-  module _ (𝓣 : Tables 𝓤 H) (known-table-touch : Triple 𝓤 (𝓣 .C #table-touch) (Of-table-touch 𝓤 H A mem run)) (known-turn-handle : Triple 𝓤 (𝓣 .C #turn-handle) (Of-turn-handle 𝓤 H A mem run)) (known-turn-settle : Triple 𝓤 (𝓣 .C #turn-settle) (Of-turn-settle 𝓤 H A mem run)) (known-turn-passed : Triple 𝓤 (𝓣 .C #turn-passed) (Of-turn-passed 𝓤 H A mem run)) where
+  module _ (𝓣 : Tables 𝓤 H) (known-table-touch : Triple 𝓤 (𝓣 .C #table-touch) (Of-table-touch 𝓤 H A mem run)) (known-turn-is-live : Triple 𝓤 (𝓣 .C #turn-is-live) (Of-turn-is-live 𝓤 H A mem run)) (known-turn-handle : Triple 𝓤 (𝓣 .C #turn-handle) (Of-turn-handle 𝓤 H A mem run)) (known-turn-settle : Triple 𝓤 (𝓣 .C #turn-settle) (Of-turn-settle 𝓤 H A mem run)) (known-turn-passed : Triple 𝓤 (𝓣 .C #turn-passed) (Of-turn-passed 𝓤 H A mem run)) where
     walk : ent 𝓤 (onEntry 𝓤 H A f.signature (κ₁, (κ₂, (κ₃, (κ₄, (κ₅, tt))))) (q₁, (q₂, (q₃, (q₄, (q₅, tt))))) x at) (WpFn 𝓤 H (𝓣 .C) (𝓣 .Λ) code.function (sliceVal (b₁, o₁) n₁ ∷ sliceVal (b₂, o₂) n₂ ∷ sliceVal (b₃, o₃) n₃ ∷ sliceVal (b₄, o₄) n₄ ∷ sliceVal (b₅, o₅) n₅ ∷ Frame-p .val f′ ∷ Ran-p .val r′ ∷ Submessage-p .val m ∷ Span-p .val body ∷ u64-p .val at′ ∷ []) Post)
     walk =
         qed W ((‵ (flft κ₁ q₁) ⊛ (‵ (flft κ₂ q₂) ⊛ (‵ (flft κ₃ q₃) ⊛ (‵ (flft κ₄ q₄) ⊛ (‵ (flft κ₅ q₅) ⊛ ‵ ftrue))))) ∷ ‵ (owns (MutSlice (named 0) κ₁ (Array u64 5) ∷ MutSlice (named 1) κ₂ (Array u16 35) ∷ MutSlice (named 2) κ₃ Object-t.the-row ∷ MutSlice (named 3) κ₄ u8 ∷ ShrSlice (named 4) κ₅ u8 ∷ Frame-p .row ∷ Ran-p .row ∷ Submessage-p .row ∷ Span-p .row ∷ u64-p .row ∷ []) x at) ∷ []) ∵ enter ! (𝓣 .C) (𝓣 .Λ) code.function (sliceVal (b₁, o₁) n₁ ∷ sliceVal (b₂, o₂) n₂ ∷ sliceVal (b₃, o₃) n₃ ∷ sliceVal (b₄, o₄) n₄ ∷ sliceVal (b₅, o₅) n₅ ∷ Frame-p .val f′ ∷ Ran-p .val r′ ∷ Submessage-p .val m ∷ Span-p .val body ∷ u64-p .val at′ ∷ []) _ $
-        alloc1 ! (λ l₀. alloc1 ! (λ l₁. alloc1 ! (λ l₂. alloc1 ! (λ l₃. alloc1 ! (λ l₄. alloc1 ! (λ l₅. alloc1 ! (λ l₆. alloc1 ! (λ l₇. alloc1 ! (λ l₈. alloc1 ! (λ l₉. alloc1 ! (λ l₁₀. alloc1 ! (λ l₁₁. alloc1 ! (λ l₁₂. alloc1 ! (λ l₁₃. alloc1 ! (λ l₁₄. alloc1 ! (λ l₁₅. alloc1 ! (λ l₁₆. alloc1 ! (λ l₁₇. alloc1 ! (λ l₁₈. alloc1 ! (λ l₁₉. alloc1 ! (λ l₂₀. alloc1 ! (λ l₂₁. alloc1 ! (λ l₂₂. alloc1 ! (λ l₂₃. alloc1 ! (λ l₂₄. alloc1 ! (λ l₂₅. alloc0 ! $ params1 ! $ pass1 ! (init ! 48 refl (tt, (tt, (record { fits = room₁ .0 }, tt)))) $ pass1 ! (init ! 46 refl (tt, (tt, (record { fits = room₂ .0 }, tt)))) $ pass1 ! (init ! 44 refl (tt, (tt, (record { fits = room₃ .0 }, tt)))) $ pass1 ! (init ! 42 refl (tt, (tt, (record { fits = room₄ .0 }, tt)))) $ pass1 ! (init ! 40 refl (tt, (tt, (record { fits = room₅ .0 }, tt)))) $ pass1 ! (init ! 38 refl (Frame-p .typed 𝓤 H A W f′ f′-is)) $ pass1 ! (init ! 36 refl (Ran-p .typed 𝓤 H A W r′ r′-is)) $ pass1 ! (init ! 34 refl (Submessage-p .typed 𝓤 H A W m m-is)) $ pass1 ! (init ! 32 refl (Span-p .typed 𝓤 H A W body body-is)) $ pass1 ! (init ! 30 refl (u64-p .typed 𝓤 H A W at′ at′-is)) $ pass0 ! $ move ! (53 ∷ []) $ fsplit ! $ move ! (1 ∷ []) $ fsplit ! $ move ! (1 ∷ []) $ fsplit ! $ move ! (1 ∷ []) $ fsplit ! $ move ! (1 ∷ []) $ fsplit ! $ move ! (58 ∷ []) $ split ! $ move ! (1 ∷ []) $ split ! $ move ! (1 ∷ []) $ split ! $ move ! (1 ∷ []) $ split ! $ move ! (1 ∷ []) $ split ! $ move ! (1 ∷ []) $ drop ! $ move ! (6 ∷ []) $ drop ! $ move ! (9 ∷ 4 ∷ 8 ∷ 3 ∷ 7 ∷ 2 ∷ 6 ∷ 1 ∷ 5 ∷ 0 ∷ 10 ∷ 11 ∷ 12 ∷ 13 ∷ 14 ∷ 15 ∷ 16 ∷ 17 ∷ 18 ∷ 19 ∷ 20 ∷ 21 ∷ 22 ∷ 23 ∷ 24 ∷ 25 ∷ 26 ∷ 27 ∷ 28 ∷ 29 ∷ 30 ∷ 31 ∷ 32 ∷ 33 ∷ 34 ∷ 35 ∷ 36 ∷ 37 ∷ 38 ∷ 39 ∷ 40 ∷ 41 ∷ 42 ∷ 43 ∷ 44 ∷ 45 ∷ 46 ∷ 47 ∷ 48 ∷ 49 ∷ 50 ∷ 51 ∷ 52 ∷ 53 ∷ 54 ∷ 55 ∷ 56 ∷ 57 ∷ 58 ∷ 59 ∷ 60 ∷ 61 ∷ []) $
-        begins 𝓣 known-table-touch known-turn-handle known-turn-settle known-turn-passed l₀ l₁ l₂ l₃ l₄ l₅ l₆ l₇ l₈ l₉ l₁₀ l₁₁ l₁₂ l₁₃ l₁₄ l₁₅ l₁₆ l₁₇ l₁₈ l₁₉ l₂₀ l₂₁ l₂₂ l₂₃ l₂₄ l₂₅))))))))))))))))))))))))))
+        alloc1 ! (λ l₀. alloc1 ! (λ l₁. alloc1 ! (λ l₂. alloc1 ! (λ l₃. alloc1 ! (λ l₄. alloc1 ! (λ l₅. alloc1 ! (λ l₆. alloc1 ! (λ l₇. alloc1 ! (λ l₈. alloc1 ! (λ l₉. alloc1 ! (λ l₁₀. alloc1 ! (λ l₁₁. alloc1 ! (λ l₁₂. alloc1 ! (λ l₁₃. alloc1 ! (λ l₁₄. alloc1 ! (λ l₁₅. alloc1 ! (λ l₁₆. alloc1 ! (λ l₁₇. alloc1 ! (λ l₁₈. alloc1 ! (λ l₁₉. alloc1 ! (λ l₂₀. alloc1 ! (λ l₂₁. alloc1 ! (λ l₂₂. alloc1 ! (λ l₂₃. alloc1 ! (λ l₂₄. alloc1 ! (λ l₂₅. alloc1 ! (λ l₂₆. alloc0 ! $ params1 ! $ pass1 ! (init ! 50 refl (tt, (tt, (record { fits = room₁ .0 }, tt)))) $ pass1 ! (init ! 48 refl (tt, (tt, (record { fits = room₂ .0 }, tt)))) $ pass1 ! (init ! 46 refl (tt, (tt, (record { fits = room₃ .0 }, tt)))) $ pass1 ! (init ! 44 refl (tt, (tt, (record { fits = room₄ .0 }, tt)))) $ pass1 ! (init ! 42 refl (tt, (tt, (record { fits = room₅ .0 }, tt)))) $ pass1 ! (init ! 40 refl (Frame-p .typed 𝓤 H A W f′ f′-is)) $ pass1 ! (init ! 38 refl (Ran-p .typed 𝓤 H A W r′ r′-is)) $ pass1 ! (init ! 36 refl (Submessage-p .typed 𝓤 H A W m m-is)) $ pass1 ! (init ! 34 refl (Span-p .typed 𝓤 H A W body body-is)) $ pass1 ! (init ! 32 refl (u64-p .typed 𝓤 H A W at′ at′-is)) $ pass0 ! $ move ! (55 ∷ []) $ fsplit ! $ move ! (1 ∷ []) $ fsplit ! $ move ! (1 ∷ []) $ fsplit ! $ move ! (1 ∷ []) $ fsplit ! $ move ! (1 ∷ []) $ fsplit ! $ move ! (60 ∷ []) $ split ! $ move ! (1 ∷ []) $ split ! $ move ! (1 ∷ []) $ split ! $ move ! (1 ∷ []) $ split ! $ move ! (1 ∷ []) $ split ! $ move ! (1 ∷ []) $ drop ! $ move ! (6 ∷ []) $ drop ! $ move ! (9 ∷ 4 ∷ 8 ∷ 3 ∷ 7 ∷ 2 ∷ 6 ∷ 1 ∷ 5 ∷ 0 ∷ 10 ∷ 11 ∷ 12 ∷ 13 ∷ 14 ∷ 15 ∷ 16 ∷ 17 ∷ 18 ∷ 19 ∷ 20 ∷ 21 ∷ 22 ∷ 23 ∷ 24 ∷ 25 ∷ 26 ∷ 27 ∷ 28 ∷ 29 ∷ 30 ∷ 31 ∷ 32 ∷ 33 ∷ 34 ∷ 35 ∷ 36 ∷ 37 ∷ 38 ∷ 39 ∷ 40 ∷ 41 ∷ 42 ∷ 43 ∷ 44 ∷ 45 ∷ 46 ∷ 47 ∷ 48 ∷ 49 ∷ 50 ∷ 51 ∷ 52 ∷ 53 ∷ 54 ∷ 55 ∷ 56 ∷ 57 ∷ 58 ∷ 59 ∷ 60 ∷ 61 ∷ 62 ∷ 63 ∷ []) $
+        begins 𝓣 known-table-touch known-turn-is-live known-turn-handle known-turn-settle known-turn-passed l₀ l₁ l₂ l₃ l₄ l₅ l₆ l₇ l₈ l₉ l₁₀ l₁₁ l₁₂ l₁₃ l₁₄ l₁₅ l₁₆ l₁₇ l₁₈ l₁₉ l₂₀ l₂₁ l₂₂ l₂₃ l₂₄ l₂₅ l₂₆)))))))))))))))))))))))))))
 
-module _ {M : Type 1} (𝓤 : URA M) (H : Heap 𝓤) (A : Atoms 𝓤) (W : Given 𝓤 H A) (mem : Memory → SProp 𝓤) (run : Routine → Fun 𝓤) (𝓣 : Tables 𝓤 H) (known-table-touch : Triple 𝓤 (𝓣 .C #table-touch) (Of-table-touch 𝓤 H A mem run)) (known-turn-handle : Triple 𝓤 (𝓣 .C #turn-handle) (Of-turn-handle 𝓤 H A mem run)) (known-turn-settle : Triple 𝓤 (𝓣 .C #turn-settle) (Of-turn-settle 𝓤 H A mem run)) (known-turn-passed : Triple 𝓤 (𝓣 .C #turn-passed) (Of-turn-passed 𝓤 H A mem run)) where
+module _ {M : Type 1} (𝓤 : URA M) (H : Heap 𝓤) (A : Atoms 𝓤) (W : Given 𝓤 H A) (mem : Memory → SProp 𝓤) (run : Routine → Fun 𝓤) (𝓣 : Tables 𝓤 H) (known-table-touch : Triple 𝓤 (𝓣 .C #table-touch) (Of-table-touch 𝓤 H A mem run)) (known-turn-is-live : Triple 𝓤 (𝓣 .C #turn-is-live) (Of-turn-is-live 𝓤 H A mem run)) (known-turn-handle : Triple 𝓤 (𝓣 .C #turn-handle) (Of-turn-handle 𝓤 H A mem run)) (known-turn-settle : Triple 𝓤 (𝓣 .C #turn-settle) (Of-turn-settle 𝓤 H A mem run)) (known-turn-passed : Triple 𝓤 (𝓣 .C #turn-passed) (Of-turn-passed 𝓤 H A mem run)) where
   walks : Walks 𝓤 H A f.ended stayed (WpFn 𝓤 H (𝓣 .C) (𝓣 .Λ) code.function) (f.clauses 𝓤 H A mem run)
   walks = walked 𝓤 H A f.ended stayed (f.clauses 𝓤 H A mem run) (WpFn 𝓤 H (𝓣 .C) (𝓣 .Λ) code.function) (λ κs. (slice-vals, (slice-vals, (slice-vals, (slice-vals, (slice-vals, ((λ y. Frame-p .val y ∷ []), ((λ y. Ran-p .val y ∷ []), ((λ y. Submessage-p .val y ∷ []), ((λ y. Span-p .val y ∷ []), ((λ y. u64-p .val y ∷ []), tt))))))))))) (λ κs. (mut-slice-tells (named 0) (κs .0) (Array u64 5), (mut-slice-tells (named 1) (κs .1 .0) (Array u16 35), (mut-slice-tells (named 2) (κs .1 .1 .0) Object-t.the-row, (mut-slice-tells (named 3) (κs .1 .1 .1 .0) u8, (shr-slice-tells (named 4) (κs .1 .1 .1 .1 .0) u8, (Frame-p .tells, (Ran-p .tells, (Submessage-p .tells, (Span-p .tells, (u64-p .tells, tt)))))))))))
-      (λ κs qs bounds a g are. needs 𝓤 _ _ (λ within. walk 𝓤 H A W mem run (κs .0) (qs .0) (a .0 .ptr .0) (a .0 .ptr .1) (a .0 .name) (a .0 .now) (κs .1 .0) (qs .1 .0) (a .1 .0 .ptr .0) (a .1 .0 .ptr .1) (a .1 .0 .name) (a .1 .0 .now) (κs .1 .1 .0) (qs .1 .1 .0) (a .1 .1 .0 .ptr .0) (a .1 .1 .0 .ptr .1) (a .1 .1 .0 .name) (a .1 .1 .0 .now) (κs .1 .1 .1 .0) (qs .1 .1 .1 .0) (a .1 .1 .1 .0 .ptr .0) (a .1 .1 .1 .0 .ptr .1) (a .1 .1 .1 .0 .name) (a .1 .1 .1 .0 .now) (κs .1 .1 .1 .1 .0) (qs .1 .1 .1 .1 .0) (a .1 .1 .1 .1 .0 .ptr .0) (a .1 .1 .1 .1 .0 .ptr .1) (a .1 .1 .1 .1 .0 .name) (a .1 .1 .1 .1 .0 .now) (a .1 .1 .1 .1 .1 .0) (a .1 .1 .1 .1 .1 .1 .0) (a .1 .1 .1 .1 .1 .1 .1 .0) (a .1 .1 .1 .1 .1 .1 .1 .1 .0) (a .1 .1 .1 .1 .1 .1 .1 .1 .1 .0) (are .0 .0 .1) (are .1 .0 .0 .1) (are .1 .1 .0 .0 .1) (are .1 .1 .1 .0 .0 .1) (are .1 .1 .1 .1 .0 .0 .1) (are .1 .1 .1 .1 .1 .0) (are .1 .1 .1 .1 .1 .1 .0) (are .1 .1 .1 .1 .1 .1 .1 .0) (are .1 .1 .1 .1 .1 .1 .1 .1 .0) (are .1 .1 .1 .1 .1 .1 .1 .1 .1 .0) within 𝓣 known-table-touch known-turn-handle known-turn-settle known-turn-passed))
+      (λ κs qs bounds a g are. needs 𝓤 _ _ (λ within. walk 𝓤 H A W mem run (κs .0) (qs .0) (a .0 .ptr .0) (a .0 .ptr .1) (a .0 .name) (a .0 .now) (κs .1 .0) (qs .1 .0) (a .1 .0 .ptr .0) (a .1 .0 .ptr .1) (a .1 .0 .name) (a .1 .0 .now) (κs .1 .1 .0) (qs .1 .1 .0) (a .1 .1 .0 .ptr .0) (a .1 .1 .0 .ptr .1) (a .1 .1 .0 .name) (a .1 .1 .0 .now) (κs .1 .1 .1 .0) (qs .1 .1 .1 .0) (a .1 .1 .1 .0 .ptr .0) (a .1 .1 .1 .0 .ptr .1) (a .1 .1 .1 .0 .name) (a .1 .1 .1 .0 .now) (κs .1 .1 .1 .1 .0) (qs .1 .1 .1 .1 .0) (a .1 .1 .1 .1 .0 .ptr .0) (a .1 .1 .1 .1 .0 .ptr .1) (a .1 .1 .1 .1 .0 .name) (a .1 .1 .1 .1 .0 .now) (a .1 .1 .1 .1 .1 .0) (a .1 .1 .1 .1 .1 .1 .0) (a .1 .1 .1 .1 .1 .1 .1 .0) (a .1 .1 .1 .1 .1 .1 .1 .1 .0) (a .1 .1 .1 .1 .1 .1 .1 .1 .1 .0) (are .0 .0 .1) (are .1 .0 .0 .1) (are .1 .1 .0 .0 .1) (are .1 .1 .1 .0 .0 .1) (are .1 .1 .1 .1 .0 .0 .1) (are .1 .1 .1 .1 .1 .0) (are .1 .1 .1 .1 .1 .1 .0) (are .1 .1 .1 .1 .1 .1 .1 .0) (are .1 .1 .1 .1 .1 .1 .1 .1 .0) (are .1 .1 .1 .1 .1 .1 .1 .1 .1 .0) within 𝓣 known-table-touch known-turn-is-live known-turn-handle known-turn-settle known-turn-passed))
 
   meets : Meets 𝓤 H A f.signature (WpFn 𝓤 H (𝓣 .C) (𝓣 .Λ) code.function) (f.spec 𝓤 H A mem run)
   meets = walk-meets 𝓤 H A f.ended stayed W (goes-slice 𝓤 H A W 5 0 tt (plain (λ _. (Array u64 5))), (goes-slice 𝓤 H A W 5 1 tt (plain (λ _. (Array u16 35))), (goes-slice 𝓤 H A W 5 2 tt (plain (λ _. Object-t.the-row)), (goes-slice 𝓤 H A W 5 3 tt (plain (λ _. u8)), (goes-none-slice 𝓤 H A W 5 (4 ∷ []) tt (plain (λ _. u8)) yes, (goes-none 𝓤 H A W 5 (λ _. Frame-p .row) yes (λ κs x f. refl), (goes-none 𝓤 H A W 5 (λ _. Ran-p .row) yes (λ κs x f. refl), (goes-none 𝓤 H A W 5 (λ _. Submessage-p .row) yes (λ κs x f. refl), (goes-none 𝓤 H A W 5 (λ _. Span-p .row) yes (λ κs x f. refl), (goes-none 𝓤 H A W 5 (λ _. u64-p .row) yes (λ κs x f. refl), tt)))))))))) (f.clauses 𝓤 H A mem run) (WpFn 𝓤 H (𝓣 .C) (𝓣 .Λ) code.function) (WpFn-mono 𝓤 H (W .laws) 𝓣 code.function) walks
@@ -499,6 +521,7 @@ deliver-spec 𝓤 H 𝓜 𝓖 𝓡 =
     (tables 𝓤 H 𝓜 𝓡 code.env .C) (tables 𝓤 H 𝓜 𝓡 code.env .Λ) #f code.function (code.unfolded 𝓤 H 𝓜 𝓡)
     (meets 𝓤 H (𝓖 .A) (givenOf 𝓤 H 𝓜 𝓖) (𝓜 .mem) (𝓡 .run) (tablesOf 𝓤 H 𝓜 (tables 𝓤 H 𝓜 𝓡 code.env))
     (cited 𝓤 H (Of-table-touch 𝓤 H (𝓖 .A) (𝓜 .mem) (𝓡 .run)) 𝓜 𝓡 code.env #table-touch table-touch-def.routine code.calls-sessions·table·touch (table-touch-thm.met 𝓤 H 𝓜 𝓖 𝓡))
+    (cited 𝓤 H (Of-turn-is-live 𝓤 H (𝓖 .A) (𝓜 .mem) (𝓡 .run)) 𝓜 𝓡 code.env #turn-is-live turn-is-live-def.routine code.calls-agent·turn·is-live (turn-is-live-thm.met 𝓤 H 𝓜 𝓖 𝓡))
     (cited 𝓤 H (Of-turn-handle 𝓤 H (𝓖 .A) (𝓜 .mem) (𝓡 .run)) 𝓜 𝓡 code.env #turn-handle turn-handle-def.routine code.calls-agent·turn·handle (turn-handle-thm.met 𝓤 H 𝓜 𝓖 𝓡))
     (cited 𝓤 H (Of-turn-settle 𝓤 H (𝓖 .A) (𝓜 .mem) (𝓡 .run)) 𝓜 𝓡 code.env #turn-settle turn-settle-def.routine code.calls-agent·turn·settle (turn-settle-thm.met 𝓤 H 𝓜 𝓖 𝓡))
     (cited 𝓤 H (Of-turn-passed 𝓤 H (𝓖 .A) (𝓜 .mem) (𝓡 .run)) 𝓜 𝓡 code.env #turn-passed turn-passed-def.routine code.calls-agent·turn·passed (turn-passed-thm.met 𝓤 H 𝓜 𝓖 𝓡)))

@@ -56,16 +56,17 @@ use Rattle.codec.specs.Bytes.{putBytes}
 use Rattle.sessions.specs.Table.{namedOf}
 use Rattle.sessions.specs.Opening.{createdOf, openedRows, openedStreams}
 use Rattle.agent.specs.Moves.{moveBytes}
-use Rattle.agent.specs.Rows.{lent, groupOf, handledMove, handledTables}
-use Rattle.agent.specs.Run.{putReplies, settled, stopOf, openingOf, greetingBytes, greeted, passed, delivered, subTurned, isRead, messageRead, bodyRead, endRead, turned}
+use Rattle.agent.specs.Rows.{lent, groupOf, noObject, noCreate, createIn, numberIn, handledMove, handledTables}
+use Rattle.agent.specs.Run.{putReplies, settled, stopOf, greetingBytes, greeted, passed, isLive, delivered, openingRead, messageRead, bodyRead, endRead, turned}
 use Rattle.sessions.specs.Objects.{implicitOf}
 use Rattle.sessions.specs.SessionObjects.{foundObject, greatestObject, storedObject, storedObjects, keepStored, removedObjects, keepRemoved}
 use Rattle.sessions.specs.Room.{roomOf}
 use Rattle.agent.specs.Moves.{writeMove, readMove, deleteMove, topicMove, endpointMove}
 use Rattle.agent.specs.Names.{namesIn}
-use Rattle.agent.specs.Rows.{okMove, createMove, createdSessions, createdObjects, roomMove, roomSessions, roomObjects, objectMove, objectSessions, objectRows}
+use Rattle.agent.specs.Rows.{okMove, createMove, createdSessions, createdObjects, isFree, noRoomMove, roomMove, roomSessions, roomObjects}
 use Rattle.sessions.specs.SessionStreams.{streamPlace}
 use Rattle.agent.specs.RowsStreams.{acknowledgedRows, streamMove, streamRows, openedSessions, openedRows as openedRows-of-stream-moves-handle-stream, readOf}
+use types.Kit.{frees, prop}
 use Rattle.agent.specs.Rows.{handledBy, handledIn}
 use Rattle.sessions.specs.declared.objects.Object.{Object}
 use Rattle.sessions.proofs.objects.Object as Object-t
@@ -133,15 +134,35 @@ use Rattle.sessions.proofs.objects.Handle.Laws as Handle-l
 use Rattle.agent.specs.declared.turn.Group.{Group}
 use Rattle.agent.proofs.turn.Group as Group-t
 use Rattle.agent.proofs.turn.Group.Laws as Group-l
-use Rattle.agent.specs.declared.turn.Group.the-variants.{Objects as Group-Objects, Streams as Group-Streams, Neither as Group-Neither}
+use Rattle.agent.specs.declared.turn.Group.the-variants.{Creates as Group-Creates, Deletes as Group-Deletes, Writes as Group-Writes, Reads as Group-Reads, Streams as Group-Streams, Neither as Group-Neither}
 use Rattle.agent.proofs.turn.group_of as turn-group-of
 use Rattle.agent.proofs.turn.group_of.Symbol as turn-group-of-def
 use Rattle.agent.proofs.turn.group_of.Symbol.{name as #turn-group-of}
 use Rattle.agent.proofs.turn.group_of.Met as turn-group-of-thm
-use Rattle.agent.proofs.objects.handle_object as objects-handle-object
-use Rattle.agent.proofs.objects.handle_object.Symbol as objects-handle-object-def
-use Rattle.agent.proofs.objects.handle_object.Symbol.{name as #objects-handle-object}
-use Rattle.agent.proofs.objects.handle_object.Met as objects-handle-object-thm
+use Rattle.agent.proofs.turn.create_in as turn-create-in
+use Rattle.agent.proofs.turn.create_in.Symbol as turn-create-in-def
+use Rattle.agent.proofs.turn.create_in.Symbol.{name as #turn-create-in}
+use Rattle.agent.proofs.turn.create_in.Met as turn-create-in-thm
+use Rattle.agent.proofs.turn.number_in as turn-number-in
+use Rattle.agent.proofs.turn.number_in.Symbol as turn-number-in-def
+use Rattle.agent.proofs.turn.number_in.Symbol.{name as #turn-number-in}
+use Rattle.agent.proofs.turn.number_in.Met as turn-number-in-thm
+use Rattle.agent.proofs.objects.create as objects-create
+use Rattle.agent.proofs.objects.create.Symbol as objects-create-def
+use Rattle.agent.proofs.objects.create.Symbol.{name as #objects-create}
+use Rattle.agent.proofs.objects.create.Met as objects-create-thm
+use Rattle.agent.proofs.objects.delete as objects-delete
+use Rattle.agent.proofs.objects.delete.Symbol as objects-delete-def
+use Rattle.agent.proofs.objects.delete.Symbol.{name as #objects-delete}
+use Rattle.agent.proofs.objects.delete.Met as objects-delete-thm
+use Rattle.agent.proofs.objects.write_data as objects-write-data
+use Rattle.agent.proofs.objects.write_data.Symbol as objects-write-data-def
+use Rattle.agent.proofs.objects.write_data.Symbol.{name as #objects-write-data}
+use Rattle.agent.proofs.objects.write_data.Met as objects-write-data-thm
+use Rattle.agent.proofs.objects.read_data as objects-read-data
+use Rattle.agent.proofs.objects.read_data.Symbol as objects-read-data-def
+use Rattle.agent.proofs.objects.read_data.Symbol.{name as #objects-read-data}
+use Rattle.agent.proofs.objects.read_data.Met as objects-read-data-thm
 use Rattle.agent.proofs.stream_moves.handle_stream as stream-moves-handle-stream
 use Rattle.agent.proofs.stream_moves.handle_stream.Symbol as stream-moves-handle-stream-def
 use Rattle.agent.proofs.stream_moves.handle_stream.Symbol.{name as #stream-moves-handle-stream}
@@ -258,8 +279,23 @@ module _ {M : Type 1} (𝓤 : URA M) (H : Heap 𝓤) (A : Atoms 𝓤) (mem : Mem
   abbrev Of-turn-group-of : Contract 𝓤
   Of-turn-group-of = tripleOf 𝓤 H A turn-group-of.signature (turn-group-of.spec 𝓤 H A mem run)
 
-  abbrev Of-objects-handle-object : Contract 𝓤
-  Of-objects-handle-object = tripleOf 𝓤 H A objects-handle-object.signature (objects-handle-object.spec 𝓤 H A mem run)
+  abbrev Of-turn-create-in : Contract 𝓤
+  Of-turn-create-in = tripleOf 𝓤 H A turn-create-in.signature (turn-create-in.spec 𝓤 H A mem run)
+
+  abbrev Of-turn-number-in : Contract 𝓤
+  Of-turn-number-in = tripleOf 𝓤 H A turn-number-in.signature (turn-number-in.spec 𝓤 H A mem run)
+
+  abbrev Of-objects-create : Contract 𝓤
+  Of-objects-create = tripleOf 𝓤 H A objects-create.signature (objects-create.spec 𝓤 H A mem run)
+
+  abbrev Of-objects-delete : Contract 𝓤
+  Of-objects-delete = tripleOf 𝓤 H A objects-delete.signature (objects-delete.spec 𝓤 H A mem run)
+
+  abbrev Of-objects-write-data : Contract 𝓤
+  Of-objects-write-data = tripleOf 𝓤 H A objects-write-data.signature (objects-write-data.spec 𝓤 H A mem run)
+
+  abbrev Of-objects-read-data : Contract 𝓤
+  Of-objects-read-data = tripleOf 𝓤 H A objects-read-data.signature (objects-read-data.spec 𝓤 H A mem run)
 
   abbrev Of-stream-moves-handle-stream : Contract 𝓤
   Of-stream-moves-handle-stream = tripleOf 𝓤 H A stream-moves-handle-stream.signature (stream-moves-handle-stream.spec 𝓤 H A mem run)
@@ -299,7 +335,7 @@ module _ {M : Type 1} (𝓤 : URA M) (H : Heap 𝓤) (A : Atoms 𝓤) (W : Given
       frame ! $
       owned ! (Move-p .row) (Is (Move-p .row)) (Move-p .makes 𝓤 H A W) r _ r-is $ done !
 
-  module _ (𝓣 : Tables 𝓤 H) (known-turn-group-of : Triple 𝓤 (𝓣 .C #turn-group-of) (Of-turn-group-of 𝓤 H A mem run)) (known-objects-handle-object : Triple 𝓤 (𝓣 .C #objects-handle-object) (Of-objects-handle-object 𝓤 H A mem run)) (known-stream-moves-handle-stream : Triple 𝓤 (𝓣 .C #stream-moves-handle-stream) (Of-stream-moves-handle-stream 𝓤 H A mem run)) (l₀ l₁ l₂ l₃ l₄ l₅ l₆ l₇ l₈ l₉ l₁₀ l₁₁ l₁₂ l₁₃ l₁₄ l₁₅ l₁₆ l₁₇ l₁₈ : ℕ) where
+  module _ (𝓣 : Tables 𝓤 H) (known-turn-group-of : Triple 𝓤 (𝓣 .C #turn-group-of) (Of-turn-group-of 𝓤 H A mem run)) (known-turn-create-in : Triple 𝓤 (𝓣 .C #turn-create-in) (Of-turn-create-in 𝓤 H A mem run)) (known-turn-number-in : Triple 𝓤 (𝓣 .C #turn-number-in) (Of-turn-number-in 𝓤 H A mem run)) (known-objects-create : Triple 𝓤 (𝓣 .C #objects-create) (Of-objects-create 𝓤 H A mem run)) (known-objects-delete : Triple 𝓤 (𝓣 .C #objects-delete) (Of-objects-delete 𝓤 H A mem run)) (known-objects-write-data : Triple 𝓤 (𝓣 .C #objects-write-data) (Of-objects-write-data 𝓤 H A mem run)) (known-objects-read-data : Triple 𝓤 (𝓣 .C #objects-read-data) (Of-objects-read-data 𝓤 H A mem run)) (known-stream-moves-handle-stream : Triple 𝓤 (𝓣 .C #stream-moves-handle-stream) (Of-stream-moves-handle-stream 𝓤 H A mem run)) (l₀ l₁ l₂ l₃ l₄ l₅ l₆ l₇ l₈ l₉ l₁₀ l₁₁ l₁₂ l₁₃ l₁₄ l₁₅ l₁₆ l₁₇ l₁₈ l₁₉ l₂₀ l₂₁ l₂₂ l₂₃ l₂₄ l₂₅ l₂₆ l₂₇ l₂₈ l₂₉ l₃₀ l₃₁ l₃₂ : ℕ) where
     abbrev C : Calls 𝓤 H
     C = 𝓣 .C
 
@@ -310,113 +346,252 @@ module _ {M : Type 1} (𝓤 : URA M) (H : Heap 𝓤) (A : Atoms 𝓤) (W : Given
     fm = fmOf 𝓤 H (W .laws) 𝓣
 
     abbrev En : Env 𝓤 H
-    En = (Move-l.mir, l₀) ∷ ((sliceTy (tyRef (named 0) mut (pointee ((Array u64 5) .written)))), l₁) ∷ ((sliceTy (tyRef (named 1) mut (pointee ((Array u16 35) .written)))), l₂) ∷ ((sliceTy (tyRef (named 2) mut (pointee (Object-t.the-row .written)))), l₃) ∷ ((sliceTy (tyRef (named 3) imm (pointee (u8 .written)))), l₄) ∷ ((tyInt w8), l₅) ∷ ((tyInt w8), l₆) ∷ (Submessage-l.mir, l₇) ∷ (Span-l.mir, l₈) ∷ (Group-l.mir, l₉) ∷ (Move-l.mir, l₁₀) ∷ ((tyRef erased mut (pointee ((Array u64 5) .written))), l₁₁) ∷ ((sliceTy (tyRef erased mut (pointee ((Array u64 5) .written)))), l₁₂) ∷ ((tyRef erased mut (pointee (Object-t.the-row .written))), l₁₃) ∷ ((sliceTy (tyRef erased mut (pointee (Object-t.the-row .written)))), l₁₄) ∷ ((tyRef erased mut (pointee ((Array u64 5) .written))), l₁₅) ∷ ((sliceTy (tyRef erased mut (pointee ((Array u64 5) .written)))), l₁₆) ∷ ((tyRef erased mut (pointee ((Array u16 35) .written))), l₁₇) ∷ ((sliceTy (tyRef erased mut (pointee ((Array u16 35) .written)))), l₁₈) ∷ []
+    En = (Move-l.mir, l₀) ∷ ((sliceTy (tyRef (named 0) mut (pointee ((Array u64 5) .written)))), l₁) ∷ ((sliceTy (tyRef (named 1) mut (pointee ((Array u16 35) .written)))), l₂) ∷ ((sliceTy (tyRef (named 2) mut (pointee (Object-t.the-row .written)))), l₃) ∷ ((sliceTy (tyRef (named 3) imm (pointee (u8 .written)))), l₄) ∷ ((tyInt w8), l₅) ∷ ((tyInt w8), l₆) ∷ (Submessage-l.mir, l₇) ∷ (Span-l.mir, l₈) ∷ (Group-l.mir, l₉) ∷ (CreatePayload-l.mir, l₁₀) ∷ (ObjectNumber-l.mir, l₁₁) ∷ (Move-l.mir, l₁₂) ∷ ((tyRef erased mut (pointee ((Array u64 5) .written))), l₁₃) ∷ ((sliceTy (tyRef erased mut (pointee ((Array u64 5) .written)))), l₁₄) ∷ ((tyRef erased mut (pointee (Object-t.the-row .written))), l₁₅) ∷ ((sliceTy (tyRef erased mut (pointee (Object-t.the-row .written)))), l₁₆) ∷ ((tyRef erased mut (pointee ((Array u64 5) .written))), l₁₇) ∷ ((sliceTy (tyRef erased mut (pointee ((Array u64 5) .written)))), l₁₈) ∷ ((tyRef erased mut (pointee (Object-t.the-row .written))), l₁₉) ∷ ((sliceTy (tyRef erased mut (pointee (Object-t.the-row .written)))), l₂₀) ∷ ((tyRef erased imm (pointee ((Array u64 5) .written))), l₂₁) ∷ ((sliceTy (tyRef erased imm (pointee ((Array u64 5) .written)))), l₂₂) ∷ ((tyRef erased imm (pointee (Object-t.the-row .written))), l₂₃) ∷ ((sliceTy (tyRef erased imm (pointee (Object-t.the-row .written)))), l₂₄) ∷ ((tyRef erased imm (pointee ((Array u64 5) .written))), l₂₅) ∷ ((sliceTy (tyRef erased imm (pointee ((Array u64 5) .written)))), l₂₆) ∷ ((tyRef erased imm (pointee (Object-t.the-row .written))), l₂₇) ∷ ((sliceTy (tyRef erased imm (pointee (Object-t.the-row .written)))), l₂₈) ∷ ((tyRef erased mut (pointee ((Array u64 5) .written))), l₂₉) ∷ ((sliceTy (tyRef erased mut (pointee ((Array u64 5) .written)))), l₃₀) ∷ ((tyRef erased mut (pointee ((Array u16 35) .written))), l₃₁) ∷ ((sliceTy (tyRef erased mut (pointee ((Array u16 35) .written)))), l₃₂) ∷ []
 
-    matched-2-Objects-0 : (is-1 : Is (Group-p .row) (groupOf m) (Group-p .val (groupOf m) ∷ [])) → (e-2 : groupOf m ≡ Group-Objects) → (good-2 : Is (Group-p .row) Group-Objects (Group-p .val Group-Objects ∷ [])) → Sq W (‵ (MutSlice (named 0) κ₁ (Array u64 5) .own (at-list b₁ o₁ γ₁ sessions) (sliceVal (b₁, o₁) n₁ ∷ [])) ∷ ‵ (flft κ₁ q₁) ∷ ‵ (MutSlice (named 0) κ₂ (Array u16 35) .own (at-list b₂ o₂ γ₂ streams) (sliceVal (b₂, o₂) n₂ ∷ [])) ∷ ‵ (flft κ₂ q₂) ∷ ‵ (MutSlice (named 0) κ₃ Object-t.the-row .own (at-list b₃ o₃ γ₃ objects) (sliceVal (b₃, o₃) n₃ ∷ [])) ∷ ‵ (flft κ₃ q₃) ∷ ‵ (ShrSlice (named 0) κ₄ u8 .own (at-list b₄ o₄ γ₄ d) (sliceVal (b₄, o₄) n₄ ∷ [])) ∷ ‵ (flft κ₄ q₄) ∷ free 𝓤 (sliceTy (tyRef erased mut (pointee ((Array u16 35) .written)))) l₁₈ (free 𝓤 (tyRef erased mut (pointee ((Array u16 35) .written))) l₁₇ (free 𝓤 (sliceTy (tyRef erased mut (pointee ((Array u64 5) .written)))) l₁₆ (free 𝓤 (tyRef erased mut (pointee ((Array u64 5) .written))) l₁₅ (free 𝓤 (sliceTy (tyRef erased mut (pointee (Object-t.the-row .written)))) l₁₄ (free 𝓤 (tyRef erased mut (pointee (Object-t.the-row .written))) l₁₃ (free 𝓤 (sliceTy (tyRef erased mut (pointee ((Array u64 5) .written)))) l₁₂ (free 𝓤 (tyRef erased mut (pointee ((Array u64 5) .written))) l₁₁ (free 𝓤 Move-l.mir l₁₀ (full 𝓤 Group-l.mir l₉ (Group-p .val Group-Objects) (full 𝓤 Span-l.mir l₈ (Span-p .val body) (full 𝓤 Submessage-l.mir l₇ (Submessage-p .val m) (full 𝓤 (tyInt w8) l₆ (u8-p .val n′) (full 𝓤 (tyInt w8) l₅ (u8-p .val id) (full 𝓤 (sliceTy (tyRef (named 3) imm (pointee (u8 .written)))) l₄ (sliceVal (b₄, o₄) n₄) (full 𝓤 (sliceTy (tyRef (named 2) mut (pointee (Object-t.the-row .written)))) l₃ (sliceVal (b₃, o₃) n₃) (full 𝓤 (sliceTy (tyRef (named 1) mut (pointee ((Array u16 35) .written)))) l₂ (sliceVal (b₂, o₂) n₂) (full 𝓤 (sliceTy (tyRef (named 0) mut (pointee ((Array u64 5) .written)))) l₁ (sliceVal (b₁, o₁) n₁) (free 𝓤 Move-l.mir l₀ ([])))))))))))))))))))) (runs C Λ En (one mir.t-2) (anyQ (afterSeq 𝓤 H (Wp 𝓤 H C Λ En mir.t-3 (atReturn 𝓤 H En Post)) (atReturn 𝓤 H En Post))))
-    matched-2-Objects-0 is-1 e-2 good-2 =
-        switches-on ! (load ! (from ! (vrt ! refl (fld ! refl (stop !)))) (look-tag ! 26 (whole !))) $ exec ! C Λ En (arm-of 0 (one mir.t-2)) (anyQ (afterSeq 𝓤 H (Wp 𝓤 H C Λ En mir.t-3 (atReturn 𝓤 H En Post)) (atReturn 𝓤 H En Post))) $
-        assigns ! (addr ! (from ! (fld ! refl (hop ! (look-in ! 42 (sub ! 0 refl (whole !))) (stop !))))) (from ! (stop !)) (init ! 22 refl (tt, tt)) $
-        assigns ! (agg ! (and-then ! (load ! (from ! (stop !)) (look ! 22 refl)) (and-then ! (load ! (from ! (fld ! refl (stop !))) (look-in ! 42 (sub ! 1 refl (whole !)))) (no-more !)))) (from ! (stop !)) (init ! 20 refl (tt, (tt, (record { fits = room₁ .0 }, tt)))) $
-        assigns ! (addr ! (from ! (fld ! refl (hop ! (look-in ! 38 (sub ! 0 refl (whole !))) (stop !))))) (from ! (stop !)) (init ! 18 refl (tt, tt)) $
-        assigns ! (agg ! (and-then ! (load ! (from ! (stop !)) (look ! 18 refl)) (and-then ! (load ! (from ! (fld ! refl (stop !))) (look-in ! 38 (sub ! 1 refl (whole !)))) (no-more !)))) (from ! (stop !)) (init ! 16 refl (tt, (tt, (record { fits = room₃ .0 }, tt)))) $
-        -- 2.Objects.5: agent::objects::handle_object
-        lends-mut ! tt (Array u64 5) b₁ o₁ sessions n₁ (refl) (λ ν-2·Objects·5-sessions δ-2·Objects·5-sessions.
+    frees-all : (r : Move) (ws₁ : List (List ℕ)) (ws₂ : List (List ℕ)) (ws₃ : List Object) → ent 𝓤 (⋆ 𝓤 H A (‵ (MutSlice (named 0) κ₁ (Array u64 5) .own (at-list b₁ o₁ γ₁ ws₁) (sliceVal (b₁, o₁) n₁ ∷ [])) ∷ ‵ (flft κ₁ q₁) ∷ ‵ (MutSlice (named 1) κ₂ (Array u16 35) .own (at-list b₂ o₂ γ₂ ws₂) (sliceVal (b₂, o₂) n₂ ∷ [])) ∷ ‵ (flft κ₂ q₂) ∷ ‵ (MutSlice (named 2) κ₃ Object-t.the-row .own (at-list b₃ o₃ γ₃ ws₃) (sliceVal (b₃, o₃) n₃ ∷ [])) ∷ ‵ (flft κ₃ q₃) ∷ ‵ (ShrSlice (named 3) κ₄ u8 .own (at-list b₄ o₄ γ₄ d) (sliceVal (b₄, o₄) n₄ ∷ [])) ∷ ‵ (flft κ₄ q₄) ∷ [])) (Post (Move-p .val r)) → Sq W (‵ (MutSlice (named 0) κ₁ (Array u64 5) .own (at-list b₁ o₁ γ₁ ws₁) (sliceVal (b₁, o₁) n₁ ∷ [])) ∷ ‵ (flft κ₁ q₁) ∷ ‵ (MutSlice (named 0) κ₂ (Array u16 35) .own (at-list b₂ o₂ γ₂ ws₂) (sliceVal (b₂, o₂) n₂ ∷ [])) ∷ ‵ (flft κ₂ q₂) ∷ ‵ (MutSlice (named 0) κ₃ Object-t.the-row .own (at-list b₃ o₃ γ₃ ws₃) (sliceVal (b₃, o₃) n₃ ∷ [])) ∷ ‵ (flft κ₃ q₃) ∷ ‵ (ShrSlice (named 0) κ₄ u8 .own (at-list b₄ o₄ γ₄ d) (sliceVal (b₄, o₄) n₄ ∷ [])) ∷ ‵ (flft κ₄ q₄) ∷ free 𝓤 (sliceTy (tyRef erased mut (pointee ((Array u16 35) .written)))) l₃₂ (free 𝓤 (tyRef erased mut (pointee ((Array u16 35) .written))) l₃₁ (free 𝓤 (sliceTy (tyRef erased mut (pointee ((Array u64 5) .written)))) l₃₀ (free 𝓤 (tyRef erased mut (pointee ((Array u64 5) .written))) l₂₉ (free 𝓤 (sliceTy (tyRef erased imm (pointee (Object-t.the-row .written)))) l₂₈ (free 𝓤 (tyRef erased imm (pointee (Object-t.the-row .written))) l₂₇ (free 𝓤 (sliceTy (tyRef erased imm (pointee ((Array u64 5) .written)))) l₂₆ (free 𝓤 (tyRef erased imm (pointee ((Array u64 5) .written))) l₂₅ (free 𝓤 (sliceTy (tyRef erased imm (pointee (Object-t.the-row .written)))) l₂₄ (free 𝓤 (tyRef erased imm (pointee (Object-t.the-row .written))) l₂₃ (free 𝓤 (sliceTy (tyRef erased imm (pointee ((Array u64 5) .written)))) l₂₂ (free 𝓤 (tyRef erased imm (pointee ((Array u64 5) .written))) l₂₁ (free 𝓤 (sliceTy (tyRef erased mut (pointee (Object-t.the-row .written)))) l₂₀ (free 𝓤 (tyRef erased mut (pointee (Object-t.the-row .written))) l₁₉ (free 𝓤 (sliceTy (tyRef erased mut (pointee ((Array u64 5) .written)))) l₁₈ (free 𝓤 (tyRef erased mut (pointee ((Array u64 5) .written))) l₁₇ (free 𝓤 (sliceTy (tyRef erased mut (pointee (Object-t.the-row .written)))) l₁₆ (free 𝓤 (tyRef erased mut (pointee (Object-t.the-row .written))) l₁₅ (free 𝓤 (sliceTy (tyRef erased mut (pointee ((Array u64 5) .written)))) l₁₄ (free 𝓤 (tyRef erased mut (pointee ((Array u64 5) .written))) l₁₃ (free 𝓤 Move-l.mir l₁₂ (free 𝓤 ObjectNumber-l.mir l₁₁ (free 𝓤 CreatePayload-l.mir l₁₀ (free 𝓤 Group-l.mir l₉ (full 𝓤 Span-l.mir l₈ (Span-p .val body) (full 𝓤 Submessage-l.mir l₇ (Submessage-p .val m) (full 𝓤 (tyInt w8) l₆ (u8-p .val n′) (full 𝓤 (tyInt w8) l₅ (u8-p .val id) (full 𝓤 (sliceTy (tyRef (named 3) imm (pointee (u8 .written)))) l₄ (sliceVal (b₄, o₄) n₄) (full 𝓤 (sliceTy (tyRef (named 2) mut (pointee (Object-t.the-row .written)))) l₃ (sliceVal (b₃, o₃) n₃) (full 𝓤 (sliceTy (tyRef (named 1) mut (pointee ((Array u16 35) .written)))) l₂ (sliceVal (b₂, o₂) n₂) (full 𝓤 (sliceTy (tyRef (named 0) mut (pointee ((Array u64 5) .written)))) l₁ (sliceVal (b₁, o₁) n₁) (full 𝓤 Move-l.mir l₀ (Move-p .val r) ([])))))))))))))))))))))))))))))))))) (frees En (prop (Post (Move-p .val r))))
+    frees-all r ws₁ ws₂ ws₃ ends =
+        forget ! 56 refl $ forget ! 58 refl $ forget ! 60 refl $ forget ! 62 refl $ forget ! 64 refl $ forget ! 66 refl $ forget ! 68 refl $ forget ! 70 refl $ forget ! 72 refl $ move ! (72 ∷ 73 ∷ []) $ free1 ! $ move ! (70 ∷ 71 ∷ []) $ free1 ! $ move ! (68 ∷ 69 ∷ []) $ free1 ! $ move ! (66 ∷ 67 ∷ []) $ free1 ! $ move ! (64 ∷ 65 ∷ []) $ free1 ! $ move ! (62 ∷ 63 ∷ []) $ free1 ! $ move ! (60 ∷ 61 ∷ []) $ free1 ! $ move ! (58 ∷ 59 ∷ []) $ free1 ! $ move ! (56 ∷ 57 ∷ []) $ free1 ! $ move ! (54 ∷ 55 ∷ []) $ free1 ! $ move ! (52 ∷ 53 ∷ []) $ free1 ! $ move ! (50 ∷ 51 ∷ []) $ free1 ! $ move ! (48 ∷ 49 ∷ []) $ free1 ! $ move ! (46 ∷ 47 ∷ []) $ free1 ! $ move ! (44 ∷ 45 ∷ []) $ free1 ! $ move ! (42 ∷ 43 ∷ []) $ free1 ! $ move ! (40 ∷ 41 ∷ []) $ free1 ! $ move ! (38 ∷ 39 ∷ []) $ free1 ! $ move ! (36 ∷ 37 ∷ []) $ free1 ! $ move ! (34 ∷ 35 ∷ []) $ free1 ! $ move ! (32 ∷ 33 ∷ []) $ free1 ! $ move ! (30 ∷ 31 ∷ []) $ free1 ! $ move ! (28 ∷ 29 ∷ []) $ free1 ! $ move ! (26 ∷ 27 ∷ []) $ free1 ! $ move ! (24 ∷ 25 ∷ []) $ free1 ! $ move ! (22 ∷ 23 ∷ []) $ free1 ! $ move ! (20 ∷ 21 ∷ []) $ free1 ! $ move ! (18 ∷ 19 ∷ []) $ free1 ! $ move ! (16 ∷ 17 ∷ []) $ free1 ! $ move ! (14 ∷ 15 ∷ []) $ free1 ! $ move ! (12 ∷ 13 ∷ []) $ free1 ! $ move ! (10 ∷ 11 ∷ []) $ free1 ! $ move ! (8 ∷ 9 ∷ []) $ free1 ! $ free0 ! $
+        by ! ends
+
+    part-5-0 : (is-1 : Is (Group-p .row) (groupOf m) (Group-p .val (groupOf m) ∷ [])) → (is-2 : Is (CreatePayload-p .row) (createIn m) (CreatePayload-p .val (createIn m) ∷ [])) → (is-3 : Is (ObjectNumber-p .row) (numberIn m) (ObjectNumber-p .val (numberIn m) ∷ [])) → (e-4 : groupOf m ≡ Group-Creates) → (good-4 : Is (Group-p .row) Group-Creates (Group-p .val Group-Creates ∷ [])) → (len-4·Creates·5-sessions : length (roomSessions (roomOf (sessions) (objects) id ((createIn m) .«object_id»)) (sessions) (objects) id (createIn m)) ≡ n₁) → (len-4·Creates·5-objects : length (roomObjects (roomOf (sessions) (objects) id ((createIn m) .«object_id»)) (sessions) (objects) id (createIn m)) ≡ n₃) → (is-4·Creates·5 : Is (Move-p .row) (roomMove (roomOf (sessions) (objects) id ((createIn m) .«object_id»)) (sessions) (objects) (d) id (createIn m) body) (Move-p .val (roomMove (roomOf (sessions) (objects) id ((createIn m) .«object_id»)) (sessions) (objects) (d) id (createIn m) body) ∷ [])) → Sq W (‵ (MutSlice (named 0) κ₁ (Array u64 5) .own (at-list b₁ o₁ γ₁ (roomSessions (roomOf (sessions) (objects) id ((createIn m) .«object_id»)) (sessions) (objects) id (createIn m))) (sliceVal (b₁, o₁) n₁ ∷ [])) ∷ ‵ (flft κ₁ q₁) ∷ ‵ (MutSlice (named 0) κ₂ (Array u16 35) .own (at-list b₂ o₂ γ₂ streams) (sliceVal (b₂, o₂) n₂ ∷ [])) ∷ ‵ (flft κ₂ q₂) ∷ ‵ (MutSlice (named 0) κ₃ Object-t.the-row .own (at-list b₃ o₃ γ₃ (roomObjects (roomOf (sessions) (objects) id ((createIn m) .«object_id»)) (sessions) (objects) id (createIn m))) (sliceVal (b₃, o₃) n₃ ∷ [])) ∷ ‵ (flft κ₃ q₃) ∷ ‵ (ShrSlice (named 0) κ₄ u8 .own (at-list b₄ o₄ γ₄ d) (sliceVal (b₄, o₄) n₄ ∷ [])) ∷ ‵ (flft κ₄ q₄) ∷ free 𝓤 (sliceTy (tyRef erased mut (pointee ((Array u16 35) .written)))) l₃₂ (free 𝓤 (tyRef erased mut (pointee ((Array u16 35) .written))) l₃₁ (free 𝓤 (sliceTy (tyRef erased mut (pointee ((Array u64 5) .written)))) l₃₀ (free 𝓤 (tyRef erased mut (pointee ((Array u64 5) .written))) l₂₉ (free 𝓤 (sliceTy (tyRef erased imm (pointee (Object-t.the-row .written)))) l₂₈ (free 𝓤 (tyRef erased imm (pointee (Object-t.the-row .written))) l₂₇ (free 𝓤 (sliceTy (tyRef erased imm (pointee ((Array u64 5) .written)))) l₂₆ (free 𝓤 (tyRef erased imm (pointee ((Array u64 5) .written))) l₂₅ (free 𝓤 (sliceTy (tyRef erased imm (pointee (Object-t.the-row .written)))) l₂₄ (free 𝓤 (tyRef erased imm (pointee (Object-t.the-row .written))) l₂₃ (free 𝓤 (sliceTy (tyRef erased imm (pointee ((Array u64 5) .written)))) l₂₂ (free 𝓤 (tyRef erased imm (pointee ((Array u64 5) .written))) l₂₁ (free 𝓤 (sliceTy (tyRef erased mut (pointee (Object-t.the-row .written)))) l₂₀ (free 𝓤 (tyRef erased mut (pointee (Object-t.the-row .written))) l₁₉ (free 𝓤 (sliceTy (tyRef erased mut (pointee ((Array u64 5) .written)))) l₁₈ (free 𝓤 (tyRef erased mut (pointee ((Array u64 5) .written))) l₁₇ (full 𝓤 (sliceTy (tyRef erased mut (pointee (Object-t.the-row .written)))) l₁₆ (sliceVal (b₃, o₃) n₃) (full 𝓤 (tyRef erased mut (pointee (Object-t.the-row .written))) l₁₅ (vptr b₃ o₃) (full 𝓤 (sliceTy (tyRef erased mut (pointee ((Array u64 5) .written)))) l₁₄ (sliceVal (b₁, o₁) n₁) (full 𝓤 (tyRef erased mut (pointee ((Array u64 5) .written))) l₁₃ (vptr b₁ o₁) (full 𝓤 Move-l.mir l₁₂ (Move-p .val (roomMove (roomOf (sessions) (objects) id ((createIn m) .«object_id»)) (sessions) (objects) (d) id (createIn m) body)) (full 𝓤 ObjectNumber-l.mir l₁₁ (ObjectNumber-p .val (numberIn m)) (full 𝓤 CreatePayload-l.mir l₁₀ (CreatePayload-p .val (createIn m)) (full 𝓤 Group-l.mir l₉ (Group-p .val Group-Creates) (full 𝓤 Span-l.mir l₈ (Span-p .val body) (full 𝓤 Submessage-l.mir l₇ (Submessage-p .val m) (full 𝓤 (tyInt w8) l₆ (u8-p .val n′) (full 𝓤 (tyInt w8) l₅ (u8-p .val id) (full 𝓤 (sliceTy (tyRef (named 3) imm (pointee (u8 .written)))) l₄ (sliceVal (b₄, o₄) n₄) (full 𝓤 (sliceTy (tyRef (named 2) mut (pointee (Object-t.the-row .written)))) l₃ (sliceVal (b₃, o₃) n₃) (full 𝓤 (sliceTy (tyRef (named 1) mut (pointee ((Array u16 35) .written)))) l₂ (sliceVal (b₂, o₂) n₂) (full 𝓤 (sliceTy (tyRef (named 0) mut (pointee ((Array u64 5) .written)))) l₁ (sliceVal (b₁, o₁) n₁) (free 𝓤 Move-l.mir l₀ ([])))))))))))))))))))))))))))))))))) (runs C Λ En mir.t-5 (atRet En Post))
+    part-5-0 is-1 is-2 is-3 e-4 good-4 len-4·Creates·5-sessions len-4·Creates·5-objects is-4·Creates·5 =
+        assigns ! (of-opd ! (load ! (from ! (stop !)) (look ! 48 refl))) (from ! (stop !)) (init ! 72 refl (Move-p .typed 𝓤 H A W (roomMove (roomOf (sessions) (objects) id ((createIn m) .«object_id»)) (sessions) (objects) (d) id (createIn m) body) is-4·Creates·5)) $
+        returns ! (look ! 72 refl) $ forget ! 40 refl $ forget ! 42 refl $ forget ! 44 refl $ forget ! 46 refl $ forget ! 48 refl $ forget ! 50 refl $ forget ! 52 refl $ forget ! 54 refl $
+        frees-all (roomMove (roomOf (sessions) (objects) id ((createIn m) .«object_id»)) (sessions) (objects) (d) id (createIn m) body) (roomSessions (roomOf (sessions) (objects) id ((createIn m) .«object_id»)) (sessions) (objects) id (createIn m)) streams (roomObjects (roomOf (sessions) (objects) id ((createIn m) .«object_id»)) (sessions) (objects) id (createIn m)) (exits (roomMove (roomOf (sessions) (objects) id ((createIn m) .«object_id»)) (sessions) (objects) (d) id (createIn m) body) (roomSessions (roomOf (sessions) (objects) id ((createIn m) .«object_id»)) (sessions) (objects) id (createIn m)) streams (roomObjects (roomOf (sessions) (objects) id ((createIn m) .«object_id»)) (sessions) (objects) id (createIn m)) ((ap (λ (g : Group). handledBy g m (lent sessions streams objects) d id n′ body) (sym e-4), ap (λ (g : Group). handledIn g m (lent sessions streams objects) id n′ .sessions) (sym e-4), ap (λ (g : Group). handledIn g m (lent sessions streams objects) id n′ .streams) (sym e-4), ap (λ (g : Group). handledIn g m (lent sessions streams objects) id n′ .objects) (sym e-4))) is-4·Creates·5 len-4·Creates·5-sessions refl len-4·Creates·5-objects)
+
+    matched-4-Creates-0 : (is-1 : Is (Group-p .row) (groupOf m) (Group-p .val (groupOf m) ∷ [])) → (is-2 : Is (CreatePayload-p .row) (createIn m) (CreatePayload-p .val (createIn m) ∷ [])) → (is-3 : Is (ObjectNumber-p .row) (numberIn m) (ObjectNumber-p .val (numberIn m) ∷ [])) → (e-4 : groupOf m ≡ Group-Creates) → (good-4 : Is (Group-p .row) Group-Creates (Group-p .val Group-Creates ∷ [])) → Sq W (‵ (MutSlice (named 0) κ₁ (Array u64 5) .own (at-list b₁ o₁ γ₁ sessions) (sliceVal (b₁, o₁) n₁ ∷ [])) ∷ ‵ (flft κ₁ q₁) ∷ ‵ (MutSlice (named 0) κ₂ (Array u16 35) .own (at-list b₂ o₂ γ₂ streams) (sliceVal (b₂, o₂) n₂ ∷ [])) ∷ ‵ (flft κ₂ q₂) ∷ ‵ (MutSlice (named 0) κ₃ Object-t.the-row .own (at-list b₃ o₃ γ₃ objects) (sliceVal (b₃, o₃) n₃ ∷ [])) ∷ ‵ (flft κ₃ q₃) ∷ ‵ (ShrSlice (named 0) κ₄ u8 .own (at-list b₄ o₄ γ₄ d) (sliceVal (b₄, o₄) n₄ ∷ [])) ∷ ‵ (flft κ₄ q₄) ∷ free 𝓤 (sliceTy (tyRef erased mut (pointee ((Array u16 35) .written)))) l₃₂ (free 𝓤 (tyRef erased mut (pointee ((Array u16 35) .written))) l₃₁ (free 𝓤 (sliceTy (tyRef erased mut (pointee ((Array u64 5) .written)))) l₃₀ (free 𝓤 (tyRef erased mut (pointee ((Array u64 5) .written))) l₂₉ (free 𝓤 (sliceTy (tyRef erased imm (pointee (Object-t.the-row .written)))) l₂₈ (free 𝓤 (tyRef erased imm (pointee (Object-t.the-row .written))) l₂₇ (free 𝓤 (sliceTy (tyRef erased imm (pointee ((Array u64 5) .written)))) l₂₆ (free 𝓤 (tyRef erased imm (pointee ((Array u64 5) .written))) l₂₅ (free 𝓤 (sliceTy (tyRef erased imm (pointee (Object-t.the-row .written)))) l₂₄ (free 𝓤 (tyRef erased imm (pointee (Object-t.the-row .written))) l₂₃ (free 𝓤 (sliceTy (tyRef erased imm (pointee ((Array u64 5) .written)))) l₂₂ (free 𝓤 (tyRef erased imm (pointee ((Array u64 5) .written))) l₂₁ (free 𝓤 (sliceTy (tyRef erased mut (pointee (Object-t.the-row .written)))) l₂₀ (free 𝓤 (tyRef erased mut (pointee (Object-t.the-row .written))) l₁₉ (free 𝓤 (sliceTy (tyRef erased mut (pointee ((Array u64 5) .written)))) l₁₈ (free 𝓤 (tyRef erased mut (pointee ((Array u64 5) .written))) l₁₇ (free 𝓤 (sliceTy (tyRef erased mut (pointee (Object-t.the-row .written)))) l₁₆ (free 𝓤 (tyRef erased mut (pointee (Object-t.the-row .written))) l₁₅ (free 𝓤 (sliceTy (tyRef erased mut (pointee ((Array u64 5) .written)))) l₁₄ (free 𝓤 (tyRef erased mut (pointee ((Array u64 5) .written))) l₁₃ (free 𝓤 Move-l.mir l₁₂ (full 𝓤 ObjectNumber-l.mir l₁₁ (ObjectNumber-p .val (numberIn m)) (full 𝓤 CreatePayload-l.mir l₁₀ (CreatePayload-p .val (createIn m)) (full 𝓤 Group-l.mir l₉ (Group-p .val Group-Creates) (full 𝓤 Span-l.mir l₈ (Span-p .val body) (full 𝓤 Submessage-l.mir l₇ (Submessage-p .val m) (full 𝓤 (tyInt w8) l₆ (u8-p .val n′) (full 𝓤 (tyInt w8) l₅ (u8-p .val id) (full 𝓤 (sliceTy (tyRef (named 3) imm (pointee (u8 .written)))) l₄ (sliceVal (b₄, o₄) n₄) (full 𝓤 (sliceTy (tyRef (named 2) mut (pointee (Object-t.the-row .written)))) l₃ (sliceVal (b₃, o₃) n₃) (full 𝓤 (sliceTy (tyRef (named 1) mut (pointee ((Array u16 35) .written)))) l₂ (sliceVal (b₂, o₂) n₂) (full 𝓤 (sliceTy (tyRef (named 0) mut (pointee ((Array u64 5) .written)))) l₁ (sliceVal (b₁, o₁) n₁) (free 𝓤 Move-l.mir l₀ ([])))))))))))))))))))))))))))))))))) (runs C Λ En (one mir.t-4) (anyQ (afterSeq 𝓤 H (Wp 𝓤 H C Λ En mir.t-5 (atReturn 𝓤 H En Post)) (atReturn 𝓤 H En Post))))
+    matched-4-Creates-0 is-1 is-2 is-3 e-4 good-4 =
+        switches-on ! (load ! (from ! (vrt ! refl (fld ! refl (stop !)))) (look-tag ! 54 (whole !))) $ exec ! C Λ En (arm-of 0 (one mir.t-4)) (anyQ (afterSeq 𝓤 H (Wp 𝓤 H C Λ En mir.t-5 (atReturn 𝓤 H En Post)) (atReturn 𝓤 H En Post))) $
+        assigns ! (addr ! (from ! (fld ! refl (hop ! (look-in ! 70 (sub ! 0 refl (whole !))) (stop !))))) (from ! (stop !)) (init ! 46 refl (tt, tt)) $
+        assigns ! (agg ! (and-then ! (load ! (from ! (stop !)) (look ! 46 refl)) (and-then ! (load ! (from ! (fld ! refl (stop !))) (look-in ! 70 (sub ! 1 refl (whole !)))) (no-more !)))) (from ! (stop !)) (init ! 44 refl (tt, (tt, (record { fits = room₁ .0 }, tt)))) $
+        assigns ! (addr ! (from ! (fld ! refl (hop ! (look-in ! 66 (sub ! 0 refl (whole !))) (stop !))))) (from ! (stop !)) (init ! 42 refl (tt, tt)) $
+        assigns ! (agg ! (and-then ! (load ! (from ! (stop !)) (look ! 42 refl)) (and-then ! (load ! (from ! (fld ! refl (stop !))) (look-in ! 66 (sub ! 1 refl (whole !)))) (no-more !)))) (from ! (stop !)) (init ! 40 refl (tt, (tt, (record { fits = room₃ .0 }, tt)))) $
+        -- 4.Creates.5: agent::objects::create
+        lends-mut ! tt (Array u64 5) b₁ o₁ sessions n₁ (refl) (λ ν-4·Creates·5-sessions δ-4·Creates·5-sessions.
         move ! (5 ∷ 6 ∷ []) $
-        lends-mut ! tt Object-t.the-row b₃ o₃ objects n₃ (refl) (λ ν-2·Objects·5-objects δ-2·Objects·5-objects.
+        lends-mut ! tt Object-t.the-row b₃ o₃ objects n₃ (refl) (λ ν-4·Creates·5-objects δ-4·Creates·5-objects.
         move ! (8 ∷ 9 ∷ []) $
         copies-shr ! u8 b₄ o₄ d n₄ $ nothing ! $ move ! (1 ∷ 0 ∷ []) $ join ! $ move ! (3 ∷ 0 ∷ []) $ join ! $ move ! (5 ∷ 0 ∷ []) $ join ! $
-        use1 W (raw (toks 𝓤 A 3 (((ν-2·Objects·5-sessions ∷ []), ((ν-2·Objects·5-objects ∷ []), (κ₄, tt)))) ((fullShare, (fullShare, (q₄, tt)))))) (id⊢ 𝓤 _) $ nothing ! $
+        use1 W (raw (toks 𝓤 A 3 (((ν-4·Creates·5-sessions ∷ []), ((ν-4·Creates·5-objects ∷ []), (κ₄, tt)))) ((fullShare, (fullShare, (q₄, tt)))))) (id⊢ 𝓤 _) $ nothing ! $
         owned ! (Span-p .row) (Is (Span-p .row)) (Span-p .makes 𝓤 H A W) body (Span-p .val body ∷ []) body-is $ fjoin ! $
-        owned ! (Submessage-p .row) (Is (Submessage-p .row)) (Submessage-p .makes 𝓤 H A W) m (Submessage-p .val m ∷ []) m-is $ fjoin ! $
+        owned ! (CreatePayload-p .row) (Is (CreatePayload-p .row)) (CreatePayload-p .makes 𝓤 H A W) (createIn m) (CreatePayload-p .val (createIn m) ∷ []) is-2 $ fjoin ! $
         owned ! (u8-p .row) (Is (u8-p .row)) (u8-p .makes 𝓤 H A W) id (u8-p .val id ∷ []) id-is $ fjoin ! $ move ! (2 ∷ 0 ∷ []) $ fjoin ! $ move ! (3 ∷ 0 ∷ []) $ fjoin ! $ move ! (4 ∷ 0 ∷ []) $ fjoin ! $ move ! (1 ∷ 0 ∷ []) $
-        calls-any-last ! fm 3 [] (objects-handle-object.signature .params) (objects-handle-object.ended .kept) Move-p (objects-handle-object.clauses 𝓤 H A mem run) known-objects-handle-object ((ν-2·Objects·5-sessions ∷ []), ((ν-2·Objects·5-objects ∷ []), (κ₄, tt))) (fullShare, (fullShare, (q₄, tt))) tt (at-list b₁ o₁ δ-2·Objects·5-sessions sessions, (at-list b₃ o₃ δ-2·Objects·5-objects objects, (at-list b₄ o₄ γ₄ d, (id, (m, (body, tt)))))) (sliceVal (b₁, o₁) n₁ ∷ [], (sliceVal (b₃, o₃) n₃ ∷ [], (sliceVal (b₄, o₄) n₄ ∷ [], (u8-p .val id ∷ [], (Submessage-p .val m ∷ [], (Span-p .val body ∷ [], tt)))))) tt (objectMove m (sessions) (objects) (d) id body) (λ ws-2·Objects·5. (ws-2·Objects·5 .0 ≡ objectSessions m (sessions) (objects) id) × (ws-2·Objects·5 .1 .0 ≡ objectRows m (sessions) (objects) id)) (id⊢ 𝓤 _) (λ r ws-2·Objects·5. fact-mono 𝓤 ((r ≡ objectMove m (sessions) (objects) (d) id body) × ((ws-2·Objects·5 .0) ≡ objectSessions m (sessions) (objects) id) × ((ws-2·Objects·5 .1 .0) ≡ objectRows m (sessions) (objects) id)) ((r ≡ (objectMove m (sessions) (objects) (d) id body)) × ((ws-2·Objects·5 .0 ≡ objectSessions m (sessions) (objects) id) × (ws-2·Objects·5 .1 .0 ≡ objectRows m (sessions) (objects) id))) (λ e. (e .0, (e .1, e .2)))) (λ _. (and-then ! (load ! (from ! (stop !)) (look ! 18 refl)) (and-then ! (load ! (from ! (stop !)) (look ! 14 refl)) (and-then ! (load ! (from ! (stop !)) (look ! 34 refl)) (and-then ! (load ! (from ! (stop !)) (look ! 32 refl)) (and-then ! (load ! (from ! (stop !)) (look ! 28 refl)) (and-then ! (load ! (from ! (stop !)) (look ! 26 refl)) (no-more !)))))))) (λ ws-2·Objects·5 said-2·Objects·5 is-2·Objects·5.
-        use1 W ((‵ (flft (ν-2·Objects·5-sessions ∷ []) fullShare) ⊛ (‵ (flft (ν-2·Objects·5-objects ∷ []) fullShare) ⊛ (‵ (flft κ₄ q₄) ⊛ ‵ ftrue)))) (id⊢ 𝓤 _) $ split ! $ move ! (1 ∷ []) $ split ! $ move ! (1 ∷ []) $ split ! $ move ! (4 ∷ []) $ fsplit ! $ fsplit ! $ move ! (1 ∷ []) $
-        feqL ! (λ wlen-2·Objects·5-0.
+        calls-any-last ! fm 3 [] (objects-create.signature .params) (objects-create.ended .kept) Move-p (objects-create.clauses 𝓤 H A mem run) known-objects-create ((ν-4·Creates·5-sessions ∷ []), ((ν-4·Creates·5-objects ∷ []), (κ₄, tt))) (fullShare, (fullShare, (q₄, tt))) tt (at-list b₁ o₁ δ-4·Creates·5-sessions sessions, (at-list b₃ o₃ δ-4·Creates·5-objects objects, (at-list b₄ o₄ γ₄ d, (id, (createIn m, (body, tt)))))) (sliceVal (b₁, o₁) n₁ ∷ [], (sliceVal (b₃, o₃) n₃ ∷ [], (sliceVal (b₄, o₄) n₄ ∷ [], (u8-p .val id ∷ [], (CreatePayload-p .val (createIn m) ∷ [], (Span-p .val body ∷ [], tt)))))) tt (roomMove (roomOf (sessions) (objects) id ((createIn m) .«object_id»)) (sessions) (objects) (d) id (createIn m) body) (λ ws-4·Creates·5. (ws-4·Creates·5 .0 ≡ roomSessions (roomOf (sessions) (objects) id ((createIn m) .«object_id»)) (sessions) (objects) id (createIn m)) × (ws-4·Creates·5 .1 .0 ≡ roomObjects (roomOf (sessions) (objects) id ((createIn m) .«object_id»)) (sessions) (objects) id (createIn m))) (id⊢ 𝓤 _) (λ r ws-4·Creates·5. fact-mono 𝓤 ((r ≡ roomMove (roomOf (sessions) (objects) id ((createIn m) .«object_id»)) (sessions) (objects) (d) id (createIn m) body) × ((ws-4·Creates·5 .0) ≡ roomSessions (roomOf (sessions) (objects) id ((createIn m) .«object_id»)) (sessions) (objects) id (createIn m)) × ((ws-4·Creates·5 .1 .0) ≡ roomObjects (roomOf (sessions) (objects) id ((createIn m) .«object_id»)) (sessions) (objects) id (createIn m))) ((r ≡ (roomMove (roomOf (sessions) (objects) id ((createIn m) .«object_id»)) (sessions) (objects) (d) id (createIn m) body)) × ((ws-4·Creates·5 .0 ≡ roomSessions (roomOf (sessions) (objects) id ((createIn m) .«object_id»)) (sessions) (objects) id (createIn m)) × (ws-4·Creates·5 .1 .0 ≡ roomObjects (roomOf (sessions) (objects) id ((createIn m) .«object_id»)) (sessions) (objects) id (createIn m)))) (λ e. (e .0, (e .1, e .2)))) (λ _. (and-then ! (load ! (from ! (stop !)) (look ! 42 refl)) (and-then ! (load ! (from ! (stop !)) (look ! 38 refl)) (and-then ! (load ! (from ! (stop !)) (look ! 62 refl)) (and-then ! (load ! (from ! (stop !)) (look ! 60 refl)) (and-then ! (load ! (from ! (stop !)) (look ! 50 refl)) (and-then ! (load ! (from ! (stop !)) (look ! 54 refl)) (no-more !)))))))) (λ ws-4·Creates·5 said-4·Creates·5 is-4·Creates·5.
+        use1 W ((‵ (flft (ν-4·Creates·5-sessions ∷ []) fullShare) ⊛ (‵ (flft (ν-4·Creates·5-objects ∷ []) fullShare) ⊛ (‵ (flft κ₄ q₄) ⊛ ‵ ftrue)))) (id⊢ 𝓤 _) $ split ! $ move ! (1 ∷ []) $ split ! $ move ! (1 ∷ []) $ split ! $ move ! (4 ∷ []) $ fsplit ! $ fsplit ! $ move ! (1 ∷ []) $
+        feqL ! (λ wlen-4·Creates·5-0.
         move ! (1 ∷ []) $ fsplit ! $ fsplit ! $ move ! (1 ∷ []) $
-        feqL ! (λ wlen-2·Objects·5-1.
+        feqL ! (λ wlen-4·Creates·5-1.
         move ! (1 ∷ []) $ fsplit ! $ move ! (7 ∷ 10 ∷ 3 ∷ []) $
-        backs-mut ! tt (Array u64 5) b₁ o₁ sessions n₁ (refl) room₁ ν-2·Objects·5-sessions δ-2·Objects·5-sessions (ws-2·Objects·5 .0) (objectSessions m (sessions) (objects) id) wlen-2·Objects·5-0 (said-2·Objects·5 .0) (λ len-2·Objects·5-sessions.
+        backs-mut ! tt (Array u64 5) b₁ o₁ sessions n₁ (refl) room₁ ν-4·Creates·5-sessions δ-4·Creates·5-sessions (ws-4·Creates·5 .0) (roomSessions (roomOf (sessions) (objects) id ((createIn m) .«object_id»)) (sessions) (objects) id (createIn m)) wlen-4·Creates·5-0 (said-4·Creates·5 .0) (λ len-4·Creates·5-sessions.
         move ! (7 ∷ 9 ∷ 4 ∷ []) $
-        backs-mut ! tt Object-t.the-row b₃ o₃ objects n₃ (refl) room₃ ν-2·Objects·5-objects δ-2·Objects·5-objects (ws-2·Objects·5 .1 .0) (objectRows m (sessions) (objects) id) wlen-2·Objects·5-1 (said-2·Objects·5 .1) (λ len-2·Objects·5-objects.
+        backs-mut ! tt Object-t.the-row b₃ o₃ objects n₃ (refl) room₃ ν-4·Creates·5-objects δ-4·Creates·5-objects (ws-4·Creates·5 .1 .0) (roomObjects (roomOf (sessions) (objects) id ((createIn m) .«object_id»)) (sessions) (objects) id (createIn m)) wlen-4·Creates·5-1 (said-4·Creates·5 .1) (λ len-4·Creates·5-objects.
         move ! (4 ∷ []) $ drop ! $ move ! (4 ∷ []) $ drop ! $ move ! (5 ∷ []) $ drop ! $
-        land-last ! (from ! (stop !)) (init ! 24 refl (Move-p .typed 𝓤 H A W (objectMove m (sessions) (objects) (d) id body) is-2·Objects·5)) $
-        exec ! C Λ En mir.t-3 (atRet En Post) $
-        assigns ! (of-opd ! (load ! (from ! (stop !)) (look ! 24 refl))) (from ! (stop !)) (init ! 44 refl (Move-p .typed 𝓤 H A W (objectMove m (sessions) (objects) (d) id body) is-2·Objects·5)) $
-        returns ! (look ! 44 refl) $ forget ! 16 refl $ forget ! 18 refl $ forget ! 20 refl $ forget ! 22 refl $ forget ! 24 refl $ forget ! 26 refl $ forget ! 28 refl $ forget ! 30 refl $ forget ! 32 refl $ forget ! 34 refl $ forget ! 36 refl $ forget ! 38 refl $ forget ! 40 refl $ forget ! 42 refl $ forget ! 44 refl $ move ! (44 ∷ 45 ∷ []) $ free1 ! $ move ! (42 ∷ 43 ∷ []) $ free1 ! $ move ! (40 ∷ 41 ∷ []) $ free1 ! $ move ! (38 ∷ 39 ∷ []) $ free1 ! $ move ! (36 ∷ 37 ∷ []) $ free1 ! $ move ! (34 ∷ 35 ∷ []) $ free1 ! $ move ! (32 ∷ 33 ∷ []) $ free1 ! $ move ! (30 ∷ 31 ∷ []) $ free1 ! $ move ! (28 ∷ 29 ∷ []) $ free1 ! $ move ! (26 ∷ 27 ∷ []) $ free1 ! $ move ! (24 ∷ 25 ∷ []) $ free1 ! $ move ! (22 ∷ 23 ∷ []) $ free1 ! $ move ! (20 ∷ 21 ∷ []) $ free1 ! $ move ! (18 ∷ 19 ∷ []) $ free1 ! $ move ! (16 ∷ 17 ∷ []) $ free1 ! $ move ! (14 ∷ 15 ∷ []) $ free1 ! $ move ! (12 ∷ 13 ∷ []) $ free1 ! $ move ! (10 ∷ 11 ∷ []) $ free1 ! $ move ! (8 ∷ 9 ∷ []) $ free1 ! $ free0 ! $ move ! (2 ∷ 3 ∷ 6 ∷ 7 ∷ 0 ∷ 1 ∷ 5 ∷ 4 ∷ []) $
-        by ! (exits (objectMove m (sessions) (objects) (d) id body) (objectSessions m (sessions) (objects) id) streams (objectRows m (sessions) (objects) id) ((ap (λ (g : Group). handledBy g m (lent sessions streams objects) d id n′ body) (sym e-2), ap (λ (g : Group). handledIn g m (lent sessions streams objects) id n′ .sessions) (sym e-2), ap (λ (g : Group). handledIn g m (lent sessions streams objects) id n′ .streams) (sym e-2), ap (λ (g : Group). handledIn g m (lent sessions streams objects) id n′ .objects) (sym e-2))) is-2·Objects·5 len-2·Objects·5-sessions refl len-2·Objects·5-objects))))))))
+        land-last ! (from ! (stop !)) (init ! 48 refl (Move-p .typed 𝓤 H A W (roomMove (roomOf (sessions) (objects) id ((createIn m) .«object_id»)) (sessions) (objects) (d) id (createIn m) body) is-4·Creates·5)) $
+        exec ! C Λ En mir.t-5 (atRet En Post) $ move ! (2 ∷ 3 ∷ 6 ∷ 7 ∷ 0 ∷ 1 ∷ 5 ∷ 4 ∷ 8 ∷ 9 ∷ 10 ∷ 11 ∷ 12 ∷ 13 ∷ 14 ∷ 15 ∷ 16 ∷ 17 ∷ 18 ∷ 19 ∷ 20 ∷ 21 ∷ 22 ∷ 23 ∷ 24 ∷ 25 ∷ 26 ∷ 27 ∷ 28 ∷ 29 ∷ 30 ∷ 31 ∷ 32 ∷ 33 ∷ 34 ∷ 35 ∷ 36 ∷ 37 ∷ 38 ∷ 39 ∷ 40 ∷ 41 ∷ 42 ∷ 43 ∷ 44 ∷ 45 ∷ 46 ∷ 47 ∷ 48 ∷ 49 ∷ 50 ∷ 51 ∷ 52 ∷ 53 ∷ 54 ∷ 55 ∷ 56 ∷ 57 ∷ 58 ∷ 59 ∷ 60 ∷ 61 ∷ 62 ∷ 63 ∷ 64 ∷ 65 ∷ 66 ∷ 67 ∷ 68 ∷ 69 ∷ 70 ∷ 71 ∷ 72 ∷ 73 ∷ []) $
+        part-5-0 is-1 is-2 is-3 e-4 good-4 len-4·Creates·5-sessions len-4·Creates·5-objects is-4·Creates·5)))))))
 
-    matched-2-Streams-1 : (is-1 : Is (Group-p .row) (groupOf m) (Group-p .val (groupOf m) ∷ [])) → (e-2 : groupOf m ≡ Group-Streams) → (good-2 : Is (Group-p .row) Group-Streams (Group-p .val Group-Streams ∷ [])) → Sq W (‵ (MutSlice (named 0) κ₁ (Array u64 5) .own (at-list b₁ o₁ γ₁ sessions) (sliceVal (b₁, o₁) n₁ ∷ [])) ∷ ‵ (flft κ₁ q₁) ∷ ‵ (MutSlice (named 0) κ₂ (Array u16 35) .own (at-list b₂ o₂ γ₂ streams) (sliceVal (b₂, o₂) n₂ ∷ [])) ∷ ‵ (flft κ₂ q₂) ∷ ‵ (MutSlice (named 0) κ₃ Object-t.the-row .own (at-list b₃ o₃ γ₃ objects) (sliceVal (b₃, o₃) n₃ ∷ [])) ∷ ‵ (flft κ₃ q₃) ∷ ‵ (ShrSlice (named 0) κ₄ u8 .own (at-list b₄ o₄ γ₄ d) (sliceVal (b₄, o₄) n₄ ∷ [])) ∷ ‵ (flft κ₄ q₄) ∷ free 𝓤 (sliceTy (tyRef erased mut (pointee ((Array u16 35) .written)))) l₁₈ (free 𝓤 (tyRef erased mut (pointee ((Array u16 35) .written))) l₁₇ (free 𝓤 (sliceTy (tyRef erased mut (pointee ((Array u64 5) .written)))) l₁₆ (free 𝓤 (tyRef erased mut (pointee ((Array u64 5) .written))) l₁₅ (free 𝓤 (sliceTy (tyRef erased mut (pointee (Object-t.the-row .written)))) l₁₄ (free 𝓤 (tyRef erased mut (pointee (Object-t.the-row .written))) l₁₃ (free 𝓤 (sliceTy (tyRef erased mut (pointee ((Array u64 5) .written)))) l₁₂ (free 𝓤 (tyRef erased mut (pointee ((Array u64 5) .written))) l₁₁ (free 𝓤 Move-l.mir l₁₀ (full 𝓤 Group-l.mir l₉ (Group-p .val Group-Streams) (full 𝓤 Span-l.mir l₈ (Span-p .val body) (full 𝓤 Submessage-l.mir l₇ (Submessage-p .val m) (full 𝓤 (tyInt w8) l₆ (u8-p .val n′) (full 𝓤 (tyInt w8) l₅ (u8-p .val id) (full 𝓤 (sliceTy (tyRef (named 3) imm (pointee (u8 .written)))) l₄ (sliceVal (b₄, o₄) n₄) (full 𝓤 (sliceTy (tyRef (named 2) mut (pointee (Object-t.the-row .written)))) l₃ (sliceVal (b₃, o₃) n₃) (full 𝓤 (sliceTy (tyRef (named 1) mut (pointee ((Array u16 35) .written)))) l₂ (sliceVal (b₂, o₂) n₂) (full 𝓤 (sliceTy (tyRef (named 0) mut (pointee ((Array u64 5) .written)))) l₁ (sliceVal (b₁, o₁) n₁) (free 𝓤 Move-l.mir l₀ ([])))))))))))))))))))) (runs C Λ En (one mir.t-2) (anyQ (afterSeq 𝓤 H (Wp 𝓤 H C Λ En mir.t-3 (atReturn 𝓤 H En Post)) (atReturn 𝓤 H En Post))))
-    matched-2-Streams-1 is-1 e-2 good-2 =
-        switches-on ! (load ! (from ! (vrt ! refl (fld ! refl (stop !)))) (look-tag ! 26 (whole !))) $ exec ! C Λ En (arm-of 1 (one mir.t-2)) (anyQ (afterSeq 𝓤 H (Wp 𝓤 H C Λ En mir.t-3 (atReturn 𝓤 H En Post)) (atReturn 𝓤 H En Post))) $
-        assigns ! (addr ! (from ! (fld ! refl (hop ! (look-in ! 42 (sub ! 0 refl (whole !))) (stop !))))) (from ! (stop !)) (init ! 14 refl (tt, tt)) $
-        assigns ! (agg ! (and-then ! (load ! (from ! (stop !)) (look ! 14 refl)) (and-then ! (load ! (from ! (fld ! refl (stop !))) (look-in ! 42 (sub ! 1 refl (whole !)))) (no-more !)))) (from ! (stop !)) (init ! 12 refl (tt, (tt, (record { fits = room₁ .0 }, tt)))) $
-        assigns ! (addr ! (from ! (fld ! refl (hop ! (look-in ! 40 (sub ! 0 refl (whole !))) (stop !))))) (from ! (stop !)) (init ! 10 refl (tt, tt)) $
-        assigns ! (agg ! (and-then ! (load ! (from ! (stop !)) (look ! 10 refl)) (and-then ! (load ! (from ! (fld ! refl (stop !))) (look-in ! 40 (sub ! 1 refl (whole !)))) (no-more !)))) (from ! (stop !)) (init ! 8 refl (tt, (tt, (record { fits = room₂ .0 }, tt)))) $
-        -- 2.Streams.5: agent::stream_moves::handle_stream
-        lends-mut ! tt (Array u64 5) b₁ o₁ sessions n₁ (refl) (λ ν-2·Streams·5-sessions δ-2·Streams·5-sessions.
-        move ! (3 ∷ 4 ∷ []) $
-        lends-mut ! tt (Array u16 35) b₂ o₂ streams n₂ (refl) (λ ν-2·Streams·5-streams δ-2·Streams·5-streams.
+    part-5-3 : (is-1 : Is (Group-p .row) (groupOf m) (Group-p .val (groupOf m) ∷ [])) → (is-2 : Is (CreatePayload-p .row) (createIn m) (CreatePayload-p .val (createIn m) ∷ [])) → (is-3 : Is (ObjectNumber-p .row) (numberIn m) (ObjectNumber-p .val (numberIn m) ∷ [])) → (e-4 : groupOf m ≡ Group-Deletes) → (good-4 : Is (Group-p .row) Group-Deletes (Group-p .val Group-Deletes ∷ [])) → (len-4·Deletes·5-sessions : length (keepRemoved (sessions) id (foundObject (sessions) (objects) id (numberIn m))) ≡ n₁) → (len-4·Deletes·5-objects : length (removedObjects (sessions) (objects) id (numberIn m)) ≡ n₃) → (is-4·Deletes·5 : Is (Move-p .row) (deleteMove (numberIn m) (foundObject (sessions) (objects) id (numberIn m))) (Move-p .val (deleteMove (numberIn m) (foundObject (sessions) (objects) id (numberIn m))) ∷ [])) → Sq W (‵ (MutSlice (named 0) κ₁ (Array u64 5) .own (at-list b₁ o₁ γ₁ (keepRemoved (sessions) id (foundObject (sessions) (objects) id (numberIn m)))) (sliceVal (b₁, o₁) n₁ ∷ [])) ∷ ‵ (flft κ₁ q₁) ∷ ‵ (MutSlice (named 0) κ₂ (Array u16 35) .own (at-list b₂ o₂ γ₂ streams) (sliceVal (b₂, o₂) n₂ ∷ [])) ∷ ‵ (flft κ₂ q₂) ∷ ‵ (MutSlice (named 0) κ₃ Object-t.the-row .own (at-list b₃ o₃ γ₃ (removedObjects (sessions) (objects) id (numberIn m))) (sliceVal (b₃, o₃) n₃ ∷ [])) ∷ ‵ (flft κ₃ q₃) ∷ ‵ (ShrSlice (named 0) κ₄ u8 .own (at-list b₄ o₄ γ₄ d) (sliceVal (b₄, o₄) n₄ ∷ [])) ∷ ‵ (flft κ₄ q₄) ∷ free 𝓤 (sliceTy (tyRef erased mut (pointee ((Array u16 35) .written)))) l₃₂ (free 𝓤 (tyRef erased mut (pointee ((Array u16 35) .written))) l₃₁ (free 𝓤 (sliceTy (tyRef erased mut (pointee ((Array u64 5) .written)))) l₃₀ (free 𝓤 (tyRef erased mut (pointee ((Array u64 5) .written))) l₂₉ (free 𝓤 (sliceTy (tyRef erased imm (pointee (Object-t.the-row .written)))) l₂₈ (free 𝓤 (tyRef erased imm (pointee (Object-t.the-row .written))) l₂₇ (free 𝓤 (sliceTy (tyRef erased imm (pointee ((Array u64 5) .written)))) l₂₆ (free 𝓤 (tyRef erased imm (pointee ((Array u64 5) .written))) l₂₅ (free 𝓤 (sliceTy (tyRef erased imm (pointee (Object-t.the-row .written)))) l₂₄ (free 𝓤 (tyRef erased imm (pointee (Object-t.the-row .written))) l₂₃ (free 𝓤 (sliceTy (tyRef erased imm (pointee ((Array u64 5) .written)))) l₂₂ (free 𝓤 (tyRef erased imm (pointee ((Array u64 5) .written))) l₂₁ (full 𝓤 (sliceTy (tyRef erased mut (pointee (Object-t.the-row .written)))) l₂₀ (sliceVal (b₃, o₃) n₃) (full 𝓤 (tyRef erased mut (pointee (Object-t.the-row .written))) l₁₉ (vptr b₃ o₃) (full 𝓤 (sliceTy (tyRef erased mut (pointee ((Array u64 5) .written)))) l₁₈ (sliceVal (b₁, o₁) n₁) (full 𝓤 (tyRef erased mut (pointee ((Array u64 5) .written))) l₁₇ (vptr b₁ o₁) (free 𝓤 (sliceTy (tyRef erased mut (pointee (Object-t.the-row .written)))) l₁₆ (free 𝓤 (tyRef erased mut (pointee (Object-t.the-row .written))) l₁₅ (free 𝓤 (sliceTy (tyRef erased mut (pointee ((Array u64 5) .written)))) l₁₄ (free 𝓤 (tyRef erased mut (pointee ((Array u64 5) .written))) l₁₃ (full 𝓤 Move-l.mir l₁₂ (Move-p .val (deleteMove (numberIn m) (foundObject (sessions) (objects) id (numberIn m)))) (full 𝓤 ObjectNumber-l.mir l₁₁ (ObjectNumber-p .val (numberIn m)) (full 𝓤 CreatePayload-l.mir l₁₀ (CreatePayload-p .val (createIn m)) (full 𝓤 Group-l.mir l₉ (Group-p .val Group-Deletes) (full 𝓤 Span-l.mir l₈ (Span-p .val body) (full 𝓤 Submessage-l.mir l₇ (Submessage-p .val m) (full 𝓤 (tyInt w8) l₆ (u8-p .val n′) (full 𝓤 (tyInt w8) l₅ (u8-p .val id) (full 𝓤 (sliceTy (tyRef (named 3) imm (pointee (u8 .written)))) l₄ (sliceVal (b₄, o₄) n₄) (full 𝓤 (sliceTy (tyRef (named 2) mut (pointee (Object-t.the-row .written)))) l₃ (sliceVal (b₃, o₃) n₃) (full 𝓤 (sliceTy (tyRef (named 1) mut (pointee ((Array u16 35) .written)))) l₂ (sliceVal (b₂, o₂) n₂) (full 𝓤 (sliceTy (tyRef (named 0) mut (pointee ((Array u64 5) .written)))) l₁ (sliceVal (b₁, o₁) n₁) (free 𝓤 Move-l.mir l₀ ([])))))))))))))))))))))))))))))))))) (runs C Λ En mir.t-5 (atRet En Post))
+    part-5-3 is-1 is-2 is-3 e-4 good-4 len-4·Deletes·5-sessions len-4·Deletes·5-objects is-4·Deletes·5 =
+        assigns ! (of-opd ! (load ! (from ! (stop !)) (look ! 48 refl))) (from ! (stop !)) (init ! 72 refl (Move-p .typed 𝓤 H A W (deleteMove (numberIn m) (foundObject (sessions) (objects) id (numberIn m))) is-4·Deletes·5)) $
+        returns ! (look ! 72 refl) $ forget ! 32 refl $ forget ! 34 refl $ forget ! 36 refl $ forget ! 38 refl $ forget ! 48 refl $ forget ! 50 refl $ forget ! 52 refl $ forget ! 54 refl $
+        frees-all (deleteMove (numberIn m) (foundObject (sessions) (objects) id (numberIn m))) (keepRemoved (sessions) id (foundObject (sessions) (objects) id (numberIn m))) streams (removedObjects (sessions) (objects) id (numberIn m)) (exits (deleteMove (numberIn m) (foundObject (sessions) (objects) id (numberIn m))) (keepRemoved (sessions) id (foundObject (sessions) (objects) id (numberIn m))) streams (removedObjects (sessions) (objects) id (numberIn m)) ((ap (λ (g : Group). handledBy g m (lent sessions streams objects) d id n′ body) (sym e-4), ap (λ (g : Group). handledIn g m (lent sessions streams objects) id n′ .sessions) (sym e-4), ap (λ (g : Group). handledIn g m (lent sessions streams objects) id n′ .streams) (sym e-4), ap (λ (g : Group). handledIn g m (lent sessions streams objects) id n′ .objects) (sym e-4))) is-4·Deletes·5 len-4·Deletes·5-sessions refl len-4·Deletes·5-objects)
+
+    matched-4-Deletes-3 : (is-1 : Is (Group-p .row) (groupOf m) (Group-p .val (groupOf m) ∷ [])) → (is-2 : Is (CreatePayload-p .row) (createIn m) (CreatePayload-p .val (createIn m) ∷ [])) → (is-3 : Is (ObjectNumber-p .row) (numberIn m) (ObjectNumber-p .val (numberIn m) ∷ [])) → (e-4 : groupOf m ≡ Group-Deletes) → (good-4 : Is (Group-p .row) Group-Deletes (Group-p .val Group-Deletes ∷ [])) → Sq W (‵ (MutSlice (named 0) κ₁ (Array u64 5) .own (at-list b₁ o₁ γ₁ sessions) (sliceVal (b₁, o₁) n₁ ∷ [])) ∷ ‵ (flft κ₁ q₁) ∷ ‵ (MutSlice (named 0) κ₂ (Array u16 35) .own (at-list b₂ o₂ γ₂ streams) (sliceVal (b₂, o₂) n₂ ∷ [])) ∷ ‵ (flft κ₂ q₂) ∷ ‵ (MutSlice (named 0) κ₃ Object-t.the-row .own (at-list b₃ o₃ γ₃ objects) (sliceVal (b₃, o₃) n₃ ∷ [])) ∷ ‵ (flft κ₃ q₃) ∷ ‵ (ShrSlice (named 0) κ₄ u8 .own (at-list b₄ o₄ γ₄ d) (sliceVal (b₄, o₄) n₄ ∷ [])) ∷ ‵ (flft κ₄ q₄) ∷ free 𝓤 (sliceTy (tyRef erased mut (pointee ((Array u16 35) .written)))) l₃₂ (free 𝓤 (tyRef erased mut (pointee ((Array u16 35) .written))) l₃₁ (free 𝓤 (sliceTy (tyRef erased mut (pointee ((Array u64 5) .written)))) l₃₀ (free 𝓤 (tyRef erased mut (pointee ((Array u64 5) .written))) l₂₉ (free 𝓤 (sliceTy (tyRef erased imm (pointee (Object-t.the-row .written)))) l₂₈ (free 𝓤 (tyRef erased imm (pointee (Object-t.the-row .written))) l₂₇ (free 𝓤 (sliceTy (tyRef erased imm (pointee ((Array u64 5) .written)))) l₂₆ (free 𝓤 (tyRef erased imm (pointee ((Array u64 5) .written))) l₂₅ (free 𝓤 (sliceTy (tyRef erased imm (pointee (Object-t.the-row .written)))) l₂₄ (free 𝓤 (tyRef erased imm (pointee (Object-t.the-row .written))) l₂₃ (free 𝓤 (sliceTy (tyRef erased imm (pointee ((Array u64 5) .written)))) l₂₂ (free 𝓤 (tyRef erased imm (pointee ((Array u64 5) .written))) l₂₁ (free 𝓤 (sliceTy (tyRef erased mut (pointee (Object-t.the-row .written)))) l₂₀ (free 𝓤 (tyRef erased mut (pointee (Object-t.the-row .written))) l₁₉ (free 𝓤 (sliceTy (tyRef erased mut (pointee ((Array u64 5) .written)))) l₁₈ (free 𝓤 (tyRef erased mut (pointee ((Array u64 5) .written))) l₁₇ (free 𝓤 (sliceTy (tyRef erased mut (pointee (Object-t.the-row .written)))) l₁₆ (free 𝓤 (tyRef erased mut (pointee (Object-t.the-row .written))) l₁₅ (free 𝓤 (sliceTy (tyRef erased mut (pointee ((Array u64 5) .written)))) l₁₄ (free 𝓤 (tyRef erased mut (pointee ((Array u64 5) .written))) l₁₃ (free 𝓤 Move-l.mir l₁₂ (full 𝓤 ObjectNumber-l.mir l₁₁ (ObjectNumber-p .val (numberIn m)) (full 𝓤 CreatePayload-l.mir l₁₀ (CreatePayload-p .val (createIn m)) (full 𝓤 Group-l.mir l₉ (Group-p .val Group-Deletes) (full 𝓤 Span-l.mir l₈ (Span-p .val body) (full 𝓤 Submessage-l.mir l₇ (Submessage-p .val m) (full 𝓤 (tyInt w8) l₆ (u8-p .val n′) (full 𝓤 (tyInt w8) l₅ (u8-p .val id) (full 𝓤 (sliceTy (tyRef (named 3) imm (pointee (u8 .written)))) l₄ (sliceVal (b₄, o₄) n₄) (full 𝓤 (sliceTy (tyRef (named 2) mut (pointee (Object-t.the-row .written)))) l₃ (sliceVal (b₃, o₃) n₃) (full 𝓤 (sliceTy (tyRef (named 1) mut (pointee ((Array u16 35) .written)))) l₂ (sliceVal (b₂, o₂) n₂) (full 𝓤 (sliceTy (tyRef (named 0) mut (pointee ((Array u64 5) .written)))) l₁ (sliceVal (b₁, o₁) n₁) (free 𝓤 Move-l.mir l₀ ([])))))))))))))))))))))))))))))))))) (runs C Λ En (one mir.t-4) (anyQ (afterSeq 𝓤 H (Wp 𝓤 H C Λ En mir.t-5 (atReturn 𝓤 H En Post)) (atReturn 𝓤 H En Post))))
+    matched-4-Deletes-3 is-1 is-2 is-3 e-4 good-4 =
+        switches-on ! (load ! (from ! (vrt ! refl (fld ! refl (stop !)))) (look-tag ! 54 (whole !))) $ exec ! C Λ En (arm-of 1 (one mir.t-4)) (anyQ (afterSeq 𝓤 H (Wp 𝓤 H C Λ En mir.t-5 (atReturn 𝓤 H En Post)) (atReturn 𝓤 H En Post))) $
+        assigns ! (addr ! (from ! (fld ! refl (hop ! (look-in ! 70 (sub ! 0 refl (whole !))) (stop !))))) (from ! (stop !)) (init ! 38 refl (tt, tt)) $
+        assigns ! (agg ! (and-then ! (load ! (from ! (stop !)) (look ! 38 refl)) (and-then ! (load ! (from ! (fld ! refl (stop !))) (look-in ! 70 (sub ! 1 refl (whole !)))) (no-more !)))) (from ! (stop !)) (init ! 36 refl (tt, (tt, (record { fits = room₁ .0 }, tt)))) $
+        assigns ! (addr ! (from ! (fld ! refl (hop ! (look-in ! 66 (sub ! 0 refl (whole !))) (stop !))))) (from ! (stop !)) (init ! 34 refl (tt, tt)) $
+        assigns ! (agg ! (and-then ! (load ! (from ! (stop !)) (look ! 34 refl)) (and-then ! (load ! (from ! (fld ! refl (stop !))) (look-in ! 66 (sub ! 1 refl (whole !)))) (no-more !)))) (from ! (stop !)) (init ! 32 refl (tt, (tt, (record { fits = room₃ .0 }, tt)))) $
+        -- 4.Deletes.5: agent::objects::delete
+        lends-mut ! tt (Array u64 5) b₁ o₁ sessions n₁ (refl) (λ ν-4·Deletes·5-sessions δ-4·Deletes·5-sessions.
+        move ! (5 ∷ 6 ∷ []) $
+        lends-mut ! tt Object-t.the-row b₃ o₃ objects n₃ (refl) (λ ν-4·Deletes·5-objects δ-4·Deletes·5-objects.
         nothing ! $ move ! (1 ∷ 0 ∷ []) $ join ! $ move ! (3 ∷ 0 ∷ []) $ join ! $
-        use1 W (raw (toks 𝓤 A 2 (((ν-2·Streams·5-sessions ∷ []), ((ν-2·Streams·5-streams ∷ []), tt))) ((fullShare, (fullShare, tt))))) (id⊢ 𝓤 _) $ nothing ! $
+        use1 W (raw (toks 𝓤 A 2 (((ν-4·Deletes·5-sessions ∷ []), ((ν-4·Deletes·5-objects ∷ []), tt))) ((fullShare, (fullShare, tt))))) (id⊢ 𝓤 _) $ nothing ! $
+        owned ! (ObjectNumber-p .row) (Is (ObjectNumber-p .row)) (ObjectNumber-p .makes 𝓤 H A W) (numberIn m) (ObjectNumber-p .val (numberIn m) ∷ []) is-3 $ fjoin ! $
+        owned ! (u8-p .row) (Is (u8-p .row)) (u8-p .makes 𝓤 H A W) id (u8-p .val id ∷ []) id-is $ fjoin ! $ move ! (2 ∷ 0 ∷ []) $ fjoin ! $ move ! (3 ∷ 0 ∷ []) $ fjoin ! $ move ! (1 ∷ 0 ∷ []) $
+        calls-any-last ! fm 2 [] (objects-delete.signature .params) (objects-delete.ended .kept) Move-p (objects-delete.clauses 𝓤 H A mem run) known-objects-delete ((ν-4·Deletes·5-sessions ∷ []), ((ν-4·Deletes·5-objects ∷ []), tt)) (fullShare, (fullShare, tt)) tt (at-list b₁ o₁ δ-4·Deletes·5-sessions sessions, (at-list b₃ o₃ δ-4·Deletes·5-objects objects, (id, (numberIn m, tt)))) (sliceVal (b₁, o₁) n₁ ∷ [], (sliceVal (b₃, o₃) n₃ ∷ [], (u8-p .val id ∷ [], (ObjectNumber-p .val (numberIn m) ∷ [], tt)))) tt (deleteMove (numberIn m) (foundObject (sessions) (objects) id (numberIn m))) (λ ws-4·Deletes·5. (ws-4·Deletes·5 .0 ≡ keepRemoved (sessions) id (foundObject (sessions) (objects) id (numberIn m))) × (ws-4·Deletes·5 .1 .0 ≡ removedObjects (sessions) (objects) id (numberIn m))) (id⊢ 𝓤 _) (λ r ws-4·Deletes·5. fact-mono 𝓤 ((r ≡ deleteMove (numberIn m) (foundObject (sessions) (objects) id (numberIn m))) × ((ws-4·Deletes·5 .0) ≡ keepRemoved (sessions) id (foundObject (sessions) (objects) id (numberIn m))) × ((ws-4·Deletes·5 .1 .0) ≡ removedObjects (sessions) (objects) id (numberIn m))) ((r ≡ (deleteMove (numberIn m) (foundObject (sessions) (objects) id (numberIn m)))) × ((ws-4·Deletes·5 .0 ≡ keepRemoved (sessions) id (foundObject (sessions) (objects) id (numberIn m))) × (ws-4·Deletes·5 .1 .0 ≡ removedObjects (sessions) (objects) id (numberIn m)))) (λ e. (e .0, (e .1, e .2)))) (λ _. (and-then ! (load ! (from ! (stop !)) (look ! 35 refl)) (and-then ! (load ! (from ! (stop !)) (look ! 31 refl)) (and-then ! (load ! (from ! (stop !)) (look ! 61 refl)) (and-then ! (load ! (from ! (stop !)) (look ! 49 refl)) (no-more !)))))) (λ ws-4·Deletes·5 said-4·Deletes·5 is-4·Deletes·5.
+        use1 W ((‵ (flft (ν-4·Deletes·5-sessions ∷ []) fullShare) ⊛ (‵ (flft (ν-4·Deletes·5-objects ∷ []) fullShare) ⊛ ‵ ftrue))) (id⊢ 𝓤 _) $ split ! $ move ! (1 ∷ []) $ split ! $ move ! (3 ∷ []) $ fsplit ! $ fsplit ! $ move ! (1 ∷ []) $
+        feqL ! (λ wlen-4·Deletes·5-0.
+        move ! (1 ∷ []) $ fsplit ! $ fsplit ! $ move ! (1 ∷ []) $
+        feqL ! (λ wlen-4·Deletes·5-1.
+        move ! (5 ∷ 7 ∷ 2 ∷ []) $
+        backs-mut ! tt (Array u64 5) b₁ o₁ sessions n₁ (refl) room₁ ν-4·Deletes·5-sessions δ-4·Deletes·5-sessions (ws-4·Deletes·5 .0) (keepRemoved (sessions) id (foundObject (sessions) (objects) id (numberIn m))) wlen-4·Deletes·5-0 (said-4·Deletes·5 .0) (λ len-4·Deletes·5-sessions.
+        move ! (4 ∷ 6 ∷ 2 ∷ []) $
+        backs-mut ! tt Object-t.the-row b₃ o₃ objects n₃ (refl) room₃ ν-4·Deletes·5-objects δ-4·Deletes·5-objects (ws-4·Deletes·5 .1 .0) (removedObjects (sessions) (objects) id (numberIn m)) wlen-4·Deletes·5-1 (said-4·Deletes·5 .1) (λ len-4·Deletes·5-objects.
+        move ! (4 ∷ []) $ drop ! $ move ! (4 ∷ []) $ drop ! $
+        land-last ! (from ! (stop !)) (init ! 48 refl (Move-p .typed 𝓤 H A W (deleteMove (numberIn m) (foundObject (sessions) (objects) id (numberIn m))) is-4·Deletes·5)) $
+        exec ! C Λ En mir.t-5 (atRet En Post) $ move ! (2 ∷ 3 ∷ 4 ∷ 5 ∷ 0 ∷ 1 ∷ 6 ∷ 7 ∷ 8 ∷ 9 ∷ 10 ∷ 11 ∷ 12 ∷ 13 ∷ 14 ∷ 15 ∷ 16 ∷ 17 ∷ 18 ∷ 19 ∷ 20 ∷ 21 ∷ 22 ∷ 23 ∷ 24 ∷ 25 ∷ 26 ∷ 27 ∷ 28 ∷ 29 ∷ 30 ∷ 31 ∷ 32 ∷ 33 ∷ 34 ∷ 35 ∷ 36 ∷ 37 ∷ 38 ∷ 39 ∷ 40 ∷ 41 ∷ 42 ∷ 43 ∷ 44 ∷ 45 ∷ 46 ∷ 47 ∷ 48 ∷ 49 ∷ 50 ∷ 51 ∷ 52 ∷ 53 ∷ 54 ∷ 55 ∷ 56 ∷ 57 ∷ 58 ∷ 59 ∷ 60 ∷ 61 ∷ 62 ∷ 63 ∷ 64 ∷ 65 ∷ 66 ∷ 67 ∷ 68 ∷ 69 ∷ 70 ∷ 71 ∷ 72 ∷ 73 ∷ []) $
+        part-5-3 is-1 is-2 is-3 e-4 good-4 len-4·Deletes·5-sessions len-4·Deletes·5-objects is-4·Deletes·5)))))))
+
+    part-5-5 : (is-1 : Is (Group-p .row) (groupOf m) (Group-p .val (groupOf m) ∷ [])) → (is-2 : Is (CreatePayload-p .row) (createIn m) (CreatePayload-p .val (createIn m) ∷ [])) → (is-3 : Is (ObjectNumber-p .row) (numberIn m) (ObjectNumber-p .val (numberIn m) ∷ [])) → (e-4 : groupOf m ≡ Group-Writes) → (good-4 : Is (Group-p .row) Group-Writes (Group-p .val Group-Writes ∷ [])) → (is-4·Writes·5 : Is (Move-p .row) (writeMove (numberIn m) body (foundObject (sessions) (objects) id (numberIn m))) (Move-p .val (writeMove (numberIn m) body (foundObject (sessions) (objects) id (numberIn m))) ∷ [])) → Sq W (‵ (MutSlice (named 0) κ₁ (Array u64 5) .own (at-list b₁ o₁ γ₁ sessions) (sliceVal (b₁, o₁) n₁ ∷ [])) ∷ ‵ (flft κ₁ q₁) ∷ ‵ (MutSlice (named 0) κ₂ (Array u16 35) .own (at-list b₂ o₂ γ₂ streams) (sliceVal (b₂, o₂) n₂ ∷ [])) ∷ ‵ (flft κ₂ q₂) ∷ ‵ (MutSlice (named 0) κ₃ Object-t.the-row .own (at-list b₃ o₃ γ₃ objects) (sliceVal (b₃, o₃) n₃ ∷ [])) ∷ ‵ (flft κ₃ q₃) ∷ ‵ (ShrSlice (named 0) κ₄ u8 .own (at-list b₄ o₄ γ₄ d) (sliceVal (b₄, o₄) n₄ ∷ [])) ∷ ‵ (flft κ₄ q₄) ∷ free 𝓤 (sliceTy (tyRef erased mut (pointee ((Array u16 35) .written)))) l₃₂ (free 𝓤 (tyRef erased mut (pointee ((Array u16 35) .written))) l₃₁ (free 𝓤 (sliceTy (tyRef erased mut (pointee ((Array u64 5) .written)))) l₃₀ (free 𝓤 (tyRef erased mut (pointee ((Array u64 5) .written))) l₂₉ (free 𝓤 (sliceTy (tyRef erased imm (pointee (Object-t.the-row .written)))) l₂₈ (free 𝓤 (tyRef erased imm (pointee (Object-t.the-row .written))) l₂₇ (free 𝓤 (sliceTy (tyRef erased imm (pointee ((Array u64 5) .written)))) l₂₆ (free 𝓤 (tyRef erased imm (pointee ((Array u64 5) .written))) l₂₅ (full 𝓤 (sliceTy (tyRef erased imm (pointee (Object-t.the-row .written)))) l₂₄ (sliceVal (b₃, o₃) n₃) (full 𝓤 (tyRef erased imm (pointee (Object-t.the-row .written))) l₂₃ (vptr b₃ o₃) (full 𝓤 (sliceTy (tyRef erased imm (pointee ((Array u64 5) .written)))) l₂₂ (sliceVal (b₁, o₁) n₁) (full 𝓤 (tyRef erased imm (pointee ((Array u64 5) .written))) l₂₁ (vptr b₁ o₁) (free 𝓤 (sliceTy (tyRef erased mut (pointee (Object-t.the-row .written)))) l₂₀ (free 𝓤 (tyRef erased mut (pointee (Object-t.the-row .written))) l₁₉ (free 𝓤 (sliceTy (tyRef erased mut (pointee ((Array u64 5) .written)))) l₁₈ (free 𝓤 (tyRef erased mut (pointee ((Array u64 5) .written))) l₁₇ (free 𝓤 (sliceTy (tyRef erased mut (pointee (Object-t.the-row .written)))) l₁₆ (free 𝓤 (tyRef erased mut (pointee (Object-t.the-row .written))) l₁₅ (free 𝓤 (sliceTy (tyRef erased mut (pointee ((Array u64 5) .written)))) l₁₄ (free 𝓤 (tyRef erased mut (pointee ((Array u64 5) .written))) l₁₃ (full 𝓤 Move-l.mir l₁₂ (Move-p .val (writeMove (numberIn m) body (foundObject (sessions) (objects) id (numberIn m)))) (full 𝓤 ObjectNumber-l.mir l₁₁ (ObjectNumber-p .val (numberIn m)) (full 𝓤 CreatePayload-l.mir l₁₀ (CreatePayload-p .val (createIn m)) (full 𝓤 Group-l.mir l₉ (Group-p .val Group-Writes) (full 𝓤 Span-l.mir l₈ (Span-p .val body) (full 𝓤 Submessage-l.mir l₇ (Submessage-p .val m) (full 𝓤 (tyInt w8) l₆ (u8-p .val n′) (full 𝓤 (tyInt w8) l₅ (u8-p .val id) (full 𝓤 (sliceTy (tyRef (named 3) imm (pointee (u8 .written)))) l₄ (sliceVal (b₄, o₄) n₄) (full 𝓤 (sliceTy (tyRef (named 2) mut (pointee (Object-t.the-row .written)))) l₃ (sliceVal (b₃, o₃) n₃) (full 𝓤 (sliceTy (tyRef (named 1) mut (pointee ((Array u16 35) .written)))) l₂ (sliceVal (b₂, o₂) n₂) (full 𝓤 (sliceTy (tyRef (named 0) mut (pointee ((Array u64 5) .written)))) l₁ (sliceVal (b₁, o₁) n₁) (free 𝓤 Move-l.mir l₀ ([])))))))))))))))))))))))))))))))))) (runs C Λ En mir.t-5 (atRet En Post))
+    part-5-5 is-1 is-2 is-3 e-4 good-4 is-4·Writes·5 =
+        assigns ! (of-opd ! (load ! (from ! (stop !)) (look ! 48 refl))) (from ! (stop !)) (init ! 72 refl (Move-p .typed 𝓤 H A W (writeMove (numberIn m) body (foundObject (sessions) (objects) id (numberIn m))) is-4·Writes·5)) $
+        returns ! (look ! 72 refl) $ forget ! 24 refl $ forget ! 26 refl $ forget ! 28 refl $ forget ! 30 refl $ forget ! 48 refl $ forget ! 50 refl $ forget ! 52 refl $ forget ! 54 refl $
+        frees-all (writeMove (numberIn m) body (foundObject (sessions) (objects) id (numberIn m))) sessions streams objects (exits (writeMove (numberIn m) body (foundObject (sessions) (objects) id (numberIn m))) sessions streams objects ((ap (λ (g : Group). handledBy g m (lent sessions streams objects) d id n′ body) (sym e-4), ap (λ (g : Group). handledIn g m (lent sessions streams objects) id n′ .sessions) (sym e-4), ap (λ (g : Group). handledIn g m (lent sessions streams objects) id n′ .streams) (sym e-4), ap (λ (g : Group). handledIn g m (lent sessions streams objects) id n′ .objects) (sym e-4))) is-4·Writes·5 refl refl refl)
+
+    matched-4-Writes-5 : (is-1 : Is (Group-p .row) (groupOf m) (Group-p .val (groupOf m) ∷ [])) → (is-2 : Is (CreatePayload-p .row) (createIn m) (CreatePayload-p .val (createIn m) ∷ [])) → (is-3 : Is (ObjectNumber-p .row) (numberIn m) (ObjectNumber-p .val (numberIn m) ∷ [])) → (e-4 : groupOf m ≡ Group-Writes) → (good-4 : Is (Group-p .row) Group-Writes (Group-p .val Group-Writes ∷ [])) → Sq W (‵ (MutSlice (named 0) κ₁ (Array u64 5) .own (at-list b₁ o₁ γ₁ sessions) (sliceVal (b₁, o₁) n₁ ∷ [])) ∷ ‵ (flft κ₁ q₁) ∷ ‵ (MutSlice (named 0) κ₂ (Array u16 35) .own (at-list b₂ o₂ γ₂ streams) (sliceVal (b₂, o₂) n₂ ∷ [])) ∷ ‵ (flft κ₂ q₂) ∷ ‵ (MutSlice (named 0) κ₃ Object-t.the-row .own (at-list b₃ o₃ γ₃ objects) (sliceVal (b₃, o₃) n₃ ∷ [])) ∷ ‵ (flft κ₃ q₃) ∷ ‵ (ShrSlice (named 0) κ₄ u8 .own (at-list b₄ o₄ γ₄ d) (sliceVal (b₄, o₄) n₄ ∷ [])) ∷ ‵ (flft κ₄ q₄) ∷ free 𝓤 (sliceTy (tyRef erased mut (pointee ((Array u16 35) .written)))) l₃₂ (free 𝓤 (tyRef erased mut (pointee ((Array u16 35) .written))) l₃₁ (free 𝓤 (sliceTy (tyRef erased mut (pointee ((Array u64 5) .written)))) l₃₀ (free 𝓤 (tyRef erased mut (pointee ((Array u64 5) .written))) l₂₉ (free 𝓤 (sliceTy (tyRef erased imm (pointee (Object-t.the-row .written)))) l₂₈ (free 𝓤 (tyRef erased imm (pointee (Object-t.the-row .written))) l₂₇ (free 𝓤 (sliceTy (tyRef erased imm (pointee ((Array u64 5) .written)))) l₂₆ (free 𝓤 (tyRef erased imm (pointee ((Array u64 5) .written))) l₂₅ (free 𝓤 (sliceTy (tyRef erased imm (pointee (Object-t.the-row .written)))) l₂₄ (free 𝓤 (tyRef erased imm (pointee (Object-t.the-row .written))) l₂₃ (free 𝓤 (sliceTy (tyRef erased imm (pointee ((Array u64 5) .written)))) l₂₂ (free 𝓤 (tyRef erased imm (pointee ((Array u64 5) .written))) l₂₁ (free 𝓤 (sliceTy (tyRef erased mut (pointee (Object-t.the-row .written)))) l₂₀ (free 𝓤 (tyRef erased mut (pointee (Object-t.the-row .written))) l₁₉ (free 𝓤 (sliceTy (tyRef erased mut (pointee ((Array u64 5) .written)))) l₁₈ (free 𝓤 (tyRef erased mut (pointee ((Array u64 5) .written))) l₁₇ (free 𝓤 (sliceTy (tyRef erased mut (pointee (Object-t.the-row .written)))) l₁₆ (free 𝓤 (tyRef erased mut (pointee (Object-t.the-row .written))) l₁₅ (free 𝓤 (sliceTy (tyRef erased mut (pointee ((Array u64 5) .written)))) l₁₄ (free 𝓤 (tyRef erased mut (pointee ((Array u64 5) .written))) l₁₃ (free 𝓤 Move-l.mir l₁₂ (full 𝓤 ObjectNumber-l.mir l₁₁ (ObjectNumber-p .val (numberIn m)) (full 𝓤 CreatePayload-l.mir l₁₀ (CreatePayload-p .val (createIn m)) (full 𝓤 Group-l.mir l₉ (Group-p .val Group-Writes) (full 𝓤 Span-l.mir l₈ (Span-p .val body) (full 𝓤 Submessage-l.mir l₇ (Submessage-p .val m) (full 𝓤 (tyInt w8) l₆ (u8-p .val n′) (full 𝓤 (tyInt w8) l₅ (u8-p .val id) (full 𝓤 (sliceTy (tyRef (named 3) imm (pointee (u8 .written)))) l₄ (sliceVal (b₄, o₄) n₄) (full 𝓤 (sliceTy (tyRef (named 2) mut (pointee (Object-t.the-row .written)))) l₃ (sliceVal (b₃, o₃) n₃) (full 𝓤 (sliceTy (tyRef (named 1) mut (pointee ((Array u16 35) .written)))) l₂ (sliceVal (b₂, o₂) n₂) (full 𝓤 (sliceTy (tyRef (named 0) mut (pointee ((Array u64 5) .written)))) l₁ (sliceVal (b₁, o₁) n₁) (free 𝓤 Move-l.mir l₀ ([])))))))))))))))))))))))))))))))))) (runs C Λ En (one mir.t-4) (anyQ (afterSeq 𝓤 H (Wp 𝓤 H C Λ En mir.t-5 (atReturn 𝓤 H En Post)) (atReturn 𝓤 H En Post))))
+    matched-4-Writes-5 is-1 is-2 is-3 e-4 good-4 =
+        switches-on ! (load ! (from ! (vrt ! refl (fld ! refl (stop !)))) (look-tag ! 54 (whole !))) $ exec ! C Λ En (arm-of 2 (one mir.t-4)) (anyQ (afterSeq 𝓤 H (Wp 𝓤 H C Λ En mir.t-5 (atReturn 𝓤 H En Post)) (atReturn 𝓤 H En Post))) $
+        assigns ! (addr ! (from ! (fld ! refl (hop ! (look-in ! 70 (sub ! 0 refl (whole !))) (stop !))))) (from ! (stop !)) (init ! 30 refl (tt, tt)) $
+        assigns ! (agg ! (and-then ! (load ! (from ! (stop !)) (look ! 30 refl)) (and-then ! (load ! (from ! (fld ! refl (stop !))) (look-in ! 70 (sub ! 1 refl (whole !)))) (no-more !)))) (from ! (stop !)) (init ! 28 refl (tt, (tt, (record { fits = room₁ .0 }, tt)))) $
+        assigns ! (addr ! (from ! (fld ! refl (hop ! (look-in ! 66 (sub ! 0 refl (whole !))) (stop !))))) (from ! (stop !)) (init ! 26 refl (tt, tt)) $
+        assigns ! (agg ! (and-then ! (load ! (from ! (stop !)) (look ! 26 refl)) (and-then ! (load ! (from ! (fld ! refl (stop !))) (look-in ! 66 (sub ! 1 refl (whole !)))) (no-more !)))) (from ! (stop !)) (init ! 24 refl (tt, (tt, (record { fits = room₃ .0 }, tt)))) $
+        -- 4.Writes.5: agent::objects::write_data
+        lends-view ! tt (Array u64 5) b₁ o₁ sessions n₁ (refl) (λ ν-4·Writes·5-sessions δ-4·Writes·5-sessions.
+        move ! (5 ∷ 6 ∷ []) $
+        lends-view ! tt Object-t.the-row b₃ o₃ objects n₃ (refl) (λ ν-4·Writes·5-objects δ-4·Writes·5-objects.
+        nothing ! $ move ! (1 ∷ 0 ∷ []) $ join ! $ move ! (3 ∷ 0 ∷ []) $ join ! $
+        use1 W (raw (toks 𝓤 A 2 (((ν-4·Writes·5-sessions ∷ []), ((ν-4·Writes·5-objects ∷ []), tt))) ((fullShare, (fullShare, tt))))) (id⊢ 𝓤 _) $ nothing ! $
+        owned ! (Span-p .row) (Is (Span-p .row)) (Span-p .makes 𝓤 H A W) body (Span-p .val body ∷ []) body-is $ fjoin ! $
+        owned ! (ObjectNumber-p .row) (Is (ObjectNumber-p .row)) (ObjectNumber-p .makes 𝓤 H A W) (numberIn m) (ObjectNumber-p .val (numberIn m) ∷ []) is-3 $ fjoin ! $
+        owned ! (u8-p .row) (Is (u8-p .row)) (u8-p .makes 𝓤 H A W) id (u8-p .val id ∷ []) id-is $ fjoin ! $ move ! (2 ∷ 0 ∷ []) $ fjoin ! $ move ! (3 ∷ 0 ∷ []) $ fjoin ! $ move ! (1 ∷ 0 ∷ []) $
+        calls-any-last ! fm 2 [] (objects-write-data.signature .params) (objects-write-data.ended .kept) Move-p (objects-write-data.clauses 𝓤 H A mem run) known-objects-write-data ((ν-4·Writes·5-sessions ∷ []), ((ν-4·Writes·5-objects ∷ []), tt)) (fullShare, (fullShare, tt)) tt (at-list b₁ o₁ δ-4·Writes·5-sessions sessions, (at-list b₃ o₃ δ-4·Writes·5-objects objects, (id, (numberIn m, (body, tt))))) (sliceVal (b₁, o₁) n₁ ∷ [], (sliceVal (b₃, o₃) n₃ ∷ [], (u8-p .val id ∷ [], (ObjectNumber-p .val (numberIn m) ∷ [], (Span-p .val body ∷ [], tt))))) tt (writeMove (numberIn m) body (foundObject (sessions) (objects) id (numberIn m))) (λ ws-4·Writes·5. Unit {0}) (id⊢ 𝓤 _) (λ r ws-4·Writes·5. fact-mono 𝓤 (r ≡ writeMove (numberIn m) body (foundObject (sessions) (objects) id (numberIn m))) ((r ≡ (writeMove (numberIn m) body (foundObject (sessions) (objects) id (numberIn m)))) × (Unit {0})) (λ e. (e, tt))) (λ _. (and-then ! (load ! (from ! (stop !)) (look ! 27 refl)) (and-then ! (load ! (from ! (stop !)) (look ! 23 refl)) (and-then ! (load ! (from ! (stop !)) (look ! 61 refl)) (and-then ! (load ! (from ! (stop !)) (look ! 49 refl)) (and-then ! (load ! (from ! (stop !)) (look ! 55 refl)) (no-more !))))))) (λ ws-4·Writes·5 said-4·Writes·5 is-4·Writes·5.
+        use1 W ((‵ (flft (ν-4·Writes·5-sessions ∷ []) fullShare) ⊛ (‵ (flft (ν-4·Writes·5-objects ∷ []) fullShare) ⊛ ‵ ftrue))) (id⊢ 𝓤 _) $ split ! $ move ! (1 ∷ []) $ split ! $ move ! (3 ∷ []) $ fsplit ! $ move ! (1 ∷ []) $ fsplit ! $ move ! (5 ∷ 7 ∷ []) $
+        backs-view ! tt (Array u64 5) b₁ o₁ sessions n₁ (refl) ν-4·Writes·5-sessions $ move ! (5 ∷ 7 ∷ []) $
+        backs-view ! tt Object-t.the-row b₃ o₃ objects n₃ (refl) ν-4·Writes·5-objects $ move ! (4 ∷ []) $ drop ! $ move ! (4 ∷ []) $ drop ! $ move ! (4 ∷ []) $ drop ! $ move ! (4 ∷ []) $ drop ! $
+        land-last ! (from ! (stop !)) (init ! 48 refl (Move-p .typed 𝓤 H A W (writeMove (numberIn m) body (foundObject (sessions) (objects) id (numberIn m))) is-4·Writes·5)) $
+        exec ! C Λ En mir.t-5 (atRet En Post) $ move ! (2 ∷ 3 ∷ 4 ∷ 5 ∷ 0 ∷ 1 ∷ 6 ∷ 7 ∷ 8 ∷ 9 ∷ 10 ∷ 11 ∷ 12 ∷ 13 ∷ 14 ∷ 15 ∷ 16 ∷ 17 ∷ 18 ∷ 19 ∷ 20 ∷ 21 ∷ 22 ∷ 23 ∷ 24 ∷ 25 ∷ 26 ∷ 27 ∷ 28 ∷ 29 ∷ 30 ∷ 31 ∷ 32 ∷ 33 ∷ 34 ∷ 35 ∷ 36 ∷ 37 ∷ 38 ∷ 39 ∷ 40 ∷ 41 ∷ 42 ∷ 43 ∷ 44 ∷ 45 ∷ 46 ∷ 47 ∷ 48 ∷ 49 ∷ 50 ∷ 51 ∷ 52 ∷ 53 ∷ 54 ∷ 55 ∷ 56 ∷ 57 ∷ 58 ∷ 59 ∷ 60 ∷ 61 ∷ 62 ∷ 63 ∷ 64 ∷ 65 ∷ 66 ∷ 67 ∷ 68 ∷ 69 ∷ 70 ∷ 71 ∷ 72 ∷ 73 ∷ []) $
+        part-5-5 is-1 is-2 is-3 e-4 good-4 is-4·Writes·5)))
+
+    part-5-7 : (is-1 : Is (Group-p .row) (groupOf m) (Group-p .val (groupOf m) ∷ [])) → (is-2 : Is (CreatePayload-p .row) (createIn m) (CreatePayload-p .val (createIn m) ∷ [])) → (is-3 : Is (ObjectNumber-p .row) (numberIn m) (ObjectNumber-p .val (numberIn m) ∷ [])) → (e-4 : groupOf m ≡ Group-Reads) → (good-4 : Is (Group-p .row) Group-Reads (Group-p .val Group-Reads ∷ [])) → (is-4·Reads·5 : Is (Move-p .row) (readMove (numberIn m) (foundObject (sessions) (objects) id (numberIn m))) (Move-p .val (readMove (numberIn m) (foundObject (sessions) (objects) id (numberIn m))) ∷ [])) → Sq W (‵ (MutSlice (named 0) κ₁ (Array u64 5) .own (at-list b₁ o₁ γ₁ sessions) (sliceVal (b₁, o₁) n₁ ∷ [])) ∷ ‵ (flft κ₁ q₁) ∷ ‵ (MutSlice (named 0) κ₂ (Array u16 35) .own (at-list b₂ o₂ γ₂ streams) (sliceVal (b₂, o₂) n₂ ∷ [])) ∷ ‵ (flft κ₂ q₂) ∷ ‵ (MutSlice (named 0) κ₃ Object-t.the-row .own (at-list b₃ o₃ γ₃ objects) (sliceVal (b₃, o₃) n₃ ∷ [])) ∷ ‵ (flft κ₃ q₃) ∷ ‵ (ShrSlice (named 0) κ₄ u8 .own (at-list b₄ o₄ γ₄ d) (sliceVal (b₄, o₄) n₄ ∷ [])) ∷ ‵ (flft κ₄ q₄) ∷ free 𝓤 (sliceTy (tyRef erased mut (pointee ((Array u16 35) .written)))) l₃₂ (free 𝓤 (tyRef erased mut (pointee ((Array u16 35) .written))) l₃₁ (free 𝓤 (sliceTy (tyRef erased mut (pointee ((Array u64 5) .written)))) l₃₀ (free 𝓤 (tyRef erased mut (pointee ((Array u64 5) .written))) l₂₉ (full 𝓤 (sliceTy (tyRef erased imm (pointee (Object-t.the-row .written)))) l₂₈ (sliceVal (b₃, o₃) n₃) (full 𝓤 (tyRef erased imm (pointee (Object-t.the-row .written))) l₂₇ (vptr b₃ o₃) (full 𝓤 (sliceTy (tyRef erased imm (pointee ((Array u64 5) .written)))) l₂₆ (sliceVal (b₁, o₁) n₁) (full 𝓤 (tyRef erased imm (pointee ((Array u64 5) .written))) l₂₅ (vptr b₁ o₁) (free 𝓤 (sliceTy (tyRef erased imm (pointee (Object-t.the-row .written)))) l₂₄ (free 𝓤 (tyRef erased imm (pointee (Object-t.the-row .written))) l₂₃ (free 𝓤 (sliceTy (tyRef erased imm (pointee ((Array u64 5) .written)))) l₂₂ (free 𝓤 (tyRef erased imm (pointee ((Array u64 5) .written))) l₂₁ (free 𝓤 (sliceTy (tyRef erased mut (pointee (Object-t.the-row .written)))) l₂₀ (free 𝓤 (tyRef erased mut (pointee (Object-t.the-row .written))) l₁₉ (free 𝓤 (sliceTy (tyRef erased mut (pointee ((Array u64 5) .written)))) l₁₈ (free 𝓤 (tyRef erased mut (pointee ((Array u64 5) .written))) l₁₇ (free 𝓤 (sliceTy (tyRef erased mut (pointee (Object-t.the-row .written)))) l₁₆ (free 𝓤 (tyRef erased mut (pointee (Object-t.the-row .written))) l₁₅ (free 𝓤 (sliceTy (tyRef erased mut (pointee ((Array u64 5) .written)))) l₁₄ (free 𝓤 (tyRef erased mut (pointee ((Array u64 5) .written))) l₁₃ (full 𝓤 Move-l.mir l₁₂ (Move-p .val (readMove (numberIn m) (foundObject (sessions) (objects) id (numberIn m)))) (full 𝓤 ObjectNumber-l.mir l₁₁ (ObjectNumber-p .val (numberIn m)) (full 𝓤 CreatePayload-l.mir l₁₀ (CreatePayload-p .val (createIn m)) (full 𝓤 Group-l.mir l₉ (Group-p .val Group-Reads) (full 𝓤 Span-l.mir l₈ (Span-p .val body) (full 𝓤 Submessage-l.mir l₇ (Submessage-p .val m) (full 𝓤 (tyInt w8) l₆ (u8-p .val n′) (full 𝓤 (tyInt w8) l₅ (u8-p .val id) (full 𝓤 (sliceTy (tyRef (named 3) imm (pointee (u8 .written)))) l₄ (sliceVal (b₄, o₄) n₄) (full 𝓤 (sliceTy (tyRef (named 2) mut (pointee (Object-t.the-row .written)))) l₃ (sliceVal (b₃, o₃) n₃) (full 𝓤 (sliceTy (tyRef (named 1) mut (pointee ((Array u16 35) .written)))) l₂ (sliceVal (b₂, o₂) n₂) (full 𝓤 (sliceTy (tyRef (named 0) mut (pointee ((Array u64 5) .written)))) l₁ (sliceVal (b₁, o₁) n₁) (free 𝓤 Move-l.mir l₀ ([])))))))))))))))))))))))))))))))))) (runs C Λ En mir.t-5 (atRet En Post))
+    part-5-7 is-1 is-2 is-3 e-4 good-4 is-4·Reads·5 =
+        assigns ! (of-opd ! (load ! (from ! (stop !)) (look ! 48 refl))) (from ! (stop !)) (init ! 72 refl (Move-p .typed 𝓤 H A W (readMove (numberIn m) (foundObject (sessions) (objects) id (numberIn m))) is-4·Reads·5)) $
+        returns ! (look ! 72 refl) $ forget ! 16 refl $ forget ! 18 refl $ forget ! 20 refl $ forget ! 22 refl $ forget ! 48 refl $ forget ! 50 refl $ forget ! 52 refl $ forget ! 54 refl $
+        frees-all (readMove (numberIn m) (foundObject (sessions) (objects) id (numberIn m))) sessions streams objects (exits (readMove (numberIn m) (foundObject (sessions) (objects) id (numberIn m))) sessions streams objects ((ap (λ (g : Group). handledBy g m (lent sessions streams objects) d id n′ body) (sym e-4), ap (λ (g : Group). handledIn g m (lent sessions streams objects) id n′ .sessions) (sym e-4), ap (λ (g : Group). handledIn g m (lent sessions streams objects) id n′ .streams) (sym e-4), ap (λ (g : Group). handledIn g m (lent sessions streams objects) id n′ .objects) (sym e-4))) is-4·Reads·5 refl refl refl)
+
+    matched-4-Reads-7 : (is-1 : Is (Group-p .row) (groupOf m) (Group-p .val (groupOf m) ∷ [])) → (is-2 : Is (CreatePayload-p .row) (createIn m) (CreatePayload-p .val (createIn m) ∷ [])) → (is-3 : Is (ObjectNumber-p .row) (numberIn m) (ObjectNumber-p .val (numberIn m) ∷ [])) → (e-4 : groupOf m ≡ Group-Reads) → (good-4 : Is (Group-p .row) Group-Reads (Group-p .val Group-Reads ∷ [])) → Sq W (‵ (MutSlice (named 0) κ₁ (Array u64 5) .own (at-list b₁ o₁ γ₁ sessions) (sliceVal (b₁, o₁) n₁ ∷ [])) ∷ ‵ (flft κ₁ q₁) ∷ ‵ (MutSlice (named 0) κ₂ (Array u16 35) .own (at-list b₂ o₂ γ₂ streams) (sliceVal (b₂, o₂) n₂ ∷ [])) ∷ ‵ (flft κ₂ q₂) ∷ ‵ (MutSlice (named 0) κ₃ Object-t.the-row .own (at-list b₃ o₃ γ₃ objects) (sliceVal (b₃, o₃) n₃ ∷ [])) ∷ ‵ (flft κ₃ q₃) ∷ ‵ (ShrSlice (named 0) κ₄ u8 .own (at-list b₄ o₄ γ₄ d) (sliceVal (b₄, o₄) n₄ ∷ [])) ∷ ‵ (flft κ₄ q₄) ∷ free 𝓤 (sliceTy (tyRef erased mut (pointee ((Array u16 35) .written)))) l₃₂ (free 𝓤 (tyRef erased mut (pointee ((Array u16 35) .written))) l₃₁ (free 𝓤 (sliceTy (tyRef erased mut (pointee ((Array u64 5) .written)))) l₃₀ (free 𝓤 (tyRef erased mut (pointee ((Array u64 5) .written))) l₂₉ (free 𝓤 (sliceTy (tyRef erased imm (pointee (Object-t.the-row .written)))) l₂₈ (free 𝓤 (tyRef erased imm (pointee (Object-t.the-row .written))) l₂₇ (free 𝓤 (sliceTy (tyRef erased imm (pointee ((Array u64 5) .written)))) l₂₆ (free 𝓤 (tyRef erased imm (pointee ((Array u64 5) .written))) l₂₅ (free 𝓤 (sliceTy (tyRef erased imm (pointee (Object-t.the-row .written)))) l₂₄ (free 𝓤 (tyRef erased imm (pointee (Object-t.the-row .written))) l₂₃ (free 𝓤 (sliceTy (tyRef erased imm (pointee ((Array u64 5) .written)))) l₂₂ (free 𝓤 (tyRef erased imm (pointee ((Array u64 5) .written))) l₂₁ (free 𝓤 (sliceTy (tyRef erased mut (pointee (Object-t.the-row .written)))) l₂₀ (free 𝓤 (tyRef erased mut (pointee (Object-t.the-row .written))) l₁₉ (free 𝓤 (sliceTy (tyRef erased mut (pointee ((Array u64 5) .written)))) l₁₈ (free 𝓤 (tyRef erased mut (pointee ((Array u64 5) .written))) l₁₇ (free 𝓤 (sliceTy (tyRef erased mut (pointee (Object-t.the-row .written)))) l₁₆ (free 𝓤 (tyRef erased mut (pointee (Object-t.the-row .written))) l₁₅ (free 𝓤 (sliceTy (tyRef erased mut (pointee ((Array u64 5) .written)))) l₁₄ (free 𝓤 (tyRef erased mut (pointee ((Array u64 5) .written))) l₁₃ (free 𝓤 Move-l.mir l₁₂ (full 𝓤 ObjectNumber-l.mir l₁₁ (ObjectNumber-p .val (numberIn m)) (full 𝓤 CreatePayload-l.mir l₁₀ (CreatePayload-p .val (createIn m)) (full 𝓤 Group-l.mir l₉ (Group-p .val Group-Reads) (full 𝓤 Span-l.mir l₈ (Span-p .val body) (full 𝓤 Submessage-l.mir l₇ (Submessage-p .val m) (full 𝓤 (tyInt w8) l₆ (u8-p .val n′) (full 𝓤 (tyInt w8) l₅ (u8-p .val id) (full 𝓤 (sliceTy (tyRef (named 3) imm (pointee (u8 .written)))) l₄ (sliceVal (b₄, o₄) n₄) (full 𝓤 (sliceTy (tyRef (named 2) mut (pointee (Object-t.the-row .written)))) l₃ (sliceVal (b₃, o₃) n₃) (full 𝓤 (sliceTy (tyRef (named 1) mut (pointee ((Array u16 35) .written)))) l₂ (sliceVal (b₂, o₂) n₂) (full 𝓤 (sliceTy (tyRef (named 0) mut (pointee ((Array u64 5) .written)))) l₁ (sliceVal (b₁, o₁) n₁) (free 𝓤 Move-l.mir l₀ ([])))))))))))))))))))))))))))))))))) (runs C Λ En (one mir.t-4) (anyQ (afterSeq 𝓤 H (Wp 𝓤 H C Λ En mir.t-5 (atReturn 𝓤 H En Post)) (atReturn 𝓤 H En Post))))
+    matched-4-Reads-7 is-1 is-2 is-3 e-4 good-4 =
+        switches-on ! (load ! (from ! (vrt ! refl (fld ! refl (stop !)))) (look-tag ! 54 (whole !))) $ exec ! C Λ En (arm-of 3 (one mir.t-4)) (anyQ (afterSeq 𝓤 H (Wp 𝓤 H C Λ En mir.t-5 (atReturn 𝓤 H En Post)) (atReturn 𝓤 H En Post))) $
+        assigns ! (addr ! (from ! (fld ! refl (hop ! (look-in ! 70 (sub ! 0 refl (whole !))) (stop !))))) (from ! (stop !)) (init ! 22 refl (tt, tt)) $
+        assigns ! (agg ! (and-then ! (load ! (from ! (stop !)) (look ! 22 refl)) (and-then ! (load ! (from ! (fld ! refl (stop !))) (look-in ! 70 (sub ! 1 refl (whole !)))) (no-more !)))) (from ! (stop !)) (init ! 20 refl (tt, (tt, (record { fits = room₁ .0 }, tt)))) $
+        assigns ! (addr ! (from ! (fld ! refl (hop ! (look-in ! 66 (sub ! 0 refl (whole !))) (stop !))))) (from ! (stop !)) (init ! 18 refl (tt, tt)) $
+        assigns ! (agg ! (and-then ! (load ! (from ! (stop !)) (look ! 18 refl)) (and-then ! (load ! (from ! (fld ! refl (stop !))) (look-in ! 66 (sub ! 1 refl (whole !)))) (no-more !)))) (from ! (stop !)) (init ! 16 refl (tt, (tt, (record { fits = room₃ .0 }, tt)))) $
+        -- 4.Reads.5: agent::objects::read_data
+        lends-view ! tt (Array u64 5) b₁ o₁ sessions n₁ (refl) (λ ν-4·Reads·5-sessions δ-4·Reads·5-sessions.
+        move ! (5 ∷ 6 ∷ []) $
+        lends-view ! tt Object-t.the-row b₃ o₃ objects n₃ (refl) (λ ν-4·Reads·5-objects δ-4·Reads·5-objects.
+        nothing ! $ move ! (1 ∷ 0 ∷ []) $ join ! $ move ! (3 ∷ 0 ∷ []) $ join ! $
+        use1 W (raw (toks 𝓤 A 2 (((ν-4·Reads·5-sessions ∷ []), ((ν-4·Reads·5-objects ∷ []), tt))) ((fullShare, (fullShare, tt))))) (id⊢ 𝓤 _) $ nothing ! $
+        owned ! (ObjectNumber-p .row) (Is (ObjectNumber-p .row)) (ObjectNumber-p .makes 𝓤 H A W) (numberIn m) (ObjectNumber-p .val (numberIn m) ∷ []) is-3 $ fjoin ! $
+        owned ! (u8-p .row) (Is (u8-p .row)) (u8-p .makes 𝓤 H A W) id (u8-p .val id ∷ []) id-is $ fjoin ! $ move ! (2 ∷ 0 ∷ []) $ fjoin ! $ move ! (3 ∷ 0 ∷ []) $ fjoin ! $ move ! (1 ∷ 0 ∷ []) $
+        calls-any-last ! fm 2 [] (objects-read-data.signature .params) (objects-read-data.ended .kept) Move-p (objects-read-data.clauses 𝓤 H A mem run) known-objects-read-data ((ν-4·Reads·5-sessions ∷ []), ((ν-4·Reads·5-objects ∷ []), tt)) (fullShare, (fullShare, tt)) tt (at-list b₁ o₁ δ-4·Reads·5-sessions sessions, (at-list b₃ o₃ δ-4·Reads·5-objects objects, (id, (numberIn m, tt)))) (sliceVal (b₁, o₁) n₁ ∷ [], (sliceVal (b₃, o₃) n₃ ∷ [], (u8-p .val id ∷ [], (ObjectNumber-p .val (numberIn m) ∷ [], tt)))) tt (readMove (numberIn m) (foundObject (sessions) (objects) id (numberIn m))) (λ ws-4·Reads·5. Unit {0}) (id⊢ 𝓤 _) (λ r ws-4·Reads·5. fact-mono 𝓤 (r ≡ readMove (numberIn m) (foundObject (sessions) (objects) id (numberIn m))) ((r ≡ (readMove (numberIn m) (foundObject (sessions) (objects) id (numberIn m)))) × (Unit {0})) (λ e. (e, tt))) (λ _. (and-then ! (load ! (from ! (stop !)) (look ! 19 refl)) (and-then ! (load ! (from ! (stop !)) (look ! 15 refl)) (and-then ! (load ! (from ! (stop !)) (look ! 61 refl)) (and-then ! (load ! (from ! (stop !)) (look ! 49 refl)) (no-more !)))))) (λ ws-4·Reads·5 said-4·Reads·5 is-4·Reads·5.
+        use1 W ((‵ (flft (ν-4·Reads·5-sessions ∷ []) fullShare) ⊛ (‵ (flft (ν-4·Reads·5-objects ∷ []) fullShare) ⊛ ‵ ftrue))) (id⊢ 𝓤 _) $ split ! $ move ! (1 ∷ []) $ split ! $ move ! (3 ∷ []) $ fsplit ! $ move ! (1 ∷ []) $ fsplit ! $ move ! (5 ∷ 7 ∷ []) $
+        backs-view ! tt (Array u64 5) b₁ o₁ sessions n₁ (refl) ν-4·Reads·5-sessions $ move ! (5 ∷ 7 ∷ []) $
+        backs-view ! tt Object-t.the-row b₃ o₃ objects n₃ (refl) ν-4·Reads·5-objects $ move ! (4 ∷ []) $ drop ! $ move ! (4 ∷ []) $ drop ! $ move ! (4 ∷ []) $ drop ! $ move ! (4 ∷ []) $ drop ! $
+        land-last ! (from ! (stop !)) (init ! 48 refl (Move-p .typed 𝓤 H A W (readMove (numberIn m) (foundObject (sessions) (objects) id (numberIn m))) is-4·Reads·5)) $
+        exec ! C Λ En mir.t-5 (atRet En Post) $ move ! (2 ∷ 3 ∷ 4 ∷ 5 ∷ 0 ∷ 1 ∷ 6 ∷ 7 ∷ 8 ∷ 9 ∷ 10 ∷ 11 ∷ 12 ∷ 13 ∷ 14 ∷ 15 ∷ 16 ∷ 17 ∷ 18 ∷ 19 ∷ 20 ∷ 21 ∷ 22 ∷ 23 ∷ 24 ∷ 25 ∷ 26 ∷ 27 ∷ 28 ∷ 29 ∷ 30 ∷ 31 ∷ 32 ∷ 33 ∷ 34 ∷ 35 ∷ 36 ∷ 37 ∷ 38 ∷ 39 ∷ 40 ∷ 41 ∷ 42 ∷ 43 ∷ 44 ∷ 45 ∷ 46 ∷ 47 ∷ 48 ∷ 49 ∷ 50 ∷ 51 ∷ 52 ∷ 53 ∷ 54 ∷ 55 ∷ 56 ∷ 57 ∷ 58 ∷ 59 ∷ 60 ∷ 61 ∷ 62 ∷ 63 ∷ 64 ∷ 65 ∷ 66 ∷ 67 ∷ 68 ∷ 69 ∷ 70 ∷ 71 ∷ 72 ∷ 73 ∷ []) $
+        part-5-7 is-1 is-2 is-3 e-4 good-4 is-4·Reads·5)))
+
+    part-5-9 : (is-1 : Is (Group-p .row) (groupOf m) (Group-p .val (groupOf m) ∷ [])) → (is-2 : Is (CreatePayload-p .row) (createIn m) (CreatePayload-p .val (createIn m) ∷ [])) → (is-3 : Is (ObjectNumber-p .row) (numberIn m) (ObjectNumber-p .val (numberIn m) ∷ [])) → (e-4 : groupOf m ≡ Group-Streams) → (good-4 : Is (Group-p .row) Group-Streams (Group-p .val Group-Streams ∷ [])) → (len-4·Streams·5-sessions : length (openedSessions (sessions) (streams) id n′) ≡ n₁) → (len-4·Streams·5-streams : length (streamRows m (openedSessions (sessions) (streams) id n′) (openedRows-of-stream-moves-handle-stream (sessions) (streams) id n′) id (readOf (openedSessions (sessions) (streams) id n′) (openedRows-of-stream-moves-handle-stream (sessions) (streams) id n′) id n′)) ≡ n₂) → (is-4·Streams·5 : Is (Move-p .row) (streamMove m (readOf (openedSessions (sessions) (streams) id n′) (openedRows-of-stream-moves-handle-stream (sessions) (streams) id n′) id n′)) (Move-p .val (streamMove m (readOf (openedSessions (sessions) (streams) id n′) (openedRows-of-stream-moves-handle-stream (sessions) (streams) id n′) id n′)) ∷ [])) → Sq W (‵ (MutSlice (named 0) κ₁ (Array u64 5) .own (at-list b₁ o₁ γ₁ (openedSessions (sessions) (streams) id n′)) (sliceVal (b₁, o₁) n₁ ∷ [])) ∷ ‵ (flft κ₁ q₁) ∷ ‵ (MutSlice (named 0) κ₂ (Array u16 35) .own (at-list b₂ o₂ γ₂ (streamRows m (openedSessions (sessions) (streams) id n′) (openedRows-of-stream-moves-handle-stream (sessions) (streams) id n′) id (readOf (openedSessions (sessions) (streams) id n′) (openedRows-of-stream-moves-handle-stream (sessions) (streams) id n′) id n′))) (sliceVal (b₂, o₂) n₂ ∷ [])) ∷ ‵ (flft κ₂ q₂) ∷ ‵ (MutSlice (named 0) κ₃ Object-t.the-row .own (at-list b₃ o₃ γ₃ objects) (sliceVal (b₃, o₃) n₃ ∷ [])) ∷ ‵ (flft κ₃ q₃) ∷ ‵ (ShrSlice (named 0) κ₄ u8 .own (at-list b₄ o₄ γ₄ d) (sliceVal (b₄, o₄) n₄ ∷ [])) ∷ ‵ (flft κ₄ q₄) ∷ full 𝓤 (sliceTy (tyRef erased mut (pointee ((Array u16 35) .written)))) l₃₂ (sliceVal (b₂, o₂) n₂) (full 𝓤 (tyRef erased mut (pointee ((Array u16 35) .written))) l₃₁ (vptr b₂ o₂) (full 𝓤 (sliceTy (tyRef erased mut (pointee ((Array u64 5) .written)))) l₃₀ (sliceVal (b₁, o₁) n₁) (full 𝓤 (tyRef erased mut (pointee ((Array u64 5) .written))) l₂₉ (vptr b₁ o₁) (free 𝓤 (sliceTy (tyRef erased imm (pointee (Object-t.the-row .written)))) l₂₈ (free 𝓤 (tyRef erased imm (pointee (Object-t.the-row .written))) l₂₇ (free 𝓤 (sliceTy (tyRef erased imm (pointee ((Array u64 5) .written)))) l₂₆ (free 𝓤 (tyRef erased imm (pointee ((Array u64 5) .written))) l₂₅ (free 𝓤 (sliceTy (tyRef erased imm (pointee (Object-t.the-row .written)))) l₂₄ (free 𝓤 (tyRef erased imm (pointee (Object-t.the-row .written))) l₂₃ (free 𝓤 (sliceTy (tyRef erased imm (pointee ((Array u64 5) .written)))) l₂₂ (free 𝓤 (tyRef erased imm (pointee ((Array u64 5) .written))) l₂₁ (free 𝓤 (sliceTy (tyRef erased mut (pointee (Object-t.the-row .written)))) l₂₀ (free 𝓤 (tyRef erased mut (pointee (Object-t.the-row .written))) l₁₉ (free 𝓤 (sliceTy (tyRef erased mut (pointee ((Array u64 5) .written)))) l₁₈ (free 𝓤 (tyRef erased mut (pointee ((Array u64 5) .written))) l₁₇ (free 𝓤 (sliceTy (tyRef erased mut (pointee (Object-t.the-row .written)))) l₁₆ (free 𝓤 (tyRef erased mut (pointee (Object-t.the-row .written))) l₁₅ (free 𝓤 (sliceTy (tyRef erased mut (pointee ((Array u64 5) .written)))) l₁₄ (free 𝓤 (tyRef erased mut (pointee ((Array u64 5) .written))) l₁₃ (full 𝓤 Move-l.mir l₁₂ (Move-p .val (streamMove m (readOf (openedSessions (sessions) (streams) id n′) (openedRows-of-stream-moves-handle-stream (sessions) (streams) id n′) id n′))) (full 𝓤 ObjectNumber-l.mir l₁₁ (ObjectNumber-p .val (numberIn m)) (full 𝓤 CreatePayload-l.mir l₁₀ (CreatePayload-p .val (createIn m)) (full 𝓤 Group-l.mir l₉ (Group-p .val Group-Streams) (full 𝓤 Span-l.mir l₈ (Span-p .val body) (full 𝓤 Submessage-l.mir l₇ (Submessage-p .val m) (full 𝓤 (tyInt w8) l₆ (u8-p .val n′) (full 𝓤 (tyInt w8) l₅ (u8-p .val id) (full 𝓤 (sliceTy (tyRef (named 3) imm (pointee (u8 .written)))) l₄ (sliceVal (b₄, o₄) n₄) (full 𝓤 (sliceTy (tyRef (named 2) mut (pointee (Object-t.the-row .written)))) l₃ (sliceVal (b₃, o₃) n₃) (full 𝓤 (sliceTy (tyRef (named 1) mut (pointee ((Array u16 35) .written)))) l₂ (sliceVal (b₂, o₂) n₂) (full 𝓤 (sliceTy (tyRef (named 0) mut (pointee ((Array u64 5) .written)))) l₁ (sliceVal (b₁, o₁) n₁) (free 𝓤 Move-l.mir l₀ ([])))))))))))))))))))))))))))))))))) (runs C Λ En mir.t-5 (atRet En Post))
+    part-5-9 is-1 is-2 is-3 e-4 good-4 len-4·Streams·5-sessions len-4·Streams·5-streams is-4·Streams·5 =
+        assigns ! (of-opd ! (load ! (from ! (stop !)) (look ! 48 refl))) (from ! (stop !)) (init ! 72 refl (Move-p .typed 𝓤 H A W (streamMove m (readOf (openedSessions (sessions) (streams) id n′) (openedRows-of-stream-moves-handle-stream (sessions) (streams) id n′) id n′)) is-4·Streams·5)) $
+        returns ! (look ! 72 refl) $ forget ! 8 refl $ forget ! 10 refl $ forget ! 12 refl $ forget ! 14 refl $ forget ! 48 refl $ forget ! 50 refl $ forget ! 52 refl $ forget ! 54 refl $
+        frees-all (streamMove m (readOf (openedSessions (sessions) (streams) id n′) (openedRows-of-stream-moves-handle-stream (sessions) (streams) id n′) id n′)) (openedSessions (sessions) (streams) id n′) (streamRows m (openedSessions (sessions) (streams) id n′) (openedRows-of-stream-moves-handle-stream (sessions) (streams) id n′) id (readOf (openedSessions (sessions) (streams) id n′) (openedRows-of-stream-moves-handle-stream (sessions) (streams) id n′) id n′)) objects (exits (streamMove m (readOf (openedSessions (sessions) (streams) id n′) (openedRows-of-stream-moves-handle-stream (sessions) (streams) id n′) id n′)) (openedSessions (sessions) (streams) id n′) (streamRows m (openedSessions (sessions) (streams) id n′) (openedRows-of-stream-moves-handle-stream (sessions) (streams) id n′) id (readOf (openedSessions (sessions) (streams) id n′) (openedRows-of-stream-moves-handle-stream (sessions) (streams) id n′) id n′)) objects ((ap (λ (g : Group). handledBy g m (lent sessions streams objects) d id n′ body) (sym e-4), ap (λ (g : Group). handledIn g m (lent sessions streams objects) id n′ .sessions) (sym e-4), ap (λ (g : Group). handledIn g m (lent sessions streams objects) id n′ .streams) (sym e-4), ap (λ (g : Group). handledIn g m (lent sessions streams objects) id n′ .objects) (sym e-4))) is-4·Streams·5 len-4·Streams·5-sessions len-4·Streams·5-streams refl)
+
+    matched-4-Streams-9 : (is-1 : Is (Group-p .row) (groupOf m) (Group-p .val (groupOf m) ∷ [])) → (is-2 : Is (CreatePayload-p .row) (createIn m) (CreatePayload-p .val (createIn m) ∷ [])) → (is-3 : Is (ObjectNumber-p .row) (numberIn m) (ObjectNumber-p .val (numberIn m) ∷ [])) → (e-4 : groupOf m ≡ Group-Streams) → (good-4 : Is (Group-p .row) Group-Streams (Group-p .val Group-Streams ∷ [])) → Sq W (‵ (MutSlice (named 0) κ₁ (Array u64 5) .own (at-list b₁ o₁ γ₁ sessions) (sliceVal (b₁, o₁) n₁ ∷ [])) ∷ ‵ (flft κ₁ q₁) ∷ ‵ (MutSlice (named 0) κ₂ (Array u16 35) .own (at-list b₂ o₂ γ₂ streams) (sliceVal (b₂, o₂) n₂ ∷ [])) ∷ ‵ (flft κ₂ q₂) ∷ ‵ (MutSlice (named 0) κ₃ Object-t.the-row .own (at-list b₃ o₃ γ₃ objects) (sliceVal (b₃, o₃) n₃ ∷ [])) ∷ ‵ (flft κ₃ q₃) ∷ ‵ (ShrSlice (named 0) κ₄ u8 .own (at-list b₄ o₄ γ₄ d) (sliceVal (b₄, o₄) n₄ ∷ [])) ∷ ‵ (flft κ₄ q₄) ∷ free 𝓤 (sliceTy (tyRef erased mut (pointee ((Array u16 35) .written)))) l₃₂ (free 𝓤 (tyRef erased mut (pointee ((Array u16 35) .written))) l₃₁ (free 𝓤 (sliceTy (tyRef erased mut (pointee ((Array u64 5) .written)))) l₃₀ (free 𝓤 (tyRef erased mut (pointee ((Array u64 5) .written))) l₂₉ (free 𝓤 (sliceTy (tyRef erased imm (pointee (Object-t.the-row .written)))) l₂₈ (free 𝓤 (tyRef erased imm (pointee (Object-t.the-row .written))) l₂₇ (free 𝓤 (sliceTy (tyRef erased imm (pointee ((Array u64 5) .written)))) l₂₆ (free 𝓤 (tyRef erased imm (pointee ((Array u64 5) .written))) l₂₅ (free 𝓤 (sliceTy (tyRef erased imm (pointee (Object-t.the-row .written)))) l₂₄ (free 𝓤 (tyRef erased imm (pointee (Object-t.the-row .written))) l₂₃ (free 𝓤 (sliceTy (tyRef erased imm (pointee ((Array u64 5) .written)))) l₂₂ (free 𝓤 (tyRef erased imm (pointee ((Array u64 5) .written))) l₂₁ (free 𝓤 (sliceTy (tyRef erased mut (pointee (Object-t.the-row .written)))) l₂₀ (free 𝓤 (tyRef erased mut (pointee (Object-t.the-row .written))) l₁₉ (free 𝓤 (sliceTy (tyRef erased mut (pointee ((Array u64 5) .written)))) l₁₈ (free 𝓤 (tyRef erased mut (pointee ((Array u64 5) .written))) l₁₇ (free 𝓤 (sliceTy (tyRef erased mut (pointee (Object-t.the-row .written)))) l₁₆ (free 𝓤 (tyRef erased mut (pointee (Object-t.the-row .written))) l₁₅ (free 𝓤 (sliceTy (tyRef erased mut (pointee ((Array u64 5) .written)))) l₁₄ (free 𝓤 (tyRef erased mut (pointee ((Array u64 5) .written))) l₁₃ (free 𝓤 Move-l.mir l₁₂ (full 𝓤 ObjectNumber-l.mir l₁₁ (ObjectNumber-p .val (numberIn m)) (full 𝓤 CreatePayload-l.mir l₁₀ (CreatePayload-p .val (createIn m)) (full 𝓤 Group-l.mir l₉ (Group-p .val Group-Streams) (full 𝓤 Span-l.mir l₈ (Span-p .val body) (full 𝓤 Submessage-l.mir l₇ (Submessage-p .val m) (full 𝓤 (tyInt w8) l₆ (u8-p .val n′) (full 𝓤 (tyInt w8) l₅ (u8-p .val id) (full 𝓤 (sliceTy (tyRef (named 3) imm (pointee (u8 .written)))) l₄ (sliceVal (b₄, o₄) n₄) (full 𝓤 (sliceTy (tyRef (named 2) mut (pointee (Object-t.the-row .written)))) l₃ (sliceVal (b₃, o₃) n₃) (full 𝓤 (sliceTy (tyRef (named 1) mut (pointee ((Array u16 35) .written)))) l₂ (sliceVal (b₂, o₂) n₂) (full 𝓤 (sliceTy (tyRef (named 0) mut (pointee ((Array u64 5) .written)))) l₁ (sliceVal (b₁, o₁) n₁) (free 𝓤 Move-l.mir l₀ ([])))))))))))))))))))))))))))))))))) (runs C Λ En (one mir.t-4) (anyQ (afterSeq 𝓤 H (Wp 𝓤 H C Λ En mir.t-5 (atReturn 𝓤 H En Post)) (atReturn 𝓤 H En Post))))
+    matched-4-Streams-9 is-1 is-2 is-3 e-4 good-4 =
+        switches-on ! (load ! (from ! (vrt ! refl (fld ! refl (stop !)))) (look-tag ! 54 (whole !))) $ exec ! C Λ En (arm-of 4 (one mir.t-4)) (anyQ (afterSeq 𝓤 H (Wp 𝓤 H C Λ En mir.t-5 (atReturn 𝓤 H En Post)) (atReturn 𝓤 H En Post))) $
+        assigns ! (addr ! (from ! (fld ! refl (hop ! (look-in ! 70 (sub ! 0 refl (whole !))) (stop !))))) (from ! (stop !)) (init ! 14 refl (tt, tt)) $
+        assigns ! (agg ! (and-then ! (load ! (from ! (stop !)) (look ! 14 refl)) (and-then ! (load ! (from ! (fld ! refl (stop !))) (look-in ! 70 (sub ! 1 refl (whole !)))) (no-more !)))) (from ! (stop !)) (init ! 12 refl (tt, (tt, (record { fits = room₁ .0 }, tt)))) $
+        assigns ! (addr ! (from ! (fld ! refl (hop ! (look-in ! 68 (sub ! 0 refl (whole !))) (stop !))))) (from ! (stop !)) (init ! 10 refl (tt, tt)) $
+        assigns ! (agg ! (and-then ! (load ! (from ! (stop !)) (look ! 10 refl)) (and-then ! (load ! (from ! (fld ! refl (stop !))) (look-in ! 68 (sub ! 1 refl (whole !)))) (no-more !)))) (from ! (stop !)) (init ! 8 refl (tt, (tt, (record { fits = room₂ .0 }, tt)))) $
+        -- 4.Streams.5: agent::stream_moves::handle_stream
+        lends-mut ! tt (Array u64 5) b₁ o₁ sessions n₁ (refl) (λ ν-4·Streams·5-sessions δ-4·Streams·5-sessions.
+        move ! (3 ∷ 4 ∷ []) $
+        lends-mut ! tt (Array u16 35) b₂ o₂ streams n₂ (refl) (λ ν-4·Streams·5-streams δ-4·Streams·5-streams.
+        nothing ! $ move ! (1 ∷ 0 ∷ []) $ join ! $ move ! (3 ∷ 0 ∷ []) $ join ! $
+        use1 W (raw (toks 𝓤 A 2 (((ν-4·Streams·5-sessions ∷ []), ((ν-4·Streams·5-streams ∷ []), tt))) ((fullShare, (fullShare, tt))))) (id⊢ 𝓤 _) $ nothing ! $
         owned ! (Submessage-p .row) (Is (Submessage-p .row)) (Submessage-p .makes 𝓤 H A W) m (Submessage-p .val m ∷ []) m-is $ fjoin ! $
         owned ! (u8-p .row) (Is (u8-p .row)) (u8-p .makes 𝓤 H A W) n′ (u8-p .val n′ ∷ []) n′-is $ fjoin ! $
         owned ! (u8-p .row) (Is (u8-p .row)) (u8-p .makes 𝓤 H A W) id (u8-p .val id ∷ []) id-is $ fjoin ! $ move ! (2 ∷ 0 ∷ []) $ fjoin ! $ move ! (3 ∷ 0 ∷ []) $ fjoin ! $ move ! (1 ∷ 0 ∷ []) $
-        calls-any-last ! fm 2 [] (stream-moves-handle-stream.signature .params) (stream-moves-handle-stream.ended .kept) Move-p (stream-moves-handle-stream.clauses 𝓤 H A mem run) known-stream-moves-handle-stream ((ν-2·Streams·5-sessions ∷ []), ((ν-2·Streams·5-streams ∷ []), tt)) (fullShare, (fullShare, tt)) tt (at-list b₁ o₁ δ-2·Streams·5-sessions sessions, (at-list b₂ o₂ δ-2·Streams·5-streams streams, (id, (n′, (m, tt))))) (sliceVal (b₁, o₁) n₁ ∷ [], (sliceVal (b₂, o₂) n₂ ∷ [], (u8-p .val id ∷ [], (u8-p .val n′ ∷ [], (Submessage-p .val m ∷ [], tt))))) tt (streamMove m (readOf (openedSessions (sessions) (streams) id n′) (openedRows-of-stream-moves-handle-stream (sessions) (streams) id n′) id n′)) (λ ws-2·Streams·5. (ws-2·Streams·5 .0 ≡ openedSessions (sessions) (streams) id n′) × (ws-2·Streams·5 .1 .0 ≡ streamRows m (openedSessions (sessions) (streams) id n′) (openedRows-of-stream-moves-handle-stream (sessions) (streams) id n′) id (readOf (openedSessions (sessions) (streams) id n′) (openedRows-of-stream-moves-handle-stream (sessions) (streams) id n′) id n′))) (id⊢ 𝓤 _) (λ r ws-2·Streams·5. fact-mono 𝓤 ((r ≡ streamMove m (readOf (openedSessions (sessions) (streams) id n′) (openedRows-of-stream-moves-handle-stream (sessions) (streams) id n′) id n′)) × ((ws-2·Streams·5 .0) ≡ openedSessions (sessions) (streams) id n′) × ((ws-2·Streams·5 .1 .0) ≡ streamRows m (openedSessions (sessions) (streams) id n′) (openedRows-of-stream-moves-handle-stream (sessions) (streams) id n′) id (readOf (openedSessions (sessions) (streams) id n′) (openedRows-of-stream-moves-handle-stream (sessions) (streams) id n′) id n′))) ((r ≡ (streamMove m (readOf (openedSessions (sessions) (streams) id n′) (openedRows-of-stream-moves-handle-stream (sessions) (streams) id n′) id n′))) × ((ws-2·Streams·5 .0 ≡ openedSessions (sessions) (streams) id n′) × (ws-2·Streams·5 .1 .0 ≡ streamRows m (openedSessions (sessions) (streams) id n′) (openedRows-of-stream-moves-handle-stream (sessions) (streams) id n′) id (readOf (openedSessions (sessions) (streams) id n′) (openedRows-of-stream-moves-handle-stream (sessions) (streams) id n′) id n′)))) (λ e. (e .0, (e .1, e .2)))) (λ _. (and-then ! (load ! (from ! (stop !)) (look ! 11 refl)) (and-then ! (load ! (from ! (stop !)) (look ! 7 refl)) (and-then ! (load ! (from ! (stop !)) (look ! 33 refl)) (and-then ! (load ! (from ! (stop !)) (look ! 31 refl)) (and-then ! (load ! (from ! (stop !)) (look ! 29 refl)) (no-more !))))))) (λ ws-2·Streams·5 said-2·Streams·5 is-2·Streams·5.
-        use1 W ((‵ (flft (ν-2·Streams·5-sessions ∷ []) fullShare) ⊛ (‵ (flft (ν-2·Streams·5-streams ∷ []) fullShare) ⊛ ‵ ftrue))) (id⊢ 𝓤 _) $ split ! $ move ! (1 ∷ []) $ split ! $ move ! (3 ∷ []) $ fsplit ! $ fsplit ! $ move ! (1 ∷ []) $
-        feqL ! (λ wlen-2·Streams·5-0.
+        calls-any-last ! fm 2 [] (stream-moves-handle-stream.signature .params) (stream-moves-handle-stream.ended .kept) Move-p (stream-moves-handle-stream.clauses 𝓤 H A mem run) known-stream-moves-handle-stream ((ν-4·Streams·5-sessions ∷ []), ((ν-4·Streams·5-streams ∷ []), tt)) (fullShare, (fullShare, tt)) tt (at-list b₁ o₁ δ-4·Streams·5-sessions sessions, (at-list b₂ o₂ δ-4·Streams·5-streams streams, (id, (n′, (m, tt))))) (sliceVal (b₁, o₁) n₁ ∷ [], (sliceVal (b₂, o₂) n₂ ∷ [], (u8-p .val id ∷ [], (u8-p .val n′ ∷ [], (Submessage-p .val m ∷ [], tt))))) tt (streamMove m (readOf (openedSessions (sessions) (streams) id n′) (openedRows-of-stream-moves-handle-stream (sessions) (streams) id n′) id n′)) (λ ws-4·Streams·5. (ws-4·Streams·5 .0 ≡ openedSessions (sessions) (streams) id n′) × (ws-4·Streams·5 .1 .0 ≡ streamRows m (openedSessions (sessions) (streams) id n′) (openedRows-of-stream-moves-handle-stream (sessions) (streams) id n′) id (readOf (openedSessions (sessions) (streams) id n′) (openedRows-of-stream-moves-handle-stream (sessions) (streams) id n′) id n′))) (id⊢ 𝓤 _) (λ r ws-4·Streams·5. fact-mono 𝓤 ((r ≡ streamMove m (readOf (openedSessions (sessions) (streams) id n′) (openedRows-of-stream-moves-handle-stream (sessions) (streams) id n′) id n′)) × ((ws-4·Streams·5 .0) ≡ openedSessions (sessions) (streams) id n′) × ((ws-4·Streams·5 .1 .0) ≡ streamRows m (openedSessions (sessions) (streams) id n′) (openedRows-of-stream-moves-handle-stream (sessions) (streams) id n′) id (readOf (openedSessions (sessions) (streams) id n′) (openedRows-of-stream-moves-handle-stream (sessions) (streams) id n′) id n′))) ((r ≡ (streamMove m (readOf (openedSessions (sessions) (streams) id n′) (openedRows-of-stream-moves-handle-stream (sessions) (streams) id n′) id n′))) × ((ws-4·Streams·5 .0 ≡ openedSessions (sessions) (streams) id n′) × (ws-4·Streams·5 .1 .0 ≡ streamRows m (openedSessions (sessions) (streams) id n′) (openedRows-of-stream-moves-handle-stream (sessions) (streams) id n′) id (readOf (openedSessions (sessions) (streams) id n′) (openedRows-of-stream-moves-handle-stream (sessions) (streams) id n′) id n′)))) (λ e. (e .0, (e .1, e .2)))) (λ _. (and-then ! (load ! (from ! (stop !)) (look ! 11 refl)) (and-then ! (load ! (from ! (stop !)) (look ! 7 refl)) (and-then ! (load ! (from ! (stop !)) (look ! 61 refl)) (and-then ! (load ! (from ! (stop !)) (look ! 59 refl)) (and-then ! (load ! (from ! (stop !)) (look ! 57 refl)) (no-more !))))))) (λ ws-4·Streams·5 said-4·Streams·5 is-4·Streams·5.
+        use1 W ((‵ (flft (ν-4·Streams·5-sessions ∷ []) fullShare) ⊛ (‵ (flft (ν-4·Streams·5-streams ∷ []) fullShare) ⊛ ‵ ftrue))) (id⊢ 𝓤 _) $ split ! $ move ! (1 ∷ []) $ split ! $ move ! (3 ∷ []) $ fsplit ! $ fsplit ! $ move ! (1 ∷ []) $
+        feqL ! (λ wlen-4·Streams·5-0.
         move ! (1 ∷ []) $ fsplit ! $ fsplit ! $ move ! (1 ∷ []) $
-        feqL ! (λ wlen-2·Streams·5-1.
+        feqL ! (λ wlen-4·Streams·5-1.
         move ! (5 ∷ 7 ∷ 2 ∷ []) $
-        backs-mut ! tt (Array u64 5) b₁ o₁ sessions n₁ (refl) room₁ ν-2·Streams·5-sessions δ-2·Streams·5-sessions (ws-2·Streams·5 .0) (openedSessions (sessions) (streams) id n′) wlen-2·Streams·5-0 (said-2·Streams·5 .0) (λ len-2·Streams·5-sessions.
+        backs-mut ! tt (Array u64 5) b₁ o₁ sessions n₁ (refl) room₁ ν-4·Streams·5-sessions δ-4·Streams·5-sessions (ws-4·Streams·5 .0) (openedSessions (sessions) (streams) id n′) wlen-4·Streams·5-0 (said-4·Streams·5 .0) (λ len-4·Streams·5-sessions.
         move ! (4 ∷ 6 ∷ 2 ∷ []) $
-        backs-mut ! tt (Array u16 35) b₂ o₂ streams n₂ (refl) room₂ ν-2·Streams·5-streams δ-2·Streams·5-streams (ws-2·Streams·5 .1 .0) (streamRows m (openedSessions (sessions) (streams) id n′) (openedRows-of-stream-moves-handle-stream (sessions) (streams) id n′) id (readOf (openedSessions (sessions) (streams) id n′) (openedRows-of-stream-moves-handle-stream (sessions) (streams) id n′) id n′)) wlen-2·Streams·5-1 (said-2·Streams·5 .1) (λ len-2·Streams·5-streams.
+        backs-mut ! tt (Array u16 35) b₂ o₂ streams n₂ (refl) room₂ ν-4·Streams·5-streams δ-4·Streams·5-streams (ws-4·Streams·5 .1 .0) (streamRows m (openedSessions (sessions) (streams) id n′) (openedRows-of-stream-moves-handle-stream (sessions) (streams) id n′) id (readOf (openedSessions (sessions) (streams) id n′) (openedRows-of-stream-moves-handle-stream (sessions) (streams) id n′) id n′)) wlen-4·Streams·5-1 (said-4·Streams·5 .1) (λ len-4·Streams·5-streams.
         move ! (4 ∷ []) $ drop ! $ move ! (4 ∷ []) $ drop ! $
-        land-last ! (from ! (stop !)) (init ! 24 refl (Move-p .typed 𝓤 H A W (streamMove m (readOf (openedSessions (sessions) (streams) id n′) (openedRows-of-stream-moves-handle-stream (sessions) (streams) id n′) id n′)) is-2·Streams·5)) $
-        exec ! C Λ En mir.t-3 (atRet En Post) $
-        assigns ! (of-opd ! (load ! (from ! (stop !)) (look ! 24 refl))) (from ! (stop !)) (init ! 44 refl (Move-p .typed 𝓤 H A W (streamMove m (readOf (openedSessions (sessions) (streams) id n′) (openedRows-of-stream-moves-handle-stream (sessions) (streams) id n′) id n′)) is-2·Streams·5)) $
-        returns ! (look ! 44 refl) $ forget ! 8 refl $ forget ! 10 refl $ forget ! 12 refl $ forget ! 14 refl $ forget ! 24 refl $ forget ! 26 refl $ forget ! 28 refl $ forget ! 30 refl $ forget ! 32 refl $ forget ! 34 refl $ forget ! 36 refl $ forget ! 38 refl $ forget ! 40 refl $ forget ! 42 refl $ forget ! 44 refl $ move ! (44 ∷ 45 ∷ []) $ free1 ! $ move ! (42 ∷ 43 ∷ []) $ free1 ! $ move ! (40 ∷ 41 ∷ []) $ free1 ! $ move ! (38 ∷ 39 ∷ []) $ free1 ! $ move ! (36 ∷ 37 ∷ []) $ free1 ! $ move ! (34 ∷ 35 ∷ []) $ free1 ! $ move ! (32 ∷ 33 ∷ []) $ free1 ! $ move ! (30 ∷ 31 ∷ []) $ free1 ! $ move ! (28 ∷ 29 ∷ []) $ free1 ! $ move ! (26 ∷ 27 ∷ []) $ free1 ! $ move ! (24 ∷ 25 ∷ []) $ free1 ! $ move ! (22 ∷ 23 ∷ []) $ free1 ! $ move ! (20 ∷ 21 ∷ []) $ free1 ! $ move ! (18 ∷ 19 ∷ []) $ free1 ! $ move ! (16 ∷ 17 ∷ []) $ free1 ! $ move ! (14 ∷ 15 ∷ []) $ free1 ! $ move ! (12 ∷ 13 ∷ []) $ free1 ! $ move ! (10 ∷ 11 ∷ []) $ free1 ! $ move ! (8 ∷ 9 ∷ []) $ free1 ! $ free0 ! $ move ! (2 ∷ 3 ∷ 0 ∷ 1 ∷ 4 ∷ 5 ∷ 6 ∷ 7 ∷ []) $
-        by ! (exits (streamMove m (readOf (openedSessions (sessions) (streams) id n′) (openedRows-of-stream-moves-handle-stream (sessions) (streams) id n′) id n′)) (openedSessions (sessions) (streams) id n′) (streamRows m (openedSessions (sessions) (streams) id n′) (openedRows-of-stream-moves-handle-stream (sessions) (streams) id n′) id (readOf (openedSessions (sessions) (streams) id n′) (openedRows-of-stream-moves-handle-stream (sessions) (streams) id n′) id n′)) objects ((ap (λ (g : Group). handledBy g m (lent sessions streams objects) d id n′ body) (sym e-2), ap (λ (g : Group). handledIn g m (lent sessions streams objects) id n′ .sessions) (sym e-2), ap (λ (g : Group). handledIn g m (lent sessions streams objects) id n′ .streams) (sym e-2), ap (λ (g : Group). handledIn g m (lent sessions streams objects) id n′ .objects) (sym e-2))) is-2·Streams·5 len-2·Streams·5-sessions len-2·Streams·5-streams refl))))))))
+        land-last ! (from ! (stop !)) (init ! 48 refl (Move-p .typed 𝓤 H A W (streamMove m (readOf (openedSessions (sessions) (streams) id n′) (openedRows-of-stream-moves-handle-stream (sessions) (streams) id n′) id n′)) is-4·Streams·5)) $
+        exec ! C Λ En mir.t-5 (atRet En Post) $ move ! (2 ∷ 3 ∷ 0 ∷ 1 ∷ 4 ∷ 5 ∷ 6 ∷ 7 ∷ 8 ∷ 9 ∷ 10 ∷ 11 ∷ 12 ∷ 13 ∷ 14 ∷ 15 ∷ 16 ∷ 17 ∷ 18 ∷ 19 ∷ 20 ∷ 21 ∷ 22 ∷ 23 ∷ 24 ∷ 25 ∷ 26 ∷ 27 ∷ 28 ∷ 29 ∷ 30 ∷ 31 ∷ 32 ∷ 33 ∷ 34 ∷ 35 ∷ 36 ∷ 37 ∷ 38 ∷ 39 ∷ 40 ∷ 41 ∷ 42 ∷ 43 ∷ 44 ∷ 45 ∷ 46 ∷ 47 ∷ 48 ∷ 49 ∷ 50 ∷ 51 ∷ 52 ∷ 53 ∷ 54 ∷ 55 ∷ 56 ∷ 57 ∷ 58 ∷ 59 ∷ 60 ∷ 61 ∷ 62 ∷ 63 ∷ 64 ∷ 65 ∷ 66 ∷ 67 ∷ 68 ∷ 69 ∷ 70 ∷ 71 ∷ 72 ∷ 73 ∷ []) $
+        part-5-9 is-1 is-2 is-3 e-4 good-4 len-4·Streams·5-sessions len-4·Streams·5-streams is-4·Streams·5)))))))
 
-    matched-2-Neither-2 : (is-1 : Is (Group-p .row) (groupOf m) (Group-p .val (groupOf m) ∷ [])) → (e-2 : groupOf m ≡ Group-Neither) → (good-2 : Is (Group-p .row) Group-Neither (Group-p .val Group-Neither ∷ [])) → Sq W (‵ (MutSlice (named 0) κ₁ (Array u64 5) .own (at-list b₁ o₁ γ₁ sessions) (sliceVal (b₁, o₁) n₁ ∷ [])) ∷ ‵ (flft κ₁ q₁) ∷ ‵ (MutSlice (named 0) κ₂ (Array u16 35) .own (at-list b₂ o₂ γ₂ streams) (sliceVal (b₂, o₂) n₂ ∷ [])) ∷ ‵ (flft κ₂ q₂) ∷ ‵ (MutSlice (named 0) κ₃ Object-t.the-row .own (at-list b₃ o₃ γ₃ objects) (sliceVal (b₃, o₃) n₃ ∷ [])) ∷ ‵ (flft κ₃ q₃) ∷ ‵ (ShrSlice (named 0) κ₄ u8 .own (at-list b₄ o₄ γ₄ d) (sliceVal (b₄, o₄) n₄ ∷ [])) ∷ ‵ (flft κ₄ q₄) ∷ free 𝓤 (sliceTy (tyRef erased mut (pointee ((Array u16 35) .written)))) l₁₈ (free 𝓤 (tyRef erased mut (pointee ((Array u16 35) .written))) l₁₇ (free 𝓤 (sliceTy (tyRef erased mut (pointee ((Array u64 5) .written)))) l₁₆ (free 𝓤 (tyRef erased mut (pointee ((Array u64 5) .written))) l₁₅ (free 𝓤 (sliceTy (tyRef erased mut (pointee (Object-t.the-row .written)))) l₁₄ (free 𝓤 (tyRef erased mut (pointee (Object-t.the-row .written))) l₁₃ (free 𝓤 (sliceTy (tyRef erased mut (pointee ((Array u64 5) .written)))) l₁₂ (free 𝓤 (tyRef erased mut (pointee ((Array u64 5) .written))) l₁₁ (free 𝓤 Move-l.mir l₁₀ (full 𝓤 Group-l.mir l₉ (Group-p .val Group-Neither) (full 𝓤 Span-l.mir l₈ (Span-p .val body) (full 𝓤 Submessage-l.mir l₇ (Submessage-p .val m) (full 𝓤 (tyInt w8) l₆ (u8-p .val n′) (full 𝓤 (tyInt w8) l₅ (u8-p .val id) (full 𝓤 (sliceTy (tyRef (named 3) imm (pointee (u8 .written)))) l₄ (sliceVal (b₄, o₄) n₄) (full 𝓤 (sliceTy (tyRef (named 2) mut (pointee (Object-t.the-row .written)))) l₃ (sliceVal (b₃, o₃) n₃) (full 𝓤 (sliceTy (tyRef (named 1) mut (pointee ((Array u16 35) .written)))) l₂ (sliceVal (b₂, o₂) n₂) (full 𝓤 (sliceTy (tyRef (named 0) mut (pointee ((Array u64 5) .written)))) l₁ (sliceVal (b₁, o₁) n₁) (free 𝓤 Move-l.mir l₀ ([])))))))))))))))))))) (runs C Λ En (one mir.t-2) (anyQ (afterSeq 𝓤 H (Wp 𝓤 H C Λ En mir.t-3 (atReturn 𝓤 H En Post)) (atReturn 𝓤 H En Post))))
-    matched-2-Neither-2 is-1 e-2 good-2 =
-        switches-on ! (load ! (from ! (vrt ! refl (fld ! refl (stop !)))) (look-tag ! 26 (whole !))) $ exec ! C Λ En (arm-of 2 (one mir.t-2)) (anyQ (afterSeq 𝓤 H (Wp 𝓤 H C Λ En mir.t-3 (atReturn 𝓤 H En Post)) (atReturn 𝓤 H En Post))) $
-        assigns-last ! (agg ! (and-then ! (lit ! tt) (no-more !))) (from ! (stop !)) (init ! 24 refl (Move-p .typed 𝓤 H A W Move-Silent (EL.owes Move-t.the-type Move-l.the-laws Move-Silent tt))) $
-        exec ! C Λ En mir.t-3 (atRet En Post) $
-        assigns ! (of-opd ! (load ! (from ! (stop !)) (look ! 24 refl))) (from ! (stop !)) (init ! 44 refl (Move-p .typed 𝓤 H A W Move-Silent (EL.owes Move-t.the-type Move-l.the-laws Move-Silent tt))) $
-        returns ! (look ! 44 refl) $ forget ! 24 refl $ forget ! 26 refl $ forget ! 28 refl $ forget ! 30 refl $ forget ! 32 refl $ forget ! 34 refl $ forget ! 36 refl $ forget ! 38 refl $ forget ! 40 refl $ forget ! 42 refl $ forget ! 44 refl $ move ! (44 ∷ 45 ∷ []) $ free1 ! $ move ! (42 ∷ 43 ∷ []) $ free1 ! $ move ! (40 ∷ 41 ∷ []) $ free1 ! $ move ! (38 ∷ 39 ∷ []) $ free1 ! $ move ! (36 ∷ 37 ∷ []) $ free1 ! $ move ! (34 ∷ 35 ∷ []) $ free1 ! $ move ! (32 ∷ 33 ∷ []) $ free1 ! $ move ! (30 ∷ 31 ∷ []) $ free1 ! $ move ! (28 ∷ 29 ∷ []) $ free1 ! $ move ! (26 ∷ 27 ∷ []) $ free1 ! $ move ! (24 ∷ 25 ∷ []) $ free1 ! $ move ! (22 ∷ 23 ∷ []) $ free1 ! $ move ! (20 ∷ 21 ∷ []) $ free1 ! $ move ! (18 ∷ 19 ∷ []) $ free1 ! $ move ! (16 ∷ 17 ∷ []) $ free1 ! $ move ! (14 ∷ 15 ∷ []) $ free1 ! $ move ! (12 ∷ 13 ∷ []) $ free1 ! $ move ! (10 ∷ 11 ∷ []) $ free1 ! $ move ! (8 ∷ 9 ∷ []) $ free1 ! $ free0 ! $
-        by ! (exits Move-Silent sessions streams objects ((ap (λ (g : Group). handledBy g m (lent sessions streams objects) d id n′ body) (sym e-2), ap (λ (g : Group). handledIn g m (lent sessions streams objects) id n′ .sessions) (sym e-2), ap (λ (g : Group). handledIn g m (lent sessions streams objects) id n′ .streams) (sym e-2), ap (λ (g : Group). handledIn g m (lent sessions streams objects) id n′ .objects) (sym e-2))) (EL.owes Move-t.the-type Move-l.the-laws Move-Silent tt) refl refl refl)
+    matched-4-Neither-11 : (is-1 : Is (Group-p .row) (groupOf m) (Group-p .val (groupOf m) ∷ [])) → (is-2 : Is (CreatePayload-p .row) (createIn m) (CreatePayload-p .val (createIn m) ∷ [])) → (is-3 : Is (ObjectNumber-p .row) (numberIn m) (ObjectNumber-p .val (numberIn m) ∷ [])) → (e-4 : groupOf m ≡ Group-Neither) → (good-4 : Is (Group-p .row) Group-Neither (Group-p .val Group-Neither ∷ [])) → Sq W (‵ (MutSlice (named 0) κ₁ (Array u64 5) .own (at-list b₁ o₁ γ₁ sessions) (sliceVal (b₁, o₁) n₁ ∷ [])) ∷ ‵ (flft κ₁ q₁) ∷ ‵ (MutSlice (named 0) κ₂ (Array u16 35) .own (at-list b₂ o₂ γ₂ streams) (sliceVal (b₂, o₂) n₂ ∷ [])) ∷ ‵ (flft κ₂ q₂) ∷ ‵ (MutSlice (named 0) κ₃ Object-t.the-row .own (at-list b₃ o₃ γ₃ objects) (sliceVal (b₃, o₃) n₃ ∷ [])) ∷ ‵ (flft κ₃ q₃) ∷ ‵ (ShrSlice (named 0) κ₄ u8 .own (at-list b₄ o₄ γ₄ d) (sliceVal (b₄, o₄) n₄ ∷ [])) ∷ ‵ (flft κ₄ q₄) ∷ free 𝓤 (sliceTy (tyRef erased mut (pointee ((Array u16 35) .written)))) l₃₂ (free 𝓤 (tyRef erased mut (pointee ((Array u16 35) .written))) l₃₁ (free 𝓤 (sliceTy (tyRef erased mut (pointee ((Array u64 5) .written)))) l₃₀ (free 𝓤 (tyRef erased mut (pointee ((Array u64 5) .written))) l₂₉ (free 𝓤 (sliceTy (tyRef erased imm (pointee (Object-t.the-row .written)))) l₂₈ (free 𝓤 (tyRef erased imm (pointee (Object-t.the-row .written))) l₂₇ (free 𝓤 (sliceTy (tyRef erased imm (pointee ((Array u64 5) .written)))) l₂₆ (free 𝓤 (tyRef erased imm (pointee ((Array u64 5) .written))) l₂₅ (free 𝓤 (sliceTy (tyRef erased imm (pointee (Object-t.the-row .written)))) l₂₄ (free 𝓤 (tyRef erased imm (pointee (Object-t.the-row .written))) l₂₃ (free 𝓤 (sliceTy (tyRef erased imm (pointee ((Array u64 5) .written)))) l₂₂ (free 𝓤 (tyRef erased imm (pointee ((Array u64 5) .written))) l₂₁ (free 𝓤 (sliceTy (tyRef erased mut (pointee (Object-t.the-row .written)))) l₂₀ (free 𝓤 (tyRef erased mut (pointee (Object-t.the-row .written))) l₁₉ (free 𝓤 (sliceTy (tyRef erased mut (pointee ((Array u64 5) .written)))) l₁₈ (free 𝓤 (tyRef erased mut (pointee ((Array u64 5) .written))) l₁₇ (free 𝓤 (sliceTy (tyRef erased mut (pointee (Object-t.the-row .written)))) l₁₆ (free 𝓤 (tyRef erased mut (pointee (Object-t.the-row .written))) l₁₅ (free 𝓤 (sliceTy (tyRef erased mut (pointee ((Array u64 5) .written)))) l₁₄ (free 𝓤 (tyRef erased mut (pointee ((Array u64 5) .written))) l₁₃ (free 𝓤 Move-l.mir l₁₂ (full 𝓤 ObjectNumber-l.mir l₁₁ (ObjectNumber-p .val (numberIn m)) (full 𝓤 CreatePayload-l.mir l₁₀ (CreatePayload-p .val (createIn m)) (full 𝓤 Group-l.mir l₉ (Group-p .val Group-Neither) (full 𝓤 Span-l.mir l₈ (Span-p .val body) (full 𝓤 Submessage-l.mir l₇ (Submessage-p .val m) (full 𝓤 (tyInt w8) l₆ (u8-p .val n′) (full 𝓤 (tyInt w8) l₅ (u8-p .val id) (full 𝓤 (sliceTy (tyRef (named 3) imm (pointee (u8 .written)))) l₄ (sliceVal (b₄, o₄) n₄) (full 𝓤 (sliceTy (tyRef (named 2) mut (pointee (Object-t.the-row .written)))) l₃ (sliceVal (b₃, o₃) n₃) (full 𝓤 (sliceTy (tyRef (named 1) mut (pointee ((Array u16 35) .written)))) l₂ (sliceVal (b₂, o₂) n₂) (full 𝓤 (sliceTy (tyRef (named 0) mut (pointee ((Array u64 5) .written)))) l₁ (sliceVal (b₁, o₁) n₁) (free 𝓤 Move-l.mir l₀ ([])))))))))))))))))))))))))))))))))) (runs C Λ En (one mir.t-4) (anyQ (afterSeq 𝓤 H (Wp 𝓤 H C Λ En mir.t-5 (atReturn 𝓤 H En Post)) (atReturn 𝓤 H En Post))))
+    matched-4-Neither-11 is-1 is-2 is-3 e-4 good-4 =
+        switches-on ! (load ! (from ! (vrt ! refl (fld ! refl (stop !)))) (look-tag ! 54 (whole !))) $ exec ! C Λ En (arm-of 5 (one mir.t-4)) (anyQ (afterSeq 𝓤 H (Wp 𝓤 H C Λ En mir.t-5 (atReturn 𝓤 H En Post)) (atReturn 𝓤 H En Post))) $
+        assigns-last ! (agg ! (and-then ! (lit ! tt) (no-more !))) (from ! (stop !)) (init ! 48 refl (Move-p .typed 𝓤 H A W Move-Silent (EL.owes Move-t.the-type Move-l.the-laws Move-Silent tt))) $
+        exec ! C Λ En mir.t-5 (atRet En Post) $
+        assigns ! (of-opd ! (load ! (from ! (stop !)) (look ! 48 refl))) (from ! (stop !)) (init ! 72 refl (Move-p .typed 𝓤 H A W Move-Silent (EL.owes Move-t.the-type Move-l.the-laws Move-Silent tt))) $
+        returns ! (look ! 72 refl) $ forget ! 48 refl $ forget ! 50 refl $ forget ! 52 refl $ forget ! 54 refl $
+        frees-all Move-Silent sessions streams objects (exits Move-Silent sessions streams objects ((ap (λ (g : Group). handledBy g m (lent sessions streams objects) d id n′ body) (sym e-4), ap (λ (g : Group). handledIn g m (lent sessions streams objects) id n′ .sessions) (sym e-4), ap (λ (g : Group). handledIn g m (lent sessions streams objects) id n′ .streams) (sym e-4), ap (λ (g : Group). handledIn g m (lent sessions streams objects) id n′ .objects) (sym e-4))) (EL.owes Move-t.the-type Move-l.the-laws Move-Silent tt) refl refl refl)
 
-    matched-2-0 : (is-1 : Is (Group-p .row) (groupOf m) (Group-p .val (groupOf m) ∷ [])) → (z : Group) → (groupOf m) ≡ z → Is (Group-p .row) z (Group-p .val z ∷ []) → Sq W (‵ (MutSlice (named 0) κ₁ (Array u64 5) .own (at-list b₁ o₁ γ₁ sessions) (sliceVal (b₁, o₁) n₁ ∷ [])) ∷ ‵ (flft κ₁ q₁) ∷ ‵ (MutSlice (named 0) κ₂ (Array u16 35) .own (at-list b₂ o₂ γ₂ streams) (sliceVal (b₂, o₂) n₂ ∷ [])) ∷ ‵ (flft κ₂ q₂) ∷ ‵ (MutSlice (named 0) κ₃ Object-t.the-row .own (at-list b₃ o₃ γ₃ objects) (sliceVal (b₃, o₃) n₃ ∷ [])) ∷ ‵ (flft κ₃ q₃) ∷ ‵ (ShrSlice (named 0) κ₄ u8 .own (at-list b₄ o₄ γ₄ d) (sliceVal (b₄, o₄) n₄ ∷ [])) ∷ ‵ (flft κ₄ q₄) ∷ free 𝓤 (sliceTy (tyRef erased mut (pointee ((Array u16 35) .written)))) l₁₈ (free 𝓤 (tyRef erased mut (pointee ((Array u16 35) .written))) l₁₇ (free 𝓤 (sliceTy (tyRef erased mut (pointee ((Array u64 5) .written)))) l₁₆ (free 𝓤 (tyRef erased mut (pointee ((Array u64 5) .written))) l₁₅ (free 𝓤 (sliceTy (tyRef erased mut (pointee (Object-t.the-row .written)))) l₁₄ (free 𝓤 (tyRef erased mut (pointee (Object-t.the-row .written))) l₁₃ (free 𝓤 (sliceTy (tyRef erased mut (pointee ((Array u64 5) .written)))) l₁₂ (free 𝓤 (tyRef erased mut (pointee ((Array u64 5) .written))) l₁₁ (free 𝓤 Move-l.mir l₁₀ (full 𝓤 Group-l.mir l₉ (Group-p .val z) (full 𝓤 Span-l.mir l₈ (Span-p .val body) (full 𝓤 Submessage-l.mir l₇ (Submessage-p .val m) (full 𝓤 (tyInt w8) l₆ (u8-p .val n′) (full 𝓤 (tyInt w8) l₅ (u8-p .val id) (full 𝓤 (sliceTy (tyRef (named 3) imm (pointee (u8 .written)))) l₄ (sliceVal (b₄, o₄) n₄) (full 𝓤 (sliceTy (tyRef (named 2) mut (pointee (Object-t.the-row .written)))) l₃ (sliceVal (b₃, o₃) n₃) (full 𝓤 (sliceTy (tyRef (named 1) mut (pointee ((Array u16 35) .written)))) l₂ (sliceVal (b₂, o₂) n₂) (full 𝓤 (sliceTy (tyRef (named 0) mut (pointee ((Array u64 5) .written)))) l₁ (sliceVal (b₁, o₁) n₁) (free 𝓤 Move-l.mir l₀ ([])))))))))))))))))))) (runs C Λ En (one mir.t-2) (anyQ (afterSeq 𝓤 H (Wp 𝓤 H C Λ En mir.t-3 (atReturn 𝓤 H En Post)) (atReturn 𝓤 H En Post))))
-    matched-2-0 is-1 (Group-Objects) e-2 good-2 =
-        matched-2-Objects-0 is-1 e-2 good-2
-    matched-2-0 is-1 (Group-Streams) e-2 good-2 =
-        matched-2-Streams-1 is-1 e-2 good-2
-    matched-2-0 is-1 (Group-Neither) e-2 good-2 =
-        matched-2-Neither-2 is-1 e-2 good-2
+    matched-4-0 : (is-1 : Is (Group-p .row) (groupOf m) (Group-p .val (groupOf m) ∷ [])) → (is-2 : Is (CreatePayload-p .row) (createIn m) (CreatePayload-p .val (createIn m) ∷ [])) → (is-3 : Is (ObjectNumber-p .row) (numberIn m) (ObjectNumber-p .val (numberIn m) ∷ [])) → (z : Group) → (groupOf m) ≡ z → Is (Group-p .row) z (Group-p .val z ∷ []) → Sq W (‵ (MutSlice (named 0) κ₁ (Array u64 5) .own (at-list b₁ o₁ γ₁ sessions) (sliceVal (b₁, o₁) n₁ ∷ [])) ∷ ‵ (flft κ₁ q₁) ∷ ‵ (MutSlice (named 0) κ₂ (Array u16 35) .own (at-list b₂ o₂ γ₂ streams) (sliceVal (b₂, o₂) n₂ ∷ [])) ∷ ‵ (flft κ₂ q₂) ∷ ‵ (MutSlice (named 0) κ₃ Object-t.the-row .own (at-list b₃ o₃ γ₃ objects) (sliceVal (b₃, o₃) n₃ ∷ [])) ∷ ‵ (flft κ₃ q₃) ∷ ‵ (ShrSlice (named 0) κ₄ u8 .own (at-list b₄ o₄ γ₄ d) (sliceVal (b₄, o₄) n₄ ∷ [])) ∷ ‵ (flft κ₄ q₄) ∷ free 𝓤 (sliceTy (tyRef erased mut (pointee ((Array u16 35) .written)))) l₃₂ (free 𝓤 (tyRef erased mut (pointee ((Array u16 35) .written))) l₃₁ (free 𝓤 (sliceTy (tyRef erased mut (pointee ((Array u64 5) .written)))) l₃₀ (free 𝓤 (tyRef erased mut (pointee ((Array u64 5) .written))) l₂₉ (free 𝓤 (sliceTy (tyRef erased imm (pointee (Object-t.the-row .written)))) l₂₈ (free 𝓤 (tyRef erased imm (pointee (Object-t.the-row .written))) l₂₇ (free 𝓤 (sliceTy (tyRef erased imm (pointee ((Array u64 5) .written)))) l₂₆ (free 𝓤 (tyRef erased imm (pointee ((Array u64 5) .written))) l₂₅ (free 𝓤 (sliceTy (tyRef erased imm (pointee (Object-t.the-row .written)))) l₂₄ (free 𝓤 (tyRef erased imm (pointee (Object-t.the-row .written))) l₂₃ (free 𝓤 (sliceTy (tyRef erased imm (pointee ((Array u64 5) .written)))) l₂₂ (free 𝓤 (tyRef erased imm (pointee ((Array u64 5) .written))) l₂₁ (free 𝓤 (sliceTy (tyRef erased mut (pointee (Object-t.the-row .written)))) l₂₀ (free 𝓤 (tyRef erased mut (pointee (Object-t.the-row .written))) l₁₉ (free 𝓤 (sliceTy (tyRef erased mut (pointee ((Array u64 5) .written)))) l₁₈ (free 𝓤 (tyRef erased mut (pointee ((Array u64 5) .written))) l₁₇ (free 𝓤 (sliceTy (tyRef erased mut (pointee (Object-t.the-row .written)))) l₁₆ (free 𝓤 (tyRef erased mut (pointee (Object-t.the-row .written))) l₁₅ (free 𝓤 (sliceTy (tyRef erased mut (pointee ((Array u64 5) .written)))) l₁₄ (free 𝓤 (tyRef erased mut (pointee ((Array u64 5) .written))) l₁₃ (free 𝓤 Move-l.mir l₁₂ (full 𝓤 ObjectNumber-l.mir l₁₁ (ObjectNumber-p .val (numberIn m)) (full 𝓤 CreatePayload-l.mir l₁₀ (CreatePayload-p .val (createIn m)) (full 𝓤 Group-l.mir l₉ (Group-p .val z) (full 𝓤 Span-l.mir l₈ (Span-p .val body) (full 𝓤 Submessage-l.mir l₇ (Submessage-p .val m) (full 𝓤 (tyInt w8) l₆ (u8-p .val n′) (full 𝓤 (tyInt w8) l₅ (u8-p .val id) (full 𝓤 (sliceTy (tyRef (named 3) imm (pointee (u8 .written)))) l₄ (sliceVal (b₄, o₄) n₄) (full 𝓤 (sliceTy (tyRef (named 2) mut (pointee (Object-t.the-row .written)))) l₃ (sliceVal (b₃, o₃) n₃) (full 𝓤 (sliceTy (tyRef (named 1) mut (pointee ((Array u16 35) .written)))) l₂ (sliceVal (b₂, o₂) n₂) (full 𝓤 (sliceTy (tyRef (named 0) mut (pointee ((Array u64 5) .written)))) l₁ (sliceVal (b₁, o₁) n₁) (free 𝓤 Move-l.mir l₀ ([])))))))))))))))))))))))))))))))))) (runs C Λ En (one mir.t-4) (anyQ (afterSeq 𝓤 H (Wp 𝓤 H C Λ En mir.t-5 (atReturn 𝓤 H En Post)) (atReturn 𝓤 H En Post))))
+    matched-4-0 is-1 is-2 is-3 (Group-Creates) e-4 good-4 =
+        matched-4-Creates-0 is-1 is-2 is-3 e-4 good-4
+    matched-4-0 is-1 is-2 is-3 (Group-Deletes) e-4 good-4 =
+        matched-4-Deletes-3 is-1 is-2 is-3 e-4 good-4
+    matched-4-0 is-1 is-2 is-3 (Group-Writes) e-4 good-4 =
+        matched-4-Writes-5 is-1 is-2 is-3 e-4 good-4
+    matched-4-0 is-1 is-2 is-3 (Group-Reads) e-4 good-4 =
+        matched-4-Reads-7 is-1 is-2 is-3 e-4 good-4
+    matched-4-0 is-1 is-2 is-3 (Group-Streams) e-4 good-4 =
+        matched-4-Streams-9 is-1 is-2 is-3 e-4 good-4
+    matched-4-0 is-1 is-2 is-3 (Group-Neither) e-4 good-4 =
+        matched-4-Neither-11 is-1 is-2 is-3 e-4 good-4
 
-    begins : Sq W (‵ (MutSlice (named 0) κ₁ (Array u64 5) .own (at-list b₁ o₁ γ₁ sessions) (sliceVal (b₁, o₁) n₁ ∷ [])) ∷ ‵ (flft κ₁ q₁) ∷ ‵ (MutSlice (named 0) κ₂ (Array u16 35) .own (at-list b₂ o₂ γ₂ streams) (sliceVal (b₂, o₂) n₂ ∷ [])) ∷ ‵ (flft κ₂ q₂) ∷ ‵ (MutSlice (named 0) κ₃ Object-t.the-row .own (at-list b₃ o₃ γ₃ objects) (sliceVal (b₃, o₃) n₃ ∷ [])) ∷ ‵ (flft κ₃ q₃) ∷ ‵ (ShrSlice (named 0) κ₄ u8 .own (at-list b₄ o₄ γ₄ d) (sliceVal (b₄, o₄) n₄ ∷ [])) ∷ ‵ (flft κ₄ q₄) ∷ free 𝓤 (sliceTy (tyRef erased mut (pointee ((Array u16 35) .written)))) l₁₈ (free 𝓤 (tyRef erased mut (pointee ((Array u16 35) .written))) l₁₇ (free 𝓤 (sliceTy (tyRef erased mut (pointee ((Array u64 5) .written)))) l₁₆ (free 𝓤 (tyRef erased mut (pointee ((Array u64 5) .written))) l₁₅ (free 𝓤 (sliceTy (tyRef erased mut (pointee (Object-t.the-row .written)))) l₁₄ (free 𝓤 (tyRef erased mut (pointee (Object-t.the-row .written))) l₁₃ (free 𝓤 (sliceTy (tyRef erased mut (pointee ((Array u64 5) .written)))) l₁₂ (free 𝓤 (tyRef erased mut (pointee ((Array u64 5) .written))) l₁₁ (free 𝓤 Move-l.mir l₁₀ (free 𝓤 Group-l.mir l₉ (full 𝓤 Span-l.mir l₈ (Span-p .val body) (full 𝓤 Submessage-l.mir l₇ (Submessage-p .val m) (full 𝓤 (tyInt w8) l₆ (u8-p .val n′) (full 𝓤 (tyInt w8) l₅ (u8-p .val id) (full 𝓤 (sliceTy (tyRef (named 3) imm (pointee (u8 .written)))) l₄ (sliceVal (b₄, o₄) n₄) (full 𝓤 (sliceTy (tyRef (named 2) mut (pointee (Object-t.the-row .written)))) l₃ (sliceVal (b₃, o₃) n₃) (full 𝓤 (sliceTy (tyRef (named 1) mut (pointee ((Array u16 35) .written)))) l₂ (sliceVal (b₂, o₂) n₂) (full 𝓤 (sliceTy (tyRef (named 0) mut (pointee ((Array u64 5) .written)))) l₁ (sliceVal (b₁, o₁) n₁) (free 𝓤 Move-l.mir l₀ ([])))))))))))))))))))) (runs C Λ En mir.t-1 (atRet En Post))
+    part-4-0 : (is-1 : Is (Group-p .row) (groupOf m) (Group-p .val (groupOf m) ∷ [])) → (is-2 : Is (CreatePayload-p .row) (createIn m) (CreatePayload-p .val (createIn m) ∷ [])) → (is-3 : Is (ObjectNumber-p .row) (numberIn m) (ObjectNumber-p .val (numberIn m) ∷ [])) → Sq W (‵ (MutSlice (named 0) κ₁ (Array u64 5) .own (at-list b₁ o₁ γ₁ sessions) (sliceVal (b₁, o₁) n₁ ∷ [])) ∷ ‵ (flft κ₁ q₁) ∷ ‵ (MutSlice (named 0) κ₂ (Array u16 35) .own (at-list b₂ o₂ γ₂ streams) (sliceVal (b₂, o₂) n₂ ∷ [])) ∷ ‵ (flft κ₂ q₂) ∷ ‵ (MutSlice (named 0) κ₃ Object-t.the-row .own (at-list b₃ o₃ γ₃ objects) (sliceVal (b₃, o₃) n₃ ∷ [])) ∷ ‵ (flft κ₃ q₃) ∷ ‵ (ShrSlice (named 0) κ₄ u8 .own (at-list b₄ o₄ γ₄ d) (sliceVal (b₄, o₄) n₄ ∷ [])) ∷ ‵ (flft κ₄ q₄) ∷ free 𝓤 (sliceTy (tyRef erased mut (pointee ((Array u16 35) .written)))) l₃₂ (free 𝓤 (tyRef erased mut (pointee ((Array u16 35) .written))) l₃₁ (free 𝓤 (sliceTy (tyRef erased mut (pointee ((Array u64 5) .written)))) l₃₀ (free 𝓤 (tyRef erased mut (pointee ((Array u64 5) .written))) l₂₉ (free 𝓤 (sliceTy (tyRef erased imm (pointee (Object-t.the-row .written)))) l₂₈ (free 𝓤 (tyRef erased imm (pointee (Object-t.the-row .written))) l₂₇ (free 𝓤 (sliceTy (tyRef erased imm (pointee ((Array u64 5) .written)))) l₂₆ (free 𝓤 (tyRef erased imm (pointee ((Array u64 5) .written))) l₂₅ (free 𝓤 (sliceTy (tyRef erased imm (pointee (Object-t.the-row .written)))) l₂₄ (free 𝓤 (tyRef erased imm (pointee (Object-t.the-row .written))) l₂₃ (free 𝓤 (sliceTy (tyRef erased imm (pointee ((Array u64 5) .written)))) l₂₂ (free 𝓤 (tyRef erased imm (pointee ((Array u64 5) .written))) l₂₁ (free 𝓤 (sliceTy (tyRef erased mut (pointee (Object-t.the-row .written)))) l₂₀ (free 𝓤 (tyRef erased mut (pointee (Object-t.the-row .written))) l₁₉ (free 𝓤 (sliceTy (tyRef erased mut (pointee ((Array u64 5) .written)))) l₁₈ (free 𝓤 (tyRef erased mut (pointee ((Array u64 5) .written))) l₁₇ (free 𝓤 (sliceTy (tyRef erased mut (pointee (Object-t.the-row .written)))) l₁₆ (free 𝓤 (tyRef erased mut (pointee (Object-t.the-row .written))) l₁₅ (free 𝓤 (sliceTy (tyRef erased mut (pointee ((Array u64 5) .written)))) l₁₄ (free 𝓤 (tyRef erased mut (pointee ((Array u64 5) .written))) l₁₃ (free 𝓤 Move-l.mir l₁₂ (full 𝓤 ObjectNumber-l.mir l₁₁ (ObjectNumber-p .val (numberIn m)) (full 𝓤 CreatePayload-l.mir l₁₀ (CreatePayload-p .val (createIn m)) (full 𝓤 Group-l.mir l₉ (Group-p .val (groupOf m)) (full 𝓤 Span-l.mir l₈ (Span-p .val body) (full 𝓤 Submessage-l.mir l₇ (Submessage-p .val m) (full 𝓤 (tyInt w8) l₆ (u8-p .val n′) (full 𝓤 (tyInt w8) l₅ (u8-p .val id) (full 𝓤 (sliceTy (tyRef (named 3) imm (pointee (u8 .written)))) l₄ (sliceVal (b₄, o₄) n₄) (full 𝓤 (sliceTy (tyRef (named 2) mut (pointee (Object-t.the-row .written)))) l₃ (sliceVal (b₃, o₃) n₃) (full 𝓤 (sliceTy (tyRef (named 1) mut (pointee ((Array u16 35) .written)))) l₂ (sliceVal (b₂, o₂) n₂) (full 𝓤 (sliceTy (tyRef (named 0) mut (pointee ((Array u64 5) .written)))) l₁ (sliceVal (b₁, o₁) n₁) (free 𝓤 Move-l.mir l₀ ([])))))))))))))))))))))))))))))))))) (runs C Λ En mir.t-4 (atRet En Post))
+    part-4-0 is-1 is-2 is-3 =
+        first ! $
+        matched-4-0 is-1 is-2 is-3 (groupOf m) refl is-1
+
+    part-3-0 : (is-1 : Is (Group-p .row) (groupOf m) (Group-p .val (groupOf m) ∷ [])) → (is-2 : Is (CreatePayload-p .row) (createIn m) (CreatePayload-p .val (createIn m) ∷ [])) → Sq W (‵ (MutSlice (named 0) κ₁ (Array u64 5) .own (at-list b₁ o₁ γ₁ sessions) (sliceVal (b₁, o₁) n₁ ∷ [])) ∷ ‵ (flft κ₁ q₁) ∷ ‵ (MutSlice (named 0) κ₂ (Array u16 35) .own (at-list b₂ o₂ γ₂ streams) (sliceVal (b₂, o₂) n₂ ∷ [])) ∷ ‵ (flft κ₂ q₂) ∷ ‵ (MutSlice (named 0) κ₃ Object-t.the-row .own (at-list b₃ o₃ γ₃ objects) (sliceVal (b₃, o₃) n₃ ∷ [])) ∷ ‵ (flft κ₃ q₃) ∷ ‵ (ShrSlice (named 0) κ₄ u8 .own (at-list b₄ o₄ γ₄ d) (sliceVal (b₄, o₄) n₄ ∷ [])) ∷ ‵ (flft κ₄ q₄) ∷ free 𝓤 (sliceTy (tyRef erased mut (pointee ((Array u16 35) .written)))) l₃₂ (free 𝓤 (tyRef erased mut (pointee ((Array u16 35) .written))) l₃₁ (free 𝓤 (sliceTy (tyRef erased mut (pointee ((Array u64 5) .written)))) l₃₀ (free 𝓤 (tyRef erased mut (pointee ((Array u64 5) .written))) l₂₉ (free 𝓤 (sliceTy (tyRef erased imm (pointee (Object-t.the-row .written)))) l₂₈ (free 𝓤 (tyRef erased imm (pointee (Object-t.the-row .written))) l₂₇ (free 𝓤 (sliceTy (tyRef erased imm (pointee ((Array u64 5) .written)))) l₂₆ (free 𝓤 (tyRef erased imm (pointee ((Array u64 5) .written))) l₂₅ (free 𝓤 (sliceTy (tyRef erased imm (pointee (Object-t.the-row .written)))) l₂₄ (free 𝓤 (tyRef erased imm (pointee (Object-t.the-row .written))) l₂₃ (free 𝓤 (sliceTy (tyRef erased imm (pointee ((Array u64 5) .written)))) l₂₂ (free 𝓤 (tyRef erased imm (pointee ((Array u64 5) .written))) l₂₁ (free 𝓤 (sliceTy (tyRef erased mut (pointee (Object-t.the-row .written)))) l₂₀ (free 𝓤 (tyRef erased mut (pointee (Object-t.the-row .written))) l₁₉ (free 𝓤 (sliceTy (tyRef erased mut (pointee ((Array u64 5) .written)))) l₁₈ (free 𝓤 (tyRef erased mut (pointee ((Array u64 5) .written))) l₁₇ (free 𝓤 (sliceTy (tyRef erased mut (pointee (Object-t.the-row .written)))) l₁₆ (free 𝓤 (tyRef erased mut (pointee (Object-t.the-row .written))) l₁₅ (free 𝓤 (sliceTy (tyRef erased mut (pointee ((Array u64 5) .written)))) l₁₄ (free 𝓤 (tyRef erased mut (pointee ((Array u64 5) .written))) l₁₃ (free 𝓤 Move-l.mir l₁₂ (free 𝓤 ObjectNumber-l.mir l₁₁ (full 𝓤 CreatePayload-l.mir l₁₀ (CreatePayload-p .val (createIn m)) (full 𝓤 Group-l.mir l₉ (Group-p .val (groupOf m)) (full 𝓤 Span-l.mir l₈ (Span-p .val body) (full 𝓤 Submessage-l.mir l₇ (Submessage-p .val m) (full 𝓤 (tyInt w8) l₆ (u8-p .val n′) (full 𝓤 (tyInt w8) l₅ (u8-p .val id) (full 𝓤 (sliceTy (tyRef (named 3) imm (pointee (u8 .written)))) l₄ (sliceVal (b₄, o₄) n₄) (full 𝓤 (sliceTy (tyRef (named 2) mut (pointee (Object-t.the-row .written)))) l₃ (sliceVal (b₃, o₃) n₃) (full 𝓤 (sliceTy (tyRef (named 1) mut (pointee ((Array u16 35) .written)))) l₂ (sliceVal (b₂, o₂) n₂) (full 𝓤 (sliceTy (tyRef (named 0) mut (pointee ((Array u64 5) .written)))) l₁ (sliceVal (b₁, o₁) n₁) (free 𝓤 Move-l.mir l₀ ([])))))))))))))))))))))))))))))))))) (runs C Λ En mir.t-3 (atRet En Post))
+    part-3-0 is-1 is-2 =
+        -- 3: agent::turn::number_in
+        nothing ! $
+        use1 W (raw (toks 𝓤 A 0 (tt) (tt))) (id⊢ 𝓤 _) $ nothing ! $
+        owned ! (Submessage-p .row) (Is (Submessage-p .row)) (Submessage-p .makes 𝓤 H A W) m (Submessage-p .val m ∷ []) m-is $ fjoin ! $ move ! (1 ∷ 0 ∷ []) $
+        calls-any ! fm 0 [] (turn-number-in.signature .params) (turn-number-in.ended .kept) ObjectNumber-p (turn-number-in.clauses 𝓤 H A mem run) known-turn-number-in tt tt tt (m, tt) (Submessage-p .val m ∷ [], tt) tt (numberIn m) (λ ws-3. Unit {0}) (id⊢ 𝓤 _) (λ r ws-3. fact-mono 𝓤 (r ≡ numberIn m) ((r ≡ (numberIn m)) × (Unit {0})) (λ e. (e, tt))) (λ _. (and-then ! (load ! (from ! (stop !)) (look ! 59 refl)) (no-more !))) (λ ws-3 said-3 is-3.
+        drop ! $ drop ! $
+        land ! (from ! (stop !)) (init ! 50 refl (ObjectNumber-p .typed 𝓤 H A W (numberIn m) is-3)) $
+        part-4-0 is-1 is-2 is-3)
+
+    part-2-0 : (is-1 : Is (Group-p .row) (groupOf m) (Group-p .val (groupOf m) ∷ [])) → Sq W (‵ (MutSlice (named 0) κ₁ (Array u64 5) .own (at-list b₁ o₁ γ₁ sessions) (sliceVal (b₁, o₁) n₁ ∷ [])) ∷ ‵ (flft κ₁ q₁) ∷ ‵ (MutSlice (named 0) κ₂ (Array u16 35) .own (at-list b₂ o₂ γ₂ streams) (sliceVal (b₂, o₂) n₂ ∷ [])) ∷ ‵ (flft κ₂ q₂) ∷ ‵ (MutSlice (named 0) κ₃ Object-t.the-row .own (at-list b₃ o₃ γ₃ objects) (sliceVal (b₃, o₃) n₃ ∷ [])) ∷ ‵ (flft κ₃ q₃) ∷ ‵ (ShrSlice (named 0) κ₄ u8 .own (at-list b₄ o₄ γ₄ d) (sliceVal (b₄, o₄) n₄ ∷ [])) ∷ ‵ (flft κ₄ q₄) ∷ free 𝓤 (sliceTy (tyRef erased mut (pointee ((Array u16 35) .written)))) l₃₂ (free 𝓤 (tyRef erased mut (pointee ((Array u16 35) .written))) l₃₁ (free 𝓤 (sliceTy (tyRef erased mut (pointee ((Array u64 5) .written)))) l₃₀ (free 𝓤 (tyRef erased mut (pointee ((Array u64 5) .written))) l₂₉ (free 𝓤 (sliceTy (tyRef erased imm (pointee (Object-t.the-row .written)))) l₂₈ (free 𝓤 (tyRef erased imm (pointee (Object-t.the-row .written))) l₂₇ (free 𝓤 (sliceTy (tyRef erased imm (pointee ((Array u64 5) .written)))) l₂₆ (free 𝓤 (tyRef erased imm (pointee ((Array u64 5) .written))) l₂₅ (free 𝓤 (sliceTy (tyRef erased imm (pointee (Object-t.the-row .written)))) l₂₄ (free 𝓤 (tyRef erased imm (pointee (Object-t.the-row .written))) l₂₃ (free 𝓤 (sliceTy (tyRef erased imm (pointee ((Array u64 5) .written)))) l₂₂ (free 𝓤 (tyRef erased imm (pointee ((Array u64 5) .written))) l₂₁ (free 𝓤 (sliceTy (tyRef erased mut (pointee (Object-t.the-row .written)))) l₂₀ (free 𝓤 (tyRef erased mut (pointee (Object-t.the-row .written))) l₁₉ (free 𝓤 (sliceTy (tyRef erased mut (pointee ((Array u64 5) .written)))) l₁₈ (free 𝓤 (tyRef erased mut (pointee ((Array u64 5) .written))) l₁₇ (free 𝓤 (sliceTy (tyRef erased mut (pointee (Object-t.the-row .written)))) l₁₆ (free 𝓤 (tyRef erased mut (pointee (Object-t.the-row .written))) l₁₅ (free 𝓤 (sliceTy (tyRef erased mut (pointee ((Array u64 5) .written)))) l₁₄ (free 𝓤 (tyRef erased mut (pointee ((Array u64 5) .written))) l₁₃ (free 𝓤 Move-l.mir l₁₂ (free 𝓤 ObjectNumber-l.mir l₁₁ (free 𝓤 CreatePayload-l.mir l₁₀ (full 𝓤 Group-l.mir l₉ (Group-p .val (groupOf m)) (full 𝓤 Span-l.mir l₈ (Span-p .val body) (full 𝓤 Submessage-l.mir l₇ (Submessage-p .val m) (full 𝓤 (tyInt w8) l₆ (u8-p .val n′) (full 𝓤 (tyInt w8) l₅ (u8-p .val id) (full 𝓤 (sliceTy (tyRef (named 3) imm (pointee (u8 .written)))) l₄ (sliceVal (b₄, o₄) n₄) (full 𝓤 (sliceTy (tyRef (named 2) mut (pointee (Object-t.the-row .written)))) l₃ (sliceVal (b₃, o₃) n₃) (full 𝓤 (sliceTy (tyRef (named 1) mut (pointee ((Array u16 35) .written)))) l₂ (sliceVal (b₂, o₂) n₂) (full 𝓤 (sliceTy (tyRef (named 0) mut (pointee ((Array u64 5) .written)))) l₁ (sliceVal (b₁, o₁) n₁) (free 𝓤 Move-l.mir l₀ ([])))))))))))))))))))))))))))))))))) (runs C Λ En mir.t-2 (atRet En Post))
+    part-2-0 is-1 =
+        -- 2: agent::turn::create_in
+        nothing ! $
+        use1 W (raw (toks 𝓤 A 0 (tt) (tt))) (id⊢ 𝓤 _) $ nothing ! $
+        owned ! (Submessage-p .row) (Is (Submessage-p .row)) (Submessage-p .makes 𝓤 H A W) m (Submessage-p .val m ∷ []) m-is $ fjoin ! $ move ! (1 ∷ 0 ∷ []) $
+        calls-any ! fm 0 [] (turn-create-in.signature .params) (turn-create-in.ended .kept) CreatePayload-p (turn-create-in.clauses 𝓤 H A mem run) known-turn-create-in tt tt tt (m, tt) (Submessage-p .val m ∷ [], tt) tt (createIn m) (λ ws-2. Unit {0}) (id⊢ 𝓤 _) (λ r ws-2. fact-mono 𝓤 (r ≡ createIn m) ((r ≡ (createIn m)) × (Unit {0})) (λ e. (e, tt))) (λ _. (and-then ! (load ! (from ! (stop !)) (look ! 59 refl)) (no-more !))) (λ ws-2 said-2 is-2.
+        drop ! $ drop ! $
+        land ! (from ! (stop !)) (init ! 52 refl (CreatePayload-p .typed 𝓤 H A W (createIn m) is-2)) $
+        part-3-0 is-1 is-2)
+
+    begins : Sq W (‵ (MutSlice (named 0) κ₁ (Array u64 5) .own (at-list b₁ o₁ γ₁ sessions) (sliceVal (b₁, o₁) n₁ ∷ [])) ∷ ‵ (flft κ₁ q₁) ∷ ‵ (MutSlice (named 0) κ₂ (Array u16 35) .own (at-list b₂ o₂ γ₂ streams) (sliceVal (b₂, o₂) n₂ ∷ [])) ∷ ‵ (flft κ₂ q₂) ∷ ‵ (MutSlice (named 0) κ₃ Object-t.the-row .own (at-list b₃ o₃ γ₃ objects) (sliceVal (b₃, o₃) n₃ ∷ [])) ∷ ‵ (flft κ₃ q₃) ∷ ‵ (ShrSlice (named 0) κ₄ u8 .own (at-list b₄ o₄ γ₄ d) (sliceVal (b₄, o₄) n₄ ∷ [])) ∷ ‵ (flft κ₄ q₄) ∷ free 𝓤 (sliceTy (tyRef erased mut (pointee ((Array u16 35) .written)))) l₃₂ (free 𝓤 (tyRef erased mut (pointee ((Array u16 35) .written))) l₃₁ (free 𝓤 (sliceTy (tyRef erased mut (pointee ((Array u64 5) .written)))) l₃₀ (free 𝓤 (tyRef erased mut (pointee ((Array u64 5) .written))) l₂₉ (free 𝓤 (sliceTy (tyRef erased imm (pointee (Object-t.the-row .written)))) l₂₈ (free 𝓤 (tyRef erased imm (pointee (Object-t.the-row .written))) l₂₇ (free 𝓤 (sliceTy (tyRef erased imm (pointee ((Array u64 5) .written)))) l₂₆ (free 𝓤 (tyRef erased imm (pointee ((Array u64 5) .written))) l₂₅ (free 𝓤 (sliceTy (tyRef erased imm (pointee (Object-t.the-row .written)))) l₂₄ (free 𝓤 (tyRef erased imm (pointee (Object-t.the-row .written))) l₂₃ (free 𝓤 (sliceTy (tyRef erased imm (pointee ((Array u64 5) .written)))) l₂₂ (free 𝓤 (tyRef erased imm (pointee ((Array u64 5) .written))) l₂₁ (free 𝓤 (sliceTy (tyRef erased mut (pointee (Object-t.the-row .written)))) l₂₀ (free 𝓤 (tyRef erased mut (pointee (Object-t.the-row .written))) l₁₉ (free 𝓤 (sliceTy (tyRef erased mut (pointee ((Array u64 5) .written)))) l₁₈ (free 𝓤 (tyRef erased mut (pointee ((Array u64 5) .written))) l₁₇ (free 𝓤 (sliceTy (tyRef erased mut (pointee (Object-t.the-row .written)))) l₁₆ (free 𝓤 (tyRef erased mut (pointee (Object-t.the-row .written))) l₁₅ (free 𝓤 (sliceTy (tyRef erased mut (pointee ((Array u64 5) .written)))) l₁₄ (free 𝓤 (tyRef erased mut (pointee ((Array u64 5) .written))) l₁₃ (free 𝓤 Move-l.mir l₁₂ (free 𝓤 ObjectNumber-l.mir l₁₁ (free 𝓤 CreatePayload-l.mir l₁₀ (free 𝓤 Group-l.mir l₉ (full 𝓤 Span-l.mir l₈ (Span-p .val body) (full 𝓤 Submessage-l.mir l₇ (Submessage-p .val m) (full 𝓤 (tyInt w8) l₆ (u8-p .val n′) (full 𝓤 (tyInt w8) l₅ (u8-p .val id) (full 𝓤 (sliceTy (tyRef (named 3) imm (pointee (u8 .written)))) l₄ (sliceVal (b₄, o₄) n₄) (full 𝓤 (sliceTy (tyRef (named 2) mut (pointee (Object-t.the-row .written)))) l₃ (sliceVal (b₃, o₃) n₃) (full 𝓤 (sliceTy (tyRef (named 1) mut (pointee ((Array u16 35) .written)))) l₂ (sliceVal (b₂, o₂) n₂) (full 𝓤 (sliceTy (tyRef (named 0) mut (pointee ((Array u64 5) .written)))) l₁ (sliceVal (b₁, o₁) n₁) (free 𝓤 Move-l.mir l₀ ([])))))))))))))))))))))))))))))))))) (runs C Λ En mir.t-1 (atRet En Post))
     begins =
         -- 1: agent::turn::group_of
         nothing ! $
         use1 W (raw (toks 𝓤 A 0 (tt) (tt))) (id⊢ 𝓤 _) $ nothing ! $
         owned ! (Submessage-p .row) (Is (Submessage-p .row)) (Submessage-p .makes 𝓤 H A W) m (Submessage-p .val m ∷ []) m-is $ fjoin ! $ move ! (1 ∷ 0 ∷ []) $
-        calls-any ! fm 0 [] (turn-group-of.signature .params) (turn-group-of.ended .kept) Group-p (turn-group-of.clauses 𝓤 H A mem run) known-turn-group-of tt tt tt (m, tt) (Submessage-p .val m ∷ [], tt) tt (groupOf m) (λ ws-1. Unit {0}) (id⊢ 𝓤 _) (λ r ws-1. fact-mono 𝓤 (r ≡ groupOf m) ((r ≡ (groupOf m)) × (Unit {0})) (λ e. (e, tt))) (λ _. (and-then ! (load ! (from ! (stop !)) (look ! 31 refl)) (no-more !))) (λ ws-1 said-1 is-1.
+        calls-any ! fm 0 [] (turn-group-of.signature .params) (turn-group-of.ended .kept) Group-p (turn-group-of.clauses 𝓤 H A mem run) known-turn-group-of tt tt tt (m, tt) (Submessage-p .val m ∷ [], tt) tt (groupOf m) (λ ws-1. Unit {0}) (id⊢ 𝓤 _) (λ r ws-1. fact-mono 𝓤 (r ≡ groupOf m) ((r ≡ (groupOf m)) × (Unit {0})) (λ e. (e, tt))) (λ _. (and-then ! (load ! (from ! (stop !)) (look ! 59 refl)) (no-more !))) (λ ws-1 said-1 is-1.
         drop ! $ drop ! $
-        land ! (from ! (stop !)) (init ! 26 refl (Group-p .typed 𝓤 H A W (groupOf m) is-1)) $
-        first ! $
-        matched-2-0 is-1 (groupOf m) refl is-1)
+        land ! (from ! (stop !)) (init ! 54 refl (Group-p .typed 𝓤 H A W (groupOf m) is-1)) $
+        part-2-0 is-1)
 
-  module _ (𝓣 : Tables 𝓤 H) (known-turn-group-of : Triple 𝓤 (𝓣 .C #turn-group-of) (Of-turn-group-of 𝓤 H A mem run)) (known-objects-handle-object : Triple 𝓤 (𝓣 .C #objects-handle-object) (Of-objects-handle-object 𝓤 H A mem run)) (known-stream-moves-handle-stream : Triple 𝓤 (𝓣 .C #stream-moves-handle-stream) (Of-stream-moves-handle-stream 𝓤 H A mem run)) where
+  module _ (𝓣 : Tables 𝓤 H) (known-turn-group-of : Triple 𝓤 (𝓣 .C #turn-group-of) (Of-turn-group-of 𝓤 H A mem run)) (known-turn-create-in : Triple 𝓤 (𝓣 .C #turn-create-in) (Of-turn-create-in 𝓤 H A mem run)) (known-turn-number-in : Triple 𝓤 (𝓣 .C #turn-number-in) (Of-turn-number-in 𝓤 H A mem run)) (known-objects-create : Triple 𝓤 (𝓣 .C #objects-create) (Of-objects-create 𝓤 H A mem run)) (known-objects-delete : Triple 𝓤 (𝓣 .C #objects-delete) (Of-objects-delete 𝓤 H A mem run)) (known-objects-write-data : Triple 𝓤 (𝓣 .C #objects-write-data) (Of-objects-write-data 𝓤 H A mem run)) (known-objects-read-data : Triple 𝓤 (𝓣 .C #objects-read-data) (Of-objects-read-data 𝓤 H A mem run)) (known-stream-moves-handle-stream : Triple 𝓤 (𝓣 .C #stream-moves-handle-stream) (Of-stream-moves-handle-stream 𝓤 H A mem run)) where
     walk : ent 𝓤 (onEntry 𝓤 H A f.signature (κ₁, (κ₂, (κ₃, (κ₄, tt)))) (q₁, (q₂, (q₃, (q₄, tt)))) x at) (WpFn 𝓤 H (𝓣 .C) (𝓣 .Λ) code.function (sliceVal (b₁, o₁) n₁ ∷ sliceVal (b₂, o₂) n₂ ∷ sliceVal (b₃, o₃) n₃ ∷ sliceVal (b₄, o₄) n₄ ∷ u8-p .val id ∷ u8-p .val n′ ∷ Submessage-p .val m ∷ Span-p .val body ∷ []) Post)
     walk =
         qed W ((‵ (flft κ₁ q₁) ⊛ (‵ (flft κ₂ q₂) ⊛ (‵ (flft κ₃ q₃) ⊛ (‵ (flft κ₄ q₄) ⊛ ‵ ftrue)))) ∷ ‵ (owns (MutSlice (named 0) κ₁ (Array u64 5) ∷ MutSlice (named 1) κ₂ (Array u16 35) ∷ MutSlice (named 2) κ₃ Object-t.the-row ∷ ShrSlice (named 3) κ₄ u8 ∷ u8-p .row ∷ u8-p .row ∷ Submessage-p .row ∷ Span-p .row ∷ []) x at) ∷ []) ∵ enter ! (𝓣 .C) (𝓣 .Λ) code.function (sliceVal (b₁, o₁) n₁ ∷ sliceVal (b₂, o₂) n₂ ∷ sliceVal (b₃, o₃) n₃ ∷ sliceVal (b₄, o₄) n₄ ∷ u8-p .val id ∷ u8-p .val n′ ∷ Submessage-p .val m ∷ Span-p .val body ∷ []) _ $
-        alloc1 ! (λ l₀. alloc1 ! (λ l₁. alloc1 ! (λ l₂. alloc1 ! (λ l₃. alloc1 ! (λ l₄. alloc1 ! (λ l₅. alloc1 ! (λ l₆. alloc1 ! (λ l₇. alloc1 ! (λ l₈. alloc1 ! (λ l₉. alloc1 ! (λ l₁₀. alloc1 ! (λ l₁₁. alloc1 ! (λ l₁₂. alloc1 ! (λ l₁₃. alloc1 ! (λ l₁₄. alloc1 ! (λ l₁₅. alloc1 ! (λ l₁₆. alloc1 ! (λ l₁₇. alloc1 ! (λ l₁₈. alloc0 ! $ params1 ! $ pass1 ! (init ! 34 refl (tt, (tt, (record { fits = room₁ .0 }, tt)))) $ pass1 ! (init ! 32 refl (tt, (tt, (record { fits = room₂ .0 }, tt)))) $ pass1 ! (init ! 30 refl (tt, (tt, (record { fits = room₃ .0 }, tt)))) $ pass1 ! (init ! 28 refl (tt, (tt, (record { fits = room₄ .0 }, tt)))) $ pass1 ! (init ! 26 refl (u8-p .typed 𝓤 H A W id id-is)) $ pass1 ! (init ! 24 refl (u8-p .typed 𝓤 H A W n′ n′-is)) $ pass1 ! (init ! 22 refl (Submessage-p .typed 𝓤 H A W m m-is)) $ pass1 ! (init ! 20 refl (Span-p .typed 𝓤 H A W body body-is)) $ pass0 ! $ move ! (39 ∷ []) $ fsplit ! $ move ! (1 ∷ []) $ fsplit ! $ move ! (1 ∷ []) $ fsplit ! $ move ! (1 ∷ []) $ fsplit ! $ move ! (43 ∷ []) $ split ! $ move ! (1 ∷ []) $ split ! $ move ! (1 ∷ []) $ split ! $ move ! (1 ∷ []) $ split ! $ move ! (1 ∷ []) $ drop ! $ move ! (5 ∷ []) $ drop ! $ move ! (7 ∷ 3 ∷ 6 ∷ 2 ∷ 5 ∷ 1 ∷ 4 ∷ 0 ∷ 8 ∷ 9 ∷ 10 ∷ 11 ∷ 12 ∷ 13 ∷ 14 ∷ 15 ∷ 16 ∷ 17 ∷ 18 ∷ 19 ∷ 20 ∷ 21 ∷ 22 ∷ 23 ∷ 24 ∷ 25 ∷ 26 ∷ 27 ∷ 28 ∷ 29 ∷ 30 ∷ 31 ∷ 32 ∷ 33 ∷ 34 ∷ 35 ∷ 36 ∷ 37 ∷ 38 ∷ 39 ∷ 40 ∷ 41 ∷ 42 ∷ 43 ∷ 44 ∷ 45 ∷ []) $
-        begins 𝓣 known-turn-group-of known-objects-handle-object known-stream-moves-handle-stream l₀ l₁ l₂ l₃ l₄ l₅ l₆ l₇ l₈ l₉ l₁₀ l₁₁ l₁₂ l₁₃ l₁₄ l₁₅ l₁₆ l₁₇ l₁₈)))))))))))))))))))
+        alloc1 ! (λ l₀. alloc1 ! (λ l₁. alloc1 ! (λ l₂. alloc1 ! (λ l₃. alloc1 ! (λ l₄. alloc1 ! (λ l₅. alloc1 ! (λ l₆. alloc1 ! (λ l₇. alloc1 ! (λ l₈. alloc1 ! (λ l₉. alloc1 ! (λ l₁₀. alloc1 ! (λ l₁₁. alloc1 ! (λ l₁₂. alloc1 ! (λ l₁₃. alloc1 ! (λ l₁₄. alloc1 ! (λ l₁₅. alloc1 ! (λ l₁₆. alloc1 ! (λ l₁₇. alloc1 ! (λ l₁₈. alloc1 ! (λ l₁₉. alloc1 ! (λ l₂₀. alloc1 ! (λ l₂₁. alloc1 ! (λ l₂₂. alloc1 ! (λ l₂₃. alloc1 ! (λ l₂₄. alloc1 ! (λ l₂₅. alloc1 ! (λ l₂₆. alloc1 ! (λ l₂₇. alloc1 ! (λ l₂₈. alloc1 ! (λ l₂₉. alloc1 ! (λ l₃₀. alloc1 ! (λ l₃₁. alloc1 ! (λ l₃₂. alloc0 ! $ params1 ! $ pass1 ! (init ! 62 refl (tt, (tt, (record { fits = room₁ .0 }, tt)))) $ pass1 ! (init ! 60 refl (tt, (tt, (record { fits = room₂ .0 }, tt)))) $ pass1 ! (init ! 58 refl (tt, (tt, (record { fits = room₃ .0 }, tt)))) $ pass1 ! (init ! 56 refl (tt, (tt, (record { fits = room₄ .0 }, tt)))) $ pass1 ! (init ! 54 refl (u8-p .typed 𝓤 H A W id id-is)) $ pass1 ! (init ! 52 refl (u8-p .typed 𝓤 H A W n′ n′-is)) $ pass1 ! (init ! 50 refl (Submessage-p .typed 𝓤 H A W m m-is)) $ pass1 ! (init ! 48 refl (Span-p .typed 𝓤 H A W body body-is)) $ pass0 ! $ move ! (67 ∷ []) $ fsplit ! $ move ! (1 ∷ []) $ fsplit ! $ move ! (1 ∷ []) $ fsplit ! $ move ! (1 ∷ []) $ fsplit ! $ move ! (71 ∷ []) $ split ! $ move ! (1 ∷ []) $ split ! $ move ! (1 ∷ []) $ split ! $ move ! (1 ∷ []) $ split ! $ move ! (1 ∷ []) $ drop ! $ move ! (5 ∷ []) $ drop ! $ move ! (7 ∷ 3 ∷ 6 ∷ 2 ∷ 5 ∷ 1 ∷ 4 ∷ 0 ∷ 8 ∷ 9 ∷ 10 ∷ 11 ∷ 12 ∷ 13 ∷ 14 ∷ 15 ∷ 16 ∷ 17 ∷ 18 ∷ 19 ∷ 20 ∷ 21 ∷ 22 ∷ 23 ∷ 24 ∷ 25 ∷ 26 ∷ 27 ∷ 28 ∷ 29 ∷ 30 ∷ 31 ∷ 32 ∷ 33 ∷ 34 ∷ 35 ∷ 36 ∷ 37 ∷ 38 ∷ 39 ∷ 40 ∷ 41 ∷ 42 ∷ 43 ∷ 44 ∷ 45 ∷ 46 ∷ 47 ∷ 48 ∷ 49 ∷ 50 ∷ 51 ∷ 52 ∷ 53 ∷ 54 ∷ 55 ∷ 56 ∷ 57 ∷ 58 ∷ 59 ∷ 60 ∷ 61 ∷ 62 ∷ 63 ∷ 64 ∷ 65 ∷ 66 ∷ 67 ∷ 68 ∷ 69 ∷ 70 ∷ 71 ∷ 72 ∷ 73 ∷ []) $
+        begins 𝓣 known-turn-group-of known-turn-create-in known-turn-number-in known-objects-create known-objects-delete known-objects-write-data known-objects-read-data known-stream-moves-handle-stream l₀ l₁ l₂ l₃ l₄ l₅ l₆ l₇ l₈ l₉ l₁₀ l₁₁ l₁₂ l₁₃ l₁₄ l₁₅ l₁₆ l₁₇ l₁₈ l₁₉ l₂₀ l₂₁ l₂₂ l₂₃ l₂₄ l₂₅ l₂₆ l₂₇ l₂₈ l₂₉ l₃₀ l₃₁ l₃₂)))))))))))))))))))))))))))))))))
 
-module _ {M : Type 1} (𝓤 : URA M) (H : Heap 𝓤) (A : Atoms 𝓤) (W : Given 𝓤 H A) (mem : Memory → SProp 𝓤) (run : Routine → Fun 𝓤) (𝓣 : Tables 𝓤 H) (known-turn-group-of : Triple 𝓤 (𝓣 .C #turn-group-of) (Of-turn-group-of 𝓤 H A mem run)) (known-objects-handle-object : Triple 𝓤 (𝓣 .C #objects-handle-object) (Of-objects-handle-object 𝓤 H A mem run)) (known-stream-moves-handle-stream : Triple 𝓤 (𝓣 .C #stream-moves-handle-stream) (Of-stream-moves-handle-stream 𝓤 H A mem run)) where
+module _ {M : Type 1} (𝓤 : URA M) (H : Heap 𝓤) (A : Atoms 𝓤) (W : Given 𝓤 H A) (mem : Memory → SProp 𝓤) (run : Routine → Fun 𝓤) (𝓣 : Tables 𝓤 H) (known-turn-group-of : Triple 𝓤 (𝓣 .C #turn-group-of) (Of-turn-group-of 𝓤 H A mem run)) (known-turn-create-in : Triple 𝓤 (𝓣 .C #turn-create-in) (Of-turn-create-in 𝓤 H A mem run)) (known-turn-number-in : Triple 𝓤 (𝓣 .C #turn-number-in) (Of-turn-number-in 𝓤 H A mem run)) (known-objects-create : Triple 𝓤 (𝓣 .C #objects-create) (Of-objects-create 𝓤 H A mem run)) (known-objects-delete : Triple 𝓤 (𝓣 .C #objects-delete) (Of-objects-delete 𝓤 H A mem run)) (known-objects-write-data : Triple 𝓤 (𝓣 .C #objects-write-data) (Of-objects-write-data 𝓤 H A mem run)) (known-objects-read-data : Triple 𝓤 (𝓣 .C #objects-read-data) (Of-objects-read-data 𝓤 H A mem run)) (known-stream-moves-handle-stream : Triple 𝓤 (𝓣 .C #stream-moves-handle-stream) (Of-stream-moves-handle-stream 𝓤 H A mem run)) where
   walks : Walks 𝓤 H A f.ended stayed (WpFn 𝓤 H (𝓣 .C) (𝓣 .Λ) code.function) (f.clauses 𝓤 H A mem run)
   walks = walked 𝓤 H A f.ended stayed (f.clauses 𝓤 H A mem run) (WpFn 𝓤 H (𝓣 .C) (𝓣 .Λ) code.function) (λ κs. (slice-vals, (slice-vals, (slice-vals, (slice-vals, ((λ y. u8-p .val y ∷ []), ((λ y. u8-p .val y ∷ []), ((λ y. Submessage-p .val y ∷ []), ((λ y. Span-p .val y ∷ []), tt))))))))) (λ κs. (mut-slice-tells (named 0) (κs .0) (Array u64 5), (mut-slice-tells (named 1) (κs .1 .0) (Array u16 35), (mut-slice-tells (named 2) (κs .1 .1 .0) Object-t.the-row, (shr-slice-tells (named 3) (κs .1 .1 .1 .0) u8, (u8-p .tells, (u8-p .tells, (Submessage-p .tells, (Span-p .tells, tt)))))))))
-      (λ κs qs bounds a g are. via 𝓤 _ (fst∗ 𝓤 _ (emp 𝓤)) (walk 𝓤 H A W mem run (κs .0) (qs .0) (a .0 .ptr .0) (a .0 .ptr .1) (a .0 .name) (a .0 .now) (κs .1 .0) (qs .1 .0) (a .1 .0 .ptr .0) (a .1 .0 .ptr .1) (a .1 .0 .name) (a .1 .0 .now) (κs .1 .1 .0) (qs .1 .1 .0) (a .1 .1 .0 .ptr .0) (a .1 .1 .0 .ptr .1) (a .1 .1 .0 .name) (a .1 .1 .0 .now) (κs .1 .1 .1 .0) (qs .1 .1 .1 .0) (a .1 .1 .1 .0 .ptr .0) (a .1 .1 .1 .0 .ptr .1) (a .1 .1 .1 .0 .name) (a .1 .1 .1 .0 .now) (a .1 .1 .1 .1 .0) (a .1 .1 .1 .1 .1 .0) (a .1 .1 .1 .1 .1 .1 .0) (a .1 .1 .1 .1 .1 .1 .1 .0) (are .0 .0 .1) (are .1 .0 .0 .1) (are .1 .1 .0 .0 .1) (are .1 .1 .1 .0 .0 .1) (are .1 .1 .1 .1 .0) (are .1 .1 .1 .1 .1 .0) (are .1 .1 .1 .1 .1 .1 .0) (are .1 .1 .1 .1 .1 .1 .1 .0) 𝓣 known-turn-group-of known-objects-handle-object known-stream-moves-handle-stream))
+      (λ κs qs bounds a g are. via 𝓤 _ (fst∗ 𝓤 _ (emp 𝓤)) (walk 𝓤 H A W mem run (κs .0) (qs .0) (a .0 .ptr .0) (a .0 .ptr .1) (a .0 .name) (a .0 .now) (κs .1 .0) (qs .1 .0) (a .1 .0 .ptr .0) (a .1 .0 .ptr .1) (a .1 .0 .name) (a .1 .0 .now) (κs .1 .1 .0) (qs .1 .1 .0) (a .1 .1 .0 .ptr .0) (a .1 .1 .0 .ptr .1) (a .1 .1 .0 .name) (a .1 .1 .0 .now) (κs .1 .1 .1 .0) (qs .1 .1 .1 .0) (a .1 .1 .1 .0 .ptr .0) (a .1 .1 .1 .0 .ptr .1) (a .1 .1 .1 .0 .name) (a .1 .1 .1 .0 .now) (a .1 .1 .1 .1 .0) (a .1 .1 .1 .1 .1 .0) (a .1 .1 .1 .1 .1 .1 .0) (a .1 .1 .1 .1 .1 .1 .1 .0) (are .0 .0 .1) (are .1 .0 .0 .1) (are .1 .1 .0 .0 .1) (are .1 .1 .1 .0 .0 .1) (are .1 .1 .1 .1 .0) (are .1 .1 .1 .1 .1 .0) (are .1 .1 .1 .1 .1 .1 .0) (are .1 .1 .1 .1 .1 .1 .1 .0) 𝓣 known-turn-group-of known-turn-create-in known-turn-number-in known-objects-create known-objects-delete known-objects-write-data known-objects-read-data known-stream-moves-handle-stream))
 
   meets : Meets 𝓤 H A f.signature (WpFn 𝓤 H (𝓣 .C) (𝓣 .Λ) code.function) (f.spec 𝓤 H A mem run)
   meets = walk-meets 𝓤 H A f.ended stayed W (goes-slice 𝓤 H A W 4 0 tt (plain (λ _. (Array u64 5))), (goes-slice 𝓤 H A W 4 1 tt (plain (λ _. (Array u16 35))), (goes-slice 𝓤 H A W 4 2 tt (plain (λ _. Object-t.the-row)), (goes-none-slice 𝓤 H A W 4 (3 ∷ []) tt (plain (λ _. u8)) yes, (goes-none 𝓤 H A W 4 (λ _. u8-p .row) yes (λ κs x f. refl), (goes-none 𝓤 H A W 4 (λ _. u8-p .row) yes (λ κs x f. refl), (goes-none 𝓤 H A W 4 (λ _. Submessage-p .row) yes (λ κs x f. refl), (goes-none 𝓤 H A W 4 (λ _. Span-p .row) yes (λ κs x f. refl), tt)))))))) (f.clauses 𝓤 H A mem run) (WpFn 𝓤 H (𝓣 .C) (𝓣 .Λ) code.function) (WpFn-mono 𝓤 H (W .laws) 𝓣 code.function) walks
@@ -428,5 +603,10 @@ handle-spec 𝓤 H 𝓜 𝓖 𝓡 =
     (tables 𝓤 H 𝓜 𝓡 code.env .C) (tables 𝓤 H 𝓜 𝓡 code.env .Λ) #f code.function (code.unfolded 𝓤 H 𝓜 𝓡)
     (meets 𝓤 H (𝓖 .A) (givenOf 𝓤 H 𝓜 𝓖) (𝓜 .mem) (𝓡 .run) (tablesOf 𝓤 H 𝓜 (tables 𝓤 H 𝓜 𝓡 code.env))
     (cited 𝓤 H (Of-turn-group-of 𝓤 H (𝓖 .A) (𝓜 .mem) (𝓡 .run)) 𝓜 𝓡 code.env #turn-group-of turn-group-of-def.routine code.calls-agent·turn·group-of (turn-group-of-thm.met 𝓤 H 𝓜 𝓖 𝓡))
-    (cited 𝓤 H (Of-objects-handle-object 𝓤 H (𝓖 .A) (𝓜 .mem) (𝓡 .run)) 𝓜 𝓡 code.env #objects-handle-object objects-handle-object-def.routine code.calls-agent·objects·handle-object (objects-handle-object-thm.met 𝓤 H 𝓜 𝓖 𝓡))
+    (cited 𝓤 H (Of-turn-create-in 𝓤 H (𝓖 .A) (𝓜 .mem) (𝓡 .run)) 𝓜 𝓡 code.env #turn-create-in turn-create-in-def.routine code.calls-agent·turn·create-in (turn-create-in-thm.met 𝓤 H 𝓜 𝓖 𝓡))
+    (cited 𝓤 H (Of-turn-number-in 𝓤 H (𝓖 .A) (𝓜 .mem) (𝓡 .run)) 𝓜 𝓡 code.env #turn-number-in turn-number-in-def.routine code.calls-agent·turn·number-in (turn-number-in-thm.met 𝓤 H 𝓜 𝓖 𝓡))
+    (cited 𝓤 H (Of-objects-create 𝓤 H (𝓖 .A) (𝓜 .mem) (𝓡 .run)) 𝓜 𝓡 code.env #objects-create objects-create-def.routine code.calls-agent·objects·create (objects-create-thm.met 𝓤 H 𝓜 𝓖 𝓡))
+    (cited 𝓤 H (Of-objects-delete 𝓤 H (𝓖 .A) (𝓜 .mem) (𝓡 .run)) 𝓜 𝓡 code.env #objects-delete objects-delete-def.routine code.calls-agent·objects·delete (objects-delete-thm.met 𝓤 H 𝓜 𝓖 𝓡))
+    (cited 𝓤 H (Of-objects-write-data 𝓤 H (𝓖 .A) (𝓜 .mem) (𝓡 .run)) 𝓜 𝓡 code.env #objects-write-data objects-write-data-def.routine code.calls-agent·objects·write-data (objects-write-data-thm.met 𝓤 H 𝓜 𝓖 𝓡))
+    (cited 𝓤 H (Of-objects-read-data 𝓤 H (𝓖 .A) (𝓜 .mem) (𝓡 .run)) 𝓜 𝓡 code.env #objects-read-data objects-read-data-def.routine code.calls-agent·objects·read-data (objects-read-data-thm.met 𝓤 H 𝓜 𝓖 𝓡))
     (cited 𝓤 H (Of-stream-moves-handle-stream 𝓤 H (𝓖 .A) (𝓜 .mem) (𝓡 .run)) 𝓜 𝓡 code.env #stream-moves-handle-stream stream-moves-handle-stream-def.routine code.calls-agent·stream-moves·handle-stream (stream-moves-handle-stream-thm.met 𝓤 H 𝓜 𝓖 𝓡)))
