@@ -1,0 +1,36 @@
+-- A call's answer, one number: the refusal's number (0: none), 256 times its byte, and 65,536 times the number that comes with "none".
+use Prim.Native.Nat.{ℕ, _+_, _*_, _%_}
+use Rattle.codec.specs.Refusals.{numberOf, byteOf}
+use Rattle.codec.specs.declared.bytes.Written.{Written}
+use Rattle.codec.specs.declared.bytes.Written.the-variants as written
+use Rattle.codec.specs.declared.refusals.Refusal.{Refusal}
+use Rattle.sessions.specs.declared.need.Needed.{Needed}
+use Rattle.sessions.specs.declared.need.Needed.the-variants as needed
+use Rattle.agent.specs.declared.agent.Removed.{Removed}
+use Rattle.agent.specs.declared.agent.Removed.the-variants as removed
+use Rattle.agent.specs.declared.process.Outcome.{Outcome}
+use Rattle.agent.specs.declared.process.Outcome.the-variants.{Replied, Called, Refused}
+
+abbrev pub refusedAs : Refusal → ℕ
+refusedAs r = numberOf r + 256 * byteOf r
+
+abbrev pub outcomeAs : Outcome → ℕ
+outcomeAs (Replied n) = 0
+outcomeAs (Called call n) = 0
+outcomeAs (Refused r) = refusedAs r
+
+-- 1 if the session was live
+abbrev pub removedAs : Removed → ℕ
+removedAs removed.Session = 65536
+removedAs removed.NotLive = 0
+removedAs (removed.Refused r) = refusedAs r
+
+-- how many ids a sweep listed, 255 at most
+abbrev pub sweptAs : Written → ℕ
+sweptAs (written.Bytes n) = 65536 * (n % 65536)
+sweptAs (written.Refused r) = refusedAs r
+
+-- the bytes of all tables together, 1,048,576 × 256 at most
+abbrev pub neededAs : Needed → ℕ
+neededAs (needed.Stores n) = 65536 * (n .bytes % 4294967296)
+neededAs (needed.Refused r) = refusedAs r

@@ -1,0 +1,84 @@
+-- The exported calls, in the agent's own definitions: each is the agent's call on the agent that the record says.
+use Prim.Native.Nat.{ℕ}
+use mathlib.Core.Bool.{cond}
+use mathlib.Core.List.{List, []}
+use lib.Dec.{eqb, leb}
+use lib.ListN.{length}
+use Rattle.sessions.specs.Calls.{setUpTables}
+use Rattle.sessions.specs.Setup.{setUpOf}
+use Rattle.sessions.specs.View.{Tables}
+use Rattle.agent.specs.Host.{Leaves, processOf, setUpAs, idleOf, removedBy, removedRows, sweptBy, sweptRows, sweptOut}
+use Rattle.agent.specs.declared.agent.AgentSetUp.{AgentSetUp}
+use Rattle.agent.specs.declared.agent.AgentSetUp.the-variants as ready
+use Rattle.agent.specs.declared.judge.Input.{Input}
+use Rattle.agent.specs.declared.judge.Input.the-variants.{Datagram, Answer}
+use Rattle.agent.specs.declared.proxy.BridgeAnswer.{BridgeAnswer}
+use Rattle.agent.specs.declared.proxy.BridgeAnswer.the-variants.{Created, Done, Sample, NoSample, Failed}
+use Rattle.cabi.specs.Answers.{refusedAs, outcomeAs, removedAs, sweptAs}
+use Rattle.cabi.specs.Record.{recordAt, agentIn, recordFor, nothingTold, keptIn, recordsAfter}
+
+-- what a call leaves: its answer, the agent's record, the tables, the lent output
+pub record Left : Type 0 where
+  pub answer : ℕ
+  pub records : List (List ℕ)
+  pub tables : Tables
+  pub out : List ℕ
+
+-- "a refused call changes no table and no lent byte"
+abbrev pub refusedLeft : ℕ → List (List ℕ) → Tables → List ℕ → Left
+refusedLeft why w t out = record { answer = why; records = w; tables = t; out = out }
+
+-- ---- a datagram or an answer
+
+-- 15, "answer of another kind", where the number names no input; 16 where no record is lent; else 0
+abbrev pub badCall : ℕ → ℕ → ℕ
+badCall records input = cond (leb input 5) (cond (eqb records 0) 16 0) 15
+
+-- enum xrce_input: 0 a datagram, 1 created, 2 done, 3 a sample, 4 no sample, 5 failed
+abbrev pub answerIn : ℕ → ℕ → BridgeAnswer
+answerIn input handle =
+    cond (eqb input 1) (Created (record { 0 = handle })) (cond (eqb input 2) Done (cond (eqb input 3) Sample (cond (eqb input 4) NoSample Failed)))
+
+abbrev pub inputIn : ℕ → ℕ → ℕ → Input
+inputIn input time handle = cond (eqb input 0) (Datagram time) (Answer (answerIn input handle))
+
+abbrev pub processedLeft : List (List ℕ) → Leaves → Left
+processedLeft w l = record { answer = outcomeAs (l .processed .outcome); records = recordsAfter w (l .processed); tables = l .tables; out = l .out }
+
+unfoldable pub processLeft : List (List ℕ) → Tables → List ℕ → List ℕ → List ℕ → ℕ → ℕ → ℕ → Left
+processLeft w t out d sample input time handle =
+    let why = badCall (length w) input in
+    cond (eqb why 0) (processedLeft w (processOf (agentIn (recordAt w)) t out d sample (inputIn input time handle))) (refusedLeft why w t out)
+
+-- ---- set-up
+
+abbrev pub readyRecords : List (List ℕ) → AgentSetUp → List (List ℕ)
+readyRecords w (ready.Ready a) = keptIn w (recordFor a) (nothingTold 0)
+readyRecords w (ready.Refused r) = w
+
+abbrev pub readyAs : AgentSetUp → ℕ
+readyAs (ready.Ready a) = 0
+readyAs (ready.Refused r) = refusedAs r
+
+unfoldable pub setUpLeft : List (List ℕ) → Tables → ℕ → ℕ → Left
+setUpLeft w t max timeout =
+    let s = setUpOf (length (t .sessions)) (length (t .streams)) (length (t .objects)) max in
+    cond (eqb (length w) 0) (refusedLeft 16 w t [])
+    (record { answer = readyAs (setUpAs s max timeout); records = readyRecords w (setUpAs s max timeout); tables = setUpTables s t; out = [] })
+
+-- ---- a removal, and a sweep
+
+abbrev pub removeAnswer : List (List ℕ) → List (List ℕ) → ℕ → ℕ
+removeAnswer w s id = cond (eqb (length w) 0) 16 (removedAs (removedBy (idleOf (agentIn (recordAt w) .waits) (agentIn (recordAt w))) s id))
+
+abbrev pub removeRows : List (List ℕ) → List (List ℕ) → ℕ → List (List ℕ)
+removeRows w s id = cond (eqb (length w) 0) s (removedRows (idleOf (agentIn (recordAt w) .waits) (agentIn (recordAt w))) s id)
+
+abbrev pub sweepAnswer : List (List ℕ) → List (List ℕ) → ℕ → List ℕ → ℕ
+sweepAnswer w s time out = cond (eqb (length w) 0) 16 (sweptAs (sweptBy (idleOf (agentIn (recordAt w) .waits) (agentIn (recordAt w))) (agentIn (recordAt w)) s time out))
+
+abbrev pub sweepRows : List (List ℕ) → List (List ℕ) → ℕ → List ℕ → List (List ℕ)
+sweepRows w s time out = cond (eqb (length w) 0) s (sweptRows (idleOf (agentIn (recordAt w) .waits) (agentIn (recordAt w))) (agentIn (recordAt w)) s time out)
+
+abbrev pub sweepOut : List (List ℕ) → List (List ℕ) → ℕ → List ℕ → List ℕ
+sweepOut w s time out = cond (eqb (length w) 0) out (sweptOut (idleOf (agentIn (recordAt w) .waits) (agentIn (recordAt w))) (agentIn (recordAt w)) s time out)

@@ -1,0 +1,55 @@
+// A call's answer as one number: the refusal's number (0: none), 256 times its byte, and 65,536 times the number that comes
+// with "none".
+use agent::agent::Removed;
+use agent::process::Outcome;
+use codec::bytes::Written;
+use codec::refusals::Refusal;
+use sessions::need::Needed;
+ghost use mathlib.Core.Path.{_≡_};
+ghost use Rattle.cabi.specs.Answers.{refusedAs, outcomeAs, removedAs, sweptAs, neededAs};
+
+pub(crate) fn refused_as(x: Refusal) -> u64
+    ensures { λ r. ⌜ r ≡ refusedAs x ⌝ }
+{
+    let number = x.number() as u64;
+    let byte = x.byte() as u64;
+    number + 256 * byte
+}
+
+pub(crate) fn outcome_as(o: Outcome) -> u64
+    ensures { λ r. ⌜ r ≡ outcomeAs o ⌝ }
+{
+    match o {
+        Outcome::Replied(_) => 0,
+        Outcome::Called(_, _) => 0,
+        Outcome::Refused(x) => refused_as(x),
+    }
+}
+
+pub(crate) fn removed_as(x: Removed) -> u64
+    ensures { λ r. ⌜ r ≡ removedAs x ⌝ }
+{
+    match x {
+        Removed::Session => 65536,
+        Removed::NotLive => 0,
+        Removed::Refused(r) => refused_as(r),
+    }
+}
+
+pub(crate) fn swept_as(x: Written) -> u64
+    ensures { λ r. ⌜ r ≡ sweptAs x ⌝ }
+{
+    match x {
+        Written::Bytes(n) => 65536 * ((n % 65536) as u64),
+        Written::Refused(r) => refused_as(r),
+    }
+}
+
+pub(crate) fn needed_as(x: Needed) -> u64
+    ensures { λ r. ⌜ r ≡ neededAs x ⌝ }
+{
+    match x {
+        Needed::Stores(n) => 65536 * ((n.bytes % 4294967296) as u64),
+        Needed::Refused(r) => refused_as(r),
+    }
+}

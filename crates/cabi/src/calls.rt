@@ -1,0 +1,148 @@
+// The exported functions. Each is the agent's call on the agent that the record says; what can't be done is refused, and a
+// refused call changes no byte of what was lent to it.
+use crate::answers::needed_as;
+use crate::answers::outcome_as;
+use crate::answers::refused_as;
+use crate::answers::removed_as;
+use crate::answers::swept_as;
+use crate::inputs::bad_call;
+use crate::inputs::input_in;
+use crate::record::RecordRow;
+use crate::record::agent_in;
+use crate::record::record_at;
+use crate::record::record_for;
+use crate::told::keep_processed;
+use crate::told::keep_record;
+use crate::told::nothing_told;
+use agent::agent::AgentSetUp;
+use agent::agent::evict_expired;
+use agent::agent::remove_session;
+use agent::agent::setup;
+use agent::process::Processed;
+use agent::process::process;
+use sessions::need::documented_need;
+use sessions::objects::Object;
+ghost use mathlib.Core.Path.{_≡_};
+ghost use Rattle.sessions.specs.Need.{neededFor};
+ghost use Rattle.agent.specs.Rows.{lent};
+ghost use Rattle.cabi.specs.Answers.{outcomeAs, neededAs};
+ghost use Rattle.cabi.specs.Record.{recordsAfter};
+ghost use Rattle.cabi.specs.Calls.{readyAs, readyRecords, processLeft, setUpLeft, removeAnswer, removeRows, sweepAnswer, sweepRows, sweepOut};
+
+// The documented need for `max_clients`, all tables together.
+#[no_mangle]
+pub extern "C" fn xrce_need(max_clients: u64) -> u64
+    ensures { λ r. ⌜ r ≡ neededAs (neededFor «max_clients») ⌝ }
+{
+    needed_as(documented_need(max_clients as usize))
+}
+
+// What a call told, in the record, and its answer.
+fn told(agent: &mut [RecordRow], p: Processed) -> u64
+    ensures { λ r. ⌜ (r ≡ outcomeAs (p .outcome)) × (now (agent .exit) ≡ recordsAfter (now (agent .entry)) p) ⌝ }
+{
+    keep_processed(agent, p);
+    let outcome = p.outcome;
+    outcome_as(outcome)
+}
+
+#[no_mangle]
+pub extern "C" fn xrce_agent_process(
+    agent: &mut [[u64; 18]],
+    sessions: &mut [[u64; 5]],
+    streams: &mut [[u16; 35]],
+    objects: &mut [Object],
+    out: &mut [u8],
+    datagram: &[u8],
+    sample: &[u8],
+    input: u8,
+    time: u64,
+    handle: u32,
+) -> u64
+    ensures { λ r. ⌜ (r ≡ processLeft (now (agent .entry)) (lent (now (sessions .entry)) (now (streams .entry)) (now (objects .entry))) (now (out .entry)) (now (datagram .entry)) (now (sample .entry)) input time handle .answer)
+        × (now (agent .exit) ≡ processLeft (now (agent .entry)) (lent (now (sessions .entry)) (now (streams .entry)) (now (objects .entry))) (now (out .entry)) (now (datagram .entry)) (now (sample .entry)) input time handle .records)
+        × (now (sessions .exit) ≡ processLeft (now (agent .entry)) (lent (now (sessions .entry)) (now (streams .entry)) (now (objects .entry))) (now (out .entry)) (now (datagram .entry)) (now (sample .entry)) input time handle .tables .sessions)
+        × (now (streams .exit) ≡ processLeft (now (agent .entry)) (lent (now (sessions .entry)) (now (streams .entry)) (now (objects .entry))) (now (out .entry)) (now (datagram .entry)) (now (sample .entry)) input time handle .tables .streams)
+        × (now (objects .exit) ≡ processLeft (now (agent .entry)) (lent (now (sessions .entry)) (now (streams .entry)) (now (objects .entry))) (now (out .entry)) (now (datagram .entry)) (now (sample .entry)) input time handle .tables .objects)
+        × (now (out .exit) ≡ processLeft (now (agent .entry)) (lent (now (sessions .entry)) (now (streams .entry)) (now (objects .entry))) (now (out .entry)) (now (datagram .entry)) (now (sample .entry)) input time handle .out) ⌝ }
+{
+    let why = bad_call(agent.len(), input);
+    if why == 0 {
+        let r = record_at(agent);
+        let a = agent_in(r);
+        let i = input_in(input, time, handle);
+        let p = process(sessions, streams, objects, out, datagram, sample, a, i);
+        told(agent, p)
+    } else {
+        why
+    }
+}
+
+// What set-up leaves in the record, and its answer.
+fn told_ready(agent: &mut [RecordRow], s: AgentSetUp) -> u64
+    ensures { λ r. ⌜ (r ≡ readyAs s) × (now (agent .exit) ≡ readyRecords (now (agent .entry)) s) ⌝ }
+{
+    match s {
+        AgentSetUp::Ready(a) => {
+            let r = record_for(a);
+            let t = nothing_told(0);
+            keep_record(agent, r, t);
+            0
+        }
+        AgentSetUp::Refused(x) => refused_as(x),
+    }
+}
+
+#[no_mangle]
+pub extern "C" fn xrce_agent_setup(
+    agent: &mut [[u64; 18]],
+    sessions: &mut [[u64; 5]],
+    streams: &mut [[u16; 35]],
+    objects: &mut [Object],
+    max_clients: u64,
+    timeout_ms: u64,
+) -> u64
+    ensures { λ r. ⌜ (r ≡ setUpLeft (now (agent .entry)) (lent (now (sessions .entry)) (now (streams .entry)) (now (objects .entry))) «max_clients» «timeout_ms» .answer)
+        × (now (agent .exit) ≡ setUpLeft (now (agent .entry)) (lent (now (sessions .entry)) (now (streams .entry)) (now (objects .entry))) «max_clients» «timeout_ms» .records)
+        × (now (sessions .exit) ≡ setUpLeft (now (agent .entry)) (lent (now (sessions .entry)) (now (streams .entry)) (now (objects .entry))) «max_clients» «timeout_ms» .tables .sessions)
+        × (now (streams .exit) ≡ setUpLeft (now (agent .entry)) (lent (now (sessions .entry)) (now (streams .entry)) (now (objects .entry))) «max_clients» «timeout_ms» .tables .streams)
+        × (now (objects .exit) ≡ setUpLeft (now (agent .entry)) (lent (now (sessions .entry)) (now (streams .entry)) (now (objects .entry))) «max_clients» «timeout_ms» .tables .objects) ⌝ }
+{
+    let records = agent.len();
+    if records == 0 {
+        16
+    } else {
+        let s = setup(sessions, streams, objects, max_clients as usize, timeout_ms);
+        told_ready(agent, s)
+    }
+}
+
+#[no_mangle]
+pub extern "C" fn xrce_agent_remove(agent: &[[u64; 18]], sessions: &mut [[u64; 5]], id: u8) -> u64
+    ensures { λ r. ⌜ (r ≡ removeAnswer (now (agent .entry)) (now (sessions .entry)) id)
+        × (now (sessions .exit) ≡ removeRows (now (agent .entry)) (now (sessions .entry)) id) ⌝ }
+{
+    if agent.len() == 0 {
+        return 16;
+    }
+    let a = agent_in(record_at(agent));
+    removed_as(remove_session(sessions, a, id))
+}
+
+#[no_mangle]
+pub extern "C" fn xrce_agent_sweep(
+    agent: &[[u64; 18]],
+    sessions: &mut [[u64; 5]],
+    out: &mut [u8],
+    time: u64,
+) -> u64
+    ensures { λ r. ⌜ (r ≡ sweepAnswer (now (agent .entry)) (now (sessions .entry)) time (now (out .entry)))
+        × (now (sessions .exit) ≡ sweepRows (now (agent .entry)) (now (sessions .entry)) time (now (out .entry)))
+        × (now (out .exit) ≡ sweepOut (now (agent .entry)) (now (sessions .entry)) time (now (out .entry))) ⌝ }
+{
+    if agent.len() == 0 {
+        return 16;
+    }
+    let a = agent_in(record_at(agent));
+    swept_as(evict_expired(sessions, out, a, time))
+}

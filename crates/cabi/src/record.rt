@@ -1,0 +1,215 @@
+// The agent's record as a C host keeps it: the first ten of its eighteen numbers are the agent between two calls.
+use agent::proxy::Task;
+use agent::state::Agent;
+use agent::state::Pending;
+use agent::state::Waiting;
+use codec::submessages::ObjectNumber;
+ghost use mathlib.Core.Path.{_≡_};
+ghost use Rattle.cabi.specs.Record.{recordAt, taskIn, pendingIn, waitsIn, inRange, nextIn, agentIn, taskNumber, taskKind, idleRecord, openRecord, recordBy, recordFor};
+
+pub(crate) type RecordRow = [u64; 18];
+
+// The ten numbers; of the open call its task (0: none), the object kind of a CREATE's, its session, stream, object number,
+// place and time.
+pub(crate) struct Record {
+    pub max_clients: u64,
+    pub timeout_ms: u64,
+    pub next: u64,
+    pub task: u64,
+    pub kind: u64,
+    pub session: u64,
+    pub stream: u64,
+    pub number: u64,
+    pub at: u64,
+    pub time: u64,
+}
+
+fn no_record() -> Record
+    ensures { λ r. ⌜ r ≡ idleRecord 0 0 0 ⌝ }
+{
+    idle_record(0, 0, 0)
+}
+
+// The first record lent; where there is none, all is 0.
+pub(crate) fn record_at(rows: &[RecordRow]) -> Record
+    ensures { λ r. ⌜ r ≡ recordAt (now (rows .entry)) ⌝ }
+{
+    if 0 < rows.len() {
+        Record {
+            max_clients: rows[0][0],
+            timeout_ms: rows[0][1],
+            next: rows[0][2],
+            task: rows[0][3],
+            kind: rows[0][4],
+            session: rows[0][5],
+            stream: rows[0][6],
+            number: rows[0][7],
+            at: rows[0][8],
+            time: rows[0][9],
+        }
+    } else {
+        no_record()
+    }
+}
+
+// ---- the agent that it says
+
+fn task_in(n: u64, kind: u64) -> Task
+    ensures { λ r. ⌜ r ≡ taskIn n kind ⌝ }
+{
+    if n == 1 {
+        return Task::Creating((kind % 256) as u8);
+    }
+    if n == 2 {
+        return Task::Writing;
+    }
+    if n == 3 {
+        return Task::Reading;
+    }
+    Task::Deleting
+}
+
+fn pending_in(r: Record) -> Pending
+    ensures { λ x. ⌜ x ≡ pendingIn r ⌝ }
+{
+    Pending {
+        session_id: (r.session % 256) as u8,
+        stream_id: (r.stream % 256) as u8,
+        number: ObjectNumber((r.number % 65536) as u16),
+        task: task_in(r.task, r.kind),
+        at: r.at as usize,
+        time: r.time,
+    }
+}
+
+fn waits_in(r: Record) -> Waiting
+    ensures { λ x. ⌜ x ≡ waitsIn r ⌝ }
+{
+    if r.task == 0 {
+        return Waiting::Nothing;
+    }
+    Waiting::Call(pending_in(r))
+}
+
+// Whether every number is one that its field can have.
+fn in_range(r: Record) -> bool
+    ensures { λ x. ⌜ x ≡ inRange r ⌝ }
+{
+    if 255 < r.next {
+        return false;
+    }
+    if 4 < r.task {
+        return false;
+    }
+    if 255 < r.kind {
+        return false;
+    }
+    if 255 < r.session {
+        return false;
+    }
+    if 255 < r.stream {
+        return false;
+    }
+    r.number <= 65535
+}
+
+// A number that its field can't have is read as an id pointer of 0, which the agent refuses as 16 right after 15.
+fn next_in(r: Record) -> u8
+    ensures { λ x. ⌜ x ≡ nextIn r ⌝ }
+{
+    if in_range(r) {
+        return (r.next % 256) as u8;
+    }
+    0
+}
+
+pub(crate) fn agent_in(r: Record) -> Agent
+    ensures { λ x. ⌜ x ≡ agentIn r ⌝ }
+{
+    let next = next_in(r);
+    let waits = waits_in(r);
+    Agent {
+        max_clients: r.max_clients as usize,
+        timeout_ms: r.timeout_ms,
+        next,
+        waits,
+    }
+}
+
+// ---- the numbers of an agent
+
+fn task_number(t: Task) -> u64
+    ensures { λ r. ⌜ r ≡ taskNumber t ⌝ }
+{
+    match t {
+        Task::Creating(_) => 1,
+        Task::Writing => 2,
+        Task::Reading => 3,
+        Task::Deleting => 4,
+    }
+}
+
+fn task_kind(t: Task) -> u64
+    ensures { λ r. ⌜ r ≡ taskKind t ⌝ }
+{
+    match t {
+        Task::Creating(kind) => kind as u64,
+        Task::Writing => 0,
+        Task::Reading => 0,
+        Task::Deleting => 0,
+    }
+}
+
+fn idle_record(max_clients: u64, timeout_ms: u64, next: u64) -> Record
+    ensures { λ r. ⌜ r ≡ idleRecord «max_clients» «timeout_ms» next ⌝ }
+{
+    Record {
+        max_clients,
+        timeout_ms,
+        next,
+        task: 0,
+        kind: 0,
+        session: 0,
+        stream: 0,
+        number: 0,
+        at: 0,
+        time: 0,
+    }
+}
+
+fn open_record(max_clients: u64, timeout_ms: u64, next: u64, p: Pending) -> Record
+    ensures { λ r. ⌜ r ≡ openRecord «max_clients» «timeout_ms» next p ⌝ }
+{
+    let task = p.task;
+    let number = p.number;
+    let n = task_number(task);
+    let kind = task_kind(task);
+    Record {
+        max_clients,
+        timeout_ms,
+        next,
+        task: n,
+        kind,
+        session: p.session_id as u64,
+        stream: p.stream_id as u64,
+        number: number.0 as u64,
+        at: p.at as u64,
+        time: p.time,
+    }
+}
+
+fn record_by(waits: Waiting, max_clients: u64, timeout_ms: u64, next: u64) -> Record
+    ensures { λ r. ⌜ r ≡ recordBy waits «max_clients» «timeout_ms» next ⌝ }
+{
+    match waits {
+        Waiting::Nothing => idle_record(max_clients, timeout_ms, next),
+        Waiting::Call(p) => open_record(max_clients, timeout_ms, next, p),
+    }
+}
+
+pub(crate) fn record_for(a: Agent) -> Record
+    ensures { λ r. ⌜ r ≡ recordFor a ⌝ }
+{
+    let waits = a.waits;
+    record_by(waits, a.max_clients as u64, a.timeout_ms, a.next as u64)
+}

@@ -1,0 +1,2 @@
+-- Laws of the rows of a datagram.
+pub mod Laws

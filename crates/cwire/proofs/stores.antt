@@ -1,0 +1,2 @@
+-- Laws of a store's record.
+pub mod Laws

@@ -1,0 +1,169 @@
+/*
+ * The C interface of the agent.
+ *
+ * The host owns everything: it lends the agent's record, the three tables and an output with each call, and keeps the record and the
+ * tables between calls as the last call left them. Every function answers for every argument. What can't be done is refused with a
+ * number of enum xrce_refusal, and a refused call changes no byte of what was lent to it.
+ *
+ * A slice is a pointer and a number of elements. A pointer is never null, not even with 0 elements, and two slices that a function may
+ * write share no byte. Nothing is kept of a pointer behind the call.
+ */
+#ifndef XRCE_AGENT_H
+#define XRCE_AGENT_H
+
+#include <stddef.h>
+#include <stdint.h>
+
+#ifdef __cplusplus
+extern "C" {
+#endif
+
+/* Why a call is refused. */
+enum xrce_refusal {
+    XRCE_BUFFER_TOO_SHORT = 1,        /* bytes missing, no submessage */
+    XRCE_UNKNOWN_SUBMESSAGE_ID = 2,   /* id not listed (byte given) */
+    XRCE_UNKNOWN_OBJECT_KIND = 3,     /* object kind (byte given) */
+    XRCE_UNKNOWN_STATUS_CODE = 4,     /* status code (byte given) */
+    XRCE_PAYLOAD_LENGTH_MISMATCH = 5, /* payload under least length */
+    XRCE_SESSION_FULL = 6,            /* max_clients sessions live */
+    XRCE_FRAGMENT_SIZE_ZERO = 7,      /* fragment size 0 */
+    XRCE_EMPTY_PAYLOAD = 8,           /* payload to cut is empty */
+    XRCE_TOO_MANY_FRAGMENTS = 9,      /* over 65,535 fragments */
+    XRCE_FRAGMENT_NUMBER = 10,        /* fragment number not below total */
+    XRCE_MISSING_FRAGMENTS = 11,      /* fragments missing */
+    XRCE_TOO_LONG = 12,               /* payload or string over 65,535 bytes */
+    XRCE_OUTPUT_TOO_SHORT = 13,       /* lent output shorter than the result */
+    XRCE_STORE_FULL = 14,             /* body over its slot; 17th held number; message over 1,024 */
+    XRCE_OUT_OF_TURN = 15,            /* agent call out of turn, or answer of another kind */
+    XRCE_OVER_LIMIT = 16              /* max_clients over 255, lent store under its documented need, or tables altered past a limit */
+};
+
+/* What xrce_process is given. */
+enum xrce_input {
+    XRCE_DATAGRAM = 0,  /* a datagram, with its time */
+    XRCE_CREATED = 1,   /* the bridge made the entity: its handle */
+    XRCE_DONE = 2,      /* the bridge wrote, or deleted */
+    XRCE_SAMPLE = 3,    /* the bridge read a sample: its bytes */
+    XRCE_NO_SAMPLE = 4, /* the bridge had none */
+    XRCE_FAILED = 5     /* the bridge failed */
+};
+
+/* The bridge call that the host has to make now. */
+enum xrce_call {
+    XRCE_NO_CALL = 0,
+    XRCE_CREATE_PARTICIPANT = 1, /* domain: in `handle` */
+    XRCE_CREATE_TOPIC = 2,       /* participant: handle; name: start, len; type: type_start, type_len */
+    XRCE_CREATE_WRITER = 3,      /* participant: handle; topic */
+    XRCE_CREATE_READER = 4,      /* participant: handle; topic */
+    XRCE_WRITE_DATA = 5,         /* writer: handle; data: start, len */
+    XRCE_READ_DATA = 6,          /* reader: handle */
+    XRCE_DELETE_ENTITY = 7       /* entity: handle */
+};
+
+/* The agent's record. The first ten numbers are the agent between two calls; the others are what the last xrce_agent_process told.
+ * The functions take a slice of records, and look at the first. */
+struct xrce_agent {
+    uint64_t max_clients;
+    uint64_t timeout_ms;
+    uint64_t next;     /* the id pointer */
+    uint64_t open;     /* the open bridge call: 0 none, 1 a CREATE's, 2 a WRITE_DATA's, 3 a READ_DATA's, 4 a DELETE's */
+    uint64_t kind;     /* the object kind of a CREATE's */
+    uint64_t session;  /* its header's session and stream, its object's number, */
+    uint64_t stream;
+    uint64_t number;
+    uint64_t at;       /* the place behind its submessage in the datagram, */
+    uint64_t time;     /* and that datagram's time */
+    uint64_t wrote;    /* the bytes replied, at the start of the output */
+    uint64_t call;     /* enum xrce_call; what it doesn't name below is 0 */
+    uint64_t handle;
+    uint64_t topic;
+    uint64_t start;    /* parts of the datagram: where they start, and their length */
+    uint64_t len;
+    uint64_t type_start;
+    uint64_t type_len;
+};
+
+/* A record of the table of objects: number, kind (1 to 6), whether the bridge made it, and its handle then. */
+struct xrce_object {
+    uint16_t number;
+    uint8_t kind;
+    uint8_t bridged;
+    uint32_t handle;
+};
+
+/* A row of the table of sessions, and of the table of streams. */
+typedef uint64_t xrce_session_row[5];
+typedef uint16_t xrce_stream_row[35];
+
+/* The documented need: how many rows and records each table must have, whatever max_clients is (at most 255). */
+enum { XRCE_SESSIONS = 256, XRCE_STREAMS = 2048, XRCE_OBJECTS = 8192 };
+
+/* Of an answer: the refusal (0: none), its byte (with 2, 3 and 4), and the number that comes with "none". */
+static inline unsigned xrce_refused(uint64_t answer) { return (unsigned)(answer % 256); }
+static inline unsigned xrce_byte(uint64_t answer) { return (unsigned)(answer / 256 % 256); }
+static inline uint64_t xrce_number(uint64_t answer) { return answer / 65536; }
+
+/* The documented need for max_clients in bytes, all tables together; refused: 16. The need is the answer's number. */
+uint64_t xrce_need(uint64_t max_clients);
+
+/* Sets the agent up over the tables, whatever stood in them: no session, and every limit as given. Refused: 16. */
+uint64_t xrce_agent_setup(struct xrce_agent *agent, size_t agents, xrce_session_row *sessions, size_t session_rows, xrce_stream_row *streams,
+                          size_t stream_rows, struct xrce_object *objects, size_t object_records, uint64_t max_clients,
+                          uint64_t timeout_ms);
+
+/*
+ * A datagram (input XRCE_DATAGRAM, with its time), or the bridge's answer to the open call (any other input), with the call's datagram lent again,
+ * the handle of XRCE_CREATED and the bytes of XRCE_SAMPLE. Replies stand one behind the other at the start of the output, agent->wrote bytes in all,
+ * each to be sent to the address that the datagram came from. Where agent->call isn't XRCE_NO_CALL the host makes that call and hands in its answer
+ * before anything else. Refused, in this order: 15, 16, 1 to 5, 12, 13.
+ */
+uint64_t xrce_agent_process(struct xrce_agent *agent, size_t agents, xrce_session_row *sessions, size_t session_rows, xrce_stream_row *streams,
+                            size_t stream_rows, struct xrce_object *objects, size_t object_records, uint8_t *out, size_t room,
+                            const uint8_t *datagram, size_t datagram_len, const uint8_t *sample, size_t sample_len, uint8_t input,
+                            uint64_t time, uint32_t handle);
+
+/* Ends a session; the answer's number is 1 if it was live, else 0. No bridge call is made for its objects. Refused: 15, 16. */
+uint64_t xrce_agent_remove(const struct xrce_agent *agent, size_t agents, xrce_session_row *sessions, size_t session_rows, uint8_t id);
+
+/* A sweep: ends the sessions that are expired at that time and lists their ids, ascending, at the start of the output; the answer's
+ * number is how many. Refused: 15, 16, 13. */
+uint64_t xrce_agent_sweep(const struct xrce_agent *agent, size_t agents, xrce_session_row *sessions, size_t session_rows, uint8_t *out,
+                          size_t room, uint64_t time);
+
+/* Tables of the documented need. */
+struct xrce_tables {
+    xrce_session_row sessions[XRCE_SESSIONS];
+    xrce_stream_row streams[XRCE_STREAMS];
+    struct xrce_object objects[XRCE_OBJECTS];
+};
+
+/* The calls over such tables. */
+static inline uint64_t xrce_setup(struct xrce_agent *a, struct xrce_tables *t, uint64_t max_clients, uint64_t timeout_ms) {
+    return xrce_agent_setup(a, 1, t->sessions, XRCE_SESSIONS, t->streams, XRCE_STREAMS, t->objects, XRCE_OBJECTS,
+                            max_clients, timeout_ms);
+}
+
+static inline uint64_t xrce_incoming(struct xrce_agent *a, struct xrce_tables *t, uint8_t *out, size_t room, const uint8_t *datagram,
+                                     size_t datagram_len, uint64_t time) {
+    return xrce_agent_process(a, 1, t->sessions, XRCE_SESSIONS, t->streams, XRCE_STREAMS, t->objects, XRCE_OBJECTS,
+                              out, room, datagram, datagram_len, datagram, 0, XRCE_DATAGRAM, time, 0);
+}
+
+static inline uint64_t xrce_answer(struct xrce_agent *a, struct xrce_tables *t, uint8_t *out, size_t room, const uint8_t *datagram,
+                                   size_t datagram_len, enum xrce_input told, uint32_t handle, const uint8_t *sample, size_t sample_len) {
+    return xrce_agent_process(a, 1, t->sessions, XRCE_SESSIONS, t->streams, XRCE_STREAMS, t->objects, XRCE_OBJECTS,
+                              out, room, datagram, datagram_len, sample, sample_len, (uint8_t)(told == XRCE_DATAGRAM ? 255 : told), 0, handle);
+}
+
+static inline uint64_t xrce_remove(const struct xrce_agent *a, struct xrce_tables *t, uint8_t id) {
+    return xrce_agent_remove(a, 1, t->sessions, XRCE_SESSIONS, id);
+}
+
+static inline uint64_t xrce_sweep(const struct xrce_agent *a, struct xrce_tables *t, uint8_t *out, size_t room, uint64_t time) {
+    return xrce_agent_sweep(a, 1, t->sessions, XRCE_SESSIONS, out, room, time);
+}
+
+#ifdef __cplusplus
+}
+#endif
+#endif
