@@ -1,0 +1,136 @@
+//! The C interface (include/xrce_agent.h), and all unsafe code of this library. Each function takes slices, so that it
+//! can be called with anything: the agent answers for every argument, and what can't be done is refused. The
+//! agent's record is a slice as well, and the first of it is looked at.
+
+use crate::records::{AgentRecord, Lent, ObjectRecord, SessionRow, StreamRow, Told};
+
+unsafe extern "C" {
+    fn xrce_need(max_clients: u64) -> u64;
+
+    fn xrce_agent_setup(
+        agent: *mut AgentRecord,
+        agents: usize,
+        sessions: *mut SessionRow,
+        session_rows: usize,
+        streams: *mut StreamRow,
+        stream_rows: usize,
+        objects: *mut ObjectRecord,
+        object_records: usize,
+        max_clients: u64,
+        timeout_ms: u64,
+    ) -> u64;
+
+    fn xrce_agent_process(
+        agent: *mut AgentRecord,
+        agents: usize,
+        sessions: *mut SessionRow,
+        session_rows: usize,
+        streams: *mut StreamRow,
+        stream_rows: usize,
+        objects: *mut ObjectRecord,
+        object_records: usize,
+        out: *mut u8,
+        room: usize,
+        datagram: *const u8,
+        datagram_len: usize,
+        sample: *const u8,
+        sample_len: usize,
+        input: u8,
+        time: u64,
+        handle: u32,
+    ) -> u64;
+
+    fn xrce_agent_remove(
+        agent: *const AgentRecord,
+        agents: usize,
+        sessions: *mut SessionRow,
+        session_rows: usize,
+        id: u8,
+    ) -> u64;
+
+    fn xrce_agent_sweep(
+        agent: *const AgentRecord,
+        agents: usize,
+        sessions: *mut SessionRow,
+        session_rows: usize,
+        out: *mut u8,
+        room: usize,
+        time: u64,
+    ) -> u64;
+}
+
+/// The documented need for `max_clients` in bytes; refused: 16.
+pub fn need(max_clients: u64) -> u64 {
+    // SAFETY: takes a number and gives one; no memory is lent.
+    unsafe { xrce_need(max_clients) }
+}
+
+/// Sets an agent up over lent tables. Refused: 16.
+pub fn setup(agent: &mut [AgentRecord], tables: Lent<'_>, max_clients: u64, timeout_ms: u64) -> u64 {
+    let Lent { sessions, streams, objects } = tables;
+    // SAFETY: each pointer comes from a slice with its length, so it isn't null and all its elements may be written;
+    // mutable slices share no byte; every bit pattern is a value of the numbers in them; no pointer is kept.
+    unsafe {
+        xrce_agent_setup(
+            agent.as_mut_ptr(),
+            agent.len(),
+            sessions.as_mut_ptr(),
+            sessions.len(),
+            streams.as_mut_ptr(),
+            streams.len(),
+            objects.as_mut_ptr(),
+            objects.len(),
+            max_clients,
+            timeout_ms,
+        )
+    }
+}
+
+/// A datagram, or the bridge's answer. Refused, in this order: 15, 16, 1 to 5, 12, 13.
+pub fn process(agent: &mut [AgentRecord], tables: Lent<'_>, out: &mut [u8], told: Told<'_>) -> u64 {
+    let Lent { sessions, streams, objects } = tables;
+    // SAFETY: as in `setup`; the datagram and the sample are read alone, and shared slices share no byte with mutable ones.
+    unsafe {
+        xrce_agent_process(
+            agent.as_mut_ptr(),
+            agent.len(),
+            sessions.as_mut_ptr(),
+            sessions.len(),
+            streams.as_mut_ptr(),
+            streams.len(),
+            objects.as_mut_ptr(),
+            objects.len(),
+            out.as_mut_ptr(),
+            out.len(),
+            told.datagram.as_ptr(),
+            told.datagram.len(),
+            told.sample.as_ptr(),
+            told.sample.len(),
+            told.input,
+            told.time_ms,
+            told.handle,
+        )
+    }
+}
+
+/// Ends a session; the answer's number is 1 if it was live, else 0. Refused: 15, 16.
+pub fn remove(agent: &[AgentRecord], sessions: &mut [SessionRow], id: u8) -> u64 {
+    // SAFETY: as in `setup`; the agent's record is read alone.
+    unsafe { xrce_agent_remove(agent.as_ptr(), agent.len(), sessions.as_mut_ptr(), sessions.len(), id) }
+}
+
+/// Ends the expired sessions and lists their ids in `out`; the answer's number is how many. Refused: 15, 16, 13.
+pub fn sweep(agent: &[AgentRecord], sessions: &mut [SessionRow], out: &mut [u8], time_ms: u64) -> u64 {
+    // SAFETY: as in `remove`, with the output as one more slice that is written.
+    unsafe {
+        xrce_agent_sweep(
+            agent.as_ptr(),
+            agent.len(),
+            sessions.as_mut_ptr(),
+            sessions.len(),
+            out.as_mut_ptr(),
+            out.len(),
+            time_ms,
+        )
+    }
+}

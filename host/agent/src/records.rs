@@ -1,0 +1,171 @@
+//! The records that the host lends, laid out as in include/xrce_agent.h, and the documented need of document 01.
+
+use std::mem::{align_of, offset_of, size_of};
+
+/// Rows of the table of sessions, one for each id.
+pub const SESSIONS: usize = 256;
+/// Rows of the table of streams: 8 a session.
+pub const STREAMS: usize = 2048;
+/// Records of the table of objects: 32 a session.
+pub const OBJECTS: usize = 8192;
+
+/// A row of the table of sessions.
+pub type SessionRow = [u64; 5];
+/// A row of the table of streams.
+pub type StreamRow = [u16; 35];
+
+/// The agent's record: `struct xrce_agent`, whose comments say what each number is.
+#[repr(C)]
+#[derive(Clone, Debug, Default, PartialEq, Eq)]
+#[allow(missing_docs)]
+pub struct AgentRecord {
+    pub max_clients: u64,
+    pub timeout_ms: u64,
+    pub next: u64,
+    pub open: u64,
+    pub kind: u64,
+    pub session: u64,
+    pub stream: u64,
+    pub number: u64,
+    pub at: u64,
+    pub time: u64,
+    pub wrote: u64,
+    pub call: u64,
+    pub handle: u64,
+    pub topic: u64,
+    pub start: u64,
+    pub len: u64,
+    pub type_start: u64,
+    pub type_len: u64,
+}
+
+impl AgentRecord {
+    /// The record as the functions take it: a slice of one.
+    pub fn lend(&self) -> &[AgentRecord] {
+        std::slice::from_ref(self)
+    }
+
+    /// The same, to be written.
+    pub fn lend_mut(&mut self) -> &mut [AgentRecord] {
+        std::slice::from_mut(self)
+    }
+
+    /// Its numbers, in their order.
+    pub fn numbers_mut(&mut self) -> [&mut u64; 18] {
+        let AgentRecord { max_clients, timeout_ms, next, open, kind, session, stream, number, at, time, .. } = self;
+        let AgentRecord { wrote, call, handle, topic, start, len, type_start, type_len, .. } = self;
+        [
+            max_clients,
+            timeout_ms,
+            next,
+            open,
+            kind,
+            session,
+            stream,
+            number,
+            at,
+            time,
+            wrote,
+            call,
+            handle,
+            topic,
+            start,
+            len,
+            type_start,
+            type_len,
+        ]
+    }
+}
+
+/// A record of the table of objects: `struct xrce_object`.
+#[repr(C)]
+#[derive(Clone, Copy, Debug, Default, PartialEq, Eq)]
+#[allow(missing_docs)]
+pub struct ObjectRecord {
+    pub number: u16,
+    pub kind: u8,
+    pub bridged: u8,
+    pub handle: u32,
+}
+
+/// The three tables, lent for one call.
+pub struct Lent<'a> {
+    /// At least [`SESSIONS`] rows, else the call is refused as 16.
+    pub sessions: &'a mut [SessionRow],
+    /// At least [`STREAMS`] rows.
+    pub streams: &'a mut [StreamRow],
+    /// At least [`OBJECTS`] records.
+    pub objects: &'a mut [ObjectRecord],
+}
+
+/// What `process` is told: `enum xrce_input` with what belongs to it.
+#[derive(Clone, Copy, Debug, Default)]
+pub struct Told<'a> {
+    /// 0 a datagram, 1 created, 2 done, 3 a sample, 4 no sample, 5 failed; others are refused as 15.
+    pub input: u8,
+    /// A datagram's time.
+    pub time_ms: u64,
+    /// The handle of 1.
+    pub handle: u32,
+    /// The datagram, lent again with the answer to its call.
+    pub datagram: &'a [u8],
+    /// The sample of 3.
+    pub sample: &'a [u8],
+}
+
+/// The tables of the documented need, on the heap. Zeroed there: nothing of their size stands on the stack.
+#[derive(Clone, Debug, PartialEq, Eq)]
+pub struct Tables {
+    /// The table of sessions.
+    pub sessions: Box<[SessionRow]>,
+    /// The table of streams.
+    pub streams: Box<[StreamRow]>,
+    /// The table of objects.
+    pub objects: Box<[ObjectRecord]>,
+}
+
+impl Tables {
+    /// Tables of the documented need, all zero.
+    pub fn new() -> Self {
+        Tables {
+            sessions: vec![[0; 5]; SESSIONS].into_boxed_slice(),
+            streams: vec![[0; 35]; STREAMS].into_boxed_slice(),
+            objects: vec![ObjectRecord::default(); OBJECTS].into_boxed_slice(),
+        }
+    }
+
+    /// The tables, lent for one call.
+    pub fn lend(&mut self) -> Lent<'_> {
+        Lent { sessions: &mut self.sessions, streams: &mut self.streams, objects: &mut self.objects }
+    }
+}
+
+impl Default for Tables {
+    fn default() -> Self {
+        Tables::new()
+    }
+}
+
+/// Asserts while compiling that each named number of the record stands at its place.
+macro_rules! words_in_order {
+    ($at:expr; $first:ident $($rest:ident)*) => {
+        assert!(offset_of!(AgentRecord, $first) == 8 * $at);
+        words_in_order!($at + 1; $($rest)*);
+    };
+    ($at:expr;) => { assert!(size_of::<AgentRecord>() == 8 * $at && $at == 18); };
+}
+
+const _: () = {
+    words_in_order!(0; max_clients timeout_ms next open kind session stream number at time
+        wrote call handle topic start len type_start type_len);
+    assert!(align_of::<AgentRecord>() == 8);
+};
+
+const _: () = {
+    assert!(offset_of!(ObjectRecord, number) == 0);
+    assert!(offset_of!(ObjectRecord, kind) == 2);
+    assert!(offset_of!(ObjectRecord, bridged) == 3);
+    assert!(offset_of!(ObjectRecord, handle) == 4);
+    assert!(size_of::<ObjectRecord>() == 8 && align_of::<ObjectRecord>() == 4);
+    assert!(size_of::<SessionRow>() == 40 && size_of::<StreamRow>() == 70);
+};

@@ -1,0 +1,54 @@
+//! Once warm, the wrapper allocates nothing for a call.
+
+use std::alloc::{GlobalAlloc, Layout, System};
+use std::sync::atomic::{AtomicU64, Ordering};
+use wire::Datagram;
+use xrce_agent::{Agent, Answer, Handle};
+
+struct Counting;
+
+static COUNT: AtomicU64 = AtomicU64::new(0);
+
+// SAFETY: every call goes to the system's allocator unchanged.
+unsafe impl GlobalAlloc for Counting {
+    unsafe fn alloc(&self, layout: Layout) -> *mut u8 {
+        COUNT.fetch_add(1, Ordering::Relaxed);
+        // SAFETY: the caller's.
+        unsafe { System.alloc(layout) }
+    }
+
+    unsafe fn dealloc(&self, place: *mut u8, layout: Layout) {
+        // SAFETY: the caller's.
+        unsafe { System.dealloc(place, layout) }
+    }
+}
+
+#[global_allocator]
+static ALLOCATOR: Counting = Counting;
+
+fn serve(agent: &mut Agent, datagrams: &[Vec<u8>], out: &mut [u8]) {
+    for datagram in datagrams {
+        agent.incoming(datagram, 1, out).unwrap();
+        while agent.open_call().is_some() {
+            agent.answer(Answer::Created(Handle(1)), out).unwrap();
+        }
+    }
+    agent.sweep(1, out).unwrap();
+}
+
+#[test]
+fn nothing_is_allocated_once_warm() {
+    let mut agent = Agent::new(200, 1000).unwrap();
+    let datagrams = [
+        Datagram::new(0, 0).create_client([1; 4]).bytes(),
+        Datagram::new(1, 0).create(1, 1, 0, &[]).heartbeat(0, 1).bytes(),
+        Datagram::new(1, 0).delete(9).bytes(),
+    ];
+    let mut out = [0; 64];
+    serve(&mut agent, &datagrams, &mut out);
+    let before = COUNT.load(Ordering::Relaxed);
+    for _ in 0..100 {
+        serve(&mut agent, &datagrams, &mut out);
+    }
+    assert_eq!(COUNT.load(Ordering::Relaxed), before);
+}

@@ -1,0 +1,149 @@
+//! What a host lends, as the tests lend it: every call is checked for what it may not change.
+#![allow(dead_code)]
+
+use wire::Datagram;
+use xrce_agent::lent::{self, AgentRecord, Lent, Tables, Told};
+
+pub const FILL: u8 = 0xA5;
+
+/// Inputs of `process` (enum xrce_input).
+pub const CREATED: u8 = 1;
+pub const DONE: u8 = 2;
+pub const SAMPLE: u8 = 3;
+pub const NO_SAMPLE: u8 = 4;
+pub const FAILED: u8 = 5;
+
+/// Calls (enum xrce_call).
+pub const CREATE_PARTICIPANT: u64 = 1;
+pub const CREATE_TOPIC: u64 = 2;
+pub const CREATE_WRITER: u64 = 3;
+pub const CREATE_READER: u64 = 4;
+pub const WRITE_DATA: u64 = 5;
+pub const READ_DATA: u64 = 6;
+pub const DELETE_ENTITY: u64 = 7;
+
+/// How many records of the agent, and rows and records of each table, are lent.
+#[derive(Clone, Copy)]
+pub struct Short {
+    pub agents: usize,
+    pub sessions: usize,
+    pub streams: usize,
+    pub objects: usize,
+}
+
+pub const WHOLE: Short = Short { agents: 1, sessions: lent::SESSIONS, streams: lent::STREAMS, objects: lent::OBJECTS };
+
+#[derive(Clone, Debug, PartialEq, Eq)]
+pub struct Fixture {
+    pub record: AgentRecord,
+    pub tables: Tables,
+    pub out: Vec<u8>,
+    pub kept: Vec<u8>,
+}
+
+impl Fixture {
+    /// Nothing set up: zeroes.
+    pub fn empty() -> Self {
+        Fixture { record: AgentRecord::default(), tables: Tables::new(), out: vec![FILL; 256], kept: Vec::new() }
+    }
+
+    /// An agent for four clients that expire after 1,000 ms.
+    pub fn new() -> Self {
+        let mut fixture = Fixture::empty();
+        assert_eq!(fixture.setup(WHOLE, 4, 1000), 0);
+        fixture
+    }
+
+    /// Session 1 with participant 1 (handle 11), topic 2 (12), writer 3 (13) and reader 4 (14).
+    pub fn with_objects() -> Self {
+        let mut fixture = Fixture::new();
+        fixture.opens();
+        for (object, kind, parent) in [(1, 1, 0), (2, 2, 1), (3, 5, 0), (4, 6, 0)] {
+            let datagram = Datagram::new(1, 0).create(object, kind, parent, &wire::strings(b"n", b"t")).bytes();
+            assert_eq!(fixture.datagram(&datagram), 0);
+            assert_eq!(fixture.answer(CREATED, 10 + u32::from(object), &[]), 0);
+            assert_eq!(fixture.replied(), status(1, object, 0));
+        }
+        fixture
+    }
+
+    pub fn opens(&mut self) {
+        assert_eq!(self.datagram(&Datagram::new(0, 0).create_client([1, 2, 3, 4]).bytes()), 0);
+        assert_eq!(self.replied().len(), 11);
+    }
+
+    pub fn lend(&mut self, short: Short) -> (&mut [AgentRecord], Lent<'_>, &mut [u8]) {
+        let tables = Lent {
+            sessions: &mut self.tables.sessions[..short.sessions],
+            streams: &mut self.tables.streams[..short.streams],
+            objects: &mut self.tables.objects[..short.objects],
+        };
+        (&mut self.record.lend_mut()[..short.agents], tables, &mut self.out)
+    }
+
+    pub fn setup(&mut self, short: Short, max_clients: u64, timeout_ms: u64) -> u64 {
+        self.refused_changes_nothing(|fixture| {
+            let (record, tables, _) = fixture.lend(short);
+            lent::setup(record, tables, max_clients, timeout_ms)
+        })
+    }
+
+    pub fn process(&mut self, short: Short, told: Told<'_>) -> u64 {
+        self.out.fill(FILL);
+        let answer = self.refused_changes_nothing(|fixture| {
+            let (record, tables, out) = fixture.lend(short);
+            lent::process(record, tables, out, told)
+        });
+        let wrote = if answer == 0 { self.record.wrote as usize } else { 0 };
+        assert!(self.out[wrote..].iter().all(|byte| *byte == FILL), "bytes behind the replies changed");
+        if answer == 0 {
+            self.kept = told.datagram.to_vec();
+        }
+        answer
+    }
+
+    /// A datagram at 100 ms.
+    pub fn datagram(&mut self, datagram: &[u8]) -> u64 {
+        self.process(WHOLE, Told { datagram, time_ms: 100, ..Told::default() })
+    }
+
+    /// An answer, with the open call's datagram lent again.
+    pub fn answer(&mut self, input: u8, handle: u32, sample: &[u8]) -> u64 {
+        let datagram = self.kept.clone();
+        self.process(WHOLE, Told { input, handle, sample, datagram: &datagram, time_ms: 0 })
+    }
+
+    pub fn remove(&mut self, short: Short, id: u8) -> u64 {
+        self.refused_changes_nothing(|fixture| {
+            let (record, tables, _) = fixture.lend(short);
+            lent::remove(record, tables.sessions, id)
+        })
+    }
+
+    pub fn sweep(&mut self, short: Short, room: usize, time: u64) -> u64 {
+        self.out.fill(FILL);
+        self.refused_changes_nothing(|fixture| {
+            let (record, tables, out) = fixture.lend(short);
+            lent::sweep(record, tables.sessions, &mut out[..room], time)
+        })
+    }
+
+    // "a refused call changes no byte of what was lent to it"
+    fn refused_changes_nothing(&mut self, call: impl FnOnce(&mut Self) -> u64) -> u64 {
+        let before = self.clone();
+        let answer = call(self);
+        if !answer.is_multiple_of(256) {
+            assert!(*self == before, "a call refused as {} changed something", answer % 256);
+        }
+        answer
+    }
+
+    pub fn replied(&self) -> &[u8] {
+        &self.out[..self.record.wrote as usize]
+    }
+}
+
+/// A STATUS reply on stream 0.
+pub fn status(session: u8, object: u16, code: u8) -> Vec<u8> {
+    Datagram::new(session, 0).status(object, code).bytes()
+}

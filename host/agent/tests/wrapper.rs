@@ -1,0 +1,153 @@
+//! The safe wrapper: calls and answers over the datagram that it keeps, and datagrams served whole.
+
+use wire::{strings, Datagram};
+use xrce_agent::{replies, Agent, Answer, Bridge, Call, Failed, Handle, Outcome, Refusal};
+
+fn status(object: u16, code: u8) -> Vec<u8> {
+    Datagram::new(1, 0).status(object, code).bytes()
+}
+
+fn opened() -> Agent {
+    let mut agent = Agent::new(2, 1000).unwrap();
+    let open = Datagram::new(0, 0).create_client([9; 4]).bytes();
+    assert_eq!(agent.incoming(&open, 0, &mut [0; 11]), Ok(Outcome { wrote: 11, call: None }));
+    agent
+}
+
+#[test]
+fn limits() {
+    assert_eq!(Agent::new(256, 1).err(), Some(Refusal::OverLimit));
+    assert!(Agent::new(255, 1).is_ok());
+}
+
+#[test]
+fn names_are_lent_until_the_answer_and_a_refused_answer_leaves_the_call_open() {
+    let mut agent = opened();
+    let mut out = [0; 64];
+    let datagram = Datagram::new(1, 0).create(1, 1, 5, &[]).create(2, 2, 1, &strings(b"n", b"type")).delete(9).bytes();
+    let outcome = agent.incoming(&datagram, 1, &mut out).unwrap();
+    assert_eq!(outcome, Outcome { wrote: 0, call: Some(Call::CreateParticipant { domain: 5 }) });
+    drop(datagram);
+    let topic = Call::CreateTopic { participant: Handle(7), name: b"n", type_name: b"type" };
+    let outcome = agent.answer(Answer::Created(Handle(7)), &mut out).unwrap();
+    assert_eq!(outcome, Outcome { wrote: 11, call: Some(topic) });
+    assert_eq!(topic.to_string(), "create_topic 7 'n' 'type'");
+    assert_eq!(agent.answer(Answer::Done, &mut out), Err(Refusal::OutOfTurn));
+    assert_eq!(agent.answer(Answer::Created(Handle(8)), &mut [0; 21]), Err(Refusal::OutputTooShort));
+    assert_eq!(agent.incoming(&[], 1, &mut out), Err(Refusal::OutOfTurn));
+    assert_eq!((agent.open_call(), agent.open_session()), (Some(topic), Some(1)));
+    let outcome = agent.answer(Answer::Created(Handle(8)), &mut out).unwrap();
+    assert_eq!(outcome, Outcome { wrote: 22, call: None });
+    assert_eq!(replies(&out[..22]).collect::<Vec<_>>(), [&status(2, 0)[..], &status(9, 1)]);
+    assert_eq!((agent.open_call(), agent.open_session()), (None, None));
+}
+
+#[test]
+fn removal_and_sweep() {
+    let mut agent = opened();
+    assert_eq!((agent.remove(1), agent.remove(1)), (Ok(true), Ok(false)));
+    let mut agent = opened();
+    assert_eq!(agent.sweep(1000, &mut []), Ok(&[][..]));
+    assert_eq!(agent.sweep(1001, &mut []), Err(Refusal::OutputTooShort));
+    assert_eq!(agent.sweep(1001, &mut [0; 3]), Ok(&[1][..]));
+}
+
+#[test]
+fn replies_that_are_cut_short_are_not_given() {
+    let two = [status(1, 0), status(2, 0)].concat();
+    assert_eq!(replies(&two).count(), 2);
+    assert_eq!(replies(&two[..21]).count(), 1);
+    assert_eq!(replies(&[]).count(), 0);
+}
+
+/// A bridge that notes its calls and reads one sample.
+#[derive(Default)]
+struct Noting {
+    calls: Vec<String>,
+    sample: Vec<u8>,
+}
+
+impl Noting {
+    fn note(&mut self, call: Call<'_>) -> Handle {
+        self.calls.push(call.to_string());
+        Handle(10 + self.calls.len() as u32)
+    }
+}
+
+impl Bridge for Noting {
+    fn create_participant(&mut self, domain: u16) -> Result<Handle, Failed> {
+        Ok(self.note(Call::CreateParticipant { domain }))
+    }
+
+    fn create_topic(&mut self, participant: Handle, name: &[u8], type_name: &[u8]) -> Result<Handle, Failed> {
+        Ok(self.note(Call::CreateTopic { participant, name, type_name }))
+    }
+
+    fn create_writer(&mut self, participant: Handle, topic: Handle) -> Result<Handle, Failed> {
+        Ok(self.note(Call::CreateWriter { participant, topic }))
+    }
+
+    fn create_reader(&mut self, participant: Handle, topic: Handle) -> Result<Handle, Failed> {
+        Ok(self.note(Call::CreateReader { participant, topic }))
+    }
+
+    fn write_data(&mut self, writer: Handle, data: &[u8]) -> Result<(), Failed> {
+        self.note(Call::WriteData { writer, data });
+        Err(Failed)
+    }
+
+    fn read_data(&mut self, reader: Handle) -> Result<Option<Vec<u8>>, Failed> {
+        self.note(Call::ReadData { reader });
+        Ok(Some(self.sample.clone()))
+    }
+
+    fn delete_entity(&mut self, entity: Handle) -> Result<(), Failed> {
+        self.note(Call::DeleteEntity { entity });
+        Ok(())
+    }
+}
+
+fn all_seven() -> Datagram {
+    Datagram::new(1, 0)
+        .create(1, 1, 3, &[])
+        .create(2, 2, 1, &strings(b"n", b"t"))
+        .create(3, 5, 0, &[])
+        .create(4, 6, 0, &[])
+        .write_data(3, b"a\n")
+        .read_data(4)
+        .delete(4)
+}
+
+#[test]
+fn a_datagram_served_whole() {
+    let (mut agent, mut bridge, mut out) =
+        (opened(), Noting { sample: b"s".to_vec(), ..Noting::default() }, Vec::new());
+    agent.serve(&all_seven().bytes(), 1, &mut out, &mut bridge).unwrap();
+    let calls = [
+        "create_participant 3",
+        "create_topic 11 'n' 't'",
+        "create_writer 11 12",
+        "create_reader 11 12",
+        "write_data 13 'a\\n'",
+        "read_data 14",
+        "delete_entity 14",
+    ];
+    assert_eq!(bridge.calls, calls);
+    let data = Datagram::new(1, 0).data(4, b"s").bytes();
+    let wanted = [status(1, 0), status(2, 0), status(3, 0), status(4, 0), status(3, 2), data, status(4, 0)];
+    assert_eq!(replies(&out).collect::<Vec<_>>(), wanted);
+    assert_eq!(out, wanted.concat());
+    assert_eq!(agent.serve(&[1, 0, 0, 0], 1, &mut out, &mut bridge), Err(Refusal::BufferTooShort));
+    assert!(out.is_empty());
+}
+
+#[test]
+fn a_sample_that_is_too_long_is_a_failed_read() {
+    for (len, wrote) in [(65_533, 65_543), (65_534, 11)] {
+        let (mut agent, mut bridge) = (opened(), Noting { sample: vec![1; len], ..Noting::default() });
+        let mut out = Vec::new();
+        agent.serve(&all_seven().bytes(), 1, &mut out, &mut bridge).unwrap();
+        assert_eq!(replies(&out).nth(5).unwrap().len(), wrote);
+        assert_eq!(bridge.calls.len(), 7);
+    }
+}

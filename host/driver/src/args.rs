@@ -1,0 +1,128 @@
+//! The command line of `driver`.
+
+use std::net::{SocketAddr, ToSocketAddrs};
+use std::str::FromStr;
+
+pub const HELP: &str = "\
+driver [FLAG VALUE ..]   plays a client: opens a session, creates a participant, a topic, a writer and a reader,
+                         writes messages and reads each back
+
+  --host ADDR      where the host listens                                  (127.0.0.1:2019)
+  --messages N     how many                                                (5)
+  --rate N         a second; 0 for as fast as it goes                      (0)
+  --topic NAME     the topic's name; it should be no other client's        (driver- and a number)
+  --size N         bytes of each message, 8 to 65497                       (24)
+  --help           this text
+
+Up to 10 messages are shown one by one, more as a summary. A missing or wrong reply ends it with exit code 1.
+";
+
+/// The most that fits a datagram of UDP behind the headers of document 01.
+pub const MOST_BYTES: usize = 65_507 - 10;
+/// A message begins with its number, 8 digits.
+pub const LEAST_BYTES: usize = 8;
+/// As many messages as 8 digits count.
+pub const MOST_MESSAGES: u64 = 99_999_999;
+
+#[derive(Clone, Debug, PartialEq, Eq)]
+pub struct Options {
+    pub host: SocketAddr,
+    pub messages: u64,
+    pub rate: u64,
+    pub topic: String,
+    pub size: usize,
+}
+
+#[derive(Debug, PartialEq, Eq)]
+pub enum Parsed {
+    Run(Options),
+    Help,
+}
+
+impl Default for Options {
+    fn default() -> Self {
+        Options {
+            host: SocketAddr::from(([127, 0, 0, 1], 2019)),
+            messages: 5,
+            rate: 0,
+            // A name of its own: samples of another client would reach this reader too.
+            topic: format!("driver-{}", std::process::id()),
+            size: 24,
+        }
+    }
+}
+
+fn within<T: FromStr + PartialOrd>(flag: &str, word: &str, least: T, most: T, wants: &str) -> Result<T, String> {
+    match word.parse() {
+        Ok(number) if least <= number && number <= most => Ok(number),
+        _ => Err(format!("{flag} wants {wants}, not '{word}'")),
+    }
+}
+
+fn address(word: &str) -> Result<SocketAddr, String> {
+    let found = word.to_socket_addrs().ok().and_then(|mut all| all.next());
+    found.ok_or_else(|| format!("--host wants an address and a port such as 127.0.0.1:2019, not '{word}'"))
+}
+
+fn set(options: &mut Options, flag: &str, word: &str) -> Result<(), String> {
+    match flag {
+        "--host" => options.host = address(word)?,
+        "--messages" => options.messages = within(flag, word, 1, MOST_MESSAGES, "1 to 99999999")?,
+        "--rate" => options.rate = within(flag, word, 0, 1_000_000, "0 to 1000000")?,
+        "--topic" if word.len() > 1024 => return Err("--topic wants at most 1024 bytes".into()),
+        "--topic" => options.topic = word.into(),
+        "--size" => options.size = within(flag, word, LEAST_BYTES, MOST_BYTES, "8 to 65497")?,
+        _ => return Err(format!("there is no flag '{flag}'")),
+    }
+    Ok(())
+}
+
+pub fn parse(words: &[String]) -> Result<Parsed, String> {
+    if words.iter().any(|word| word == "--help" || word == "-h") {
+        return Ok(Parsed::Help);
+    }
+    let mut options = Options::default();
+    let mut rest = words.iter().map(String::as_str);
+    while let Some(word) = rest.next() {
+        let (flag, given) = word.split_once('=').map_or((word, None), |(flag, value)| (flag, Some(value)));
+        if !flag.starts_with("--") {
+            return Err(format!("'{word}' isn't a flag"));
+        }
+        let value = given.or_else(|| rest.next()).ok_or_else(|| format!("{flag} wants a value"))?;
+        set(&mut options, flag, value)?;
+    }
+    Ok(Parsed::Run(options))
+}
+
+#[cfg(test)]
+mod tests {
+    use super::*;
+
+    fn parsed(line: &str) -> Result<Parsed, String> {
+        parse(&line.split_whitespace().map(String::from).collect::<Vec<_>>())
+    }
+
+    #[test]
+    fn defaults_and_values() {
+        assert_eq!(parsed(""), Ok(Parsed::Run(Options::default())));
+        let some = Options { messages: 7, size: 65_497, topic: "a=b".into(), ..Options::default() };
+        assert_eq!(parsed("--messages 7 --size=65497 --topic=a=b"), Ok(Parsed::Run(some)));
+        assert_eq!(parsed("--help"), Ok(Parsed::Help));
+    }
+
+    #[test]
+    fn wrong_flags_are_told() {
+        for (line, told) in [
+            ("--messages 0", "--messages wants 1 to 99999999, not '0'"),
+            ("--size 7", "--size wants 8 to 65497, not '7'"),
+            ("--size 65498", "--size wants 8 to 65497, not '65498'"),
+            ("--rate fast", "--rate wants 0 to 1000000, not 'fast'"),
+            ("--host here", "--host wants an address and a port such as 127.0.0.1:2019, not 'here'"),
+            ("--host", "--host wants a value"),
+            ("--speed 1", "there is no flag '--speed'"),
+            ("2019", "'2019' isn't a flag"),
+        ] {
+            assert_eq!(parsed(line), Err(told.into()), "{line}");
+        }
+    }
+}

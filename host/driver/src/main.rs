@@ -1,0 +1,57 @@
+//! The program `driver`: a client that writes messages over UDP and reads them back.
+
+mod args;
+mod client;
+mod messages;
+mod progress;
+mod summary;
+
+use args::{parse, Options, Parsed, HELP};
+use client::{Client, Wrong};
+use messages::Messages;
+use std::process::ExitCode;
+
+fn main() -> ExitCode {
+    let words: Vec<String> = std::env::args().skip(1).collect();
+    let options = match parse(&words) {
+        Ok(Parsed::Run(options)) => options,
+        Ok(Parsed::Help) => {
+            print!("{HELP}");
+            return ExitCode::SUCCESS;
+        }
+        Err(wrong) => {
+            eprintln!("driver: {wrong}\ndriver --help says what it takes");
+            return ExitCode::from(2);
+        }
+    };
+    match run(&options) {
+        Ok(()) => ExitCode::SUCCESS,
+        Err(wrong) => {
+            eprintln!("driver: {wrong}");
+            ExitCode::FAILURE
+        }
+    }
+}
+
+// Objects 1 to 4 of the session that is opened here.
+fn run(options: &Options) -> Result<(), Wrong> {
+    let mut client = Client::connect(options.host)?;
+    println!("session {} opened by {}", client.session(), options.host);
+    let names = wire::strings(options.topic.as_bytes(), b"driver::Message");
+    for (object, kind, parent, strings, what) in [
+        (1, wire::PARTICIPANT, 0, &[][..], "participant"),
+        (2, wire::TOPIC, 1, &names, "topic"),
+        (3, wire::DATA_WRITER, 1, &[], "writer"),
+        (4, wire::DATA_READER, 1, &[], "reader"),
+    ] {
+        client.create(object, kind, parent, strings, what)?;
+    }
+    println!("created participant 1, topic 2 '{}', writer 3, reader 4", options.topic);
+    let summary = Messages::new(options).exchange(&mut client)?;
+    print!("{summary}");
+    for (object, what) in [(4, "reader"), (3, "writer"), (2, "topic"), (1, "participant")] {
+        client.delete(object, what)?;
+    }
+    println!("deleted the four objects");
+    Ok(())
+}

@@ -1,0 +1,143 @@
+//! The loop over the socket: one thread, one datagram at a time, sweeps by its own clock.
+
+use crate::args::Options;
+use crate::log;
+use crate::memory::Memory;
+use crate::signals;
+use std::io::{self, ErrorKind, Write};
+use std::net::{SocketAddr, UdpSocket};
+use std::time::{Duration, Instant};
+use xrce_agent::{replies, room, Agent, Answer, Answered, Refusal};
+
+/// How long a signal may wait for the loop to look.
+const LOOK: Duration = Duration::from_millis(100);
+
+struct Host {
+    socket: UdpSocket,
+    agent: Agent,
+    bridge: Memory,
+    // The replies of one call, and the greatest datagram that UDP carries.
+    out: Vec<u8>,
+    inbox: Vec<u8>,
+    start: Instant,
+    sweep: Duration,
+    next_sweep: Instant,
+    served: u64,
+}
+
+pub fn run(options: &Options) -> io::Result<()> {
+    let told =
+        |error: io::Error| io::Error::other(format!("can't listen on {}:{}: {error}", options.bind, options.port));
+    signals::listen();
+    let socket = UdpSocket::bind((options.bind, options.port)).map_err(told)?;
+    let sweep = Duration::from_millis(options.sweep_ms);
+    socket.set_read_timeout(Some(LOOK.min(sweep)))?;
+    announce(socket.local_addr()?)?;
+    let agent = Agent::new(options.max_clients, options.timeout_ms).map_err(io::Error::other)?;
+    let start = Instant::now();
+    let mut host = Host {
+        socket,
+        agent,
+        bridge: Memory::new(options.bridge_fails),
+        out: Vec::new(),
+        inbox: vec![0; 65_536],
+        start,
+        sweep,
+        next_sweep: start + sweep,
+        served: 0,
+    };
+    host.until_asked()?;
+    eprintln!("served {} datagrams", host.served);
+    Ok(())
+}
+
+fn announce(address: SocketAddr) -> io::Result<()> {
+    let mut stdout = io::stdout();
+    writeln!(stdout, "listening on {address}")?;
+    stdout.flush()
+}
+
+impl Host {
+    fn until_asked(&mut self) -> io::Result<()> {
+        while !signals::asked_to_end() {
+            match self.socket.recv_from(&mut self.inbox) {
+                Ok((len, from)) => self.datagram(len, from)?,
+                Err(error) if idle(&error) => {}
+                Err(error) => log!(Error, "receiving: {error}"),
+            }
+            if self.next_sweep <= Instant::now() {
+                self.sweep()?;
+            }
+        }
+        Ok(())
+    }
+
+    fn now(&self) -> u64 {
+        self.start.elapsed().as_millis() as u64
+    }
+
+    fn datagram(&mut self, len: usize, from: SocketAddr) -> io::Result<()> {
+        self.served += 1;
+        let time = self.now();
+        log!(Debug, "{from}: {len} bytes");
+        self.out.resize(self.out.len().max(room(len, 0)), 0);
+        match self.agent.incoming(&self.inbox[..len], time, &mut self.out) {
+            Ok(outcome) => send(&self.socket, from, &self.out[..outcome.wrote]),
+            Err(refusal) => {
+                log!(Warn, "{from}: refused {}: {refusal}", refusal.number());
+                return Ok(());
+            }
+        }
+        self.calls(len, from)
+    }
+
+    // Makes the calls of one datagram. Replies leave with each, so an output for one call is enough.
+    fn calls(&mut self, len: usize, from: SocketAddr) -> io::Result<()> {
+        while let (Some(session), Some(call)) = (self.agent.open_session(), self.agent.open_call()) {
+            log!(Debug, "session {session}: {call}");
+            self.bridge.serve_session(session);
+            let answered = call.make(&mut self.bridge);
+            let sample = if let Answered::Sample(sample) = &answered { sample.len() } else { 0 };
+            self.out.resize(self.out.len().max(room(len, sample)), 0);
+            let wrote = self.answer(&answered).map_err(io::Error::other)?;
+            send(&self.socket, from, &self.out[..wrote]);
+        }
+        Ok(())
+    }
+
+    // A sample that no DATA can carry (12) is told as a failed read: the call must not stay open.
+    fn answer(&mut self, answered: &Answered) -> Result<usize, Refusal> {
+        match self.agent.answer(answered.lend(), &mut self.out) {
+            Ok(outcome) => Ok(outcome.wrote),
+            Err(refusal) => {
+                log!(Error, "an answer was refused {}: {refusal}", refusal.number());
+                Ok(self.agent.answer(Answer::Failed, &mut self.out)?.wrote)
+            }
+        }
+    }
+
+    fn sweep(&mut self) -> io::Result<()> {
+        self.next_sweep = Instant::now() + self.sweep;
+        let (time, mut ids) = (self.now(), [0; 255]);
+        for id in self.agent.sweep(time, &mut ids).map_err(io::Error::other)? {
+            log!(Info, "session {id} expired");
+            self.bridge.end_session(*id);
+        }
+        Ok(())
+    }
+}
+
+// No datagram has come, or a signal has.
+fn idle(error: &io::Error) -> bool {
+    matches!(error.kind(), ErrorKind::WouldBlock | ErrorKind::TimedOut | ErrorKind::Interrupted)
+}
+
+// Each reply is a datagram of its own. One that can't be sent is lost, as UDP may lose any.
+fn send(socket: &UdpSocket, to: SocketAddr, wrote: &[u8]) {
+    for reply in replies(wrote) {
+        log!(Debug, "{to}: reply of {} bytes", reply.len());
+        if let Err(error) = socket.send_to(reply, to) {
+            log!(Warn, "{to}: a reply of {} bytes wasn't sent: {error}", reply.len());
+        }
+    }
+}

@@ -1,0 +1,68 @@
+//! Datagrams by chance: good ones, damaged ones, and bytes.
+
+use crate::chance::Chance;
+use wire::{strings, Datagram};
+
+// A submessage of any of the nine kinds, its numbers small so that they meet again.
+fn add(chance: &mut Chance, datagram: Datagram) -> Datagram {
+    let object = chance.below(8) as u16;
+    match chance.below(16) {
+        0 => datagram.create_client([1, 2, 3, chance.byte()]),
+        1 => datagram.create(object, 1, chance.below(3) as u16, &[]),
+        2 => {
+            let name = chance.below(12);
+            datagram.create(object, 2, chance.below(8) as u16, &strings(&chance.bytes(name), b"type"))
+        }
+        3 => datagram.create(object, 1 + chance.below(6) as u8, 0, &[]),
+        4 => datagram.create(chance.below(40) as u16, chance.of(&[3, 4]), 0, &[]),
+        5 => datagram.create(object, chance.of(&[5, 6]), 0, &[]),
+        6 => datagram.delete(object),
+        7 | 8 => {
+            let len = chance.below(24);
+            datagram.write_data(object, &chance.bytes(len))
+        }
+        9..=11 => datagram.read_data(object),
+        12 => datagram.heartbeat(chance.extreme() as u16, chance.extreme() as u16),
+        13 => datagram.acknack(chance.extreme() as u16, chance.extreme() as u16),
+        14 => datagram.data(object, &[1, 2]),
+        _ => datagram.status(object, chance.below(5) as u8),
+    }
+}
+
+/// A datagram that reads, for one of those sessions.
+pub fn good_datagram(chance: &mut Chance, sessions: &[u8]) -> Vec<u8> {
+    let stream = if chance.once_in(4) { chance.of(&[1, 2, 3, 127, 128, 129, 130, 255]) } else { 0 };
+    let mut datagram = Datagram::new(chance.of(sessions), stream);
+    for _ in 0..=chance.below(4) {
+        datagram = add(chance, datagram);
+    }
+    datagram.bytes()
+}
+
+/// Some bytes of it changed, cut off or added.
+pub fn damage(chance: &mut Chance, datagram: &mut Vec<u8>) {
+    for _ in 0..=chance.below(3) {
+        match chance.below(4) {
+            0 => datagram.truncate(chance.below(datagram.len() + 1)),
+            1 => datagram.push(chance.byte()),
+            _ if datagram.is_empty() => {}
+            _ => {
+                let at = chance.below(datagram.len());
+                datagram[at] = chance.extreme() as u8;
+            }
+        }
+    }
+}
+
+/// Mostly good, at times damaged, at times bytes.
+pub fn any_datagram(chance: &mut Chance, sessions: &[u8]) -> Vec<u8> {
+    if chance.once_in(32) {
+        let len = chance.below(60);
+        return chance.bytes(len);
+    }
+    let mut datagram = good_datagram(chance, sessions);
+    if chance.once_in(6) {
+        damage(chance, &mut datagram);
+    }
+    datagram
+}

@@ -1,0 +1,239 @@
+//! Everything that a host lends, each in memory of its own between guard pages.
+
+use crate::chance::Chance;
+use crate::sys::{Guarded, Side};
+use xrce_agent::lent::{
+    self, AgentRecord, Lent, ObjectRecord, SessionRow, StreamRow, Told, OBJECTS, SESSIONS, STREAMS,
+};
+
+const OUT: usize = 8192;
+const BYTES: usize = 70_000;
+const FILL: u8 = 0xA5;
+
+pub struct Stores {
+    record: Guarded<AgentRecord>,
+    sessions: Guarded<SessionRow>,
+    streams: Guarded<StreamRow>,
+    objects: Guarded<ObjectRecord>,
+    out: Guarded<u8>,
+    datagram: Guarded<u8>,
+    sample: Guarded<u8>,
+    side: Side,
+    // The datagram of the open call, as a host keeps it.
+    kept: Vec<u8>,
+}
+
+/// A copy of record and tables.
+#[derive(PartialEq, Eq)]
+pub struct Copied(AgentRecord, Vec<SessionRow>, Vec<StreamRow>, Vec<ObjectRecord>);
+
+// Mostly the whole need, at times less.
+fn length(chance: &mut Chance, need: usize) -> usize {
+    match chance.below(200) {
+        0 => chance.below(need),
+        1 => need - 1,
+        2 => chance.below(3).min(need),
+        _ => need,
+    }
+}
+
+fn put<'a>(store: &'a mut Guarded<u8>, side: Side, bytes: &[u8]) -> &'a [u8] {
+    let slice = store.slice(side, bytes.len());
+    slice.copy_from_slice(bytes);
+    slice
+}
+
+/// Whether a call was answered and not refused.
+pub fn went(answer: u64) -> bool {
+    answer.is_multiple_of(256)
+}
+
+// A refused call leaves the output, an answered one what stands behind its result.
+fn output_kept(out: &[u8], answer: u64, wrote: u64) -> Result<(), String> {
+    let from = if went(answer) { wrote } else { 0 };
+    let rest = usize::try_from(from).ok().and_then(|from| out.get(from..));
+    match rest {
+        None => Err(format!("{wrote} bytes replied in an output of {}", out.len())),
+        Some(rest) if rest.iter().any(|byte| *byte != FILL) => {
+            Err(format!("bytes changed behind {from} of the output"))
+        }
+        Some(_) => Ok(()),
+    }
+}
+
+impl Stores {
+    pub fn new() -> Self {
+        Stores {
+            record: Guarded::new(1),
+            sessions: Guarded::new(SESSIONS),
+            streams: Guarded::new(STREAMS),
+            objects: Guarded::new(OBJECTS),
+            out: Guarded::new(OUT),
+            datagram: Guarded::new(BYTES),
+            sample: Guarded::new(BYTES),
+            side: Side::End,
+            kept: Vec::new(),
+        }
+    }
+
+    /// From here on slices lie at that guard page.
+    pub fn turn(&mut self, chance: &mut Chance) {
+        self.side = chance.of(&[Side::Start, Side::End]);
+    }
+
+    fn record(&mut self) -> &mut AgentRecord {
+        &mut self.record.slice(self.side, 1)[0]
+    }
+
+    pub fn copy(&mut self) -> Copied {
+        let side = self.side;
+        Copied(
+            self.record().clone(),
+            self.sessions.slice(side, SESSIONS).to_vec(),
+            self.streams.slice(side, STREAMS).to_vec(),
+            self.objects.slice(side, OBJECTS).to_vec(),
+        )
+    }
+
+    pub fn setup(&mut self, chance: &mut Chance) -> u64 {
+        let side = self.side;
+        let records = length(chance, 1);
+        let tables = Lent {
+            sessions: self.sessions.slice(side, length(chance, SESSIONS)),
+            streams: self.streams.slice(side, length(chance, STREAMS)),
+            objects: self.objects.slice(side, length(chance, OBJECTS)),
+        };
+        let max = if chance.once_in(8) { chance.extreme() } else { 1 + chance.below(6) as u64 };
+        lent::setup(self.record.slice(side, records), tables, max, chance.of(&[0, 10, 1000, u64::MAX]))
+    }
+
+    pub fn process(&mut self, chance: &mut Chance, datagram: &[u8]) -> Result<u64, String> {
+        let side = self.side;
+        let open = self.record().open;
+        let input = input(chance, open);
+        let again = open != 0 && !chance.once_in(16);
+        let bytes = if again { self.kept.clone() } else { datagram.to_vec() };
+        let sample = sample(chance, input);
+        let told = Told {
+            input,
+            time_ms: chance.below(3000) as u64,
+            handle: chance.extreme() as u32,
+            datagram: put(&mut self.datagram, side, &bytes),
+            sample: put(&mut self.sample, side, &sample),
+        };
+        let out = self.out.slice(side, room(chance));
+        out.fill(FILL);
+        let records = length(chance, 1);
+        let tables = Lent {
+            sessions: self.sessions.slice(side, length(chance, SESSIONS)),
+            streams: self.streams.slice(side, length(chance, STREAMS)),
+            objects: self.objects.slice(side, length(chance, OBJECTS)),
+        };
+        let records = self.record.slice(side, records);
+        let answer = lent::process(records, tables, out, told);
+        output_kept(out, answer, records.first().map_or(0, |record| record.wrote))?;
+        if went(answer) {
+            told_whole(records.first().ok_or("a call without a record was answered")?, bytes.len())?;
+            self.kept = bytes;
+        }
+        Ok(answer)
+    }
+
+    pub fn remove(&mut self, chance: &mut Chance) -> u64 {
+        let side = self.side;
+        let records = length(chance, 1);
+        let sessions = self.sessions.slice(side, length(chance, SESSIONS));
+        lent::remove(self.record.slice(side, records), sessions, chance.extreme() as u8)
+    }
+
+    pub fn sweep(&mut self, chance: &mut Chance) -> Result<u64, String> {
+        let side = self.side;
+        let records = length(chance, 1);
+        let sessions = self.sessions.slice(side, length(chance, SESSIONS));
+        let room = chance.of(&[0, 1, 2, 8, 255, 256]);
+        let out = self.out.slice(side, room);
+        out.fill(FILL);
+        let answer = lent::sweep(self.record.slice(side, records), sessions, out, chance.extreme());
+        output_kept(out, answer, answer / 65536)?;
+        Ok(answer)
+    }
+
+    /// Sets some numbers of the record or of a table to others; the record as it was.
+    pub fn alter(&mut self, chance: &mut Chance) -> AgentRecord {
+        let (side, kept) = (self.side, self.record().clone());
+        for _ in 0..=chance.below(4) {
+            let row = 1 + chance.below(5);
+            match chance.below(6) {
+                0 | 1 => *self.record().numbers_mut()[chance.below(18)] = chance.extreme(),
+                2 => self.sessions.slice(side, SESSIONS)[row][chance.below(5)] = chance.extreme(),
+                3 => {
+                    self.streams.slice(side, STREAMS)[8 * row + chance.below(9)][chance.below(35)] =
+                        chance.extreme() as u16
+                }
+                4 => self.objects.slice(side, OBJECTS)[32 * row + chance.below(33)] = object(chance),
+                _ => self.sessions.slice(side, SESSIONS)[chance.below(SESSIONS)][chance.below(5)] = chance.extreme(),
+            }
+        }
+        kept
+    }
+
+    pub fn restore(&mut self, record: AgentRecord) {
+        *self.record() = record;
+    }
+}
+
+// A record after a call that was answered: numbers of an open call where one is open, and zeroes else. Names and data of a
+// call are parts of its datagram.
+fn told_whole(record: &AgentRecord, len: usize) -> Result<(), String> {
+    for (start, part) in [(record.start, record.len), (record.type_start, record.type_len)] {
+        if start.checked_add(part).is_none_or(|end| end > len as u64) {
+            return Err(format!("a part at {start} of {part} bytes in a datagram of {len}"));
+        }
+    }
+    let AgentRecord { max_clients, timeout_ms, next, wrote, .. } = *record;
+    let idle = *record == AgentRecord { max_clients, timeout_ms, next, wrote, ..AgentRecord::default() };
+    let calls = matches!((record.open, record.call), (1, 1..=4) | (2, 5) | (3, 6) | (4, 7));
+    if idle || calls {
+        return Ok(());
+    }
+    Err(format!("neither a call nor none is open: {record:?}"))
+}
+
+fn object(chance: &mut Chance) -> ObjectRecord {
+    ObjectRecord {
+        number: chance.extreme() as u16,
+        kind: chance.extreme() as u8,
+        bridged: chance.extreme() as u8,
+        handle: chance.extreme() as u32,
+    }
+}
+
+// Mostly an input that fits what is open: 1 a CREATE's call, 2 a WRITE_DATA's, 3 a READ_DATA's, 4 a DELETE's.
+fn input(chance: &mut Chance, open: u64) -> u8 {
+    if chance.once_in(24) {
+        return chance.extreme() as u8;
+    }
+    match open {
+        0 => 0,
+        1 => chance.of(&[1, 1, 1, 5]),
+        3 => chance.of(&[3, 3, 4, 5]),
+        _ => chance.of(&[2, 2, 2, 5]),
+    }
+}
+
+fn sample(chance: &mut Chance, input: u8) -> Vec<u8> {
+    let len = match (input, chance.below(300)) {
+        (3, 0) => chance.of(&[65_532, 65_533, 65_534, 65_536, 70_000]),
+        (3, _) => chance.below(64),
+        _ => 0,
+    };
+    vec![0x5A; len]
+}
+
+fn room(chance: &mut Chance) -> usize {
+    match chance.below(10) {
+        0 => chance.below(40),
+        1 => OUT,
+        _ => 60 + chance.below(200),
+    }
+}
