@@ -1,0 +1,78 @@
+//! The datagrams of the rows, byte for byte as document 01 lays them out.
+
+pub const PARTICIPANT: u8 = 1;
+pub const TOPIC: u8 = 2;
+pub const WRITER: u8 = 5;
+pub const READER: u8 = 6;
+
+/// A submessage: id, no flags, the payload's length, the payload.
+pub fn submessage(id: u8, payload: &[u8]) -> Vec<u8> {
+    let mut bytes = vec![id, 0];
+    bytes.extend((payload.len() as u16).to_le_bytes());
+    bytes.extend(payload);
+    bytes
+}
+
+/// A datagram: session, stream, sequence number 0, and one submessage.
+pub fn datagram(session: u8, stream: u8, submessage: &[u8]) -> Vec<u8> {
+    let mut bytes = vec![session, stream, 0, 0];
+    bytes.extend(submessage);
+    bytes
+}
+
+fn pair(first: u16, second: u16) -> Vec<u8> {
+    [first.to_le_bytes(), second.to_le_bytes()].concat()
+}
+
+pub fn create_client() -> Vec<u8> {
+    submessage(0x00, &[1, 2, 3, 4, 0])
+}
+
+pub fn create(object: u16, kind: u8, parent: u16) -> Vec<u8> {
+    let mut payload = object.to_le_bytes().to_vec();
+    payload.push(kind);
+    payload.extend(parent.to_le_bytes());
+    if kind == TOPIC {
+        payload.extend(b"\x06\x00square\x09\x00ShapeType");
+    }
+    submessage(0x01, &payload)
+}
+
+pub fn delete(object: u16) -> Vec<u8> {
+    submessage(0x02, &object.to_le_bytes())
+}
+
+pub fn write_data(writer: u16, len: usize) -> Vec<u8> {
+    let mut payload = writer.to_le_bytes().to_vec();
+    payload.extend(data(len));
+    submessage(0x07, &payload)
+}
+
+pub fn read_data(reader: u16) -> Vec<u8> {
+    submessage(0x08, &pair(reader, 1))
+}
+
+pub fn heartbeat(first: u16, last: u16) -> Vec<u8> {
+    submessage(0x0D, &pair(first, last))
+}
+
+pub fn acknack(first: u16, bitmap: u16) -> Vec<u8> {
+    submessage(0x0E, &pair(first, bitmap))
+}
+
+/// Bytes that differ from place to place.
+pub fn data(len: usize) -> Vec<u8> {
+    (0..len).map(|place| (place * 7 + place / 256) as u8).collect()
+}
+
+#[cfg(test)]
+mod tests {
+    use super::*;
+
+    #[test]
+    fn they_are_laid_out_as_the_wire_asks() {
+        assert_eq!(datagram(1, 0, &delete(3)), [1, 0, 0, 0, 2, 0, 2, 0, 3, 0]);
+        assert_eq!(write_data(3, 2), [7, 0, 4, 0, 3, 0, 0, 7]);
+        assert_eq!(heartbeat(0, 5), [13, 0, 4, 0, 0, 0, 5, 0]);
+    }
+}

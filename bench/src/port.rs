@@ -1,0 +1,161 @@
+//! The port's agent, and the host that lends it tables and answers its bridge calls.
+
+use crate::agents::{Agent, SAMPLE, TIMEOUT};
+use crate::clock;
+use crate::interface::*;
+use std::hint::black_box;
+use std::time::Instant;
+
+/// Room for every reply of a row.
+const ROOM: usize = 2048;
+
+/// Tables of the documented need.
+struct Tables {
+    sessions: [SessionRow; SESSIONS],
+    streams: [StreamRow; STREAMS],
+    objects: [Object; OBJECTS],
+}
+
+/// The shortest call of the interface: what it costs to go there and back.
+pub fn shortest_call(max_clients: u64) -> u64 {
+    // SAFETY: it takes a number and gives one.
+    unsafe { xrce_need(max_clients) }
+}
+
+pub struct Port {
+    agent: AgentRecord,
+    tables: Box<Tables>,
+    out: Box<[u8; ROOM]>,
+    time: u64,
+    /// Where the host reads the machine's clock for each datagram: since when.
+    reads_clock: Option<Instant>,
+    handles: u32,
+}
+
+impl Port {
+    fn process(&mut self, datagram: &[u8], sample: &[u8], input: u8, time: u64, handle: u32) {
+        // SAFETY: each pointer comes with the length of its slice (the record's is 1), and those that are written share
+        // no byte.
+        let answer = unsafe {
+            xrce_agent_process(
+                &mut self.agent,
+                1,
+                self.tables.sessions.as_mut_ptr(),
+                SESSIONS,
+                self.tables.streams.as_mut_ptr(),
+                STREAMS,
+                self.tables.objects.as_mut_ptr(),
+                OBJECTS,
+                self.out.as_mut_ptr(),
+                ROOM,
+                datagram.as_ptr(),
+                datagram.len(),
+                sample.as_ptr(),
+                sample.len(),
+                input,
+                time,
+                handle,
+            )
+        };
+        number(answer);
+    }
+
+    /// The least bridge's answer to the open call: the input that tells it, the handle if it made an entity, and the
+    /// sample if it read one.
+    fn bridge(&mut self, datagram: &[u8]) -> (u8, u32, &'static [u8]) {
+        match self.agent.call {
+            WRITE_DATA => {
+                let start = self.agent.start as usize;
+                black_box(&datagram[start..start + self.agent.len as usize]);
+                (DONE, 0, &[])
+            }
+            DELETE_ENTITY => (DONE, 0, &[]),
+            READ_DATA => (SAMPLED, 0, &SAMPLE),
+            _ => {
+                self.handles += 1;
+                (CREATED, self.handles, &[])
+            }
+        }
+    }
+
+    fn replied(&self) -> &[u8] {
+        &self.out[..self.agent.wrote as usize]
+    }
+
+    fn set_up(&mut self) {
+        // SAFETY: as in `process`.
+        let answer = unsafe {
+            xrce_agent_setup(
+                &mut self.agent,
+                1,
+                self.tables.sessions.as_mut_ptr(),
+                SESSIONS,
+                self.tables.streams.as_mut_ptr(),
+                STREAMS,
+                self.tables.objects.as_mut_ptr(),
+                OBJECTS,
+                255,
+                TIMEOUT,
+            )
+        };
+        number(answer);
+    }
+}
+
+impl Agent for Port {
+    fn new() -> Self {
+        let mut port = Self {
+            agent: AgentRecord::default(),
+            tables: Box::new(Tables {
+                sessions: [[0; 5]; SESSIONS],
+                streams: [[0; 35]; STREAMS],
+                objects: [Object::default(); OBJECTS],
+            }),
+            out: Box::new([0; ROOM]),
+            time: 0,
+            reads_clock: None,
+            handles: 0,
+        };
+        port.set_up();
+        port
+    }
+
+    fn set_time(&mut self, time: u64) {
+        self.time = time;
+    }
+
+    fn read_clock(&mut self) {
+        clock::use_machines(true);
+        self.reads_clock = Some(Instant::now());
+    }
+
+    fn deliver(&mut self, datagram: &[u8], sent: &mut impl FnMut(&[u8])) {
+        let time = self.reads_clock.map_or(self.time, clock::milliseconds_since);
+        self.process(datagram, &[], DATAGRAM, time, 0);
+        sent(self.replied());
+        while self.agent.call != NO_CALL {
+            let (input, handle, sample) = self.bridge(datagram);
+            self.process(datagram, sample, input, 0, handle);
+            sent(self.replied());
+        }
+    }
+
+    fn sweep(&mut self, sent: &mut impl FnMut(&[u8])) {
+        let (sessions, rows) = (self.tables.sessions.as_mut_ptr(), SESSIONS);
+        let (out, room) = (self.out.as_mut_ptr(), ROOM);
+        // SAFETY: as in `process`.
+        let answer = unsafe { xrce_agent_sweep(&self.agent, 1, sessions, rows, out, room, self.time) };
+        sent(&self.out[..number(answer)]);
+    }
+
+    fn end(&mut self, id: u8, sent: &mut impl FnMut(&[u8])) {
+        let (sessions, rows) = (self.tables.sessions.as_mut_ptr(), SESSIONS);
+        // SAFETY: as in `process`.
+        let answer = unsafe { xrce_agent_remove(&self.agent, 1, sessions, rows, id) };
+        sent(&[number(answer) as u8]);
+    }
+
+    fn handles(&self) -> u32 {
+        self.handles
+    }
+}
