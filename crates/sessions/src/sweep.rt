@@ -8,10 +8,10 @@ use codec::bytes::Written;
 use codec::refusals::Refusal;
 ghost use mathlib.Core.Path.{_≡_};
 ghost use mathlib.Core.Bool.{cond};
-ghost use Prim.Native.Nat.{_+_, _≤_};
+ghost use Prim.Native.Nat.{ℕ, _+_, _-_, _≤_};
 ghost use lib.ListN.{length, set};
 ghost use Rattle.codec.specs.Bytes.{putAt};
-ghost use Rattle.sessions.specs.Sweep.{goes, expiredIds, sweptAt, sweptRows, evictedOf, evictedOut, evictedRows};
+ghost use Rattle.sessions.specs.Sweep.{goes, expiredFrom, expiredIds, sweptAt, sweptRows, evictedOf, evictedOut, evictedRows};
 
 // Whether a live session has expired.
 fn goes(sessions: &[SessionRow], id: u8, time: u64, timeout_ms: u64) -> bool
@@ -24,22 +24,75 @@ fn goes(sessions: &[SessionRow], id: u8, time: u64, timeout_ms: u64) -> bool
     s.is_expired(time, timeout_ms)
 }
 
-fn flag(b: bool) -> usize
-    ensures { λ r. ⌜ (r ≡ cond b 1 0) × (r ≤ 1) ⌝ }
+// The same as a number, to be summed.
+fn one(sessions: &[SessionRow], id: u8, time: u64, timeout_ms: u64) -> usize
+    ensures { λ r. ⌜ (r ≡ cond (goes (now (sessions .entry)) time «timeout_ms» id) 1 0) × (r ≤ 1) ⌝ }
 {
-    if b { 1 } else { 0 }
+    if goes(sessions, id, time, timeout_ms) {
+        1
+    } else {
+        0
+    }
 }
 
-fn count_expired(sessions: &[SessionRow], time: u64, timeout_ms: u64) -> usize
-    ensures { λ r. ⌜ r ≡ length (expiredIds (now (sessions .entry)) time «timeout_ms») ⌝ }
+// The marks of five ids in one number: where it is 0, none of them is live, and none goes.
+fn marks(sessions: &[SessionRow], id: u8) -> u64
+    requires { ⌜ id ≤ 251 ⌝ }
+    ensures { λ r. ⌜ ((time timeout : ℕ) → r ≡ 0 → length (expiredFrom (goes (now (sessions .entry)) time timeout) id 5) ≡ 0) ⌝ }
 {
-    let mut id: u8 = 255;
-    let mut n: usize = 0;
-    while 0 < id {
-        n += flag(goes(sessions, id, time, timeout_ms));
-        id -= 1;
+    let a = session_at(sessions, id).live;
+    let b = session_at(sessions, id + 1).live;
+    let c = session_at(sessions, id + 2).live;
+    let d = session_at(sessions, id + 3).live;
+    let e = session_at(sessions, id + 4).live;
+    a | b | c | d | e
+}
+
+// How many of five go. Most ids are free, so that one test often passes over five.
+fn count_five(sessions: &[SessionRow], id: u8, time: u64, timeout_ms: u64) -> usize
+    requires { ⌜ id ≤ 251 ⌝ }
+    ensures { λ r. ⌜ (r ≡ length (expiredFrom (goes (now (sessions .entry)) time «timeout_ms») id 5)) × (r ≤ 5) ⌝ }
+{
+    if marks(sessions, id) == 0 {
+        return 0;
     }
-    n
+    let a = one(sessions, id, time, timeout_ms);
+    let b = one(sessions, id + 1, time, timeout_ms);
+    let c = one(sessions, id + 2, time, timeout_ms);
+    let d = one(sessions, id + 3, time, timeout_ms);
+    let e = one(sessions, id + 4, time, timeout_ms);
+    a + b + c + d + e
+}
+
+// How many sessions go; none of them has an id below `first`.
+struct Gone {
+    n: usize,
+    first: usize,
+}
+
+// With five more ids in front: where none of them goes, the first stays where it was.
+fn first_of(none: bool, id: usize, first: usize) -> usize
+    ensures { λ r. ⌜ r ≡ cond none first id ⌝ }
+{
+    if none { first } else { id }
+}
+
+// The ids are 1 to 255: 51 times five, the last ones first.
+fn count_expired(sessions: &[SessionRow], time: u64, timeout_ms: u64) -> Gone
+    ensures { λ r. ⌜ (r .n ≡ length (expiredIds (now (sessions .entry)) time «timeout_ms»))
+        × (1 ≤ r .first) × (r .first ≤ 256) × (length (expiredFrom (goes (now (sessions .entry)) time «timeout_ms») 1 (r .first - 1)) ≡ 0) ⌝ }
+{
+    let mut k: u8 = 51;
+    let mut n: usize = 0;
+    let mut first: usize = SESSIONS;
+    while 0 < k {
+        k -= 1;
+        let id = 5 * k + 1;
+        let c = count_five(sessions, id, time, timeout_ms);
+        n += c;
+        first = first_of(c == 0, id as usize, first);
+    }
+    Gone { n, first }
 }
 
 // An id joins the list; past the output's end nothing is written.
@@ -75,14 +128,23 @@ fn sweep_one(
     }
 }
 
-fn sweep(sessions: &mut [SessionRow], out: &mut [u8], time: u64, timeout_ms: u64)
-    requires { ⌜ length (expiredIds (now sessions) time «timeout_ms») ≤ length (now out) ⌝ }
+// `n` sessions go, none of them with an id below `first`; once the last of them has ended, no further id is looked at.
+fn sweep(
+    sessions: &mut [SessionRow],
+    out: &mut [u8],
+    time: u64,
+    timeout_ms: u64,
+    n: usize,
+    first: usize,
+)
+    requires { ⌜ (n ≡ length (expiredIds (now sessions) time «timeout_ms»)) × (n ≤ length (now out))
+        × (1 ≤ first) × (first ≤ 256) × (length (expiredFrom (goes (now sessions) time «timeout_ms») 1 (first - 1)) ≡ 0) ⌝ }
     ensures { λ _. ⌜ (now (sessions .exit) ≡ sweptRows (now (sessions .entry)) time «timeout_ms»)
         × (now (out .exit) ≡ putAt (now (out .entry)) 0 (expiredIds (now (sessions .entry)) time «timeout_ms»)) ⌝ }
 {
-    let mut i: usize = 1;
+    let mut i = first;
     let mut at: usize = 0;
-    while i < SESSIONS {
+    while at < n {
         at = sweep_one(sessions, out, i as u8, at, time, timeout_ms);
         i += 1;
     }
@@ -102,10 +164,10 @@ pub fn evict_expired(
     if sessions.len() < SESSIONS {
         return Written::Refused(Refusal::OverLimit);
     }
-    let n = count_expired(sessions, time, timeout_ms);
-    if out.len() < n {
+    let gone = count_expired(sessions, time, timeout_ms);
+    if out.len() < gone.n {
         return Written::Refused(Refusal::OutputTooShort);
     }
-    sweep(sessions, out, time, timeout_ms);
-    Written::Bytes(n)
+    sweep(sessions, out, time, timeout_ms, gone.n, gone.first);
+    Written::Bytes(gone.n)
 }

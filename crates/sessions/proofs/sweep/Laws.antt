@@ -1,10 +1,14 @@
--- One step of a sweep.
+-- What goes, counted; one step of a sweep.
 use Prim.Native.Nat.{ℕ, zero, suc, _+_, _-_, _<_, _≤_}
 use mathlib.Core.Path.{_≡_, refl, sym, ap, _∙_}
 use mathlib.Core.Bool.{Bool, true, false, cond}
 use mathlib.Core.List.{List, [], _∷_}
+use native.Mathlib.Numerals.{add-one}
 use native.Mathlib.Omega.{arith}
+use native.Mathlib.Decide.{decLe}
 use borrow.Author.Tests.{lt-leb, le-leb, lt-ltb, le-ltb, eq-eqb, ne-eqb}
+use lib.Dec.{eqb}
+use lib.Bits.{bitOr, or-add-and, and-le-l, and-le-r}
 use lib.ListN.{getD, set, length}
 use lib.Seq.{sets, getD-set-other}
 use Rattle.codec.specs.Bytes.{putAt}
@@ -14,6 +18,57 @@ use Rattle.codec.specs.declared.refusals.Refusal.the-variants.{OutputTooShort, 
 use Rattle.sessions.specs.Table.{sessionAt, isFree, rowOf, endedSession, expiredOf}
 use Rattle.sessions.specs.declared.table.ClientSession.{ClientSession}
 use Rattle.sessions.specs.Sweep.{goes, expiredFrom, sweptAt, sweptFrom, expiredIds, sweptRows, evictedOf, evictedRows, evictedOut}
+
+-- a list of no length is empty, and nothing is stored of it
+empty : (l : List ℕ) → length l ≡ 0 → l ≡ []
+empty [] h = refl
+empty (x ∷ l) h = absurd (omega arith)
+
+pub stores-none : (out : List ℕ) (at : ℕ) (ids : List ℕ) → length ids ≡ 0 → out ≡ sets out at ids
+stores-none out at ids h = rw (empty ids h) refl
+
+-- what a test counts, for any test
+module _ (gone : ℕ → Bool) where
+  -- with one id more in front
+  count-step : (i j m n : ℕ) → j ≡ suc i → m ≡ suc n → length (expiredFrom gone i m) ≡ cond (gone i) 1 0 + length (expiredFrom gone j n)
+  unfolding expiredFrom
+  count-step i j m n d e = rw (d, e) (by (gone i) (expiredFrom gone (suc i) n))
+    where
+      by : (b : Bool) (ids : List ℕ) → length (cond b (i ∷ ids) ids) ≡ cond b 1 0 + length ids
+      by true ids = omega arith
+      by false ids = omega arith
+
+  -- with five more in front
+  pub count-more : (i j m n : ℕ) → j ≡ i + 5 → m ≡ 5 + n
+      → length (expiredFrom gone i m)
+      ≡ cond (gone i) 1 0 + cond (gone (i + 1)) 1 0 + cond (gone (i + 2)) 1 0 + cond (gone (i + 3)) 1 0 + cond (gone (i + 4)) 1 0 + length (expiredFrom gone j n)
+  count-more i j m n d e =
+      let one = count-step i (i + 1) m (4 + n) (omega arith) (omega arith) in
+      let two = count-step (i + 1) (i + 2) (4 + n) (3 + n) (omega arith) (omega arith) in
+      let three = count-step (i + 2) (i + 3) (3 + n) (2 + n) (omega arith) (omega arith) in
+      let four = count-step (i + 3) (i + 4) (2 + n) (1 + n) (omega arith) (omega arith) in
+      omega (arith, one, two, three, four, count-step (i + 4) j (1 + n) n (omega arith) (omega arith))
+
+  pub count-none : (i n : ℕ) → n ≡ 0 → length (expiredFrom gone i n) ≡ 0
+  unfolding expiredFrom
+  count-none i n e = rw e refl
+
+  -- where the first that goes may stand, with five more in front
+  pub first-turn : (i j first c : ℕ) → j ≡ i + 5 → j ≤ first → c ≡ length (expiredFrom gone i 5) → length (expiredFrom gone j (first - j)) ≡ 0
+      → (i ≤ cond (eqb c 0) first i) × (cond (eqb c 0) first i ≤ first) × (length (expiredFrom gone i (cond (eqb c 0) first i - i)) ≡ 0)
+  first-turn i j first c d l e h =
+      elim (decLe c 0) [
+        | yes z ↦
+            let five = count-more i j 5 0 d refl in
+            let all = count-more i j (first - i) (first - j) d (omega arith) in
+            rw (eq-eqb c 0 (omega arith)) (omega arith, omega arith, omega (arith, five, all, count-none j 0 refl))
+        | no z ↦ rw (ne-eqb c 0 (λ w. omega arith)) (omega arith, omega arith, count-none i (i - i) (omega arith))
+      ]
+
+  pub count-some : (i n : ℕ) → 0 < length (expiredFrom gone i n) → 0 < n
+  unfolding expiredFrom
+  count-some i zero h = h
+  count-some i (suc n) h = omega arith
 
 module _ (time timeout : ℕ) where
   -- what goes at other ids does not change with a row
@@ -36,26 +91,6 @@ module _ (time timeout : ℕ) where
       go false = refl
 
   module _ (rows : List (List ℕ)) where
-    pub count-none : (i : ℕ) → 0 ≡ length (expiredFrom (goes rows time timeout) i 0)
-    unfolding expiredFrom
-    count-none i = refl
-
-    pub count-more : (i : ℕ) → 0 < i → i ≤ 255
-        → length (expiredFrom (goes rows time timeout) (i - 1 + 1) (255 - (i - 1))) ≡ cond (goes rows time timeout i) 1 0 + length (expiredFrom (goes rows time timeout) (i + 1) (255 - i))
-    unfolding expiredFrom
-    count-more i h l = go (i - 1 + 1) (255 - (i - 1)) (255 - i) (i + 1) (omega arith) (omega arith) (omega arith)
-      where
-        by : (b : Bool) (ids : List ℕ) → length (cond b (i ∷ ids) ids) ≡ cond b 1 0 + length ids
-        by true ids = omega arith
-        by false ids = omega arith
-
-        go : (j m n k : ℕ) → j ≡ i → m ≡ suc n → k ≡ suc i → length (expiredFrom (goes rows time timeout) j m) ≡ cond (goes rows time timeout i) 1 0 + length (expiredFrom (goes rows time timeout) k n)
-        go j m n k d e f = rw (d, e, f) (by (goes rows time timeout i) (expiredFrom (goes rows time timeout) (suc i) n))
-
-    pub count-all : (i : ℕ) → i ≡ 0 → length (expiredFrom (goes rows time timeout) (i + 1) (255 - i)) ≡ length (expiredIds rows time timeout)
-    unfolding expiredIds
-    count-all i e = rw e refl
-
     swept-step : (i : ℕ) → i < 256
         → sweptFrom (sweptAt rows time timeout i) time timeout (i + 1) (256 - (i + 1)) ≡ sweptFrom rows time timeout i (256 - i)
     unfolding sweptFrom
@@ -93,6 +128,15 @@ module _ (time timeout : ℕ) where
       pub listed-turn : sets out′ at′ (expiredFrom (goes rows′ time timeout) (i + 1) (256 - (i + 1))) ≡ sets out at (expiredFrom (goes rows time timeout) i (256 - i))
       listed-turn = rw (a, r, o) (listed-step out i at i<)
 
+      -- what is listed and what is left come to the same number
+      pub left-turn : at′ + length (expiredFrom (goes rows′ time timeout) (i + 1) (256 - (i + 1))) ≡ at + length (expiredFrom (goes rows time timeout) i (256 - i))
+      left-turn = rw (a, r, add-one i, expired-swept rows i (256 - suc i))
+          (omega (arith, more (goes rows time timeout i), count-step (goes rows time timeout) i (suc i) (256 - i) (256 - suc i) refl (omega arith)))
+        where
+          more : (b : Bool) → cond b (at + 1) at ≡ at + cond b 1 0
+          more true = refl
+          more false = omega arith
+
       pub at-turn : at < i → at′ < i + 1
       at-turn h = rw a (go (goes rows time timeout i))
         where
@@ -100,13 +144,32 @@ module _ (time timeout : ℕ) where
           go true = omega arith
           go false = omega arith
 
-    pub swept-end : (i : ℕ) → i ≡ 256 → rows ≡ sweptFrom rows time timeout i (256 - i)
-    unfolding sweptFrom
-    swept-end i e = rw e refl
+    -- ids of which none goes may be passed over
+    pub none-passed : (i j m n k : ℕ) → j ≡ i + m → k ≡ m + n → length (expiredFrom (goes rows time timeout) i m) ≡ 0
+        → (expiredFrom (goes rows time timeout) j n ≡ expiredFrom (goes rows time timeout) i k) × (sweptFrom rows time timeout j n ≡ sweptFrom rows time timeout i k)
+    unfolding expiredFrom sweptFrom sweptAt
+    none-passed i j zero n k d e h =
+        let d′ : j ≡ i = omega arith in
+        let e′ : k ≡ n = omega arith in
+        rw (d′, e′) (refl, refl)
+    none-passed i j (suc m) n k d e h =
+        let e′ : k ≡ suc (m + n) = omega arith in
+        rw e′ (go (expiredFrom (goes rows time timeout) (suc i) m) (expiredFrom (goes rows time timeout) (suc i) (m + n)) (none-passed (suc i) j m n (m + n) (omega arith) refl) (goes rows time timeout i) h)
+      where
+        go : (ids more : List ℕ) → (length ids ≡ 0 → (expiredFrom (goes rows time timeout) j n ≡ more) × (sweptFrom rows time timeout j n ≡ sweptFrom rows time timeout (suc i) (m + n)))
+            → (b : Bool) → length (cond b (i ∷ ids) ids) ≡ 0
+            → (expiredFrom (goes rows time timeout) j n ≡ cond b (i ∷ more) more) × (sweptFrom rows time timeout j n ≡ sweptFrom (cond b (set rows i (rowOf endedSession)) rows) time timeout (suc i) (m + n))
+        go ids more rest true z = absurd (omega arith)
+        go ids more rest false z = rest z
 
-    pub listed-end : (out : List ℕ) (i at : ℕ) → i ≡ 256 → out ≡ sets out at (expiredFrom (goes rows time timeout) i (256 - i))
-    unfolding expiredFrom
-    listed-end out i at e = rw e refl
+    pub swept-end : (i n : ℕ) → length (expiredFrom (goes rows time timeout) i n) ≡ 0 → rows ≡ sweptFrom rows time timeout i n
+    unfolding sweptFrom
+    swept-end i n h = none-passed i (i + n) n 0 n refl (omega arith) h .1
+
+    pub first-passed : (first : ℕ) → 1 ≤ first → first ≤ 256 → length (expiredFrom (goes rows time timeout) 1 (first - 1)) ≡ 0
+        → (expiredFrom (goes rows time timeout) first (256 - first) ≡ expiredIds rows time timeout) × (sweptFrom rows time timeout first (256 - first) ≡ sweptRows rows time timeout)
+    unfolding expiredIds sweptRows
+    first-passed first l u h = none-passed 1 first (first - 1) (256 - first) 255 (omega arith) (omega arith) h
 
     -- every id written in its place is one write
     pub listed-all : (out : List ℕ) → length (expiredIds rows time timeout) ≤ length out
@@ -121,6 +184,34 @@ module _ (rows : List (List ℕ)) (time timeout id : ℕ) (s : ClientSession) (e
   pub goes-live : (s .live ≡ 0 → ⊥) → expiredOf s time timeout ≡ goes rows time timeout id
   unfolding goes
   goes-live h = rw (ne-eqb (sessionAt rows id .live) 0 (λ z. h (ap (λ (t : ClientSession). t .live) e ∙ z))) (ap (λ (t : ClientSession). expiredOf t time timeout) e)
+
+-- numbers that have no bit together are 0 each
+or-none : (a b : ℕ) → bitOr a b ≡ 0 → (a ≡ 0) × (b ≡ 0)
+or-none a b h = (omega (arith, or-add-and a b, and-le-r a b), omega (arith, or-add-and a b, and-le-l a b))
+
+module _ (rows : List (List ℕ)) (time timeout : ℕ) where
+  free-none : (i : ℕ) (s : ClientSession) → s ≡ sessionAt rows i → s .live ≡ 0 → _≡_ {A = ℕ} (cond (goes rows time timeout i) 1 0) 0
+  free-none i s e h = rw (sym (goes-free rows time timeout i s e h)) refl
+
+  -- five ids whose marks are 0 together
+  pub marks-none : (i : ℕ) (a b c d e : ClientSession)
+      → a ≡ sessionAt rows i → b ≡ sessionAt rows (i + 1) → c ≡ sessionAt rows (i + 2) → d ≡ sessionAt rows (i + 3) → e ≡ sessionAt rows (i + 4)
+      → bitOr (bitOr (bitOr (bitOr (a .live) (b .live)) (c .live)) (d .live)) (e .live) ≡ 0 → length (expiredFrom (goes rows time timeout) i 5) ≡ 0
+  marks-none i a b c d e p q r s t h =
+      let abcd = or-none (bitOr (bitOr (bitOr (a .live) (b .live)) (c .live)) (d .live)) (e .live) h in
+      let abc = or-none (bitOr (bitOr (a .live) (b .live)) (c .live)) (d .live) (abcd .0) in
+      let ab = or-none (bitOr (a .live) (b .live)) (c .live) (abc .0) in
+      let a-b = or-none (a .live) (b .live) (ab .0) in
+      omega (
+        arith,
+        count-more (goes rows time timeout) i (i + 5) 5 0 refl refl,
+        count-none (goes rows time timeout) (i + 5) 0 refl,
+        free-none i a p (a-b .0),
+        free-none (i + 1) b q (a-b .1),
+        free-none (i + 2) c r (ab .1),
+        free-none (i + 3) d s (abc .1),
+        free-none (i + 4) e t (abcd .1),
+      )
 
 -- ---- what a sweep comes to
 

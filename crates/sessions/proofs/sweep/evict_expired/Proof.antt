@@ -17,8 +17,8 @@ same-length : tie.Need-same-length
 same-length c = search needs
 
 returns-2 : tie.Need-returns-2
-returns-2 c = let a = c .before .before .before .before .before .args in
-    evict-full (a .sessions .now) (a .time) (a .timeout-ms) (a .out .now) (c .before .before .before .if1 .left) (omega (arith, c .before .count-expired .ensures))
+returns-2 c = let a = c .before .before .before .before .before .before .args in
+    evict-full (a .sessions .now) (a .time) (a .timeout-ms) (a .out .now) (c .before .before .before .before .if1 .left) (omega (arith, c .before .before .count-expired .ensures .0))
 
 sweep-requires : tie.Need-sweep-requires
 sweep-requires c κs = search needs
@@ -30,11 +30,10 @@ same-length-3 : tie.Need-same-length-3
 same-length-3 c = search needs
 
 returns-3 : tie.Need-returns-3
-returns-3 c = let a = c .before .before .before .before .before .before .before .before .before .before .before .args in
-    let n = c .before .before .before .before .before .before .before .count-expired .ensures in
+returns-3 c = let a = c .before .before .before .before .before .before .before .before .before .before .before .before .args in
+    let n = c .before .before .before .before .before .before .before .before .count-expired .ensures .0 in
     let w = c .before .before .before .sweep .ensures in
-    let d = evict-done (a .sessions .now) (a .time) (a .timeout-ms) (a .out .now) (c .before .before .before .before .before .before .before .before .before .if1 .left)
-    (omega (arith, n, c .before .before .before .before .before .before .if2 .left)) in
+    let d = evict-done (a .sessions .now) (a .time) (a .timeout-ms) (a .out .now) (c .before .before .before .before .before .before .before .before .before .before .if1 .left) (omega (arith, n, c .before .before .before .before .before .before .if2 .left)) in
     (rw n (d .0), w .0 ∙ d .1, w .1 ∙ d .2)
 
 pub evict-expired-spec : {M : Type 1} → statement M
