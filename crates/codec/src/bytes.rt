@@ -51,6 +51,54 @@ pub(crate) fn copy_in(out: &mut [u8], at: usize, src: &[u8])
     }
 }
 
+// The lengths of the pieces of a long copy.
+const LARGE: usize = 8192;
+
+const SMALL: usize = 512;
+
+// A piece of these lengths goes through a local array, which no slice can overlap: the compiler makes of it one call of the C library's
+// copy, and the array goes away. Where the two places are not aligned alike, that is faster than the loop.
+fn copy_piece(out: &mut [u8], at: usize, piece: &[u8])
+    requires { ⌜ at + length (now piece) ≤ length (now out) ⌝ }
+    ensures { λ _. ⌜ now (out .exit) ≡ putAt (now (out .entry)) at (now (piece .entry)) ⌝ }
+{
+    if piece.len() == LARGE {
+        let mut held = [0u8; LARGE];
+        copy_in(&mut held, 0, piece);
+        copy_in(out, at, &held);
+        return;
+    }
+    if piece.len() == SMALL {
+        let mut held = [0u8; SMALL];
+        copy_in(&mut held, 0, piece);
+        copy_in(out, at, &held);
+        return;
+    }
+    copy_in(out, at, piece);
+}
+
+// The next piece, where `left` bytes are left.
+fn piece_len(left: usize) -> usize
+    requires { ⌜ 512 ≤ left ⌝ }
+    ensures { λ r. ⌜ (512 ≤ r) × (r ≤ left) ⌝ }
+{
+    if left < LARGE { SMALL } else { LARGE }
+}
+
+// The same as `copy_in`, for what may be long: in pieces, and what is left by the loop.
+pub(crate) fn copy_long(out: &mut [u8], at: usize, src: &[u8])
+    requires { ⌜ at + length (now src) ≤ length (now out) ⌝ }
+    ensures { λ _. ⌜ now (out .exit) ≡ putAt (now (out .entry)) at (now (src .entry)) ⌝ }
+{
+    let mut from: usize = 0;
+    while SMALL <= src.len() - from {
+        let end = from + piece_len(src.len() - from);
+        copy_piece(out, at + from, &src[from..end]);
+        from = end;
+    }
+    copy_in(out, at + from, &src[from..]);
+}
+
 // Whether `n` bytes from `at` on lie within `room` bytes.
 pub(crate) fn fits(room: usize, at: usize, n: usize) -> bool
     ensures { λ r. ⌜ r ≡ leb (at + n) room ⌝ }

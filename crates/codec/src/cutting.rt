@@ -1,6 +1,6 @@
 // Cutting a payload into fragments: number, total, body.
 use crate::bytes::Written;
-use crate::bytes::copy_in;
+use crate::bytes::copy_long;
 use crate::bytes::put_two;
 use crate::bytes::word_at;
 use crate::refusals::Refusal;
@@ -65,7 +65,7 @@ impl FragmentHeader {
             return Written::Refused(Refusal::OutputTooShort);
         }
         put_two(out, 0, self.fragment_nr, self.total_fragments);
-        copy_in(out, 4, body);
+        copy_long(out, 4, body);
         Written::Bytes(4 + body.len())
     }
 }

@@ -6,8 +6,8 @@ use native.Mathlib.Numerals.{add-one}
 use native.Mathlib.Nat.{not-suc-le-zero, le-of-suc-le-suc}
 use native.Mathlib.Omega.{arith}
 use native.Mathlib.Nat.{add-assoc, add-zero}
-use lib.ListN.{getD, length, take, drop, set, length-append, length-take, length-drop, take-append-drop}
-use lib.Seq.{sets, sets-eq, paste, take-length, length-take-le, take-at, drop-append-add, drop-drop}
+use lib.ListN.{getD, length, take, drop, set, length-append, length-take, length-drop, take-append-drop, replicate, length-replicate, drop-of-length-le}
+use lib.Seq.{sets, sets-eq, paste, take-length, length-take-le, take-add, take-at, drop-append-add, drop-drop}
 use mathlib.Core.Bool.{Bool, true, false}
 use native.Mathlib.Decide.{decLe}
 use lib.Dec.{leb}
@@ -66,6 +66,23 @@ put-behind out at x y h =
 pub put-nothing : (out : List ℕ) (at : ℕ) → putAt out at [] ≡ out
 unfolding putAt
 put-nothing out at = rw (append-nil (take at out), add-zero at) (take-append-drop at out)
+
+-- a write over the whole of a new array
+pub put-over : (n : ℕ) (bytes : List ℕ) → length bytes ≡ n → putAt (replicate n 0) 0 bytes ≡ bytes
+unfolding putAt
+put-over n bytes e =
+    let new : List ℕ = replicate n 0 in
+    let l : length new ≡ n = length-replicate n 0 in
+    let none : drop (0 + length bytes) new ≡ [] = drop-of-length-le new {i = 0 + length bytes} (omega arith) in
+    rw (none, append-nil bytes) refl
+
+-- a write that has come to `from`, and goes on to `end`
+pub put-on : (out : List ℕ) (at : ℕ) (src : List ℕ) (from end : ℕ) → at ≤ length out → from ≤ end → end ≤ length src
+    → putAt (putAt out at (take from src)) (at + from) (take (end - from) (drop from src)) ≡ putAt out at (take end src)
+put-on out at src from end h l k =
+    let n : from + (end - from) ≡ end = omega arith in
+    let t : length (take from src) ≡ from = length-take-le from src (omega arith) in
+    (rw t at (put-behind out at (take from src) (take (end - from) (drop from src)) h)) ∙ ap (putAt out at) (rw n at (sym (take-add from (end - from) src)))
 
 -- a write that fits leaves the output as long as it was
 pub length-put : (out : List ℕ) (at : ℕ) (x : List ℕ) → at + length x ≤ length out → length (putAt out at x) ≡ length out

@@ -20,8 +20,8 @@ returns-2 c = put-short _ 0 _ (rw length-fragment (omega arith))
 put-two-requires : tie.Need-put-two-requires
 put-two-requires c κs = search needs
 
-copy-in-requires : tie.Need-copy-in-requires
-copy-in-requires c κs = search needs
+copy-long-requires : tie.Need-copy-long-requires
+copy-long-requires c κs = search needs
 
 add-t7 : tie.Need-add-t7
 add-t7 c = search needs
@@ -34,9 +34,9 @@ returns-3 c =
     let a = c .before .before .before .before .before .before .before .before .before .before .before .before .args in
     let n = length-fragment (a .self .«fragment_nr») (a .self .«total_fragments») (a .body .now) in
     let f = put-fits (a .out .now) 0 (fragmentBytes (a .self .«fragment_nr») (a .self .«total_fragments») (a .body .now)) (omega arith) in
-    (rw n at (f .0), c .before .before .copy-in .ensures ∙ (rw (c .before .before .before .before .before .before .put-two .ensures) (put-body _ _ _ _) ∙ f .1))
+    (rw n at (f .0), c .before .before .copy-long .ensures ∙ (rw (c .before .before .before .before .before .before .put-two .ensures) (put-body _ _ _ _) ∙ f .1))
 
 pub put-with-spec : {M : Type 1} → statement M
 put-with-spec =
     tie.close
-    (tie.spec returns sub-if2 returns-2 put-two-requires copy-in-requires add-t7 same-length returns-3)
+    (tie.spec returns sub-if2 returns-2 put-two-requires copy-long-requires add-t7 same-length returns-3)
