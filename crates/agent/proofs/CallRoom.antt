@@ -13,7 +13,7 @@ use Rattle.codec.specs.declared.submessages.Submessage.the-variants as sub
 use Rattle.isolation.specs.Rules.{done, calls, Sub, opens, names}
 use Rattle.sessions.specs.View.{Entry, Local, findIn}
 use Rattle.agent.specs.Local.{touched, full, dropping, handleAt, handleOfKind}
-use Rattle.agent.specs.Calls.{Call, createTopic, createWriter, createReader, writeData, readData, deleteEntity, Task, creating, writing, reading, deleting}
+use Rattle.moves.specs.Calls.{Call, createTopic, createWriter, createReader, writeData, readData, deleteEntity, Task, creating, writing, reading, deleting}
 use Rattle.agent.specs.RulesObjects.{Move, says, asks, ifHandle, namesOf, createFor, deleteFound}
 use Rattle.agent.specs.Rules.{Opening, In, onSubmessage, handle}
 use Rattle.agent.specs.Step.{Tables, Open, chosen, openAs, Ran, keep, act, deliver, run}

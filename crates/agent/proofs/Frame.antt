@@ -6,7 +6,6 @@ use mathlib.Core.List.{List, [], _∷_, _++_}
 use native.Mathlib.Omega.{arith}
 use native.Mathlib.Nat.{zero-add, suc-add}
 use borrow.Author.Tests.{ltb-true, ltb-false, leb-false, eqb-false}
-use borrow.Rule.Slice.PartMut.{midOf, putMid}
 use lib.Dec.{eqb, leb, ltb}
 use lib.ListN.{length, set, take, drop, replicate, take-append-drop}
 use Rattle.codec.specs.Reading.{readAt}
@@ -14,13 +13,10 @@ use Rattle.codec.specs.declared.layouts.Parsed.{Parsed}
 use Rattle.codec.specs.declared.layouts.Parsed.the-variants as parsed
 use Rattle.codec.specs.declared.layouts.Span.{Span}
 use Rattle.codec.specs.declared.refusals.Refusal.the-variants.{OverLimit, SessionFull}
-use Rattle.codec.specs.declared.submessages.CreatePayload.{CreatePayload}
 use Rattle.codec.specs.declared.submessages.AcknackPayload.{AcknackPayload}
 use Rattle.codec.specs.declared.submessages.ObjectKind.{ObjectKind}
 use Rattle.codec.specs.declared.submessages.ObjectKind.the-variants.{Participant, Topic, Publisher, Subscriber, DataWriter, DataReader}
 use Rattle.codec.specs.declared.submessages.ObjectNumber.{ObjectNumber}
-use Rattle.codec.specs.declared.submessages.Submessage.{Submessage}
-use Rattle.codec.specs.declared.submessages.Submessage.the-variants as sub
 use Rattle.streams.specs.Places.{firstFrom}
 use Rattle.streams.specs.State.{newStream}
 use Rattle.streams.specs.declared.state.StreamState.{StreamState}
@@ -52,25 +48,27 @@ use Rattle.sessions.specs.declared.table.Got.the-variants as got
 use Rattle.sessions.specs.declared.table.Named.{Named}
 use Rattle.sessions.specs.declared.table.Named.the-variants as named
 use Rattle.sessions.proofs.table.Laws.{live-fits}
-use Rattle.agent.specs.Rows.{createdSessions, createdObjects, roomSessions, roomObjects, groupOf, createIn, numberIn, handledIn, handledTables}
-use Rattle.agent.specs.RowsStreams.{openedSessions, openedRows, readOf, acknowledgedRows, streamRows}
+use Rattle.moves.specs.Rows.{createdSessions, createdObjects, roomSessions, roomObjects, handledIn, handledTables}
+use Rattle.moves.specs.RowsStreams.{openedSessions, openedRows, readOf, acknowledgedRows, streamRows}
 use Rattle.agent.specs.Step.{Reply, opened, joinedReplies}
-use Rattle.agent.specs.Run.{putReplies, Turned, pointerOf, greeted, idOpened, opening, touchedTables, delivered, openingRead, messageRead, bodyRead, endRead, keyIn, subTurned, turnedBy, turned, goesOn, before, runIn, runAt}
-use Rattle.agent.specs.Answered.{keepsOf, answeredSessions, answeredObjects}
+use Rattle.agent.specs.Run.{Turned, pointerOf, greeted, idOpened, opening, touchedTables, delivered, takenOf, subTurned, turnedBy, turned, goesOn, before, runIn, runAt}
+use Rattle.moves.specs.Answers.{keepsOf}
+use Rattle.agent.specs.Answered.{answeredSessions, answeredObjects}
 use Rattle.agent.specs.Host.{begunBy, begunSessions, begunObjects, begunTables, firstRan, performed}
 use Rattle.agent.specs.Dry.{sessionCopy, sessionBack, noSession, streamCopy, streamBack, noStream, same, sessionSpot, streamSpot, objectSpot, copied, restored}
-use Rattle.agent.specs.declared.answers.Keeps.{Keeps}
-use Rattle.agent.specs.declared.answers.Keeps.the-variants as keeps
-use Rattle.agent.specs.declared.clients.Opening.{Opening}
-use Rattle.agent.specs.declared.clients.Opening.the-variants.{Client, Other, Unread}
+use Rattle.moves.specs.declared.answers.Keeps.{Keeps}
+use Rattle.moves.specs.declared.answers.Keeps.the-variants as keeps
+use Rattle.moves.specs.declared.handle.Opening.{Opening}
+use Rattle.moves.specs.declared.handle.Opening.the-variants.{Client, Other, Unread}
 use Rattle.agent.specs.declared.judge.Resumes.{Resumes}
 use Rattle.agent.specs.declared.judge.Resumes.the-variants as resumes
 use Rattle.agent.specs.declared.judge.Start.{Start}
 use Rattle.agent.specs.declared.turn.Frame.{Frame}
-use Rattle.agent.specs.declared.turn.Group.{Group}
-use Rattle.agent.specs.declared.turn.Group.the-variants.{Creates, Deletes, Writes, Reads, Streams, Neither}
+use Rattle.moves.specs.declared.handle.Asked.{Asked}
+use Rattle.moves.specs.declared.handle.Group.{Group}
+use Rattle.moves.specs.declared.handle.Group.the-variants.{Creates, Deletes, Writes, Reads, Streams, Neither}
 use Rattle.agent.specs.declared.turn.Ran.{Ran}
-use Rattle.agent.proofs.Running.{empty-output}
+use Rattle.agent.specs.declared.turn.Taken.{Taken}
 use Rattle.agent.proofs.Back.{spot-first, spot-own, KeptBut, kept-same, kept-then, kept-set, copies-long, put-back}
 
 -- ---- one store
@@ -324,17 +322,17 @@ module _ (id : ℕ) (below : id < 256) where
   created-objects DataWriter s o n = records-same id o
   created-objects DataReader s o n = records-same id o
 
-  room-sessions : (r : Room) (s : List (List ℕ)) (o : List Object) (p : CreatePayload) → Rows s (roomSessions r s o id p)
-  room-sessions room.Free s o p = created-sessions (p .kind) s o (p .«object_id»)
-  room-sessions room.Full s o p = rows-same s
-  room-sessions room.NotLive s o p = rows-same s
-  room-sessions (room.Refused x) s o p = rows-same s
+  room-sessions : (r : Room) (s : List (List ℕ)) (o : List Object) (n : ObjectNumber) (k : ObjectKind) → Rows s (roomSessions r s o id n k)
+  room-sessions room.Free s o n k = created-sessions k s o n
+  room-sessions room.Full s o n k = rows-same s
+  room-sessions room.NotLive s o n k = rows-same s
+  room-sessions (room.Refused x) s o n k = rows-same s
 
-  room-objects : (r : Room) (s : List (List ℕ)) (o : List Object) (p : CreatePayload) → RecordsOf id o (roomObjects r s o id p)
-  room-objects room.Free s o p = created-objects (p .kind) s o (p .«object_id»)
-  room-objects room.Full s o p = records-same id o
-  room-objects room.NotLive s o p = records-same id o
-  room-objects (room.Refused x) s o p = records-same id o
+  room-objects : (r : Room) (s : List (List ℕ)) (o : List Object) (n : ObjectNumber) (k : ObjectKind) → RecordsOf id o (roomObjects r s o id n k)
+  room-objects room.Free s o n k = created-objects k s o n
+  room-objects room.Full s o n k = records-same id o
+  room-objects room.NotLive s o n k = records-same id o
+  room-objects (room.Refused x) s o n k = records-same id o
 
   acknowledged-kept : (s x : List (List ℕ)) (a : StreamNamed) (state : StreamState) (p : AcknackPayload) → RowsOf id x (acknowledgedRows s x id a state p)
   acknowledged-kept s x named-stream.Open state p = written-rows s x id _ _
@@ -342,42 +340,35 @@ module _ (id : ℕ) (below : id < 256) where
   acknowledged-kept s x named-stream.NotLive state p = streams-same id x
   acknowledged-kept s x (named-stream.Refused r) state p = streams-same id x
 
-  stream-rows : (m : Submessage) (s x : List (List ℕ)) (r : StreamRead) → RowsOf id x (streamRows m s x id r)
-  stream-rows (sub.Acknack p) s x r = acknowledged-kept s x (r .answer) (r .state) p
-  stream-rows (sub.Heartbeat p) s x r = streams-same id x
-  stream-rows (sub.CreateClient p) s x r = streams-same id x
-  stream-rows (sub.Create p) s x r = streams-same id x
-  stream-rows (sub.Delete p) s x r = streams-same id x
-  stream-rows (sub.Status p) s x r = streams-same id x
-  stream-rows (sub.WriteData p) s x r = streams-same id x
-  stream-rows (sub.ReadData p) s x r = streams-same id x
-  stream-rows (sub.Data p) s x r = streams-same id x
+  stream-rows : (hears : Bool) (first second : ℕ) (s x : List (List ℕ)) (r : StreamRead) → RowsOf id x (streamRows hears first second s x id r)
+  stream-rows true first second s x r = streams-same id x
+  stream-rows false first second s x r = acknowledged-kept s x (r .answer) (r .state) _
 
-  handled-kept : (g : Group) (m : Submessage) (t : Tables) (n : ℕ) → TablesKept id t (handledIn g m t id n)
-  handled-kept Creates m t n =
-      let room = roomOf (t .sessions) (t .objects) id (createIn m .«object_id») in
+  handled-kept : (g : Group) (q : Asked) (t : Tables) (n : ℕ) → TablesKept id t (handledIn g q t id n)
+  handled-kept Creates q t n =
+      let room = roomOf (t .sessions) (t .objects) id (q .number) in
       record {
-        sessions-kept = room-sessions room (t .sessions) (t .objects) (createIn m);
+        sessions-kept = room-sessions room (t .sessions) (t .objects) (q .number) (q .kind);
         streams-kept = streams-same id (t .streams);
-        objects-kept = room-objects room (t .sessions) (t .objects) (createIn m);
+        objects-kept = room-objects room (t .sessions) (t .objects) (q .number) (q .kind);
       }
-  handled-kept Deletes m t n = record {
-    sessions-kept = less-kept id below (t .sessions) (foundObject (t .sessions) (t .objects) id (numberIn m));
+  handled-kept Deletes q t n = record {
+    sessions-kept = less-kept id below (t .sessions) (foundObject (t .sessions) (t .objects) id (q .number));
     streams-kept = streams-same id (t .streams);
-    objects-kept = removed-kept (t .sessions) (t .objects) id (numberIn m);
+    objects-kept = removed-kept (t .sessions) (t .objects) id (q .number);
   }
-  handled-kept Writes m t n = same-tables id t
-  handled-kept Reads m t n = same-tables id t
-  handled-kept Streams m t n =
+  handled-kept Writes q t n = same-tables id t
+  handled-kept Reads q t n = same-tables id t
+  handled-kept Streams q t n =
       let s = openedSessions (t .sessions) (t .streams) id n in
       let x = openedRows (t .sessions) (t .streams) id n in
       let r = readOf s x id n in
       record {
         sessions-kept = open-sessions (t .sessions) (t .streams) id n below;
-        streams-kept = kept-then [] (streamSpot id) 264 (t .streams) x (streamRows m s x id r) (open-rows (t .sessions) (t .streams) id n) (stream-rows m s x r);
+        streams-kept = kept-then [] (streamSpot id) 264 (t .streams) x (streamRows (q .hears) (q .first) (q .second) s x id r) (open-rows (t .sessions) (t .streams) id n) (stream-rows (q .hears) (q .first) (q .second) s x r);
         objects-kept = records-same id (t .objects);
       }
-  handled-kept Neither m t n = same-tables id t
+  handled-kept Neither q t n = same-tables id t
 
   create-kept : (c : Created) (t : Tables) (key time : ℕ) → CreatedFits c → TablesKept id t (createTables c t key time)
   create-kept (created.Opened j next) t key time f = record {
@@ -410,20 +401,21 @@ module _ (f : Frame) (below : f .«session_id» < 256) where
   touched-tables : (t : Tables) → TablesKept named-id t (touchedTables f t)
   touched-tables t = record { sessions-kept = touched-kept named-id below (t .sessions) (f .time); streams-kept = streams-same named-id (t .streams); objects-kept = records-same named-id (t .objects) }
 
-  delivered-goes : (w : Named) (t : Tables) (d : List ℕ) (r : Ran) (m : Submessage) (body : Span) (at : ℕ) → r .next < 256 → Goes named-id t (delivered w f t d r m body at)
-  delivered-goes named.Live t d r m body at h =
+  delivered-goes : (w : Named) (t : Tables) (d : List ℕ) (r : Ran) (x : Taken) → r .next < 256 → Goes named-id t (delivered w f t d r x)
+  delivered-goes named.Live t d r x h =
       let u = touchedTables f t in
-      record { tables-kept = then-tables named-id t u (handledTables m u named-id (f .«stream_id»)) (touched-tables t) (handled-kept named-id below (groupOf m) m u (f .«stream_id»)); next-low = h }
-  delivered-goes named.NotLive t d r m body at h = record { tables-kept = touched-tables t; next-low = h }
-  delivered-goes (named.Refused x) t d r m body at h = record { tables-kept = touched-tables t; next-low = h }
+      let q = x .asked in
+      record { tables-kept = then-tables named-id t u (handledTables q u named-id (f .«stream_id»)) (touched-tables t) (handled-kept named-id below (q .group) q u (f .«stream_id»)); next-low = h }
+  delivered-goes named.NotLive t d r x h = record { tables-kept = touched-tables t; next-low = h }
+  delivered-goes (named.Refused y) t d r x h = record { tables-kept = touched-tables t; next-low = h }
 
-  sub-goes : (o : Opening) (t : Tables) (d : List ℕ) (r : Ran) (m : Submessage) (body : Span) (at : ℕ) → r .next < 256 → Goes named-id t (subTurned o f t d r m body at)
-  sub-goes Client t d r m body at h = opening-goes t r (keyIn m) at h
-  sub-goes Other t d r m body at h = delivered-goes (namedOf (t .sessions) named-id) t d r m body at h
-  sub-goes Unread t d r m body at h = record { tables-kept = same-tables named-id t; next-low = h }
+  sub-goes : (o : Opening) (t : Tables) (d : List ℕ) (r : Ran) (x : Taken) → r .next < 256 → Goes named-id t (subTurned o f t d r x)
+  sub-goes Client t d r x h = opening-goes t r (x .asked .key) (x .at) h
+  sub-goes Other t d r x h = delivered-goes (namedOf (t .sessions) named-id) t d r x h
+  sub-goes Unread t d r x h = record { tables-kept = same-tables named-id t; next-low = h }
 
   turned-by-goes : (p : Parsed) (t : Tables) (d : List ℕ) (r : Ran) → r .next < 256 → Goes named-id t (turnedBy p f t d r)
-  turned-by-goes p t d r h = sub-goes (openingRead p) t d r (messageRead p) (bodyRead p) (endRead p (length d)) h
+  turned-by-goes p t d r h = let x = takenOf p (length d) in sub-goes (x .asked .opening) t d r x h
 
   turned-goes : (t : Tables) (d : List ℕ) (r : Ran) → r .next < 256 → Goes named-id t (turned f t d r)
   unfolding turned
@@ -494,7 +486,3 @@ module _ (x : Start) (below : x .frame .«session_id» < 256) (low : x .next < 2
 
   pub objects-back : restored same blank (objectSpot (32 * its-id)) 32 (copied same blank (objectSpot (32 * its-id)) 32 (t .objects) (replicate 32 blank)) (performed x t d sample .tables .objects) ≡ t .objects
   objects-back = put-back same same (λ o. refl) blank blank (objectSpot (32 * its-id)) (t .objects) (replicate 32 blank) 32 (performed x t d sample .tables .objects) (copies-long 32 blank) (performed-kept .objects-kept)
-
--- and an output of no bytes stays as it was
-pub no-output : (out : List ℕ) (rs : List Reply) → putMid 0 (0 - 0) out (putReplies (midOf 0 (0 - 0) out) 0 rs) ≡ out
-no-output out rs = ap (putMid 0 0 out) (empty-output rs)

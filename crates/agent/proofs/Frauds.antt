@@ -25,7 +25,7 @@ use Rattle.isolation.proofs.Refine.{stops}
 use Rattle.isolation.proofs.Theorem.{term3-of}
 use Rattle.sessions.specs.Opening.{liveFrom}
 use Rattle.sessions.specs.View.{Local}
-use Rattle.agent.specs.Calls.{created}
+use Rattle.moves.specs.Calls.{created}
 use Rattle.agent.specs.Rules.{Opening, In, rules, handlesOf}
 use Rattle.agent.specs.Step.{Open, Agent, emptyAgent, nextFree, chosen, opened, run, Event, datagram, answer, removal, sweep, Did, ran, joinedReplies, withTables, begin, step}
 use Rattle.agent.specs.Claim.{Hosted, resultOf, agent}

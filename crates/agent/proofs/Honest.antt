@@ -12,7 +12,7 @@ use Rattle.codec.specs.declared.submessages.Submessage.the-variants.{CreateClie
 use Rattle.isolation.proofs.Provenance.{Fair, Honest}
 use Rattle.sessions.specs.View.{Entry, Local, findIn}
 use Rattle.agent.specs.Local.{touched, full, handleAt, handleOfKind}
-use Rattle.agent.specs.Calls.{Call, createWriter, createReader, Answer, created, succeeded, sample, noSample, failed, Task, creating, deleting, writing, reading}
+use Rattle.moves.specs.Calls.{Call, createWriter, createReader, Answer, created, succeeded, sample, noSample, failed, Task, creating, deleting, writing, reading}
 use Rattle.agent.specs.RulesObjects.{Move, ifHandle, createWith, createFor, deleteFound}
 use Rattle.agent.specs.RulesAnswers.{answerOf}
 use Rattle.agent.specs.Rules.{onSubmessage, rules, handlesIn, handlesHeld, grantedBy, handlesOf}

@@ -18,8 +18,8 @@ use Rattle.isolation.proofs.Reference as ref
 use Rattle.isolation.proofs.Refine.{InStep, stops, goes, Refines}
 use Rattle.sessions.specs.Opening.{after, liveFrom}
 use Rattle.sessions.specs.View.{Local, absent}
-use Rattle.agent.specs.Calls.{Call, Answer, fits}
-use Rattle.agent.specs.Replies.{clientBytes}
+use Rattle.moves.specs.Calls.{Call, Answer, fits}
+use Rattle.moves.specs.Replies.{clientBytes}
 use Rattle.agent.specs.RulesObjects.{Move}
 use Rattle.agent.specs.RulesAnswers.{onAnswer}
 use Rattle.agent.specs.Rules.{Opening, In, parsedAs, messageFrom, handle, rules}

@@ -17,10 +17,11 @@ use Rattle.sessions.specs.View.{Tables}
 use Rattle.sessions.specs.declared.limits.Limits.{Limits}
 use Rattle.sessions.specs.declared.limits.Limits.the-variants as limits
 use Rattle.sessions.proofs.limits.Laws.{kept-limits}
-use Rattle.agent.specs.Calls.{fits}
-use Rattle.agent.specs.Proxy.{answerAs, taskAs}
-use Rattle.agent.specs.Answered.{saysOf, saysFits}
-use Rattle.agent.specs.Judge.{answersOf, turnOf, sessionOf, recordSound, checkedJudged, datagramJudged, tooLong, answerStart, restJudged, headerOf, answerJudged, judgedBy, judgeOf, goesOf, startIn, countIn, refusalIn}
+use Rattle.moves.specs.Calls.{fits}
+use Rattle.moves.specs.Proxy.{answerAs, taskAs}
+use Rattle.moves.specs.Answers.{saysOf}
+use Rattle.agent.specs.Answered.{saysFits}
+use Rattle.agent.specs.Judge.{answersOf, turnOf, sessionOf, recordSound, checkedJudged, datagramJudged, tooLong, answerStart, restJudged, headerOf, answerJudged, judgedBy, judgeOf, partsOf}
 use Rattle.agent.specs.Host.{resumesFit}
 use Rattle.agent.specs.declared.judge.Input.{Input}
 use Rattle.agent.specs.declared.judge.Input.the-variants as input
@@ -31,10 +32,10 @@ use Rattle.agent.specs.declared.judge.Resumes.the-variants as resumes
 use Rattle.agent.specs.declared.judge.Start.{Start}
 use Rattle.agent.specs.declared.judge.Turn.{Turn}
 use Rattle.agent.specs.declared.judge.Turn.the-variants as turn
-use Rattle.agent.specs.declared.proxy.BridgeAnswer.{BridgeAnswer}
-use Rattle.agent.specs.declared.proxy.BridgeAnswer.the-variants.{Created, Done, Sample, NoSample, Failed}
-use Rattle.agent.specs.declared.proxy.Task.{Task}
-use Rattle.agent.specs.declared.proxy.Task.the-variants.{Creating, Writing, Reading, Deleting}
+use Rattle.moves.specs.declared.proxy.BridgeAnswer.{BridgeAnswer}
+use Rattle.moves.specs.declared.proxy.BridgeAnswer.the-variants.{Created, Done, Sample, NoSample, Failed}
+use Rattle.moves.specs.declared.proxy.Task.{Task}
+use Rattle.moves.specs.declared.proxy.Task.the-variants.{Creating, Writing, Reading, Deleting}
 use Rattle.agent.specs.declared.state.Agent.{Agent}
 use Rattle.agent.specs.declared.state.Pending.{Pending}
 use Rattle.agent.specs.declared.state.Waiting.{Waiting}
@@ -85,11 +86,11 @@ JudgedSound t d sample (judged.Goes x n) = Sound t d sample x n
 JudgedSound t d sample (judged.Refused r) = Unit {0}
 
 -- what was judged, put together again
-pub goes-is : (j : Judged) → goesOf j ≡ true → j ≡ judged.Goes (startIn j) (countIn j)
+pub goes-is : (j : Judged) → partsOf j .goes ≡ true → j ≡ judged.Goes (partsOf j .start) (partsOf j .count)
 goes-is (judged.Goes x n) c = refl
 goes-is (judged.Refused r) c = absurd (true≢false (sym c))
 
-pub refused-is : (j : Judged) → goesOf j ≡ false → j ≡ judged.Refused (refusalIn j)
+pub refused-is : (j : Judged) → partsOf j .goes ≡ false → j ≡ judged.Refused (partsOf j .why)
 refused-is (judged.Goes x n) c = absurd (true≢false c)
 refused-is (judged.Refused r) c = refl
 

@@ -23,8 +23,8 @@ use Rattle.streams.specs.Received.{bitmapOf}
 use Rattle.isolation.specs.Rules.{done, calls, Sub, opens, names}
 use Rattle.sessions.specs.View.{Entry, KeptStream, Local, findIn, streamIn}
 use Rattle.agent.specs.Local.{full, touched, opening, handleAt, handleOfKind}
-use Rattle.agent.specs.Calls.{Call, fits}
-use Rattle.agent.specs.Replies.{statusBytes, acknackBytes, clientBytes}
+use Rattle.moves.specs.Calls.{Call, fits}
+use Rattle.moves.specs.Replies.{statusBytes, acknackBytes, clientBytes}
 use Rattle.agent.specs.RulesObjects.{Move, ifHandle, createWith, createFor, deleteFound}
 use Rattle.agent.specs.RulesStreams.{acknackFrom}
 use Rattle.agent.specs.Rules.{Opening, In, messageFrom, onSubmessage, handle}

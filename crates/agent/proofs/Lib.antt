@@ -9,7 +9,6 @@ pub mod Shown
 pub mod Laws
 pub mod Place
 pub mod MoveBytes
-pub mod Strings
 pub mod NameParts
 pub mod Square
 pub mod SquareObjects

@@ -17,11 +17,11 @@ use Rattle.codec.proofs.bytes.Laws.{put-nothing}
 use Rattle.codec.proofs.writing.Laws.{length-payload, length-sub, length-message}
 use Rattle.sessions.specs.declared.opening.Created.{Created}
 use Rattle.sessions.specs.declared.opening.Created.the-variants as created
-use Rattle.agent.specs.Replies.{statusBytes, acknackBytes, dataOf, dataPayload, dataBytes}
-use Rattle.agent.specs.Moves.{moveBytes}
+use Rattle.moves.specs.Replies.{statusBytes, acknackBytes, dataOf, dataPayload, dataBytes}
+use Rattle.moves.specs.Moves.{moveBytes}
 use Rattle.agent.specs.Run.{greeting, greetingBytes}
-use Rattle.agent.specs.declared.moves.Move.{Move}
-use Rattle.agent.specs.declared.moves.Move.the-variants.{Greets, Status, Acknack, Calls, Silent}
+use Rattle.moves.specs.declared.moves.Move.{Move}
+use Rattle.moves.specs.declared.moves.Move.the-variants.{Greets, Status, Acknack, Calls, Silent}
 use Rattle.agent.proofs.Laws.{status-long, acknack-long}
 
 -- ---- lengths

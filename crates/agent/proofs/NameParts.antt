@@ -15,9 +15,9 @@ use Rattle.codec.specs.declared.layouts.Span.{Span}
 use Rattle.codec.specs.declared.refusals.Refusal.the-variants.{BufferTooShort}
 use Rattle.codec.specs.declared.strings.StringRead.{StringRead}
 use Rattle.codec.specs.declared.strings.StringRead.the-variants.{Text, Refused}
-use Rattle.agent.specs.Names.{noSpan, placedIn, typeAfter, nameThen, namesIn}
+use Rattle.moves.specs.Names.{noSpan, placedIn, typeAfter, nameThen, namesIn}
 use Rattle.agent.specs.RulesObjects.{Names, typeBehind, namesFrom, namesOf}
-use Rattle.agent.specs.declared.names.Names as code
+use Rattle.moves.specs.declared.names.Names as code
 
 -- ---- a part of a part
 

@@ -25,7 +25,7 @@ use Rattle.codec.proofs.reading.Laws.{items-more, items-end, read-placed}
 use Rattle.isolation.specs.Rules.{done, calls, Sub, opens, names}
 use Rattle.isolation.proofs.Simulation.{none-some}
 use Rattle.sessions.specs.View.{Local}
-use Rattle.agent.specs.Calls.{Call}
+use Rattle.moves.specs.Calls.{Call}
 use Rattle.agent.specs.RulesObjects.{Move}
 use Rattle.agent.specs.Rules.{Opening, In, subFrom, subOf, messageFrom, handle}
 use Rattle.agent.specs.Step.{Tables, Open, chosen, openAs, keep, act, deliver, run}

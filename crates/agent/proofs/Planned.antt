@@ -24,8 +24,8 @@ use Rattle.sessions.specs.View.{Tables}
 use Rattle.sessions.specs.declared.limits.Limits.{Limits}
 use Rattle.sessions.specs.declared.table.Named.{Named}
 use Rattle.sessions.specs.declared.table.Named.the-variants as named
-use Rattle.agent.specs.Calls.{fits}
-use Rattle.agent.specs.Proxy.{callAs, answerAs, taskAs}
+use Rattle.moves.specs.Calls.{fits}
+use Rattle.moves.specs.Proxy.{callAs, answerAs, taskAs}
 use Rattle.agent.specs.Step as step
 use Rattle.agent.specs.Step.{Reply, joinedReplies}
 use Rattle.agent.specs.Run.{Turned}

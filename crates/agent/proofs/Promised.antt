@@ -19,7 +19,7 @@ use Rattle.codec.specs.declared.refusals.Refusal.the-variants.{OverLimit}
 use Rattle.sessions.specs.Setup.{setUpFits, setUpOf}
 use Rattle.sessions.specs.View.{Tables}
 use Rattle.sessions.specs.declared.setup.SetUp.the-variants as setup
-use Rattle.agent.specs.Calls.{fits}
+use Rattle.moves.specs.Calls.{fits}
 use Rattle.agent.specs.Rules.{rules, messageFrom}
 use Rattle.agent.specs.Step as step
 use Rattle.agent.specs.Step.{Open, joinedReplies, run, continued, settle, begin}

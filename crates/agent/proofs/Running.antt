@@ -22,15 +22,16 @@ use Rattle.sessions.specs.declared.table.Got.{Got}
 use Rattle.sessions.specs.declared.table.Got.the-variants as got
 use Rattle.agent.specs.Step.{Reply, replied, bytesOf, joinedReplies}
 use Rattle.agent.specs.Run.{Turned, putReplies, turned, isCall, goesOn, before, runIn, runAt}
-use Rattle.agent.specs.Answered.{keepsOf, saysOf, saysFits, saysBytes, answeredBy, answeredSessions, answeredObjects}
+use Rattle.moves.specs.Answers.{keepsOf, saysOf}
+use Rattle.agent.specs.Answered.{saysFits, saysBytes, answeredBy, answeredSessions, answeredObjects}
 use Rattle.agent.specs.Host.{begunBy, begunSessions, begunObjects, begunTables, firstRan, performed, resumesFit}
-use Rattle.agent.specs.declared.answers.Says.{Says}
-use Rattle.agent.specs.declared.answers.Says.the-variants as says
+use Rattle.moves.specs.declared.answers.Says.{Says}
+use Rattle.moves.specs.declared.answers.Says.the-variants as says
 use Rattle.agent.specs.declared.judge.Resumes.{Resumes}
 use Rattle.agent.specs.declared.judge.Resumes.the-variants as resumes
 use Rattle.agent.specs.declared.judge.Start.{Start}
-use Rattle.agent.specs.declared.proxy.BridgeAnswer.{BridgeAnswer}
-use Rattle.agent.specs.declared.proxy.Task.{Task}
+use Rattle.moves.specs.declared.proxy.BridgeAnswer.{BridgeAnswer}
+use Rattle.moves.specs.declared.proxy.Task.{Task}
 use Rattle.agent.specs.declared.turn.Frame.{Frame}
 use Rattle.agent.specs.declared.turn.Ran.{Ran}
 use Rattle.agent.proofs.Laws.{status-long}
@@ -68,20 +69,6 @@ fits-at out at (r ∷ rs) h =
 
 pub fits-whole : (out : List ℕ) (rs : List Reply) → length (joinedReplies rs) ≤ length out → putReplies out 0 rs ≡ putAt out 0 (joinedReplies rs)
 fits-whole out rs h = fits-at out 0 rs (omega (arith, h))
-
--- nothing is written into an output of no bytes
-put-empty : (at : ℕ) (bytes : List ℕ) → putBytes [] at bytes ≡ []
-unfolding putBytes
-put-empty at [] = sym (put-none [] at)
-put-empty at (b ∷ bytes) = rw (lt-ltb 0 (at + suc (length bytes)) (omega arith))
-
-empty-at : (at : ℕ) (rs : List Reply) → putReplies [] at rs ≡ []
-unfolding putReplies
-empty-at at [] = refl
-empty-at at (r ∷ rs) = rw (put-empty at (bytesOf r)) (empty-at (at + length (bytesOf r)) rs)
-
-pub empty-output : (rs : List Reply) → putReplies [] 0 rs ≡ []
-empty-output rs = empty-at 0 rs
 
 -- ---- whether a run goes on
 

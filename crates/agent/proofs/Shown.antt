@@ -13,8 +13,8 @@ use Rattle.codec.specs.Answers.{Answer as Read, gives, refusedAs}
 use Rattle.codec.specs.Grammar.{Said, reading}
 use Rattle.codec.specs.declared.header.MessageHeader.{MessageHeader}
 use Rattle.isolation.specs.Claim.{outs-of}
-use Rattle.agent.specs.Calls.{fits}
-use Rattle.agent.specs.Replies.{clientBytes}
+use Rattle.moves.specs.Calls.{fits}
+use Rattle.moves.specs.Replies.{clientBytes}
 use Rattle.agent.specs.Rules.{messageFrom, rules}
 use Rattle.agent.specs.Step.{Open, Agent, Reply, opened, replied, Ran, run, continued, Event, datagram, answer, removal, sweep, Result, ran, removed, swept, Did, refuse, finish, joinedReplies, callOf, openOf, withTables, settle, begin, tooLong, withId, isLive, stays, lapsedIds, withLocals, stepped, step}
 use Rattle.agent.specs.Claim.{outOf, resultOf, outBytes, idsIn, Shown}

@@ -18,13 +18,13 @@ use Rattle.sessions.specs.View.{Tables, Local, tablePart, sessionShown, localOf
 use Rattle.sessions.specs.Calls.{SoundTables, LeadsTo}
 use Rattle.sessions.specs.declared.table.Named.the-variants.{Live}
 use Rattle.sessions.proofs.Reached.{free-view, objects-live, streams-live}
-use Rattle.agent.specs.Replies.{statusBytes, acknackBytes}
-use Rattle.agent.specs.Proxy.{callAs, taskAs}
+use Rattle.moves.specs.Replies.{statusBytes, acknackBytes}
+use Rattle.moves.specs.Proxy.{callAs, taskAs}
 use Rattle.agent.specs.RulesObjects.{Move}
 use Rattle.agent.specs.Rules.{onSubmessage}
-use Rattle.agent.specs.Rows.{handledMove, handledTables}
-use Rattle.agent.specs.declared.moves.Move as code
-use Rattle.agent.specs.declared.moves.Move.the-variants.{Greets, Status, Acknack, Calls, Silent}
+use Rattle.moves.specs.Rows.{asksOf, handledMove, handledTables}
+use Rattle.moves.specs.declared.moves.Move as code
+use Rattle.moves.specs.declared.moves.Move.the-variants.{Greets, Status, Acknack, Calls, Silent}
 
 -- the code's move as the rules': the session that is left, and what it says or asks
 abbrev pub outcome : List ℕ → ℕ → ℕ → Local → code.Move → Move
@@ -47,7 +47,7 @@ pub record Meets (t : Tables) (d : List ℕ) (id n : ℕ) (rule : Move) (t′ : 
 
 -- a submessage, over tables in which the session was touched
 abbrev pub Squares : Submessage → Tables → List ℕ → ℕ → ℕ → Span → Type 0
-Squares m t d id n body = Meets t d id n (onSubmessage m (partOf d body) n (shownAt t id)) (handledTables m t id n) (handledMove m t d id n body)
+Squares m t d id n body = Meets t d id n (onSubmessage m (partOf d body) n (shownAt t id)) (handledTables (asksOf m) t id n) (handledMove (asksOf m) t d id n body)
 
 -- ---- a live session
 

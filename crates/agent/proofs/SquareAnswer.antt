@@ -22,21 +22,22 @@ use Rattle.sessions.proofs.Reached.{named-when}
 use Rattle.sessions.proofs.Steps.{same-led, put-led}
 use Rattle.sessions.proofs.ViewStores as stores
 use Rattle.sessions.proofs.ViewStores.{put-here, put-elsewhere}
-use Rattle.agent.specs.Calls.{Pending}
+use Rattle.moves.specs.Calls.{Pending}
 use Rattle.agent.specs.Local.{full, listing}
-use Rattle.agent.specs.Proxy.{answerAs, taskAs}
+use Rattle.moves.specs.Proxy.{answerAs, taskAs}
 use Rattle.agent.specs.RulesObjects.{Move}
 use Rattle.agent.specs.RulesAnswers.{onAnswer}
 use Rattle.agent.specs.Rules.{Opening, In}
 use Rattle.agent.specs.Step as agent
 use Rattle.agent.specs.Step.{behind, act, deliver}
-use Rattle.agent.specs.Answered.{keepsOf, saysOf, saysBytes, keptSessions, keptObjects, answeredBy, answeredSessions, answeredObjects}
-use Rattle.agent.specs.declared.answers.Keeps.{Keeps}
-use Rattle.agent.specs.declared.answers.Keeps.the-variants as keeps
-use Rattle.agent.specs.declared.proxy.BridgeAnswer.{BridgeAnswer}
-use Rattle.agent.specs.declared.proxy.BridgeAnswer.the-variants.{Created, Done, Sample, NoSample, Failed}
-use Rattle.agent.specs.declared.proxy.Task.{Task}
-use Rattle.agent.specs.declared.proxy.Task.the-variants.{Creating, Writing, Reading, Deleting}
+use Rattle.moves.specs.Answers.{keepsOf, saysOf, keptSessions, keptObjects}
+use Rattle.agent.specs.Answered.{saysBytes, answeredBy, answeredSessions, answeredObjects}
+use Rattle.moves.specs.declared.answers.Keeps.{Keeps}
+use Rattle.moves.specs.declared.answers.Keeps.the-variants as keeps
+use Rattle.moves.specs.declared.proxy.BridgeAnswer.{BridgeAnswer}
+use Rattle.moves.specs.declared.proxy.BridgeAnswer.the-variants.{Created, Done, Sample, NoSample, Failed}
+use Rattle.moves.specs.declared.proxy.Task.{Task}
+use Rattle.moves.specs.declared.proxy.Task.the-variants.{Creating, Writing, Reading, Deleting}
 use Rattle.agent.specs.declared.turn.Frame.{Frame}
 use Rattle.agent.specs.Whole.{sessionIn}
 use Rattle.agent.proofs.CallRoom.{RoomFor, RoomAt}

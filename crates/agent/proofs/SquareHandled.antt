@@ -25,8 +25,8 @@ use Rattle.sessions.proofs.Steps.{same-led, touch-led, put-led, drop-led}
 use Rattle.sessions.proofs.ViewTable.{touchedLocal, touch-here, touch-elsewhere}
 use Rattle.agent.specs.Local.{touched}
 use Rattle.agent.specs.Rules.{onSubmessage, handle}
-use Rattle.agent.specs.Rows.{createdSessions, createdObjects, roomSessions, roomObjects, handledMove, handledTables}
-use Rattle.agent.specs.declared.moves.Move.the-variants.{Silent}
+use Rattle.moves.specs.Rows.{asksOf, createdSessions, createdObjects, roomSessions, roomObjects, handledMove, handledTables}
+use Rattle.moves.specs.declared.moves.Move.the-variants.{Silent}
 use Rattle.agent.proofs.Square.{led-on, shownAt, Meets, Squares, shown-live, live-shown, same-local}
 use Rattle.agent.proofs.SquareObjects.{create-square, delete-square, write-square, read-square}
 use Rattle.agent.proofs.SquareStreams.{opens-led, acks-led, heartbeat-square, acknack-square}
@@ -36,7 +36,7 @@ module _ (t : Tables) (sound : SoundTables Sound t) (id : ℕ) (id< : id < 256) 
   stays-led = same-led Sound sound-lasts t sound
 
   create-led : (p : CreatePayload) (r : Room)
-      → LeadsTo Sound t (record { sessions = roomSessions r (t .sessions) (t .objects) id p; streams = t .streams; objects = roomObjects r (t .sessions) (t .objects) id p })
+      → LeadsTo Sound t (record { sessions = roomSessions r (t .sessions) (t .objects) id (p .«object_id») (p .kind); streams = t .streams; objects = roomObjects r (t .sessions) (t .objects) id (p .«object_id») (p .kind) })
   create-led p room.Free = by (p .kind)
     where
       by : (k : ObjectKind)
@@ -52,7 +52,7 @@ module _ (t : Tables) (sound : SoundTables Sound t) (id : ℕ) (id< : id < 256) 
   create-led p (room.Refused x) = stays-led
 
   module _ (live : isFree (t .sessions) id ≡ false) (n : ℕ) (n< : n < 256) where
-    pub handled-led : (m : Submessage) → LeadsTo Sound t (handledTables m t id n)
+    pub handled-led : (m : Submessage) → LeadsTo Sound t (handledTables (asksOf m) t id n)
     handled-led (sub.CreateClient p) = stays-led
     handled-led (sub.Create p) = create-led p (roomOf (t .sessions) (t .objects) id (p .«object_id»))
     handled-led (sub.Delete p) = drop-led Sound sound-lasts t sound id id< (p .«object_id»)
@@ -98,11 +98,11 @@ module _ (t : Tables) (sound : SoundTables Sound t) (id : ℕ) (id< : id < 256) 
     touch-live : isFree (u .sessions) id ≡ false
     touch-live = live-shown u id (touched time l) touch-shown
 
-    pub turn-led : LeadsTo Sound t (handledTables m u id n)
+    pub turn-led : LeadsTo Sound t (handledTables (asksOf m) u id n)
     turn-led = led-on touches-led (handled-led u (touches-led .sound) id id< touch-live n n< m)
 
     pub turn-square : (d : List ℕ) (body : Span)
-        → Meets t d id n (handle l (record { time = time; stream = n; fields = m; body = partOf d body })) (handledTables m u id n) (handledMove m u d id n body)
+        → Meets t d id n (handle l (record { time = time; stream = n; fields = m; body = partOf d body })) (handledTables (asksOf m) u id n) (handledMove (asksOf m) u d id n body)
     turn-square d body =
         let q = handled-square u (touches-led .sound) id id< touch-live n n< d body m in
         record {

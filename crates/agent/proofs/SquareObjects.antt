@@ -42,14 +42,14 @@ use Rattle.sessions.proofs.ViewObjects.{entryFound, listed-length}
 use Rattle.sessions.proofs.ViewStores as stores
 use Rattle.sessions.proofs.ViewStores.{fits, find-view, greatest-view, put-here, put-elsewhere, drop-here, drop-elsewhere}
 use Rattle.sessions.proofs.session_objects.Laws.{found-is}
-use Rattle.agent.specs.Calls.{Call, createTopic, createWriter, createReader, writeData, readData, deleteEntity}
+use Rattle.moves.specs.Calls.{Call, createTopic, createWriter, createReader, writeData, readData, deleteEntity}
 use Rattle.agent.specs.Local.{withObjects, noPlace, full, listing, dropping, entryHandle, handleAt, handleOfKind}
-use Rattle.agent.specs.Names.{namesIn}
-use Rattle.agent.specs.Moves.{foundHandle, topicBy, endpointFor, writeBy, readBy, writeMove, readMove, droppedMove, deleteMove}
-use Rattle.agent.specs.Rows.{createMove, createdSessions, createdObjects, roomMove, roomSessions, roomObjects}
+use Rattle.moves.specs.Names.{namesIn}
+use Rattle.moves.specs.Moves.{foundHandle, topicBy, endpointFor, writeBy, readBy, writeMove, readMove, droppedMove, deleteMove}
+use Rattle.moves.specs.Rows.{createMove, createdSessions, createdObjects, roomMove, roomSessions, roomObjects}
 use Rattle.agent.specs.RulesObjects.{Move, Names, says, asks, ifHandle, namesOf, createWith, createFor, onCreate, deleteFound, onDelete, onWrite, onRead}
-use Rattle.agent.specs.declared.moves.Move as code
-use Rattle.agent.specs.declared.moves.Move.the-variants.{Status}
+use Rattle.moves.specs.declared.moves.Move as code
+use Rattle.moves.specs.declared.moves.Move.the-variants.{Status}
 use Rattle.agent.proofs.NameParts.{names-same}
 use Rattle.agent.proofs.Square.{outcome, shownAt, Meets, Squares, shown-live, reach-objects}
 
@@ -248,7 +248,7 @@ module _ (t : Tables) (sound : SoundTables Sound t) (id : ℕ) (id< : id < 256) 
 
     -- each kind, where there is room
     free-square : (k : ObjectKind) → full (number .0) l ≡ false
-        → Meets t d id n (createFor k n (number .0) (p .«parent_id») (partOf d body) l) (createdIn k) (createMove k (t .sessions) (t .objects) d id p body)
+        → Meets t d id n (createFor k n (number .0) (p .«parent_id») (partOf d body) l) (createdIn k) (createMove k (t .sessions) (t .objects) d id number (p .«parent_id») body)
     free-square Participant e = stays _ _ refl
     free-square Topic e =
         let parent : ObjectNumber = record { 0 = p .«parent_id» } in
@@ -261,14 +261,14 @@ module _ (t : Tables) (sound : SoundTables Sound t) (id : ℕ) (id< : id < 256) 
     free-square DataReader e = stays _ _ (both-view number createReader ∙ reader-moves number (foundHandle (greatestAt 1)) (foundHandle (greatestAt 2)))
 
     abbrev roomTables : Room → Tables
-    roomTables r = record { sessions = roomSessions r (t .sessions) (t .objects) id p; streams = t .streams; objects = roomObjects r (t .sessions) (t .objects) id p }
+    roomTables r = record { sessions = roomSessions r (t .sessions) (t .objects) id number (p .kind); streams = t .streams; objects = roomObjects r (t .sessions) (t .objects) id number (p .kind) }
 
     pub create-square : Squares (sub.Create p) t d id n body
     create-square =
-        subst (λ (r : Room). Meets t d id n (onCreate (p .kind) n (number .0) (p .«parent_id») (partOf d body) l) (roomTables r) (roomMove r (t .sessions) (t .objects) d id p body))
+        subst (λ (r : Room). Meets t d id n (onCreate (p .kind) n (number .0) (p .«parent_id») (partOf d body) l) (roomTables r) (roomMove r (t .sessions) (t .objects) d id number (p .kind) (p .«parent_id») body))
         (sym (room-view number)) (by (full (number .0) l) refl)
       where
         by : (b : Bool) → full (number .0) l ≡ b
-            → Meets t d id n (cond b (says n (number .0) ErrResources l) rule) (roomTables (cond b room.Full room.Free)) (roomMove (cond b room.Full room.Free) (t .sessions) (t .objects) d id p body)
+            → Meets t d id n (cond b (says n (number .0) ErrResources l) rule) (roomTables (cond b room.Full room.Free)) (roomMove (cond b room.Full room.Free) (t .sessions) (t .objects) d id number (p .kind) (p .«parent_id») body)
         by true e = stays _ _ refl
         by false e = free-square (p .kind) e

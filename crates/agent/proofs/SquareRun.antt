@@ -30,19 +30,19 @@ use Rattle.sessions.specs.declared.table.Named.the-variants.{Live, NotLive}
 use Rattle.sessions.proofs.Calls.{sound-lasts}
 use Rattle.sessions.proofs.Reached.{free-view, named-when}
 use Rattle.sessions.proofs.Steps.{same-led}
-use Rattle.agent.specs.Calls.{Call}
-use Rattle.agent.specs.Proxy.{callAs, taskAs}
+use Rattle.moves.specs.Calls.{Call}
+use Rattle.moves.specs.Proxy.{callAs, taskAs}
 use Rattle.agent.specs.RulesObjects.{Move}
 use Rattle.agent.specs.Rules.{Opening, In, subFrom, handle}
-use Rattle.agent.specs.Rows.{handledMove, handledTables}
+use Rattle.moves.specs.Rows.{asksOf, handledMove, handledTables}
 use Rattle.agent.specs.Place.{subsAt}
 use Rattle.agent.specs.Run.{Turned, stopOf, greeting, idOpened, opening, repliesOf, touchedTables, acted, delivered, turnedBy, turned, isCall, goesOn, before, runIn, runAt}
 use Rattle.agent.specs.Step as agent
 use Rattle.agent.specs.Step.{Open, Reply, opened, behind, keep, act, deliver, run, openAs}
-use Rattle.agent.specs.declared.moves.Move as code
-use Rattle.agent.specs.declared.moves.Move.the-variants.{Greets, Status, Acknack, Calls, Silent}
-use Rattle.agent.specs.declared.proxy.BridgeCall.{BridgeCall}
-use Rattle.agent.specs.declared.proxy.Task.{Task}
+use Rattle.moves.specs.declared.moves.Move as code
+use Rattle.moves.specs.declared.moves.Move.the-variants.{Greets, Status, Acknack, Calls, Silent}
+use Rattle.moves.specs.declared.proxy.BridgeCall.{BridgeCall}
+use Rattle.moves.specs.declared.proxy.Task.{Task}
 use Rattle.agent.specs.declared.turn.Frame.{Frame}
 use Rattle.agent.specs.declared.turn.Ran.{Ran}
 use Rattle.agent.specs.declared.turn.Stop.{Stop}
@@ -161,18 +161,18 @@ module _ (f : Frame) (d : List ℕ) (max≤ : f .«max_clients» ≤ 255) (id< :
       acts-goes t′ l Silent e = ap (λ (x : agent.Tables). behind [] (go x)) e
 
       abbrev X : Named → Turned
-      X w = delivered w f t d r m body at
+      X w = delivered w f t d r (record { asked = asksOf m; body = body; at = at })
 
       live-turns : (l : Local) → localOf t id ≡ some l → Turns t (r .next) (names i) at (X Live)
       unfolding run
       live-turns l e =
           let q = turn-square t sound id id< (f .time) l e n n< m d body in
-          let w = handledMove m u d id n body in
+          let w = handledMove (asksOf m) u d id n body in
           record {
             goes =
                 ap (λ (x : Option Local). deliver id (restAt at) v x (λ l. handle l i) go) (at-in t id id< ∙ e)
                 ∙ ap (λ (x : Move). act id (restAt at) v x go) (q .moves)
-                ∙ acts-goes (handledTables m u id n) (q .after) w (keep-view (r .next) t (handledTables m u id n) id (q .after) id< (q .shows) (q .elsewhere));
+                ∙ acts-goes (handledTables (asksOf m) u id n) (q .after) w (keep-view (r .next) t (handledTables (asksOf m) u id n) id (q .after) id< (q .shows) (q .elsewhere));
             led = turn-led t sound id id< (f .time) l e n n< m;
             low = low;
             high = high;

@@ -33,9 +33,9 @@ use Rattle.sessions.proofs.Calls.{sound-lasts, within-limits}
 use Rattle.sessions.proofs.Empty.{long, first-is}
 use Rattle.sessions.proofs.Reached.{named-when}
 use Rattle.sessions.proofs.Steps.{remove-led, sweep-led, ready-led}
-use Rattle.agent.specs.Calls as calls
-use Rattle.agent.specs.Calls.{fits}
-use Rattle.agent.specs.Proxy.{answerAs, taskAs}
+use Rattle.moves.specs.Calls as calls
+use Rattle.moves.specs.Calls.{fits}
+use Rattle.moves.specs.Proxy.{answerAs, taskAs}
 use Rattle.agent.specs.Rules.{Opening, In}
 use Rattle.agent.specs.Place.{subsAt}
 use Rattle.agent.specs.Step as step
@@ -55,10 +55,10 @@ use Rattle.agent.specs.declared.judge.Judged.{Judged}
 use Rattle.agent.specs.declared.judge.Judged.the-variants as judged
 use Rattle.agent.specs.declared.judge.Start.{Start}
 use Rattle.agent.specs.declared.judge.Turn.the-variants as turn
-use Rattle.agent.specs.declared.proxy.BridgeAnswer.{BridgeAnswer}
-use Rattle.agent.specs.declared.proxy.BridgeAnswer.the-variants.{Created, Done, Sample, NoSample, Failed}
-use Rattle.agent.specs.declared.proxy.Task.{Task}
-use Rattle.agent.specs.declared.proxy.Task.the-variants.{Creating, Writing, Reading, Deleting}
+use Rattle.moves.specs.declared.proxy.BridgeAnswer.{BridgeAnswer}
+use Rattle.moves.specs.declared.proxy.BridgeAnswer.the-variants.{Created, Done, Sample, NoSample, Failed}
+use Rattle.moves.specs.declared.proxy.Task.{Task}
+use Rattle.moves.specs.declared.proxy.Task.the-variants.{Creating, Writing, Reading, Deleting}
 use Rattle.agent.specs.declared.state.Agent.{Agent}
 use Rattle.agent.specs.declared.state.Pending.{Pending}
 use Rattle.agent.specs.declared.state.Waiting.{Waiting}

@@ -39,12 +39,12 @@ use Rattle.sessions.proofs.Steps.{open-led, write-led, same-led}
 use Rattle.sessions.proofs.ViewStreams as streams
 use Rattle.sessions.proofs.ViewStreams.{readShown, row-at, read-view, write-here, write-elsewhere, open-here, open-elsewhere}
 use Rattle.agent.specs.Local.{withStreams, opening, acknowledgedBy, acknowledging}
-use Rattle.agent.specs.Replies.{acknackBytes}
+use Rattle.moves.specs.Replies.{acknackBytes}
 use Rattle.agent.specs.RulesStreams.{acknackFrom, onHeartbeat}
-use Rattle.agent.specs.Moves.{heartbeatOn, heartbeatMove}
-use Rattle.agent.specs.RowsStreams.{readOf, acknowledgedRows}
-use Rattle.agent.specs.Rows.{handledTables}
-use Rattle.agent.specs.declared.moves.Move.the-variants.{Acknack}
+use Rattle.moves.specs.Moves.{heartbeatOn, heartbeatMove}
+use Rattle.moves.specs.RowsStreams.{readOf, acknowledgedRows}
+use Rattle.moves.specs.Rows.{asksOf, handledTables}
+use Rattle.moves.specs.declared.moves.Move.the-variants.{Acknack}
 use Rattle.agent.proofs.Square.{outcome, led-on, shownAt, Squares, shown-live, live-shown, same-local, reach-streams}
 
 -- the stream that is found has the number sought
@@ -222,5 +222,5 @@ module _ (t : Tables) (sound : SoundTables Sound t) (id : ℕ) (id< : id < 256) 
   acknack-led p stream.NotLive s e d = absurd e
   acknack-led p (stream.Refused x) s e d = absurd e
 
-  pub acks-led : (p : AcknackPayload) → LeadsTo Sound t (handledTables (sub.Acknack p) t id n)
+  pub acks-led : (p : AcknackPayload) → LeadsTo Sound t (handledTables (asksOf (sub.Acknack p)) t id n)
   acks-led p = led-on opens-led (acknack-led p (r .answer) (r .state) read-as read-sound)

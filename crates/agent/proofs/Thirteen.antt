@@ -15,21 +15,22 @@ use Rattle.sessions.specs.View.{Tables}
 use Rattle.sessions.specs.declared.table.Got.{Got}
 use Rattle.sessions.specs.declared.table.Got.the-variants as got
 use Rattle.agent.specs.Step.{joinedReplies}
-use Rattle.agent.specs.Calls.{fits}
-use Rattle.agent.specs.Proxy.{answerAs, taskAs}
-use Rattle.agent.specs.Answered.{saysOf, saysFits, saysBytes, answeredBy}
+use Rattle.moves.specs.Calls.{fits}
+use Rattle.moves.specs.Proxy.{answerAs, taskAs}
+use Rattle.moves.specs.Answers.{saysOf}
+use Rattle.agent.specs.Answered.{saysFits, saysBytes, answeredBy}
 use Rattle.agent.specs.Judge.{judgeOf}
 use Rattle.agent.specs.Host.{begunBy, performed, resumesFit, answerMost, firstMost, roomy, neededOf, Leaves, finishedOf, refuse, finish, processedBy, processOf}
-use Rattle.agent.specs.declared.answers.Says.the-variants as says
+use Rattle.moves.specs.declared.answers.Says.the-variants as says
 use Rattle.agent.specs.declared.judge.Input.{Input}
 use Rattle.agent.specs.declared.judge.Judged.{Judged}
 use Rattle.agent.specs.declared.judge.Resumes.{Resumes}
 use Rattle.agent.specs.declared.judge.Resumes.the-variants as resumes
 use Rattle.agent.specs.declared.judge.Start.{Start}
-use Rattle.agent.specs.declared.proxy.BridgeAnswer.{BridgeAnswer}
-use Rattle.agent.specs.declared.proxy.BridgeAnswer.the-variants.{Created, Done, Sample, NoSample, Failed}
-use Rattle.agent.specs.declared.proxy.Task.{Task}
-use Rattle.agent.specs.declared.proxy.Task.the-variants.{Creating, Writing, Reading, Deleting}
+use Rattle.moves.specs.declared.proxy.BridgeAnswer.{BridgeAnswer}
+use Rattle.moves.specs.declared.proxy.BridgeAnswer.the-variants.{Created, Done, Sample, NoSample, Failed}
+use Rattle.moves.specs.declared.proxy.Task.{Task}
+use Rattle.moves.specs.declared.proxy.Task.the-variants.{Creating, Writing, Reading, Deleting}
 use Rattle.agent.specs.declared.state.Agent.{Agent}
 use Rattle.agent.specs.declared.turn.Frame.{Frame}
 use Rattle.agent.proofs.Laws.{status-long}

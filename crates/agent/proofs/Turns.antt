@@ -1,7 +1,7 @@
 -- One submessage of a run: how far it takes the place on, and how much is replied to it at most.
 use Prim.Native.Nat.{ℕ, _+_, _*_, _≤_, _<_}
 use mathlib.Core.Path.{_≡_, refl, ap, _∙_}
-use mathlib.Core.Bool.{true}
+use mathlib.Core.Bool.{Bool, true, false}
 use mathlib.Core.List.{List, [], _∷_, append-nil}
 use native.Mathlib.Decide.{decLe, ℕ-discrete}
 use native.Mathlib.Nat.{lt-of-not-le}
@@ -21,7 +21,6 @@ use Rattle.codec.specs.declared.layouts.Parsed.the-variants as parsed
 use Rattle.codec.specs.declared.layouts.Span.{Span}
 use Rattle.codec.specs.declared.submessages.CodeRead.{CodeRead}
 use Rattle.codec.specs.declared.submessages.CodeRead.the-variants as code-read
-use Rattle.codec.specs.declared.submessages.CreatePayload.{CreatePayload}
 use Rattle.codec.specs.declared.submessages.HeartbeatPayload.{HeartbeatPayload}
 use Rattle.codec.specs.declared.submessages.KindRead.{KindRead}
 use Rattle.codec.specs.declared.submessages.KindRead.the-variants as kind-read
@@ -49,23 +48,28 @@ use Rattle.sessions.specs.declared.opening.Created.the-variants as created
 use Rattle.sessions.specs.declared.room.Room.{Room}
 use Rattle.sessions.specs.declared.room.Room.the-variants as room
 use Rattle.sessions.specs.declared.session_streams.StreamNamed.{StreamNamed}
+use Rattle.sessions.specs.declared.session_streams.StreamRead.{StreamRead}
 use Rattle.sessions.specs.declared.session_streams.StreamNamed.the-variants as stream
 use Rattle.sessions.specs.declared.table.Named.{Named}
 use Rattle.sessions.specs.declared.table.Named.the-variants as named
 use Rattle.streams.specs.declared.state.StreamState.{StreamState}
-use Rattle.agent.specs.Moves.{foundHandle, topicBy, endpointFor, writeBy, readBy, droppedMove, deleteMove, heartbeatOn, moveBytes}
-use Rattle.agent.specs.Names.{namesIn}
-use Rattle.agent.specs.Rows.{createMove, roomMove, handledMove}
-use Rattle.agent.specs.RowsStreams.{openedSessions, openedRows, readOf}
-use Rattle.agent.specs.Run.{Turned, greeting, idOpened, opening, passed, repliesOf, touchedTables, acted, delivered, openingOf, keyIn, subTurned, turnedBy, turned}
+use Rattle.moves.specs.Moves.{foundHandle, topicBy, endpointFor, writeBy, readBy, droppedMove, deleteMove, heartbeatOn, moveBytes}
+use Rattle.moves.specs.Names.{namesIn}
+use Rattle.moves.specs.Rows.{asksOf, createMove, roomMove, handledBy, handledMove}
+use Rattle.moves.specs.RowsStreams.{openedSessions, openedRows, readOf, streamMove}
+use Rattle.agent.specs.Run.{Turned, greeting, idOpened, opening, passed, repliesOf, touchedTables, acted, delivered, subTurned, turnedBy, turned}
 use Rattle.agent.specs.Step.{Reply, opened, bytesOf, joinedReplies}
-use Rattle.agent.specs.declared.clients.Opening.{Opening}
-use Rattle.agent.specs.declared.clients.Opening.the-variants.{Client, Other, Unread}
-use Rattle.agent.specs.declared.moves.Move.{Move}
-use Rattle.agent.specs.declared.moves.Move.the-variants.{Greets, Status, Acknack, Calls, Silent}
-use Rattle.agent.specs.declared.names.Names.{Names}
+use Rattle.moves.specs.declared.handle.Asked.{Asked}
+use Rattle.moves.specs.declared.handle.Group.{Group}
+use Rattle.moves.specs.declared.handle.Group.the-variants.{Creates, Deletes, Writes, Reads, Streams, Neither}
+use Rattle.moves.specs.declared.handle.Opening.{Opening}
+use Rattle.moves.specs.declared.handle.Opening.the-variants.{Client, Other, Unread}
+use Rattle.moves.specs.declared.moves.Move.{Move}
+use Rattle.moves.specs.declared.moves.Move.the-variants.{Greets, Status, Acknack, Calls, Silent}
+use Rattle.moves.specs.declared.names.Names.{Names}
 use Rattle.agent.specs.declared.turn.Frame.{Frame}
 use Rattle.agent.specs.declared.turn.Ran.{Ran}
+use Rattle.agent.specs.declared.turn.Taken.{Taken}
 use Rattle.agent.proofs.MoveBytes.{moveLong, move-long}
 
 -- ---- a submessage takes its header and its least payload at least
@@ -156,19 +160,19 @@ endpoint-brief number k (Bridged p) (Bridged t) = tt
 endpoint-brief number k (Bridged p) Implicit = omega arith
 endpoint-brief number k Implicit t = omega arith
 
-create-brief : (k : ObjectKind) (s : List (List ℕ)) (o : List Object) (d : List ℕ) (id : ℕ) (p : CreatePayload) (body : Span) → Brief (createMove k s o d id p body)
-create-brief kind.Participant s o d id p body = tt
-create-brief kind.Topic s o d id p body = topic-brief (p .«object_id») (namesIn d body) (foundHandle (foundObject s o id (record { 0 = p .«parent_id» })))
-create-brief kind.Publisher s o d id p body = omega arith
-create-brief kind.Subscriber s o d id p body = omega arith
-create-brief kind.DataWriter s o d id p body = endpoint-brief (p .«object_id») 5 (foundHandle (greatestObject s o id 1)) (foundHandle (greatestObject s o id 2))
-create-brief kind.DataReader s o d id p body = endpoint-brief (p .«object_id») 6 (foundHandle (greatestObject s o id 1)) (foundHandle (greatestObject s o id 2))
+create-brief : (k : ObjectKind) (s : List (List ℕ)) (o : List Object) (d : List ℕ) (id : ℕ) (number : ObjectNumber) (parent : ℕ) (body : Span) → Brief (createMove k s o d id number parent body)
+create-brief kind.Participant s o d id number parent body = tt
+create-brief kind.Topic s o d id number parent body = topic-brief number (namesIn d body) (foundHandle (foundObject s o id (record { 0 = parent })))
+create-brief kind.Publisher s o d id number parent body = omega arith
+create-brief kind.Subscriber s o d id number parent body = omega arith
+create-brief kind.DataWriter s o d id number parent body = endpoint-brief number 5 (foundHandle (greatestObject s o id 1)) (foundHandle (greatestObject s o id 2))
+create-brief kind.DataReader s o d id number parent body = endpoint-brief number 6 (foundHandle (greatestObject s o id 1)) (foundHandle (greatestObject s o id 2))
 
-room-brief : (x : Room) (s : List (List ℕ)) (o : List Object) (d : List ℕ) (id : ℕ) (p : CreatePayload) (body : Span) → Brief (roomMove x s o d id p body)
-room-brief room.Free s o d id p body = create-brief (p .kind) s o d id p body
-room-brief room.Full s o d id p body = omega arith
-room-brief room.NotLive s o d id p body = tt
-room-brief (room.Refused r) s o d id p body = tt
+room-brief : (x : Room) (s : List (List ℕ)) (o : List Object) (d : List ℕ) (id : ℕ) (number : ObjectNumber) (k : ObjectKind) (parent : ℕ) (body : Span) → Brief (roomMove x s o d id number k parent body)
+room-brief room.Free s o d id number k parent body = create-brief k s o d id number parent body
+room-brief room.Full s o d id number k parent body = omega arith
+room-brief room.NotLive s o d id number k parent body = tt
+room-brief (room.Refused r) s o d id number k parent body = tt
 
 dropped-brief : (number : ObjectNumber) (h : ObjectHandle) → Brief (droppedMove number h)
 dropped-brief number (Bridged h) = tt
@@ -193,28 +197,39 @@ heartbeat-brief stream.NotOpen s p = tt
 heartbeat-brief stream.NotLive s p = tt
 heartbeat-brief (stream.Refused r) s p = tt
 
+stream-brief : (hears : Bool) (first second : ℕ) (r : StreamRead) → Most 12 (streamMove hears first second r)
+stream-brief true first second r = heartbeat-brief (r .answer) (r .state) _
+stream-brief false first second r = tt
+
+abbrev mostFor : Group → ℕ
+mostFor Creates = 11
+mostFor Deletes = 11
+mostFor Writes = 11
+mostFor Reads = 11
+mostFor Streams = 12
+mostFor Neither = 11
+
+pub handled-most : (g : Group) (q : Asked) (t : Tables) (d : List ℕ) (id n : ℕ) (body : Span) → Most (mostFor g) (handledBy g q t d id n body)
+handled-most Creates q t d id n body = room-brief (roomOf (t .sessions) (t .objects) id (q .number)) (t .sessions) (t .objects) d id (q .number) (q .kind) (q .parent) body
+handled-most Deletes q t d id n body = delete-brief (q .number) (foundObject (t .sessions) (t .objects) id (q .number))
+handled-most Writes q t d id n body = write-brief (q .number) body (foundHandle (foundObject (t .sessions) (t .objects) id (q .number)))
+handled-most Reads q t d id n body = read-brief (q .number) (foundHandle (foundObject (t .sessions) (t .objects) id (q .number)))
+handled-most Streams q t d id n body =
+    stream-brief (q .hears) (q .first) (q .second) (readOf (openedSessions (t .sessions) (t .streams) id n) (openedRows (t .sessions) (t .streams) id n) id n)
+handled-most Neither q t d id n body = tt
+
 -- six bytes replied for eleven taken
-pub record Fair (m : Submessage) (x : Move) : Type 0 where
-  pub most : ℕ
-  pub is : Most most x
-  pub room : 6 * most ≤ 11 * (4 + leastOf (idOf m))
-
-fair : (m : Submessage) (x : Move) → Brief x → Fair m x
-fair m x b = let a = least-two m in record { most = 11; is = b; room = omega (arith, a) }
-
-pub handled-fair : (m : Submessage) (t : Tables) (d : List ℕ) (id n : ℕ) (body : Span) → Fair m (handledMove m t d id n body)
+fair : (m : Submessage) → 6 * mostFor (asksOf m .group) ≤ 11 * (4 + leastOf (idOf m))
 unfolding leastOf
-handled-fair (sub.CreateClient p) t d id n body = fair _ _ tt
-handled-fair (sub.Create p) t d id n body = fair _ _ (room-brief (roomOf (t .sessions) (t .objects) id (p .«object_id»)) (t .sessions) (t .objects) d id p body)
-handled-fair (sub.Delete p) t d id n body = fair _ _ (delete-brief (p .«object_id») (foundObject (t .sessions) (t .objects) id (p .«object_id»)))
-handled-fair (sub.Status p) t d id n body = fair _ _ tt
-handled-fair (sub.WriteData p) t d id n body = fair _ _ (write-brief (p .«writer_id») body (foundHandle (foundObject (t .sessions) (t .objects) id (p .«writer_id»))))
-handled-fair (sub.ReadData p) t d id n body = fair _ _ (read-brief (p .«reader_id») (foundHandle (foundObject (t .sessions) (t .objects) id (p .«reader_id»))))
-handled-fair (sub.Data p) t d id n body = fair _ _ tt
-handled-fair (sub.Heartbeat p) t d id n body =
-    let r = readOf (openedSessions (t .sessions) (t .streams) id n) (openedRows (t .sessions) (t .streams) id n) id n in
-    record { most = 12; is = heartbeat-brief (r .answer) (r .state) p; room = omega arith }
-handled-fair (sub.Acknack p) t d id n body = fair _ _ tt
+fair (sub.CreateClient p) = omega arith
+fair (sub.Create p) = omega arith
+fair (sub.Delete p) = omega arith
+fair (sub.Status p) = omega arith
+fair (sub.WriteData p) = omega arith
+fair (sub.ReadData p) = omega arith
+fair (sub.Data p) = omega arith
+fair (sub.Heartbeat p) = omega arith
+fair (sub.Acknack p) = omega arith
 
 -- ---- what is counted is as long as the replies
 
@@ -258,16 +273,19 @@ passed-leaves : (t : Tables) (r : Ran) (at most : ℕ) → Leaves r at most (rec
 passed-leaves t r at most = let a = none-long in record { place = refl; told = omega (arith, a); short = omega (arith, a); room = omega (arith, a) }
 
 module _ (f : Frame) (t : Tables) (d : List ℕ) (r : Ran) (m : Submessage) (body : Span) (at : ℕ) where
-  delivered-leaves : (n : Named) → Leaves r at (11 * (4 + leastOf (idOf m))) (delivered n f t d r m body at)
+  abbrev took : Taken
+  took = record { asked = asksOf m; body = body; at = at }
+
+  delivered-leaves : (n : Named) → Leaves r at (11 * (4 + leastOf (idOf m))) (delivered n f t d r took)
   delivered-leaves named.Live =
       let u = touchedTables f t in
-      let k = handled-fair m u d (f .«session_id») (f .«stream_id») body in
-      acted-leaves f _ r at _ (k .most) (handledMove m u d (f .«session_id») (f .«stream_id») body) (k .is) (k .room)
+      let g = asksOf m .group in
+      acted-leaves f _ r at _ (mostFor g) (handledMove (asksOf m) u d (f .«session_id») (f .«stream_id») body) (handled-most g (asksOf m) u d (f .«session_id») (f .«stream_id») body) (fair m)
   delivered-leaves named.NotLive = passed-leaves _ r at _
   delivered-leaves (named.Refused x) = passed-leaves _ r at _
 
-  sub-leaves : (o : Opening) → Leaves r at (11 * (4 + leastOf (idOf m))) (subTurned o f t d r m body at)
-  sub-leaves Client = let a = least-two m in opening-leaves f t r (keyIn m) at _ (omega (arith, a))
+  sub-leaves : (o : Opening) → Leaves r at (11 * (4 + leastOf (idOf m))) (subTurned o f t d r took)
+  sub-leaves Client = let a = least-two m in opening-leaves f t r (asksOf m .key) at _ (omega (arith, a))
   sub-leaves Other = delivered-leaves (namedOf (t .sessions) (f .«session_id»))
   sub-leaves Unread = passed-leaves t r at _
 
@@ -286,7 +304,7 @@ turns f t d r h = go (readAt d (r .at)) refl
   where
     go : (q : Parsed) → readAt d (r .at) ≡ q → Turns d r (turnedBy q f t d r)
     go (parsed.Sub m x c) e =
-        let l = sub-leaves f t d r m x (c .at) (openingOf m) in
+        let l = sub-leaves f t d r m x (c .at) (asksOf m .opening) in
         let a = read-takes d (r .at) m x c e in
         let b = read-placed d (r .at) m x c e .within in
         let p = l .place in
@@ -301,4 +319,4 @@ turns f t d r h = go (readAt d (r .at)) refl
 pub turned-at : (f : Frame) (t : Tables) (d : List ℕ) (r : Ran) (m : Submessage) (x : Span) (c : Cursor) → readAt d (r .at) ≡ parsed.Sub m x c
     → turned f t d r .ran .at ≡ c .at
 unfolding turned
-turned-at f t d r m x c e = rw e (sub-leaves f t d r m x (c .at) (openingOf m) .place)
+turned-at f t d r m x c e = rw e (sub-leaves f t d r m x (c .at) (asksOf m .opening) .place)

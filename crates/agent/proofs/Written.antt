@@ -9,20 +9,20 @@ use Rattle.codec.specs.Reading.{readAt}
 use Rattle.codec.specs.declared.layouts.Parsed.{Parsed}
 use Rattle.codec.specs.declared.layouts.Parsed.the-variants as parsed
 use Rattle.codec.specs.declared.layouts.Span.{Span}
-use Rattle.codec.specs.declared.submessages.Submessage.{Submessage}
 use Rattle.sessions.specs.View.{Tables}
 use Rattle.sessions.specs.declared.opening.Created.{Created}
 use Rattle.sessions.specs.declared.opening.Created.the-variants.{Opened, Refused}
-use Rattle.agent.specs.Moves.{moveBytes}
-use Rattle.agent.specs.Rows.{handledMove}
+use Rattle.moves.specs.Moves.{moveBytes}
+use Rattle.moves.specs.Rows.{handledMove}
 use Rattle.agent.specs.Run.{Turned, putReplies, repliesOf, greetingBytes, idOpened, turnedBy, turned}
 use Rattle.agent.specs.Step.{opened}
-use Rattle.agent.specs.declared.moves.Move.{Move}
-use Rattle.agent.specs.declared.moves.Move.the-variants.{Greets, Status, Acknack, Calls, Silent}
+use Rattle.moves.specs.declared.handle.Asked.{Asked}
+use Rattle.moves.specs.declared.moves.Move.{Move}
+use Rattle.moves.specs.declared.moves.Move.the-variants.{Greets, Status, Acknack, Calls, Silent}
 use Rattle.agent.specs.declared.turn.Frame.{Frame}
 use Rattle.agent.specs.declared.turn.Ran.{Ran}
 use Rattle.agent.proofs.MoveBytes.{put-none}
-use Rattle.agent.proofs.Turns.{Most, handled-fair}
+use Rattle.agent.proofs.Turns.{Most, handled-most}
 
 pub no-replies : (out : List ℕ) (at : ℕ) → out ≡ putReplies out at []
 unfolding putReplies
@@ -36,12 +36,11 @@ move-written out at f (Acknack p) n most = refl
 move-written out at f (Calls number task call) n most = sym (put-none out at)
 move-written out at f Silent n most = sym (put-none out at)
 
-pub handled-written : (out : List ℕ) (at : ℕ) (f : Frame) (m : Submessage) (t : Tables) (d : List ℕ) (body : Span)
-    → putBytes out at (moveBytes (f .«session_id») (f .«stream_id») (handledMove m t d (f .«session_id») (f .«stream_id») body))
-    ≡ putReplies out at (repliesOf f (handledMove m t d (f .«session_id») (f .«stream_id») body))
-handled-written out at f m t d body =
-    let y = handled-fair m t d (f .«session_id») (f .«stream_id») body in
-    move-written out at f (handledMove m t d (f .«session_id») (f .«stream_id») body) (y .most) (y .is)
+pub handled-written : (out : List ℕ) (at : ℕ) (f : Frame) (q : Asked) (t : Tables) (d : List ℕ) (body : Span)
+    → putBytes out at (moveBytes (f .«session_id») (f .«stream_id») (handledMove q t d (f .«session_id») (f .«stream_id») body))
+    ≡ putReplies out at (repliesOf f (handledMove q t d (f .«session_id») (f .«stream_id») body))
+handled-written out at f q t d body =
+    move-written out at f (handledMove q t d (f .«session_id») (f .«stream_id») body) _ (handled-most (q .group) q t d (f .«session_id») (f .«stream_id») body)
 
 pub greeting-written : (out : List ℕ) (at : ℕ) (c : Created) → putBytes out at (greetingBytes c) ≡ putReplies out at (opened (idOpened c) ∷ [])
 unfolding putReplies

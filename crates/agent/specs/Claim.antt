@@ -7,8 +7,8 @@ use lib.ListN.{length}
 use Rattle.codec.specs.Bytes.{putAt}
 use Rattle.isolation.specs.Rules as isolation
 use Rattle.isolation.specs.Claim as claim
-use Rattle.agent.specs.Calls.{Call}
-use Rattle.agent.specs.Replies.{clientBytes}
+use Rattle.moves.specs.Calls.{Call}
+use Rattle.moves.specs.Replies.{clientBytes}
 use Rattle.agent.specs.Rules.{rules}
 use Rattle.agent.specs.Step.{Open, Agent, emptyAgent, Reply, opened, replied, Event, datagram, answer, removal, sweep, Result, refused, ran, removed, swept, step}
 

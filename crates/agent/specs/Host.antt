@@ -22,9 +22,10 @@ use Rattle.sessions.specs.declared.table.Got.the-variants as got
 use Rattle.sessions.specs.declared.table.Named.{Named}
 use Rattle.sessions.specs.declared.table.Named.the-variants as named
 use Rattle.agent.specs.Step.{Reply, joinedReplies}
-use Rattle.agent.specs.Rows.{noObject}
+use Rattle.moves.specs.Rows.{noObject}
 use Rattle.agent.specs.Run.{Turned, runAt}
-use Rattle.agent.specs.Answered.{keepsOf, saysOf, saysFits, answeredBy, answeredSessions, answeredObjects}
+use Rattle.moves.specs.Answers.{keepsOf, saysOf}
+use Rattle.agent.specs.Answered.{saysFits, answeredBy, answeredSessions, answeredObjects}
 use Rattle.agent.specs.Judge.{judgeOf, recordSound}
 use Rattle.agent.specs.declared.agent.AgentSetUp.{AgentSetUp}
 use Rattle.agent.specs.declared.agent.AgentSetUp.the-variants as ready
@@ -32,10 +33,9 @@ use Rattle.agent.specs.declared.agent.Idle.{Idle}
 use Rattle.agent.specs.declared.agent.Idle.the-variants as idle
 use Rattle.agent.specs.declared.agent.Removed.{Removed}
 use Rattle.agent.specs.declared.agent.Removed.the-variants as removed
-use Rattle.agent.specs.declared.answers.Keeps.{Keeps}
-use Rattle.agent.specs.declared.answers.Keeps.the-variants as keeps
-use Rattle.agent.specs.declared.answers.Says.{Says}
-use Rattle.agent.specs.declared.answers.Says.the-variants as says
+use Rattle.moves.specs.declared.answers.Keeps.the-variants as keeps
+use Rattle.agent.specs.declared.answers.Told.{Told}
+use Rattle.moves.specs.declared.answers.Says.the-variants as says
 use Rattle.agent.specs.declared.state.Agent.{Agent}
 use Rattle.agent.specs.declared.judge.Input.{Input}
 use Rattle.agent.specs.declared.judge.Input.the-variants as input
@@ -49,8 +49,8 @@ use Rattle.agent.specs.declared.state.Waiting.the-variants as waiting
 use Rattle.agent.specs.declared.process.Outcome.{Outcome}
 use Rattle.agent.specs.declared.process.Outcome.the-variants.{Replied, Called, Refused}
 use Rattle.agent.specs.declared.process.Processed.{Processed}
-use Rattle.agent.specs.declared.proxy.BridgeAnswer.{BridgeAnswer}
-use Rattle.agent.specs.declared.proxy.BridgeAnswer.the-variants.{Created, Done, Sample, NoSample, Failed}
+use Rattle.moves.specs.declared.proxy.BridgeAnswer.{BridgeAnswer}
+use Rattle.moves.specs.declared.proxy.BridgeAnswer.the-variants.{Created, Done, Sample, NoSample, Failed}
 use Rattle.agent.specs.declared.turn.Frame.{Frame}
 use Rattle.agent.specs.declared.turn.Ran.{Ran}
 use Rattle.agent.specs.declared.turn.Stop.{Stop}
@@ -77,17 +77,9 @@ answersNow (resumes.Answer number task a) (got.Session s) = true
 answersNow (resumes.Answer number task a) got.NotLive = false
 answersNow (resumes.Answer number task a) (got.Refused r) = false
 
-abbrev pub keepsBy : Resumes → Keeps
-keepsBy resumes.Nothing = keeps.Nothing
-keepsBy (resumes.Answer number task a) = keepsOf number task a
-
-abbrev pub saysBy : Resumes → Says
-saysBy resumes.Nothing = says.Status Ok
-saysBy (resumes.Answer number task a) = saysOf task a
-
-abbrev pub numberBy : Resumes → ObjectNumber
-numberBy resumes.Nothing = noObject
-numberBy (resumes.Answer number task a) = number
+abbrev pub toldBy : Resumes → Told
+toldBy resumes.Nothing = record { keeps = keeps.Nothing; says = says.Status Ok; number = noObject }
+toldBy (resumes.Answer number task a) = record { keeps = keepsOf number task a; says = saysOf task a; number = number }
 
 abbrev pub begunTables : Start → Tables → Tables
 begunTables x t =

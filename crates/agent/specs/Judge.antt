@@ -14,8 +14,8 @@ use Rattle.sessions.specs.Limits.{limitsOf}
 use Rattle.sessions.specs.View.{Tables}
 use Rattle.sessions.specs.declared.limits.Limits.{Limits}
 use Rattle.sessions.specs.declared.limits.Limits.the-variants as limits
-use Rattle.agent.specs.Calls.{fits}
-use Rattle.agent.specs.Proxy.{answerAs, taskAs}
+use Rattle.moves.specs.Calls.{fits}
+use Rattle.moves.specs.Proxy.{answerAs, taskAs}
 use Rattle.agent.specs.declared.state.Agent.{Agent}
 use Rattle.agent.specs.declared.judge.Input.{Input}
 use Rattle.agent.specs.declared.judge.Input.the-variants as input
@@ -23,13 +23,14 @@ use Rattle.agent.specs.declared.judge.Judged.{Judged}
 use Rattle.agent.specs.declared.judge.Judged.the-variants.{Goes, Refused}
 use Rattle.agent.specs.declared.state.Pending.{Pending}
 use Rattle.agent.specs.declared.judge.Resumes.the-variants as resumes
+use Rattle.agent.specs.declared.judge.Parts.{Parts}
 use Rattle.agent.specs.declared.judge.Start.{Start}
 use Rattle.agent.specs.declared.judge.Turn.{Turn}
 use Rattle.agent.specs.declared.judge.Turn.the-variants as turn
 use Rattle.agent.specs.declared.state.Waiting.{Waiting}
 use Rattle.agent.specs.declared.state.Waiting.the-variants as waiting
-use Rattle.agent.specs.declared.proxy.BridgeAnswer.{BridgeAnswer}
-use Rattle.agent.specs.declared.proxy.BridgeAnswer.the-variants.{Created, Done, Sample, NoSample, Failed}
+use Rattle.moves.specs.declared.proxy.BridgeAnswer.{BridgeAnswer}
+use Rattle.moves.specs.declared.proxy.BridgeAnswer.the-variants.{Created, Done, Sample, NoSample, Failed}
 
 -- ---- 15: "While a bridge call is open, datagrams .. are out of turn"; "answer, no call open", "or answer of another kind"
 
@@ -114,21 +115,9 @@ judgeOf t d a i sample =
     judgedBy d a (limitsOf (t .sessions) (t .streams) (t .objects) (sessionOf d x)) x sample
 
 -- a start or a refusal, as the code takes them apart
-abbrev pub goesOf : Judged → Bool
-goesOf (Goes x n) = true
-goesOf (Refused r) = false
-
 abbrev pub noStart : Start
 noStart = record { frame = record { «max_clients» = 0; time = 0; «session_id» = 0; «stream_id» = 0 }; next = 0; at = 0; resumes = resumes.Nothing }
 
-abbrev pub startIn : Judged → Start
-startIn (Goes x n) = x
-startIn (Refused r) = noStart
-
-abbrev pub countIn : Judged → ℕ
-countIn (Goes x n) = n
-countIn (Refused r) = 0
-
-abbrev pub refusalIn : Judged → Refusal
-refusalIn (Goes x n) = OverLimit
-refusalIn (Refused r) = r
+abbrev pub partsOf : Judged → Parts
+partsOf (Goes x n) = record { goes = true; start = x; count = n; why = OverLimit }
+partsOf (Refused r) = record { goes = false; start = noStart; count = 0; why = r }

@@ -1,7 +1,5 @@
 -- What a reader must believe of the agent, in document 01's order: the one-session machine's tables, the bridge calls, the rules, the step; the code's values and the agent that a host calls.
 pub mod Local
-pub mod Calls
-pub mod Replies
 pub mod RulesObjects
 pub mod RulesStreams
 pub mod RulesAnswers
@@ -9,13 +7,8 @@ pub mod Rules
 pub mod Step
 pub mod Claim
 pub mod Place
-pub mod Proxy
 pub mod Whole
 -- The step over the lent rows, which the contracts cite. In every state that calls lead to it is the step above (`proofs/SquareStep.antt`).
-pub mod Names
-pub mod Moves
-pub mod RowsStreams
-pub mod Rows
 pub mod Run
 pub mod Answered
 pub mod Judge

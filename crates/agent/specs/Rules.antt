@@ -11,8 +11,8 @@ use Rattle.isolation.specs.Rules.{done, Sub, opens, names, Message, Rules}
 use Rattle.isolation.specs.Machine.{Action, handles, resumes, Handles}
 use Rattle.sessions.specs.View.{Entry, Local, startOf, expired}
 use Rattle.agent.specs.Local.{touched}
-use Rattle.agent.specs.Calls.{Call, createParticipant, createTopic, createWriter, createReader, writeData, readData, deleteEntity, Answer, created, succeeded, sample, noSample, failed, Task, creating, deleting, writing, reading as readingTask, Pending}
-use Rattle.agent.specs.Replies.{clientBytes}
+use Rattle.moves.specs.Calls.{Call, createParticipant, createTopic, createWriter, createReader, writeData, readData, deleteEntity, Answer, created, succeeded, sample, noSample, failed, Task, creating, deleting, writing, reading as readingTask, Pending}
+use Rattle.moves.specs.Replies.{clientBytes}
 use Rattle.agent.specs.RulesObjects.{Move, onCreate, onDelete, onWrite, onRead}
 use Rattle.agent.specs.RulesStreams.{onHeartbeat, onAcknack}
 use Rattle.agent.specs.RulesAnswers.{onAnswer}

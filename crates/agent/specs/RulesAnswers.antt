@@ -6,8 +6,8 @@ use Rattle.codec.specs.declared.submessages.StatusCode.the-variants.{Ok, ErrUnk
 use Rattle.isolation.specs.Rules.{done}
 use Rattle.sessions.specs.View.{Local}
 use Rattle.agent.specs.Local.{listing}
-use Rattle.agent.specs.Calls.{Answer, created, succeeded, sample, noSample, failed, Task, creating, deleting, writing, reading, Pending}
-use Rattle.agent.specs.Replies.{dataBytes}
+use Rattle.moves.specs.Calls.{Answer, created, succeeded, sample, noSample, failed, Task, creating, deleting, writing, reading, Pending}
+use Rattle.moves.specs.Replies.{dataBytes}
 use Rattle.agent.specs.RulesObjects.{Move, says}
 
 -- An answer of another kind never comes here (15); it would count as a failure.

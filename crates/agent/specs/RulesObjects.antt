@@ -16,8 +16,8 @@ use Rattle.codec.specs.declared.submessages.StatusCode.the-variants.{Ok, ErrUnk
 use Rattle.isolation.specs.Rules.{Bytes, Outcome, done, calls}
 use Rattle.sessions.specs.View.{Entry, Local, findIn}
 use Rattle.agent.specs.Local.{listing, dropping, full, handleAt, handleOfKind}
-use Rattle.agent.specs.Calls.{Call, createParticipant, createTopic, createWriter, createReader, writeData, readData, deleteEntity, taskOf, Pending}
-use Rattle.agent.specs.Replies.{statusBytes}
+use Rattle.moves.specs.Calls.{Call, createParticipant, createTopic, createWriter, createReader, writeData, readData, deleteEntity, taskOf, Pending}
+use Rattle.moves.specs.Replies.{statusBytes}
 
 -- "It replies, hands out one call and waits, or does neither."
 abbrev pub Move : Type 0

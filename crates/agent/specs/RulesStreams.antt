@@ -6,7 +6,7 @@ use Rattle.streams.specs.Received.{bitmapOf}
 use Rattle.isolation.specs.Rules.{Bytes, done}
 use Rattle.sessions.specs.View.{KeptStream, Local, streamIn}
 use Rattle.agent.specs.Local.{opening, acknowledging}
-use Rattle.agent.specs.Replies.{acknackBytes}
+use Rattle.moves.specs.Replies.{acknackBytes}
 use Rattle.agent.specs.RulesObjects.{Move}
 
 -- "HEARTBEAT answers ACKNACK": `make_acknack` of its stream; "A ninth stream gets no reply."

@@ -9,10 +9,7 @@ use Rattle.codec.specs.Bytes.{putBytes}
 use Rattle.codec.specs.Reading.{readAt}
 use Rattle.codec.specs.declared.layouts.Parsed.{Parsed}
 use Rattle.codec.specs.declared.layouts.Parsed.the-variants as parsed
-use Rattle.codec.specs.declared.layouts.Span.{Span}
 use Rattle.codec.specs.declared.submessages.StatusCode.the-variants.{Ok, ErrResources}
-use Rattle.codec.specs.declared.submessages.Submessage.{Submessage}
-use Rattle.codec.specs.declared.submessages.Submessage.the-variants as sub
 use Rattle.sessions.specs.Table.{namedOf, touchedRows}
 use Rattle.sessions.specs.Opening.{createdOf}
 use Rattle.sessions.specs.Calls.{withSessions, createTables}
@@ -21,16 +18,17 @@ use Rattle.sessions.specs.declared.opening.Created.{Created}
 use Rattle.sessions.specs.declared.opening.Created.the-variants as created
 use Rattle.sessions.specs.declared.table.Named.{Named}
 use Rattle.sessions.specs.declared.table.Named.the-variants.{Live, NotLive, Refused}
-use Rattle.agent.specs.Moves.{moveBytes}
-use Rattle.agent.specs.Rows.{handledMove, handledTables}
+use Rattle.moves.specs.Moves.{moveBytes}
+use Rattle.moves.specs.Rows.{asksOf, blankAsked, handledMove, handledTables}
 use Rattle.agent.specs.Step.{Reply, opened, replied, bytesOf}
-use Rattle.agent.specs.declared.clients.Opening.{Opening}
-use Rattle.agent.specs.declared.clients.Opening.the-variants.{Client, Other, Unread}
-use Rattle.agent.specs.declared.moves.Move.{Move}
-use Rattle.agent.specs.declared.moves.Move.the-variants.{Greets, Status, Acknack, Calls, Silent}
+use Rattle.moves.specs.declared.handle.Opening.{Opening}
+use Rattle.moves.specs.declared.handle.Opening.the-variants.{Client, Other, Unread}
+use Rattle.moves.specs.declared.moves.Move.{Move}
+use Rattle.moves.specs.declared.moves.Move.the-variants.{Greets, Status, Acknack, Calls, Silent}
 use Rattle.agent.specs.declared.turn.Frame.{Frame}
 use Rattle.agent.specs.declared.turn.Ran.{Ran}
 use Rattle.agent.specs.declared.turn.Stop.{Stop}
+use Rattle.agent.specs.declared.turn.Taken.{Taken}
 use Rattle.agent.specs.declared.turn.Stop.the-variants as stop
 
 -- ---- replies in the lent output, each written only where it fits
@@ -104,61 +102,29 @@ isLive Live = true
 isLive NotLive = false
 isLive (Refused x) = false
 
-abbrev pub delivered : Named → Frame → Tables → List ℕ → Ran → Submessage → Span → ℕ → Turned
-delivered w f t d r m body at =
+-- what was read at a place, taken apart: what it asks for, its body, and the place behind it; where nothing was, the end
+abbrev pub takenOf : Parsed → ℕ → Taken
+takenOf (parsed.Sub m body next) len = record { asked = asksOf m; body = body; at = next .at }
+takenOf (parsed.Refused x) len = record { asked = blankAsked Unread; body = record { start = 0; len = 0 }; at = len }
+
+abbrev pub delivered : Named → Frame → Tables → List ℕ → Ran → Taken → Turned
+delivered w f t d r x =
     let u = touchedTables f t in
     cond (isLive w)
-    (acted f r at (handledMove m u d (f .«session_id») (f .«stream_id») body) (handledTables m u (f .«session_id») (f .«stream_id»)))
-    (record { ran = passed r at; tables = u; replies = [] })
+    (acted f r (x .at) (handledMove (x .asked) u d (f .«session_id») (f .«stream_id») (x .body)) (handledTables (x .asked) u (f .«session_id») (f .«stream_id»)))
+    (record { ran = passed r (x .at); tables = u; replies = [] })
 
--- what was read at a place, as the code takes it apart: where nothing was, a STATUS stands for it
-abbrev pub messageRead : Parsed → Submessage
-messageRead (parsed.Sub m body next) = m
-messageRead (parsed.Refused x) = sub.Status (record { «related_object_id» = record { 0 = 0 }; status = Ok })
+abbrev pub subTurned : Opening → Frame → Tables → List ℕ → Ran → Taken → Turned
+subTurned Client f t d r x = opening f t r (x .asked .key) (x .at)
+subTurned Other f t d r x = delivered (namedOf (t .sessions) (f .«session_id»)) f t d r x
+subTurned Unread f t d r x = record { ran = passed r (x .at); tables = t; replies = [] }
 
-abbrev pub bodyRead : Parsed → Span
-bodyRead (parsed.Sub m body next) = body
-bodyRead (parsed.Refused x) = record { start = 0; len = 0 }
-
-abbrev pub endRead : Parsed → ℕ → ℕ
-endRead (parsed.Sub m body next) len = next .at
-endRead (parsed.Refused x) len = len
-
--- whether it opens a session, with its key
-abbrev pub openingOf : Submessage → Opening
-openingOf (sub.CreateClient p) = Client
-openingOf (sub.Create p) = Other
-openingOf (sub.Delete p) = Other
-openingOf (sub.Status p) = Other
-openingOf (sub.WriteData p) = Other
-openingOf (sub.ReadData p) = Other
-openingOf (sub.Data p) = Other
-openingOf (sub.Heartbeat p) = Other
-openingOf (sub.Acknack p) = Other
-
-abbrev pub openingRead : Parsed → Opening
-openingRead (parsed.Sub m body next) = openingOf m
-openingRead (parsed.Refused x) = Unread
-
-abbrev pub keyIn : Submessage → ℕ
-keyIn (sub.CreateClient p) = p .«client_key»
-keyIn (sub.Create p) = 0
-keyIn (sub.Delete p) = 0
-keyIn (sub.Status p) = 0
-keyIn (sub.WriteData p) = 0
-keyIn (sub.ReadData p) = 0
-keyIn (sub.Data p) = 0
-keyIn (sub.Heartbeat p) = 0
-keyIn (sub.Acknack p) = 0
-
-abbrev pub subTurned : Opening → Frame → Tables → List ℕ → Ran → Submessage → Span → ℕ → Turned
-subTurned Client f t d r m body at = opening f t r (keyIn m) at
-subTurned Other f t d r m body at = delivered (namedOf (t .sessions) (f .«session_id»)) f t d r m body at
-subTurned Unread f t d r m body at = record { ran = passed r at; tables = t; replies = [] }
+abbrev pub takenTurned : Frame → Tables → List ℕ → Ran → Taken → Turned
+takenTurned f t d r x = subTurned (x .asked .opening) f t d r x
 
 -- the datagram was checked before, so that a submessage is always read
 abbrev pub turnedBy : Parsed → Frame → Tables → List ℕ → Ran → Turned
-turnedBy p f t d r = subTurned (openingRead p) f t d r (messageRead p) (bodyRead p) (endRead p (length d))
+turnedBy p f t d r = takenTurned f t d r (takenOf p (length d))
 
 unfoldable pub turned : Frame → Tables → List ℕ → Ran → Turned
 turned f t d r = turnedBy (readAt d (r .at)) f t d r

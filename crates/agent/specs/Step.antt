@@ -13,8 +13,8 @@ use Rattle.isolation.specs.Rules.{done, calls, Sub, opens, names}
 use Rattle.sessions.specs.Opening.{after, liveFrom}
 use Rattle.sessions.specs.Sweep.{expiredFrom}
 use Rattle.sessions.specs.View.{Local, absent, expired, lapsed}
-use Rattle.agent.specs.Calls.{Call, Answer, created, succeeded, sample, noSample, failed, Pending, fits}
-use Rattle.agent.specs.Replies.{clientBytes, dataPayload}
+use Rattle.moves.specs.Calls.{Call, Answer, created, succeeded, sample, noSample, failed, Pending, fits}
+use Rattle.moves.specs.Replies.{clientBytes, dataPayload}
 use Rattle.agent.specs.RulesObjects.{Move}
 use Rattle.agent.specs.RulesAnswers.{onAnswer}
 use Rattle.agent.specs.Rules.{Opening, In, messageFrom, start, handle}

@@ -16,7 +16,7 @@ use Rattle.isolation.specs.Claim as claim
 use Rattle.sessions.specs.Setup.{setUpOf}
 use Rattle.sessions.specs.Calls.{withSessions, setUpTables}
 use Rattle.sessions.specs.View.{Tables, Local, localOf}
-use Rattle.agent.specs.Proxy.{callAs, answerAs, taskAs}
+use Rattle.moves.specs.Proxy.{callAs, answerAs, taskAs}
 use Rattle.agent.specs.Rules.{rules}
 use Rattle.agent.specs.Step as step
 use Rattle.agent.specs.Step.{Reply}
@@ -29,7 +29,7 @@ use Rattle.agent.specs.declared.agent.Removed.{Removed}
 use Rattle.agent.specs.declared.agent.Removed.the-variants as removed
 use Rattle.agent.specs.declared.process.Outcome.{Outcome}
 use Rattle.agent.specs.declared.process.Outcome.the-variants.{Replied, Called, Refused}
-use Rattle.agent.specs.declared.proxy.BridgeAnswer.{BridgeAnswer}
+use Rattle.moves.specs.declared.proxy.BridgeAnswer.{BridgeAnswer}
 use Rattle.agent.specs.declared.state.Agent.{Agent}
 use Rattle.agent.specs.declared.state.Waiting.{Waiting}
 use Rattle.agent.specs.declared.state.Waiting.the-variants as waiting

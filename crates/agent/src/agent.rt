@@ -4,11 +4,11 @@ use crate::judge::Input;
 use crate::judge::sound_record;
 use crate::process::Processed;
 use crate::process::process;
-use crate::proxy::BridgeAnswer;
 use crate::state::Agent;
 use crate::state::Waiting;
 use codec::bytes::Written;
 use codec::refusals::Refusal;
+use moves::proxy::BridgeAnswer;
 use sessions::objects::Object;
 use sessions::setup::SetUp;
 use sessions::setup::set_up;
@@ -21,7 +21,7 @@ ghost use mathlib.Core.Path.{_≡_};
 ghost use lib.ListN.{length};
 ghost use Rattle.sessions.specs.Setup.{setUpOf};
 ghost use Rattle.sessions.specs.Calls.{setUpTables};
-ghost use Rattle.agent.specs.Rows.{lent};
+ghost use Rattle.moves.specs.Rows.{lent};
 ghost use Rattle.agent.specs.Host.{setUpAs, incomingOf, answerOf, idleOf, removedAs, removedBy, removedRows, sweptBy, sweptRows, sweptOut};
 
 pub enum AgentSetUp {

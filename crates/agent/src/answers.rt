@@ -1,15 +1,17 @@
 // The answer to a session's call: what it lists, and the reply.
 use crate::judge::Resumes;
-use crate::moves::Move;
-use crate::proxy::BridgeAnswer;
-use crate::proxy::Task;
 use crate::replies::reply;
 use crate::replies::reply_data;
 use crate::turn::Frame;
 use codec::submessages::ObjectNumber;
 use codec::submessages::StatusCode;
+use moves::answers::Keeps;
+use moves::answers::Says;
+use moves::answers::keep;
+use moves::answers::what_keeps;
+use moves::answers::what_says;
+use moves::moves::Move;
 use sessions::objects::Object;
-use sessions::session_objects::put_object;
 use sessions::table::Got;
 use sessions::table::SessionRow;
 use sessions::table::get;
@@ -19,103 +21,8 @@ ghost use lib.ListN.{length};
 ghost use Rattle.codec.specs.Bytes.{putBytes};
 ghost use Rattle.agent.specs.Step.{joinedReplies};
 ghost use Rattle.agent.specs.Run.{putReplies};
-ghost use Rattle.agent.specs.Answered.{createdKeeps, keepsOf, createdSays, doneSays, readSays, saysOf, keptSessions, keptObjects, saysFits, saysBytes};
-ghost use Rattle.agent.specs.Host.{answersNow, keepsBy, saysBy, numberBy, begunBy, begunSessions, begunObjects, resumesFit};
-
-// What an answer lists: a CREATE that succeeds lists its object with the handle returned.
-enum Keeps {
-    Object(Object),
-    Nothing,
-}
-
-// What it replies: a STATUS, or the sample as DATA.
-enum Says {
-    Status(StatusCode),
-    Data,
-}
-
-fn keeps_created(number: ObjectNumber, kind: u8, answer: BridgeAnswer) -> Keeps
-    ensures { λ r. ⌜ r ≡ createdKeeps number kind answer ⌝ }
-{
-    match answer {
-        BridgeAnswer::Created(h) => Keeps::Object(Object::bridged(number, kind, h)),
-        BridgeAnswer::Done => Keeps::Nothing,
-        BridgeAnswer::Sample => Keeps::Nothing,
-        BridgeAnswer::NoSample => Keeps::Nothing,
-        BridgeAnswer::Failed => Keeps::Nothing,
-    }
-}
-
-fn what_keeps(number: ObjectNumber, task: Task, answer: BridgeAnswer) -> Keeps
-    ensures { λ r. ⌜ r ≡ keepsOf number task answer ⌝ }
-{
-    match task {
-        Task::Creating(kind) => keeps_created(number, kind, answer),
-        Task::Writing => Keeps::Nothing,
-        Task::Reading => Keeps::Nothing,
-        Task::Deleting => Keeps::Nothing,
-    }
-}
-
-fn says_created(answer: BridgeAnswer) -> Says
-    ensures { λ r. ⌜ r ≡ createdSays answer ⌝ }
-{
-    match answer {
-        BridgeAnswer::Created(_) => Says::Status(StatusCode::Ok),
-        BridgeAnswer::Done => Says::Status(StatusCode::ErrInvalidData),
-        BridgeAnswer::Sample => Says::Status(StatusCode::ErrInvalidData),
-        BridgeAnswer::NoSample => Says::Status(StatusCode::ErrInvalidData),
-        BridgeAnswer::Failed => Says::Status(StatusCode::ErrInvalidData),
-    }
-}
-
-fn says_done(answer: BridgeAnswer, otherwise: StatusCode) -> Says
-    ensures { λ r. ⌜ r ≡ doneSays answer otherwise ⌝ }
-{
-    match answer {
-        BridgeAnswer::Created(_) => Says::Status(otherwise),
-        BridgeAnswer::Done => Says::Status(StatusCode::Ok),
-        BridgeAnswer::Sample => Says::Status(otherwise),
-        BridgeAnswer::NoSample => Says::Status(otherwise),
-        BridgeAnswer::Failed => Says::Status(otherwise),
-    }
-}
-
-// "A read without data answers STATUS OK."
-fn says_read(answer: BridgeAnswer) -> Says
-    ensures { λ r. ⌜ r ≡ readSays answer ⌝ }
-{
-    match answer {
-        BridgeAnswer::Created(_) => Says::Status(StatusCode::ErrInvalidData),
-        BridgeAnswer::Done => Says::Status(StatusCode::ErrInvalidData),
-        BridgeAnswer::Sample => Says::Data,
-        BridgeAnswer::NoSample => Says::Status(StatusCode::Ok),
-        BridgeAnswer::Failed => Says::Status(StatusCode::ErrInvalidData),
-    }
-}
-
-fn what_says(task: Task, answer: BridgeAnswer) -> Says
-    ensures { λ r. ⌜ r ≡ saysOf task answer ⌝ }
-{
-    match task {
-        Task::Creating(_) => says_created(answer),
-        Task::Writing => says_done(answer, StatusCode::ErrInvalidData),
-        Task::Reading => says_read(answer),
-        Task::Deleting => says_done(answer, StatusCode::ErrUnknownRef),
-    }
-}
-
-fn keep(sessions: &mut [SessionRow], objects: &mut [Object], id: u8, k: Keeps)
-    ensures { λ _. ⌜ (now (sessions .exit) ≡ keptSessions k (now (sessions .entry)) (now (objects .entry)) id)
-        × (now (objects .exit) ≡ keptObjects k (now (sessions .entry)) (now (objects .entry)) id) ⌝ }
-{
-    match k {
-        Keeps::Object(o) => {
-            put_object(sessions, objects, id, o);
-        }
-        Keeps::Nothing => {}
-    }
-}
+ghost use Rattle.agent.specs.Answered.{saysFits, saysBytes};
+ghost use Rattle.agent.specs.Host.{answersNow, toldBy, begunBy, begunSessions, begunObjects, resumesFit};
 
 fn reply_says(out: &mut [u8], sample: &[u8], frame: Frame, number: ObjectNumber, s: Says) -> usize
     requires { ⌜ saysFits s (length (now sample)) ≡ true ⌝ }
@@ -148,30 +55,27 @@ fn answers_now(resumes: Resumes, got: Got) -> bool
     }
 }
 
-fn keeps_by(resumes: Resumes) -> Keeps
-    ensures { λ r. ⌜ r ≡ keepsBy resumes ⌝ }
-{
-    match resumes {
-        Resumes::Nothing => Keeps::Nothing,
-        Resumes::Answer(number, task, told) => what_keeps(number, task, told),
-    }
+// What the answer that a run begins with lists and says, and for which object.
+struct Told {
+    pub keeps: Keeps,
+    pub says: Says,
+    pub number: ObjectNumber,
 }
 
-fn says_by(resumes: Resumes) -> Says
-    ensures { λ r. ⌜ r ≡ saysBy resumes ⌝ }
+fn told_by(resumes: Resumes) -> Told
+    ensures { λ r. ⌜ r ≡ toldBy resumes ⌝ }
 {
     match resumes {
-        Resumes::Nothing => Says::Status(StatusCode::Ok),
-        Resumes::Answer(_, task, told) => what_says(task, told),
-    }
-}
-
-fn number_by(resumes: Resumes) -> ObjectNumber
-    ensures { λ r. ⌜ r ≡ numberBy resumes ⌝ }
-{
-    match resumes {
-        Resumes::Nothing => ObjectNumber(0),
-        Resumes::Answer(number, _, _) => number,
+        Resumes::Nothing => Told {
+            keeps: Keeps::Nothing,
+            says: Says::Status(StatusCode::Ok),
+            number: ObjectNumber(0),
+        },
+        Resumes::Answer(number, task, told) => Told {
+            keeps: what_keeps(number, task, told),
+            says: what_says(task, told),
+            number,
+        },
     }
 }
 
@@ -193,11 +97,9 @@ pub(crate) fn begin(
     let id = frame.session_id;
     let got = get(sessions, id);
     if answers_now(resumes, got) {
-        let k = keeps_by(resumes);
-        keep(sessions, objects, id, k);
-        let s = says_by(resumes);
-        let number = number_by(resumes);
-        reply_says(out, sample, frame, number, s)
+        let t = told_by(resumes);
+        keep(sessions, objects, id, t.keeps);
+        reply_says(out, sample, frame, t.number, t.says)
     } else {
         0
     }

@@ -1,6 +1,6 @@
-// 13 is exact: where the output may be too short, the call runs once on no output, which tells what it would write, and the
-// records that it may have changed are put back: all sessions', the first stream's of each, and the named session's streams
-// and objects.
+// 13 is exact: where the output may be too short, the call runs once on an output of its own, which tells what it would
+// write, and the records that it may have changed are put back: all sessions', the first stream's of each, and the named
+// session's streams and objects.
 use crate::judge::Start;
 use crate::perform::perform;
 use codec::submessages::ObjectNumber;
@@ -13,7 +13,7 @@ ghost use mathlib.Core.List.{[]};
 ghost use Prim.Native.Nat.{_+_, _*_, _<_, _≤_};
 ghost use lib.ListN.{length, getD, set};
 ghost use Rattle.sessions.specs.Objects.{blank};
-ghost use Rattle.agent.specs.Rows.{lent};
+ghost use Rattle.moves.specs.Rows.{lent};
 ghost use Rattle.agent.specs.Host.{resumesFit, performed};
 ghost use Rattle.agent.specs.Dry.{sessionCopy, sessionBack, noSession, streamCopy, streamBack, noStream, same, sessionSpot, streamSpot, objectSpot, copied, restored};
 
@@ -160,7 +160,6 @@ fn dry_sessions(
     sessions: &mut [SessionRow],
     streams: &mut [StreamRow],
     objects: &mut [Object],
-    out: &mut [u8],
     d: &[u8],
     sample: &[u8],
     start: Start,
@@ -170,13 +169,13 @@ fn dry_sessions(
     ensures { λ n. ⌜ (n ≡ performed start (lent (now (sessions .entry)) (now (streams .entry)) (now (objects .entry))) (now (d .entry)) (now (sample .entry)) .ran .wrote)
         × (now (sessions .exit) ≡ now (sessions .entry))
         × (now (streams .exit) ≡ performed start (lent (now (sessions .entry)) (now (streams .entry)) (now (objects .entry))) (now (d .entry)) (now (sample .entry)) .tables .streams)
-        × (now (objects .exit) ≡ performed start (lent (now (sessions .entry)) (now (streams .entry)) (now (objects .entry))) (now (d .entry)) (now (sample .entry)) .tables .objects)
-        × (now (out .exit) ≡ now (out .entry)) ⌝ }
+        × (now (objects .exit) ≡ performed start (lent (now (sessions .entry)) (now (streams .entry)) (now (objects .entry))) (now (d .entry)) (now (sample .entry)) .tables .objects) ⌝ }
 {
     let session = no_session();
     let mut rows = [session; 256];
     copy_sessions(sessions, &mut rows, 256);
-    let ran = perform(sessions, streams, objects, &mut out[0..0], d, sample, start);
+    let mut none = [0u8; 2];
+    let ran = perform(sessions, streams, objects, &mut none, d, sample, start);
     restore_sessions(&rows, sessions, 256);
     ran.wrote
 }
@@ -186,7 +185,6 @@ fn dry_streams(
     sessions: &mut [SessionRow],
     streams: &mut [StreamRow],
     objects: &mut [Object],
-    out: &mut [u8],
     d: &[u8],
     sample: &[u8],
     start: Start,
@@ -197,15 +195,14 @@ fn dry_streams(
     ensures { λ n. ⌜ (n ≡ performed start (lent (now (sessions .entry)) (now (streams .entry)) (now (objects .entry))) (now (d .entry)) (now (sample .entry)) .ran .wrote)
         × (now (sessions .exit) ≡ now (sessions .entry))
         × (now (streams .exit) ≡ now (streams .entry))
-        × (now (objects .exit) ≡ performed start (lent (now (sessions .entry)) (now (streams .entry)) (now (objects .entry))) (now (d .entry)) (now (sample .entry)) .tables .objects)
-        × (now (out .exit) ≡ now (out .entry)) ⌝ }
+        × (now (objects .exit) ≡ performed start (lent (now (sessions .entry)) (now (streams .entry)) (now (objects .entry))) (now (d .entry)) (now (sample .entry)) .tables .objects) ⌝ }
 {
     let frame = start.frame;
     let id = frame.session_id;
     let stream = no_stream();
     let mut rows = [stream; 264];
     copy_streams(streams, &mut rows, id, 264);
-    let n = dry_sessions(sessions, streams, objects, out, d, sample, start);
+    let n = dry_sessions(sessions, streams, objects, d, sample, start);
     restore_streams(&rows, streams, id, 264);
     n
 }
@@ -215,7 +212,6 @@ pub(crate) fn dry(
     sessions: &mut [SessionRow],
     streams: &mut [StreamRow],
     objects: &mut [Object],
-    out: &mut [u8],
     d: &[u8],
     sample: &[u8],
     start: Start,
@@ -227,8 +223,7 @@ pub(crate) fn dry(
     ensures { λ n. ⌜ (n ≡ performed start (lent (now (sessions .entry)) (now (streams .entry)) (now (objects .entry))) (now (d .entry)) (now (sample .entry)) .ran .wrote)
         × (now (sessions .exit) ≡ now (sessions .entry))
         × (now (streams .exit) ≡ now (streams .entry))
-        × (now (objects .exit) ≡ now (objects .entry))
-        × (now (out .exit) ≡ now (out .entry)) ⌝ }
+        × (now (objects .exit) ≡ now (objects .entry)) ⌝ }
 {
     let frame = start.frame;
     let id = frame.session_id;
@@ -237,7 +232,7 @@ pub(crate) fn dry(
     let o = Object::implicit(number, 0);
     let mut records = [o; 32];
     copy_objects(objects, &mut records, first, 32);
-    let n = dry_streams(sessions, streams, objects, out, d, sample, start);
+    let n = dry_streams(sessions, streams, objects, d, sample, start);
     restore_objects(&records, objects, first, 32);
     n
 }

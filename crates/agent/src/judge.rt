@@ -1,7 +1,4 @@
 // What refuses a call before it runs, in document 01's order: 15, 16, 1 to 5, 12.
-use crate::proxy::BridgeAnswer;
-use crate::proxy::Task;
-use crate::proxy::fits;
 use crate::state::Agent;
 use crate::state::Pending;
 use crate::state::Waiting;
@@ -12,6 +9,9 @@ use codec::reading::check;
 use codec::reading::count_at;
 use codec::refusals::Refusal;
 use codec::submessages::ObjectNumber;
+use moves::proxy::BridgeAnswer;
+use moves::proxy::Task;
+use moves::proxy::fits;
 use sessions::limits::Limits;
 use sessions::limits::within_limits;
 use sessions::objects::Object;
@@ -20,8 +20,8 @@ use sessions::table::SessionRow;
 ghost use mathlib.Core.Path.{_≡_};
 ghost use lib.ListN.{getD};
 ghost use Rattle.sessions.specs.Limits.{limitsOf};
-ghost use Rattle.agent.specs.Rows.{lent};
-ghost use Rattle.agent.specs.Judge.{answersOf, idleTurn, busyTurn, turnOf, sessionOf, recordSound, soundOf, tooLong, datagramStart, answerStart, datagramJudged, restJudged, answerJudged, judgedBy, judgeOf, goesOf, noStart, startIn, countIn, refusalIn};
+ghost use Rattle.moves.specs.Rows.{lent};
+ghost use Rattle.agent.specs.Judge.{answersOf, idleTurn, busyTurn, turnOf, sessionOf, recordSound, soundOf, tooLong, datagramStart, answerStart, datagramJudged, restJudged, answerJudged, judgedBy, judgeOf, partsOf};
 
 // A call of the host: a datagram with its time, or the bridge's answer.
 pub enum Input {
@@ -265,55 +265,38 @@ pub(crate) fn judge(
 
 // What was judged, taken apart: whether the call goes on, where it starts, how many submessages there are to run, and why
 // not.
-pub(crate) fn goes(j: Judged) -> bool
-    ensures { λ r. ⌜ r ≡ goesOf j ⌝ }
-{
-    match j {
-        Judged::Goes(_, _) => true,
-        Judged::Refused(_) => false,
-    }
+pub(crate) struct Parts {
+    pub goes: bool,
+    pub start: Start,
+    pub count: usize,
+    pub why: Refusal,
 }
 
-fn no_start() -> Start
-    ensures { λ r. ⌜ r ≡ noStart ⌝ }
-{
-    let frame = Frame {
-        max_clients: 0,
-        time: 0,
-        session_id: 0,
-        stream_id: 0,
-    };
-    Start {
-        frame,
-        next: 0,
-        at: 0,
-        resumes: Resumes::Nothing,
-    }
-}
-
-pub(crate) fn start_in(j: Judged) -> Start
-    ensures { λ r. ⌜ r ≡ startIn j ⌝ }
+pub(crate) fn parts_of(j: Judged) -> Parts
+    ensures { λ r. ⌜ r ≡ partsOf j ⌝ }
 {
     match j {
-        Judged::Goes(start, _) => start,
-        Judged::Refused(_) => no_start(),
-    }
-}
-
-pub(crate) fn count_in(j: Judged) -> usize
-    ensures { λ r. ⌜ r ≡ countIn j ⌝ }
-{
-    match j {
-        Judged::Goes(_, n) => n,
-        Judged::Refused(_) => 0,
-    }
-}
-
-pub(crate) fn refusal_in(j: Judged) -> Refusal
-    ensures { λ r. ⌜ r ≡ refusalIn j ⌝ }
-{
-    match j {
-        Judged::Goes(_, _) => Refusal::OverLimit,
-        Judged::Refused(x) => x,
+        Judged::Goes(start, count) => Parts {
+            goes: true,
+            start,
+            count,
+            why: Refusal::OverLimit,
+        },
+        Judged::Refused(why) => Parts {
+            goes: false,
+            start: Start {
+                frame: Frame {
+                    max_clients: 0,
+                    time: 0,
+                    session_id: 0,
+                    stream_id: 0,
+                },
+                next: 0,
+                at: 0,
+                resumes: Resumes::Nothing,
+            },
+            count: 0,
+            why,
+        },
     }
 }

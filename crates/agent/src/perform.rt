@@ -10,7 +10,7 @@ use sessions::table::SessionRow;
 ghost use mathlib.Core.Path.{_≡_};
 ghost use mathlib.Core.Bool.{true};
 ghost use lib.ListN.{length};
-ghost use Rattle.agent.specs.Rows.{lent};
+ghost use Rattle.moves.specs.Rows.{lent};
 ghost use Rattle.agent.specs.Run.{putReplies};
 ghost use Rattle.agent.specs.Host.{resumesFit, performed, firstRan};
 

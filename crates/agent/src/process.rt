@@ -3,20 +3,17 @@ use crate::dry::dry;
 use crate::judge::Input;
 use crate::judge::Resumes;
 use crate::judge::Start;
-use crate::judge::count_in;
-use crate::judge::goes;
 use crate::judge::judge;
-use crate::judge::refusal_in;
-use crate::judge::start_in;
+use crate::judge::parts_of;
 use crate::perform::perform;
-use crate::proxy::BridgeAnswer;
-use crate::proxy::BridgeCall;
 use crate::state::Agent;
 use crate::state::Pending;
 use crate::state::Waiting;
 use crate::turn::Ran;
 use crate::turn::Stop;
 use codec::refusals::Refusal;
+use moves::proxy::BridgeAnswer;
+use moves::proxy::BridgeCall;
 use sessions::objects::Object;
 use sessions::stream_rows::StreamRow;
 use sessions::table::SessionRow;
@@ -25,7 +22,7 @@ ghost use mathlib.Core.Bool.{true};
 ghost use Prim.Native.Nat.{_≤_};
 ghost use lib.Dec.{ltb};
 ghost use lib.ListN.{length};
-ghost use Rattle.agent.specs.Rows.{lent};
+ghost use Rattle.moves.specs.Rows.{lent};
 ghost use Rattle.agent.specs.Host.{outcomeOf, waitsOf, finishedOf, refusedOf, answerMost, firstMost, roomy, neededOf, resumesFit, performed, finish, processOf};
 
 // The bytes replied, at the start of the output; the same with a call handed out; or why not.
@@ -132,29 +129,27 @@ fn needed(
     sessions: &mut [SessionRow],
     streams: &mut [StreamRow],
     objects: &mut [Object],
-    out: &mut [u8],
     d: &[u8],
     sample: &[u8],
     start: Start,
     n: usize,
+    room: usize,
 ) -> usize
     requires { ⌜ (resumesFit (start .resumes) (length (now sample)) ≡ true)
         × (256 ≤ length (now sessions))
         × (2048 ≤ length (now streams))
         × (8192 ≤ length (now objects)) ⌝ }
-    ensures { λ k. ⌜ (k ≡ neededOf (roomy (length (now (out .entry))) (start .resumes) n (length (now (sample .entry)))) (performed start (lent (now (sessions .entry)) (now (streams .entry)) (now (objects .entry))) (now (d .entry)) (now (sample .entry)) .ran .wrote))
+    ensures { λ k. ⌜ (k ≡ neededOf (roomy room (start .resumes) n (length (now (sample .entry)))) (performed start (lent (now (sessions .entry)) (now (streams .entry)) (now (objects .entry))) (now (d .entry)) (now (sample .entry)) .ran .wrote))
         × (now (sessions .exit) ≡ now (sessions .entry))
         × (now (streams .exit) ≡ now (streams .entry))
-        × (now (objects .exit) ≡ now (objects .entry))
-        × (now (out .exit) ≡ now (out .entry)) ⌝ }
+        × (now (objects .exit) ≡ now (objects .entry)) ⌝ }
 {
-    let room = out.len();
     let long = sample.len();
     let ok = is_roomy(room, start, n, long);
     if ok {
         0
     } else {
-        dry(sessions, streams, objects, out, d, sample, start)
+        dry(sessions, streams, objects, d, sample, start)
     }
 }
 
@@ -183,7 +178,7 @@ fn go(
         × (now (out .exit) ≡ finish agent (lent (now (sessions .entry)) (now (streams .entry)) (now (objects .entry))) (now (out .entry)) start (performed start (lent (now (sessions .entry)) (now (streams .entry)) (now (objects .entry))) (now (d .entry)) (now (sample .entry))) .out) ⌝ }
 {
     let room = out.len();
-    let need = needed(sessions, streams, objects, out, d, sample, start, n);
+    let need = needed(sessions, streams, objects, d, sample, start, n, room);
     if room < need {
         refused(agent, Refusal::OutputTooShort)
     } else {
@@ -210,12 +205,13 @@ pub fn process(
 {
     let long = sample.len();
     let j = judge(sessions, streams, objects, d, agent, input, long);
-    if goes(j) {
-        let start = start_in(j);
-        let n = count_in(j);
+    let x = parts_of(j);
+    if x.goes {
+        let start = x.start;
+        let n = x.count;
         go(sessions, streams, objects, out, d, sample, agent, start, n)
     } else {
-        let why = refusal_in(j);
+        let why = x.why;
         refused(agent, why)
     }
 }

@@ -1,6 +1,5 @@
 // The bytes of a reply in the lent output, written only where they fit; the count goes on as if they did, so that a run on
 // no output tells what it would need (13).
-use crate::moves::Move;
 use codec::bytes::put_bytes;
 use codec::header::MessageHeader;
 use codec::submessages::AcknackPayload;
@@ -9,12 +8,13 @@ use codec::submessages::ObjectNumber;
 use codec::submessages::StatusCode;
 use codec::submessages::Submessage;
 use codec::writing::write_message;
+use moves::moves::Move;
 ghost use mathlib.Core.Path.{_≡_};
 ghost use Prim.Native.Nat.{_+_, _≤_, _%_, _/_};
 ghost use lib.ListN.{length};
 ghost use Rattle.codec.specs.Bytes.{putBytes};
-ghost use Rattle.agent.specs.Replies.{statusBytes, acknackBytes, dataBytes};
-ghost use Rattle.agent.specs.Moves.{moveBytes};
+ghost use Rattle.moves.specs.Replies.{statusBytes, acknackBytes, dataBytes};
+ghost use Rattle.moves.specs.Moves.{moveBytes};
 
 // The low and the high byte of a number, in the order that they stand on the wire.
 fn low(n: u16) -> u8

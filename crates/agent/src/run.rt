@@ -8,7 +8,7 @@ use sessions::stream_rows::StreamRow;
 use sessions::table::SessionRow;
 ghost use mathlib.Core.Path.{_≡_};
 ghost use Prim.Native.Nat.{_≤_};
-ghost use Rattle.agent.specs.Rows.{lent};
+ghost use Rattle.moves.specs.Rows.{lent};
 ghost use Rattle.agent.specs.Run.{putReplies, isCall, goesOn, runAt};
 
 fn is_call(s: Stop) -> bool

@@ -1,6 +1,6 @@
 // The agent between two calls of the host, beside the lent tables.
-use crate::proxy::Task;
 use codec::submessages::ObjectNumber;
+use moves::proxy::Task;
 
 // The submessage of the open call: its header's session and stream, its object, what the call is for, the place behind it
 // in its datagram, and that datagram's time.

@@ -1,28 +1,20 @@
 // One submessage of a datagram: read, opened or touched, handled, replied to.
-use crate::clients::Opening;
 use crate::clients::greeting;
-use crate::clients::key_in;
-use crate::clients::opening_of;
 use crate::clients::pointer;
-use crate::moves::Move;
-use crate::objects::create;
-use crate::objects::delete;
-use crate::objects::read_data;
-use crate::objects::write_data;
-use crate::proxy::BridgeCall;
-use crate::proxy::Task;
 use crate::replies::reply;
-use crate::stream_moves::handle_stream;
 use codec::layouts::Cursor;
 use codec::layouts::Parsed;
 use codec::layouts::Span;
 use codec::reading::read;
-use codec::submessages::CreatePayload;
-use codec::submessages::ObjectKind;
 use codec::submessages::ObjectNumber;
-use codec::submessages::StatusCode;
-use codec::submessages::StatusPayload;
-use codec::submessages::Submessage;
+use moves::handle::Asked;
+use moves::handle::Opening;
+use moves::handle::asks;
+use moves::handle::blank;
+use moves::handle::handle;
+use moves::moves::Move;
+use moves::proxy::BridgeCall;
+use moves::proxy::Task;
 use sessions::objects::Object;
 use sessions::opening::create_session;
 use sessions::stream_rows::StreamRow;
@@ -34,9 +26,9 @@ ghost use Prim.Native.Nat.{_≤_};
 ghost use Rattle.codec.specs.Bytes.{putBytes};
 ghost use Rattle.sessions.specs.Table.{namedOf};
 ghost use Rattle.sessions.specs.Opening.{createdOf, openedRows, openedStreams};
-ghost use Rattle.agent.specs.Moves.{moveBytes};
-ghost use Rattle.agent.specs.Rows.{lent, groupOf, noObject, noCreate, createIn, numberIn, handledMove, handledTables};
-ghost use Rattle.agent.specs.Run.{putReplies, settled, stopOf, greetingBytes, greeted, passed, isLive, delivered, openingRead, messageRead, bodyRead, endRead, turned};
+ghost use Rattle.moves.specs.Moves.{moveBytes};
+ghost use Rattle.moves.specs.Rows.{lent};
+ghost use Rattle.agent.specs.Run.{putReplies, settled, stopOf, greetingBytes, greeted, passed, isLive, delivered, takenOf, turned};
 
 // What a datagram's submessages have in common: the limit, the time, and the header's session and stream.
 pub(crate) struct Frame {
@@ -57,108 +49,6 @@ pub(crate) struct Ran {
     pub at: usize,
     pub wrote: usize,
     pub stop: Stop,
-}
-
-// What a submessage is about.
-enum Group {
-    Creates,
-    Deletes,
-    Writes,
-    Reads,
-    Streams,
-    Neither,
-}
-
-fn group_of(m: Submessage) -> Group
-    ensures { λ r. ⌜ r ≡ groupOf m ⌝ }
-{
-    match m {
-        Submessage::CreateClient(_) => Group::Neither,
-        Submessage::Create(_) => Group::Creates,
-        Submessage::Delete(_) => Group::Deletes,
-        Submessage::Status(_) => Group::Neither,
-        Submessage::WriteData(_) => Group::Writes,
-        Submessage::ReadData(_) => Group::Reads,
-        Submessage::Data(_) => Group::Neither,
-        Submessage::Heartbeat(_) => Group::Streams,
-        Submessage::Acknack(_) => Group::Streams,
-    }
-}
-
-fn no_object() -> ObjectNumber
-    ensures { λ r. ⌜ r ≡ noObject ⌝ }
-{
-    ObjectNumber(0)
-}
-
-fn no_create() -> CreatePayload
-    ensures { λ r. ⌜ r ≡ noCreate ⌝ }
-{
-    CreatePayload {
-        object_id: ObjectNumber(0),
-        kind: ObjectKind::Participant,
-        parent_id: 0,
-    }
-}
-
-fn create_in(m: Submessage) -> CreatePayload
-    ensures { λ r. ⌜ r ≡ createIn m ⌝ }
-{
-    match m {
-        Submessage::Create(p) => p,
-        Submessage::CreateClient(_) => no_create(),
-        Submessage::Delete(_) => no_create(),
-        Submessage::Status(_) => no_create(),
-        Submessage::WriteData(_) => no_create(),
-        Submessage::ReadData(_) => no_create(),
-        Submessage::Data(_) => no_create(),
-        Submessage::Heartbeat(_) => no_create(),
-        Submessage::Acknack(_) => no_create(),
-    }
-}
-
-fn number_in(m: Submessage) -> ObjectNumber
-    ensures { λ r. ⌜ r ≡ numberIn m ⌝ }
-{
-    match m {
-        Submessage::Delete(p) => p.object_id,
-        Submessage::WriteData(p) => p.writer_id,
-        Submessage::ReadData(p) => p.reader_id,
-        Submessage::CreateClient(_) => no_object(),
-        Submessage::Create(_) => no_object(),
-        Submessage::Status(_) => no_object(),
-        Submessage::Data(_) => no_object(),
-        Submessage::Heartbeat(_) => no_object(),
-        Submessage::Acknack(_) => no_object(),
-    }
-}
-
-fn handle(
-    sessions: &mut [SessionRow],
-    streams: &mut [StreamRow],
-    objects: &mut [Object],
-    d: &[u8],
-    id: u8,
-    n: u8,
-    m: Submessage,
-    body: Span,
-) -> Move
-    ensures { λ r. ⌜ (r ≡ handledMove m (lent (now (sessions .entry)) (now (streams .entry)) (now (objects .entry))) (now (d .entry)) id n body)
-        × (now (sessions .exit) ≡ handledTables m (lent (now (sessions .entry)) (now (streams .entry)) (now (objects .entry))) id n .sessions)
-        × (now (streams .exit) ≡ handledTables m (lent (now (sessions .entry)) (now (streams .entry)) (now (objects .entry))) id n .streams)
-        × (now (objects .exit) ≡ handledTables m (lent (now (sessions .entry)) (now (streams .entry)) (now (objects .entry))) id n .objects) ⌝ }
-{
-    let g = group_of(m);
-    let p = create_in(m);
-    let number = number_in(m);
-    match g {
-        Group::Creates => create(sessions, objects, d, id, p, body),
-        Group::Deletes => delete(sessions, objects, id, number),
-        Group::Writes => write_data(sessions, objects, id, number, body),
-        Group::Reads => read_data(sessions, objects, id, number),
-        Group::Streams => handle_stream(sessions, streams, id, n, m),
-        Group::Neither => Move::Silent,
-    }
 }
 
 fn stop_of(m: Move) -> Stop
@@ -233,6 +123,31 @@ fn is_live(named: Named) -> bool
     }
 }
 
+// What was read at a place of the datagram, taken apart: what it asks for, its body, and where the next one begins. Where
+// no submessage was read, the next place is the end.
+struct Taken {
+    pub asked: Asked,
+    pub body: Span,
+    pub at: usize,
+}
+
+fn take_apart(p: Parsed, len: usize) -> Taken
+    ensures { λ r. ⌜ r ≡ takenOf p len ⌝ }
+{
+    match p {
+        Parsed::Sub(m, body, next) => Taken {
+            asked: asks(m),
+            body,
+            at: next.at,
+        },
+        Parsed::Refused(_) => Taken {
+            asked: blank(Opening::Unread),
+            body: Span { start: 0, len: 0 },
+            at: len,
+        },
+    }
+}
+
 // Any other submessage: "the session is touched first with the datagram's time."
 fn deliver(
     sessions: &mut [SessionRow],
@@ -242,66 +157,23 @@ fn deliver(
     d: &[u8],
     f: Frame,
     r: Ran,
-    m: Submessage,
-    body: Span,
-    at: usize,
+    took: Taken,
 ) -> Ran
     requires { ⌜ r .wrote ≤ 18446744073709551600 ⌝ }
-    ensures { λ x. ⌜ (x ≡ delivered (namedOf (now (sessions .entry)) (f .«session_id»)) f (lent (now (sessions .entry)) (now (streams .entry)) (now (objects .entry))) (now (d .entry)) r m body at .ran)
-        × (now (sessions .exit) ≡ delivered (namedOf (now (sessions .entry)) (f .«session_id»)) f (lent (now (sessions .entry)) (now (streams .entry)) (now (objects .entry))) (now (d .entry)) r m body at .tables .sessions)
-        × (now (streams .exit) ≡ delivered (namedOf (now (sessions .entry)) (f .«session_id»)) f (lent (now (sessions .entry)) (now (streams .entry)) (now (objects .entry))) (now (d .entry)) r m body at .tables .streams)
-        × (now (objects .exit) ≡ delivered (namedOf (now (sessions .entry)) (f .«session_id»)) f (lent (now (sessions .entry)) (now (streams .entry)) (now (objects .entry))) (now (d .entry)) r m body at .tables .objects)
-        × (now (out .exit) ≡ putReplies (now (out .entry)) (r .wrote) (delivered (namedOf (now (sessions .entry)) (f .«session_id»)) f (lent (now (sessions .entry)) (now (streams .entry)) (now (objects .entry))) (now (d .entry)) r m body at .replies)) ⌝ }
+    ensures { λ x. ⌜ (x ≡ delivered (namedOf (now (sessions .entry)) (f .«session_id»)) f (lent (now (sessions .entry)) (now (streams .entry)) (now (objects .entry))) (now (d .entry)) r took .ran)
+        × (now (sessions .exit) ≡ delivered (namedOf (now (sessions .entry)) (f .«session_id»)) f (lent (now (sessions .entry)) (now (streams .entry)) (now (objects .entry))) (now (d .entry)) r took .tables .sessions)
+        × (now (streams .exit) ≡ delivered (namedOf (now (sessions .entry)) (f .«session_id»)) f (lent (now (sessions .entry)) (now (streams .entry)) (now (objects .entry))) (now (d .entry)) r took .tables .streams)
+        × (now (objects .exit) ≡ delivered (namedOf (now (sessions .entry)) (f .«session_id»)) f (lent (now (sessions .entry)) (now (streams .entry)) (now (objects .entry))) (now (d .entry)) r took .tables .objects)
+        × (now (out .exit) ≡ putReplies (now (out .entry)) (r .wrote) (delivered (namedOf (now (sessions .entry)) (f .«session_id»)) f (lent (now (sessions .entry)) (now (streams .entry)) (now (objects .entry))) (now (d .entry)) r took .replies)) ⌝ }
 {
     let id = f.session_id;
     let n = f.stream_id;
     let named = touch(sessions, id, f.time);
     if is_live(named) {
-        let v = handle(sessions, streams, objects, d, id, n, m, body);
-        settle(out, f, r.next, r.wrote, v, at)
+        let v = handle(sessions, streams, objects, d, id, n, took.asked, took.body);
+        settle(out, f, r.next, r.wrote, v, took.at)
     } else {
-        passed(r, at)
-    }
-}
-
-// What was read at a place of the datagram, and where the next one begins. Where no submessage was read a STATUS stands
-// for it, and the next place is the end.
-fn opening_read(p: Parsed) -> Opening
-    ensures { λ r. ⌜ r ≡ openingRead p ⌝ }
-{
-    match p {
-        Parsed::Sub(m, _, _) => opening_of(m),
-        Parsed::Refused(_) => Opening::Unread,
-    }
-}
-
-fn message_of(p: Parsed) -> Submessage
-    ensures { λ r. ⌜ r ≡ messageRead p ⌝ }
-{
-    match p {
-        Parsed::Sub(m, _, _) => m,
-        Parsed::Refused(_) => Submessage::Status(StatusPayload {
-            related_object_id: ObjectNumber(0),
-            status: StatusCode::Ok,
-        }),
-    }
-}
-
-fn body_of(p: Parsed) -> Span
-    ensures { λ r. ⌜ r ≡ bodyRead p ⌝ }
-{
-    match p {
-        Parsed::Sub(_, body, _) => body,
-        Parsed::Refused(_) => Span { start: 0, len: 0 },
-    }
-}
-
-fn end_of(p: Parsed, len: usize) -> usize
-    ensures { λ r. ⌜ r ≡ endRead p len ⌝ }
-{
-    match p {
-        Parsed::Sub(_, _, next) => next.at,
-        Parsed::Refused(_) => len,
+        passed(r, took.at)
     }
 }
 
@@ -324,14 +196,12 @@ pub(crate) fn turn(
 {
     let c = Cursor { at: r.at };
     let p = read(d, c);
-    let at = end_of(p, d.len());
-    let m = message_of(p);
-    let body = body_of(p);
-    let key = key_in(m);
-    let o = opening_read(p);
+    let x = take_apart(p, d.len());
+    let q = x.asked;
+    let o = q.opening;
     match o {
-        Opening::Client => greet(sessions, streams, out, f, r, key, at),
-        Opening::Other => deliver(sessions, streams, objects, out, d, f, r, m, body, at),
-        Opening::Unread => passed(r, at),
+        Opening::Client => greet(sessions, streams, out, f, r, q.key, x.at),
+        Opening::Other => deliver(sessions, streams, objects, out, d, f, r, x),
+        Opening::Unread => passed(r, x.at),
     }
 }

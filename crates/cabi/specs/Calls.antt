@@ -12,8 +12,8 @@ use Rattle.agent.specs.declared.agent.AgentSetUp.{AgentSetUp}
 use Rattle.agent.specs.declared.agent.AgentSetUp.the-variants as ready
 use Rattle.agent.specs.declared.judge.Input.{Input}
 use Rattle.agent.specs.declared.judge.Input.the-variants.{Datagram, Answer}
-use Rattle.agent.specs.declared.proxy.BridgeAnswer.{BridgeAnswer}
-use Rattle.agent.specs.declared.proxy.BridgeAnswer.the-variants.{Created, Done, Sample, NoSample, Failed}
+use Rattle.moves.specs.declared.proxy.BridgeAnswer.{BridgeAnswer}
+use Rattle.moves.specs.declared.proxy.BridgeAnswer.the-variants.{Created, Done, Sample, NoSample, Failed}
 use Rattle.cabi.specs.Answers.{refusedAs, outcomeAs, removedAs, sweptAs}
 use Rattle.cabi.specs.Record.{recordAt, agentIn, recordFor, nothingTold, keptIn, recordsAfter}
 

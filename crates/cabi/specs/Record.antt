@@ -7,10 +7,10 @@ use lib.ListN.{getD, set}
 use Rattle.agent.specs.declared.process.Outcome.{Outcome}
 use Rattle.agent.specs.declared.process.Outcome.the-variants.{Replied, Called, Refused}
 use Rattle.agent.specs.declared.process.Processed.{Processed}
-use Rattle.agent.specs.declared.proxy.BridgeCall.{BridgeCall}
-use Rattle.agent.specs.declared.proxy.BridgeCall.the-variants.{CreateParticipant, CreateTopic, CreateWriter, CreateReader, WriteData, ReadData, DeleteEntity}
-use Rattle.agent.specs.declared.proxy.Task.{Task}
-use Rattle.agent.specs.declared.proxy.Task.the-variants.{Creating, Writing, Reading, Deleting}
+use Rattle.moves.specs.declared.proxy.BridgeCall.{BridgeCall}
+use Rattle.moves.specs.declared.proxy.BridgeCall.the-variants.{CreateParticipant, CreateTopic, CreateWriter, CreateReader, WriteData, ReadData, DeleteEntity}
+use Rattle.moves.specs.declared.proxy.Task.{Task}
+use Rattle.moves.specs.declared.proxy.Task.the-variants.{Creating, Writing, Reading, Deleting}
 use Rattle.agent.specs.declared.state.Agent.{Agent}
 use Rattle.agent.specs.declared.state.Pending.{Pending}
 use Rattle.agent.specs.declared.state.Waiting.{Waiting}

@@ -24,7 +24,7 @@ use sessions::need::documented_need;
 use sessions::objects::Object;
 ghost use mathlib.Core.Path.{_≡_};
 ghost use Rattle.sessions.specs.Need.{neededFor};
-ghost use Rattle.agent.specs.Rows.{lent};
+ghost use Rattle.moves.specs.Rows.{lent};
 ghost use Rattle.cabi.specs.Answers.{outcomeAs, neededAs};
 ghost use Rattle.cabi.specs.Record.{recordsAfter};
 ghost use Rattle.cabi.specs.Calls.{readyAs, readyRecords, processLeft, setUpLeft, removeAnswer, removeRows, sweepAnswer, sweepRows, sweepOut};

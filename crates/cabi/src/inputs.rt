@@ -1,6 +1,6 @@
 // What a C host hands in, as numbers: a datagram or one of the bridge's five answers.
 use agent::judge::Input;
-use agent::proxy::BridgeAnswer;
+use moves::proxy::BridgeAnswer;
 use sessions::objects::Handle;
 ghost use mathlib.Core.Path.{_≡_};
 ghost use Rattle.cabi.specs.Calls.{badCall, answerIn, inputIn};

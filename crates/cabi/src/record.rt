@@ -1,9 +1,9 @@
 // The agent's record as a C host keeps it: the first ten of its eighteen numbers are the agent between two calls.
-use agent::proxy::Task;
 use agent::state::Agent;
 use agent::state::Pending;
 use agent::state::Waiting;
 use codec::submessages::ObjectNumber;
+use moves::proxy::Task;
 ghost use mathlib.Core.Path.{_≡_};
 ghost use Rattle.cabi.specs.Record.{recordAt, taskIn, pendingIn, waitsIn, inRange, nextIn, agentIn, taskNumber, taskKind, idleRecord, openRecord, recordBy, recordFor};
 

@@ -4,8 +4,8 @@ use crate::record::RecordRow;
 use crate::record::record_for;
 use agent::process::Outcome;
 use agent::process::Processed;
-use agent::proxy::BridgeCall;
 use codec::layouts::Span;
+use moves::proxy::BridgeCall;
 ghost use mathlib.Core.Path.{_≡_};
 ghost use Rattle.cabi.specs.Record.{told, nothingTold, callTold, toldOf, keptIn, isRefused, recordsAfter};
 

@@ -3,9 +3,9 @@ use crate::print::bytes;
 use crate::print::end_line;
 use crate::print::number;
 use crate::print::text;
-use agent::proxy::BridgeCall;
 use codec::layouts::Span;
 use codec::reading::part;
+use moves::proxy::BridgeCall;
 use sessions::objects::Handle;
 
 fn handle(h: Handle) {

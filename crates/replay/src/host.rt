@@ -9,9 +9,9 @@ use crate::words::between;
 use agent::agent::AgentSetUp;
 use agent::process::Outcome;
 use agent::process::Processed;
-use agent::proxy::BridgeAnswer;
 use agent::state::Agent;
 use agent::state::Waiting;
+use moves::proxy::BridgeAnswer;
 use sessions::objects::Handle;
 
 // The agent, whether it was ever set up, and the length of the datagram that is kept for its open call.

@@ -9,8 +9,9 @@ use Rattle.sessions.specs.declared.objects.Object.{Object}
 use Rattle.sessions.specs.Table.{gotOf}
 use Rattle.sessions.specs.declared.table.Got.{Got}
 use Rattle.sessions.specs.declared.table.Got.the-variants as got
-use Rattle.agent.specs.Answered.{keepsOf, saysOf, saysFits, saysBytes, keptSessions, keptObjects, answeredBy, answeredSessions, answeredObjects}
-use Rattle.agent.specs.Host.{answersNow, keepsBy, saysBy, numberBy, begunBy, begunSessions, begunObjects, resumesFit}
+use Rattle.moves.specs.Answers.{keepsOf, saysOf, keptSessions, keptObjects}
+use Rattle.agent.specs.Answered.{saysFits, saysBytes, answeredBy, answeredSessions, answeredObjects}
+use Rattle.agent.specs.Host.{answersNow, toldBy, begunBy, begunSessions, begunObjects, resumesFit}
 use Rattle.agent.specs.Run.{putReplies}
 use Rattle.agent.specs.Step.{replied, joinedReplies}
 use Rattle.agent.specs.declared.judge.Resumes.{Resumes}
@@ -36,10 +37,10 @@ module _ (s : List (List ℕ)) (o : List Object) (out : List ℕ) (f : Frame) (s
   id = f .«session_id»
 
   pub begun-now : (x : Resumes) → answersNow x (gotOf s id) ≡ true
-      → (length (saysBytes (saysBy x) f (numberBy x) sample) ≡ length (joinedReplies (begunBy x s f sample)))
-      × (keptSessions (keepsBy x) s o id ≡ begunSessions x s o f)
-      × (keptObjects (keepsBy x) s o id ≡ begunObjects x s o f)
-      × (putBytes out 0 (saysBytes (saysBy x) f (numberBy x) sample) ≡ putReplies out 0 (begunBy x s f sample))
+      → (length (saysBytes (toldBy x .says) f (toldBy x .number) sample) ≡ length (joinedReplies (begunBy x s f sample)))
+      × (keptSessions (toldBy x .keeps) s o id ≡ begunSessions x s o f)
+      × (keptObjects (toldBy x .keeps) s o id ≡ begunObjects x s o f)
+      × (putBytes out 0 (saysBytes (toldBy x .says) f (toldBy x .number) sample) ≡ putReplies out 0 (begunBy x s f sample))
   begun-now resumes.Nothing c = absurd (true≢false (sym c))
   begun-now (resumes.Answer number task a) c = go (gotOf s id) c
     where
@@ -65,6 +66,6 @@ module _ (s : List (List ℕ)) (o : List Object) (out : List ℕ) (f : Frame) (s
       go (got.Refused r) e = (none-long, refl, refl, no-replies out 0)
 
 -- a sample that fits says so of what is said
-pub says-fit : (x : Resumes) (n : ℕ) → resumesFit x n ≡ true → saysFits (saysBy x) n ≡ true
+pub says-fit : (x : Resumes) (n : ℕ) → resumesFit x n ≡ true → saysFits (toldBy x .says) n ≡ true
 says-fit resumes.Nothing n h = refl
 says-fit (resumes.Answer number task a) n h = h

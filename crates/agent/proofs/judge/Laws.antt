@@ -6,7 +6,7 @@ use native.Mathlib.Omega.{arith}
 use lib.ListN.{length, getD}
 use Rattle.sessions.specs.Limits.{limitsOf}
 use Rattle.sessions.specs.declared.objects.Object.{Object}
-use Rattle.agent.specs.Rows.{lent}
+use Rattle.moves.specs.Rows.{lent}
 use Rattle.agent.specs.Judge.{turnOf, sessionOf, judgedBy, judgeOf}
 use Rattle.agent.specs.declared.judge.Input.{Input}
 use Rattle.agent.specs.declared.state.Agent.{Agent}

@@ -55,9 +55,10 @@ use Rattle.walk.proofs.Arrays.{rep-is, lends-array, backs-array}
 use Rattle.codec.specs.Bytes.{putBytes}
 use Rattle.agent.specs.Step.{joinedReplies}
 use Rattle.agent.specs.Run.{putReplies}
-use Rattle.agent.specs.Answered.{createdKeeps, keepsOf, createdSays, doneSays, readSays, saysOf, keptSessions, keptObjects, saysFits, saysBytes}
-use Rattle.agent.specs.Host.{answersNow, keepsBy, saysBy, numberBy, begunBy, begunSessions, begunObjects, resumesFit}
+use Rattle.agent.specs.Answered.{saysFits, saysBytes}
+use Rattle.agent.specs.Host.{answersNow, toldBy, begunBy, begunSessions, begunObjects, resumesFit}
 use Rattle.sessions.specs.Table.{newSession, endedSession, touchedSession, expiredOf, elapsedOf, sessionAt, keepSession, namedOf, gotOf, reachedOf, keptRows, touchedRows, endedRows}
+use Rattle.moves.specs.Answers.{createdKeeps, keepsOf, createdSays, doneSays, readSays, saysOf, keptSessions, keptObjects}
 use types.Kit.{frees, prop}
 use Rattle.agent.proofs.answers.Laws.{begun-now, begun-not, says-fit}
 use Rattle.sessions.specs.declared.objects.Object.{Object}
@@ -73,29 +74,32 @@ use Rattle.agent.specs.declared.judge.Resumes.{Resumes}
 use Rattle.agent.proofs.judge.Resumes as Resumes-t
 use Rattle.agent.proofs.judge.Resumes.Laws as Resumes-l
 use Rattle.agent.specs.declared.judge.Resumes.the-variants.{Nothing as Resumes-Nothing, Answer as Resumes-Answer}
-use Rattle.agent.specs.declared.proxy.Task.{Task}
-use Rattle.agent.proofs.proxy.Task as Task-t
-use Rattle.agent.proofs.proxy.Task.Laws as Task-l
-use Rattle.agent.specs.declared.proxy.Task.the-variants.{Creating as Task-Creating, Writing as Task-Writing, Reading as Task-Reading, Deleting as Task-Deleting}
-use Rattle.agent.specs.declared.proxy.BridgeAnswer.{BridgeAnswer}
-use Rattle.agent.proofs.proxy.BridgeAnswer as BridgeAnswer-t
-use Rattle.agent.proofs.proxy.BridgeAnswer.Laws as BridgeAnswer-l
-use Rattle.agent.specs.declared.proxy.BridgeAnswer.the-variants.{Created as BridgeAnswer-Created, Done as BridgeAnswer-Done, Sample as BridgeAnswer-Sample, NoSample as BridgeAnswer-NoSample, Failed as BridgeAnswer-Failed}
+use Rattle.moves.specs.declared.proxy.Task.{Task}
+use Rattle.moves.proofs.proxy.Task as Task-t
+use Rattle.moves.proofs.proxy.Task.Laws as Task-l
+use Rattle.moves.specs.declared.proxy.Task.the-variants.{Creating as Task-Creating, Writing as Task-Writing, Reading as Task-Reading, Deleting as Task-Deleting}
+use Rattle.moves.specs.declared.proxy.BridgeAnswer.{BridgeAnswer}
+use Rattle.moves.proofs.proxy.BridgeAnswer as BridgeAnswer-t
+use Rattle.moves.proofs.proxy.BridgeAnswer.Laws as BridgeAnswer-l
+use Rattle.moves.specs.declared.proxy.BridgeAnswer.the-variants.{Created as BridgeAnswer-Created, Done as BridgeAnswer-Done, Sample as BridgeAnswer-Sample, NoSample as BridgeAnswer-NoSample, Failed as BridgeAnswer-Failed}
 use Rattle.sessions.specs.declared.objects.Handle.{Handle}
 use Rattle.sessions.proofs.objects.Handle as Handle-t
 use Rattle.sessions.proofs.objects.Handle.Laws as Handle-l
-use Rattle.agent.specs.declared.answers.Says.{Says}
-use Rattle.agent.proofs.answers.Says as Says-t
-use Rattle.agent.proofs.answers.Says.Laws as Says-l
-use Rattle.agent.specs.declared.answers.Says.the-variants.{Status as Says-Status, Data as Says-Data}
+use Rattle.agent.specs.declared.answers.Told.{Told}
+use Rattle.agent.proofs.answers.Told as Told-t
+use Rattle.agent.proofs.answers.Told.Laws as Told-l
+use Rattle.moves.specs.declared.answers.Keeps.{Keeps}
+use Rattle.moves.proofs.answers.Keeps as Keeps-t
+use Rattle.moves.proofs.answers.Keeps.Laws as Keeps-l
+use Rattle.moves.specs.declared.answers.Keeps.the-variants.{Object as Keeps-Object, Nothing as Keeps-Nothing}
+use Rattle.moves.specs.declared.answers.Says.{Says}
+use Rattle.moves.proofs.answers.Says as Says-t
+use Rattle.moves.proofs.answers.Says.Laws as Says-l
+use Rattle.moves.specs.declared.answers.Says.the-variants.{Status as Says-Status, Data as Says-Data}
 use Rattle.codec.specs.declared.submessages.StatusCode.{StatusCode}
 use Rattle.codec.proofs.submessages.StatusCode as StatusCode-t
 use Rattle.codec.proofs.submessages.StatusCode.Laws as StatusCode-l
 use Rattle.codec.specs.declared.submessages.StatusCode.the-variants.{Ok as StatusCode-Ok, ErrUnknownRef as StatusCode-ErrUnknownRef, ErrInvalidData as StatusCode-ErrInvalidData, ErrIncompatible as StatusCode-ErrIncompatible, ErrResources as StatusCode-ErrResources}
-use Rattle.agent.specs.declared.answers.Keeps.{Keeps}
-use Rattle.agent.proofs.answers.Keeps as Keeps-t
-use Rattle.agent.proofs.answers.Keeps.Laws as Keeps-l
-use Rattle.agent.specs.declared.answers.Keeps.the-variants.{Object as Keeps-Object, Nothing as Keeps-Nothing}
 use Rattle.sessions.specs.declared.table.Got.{Got}
 use Rattle.sessions.proofs.table.Got as Got-t
 use Rattle.sessions.proofs.table.Got.Laws as Got-l
@@ -115,22 +119,14 @@ use Rattle.agent.proofs.answers.answers_now as answers-answers-now
 use Rattle.agent.proofs.answers.answers_now.Symbol as answers-answers-now-def
 use Rattle.agent.proofs.answers.answers_now.Symbol.{name as #answers-answers-now}
 use Rattle.agent.proofs.answers.answers_now.Met as answers-answers-now-thm
-use Rattle.agent.proofs.answers.keeps_by as answers-keeps-by
-use Rattle.agent.proofs.answers.keeps_by.Symbol as answers-keeps-by-def
-use Rattle.agent.proofs.answers.keeps_by.Symbol.{name as #answers-keeps-by}
-use Rattle.agent.proofs.answers.keeps_by.Met as answers-keeps-by-thm
-use Rattle.agent.proofs.answers.keep as answers-keep
-use Rattle.agent.proofs.answers.keep.Symbol as answers-keep-def
-use Rattle.agent.proofs.answers.keep.Symbol.{name as #answers-keep}
-use Rattle.agent.proofs.answers.keep.Met as answers-keep-thm
-use Rattle.agent.proofs.answers.says_by as answers-says-by
-use Rattle.agent.proofs.answers.says_by.Symbol as answers-says-by-def
-use Rattle.agent.proofs.answers.says_by.Symbol.{name as #answers-says-by}
-use Rattle.agent.proofs.answers.says_by.Met as answers-says-by-thm
-use Rattle.agent.proofs.answers.number_by as answers-number-by
-use Rattle.agent.proofs.answers.number_by.Symbol as answers-number-by-def
-use Rattle.agent.proofs.answers.number_by.Symbol.{name as #answers-number-by}
-use Rattle.agent.proofs.answers.number_by.Met as answers-number-by-thm
+use Rattle.agent.proofs.answers.told_by as answers-told-by
+use Rattle.agent.proofs.answers.told_by.Symbol as answers-told-by-def
+use Rattle.agent.proofs.answers.told_by.Symbol.{name as #answers-told-by}
+use Rattle.agent.proofs.answers.told_by.Met as answers-told-by-thm
+use Rattle.moves.proofs.answers.keep as answers-keep
+use Rattle.moves.proofs.answers.keep.Symbol as answers-keep-def
+use Rattle.moves.proofs.answers.keep.Symbol.{name as #answers-keep}
+use Rattle.moves.proofs.answers.keep.Met as answers-keep-thm
 use Rattle.agent.proofs.answers.reply_says as answers-reply-says
 use Rattle.agent.proofs.answers.reply_says.Symbol as answers-reply-says-def
 use Rattle.agent.proofs.answers.reply_says.Symbol.{name as #answers-reply-says}
@@ -174,14 +170,20 @@ Handle-of x0 = record { 0 = x0 }
 abbrev Handle-p : Plain
 Handle-p = record { row = Handle-t.the-row; val = LL.val Handle-t.the-type Handle-l.the-laws; tells = LL.tells Handle-t.the-type Handle-l.the-laws; makes = λ 𝓤 H A W. LL.makes Handle-t.the-type Handle-l.the-plain 𝓤 H A; ty = Handle-l.mir; typed = λ 𝓤 H A W x is. LL.lawful Handle-t.the-type Handle-l.the-laws 𝓤 H A W .typed x _ is .0; copies = λ 𝓤 H A W. LL.copy Handle-t.the-type Handle-l.the-copy 𝓤 H A W }
 
+abbrev Told-of : Keeps → Says → ObjectNumber → Told
+Told-of x0 x1 x2 = record { keeps = x0; says = x1; number = x2 }
+
+abbrev Told-p : Plain
+Told-p = record { row = Told-t.the-row; val = LL.val Told-t.the-type Told-l.the-laws; tells = LL.tells Told-t.the-type Told-l.the-laws; makes = λ 𝓤 H A W. LL.makes Told-t.the-type Told-l.the-plain 𝓤 H A; ty = Told-l.mir; typed = λ 𝓤 H A W x is. LL.lawful Told-t.the-type Told-l.the-laws 𝓤 H A W .typed x _ is .0; copies = λ 𝓤 H A W. LL.copy Told-t.the-type Told-l.the-copy 𝓤 H A W }
+
+abbrev Keeps-p : Plain
+Keeps-p = record { row = Keeps-t.the-row; val = EL.val Keeps-t.the-type Keeps-l.the-laws; tells = EL.tells Keeps-t.the-type Keeps-l.the-laws; makes = λ 𝓤 H A W. EL.makes Keeps-t.the-type Keeps-l.the-plain 𝓤 H A; ty = Keeps-l.mir; typed = λ 𝓤 H A W x is. EL.lawful Keeps-t.the-type Keeps-l.the-laws 𝓤 H A W tt .typed x _ is .0; copies = λ 𝓤 H A W. EL.copy Keeps-t.the-type Keeps-l.the-copy 𝓤 H A W }
+
 abbrev Says-p : Plain
 Says-p = record { row = Says-t.the-row; val = EL.val Says-t.the-type Says-l.the-laws; tells = EL.tells Says-t.the-type Says-l.the-laws; makes = λ 𝓤 H A W. EL.makes Says-t.the-type Says-l.the-plain 𝓤 H A; ty = Says-l.mir; typed = λ 𝓤 H A W x is. EL.lawful Says-t.the-type Says-l.the-laws 𝓤 H A W tt .typed x _ is .0; copies = λ 𝓤 H A W. EL.copy Says-t.the-type Says-l.the-copy 𝓤 H A W }
 
 abbrev StatusCode-p : Plain
 StatusCode-p = record { row = StatusCode-t.the-row; val = EL.val StatusCode-t.the-type StatusCode-l.the-laws; tells = EL.tells StatusCode-t.the-type StatusCode-l.the-laws; makes = λ 𝓤 H A W. EL.makes StatusCode-t.the-type StatusCode-l.the-plain 𝓤 H A; ty = StatusCode-l.mir; typed = λ 𝓤 H A W x is. EL.lawful StatusCode-t.the-type StatusCode-l.the-laws 𝓤 H A W tt .typed x _ is .0; copies = λ 𝓤 H A W. EL.copy StatusCode-t.the-type StatusCode-l.the-copy 𝓤 H A W }
-
-abbrev Keeps-p : Plain
-Keeps-p = record { row = Keeps-t.the-row; val = EL.val Keeps-t.the-type Keeps-l.the-laws; tells = EL.tells Keeps-t.the-type Keeps-l.the-laws; makes = λ 𝓤 H A W. EL.makes Keeps-t.the-type Keeps-l.the-plain 𝓤 H A; ty = Keeps-l.mir; typed = λ 𝓤 H A W x is. EL.lawful Keeps-t.the-type Keeps-l.the-laws 𝓤 H A W tt .typed x _ is .0; copies = λ 𝓤 H A W. EL.copy Keeps-t.the-type Keeps-l.the-copy 𝓤 H A W }
 
 abbrev Got-p : Plain
 Got-p = record { row = Got-t.the-row; val = EL.val Got-t.the-type Got-l.the-laws; tells = EL.tells Got-t.the-type Got-l.the-laws; makes = λ 𝓤 H A W. EL.makes Got-t.the-type Got-l.the-plain 𝓤 H A; ty = Got-l.mir; typed = λ 𝓤 H A W x is. EL.lawful Got-t.the-type Got-l.the-laws 𝓤 H A W tt .typed x _ is .0; copies = λ 𝓤 H A W. EL.copy Got-t.the-type Got-l.the-copy 𝓤 H A W }
@@ -205,17 +207,11 @@ module _ {M : Type 1} (𝓤 : URA M) (H : Heap 𝓤) (A : Atoms 𝓤) (mem : Mem
   abbrev Of-answers-answers-now : Contract 𝓤
   Of-answers-answers-now = tripleOf 𝓤 H A answers-answers-now.signature (answers-answers-now.spec 𝓤 H A mem run)
 
-  abbrev Of-answers-keeps-by : Contract 𝓤
-  Of-answers-keeps-by = tripleOf 𝓤 H A answers-keeps-by.signature (answers-keeps-by.spec 𝓤 H A mem run)
+  abbrev Of-answers-told-by : Contract 𝓤
+  Of-answers-told-by = tripleOf 𝓤 H A answers-told-by.signature (answers-told-by.spec 𝓤 H A mem run)
 
   abbrev Of-answers-keep : Contract 𝓤
   Of-answers-keep = tripleOf 𝓤 H A answers-keep.signature (answers-keep.spec 𝓤 H A mem run)
-
-  abbrev Of-answers-says-by : Contract 𝓤
-  Of-answers-says-by = tripleOf 𝓤 H A answers-says-by.signature (answers-says-by.spec 𝓤 H A mem run)
-
-  abbrev Of-answers-number-by : Contract 𝓤
-  Of-answers-number-by = tripleOf 𝓤 H A answers-number-by.signature (answers-number-by.spec 𝓤 H A mem run)
 
   abbrev Of-answers-reply-says : Contract 𝓤
   Of-answers-reply-says = tripleOf 𝓤 H A answers-reply-says.signature (answers-reply-says.spec 𝓤 H A mem run)
@@ -253,7 +249,7 @@ module _ {M : Type 1} (𝓤 : URA M) (H : Heap 𝓤) (A : Atoms 𝓤) (W : Given
       frame ! $
       owned ! (u64-p .row) (Is (u64-p .row)) (u64-p .makes 𝓤 H A W) r _ r-is $ done !
 
-  module _ (𝓣 : Tables 𝓤 H) (known-table-get : Triple 𝓤 (𝓣 .C #table-get) (Of-table-get 𝓤 H A mem run)) (known-answers-answers-now : Triple 𝓤 (𝓣 .C #answers-answers-now) (Of-answers-answers-now 𝓤 H A mem run)) (known-answers-keeps-by : Triple 𝓤 (𝓣 .C #answers-keeps-by) (Of-answers-keeps-by 𝓤 H A mem run)) (known-answers-keep : Triple 𝓤 (𝓣 .C #answers-keep) (Of-answers-keep 𝓤 H A mem run)) (known-answers-says-by : Triple 𝓤 (𝓣 .C #answers-says-by) (Of-answers-says-by 𝓤 H A mem run)) (known-answers-number-by : Triple 𝓤 (𝓣 .C #answers-number-by) (Of-answers-number-by 𝓤 H A mem run)) (known-answers-reply-says : Triple 𝓤 (𝓣 .C #answers-reply-says) (Of-answers-reply-says 𝓤 H A mem run)) (l₀ l₁ l₂ l₃ l₄ l₅ l₆ l₇ l₈ l₉ l₁₀ l₁₁ l₁₂ l₁₃ l₁₄ l₁₅ l₁₆ l₁₇ l₁₈ l₁₉ l₂₀ l₂₁ l₂₂ : ℕ) where
+  module _ (𝓣 : Tables 𝓤 H) (known-table-get : Triple 𝓤 (𝓣 .C #table-get) (Of-table-get 𝓤 H A mem run)) (known-answers-answers-now : Triple 𝓤 (𝓣 .C #answers-answers-now) (Of-answers-answers-now 𝓤 H A mem run)) (known-answers-told-by : Triple 𝓤 (𝓣 .C #answers-told-by) (Of-answers-told-by 𝓤 H A mem run)) (known-answers-keep : Triple 𝓤 (𝓣 .C #answers-keep) (Of-answers-keep 𝓤 H A mem run)) (known-answers-reply-says : Triple 𝓤 (𝓣 .C #answers-reply-says) (Of-answers-reply-says 𝓤 H A mem run)) (l₀ l₁ l₂ l₃ l₄ l₅ l₆ l₇ l₈ l₉ l₁₀ l₁₁ l₁₂ l₁₃ l₁₄ l₁₅ l₁₆ l₁₇ l₁₈ l₁₉ l₂₀ : ℕ) where
     abbrev C : Calls 𝓤 H
     C = 𝓣 .C
 
@@ -264,129 +260,131 @@ module _ {M : Type 1} (𝓤 : URA M) (H : Heap 𝓤) (A : Atoms 𝓤) (W : Given
     fm = fmOf 𝓤 H (W .laws) 𝓣
 
     abbrev En : Env 𝓤 H
-    En = ((tyInt w64), l₀) ∷ ((sliceTy (tyRef (named 0) mut (pointee ((Array u64 5) .written)))), l₁) ∷ ((sliceTy (tyRef (named 1) mut (pointee (Object-t.the-row .written)))), l₂) ∷ ((sliceTy (tyRef (named 2) mut (pointee (u8 .written)))), l₃) ∷ ((sliceTy (tyRef (named 3) imm (pointee (u8 .written)))), l₄) ∷ (Frame-l.mir, l₅) ∷ (Resumes-l.mir, l₆) ∷ ((tyInt w8), l₇) ∷ (Got-l.mir, l₈) ∷ (Keeps-l.mir, l₉) ∷ (Says-l.mir, l₁₀) ∷ (ObjectNumber-l.mir, l₁₁) ∷ ((tyRef erased imm (pointee ((Array u64 5) .written))), l₁₂) ∷ ((sliceTy (tyRef erased imm (pointee ((Array u64 5) .written)))), l₁₃) ∷ (tyBool, l₁₄) ∷ ((tyInt w64), l₁₅) ∷ (tyUnit, l₁₆) ∷ ((tyRef erased mut (pointee ((Array u64 5) .written))), l₁₇) ∷ ((sliceTy (tyRef erased mut (pointee ((Array u64 5) .written)))), l₁₈) ∷ ((tyRef erased mut (pointee (Object-t.the-row .written))), l₁₉) ∷ ((sliceTy (tyRef erased mut (pointee (Object-t.the-row .written)))), l₂₀) ∷ ((tyRef erased mut (pointee (u8 .written))), l₂₁) ∷ ((sliceTy (tyRef erased mut (pointee (u8 .written)))), l₂₂) ∷ []
+    En = ((tyInt w64), l₀) ∷ ((sliceTy (tyRef (named 0) mut (pointee ((Array u64 5) .written)))), l₁) ∷ ((sliceTy (tyRef (named 1) mut (pointee (Object-t.the-row .written)))), l₂) ∷ ((sliceTy (tyRef (named 2) mut (pointee (u8 .written)))), l₃) ∷ ((sliceTy (tyRef (named 3) imm (pointee (u8 .written)))), l₄) ∷ (Frame-l.mir, l₅) ∷ (Resumes-l.mir, l₆) ∷ ((tyInt w8), l₇) ∷ (Got-l.mir, l₈) ∷ (Told-l.mir, l₉) ∷ ((tyRef erased imm (pointee ((Array u64 5) .written))), l₁₀) ∷ ((sliceTy (tyRef erased imm (pointee ((Array u64 5) .written)))), l₁₁) ∷ (tyBool, l₁₂) ∷ ((tyInt w64), l₁₃) ∷ (tyUnit, l₁₄) ∷ ((tyRef erased mut (pointee ((Array u64 5) .written))), l₁₅) ∷ ((sliceTy (tyRef erased mut (pointee ((Array u64 5) .written)))), l₁₆) ∷ ((tyRef erased mut (pointee (Object-t.the-row .written))), l₁₇) ∷ ((sliceTy (tyRef erased mut (pointee (Object-t.the-row .written)))), l₁₈) ∷ ((tyRef erased mut (pointee (u8 .written))), l₁₉) ∷ ((sliceTy (tyRef erased mut (pointee (u8 .written)))), l₂₀) ∷ []
 
-    frees-all : (r : ℕ) (ws₁ : List (List ℕ)) (ws₂ : List Object) (ws₃ : List ℕ) → ent 𝓤 (⋆ 𝓤 H A (‵ (MutSlice (named 0) κ₁ (Array u64 5) .own (at-list b₁ o₁ γ₁ ws₁) (sliceVal (b₁, o₁) n₁ ∷ [])) ∷ ‵ (flft κ₁ q₁) ∷ ‵ (MutSlice (named 1) κ₂ Object-t.the-row .own (at-list b₂ o₂ γ₂ ws₂) (sliceVal (b₂, o₂) n₂ ∷ [])) ∷ ‵ (flft κ₂ q₂) ∷ ‵ (MutSlice (named 2) κ₃ u8 .own (at-list b₃ o₃ γ₃ ws₃) (sliceVal (b₃, o₃) n₃ ∷ [])) ∷ ‵ (flft κ₃ q₃) ∷ ‵ (ShrSlice (named 3) κ₄ u8 .own (at-list b₄ o₄ γ₄ sample) (sliceVal (b₄, o₄) n₄ ∷ [])) ∷ ‵ (flft κ₄ q₄) ∷ [])) (Post (u64-p .val r)) → Sq W (‵ (MutSlice (named 0) κ₁ (Array u64 5) .own (at-list b₁ o₁ γ₁ ws₁) (sliceVal (b₁, o₁) n₁ ∷ [])) ∷ ‵ (flft κ₁ q₁) ∷ ‵ (MutSlice (named 0) κ₂ Object-t.the-row .own (at-list b₂ o₂ γ₂ ws₂) (sliceVal (b₂, o₂) n₂ ∷ [])) ∷ ‵ (flft κ₂ q₂) ∷ ‵ (MutSlice (named 0) κ₃ u8 .own (at-list b₃ o₃ γ₃ ws₃) (sliceVal (b₃, o₃) n₃ ∷ [])) ∷ ‵ (flft κ₃ q₃) ∷ ‵ (ShrSlice (named 0) κ₄ u8 .own (at-list b₄ o₄ γ₄ sample) (sliceVal (b₄, o₄) n₄ ∷ [])) ∷ ‵ (flft κ₄ q₄) ∷ free 𝓤 (sliceTy (tyRef erased mut (pointee (u8 .written)))) l₂₂ (free 𝓤 (tyRef erased mut (pointee (u8 .written))) l₂₁ (free 𝓤 (sliceTy (tyRef erased mut (pointee (Object-t.the-row .written)))) l₂₀ (free 𝓤 (tyRef erased mut (pointee (Object-t.the-row .written))) l₁₉ (free 𝓤 (sliceTy (tyRef erased mut (pointee ((Array u64 5) .written)))) l₁₈ (free 𝓤 (tyRef erased mut (pointee ((Array u64 5) .written))) l₁₇ (free 𝓤 tyUnit l₁₆ (free 𝓤 (tyInt w64) l₁₅ (free 𝓤 tyBool l₁₄ (free 𝓤 (sliceTy (tyRef erased imm (pointee ((Array u64 5) .written)))) l₁₃ (free 𝓤 (tyRef erased imm (pointee ((Array u64 5) .written))) l₁₂ (free 𝓤 ObjectNumber-l.mir l₁₁ (free 𝓤 Says-l.mir l₁₀ (free 𝓤 Keeps-l.mir l₉ (free 𝓤 Got-l.mir l₈ (free 𝓤 (tyInt w8) l₇ (full 𝓤 Resumes-l.mir l₆ (Resumes-p .val resumes) (full 𝓤 Frame-l.mir l₅ (Frame-p .val frame′) (full 𝓤 (sliceTy (tyRef (named 3) imm (pointee (u8 .written)))) l₄ (sliceVal (b₄, o₄) n₄) (full 𝓤 (sliceTy (tyRef (named 2) mut (pointee (u8 .written)))) l₃ (sliceVal (b₃, o₃) n₃) (full 𝓤 (sliceTy (tyRef (named 1) mut (pointee (Object-t.the-row .written)))) l₂ (sliceVal (b₂, o₂) n₂) (full 𝓤 (sliceTy (tyRef (named 0) mut (pointee ((Array u64 5) .written)))) l₁ (sliceVal (b₁, o₁) n₁) (full 𝓤 (tyInt w64) l₀ (u64-p .val r) ([])))))))))))))))))))))))) (frees En (prop (Post (u64-p .val r))))
+    frees-all : (r : ℕ) (ws₁ : List (List ℕ)) (ws₂ : List Object) (ws₃ : List ℕ) → ent 𝓤 (⋆ 𝓤 H A (‵ (MutSlice (named 0) κ₁ (Array u64 5) .own (at-list b₁ o₁ γ₁ ws₁) (sliceVal (b₁, o₁) n₁ ∷ [])) ∷ ‵ (flft κ₁ q₁) ∷ ‵ (MutSlice (named 1) κ₂ Object-t.the-row .own (at-list b₂ o₂ γ₂ ws₂) (sliceVal (b₂, o₂) n₂ ∷ [])) ∷ ‵ (flft κ₂ q₂) ∷ ‵ (MutSlice (named 2) κ₃ u8 .own (at-list b₃ o₃ γ₃ ws₃) (sliceVal (b₃, o₃) n₃ ∷ [])) ∷ ‵ (flft κ₃ q₃) ∷ ‵ (ShrSlice (named 3) κ₄ u8 .own (at-list b₄ o₄ γ₄ sample) (sliceVal (b₄, o₄) n₄ ∷ [])) ∷ ‵ (flft κ₄ q₄) ∷ [])) (Post (u64-p .val r)) → Sq W (‵ (MutSlice (named 0) κ₁ (Array u64 5) .own (at-list b₁ o₁ γ₁ ws₁) (sliceVal (b₁, o₁) n₁ ∷ [])) ∷ ‵ (flft κ₁ q₁) ∷ ‵ (MutSlice (named 0) κ₂ Object-t.the-row .own (at-list b₂ o₂ γ₂ ws₂) (sliceVal (b₂, o₂) n₂ ∷ [])) ∷ ‵ (flft κ₂ q₂) ∷ ‵ (MutSlice (named 0) κ₃ u8 .own (at-list b₃ o₃ γ₃ ws₃) (sliceVal (b₃, o₃) n₃ ∷ [])) ∷ ‵ (flft κ₃ q₃) ∷ ‵ (ShrSlice (named 0) κ₄ u8 .own (at-list b₄ o₄ γ₄ sample) (sliceVal (b₄, o₄) n₄ ∷ [])) ∷ ‵ (flft κ₄ q₄) ∷ free 𝓤 (sliceTy (tyRef erased mut (pointee (u8 .written)))) l₂₀ (free 𝓤 (tyRef erased mut (pointee (u8 .written))) l₁₉ (free 𝓤 (sliceTy (tyRef erased mut (pointee (Object-t.the-row .written)))) l₁₈ (free 𝓤 (tyRef erased mut (pointee (Object-t.the-row .written))) l₁₇ (free 𝓤 (sliceTy (tyRef erased mut (pointee ((Array u64 5) .written)))) l₁₆ (free 𝓤 (tyRef erased mut (pointee ((Array u64 5) .written))) l₁₅ (free 𝓤 tyUnit l₁₄ (free 𝓤 (tyInt w64) l₁₃ (free 𝓤 tyBool l₁₂ (free 𝓤 (sliceTy (tyRef erased imm (pointee ((Array u64 5) .written)))) l₁₁ (free 𝓤 (tyRef erased imm (pointee ((Array u64 5) .written))) l₁₀ (free 𝓤 Told-l.mir l₉ (free 𝓤 Got-l.mir l₈ (free 𝓤 (tyInt w8) l₇ (full 𝓤 Resumes-l.mir l₆ (Resumes-p .val resumes) (full 𝓤 Frame-l.mir l₅ (Frame-p .val frame′) (full 𝓤 (sliceTy (tyRef (named 3) imm (pointee (u8 .written)))) l₄ (sliceVal (b₄, o₄) n₄) (full 𝓤 (sliceTy (tyRef (named 2) mut (pointee (u8 .written)))) l₃ (sliceVal (b₃, o₃) n₃) (full 𝓤 (sliceTy (tyRef (named 1) mut (pointee (Object-t.the-row .written)))) l₂ (sliceVal (b₂, o₂) n₂) (full 𝓤 (sliceTy (tyRef (named 0) mut (pointee ((Array u64 5) .written)))) l₁ (sliceVal (b₁, o₁) n₁) (full 𝓤 (tyInt w64) l₀ (u64-p .val r) ([])))))))))))))))))))))) (frees En (prop (Post (u64-p .val r))))
     frees-all r ws₁ ws₂ ws₃ ends =
-        forget ! 40 refl $ forget ! 42 refl $ forget ! 44 refl $ forget ! 46 refl $ forget ! 48 refl $ forget ! 50 refl $ forget ! 52 refl $ move ! (52 ∷ 53 ∷ []) $ free1 ! $ move ! (50 ∷ 51 ∷ []) $ free1 ! $ move ! (48 ∷ 49 ∷ []) $ free1 ! $ move ! (46 ∷ 47 ∷ []) $ free1 ! $ move ! (44 ∷ 45 ∷ []) $ free1 ! $ move ! (42 ∷ 43 ∷ []) $ free1 ! $ move ! (40 ∷ 41 ∷ []) $ free1 ! $ move ! (38 ∷ 39 ∷ []) $ free1 ! $ move ! (36 ∷ 37 ∷ []) $ free1 ! $ move ! (34 ∷ 35 ∷ []) $ free1 ! $ move ! (32 ∷ 33 ∷ []) $ free1 ! $ move ! (30 ∷ 31 ∷ []) $ free1 ! $ move ! (28 ∷ 29 ∷ []) $ free1 ! $ move ! (26 ∷ 27 ∷ []) $ free1 ! $ move ! (24 ∷ 25 ∷ []) $ free1 ! $ move ! (22 ∷ 23 ∷ []) $ free1 ! $ move ! (20 ∷ 21 ∷ []) $ free1 ! $ move ! (18 ∷ 19 ∷ []) $ free1 ! $ move ! (16 ∷ 17 ∷ []) $ free1 ! $ move ! (14 ∷ 15 ∷ []) $ free1 ! $ move ! (12 ∷ 13 ∷ []) $ free1 ! $ move ! (10 ∷ 11 ∷ []) $ free1 ! $ move ! (8 ∷ 9 ∷ []) $ free1 ! $ free0 ! $
+        forget ! 36 refl $ forget ! 38 refl $ forget ! 40 refl $ forget ! 42 refl $ forget ! 44 refl $ forget ! 46 refl $ forget ! 48 refl $ move ! (48 ∷ 49 ∷ []) $ free1 ! $ move ! (46 ∷ 47 ∷ []) $ free1 ! $ move ! (44 ∷ 45 ∷ []) $ free1 ! $ move ! (42 ∷ 43 ∷ []) $ free1 ! $ move ! (40 ∷ 41 ∷ []) $ free1 ! $ move ! (38 ∷ 39 ∷ []) $ free1 ! $ move ! (36 ∷ 37 ∷ []) $ free1 ! $ move ! (34 ∷ 35 ∷ []) $ free1 ! $ move ! (32 ∷ 33 ∷ []) $ free1 ! $ move ! (30 ∷ 31 ∷ []) $ free1 ! $ move ! (28 ∷ 29 ∷ []) $ free1 ! $ move ! (26 ∷ 27 ∷ []) $ free1 ! $ move ! (24 ∷ 25 ∷ []) $ free1 ! $ move ! (22 ∷ 23 ∷ []) $ free1 ! $ move ! (20 ∷ 21 ∷ []) $ free1 ! $ move ! (18 ∷ 19 ∷ []) $ free1 ! $ move ! (16 ∷ 17 ∷ []) $ free1 ! $ move ! (14 ∷ 15 ∷ []) $ free1 ! $ move ! (12 ∷ 13 ∷ []) $ free1 ! $ move ! (10 ∷ 11 ∷ []) $ free1 ! $ move ! (8 ∷ 9 ∷ []) $ free1 ! $ free0 ! $
         by ! ends
 
-    part-6·yes·8-0 : (is-4 : Is (Got-p .row) (gotOf (sessions) (frame′ .«session_id»)) (Got-p .val (gotOf (sessions) (frame′ .«session_id»)) ∷ [])) → (is-5 : Is (bool-p .row) (answersNow resumes (gotOf (sessions) (frame′ .«session_id»))) (bool-p .val (answersNow resumes (gotOf (sessions) (frame′ .«session_id»))) ∷ [])) → (c-6 : answersNow resumes (gotOf (sessions) (frame′ .«session_id»)) ≡ true) → (is-6·yes·1 : Is (Keeps-p .row) (keepsBy resumes) (Keeps-p .val (keepsBy resumes) ∷ [])) → (len-6·yes·6-sessions : length (keptSessions (keepsBy resumes) (sessions) (objects) (frame′ .«session_id»)) ≡ n₁) → (len-6·yes·6-objects : length (keptObjects (keepsBy resumes) (sessions) (objects) (frame′ .«session_id»)) ≡ n₂) → (is-6·yes·6 : Is (unit-p .row) tt (unit-p .val tt ∷ [])) → (is-6·yes·7 : Is (Says-p .row) (saysBy resumes) (Says-p .val (saysBy resumes) ∷ [])) → Sq W (‵ (MutSlice (named 0) κ₁ (Array u64 5) .own (at-list b₁ o₁ γ₁ (keptSessions (keepsBy resumes) (sessions) (objects) (frame′ .«session_id»))) (sliceVal (b₁, o₁) n₁ ∷ [])) ∷ ‵ (flft κ₁ q₁) ∷ ‵ (MutSlice (named 0) κ₂ Object-t.the-row .own (at-list b₂ o₂ γ₂ (keptObjects (keepsBy resumes) (sessions) (objects) (frame′ .«session_id»))) (sliceVal (b₂, o₂) n₂ ∷ [])) ∷ ‵ (flft κ₂ q₂) ∷ ‵ (MutSlice (named 0) κ₃ u8 .own (at-list b₃ o₃ γ₃ out) (sliceVal (b₃, o₃) n₃ ∷ [])) ∷ ‵ (flft κ₃ q₃) ∷ ‵ (ShrSlice (named 0) κ₄ u8 .own (at-list b₄ o₄ γ₄ sample) (sliceVal (b₄, o₄) n₄ ∷ [])) ∷ ‵ (flft κ₄ q₄) ∷ free 𝓤 (sliceTy (tyRef erased mut (pointee (u8 .written)))) l₂₂ (free 𝓤 (tyRef erased mut (pointee (u8 .written))) l₂₁ (full 𝓤 (sliceTy (tyRef erased mut (pointee (Object-t.the-row .written)))) l₂₀ (sliceVal (b₂, o₂) n₂) (full 𝓤 (tyRef erased mut (pointee (Object-t.the-row .written))) l₁₉ (vptr b₂ o₂) (full 𝓤 (sliceTy (tyRef erased mut (pointee ((Array u64 5) .written)))) l₁₈ (sliceVal (b₁, o₁) n₁) (full 𝓤 (tyRef erased mut (pointee ((Array u64 5) .written))) l₁₇ (vptr b₁ o₁) (full 𝓤 tyUnit l₁₆ (unit-p .val tt) (free 𝓤 (tyInt w64) l₁₅ (full 𝓤 tyBool l₁₄ (bool-p .val (answersNow resumes (gotOf (sessions) (frame′ .«session_id»)))) (full 𝓤 (sliceTy (tyRef erased imm (pointee ((Array u64 5) .written)))) l₁₃ (sliceVal (b₁, o₁) n₁) (full 𝓤 (tyRef erased imm (pointee ((Array u64 5) .written))) l₁₂ (vptr b₁ o₁) (free 𝓤 ObjectNumber-l.mir l₁₁ (full 𝓤 Says-l.mir l₁₀ (Says-p .val (saysBy resumes)) (full 𝓤 Keeps-l.mir l₉ (Keeps-p .val (keepsBy resumes)) (full 𝓤 Got-l.mir l₈ (Got-p .val (gotOf (sessions) (frame′ .«session_id»))) (full 𝓤 (tyInt w8) l₇ (u8-p .val (frame′ .«session_id»)) (full 𝓤 Resumes-l.mir l₆ (Resumes-p .val resumes) (full 𝓤 Frame-l.mir l₅ (Frame-p .val frame′) (full 𝓤 (sliceTy (tyRef (named 3) imm (pointee (u8 .written)))) l₄ (sliceVal (b₄, o₄) n₄) (full 𝓤 (sliceTy (tyRef (named 2) mut (pointee (u8 .written)))) l₃ (sliceVal (b₃, o₃) n₃) (full 𝓤 (sliceTy (tyRef (named 1) mut (pointee (Object-t.the-row .written)))) l₂ (sliceVal (b₂, o₂) n₂) (full 𝓤 (sliceTy (tyRef (named 0) mut (pointee ((Array u64 5) .written)))) l₁ (sliceVal (b₁, o₁) n₁) (free 𝓤 (tyInt w64) l₀ ([])))))))))))))))))))))))) (runs C Λ En (past 7 (yes-of (one mir.t-6))) (anyQ (afterSeq 𝓤 H (Wp 𝓤 H C Λ En mir.t-7 (atReturn 𝓤 H En Post)) (atReturn 𝓤 H En Post))))
-    part-6·yes·8-0 is-4 is-5 c-6 is-6·yes·1 len-6·yes·6-sessions len-6·yes·6-objects is-6·yes·6 is-6·yes·7 =
-        -- 6.yes.8: agent::answers::number_by
-        nothing ! $
-        use1 W (raw (toks 𝓤 A 0 (tt) (tt))) (id⊢ 𝓤 _) $ nothing ! $
-        owned ! (Resumes-p .row) (Is (Resumes-p .row)) (Resumes-p .makes 𝓤 H A W) resumes (Resumes-p .val resumes ∷ []) resumes-is $ fjoin ! $ move ! (1 ∷ 0 ∷ []) $
-        calls-any ! fm 0 [] (answers-number-by.signature .params) (answers-number-by.ended .kept) ObjectNumber-p (answers-number-by.clauses 𝓤 H A mem run) known-answers-number-by tt tt tt (resumes, tt) (Resumes-p .val resumes ∷ [], tt) tt (numberBy resumes) (λ ws-6·yes·8. Unit {0}) (id⊢ 𝓤 _) (λ r ws-6·yes·8. fact-mono 𝓤 (r ≡ numberBy resumes) ((r ≡ (numberBy resumes)) × (Unit {0})) (λ e. (e, tt))) (λ _. (and-then ! (load ! (from ! (stop !)) (look ! 41 refl)) (no-more !))) (λ ws-6·yes·8 said-6·yes·8 is-6·yes·8.
-        drop ! $ drop ! $
-        land ! (from ! (stop !)) (init ! 30 refl (ObjectNumber-p .typed 𝓤 H A W (numberBy resumes) is-6·yes·8)) $
-        assigns ! (addr ! (from ! (fld ! refl (hop ! (look-in ! 46 (sub ! 0 refl (whole !))) (stop !))))) (from ! (stop !)) (init ! 10 refl (tt, tt)) $
-        assigns ! (agg ! (and-then ! (load ! (from ! (stop !)) (look ! 10 refl)) (and-then ! (load ! (from ! (fld ! refl (stop !))) (look-in ! 46 (sub ! 1 refl (whole !)))) (no-more !)))) (from ! (stop !)) (init ! 8 refl (tt, (tt, (record { fits = room₃ .0 }, tt)))) $
-        knows ! (saysFits (saysBy resumes) (length (sample)) ≡ true) (says-fit resumes (length sample) within) (λ asks-6·yes·11.
-        -- 6.yes.11: agent::answers::reply_says
+    part-7-0 : (is-4 : Is (Got-p .row) (gotOf (sessions) (frame′ .«session_id»)) (Got-p .val (gotOf (sessions) (frame′ .«session_id»)) ∷ [])) → (is-5 : Is (bool-p .row) (answersNow resumes (gotOf (sessions) (frame′ .«session_id»))) (bool-p .val (answersNow resumes (gotOf (sessions) (frame′ .«session_id»))) ∷ [])) → (c-6 : answersNow resumes (gotOf (sessions) (frame′ .«session_id»)) ≡ true) → (is-6·yes·1 : Is (Told-p .row) (toldBy resumes) (Told-p .val (toldBy resumes) ∷ [])) → (len-6·yes·6-sessions : length (keptSessions ((toldBy resumes) .keeps) (sessions) (objects) (frame′ .«session_id»)) ≡ n₁) → (len-6·yes·6-objects : length (keptObjects ((toldBy resumes) .keeps) (sessions) (objects) (frame′ .«session_id»)) ≡ n₂) → (is-6·yes·6 : Is (unit-p .row) tt (unit-p .val tt ∷ [])) → (asks-6·yes·9 : saysFits ((toldBy resumes) .says) (length (sample)) ≡ true) → (len-6·yes·9-out : length (putBytes (out) 0 (saysBytes ((toldBy resumes) .says) frame′ ((toldBy resumes) .number) (sample))) ≡ n₃) → (is-6·yes·9 : Is (u64-p .row) (length (saysBytes ((toldBy resumes) .says) frame′ ((toldBy resumes) .number) (sample))) (u64-p .val (length (saysBytes ((toldBy resumes) .says) frame′ ((toldBy resumes) .number) (sample))) ∷ [])) → Sq W (‵ (MutSlice (named 0) κ₁ (Array u64 5) .own (at-list b₁ o₁ γ₁ (keptSessions ((toldBy resumes) .keeps) (sessions) (objects) (frame′ .«session_id»))) (sliceVal (b₁, o₁) n₁ ∷ [])) ∷ ‵ (flft κ₁ q₁) ∷ ‵ (MutSlice (named 0) κ₂ Object-t.the-row .own (at-list b₂ o₂ γ₂ (keptObjects ((toldBy resumes) .keeps) (sessions) (objects) (frame′ .«session_id»))) (sliceVal (b₂, o₂) n₂ ∷ [])) ∷ ‵ (flft κ₂ q₂) ∷ ‵ (MutSlice (named 0) κ₃ u8 .own (at-list b₃ o₃ γ₃ (putBytes (out) 0 (saysBytes ((toldBy resumes) .says) frame′ ((toldBy resumes) .number) (sample)))) (sliceVal (b₃, o₃) n₃ ∷ [])) ∷ ‵ (flft κ₃ q₃) ∷ ‵ (ShrSlice (named 0) κ₄ u8 .own (at-list b₄ o₄ γ₄ sample) (sliceVal (b₄, o₄) n₄ ∷ [])) ∷ ‵ (flft κ₄ q₄) ∷ full 𝓤 (sliceTy (tyRef erased mut (pointee (u8 .written)))) l₂₀ (sliceVal (b₃, o₃) n₃) (full 𝓤 (tyRef erased mut (pointee (u8 .written))) l₁₉ (vptr b₃ o₃) (full 𝓤 (sliceTy (tyRef erased mut (pointee (Object-t.the-row .written)))) l₁₈ (sliceVal (b₂, o₂) n₂) (full 𝓤 (tyRef erased mut (pointee (Object-t.the-row .written))) l₁₇ (vptr b₂ o₂) (full 𝓤 (sliceTy (tyRef erased mut (pointee ((Array u64 5) .written)))) l₁₆ (sliceVal (b₁, o₁) n₁) (full 𝓤 (tyRef erased mut (pointee ((Array u64 5) .written))) l₁₅ (vptr b₁ o₁) (full 𝓤 tyUnit l₁₄ (unit-p .val tt) (full 𝓤 (tyInt w64) l₁₃ (u64-p .val (length (saysBytes ((toldBy resumes) .says) frame′ ((toldBy resumes) .number) (sample)))) (full 𝓤 tyBool l₁₂ (bool-p .val (answersNow resumes (gotOf (sessions) (frame′ .«session_id»)))) (full 𝓤 (sliceTy (tyRef erased imm (pointee ((Array u64 5) .written)))) l₁₁ (sliceVal (b₁, o₁) n₁) (full 𝓤 (tyRef erased imm (pointee ((Array u64 5) .written))) l₁₀ (vptr b₁ o₁) (full 𝓤 Told-l.mir l₉ (Told-p .val (toldBy resumes)) (full 𝓤 Got-l.mir l₈ (Got-p .val (gotOf (sessions) (frame′ .«session_id»))) (full 𝓤 (tyInt w8) l₇ (u8-p .val (frame′ .«session_id»)) (full 𝓤 Resumes-l.mir l₆ (Resumes-p .val resumes) (full 𝓤 Frame-l.mir l₅ (Frame-p .val frame′) (full 𝓤 (sliceTy (tyRef (named 3) imm (pointee (u8 .written)))) l₄ (sliceVal (b₄, o₄) n₄) (full 𝓤 (sliceTy (tyRef (named 2) mut (pointee (u8 .written)))) l₃ (sliceVal (b₃, o₃) n₃) (full 𝓤 (sliceTy (tyRef (named 1) mut (pointee (Object-t.the-row .written)))) l₂ (sliceVal (b₂, o₂) n₂) (full 𝓤 (sliceTy (tyRef (named 0) mut (pointee ((Array u64 5) .written)))) l₁ (sliceVal (b₁, o₁) n₁) (free 𝓤 (tyInt w64) l₀ ([])))))))))))))))))))))) (runs C Λ En mir.t-7 (atRet En Post))
+    part-7-0 is-4 is-5 c-6 is-6·yes·1 len-6·yes·6-sessions len-6·yes·6-objects is-6·yes·6 asks-6·yes·9 len-6·yes·9-out is-6·yes·9 =
+        assigns ! (of-opd ! (load ! (from ! (stop !)) (look ! 22 refl))) (from ! (stop !)) (init ! 48 refl (u64-p .typed 𝓤 H A W (length (saysBytes ((toldBy resumes) .says) frame′ ((toldBy resumes) .number) (sample))) is-6·yes·9)) $
+        returns ! (look ! 48 refl) $ forget ! 8 refl $ forget ! 10 refl $ forget ! 12 refl $ forget ! 14 refl $ forget ! 16 refl $ forget ! 18 refl $ forget ! 20 refl $ forget ! 22 refl $ forget ! 24 refl $ forget ! 26 refl $ forget ! 28 refl $ forget ! 30 refl $ forget ! 32 refl $ forget ! 34 refl $
+        frees-all (length (saysBytes ((toldBy resumes) .says) frame′ ((toldBy resumes) .number) (sample))) (keptSessions ((toldBy resumes) .keeps) (sessions) (objects) (frame′ .«session_id»)) (keptObjects ((toldBy resumes) .keeps) (sessions) (objects) (frame′ .«session_id»)) (putBytes (out) 0 (saysBytes ((toldBy resumes) .says) frame′ ((toldBy resumes) .number) (sample))) (exits (length (saysBytes ((toldBy resumes) .says) frame′ ((toldBy resumes) .number) (sample))) (keptSessions ((toldBy resumes) .keeps) (sessions) (objects) (frame′ .«session_id»)) (keptObjects ((toldBy resumes) .keeps) (sessions) (objects) (frame′ .«session_id»)) (putBytes (out) 0 (saysBytes ((toldBy resumes) .says) frame′ ((toldBy resumes) .number) (sample))) (begun-now sessions objects out frame′ sample resumes c-6) is-6·yes·9 len-6·yes·6-sessions len-6·yes·6-objects len-6·yes·9-out)
+
+    part-6·yes·7-0 : (is-4 : Is (Got-p .row) (gotOf (sessions) (frame′ .«session_id»)) (Got-p .val (gotOf (sessions) (frame′ .«session_id»)) ∷ [])) → (is-5 : Is (bool-p .row) (answersNow resumes (gotOf (sessions) (frame′ .«session_id»))) (bool-p .val (answersNow resumes (gotOf (sessions) (frame′ .«session_id»))) ∷ [])) → (c-6 : answersNow resumes (gotOf (sessions) (frame′ .«session_id»)) ≡ true) → (is-6·yes·1 : Is (Told-p .row) (toldBy resumes) (Told-p .val (toldBy resumes) ∷ [])) → (len-6·yes·6-sessions : length (keptSessions ((toldBy resumes) .keeps) (sessions) (objects) (frame′ .«session_id»)) ≡ n₁) → (len-6·yes·6-objects : length (keptObjects ((toldBy resumes) .keeps) (sessions) (objects) (frame′ .«session_id»)) ≡ n₂) → (is-6·yes·6 : Is (unit-p .row) tt (unit-p .val tt ∷ [])) → Sq W (‵ (MutSlice (named 0) κ₁ (Array u64 5) .own (at-list b₁ o₁ γ₁ (keptSessions ((toldBy resumes) .keeps) (sessions) (objects) (frame′ .«session_id»))) (sliceVal (b₁, o₁) n₁ ∷ [])) ∷ ‵ (flft κ₁ q₁) ∷ ‵ (MutSlice (named 0) κ₂ Object-t.the-row .own (at-list b₂ o₂ γ₂ (keptObjects ((toldBy resumes) .keeps) (sessions) (objects) (frame′ .«session_id»))) (sliceVal (b₂, o₂) n₂ ∷ [])) ∷ ‵ (flft κ₂ q₂) ∷ ‵ (MutSlice (named 0) κ₃ u8 .own (at-list b₃ o₃ γ₃ out) (sliceVal (b₃, o₃) n₃ ∷ [])) ∷ ‵ (flft κ₃ q₃) ∷ ‵ (ShrSlice (named 0) κ₄ u8 .own (at-list b₄ o₄ γ₄ sample) (sliceVal (b₄, o₄) n₄ ∷ [])) ∷ ‵ (flft κ₄ q₄) ∷ free 𝓤 (sliceTy (tyRef erased mut (pointee (u8 .written)))) l₂₀ (free 𝓤 (tyRef erased mut (pointee (u8 .written))) l₁₉ (full 𝓤 (sliceTy (tyRef erased mut (pointee (Object-t.the-row .written)))) l₁₈ (sliceVal (b₂, o₂) n₂) (full 𝓤 (tyRef erased mut (pointee (Object-t.the-row .written))) l₁₇ (vptr b₂ o₂) (full 𝓤 (sliceTy (tyRef erased mut (pointee ((Array u64 5) .written)))) l₁₆ (sliceVal (b₁, o₁) n₁) (full 𝓤 (tyRef erased mut (pointee ((Array u64 5) .written))) l₁₅ (vptr b₁ o₁) (full 𝓤 tyUnit l₁₄ (unit-p .val tt) (free 𝓤 (tyInt w64) l₁₃ (full 𝓤 tyBool l₁₂ (bool-p .val (answersNow resumes (gotOf (sessions) (frame′ .«session_id»)))) (full 𝓤 (sliceTy (tyRef erased imm (pointee ((Array u64 5) .written)))) l₁₁ (sliceVal (b₁, o₁) n₁) (full 𝓤 (tyRef erased imm (pointee ((Array u64 5) .written))) l₁₀ (vptr b₁ o₁) (full 𝓤 Told-l.mir l₉ (Told-p .val (toldBy resumes)) (full 𝓤 Got-l.mir l₈ (Got-p .val (gotOf (sessions) (frame′ .«session_id»))) (full 𝓤 (tyInt w8) l₇ (u8-p .val (frame′ .«session_id»)) (full 𝓤 Resumes-l.mir l₆ (Resumes-p .val resumes) (full 𝓤 Frame-l.mir l₅ (Frame-p .val frame′) (full 𝓤 (sliceTy (tyRef (named 3) imm (pointee (u8 .written)))) l₄ (sliceVal (b₄, o₄) n₄) (full 𝓤 (sliceTy (tyRef (named 2) mut (pointee (u8 .written)))) l₃ (sliceVal (b₃, o₃) n₃) (full 𝓤 (sliceTy (tyRef (named 1) mut (pointee (Object-t.the-row .written)))) l₂ (sliceVal (b₂, o₂) n₂) (full 𝓤 (sliceTy (tyRef (named 0) mut (pointee ((Array u64 5) .written)))) l₁ (sliceVal (b₁, o₁) n₁) (free 𝓤 (tyInt w64) l₀ ([])))))))))))))))))))))) (runs C Λ En (past 6 (yes-of (one mir.t-6))) (anyQ (afterSeq 𝓤 H (Wp 𝓤 H C Λ En mir.t-7 (atReturn 𝓤 H En Post)) (atReturn 𝓤 H En Post))))
+    part-6·yes·7-0 is-4 is-5 c-6 is-6·yes·1 len-6·yes·6-sessions len-6·yes·6-objects is-6·yes·6 =
+        assigns ! (addr ! (from ! (fld ! refl (hop ! (look-in ! 42 (sub ! 0 refl (whole !))) (stop !))))) (from ! (stop !)) (init ! 10 refl (tt, tt)) $
+        assigns ! (agg ! (and-then ! (load ! (from ! (stop !)) (look ! 10 refl)) (and-then ! (load ! (from ! (fld ! refl (stop !))) (look-in ! 42 (sub ! 1 refl (whole !)))) (no-more !)))) (from ! (stop !)) (init ! 8 refl (tt, (tt, (record { fits = room₃ .0 }, tt)))) $
+        knows ! (saysFits ((toldBy resumes) .says) (length (sample)) ≡ true) (says-fit resumes (length sample) within) (λ asks-6·yes·9.
+        -- 6.yes.9: agent::answers::reply_says
         move ! (4 ∷ 5 ∷ []) $
-        lends-mut ! tt u8 b₃ o₃ out n₃ (refl) (λ ν-6·yes·11-out δ-6·yes·11-out.
+        lends-mut ! tt u8 b₃ o₃ out n₃ (refl) (λ ν-6·yes·9-out δ-6·yes·9-out.
         move ! (7 ∷ 8 ∷ []) $
         copies-shr ! u8 b₄ o₄ sample n₄ $ nothing ! $ move ! (1 ∷ 0 ∷ []) $ join ! $ move ! (3 ∷ 0 ∷ []) $ join ! $
-        use1 W (raw (toks 𝓤 A 2 (((ν-6·yes·11-out ∷ []), (κ₄, tt))) ((fullShare, (q₄, tt))))) (id⊢ 𝓤 _) $ nothing ! $
-        owned ! (Says-p .row) (Is (Says-p .row)) (Says-p .makes 𝓤 H A W) (saysBy resumes) (Says-p .val (saysBy resumes) ∷ []) is-6·yes·7 $ fjoin ! $
-        owned ! (ObjectNumber-p .row) (Is (ObjectNumber-p .row)) (ObjectNumber-p .makes 𝓤 H A W) (numberBy resumes) (ObjectNumber-p .val (numberBy resumes) ∷ []) is-6·yes·8 $ fjoin ! $
+        use1 W (raw (toks 𝓤 A 2 (((ν-6·yes·9-out ∷ []), (κ₄, tt))) ((fullShare, (q₄, tt))))) (id⊢ 𝓤 _) $ nothing ! $
+        owned ! (Says-p .row) (Is (Says-p .row)) (Says-p .makes 𝓤 H A W) ((toldBy resumes) .says) (Says-p .val ((toldBy resumes) .says) ∷ []) (LL.owed Told-t.the-type Told-l.the-laws (toldBy resumes) _ is-6·yes·1 .1 .0) $ fjoin ! $
+        owned ! (ObjectNumber-p .row) (Is (ObjectNumber-p .row)) (ObjectNumber-p .makes 𝓤 H A W) ((toldBy resumes) .number) (ObjectNumber-p .val ((toldBy resumes) .number) ∷ []) (LL.owed Told-t.the-type Told-l.the-laws (toldBy resumes) _ is-6·yes·1 .1 .1 .0) $ fjoin ! $
         owned ! (Frame-p .row) (Is (Frame-p .row)) (Frame-p .makes 𝓤 H A W) frame′ (Frame-p .val frame′ ∷ []) frame′-is $ fjoin ! $ move ! (2 ∷ 0 ∷ []) $ fjoin ! $ move ! (3 ∷ 0 ∷ []) $ fjoin ! $ move ! (1 ∷ 0 ∷ []) $
-        calls-any-last ! fm 2 [] (answers-reply-says.signature .params) (answers-reply-says.ended .kept) u64-p (answers-reply-says.clauses 𝓤 H A mem run) known-answers-reply-says ((ν-6·yes·11-out ∷ []), (κ₄, tt)) (fullShare, (q₄, tt)) tt (at-list b₃ o₃ δ-6·yes·11-out out, (at-list b₄ o₄ γ₄ sample, (frame′, (numberBy resumes, (saysBy resumes, tt))))) (sliceVal (b₃, o₃) n₃ ∷ [], (sliceVal (b₄, o₄) n₄ ∷ [], (Frame-p .val frame′ ∷ [], (ObjectNumber-p .val (numberBy resumes) ∷ [], (Says-p .val (saysBy resumes) ∷ [], tt))))) tt (length (saysBytes (saysBy resumes) frame′ (numberBy resumes) (sample))) (λ ws-6·yes·11. (ws-6·yes·11 .0 ≡ putBytes (out) 0 (saysBytes (saysBy resumes) frame′ (numberBy resumes) (sample)))) (factI 𝓤 (saysFits (saysBy resumes) (length (sample)) ≡ true) _ asks-6·yes·11) (λ r ws-6·yes·11. fact-mono 𝓤 ((r ≡ length (saysBytes (saysBy resumes) frame′ (numberBy resumes) (sample))) × ((ws-6·yes·11 .0) ≡ putBytes (out) 0 (saysBytes (saysBy resumes) frame′ (numberBy resumes) (sample)))) ((r ≡ (length (saysBytes (saysBy resumes) frame′ (numberBy resumes) (sample)))) × ((ws-6·yes·11 .0 ≡ putBytes (out) 0 (saysBytes (saysBy resumes) frame′ (numberBy resumes) (sample))))) (λ e. (e .0, e .1))) (λ _. (and-then ! (load ! (from ! (stop !)) (look ! 7 refl)) (and-then ! (load ! (from ! (stop !)) (look ! 43 refl)) (and-then ! (load ! (from ! (stop !)) (look ! 41 refl)) (and-then ! (load ! (from ! (stop !)) (look ! 29 refl)) (and-then ! (load ! (from ! (stop !)) (look ! 31 refl)) (no-more !))))))) (λ ws-6·yes·11 said-6·yes·11 is-6·yes·11.
-        use1 W ((‵ (flft (ν-6·yes·11-out ∷ []) fullShare) ⊛ (‵ (flft κ₄ q₄) ⊛ ‵ ftrue))) (id⊢ 𝓤 _) $ split ! $ move ! (1 ∷ []) $ split ! $ move ! (3 ∷ []) $ fsplit ! $ fsplit ! $ move ! (1 ∷ []) $
-        feqL ! (λ wlen-6·yes·11-0.
+        calls-any-last ! fm 2 [] (answers-reply-says.signature .params) (answers-reply-says.ended .kept) u64-p (answers-reply-says.clauses 𝓤 H A mem run) known-answers-reply-says ((ν-6·yes·9-out ∷ []), (κ₄, tt)) (fullShare, (q₄, tt)) tt (at-list b₃ o₃ δ-6·yes·9-out out, (at-list b₄ o₄ γ₄ sample, (frame′, ((toldBy resumes) .number, ((toldBy resumes) .says, tt))))) (sliceVal (b₃, o₃) n₃ ∷ [], (sliceVal (b₄, o₄) n₄ ∷ [], (Frame-p .val frame′ ∷ [], (ObjectNumber-p .val ((toldBy resumes) .number) ∷ [], (Says-p .val ((toldBy resumes) .says) ∷ [], tt))))) tt (length (saysBytes ((toldBy resumes) .says) frame′ ((toldBy resumes) .number) (sample))) (λ ws-6·yes·9. (ws-6·yes·9 .0 ≡ putBytes (out) 0 (saysBytes ((toldBy resumes) .says) frame′ ((toldBy resumes) .number) (sample)))) (factI 𝓤 (saysFits ((toldBy resumes) .says) (length (sample)) ≡ true) _ asks-6·yes·9) (λ r ws-6·yes·9. fact-mono 𝓤 ((r ≡ length (saysBytes ((toldBy resumes) .says) frame′ ((toldBy resumes) .number) (sample))) × ((ws-6·yes·9 .0) ≡ putBytes (out) 0 (saysBytes ((toldBy resumes) .says) frame′ ((toldBy resumes) .number) (sample)))) ((r ≡ (length (saysBytes ((toldBy resumes) .says) frame′ ((toldBy resumes) .number) (sample)))) × ((ws-6·yes·9 .0 ≡ putBytes (out) 0 (saysBytes ((toldBy resumes) .says) frame′ ((toldBy resumes) .number) (sample))))) (λ e. (e .0, e .1))) (λ _. (and-then ! (load ! (from ! (stop !)) (look ! 7 refl)) (and-then ! (load ! (from ! (stop !)) (look ! 39 refl)) (and-then ! (load ! (from ! (stop !)) (look ! 37 refl)) (and-then ! (load ! (from ! (fld ! refl (stop !))) (look-in ! 29 (sub ! 2 refl (whole !)))) (and-then ! (load ! (from ! (fld ! refl (stop !))) (look-in ! 29 (sub ! 1 refl (whole !)))) (no-more !))))))) (λ ws-6·yes·9 said-6·yes·9 is-6·yes·9.
+        use1 W ((‵ (flft (ν-6·yes·9-out ∷ []) fullShare) ⊛ (‵ (flft κ₄ q₄) ⊛ ‵ ftrue))) (id⊢ 𝓤 _) $ split ! $ move ! (1 ∷ []) $ split ! $ move ! (3 ∷ []) $ fsplit ! $ fsplit ! $ move ! (1 ∷ []) $
+        feqL ! (λ wlen-6·yes·9-0.
         move ! (1 ∷ []) $ fsplit ! $ move ! (5 ∷ 7 ∷ 2 ∷ []) $
-        backs-mut ! tt u8 b₃ o₃ out n₃ (refl) room₃ ν-6·yes·11-out δ-6·yes·11-out (ws-6·yes·11 .0) (putBytes (out) 0 (saysBytes (saysBy resumes) frame′ (numberBy resumes) (sample))) wlen-6·yes·11-0 (said-6·yes·11) (λ len-6·yes·11-out.
+        backs-mut ! tt u8 b₃ o₃ out n₃ (refl) room₃ ν-6·yes·9-out δ-6·yes·9-out (ws-6·yes·9 .0) (putBytes (out) 0 (saysBytes ((toldBy resumes) .says) frame′ ((toldBy resumes) .number) (sample))) wlen-6·yes·9-0 (said-6·yes·9) (λ len-6·yes·9-out.
         move ! (2 ∷ []) $ drop ! $ move ! (2 ∷ []) $ drop ! $ move ! (3 ∷ []) $ drop ! $
-        land-last ! (from ! (stop !)) (init ! 22 refl (u64-p .typed 𝓤 H A W (length (saysBytes (saysBy resumes) frame′ (numberBy resumes) (sample))) is-6·yes·11)) $
-        exec ! C Λ En mir.t-7 (atRet En Post) $
-        assigns ! (of-opd ! (load ! (from ! (stop !)) (look ! 22 refl))) (from ! (stop !)) (init ! 52 refl (u64-p .typed 𝓤 H A W (length (saysBytes (saysBy resumes) frame′ (numberBy resumes) (sample))) is-6·yes·11)) $
-        returns ! (look ! 52 refl) $ forget ! 8 refl $ forget ! 10 refl $ forget ! 12 refl $ forget ! 14 refl $ forget ! 16 refl $ forget ! 18 refl $ forget ! 20 refl $ forget ! 22 refl $ forget ! 24 refl $ forget ! 26 refl $ forget ! 28 refl $ forget ! 30 refl $ forget ! 32 refl $ forget ! 34 refl $ forget ! 36 refl $ forget ! 38 refl $ move ! (4 ∷ 5 ∷ 6 ∷ 7 ∷ 0 ∷ 1 ∷ 3 ∷ 2 ∷ 8 ∷ 9 ∷ 10 ∷ 11 ∷ 12 ∷ 13 ∷ 14 ∷ 15 ∷ 16 ∷ 17 ∷ 18 ∷ 19 ∷ 20 ∷ 21 ∷ 22 ∷ 23 ∷ 24 ∷ 25 ∷ 26 ∷ 27 ∷ 28 ∷ 29 ∷ 30 ∷ 31 ∷ 32 ∷ 33 ∷ 34 ∷ 35 ∷ 36 ∷ 37 ∷ 38 ∷ 39 ∷ 40 ∷ 41 ∷ 42 ∷ 43 ∷ 44 ∷ 45 ∷ 46 ∷ 47 ∷ 48 ∷ 49 ∷ 50 ∷ 51 ∷ 52 ∷ 53 ∷ []) $
-        frees-all (length (saysBytes (saysBy resumes) frame′ (numberBy resumes) (sample))) (keptSessions (keepsBy resumes) (sessions) (objects) (frame′ .«session_id»)) (keptObjects (keepsBy resumes) (sessions) (objects) (frame′ .«session_id»)) (putBytes (out) 0 (saysBytes (saysBy resumes) frame′ (numberBy resumes) (sample))) (exits (length (saysBytes (saysBy resumes) frame′ (numberBy resumes) (sample))) (keptSessions (keepsBy resumes) (sessions) (objects) (frame′ .«session_id»)) (keptObjects (keepsBy resumes) (sessions) (objects) (frame′ .«session_id»)) (putBytes (out) 0 (saysBytes (saysBy resumes) frame′ (numberBy resumes) (sample))) (begun-now sessions objects out frame′ sample resumes c-6) is-6·yes·11 len-6·yes·6-sessions len-6·yes·6-objects len-6·yes·11-out)))))))
+        land-last ! (from ! (stop !)) (init ! 22 refl (u64-p .typed 𝓤 H A W (length (saysBytes ((toldBy resumes) .says) frame′ ((toldBy resumes) .number) (sample))) is-6·yes·9)) $
+        exec ! C Λ En mir.t-7 (atRet En Post) $ move ! (4 ∷ 5 ∷ 6 ∷ 7 ∷ 0 ∷ 1 ∷ 3 ∷ 2 ∷ 8 ∷ 9 ∷ 10 ∷ 11 ∷ 12 ∷ 13 ∷ 14 ∷ 15 ∷ 16 ∷ 17 ∷ 18 ∷ 19 ∷ 20 ∷ 21 ∷ 22 ∷ 23 ∷ 24 ∷ 25 ∷ 26 ∷ 27 ∷ 28 ∷ 29 ∷ 30 ∷ 31 ∷ 32 ∷ 33 ∷ 34 ∷ 35 ∷ 36 ∷ 37 ∷ 38 ∷ 39 ∷ 40 ∷ 41 ∷ 42 ∷ 43 ∷ 44 ∷ 45 ∷ 46 ∷ 47 ∷ 48 ∷ 49 ∷ []) $
+        part-7-0 is-4 is-5 c-6 is-6·yes·1 len-6·yes·6-sessions len-6·yes·6-objects is-6·yes·6 asks-6·yes·9 len-6·yes·9-out is-6·yes·9)))))
 
-    begins : Sq W (‵ (MutSlice (named 0) κ₁ (Array u64 5) .own (at-list b₁ o₁ γ₁ sessions) (sliceVal (b₁, o₁) n₁ ∷ [])) ∷ ‵ (flft κ₁ q₁) ∷ ‵ (MutSlice (named 0) κ₂ Object-t.the-row .own (at-list b₂ o₂ γ₂ objects) (sliceVal (b₂, o₂) n₂ ∷ [])) ∷ ‵ (flft κ₂ q₂) ∷ ‵ (MutSlice (named 0) κ₃ u8 .own (at-list b₃ o₃ γ₃ out) (sliceVal (b₃, o₃) n₃ ∷ [])) ∷ ‵ (flft κ₃ q₃) ∷ ‵ (ShrSlice (named 0) κ₄ u8 .own (at-list b₄ o₄ γ₄ sample) (sliceVal (b₄, o₄) n₄ ∷ [])) ∷ ‵ (flft κ₄ q₄) ∷ free 𝓤 (sliceTy (tyRef erased mut (pointee (u8 .written)))) l₂₂ (free 𝓤 (tyRef erased mut (pointee (u8 .written))) l₂₁ (free 𝓤 (sliceTy (tyRef erased mut (pointee (Object-t.the-row .written)))) l₂₀ (free 𝓤 (tyRef erased mut (pointee (Object-t.the-row .written))) l₁₉ (free 𝓤 (sliceTy (tyRef erased mut (pointee ((Array u64 5) .written)))) l₁₈ (free 𝓤 (tyRef erased mut (pointee ((Array u64 5) .written))) l₁₇ (free 𝓤 tyUnit l₁₆ (free 𝓤 (tyInt w64) l₁₅ (free 𝓤 tyBool l₁₄ (free 𝓤 (sliceTy (tyRef erased imm (pointee ((Array u64 5) .written)))) l₁₃ (free 𝓤 (tyRef erased imm (pointee ((Array u64 5) .written))) l₁₂ (free 𝓤 ObjectNumber-l.mir l₁₁ (free 𝓤 Says-l.mir l₁₀ (free 𝓤 Keeps-l.mir l₉ (free 𝓤 Got-l.mir l₈ (free 𝓤 (tyInt w8) l₇ (full 𝓤 Resumes-l.mir l₆ (Resumes-p .val resumes) (full 𝓤 Frame-l.mir l₅ (Frame-p .val frame′) (full 𝓤 (sliceTy (tyRef (named 3) imm (pointee (u8 .written)))) l₄ (sliceVal (b₄, o₄) n₄) (full 𝓤 (sliceTy (tyRef (named 2) mut (pointee (u8 .written)))) l₃ (sliceVal (b₃, o₃) n₃) (full 𝓤 (sliceTy (tyRef (named 1) mut (pointee (Object-t.the-row .written)))) l₂ (sliceVal (b₂, o₂) n₂) (full 𝓤 (sliceTy (tyRef (named 0) mut (pointee ((Array u64 5) .written)))) l₁ (sliceVal (b₁, o₁) n₁) (free 𝓤 (tyInt w64) l₀ ([])))))))))))))))))))))))) (runs C Λ En mir.t-1 (atRet En Post))
-    begins =
-        assigns ! (of-opd ! (load ! (from ! (fld ! refl (stop !))) (look-in ! 42 (sub ! 2 refl (whole !))))) (from ! (stop !)) (init ! 38 refl (u8-p .typed 𝓤 H A W (frame′ .«session_id») (LL.owed Frame-t.the-type Frame-l.the-laws frame′ _ frame′-is .1 .1 .0))) $
-        assigns ! (addr ! (from ! (fld ! refl (hop ! (look-in ! 50 (sub ! 0 refl (whole !))) (stop !))))) (from ! (stop !)) (init ! 28 refl (tt, tt)) $
-        assigns ! (agg ! (and-then ! (load ! (from ! (stop !)) (look ! 28 refl)) (and-then ! (load ! (from ! (fld ! refl (stop !))) (look-in ! 50 (sub ! 1 refl (whole !)))) (no-more !)))) (from ! (stop !)) (init ! 26 refl (tt, (tt, (record { fits = room₁ .0 }, tt)))) $
-        -- 4: sessions::table::get
-        lends-view ! tt (Array u64 5) b₁ o₁ sessions n₁ (refl) (λ ν-4-sessions δ-4-sessions.
-        nothing ! $ move ! (1 ∷ 0 ∷ []) $ join ! $
-        use1 W (raw (toks 𝓤 A 1 (((ν-4-sessions ∷ []), tt)) ((fullShare, tt)))) (id⊢ 𝓤 _) $ nothing ! $
-        owned ! (u8-p .row) (Is (u8-p .row)) (u8-p .makes 𝓤 H A W) (frame′ .«session_id») (u8-p .val (frame′ .«session_id») ∷ []) (LL.owed Frame-t.the-type Frame-l.the-laws frame′ _ frame′-is .1 .1 .0) $ fjoin ! $ move ! (2 ∷ 0 ∷ []) $ fjoin ! $ move ! (1 ∷ 0 ∷ []) $
-        calls-any ! fm 1 [] (table-get.signature .params) (table-get.ended .kept) Got-p (table-get.clauses 𝓤 H A mem run) known-table-get ((ν-4-sessions ∷ []), tt) (fullShare, tt) tt (at-list b₁ o₁ δ-4-sessions sessions, (frame′ .«session_id», tt)) (sliceVal (b₁, o₁) n₁ ∷ [], (u8-p .val (frame′ .«session_id») ∷ [], tt)) tt (gotOf (sessions) (frame′ .«session_id»)) (λ ws-4. Unit {0}) (id⊢ 𝓤 _) (λ r ws-4. fact-mono 𝓤 (r ≡ gotOf (sessions) (frame′ .«session_id»)) ((r ≡ (gotOf (sessions) (frame′ .«session_id»))) × (Unit {0})) (λ e. (e, tt))) (λ _. (and-then ! (load ! (from ! (stop !)) (look ! 26 refl)) (and-then ! (load ! (from ! (stop !)) (look ! 38 refl)) (no-more !)))) (λ ws-4 said-4 is-4.
-        use1 W ((‵ (flft (ν-4-sessions ∷ []) fullShare) ⊛ ‵ ftrue)) (id⊢ 𝓤 _) $ split ! $ move ! (2 ∷ []) $ fsplit ! $ move ! (2 ∷ 4 ∷ []) $
-        backs-view ! tt (Array u64 5) b₁ o₁ sessions n₁ (refl) ν-4-sessions $ move ! (2 ∷ []) $ drop ! $ move ! (2 ∷ []) $ drop ! $ move ! (2 ∷ []) $ drop ! $
-        land ! (from ! (stop !)) (init ! 36 refl (Got-p .typed 𝓤 H A W (gotOf (sessions) (frame′ .«session_id»)) is-4)) $
-        -- 5: agent::answers::answers_now
-        nothing ! $
-        use1 W (raw (toks 𝓤 A 0 (tt) (tt))) (id⊢ 𝓤 _) $ nothing ! $
-        owned ! (Got-p .row) (Is (Got-p .row)) (Got-p .makes 𝓤 H A W) (gotOf (sessions) (frame′ .«session_id»)) (Got-p .val (gotOf (sessions) (frame′ .«session_id»)) ∷ []) is-4 $ fjoin ! $
-        owned ! (Resumes-p .row) (Is (Resumes-p .row)) (Resumes-p .makes 𝓤 H A W) resumes (Resumes-p .val resumes ∷ []) resumes-is $ fjoin ! $ move ! (1 ∷ 0 ∷ []) $
-        calls-any ! fm 0 [] (answers-answers-now.signature .params) (answers-answers-now.ended .kept) bool-p (answers-answers-now.clauses 𝓤 H A mem run) known-answers-answers-now tt tt tt (resumes, (gotOf (sessions) (frame′ .«session_id»), tt)) (Resumes-p .val resumes ∷ [], (Got-p .val (gotOf (sessions) (frame′ .«session_id»)) ∷ [], tt)) tt (answersNow resumes (gotOf (sessions) (frame′ .«session_id»))) (λ ws-5. Unit {0}) (id⊢ 𝓤 _) (λ r ws-5. fact-mono 𝓤 (r ≡ answersNow resumes (gotOf (sessions) (frame′ .«session_id»))) ((r ≡ (answersNow resumes (gotOf (sessions) (frame′ .«session_id»)))) × (Unit {0})) (λ e. (e, tt))) (λ _. (and-then ! (load ! (from ! (stop !)) (look ! 41 refl)) (and-then ! (load ! (from ! (stop !)) (look ! 37 refl)) (no-more !)))) (λ ws-5 said-5 is-5.
-        drop ! $ drop ! $
-        land ! (from ! (stop !)) (init ! 24 refl (bool-p .typed 𝓤 H A W (answersNow resumes (gotOf (sessions) (frame′ .«session_id»))) is-5)) $
-        first ! $
-        branches ! (load ! (from ! (stop !)) (look ! 24 refl))
-        (λ h-6.
-        knows ! (answersNow resumes (gotOf (sessions) (frame′ .«session_id»)) ≡ true) (holds (answersNow resumes (gotOf (sessions) (frame′ .«session_id»))) h-6) (λ c-6.
-        -- 6.yes.1: agent::answers::keeps_by
-        nothing ! $
-        use1 W (raw (toks 𝓤 A 0 (tt) (tt))) (id⊢ 𝓤 _) $ nothing ! $
-        owned ! (Resumes-p .row) (Is (Resumes-p .row)) (Resumes-p .makes 𝓤 H A W) resumes (Resumes-p .val resumes ∷ []) resumes-is $ fjoin ! $ move ! (1 ∷ 0 ∷ []) $
-        calls-any ! fm 0 [] (answers-keeps-by.signature .params) (answers-keeps-by.ended .kept) Keeps-p (answers-keeps-by.clauses 𝓤 H A mem run) known-answers-keeps-by tt tt tt (resumes, tt) (Resumes-p .val resumes ∷ [], tt) tt (keepsBy resumes) (λ ws-6·yes·1. Unit {0}) (id⊢ 𝓤 _) (λ r ws-6·yes·1. fact-mono 𝓤 (r ≡ keepsBy resumes) ((r ≡ (keepsBy resumes)) × (Unit {0})) (λ e. (e, tt))) (λ _. (and-then ! (load ! (from ! (stop !)) (look ! 41 refl)) (no-more !))) (λ ws-6·yes·1 said-6·yes·1 is-6·yes·1.
-        drop ! $ drop ! $
-        land ! (from ! (stop !)) (init ! 34 refl (Keeps-p .typed 𝓤 H A W (keepsBy resumes) is-6·yes·1)) $
-        assigns ! (addr ! (from ! (fld ! refl (hop ! (look-in ! 50 (sub ! 0 refl (whole !))) (stop !))))) (from ! (stop !)) (init ! 18 refl (tt, tt)) $
-        assigns ! (agg ! (and-then ! (load ! (from ! (stop !)) (look ! 18 refl)) (and-then ! (load ! (from ! (fld ! refl (stop !))) (look-in ! 50 (sub ! 1 refl (whole !)))) (no-more !)))) (from ! (stop !)) (init ! 16 refl (tt, (tt, (record { fits = room₁ .0 }, tt)))) $
-        assigns ! (addr ! (from ! (fld ! refl (hop ! (look-in ! 48 (sub ! 0 refl (whole !))) (stop !))))) (from ! (stop !)) (init ! 14 refl (tt, tt)) $
-        assigns ! (agg ! (and-then ! (load ! (from ! (stop !)) (look ! 14 refl)) (and-then ! (load ! (from ! (fld ! refl (stop !))) (look-in ! 48 (sub ! 1 refl (whole !)))) (no-more !)))) (from ! (stop !)) (init ! 12 refl (tt, (tt, (record { fits = room₂ .0 }, tt)))) $
-        -- 6.yes.6: agent::answers::keep
+    part-6·yes·2-0 : (is-4 : Is (Got-p .row) (gotOf (sessions) (frame′ .«session_id»)) (Got-p .val (gotOf (sessions) (frame′ .«session_id»)) ∷ [])) → (is-5 : Is (bool-p .row) (answersNow resumes (gotOf (sessions) (frame′ .«session_id»))) (bool-p .val (answersNow resumes (gotOf (sessions) (frame′ .«session_id»))) ∷ [])) → (c-6 : answersNow resumes (gotOf (sessions) (frame′ .«session_id»)) ≡ true) → (is-6·yes·1 : Is (Told-p .row) (toldBy resumes) (Told-p .val (toldBy resumes) ∷ [])) → Sq W (‵ (MutSlice (named 0) κ₁ (Array u64 5) .own (at-list b₁ o₁ γ₁ sessions) (sliceVal (b₁, o₁) n₁ ∷ [])) ∷ ‵ (flft κ₁ q₁) ∷ ‵ (MutSlice (named 0) κ₂ Object-t.the-row .own (at-list b₂ o₂ γ₂ objects) (sliceVal (b₂, o₂) n₂ ∷ [])) ∷ ‵ (flft κ₂ q₂) ∷ ‵ (MutSlice (named 0) κ₃ u8 .own (at-list b₃ o₃ γ₃ out) (sliceVal (b₃, o₃) n₃ ∷ [])) ∷ ‵ (flft κ₃ q₃) ∷ ‵ (ShrSlice (named 0) κ₄ u8 .own (at-list b₄ o₄ γ₄ sample) (sliceVal (b₄, o₄) n₄ ∷ [])) ∷ ‵ (flft κ₄ q₄) ∷ free 𝓤 (sliceTy (tyRef erased mut (pointee (u8 .written)))) l₂₀ (free 𝓤 (tyRef erased mut (pointee (u8 .written))) l₁₉ (free 𝓤 (sliceTy (tyRef erased mut (pointee (Object-t.the-row .written)))) l₁₈ (free 𝓤 (tyRef erased mut (pointee (Object-t.the-row .written))) l₁₇ (free 𝓤 (sliceTy (tyRef erased mut (pointee ((Array u64 5) .written)))) l₁₆ (free 𝓤 (tyRef erased mut (pointee ((Array u64 5) .written))) l₁₅ (free 𝓤 tyUnit l₁₄ (free 𝓤 (tyInt w64) l₁₃ (full 𝓤 tyBool l₁₂ (bool-p .val (answersNow resumes (gotOf (sessions) (frame′ .«session_id»)))) (full 𝓤 (sliceTy (tyRef erased imm (pointee ((Array u64 5) .written)))) l₁₁ (sliceVal (b₁, o₁) n₁) (full 𝓤 (tyRef erased imm (pointee ((Array u64 5) .written))) l₁₀ (vptr b₁ o₁) (full 𝓤 Told-l.mir l₉ (Told-p .val (toldBy resumes)) (full 𝓤 Got-l.mir l₈ (Got-p .val (gotOf (sessions) (frame′ .«session_id»))) (full 𝓤 (tyInt w8) l₇ (u8-p .val (frame′ .«session_id»)) (full 𝓤 Resumes-l.mir l₆ (Resumes-p .val resumes) (full 𝓤 Frame-l.mir l₅ (Frame-p .val frame′) (full 𝓤 (sliceTy (tyRef (named 3) imm (pointee (u8 .written)))) l₄ (sliceVal (b₄, o₄) n₄) (full 𝓤 (sliceTy (tyRef (named 2) mut (pointee (u8 .written)))) l₃ (sliceVal (b₃, o₃) n₃) (full 𝓤 (sliceTy (tyRef (named 1) mut (pointee (Object-t.the-row .written)))) l₂ (sliceVal (b₂, o₂) n₂) (full 𝓤 (sliceTy (tyRef (named 0) mut (pointee ((Array u64 5) .written)))) l₁ (sliceVal (b₁, o₁) n₁) (free 𝓤 (tyInt w64) l₀ ([])))))))))))))))))))))) (runs C Λ En (past 1 (yes-of (one mir.t-6))) (anyQ (afterSeq 𝓤 H (Wp 𝓤 H C Λ En mir.t-7 (atReturn 𝓤 H En Post)) (atReturn 𝓤 H En Post))))
+    part-6·yes·2-0 is-4 is-5 c-6 is-6·yes·1 =
+        assigns ! (addr ! (from ! (fld ! refl (hop ! (look-in ! 46 (sub ! 0 refl (whole !))) (stop !))))) (from ! (stop !)) (init ! 18 refl (tt, tt)) $
+        assigns ! (agg ! (and-then ! (load ! (from ! (stop !)) (look ! 18 refl)) (and-then ! (load ! (from ! (fld ! refl (stop !))) (look-in ! 46 (sub ! 1 refl (whole !)))) (no-more !)))) (from ! (stop !)) (init ! 16 refl (tt, (tt, (record { fits = room₁ .0 }, tt)))) $
+        assigns ! (addr ! (from ! (fld ! refl (hop ! (look-in ! 44 (sub ! 0 refl (whole !))) (stop !))))) (from ! (stop !)) (init ! 14 refl (tt, tt)) $
+        assigns ! (agg ! (and-then ! (load ! (from ! (stop !)) (look ! 14 refl)) (and-then ! (load ! (from ! (fld ! refl (stop !))) (look-in ! 44 (sub ! 1 refl (whole !)))) (no-more !)))) (from ! (stop !)) (init ! 12 refl (tt, (tt, (record { fits = room₂ .0 }, tt)))) $
+        -- 6.yes.6: moves::answers::keep
         lends-mut ! tt (Array u64 5) b₁ o₁ sessions n₁ (refl) (λ ν-6·yes·6-sessions δ-6·yes·6-sessions.
         move ! (3 ∷ 4 ∷ []) $
         lends-mut ! tt Object-t.the-row b₂ o₂ objects n₂ (refl) (λ ν-6·yes·6-objects δ-6·yes·6-objects.
         nothing ! $ move ! (1 ∷ 0 ∷ []) $ join ! $ move ! (3 ∷ 0 ∷ []) $ join ! $
         use1 W (raw (toks 𝓤 A 2 (((ν-6·yes·6-sessions ∷ []), ((ν-6·yes·6-objects ∷ []), tt))) ((fullShare, (fullShare, tt))))) (id⊢ 𝓤 _) $ nothing ! $
-        owned ! (Keeps-p .row) (Is (Keeps-p .row)) (Keeps-p .makes 𝓤 H A W) (keepsBy resumes) (Keeps-p .val (keepsBy resumes) ∷ []) is-6·yes·1 $ fjoin ! $
+        owned ! (Keeps-p .row) (Is (Keeps-p .row)) (Keeps-p .makes 𝓤 H A W) ((toldBy resumes) .keeps) (Keeps-p .val ((toldBy resumes) .keeps) ∷ []) (LL.owed Told-t.the-type Told-l.the-laws (toldBy resumes) _ is-6·yes·1 .0) $ fjoin ! $
         owned ! (u8-p .row) (Is (u8-p .row)) (u8-p .makes 𝓤 H A W) (frame′ .«session_id») (u8-p .val (frame′ .«session_id») ∷ []) (LL.owed Frame-t.the-type Frame-l.the-laws frame′ _ frame′-is .1 .1 .0) $ fjoin ! $ move ! (2 ∷ 0 ∷ []) $ fjoin ! $ move ! (3 ∷ 0 ∷ []) $ fjoin ! $ move ! (1 ∷ 0 ∷ []) $
-        calls-any ! fm 2 [] (answers-keep.signature .params) (answers-keep.ended .kept) unit-p (answers-keep.clauses 𝓤 H A mem run) known-answers-keep ((ν-6·yes·6-sessions ∷ []), ((ν-6·yes·6-objects ∷ []), tt)) (fullShare, (fullShare, tt)) tt (at-list b₁ o₁ δ-6·yes·6-sessions sessions, (at-list b₂ o₂ δ-6·yes·6-objects objects, (frame′ .«session_id», (keepsBy resumes, tt)))) (sliceVal (b₁, o₁) n₁ ∷ [], (sliceVal (b₂, o₂) n₂ ∷ [], (u8-p .val (frame′ .«session_id») ∷ [], (Keeps-p .val (keepsBy resumes) ∷ [], tt)))) tt tt (λ ws-6·yes·6. (ws-6·yes·6 .0 ≡ keptSessions (keepsBy resumes) (sessions) (objects) (frame′ .«session_id»)) × (ws-6·yes·6 .1 .0 ≡ keptObjects (keepsBy resumes) (sessions) (objects) (frame′ .«session_id»))) (id⊢ 𝓤 _) (λ r ws-6·yes·6. fact-mono 𝓤 (((ws-6·yes·6 .0) ≡ keptSessions (keepsBy resumes) (sessions) (objects) (frame′ .«session_id»)) × ((ws-6·yes·6 .1 .0) ≡ keptObjects (keepsBy resumes) (sessions) (objects) (frame′ .«session_id»))) ((r ≡ tt) × ((ws-6·yes·6 .0 ≡ keptSessions (keepsBy resumes) (sessions) (objects) (frame′ .«session_id»)) × (ws-6·yes·6 .1 .0 ≡ keptObjects (keepsBy resumes) (sessions) (objects) (frame′ .«session_id»)))) (λ e. (refl, (e .0, e .1)))) (λ _. (and-then ! (load ! (from ! (stop !)) (look ! 15 refl)) (and-then ! (load ! (from ! (stop !)) (look ! 11 refl)) (and-then ! (load ! (from ! (stop !)) (look ! 37 refl)) (and-then ! (load ! (from ! (stop !)) (look ! 33 refl)) (no-more !)))))) (λ ws-6·yes·6 said-6·yes·6 is-6·yes·6.
+        calls-any ! fm 2 [] (answers-keep.signature .params) (answers-keep.ended .kept) unit-p (answers-keep.clauses 𝓤 H A mem run) known-answers-keep ((ν-6·yes·6-sessions ∷ []), ((ν-6·yes·6-objects ∷ []), tt)) (fullShare, (fullShare, tt)) tt (at-list b₁ o₁ δ-6·yes·6-sessions sessions, (at-list b₂ o₂ δ-6·yes·6-objects objects, (frame′ .«session_id», ((toldBy resumes) .keeps, tt)))) (sliceVal (b₁, o₁) n₁ ∷ [], (sliceVal (b₂, o₂) n₂ ∷ [], (u8-p .val (frame′ .«session_id») ∷ [], (Keeps-p .val ((toldBy resumes) .keeps) ∷ [], tt)))) tt tt (λ ws-6·yes·6. (ws-6·yes·6 .0 ≡ keptSessions ((toldBy resumes) .keeps) (sessions) (objects) (frame′ .«session_id»)) × (ws-6·yes·6 .1 .0 ≡ keptObjects ((toldBy resumes) .keeps) (sessions) (objects) (frame′ .«session_id»))) (id⊢ 𝓤 _) (λ r ws-6·yes·6. fact-mono 𝓤 (((ws-6·yes·6 .0) ≡ keptSessions ((toldBy resumes) .keeps) (sessions) (objects) (frame′ .«session_id»)) × ((ws-6·yes·6 .1 .0) ≡ keptObjects ((toldBy resumes) .keeps) (sessions) (objects) (frame′ .«session_id»))) ((r ≡ tt) × ((ws-6·yes·6 .0 ≡ keptSessions ((toldBy resumes) .keeps) (sessions) (objects) (frame′ .«session_id»)) × (ws-6·yes·6 .1 .0 ≡ keptObjects ((toldBy resumes) .keeps) (sessions) (objects) (frame′ .«session_id»)))) (λ e. (refl, (e .0, e .1)))) (λ _. (and-then ! (load ! (from ! (stop !)) (look ! 15 refl)) (and-then ! (load ! (from ! (stop !)) (look ! 11 refl)) (and-then ! (load ! (from ! (stop !)) (look ! 33 refl)) (and-then ! (load ! (from ! (fld ! refl (stop !))) (look-in ! 29 (sub ! 0 refl (whole !)))) (no-more !)))))) (λ ws-6·yes·6 said-6·yes·6 is-6·yes·6.
         use1 W ((‵ (flft (ν-6·yes·6-sessions ∷ []) fullShare) ⊛ (‵ (flft (ν-6·yes·6-objects ∷ []) fullShare) ⊛ ‵ ftrue))) (id⊢ 𝓤 _) $ split ! $ move ! (1 ∷ []) $ split ! $ move ! (3 ∷ []) $ fsplit ! $ fsplit ! $ move ! (1 ∷ []) $
         feqL ! (λ wlen-6·yes·6-0.
         move ! (1 ∷ []) $ fsplit ! $ fsplit ! $ move ! (1 ∷ []) $
         feqL ! (λ wlen-6·yes·6-1.
         move ! (5 ∷ 7 ∷ 2 ∷ []) $
-        backs-mut ! tt (Array u64 5) b₁ o₁ sessions n₁ (refl) room₁ ν-6·yes·6-sessions δ-6·yes·6-sessions (ws-6·yes·6 .0) (keptSessions (keepsBy resumes) (sessions) (objects) (frame′ .«session_id»)) wlen-6·yes·6-0 (said-6·yes·6 .0) (λ len-6·yes·6-sessions.
+        backs-mut ! tt (Array u64 5) b₁ o₁ sessions n₁ (refl) room₁ ν-6·yes·6-sessions δ-6·yes·6-sessions (ws-6·yes·6 .0) (keptSessions ((toldBy resumes) .keeps) (sessions) (objects) (frame′ .«session_id»)) wlen-6·yes·6-0 (said-6·yes·6 .0) (λ len-6·yes·6-sessions.
         move ! (4 ∷ 6 ∷ 2 ∷ []) $
-        backs-mut ! tt Object-t.the-row b₂ o₂ objects n₂ (refl) room₂ ν-6·yes·6-objects δ-6·yes·6-objects (ws-6·yes·6 .1 .0) (keptObjects (keepsBy resumes) (sessions) (objects) (frame′ .«session_id»)) wlen-6·yes·6-1 (said-6·yes·6 .1) (λ len-6·yes·6-objects.
+        backs-mut ! tt Object-t.the-row b₂ o₂ objects n₂ (refl) room₂ ν-6·yes·6-objects δ-6·yes·6-objects (ws-6·yes·6 .1 .0) (keptObjects ((toldBy resumes) .keeps) (sessions) (objects) (frame′ .«session_id»)) wlen-6·yes·6-1 (said-6·yes·6 .1) (λ len-6·yes·6-objects.
         move ! (4 ∷ []) $ drop ! $ move ! (4 ∷ []) $ drop ! $
-        land ! (from ! (stop !)) (init ! 20 refl (unit-p .typed 𝓤 H A W tt is-6·yes·6)) $
-        -- 6.yes.7: agent::answers::says_by
+        land ! (from ! (stop !)) (init ! 20 refl (unit-p .typed 𝓤 H A W tt is-6·yes·6)) $ move ! (2 ∷ 3 ∷ 0 ∷ 1 ∷ 4 ∷ 5 ∷ 6 ∷ 7 ∷ 8 ∷ 9 ∷ 10 ∷ 11 ∷ 12 ∷ 13 ∷ 14 ∷ 15 ∷ 16 ∷ 17 ∷ 18 ∷ 19 ∷ 20 ∷ 21 ∷ 22 ∷ 23 ∷ 24 ∷ 25 ∷ 26 ∷ 27 ∷ 28 ∷ 29 ∷ 30 ∷ 31 ∷ 32 ∷ 33 ∷ 34 ∷ 35 ∷ 36 ∷ 37 ∷ 38 ∷ 39 ∷ 40 ∷ 41 ∷ 42 ∷ 43 ∷ 44 ∷ 45 ∷ 46 ∷ 47 ∷ 48 ∷ 49 ∷ []) $
+        part-6·yes·7-0 is-4 is-5 c-6 is-6·yes·1 len-6·yes·6-sessions len-6·yes·6-objects is-6·yes·6)))))))
+
+    part-6-0 : (is-4 : Is (Got-p .row) (gotOf (sessions) (frame′ .«session_id»)) (Got-p .val (gotOf (sessions) (frame′ .«session_id»)) ∷ [])) → (is-5 : Is (bool-p .row) (answersNow resumes (gotOf (sessions) (frame′ .«session_id»))) (bool-p .val (answersNow resumes (gotOf (sessions) (frame′ .«session_id»))) ∷ [])) → Sq W (‵ (MutSlice (named 0) κ₁ (Array u64 5) .own (at-list b₁ o₁ γ₁ sessions) (sliceVal (b₁, o₁) n₁ ∷ [])) ∷ ‵ (flft κ₁ q₁) ∷ ‵ (MutSlice (named 0) κ₂ Object-t.the-row .own (at-list b₂ o₂ γ₂ objects) (sliceVal (b₂, o₂) n₂ ∷ [])) ∷ ‵ (flft κ₂ q₂) ∷ ‵ (MutSlice (named 0) κ₃ u8 .own (at-list b₃ o₃ γ₃ out) (sliceVal (b₃, o₃) n₃ ∷ [])) ∷ ‵ (flft κ₃ q₃) ∷ ‵ (ShrSlice (named 0) κ₄ u8 .own (at-list b₄ o₄ γ₄ sample) (sliceVal (b₄, o₄) n₄ ∷ [])) ∷ ‵ (flft κ₄ q₄) ∷ free 𝓤 (sliceTy (tyRef erased mut (pointee (u8 .written)))) l₂₀ (free 𝓤 (tyRef erased mut (pointee (u8 .written))) l₁₉ (free 𝓤 (sliceTy (tyRef erased mut (pointee (Object-t.the-row .written)))) l₁₈ (free 𝓤 (tyRef erased mut (pointee (Object-t.the-row .written))) l₁₇ (free 𝓤 (sliceTy (tyRef erased mut (pointee ((Array u64 5) .written)))) l₁₆ (free 𝓤 (tyRef erased mut (pointee ((Array u64 5) .written))) l₁₅ (free 𝓤 tyUnit l₁₄ (free 𝓤 (tyInt w64) l₁₃ (full 𝓤 tyBool l₁₂ (bool-p .val (answersNow resumes (gotOf (sessions) (frame′ .«session_id»)))) (full 𝓤 (sliceTy (tyRef erased imm (pointee ((Array u64 5) .written)))) l₁₁ (sliceVal (b₁, o₁) n₁) (full 𝓤 (tyRef erased imm (pointee ((Array u64 5) .written))) l₁₀ (vptr b₁ o₁) (free 𝓤 Told-l.mir l₉ (full 𝓤 Got-l.mir l₈ (Got-p .val (gotOf (sessions) (frame′ .«session_id»))) (full 𝓤 (tyInt w8) l₇ (u8-p .val (frame′ .«session_id»)) (full 𝓤 Resumes-l.mir l₆ (Resumes-p .val resumes) (full 𝓤 Frame-l.mir l₅ (Frame-p .val frame′) (full 𝓤 (sliceTy (tyRef (named 3) imm (pointee (u8 .written)))) l₄ (sliceVal (b₄, o₄) n₄) (full 𝓤 (sliceTy (tyRef (named 2) mut (pointee (u8 .written)))) l₃ (sliceVal (b₃, o₃) n₃) (full 𝓤 (sliceTy (tyRef (named 1) mut (pointee (Object-t.the-row .written)))) l₂ (sliceVal (b₂, o₂) n₂) (full 𝓤 (sliceTy (tyRef (named 0) mut (pointee ((Array u64 5) .written)))) l₁ (sliceVal (b₁, o₁) n₁) (free 𝓤 (tyInt w64) l₀ ([])))))))))))))))))))))) (runs C Λ En mir.t-6 (atRet En Post))
+    part-6-0 is-4 is-5 =
+        first ! $
+        branches ! (load ! (from ! (stop !)) (look ! 24 refl))
+        (λ h-6.
+        knows ! (answersNow resumes (gotOf (sessions) (frame′ .«session_id»)) ≡ true) (holds (answersNow resumes (gotOf (sessions) (frame′ .«session_id»))) h-6) (λ c-6.
+        -- 6.yes.1: agent::answers::told_by
         nothing ! $
         use1 W (raw (toks 𝓤 A 0 (tt) (tt))) (id⊢ 𝓤 _) $ nothing ! $
         owned ! (Resumes-p .row) (Is (Resumes-p .row)) (Resumes-p .makes 𝓤 H A W) resumes (Resumes-p .val resumes ∷ []) resumes-is $ fjoin ! $ move ! (1 ∷ 0 ∷ []) $
-        calls-any ! fm 0 [] (answers-says-by.signature .params) (answers-says-by.ended .kept) Says-p (answers-says-by.clauses 𝓤 H A mem run) known-answers-says-by tt tt tt (resumes, tt) (Resumes-p .val resumes ∷ [], tt) tt (saysBy resumes) (λ ws-6·yes·7. Unit {0}) (id⊢ 𝓤 _) (λ r ws-6·yes·7. fact-mono 𝓤 (r ≡ saysBy resumes) ((r ≡ (saysBy resumes)) × (Unit {0})) (λ e. (e, tt))) (λ _. (and-then ! (load ! (from ! (stop !)) (look ! 41 refl)) (no-more !))) (λ ws-6·yes·7 said-6·yes·7 is-6·yes·7.
+        calls-any ! fm 0 [] (answers-told-by.signature .params) (answers-told-by.ended .kept) Told-p (answers-told-by.clauses 𝓤 H A mem run) known-answers-told-by tt tt tt (resumes, tt) (Resumes-p .val resumes ∷ [], tt) tt (toldBy resumes) (λ ws-6·yes·1. Unit {0}) (id⊢ 𝓤 _) (λ r ws-6·yes·1. fact-mono 𝓤 (r ≡ toldBy resumes) ((r ≡ (toldBy resumes)) × (Unit {0})) (λ e. (e, tt))) (λ _. (and-then ! (load ! (from ! (stop !)) (look ! 37 refl)) (no-more !))) (λ ws-6·yes·1 said-6·yes·1 is-6·yes·1.
         drop ! $ drop ! $
-        land ! (from ! (stop !)) (init ! 32 refl (Says-p .typed 𝓤 H A W (saysBy resumes) is-6·yes·7)) $ move ! (2 ∷ 3 ∷ 0 ∷ 1 ∷ 4 ∷ 5 ∷ 6 ∷ 7 ∷ 8 ∷ 9 ∷ 10 ∷ 11 ∷ 12 ∷ 13 ∷ 14 ∷ 15 ∷ 16 ∷ 17 ∷ 18 ∷ 19 ∷ 20 ∷ 21 ∷ 22 ∷ 23 ∷ 24 ∷ 25 ∷ 26 ∷ 27 ∷ 28 ∷ 29 ∷ 30 ∷ 31 ∷ 32 ∷ 33 ∷ 34 ∷ 35 ∷ 36 ∷ 37 ∷ 38 ∷ 39 ∷ 40 ∷ 41 ∷ 42 ∷ 43 ∷ 44 ∷ 45 ∷ 46 ∷ 47 ∷ 48 ∷ 49 ∷ 50 ∷ 51 ∷ 52 ∷ 53 ∷ []) $
-        part-6·yes·8-0 is-4 is-5 c-6 is-6·yes·1 len-6·yes·6-sessions len-6·yes·6-objects is-6·yes·6 is-6·yes·7)))))))))))
+        land ! (from ! (stop !)) (init ! 30 refl (Told-p .typed 𝓤 H A W (toldBy resumes) is-6·yes·1)) $
+        part-6·yes·2-0 is-4 is-5 c-6 is-6·yes·1)))
         (λ h-6.
         knows ! (answersNow resumes (gotOf (sessions) (frame′ .«session_id»)) ≡ false) (fails (answersNow resumes (gotOf (sessions) (frame′ .«session_id»))) (T-not (answersNow resumes (gotOf (sessions) (frame′ .«session_id»))) h-6)) (λ c-6.
         assigns-last ! (of-opd ! (lit ! tt)) (from ! (stop !)) (init ! 22 refl (u64-p .typed 𝓤 H A W 0 ((refl, lit< tt)))) $
         exec ! C Λ En mir.t-7 (atRet En Post) $
-        assigns ! (of-opd ! (load ! (from ! (stop !)) (look ! 22 refl))) (from ! (stop !)) (init ! 52 refl (u64-p .typed 𝓤 H A W 0 ((refl, lit< tt)))) $
-        returns ! (look ! 52 refl) $ forget ! 22 refl $ forget ! 24 refl $ forget ! 26 refl $ forget ! 28 refl $ forget ! 36 refl $ forget ! 38 refl $
-        frees-all 0 sessions objects out (exits 0 sessions objects out (begun-not sessions objects out frame′ sample resumes c-6) ((refl, lit< tt)) refl refl refl))))))
+        assigns ! (of-opd ! (load ! (from ! (stop !)) (look ! 22 refl))) (from ! (stop !)) (init ! 48 refl (u64-p .typed 𝓤 H A W 0 ((refl, lit< tt)))) $
+        returns ! (look ! 48 refl) $ forget ! 22 refl $ forget ! 24 refl $ forget ! 26 refl $ forget ! 28 refl $ forget ! 32 refl $ forget ! 34 refl $
+        frees-all 0 sessions objects out (exits 0 sessions objects out (begun-not sessions objects out frame′ sample resumes c-6) ((refl, lit< tt)) refl refl refl)))
 
-  module _ (𝓣 : Tables 𝓤 H) (known-table-get : Triple 𝓤 (𝓣 .C #table-get) (Of-table-get 𝓤 H A mem run)) (known-answers-answers-now : Triple 𝓤 (𝓣 .C #answers-answers-now) (Of-answers-answers-now 𝓤 H A mem run)) (known-answers-keeps-by : Triple 𝓤 (𝓣 .C #answers-keeps-by) (Of-answers-keeps-by 𝓤 H A mem run)) (known-answers-keep : Triple 𝓤 (𝓣 .C #answers-keep) (Of-answers-keep 𝓤 H A mem run)) (known-answers-says-by : Triple 𝓤 (𝓣 .C #answers-says-by) (Of-answers-says-by 𝓤 H A mem run)) (known-answers-number-by : Triple 𝓤 (𝓣 .C #answers-number-by) (Of-answers-number-by 𝓤 H A mem run)) (known-answers-reply-says : Triple 𝓤 (𝓣 .C #answers-reply-says) (Of-answers-reply-says 𝓤 H A mem run)) where
+    part-5-0 : (is-4 : Is (Got-p .row) (gotOf (sessions) (frame′ .«session_id»)) (Got-p .val (gotOf (sessions) (frame′ .«session_id»)) ∷ [])) → Sq W (‵ (MutSlice (named 0) κ₁ (Array u64 5) .own (at-list b₁ o₁ γ₁ sessions) (sliceVal (b₁, o₁) n₁ ∷ [])) ∷ ‵ (flft κ₁ q₁) ∷ ‵ (MutSlice (named 0) κ₂ Object-t.the-row .own (at-list b₂ o₂ γ₂ objects) (sliceVal (b₂, o₂) n₂ ∷ [])) ∷ ‵ (flft κ₂ q₂) ∷ ‵ (MutSlice (named 0) κ₃ u8 .own (at-list b₃ o₃ γ₃ out) (sliceVal (b₃, o₃) n₃ ∷ [])) ∷ ‵ (flft κ₃ q₃) ∷ ‵ (ShrSlice (named 0) κ₄ u8 .own (at-list b₄ o₄ γ₄ sample) (sliceVal (b₄, o₄) n₄ ∷ [])) ∷ ‵ (flft κ₄ q₄) ∷ free 𝓤 (sliceTy (tyRef erased mut (pointee (u8 .written)))) l₂₀ (free 𝓤 (tyRef erased mut (pointee (u8 .written))) l₁₉ (free 𝓤 (sliceTy (tyRef erased mut (pointee (Object-t.the-row .written)))) l₁₈ (free 𝓤 (tyRef erased mut (pointee (Object-t.the-row .written))) l₁₇ (free 𝓤 (sliceTy (tyRef erased mut (pointee ((Array u64 5) .written)))) l₁₆ (free 𝓤 (tyRef erased mut (pointee ((Array u64 5) .written))) l₁₅ (free 𝓤 tyUnit l₁₄ (free 𝓤 (tyInt w64) l₁₃ (free 𝓤 tyBool l₁₂ (full 𝓤 (sliceTy (tyRef erased imm (pointee ((Array u64 5) .written)))) l₁₁ (sliceVal (b₁, o₁) n₁) (full 𝓤 (tyRef erased imm (pointee ((Array u64 5) .written))) l₁₀ (vptr b₁ o₁) (free 𝓤 Told-l.mir l₉ (full 𝓤 Got-l.mir l₈ (Got-p .val (gotOf (sessions) (frame′ .«session_id»))) (full 𝓤 (tyInt w8) l₇ (u8-p .val (frame′ .«session_id»)) (full 𝓤 Resumes-l.mir l₆ (Resumes-p .val resumes) (full 𝓤 Frame-l.mir l₅ (Frame-p .val frame′) (full 𝓤 (sliceTy (tyRef (named 3) imm (pointee (u8 .written)))) l₄ (sliceVal (b₄, o₄) n₄) (full 𝓤 (sliceTy (tyRef (named 2) mut (pointee (u8 .written)))) l₃ (sliceVal (b₃, o₃) n₃) (full 𝓤 (sliceTy (tyRef (named 1) mut (pointee (Object-t.the-row .written)))) l₂ (sliceVal (b₂, o₂) n₂) (full 𝓤 (sliceTy (tyRef (named 0) mut (pointee ((Array u64 5) .written)))) l₁ (sliceVal (b₁, o₁) n₁) (free 𝓤 (tyInt w64) l₀ ([])))))))))))))))))))))) (runs C Λ En mir.t-5 (atRet En Post))
+    part-5-0 is-4 =
+        -- 5: agent::answers::answers_now
+        nothing ! $
+        use1 W (raw (toks 𝓤 A 0 (tt) (tt))) (id⊢ 𝓤 _) $ nothing ! $
+        owned ! (Got-p .row) (Is (Got-p .row)) (Got-p .makes 𝓤 H A W) (gotOf (sessions) (frame′ .«session_id»)) (Got-p .val (gotOf (sessions) (frame′ .«session_id»)) ∷ []) is-4 $ fjoin ! $
+        owned ! (Resumes-p .row) (Is (Resumes-p .row)) (Resumes-p .makes 𝓤 H A W) resumes (Resumes-p .val resumes ∷ []) resumes-is $ fjoin ! $ move ! (1 ∷ 0 ∷ []) $
+        calls-any ! fm 0 [] (answers-answers-now.signature .params) (answers-answers-now.ended .kept) bool-p (answers-answers-now.clauses 𝓤 H A mem run) known-answers-answers-now tt tt tt (resumes, (gotOf (sessions) (frame′ .«session_id»), tt)) (Resumes-p .val resumes ∷ [], (Got-p .val (gotOf (sessions) (frame′ .«session_id»)) ∷ [], tt)) tt (answersNow resumes (gotOf (sessions) (frame′ .«session_id»))) (λ ws-5. Unit {0}) (id⊢ 𝓤 _) (λ r ws-5. fact-mono 𝓤 (r ≡ answersNow resumes (gotOf (sessions) (frame′ .«session_id»))) ((r ≡ (answersNow resumes (gotOf (sessions) (frame′ .«session_id»)))) × (Unit {0})) (λ e. (e, tt))) (λ _. (and-then ! (load ! (from ! (stop !)) (look ! 37 refl)) (and-then ! (load ! (from ! (stop !)) (look ! 33 refl)) (no-more !)))) (λ ws-5 said-5 is-5.
+        drop ! $ drop ! $
+        land ! (from ! (stop !)) (init ! 24 refl (bool-p .typed 𝓤 H A W (answersNow resumes (gotOf (sessions) (frame′ .«session_id»))) is-5)) $
+        part-6-0 is-4 is-5)
+
+    begins : Sq W (‵ (MutSlice (named 0) κ₁ (Array u64 5) .own (at-list b₁ o₁ γ₁ sessions) (sliceVal (b₁, o₁) n₁ ∷ [])) ∷ ‵ (flft κ₁ q₁) ∷ ‵ (MutSlice (named 0) κ₂ Object-t.the-row .own (at-list b₂ o₂ γ₂ objects) (sliceVal (b₂, o₂) n₂ ∷ [])) ∷ ‵ (flft κ₂ q₂) ∷ ‵ (MutSlice (named 0) κ₃ u8 .own (at-list b₃ o₃ γ₃ out) (sliceVal (b₃, o₃) n₃ ∷ [])) ∷ ‵ (flft κ₃ q₃) ∷ ‵ (ShrSlice (named 0) κ₄ u8 .own (at-list b₄ o₄ γ₄ sample) (sliceVal (b₄, o₄) n₄ ∷ [])) ∷ ‵ (flft κ₄ q₄) ∷ free 𝓤 (sliceTy (tyRef erased mut (pointee (u8 .written)))) l₂₀ (free 𝓤 (tyRef erased mut (pointee (u8 .written))) l₁₉ (free 𝓤 (sliceTy (tyRef erased mut (pointee (Object-t.the-row .written)))) l₁₈ (free 𝓤 (tyRef erased mut (pointee (Object-t.the-row .written))) l₁₇ (free 𝓤 (sliceTy (tyRef erased mut (pointee ((Array u64 5) .written)))) l₁₆ (free 𝓤 (tyRef erased mut (pointee ((Array u64 5) .written))) l₁₅ (free 𝓤 tyUnit l₁₄ (free 𝓤 (tyInt w64) l₁₃ (free 𝓤 tyBool l₁₂ (free 𝓤 (sliceTy (tyRef erased imm (pointee ((Array u64 5) .written)))) l₁₁ (free 𝓤 (tyRef erased imm (pointee ((Array u64 5) .written))) l₁₀ (free 𝓤 Told-l.mir l₉ (free 𝓤 Got-l.mir l₈ (free 𝓤 (tyInt w8) l₇ (full 𝓤 Resumes-l.mir l₆ (Resumes-p .val resumes) (full 𝓤 Frame-l.mir l₅ (Frame-p .val frame′) (full 𝓤 (sliceTy (tyRef (named 3) imm (pointee (u8 .written)))) l₄ (sliceVal (b₄, o₄) n₄) (full 𝓤 (sliceTy (tyRef (named 2) mut (pointee (u8 .written)))) l₃ (sliceVal (b₃, o₃) n₃) (full 𝓤 (sliceTy (tyRef (named 1) mut (pointee (Object-t.the-row .written)))) l₂ (sliceVal (b₂, o₂) n₂) (full 𝓤 (sliceTy (tyRef (named 0) mut (pointee ((Array u64 5) .written)))) l₁ (sliceVal (b₁, o₁) n₁) (free 𝓤 (tyInt w64) l₀ ([])))))))))))))))))))))) (runs C Λ En mir.t-1 (atRet En Post))
+    begins =
+        assigns ! (of-opd ! (load ! (from ! (fld ! refl (stop !))) (look-in ! 38 (sub ! 2 refl (whole !))))) (from ! (stop !)) (init ! 34 refl (u8-p .typed 𝓤 H A W (frame′ .«session_id») (LL.owed Frame-t.the-type Frame-l.the-laws frame′ _ frame′-is .1 .1 .0))) $
+        assigns ! (addr ! (from ! (fld ! refl (hop ! (look-in ! 46 (sub ! 0 refl (whole !))) (stop !))))) (from ! (stop !)) (init ! 28 refl (tt, tt)) $
+        assigns ! (agg ! (and-then ! (load ! (from ! (stop !)) (look ! 28 refl)) (and-then ! (load ! (from ! (fld ! refl (stop !))) (look-in ! 46 (sub ! 1 refl (whole !)))) (no-more !)))) (from ! (stop !)) (init ! 26 refl (tt, (tt, (record { fits = room₁ .0 }, tt)))) $
+        -- 4: sessions::table::get
+        lends-view ! tt (Array u64 5) b₁ o₁ sessions n₁ (refl) (λ ν-4-sessions δ-4-sessions.
+        nothing ! $ move ! (1 ∷ 0 ∷ []) $ join ! $
+        use1 W (raw (toks 𝓤 A 1 (((ν-4-sessions ∷ []), tt)) ((fullShare, tt)))) (id⊢ 𝓤 _) $ nothing ! $
+        owned ! (u8-p .row) (Is (u8-p .row)) (u8-p .makes 𝓤 H A W) (frame′ .«session_id») (u8-p .val (frame′ .«session_id») ∷ []) (LL.owed Frame-t.the-type Frame-l.the-laws frame′ _ frame′-is .1 .1 .0) $ fjoin ! $ move ! (2 ∷ 0 ∷ []) $ fjoin ! $ move ! (1 ∷ 0 ∷ []) $
+        calls-any ! fm 1 [] (table-get.signature .params) (table-get.ended .kept) Got-p (table-get.clauses 𝓤 H A mem run) known-table-get ((ν-4-sessions ∷ []), tt) (fullShare, tt) tt (at-list b₁ o₁ δ-4-sessions sessions, (frame′ .«session_id», tt)) (sliceVal (b₁, o₁) n₁ ∷ [], (u8-p .val (frame′ .«session_id») ∷ [], tt)) tt (gotOf (sessions) (frame′ .«session_id»)) (λ ws-4. Unit {0}) (id⊢ 𝓤 _) (λ r ws-4. fact-mono 𝓤 (r ≡ gotOf (sessions) (frame′ .«session_id»)) ((r ≡ (gotOf (sessions) (frame′ .«session_id»))) × (Unit {0})) (λ e. (e, tt))) (λ _. (and-then ! (load ! (from ! (stop !)) (look ! 26 refl)) (and-then ! (load ! (from ! (stop !)) (look ! 34 refl)) (no-more !)))) (λ ws-4 said-4 is-4.
+        use1 W ((‵ (flft (ν-4-sessions ∷ []) fullShare) ⊛ ‵ ftrue)) (id⊢ 𝓤 _) $ split ! $ move ! (2 ∷ []) $ fsplit ! $ move ! (2 ∷ 4 ∷ []) $
+        backs-view ! tt (Array u64 5) b₁ o₁ sessions n₁ (refl) ν-4-sessions $ move ! (2 ∷ []) $ drop ! $ move ! (2 ∷ []) $ drop ! $ move ! (2 ∷ []) $ drop ! $
+        land ! (from ! (stop !)) (init ! 32 refl (Got-p .typed 𝓤 H A W (gotOf (sessions) (frame′ .«session_id»)) is-4)) $
+        part-5-0 is-4))
+
+  module _ (𝓣 : Tables 𝓤 H) (known-table-get : Triple 𝓤 (𝓣 .C #table-get) (Of-table-get 𝓤 H A mem run)) (known-answers-answers-now : Triple 𝓤 (𝓣 .C #answers-answers-now) (Of-answers-answers-now 𝓤 H A mem run)) (known-answers-told-by : Triple 𝓤 (𝓣 .C #answers-told-by) (Of-answers-told-by 𝓤 H A mem run)) (known-answers-keep : Triple 𝓤 (𝓣 .C #answers-keep) (Of-answers-keep 𝓤 H A mem run)) (known-answers-reply-says : Triple 𝓤 (𝓣 .C #answers-reply-says) (Of-answers-reply-says 𝓤 H A mem run)) where
     walk : ent 𝓤 (onEntry 𝓤 H A f.signature (κ₁, (κ₂, (κ₃, (κ₄, tt)))) (q₁, (q₂, (q₃, (q₄, tt)))) x at) (WpFn 𝓤 H (𝓣 .C) (𝓣 .Λ) code.function (sliceVal (b₁, o₁) n₁ ∷ sliceVal (b₂, o₂) n₂ ∷ sliceVal (b₃, o₃) n₃ ∷ sliceVal (b₄, o₄) n₄ ∷ Frame-p .val frame′ ∷ Resumes-p .val resumes ∷ []) Post)
     walk =
         qed W ((‵ (flft κ₁ q₁) ⊛ (‵ (flft κ₂ q₂) ⊛ (‵ (flft κ₃ q₃) ⊛ (‵ (flft κ₄ q₄) ⊛ ‵ ftrue)))) ∷ ‵ (owns (MutSlice (named 0) κ₁ (Array u64 5) ∷ MutSlice (named 1) κ₂ Object-t.the-row ∷ MutSlice (named 2) κ₃ u8 ∷ ShrSlice (named 3) κ₄ u8 ∷ Frame-p .row ∷ Resumes-p .row ∷ []) x at) ∷ []) ∵ enter ! (𝓣 .C) (𝓣 .Λ) code.function (sliceVal (b₁, o₁) n₁ ∷ sliceVal (b₂, o₂) n₂ ∷ sliceVal (b₃, o₃) n₃ ∷ sliceVal (b₄, o₄) n₄ ∷ Frame-p .val frame′ ∷ Resumes-p .val resumes ∷ []) _ $
-        alloc1 ! (λ l₀. alloc1 ! (λ l₁. alloc1 ! (λ l₂. alloc1 ! (λ l₃. alloc1 ! (λ l₄. alloc1 ! (λ l₅. alloc1 ! (λ l₆. alloc1 ! (λ l₇. alloc1 ! (λ l₈. alloc1 ! (λ l₉. alloc1 ! (λ l₁₀. alloc1 ! (λ l₁₁. alloc1 ! (λ l₁₂. alloc1 ! (λ l₁₃. alloc1 ! (λ l₁₄. alloc1 ! (λ l₁₅. alloc1 ! (λ l₁₆. alloc1 ! (λ l₁₇. alloc1 ! (λ l₁₈. alloc1 ! (λ l₁₉. alloc1 ! (λ l₂₀. alloc1 ! (λ l₂₁. alloc1 ! (λ l₂₂. alloc0 ! $ params1 ! $ pass1 ! (init ! 42 refl (tt, (tt, (record { fits = room₁ .0 }, tt)))) $ pass1 ! (init ! 40 refl (tt, (tt, (record { fits = room₂ .0 }, tt)))) $ pass1 ! (init ! 38 refl (tt, (tt, (record { fits = room₃ .0 }, tt)))) $ pass1 ! (init ! 36 refl (tt, (tt, (record { fits = room₄ .0 }, tt)))) $ pass1 ! (init ! 34 refl (Frame-p .typed 𝓤 H A W frame′ frame′-is)) $ pass1 ! (init ! 32 refl (Resumes-p .typed 𝓤 H A W resumes resumes-is)) $ pass0 ! $ move ! (47 ∷ []) $ fsplit ! $ move ! (1 ∷ []) $ fsplit ! $ move ! (1 ∷ []) $ fsplit ! $ move ! (1 ∷ []) $ fsplit ! $ move ! (51 ∷ []) $ split ! $ move ! (1 ∷ []) $ split ! $ move ! (1 ∷ []) $ split ! $ move ! (1 ∷ []) $ split ! $ move ! (1 ∷ []) $ drop ! $ move ! (5 ∷ []) $ drop ! $ move ! (7 ∷ 3 ∷ 6 ∷ 2 ∷ 5 ∷ 1 ∷ 4 ∷ 0 ∷ 8 ∷ 9 ∷ 10 ∷ 11 ∷ 12 ∷ 13 ∷ 14 ∷ 15 ∷ 16 ∷ 17 ∷ 18 ∷ 19 ∷ 20 ∷ 21 ∷ 22 ∷ 23 ∷ 24 ∷ 25 ∷ 26 ∷ 27 ∷ 28 ∷ 29 ∷ 30 ∷ 31 ∷ 32 ∷ 33 ∷ 34 ∷ 35 ∷ 36 ∷ 37 ∷ 38 ∷ 39 ∷ 40 ∷ 41 ∷ 42 ∷ 43 ∷ 44 ∷ 45 ∷ 46 ∷ 47 ∷ 48 ∷ 49 ∷ 50 ∷ 51 ∷ 52 ∷ 53 ∷ []) $
-        begins 𝓣 known-table-get known-answers-answers-now known-answers-keeps-by known-answers-keep known-answers-says-by known-answers-number-by known-answers-reply-says l₀ l₁ l₂ l₃ l₄ l₅ l₆ l₇ l₈ l₉ l₁₀ l₁₁ l₁₂ l₁₃ l₁₄ l₁₅ l₁₆ l₁₇ l₁₈ l₁₉ l₂₀ l₂₁ l₂₂)))))))))))))))))))))))
+        alloc1 ! (λ l₀. alloc1 ! (λ l₁. alloc1 ! (λ l₂. alloc1 ! (λ l₃. alloc1 ! (λ l₄. alloc1 ! (λ l₅. alloc1 ! (λ l₆. alloc1 ! (λ l₇. alloc1 ! (λ l₈. alloc1 ! (λ l₉. alloc1 ! (λ l₁₀. alloc1 ! (λ l₁₁. alloc1 ! (λ l₁₂. alloc1 ! (λ l₁₃. alloc1 ! (λ l₁₄. alloc1 ! (λ l₁₅. alloc1 ! (λ l₁₆. alloc1 ! (λ l₁₇. alloc1 ! (λ l₁₈. alloc1 ! (λ l₁₉. alloc1 ! (λ l₂₀. alloc0 ! $ params1 ! $ pass1 ! (init ! 38 refl (tt, (tt, (record { fits = room₁ .0 }, tt)))) $ pass1 ! (init ! 36 refl (tt, (tt, (record { fits = room₂ .0 }, tt)))) $ pass1 ! (init ! 34 refl (tt, (tt, (record { fits = room₃ .0 }, tt)))) $ pass1 ! (init ! 32 refl (tt, (tt, (record { fits = room₄ .0 }, tt)))) $ pass1 ! (init ! 30 refl (Frame-p .typed 𝓤 H A W frame′ frame′-is)) $ pass1 ! (init ! 28 refl (Resumes-p .typed 𝓤 H A W resumes resumes-is)) $ pass0 ! $ move ! (43 ∷ []) $ fsplit ! $ move ! (1 ∷ []) $ fsplit ! $ move ! (1 ∷ []) $ fsplit ! $ move ! (1 ∷ []) $ fsplit ! $ move ! (47 ∷ []) $ split ! $ move ! (1 ∷ []) $ split ! $ move ! (1 ∷ []) $ split ! $ move ! (1 ∷ []) $ split ! $ move ! (1 ∷ []) $ drop ! $ move ! (5 ∷ []) $ drop ! $ move ! (7 ∷ 3 ∷ 6 ∷ 2 ∷ 5 ∷ 1 ∷ 4 ∷ 0 ∷ 8 ∷ 9 ∷ 10 ∷ 11 ∷ 12 ∷ 13 ∷ 14 ∷ 15 ∷ 16 ∷ 17 ∷ 18 ∷ 19 ∷ 20 ∷ 21 ∷ 22 ∷ 23 ∷ 24 ∷ 25 ∷ 26 ∷ 27 ∷ 28 ∷ 29 ∷ 30 ∷ 31 ∷ 32 ∷ 33 ∷ 34 ∷ 35 ∷ 36 ∷ 37 ∷ 38 ∷ 39 ∷ 40 ∷ 41 ∷ 42 ∷ 43 ∷ 44 ∷ 45 ∷ 46 ∷ 47 ∷ 48 ∷ 49 ∷ []) $
+        begins 𝓣 known-table-get known-answers-answers-now known-answers-told-by known-answers-keep known-answers-reply-says l₀ l₁ l₂ l₃ l₄ l₅ l₆ l₇ l₈ l₉ l₁₀ l₁₁ l₁₂ l₁₃ l₁₄ l₁₅ l₁₆ l₁₇ l₁₈ l₁₉ l₂₀)))))))))))))))))))))
 
-module _ {M : Type 1} (𝓤 : URA M) (H : Heap 𝓤) (A : Atoms 𝓤) (W : Given 𝓤 H A) (mem : Memory → SProp 𝓤) (run : Routine → Fun 𝓤) (𝓣 : Tables 𝓤 H) (known-table-get : Triple 𝓤 (𝓣 .C #table-get) (Of-table-get 𝓤 H A mem run)) (known-answers-answers-now : Triple 𝓤 (𝓣 .C #answers-answers-now) (Of-answers-answers-now 𝓤 H A mem run)) (known-answers-keeps-by : Triple 𝓤 (𝓣 .C #answers-keeps-by) (Of-answers-keeps-by 𝓤 H A mem run)) (known-answers-keep : Triple 𝓤 (𝓣 .C #answers-keep) (Of-answers-keep 𝓤 H A mem run)) (known-answers-says-by : Triple 𝓤 (𝓣 .C #answers-says-by) (Of-answers-says-by 𝓤 H A mem run)) (known-answers-number-by : Triple 𝓤 (𝓣 .C #answers-number-by) (Of-answers-number-by 𝓤 H A mem run)) (known-answers-reply-says : Triple 𝓤 (𝓣 .C #answers-reply-says) (Of-answers-reply-says 𝓤 H A mem run)) where
+module _ {M : Type 1} (𝓤 : URA M) (H : Heap 𝓤) (A : Atoms 𝓤) (W : Given 𝓤 H A) (mem : Memory → SProp 𝓤) (run : Routine → Fun 𝓤) (𝓣 : Tables 𝓤 H) (known-table-get : Triple 𝓤 (𝓣 .C #table-get) (Of-table-get 𝓤 H A mem run)) (known-answers-answers-now : Triple 𝓤 (𝓣 .C #answers-answers-now) (Of-answers-answers-now 𝓤 H A mem run)) (known-answers-told-by : Triple 𝓤 (𝓣 .C #answers-told-by) (Of-answers-told-by 𝓤 H A mem run)) (known-answers-keep : Triple 𝓤 (𝓣 .C #answers-keep) (Of-answers-keep 𝓤 H A mem run)) (known-answers-reply-says : Triple 𝓤 (𝓣 .C #answers-reply-says) (Of-answers-reply-says 𝓤 H A mem run)) where
   walks : Walks 𝓤 H A f.ended stayed (WpFn 𝓤 H (𝓣 .C) (𝓣 .Λ) code.function) (f.clauses 𝓤 H A mem run)
   walks = walked 𝓤 H A f.ended stayed (f.clauses 𝓤 H A mem run) (WpFn 𝓤 H (𝓣 .C) (𝓣 .Λ) code.function) (λ κs. (slice-vals, (slice-vals, (slice-vals, (slice-vals, ((λ y. Frame-p .val y ∷ []), ((λ y. Resumes-p .val y ∷ []), tt))))))) (λ κs. (mut-slice-tells (named 0) (κs .0) (Array u64 5), (mut-slice-tells (named 1) (κs .1 .0) Object-t.the-row, (mut-slice-tells (named 2) (κs .1 .1 .0) u8, (shr-slice-tells (named 3) (κs .1 .1 .1 .0) u8, (Frame-p .tells, (Resumes-p .tells, tt)))))))
-      (λ κs qs bounds a g are. needs 𝓤 _ _ (λ within. walk 𝓤 H A W mem run (κs .0) (qs .0) (a .0 .ptr .0) (a .0 .ptr .1) (a .0 .name) (a .0 .now) (κs .1 .0) (qs .1 .0) (a .1 .0 .ptr .0) (a .1 .0 .ptr .1) (a .1 .0 .name) (a .1 .0 .now) (κs .1 .1 .0) (qs .1 .1 .0) (a .1 .1 .0 .ptr .0) (a .1 .1 .0 .ptr .1) (a .1 .1 .0 .name) (a .1 .1 .0 .now) (κs .1 .1 .1 .0) (qs .1 .1 .1 .0) (a .1 .1 .1 .0 .ptr .0) (a .1 .1 .1 .0 .ptr .1) (a .1 .1 .1 .0 .name) (a .1 .1 .1 .0 .now) (a .1 .1 .1 .1 .0) (a .1 .1 .1 .1 .1 .0) (are .0 .0 .1) (are .1 .0 .0 .1) (are .1 .1 .0 .0 .1) (are .1 .1 .1 .0 .0 .1) (are .1 .1 .1 .1 .0) (are .1 .1 .1 .1 .1 .0) within 𝓣 known-table-get known-answers-answers-now known-answers-keeps-by known-answers-keep known-answers-says-by known-answers-number-by known-answers-reply-says))
+      (λ κs qs bounds a g are. needs 𝓤 _ _ (λ within. walk 𝓤 H A W mem run (κs .0) (qs .0) (a .0 .ptr .0) (a .0 .ptr .1) (a .0 .name) (a .0 .now) (κs .1 .0) (qs .1 .0) (a .1 .0 .ptr .0) (a .1 .0 .ptr .1) (a .1 .0 .name) (a .1 .0 .now) (κs .1 .1 .0) (qs .1 .1 .0) (a .1 .1 .0 .ptr .0) (a .1 .1 .0 .ptr .1) (a .1 .1 .0 .name) (a .1 .1 .0 .now) (κs .1 .1 .1 .0) (qs .1 .1 .1 .0) (a .1 .1 .1 .0 .ptr .0) (a .1 .1 .1 .0 .ptr .1) (a .1 .1 .1 .0 .name) (a .1 .1 .1 .0 .now) (a .1 .1 .1 .1 .0) (a .1 .1 .1 .1 .1 .0) (are .0 .0 .1) (are .1 .0 .0 .1) (are .1 .1 .0 .0 .1) (are .1 .1 .1 .0 .0 .1) (are .1 .1 .1 .1 .0) (are .1 .1 .1 .1 .1 .0) within 𝓣 known-table-get known-answers-answers-now known-answers-told-by known-answers-keep known-answers-reply-says))
 
   meets : Meets 𝓤 H A f.signature (WpFn 𝓤 H (𝓣 .C) (𝓣 .Λ) code.function) (f.spec 𝓤 H A mem run)
   meets = walk-meets 𝓤 H A f.ended stayed W (goes-slice 𝓤 H A W 4 0 tt (plain (λ _. (Array u64 5))), (goes-slice 𝓤 H A W 4 1 tt (plain (λ _. Object-t.the-row)), (goes-slice 𝓤 H A W 4 2 tt (plain (λ _. u8)), (goes-none-slice 𝓤 H A W 4 (3 ∷ []) tt (plain (λ _. u8)) yes, (goes-none 𝓤 H A W 4 (λ _. Frame-p .row) yes (λ κs x f. refl), (goes-none 𝓤 H A W 4 (λ _. Resumes-p .row) yes (λ κs x f. refl), tt)))))) (f.clauses 𝓤 H A mem run) (WpFn 𝓤 H (𝓣 .C) (𝓣 .Λ) code.function) (WpFn-mono 𝓤 H (W .laws) 𝓣 code.function) walks
@@ -399,8 +397,6 @@ begin-spec 𝓤 H 𝓜 𝓖 𝓡 =
     (meets 𝓤 H (𝓖 .A) (givenOf 𝓤 H 𝓜 𝓖) (𝓜 .mem) (𝓡 .run) (tablesOf 𝓤 H 𝓜 (tables 𝓤 H 𝓜 𝓡 code.env))
     (cited 𝓤 H (Of-table-get 𝓤 H (𝓖 .A) (𝓜 .mem) (𝓡 .run)) 𝓜 𝓡 code.env #table-get table-get-def.routine code.calls-sessions·table·get (table-get-thm.met 𝓤 H 𝓜 𝓖 𝓡))
     (cited 𝓤 H (Of-answers-answers-now 𝓤 H (𝓖 .A) (𝓜 .mem) (𝓡 .run)) 𝓜 𝓡 code.env #answers-answers-now answers-answers-now-def.routine code.calls-agent·answers·answers-now (answers-answers-now-thm.met 𝓤 H 𝓜 𝓖 𝓡))
-    (cited 𝓤 H (Of-answers-keeps-by 𝓤 H (𝓖 .A) (𝓜 .mem) (𝓡 .run)) 𝓜 𝓡 code.env #answers-keeps-by answers-keeps-by-def.routine code.calls-agent·answers·keeps-by (answers-keeps-by-thm.met 𝓤 H 𝓜 𝓖 𝓡))
-    (cited 𝓤 H (Of-answers-keep 𝓤 H (𝓖 .A) (𝓜 .mem) (𝓡 .run)) 𝓜 𝓡 code.env #answers-keep answers-keep-def.routine code.calls-agent·answers·keep (answers-keep-thm.met 𝓤 H 𝓜 𝓖 𝓡))
-    (cited 𝓤 H (Of-answers-says-by 𝓤 H (𝓖 .A) (𝓜 .mem) (𝓡 .run)) 𝓜 𝓡 code.env #answers-says-by answers-says-by-def.routine code.calls-agent·answers·says-by (answers-says-by-thm.met 𝓤 H 𝓜 𝓖 𝓡))
-    (cited 𝓤 H (Of-answers-number-by 𝓤 H (𝓖 .A) (𝓜 .mem) (𝓡 .run)) 𝓜 𝓡 code.env #answers-number-by answers-number-by-def.routine code.calls-agent·answers·number-by (answers-number-by-thm.met 𝓤 H 𝓜 𝓖 𝓡))
+    (cited 𝓤 H (Of-answers-told-by 𝓤 H (𝓖 .A) (𝓜 .mem) (𝓡 .run)) 𝓜 𝓡 code.env #answers-told-by answers-told-by-def.routine code.calls-agent·answers·told-by (answers-told-by-thm.met 𝓤 H 𝓜 𝓖 𝓡))
+    (cited 𝓤 H (Of-answers-keep 𝓤 H (𝓖 .A) (𝓜 .mem) (𝓡 .run)) 𝓜 𝓡 code.env #answers-keep answers-keep-def.routine code.calls-moves·answers·keep (answers-keep-thm.met 𝓤 H 𝓜 𝓖 𝓡))
     (cited 𝓤 H (Of-answers-reply-says 𝓤 H (𝓖 .A) (𝓜 .mem) (𝓡 .run)) 𝓜 𝓡 code.env #answers-reply-says answers-reply-says-def.routine code.calls-agent·answers·reply-says (answers-reply-says-thm.met 𝓤 H 𝓜 𝓖 𝓡)))

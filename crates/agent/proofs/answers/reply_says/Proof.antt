@@ -4,7 +4,7 @@ use borrow.Author.Tests.{leb-true}
 use lib.ListN.{length}
 use mathlib.Core.Path.{sym, ap, _∙_}
 use Rattle.agent.specs.Answered.{saysFits}
-use Rattle.agent.specs.declared.answers.Says.{Says}
+use Rattle.moves.specs.declared.answers.Says.{Says}
 use native.Mathlib.Nat.{zero-add}
 use Rattle.agent.proofs.answers.reply_says.Statement.{statement}
 use Rattle.agent.proofs.answers.reply_says.Tie as tie

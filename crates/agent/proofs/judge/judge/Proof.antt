@@ -53,8 +53,8 @@ use borrow.Rule.Slice.PartMut.{midOf, putMid}
 use Rattle.walk.proofs.Parts.{part-len, lends-part, backs-part, parts-shr}
 use Rattle.walk.proofs.Arrays.{rep-is, lends-array, backs-array}
 use Rattle.sessions.specs.Limits.{limitsOf}
-use Rattle.agent.specs.Rows.{lent}
-use Rattle.agent.specs.Judge.{answersOf, idleTurn, busyTurn, turnOf, sessionOf, recordSound, soundOf, tooLong, datagramStart, answerStart, datagramJudged, restJudged, answerJudged, judgedBy, judgeOf, goesOf, noStart, startIn, countIn, refusalIn}
+use Rattle.moves.specs.Rows.{lent}
+use Rattle.agent.specs.Judge.{answersOf, idleTurn, busyTurn, turnOf, sessionOf, recordSound, soundOf, tooLong, datagramStart, answerStart, datagramJudged, restJudged, answerJudged, judgedBy, judgeOf, partsOf}
 use Rattle.sessions.specs.Table.{sessionAt}
 use Rattle.sessions.specs.Limits.{limitsFrom}
 use Rattle.agent.proofs.judge.Laws.{judged-whole}
@@ -74,18 +74,18 @@ use Rattle.agent.specs.declared.state.Waiting.the-variants.{Nothing as W
 use Rattle.agent.specs.declared.state.Pending.{Pending}
 use Rattle.agent.proofs.state.Pending as Pending-t
 use Rattle.agent.proofs.state.Pending.Laws as Pending-l
-use Rattle.agent.specs.declared.proxy.Task.{Task}
-use Rattle.agent.proofs.proxy.Task as Task-t
-use Rattle.agent.proofs.proxy.Task.Laws as Task-l
-use Rattle.agent.specs.declared.proxy.Task.the-variants.{Creating as Task-Creating, Writing as Task-Writing, Reading as Task-Reading, Deleting as Task-Deleting}
+use Rattle.moves.specs.declared.proxy.Task.{Task}
+use Rattle.moves.proofs.proxy.Task as Task-t
+use Rattle.moves.proofs.proxy.Task.Laws as Task-l
+use Rattle.moves.specs.declared.proxy.Task.the-variants.{Creating as Task-Creating, Writing as Task-Writing, Reading as Task-Reading, Deleting as Task-Deleting}
 use Rattle.agent.specs.declared.judge.Input.{Input}
 use Rattle.agent.proofs.judge.Input as Input-t
 use Rattle.agent.proofs.judge.Input.Laws as Input-l
 use Rattle.agent.specs.declared.judge.Input.the-variants.{Datagram as Input-Datagram, Answer as Input-Answer}
-use Rattle.agent.specs.declared.proxy.BridgeAnswer.{BridgeAnswer}
-use Rattle.agent.proofs.proxy.BridgeAnswer as BridgeAnswer-t
-use Rattle.agent.proofs.proxy.BridgeAnswer.Laws as BridgeAnswer-l
-use Rattle.agent.specs.declared.proxy.BridgeAnswer.the-variants.{Created as BridgeAnswer-Created, Done as BridgeAnswer-Done, Sample as BridgeAnswer-Sample, NoSample as BridgeAnswer-NoSample, Failed as BridgeAnswer-Failed}
+use Rattle.moves.specs.declared.proxy.BridgeAnswer.{BridgeAnswer}
+use Rattle.moves.proofs.proxy.BridgeAnswer as BridgeAnswer-t
+use Rattle.moves.proofs.proxy.BridgeAnswer.Laws as BridgeAnswer-l
+use Rattle.moves.specs.declared.proxy.BridgeAnswer.the-variants.{Created as BridgeAnswer-Created, Done as BridgeAnswer-Done, Sample as BridgeAnswer-Sample, NoSample as BridgeAnswer-NoSample, Failed as BridgeAnswer-Failed}
 use Rattle.sessions.specs.declared.objects.Handle.{Handle}
 use Rattle.sessions.proofs.objects.Handle as Handle-t
 use Rattle.sessions.proofs.objects.Handle.Laws as Handle-l
@@ -269,6 +269,51 @@ module _ {M : Type 1} (𝓤 : URA M) (H : Heap 𝓤) (A : Atoms 𝓤) (W : Given
     abbrev En : Env 𝓤 H
     En = (Judged-l.mir, l₀) ∷ ((sliceTy (tyRef (named 0) imm (pointee ((Array u64 5) .written)))), l₁) ∷ ((sliceTy (tyRef (named 1) imm (pointee ((Array u16 35) .written)))), l₂) ∷ ((sliceTy (tyRef (named 2) imm (pointee (Object-t.the-row .written)))), l₃) ∷ ((sliceTy (tyRef (named 3) imm (pointee (u8 .written)))), l₄) ∷ (Agent-l.mir, l₅) ∷ (Input-l.mir, l₆) ∷ ((tyInt w64), l₇) ∷ (Turn-l.mir, l₈) ∷ ((tyInt w8), l₉) ∷ (Limits-l.mir, l₁₀) ∷ []
 
+    part-5-0 : (is-1 : Is (Turn-p .row) (turnOf (a .waits) input) (Turn-p .val (turnOf (a .waits) input) ∷ [])) → (is-2 : Is (u8-p .row) (sessionOf (d) (turnOf (a .waits) input)) (u8-p .val (sessionOf (d) (turnOf (a .waits) input)) ∷ [])) → (is-3 : Is (Limits-p .row) (limitsOf (sessions) (streams) (objects) (sessionOf (d) (turnOf (a .waits) input))) (Limits-p .val (limitsOf (sessions) (streams) (objects) (sessionOf (d) (turnOf (a .waits) input))) ∷ [])) → (is-4 : Is (Judged-p .row) (judgedBy (d) a (limitsOf (sessions) (streams) (objects) (sessionOf (d) (turnOf (a .waits) input))) (turnOf (a .waits) input) sample) (Judged-p .val (judgedBy (d) a (limitsOf (sessions) (streams) (objects) (sessionOf (d) (turnOf (a .waits) input))) (turnOf (a .waits) input) sample) ∷ [])) → Sq W (‵ (ShrSlice (named 0) κ₁ (Array u64 5) .own (at-list b₁ o₁ γ₁ sessions) (sliceVal (b₁, o₁) n₁ ∷ [])) ∷ ‵ (flft κ₁ q₁) ∷ ‵ (ShrSlice (named 0) κ₂ (Array u16 35) .own (at-list b₂ o₂ γ₂ streams) (sliceVal (b₂, o₂) n₂ ∷ [])) ∷ ‵ (flft κ₂ q₂) ∷ ‵ (ShrSlice (named 0) κ₃ Object-t.the-row .own (at-list b₃ o₃ γ₃ objects) (sliceVal (b₃, o₃) n₃ ∷ [])) ∷ ‵ (flft κ₃ q₃) ∷ ‵ (ShrSlice (named 0) κ₄ u8 .own (at-list b₄ o₄ γ₄ d) (sliceVal (b₄, o₄) n₄ ∷ [])) ∷ ‵ (flft κ₄ q₄) ∷ full 𝓤 Limits-l.mir l₁₀ (Limits-p .val (limitsOf (sessions) (streams) (objects) (sessionOf (d) (turnOf (a .waits) input)))) (full 𝓤 (tyInt w8) l₉ (u8-p .val (sessionOf (d) (turnOf (a .waits) input))) (full 𝓤 Turn-l.mir l₈ (Turn-p .val (turnOf (a .waits) input)) (full 𝓤 (tyInt w64) l₇ (u64-p .val sample) (full 𝓤 Input-l.mir l₆ (Input-p .val input) (full 𝓤 Agent-l.mir l₅ (Agent-p .val a) (full 𝓤 (sliceTy (tyRef (named 3) imm (pointee (u8 .written)))) l₄ (sliceVal (b₄, o₄) n₄) (full 𝓤 (sliceTy (tyRef (named 2) imm (pointee (Object-t.the-row .written)))) l₃ (sliceVal (b₃, o₃) n₃) (full 𝓤 (sliceTy (tyRef (named 1) imm (pointee ((Array u16 35) .written)))) l₂ (sliceVal (b₂, o₂) n₂) (full 𝓤 (sliceTy (tyRef (named 0) imm (pointee ((Array u64 5) .written)))) l₁ (sliceVal (b₁, o₁) n₁) (full 𝓤 Judged-l.mir l₀ (Judged-p .val (judgedBy (d) a (limitsOf (sessions) (streams) (objects) (sessionOf (d) (turnOf (a .waits) input))) (turnOf (a .waits) input) sample)) ([])))))))))))) (runs C Λ En mir.t-5 (atRet En Post))
+    part-5-0 is-1 is-2 is-3 is-4 =
+        returns ! (look ! 28 refl) $ forget ! 8 refl $ forget ! 10 refl $ forget ! 12 refl $ forget ! 14 refl $ forget ! 16 refl $ forget ! 18 refl $ forget ! 20 refl $ forget ! 22 refl $ forget ! 24 refl $ forget ! 26 refl $ forget ! 28 refl $ move ! (28 ∷ 29 ∷ []) $ free1 ! $ move ! (26 ∷ 27 ∷ []) $ free1 ! $ move ! (24 ∷ 25 ∷ []) $ free1 ! $ move ! (22 ∷ 23 ∷ []) $ free1 ! $ move ! (20 ∷ 21 ∷ []) $ free1 ! $ move ! (18 ∷ 19 ∷ []) $ free1 ! $ move ! (16 ∷ 17 ∷ []) $ free1 ! $ move ! (14 ∷ 15 ∷ []) $ free1 ! $ move ! (12 ∷ 13 ∷ []) $ free1 ! $ move ! (10 ∷ 11 ∷ []) $ free1 ! $ move ! (8 ∷ 9 ∷ []) $ free1 ! $ free0 ! $
+        by ! (exits (judgedBy (d) a (limitsOf (sessions) (streams) (objects) (sessionOf (d) (turnOf (a .waits) input))) (turnOf (a .waits) input) sample) (judged-whole sessions streams objects d a input sample) is-4)
+
+    part-4-0 : (is-1 : Is (Turn-p .row) (turnOf (a .waits) input) (Turn-p .val (turnOf (a .waits) input) ∷ [])) → (is-2 : Is (u8-p .row) (sessionOf (d) (turnOf (a .waits) input)) (u8-p .val (sessionOf (d) (turnOf (a .waits) input)) ∷ [])) → (is-3 : Is (Limits-p .row) (limitsOf (sessions) (streams) (objects) (sessionOf (d) (turnOf (a .waits) input))) (Limits-p .val (limitsOf (sessions) (streams) (objects) (sessionOf (d) (turnOf (a .waits) input))) ∷ [])) → Sq W (‵ (ShrSlice (named 0) κ₁ (Array u64 5) .own (at-list b₁ o₁ γ₁ sessions) (sliceVal (b₁, o₁) n₁ ∷ [])) ∷ ‵ (flft κ₁ q₁) ∷ ‵ (ShrSlice (named 0) κ₂ (Array u16 35) .own (at-list b₂ o₂ γ₂ streams) (sliceVal (b₂, o₂) n₂ ∷ [])) ∷ ‵ (flft κ₂ q₂) ∷ ‵ (ShrSlice (named 0) κ₃ Object-t.the-row .own (at-list b₃ o₃ γ₃ objects) (sliceVal (b₃, o₃) n₃ ∷ [])) ∷ ‵ (flft κ₃ q₃) ∷ ‵ (ShrSlice (named 0) κ₄ u8 .own (at-list b₄ o₄ γ₄ d) (sliceVal (b₄, o₄) n₄ ∷ [])) ∷ ‵ (flft κ₄ q₄) ∷ full 𝓤 Limits-l.mir l₁₀ (Limits-p .val (limitsOf (sessions) (streams) (objects) (sessionOf (d) (turnOf (a .waits) input)))) (full 𝓤 (tyInt w8) l₉ (u8-p .val (sessionOf (d) (turnOf (a .waits) input))) (full 𝓤 Turn-l.mir l₈ (Turn-p .val (turnOf (a .waits) input)) (full 𝓤 (tyInt w64) l₇ (u64-p .val sample) (full 𝓤 Input-l.mir l₆ (Input-p .val input) (full 𝓤 Agent-l.mir l₅ (Agent-p .val a) (full 𝓤 (sliceTy (tyRef (named 3) imm (pointee (u8 .written)))) l₄ (sliceVal (b₄, o₄) n₄) (full 𝓤 (sliceTy (tyRef (named 2) imm (pointee (Object-t.the-row .written)))) l₃ (sliceVal (b₃, o₃) n₃) (full 𝓤 (sliceTy (tyRef (named 1) imm (pointee ((Array u16 35) .written)))) l₂ (sliceVal (b₂, o₂) n₂) (full 𝓤 (sliceTy (tyRef (named 0) imm (pointee ((Array u64 5) .written)))) l₁ (sliceVal (b₁, o₁) n₁) (free 𝓤 Judged-l.mir l₀ ([])))))))))))) (runs C Λ En mir.t-4 (atRet En Post))
+    part-4-0 is-1 is-2 is-3 =
+        -- 4: agent::judge::judged_by
+        move ! (6 ∷ 7 ∷ []) $
+        copies-shr ! u8 b₄ o₄ d n₄ $ nothing ! $ move ! (1 ∷ 0 ∷ []) $ join ! $
+        use1 W (raw (toks 𝓤 A 1 ((κ₄, tt)) ((q₄, tt)))) (id⊢ 𝓤 _) $ nothing ! $
+        owned ! (u64-p .row) (Is (u64-p .row)) (u64-p .makes 𝓤 H A W) sample (u64-p .val sample ∷ []) sample-is $ fjoin ! $
+        owned ! (Turn-p .row) (Is (Turn-p .row)) (Turn-p .makes 𝓤 H A W) (turnOf (a .waits) input) (Turn-p .val (turnOf (a .waits) input) ∷ []) is-1 $ fjoin ! $
+        owned ! (Limits-p .row) (Is (Limits-p .row)) (Limits-p .makes 𝓤 H A W) (limitsOf (sessions) (streams) (objects) (sessionOf (d) (turnOf (a .waits) input))) (Limits-p .val (limitsOf (sessions) (streams) (objects) (sessionOf (d) (turnOf (a .waits) input))) ∷ []) is-3 $ fjoin ! $
+        owned ! (Agent-p .row) (Is (Agent-p .row)) (Agent-p .makes 𝓤 H A W) a (Agent-p .val a ∷ []) a-is $ fjoin ! $ move ! (2 ∷ 0 ∷ []) $ fjoin ! $ move ! (1 ∷ 0 ∷ []) $
+        calls-any ! fm 1 [] (judge-judged-by.signature .params) (judge-judged-by.ended .kept) Judged-p (judge-judged-by.clauses 𝓤 H A mem run) known-judge-judged-by (κ₄, tt) (q₄, tt) tt (at-list b₄ o₄ γ₄ d, (a, (limitsOf (sessions) (streams) (objects) (sessionOf (d) (turnOf (a .waits) input)), (turnOf (a .waits) input, (sample, tt))))) (sliceVal (b₄, o₄) n₄ ∷ [], (Agent-p .val a ∷ [], (Limits-p .val (limitsOf (sessions) (streams) (objects) (sessionOf (d) (turnOf (a .waits) input))) ∷ [], (Turn-p .val (turnOf (a .waits) input) ∷ [], (u64-p .val sample ∷ [], tt))))) tt (judgedBy (d) a (limitsOf (sessions) (streams) (objects) (sessionOf (d) (turnOf (a .waits) input))) (turnOf (a .waits) input) sample) (λ ws-4. Unit {0}) (id⊢ 𝓤 _) (λ r ws-4. fact-mono 𝓤 (r ≡ judgedBy (d) a (limitsOf (sessions) (streams) (objects) (sessionOf (d) (turnOf (a .waits) input))) (turnOf (a .waits) input) sample) ((r ≡ (judgedBy (d) a (limitsOf (sessions) (streams) (objects) (sessionOf (d) (turnOf (a .waits) input))) (turnOf (a .waits) input) sample)) × (Unit {0})) (λ e. (e, tt))) (λ _. (and-then ! (load ! (from ! (stop !)) (look ! 20 refl)) (and-then ! (load ! (from ! (stop !)) (look ! 18 refl)) (and-then ! (load ! (from ! (stop !)) (look ! 8 refl)) (and-then ! (load ! (from ! (stop !)) (look ! 12 refl)) (and-then ! (load ! (from ! (stop !)) (look ! 14 refl)) (no-more !))))))) (λ ws-4 said-4 is-4.
+        use1 W ((‵ (flft κ₄ q₄) ⊛ ‵ ftrue)) (id⊢ 𝓤 _) $ split ! $ move ! (2 ∷ []) $ fsplit ! $ drop ! $ drop ! $ move ! (1 ∷ []) $ drop ! $
+        land ! (from ! (stop !)) (init ! 28 refl (Judged-p .typed 𝓤 H A W (judgedBy (d) a (limitsOf (sessions) (streams) (objects) (sessionOf (d) (turnOf (a .waits) input))) (turnOf (a .waits) input) sample) is-4)) $ move ! (2 ∷ 3 ∷ 4 ∷ 5 ∷ 6 ∷ 7 ∷ 1 ∷ 0 ∷ 8 ∷ 9 ∷ 10 ∷ 11 ∷ 12 ∷ 13 ∷ 14 ∷ 15 ∷ 16 ∷ 17 ∷ 18 ∷ 19 ∷ 20 ∷ 21 ∷ 22 ∷ 23 ∷ 24 ∷ 25 ∷ 26 ∷ 27 ∷ 28 ∷ 29 ∷ []) $
+        part-5-0 is-1 is-2 is-3 is-4)
+
+    part-3-0 : (is-1 : Is (Turn-p .row) (turnOf (a .waits) input) (Turn-p .val (turnOf (a .waits) input) ∷ [])) → (is-2 : Is (u8-p .row) (sessionOf (d) (turnOf (a .waits) input)) (u8-p .val (sessionOf (d) (turnOf (a .waits) input)) ∷ [])) → Sq W (‵ (ShrSlice (named 0) κ₁ (Array u64 5) .own (at-list b₁ o₁ γ₁ sessions) (sliceVal (b₁, o₁) n₁ ∷ [])) ∷ ‵ (flft κ₁ q₁) ∷ ‵ (ShrSlice (named 0) κ₂ (Array u16 35) .own (at-list b₂ o₂ γ₂ streams) (sliceVal (b₂, o₂) n₂ ∷ [])) ∷ ‵ (flft κ₂ q₂) ∷ ‵ (ShrSlice (named 0) κ₃ Object-t.the-row .own (at-list b₃ o₃ γ₃ objects) (sliceVal (b₃, o₃) n₃ ∷ [])) ∷ ‵ (flft κ₃ q₃) ∷ ‵ (ShrSlice (named 0) κ₄ u8 .own (at-list b₄ o₄ γ₄ d) (sliceVal (b₄, o₄) n₄ ∷ [])) ∷ ‵ (flft κ₄ q₄) ∷ free 𝓤 Limits-l.mir l₁₀ (full 𝓤 (tyInt w8) l₉ (u8-p .val (sessionOf (d) (turnOf (a .waits) input))) (full 𝓤 Turn-l.mir l₈ (Turn-p .val (turnOf (a .waits) input)) (full 𝓤 (tyInt w64) l₇ (u64-p .val sample) (full 𝓤 Input-l.mir l₆ (Input-p .val input) (full 𝓤 Agent-l.mir l₅ (Agent-p .val a) (full 𝓤 (sliceTy (tyRef (named 3) imm (pointee (u8 .written)))) l₄ (sliceVal (b₄, o₄) n₄) (full 𝓤 (sliceTy (tyRef (named 2) imm (pointee (Object-t.the-row .written)))) l₃ (sliceVal (b₃, o₃) n₃) (full 𝓤 (sliceTy (tyRef (named 1) imm (pointee ((Array u16 35) .written)))) l₂ (sliceVal (b₂, o₂) n₂) (full 𝓤 (sliceTy (tyRef (named 0) imm (pointee ((Array u64 5) .written)))) l₁ (sliceVal (b₁, o₁) n₁) (free 𝓤 Judged-l.mir l₀ ([])))))))))))) (runs C Λ En mir.t-3 (atRet En Post))
+    part-3-0 is-1 is-2 =
+        -- 3: sessions::limits::within_limits
+        copies-shr ! (Array u64 5) b₁ o₁ sessions n₁ $ move ! (3 ∷ 4 ∷ []) $
+        copies-shr ! (Array u16 35) b₂ o₂ streams n₂ $ move ! (6 ∷ 7 ∷ []) $
+        copies-shr ! Object-t.the-row b₃ o₃ objects n₃ $ nothing ! $ move ! (1 ∷ 0 ∷ []) $ join ! $ move ! (3 ∷ 0 ∷ []) $ join ! $ move ! (5 ∷ 0 ∷ []) $ join ! $
+        use1 W (raw (toks 𝓤 A 3 ((κ₁, (κ₂, (κ₃, tt)))) ((q₁, (q₂, (q₃, tt)))))) (id⊢ 𝓤 _) $ nothing ! $
+        owned ! (u8-p .row) (Is (u8-p .row)) (u8-p .makes 𝓤 H A W) (sessionOf (d) (turnOf (a .waits) input)) (u8-p .val (sessionOf (d) (turnOf (a .waits) input)) ∷ []) is-2 $ fjoin ! $ move ! (2 ∷ 0 ∷ []) $ fjoin ! $ move ! (3 ∷ 0 ∷ []) $ fjoin ! $ move ! (4 ∷ 0 ∷ []) $ fjoin ! $ move ! (1 ∷ 0 ∷ []) $
+        calls-any ! fm 3 [] (limits-within-limits.signature .params) (limits-within-limits.ended .kept) Limits-p (limits-within-limits.clauses 𝓤 H A mem run) known-limits-within-limits (κ₁, (κ₂, (κ₃, tt))) (q₁, (q₂, (q₃, tt))) tt (at-list b₁ o₁ γ₁ sessions, (at-list b₂ o₂ γ₂ streams, (at-list b₃ o₃ γ₃ objects, (sessionOf (d) (turnOf (a .waits) input), tt)))) (sliceVal (b₁, o₁) n₁ ∷ [], (sliceVal (b₂, o₂) n₂ ∷ [], (sliceVal (b₃, o₃) n₃ ∷ [], (u8-p .val (sessionOf (d) (turnOf (a .waits) input)) ∷ [], tt)))) tt (limitsOf (sessions) (streams) (objects) (sessionOf (d) (turnOf (a .waits) input))) (λ ws-3. Unit {0}) (id⊢ 𝓤 _) (λ r ws-3. fact-mono 𝓤 (r ≡ limitsOf (sessions) (streams) (objects) (sessionOf (d) (turnOf (a .waits) input))) ((r ≡ (limitsOf (sessions) (streams) (objects) (sessionOf (d) (turnOf (a .waits) input)))) × (Unit {0})) (λ e. (e, tt))) (λ _. (and-then ! (load ! (from ! (stop !)) (look ! 24 refl)) (and-then ! (load ! (from ! (stop !)) (look ! 22 refl)) (and-then ! (load ! (from ! (stop !)) (look ! 20 refl)) (and-then ! (load ! (from ! (stop !)) (look ! 8 refl)) (no-more !)))))) (λ ws-3 said-3 is-3.
+        use1 W ((‵ (flft κ₁ q₁) ⊛ (‵ (flft κ₂ q₂) ⊛ (‵ (flft κ₃ q₃) ⊛ ‵ ftrue)))) (id⊢ 𝓤 _) $ split ! $ move ! (1 ∷ []) $ split ! $ move ! (1 ∷ []) $ split ! $ move ! (4 ∷ []) $ fsplit ! $ move ! (1 ∷ []) $ fsplit ! $ move ! (1 ∷ []) $ fsplit ! $ drop ! $ drop ! $ drop ! $ drop ! $ move ! (1 ∷ []) $ drop ! $
+        land ! (from ! (stop !)) (init ! 8 refl (Limits-p .typed 𝓤 H A W (limitsOf (sessions) (streams) (objects) (sessionOf (d) (turnOf (a .waits) input))) is-3)) $ move ! (5 ∷ 2 ∷ 4 ∷ 1 ∷ 3 ∷ 0 ∷ 6 ∷ 7 ∷ 8 ∷ 9 ∷ 10 ∷ 11 ∷ 12 ∷ 13 ∷ 14 ∷ 15 ∷ 16 ∷ 17 ∷ 18 ∷ 19 ∷ 20 ∷ 21 ∷ 22 ∷ 23 ∷ 24 ∷ 25 ∷ 26 ∷ 27 ∷ 28 ∷ 29 ∷ []) $
+        part-4-0 is-1 is-2 is-3)
+
+    part-2-0 : (is-1 : Is (Turn-p .row) (turnOf (a .waits) input) (Turn-p .val (turnOf (a .waits) input) ∷ [])) → Sq W (‵ (ShrSlice (named 0) κ₁ (Array u64 5) .own (at-list b₁ o₁ γ₁ sessions) (sliceVal (b₁, o₁) n₁ ∷ [])) ∷ ‵ (flft κ₁ q₁) ∷ ‵ (ShrSlice (named 0) κ₂ (Array u16 35) .own (at-list b₂ o₂ γ₂ streams) (sliceVal (b₂, o₂) n₂ ∷ [])) ∷ ‵ (flft κ₂ q₂) ∷ ‵ (ShrSlice (named 0) κ₃ Object-t.the-row .own (at-list b₃ o₃ γ₃ objects) (sliceVal (b₃, o₃) n₃ ∷ [])) ∷ ‵ (flft κ₃ q₃) ∷ ‵ (ShrSlice (named 0) κ₄ u8 .own (at-list b₄ o₄ γ₄ d) (sliceVal (b₄, o₄) n₄ ∷ [])) ∷ ‵ (flft κ₄ q₄) ∷ free 𝓤 Limits-l.mir l₁₀ (free 𝓤 (tyInt w8) l₉ (full 𝓤 Turn-l.mir l₈ (Turn-p .val (turnOf (a .waits) input)) (full 𝓤 (tyInt w64) l₇ (u64-p .val sample) (full 𝓤 Input-l.mir l₆ (Input-p .val input) (full 𝓤 Agent-l.mir l₅ (Agent-p .val a) (full 𝓤 (sliceTy (tyRef (named 3) imm (pointee (u8 .written)))) l₄ (sliceVal (b₄, o₄) n₄) (full 𝓤 (sliceTy (tyRef (named 2) imm (pointee (Object-t.the-row .written)))) l₃ (sliceVal (b₃, o₃) n₃) (full 𝓤 (sliceTy (tyRef (named 1) imm (pointee ((Array u16 35) .written)))) l₂ (sliceVal (b₂, o₂) n₂) (full 𝓤 (sliceTy (tyRef (named 0) imm (pointee ((Array u64 5) .written)))) l₁ (sliceVal (b₁, o₁) n₁) (free 𝓤 Judged-l.mir l₀ ([])))))))))))) (runs C Λ En mir.t-2 (atRet En Post))
+    part-2-0 is-1 =
+        -- 2: agent::judge::session_of
+        move ! (6 ∷ 7 ∷ []) $
+        copies-shr ! u8 b₄ o₄ d n₄ $ nothing ! $ move ! (1 ∷ 0 ∷ []) $ join ! $
+        use1 W (raw (toks 𝓤 A 1 ((κ₄, tt)) ((q₄, tt)))) (id⊢ 𝓤 _) $ nothing ! $
+        owned ! (Turn-p .row) (Is (Turn-p .row)) (Turn-p .makes 𝓤 H A W) (turnOf (a .waits) input) (Turn-p .val (turnOf (a .waits) input) ∷ []) is-1 $ fjoin ! $ move ! (2 ∷ 0 ∷ []) $ fjoin ! $ move ! (1 ∷ 0 ∷ []) $
+        calls-any ! fm 1 [] (judge-session-of.signature .params) (judge-session-of.ended .kept) u8-p (judge-session-of.clauses 𝓤 H A mem run) known-judge-session-of (κ₄, tt) (q₄, tt) tt (at-list b₄ o₄ γ₄ d, (turnOf (a .waits) input, tt)) (sliceVal (b₄, o₄) n₄ ∷ [], (Turn-p .val (turnOf (a .waits) input) ∷ [], tt)) tt (sessionOf (d) (turnOf (a .waits) input)) (λ ws-2. Unit {0}) (id⊢ 𝓤 _) (λ r ws-2. fact-mono 𝓤 (r ≡ sessionOf (d) (turnOf (a .waits) input)) ((r ≡ (sessionOf (d) (turnOf (a .waits) input))) × (Unit {0})) (λ e. (e, tt))) (λ _. (and-then ! (load ! (from ! (stop !)) (look ! 20 refl)) (and-then ! (load ! (from ! (stop !)) (look ! 12 refl)) (no-more !)))) (λ ws-2 said-2 is-2.
+        use1 W ((‵ (flft κ₄ q₄) ⊛ ‵ ftrue)) (id⊢ 𝓤 _) $ split ! $ move ! (2 ∷ []) $ fsplit ! $ drop ! $ drop ! $ move ! (1 ∷ []) $ drop ! $
+        land ! (from ! (stop !)) (init ! 10 refl (u8-p .typed 𝓤 H A W (sessionOf (d) (turnOf (a .waits) input)) is-2)) $ move ! (2 ∷ 3 ∷ 4 ∷ 5 ∷ 6 ∷ 7 ∷ 1 ∷ 0 ∷ 8 ∷ 9 ∷ 10 ∷ 11 ∷ 12 ∷ 13 ∷ 14 ∷ 15 ∷ 16 ∷ 17 ∷ 18 ∷ 19 ∷ 20 ∷ 21 ∷ 22 ∷ 23 ∷ 24 ∷ 25 ∷ 26 ∷ 27 ∷ 28 ∷ 29 ∷ []) $
+        part-3-0 is-1 is-2)
+
     begins : Sq W (‵ (ShrSlice (named 0) κ₁ (Array u64 5) .own (at-list b₁ o₁ γ₁ sessions) (sliceVal (b₁, o₁) n₁ ∷ [])) ∷ ‵ (flft κ₁ q₁) ∷ ‵ (ShrSlice (named 0) κ₂ (Array u16 35) .own (at-list b₂ o₂ γ₂ streams) (sliceVal (b₂, o₂) n₂ ∷ [])) ∷ ‵ (flft κ₂ q₂) ∷ ‵ (ShrSlice (named 0) κ₃ Object-t.the-row .own (at-list b₃ o₃ γ₃ objects) (sliceVal (b₃, o₃) n₃ ∷ [])) ∷ ‵ (flft κ₃ q₃) ∷ ‵ (ShrSlice (named 0) κ₄ u8 .own (at-list b₄ o₄ γ₄ d) (sliceVal (b₄, o₄) n₄ ∷ [])) ∷ ‵ (flft κ₄ q₄) ∷ free 𝓤 Limits-l.mir l₁₀ (free 𝓤 (tyInt w8) l₉ (free 𝓤 Turn-l.mir l₈ (full 𝓤 (tyInt w64) l₇ (u64-p .val sample) (full 𝓤 Input-l.mir l₆ (Input-p .val input) (full 𝓤 Agent-l.mir l₅ (Agent-p .val a) (full 𝓤 (sliceTy (tyRef (named 3) imm (pointee (u8 .written)))) l₄ (sliceVal (b₄, o₄) n₄) (full 𝓤 (sliceTy (tyRef (named 2) imm (pointee (Object-t.the-row .written)))) l₃ (sliceVal (b₃, o₃) n₃) (full 𝓤 (sliceTy (tyRef (named 1) imm (pointee ((Array u16 35) .written)))) l₂ (sliceVal (b₂, o₂) n₂) (full 𝓤 (sliceTy (tyRef (named 0) imm (pointee ((Array u64 5) .written)))) l₁ (sliceVal (b₁, o₁) n₁) (free 𝓤 Judged-l.mir l₀ ([])))))))))))) (runs C Λ En mir.t-1 (atRet En Post))
     begins =
         -- 1: agent::judge::whose_turn
@@ -279,37 +324,7 @@ module _ {M : Type 1} (𝓤 : URA M) (H : Heap 𝓤) (A : Atoms 𝓤) (W : Given
         calls-any ! fm 0 [] (judge-whose-turn.signature .params) (judge-whose-turn.ended .kept) Turn-p (judge-whose-turn.clauses 𝓤 H A mem run) known-judge-whose-turn tt tt tt (a, (input, tt)) (Agent-p .val a ∷ [], (Input-p .val input ∷ [], tt)) tt (turnOf (a .waits) input) (λ ws-1. Unit {0}) (id⊢ 𝓤 _) (λ r ws-1. fact-mono 𝓤 (r ≡ turnOf (a .waits) input) ((r ≡ (turnOf (a .waits) input)) × (Unit {0})) (λ e. (e, tt))) (λ _. (and-then ! (load ! (from ! (stop !)) (look ! 19 refl)) (and-then ! (load ! (from ! (stop !)) (look ! 17 refl)) (no-more !)))) (λ ws-1 said-1 is-1.
         drop ! $ drop ! $
         land ! (from ! (stop !)) (init ! 12 refl (Turn-p .typed 𝓤 H A W (turnOf (a .waits) input) is-1)) $
-        -- 2: agent::judge::session_of
-        move ! (6 ∷ 7 ∷ []) $
-        copies-shr ! u8 b₄ o₄ d n₄ $ nothing ! $ move ! (1 ∷ 0 ∷ []) $ join ! $
-        use1 W (raw (toks 𝓤 A 1 ((κ₄, tt)) ((q₄, tt)))) (id⊢ 𝓤 _) $ nothing ! $
-        owned ! (Turn-p .row) (Is (Turn-p .row)) (Turn-p .makes 𝓤 H A W) (turnOf (a .waits) input) (Turn-p .val (turnOf (a .waits) input) ∷ []) is-1 $ fjoin ! $ move ! (2 ∷ 0 ∷ []) $ fjoin ! $ move ! (1 ∷ 0 ∷ []) $
-        calls-any ! fm 1 [] (judge-session-of.signature .params) (judge-session-of.ended .kept) u8-p (judge-session-of.clauses 𝓤 H A mem run) known-judge-session-of (κ₄, tt) (q₄, tt) tt (at-list b₄ o₄ γ₄ d, (turnOf (a .waits) input, tt)) (sliceVal (b₄, o₄) n₄ ∷ [], (Turn-p .val (turnOf (a .waits) input) ∷ [], tt)) tt (sessionOf (d) (turnOf (a .waits) input)) (λ ws-2. Unit {0}) (id⊢ 𝓤 _) (λ r ws-2. fact-mono 𝓤 (r ≡ sessionOf (d) (turnOf (a .waits) input)) ((r ≡ (sessionOf (d) (turnOf (a .waits) input))) × (Unit {0})) (λ e. (e, tt))) (λ _. (and-then ! (load ! (from ! (stop !)) (look ! 20 refl)) (and-then ! (load ! (from ! (stop !)) (look ! 12 refl)) (no-more !)))) (λ ws-2 said-2 is-2.
-        use1 W ((‵ (flft κ₄ q₄) ⊛ ‵ ftrue)) (id⊢ 𝓤 _) $ split ! $ move ! (2 ∷ []) $ fsplit ! $ drop ! $ drop ! $ move ! (1 ∷ []) $ drop ! $
-        land ! (from ! (stop !)) (init ! 10 refl (u8-p .typed 𝓤 H A W (sessionOf (d) (turnOf (a .waits) input)) is-2)) $
-        -- 3: sessions::limits::within_limits
-        move ! (2 ∷ 3 ∷ []) $
-        copies-shr ! (Array u64 5) b₁ o₁ sessions n₁ $ move ! (5 ∷ 6 ∷ []) $
-        copies-shr ! (Array u16 35) b₂ o₂ streams n₂ $ move ! (8 ∷ 9 ∷ []) $
-        copies-shr ! Object-t.the-row b₃ o₃ objects n₃ $ nothing ! $ move ! (1 ∷ 0 ∷ []) $ join ! $ move ! (3 ∷ 0 ∷ []) $ join ! $ move ! (5 ∷ 0 ∷ []) $ join ! $
-        use1 W (raw (toks 𝓤 A 3 ((κ₁, (κ₂, (κ₃, tt)))) ((q₁, (q₂, (q₃, tt)))))) (id⊢ 𝓤 _) $ nothing ! $
-        owned ! (u8-p .row) (Is (u8-p .row)) (u8-p .makes 𝓤 H A W) (sessionOf (d) (turnOf (a .waits) input)) (u8-p .val (sessionOf (d) (turnOf (a .waits) input)) ∷ []) is-2 $ fjoin ! $ move ! (2 ∷ 0 ∷ []) $ fjoin ! $ move ! (3 ∷ 0 ∷ []) $ fjoin ! $ move ! (4 ∷ 0 ∷ []) $ fjoin ! $ move ! (1 ∷ 0 ∷ []) $
-        calls-any ! fm 3 [] (limits-within-limits.signature .params) (limits-within-limits.ended .kept) Limits-p (limits-within-limits.clauses 𝓤 H A mem run) known-limits-within-limits (κ₁, (κ₂, (κ₃, tt))) (q₁, (q₂, (q₃, tt))) tt (at-list b₁ o₁ γ₁ sessions, (at-list b₂ o₂ γ₂ streams, (at-list b₃ o₃ γ₃ objects, (sessionOf (d) (turnOf (a .waits) input), tt)))) (sliceVal (b₁, o₁) n₁ ∷ [], (sliceVal (b₂, o₂) n₂ ∷ [], (sliceVal (b₃, o₃) n₃ ∷ [], (u8-p .val (sessionOf (d) (turnOf (a .waits) input)) ∷ [], tt)))) tt (limitsOf (sessions) (streams) (objects) (sessionOf (d) (turnOf (a .waits) input))) (λ ws-3. Unit {0}) (id⊢ 𝓤 _) (λ r ws-3. fact-mono 𝓤 (r ≡ limitsOf (sessions) (streams) (objects) (sessionOf (d) (turnOf (a .waits) input))) ((r ≡ (limitsOf (sessions) (streams) (objects) (sessionOf (d) (turnOf (a .waits) input)))) × (Unit {0})) (λ e. (e, tt))) (λ _. (and-then ! (load ! (from ! (stop !)) (look ! 24 refl)) (and-then ! (load ! (from ! (stop !)) (look ! 22 refl)) (and-then ! (load ! (from ! (stop !)) (look ! 20 refl)) (and-then ! (load ! (from ! (stop !)) (look ! 8 refl)) (no-more !)))))) (λ ws-3 said-3 is-3.
-        use1 W ((‵ (flft κ₁ q₁) ⊛ (‵ (flft κ₂ q₂) ⊛ (‵ (flft κ₃ q₃) ⊛ ‵ ftrue)))) (id⊢ 𝓤 _) $ split ! $ move ! (1 ∷ []) $ split ! $ move ! (1 ∷ []) $ split ! $ move ! (4 ∷ []) $ fsplit ! $ move ! (1 ∷ []) $ fsplit ! $ move ! (1 ∷ []) $ fsplit ! $ drop ! $ drop ! $ drop ! $ drop ! $ move ! (1 ∷ []) $ drop ! $
-        land ! (from ! (stop !)) (init ! 8 refl (Limits-p .typed 𝓤 H A W (limitsOf (sessions) (streams) (objects) (sessionOf (d) (turnOf (a .waits) input))) is-3)) $
-        -- 4: agent::judge::judged_by
-        move ! (7 ∷ 6 ∷ []) $
-        copies-shr ! u8 b₄ o₄ d n₄ $ nothing ! $ move ! (1 ∷ 0 ∷ []) $ join ! $
-        use1 W (raw (toks 𝓤 A 1 ((κ₄, tt)) ((q₄, tt)))) (id⊢ 𝓤 _) $ nothing ! $
-        owned ! (u64-p .row) (Is (u64-p .row)) (u64-p .makes 𝓤 H A W) sample (u64-p .val sample ∷ []) sample-is $ fjoin ! $
-        owned ! (Turn-p .row) (Is (Turn-p .row)) (Turn-p .makes 𝓤 H A W) (turnOf (a .waits) input) (Turn-p .val (turnOf (a .waits) input) ∷ []) is-1 $ fjoin ! $
-        owned ! (Limits-p .row) (Is (Limits-p .row)) (Limits-p .makes 𝓤 H A W) (limitsOf (sessions) (streams) (objects) (sessionOf (d) (turnOf (a .waits) input))) (Limits-p .val (limitsOf (sessions) (streams) (objects) (sessionOf (d) (turnOf (a .waits) input))) ∷ []) is-3 $ fjoin ! $
-        owned ! (Agent-p .row) (Is (Agent-p .row)) (Agent-p .makes 𝓤 H A W) a (Agent-p .val a ∷ []) a-is $ fjoin ! $ move ! (2 ∷ 0 ∷ []) $ fjoin ! $ move ! (1 ∷ 0 ∷ []) $
-        calls-any ! fm 1 [] (judge-judged-by.signature .params) (judge-judged-by.ended .kept) Judged-p (judge-judged-by.clauses 𝓤 H A mem run) known-judge-judged-by (κ₄, tt) (q₄, tt) tt (at-list b₄ o₄ γ₄ d, (a, (limitsOf (sessions) (streams) (objects) (sessionOf (d) (turnOf (a .waits) input)), (turnOf (a .waits) input, (sample, tt))))) (sliceVal (b₄, o₄) n₄ ∷ [], (Agent-p .val a ∷ [], (Limits-p .val (limitsOf (sessions) (streams) (objects) (sessionOf (d) (turnOf (a .waits) input))) ∷ [], (Turn-p .val (turnOf (a .waits) input) ∷ [], (u64-p .val sample ∷ [], tt))))) tt (judgedBy (d) a (limitsOf (sessions) (streams) (objects) (sessionOf (d) (turnOf (a .waits) input))) (turnOf (a .waits) input) sample) (λ ws-4. Unit {0}) (id⊢ 𝓤 _) (λ r ws-4. fact-mono 𝓤 (r ≡ judgedBy (d) a (limitsOf (sessions) (streams) (objects) (sessionOf (d) (turnOf (a .waits) input))) (turnOf (a .waits) input) sample) ((r ≡ (judgedBy (d) a (limitsOf (sessions) (streams) (objects) (sessionOf (d) (turnOf (a .waits) input))) (turnOf (a .waits) input) sample)) × (Unit {0})) (λ e. (e, tt))) (λ _. (and-then ! (load ! (from ! (stop !)) (look ! 20 refl)) (and-then ! (load ! (from ! (stop !)) (look ! 18 refl)) (and-then ! (load ! (from ! (stop !)) (look ! 8 refl)) (and-then ! (load ! (from ! (stop !)) (look ! 12 refl)) (and-then ! (load ! (from ! (stop !)) (look ! 14 refl)) (no-more !))))))) (λ ws-4 said-4 is-4.
-        use1 W ((‵ (flft κ₄ q₄) ⊛ ‵ ftrue)) (id⊢ 𝓤 _) $ split ! $ move ! (2 ∷ []) $ fsplit ! $ drop ! $ drop ! $ move ! (1 ∷ []) $ drop ! $
-        land ! (from ! (stop !)) (init ! 28 refl (Judged-p .typed 𝓤 H A W (judgedBy (d) a (limitsOf (sessions) (streams) (objects) (sessionOf (d) (turnOf (a .waits) input))) (turnOf (a .waits) input) sample) is-4)) $
-        returns ! (look ! 28 refl) $ forget ! 8 refl $ forget ! 10 refl $ forget ! 12 refl $ forget ! 14 refl $ forget ! 16 refl $ forget ! 18 refl $ forget ! 20 refl $ forget ! 22 refl $ forget ! 24 refl $ forget ! 26 refl $ forget ! 28 refl $ move ! (28 ∷ 29 ∷ []) $ free1 ! $ move ! (26 ∷ 27 ∷ []) $ free1 ! $ move ! (24 ∷ 25 ∷ []) $ free1 ! $ move ! (22 ∷ 23 ∷ []) $ free1 ! $ move ! (20 ∷ 21 ∷ []) $ free1 ! $ move ! (18 ∷ 19 ∷ []) $ free1 ! $ move ! (16 ∷ 17 ∷ []) $ free1 ! $ move ! (14 ∷ 15 ∷ []) $ free1 ! $ move ! (12 ∷ 13 ∷ []) $ free1 ! $ move ! (10 ∷ 11 ∷ []) $ free1 ! $ move ! (8 ∷ 9 ∷ []) $ free1 ! $ free0 ! $ move ! (7 ∷ 4 ∷ 6 ∷ 3 ∷ 5 ∷ 2 ∷ 1 ∷ 0 ∷ []) $
-        by ! (exits (judgedBy (d) a (limitsOf (sessions) (streams) (objects) (sessionOf (d) (turnOf (a .waits) input))) (turnOf (a .waits) input) sample) (judged-whole sessions streams objects d a input sample) is-4)))))
+        part-2-0 is-1)
 
   module _ (𝓣 : Tables 𝓤 H) (known-judge-whose-turn : Triple 𝓤 (𝓣 .C #judge-whose-turn) (Of-judge-whose-turn 𝓤 H A mem run)) (known-judge-session-of : Triple 𝓤 (𝓣 .C #judge-session-of) (Of-judge-session-of 𝓤 H A mem run)) (known-limits-within-limits : Triple 𝓤 (𝓣 .C #limits-within-limits) (Of-limits-within-limits 𝓤 H A mem run)) (known-judge-judged-by : Triple 𝓤 (𝓣 .C #judge-judged-by) (Of-judge-judged-by 𝓤 H A mem run)) where
     walk : ent 𝓤 (onEntry 𝓤 H A f.signature (κ₁, (κ₂, (κ₃, (κ₄, tt)))) (q₁, (q₂, (q₃, (q₄, tt)))) x at) (WpFn 𝓤 H (𝓣 .C) (𝓣 .Λ) code.function (sliceVal (b₁, o₁) n₁ ∷ sliceVal (b₂, o₂) n₂ ∷ sliceVal (b₃, o₃) n₃ ∷ sliceVal (b₄, o₄) n₄ ∷ Agent-p .val a ∷ Input-p .val input ∷ u64-p .val sample ∷ []) Post)

@@ -52,13 +52,13 @@ use Rattle.walk.proofs.Steps.{past, one, yes-of, no-of, in-block, arm-of, holds
 use borrow.Rule.Slice.PartMut.{midOf, putMid}
 use Rattle.walk.proofs.Parts.{part-len, lends-part, backs-part, parts-shr}
 use Rattle.walk.proofs.Arrays.{rep-is, lends-array, backs-array}
-use Rattle.agent.specs.Rows.{lent}
+use Rattle.moves.specs.Rows.{lent}
 use Rattle.agent.specs.Run.{putReplies}
 use Rattle.agent.specs.Host.{resumesFit, performed, firstRan}
 use Rattle.codec.specs.Bytes.{putBytes}
 use Rattle.agent.specs.Step.{joinedReplies}
-use Rattle.agent.specs.Answered.{createdKeeps, keepsOf, createdSays, doneSays, readSays, saysOf, keptSessions, keptObjects, saysFits, saysBytes}
-use Rattle.agent.specs.Host.{answersNow, keepsBy, saysBy, numberBy, begunBy, begunSessions, begunObjects}
+use Rattle.agent.specs.Answered.{saysFits, saysBytes}
+use Rattle.agent.specs.Host.{answersNow, toldBy, begunBy, begunSessions, begunObjects}
 use Rattle.agent.specs.Run.{isCall, goesOn, runAt}
 use Rattle.agent.proofs.Running.{begun-long, performed-by}
 use Rattle.sessions.specs.declared.objects.Object.{Object}
@@ -77,14 +77,14 @@ use Rattle.agent.specs.declared.judge.Resumes.{Resumes}
 use Rattle.agent.proofs.judge.Resumes as Resumes-t
 use Rattle.agent.proofs.judge.Resumes.Laws as Resumes-l
 use Rattle.agent.specs.declared.judge.Resumes.the-variants.{Nothing as Resumes-Nothing, Answer as Resumes-Answer}
-use Rattle.agent.specs.declared.proxy.Task.{Task}
-use Rattle.agent.proofs.proxy.Task as Task-t
-use Rattle.agent.proofs.proxy.Task.Laws as Task-l
-use Rattle.agent.specs.declared.proxy.Task.the-variants.{Creating as Task-Creating, Writing as Task-Writing, Reading as Task-Reading, Deleting as Task-Deleting}
-use Rattle.agent.specs.declared.proxy.BridgeAnswer.{BridgeAnswer}
-use Rattle.agent.proofs.proxy.BridgeAnswer as BridgeAnswer-t
-use Rattle.agent.proofs.proxy.BridgeAnswer.Laws as BridgeAnswer-l
-use Rattle.agent.specs.declared.proxy.BridgeAnswer.the-variants.{Created as BridgeAnswer-Created, Done as BridgeAnswer-Done, Sample as BridgeAnswer-Sample, NoSample as BridgeAnswer-NoSample, Failed as BridgeAnswer-Failed}
+use Rattle.moves.specs.declared.proxy.Task.{Task}
+use Rattle.moves.proofs.proxy.Task as Task-t
+use Rattle.moves.proofs.proxy.Task.Laws as Task-l
+use Rattle.moves.specs.declared.proxy.Task.the-variants.{Creating as Task-Creating, Writing as Task-Writing, Reading as Task-Reading, Deleting as Task-Deleting}
+use Rattle.moves.specs.declared.proxy.BridgeAnswer.{BridgeAnswer}
+use Rattle.moves.proofs.proxy.BridgeAnswer as BridgeAnswer-t
+use Rattle.moves.proofs.proxy.BridgeAnswer.Laws as BridgeAnswer-l
+use Rattle.moves.specs.declared.proxy.BridgeAnswer.the-variants.{Created as BridgeAnswer-Created, Done as BridgeAnswer-Done, Sample as BridgeAnswer-Sample, NoSample as BridgeAnswer-NoSample, Failed as BridgeAnswer-Failed}
 use Rattle.sessions.specs.declared.objects.Handle.{Handle}
 use Rattle.sessions.proofs.objects.Handle as Handle-t
 use Rattle.sessions.proofs.objects.Handle.Laws as Handle-l
@@ -95,10 +95,10 @@ use Rattle.agent.specs.declared.turn.Stop.{Stop}
 use Rattle.agent.proofs.turn.Stop as Stop-t
 use Rattle.agent.proofs.turn.Stop.Laws as Stop-l
 use Rattle.agent.specs.declared.turn.Stop.the-variants.{Nothing as Stop-Nothing, Call as Stop-Call}
-use Rattle.agent.specs.declared.proxy.BridgeCall.{BridgeCall}
-use Rattle.agent.proofs.proxy.BridgeCall as BridgeCall-t
-use Rattle.agent.proofs.proxy.BridgeCall.Laws as BridgeCall-l
-use Rattle.agent.specs.declared.proxy.BridgeCall.the-variants.{CreateParticipant as BridgeCall-CreateParticipant, CreateTopic as BridgeCall-CreateTopic, CreateWriter as BridgeCall-CreateWriter, CreateReader as BridgeCall-CreateReader, WriteData as BridgeCall-WriteData, ReadData as BridgeCall-ReadData, DeleteEntity as BridgeCall-DeleteEntity}
+use Rattle.moves.specs.declared.proxy.BridgeCall.{BridgeCall}
+use Rattle.moves.proofs.proxy.BridgeCall as BridgeCall-t
+use Rattle.moves.proofs.proxy.BridgeCall.Laws as BridgeCall-l
+use Rattle.moves.specs.declared.proxy.BridgeCall.the-variants.{CreateParticipant as BridgeCall-CreateParticipant, CreateTopic as BridgeCall-CreateTopic, CreateWriter as BridgeCall-CreateWriter, CreateReader as BridgeCall-CreateReader, WriteData as BridgeCall-WriteData, ReadData as BridgeCall-ReadData, DeleteEntity as BridgeCall-DeleteEntity}
 use Rattle.codec.specs.declared.layouts.Span.{Span}
 use Rattle.codec.proofs.layouts.Span as Span-t
 use Rattle.codec.proofs.layouts.Span.Laws as Span-l

@@ -52,10 +52,10 @@ use Rattle.walk.proofs.Steps.{past, one, yes-of, no-of, in-block, arm-of, holds
 use borrow.Rule.Slice.PartMut.{midOf, putMid}
 use Rattle.walk.proofs.Parts.{part-len, lends-part, backs-part, parts-shr}
 use Rattle.walk.proofs.Arrays.{rep-is, lends-array, backs-array}
-use Rattle.agent.specs.Rows.{lent}
+use Rattle.moves.specs.Rows.{lent}
 use Rattle.agent.specs.Host.{outcomeOf, waitsOf, finishedOf, refusedOf, answerMost, firstMost, roomy, neededOf, resumesFit, performed, finish, processOf}
 use Rattle.sessions.specs.Limits.{limitsOf}
-use Rattle.agent.specs.Judge.{answersOf, idleTurn, busyTurn, turnOf, sessionOf, recordSound, soundOf, tooLong, datagramStart, answerStart, datagramJudged, restJudged, answerJudged, judgedBy, judgeOf, goesOf, noStart, startIn, countIn, refusalIn}
+use Rattle.agent.specs.Judge.{answersOf, idleTurn, busyTurn, turnOf, sessionOf, recordSound, soundOf, tooLong, datagramStart, answerStart, datagramJudged, restJudged, answerJudged, judgedBy, judgeOf, partsOf}
 use types.Kit.{frees, prop}
 use Rattle.sessions.specs.View.{Tables as Stores}
 use Rattle.agent.specs.Host.{Leaves, processedBy}
@@ -77,18 +77,18 @@ use Rattle.agent.specs.declared.state.Waiting.the-variants.{Nothing as W
 use Rattle.agent.specs.declared.state.Pending.{Pending}
 use Rattle.agent.proofs.state.Pending as Pending-t
 use Rattle.agent.proofs.state.Pending.Laws as Pending-l
-use Rattle.agent.specs.declared.proxy.Task.{Task}
-use Rattle.agent.proofs.proxy.Task as Task-t
-use Rattle.agent.proofs.proxy.Task.Laws as Task-l
-use Rattle.agent.specs.declared.proxy.Task.the-variants.{Creating as Task-Creating, Writing as Task-Writing, Reading as Task-Reading, Deleting as Task-Deleting}
+use Rattle.moves.specs.declared.proxy.Task.{Task}
+use Rattle.moves.proofs.proxy.Task as Task-t
+use Rattle.moves.proofs.proxy.Task.Laws as Task-l
+use Rattle.moves.specs.declared.proxy.Task.the-variants.{Creating as Task-Creating, Writing as Task-Writing, Reading as Task-Reading, Deleting as Task-Deleting}
 use Rattle.agent.specs.declared.judge.Input.{Input}
 use Rattle.agent.proofs.judge.Input as Input-t
 use Rattle.agent.proofs.judge.Input.Laws as Input-l
 use Rattle.agent.specs.declared.judge.Input.the-variants.{Datagram as Input-Datagram, Answer as Input-Answer}
-use Rattle.agent.specs.declared.proxy.BridgeAnswer.{BridgeAnswer}
-use Rattle.agent.proofs.proxy.BridgeAnswer as BridgeAnswer-t
-use Rattle.agent.proofs.proxy.BridgeAnswer.Laws as BridgeAnswer-l
-use Rattle.agent.specs.declared.proxy.BridgeAnswer.the-variants.{Created as BridgeAnswer-Created, Done as BridgeAnswer-Done, Sample as BridgeAnswer-Sample, NoSample as BridgeAnswer-NoSample, Failed as BridgeAnswer-Failed}
+use Rattle.moves.specs.declared.proxy.BridgeAnswer.{BridgeAnswer}
+use Rattle.moves.proofs.proxy.BridgeAnswer as BridgeAnswer-t
+use Rattle.moves.proofs.proxy.BridgeAnswer.Laws as BridgeAnswer-l
+use Rattle.moves.specs.declared.proxy.BridgeAnswer.the-variants.{Created as BridgeAnswer-Created, Done as BridgeAnswer-Done, Sample as BridgeAnswer-Sample, NoSample as BridgeAnswer-NoSample, Failed as BridgeAnswer-Failed}
 use Rattle.sessions.specs.declared.objects.Handle.{Handle}
 use Rattle.sessions.proofs.objects.Handle as Handle-t
 use Rattle.sessions.proofs.objects.Handle.Laws as Handle-l
@@ -99,10 +99,10 @@ use Rattle.agent.specs.declared.process.Outcome.{Outcome}
 use Rattle.agent.proofs.process.Outcome as Outcome-t
 use Rattle.agent.proofs.process.Outcome.Laws as Outcome-l
 use Rattle.agent.specs.declared.process.Outcome.the-variants.{Replied as Outcome-Replied, Called as Outcome-Called, Refused as Outcome-Refused}
-use Rattle.agent.specs.declared.proxy.BridgeCall.{BridgeCall}
-use Rattle.agent.proofs.proxy.BridgeCall as BridgeCall-t
-use Rattle.agent.proofs.proxy.BridgeCall.Laws as BridgeCall-l
-use Rattle.agent.specs.declared.proxy.BridgeCall.the-variants.{CreateParticipant as BridgeCall-CreateParticipant, CreateTopic as BridgeCall-CreateTopic, CreateWriter as BridgeCall-CreateWriter, CreateReader as BridgeCall-CreateReader, WriteData as BridgeCall-WriteData, ReadData as BridgeCall-ReadData, DeleteEntity as BridgeCall-DeleteEntity}
+use Rattle.moves.specs.declared.proxy.BridgeCall.{BridgeCall}
+use Rattle.moves.proofs.proxy.BridgeCall as BridgeCall-t
+use Rattle.moves.proofs.proxy.BridgeCall.Laws as BridgeCall-l
+use Rattle.moves.specs.declared.proxy.BridgeCall.the-variants.{CreateParticipant as BridgeCall-CreateParticipant, CreateTopic as BridgeCall-CreateTopic, CreateWriter as BridgeCall-CreateWriter, CreateReader as BridgeCall-CreateReader, WriteData as BridgeCall-WriteData, ReadData as BridgeCall-ReadData, DeleteEntity as BridgeCall-DeleteEntity}
 use Rattle.codec.specs.declared.layouts.Span.{Span}
 use Rattle.codec.proofs.layouts.Span as Span-t
 use Rattle.codec.proofs.layouts.Span.Laws as Span-l
@@ -120,6 +120,9 @@ use Rattle.agent.specs.declared.judge.Resumes.{Resumes}
 use Rattle.agent.proofs.judge.Resumes as Resumes-t
 use Rattle.agent.proofs.judge.Resumes.Laws as Resumes-l
 use Rattle.agent.specs.declared.judge.Resumes.the-variants.{Nothing as Resumes-Nothing, Answer as Resumes-Answer}
+use Rattle.agent.specs.declared.judge.Parts.{Parts}
+use Rattle.agent.proofs.judge.Parts as Parts-t
+use Rattle.agent.proofs.judge.Parts.Laws as Parts-l
 use Rattle.agent.specs.declared.judge.Judged.{Judged}
 use Rattle.agent.proofs.judge.Judged as Judged-t
 use Rattle.agent.proofs.judge.Judged.Laws as Judged-l
@@ -128,26 +131,14 @@ use Rattle.agent.proofs.judge.judge as judge-judge
 use Rattle.agent.proofs.judge.judge.Symbol as judge-judge-def
 use Rattle.agent.proofs.judge.judge.Symbol.{name as #judge-judge}
 use Rattle.agent.proofs.judge.judge.Met as judge-judge-thm
-use Rattle.agent.proofs.judge.goes as judge-goes
-use Rattle.agent.proofs.judge.goes.Symbol as judge-goes-def
-use Rattle.agent.proofs.judge.goes.Symbol.{name as #judge-goes}
-use Rattle.agent.proofs.judge.goes.Met as judge-goes-thm
-use Rattle.agent.proofs.judge.start_in as judge-start-in
-use Rattle.agent.proofs.judge.start_in.Symbol as judge-start-in-def
-use Rattle.agent.proofs.judge.start_in.Symbol.{name as #judge-start-in}
-use Rattle.agent.proofs.judge.start_in.Met as judge-start-in-thm
-use Rattle.agent.proofs.judge.count_in as judge-count-in
-use Rattle.agent.proofs.judge.count_in.Symbol as judge-count-in-def
-use Rattle.agent.proofs.judge.count_in.Symbol.{name as #judge-count-in}
-use Rattle.agent.proofs.judge.count_in.Met as judge-count-in-thm
+use Rattle.agent.proofs.judge.parts_of as judge-parts-of
+use Rattle.agent.proofs.judge.parts_of.Symbol as judge-parts-of-def
+use Rattle.agent.proofs.judge.parts_of.Symbol.{name as #judge-parts-of}
+use Rattle.agent.proofs.judge.parts_of.Met as judge-parts-of-thm
 use Rattle.agent.proofs.process.go as process-go
 use Rattle.agent.proofs.process.go.Symbol as process-go-def
 use Rattle.agent.proofs.process.go.Symbol.{name as #process-go}
 use Rattle.agent.proofs.process.go.Met as process-go-thm
-use Rattle.agent.proofs.judge.refusal_in as judge-refusal-in
-use Rattle.agent.proofs.judge.refusal_in.Symbol as judge-refusal-in-def
-use Rattle.agent.proofs.judge.refusal_in.Symbol.{name as #judge-refusal-in}
-use Rattle.agent.proofs.judge.refusal_in.Met as judge-refusal-in-thm
 use Rattle.agent.proofs.process.refused as process-refused
 use Rattle.agent.proofs.process.refused.Symbol as process-refused-def
 use Rattle.agent.proofs.process.refused.Symbol.{name as #process-refused}
@@ -236,6 +227,12 @@ Frame-p = record { row = Frame-t.the-row; val = LL.val Frame-t.the-type Frame-l.
 abbrev Resumes-p : Plain
 Resumes-p = record { row = Resumes-t.the-row; val = EL.val Resumes-t.the-type Resumes-l.the-laws; tells = EL.tells Resumes-t.the-type Resumes-l.the-laws; makes = λ 𝓤 H A W. EL.makes Resumes-t.the-type Resumes-l.the-plain 𝓤 H A; ty = Resumes-l.mir; typed = λ 𝓤 H A W x is. EL.lawful Resumes-t.the-type Resumes-l.the-laws 𝓤 H A W tt .typed x _ is .0; copies = λ 𝓤 H A W. EL.copy Resumes-t.the-type Resumes-l.the-copy 𝓤 H A W }
 
+abbrev Parts-of : Bool → Start → ℕ → Refusal → Parts
+Parts-of x0 x1 x2 x3 = record { goes = x0; start = x1; count = x2; why = x3 }
+
+abbrev Parts-p : Plain
+Parts-p = record { row = Parts-t.the-row; val = LL.val Parts-t.the-type Parts-l.the-laws; tells = LL.tells Parts-t.the-type Parts-l.the-laws; makes = λ 𝓤 H A W. LL.makes Parts-t.the-type Parts-l.the-plain 𝓤 H A; ty = Parts-l.mir; typed = λ 𝓤 H A W x is. LL.lawful Parts-t.the-type Parts-l.the-laws 𝓤 H A W .typed x _ is .0; copies = λ 𝓤 H A W. LL.copy Parts-t.the-type Parts-l.the-copy 𝓤 H A W }
+
 abbrev Judged-p : Plain
 Judged-p = record { row = Judged-t.the-row; val = EL.val Judged-t.the-type Judged-l.the-laws; tells = EL.tells Judged-t.the-type Judged-l.the-laws; makes = λ 𝓤 H A W. EL.makes Judged-t.the-type Judged-l.the-plain 𝓤 H A; ty = Judged-l.mir; typed = λ 𝓤 H A W x is. EL.lawful Judged-t.the-type Judged-l.the-laws 𝓤 H A W tt .typed x _ is .0; copies = λ 𝓤 H A W. EL.copy Judged-t.the-type Judged-l.the-copy 𝓤 H A W }
 
@@ -246,20 +243,11 @@ module _ {M : Type 1} (𝓤 : URA M) (H : Heap 𝓤) (A : Atoms 𝓤) (mem : Mem
   abbrev Of-judge-judge : Contract 𝓤
   Of-judge-judge = tripleOf 𝓤 H A judge-judge.signature (judge-judge.spec 𝓤 H A mem run)
 
-  abbrev Of-judge-goes : Contract 𝓤
-  Of-judge-goes = tripleOf 𝓤 H A judge-goes.signature (judge-goes.spec 𝓤 H A mem run)
-
-  abbrev Of-judge-start-in : Contract 𝓤
-  Of-judge-start-in = tripleOf 𝓤 H A judge-start-in.signature (judge-start-in.spec 𝓤 H A mem run)
-
-  abbrev Of-judge-count-in : Contract 𝓤
-  Of-judge-count-in = tripleOf 𝓤 H A judge-count-in.signature (judge-count-in.spec 𝓤 H A mem run)
+  abbrev Of-judge-parts-of : Contract 𝓤
+  Of-judge-parts-of = tripleOf 𝓤 H A judge-parts-of.signature (judge-parts-of.spec 𝓤 H A mem run)
 
   abbrev Of-process-go : Contract 𝓤
   Of-process-go = tripleOf 𝓤 H A process-go.signature (process-go.spec 𝓤 H A mem run)
-
-  abbrev Of-judge-refusal-in : Contract 𝓤
-  Of-judge-refusal-in = tripleOf 𝓤 H A judge-refusal-in.signature (judge-refusal-in.spec 𝓤 H A mem run)
 
   abbrev Of-process-refused : Contract 𝓤
   Of-process-refused = tripleOf 𝓤 H A process-refused.signature (process-refused.spec 𝓤 H A mem run)
@@ -299,8 +287,8 @@ module _ {M : Type 1} (𝓤 : URA M) (H : Heap 𝓤) (A : Atoms 𝓤) (W : Given
   abbrev judged : Judged
   judged = judgeOf tables-lent d agent input (length sample)
 
-  let-through : goesOf judged ≡ true → Sound tables-lent d (length sample) (startIn judged) (countIn judged)
-  let-through c = judged-goes tables-lent d agent (length sample) input (startIn judged) (countIn judged) (goes-is judged c)
+  let-through : partsOf judged .goes ≡ true → Sound tables-lent d (length sample) (partsOf judged .start) (partsOf judged .count)
+  let-through c = judged-goes tables-lent d agent (length sample) input (partsOf judged .start) (partsOf judged .count) (goes-is judged c)
 
   leaves : (j : Judged) → judged ≡ j → processedBy j agent tables-lent out d sample ≡ processOf agent tables-lent out d sample input
   leaves j e = process-by agent tables-lent out d sample input j e
@@ -315,7 +303,7 @@ module _ {M : Type 1} (𝓤 : URA M) (H : Heap 𝓤) (A : Atoms 𝓤) (W : Given
       frame ! $
       owned ! (Processed-p .row) (Is (Processed-p .row)) (Processed-p .makes 𝓤 H A W) r _ r-is $ done !
 
-  module _ (𝓣 : Tables 𝓤 H) (known-judge-judge : Triple 𝓤 (𝓣 .C #judge-judge) (Of-judge-judge 𝓤 H A mem run)) (known-judge-goes : Triple 𝓤 (𝓣 .C #judge-goes) (Of-judge-goes 𝓤 H A mem run)) (known-judge-start-in : Triple 𝓤 (𝓣 .C #judge-start-in) (Of-judge-start-in 𝓤 H A mem run)) (known-judge-count-in : Triple 𝓤 (𝓣 .C #judge-count-in) (Of-judge-count-in 𝓤 H A mem run)) (known-process-go : Triple 𝓤 (𝓣 .C #process-go) (Of-process-go 𝓤 H A mem run)) (known-judge-refusal-in : Triple 𝓤 (𝓣 .C #judge-refusal-in) (Of-judge-refusal-in 𝓤 H A mem run)) (known-process-refused : Triple 𝓤 (𝓣 .C #process-refused) (Of-process-refused 𝓤 H A mem run)) (l₀ l₁ l₂ l₃ l₄ l₅ l₆ l₇ l₈ l₉ l₁₀ l₁₁ l₁₂ l₁₃ l₁₄ l₁₅ l₁₆ l₁₇ l₁₈ l₁₉ l₂₀ l₂₁ l₂₂ l₂₃ l₂₄ l₂₅ l₂₆ l₂₇ l₂₈ l₂₉ : ℕ) where
+  module _ (𝓣 : Tables 𝓤 H) (known-judge-judge : Triple 𝓤 (𝓣 .C #judge-judge) (Of-judge-judge 𝓤 H A mem run)) (known-judge-parts-of : Triple 𝓤 (𝓣 .C #judge-parts-of) (Of-judge-parts-of 𝓤 H A mem run)) (known-process-go : Triple 𝓤 (𝓣 .C #process-go) (Of-process-go 𝓤 H A mem run)) (known-process-refused : Triple 𝓤 (𝓣 .C #process-refused) (Of-process-refused 𝓤 H A mem run)) (l₀ l₁ l₂ l₃ l₄ l₅ l₆ l₇ l₈ l₉ l₁₀ l₁₁ l₁₂ l₁₃ l₁₄ l₁₅ l₁₆ l₁₇ l₁₈ l₁₉ l₂₀ l₂₁ l₂₂ l₂₃ l₂₄ l₂₅ l₂₆ l₂₇ l₂₈ l₂₉ l₃₀ : ℕ) where
     abbrev C : Calls 𝓤 H
     C = 𝓣 .C
 
@@ -326,142 +314,113 @@ module _ {M : Type 1} (𝓤 : URA M) (H : Heap 𝓤) (A : Atoms 𝓤) (W : Given
     fm = fmOf 𝓤 H (W .laws) 𝓣
 
     abbrev En : Env 𝓤 H
-    En = (Processed-l.mir, l₀) ∷ ((sliceTy (tyRef (named 0) mut (pointee ((Array u64 5) .written)))), l₁) ∷ ((sliceTy (tyRef (named 1) mut (pointee ((Array u16 35) .written)))), l₂) ∷ ((sliceTy (tyRef (named 2) mut (pointee (Object-t.the-row .written)))), l₃) ∷ ((sliceTy (tyRef (named 3) mut (pointee (u8 .written)))), l₄) ∷ ((sliceTy (tyRef (named 4) imm (pointee (u8 .written)))), l₅) ∷ ((sliceTy (tyRef (named 5) imm (pointee (u8 .written)))), l₆) ∷ (Agent-l.mir, l₇) ∷ (Input-l.mir, l₈) ∷ ((tyInt w64), l₉) ∷ (Judged-l.mir, l₁₀) ∷ (Start-l.mir, l₁₁) ∷ ((tyInt w64), l₁₂) ∷ (Refusal-l.mir, l₁₃) ∷ ((tyRef erased imm (pointee ((Array u64 5) .written))), l₁₄) ∷ ((sliceTy (tyRef erased imm (pointee ((Array u64 5) .written)))), l₁₅) ∷ ((tyRef erased imm (pointee ((Array u16 35) .written))), l₁₆) ∷ ((sliceTy (tyRef erased imm (pointee ((Array u16 35) .written)))), l₁₇) ∷ ((tyRef erased imm (pointee (Object-t.the-row .written))), l₁₈) ∷ ((sliceTy (tyRef erased imm (pointee (Object-t.the-row .written)))), l₁₉) ∷ (tyBool, l₂₀) ∷ (Processed-l.mir, l₂₁) ∷ ((tyRef erased mut (pointee ((Array u64 5) .written))), l₂₂) ∷ ((sliceTy (tyRef erased mut (pointee ((Array u64 5) .written)))), l₂₃) ∷ ((tyRef erased mut (pointee ((Array u16 35) .written))), l₂₄) ∷ ((sliceTy (tyRef erased mut (pointee ((Array u16 35) .written)))), l₂₅) ∷ ((tyRef erased mut (pointee (Object-t.the-row .written))), l₂₆) ∷ ((sliceTy (tyRef erased mut (pointee (Object-t.the-row .written)))), l₂₇) ∷ ((tyRef erased mut (pointee (u8 .written))), l₂₈) ∷ ((sliceTy (tyRef erased mut (pointee (u8 .written)))), l₂₉) ∷ []
+    En = (Processed-l.mir, l₀) ∷ ((sliceTy (tyRef (named 0) mut (pointee ((Array u64 5) .written)))), l₁) ∷ ((sliceTy (tyRef (named 1) mut (pointee ((Array u16 35) .written)))), l₂) ∷ ((sliceTy (tyRef (named 2) mut (pointee (Object-t.the-row .written)))), l₃) ∷ ((sliceTy (tyRef (named 3) mut (pointee (u8 .written)))), l₄) ∷ ((sliceTy (tyRef (named 4) imm (pointee (u8 .written)))), l₅) ∷ ((sliceTy (tyRef (named 5) imm (pointee (u8 .written)))), l₆) ∷ (Agent-l.mir, l₇) ∷ (Input-l.mir, l₈) ∷ ((tyInt w64), l₉) ∷ (Judged-l.mir, l₁₀) ∷ (Parts-l.mir, l₁₁) ∷ (Start-l.mir, l₁₂) ∷ ((tyInt w64), l₁₃) ∷ (Refusal-l.mir, l₁₄) ∷ ((tyRef erased imm (pointee ((Array u64 5) .written))), l₁₅) ∷ ((sliceTy (tyRef erased imm (pointee ((Array u64 5) .written)))), l₁₆) ∷ ((tyRef erased imm (pointee ((Array u16 35) .written))), l₁₇) ∷ ((sliceTy (tyRef erased imm (pointee ((Array u16 35) .written)))), l₁₈) ∷ ((tyRef erased imm (pointee (Object-t.the-row .written))), l₁₉) ∷ ((sliceTy (tyRef erased imm (pointee (Object-t.the-row .written)))), l₂₀) ∷ (tyBool, l₂₁) ∷ (Processed-l.mir, l₂₂) ∷ ((tyRef erased mut (pointee ((Array u64 5) .written))), l₂₃) ∷ ((sliceTy (tyRef erased mut (pointee ((Array u64 5) .written)))), l₂₄) ∷ ((tyRef erased mut (pointee ((Array u16 35) .written))), l₂₅) ∷ ((sliceTy (tyRef erased mut (pointee ((Array u16 35) .written)))), l₂₆) ∷ ((tyRef erased mut (pointee (Object-t.the-row .written))), l₂₇) ∷ ((sliceTy (tyRef erased mut (pointee (Object-t.the-row .written)))), l₂₈) ∷ ((tyRef erased mut (pointee (u8 .written))), l₂₉) ∷ ((sliceTy (tyRef erased mut (pointee (u8 .written)))), l₃₀) ∷ []
 
-    frees-all : (r : Processed) (ws₁ : List (List ℕ)) (ws₂ : List (List ℕ)) (ws₃ : List Object) (ws₄ : List ℕ) → ent 𝓤 (⋆ 𝓤 H A (‵ (MutSlice (named 0) κ₁ (Array u64 5) .own (at-list b₁ o₁ γ₁ ws₁) (sliceVal (b₁, o₁) n₁ ∷ [])) ∷ ‵ (flft κ₁ q₁) ∷ ‵ (MutSlice (named 1) κ₂ (Array u16 35) .own (at-list b₂ o₂ γ₂ ws₂) (sliceVal (b₂, o₂) n₂ ∷ [])) ∷ ‵ (flft κ₂ q₂) ∷ ‵ (MutSlice (named 2) κ₃ Object-t.the-row .own (at-list b₃ o₃ γ₃ ws₃) (sliceVal (b₃, o₃) n₃ ∷ [])) ∷ ‵ (flft κ₃ q₃) ∷ ‵ (MutSlice (named 3) κ₄ u8 .own (at-list b₄ o₄ γ₄ ws₄) (sliceVal (b₄, o₄) n₄ ∷ [])) ∷ ‵ (flft κ₄ q₄) ∷ ‵ (ShrSlice (named 4) κ₅ u8 .own (at-list b₅ o₅ γ₅ d) (sliceVal (b₅, o₅) n₅ ∷ [])) ∷ ‵ (flft κ₅ q₅) ∷ ‵ (ShrSlice (named 5) κ₆ u8 .own (at-list b₆ o₆ γ₆ sample) (sliceVal (b₆, o₆) n₆ ∷ [])) ∷ ‵ (flft κ₆ q₆) ∷ [])) (Post (Processed-p .val r)) → Sq W (‵ (MutSlice (named 0) κ₁ (Array u64 5) .own (at-list b₁ o₁ γ₁ ws₁) (sliceVal (b₁, o₁) n₁ ∷ [])) ∷ ‵ (flft κ₁ q₁) ∷ ‵ (MutSlice (named 0) κ₂ (Array u16 35) .own (at-list b₂ o₂ γ₂ ws₂) (sliceVal (b₂, o₂) n₂ ∷ [])) ∷ ‵ (flft κ₂ q₂) ∷ ‵ (MutSlice (named 0) κ₃ Object-t.the-row .own (at-list b₃ o₃ γ₃ ws₃) (sliceVal (b₃, o₃) n₃ ∷ [])) ∷ ‵ (flft κ₃ q₃) ∷ ‵ (MutSlice (named 0) κ₄ u8 .own (at-list b₄ o₄ γ₄ ws₄) (sliceVal (b₄, o₄) n₄ ∷ [])) ∷ ‵ (flft κ₄ q₄) ∷ ‵ (ShrSlice (named 0) κ₅ u8 .own (at-list b₅ o₅ γ₅ d) (sliceVal (b₅, o₅) n₅ ∷ [])) ∷ ‵ (flft κ₅ q₅) ∷ ‵ (ShrSlice (named 0) κ₆ u8 .own (at-list b₆ o₆ γ₆ sample) (sliceVal (b₆, o₆) n₆ ∷ [])) ∷ ‵ (flft κ₆ q₆) ∷ free 𝓤 (sliceTy (tyRef erased mut (pointee (u8 .written)))) l₂₉ (free 𝓤 (tyRef erased mut (pointee (u8 .written))) l₂₈ (free 𝓤 (sliceTy (tyRef erased mut (pointee (Object-t.the-row .written)))) l₂₇ (free 𝓤 (tyRef erased mut (pointee (Object-t.the-row .written))) l₂₆ (free 𝓤 (sliceTy (tyRef erased mut (pointee ((Array u16 35) .written)))) l₂₅ (free 𝓤 (tyRef erased mut (pointee ((Array u16 35) .written))) l₂₄ (free 𝓤 (sliceTy (tyRef erased mut (pointee ((Array u64 5) .written)))) l₂₃ (free 𝓤 (tyRef erased mut (pointee ((Array u64 5) .written))) l₂₂ (free 𝓤 Processed-l.mir l₂₁ (free 𝓤 tyBool l₂₀ (free 𝓤 (sliceTy (tyRef erased imm (pointee (Object-t.the-row .written)))) l₁₉ (free 𝓤 (tyRef erased imm (pointee (Object-t.the-row .written))) l₁₈ (free 𝓤 (sliceTy (tyRef erased imm (pointee ((Array u16 35) .written)))) l₁₇ (free 𝓤 (tyRef erased imm (pointee ((Array u16 35) .written))) l₁₆ (free 𝓤 (sliceTy (tyRef erased imm (pointee ((Array u64 5) .written)))) l₁₅ (free 𝓤 (tyRef erased imm (pointee ((Array u64 5) .written))) l₁₄ (free 𝓤 Refusal-l.mir l₁₃ (free 𝓤 (tyInt w64) l₁₂ (free 𝓤 Start-l.mir l₁₁ (free 𝓤 Judged-l.mir l₁₀ (free 𝓤 (tyInt w64) l₉ (full 𝓤 Input-l.mir l₈ (Input-p .val input) (full 𝓤 Agent-l.mir l₇ (Agent-p .val agent) (full 𝓤 (sliceTy (tyRef (named 5) imm (pointee (u8 .written)))) l₆ (sliceVal (b₆, o₆) n₆) (full 𝓤 (sliceTy (tyRef (named 4) imm (pointee (u8 .written)))) l₅ (sliceVal (b₅, o₅) n₅) (full 𝓤 (sliceTy (tyRef (named 3) mut (pointee (u8 .written)))) l₄ (sliceVal (b₄, o₄) n₄) (full 𝓤 (sliceTy (tyRef (named 2) mut (pointee (Object-t.the-row .written)))) l₃ (sliceVal (b₃, o₃) n₃) (full 𝓤 (sliceTy (tyRef (named 1) mut (pointee ((Array u16 35) .written)))) l₂ (sliceVal (b₂, o₂) n₂) (full 𝓤 (sliceTy (tyRef (named 0) mut (pointee ((Array u64 5) .written)))) l₁ (sliceVal (b₁, o₁) n₁) (full 𝓤 Processed-l.mir l₀ (Processed-p .val r) ([]))))))))))))))))))))))))))))))) (frees En (prop (Post (Processed-p .val r))))
+    frees-all : (r : Processed) (ws₁ : List (List ℕ)) (ws₂ : List (List ℕ)) (ws₃ : List Object) (ws₄ : List ℕ) → ent 𝓤 (⋆ 𝓤 H A (‵ (MutSlice (named 0) κ₁ (Array u64 5) .own (at-list b₁ o₁ γ₁ ws₁) (sliceVal (b₁, o₁) n₁ ∷ [])) ∷ ‵ (flft κ₁ q₁) ∷ ‵ (MutSlice (named 1) κ₂ (Array u16 35) .own (at-list b₂ o₂ γ₂ ws₂) (sliceVal (b₂, o₂) n₂ ∷ [])) ∷ ‵ (flft κ₂ q₂) ∷ ‵ (MutSlice (named 2) κ₃ Object-t.the-row .own (at-list b₃ o₃ γ₃ ws₃) (sliceVal (b₃, o₃) n₃ ∷ [])) ∷ ‵ (flft κ₃ q₃) ∷ ‵ (MutSlice (named 3) κ₄ u8 .own (at-list b₄ o₄ γ₄ ws₄) (sliceVal (b₄, o₄) n₄ ∷ [])) ∷ ‵ (flft κ₄ q₄) ∷ ‵ (ShrSlice (named 4) κ₅ u8 .own (at-list b₅ o₅ γ₅ d) (sliceVal (b₅, o₅) n₅ ∷ [])) ∷ ‵ (flft κ₅ q₅) ∷ ‵ (ShrSlice (named 5) κ₆ u8 .own (at-list b₆ o₆ γ₆ sample) (sliceVal (b₆, o₆) n₆ ∷ [])) ∷ ‵ (flft κ₆ q₆) ∷ [])) (Post (Processed-p .val r)) → Sq W (‵ (MutSlice (named 0) κ₁ (Array u64 5) .own (at-list b₁ o₁ γ₁ ws₁) (sliceVal (b₁, o₁) n₁ ∷ [])) ∷ ‵ (flft κ₁ q₁) ∷ ‵ (MutSlice (named 0) κ₂ (Array u16 35) .own (at-list b₂ o₂ γ₂ ws₂) (sliceVal (b₂, o₂) n₂ ∷ [])) ∷ ‵ (flft κ₂ q₂) ∷ ‵ (MutSlice (named 0) κ₃ Object-t.the-row .own (at-list b₃ o₃ γ₃ ws₃) (sliceVal (b₃, o₃) n₃ ∷ [])) ∷ ‵ (flft κ₃ q₃) ∷ ‵ (MutSlice (named 0) κ₄ u8 .own (at-list b₄ o₄ γ₄ ws₄) (sliceVal (b₄, o₄) n₄ ∷ [])) ∷ ‵ (flft κ₄ q₄) ∷ ‵ (ShrSlice (named 0) κ₅ u8 .own (at-list b₅ o₅ γ₅ d) (sliceVal (b₅, o₅) n₅ ∷ [])) ∷ ‵ (flft κ₅ q₅) ∷ ‵ (ShrSlice (named 0) κ₆ u8 .own (at-list b₆ o₆ γ₆ sample) (sliceVal (b₆, o₆) n₆ ∷ [])) ∷ ‵ (flft κ₆ q₆) ∷ free 𝓤 (sliceTy (tyRef erased mut (pointee (u8 .written)))) l₃₀ (free 𝓤 (tyRef erased mut (pointee (u8 .written))) l₂₉ (free 𝓤 (sliceTy (tyRef erased mut (pointee (Object-t.the-row .written)))) l₂₈ (free 𝓤 (tyRef erased mut (pointee (Object-t.the-row .written))) l₂₇ (free 𝓤 (sliceTy (tyRef erased mut (pointee ((Array u16 35) .written)))) l₂₆ (free 𝓤 (tyRef erased mut (pointee ((Array u16 35) .written))) l₂₅ (free 𝓤 (sliceTy (tyRef erased mut (pointee ((Array u64 5) .written)))) l₂₄ (free 𝓤 (tyRef erased mut (pointee ((Array u64 5) .written))) l₂₃ (free 𝓤 Processed-l.mir l₂₂ (free 𝓤 tyBool l₂₁ (free 𝓤 (sliceTy (tyRef erased imm (pointee (Object-t.the-row .written)))) l₂₀ (free 𝓤 (tyRef erased imm (pointee (Object-t.the-row .written))) l₁₉ (free 𝓤 (sliceTy (tyRef erased imm (pointee ((Array u16 35) .written)))) l₁₈ (free 𝓤 (tyRef erased imm (pointee ((Array u16 35) .written))) l₁₇ (free 𝓤 (sliceTy (tyRef erased imm (pointee ((Array u64 5) .written)))) l₁₆ (free 𝓤 (tyRef erased imm (pointee ((Array u64 5) .written))) l₁₅ (free 𝓤 Refusal-l.mir l₁₄ (free 𝓤 (tyInt w64) l₁₃ (free 𝓤 Start-l.mir l₁₂ (free 𝓤 Parts-l.mir l₁₁ (free 𝓤 Judged-l.mir l₁₀ (free 𝓤 (tyInt w64) l₉ (full 𝓤 Input-l.mir l₈ (Input-p .val input) (full 𝓤 Agent-l.mir l₇ (Agent-p .val agent) (full 𝓤 (sliceTy (tyRef (named 5) imm (pointee (u8 .written)))) l₆ (sliceVal (b₆, o₆) n₆) (full 𝓤 (sliceTy (tyRef (named 4) imm (pointee (u8 .written)))) l₅ (sliceVal (b₅, o₅) n₅) (full 𝓤 (sliceTy (tyRef (named 3) mut (pointee (u8 .written)))) l₄ (sliceVal (b₄, o₄) n₄) (full 𝓤 (sliceTy (tyRef (named 2) mut (pointee (Object-t.the-row .written)))) l₃ (sliceVal (b₃, o₃) n₃) (full 𝓤 (sliceTy (tyRef (named 1) mut (pointee ((Array u16 35) .written)))) l₂ (sliceVal (b₂, o₂) n₂) (full 𝓤 (sliceTy (tyRef (named 0) mut (pointee ((Array u64 5) .written)))) l₁ (sliceVal (b₁, o₁) n₁) (full 𝓤 Processed-l.mir l₀ (Processed-p .val r) ([])))))))))))))))))))))))))))))))) (frees En (prop (Post (Processed-p .val r))))
     frees-all r ws₁ ws₂ ws₃ ws₄ ends =
-        forget ! 54 refl $ forget ! 56 refl $ forget ! 58 refl $ forget ! 60 refl $ forget ! 62 refl $ forget ! 64 refl $ forget ! 66 refl $ forget ! 68 refl $ forget ! 70 refl $ move ! (70 ∷ 71 ∷ []) $ free1 ! $ move ! (68 ∷ 69 ∷ []) $ free1 ! $ move ! (66 ∷ 67 ∷ []) $ free1 ! $ move ! (64 ∷ 65 ∷ []) $ free1 ! $ move ! (62 ∷ 63 ∷ []) $ free1 ! $ move ! (60 ∷ 61 ∷ []) $ free1 ! $ move ! (58 ∷ 59 ∷ []) $ free1 ! $ move ! (56 ∷ 57 ∷ []) $ free1 ! $ move ! (54 ∷ 55 ∷ []) $ free1 ! $ move ! (52 ∷ 53 ∷ []) $ free1 ! $ move ! (50 ∷ 51 ∷ []) $ free1 ! $ move ! (48 ∷ 49 ∷ []) $ free1 ! $ move ! (46 ∷ 47 ∷ []) $ free1 ! $ move ! (44 ∷ 45 ∷ []) $ free1 ! $ move ! (42 ∷ 43 ∷ []) $ free1 ! $ move ! (40 ∷ 41 ∷ []) $ free1 ! $ move ! (38 ∷ 39 ∷ []) $ free1 ! $ move ! (36 ∷ 37 ∷ []) $ free1 ! $ move ! (34 ∷ 35 ∷ []) $ free1 ! $ move ! (32 ∷ 33 ∷ []) $ free1 ! $ move ! (30 ∷ 31 ∷ []) $ free1 ! $ move ! (28 ∷ 29 ∷ []) $ free1 ! $ move ! (26 ∷ 27 ∷ []) $ free1 ! $ move ! (24 ∷ 25 ∷ []) $ free1 ! $ move ! (22 ∷ 23 ∷ []) $ free1 ! $ move ! (20 ∷ 21 ∷ []) $ free1 ! $ move ! (18 ∷ 19 ∷ []) $ free1 ! $ move ! (16 ∷ 17 ∷ []) $ free1 ! $ move ! (14 ∷ 15 ∷ []) $ free1 ! $ move ! (12 ∷ 13 ∷ []) $ free1 ! $ free0 ! $
+        forget ! 56 refl $ forget ! 58 refl $ forget ! 60 refl $ forget ! 62 refl $ forget ! 64 refl $ forget ! 66 refl $ forget ! 68 refl $ forget ! 70 refl $ forget ! 72 refl $ move ! (72 ∷ 73 ∷ []) $ free1 ! $ move ! (70 ∷ 71 ∷ []) $ free1 ! $ move ! (68 ∷ 69 ∷ []) $ free1 ! $ move ! (66 ∷ 67 ∷ []) $ free1 ! $ move ! (64 ∷ 65 ∷ []) $ free1 ! $ move ! (62 ∷ 63 ∷ []) $ free1 ! $ move ! (60 ∷ 61 ∷ []) $ free1 ! $ move ! (58 ∷ 59 ∷ []) $ free1 ! $ move ! (56 ∷ 57 ∷ []) $ free1 ! $ move ! (54 ∷ 55 ∷ []) $ free1 ! $ move ! (52 ∷ 53 ∷ []) $ free1 ! $ move ! (50 ∷ 51 ∷ []) $ free1 ! $ move ! (48 ∷ 49 ∷ []) $ free1 ! $ move ! (46 ∷ 47 ∷ []) $ free1 ! $ move ! (44 ∷ 45 ∷ []) $ free1 ! $ move ! (42 ∷ 43 ∷ []) $ free1 ! $ move ! (40 ∷ 41 ∷ []) $ free1 ! $ move ! (38 ∷ 39 ∷ []) $ free1 ! $ move ! (36 ∷ 37 ∷ []) $ free1 ! $ move ! (34 ∷ 35 ∷ []) $ free1 ! $ move ! (32 ∷ 33 ∷ []) $ free1 ! $ move ! (30 ∷ 31 ∷ []) $ free1 ! $ move ! (28 ∷ 29 ∷ []) $ free1 ! $ move ! (26 ∷ 27 ∷ []) $ free1 ! $ move ! (24 ∷ 25 ∷ []) $ free1 ! $ move ! (22 ∷ 23 ∷ []) $ free1 ! $ move ! (20 ∷ 21 ∷ []) $ free1 ! $ move ! (18 ∷ 19 ∷ []) $ free1 ! $ move ! (16 ∷ 17 ∷ []) $ free1 ! $ move ! (14 ∷ 15 ∷ []) $ free1 ! $ move ! (12 ∷ 13 ∷ []) $ free1 ! $ free0 ! $
         by ! ends
 
-    part-11-0 : (is-8 : Is (Judged-p .row) (judgeOf (lent (sessions) (streams) (objects)) (d) agent input n₆) (Judged-p .val (judgeOf (lent (sessions) (streams) (objects)) (d) agent input n₆) ∷ [])) → (is-9 : Is (bool-p .row) (goesOf (judgeOf (lent (sessions) (streams) (objects)) (d) agent input n₆)) (bool-p .val (goesOf (judgeOf (lent (sessions) (streams) (objects)) (d) agent input n₆)) ∷ [])) → (c-10 : goesOf (judgeOf (lent (sessions) (streams) (objects)) (d) agent input n₆) ≡ true) → (is-10·yes·1 : Is (Start-p .row) (startIn (judgeOf (lent (sessions) (streams) (objects)) (d) agent input n₆)) (Start-p .val (startIn (judgeOf (lent (sessions) (streams) (objects)) (d) agent input n₆)) ∷ [])) → (is-10·yes·2 : Is (u64-p .row) (countIn (judgeOf (lent (sessions) (streams) (objects)) (d) agent input n₆)) (u64-p .val (countIn (judgeOf (lent (sessions) (streams) (objects)) (d) agent input n₆)) ∷ [])) → (asks-10·yes·11 : (resumesFit ((startIn (judgeOf (lent (sessions) (streams) (objects)) (d) agent input n₆)) .resumes) (length (sample)) ≡ true) × (ltb (length (out)) (neededOf (roomy (length (out)) ((startIn (judgeOf (lent (sessions) (streams) (objects)) (d) agent input n₆)) .resumes) (countIn (judgeOf (lent (sessions) (streams) (objects)) (d) agent input n₆)) (length (sample))) (performed (startIn (judgeOf (lent (sessions) (streams) (objects)) (d) agent input n₆)) (lent (sessions) (streams) (objects)) (d) (sample) .ran .wrote)) ≡ ltb (length (out)) (performed (startIn (judgeOf (lent (sessions) (streams) (objects)) (d) agent input n₆)) (lent (sessions) (streams) (objects)) (d) (sample) .ran .wrote)) × (256 ≤ length (sessions)) × (2048 ≤ length (streams)) × (8192 ≤ length (objects))) → (len-10·yes·11-sessions : length (finish agent (lent (sessions) (streams) (objects)) (out) (startIn (judgeOf (lent (sessions) (streams) (objects)) (d) agent input n₆)) (performed (startIn (judgeOf (lent (sessions) (streams) (objects)) (d) agent input n₆)) (lent (sessions) (streams) (objects)) (d) (sample)) .tables .sessions) ≡ n₁) → (len-10·yes·11-streams : length (finish agent (lent (sessions) (streams) (objects)) (out) (startIn (judgeOf (lent (sessions) (streams) (objects)) (d) agent input n₆)) (performed (startIn (judgeOf (lent (sessions) (streams) (objects)) (d) agent input n₆)) (lent (sessions) (streams) (objects)) (d) (sample)) .tables .streams) ≡ n₂) → (len-10·yes·11-objects : length (finish agent (lent (sessions) (streams) (objects)) (out) (startIn (judgeOf (lent (sessions) (streams) (objects)) (d) agent input n₆)) (performed (startIn (judgeOf (lent (sessions) (streams) (objects)) (d) agent input n₆)) (lent (sessions) (streams) (objects)) (d) (sample)) .tables .objects) ≡ n₃) → (len-10·yes·11-out : length (finish agent (lent (sessions) (streams) (objects)) (out) (startIn (judgeOf (lent (sessions) (streams) (objects)) (d) agent input n₆)) (performed (startIn (judgeOf (lent (sessions) (streams) (objects)) (d) agent input n₆)) (lent (sessions) (streams) (objects)) (d) (sample)) .out) ≡ n₄) → (is-10·yes·11 : Is (Processed-p .row) (finish agent (lent (sessions) (streams) (objects)) (out) (startIn (judgeOf (lent (sessions) (streams) (objects)) (d) agent input n₆)) (performed (startIn (judgeOf (lent (sessions) (streams) (objects)) (d) agent input n₆)) (lent (sessions) (streams) (objects)) (d) (sample)) .processed) (Processed-p .val (finish agent (lent (sessions) (streams) (objects)) (out) (startIn (judgeOf (lent (sessions) (streams) (objects)) (d) agent input n₆)) (performed (startIn (judgeOf (lent (sessions) (streams) (objects)) (d) agent input n₆)) (lent (sessions) (streams) (objects)) (d) (sample)) .processed) ∷ [])) → Sq W (‵ (MutSlice (named 0) κ₁ (Array u64 5) .own (at-list b₁ o₁ γ₁ (finish agent (lent (sessions) (streams) (objects)) (out) (startIn (judgeOf (lent (sessions) (streams) (objects)) (d) agent input n₆)) (performed (startIn (judgeOf (lent (sessions) (streams) (objects)) (d) agent input n₆)) (lent (sessions) (streams) (objects)) (d) (sample)) .tables .sessions)) (sliceVal (b₁, o₁) n₁ ∷ [])) ∷ ‵ (flft κ₁ q₁) ∷ ‵ (MutSlice (named 0) κ₂ (Array u16 35) .own (at-list b₂ o₂ γ₂ (finish agent (lent (sessions) (streams) (objects)) (out) (startIn (judgeOf (lent (sessions) (streams) (objects)) (d) agent input n₆)) (performed (startIn (judgeOf (lent (sessions) (streams) (objects)) (d) agent input n₆)) (lent (sessions) (streams) (objects)) (d) (sample)) .tables .streams)) (sliceVal (b₂, o₂) n₂ ∷ [])) ∷ ‵ (flft κ₂ q₂) ∷ ‵ (MutSlice (named 0) κ₃ Object-t.the-row .own (at-list b₃ o₃ γ₃ (finish agent (lent (sessions) (streams) (objects)) (out) (startIn (judgeOf (lent (sessions) (streams) (objects)) (d) agent input n₆)) (performed (startIn (judgeOf (lent (sessions) (streams) (objects)) (d) agent input n₆)) (lent (sessions) (streams) (objects)) (d) (sample)) .tables .objects)) (sliceVal (b₃, o₃) n₃ ∷ [])) ∷ ‵ (flft κ₃ q₃) ∷ ‵ (MutSlice (named 0) κ₄ u8 .own (at-list b₄ o₄ γ₄ (finish agent (lent (sessions) (streams) (objects)) (out) (startIn (judgeOf (lent (sessions) (streams) (objects)) (d) agent input n₆)) (performed (startIn (judgeOf (lent (sessions) (streams) (objects)) (d) agent input n₆)) (lent (sessions) (streams) (objects)) (d) (sample)) .out)) (sliceVal (b₄, o₄) n₄ ∷ [])) ∷ ‵ (flft κ₄ q₄) ∷ ‵ (ShrSlice (named 0) κ₅ u8 .own (at-list b₅ o₅ γ₅ d) (sliceVal (b₅, o₅) n₅ ∷ [])) ∷ ‵ (flft κ₅ q₅) ∷ ‵ (ShrSlice (named 0) κ₆ u8 .own (at-list b₆ o₆ γ₆ sample) (sliceVal (b₆, o₆) n₆ ∷ [])) ∷ ‵ (flft κ₆ q₆) ∷ full 𝓤 (sliceTy (tyRef erased mut (pointee (u8 .written)))) l₂₉ (sliceVal (b₄, o₄) n₄) (full 𝓤 (tyRef erased mut (pointee (u8 .written))) l₂₈ (vptr b₄ o₄) (full 𝓤 (sliceTy (tyRef erased mut (pointee (Object-t.the-row .written)))) l₂₇ (sliceVal (b₃, o₃) n₃) (full 𝓤 (tyRef erased mut (pointee (Object-t.the-row .written))) l₂₆ (vptr b₃ o₃) (full 𝓤 (sliceTy (tyRef erased mut (pointee ((Array u16 35) .written)))) l₂₅ (sliceVal (b₂, o₂) n₂) (full 𝓤 (tyRef erased mut (pointee ((Array u16 35) .written))) l₂₄ (vptr b₂ o₂) (full 𝓤 (sliceTy (tyRef erased mut (pointee ((Array u64 5) .written)))) l₂₃ (sliceVal (b₁, o₁) n₁) (full 𝓤 (tyRef erased mut (pointee ((Array u64 5) .written))) l₂₂ (vptr b₁ o₁) (full 𝓤 Processed-l.mir l₂₁ (Processed-p .val (finish agent (lent (sessions) (streams) (objects)) (out) (startIn (judgeOf (lent (sessions) (streams) (objects)) (d) agent input n₆)) (performed (startIn (judgeOf (lent (sessions) (streams) (objects)) (d) agent input n₆)) (lent (sessions) (streams) (objects)) (d) (sample)) .processed)) (full 𝓤 tyBool l₂₀ (bool-p .val (goesOf (judgeOf (lent (sessions) (streams) (objects)) (d) agent input n₆))) (full 𝓤 (sliceTy (tyRef erased imm (pointee (Object-t.the-row .written)))) l₁₉ (sliceVal (b₃, o₃) n₃) (full 𝓤 (tyRef erased imm (pointee (Object-t.the-row .written))) l₁₈ (vptr b₃ o₃) (full 𝓤 (sliceTy (tyRef erased imm (pointee ((Array u16 35) .written)))) l₁₇ (sliceVal (b₂, o₂) n₂) (full 𝓤 (tyRef erased imm (pointee ((Array u16 35) .written))) l₁₆ (vptr b₂ o₂) (full 𝓤 (sliceTy (tyRef erased imm (pointee ((Array u64 5) .written)))) l₁₅ (sliceVal (b₁, o₁) n₁) (full 𝓤 (tyRef erased imm (pointee ((Array u64 5) .written))) l₁₄ (vptr b₁ o₁) (free 𝓤 Refusal-l.mir l₁₃ (full 𝓤 (tyInt w64) l₁₂ (u64-p .val (countIn (judgeOf (lent (sessions) (streams) (objects)) (d) agent input n₆))) (full 𝓤 Start-l.mir l₁₁ (Start-p .val (startIn (judgeOf (lent (sessions) (streams) (objects)) (d) agent input n₆))) (full 𝓤 Judged-l.mir l₁₀ (Judged-p .val (judgeOf (lent (sessions) (streams) (objects)) (d) agent input n₆)) (full 𝓤 (tyInt w64) l₉ (u64-p .val n₆) (full 𝓤 Input-l.mir l₈ (Input-p .val input) (full 𝓤 Agent-l.mir l₇ (Agent-p .val agent) (full 𝓤 (sliceTy (tyRef (named 5) imm (pointee (u8 .written)))) l₆ (sliceVal (b₆, o₆) n₆) (full 𝓤 (sliceTy (tyRef (named 4) imm (pointee (u8 .written)))) l₅ (sliceVal (b₅, o₅) n₅) (full 𝓤 (sliceTy (tyRef (named 3) mut (pointee (u8 .written)))) l₄ (sliceVal (b₄, o₄) n₄) (full 𝓤 (sliceTy (tyRef (named 2) mut (pointee (Object-t.the-row .written)))) l₃ (sliceVal (b₃, o₃) n₃) (full 𝓤 (sliceTy (tyRef (named 1) mut (pointee ((Array u16 35) .written)))) l₂ (sliceVal (b₂, o₂) n₂) (full 𝓤 (sliceTy (tyRef (named 0) mut (pointee ((Array u64 5) .written)))) l₁ (sliceVal (b₁, o₁) n₁) (free 𝓤 Processed-l.mir l₀ ([]))))))))))))))))))))))))))))))) (runs C Λ En mir.t-11 (atRet En Post))
-    part-11-0 is-8 is-9 c-10 is-10·yes·1 is-10·yes·2 asks-10·yes·11 len-10·yes·11-sessions len-10·yes·11-streams len-10·yes·11-objects len-10·yes·11-out is-10·yes·11 =
-        assigns ! (of-opd ! (load ! (from ! (stop !)) (look ! 28 refl))) (from ! (stop !)) (init ! 70 refl (Processed-p .typed 𝓤 H A W (finish agent (lent (sessions) (streams) (objects)) (out) (startIn (judgeOf (lent (sessions) (streams) (objects)) (d) agent input n₆)) (performed (startIn (judgeOf (lent (sessions) (streams) (objects)) (d) agent input n₆)) (lent (sessions) (streams) (objects)) (d) (sample)) .processed) is-10·yes·11)) $
-        returns ! (look ! 70 refl) $ forget ! 12 refl $ forget ! 14 refl $ forget ! 16 refl $ forget ! 18 refl $ forget ! 20 refl $ forget ! 22 refl $ forget ! 24 refl $ forget ! 26 refl $ forget ! 28 refl $ forget ! 30 refl $ forget ! 32 refl $ forget ! 34 refl $ forget ! 36 refl $ forget ! 38 refl $ forget ! 40 refl $ forget ! 42 refl $ forget ! 46 refl $ forget ! 48 refl $ forget ! 50 refl $ forget ! 52 refl $
-        frees-all (finish agent (lent (sessions) (streams) (objects)) (out) (startIn (judgeOf (lent (sessions) (streams) (objects)) (d) agent input n₆)) (performed (startIn (judgeOf (lent (sessions) (streams) (objects)) (d) agent input n₆)) (lent (sessions) (streams) (objects)) (d) (sample)) .processed) (finish agent (lent (sessions) (streams) (objects)) (out) (startIn (judgeOf (lent (sessions) (streams) (objects)) (d) agent input n₆)) (performed (startIn (judgeOf (lent (sessions) (streams) (objects)) (d) agent input n₆)) (lent (sessions) (streams) (objects)) (d) (sample)) .tables .sessions) (finish agent (lent (sessions) (streams) (objects)) (out) (startIn (judgeOf (lent (sessions) (streams) (objects)) (d) agent input n₆)) (performed (startIn (judgeOf (lent (sessions) (streams) (objects)) (d) agent input n₆)) (lent (sessions) (streams) (objects)) (d) (sample)) .tables .streams) (finish agent (lent (sessions) (streams) (objects)) (out) (startIn (judgeOf (lent (sessions) (streams) (objects)) (d) agent input n₆)) (performed (startIn (judgeOf (lent (sessions) (streams) (objects)) (d) agent input n₆)) (lent (sessions) (streams) (objects)) (d) (sample)) .tables .objects) (finish agent (lent (sessions) (streams) (objects)) (out) (startIn (judgeOf (lent (sessions) (streams) (objects)) (d) agent input n₆)) (performed (startIn (judgeOf (lent (sessions) (streams) (objects)) (d) agent input n₆)) (lent (sessions) (streams) (objects)) (d) (sample)) .out) (exits (finish agent (lent (sessions) (streams) (objects)) (out) (startIn (judgeOf (lent (sessions) (streams) (objects)) (d) agent input n₆)) (performed (startIn (judgeOf (lent (sessions) (streams) (objects)) (d) agent input n₆)) (lent (sessions) (streams) (objects)) (d) (sample)) .processed) (finish agent (lent (sessions) (streams) (objects)) (out) (startIn (judgeOf (lent (sessions) (streams) (objects)) (d) agent input n₆)) (performed (startIn (judgeOf (lent (sessions) (streams) (objects)) (d) agent input n₆)) (lent (sessions) (streams) (objects)) (d) (sample)) .tables .sessions) (finish agent (lent (sessions) (streams) (objects)) (out) (startIn (judgeOf (lent (sessions) (streams) (objects)) (d) agent input n₆)) (performed (startIn (judgeOf (lent (sessions) (streams) (objects)) (d) agent input n₆)) (lent (sessions) (streams) (objects)) (d) (sample)) .tables .streams) (finish agent (lent (sessions) (streams) (objects)) (out) (startIn (judgeOf (lent (sessions) (streams) (objects)) (d) agent input n₆)) (performed (startIn (judgeOf (lent (sessions) (streams) (objects)) (d) agent input n₆)) (lent (sessions) (streams) (objects)) (d) (sample)) .tables .objects) (finish agent (lent (sessions) (streams) (objects)) (out) (startIn (judgeOf (lent (sessions) (streams) (objects)) (d) agent input n₆)) (performed (startIn (judgeOf (lent (sessions) (streams) (objects)) (d) agent input n₆)) (lent (sessions) (streams) (objects)) (d) (sample)) .out) (same-leaves _ _ (leaves (Judged-Goes (startIn judged) (countIn judged)) (goes-is judged c-10))) is-10·yes·11 len-10·yes·11-sessions len-10·yes·11-streams len-10·yes·11-objects len-10·yes·11-out)
+    part-12-0 : (is-8 : Is (Judged-p .row) (judgeOf (lent (sessions) (streams) (objects)) (d) agent input n₆) (Judged-p .val (judgeOf (lent (sessions) (streams) (objects)) (d) agent input n₆) ∷ [])) → (is-9 : Is (Parts-p .row) (partsOf (judgeOf (lent (sessions) (streams) (objects)) (d) agent input n₆)) (Parts-p .val (partsOf (judgeOf (lent (sessions) (streams) (objects)) (d) agent input n₆)) ∷ [])) → (c-11 : (partsOf (judgeOf (lent (sessions) (streams) (objects)) (d) agent input n₆)) .goes ≡ true) → (asks-11·yes·11 : (resumesFit (((partsOf (judgeOf (lent (sessions) (streams) (objects)) (d) agent input n₆)) .start) .resumes) (length (sample)) ≡ true) × (ltb (length (out)) (neededOf (roomy (length (out)) (((partsOf (judgeOf (lent (sessions) (streams) (objects)) (d) agent input n₆)) .start) .resumes) ((partsOf (judgeOf (lent (sessions) (streams) (objects)) (d) agent input n₆)) .count) (length (sample))) (performed ((partsOf (judgeOf (lent (sessions) (streams) (objects)) (d) agent input n₆)) .start) (lent (sessions) (streams) (objects)) (d) (sample) .ran .wrote)) ≡ ltb (length (out)) (performed ((partsOf (judgeOf (lent (sessions) (streams) (objects)) (d) agent input n₆)) .start) (lent (sessions) (streams) (objects)) (d) (sample) .ran .wrote)) × (256 ≤ length (sessions)) × (2048 ≤ length (streams)) × (8192 ≤ length (objects))) → (len-11·yes·11-sessions : length (finish agent (lent (sessions) (streams) (objects)) (out) ((partsOf (judgeOf (lent (sessions) (streams) (objects)) (d) agent input n₆)) .start) (performed ((partsOf (judgeOf (lent (sessions) (streams) (objects)) (d) agent input n₆)) .start) (lent (sessions) (streams) (objects)) (d) (sample)) .tables .sessions) ≡ n₁) → (len-11·yes·11-streams : length (finish agent (lent (sessions) (streams) (objects)) (out) ((partsOf (judgeOf (lent (sessions) (streams) (objects)) (d) agent input n₆)) .start) (performed ((partsOf (judgeOf (lent (sessions) (streams) (objects)) (d) agent input n₆)) .start) (lent (sessions) (streams) (objects)) (d) (sample)) .tables .streams) ≡ n₂) → (len-11·yes·11-objects : length (finish agent (lent (sessions) (streams) (objects)) (out) ((partsOf (judgeOf (lent (sessions) (streams) (objects)) (d) agent input n₆)) .start) (performed ((partsOf (judgeOf (lent (sessions) (streams) (objects)) (d) agent input n₆)) .start) (lent (sessions) (streams) (objects)) (d) (sample)) .tables .objects) ≡ n₃) → (len-11·yes·11-out : length (finish agent (lent (sessions) (streams) (objects)) (out) ((partsOf (judgeOf (lent (sessions) (streams) (objects)) (d) agent input n₆)) .start) (performed ((partsOf (judgeOf (lent (sessions) (streams) (objects)) (d) agent input n₆)) .start) (lent (sessions) (streams) (objects)) (d) (sample)) .out) ≡ n₄) → (is-11·yes·11 : Is (Processed-p .row) (finish agent (lent (sessions) (streams) (objects)) (out) ((partsOf (judgeOf (lent (sessions) (streams) (objects)) (d) agent input n₆)) .start) (performed ((partsOf (judgeOf (lent (sessions) (streams) (objects)) (d) agent input n₆)) .start) (lent (sessions) (streams) (objects)) (d) (sample)) .processed) (Processed-p .val (finish agent (lent (sessions) (streams) (objects)) (out) ((partsOf (judgeOf (lent (sessions) (streams) (objects)) (d) agent input n₆)) .start) (performed ((partsOf (judgeOf (lent (sessions) (streams) (objects)) (d) agent input n₆)) .start) (lent (sessions) (streams) (objects)) (d) (sample)) .processed) ∷ [])) → Sq W (‵ (MutSlice (named 0) κ₁ (Array u64 5) .own (at-list b₁ o₁ γ₁ (finish agent (lent (sessions) (streams) (objects)) (out) ((partsOf (judgeOf (lent (sessions) (streams) (objects)) (d) agent input n₆)) .start) (performed ((partsOf (judgeOf (lent (sessions) (streams) (objects)) (d) agent input n₆)) .start) (lent (sessions) (streams) (objects)) (d) (sample)) .tables .sessions)) (sliceVal (b₁, o₁) n₁ ∷ [])) ∷ ‵ (flft κ₁ q₁) ∷ ‵ (MutSlice (named 0) κ₂ (Array u16 35) .own (at-list b₂ o₂ γ₂ (finish agent (lent (sessions) (streams) (objects)) (out) ((partsOf (judgeOf (lent (sessions) (streams) (objects)) (d) agent input n₆)) .start) (performed ((partsOf (judgeOf (lent (sessions) (streams) (objects)) (d) agent input n₆)) .start) (lent (sessions) (streams) (objects)) (d) (sample)) .tables .streams)) (sliceVal (b₂, o₂) n₂ ∷ [])) ∷ ‵ (flft κ₂ q₂) ∷ ‵ (MutSlice (named 0) κ₃ Object-t.the-row .own (at-list b₃ o₃ γ₃ (finish agent (lent (sessions) (streams) (objects)) (out) ((partsOf (judgeOf (lent (sessions) (streams) (objects)) (d) agent input n₆)) .start) (performed ((partsOf (judgeOf (lent (sessions) (streams) (objects)) (d) agent input n₆)) .start) (lent (sessions) (streams) (objects)) (d) (sample)) .tables .objects)) (sliceVal (b₃, o₃) n₃ ∷ [])) ∷ ‵ (flft κ₃ q₃) ∷ ‵ (MutSlice (named 0) κ₄ u8 .own (at-list b₄ o₄ γ₄ (finish agent (lent (sessions) (streams) (objects)) (out) ((partsOf (judgeOf (lent (sessions) (streams) (objects)) (d) agent input n₆)) .start) (performed ((partsOf (judgeOf (lent (sessions) (streams) (objects)) (d) agent input n₆)) .start) (lent (sessions) (streams) (objects)) (d) (sample)) .out)) (sliceVal (b₄, o₄) n₄ ∷ [])) ∷ ‵ (flft κ₄ q₄) ∷ ‵ (ShrSlice (named 0) κ₅ u8 .own (at-list b₅ o₅ γ₅ d) (sliceVal (b₅, o₅) n₅ ∷ [])) ∷ ‵ (flft κ₅ q₅) ∷ ‵ (ShrSlice (named 0) κ₆ u8 .own (at-list b₆ o₆ γ₆ sample) (sliceVal (b₆, o₆) n₆ ∷ [])) ∷ ‵ (flft κ₆ q₆) ∷ full 𝓤 (sliceTy (tyRef erased mut (pointee (u8 .written)))) l₃₀ (sliceVal (b₄, o₄) n₄) (full 𝓤 (tyRef erased mut (pointee (u8 .written))) l₂₉ (vptr b₄ o₄) (full 𝓤 (sliceTy (tyRef erased mut (pointee (Object-t.the-row .written)))) l₂₈ (sliceVal (b₃, o₃) n₃) (full 𝓤 (tyRef erased mut (pointee (Object-t.the-row .written))) l₂₇ (vptr b₃ o₃) (full 𝓤 (sliceTy (tyRef erased mut (pointee ((Array u16 35) .written)))) l₂₆ (sliceVal (b₂, o₂) n₂) (full 𝓤 (tyRef erased mut (pointee ((Array u16 35) .written))) l₂₅ (vptr b₂ o₂) (full 𝓤 (sliceTy (tyRef erased mut (pointee ((Array u64 5) .written)))) l₂₄ (sliceVal (b₁, o₁) n₁) (full 𝓤 (tyRef erased mut (pointee ((Array u64 5) .written))) l₂₃ (vptr b₁ o₁) (full 𝓤 Processed-l.mir l₂₂ (Processed-p .val (finish agent (lent (sessions) (streams) (objects)) (out) ((partsOf (judgeOf (lent (sessions) (streams) (objects)) (d) agent input n₆)) .start) (performed ((partsOf (judgeOf (lent (sessions) (streams) (objects)) (d) agent input n₆)) .start) (lent (sessions) (streams) (objects)) (d) (sample)) .processed)) (full 𝓤 tyBool l₂₁ (bool-p .val ((partsOf (judgeOf (lent (sessions) (streams) (objects)) (d) agent input n₆)) .goes)) (full 𝓤 (sliceTy (tyRef erased imm (pointee (Object-t.the-row .written)))) l₂₀ (sliceVal (b₃, o₃) n₃) (full 𝓤 (tyRef erased imm (pointee (Object-t.the-row .written))) l₁₉ (vptr b₃ o₃) (full 𝓤 (sliceTy (tyRef erased imm (pointee ((Array u16 35) .written)))) l₁₈ (sliceVal (b₂, o₂) n₂) (full 𝓤 (tyRef erased imm (pointee ((Array u16 35) .written))) l₁₇ (vptr b₂ o₂) (full 𝓤 (sliceTy (tyRef erased imm (pointee ((Array u64 5) .written)))) l₁₆ (sliceVal (b₁, o₁) n₁) (full 𝓤 (tyRef erased imm (pointee ((Array u64 5) .written))) l₁₅ (vptr b₁ o₁) (free 𝓤 Refusal-l.mir l₁₄ (full 𝓤 (tyInt w64) l₁₃ (u64-p .val ((partsOf (judgeOf (lent (sessions) (streams) (objects)) (d) agent input n₆)) .count)) (full 𝓤 Start-l.mir l₁₂ (Start-p .val ((partsOf (judgeOf (lent (sessions) (streams) (objects)) (d) agent input n₆)) .start)) (full 𝓤 Parts-l.mir l₁₁ (Parts-p .val (partsOf (judgeOf (lent (sessions) (streams) (objects)) (d) agent input n₆))) (full 𝓤 Judged-l.mir l₁₀ (Judged-p .val (judgeOf (lent (sessions) (streams) (objects)) (d) agent input n₆)) (full 𝓤 (tyInt w64) l₉ (u64-p .val n₆) (full 𝓤 Input-l.mir l₈ (Input-p .val input) (full 𝓤 Agent-l.mir l₇ (Agent-p .val agent) (full 𝓤 (sliceTy (tyRef (named 5) imm (pointee (u8 .written)))) l₆ (sliceVal (b₆, o₆) n₆) (full 𝓤 (sliceTy (tyRef (named 4) imm (pointee (u8 .written)))) l₅ (sliceVal (b₅, o₅) n₅) (full 𝓤 (sliceTy (tyRef (named 3) mut (pointee (u8 .written)))) l₄ (sliceVal (b₄, o₄) n₄) (full 𝓤 (sliceTy (tyRef (named 2) mut (pointee (Object-t.the-row .written)))) l₃ (sliceVal (b₃, o₃) n₃) (full 𝓤 (sliceTy (tyRef (named 1) mut (pointee ((Array u16 35) .written)))) l₂ (sliceVal (b₂, o₂) n₂) (full 𝓤 (sliceTy (tyRef (named 0) mut (pointee ((Array u64 5) .written)))) l₁ (sliceVal (b₁, o₁) n₁) (free 𝓤 Processed-l.mir l₀ ([])))))))))))))))))))))))))))))))) (runs C Λ En mir.t-12 (atRet En Post))
+    part-12-0 is-8 is-9 c-11 asks-11·yes·11 len-11·yes·11-sessions len-11·yes·11-streams len-11·yes·11-objects len-11·yes·11-out is-11·yes·11 =
+        assigns ! (of-opd ! (load ! (from ! (stop !)) (look ! 28 refl))) (from ! (stop !)) (init ! 72 refl (Processed-p .typed 𝓤 H A W (finish agent (lent (sessions) (streams) (objects)) (out) ((partsOf (judgeOf (lent (sessions) (streams) (objects)) (d) agent input n₆)) .start) (performed ((partsOf (judgeOf (lent (sessions) (streams) (objects)) (d) agent input n₆)) .start) (lent (sessions) (streams) (objects)) (d) (sample)) .processed) is-11·yes·11)) $
+        returns ! (look ! 72 refl) $ forget ! 12 refl $ forget ! 14 refl $ forget ! 16 refl $ forget ! 18 refl $ forget ! 20 refl $ forget ! 22 refl $ forget ! 24 refl $ forget ! 26 refl $ forget ! 28 refl $ forget ! 30 refl $ forget ! 32 refl $ forget ! 34 refl $ forget ! 36 refl $ forget ! 38 refl $ forget ! 40 refl $ forget ! 42 refl $ forget ! 46 refl $ forget ! 48 refl $ forget ! 50 refl $ forget ! 52 refl $ forget ! 54 refl $
+        frees-all (finish agent (lent (sessions) (streams) (objects)) (out) ((partsOf (judgeOf (lent (sessions) (streams) (objects)) (d) agent input n₆)) .start) (performed ((partsOf (judgeOf (lent (sessions) (streams) (objects)) (d) agent input n₆)) .start) (lent (sessions) (streams) (objects)) (d) (sample)) .processed) (finish agent (lent (sessions) (streams) (objects)) (out) ((partsOf (judgeOf (lent (sessions) (streams) (objects)) (d) agent input n₆)) .start) (performed ((partsOf (judgeOf (lent (sessions) (streams) (objects)) (d) agent input n₆)) .start) (lent (sessions) (streams) (objects)) (d) (sample)) .tables .sessions) (finish agent (lent (sessions) (streams) (objects)) (out) ((partsOf (judgeOf (lent (sessions) (streams) (objects)) (d) agent input n₆)) .start) (performed ((partsOf (judgeOf (lent (sessions) (streams) (objects)) (d) agent input n₆)) .start) (lent (sessions) (streams) (objects)) (d) (sample)) .tables .streams) (finish agent (lent (sessions) (streams) (objects)) (out) ((partsOf (judgeOf (lent (sessions) (streams) (objects)) (d) agent input n₆)) .start) (performed ((partsOf (judgeOf (lent (sessions) (streams) (objects)) (d) agent input n₆)) .start) (lent (sessions) (streams) (objects)) (d) (sample)) .tables .objects) (finish agent (lent (sessions) (streams) (objects)) (out) ((partsOf (judgeOf (lent (sessions) (streams) (objects)) (d) agent input n₆)) .start) (performed ((partsOf (judgeOf (lent (sessions) (streams) (objects)) (d) agent input n₆)) .start) (lent (sessions) (streams) (objects)) (d) (sample)) .out) (exits (finish agent (lent (sessions) (streams) (objects)) (out) ((partsOf (judgeOf (lent (sessions) (streams) (objects)) (d) agent input n₆)) .start) (performed ((partsOf (judgeOf (lent (sessions) (streams) (objects)) (d) agent input n₆)) .start) (lent (sessions) (streams) (objects)) (d) (sample)) .processed) (finish agent (lent (sessions) (streams) (objects)) (out) ((partsOf (judgeOf (lent (sessions) (streams) (objects)) (d) agent input n₆)) .start) (performed ((partsOf (judgeOf (lent (sessions) (streams) (objects)) (d) agent input n₆)) .start) (lent (sessions) (streams) (objects)) (d) (sample)) .tables .sessions) (finish agent (lent (sessions) (streams) (objects)) (out) ((partsOf (judgeOf (lent (sessions) (streams) (objects)) (d) agent input n₆)) .start) (performed ((partsOf (judgeOf (lent (sessions) (streams) (objects)) (d) agent input n₆)) .start) (lent (sessions) (streams) (objects)) (d) (sample)) .tables .streams) (finish agent (lent (sessions) (streams) (objects)) (out) ((partsOf (judgeOf (lent (sessions) (streams) (objects)) (d) agent input n₆)) .start) (performed ((partsOf (judgeOf (lent (sessions) (streams) (objects)) (d) agent input n₆)) .start) (lent (sessions) (streams) (objects)) (d) (sample)) .tables .objects) (finish agent (lent (sessions) (streams) (objects)) (out) ((partsOf (judgeOf (lent (sessions) (streams) (objects)) (d) agent input n₆)) .start) (performed ((partsOf (judgeOf (lent (sessions) (streams) (objects)) (d) agent input n₆)) .start) (lent (sessions) (streams) (objects)) (d) (sample)) .out) (same-leaves _ _ (leaves (Judged-Goes (partsOf judged .start) (partsOf judged .count)) (goes-is judged c-11))) is-11·yes·11 len-11·yes·11-sessions len-11·yes·11-streams len-11·yes·11-objects len-11·yes·11-out)
 
-    part-10·yes·3-0 : (is-8 : Is (Judged-p .row) (judgeOf (lent (sessions) (streams) (objects)) (d) agent input n₆) (Judged-p .val (judgeOf (lent (sessions) (streams) (objects)) (d) agent input n₆) ∷ [])) → (is-9 : Is (bool-p .row) (goesOf (judgeOf (lent (sessions) (streams) (objects)) (d) agent input n₆)) (bool-p .val (goesOf (judgeOf (lent (sessions) (streams) (objects)) (d) agent input n₆)) ∷ [])) → (c-10 : goesOf (judgeOf (lent (sessions) (streams) (objects)) (d) agent input n₆) ≡ true) → (is-10·yes·1 : Is (Start-p .row) (startIn (judgeOf (lent (sessions) (streams) (objects)) (d) agent input n₆)) (Start-p .val (startIn (judgeOf (lent (sessions) (streams) (objects)) (d) agent input n₆)) ∷ [])) → (is-10·yes·2 : Is (u64-p .row) (countIn (judgeOf (lent (sessions) (streams) (objects)) (d) agent input n₆)) (u64-p .val (countIn (judgeOf (lent (sessions) (streams) (objects)) (d) agent input n₆)) ∷ [])) → Sq W (‵ (MutSlice (named 0) κ₁ (Array u64 5) .own (at-list b₁ o₁ γ₁ sessions) (sliceVal (b₁, o₁) n₁ ∷ [])) ∷ ‵ (flft κ₁ q₁) ∷ ‵ (MutSlice (named 0) κ₂ (Array u16 35) .own (at-list b₂ o₂ γ₂ streams) (sliceVal (b₂, o₂) n₂ ∷ [])) ∷ ‵ (flft κ₂ q₂) ∷ ‵ (MutSlice (named 0) κ₃ Object-t.the-row .own (at-list b₃ o₃ γ₃ objects) (sliceVal (b₃, o₃) n₃ ∷ [])) ∷ ‵ (flft κ₃ q₃) ∷ ‵ (MutSlice (named 0) κ₄ u8 .own (at-list b₄ o₄ γ₄ out) (sliceVal (b₄, o₄) n₄ ∷ [])) ∷ ‵ (flft κ₄ q₄) ∷ ‵ (ShrSlice (named 0) κ₅ u8 .own (at-list b₅ o₅ γ₅ d) (sliceVal (b₅, o₅) n₅ ∷ [])) ∷ ‵ (flft κ₅ q₅) ∷ ‵ (ShrSlice (named 0) κ₆ u8 .own (at-list b₆ o₆ γ₆ sample) (sliceVal (b₆, o₆) n₆ ∷ [])) ∷ ‵ (flft κ₆ q₆) ∷ free 𝓤 (sliceTy (tyRef erased mut (pointee (u8 .written)))) l₂₉ (free 𝓤 (tyRef erased mut (pointee (u8 .written))) l₂₈ (free 𝓤 (sliceTy (tyRef erased mut (pointee (Object-t.the-row .written)))) l₂₇ (free 𝓤 (tyRef erased mut (pointee (Object-t.the-row .written))) l₂₆ (free 𝓤 (sliceTy (tyRef erased mut (pointee ((Array u16 35) .written)))) l₂₅ (free 𝓤 (tyRef erased mut (pointee ((Array u16 35) .written))) l₂₄ (free 𝓤 (sliceTy (tyRef erased mut (pointee ((Array u64 5) .written)))) l₂₃ (free 𝓤 (tyRef erased mut (pointee ((Array u64 5) .written))) l₂₂ (free 𝓤 Processed-l.mir l₂₁ (full 𝓤 tyBool l₂₀ (bool-p .val (goesOf (judgeOf (lent (sessions) (streams) (objects)) (d) agent input n₆))) (full 𝓤 (sliceTy (tyRef erased imm (pointee (Object-t.the-row .written)))) l₁₉ (sliceVal (b₃, o₃) n₃) (full 𝓤 (tyRef erased imm (pointee (Object-t.the-row .written))) l₁₈ (vptr b₃ o₃) (full 𝓤 (sliceTy (tyRef erased imm (pointee ((Array u16 35) .written)))) l₁₇ (sliceVal (b₂, o₂) n₂) (full 𝓤 (tyRef erased imm (pointee ((Array u16 35) .written))) l₁₆ (vptr b₂ o₂) (full 𝓤 (sliceTy (tyRef erased imm (pointee ((Array u64 5) .written)))) l₁₅ (sliceVal (b₁, o₁) n₁) (full 𝓤 (tyRef erased imm (pointee ((Array u64 5) .written))) l₁₄ (vptr b₁ o₁) (free 𝓤 Refusal-l.mir l₁₃ (full 𝓤 (tyInt w64) l₁₂ (u64-p .val (countIn (judgeOf (lent (sessions) (streams) (objects)) (d) agent input n₆))) (full 𝓤 Start-l.mir l₁₁ (Start-p .val (startIn (judgeOf (lent (sessions) (streams) (objects)) (d) agent input n₆))) (full 𝓤 Judged-l.mir l₁₀ (Judged-p .val (judgeOf (lent (sessions) (streams) (objects)) (d) agent input n₆)) (full 𝓤 (tyInt w64) l₉ (u64-p .val n₆) (full 𝓤 Input-l.mir l₈ (Input-p .val input) (full 𝓤 Agent-l.mir l₇ (Agent-p .val agent) (full 𝓤 (sliceTy (tyRef (named 5) imm (pointee (u8 .written)))) l₆ (sliceVal (b₆, o₆) n₆) (full 𝓤 (sliceTy (tyRef (named 4) imm (pointee (u8 .written)))) l₅ (sliceVal (b₅, o₅) n₅) (full 𝓤 (sliceTy (tyRef (named 3) mut (pointee (u8 .written)))) l₄ (sliceVal (b₄, o₄) n₄) (full 𝓤 (sliceTy (tyRef (named 2) mut (pointee (Object-t.the-row .written)))) l₃ (sliceVal (b₃, o₃) n₃) (full 𝓤 (sliceTy (tyRef (named 1) mut (pointee ((Array u16 35) .written)))) l₂ (sliceVal (b₂, o₂) n₂) (full 𝓤 (sliceTy (tyRef (named 0) mut (pointee ((Array u64 5) .written)))) l₁ (sliceVal (b₁, o₁) n₁) (free 𝓤 Processed-l.mir l₀ ([]))))))))))))))))))))))))))))))) (runs C Λ En (past 2 (yes-of (one mir.t-10))) (anyQ (afterSeq 𝓤 H (Wp 𝓤 H C Λ En mir.t-11 (atReturn 𝓤 H En Post)) (atReturn 𝓤 H En Post))))
-    part-10·yes·3-0 is-8 is-9 c-10 is-10·yes·1 is-10·yes·2 =
-        assigns ! (addr ! (from ! (fld ! refl (hop ! (look-in ! 68 (sub ! 0 refl (whole !))) (stop !))))) (from ! (stop !)) (init ! 26 refl (tt, tt)) $
-        assigns ! (agg ! (and-then ! (load ! (from ! (stop !)) (look ! 26 refl)) (and-then ! (load ! (from ! (fld ! refl (stop !))) (look-in ! 68 (sub ! 1 refl (whole !)))) (no-more !)))) (from ! (stop !)) (init ! 24 refl (tt, (tt, (record { fits = room₁ .0 }, tt)))) $
-        assigns ! (addr ! (from ! (fld ! refl (hop ! (look-in ! 66 (sub ! 0 refl (whole !))) (stop !))))) (from ! (stop !)) (init ! 22 refl (tt, tt)) $
-        assigns ! (agg ! (and-then ! (load ! (from ! (stop !)) (look ! 22 refl)) (and-then ! (load ! (from ! (fld ! refl (stop !))) (look-in ! 66 (sub ! 1 refl (whole !)))) (no-more !)))) (from ! (stop !)) (init ! 20 refl (tt, (tt, (record { fits = room₂ .0 }, tt)))) $
-        assigns ! (addr ! (from ! (fld ! refl (hop ! (look-in ! 64 (sub ! 0 refl (whole !))) (stop !))))) (from ! (stop !)) (init ! 18 refl (tt, tt)) $
-        assigns ! (agg ! (and-then ! (load ! (from ! (stop !)) (look ! 18 refl)) (and-then ! (load ! (from ! (fld ! refl (stop !))) (look-in ! 64 (sub ! 1 refl (whole !)))) (no-more !)))) (from ! (stop !)) (init ! 16 refl (tt, (tt, (record { fits = room₃ .0 }, tt)))) $
-        assigns ! (addr ! (from ! (fld ! refl (hop ! (look-in ! 62 (sub ! 0 refl (whole !))) (stop !))))) (from ! (stop !)) (init ! 14 refl (tt, tt)) $
-        assigns ! (agg ! (and-then ! (load ! (from ! (stop !)) (look ! 14 refl)) (and-then ! (load ! (from ! (fld ! refl (stop !))) (look-in ! 62 (sub ! 1 refl (whole !)))) (no-more !)))) (from ! (stop !)) (init ! 12 refl (tt, (tt, (record { fits = room₄ .0 }, tt)))) $
-        knows ! ((resumesFit ((startIn (judgeOf (lent (sessions) (streams) (objects)) (d) agent input n₆)) .resumes) (length (sample)) ≡ true) × (ltb (length (out)) (neededOf (roomy (length (out)) ((startIn (judgeOf (lent (sessions) (streams) (objects)) (d) agent input n₆)) .resumes) (countIn (judgeOf (lent (sessions) (streams) (objects)) (d) agent input n₆)) (length (sample))) (performed (startIn (judgeOf (lent (sessions) (streams) (objects)) (d) agent input n₆)) (lent (sessions) (streams) (objects)) (d) (sample) .ran .wrote)) ≡ ltb (length (out)) (performed (startIn (judgeOf (lent (sessions) (streams) (objects)) (d) agent input n₆)) (lent (sessions) (streams) (objects)) (d) (sample) .ran .wrote)) × (256 ≤ length (sessions)) × (2048 ≤ length (streams)) × (8192 ≤ length (objects))) ((let-through c-10 .sample-fits, thirteen tables-lent d sample (startIn judged) (countIn judged) (length out) (let-through c-10), let-through c-10 .sessions-long, let-through c-10 .streams-long, let-through c-10 .objects-long)) (λ asks-10·yes·11.
-        -- 10.yes.11: agent::process::go
-        lends-mut ! tt (Array u64 5) b₁ o₁ sessions n₁ (refl) (λ ν-10·yes·11-sessions δ-10·yes·11-sessions.
+    part-12-2 : (is-8 : Is (Judged-p .row) (judgeOf (lent (sessions) (streams) (objects)) (d) agent input n₆) (Judged-p .val (judgeOf (lent (sessions) (streams) (objects)) (d) agent input n₆) ∷ [])) → (is-9 : Is (Parts-p .row) (partsOf (judgeOf (lent (sessions) (streams) (objects)) (d) agent input n₆)) (Parts-p .val (partsOf (judgeOf (lent (sessions) (streams) (objects)) (d) agent input n₆)) ∷ [])) → (c-11 : (partsOf (judgeOf (lent (sessions) (streams) (objects)) (d) agent input n₆)) .goes ≡ false) → (is-11·no·2 : Is (Processed-p .row) (refusedOf agent ((partsOf (judgeOf (lent (sessions) (streams) (objects)) (d) agent input n₆)) .why)) (Processed-p .val (refusedOf agent ((partsOf (judgeOf (lent (sessions) (streams) (objects)) (d) agent input n₆)) .why)) ∷ [])) → Sq W (‵ (MutSlice (named 0) κ₁ (Array u64 5) .own (at-list b₁ o₁ γ₁ sessions) (sliceVal (b₁, o₁) n₁ ∷ [])) ∷ ‵ (flft κ₁ q₁) ∷ ‵ (MutSlice (named 0) κ₂ (Array u16 35) .own (at-list b₂ o₂ γ₂ streams) (sliceVal (b₂, o₂) n₂ ∷ [])) ∷ ‵ (flft κ₂ q₂) ∷ ‵ (MutSlice (named 0) κ₃ Object-t.the-row .own (at-list b₃ o₃ γ₃ objects) (sliceVal (b₃, o₃) n₃ ∷ [])) ∷ ‵ (flft κ₃ q₃) ∷ ‵ (MutSlice (named 0) κ₄ u8 .own (at-list b₄ o₄ γ₄ out) (sliceVal (b₄, o₄) n₄ ∷ [])) ∷ ‵ (flft κ₄ q₄) ∷ ‵ (ShrSlice (named 0) κ₅ u8 .own (at-list b₅ o₅ γ₅ d) (sliceVal (b₅, o₅) n₅ ∷ [])) ∷ ‵ (flft κ₅ q₅) ∷ ‵ (ShrSlice (named 0) κ₆ u8 .own (at-list b₆ o₆ γ₆ sample) (sliceVal (b₆, o₆) n₆ ∷ [])) ∷ ‵ (flft κ₆ q₆) ∷ free 𝓤 (sliceTy (tyRef erased mut (pointee (u8 .written)))) l₃₀ (free 𝓤 (tyRef erased mut (pointee (u8 .written))) l₂₉ (free 𝓤 (sliceTy (tyRef erased mut (pointee (Object-t.the-row .written)))) l₂₈ (free 𝓤 (tyRef erased mut (pointee (Object-t.the-row .written))) l₂₇ (free 𝓤 (sliceTy (tyRef erased mut (pointee ((Array u16 35) .written)))) l₂₆ (free 𝓤 (tyRef erased mut (pointee ((Array u16 35) .written))) l₂₅ (free 𝓤 (sliceTy (tyRef erased mut (pointee ((Array u64 5) .written)))) l₂₄ (free 𝓤 (tyRef erased mut (pointee ((Array u64 5) .written))) l₂₃ (full 𝓤 Processed-l.mir l₂₂ (Processed-p .val (refusedOf agent ((partsOf (judgeOf (lent (sessions) (streams) (objects)) (d) agent input n₆)) .why))) (full 𝓤 tyBool l₂₁ (bool-p .val ((partsOf (judgeOf (lent (sessions) (streams) (objects)) (d) agent input n₆)) .goes)) (full 𝓤 (sliceTy (tyRef erased imm (pointee (Object-t.the-row .written)))) l₂₀ (sliceVal (b₃, o₃) n₃) (full 𝓤 (tyRef erased imm (pointee (Object-t.the-row .written))) l₁₉ (vptr b₃ o₃) (full 𝓤 (sliceTy (tyRef erased imm (pointee ((Array u16 35) .written)))) l₁₈ (sliceVal (b₂, o₂) n₂) (full 𝓤 (tyRef erased imm (pointee ((Array u16 35) .written))) l₁₇ (vptr b₂ o₂) (full 𝓤 (sliceTy (tyRef erased imm (pointee ((Array u64 5) .written)))) l₁₆ (sliceVal (b₁, o₁) n₁) (full 𝓤 (tyRef erased imm (pointee ((Array u64 5) .written))) l₁₅ (vptr b₁ o₁) (full 𝓤 Refusal-l.mir l₁₄ (Refusal-p .val ((partsOf (judgeOf (lent (sessions) (streams) (objects)) (d) agent input n₆)) .why)) (free 𝓤 (tyInt w64) l₁₃ (free 𝓤 Start-l.mir l₁₂ (full 𝓤 Parts-l.mir l₁₁ (Parts-p .val (partsOf (judgeOf (lent (sessions) (streams) (objects)) (d) agent input n₆))) (full 𝓤 Judged-l.mir l₁₀ (Judged-p .val (judgeOf (lent (sessions) (streams) (objects)) (d) agent input n₆)) (full 𝓤 (tyInt w64) l₉ (u64-p .val n₆) (full 𝓤 Input-l.mir l₈ (Input-p .val input) (full 𝓤 Agent-l.mir l₇ (Agent-p .val agent) (full 𝓤 (sliceTy (tyRef (named 5) imm (pointee (u8 .written)))) l₆ (sliceVal (b₆, o₆) n₆) (full 𝓤 (sliceTy (tyRef (named 4) imm (pointee (u8 .written)))) l₅ (sliceVal (b₅, o₅) n₅) (full 𝓤 (sliceTy (tyRef (named 3) mut (pointee (u8 .written)))) l₄ (sliceVal (b₄, o₄) n₄) (full 𝓤 (sliceTy (tyRef (named 2) mut (pointee (Object-t.the-row .written)))) l₃ (sliceVal (b₃, o₃) n₃) (full 𝓤 (sliceTy (tyRef (named 1) mut (pointee ((Array u16 35) .written)))) l₂ (sliceVal (b₂, o₂) n₂) (full 𝓤 (sliceTy (tyRef (named 0) mut (pointee ((Array u64 5) .written)))) l₁ (sliceVal (b₁, o₁) n₁) (free 𝓤 Processed-l.mir l₀ ([])))))))))))))))))))))))))))))))) (runs C Λ En mir.t-12 (atRet En Post))
+    part-12-2 is-8 is-9 c-11 is-11·no·2 =
+        assigns ! (of-opd ! (load ! (from ! (stop !)) (look ! 28 refl))) (from ! (stop !)) (init ! 72 refl (Processed-p .typed 𝓤 H A W (refusedOf agent ((partsOf (judgeOf (lent (sessions) (streams) (objects)) (d) agent input n₆)) .why)) is-11·no·2)) $
+        returns ! (look ! 72 refl) $ forget ! 28 refl $ forget ! 30 refl $ forget ! 32 refl $ forget ! 34 refl $ forget ! 36 refl $ forget ! 38 refl $ forget ! 40 refl $ forget ! 42 refl $ forget ! 44 refl $ forget ! 50 refl $ forget ! 52 refl $ forget ! 54 refl $
+        frees-all (refusedOf agent ((partsOf (judgeOf (lent (sessions) (streams) (objects)) (d) agent input n₆)) .why)) sessions streams objects out (exits (refusedOf agent ((partsOf (judgeOf (lent (sessions) (streams) (objects)) (d) agent input n₆)) .why)) sessions streams objects out (same-leaves _ _ (leaves (Judged-Refused (partsOf judged .why)) (refused-is judged c-11))) is-11·no·2 refl refl refl refl)
+
+    part-10-0 : (is-8 : Is (Judged-p .row) (judgeOf (lent (sessions) (streams) (objects)) (d) agent input n₆) (Judged-p .val (judgeOf (lent (sessions) (streams) (objects)) (d) agent input n₆) ∷ [])) → (is-9 : Is (Parts-p .row) (partsOf (judgeOf (lent (sessions) (streams) (objects)) (d) agent input n₆)) (Parts-p .val (partsOf (judgeOf (lent (sessions) (streams) (objects)) (d) agent input n₆)) ∷ [])) → Sq W (‵ (MutSlice (named 0) κ₁ (Array u64 5) .own (at-list b₁ o₁ γ₁ sessions) (sliceVal (b₁, o₁) n₁ ∷ [])) ∷ ‵ (flft κ₁ q₁) ∷ ‵ (MutSlice (named 0) κ₂ (Array u16 35) .own (at-list b₂ o₂ γ₂ streams) (sliceVal (b₂, o₂) n₂ ∷ [])) ∷ ‵ (flft κ₂ q₂) ∷ ‵ (MutSlice (named 0) κ₃ Object-t.the-row .own (at-list b₃ o₃ γ₃ objects) (sliceVal (b₃, o₃) n₃ ∷ [])) ∷ ‵ (flft κ₃ q₃) ∷ ‵ (MutSlice (named 0) κ₄ u8 .own (at-list b₄ o₄ γ₄ out) (sliceVal (b₄, o₄) n₄ ∷ [])) ∷ ‵ (flft κ₄ q₄) ∷ ‵ (ShrSlice (named 0) κ₅ u8 .own (at-list b₅ o₅ γ₅ d) (sliceVal (b₅, o₅) n₅ ∷ [])) ∷ ‵ (flft κ₅ q₅) ∷ ‵ (ShrSlice (named 0) κ₆ u8 .own (at-list b₆ o₆ γ₆ sample) (sliceVal (b₆, o₆) n₆ ∷ [])) ∷ ‵ (flft κ₆ q₆) ∷ free 𝓤 (sliceTy (tyRef erased mut (pointee (u8 .written)))) l₃₀ (free 𝓤 (tyRef erased mut (pointee (u8 .written))) l₂₉ (free 𝓤 (sliceTy (tyRef erased mut (pointee (Object-t.the-row .written)))) l₂₈ (free 𝓤 (tyRef erased mut (pointee (Object-t.the-row .written))) l₂₇ (free 𝓤 (sliceTy (tyRef erased mut (pointee ((Array u16 35) .written)))) l₂₆ (free 𝓤 (tyRef erased mut (pointee ((Array u16 35) .written))) l₂₅ (free 𝓤 (sliceTy (tyRef erased mut (pointee ((Array u64 5) .written)))) l₂₄ (free 𝓤 (tyRef erased mut (pointee ((Array u64 5) .written))) l₂₃ (free 𝓤 Processed-l.mir l₂₂ (free 𝓤 tyBool l₂₁ (full 𝓤 (sliceTy (tyRef erased imm (pointee (Object-t.the-row .written)))) l₂₀ (sliceVal (b₃, o₃) n₃) (full 𝓤 (tyRef erased imm (pointee (Object-t.the-row .written))) l₁₉ (vptr b₃ o₃) (full 𝓤 (sliceTy (tyRef erased imm (pointee ((Array u16 35) .written)))) l₁₈ (sliceVal (b₂, o₂) n₂) (full 𝓤 (tyRef erased imm (pointee ((Array u16 35) .written))) l₁₇ (vptr b₂ o₂) (full 𝓤 (sliceTy (tyRef erased imm (pointee ((Array u64 5) .written)))) l₁₆ (sliceVal (b₁, o₁) n₁) (full 𝓤 (tyRef erased imm (pointee ((Array u64 5) .written))) l₁₅ (vptr b₁ o₁) (free 𝓤 Refusal-l.mir l₁₄ (free 𝓤 (tyInt w64) l₁₃ (free 𝓤 Start-l.mir l₁₂ (full 𝓤 Parts-l.mir l₁₁ (Parts-p .val (partsOf (judgeOf (lent (sessions) (streams) (objects)) (d) agent input n₆))) (full 𝓤 Judged-l.mir l₁₀ (Judged-p .val (judgeOf (lent (sessions) (streams) (objects)) (d) agent input n₆)) (full 𝓤 (tyInt w64) l₉ (u64-p .val n₆) (full 𝓤 Input-l.mir l₈ (Input-p .val input) (full 𝓤 Agent-l.mir l₇ (Agent-p .val agent) (full 𝓤 (sliceTy (tyRef (named 5) imm (pointee (u8 .written)))) l₆ (sliceVal (b₆, o₆) n₆) (full 𝓤 (sliceTy (tyRef (named 4) imm (pointee (u8 .written)))) l₅ (sliceVal (b₅, o₅) n₅) (full 𝓤 (sliceTy (tyRef (named 3) mut (pointee (u8 .written)))) l₄ (sliceVal (b₄, o₄) n₄) (full 𝓤 (sliceTy (tyRef (named 2) mut (pointee (Object-t.the-row .written)))) l₃ (sliceVal (b₃, o₃) n₃) (full 𝓤 (sliceTy (tyRef (named 1) mut (pointee ((Array u16 35) .written)))) l₂ (sliceVal (b₂, o₂) n₂) (full 𝓤 (sliceTy (tyRef (named 0) mut (pointee ((Array u64 5) .written)))) l₁ (sliceVal (b₁, o₁) n₁) (free 𝓤 Processed-l.mir l₀ ([])))))))))))))))))))))))))))))))) (runs C Λ En mir.t-10 (atRet En Post))
+    part-10-0 is-8 is-9 =
+        assigns ! (of-opd ! (load ! (from ! (fld ! refl (stop !))) (look-in ! 50 (sub ! 0 refl (whole !))))) (from ! (stop !)) (init ! 30 refl (bool-p .typed 𝓤 H A W ((partsOf (judgeOf (lent (sessions) (streams) (objects)) (d) agent input n₆)) .goes) (LL.owed Parts-t.the-type Parts-l.the-laws (partsOf (judgeOf (lent (sessions) (streams) (objects)) (d) agent input n₆)) _ is-9 .0))) $
+        first ! $
+        branches ! (load ! (from ! (stop !)) (look ! 30 refl))
+        (λ h-11.
+        knows ! ((partsOf (judgeOf (lent (sessions) (streams) (objects)) (d) agent input n₆)) .goes ≡ true) (holds ((partsOf (judgeOf (lent (sessions) (streams) (objects)) (d) agent input n₆)) .goes) h-11) (λ c-11.
+        assigns ! (of-opd ! (load ! (from ! (fld ! refl (stop !))) (look-in ! 50 (sub ! 1 refl (whole !))))) (from ! (stop !)) (init ! 48 refl (Start-p .typed 𝓤 H A W ((partsOf (judgeOf (lent (sessions) (streams) (objects)) (d) agent input n₆)) .start) (LL.owed Parts-t.the-type Parts-l.the-laws (partsOf (judgeOf (lent (sessions) (streams) (objects)) (d) agent input n₆)) _ is-9 .1 .0))) $
+        assigns ! (of-opd ! (load ! (from ! (fld ! refl (stop !))) (look-in ! 50 (sub ! 2 refl (whole !))))) (from ! (stop !)) (init ! 46 refl (u64-p .typed 𝓤 H A W ((partsOf (judgeOf (lent (sessions) (streams) (objects)) (d) agent input n₆)) .count) (LL.owed Parts-t.the-type Parts-l.the-laws (partsOf (judgeOf (lent (sessions) (streams) (objects)) (d) agent input n₆)) _ is-9 .1 .1 .0))) $
+        assigns ! (addr ! (from ! (fld ! refl (hop ! (look-in ! 70 (sub ! 0 refl (whole !))) (stop !))))) (from ! (stop !)) (init ! 26 refl (tt, tt)) $
+        assigns ! (agg ! (and-then ! (load ! (from ! (stop !)) (look ! 26 refl)) (and-then ! (load ! (from ! (fld ! refl (stop !))) (look-in ! 70 (sub ! 1 refl (whole !)))) (no-more !)))) (from ! (stop !)) (init ! 24 refl (tt, (tt, (record { fits = room₁ .0 }, tt)))) $
+        assigns ! (addr ! (from ! (fld ! refl (hop ! (look-in ! 68 (sub ! 0 refl (whole !))) (stop !))))) (from ! (stop !)) (init ! 22 refl (tt, tt)) $
+        assigns ! (agg ! (and-then ! (load ! (from ! (stop !)) (look ! 22 refl)) (and-then ! (load ! (from ! (fld ! refl (stop !))) (look-in ! 68 (sub ! 1 refl (whole !)))) (no-more !)))) (from ! (stop !)) (init ! 20 refl (tt, (tt, (record { fits = room₂ .0 }, tt)))) $
+        assigns ! (addr ! (from ! (fld ! refl (hop ! (look-in ! 66 (sub ! 0 refl (whole !))) (stop !))))) (from ! (stop !)) (init ! 18 refl (tt, tt)) $
+        assigns ! (agg ! (and-then ! (load ! (from ! (stop !)) (look ! 18 refl)) (and-then ! (load ! (from ! (fld ! refl (stop !))) (look-in ! 66 (sub ! 1 refl (whole !)))) (no-more !)))) (from ! (stop !)) (init ! 16 refl (tt, (tt, (record { fits = room₃ .0 }, tt)))) $
+        assigns ! (addr ! (from ! (fld ! refl (hop ! (look-in ! 64 (sub ! 0 refl (whole !))) (stop !))))) (from ! (stop !)) (init ! 14 refl (tt, tt)) $
+        assigns ! (agg ! (and-then ! (load ! (from ! (stop !)) (look ! 14 refl)) (and-then ! (load ! (from ! (fld ! refl (stop !))) (look-in ! 64 (sub ! 1 refl (whole !)))) (no-more !)))) (from ! (stop !)) (init ! 12 refl (tt, (tt, (record { fits = room₄ .0 }, tt)))) $
+        knows ! ((resumesFit (((partsOf (judgeOf (lent (sessions) (streams) (objects)) (d) agent input n₆)) .start) .resumes) (length (sample)) ≡ true) × (ltb (length (out)) (neededOf (roomy (length (out)) (((partsOf (judgeOf (lent (sessions) (streams) (objects)) (d) agent input n₆)) .start) .resumes) ((partsOf (judgeOf (lent (sessions) (streams) (objects)) (d) agent input n₆)) .count) (length (sample))) (performed ((partsOf (judgeOf (lent (sessions) (streams) (objects)) (d) agent input n₆)) .start) (lent (sessions) (streams) (objects)) (d) (sample) .ran .wrote)) ≡ ltb (length (out)) (performed ((partsOf (judgeOf (lent (sessions) (streams) (objects)) (d) agent input n₆)) .start) (lent (sessions) (streams) (objects)) (d) (sample) .ran .wrote)) × (256 ≤ length (sessions)) × (2048 ≤ length (streams)) × (8192 ≤ length (objects))) ((let-through c-11 .sample-fits, thirteen tables-lent d sample (partsOf judged .start) (partsOf judged .count) (length out) (let-through c-11), let-through c-11 .sessions-long, let-through c-11 .streams-long, let-through c-11 .objects-long)) (λ asks-11·yes·11.
+        -- 11.yes.11: agent::process::go
+        lends-mut ! tt (Array u64 5) b₁ o₁ sessions n₁ (refl) (λ ν-11·yes·11-sessions δ-11·yes·11-sessions.
         move ! (3 ∷ 4 ∷ []) $
-        lends-mut ! tt (Array u16 35) b₂ o₂ streams n₂ (refl) (λ ν-10·yes·11-streams δ-10·yes·11-streams.
+        lends-mut ! tt (Array u16 35) b₂ o₂ streams n₂ (refl) (λ ν-11·yes·11-streams δ-11·yes·11-streams.
         move ! (6 ∷ 7 ∷ []) $
-        lends-mut ! tt Object-t.the-row b₃ o₃ objects n₃ (refl) (λ ν-10·yes·11-objects δ-10·yes·11-objects.
+        lends-mut ! tt Object-t.the-row b₃ o₃ objects n₃ (refl) (λ ν-11·yes·11-objects δ-11·yes·11-objects.
         move ! (9 ∷ 10 ∷ []) $
-        lends-mut ! tt u8 b₄ o₄ out n₄ (refl) (λ ν-10·yes·11-out δ-10·yes·11-out.
+        lends-mut ! tt u8 b₄ o₄ out n₄ (refl) (λ ν-11·yes·11-out δ-11·yes·11-out.
         move ! (12 ∷ 13 ∷ []) $
         copies-shr ! u8 b₅ o₅ d n₅ $ move ! (15 ∷ 16 ∷ []) $
         copies-shr ! u8 b₆ o₆ sample n₆ $ nothing ! $ move ! (1 ∷ 0 ∷ []) $ join ! $ move ! (3 ∷ 0 ∷ []) $ join ! $ move ! (5 ∷ 0 ∷ []) $ join ! $ move ! (7 ∷ 0 ∷ []) $ join ! $ move ! (9 ∷ 0 ∷ []) $ join ! $ move ! (11 ∷ 0 ∷ []) $ join ! $
-        use1 W (raw (toks 𝓤 A 6 (((ν-10·yes·11-sessions ∷ []), ((ν-10·yes·11-streams ∷ []), ((ν-10·yes·11-objects ∷ []), ((ν-10·yes·11-out ∷ []), (κ₅, (κ₆, tt))))))) ((fullShare, (fullShare, (fullShare, (fullShare, (q₅, (q₆, tt))))))))) (id⊢ 𝓤 _) $ nothing ! $
-        owned ! (u64-p .row) (Is (u64-p .row)) (u64-p .makes 𝓤 H A W) (countIn (judgeOf (lent (sessions) (streams) (objects)) (d) agent input n₆)) (u64-p .val (countIn (judgeOf (lent (sessions) (streams) (objects)) (d) agent input n₆)) ∷ []) is-10·yes·2 $ fjoin ! $
-        owned ! (Start-p .row) (Is (Start-p .row)) (Start-p .makes 𝓤 H A W) (startIn (judgeOf (lent (sessions) (streams) (objects)) (d) agent input n₆)) (Start-p .val (startIn (judgeOf (lent (sessions) (streams) (objects)) (d) agent input n₆)) ∷ []) is-10·yes·1 $ fjoin ! $
+        use1 W (raw (toks 𝓤 A 6 (((ν-11·yes·11-sessions ∷ []), ((ν-11·yes·11-streams ∷ []), ((ν-11·yes·11-objects ∷ []), ((ν-11·yes·11-out ∷ []), (κ₅, (κ₆, tt))))))) ((fullShare, (fullShare, (fullShare, (fullShare, (q₅, (q₆, tt))))))))) (id⊢ 𝓤 _) $ nothing ! $
+        owned ! (u64-p .row) (Is (u64-p .row)) (u64-p .makes 𝓤 H A W) ((partsOf (judgeOf (lent (sessions) (streams) (objects)) (d) agent input n₆)) .count) (u64-p .val ((partsOf (judgeOf (lent (sessions) (streams) (objects)) (d) agent input n₆)) .count) ∷ []) (LL.owed Parts-t.the-type Parts-l.the-laws (partsOf (judgeOf (lent (sessions) (streams) (objects)) (d) agent input n₆)) _ is-9 .1 .1 .0) $ fjoin ! $
+        owned ! (Start-p .row) (Is (Start-p .row)) (Start-p .makes 𝓤 H A W) ((partsOf (judgeOf (lent (sessions) (streams) (objects)) (d) agent input n₆)) .start) (Start-p .val ((partsOf (judgeOf (lent (sessions) (streams) (objects)) (d) agent input n₆)) .start) ∷ []) (LL.owed Parts-t.the-type Parts-l.the-laws (partsOf (judgeOf (lent (sessions) (streams) (objects)) (d) agent input n₆)) _ is-9 .1 .0) $ fjoin ! $
         owned ! (Agent-p .row) (Is (Agent-p .row)) (Agent-p .makes 𝓤 H A W) agent (Agent-p .val agent ∷ []) agent-is $ fjoin ! $ move ! (2 ∷ 0 ∷ []) $ fjoin ! $ move ! (3 ∷ 0 ∷ []) $ fjoin ! $ move ! (4 ∷ 0 ∷ []) $ fjoin ! $ move ! (5 ∷ 0 ∷ []) $ fjoin ! $ move ! (6 ∷ 0 ∷ []) $ fjoin ! $ move ! (7 ∷ 0 ∷ []) $ fjoin ! $ move ! (1 ∷ 0 ∷ []) $
-        calls-any-last ! fm 6 [] (process-go.signature .params) (process-go.ended .kept) Processed-p (process-go.clauses 𝓤 H A mem run) known-process-go ((ν-10·yes·11-sessions ∷ []), ((ν-10·yes·11-streams ∷ []), ((ν-10·yes·11-objects ∷ []), ((ν-10·yes·11-out ∷ []), (κ₅, (κ₆, tt)))))) (fullShare, (fullShare, (fullShare, (fullShare, (q₅, (q₆, tt)))))) tt (at-list b₁ o₁ δ-10·yes·11-sessions sessions, (at-list b₂ o₂ δ-10·yes·11-streams streams, (at-list b₃ o₃ δ-10·yes·11-objects objects, (at-list b₄ o₄ δ-10·yes·11-out out, (at-list b₅ o₅ γ₅ d, (at-list b₆ o₆ γ₆ sample, (agent, (startIn (judgeOf (lent (sessions) (streams) (objects)) (d) agent input n₆), (countIn (judgeOf (lent (sessions) (streams) (objects)) (d) agent input n₆), tt))))))))) (sliceVal (b₁, o₁) n₁ ∷ [], (sliceVal (b₂, o₂) n₂ ∷ [], (sliceVal (b₃, o₃) n₃ ∷ [], (sliceVal (b₄, o₄) n₄ ∷ [], (sliceVal (b₅, o₅) n₅ ∷ [], (sliceVal (b₆, o₆) n₆ ∷ [], (Agent-p .val agent ∷ [], (Start-p .val (startIn (judgeOf (lent (sessions) (streams) (objects)) (d) agent input n₆)) ∷ [], (u64-p .val (countIn (judgeOf (lent (sessions) (streams) (objects)) (d) agent input n₆)) ∷ [], tt))))))))) tt (finish agent (lent (sessions) (streams) (objects)) (out) (startIn (judgeOf (lent (sessions) (streams) (objects)) (d) agent input n₆)) (performed (startIn (judgeOf (lent (sessions) (streams) (objects)) (d) agent input n₆)) (lent (sessions) (streams) (objects)) (d) (sample)) .processed) (λ ws-10·yes·11. (ws-10·yes·11 .0 ≡ finish agent (lent (sessions) (streams) (objects)) (out) (startIn (judgeOf (lent (sessions) (streams) (objects)) (d) agent input n₆)) (performed (startIn (judgeOf (lent (sessions) (streams) (objects)) (d) agent input n₆)) (lent (sessions) (streams) (objects)) (d) (sample)) .tables .sessions) × (ws-10·yes·11 .1 .0 ≡ finish agent (lent (sessions) (streams) (objects)) (out) (startIn (judgeOf (lent (sessions) (streams) (objects)) (d) agent input n₆)) (performed (startIn (judgeOf (lent (sessions) (streams) (objects)) (d) agent input n₆)) (lent (sessions) (streams) (objects)) (d) (sample)) .tables .streams) × (ws-10·yes·11 .1 .1 .0 ≡ finish agent (lent (sessions) (streams) (objects)) (out) (startIn (judgeOf (lent (sessions) (streams) (objects)) (d) agent input n₆)) (performed (startIn (judgeOf (lent (sessions) (streams) (objects)) (d) agent input n₆)) (lent (sessions) (streams) (objects)) (d) (sample)) .tables .objects) × (ws-10·yes·11 .1 .1 .1 .0 ≡ finish agent (lent (sessions) (streams) (objects)) (out) (startIn (judgeOf (lent (sessions) (streams) (objects)) (d) agent input n₆)) (performed (startIn (judgeOf (lent (sessions) (streams) (objects)) (d) agent input n₆)) (lent (sessions) (streams) (objects)) (d) (sample)) .out)) (factI 𝓤 ((resumesFit ((startIn (judgeOf (lent (sessions) (streams) (objects)) (d) agent input n₆)) .resumes) (length (sample)) ≡ true) × (ltb (length (out)) (neededOf (roomy (length (out)) ((startIn (judgeOf (lent (sessions) (streams) (objects)) (d) agent input n₆)) .resumes) (countIn (judgeOf (lent (sessions) (streams) (objects)) (d) agent input n₆)) (length (sample))) (performed (startIn (judgeOf (lent (sessions) (streams) (objects)) (d) agent input n₆)) (lent (sessions) (streams) (objects)) (d) (sample) .ran .wrote)) ≡ ltb (length (out)) (performed (startIn (judgeOf (lent (sessions) (streams) (objects)) (d) agent input n₆)) (lent (sessions) (streams) (objects)) (d) (sample) .ran .wrote)) × (256 ≤ length (sessions)) × (2048 ≤ length (streams)) × (8192 ≤ length (objects))) _ asks-10·yes·11) (λ r ws-10·yes·11. fact-mono 𝓤 ((r ≡ finish agent (lent (sessions) (streams) (objects)) (out) (startIn (judgeOf (lent (sessions) (streams) (objects)) (d) agent input n₆)) (performed (startIn (judgeOf (lent (sessions) (streams) (objects)) (d) agent input n₆)) (lent (sessions) (streams) (objects)) (d) (sample)) .processed) × ((ws-10·yes·11 .0) ≡ finish agent (lent (sessions) (streams) (objects)) (out) (startIn (judgeOf (lent (sessions) (streams) (objects)) (d) agent input n₆)) (performed (startIn (judgeOf (lent (sessions) (streams) (objects)) (d) agent input n₆)) (lent (sessions) (streams) (objects)) (d) (sample)) .tables .sessions) × ((ws-10·yes·11 .1 .0) ≡ finish agent (lent (sessions) (streams) (objects)) (out) (startIn (judgeOf (lent (sessions) (streams) (objects)) (d) agent input n₆)) (performed (startIn (judgeOf (lent (sessions) (streams) (objects)) (d) agent input n₆)) (lent (sessions) (streams) (objects)) (d) (sample)) .tables .streams) × ((ws-10·yes·11 .1 .1 .0) ≡ finish agent (lent (sessions) (streams) (objects)) (out) (startIn (judgeOf (lent (sessions) (streams) (objects)) (d) agent input n₆)) (performed (startIn (judgeOf (lent (sessions) (streams) (objects)) (d) agent input n₆)) (lent (sessions) (streams) (objects)) (d) (sample)) .tables .objects) × ((ws-10·yes·11 .1 .1 .1 .0) ≡ finish agent (lent (sessions) (streams) (objects)) (out) (startIn (judgeOf (lent (sessions) (streams) (objects)) (d) agent input n₆)) (performed (startIn (judgeOf (lent (sessions) (streams) (objects)) (d) agent input n₆)) (lent (sessions) (streams) (objects)) (d) (sample)) .out)) ((r ≡ (finish agent (lent (sessions) (streams) (objects)) (out) (startIn (judgeOf (lent (sessions) (streams) (objects)) (d) agent input n₆)) (performed (startIn (judgeOf (lent (sessions) (streams) (objects)) (d) agent input n₆)) (lent (sessions) (streams) (objects)) (d) (sample)) .processed)) × ((ws-10·yes·11 .0 ≡ finish agent (lent (sessions) (streams) (objects)) (out) (startIn (judgeOf (lent (sessions) (streams) (objects)) (d) agent input n₆)) (performed (startIn (judgeOf (lent (sessions) (streams) (objects)) (d) agent input n₆)) (lent (sessions) (streams) (objects)) (d) (sample)) .tables .sessions) × (ws-10·yes·11 .1 .0 ≡ finish agent (lent (sessions) (streams) (objects)) (out) (startIn (judgeOf (lent (sessions) (streams) (objects)) (d) agent input n₆)) (performed (startIn (judgeOf (lent (sessions) (streams) (objects)) (d) agent input n₆)) (lent (sessions) (streams) (objects)) (d) (sample)) .tables .streams) × (ws-10·yes·11 .1 .1 .0 ≡ finish agent (lent (sessions) (streams) (objects)) (out) (startIn (judgeOf (lent (sessions) (streams) (objects)) (d) agent input n₆)) (performed (startIn (judgeOf (lent (sessions) (streams) (objects)) (d) agent input n₆)) (lent (sessions) (streams) (objects)) (d) (sample)) .tables .objects) × (ws-10·yes·11 .1 .1 .1 .0 ≡ finish agent (lent (sessions) (streams) (objects)) (out) (startIn (judgeOf (lent (sessions) (streams) (objects)) (d) agent input n₆)) (performed (startIn (judgeOf (lent (sessions) (streams) (objects)) (d) agent input n₆)) (lent (sessions) (streams) (objects)) (d) (sample)) .out))) (λ e. (e .0, (e .1, e .2, e .3, e .4)))) (λ _. (and-then ! (load ! (from ! (stop !)) (look ! 19 refl)) (and-then ! (load ! (from ! (stop !)) (look ! 15 refl)) (and-then ! (load ! (from ! (stop !)) (look ! 11 refl)) (and-then ! (load ! (from ! (stop !)) (look ! 7 refl)) (and-then ! (load ! (from ! (stop !)) (look ! 55 refl)) (and-then ! (load ! (from ! (stop !)) (look ! 53 refl)) (and-then ! (load ! (from ! (stop !)) (look ! 51 refl)) (and-then ! (load ! (from ! (stop !)) (look ! 43 refl)) (and-then ! (load ! (from ! (stop !)) (look ! 41 refl)) (no-more !))))))))))) (λ ws-10·yes·11 said-10·yes·11 is-10·yes·11.
-        use1 W ((‵ (flft (ν-10·yes·11-sessions ∷ []) fullShare) ⊛ (‵ (flft (ν-10·yes·11-streams ∷ []) fullShare) ⊛ (‵ (flft (ν-10·yes·11-objects ∷ []) fullShare) ⊛ (‵ (flft (ν-10·yes·11-out ∷ []) fullShare) ⊛ (‵ (flft κ₅ q₅) ⊛ (‵ (flft κ₆ q₆) ⊛ ‵ ftrue))))))) (id⊢ 𝓤 _) $ split ! $ move ! (1 ∷ []) $ split ! $ move ! (1 ∷ []) $ split ! $ move ! (1 ∷ []) $ split ! $ move ! (1 ∷ []) $ split ! $ move ! (1 ∷ []) $ split ! $ move ! (7 ∷ []) $ fsplit ! $ fsplit ! $ move ! (1 ∷ []) $
-        feqL ! (λ wlen-10·yes·11-0.
+        calls-any-last ! fm 6 [] (process-go.signature .params) (process-go.ended .kept) Processed-p (process-go.clauses 𝓤 H A mem run) known-process-go ((ν-11·yes·11-sessions ∷ []), ((ν-11·yes·11-streams ∷ []), ((ν-11·yes·11-objects ∷ []), ((ν-11·yes·11-out ∷ []), (κ₅, (κ₆, tt)))))) (fullShare, (fullShare, (fullShare, (fullShare, (q₅, (q₆, tt)))))) tt (at-list b₁ o₁ δ-11·yes·11-sessions sessions, (at-list b₂ o₂ δ-11·yes·11-streams streams, (at-list b₃ o₃ δ-11·yes·11-objects objects, (at-list b₄ o₄ δ-11·yes·11-out out, (at-list b₅ o₅ γ₅ d, (at-list b₆ o₆ γ₆ sample, (agent, ((partsOf (judgeOf (lent (sessions) (streams) (objects)) (d) agent input n₆)) .start, ((partsOf (judgeOf (lent (sessions) (streams) (objects)) (d) agent input n₆)) .count, tt))))))))) (sliceVal (b₁, o₁) n₁ ∷ [], (sliceVal (b₂, o₂) n₂ ∷ [], (sliceVal (b₃, o₃) n₃ ∷ [], (sliceVal (b₄, o₄) n₄ ∷ [], (sliceVal (b₅, o₅) n₅ ∷ [], (sliceVal (b₆, o₆) n₆ ∷ [], (Agent-p .val agent ∷ [], (Start-p .val ((partsOf (judgeOf (lent (sessions) (streams) (objects)) (d) agent input n₆)) .start) ∷ [], (u64-p .val ((partsOf (judgeOf (lent (sessions) (streams) (objects)) (d) agent input n₆)) .count) ∷ [], tt))))))))) tt (finish agent (lent (sessions) (streams) (objects)) (out) ((partsOf (judgeOf (lent (sessions) (streams) (objects)) (d) agent input n₆)) .start) (performed ((partsOf (judgeOf (lent (sessions) (streams) (objects)) (d) agent input n₆)) .start) (lent (sessions) (streams) (objects)) (d) (sample)) .processed) (λ ws-11·yes·11. (ws-11·yes·11 .0 ≡ finish agent (lent (sessions) (streams) (objects)) (out) ((partsOf (judgeOf (lent (sessions) (streams) (objects)) (d) agent input n₆)) .start) (performed ((partsOf (judgeOf (lent (sessions) (streams) (objects)) (d) agent input n₆)) .start) (lent (sessions) (streams) (objects)) (d) (sample)) .tables .sessions) × (ws-11·yes·11 .1 .0 ≡ finish agent (lent (sessions) (streams) (objects)) (out) ((partsOf (judgeOf (lent (sessions) (streams) (objects)) (d) agent input n₆)) .start) (performed ((partsOf (judgeOf (lent (sessions) (streams) (objects)) (d) agent input n₆)) .start) (lent (sessions) (streams) (objects)) (d) (sample)) .tables .streams) × (ws-11·yes·11 .1 .1 .0 ≡ finish agent (lent (sessions) (streams) (objects)) (out) ((partsOf (judgeOf (lent (sessions) (streams) (objects)) (d) agent input n₆)) .start) (performed ((partsOf (judgeOf (lent (sessions) (streams) (objects)) (d) agent input n₆)) .start) (lent (sessions) (streams) (objects)) (d) (sample)) .tables .objects) × (ws-11·yes·11 .1 .1 .1 .0 ≡ finish agent (lent (sessions) (streams) (objects)) (out) ((partsOf (judgeOf (lent (sessions) (streams) (objects)) (d) agent input n₆)) .start) (performed ((partsOf (judgeOf (lent (sessions) (streams) (objects)) (d) agent input n₆)) .start) (lent (sessions) (streams) (objects)) (d) (sample)) .out)) (factI 𝓤 ((resumesFit (((partsOf (judgeOf (lent (sessions) (streams) (objects)) (d) agent input n₆)) .start) .resumes) (length (sample)) ≡ true) × (ltb (length (out)) (neededOf (roomy (length (out)) (((partsOf (judgeOf (lent (sessions) (streams) (objects)) (d) agent input n₆)) .start) .resumes) ((partsOf (judgeOf (lent (sessions) (streams) (objects)) (d) agent input n₆)) .count) (length (sample))) (performed ((partsOf (judgeOf (lent (sessions) (streams) (objects)) (d) agent input n₆)) .start) (lent (sessions) (streams) (objects)) (d) (sample) .ran .wrote)) ≡ ltb (length (out)) (performed ((partsOf (judgeOf (lent (sessions) (streams) (objects)) (d) agent input n₆)) .start) (lent (sessions) (streams) (objects)) (d) (sample) .ran .wrote)) × (256 ≤ length (sessions)) × (2048 ≤ length (streams)) × (8192 ≤ length (objects))) _ asks-11·yes·11) (λ r ws-11·yes·11. fact-mono 𝓤 ((r ≡ finish agent (lent (sessions) (streams) (objects)) (out) ((partsOf (judgeOf (lent (sessions) (streams) (objects)) (d) agent input n₆)) .start) (performed ((partsOf (judgeOf (lent (sessions) (streams) (objects)) (d) agent input n₆)) .start) (lent (sessions) (streams) (objects)) (d) (sample)) .processed) × ((ws-11·yes·11 .0) ≡ finish agent (lent (sessions) (streams) (objects)) (out) ((partsOf (judgeOf (lent (sessions) (streams) (objects)) (d) agent input n₆)) .start) (performed ((partsOf (judgeOf (lent (sessions) (streams) (objects)) (d) agent input n₆)) .start) (lent (sessions) (streams) (objects)) (d) (sample)) .tables .sessions) × ((ws-11·yes·11 .1 .0) ≡ finish agent (lent (sessions) (streams) (objects)) (out) ((partsOf (judgeOf (lent (sessions) (streams) (objects)) (d) agent input n₆)) .start) (performed ((partsOf (judgeOf (lent (sessions) (streams) (objects)) (d) agent input n₆)) .start) (lent (sessions) (streams) (objects)) (d) (sample)) .tables .streams) × ((ws-11·yes·11 .1 .1 .0) ≡ finish agent (lent (sessions) (streams) (objects)) (out) ((partsOf (judgeOf (lent (sessions) (streams) (objects)) (d) agent input n₆)) .start) (performed ((partsOf (judgeOf (lent (sessions) (streams) (objects)) (d) agent input n₆)) .start) (lent (sessions) (streams) (objects)) (d) (sample)) .tables .objects) × ((ws-11·yes·11 .1 .1 .1 .0) ≡ finish agent (lent (sessions) (streams) (objects)) (out) ((partsOf (judgeOf (lent (sessions) (streams) (objects)) (d) agent input n₆)) .start) (performed ((partsOf (judgeOf (lent (sessions) (streams) (objects)) (d) agent input n₆)) .start) (lent (sessions) (streams) (objects)) (d) (sample)) .out)) ((r ≡ (finish agent (lent (sessions) (streams) (objects)) (out) ((partsOf (judgeOf (lent (sessions) (streams) (objects)) (d) agent input n₆)) .start) (performed ((partsOf (judgeOf (lent (sessions) (streams) (objects)) (d) agent input n₆)) .start) (lent (sessions) (streams) (objects)) (d) (sample)) .processed)) × ((ws-11·yes·11 .0 ≡ finish agent (lent (sessions) (streams) (objects)) (out) ((partsOf (judgeOf (lent (sessions) (streams) (objects)) (d) agent input n₆)) .start) (performed ((partsOf (judgeOf (lent (sessions) (streams) (objects)) (d) agent input n₆)) .start) (lent (sessions) (streams) (objects)) (d) (sample)) .tables .sessions) × (ws-11·yes·11 .1 .0 ≡ finish agent (lent (sessions) (streams) (objects)) (out) ((partsOf (judgeOf (lent (sessions) (streams) (objects)) (d) agent input n₆)) .start) (performed ((partsOf (judgeOf (lent (sessions) (streams) (objects)) (d) agent input n₆)) .start) (lent (sessions) (streams) (objects)) (d) (sample)) .tables .streams) × (ws-11·yes·11 .1 .1 .0 ≡ finish agent (lent (sessions) (streams) (objects)) (out) ((partsOf (judgeOf (lent (sessions) (streams) (objects)) (d) agent input n₆)) .start) (performed ((partsOf (judgeOf (lent (sessions) (streams) (objects)) (d) agent input n₆)) .start) (lent (sessions) (streams) (objects)) (d) (sample)) .tables .objects) × (ws-11·yes·11 .1 .1 .1 .0 ≡ finish agent (lent (sessions) (streams) (objects)) (out) ((partsOf (judgeOf (lent (sessions) (streams) (objects)) (d) agent input n₆)) .start) (performed ((partsOf (judgeOf (lent (sessions) (streams) (objects)) (d) agent input n₆)) .start) (lent (sessions) (streams) (objects)) (d) (sample)) .out))) (λ e. (e .0, (e .1, e .2, e .3, e .4)))) (λ _. (and-then ! (load ! (from ! (stop !)) (look ! 19 refl)) (and-then ! (load ! (from ! (stop !)) (look ! 15 refl)) (and-then ! (load ! (from ! (stop !)) (look ! 11 refl)) (and-then ! (load ! (from ! (stop !)) (look ! 7 refl)) (and-then ! (load ! (from ! (stop !)) (look ! 57 refl)) (and-then ! (load ! (from ! (stop !)) (look ! 55 refl)) (and-then ! (load ! (from ! (stop !)) (look ! 53 refl)) (and-then ! (load ! (from ! (stop !)) (look ! 43 refl)) (and-then ! (load ! (from ! (stop !)) (look ! 41 refl)) (no-more !))))))))))) (λ ws-11·yes·11 said-11·yes·11 is-11·yes·11.
+        use1 W ((‵ (flft (ν-11·yes·11-sessions ∷ []) fullShare) ⊛ (‵ (flft (ν-11·yes·11-streams ∷ []) fullShare) ⊛ (‵ (flft (ν-11·yes·11-objects ∷ []) fullShare) ⊛ (‵ (flft (ν-11·yes·11-out ∷ []) fullShare) ⊛ (‵ (flft κ₅ q₅) ⊛ (‵ (flft κ₆ q₆) ⊛ ‵ ftrue))))))) (id⊢ 𝓤 _) $ split ! $ move ! (1 ∷ []) $ split ! $ move ! (1 ∷ []) $ split ! $ move ! (1 ∷ []) $ split ! $ move ! (1 ∷ []) $ split ! $ move ! (1 ∷ []) $ split ! $ move ! (7 ∷ []) $ fsplit ! $ fsplit ! $ move ! (1 ∷ []) $
+        feqL ! (λ wlen-11·yes·11-0.
         move ! (1 ∷ []) $ fsplit ! $ fsplit ! $ move ! (1 ∷ []) $
-        feqL ! (λ wlen-10·yes·11-1.
+        feqL ! (λ wlen-11·yes·11-1.
         move ! (1 ∷ []) $ fsplit ! $ fsplit ! $ move ! (1 ∷ []) $
-        feqL ! (λ wlen-10·yes·11-2.
+        feqL ! (λ wlen-11·yes·11-2.
         move ! (1 ∷ []) $ fsplit ! $ fsplit ! $ move ! (1 ∷ []) $
-        feqL ! (λ wlen-10·yes·11-3.
+        feqL ! (λ wlen-11·yes·11-3.
         move ! (1 ∷ []) $ fsplit ! $ move ! (1 ∷ []) $ fsplit ! $ move ! (13 ∷ 19 ∷ 6 ∷ []) $
-        backs-mut ! tt (Array u64 5) b₁ o₁ sessions n₁ (refl) room₁ ν-10·yes·11-sessions δ-10·yes·11-sessions (ws-10·yes·11 .0) (finish agent (lent (sessions) (streams) (objects)) (out) (startIn (judgeOf (lent (sessions) (streams) (objects)) (d) agent input n₆)) (performed (startIn (judgeOf (lent (sessions) (streams) (objects)) (d) agent input n₆)) (lent (sessions) (streams) (objects)) (d) (sample)) .tables .sessions) wlen-10·yes·11-0 (said-10·yes·11 .0) (λ len-10·yes·11-sessions.
+        backs-mut ! tt (Array u64 5) b₁ o₁ sessions n₁ (refl) room₁ ν-11·yes·11-sessions δ-11·yes·11-sessions (ws-11·yes·11 .0) (finish agent (lent (sessions) (streams) (objects)) (out) ((partsOf (judgeOf (lent (sessions) (streams) (objects)) (d) agent input n₆)) .start) (performed ((partsOf (judgeOf (lent (sessions) (streams) (objects)) (d) agent input n₆)) .start) (lent (sessions) (streams) (objects)) (d) (sample)) .tables .sessions) wlen-11·yes·11-0 (said-11·yes·11 .0) (λ len-11·yes·11-sessions.
         move ! (13 ∷ 18 ∷ 7 ∷ []) $
-        backs-mut ! tt (Array u16 35) b₂ o₂ streams n₂ (refl) room₂ ν-10·yes·11-streams δ-10·yes·11-streams (ws-10·yes·11 .1 .0) (finish agent (lent (sessions) (streams) (objects)) (out) (startIn (judgeOf (lent (sessions) (streams) (objects)) (d) agent input n₆)) (performed (startIn (judgeOf (lent (sessions) (streams) (objects)) (d) agent input n₆)) (lent (sessions) (streams) (objects)) (d) (sample)) .tables .streams) wlen-10·yes·11-1 (said-10·yes·11 .1) (λ len-10·yes·11-streams.
+        backs-mut ! tt (Array u16 35) b₂ o₂ streams n₂ (refl) room₂ ν-11·yes·11-streams δ-11·yes·11-streams (ws-11·yes·11 .1 .0) (finish agent (lent (sessions) (streams) (objects)) (out) ((partsOf (judgeOf (lent (sessions) (streams) (objects)) (d) agent input n₆)) .start) (performed ((partsOf (judgeOf (lent (sessions) (streams) (objects)) (d) agent input n₆)) .start) (lent (sessions) (streams) (objects)) (d) (sample)) .tables .streams) wlen-11·yes·11-1 (said-11·yes·11 .1) (λ len-11·yes·11-streams.
         move ! (13 ∷ 17 ∷ 8 ∷ []) $
-        backs-mut ! tt Object-t.the-row b₃ o₃ objects n₃ (refl) room₃ ν-10·yes·11-objects δ-10·yes·11-objects (ws-10·yes·11 .1 .1 .0) (finish agent (lent (sessions) (streams) (objects)) (out) (startIn (judgeOf (lent (sessions) (streams) (objects)) (d) agent input n₆)) (performed (startIn (judgeOf (lent (sessions) (streams) (objects)) (d) agent input n₆)) (lent (sessions) (streams) (objects)) (d) (sample)) .tables .objects) wlen-10·yes·11-2 (said-10·yes·11 .2) (λ len-10·yes·11-objects.
+        backs-mut ! tt Object-t.the-row b₃ o₃ objects n₃ (refl) room₃ ν-11·yes·11-objects δ-11·yes·11-objects (ws-11·yes·11 .1 .1 .0) (finish agent (lent (sessions) (streams) (objects)) (out) ((partsOf (judgeOf (lent (sessions) (streams) (objects)) (d) agent input n₆)) .start) (performed ((partsOf (judgeOf (lent (sessions) (streams) (objects)) (d) agent input n₆)) .start) (lent (sessions) (streams) (objects)) (d) (sample)) .tables .objects) wlen-11·yes·11-2 (said-11·yes·11 .2) (λ len-11·yes·11-objects.
         move ! (13 ∷ 16 ∷ 9 ∷ []) $
-        backs-mut ! tt u8 b₄ o₄ out n₄ (refl) room₄ ν-10·yes·11-out δ-10·yes·11-out (ws-10·yes·11 .1 .1 .1 .0) (finish agent (lent (sessions) (streams) (objects)) (out) (startIn (judgeOf (lent (sessions) (streams) (objects)) (d) agent input n₆)) (performed (startIn (judgeOf (lent (sessions) (streams) (objects)) (d) agent input n₆)) (lent (sessions) (streams) (objects)) (d) (sample)) .out) wlen-10·yes·11-3 (said-10·yes·11 .3) (λ len-10·yes·11-out.
+        backs-mut ! tt u8 b₄ o₄ out n₄ (refl) room₄ ν-11·yes·11-out δ-11·yes·11-out (ws-11·yes·11 .1 .1 .1 .0) (finish agent (lent (sessions) (streams) (objects)) (out) ((partsOf (judgeOf (lent (sessions) (streams) (objects)) (d) agent input n₆)) .start) (performed ((partsOf (judgeOf (lent (sessions) (streams) (objects)) (d) agent input n₆)) .start) (lent (sessions) (streams) (objects)) (d) (sample)) .out) wlen-11·yes·11-3 (said-11·yes·11 .3) (λ len-11·yes·11-out.
         move ! (8 ∷ []) $ drop ! $ move ! (8 ∷ []) $ drop ! $ move ! (8 ∷ []) $ drop ! $ move ! (9 ∷ []) $ drop ! $
-        land-last ! (from ! (stop !)) (init ! 28 refl (Processed-p .typed 𝓤 H A W (finish agent (lent (sessions) (streams) (objects)) (out) (startIn (judgeOf (lent (sessions) (streams) (objects)) (d) agent input n₆)) (performed (startIn (judgeOf (lent (sessions) (streams) (objects)) (d) agent input n₆)) (lent (sessions) (streams) (objects)) (d) (sample)) .processed) is-10·yes·11)) $
-        exec ! C Λ En mir.t-11 (atRet En Post) $ move ! (6 ∷ 7 ∷ 4 ∷ 5 ∷ 2 ∷ 3 ∷ 0 ∷ 1 ∷ 11 ∷ 9 ∷ 10 ∷ 8 ∷ 12 ∷ 13 ∷ 14 ∷ 15 ∷ 16 ∷ 17 ∷ 18 ∷ 19 ∷ 20 ∷ 21 ∷ 22 ∷ 23 ∷ 24 ∷ 25 ∷ 26 ∷ 27 ∷ 28 ∷ 29 ∷ 30 ∷ 31 ∷ 32 ∷ 33 ∷ 34 ∷ 35 ∷ 36 ∷ 37 ∷ 38 ∷ 39 ∷ 40 ∷ 41 ∷ 42 ∷ 43 ∷ 44 ∷ 45 ∷ 46 ∷ 47 ∷ 48 ∷ 49 ∷ 50 ∷ 51 ∷ 52 ∷ 53 ∷ 54 ∷ 55 ∷ 56 ∷ 57 ∷ 58 ∷ 59 ∷ 60 ∷ 61 ∷ 62 ∷ 63 ∷ 64 ∷ 65 ∷ 66 ∷ 67 ∷ 68 ∷ 69 ∷ 70 ∷ 71 ∷ []) $
-        part-11-0 is-8 is-9 c-10 is-10·yes·1 is-10·yes·2 asks-10·yes·11 len-10·yes·11-sessions len-10·yes·11-streams len-10·yes·11-objects len-10·yes·11-out is-10·yes·11))))))))))))))
-
-    part-10·yes·2-0 : (is-8 : Is (Judged-p .row) (judgeOf (lent (sessions) (streams) (objects)) (d) agent input n₆) (Judged-p .val (judgeOf (lent (sessions) (streams) (objects)) (d) agent input n₆) ∷ [])) → (is-9 : Is (bool-p .row) (goesOf (judgeOf (lent (sessions) (streams) (objects)) (d) agent input n₆)) (bool-p .val (goesOf (judgeOf (lent (sessions) (streams) (objects)) (d) agent input n₆)) ∷ [])) → (c-10 : goesOf (judgeOf (lent (sessions) (streams) (objects)) (d) agent input n₆) ≡ true) → (is-10·yes·1 : Is (Start-p .row) (startIn (judgeOf (lent (sessions) (streams) (objects)) (d) agent input n₆)) (Start-p .val (startIn (judgeOf (lent (sessions) (streams) (objects)) (d) agent input n₆)) ∷ [])) → Sq W (‵ (MutSlice (named 0) κ₁ (Array u64 5) .own (at-list b₁ o₁ γ₁ sessions) (sliceVal (b₁, o₁) n₁ ∷ [])) ∷ ‵ (flft κ₁ q₁) ∷ ‵ (MutSlice (named 0) κ₂ (Array u16 35) .own (at-list b₂ o₂ γ₂ streams) (sliceVal (b₂, o₂) n₂ ∷ [])) ∷ ‵ (flft κ₂ q₂) ∷ ‵ (MutSlice (named 0) κ₃ Object-t.the-row .own (at-list b₃ o₃ γ₃ objects) (sliceVal (b₃, o₃) n₃ ∷ [])) ∷ ‵ (flft κ₃ q₃) ∷ ‵ (MutSlice (named 0) κ₄ u8 .own (at-list b₄ o₄ γ₄ out) (sliceVal (b₄, o₄) n₄ ∷ [])) ∷ ‵ (flft κ₄ q₄) ∷ ‵ (ShrSlice (named 0) κ₅ u8 .own (at-list b₅ o₅ γ₅ d) (sliceVal (b₅, o₅) n₅ ∷ [])) ∷ ‵ (flft κ₅ q₅) ∷ ‵ (ShrSlice (named 0) κ₆ u8 .own (at-list b₆ o₆ γ₆ sample) (sliceVal (b₆, o₆) n₆ ∷ [])) ∷ ‵ (flft κ₆ q₆) ∷ free 𝓤 (sliceTy (tyRef erased mut (pointee (u8 .written)))) l₂₉ (free 𝓤 (tyRef erased mut (pointee (u8 .written))) l₂₈ (free 𝓤 (sliceTy (tyRef erased mut (pointee (Object-t.the-row .written)))) l₂₇ (free 𝓤 (tyRef erased mut (pointee (Object-t.the-row .written))) l₂₆ (free 𝓤 (sliceTy (tyRef erased mut (pointee ((Array u16 35) .written)))) l₂₅ (free 𝓤 (tyRef erased mut (pointee ((Array u16 35) .written))) l₂₄ (free 𝓤 (sliceTy (tyRef erased mut (pointee ((Array u64 5) .written)))) l₂₃ (free 𝓤 (tyRef erased mut (pointee ((Array u64 5) .written))) l₂₂ (free 𝓤 Processed-l.mir l₂₁ (full 𝓤 tyBool l₂₀ (bool-p .val (goesOf (judgeOf (lent (sessions) (streams) (objects)) (d) agent input n₆))) (full 𝓤 (sliceTy (tyRef erased imm (pointee (Object-t.the-row .written)))) l₁₉ (sliceVal (b₃, o₃) n₃) (full 𝓤 (tyRef erased imm (pointee (Object-t.the-row .written))) l₁₈ (vptr b₃ o₃) (full 𝓤 (sliceTy (tyRef erased imm (pointee ((Array u16 35) .written)))) l₁₇ (sliceVal (b₂, o₂) n₂) (full 𝓤 (tyRef erased imm (pointee ((Array u16 35) .written))) l₁₆ (vptr b₂ o₂) (full 𝓤 (sliceTy (tyRef erased imm (pointee ((Array u64 5) .written)))) l₁₅ (sliceVal (b₁, o₁) n₁) (full 𝓤 (tyRef erased imm (pointee ((Array u64 5) .written))) l₁₄ (vptr b₁ o₁) (free 𝓤 Refusal-l.mir l₁₃ (free 𝓤 (tyInt w64) l₁₂ (full 𝓤 Start-l.mir l₁₁ (Start-p .val (startIn (judgeOf (lent (sessions) (streams) (objects)) (d) agent input n₆))) (full 𝓤 Judged-l.mir l₁₀ (Judged-p .val (judgeOf (lent (sessions) (streams) (objects)) (d) agent input n₆)) (full 𝓤 (tyInt w64) l₉ (u64-p .val n₆) (full 𝓤 Input-l.mir l₈ (Input-p .val input) (full 𝓤 Agent-l.mir l₇ (Agent-p .val agent) (full 𝓤 (sliceTy (tyRef (named 5) imm (pointee (u8 .written)))) l₆ (sliceVal (b₆, o₆) n₆) (full 𝓤 (sliceTy (tyRef (named 4) imm (pointee (u8 .written)))) l₅ (sliceVal (b₅, o₅) n₅) (full 𝓤 (sliceTy (tyRef (named 3) mut (pointee (u8 .written)))) l₄ (sliceVal (b₄, o₄) n₄) (full 𝓤 (sliceTy (tyRef (named 2) mut (pointee (Object-t.the-row .written)))) l₃ (sliceVal (b₃, o₃) n₃) (full 𝓤 (sliceTy (tyRef (named 1) mut (pointee ((Array u16 35) .written)))) l₂ (sliceVal (b₂, o₂) n₂) (full 𝓤 (sliceTy (tyRef (named 0) mut (pointee ((Array u64 5) .written)))) l₁ (sliceVal (b₁, o₁) n₁) (free 𝓤 Processed-l.mir l₀ ([]))))))))))))))))))))))))))))))) (runs C Λ En (past 1 (yes-of (one mir.t-10))) (anyQ (afterSeq 𝓤 H (Wp 𝓤 H C Λ En mir.t-11 (atReturn 𝓤 H En Post)) (atReturn 𝓤 H En Post))))
-    part-10·yes·2-0 is-8 is-9 c-10 is-10·yes·1 =
-        -- 10.yes.2: agent::judge::count_in
+        land-last ! (from ! (stop !)) (init ! 28 refl (Processed-p .typed 𝓤 H A W (finish agent (lent (sessions) (streams) (objects)) (out) ((partsOf (judgeOf (lent (sessions) (streams) (objects)) (d) agent input n₆)) .start) (performed ((partsOf (judgeOf (lent (sessions) (streams) (objects)) (d) agent input n₆)) .start) (lent (sessions) (streams) (objects)) (d) (sample)) .processed) is-11·yes·11)) $
+        exec ! C Λ En mir.t-12 (atRet En Post) $ move ! (6 ∷ 7 ∷ 4 ∷ 5 ∷ 2 ∷ 3 ∷ 0 ∷ 1 ∷ 11 ∷ 9 ∷ 10 ∷ 8 ∷ 12 ∷ 13 ∷ 14 ∷ 15 ∷ 16 ∷ 17 ∷ 18 ∷ 19 ∷ 20 ∷ 21 ∷ 22 ∷ 23 ∷ 24 ∷ 25 ∷ 26 ∷ 27 ∷ 28 ∷ 29 ∷ 30 ∷ 31 ∷ 32 ∷ 33 ∷ 34 ∷ 35 ∷ 36 ∷ 37 ∷ 38 ∷ 39 ∷ 40 ∷ 41 ∷ 42 ∷ 43 ∷ 44 ∷ 45 ∷ 46 ∷ 47 ∷ 48 ∷ 49 ∷ 50 ∷ 51 ∷ 52 ∷ 53 ∷ 54 ∷ 55 ∷ 56 ∷ 57 ∷ 58 ∷ 59 ∷ 60 ∷ 61 ∷ 62 ∷ 63 ∷ 64 ∷ 65 ∷ 66 ∷ 67 ∷ 68 ∷ 69 ∷ 70 ∷ 71 ∷ 72 ∷ 73 ∷ []) $
+        part-12-0 is-8 is-9 c-11 asks-11·yes·11 len-11·yes·11-sessions len-11·yes·11-streams len-11·yes·11-objects len-11·yes·11-out is-11·yes·11))))))))))))))))
+        (λ h-11.
+        knows ! ((partsOf (judgeOf (lent (sessions) (streams) (objects)) (d) agent input n₆)) .goes ≡ false) (fails ((partsOf (judgeOf (lent (sessions) (streams) (objects)) (d) agent input n₆)) .goes) (T-not ((partsOf (judgeOf (lent (sessions) (streams) (objects)) (d) agent input n₆)) .goes) h-11)) (λ c-11.
+        assigns ! (of-opd ! (load ! (from ! (fld ! refl (stop !))) (look-in ! 50 (sub ! 3 refl (whole !))))) (from ! (stop !)) (init ! 44 refl (Refusal-p .typed 𝓤 H A W ((partsOf (judgeOf (lent (sessions) (streams) (objects)) (d) agent input n₆)) .why) (LL.owed Parts-t.the-type Parts-l.the-laws (partsOf (judgeOf (lent (sessions) (streams) (objects)) (d) agent input n₆)) _ is-9 .1 .1 .1 .0))) $
+        -- 11.no.2: agent::process::refused
         nothing ! $
         use1 W (raw (toks 𝓤 A 0 (tt) (tt))) (id⊢ 𝓤 _) $ nothing ! $
-        owned ! (Judged-p .row) (Is (Judged-p .row)) (Judged-p .makes 𝓤 H A W) (judgeOf (lent (sessions) (streams) (objects)) (d) agent input n₆) (Judged-p .val (judgeOf (lent (sessions) (streams) (objects)) (d) agent input n₆) ∷ []) is-8 $ fjoin ! $ move ! (1 ∷ 0 ∷ []) $
-        calls-any ! fm 0 [] (judge-count-in.signature .params) (judge-count-in.ended .kept) u64-p (judge-count-in.clauses 𝓤 H A mem run) known-judge-count-in tt tt tt (judgeOf (lent (sessions) (streams) (objects)) (d) agent input n₆, tt) (Judged-p .val (judgeOf (lent (sessions) (streams) (objects)) (d) agent input n₆) ∷ [], tt) tt (countIn (judgeOf (lent (sessions) (streams) (objects)) (d) agent input n₆)) (λ ws-10·yes·2. Unit {0}) (id⊢ 𝓤 _) (λ r ws-10·yes·2. fact-mono 𝓤 (r ≡ countIn (judgeOf (lent (sessions) (streams) (objects)) (d) agent input n₆)) ((r ≡ (countIn (judgeOf (lent (sessions) (streams) (objects)) (d) agent input n₆))) × (Unit {0})) (λ e. (e, tt))) (λ _. (and-then ! (load ! (from ! (stop !)) (look ! 51 refl)) (no-more !))) (λ ws-10·yes·2 said-10·yes·2 is-10·yes·2.
-        drop ! $ drop ! $
-        land ! (from ! (stop !)) (init ! 46 refl (u64-p .typed 𝓤 H A W (countIn (judgeOf (lent (sessions) (streams) (objects)) (d) agent input n₆)) is-10·yes·2)) $
-        part-10·yes·3-0 is-8 is-9 c-10 is-10·yes·1 is-10·yes·2)
-
-    part-11-4 : (is-8 : Is (Judged-p .row) (judgeOf (lent (sessions) (streams) (objects)) (d) agent input n₆) (Judged-p .val (judgeOf (lent (sessions) (streams) (objects)) (d) agent input n₆) ∷ [])) → (is-9 : Is (bool-p .row) (goesOf (judgeOf (lent (sessions) (streams) (objects)) (d) agent input n₆)) (bool-p .val (goesOf (judgeOf (lent (sessions) (streams) (objects)) (d) agent input n₆)) ∷ [])) → (c-10 : goesOf (judgeOf (lent (sessions) (streams) (objects)) (d) agent input n₆) ≡ false) → (is-10·no·1 : Is (Refusal-p .row) (refusalIn (judgeOf (lent (sessions) (streams) (objects)) (d) agent input n₆)) (Refusal-p .val (refusalIn (judgeOf (lent (sessions) (streams) (objects)) (d) agent input n₆)) ∷ [])) → (is-10·no·2 : Is (Processed-p .row) (refusedOf agent (refusalIn (judgeOf (lent (sessions) (streams) (objects)) (d) agent input n₆))) (Processed-p .val (refusedOf agent (refusalIn (judgeOf (lent (sessions) (streams) (objects)) (d) agent input n₆))) ∷ [])) → Sq W (‵ (MutSlice (named 0) κ₁ (Array u64 5) .own (at-list b₁ o₁ γ₁ sessions) (sliceVal (b₁, o₁) n₁ ∷ [])) ∷ ‵ (flft κ₁ q₁) ∷ ‵ (MutSlice (named 0) κ₂ (Array u16 35) .own (at-list b₂ o₂ γ₂ streams) (sliceVal (b₂, o₂) n₂ ∷ [])) ∷ ‵ (flft κ₂ q₂) ∷ ‵ (MutSlice (named 0) κ₃ Object-t.the-row .own (at-list b₃ o₃ γ₃ objects) (sliceVal (b₃, o₃) n₃ ∷ [])) ∷ ‵ (flft κ₃ q₃) ∷ ‵ (MutSlice (named 0) κ₄ u8 .own (at-list b₄ o₄ γ₄ out) (sliceVal (b₄, o₄) n₄ ∷ [])) ∷ ‵ (flft κ₄ q₄) ∷ ‵ (ShrSlice (named 0) κ₅ u8 .own (at-list b₅ o₅ γ₅ d) (sliceVal (b₅, o₅) n₅ ∷ [])) ∷ ‵ (flft κ₅ q₅) ∷ ‵ (ShrSlice (named 0) κ₆ u8 .own (at-list b₆ o₆ γ₆ sample) (sliceVal (b₆, o₆) n₆ ∷ [])) ∷ ‵ (flft κ₆ q₆) ∷ free 𝓤 (sliceTy (tyRef erased mut (pointee (u8 .written)))) l₂₉ (free 𝓤 (tyRef erased mut (pointee (u8 .written))) l₂₈ (free 𝓤 (sliceTy (tyRef erased mut (pointee (Object-t.the-row .written)))) l₂₇ (free 𝓤 (tyRef erased mut (pointee (Object-t.the-row .written))) l₂₆ (free 𝓤 (sliceTy (tyRef erased mut (pointee ((Array u16 35) .written)))) l₂₅ (free 𝓤 (tyRef erased mut (pointee ((Array u16 35) .written))) l₂₄ (free 𝓤 (sliceTy (tyRef erased mut (pointee ((Array u64 5) .written)))) l₂₃ (free 𝓤 (tyRef erased mut (pointee ((Array u64 5) .written))) l₂₂ (full 𝓤 Processed-l.mir l₂₁ (Processed-p .val (refusedOf agent (refusalIn (judgeOf (lent (sessions) (streams) (objects)) (d) agent input n₆)))) (full 𝓤 tyBool l₂₀ (bool-p .val (goesOf (judgeOf (lent (sessions) (streams) (objects)) (d) agent input n₆))) (full 𝓤 (sliceTy (tyRef erased imm (pointee (Object-t.the-row .written)))) l₁₉ (sliceVal (b₃, o₃) n₃) (full 𝓤 (tyRef erased imm (pointee (Object-t.the-row .written))) l₁₈ (vptr b₃ o₃) (full 𝓤 (sliceTy (tyRef erased imm (pointee ((Array u16 35) .written)))) l₁₇ (sliceVal (b₂, o₂) n₂) (full 𝓤 (tyRef erased imm (pointee ((Array u16 35) .written))) l₁₆ (vptr b₂ o₂) (full 𝓤 (sliceTy (tyRef erased imm (pointee ((Array u64 5) .written)))) l₁₅ (sliceVal (b₁, o₁) n₁) (full 𝓤 (tyRef erased imm (pointee ((Array u64 5) .written))) l₁₄ (vptr b₁ o₁) (full 𝓤 Refusal-l.mir l₁₃ (Refusal-p .val (refusalIn (judgeOf (lent (sessions) (streams) (objects)) (d) agent input n₆))) (free 𝓤 (tyInt w64) l₁₂ (free 𝓤 Start-l.mir l₁₁ (full 𝓤 Judged-l.mir l₁₀ (Judged-p .val (judgeOf (lent (sessions) (streams) (objects)) (d) agent input n₆)) (full 𝓤 (tyInt w64) l₉ (u64-p .val n₆) (full 𝓤 Input-l.mir l₈ (Input-p .val input) (full 𝓤 Agent-l.mir l₇ (Agent-p .val agent) (full 𝓤 (sliceTy (tyRef (named 5) imm (pointee (u8 .written)))) l₆ (sliceVal (b₆, o₆) n₆) (full 𝓤 (sliceTy (tyRef (named 4) imm (pointee (u8 .written)))) l₅ (sliceVal (b₅, o₅) n₅) (full 𝓤 (sliceTy (tyRef (named 3) mut (pointee (u8 .written)))) l₄ (sliceVal (b₄, o₄) n₄) (full 𝓤 (sliceTy (tyRef (named 2) mut (pointee (Object-t.the-row .written)))) l₃ (sliceVal (b₃, o₃) n₃) (full 𝓤 (sliceTy (tyRef (named 1) mut (pointee ((Array u16 35) .written)))) l₂ (sliceVal (b₂, o₂) n₂) (full 𝓤 (sliceTy (tyRef (named 0) mut (pointee ((Array u64 5) .written)))) l₁ (sliceVal (b₁, o₁) n₁) (free 𝓤 Processed-l.mir l₀ ([]))))))))))))))))))))))))))))))) (runs C Λ En mir.t-11 (atRet En Post))
-    part-11-4 is-8 is-9 c-10 is-10·no·1 is-10·no·2 =
-        assigns ! (of-opd ! (load ! (from ! (stop !)) (look ! 28 refl))) (from ! (stop !)) (init ! 70 refl (Processed-p .typed 𝓤 H A W (refusedOf agent (refusalIn (judgeOf (lent (sessions) (streams) (objects)) (d) agent input n₆))) is-10·no·2)) $
-        returns ! (look ! 70 refl) $ forget ! 28 refl $ forget ! 30 refl $ forget ! 32 refl $ forget ! 34 refl $ forget ! 36 refl $ forget ! 38 refl $ forget ! 40 refl $ forget ! 42 refl $ forget ! 44 refl $ forget ! 50 refl $ forget ! 52 refl $
-        frees-all (refusedOf agent (refusalIn (judgeOf (lent (sessions) (streams) (objects)) (d) agent input n₆))) sessions streams objects out (exits (refusedOf agent (refusalIn (judgeOf (lent (sessions) (streams) (objects)) (d) agent input n₆))) sessions streams objects out (same-leaves _ _ (leaves (Judged-Refused (refusalIn judged)) (refused-is judged c-10))) is-10·no·2 refl refl refl refl)
-
-    part-10·no·2-4 : (is-8 : Is (Judged-p .row) (judgeOf (lent (sessions) (streams) (objects)) (d) agent input n₆) (Judged-p .val (judgeOf (lent (sessions) (streams) (objects)) (d) agent input n₆) ∷ [])) → (is-9 : Is (bool-p .row) (goesOf (judgeOf (lent (sessions) (streams) (objects)) (d) agent input n₆)) (bool-p .val (goesOf (judgeOf (lent (sessions) (streams) (objects)) (d) agent input n₆)) ∷ [])) → (c-10 : goesOf (judgeOf (lent (sessions) (streams) (objects)) (d) agent input n₆) ≡ false) → (is-10·no·1 : Is (Refusal-p .row) (refusalIn (judgeOf (lent (sessions) (streams) (objects)) (d) agent input n₆)) (Refusal-p .val (refusalIn (judgeOf (lent (sessions) (streams) (objects)) (d) agent input n₆)) ∷ [])) → Sq W (‵ (MutSlice (named 0) κ₁ (Array u64 5) .own (at-list b₁ o₁ γ₁ sessions) (sliceVal (b₁, o₁) n₁ ∷ [])) ∷ ‵ (flft κ₁ q₁) ∷ ‵ (MutSlice (named 0) κ₂ (Array u16 35) .own (at-list b₂ o₂ γ₂ streams) (sliceVal (b₂, o₂) n₂ ∷ [])) ∷ ‵ (flft κ₂ q₂) ∷ ‵ (MutSlice (named 0) κ₃ Object-t.the-row .own (at-list b₃ o₃ γ₃ objects) (sliceVal (b₃, o₃) n₃ ∷ [])) ∷ ‵ (flft κ₃ q₃) ∷ ‵ (MutSlice (named 0) κ₄ u8 .own (at-list b₄ o₄ γ₄ out) (sliceVal (b₄, o₄) n₄ ∷ [])) ∷ ‵ (flft κ₄ q₄) ∷ ‵ (ShrSlice (named 0) κ₅ u8 .own (at-list b₅ o₅ γ₅ d) (sliceVal (b₅, o₅) n₅ ∷ [])) ∷ ‵ (flft κ₅ q₅) ∷ ‵ (ShrSlice (named 0) κ₆ u8 .own (at-list b₆ o₆ γ₆ sample) (sliceVal (b₆, o₆) n₆ ∷ [])) ∷ ‵ (flft κ₆ q₆) ∷ free 𝓤 (sliceTy (tyRef erased mut (pointee (u8 .written)))) l₂₉ (free 𝓤 (tyRef erased mut (pointee (u8 .written))) l₂₈ (free 𝓤 (sliceTy (tyRef erased mut (pointee (Object-t.the-row .written)))) l₂₇ (free 𝓤 (tyRef erased mut (pointee (Object-t.the-row .written))) l₂₆ (free 𝓤 (sliceTy (tyRef erased mut (pointee ((Array u16 35) .written)))) l₂₅ (free 𝓤 (tyRef erased mut (pointee ((Array u16 35) .written))) l₂₄ (free 𝓤 (sliceTy (tyRef erased mut (pointee ((Array u64 5) .written)))) l₂₃ (free 𝓤 (tyRef erased mut (pointee ((Array u64 5) .written))) l₂₂ (free 𝓤 Processed-l.mir l₂₁ (full 𝓤 tyBool l₂₀ (bool-p .val (goesOf (judgeOf (lent (sessions) (streams) (objects)) (d) agent input n₆))) (full 𝓤 (sliceTy (tyRef erased imm (pointee (Object-t.the-row .written)))) l₁₉ (sliceVal (b₃, o₃) n₃) (full 𝓤 (tyRef erased imm (pointee (Object-t.the-row .written))) l₁₈ (vptr b₃ o₃) (full 𝓤 (sliceTy (tyRef erased imm (pointee ((Array u16 35) .written)))) l₁₇ (sliceVal (b₂, o₂) n₂) (full 𝓤 (tyRef erased imm (pointee ((Array u16 35) .written))) l₁₆ (vptr b₂ o₂) (full 𝓤 (sliceTy (tyRef erased imm (pointee ((Array u64 5) .written)))) l₁₅ (sliceVal (b₁, o₁) n₁) (full 𝓤 (tyRef erased imm (pointee ((Array u64 5) .written))) l₁₄ (vptr b₁ o₁) (full 𝓤 Refusal-l.mir l₁₃ (Refusal-p .val (refusalIn (judgeOf (lent (sessions) (streams) (objects)) (d) agent input n₆))) (free 𝓤 (tyInt w64) l₁₂ (free 𝓤 Start-l.mir l₁₁ (full 𝓤 Judged-l.mir l₁₀ (Judged-p .val (judgeOf (lent (sessions) (streams) (objects)) (d) agent input n₆)) (full 𝓤 (tyInt w64) l₉ (u64-p .val n₆) (full 𝓤 Input-l.mir l₈ (Input-p .val input) (full 𝓤 Agent-l.mir l₇ (Agent-p .val agent) (full 𝓤 (sliceTy (tyRef (named 5) imm (pointee (u8 .written)))) l₆ (sliceVal (b₆, o₆) n₆) (full 𝓤 (sliceTy (tyRef (named 4) imm (pointee (u8 .written)))) l₅ (sliceVal (b₅, o₅) n₅) (full 𝓤 (sliceTy (tyRef (named 3) mut (pointee (u8 .written)))) l₄ (sliceVal (b₄, o₄) n₄) (full 𝓤 (sliceTy (tyRef (named 2) mut (pointee (Object-t.the-row .written)))) l₃ (sliceVal (b₃, o₃) n₃) (full 𝓤 (sliceTy (tyRef (named 1) mut (pointee ((Array u16 35) .written)))) l₂ (sliceVal (b₂, o₂) n₂) (full 𝓤 (sliceTy (tyRef (named 0) mut (pointee ((Array u64 5) .written)))) l₁ (sliceVal (b₁, o₁) n₁) (free 𝓤 Processed-l.mir l₀ ([]))))))))))))))))))))))))))))))) (runs C Λ En (past 1 (no-of (one mir.t-10))) (anyQ (afterSeq 𝓤 H (Wp 𝓤 H C Λ En mir.t-11 (atReturn 𝓤 H En Post)) (atReturn 𝓤 H En Post))))
-    part-10·no·2-4 is-8 is-9 c-10 is-10·no·1 =
-        -- 10.no.2: agent::process::refused
-        nothing ! $
-        use1 W (raw (toks 𝓤 A 0 (tt) (tt))) (id⊢ 𝓤 _) $ nothing ! $
-        owned ! (Refusal-p .row) (Is (Refusal-p .row)) (Refusal-p .makes 𝓤 H A W) (refusalIn (judgeOf (lent (sessions) (streams) (objects)) (d) agent input n₆)) (Refusal-p .val (refusalIn (judgeOf (lent (sessions) (streams) (objects)) (d) agent input n₆)) ∷ []) is-10·no·1 $ fjoin ! $
+        owned ! (Refusal-p .row) (Is (Refusal-p .row)) (Refusal-p .makes 𝓤 H A W) ((partsOf (judgeOf (lent (sessions) (streams) (objects)) (d) agent input n₆)) .why) (Refusal-p .val ((partsOf (judgeOf (lent (sessions) (streams) (objects)) (d) agent input n₆)) .why) ∷ []) (LL.owed Parts-t.the-type Parts-l.the-laws (partsOf (judgeOf (lent (sessions) (streams) (objects)) (d) agent input n₆)) _ is-9 .1 .1 .1 .0) $ fjoin ! $
         owned ! (Agent-p .row) (Is (Agent-p .row)) (Agent-p .makes 𝓤 H A W) agent (Agent-p .val agent ∷ []) agent-is $ fjoin ! $ move ! (1 ∷ 0 ∷ []) $
-        calls-any-last ! fm 0 [] (process-refused.signature .params) (process-refused.ended .kept) Processed-p (process-refused.clauses 𝓤 H A mem run) known-process-refused tt tt tt (agent, (refusalIn (judgeOf (lent (sessions) (streams) (objects)) (d) agent input n₆), tt)) (Agent-p .val agent ∷ [], (Refusal-p .val (refusalIn (judgeOf (lent (sessions) (streams) (objects)) (d) agent input n₆)) ∷ [], tt)) tt (refusedOf agent (refusalIn (judgeOf (lent (sessions) (streams) (objects)) (d) agent input n₆))) (λ ws-10·no·2. Unit {0}) (id⊢ 𝓤 _) (λ r ws-10·no·2. fact-mono 𝓤 (r ≡ refusedOf agent (refusalIn (judgeOf (lent (sessions) (streams) (objects)) (d) agent input n₆))) ((r ≡ (refusedOf agent (refusalIn (judgeOf (lent (sessions) (streams) (objects)) (d) agent input n₆)))) × (Unit {0})) (λ e. (e, tt))) (λ _. (and-then ! (load ! (from ! (stop !)) (look ! 57 refl)) (and-then ! (load ! (from ! (stop !)) (look ! 45 refl)) (no-more !)))) (λ ws-10·no·2 said-10·no·2 is-10·no·2.
+        calls-any-last ! fm 0 [] (process-refused.signature .params) (process-refused.ended .kept) Processed-p (process-refused.clauses 𝓤 H A mem run) known-process-refused tt tt tt (agent, ((partsOf (judgeOf (lent (sessions) (streams) (objects)) (d) agent input n₆)) .why, tt)) (Agent-p .val agent ∷ [], (Refusal-p .val ((partsOf (judgeOf (lent (sessions) (streams) (objects)) (d) agent input n₆)) .why) ∷ [], tt)) tt (refusedOf agent ((partsOf (judgeOf (lent (sessions) (streams) (objects)) (d) agent input n₆)) .why)) (λ ws-11·no·2. Unit {0}) (id⊢ 𝓤 _) (λ r ws-11·no·2. fact-mono 𝓤 (r ≡ refusedOf agent ((partsOf (judgeOf (lent (sessions) (streams) (objects)) (d) agent input n₆)) .why)) ((r ≡ (refusedOf agent ((partsOf (judgeOf (lent (sessions) (streams) (objects)) (d) agent input n₆)) .why))) × (Unit {0})) (λ e. (e, tt))) (λ _. (and-then ! (load ! (from ! (stop !)) (look ! 59 refl)) (and-then ! (load ! (from ! (stop !)) (look ! 45 refl)) (no-more !)))) (λ ws-11·no·2 said-11·no·2 is-11·no·2.
         drop ! $ drop ! $
-        land-last ! (from ! (stop !)) (init ! 28 refl (Processed-p .typed 𝓤 H A W (refusedOf agent (refusalIn (judgeOf (lent (sessions) (streams) (objects)) (d) agent input n₆))) is-10·no·2)) $
-        exec ! C Λ En mir.t-11 (atRet En Post) $
-        part-11-4 is-8 is-9 c-10 is-10·no·1 is-10·no·2)
+        land-last ! (from ! (stop !)) (init ! 28 refl (Processed-p .typed 𝓤 H A W (refusedOf agent ((partsOf (judgeOf (lent (sessions) (streams) (objects)) (d) agent input n₆)) .why)) is-11·no·2)) $
+        exec ! C Λ En mir.t-12 (atRet En Post) $
+        part-12-2 is-8 is-9 c-11 is-11·no·2)))
 
-    part-10-0 : (is-8 : Is (Judged-p .row) (judgeOf (lent (sessions) (streams) (objects)) (d) agent input n₆) (Judged-p .val (judgeOf (lent (sessions) (streams) (objects)) (d) agent input n₆) ∷ [])) → (is-9 : Is (bool-p .row) (goesOf (judgeOf (lent (sessions) (streams) (objects)) (d) agent input n₆)) (bool-p .val (goesOf (judgeOf (lent (sessions) (streams) (objects)) (d) agent input n₆)) ∷ [])) → Sq W (‵ (MutSlice (named 0) κ₁ (Array u64 5) .own (at-list b₁ o₁ γ₁ sessions) (sliceVal (b₁, o₁) n₁ ∷ [])) ∷ ‵ (flft κ₁ q₁) ∷ ‵ (MutSlice (named 0) κ₂ (Array u16 35) .own (at-list b₂ o₂ γ₂ streams) (sliceVal (b₂, o₂) n₂ ∷ [])) ∷ ‵ (flft κ₂ q₂) ∷ ‵ (MutSlice (named 0) κ₃ Object-t.the-row .own (at-list b₃ o₃ γ₃ objects) (sliceVal (b₃, o₃) n₃ ∷ [])) ∷ ‵ (flft κ₃ q₃) ∷ ‵ (MutSlice (named 0) κ₄ u8 .own (at-list b₄ o₄ γ₄ out) (sliceVal (b₄, o₄) n₄ ∷ [])) ∷ ‵ (flft κ₄ q₄) ∷ ‵ (ShrSlice (named 0) κ₅ u8 .own (at-list b₅ o₅ γ₅ d) (sliceVal (b₅, o₅) n₅ ∷ [])) ∷ ‵ (flft κ₅ q₅) ∷ ‵ (ShrSlice (named 0) κ₆ u8 .own (at-list b₆ o₆ γ₆ sample) (sliceVal (b₆, o₆) n₆ ∷ [])) ∷ ‵ (flft κ₆ q₆) ∷ free 𝓤 (sliceTy (tyRef erased mut (pointee (u8 .written)))) l₂₉ (free 𝓤 (tyRef erased mut (pointee (u8 .written))) l₂₈ (free 𝓤 (sliceTy (tyRef erased mut (pointee (Object-t.the-row .written)))) l₂₇ (free 𝓤 (tyRef erased mut (pointee (Object-t.the-row .written))) l₂₆ (free 𝓤 (sliceTy (tyRef erased mut (pointee ((Array u16 35) .written)))) l₂₅ (free 𝓤 (tyRef erased mut (pointee ((Array u16 35) .written))) l₂₄ (free 𝓤 (sliceTy (tyRef erased mut (pointee ((Array u64 5) .written)))) l₂₃ (free 𝓤 (tyRef erased mut (pointee ((Array u64 5) .written))) l₂₂ (free 𝓤 Processed-l.mir l₂₁ (full 𝓤 tyBool l₂₀ (bool-p .val (goesOf (judgeOf (lent (sessions) (streams) (objects)) (d) agent input n₆))) (full 𝓤 (sliceTy (tyRef erased imm (pointee (Object-t.the-row .written)))) l₁₉ (sliceVal (b₃, o₃) n₃) (full 𝓤 (tyRef erased imm (pointee (Object-t.the-row .written))) l₁₈ (vptr b₃ o₃) (full 𝓤 (sliceTy (tyRef erased imm (pointee ((Array u16 35) .written)))) l₁₇ (sliceVal (b₂, o₂) n₂) (full 𝓤 (tyRef erased imm (pointee ((Array u16 35) .written))) l₁₆ (vptr b₂ o₂) (full 𝓤 (sliceTy (tyRef erased imm (pointee ((Array u64 5) .written)))) l₁₅ (sliceVal (b₁, o₁) n₁) (full 𝓤 (tyRef erased imm (pointee ((Array u64 5) .written))) l₁₄ (vptr b₁ o₁) (free 𝓤 Refusal-l.mir l₁₃ (free 𝓤 (tyInt w64) l₁₂ (free 𝓤 Start-l.mir l₁₁ (full 𝓤 Judged-l.mir l₁₀ (Judged-p .val (judgeOf (lent (sessions) (streams) (objects)) (d) agent input n₆)) (full 𝓤 (tyInt w64) l₉ (u64-p .val n₆) (full 𝓤 Input-l.mir l₈ (Input-p .val input) (full 𝓤 Agent-l.mir l₇ (Agent-p .val agent) (full 𝓤 (sliceTy (tyRef (named 5) imm (pointee (u8 .written)))) l₆ (sliceVal (b₆, o₆) n₆) (full 𝓤 (sliceTy (tyRef (named 4) imm (pointee (u8 .written)))) l₅ (sliceVal (b₅, o₅) n₅) (full 𝓤 (sliceTy (tyRef (named 3) mut (pointee (u8 .written)))) l₄ (sliceVal (b₄, o₄) n₄) (full 𝓤 (sliceTy (tyRef (named 2) mut (pointee (Object-t.the-row .written)))) l₃ (sliceVal (b₃, o₃) n₃) (full 𝓤 (sliceTy (tyRef (named 1) mut (pointee ((Array u16 35) .written)))) l₂ (sliceVal (b₂, o₂) n₂) (full 𝓤 (sliceTy (tyRef (named 0) mut (pointee ((Array u64 5) .written)))) l₁ (sliceVal (b₁, o₁) n₁) (free 𝓤 Processed-l.mir l₀ ([]))))))))))))))))))))))))))))))) (runs C Λ En mir.t-10 (atRet En Post))
-    part-10-0 is-8 is-9 =
-        first ! $
-        branches ! (load ! (from ! (stop !)) (look ! 30 refl))
-        (λ h-10.
-        knows ! (goesOf (judgeOf (lent (sessions) (streams) (objects)) (d) agent input n₆) ≡ true) (holds (goesOf (judgeOf (lent (sessions) (streams) (objects)) (d) agent input n₆)) h-10) (λ c-10.
-        -- 10.yes.1: agent::judge::start_in
-        nothing ! $
-        use1 W (raw (toks 𝓤 A 0 (tt) (tt))) (id⊢ 𝓤 _) $ nothing ! $
-        owned ! (Judged-p .row) (Is (Judged-p .row)) (Judged-p .makes 𝓤 H A W) (judgeOf (lent (sessions) (streams) (objects)) (d) agent input n₆) (Judged-p .val (judgeOf (lent (sessions) (streams) (objects)) (d) agent input n₆) ∷ []) is-8 $ fjoin ! $ move ! (1 ∷ 0 ∷ []) $
-        calls-any ! fm 0 [] (judge-start-in.signature .params) (judge-start-in.ended .kept) Start-p (judge-start-in.clauses 𝓤 H A mem run) known-judge-start-in tt tt tt (judgeOf (lent (sessions) (streams) (objects)) (d) agent input n₆, tt) (Judged-p .val (judgeOf (lent (sessions) (streams) (objects)) (d) agent input n₆) ∷ [], tt) tt (startIn (judgeOf (lent (sessions) (streams) (objects)) (d) agent input n₆)) (λ ws-10·yes·1. Unit {0}) (id⊢ 𝓤 _) (λ r ws-10·yes·1. fact-mono 𝓤 (r ≡ startIn (judgeOf (lent (sessions) (streams) (objects)) (d) agent input n₆)) ((r ≡ (startIn (judgeOf (lent (sessions) (streams) (objects)) (d) agent input n₆))) × (Unit {0})) (λ e. (e, tt))) (λ _. (and-then ! (load ! (from ! (stop !)) (look ! 51 refl)) (no-more !))) (λ ws-10·yes·1 said-10·yes·1 is-10·yes·1.
-        drop ! $ drop ! $
-        land ! (from ! (stop !)) (init ! 48 refl (Start-p .typed 𝓤 H A W (startIn (judgeOf (lent (sessions) (streams) (objects)) (d) agent input n₆)) is-10·yes·1)) $
-        part-10·yes·2-0 is-8 is-9 c-10 is-10·yes·1)))
-        (λ h-10.
-        knows ! (goesOf (judgeOf (lent (sessions) (streams) (objects)) (d) agent input n₆) ≡ false) (fails (goesOf (judgeOf (lent (sessions) (streams) (objects)) (d) agent input n₆)) (T-not (goesOf (judgeOf (lent (sessions) (streams) (objects)) (d) agent input n₆)) h-10)) (λ c-10.
-        -- 10.no.1: agent::judge::refusal_in
-        nothing ! $
-        use1 W (raw (toks 𝓤 A 0 (tt) (tt))) (id⊢ 𝓤 _) $ nothing ! $
-        owned ! (Judged-p .row) (Is (Judged-p .row)) (Judged-p .makes 𝓤 H A W) (judgeOf (lent (sessions) (streams) (objects)) (d) agent input n₆) (Judged-p .val (judgeOf (lent (sessions) (streams) (objects)) (d) agent input n₆) ∷ []) is-8 $ fjoin ! $ move ! (1 ∷ 0 ∷ []) $
-        calls-any ! fm 0 [] (judge-refusal-in.signature .params) (judge-refusal-in.ended .kept) Refusal-p (judge-refusal-in.clauses 𝓤 H A mem run) known-judge-refusal-in tt tt tt (judgeOf (lent (sessions) (streams) (objects)) (d) agent input n₆, tt) (Judged-p .val (judgeOf (lent (sessions) (streams) (objects)) (d) agent input n₆) ∷ [], tt) tt (refusalIn (judgeOf (lent (sessions) (streams) (objects)) (d) agent input n₆)) (λ ws-10·no·1. Unit {0}) (id⊢ 𝓤 _) (λ r ws-10·no·1. fact-mono 𝓤 (r ≡ refusalIn (judgeOf (lent (sessions) (streams) (objects)) (d) agent input n₆)) ((r ≡ (refusalIn (judgeOf (lent (sessions) (streams) (objects)) (d) agent input n₆))) × (Unit {0})) (λ e. (e, tt))) (λ _. (and-then ! (load ! (from ! (stop !)) (look ! 51 refl)) (no-more !))) (λ ws-10·no·1 said-10·no·1 is-10·no·1.
-        drop ! $ drop ! $
-        land ! (from ! (stop !)) (init ! 44 refl (Refusal-p .typed 𝓤 H A W (refusalIn (judgeOf (lent (sessions) (streams) (objects)) (d) agent input n₆)) is-10·no·1)) $
-        part-10·no·2-4 is-8 is-9 c-10 is-10·no·1)))
-
-    part-9-0 : (is-8 : Is (Judged-p .row) (judgeOf (lent (sessions) (streams) (objects)) (d) agent input n₆) (Judged-p .val (judgeOf (lent (sessions) (streams) (objects)) (d) agent input n₆) ∷ [])) → Sq W (‵ (MutSlice (named 0) κ₁ (Array u64 5) .own (at-list b₁ o₁ γ₁ sessions) (sliceVal (b₁, o₁) n₁ ∷ [])) ∷ ‵ (flft κ₁ q₁) ∷ ‵ (MutSlice (named 0) κ₂ (Array u16 35) .own (at-list b₂ o₂ γ₂ streams) (sliceVal (b₂, o₂) n₂ ∷ [])) ∷ ‵ (flft κ₂ q₂) ∷ ‵ (MutSlice (named 0) κ₃ Object-t.the-row .own (at-list b₃ o₃ γ₃ objects) (sliceVal (b₃, o₃) n₃ ∷ [])) ∷ ‵ (flft κ₃ q₃) ∷ ‵ (MutSlice (named 0) κ₄ u8 .own (at-list b₄ o₄ γ₄ out) (sliceVal (b₄, o₄) n₄ ∷ [])) ∷ ‵ (flft κ₄ q₄) ∷ ‵ (ShrSlice (named 0) κ₅ u8 .own (at-list b₅ o₅ γ₅ d) (sliceVal (b₅, o₅) n₅ ∷ [])) ∷ ‵ (flft κ₅ q₅) ∷ ‵ (ShrSlice (named 0) κ₆ u8 .own (at-list b₆ o₆ γ₆ sample) (sliceVal (b₆, o₆) n₆ ∷ [])) ∷ ‵ (flft κ₆ q₆) ∷ free 𝓤 (sliceTy (tyRef erased mut (pointee (u8 .written)))) l₂₉ (free 𝓤 (tyRef erased mut (pointee (u8 .written))) l₂₈ (free 𝓤 (sliceTy (tyRef erased mut (pointee (Object-t.the-row .written)))) l₂₇ (free 𝓤 (tyRef erased mut (pointee (Object-t.the-row .written))) l₂₆ (free 𝓤 (sliceTy (tyRef erased mut (pointee ((Array u16 35) .written)))) l₂₅ (free 𝓤 (tyRef erased mut (pointee ((Array u16 35) .written))) l₂₄ (free 𝓤 (sliceTy (tyRef erased mut (pointee ((Array u64 5) .written)))) l₂₃ (free 𝓤 (tyRef erased mut (pointee ((Array u64 5) .written))) l₂₂ (free 𝓤 Processed-l.mir l₂₁ (free 𝓤 tyBool l₂₀ (full 𝓤 (sliceTy (tyRef erased imm (pointee (Object-t.the-row .written)))) l₁₉ (sliceVal (b₃, o₃) n₃) (full 𝓤 (tyRef erased imm (pointee (Object-t.the-row .written))) l₁₈ (vptr b₃ o₃) (full 𝓤 (sliceTy (tyRef erased imm (pointee ((Array u16 35) .written)))) l₁₇ (sliceVal (b₂, o₂) n₂) (full 𝓤 (tyRef erased imm (pointee ((Array u16 35) .written))) l₁₆ (vptr b₂ o₂) (full 𝓤 (sliceTy (tyRef erased imm (pointee ((Array u64 5) .written)))) l₁₅ (sliceVal (b₁, o₁) n₁) (full 𝓤 (tyRef erased imm (pointee ((Array u64 5) .written))) l₁₄ (vptr b₁ o₁) (free 𝓤 Refusal-l.mir l₁₃ (free 𝓤 (tyInt w64) l₁₂ (free 𝓤 Start-l.mir l₁₁ (full 𝓤 Judged-l.mir l₁₀ (Judged-p .val (judgeOf (lent (sessions) (streams) (objects)) (d) agent input n₆)) (full 𝓤 (tyInt w64) l₉ (u64-p .val n₆) (full 𝓤 Input-l.mir l₈ (Input-p .val input) (full 𝓤 Agent-l.mir l₇ (Agent-p .val agent) (full 𝓤 (sliceTy (tyRef (named 5) imm (pointee (u8 .written)))) l₆ (sliceVal (b₆, o₆) n₆) (full 𝓤 (sliceTy (tyRef (named 4) imm (pointee (u8 .written)))) l₅ (sliceVal (b₅, o₅) n₅) (full 𝓤 (sliceTy (tyRef (named 3) mut (pointee (u8 .written)))) l₄ (sliceVal (b₄, o₄) n₄) (full 𝓤 (sliceTy (tyRef (named 2) mut (pointee (Object-t.the-row .written)))) l₃ (sliceVal (b₃, o₃) n₃) (full 𝓤 (sliceTy (tyRef (named 1) mut (pointee ((Array u16 35) .written)))) l₂ (sliceVal (b₂, o₂) n₂) (full 𝓤 (sliceTy (tyRef (named 0) mut (pointee ((Array u64 5) .written)))) l₁ (sliceVal (b₁, o₁) n₁) (free 𝓤 Processed-l.mir l₀ ([]))))))))))))))))))))))))))))))) (runs C Λ En mir.t-9 (atRet En Post))
+    part-9-0 : (is-8 : Is (Judged-p .row) (judgeOf (lent (sessions) (streams) (objects)) (d) agent input n₆) (Judged-p .val (judgeOf (lent (sessions) (streams) (objects)) (d) agent input n₆) ∷ [])) → Sq W (‵ (MutSlice (named 0) κ₁ (Array u64 5) .own (at-list b₁ o₁ γ₁ sessions) (sliceVal (b₁, o₁) n₁ ∷ [])) ∷ ‵ (flft κ₁ q₁) ∷ ‵ (MutSlice (named 0) κ₂ (Array u16 35) .own (at-list b₂ o₂ γ₂ streams) (sliceVal (b₂, o₂) n₂ ∷ [])) ∷ ‵ (flft κ₂ q₂) ∷ ‵ (MutSlice (named 0) κ₃ Object-t.the-row .own (at-list b₃ o₃ γ₃ objects) (sliceVal (b₃, o₃) n₃ ∷ [])) ∷ ‵ (flft κ₃ q₃) ∷ ‵ (MutSlice (named 0) κ₄ u8 .own (at-list b₄ o₄ γ₄ out) (sliceVal (b₄, o₄) n₄ ∷ [])) ∷ ‵ (flft κ₄ q₄) ∷ ‵ (ShrSlice (named 0) κ₅ u8 .own (at-list b₅ o₅ γ₅ d) (sliceVal (b₅, o₅) n₅ ∷ [])) ∷ ‵ (flft κ₅ q₅) ∷ ‵ (ShrSlice (named 0) κ₆ u8 .own (at-list b₆ o₆ γ₆ sample) (sliceVal (b₆, o₆) n₆ ∷ [])) ∷ ‵ (flft κ₆ q₆) ∷ free 𝓤 (sliceTy (tyRef erased mut (pointee (u8 .written)))) l₃₀ (free 𝓤 (tyRef erased mut (pointee (u8 .written))) l₂₉ (free 𝓤 (sliceTy (tyRef erased mut (pointee (Object-t.the-row .written)))) l₂₈ (free 𝓤 (tyRef erased mut (pointee (Object-t.the-row .written))) l₂₇ (free 𝓤 (sliceTy (tyRef erased mut (pointee ((Array u16 35) .written)))) l₂₆ (free 𝓤 (tyRef erased mut (pointee ((Array u16 35) .written))) l₂₅ (free 𝓤 (sliceTy (tyRef erased mut (pointee ((Array u64 5) .written)))) l₂₄ (free 𝓤 (tyRef erased mut (pointee ((Array u64 5) .written))) l₂₃ (free 𝓤 Processed-l.mir l₂₂ (free 𝓤 tyBool l₂₁ (full 𝓤 (sliceTy (tyRef erased imm (pointee (Object-t.the-row .written)))) l₂₀ (sliceVal (b₃, o₃) n₃) (full 𝓤 (tyRef erased imm (pointee (Object-t.the-row .written))) l₁₉ (vptr b₃ o₃) (full 𝓤 (sliceTy (tyRef erased imm (pointee ((Array u16 35) .written)))) l₁₈ (sliceVal (b₂, o₂) n₂) (full 𝓤 (tyRef erased imm (pointee ((Array u16 35) .written))) l₁₇ (vptr b₂ o₂) (full 𝓤 (sliceTy (tyRef erased imm (pointee ((Array u64 5) .written)))) l₁₆ (sliceVal (b₁, o₁) n₁) (full 𝓤 (tyRef erased imm (pointee ((Array u64 5) .written))) l₁₅ (vptr b₁ o₁) (free 𝓤 Refusal-l.mir l₁₄ (free 𝓤 (tyInt w64) l₁₃ (free 𝓤 Start-l.mir l₁₂ (free 𝓤 Parts-l.mir l₁₁ (full 𝓤 Judged-l.mir l₁₀ (Judged-p .val (judgeOf (lent (sessions) (streams) (objects)) (d) agent input n₆)) (full 𝓤 (tyInt w64) l₉ (u64-p .val n₆) (full 𝓤 Input-l.mir l₈ (Input-p .val input) (full 𝓤 Agent-l.mir l₇ (Agent-p .val agent) (full 𝓤 (sliceTy (tyRef (named 5) imm (pointee (u8 .written)))) l₆ (sliceVal (b₆, o₆) n₆) (full 𝓤 (sliceTy (tyRef (named 4) imm (pointee (u8 .written)))) l₅ (sliceVal (b₅, o₅) n₅) (full 𝓤 (sliceTy (tyRef (named 3) mut (pointee (u8 .written)))) l₄ (sliceVal (b₄, o₄) n₄) (full 𝓤 (sliceTy (tyRef (named 2) mut (pointee (Object-t.the-row .written)))) l₃ (sliceVal (b₃, o₃) n₃) (full 𝓤 (sliceTy (tyRef (named 1) mut (pointee ((Array u16 35) .written)))) l₂ (sliceVal (b₂, o₂) n₂) (full 𝓤 (sliceTy (tyRef (named 0) mut (pointee ((Array u64 5) .written)))) l₁ (sliceVal (b₁, o₁) n₁) (free 𝓤 Processed-l.mir l₀ ([])))))))))))))))))))))))))))))))) (runs C Λ En mir.t-9 (atRet En Post))
     part-9-0 is-8 =
-        -- 9: agent::judge::goes
+        -- 9: agent::judge::parts_of
         nothing ! $
         use1 W (raw (toks 𝓤 A 0 (tt) (tt))) (id⊢ 𝓤 _) $ nothing ! $
         owned ! (Judged-p .row) (Is (Judged-p .row)) (Judged-p .makes 𝓤 H A W) (judgeOf (lent (sessions) (streams) (objects)) (d) agent input n₆) (Judged-p .val (judgeOf (lent (sessions) (streams) (objects)) (d) agent input n₆) ∷ []) is-8 $ fjoin ! $ move ! (1 ∷ 0 ∷ []) $
-        calls-any ! fm 0 [] (judge-goes.signature .params) (judge-goes.ended .kept) bool-p (judge-goes.clauses 𝓤 H A mem run) known-judge-goes tt tt tt (judgeOf (lent (sessions) (streams) (objects)) (d) agent input n₆, tt) (Judged-p .val (judgeOf (lent (sessions) (streams) (objects)) (d) agent input n₆) ∷ [], tt) tt (goesOf (judgeOf (lent (sessions) (streams) (objects)) (d) agent input n₆)) (λ ws-9. Unit {0}) (id⊢ 𝓤 _) (λ r ws-9. fact-mono 𝓤 (r ≡ goesOf (judgeOf (lent (sessions) (streams) (objects)) (d) agent input n₆)) ((r ≡ (goesOf (judgeOf (lent (sessions) (streams) (objects)) (d) agent input n₆))) × (Unit {0})) (λ e. (e, tt))) (λ _. (and-then ! (load ! (from ! (stop !)) (look ! 51 refl)) (no-more !))) (λ ws-9 said-9 is-9.
+        calls-any ! fm 0 [] (judge-parts-of.signature .params) (judge-parts-of.ended .kept) Parts-p (judge-parts-of.clauses 𝓤 H A mem run) known-judge-parts-of tt tt tt (judgeOf (lent (sessions) (streams) (objects)) (d) agent input n₆, tt) (Judged-p .val (judgeOf (lent (sessions) (streams) (objects)) (d) agent input n₆) ∷ [], tt) tt (partsOf (judgeOf (lent (sessions) (streams) (objects)) (d) agent input n₆)) (λ ws-9. Unit {0}) (id⊢ 𝓤 _) (λ r ws-9. fact-mono 𝓤 (r ≡ partsOf (judgeOf (lent (sessions) (streams) (objects)) (d) agent input n₆)) ((r ≡ (partsOf (judgeOf (lent (sessions) (streams) (objects)) (d) agent input n₆))) × (Unit {0})) (λ e. (e, tt))) (λ _. (and-then ! (load ! (from ! (stop !)) (look ! 53 refl)) (no-more !))) (λ ws-9 said-9 is-9.
         drop ! $ drop ! $
-        land ! (from ! (stop !)) (init ! 30 refl (bool-p .typed 𝓤 H A W (goesOf (judgeOf (lent (sessions) (streams) (objects)) (d) agent input n₆)) is-9)) $
+        land ! (from ! (stop !)) (init ! 50 refl (Parts-p .typed 𝓤 H A W (partsOf (judgeOf (lent (sessions) (streams) (objects)) (d) agent input n₆)) is-9)) $
         part-10-0 is-8 is-9)
 
-    begins : Sq W (‵ (MutSlice (named 0) κ₁ (Array u64 5) .own (at-list b₁ o₁ γ₁ sessions) (sliceVal (b₁, o₁) n₁ ∷ [])) ∷ ‵ (flft κ₁ q₁) ∷ ‵ (MutSlice (named 0) κ₂ (Array u16 35) .own (at-list b₂ o₂ γ₂ streams) (sliceVal (b₂, o₂) n₂ ∷ [])) ∷ ‵ (flft κ₂ q₂) ∷ ‵ (MutSlice (named 0) κ₃ Object-t.the-row .own (at-list b₃ o₃ γ₃ objects) (sliceVal (b₃, o₃) n₃ ∷ [])) ∷ ‵ (flft κ₃ q₃) ∷ ‵ (MutSlice (named 0) κ₄ u8 .own (at-list b₄ o₄ γ₄ out) (sliceVal (b₄, o₄) n₄ ∷ [])) ∷ ‵ (flft κ₄ q₄) ∷ ‵ (ShrSlice (named 0) κ₅ u8 .own (at-list b₅ o₅ γ₅ d) (sliceVal (b₅, o₅) n₅ ∷ [])) ∷ ‵ (flft κ₅ q₅) ∷ ‵ (ShrSlice (named 0) κ₆ u8 .own (at-list b₆ o₆ γ₆ sample) (sliceVal (b₆, o₆) n₆ ∷ [])) ∷ ‵ (flft κ₆ q₆) ∷ free 𝓤 (sliceTy (tyRef erased mut (pointee (u8 .written)))) l₂₉ (free 𝓤 (tyRef erased mut (pointee (u8 .written))) l₂₈ (free 𝓤 (sliceTy (tyRef erased mut (pointee (Object-t.the-row .written)))) l₂₇ (free 𝓤 (tyRef erased mut (pointee (Object-t.the-row .written))) l₂₆ (free 𝓤 (sliceTy (tyRef erased mut (pointee ((Array u16 35) .written)))) l₂₅ (free 𝓤 (tyRef erased mut (pointee ((Array u16 35) .written))) l₂₄ (free 𝓤 (sliceTy (tyRef erased mut (pointee ((Array u64 5) .written)))) l₂₃ (free 𝓤 (tyRef erased mut (pointee ((Array u64 5) .written))) l₂₂ (free 𝓤 Processed-l.mir l₂₁ (free 𝓤 tyBool l₂₀ (free 𝓤 (sliceTy (tyRef erased imm (pointee (Object-t.the-row .written)))) l₁₉ (free 𝓤 (tyRef erased imm (pointee (Object-t.the-row .written))) l₁₈ (free 𝓤 (sliceTy (tyRef erased imm (pointee ((Array u16 35) .written)))) l₁₇ (free 𝓤 (tyRef erased imm (pointee ((Array u16 35) .written))) l₁₆ (free 𝓤 (sliceTy (tyRef erased imm (pointee ((Array u64 5) .written)))) l₁₅ (free 𝓤 (tyRef erased imm (pointee ((Array u64 5) .written))) l₁₄ (free 𝓤 Refusal-l.mir l₁₃ (free 𝓤 (tyInt w64) l₁₂ (free 𝓤 Start-l.mir l₁₁ (free 𝓤 Judged-l.mir l₁₀ (free 𝓤 (tyInt w64) l₉ (full 𝓤 Input-l.mir l₈ (Input-p .val input) (full 𝓤 Agent-l.mir l₇ (Agent-p .val agent) (full 𝓤 (sliceTy (tyRef (named 5) imm (pointee (u8 .written)))) l₆ (sliceVal (b₆, o₆) n₆) (full 𝓤 (sliceTy (tyRef (named 4) imm (pointee (u8 .written)))) l₅ (sliceVal (b₅, o₅) n₅) (full 𝓤 (sliceTy (tyRef (named 3) mut (pointee (u8 .written)))) l₄ (sliceVal (b₄, o₄) n₄) (full 𝓤 (sliceTy (tyRef (named 2) mut (pointee (Object-t.the-row .written)))) l₃ (sliceVal (b₃, o₃) n₃) (full 𝓤 (sliceTy (tyRef (named 1) mut (pointee ((Array u16 35) .written)))) l₂ (sliceVal (b₂, o₂) n₂) (full 𝓤 (sliceTy (tyRef (named 0) mut (pointee ((Array u64 5) .written)))) l₁ (sliceVal (b₁, o₁) n₁) (free 𝓤 Processed-l.mir l₀ ([]))))))))))))))))))))))))))))))) (runs C Λ En mir.t-1 (atRet En Post))
+    begins : Sq W (‵ (MutSlice (named 0) κ₁ (Array u64 5) .own (at-list b₁ o₁ γ₁ sessions) (sliceVal (b₁, o₁) n₁ ∷ [])) ∷ ‵ (flft κ₁ q₁) ∷ ‵ (MutSlice (named 0) κ₂ (Array u16 35) .own (at-list b₂ o₂ γ₂ streams) (sliceVal (b₂, o₂) n₂ ∷ [])) ∷ ‵ (flft κ₂ q₂) ∷ ‵ (MutSlice (named 0) κ₃ Object-t.the-row .own (at-list b₃ o₃ γ₃ objects) (sliceVal (b₃, o₃) n₃ ∷ [])) ∷ ‵ (flft κ₃ q₃) ∷ ‵ (MutSlice (named 0) κ₄ u8 .own (at-list b₄ o₄ γ₄ out) (sliceVal (b₄, o₄) n₄ ∷ [])) ∷ ‵ (flft κ₄ q₄) ∷ ‵ (ShrSlice (named 0) κ₅ u8 .own (at-list b₅ o₅ γ₅ d) (sliceVal (b₅, o₅) n₅ ∷ [])) ∷ ‵ (flft κ₅ q₅) ∷ ‵ (ShrSlice (named 0) κ₆ u8 .own (at-list b₆ o₆ γ₆ sample) (sliceVal (b₆, o₆) n₆ ∷ [])) ∷ ‵ (flft κ₆ q₆) ∷ free 𝓤 (sliceTy (tyRef erased mut (pointee (u8 .written)))) l₃₀ (free 𝓤 (tyRef erased mut (pointee (u8 .written))) l₂₉ (free 𝓤 (sliceTy (tyRef erased mut (pointee (Object-t.the-row .written)))) l₂₈ (free 𝓤 (tyRef erased mut (pointee (Object-t.the-row .written))) l₂₇ (free 𝓤 (sliceTy (tyRef erased mut (pointee ((Array u16 35) .written)))) l₂₆ (free 𝓤 (tyRef erased mut (pointee ((Array u16 35) .written))) l₂₅ (free 𝓤 (sliceTy (tyRef erased mut (pointee ((Array u64 5) .written)))) l₂₄ (free 𝓤 (tyRef erased mut (pointee ((Array u64 5) .written))) l₂₃ (free 𝓤 Processed-l.mir l₂₂ (free 𝓤 tyBool l₂₁ (free 𝓤 (sliceTy (tyRef erased imm (pointee (Object-t.the-row .written)))) l₂₀ (free 𝓤 (tyRef erased imm (pointee (Object-t.the-row .written))) l₁₉ (free 𝓤 (sliceTy (tyRef erased imm (pointee ((Array u16 35) .written)))) l₁₈ (free 𝓤 (tyRef erased imm (pointee ((Array u16 35) .written))) l₁₇ (free 𝓤 (sliceTy (tyRef erased imm (pointee ((Array u64 5) .written)))) l₁₆ (free 𝓤 (tyRef erased imm (pointee ((Array u64 5) .written))) l₁₅ (free 𝓤 Refusal-l.mir l₁₄ (free 𝓤 (tyInt w64) l₁₃ (free 𝓤 Start-l.mir l₁₂ (free 𝓤 Parts-l.mir l₁₁ (free 𝓤 Judged-l.mir l₁₀ (free 𝓤 (tyInt w64) l₉ (full 𝓤 Input-l.mir l₈ (Input-p .val input) (full 𝓤 Agent-l.mir l₇ (Agent-p .val agent) (full 𝓤 (sliceTy (tyRef (named 5) imm (pointee (u8 .written)))) l₆ (sliceVal (b₆, o₆) n₆) (full 𝓤 (sliceTy (tyRef (named 4) imm (pointee (u8 .written)))) l₅ (sliceVal (b₅, o₅) n₅) (full 𝓤 (sliceTy (tyRef (named 3) mut (pointee (u8 .written)))) l₄ (sliceVal (b₄, o₄) n₄) (full 𝓤 (sliceTy (tyRef (named 2) mut (pointee (Object-t.the-row .written)))) l₃ (sliceVal (b₃, o₃) n₃) (full 𝓤 (sliceTy (tyRef (named 1) mut (pointee ((Array u16 35) .written)))) l₂ (sliceVal (b₂, o₂) n₂) (full 𝓤 (sliceTy (tyRef (named 0) mut (pointee ((Array u64 5) .written)))) l₁ (sliceVal (b₁, o₁) n₁) (free 𝓤 Processed-l.mir l₀ ([])))))))))))))))))))))))))))))))) (runs C Λ En mir.t-1 (atRet En Post))
     begins =
-        assigns ! (of-opd ! (load ! (from ! (fld ! refl (stop !))) (look-in ! 58 (sub ! 1 refl (whole !))))) (from ! (stop !)) (init ! 52 refl (u64-p .typed 𝓤 H A W n₆ ((refl, room₆ .0)))) $
-        assigns ! (addr ! (from ! (fld ! refl (hop ! (look-in ! 68 (sub ! 0 refl (whole !))) (stop !))))) (from ! (stop !)) (init ! 42 refl (tt, tt)) $
-        assigns ! (agg ! (and-then ! (load ! (from ! (stop !)) (look ! 42 refl)) (and-then ! (load ! (from ! (fld ! refl (stop !))) (look-in ! 68 (sub ! 1 refl (whole !)))) (no-more !)))) (from ! (stop !)) (init ! 40 refl (tt, (tt, (record { fits = room₁ .0 }, tt)))) $
-        assigns ! (addr ! (from ! (fld ! refl (hop ! (look-in ! 66 (sub ! 0 refl (whole !))) (stop !))))) (from ! (stop !)) (init ! 38 refl (tt, tt)) $
-        assigns ! (agg ! (and-then ! (load ! (from ! (stop !)) (look ! 38 refl)) (and-then ! (load ! (from ! (fld ! refl (stop !))) (look-in ! 66 (sub ! 1 refl (whole !)))) (no-more !)))) (from ! (stop !)) (init ! 36 refl (tt, (tt, (record { fits = room₂ .0 }, tt)))) $
-        assigns ! (addr ! (from ! (fld ! refl (hop ! (look-in ! 64 (sub ! 0 refl (whole !))) (stop !))))) (from ! (stop !)) (init ! 34 refl (tt, tt)) $
-        assigns ! (agg ! (and-then ! (load ! (from ! (stop !)) (look ! 34 refl)) (and-then ! (load ! (from ! (fld ! refl (stop !))) (look-in ! 64 (sub ! 1 refl (whole !)))) (no-more !)))) (from ! (stop !)) (init ! 32 refl (tt, (tt, (record { fits = room₃ .0 }, tt)))) $
+        assigns ! (of-opd ! (load ! (from ! (fld ! refl (stop !))) (look-in ! 60 (sub ! 1 refl (whole !))))) (from ! (stop !)) (init ! 54 refl (u64-p .typed 𝓤 H A W n₆ ((refl, room₆ .0)))) $
+        assigns ! (addr ! (from ! (fld ! refl (hop ! (look-in ! 70 (sub ! 0 refl (whole !))) (stop !))))) (from ! (stop !)) (init ! 42 refl (tt, tt)) $
+        assigns ! (agg ! (and-then ! (load ! (from ! (stop !)) (look ! 42 refl)) (and-then ! (load ! (from ! (fld ! refl (stop !))) (look-in ! 70 (sub ! 1 refl (whole !)))) (no-more !)))) (from ! (stop !)) (init ! 40 refl (tt, (tt, (record { fits = room₁ .0 }, tt)))) $
+        assigns ! (addr ! (from ! (fld ! refl (hop ! (look-in ! 68 (sub ! 0 refl (whole !))) (stop !))))) (from ! (stop !)) (init ! 38 refl (tt, tt)) $
+        assigns ! (agg ! (and-then ! (load ! (from ! (stop !)) (look ! 38 refl)) (and-then ! (load ! (from ! (fld ! refl (stop !))) (look-in ! 68 (sub ! 1 refl (whole !)))) (no-more !)))) (from ! (stop !)) (init ! 36 refl (tt, (tt, (record { fits = room₂ .0 }, tt)))) $
+        assigns ! (addr ! (from ! (fld ! refl (hop ! (look-in ! 66 (sub ! 0 refl (whole !))) (stop !))))) (from ! (stop !)) (init ! 34 refl (tt, tt)) $
+        assigns ! (agg ! (and-then ! (load ! (from ! (stop !)) (look ! 34 refl)) (and-then ! (load ! (from ! (fld ! refl (stop !))) (look-in ! 66 (sub ! 1 refl (whole !)))) (no-more !)))) (from ! (stop !)) (init ! 32 refl (tt, (tt, (record { fits = room₃ .0 }, tt)))) $
         -- 8: agent::judge::judge
         lends-view ! tt (Array u64 5) b₁ o₁ sessions n₁ (refl) (λ ν-8-sessions δ-8-sessions.
         move ! (3 ∷ 4 ∷ []) $
@@ -474,25 +433,25 @@ module _ {M : Type 1} (𝓤 : URA M) (H : Heap 𝓤) (A : Atoms 𝓤) (W : Given
         owned ! (u64-p .row) (Is (u64-p .row)) (u64-p .makes 𝓤 H A W) n₆ (u64-p .val n₆ ∷ []) ((refl, room₆ .0)) $ fjoin ! $
         owned ! (Input-p .row) (Is (Input-p .row)) (Input-p .makes 𝓤 H A W) input (Input-p .val input ∷ []) input-is $ fjoin ! $
         owned ! (Agent-p .row) (Is (Agent-p .row)) (Agent-p .makes 𝓤 H A W) agent (Agent-p .val agent ∷ []) agent-is $ fjoin ! $ move ! (2 ∷ 0 ∷ []) $ fjoin ! $ move ! (3 ∷ 0 ∷ []) $ fjoin ! $ move ! (4 ∷ 0 ∷ []) $ fjoin ! $ move ! (5 ∷ 0 ∷ []) $ fjoin ! $ move ! (1 ∷ 0 ∷ []) $
-        calls-any ! fm 4 [] (judge-judge.signature .params) (judge-judge.ended .kept) Judged-p (judge-judge.clauses 𝓤 H A mem run) known-judge-judge ((ν-8-sessions ∷ []), ((ν-8-streams ∷ []), ((ν-8-objects ∷ []), (κ₅, tt)))) (fullShare, (fullShare, (fullShare, (q₅, tt)))) tt (at-list b₁ o₁ δ-8-sessions sessions, (at-list b₂ o₂ δ-8-streams streams, (at-list b₃ o₃ δ-8-objects objects, (at-list b₅ o₅ γ₅ d, (agent, (input, (n₆, tt))))))) (sliceVal (b₁, o₁) n₁ ∷ [], (sliceVal (b₂, o₂) n₂ ∷ [], (sliceVal (b₃, o₃) n₃ ∷ [], (sliceVal (b₅, o₅) n₅ ∷ [], (Agent-p .val agent ∷ [], (Input-p .val input ∷ [], (u64-p .val n₆ ∷ [], tt))))))) tt (judgeOf (lent (sessions) (streams) (objects)) (d) agent input n₆) (λ ws-8. Unit {0}) (id⊢ 𝓤 _) (λ r ws-8. fact-mono 𝓤 (r ≡ judgeOf (lent (sessions) (streams) (objects)) (d) agent input n₆) ((r ≡ (judgeOf (lent (sessions) (streams) (objects)) (d) agent input n₆)) × (Unit {0})) (λ e. (e, tt))) (λ _. (and-then ! (load ! (from ! (stop !)) (look ! 37 refl)) (and-then ! (load ! (from ! (stop !)) (look ! 33 refl)) (and-then ! (load ! (from ! (stop !)) (look ! 29 refl)) (and-then ! (load ! (from ! (stop !)) (look ! 57 refl)) (and-then ! (load ! (from ! (stop !)) (look ! 53 refl)) (and-then ! (load ! (from ! (stop !)) (look ! 51 refl)) (and-then ! (load ! (from ! (stop !)) (look ! 49 refl)) (no-more !))))))))) (λ ws-8 said-8 is-8.
+        calls-any ! fm 4 [] (judge-judge.signature .params) (judge-judge.ended .kept) Judged-p (judge-judge.clauses 𝓤 H A mem run) known-judge-judge ((ν-8-sessions ∷ []), ((ν-8-streams ∷ []), ((ν-8-objects ∷ []), (κ₅, tt)))) (fullShare, (fullShare, (fullShare, (q₅, tt)))) tt (at-list b₁ o₁ δ-8-sessions sessions, (at-list b₂ o₂ δ-8-streams streams, (at-list b₃ o₃ δ-8-objects objects, (at-list b₅ o₅ γ₅ d, (agent, (input, (n₆, tt))))))) (sliceVal (b₁, o₁) n₁ ∷ [], (sliceVal (b₂, o₂) n₂ ∷ [], (sliceVal (b₃, o₃) n₃ ∷ [], (sliceVal (b₅, o₅) n₅ ∷ [], (Agent-p .val agent ∷ [], (Input-p .val input ∷ [], (u64-p .val n₆ ∷ [], tt))))))) tt (judgeOf (lent (sessions) (streams) (objects)) (d) agent input n₆) (λ ws-8. Unit {0}) (id⊢ 𝓤 _) (λ r ws-8. fact-mono 𝓤 (r ≡ judgeOf (lent (sessions) (streams) (objects)) (d) agent input n₆) ((r ≡ (judgeOf (lent (sessions) (streams) (objects)) (d) agent input n₆)) × (Unit {0})) (λ e. (e, tt))) (λ _. (and-then ! (load ! (from ! (stop !)) (look ! 37 refl)) (and-then ! (load ! (from ! (stop !)) (look ! 33 refl)) (and-then ! (load ! (from ! (stop !)) (look ! 29 refl)) (and-then ! (load ! (from ! (stop !)) (look ! 59 refl)) (and-then ! (load ! (from ! (stop !)) (look ! 55 refl)) (and-then ! (load ! (from ! (stop !)) (look ! 53 refl)) (and-then ! (load ! (from ! (stop !)) (look ! 51 refl)) (no-more !))))))))) (λ ws-8 said-8 is-8.
         use1 W ((‵ (flft (ν-8-sessions ∷ []) fullShare) ⊛ (‵ (flft (ν-8-streams ∷ []) fullShare) ⊛ (‵ (flft (ν-8-objects ∷ []) fullShare) ⊛ (‵ (flft κ₅ q₅) ⊛ ‵ ftrue))))) (id⊢ 𝓤 _) $ split ! $ move ! (1 ∷ []) $ split ! $ move ! (1 ∷ []) $ split ! $ move ! (1 ∷ []) $ split ! $ move ! (5 ∷ []) $ fsplit ! $ move ! (1 ∷ []) $ fsplit ! $ move ! (1 ∷ []) $ fsplit ! $ move ! (1 ∷ []) $ fsplit ! $ move ! (9 ∷ 13 ∷ []) $
         backs-view ! tt (Array u64 5) b₁ o₁ sessions n₁ (refl) ν-8-sessions $ move ! (10 ∷ 13 ∷ []) $
         backs-view ! tt (Array u16 35) b₂ o₂ streams n₂ (refl) ν-8-streams $ move ! (11 ∷ 13 ∷ []) $
         backs-view ! tt Object-t.the-row b₃ o₃ objects n₃ (refl) ν-8-objects $ move ! (6 ∷ []) $ drop ! $ move ! (6 ∷ []) $ drop ! $ move ! (6 ∷ []) $ drop ! $ move ! (6 ∷ []) $ drop ! $ move ! (6 ∷ []) $ drop ! $ move ! (7 ∷ []) $ drop ! $
-        land ! (from ! (stop !)) (init ! 50 refl (Judged-p .typed 𝓤 H A W (judgeOf (lent (sessions) (streams) (objects)) (d) agent input n₆) is-8)) $ move ! (4 ∷ 5 ∷ 2 ∷ 3 ∷ 0 ∷ 1 ∷ 8 ∷ 9 ∷ 7 ∷ 6 ∷ 10 ∷ 11 ∷ 12 ∷ 13 ∷ 14 ∷ 15 ∷ 16 ∷ 17 ∷ 18 ∷ 19 ∷ 20 ∷ 21 ∷ 22 ∷ 23 ∷ 24 ∷ 25 ∷ 26 ∷ 27 ∷ 28 ∷ 29 ∷ 30 ∷ 31 ∷ 32 ∷ 33 ∷ 34 ∷ 35 ∷ 36 ∷ 37 ∷ 38 ∷ 39 ∷ 40 ∷ 41 ∷ 42 ∷ 43 ∷ 44 ∷ 45 ∷ 46 ∷ 47 ∷ 48 ∷ 49 ∷ 50 ∷ 51 ∷ 52 ∷ 53 ∷ 54 ∷ 55 ∷ 56 ∷ 57 ∷ 58 ∷ 59 ∷ 60 ∷ 61 ∷ 62 ∷ 63 ∷ 64 ∷ 65 ∷ 66 ∷ 67 ∷ 68 ∷ 69 ∷ 70 ∷ 71 ∷ []) $
+        land ! (from ! (stop !)) (init ! 52 refl (Judged-p .typed 𝓤 H A W (judgeOf (lent (sessions) (streams) (objects)) (d) agent input n₆) is-8)) $ move ! (4 ∷ 5 ∷ 2 ∷ 3 ∷ 0 ∷ 1 ∷ 8 ∷ 9 ∷ 7 ∷ 6 ∷ 10 ∷ 11 ∷ 12 ∷ 13 ∷ 14 ∷ 15 ∷ 16 ∷ 17 ∷ 18 ∷ 19 ∷ 20 ∷ 21 ∷ 22 ∷ 23 ∷ 24 ∷ 25 ∷ 26 ∷ 27 ∷ 28 ∷ 29 ∷ 30 ∷ 31 ∷ 32 ∷ 33 ∷ 34 ∷ 35 ∷ 36 ∷ 37 ∷ 38 ∷ 39 ∷ 40 ∷ 41 ∷ 42 ∷ 43 ∷ 44 ∷ 45 ∷ 46 ∷ 47 ∷ 48 ∷ 49 ∷ 50 ∷ 51 ∷ 52 ∷ 53 ∷ 54 ∷ 55 ∷ 56 ∷ 57 ∷ 58 ∷ 59 ∷ 60 ∷ 61 ∷ 62 ∷ 63 ∷ 64 ∷ 65 ∷ 66 ∷ 67 ∷ 68 ∷ 69 ∷ 70 ∷ 71 ∷ 72 ∷ 73 ∷ []) $
         part-9-0 is-8))))
 
-  module _ (𝓣 : Tables 𝓤 H) (known-judge-judge : Triple 𝓤 (𝓣 .C #judge-judge) (Of-judge-judge 𝓤 H A mem run)) (known-judge-goes : Triple 𝓤 (𝓣 .C #judge-goes) (Of-judge-goes 𝓤 H A mem run)) (known-judge-start-in : Triple 𝓤 (𝓣 .C #judge-start-in) (Of-judge-start-in 𝓤 H A mem run)) (known-judge-count-in : Triple 𝓤 (𝓣 .C #judge-count-in) (Of-judge-count-in 𝓤 H A mem run)) (known-process-go : Triple 𝓤 (𝓣 .C #process-go) (Of-process-go 𝓤 H A mem run)) (known-judge-refusal-in : Triple 𝓤 (𝓣 .C #judge-refusal-in) (Of-judge-refusal-in 𝓤 H A mem run)) (known-process-refused : Triple 𝓤 (𝓣 .C #process-refused) (Of-process-refused 𝓤 H A mem run)) where
+  module _ (𝓣 : Tables 𝓤 H) (known-judge-judge : Triple 𝓤 (𝓣 .C #judge-judge) (Of-judge-judge 𝓤 H A mem run)) (known-judge-parts-of : Triple 𝓤 (𝓣 .C #judge-parts-of) (Of-judge-parts-of 𝓤 H A mem run)) (known-process-go : Triple 𝓤 (𝓣 .C #process-go) (Of-process-go 𝓤 H A mem run)) (known-process-refused : Triple 𝓤 (𝓣 .C #process-refused) (Of-process-refused 𝓤 H A mem run)) where
     walk : ent 𝓤 (onEntry 𝓤 H A f.signature (κ₁, (κ₂, (κ₃, (κ₄, (κ₅, (κ₆, tt)))))) (q₁, (q₂, (q₃, (q₄, (q₅, (q₆, tt)))))) x at) (WpFn 𝓤 H (𝓣 .C) (𝓣 .Λ) code.function (sliceVal (b₁, o₁) n₁ ∷ sliceVal (b₂, o₂) n₂ ∷ sliceVal (b₃, o₃) n₃ ∷ sliceVal (b₄, o₄) n₄ ∷ sliceVal (b₅, o₅) n₅ ∷ sliceVal (b₆, o₆) n₆ ∷ Agent-p .val agent ∷ Input-p .val input ∷ []) Post)
     walk =
         qed W ((‵ (flft κ₁ q₁) ⊛ (‵ (flft κ₂ q₂) ⊛ (‵ (flft κ₃ q₃) ⊛ (‵ (flft κ₄ q₄) ⊛ (‵ (flft κ₅ q₅) ⊛ (‵ (flft κ₆ q₆) ⊛ ‵ ftrue)))))) ∷ ‵ (owns (MutSlice (named 0) κ₁ (Array u64 5) ∷ MutSlice (named 1) κ₂ (Array u16 35) ∷ MutSlice (named 2) κ₃ Object-t.the-row ∷ MutSlice (named 3) κ₄ u8 ∷ ShrSlice (named 4) κ₅ u8 ∷ ShrSlice (named 5) κ₆ u8 ∷ Agent-p .row ∷ Input-p .row ∷ []) x at) ∷ []) ∵ enter ! (𝓣 .C) (𝓣 .Λ) code.function (sliceVal (b₁, o₁) n₁ ∷ sliceVal (b₂, o₂) n₂ ∷ sliceVal (b₃, o₃) n₃ ∷ sliceVal (b₄, o₄) n₄ ∷ sliceVal (b₅, o₅) n₅ ∷ sliceVal (b₆, o₆) n₆ ∷ Agent-p .val agent ∷ Input-p .val input ∷ []) _ $
-        alloc1 ! (λ l₀. alloc1 ! (λ l₁. alloc1 ! (λ l₂. alloc1 ! (λ l₃. alloc1 ! (λ l₄. alloc1 ! (λ l₅. alloc1 ! (λ l₆. alloc1 ! (λ l₇. alloc1 ! (λ l₈. alloc1 ! (λ l₉. alloc1 ! (λ l₁₀. alloc1 ! (λ l₁₁. alloc1 ! (λ l₁₂. alloc1 ! (λ l₁₃. alloc1 ! (λ l₁₄. alloc1 ! (λ l₁₅. alloc1 ! (λ l₁₆. alloc1 ! (λ l₁₇. alloc1 ! (λ l₁₈. alloc1 ! (λ l₁₉. alloc1 ! (λ l₂₀. alloc1 ! (λ l₂₁. alloc1 ! (λ l₂₂. alloc1 ! (λ l₂₃. alloc1 ! (λ l₂₄. alloc1 ! (λ l₂₅. alloc1 ! (λ l₂₆. alloc1 ! (λ l₂₇. alloc1 ! (λ l₂₈. alloc1 ! (λ l₂₉. alloc0 ! $ params1 ! $ pass1 ! (init ! 56 refl (tt, (tt, (record { fits = room₁ .0 }, tt)))) $ pass1 ! (init ! 54 refl (tt, (tt, (record { fits = room₂ .0 }, tt)))) $ pass1 ! (init ! 52 refl (tt, (tt, (record { fits = room₃ .0 }, tt)))) $ pass1 ! (init ! 50 refl (tt, (tt, (record { fits = room₄ .0 }, tt)))) $ pass1 ! (init ! 48 refl (tt, (tt, (record { fits = room₅ .0 }, tt)))) $ pass1 ! (init ! 46 refl (tt, (tt, (record { fits = room₆ .0 }, tt)))) $ pass1 ! (init ! 44 refl (Agent-p .typed 𝓤 H A W agent agent-is)) $ pass1 ! (init ! 42 refl (Input-p .typed 𝓤 H A W input input-is)) $ pass0 ! $ move ! (61 ∷ []) $ fsplit ! $ move ! (1 ∷ []) $ fsplit ! $ move ! (1 ∷ []) $ fsplit ! $ move ! (1 ∷ []) $ fsplit ! $ move ! (1 ∷ []) $ fsplit ! $ move ! (1 ∷ []) $ fsplit ! $ move ! (67 ∷ []) $ split ! $ move ! (1 ∷ []) $ split ! $ move ! (1 ∷ []) $ split ! $ move ! (1 ∷ []) $ split ! $ move ! (1 ∷ []) $ split ! $ move ! (1 ∷ []) $ split ! $ move ! (1 ∷ []) $ drop ! $ move ! (7 ∷ []) $ drop ! $ move ! (11 ∷ 5 ∷ 10 ∷ 4 ∷ 9 ∷ 3 ∷ 8 ∷ 2 ∷ 7 ∷ 1 ∷ 6 ∷ 0 ∷ 12 ∷ 13 ∷ 14 ∷ 15 ∷ 16 ∷ 17 ∷ 18 ∷ 19 ∷ 20 ∷ 21 ∷ 22 ∷ 23 ∷ 24 ∷ 25 ∷ 26 ∷ 27 ∷ 28 ∷ 29 ∷ 30 ∷ 31 ∷ 32 ∷ 33 ∷ 34 ∷ 35 ∷ 36 ∷ 37 ∷ 38 ∷ 39 ∷ 40 ∷ 41 ∷ 42 ∷ 43 ∷ 44 ∷ 45 ∷ 46 ∷ 47 ∷ 48 ∷ 49 ∷ 50 ∷ 51 ∷ 52 ∷ 53 ∷ 54 ∷ 55 ∷ 56 ∷ 57 ∷ 58 ∷ 59 ∷ 60 ∷ 61 ∷ 62 ∷ 63 ∷ 64 ∷ 65 ∷ 66 ∷ 67 ∷ 68 ∷ 69 ∷ 70 ∷ 71 ∷ []) $
-        begins 𝓣 known-judge-judge known-judge-goes known-judge-start-in known-judge-count-in known-process-go known-judge-refusal-in known-process-refused l₀ l₁ l₂ l₃ l₄ l₅ l₆ l₇ l₈ l₉ l₁₀ l₁₁ l₁₂ l₁₃ l₁₄ l₁₅ l₁₆ l₁₇ l₁₈ l₁₉ l₂₀ l₂₁ l₂₂ l₂₃ l₂₄ l₂₅ l₂₆ l₂₇ l₂₈ l₂₉))))))))))))))))))))))))))))))
+        alloc1 ! (λ l₀. alloc1 ! (λ l₁. alloc1 ! (λ l₂. alloc1 ! (λ l₃. alloc1 ! (λ l₄. alloc1 ! (λ l₅. alloc1 ! (λ l₆. alloc1 ! (λ l₇. alloc1 ! (λ l₈. alloc1 ! (λ l₉. alloc1 ! (λ l₁₀. alloc1 ! (λ l₁₁. alloc1 ! (λ l₁₂. alloc1 ! (λ l₁₃. alloc1 ! (λ l₁₄. alloc1 ! (λ l₁₅. alloc1 ! (λ l₁₆. alloc1 ! (λ l₁₇. alloc1 ! (λ l₁₈. alloc1 ! (λ l₁₉. alloc1 ! (λ l₂₀. alloc1 ! (λ l₂₁. alloc1 ! (λ l₂₂. alloc1 ! (λ l₂₃. alloc1 ! (λ l₂₄. alloc1 ! (λ l₂₅. alloc1 ! (λ l₂₆. alloc1 ! (λ l₂₇. alloc1 ! (λ l₂₈. alloc1 ! (λ l₂₉. alloc1 ! (λ l₃₀. alloc0 ! $ params1 ! $ pass1 ! (init ! 58 refl (tt, (tt, (record { fits = room₁ .0 }, tt)))) $ pass1 ! (init ! 56 refl (tt, (tt, (record { fits = room₂ .0 }, tt)))) $ pass1 ! (init ! 54 refl (tt, (tt, (record { fits = room₃ .0 }, tt)))) $ pass1 ! (init ! 52 refl (tt, (tt, (record { fits = room₄ .0 }, tt)))) $ pass1 ! (init ! 50 refl (tt, (tt, (record { fits = room₅ .0 }, tt)))) $ pass1 ! (init ! 48 refl (tt, (tt, (record { fits = room₆ .0 }, tt)))) $ pass1 ! (init ! 46 refl (Agent-p .typed 𝓤 H A W agent agent-is)) $ pass1 ! (init ! 44 refl (Input-p .typed 𝓤 H A W input input-is)) $ pass0 ! $ move ! (63 ∷ []) $ fsplit ! $ move ! (1 ∷ []) $ fsplit ! $ move ! (1 ∷ []) $ fsplit ! $ move ! (1 ∷ []) $ fsplit ! $ move ! (1 ∷ []) $ fsplit ! $ move ! (1 ∷ []) $ fsplit ! $ move ! (69 ∷ []) $ split ! $ move ! (1 ∷ []) $ split ! $ move ! (1 ∷ []) $ split ! $ move ! (1 ∷ []) $ split ! $ move ! (1 ∷ []) $ split ! $ move ! (1 ∷ []) $ split ! $ move ! (1 ∷ []) $ drop ! $ move ! (7 ∷ []) $ drop ! $ move ! (11 ∷ 5 ∷ 10 ∷ 4 ∷ 9 ∷ 3 ∷ 8 ∷ 2 ∷ 7 ∷ 1 ∷ 6 ∷ 0 ∷ 12 ∷ 13 ∷ 14 ∷ 15 ∷ 16 ∷ 17 ∷ 18 ∷ 19 ∷ 20 ∷ 21 ∷ 22 ∷ 23 ∷ 24 ∷ 25 ∷ 26 ∷ 27 ∷ 28 ∷ 29 ∷ 30 ∷ 31 ∷ 32 ∷ 33 ∷ 34 ∷ 35 ∷ 36 ∷ 37 ∷ 38 ∷ 39 ∷ 40 ∷ 41 ∷ 42 ∷ 43 ∷ 44 ∷ 45 ∷ 46 ∷ 47 ∷ 48 ∷ 49 ∷ 50 ∷ 51 ∷ 52 ∷ 53 ∷ 54 ∷ 55 ∷ 56 ∷ 57 ∷ 58 ∷ 59 ∷ 60 ∷ 61 ∷ 62 ∷ 63 ∷ 64 ∷ 65 ∷ 66 ∷ 67 ∷ 68 ∷ 69 ∷ 70 ∷ 71 ∷ 72 ∷ 73 ∷ []) $
+        begins 𝓣 known-judge-judge known-judge-parts-of known-process-go known-process-refused l₀ l₁ l₂ l₃ l₄ l₅ l₆ l₇ l₈ l₉ l₁₀ l₁₁ l₁₂ l₁₃ l₁₄ l₁₅ l₁₆ l₁₇ l₁₈ l₁₉ l₂₀ l₂₁ l₂₂ l₂₃ l₂₄ l₂₅ l₂₆ l₂₇ l₂₈ l₂₉ l₃₀)))))))))))))))))))))))))))))))
 
-module _ {M : Type 1} (𝓤 : URA M) (H : Heap 𝓤) (A : Atoms 𝓤) (W : Given 𝓤 H A) (mem : Memory → SProp 𝓤) (run : Routine → Fun 𝓤) (𝓣 : Tables 𝓤 H) (known-judge-judge : Triple 𝓤 (𝓣 .C #judge-judge) (Of-judge-judge 𝓤 H A mem run)) (known-judge-goes : Triple 𝓤 (𝓣 .C #judge-goes) (Of-judge-goes 𝓤 H A mem run)) (known-judge-start-in : Triple 𝓤 (𝓣 .C #judge-start-in) (Of-judge-start-in 𝓤 H A mem run)) (known-judge-count-in : Triple 𝓤 (𝓣 .C #judge-count-in) (Of-judge-count-in 𝓤 H A mem run)) (known-process-go : Triple 𝓤 (𝓣 .C #process-go) (Of-process-go 𝓤 H A mem run)) (known-judge-refusal-in : Triple 𝓤 (𝓣 .C #judge-refusal-in) (Of-judge-refusal-in 𝓤 H A mem run)) (known-process-refused : Triple 𝓤 (𝓣 .C #process-refused) (Of-process-refused 𝓤 H A mem run)) where
+module _ {M : Type 1} (𝓤 : URA M) (H : Heap 𝓤) (A : Atoms 𝓤) (W : Given 𝓤 H A) (mem : Memory → SProp 𝓤) (run : Routine → Fun 𝓤) (𝓣 : Tables 𝓤 H) (known-judge-judge : Triple 𝓤 (𝓣 .C #judge-judge) (Of-judge-judge 𝓤 H A mem run)) (known-judge-parts-of : Triple 𝓤 (𝓣 .C #judge-parts-of) (Of-judge-parts-of 𝓤 H A mem run)) (known-process-go : Triple 𝓤 (𝓣 .C #process-go) (Of-process-go 𝓤 H A mem run)) (known-process-refused : Triple 𝓤 (𝓣 .C #process-refused) (Of-process-refused 𝓤 H A mem run)) where
   walks : Walks 𝓤 H A f.ended stayed (WpFn 𝓤 H (𝓣 .C) (𝓣 .Λ) code.function) (f.clauses 𝓤 H A mem run)
   walks = walked 𝓤 H A f.ended stayed (f.clauses 𝓤 H A mem run) (WpFn 𝓤 H (𝓣 .C) (𝓣 .Λ) code.function) (λ κs. (slice-vals, (slice-vals, (slice-vals, (slice-vals, (slice-vals, (slice-vals, ((λ y. Agent-p .val y ∷ []), ((λ y. Input-p .val y ∷ []), tt))))))))) (λ κs. (mut-slice-tells (named 0) (κs .0) (Array u64 5), (mut-slice-tells (named 1) (κs .1 .0) (Array u16 35), (mut-slice-tells (named 2) (κs .1 .1 .0) Object-t.the-row, (mut-slice-tells (named 3) (κs .1 .1 .1 .0) u8, (shr-slice-tells (named 4) (κs .1 .1 .1 .1 .0) u8, (shr-slice-tells (named 5) (κs .1 .1 .1 .1 .1 .0) u8, (Agent-p .tells, (Input-p .tells, tt)))))))))
-      (λ κs qs bounds a g are. via 𝓤 _ (fst∗ 𝓤 _ (emp 𝓤)) (walk 𝓤 H A W mem run (κs .0) (qs .0) (a .0 .ptr .0) (a .0 .ptr .1) (a .0 .name) (a .0 .now) (κs .1 .0) (qs .1 .0) (a .1 .0 .ptr .0) (a .1 .0 .ptr .1) (a .1 .0 .name) (a .1 .0 .now) (κs .1 .1 .0) (qs .1 .1 .0) (a .1 .1 .0 .ptr .0) (a .1 .1 .0 .ptr .1) (a .1 .1 .0 .name) (a .1 .1 .0 .now) (κs .1 .1 .1 .0) (qs .1 .1 .1 .0) (a .1 .1 .1 .0 .ptr .0) (a .1 .1 .1 .0 .ptr .1) (a .1 .1 .1 .0 .name) (a .1 .1 .1 .0 .now) (κs .1 .1 .1 .1 .0) (qs .1 .1 .1 .1 .0) (a .1 .1 .1 .1 .0 .ptr .0) (a .1 .1 .1 .1 .0 .ptr .1) (a .1 .1 .1 .1 .0 .name) (a .1 .1 .1 .1 .0 .now) (κs .1 .1 .1 .1 .1 .0) (qs .1 .1 .1 .1 .1 .0) (a .1 .1 .1 .1 .1 .0 .ptr .0) (a .1 .1 .1 .1 .1 .0 .ptr .1) (a .1 .1 .1 .1 .1 .0 .name) (a .1 .1 .1 .1 .1 .0 .now) (a .1 .1 .1 .1 .1 .1 .0) (a .1 .1 .1 .1 .1 .1 .1 .0) (are .0 .0 .1) (are .1 .0 .0 .1) (are .1 .1 .0 .0 .1) (are .1 .1 .1 .0 .0 .1) (are .1 .1 .1 .1 .0 .0 .1) (are .1 .1 .1 .1 .1 .0 .0 .1) (are .1 .1 .1 .1 .1 .1 .0) (are .1 .1 .1 .1 .1 .1 .1 .0) 𝓣 known-judge-judge known-judge-goes known-judge-start-in known-judge-count-in known-process-go known-judge-refusal-in known-process-refused))
+      (λ κs qs bounds a g are. via 𝓤 _ (fst∗ 𝓤 _ (emp 𝓤)) (walk 𝓤 H A W mem run (κs .0) (qs .0) (a .0 .ptr .0) (a .0 .ptr .1) (a .0 .name) (a .0 .now) (κs .1 .0) (qs .1 .0) (a .1 .0 .ptr .0) (a .1 .0 .ptr .1) (a .1 .0 .name) (a .1 .0 .now) (κs .1 .1 .0) (qs .1 .1 .0) (a .1 .1 .0 .ptr .0) (a .1 .1 .0 .ptr .1) (a .1 .1 .0 .name) (a .1 .1 .0 .now) (κs .1 .1 .1 .0) (qs .1 .1 .1 .0) (a .1 .1 .1 .0 .ptr .0) (a .1 .1 .1 .0 .ptr .1) (a .1 .1 .1 .0 .name) (a .1 .1 .1 .0 .now) (κs .1 .1 .1 .1 .0) (qs .1 .1 .1 .1 .0) (a .1 .1 .1 .1 .0 .ptr .0) (a .1 .1 .1 .1 .0 .ptr .1) (a .1 .1 .1 .1 .0 .name) (a .1 .1 .1 .1 .0 .now) (κs .1 .1 .1 .1 .1 .0) (qs .1 .1 .1 .1 .1 .0) (a .1 .1 .1 .1 .1 .0 .ptr .0) (a .1 .1 .1 .1 .1 .0 .ptr .1) (a .1 .1 .1 .1 .1 .0 .name) (a .1 .1 .1 .1 .1 .0 .now) (a .1 .1 .1 .1 .1 .1 .0) (a .1 .1 .1 .1 .1 .1 .1 .0) (are .0 .0 .1) (are .1 .0 .0 .1) (are .1 .1 .0 .0 .1) (are .1 .1 .1 .0 .0 .1) (are .1 .1 .1 .1 .0 .0 .1) (are .1 .1 .1 .1 .1 .0 .0 .1) (are .1 .1 .1 .1 .1 .1 .0) (are .1 .1 .1 .1 .1 .1 .1 .0) 𝓣 known-judge-judge known-judge-parts-of known-process-go known-process-refused))
 
   meets : Meets 𝓤 H A f.signature (WpFn 𝓤 H (𝓣 .C) (𝓣 .Λ) code.function) (f.spec 𝓤 H A mem run)
   meets = walk-meets 𝓤 H A f.ended stayed W (goes-slice 𝓤 H A W 6 0 tt (plain (λ _. (Array u64 5))), (goes-slice 𝓤 H A W 6 1 tt (plain (λ _. (Array u16 35))), (goes-slice 𝓤 H A W 6 2 tt (plain (λ _. Object-t.the-row)), (goes-slice 𝓤 H A W 6 3 tt (plain (λ _. u8)), (goes-none-slice 𝓤 H A W 6 (4 ∷ []) tt (plain (λ _. u8)) yes, (goes-none-slice 𝓤 H A W 6 (5 ∷ []) tt (plain (λ _. u8)) yes, (goes-none 𝓤 H A W 6 (λ _. Agent-p .row) yes (λ κs x f. refl), (goes-none 𝓤 H A W 6 (λ _. Input-p .row) yes (λ κs x f. refl), tt)))))))) (f.clauses 𝓤 H A mem run) (WpFn 𝓤 H (𝓣 .C) (𝓣 .Λ) code.function) (WpFn-mono 𝓤 H (W .laws) 𝓣 code.function) walks
@@ -504,9 +463,6 @@ process-spec 𝓤 H 𝓜 𝓖 𝓡 =
     (tables 𝓤 H 𝓜 𝓡 code.env .C) (tables 𝓤 H 𝓜 𝓡 code.env .Λ) #f code.function (code.unfolded 𝓤 H 𝓜 𝓡)
     (meets 𝓤 H (𝓖 .A) (givenOf 𝓤 H 𝓜 𝓖) (𝓜 .mem) (𝓡 .run) (tablesOf 𝓤 H 𝓜 (tables 𝓤 H 𝓜 𝓡 code.env))
     (cited 𝓤 H (Of-judge-judge 𝓤 H (𝓖 .A) (𝓜 .mem) (𝓡 .run)) 𝓜 𝓡 code.env #judge-judge judge-judge-def.routine code.calls-agent·judge·judge (judge-judge-thm.met 𝓤 H 𝓜 𝓖 𝓡))
-    (cited 𝓤 H (Of-judge-goes 𝓤 H (𝓖 .A) (𝓜 .mem) (𝓡 .run)) 𝓜 𝓡 code.env #judge-goes judge-goes-def.routine code.calls-agent·judge·goes (judge-goes-thm.met 𝓤 H 𝓜 𝓖 𝓡))
-    (cited 𝓤 H (Of-judge-start-in 𝓤 H (𝓖 .A) (𝓜 .mem) (𝓡 .run)) 𝓜 𝓡 code.env #judge-start-in judge-start-in-def.routine code.calls-agent·judge·start-in (judge-start-in-thm.met 𝓤 H 𝓜 𝓖 𝓡))
-    (cited 𝓤 H (Of-judge-count-in 𝓤 H (𝓖 .A) (𝓜 .mem) (𝓡 .run)) 𝓜 𝓡 code.env #judge-count-in judge-count-in-def.routine code.calls-agent·judge·count-in (judge-count-in-thm.met 𝓤 H 𝓜 𝓖 𝓡))
+    (cited 𝓤 H (Of-judge-parts-of 𝓤 H (𝓖 .A) (𝓜 .mem) (𝓡 .run)) 𝓜 𝓡 code.env #judge-parts-of judge-parts-of-def.routine code.calls-agent·judge·parts-of (judge-parts-of-thm.met 𝓤 H 𝓜 𝓖 𝓡))
     (cited 𝓤 H (Of-process-go 𝓤 H (𝓖 .A) (𝓜 .mem) (𝓡 .run)) 𝓜 𝓡 code.env #process-go process-go-def.routine code.calls-agent·process·go (process-go-thm.met 𝓤 H 𝓜 𝓖 𝓡))
-    (cited 𝓤 H (Of-judge-refusal-in 𝓤 H (𝓖 .A) (𝓜 .mem) (𝓡 .run)) 𝓜 𝓡 code.env #judge-refusal-in judge-refusal-in-def.routine code.calls-agent·judge·refusal-in (judge-refusal-in-thm.met 𝓤 H 𝓜 𝓖 𝓡))
     (cited 𝓤 H (Of-process-refused 𝓤 H (𝓖 .A) (𝓜 .mem) (𝓡 .run)) 𝓜 𝓡 code.env #process-refused process-refused-def.routine code.calls-agent·process·refused (process-refused-thm.met 𝓤 H 𝓜 𝓖 𝓡)))

@@ -52,14 +52,13 @@ use Rattle.walk.proofs.Steps.{past, one, yes-of, no-of, in-block, arm-of, holds
 use borrow.Rule.Slice.PartMut.{midOf, putMid}
 use Rattle.walk.proofs.Parts.{part-len, lends-part, backs-part, parts-shr}
 use Rattle.walk.proofs.Arrays.{rep-is, lends-array, backs-array}
-use Rattle.agent.specs.Rows.{lent}
+use Rattle.moves.specs.Rows.{lent}
 use Rattle.agent.specs.Run.{putReplies, isCall, goesOn, runAt}
 use Rattle.codec.specs.Bytes.{putBytes}
 use Rattle.sessions.specs.Table.{namedOf}
 use Rattle.sessions.specs.Opening.{createdOf, openedRows, openedStreams}
-use Rattle.agent.specs.Moves.{moveBytes}
-use Rattle.agent.specs.Rows.{groupOf, noObject, noCreate, createIn, numberIn, handledMove, handledTables}
-use Rattle.agent.specs.Run.{settled, stopOf, greetingBytes, greeted, passed, isLive, delivered, openingRead, messageRead, bodyRead, endRead, turned}
+use Rattle.moves.specs.Moves.{moveBytes}
+use Rattle.agent.specs.Run.{settled, stopOf, greetingBytes, greeted, passed, isLive, delivered, takenOf, turned}
 use Rattle.agent.proofs.Running.{Left, left-start, left-again, left-less, left-small, left-end}
 use Rattle.sessions.specs.declared.objects.Object.{Object}
 use Rattle.sessions.proofs.objects.Object as Object-t
@@ -77,14 +76,14 @@ use Rattle.agent.specs.declared.turn.Stop.{Stop}
 use Rattle.agent.proofs.turn.Stop as Stop-t
 use Rattle.agent.proofs.turn.Stop.Laws as Stop-l
 use Rattle.agent.specs.declared.turn.Stop.the-variants.{Nothing as Stop-Nothing, Call as Stop-Call}
-use Rattle.agent.specs.declared.proxy.Task.{Task}
-use Rattle.agent.proofs.proxy.Task as Task-t
-use Rattle.agent.proofs.proxy.Task.Laws as Task-l
-use Rattle.agent.specs.declared.proxy.Task.the-variants.{Creating as Task-Creating, Writing as Task-Writing, Reading as Task-Reading, Deleting as Task-Deleting}
-use Rattle.agent.specs.declared.proxy.BridgeCall.{BridgeCall}
-use Rattle.agent.proofs.proxy.BridgeCall as BridgeCall-t
-use Rattle.agent.proofs.proxy.BridgeCall.Laws as BridgeCall-l
-use Rattle.agent.specs.declared.proxy.BridgeCall.the-variants.{CreateParticipant as BridgeCall-CreateParticipant, CreateTopic as BridgeCall-CreateTopic, CreateWriter as BridgeCall-CreateWriter, CreateReader as BridgeCall-CreateReader, WriteData as BridgeCall-WriteData, ReadData as BridgeCall-ReadData, DeleteEntity as BridgeCall-DeleteEntity}
+use Rattle.moves.specs.declared.proxy.Task.{Task}
+use Rattle.moves.proofs.proxy.Task as Task-t
+use Rattle.moves.proofs.proxy.Task.Laws as Task-l
+use Rattle.moves.specs.declared.proxy.Task.the-variants.{Creating as Task-Creating, Writing as Task-Writing, Reading as Task-Reading, Deleting as Task-Deleting}
+use Rattle.moves.specs.declared.proxy.BridgeCall.{BridgeCall}
+use Rattle.moves.proofs.proxy.BridgeCall as BridgeCall-t
+use Rattle.moves.proofs.proxy.BridgeCall.Laws as BridgeCall-l
+use Rattle.moves.specs.declared.proxy.BridgeCall.the-variants.{CreateParticipant as BridgeCall-CreateParticipant, CreateTopic as BridgeCall-CreateTopic, CreateWriter as BridgeCall-CreateWriter, CreateReader as BridgeCall-CreateReader, WriteData as BridgeCall-WriteData, ReadData as BridgeCall-ReadData, DeleteEntity as BridgeCall-DeleteEntity}
 use Rattle.sessions.specs.declared.objects.Handle.{Handle}
 use Rattle.sessions.proofs.objects.Handle as Handle-t
 use Rattle.sessions.proofs.objects.Handle.Laws as Handle-l

@@ -55,11 +55,10 @@ use Rattle.walk.proofs.Arrays.{rep-is, lends-array, backs-array}
 use Rattle.codec.specs.Bytes.{putBytes}
 use Rattle.sessions.specs.Table.{namedOf}
 use Rattle.sessions.specs.Opening.{createdOf, openedRows, openedStreams}
-use Rattle.agent.specs.Moves.{moveBytes}
-use Rattle.agent.specs.Rows.{lent, groupOf, noObject, noCreate, createIn, numberIn, handledMove, handledTables}
-use Rattle.agent.specs.Run.{putReplies, settled, stopOf, greetingBytes, greeted, passed, isLive, delivered, openingRead, messageRead, bodyRead, endRead, turned}
+use Rattle.moves.specs.Moves.{moveBytes}
+use Rattle.moves.specs.Rows.{lent}
+use Rattle.agent.specs.Run.{putReplies, settled, stopOf, greetingBytes, greeted, passed, isLive, delivered, takenOf, turned}
 use Rattle.codec.specs.Reading.{partOf, readAt, countAt, checkOf}
-use Rattle.agent.specs.Run.{greeting, pointerOf, openingOf, keyIn}
 use types.Kit.{frees, prop}
 use Rattle.agent.specs.Run.{Turned, subTurned}
 use Rattle.agent.proofs.Written.{as-left, greeting-written, no-replies, turned-as}
@@ -79,24 +78,42 @@ use Rattle.agent.specs.declared.turn.Stop.{Stop}
 use Rattle.agent.proofs.turn.Stop as Stop-t
 use Rattle.agent.proofs.turn.Stop.Laws as Stop-l
 use Rattle.agent.specs.declared.turn.Stop.the-variants.{Nothing as Stop-Nothing, Call as Stop-Call}
-use Rattle.agent.specs.declared.proxy.Task.{Task}
-use Rattle.agent.proofs.proxy.Task as Task-t
-use Rattle.agent.proofs.proxy.Task.Laws as Task-l
-use Rattle.agent.specs.declared.proxy.Task.the-variants.{Creating as Task-Creating, Writing as Task-Writing, Reading as Task-Reading, Deleting as Task-Deleting}
-use Rattle.agent.specs.declared.proxy.BridgeCall.{BridgeCall}
-use Rattle.agent.proofs.proxy.BridgeCall as BridgeCall-t
-use Rattle.agent.proofs.proxy.BridgeCall.Laws as BridgeCall-l
-use Rattle.agent.specs.declared.proxy.BridgeCall.the-variants.{CreateParticipant as BridgeCall-CreateParticipant, CreateTopic as BridgeCall-CreateTopic, CreateWriter as BridgeCall-CreateWriter, CreateReader as BridgeCall-CreateReader, WriteData as BridgeCall-WriteData, ReadData as BridgeCall-ReadData, DeleteEntity as BridgeCall-DeleteEntity}
+use Rattle.moves.specs.declared.proxy.Task.{Task}
+use Rattle.moves.proofs.proxy.Task as Task-t
+use Rattle.moves.proofs.proxy.Task.Laws as Task-l
+use Rattle.moves.specs.declared.proxy.Task.the-variants.{Creating as Task-Creating, Writing as Task-Writing, Reading as Task-Reading, Deleting as Task-Deleting}
+use Rattle.moves.specs.declared.proxy.BridgeCall.{BridgeCall}
+use Rattle.moves.proofs.proxy.BridgeCall as BridgeCall-t
+use Rattle.moves.proofs.proxy.BridgeCall.Laws as BridgeCall-l
+use Rattle.moves.specs.declared.proxy.BridgeCall.the-variants.{CreateParticipant as BridgeCall-CreateParticipant, CreateTopic as BridgeCall-CreateTopic, CreateWriter as BridgeCall-CreateWriter, CreateReader as BridgeCall-CreateReader, WriteData as BridgeCall-WriteData, ReadData as BridgeCall-ReadData, DeleteEntity as BridgeCall-DeleteEntity}
 use Rattle.sessions.specs.declared.objects.Handle.{Handle}
 use Rattle.sessions.proofs.objects.Handle as Handle-t
 use Rattle.sessions.proofs.objects.Handle.Laws as Handle-l
 use Rattle.codec.specs.declared.layouts.Span.{Span}
 use Rattle.codec.proofs.layouts.Span as Span-t
 use Rattle.codec.proofs.layouts.Span.Laws as Span-l
-use Rattle.agent.specs.declared.clients.Opening.{Opening}
-use Rattle.agent.proofs.clients.Opening as Opening-t
-use Rattle.agent.proofs.clients.Opening.Laws as Opening-l
-use Rattle.agent.specs.declared.clients.Opening.the-variants.{Client as Opening-Client, Other as Opening-Other, Unread as Opening-Unread}
+use Rattle.moves.specs.declared.handle.Opening.{Opening}
+use Rattle.moves.proofs.handle.Opening as Opening-t
+use Rattle.moves.proofs.handle.Opening.Laws as Opening-l
+use Rattle.moves.specs.declared.handle.Opening.the-variants.{Client as Opening-Client, Other as Opening-Other, Unread as Opening-Unread}
+use Rattle.moves.specs.declared.handle.Asked.{Asked}
+use Rattle.moves.proofs.handle.Asked as Asked-t
+use Rattle.moves.proofs.handle.Asked.Laws as Asked-l
+use Rattle.moves.specs.declared.handle.Group.{Group}
+use Rattle.moves.proofs.handle.Group as Group-t
+use Rattle.moves.proofs.handle.Group.Laws as Group-l
+use Rattle.moves.specs.declared.handle.Group.the-variants.{Creates as Group-Creates, Deletes as Group-Deletes, Writes as Group-Writes, Reads as Group-Reads, Streams as Group-Streams, Neither as Group-Neither}
+use Rattle.codec.specs.declared.submessages.ObjectKind.{ObjectKind}
+use Rattle.codec.proofs.submessages.ObjectKind as ObjectKind-t
+use Rattle.codec.proofs.submessages.ObjectKind.Laws as ObjectKind-l
+use Rattle.codec.specs.declared.submessages.ObjectKind.the-variants.{Participant as ObjectKind-Participant, Topic as ObjectKind-Topic, Publisher as ObjectKind-Publisher, Subscriber as ObjectKind-Subscriber, DataWriter as ObjectKind-DataWriter, DataReader as ObjectKind-DataReader}
+use Rattle.agent.specs.declared.turn.Taken.{Taken}
+use Rattle.agent.proofs.turn.Taken as Taken-t
+use Rattle.agent.proofs.turn.Taken.Laws as Taken-l
+use Rattle.codec.specs.declared.layouts.Parsed.{Parsed}
+use Rattle.codec.proofs.layouts.Parsed as Parsed-t
+use Rattle.codec.proofs.layouts.Parsed.Laws as Parsed-l
+use Rattle.codec.specs.declared.layouts.Parsed.the-variants.{Sub as Parsed-Sub, Refused as Parsed-Refused}
 use Rattle.codec.specs.declared.submessages.Submessage.{Submessage}
 use Rattle.codec.proofs.submessages.Submessage as Submessage-t
 use Rattle.codec.proofs.submessages.Submessage.Laws as Submessage-l
@@ -107,10 +124,6 @@ use Rattle.codec.proofs.submessages.CreateClientPayload.Laws as CreateClientPay
 use Rattle.codec.specs.declared.submessages.CreatePayload.{CreatePayload}
 use Rattle.codec.proofs.submessages.CreatePayload as CreatePayload-t
 use Rattle.codec.proofs.submessages.CreatePayload.Laws as CreatePayload-l
-use Rattle.codec.specs.declared.submessages.ObjectKind.{ObjectKind}
-use Rattle.codec.proofs.submessages.ObjectKind as ObjectKind-t
-use Rattle.codec.proofs.submessages.ObjectKind.Laws as ObjectKind-l
-use Rattle.codec.specs.declared.submessages.ObjectKind.the-variants.{Participant as ObjectKind-Participant, Topic as ObjectKind-Topic, Publisher as ObjectKind-Publisher, Subscriber as ObjectKind-Subscriber, DataWriter as ObjectKind-DataWriter, DataReader as ObjectKind-DataReader}
 use Rattle.codec.specs.declared.submessages.DeletePayload.{DeletePayload}
 use Rattle.codec.proofs.submessages.DeletePayload as DeletePayload-t
 use Rattle.codec.proofs.submessages.DeletePayload.Laws as DeletePayload-l
@@ -136,10 +149,6 @@ use Rattle.codec.proofs.submessages.HeartbeatPayload.Laws as HeartbeatPayload-l
 use Rattle.codec.specs.declared.submessages.AcknackPayload.{AcknackPayload}
 use Rattle.codec.proofs.submessages.AcknackPayload as AcknackPayload-t
 use Rattle.codec.proofs.submessages.AcknackPayload.Laws as AcknackPayload-l
-use Rattle.codec.specs.declared.layouts.Parsed.{Parsed}
-use Rattle.codec.proofs.layouts.Parsed as Parsed-t
-use Rattle.codec.proofs.layouts.Parsed.Laws as Parsed-l
-use Rattle.codec.specs.declared.layouts.Parsed.the-variants.{Sub as Parsed-Sub, Refused as Parsed-Refused}
 use Rattle.codec.specs.declared.layouts.Cursor.{Cursor}
 use Rattle.codec.proofs.layouts.Cursor as Cursor-t
 use Rattle.codec.proofs.layouts.Cursor.Laws as Cursor-l
@@ -151,26 +160,10 @@ use Rattle.codec.proofs.reading.read as reading-read
 use Rattle.codec.proofs.reading.read.Symbol as reading-read-def
 use Rattle.codec.proofs.reading.read.Symbol.{name as #reading-read}
 use Rattle.codec.proofs.reading.read.Met as reading-read-thm
-use Rattle.agent.proofs.turn.end_of as turn-end-of
-use Rattle.agent.proofs.turn.end_of.Symbol as turn-end-of-def
-use Rattle.agent.proofs.turn.end_of.Symbol.{name as #turn-end-of}
-use Rattle.agent.proofs.turn.end_of.Met as turn-end-of-thm
-use Rattle.agent.proofs.turn.message_of as turn-message-of
-use Rattle.agent.proofs.turn.message_of.Symbol as turn-message-of-def
-use Rattle.agent.proofs.turn.message_of.Symbol.{name as #turn-message-of}
-use Rattle.agent.proofs.turn.message_of.Met as turn-message-of-thm
-use Rattle.agent.proofs.turn.body_of as turn-body-of
-use Rattle.agent.proofs.turn.body_of.Symbol as turn-body-of-def
-use Rattle.agent.proofs.turn.body_of.Symbol.{name as #turn-body-of}
-use Rattle.agent.proofs.turn.body_of.Met as turn-body-of-thm
-use Rattle.agent.proofs.clients.key_in as clients-key-in
-use Rattle.agent.proofs.clients.key_in.Symbol as clients-key-in-def
-use Rattle.agent.proofs.clients.key_in.Symbol.{name as #clients-key-in}
-use Rattle.agent.proofs.clients.key_in.Met as clients-key-in-thm
-use Rattle.agent.proofs.turn.opening_read as turn-opening-read
-use Rattle.agent.proofs.turn.opening_read.Symbol as turn-opening-read-def
-use Rattle.agent.proofs.turn.opening_read.Symbol.{name as #turn-opening-read}
-use Rattle.agent.proofs.turn.opening_read.Met as turn-opening-read-thm
+use Rattle.agent.proofs.turn.take_apart as turn-take-apart
+use Rattle.agent.proofs.turn.take_apart.Symbol as turn-take-apart-def
+use Rattle.agent.proofs.turn.take_apart.Symbol.{name as #turn-take-apart}
+use Rattle.agent.proofs.turn.take_apart.Met as turn-take-apart-thm
 use Rattle.agent.proofs.turn.greet as turn-greet
 use Rattle.agent.proofs.turn.greet.Symbol as turn-greet-def
 use Rattle.agent.proofs.turn.greet.Symbol.{name as #turn-greet}
@@ -237,6 +230,27 @@ Span-p = record { row = Span-t.the-row; val = LL.val Span-t.the-type Span-l.the-
 abbrev Opening-p : Plain
 Opening-p = record { row = Opening-t.the-row; val = EL.val Opening-t.the-type Opening-l.the-laws; tells = EL.tells Opening-t.the-type Opening-l.the-laws; makes = λ 𝓤 H A W. EL.makes Opening-t.the-type Opening-l.the-plain 𝓤 H A; ty = Opening-l.mir; typed = λ 𝓤 H A W x is. EL.lawful Opening-t.the-type Opening-l.the-laws 𝓤 H A W tt .typed x _ is .0; copies = λ 𝓤 H A W. EL.copy Opening-t.the-type Opening-l.the-copy 𝓤 H A W }
 
+abbrev Asked-of : Opening → Group → ℕ → ObjectNumber → ObjectKind → ℕ → Bool → ℕ → ℕ → Asked
+Asked-of x0 x1 x2 x3 x4 x5 x6 x7 x8 = record { opening = x0; group = x1; key = x2; number = x3; kind = x4; parent = x5; hears = x6; first = x7; second = x8 }
+
+abbrev Asked-p : Plain
+Asked-p = record { row = Asked-t.the-row; val = LL.val Asked-t.the-type Asked-l.the-laws; tells = LL.tells Asked-t.the-type Asked-l.the-laws; makes = λ 𝓤 H A W. LL.makes Asked-t.the-type Asked-l.the-plain 𝓤 H A; ty = Asked-l.mir; typed = λ 𝓤 H A W x is. LL.lawful Asked-t.the-type Asked-l.the-laws 𝓤 H A W .typed x _ is .0; copies = λ 𝓤 H A W. LL.copy Asked-t.the-type Asked-l.the-copy 𝓤 H A W }
+
+abbrev Group-p : Plain
+Group-p = record { row = Group-t.the-row; val = EL.val Group-t.the-type Group-l.the-laws; tells = EL.tells Group-t.the-type Group-l.the-laws; makes = λ 𝓤 H A W. EL.makes Group-t.the-type Group-l.the-plain 𝓤 H A; ty = Group-l.mir; typed = λ 𝓤 H A W x is. EL.lawful Group-t.the-type Group-l.the-laws 𝓤 H A W tt .typed x _ is .0; copies = λ 𝓤 H A W. EL.copy Group-t.the-type Group-l.the-copy 𝓤 H A W }
+
+abbrev ObjectKind-p : Plain
+ObjectKind-p = record { row = ObjectKind-t.the-row; val = EL.val ObjectKind-t.the-type ObjectKind-l.the-laws; tells = EL.tells ObjectKind-t.the-type ObjectKind-l.the-laws; makes = λ 𝓤 H A W. EL.makes ObjectKind-t.the-type ObjectKind-l.the-plain 𝓤 H A; ty = ObjectKind-l.mir; typed = λ 𝓤 H A W x is. EL.lawful ObjectKind-t.the-type ObjectKind-l.the-laws 𝓤 H A W tt .typed x _ is .0; copies = λ 𝓤 H A W. EL.copy ObjectKind-t.the-type ObjectKind-l.the-copy 𝓤 H A W }
+
+abbrev Taken-of : Asked → Span → ℕ → Taken
+Taken-of x0 x1 x2 = record { asked = x0; body = x1; at = x2 }
+
+abbrev Taken-p : Plain
+Taken-p = record { row = Taken-t.the-row; val = LL.val Taken-t.the-type Taken-l.the-laws; tells = LL.tells Taken-t.the-type Taken-l.the-laws; makes = λ 𝓤 H A W. LL.makes Taken-t.the-type Taken-l.the-plain 𝓤 H A; ty = Taken-l.mir; typed = λ 𝓤 H A W x is. LL.lawful Taken-t.the-type Taken-l.the-laws 𝓤 H A W .typed x _ is .0; copies = λ 𝓤 H A W. LL.copy Taken-t.the-type Taken-l.the-copy 𝓤 H A W }
+
+abbrev Parsed-p : Plain
+Parsed-p = record { row = Parsed-t.the-row; val = EL.val Parsed-t.the-type Parsed-l.the-laws; tells = EL.tells Parsed-t.the-type Parsed-l.the-laws; makes = λ 𝓤 H A W. EL.makes Parsed-t.the-type Parsed-l.the-plain 𝓤 H A; ty = Parsed-l.mir; typed = λ 𝓤 H A W x is. EL.lawful Parsed-t.the-type Parsed-l.the-laws 𝓤 H A W tt .typed x _ is .0; copies = λ 𝓤 H A W. EL.copy Parsed-t.the-type Parsed-l.the-copy 𝓤 H A W }
+
 abbrev Submessage-p : Plain
 Submessage-p = record { row = Submessage-t.the-row; val = EL.val Submessage-t.the-type Submessage-l.the-laws; tells = EL.tells Submessage-t.the-type Submessage-l.the-laws; makes = λ 𝓤 H A W. EL.makes Submessage-t.the-type Submessage-l.the-plain 𝓤 H A; ty = Submessage-l.mir; typed = λ 𝓤 H A W x is. EL.lawful Submessage-t.the-type Submessage-l.the-laws 𝓤 H A W tt .typed x _ is .0; copies = λ 𝓤 H A W. EL.copy Submessage-t.the-type Submessage-l.the-copy 𝓤 H A W }
 
@@ -251,9 +265,6 @@ CreatePayload-of x0 x1 x2 = record { «object_id» = x0; kind = x1; «parent_id�
 
 abbrev CreatePayload-p : Plain
 CreatePayload-p = record { row = CreatePayload-t.the-row; val = LL.val CreatePayload-t.the-type CreatePayload-l.the-laws; tells = LL.tells CreatePayload-t.the-type CreatePayload-l.the-laws; makes = λ 𝓤 H A W. LL.makes CreatePayload-t.the-type CreatePayload-l.the-plain 𝓤 H A; ty = CreatePayload-l.mir; typed = λ 𝓤 H A W x is. LL.lawful CreatePayload-t.the-type CreatePayload-l.the-laws 𝓤 H A W .typed x _ is .0; copies = λ 𝓤 H A W. LL.copy CreatePayload-t.the-type CreatePayload-l.the-copy 𝓤 H A W }
-
-abbrev ObjectKind-p : Plain
-ObjectKind-p = record { row = ObjectKind-t.the-row; val = EL.val ObjectKind-t.the-type ObjectKind-l.the-laws; tells = EL.tells ObjectKind-t.the-type ObjectKind-l.the-laws; makes = λ 𝓤 H A W. EL.makes ObjectKind-t.the-type ObjectKind-l.the-plain 𝓤 H A; ty = ObjectKind-l.mir; typed = λ 𝓤 H A W x is. EL.lawful ObjectKind-t.the-type ObjectKind-l.the-laws 𝓤 H A W tt .typed x _ is .0; copies = λ 𝓤 H A W. EL.copy ObjectKind-t.the-type ObjectKind-l.the-copy 𝓤 H A W }
 
 abbrev DeletePayload-of : ObjectNumber → DeletePayload
 DeletePayload-of x0 = record { «object_id» = x0 }
@@ -300,9 +311,6 @@ AcknackPayload-of x0 x1 = record { «first_unacked_seq» = x0; «nack_bitmap» =
 abbrev AcknackPayload-p : Plain
 AcknackPayload-p = record { row = AcknackPayload-t.the-row; val = LL.val AcknackPayload-t.the-type AcknackPayload-l.the-laws; tells = LL.tells AcknackPayload-t.the-type AcknackPayload-l.the-laws; makes = λ 𝓤 H A W. LL.makes AcknackPayload-t.the-type AcknackPayload-l.the-plain 𝓤 H A; ty = AcknackPayload-l.mir; typed = λ 𝓤 H A W x is. LL.lawful AcknackPayload-t.the-type AcknackPayload-l.the-laws 𝓤 H A W .typed x _ is .0; copies = λ 𝓤 H A W. LL.copy AcknackPayload-t.the-type AcknackPayload-l.the-copy 𝓤 H A W }
 
-abbrev Parsed-p : Plain
-Parsed-p = record { row = Parsed-t.the-row; val = EL.val Parsed-t.the-type Parsed-l.the-laws; tells = EL.tells Parsed-t.the-type Parsed-l.the-laws; makes = λ 𝓤 H A W. EL.makes Parsed-t.the-type Parsed-l.the-plain 𝓤 H A; ty = Parsed-l.mir; typed = λ 𝓤 H A W x is. EL.lawful Parsed-t.the-type Parsed-l.the-laws 𝓤 H A W tt .typed x _ is .0; copies = λ 𝓤 H A W. EL.copy Parsed-t.the-type Parsed-l.the-copy 𝓤 H A W }
-
 abbrev Cursor-of : ℕ → Cursor
 Cursor-of x0 = record { at = x0 }
 
@@ -319,20 +327,8 @@ module _ {M : Type 1} (𝓤 : URA M) (H : Heap 𝓤) (A : Atoms 𝓤) (mem : Mem
   abbrev Of-reading-read : Contract 𝓤
   Of-reading-read = tripleOf 𝓤 H A reading-read.signature (reading-read.spec 𝓤 H A mem run)
 
-  abbrev Of-turn-end-of : Contract 𝓤
-  Of-turn-end-of = tripleOf 𝓤 H A turn-end-of.signature (turn-end-of.spec 𝓤 H A mem run)
-
-  abbrev Of-turn-message-of : Contract 𝓤
-  Of-turn-message-of = tripleOf 𝓤 H A turn-message-of.signature (turn-message-of.spec 𝓤 H A mem run)
-
-  abbrev Of-turn-body-of : Contract 𝓤
-  Of-turn-body-of = tripleOf 𝓤 H A turn-body-of.signature (turn-body-of.spec 𝓤 H A mem run)
-
-  abbrev Of-clients-key-in : Contract 𝓤
-  Of-clients-key-in = tripleOf 𝓤 H A clients-key-in.signature (clients-key-in.spec 𝓤 H A mem run)
-
-  abbrev Of-turn-opening-read : Contract 𝓤
-  Of-turn-opening-read = tripleOf 𝓤 H A turn-opening-read.signature (turn-opening-read.spec 𝓤 H A mem run)
+  abbrev Of-turn-take-apart : Contract 𝓤
+  Of-turn-take-apart = tripleOf 𝓤 H A turn-take-apart.signature (turn-take-apart.spec 𝓤 H A mem run)
 
   abbrev Of-turn-greet : Contract 𝓤
   Of-turn-greet = tripleOf 𝓤 H A turn-greet.signature (turn-greet.spec 𝓤 H A mem run)
@@ -369,16 +365,16 @@ module _ {M : Type 1} (𝓤 : URA M) (H : Heap 𝓤) (A : Atoms 𝓤) (W : Given
   abbrev Post : Val → SProp 𝓤
   Post = walkOf 𝓤 H A f.ended stayed (f.clauses 𝓤 H A mem run) .post (((κ₁, (κ₂, (κ₃, (κ₄, (κ₅, tt))))), (q₁, (q₂, (q₃, (q₄, (q₅, tt))))), tt, x, at), tt)
 
-  abbrev got : Parsed
-  got = readAt d (r′ .at)
+  abbrev got : Taken
+  got = takenOf (readAt d (r′ .at)) (length d)
 
   abbrev left : Opening → Turned
-  left x = subTurned x f′ (lent sessions streams objects) d r′ (messageRead got) (bodyRead got) (endRead got (length d))
+  left o = subTurned o f′ (lent sessions streams objects) d r′ got
 
   abbrev leaves : Turned
   leaves = turned f′ (lent sessions streams objects) d r′
 
-  left-is : left (openingRead got) ≡ leaves
+  left-is : left (got .asked .opening) ≡ leaves
   left-is = turned-as f′ (lent sessions streams objects) d r′
 
   exits : (r : Ran) (ws₁ : List (List ℕ)) (ws₂ : List (List ℕ)) (ws₃ : List Object) (ws₄ : List ℕ) → ((r ≡ turned f′ (lent (sessions) (streams) (objects)) (d) r′ .ran) × (ws₁ ≡ turned f′ (lent (sessions) (streams) (objects)) (d) r′ .tables .sessions) × (ws₂ ≡ turned f′ (lent (sessions) (streams) (objects)) (d) r′ .tables .streams) × (ws₃ ≡ turned f′ (lent (sessions) (streams) (objects)) (d) r′ .tables .objects) × (ws₄ ≡ putReplies (out) (r′ .wrote) (turned f′ (lent (sessions) (streams) (objects)) (d) r′ .replies))) → Is (Ran-p .row) r (Ran-p .val r ∷ []) → length ws₁ ≡ n₁ → length ws₂ ≡ n₂ → length ws₃ ≡ n₃ → length ws₄ ≡ n₄ → ent 𝓤 (⋆ 𝓤 H A (‵ (MutSlice (named 0) κ₁ (Array u64 5) .own (at-list b₁ o₁ γ₁ ws₁) (sliceVal (b₁, o₁) n₁ ∷ [])) ∷ ‵ (flft κ₁ q₁) ∷ ‵ (MutSlice (named 1) κ₂ (Array u16 35) .own (at-list b₂ o₂ γ₂ ws₂) (sliceVal (b₂, o₂) n₂ ∷ [])) ∷ ‵ (flft κ₂ q₂) ∷ ‵ (MutSlice (named 2) κ₃ Object-t.the-row .own (at-list b₃ o₃ γ₃ ws₃) (sliceVal (b₃, o₃) n₃ ∷ [])) ∷ ‵ (flft κ₃ q₃) ∷ ‵ (MutSlice (named 3) κ₄ u8 .own (at-list b₄ o₄ γ₄ ws₄) (sliceVal (b₄, o₄) n₄ ∷ [])) ∷ ‵ (flft κ₄ q₄) ∷ ‵ (ShrSlice (named 4) κ₅ u8 .own (at-list b₅ o₅ γ₅ d) (sliceVal (b₅, o₅) n₅ ∷ [])) ∷ ‵ (flft κ₅ q₅) ∷ [])) (Post (Ran-p .val r))
@@ -391,7 +387,7 @@ module _ {M : Type 1} (𝓤 : URA M) (H : Heap 𝓤) (A : Atoms 𝓤) (W : Given
       frame ! $
       owned ! (Ran-p .row) (Is (Ran-p .row)) (Ran-p .makes 𝓤 H A W) r _ r-is $ done !
 
-  module _ (𝓣 : Tables 𝓤 H) (known-reading-read : Triple 𝓤 (𝓣 .C #reading-read) (Of-reading-read 𝓤 H A mem run)) (known-turn-end-of : Triple 𝓤 (𝓣 .C #turn-end-of) (Of-turn-end-of 𝓤 H A mem run)) (known-turn-message-of : Triple 𝓤 (𝓣 .C #turn-message-of) (Of-turn-message-of 𝓤 H A mem run)) (known-turn-body-of : Triple 𝓤 (𝓣 .C #turn-body-of) (Of-turn-body-of 𝓤 H A mem run)) (known-clients-key-in : Triple 𝓤 (𝓣 .C #clients-key-in) (Of-clients-key-in 𝓤 H A mem run)) (known-turn-opening-read : Triple 𝓤 (𝓣 .C #turn-opening-read) (Of-turn-opening-read 𝓤 H A mem run)) (known-turn-greet : Triple 𝓤 (𝓣 .C #turn-greet) (Of-turn-greet 𝓤 H A mem run)) (known-turn-deliver : Triple 𝓤 (𝓣 .C #turn-deliver) (Of-turn-deliver 𝓤 H A mem run)) (known-turn-passed : Triple 𝓤 (𝓣 .C #turn-passed) (Of-turn-passed 𝓤 H A mem run)) (l₀ l₁ l₂ l₃ l₄ l₅ l₆ l₇ l₈ l₉ l₁₀ l₁₁ l₁₂ l₁₃ l₁₄ l₁₅ l₁₆ l₁₇ l₁₈ l₁₉ l₂₀ l₂₁ l₂₂ l₂₃ l₂₄ l₂₅ l₂₆ l₂₇ l₂₈ l₂₉ l₃₀ : ℕ) where
+  module _ (𝓣 : Tables 𝓤 H) (known-reading-read : Triple 𝓤 (𝓣 .C #reading-read) (Of-reading-read 𝓤 H A mem run)) (known-turn-take-apart : Triple 𝓤 (𝓣 .C #turn-take-apart) (Of-turn-take-apart 𝓤 H A mem run)) (known-turn-greet : Triple 𝓤 (𝓣 .C #turn-greet) (Of-turn-greet 𝓤 H A mem run)) (known-turn-deliver : Triple 𝓤 (𝓣 .C #turn-deliver) (Of-turn-deliver 𝓤 H A mem run)) (known-turn-passed : Triple 𝓤 (𝓣 .C #turn-passed) (Of-turn-passed 𝓤 H A mem run)) (l₀ l₁ l₂ l₃ l₄ l₅ l₆ l₇ l₈ l₉ l₁₀ l₁₁ l₁₂ l₁₃ l₁₄ l₁₅ l₁₆ l₁₇ l₁₈ l₁₉ l₂₀ l₂₁ l₂₂ l₂₃ l₂₄ l₂₅ l₂₆ l₂₇ l₂₈ : ℕ) where
     abbrev C : Calls 𝓤 H
     C = 𝓣 .C
 
@@ -402,229 +398,185 @@ module _ {M : Type 1} (𝓤 : URA M) (H : Heap 𝓤) (A : Atoms 𝓤) (W : Given
     fm = fmOf 𝓤 H (W .laws) 𝓣
 
     abbrev En : Env 𝓤 H
-    En = (Ran-l.mir, l₀) ∷ ((sliceTy (tyRef (named 0) mut (pointee ((Array u64 5) .written)))), l₁) ∷ ((sliceTy (tyRef (named 1) mut (pointee ((Array u16 35) .written)))), l₂) ∷ ((sliceTy (tyRef (named 2) mut (pointee (Object-t.the-row .written)))), l₃) ∷ ((sliceTy (tyRef (named 3) mut (pointee (u8 .written)))), l₄) ∷ ((sliceTy (tyRef (named 4) imm (pointee (u8 .written)))), l₅) ∷ (Frame-l.mir, l₆) ∷ (Ran-l.mir, l₇) ∷ (Cursor-l.mir, l₈) ∷ (Parsed-l.mir, l₉) ∷ ((tyInt w64), l₁₀) ∷ (Submessage-l.mir, l₁₁) ∷ (Span-l.mir, l₁₂) ∷ ((tyInt w32), l₁₃) ∷ (Opening-l.mir, l₁₄) ∷ ((tyInt w64), l₁₅) ∷ (Ran-l.mir, l₁₆) ∷ ((tyRef erased mut (pointee ((Array u64 5) .written))), l₁₇) ∷ ((sliceTy (tyRef erased mut (pointee ((Array u64 5) .written)))), l₁₈) ∷ ((tyRef erased mut (pointee ((Array u16 35) .written))), l₁₉) ∷ ((sliceTy (tyRef erased mut (pointee ((Array u16 35) .written)))), l₂₀) ∷ ((tyRef erased mut (pointee (u8 .written))), l₂₁) ∷ ((sliceTy (tyRef erased mut (pointee (u8 .written)))), l₂₂) ∷ ((tyRef erased mut (pointee ((Array u64 5) .written))), l₂₃) ∷ ((sliceTy (tyRef erased mut (pointee ((Array u64 5) .written)))), l₂₄) ∷ ((tyRef erased mut (pointee ((Array u16 35) .written))), l₂₅) ∷ ((sliceTy (tyRef erased mut (pointee ((Array u16 35) .written)))), l₂₆) ∷ ((tyRef erased mut (pointee (Object-t.the-row .written))), l₂₇) ∷ ((sliceTy (tyRef erased mut (pointee (Object-t.the-row .written)))), l₂₈) ∷ ((tyRef erased mut (pointee (u8 .written))), l₂₉) ∷ ((sliceTy (tyRef erased mut (pointee (u8 .written)))), l₃₀) ∷ []
+    En = (Ran-l.mir, l₀) ∷ ((sliceTy (tyRef (named 0) mut (pointee ((Array u64 5) .written)))), l₁) ∷ ((sliceTy (tyRef (named 1) mut (pointee ((Array u16 35) .written)))), l₂) ∷ ((sliceTy (tyRef (named 2) mut (pointee (Object-t.the-row .written)))), l₃) ∷ ((sliceTy (tyRef (named 3) mut (pointee (u8 .written)))), l₄) ∷ ((sliceTy (tyRef (named 4) imm (pointee (u8 .written)))), l₅) ∷ (Frame-l.mir, l₆) ∷ (Ran-l.mir, l₇) ∷ (Cursor-l.mir, l₈) ∷ (Parsed-l.mir, l₉) ∷ (Taken-l.mir, l₁₀) ∷ (Asked-l.mir, l₁₁) ∷ (Opening-l.mir, l₁₂) ∷ ((tyInt w64), l₁₃) ∷ (Ran-l.mir, l₁₄) ∷ ((tyRef erased mut (pointee ((Array u64 5) .written))), l₁₅) ∷ ((sliceTy (tyRef erased mut (pointee ((Array u64 5) .written)))), l₁₆) ∷ ((tyRef erased mut (pointee ((Array u16 35) .written))), l₁₇) ∷ ((sliceTy (tyRef erased mut (pointee ((Array u16 35) .written)))), l₁₈) ∷ ((tyRef erased mut (pointee (u8 .written))), l₁₉) ∷ ((sliceTy (tyRef erased mut (pointee (u8 .written)))), l₂₀) ∷ ((tyRef erased mut (pointee ((Array u64 5) .written))), l₂₁) ∷ ((sliceTy (tyRef erased mut (pointee ((Array u64 5) .written)))), l₂₂) ∷ ((tyRef erased mut (pointee ((Array u16 35) .written))), l₂₃) ∷ ((sliceTy (tyRef erased mut (pointee ((Array u16 35) .written)))), l₂₄) ∷ ((tyRef erased mut (pointee (Object-t.the-row .written))), l₂₅) ∷ ((sliceTy (tyRef erased mut (pointee (Object-t.the-row .written)))), l₂₆) ∷ ((tyRef erased mut (pointee (u8 .written))), l₂₇) ∷ ((sliceTy (tyRef erased mut (pointee (u8 .written)))), l₂₈) ∷ []
 
-    frees-all : (r : Ran) (ws₁ : List (List ℕ)) (ws₂ : List (List ℕ)) (ws₃ : List Object) (ws₄ : List ℕ) → ent 𝓤 (⋆ 𝓤 H A (‵ (MutSlice (named 0) κ₁ (Array u64 5) .own (at-list b₁ o₁ γ₁ ws₁) (sliceVal (b₁, o₁) n₁ ∷ [])) ∷ ‵ (flft κ₁ q₁) ∷ ‵ (MutSlice (named 1) κ₂ (Array u16 35) .own (at-list b₂ o₂ γ₂ ws₂) (sliceVal (b₂, o₂) n₂ ∷ [])) ∷ ‵ (flft κ₂ q₂) ∷ ‵ (MutSlice (named 2) κ₃ Object-t.the-row .own (at-list b₃ o₃ γ₃ ws₃) (sliceVal (b₃, o₃) n₃ ∷ [])) ∷ ‵ (flft κ₃ q₃) ∷ ‵ (MutSlice (named 3) κ₄ u8 .own (at-list b₄ o₄ γ₄ ws₄) (sliceVal (b₄, o₄) n₄ ∷ [])) ∷ ‵ (flft κ₄ q₄) ∷ ‵ (ShrSlice (named 4) κ₅ u8 .own (at-list b₅ o₅ γ₅ d) (sliceVal (b₅, o₅) n₅ ∷ [])) ∷ ‵ (flft κ₅ q₅) ∷ [])) (Post (Ran-p .val r)) → Sq W (‵ (MutSlice (named 0) κ₁ (Array u64 5) .own (at-list b₁ o₁ γ₁ ws₁) (sliceVal (b₁, o₁) n₁ ∷ [])) ∷ ‵ (flft κ₁ q₁) ∷ ‵ (MutSlice (named 0) κ₂ (Array u16 35) .own (at-list b₂ o₂ γ₂ ws₂) (sliceVal (b₂, o₂) n₂ ∷ [])) ∷ ‵ (flft κ₂ q₂) ∷ ‵ (MutSlice (named 0) κ₃ Object-t.the-row .own (at-list b₃ o₃ γ₃ ws₃) (sliceVal (b₃, o₃) n₃ ∷ [])) ∷ ‵ (flft κ₃ q₃) ∷ ‵ (MutSlice (named 0) κ₄ u8 .own (at-list b₄ o₄ γ₄ ws₄) (sliceVal (b₄, o₄) n₄ ∷ [])) ∷ ‵ (flft κ₄ q₄) ∷ ‵ (ShrSlice (named 0) κ₅ u8 .own (at-list b₅ o₅ γ₅ d) (sliceVal (b₅, o₅) n₅ ∷ [])) ∷ ‵ (flft κ₅ q₅) ∷ free 𝓤 (sliceTy (tyRef erased mut (pointee (u8 .written)))) l₃₀ (free 𝓤 (tyRef erased mut (pointee (u8 .written))) l₂₉ (free 𝓤 (sliceTy (tyRef erased mut (pointee (Object-t.the-row .written)))) l₂₈ (free 𝓤 (tyRef erased mut (pointee (Object-t.the-row .written))) l₂₇ (free 𝓤 (sliceTy (tyRef erased mut (pointee ((Array u16 35) .written)))) l₂₆ (free 𝓤 (tyRef erased mut (pointee ((Array u16 35) .written))) l₂₅ (free 𝓤 (sliceTy (tyRef erased mut (pointee ((Array u64 5) .written)))) l₂₄ (free 𝓤 (tyRef erased mut (pointee ((Array u64 5) .written))) l₂₃ (free 𝓤 (sliceTy (tyRef erased mut (pointee (u8 .written)))) l₂₂ (free 𝓤 (tyRef erased mut (pointee (u8 .written))) l₂₁ (free 𝓤 (sliceTy (tyRef erased mut (pointee ((Array u16 35) .written)))) l₂₀ (free 𝓤 (tyRef erased mut (pointee ((Array u16 35) .written))) l₁₉ (free 𝓤 (sliceTy (tyRef erased mut (pointee ((Array u64 5) .written)))) l₁₈ (free 𝓤 (tyRef erased mut (pointee ((Array u64 5) .written))) l₁₇ (free 𝓤 Ran-l.mir l₁₆ (free 𝓤 (tyInt w64) l₁₅ (free 𝓤 Opening-l.mir l₁₄ (free 𝓤 (tyInt w32) l₁₃ (free 𝓤 Span-l.mir l₁₂ (free 𝓤 Submessage-l.mir l₁₁ (free 𝓤 (tyInt w64) l₁₀ (free 𝓤 Parsed-l.mir l₉ (free 𝓤 Cursor-l.mir l₈ (full 𝓤 Ran-l.mir l₇ (Ran-p .val r′) (full 𝓤 Frame-l.mir l₆ (Frame-p .val f′) (full 𝓤 (sliceTy (tyRef (named 4) imm (pointee (u8 .written)))) l₅ (sliceVal (b₅, o₅) n₅) (full 𝓤 (sliceTy (tyRef (named 3) mut (pointee (u8 .written)))) l₄ (sliceVal (b₄, o₄) n₄) (full 𝓤 (sliceTy (tyRef (named 2) mut (pointee (Object-t.the-row .written)))) l₃ (sliceVal (b₃, o₃) n₃) (full 𝓤 (sliceTy (tyRef (named 1) mut (pointee ((Array u16 35) .written)))) l₂ (sliceVal (b₂, o₂) n₂) (full 𝓤 (sliceTy (tyRef (named 0) mut (pointee ((Array u64 5) .written)))) l₁ (sliceVal (b₁, o₁) n₁) (full 𝓤 Ran-l.mir l₀ (Ran-p .val r) ([])))))))))))))))))))))))))))))))) (frees En (prop (Post (Ran-p .val r))))
+    frees-all : (r : Ran) (ws₁ : List (List ℕ)) (ws₂ : List (List ℕ)) (ws₃ : List Object) (ws₄ : List ℕ) → ent 𝓤 (⋆ 𝓤 H A (‵ (MutSlice (named 0) κ₁ (Array u64 5) .own (at-list b₁ o₁ γ₁ ws₁) (sliceVal (b₁, o₁) n₁ ∷ [])) ∷ ‵ (flft κ₁ q₁) ∷ ‵ (MutSlice (named 1) κ₂ (Array u16 35) .own (at-list b₂ o₂ γ₂ ws₂) (sliceVal (b₂, o₂) n₂ ∷ [])) ∷ ‵ (flft κ₂ q₂) ∷ ‵ (MutSlice (named 2) κ₃ Object-t.the-row .own (at-list b₃ o₃ γ₃ ws₃) (sliceVal (b₃, o₃) n₃ ∷ [])) ∷ ‵ (flft κ₃ q₃) ∷ ‵ (MutSlice (named 3) κ₄ u8 .own (at-list b₄ o₄ γ₄ ws₄) (sliceVal (b₄, o₄) n₄ ∷ [])) ∷ ‵ (flft κ₄ q₄) ∷ ‵ (ShrSlice (named 4) κ₅ u8 .own (at-list b₅ o₅ γ₅ d) (sliceVal (b₅, o₅) n₅ ∷ [])) ∷ ‵ (flft κ₅ q₅) ∷ [])) (Post (Ran-p .val r)) → Sq W (‵ (MutSlice (named 0) κ₁ (Array u64 5) .own (at-list b₁ o₁ γ₁ ws₁) (sliceVal (b₁, o₁) n₁ ∷ [])) ∷ ‵ (flft κ₁ q₁) ∷ ‵ (MutSlice (named 0) κ₂ (Array u16 35) .own (at-list b₂ o₂ γ₂ ws₂) (sliceVal (b₂, o₂) n₂ ∷ [])) ∷ ‵ (flft κ₂ q₂) ∷ ‵ (MutSlice (named 0) κ₃ Object-t.the-row .own (at-list b₃ o₃ γ₃ ws₃) (sliceVal (b₃, o₃) n₃ ∷ [])) ∷ ‵ (flft κ₃ q₃) ∷ ‵ (MutSlice (named 0) κ₄ u8 .own (at-list b₄ o₄ γ₄ ws₄) (sliceVal (b₄, o₄) n₄ ∷ [])) ∷ ‵ (flft κ₄ q₄) ∷ ‵ (ShrSlice (named 0) κ₅ u8 .own (at-list b₅ o₅ γ₅ d) (sliceVal (b₅, o₅) n₅ ∷ [])) ∷ ‵ (flft κ₅ q₅) ∷ free 𝓤 (sliceTy (tyRef erased mut (pointee (u8 .written)))) l₂₈ (free 𝓤 (tyRef erased mut (pointee (u8 .written))) l₂₇ (free 𝓤 (sliceTy (tyRef erased mut (pointee (Object-t.the-row .written)))) l₂₆ (free 𝓤 (tyRef erased mut (pointee (Object-t.the-row .written))) l₂₅ (free 𝓤 (sliceTy (tyRef erased mut (pointee ((Array u16 35) .written)))) l₂₄ (free 𝓤 (tyRef erased mut (pointee ((Array u16 35) .written))) l₂₃ (free 𝓤 (sliceTy (tyRef erased mut (pointee ((Array u64 5) .written)))) l₂₂ (free 𝓤 (tyRef erased mut (pointee ((Array u64 5) .written))) l₂₁ (free 𝓤 (sliceTy (tyRef erased mut (pointee (u8 .written)))) l₂₀ (free 𝓤 (tyRef erased mut (pointee (u8 .written))) l₁₉ (free 𝓤 (sliceTy (tyRef erased mut (pointee ((Array u16 35) .written)))) l₁₈ (free 𝓤 (tyRef erased mut (pointee ((Array u16 35) .written))) l₁₇ (free 𝓤 (sliceTy (tyRef erased mut (pointee ((Array u64 5) .written)))) l₁₆ (free 𝓤 (tyRef erased mut (pointee ((Array u64 5) .written))) l₁₅ (free 𝓤 Ran-l.mir l₁₄ (free 𝓤 (tyInt w64) l₁₃ (free 𝓤 Opening-l.mir l₁₂ (free 𝓤 Asked-l.mir l₁₁ (free 𝓤 Taken-l.mir l₁₀ (free 𝓤 Parsed-l.mir l₉ (free 𝓤 Cursor-l.mir l₈ (full 𝓤 Ran-l.mir l₇ (Ran-p .val r′) (full 𝓤 Frame-l.mir l₆ (Frame-p .val f′) (full 𝓤 (sliceTy (tyRef (named 4) imm (pointee (u8 .written)))) l₅ (sliceVal (b₅, o₅) n₅) (full 𝓤 (sliceTy (tyRef (named 3) mut (pointee (u8 .written)))) l₄ (sliceVal (b₄, o₄) n₄) (full 𝓤 (sliceTy (tyRef (named 2) mut (pointee (Object-t.the-row .written)))) l₃ (sliceVal (b₃, o₃) n₃) (full 𝓤 (sliceTy (tyRef (named 1) mut (pointee ((Array u16 35) .written)))) l₂ (sliceVal (b₂, o₂) n₂) (full 𝓤 (sliceTy (tyRef (named 0) mut (pointee ((Array u64 5) .written)))) l₁ (sliceVal (b₁, o₁) n₁) (full 𝓤 Ran-l.mir l₀ (Ran-p .val r) ([])))))))))))))))))))))))))))))) (frees En (prop (Post (Ran-p .val r))))
     frees-all r ws₁ ws₂ ws₃ ws₄ ends =
-        forget ! 56 refl $ forget ! 58 refl $ forget ! 60 refl $ forget ! 62 refl $ forget ! 64 refl $ forget ! 66 refl $ forget ! 68 refl $ forget ! 70 refl $ move ! (70 ∷ 71 ∷ []) $ free1 ! $ move ! (68 ∷ 69 ∷ []) $ free1 ! $ move ! (66 ∷ 67 ∷ []) $ free1 ! $ move ! (64 ∷ 65 ∷ []) $ free1 ! $ move ! (62 ∷ 63 ∷ []) $ free1 ! $ move ! (60 ∷ 61 ∷ []) $ free1 ! $ move ! (58 ∷ 59 ∷ []) $ free1 ! $ move ! (56 ∷ 57 ∷ []) $ free1 ! $ move ! (54 ∷ 55 ∷ []) $ free1 ! $ move ! (52 ∷ 53 ∷ []) $ free1 ! $ move ! (50 ∷ 51 ∷ []) $ free1 ! $ move ! (48 ∷ 49 ∷ []) $ free1 ! $ move ! (46 ∷ 47 ∷ []) $ free1 ! $ move ! (44 ∷ 45 ∷ []) $ free1 ! $ move ! (42 ∷ 43 ∷ []) $ free1 ! $ move ! (40 ∷ 41 ∷ []) $ free1 ! $ move ! (38 ∷ 39 ∷ []) $ free1 ! $ move ! (36 ∷ 37 ∷ []) $ free1 ! $ move ! (34 ∷ 35 ∷ []) $ free1 ! $ move ! (32 ∷ 33 ∷ []) $ free1 ! $ move ! (30 ∷ 31 ∷ []) $ free1 ! $ move ! (28 ∷ 29 ∷ []) $ free1 ! $ move ! (26 ∷ 27 ∷ []) $ free1 ! $ move ! (24 ∷ 25 ∷ []) $ free1 ! $ move ! (22 ∷ 23 ∷ []) $ free1 ! $ move ! (20 ∷ 21 ∷ []) $ free1 ! $ move ! (18 ∷ 19 ∷ []) $ free1 ! $ move ! (16 ∷ 17 ∷ []) $ free1 ! $ move ! (14 ∷ 15 ∷ []) $ free1 ! $ move ! (12 ∷ 13 ∷ []) $ free1 ! $ move ! (10 ∷ 11 ∷ []) $ free1 ! $ free0 ! $
+        forget ! 52 refl $ forget ! 54 refl $ forget ! 56 refl $ forget ! 58 refl $ forget ! 60 refl $ forget ! 62 refl $ forget ! 64 refl $ forget ! 66 refl $ move ! (66 ∷ 67 ∷ []) $ free1 ! $ move ! (64 ∷ 65 ∷ []) $ free1 ! $ move ! (62 ∷ 63 ∷ []) $ free1 ! $ move ! (60 ∷ 61 ∷ []) $ free1 ! $ move ! (58 ∷ 59 ∷ []) $ free1 ! $ move ! (56 ∷ 57 ∷ []) $ free1 ! $ move ! (54 ∷ 55 ∷ []) $ free1 ! $ move ! (52 ∷ 53 ∷ []) $ free1 ! $ move ! (50 ∷ 51 ∷ []) $ free1 ! $ move ! (48 ∷ 49 ∷ []) $ free1 ! $ move ! (46 ∷ 47 ∷ []) $ free1 ! $ move ! (44 ∷ 45 ∷ []) $ free1 ! $ move ! (42 ∷ 43 ∷ []) $ free1 ! $ move ! (40 ∷ 41 ∷ []) $ free1 ! $ move ! (38 ∷ 39 ∷ []) $ free1 ! $ move ! (36 ∷ 37 ∷ []) $ free1 ! $ move ! (34 ∷ 35 ∷ []) $ free1 ! $ move ! (32 ∷ 33 ∷ []) $ free1 ! $ move ! (30 ∷ 31 ∷ []) $ free1 ! $ move ! (28 ∷ 29 ∷ []) $ free1 ! $ move ! (26 ∷ 27 ∷ []) $ free1 ! $ move ! (24 ∷ 25 ∷ []) $ free1 ! $ move ! (22 ∷ 23 ∷ []) $ free1 ! $ move ! (20 ∷ 21 ∷ []) $ free1 ! $ move ! (18 ∷ 19 ∷ []) $ free1 ! $ move ! (16 ∷ 17 ∷ []) $ free1 ! $ move ! (14 ∷ 15 ∷ []) $ free1 ! $ move ! (12 ∷ 13 ∷ []) $ free1 ! $ move ! (10 ∷ 11 ∷ []) $ free1 ! $ free0 ! $
         by ! ends
 
-    part-10-0 : (is-2 : Is (Parsed-p .row) (readAt (d) ((Cursor-of (r′ .at)) .at)) (Parsed-p .val (readAt (d) ((Cursor-of (r′ .at)) .at)) ∷ [])) → (is-4 : Is (u64-p .row) (endRead (readAt (d) ((Cursor-of (r′ .at)) .at)) n₅) (u64-p .val (endRead (readAt (d) ((Cursor-of (r′ .at)) .at)) n₅) ∷ [])) → (is-5 : Is (Submessage-p .row) (messageRead (readAt (d) ((Cursor-of (r′ .at)) .at))) (Submessage-p .val (messageRead (readAt (d) ((Cursor-of (r′ .at)) .at))) ∷ [])) → (is-6 : Is (Span-p .row) (bodyRead (readAt (d) ((Cursor-of (r′ .at)) .at))) (Span-p .val (bodyRead (readAt (d) ((Cursor-of (r′ .at)) .at))) ∷ [])) → (is-7 : Is (u32-p .row) (keyIn (messageRead (readAt (d) ((Cursor-of (r′ .at)) .at)))) (u32-p .val (keyIn (messageRead (readAt (d) ((Cursor-of (r′ .at)) .at)))) ∷ [])) → (is-8 : Is (Opening-p .row) (openingRead (readAt (d) ((Cursor-of (r′ .at)) .at))) (Opening-p .val (openingRead (readAt (d) ((Cursor-of (r′ .at)) .at))) ∷ [])) → (e-9 : openingRead (readAt (d) ((Cursor-of (r′ .at)) .at)) ≡ Opening-Client) → (good-9 : Is (Opening-p .row) Opening-Client (Opening-p .val Opening-Client ∷ [])) → (asks-9·Client·7 : r′ .wrote ≤ 18446744073709551600) → (len-9·Client·7-sessions : length (openedRows (createdOf (sessions) (streams) (f′ .«max_clients») (r′ .next)) (sessions) (keyIn (messageRead (readAt (d) ((Cursor-of (r′ .at)) .at)))) (f′ .time)) ≡ n₁) → (len-9·Client·7-streams : length (openedStreams (createdOf (sessions) (streams) (f′ .«max_clients») (r′ .next)) (streams)) ≡ n₂) → (len-9·Client·7-out : length (putBytes (out) (r′ .wrote) (greetingBytes (createdOf (sessions) (streams) (f′ .«max_clients») (r′ .next)))) ≡ n₄) → (is-9·Client·7 : Is (Ran-p .row) (greeted f′ r′ (keyIn (messageRead (readAt (d) ((Cursor-of (r′ .at)) .at)))) (endRead (readAt (d) ((Cursor-of (r′ .at)) .at)) n₅) (createdOf (sessions) (streams) (f′ .«max_clients») (r′ .next))) (Ran-p .val (greeted f′ r′ (keyIn (messageRead (readAt (d) ((Cursor-of (r′ .at)) .at)))) (endRead (readAt (d) ((Cursor-of (r′ .at)) .at)) n₅) (createdOf (sessions) (streams) (f′ .«max_clients») (r′ .next))) ∷ [])) → Sq W (‵ (MutSlice (named 0) κ₁ (Array u64 5) .own (at-list b₁ o₁ γ₁ (openedRows (createdOf (sessions) (streams) (f′ .«max_clients») (r′ .next)) (sessions) (keyIn (messageRead (readAt (d) ((Cursor-of (r′ .at)) .at)))) (f′ .time))) (sliceVal (b₁, o₁) n₁ ∷ [])) ∷ ‵ (flft κ₁ q₁) ∷ ‵ (MutSlice (named 0) κ₂ (Array u16 35) .own (at-list b₂ o₂ γ₂ (openedStreams (createdOf (sessions) (streams) (f′ .«max_clients») (r′ .next)) (streams))) (sliceVal (b₂, o₂) n₂ ∷ [])) ∷ ‵ (flft κ₂ q₂) ∷ ‵ (MutSlice (named 0) κ₃ Object-t.the-row .own (at-list b₃ o₃ γ₃ objects) (sliceVal (b₃, o₃) n₃ ∷ [])) ∷ ‵ (flft κ₃ q₃) ∷ ‵ (MutSlice (named 0) κ₄ u8 .own (at-list b₄ o₄ γ₄ (putBytes (out) (r′ .wrote) (greetingBytes (createdOf (sessions) (streams) (f′ .«max_clients») (r′ .next))))) (sliceVal (b₄, o₄) n₄ ∷ [])) ∷ ‵ (flft κ₄ q₄) ∷ ‵ (ShrSlice (named 0) κ₅ u8 .own (at-list b₅ o₅ γ₅ d) (sliceVal (b₅, o₅) n₅ ∷ [])) ∷ ‵ (flft κ₅ q₅) ∷ free 𝓤 (sliceTy (tyRef erased mut (pointee (u8 .written)))) l₃₀ (free 𝓤 (tyRef erased mut (pointee (u8 .written))) l₂₉ (free 𝓤 (sliceTy (tyRef erased mut (pointee (Object-t.the-row .written)))) l₂₈ (free 𝓤 (tyRef erased mut (pointee (Object-t.the-row .written))) l₂₇ (free 𝓤 (sliceTy (tyRef erased mut (pointee ((Array u16 35) .written)))) l₂₆ (free 𝓤 (tyRef erased mut (pointee ((Array u16 35) .written))) l₂₅ (free 𝓤 (sliceTy (tyRef erased mut (pointee ((Array u64 5) .written)))) l₂₄ (free 𝓤 (tyRef erased mut (pointee ((Array u64 5) .written))) l₂₃ (full 𝓤 (sliceTy (tyRef erased mut (pointee (u8 .written)))) l₂₂ (sliceVal (b₄, o₄) n₄) (full 𝓤 (tyRef erased mut (pointee (u8 .written))) l₂₁ (vptr b₄ o₄) (full 𝓤 (sliceTy (tyRef erased mut (pointee ((Array u16 35) .written)))) l₂₀ (sliceVal (b₂, o₂) n₂) (full 𝓤 (tyRef erased mut (pointee ((Array u16 35) .written))) l₁₉ (vptr b₂ o₂) (full 𝓤 (sliceTy (tyRef erased mut (pointee ((Array u64 5) .written)))) l₁₈ (sliceVal (b₁, o₁) n₁) (full 𝓤 (tyRef erased mut (pointee ((Array u64 5) .written))) l₁₇ (vptr b₁ o₁) (full 𝓤 Ran-l.mir l₁₆ (Ran-p .val (greeted f′ r′ (keyIn (messageRead (readAt (d) ((Cursor-of (r′ .at)) .at)))) (endRead (readAt (d) ((Cursor-of (r′ .at)) .at)) n₅) (createdOf (sessions) (streams) (f′ .«max_clients») (r′ .next)))) (full 𝓤 (tyInt w64) l₁₅ (u64-p .val n₅) (full 𝓤 Opening-l.mir l₁₄ (Opening-p .val Opening-Client) (full 𝓤 (tyInt w32) l₁₃ (u32-p .val (keyIn (messageRead (readAt (d) ((Cursor-of (r′ .at)) .at))))) (full 𝓤 Span-l.mir l₁₂ (Span-p .val (bodyRead (readAt (d) ((Cursor-of (r′ .at)) .at)))) (full 𝓤 Submessage-l.mir l₁₁ (Submessage-p .val (messageRead (readAt (d) ((Cursor-of (r′ .at)) .at)))) (full 𝓤 (tyInt w64) l₁₀ (u64-p .val (endRead (readAt (d) ((Cursor-of (r′ .at)) .at)) n₅)) (full 𝓤 Parsed-l.mir l₉ (Parsed-p .val (readAt (d) ((Cursor-of (r′ .at)) .at))) (full 𝓤 Cursor-l.mir l₈ (Cursor-p .val (Cursor-of (r′ .at))) (full 𝓤 Ran-l.mir l₇ (Ran-p .val r′) (full 𝓤 Frame-l.mir l₆ (Frame-p .val f′) (full 𝓤 (sliceTy (tyRef (named 4) imm (pointee (u8 .written)))) l₅ (sliceVal (b₅, o₅) n₅) (full 𝓤 (sliceTy (tyRef (named 3) mut (pointee (u8 .written)))) l₄ (sliceVal (b₄, o₄) n₄) (full 𝓤 (sliceTy (tyRef (named 2) mut (pointee (Object-t.the-row .written)))) l₃ (sliceVal (b₃, o₃) n₃) (full 𝓤 (sliceTy (tyRef (named 1) mut (pointee ((Array u16 35) .written)))) l₂ (sliceVal (b₂, o₂) n₂) (full 𝓤 (sliceTy (tyRef (named 0) mut (pointee ((Array u64 5) .written)))) l₁ (sliceVal (b₁, o₁) n₁) (free 𝓤 Ran-l.mir l₀ ([])))))))))))))))))))))))))))))))) (runs C Λ En mir.t-10 (atRet En Post))
-    part-10-0 is-2 is-4 is-5 is-6 is-7 is-8 e-9 good-9 asks-9·Client·7 len-9·Client·7-sessions len-9·Client·7-streams len-9·Client·7-out is-9·Client·7 =
-        assigns ! (of-opd ! (load ! (from ! (stop !)) (look ! 38 refl))) (from ! (stop !)) (init ! 70 refl (Ran-p .typed 𝓤 H A W (greeted f′ r′ (keyIn (messageRead (readAt (d) ((Cursor-of (r′ .at)) .at)))) (endRead (readAt (d) ((Cursor-of (r′ .at)) .at)) n₅) (createdOf (sessions) (streams) (f′ .«max_clients») (r′ .next))) is-9·Client·7)) $
-        returns ! (look ! 70 refl) $ forget ! 26 refl $ forget ! 28 refl $ forget ! 30 refl $ forget ! 32 refl $ forget ! 34 refl $ forget ! 36 refl $ forget ! 38 refl $ forget ! 40 refl $ forget ! 42 refl $ forget ! 44 refl $ forget ! 46 refl $ forget ! 48 refl $ forget ! 50 refl $ forget ! 52 refl $ forget ! 54 refl $
-        frees-all (greeted f′ r′ (keyIn (messageRead (readAt (d) ((Cursor-of (r′ .at)) .at)))) (endRead (readAt (d) ((Cursor-of (r′ .at)) .at)) n₅) (createdOf (sessions) (streams) (f′ .«max_clients») (r′ .next))) (openedRows (createdOf (sessions) (streams) (f′ .«max_clients») (r′ .next)) (sessions) (keyIn (messageRead (readAt (d) ((Cursor-of (r′ .at)) .at)))) (f′ .time)) (openedStreams (createdOf (sessions) (streams) (f′ .«max_clients») (r′ .next)) (streams)) objects (putBytes (out) (r′ .wrote) (greetingBytes (createdOf (sessions) (streams) (f′ .«max_clients») (r′ .next)))) (exits (greeted f′ r′ (keyIn (messageRead (readAt (d) ((Cursor-of (r′ .at)) .at)))) (endRead (readAt (d) ((Cursor-of (r′ .at)) .at)) n₅) (createdOf (sessions) (streams) (f′ .«max_clients») (r′ .next))) (openedRows (createdOf (sessions) (streams) (f′ .«max_clients») (r′ .next)) (sessions) (keyIn (messageRead (readAt (d) ((Cursor-of (r′ .at)) .at)))) (f′ .time)) (openedStreams (createdOf (sessions) (streams) (f′ .«max_clients») (r′ .next)) (streams)) objects (putBytes (out) (r′ .wrote) (greetingBytes (createdOf (sessions) (streams) (f′ .«max_clients») (r′ .next)))) (as-left out _ (r′ .wrote) (left Opening-Client) leaves (ap left (sym e-9) ∙ left-is) (greeting-written out (r′ .wrote) (createdOf sessions streams (f′ .«max_clients») (r′ .next)))) is-9·Client·7 len-9·Client·7-sessions len-9·Client·7-streams refl len-9·Client·7-out)
+    part-8-0 : (is-2 : Is (Parsed-p .row) (readAt (d) ((Cursor-of (r′ .at)) .at)) (Parsed-p .val (readAt (d) ((Cursor-of (r′ .at)) .at)) ∷ [])) → (is-4 : Is (Taken-p .row) (takenOf (readAt (d) ((Cursor-of (r′ .at)) .at)) n₅) (Taken-p .val (takenOf (readAt (d) ((Cursor-of (r′ .at)) .at)) n₅) ∷ [])) → (e-7 : ((takenOf (readAt (d) ((Cursor-of (r′ .at)) .at)) n₅) .asked) .opening ≡ Opening-Client) → (good-7 : Is (Opening-p .row) Opening-Client (Opening-p .val Opening-Client ∷ [])) → (asks-7·Client·7 : r′ .wrote ≤ 18446744073709551600) → (len-7·Client·7-sessions : length (openedRows (createdOf (sessions) (streams) (f′ .«max_clients») (r′ .next)) (sessions) (((takenOf (readAt (d) ((Cursor-of (r′ .at)) .at)) n₅) .asked) .key) (f′ .time)) ≡ n₁) → (len-7·Client·7-streams : length (openedStreams (createdOf (sessions) (streams) (f′ .«max_clients») (r′ .next)) (streams)) ≡ n₂) → (len-7·Client·7-out : length (putBytes (out) (r′ .wrote) (greetingBytes (createdOf (sessions) (streams) (f′ .«max_clients») (r′ .next)))) ≡ n₄) → (is-7·Client·7 : Is (Ran-p .row) (greeted f′ r′ (((takenOf (readAt (d) ((Cursor-of (r′ .at)) .at)) n₅) .asked) .key) ((takenOf (readAt (d) ((Cursor-of (r′ .at)) .at)) n₅) .at) (createdOf (sessions) (streams) (f′ .«max_clients») (r′ .next))) (Ran-p .val (greeted f′ r′ (((takenOf (readAt (d) ((Cursor-of (r′ .at)) .at)) n₅) .asked) .key) ((takenOf (readAt (d) ((Cursor-of (r′ .at)) .at)) n₅) .at) (createdOf (sessions) (streams) (f′ .«max_clients») (r′ .next))) ∷ [])) → Sq W (‵ (MutSlice (named 0) κ₁ (Array u64 5) .own (at-list b₁ o₁ γ₁ (openedRows (createdOf (sessions) (streams) (f′ .«max_clients») (r′ .next)) (sessions) (((takenOf (readAt (d) ((Cursor-of (r′ .at)) .at)) n₅) .asked) .key) (f′ .time))) (sliceVal (b₁, o₁) n₁ ∷ [])) ∷ ‵ (flft κ₁ q₁) ∷ ‵ (MutSlice (named 0) κ₂ (Array u16 35) .own (at-list b₂ o₂ γ₂ (openedStreams (createdOf (sessions) (streams) (f′ .«max_clients») (r′ .next)) (streams))) (sliceVal (b₂, o₂) n₂ ∷ [])) ∷ ‵ (flft κ₂ q₂) ∷ ‵ (MutSlice (named 0) κ₃ Object-t.the-row .own (at-list b₃ o₃ γ₃ objects) (sliceVal (b₃, o₃) n₃ ∷ [])) ∷ ‵ (flft κ₃ q₃) ∷ ‵ (MutSlice (named 0) κ₄ u8 .own (at-list b₄ o₄ γ₄ (putBytes (out) (r′ .wrote) (greetingBytes (createdOf (sessions) (streams) (f′ .«max_clients») (r′ .next))))) (sliceVal (b₄, o₄) n₄ ∷ [])) ∷ ‵ (flft κ₄ q₄) ∷ ‵ (ShrSlice (named 0) κ₅ u8 .own (at-list b₅ o₅ γ₅ d) (sliceVal (b₅, o₅) n₅ ∷ [])) ∷ ‵ (flft κ₅ q₅) ∷ free 𝓤 (sliceTy (tyRef erased mut (pointee (u8 .written)))) l₂₈ (free 𝓤 (tyRef erased mut (pointee (u8 .written))) l₂₇ (free 𝓤 (sliceTy (tyRef erased mut (pointee (Object-t.the-row .written)))) l₂₆ (free 𝓤 (tyRef erased mut (pointee (Object-t.the-row .written))) l₂₅ (free 𝓤 (sliceTy (tyRef erased mut (pointee ((Array u16 35) .written)))) l₂₄ (free 𝓤 (tyRef erased mut (pointee ((Array u16 35) .written))) l₂₃ (free 𝓤 (sliceTy (tyRef erased mut (pointee ((Array u64 5) .written)))) l₂₂ (free 𝓤 (tyRef erased mut (pointee ((Array u64 5) .written))) l₂₁ (full 𝓤 (sliceTy (tyRef erased mut (pointee (u8 .written)))) l₂₀ (sliceVal (b₄, o₄) n₄) (full 𝓤 (tyRef erased mut (pointee (u8 .written))) l₁₉ (vptr b₄ o₄) (full 𝓤 (sliceTy (tyRef erased mut (pointee ((Array u16 35) .written)))) l₁₈ (sliceVal (b₂, o₂) n₂) (full 𝓤 (tyRef erased mut (pointee ((Array u16 35) .written))) l₁₇ (vptr b₂ o₂) (full 𝓤 (sliceTy (tyRef erased mut (pointee ((Array u64 5) .written)))) l₁₆ (sliceVal (b₁, o₁) n₁) (full 𝓤 (tyRef erased mut (pointee ((Array u64 5) .written))) l₁₅ (vptr b₁ o₁) (full 𝓤 Ran-l.mir l₁₄ (Ran-p .val (greeted f′ r′ (((takenOf (readAt (d) ((Cursor-of (r′ .at)) .at)) n₅) .asked) .key) ((takenOf (readAt (d) ((Cursor-of (r′ .at)) .at)) n₅) .at) (createdOf (sessions) (streams) (f′ .«max_clients») (r′ .next)))) (full 𝓤 (tyInt w64) l₁₃ (u64-p .val n₅) (full 𝓤 Opening-l.mir l₁₂ (Opening-p .val Opening-Client) (full 𝓤 Asked-l.mir l₁₁ (Asked-p .val ((takenOf (readAt (d) ((Cursor-of (r′ .at)) .at)) n₅) .asked)) (full 𝓤 Taken-l.mir l₁₀ (Taken-p .val (takenOf (readAt (d) ((Cursor-of (r′ .at)) .at)) n₅)) (full 𝓤 Parsed-l.mir l₉ (Parsed-p .val (readAt (d) ((Cursor-of (r′ .at)) .at))) (full 𝓤 Cursor-l.mir l₈ (Cursor-p .val (Cursor-of (r′ .at))) (full 𝓤 Ran-l.mir l₇ (Ran-p .val r′) (full 𝓤 Frame-l.mir l₆ (Frame-p .val f′) (full 𝓤 (sliceTy (tyRef (named 4) imm (pointee (u8 .written)))) l₅ (sliceVal (b₅, o₅) n₅) (full 𝓤 (sliceTy (tyRef (named 3) mut (pointee (u8 .written)))) l₄ (sliceVal (b₄, o₄) n₄) (full 𝓤 (sliceTy (tyRef (named 2) mut (pointee (Object-t.the-row .written)))) l₃ (sliceVal (b₃, o₃) n₃) (full 𝓤 (sliceTy (tyRef (named 1) mut (pointee ((Array u16 35) .written)))) l₂ (sliceVal (b₂, o₂) n₂) (full 𝓤 (sliceTy (tyRef (named 0) mut (pointee ((Array u64 5) .written)))) l₁ (sliceVal (b₁, o₁) n₁) (free 𝓤 Ran-l.mir l₀ ([])))))))))))))))))))))))))))))) (runs C Λ En mir.t-8 (atRet En Post))
+    part-8-0 is-2 is-4 e-7 good-7 asks-7·Client·7 len-7·Client·7-sessions len-7·Client·7-streams len-7·Client·7-out is-7·Client·7 =
+        assigns ! (of-opd ! (load ! (from ! (stop !)) (look ! 38 refl))) (from ! (stop !)) (init ! 66 refl (Ran-p .typed 𝓤 H A W (greeted f′ r′ (((takenOf (readAt (d) ((Cursor-of (r′ .at)) .at)) n₅) .asked) .key) ((takenOf (readAt (d) ((Cursor-of (r′ .at)) .at)) n₅) .at) (createdOf (sessions) (streams) (f′ .«max_clients») (r′ .next))) is-7·Client·7)) $
+        returns ! (look ! 66 refl) $ forget ! 26 refl $ forget ! 28 refl $ forget ! 30 refl $ forget ! 32 refl $ forget ! 34 refl $ forget ! 36 refl $ forget ! 38 refl $ forget ! 40 refl $ forget ! 42 refl $ forget ! 44 refl $ forget ! 46 refl $ forget ! 48 refl $ forget ! 50 refl $
+        frees-all (greeted f′ r′ (((takenOf (readAt (d) ((Cursor-of (r′ .at)) .at)) n₅) .asked) .key) ((takenOf (readAt (d) ((Cursor-of (r′ .at)) .at)) n₅) .at) (createdOf (sessions) (streams) (f′ .«max_clients») (r′ .next))) (openedRows (createdOf (sessions) (streams) (f′ .«max_clients») (r′ .next)) (sessions) (((takenOf (readAt (d) ((Cursor-of (r′ .at)) .at)) n₅) .asked) .key) (f′ .time)) (openedStreams (createdOf (sessions) (streams) (f′ .«max_clients») (r′ .next)) (streams)) objects (putBytes (out) (r′ .wrote) (greetingBytes (createdOf (sessions) (streams) (f′ .«max_clients») (r′ .next)))) (exits (greeted f′ r′ (((takenOf (readAt (d) ((Cursor-of (r′ .at)) .at)) n₅) .asked) .key) ((takenOf (readAt (d) ((Cursor-of (r′ .at)) .at)) n₅) .at) (createdOf (sessions) (streams) (f′ .«max_clients») (r′ .next))) (openedRows (createdOf (sessions) (streams) (f′ .«max_clients») (r′ .next)) (sessions) (((takenOf (readAt (d) ((Cursor-of (r′ .at)) .at)) n₅) .asked) .key) (f′ .time)) (openedStreams (createdOf (sessions) (streams) (f′ .«max_clients») (r′ .next)) (streams)) objects (putBytes (out) (r′ .wrote) (greetingBytes (createdOf (sessions) (streams) (f′ .«max_clients») (r′ .next)))) (as-left out _ (r′ .wrote) (left Opening-Client) leaves (ap left (sym e-7) ∙ left-is) (greeting-written out (r′ .wrote) (createdOf sessions streams (f′ .«max_clients») (r′ .next)))) is-7·Client·7 len-7·Client·7-sessions len-7·Client·7-streams refl len-7·Client·7-out)
 
-    matched-9-Client-0 : (is-2 : Is (Parsed-p .row) (readAt (d) ((Cursor-of (r′ .at)) .at)) (Parsed-p .val (readAt (d) ((Cursor-of (r′ .at)) .at)) ∷ [])) → (is-4 : Is (u64-p .row) (endRead (readAt (d) ((Cursor-of (r′ .at)) .at)) n₅) (u64-p .val (endRead (readAt (d) ((Cursor-of (r′ .at)) .at)) n₅) ∷ [])) → (is-5 : Is (Submessage-p .row) (messageRead (readAt (d) ((Cursor-of (r′ .at)) .at))) (Submessage-p .val (messageRead (readAt (d) ((Cursor-of (r′ .at)) .at))) ∷ [])) → (is-6 : Is (Span-p .row) (bodyRead (readAt (d) ((Cursor-of (r′ .at)) .at))) (Span-p .val (bodyRead (readAt (d) ((Cursor-of (r′ .at)) .at))) ∷ [])) → (is-7 : Is (u32-p .row) (keyIn (messageRead (readAt (d) ((Cursor-of (r′ .at)) .at)))) (u32-p .val (keyIn (messageRead (readAt (d) ((Cursor-of (r′ .at)) .at)))) ∷ [])) → (is-8 : Is (Opening-p .row) (openingRead (readAt (d) ((Cursor-of (r′ .at)) .at))) (Opening-p .val (openingRead (readAt (d) ((Cursor-of (r′ .at)) .at))) ∷ [])) → (e-9 : openingRead (readAt (d) ((Cursor-of (r′ .at)) .at)) ≡ Opening-Client) → (good-9 : Is (Opening-p .row) Opening-Client (Opening-p .val Opening-Client ∷ [])) → Sq W (‵ (MutSlice (named 0) κ₁ (Array u64 5) .own (at-list b₁ o₁ γ₁ sessions) (sliceVal (b₁, o₁) n₁ ∷ [])) ∷ ‵ (flft κ₁ q₁) ∷ ‵ (MutSlice (named 0) κ₂ (Array u16 35) .own (at-list b₂ o₂ γ₂ streams) (sliceVal (b₂, o₂) n₂ ∷ [])) ∷ ‵ (flft κ₂ q₂) ∷ ‵ (MutSlice (named 0) κ₃ Object-t.the-row .own (at-list b₃ o₃ γ₃ objects) (sliceVal (b₃, o₃) n₃ ∷ [])) ∷ ‵ (flft κ₃ q₃) ∷ ‵ (MutSlice (named 0) κ₄ u8 .own (at-list b₄ o₄ γ₄ out) (sliceVal (b₄, o₄) n₄ ∷ [])) ∷ ‵ (flft κ₄ q₄) ∷ ‵ (ShrSlice (named 0) κ₅ u8 .own (at-list b₅ o₅ γ₅ d) (sliceVal (b₅, o₅) n₅ ∷ [])) ∷ ‵ (flft κ₅ q₅) ∷ free 𝓤 (sliceTy (tyRef erased mut (pointee (u8 .written)))) l₃₀ (free 𝓤 (tyRef erased mut (pointee (u8 .written))) l₂₉ (free 𝓤 (sliceTy (tyRef erased mut (pointee (Object-t.the-row .written)))) l₂₈ (free 𝓤 (tyRef erased mut (pointee (Object-t.the-row .written))) l₂₇ (free 𝓤 (sliceTy (tyRef erased mut (pointee ((Array u16 35) .written)))) l₂₆ (free 𝓤 (tyRef erased mut (pointee ((Array u16 35) .written))) l₂₅ (free 𝓤 (sliceTy (tyRef erased mut (pointee ((Array u64 5) .written)))) l₂₄ (free 𝓤 (tyRef erased mut (pointee ((Array u64 5) .written))) l₂₃ (free 𝓤 (sliceTy (tyRef erased mut (pointee (u8 .written)))) l₂₂ (free 𝓤 (tyRef erased mut (pointee (u8 .written))) l₂₁ (free 𝓤 (sliceTy (tyRef erased mut (pointee ((Array u16 35) .written)))) l₂₀ (free 𝓤 (tyRef erased mut (pointee ((Array u16 35) .written))) l₁₉ (free 𝓤 (sliceTy (tyRef erased mut (pointee ((Array u64 5) .written)))) l₁₈ (free 𝓤 (tyRef erased mut (pointee ((Array u64 5) .written))) l₁₇ (free 𝓤 Ran-l.mir l₁₆ (full 𝓤 (tyInt w64) l₁₅ (u64-p .val n₅) (full 𝓤 Opening-l.mir l₁₄ (Opening-p .val Opening-Client) (full 𝓤 (tyInt w32) l₁₃ (u32-p .val (keyIn (messageRead (readAt (d) ((Cursor-of (r′ .at)) .at))))) (full 𝓤 Span-l.mir l₁₂ (Span-p .val (bodyRead (readAt (d) ((Cursor-of (r′ .at)) .at)))) (full 𝓤 Submessage-l.mir l₁₁ (Submessage-p .val (messageRead (readAt (d) ((Cursor-of (r′ .at)) .at)))) (full 𝓤 (tyInt w64) l₁₀ (u64-p .val (endRead (readAt (d) ((Cursor-of (r′ .at)) .at)) n₅)) (full 𝓤 Parsed-l.mir l₉ (Parsed-p .val (readAt (d) ((Cursor-of (r′ .at)) .at))) (full 𝓤 Cursor-l.mir l₈ (Cursor-p .val (Cursor-of (r′ .at))) (full 𝓤 Ran-l.mir l₇ (Ran-p .val r′) (full 𝓤 Frame-l.mir l₆ (Frame-p .val f′) (full 𝓤 (sliceTy (tyRef (named 4) imm (pointee (u8 .written)))) l₅ (sliceVal (b₅, o₅) n₅) (full 𝓤 (sliceTy (tyRef (named 3) mut (pointee (u8 .written)))) l₄ (sliceVal (b₄, o₄) n₄) (full 𝓤 (sliceTy (tyRef (named 2) mut (pointee (Object-t.the-row .written)))) l₃ (sliceVal (b₃, o₃) n₃) (full 𝓤 (sliceTy (tyRef (named 1) mut (pointee ((Array u16 35) .written)))) l₂ (sliceVal (b₂, o₂) n₂) (full 𝓤 (sliceTy (tyRef (named 0) mut (pointee ((Array u64 5) .written)))) l₁ (sliceVal (b₁, o₁) n₁) (free 𝓤 Ran-l.mir l₀ ([])))))))))))))))))))))))))))))))) (runs C Λ En (one mir.t-9) (anyQ (afterSeq 𝓤 H (Wp 𝓤 H C Λ En mir.t-10 (atReturn 𝓤 H En Post)) (atReturn 𝓤 H En Post))))
-    matched-9-Client-0 is-2 is-4 is-5 is-6 is-7 is-8 e-9 good-9 =
-        switches-on ! (load ! (from ! (vrt ! refl (fld ! refl (stop !)))) (look-tag ! 42 (whole !))) $ exec ! C Λ En (arm-of 0 (one mir.t-9)) (anyQ (afterSeq 𝓤 H (Wp 𝓤 H C Λ En mir.t-10 (atReturn 𝓤 H En Post)) (atReturn 𝓤 H En Post))) $
-        assigns ! (addr ! (from ! (fld ! refl (hop ! (look-in ! 68 (sub ! 0 refl (whole !))) (stop !))))) (from ! (stop !)) (init ! 36 refl (tt, tt)) $
-        assigns ! (agg ! (and-then ! (load ! (from ! (stop !)) (look ! 36 refl)) (and-then ! (load ! (from ! (fld ! refl (stop !))) (look-in ! 68 (sub ! 1 refl (whole !)))) (no-more !)))) (from ! (stop !)) (init ! 34 refl (tt, (tt, (record { fits = room₁ .0 }, tt)))) $
-        assigns ! (addr ! (from ! (fld ! refl (hop ! (look-in ! 66 (sub ! 0 refl (whole !))) (stop !))))) (from ! (stop !)) (init ! 32 refl (tt, tt)) $
-        assigns ! (agg ! (and-then ! (load ! (from ! (stop !)) (look ! 32 refl)) (and-then ! (load ! (from ! (fld ! refl (stop !))) (look-in ! 66 (sub ! 1 refl (whole !)))) (no-more !)))) (from ! (stop !)) (init ! 30 refl (tt, (tt, (record { fits = room₂ .0 }, tt)))) $
-        assigns ! (addr ! (from ! (fld ! refl (hop ! (look-in ! 62 (sub ! 0 refl (whole !))) (stop !))))) (from ! (stop !)) (init ! 28 refl (tt, tt)) $
-        assigns ! (agg ! (and-then ! (load ! (from ! (stop !)) (look ! 28 refl)) (and-then ! (load ! (from ! (fld ! refl (stop !))) (look-in ! 62 (sub ! 1 refl (whole !)))) (no-more !)))) (from ! (stop !)) (init ! 26 refl (tt, (tt, (record { fits = room₄ .0 }, tt)))) $
-        knows ! (r′ .wrote ≤ 18446744073709551600) (omega (arith, ltb-true, ltb-false, leb-true, leb-false, eqb-true, eqb-false)) (λ asks-9·Client·7.
-        -- 9.Client.7: agent::turn::greet
-        lends-mut ! tt (Array u64 5) b₁ o₁ sessions n₁ (refl) (λ ν-9·Client·7-sessions δ-9·Client·7-sessions.
+    matched-7-Client-0 : (is-2 : Is (Parsed-p .row) (readAt (d) ((Cursor-of (r′ .at)) .at)) (Parsed-p .val (readAt (d) ((Cursor-of (r′ .at)) .at)) ∷ [])) → (is-4 : Is (Taken-p .row) (takenOf (readAt (d) ((Cursor-of (r′ .at)) .at)) n₅) (Taken-p .val (takenOf (readAt (d) ((Cursor-of (r′ .at)) .at)) n₅) ∷ [])) → (e-7 : ((takenOf (readAt (d) ((Cursor-of (r′ .at)) .at)) n₅) .asked) .opening ≡ Opening-Client) → (good-7 : Is (Opening-p .row) Opening-Client (Opening-p .val Opening-Client ∷ [])) → Sq W (‵ (MutSlice (named 0) κ₁ (Array u64 5) .own (at-list b₁ o₁ γ₁ sessions) (sliceVal (b₁, o₁) n₁ ∷ [])) ∷ ‵ (flft κ₁ q₁) ∷ ‵ (MutSlice (named 0) κ₂ (Array u16 35) .own (at-list b₂ o₂ γ₂ streams) (sliceVal (b₂, o₂) n₂ ∷ [])) ∷ ‵ (flft κ₂ q₂) ∷ ‵ (MutSlice (named 0) κ₃ Object-t.the-row .own (at-list b₃ o₃ γ₃ objects) (sliceVal (b₃, o₃) n₃ ∷ [])) ∷ ‵ (flft κ₃ q₃) ∷ ‵ (MutSlice (named 0) κ₄ u8 .own (at-list b₄ o₄ γ₄ out) (sliceVal (b₄, o₄) n₄ ∷ [])) ∷ ‵ (flft κ₄ q₄) ∷ ‵ (ShrSlice (named 0) κ₅ u8 .own (at-list b₅ o₅ γ₅ d) (sliceVal (b₅, o₅) n₅ ∷ [])) ∷ ‵ (flft κ₅ q₅) ∷ free 𝓤 (sliceTy (tyRef erased mut (pointee (u8 .written)))) l₂₈ (free 𝓤 (tyRef erased mut (pointee (u8 .written))) l₂₇ (free 𝓤 (sliceTy (tyRef erased mut (pointee (Object-t.the-row .written)))) l₂₆ (free 𝓤 (tyRef erased mut (pointee (Object-t.the-row .written))) l₂₅ (free 𝓤 (sliceTy (tyRef erased mut (pointee ((Array u16 35) .written)))) l₂₄ (free 𝓤 (tyRef erased mut (pointee ((Array u16 35) .written))) l₂₃ (free 𝓤 (sliceTy (tyRef erased mut (pointee ((Array u64 5) .written)))) l₂₂ (free 𝓤 (tyRef erased mut (pointee ((Array u64 5) .written))) l₂₁ (free 𝓤 (sliceTy (tyRef erased mut (pointee (u8 .written)))) l₂₀ (free 𝓤 (tyRef erased mut (pointee (u8 .written))) l₁₉ (free 𝓤 (sliceTy (tyRef erased mut (pointee ((Array u16 35) .written)))) l₁₈ (free 𝓤 (tyRef erased mut (pointee ((Array u16 35) .written))) l₁₇ (free 𝓤 (sliceTy (tyRef erased mut (pointee ((Array u64 5) .written)))) l₁₆ (free 𝓤 (tyRef erased mut (pointee ((Array u64 5) .written))) l₁₅ (free 𝓤 Ran-l.mir l₁₄ (full 𝓤 (tyInt w64) l₁₃ (u64-p .val n₅) (full 𝓤 Opening-l.mir l₁₂ (Opening-p .val Opening-Client) (full 𝓤 Asked-l.mir l₁₁ (Asked-p .val ((takenOf (readAt (d) ((Cursor-of (r′ .at)) .at)) n₅) .asked)) (full 𝓤 Taken-l.mir l₁₀ (Taken-p .val (takenOf (readAt (d) ((Cursor-of (r′ .at)) .at)) n₅)) (full 𝓤 Parsed-l.mir l₉ (Parsed-p .val (readAt (d) ((Cursor-of (r′ .at)) .at))) (full 𝓤 Cursor-l.mir l₈ (Cursor-p .val (Cursor-of (r′ .at))) (full 𝓤 Ran-l.mir l₇ (Ran-p .val r′) (full 𝓤 Frame-l.mir l₆ (Frame-p .val f′) (full 𝓤 (sliceTy (tyRef (named 4) imm (pointee (u8 .written)))) l₅ (sliceVal (b₅, o₅) n₅) (full 𝓤 (sliceTy (tyRef (named 3) mut (pointee (u8 .written)))) l₄ (sliceVal (b₄, o₄) n₄) (full 𝓤 (sliceTy (tyRef (named 2) mut (pointee (Object-t.the-row .written)))) l₃ (sliceVal (b₃, o₃) n₃) (full 𝓤 (sliceTy (tyRef (named 1) mut (pointee ((Array u16 35) .written)))) l₂ (sliceVal (b₂, o₂) n₂) (full 𝓤 (sliceTy (tyRef (named 0) mut (pointee ((Array u64 5) .written)))) l₁ (sliceVal (b₁, o₁) n₁) (free 𝓤 Ran-l.mir l₀ ([])))))))))))))))))))))))))))))) (runs C Λ En (one mir.t-7) (anyQ (afterSeq 𝓤 H (Wp 𝓤 H C Λ En mir.t-8 (atReturn 𝓤 H En Post)) (atReturn 𝓤 H En Post))))
+    matched-7-Client-0 is-2 is-4 e-7 good-7 =
+        switches-on ! (load ! (from ! (vrt ! refl (fld ! refl (stop !)))) (look-tag ! 42 (whole !))) $ exec ! C Λ En (arm-of 0 (one mir.t-7)) (anyQ (afterSeq 𝓤 H (Wp 𝓤 H C Λ En mir.t-8 (atReturn 𝓤 H En Post)) (atReturn 𝓤 H En Post))) $
+        assigns ! (addr ! (from ! (fld ! refl (hop ! (look-in ! 64 (sub ! 0 refl (whole !))) (stop !))))) (from ! (stop !)) (init ! 36 refl (tt, tt)) $
+        assigns ! (agg ! (and-then ! (load ! (from ! (stop !)) (look ! 36 refl)) (and-then ! (load ! (from ! (fld ! refl (stop !))) (look-in ! 64 (sub ! 1 refl (whole !)))) (no-more !)))) (from ! (stop !)) (init ! 34 refl (tt, (tt, (record { fits = room₁ .0 }, tt)))) $
+        assigns ! (addr ! (from ! (fld ! refl (hop ! (look-in ! 62 (sub ! 0 refl (whole !))) (stop !))))) (from ! (stop !)) (init ! 32 refl (tt, tt)) $
+        assigns ! (agg ! (and-then ! (load ! (from ! (stop !)) (look ! 32 refl)) (and-then ! (load ! (from ! (fld ! refl (stop !))) (look-in ! 62 (sub ! 1 refl (whole !)))) (no-more !)))) (from ! (stop !)) (init ! 30 refl (tt, (tt, (record { fits = room₂ .0 }, tt)))) $
+        assigns ! (addr ! (from ! (fld ! refl (hop ! (look-in ! 58 (sub ! 0 refl (whole !))) (stop !))))) (from ! (stop !)) (init ! 28 refl (tt, tt)) $
+        assigns ! (agg ! (and-then ! (load ! (from ! (stop !)) (look ! 28 refl)) (and-then ! (load ! (from ! (fld ! refl (stop !))) (look-in ! 58 (sub ! 1 refl (whole !)))) (no-more !)))) (from ! (stop !)) (init ! 26 refl (tt, (tt, (record { fits = room₄ .0 }, tt)))) $
+        knows ! (r′ .wrote ≤ 18446744073709551600) (omega (arith, ltb-true, ltb-false, leb-true, leb-false, eqb-true, eqb-false)) (λ asks-7·Client·7.
+        -- 7.Client.7: agent::turn::greet
+        lends-mut ! tt (Array u64 5) b₁ o₁ sessions n₁ (refl) (λ ν-7·Client·7-sessions δ-7·Client·7-sessions.
         move ! (3 ∷ 4 ∷ []) $
-        lends-mut ! tt (Array u16 35) b₂ o₂ streams n₂ (refl) (λ ν-9·Client·7-streams δ-9·Client·7-streams.
+        lends-mut ! tt (Array u16 35) b₂ o₂ streams n₂ (refl) (λ ν-7·Client·7-streams δ-7·Client·7-streams.
         move ! (8 ∷ 9 ∷ []) $
-        lends-mut ! tt u8 b₄ o₄ out n₄ (refl) (λ ν-9·Client·7-out δ-9·Client·7-out.
+        lends-mut ! tt u8 b₄ o₄ out n₄ (refl) (λ ν-7·Client·7-out δ-7·Client·7-out.
         nothing ! $ move ! (1 ∷ 0 ∷ []) $ join ! $ move ! (3 ∷ 0 ∷ []) $ join ! $ move ! (5 ∷ 0 ∷ []) $ join ! $
-        use1 W (raw (toks 𝓤 A 3 (((ν-9·Client·7-sessions ∷ []), ((ν-9·Client·7-streams ∷ []), ((ν-9·Client·7-out ∷ []), tt)))) ((fullShare, (fullShare, (fullShare, tt)))))) (id⊢ 𝓤 _) $ nothing ! $
-        owned ! (u64-p .row) (Is (u64-p .row)) (u64-p .makes 𝓤 H A W) (endRead (readAt (d) ((Cursor-of (r′ .at)) .at)) n₅) (u64-p .val (endRead (readAt (d) ((Cursor-of (r′ .at)) .at)) n₅) ∷ []) is-4 $ fjoin ! $
-        owned ! (u32-p .row) (Is (u32-p .row)) (u32-p .makes 𝓤 H A W) (keyIn (messageRead (readAt (d) ((Cursor-of (r′ .at)) .at)))) (u32-p .val (keyIn (messageRead (readAt (d) ((Cursor-of (r′ .at)) .at)))) ∷ []) is-7 $ fjoin ! $
+        use1 W (raw (toks 𝓤 A 3 (((ν-7·Client·7-sessions ∷ []), ((ν-7·Client·7-streams ∷ []), ((ν-7·Client·7-out ∷ []), tt)))) ((fullShare, (fullShare, (fullShare, tt)))))) (id⊢ 𝓤 _) $ nothing ! $
+        owned ! (u64-p .row) (Is (u64-p .row)) (u64-p .makes 𝓤 H A W) ((takenOf (readAt (d) ((Cursor-of (r′ .at)) .at)) n₅) .at) (u64-p .val ((takenOf (readAt (d) ((Cursor-of (r′ .at)) .at)) n₅) .at) ∷ []) (LL.owed Taken-t.the-type Taken-l.the-laws (takenOf (readAt (d) ((Cursor-of (r′ .at)) .at)) n₅) _ is-4 .1 .1 .0) $ fjoin ! $
+        owned ! (u32-p .row) (Is (u32-p .row)) (u32-p .makes 𝓤 H A W) (((takenOf (readAt (d) ((Cursor-of (r′ .at)) .at)) n₅) .asked) .key) (u32-p .val (((takenOf (readAt (d) ((Cursor-of (r′ .at)) .at)) n₅) .asked) .key) ∷ []) (LL.owed Asked-t.the-type Asked-l.the-laws ((takenOf (readAt (d) ((Cursor-of (r′ .at)) .at)) n₅) .asked) _ (LL.owed Taken-t.the-type Taken-l.the-laws (takenOf (readAt (d) ((Cursor-of (r′ .at)) .at)) n₅) _ is-4 .0) .1 .1 .0) $ fjoin ! $
         owned ! (Ran-p .row) (Is (Ran-p .row)) (Ran-p .makes 𝓤 H A W) r′ (Ran-p .val r′ ∷ []) r′-is $ fjoin ! $
         owned ! (Frame-p .row) (Is (Frame-p .row)) (Frame-p .makes 𝓤 H A W) f′ (Frame-p .val f′ ∷ []) f′-is $ fjoin ! $ move ! (2 ∷ 0 ∷ []) $ fjoin ! $ move ! (3 ∷ 0 ∷ []) $ fjoin ! $ move ! (4 ∷ 0 ∷ []) $ fjoin ! $ move ! (1 ∷ 0 ∷ []) $
-        calls-any-last ! fm 3 [] (turn-greet.signature .params) (turn-greet.ended .kept) Ran-p (turn-greet.clauses 𝓤 H A mem run) known-turn-greet ((ν-9·Client·7-sessions ∷ []), ((ν-9·Client·7-streams ∷ []), ((ν-9·Client·7-out ∷ []), tt))) (fullShare, (fullShare, (fullShare, tt))) tt (at-list b₁ o₁ δ-9·Client·7-sessions sessions, (at-list b₂ o₂ δ-9·Client·7-streams streams, (at-list b₄ o₄ δ-9·Client·7-out out, (f′, (r′, (keyIn (messageRead (readAt (d) ((Cursor-of (r′ .at)) .at))), (endRead (readAt (d) ((Cursor-of (r′ .at)) .at)) n₅, tt))))))) (sliceVal (b₁, o₁) n₁ ∷ [], (sliceVal (b₂, o₂) n₂ ∷ [], (sliceVal (b₄, o₄) n₄ ∷ [], (Frame-p .val f′ ∷ [], (Ran-p .val r′ ∷ [], (u32-p .val (keyIn (messageRead (readAt (d) ((Cursor-of (r′ .at)) .at)))) ∷ [], (u64-p .val (endRead (readAt (d) ((Cursor-of (r′ .at)) .at)) n₅) ∷ [], tt))))))) tt (greeted f′ r′ (keyIn (messageRead (readAt (d) ((Cursor-of (r′ .at)) .at)))) (endRead (readAt (d) ((Cursor-of (r′ .at)) .at)) n₅) (createdOf (sessions) (streams) (f′ .«max_clients») (r′ .next))) (λ ws-9·Client·7. (ws-9·Client·7 .0 ≡ openedRows (createdOf (sessions) (streams) (f′ .«max_clients») (r′ .next)) (sessions) (keyIn (messageRead (readAt (d) ((Cursor-of (r′ .at)) .at)))) (f′ .time)) × (ws-9·Client·7 .1 .0 ≡ openedStreams (createdOf (sessions) (streams) (f′ .«max_clients») (r′ .next)) (streams)) × (ws-9·Client·7 .1 .1 .0 ≡ putBytes (out) (r′ .wrote) (greetingBytes (createdOf (sessions) (streams) (f′ .«max_clients») (r′ .next))))) (factI 𝓤 (r′ .wrote ≤ 18446744073709551600) _ asks-9·Client·7) (λ r ws-9·Client·7. fact-mono 𝓤 ((r ≡ greeted f′ r′ (keyIn (messageRead (readAt (d) ((Cursor-of (r′ .at)) .at)))) (endRead (readAt (d) ((Cursor-of (r′ .at)) .at)) n₅) (createdOf (sessions) (streams) (f′ .«max_clients») (r′ .next))) × ((ws-9·Client·7 .0) ≡ openedRows (createdOf (sessions) (streams) (f′ .«max_clients») (r′ .next)) (sessions) (keyIn (messageRead (readAt (d) ((Cursor-of (r′ .at)) .at)))) (f′ .time)) × ((ws-9·Client·7 .1 .0) ≡ openedStreams (createdOf (sessions) (streams) (f′ .«max_clients») (r′ .next)) (streams)) × ((ws-9·Client·7 .1 .1 .0) ≡ putBytes (out) (r′ .wrote) (greetingBytes (createdOf (sessions) (streams) (f′ .«max_clients») (r′ .next))))) ((r ≡ (greeted f′ r′ (keyIn (messageRead (readAt (d) ((Cursor-of (r′ .at)) .at)))) (endRead (readAt (d) ((Cursor-of (r′ .at)) .at)) n₅) (createdOf (sessions) (streams) (f′ .«max_clients») (r′ .next)))) × ((ws-9·Client·7 .0 ≡ openedRows (createdOf (sessions) (streams) (f′ .«max_clients») (r′ .next)) (sessions) (keyIn (messageRead (readAt (d) ((Cursor-of (r′ .at)) .at)))) (f′ .time)) × (ws-9·Client·7 .1 .0 ≡ openedStreams (createdOf (sessions) (streams) (f′ .«max_clients») (r′ .next)) (streams)) × (ws-9·Client·7 .1 .1 .0 ≡ putBytes (out) (r′ .wrote) (greetingBytes (createdOf (sessions) (streams) (f′ .«max_clients») (r′ .next)))))) (λ e. (e .0, (e .1, e .2, e .3)))) (λ _. (and-then ! (load ! (from ! (stop !)) (look ! 32 refl)) (and-then ! (load ! (from ! (stop !)) (look ! 28 refl)) (and-then ! (load ! (from ! (stop !)) (look ! 24 refl)) (and-then ! (load ! (from ! (stop !)) (look ! 56 refl)) (and-then ! (load ! (from ! (stop !)) (look ! 54 refl)) (and-then ! (load ! (from ! (stop !)) (look ! 42 refl)) (and-then ! (load ! (from ! (stop !)) (look ! 48 refl)) (no-more !))))))))) (λ ws-9·Client·7 said-9·Client·7 is-9·Client·7.
-        use1 W ((‵ (flft (ν-9·Client·7-sessions ∷ []) fullShare) ⊛ (‵ (flft (ν-9·Client·7-streams ∷ []) fullShare) ⊛ (‵ (flft (ν-9·Client·7-out ∷ []) fullShare) ⊛ ‵ ftrue)))) (id⊢ 𝓤 _) $ split ! $ move ! (1 ∷ []) $ split ! $ move ! (1 ∷ []) $ split ! $ move ! (4 ∷ []) $ fsplit ! $ fsplit ! $ move ! (1 ∷ []) $
-        feqL ! (λ wlen-9·Client·7-0.
+        calls-any-last ! fm 3 [] (turn-greet.signature .params) (turn-greet.ended .kept) Ran-p (turn-greet.clauses 𝓤 H A mem run) known-turn-greet ((ν-7·Client·7-sessions ∷ []), ((ν-7·Client·7-streams ∷ []), ((ν-7·Client·7-out ∷ []), tt))) (fullShare, (fullShare, (fullShare, tt))) tt (at-list b₁ o₁ δ-7·Client·7-sessions sessions, (at-list b₂ o₂ δ-7·Client·7-streams streams, (at-list b₄ o₄ δ-7·Client·7-out out, (f′, (r′, (((takenOf (readAt (d) ((Cursor-of (r′ .at)) .at)) n₅) .asked) .key, ((takenOf (readAt (d) ((Cursor-of (r′ .at)) .at)) n₅) .at, tt))))))) (sliceVal (b₁, o₁) n₁ ∷ [], (sliceVal (b₂, o₂) n₂ ∷ [], (sliceVal (b₄, o₄) n₄ ∷ [], (Frame-p .val f′ ∷ [], (Ran-p .val r′ ∷ [], (u32-p .val (((takenOf (readAt (d) ((Cursor-of (r′ .at)) .at)) n₅) .asked) .key) ∷ [], (u64-p .val ((takenOf (readAt (d) ((Cursor-of (r′ .at)) .at)) n₅) .at) ∷ [], tt))))))) tt (greeted f′ r′ (((takenOf (readAt (d) ((Cursor-of (r′ .at)) .at)) n₅) .asked) .key) ((takenOf (readAt (d) ((Cursor-of (r′ .at)) .at)) n₅) .at) (createdOf (sessions) (streams) (f′ .«max_clients») (r′ .next))) (λ ws-7·Client·7. (ws-7·Client·7 .0 ≡ openedRows (createdOf (sessions) (streams) (f′ .«max_clients») (r′ .next)) (sessions) (((takenOf (readAt (d) ((Cursor-of (r′ .at)) .at)) n₅) .asked) .key) (f′ .time)) × (ws-7·Client·7 .1 .0 ≡ openedStreams (createdOf (sessions) (streams) (f′ .«max_clients») (r′ .next)) (streams)) × (ws-7·Client·7 .1 .1 .0 ≡ putBytes (out) (r′ .wrote) (greetingBytes (createdOf (sessions) (streams) (f′ .«max_clients») (r′ .next))))) (factI 𝓤 (r′ .wrote ≤ 18446744073709551600) _ asks-7·Client·7) (λ r ws-7·Client·7. fact-mono 𝓤 ((r ≡ greeted f′ r′ (((takenOf (readAt (d) ((Cursor-of (r′ .at)) .at)) n₅) .asked) .key) ((takenOf (readAt (d) ((Cursor-of (r′ .at)) .at)) n₅) .at) (createdOf (sessions) (streams) (f′ .«max_clients») (r′ .next))) × ((ws-7·Client·7 .0) ≡ openedRows (createdOf (sessions) (streams) (f′ .«max_clients») (r′ .next)) (sessions) (((takenOf (readAt (d) ((Cursor-of (r′ .at)) .at)) n₅) .asked) .key) (f′ .time)) × ((ws-7·Client·7 .1 .0) ≡ openedStreams (createdOf (sessions) (streams) (f′ .«max_clients») (r′ .next)) (streams)) × ((ws-7·Client·7 .1 .1 .0) ≡ putBytes (out) (r′ .wrote) (greetingBytes (createdOf (sessions) (streams) (f′ .«max_clients») (r′ .next))))) ((r ≡ (greeted f′ r′ (((takenOf (readAt (d) ((Cursor-of (r′ .at)) .at)) n₅) .asked) .key) ((takenOf (readAt (d) ((Cursor-of (r′ .at)) .at)) n₅) .at) (createdOf (sessions) (streams) (f′ .«max_clients») (r′ .next)))) × ((ws-7·Client·7 .0 ≡ openedRows (createdOf (sessions) (streams) (f′ .«max_clients») (r′ .next)) (sessions) (((takenOf (readAt (d) ((Cursor-of (r′ .at)) .at)) n₅) .asked) .key) (f′ .time)) × (ws-7·Client·7 .1 .0 ≡ openedStreams (createdOf (sessions) (streams) (f′ .«max_clients») (r′ .next)) (streams)) × (ws-7·Client·7 .1 .1 .0 ≡ putBytes (out) (r′ .wrote) (greetingBytes (createdOf (sessions) (streams) (f′ .«max_clients») (r′ .next)))))) (λ e. (e .0, (e .1, e .2, e .3)))) (λ _. (and-then ! (load ! (from ! (stop !)) (look ! 32 refl)) (and-then ! (load ! (from ! (stop !)) (look ! 28 refl)) (and-then ! (load ! (from ! (stop !)) (look ! 24 refl)) (and-then ! (load ! (from ! (stop !)) (look ! 52 refl)) (and-then ! (load ! (from ! (stop !)) (look ! 50 refl)) (and-then ! (load ! (from ! (fld ! refl (stop !))) (look-in ! 42 (sub ! 2 refl (whole !)))) (and-then ! (load ! (from ! (fld ! refl (stop !))) (look-in ! 44 (sub ! 2 refl (whole !)))) (no-more !))))))))) (λ ws-7·Client·7 said-7·Client·7 is-7·Client·7.
+        use1 W ((‵ (flft (ν-7·Client·7-sessions ∷ []) fullShare) ⊛ (‵ (flft (ν-7·Client·7-streams ∷ []) fullShare) ⊛ (‵ (flft (ν-7·Client·7-out ∷ []) fullShare) ⊛ ‵ ftrue)))) (id⊢ 𝓤 _) $ split ! $ move ! (1 ∷ []) $ split ! $ move ! (1 ∷ []) $ split ! $ move ! (4 ∷ []) $ fsplit ! $ fsplit ! $ move ! (1 ∷ []) $
+        feqL ! (λ wlen-7·Client·7-0.
         move ! (1 ∷ []) $ fsplit ! $ fsplit ! $ move ! (1 ∷ []) $
-        feqL ! (λ wlen-9·Client·7-1.
+        feqL ! (λ wlen-7·Client·7-1.
         move ! (1 ∷ []) $ fsplit ! $ fsplit ! $ move ! (1 ∷ []) $
-        feqL ! (λ wlen-9·Client·7-2.
+        feqL ! (λ wlen-7·Client·7-2.
         move ! (7 ∷ 10 ∷ 3 ∷ []) $
-        backs-mut ! tt (Array u64 5) b₁ o₁ sessions n₁ (refl) room₁ ν-9·Client·7-sessions δ-9·Client·7-sessions (ws-9·Client·7 .0) (openedRows (createdOf (sessions) (streams) (f′ .«max_clients») (r′ .next)) (sessions) (keyIn (messageRead (readAt (d) ((Cursor-of (r′ .at)) .at)))) (f′ .time)) wlen-9·Client·7-0 (said-9·Client·7 .0) (λ len-9·Client·7-sessions.
+        backs-mut ! tt (Array u64 5) b₁ o₁ sessions n₁ (refl) room₁ ν-7·Client·7-sessions δ-7·Client·7-sessions (ws-7·Client·7 .0) (openedRows (createdOf (sessions) (streams) (f′ .«max_clients») (r′ .next)) (sessions) (((takenOf (readAt (d) ((Cursor-of (r′ .at)) .at)) n₅) .asked) .key) (f′ .time)) wlen-7·Client·7-0 (said-7·Client·7 .0) (λ len-7·Client·7-sessions.
         move ! (7 ∷ 9 ∷ 4 ∷ []) $
-        backs-mut ! tt (Array u16 35) b₂ o₂ streams n₂ (refl) room₂ ν-9·Client·7-streams δ-9·Client·7-streams (ws-9·Client·7 .1 .0) (openedStreams (createdOf (sessions) (streams) (f′ .«max_clients») (r′ .next)) (streams)) wlen-9·Client·7-1 (said-9·Client·7 .1) (λ len-9·Client·7-streams.
+        backs-mut ! tt (Array u16 35) b₂ o₂ streams n₂ (refl) room₂ ν-7·Client·7-streams δ-7·Client·7-streams (ws-7·Client·7 .1 .0) (openedStreams (createdOf (sessions) (streams) (f′ .«max_clients») (r′ .next)) (streams)) wlen-7·Client·7-1 (said-7·Client·7 .1) (λ len-7·Client·7-streams.
         move ! (6 ∷ 8 ∷ 4 ∷ []) $
-        backs-mut ! tt u8 b₄ o₄ out n₄ (refl) room₄ ν-9·Client·7-out δ-9·Client·7-out (ws-9·Client·7 .1 .1 .0) (putBytes (out) (r′ .wrote) (greetingBytes (createdOf (sessions) (streams) (f′ .«max_clients») (r′ .next)))) wlen-9·Client·7-2 (said-9·Client·7 .2) (λ len-9·Client·7-out.
+        backs-mut ! tt u8 b₄ o₄ out n₄ (refl) room₄ ν-7·Client·7-out δ-7·Client·7-out (ws-7·Client·7 .1 .1 .0) (putBytes (out) (r′ .wrote) (greetingBytes (createdOf (sessions) (streams) (f′ .«max_clients») (r′ .next)))) wlen-7·Client·7-2 (said-7·Client·7 .2) (λ len-7·Client·7-out.
         move ! (6 ∷ []) $ drop ! $ move ! (6 ∷ []) $ drop ! $
-        land-last ! (from ! (stop !)) (init ! 38 refl (Ran-p .typed 𝓤 H A W (greeted f′ r′ (keyIn (messageRead (readAt (d) ((Cursor-of (r′ .at)) .at)))) (endRead (readAt (d) ((Cursor-of (r′ .at)) .at)) n₅) (createdOf (sessions) (streams) (f′ .«max_clients») (r′ .next))) is-9·Client·7)) $
-        exec ! C Λ En mir.t-10 (atRet En Post) $ move ! (4 ∷ 5 ∷ 2 ∷ 3 ∷ 6 ∷ 7 ∷ 0 ∷ 1 ∷ 8 ∷ 9 ∷ 10 ∷ 11 ∷ 12 ∷ 13 ∷ 14 ∷ 15 ∷ 16 ∷ 17 ∷ 18 ∷ 19 ∷ 20 ∷ 21 ∷ 22 ∷ 23 ∷ 24 ∷ 25 ∷ 26 ∷ 27 ∷ 28 ∷ 29 ∷ 30 ∷ 31 ∷ 32 ∷ 33 ∷ 34 ∷ 35 ∷ 36 ∷ 37 ∷ 38 ∷ 39 ∷ 40 ∷ 41 ∷ 42 ∷ 43 ∷ 44 ∷ 45 ∷ 46 ∷ 47 ∷ 48 ∷ 49 ∷ 50 ∷ 51 ∷ 52 ∷ 53 ∷ 54 ∷ 55 ∷ 56 ∷ 57 ∷ 58 ∷ 59 ∷ 60 ∷ 61 ∷ 62 ∷ 63 ∷ 64 ∷ 65 ∷ 66 ∷ 67 ∷ 68 ∷ 69 ∷ 70 ∷ 71 ∷ []) $
-        part-10-0 is-2 is-4 is-5 is-6 is-7 is-8 e-9 good-9 asks-9·Client·7 len-9·Client·7-sessions len-9·Client·7-streams len-9·Client·7-out is-9·Client·7)))))))))))
+        land-last ! (from ! (stop !)) (init ! 38 refl (Ran-p .typed 𝓤 H A W (greeted f′ r′ (((takenOf (readAt (d) ((Cursor-of (r′ .at)) .at)) n₅) .asked) .key) ((takenOf (readAt (d) ((Cursor-of (r′ .at)) .at)) n₅) .at) (createdOf (sessions) (streams) (f′ .«max_clients») (r′ .next))) is-7·Client·7)) $
+        exec ! C Λ En mir.t-8 (atRet En Post) $ move ! (4 ∷ 5 ∷ 2 ∷ 3 ∷ 6 ∷ 7 ∷ 0 ∷ 1 ∷ 8 ∷ 9 ∷ 10 ∷ 11 ∷ 12 ∷ 13 ∷ 14 ∷ 15 ∷ 16 ∷ 17 ∷ 18 ∷ 19 ∷ 20 ∷ 21 ∷ 22 ∷ 23 ∷ 24 ∷ 25 ∷ 26 ∷ 27 ∷ 28 ∷ 29 ∷ 30 ∷ 31 ∷ 32 ∷ 33 ∷ 34 ∷ 35 ∷ 36 ∷ 37 ∷ 38 ∷ 39 ∷ 40 ∷ 41 ∷ 42 ∷ 43 ∷ 44 ∷ 45 ∷ 46 ∷ 47 ∷ 48 ∷ 49 ∷ 50 ∷ 51 ∷ 52 ∷ 53 ∷ 54 ∷ 55 ∷ 56 ∷ 57 ∷ 58 ∷ 59 ∷ 60 ∷ 61 ∷ 62 ∷ 63 ∷ 64 ∷ 65 ∷ 66 ∷ 67 ∷ []) $
+        part-8-0 is-2 is-4 e-7 good-7 asks-7·Client·7 len-7·Client·7-sessions len-7·Client·7-streams len-7·Client·7-out is-7·Client·7)))))))))))
 
-    part-10-3 : (is-2 : Is (Parsed-p .row) (readAt (d) ((Cursor-of (r′ .at)) .at)) (Parsed-p .val (readAt (d) ((Cursor-of (r′ .at)) .at)) ∷ [])) → (is-4 : Is (u64-p .row) (endRead (readAt (d) ((Cursor-of (r′ .at)) .at)) n₅) (u64-p .val (endRead (readAt (d) ((Cursor-of (r′ .at)) .at)) n₅) ∷ [])) → (is-5 : Is (Submessage-p .row) (messageRead (readAt (d) ((Cursor-of (r′ .at)) .at))) (Submessage-p .val (messageRead (readAt (d) ((Cursor-of (r′ .at)) .at))) ∷ [])) → (is-6 : Is (Span-p .row) (bodyRead (readAt (d) ((Cursor-of (r′ .at)) .at))) (Span-p .val (bodyRead (readAt (d) ((Cursor-of (r′ .at)) .at))) ∷ [])) → (is-7 : Is (u32-p .row) (keyIn (messageRead (readAt (d) ((Cursor-of (r′ .at)) .at)))) (u32-p .val (keyIn (messageRead (readAt (d) ((Cursor-of (r′ .at)) .at)))) ∷ [])) → (is-8 : Is (Opening-p .row) (openingRead (readAt (d) ((Cursor-of (r′ .at)) .at))) (Opening-p .val (openingRead (readAt (d) ((Cursor-of (r′ .at)) .at))) ∷ [])) → (e-9 : openingRead (readAt (d) ((Cursor-of (r′ .at)) .at)) ≡ Opening-Other) → (good-9 : Is (Opening-p .row) Opening-Other (Opening-p .val Opening-Other ∷ [])) → (asks-9·Other·9 : r′ .wrote ≤ 18446744073709551600) → (len-9·Other·9-sessions : length (delivered (namedOf (sessions) (f′ .«session_id»)) f′ (lent (sessions) (streams) (objects)) (d) r′ (messageRead (readAt (d) ((Cursor-of (r′ .at)) .at))) (bodyRead (readAt (d) ((Cursor-of (r′ .at)) .at))) (endRead (readAt (d) ((Cursor-of (r′ .at)) .at)) n₅) .tables .sessions) ≡ n₁) → (len-9·Other·9-streams : length (delivered (namedOf (sessions) (f′ .«session_id»)) f′ (lent (sessions) (streams) (objects)) (d) r′ (messageRead (readAt (d) ((Cursor-of (r′ .at)) .at))) (bodyRead (readAt (d) ((Cursor-of (r′ .at)) .at))) (endRead (readAt (d) ((Cursor-of (r′ .at)) .at)) n₅) .tables .streams) ≡ n₂) → (len-9·Other·9-objects : length (delivered (namedOf (sessions) (f′ .«session_id»)) f′ (lent (sessions) (streams) (objects)) (d) r′ (messageRead (readAt (d) ((Cursor-of (r′ .at)) .at))) (bodyRead (readAt (d) ((Cursor-of (r′ .at)) .at))) (endRead (readAt (d) ((Cursor-of (r′ .at)) .at)) n₅) .tables .objects) ≡ n₃) → (len-9·Other·9-out : length (putReplies (out) (r′ .wrote) (delivered (namedOf (sessions) (f′ .«session_id»)) f′ (lent (sessions) (streams) (objects)) (d) r′ (messageRead (readAt (d) ((Cursor-of (r′ .at)) .at))) (bodyRead (readAt (d) ((Cursor-of (r′ .at)) .at))) (endRead (readAt (d) ((Cursor-of (r′ .at)) .at)) n₅) .replies)) ≡ n₄) → (is-9·Other·9 : Is (Ran-p .row) (delivered (namedOf (sessions) (f′ .«session_id»)) f′ (lent (sessions) (streams) (objects)) (d) r′ (messageRead (readAt (d) ((Cursor-of (r′ .at)) .at))) (bodyRead (readAt (d) ((Cursor-of (r′ .at)) .at))) (endRead (readAt (d) ((Cursor-of (r′ .at)) .at)) n₅) .ran) (Ran-p .val (delivered (namedOf (sessions) (f′ .«session_id»)) f′ (lent (sessions) (streams) (objects)) (d) r′ (messageRead (readAt (d) ((Cursor-of (r′ .at)) .at))) (bodyRead (readAt (d) ((Cursor-of (r′ .at)) .at))) (endRead (readAt (d) ((Cursor-of (r′ .at)) .at)) n₅) .ran) ∷ [])) → Sq W (‵ (MutSlice (named 0) κ₁ (Array u64 5) .own (at-list b₁ o₁ γ₁ (delivered (namedOf (sessions) (f′ .«session_id»)) f′ (lent (sessions) (streams) (objects)) (d) r′ (messageRead (readAt (d) ((Cursor-of (r′ .at)) .at))) (bodyRead (readAt (d) ((Cursor-of (r′ .at)) .at))) (endRead (readAt (d) ((Cursor-of (r′ .at)) .at)) n₅) .tables .sessions)) (sliceVal (b₁, o₁) n₁ ∷ [])) ∷ ‵ (flft κ₁ q₁) ∷ ‵ (MutSlice (named 0) κ₂ (Array u16 35) .own (at-list b₂ o₂ γ₂ (delivered (namedOf (sessions) (f′ .«session_id»)) f′ (lent (sessions) (streams) (objects)) (d) r′ (messageRead (readAt (d) ((Cursor-of (r′ .at)) .at))) (bodyRead (readAt (d) ((Cursor-of (r′ .at)) .at))) (endRead (readAt (d) ((Cursor-of (r′ .at)) .at)) n₅) .tables .streams)) (sliceVal (b₂, o₂) n₂ ∷ [])) ∷ ‵ (flft κ₂ q₂) ∷ ‵ (MutSlice (named 0) κ₃ Object-t.the-row .own (at-list b₃ o₃ γ₃ (delivered (namedOf (sessions) (f′ .«session_id»)) f′ (lent (sessions) (streams) (objects)) (d) r′ (messageRead (readAt (d) ((Cursor-of (r′ .at)) .at))) (bodyRead (readAt (d) ((Cursor-of (r′ .at)) .at))) (endRead (readAt (d) ((Cursor-of (r′ .at)) .at)) n₅) .tables .objects)) (sliceVal (b₃, o₃) n₃ ∷ [])) ∷ ‵ (flft κ₃ q₃) ∷ ‵ (MutSlice (named 0) κ₄ u8 .own (at-list b₄ o₄ γ₄ (putReplies (out) (r′ .wrote) (delivered (namedOf (sessions) (f′ .«session_id»)) f′ (lent (sessions) (streams) (objects)) (d) r′ (messageRead (readAt (d) ((Cursor-of (r′ .at)) .at))) (bodyRead (readAt (d) ((Cursor-of (r′ .at)) .at))) (endRead (readAt (d) ((Cursor-of (r′ .at)) .at)) n₅) .replies))) (sliceVal (b₄, o₄) n₄ ∷ [])) ∷ ‵ (flft κ₄ q₄) ∷ ‵ (ShrSlice (named 0) κ₅ u8 .own (at-list b₅ o₅ γ₅ d) (sliceVal (b₅, o₅) n₅ ∷ [])) ∷ ‵ (flft κ₅ q₅) ∷ full 𝓤 (sliceTy (tyRef erased mut (pointee (u8 .written)))) l₃₀ (sliceVal (b₄, o₄) n₄) (full 𝓤 (tyRef erased mut (pointee (u8 .written))) l₂₉ (vptr b₄ o₄) (full 𝓤 (sliceTy (tyRef erased mut (pointee (Object-t.the-row .written)))) l₂₈ (sliceVal (b₃, o₃) n₃) (full 𝓤 (tyRef erased mut (pointee (Object-t.the-row .written))) l₂₇ (vptr b₃ o₃) (full 𝓤 (sliceTy (tyRef erased mut (pointee ((Array u16 35) .written)))) l₂₆ (sliceVal (b₂, o₂) n₂) (full 𝓤 (tyRef erased mut (pointee ((Array u16 35) .written))) l₂₅ (vptr b₂ o₂) (full 𝓤 (sliceTy (tyRef erased mut (pointee ((Array u64 5) .written)))) l₂₄ (sliceVal (b₁, o₁) n₁) (full 𝓤 (tyRef erased mut (pointee ((Array u64 5) .written))) l₂₃ (vptr b₁ o₁) (free 𝓤 (sliceTy (tyRef erased mut (pointee (u8 .written)))) l₂₂ (free 𝓤 (tyRef erased mut (pointee (u8 .written))) l₂₁ (free 𝓤 (sliceTy (tyRef erased mut (pointee ((Array u16 35) .written)))) l₂₀ (free 𝓤 (tyRef erased mut (pointee ((Array u16 35) .written))) l₁₉ (free 𝓤 (sliceTy (tyRef erased mut (pointee ((Array u64 5) .written)))) l₁₈ (free 𝓤 (tyRef erased mut (pointee ((Array u64 5) .written))) l₁₇ (full 𝓤 Ran-l.mir l₁₆ (Ran-p .val (delivered (namedOf (sessions) (f′ .«session_id»)) f′ (lent (sessions) (streams) (objects)) (d) r′ (messageRead (readAt (d) ((Cursor-of (r′ .at)) .at))) (bodyRead (readAt (d) ((Cursor-of (r′ .at)) .at))) (endRead (readAt (d) ((Cursor-of (r′ .at)) .at)) n₅) .ran)) (full 𝓤 (tyInt w64) l₁₅ (u64-p .val n₅) (full 𝓤 Opening-l.mir l₁₄ (Opening-p .val Opening-Other) (full 𝓤 (tyInt w32) l₁₃ (u32-p .val (keyIn (messageRead (readAt (d) ((Cursor-of (r′ .at)) .at))))) (full 𝓤 Span-l.mir l₁₂ (Span-p .val (bodyRead (readAt (d) ((Cursor-of (r′ .at)) .at)))) (full 𝓤 Submessage-l.mir l₁₁ (Submessage-p .val (messageRead (readAt (d) ((Cursor-of (r′ .at)) .at)))) (full 𝓤 (tyInt w64) l₁₀ (u64-p .val (endRead (readAt (d) ((Cursor-of (r′ .at)) .at)) n₅)) (full 𝓤 Parsed-l.mir l₉ (Parsed-p .val (readAt (d) ((Cursor-of (r′ .at)) .at))) (full 𝓤 Cursor-l.mir l₈ (Cursor-p .val (Cursor-of (r′ .at))) (full 𝓤 Ran-l.mir l₇ (Ran-p .val r′) (full 𝓤 Frame-l.mir l₆ (Frame-p .val f′) (full 𝓤 (sliceTy (tyRef (named 4) imm (pointee (u8 .written)))) l₅ (sliceVal (b₅, o₅) n₅) (full 𝓤 (sliceTy (tyRef (named 3) mut (pointee (u8 .written)))) l₄ (sliceVal (b₄, o₄) n₄) (full 𝓤 (sliceTy (tyRef (named 2) mut (pointee (Object-t.the-row .written)))) l₃ (sliceVal (b₃, o₃) n₃) (full 𝓤 (sliceTy (tyRef (named 1) mut (pointee ((Array u16 35) .written)))) l₂ (sliceVal (b₂, o₂) n₂) (full 𝓤 (sliceTy (tyRef (named 0) mut (pointee ((Array u64 5) .written)))) l₁ (sliceVal (b₁, o₁) n₁) (free 𝓤 Ran-l.mir l₀ ([])))))))))))))))))))))))))))))))) (runs C Λ En mir.t-10 (atRet En Post))
-    part-10-3 is-2 is-4 is-5 is-6 is-7 is-8 e-9 good-9 asks-9·Other·9 len-9·Other·9-sessions len-9·Other·9-streams len-9·Other·9-objects len-9·Other·9-out is-9·Other·9 =
-        assigns ! (of-opd ! (load ! (from ! (stop !)) (look ! 38 refl))) (from ! (stop !)) (init ! 70 refl (Ran-p .typed 𝓤 H A W (delivered (namedOf (sessions) (f′ .«session_id»)) f′ (lent (sessions) (streams) (objects)) (d) r′ (messageRead (readAt (d) ((Cursor-of (r′ .at)) .at))) (bodyRead (readAt (d) ((Cursor-of (r′ .at)) .at))) (endRead (readAt (d) ((Cursor-of (r′ .at)) .at)) n₅) .ran) is-9·Other·9)) $
-        returns ! (look ! 70 refl) $ forget ! 10 refl $ forget ! 12 refl $ forget ! 14 refl $ forget ! 16 refl $ forget ! 18 refl $ forget ! 20 refl $ forget ! 22 refl $ forget ! 24 refl $ forget ! 38 refl $ forget ! 40 refl $ forget ! 42 refl $ forget ! 44 refl $ forget ! 46 refl $ forget ! 48 refl $ forget ! 50 refl $ forget ! 52 refl $ forget ! 54 refl $
-        frees-all (delivered (namedOf (sessions) (f′ .«session_id»)) f′ (lent (sessions) (streams) (objects)) (d) r′ (messageRead (readAt (d) ((Cursor-of (r′ .at)) .at))) (bodyRead (readAt (d) ((Cursor-of (r′ .at)) .at))) (endRead (readAt (d) ((Cursor-of (r′ .at)) .at)) n₅) .ran) (delivered (namedOf (sessions) (f′ .«session_id»)) f′ (lent (sessions) (streams) (objects)) (d) r′ (messageRead (readAt (d) ((Cursor-of (r′ .at)) .at))) (bodyRead (readAt (d) ((Cursor-of (r′ .at)) .at))) (endRead (readAt (d) ((Cursor-of (r′ .at)) .at)) n₅) .tables .sessions) (delivered (namedOf (sessions) (f′ .«session_id»)) f′ (lent (sessions) (streams) (objects)) (d) r′ (messageRead (readAt (d) ((Cursor-of (r′ .at)) .at))) (bodyRead (readAt (d) ((Cursor-of (r′ .at)) .at))) (endRead (readAt (d) ((Cursor-of (r′ .at)) .at)) n₅) .tables .streams) (delivered (namedOf (sessions) (f′ .«session_id»)) f′ (lent (sessions) (streams) (objects)) (d) r′ (messageRead (readAt (d) ((Cursor-of (r′ .at)) .at))) (bodyRead (readAt (d) ((Cursor-of (r′ .at)) .at))) (endRead (readAt (d) ((Cursor-of (r′ .at)) .at)) n₅) .tables .objects) (putReplies (out) (r′ .wrote) (delivered (namedOf (sessions) (f′ .«session_id»)) f′ (lent (sessions) (streams) (objects)) (d) r′ (messageRead (readAt (d) ((Cursor-of (r′ .at)) .at))) (bodyRead (readAt (d) ((Cursor-of (r′ .at)) .at))) (endRead (readAt (d) ((Cursor-of (r′ .at)) .at)) n₅) .replies)) (exits (delivered (namedOf (sessions) (f′ .«session_id»)) f′ (lent (sessions) (streams) (objects)) (d) r′ (messageRead (readAt (d) ((Cursor-of (r′ .at)) .at))) (bodyRead (readAt (d) ((Cursor-of (r′ .at)) .at))) (endRead (readAt (d) ((Cursor-of (r′ .at)) .at)) n₅) .ran) (delivered (namedOf (sessions) (f′ .«session_id»)) f′ (lent (sessions) (streams) (objects)) (d) r′ (messageRead (readAt (d) ((Cursor-of (r′ .at)) .at))) (bodyRead (readAt (d) ((Cursor-of (r′ .at)) .at))) (endRead (readAt (d) ((Cursor-of (r′ .at)) .at)) n₅) .tables .sessions) (delivered (namedOf (sessions) (f′ .«session_id»)) f′ (lent (sessions) (streams) (objects)) (d) r′ (messageRead (readAt (d) ((Cursor-of (r′ .at)) .at))) (bodyRead (readAt (d) ((Cursor-of (r′ .at)) .at))) (endRead (readAt (d) ((Cursor-of (r′ .at)) .at)) n₅) .tables .streams) (delivered (namedOf (sessions) (f′ .«session_id»)) f′ (lent (sessions) (streams) (objects)) (d) r′ (messageRead (readAt (d) ((Cursor-of (r′ .at)) .at))) (bodyRead (readAt (d) ((Cursor-of (r′ .at)) .at))) (endRead (readAt (d) ((Cursor-of (r′ .at)) .at)) n₅) .tables .objects) (putReplies (out) (r′ .wrote) (delivered (namedOf (sessions) (f′ .«session_id»)) f′ (lent (sessions) (streams) (objects)) (d) r′ (messageRead (readAt (d) ((Cursor-of (r′ .at)) .at))) (bodyRead (readAt (d) ((Cursor-of (r′ .at)) .at))) (endRead (readAt (d) ((Cursor-of (r′ .at)) .at)) n₅) .replies)) (as-left out _ (r′ .wrote) (left Opening-Other) leaves (ap left (sym e-9) ∙ left-is) refl) is-9·Other·9 len-9·Other·9-sessions len-9·Other·9-streams len-9·Other·9-objects len-9·Other·9-out)
+    part-8-3 : (is-2 : Is (Parsed-p .row) (readAt (d) ((Cursor-of (r′ .at)) .at)) (Parsed-p .val (readAt (d) ((Cursor-of (r′ .at)) .at)) ∷ [])) → (is-4 : Is (Taken-p .row) (takenOf (readAt (d) ((Cursor-of (r′ .at)) .at)) n₅) (Taken-p .val (takenOf (readAt (d) ((Cursor-of (r′ .at)) .at)) n₅) ∷ [])) → (e-7 : ((takenOf (readAt (d) ((Cursor-of (r′ .at)) .at)) n₅) .asked) .opening ≡ Opening-Other) → (good-7 : Is (Opening-p .row) Opening-Other (Opening-p .val Opening-Other ∷ [])) → (asks-7·Other·9 : r′ .wrote ≤ 18446744073709551600) → (len-7·Other·9-sessions : length (delivered (namedOf (sessions) (f′ .«session_id»)) f′ (lent (sessions) (streams) (objects)) (d) r′ (takenOf (readAt (d) ((Cursor-of (r′ .at)) .at)) n₅) .tables .sessions) ≡ n₁) → (len-7·Other·9-streams : length (delivered (namedOf (sessions) (f′ .«session_id»)) f′ (lent (sessions) (streams) (objects)) (d) r′ (takenOf (readAt (d) ((Cursor-of (r′ .at)) .at)) n₅) .tables .streams) ≡ n₂) → (len-7·Other·9-objects : length (delivered (namedOf (sessions) (f′ .«session_id»)) f′ (lent (sessions) (streams) (objects)) (d) r′ (takenOf (readAt (d) ((Cursor-of (r′ .at)) .at)) n₅) .tables .objects) ≡ n₃) → (len-7·Other·9-out : length (putReplies (out) (r′ .wrote) (delivered (namedOf (sessions) (f′ .«session_id»)) f′ (lent (sessions) (streams) (objects)) (d) r′ (takenOf (readAt (d) ((Cursor-of (r′ .at)) .at)) n₅) .replies)) ≡ n₄) → (is-7·Other·9 : Is (Ran-p .row) (delivered (namedOf (sessions) (f′ .«session_id»)) f′ (lent (sessions) (streams) (objects)) (d) r′ (takenOf (readAt (d) ((Cursor-of (r′ .at)) .at)) n₅) .ran) (Ran-p .val (delivered (namedOf (sessions) (f′ .«session_id»)) f′ (lent (sessions) (streams) (objects)) (d) r′ (takenOf (readAt (d) ((Cursor-of (r′ .at)) .at)) n₅) .ran) ∷ [])) → Sq W (‵ (MutSlice (named 0) κ₁ (Array u64 5) .own (at-list b₁ o₁ γ₁ (delivered (namedOf (sessions) (f′ .«session_id»)) f′ (lent (sessions) (streams) (objects)) (d) r′ (takenOf (readAt (d) ((Cursor-of (r′ .at)) .at)) n₅) .tables .sessions)) (sliceVal (b₁, o₁) n₁ ∷ [])) ∷ ‵ (flft κ₁ q₁) ∷ ‵ (MutSlice (named 0) κ₂ (Array u16 35) .own (at-list b₂ o₂ γ₂ (delivered (namedOf (sessions) (f′ .«session_id»)) f′ (lent (sessions) (streams) (objects)) (d) r′ (takenOf (readAt (d) ((Cursor-of (r′ .at)) .at)) n₅) .tables .streams)) (sliceVal (b₂, o₂) n₂ ∷ [])) ∷ ‵ (flft κ₂ q₂) ∷ ‵ (MutSlice (named 0) κ₃ Object-t.the-row .own (at-list b₃ o₃ γ₃ (delivered (namedOf (sessions) (f′ .«session_id»)) f′ (lent (sessions) (streams) (objects)) (d) r′ (takenOf (readAt (d) ((Cursor-of (r′ .at)) .at)) n₅) .tables .objects)) (sliceVal (b₃, o₃) n₃ ∷ [])) ∷ ‵ (flft κ₃ q₃) ∷ ‵ (MutSlice (named 0) κ₄ u8 .own (at-list b₄ o₄ γ₄ (putReplies (out) (r′ .wrote) (delivered (namedOf (sessions) (f′ .«session_id»)) f′ (lent (sessions) (streams) (objects)) (d) r′ (takenOf (readAt (d) ((Cursor-of (r′ .at)) .at)) n₅) .replies))) (sliceVal (b₄, o₄) n₄ ∷ [])) ∷ ‵ (flft κ₄ q₄) ∷ ‵ (ShrSlice (named 0) κ₅ u8 .own (at-list b₅ o₅ γ₅ d) (sliceVal (b₅, o₅) n₅ ∷ [])) ∷ ‵ (flft κ₅ q₅) ∷ full 𝓤 (sliceTy (tyRef erased mut (pointee (u8 .written)))) l₂₈ (sliceVal (b₄, o₄) n₄) (full 𝓤 (tyRef erased mut (pointee (u8 .written))) l₂₇ (vptr b₄ o₄) (full 𝓤 (sliceTy (tyRef erased mut (pointee (Object-t.the-row .written)))) l₂₆ (sliceVal (b₃, o₃) n₃) (full 𝓤 (tyRef erased mut (pointee (Object-t.the-row .written))) l₂₅ (vptr b₃ o₃) (full 𝓤 (sliceTy (tyRef erased mut (pointee ((Array u16 35) .written)))) l₂₄ (sliceVal (b₂, o₂) n₂) (full 𝓤 (tyRef erased mut (pointee ((Array u16 35) .written))) l₂₃ (vptr b₂ o₂) (full 𝓤 (sliceTy (tyRef erased mut (pointee ((Array u64 5) .written)))) l₂₂ (sliceVal (b₁, o₁) n₁) (full 𝓤 (tyRef erased mut (pointee ((Array u64 5) .written))) l₂₁ (vptr b₁ o₁) (free 𝓤 (sliceTy (tyRef erased mut (pointee (u8 .written)))) l₂₀ (free 𝓤 (tyRef erased mut (pointee (u8 .written))) l₁₉ (free 𝓤 (sliceTy (tyRef erased mut (pointee ((Array u16 35) .written)))) l₁₈ (free 𝓤 (tyRef erased mut (pointee ((Array u16 35) .written))) l₁₇ (free 𝓤 (sliceTy (tyRef erased mut (pointee ((Array u64 5) .written)))) l₁₆ (free 𝓤 (tyRef erased mut (pointee ((Array u64 5) .written))) l₁₅ (full 𝓤 Ran-l.mir l₁₄ (Ran-p .val (delivered (namedOf (sessions) (f′ .«session_id»)) f′ (lent (sessions) (streams) (objects)) (d) r′ (takenOf (readAt (d) ((Cursor-of (r′ .at)) .at)) n₅) .ran)) (full 𝓤 (tyInt w64) l₁₃ (u64-p .val n₅) (full 𝓤 Opening-l.mir l₁₂ (Opening-p .val Opening-Other) (full 𝓤 Asked-l.mir l₁₁ (Asked-p .val ((takenOf (readAt (d) ((Cursor-of (r′ .at)) .at)) n₅) .asked)) (full 𝓤 Taken-l.mir l₁₀ (Taken-p .val (takenOf (readAt (d) ((Cursor-of (r′ .at)) .at)) n₅)) (full 𝓤 Parsed-l.mir l₉ (Parsed-p .val (readAt (d) ((Cursor-of (r′ .at)) .at))) (full 𝓤 Cursor-l.mir l₈ (Cursor-p .val (Cursor-of (r′ .at))) (full 𝓤 Ran-l.mir l₇ (Ran-p .val r′) (full 𝓤 Frame-l.mir l₆ (Frame-p .val f′) (full 𝓤 (sliceTy (tyRef (named 4) imm (pointee (u8 .written)))) l₅ (sliceVal (b₅, o₅) n₅) (full 𝓤 (sliceTy (tyRef (named 3) mut (pointee (u8 .written)))) l₄ (sliceVal (b₄, o₄) n₄) (full 𝓤 (sliceTy (tyRef (named 2) mut (pointee (Object-t.the-row .written)))) l₃ (sliceVal (b₃, o₃) n₃) (full 𝓤 (sliceTy (tyRef (named 1) mut (pointee ((Array u16 35) .written)))) l₂ (sliceVal (b₂, o₂) n₂) (full 𝓤 (sliceTy (tyRef (named 0) mut (pointee ((Array u64 5) .written)))) l₁ (sliceVal (b₁, o₁) n₁) (free 𝓤 Ran-l.mir l₀ ([])))))))))))))))))))))))))))))) (runs C Λ En mir.t-8 (atRet En Post))
+    part-8-3 is-2 is-4 e-7 good-7 asks-7·Other·9 len-7·Other·9-sessions len-7·Other·9-streams len-7·Other·9-objects len-7·Other·9-out is-7·Other·9 =
+        assigns ! (of-opd ! (load ! (from ! (stop !)) (look ! 38 refl))) (from ! (stop !)) (init ! 66 refl (Ran-p .typed 𝓤 H A W (delivered (namedOf (sessions) (f′ .«session_id»)) f′ (lent (sessions) (streams) (objects)) (d) r′ (takenOf (readAt (d) ((Cursor-of (r′ .at)) .at)) n₅) .ran) is-7·Other·9)) $
+        returns ! (look ! 66 refl) $ forget ! 10 refl $ forget ! 12 refl $ forget ! 14 refl $ forget ! 16 refl $ forget ! 18 refl $ forget ! 20 refl $ forget ! 22 refl $ forget ! 24 refl $ forget ! 38 refl $ forget ! 40 refl $ forget ! 42 refl $ forget ! 44 refl $ forget ! 46 refl $ forget ! 48 refl $ forget ! 50 refl $
+        frees-all (delivered (namedOf (sessions) (f′ .«session_id»)) f′ (lent (sessions) (streams) (objects)) (d) r′ (takenOf (readAt (d) ((Cursor-of (r′ .at)) .at)) n₅) .ran) (delivered (namedOf (sessions) (f′ .«session_id»)) f′ (lent (sessions) (streams) (objects)) (d) r′ (takenOf (readAt (d) ((Cursor-of (r′ .at)) .at)) n₅) .tables .sessions) (delivered (namedOf (sessions) (f′ .«session_id»)) f′ (lent (sessions) (streams) (objects)) (d) r′ (takenOf (readAt (d) ((Cursor-of (r′ .at)) .at)) n₅) .tables .streams) (delivered (namedOf (sessions) (f′ .«session_id»)) f′ (lent (sessions) (streams) (objects)) (d) r′ (takenOf (readAt (d) ((Cursor-of (r′ .at)) .at)) n₅) .tables .objects) (putReplies (out) (r′ .wrote) (delivered (namedOf (sessions) (f′ .«session_id»)) f′ (lent (sessions) (streams) (objects)) (d) r′ (takenOf (readAt (d) ((Cursor-of (r′ .at)) .at)) n₅) .replies)) (exits (delivered (namedOf (sessions) (f′ .«session_id»)) f′ (lent (sessions) (streams) (objects)) (d) r′ (takenOf (readAt (d) ((Cursor-of (r′ .at)) .at)) n₅) .ran) (delivered (namedOf (sessions) (f′ .«session_id»)) f′ (lent (sessions) (streams) (objects)) (d) r′ (takenOf (readAt (d) ((Cursor-of (r′ .at)) .at)) n₅) .tables .sessions) (delivered (namedOf (sessions) (f′ .«session_id»)) f′ (lent (sessions) (streams) (objects)) (d) r′ (takenOf (readAt (d) ((Cursor-of (r′ .at)) .at)) n₅) .tables .streams) (delivered (namedOf (sessions) (f′ .«session_id»)) f′ (lent (sessions) (streams) (objects)) (d) r′ (takenOf (readAt (d) ((Cursor-of (r′ .at)) .at)) n₅) .tables .objects) (putReplies (out) (r′ .wrote) (delivered (namedOf (sessions) (f′ .«session_id»)) f′ (lent (sessions) (streams) (objects)) (d) r′ (takenOf (readAt (d) ((Cursor-of (r′ .at)) .at)) n₅) .replies)) (as-left out _ (r′ .wrote) (left Opening-Other) leaves (ap left (sym e-7) ∙ left-is) refl) is-7·Other·9 len-7·Other·9-sessions len-7·Other·9-streams len-7·Other·9-objects len-7·Other·9-out)
 
-    matched-9-Other-3 : (is-2 : Is (Parsed-p .row) (readAt (d) ((Cursor-of (r′ .at)) .at)) (Parsed-p .val (readAt (d) ((Cursor-of (r′ .at)) .at)) ∷ [])) → (is-4 : Is (u64-p .row) (endRead (readAt (d) ((Cursor-of (r′ .at)) .at)) n₅) (u64-p .val (endRead (readAt (d) ((Cursor-of (r′ .at)) .at)) n₅) ∷ [])) → (is-5 : Is (Submessage-p .row) (messageRead (readAt (d) ((Cursor-of (r′ .at)) .at))) (Submessage-p .val (messageRead (readAt (d) ((Cursor-of (r′ .at)) .at))) ∷ [])) → (is-6 : Is (Span-p .row) (bodyRead (readAt (d) ((Cursor-of (r′ .at)) .at))) (Span-p .val (bodyRead (readAt (d) ((Cursor-of (r′ .at)) .at))) ∷ [])) → (is-7 : Is (u32-p .row) (keyIn (messageRead (readAt (d) ((Cursor-of (r′ .at)) .at)))) (u32-p .val (keyIn (messageRead (readAt (d) ((Cursor-of (r′ .at)) .at)))) ∷ [])) → (is-8 : Is (Opening-p .row) (openingRead (readAt (d) ((Cursor-of (r′ .at)) .at))) (Opening-p .val (openingRead (readAt (d) ((Cursor-of (r′ .at)) .at))) ∷ [])) → (e-9 : openingRead (readAt (d) ((Cursor-of (r′ .at)) .at)) ≡ Opening-Other) → (good-9 : Is (Opening-p .row) Opening-Other (Opening-p .val Opening-Other ∷ [])) → Sq W (‵ (MutSlice (named 0) κ₁ (Array u64 5) .own (at-list b₁ o₁ γ₁ sessions) (sliceVal (b₁, o₁) n₁ ∷ [])) ∷ ‵ (flft κ₁ q₁) ∷ ‵ (MutSlice (named 0) κ₂ (Array u16 35) .own (at-list b₂ o₂ γ₂ streams) (sliceVal (b₂, o₂) n₂ ∷ [])) ∷ ‵ (flft κ₂ q₂) ∷ ‵ (MutSlice (named 0) κ₃ Object-t.the-row .own (at-list b₃ o₃ γ₃ objects) (sliceVal (b₃, o₃) n₃ ∷ [])) ∷ ‵ (flft κ₃ q₃) ∷ ‵ (MutSlice (named 0) κ₄ u8 .own (at-list b₄ o₄ γ₄ out) (sliceVal (b₄, o₄) n₄ ∷ [])) ∷ ‵ (flft κ₄ q₄) ∷ ‵ (ShrSlice (named 0) κ₅ u8 .own (at-list b₅ o₅ γ₅ d) (sliceVal (b₅, o₅) n₅ ∷ [])) ∷ ‵ (flft κ₅ q₅) ∷ free 𝓤 (sliceTy (tyRef erased mut (pointee (u8 .written)))) l₃₀ (free 𝓤 (tyRef erased mut (pointee (u8 .written))) l₂₉ (free 𝓤 (sliceTy (tyRef erased mut (pointee (Object-t.the-row .written)))) l₂₈ (free 𝓤 (tyRef erased mut (pointee (Object-t.the-row .written))) l₂₇ (free 𝓤 (sliceTy (tyRef erased mut (pointee ((Array u16 35) .written)))) l₂₆ (free 𝓤 (tyRef erased mut (pointee ((Array u16 35) .written))) l₂₅ (free 𝓤 (sliceTy (tyRef erased mut (pointee ((Array u64 5) .written)))) l₂₄ (free 𝓤 (tyRef erased mut (pointee ((Array u64 5) .written))) l₂₃ (free 𝓤 (sliceTy (tyRef erased mut (pointee (u8 .written)))) l₂₂ (free 𝓤 (tyRef erased mut (pointee (u8 .written))) l₂₁ (free 𝓤 (sliceTy (tyRef erased mut (pointee ((Array u16 35) .written)))) l₂₀ (free 𝓤 (tyRef erased mut (pointee ((Array u16 35) .written))) l₁₉ (free 𝓤 (sliceTy (tyRef erased mut (pointee ((Array u64 5) .written)))) l₁₈ (free 𝓤 (tyRef erased mut (pointee ((Array u64 5) .written))) l₁₇ (free 𝓤 Ran-l.mir l₁₆ (full 𝓤 (tyInt w64) l₁₅ (u64-p .val n₅) (full 𝓤 Opening-l.mir l₁₄ (Opening-p .val Opening-Other) (full 𝓤 (tyInt w32) l₁₃ (u32-p .val (keyIn (messageRead (readAt (d) ((Cursor-of (r′ .at)) .at))))) (full 𝓤 Span-l.mir l₁₂ (Span-p .val (bodyRead (readAt (d) ((Cursor-of (r′ .at)) .at)))) (full 𝓤 Submessage-l.mir l₁₁ (Submessage-p .val (messageRead (readAt (d) ((Cursor-of (r′ .at)) .at)))) (full 𝓤 (tyInt w64) l₁₀ (u64-p .val (endRead (readAt (d) ((Cursor-of (r′ .at)) .at)) n₅)) (full 𝓤 Parsed-l.mir l₉ (Parsed-p .val (readAt (d) ((Cursor-of (r′ .at)) .at))) (full 𝓤 Cursor-l.mir l₈ (Cursor-p .val (Cursor-of (r′ .at))) (full 𝓤 Ran-l.mir l₇ (Ran-p .val r′) (full 𝓤 Frame-l.mir l₆ (Frame-p .val f′) (full 𝓤 (sliceTy (tyRef (named 4) imm (pointee (u8 .written)))) l₅ (sliceVal (b₅, o₅) n₅) (full 𝓤 (sliceTy (tyRef (named 3) mut (pointee (u8 .written)))) l₄ (sliceVal (b₄, o₄) n₄) (full 𝓤 (sliceTy (tyRef (named 2) mut (pointee (Object-t.the-row .written)))) l₃ (sliceVal (b₃, o₃) n₃) (full 𝓤 (sliceTy (tyRef (named 1) mut (pointee ((Array u16 35) .written)))) l₂ (sliceVal (b₂, o₂) n₂) (full 𝓤 (sliceTy (tyRef (named 0) mut (pointee ((Array u64 5) .written)))) l₁ (sliceVal (b₁, o₁) n₁) (free 𝓤 Ran-l.mir l₀ ([])))))))))))))))))))))))))))))))) (runs C Λ En (one mir.t-9) (anyQ (afterSeq 𝓤 H (Wp 𝓤 H C Λ En mir.t-10 (atReturn 𝓤 H En Post)) (atReturn 𝓤 H En Post))))
-    matched-9-Other-3 is-2 is-4 is-5 is-6 is-7 is-8 e-9 good-9 =
-        switches-on ! (load ! (from ! (vrt ! refl (fld ! refl (stop !)))) (look-tag ! 42 (whole !))) $ exec ! C Λ En (arm-of 1 (one mir.t-9)) (anyQ (afterSeq 𝓤 H (Wp 𝓤 H C Λ En mir.t-10 (atReturn 𝓤 H En Post)) (atReturn 𝓤 H En Post))) $
-        assigns ! (addr ! (from ! (fld ! refl (hop ! (look-in ! 68 (sub ! 0 refl (whole !))) (stop !))))) (from ! (stop !)) (init ! 24 refl (tt, tt)) $
-        assigns ! (agg ! (and-then ! (load ! (from ! (stop !)) (look ! 24 refl)) (and-then ! (load ! (from ! (fld ! refl (stop !))) (look-in ! 68 (sub ! 1 refl (whole !)))) (no-more !)))) (from ! (stop !)) (init ! 22 refl (tt, (tt, (record { fits = room₁ .0 }, tt)))) $
-        assigns ! (addr ! (from ! (fld ! refl (hop ! (look-in ! 66 (sub ! 0 refl (whole !))) (stop !))))) (from ! (stop !)) (init ! 20 refl (tt, tt)) $
-        assigns ! (agg ! (and-then ! (load ! (from ! (stop !)) (look ! 20 refl)) (and-then ! (load ! (from ! (fld ! refl (stop !))) (look-in ! 66 (sub ! 1 refl (whole !)))) (no-more !)))) (from ! (stop !)) (init ! 18 refl (tt, (tt, (record { fits = room₂ .0 }, tt)))) $
-        assigns ! (addr ! (from ! (fld ! refl (hop ! (look-in ! 64 (sub ! 0 refl (whole !))) (stop !))))) (from ! (stop !)) (init ! 16 refl (tt, tt)) $
-        assigns ! (agg ! (and-then ! (load ! (from ! (stop !)) (look ! 16 refl)) (and-then ! (load ! (from ! (fld ! refl (stop !))) (look-in ! 64 (sub ! 1 refl (whole !)))) (no-more !)))) (from ! (stop !)) (init ! 14 refl (tt, (tt, (record { fits = room₃ .0 }, tt)))) $
-        assigns ! (addr ! (from ! (fld ! refl (hop ! (look-in ! 62 (sub ! 0 refl (whole !))) (stop !))))) (from ! (stop !)) (init ! 12 refl (tt, tt)) $
-        assigns ! (agg ! (and-then ! (load ! (from ! (stop !)) (look ! 12 refl)) (and-then ! (load ! (from ! (fld ! refl (stop !))) (look-in ! 62 (sub ! 1 refl (whole !)))) (no-more !)))) (from ! (stop !)) (init ! 10 refl (tt, (tt, (record { fits = room₄ .0 }, tt)))) $
-        knows ! (r′ .wrote ≤ 18446744073709551600) (omega (arith, ltb-true, ltb-false, leb-true, leb-false, eqb-true, eqb-false)) (λ asks-9·Other·9.
-        -- 9.Other.9: agent::turn::deliver
-        lends-mut ! tt (Array u64 5) b₁ o₁ sessions n₁ (refl) (λ ν-9·Other·9-sessions δ-9·Other·9-sessions.
+    matched-7-Other-3 : (is-2 : Is (Parsed-p .row) (readAt (d) ((Cursor-of (r′ .at)) .at)) (Parsed-p .val (readAt (d) ((Cursor-of (r′ .at)) .at)) ∷ [])) → (is-4 : Is (Taken-p .row) (takenOf (readAt (d) ((Cursor-of (r′ .at)) .at)) n₅) (Taken-p .val (takenOf (readAt (d) ((Cursor-of (r′ .at)) .at)) n₅) ∷ [])) → (e-7 : ((takenOf (readAt (d) ((Cursor-of (r′ .at)) .at)) n₅) .asked) .opening ≡ Opening-Other) → (good-7 : Is (Opening-p .row) Opening-Other (Opening-p .val Opening-Other ∷ [])) → Sq W (‵ (MutSlice (named 0) κ₁ (Array u64 5) .own (at-list b₁ o₁ γ₁ sessions) (sliceVal (b₁, o₁) n₁ ∷ [])) ∷ ‵ (flft κ₁ q₁) ∷ ‵ (MutSlice (named 0) κ₂ (Array u16 35) .own (at-list b₂ o₂ γ₂ streams) (sliceVal (b₂, o₂) n₂ ∷ [])) ∷ ‵ (flft κ₂ q₂) ∷ ‵ (MutSlice (named 0) κ₃ Object-t.the-row .own (at-list b₃ o₃ γ₃ objects) (sliceVal (b₃, o₃) n₃ ∷ [])) ∷ ‵ (flft κ₃ q₃) ∷ ‵ (MutSlice (named 0) κ₄ u8 .own (at-list b₄ o₄ γ₄ out) (sliceVal (b₄, o₄) n₄ ∷ [])) ∷ ‵ (flft κ₄ q₄) ∷ ‵ (ShrSlice (named 0) κ₅ u8 .own (at-list b₅ o₅ γ₅ d) (sliceVal (b₅, o₅) n₅ ∷ [])) ∷ ‵ (flft κ₅ q₅) ∷ free 𝓤 (sliceTy (tyRef erased mut (pointee (u8 .written)))) l₂₈ (free 𝓤 (tyRef erased mut (pointee (u8 .written))) l₂₇ (free 𝓤 (sliceTy (tyRef erased mut (pointee (Object-t.the-row .written)))) l₂₆ (free 𝓤 (tyRef erased mut (pointee (Object-t.the-row .written))) l₂₅ (free 𝓤 (sliceTy (tyRef erased mut (pointee ((Array u16 35) .written)))) l₂₄ (free 𝓤 (tyRef erased mut (pointee ((Array u16 35) .written))) l₂₃ (free 𝓤 (sliceTy (tyRef erased mut (pointee ((Array u64 5) .written)))) l₂₂ (free 𝓤 (tyRef erased mut (pointee ((Array u64 5) .written))) l₂₁ (free 𝓤 (sliceTy (tyRef erased mut (pointee (u8 .written)))) l₂₀ (free 𝓤 (tyRef erased mut (pointee (u8 .written))) l₁₉ (free 𝓤 (sliceTy (tyRef erased mut (pointee ((Array u16 35) .written)))) l₁₈ (free 𝓤 (tyRef erased mut (pointee ((Array u16 35) .written))) l₁₇ (free 𝓤 (sliceTy (tyRef erased mut (pointee ((Array u64 5) .written)))) l₁₆ (free 𝓤 (tyRef erased mut (pointee ((Array u64 5) .written))) l₁₅ (free 𝓤 Ran-l.mir l₁₄ (full 𝓤 (tyInt w64) l₁₃ (u64-p .val n₅) (full 𝓤 Opening-l.mir l₁₂ (Opening-p .val Opening-Other) (full 𝓤 Asked-l.mir l₁₁ (Asked-p .val ((takenOf (readAt (d) ((Cursor-of (r′ .at)) .at)) n₅) .asked)) (full 𝓤 Taken-l.mir l₁₀ (Taken-p .val (takenOf (readAt (d) ((Cursor-of (r′ .at)) .at)) n₅)) (full 𝓤 Parsed-l.mir l₉ (Parsed-p .val (readAt (d) ((Cursor-of (r′ .at)) .at))) (full 𝓤 Cursor-l.mir l₈ (Cursor-p .val (Cursor-of (r′ .at))) (full 𝓤 Ran-l.mir l₇ (Ran-p .val r′) (full 𝓤 Frame-l.mir l₆ (Frame-p .val f′) (full 𝓤 (sliceTy (tyRef (named 4) imm (pointee (u8 .written)))) l₅ (sliceVal (b₅, o₅) n₅) (full 𝓤 (sliceTy (tyRef (named 3) mut (pointee (u8 .written)))) l₄ (sliceVal (b₄, o₄) n₄) (full 𝓤 (sliceTy (tyRef (named 2) mut (pointee (Object-t.the-row .written)))) l₃ (sliceVal (b₃, o₃) n₃) (full 𝓤 (sliceTy (tyRef (named 1) mut (pointee ((Array u16 35) .written)))) l₂ (sliceVal (b₂, o₂) n₂) (full 𝓤 (sliceTy (tyRef (named 0) mut (pointee ((Array u64 5) .written)))) l₁ (sliceVal (b₁, o₁) n₁) (free 𝓤 Ran-l.mir l₀ ([])))))))))))))))))))))))))))))) (runs C Λ En (one mir.t-7) (anyQ (afterSeq 𝓤 H (Wp 𝓤 H C Λ En mir.t-8 (atReturn 𝓤 H En Post)) (atReturn 𝓤 H En Post))))
+    matched-7-Other-3 is-2 is-4 e-7 good-7 =
+        switches-on ! (load ! (from ! (vrt ! refl (fld ! refl (stop !)))) (look-tag ! 42 (whole !))) $ exec ! C Λ En (arm-of 1 (one mir.t-7)) (anyQ (afterSeq 𝓤 H (Wp 𝓤 H C Λ En mir.t-8 (atReturn 𝓤 H En Post)) (atReturn 𝓤 H En Post))) $
+        assigns ! (addr ! (from ! (fld ! refl (hop ! (look-in ! 64 (sub ! 0 refl (whole !))) (stop !))))) (from ! (stop !)) (init ! 24 refl (tt, tt)) $
+        assigns ! (agg ! (and-then ! (load ! (from ! (stop !)) (look ! 24 refl)) (and-then ! (load ! (from ! (fld ! refl (stop !))) (look-in ! 64 (sub ! 1 refl (whole !)))) (no-more !)))) (from ! (stop !)) (init ! 22 refl (tt, (tt, (record { fits = room₁ .0 }, tt)))) $
+        assigns ! (addr ! (from ! (fld ! refl (hop ! (look-in ! 62 (sub ! 0 refl (whole !))) (stop !))))) (from ! (stop !)) (init ! 20 refl (tt, tt)) $
+        assigns ! (agg ! (and-then ! (load ! (from ! (stop !)) (look ! 20 refl)) (and-then ! (load ! (from ! (fld ! refl (stop !))) (look-in ! 62 (sub ! 1 refl (whole !)))) (no-more !)))) (from ! (stop !)) (init ! 18 refl (tt, (tt, (record { fits = room₂ .0 }, tt)))) $
+        assigns ! (addr ! (from ! (fld ! refl (hop ! (look-in ! 60 (sub ! 0 refl (whole !))) (stop !))))) (from ! (stop !)) (init ! 16 refl (tt, tt)) $
+        assigns ! (agg ! (and-then ! (load ! (from ! (stop !)) (look ! 16 refl)) (and-then ! (load ! (from ! (fld ! refl (stop !))) (look-in ! 60 (sub ! 1 refl (whole !)))) (no-more !)))) (from ! (stop !)) (init ! 14 refl (tt, (tt, (record { fits = room₃ .0 }, tt)))) $
+        assigns ! (addr ! (from ! (fld ! refl (hop ! (look-in ! 58 (sub ! 0 refl (whole !))) (stop !))))) (from ! (stop !)) (init ! 12 refl (tt, tt)) $
+        assigns ! (agg ! (and-then ! (load ! (from ! (stop !)) (look ! 12 refl)) (and-then ! (load ! (from ! (fld ! refl (stop !))) (look-in ! 58 (sub ! 1 refl (whole !)))) (no-more !)))) (from ! (stop !)) (init ! 10 refl (tt, (tt, (record { fits = room₄ .0 }, tt)))) $
+        knows ! (r′ .wrote ≤ 18446744073709551600) (omega (arith, ltb-true, ltb-false, leb-true, leb-false, eqb-true, eqb-false)) (λ asks-7·Other·9.
+        -- 7.Other.9: agent::turn::deliver
+        lends-mut ! tt (Array u64 5) b₁ o₁ sessions n₁ (refl) (λ ν-7·Other·9-sessions δ-7·Other·9-sessions.
         move ! (3 ∷ 4 ∷ []) $
-        lends-mut ! tt (Array u16 35) b₂ o₂ streams n₂ (refl) (λ ν-9·Other·9-streams δ-9·Other·9-streams.
+        lends-mut ! tt (Array u16 35) b₂ o₂ streams n₂ (refl) (λ ν-7·Other·9-streams δ-7·Other·9-streams.
         move ! (6 ∷ 7 ∷ []) $
-        lends-mut ! tt Object-t.the-row b₃ o₃ objects n₃ (refl) (λ ν-9·Other·9-objects δ-9·Other·9-objects.
+        lends-mut ! tt Object-t.the-row b₃ o₃ objects n₃ (refl) (λ ν-7·Other·9-objects δ-7·Other·9-objects.
         move ! (9 ∷ 10 ∷ []) $
-        lends-mut ! tt u8 b₄ o₄ out n₄ (refl) (λ ν-9·Other·9-out δ-9·Other·9-out.
+        lends-mut ! tt u8 b₄ o₄ out n₄ (refl) (λ ν-7·Other·9-out δ-7·Other·9-out.
         move ! (12 ∷ 13 ∷ []) $
         copies-shr ! u8 b₅ o₅ d n₅ $ nothing ! $ move ! (1 ∷ 0 ∷ []) $ join ! $ move ! (3 ∷ 0 ∷ []) $ join ! $ move ! (5 ∷ 0 ∷ []) $ join ! $ move ! (7 ∷ 0 ∷ []) $ join ! $ move ! (9 ∷ 0 ∷ []) $ join ! $
-        use1 W (raw (toks 𝓤 A 5 (((ν-9·Other·9-sessions ∷ []), ((ν-9·Other·9-streams ∷ []), ((ν-9·Other·9-objects ∷ []), ((ν-9·Other·9-out ∷ []), (κ₅, tt)))))) ((fullShare, (fullShare, (fullShare, (fullShare, (q₅, tt)))))))) (id⊢ 𝓤 _) $ nothing ! $
-        owned ! (u64-p .row) (Is (u64-p .row)) (u64-p .makes 𝓤 H A W) (endRead (readAt (d) ((Cursor-of (r′ .at)) .at)) n₅) (u64-p .val (endRead (readAt (d) ((Cursor-of (r′ .at)) .at)) n₅) ∷ []) is-4 $ fjoin ! $
-        owned ! (Span-p .row) (Is (Span-p .row)) (Span-p .makes 𝓤 H A W) (bodyRead (readAt (d) ((Cursor-of (r′ .at)) .at))) (Span-p .val (bodyRead (readAt (d) ((Cursor-of (r′ .at)) .at))) ∷ []) is-6 $ fjoin ! $
-        owned ! (Submessage-p .row) (Is (Submessage-p .row)) (Submessage-p .makes 𝓤 H A W) (messageRead (readAt (d) ((Cursor-of (r′ .at)) .at))) (Submessage-p .val (messageRead (readAt (d) ((Cursor-of (r′ .at)) .at))) ∷ []) is-5 $ fjoin ! $
+        use1 W (raw (toks 𝓤 A 5 (((ν-7·Other·9-sessions ∷ []), ((ν-7·Other·9-streams ∷ []), ((ν-7·Other·9-objects ∷ []), ((ν-7·Other·9-out ∷ []), (κ₅, tt)))))) ((fullShare, (fullShare, (fullShare, (fullShare, (q₅, tt)))))))) (id⊢ 𝓤 _) $ nothing ! $
+        owned ! (Taken-p .row) (Is (Taken-p .row)) (Taken-p .makes 𝓤 H A W) (takenOf (readAt (d) ((Cursor-of (r′ .at)) .at)) n₅) (Taken-p .val (takenOf (readAt (d) ((Cursor-of (r′ .at)) .at)) n₅) ∷ []) is-4 $ fjoin ! $
         owned ! (Ran-p .row) (Is (Ran-p .row)) (Ran-p .makes 𝓤 H A W) r′ (Ran-p .val r′ ∷ []) r′-is $ fjoin ! $
         owned ! (Frame-p .row) (Is (Frame-p .row)) (Frame-p .makes 𝓤 H A W) f′ (Frame-p .val f′ ∷ []) f′-is $ fjoin ! $ move ! (2 ∷ 0 ∷ []) $ fjoin ! $ move ! (3 ∷ 0 ∷ []) $ fjoin ! $ move ! (4 ∷ 0 ∷ []) $ fjoin ! $ move ! (5 ∷ 0 ∷ []) $ fjoin ! $ move ! (6 ∷ 0 ∷ []) $ fjoin ! $ move ! (1 ∷ 0 ∷ []) $
-        calls-any-last ! fm 5 [] (turn-deliver.signature .params) (turn-deliver.ended .kept) Ran-p (turn-deliver.clauses 𝓤 H A mem run) known-turn-deliver ((ν-9·Other·9-sessions ∷ []), ((ν-9·Other·9-streams ∷ []), ((ν-9·Other·9-objects ∷ []), ((ν-9·Other·9-out ∷ []), (κ₅, tt))))) (fullShare, (fullShare, (fullShare, (fullShare, (q₅, tt))))) tt (at-list b₁ o₁ δ-9·Other·9-sessions sessions, (at-list b₂ o₂ δ-9·Other·9-streams streams, (at-list b₃ o₃ δ-9·Other·9-objects objects, (at-list b₄ o₄ δ-9·Other·9-out out, (at-list b₅ o₅ γ₅ d, (f′, (r′, (messageRead (readAt (d) ((Cursor-of (r′ .at)) .at)), (bodyRead (readAt (d) ((Cursor-of (r′ .at)) .at)), (endRead (readAt (d) ((Cursor-of (r′ .at)) .at)) n₅, tt)))))))))) (sliceVal (b₁, o₁) n₁ ∷ [], (sliceVal (b₂, o₂) n₂ ∷ [], (sliceVal (b₃, o₃) n₃ ∷ [], (sliceVal (b₄, o₄) n₄ ∷ [], (sliceVal (b₅, o₅) n₅ ∷ [], (Frame-p .val f′ ∷ [], (Ran-p .val r′ ∷ [], (Submessage-p .val (messageRead (readAt (d) ((Cursor-of (r′ .at)) .at))) ∷ [], (Span-p .val (bodyRead (readAt (d) ((Cursor-of (r′ .at)) .at))) ∷ [], (u64-p .val (endRead (readAt (d) ((Cursor-of (r′ .at)) .at)) n₅) ∷ [], tt)))))))))) tt (delivered (namedOf (sessions) (f′ .«session_id»)) f′ (lent (sessions) (streams) (objects)) (d) r′ (messageRead (readAt (d) ((Cursor-of (r′ .at)) .at))) (bodyRead (readAt (d) ((Cursor-of (r′ .at)) .at))) (endRead (readAt (d) ((Cursor-of (r′ .at)) .at)) n₅) .ran) (λ ws-9·Other·9. (ws-9·Other·9 .0 ≡ delivered (namedOf (sessions) (f′ .«session_id»)) f′ (lent (sessions) (streams) (objects)) (d) r′ (messageRead (readAt (d) ((Cursor-of (r′ .at)) .at))) (bodyRead (readAt (d) ((Cursor-of (r′ .at)) .at))) (endRead (readAt (d) ((Cursor-of (r′ .at)) .at)) n₅) .tables .sessions) × (ws-9·Other·9 .1 .0 ≡ delivered (namedOf (sessions) (f′ .«session_id»)) f′ (lent (sessions) (streams) (objects)) (d) r′ (messageRead (readAt (d) ((Cursor-of (r′ .at)) .at))) (bodyRead (readAt (d) ((Cursor-of (r′ .at)) .at))) (endRead (readAt (d) ((Cursor-of (r′ .at)) .at)) n₅) .tables .streams) × (ws-9·Other·9 .1 .1 .0 ≡ delivered (namedOf (sessions) (f′ .«session_id»)) f′ (lent (sessions) (streams) (objects)) (d) r′ (messageRead (readAt (d) ((Cursor-of (r′ .at)) .at))) (bodyRead (readAt (d) ((Cursor-of (r′ .at)) .at))) (endRead (readAt (d) ((Cursor-of (r′ .at)) .at)) n₅) .tables .objects) × (ws-9·Other·9 .1 .1 .1 .0 ≡ putReplies (out) (r′ .wrote) (delivered (namedOf (sessions) (f′ .«session_id»)) f′ (lent (sessions) (streams) (objects)) (d) r′ (messageRead (readAt (d) ((Cursor-of (r′ .at)) .at))) (bodyRead (readAt (d) ((Cursor-of (r′ .at)) .at))) (endRead (readAt (d) ((Cursor-of (r′ .at)) .at)) n₅) .replies))) (factI 𝓤 (r′ .wrote ≤ 18446744073709551600) _ asks-9·Other·9) (λ r ws-9·Other·9. fact-mono 𝓤 ((r ≡ delivered (namedOf (sessions) (f′ .«session_id»)) f′ (lent (sessions) (streams) (objects)) (d) r′ (messageRead (readAt (d) ((Cursor-of (r′ .at)) .at))) (bodyRead (readAt (d) ((Cursor-of (r′ .at)) .at))) (endRead (readAt (d) ((Cursor-of (r′ .at)) .at)) n₅) .ran) × ((ws-9·Other·9 .0) ≡ delivered (namedOf (sessions) (f′ .«session_id»)) f′ (lent (sessions) (streams) (objects)) (d) r′ (messageRead (readAt (d) ((Cursor-of (r′ .at)) .at))) (bodyRead (readAt (d) ((Cursor-of (r′ .at)) .at))) (endRead (readAt (d) ((Cursor-of (r′ .at)) .at)) n₅) .tables .sessions) × ((ws-9·Other·9 .1 .0) ≡ delivered (namedOf (sessions) (f′ .«session_id»)) f′ (lent (sessions) (streams) (objects)) (d) r′ (messageRead (readAt (d) ((Cursor-of (r′ .at)) .at))) (bodyRead (readAt (d) ((Cursor-of (r′ .at)) .at))) (endRead (readAt (d) ((Cursor-of (r′ .at)) .at)) n₅) .tables .streams) × ((ws-9·Other·9 .1 .1 .0) ≡ delivered (namedOf (sessions) (f′ .«session_id»)) f′ (lent (sessions) (streams) (objects)) (d) r′ (messageRead (readAt (d) ((Cursor-of (r′ .at)) .at))) (bodyRead (readAt (d) ((Cursor-of (r′ .at)) .at))) (endRead (readAt (d) ((Cursor-of (r′ .at)) .at)) n₅) .tables .objects) × ((ws-9·Other·9 .1 .1 .1 .0) ≡ putReplies (out) (r′ .wrote) (delivered (namedOf (sessions) (f′ .«session_id»)) f′ (lent (sessions) (streams) (objects)) (d) r′ (messageRead (readAt (d) ((Cursor-of (r′ .at)) .at))) (bodyRead (readAt (d) ((Cursor-of (r′ .at)) .at))) (endRead (readAt (d) ((Cursor-of (r′ .at)) .at)) n₅) .replies))) ((r ≡ (delivered (namedOf (sessions) (f′ .«session_id»)) f′ (lent (sessions) (streams) (objects)) (d) r′ (messageRead (readAt (d) ((Cursor-of (r′ .at)) .at))) (bodyRead (readAt (d) ((Cursor-of (r′ .at)) .at))) (endRead (readAt (d) ((Cursor-of (r′ .at)) .at)) n₅) .ran)) × ((ws-9·Other·9 .0 ≡ delivered (namedOf (sessions) (f′ .«session_id»)) f′ (lent (sessions) (streams) (objects)) (d) r′ (messageRead (readAt (d) ((Cursor-of (r′ .at)) .at))) (bodyRead (readAt (d) ((Cursor-of (r′ .at)) .at))) (endRead (readAt (d) ((Cursor-of (r′ .at)) .at)) n₅) .tables .sessions) × (ws-9·Other·9 .1 .0 ≡ delivered (namedOf (sessions) (f′ .«session_id»)) f′ (lent (sessions) (streams) (objects)) (d) r′ (messageRead (readAt (d) ((Cursor-of (r′ .at)) .at))) (bodyRead (readAt (d) ((Cursor-of (r′ .at)) .at))) (endRead (readAt (d) ((Cursor-of (r′ .at)) .at)) n₅) .tables .streams) × (ws-9·Other·9 .1 .1 .0 ≡ delivered (namedOf (sessions) (f′ .«session_id»)) f′ (lent (sessions) (streams) (objects)) (d) r′ (messageRead (readAt (d) ((Cursor-of (r′ .at)) .at))) (bodyRead (readAt (d) ((Cursor-of (r′ .at)) .at))) (endRead (readAt (d) ((Cursor-of (r′ .at)) .at)) n₅) .tables .objects) × (ws-9·Other·9 .1 .1 .1 .0 ≡ putReplies (out) (r′ .wrote) (delivered (namedOf (sessions) (f′ .«session_id»)) f′ (lent (sessions) (streams) (objects)) (d) r′ (messageRead (readAt (d) ((Cursor-of (r′ .at)) .at))) (bodyRead (readAt (d) ((Cursor-of (r′ .at)) .at))) (endRead (readAt (d) ((Cursor-of (r′ .at)) .at)) n₅) .replies)))) (λ e. (e .0, (e .1, e .2, e .3, e .4)))) (λ _. (and-then ! (load ! (from ! (stop !)) (look ! 18 refl)) (and-then ! (load ! (from ! (stop !)) (look ! 14 refl)) (and-then ! (load ! (from ! (stop !)) (look ! 10 refl)) (and-then ! (load ! (from ! (stop !)) (look ! 6 refl)) (and-then ! (load ! (from ! (stop !)) (look ! 56 refl)) (and-then ! (load ! (from ! (stop !)) (look ! 54 refl)) (and-then ! (load ! (from ! (stop !)) (look ! 52 refl)) (and-then ! (load ! (from ! (stop !)) (look ! 44 refl)) (and-then ! (load ! (from ! (stop !)) (look ! 42 refl)) (and-then ! (load ! (from ! (stop !)) (look ! 46 refl)) (no-more !)))))))))))) (λ ws-9·Other·9 said-9·Other·9 is-9·Other·9.
-        use1 W ((‵ (flft (ν-9·Other·9-sessions ∷ []) fullShare) ⊛ (‵ (flft (ν-9·Other·9-streams ∷ []) fullShare) ⊛ (‵ (flft (ν-9·Other·9-objects ∷ []) fullShare) ⊛ (‵ (flft (ν-9·Other·9-out ∷ []) fullShare) ⊛ (‵ (flft κ₅ q₅) ⊛ ‵ ftrue)))))) (id⊢ 𝓤 _) $ split ! $ move ! (1 ∷ []) $ split ! $ move ! (1 ∷ []) $ split ! $ move ! (1 ∷ []) $ split ! $ move ! (1 ∷ []) $ split ! $ move ! (6 ∷ []) $ fsplit ! $ fsplit ! $ move ! (1 ∷ []) $
-        feqL ! (λ wlen-9·Other·9-0.
+        calls-any-last ! fm 5 [] (turn-deliver.signature .params) (turn-deliver.ended .kept) Ran-p (turn-deliver.clauses 𝓤 H A mem run) known-turn-deliver ((ν-7·Other·9-sessions ∷ []), ((ν-7·Other·9-streams ∷ []), ((ν-7·Other·9-objects ∷ []), ((ν-7·Other·9-out ∷ []), (κ₅, tt))))) (fullShare, (fullShare, (fullShare, (fullShare, (q₅, tt))))) tt (at-list b₁ o₁ δ-7·Other·9-sessions sessions, (at-list b₂ o₂ δ-7·Other·9-streams streams, (at-list b₃ o₃ δ-7·Other·9-objects objects, (at-list b₄ o₄ δ-7·Other·9-out out, (at-list b₅ o₅ γ₅ d, (f′, (r′, (takenOf (readAt (d) ((Cursor-of (r′ .at)) .at)) n₅, tt)))))))) (sliceVal (b₁, o₁) n₁ ∷ [], (sliceVal (b₂, o₂) n₂ ∷ [], (sliceVal (b₃, o₃) n₃ ∷ [], (sliceVal (b₄, o₄) n₄ ∷ [], (sliceVal (b₅, o₅) n₅ ∷ [], (Frame-p .val f′ ∷ [], (Ran-p .val r′ ∷ [], (Taken-p .val (takenOf (readAt (d) ((Cursor-of (r′ .at)) .at)) n₅) ∷ [], tt)))))))) tt (delivered (namedOf (sessions) (f′ .«session_id»)) f′ (lent (sessions) (streams) (objects)) (d) r′ (takenOf (readAt (d) ((Cursor-of (r′ .at)) .at)) n₅) .ran) (λ ws-7·Other·9. (ws-7·Other·9 .0 ≡ delivered (namedOf (sessions) (f′ .«session_id»)) f′ (lent (sessions) (streams) (objects)) (d) r′ (takenOf (readAt (d) ((Cursor-of (r′ .at)) .at)) n₅) .tables .sessions) × (ws-7·Other·9 .1 .0 ≡ delivered (namedOf (sessions) (f′ .«session_id»)) f′ (lent (sessions) (streams) (objects)) (d) r′ (takenOf (readAt (d) ((Cursor-of (r′ .at)) .at)) n₅) .tables .streams) × (ws-7·Other·9 .1 .1 .0 ≡ delivered (namedOf (sessions) (f′ .«session_id»)) f′ (lent (sessions) (streams) (objects)) (d) r′ (takenOf (readAt (d) ((Cursor-of (r′ .at)) .at)) n₅) .tables .objects) × (ws-7·Other·9 .1 .1 .1 .0 ≡ putReplies (out) (r′ .wrote) (delivered (namedOf (sessions) (f′ .«session_id»)) f′ (lent (sessions) (streams) (objects)) (d) r′ (takenOf (readAt (d) ((Cursor-of (r′ .at)) .at)) n₅) .replies))) (factI 𝓤 (r′ .wrote ≤ 18446744073709551600) _ asks-7·Other·9) (λ r ws-7·Other·9. fact-mono 𝓤 ((r ≡ delivered (namedOf (sessions) (f′ .«session_id»)) f′ (lent (sessions) (streams) (objects)) (d) r′ (takenOf (readAt (d) ((Cursor-of (r′ .at)) .at)) n₅) .ran) × ((ws-7·Other·9 .0) ≡ delivered (namedOf (sessions) (f′ .«session_id»)) f′ (lent (sessions) (streams) (objects)) (d) r′ (takenOf (readAt (d) ((Cursor-of (r′ .at)) .at)) n₅) .tables .sessions) × ((ws-7·Other·9 .1 .0) ≡ delivered (namedOf (sessions) (f′ .«session_id»)) f′ (lent (sessions) (streams) (objects)) (d) r′ (takenOf (readAt (d) ((Cursor-of (r′ .at)) .at)) n₅) .tables .streams) × ((ws-7·Other·9 .1 .1 .0) ≡ delivered (namedOf (sessions) (f′ .«session_id»)) f′ (lent (sessions) (streams) (objects)) (d) r′ (takenOf (readAt (d) ((Cursor-of (r′ .at)) .at)) n₅) .tables .objects) × ((ws-7·Other·9 .1 .1 .1 .0) ≡ putReplies (out) (r′ .wrote) (delivered (namedOf (sessions) (f′ .«session_id»)) f′ (lent (sessions) (streams) (objects)) (d) r′ (takenOf (readAt (d) ((Cursor-of (r′ .at)) .at)) n₅) .replies))) ((r ≡ (delivered (namedOf (sessions) (f′ .«session_id»)) f′ (lent (sessions) (streams) (objects)) (d) r′ (takenOf (readAt (d) ((Cursor-of (r′ .at)) .at)) n₅) .ran)) × ((ws-7·Other·9 .0 ≡ delivered (namedOf (sessions) (f′ .«session_id»)) f′ (lent (sessions) (streams) (objects)) (d) r′ (takenOf (readAt (d) ((Cursor-of (r′ .at)) .at)) n₅) .tables .sessions) × (ws-7·Other·9 .1 .0 ≡ delivered (namedOf (sessions) (f′ .«session_id»)) f′ (lent (sessions) (streams) (objects)) (d) r′ (takenOf (readAt (d) ((Cursor-of (r′ .at)) .at)) n₅) .tables .streams) × (ws-7·Other·9 .1 .1 .0 ≡ delivered (namedOf (sessions) (f′ .«session_id»)) f′ (lent (sessions) (streams) (objects)) (d) r′ (takenOf (readAt (d) ((Cursor-of (r′ .at)) .at)) n₅) .tables .objects) × (ws-7·Other·9 .1 .1 .1 .0 ≡ putReplies (out) (r′ .wrote) (delivered (namedOf (sessions) (f′ .«session_id»)) f′ (lent (sessions) (streams) (objects)) (d) r′ (takenOf (readAt (d) ((Cursor-of (r′ .at)) .at)) n₅) .replies)))) (λ e. (e .0, (e .1, e .2, e .3, e .4)))) (λ _. (and-then ! (load ! (from ! (stop !)) (look ! 18 refl)) (and-then ! (load ! (from ! (stop !)) (look ! 14 refl)) (and-then ! (load ! (from ! (stop !)) (look ! 10 refl)) (and-then ! (load ! (from ! (stop !)) (look ! 6 refl)) (and-then ! (load ! (from ! (stop !)) (look ! 52 refl)) (and-then ! (load ! (from ! (stop !)) (look ! 50 refl)) (and-then ! (load ! (from ! (stop !)) (look ! 48 refl)) (and-then ! (load ! (from ! (stop !)) (look ! 42 refl)) (no-more !)))))))))) (λ ws-7·Other·9 said-7·Other·9 is-7·Other·9.
+        use1 W ((‵ (flft (ν-7·Other·9-sessions ∷ []) fullShare) ⊛ (‵ (flft (ν-7·Other·9-streams ∷ []) fullShare) ⊛ (‵ (flft (ν-7·Other·9-objects ∷ []) fullShare) ⊛ (‵ (flft (ν-7·Other·9-out ∷ []) fullShare) ⊛ (‵ (flft κ₅ q₅) ⊛ ‵ ftrue)))))) (id⊢ 𝓤 _) $ split ! $ move ! (1 ∷ []) $ split ! $ move ! (1 ∷ []) $ split ! $ move ! (1 ∷ []) $ split ! $ move ! (1 ∷ []) $ split ! $ move ! (6 ∷ []) $ fsplit ! $ fsplit ! $ move ! (1 ∷ []) $
+        feqL ! (λ wlen-7·Other·9-0.
         move ! (1 ∷ []) $ fsplit ! $ fsplit ! $ move ! (1 ∷ []) $
-        feqL ! (λ wlen-9·Other·9-1.
+        feqL ! (λ wlen-7·Other·9-1.
         move ! (1 ∷ []) $ fsplit ! $ fsplit ! $ move ! (1 ∷ []) $
-        feqL ! (λ wlen-9·Other·9-2.
+        feqL ! (λ wlen-7·Other·9-2.
         move ! (1 ∷ []) $ fsplit ! $ fsplit ! $ move ! (1 ∷ []) $
-        feqL ! (λ wlen-9·Other·9-3.
+        feqL ! (λ wlen-7·Other·9-3.
         move ! (1 ∷ []) $ fsplit ! $ move ! (11 ∷ 16 ∷ 5 ∷ []) $
-        backs-mut ! tt (Array u64 5) b₁ o₁ sessions n₁ (refl) room₁ ν-9·Other·9-sessions δ-9·Other·9-sessions (ws-9·Other·9 .0) (delivered (namedOf (sessions) (f′ .«session_id»)) f′ (lent (sessions) (streams) (objects)) (d) r′ (messageRead (readAt (d) ((Cursor-of (r′ .at)) .at))) (bodyRead (readAt (d) ((Cursor-of (r′ .at)) .at))) (endRead (readAt (d) ((Cursor-of (r′ .at)) .at)) n₅) .tables .sessions) wlen-9·Other·9-0 (said-9·Other·9 .0) (λ len-9·Other·9-sessions.
+        backs-mut ! tt (Array u64 5) b₁ o₁ sessions n₁ (refl) room₁ ν-7·Other·9-sessions δ-7·Other·9-sessions (ws-7·Other·9 .0) (delivered (namedOf (sessions) (f′ .«session_id»)) f′ (lent (sessions) (streams) (objects)) (d) r′ (takenOf (readAt (d) ((Cursor-of (r′ .at)) .at)) n₅) .tables .sessions) wlen-7·Other·9-0 (said-7·Other·9 .0) (λ len-7·Other·9-sessions.
         move ! (11 ∷ 15 ∷ 6 ∷ []) $
-        backs-mut ! tt (Array u16 35) b₂ o₂ streams n₂ (refl) room₂ ν-9·Other·9-streams δ-9·Other·9-streams (ws-9·Other·9 .1 .0) (delivered (namedOf (sessions) (f′ .«session_id»)) f′ (lent (sessions) (streams) (objects)) (d) r′ (messageRead (readAt (d) ((Cursor-of (r′ .at)) .at))) (bodyRead (readAt (d) ((Cursor-of (r′ .at)) .at))) (endRead (readAt (d) ((Cursor-of (r′ .at)) .at)) n₅) .tables .streams) wlen-9·Other·9-1 (said-9·Other·9 .1) (λ len-9·Other·9-streams.
+        backs-mut ! tt (Array u16 35) b₂ o₂ streams n₂ (refl) room₂ ν-7·Other·9-streams δ-7·Other·9-streams (ws-7·Other·9 .1 .0) (delivered (namedOf (sessions) (f′ .«session_id»)) f′ (lent (sessions) (streams) (objects)) (d) r′ (takenOf (readAt (d) ((Cursor-of (r′ .at)) .at)) n₅) .tables .streams) wlen-7·Other·9-1 (said-7·Other·9 .1) (λ len-7·Other·9-streams.
         move ! (11 ∷ 14 ∷ 7 ∷ []) $
-        backs-mut ! tt Object-t.the-row b₃ o₃ objects n₃ (refl) room₃ ν-9·Other·9-objects δ-9·Other·9-objects (ws-9·Other·9 .1 .1 .0) (delivered (namedOf (sessions) (f′ .«session_id»)) f′ (lent (sessions) (streams) (objects)) (d) r′ (messageRead (readAt (d) ((Cursor-of (r′ .at)) .at))) (bodyRead (readAt (d) ((Cursor-of (r′ .at)) .at))) (endRead (readAt (d) ((Cursor-of (r′ .at)) .at)) n₅) .tables .objects) wlen-9·Other·9-2 (said-9·Other·9 .2) (λ len-9·Other·9-objects.
+        backs-mut ! tt Object-t.the-row b₃ o₃ objects n₃ (refl) room₃ ν-7·Other·9-objects δ-7·Other·9-objects (ws-7·Other·9 .1 .1 .0) (delivered (namedOf (sessions) (f′ .«session_id»)) f′ (lent (sessions) (streams) (objects)) (d) r′ (takenOf (readAt (d) ((Cursor-of (r′ .at)) .at)) n₅) .tables .objects) wlen-7·Other·9-2 (said-7·Other·9 .2) (λ len-7·Other·9-objects.
         move ! (11 ∷ 13 ∷ 8 ∷ []) $
-        backs-mut ! tt u8 b₄ o₄ out n₄ (refl) room₄ ν-9·Other·9-out δ-9·Other·9-out (ws-9·Other·9 .1 .1 .1 .0) (putReplies (out) (r′ .wrote) (delivered (namedOf (sessions) (f′ .«session_id»)) f′ (lent (sessions) (streams) (objects)) (d) r′ (messageRead (readAt (d) ((Cursor-of (r′ .at)) .at))) (bodyRead (readAt (d) ((Cursor-of (r′ .at)) .at))) (endRead (readAt (d) ((Cursor-of (r′ .at)) .at)) n₅) .replies)) wlen-9·Other·9-3 (said-9·Other·9 .3) (λ len-9·Other·9-out.
+        backs-mut ! tt u8 b₄ o₄ out n₄ (refl) room₄ ν-7·Other·9-out δ-7·Other·9-out (ws-7·Other·9 .1 .1 .1 .0) (putReplies (out) (r′ .wrote) (delivered (namedOf (sessions) (f′ .«session_id»)) f′ (lent (sessions) (streams) (objects)) (d) r′ (takenOf (readAt (d) ((Cursor-of (r′ .at)) .at)) n₅) .replies)) wlen-7·Other·9-3 (said-7·Other·9 .3) (λ len-7·Other·9-out.
         move ! (8 ∷ []) $ drop ! $ move ! (8 ∷ []) $ drop ! $ move ! (9 ∷ []) $ drop ! $
-        land-last ! (from ! (stop !)) (init ! 38 refl (Ran-p .typed 𝓤 H A W (delivered (namedOf (sessions) (f′ .«session_id»)) f′ (lent (sessions) (streams) (objects)) (d) r′ (messageRead (readAt (d) ((Cursor-of (r′ .at)) .at))) (bodyRead (readAt (d) ((Cursor-of (r′ .at)) .at))) (endRead (readAt (d) ((Cursor-of (r′ .at)) .at)) n₅) .ran) is-9·Other·9)) $
-        exec ! C Λ En mir.t-10 (atRet En Post) $ move ! (6 ∷ 7 ∷ 4 ∷ 5 ∷ 2 ∷ 3 ∷ 0 ∷ 1 ∷ 9 ∷ 8 ∷ 10 ∷ 11 ∷ 12 ∷ 13 ∷ 14 ∷ 15 ∷ 16 ∷ 17 ∷ 18 ∷ 19 ∷ 20 ∷ 21 ∷ 22 ∷ 23 ∷ 24 ∷ 25 ∷ 26 ∷ 27 ∷ 28 ∷ 29 ∷ 30 ∷ 31 ∷ 32 ∷ 33 ∷ 34 ∷ 35 ∷ 36 ∷ 37 ∷ 38 ∷ 39 ∷ 40 ∷ 41 ∷ 42 ∷ 43 ∷ 44 ∷ 45 ∷ 46 ∷ 47 ∷ 48 ∷ 49 ∷ 50 ∷ 51 ∷ 52 ∷ 53 ∷ 54 ∷ 55 ∷ 56 ∷ 57 ∷ 58 ∷ 59 ∷ 60 ∷ 61 ∷ 62 ∷ 63 ∷ 64 ∷ 65 ∷ 66 ∷ 67 ∷ 68 ∷ 69 ∷ 70 ∷ 71 ∷ []) $
-        part-10-3 is-2 is-4 is-5 is-6 is-7 is-8 e-9 good-9 asks-9·Other·9 len-9·Other·9-sessions len-9·Other·9-streams len-9·Other·9-objects len-9·Other·9-out is-9·Other·9))))))))))))))
+        land-last ! (from ! (stop !)) (init ! 38 refl (Ran-p .typed 𝓤 H A W (delivered (namedOf (sessions) (f′ .«session_id»)) f′ (lent (sessions) (streams) (objects)) (d) r′ (takenOf (readAt (d) ((Cursor-of (r′ .at)) .at)) n₅) .ran) is-7·Other·9)) $
+        exec ! C Λ En mir.t-8 (atRet En Post) $ move ! (6 ∷ 7 ∷ 4 ∷ 5 ∷ 2 ∷ 3 ∷ 0 ∷ 1 ∷ 9 ∷ 8 ∷ 10 ∷ 11 ∷ 12 ∷ 13 ∷ 14 ∷ 15 ∷ 16 ∷ 17 ∷ 18 ∷ 19 ∷ 20 ∷ 21 ∷ 22 ∷ 23 ∷ 24 ∷ 25 ∷ 26 ∷ 27 ∷ 28 ∷ 29 ∷ 30 ∷ 31 ∷ 32 ∷ 33 ∷ 34 ∷ 35 ∷ 36 ∷ 37 ∷ 38 ∷ 39 ∷ 40 ∷ 41 ∷ 42 ∷ 43 ∷ 44 ∷ 45 ∷ 46 ∷ 47 ∷ 48 ∷ 49 ∷ 50 ∷ 51 ∷ 52 ∷ 53 ∷ 54 ∷ 55 ∷ 56 ∷ 57 ∷ 58 ∷ 59 ∷ 60 ∷ 61 ∷ 62 ∷ 63 ∷ 64 ∷ 65 ∷ 66 ∷ 67 ∷ []) $
+        part-8-3 is-2 is-4 e-7 good-7 asks-7·Other·9 len-7·Other·9-sessions len-7·Other·9-streams len-7·Other·9-objects len-7·Other·9-out is-7·Other·9))))))))))))))
 
-    part-10-5 : (is-2 : Is (Parsed-p .row) (readAt (d) ((Cursor-of (r′ .at)) .at)) (Parsed-p .val (readAt (d) ((Cursor-of (r′ .at)) .at)) ∷ [])) → (is-4 : Is (u64-p .row) (endRead (readAt (d) ((Cursor-of (r′ .at)) .at)) n₅) (u64-p .val (endRead (readAt (d) ((Cursor-of (r′ .at)) .at)) n₅) ∷ [])) → (is-5 : Is (Submessage-p .row) (messageRead (readAt (d) ((Cursor-of (r′ .at)) .at))) (Submessage-p .val (messageRead (readAt (d) ((Cursor-of (r′ .at)) .at))) ∷ [])) → (is-6 : Is (Span-p .row) (bodyRead (readAt (d) ((Cursor-of (r′ .at)) .at))) (Span-p .val (bodyRead (readAt (d) ((Cursor-of (r′ .at)) .at))) ∷ [])) → (is-7 : Is (u32-p .row) (keyIn (messageRead (readAt (d) ((Cursor-of (r′ .at)) .at)))) (u32-p .val (keyIn (messageRead (readAt (d) ((Cursor-of (r′ .at)) .at)))) ∷ [])) → (is-8 : Is (Opening-p .row) (openingRead (readAt (d) ((Cursor-of (r′ .at)) .at))) (Opening-p .val (openingRead (readAt (d) ((Cursor-of (r′ .at)) .at))) ∷ [])) → (e-9 : openingRead (readAt (d) ((Cursor-of (r′ .at)) .at)) ≡ Opening-Unread) → (good-9 : Is (Opening-p .row) Opening-Unread (Opening-p .val Opening-Unread ∷ [])) → (is-9·Unread·1 : Is (Ran-p .row) (passed r′ (endRead (readAt (d) ((Cursor-of (r′ .at)) .at)) n₅)) (Ran-p .val (passed r′ (endRead (readAt (d) ((Cursor-of (r′ .at)) .at)) n₅)) ∷ [])) → Sq W (‵ (MutSlice (named 0) κ₁ (Array u64 5) .own (at-list b₁ o₁ γ₁ sessions) (sliceVal (b₁, o₁) n₁ ∷ [])) ∷ ‵ (flft κ₁ q₁) ∷ ‵ (MutSlice (named 0) κ₂ (Array u16 35) .own (at-list b₂ o₂ γ₂ streams) (sliceVal (b₂, o₂) n₂ ∷ [])) ∷ ‵ (flft κ₂ q₂) ∷ ‵ (MutSlice (named 0) κ₃ Object-t.the-row .own (at-list b₃ o₃ γ₃ objects) (sliceVal (b₃, o₃) n₃ ∷ [])) ∷ ‵ (flft κ₃ q₃) ∷ ‵ (MutSlice (named 0) κ₄ u8 .own (at-list b₄ o₄ γ₄ out) (sliceVal (b₄, o₄) n₄ ∷ [])) ∷ ‵ (flft κ₄ q₄) ∷ ‵ (ShrSlice (named 0) κ₅ u8 .own (at-list b₅ o₅ γ₅ d) (sliceVal (b₅, o₅) n₅ ∷ [])) ∷ ‵ (flft κ₅ q₅) ∷ free 𝓤 (sliceTy (tyRef erased mut (pointee (u8 .written)))) l₃₀ (free 𝓤 (tyRef erased mut (pointee (u8 .written))) l₂₉ (free 𝓤 (sliceTy (tyRef erased mut (pointee (Object-t.the-row .written)))) l₂₈ (free 𝓤 (tyRef erased mut (pointee (Object-t.the-row .written))) l₂₇ (free 𝓤 (sliceTy (tyRef erased mut (pointee ((Array u16 35) .written)))) l₂₆ (free 𝓤 (tyRef erased mut (pointee ((Array u16 35) .written))) l₂₅ (free 𝓤 (sliceTy (tyRef erased mut (pointee ((Array u64 5) .written)))) l₂₄ (free 𝓤 (tyRef erased mut (pointee ((Array u64 5) .written))) l₂₃ (free 𝓤 (sliceTy (tyRef erased mut (pointee (u8 .written)))) l₂₂ (free 𝓤 (tyRef erased mut (pointee (u8 .written))) l₂₁ (free 𝓤 (sliceTy (tyRef erased mut (pointee ((Array u16 35) .written)))) l₂₀ (free 𝓤 (tyRef erased mut (pointee ((Array u16 35) .written))) l₁₉ (free 𝓤 (sliceTy (tyRef erased mut (pointee ((Array u64 5) .written)))) l₁₈ (free 𝓤 (tyRef erased mut (pointee ((Array u64 5) .written))) l₁₇ (full 𝓤 Ran-l.mir l₁₆ (Ran-p .val (passed r′ (endRead (readAt (d) ((Cursor-of (r′ .at)) .at)) n₅))) (full 𝓤 (tyInt w64) l₁₅ (u64-p .val n₅) (full 𝓤 Opening-l.mir l₁₄ (Opening-p .val Opening-Unread) (full 𝓤 (tyInt w32) l₁₃ (u32-p .val (keyIn (messageRead (readAt (d) ((Cursor-of (r′ .at)) .at))))) (full 𝓤 Span-l.mir l₁₂ (Span-p .val (bodyRead (readAt (d) ((Cursor-of (r′ .at)) .at)))) (full 𝓤 Submessage-l.mir l₁₁ (Submessage-p .val (messageRead (readAt (d) ((Cursor-of (r′ .at)) .at)))) (full 𝓤 (tyInt w64) l₁₀ (u64-p .val (endRead (readAt (d) ((Cursor-of (r′ .at)) .at)) n₅)) (full 𝓤 Parsed-l.mir l₉ (Parsed-p .val (readAt (d) ((Cursor-of (r′ .at)) .at))) (full 𝓤 Cursor-l.mir l₈ (Cursor-p .val (Cursor-of (r′ .at))) (full 𝓤 Ran-l.mir l₇ (Ran-p .val r′) (full 𝓤 Frame-l.mir l₆ (Frame-p .val f′) (full 𝓤 (sliceTy (tyRef (named 4) imm (pointee (u8 .written)))) l₅ (sliceVal (b₅, o₅) n₅) (full 𝓤 (sliceTy (tyRef (named 3) mut (pointee (u8 .written)))) l₄ (sliceVal (b₄, o₄) n₄) (full 𝓤 (sliceTy (tyRef (named 2) mut (pointee (Object-t.the-row .written)))) l₃ (sliceVal (b₃, o₃) n₃) (full 𝓤 (sliceTy (tyRef (named 1) mut (pointee ((Array u16 35) .written)))) l₂ (sliceVal (b₂, o₂) n₂) (full 𝓤 (sliceTy (tyRef (named 0) mut (pointee ((Array u64 5) .written)))) l₁ (sliceVal (b₁, o₁) n₁) (free 𝓤 Ran-l.mir l₀ ([])))))))))))))))))))))))))))))))) (runs C Λ En mir.t-10 (atRet En Post))
-    part-10-5 is-2 is-4 is-5 is-6 is-7 is-8 e-9 good-9 is-9·Unread·1 =
-        assigns ! (of-opd ! (load ! (from ! (stop !)) (look ! 38 refl))) (from ! (stop !)) (init ! 70 refl (Ran-p .typed 𝓤 H A W (passed r′ (endRead (readAt (d) ((Cursor-of (r′ .at)) .at)) n₅)) is-9·Unread·1)) $
-        returns ! (look ! 70 refl) $ forget ! 38 refl $ forget ! 40 refl $ forget ! 42 refl $ forget ! 44 refl $ forget ! 46 refl $ forget ! 48 refl $ forget ! 50 refl $ forget ! 52 refl $ forget ! 54 refl $
-        frees-all (passed r′ (endRead (readAt (d) ((Cursor-of (r′ .at)) .at)) n₅)) sessions streams objects out (exits (passed r′ (endRead (readAt (d) ((Cursor-of (r′ .at)) .at)) n₅)) sessions streams objects out (as-left out _ (r′ .wrote) (left Opening-Unread) leaves (ap left (sym e-9) ∙ left-is) (no-replies out (r′ .wrote))) is-9·Unread·1 refl refl refl refl)
+    part-8-5 : (is-2 : Is (Parsed-p .row) (readAt (d) ((Cursor-of (r′ .at)) .at)) (Parsed-p .val (readAt (d) ((Cursor-of (r′ .at)) .at)) ∷ [])) → (is-4 : Is (Taken-p .row) (takenOf (readAt (d) ((Cursor-of (r′ .at)) .at)) n₅) (Taken-p .val (takenOf (readAt (d) ((Cursor-of (r′ .at)) .at)) n₅) ∷ [])) → (e-7 : ((takenOf (readAt (d) ((Cursor-of (r′ .at)) .at)) n₅) .asked) .opening ≡ Opening-Unread) → (good-7 : Is (Opening-p .row) Opening-Unread (Opening-p .val Opening-Unread ∷ [])) → (is-7·Unread·1 : Is (Ran-p .row) (passed r′ ((takenOf (readAt (d) ((Cursor-of (r′ .at)) .at)) n₅) .at)) (Ran-p .val (passed r′ ((takenOf (readAt (d) ((Cursor-of (r′ .at)) .at)) n₅) .at)) ∷ [])) → Sq W (‵ (MutSlice (named 0) κ₁ (Array u64 5) .own (at-list b₁ o₁ γ₁ sessions) (sliceVal (b₁, o₁) n₁ ∷ [])) ∷ ‵ (flft κ₁ q₁) ∷ ‵ (MutSlice (named 0) κ₂ (Array u16 35) .own (at-list b₂ o₂ γ₂ streams) (sliceVal (b₂, o₂) n₂ ∷ [])) ∷ ‵ (flft κ₂ q₂) ∷ ‵ (MutSlice (named 0) κ₃ Object-t.the-row .own (at-list b₃ o₃ γ₃ objects) (sliceVal (b₃, o₃) n₃ ∷ [])) ∷ ‵ (flft κ₃ q₃) ∷ ‵ (MutSlice (named 0) κ₄ u8 .own (at-list b₄ o₄ γ₄ out) (sliceVal (b₄, o₄) n₄ ∷ [])) ∷ ‵ (flft κ₄ q₄) ∷ ‵ (ShrSlice (named 0) κ₅ u8 .own (at-list b₅ o₅ γ₅ d) (sliceVal (b₅, o₅) n₅ ∷ [])) ∷ ‵ (flft κ₅ q₅) ∷ free 𝓤 (sliceTy (tyRef erased mut (pointee (u8 .written)))) l₂₈ (free 𝓤 (tyRef erased mut (pointee (u8 .written))) l₂₇ (free 𝓤 (sliceTy (tyRef erased mut (pointee (Object-t.the-row .written)))) l₂₆ (free 𝓤 (tyRef erased mut (pointee (Object-t.the-row .written))) l₂₅ (free 𝓤 (sliceTy (tyRef erased mut (pointee ((Array u16 35) .written)))) l₂₄ (free 𝓤 (tyRef erased mut (pointee ((Array u16 35) .written))) l₂₃ (free 𝓤 (sliceTy (tyRef erased mut (pointee ((Array u64 5) .written)))) l₂₂ (free 𝓤 (tyRef erased mut (pointee ((Array u64 5) .written))) l₂₁ (free 𝓤 (sliceTy (tyRef erased mut (pointee (u8 .written)))) l₂₀ (free 𝓤 (tyRef erased mut (pointee (u8 .written))) l₁₉ (free 𝓤 (sliceTy (tyRef erased mut (pointee ((Array u16 35) .written)))) l₁₈ (free 𝓤 (tyRef erased mut (pointee ((Array u16 35) .written))) l₁₇ (free 𝓤 (sliceTy (tyRef erased mut (pointee ((Array u64 5) .written)))) l₁₆ (free 𝓤 (tyRef erased mut (pointee ((Array u64 5) .written))) l₁₅ (full 𝓤 Ran-l.mir l₁₄ (Ran-p .val (passed r′ ((takenOf (readAt (d) ((Cursor-of (r′ .at)) .at)) n₅) .at))) (full 𝓤 (tyInt w64) l₁₃ (u64-p .val n₅) (full 𝓤 Opening-l.mir l₁₂ (Opening-p .val Opening-Unread) (full 𝓤 Asked-l.mir l₁₁ (Asked-p .val ((takenOf (readAt (d) ((Cursor-of (r′ .at)) .at)) n₅) .asked)) (full 𝓤 Taken-l.mir l₁₀ (Taken-p .val (takenOf (readAt (d) ((Cursor-of (r′ .at)) .at)) n₅)) (full 𝓤 Parsed-l.mir l₉ (Parsed-p .val (readAt (d) ((Cursor-of (r′ .at)) .at))) (full 𝓤 Cursor-l.mir l₈ (Cursor-p .val (Cursor-of (r′ .at))) (full 𝓤 Ran-l.mir l₇ (Ran-p .val r′) (full 𝓤 Frame-l.mir l₆ (Frame-p .val f′) (full 𝓤 (sliceTy (tyRef (named 4) imm (pointee (u8 .written)))) l₅ (sliceVal (b₅, o₅) n₅) (full 𝓤 (sliceTy (tyRef (named 3) mut (pointee (u8 .written)))) l₄ (sliceVal (b₄, o₄) n₄) (full 𝓤 (sliceTy (tyRef (named 2) mut (pointee (Object-t.the-row .written)))) l₃ (sliceVal (b₃, o₃) n₃) (full 𝓤 (sliceTy (tyRef (named 1) mut (pointee ((Array u16 35) .written)))) l₂ (sliceVal (b₂, o₂) n₂) (full 𝓤 (sliceTy (tyRef (named 0) mut (pointee ((Array u64 5) .written)))) l₁ (sliceVal (b₁, o₁) n₁) (free 𝓤 Ran-l.mir l₀ ([])))))))))))))))))))))))))))))) (runs C Λ En mir.t-8 (atRet En Post))
+    part-8-5 is-2 is-4 e-7 good-7 is-7·Unread·1 =
+        assigns ! (of-opd ! (load ! (from ! (stop !)) (look ! 38 refl))) (from ! (stop !)) (init ! 66 refl (Ran-p .typed 𝓤 H A W (passed r′ ((takenOf (readAt (d) ((Cursor-of (r′ .at)) .at)) n₅) .at)) is-7·Unread·1)) $
+        returns ! (look ! 66 refl) $ forget ! 38 refl $ forget ! 40 refl $ forget ! 42 refl $ forget ! 44 refl $ forget ! 46 refl $ forget ! 48 refl $ forget ! 50 refl $
+        frees-all (passed r′ ((takenOf (readAt (d) ((Cursor-of (r′ .at)) .at)) n₅) .at)) sessions streams objects out (exits (passed r′ ((takenOf (readAt (d) ((Cursor-of (r′ .at)) .at)) n₅) .at)) sessions streams objects out (as-left out _ (r′ .wrote) (left Opening-Unread) leaves (ap left (sym e-7) ∙ left-is) (no-replies out (r′ .wrote))) is-7·Unread·1 refl refl refl refl)
 
-    matched-9-Unread-5 : (is-2 : Is (Parsed-p .row) (readAt (d) ((Cursor-of (r′ .at)) .at)) (Parsed-p .val (readAt (d) ((Cursor-of (r′ .at)) .at)) ∷ [])) → (is-4 : Is (u64-p .row) (endRead (readAt (d) ((Cursor-of (r′ .at)) .at)) n₅) (u64-p .val (endRead (readAt (d) ((Cursor-of (r′ .at)) .at)) n₅) ∷ [])) → (is-5 : Is (Submessage-p .row) (messageRead (readAt (d) ((Cursor-of (r′ .at)) .at))) (Submessage-p .val (messageRead (readAt (d) ((Cursor-of (r′ .at)) .at))) ∷ [])) → (is-6 : Is (Span-p .row) (bodyRead (readAt (d) ((Cursor-of (r′ .at)) .at))) (Span-p .val (bodyRead (readAt (d) ((Cursor-of (r′ .at)) .at))) ∷ [])) → (is-7 : Is (u32-p .row) (keyIn (messageRead (readAt (d) ((Cursor-of (r′ .at)) .at)))) (u32-p .val (keyIn (messageRead (readAt (d) ((Cursor-of (r′ .at)) .at)))) ∷ [])) → (is-8 : Is (Opening-p .row) (openingRead (readAt (d) ((Cursor-of (r′ .at)) .at))) (Opening-p .val (openingRead (readAt (d) ((Cursor-of (r′ .at)) .at))) ∷ [])) → (e-9 : openingRead (readAt (d) ((Cursor-of (r′ .at)) .at)) ≡ Opening-Unread) → (good-9 : Is (Opening-p .row) Opening-Unread (Opening-p .val Opening-Unread ∷ [])) → Sq W (‵ (MutSlice (named 0) κ₁ (Array u64 5) .own (at-list b₁ o₁ γ₁ sessions) (sliceVal (b₁, o₁) n₁ ∷ [])) ∷ ‵ (flft κ₁ q₁) ∷ ‵ (MutSlice (named 0) κ₂ (Array u16 35) .own (at-list b₂ o₂ γ₂ streams) (sliceVal (b₂, o₂) n₂ ∷ [])) ∷ ‵ (flft κ₂ q₂) ∷ ‵ (MutSlice (named 0) κ₃ Object-t.the-row .own (at-list b₃ o₃ γ₃ objects) (sliceVal (b₃, o₃) n₃ ∷ [])) ∷ ‵ (flft κ₃ q₃) ∷ ‵ (MutSlice (named 0) κ₄ u8 .own (at-list b₄ o₄ γ₄ out) (sliceVal (b₄, o₄) n₄ ∷ [])) ∷ ‵ (flft κ₄ q₄) ∷ ‵ (ShrSlice (named 0) κ₅ u8 .own (at-list b₅ o₅ γ₅ d) (sliceVal (b₅, o₅) n₅ ∷ [])) ∷ ‵ (flft κ₅ q₅) ∷ free 𝓤 (sliceTy (tyRef erased mut (pointee (u8 .written)))) l₃₀ (free 𝓤 (tyRef erased mut (pointee (u8 .written))) l₂₉ (free 𝓤 (sliceTy (tyRef erased mut (pointee (Object-t.the-row .written)))) l₂₈ (free 𝓤 (tyRef erased mut (pointee (Object-t.the-row .written))) l₂₇ (free 𝓤 (sliceTy (tyRef erased mut (pointee ((Array u16 35) .written)))) l₂₆ (free 𝓤 (tyRef erased mut (pointee ((Array u16 35) .written))) l₂₅ (free 𝓤 (sliceTy (tyRef erased mut (pointee ((Array u64 5) .written)))) l₂₄ (free 𝓤 (tyRef erased mut (pointee ((Array u64 5) .written))) l₂₃ (free 𝓤 (sliceTy (tyRef erased mut (pointee (u8 .written)))) l₂₂ (free 𝓤 (tyRef erased mut (pointee (u8 .written))) l₂₁ (free 𝓤 (sliceTy (tyRef erased mut (pointee ((Array u16 35) .written)))) l₂₀ (free 𝓤 (tyRef erased mut (pointee ((Array u16 35) .written))) l₁₉ (free 𝓤 (sliceTy (tyRef erased mut (pointee ((Array u64 5) .written)))) l₁₈ (free 𝓤 (tyRef erased mut (pointee ((Array u64 5) .written))) l₁₇ (free 𝓤 Ran-l.mir l₁₆ (full 𝓤 (tyInt w64) l₁₅ (u64-p .val n₅) (full 𝓤 Opening-l.mir l₁₄ (Opening-p .val Opening-Unread) (full 𝓤 (tyInt w32) l₁₃ (u32-p .val (keyIn (messageRead (readAt (d) ((Cursor-of (r′ .at)) .at))))) (full 𝓤 Span-l.mir l₁₂ (Span-p .val (bodyRead (readAt (d) ((Cursor-of (r′ .at)) .at)))) (full 𝓤 Submessage-l.mir l₁₁ (Submessage-p .val (messageRead (readAt (d) ((Cursor-of (r′ .at)) .at)))) (full 𝓤 (tyInt w64) l₁₀ (u64-p .val (endRead (readAt (d) ((Cursor-of (r′ .at)) .at)) n₅)) (full 𝓤 Parsed-l.mir l₉ (Parsed-p .val (readAt (d) ((Cursor-of (r′ .at)) .at))) (full 𝓤 Cursor-l.mir l₈ (Cursor-p .val (Cursor-of (r′ .at))) (full 𝓤 Ran-l.mir l₇ (Ran-p .val r′) (full 𝓤 Frame-l.mir l₆ (Frame-p .val f′) (full 𝓤 (sliceTy (tyRef (named 4) imm (pointee (u8 .written)))) l₅ (sliceVal (b₅, o₅) n₅) (full 𝓤 (sliceTy (tyRef (named 3) mut (pointee (u8 .written)))) l₄ (sliceVal (b₄, o₄) n₄) (full 𝓤 (sliceTy (tyRef (named 2) mut (pointee (Object-t.the-row .written)))) l₃ (sliceVal (b₃, o₃) n₃) (full 𝓤 (sliceTy (tyRef (named 1) mut (pointee ((Array u16 35) .written)))) l₂ (sliceVal (b₂, o₂) n₂) (full 𝓤 (sliceTy (tyRef (named 0) mut (pointee ((Array u64 5) .written)))) l₁ (sliceVal (b₁, o₁) n₁) (free 𝓤 Ran-l.mir l₀ ([])))))))))))))))))))))))))))))))) (runs C Λ En (one mir.t-9) (anyQ (afterSeq 𝓤 H (Wp 𝓤 H C Λ En mir.t-10 (atReturn 𝓤 H En Post)) (atReturn 𝓤 H En Post))))
-    matched-9-Unread-5 is-2 is-4 is-5 is-6 is-7 is-8 e-9 good-9 =
-        switches-on ! (load ! (from ! (vrt ! refl (fld ! refl (stop !)))) (look-tag ! 42 (whole !))) $ exec ! C Λ En (arm-of 2 (one mir.t-9)) (anyQ (afterSeq 𝓤 H (Wp 𝓤 H C Λ En mir.t-10 (atReturn 𝓤 H En Post)) (atReturn 𝓤 H En Post))) $
-        -- 9.Unread.1: agent::turn::passed
+    matched-7-Unread-5 : (is-2 : Is (Parsed-p .row) (readAt (d) ((Cursor-of (r′ .at)) .at)) (Parsed-p .val (readAt (d) ((Cursor-of (r′ .at)) .at)) ∷ [])) → (is-4 : Is (Taken-p .row) (takenOf (readAt (d) ((Cursor-of (r′ .at)) .at)) n₅) (Taken-p .val (takenOf (readAt (d) ((Cursor-of (r′ .at)) .at)) n₅) ∷ [])) → (e-7 : ((takenOf (readAt (d) ((Cursor-of (r′ .at)) .at)) n₅) .asked) .opening ≡ Opening-Unread) → (good-7 : Is (Opening-p .row) Opening-Unread (Opening-p .val Opening-Unread ∷ [])) → Sq W (‵ (MutSlice (named 0) κ₁ (Array u64 5) .own (at-list b₁ o₁ γ₁ sessions) (sliceVal (b₁, o₁) n₁ ∷ [])) ∷ ‵ (flft κ₁ q₁) ∷ ‵ (MutSlice (named 0) κ₂ (Array u16 35) .own (at-list b₂ o₂ γ₂ streams) (sliceVal (b₂, o₂) n₂ ∷ [])) ∷ ‵ (flft κ₂ q₂) ∷ ‵ (MutSlice (named 0) κ₃ Object-t.the-row .own (at-list b₃ o₃ γ₃ objects) (sliceVal (b₃, o₃) n₃ ∷ [])) ∷ ‵ (flft κ₃ q₃) ∷ ‵ (MutSlice (named 0) κ₄ u8 .own (at-list b₄ o₄ γ₄ out) (sliceVal (b₄, o₄) n₄ ∷ [])) ∷ ‵ (flft κ₄ q₄) ∷ ‵ (ShrSlice (named 0) κ₅ u8 .own (at-list b₅ o₅ γ₅ d) (sliceVal (b₅, o₅) n₅ ∷ [])) ∷ ‵ (flft κ₅ q₅) ∷ free 𝓤 (sliceTy (tyRef erased mut (pointee (u8 .written)))) l₂₈ (free 𝓤 (tyRef erased mut (pointee (u8 .written))) l₂₇ (free 𝓤 (sliceTy (tyRef erased mut (pointee (Object-t.the-row .written)))) l₂₆ (free 𝓤 (tyRef erased mut (pointee (Object-t.the-row .written))) l₂₅ (free 𝓤 (sliceTy (tyRef erased mut (pointee ((Array u16 35) .written)))) l₂₄ (free 𝓤 (tyRef erased mut (pointee ((Array u16 35) .written))) l₂₃ (free 𝓤 (sliceTy (tyRef erased mut (pointee ((Array u64 5) .written)))) l₂₂ (free 𝓤 (tyRef erased mut (pointee ((Array u64 5) .written))) l₂₁ (free 𝓤 (sliceTy (tyRef erased mut (pointee (u8 .written)))) l₂₀ (free 𝓤 (tyRef erased mut (pointee (u8 .written))) l₁₉ (free 𝓤 (sliceTy (tyRef erased mut (pointee ((Array u16 35) .written)))) l₁₈ (free 𝓤 (tyRef erased mut (pointee ((Array u16 35) .written))) l₁₇ (free 𝓤 (sliceTy (tyRef erased mut (pointee ((Array u64 5) .written)))) l₁₆ (free 𝓤 (tyRef erased mut (pointee ((Array u64 5) .written))) l₁₅ (free 𝓤 Ran-l.mir l₁₄ (full 𝓤 (tyInt w64) l₁₃ (u64-p .val n₅) (full 𝓤 Opening-l.mir l₁₂ (Opening-p .val Opening-Unread) (full 𝓤 Asked-l.mir l₁₁ (Asked-p .val ((takenOf (readAt (d) ((Cursor-of (r′ .at)) .at)) n₅) .asked)) (full 𝓤 Taken-l.mir l₁₀ (Taken-p .val (takenOf (readAt (d) ((Cursor-of (r′ .at)) .at)) n₅)) (full 𝓤 Parsed-l.mir l₉ (Parsed-p .val (readAt (d) ((Cursor-of (r′ .at)) .at))) (full 𝓤 Cursor-l.mir l₈ (Cursor-p .val (Cursor-of (r′ .at))) (full 𝓤 Ran-l.mir l₇ (Ran-p .val r′) (full 𝓤 Frame-l.mir l₆ (Frame-p .val f′) (full 𝓤 (sliceTy (tyRef (named 4) imm (pointee (u8 .written)))) l₅ (sliceVal (b₅, o₅) n₅) (full 𝓤 (sliceTy (tyRef (named 3) mut (pointee (u8 .written)))) l₄ (sliceVal (b₄, o₄) n₄) (full 𝓤 (sliceTy (tyRef (named 2) mut (pointee (Object-t.the-row .written)))) l₃ (sliceVal (b₃, o₃) n₃) (full 𝓤 (sliceTy (tyRef (named 1) mut (pointee ((Array u16 35) .written)))) l₂ (sliceVal (b₂, o₂) n₂) (full 𝓤 (sliceTy (tyRef (named 0) mut (pointee ((Array u64 5) .written)))) l₁ (sliceVal (b₁, o₁) n₁) (free 𝓤 Ran-l.mir l₀ ([])))))))))))))))))))))))))))))) (runs C Λ En (one mir.t-7) (anyQ (afterSeq 𝓤 H (Wp 𝓤 H C Λ En mir.t-8 (atReturn 𝓤 H En Post)) (atReturn 𝓤 H En Post))))
+    matched-7-Unread-5 is-2 is-4 e-7 good-7 =
+        switches-on ! (load ! (from ! (vrt ! refl (fld ! refl (stop !)))) (look-tag ! 42 (whole !))) $ exec ! C Λ En (arm-of 2 (one mir.t-7)) (anyQ (afterSeq 𝓤 H (Wp 𝓤 H C Λ En mir.t-8 (atReturn 𝓤 H En Post)) (atReturn 𝓤 H En Post))) $
+        -- 7.Unread.1: agent::turn::passed
         nothing ! $
         use1 W (raw (toks 𝓤 A 0 (tt) (tt))) (id⊢ 𝓤 _) $ nothing ! $
-        owned ! (u64-p .row) (Is (u64-p .row)) (u64-p .makes 𝓤 H A W) (endRead (readAt (d) ((Cursor-of (r′ .at)) .at)) n₅) (u64-p .val (endRead (readAt (d) ((Cursor-of (r′ .at)) .at)) n₅) ∷ []) is-4 $ fjoin ! $
+        owned ! (u64-p .row) (Is (u64-p .row)) (u64-p .makes 𝓤 H A W) ((takenOf (readAt (d) ((Cursor-of (r′ .at)) .at)) n₅) .at) (u64-p .val ((takenOf (readAt (d) ((Cursor-of (r′ .at)) .at)) n₅) .at) ∷ []) (LL.owed Taken-t.the-type Taken-l.the-laws (takenOf (readAt (d) ((Cursor-of (r′ .at)) .at)) n₅) _ is-4 .1 .1 .0) $ fjoin ! $
         owned ! (Ran-p .row) (Is (Ran-p .row)) (Ran-p .makes 𝓤 H A W) r′ (Ran-p .val r′ ∷ []) r′-is $ fjoin ! $ move ! (1 ∷ 0 ∷ []) $
-        calls-any-last ! fm 0 [] (turn-passed.signature .params) (turn-passed.ended .kept) Ran-p (turn-passed.clauses 𝓤 H A mem run) known-turn-passed tt tt tt (r′, (endRead (readAt (d) ((Cursor-of (r′ .at)) .at)) n₅, tt)) (Ran-p .val r′ ∷ [], (u64-p .val (endRead (readAt (d) ((Cursor-of (r′ .at)) .at)) n₅) ∷ [], tt)) tt (passed r′ (endRead (readAt (d) ((Cursor-of (r′ .at)) .at)) n₅)) (λ ws-9·Unread·1. Unit {0}) (id⊢ 𝓤 _) (λ r ws-9·Unread·1. fact-mono 𝓤 (r ≡ passed r′ (endRead (readAt (d) ((Cursor-of (r′ .at)) .at)) n₅)) ((r ≡ (passed r′ (endRead (readAt (d) ((Cursor-of (r′ .at)) .at)) n₅))) × (Unit {0})) (λ e. (e, tt))) (λ _. (and-then ! (load ! (from ! (stop !)) (look ! 57 refl)) (and-then ! (load ! (from ! (stop !)) (look ! 51 refl)) (no-more !)))) (λ ws-9·Unread·1 said-9·Unread·1 is-9·Unread·1.
+        calls-any-last ! fm 0 [] (turn-passed.signature .params) (turn-passed.ended .kept) Ran-p (turn-passed.clauses 𝓤 H A mem run) known-turn-passed tt tt tt (r′, ((takenOf (readAt (d) ((Cursor-of (r′ .at)) .at)) n₅) .at, tt)) (Ran-p .val r′ ∷ [], (u64-p .val ((takenOf (readAt (d) ((Cursor-of (r′ .at)) .at)) n₅) .at) ∷ [], tt)) tt (passed r′ ((takenOf (readAt (d) ((Cursor-of (r′ .at)) .at)) n₅) .at)) (λ ws-7·Unread·1. Unit {0}) (id⊢ 𝓤 _) (λ r ws-7·Unread·1. fact-mono 𝓤 (r ≡ passed r′ ((takenOf (readAt (d) ((Cursor-of (r′ .at)) .at)) n₅) .at)) ((r ≡ (passed r′ ((takenOf (readAt (d) ((Cursor-of (r′ .at)) .at)) n₅) .at))) × (Unit {0})) (λ e. (e, tt))) (λ _. (and-then ! (load ! (from ! (stop !)) (look ! 53 refl)) (and-then ! (load ! (from ! (fld ! refl (stop !))) (look-in ! 47 (sub ! 2 refl (whole !)))) (no-more !)))) (λ ws-7·Unread·1 said-7·Unread·1 is-7·Unread·1.
         drop ! $ drop ! $
-        land-last ! (from ! (stop !)) (init ! 38 refl (Ran-p .typed 𝓤 H A W (passed r′ (endRead (readAt (d) ((Cursor-of (r′ .at)) .at)) n₅)) is-9·Unread·1)) $
-        exec ! C Λ En mir.t-10 (atRet En Post) $
-        part-10-5 is-2 is-4 is-5 is-6 is-7 is-8 e-9 good-9 is-9·Unread·1)
+        land-last ! (from ! (stop !)) (init ! 38 refl (Ran-p .typed 𝓤 H A W (passed r′ ((takenOf (readAt (d) ((Cursor-of (r′ .at)) .at)) n₅) .at)) is-7·Unread·1)) $
+        exec ! C Λ En mir.t-8 (atRet En Post) $
+        part-8-5 is-2 is-4 e-7 good-7 is-7·Unread·1)
 
-    matched-9-0 : (is-2 : Is (Parsed-p .row) (readAt (d) ((Cursor-of (r′ .at)) .at)) (Parsed-p .val (readAt (d) ((Cursor-of (r′ .at)) .at)) ∷ [])) → (is-4 : Is (u64-p .row) (endRead (readAt (d) ((Cursor-of (r′ .at)) .at)) n₅) (u64-p .val (endRead (readAt (d) ((Cursor-of (r′ .at)) .at)) n₅) ∷ [])) → (is-5 : Is (Submessage-p .row) (messageRead (readAt (d) ((Cursor-of (r′ .at)) .at))) (Submessage-p .val (messageRead (readAt (d) ((Cursor-of (r′ .at)) .at))) ∷ [])) → (is-6 : Is (Span-p .row) (bodyRead (readAt (d) ((Cursor-of (r′ .at)) .at))) (Span-p .val (bodyRead (readAt (d) ((Cursor-of (r′ .at)) .at))) ∷ [])) → (is-7 : Is (u32-p .row) (keyIn (messageRead (readAt (d) ((Cursor-of (r′ .at)) .at)))) (u32-p .val (keyIn (messageRead (readAt (d) ((Cursor-of (r′ .at)) .at)))) ∷ [])) → (is-8 : Is (Opening-p .row) (openingRead (readAt (d) ((Cursor-of (r′ .at)) .at))) (Opening-p .val (openingRead (readAt (d) ((Cursor-of (r′ .at)) .at))) ∷ [])) → (z : Opening) → (openingRead (readAt (d) ((Cursor-of (r′ .at)) .at))) ≡ z → Is (Opening-p .row) z (Opening-p .val z ∷ []) → Sq W (‵ (MutSlice (named 0) κ₁ (Array u64 5) .own (at-list b₁ o₁ γ₁ sessions) (sliceVal (b₁, o₁) n₁ ∷ [])) ∷ ‵ (flft κ₁ q₁) ∷ ‵ (MutSlice (named 0) κ₂ (Array u16 35) .own (at-list b₂ o₂ γ₂ streams) (sliceVal (b₂, o₂) n₂ ∷ [])) ∷ ‵ (flft κ₂ q₂) ∷ ‵ (MutSlice (named 0) κ₃ Object-t.the-row .own (at-list b₃ o₃ γ₃ objects) (sliceVal (b₃, o₃) n₃ ∷ [])) ∷ ‵ (flft κ₃ q₃) ∷ ‵ (MutSlice (named 0) κ₄ u8 .own (at-list b₄ o₄ γ₄ out) (sliceVal (b₄, o₄) n₄ ∷ [])) ∷ ‵ (flft κ₄ q₄) ∷ ‵ (ShrSlice (named 0) κ₅ u8 .own (at-list b₅ o₅ γ₅ d) (sliceVal (b₅, o₅) n₅ ∷ [])) ∷ ‵ (flft κ₅ q₅) ∷ free 𝓤 (sliceTy (tyRef erased mut (pointee (u8 .written)))) l₃₀ (free 𝓤 (tyRef erased mut (pointee (u8 .written))) l₂₉ (free 𝓤 (sliceTy (tyRef erased mut (pointee (Object-t.the-row .written)))) l₂₈ (free 𝓤 (tyRef erased mut (pointee (Object-t.the-row .written))) l₂₇ (free 𝓤 (sliceTy (tyRef erased mut (pointee ((Array u16 35) .written)))) l₂₆ (free 𝓤 (tyRef erased mut (pointee ((Array u16 35) .written))) l₂₅ (free 𝓤 (sliceTy (tyRef erased mut (pointee ((Array u64 5) .written)))) l₂₄ (free 𝓤 (tyRef erased mut (pointee ((Array u64 5) .written))) l₂₃ (free 𝓤 (sliceTy (tyRef erased mut (pointee (u8 .written)))) l₂₂ (free 𝓤 (tyRef erased mut (pointee (u8 .written))) l₂₁ (free 𝓤 (sliceTy (tyRef erased mut (pointee ((Array u16 35) .written)))) l₂₀ (free 𝓤 (tyRef erased mut (pointee ((Array u16 35) .written))) l₁₉ (free 𝓤 (sliceTy (tyRef erased mut (pointee ((Array u64 5) .written)))) l₁₈ (free 𝓤 (tyRef erased mut (pointee ((Array u64 5) .written))) l₁₇ (free 𝓤 Ran-l.mir l₁₆ (full 𝓤 (tyInt w64) l₁₅ (u64-p .val n₅) (full 𝓤 Opening-l.mir l₁₄ (Opening-p .val z) (full 𝓤 (tyInt w32) l₁₃ (u32-p .val (keyIn (messageRead (readAt (d) ((Cursor-of (r′ .at)) .at))))) (full 𝓤 Span-l.mir l₁₂ (Span-p .val (bodyRead (readAt (d) ((Cursor-of (r′ .at)) .at)))) (full 𝓤 Submessage-l.mir l₁₁ (Submessage-p .val (messageRead (readAt (d) ((Cursor-of (r′ .at)) .at)))) (full 𝓤 (tyInt w64) l₁₀ (u64-p .val (endRead (readAt (d) ((Cursor-of (r′ .at)) .at)) n₅)) (full 𝓤 Parsed-l.mir l₉ (Parsed-p .val (readAt (d) ((Cursor-of (r′ .at)) .at))) (full 𝓤 Cursor-l.mir l₈ (Cursor-p .val (Cursor-of (r′ .at))) (full 𝓤 Ran-l.mir l₇ (Ran-p .val r′) (full 𝓤 Frame-l.mir l₆ (Frame-p .val f′) (full 𝓤 (sliceTy (tyRef (named 4) imm (pointee (u8 .written)))) l₅ (sliceVal (b₅, o₅) n₅) (full 𝓤 (sliceTy (tyRef (named 3) mut (pointee (u8 .written)))) l₄ (sliceVal (b₄, o₄) n₄) (full 𝓤 (sliceTy (tyRef (named 2) mut (pointee (Object-t.the-row .written)))) l₃ (sliceVal (b₃, o₃) n₃) (full 𝓤 (sliceTy (tyRef (named 1) mut (pointee ((Array u16 35) .written)))) l₂ (sliceVal (b₂, o₂) n₂) (full 𝓤 (sliceTy (tyRef (named 0) mut (pointee ((Array u64 5) .written)))) l₁ (sliceVal (b₁, o₁) n₁) (free 𝓤 Ran-l.mir l₀ ([])))))))))))))))))))))))))))))))) (runs C Λ En (one mir.t-9) (anyQ (afterSeq 𝓤 H (Wp 𝓤 H C Λ En mir.t-10 (atReturn 𝓤 H En Post)) (atReturn 𝓤 H En Post))))
-    matched-9-0 is-2 is-4 is-5 is-6 is-7 is-8 (Opening-Client) e-9 good-9 =
-        matched-9-Client-0 is-2 is-4 is-5 is-6 is-7 is-8 e-9 good-9
-    matched-9-0 is-2 is-4 is-5 is-6 is-7 is-8 (Opening-Other) e-9 good-9 =
-        matched-9-Other-3 is-2 is-4 is-5 is-6 is-7 is-8 e-9 good-9
-    matched-9-0 is-2 is-4 is-5 is-6 is-7 is-8 (Opening-Unread) e-9 good-9 =
-        matched-9-Unread-5 is-2 is-4 is-5 is-6 is-7 is-8 e-9 good-9
+    matched-7-0 : (is-2 : Is (Parsed-p .row) (readAt (d) ((Cursor-of (r′ .at)) .at)) (Parsed-p .val (readAt (d) ((Cursor-of (r′ .at)) .at)) ∷ [])) → (is-4 : Is (Taken-p .row) (takenOf (readAt (d) ((Cursor-of (r′ .at)) .at)) n₅) (Taken-p .val (takenOf (readAt (d) ((Cursor-of (r′ .at)) .at)) n₅) ∷ [])) → (z : Opening) → (((takenOf (readAt (d) ((Cursor-of (r′ .at)) .at)) n₅) .asked) .opening) ≡ z → Is (Opening-p .row) z (Opening-p .val z ∷ []) → Sq W (‵ (MutSlice (named 0) κ₁ (Array u64 5) .own (at-list b₁ o₁ γ₁ sessions) (sliceVal (b₁, o₁) n₁ ∷ [])) ∷ ‵ (flft κ₁ q₁) ∷ ‵ (MutSlice (named 0) κ₂ (Array u16 35) .own (at-list b₂ o₂ γ₂ streams) (sliceVal (b₂, o₂) n₂ ∷ [])) ∷ ‵ (flft κ₂ q₂) ∷ ‵ (MutSlice (named 0) κ₃ Object-t.the-row .own (at-list b₃ o₃ γ₃ objects) (sliceVal (b₃, o₃) n₃ ∷ [])) ∷ ‵ (flft κ₃ q₃) ∷ ‵ (MutSlice (named 0) κ₄ u8 .own (at-list b₄ o₄ γ₄ out) (sliceVal (b₄, o₄) n₄ ∷ [])) ∷ ‵ (flft κ₄ q₄) ∷ ‵ (ShrSlice (named 0) κ₅ u8 .own (at-list b₅ o₅ γ₅ d) (sliceVal (b₅, o₅) n₅ ∷ [])) ∷ ‵ (flft κ₅ q₅) ∷ free 𝓤 (sliceTy (tyRef erased mut (pointee (u8 .written)))) l₂₈ (free 𝓤 (tyRef erased mut (pointee (u8 .written))) l₂₇ (free 𝓤 (sliceTy (tyRef erased mut (pointee (Object-t.the-row .written)))) l₂₆ (free 𝓤 (tyRef erased mut (pointee (Object-t.the-row .written))) l₂₅ (free 𝓤 (sliceTy (tyRef erased mut (pointee ((Array u16 35) .written)))) l₂₄ (free 𝓤 (tyRef erased mut (pointee ((Array u16 35) .written))) l₂₃ (free 𝓤 (sliceTy (tyRef erased mut (pointee ((Array u64 5) .written)))) l₂₂ (free 𝓤 (tyRef erased mut (pointee ((Array u64 5) .written))) l₂₁ (free 𝓤 (sliceTy (tyRef erased mut (pointee (u8 .written)))) l₂₀ (free 𝓤 (tyRef erased mut (pointee (u8 .written))) l₁₉ (free 𝓤 (sliceTy (tyRef erased mut (pointee ((Array u16 35) .written)))) l₁₈ (free 𝓤 (tyRef erased mut (pointee ((Array u16 35) .written))) l₁₇ (free 𝓤 (sliceTy (tyRef erased mut (pointee ((Array u64 5) .written)))) l₁₆ (free 𝓤 (tyRef erased mut (pointee ((Array u64 5) .written))) l₁₅ (free 𝓤 Ran-l.mir l₁₄ (full 𝓤 (tyInt w64) l₁₃ (u64-p .val n₅) (full 𝓤 Opening-l.mir l₁₂ (Opening-p .val z) (full 𝓤 Asked-l.mir l₁₁ (Asked-p .val ((takenOf (readAt (d) ((Cursor-of (r′ .at)) .at)) n₅) .asked)) (full 𝓤 Taken-l.mir l₁₀ (Taken-p .val (takenOf (readAt (d) ((Cursor-of (r′ .at)) .at)) n₅)) (full 𝓤 Parsed-l.mir l₉ (Parsed-p .val (readAt (d) ((Cursor-of (r′ .at)) .at))) (full 𝓤 Cursor-l.mir l₈ (Cursor-p .val (Cursor-of (r′ .at))) (full 𝓤 Ran-l.mir l₇ (Ran-p .val r′) (full 𝓤 Frame-l.mir l₆ (Frame-p .val f′) (full 𝓤 (sliceTy (tyRef (named 4) imm (pointee (u8 .written)))) l₅ (sliceVal (b₅, o₅) n₅) (full 𝓤 (sliceTy (tyRef (named 3) mut (pointee (u8 .written)))) l₄ (sliceVal (b₄, o₄) n₄) (full 𝓤 (sliceTy (tyRef (named 2) mut (pointee (Object-t.the-row .written)))) l₃ (sliceVal (b₃, o₃) n₃) (full 𝓤 (sliceTy (tyRef (named 1) mut (pointee ((Array u16 35) .written)))) l₂ (sliceVal (b₂, o₂) n₂) (full 𝓤 (sliceTy (tyRef (named 0) mut (pointee ((Array u64 5) .written)))) l₁ (sliceVal (b₁, o₁) n₁) (free 𝓤 Ran-l.mir l₀ ([])))))))))))))))))))))))))))))) (runs C Λ En (one mir.t-7) (anyQ (afterSeq 𝓤 H (Wp 𝓤 H C Λ En mir.t-8 (atReturn 𝓤 H En Post)) (atReturn 𝓤 H En Post))))
+    matched-7-0 is-2 is-4 (Opening-Client) e-7 good-7 =
+        matched-7-Client-0 is-2 is-4 e-7 good-7
+    matched-7-0 is-2 is-4 (Opening-Other) e-7 good-7 =
+        matched-7-Other-3 is-2 is-4 e-7 good-7
+    matched-7-0 is-2 is-4 (Opening-Unread) e-7 good-7 =
+        matched-7-Unread-5 is-2 is-4 e-7 good-7
 
-    part-9-0 : (is-2 : Is (Parsed-p .row) (readAt (d) ((Cursor-of (r′ .at)) .at)) (Parsed-p .val (readAt (d) ((Cursor-of (r′ .at)) .at)) ∷ [])) → (is-4 : Is (u64-p .row) (endRead (readAt (d) ((Cursor-of (r′ .at)) .at)) n₅) (u64-p .val (endRead (readAt (d) ((Cursor-of (r′ .at)) .at)) n₅) ∷ [])) → (is-5 : Is (Submessage-p .row) (messageRead (readAt (d) ((Cursor-of (r′ .at)) .at))) (Submessage-p .val (messageRead (readAt (d) ((Cursor-of (r′ .at)) .at))) ∷ [])) → (is-6 : Is (Span-p .row) (bodyRead (readAt (d) ((Cursor-of (r′ .at)) .at))) (Span-p .val (bodyRead (readAt (d) ((Cursor-of (r′ .at)) .at))) ∷ [])) → (is-7 : Is (u32-p .row) (keyIn (messageRead (readAt (d) ((Cursor-of (r′ .at)) .at)))) (u32-p .val (keyIn (messageRead (readAt (d) ((Cursor-of (r′ .at)) .at)))) ∷ [])) → (is-8 : Is (Opening-p .row) (openingRead (readAt (d) ((Cursor-of (r′ .at)) .at))) (Opening-p .val (openingRead (readAt (d) ((Cursor-of (r′ .at)) .at))) ∷ [])) → Sq W (‵ (MutSlice (named 0) κ₁ (Array u64 5) .own (at-list b₁ o₁ γ₁ sessions) (sliceVal (b₁, o₁) n₁ ∷ [])) ∷ ‵ (flft κ₁ q₁) ∷ ‵ (MutSlice (named 0) κ₂ (Array u16 35) .own (at-list b₂ o₂ γ₂ streams) (sliceVal (b₂, o₂) n₂ ∷ [])) ∷ ‵ (flft κ₂ q₂) ∷ ‵ (MutSlice (named 0) κ₃ Object-t.the-row .own (at-list b₃ o₃ γ₃ objects) (sliceVal (b₃, o₃) n₃ ∷ [])) ∷ ‵ (flft κ₃ q₃) ∷ ‵ (MutSlice (named 0) κ₄ u8 .own (at-list b₄ o₄ γ₄ out) (sliceVal (b₄, o₄) n₄ ∷ [])) ∷ ‵ (flft κ₄ q₄) ∷ ‵ (ShrSlice (named 0) κ₅ u8 .own (at-list b₅ o₅ γ₅ d) (sliceVal (b₅, o₅) n₅ ∷ [])) ∷ ‵ (flft κ₅ q₅) ∷ free 𝓤 (sliceTy (tyRef erased mut (pointee (u8 .written)))) l₃₀ (free 𝓤 (tyRef erased mut (pointee (u8 .written))) l₂₉ (free 𝓤 (sliceTy (tyRef erased mut (pointee (Object-t.the-row .written)))) l₂₈ (free 𝓤 (tyRef erased mut (pointee (Object-t.the-row .written))) l₂₇ (free 𝓤 (sliceTy (tyRef erased mut (pointee ((Array u16 35) .written)))) l₂₆ (free 𝓤 (tyRef erased mut (pointee ((Array u16 35) .written))) l₂₅ (free 𝓤 (sliceTy (tyRef erased mut (pointee ((Array u64 5) .written)))) l₂₄ (free 𝓤 (tyRef erased mut (pointee ((Array u64 5) .written))) l₂₃ (free 𝓤 (sliceTy (tyRef erased mut (pointee (u8 .written)))) l₂₂ (free 𝓤 (tyRef erased mut (pointee (u8 .written))) l₂₁ (free 𝓤 (sliceTy (tyRef erased mut (pointee ((Array u16 35) .written)))) l₂₀ (free 𝓤 (tyRef erased mut (pointee ((Array u16 35) .written))) l₁₉ (free 𝓤 (sliceTy (tyRef erased mut (pointee ((Array u64 5) .written)))) l₁₈ (free 𝓤 (tyRef erased mut (pointee ((Array u64 5) .written))) l₁₇ (free 𝓤 Ran-l.mir l₁₆ (full 𝓤 (tyInt w64) l₁₅ (u64-p .val n₅) (full 𝓤 Opening-l.mir l₁₄ (Opening-p .val (openingRead (readAt (d) ((Cursor-of (r′ .at)) .at)))) (full 𝓤 (tyInt w32) l₁₃ (u32-p .val (keyIn (messageRead (readAt (d) ((Cursor-of (r′ .at)) .at))))) (full 𝓤 Span-l.mir l₁₂ (Span-p .val (bodyRead (readAt (d) ((Cursor-of (r′ .at)) .at)))) (full 𝓤 Submessage-l.mir l₁₁ (Submessage-p .val (messageRead (readAt (d) ((Cursor-of (r′ .at)) .at)))) (full 𝓤 (tyInt w64) l₁₀ (u64-p .val (endRead (readAt (d) ((Cursor-of (r′ .at)) .at)) n₅)) (full 𝓤 Parsed-l.mir l₉ (Parsed-p .val (readAt (d) ((Cursor-of (r′ .at)) .at))) (full 𝓤 Cursor-l.mir l₈ (Cursor-p .val (Cursor-of (r′ .at))) (full 𝓤 Ran-l.mir l₇ (Ran-p .val r′) (full 𝓤 Frame-l.mir l₆ (Frame-p .val f′) (full 𝓤 (sliceTy (tyRef (named 4) imm (pointee (u8 .written)))) l₅ (sliceVal (b₅, o₅) n₅) (full 𝓤 (sliceTy (tyRef (named 3) mut (pointee (u8 .written)))) l₄ (sliceVal (b₄, o₄) n₄) (full 𝓤 (sliceTy (tyRef (named 2) mut (pointee (Object-t.the-row .written)))) l₃ (sliceVal (b₃, o₃) n₃) (full 𝓤 (sliceTy (tyRef (named 1) mut (pointee ((Array u16 35) .written)))) l₂ (sliceVal (b₂, o₂) n₂) (full 𝓤 (sliceTy (tyRef (named 0) mut (pointee ((Array u64 5) .written)))) l₁ (sliceVal (b₁, o₁) n₁) (free 𝓤 Ran-l.mir l₀ ([])))))))))))))))))))))))))))))))) (runs C Λ En mir.t-9 (atRet En Post))
-    part-9-0 is-2 is-4 is-5 is-6 is-7 is-8 =
-        first ! $
-        matched-9-0 is-2 is-4 is-5 is-6 is-7 is-8 (openingRead (readAt (d) ((Cursor-of (r′ .at)) .at))) refl is-8
-
-    part-8-0 : (is-2 : Is (Parsed-p .row) (readAt (d) ((Cursor-of (r′ .at)) .at)) (Parsed-p .val (readAt (d) ((Cursor-of (r′ .at)) .at)) ∷ [])) → (is-4 : Is (u64-p .row) (endRead (readAt (d) ((Cursor-of (r′ .at)) .at)) n₅) (u64-p .val (endRead (readAt (d) ((Cursor-of (r′ .at)) .at)) n₅) ∷ [])) → (is-5 : Is (Submessage-p .row) (messageRead (readAt (d) ((Cursor-of (r′ .at)) .at))) (Submessage-p .val (messageRead (readAt (d) ((Cursor-of (r′ .at)) .at))) ∷ [])) → (is-6 : Is (Span-p .row) (bodyRead (readAt (d) ((Cursor-of (r′ .at)) .at))) (Span-p .val (bodyRead (readAt (d) ((Cursor-of (r′ .at)) .at))) ∷ [])) → (is-7 : Is (u32-p .row) (keyIn (messageRead (readAt (d) ((Cursor-of (r′ .at)) .at)))) (u32-p .val (keyIn (messageRead (readAt (d) ((Cursor-of (r′ .at)) .at)))) ∷ [])) → Sq W (‵ (MutSlice (named 0) κ₁ (Array u64 5) .own (at-list b₁ o₁ γ₁ sessions) (sliceVal (b₁, o₁) n₁ ∷ [])) ∷ ‵ (flft κ₁ q₁) ∷ ‵ (MutSlice (named 0) κ₂ (Array u16 35) .own (at-list b₂ o₂ γ₂ streams) (sliceVal (b₂, o₂) n₂ ∷ [])) ∷ ‵ (flft κ₂ q₂) ∷ ‵ (MutSlice (named 0) κ₃ Object-t.the-row .own (at-list b₃ o₃ γ₃ objects) (sliceVal (b₃, o₃) n₃ ∷ [])) ∷ ‵ (flft κ₃ q₃) ∷ ‵ (MutSlice (named 0) κ₄ u8 .own (at-list b₄ o₄ γ₄ out) (sliceVal (b₄, o₄) n₄ ∷ [])) ∷ ‵ (flft κ₄ q₄) ∷ ‵ (ShrSlice (named 0) κ₅ u8 .own (at-list b₅ o₅ γ₅ d) (sliceVal (b₅, o₅) n₅ ∷ [])) ∷ ‵ (flft κ₅ q₅) ∷ free 𝓤 (sliceTy (tyRef erased mut (pointee (u8 .written)))) l₃₀ (free 𝓤 (tyRef erased mut (pointee (u8 .written))) l₂₉ (free 𝓤 (sliceTy (tyRef erased mut (pointee (Object-t.the-row .written)))) l₂₈ (free 𝓤 (tyRef erased mut (pointee (Object-t.the-row .written))) l₂₇ (free 𝓤 (sliceTy (tyRef erased mut (pointee ((Array u16 35) .written)))) l₂₆ (free 𝓤 (tyRef erased mut (pointee ((Array u16 35) .written))) l₂₅ (free 𝓤 (sliceTy (tyRef erased mut (pointee ((Array u64 5) .written)))) l₂₄ (free 𝓤 (tyRef erased mut (pointee ((Array u64 5) .written))) l₂₃ (free 𝓤 (sliceTy (tyRef erased mut (pointee (u8 .written)))) l₂₂ (free 𝓤 (tyRef erased mut (pointee (u8 .written))) l₂₁ (free 𝓤 (sliceTy (tyRef erased mut (pointee ((Array u16 35) .written)))) l₂₀ (free 𝓤 (tyRef erased mut (pointee ((Array u16 35) .written))) l₁₉ (free 𝓤 (sliceTy (tyRef erased mut (pointee ((Array u64 5) .written)))) l₁₈ (free 𝓤 (tyRef erased mut (pointee ((Array u64 5) .written))) l₁₇ (free 𝓤 Ran-l.mir l₁₆ (full 𝓤 (tyInt w64) l₁₅ (u64-p .val n₅) (free 𝓤 Opening-l.mir l₁₄ (full 𝓤 (tyInt w32) l₁₃ (u32-p .val (keyIn (messageRead (readAt (d) ((Cursor-of (r′ .at)) .at))))) (full 𝓤 Span-l.mir l₁₂ (Span-p .val (bodyRead (readAt (d) ((Cursor-of (r′ .at)) .at)))) (full 𝓤 Submessage-l.mir l₁₁ (Submessage-p .val (messageRead (readAt (d) ((Cursor-of (r′ .at)) .at)))) (full 𝓤 (tyInt w64) l₁₀ (u64-p .val (endRead (readAt (d) ((Cursor-of (r′ .at)) .at)) n₅)) (full 𝓤 Parsed-l.mir l₉ (Parsed-p .val (readAt (d) ((Cursor-of (r′ .at)) .at))) (full 𝓤 Cursor-l.mir l₈ (Cursor-p .val (Cursor-of (r′ .at))) (full 𝓤 Ran-l.mir l₇ (Ran-p .val r′) (full 𝓤 Frame-l.mir l₆ (Frame-p .val f′) (full 𝓤 (sliceTy (tyRef (named 4) imm (pointee (u8 .written)))) l₅ (sliceVal (b₅, o₅) n₅) (full 𝓤 (sliceTy (tyRef (named 3) mut (pointee (u8 .written)))) l₄ (sliceVal (b₄, o₄) n₄) (full 𝓤 (sliceTy (tyRef (named 2) mut (pointee (Object-t.the-row .written)))) l₃ (sliceVal (b₃, o₃) n₃) (full 𝓤 (sliceTy (tyRef (named 1) mut (pointee ((Array u16 35) .written)))) l₂ (sliceVal (b₂, o₂) n₂) (full 𝓤 (sliceTy (tyRef (named 0) mut (pointee ((Array u64 5) .written)))) l₁ (sliceVal (b₁, o₁) n₁) (free 𝓤 Ran-l.mir l₀ ([])))))))))))))))))))))))))))))))) (runs C Λ En mir.t-8 (atRet En Post))
-    part-8-0 is-2 is-4 is-5 is-6 is-7 =
-        -- 8: agent::turn::opening_read
-        nothing ! $
-        use1 W (raw (toks 𝓤 A 0 (tt) (tt))) (id⊢ 𝓤 _) $ nothing ! $
-        owned ! (Parsed-p .row) (Is (Parsed-p .row)) (Parsed-p .makes 𝓤 H A W) (readAt (d) ((Cursor-of (r′ .at)) .at)) (Parsed-p .val (readAt (d) ((Cursor-of (r′ .at)) .at)) ∷ []) is-2 $ fjoin ! $ move ! (1 ∷ 0 ∷ []) $
-        calls-any ! fm 0 [] (turn-opening-read.signature .params) (turn-opening-read.ended .kept) Opening-p (turn-opening-read.clauses 𝓤 H A mem run) known-turn-opening-read tt tt tt (readAt (d) ((Cursor-of (r′ .at)) .at), tt) (Parsed-p .val (readAt (d) ((Cursor-of (r′ .at)) .at)) ∷ [], tt) tt (openingRead (readAt (d) ((Cursor-of (r′ .at)) .at))) (λ ws-8. Unit {0}) (id⊢ 𝓤 _) (λ r ws-8. fact-mono 𝓤 (r ≡ openingRead (readAt (d) ((Cursor-of (r′ .at)) .at))) ((r ≡ (openingRead (readAt (d) ((Cursor-of (r′ .at)) .at)))) × (Unit {0})) (λ e. (e, tt))) (λ _. (and-then ! (load ! (from ! (stop !)) (look ! 53 refl)) (no-more !))) (λ ws-8 said-8 is-8.
-        drop ! $ drop ! $
-        land ! (from ! (stop !)) (init ! 42 refl (Opening-p .typed 𝓤 H A W (openingRead (readAt (d) ((Cursor-of (r′ .at)) .at))) is-8)) $
-        part-9-0 is-2 is-4 is-5 is-6 is-7 is-8)
-
-    part-7-0 : (is-2 : Is (Parsed-p .row) (readAt (d) ((Cursor-of (r′ .at)) .at)) (Parsed-p .val (readAt (d) ((Cursor-of (r′ .at)) .at)) ∷ [])) → (is-4 : Is (u64-p .row) (endRead (readAt (d) ((Cursor-of (r′ .at)) .at)) n₅) (u64-p .val (endRead (readAt (d) ((Cursor-of (r′ .at)) .at)) n₅) ∷ [])) → (is-5 : Is (Submessage-p .row) (messageRead (readAt (d) ((Cursor-of (r′ .at)) .at))) (Submessage-p .val (messageRead (readAt (d) ((Cursor-of (r′ .at)) .at))) ∷ [])) → (is-6 : Is (Span-p .row) (bodyRead (readAt (d) ((Cursor-of (r′ .at)) .at))) (Span-p .val (bodyRead (readAt (d) ((Cursor-of (r′ .at)) .at))) ∷ [])) → Sq W (‵ (MutSlice (named 0) κ₁ (Array u64 5) .own (at-list b₁ o₁ γ₁ sessions) (sliceVal (b₁, o₁) n₁ ∷ [])) ∷ ‵ (flft κ₁ q₁) ∷ ‵ (MutSlice (named 0) κ₂ (Array u16 35) .own (at-list b₂ o₂ γ₂ streams) (sliceVal (b₂, o₂) n₂ ∷ [])) ∷ ‵ (flft κ₂ q₂) ∷ ‵ (MutSlice (named 0) κ₃ Object-t.the-row .own (at-list b₃ o₃ γ₃ objects) (sliceVal (b₃, o₃) n₃ ∷ [])) ∷ ‵ (flft κ₃ q₃) ∷ ‵ (MutSlice (named 0) κ₄ u8 .own (at-list b₄ o₄ γ₄ out) (sliceVal (b₄, o₄) n₄ ∷ [])) ∷ ‵ (flft κ₄ q₄) ∷ ‵ (ShrSlice (named 0) κ₅ u8 .own (at-list b₅ o₅ γ₅ d) (sliceVal (b₅, o₅) n₅ ∷ [])) ∷ ‵ (flft κ₅ q₅) ∷ free 𝓤 (sliceTy (tyRef erased mut (pointee (u8 .written)))) l₃₀ (free 𝓤 (tyRef erased mut (pointee (u8 .written))) l₂₉ (free 𝓤 (sliceTy (tyRef erased mut (pointee (Object-t.the-row .written)))) l₂₈ (free 𝓤 (tyRef erased mut (pointee (Object-t.the-row .written))) l₂₇ (free 𝓤 (sliceTy (tyRef erased mut (pointee ((Array u16 35) .written)))) l₂₆ (free 𝓤 (tyRef erased mut (pointee ((Array u16 35) .written))) l₂₅ (free 𝓤 (sliceTy (tyRef erased mut (pointee ((Array u64 5) .written)))) l₂₄ (free 𝓤 (tyRef erased mut (pointee ((Array u64 5) .written))) l₂₃ (free 𝓤 (sliceTy (tyRef erased mut (pointee (u8 .written)))) l₂₂ (free 𝓤 (tyRef erased mut (pointee (u8 .written))) l₂₁ (free 𝓤 (sliceTy (tyRef erased mut (pointee ((Array u16 35) .written)))) l₂₀ (free 𝓤 (tyRef erased mut (pointee ((Array u16 35) .written))) l₁₉ (free 𝓤 (sliceTy (tyRef erased mut (pointee ((Array u64 5) .written)))) l₁₈ (free 𝓤 (tyRef erased mut (pointee ((Array u64 5) .written))) l₁₇ (free 𝓤 Ran-l.mir l₁₆ (full 𝓤 (tyInt w64) l₁₅ (u64-p .val n₅) (free 𝓤 Opening-l.mir l₁₄ (free 𝓤 (tyInt w32) l₁₃ (full 𝓤 Span-l.mir l₁₂ (Span-p .val (bodyRead (readAt (d) ((Cursor-of (r′ .at)) .at)))) (full 𝓤 Submessage-l.mir l₁₁ (Submessage-p .val (messageRead (readAt (d) ((Cursor-of (r′ .at)) .at)))) (full 𝓤 (tyInt w64) l₁₀ (u64-p .val (endRead (readAt (d) ((Cursor-of (r′ .at)) .at)) n₅)) (full 𝓤 Parsed-l.mir l₉ (Parsed-p .val (readAt (d) ((Cursor-of (r′ .at)) .at))) (full 𝓤 Cursor-l.mir l₈ (Cursor-p .val (Cursor-of (r′ .at))) (full 𝓤 Ran-l.mir l₇ (Ran-p .val r′) (full 𝓤 Frame-l.mir l₆ (Frame-p .val f′) (full 𝓤 (sliceTy (tyRef (named 4) imm (pointee (u8 .written)))) l₅ (sliceVal (b₅, o₅) n₅) (full 𝓤 (sliceTy (tyRef (named 3) mut (pointee (u8 .written)))) l₄ (sliceVal (b₄, o₄) n₄) (full 𝓤 (sliceTy (tyRef (named 2) mut (pointee (Object-t.the-row .written)))) l₃ (sliceVal (b₃, o₃) n₃) (full 𝓤 (sliceTy (tyRef (named 1) mut (pointee ((Array u16 35) .written)))) l₂ (sliceVal (b₂, o₂) n₂) (full 𝓤 (sliceTy (tyRef (named 0) mut (pointee ((Array u64 5) .written)))) l₁ (sliceVal (b₁, o₁) n₁) (free 𝓤 Ran-l.mir l₀ ([])))))))))))))))))))))))))))))))) (runs C Λ En mir.t-7 (atRet En Post))
-    part-7-0 is-2 is-4 is-5 is-6 =
-        -- 7: agent::clients::key_in
-        nothing ! $
-        use1 W (raw (toks 𝓤 A 0 (tt) (tt))) (id⊢ 𝓤 _) $ nothing ! $
-        owned ! (Submessage-p .row) (Is (Submessage-p .row)) (Submessage-p .makes 𝓤 H A W) (messageRead (readAt (d) ((Cursor-of (r′ .at)) .at))) (Submessage-p .val (messageRead (readAt (d) ((Cursor-of (r′ .at)) .at))) ∷ []) is-5 $ fjoin ! $ move ! (1 ∷ 0 ∷ []) $
-        calls-any ! fm 0 [] (clients-key-in.signature .params) (clients-key-in.ended .kept) u32-p (clients-key-in.clauses 𝓤 H A mem run) known-clients-key-in tt tt tt (messageRead (readAt (d) ((Cursor-of (r′ .at)) .at)), tt) (Submessage-p .val (messageRead (readAt (d) ((Cursor-of (r′ .at)) .at))) ∷ [], tt) tt (keyIn (messageRead (readAt (d) ((Cursor-of (r′ .at)) .at)))) (λ ws-7. Unit {0}) (id⊢ 𝓤 _) (λ r ws-7. fact-mono 𝓤 (r ≡ keyIn (messageRead (readAt (d) ((Cursor-of (r′ .at)) .at)))) ((r ≡ (keyIn (messageRead (readAt (d) ((Cursor-of (r′ .at)) .at))))) × (Unit {0})) (λ e. (e, tt))) (λ _. (and-then ! (load ! (from ! (stop !)) (look ! 49 refl)) (no-more !))) (λ ws-7 said-7 is-7.
-        drop ! $ drop ! $
-        land ! (from ! (stop !)) (init ! 44 refl (u32-p .typed 𝓤 H A W (keyIn (messageRead (readAt (d) ((Cursor-of (r′ .at)) .at)))) is-7)) $
-        part-8-0 is-2 is-4 is-5 is-6 is-7)
-
-    part-6-0 : (is-2 : Is (Parsed-p .row) (readAt (d) ((Cursor-of (r′ .at)) .at)) (Parsed-p .val (readAt (d) ((Cursor-of (r′ .at)) .at)) ∷ [])) → (is-4 : Is (u64-p .row) (endRead (readAt (d) ((Cursor-of (r′ .at)) .at)) n₅) (u64-p .val (endRead (readAt (d) ((Cursor-of (r′ .at)) .at)) n₅) ∷ [])) → (is-5 : Is (Submessage-p .row) (messageRead (readAt (d) ((Cursor-of (r′ .at)) .at))) (Submessage-p .val (messageRead (readAt (d) ((Cursor-of (r′ .at)) .at))) ∷ [])) → Sq W (‵ (MutSlice (named 0) κ₁ (Array u64 5) .own (at-list b₁ o₁ γ₁ sessions) (sliceVal (b₁, o₁) n₁ ∷ [])) ∷ ‵ (flft κ₁ q₁) ∷ ‵ (MutSlice (named 0) κ₂ (Array u16 35) .own (at-list b₂ o₂ γ₂ streams) (sliceVal (b₂, o₂) n₂ ∷ [])) ∷ ‵ (flft κ₂ q₂) ∷ ‵ (MutSlice (named 0) κ₃ Object-t.the-row .own (at-list b₃ o₃ γ₃ objects) (sliceVal (b₃, o₃) n₃ ∷ [])) ∷ ‵ (flft κ₃ q₃) ∷ ‵ (MutSlice (named 0) κ₄ u8 .own (at-list b₄ o₄ γ₄ out) (sliceVal (b₄, o₄) n₄ ∷ [])) ∷ ‵ (flft κ₄ q₄) ∷ ‵ (ShrSlice (named 0) κ₅ u8 .own (at-list b₅ o₅ γ₅ d) (sliceVal (b₅, o₅) n₅ ∷ [])) ∷ ‵ (flft κ₅ q₅) ∷ free 𝓤 (sliceTy (tyRef erased mut (pointee (u8 .written)))) l₃₀ (free 𝓤 (tyRef erased mut (pointee (u8 .written))) l₂₉ (free 𝓤 (sliceTy (tyRef erased mut (pointee (Object-t.the-row .written)))) l₂₈ (free 𝓤 (tyRef erased mut (pointee (Object-t.the-row .written))) l₂₇ (free 𝓤 (sliceTy (tyRef erased mut (pointee ((Array u16 35) .written)))) l₂₆ (free 𝓤 (tyRef erased mut (pointee ((Array u16 35) .written))) l₂₅ (free 𝓤 (sliceTy (tyRef erased mut (pointee ((Array u64 5) .written)))) l₂₄ (free 𝓤 (tyRef erased mut (pointee ((Array u64 5) .written))) l₂₃ (free 𝓤 (sliceTy (tyRef erased mut (pointee (u8 .written)))) l₂₂ (free 𝓤 (tyRef erased mut (pointee (u8 .written))) l₂₁ (free 𝓤 (sliceTy (tyRef erased mut (pointee ((Array u16 35) .written)))) l₂₀ (free 𝓤 (tyRef erased mut (pointee ((Array u16 35) .written))) l₁₉ (free 𝓤 (sliceTy (tyRef erased mut (pointee ((Array u64 5) .written)))) l₁₈ (free 𝓤 (tyRef erased mut (pointee ((Array u64 5) .written))) l₁₇ (free 𝓤 Ran-l.mir l₁₆ (full 𝓤 (tyInt w64) l₁₅ (u64-p .val n₅) (free 𝓤 Opening-l.mir l₁₄ (free 𝓤 (tyInt w32) l₁₃ (free 𝓤 Span-l.mir l₁₂ (full 𝓤 Submessage-l.mir l₁₁ (Submessage-p .val (messageRead (readAt (d) ((Cursor-of (r′ .at)) .at)))) (full 𝓤 (tyInt w64) l₁₀ (u64-p .val (endRead (readAt (d) ((Cursor-of (r′ .at)) .at)) n₅)) (full 𝓤 Parsed-l.mir l₉ (Parsed-p .val (readAt (d) ((Cursor-of (r′ .at)) .at))) (full 𝓤 Cursor-l.mir l₈ (Cursor-p .val (Cursor-of (r′ .at))) (full 𝓤 Ran-l.mir l₇ (Ran-p .val r′) (full 𝓤 Frame-l.mir l₆ (Frame-p .val f′) (full 𝓤 (sliceTy (tyRef (named 4) imm (pointee (u8 .written)))) l₅ (sliceVal (b₅, o₅) n₅) (full 𝓤 (sliceTy (tyRef (named 3) mut (pointee (u8 .written)))) l₄ (sliceVal (b₄, o₄) n₄) (full 𝓤 (sliceTy (tyRef (named 2) mut (pointee (Object-t.the-row .written)))) l₃ (sliceVal (b₃, o₃) n₃) (full 𝓤 (sliceTy (tyRef (named 1) mut (pointee ((Array u16 35) .written)))) l₂ (sliceVal (b₂, o₂) n₂) (full 𝓤 (sliceTy (tyRef (named 0) mut (pointee ((Array u64 5) .written)))) l₁ (sliceVal (b₁, o₁) n₁) (free 𝓤 Ran-l.mir l₀ ([])))))))))))))))))))))))))))))))) (runs C Λ En mir.t-6 (atRet En Post))
-    part-6-0 is-2 is-4 is-5 =
-        -- 6: agent::turn::body_of
-        nothing ! $
-        use1 W (raw (toks 𝓤 A 0 (tt) (tt))) (id⊢ 𝓤 _) $ nothing ! $
-        owned ! (Parsed-p .row) (Is (Parsed-p .row)) (Parsed-p .makes 𝓤 H A W) (readAt (d) ((Cursor-of (r′ .at)) .at)) (Parsed-p .val (readAt (d) ((Cursor-of (r′ .at)) .at)) ∷ []) is-2 $ fjoin ! $ move ! (1 ∷ 0 ∷ []) $
-        calls-any ! fm 0 [] (turn-body-of.signature .params) (turn-body-of.ended .kept) Span-p (turn-body-of.clauses 𝓤 H A mem run) known-turn-body-of tt tt tt (readAt (d) ((Cursor-of (r′ .at)) .at), tt) (Parsed-p .val (readAt (d) ((Cursor-of (r′ .at)) .at)) ∷ [], tt) tt (bodyRead (readAt (d) ((Cursor-of (r′ .at)) .at))) (λ ws-6. Unit {0}) (id⊢ 𝓤 _) (λ r ws-6. fact-mono 𝓤 (r ≡ bodyRead (readAt (d) ((Cursor-of (r′ .at)) .at))) ((r ≡ (bodyRead (readAt (d) ((Cursor-of (r′ .at)) .at)))) × (Unit {0})) (λ e. (e, tt))) (λ _. (and-then ! (load ! (from ! (stop !)) (look ! 53 refl)) (no-more !))) (λ ws-6 said-6 is-6.
-        drop ! $ drop ! $
-        land ! (from ! (stop !)) (init ! 46 refl (Span-p .typed 𝓤 H A W (bodyRead (readAt (d) ((Cursor-of (r′ .at)) .at))) is-6)) $
-        part-7-0 is-2 is-4 is-5 is-6)
-
-    part-5-0 : (is-2 : Is (Parsed-p .row) (readAt (d) ((Cursor-of (r′ .at)) .at)) (Parsed-p .val (readAt (d) ((Cursor-of (r′ .at)) .at)) ∷ [])) → (is-4 : Is (u64-p .row) (endRead (readAt (d) ((Cursor-of (r′ .at)) .at)) n₅) (u64-p .val (endRead (readAt (d) ((Cursor-of (r′ .at)) .at)) n₅) ∷ [])) → Sq W (‵ (MutSlice (named 0) κ₁ (Array u64 5) .own (at-list b₁ o₁ γ₁ sessions) (sliceVal (b₁, o₁) n₁ ∷ [])) ∷ ‵ (flft κ₁ q₁) ∷ ‵ (MutSlice (named 0) κ₂ (Array u16 35) .own (at-list b₂ o₂ γ₂ streams) (sliceVal (b₂, o₂) n₂ ∷ [])) ∷ ‵ (flft κ₂ q₂) ∷ ‵ (MutSlice (named 0) κ₃ Object-t.the-row .own (at-list b₃ o₃ γ₃ objects) (sliceVal (b₃, o₃) n₃ ∷ [])) ∷ ‵ (flft κ₃ q₃) ∷ ‵ (MutSlice (named 0) κ₄ u8 .own (at-list b₄ o₄ γ₄ out) (sliceVal (b₄, o₄) n₄ ∷ [])) ∷ ‵ (flft κ₄ q₄) ∷ ‵ (ShrSlice (named 0) κ₅ u8 .own (at-list b₅ o₅ γ₅ d) (sliceVal (b₅, o₅) n₅ ∷ [])) ∷ ‵ (flft κ₅ q₅) ∷ free 𝓤 (sliceTy (tyRef erased mut (pointee (u8 .written)))) l₃₀ (free 𝓤 (tyRef erased mut (pointee (u8 .written))) l₂₉ (free 𝓤 (sliceTy (tyRef erased mut (pointee (Object-t.the-row .written)))) l₂₈ (free 𝓤 (tyRef erased mut (pointee (Object-t.the-row .written))) l₂₇ (free 𝓤 (sliceTy (tyRef erased mut (pointee ((Array u16 35) .written)))) l₂₆ (free 𝓤 (tyRef erased mut (pointee ((Array u16 35) .written))) l₂₅ (free 𝓤 (sliceTy (tyRef erased mut (pointee ((Array u64 5) .written)))) l₂₄ (free 𝓤 (tyRef erased mut (pointee ((Array u64 5) .written))) l₂₃ (free 𝓤 (sliceTy (tyRef erased mut (pointee (u8 .written)))) l₂₂ (free 𝓤 (tyRef erased mut (pointee (u8 .written))) l₂₁ (free 𝓤 (sliceTy (tyRef erased mut (pointee ((Array u16 35) .written)))) l₂₀ (free 𝓤 (tyRef erased mut (pointee ((Array u16 35) .written))) l₁₉ (free 𝓤 (sliceTy (tyRef erased mut (pointee ((Array u64 5) .written)))) l₁₈ (free 𝓤 (tyRef erased mut (pointee ((Array u64 5) .written))) l₁₇ (free 𝓤 Ran-l.mir l₁₆ (full 𝓤 (tyInt w64) l₁₅ (u64-p .val n₅) (free 𝓤 Opening-l.mir l₁₄ (free 𝓤 (tyInt w32) l₁₃ (free 𝓤 Span-l.mir l₁₂ (free 𝓤 Submessage-l.mir l₁₁ (full 𝓤 (tyInt w64) l₁₀ (u64-p .val (endRead (readAt (d) ((Cursor-of (r′ .at)) .at)) n₅)) (full 𝓤 Parsed-l.mir l₉ (Parsed-p .val (readAt (d) ((Cursor-of (r′ .at)) .at))) (full 𝓤 Cursor-l.mir l₈ (Cursor-p .val (Cursor-of (r′ .at))) (full 𝓤 Ran-l.mir l₇ (Ran-p .val r′) (full 𝓤 Frame-l.mir l₆ (Frame-p .val f′) (full 𝓤 (sliceTy (tyRef (named 4) imm (pointee (u8 .written)))) l₅ (sliceVal (b₅, o₅) n₅) (full 𝓤 (sliceTy (tyRef (named 3) mut (pointee (u8 .written)))) l₄ (sliceVal (b₄, o₄) n₄) (full 𝓤 (sliceTy (tyRef (named 2) mut (pointee (Object-t.the-row .written)))) l₃ (sliceVal (b₃, o₃) n₃) (full 𝓤 (sliceTy (tyRef (named 1) mut (pointee ((Array u16 35) .written)))) l₂ (sliceVal (b₂, o₂) n₂) (full 𝓤 (sliceTy (tyRef (named 0) mut (pointee ((Array u64 5) .written)))) l₁ (sliceVal (b₁, o₁) n₁) (free 𝓤 Ran-l.mir l₀ ([])))))))))))))))))))))))))))))))) (runs C Λ En mir.t-5 (atRet En Post))
+    part-5-0 : (is-2 : Is (Parsed-p .row) (readAt (d) ((Cursor-of (r′ .at)) .at)) (Parsed-p .val (readAt (d) ((Cursor-of (r′ .at)) .at)) ∷ [])) → (is-4 : Is (Taken-p .row) (takenOf (readAt (d) ((Cursor-of (r′ .at)) .at)) n₅) (Taken-p .val (takenOf (readAt (d) ((Cursor-of (r′ .at)) .at)) n₅) ∷ [])) → Sq W (‵ (MutSlice (named 0) κ₁ (Array u64 5) .own (at-list b₁ o₁ γ₁ sessions) (sliceVal (b₁, o₁) n₁ ∷ [])) ∷ ‵ (flft κ₁ q₁) ∷ ‵ (MutSlice (named 0) κ₂ (Array u16 35) .own (at-list b₂ o₂ γ₂ streams) (sliceVal (b₂, o₂) n₂ ∷ [])) ∷ ‵ (flft κ₂ q₂) ∷ ‵ (MutSlice (named 0) κ₃ Object-t.the-row .own (at-list b₃ o₃ γ₃ objects) (sliceVal (b₃, o₃) n₃ ∷ [])) ∷ ‵ (flft κ₃ q₃) ∷ ‵ (MutSlice (named 0) κ₄ u8 .own (at-list b₄ o₄ γ₄ out) (sliceVal (b₄, o₄) n₄ ∷ [])) ∷ ‵ (flft κ₄ q₄) ∷ ‵ (ShrSlice (named 0) κ₅ u8 .own (at-list b₅ o₅ γ₅ d) (sliceVal (b₅, o₅) n₅ ∷ [])) ∷ ‵ (flft κ₅ q₅) ∷ free 𝓤 (sliceTy (tyRef erased mut (pointee (u8 .written)))) l₂₈ (free 𝓤 (tyRef erased mut (pointee (u8 .written))) l₂₇ (free 𝓤 (sliceTy (tyRef erased mut (pointee (Object-t.the-row .written)))) l₂₆ (free 𝓤 (tyRef erased mut (pointee (Object-t.the-row .written))) l₂₅ (free 𝓤 (sliceTy (tyRef erased mut (pointee ((Array u16 35) .written)))) l₂₄ (free 𝓤 (tyRef erased mut (pointee ((Array u16 35) .written))) l₂₃ (free 𝓤 (sliceTy (tyRef erased mut (pointee ((Array u64 5) .written)))) l₂₂ (free 𝓤 (tyRef erased mut (pointee ((Array u64 5) .written))) l₂₁ (free 𝓤 (sliceTy (tyRef erased mut (pointee (u8 .written)))) l₂₀ (free 𝓤 (tyRef erased mut (pointee (u8 .written))) l₁₉ (free 𝓤 (sliceTy (tyRef erased mut (pointee ((Array u16 35) .written)))) l₁₈ (free 𝓤 (tyRef erased mut (pointee ((Array u16 35) .written))) l₁₇ (free 𝓤 (sliceTy (tyRef erased mut (pointee ((Array u64 5) .written)))) l₁₆ (free 𝓤 (tyRef erased mut (pointee ((Array u64 5) .written))) l₁₅ (free 𝓤 Ran-l.mir l₁₄ (full 𝓤 (tyInt w64) l₁₃ (u64-p .val n₅) (free 𝓤 Opening-l.mir l₁₂ (free 𝓤 Asked-l.mir l₁₁ (full 𝓤 Taken-l.mir l₁₀ (Taken-p .val (takenOf (readAt (d) ((Cursor-of (r′ .at)) .at)) n₅)) (full 𝓤 Parsed-l.mir l₉ (Parsed-p .val (readAt (d) ((Cursor-of (r′ .at)) .at))) (full 𝓤 Cursor-l.mir l₈ (Cursor-p .val (Cursor-of (r′ .at))) (full 𝓤 Ran-l.mir l₇ (Ran-p .val r′) (full 𝓤 Frame-l.mir l₆ (Frame-p .val f′) (full 𝓤 (sliceTy (tyRef (named 4) imm (pointee (u8 .written)))) l₅ (sliceVal (b₅, o₅) n₅) (full 𝓤 (sliceTy (tyRef (named 3) mut (pointee (u8 .written)))) l₄ (sliceVal (b₄, o₄) n₄) (full 𝓤 (sliceTy (tyRef (named 2) mut (pointee (Object-t.the-row .written)))) l₃ (sliceVal (b₃, o₃) n₃) (full 𝓤 (sliceTy (tyRef (named 1) mut (pointee ((Array u16 35) .written)))) l₂ (sliceVal (b₂, o₂) n₂) (full 𝓤 (sliceTy (tyRef (named 0) mut (pointee ((Array u64 5) .written)))) l₁ (sliceVal (b₁, o₁) n₁) (free 𝓤 Ran-l.mir l₀ ([])))))))))))))))))))))))))))))) (runs C Λ En mir.t-5 (atRet En Post))
     part-5-0 is-2 is-4 =
-        -- 5: agent::turn::message_of
-        nothing ! $
-        use1 W (raw (toks 𝓤 A 0 (tt) (tt))) (id⊢ 𝓤 _) $ nothing ! $
-        owned ! (Parsed-p .row) (Is (Parsed-p .row)) (Parsed-p .makes 𝓤 H A W) (readAt (d) ((Cursor-of (r′ .at)) .at)) (Parsed-p .val (readAt (d) ((Cursor-of (r′ .at)) .at)) ∷ []) is-2 $ fjoin ! $ move ! (1 ∷ 0 ∷ []) $
-        calls-any ! fm 0 [] (turn-message-of.signature .params) (turn-message-of.ended .kept) Submessage-p (turn-message-of.clauses 𝓤 H A mem run) known-turn-message-of tt tt tt (readAt (d) ((Cursor-of (r′ .at)) .at), tt) (Parsed-p .val (readAt (d) ((Cursor-of (r′ .at)) .at)) ∷ [], tt) tt (messageRead (readAt (d) ((Cursor-of (r′ .at)) .at))) (λ ws-5. Unit {0}) (id⊢ 𝓤 _) (λ r ws-5. fact-mono 𝓤 (r ≡ messageRead (readAt (d) ((Cursor-of (r′ .at)) .at))) ((r ≡ (messageRead (readAt (d) ((Cursor-of (r′ .at)) .at)))) × (Unit {0})) (λ e. (e, tt))) (λ _. (and-then ! (load ! (from ! (stop !)) (look ! 53 refl)) (no-more !))) (λ ws-5 said-5 is-5.
-        drop ! $ drop ! $
-        land ! (from ! (stop !)) (init ! 48 refl (Submessage-p .typed 𝓤 H A W (messageRead (readAt (d) ((Cursor-of (r′ .at)) .at))) is-5)) $
-        part-6-0 is-2 is-4 is-5)
+        assigns ! (of-opd ! (load ! (from ! (fld ! refl (stop !))) (look-in ! 46 (sub ! 0 refl (whole !))))) (from ! (stop !)) (init ! 44 refl (Asked-p .typed 𝓤 H A W ((takenOf (readAt (d) ((Cursor-of (r′ .at)) .at)) n₅) .asked) (LL.owed Taken-t.the-type Taken-l.the-laws (takenOf (readAt (d) ((Cursor-of (r′ .at)) .at)) n₅) _ is-4 .0))) $
+        assigns ! (of-opd ! (load ! (from ! (fld ! refl (stop !))) (look-in ! 44 (sub ! 0 refl (whole !))))) (from ! (stop !)) (init ! 42 refl (Opening-p .typed 𝓤 H A W (((takenOf (readAt (d) ((Cursor-of (r′ .at)) .at)) n₅) .asked) .opening) (LL.owed Asked-t.the-type Asked-l.the-laws ((takenOf (readAt (d) ((Cursor-of (r′ .at)) .at)) n₅) .asked) _ (LL.owed Taken-t.the-type Taken-l.the-laws (takenOf (readAt (d) ((Cursor-of (r′ .at)) .at)) n₅) _ is-4 .0) .0))) $
+        first ! $
+        matched-7-0 is-2 is-4 (((takenOf (readAt (d) ((Cursor-of (r′ .at)) .at)) n₅) .asked) .opening) refl (LL.owed Asked-t.the-type Asked-l.the-laws ((takenOf (readAt (d) ((Cursor-of (r′ .at)) .at)) n₅) .asked) _ (LL.owed Taken-t.the-type Taken-l.the-laws (takenOf (readAt (d) ((Cursor-of (r′ .at)) .at)) n₅) _ is-4 .0) .0)
 
-    part-3-0 : (is-2 : Is (Parsed-p .row) (readAt (d) ((Cursor-of (r′ .at)) .at)) (Parsed-p .val (readAt (d) ((Cursor-of (r′ .at)) .at)) ∷ [])) → Sq W (‵ (MutSlice (named 0) κ₁ (Array u64 5) .own (at-list b₁ o₁ γ₁ sessions) (sliceVal (b₁, o₁) n₁ ∷ [])) ∷ ‵ (flft κ₁ q₁) ∷ ‵ (MutSlice (named 0) κ₂ (Array u16 35) .own (at-list b₂ o₂ γ₂ streams) (sliceVal (b₂, o₂) n₂ ∷ [])) ∷ ‵ (flft κ₂ q₂) ∷ ‵ (MutSlice (named 0) κ₃ Object-t.the-row .own (at-list b₃ o₃ γ₃ objects) (sliceVal (b₃, o₃) n₃ ∷ [])) ∷ ‵ (flft κ₃ q₃) ∷ ‵ (MutSlice (named 0) κ₄ u8 .own (at-list b₄ o₄ γ₄ out) (sliceVal (b₄, o₄) n₄ ∷ [])) ∷ ‵ (flft κ₄ q₄) ∷ ‵ (ShrSlice (named 0) κ₅ u8 .own (at-list b₅ o₅ γ₅ d) (sliceVal (b₅, o₅) n₅ ∷ [])) ∷ ‵ (flft κ₅ q₅) ∷ free 𝓤 (sliceTy (tyRef erased mut (pointee (u8 .written)))) l₃₀ (free 𝓤 (tyRef erased mut (pointee (u8 .written))) l₂₉ (free 𝓤 (sliceTy (tyRef erased mut (pointee (Object-t.the-row .written)))) l₂₈ (free 𝓤 (tyRef erased mut (pointee (Object-t.the-row .written))) l₂₇ (free 𝓤 (sliceTy (tyRef erased mut (pointee ((Array u16 35) .written)))) l₂₆ (free 𝓤 (tyRef erased mut (pointee ((Array u16 35) .written))) l₂₅ (free 𝓤 (sliceTy (tyRef erased mut (pointee ((Array u64 5) .written)))) l₂₄ (free 𝓤 (tyRef erased mut (pointee ((Array u64 5) .written))) l₂₃ (free 𝓤 (sliceTy (tyRef erased mut (pointee (u8 .written)))) l₂₂ (free 𝓤 (tyRef erased mut (pointee (u8 .written))) l₂₁ (free 𝓤 (sliceTy (tyRef erased mut (pointee ((Array u16 35) .written)))) l₂₀ (free 𝓤 (tyRef erased mut (pointee ((Array u16 35) .written))) l₁₉ (free 𝓤 (sliceTy (tyRef erased mut (pointee ((Array u64 5) .written)))) l₁₈ (free 𝓤 (tyRef erased mut (pointee ((Array u64 5) .written))) l₁₇ (free 𝓤 Ran-l.mir l₁₆ (free 𝓤 (tyInt w64) l₁₅ (free 𝓤 Opening-l.mir l₁₄ (free 𝓤 (tyInt w32) l₁₃ (free 𝓤 Span-l.mir l₁₂ (free 𝓤 Submessage-l.mir l₁₁ (free 𝓤 (tyInt w64) l₁₀ (full 𝓤 Parsed-l.mir l₉ (Parsed-p .val (readAt (d) ((Cursor-of (r′ .at)) .at))) (full 𝓤 Cursor-l.mir l₈ (Cursor-p .val (Cursor-of (r′ .at))) (full 𝓤 Ran-l.mir l₇ (Ran-p .val r′) (full 𝓤 Frame-l.mir l₆ (Frame-p .val f′) (full 𝓤 (sliceTy (tyRef (named 4) imm (pointee (u8 .written)))) l₅ (sliceVal (b₅, o₅) n₅) (full 𝓤 (sliceTy (tyRef (named 3) mut (pointee (u8 .written)))) l₄ (sliceVal (b₄, o₄) n₄) (full 𝓤 (sliceTy (tyRef (named 2) mut (pointee (Object-t.the-row .written)))) l₃ (sliceVal (b₃, o₃) n₃) (full 𝓤 (sliceTy (tyRef (named 1) mut (pointee ((Array u16 35) .written)))) l₂ (sliceVal (b₂, o₂) n₂) (full 𝓤 (sliceTy (tyRef (named 0) mut (pointee ((Array u64 5) .written)))) l₁ (sliceVal (b₁, o₁) n₁) (free 𝓤 Ran-l.mir l₀ ([])))))))))))))))))))))))))))))))) (runs C Λ En mir.t-3 (atRet En Post))
+    part-3-0 : (is-2 : Is (Parsed-p .row) (readAt (d) ((Cursor-of (r′ .at)) .at)) (Parsed-p .val (readAt (d) ((Cursor-of (r′ .at)) .at)) ∷ [])) → Sq W (‵ (MutSlice (named 0) κ₁ (Array u64 5) .own (at-list b₁ o₁ γ₁ sessions) (sliceVal (b₁, o₁) n₁ ∷ [])) ∷ ‵ (flft κ₁ q₁) ∷ ‵ (MutSlice (named 0) κ₂ (Array u16 35) .own (at-list b₂ o₂ γ₂ streams) (sliceVal (b₂, o₂) n₂ ∷ [])) ∷ ‵ (flft κ₂ q₂) ∷ ‵ (MutSlice (named 0) κ₃ Object-t.the-row .own (at-list b₃ o₃ γ₃ objects) (sliceVal (b₃, o₃) n₃ ∷ [])) ∷ ‵ (flft κ₃ q₃) ∷ ‵ (MutSlice (named 0) κ₄ u8 .own (at-list b₄ o₄ γ₄ out) (sliceVal (b₄, o₄) n₄ ∷ [])) ∷ ‵ (flft κ₄ q₄) ∷ ‵ (ShrSlice (named 0) κ₅ u8 .own (at-list b₅ o₅ γ₅ d) (sliceVal (b₅, o₅) n₅ ∷ [])) ∷ ‵ (flft κ₅ q₅) ∷ free 𝓤 (sliceTy (tyRef erased mut (pointee (u8 .written)))) l₂₈ (free 𝓤 (tyRef erased mut (pointee (u8 .written))) l₂₇ (free 𝓤 (sliceTy (tyRef erased mut (pointee (Object-t.the-row .written)))) l₂₆ (free 𝓤 (tyRef erased mut (pointee (Object-t.the-row .written))) l₂₅ (free 𝓤 (sliceTy (tyRef erased mut (pointee ((Array u16 35) .written)))) l₂₄ (free 𝓤 (tyRef erased mut (pointee ((Array u16 35) .written))) l₂₃ (free 𝓤 (sliceTy (tyRef erased mut (pointee ((Array u64 5) .written)))) l₂₂ (free 𝓤 (tyRef erased mut (pointee ((Array u64 5) .written))) l₂₁ (free 𝓤 (sliceTy (tyRef erased mut (pointee (u8 .written)))) l₂₀ (free 𝓤 (tyRef erased mut (pointee (u8 .written))) l₁₉ (free 𝓤 (sliceTy (tyRef erased mut (pointee ((Array u16 35) .written)))) l₁₈ (free 𝓤 (tyRef erased mut (pointee ((Array u16 35) .written))) l₁₇ (free 𝓤 (sliceTy (tyRef erased mut (pointee ((Array u64 5) .written)))) l₁₆ (free 𝓤 (tyRef erased mut (pointee ((Array u64 5) .written))) l₁₅ (free 𝓤 Ran-l.mir l₁₄ (free 𝓤 (tyInt w64) l₁₃ (free 𝓤 Opening-l.mir l₁₂ (free 𝓤 Asked-l.mir l₁₁ (free 𝓤 Taken-l.mir l₁₀ (full 𝓤 Parsed-l.mir l₉ (Parsed-p .val (readAt (d) ((Cursor-of (r′ .at)) .at))) (full 𝓤 Cursor-l.mir l₈ (Cursor-p .val (Cursor-of (r′ .at))) (full 𝓤 Ran-l.mir l₇ (Ran-p .val r′) (full 𝓤 Frame-l.mir l₆ (Frame-p .val f′) (full 𝓤 (sliceTy (tyRef (named 4) imm (pointee (u8 .written)))) l₅ (sliceVal (b₅, o₅) n₅) (full 𝓤 (sliceTy (tyRef (named 3) mut (pointee (u8 .written)))) l₄ (sliceVal (b₄, o₄) n₄) (full 𝓤 (sliceTy (tyRef (named 2) mut (pointee (Object-t.the-row .written)))) l₃ (sliceVal (b₃, o₃) n₃) (full 𝓤 (sliceTy (tyRef (named 1) mut (pointee ((Array u16 35) .written)))) l₂ (sliceVal (b₂, o₂) n₂) (full 𝓤 (sliceTy (tyRef (named 0) mut (pointee ((Array u64 5) .written)))) l₁ (sliceVal (b₁, o₁) n₁) (free 𝓤 Ran-l.mir l₀ ([])))))))))))))))))))))))))))))) (runs C Λ En mir.t-3 (atRet En Post))
     part-3-0 is-2 =
-        assigns ! (of-opd ! (load ! (from ! (fld ! refl (stop !))) (look-in ! 60 (sub ! 1 refl (whole !))))) (from ! (stop !)) (init ! 40 refl (u64-p .typed 𝓤 H A W n₅ ((refl, room₅ .0)))) $
-        -- 4: agent::turn::end_of
+        assigns ! (of-opd ! (load ! (from ! (fld ! refl (stop !))) (look-in ! 56 (sub ! 1 refl (whole !))))) (from ! (stop !)) (init ! 40 refl (u64-p .typed 𝓤 H A W n₅ ((refl, room₅ .0)))) $
+        -- 4: agent::turn::take_apart
         nothing ! $
         use1 W (raw (toks 𝓤 A 0 (tt) (tt))) (id⊢ 𝓤 _) $ nothing ! $
         owned ! (u64-p .row) (Is (u64-p .row)) (u64-p .makes 𝓤 H A W) n₅ (u64-p .val n₅ ∷ []) ((refl, room₅ .0)) $ fjoin ! $
         owned ! (Parsed-p .row) (Is (Parsed-p .row)) (Parsed-p .makes 𝓤 H A W) (readAt (d) ((Cursor-of (r′ .at)) .at)) (Parsed-p .val (readAt (d) ((Cursor-of (r′ .at)) .at)) ∷ []) is-2 $ fjoin ! $ move ! (1 ∷ 0 ∷ []) $
-        calls-any ! fm 0 [] (turn-end-of.signature .params) (turn-end-of.ended .kept) u64-p (turn-end-of.clauses 𝓤 H A mem run) known-turn-end-of tt tt tt (readAt (d) ((Cursor-of (r′ .at)) .at), (n₅, tt)) (Parsed-p .val (readAt (d) ((Cursor-of (r′ .at)) .at)) ∷ [], (u64-p .val n₅ ∷ [], tt)) tt (endRead (readAt (d) ((Cursor-of (r′ .at)) .at)) n₅) (λ ws-4. Unit {0}) (id⊢ 𝓤 _) (λ r ws-4. fact-mono 𝓤 (r ≡ endRead (readAt (d) ((Cursor-of (r′ .at)) .at)) n₅) ((r ≡ (endRead (readAt (d) ((Cursor-of (r′ .at)) .at)) n₅)) × (Unit {0})) (λ e. (e, tt))) (λ _. (and-then ! (load ! (from ! (stop !)) (look ! 53 refl)) (and-then ! (load ! (from ! (stop !)) (look ! 41 refl)) (no-more !)))) (λ ws-4 said-4 is-4.
+        calls-any ! fm 0 [] (turn-take-apart.signature .params) (turn-take-apart.ended .kept) Taken-p (turn-take-apart.clauses 𝓤 H A mem run) known-turn-take-apart tt tt tt (readAt (d) ((Cursor-of (r′ .at)) .at), (n₅, tt)) (Parsed-p .val (readAt (d) ((Cursor-of (r′ .at)) .at)) ∷ [], (u64-p .val n₅ ∷ [], tt)) tt (takenOf (readAt (d) ((Cursor-of (r′ .at)) .at)) n₅) (λ ws-4. Unit {0}) (id⊢ 𝓤 _) (λ r ws-4. fact-mono 𝓤 (r ≡ takenOf (readAt (d) ((Cursor-of (r′ .at)) .at)) n₅) ((r ≡ (takenOf (readAt (d) ((Cursor-of (r′ .at)) .at)) n₅)) × (Unit {0})) (λ e. (e, tt))) (λ _. (and-then ! (load ! (from ! (stop !)) (look ! 49 refl)) (and-then ! (load ! (from ! (stop !)) (look ! 41 refl)) (no-more !)))) (λ ws-4 said-4 is-4.
         drop ! $ drop ! $
-        land ! (from ! (stop !)) (init ! 50 refl (u64-p .typed 𝓤 H A W (endRead (readAt (d) ((Cursor-of (r′ .at)) .at)) n₅) is-4)) $
+        land ! (from ! (stop !)) (init ! 46 refl (Taken-p .typed 𝓤 H A W (takenOf (readAt (d) ((Cursor-of (r′ .at)) .at)) n₅) is-4)) $
         part-5-0 is-2 is-4)
 
-    begins : Sq W (‵ (MutSlice (named 0) κ₁ (Array u64 5) .own (at-list b₁ o₁ γ₁ sessions) (sliceVal (b₁, o₁) n₁ ∷ [])) ∷ ‵ (flft κ₁ q₁) ∷ ‵ (MutSlice (named 0) κ₂ (Array u16 35) .own (at-list b₂ o₂ γ₂ streams) (sliceVal (b₂, o₂) n₂ ∷ [])) ∷ ‵ (flft κ₂ q₂) ∷ ‵ (MutSlice (named 0) κ₃ Object-t.the-row .own (at-list b₃ o₃ γ₃ objects) (sliceVal (b₃, o₃) n₃ ∷ [])) ∷ ‵ (flft κ₃ q₃) ∷ ‵ (MutSlice (named 0) κ₄ u8 .own (at-list b₄ o₄ γ₄ out) (sliceVal (b₄, o₄) n₄ ∷ [])) ∷ ‵ (flft κ₄ q₄) ∷ ‵ (ShrSlice (named 0) κ₅ u8 .own (at-list b₅ o₅ γ₅ d) (sliceVal (b₅, o₅) n₅ ∷ [])) ∷ ‵ (flft κ₅ q₅) ∷ free 𝓤 (sliceTy (tyRef erased mut (pointee (u8 .written)))) l₃₀ (free 𝓤 (tyRef erased mut (pointee (u8 .written))) l₂₉ (free 𝓤 (sliceTy (tyRef erased mut (pointee (Object-t.the-row .written)))) l₂₈ (free 𝓤 (tyRef erased mut (pointee (Object-t.the-row .written))) l₂₇ (free 𝓤 (sliceTy (tyRef erased mut (pointee ((Array u16 35) .written)))) l₂₆ (free 𝓤 (tyRef erased mut (pointee ((Array u16 35) .written))) l₂₅ (free 𝓤 (sliceTy (tyRef erased mut (pointee ((Array u64 5) .written)))) l₂₄ (free 𝓤 (tyRef erased mut (pointee ((Array u64 5) .written))) l₂₃ (free 𝓤 (sliceTy (tyRef erased mut (pointee (u8 .written)))) l₂₂ (free 𝓤 (tyRef erased mut (pointee (u8 .written))) l₂₁ (free 𝓤 (sliceTy (tyRef erased mut (pointee ((Array u16 35) .written)))) l₂₀ (free 𝓤 (tyRef erased mut (pointee ((Array u16 35) .written))) l₁₉ (free 𝓤 (sliceTy (tyRef erased mut (pointee ((Array u64 5) .written)))) l₁₈ (free 𝓤 (tyRef erased mut (pointee ((Array u64 5) .written))) l₁₇ (free 𝓤 Ran-l.mir l₁₆ (free 𝓤 (tyInt w64) l₁₅ (free 𝓤 Opening-l.mir l₁₄ (free 𝓤 (tyInt w32) l₁₃ (free 𝓤 Span-l.mir l₁₂ (free 𝓤 Submessage-l.mir l₁₁ (free 𝓤 (tyInt w64) l₁₀ (free 𝓤 Parsed-l.mir l₉ (free 𝓤 Cursor-l.mir l₈ (full 𝓤 Ran-l.mir l₇ (Ran-p .val r′) (full 𝓤 Frame-l.mir l₆ (Frame-p .val f′) (full 𝓤 (sliceTy (tyRef (named 4) imm (pointee (u8 .written)))) l₅ (sliceVal (b₅, o₅) n₅) (full 𝓤 (sliceTy (tyRef (named 3) mut (pointee (u8 .written)))) l₄ (sliceVal (b₄, o₄) n₄) (full 𝓤 (sliceTy (tyRef (named 2) mut (pointee (Object-t.the-row .written)))) l₃ (sliceVal (b₃, o₃) n₃) (full 𝓤 (sliceTy (tyRef (named 1) mut (pointee ((Array u16 35) .written)))) l₂ (sliceVal (b₂, o₂) n₂) (full 𝓤 (sliceTy (tyRef (named 0) mut (pointee ((Array u64 5) .written)))) l₁ (sliceVal (b₁, o₁) n₁) (free 𝓤 Ran-l.mir l₀ ([])))))))))))))))))))))))))))))))) (runs C Λ En mir.t-1 (atRet En Post))
+    begins : Sq W (‵ (MutSlice (named 0) κ₁ (Array u64 5) .own (at-list b₁ o₁ γ₁ sessions) (sliceVal (b₁, o₁) n₁ ∷ [])) ∷ ‵ (flft κ₁ q₁) ∷ ‵ (MutSlice (named 0) κ₂ (Array u16 35) .own (at-list b₂ o₂ γ₂ streams) (sliceVal (b₂, o₂) n₂ ∷ [])) ∷ ‵ (flft κ₂ q₂) ∷ ‵ (MutSlice (named 0) κ₃ Object-t.the-row .own (at-list b₃ o₃ γ₃ objects) (sliceVal (b₃, o₃) n₃ ∷ [])) ∷ ‵ (flft κ₃ q₃) ∷ ‵ (MutSlice (named 0) κ₄ u8 .own (at-list b₄ o₄ γ₄ out) (sliceVal (b₄, o₄) n₄ ∷ [])) ∷ ‵ (flft κ₄ q₄) ∷ ‵ (ShrSlice (named 0) κ₅ u8 .own (at-list b₅ o₅ γ₅ d) (sliceVal (b₅, o₅) n₅ ∷ [])) ∷ ‵ (flft κ₅ q₅) ∷ free 𝓤 (sliceTy (tyRef erased mut (pointee (u8 .written)))) l₂₈ (free 𝓤 (tyRef erased mut (pointee (u8 .written))) l₂₇ (free 𝓤 (sliceTy (tyRef erased mut (pointee (Object-t.the-row .written)))) l₂₆ (free 𝓤 (tyRef erased mut (pointee (Object-t.the-row .written))) l₂₅ (free 𝓤 (sliceTy (tyRef erased mut (pointee ((Array u16 35) .written)))) l₂₄ (free 𝓤 (tyRef erased mut (pointee ((Array u16 35) .written))) l₂₃ (free 𝓤 (sliceTy (tyRef erased mut (pointee ((Array u64 5) .written)))) l₂₂ (free 𝓤 (tyRef erased mut (pointee ((Array u64 5) .written))) l₂₁ (free 𝓤 (sliceTy (tyRef erased mut (pointee (u8 .written)))) l₂₀ (free 𝓤 (tyRef erased mut (pointee (u8 .written))) l₁₉ (free 𝓤 (sliceTy (tyRef erased mut (pointee ((Array u16 35) .written)))) l₁₈ (free 𝓤 (tyRef erased mut (pointee ((Array u16 35) .written))) l₁₇ (free 𝓤 (sliceTy (tyRef erased mut (pointee ((Array u64 5) .written)))) l₁₆ (free 𝓤 (tyRef erased mut (pointee ((Array u64 5) .written))) l₁₅ (free 𝓤 Ran-l.mir l₁₄ (free 𝓤 (tyInt w64) l₁₃ (free 𝓤 Opening-l.mir l₁₂ (free 𝓤 Asked-l.mir l₁₁ (free 𝓤 Taken-l.mir l₁₀ (free 𝓤 Parsed-l.mir l₉ (free 𝓤 Cursor-l.mir l₈ (full 𝓤 Ran-l.mir l₇ (Ran-p .val r′) (full 𝓤 Frame-l.mir l₆ (Frame-p .val f′) (full 𝓤 (sliceTy (tyRef (named 4) imm (pointee (u8 .written)))) l₅ (sliceVal (b₅, o₅) n₅) (full 𝓤 (sliceTy (tyRef (named 3) mut (pointee (u8 .written)))) l₄ (sliceVal (b₄, o₄) n₄) (full 𝓤 (sliceTy (tyRef (named 2) mut (pointee (Object-t.the-row .written)))) l₃ (sliceVal (b₃, o₃) n₃) (full 𝓤 (sliceTy (tyRef (named 1) mut (pointee ((Array u16 35) .written)))) l₂ (sliceVal (b₂, o₂) n₂) (full 𝓤 (sliceTy (tyRef (named 0) mut (pointee ((Array u64 5) .written)))) l₁ (sliceVal (b₁, o₁) n₁) (free 𝓤 Ran-l.mir l₀ ([])))))))))))))))))))))))))))))) (runs C Λ En mir.t-1 (atRet En Post))
     begins =
-        assigns ! (agg ! (and-then ! (load ! (from ! (fld ! refl (stop !))) (look-in ! 56 (sub ! 1 refl (whole !)))) (no-more !))) (from ! (stop !)) (init ! 54 refl (Cursor-p .typed 𝓤 H A W (Cursor-of (r′ .at)) (LL.owes Cursor-t.the-type Cursor-l.the-laws (Cursor-of (r′ .at)) (LL.owed Ran-t.the-type Ran-l.the-laws r′ _ r′-is .1 .0, tt)))) $
+        assigns ! (agg ! (and-then ! (load ! (from ! (fld ! refl (stop !))) (look-in ! 52 (sub ! 1 refl (whole !)))) (no-more !))) (from ! (stop !)) (init ! 50 refl (Cursor-p .typed 𝓤 H A W (Cursor-of (r′ .at)) (LL.owes Cursor-t.the-type Cursor-l.the-laws (Cursor-of (r′ .at)) (LL.owed Ran-t.the-type Ran-l.the-laws r′ _ r′-is .1 .0, tt)))) $
         -- 2: codec::reading::read
         move ! (8 ∷ 9 ∷ []) $
         copies-shr ! u8 b₅ o₅ d n₅ $ nothing ! $ move ! (1 ∷ 0 ∷ []) $ join ! $
         use1 W (raw (toks 𝓤 A 1 ((κ₅, tt)) ((q₅, tt)))) (id⊢ 𝓤 _) $ nothing ! $
         owned ! (Cursor-p .row) (Is (Cursor-p .row)) (Cursor-p .makes 𝓤 H A W) (Cursor-of (r′ .at)) (Cursor-p .val (Cursor-of (r′ .at)) ∷ []) (LL.owes Cursor-t.the-type Cursor-l.the-laws (Cursor-of (r′ .at)) (LL.owed Ran-t.the-type Ran-l.the-laws r′ _ r′-is .1 .0, tt)) $ fjoin ! $ move ! (2 ∷ 0 ∷ []) $ fjoin ! $ move ! (1 ∷ 0 ∷ []) $
-        calls-any ! fm 1 [] (reading-read.signature .params) (reading-read.ended .kept) Parsed-p (reading-read.clauses 𝓤 H A mem run) known-reading-read (κ₅, tt) (q₅, tt) tt (at-list b₅ o₅ γ₅ d, (Cursor-of (r′ .at), tt)) (sliceVal (b₅, o₅) n₅ ∷ [], (Cursor-p .val (Cursor-of (r′ .at)) ∷ [], tt)) tt (readAt (d) ((Cursor-of (r′ .at)) .at)) (λ ws-2. Unit {0}) (id⊢ 𝓤 _) (λ r ws-2. fact-mono 𝓤 (r ≡ readAt (d) ((Cursor-of (r′ .at)) .at)) ((r ≡ (readAt (d) ((Cursor-of (r′ .at)) .at))) × (Unit {0})) (λ e. (e, tt))) (λ _. (and-then ! (load ! (from ! (stop !)) (look ! 60 refl)) (and-then ! (load ! (from ! (stop !)) (look ! 54 refl)) (no-more !)))) (λ ws-2 said-2 is-2.
+        calls-any ! fm 1 [] (reading-read.signature .params) (reading-read.ended .kept) Parsed-p (reading-read.clauses 𝓤 H A mem run) known-reading-read (κ₅, tt) (q₅, tt) tt (at-list b₅ o₅ γ₅ d, (Cursor-of (r′ .at), tt)) (sliceVal (b₅, o₅) n₅ ∷ [], (Cursor-p .val (Cursor-of (r′ .at)) ∷ [], tt)) tt (readAt (d) ((Cursor-of (r′ .at)) .at)) (λ ws-2. Unit {0}) (id⊢ 𝓤 _) (λ r ws-2. fact-mono 𝓤 (r ≡ readAt (d) ((Cursor-of (r′ .at)) .at)) ((r ≡ (readAt (d) ((Cursor-of (r′ .at)) .at))) × (Unit {0})) (λ e. (e, tt))) (λ _. (and-then ! (load ! (from ! (stop !)) (look ! 56 refl)) (and-then ! (load ! (from ! (stop !)) (look ! 50 refl)) (no-more !)))) (λ ws-2 said-2 is-2.
         use1 W ((‵ (flft κ₅ q₅) ⊛ ‵ ftrue)) (id⊢ 𝓤 _) $ split ! $ move ! (2 ∷ []) $ fsplit ! $ drop ! $ drop ! $ move ! (1 ∷ []) $ drop ! $
-        land ! (from ! (stop !)) (init ! 52 refl (Parsed-p .typed 𝓤 H A W (readAt (d) ((Cursor-of (r′ .at)) .at)) is-2)) $ move ! (2 ∷ 3 ∷ 4 ∷ 5 ∷ 6 ∷ 7 ∷ 8 ∷ 9 ∷ 1 ∷ 0 ∷ 10 ∷ 11 ∷ 12 ∷ 13 ∷ 14 ∷ 15 ∷ 16 ∷ 17 ∷ 18 ∷ 19 ∷ 20 ∷ 21 ∷ 22 ∷ 23 ∷ 24 ∷ 25 ∷ 26 ∷ 27 ∷ 28 ∷ 29 ∷ 30 ∷ 31 ∷ 32 ∷ 33 ∷ 34 ∷ 35 ∷ 36 ∷ 37 ∷ 38 ∷ 39 ∷ 40 ∷ 41 ∷ 42 ∷ 43 ∷ 44 ∷ 45 ∷ 46 ∷ 47 ∷ 48 ∷ 49 ∷ 50 ∷ 51 ∷ 52 ∷ 53 ∷ 54 ∷ 55 ∷ 56 ∷ 57 ∷ 58 ∷ 59 ∷ 60 ∷ 61 ∷ 62 ∷ 63 ∷ 64 ∷ 65 ∷ 66 ∷ 67 ∷ 68 ∷ 69 ∷ 70 ∷ 71 ∷ []) $
+        land ! (from ! (stop !)) (init ! 48 refl (Parsed-p .typed 𝓤 H A W (readAt (d) ((Cursor-of (r′ .at)) .at)) is-2)) $ move ! (2 ∷ 3 ∷ 4 ∷ 5 ∷ 6 ∷ 7 ∷ 8 ∷ 9 ∷ 1 ∷ 0 ∷ 10 ∷ 11 ∷ 12 ∷ 13 ∷ 14 ∷ 15 ∷ 16 ∷ 17 ∷ 18 ∷ 19 ∷ 20 ∷ 21 ∷ 22 ∷ 23 ∷ 24 ∷ 25 ∷ 26 ∷ 27 ∷ 28 ∷ 29 ∷ 30 ∷ 31 ∷ 32 ∷ 33 ∷ 34 ∷ 35 ∷ 36 ∷ 37 ∷ 38 ∷ 39 ∷ 40 ∷ 41 ∷ 42 ∷ 43 ∷ 44 ∷ 45 ∷ 46 ∷ 47 ∷ 48 ∷ 49 ∷ 50 ∷ 51 ∷ 52 ∷ 53 ∷ 54 ∷ 55 ∷ 56 ∷ 57 ∷ 58 ∷ 59 ∷ 60 ∷ 61 ∷ 62 ∷ 63 ∷ 64 ∷ 65 ∷ 66 ∷ 67 ∷ []) $
         part-3-0 is-2)
 
-  module _ (𝓣 : Tables 𝓤 H) (known-reading-read : Triple 𝓤 (𝓣 .C #reading-read) (Of-reading-read 𝓤 H A mem run)) (known-turn-end-of : Triple 𝓤 (𝓣 .C #turn-end-of) (Of-turn-end-of 𝓤 H A mem run)) (known-turn-message-of : Triple 𝓤 (𝓣 .C #turn-message-of) (Of-turn-message-of 𝓤 H A mem run)) (known-turn-body-of : Triple 𝓤 (𝓣 .C #turn-body-of) (Of-turn-body-of 𝓤 H A mem run)) (known-clients-key-in : Triple 𝓤 (𝓣 .C #clients-key-in) (Of-clients-key-in 𝓤 H A mem run)) (known-turn-opening-read : Triple 𝓤 (𝓣 .C #turn-opening-read) (Of-turn-opening-read 𝓤 H A mem run)) (known-turn-greet : Triple 𝓤 (𝓣 .C #turn-greet) (Of-turn-greet 𝓤 H A mem run)) (known-turn-deliver : Triple 𝓤 (𝓣 .C #turn-deliver) (Of-turn-deliver 𝓤 H A mem run)) (known-turn-passed : Triple 𝓤 (𝓣 .C #turn-passed) (Of-turn-passed 𝓤 H A mem run)) where
+  module _ (𝓣 : Tables 𝓤 H) (known-reading-read : Triple 𝓤 (𝓣 .C #reading-read) (Of-reading-read 𝓤 H A mem run)) (known-turn-take-apart : Triple 𝓤 (𝓣 .C #turn-take-apart) (Of-turn-take-apart 𝓤 H A mem run)) (known-turn-greet : Triple 𝓤 (𝓣 .C #turn-greet) (Of-turn-greet 𝓤 H A mem run)) (known-turn-deliver : Triple 𝓤 (𝓣 .C #turn-deliver) (Of-turn-deliver 𝓤 H A mem run)) (known-turn-passed : Triple 𝓤 (𝓣 .C #turn-passed) (Of-turn-passed 𝓤 H A mem run)) where
     walk : ent 𝓤 (onEntry 𝓤 H A f.signature (κ₁, (κ₂, (κ₃, (κ₄, (κ₅, tt))))) (q₁, (q₂, (q₃, (q₄, (q₅, tt))))) x at) (WpFn 𝓤 H (𝓣 .C) (𝓣 .Λ) code.function (sliceVal (b₁, o₁) n₁ ∷ sliceVal (b₂, o₂) n₂ ∷ sliceVal (b₃, o₃) n₃ ∷ sliceVal (b₄, o₄) n₄ ∷ sliceVal (b₅, o₅) n₅ ∷ Frame-p .val f′ ∷ Ran-p .val r′ ∷ []) Post)
     walk =
         qed W ((‵ (flft κ₁ q₁) ⊛ (‵ (flft κ₂ q₂) ⊛ (‵ (flft κ₃ q₃) ⊛ (‵ (flft κ₄ q₄) ⊛ (‵ (flft κ₅ q₅) ⊛ ‵ ftrue))))) ∷ ‵ (owns (MutSlice (named 0) κ₁ (Array u64 5) ∷ MutSlice (named 1) κ₂ (Array u16 35) ∷ MutSlice (named 2) κ₃ Object-t.the-row ∷ MutSlice (named 3) κ₄ u8 ∷ ShrSlice (named 4) κ₅ u8 ∷ Frame-p .row ∷ Ran-p .row ∷ []) x at) ∷ []) ∵ enter ! (𝓣 .C) (𝓣 .Λ) code.function (sliceVal (b₁, o₁) n₁ ∷ sliceVal (b₂, o₂) n₂ ∷ sliceVal (b₃, o₃) n₃ ∷ sliceVal (b₄, o₄) n₄ ∷ sliceVal (b₅, o₅) n₅ ∷ Frame-p .val f′ ∷ Ran-p .val r′ ∷ []) _ $
-        alloc1 ! (λ l₀. alloc1 ! (λ l₁. alloc1 ! (λ l₂. alloc1 ! (λ l₃. alloc1 ! (λ l₄. alloc1 ! (λ l₅. alloc1 ! (λ l₆. alloc1 ! (λ l₇. alloc1 ! (λ l₈. alloc1 ! (λ l₉. alloc1 ! (λ l₁₀. alloc1 ! (λ l₁₁. alloc1 ! (λ l₁₂. alloc1 ! (λ l₁₃. alloc1 ! (λ l₁₄. alloc1 ! (λ l₁₅. alloc1 ! (λ l₁₆. alloc1 ! (λ l₁₇. alloc1 ! (λ l₁₈. alloc1 ! (λ l₁₉. alloc1 ! (λ l₂₀. alloc1 ! (λ l₂₁. alloc1 ! (λ l₂₂. alloc1 ! (λ l₂₃. alloc1 ! (λ l₂₄. alloc1 ! (λ l₂₅. alloc1 ! (λ l₂₆. alloc1 ! (λ l₂₇. alloc1 ! (λ l₂₈. alloc1 ! (λ l₂₉. alloc1 ! (λ l₃₀. alloc0 ! $ params1 ! $ pass1 ! (init ! 58 refl (tt, (tt, (record { fits = room₁ .0 }, tt)))) $ pass1 ! (init ! 56 refl (tt, (tt, (record { fits = room₂ .0 }, tt)))) $ pass1 ! (init ! 54 refl (tt, (tt, (record { fits = room₃ .0 }, tt)))) $ pass1 ! (init ! 52 refl (tt, (tt, (record { fits = room₄ .0 }, tt)))) $ pass1 ! (init ! 50 refl (tt, (tt, (record { fits = room₅ .0 }, tt)))) $ pass1 ! (init ! 48 refl (Frame-p .typed 𝓤 H A W f′ f′-is)) $ pass1 ! (init ! 46 refl (Ran-p .typed 𝓤 H A W r′ r′-is)) $ pass0 ! $ move ! (63 ∷ []) $ fsplit ! $ move ! (1 ∷ []) $ fsplit ! $ move ! (1 ∷ []) $ fsplit ! $ move ! (1 ∷ []) $ fsplit ! $ move ! (1 ∷ []) $ fsplit ! $ move ! (68 ∷ []) $ split ! $ move ! (1 ∷ []) $ split ! $ move ! (1 ∷ []) $ split ! $ move ! (1 ∷ []) $ split ! $ move ! (1 ∷ []) $ split ! $ move ! (1 ∷ []) $ drop ! $ move ! (6 ∷ []) $ drop ! $ move ! (9 ∷ 4 ∷ 8 ∷ 3 ∷ 7 ∷ 2 ∷ 6 ∷ 1 ∷ 5 ∷ 0 ∷ 10 ∷ 11 ∷ 12 ∷ 13 ∷ 14 ∷ 15 ∷ 16 ∷ 17 ∷ 18 ∷ 19 ∷ 20 ∷ 21 ∷ 22 ∷ 23 ∷ 24 ∷ 25 ∷ 26 ∷ 27 ∷ 28 ∷ 29 ∷ 30 ∷ 31 ∷ 32 ∷ 33 ∷ 34 ∷ 35 ∷ 36 ∷ 37 ∷ 38 ∷ 39 ∷ 40 ∷ 41 ∷ 42 ∷ 43 ∷ 44 ∷ 45 ∷ 46 ∷ 47 ∷ 48 ∷ 49 ∷ 50 ∷ 51 ∷ 52 ∷ 53 ∷ 54 ∷ 55 ∷ 56 ∷ 57 ∷ 58 ∷ 59 ∷ 60 ∷ 61 ∷ 62 ∷ 63 ∷ 64 ∷ 65 ∷ 66 ∷ 67 ∷ 68 ∷ 69 ∷ 70 ∷ 71 ∷ []) $
-        begins 𝓣 known-reading-read known-turn-end-of known-turn-message-of known-turn-body-of known-clients-key-in known-turn-opening-read known-turn-greet known-turn-deliver known-turn-passed l₀ l₁ l₂ l₃ l₄ l₅ l₆ l₇ l₈ l₉ l₁₀ l₁₁ l₁₂ l₁₃ l₁₄ l₁₅ l₁₆ l₁₇ l₁₈ l₁₉ l₂₀ l₂₁ l₂₂ l₂₃ l₂₄ l₂₅ l₂₆ l₂₇ l₂₈ l₂₉ l₃₀)))))))))))))))))))))))))))))))
+        alloc1 ! (λ l₀. alloc1 ! (λ l₁. alloc1 ! (λ l₂. alloc1 ! (λ l₃. alloc1 ! (λ l₄. alloc1 ! (λ l₅. alloc1 ! (λ l₆. alloc1 ! (λ l₇. alloc1 ! (λ l₈. alloc1 ! (λ l₉. alloc1 ! (λ l₁₀. alloc1 ! (λ l₁₁. alloc1 ! (λ l₁₂. alloc1 ! (λ l₁₃. alloc1 ! (λ l₁₄. alloc1 ! (λ l₁₅. alloc1 ! (λ l₁₆. alloc1 ! (λ l₁₇. alloc1 ! (λ l₁₈. alloc1 ! (λ l₁₉. alloc1 ! (λ l₂₀. alloc1 ! (λ l₂₁. alloc1 ! (λ l₂₂. alloc1 ! (λ l₂₃. alloc1 ! (λ l₂₄. alloc1 ! (λ l₂₅. alloc1 ! (λ l₂₆. alloc1 ! (λ l₂₇. alloc1 ! (λ l₂₈. alloc0 ! $ params1 ! $ pass1 ! (init ! 54 refl (tt, (tt, (record { fits = room₁ .0 }, tt)))) $ pass1 ! (init ! 52 refl (tt, (tt, (record { fits = room₂ .0 }, tt)))) $ pass1 ! (init ! 50 refl (tt, (tt, (record { fits = room₃ .0 }, tt)))) $ pass1 ! (init ! 48 refl (tt, (tt, (record { fits = room₄ .0 }, tt)))) $ pass1 ! (init ! 46 refl (tt, (tt, (record { fits = room₅ .0 }, tt)))) $ pass1 ! (init ! 44 refl (Frame-p .typed 𝓤 H A W f′ f′-is)) $ pass1 ! (init ! 42 refl (Ran-p .typed 𝓤 H A W r′ r′-is)) $ pass0 ! $ move ! (59 ∷ []) $ fsplit ! $ move ! (1 ∷ []) $ fsplit ! $ move ! (1 ∷ []) $ fsplit ! $ move ! (1 ∷ []) $ fsplit ! $ move ! (1 ∷ []) $ fsplit ! $ move ! (64 ∷ []) $ split ! $ move ! (1 ∷ []) $ split ! $ move ! (1 ∷ []) $ split ! $ move ! (1 ∷ []) $ split ! $ move ! (1 ∷ []) $ split ! $ move ! (1 ∷ []) $ drop ! $ move ! (6 ∷ []) $ drop ! $ move ! (9 ∷ 4 ∷ 8 ∷ 3 ∷ 7 ∷ 2 ∷ 6 ∷ 1 ∷ 5 ∷ 0 ∷ 10 ∷ 11 ∷ 12 ∷ 13 ∷ 14 ∷ 15 ∷ 16 ∷ 17 ∷ 18 ∷ 19 ∷ 20 ∷ 21 ∷ 22 ∷ 23 ∷ 24 ∷ 25 ∷ 26 ∷ 27 ∷ 28 ∷ 29 ∷ 30 ∷ 31 ∷ 32 ∷ 33 ∷ 34 ∷ 35 ∷ 36 ∷ 37 ∷ 38 ∷ 39 ∷ 40 ∷ 41 ∷ 42 ∷ 43 ∷ 44 ∷ 45 ∷ 46 ∷ 47 ∷ 48 ∷ 49 ∷ 50 ∷ 51 ∷ 52 ∷ 53 ∷ 54 ∷ 55 ∷ 56 ∷ 57 ∷ 58 ∷ 59 ∷ 60 ∷ 61 ∷ 62 ∷ 63 ∷ 64 ∷ 65 ∷ 66 ∷ 67 ∷ []) $
+        begins 𝓣 known-reading-read known-turn-take-apart known-turn-greet known-turn-deliver known-turn-passed l₀ l₁ l₂ l₃ l₄ l₅ l₆ l₇ l₈ l₉ l₁₀ l₁₁ l₁₂ l₁₃ l₁₄ l₁₅ l₁₆ l₁₇ l₁₈ l₁₉ l₂₀ l₂₁ l₂₂ l₂₃ l₂₄ l₂₅ l₂₆ l₂₇ l₂₈)))))))))))))))))))))))))))))
 
-module _ {M : Type 1} (𝓤 : URA M) (H : Heap 𝓤) (A : Atoms 𝓤) (W : Given 𝓤 H A) (mem : Memory → SProp 𝓤) (run : Routine → Fun 𝓤) (𝓣 : Tables 𝓤 H) (known-reading-read : Triple 𝓤 (𝓣 .C #reading-read) (Of-reading-read 𝓤 H A mem run)) (known-turn-end-of : Triple 𝓤 (𝓣 .C #turn-end-of) (Of-turn-end-of 𝓤 H A mem run)) (known-turn-message-of : Triple 𝓤 (𝓣 .C #turn-message-of) (Of-turn-message-of 𝓤 H A mem run)) (known-turn-body-of : Triple 𝓤 (𝓣 .C #turn-body-of) (Of-turn-body-of 𝓤 H A mem run)) (known-clients-key-in : Triple 𝓤 (𝓣 .C #clients-key-in) (Of-clients-key-in 𝓤 H A mem run)) (known-turn-opening-read : Triple 𝓤 (𝓣 .C #turn-opening-read) (Of-turn-opening-read 𝓤 H A mem run)) (known-turn-greet : Triple 𝓤 (𝓣 .C #turn-greet) (Of-turn-greet 𝓤 H A mem run)) (known-turn-deliver : Triple 𝓤 (𝓣 .C #turn-deliver) (Of-turn-deliver 𝓤 H A mem run)) (known-turn-passed : Triple 𝓤 (𝓣 .C #turn-passed) (Of-turn-passed 𝓤 H A mem run)) where
+module _ {M : Type 1} (𝓤 : URA M) (H : Heap 𝓤) (A : Atoms 𝓤) (W : Given 𝓤 H A) (mem : Memory → SProp 𝓤) (run : Routine → Fun 𝓤) (𝓣 : Tables 𝓤 H) (known-reading-read : Triple 𝓤 (𝓣 .C #reading-read) (Of-reading-read 𝓤 H A mem run)) (known-turn-take-apart : Triple 𝓤 (𝓣 .C #turn-take-apart) (Of-turn-take-apart 𝓤 H A mem run)) (known-turn-greet : Triple 𝓤 (𝓣 .C #turn-greet) (Of-turn-greet 𝓤 H A mem run)) (known-turn-deliver : Triple 𝓤 (𝓣 .C #turn-deliver) (Of-turn-deliver 𝓤 H A mem run)) (known-turn-passed : Triple 𝓤 (𝓣 .C #turn-passed) (Of-turn-passed 𝓤 H A mem run)) where
   walks : Walks 𝓤 H A f.ended stayed (WpFn 𝓤 H (𝓣 .C) (𝓣 .Λ) code.function) (f.clauses 𝓤 H A mem run)
   walks = walked 𝓤 H A f.ended stayed (f.clauses 𝓤 H A mem run) (WpFn 𝓤 H (𝓣 .C) (𝓣 .Λ) code.function) (λ κs. (slice-vals, (slice-vals, (slice-vals, (slice-vals, (slice-vals, ((λ y. Frame-p .val y ∷ []), ((λ y. Ran-p .val y ∷ []), tt)))))))) (λ κs. (mut-slice-tells (named 0) (κs .0) (Array u64 5), (mut-slice-tells (named 1) (κs .1 .0) (Array u16 35), (mut-slice-tells (named 2) (κs .1 .1 .0) Object-t.the-row, (mut-slice-tells (named 3) (κs .1 .1 .1 .0) u8, (shr-slice-tells (named 4) (κs .1 .1 .1 .1 .0) u8, (Frame-p .tells, (Ran-p .tells, tt))))))))
-      (λ κs qs bounds a g are. needs 𝓤 _ _ (λ within. walk 𝓤 H A W mem run (κs .0) (qs .0) (a .0 .ptr .0) (a .0 .ptr .1) (a .0 .name) (a .0 .now) (κs .1 .0) (qs .1 .0) (a .1 .0 .ptr .0) (a .1 .0 .ptr .1) (a .1 .0 .name) (a .1 .0 .now) (κs .1 .1 .0) (qs .1 .1 .0) (a .1 .1 .0 .ptr .0) (a .1 .1 .0 .ptr .1) (a .1 .1 .0 .name) (a .1 .1 .0 .now) (κs .1 .1 .1 .0) (qs .1 .1 .1 .0) (a .1 .1 .1 .0 .ptr .0) (a .1 .1 .1 .0 .ptr .1) (a .1 .1 .1 .0 .name) (a .1 .1 .1 .0 .now) (κs .1 .1 .1 .1 .0) (qs .1 .1 .1 .1 .0) (a .1 .1 .1 .1 .0 .ptr .0) (a .1 .1 .1 .1 .0 .ptr .1) (a .1 .1 .1 .1 .0 .name) (a .1 .1 .1 .1 .0 .now) (a .1 .1 .1 .1 .1 .0) (a .1 .1 .1 .1 .1 .1 .0) (are .0 .0 .1) (are .1 .0 .0 .1) (are .1 .1 .0 .0 .1) (are .1 .1 .1 .0 .0 .1) (are .1 .1 .1 .1 .0 .0 .1) (are .1 .1 .1 .1 .1 .0) (are .1 .1 .1 .1 .1 .1 .0) within 𝓣 known-reading-read known-turn-end-of known-turn-message-of known-turn-body-of known-clients-key-in known-turn-opening-read known-turn-greet known-turn-deliver known-turn-passed))
+      (λ κs qs bounds a g are. needs 𝓤 _ _ (λ within. walk 𝓤 H A W mem run (κs .0) (qs .0) (a .0 .ptr .0) (a .0 .ptr .1) (a .0 .name) (a .0 .now) (κs .1 .0) (qs .1 .0) (a .1 .0 .ptr .0) (a .1 .0 .ptr .1) (a .1 .0 .name) (a .1 .0 .now) (κs .1 .1 .0) (qs .1 .1 .0) (a .1 .1 .0 .ptr .0) (a .1 .1 .0 .ptr .1) (a .1 .1 .0 .name) (a .1 .1 .0 .now) (κs .1 .1 .1 .0) (qs .1 .1 .1 .0) (a .1 .1 .1 .0 .ptr .0) (a .1 .1 .1 .0 .ptr .1) (a .1 .1 .1 .0 .name) (a .1 .1 .1 .0 .now) (κs .1 .1 .1 .1 .0) (qs .1 .1 .1 .1 .0) (a .1 .1 .1 .1 .0 .ptr .0) (a .1 .1 .1 .1 .0 .ptr .1) (a .1 .1 .1 .1 .0 .name) (a .1 .1 .1 .1 .0 .now) (a .1 .1 .1 .1 .1 .0) (a .1 .1 .1 .1 .1 .1 .0) (are .0 .0 .1) (are .1 .0 .0 .1) (are .1 .1 .0 .0 .1) (are .1 .1 .1 .0 .0 .1) (are .1 .1 .1 .1 .0 .0 .1) (are .1 .1 .1 .1 .1 .0) (are .1 .1 .1 .1 .1 .1 .0) within 𝓣 known-reading-read known-turn-take-apart known-turn-greet known-turn-deliver known-turn-passed))
 
   meets : Meets 𝓤 H A f.signature (WpFn 𝓤 H (𝓣 .C) (𝓣 .Λ) code.function) (f.spec 𝓤 H A mem run)
   meets = walk-meets 𝓤 H A f.ended stayed W (goes-slice 𝓤 H A W 5 0 tt (plain (λ _. (Array u64 5))), (goes-slice 𝓤 H A W 5 1 tt (plain (λ _. (Array u16 35))), (goes-slice 𝓤 H A W 5 2 tt (plain (λ _. Object-t.the-row)), (goes-slice 𝓤 H A W 5 3 tt (plain (λ _. u8)), (goes-none-slice 𝓤 H A W 5 (4 ∷ []) tt (plain (λ _. u8)) yes, (goes-none 𝓤 H A W 5 (λ _. Frame-p .row) yes (λ κs x f. refl), (goes-none 𝓤 H A W 5 (λ _. Ran-p .row) yes (λ κs x f. refl), tt))))))) (f.clauses 𝓤 H A mem run) (WpFn 𝓤 H (𝓣 .C) (𝓣 .Λ) code.function) (WpFn-mono 𝓤 H (W .laws) 𝓣 code.function) walks
@@ -636,11 +588,7 @@ turn-spec 𝓤 H 𝓜 𝓖 𝓡 =
     (tables 𝓤 H 𝓜 𝓡 code.env .C) (tables 𝓤 H 𝓜 𝓡 code.env .Λ) #f code.function (code.unfolded 𝓤 H 𝓜 𝓡)
     (meets 𝓤 H (𝓖 .A) (givenOf 𝓤 H 𝓜 𝓖) (𝓜 .mem) (𝓡 .run) (tablesOf 𝓤 H 𝓜 (tables 𝓤 H 𝓜 𝓡 code.env))
     (cited 𝓤 H (Of-reading-read 𝓤 H (𝓖 .A) (𝓜 .mem) (𝓡 .run)) 𝓜 𝓡 code.env #reading-read reading-read-def.routine code.calls-codec·reading·read (reading-read-thm.met 𝓤 H 𝓜 𝓖 𝓡))
-    (cited 𝓤 H (Of-turn-end-of 𝓤 H (𝓖 .A) (𝓜 .mem) (𝓡 .run)) 𝓜 𝓡 code.env #turn-end-of turn-end-of-def.routine code.calls-agent·turn·end-of (turn-end-of-thm.met 𝓤 H 𝓜 𝓖 𝓡))
-    (cited 𝓤 H (Of-turn-message-of 𝓤 H (𝓖 .A) (𝓜 .mem) (𝓡 .run)) 𝓜 𝓡 code.env #turn-message-of turn-message-of-def.routine code.calls-agent·turn·message-of (turn-message-of-thm.met 𝓤 H 𝓜 𝓖 𝓡))
-    (cited 𝓤 H (Of-turn-body-of 𝓤 H (𝓖 .A) (𝓜 .mem) (𝓡 .run)) 𝓜 𝓡 code.env #turn-body-of turn-body-of-def.routine code.calls-agent·turn·body-of (turn-body-of-thm.met 𝓤 H 𝓜 𝓖 𝓡))
-    (cited 𝓤 H (Of-clients-key-in 𝓤 H (𝓖 .A) (𝓜 .mem) (𝓡 .run)) 𝓜 𝓡 code.env #clients-key-in clients-key-in-def.routine code.calls-agent·clients·key-in (clients-key-in-thm.met 𝓤 H 𝓜 𝓖 𝓡))
-    (cited 𝓤 H (Of-turn-opening-read 𝓤 H (𝓖 .A) (𝓜 .mem) (𝓡 .run)) 𝓜 𝓡 code.env #turn-opening-read turn-opening-read-def.routine code.calls-agent·turn·opening-read (turn-opening-read-thm.met 𝓤 H 𝓜 𝓖 𝓡))
+    (cited 𝓤 H (Of-turn-take-apart 𝓤 H (𝓖 .A) (𝓜 .mem) (𝓡 .run)) 𝓜 𝓡 code.env #turn-take-apart turn-take-apart-def.routine code.calls-agent·turn·take-apart (turn-take-apart-thm.met 𝓤 H 𝓜 𝓖 𝓡))
     (cited 𝓤 H (Of-turn-greet 𝓤 H (𝓖 .A) (𝓜 .mem) (𝓡 .run)) 𝓜 𝓡 code.env #turn-greet turn-greet-def.routine code.calls-agent·turn·greet (turn-greet-thm.met 𝓤 H 𝓜 𝓖 𝓡))
     (cited 𝓤 H (Of-turn-deliver 𝓤 H (𝓖 .A) (𝓜 .mem) (𝓡 .run)) 𝓜 𝓡 code.env #turn-deliver turn-deliver-def.routine code.calls-agent·turn·deliver (turn-deliver-thm.met 𝓤 H 𝓜 𝓖 𝓡))
     (cited 𝓤 H (Of-turn-passed 𝓤 H (𝓖 .A) (𝓜 .mem) (𝓡 .run)) 𝓜 𝓡 code.env #turn-passed turn-passed-def.routine code.calls-agent·turn·passed (turn-passed-thm.met 𝓤 H 𝓜 𝓖 𝓡)))

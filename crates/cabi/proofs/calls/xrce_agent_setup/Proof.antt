@@ -53,7 +53,7 @@ use borrow.Rule.Slice.PartMut.{midOf, putMid}
 use Rattle.walk.proofs.Parts.{part-len, lends-part, backs-part, parts-shr}
 use Rattle.walk.proofs.Arrays.{rep-is, lends-array, backs-array}
 use Rattle.sessions.specs.Need.{neededFor}
-use Rattle.agent.specs.Rows.{lent}
+use Rattle.moves.specs.Rows.{lent}
 use Rattle.cabi.specs.Answers.{outcomeAs, neededAs}
 use Rattle.cabi.specs.Record.{recordsAfter}
 use Rattle.cabi.specs.Calls.{readyAs, readyRecords, processLeft, setUpLeft, removeAnswer, removeRows, sweepAnswer, sweepRows, sweepOut}
@@ -82,10 +82,10 @@ use Rattle.agent.specs.declared.state.Waiting.the-variants.{Nothing as Waiting-
 use Rattle.agent.specs.declared.state.Pending.{Pending}
 use Rattle.agent.proofs.state.Pending as Pending-t
 use Rattle.agent.proofs.state.Pending.Laws as Pending-l
-use Rattle.agent.specs.declared.proxy.Task.{Task}
-use Rattle.agent.proofs.proxy.Task as Task-t
-use Rattle.agent.proofs.proxy.Task.Laws as Task-l
-use Rattle.agent.specs.declared.proxy.Task.the-variants.{Creating as Task-Creating, Writing as Task-Writing, Reading as Task-Reading, Deleting as Task-Deleting}
+use Rattle.moves.specs.declared.proxy.Task.{Task}
+use Rattle.moves.proofs.proxy.Task as Task-t
+use Rattle.moves.proofs.proxy.Task.Laws as Task-l
+use Rattle.moves.specs.declared.proxy.Task.the-variants.{Creating as Task-Creating, Writing as Task-Writing, Reading as Task-Reading, Deleting as Task-Deleting}
 use Rattle.codec.specs.declared.refusals.Refusal.{Refusal}
 use Rattle.codec.proofs.refusals.Refusal as Refusal-t
 use Rattle.codec.proofs.refusals.Refusal.Laws as Refusal-l

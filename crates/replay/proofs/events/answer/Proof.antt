@@ -54,7 +54,7 @@ use Rattle.walk.proofs.Parts.{part-len, lends-part, backs-part, parts-shr}
 use Rattle.walk.proofs.Arrays.{rep-is, lends-array, backs-array}
 use Rattle.sessions.specs.Setup.{setUpOf}
 use Rattle.sessions.specs.Calls.{setUpTables}
-use Rattle.agent.specs.Rows.{lent}
+use Rattle.moves.specs.Rows.{lent}
 use Rattle.agent.specs.Host.{setUpAs, incomingOf, answerOf, idleOf, removedAs, removedBy, removedRows, sweptBy, sweptRows, sweptOut}
 use Rattle.sessions.specs.declared.objects.Object.{Object}
 use Rattle.sessions.proofs.objects.Object as Object-t
@@ -75,10 +75,10 @@ use Rattle.agent.specs.declared.state.Waiting.the-variants.{Nothing as Waiting-
 use Rattle.agent.specs.declared.state.Pending.{Pending}
 use Rattle.agent.proofs.state.Pending as Pending-t
 use Rattle.agent.proofs.state.Pending.Laws as Pending-l
-use Rattle.agent.specs.declared.proxy.Task.{Task}
-use Rattle.agent.proofs.proxy.Task as Task-t
-use Rattle.agent.proofs.proxy.Task.Laws as Task-l
-use Rattle.agent.specs.declared.proxy.Task.the-variants.{Creating as Task-Creating, Writing as Task-Writing, Reading as Task-Reading, Deleting as Task-Deleting}
+use Rattle.moves.specs.declared.proxy.Task.{Task}
+use Rattle.moves.proofs.proxy.Task as Task-t
+use Rattle.moves.proofs.proxy.Task.Laws as Task-l
+use Rattle.moves.specs.declared.proxy.Task.the-variants.{Creating as Task-Creating, Writing as Task-Writing, Reading as Task-Reading, Deleting as Task-Deleting}
 use Rattle.replay.specs.declared.command.Command.{Command}
 use Rattle.replay.proofs.command.Command as Command-t
 use Rattle.replay.proofs.command.Command.Laws as Command-l
@@ -89,10 +89,10 @@ use Rattle.agent.specs.declared.process.Outcome.{Outcome}
 use Rattle.agent.proofs.process.Outcome as Outcome-t
 use Rattle.agent.proofs.process.Outcome.Laws as Outcome-l
 use Rattle.agent.specs.declared.process.Outcome.the-variants.{Replied as Outcome-Replied, Called as Outcome-Called, Refused as Outcome-Refused}
-use Rattle.agent.specs.declared.proxy.BridgeCall.{BridgeCall}
-use Rattle.agent.proofs.proxy.BridgeCall as BridgeCall-t
-use Rattle.agent.proofs.proxy.BridgeCall.Laws as BridgeCall-l
-use Rattle.agent.specs.declared.proxy.BridgeCall.the-variants.{CreateParticipant as BridgeCall-CreateParticipant, CreateTopic as BridgeCall-CreateTopic, CreateWriter as BridgeCall-CreateWriter, CreateReader as BridgeCall-CreateReader, WriteData as BridgeCall-WriteData, ReadData as BridgeCall-ReadData, DeleteEntity as BridgeCall-DeleteEntity}
+use Rattle.moves.specs.declared.proxy.BridgeCall.{BridgeCall}
+use Rattle.moves.proofs.proxy.BridgeCall as BridgeCall-t
+use Rattle.moves.proofs.proxy.BridgeCall.Laws as BridgeCall-l
+use Rattle.moves.specs.declared.proxy.BridgeCall.the-variants.{CreateParticipant as BridgeCall-CreateParticipant, CreateTopic as BridgeCall-CreateTopic, CreateWriter as BridgeCall-CreateWriter, CreateReader as BridgeCall-CreateReader, WriteData as BridgeCall-WriteData, ReadData as BridgeCall-ReadData, DeleteEntity as BridgeCall-DeleteEntity}
 use Rattle.sessions.specs.declared.objects.Handle.{Handle}
 use Rattle.sessions.proofs.objects.Handle as Handle-t
 use Rattle.sessions.proofs.objects.Handle.Laws as Handle-l
@@ -103,10 +103,10 @@ use Rattle.codec.specs.declared.refusals.Refusal.{Refusal}
 use Rattle.codec.proofs.refusals.Refusal as Refusal-t
 use Rattle.codec.proofs.refusals.Refusal.Laws as Refusal-l
 use Rattle.codec.specs.declared.refusals.Refusal.the-variants.{BufferTooShort as Refusal-BufferTooShort, UnknownSubmessageId as Refusal-UnknownSubmessageId, UnknownObjectKind as Refusal-UnknownObjectKind, UnknownStatusCode as Refusal-UnknownStatusCode, PayloadLengthMismatch as Refusal-PayloadLengthMismatch, SessionFull as Refusal-SessionFull, FragmentSizeZero as Refusal-FragmentSizeZero, EmptyPayload as Refusal-EmptyPayload, TooManyFragments as Refusal-TooManyFragments, FragmentNumber as Refusal-FragmentNumber, MissingFragments as Refusal-MissingFragments, TooLong as Refusal-TooLong, OutputTooShort as Refusal-OutputTooShort, StoreFull as Refusal-StoreFull, OutOfTurn as Refusal-OutOfTurn, OverLimit as Refusal-OverLimit}
-use Rattle.agent.specs.declared.proxy.BridgeAnswer.{BridgeAnswer}
-use Rattle.agent.proofs.proxy.BridgeAnswer as BridgeAnswer-t
-use Rattle.agent.proofs.proxy.BridgeAnswer.Laws as BridgeAnswer-l
-use Rattle.agent.specs.declared.proxy.BridgeAnswer.the-variants.{Created as BridgeAnswer-Created, Done as BridgeAnswer-Done, Sample as BridgeAnswer-Sample, NoSample as BridgeAnswer-NoSample, Failed as BridgeAnswer-Failed}
+use Rattle.moves.specs.declared.proxy.BridgeAnswer.{BridgeAnswer}
+use Rattle.moves.proofs.proxy.BridgeAnswer as BridgeAnswer-t
+use Rattle.moves.proofs.proxy.BridgeAnswer.Laws as BridgeAnswer-l
+use Rattle.moves.specs.declared.proxy.BridgeAnswer.the-variants.{Created as BridgeAnswer-Created, Done as BridgeAnswer-Done, Sample as BridgeAnswer-Sample, NoSample as BridgeAnswer-NoSample, Failed as BridgeAnswer-Failed}
 use Rattle.replay.proofs.output.cover as output-cover
 use Rattle.replay.proofs.output.cover.Symbol as output-cover-def
 use Rattle.replay.proofs.output.cover.Symbol.{name as #output-cover}

@@ -74,10 +74,10 @@ use Rattle.agent.specs.declared.state.Waiting.the-variants.{Nothing as Waiting-
 use Rattle.agent.specs.declared.state.Pending.{Pending}
 use Rattle.agent.proofs.state.Pending as Pending-t
 use Rattle.agent.proofs.state.Pending.Laws as Pending-l
-use Rattle.agent.specs.declared.proxy.Task.{Task}
-use Rattle.agent.proofs.proxy.Task as Task-t
-use Rattle.agent.proofs.proxy.Task.Laws as Task-l
-use Rattle.agent.specs.declared.proxy.Task.the-variants.{Creating as Task-Creating, Writing as Task-Writing, Reading as Task-Reading, Deleting as Task-Deleting}
+use Rattle.moves.specs.declared.proxy.Task.{Task}
+use Rattle.moves.proofs.proxy.Task as Task-t
+use Rattle.moves.proofs.proxy.Task.Laws as Task-l
+use Rattle.moves.specs.declared.proxy.Task.the-variants.{Creating as Task-Creating, Writing as Task-Writing, Reading as Task-Reading, Deleting as Task-Deleting}
 use Rattle.replay.specs.declared.reading.Reading.{Reading}
 use Rattle.replay.proofs.reading.Reading as Reading-t
 use Rattle.replay.proofs.reading.Reading.Laws as Reading-l

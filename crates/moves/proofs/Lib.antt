@@ -1,0 +1,2 @@
+-- A Topic's strings lie within its datagram.
+pub mod Strings

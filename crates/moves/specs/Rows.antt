@@ -1,0 +1,146 @@
+-- What a submessage comes to and leaves, over the lent tables: what is fetched, what is stored, and the move.
+use Prim.Native.Nat.{ℕ}
+use mathlib.Core.Bool.{Bool, true, false, cond}
+use mathlib.Core.List.{List}
+use Rattle.codec.specs.declared.layouts.Span.{Span}
+use Rattle.codec.specs.declared.submessages.ObjectKind.{ObjectKind}
+use Rattle.codec.specs.declared.submessages.ObjectKind.the-variants.{Participant, Topic, Publisher, Subscriber, DataWriter, DataReader}
+use Rattle.codec.specs.declared.submessages.ObjectNumber.{ObjectNumber}
+use Rattle.codec.specs.declared.submessages.StatusCode.the-variants.{Ok, ErrResources}
+use Rattle.codec.specs.declared.submessages.Submessage.{Submessage}
+use Rattle.codec.specs.declared.submessages.Submessage.the-variants as sub
+use Rattle.sessions.specs.Objects.{implicitOf}
+use Rattle.sessions.specs.SessionObjects.{foundObject, greatestObject, storedObject, storedObjects, keepStored, removedObjects, keepRemoved}
+use Rattle.sessions.specs.Room.{roomOf}
+use Rattle.sessions.specs.View.{Tables}
+use Rattle.sessions.specs.declared.objects.Object.{Object}
+use Rattle.sessions.specs.declared.room.Room.{Room}
+use Rattle.sessions.specs.declared.room.Room.the-variants.{Free, Full, NotLive, Refused}
+use Rattle.moves.specs.Names.{namesIn}
+use Rattle.moves.specs.Moves.{participantMove, topicMove, endpointMove, writeMove, readMove, deleteMove}
+use Rattle.moves.specs.RowsStreams.{openedSessions, openedRows, readOf, streamMove, streamRows}
+use Rattle.moves.specs.declared.moves.Move.{Move}
+use Rattle.moves.specs.declared.moves.Move.the-variants.{Status, Silent}
+use Rattle.moves.specs.declared.handle.Asked.{Asked}
+use Rattle.moves.specs.declared.handle.Opening.{Opening}
+use Rattle.moves.specs.declared.handle.Opening.the-variants.{Client, Other}
+use Rattle.moves.specs.declared.handle.Group.{Group}
+use Rattle.moves.specs.declared.handle.Group.the-variants.{Creates, Deletes, Writes, Reads, Streams, Neither}
+
+abbrev pub lent : List (List ℕ) → List (List ℕ) → List Object → Tables
+lent sessions streams objects = record { sessions = sessions; streams = streams; objects = objects }
+
+abbrev pub okMove : ObjectNumber → Move
+okMove number = Status number Ok
+
+-- ---- CREATE where there is room: only a Publisher or a Subscriber is listed, the others ask the bridge or fail
+
+abbrev pub createMove : ObjectKind → List (List ℕ) → List Object → List ℕ → ℕ → ObjectNumber → ℕ → Span → Move
+createMove Participant s o d id number parent body = participantMove number parent
+createMove Topic s o d id number parent body = topicMove number (namesIn d body) (foundObject s o id (record { 0 = parent }))
+createMove Publisher s o d id number parent body = okMove number
+createMove Subscriber s o d id number parent body = okMove number
+createMove DataWriter s o d id number parent body = endpointMove number 5 (greatestObject s o id 1) (greatestObject s o id 2)
+createMove DataReader s o d id number parent body = endpointMove number 6 (greatestObject s o id 1) (greatestObject s o id 2)
+
+abbrev pub createdSessions : ObjectKind → List (List ℕ) → List Object → ℕ → ObjectNumber → List (List ℕ)
+createdSessions Participant s o id number = s
+createdSessions Topic s o id number = s
+createdSessions Publisher s o id number = keepStored s id (storedObject s o id (implicitOf number 3))
+createdSessions Subscriber s o id number = keepStored s id (storedObject s o id (implicitOf number 4))
+createdSessions DataWriter s o id number = s
+createdSessions DataReader s o id number = s
+
+abbrev pub createdObjects : ObjectKind → List (List ℕ) → List Object → ℕ → ObjectNumber → List Object
+createdObjects Participant s o id number = o
+createdObjects Topic s o id number = o
+createdObjects Publisher s o id number = storedObjects s o id (implicitOf number 3)
+createdObjects Subscriber s o id number = storedObjects s o id (implicitOf number 4)
+createdObjects DataWriter s o id number = o
+createdObjects DataReader s o id number = o
+
+-- "CREATE of a 33rd number answers ERR_RESOURCES before any lookup or call."
+abbrev pub isFree : Room → Bool
+isFree Free = true
+isFree Full = false
+isFree NotLive = false
+isFree (Refused r) = false
+
+abbrev pub noRoomMove : ObjectNumber → Room → Move
+noRoomMove number Free = Silent
+noRoomMove number Full = Status number ErrResources
+noRoomMove number NotLive = Silent
+noRoomMove number (Refused r) = Silent
+
+abbrev pub roomMove : Room → List (List ℕ) → List Object → List ℕ → ℕ → ObjectNumber → ObjectKind → ℕ → Span → Move
+roomMove r s o d id number kind parent body = cond (isFree r) (createMove kind s o d id number parent body) (noRoomMove number r)
+
+abbrev pub roomSessions : Room → List (List ℕ) → List Object → ℕ → ObjectNumber → ObjectKind → List (List ℕ)
+roomSessions r s o id number kind = cond (isFree r) (createdSessions kind s o id number) s
+
+abbrev pub roomObjects : Room → List (List ℕ) → List Object → ℕ → ObjectNumber → ObjectKind → List Object
+roomObjects r s o id number kind = cond (isFree r) (createdObjects kind s o id number) o
+
+-- ---- what a submessage asks for, taken apart as the code does; what it doesn't have is zero
+
+abbrev pub noObject : ObjectNumber
+noObject = record { 0 = 0 }
+
+abbrev pub blankAsked : Opening → Asked
+blankAsked o = record { opening = o; group = Neither; key = 0; number = noObject; kind = Participant; parent = 0; hears = false; first = 0; second = 0 }
+
+abbrev pub opensWith : ℕ → Asked
+opensWith key = record { opening = Client; group = Neither; key = key; number = noObject; kind = Participant; parent = 0; hears = false; first = 0; second = 0 }
+
+abbrev pub createsAs : ObjectNumber → ObjectKind → ℕ → Asked
+createsAs number kind parent = record { opening = Other; group = Creates; key = 0; number = number; kind = kind; parent = parent; hears = false; first = 0; second = 0 }
+
+abbrev pub namesOne : Group → ObjectNumber → Asked
+namesOne group number = record { opening = Other; group = group; key = 0; number = number; kind = Participant; parent = 0; hears = false; first = 0; second = 0 }
+
+-- a HEARTBEAT hears, an ACKNACK doesn't
+abbrev pub onStream : Bool → ℕ → ℕ → Asked
+onStream hears first second = record { opening = Other; group = Streams; key = 0; number = noObject; kind = Participant; parent = 0; hears = hears; first = first; second = second }
+
+abbrev pub asksOf : Submessage → Asked
+asksOf (sub.CreateClient p) = opensWith (p .«client_key»)
+asksOf (sub.Create p) = createsAs (p .«object_id») (p .kind) (p .«parent_id»)
+asksOf (sub.Delete p) = namesOne Deletes (p .«object_id»)
+asksOf (sub.WriteData p) = namesOne Writes (p .«writer_id»)
+asksOf (sub.ReadData p) = namesOne Reads (p .«reader_id»)
+asksOf (sub.Heartbeat p) = onStream true (p .«first_unacked_seq») (p .«last_seq»)
+asksOf (sub.Acknack p) = onStream false (p .«first_unacked_seq») (p .«nack_bitmap»)
+asksOf (sub.Status p) = blankAsked Other
+asksOf (sub.Data p) = blankAsked Other
+
+-- ---- all submessages but CREATE_CLIENT, by what they are about
+
+abbrev pub handledBy : Group → Asked → Tables → List ℕ → ℕ → ℕ → Span → Move
+handledBy Creates q t d id n body =
+    roomMove (roomOf (t .sessions) (t .objects) id (q .number)) (t .sessions) (t .objects) d id (q .number) (q .kind) (q .parent) body
+handledBy Deletes q t d id n body = deleteMove (q .number) (foundObject (t .sessions) (t .objects) id (q .number))
+handledBy Writes q t d id n body = writeMove (q .number) body (foundObject (t .sessions) (t .objects) id (q .number))
+handledBy Reads q t d id n body = readMove (q .number) (foundObject (t .sessions) (t .objects) id (q .number))
+handledBy Streams q t d id n body =
+    streamMove (q .hears) (q .first) (q .second) (readOf (openedSessions (t .sessions) (t .streams) id n) (openedRows (t .sessions) (t .streams) id n) id n)
+handledBy Neither q t d id n body = Silent
+
+abbrev pub handledMove : Asked → Tables → List ℕ → ℕ → ℕ → Span → Move
+handledMove q t d id n body = handledBy (q .group) q t d id n body
+
+abbrev pub handledIn : Group → Asked → Tables → ℕ → ℕ → Tables
+handledIn Creates q t id n =
+    let room = roomOf (t .sessions) (t .objects) id (q .number) in
+    record { sessions = roomSessions room (t .sessions) (t .objects) id (q .number) (q .kind); streams = t .streams; objects = roomObjects room (t .sessions) (t .objects) id (q .number) (q .kind) }
+handledIn Deletes q t id n =
+    record { sessions = keepRemoved (t .sessions) id (foundObject (t .sessions) (t .objects) id (q .number)); streams = t .streams; objects = removedObjects (t .sessions) (t .objects) id (q .number) }
+handledIn Writes q t id n = t
+handledIn Reads q t id n = t
+handledIn Streams q t id n =
+    let s = openedSessions (t .sessions) (t .streams) id n in
+    let x = openedRows (t .sessions) (t .streams) id n in
+    record { sessions = s; streams = streamRows (q .hears) (q .first) (q .second) s x id (readOf s x id n); objects = t .objects }
+handledIn Neither q t id n = t
+
+abbrev pub handledTables : Asked → Tables → ℕ → ℕ → Tables
+handledTables q t id n = handledIn (q .group) q t id n

@@ -1,0 +1,167 @@
+// Document 01's rules by value: what a submessage comes to, from what the tables hold.
+use crate::names::Names;
+use crate::proxy::BridgeCall;
+use crate::proxy::Task;
+use codec::layouts::Span;
+use codec::submessages::AcknackPayload;
+use codec::submessages::HeartbeatPayload;
+use codec::submessages::ObjectNumber;
+use codec::submessages::StatusCode;
+use sessions::objects::Found;
+use sessions::objects::Handle;
+use sessions::objects::ObjectHandle;
+use sessions::session_streams::StreamNamed;
+use sessions::session_streams::StreamRead;
+ghost use mathlib.Core.Path.{_≡_};
+ghost use Rattle.moves.specs.Moves.{foundHandle, participantMove, topicMove, endpointCall, endpointBy, endpointMove, writeMove, readMove, droppedMove, deleteMove, heartbeatMove};
+
+// The STATUS that answers a CREATE_CLIENT, with its session's id; a STATUS for an object; an ACKNACK; a call for an
+// object; nothing.
+pub enum Move {
+    Greets(u8, StatusCode),
+    Status(ObjectNumber, StatusCode),
+    Acknack(AcknackPayload),
+    Calls(ObjectNumber, Task, BridgeCall),
+    Silent,
+}
+
+// The handle of an object, if it is there and has one.
+fn found_handle(f: Found) -> ObjectHandle
+    ensures { λ r. ⌜ r ≡ foundHandle f ⌝ }
+{
+    match f {
+        Found::Held(o) => o.bridge_handle(),
+        Found::Nothing => ObjectHandle::Implicit,
+        Found::Refused(_) => ObjectHandle::Implicit,
+    }
+}
+
+// CREATE of a Participant: its parent number is the domain.
+pub(crate) fn participant_move(number: ObjectNumber, domain: u16) -> Move
+    ensures { λ r. ⌜ r ≡ participantMove number domain ⌝ }
+{
+    Move::Calls(
+        number,
+        Task::Creating(1),
+        BridgeCall::CreateParticipant(domain),
+    )
+}
+
+// CREATE of a Topic, by the object of its parent number.
+pub(crate) fn topic_move(number: ObjectNumber, names: Names, parent: Found) -> Move
+    ensures { λ r. ⌜ r ≡ topicMove number names parent ⌝ }
+{
+    let h = found_handle(parent);
+    let name = names.name;
+    let type_name = names.type_name;
+    match h {
+        ObjectHandle::Bridged(p) => Move::Calls(
+            number,
+            Task::Creating(2),
+            BridgeCall::CreateTopic(p, name, type_name),
+        ),
+        ObjectHandle::Implicit => Move::Status(number, StatusCode::ErrInvalidData),
+    }
+}
+
+fn endpoint_call(kind: u8, participant: Handle, topic: Handle) -> BridgeCall
+    ensures { λ r. ⌜ r ≡ endpointCall kind participant topic ⌝ }
+{
+    if kind == 5 {
+        BridgeCall::CreateWriter(participant, topic)
+    } else {
+        BridgeCall::CreateReader(participant, topic)
+    }
+}
+
+fn endpoint_by(number: ObjectNumber, kind: u8, participant: Handle, topic: ObjectHandle) -> Move
+    ensures { λ r. ⌜ r ≡ endpointBy number kind participant topic ⌝ }
+{
+    match topic {
+        ObjectHandle::Bridged(t) => Move::Calls(
+            number,
+            Task::Creating(kind),
+            endpoint_call(kind, participant, t),
+        ),
+        ObjectHandle::Implicit => Move::Status(number, StatusCode::ErrInvalidData),
+    }
+}
+
+// CREATE of a DataWriter or a DataReader, by a Participant and a Topic of the session.
+pub(crate) fn endpoint_move(
+    number: ObjectNumber,
+    kind: u8,
+    participant: Found,
+    topic: Found,
+) -> Move
+    ensures { λ r. ⌜ r ≡ endpointMove number kind participant topic ⌝ }
+{
+    let h = found_handle(participant);
+    let t = found_handle(topic);
+    match h {
+        ObjectHandle::Bridged(p) => endpoint_by(number, kind, p, t),
+        ObjectHandle::Implicit => Move::Status(number, StatusCode::ErrInvalidData),
+    }
+}
+
+pub(crate) fn write_move(number: ObjectNumber, body: Span, writer: Found) -> Move
+    ensures { λ r. ⌜ r ≡ writeMove number body writer ⌝ }
+{
+    let h = found_handle(writer);
+    match h {
+        ObjectHandle::Bridged(w) => Move::Calls(
+            number,
+            Task::Writing,
+            BridgeCall::WriteData(w, body),
+        ),
+        ObjectHandle::Implicit => Move::Status(number, StatusCode::ErrUnknownRef),
+    }
+}
+
+pub(crate) fn read_move(number: ObjectNumber, reader: Found) -> Move
+    ensures { λ r. ⌜ r ≡ readMove number reader ⌝ }
+{
+    let h = found_handle(reader);
+    match h {
+        ObjectHandle::Bridged(x) => Move::Calls(number, Task::Reading, BridgeCall::ReadData(x)),
+        ObjectHandle::Implicit => Move::Status(number, StatusCode::ErrUnknownRef),
+    }
+}
+
+fn dropped_move(number: ObjectNumber, handle: ObjectHandle) -> Move
+    ensures { λ r. ⌜ r ≡ droppedMove number handle ⌝ }
+{
+    match handle {
+        ObjectHandle::Bridged(h) => Move::Calls(
+            number,
+            Task::Deleting,
+            BridgeCall::DeleteEntity(h),
+        ),
+        ObjectHandle::Implicit => Move::Status(number, StatusCode::Ok),
+    }
+}
+
+// DELETE, of the object that was there.
+pub(crate) fn delete_move(number: ObjectNumber, gone: Found) -> Move
+    ensures { λ r. ⌜ r ≡ deleteMove number gone ⌝ }
+{
+    match gone {
+        Found::Held(o) => dropped_move(number, o.bridge_handle()),
+        Found::Nothing => Move::Status(number, StatusCode::ErrUnknownRef),
+        Found::Refused(_) => Move::Status(number, StatusCode::ErrUnknownRef),
+    }
+}
+
+// HEARTBEAT, on its stream as it is read behind its opening: a ninth stream gets no reply.
+pub(crate) fn heartbeat_move(stream: StreamRead, p: HeartbeatPayload) -> Move
+    ensures { λ r. ⌜ r ≡ heartbeatMove stream p ⌝ }
+{
+    let answer = stream.answer;
+    let state = stream.state;
+    match answer {
+        StreamNamed::Open => Move::Acknack(state.make_acknack(p.first_unacked_seq, p.last_seq)),
+        StreamNamed::NotOpen => Move::Silent,
+        StreamNamed::NotLive => Move::Silent,
+        StreamNamed::Refused(_) => Move::Silent,
+    }
+}
