@@ -25,7 +25,7 @@ fn of_sweeps(rows: &[Row]) -> Option<String> {
     let name = "sweep that finds none";
     let (one, all) = (find(rows, name, 1, 0)?, find(rows, name, 255, 0)?);
     Some(format!(
-        "a sweep of the port looks at all 256 rows of the table, {} ns with 1 session live and {} ns with 255; \
+        "a sweep of the port reads the mark of every row of the table, five at a test, {} ns with 1 session live and {} ns with 255; \
          the original's goes over the live ones, {} ns and {} ns",
         port(one),
         port(all),
@@ -38,7 +38,7 @@ fn of_sweeps(rows: &[Row]) -> Option<String> {
 fn of_copies(row: &Row, yard: &Yardsticks) -> String {
     let copies = if row.name.starts_with("cut") { 1.0 } else { 2.0 };
     format!(
-        "it is copying: the C library, which the original's copies go to, moves 64 KiB in {} ns; the port's loops took \
+        "it is copying: the C library, which the original's copies go to, moves 64 KiB in {} ns; the port took \
          {} ns for each 64 KiB",
         nanoseconds(yard.copy),
         nanoseconds(median(&row.port) / copies)
