@@ -1,4 +1,4 @@
--- What a reader must believe of the agent, in document 01's order: the one-session machine's tables, the bridge calls, the rules, the step; the code's values and the agent that a host calls.
+-- What a reader must believe of the agent, in document 01's order: the one-session machine's tables, the rules, the step, and the agent that a host calls. The bridge calls and the replies' bytes are those of `moves`.
 pub mod Local
 pub mod RulesObjects
 pub mod RulesStreams
