@@ -10,8 +10,6 @@ use lib.Dec.{eqb, leb, ltb}
 use lib.ListN.{length, set, take, drop, replicate, take-append-drop}
 use Rattle.codec.specs.Reading.{readAt}
 use Rattle.codec.specs.declared.layouts.Parsed.{Parsed}
-use Rattle.codec.specs.declared.layouts.Parsed.the-variants as parsed
-use Rattle.codec.specs.declared.layouts.Span.{Span}
 use Rattle.codec.specs.declared.refusals.Refusal.the-variants.{OverLimit, SessionFull}
 use Rattle.codec.specs.declared.submessages.AcknackPayload.{AcknackPayload}
 use Rattle.codec.specs.declared.submessages.ObjectKind.{ObjectKind}
@@ -50,7 +48,7 @@ use Rattle.sessions.specs.declared.table.Named.the-variants as named
 use Rattle.sessions.proofs.table.Laws.{live-fits}
 use Rattle.moves.specs.Rows.{createdSessions, createdObjects, roomSessions, roomObjects, handledIn, handledTables}
 use Rattle.moves.specs.RowsStreams.{openedSessions, openedRows, readOf, acknowledgedRows, streamRows}
-use Rattle.agent.specs.Step.{Reply, opened, joinedReplies}
+use Rattle.agent.specs.Step.{opened, joinedReplies}
 use Rattle.agent.specs.Run.{Turned, pointerOf, greeted, idOpened, opening, touchedTables, delivered, takenOf, subTurned, turnedBy, turned, goesOn, before, runIn, runAt}
 use Rattle.moves.specs.Answers.{keepsOf}
 use Rattle.agent.specs.Answered.{answeredSessions, answeredObjects}

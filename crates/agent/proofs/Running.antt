@@ -5,7 +5,7 @@ use mathlib.Core.Bool.{Bool, true, false, cond}
 use mathlib.Core.List.{List, [], _∷_, _++_}
 use native.Mathlib.Nat.{add-assoc, add-zero}
 use native.Mathlib.Omega.{arith}
-use borrow.Author.Tests.{lt-ltb, le-ltb, ltb-true, leb-true}
+use borrow.Author.Tests.{le-ltb, ltb-true, leb-true}
 use lib.Dec.{ltb}
 use lib.ListN.{length, length-append}
 use Rattle.codec.specs.Bytes.{putAt, putBytes}
@@ -35,7 +35,7 @@ use Rattle.moves.specs.declared.proxy.Task.{Task}
 use Rattle.agent.specs.declared.turn.Frame.{Frame}
 use Rattle.agent.specs.declared.turn.Ran.{Ran}
 use Rattle.agent.proofs.Laws.{status-long}
-use Rattle.agent.proofs.MoveBytes.{data-long, put-none}
+use Rattle.agent.proofs.MoveBytes.{data-long}
 use Rattle.agent.proofs.Turns.{one-long, none-long, turns, turned-at}
 
 -- ---- replies one behind the other

@@ -1,13 +1,9 @@
 -- What one submessage writes to the lent output: the bytes of its move are those of its replies.
 use mathlib.Core.Path.{_≡_, refl, sym, ap, _∙_}
 use Prim.Native.Nat.{ℕ}
-use mathlib.Core.Bool.{Bool, cond}
 use mathlib.Core.List.{List, [], _∷_}
-use lib.ListN.{length}
 use Rattle.codec.specs.Bytes.{putBytes}
 use Rattle.codec.specs.Reading.{readAt}
-use Rattle.codec.specs.declared.layouts.Parsed.{Parsed}
-use Rattle.codec.specs.declared.layouts.Parsed.the-variants as parsed
 use Rattle.codec.specs.declared.layouts.Span.{Span}
 use Rattle.sessions.specs.View.{Tables}
 use Rattle.sessions.specs.declared.opening.Created.{Created}

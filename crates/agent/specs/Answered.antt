@@ -1,4 +1,4 @@
--- The answer to a call over the lent tables: what it lists, and its reply.
+-- The answer's part of a call: its reply in bytes, and the lent tables with what it lists, where its session is live.
 use Prim.Native.Nat.{ℕ}
 use mathlib.Core.Bool.{Bool, true}
 use mathlib.Core.List.{List, [], _∷_}

@@ -9,7 +9,6 @@ use Rattle.codec.specs.declared.bytes.Written.{Written}
 use Rattle.codec.specs.declared.bytes.Written.the-variants as written
 use Rattle.codec.specs.declared.refusals.Refusal.{Refusal}
 use Rattle.codec.specs.declared.refusals.Refusal.the-variants.{OutOfTurn, OverLimit, OutputTooShort}
-use Rattle.codec.specs.declared.submessages.ObjectNumber.{ObjectNumber}
 use Rattle.codec.specs.declared.submessages.StatusCode.the-variants.{Ok}
 use Rattle.sessions.specs.Table.{gotOf, namedOf, endedRows}
 use Rattle.sessions.specs.Sweep.{evictedOf, evictedOut, evictedRows}

@@ -8,7 +8,6 @@ use Rattle.codec.specs.Reading.{countAt, checkOf}
 use Rattle.codec.specs.declared.header.MessageHeader.{MessageHeader}
 use Rattle.codec.specs.declared.reading.Checked.{Checked}
 use Rattle.codec.specs.declared.reading.Checked.the-variants as checked
-use Rattle.codec.specs.declared.refusals.Refusal.{Refusal}
 use Rattle.codec.specs.declared.refusals.Refusal.the-variants.{OutOfTurn, OverLimit, TooLong}
 use Rattle.sessions.specs.Limits.{limitsOf}
 use Rattle.sessions.specs.View.{Tables}

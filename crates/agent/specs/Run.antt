@@ -119,12 +119,9 @@ subTurned Client f t d r x = opening f t r (x .asked .key) (x .at)
 subTurned Other f t d r x = delivered (namedOf (t .sessions) (f .«session_id»)) f t d r x
 subTurned Unread f t d r x = record { ran = passed r (x .at); tables = t; replies = [] }
 
-abbrev pub takenTurned : Frame → Tables → List ℕ → Ran → Taken → Turned
-takenTurned f t d r x = subTurned (x .asked .opening) f t d r x
-
 -- the datagram was checked before, so that a submessage is always read
 abbrev pub turnedBy : Parsed → Frame → Tables → List ℕ → Ran → Turned
-turnedBy p f t d r = takenTurned f t d r (takenOf p (length d))
+turnedBy p f t d r = let x = takenOf p (length d) in subTurned (x .asked .opening) f t d r x
 
 unfoldable pub turned : Frame → Tables → List ℕ → Ran → Turned
 turned f t d r = turnedBy (readAt d (r .at)) f t d r

@@ -1,4 +1,4 @@
-// The answer to a session's call: what it lists, and the reply.
+// The answer's part of a call: what the bridge's answer lists is stored, and its reply written, where its session is live.
 use crate::judge::Resumes;
 use crate::replies::reply;
 use crate::replies::reply_data;
