@@ -60,14 +60,15 @@ enum xrce_call {
     XRCE_DELETE_ENTITY = 7       /* entity: handle */
 };
 
-/* The agent's record. The first ten numbers are the agent between two calls; the others are what the last xrce_agent_process told.
+/* The agent's record. The first eleven numbers are the agent between two calls; the others are what the last xrce_agent_process told.
  * The functions take a slice of records, and look at the first. */
 struct xrce_agent {
     uint64_t max_clients;
     uint64_t timeout_ms;
     uint64_t next;     /* the id pointer */
     uint64_t open;     /* the open bridge call: 0 none, 1 a CREATE's, 2 a WRITE_DATA's, 3 a READ_DATA's, 4 a DELETE's */
-    uint64_t kind;     /* the object kind of a CREATE's */
+    uint64_t kind;     /* the object kind and the parent number of a CREATE's */
+    uint64_t parent;
     uint64_t session;  /* its header's session and stream, its object's number, */
     uint64_t stream;
     uint64_t number;
@@ -83,12 +84,14 @@ struct xrce_agent {
     uint64_t type_len;
 };
 
-/* A record of the table of objects: number, kind (1 to 6), whether the bridge made it, and its handle then. */
+/* A record of the table of objects: number, kind (1 to 6), whether the bridge made it, its handle then, and the parent number of its CREATE
+ * (of a Participant, its domain). */
 struct xrce_object {
     uint16_t number;
     uint8_t kind;
     uint8_t bridged;
     uint32_t handle;
+    uint16_t parent;
 };
 
 /* A row of the table of sessions, and of the table of streams. */

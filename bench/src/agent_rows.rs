@@ -36,7 +36,7 @@ impl Objects {
     /// CREATE of them all, and DELETE of the parents that aren't to stay.
     fn submessages(self) -> Vec<Vec<u8>> {
         let mut list = vec![create(1, PARTICIPANT, 0), create(2, TOPIC, 1)];
-        list.extend((3..=self.last()).map(|number| create(number, self.kind, 1)));
+        list.extend((3..=self.last()).map(|number| create(number, self.kind, 2)));
         if !self.parents {
             list.extend([delete(1), delete(2)]);
         }
@@ -97,8 +97,8 @@ fn with_objects(sessions: usize, count: u16) -> Vec<Row> {
 fn creating(sessions: usize, count: u16) -> Vec<Row> {
     let objects = Objects { kind: WRITER, count, parents: true };
     let (made, fresh) = (objects.last(), Objects { count: count - 1, ..objects });
-    let again = vec![create(made, WRITER, 1)];
-    let pair = vec![create(made, WRITER, 1), delete(made)];
+    let again = vec![create(made, WRITER, 2)];
+    let pair = vec![create(made, WRITER, 2), delete(made)];
     let shape = (sessions, count as usize);
     let work = move || Datagrams::new(sessions, 0, &pair);
     vec![

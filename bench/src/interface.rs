@@ -13,6 +13,7 @@ pub struct AgentRecord {
     pub next: u64,
     pub open: u64,
     pub kind: u64,
+    pub parent: u64,
     pub session: u64,
     pub stream: u64,
     pub number: u64,
@@ -35,6 +36,7 @@ pub struct Object {
     pub kind: u8,
     pub bridged: u8,
     pub handle: u32,
+    pub parent: u16,
 }
 
 /// The documented need.

@@ -9,7 +9,7 @@
 
 #include "xrce_agent.h"
 
-/* What the host owns: the record, the tables (about 214 KiB) and an output. Static, so that nothing large stands on the stack. */
+/* What the host owns: the record, the tables (about 246 KiB) and an output. Static, so that nothing large stands on the stack. */
 static struct xrce_agent agent;
 static struct xrce_tables tables;
 static uint8_t out[512];

@@ -12,15 +12,16 @@ use Rattle.codec.specs.declared.submessages.Submessage.{Submessage}
 use Rattle.codec.specs.declared.submessages.Submessage.the-variants as sub
 use Rattle.isolation.specs.Rules.{done, calls, Sub, opens, names}
 use Rattle.sessions.specs.View.{Entry, Local, findIn}
-use Rattle.agent.specs.Local.{touched, full, dropping, handleAt, handleOfKind}
+use Rattle.agent.specs.Local.{touched, full, dropping, handleAt}
+use Rattle.agent.specs.Parents.{handlesNamed}
 use Rattle.moves.specs.Calls.{Call, createTopic, createWriter, createReader, writeData, readData, deleteEntity, Task, creating, writing, reading, deleting}
-use Rattle.agent.specs.RulesObjects.{Move, says, asks, ifHandle, namesOf, createFor, deleteFound}
+use Rattle.agent.specs.RulesObjects.{Move, says, asks, ifHandle, ifHandles, namesOf, createFor, deleteFound}
 use Rattle.agent.specs.Rules.{Opening, In, onSubmessage, handle}
 use Rattle.agent.specs.Step.{Tables, Open, chosen, openAs, Ran, keep, act, deliver, run}
 
 -- what a call's answer may list finds a place in the session
 abbrev pub RoomFor : Task → ℕ → Local → Type 0
-RoomFor (creating kind) number l = full number l ≡ false
+RoomFor (creating kind parent) number l = full number l ≡ false
 RoomFor writing number l = Unit {0}
 RoomFor reading number l = Unit {0}
 RoomFor deleting number l = Unit {0}
@@ -37,37 +38,36 @@ MoveRoom (done l rs) = Unit {0}
 MoveRoom (calls l rs c p) = RoomFor (p .task) (p .number) l
 
 module _ (stream number : ℕ) (l : Local) where
-  both-room : (call : ℕ → ℕ → Call) → ((p t : ℕ) → MoveRoom (asks stream number (call p t) l)) → (p t : Option ℕ)
-      → MoveRoom (ifHandle p (λ p. ifHandle t (λ t. asks stream number (call p t) l) (says stream number ErrInvalidData l)) (says stream number ErrInvalidData l))
-  both-room call e none t = tt
-  both-room call e (some p) none = tt
-  both-room call e (some p) (some t) = e p t
+  with-room : (kind parent : ℕ) (call : ℕ → ℕ → Call) → full number l ≡ false → (x : Option (ℕ × ℕ))
+      → MoveRoom (ifHandles x (λ p t. asks stream number (creating kind parent) (call p t) l) (says stream number ErrInvalidData l))
+  with-room kind parent call e none = tt
+  with-room kind parent call e (some x) = e
 
   create-room : (k : ObjectKind) (parent : ℕ) (body : List ℕ) → full number l ≡ false → MoveRoom (createFor k stream number parent body l)
   create-room Participant parent body e = e
   create-room Topic parent body e = by (handleAt parent l)
     where
-      by : (x : Option ℕ) → MoveRoom (ifHandle x (λ p. asks stream number (createTopic p (namesOf body .name) (namesOf body .type)) l) (says stream number ErrInvalidData l))
+      by : (x : Option ℕ) → MoveRoom (ifHandle x (λ p. asks stream number (creating 2 parent) (createTopic p (namesOf body .name) (namesOf body .type)) l) (says stream number ErrInvalidData l))
       by none = tt
       by (some p) = e
   create-room Publisher parent body e = tt
   create-room Subscriber parent body e = tt
-  create-room DataWriter parent body e = both-room createWriter (λ p t. e) (handleOfKind 1 l) (handleOfKind 2 l)
-  create-room DataReader parent body e = both-room createReader (λ p t. e) (handleOfKind 1 l) (handleOfKind 2 l)
+  create-room DataWriter parent body e = with-room 5 parent createWriter e (handlesNamed (l .objects) parent)
+  create-room DataReader parent body e = with-room 6 parent createReader e (handlesNamed (l .objects) parent)
 
   limit-room : (k : ObjectKind) (parent : ℕ) (body : List ℕ) (b : Bool) → full number l ≡ b → MoveRoom (cond b (says stream number ErrResources l) (createFor k stream number parent body l))
   limit-room k parent body true e = tt
   limit-room k parent body false e = create-room k parent body e
 
-  write-room : (body : List ℕ) (x : Option ℕ) → MoveRoom (ifHandle x (λ h. asks stream number (writeData h body) l) (says stream number ErrUnknownRef l))
+  write-room : (body : List ℕ) (x : Option ℕ) → MoveRoom (ifHandle x (λ h. asks stream number writing (writeData h body) l) (says stream number ErrUnknownRef l))
   write-room body none = tt
   write-room body (some h) = tt
 
-  read-room : (x : Option ℕ) → MoveRoom (ifHandle x (λ h. asks stream number (readData h) l) (says stream number ErrUnknownRef l))
+  read-room : (x : Option ℕ) → MoveRoom (ifHandle x (λ h. asks stream number reading (readData h) l) (says stream number ErrUnknownRef l))
   read-room none = tt
   read-room (some h) = tt
 
-  dropped-room : (x : Option ℕ) → MoveRoom (ifHandle x (λ h. asks stream number (deleteEntity h) (dropping number l)) (says stream number Ok (dropping number l)))
+  dropped-room : (x : Option ℕ) → MoveRoom (ifHandle x (λ h. asks stream number deleting (deleteEntity h) (dropping number l)) (says stream number Ok (dropping number l)))
   dropped-room none = tt
   dropped-room (some h) = tt
 

@@ -304,33 +304,33 @@ then-tables id t u v a b = record {
 }
 
 module _ (id : ℕ) (below : id < 256) where
-  created-sessions : (k : ObjectKind) (s : List (List ℕ)) (o : List Object) (n : ObjectNumber) → Rows s (createdSessions k s o id n)
-  created-sessions Participant s o n = rows-same s
-  created-sessions Topic s o n = rows-same s
-  created-sessions Publisher s o n = count-kept id below s (storedObject s o id (implicitOf n 3))
-  created-sessions Subscriber s o n = count-kept id below s (storedObject s o id (implicitOf n 4))
-  created-sessions DataWriter s o n = rows-same s
-  created-sessions DataReader s o n = rows-same s
+  created-sessions : (k : ObjectKind) (s : List (List ℕ)) (o : List Object) (n : ObjectNumber) (p : ℕ) → Rows s (createdSessions k s o id n p)
+  created-sessions Participant s o n p = rows-same s
+  created-sessions Topic s o n p = rows-same s
+  created-sessions Publisher s o n p = count-kept id below s (storedObject s o id (implicitOf n 3 p))
+  created-sessions Subscriber s o n p = count-kept id below s (storedObject s o id (implicitOf n 4 p))
+  created-sessions DataWriter s o n p = rows-same s
+  created-sessions DataReader s o n p = rows-same s
 
-  created-objects : (k : ObjectKind) (s : List (List ℕ)) (o : List Object) (n : ObjectNumber) → RecordsOf id o (createdObjects k s o id n)
-  created-objects Participant s o n = records-same id o
-  created-objects Topic s o n = records-same id o
-  created-objects Publisher s o n = stored-kept s o id (implicitOf n 3)
-  created-objects Subscriber s o n = stored-kept s o id (implicitOf n 4)
-  created-objects DataWriter s o n = records-same id o
-  created-objects DataReader s o n = records-same id o
+  created-objects : (k : ObjectKind) (s : List (List ℕ)) (o : List Object) (n : ObjectNumber) (p : ℕ) → RecordsOf id o (createdObjects k s o id n p)
+  created-objects Participant s o n p = records-same id o
+  created-objects Topic s o n p = records-same id o
+  created-objects Publisher s o n p = stored-kept s o id (implicitOf n 3 p)
+  created-objects Subscriber s o n p = stored-kept s o id (implicitOf n 4 p)
+  created-objects DataWriter s o n p = records-same id o
+  created-objects DataReader s o n p = records-same id o
 
-  room-sessions : (r : Room) (s : List (List ℕ)) (o : List Object) (n : ObjectNumber) (k : ObjectKind) → Rows s (roomSessions r s o id n k)
-  room-sessions room.Free s o n k = created-sessions k s o n
-  room-sessions room.Full s o n k = rows-same s
-  room-sessions room.NotLive s o n k = rows-same s
-  room-sessions (room.Refused x) s o n k = rows-same s
+  room-sessions : (r : Room) (s : List (List ℕ)) (o : List Object) (n : ObjectNumber) (k : ObjectKind) (p : ℕ) → Rows s (roomSessions r s o id n k p)
+  room-sessions room.Free s o n k p = created-sessions k s o n p
+  room-sessions room.Full s o n k p = rows-same s
+  room-sessions room.NotLive s o n k p = rows-same s
+  room-sessions (room.Refused x) s o n k p = rows-same s
 
-  room-objects : (r : Room) (s : List (List ℕ)) (o : List Object) (n : ObjectNumber) (k : ObjectKind) → RecordsOf id o (roomObjects r s o id n k)
-  room-objects room.Free s o n k = created-objects k s o n
-  room-objects room.Full s o n k = records-same id o
-  room-objects room.NotLive s o n k = records-same id o
-  room-objects (room.Refused x) s o n k = records-same id o
+  room-objects : (r : Room) (s : List (List ℕ)) (o : List Object) (n : ObjectNumber) (k : ObjectKind) (p : ℕ) → RecordsOf id o (roomObjects r s o id n k p)
+  room-objects room.Free s o n k p = created-objects k s o n p
+  room-objects room.Full s o n k p = records-same id o
+  room-objects room.NotLive s o n k p = records-same id o
+  room-objects (room.Refused x) s o n k p = records-same id o
 
   acknowledged-kept : (s x : List (List ℕ)) (a : StreamNamed) (state : StreamState) (p : AcknackPayload) → RowsOf id x (acknowledgedRows s x id a state p)
   acknowledged-kept s x named-stream.Open state p = written-rows s x id _ _
@@ -346,9 +346,9 @@ module _ (id : ℕ) (below : id < 256) where
   handled-kept Creates q t n =
       let room = roomOf (t .sessions) (t .objects) id (q .number) in
       record {
-        sessions-kept = room-sessions room (t .sessions) (t .objects) (q .number) (q .kind);
+        sessions-kept = room-sessions room (t .sessions) (t .objects) (q .number) (q .kind) (q .parent);
         streams-kept = streams-same id (t .streams);
-        objects-kept = room-objects room (t .sessions) (t .objects) (q .number) (q .kind);
+        objects-kept = room-objects room (t .sessions) (t .objects) (q .number) (q .kind) (q .parent);
       }
   handled-kept Deletes q t n = record {
     sessions-kept = less-kept id below (t .sessions) (foundObject (t .sessions) (t .objects) id (q .number));

@@ -1,16 +1,14 @@
 -- The handles that a list of objects holds, behind each of the list operations.
 use mathlib.Core.Path.{_≡_, refl, sym}
 use Prim.Native.Nat.{ℕ, zero, suc, _-_}
-use mathlib.Core.Bool.{Bool, true, false, cond}
 use mathlib.Core.Option.{Option, none, some}
 use mathlib.Core.Logic.{_⊎_, inl, inr}
 use mathlib.Core.List.{List, [], _∷_, _++_, List·Memᴰ, List·Memᴰ·head, List·Memᴰ·tail, List·Memᴰ·not-nil, List·Memᴰ·cases-cons, Memᴰ·cast}
-use lib.Dec.{eqb, ltb}
 use lib.ListN.{length, take, getD, set}
 use Rattle.isolation.proofs.Simulation.{none-some}
 use Rattle.sessions.specs.declared.objects.Place.{Place}
 use Rattle.sessions.specs.declared.objects.Place.the-variants.{At, Nowhere}
-use Rattle.sessions.specs.View.{Entry, blankEntry, placeIn, heldAt, findIn, putEntry, putIn, dropAt, dropIn, greaterIn, greatestUpTo, greatestIn}
+use Rattle.sessions.specs.View.{Entry, blankEntry, placeIn, heldAt, findIn, putEntry, putIn, dropAt, dropIn}
 use Rattle.agent.specs.Local.{entryHandle}
 use Rattle.agent.specs.Rules.{heldAs, handlesHeld}
 
@@ -105,25 +103,3 @@ find-held es n h e = go (placeIn es n) e
     go : (p : Place) → entryHandle (heldAt es p) ≡ some h → Holds es h
     go (At i) e = (getD es i blankEntry .number, getD-held es i h e)
     go Nowhere e = absurd (none-some e)
-
-greatest-up-to : (es : List Entry) (k kind h : ℕ) → entryHandle (greatestUpTo es k kind) ≡ some h → Holds es h
-greatest-up-to es zero kind h e = absurd (none-some e)
-greatest-up-to es (suc k) kind h e = go (eqb (getD es k blankEntry .kind) kind) e (λ e. greatest-up-to es k kind h e)
-  where
-    x : Entry
-    x = getD es k blankEntry
-
-    pick : (b : Bool) (best : Entry) → entryHandle (some (cond b x best)) ≡ some h → (entryHandle (some best) ≡ some h → Holds es h) → Holds es h
-    pick true best e below = (x .number, getD-held es k h e)
-    pick false best e below = below e
-
-    better : (best : Option Entry) → entryHandle (greaterIn best x) ≡ some h → (entryHandle best ≡ some h → Holds es h) → Holds es h
-    better none e below = (x .number, getD-held es k h e)
-    better (some best) e below = pick (ltb (best .number) (x .number)) best e below
-
-    go : (b : Bool) → entryHandle (cond b (greaterIn (greatestUpTo es k kind) x) (greatestUpTo es k kind)) ≡ some h → (entryHandle (greatestUpTo es k kind) ≡ some h → Holds es h) → Holds es h
-    go true e below = better (greatestUpTo es k kind) e below
-    go false e below = below e
-
-pub greatest-held : (es : List Entry) (kind h : ℕ) → entryHandle (greatestIn es kind) ≡ some h → Holds es h
-greatest-held es kind h e = greatest-up-to es (length es) kind h e

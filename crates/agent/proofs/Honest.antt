@@ -1,5 +1,5 @@
 -- The rules are honest about handles: a call has handles of the session's own objects only, and a handle is listed only where a CREATE got it.
-use mathlib.Core.Path.{_≡_, refl}
+use mathlib.Core.Path.{_≡_, refl, ap, _∙_}
 use Prim.Native.Nat.{ℕ}
 use mathlib.Core.Bool.{Bool, true, false, cond}
 use mathlib.Core.Option.{Option, none, some}
@@ -11,12 +11,14 @@ use Rattle.codec.specs.declared.submessages.Submessage.{Submessage}
 use Rattle.codec.specs.declared.submessages.Submessage.the-variants.{CreateClient, Create, Delete, Status, WriteData, ReadData, Data, Heartbeat, Acknack}
 use Rattle.isolation.proofs.Provenance.{Fair, Honest}
 use Rattle.sessions.specs.View.{Entry, Local, findIn}
-use Rattle.agent.specs.Local.{touched, full, handleAt, handleOfKind}
+use Rattle.agent.specs.Local.{touched, full, entryHandle, handleAt}
+use Rattle.agent.specs.Parents.{handlesNamed}
 use Rattle.moves.specs.Calls.{Call, createWriter, createReader, Answer, created, succeeded, sample, noSample, failed, Task, creating, deleting, writing, reading}
-use Rattle.agent.specs.RulesObjects.{Move, ifHandle, createWith, createFor, deleteFound}
+use Rattle.agent.specs.RulesObjects.{Move, ifHandle, ifHandles, createWith, createFor, deleteFound}
 use Rattle.agent.specs.RulesAnswers.{answerOf}
 use Rattle.agent.specs.Rules.{onSubmessage, rules, handlesIn, handlesHeld, grantedBy, handlesOf}
-use Rattle.agent.proofs.Held.{put-held, drop-held, Holds, find-held, greatest-held}
+use Rattle.agent.proofs.Held.{put-held, drop-held, Holds, find-held}
+use Rattle.agent.proofs.Parents.{follows}
 
 module _ (timeout : ℕ) where
   -- a rule at work on tables that hold what b holds
@@ -50,20 +52,27 @@ module _ (timeout : ℕ) where
     kept : (y : ℕ × ℕ) → List·Memᴰ y (handlesHeld (b .objects)) → List·Memᴰ y (handlesHeld (b .objects))
     kept y m = m
 
-    -- a call with a Participant's and a Topic's handle
-    with-fair : (stream number : ℕ) (call : ℕ → ℕ → Call) → ((h k : ℕ) → handlesIn (call h k) ≡ h ∷ k ∷ []) → Good b (createWith stream number call l)
-    with-fair stream number call u =
-        handle-fair (handleOfKind 1 l) _ _
-        (λ h p. handle-fair (handleOfKind 2 l) _ _
-        (λ k q. (kept, kept, λ x m. two-handles b h k (greatest-held (b .objects) 1 h p) (greatest-held (b .objects) 2 k q) x (rw (← u h k) m))) kept) kept
+    handles-fair : (x : Option (ℕ × ℕ)) (f : ℕ → ℕ → Move) (other : Move) → ((h k : ℕ) → x ≡ some (h, k) → Good b (f h k)) → Good b other → Good b (ifHandles x f other)
+    handles-fair none f other p q = q
+    handles-fair (some hs) f other p q = p (hs .0) (hs .1) refl
+
+    -- a call with the handles of the Participant and the Topic that a parent number names
+    with-fair : (kind : ObjectKind) (stream number parent : ℕ) (call : ℕ → ℕ → Call) → ((h k : ℕ) → handlesIn (call h k) ≡ h ∷ k ∷ []) → Good b (createWith kind stream number parent call l)
+    with-fair kind stream number parent call u =
+        handles-fair (handlesNamed (b .objects) parent) _ _
+        (λ h k e.
+        let f = follows (b .objects) parent h k e in
+        let above = find-held (b .objects) (f .topic .parent) h (ap entryHandle (f .participant-named) ∙ f .participant-handle) in
+        let named = find-held (b .objects) parent k (ap entryHandle (f .topic-named) ∙ f .topic-handle) in (kept, kept, λ x m. two-handles b h k above named x (rw (← u h k) m)))
+        kept
 
     create-fair : (kind : ObjectKind) (stream number parent : ℕ) (body : List ℕ) → Good b (createFor kind stream number parent body l)
     create-fair Participant stream number parent body = (kept, kept, no-handle b)
     create-fair Topic stream number parent body = handle-fair (handleAt parent l) _ _ (λ h e. (kept, kept, one-handle b h (find-held (b .objects) parent h e))) kept
-    create-fair Publisher stream number parent body = λ y m. put-held (b .objects) (record { number = number; kind = 3; handle = none }) y m
-    create-fair Subscriber stream number parent body = λ y m. put-held (b .objects) (record { number = number; kind = 4; handle = none }) y m
-    create-fair DataWriter stream number parent body = with-fair stream number createWriter (λ h k. refl)
-    create-fair DataReader stream number parent body = with-fair stream number createReader (λ h k. refl)
+    create-fair Publisher stream number parent body = λ y m. put-held (b .objects) (record { number = number; kind = 3; handle = none; parent = parent }) y m
+    create-fair Subscriber stream number parent body = λ y m. put-held (b .objects) (record { number = number; kind = 4; handle = none; parent = parent }) y m
+    create-fair DataWriter stream number parent body = with-fair DataWriter stream number parent createWriter (λ h k. refl)
+    create-fair DataReader stream number parent body = with-fair DataReader stream number parent createReader (λ h k. refl)
 
     either : (c : Bool) (x y : Move) → Good b x → Good b y → Good b (cond c x y)
     either true x y p q = p
@@ -88,11 +97,11 @@ module _ (timeout : ℕ) where
 
   answer-fair : (l : Local) (stream number : ℕ) (t : Task) (a : Answer)
       → Fair (rules timeout) (handlesOf timeout) l (grantedBy t number a ++ handlesHeld (l .objects)) (answerOf t stream number a l)
-  answer-fair l stream number (creating kind) (created h) = λ y m. put-held (l .objects) (record { number = number; kind = kind; handle = some h }) y m
-  answer-fair l stream number (creating kind) succeeded = λ y m. m
-  answer-fair l stream number (creating kind) (sample d) = λ y m. m
-  answer-fair l stream number (creating kind) noSample = λ y m. m
-  answer-fair l stream number (creating kind) failed = λ y m. m
+  answer-fair l stream number (creating kind parent) (created h) = λ y m. put-held (l .objects) (record { number = number; kind = kind; handle = some h; parent = parent }) y m
+  answer-fair l stream number (creating kind parent) succeeded = λ y m. m
+  answer-fair l stream number (creating kind parent) (sample d) = λ y m. m
+  answer-fair l stream number (creating kind parent) noSample = λ y m. m
+  answer-fair l stream number (creating kind parent) failed = λ y m. m
   answer-fair l stream number deleting (created h) = λ y m. m
   answer-fair l stream number deleting succeeded = λ y m. m
   answer-fair l stream number deleting (sample d) = λ y m. m

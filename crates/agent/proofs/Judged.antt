@@ -96,11 +96,11 @@ refused-is (judged.Refused r) c = refl
 
 -- 12 has refused the sample that is too long
 says-fits : (task : Task) (a : BridgeAnswer) (sample : ℕ) → tooLong a sample ≡ false → saysFits (saysOf task a) sample ≡ true
-says-fits (Creating kind) (Created h) sample e = refl
-says-fits (Creating kind) Done sample e = refl
-says-fits (Creating kind) Sample sample e = refl
-says-fits (Creating kind) NoSample sample e = refl
-says-fits (Creating kind) Failed sample e = refl
+says-fits (Creating kind parent) (Created h) sample e = refl
+says-fits (Creating kind parent) Done sample e = refl
+says-fits (Creating kind parent) Sample sample e = refl
+says-fits (Creating kind parent) NoSample sample e = refl
+says-fits (Creating kind parent) Failed sample e = refl
 says-fits Writing (Created h) sample e = refl
 says-fits Writing Done sample e = refl
 says-fits Writing Sample sample e = refl

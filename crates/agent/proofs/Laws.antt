@@ -22,10 +22,11 @@ use Rattle.codec.specs.declared.submessages.Submessage.the-variants.{CreateClie
 use Rattle.streams.specs.Received.{bitmapOf}
 use Rattle.isolation.specs.Rules.{done, calls, Sub, opens, names}
 use Rattle.sessions.specs.View.{Entry, KeptStream, Local, findIn, streamIn}
-use Rattle.agent.specs.Local.{full, touched, opening, handleAt, handleOfKind}
+use Rattle.agent.specs.Local.{full, touched, opening, handleAt}
+use Rattle.agent.specs.Parents.{handlesNamed}
 use Rattle.moves.specs.Calls.{Call, fits}
 use Rattle.moves.specs.Replies.{statusBytes, acknackBytes, clientBytes}
-use Rattle.agent.specs.RulesObjects.{Move, ifHandle, createWith, createFor, deleteFound}
+use Rattle.agent.specs.RulesObjects.{Move, ifHandle, ifHandles, createWith, createFor, deleteFound}
 use Rattle.agent.specs.RulesStreams.{acknackFrom}
 use Rattle.agent.specs.Rules.{Opening, In, messageFrom, onSubmessage, handle}
 use Rattle.agent.specs.Step.{Tables, Open, Agent, withId, chosen, openAs, Reply, replied, Ran, keep, act, deliver, run, continued, Event, datagram, answer, removal, sweep, Result, refused, ran, removed, swept, Did, refuse, finish, joinedReplies, callOf, openOf, withTables, settle, begin, tooLong, isLive, stays, lapsedIds, withLocals, stepped, step}
@@ -134,17 +135,20 @@ handle-short : (x : Option ℕ) (f : ℕ → Move) (other : Move) → ((h : ℕ)
 handle-short none f other p q = q
 handle-short (some h) f other p q = p h
 
-with-short : (stream number : ℕ) (call : ℕ → ℕ → Call) (l : Local) → Short (createWith stream number call l)
-with-short stream number call l =
-    handle-short (handleOfKind 1 l) _ _ (λ h. handle-short (handleOfKind 2 l) _ _ (λ k. nothing-short) (says-short (l .id) stream number _)) (says-short (l .id) stream number _)
+handles-short : (x : Option (ℕ × ℕ)) (f : ℕ → ℕ → Move) (other : Move) → ((h k : ℕ) → Short (f h k)) → Short other → Short (ifHandles x f other)
+handles-short none f other p q = q
+handles-short (some hs) f other p q = p (hs .0) (hs .1)
+
+with-short : (kind : ObjectKind) (stream number parent : ℕ) (call : ℕ → ℕ → Call) (l : Local) → Short (createWith kind stream number parent call l)
+with-short kind stream number parent call l = handles-short (handlesNamed (l .objects) parent) _ _ (λ h k. nothing-short) (says-short (l .id) stream number _)
 
 create-short : (kind : ObjectKind) (stream number parent : ℕ) (body : List ℕ) (l : Local) → Short (createFor kind stream number parent body l)
 create-short Participant stream number parent body l = nothing-short
 create-short Topic stream number parent body l = handle-short (handleAt parent l) _ _ (λ h. nothing-short) (says-short (l .id) stream number _)
 create-short Publisher stream number parent body l = says-short (l .id) stream number _
 create-short Subscriber stream number parent body l = says-short (l .id) stream number _
-create-short DataWriter stream number parent body l = with-short stream number _ l
-create-short DataReader stream number parent body l = with-short stream number _ l
+create-short DataWriter stream number parent body l = with-short DataWriter stream number parent _ l
+create-short DataReader stream number parent body l = with-short DataReader stream number parent _ l
 
 either-short : (b : Bool) (x y : Move) → Short x → Short y → Short (cond b x y)
 either-short true x y p q = p

@@ -1,6 +1,7 @@
 -- What is proved of the agent's definitions: the rules are honest about handles, the agent goes in step with `isolation`'s, and so has term 3; no reply is hidden; document 01's frauds are
 -- shut out; and the definitions over the lent tables do what the rules and the step over lists do.
 pub mod Held
+pub mod Parents
 pub mod Honest
 pub mod InStep
 pub mod Term3

@@ -83,13 +83,13 @@ module _ (t : Tables) (sound : SoundTables Sound t) (f : Frame) (id< : f .«sess
         }
 
     -- "A CREATE that succeeds .. lists its object with the handle returned"
-    lists : (kind : ℕ) (h : Handle) → full (number .0) l ≡ false → Answers (Creating kind) (Created h)
-    lists kind h e =
-        let o = bridgedOf number kind h in
+    lists : (kind parent : ℕ) (h : Handle) → full (number .0) l ≡ false → Answers (Creating kind parent) (Created h)
+    lists kind parent h e =
+        let o = bridgedOf number kind h parent in
         let reached = reach-objects t sound id id< live in
         let slot = slot-in t sound id id< live [] 0 (record { start = 0; len = 0 }) number e in
         record {
-          after = listing (number .0) kind (some (h .0)) l;
+          after = listing (number .0) kind (some (h .0)) parent l;
           moves = refl;
           shows = put-here t id id< reached o slot ∙ ap (stores.withObjects (putIn (l .objects) (entryOf o))) (shown-live t id live);
           elsewhere = put-elsewhere t id id< reached o slot;
@@ -97,11 +97,11 @@ module _ (t : Tables) (sound : SoundTables Sound t) (f : Frame) (id< : f .«sess
         }
 
     answers : (task : Task) (b : BridgeAnswer) → RoomFor (taskAs task) (number .0) l → Answers task b
-    answers (Creating kind) (Created h) e = lists kind h e
-    answers (Creating kind) Done e = plain (Creating kind) Done refl refl
-    answers (Creating kind) Sample e = plain (Creating kind) Sample refl refl
-    answers (Creating kind) NoSample e = plain (Creating kind) NoSample refl refl
-    answers (Creating kind) Failed e = plain (Creating kind) Failed refl refl
+    answers (Creating kind parent) (Created h) e = lists kind parent h e
+    answers (Creating kind parent) Done e = plain (Creating kind parent) Done refl refl
+    answers (Creating kind parent) Sample e = plain (Creating kind parent) Sample refl refl
+    answers (Creating kind parent) NoSample e = plain (Creating kind parent) NoSample refl refl
+    answers (Creating kind parent) Failed e = plain (Creating kind parent) Failed refl refl
     answers Writing (Created h) e = plain Writing (Created h) refl refl
     answers Writing Done e = plain Writing Done refl refl
     answers Writing Sample e = plain Writing Sample refl refl

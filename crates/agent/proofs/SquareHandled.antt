@@ -36,15 +36,15 @@ module _ (t : Tables) (sound : SoundTables Sound t) (id : ℕ) (id< : id < 256) 
   stays-led = same-led Sound sound-lasts t sound
 
   create-led : (p : CreatePayload) (r : Room)
-      → LeadsTo Sound t (record { sessions = roomSessions r (t .sessions) (t .objects) id (p .«object_id») (p .kind); streams = t .streams; objects = roomObjects r (t .sessions) (t .objects) id (p .«object_id») (p .kind) })
+      → LeadsTo Sound t (record { sessions = roomSessions r (t .sessions) (t .objects) id (p .«object_id») (p .kind) (p .«parent_id»); streams = t .streams; objects = roomObjects r (t .sessions) (t .objects) id (p .«object_id») (p .kind) (p .«parent_id») })
   create-led p room.Free = by (p .kind)
     where
       by : (k : ObjectKind)
-          → LeadsTo Sound t (record { sessions = createdSessions k (t .sessions) (t .objects) id (p .«object_id»); streams = t .streams; objects = createdObjects k (t .sessions) (t .objects) id (p .«object_id») })
+          → LeadsTo Sound t (record { sessions = createdSessions k (t .sessions) (t .objects) id (p .«object_id») (p .«parent_id»); streams = t .streams; objects = createdObjects k (t .sessions) (t .objects) id (p .«object_id») (p .«parent_id») })
       by Participant = stays-led
       by Topic = stays-led
-      by Publisher = put-led Sound sound-lasts t sound id id< (implicitOf (p .«object_id») 3)
-      by Subscriber = put-led Sound sound-lasts t sound id id< (implicitOf (p .«object_id») 4)
+      by Publisher = put-led Sound sound-lasts t sound id id< (implicitOf (p .«object_id») 3 (p .«parent_id»))
+      by Subscriber = put-led Sound sound-lasts t sound id id< (implicitOf (p .«object_id») 4 (p .«parent_id»))
       by DataWriter = stays-led
       by DataReader = stays-led
   create-led p room.Full = stays-led

@@ -9,6 +9,7 @@ use borrow.Author.Tests.{lt-leb, le-leb, leb-false, ltb-true, ltb-false}
 use lib.Dec.{eqb, leb, ltb}
 use lib.ListN.{length}
 use Rattle.codec.specs.Reading.{partOf}
+use Rattle.codec.specs.Submessages.{kindByte}
 use Rattle.codec.specs.declared.layouts.Span.{Span}
 use Rattle.codec.specs.declared.submessages.CreatePayload.{CreatePayload}
 use Rattle.codec.specs.declared.submessages.ObjectKind.{ObjectKind}
@@ -23,12 +24,13 @@ use Rattle.streams.specs.View.{Sound}
 use Rattle.isolation.proofs.Simulation.{none-some}
 use Rattle.sessions.specs.Table.{isFree, sessionAt}
 use Rattle.sessions.specs.Objects.{handleOf, implicitOf, objectPlace, foundOf, slotOf}
-use Rattle.sessions.specs.SessionObjects.{objectRow, usedOf, foundObject, greatestObject}
+use Rattle.sessions.specs.SessionObjects.{objectRow, usedOf, foundObject}
 use Rattle.sessions.specs.Room.{roomFor, roomOf}
 use Rattle.sessions.specs.View.{Tables, Entry, Local, entryOf, placeIn, heldAt, findIn, putIn, dropAt, dropIn}
 use Rattle.sessions.specs.Calls.{SoundTables, putTables}
 use Rattle.sessions.specs.declared.objects.Found.{Found}
 use Rattle.sessions.specs.declared.objects.Found.the-variants as found
+use Rattle.sessions.specs.declared.objects.Handle.{Handle}
 use Rattle.sessions.specs.declared.objects.Object.{Object}
 use Rattle.sessions.specs.declared.objects.ObjectHandle.{ObjectHandle}
 use Rattle.sessions.specs.declared.objects.ObjectHandle.the-variants.{Bridged, Implicit}
@@ -40,14 +42,16 @@ use Rattle.sessions.specs.declared.table.Named.the-variants.{Live}
 use Rattle.sessions.proofs.ObjectSearch.{Under, place-under, place-shown}
 use Rattle.sessions.proofs.ViewObjects.{entryFound, listed-length}
 use Rattle.sessions.proofs.ViewStores as stores
-use Rattle.sessions.proofs.ViewStores.{fits, find-view, greatest-view, put-here, put-elsewhere, drop-here, drop-elsewhere}
+use Rattle.sessions.proofs.ViewStores.{fits, find-view, put-here, put-elsewhere, drop-here, drop-elsewhere}
 use Rattle.sessions.proofs.session_objects.Laws.{found-is}
-use Rattle.moves.specs.Calls.{Call, createTopic, createWriter, createReader, writeData, readData, deleteEntity}
-use Rattle.agent.specs.Local.{withObjects, noPlace, full, listing, dropping, entryHandle, handleAt, handleOfKind}
+use Rattle.moves.specs.Calls.{Call, createTopic, createWriter, createReader, writeData, readData, deleteEntity, creating, writing, reading, deleting}
+use Rattle.agent.specs.Local.{withObjects, noPlace, full, listing, dropping, entryHandle, handleAt}
+use Rattle.agent.specs.Parents.{ofKind, bothHandles, handlesAbove, handlesNamed}
 use Rattle.moves.specs.Names.{namesIn}
-use Rattle.moves.specs.Moves.{foundHandle, topicBy, endpointFor, writeBy, readBy, writeMove, readMove, droppedMove, deleteMove}
-use Rattle.moves.specs.Rows.{createMove, createdSessions, createdObjects, roomMove, roomSessions, roomObjects}
-use Rattle.agent.specs.RulesObjects.{Move, Names, says, asks, ifHandle, namesOf, createWith, createFor, onCreate, deleteFound, onDelete, onWrite, onRead}
+use Rattle.moves.specs.Moves.{foundHandle, handleOfKind, parentOf, topicBy, endpointCall, endpointFor, writeBy, readBy, writeMove, readMove, droppedMove, deleteMove}
+use Rattle.moves.specs.Proxy.{callAs}
+use Rattle.moves.specs.Rows.{endpointIn, createMove, createdSessions, createdObjects, roomMove, roomSessions, roomObjects}
+use Rattle.agent.specs.RulesObjects.{Move, Names, says, asks, ifHandle, ifHandles, namesOf, createWith, createFor, onCreate, deleteFound, onDelete, onWrite, onRead}
 use Rattle.moves.specs.declared.moves.Move as code
 use Rattle.moves.specs.declared.moves.Move.the-variants.{Status}
 use Rattle.agent.proofs.NameParts.{names-same}
@@ -72,6 +76,20 @@ handle-shown (found.Held o) = own-shown o
 handle-shown found.Nothing = refl
 handle-shown (found.Refused r) = refl
 
+-- the same of an object held with its kind
+kind-shown : (kind : ObjectKind) (f : Found) → handleShown (handleOfKind f (kindByte kind)) ≡ entryHandle (ofKind kind (entryFound f))
+kind-shown kind (found.Held o) = by (eqb (o .kind) (kindByte kind))
+  where
+    by : (b : Bool) → handleShown (cond b (handleOf o) Implicit) ≡ entryHandle (cond b (some (entryOf o)) none)
+    by true = own-shown o
+    by false = refl
+kind-shown kind found.Nothing = refl
+kind-shown kind (found.Refused r) = refl
+
+both-none : (x : Option ℕ) → bothHandles x none ≡ none
+both-none none = refl
+both-none (some p) = refl
+
 module _ (t : Tables) (sound : SoundTables Sound t) (id : ℕ) (id< : id < 256) (live : isFree (t .sessions) id ≡ false) (d : List ℕ) (n : ℕ) (body : Span) where
   abbrev l : Local
   l = shownAt t id
@@ -79,14 +97,30 @@ module _ (t : Tables) (sound : SoundTables Sound t) (id : ℕ) (id< : id < 256) 
   abbrev foundAt : ObjectNumber → Found
   foundAt number = foundObject (t .sessions) (t .objects) id number
 
-  abbrev greatestAt : ℕ → Found
-  greatestAt kind = greatestObject (t .sessions) (t .objects) id kind
-
   handle-view : (number : ObjectNumber) → handleAt (number .0) l ≡ handleShown (foundHandle (foundAt number))
   handle-view number = ap entryHandle (sym (find-view t id id< (reach-objects t sound id id< live) number)) ∙ sym (handle-shown (foundAt number))
 
-  kind-view : (kind : ℕ) → handleOfKind kind l ≡ handleShown (foundHandle (greatestAt kind))
-  kind-view kind = ap entryHandle (sym (greatest-view t id id< (reach-objects t sound id id< live) kind)) ∙ sym (handle-shown (greatestAt kind))
+  -- the two handles that a parent number names, by the objects that are fetched
+  named-view : (parent : ℕ)
+      → handlesNamed (l .objects) parent
+      ≡ bothHandles (handleShown (handleOfKind (foundAt (parentOf (foundAt (record { 0 = parent })))) 1)) (handleShown (handleOfKind (foundAt (record { 0 = parent })) 2))
+  named-view parent = ap (λ (x : Option Entry). handlesAbove (l .objects) (ofKind Topic x)) (found-view (record { 0 = parent })) ∙ by (foundAt (record { 0 = parent }))
+    where
+      found-view : (number : ObjectNumber) → findIn (l .objects) (number .0) ≡ entryFound (foundAt number)
+      found-view number = sym (find-view t id id< (reach-objects t sound id id< live) number)
+
+      above : (number : ObjectNumber) → entryHandle (ofKind Participant (findIn (l .objects) (number .0))) ≡ handleShown (handleOfKind (foundAt number) 1)
+      above number = ap (λ (x : Option Entry). entryHandle (ofKind Participant x)) (found-view number) ∙ sym (kind-shown Participant (foundAt number))
+
+      topic : (o : Object) (b : Bool)
+          → handlesAbove (l .objects) (cond b (some (entryOf o)) none) ≡ bothHandles (handleShown (handleOfKind (foundAt (record { 0 = o .parent })) 1)) (handleShown (cond b (handleOf o) Implicit))
+      topic o true = λ i. bothHandles (above (record { 0 = o .parent }) i) (sym (own-shown o) i)
+      topic o false = sym (both-none (handleShown (handleOfKind (foundAt (record { 0 = o .parent })) 1)))
+
+      by : (f : Found) → handlesAbove (l .objects) (ofKind Topic (entryFound f)) ≡ bothHandles (handleShown (handleOfKind (foundAt (parentOf f)) 1)) (handleShown (handleOfKind f 2))
+      by (found.Held o) = topic o (eqb (o .kind) 2)
+      by found.Nothing = sym (both-none (handleShown (handleOfKind (foundAt (record { 0 = 0 })) 1)))
+      by (found.Refused r) = sym (both-none (handleShown (handleOfKind (foundAt (record { 0 = 0 })) 1)))
 
   -- where the tables stay
   stays : (rule : Move) (m : code.Move) → rule ≡ outcome d id n l m → Meets t d id n rule t m
@@ -95,7 +129,7 @@ module _ (t : Tables) (sound : SoundTables Sound t) (id : ℕ) (id< : id < 256) 
   -- ---- WRITE_DATA and READ_DATA
 
   write-moves : (number : ObjectNumber) (h : ObjectHandle)
-      → ifHandle (handleShown h) (λ w. asks n (number .0) (writeData w (partOf d body)) l) (says n (number .0) ErrUnknownRef l) ≡ outcome d id n l (writeBy number body h)
+      → ifHandle (handleShown h) (λ w. asks n (number .0) writing (writeData w (partOf d body)) l) (says n (number .0) ErrUnknownRef l) ≡ outcome d id n l (writeBy number body h)
   write-moves number (Bridged w) = refl
   write-moves number Implicit = refl
 
@@ -103,11 +137,11 @@ module _ (t : Tables) (sound : SoundTables Sound t) (id : ℕ) (id< : id < 256) 
   write-square p =
       let number = p .«writer_id» in
       stays (onWrite n (number .0) (partOf d body) l) (writeMove number body (foundAt number))
-      (ap (λ (h : Option ℕ). ifHandle h (λ w. asks n (number .0) (writeData w (partOf d body)) l) (says n (number .0) ErrUnknownRef l)) (handle-view number)
+      (ap (λ (h : Option ℕ). ifHandle h (λ w. asks n (number .0) writing (writeData w (partOf d body)) l) (says n (number .0) ErrUnknownRef l)) (handle-view number)
       ∙ write-moves number (foundHandle (foundAt number)))
 
   read-moves : (number : ObjectNumber) (h : ObjectHandle)
-      → ifHandle (handleShown h) (λ x. asks n (number .0) (readData x) l) (says n (number .0) ErrUnknownRef l) ≡ outcome d id n l (readBy number h)
+      → ifHandle (handleShown h) (λ x. asks n (number .0) reading (readData x) l) (says n (number .0) ErrUnknownRef l) ≡ outcome d id n l (readBy number h)
   read-moves number (Bridged x) = refl
   read-moves number Implicit = refl
 
@@ -115,7 +149,7 @@ module _ (t : Tables) (sound : SoundTables Sound t) (id : ℕ) (id< : id < 256) 
   read-square p =
       let number = p .«reader_id» in
       stays (onRead n (number .0) l) (readMove number (foundAt number))
-      (ap (λ (h : Option ℕ). ifHandle h (λ x. asks n (number .0) (readData x) l) (says n (number .0) ErrUnknownRef l)) (handle-view number)
+      (ap (λ (h : Option ℕ). ifHandle h (λ x. asks n (number .0) reading (readData x) l) (says n (number .0) ErrUnknownRef l)) (handle-view number)
       ∙ read-moves number (foundHandle (foundAt number)))
 
   -- ---- DELETE
@@ -135,7 +169,7 @@ module _ (t : Tables) (sound : SoundTables Sound t) (id : ℕ) (id< : id < 256) 
       left : Local
       left = dropping (number .0) l
 
-      has : (h : ObjectHandle) → ifHandle (handleShown h) (λ x. asks n (number .0) (deleteEntity x) left) (says n (number .0) Ok left) ≡ outcome d id n left (droppedMove number h)
+      has : (h : ObjectHandle) → ifHandle (handleShown h) (λ x. asks n (number .0) deleting (deleteEntity x) left) (says n (number .0) Ok left) ≡ outcome d id n left (droppedMove number h)
       has (Bridged h) = refl
       has Implicit = refl
 
@@ -143,7 +177,7 @@ module _ (t : Tables) (sound : SoundTables Sound t) (id : ℕ) (id< : id < 256) 
       unknown e = ap (λ (x : Local). outcome d id n x (Status number ErrUnknownRef)) (sym (none-dropped (number .0) (sym e)))
 
       by : (f : Found) → entryFound f ≡ findIn (l .objects) (number .0) → deleteFound n (number .0) (entryFound f) l ≡ outcome d id n left (deleteMove number f)
-      by (found.Held o) e = ap (λ (h : Option ℕ). ifHandle h (λ x. asks n (number .0) (deleteEntity x) left) (says n (number .0) Ok left)) (sym (own-shown o)) ∙ has (handleOf o)
+      by (found.Held o) e = ap (λ (h : Option ℕ). ifHandle h (λ x. asks n (number .0) deleting (deleteEntity x) left) (says n (number .0) Ok left)) (sym (own-shown o)) ∙ has (handleOf o)
       by found.Nothing e = unknown e
       by (found.Refused r) e = unknown e
 
@@ -199,37 +233,38 @@ module _ (t : Tables) (sound : SoundTables Sound t) (id : ℕ) (id< : id < 256) 
       by (At i) h e = omega (arith, few)
       by Nowhere h e = let a : length (l .objects) < 32 = leb-false 32 (length (l .objects)) e in omega (arith, count-shown)
 
-  topic-moves : (number : ObjectNumber) (h : ObjectHandle)
-      → ifHandle (handleShown h) (λ p. asks n (number .0) (createTopic p (namesOf (partOf d body) .name) (namesOf (partOf d body) .type)) l) (says n (number .0) ErrInvalidData l)
-      ≡ outcome d id n l (topicBy number (namesIn d body) h)
-  topic-moves number (Bridged p) = ap (λ (x : Names). asks n (number .0) (createTopic (p .0) (x .name) (x .type)) l) (sym (names-same d body))
-  topic-moves number Implicit = refl
+  topic-moves : (number : ObjectNumber) (parent : ℕ) (h : ObjectHandle)
+      → ifHandle (handleShown h) (λ p. asks n (number .0) (creating 2 parent) (createTopic p (namesOf (partOf d body) .name) (namesOf (partOf d body) .type)) l) (says n (number .0) ErrInvalidData l)
+      ≡ outcome d id n l (topicBy number parent (namesIn d body) h)
+  topic-moves number parent (Bridged p) = ap (λ (x : Names). asks n (number .0) (creating 2 parent) (createTopic (p .0) (x .name) (x .type)) l) (sym (names-same d body))
+  topic-moves number parent Implicit = refl
 
-  abbrev withBoth : ObjectNumber → (ℕ → ℕ → Call) → Option ℕ → Option ℕ → Move
-  withBoth number call p t = ifHandle p (λ p. ifHandle t (λ t. asks n (number .0) (call p t) l) (says n (number .0) ErrInvalidData l)) (says n (number .0) ErrInvalidData l)
+  -- a writer or a reader, whose call is made of the two handles
+  with-moves : (number : ObjectNumber) (kind : ObjectKind) (parent : ℕ) (call : ℕ → ℕ → Call)
+      → ((p t : Handle) → callAs d (endpointCall (kindByte kind) p t) ≡ call (p .0) (t .0))
+      → (p t : ObjectHandle)
+      → ifHandles (bothHandles (handleShown p) (handleShown t)) (λ p t. asks n (number .0) (creating (kindByte kind) parent) (call p t) l) (says n (number .0) ErrInvalidData l)
+      ≡ outcome d id n l (endpointFor number (kindByte kind) parent p t)
+  with-moves number kind parent call e (Bridged p) (Bridged t) = ap (λ (c : Call). asks n (number .0) (creating (kindByte kind) parent) c l) (sym (e p t))
+  with-moves number kind parent call e (Bridged p) Implicit = refl
+  with-moves number kind parent call e Implicit t = refl
 
-  writer-moves : (number : ObjectNumber) (p t : ObjectHandle) → withBoth number createWriter (handleShown p) (handleShown t) ≡ outcome d id n l (endpointFor number 5 p t)
-  writer-moves number (Bridged p) (Bridged t) = refl
-  writer-moves number (Bridged p) Implicit = refl
-  writer-moves number Implicit t = refl
-
-  reader-moves : (number : ObjectNumber) (p t : ObjectHandle) → withBoth number createReader (handleShown p) (handleShown t) ≡ outcome d id n l (endpointFor number 6 p t)
-  reader-moves number (Bridged p) (Bridged t) = refl
-  reader-moves number (Bridged p) Implicit = refl
-  reader-moves number Implicit t = refl
-
-  both-view : (number : ObjectNumber) (call : ℕ → ℕ → Call)
-      → createWith n (number .0) call l ≡ withBoth number call (handleShown (foundHandle (greatestAt 1))) (handleShown (foundHandle (greatestAt 2)))
-  both-view number call = λ i. withBoth number call (kind-view 1 i) (kind-view 2 i)
+  with-view : (number : ObjectNumber) (kind : ObjectKind) (parent : ℕ) (call : ℕ → ℕ → Call)
+      → ((p t : Handle) → callAs d (endpointCall (kindByte kind) p t) ≡ call (p .0) (t .0))
+      → createWith kind n (number .0) parent call l ≡ outcome d id n l (endpointIn (t .sessions) (t .objects) id number (kindByte kind) parent)
+  with-view number kind parent call e =
+      let topic = foundAt (record { 0 = parent }) in
+      ap (λ (x : Option (ℕ × ℕ)). ifHandles x (λ p t. asks n (number .0) (creating (kindByte kind) parent) (call p t) l) (says n (number .0) ErrInvalidData l)) (named-view parent)
+      ∙ with-moves number kind parent call e (handleOfKind (foundAt (parentOf topic)) 1) (handleOfKind topic 2)
 
   -- a Publisher or a Subscriber is listed
-  lists : (number : ObjectNumber) (kind : ℕ) → full (number .0) l ≡ false
-      → Meets t d id n (says n (number .0) Ok (listing (number .0) kind none l)) (putTables t id (implicitOf number kind)) (Status number Ok)
-  lists number kind e =
-      let o = implicitOf number kind in
+  lists : (number : ObjectNumber) (kind parent : ℕ) → full (number .0) l ≡ false
+      → Meets t d id n (says n (number .0) Ok (listing (number .0) kind none parent l)) (putTables t id (implicitOf number kind parent)) (Status number Ok)
+  lists number kind parent e =
+      let o = implicitOf number kind parent in
       let reached = reach-objects t sound id id< live in
       record {
-        after = listing (number .0) kind none l;
+        after = listing (number .0) kind none parent l;
         shows = put-here t id id< reached o (slot-in number e) ∙ ap (stores.withObjects (putIn (l .objects) (entryOf o))) (shown-live t id live);
         moves = refl;
         elsewhere = put-elsewhere t id id< reached o (slot-in number e);
@@ -244,7 +279,11 @@ module _ (t : Tables) (sound : SoundTables Sound t) (id : ℕ) (id< : id < 256) 
 
     abbrev createdIn : ObjectKind → Tables
     createdIn k =
-        record { sessions = createdSessions k (t .sessions) (t .objects) id number; streams = t .streams; objects = createdObjects k (t .sessions) (t .objects) id number }
+        record {
+          sessions = createdSessions k (t .sessions) (t .objects) id number (p .«parent_id»);
+          streams = t .streams;
+          objects = createdObjects k (t .sessions) (t .objects) id number (p .«parent_id»);
+        }
 
     -- each kind, where there is room
     free-square : (k : ObjectKind) → full (number .0) l ≡ false
@@ -253,15 +292,20 @@ module _ (t : Tables) (sound : SoundTables Sound t) (id : ℕ) (id< : id < 256) 
     free-square Topic e =
         let parent : ObjectNumber = record { 0 = p .«parent_id» } in
         stays _ _
-        (ap (λ (h : Option ℕ). ifHandle h (λ x. asks n (number .0) (createTopic x (namesOf (partOf d body) .name) (namesOf (partOf d body) .type)) l) (says n (number .0) ErrInvalidData l)) (handle-view parent)
-        ∙ topic-moves number (foundHandle (foundAt parent)))
-    free-square Publisher e = lists number 3 e
-    free-square Subscriber e = lists number 4 e
-    free-square DataWriter e = stays _ _ (both-view number createWriter ∙ writer-moves number (foundHandle (greatestAt 1)) (foundHandle (greatestAt 2)))
-    free-square DataReader e = stays _ _ (both-view number createReader ∙ reader-moves number (foundHandle (greatestAt 1)) (foundHandle (greatestAt 2)))
+        (ap (λ (h : Option ℕ). ifHandle h (λ x. asks n (number .0) (creating 2 (p .«parent_id»)) (createTopic x (namesOf (partOf d body) .name) (namesOf (partOf d body) .type)) l) (says n (number .0) ErrInvalidData l)) (handle-view parent)
+        ∙ topic-moves number (p .«parent_id») (foundHandle (foundAt parent)))
+    free-square Publisher e = lists number 3 (p .«parent_id») e
+    free-square Subscriber e = lists number 4 (p .«parent_id») e
+    free-square DataWriter e = stays _ _ (with-view number DataWriter (p .«parent_id») createWriter (λ p t. refl))
+    free-square DataReader e = stays _ _ (with-view number DataReader (p .«parent_id») createReader (λ p t. refl))
 
     abbrev roomTables : Room → Tables
-    roomTables r = record { sessions = roomSessions r (t .sessions) (t .objects) id number (p .kind); streams = t .streams; objects = roomObjects r (t .sessions) (t .objects) id number (p .kind) }
+    roomTables r =
+        record {
+          sessions = roomSessions r (t .sessions) (t .objects) id number (p .kind) (p .«parent_id»);
+          streams = t .streams;
+          objects = roomObjects r (t .sessions) (t .objects) id number (p .kind) (p .«parent_id»);
+        }
 
     pub create-square : Squares (sub.Create p) t d id n body
     create-square =

@@ -157,7 +157,7 @@ module _ (st : State) (v : Inv st) (out d : List ℕ) (x : Start) (session-in : 
 fits-same : (task : Task) (b : BridgeAnswer) (sample : List ℕ) → fits (taskAs task) (answerAs b sample) ≡ fits (taskAs task) (answerAs b [])
 fits-same task (Created h) sample = refl
 fits-same task Done sample = refl
-fits-same (Creating kind) Sample sample = refl
+fits-same (Creating kind parent) Sample sample = refl
 fits-same Writing Sample sample = refl
 fits-same Reading Sample sample = refl
 fits-same Deleting Sample sample = refl

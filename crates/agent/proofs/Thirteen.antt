@@ -70,11 +70,11 @@ module _ (f : Frame) (bytes : List ℕ) (number : ObjectNumber) where
 
   -- an answer that fits its call: DATA to a sample, else a STATUS
   says-most : (task : Task) (a : BridgeAnswer) → saysFits (saysOf task a) (length bytes) ≡ true → fits (taskAs task) (answerAs a []) ≡ true → length (saysBytes (saysOf task a) f number bytes) ≤ answerMost a (length bytes)
-  says-most (Creating kind) (Created h) e m = status-most Ok
-  says-most (Creating kind) Done e m = status-most ErrInvalidData
-  says-most (Creating kind) Sample e m = absurd (no-fit m)
-  says-most (Creating kind) NoSample e m = status-most ErrInvalidData
-  says-most (Creating kind) Failed e m = status-most ErrInvalidData
+  says-most (Creating kind parent) (Created h) e m = status-most Ok
+  says-most (Creating kind parent) Done e m = status-most ErrInvalidData
+  says-most (Creating kind parent) Sample e m = absurd (no-fit m)
+  says-most (Creating kind parent) NoSample e m = status-most ErrInvalidData
+  says-most (Creating kind parent) Failed e m = status-most ErrInvalidData
   says-most Writing (Created h) e m = status-most ErrInvalidData
   says-most Writing Done e m = status-most Ok
   says-most Writing Sample e m = absurd (no-fit m)

@@ -34,7 +34,7 @@ use Rattle.codec.proofs.layouts.Laws.{enough}
 use Rattle.codec.proofs.reading.Laws.{payload-unlisted, payload-under, payload-laid, payload-placed, read-placed}
 use Rattle.sessions.specs.Opening.{createdOf}
 use Rattle.sessions.specs.Room.{roomOf}
-use Rattle.sessions.specs.SessionObjects.{foundObject, greatestObject}
+use Rattle.sessions.specs.SessionObjects.{foundObject}
 use Rattle.sessions.specs.Objects.{handleOf}
 use Rattle.sessions.specs.Table.{namedOf}
 use Rattle.sessions.specs.View.{Tables}
@@ -53,9 +53,9 @@ use Rattle.sessions.specs.declared.session_streams.StreamNamed.the-variants as 
 use Rattle.sessions.specs.declared.table.Named.{Named}
 use Rattle.sessions.specs.declared.table.Named.the-variants as named
 use Rattle.streams.specs.declared.state.StreamState.{StreamState}
-use Rattle.moves.specs.Moves.{foundHandle, topicBy, endpointFor, writeBy, readBy, droppedMove, deleteMove, heartbeatOn, moveBytes}
+use Rattle.moves.specs.Moves.{foundHandle, handleOfKind, parentOf, topicBy, endpointFor, writeBy, readBy, droppedMove, deleteMove, heartbeatOn, moveBytes}
 use Rattle.moves.specs.Names.{namesIn}
-use Rattle.moves.specs.Rows.{asksOf, createMove, roomMove, handledBy, handledMove}
+use Rattle.moves.specs.Rows.{asksOf, endpointIn, createMove, roomMove, handledBy, handledMove}
 use Rattle.moves.specs.RowsStreams.{openedSessions, openedRows, readOf, streamMove}
 use Rattle.agent.specs.Run.{Turned, greeting, idOpened, opening, passed, repliesOf, touchedTables, acted, delivered, subTurned, turnedBy, turned}
 use Rattle.agent.specs.Step.{Reply, opened, bytesOf, joinedReplies}
@@ -151,22 +151,26 @@ Most n Silent = Unit {0}
 abbrev Brief : Move → Type 0
 Brief m = Most 11 m
 
-topic-brief : (number : ObjectNumber) (names : Names) (h : ObjectHandle) → Brief (topicBy number names h)
-topic-brief number names (Bridged p) = tt
-topic-brief number names Implicit = omega arith
+topic-brief : (number : ObjectNumber) (parent : ℕ) (names : Names) (h : ObjectHandle) → Brief (topicBy number parent names h)
+topic-brief number parent names (Bridged p) = tt
+topic-brief number parent names Implicit = omega arith
 
-endpoint-brief : (number : ObjectNumber) (k : ℕ) (h t : ObjectHandle) → Brief (endpointFor number k h t)
-endpoint-brief number k (Bridged p) (Bridged t) = tt
-endpoint-brief number k (Bridged p) Implicit = omega arith
-endpoint-brief number k Implicit t = omega arith
+endpoint-brief : (number : ObjectNumber) (k parent : ℕ) (h t : ObjectHandle) → Brief (endpointFor number k parent h t)
+endpoint-brief number k parent (Bridged p) (Bridged t) = tt
+endpoint-brief number k parent (Bridged p) Implicit = omega arith
+endpoint-brief number k parent Implicit t = omega arith
+
+fetched-brief : (s : List (List ℕ)) (o : List Object) (id : ℕ) (number : ObjectNumber) (k parent : ℕ) → Brief (endpointIn s o id number k parent)
+fetched-brief s o id number k parent =
+    let topic = foundObject s o id (record { 0 = parent }) in endpoint-brief number k parent (handleOfKind (foundObject s o id (parentOf topic)) 1) (handleOfKind topic 2)
 
 create-brief : (k : ObjectKind) (s : List (List ℕ)) (o : List Object) (d : List ℕ) (id : ℕ) (number : ObjectNumber) (parent : ℕ) (body : Span) → Brief (createMove k s o d id number parent body)
 create-brief kind.Participant s o d id number parent body = tt
-create-brief kind.Topic s o d id number parent body = topic-brief number (namesIn d body) (foundHandle (foundObject s o id (record { 0 = parent })))
+create-brief kind.Topic s o d id number parent body = topic-brief number parent (namesIn d body) (foundHandle (foundObject s o id (record { 0 = parent })))
 create-brief kind.Publisher s o d id number parent body = omega arith
 create-brief kind.Subscriber s o d id number parent body = omega arith
-create-brief kind.DataWriter s o d id number parent body = endpoint-brief number 5 (foundHandle (greatestObject s o id 1)) (foundHandle (greatestObject s o id 2))
-create-brief kind.DataReader s o d id number parent body = endpoint-brief number 6 (foundHandle (greatestObject s o id 1)) (foundHandle (greatestObject s o id 2))
+create-brief kind.DataWriter s o d id number parent body = fetched-brief s o id number 5 parent
+create-brief kind.DataReader s o d id number parent body = fetched-brief s o id number 6 parent
 
 room-brief : (x : Room) (s : List (List ℕ)) (o : List Object) (d : List ℕ) (id : ℕ) (number : ObjectNumber) (k : ObjectKind) (parent : ℕ) (body : Span) → Brief (roomMove x s o d id number k parent body)
 room-brief room.Free s o d id number k parent body = create-brief k s o d id number parent body

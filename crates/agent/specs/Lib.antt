@@ -1,6 +1,8 @@
 -- What a reader must believe of the agent, in document 01's order: the one-session machine's tables, the rules, the step, and the agent that a host calls. The bridge calls and the replies' bytes are those of `moves`.
 pub mod Local
+pub mod Parents
 pub mod RulesObjects
+pub mod Follows
 pub mod RulesStreams
 pub mod RulesAnswers
 pub mod Rules

@@ -6,7 +6,7 @@ use mathlib.Core.List.{List}
 use lib.Dec.{leb}
 use lib.ListN.{length}
 use Rattle.streams.specs.View.{acknackIn}
-use Rattle.sessions.specs.View.{Entry, KeptStream, Local, findIn, putIn, dropIn, greatestIn, streamIn, openIn, writeIn}
+use Rattle.sessions.specs.View.{Entry, KeptStream, Local, findIn, putIn, dropIn, streamIn, openIn, writeIn}
 
 -- "The time becomes the last activity"
 abbrev pub touched : ℕ → Local → Local
@@ -17,9 +17,9 @@ touched time l = record { id = l .id; key = l .key; last = time; objects = l .ob
 abbrev pub withObjects : Local → List Entry → Local
 withObjects l es = record { id = l .id; key = l .key; last = l .last; objects = es; streams = l .streams }
 
--- "lists its object with the handle returned or none, in place of one of that number"
-abbrev pub listing : ℕ → ℕ → Option ℕ → Local → Local
-listing number kind handle l = withObjects l (putIn (l .objects) (record { number = number; kind = kind; handle = handle }))
+-- "lists its object with the handle returned or none, in place of one of that number", and (W1) with its CREATE's parent number
+abbrev pub listing : ℕ → ℕ → Option ℕ → ℕ → Local → Local
+listing number kind handle parent l = withObjects l (putIn (l .objects) (record { number = number; kind = kind; handle = handle; parent = parent }))
 
 abbrev pub dropping : ℕ → Local → Local
 dropping number l = withObjects l (dropIn (l .objects) number)
@@ -40,10 +40,6 @@ entryHandle (some e) = e .handle
 -- "from any object of that number"
 abbrev pub handleAt : ℕ → Local → Option ℕ
 handleAt number l = entryHandle (findIn (l .objects) number)
-
--- "Of several Participants or Topics, the greatest object number is taken"
-abbrev pub handleOfKind : ℕ → Local → Option ℕ
-handleOfKind kind l = entryHandle (greatestIn (l .objects) kind)
 
 -- ---- streams
 

@@ -121,11 +121,11 @@ handlesHeld (e ∷ es) = heldAs (e .number) (e .handle) (handlesHeld es)
 
 -- a handle is granted by the answer `created` to a CREATE, and by nothing else
 abbrev pub grantedBy : Task → ℕ → Answer → List (ℕ × ℕ)
-grantedBy (creating kind) number (created h) = (number, h) ∷ []
-grantedBy (creating kind) number succeeded = []
-grantedBy (creating kind) number (sample d) = []
-grantedBy (creating kind) number noSample = []
-grantedBy (creating kind) number failed = []
+grantedBy (creating kind parent) number (created h) = (number, h) ∷ []
+grantedBy (creating kind parent) number succeeded = []
+grantedBy (creating kind parent) number (sample d) = []
+grantedBy (creating kind parent) number noSample = []
+grantedBy (creating kind parent) number failed = []
 grantedBy deleting number a = []
 grantedBy writing number a = []
 grantedBy readingTask number a = []

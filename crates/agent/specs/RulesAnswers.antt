@@ -13,12 +13,12 @@ use Rattle.agent.specs.RulesObjects.{Move, says}
 -- An answer of another kind never comes here (15); it would count as a failure.
 
 -- "A CREATE that succeeds .. lists its object with the handle returned"; a failed one answers ERR_INVALID_DATA
-abbrev pub createAnswered : ℕ → ℕ → ℕ → Answer → Local → Move
-createAnswered stream number kind (created h) l = says stream number Ok (listing number kind (some h) l)
-createAnswered stream number kind succeeded l = says stream number ErrInvalidData l
-createAnswered stream number kind (sample d) l = says stream number ErrInvalidData l
-createAnswered stream number kind noSample l = says stream number ErrInvalidData l
-createAnswered stream number kind failed l = says stream number ErrInvalidData l
+abbrev pub createAnswered : ℕ → ℕ → ℕ → ℕ → Answer → Local → Move
+createAnswered stream number kind parent (created h) l = says stream number Ok (listing number kind (some h) parent l)
+createAnswered stream number kind parent succeeded l = says stream number ErrInvalidData l
+createAnswered stream number kind parent (sample d) l = says stream number ErrInvalidData l
+createAnswered stream number kind parent noSample l = says stream number ErrInvalidData l
+createAnswered stream number kind parent failed l = says stream number ErrInvalidData l
 
 -- "DELETE removes the object even where the bridge then fails (ERR_UNKNOWN_REF)."
 abbrev pub deleteAnswered : ℕ → ℕ → Answer → Local → Move
@@ -45,7 +45,7 @@ readAnswered stream number succeeded l = says stream number ErrInvalidData l
 readAnswered stream number failed l = says stream number ErrInvalidData l
 
 abbrev pub answerOf : Task → ℕ → ℕ → Answer → Local → Move
-answerOf (creating kind) stream number a l = createAnswered stream number kind a l
+answerOf (creating kind parent) stream number a l = createAnswered stream number kind parent a l
 answerOf writing stream number a l = writeAnswered stream number a l
 answerOf reading stream number a l = readAnswered stream number a l
 answerOf deleting stream number a l = deleteAnswered stream number a l

@@ -15,9 +15,10 @@ use Rattle.codec.specs.declared.submessages.StatusCode.{StatusCode}
 use Rattle.codec.specs.declared.submessages.StatusCode.the-variants.{Ok, ErrUnknownRef, ErrInvalidData, ErrResources}
 use Rattle.isolation.specs.Rules.{Bytes, Outcome, done, calls}
 use Rattle.sessions.specs.View.{Entry, Local, findIn}
-use Rattle.agent.specs.Local.{listing, dropping, full, handleAt, handleOfKind}
-use Rattle.moves.specs.Calls.{Call, createParticipant, createTopic, createWriter, createReader, writeData, readData, deleteEntity, taskOf, Pending}
+use Rattle.agent.specs.Local.{listing, dropping, full, handleAt}
+use Rattle.moves.specs.Calls.{Call, createParticipant, createTopic, createWriter, createReader, writeData, readData, deleteEntity, Task, creating, writing, reading, deleting, Pending}
 use Rattle.moves.specs.Replies.{statusBytes}
+use Rattle.agent.specs.Parents.{handlesNamed}
 
 -- "It replies, hands out one call and waits, or does neither."
 abbrev pub Move : Type 0
@@ -27,14 +28,18 @@ Move = Outcome Local Bytes Call Pending
 abbrev pub says : ℕ → ℕ → StatusCode → Local → Move
 says stream number code l = done l (statusBytes (l .id) stream number code ∷ [])
 
--- it hands out a call for an object
-abbrev pub asks : ℕ → ℕ → Call → Local → Move
-asks stream number call l = calls l [] call (record { stream = stream; number = number; task = taskOf call })
+-- it hands out a call for an object, and keeps what the call is for
+abbrev pub asks : ℕ → ℕ → Task → Call → Local → Move
+asks stream number task call l = calls l [] call (record { stream = stream; number = number; task = task })
 
 -- one thing with an object's handle, another where there is no such object or it has none
 abbrev pub ifHandle : Option ℕ → (ℕ → Move) → Move → Move
 ifHandle (some h) with without = with h
 ifHandle none with without = without
+
+abbrev pub ifHandles : Option (ℕ × ℕ) → (ℕ → ℕ → Move) → Move → Move
+ifHandles (some hs) with without = with (hs .0) (hs .1)
+ifHandles none with without = without
 
 -- ---- CREATE
 
@@ -57,23 +62,23 @@ namesFrom body (string.Refused r) = noNames
 unfoldable pub namesOf : List ℕ → Names
 namesOf body = namesFrom body (stringAt body 0)
 
--- "DataWriter and DataReader ignore their parent number and use a Participant and a Topic of the session."
-abbrev pub createWith : ℕ → ℕ → (ℕ → ℕ → Call) → Local → Move
-createWith stream number call l =
-    ifHandle (handleOfKind (kindByte Participant) l)
-    (λ p. ifHandle (handleOfKind (kindByte Topic) l) (λ t. asks stream number (call p t) l) (says stream number ErrInvalidData l))
-    (says stream number ErrInvalidData l)
+-- W1: "If either isn't held with that kind, the answer is ERR_INVALID_DATA without a call."
+abbrev pub createWith : ObjectKind → ℕ → ℕ → ℕ → (ℕ → ℕ → Call) → Local → Move
+createWith kind stream number parent call l =
+    ifHandles (handlesNamed (l .objects) parent) (λ p t. asks stream number (creating (kindByte kind) parent) (call p t) l) (says stream number ErrInvalidData l)
 
 -- A CREATE of each object kind: "The parent's handle comes from any object of that number."; "Publishers and Subscribers have no bridge
 -- handle."; "Within the object limit every failed CREATE answers ERR_INVALID_DATA and keeps an older object of that number."
 abbrev pub createFor : ObjectKind → ℕ → ℕ → ℕ → List ℕ → Local → Move
-createFor Participant stream number parent body l = asks stream number (createParticipant parent) l
+createFor Participant stream number parent body l = asks stream number (creating (kindByte Participant) parent) (createParticipant parent) l
 createFor Topic stream number parent body l =
-    ifHandle (handleAt parent l) (λ p. asks stream number (createTopic p (namesOf body .name) (namesOf body .type)) l) (says stream number ErrInvalidData l)
-createFor Publisher stream number parent body l = says stream number Ok (listing number (kindByte Publisher) none l)
-createFor Subscriber stream number parent body l = says stream number Ok (listing number (kindByte Subscriber) none l)
-createFor DataWriter stream number parent body l = createWith stream number createWriter l
-createFor DataReader stream number parent body l = createWith stream number createReader l
+    ifHandle (handleAt parent l)
+    (λ p. asks stream number (creating (kindByte Topic) parent) (createTopic p (namesOf body .name) (namesOf body .type)) l)
+    (says stream number ErrInvalidData l)
+createFor Publisher stream number parent body l = says stream number Ok (listing number (kindByte Publisher) none parent l)
+createFor Subscriber stream number parent body l = says stream number Ok (listing number (kindByte Subscriber) none parent l)
+createFor DataWriter stream number parent body l = createWith DataWriter stream number parent createWriter l
+createFor DataReader stream number parent body l = createWith DataReader stream number parent createReader l
 
 -- "CREATE of a 33rd number answers ERR_RESOURCES before any lookup or call."
 abbrev pub onCreate : ObjectKind → ℕ → ℕ → ℕ → List ℕ → Local → Move
@@ -84,14 +89,14 @@ onCreate kind stream number parent body l = cond (full number l) (says stream nu
 -- "DELETE drops its object before its call."; of a Publisher or Subscriber it "answers OK without a call"
 abbrev pub deleteFound : ℕ → ℕ → Option Entry → Local → Move
 deleteFound stream number none l = says stream number ErrUnknownRef l
-deleteFound stream number (some e) l = ifHandle (e .handle) (λ h. asks stream number (deleteEntity h) (dropping number l)) (says stream number Ok (dropping number l))
+deleteFound stream number (some e) l = ifHandle (e .handle) (λ h. asks stream number deleting (deleteEntity h) (dropping number l)) (says stream number Ok (dropping number l))
 
 abbrev pub onDelete : ℕ → ℕ → Local → Move
 onDelete stream number l = deleteFound stream number (findIn (l .objects) number) l
 
 abbrev pub onWrite : ℕ → ℕ → List ℕ → Local → Move
-onWrite stream number body l = ifHandle (handleAt number l) (λ h. asks stream number (writeData h body) l) (says stream number ErrUnknownRef l)
+onWrite stream number body l = ifHandle (handleAt number l) (λ h. asks stream number writing (writeData h body) l) (says stream number ErrUnknownRef l)
 
 -- "`max_samples` is unused"
 abbrev pub onRead : ℕ → ℕ → Local → Move
-onRead stream number l = ifHandle (handleAt number l) (λ h. asks stream number (readData h) l) (says stream number ErrUnknownRef l)
+onRead stream number l = ifHandle (handleAt number l) (λ h. asks stream number reading (readData h) l) (says stream number ErrUnknownRef l)

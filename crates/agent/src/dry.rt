@@ -229,7 +229,7 @@ pub(crate) fn dry(
     let id = frame.session_id;
     let first = first_object(id);
     let number = ObjectNumber(0);
-    let o = Object::implicit(number, 0);
+    let o = Object::implicit(number, 0, 0);
     let mut records = [o; 32];
     copy_objects(objects, &mut records, first, 32);
     let n = dry_streams(sessions, streams, objects, d, sample, start);

@@ -14,13 +14,13 @@ use Rattle.agent.specs.declared.state.Agent.{Agent}
 use Rattle.agent.specs.declared.state.Pending.{Pending}
 use Rattle.agent.specs.declared.state.Waiting.{Waiting}
 use Rattle.agent.specs.declared.state.Waiting.the-variants as waiting
-use Rattle.cabi.specs.Record.{recordOf, recordAt, taskIn, agentIn, taskNumber, taskKind, recordBy, recordFor, rowOf, keptIn}
+use Rattle.cabi.specs.Record.{recordOf, recordAt, taskIn, agentIn, taskNumber, taskKind, taskParent, recordBy, recordFor, rowOf, keptIn}
 use Rattle.cabi.specs.declared.record.Record.{Record}
 use Rattle.cabi.specs.declared.told.Told.{Told}
 
 -- the numbers of an open call, as the types of the code have them
 abbrev pub TaskFits : Task → Type 0
-TaskFits (Creating kind) = kind ≤ 255
+TaskFits (Creating kind parent) = (kind ≤ 255) × (parent ≤ 65535)
 TaskFits Writing = Unit {0}
 TaskFits Reading = Unit {0}
 TaskFits Deleting = Unit {0}
@@ -29,26 +29,35 @@ abbrev pub WaitsFit : Waiting → Type 0
 WaitsFit waiting.Nothing = Unit {0}
 WaitsFit (waiting.Call p) = (p .«session_id» ≤ 255) × (p .«stream_id» ≤ 255) × (p .number .0 ≤ 65535) × TaskFits (p .task)
 
-task-back : (t : Task) → TaskFits t → taskIn (taskNumber t) (taskKind t) ≡ t
-task-back (Creating kind) h = let e : kind % 256 ≡ kind = omega (arith, h) in ap Creating e
+task-back : (t : Task) → TaskFits t → taskIn (taskNumber t) (taskKind t) (taskParent t) ≡ t
+task-back (Creating kind parent) h =
+    let e : kind % 256 ≡ kind = omega (arith, h .0) in
+    let f : parent % 65536 ≡ parent = omega (arith, h .1) in
+    λ i. Creating (e i) (f i)
 task-back Writing h = refl
 task-back Reading h = refl
 task-back Deleting h = refl
 
 task-low : (t : Task) → leb (taskNumber t) 4 ≡ true
-task-low (Creating kind) = refl
+task-low (Creating kind parent) = refl
 task-low Writing = refl
 task-low Reading = refl
 task-low Deleting = refl
 
 kind-low : (t : Task) → TaskFits t → leb (taskKind t) 255 ≡ true
-kind-low (Creating kind) h = le-leb kind 255 h
+kind-low (Creating kind parent) h = le-leb kind 255 (h .0)
 kind-low Writing h = refl
 kind-low Reading h = refl
 kind-low Deleting h = refl
 
+parent-low : (t : Task) → TaskFits t → leb (taskParent t) 65535 ≡ true
+parent-low (Creating kind parent) h = le-leb parent 65535 (h .1)
+parent-low Writing h = refl
+parent-low Reading h = refl
+parent-low Deleting h = refl
+
 task-open : (t : Task) → eqb (taskNumber t) 0 ≡ false
-task-open (Creating kind) = refl
+task-open (Creating kind parent) = refl
 task-open Writing = refl
 task-open Reading = refl
 task-open Deleting = refl
@@ -67,7 +76,7 @@ agent-back max timeout next (waiting.Call p) h f =
     let b : p .«session_id» % 256 ≡ p .«session_id» = omega (arith, session) in
     let c : p .«stream_id» % 256 ≡ p .«stream_id» = omega (arith, stream) in
     let d : p .number .0 % 65536 ≡ p .number .0 = omega (arith, number) in
-    rw (le-leb next 255 h, task-low (p .task), kind-low (p .task) (f .3), le-leb (p .«session_id») 255 session, le-leb (p .«stream_id») 255 stream, le-leb (p .number .0) 65535 number, a, b, c, d, task-open (p .task), task-back (p .task) (f .3))
+    rw (le-leb next 255 h, task-low (p .task), kind-low (p .task) (f .3), le-leb (p .«session_id») 255 session, le-leb (p .«stream_id») 255 stream, le-leb (p .number .0) 65535 number, parent-low (p .task) (f .3), a, b, c, d, task-open (p .task), task-back (p .task) (f .3))
 
 pub record-back : (rows : List (List ℕ)) (a : Agent) (t : Told) → 0 < length rows → a .next ≤ 255 → WaitsFit (a .waits) → agentIn (recordAt (keptIn rows (recordFor a) t)) ≡ a
 unfolding recordFor

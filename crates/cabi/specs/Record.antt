@@ -1,4 +1,4 @@
--- The agent's record as a C host keeps it: a row of eighteen numbers, each in the place of its field of `struct xrce_agent`.
+-- The agent's record as a C host keeps it: a row of nineteen numbers, each in the place of its field of `struct xrce_agent`.
 use Prim.Native.Nat.{ℕ, _%_}
 use mathlib.Core.Bool.{Bool, true, false, cond}
 use mathlib.Core.List.{List, [], _∷_}
@@ -18,7 +18,7 @@ use Rattle.agent.specs.declared.state.Waiting.the-variants as waiting
 use Rattle.cabi.specs.declared.record.Record.{Record}
 use Rattle.cabi.specs.declared.told.Told.{Told}
 
--- ---- the first ten numbers: the agent between two calls
+-- ---- the first eleven numbers: the agent between two calls
 
 abbrev pub recordOf : List ℕ → Record
 recordOf w =
@@ -28,11 +28,12 @@ recordOf w =
       next = getD w 2 0;
       task = getD w 3 0;
       kind = getD w 4 0;
-      session = getD w 5 0;
-      stream = getD w 6 0;
-      number = getD w 7 0;
-      at = getD w 8 0;
-      time = getD w 9 0;
+      parent = getD w 5 0;
+      session = getD w 6 0;
+      stream = getD w 7 0;
+      number = getD w 8 0;
+      at = getD w 9 0;
+      time = getD w 10 0;
     }
 
 -- the host lends one record; past the end of the slice all is 0
@@ -40,8 +41,8 @@ abbrev pub recordAt : List (List ℕ) → Record
 recordAt rows = recordOf (getD rows 0 [])
 
 -- the open call: "0 none, 1 a CREATE's, 2 a WRITE_DATA's, 3 a READ_DATA's, 4 a DELETE's"
-abbrev pub taskIn : ℕ → ℕ → Task
-taskIn n kind = cond (eqb n 1) (Creating (kind % 256)) (cond (eqb n 2) Writing (cond (eqb n 3) Reading Deleting))
+abbrev pub taskIn : ℕ → ℕ → ℕ → Task
+taskIn n kind parent = cond (eqb n 1) (Creating (kind % 256) (parent % 65536)) (cond (eqb n 2) Writing (cond (eqb n 3) Reading Deleting))
 
 abbrev pub pendingIn : Record → Pending
 pendingIn r =
@@ -49,7 +50,7 @@ pendingIn r =
       «session_id» = r .session % 256;
       «stream_id» = r .stream % 256;
       number = record { 0 = r .number % 65536 };
-      task = taskIn (r .task) (r .kind);
+      task = taskIn (r .task) (r .kind) (r .parent);
       at = r .at;
       time = r .time;
     }
@@ -61,7 +62,8 @@ waitsIn r = cond (eqb (r .task) 0) waiting.Nothing (waiting.Call (pendingIn r))
 abbrev pub inRange : Record → Bool
 inRange r =
     cond (leb (r .next) 255)
-    (cond (leb (r .task) 4) (cond (leb (r .kind) 255) (cond (leb (r .session) 255) (cond (leb (r .stream) 255) (leb (r .number) 65535) false) false) false) false)
+    (cond (leb (r .task) 4)
+    (cond (leb (r .kind) 255) (cond (leb (r .session) 255) (cond (leb (r .stream) 255) (cond (leb (r .number) 65535) (leb (r .parent) 65535) false) false) false) false) false)
     false
 
 abbrev pub nextIn : Record → ℕ
@@ -73,20 +75,26 @@ agentIn r = record { «max_clients» = r .«max_clients»; «timeout_ms» = r .�
 -- ---- the same numbers of an agent
 
 abbrev pub taskNumber : Task → ℕ
-taskNumber (Creating kind) = 1
+taskNumber (Creating kind parent) = 1
 taskNumber Writing = 2
 taskNumber Reading = 3
 taskNumber Deleting = 4
 
 abbrev pub taskKind : Task → ℕ
-taskKind (Creating kind) = kind
+taskKind (Creating kind parent) = kind
 taskKind Writing = 0
 taskKind Reading = 0
 taskKind Deleting = 0
 
+abbrev pub taskParent : Task → ℕ
+taskParent (Creating kind parent) = parent
+taskParent Writing = 0
+taskParent Reading = 0
+taskParent Deleting = 0
+
 abbrev pub idleRecord : ℕ → ℕ → ℕ → Record
 idleRecord max timeout next =
-    record { «max_clients» = max; «timeout_ms» = timeout; next = next; task = 0; kind = 0; session = 0; stream = 0; number = 0; at = 0; time = 0 }
+    record { «max_clients» = max; «timeout_ms» = timeout; next = next; task = 0; kind = 0; parent = 0; session = 0; stream = 0; number = 0; at = 0; time = 0 }
 
 abbrev pub openRecord : ℕ → ℕ → ℕ → Pending → Record
 openRecord max timeout next p =
@@ -96,6 +104,7 @@ openRecord max timeout next p =
       next = next;
       task = taskNumber (p .task);
       kind = taskKind (p .task);
+      parent = taskParent (p .task);
       session = p .«session_id»;
       stream = p .«stream_id»;
       number = p .number .0;
@@ -138,7 +147,7 @@ toldOf (Refused r) = nothingTold 0
 
 abbrev pub rowOf : Record → Told → List ℕ
 rowOf r t =
-    r .«max_clients» ∷ r .«timeout_ms» ∷ r .next ∷ r .task ∷ r .kind ∷ r .session ∷ r .stream ∷ r .number ∷ r .at ∷ r .time
+    r .«max_clients» ∷ r .«timeout_ms» ∷ r .next ∷ r .task ∷ r .kind ∷ r .parent ∷ r .session ∷ r .stream ∷ r .number ∷ r .at ∷ r .time
     ∷ t .wrote ∷ t .call ∷ t .handle ∷ t .topic ∷ t .start ∷ t .len ∷ t .«type_start» ∷ t .«type_len» ∷ []
 
 abbrev pub keptIn : List (List ℕ) → Record → Told → List (List ℕ)

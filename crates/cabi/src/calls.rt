@@ -48,7 +48,7 @@ fn told(agent: &mut [RecordRow], p: Processed) -> u64
 
 #[no_mangle]
 pub extern "C" fn xrce_agent_process(
-    agent: &mut [[u64; 18]],
+    agent: &mut [[u64; 19]],
     sessions: &mut [[u64; 5]],
     streams: &mut [[u16; 35]],
     objects: &mut [Object],
@@ -95,7 +95,7 @@ fn told_ready(agent: &mut [RecordRow], s: AgentSetUp) -> u64
 
 #[no_mangle]
 pub extern "C" fn xrce_agent_setup(
-    agent: &mut [[u64; 18]],
+    agent: &mut [[u64; 19]],
     sessions: &mut [[u64; 5]],
     streams: &mut [[u16; 35]],
     objects: &mut [Object],
@@ -118,7 +118,7 @@ pub extern "C" fn xrce_agent_setup(
 }
 
 #[no_mangle]
-pub extern "C" fn xrce_agent_remove(agent: &[[u64; 18]], sessions: &mut [[u64; 5]], id: u8) -> u64
+pub extern "C" fn xrce_agent_remove(agent: &[[u64; 19]], sessions: &mut [[u64; 5]], id: u8) -> u64
     ensures { λ r. ⌜ (r ≡ removeAnswer (now (agent .entry)) (now (sessions .entry)) id)
         × (now (sessions .exit) ≡ removeRows (now (agent .entry)) (now (sessions .entry)) id) ⌝ }
 {
@@ -131,7 +131,7 @@ pub extern "C" fn xrce_agent_remove(agent: &[[u64; 18]], sessions: &mut [[u64; 5
 
 #[no_mangle]
 pub extern "C" fn xrce_agent_sweep(
-    agent: &[[u64; 18]],
+    agent: &[[u64; 19]],
     sessions: &mut [[u64; 5]],
     out: &mut [u8],
     time: u64,

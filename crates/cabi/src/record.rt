@@ -1,22 +1,23 @@
-// The agent's record as a C host keeps it: the first ten of its eighteen numbers are the agent between two calls.
+// The agent's record as a C host keeps it: the first eleven of its nineteen numbers are the agent between two calls.
 use agent::state::Agent;
 use agent::state::Pending;
 use agent::state::Waiting;
 use codec::submessages::ObjectNumber;
 use moves::proxy::Task;
 ghost use mathlib.Core.Path.{_≡_};
-ghost use Rattle.cabi.specs.Record.{recordAt, taskIn, pendingIn, waitsIn, inRange, nextIn, agentIn, taskNumber, taskKind, idleRecord, openRecord, recordBy, recordFor};
+ghost use Rattle.cabi.specs.Record.{recordAt, taskIn, pendingIn, waitsIn, inRange, nextIn, agentIn, taskNumber, taskKind, taskParent, idleRecord, openRecord, recordBy, recordFor};
 
-pub(crate) type RecordRow = [u64; 18];
+pub(crate) type RecordRow = [u64; 19];
 
-// The ten numbers; of the open call its task (0: none), the object kind of a CREATE's, its session, stream, object number,
-// place and time.
+// The eleven numbers; of the open call its task (0: none), the object kind and the parent number of a CREATE's, its
+// session, stream, object number, place and time.
 pub(crate) struct Record {
     pub max_clients: u64,
     pub timeout_ms: u64,
     pub next: u64,
     pub task: u64,
     pub kind: u64,
+    pub parent: u64,
     pub session: u64,
     pub stream: u64,
     pub number: u64,
@@ -41,11 +42,12 @@ pub(crate) fn record_at(rows: &[RecordRow]) -> Record
             next: rows[0][2],
             task: rows[0][3],
             kind: rows[0][4],
-            session: rows[0][5],
-            stream: rows[0][6],
-            number: rows[0][7],
-            at: rows[0][8],
-            time: rows[0][9],
+            parent: rows[0][5],
+            session: rows[0][6],
+            stream: rows[0][7],
+            number: rows[0][8],
+            at: rows[0][9],
+            time: rows[0][10],
         }
     } else {
         no_record()
@@ -54,11 +56,11 @@ pub(crate) fn record_at(rows: &[RecordRow]) -> Record
 
 // ---- the agent that it says
 
-fn task_in(n: u64, kind: u64) -> Task
-    ensures { λ r. ⌜ r ≡ taskIn n kind ⌝ }
+fn task_in(n: u64, kind: u64, parent: u64) -> Task
+    ensures { λ r. ⌜ r ≡ taskIn n kind parent ⌝ }
 {
     if n == 1 {
-        return Task::Creating((kind % 256) as u8);
+        return Task::Creating((kind % 256) as u8, (parent % 65536) as u16);
     }
     if n == 2 {
         return Task::Writing;
@@ -76,7 +78,7 @@ fn pending_in(r: Record) -> Pending
         session_id: (r.session % 256) as u8,
         stream_id: (r.stream % 256) as u8,
         number: ObjectNumber((r.number % 65536) as u16),
-        task: task_in(r.task, r.kind),
+        task: task_in(r.task, r.kind, r.parent),
         at: r.at as usize,
         time: r.time,
     }
@@ -110,7 +112,10 @@ fn in_range(r: Record) -> bool
     if 255 < r.stream {
         return false;
     }
-    r.number <= 65535
+    if 65535 < r.number {
+        return false;
+    }
+    r.parent <= 65535
 }
 
 // A number that its field can't have is read as an id pointer of 0, which the agent refuses as 16 right after 15.
@@ -142,7 +147,7 @@ fn task_number(t: Task) -> u64
     ensures { λ r. ⌜ r ≡ taskNumber t ⌝ }
 {
     match t {
-        Task::Creating(_) => 1,
+        Task::Creating(_, _) => 1,
         Task::Writing => 2,
         Task::Reading => 3,
         Task::Deleting => 4,
@@ -153,7 +158,18 @@ fn task_kind(t: Task) -> u64
     ensures { λ r. ⌜ r ≡ taskKind t ⌝ }
 {
     match t {
-        Task::Creating(kind) => kind as u64,
+        Task::Creating(kind, _) => kind as u64,
+        Task::Writing => 0,
+        Task::Reading => 0,
+        Task::Deleting => 0,
+    }
+}
+
+fn task_parent(t: Task) -> u64
+    ensures { λ r. ⌜ r ≡ taskParent t ⌝ }
+{
+    match t {
+        Task::Creating(_, parent) => parent as u64,
         Task::Writing => 0,
         Task::Reading => 0,
         Task::Deleting => 0,
@@ -169,6 +185,7 @@ fn idle_record(max_clients: u64, timeout_ms: u64, next: u64) -> Record
         next,
         task: 0,
         kind: 0,
+        parent: 0,
         session: 0,
         stream: 0,
         number: 0,
@@ -184,12 +201,14 @@ fn open_record(max_clients: u64, timeout_ms: u64, next: u64, p: Pending) -> Reco
     let number = p.number;
     let n = task_number(task);
     let kind = task_kind(task);
+    let parent = task_parent(task);
     Record {
         max_clients,
         timeout_ms,
         next,
         task: n,
         kind,
+        parent,
         session: p.session_id as u64,
         stream: p.stream_id as u64,
         number: number.0 as u64,

@@ -107,6 +107,7 @@ pub(crate) fn keep_record(rows: &mut [RecordRow], r: Record, t: Told)
         r.next,
         r.task,
         r.kind,
+        r.parent,
         r.session,
         r.stream,
         r.number,

@@ -16,16 +16,16 @@ use Rattle.moves.specs.declared.proxy.BridgeAnswer.the-variants.{Created
 use Rattle.moves.specs.declared.proxy.Task.{Task}
 use Rattle.moves.specs.declared.proxy.Task.the-variants.{Creating, Writing, Reading, Deleting}
 
--- "A CREATE that succeeds .. lists its object with the handle returned"
-abbrev pub createdKeeps : ObjectNumber → ℕ → BridgeAnswer → Keeps
-createdKeeps number kind (Created h) = keeps.Object (bridgedOf number kind h)
-createdKeeps number kind Done = keeps.Nothing
-createdKeeps number kind Sample = keeps.Nothing
-createdKeeps number kind NoSample = keeps.Nothing
-createdKeeps number kind Failed = keeps.Nothing
+-- "A CREATE that succeeds .. lists its object with the handle returned"; W1: the record "holds its CREATE's parent number"
+abbrev pub createdKeeps : ObjectNumber → ℕ → ℕ → BridgeAnswer → Keeps
+createdKeeps number kind parent (Created h) = keeps.Object (bridgedOf number kind h parent)
+createdKeeps number kind parent Done = keeps.Nothing
+createdKeeps number kind parent Sample = keeps.Nothing
+createdKeeps number kind parent NoSample = keeps.Nothing
+createdKeeps number kind parent Failed = keeps.Nothing
 
 abbrev pub keepsOf : ObjectNumber → Task → BridgeAnswer → Keeps
-keepsOf number (Creating kind) a = createdKeeps number kind a
+keepsOf number (Creating kind parent) a = createdKeeps number kind parent a
 keepsOf number Writing a = keeps.Nothing
 keepsOf number Reading a = keeps.Nothing
 keepsOf number Deleting a = keeps.Nothing
@@ -55,7 +55,7 @@ readSays Failed = Status ErrInvalidData
 
 -- "DELETE .. even where the bridge then fails (ERR_UNKNOWN_REF). Bridge failures on write or read answer ERR_INVALID_DATA"
 abbrev pub saysOf : Task → BridgeAnswer → Says
-saysOf (Creating kind) a = createdSays a
+saysOf (Creating kind parent) a = createdSays a
 saysOf Writing a = doneSays a ErrInvalidData
 saysOf Reading a = readSays a
 saysOf Deleting a = doneSays a ErrUnknownRef

@@ -33,31 +33,44 @@ foundHandle (Held o) = handleOf o
 foundHandle Nothing = Implicit
 foundHandle (Refused r) = Implicit
 
+-- the same of an object "held with that kind"
+abbrev pub handleOfKind : Found → ℕ → ObjectHandle
+handleOfKind (Held o) kind = cond (eqb (o .kind) kind) (handleOf o) Implicit
+handleOfKind Nothing kind = Implicit
+handleOfKind (Refused r) kind = Implicit
+
+-- the object that an object's CREATE named as its parent; 0 where there is no such object
+abbrev pub parentOf : Found → ObjectNumber
+parentOf (Held o) = record { 0 = o .parent }
+parentOf Nothing = record { 0 = 0 }
+parentOf (Refused r) = record { 0 = 0 }
+
 -- ---- CREATE
 
 abbrev pub participantMove : ObjectNumber → ℕ → Move
-participantMove number domain = Calls number (Creating 1) (CreateParticipant domain)
+participantMove number domain = Calls number (Creating 1 domain) (CreateParticipant domain)
 
-abbrev pub topicBy : ObjectNumber → Names → ObjectHandle → Move
-topicBy number names (Bridged p) = Calls number (Creating 2) (CreateTopic p (names .name) (names .«type_name»))
-topicBy number names Implicit = Status number ErrInvalidData
+abbrev pub topicBy : ObjectNumber → ℕ → Names → ObjectHandle → Move
+topicBy number parent names (Bridged p) = Calls number (Creating 2 parent) (CreateTopic p (names .name) (names .«type_name»))
+topicBy number parent names Implicit = Status number ErrInvalidData
 
-abbrev pub topicMove : ObjectNumber → Names → Found → Move
-topicMove number names parent = topicBy number names (foundHandle parent)
+abbrev pub topicMove : ObjectNumber → ℕ → Names → Found → Move
+topicMove number parent names found = topicBy number parent names (foundHandle found)
 
 abbrev pub endpointCall : ℕ → Handle → Handle → BridgeCall
 endpointCall kind p t = cond (eqb kind 5) (CreateWriter p t) (CreateReader p t)
 
-abbrev pub endpointBy : ObjectNumber → ℕ → Handle → ObjectHandle → Move
-endpointBy number kind p (Bridged t) = Calls number (Creating kind) (endpointCall kind p t)
-endpointBy number kind p Implicit = Status number ErrInvalidData
+abbrev pub endpointBy : ObjectNumber → ℕ → ℕ → Handle → ObjectHandle → Move
+endpointBy number kind parent p (Bridged t) = Calls number (Creating kind parent) (endpointCall kind p t)
+endpointBy number kind parent p Implicit = Status number ErrInvalidData
 
-abbrev pub endpointFor : ObjectNumber → ℕ → ObjectHandle → ObjectHandle → Move
-endpointFor number kind (Bridged p) t = endpointBy number kind p t
-endpointFor number kind Implicit t = Status number ErrInvalidData
+abbrev pub endpointFor : ObjectNumber → ℕ → ℕ → ObjectHandle → ObjectHandle → Move
+endpointFor number kind parent (Bridged p) t = endpointBy number kind parent p t
+endpointFor number kind parent Implicit t = Status number ErrInvalidData
 
-abbrev pub endpointMove : ObjectNumber → ℕ → Found → Found → Move
-endpointMove number kind participant topic = endpointFor number kind (foundHandle participant) (foundHandle topic)
+-- W1: "If either isn't held with that kind, the answer is ERR_INVALID_DATA without a call."
+abbrev pub endpointMove : ObjectNumber → ℕ → ℕ → Found → Found → Move
+endpointMove number kind parent topic participant = endpointFor number kind parent (handleOfKind participant 1) (handleOfKind topic 2)
 
 -- ---- WRITE_DATA, READ_DATA, DELETE
 

@@ -29,7 +29,7 @@ answerAs NoSample bytes = calls.noSample
 answerAs Failed bytes = calls.failed
 
 abbrev pub taskAs : Task → calls.Task
-taskAs (Creating kind) = calls.creating kind
+taskAs (Creating kind parent) = calls.creating kind parent
 taskAs Writing = calls.writing
 taskAs Reading = calls.reading
 taskAs Deleting = calls.deleting

@@ -10,14 +10,14 @@ use Rattle.codec.specs.declared.submessages.StatusCode.the-variants.{Ok, ErrRes
 use Rattle.codec.specs.declared.submessages.Submessage.{Submessage}
 use Rattle.codec.specs.declared.submessages.Submessage.the-variants as sub
 use Rattle.sessions.specs.Objects.{implicitOf}
-use Rattle.sessions.specs.SessionObjects.{foundObject, greatestObject, storedObject, storedObjects, keepStored, removedObjects, keepRemoved}
+use Rattle.sessions.specs.SessionObjects.{foundObject, storedObject, storedObjects, keepStored, removedObjects, keepRemoved}
 use Rattle.sessions.specs.Room.{roomOf}
 use Rattle.sessions.specs.View.{Tables}
 use Rattle.sessions.specs.declared.objects.Object.{Object}
 use Rattle.sessions.specs.declared.room.Room.{Room}
 use Rattle.sessions.specs.declared.room.Room.the-variants.{Free, Full, NotLive, Refused}
 use Rattle.moves.specs.Names.{namesIn}
-use Rattle.moves.specs.Moves.{participantMove, topicMove, endpointMove, writeMove, readMove, deleteMove}
+use Rattle.moves.specs.Moves.{parentOf, participantMove, topicMove, endpointMove, writeMove, readMove, deleteMove}
 use Rattle.moves.specs.RowsStreams.{openedSessions, openedRows, readOf, streamMove, streamRows}
 use Rattle.moves.specs.declared.moves.Move.{Move}
 use Rattle.moves.specs.declared.moves.Move.the-variants.{Status, Silent}
@@ -35,29 +35,34 @@ okMove number = Status number Ok
 
 -- ---- CREATE where there is room: only a Publisher or a Subscriber is listed, the others ask the bridge or fail
 
+-- W1: "uses the Topic that its parent number names, and the Participant that this Topic's parent names"
+abbrev pub endpointIn : List (List ℕ) → List Object → ℕ → ObjectNumber → ℕ → ℕ → Move
+endpointIn s o id number kind parent =
+    let topic = foundObject s o id (record { 0 = parent }) in endpointMove number kind parent topic (foundObject s o id (parentOf topic))
+
 abbrev pub createMove : ObjectKind → List (List ℕ) → List Object → List ℕ → ℕ → ObjectNumber → ℕ → Span → Move
 createMove Participant s o d id number parent body = participantMove number parent
-createMove Topic s o d id number parent body = topicMove number (namesIn d body) (foundObject s o id (record { 0 = parent }))
+createMove Topic s o d id number parent body = topicMove number parent (namesIn d body) (foundObject s o id (record { 0 = parent }))
 createMove Publisher s o d id number parent body = okMove number
 createMove Subscriber s o d id number parent body = okMove number
-createMove DataWriter s o d id number parent body = endpointMove number 5 (greatestObject s o id 1) (greatestObject s o id 2)
-createMove DataReader s o d id number parent body = endpointMove number 6 (greatestObject s o id 1) (greatestObject s o id 2)
+createMove DataWriter s o d id number parent body = endpointIn s o id number 5 parent
+createMove DataReader s o d id number parent body = endpointIn s o id number 6 parent
 
-abbrev pub createdSessions : ObjectKind → List (List ℕ) → List Object → ℕ → ObjectNumber → List (List ℕ)
-createdSessions Participant s o id number = s
-createdSessions Topic s o id number = s
-createdSessions Publisher s o id number = keepStored s id (storedObject s o id (implicitOf number 3))
-createdSessions Subscriber s o id number = keepStored s id (storedObject s o id (implicitOf number 4))
-createdSessions DataWriter s o id number = s
-createdSessions DataReader s o id number = s
+abbrev pub createdSessions : ObjectKind → List (List ℕ) → List Object → ℕ → ObjectNumber → ℕ → List (List ℕ)
+createdSessions Participant s o id number parent = s
+createdSessions Topic s o id number parent = s
+createdSessions Publisher s o id number parent = keepStored s id (storedObject s o id (implicitOf number 3 parent))
+createdSessions Subscriber s o id number parent = keepStored s id (storedObject s o id (implicitOf number 4 parent))
+createdSessions DataWriter s o id number parent = s
+createdSessions DataReader s o id number parent = s
 
-abbrev pub createdObjects : ObjectKind → List (List ℕ) → List Object → ℕ → ObjectNumber → List Object
-createdObjects Participant s o id number = o
-createdObjects Topic s o id number = o
-createdObjects Publisher s o id number = storedObjects s o id (implicitOf number 3)
-createdObjects Subscriber s o id number = storedObjects s o id (implicitOf number 4)
-createdObjects DataWriter s o id number = o
-createdObjects DataReader s o id number = o
+abbrev pub createdObjects : ObjectKind → List (List ℕ) → List Object → ℕ → ObjectNumber → ℕ → List Object
+createdObjects Participant s o id number parent = o
+createdObjects Topic s o id number parent = o
+createdObjects Publisher s o id number parent = storedObjects s o id (implicitOf number 3 parent)
+createdObjects Subscriber s o id number parent = storedObjects s o id (implicitOf number 4 parent)
+createdObjects DataWriter s o id number parent = o
+createdObjects DataReader s o id number parent = o
 
 -- "CREATE of a 33rd number answers ERR_RESOURCES before any lookup or call."
 abbrev pub isFree : Room → Bool
@@ -75,11 +80,11 @@ noRoomMove number (Refused r) = Silent
 abbrev pub roomMove : Room → List (List ℕ) → List Object → List ℕ → ℕ → ObjectNumber → ObjectKind → ℕ → Span → Move
 roomMove r s o d id number kind parent body = cond (isFree r) (createMove kind s o d id number parent body) (noRoomMove number r)
 
-abbrev pub roomSessions : Room → List (List ℕ) → List Object → ℕ → ObjectNumber → ObjectKind → List (List ℕ)
-roomSessions r s o id number kind = cond (isFree r) (createdSessions kind s o id number) s
+abbrev pub roomSessions : Room → List (List ℕ) → List Object → ℕ → ObjectNumber → ObjectKind → ℕ → List (List ℕ)
+roomSessions r s o id number kind parent = cond (isFree r) (createdSessions kind s o id number parent) s
 
-abbrev pub roomObjects : Room → List (List ℕ) → List Object → ℕ → ObjectNumber → ObjectKind → List Object
-roomObjects r s o id number kind = cond (isFree r) (createdObjects kind s o id number) o
+abbrev pub roomObjects : Room → List (List ℕ) → List Object → ℕ → ObjectNumber → ObjectKind → ℕ → List Object
+roomObjects r s o id number kind parent = cond (isFree r) (createdObjects kind s o id number parent) o
 
 -- ---- what a submessage asks for, taken apart as the code does; what it doesn't have is zero
 
@@ -131,7 +136,7 @@ handledMove q t d id n body = handledBy (q .group) q t d id n body
 abbrev pub handledIn : Group → Asked → Tables → ℕ → ℕ → Tables
 handledIn Creates q t id n =
     let room = roomOf (t .sessions) (t .objects) id (q .number) in
-    record { sessions = roomSessions room (t .sessions) (t .objects) id (q .number) (q .kind); streams = t .streams; objects = roomObjects room (t .sessions) (t .objects) id (q .number) (q .kind) }
+    record { sessions = roomSessions room (t .sessions) (t .objects) id (q .number) (q .kind) (q .parent); streams = t .streams; objects = roomObjects room (t .sessions) (t .objects) id (q .number) (q .kind) (q .parent) }
 handledIn Deletes q t id n =
     record { sessions = keepRemoved (t .sessions) id (foundObject (t .sessions) (t .objects) id (q .number)); streams = t .streams; objects = removedObjects (t .sessions) (t .objects) id (q .number) }
 handledIn Writes q t id n = t

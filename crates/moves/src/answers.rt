@@ -9,7 +9,7 @@ use sessions::table::SessionRow;
 ghost use mathlib.Core.Path.{_≡_};
 ghost use Rattle.moves.specs.Answers.{createdKeeps, keepsOf, createdSays, doneSays, readSays, saysOf, keptSessions, keptObjects};
 
-// What an answer lists: a CREATE that succeeds lists its object with the handle returned.
+// What an answer lists: a CREATE that succeeds lists its object with the handle returned and its parent number.
 pub enum Keeps {
     Object(Object),
     Nothing,
@@ -21,11 +21,11 @@ pub enum Says {
     Data,
 }
 
-fn keeps_created(number: ObjectNumber, kind: u8, answer: BridgeAnswer) -> Keeps
-    ensures { λ r. ⌜ r ≡ createdKeeps number kind answer ⌝ }
+fn keeps_created(number: ObjectNumber, kind: u8, parent: u16, answer: BridgeAnswer) -> Keeps
+    ensures { λ r. ⌜ r ≡ createdKeeps number kind parent answer ⌝ }
 {
     match answer {
-        BridgeAnswer::Created(h) => Keeps::Object(Object::bridged(number, kind, h)),
+        BridgeAnswer::Created(h) => Keeps::Object(Object::bridged(number, kind, h, parent)),
         BridgeAnswer::Done => Keeps::Nothing,
         BridgeAnswer::Sample => Keeps::Nothing,
         BridgeAnswer::NoSample => Keeps::Nothing,
@@ -37,7 +37,7 @@ pub fn what_keeps(number: ObjectNumber, task: Task, answer: BridgeAnswer) -> Kee
     ensures { λ r. ⌜ r ≡ keepsOf number task answer ⌝ }
 {
     match task {
-        Task::Creating(kind) => keeps_created(number, kind, answer),
+        Task::Creating(kind, parent) => keeps_created(number, kind, parent, answer),
         Task::Writing => Keeps::Nothing,
         Task::Reading => Keeps::Nothing,
         Task::Deleting => Keeps::Nothing,
@@ -85,7 +85,7 @@ pub fn what_says(task: Task, answer: BridgeAnswer) -> Says
     ensures { λ r. ⌜ r ≡ saysOf task answer ⌝ }
 {
     match task {
-        Task::Creating(_) => says_created(answer),
+        Task::Creating(_, _) => says_created(answer),
         Task::Writing => says_done(answer, StatusCode::ErrInvalidData),
         Task::Reading => says_read(answer),
         Task::Deleting => says_done(answer, StatusCode::ErrUnknownRef),

@@ -13,7 +13,7 @@ use sessions::objects::ObjectHandle;
 use sessions::session_streams::StreamNamed;
 use sessions::session_streams::StreamRead;
 ghost use mathlib.Core.Path.{_≡_};
-ghost use Rattle.moves.specs.Moves.{foundHandle, participantMove, topicMove, endpointCall, endpointBy, endpointMove, writeMove, readMove, droppedMove, deleteMove, heartbeatMove};
+ghost use Rattle.moves.specs.Moves.{foundHandle, handleOfKind, parentOf, participantMove, topicMove, endpointCall, endpointBy, endpointMove, writeMove, readMove, droppedMove, deleteMove, heartbeatMove};
 
 // The STATUS that answers a CREATE_CLIENT, with its session's id; a STATUS for an object; an ACKNACK; a call for an
 // object; nothing.
@@ -36,28 +36,57 @@ fn found_handle(f: Found) -> ObjectHandle
     }
 }
 
+// The same of an object that is "held with that kind" (document 02, W1).
+fn handle_of_kind(f: Found, kind: u8) -> ObjectHandle
+    ensures { λ r. ⌜ r ≡ handleOfKind f kind ⌝ }
+{
+    match f {
+        Found::Held(o) => {
+            if o.kind == kind {
+                o.bridge_handle()
+            } else {
+                ObjectHandle::Implicit
+            }
+        }
+        Found::Nothing => ObjectHandle::Implicit,
+        Found::Refused(_) => ObjectHandle::Implicit,
+    }
+}
+
+// The number that an object's CREATE named as its parent; 0 where there is no such object, and then nothing is made of
+// what it leads to.
+pub(crate) fn parent_of(f: Found) -> ObjectNumber
+    ensures { λ r. ⌜ r ≡ parentOf f ⌝ }
+{
+    match f {
+        Found::Held(o) => ObjectNumber(o.parent),
+        Found::Nothing => ObjectNumber(0),
+        Found::Refused(_) => ObjectNumber(0),
+    }
+}
+
 // CREATE of a Participant: its parent number is the domain.
 pub(crate) fn participant_move(number: ObjectNumber, domain: u16) -> Move
     ensures { λ r. ⌜ r ≡ participantMove number domain ⌝ }
 {
     Move::Calls(
         number,
-        Task::Creating(1),
+        Task::Creating(1, domain),
         BridgeCall::CreateParticipant(domain),
     )
 }
 
 // CREATE of a Topic, by the object of its parent number.
-pub(crate) fn topic_move(number: ObjectNumber, names: Names, parent: Found) -> Move
-    ensures { λ r. ⌜ r ≡ topicMove number names parent ⌝ }
+pub(crate) fn topic_move(number: ObjectNumber, parent: u16, names: Names, found: Found) -> Move
+    ensures { λ r. ⌜ r ≡ topicMove number parent names found ⌝ }
 {
-    let h = found_handle(parent);
+    let h = found_handle(found);
     let name = names.name;
     let type_name = names.type_name;
     match h {
         ObjectHandle::Bridged(p) => Move::Calls(
             number,
-            Task::Creating(2),
+            Task::Creating(2, parent),
             BridgeCall::CreateTopic(p, name, type_name),
         ),
         ObjectHandle::Implicit => Move::Status(number, StatusCode::ErrInvalidData),
@@ -74,32 +103,40 @@ fn endpoint_call(kind: u8, participant: Handle, topic: Handle) -> BridgeCall
     }
 }
 
-fn endpoint_by(number: ObjectNumber, kind: u8, participant: Handle, topic: ObjectHandle) -> Move
-    ensures { λ r. ⌜ r ≡ endpointBy number kind participant topic ⌝ }
+fn endpoint_by(
+    number: ObjectNumber,
+    kind: u8,
+    parent: u16,
+    participant: Handle,
+    topic: ObjectHandle,
+) -> Move
+    ensures { λ r. ⌜ r ≡ endpointBy number kind parent participant topic ⌝ }
 {
     match topic {
         ObjectHandle::Bridged(t) => Move::Calls(
             number,
-            Task::Creating(kind),
+            Task::Creating(kind, parent),
             endpoint_call(kind, participant, t),
         ),
         ObjectHandle::Implicit => Move::Status(number, StatusCode::ErrInvalidData),
     }
 }
 
-// CREATE of a DataWriter or a DataReader, by a Participant and a Topic of the session.
+// CREATE of a DataWriter or a DataReader, by the object that its parent number names, which must be a Topic, and the one
+// that this Topic's parent names, which must be a Participant (document 02, W1).
 pub(crate) fn endpoint_move(
     number: ObjectNumber,
     kind: u8,
-    participant: Found,
+    parent: u16,
     topic: Found,
+    participant: Found,
 ) -> Move
-    ensures { λ r. ⌜ r ≡ endpointMove number kind participant topic ⌝ }
+    ensures { λ r. ⌜ r ≡ endpointMove number kind parent topic participant ⌝ }
 {
-    let h = found_handle(participant);
-    let t = found_handle(topic);
+    let t = handle_of_kind(topic, 2);
+    let h = handle_of_kind(participant, 1);
     match h {
-        ObjectHandle::Bridged(p) => endpoint_by(number, kind, p, t),
+        ObjectHandle::Bridged(p) => endpoint_by(number, kind, parent, p, t),
         ObjectHandle::Implicit => Move::Status(number, StatusCode::ErrInvalidData),
     }
 }

@@ -3,6 +3,7 @@
 use crate::moves::Move;
 use crate::moves::delete_move;
 use crate::moves::endpoint_move;
+use crate::moves::parent_of;
 use crate::moves::participant_move;
 use crate::moves::read_move;
 use crate::moves::topic_move;
@@ -18,17 +19,16 @@ use sessions::objects::Stored;
 use sessions::room::Room;
 use sessions::room::has_room;
 use sessions::session_objects::find_object;
-use sessions::session_objects::greatest_object;
 use sessions::session_objects::put_object;
 use sessions::session_objects::remove_object;
 use sessions::table::SessionRow;
 ghost use mathlib.Core.Path.{_≡_};
 ghost use Rattle.sessions.specs.Objects.{implicitOf};
-ghost use Rattle.sessions.specs.SessionObjects.{foundObject, greatestObject, storedObject, storedObjects, keepStored, removedObjects, keepRemoved};
+ghost use Rattle.sessions.specs.SessionObjects.{foundObject, storedObject, storedObjects, keepStored, removedObjects, keepRemoved};
 ghost use Rattle.sessions.specs.Room.{roomOf};
-ghost use Rattle.moves.specs.Moves.{writeMove, readMove, deleteMove, topicMove, endpointMove};
+ghost use Rattle.moves.specs.Moves.{writeMove, readMove, deleteMove, topicMove};
 ghost use Rattle.moves.specs.Names.{namesIn};
-ghost use Rattle.moves.specs.Rows.{okMove, createMove, createdSessions, createdObjects, isFree, noRoomMove, roomMove, roomSessions, roomObjects};
+ghost use Rattle.moves.specs.Rows.{okMove, endpointIn, createMove, createdSessions, createdObjects, isFree, noRoomMove, roomMove, roomSessions, roomObjects};
 
 pub(crate) fn write_data(
     sessions: &[SessionRow],
@@ -79,26 +79,30 @@ fn create_topic(
     parent: u16,
     body: Span,
 ) -> Move
-    ensures { λ r. ⌜ r ≡ topicMove number (namesIn (now (d .entry)) body) (foundObject (now (sessions .entry)) (now (objects .entry)) id (record { 0 = parent })) ⌝ }
+    ensures { λ r. ⌜ r ≡ topicMove number parent (namesIn (now (d .entry)) body) (foundObject (now (sessions .entry)) (now (objects .entry)) id (record { 0 = parent })) ⌝ }
 {
     let p = ObjectNumber(parent);
     let f = find_object(sessions, objects, id, p);
     let names = names_in(d, body);
-    topic_move(number, names, f)
+    topic_move(number, parent, names, f)
 }
 
+// Document 02, W1: the Topic that the parent number names, and the Participant that this Topic's parent names.
 fn create_endpoint(
     sessions: &[SessionRow],
     objects: &[Object],
     id: u8,
     number: ObjectNumber,
     kind: u8,
+    parent: u16,
 ) -> Move
-    ensures { λ r. ⌜ r ≡ endpointMove number kind (greatestObject (now (sessions .entry)) (now (objects .entry)) id 1) (greatestObject (now (sessions .entry)) (now (objects .entry)) id 2) ⌝ }
+    ensures { λ r. ⌜ r ≡ endpointIn (now (sessions .entry)) (now (objects .entry)) id number kind parent ⌝ }
 {
-    let p = greatest_object(sessions, objects, id, 1);
-    let t = greatest_object(sessions, objects, id, 2);
-    endpoint_move(number, kind, p, t)
+    let n = ObjectNumber(parent);
+    let t = find_object(sessions, objects, id, n);
+    let above = parent_of(t);
+    let p = find_object(sessions, objects, id, above);
+    endpoint_move(number, kind, parent, t, p)
 }
 
 // Publishers and Subscribers have no handle: they are listed without a call.
@@ -108,12 +112,13 @@ fn create_implicit(
     id: u8,
     number: ObjectNumber,
     kind: u8,
+    parent: u16,
 ) -> Move
     ensures { λ r. ⌜ (r ≡ okMove number)
-        × (now (sessions .exit) ≡ keepStored (now (sessions .entry)) id (storedObject (now (sessions .entry)) (now (objects .entry)) id (implicitOf number kind)))
-        × (now (objects .exit) ≡ storedObjects (now (sessions .entry)) (now (objects .entry)) id (implicitOf number kind)) ⌝ }
+        × (now (sessions .exit) ≡ keepStored (now (sessions .entry)) id (storedObject (now (sessions .entry)) (now (objects .entry)) id (implicitOf number kind parent)))
+        × (now (objects .exit) ≡ storedObjects (now (sessions .entry)) (now (objects .entry)) id (implicitOf number kind parent)) ⌝ }
 {
-    let o = Object::implicit(number, kind);
+    let o = Object::implicit(number, kind, parent);
     put_object(sessions, objects, id, o);
     Move::Status(number, StatusCode::Ok)
 }
@@ -129,16 +134,16 @@ fn create_kind(
     body: Span,
 ) -> Move
     ensures { λ r. ⌜ (r ≡ createMove kind (now (sessions .entry)) (now (objects .entry)) (now (d .entry)) id number parent body)
-        × (now (sessions .exit) ≡ createdSessions kind (now (sessions .entry)) (now (objects .entry)) id number)
-        × (now (objects .exit) ≡ createdObjects kind (now (sessions .entry)) (now (objects .entry)) id number) ⌝ }
+        × (now (sessions .exit) ≡ createdSessions kind (now (sessions .entry)) (now (objects .entry)) id number parent)
+        × (now (objects .exit) ≡ createdObjects kind (now (sessions .entry)) (now (objects .entry)) id number parent) ⌝ }
 {
     match kind {
         ObjectKind::Participant => participant_move(number, parent),
         ObjectKind::Topic => create_topic(sessions, objects, d, id, number, parent, body),
-        ObjectKind::Publisher => create_implicit(sessions, objects, id, number, 3),
-        ObjectKind::Subscriber => create_implicit(sessions, objects, id, number, 4),
-        ObjectKind::DataWriter => create_endpoint(sessions, objects, id, number, 5),
-        ObjectKind::DataReader => create_endpoint(sessions, objects, id, number, 6),
+        ObjectKind::Publisher => create_implicit(sessions, objects, id, number, 3, parent),
+        ObjectKind::Subscriber => create_implicit(sessions, objects, id, number, 4, parent),
+        ObjectKind::DataWriter => create_endpoint(sessions, objects, id, number, 5, parent),
+        ObjectKind::DataReader => create_endpoint(sessions, objects, id, number, 6, parent),
     }
 }
 
@@ -176,8 +181,8 @@ pub(crate) fn create(
     body: Span,
 ) -> Move
     ensures { λ r. ⌜ (r ≡ roomMove (roomOf (now (sessions .entry)) (now (objects .entry)) id number) (now (sessions .entry)) (now (objects .entry)) (now (d .entry)) id number kind parent body)
-        × (now (sessions .exit) ≡ roomSessions (roomOf (now (sessions .entry)) (now (objects .entry)) id number) (now (sessions .entry)) (now (objects .entry)) id number kind)
-        × (now (objects .exit) ≡ roomObjects (roomOf (now (sessions .entry)) (now (objects .entry)) id number) (now (sessions .entry)) (now (objects .entry)) id number kind) ⌝ }
+        × (now (sessions .exit) ≡ roomSessions (roomOf (now (sessions .entry)) (now (objects .entry)) id number) (now (sessions .entry)) (now (objects .entry)) id number kind parent)
+        × (now (objects .exit) ≡ roomObjects (roomOf (now (sessions .entry)) (now (objects .entry)) id number) (now (sessions .entry)) (now (objects .entry)) id number kind parent) ⌝ }
 {
     let room = has_room(sessions, objects, id, number);
     if is_free(room) {

@@ -27,16 +27,16 @@ pub enum BridgeAnswer {
     Failed,
 }
 
-// What an open call is for: a CREATE of an object kind, a WRITE_DATA, a READ_DATA, a DELETE.
+// What an open call is for: a CREATE, of an object kind and with a parent number, a WRITE_DATA, a READ_DATA, a DELETE.
 pub enum Task {
-    Creating(u8),
+    Creating(u8, u16),
     Writing,
     Reading,
     Deleting,
 }
 
 fn fits_create(answer: BridgeAnswer) -> bool
-    ensures { λ r. ⌜ r ≡ fits (creating 0) (answerAs answer []) ⌝ }
+    ensures { λ r. ⌜ r ≡ fits (creating 0 0) (answerAs answer []) ⌝ }
 {
     match answer {
         BridgeAnswer::Created(_) => true,
@@ -76,7 +76,7 @@ pub fn fits(task: Task, answer: BridgeAnswer) -> bool
     ensures { λ r. ⌜ r ≡ fits (taskAs task) (answerAs answer []) ⌝ }
 {
     match task {
-        Task::Creating(_) => fits_create(answer),
+        Task::Creating(_, _) => fits_create(answer),
         Task::Writing => fits_plain(answer),
         Task::Reading => fits_read(answer),
         Task::Deleting => fits_plain(answer),

@@ -9,6 +9,7 @@ use crate::host::max_clients;
 use crate::host::say;
 use crate::host::set_up_said;
 use crate::names;
+use crate::objects::Packed;
 use crate::objects::pack_all;
 use crate::output::cover;
 use crate::output::moved;
@@ -187,7 +188,7 @@ pub fn event(
     out: &mut [u8],
     line: &[u8],
     kept: &mut [u8],
-    packed: &mut [u64],
+    packed: &mut [Packed],
     host: Host,
     c: Command,
 ) -> Host {

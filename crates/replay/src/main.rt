@@ -23,7 +23,7 @@ fn main() {
     let mut out = [0u8; 1048576];
     let mut sessions = [[0u64; 5]; 256];
     let mut streams = [[0u16; 35]; 2048];
-    let mut packed = [0u64; 8192];
+    let mut packed = [[0u64; 2]; 8192];
     serve::own(
         &mut input,
         &mut line,

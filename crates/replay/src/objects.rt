@@ -1,8 +1,11 @@
 // The objects as words, so that the rest of `dump` needs no slice of records.
 use sessions::objects::Object;
 
-// An object as one word, its number highest: ascending words are ascending numbers.
-fn pack(o: Object) -> u64 {
+// An object as two words. Its number stands highest in the first, so that ascending first words are ascending numbers; the
+// second is its parent number.
+pub type Packed = [u64; 2];
+
+fn first_word(o: Object) -> u64 {
     let number = o.number.0 as u64;
     let kind = o.kind as u64;
     let bridged = o.bridged as u64;
@@ -10,23 +13,24 @@ fn pack(o: Object) -> u64 {
     ((number * 256 + kind) * 256 + bridged) * 4294967296 + handle
 }
 
-fn put(packed: &mut [u64], i: usize, w: u64) {
+fn put(packed: &mut [Packed], i: usize, o: Object) {
+    let row = [first_word(o), o.parent as u64];
     if i < packed.len() {
-        packed[i] = w;
+        packed[i] = row;
     }
 }
 
-pub fn pack_all(objects: &[Object], packed: &mut [u64]) {
+pub fn pack_all(objects: &[Object], packed: &mut [Packed]) {
     let n = objects.len();
     let mut i = 0;
     while i < n {
         let o = objects[i];
-        let w = pack(o);
-        put(packed, i, w);
+        put(packed, i, o);
         i = i + 1;
     }
 }
 
+// What the first word says.
 pub fn number_of(w: u64) -> u64 {
     w / 281474976710656
 }

@@ -2,6 +2,7 @@
 use crate::command::parse;
 use crate::events::event;
 use crate::host::nobody;
+use crate::objects::Packed;
 use crate::reading::first_reading;
 use crate::reading::read_line;
 use codec::submessages::ObjectNumber;
@@ -23,7 +24,7 @@ fn serve(
     sessions: &mut [SessionRow],
     streams: &mut [StreamRow],
     objects: &mut [Object],
-    packed: &mut [u64],
+    packed: &mut [Packed],
 ) {
     let mut reading = first_reading();
     let mut host = nobody();
@@ -49,10 +50,10 @@ pub fn own(
     out: &mut [u8],
     sessions: &mut [SessionRow],
     streams: &mut [StreamRow],
-    packed: &mut [u64],
+    packed: &mut [Packed],
 ) {
     let number = ObjectNumber(0);
-    let o = Object::implicit(number, 0);
+    let o = Object::implicit(number, 0, 0);
     let mut objects = [o; 8192];
     serve(
         input,

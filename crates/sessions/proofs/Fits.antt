@@ -1,18 +1,18 @@
 -- What is known before anything is touched: within the limits no call answers 16, and room is what a put finds.
-use Prim.Native.Nat.{ℕ, zero, suc, _<_, _≤_}
+use Prim.Native.Nat.{ℕ, _<_, _≤_}
 use mathlib.Core.Path.{_≡_, refl, sym, ap, _∙_}
 use mathlib.Core.Bool.{Bool, true, false, cond}
 use mathlib.Core.List.{List}
 use native.Mathlib.Omega.{arith}
 use borrow.Author.Tests.{lt-ltb}
-use lib.Dec.{eqb, leb, ltb}
-use lib.ListN.{length, getD}
+use lib.Dec.{leb, ltb}
+use lib.ListN.{length}
 use Rattle.codec.specs.Answers.{gives, numberIn}
 use Rattle.codec.specs.declared.submessages.ObjectNumber.{ObjectNumber}
 use Rattle.streams.specs.Places.{firstFrom}
 use Rattle.sessions.specs.Table.{sessionAt, isFree, namedOf, gotBy, gotOf}
-use Rattle.sessions.specs.Objects.{blank, objectPlace, foundOf, greaterOf, betterOf, greatestOf, slotOf, usedAfter}
-use Rattle.sessions.specs.SessionObjects.{objectRow, usedOf, objectsNamed, foundBy, foundObject, greatestBy, greatestObject, storedBy, storedObject}
+use Rattle.sessions.specs.Objects.{objectPlace, foundOf, slotOf, usedAfter}
+use Rattle.sessions.specs.SessionObjects.{objectRow, usedOf, objectsNamed, foundBy, foundObject, storedBy, storedObject}
 use Rattle.sessions.specs.Streams.{firstStream}
 use Rattle.sessions.specs.SessionStreams.{streamsUsed, streamsNamed, isStream, placeBy, streamPlace, openedAs, namedAs}
 use Rattle.sessions.specs.Limits.{limitsOf}
@@ -50,7 +50,6 @@ module _ (sessions streams : List (List ℕ)) (objects : List Object) (id : ℕ)
     pub named : numberIn (namedAnswer (namedOf sessions id)) ≡ 0
     -- find_object and remove_object
     pub find : (n : ObjectNumber) → numberIn (foundAnswer (foundObject sessions objects id n)) ≡ 0
-    pub greatest : (kind : ℕ) → numberIn (foundAnswer (greatestObject sessions objects id kind)) ≡ 0
     pub put : (o : Object) → numberIn (storedAnswer (storedObject sessions objects id o)) ≡ 0
     pub room : (n : ObjectNumber) → numberIn (roomAnswer (roomOf sessions objects id n)) ≡ 0
     pub open-stream : (n : ℕ) → numberIn (openedAnswer (openedAs (streamPlace sessions streams id n))) ≡ 0
@@ -88,23 +87,10 @@ module _ (sessions streams : List (List ℕ)) (objects : List Object) (id : ℕ)
         by true = refl
         by false = refl
 
-    -- a search and a choice refuse nothing
+    -- a search refuses nothing
     held : (row : List Object) (p : Place) → numberIn (foundAnswer (foundOf row p)) ≡ 0
     held row (At i) = refl
     held row Nowhere = refl
-
-    better : (best : Found) (o : Object) (kind : ℕ) → numberIn (foundAnswer best) ≡ 0 → numberIn (foundAnswer (betterOf best o kind)) ≡ 0
-    better best o kind e = by (eqb (o .kind) kind) best e
-      where
-        by : (f : Bool) (best : Found) → numberIn (foundAnswer best) ≡ 0 → numberIn (foundAnswer (cond f (greaterOf best o) best)) ≡ 0
-        by true (found.Held b) e = refl
-        by true found.Nothing e = refl
-        by true (found.Refused r) e = e
-        by false best e = e
-
-    best : (row : List Object) (used kind : ℕ) → numberIn (foundAnswer (greatestOf row used kind)) ≡ 0
-    best row zero kind = refl
-    best row (suc used) kind = better (greatestOf row used kind) (getD row used blank) kind (best row used kind)
 
     find-none : (n : ObjectNumber) → numberIn (foundAnswer (foundObject sessions objects id n)) ≡ 0
     unfolding foundObject
@@ -113,14 +99,6 @@ module _ (sessions streams : List (List ℕ)) (objects : List Object) (id : ℕ)
         by : (f : Bool) → numberIn (foundAnswer (foundBy (byFree f) sessions objects id n)) ≡ 0
         by true = refl
         by false = held (objectRow objects id) (objectPlace (objectRow objects id) (usedOf sessions id) n)
-
-    greatest-none : (kind : ℕ) → numberIn (foundAnswer (greatestObject sessions objects id kind)) ≡ 0
-    unfolding greatestObject
-    greatest-none kind = rw names-objects (by (isFree sessions id))
-      where
-        by : (f : Bool) → numberIn (foundAnswer (greatestBy (byFree f) sessions objects id kind)) ≡ 0
-        by true = refl
-        by false = best (objectRow objects id) (usedOf sessions id) kind
 
     put-none : (o : Object) → numberIn (storedAnswer (storedObject sessions objects id o)) ≡ 0
     unfolding storedObject
@@ -175,7 +153,6 @@ module _ (sessions streams : List (List ℕ)) (objects : List Object) (id : ℕ)
         get = got-none k;
         named = named-none k;
         find = find-none k;
-        greatest = greatest-none k;
         put = put-none k;
         room = room-none k;
         open-stream = λ n. stream-none k n .0;

@@ -1,17 +1,15 @@
 -- The view of a session's objects: a row changed by an operation shows the list changed by document 01's.
-use Prim.Native.Nat.{ℕ, zero, suc, _+_, _-_, _<_, _≤_}
+use Prim.Native.Nat.{ℕ, _+_, _-_, _<_, _≤_}
 use mathlib.Core.Path.{_≡_, refl, sym, ap, _∙_}
-use mathlib.Core.Bool.{Bool, true, false, cond}
 use mathlib.Core.Option.{Option, none, some}
 use mathlib.Core.List.{List, [], _∷_, _++_, map, map-append}
 use native.Mathlib.Omega.{arith}
 use native.Mathlib.Numerals.{add-one}
-use lib.Dec.{eqb, ltb}
 use lib.ListN.{length, take, getD, set, length-map, List·getD-map}
 use lib.Seq.{length-take-le, getD-take, take-take, take-set-lt, take-suc-set}
 use Rattle.codec.specs.declared.submessages.ObjectNumber.{ObjectNumber}
-use Rattle.sessions.specs.Objects.{blank, objectPlace, foundOf, greater, greaterOf, greatestOf, slotOf, usedAfter, storedRow, removedRow}
-use Rattle.sessions.specs.View.{Entry, entryOf, blankEntry, listed, placeIn, heldAt, findIn, putEntry, putIn, dropAt, dropIn, greaterIn, greatestUpTo, greatestIn}
+use Rattle.sessions.specs.Objects.{blank, objectPlace, foundOf, slotOf, usedAfter, storedRow, removedRow}
+use Rattle.sessions.specs.View.{Entry, entryOf, blankEntry, listed, placeIn, heldAt, findIn, putEntry, putIn, dropAt, dropIn}
 use Rattle.sessions.specs.declared.objects.Object.{Object}
 use Rattle.sessions.specs.declared.objects.Place.{Place}
 use Rattle.sessions.specs.declared.objects.Place.the-variants.{At, Nowhere}
@@ -25,12 +23,6 @@ abbrev pub entryFound : Found → Option Entry
 entryFound (Held o) = some (entryOf o)
 entryFound Nothing = none
 entryFound (Refused r) = none
-
--- a search by kind is never refused
-abbrev Plain : Found → Type 0
-Plain (Held o) = Unit {0}
-Plain Nothing = Unit {0}
-Plain (Refused r) = ⊥
 
 module _ (row : List Object) (used : ℕ) (fits : used ≤ length row) where
   pub listed-length : length (listed used row) ≡ used
@@ -49,37 +41,6 @@ module _ (row : List Object) (used : ℕ) (fits : used ≤ length row) where
 
   pub find-shown : (n : ObjectNumber) → entryFound (foundOf row (objectPlace row used n)) ≡ findIn (listed used row) (n .0)
   find-shown n = held-shown (objectPlace row used n) (place-under row n used) ∙ ap (heldAt (listed used row)) (place-shown row n used fits)
-
-  -- ---- the greatest of a kind
-
-  plain-step : (b : Bool) (f : Found) (o : Object) → Plain f → Plain (cond b (greaterOf f o) f)
-  plain-step false f o h = h
-  plain-step true (Held a) o h = tt
-  plain-step true Nothing o h = tt
-  plain-step true (Refused r) o h = h
-
-  greatest-plain : (k kind : ℕ) → Plain (greatestOf row k kind)
-  greatest-plain zero kind = tt
-  greatest-plain (suc k) kind = plain-step (eqb (getD row k blank .kind) kind) (greatestOf row k kind) (getD row k blank) (greatest-plain k kind)
-
-  step-shown : (b : Bool) (f : Found) (o : Object) → Plain f → entryFound (cond b (greaterOf f o) f) ≡ cond b (greaterIn (entryFound f) (entryOf o)) (entryFound f)
-  step-shown false f o h = refl
-  step-shown true (Held a) o h = by (ltb (a .number .0) (o .number .0))
-    where
-      by : (b : Bool) → some (entryOf (cond b o a)) ≡ some (cond b (entryOf o) (entryOf a))
-      by true = refl
-      by false = refl
-  step-shown true Nothing o h = refl
-  step-shown true (Refused r) o h = absurd h
-
-  greatest-to : (k kind : ℕ) → k ≤ used → entryFound (greatestOf row k kind) ≡ greatestUpTo (listed used row) k kind
-  greatest-to zero kind h = refl
-  greatest-to (suc k) kind h =
-      step-shown (eqb (getD row k blank .kind) kind) (greatestOf row k kind) (getD row k blank) (greatest-plain k kind)
-      ∙ rw (greatest-to k kind (omega arith), listed-at k (omega arith))
-
-  pub greatest-shown : (kind : ℕ) → entryFound (greatestOf row used kind) ≡ greatestIn (listed used row) kind
-  greatest-shown kind = greatest-to used kind (omega arith) ∙ ap (λ (k : ℕ). greatestUpTo (listed used row) k kind) (sym listed-length)
 
   -- ---- put
 

@@ -14,8 +14,8 @@ use lib.Seq.{drop-drop, drop-at, take-at, length-take-le, set-out}
 use Rattle.codec.specs.declared.submessages.ObjectNumber.{ObjectNumber}
 use Rattle.sessions.specs.Table.{sessionAt}
 use Rattle.sessions.specs.Objects.{blank, objectPlace, foundOf, slotOf, usedAfter, storedRow, removedRow}
-use Rattle.sessions.specs.SessionObjects.{firstObject, objectRow, withObjectRow, usedOf, countedSession, keepUsed, objectsNamed, foundObject, greatestObject, storedObject, storedObjects, keepStored, keepRemoved}
-use Rattle.sessions.specs.View.{Tables, Entry, Local, Part, entryOf, listed, streamRows, tablePart, sessionShown, localShown, localOf, objectsOf, findIn, putIn, dropIn, greatestIn}
+use Rattle.sessions.specs.SessionObjects.{firstObject, objectRow, withObjectRow, usedOf, countedSession, keepUsed, objectsNamed, foundObject, storedObject, storedObjects, keepStored, keepRemoved}
+use Rattle.sessions.specs.View.{Tables, Entry, Local, Part, entryOf, listed, streamRows, tablePart, sessionShown, localShown, localOf, objectsOf, findIn, putIn, dropIn}
 use Rattle.sessions.specs.Calls.{putTables, dropTables}
 use Rattle.sessions.specs.declared.objects.Object.{Object}
 use Rattle.sessions.specs.declared.objects.Place.{Place}
@@ -24,9 +24,9 @@ use Rattle.sessions.specs.declared.objects.Stored.the-variants.{Count, F
 use Rattle.sessions.specs.declared.table.Named.the-variants.{Live}
 use Rattle.sessions.proofs.ObjectSearch.{Under, place-under}
 use Rattle.sessions.proofs.Parts.{part-below, part-above}
-use Rattle.sessions.proofs.ViewObjects.{entryFound, find-shown, greatest-shown, put-shown, left, drop-shown}
+use Rattle.sessions.proofs.ViewObjects.{entryFound, find-shown, put-shown, left, drop-shown}
 use Rattle.sessions.proofs.ViewTable.{kept-here, kept-elsewhere}
-use Rattle.sessions.proofs.session_objects.Laws.{lent-row, found-is, greatest-is, stored-is, kept-is, removed-is}
+use Rattle.sessions.proofs.session_objects.Laws.{lent-row, found-is, stored-is, kept-is, removed-is}
 use Rattle.sessions.proofs.table.Laws.{live-fits}
 
 -- ---- a session's row in the store
@@ -106,9 +106,6 @@ module _ (t : Tables) (id : ℕ) (id< : id < 256) (live : objectsNamed (t .sessi
 
   pub find-view : (n : ObjectNumber) → entryFound (foundObject (t .sessions) (t .objects) id n) ≡ findIn (objectsOf t id) (n .0)
   find-view n = ap entryFound (sym (found-is (t .sessions) (t .objects) id n Live live)) ∙ find-shown row used fits n
-
-  pub greatest-view : (kind : ℕ) → entryFound (greatestObject (t .sessions) (t .objects) id kind) ≡ greatestIn (objectsOf t id) kind
-  greatest-view kind = ap entryFound (sym (greatest-is (t .sessions) (t .objects) id kind Live live)) ∙ greatest-shown row used fits kind
 
   -- ---- put
 

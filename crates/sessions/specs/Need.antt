@@ -24,10 +24,10 @@ streamsNeed = sessionsNeed * mostStreams
 abbrev pub objectsNeed : ℕ
 objectsNeed = sessionsNeed * mostObjects
 
--- a session is five numbers of 8 bytes, a stream 35 numbers of 2 bytes, an object 2 + 1 + 1 + 4 bytes
+-- a session is five numbers of 8 bytes, a stream 35 numbers of 2 bytes, an object 2 + 1 + 1 + 4 + 2 bytes
 abbrev pub needOf : Need
 needOf =
-    record { sessions = sessionsNeed; streams = streamsNeed; objects = objectsNeed; bytes = sessionsNeed * (5 * 8) + streamsNeed * (35 * 2) + objectsNeed * (2 + 1 + 1 + 4) }
+    record { sessions = sessionsNeed; streams = streamsNeed; objects = objectsNeed; bytes = sessionsNeed * (5 * 8) + streamsNeed * (35 * 2) + objectsNeed * (2 + 1 + 1 + 4 + 2) }
 
 -- 16: "`max_clients` over 255"; the stores are by id, so the need is one for all
 unfoldable pub neededFor : ℕ → Needed

@@ -5,7 +5,7 @@ use lib.ListN.{length, take, drop}
 use Rattle.codec.specs.declared.submessages.ObjectNumber.{ObjectNumber}
 use Rattle.sessions.specs.Need.{mostObjects, objectsNeed}
 use Rattle.sessions.specs.Table.{sessionAt, keepSession, reachedOf}
-use Rattle.sessions.specs.Objects.{objectPlace, foundOf, greatestOf, storedOf, storedRow, removedRow}
+use Rattle.sessions.specs.Objects.{objectPlace, foundOf, storedOf, storedRow, removedRow}
 use Rattle.sessions.specs.declared.objects.Object.{Object}
 use Rattle.sessions.specs.declared.objects.Found.{Found}
 use Rattle.sessions.specs.declared.objects.Found.the-variants as found
@@ -50,14 +50,6 @@ foundBy (Refused r) sessions objects id n = found.Refused r
 
 unfoldable pub foundObject : List (List ℕ) → List Object → ℕ → ObjectNumber → Found
 foundObject sessions objects id n = foundBy (objectsNamed sessions (length objects) id) sessions objects id n
-
-abbrev pub greatestBy : Named → List (List ℕ) → List Object → ℕ → ℕ → Found
-greatestBy Live sessions objects id kind = greatestOf (objectRow objects id) (usedOf sessions id) kind
-greatestBy NotLive sessions objects id kind = found.Nothing
-greatestBy (Refused r) sessions objects id kind = found.Refused r
-
-unfoldable pub greatestObject : List (List ℕ) → List Object → ℕ → ℕ → Found
-greatestObject sessions objects id kind = greatestBy (objectsNamed sessions (length objects) id) sessions objects id kind
 
 -- ---- put
 

@@ -1,5 +1,5 @@
 -- What the tables keep of a session, read as document 01's lists.
-use Prim.Native.Nat.{ℕ, zero, suc, _-_, _<_}
+use Prim.Native.Nat.{ℕ, suc, _-_, _<_}
 use mathlib.Core.Path.{_≡_}
 use mathlib.Core.Bool.{Bool, true, false, cond}
 use mathlib.Core.Option.{Option, none, some}
@@ -8,7 +8,6 @@ use lib.Dec.{eqb, ltb}
 use lib.ListN.{length, take, drop, getD, set}
 use Rattle.streams.specs.View.{Kept, keptOf, lengthIn, freshOf}
 use Rattle.sessions.specs.Table.{sessionAt, elapsedOf}
-use Rattle.sessions.specs.Objects.{greater}
 use Rattle.sessions.specs.SessionObjects.{objectRow}
 use Rattle.sessions.specs.Streams.{streamOf, firstStream}
 use Rattle.sessions.specs.declared.objects.Object.{Object}
@@ -25,14 +24,15 @@ pub record Tables : Type 0 where
 
 -- ---- one session
 
--- "a list of objects (number, kind, handle or none)"
+-- "a list of objects (number, kind, handle or none)"; W1: "every object record, the machine's too, holds its CREATE's parent number"
 pub record Entry : Type 0 where
   pub number : ℕ
   pub kind : ℕ
   pub handle : Option ℕ
+  pub parent : ℕ
 
 abbrev pub entryOf : Object → Entry
-entryOf o = record { number = o .number .0; kind = o .kind; handle = cond (eqb (o .bridged) 0) none (some (o .handle)) }
+entryOf o = record { number = o .number .0; kind = o .kind; handle = cond (eqb (o .bridged) 0) none (some (o .handle)); parent = o .parent }
 
 -- "a list of streams (number, next to send, expected, held messages)"; no bytes of messages are lent, so of each its length is read
 abbrev pub KeptStream : Type 0
@@ -119,7 +119,7 @@ expiredAt t time timeout id = lapsed time timeout (localOf t id)
 -- ---- document 01's list of objects
 
 abbrev pub blankEntry : Entry
-blankEntry = record { number = 0; kind = 0; handle = none }
+blankEntry = record { number = 0; kind = 0; handle = none; parent = 0 }
 
 -- the place of the first object of that number
 abbrev pub onePast : Place → Place
@@ -152,19 +152,6 @@ dropAt es Nowhere = es
 
 abbrev pub dropIn : List Entry → ℕ → List Entry
 dropIn es n = dropAt es (placeIn es n)
-
--- "Of several Participants or Topics, the greatest object number is taken"
-abbrev pub greaterIn : Option Entry → Entry → Option Entry
-greaterIn none e = some e
-greaterIn (some b) e = some (greater (λ (x : Entry). x .number) b e)
-
-abbrev pub greatestUpTo : List Entry → ℕ → ℕ → Option Entry
-greatestUpTo es zero kind = none
-greatestUpTo es (suc k) kind =
-    cond (eqb (getD es k blankEntry .kind) kind) (greaterIn (greatestUpTo es k kind) (getD es k blankEntry)) (greatestUpTo es k kind)
-
-abbrev pub greatestIn : List Entry → ℕ → Option Entry
-greatestIn es kind = greatestUpTo es (length es) kind
 
 -- ---- document 01's list of streams
 

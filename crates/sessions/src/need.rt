@@ -35,7 +35,7 @@ pub(crate) fn stores_need() -> Need
         sessions: SESSIONS,
         streams: STREAMS,
         objects: OBJECTS,
-        bytes: 219136,
+        bytes: 235520,
     }
 }
 

@@ -4,7 +4,6 @@ use crate::objects::Found;
 use crate::objects::Object;
 use crate::objects::Place;
 use crate::objects::Stored;
-use crate::objects::better;
 use crate::objects::count;
 use crate::objects::is_numbered;
 use crate::objects::slot;
@@ -12,7 +11,7 @@ use codec::submessages::ObjectNumber;
 ghost use mathlib.Core.Path.{_≡_};
 ghost use Prim.Native.Nat.{_≤_};
 ghost use lib.ListN.{length};
-ghost use Rattle.sessions.specs.Objects.{objectPlace, foundOf, greatestOf, storedOf, storedRow, removedRow};
+ghost use Rattle.sessions.specs.Objects.{objectPlace, foundOf, storedOf, storedRow, removedRow};
 
 // Where the record of that number is: the search goes up from the first record.
 pub(crate) fn place(row: &[Object], used: usize, number: ObjectNumber) -> Place
@@ -43,21 +42,6 @@ pub(crate) fn find(row: &[Object], used: usize, number: ObjectNumber) -> Found
         }
         Place::Nowhere => Found::Nothing,
     }
-}
-
-// Of the records of that kind, the one with the greatest number.
-pub(crate) fn greatest(row: &[Object], used: usize, kind: u8) -> Found
-    requires { ⌜ used ≤ length (now row) ⌝ }
-    ensures { λ r. ⌜ r ≡ greatestOf (now (row .entry)) used kind ⌝ }
-{
-    let mut i = 0;
-    let mut best = Found::Nothing;
-    while i < used {
-        let o = row[i];
-        best = better(best, o, kind);
-        i = i + 1;
-    }
-    best
 }
 
 // Replaces the record of that number, else adds one behind the last; in a full row another number has no place.

@@ -3,7 +3,7 @@ use codec::refusals::Refusal;
 use codec::submessages::ObjectNumber;
 ghost use mathlib.Core.Path.{_≡_};
 ghost use Prim.Native.Nat.{_<_};
-ghost use Rattle.sessions.specs.Objects.{bridgedOf, implicitOf, handleOf, isNumbered, greaterOf, betterOf, slotOf, usedAfter};
+ghost use Rattle.sessions.specs.Objects.{bridgedOf, implicitOf, handleOf, isNumbered, slotOf, usedAfter};
 
 // What the bridge knows an entity by. One is made of a bridge's answer, or read out of a record that holds one: a bridge
 // call takes this struct alone, so an object number never stands where a handle is due.
@@ -11,13 +11,15 @@ ghost use Rattle.sessions.specs.Objects.{bridgedOf, implicitOf, handleOf
 pub struct Handle(pub u32);
 
 // Numbers only, so that a C host can lend a row of these. `bridged` is 0 where the object has no handle; the number
-// `handle` becomes a `Handle` in `bridge_handle` alone, and only where there is one.
+// `handle` becomes a `Handle` in `bridge_handle` alone, and only where there is one. `parent` is the parent number of the
+// object's CREATE, whatever its kind: a Participant's is its domain.
 #[repr(C)]
 pub struct Object {
     pub number: ObjectNumber,
     pub kind: u8,
     pub bridged: u8,
     pub handle: u32,
+    pub parent: u16,
 }
 
 pub enum ObjectHandle {
@@ -27,26 +29,28 @@ pub enum ObjectHandle {
 
 impl Object {
     // An object that the bridge made.
-    pub fn bridged(number: ObjectNumber, kind: u8, handle: Handle) -> Object
-        ensures { λ r. ⌜ r ≡ bridgedOf number kind handle ⌝ }
+    pub fn bridged(number: ObjectNumber, kind: u8, handle: Handle, parent: u16) -> Object
+        ensures { λ r. ⌜ r ≡ bridgedOf number kind handle parent ⌝ }
     {
         Object {
             number,
             kind,
             bridged: 1,
             handle: handle.0,
+            parent,
         }
     }
 
     // A Publisher or Subscriber, which has no handle.
-    pub fn implicit(number: ObjectNumber, kind: u8) -> Object
-        ensures { λ r. ⌜ r ≡ implicitOf number kind ⌝ }
+    pub fn implicit(number: ObjectNumber, kind: u8, parent: u16) -> Object
+        ensures { λ r. ⌜ r ≡ implicitOf number kind parent ⌝ }
     {
         Object {
             number,
             kind,
             bridged: 0,
             handle: 0,
+            parent,
         }
     }
 
@@ -89,31 +93,6 @@ pub(crate) fn is_numbered(o: Object, n: ObjectNumber) -> bool
     let held = o.number.0;
     let asked = n.0;
     held == asked
-}
-
-// Of the best record so far and another of its kind, the one with the greater number.
-fn greater(best: Found, o: Object) -> Found
-    ensures { λ r. ⌜ r ≡ greaterOf best o ⌝ }
-{
-    match best {
-        Found::Held(b) => {
-            let old = b.number.0;
-            let new = o.number.0;
-            if old < new { Found::Held(o) } else { best }
-        }
-        Found::Nothing => Found::Held(o),
-        Found::Refused(_) => best,
-    }
-}
-
-pub(crate) fn better(best: Found, o: Object, kind: u8) -> Found
-    ensures { λ r. ⌜ r ≡ betterOf best o kind ⌝ }
-{
-    if o.kind == kind {
-        greater(best, o)
-    } else {
-        best
-    }
 }
 
 // Where a record goes: in the place of the older one of its number, else behind the last.

@@ -17,7 +17,7 @@ use codec::submessages::ObjectNumber;
 ghost use mathlib.Core.Path.{_≡_};
 ghost use Prim.Native.Nat.{_+_, _-_};
 ghost use lib.ListN.{length};
-ghost use Rattle.sessions.specs.SessionObjects.{objectsNamed, usedOf, firstObject, countedSession, keepUsed, foundObject, greatestObject, storedObject, storedObjects, keepStored, removedObjects, keepRemoved};
+ghost use Rattle.sessions.specs.SessionObjects.{objectsNamed, usedOf, firstObject, countedSession, keepUsed, foundObject, storedObject, storedObjects, keepStored, removedObjects, keepRemoved};
 
 fn reach(sessions: &[SessionRow], objects: usize, id: u8) -> Named
     ensures { λ r. ⌜ r ≡ objectsNamed (now (sessions .entry)) objects id ⌝ }
@@ -112,24 +112,6 @@ pub fn find_object(
             let e = behind(id);
             let n = used(sessions, id);
             object_rows::find(&objects[a..e], n, number)
-        }
-        Named::NotLive => Found::Nothing,
-        Named::Refused(x) => Found::Refused(x),
-    }
-}
-
-// Of the objects of that kind, the one with the greatest number.
-pub fn greatest_object(sessions: &[SessionRow], objects: &[Object], id: u8, kind: u8) -> Found
-    ensures { λ r. ⌜ r ≡ greatestObject (now (sessions .entry)) (now (objects .entry)) id kind ⌝ }
-{
-    let len = objects.len();
-    let named = reach(sessions, len, id);
-    match named {
-        Named::Live => {
-            let a = first(id);
-            let e = behind(id);
-            let n = used(sessions, id);
-            object_rows::greatest(&objects[a..e], n, kind)
         }
         Named::NotLive => Found::Nothing,
         Named::Refused(x) => Found::Refused(x),

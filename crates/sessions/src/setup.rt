@@ -58,7 +58,7 @@ fn clear_objects(objects: &mut [Object], n: usize)
     ensures { λ _. ⌜ now (objects .exit) ≡ cleared n blank (now (objects .entry)) ⌝ }
 {
     let number = ObjectNumber(0);
-    let o = Object::implicit(number, 0);
+    let o = Object::implicit(number, 0, 0);
     let mut i = 0;
     while i < n {
         objects[i] = o;

@@ -5,7 +5,7 @@ use crate::ffi;
 use crate::records::{AgentRecord, Tables, Told};
 use crate::refusal::{read, Refusal};
 
-/// An agent. It holds about 214 KiB of tables on the heap, whatever `max_clients` is.
+/// An agent. It holds about 246 KiB of tables on the heap, whatever `max_clients` is.
 ///
 /// While a bridge call is open, [`Agent::answer`] is the only call in its turn: datagrams, removals and sweeps are
 /// refused as 15 (document 01, "Refused").

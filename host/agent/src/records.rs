@@ -24,6 +24,7 @@ pub struct AgentRecord {
     pub next: u64,
     pub open: u64,
     pub kind: u64,
+    pub parent: u64,
     pub session: u64,
     pub stream: u64,
     pub number: u64,
@@ -40,6 +41,9 @@ pub struct AgentRecord {
 }
 
 impl AgentRecord {
+    /// How many numbers it has.
+    pub const NUMBERS: usize = 19;
+
     /// The record as the functions take it: a slice of one.
     pub fn lend(&self) -> &[AgentRecord] {
         std::slice::from_ref(self)
@@ -51,15 +55,18 @@ impl AgentRecord {
     }
 
     /// Its numbers, in their order.
-    pub fn numbers_mut(&mut self) -> [&mut u64; 18] {
-        let AgentRecord { max_clients, timeout_ms, next, open, kind, session, stream, number, at, time, .. } = self;
-        let AgentRecord { wrote, call, handle, topic, start, len, type_start, type_len, .. } = self;
+    pub fn numbers_mut(&mut self) -> [&mut u64; Self::NUMBERS] {
+        let AgentRecord { max_clients, timeout_ms, next, open, kind, parent, session, .. } = self;
+        let AgentRecord {
+            stream, number, at, time, wrote, call, handle, topic, start, len, type_start, type_len, ..
+        } = self;
         [
             max_clients,
             timeout_ms,
             next,
             open,
             kind,
+            parent,
             session,
             stream,
             number,
@@ -86,6 +93,7 @@ pub struct ObjectRecord {
     pub kind: u8,
     pub bridged: u8,
     pub handle: u32,
+    pub parent: u16,
 }
 
 /// The three tables, lent for one call.
@@ -152,11 +160,11 @@ macro_rules! words_in_order {
         assert!(offset_of!(AgentRecord, $first) == 8 * $at);
         words_in_order!($at + 1; $($rest)*);
     };
-    ($at:expr;) => { assert!(size_of::<AgentRecord>() == 8 * $at && $at == 18); };
+    ($at:expr;) => { assert!(size_of::<AgentRecord>() == 8 * $at && $at == AgentRecord::NUMBERS); };
 }
 
 const _: () = {
-    words_in_order!(0; max_clients timeout_ms next open kind session stream number at time
+    words_in_order!(0; max_clients timeout_ms next open kind parent session stream number at time
         wrote call handle topic start len type_start type_len);
     assert!(align_of::<AgentRecord>() == 8);
 };
@@ -166,6 +174,7 @@ const _: () = {
     assert!(offset_of!(ObjectRecord, kind) == 2);
     assert!(offset_of!(ObjectRecord, bridged) == 3);
     assert!(offset_of!(ObjectRecord, handle) == 4);
-    assert!(size_of::<ObjectRecord>() == 8 && align_of::<ObjectRecord>() == 4);
+    assert!(offset_of!(ObjectRecord, parent) == 8);
+    assert!(size_of::<ObjectRecord>() == 12 && align_of::<ObjectRecord>() == 4);
     assert!(size_of::<SessionRow>() == 40 && size_of::<StreamRow>() == 70);
 };

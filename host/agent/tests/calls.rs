@@ -4,7 +4,7 @@ mod common;
 
 use common::*;
 use wire::{strings, Datagram};
-use xrce_agent::lent::{self, AgentRecord, Tables, Told};
+use xrce_agent::lent::{self, AgentRecord, ObjectRecord, Tables, Told};
 
 // The last seven numbers of the record: what the call is and what it names.
 fn told(fixture: &Fixture) -> [u64; 7] {
@@ -45,7 +45,7 @@ fn create_participant() {
     opens(&mut fixture, create(), [CREATE_PARTICIPANT, 77, 0, 0, 0, 0, 0], &[CREATED, FAILED]);
     closes(&mut fixture, CREATED, u32::MAX, &[], &status(1, 1, 0));
     let object = fixture.tables.objects[32];
-    assert_eq!((object.number, object.kind, object.bridged, object.handle), (1, 1, 1, u32::MAX));
+    assert_eq!(object, ObjectRecord { number: 1, kind: 1, bridged: 1, handle: u32::MAX, parent: 77 });
 }
 
 #[test]
@@ -62,12 +62,52 @@ fn create_topic_with_its_names_in_the_datagram() {
 fn create_writer_and_reader_take_participant_and_topic() {
     for (kind, call) in [(5, CREATE_WRITER), (6, CREATE_READER)] {
         let mut fixture = Fixture::with_objects();
-        let create = || Datagram::new(1, 0).create(9, kind, 0, &[]);
+        let create = || Datagram::new(1, 0).create(9, kind, 2, &[]);
         opens(&mut fixture, create(), [call, 11, 12, 0, 0, 0, 0], &[CREATED, FAILED]);
         closes(&mut fixture, CREATED, 5, &[], &status(1, 9, 0));
         opens(&mut fixture, create(), [call, 11, 12, 0, 0, 0, 0], &[CREATED, FAILED]);
         closes(&mut fixture, FAILED, 5, &[], &status(1, 9, 2));
     }
+}
+
+#[test]
+fn a_writer_and_a_reader_follow_the_topic_that_they_name() {
+    let mut fixture = Fixture::with_objects();
+    fixture.creates(5, wire::PARTICIPANT, 0);
+    fixture.creates(6, wire::TOPIC, 5);
+    for (topic, participant) in [(2, 1), (6, 5), (2, 1)] {
+        for (kind, call) in [(wire::DATA_WRITER, CREATE_WRITER), (wire::DATA_READER, CREATE_READER)] {
+            let create = Datagram::new(1, 0).create(9, kind, topic, &[]);
+            let pair = [call, 10 + participant, 10 + u64::from(topic), 0, 0, 0, 0];
+            opens(&mut fixture, create, pair, &[CREATED, FAILED]);
+            assert_eq!(fixture.record.parent, u64::from(topic));
+            closes(&mut fixture, CREATED, 90, &[], &status(1, 9, 0));
+            let made = ObjectRecord { number: 9, kind, bridged: 1, handle: 90, parent: topic };
+            assert!(fixture.tables.objects[32..64].contains(&made), "{made:?}");
+        }
+    }
+}
+
+#[test]
+fn a_writer_or_reader_whose_parent_leads_to_no_participant() {
+    let mut fixture = Fixture::with_objects();
+    assert_eq!(fixture.datagram(&Datagram::new(1, 0).create(5, wire::PUBLISHER, 2, &[]).bytes()), 0);
+    // Any object with a handle is taken as a Topic's parent.
+    fixture.creates(6, wire::TOPIC, 2);
+    let invalid = |fixture: &mut Fixture, parent| {
+        for kind in [wire::DATA_WRITER, wire::DATA_READER] {
+            assert_eq!(fixture.datagram(&Datagram::new(1, 0).create(9, kind, parent, &[]).bytes()), 0);
+            assert_eq!((fixture.record.open, fixture.record.call), (0, 0), "kind {kind}, parent {parent}");
+            assert_eq!(fixture.replied(), status(1, 9, wire::ERR_INVALID_DATA), "kind {kind}, parent {parent}");
+        }
+    };
+    // Nothing, a Participant, a writer, a reader, a Publisher, a Topic of a Topic, and a number of which 2 is the low byte.
+    for parent in [9, 1, 3, 4, 5, 6, 0x0102] {
+        invalid(&mut fixture, parent);
+    }
+    assert_eq!(fixture.datagram(&Datagram::new(1, 0).delete(1).bytes()), 0);
+    assert_eq!(fixture.answer(DONE, 0, &[]), 0);
+    invalid(&mut fixture, 2);
 }
 
 #[test]

@@ -29,15 +29,15 @@ fn field_size<T: Default>(size: impl Fn(&T) -> usize) -> usize {
 
 fn lines() -> Vec<(String, (usize, usize))> {
     let mut lines = Vec::new();
-    fields!(lines, AgentRecord, "xrce_agent", max_clients timeout_ms next open kind session stream number at time
+    fields!(lines, AgentRecord, "xrce_agent", max_clients timeout_ms next open kind parent session stream number at time
         wrote call handle topic start len type_start type_len);
-    fields!(lines, ObjectRecord, "xrce_object", number kind bridged handle);
+    fields!(lines, ObjectRecord, "xrce_object", number kind bridged handle parent);
     lines.push((
         "sizeof(xrce_session_row), sizeof(xrce_stream_row)".into(),
         (size_of::<SessionRow>(), size_of::<StreamRow>()),
     ));
     lines.push(("(size_t)XRCE_SESSIONS, (size_t)XRCE_STREAMS".into(), (SESSIONS, STREAMS)));
-    lines.push(("(size_t)XRCE_OBJECTS, sizeof(struct xrce_tables)".into(), (OBJECTS, 219_136)));
+    lines.push(("(size_t)XRCE_OBJECTS, sizeof(struct xrce_tables)".into(), (OBJECTS, 251_904)));
     lines
 }
 
@@ -54,5 +54,5 @@ fn the_layout_is_the_headers() {
     let Some(printed) = c::output(&source, "layout") else { return };
     let wanted: Vec<String> = lines.iter().map(|(_, (a, b))| format!("{a} {b}")).collect();
     assert_eq!(printed.lines().collect::<Vec<_>>(), wanted);
-    assert_eq!(lines.len(), 18 + 4 + 2 + 3);
+    assert_eq!(lines.len(), AgentRecord::NUMBERS + 5 + 2 + 3);
 }

@@ -132,24 +132,26 @@ fn limits_of_the_set_up() {
     for max in [0, 1, 255] {
         assert_eq!(fixture.setup(WHOLE, max, 0), 0);
         let need = lent::read(lent::need(max)).unwrap();
-        assert_eq!(need, 256 * 40 + 2048 * 70 + 8192 * 8);
+        assert_eq!(need, 256 * 40 + 2048 * 70 + 8192 * 10);
         // Document 01: "at most 1,048,576 × (max_clients + 1) bytes in all".
         assert!(need <= 1_048_576 * (max + 1));
     }
 }
 
-// Places of next, kind, session, stream and number, each with values that its field can't hold.
-const PAST_THEIR_FIELD: [(usize, u64); 10] = [
+// Places of next, kind, parent, session, stream and number, each with values that its field can't hold.
+const PAST_THEIR_FIELD: [(usize, u64); 12] = [
     (2, 256),
     (2, u64::MAX),
     (4, 256),
     (4, u64::MAX),
-    (5, 256),
+    (5, 65_536),
     (5, u64::MAX),
     (6, 256),
     (6, u64::MAX),
-    (7, 65_536),
+    (7, 256),
     (7, u64::MAX),
+    (8, 65_536),
+    (8, u64::MAX),
 ];
 
 // Numbers of the record past their limit: 16, whatever is asked; where they say that a call is open, 15 comes first.
@@ -194,7 +196,7 @@ fn an_open_call_of_no_kind() {
 // What a record held for no reason is gone with the next call: numbers of no open call, and what was told before.
 #[test]
 fn a_call_writes_the_whole_record() {
-    for place in [4, 5, 6, 7, 8, 9, 10, 11, 12, 13, 14, 15, 16, 17] {
+    for place in 4..AgentRecord::NUMBERS {
         let (mut fixture, mut other) = (Fixture::with_objects(), Fixture::with_objects());
         let datagram = Datagram::new(1, 0).delete(99).bytes();
         *fixture.record.numbers_mut()[place] = 200;
@@ -210,7 +212,7 @@ fn a_call_writes_the_whole_record() {
 
 #[test]
 fn an_altered_record_with_a_call_open() {
-    let limits = [(0, 256), (2, 0), (8, 11), (8, u64::MAX)].into_iter().chain(PAST_THEIR_FIELD);
+    let limits = [(0, 256), (2, 0), (9, 11), (9, u64::MAX)].into_iter().chain(PAST_THEIR_FIELD);
     for (place, value) in limits {
         let mut fixture = Fixture::with_objects();
         assert_eq!(fixture.datagram(&Datagram::new(1, 0).delete(4).bytes()), 0);

@@ -41,8 +41,8 @@ fn run(options: &Options) -> Result<(), Wrong> {
     for (object, kind, parent, strings, what) in [
         (1, wire::PARTICIPANT, 0, &[][..], "participant"),
         (2, wire::TOPIC, 1, &names, "topic"),
-        (3, wire::DATA_WRITER, 1, &[], "writer"),
-        (4, wire::DATA_READER, 1, &[], "reader"),
+        (3, wire::DATA_WRITER, 2, &[], "writer"),
+        (4, wire::DATA_READER, 2, &[], "reader"),
     ] {
         client.create(object, kind, parent, strings, what)?;
     }

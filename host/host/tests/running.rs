@@ -110,8 +110,10 @@ fn samples_go_from_client_to_client_and_replies_to_their_sender() {
     let (one, two) = (host.client(), host.client());
     assert_eq!((open(&one), open(&two)), ((1, 0), (2, 0)));
     for (client, id, kind) in [(&one, 1, wire::DATA_WRITER), (&two, 2, wire::DATA_READER)] {
-        for (object, kind, text) in [(1, 1, vec![]), (2, 2, strings(b"shared", b"t")), (3, kind, vec![])] {
-            let reply = ask(client, Datagram::new(id, 0).create(object, kind, 1, &text));
+        for (object, kind, parent, text) in
+            [(1, wire::PARTICIPANT, 0, vec![]), (2, wire::TOPIC, 1, strings(b"shared", b"t")), (3, kind, 2, vec![])]
+        {
+            let reply = ask(client, Datagram::new(id, 0).create(object, kind, parent, &text));
             assert_eq!(reply, Datagram::new(id, 0).status(object, 0).bytes());
         }
     }

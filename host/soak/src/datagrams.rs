@@ -3,19 +3,32 @@
 use crate::chance::Chance;
 use wire::{strings, Datagram};
 
+// Mostly Participants have the numbers 0 and 1, Topics 2 and 3, writers and readers 4 to 7: so parents lead somewhere.
+fn number(chance: &mut Chance, usual: &[u16]) -> u16 {
+    if chance.once_in(4) {
+        chance.below(8) as u16
+    } else {
+        chance.of(usual)
+    }
+}
+
 // A submessage of any of the nine kinds, its numbers small so that they meet again.
 fn add(chance: &mut Chance, datagram: Datagram) -> Datagram {
     let object = chance.below(8) as u16;
     match chance.below(16) {
         0 => datagram.create_client([1, 2, 3, chance.byte()]),
-        1 => datagram.create(object, 1, chance.below(3) as u16, &[]),
+        1 => datagram.create(number(chance, &[0, 1]), 1, chance.below(3) as u16, &[]),
         2 => {
             let name = chance.below(12);
-            datagram.create(object, 2, chance.below(8) as u16, &strings(&chance.bytes(name), b"type"))
+            let (topic, participant) = (number(chance, &[2, 3]), number(chance, &[0, 1]));
+            datagram.create(topic, 2, participant, &strings(&chance.bytes(name), b"type"))
         }
-        3 => datagram.create(object, 1 + chance.below(6) as u8, 0, &[]),
+        3 => datagram.create(object, 1 + chance.below(6) as u8, chance.below(8) as u16, &[]),
         4 => datagram.create(chance.below(40) as u16, chance.of(&[3, 4]), 0, &[]),
-        5 => datagram.create(object, chance.of(&[5, 6]), 0, &[]),
+        5 => {
+            let topic = number(chance, &[2, 3]);
+            datagram.create(number(chance, &[4, 5, 6, 7]), chance.of(&[5, 6]), topic, &[])
+        }
         6 => datagram.delete(object),
         7 | 8 => {
             let len = chance.below(24);

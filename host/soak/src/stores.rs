@@ -164,7 +164,7 @@ impl Stores {
         for _ in 0..=chance.below(4) {
             let row = 1 + chance.below(5);
             match chance.below(6) {
-                0 | 1 => *self.record().numbers_mut()[chance.below(18)] = chance.extreme(),
+                0 | 1 => *self.record().numbers_mut()[chance.below(AgentRecord::NUMBERS)] = chance.extreme(),
                 2 => self.sessions.slice(side, SESSIONS)[row][chance.below(5)] = chance.extreme(),
                 3 => {
                     self.streams.slice(side, STREAMS)[8 * row + chance.below(9)][chance.below(35)] =
@@ -205,6 +205,8 @@ fn object(chance: &mut Chance) -> ObjectRecord {
         kind: chance.extreme() as u8,
         bridged: chance.extreme() as u8,
         handle: chance.extreme() as u32,
+        // Mostly a number that the session may hold.
+        parent: if chance.once_in(4) { chance.extreme() as u16 } else { chance.below(8) as u16 },
     }
 }
 

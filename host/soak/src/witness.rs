@@ -6,7 +6,9 @@ use std::time::{Duration, Instant};
 use wire::{strings, Body, Datagram, Reply};
 
 /// A topic that no datagram by chance names.
-const TOPIC: &[u8] = b"the witness alone reads and writes here";
+const NAME: &[u8] = b"the witness alone reads and writes here";
+const PARTICIPANT: u16 = 0x0101;
+const TOPIC: u16 = 0x0201;
 const WRITER: u16 = 0x0301;
 const READER: u16 = 0x0401;
 /// A reply may take that long on a busy machine.
@@ -32,14 +34,14 @@ impl Witness {
         socket.set_read_timeout(Some(Duration::from_millis(500))).map_err(|error| error.to_string())?;
         let mut witness = Witness { socket, session: 0, exchanges: 0, inbox: vec![0; 65_536] };
         witness.open()?;
-        let names = strings(TOPIC, b"t");
-        for (object, kind, text) in [
-            (0x0101, wire::PARTICIPANT, &[][..]),
-            (0x0201, wire::TOPIC, &names),
-            (WRITER, wire::DATA_WRITER, &[]),
-            (READER, wire::DATA_READER, &[]),
+        let names = strings(NAME, b"t");
+        for (object, kind, parent, text) in [
+            (PARTICIPANT, wire::PARTICIPANT, 0, &[][..]),
+            (TOPIC, wire::TOPIC, PARTICIPANT, &names),
+            (WRITER, wire::DATA_WRITER, TOPIC, &[]),
+            (READER, wire::DATA_READER, TOPIC, &[]),
         ] {
-            let datagram = Datagram::new(witness.session, 0).create(object, kind, 0x0101, text).bytes();
+            let datagram = Datagram::new(witness.session, 0).create(object, kind, parent, text).bytes();
             witness.until_ok(&datagram, object)?;
         }
         Ok(witness)

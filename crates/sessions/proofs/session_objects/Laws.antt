@@ -10,8 +10,8 @@ use Rattle.sessions.specs.Table.{reachedOf}
 use Rattle.sessions.proofs.table.Laws.{live-fits}
 use Rattle.codec.specs.declared.submessages.ObjectNumber.{ObjectNumber}
 use Rattle.walk.proofs.Parts.{part-len}
-use Rattle.sessions.specs.Objects.{objectPlace, foundOf, greatestOf, storedOf, storedRow, removedRow}
-use Rattle.sessions.specs.SessionObjects.{firstObject, objectRow, withObjectRow, usedOf, objectsNamed, foundBy, foundObject, greatestBy, greatestObject, storedBy, storedObject, storedIn, storedObjects, removedIn, removedObjects}
+use Rattle.sessions.specs.Objects.{objectPlace, foundOf, storedOf, storedRow, removedRow}
+use Rattle.sessions.specs.SessionObjects.{firstObject, objectRow, withObjectRow, usedOf, objectsNamed, foundBy, foundObject, storedBy, storedObject, storedIn, storedObjects, removedIn, removedObjects}
 use Rattle.sessions.specs.declared.objects.Object.{Object}
 use Rattle.sessions.specs.declared.table.Named.{Named}
 use Rattle.sessions.specs.declared.table.Named.the-variants.{Live, NotLive, Refused}
@@ -69,14 +69,6 @@ module _ (sessions : List (List ℕ)) (objects : List Object) (id : ℕ) where
         row-back objects id (removedRow lent (usedOf sessions id) (objectPlace lent (usedOf sessions id) n))
         ∙ ap (λ (row : List Object). withObjectRow objects id (removedRow row (usedOf sessions id) (objectPlace row (usedOf sessions id) n))) (row-lent objects id)
         ∙ removed-is Live e
-
-  module _ (kind : ℕ) where
-    pub greatest-is : (w : Named) → objectsNamed sessions (length objects) id ≡ w → greatestBy w sessions objects id kind ≡ greatestObject sessions objects id kind
-    unfolding greatestObject
-    greatest-is w e = ap (λ (v : Named). greatestBy v sessions objects id kind) (sym e)
-
-    pub greatest-lent : objectsNamed sessions (length objects) id ≡ Live → greatestOf lent (usedOf sessions id) kind ≡ greatestObject sessions objects id kind
-    greatest-lent e = ap (λ (row : List Object). greatestOf row (usedOf sessions id) kind) (row-lent objects id) ∙ greatest-is Live e
 
   module _ (o : Object) where
     pub stored-is : (w : Named) → objectsNamed sessions (length objects) id ≡ w → storedBy w sessions objects id o ≡ storedObject sessions objects id o

@@ -58,13 +58,18 @@ impl Fixture {
     pub fn with_objects() -> Self {
         let mut fixture = Fixture::new();
         fixture.opens();
-        for (object, kind, parent) in [(1, 1, 0), (2, 2, 1), (3, 5, 0), (4, 6, 0)] {
-            let datagram = Datagram::new(1, 0).create(object, kind, parent, &wire::strings(b"n", b"t")).bytes();
-            assert_eq!(fixture.datagram(&datagram), 0);
-            assert_eq!(fixture.answer(CREATED, 10 + u32::from(object), &[]), 0);
-            assert_eq!(fixture.replied(), status(1, object, 0));
+        for (object, kind, parent) in [(1, 1, 0), (2, 2, 1), (3, 5, 2), (4, 6, 2)] {
+            fixture.creates(object, kind, parent);
         }
         fixture
+    }
+
+    /// CREATE in session 1, with a bridge call: the handle is 10 more than the number.
+    pub fn creates(&mut self, object: u16, kind: u8, parent: u16) {
+        let datagram = Datagram::new(1, 0).create(object, kind, parent, &wire::strings(b"n", b"t")).bytes();
+        assert_eq!(self.datagram(&datagram), 0);
+        assert_eq!(self.answer(CREATED, 10 + u32::from(object), &[]), 0);
+        assert_eq!(self.replied(), status(1, object, 0));
     }
 
     pub fn opens(&mut self) {

@@ -69,8 +69,8 @@ use Rattle.agent.proofs.dry.copy_objects.Statement as stated
 use Rattle.agent.proofs.dry.copy_objects.Code as code
 use Rattle.agent.proofs.dry.copy_objects.Code.Mir as mir
 
-abbrev Object-of : ObjectNumber → ℕ → ℕ → ℕ → Object
-Object-of x0 x1 x2 x3 = record { number = x0; kind = x1; bridged = x2; handle = x3 }
+abbrev Object-of : ObjectNumber → ℕ → ℕ → ℕ → ℕ → Object
+Object-of x0 x1 x2 x3 x4 = record { number = x0; kind = x1; bridged = x2; handle = x3; parent = x4 }
 
 abbrev Object-p : Plain
 Object-p = record { row = Object-t.the-row; val = LL.val Object-t.the-type Object-l.the-laws; tells = LL.tells Object-t.the-type Object-l.the-laws; makes = λ 𝓤 H A W. LL.makes Object-t.the-type Object-l.the-plain 𝓤 H A; ty = Object-l.mir; typed = λ 𝓤 H A W x is. LL.lawful Object-t.the-type Object-l.the-laws 𝓤 H A W .typed x _ is .0; copies = λ 𝓤 H A W. LL.copy Object-t.the-type Object-l.the-copy 𝓤 H A W }
@@ -159,27 +159,27 @@ module _ {M : Type 1} (𝓤 : URA M) (H : Heap 𝓤) (A : Atoms 𝓤) (W : Given
           exec ! C Λ En (past 2 mir.turn-1) (anyQ (afterTurn 𝓤 H (Below-2 t-2) Left-2)) $
           knows ! (first′ + i < 2 ^ 64) (omega (arith, ltb-true, ltb-false, leb-true, leb-false, eqb-true, eqb-false)) (λ fits-2·3.
           assigns ! (bin ! (load ! (from ! (stop !)) (look ! 22 refl)) (load ! (from ! (stop !)) (look ! 18 refl)) (record { fits = fits-2·3 })) (from ! (stop !)) (init ! 12 refl (u64-p .typed 𝓤 H A W (first′ + i) ((refl, fits-2·3)))) $
-          knows ! ((first′ + i) * 8 < 2 ^ 64) (omega (arith, ltb-true, ltb-false, leb-true, leb-false, eqb-true, eqb-false)) (λ fits-2·4.
-          assigns ! (bin ! (load ! (from ! (stop !)) (look ! 12 refl)) (lit ! tt) (record { fits = fits-2·4 })) (from ! (stop !)) (init ! 10 refl (u64-p .typed 𝓤 H A W ((first′ + i) * 8) ((refl, fits-2·4)))) $
+          knows ! ((first′ + i) * 12 < 2 ^ 64) (omega (arith, ltb-true, ltb-false, leb-true, leb-false, eqb-true, eqb-false)) (λ fits-2·4.
+          assigns ! (bin ! (load ! (from ! (stop !)) (look ! 12 refl)) (lit ! tt) (record { fits = fits-2·4 })) (from ! (stop !)) (init ! 10 refl (u64-p .typed 𝓤 H A W ((first′ + i) * 12) ((refl, fits-2·4)))) $
           assigns ! (bin ! (load ! (from ! (fld ! refl (stop !))) (look-in ! 26 (sub ! 0 refl (whole !)))) (load ! (from ! (stop !)) (look ! 10 refl)) tt) (from ! (stop !)) (init ! 8 refl (tt, tt)) $
-          rewrite ! 8 (λ (p : ℕ). ‵ (fat fullShare tyPtr l₁₀ 0 (vptr b₁ p))) (sym (place-is 8 o₁ (first′ + i))) refl $
+          rewrite ! 8 (λ (p : ℕ). ‵ (fat fullShare tyPtr l₁₀ 0 (vptr b₁ p))) (sym (place-is 12 o₁ (first′ + i))) refl $
           knows ! (first′ + i < length from′) (omega (arith, ltb-true, ltb-false, leb-true, leb-false, eqb-true, eqb-false)) (λ index-2·6.
-          views-elem ! tt Object-p b₁ o₁ from′ n₁ (refl) (first′ + i) ((Object-of (ObjectNumber-of 0) 0 0 0)) index-2·6 (λ s-2·6 is-2·6.
-          assigns ! (of-opd ! (load ! (from ! (hop ! (look ! 12 refl) (stop !))) (look-raw ! 0 refl))) (from ! (stop !)) (init ! 10 refl (Object-p .typed 𝓤 H A W (getD from′ (first′ + i) ((Object-of (ObjectNumber-of 0) 0 0 0))) is-2·6)) $
-          unviews-elem ! tt Object-p b₁ o₁ from′ n₁ (refl) room₁ (first′ + i) ((Object-of (ObjectNumber-of 0) 0 0 0)) index-2·6 s-2·6 $
-          assigns ! (of-opd ! (load ! (from ! (stop !)) (look ! 6 refl))) (from ! (stop !)) (init ! 16 refl (Object-p .typed 𝓤 H A W (getD from′ (first′ + i) ((Object-of (ObjectNumber-of 0) 0 0 0))) is-2·6)) $
-          knows ! (i * 8 < 2 ^ 64) (omega (arith, ltb-true, ltb-false, leb-true, leb-false, eqb-true, eqb-false)) (λ fits-2·8.
-          assigns ! (bin ! (load ! (from ! (stop !)) (look ! 18 refl)) (lit ! tt) (record { fits = fits-2·8 })) (from ! (stop !)) (store ! 12 refl (u64-p .typed 𝓤 H A W (i * 8) ((refl, fits-2·8)))) $
+          views-elem ! tt Object-p b₁ o₁ from′ n₁ (refl) (first′ + i) ((Object-of (ObjectNumber-of 0) 0 0 0 0)) index-2·6 (λ s-2·6 is-2·6.
+          assigns ! (of-opd ! (load ! (from ! (hop ! (look ! 12 refl) (stop !))) (look-raw ! 0 refl))) (from ! (stop !)) (init ! 10 refl (Object-p .typed 𝓤 H A W (getD from′ (first′ + i) ((Object-of (ObjectNumber-of 0) 0 0 0 0))) is-2·6)) $
+          unviews-elem ! tt Object-p b₁ o₁ from′ n₁ (refl) room₁ (first′ + i) ((Object-of (ObjectNumber-of 0) 0 0 0 0)) index-2·6 s-2·6 $
+          assigns ! (of-opd ! (load ! (from ! (stop !)) (look ! 6 refl))) (from ! (stop !)) (init ! 16 refl (Object-p .typed 𝓤 H A W (getD from′ (first′ + i) ((Object-of (ObjectNumber-of 0) 0 0 0 0))) is-2·6)) $
+          knows ! (i * 12 < 2 ^ 64) (omega (arith, ltb-true, ltb-false, leb-true, leb-false, eqb-true, eqb-false)) (λ fits-2·8.
+          assigns ! (bin ! (load ! (from ! (stop !)) (look ! 18 refl)) (lit ! tt) (record { fits = fits-2·8 })) (from ! (stop !)) (store ! 12 refl (u64-p .typed 𝓤 H A W (i * 12) ((refl, fits-2·8)))) $
           assigns ! (bin ! (load ! (from ! (fld ! refl (stop !))) (look-in ! 24 (sub ! 0 refl (whole !)))) (load ! (from ! (stop !)) (look ! 12 refl)) tt) (from ! (stop !)) (init ! 4 refl (tt, tt)) $
-          rewrite ! 4 (λ (p : ℕ). ‵ (fat fullShare tyPtr l₁₂ 0 (vptr b₂ p))) (sym (place-is 8 o₂ i)) refl $
+          rewrite ! 4 (λ (p : ℕ). ‵ (fat fullShare tyPtr l₁₂ 0 (vptr b₂ p))) (sym (place-is 12 o₂ i)) refl $
           knows ! (i < length ys) (omega (arith, ltb-true, ltb-false, leb-true, leb-false, eqb-true, eqb-false)) (λ index-2·10.
           move ! (2 ∷ 3 ∷ []) $
-          opens-elem ! tt Object-p b₂ o₂ ys n₂ (ys-len) i ((Object-of (ObjectNumber-of 0) 0 0 0)) index-2·10 (λ _.
-          assigns ! (of-opd ! (load ! (from ! (stop !)) (look ! 20 refl))) (from ! (hop ! (look ! 8 refl) (stop !))) (store-raw ! 0 refl (Object-p .typed 𝓤 H A W (getD from′ (first′ + i) ((Object-of (ObjectNumber-of 0) 0 0 0))) is-2·6)) $
-          puts-elem ! tt Object-p b₂ o₂ ys n₂ (ys-len) room₂ i ((Object-of (ObjectNumber-of 0) 0 0 0)) (getD from′ (first′ + i) ((Object-of (ObjectNumber-of 0) 0 0 0))) index-2·10 is-2·6 (λ len-2·10.
+          opens-elem ! tt Object-p b₂ o₂ ys n₂ (ys-len) i ((Object-of (ObjectNumber-of 0) 0 0 0 0)) index-2·10 (λ _.
+          assigns ! (of-opd ! (load ! (from ! (stop !)) (look ! 20 refl))) (from ! (hop ! (look ! 8 refl) (stop !))) (store-raw ! 0 refl (Object-p .typed 𝓤 H A W (getD from′ (first′ + i) ((Object-of (ObjectNumber-of 0) 0 0 0 0))) is-2·6)) $
+          puts-elem ! tt Object-p b₂ o₂ ys n₂ (ys-len) room₂ i ((Object-of (ObjectNumber-of 0) 0 0 0 0)) (getD from′ (first′ + i) ((Object-of (ObjectNumber-of 0) 0 0 0 0))) index-2·10 is-2·6 (λ len-2·10.
           knows ! (i + 1 < 2 ^ 64) (omega (arith, ltb-true, ltb-false, leb-true, leb-false, eqb-true, eqb-false)) (λ fits-2·11.
           assigns-last ! (bin ! (load ! (from ! (stop !)) (look ! 18 refl)) (lit ! tt) (record { fits = fits-2·11 })) (from ! (stop !)) (store ! 18 refl (u64-p .typed 𝓤 H A W (i + 1) ((refl, fits-2·11)))) $ forget ! 4 refl $ forget ! 6 refl $ forget ! 8 refl $ forget ! 10 refl $ forget ! 12 refl $ forget ! 14 refl $ forget ! 16 refl $ move ! (2 ∷ 3 ∷ 0 ∷ 1 ∷ 4 ∷ 5 ∷ 6 ∷ 7 ∷ 8 ∷ 9 ∷ 10 ∷ 11 ∷ 12 ∷ 13 ∷ 14 ∷ 15 ∷ 16 ∷ 17 ∷ 18 ∷ 19 ∷ 20 ∷ 21 ∷ 22 ∷ 23 ∷ 24 ∷ 25 ∷ 26 ∷ 27 ∷ 28 ∷ 29 ∷ []) $
-          by ! (again-2 t-2 (i + 1) (set ys i (getD from′ (first′ + i) ((Object-of (ObjectNumber-of 0) 0 0 0)))) ((refl, fits-2·11)) len-2·10 (((omega (arith, ltb-true, ltb-false, leb-true, leb-false, eqb-true, eqb-false)), ap (λ (zs : List Object). set zs i (getD from′ (first′ + i) blank)) (inv-2 .1) ∙ copied-more same blank (objectSpot first′) from′ to i)) (omega (arith, ltb-true, ltb-false, leb-true, leb-false, eqb-true, eqb-false))))))))))))))
+          by ! (again-2 t-2 (i + 1) (set ys i (getD from′ (first′ + i) ((Object-of (ObjectNumber-of 0) 0 0 0 0)))) ((refl, fits-2·11)) len-2·10 (((omega (arith, ltb-true, ltb-false, leb-true, leb-false, eqb-true, eqb-false)), ap (λ (zs : List Object). set zs i (getD from′ (first′ + i) blank)) (inv-2 .1) ∙ copied-more same blank (objectSpot first′) from′ to i)) (omega (arith, ltb-true, ltb-false, leb-true, leb-false, eqb-true, eqb-false))))))))))))))
           (λ h-2·2.
           knows ! (ltb i n′ ≡ false) (fails (ltb i n′) (T-not (ltb i n′) h-2·2)) (λ c-2·2.
           jumps ! $

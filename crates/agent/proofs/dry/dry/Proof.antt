@@ -56,7 +56,7 @@ use Rattle.sessions.specs.Objects.{blank}
 use Rattle.moves.specs.Rows.{lent}
 use Rattle.agent.specs.Host.{resumesFit, performed}
 use Rattle.agent.specs.Dry.{sessionCopy, sessionBack, noSession, streamCopy, streamBack, noStream, same, sessionSpot, streamSpot, objectSpot, copied, restored}
-use Rattle.sessions.specs.Objects.{bridgedOf, implicitOf, handleOf, isNumbered, greaterOf, betterOf, slotOf, usedAfter}
+use Rattle.sessions.specs.Objects.{bridgedOf, implicitOf, handleOf, isNumbered, slotOf, usedAfter}
 use Rattle.agent.proofs.Back.{copies-long, copied-long}
 use Rattle.agent.proofs.Frame.{objects-long, objects-back}
 use Rattle.sessions.specs.declared.objects.Object.{Object}
@@ -112,8 +112,8 @@ use Rattle.agent.proofs.dry.dry.Statement as stated
 use Rattle.agent.proofs.dry.dry.Code as code
 use Rattle.agent.proofs.dry.dry.Code.Mir as mir
 
-abbrev Object-of : ObjectNumber → ℕ → ℕ → ℕ → Object
-Object-of x0 x1 x2 x3 = record { number = x0; kind = x1; bridged = x2; handle = x3 }
+abbrev Object-of : ObjectNumber → ℕ → ℕ → ℕ → ℕ → Object
+Object-of x0 x1 x2 x3 x4 = record { number = x0; kind = x1; bridged = x2; handle = x3; parent = x4 }
 
 abbrev Object-p : Plain
 Object-p = record { row = Object-t.the-row; val = LL.val Object-t.the-type Object-l.the-laws; tells = LL.tells Object-t.the-type Object-l.the-laws; makes = λ 𝓤 H A W. LL.makes Object-t.the-type Object-l.the-plain 𝓤 H A; ty = Object-l.mir; typed = λ 𝓤 H A W x is. LL.lawful Object-t.the-type Object-l.the-laws 𝓤 H A W .typed x _ is .0; copies = λ 𝓤 H A W. LL.copy Object-t.the-type Object-l.the-copy 𝓤 H A W }
@@ -228,44 +228,44 @@ module _ {M : Type 1} (𝓤 : URA M) (H : Heap 𝓤) (A : Atoms 𝓤) (W : Given
     abbrev En : Env 𝓤 H
     En = ((tyInt w64), l₀) ∷ ((sliceTy (tyRef (named 0) mut (pointee ((Array u64 5) .written)))), l₁) ∷ ((sliceTy (tyRef (named 1) mut (pointee ((Array u16 35) .written)))), l₂) ∷ ((sliceTy (tyRef (named 2) mut (pointee (Object-t.the-row .written)))), l₃) ∷ ((sliceTy (tyRef (named 3) imm (pointee (u8 .written)))), l₄) ∷ ((sliceTy (tyRef (named 4) imm (pointee (u8 .written)))), l₅) ∷ (Start-l.mir, l₆) ∷ (Frame-l.mir, l₇) ∷ ((tyInt w8), l₈) ∷ ((tyInt w64), l₉) ∷ (ObjectNumber-l.mir, l₁₀) ∷ (Object-l.mir, l₁₁) ∷ ((tyArray Object-l.mir 32), l₁₂) ∷ ((tyInt w64), l₁₃) ∷ (tyUnit, l₁₄) ∷ ((tyRef erased imm (pointee (Object-t.the-row .written))), l₁₅) ∷ ((sliceTy (tyRef erased imm (pointee (Object-t.the-row .written)))), l₁₆) ∷ ((tyRef erased mut (pointee ((Array Object-t.the-row 32) .written))), l₁₇) ∷ ((sliceTy (tyRef erased mut (pointee (Object-t.the-row .written)))), l₁₈) ∷ ((tyRef erased mut (pointee ((Array u64 5) .written))), l₁₉) ∷ ((sliceTy (tyRef erased mut (pointee ((Array u64 5) .written)))), l₂₀) ∷ ((tyRef erased mut (pointee ((Array u16 35) .written))), l₂₁) ∷ ((sliceTy (tyRef erased mut (pointee ((Array u16 35) .written)))), l₂₂) ∷ ((tyRef erased mut (pointee (Object-t.the-row .written))), l₂₃) ∷ ((sliceTy (tyRef erased mut (pointee (Object-t.the-row .written)))), l₂₄) ∷ ((tyRef erased imm (pointee ((Array Object-t.the-row 32) .written))), l₂₅) ∷ ((sliceTy (tyRef erased imm (pointee (Object-t.the-row .written)))), l₂₆) ∷ ((tyRef erased mut (pointee (Object-t.the-row .written))), l₂₇) ∷ ((sliceTy (tyRef erased mut (pointee (Object-t.the-row .written)))), l₂₈) ∷ []
 
-    part-24-0 : (is-3 : Is (u64-p .row) (32 * ((start .frame) .«session_id»)) (u64-p .val (32 * ((start .frame) .«session_id»)) ∷ [])) → (is-5 : Is (Object-p .row) (implicitOf (ObjectNumber-of 0) 0) (Object-p .val (implicitOf (ObjectNumber-of 0) 0) ∷ [])) → (asks-11 : ((32 * ((start .frame) .«session_id»)) + 32 ≤ length (objects)) × (32 ≤ length ((replicate 32 (implicitOf (ObjectNumber-of 0) 0))))) → (v-11-12 : Val) → (ais-11-12 : Is (Array Object-t.the-row 32) (copied same blank (objectSpot (32 * ((start .frame) .«session_id»))) 32 (objects) ((replicate 32 (implicitOf (ObjectNumber-of 0) 0)))) (v-11-12 ∷ [])) → (is-11 : Is (unit-p .row) tt (unit-p .val tt ∷ [])) → (asks-18 : (resumesFit (start .resumes) (length (sample)) ≡ true) × (256 ≤ length (sessions)) × (2048 ≤ length (streams))) → (len-18-sessions : length sessions ≡ n₁) → (len-18-streams : length streams ≡ n₂) → (len-18-objects : length (performed start (lent (sessions) (streams) (objects)) (d) (sample) .tables .objects) ≡ n₃) → (is-18 : Is (u64-p .row) (performed start (lent (sessions) (streams) (objects)) (d) (sample) .ran .wrote) (u64-p .val (performed start (lent (sessions) (streams) (objects)) (d) (sample) .ran .wrote) ∷ [])) → (asks-23 : (32 ≤ length ((copied same blank (objectSpot (32 * ((start .frame) .«session_id»))) 32 (objects) ((replicate 32 (implicitOf (ObjectNumber-of 0) 0)))))) × ((32 * ((start .frame) .«session_id»)) + 32 ≤ length ((performed start (lent (sessions) (streams) (objects)) (d) (sample) .tables .objects)))) → (v-23-12 : Val) → (vis-23-12 : Is (Array Object-t.the-row 32) (copied same blank (objectSpot (32 * ((start .frame) .«session_id»))) 32 (objects) ((replicate 32 (implicitOf (ObjectNumber-of 0) 0)))) (v-23-12 ∷ [])) → (len-23-objects : length (restored same blank (objectSpot (32 * ((start .frame) .«session_id»))) 32 ((copied same blank (objectSpot (32 * ((start .frame) .«session_id»))) 32 (objects) ((replicate 32 (implicitOf (ObjectNumber-of 0) 0))))) ((performed start (lent (sessions) (streams) (objects)) (d) (sample) .tables .objects))) ≡ n₃) → (is-23 : Is (unit-p .row) tt (unit-p .val tt ∷ [])) → Sq W (‵ (MutSlice (named 0) κ₁ (Array u64 5) .own (at-list b₁ o₁ γ₁ sessions) (sliceVal (b₁, o₁) n₁ ∷ [])) ∷ ‵ (flft κ₁ q₁) ∷ ‵ (MutSlice (named 0) κ₂ (Array u16 35) .own (at-list b₂ o₂ γ₂ streams) (sliceVal (b₂, o₂) n₂ ∷ [])) ∷ ‵ (flft κ₂ q₂) ∷ ‵ (MutSlice (named 0) κ₃ Object-t.the-row .own (at-list b₃ o₃ γ₃ (restored same blank (objectSpot (32 * ((start .frame) .«session_id»))) 32 ((copied same blank (objectSpot (32 * ((start .frame) .«session_id»))) 32 (objects) ((replicate 32 (implicitOf (ObjectNumber-of 0) 0))))) ((performed start (lent (sessions) (streams) (objects)) (d) (sample) .tables .objects)))) (sliceVal (b₃, o₃) n₃ ∷ [])) ∷ ‵ (flft κ₃ q₃) ∷ ‵ (ShrSlice (named 0) κ₄ u8 .own (at-list b₄ o₄ γ₄ d) (sliceVal (b₄, o₄) n₄ ∷ [])) ∷ ‵ (flft κ₄ q₄) ∷ ‵ (ShrSlice (named 0) κ₅ u8 .own (at-list b₅ o₅ γ₅ sample) (sliceVal (b₅, o₅) n₅ ∷ [])) ∷ ‵ (flft κ₅ q₅) ∷ full 𝓤 (sliceTy (tyRef erased mut (pointee (Object-t.the-row .written)))) l₂₈ (sliceVal (b₃, o₃) n₃) (full 𝓤 (tyRef erased mut (pointee (Object-t.the-row .written))) l₂₇ (vptr b₃ o₃) (full 𝓤 (sliceTy (tyRef erased imm (pointee (Object-t.the-row .written)))) l₂₆ (sliceVal (l₁₂, 0) 32) (full 𝓤 (tyRef erased imm (pointee ((Array Object-t.the-row 32) .written))) l₂₅ (vptr l₁₂ 0) (full 𝓤 (sliceTy (tyRef erased mut (pointee (Object-t.the-row .written)))) l₂₄ (sliceVal (b₃, o₃) n₃) (full 𝓤 (tyRef erased mut (pointee (Object-t.the-row .written))) l₂₃ (vptr b₃ o₃) (full 𝓤 (sliceTy (tyRef erased mut (pointee ((Array u16 35) .written)))) l₂₂ (sliceVal (b₂, o₂) n₂) (full 𝓤 (tyRef erased mut (pointee ((Array u16 35) .written))) l₂₁ (vptr b₂ o₂) (full 𝓤 (sliceTy (tyRef erased mut (pointee ((Array u64 5) .written)))) l₂₀ (sliceVal (b₁, o₁) n₁) (full 𝓤 (tyRef erased mut (pointee ((Array u64 5) .written))) l₁₉ (vptr b₁ o₁) (full 𝓤 (sliceTy (tyRef erased mut (pointee (Object-t.the-row .written)))) l₁₈ (sliceVal (l₁₂, 0) 32) (full 𝓤 (tyRef erased mut (pointee ((Array Object-t.the-row 32) .written))) l₁₇ (vptr l₁₂ 0) (full 𝓤 (sliceTy (tyRef erased imm (pointee (Object-t.the-row .written)))) l₁₆ (sliceVal (b₃, o₃) n₃) (full 𝓤 (tyRef erased imm (pointee (Object-t.the-row .written))) l₁₅ (vptr b₃ o₃) (full 𝓤 tyUnit l₁₄ (unit-p .val tt) (full 𝓤 (tyInt w64) l₁₃ (u64-p .val (performed start (lent (sessions) (streams) (objects)) (d) (sample) .ran .wrote)) (full 𝓤 (tyArray Object-l.mir 32) l₁₂ v-23-12 (full 𝓤 Object-l.mir l₁₁ (Object-p .val (implicitOf (ObjectNumber-of 0) 0)) (full 𝓤 ObjectNumber-l.mir l₁₀ (ObjectNumber-p .val (ObjectNumber-of 0)) (full 𝓤 (tyInt w64) l₉ (u64-p .val (32 * ((start .frame) .«session_id»))) (full 𝓤 (tyInt w8) l₈ (u8-p .val ((start .frame) .«session_id»)) (full 𝓤 Frame-l.mir l₇ (Frame-p .val (start .frame)) (full 𝓤 Start-l.mir l₆ (Start-p .val start) (full 𝓤 (sliceTy (tyRef (named 4) imm (pointee (u8 .written)))) l₅ (sliceVal (b₅, o₅) n₅) (full 𝓤 (sliceTy (tyRef (named 3) imm (pointee (u8 .written)))) l₄ (sliceVal (b₄, o₄) n₄) (full 𝓤 (sliceTy (tyRef (named 2) mut (pointee (Object-t.the-row .written)))) l₃ (sliceVal (b₃, o₃) n₃) (full 𝓤 (sliceTy (tyRef (named 1) mut (pointee ((Array u16 35) .written)))) l₂ (sliceVal (b₂, o₂) n₂) (full 𝓤 (sliceTy (tyRef (named 0) mut (pointee ((Array u64 5) .written)))) l₁ (sliceVal (b₁, o₁) n₁) (free 𝓤 (tyInt w64) l₀ ([])))))))))))))))))))))))))))))) (runs C Λ En mir.t-24 (atRet En Post))
+    part-24-0 : (is-3 : Is (u64-p .row) (32 * ((start .frame) .«session_id»)) (u64-p .val (32 * ((start .frame) .«session_id»)) ∷ [])) → (is-5 : Is (Object-p .row) (implicitOf (ObjectNumber-of 0) 0 0) (Object-p .val (implicitOf (ObjectNumber-of 0) 0 0) ∷ [])) → (asks-11 : ((32 * ((start .frame) .«session_id»)) + 32 ≤ length (objects)) × (32 ≤ length ((replicate 32 (implicitOf (ObjectNumber-of 0) 0 0))))) → (v-11-12 : Val) → (ais-11-12 : Is (Array Object-t.the-row 32) (copied same blank (objectSpot (32 * ((start .frame) .«session_id»))) 32 (objects) ((replicate 32 (implicitOf (ObjectNumber-of 0) 0 0)))) (v-11-12 ∷ [])) → (is-11 : Is (unit-p .row) tt (unit-p .val tt ∷ [])) → (asks-18 : (resumesFit (start .resumes) (length (sample)) ≡ true) × (256 ≤ length (sessions)) × (2048 ≤ length (streams))) → (len-18-sessions : length sessions ≡ n₁) → (len-18-streams : length streams ≡ n₂) → (len-18-objects : length (performed start (lent (sessions) (streams) (objects)) (d) (sample) .tables .objects) ≡ n₃) → (is-18 : Is (u64-p .row) (performed start (lent (sessions) (streams) (objects)) (d) (sample) .ran .wrote) (u64-p .val (performed start (lent (sessions) (streams) (objects)) (d) (sample) .ran .wrote) ∷ [])) → (asks-23 : (32 ≤ length ((copied same blank (objectSpot (32 * ((start .frame) .«session_id»))) 32 (objects) ((replicate 32 (implicitOf (ObjectNumber-of 0) 0 0)))))) × ((32 * ((start .frame) .«session_id»)) + 32 ≤ length ((performed start (lent (sessions) (streams) (objects)) (d) (sample) .tables .objects)))) → (v-23-12 : Val) → (vis-23-12 : Is (Array Object-t.the-row 32) (copied same blank (objectSpot (32 * ((start .frame) .«session_id»))) 32 (objects) ((replicate 32 (implicitOf (ObjectNumber-of 0) 0 0)))) (v-23-12 ∷ [])) → (len-23-objects : length (restored same blank (objectSpot (32 * ((start .frame) .«session_id»))) 32 ((copied same blank (objectSpot (32 * ((start .frame) .«session_id»))) 32 (objects) ((replicate 32 (implicitOf (ObjectNumber-of 0) 0 0))))) ((performed start (lent (sessions) (streams) (objects)) (d) (sample) .tables .objects))) ≡ n₃) → (is-23 : Is (unit-p .row) tt (unit-p .val tt ∷ [])) → Sq W (‵ (MutSlice (named 0) κ₁ (Array u64 5) .own (at-list b₁ o₁ γ₁ sessions) (sliceVal (b₁, o₁) n₁ ∷ [])) ∷ ‵ (flft κ₁ q₁) ∷ ‵ (MutSlice (named 0) κ₂ (Array u16 35) .own (at-list b₂ o₂ γ₂ streams) (sliceVal (b₂, o₂) n₂ ∷ [])) ∷ ‵ (flft κ₂ q₂) ∷ ‵ (MutSlice (named 0) κ₃ Object-t.the-row .own (at-list b₃ o₃ γ₃ (restored same blank (objectSpot (32 * ((start .frame) .«session_id»))) 32 ((copied same blank (objectSpot (32 * ((start .frame) .«session_id»))) 32 (objects) ((replicate 32 (implicitOf (ObjectNumber-of 0) 0 0))))) ((performed start (lent (sessions) (streams) (objects)) (d) (sample) .tables .objects)))) (sliceVal (b₃, o₃) n₃ ∷ [])) ∷ ‵ (flft κ₃ q₃) ∷ ‵ (ShrSlice (named 0) κ₄ u8 .own (at-list b₄ o₄ γ₄ d) (sliceVal (b₄, o₄) n₄ ∷ [])) ∷ ‵ (flft κ₄ q₄) ∷ ‵ (ShrSlice (named 0) κ₅ u8 .own (at-list b₅ o₅ γ₅ sample) (sliceVal (b₅, o₅) n₅ ∷ [])) ∷ ‵ (flft κ₅ q₅) ∷ full 𝓤 (sliceTy (tyRef erased mut (pointee (Object-t.the-row .written)))) l₂₈ (sliceVal (b₃, o₃) n₃) (full 𝓤 (tyRef erased mut (pointee (Object-t.the-row .written))) l₂₇ (vptr b₃ o₃) (full 𝓤 (sliceTy (tyRef erased imm (pointee (Object-t.the-row .written)))) l₂₆ (sliceVal (l₁₂, 0) 32) (full 𝓤 (tyRef erased imm (pointee ((Array Object-t.the-row 32) .written))) l₂₅ (vptr l₁₂ 0) (full 𝓤 (sliceTy (tyRef erased mut (pointee (Object-t.the-row .written)))) l₂₄ (sliceVal (b₃, o₃) n₃) (full 𝓤 (tyRef erased mut (pointee (Object-t.the-row .written))) l₂₃ (vptr b₃ o₃) (full 𝓤 (sliceTy (tyRef erased mut (pointee ((Array u16 35) .written)))) l₂₂ (sliceVal (b₂, o₂) n₂) (full 𝓤 (tyRef erased mut (pointee ((Array u16 35) .written))) l₂₁ (vptr b₂ o₂) (full 𝓤 (sliceTy (tyRef erased mut (pointee ((Array u64 5) .written)))) l₂₀ (sliceVal (b₁, o₁) n₁) (full 𝓤 (tyRef erased mut (pointee ((Array u64 5) .written))) l₁₉ (vptr b₁ o₁) (full 𝓤 (sliceTy (tyRef erased mut (pointee (Object-t.the-row .written)))) l₁₈ (sliceVal (l₁₂, 0) 32) (full 𝓤 (tyRef erased mut (pointee ((Array Object-t.the-row 32) .written))) l₁₇ (vptr l₁₂ 0) (full 𝓤 (sliceTy (tyRef erased imm (pointee (Object-t.the-row .written)))) l₁₆ (sliceVal (b₃, o₃) n₃) (full 𝓤 (tyRef erased imm (pointee (Object-t.the-row .written))) l₁₅ (vptr b₃ o₃) (full 𝓤 tyUnit l₁₄ (unit-p .val tt) (full 𝓤 (tyInt w64) l₁₃ (u64-p .val (performed start (lent (sessions) (streams) (objects)) (d) (sample) .ran .wrote)) (full 𝓤 (tyArray Object-l.mir 32) l₁₂ v-23-12 (full 𝓤 Object-l.mir l₁₁ (Object-p .val (implicitOf (ObjectNumber-of 0) 0 0)) (full 𝓤 ObjectNumber-l.mir l₁₀ (ObjectNumber-p .val (ObjectNumber-of 0)) (full 𝓤 (tyInt w64) l₉ (u64-p .val (32 * ((start .frame) .«session_id»))) (full 𝓤 (tyInt w8) l₈ (u8-p .val ((start .frame) .«session_id»)) (full 𝓤 Frame-l.mir l₇ (Frame-p .val (start .frame)) (full 𝓤 Start-l.mir l₆ (Start-p .val start) (full 𝓤 (sliceTy (tyRef (named 4) imm (pointee (u8 .written)))) l₅ (sliceVal (b₅, o₅) n₅) (full 𝓤 (sliceTy (tyRef (named 3) imm (pointee (u8 .written)))) l₄ (sliceVal (b₄, o₄) n₄) (full 𝓤 (sliceTy (tyRef (named 2) mut (pointee (Object-t.the-row .written)))) l₃ (sliceVal (b₃, o₃) n₃) (full 𝓤 (sliceTy (tyRef (named 1) mut (pointee ((Array u16 35) .written)))) l₂ (sliceVal (b₂, o₂) n₂) (full 𝓤 (sliceTy (tyRef (named 0) mut (pointee ((Array u64 5) .written)))) l₁ (sliceVal (b₁, o₁) n₁) (free 𝓤 (tyInt w64) l₀ ([])))))))))))))))))))))))))))))) (runs C Λ En mir.t-24 (atRet En Post))
     part-24-0 is-3 is-5 asks-11 v-11-12 ais-11-12 is-11 asks-18 len-18-sessions len-18-streams len-18-objects is-18 asks-23 v-23-12 vis-23-12 len-23-objects is-23 =
         assigns ! (of-opd ! (load ! (from ! (stop !)) (look ! 40 refl))) (from ! (stop !)) (init ! 66 refl (u64-p .typed 𝓤 H A W (performed start (lent (sessions) (streams) (objects)) (d) (sample) .ran .wrote) is-18)) $
         returns ! (look ! 66 refl) $ forget ! 10 refl $ forget ! 12 refl $ forget ! 14 refl $ forget ! 16 refl $ forget ! 18 refl $ forget ! 20 refl $ forget ! 22 refl $ forget ! 24 refl $ forget ! 26 refl $ forget ! 28 refl $ forget ! 30 refl $ forget ! 32 refl $ forget ! 34 refl $ forget ! 36 refl $ forget ! 38 refl $ forget ! 40 refl $ forget ! 42 refl $ forget ! 44 refl $ forget ! 46 refl $ forget ! 48 refl $ forget ! 50 refl $ forget ! 52 refl $ forget ! 54 refl $ forget ! 56 refl $ forget ! 58 refl $ forget ! 60 refl $ forget ! 62 refl $ forget ! 64 refl $ forget ! 66 refl $ move ! (66 ∷ 67 ∷ []) $ free1 ! $ move ! (64 ∷ 65 ∷ []) $ free1 ! $ move ! (62 ∷ 63 ∷ []) $ free1 ! $ move ! (60 ∷ 61 ∷ []) $ free1 ! $ move ! (58 ∷ 59 ∷ []) $ free1 ! $ move ! (56 ∷ 57 ∷ []) $ free1 ! $ move ! (54 ∷ 55 ∷ []) $ free1 ! $ move ! (52 ∷ 53 ∷ []) $ free1 ! $ move ! (50 ∷ 51 ∷ []) $ free1 ! $ move ! (48 ∷ 49 ∷ []) $ free1 ! $ move ! (46 ∷ 47 ∷ []) $ free1 ! $ move ! (44 ∷ 45 ∷ []) $ free1 ! $ move ! (42 ∷ 43 ∷ []) $ free1 ! $ move ! (40 ∷ 41 ∷ []) $ free1 ! $ move ! (38 ∷ 39 ∷ []) $ free1 ! $ move ! (36 ∷ 37 ∷ []) $ free1 ! $ move ! (34 ∷ 35 ∷ []) $ free1 ! $ move ! (32 ∷ 33 ∷ []) $ free1 ! $ move ! (30 ∷ 31 ∷ []) $ free1 ! $ move ! (28 ∷ 29 ∷ []) $ free1 ! $ move ! (26 ∷ 27 ∷ []) $ free1 ! $ move ! (24 ∷ 25 ∷ []) $ free1 ! $ move ! (22 ∷ 23 ∷ []) $ free1 ! $ move ! (20 ∷ 21 ∷ []) $ free1 ! $ move ! (18 ∷ 19 ∷ []) $ free1 ! $ move ! (16 ∷ 17 ∷ []) $ free1 ! $ move ! (14 ∷ 15 ∷ []) $ free1 ! $ move ! (12 ∷ 13 ∷ []) $ free1 ! $ move ! (10 ∷ 11 ∷ []) $ free1 ! $ free0 ! $
-        by ! (exits (performed start (lent (sessions) (streams) (objects)) (d) (sample) .ran .wrote) sessions streams (restored same blank (objectSpot (32 * ((start .frame) .«session_id»))) 32 ((copied same blank (objectSpot (32 * ((start .frame) .«session_id»))) 32 (objects) ((replicate 32 (implicitOf (ObjectNumber-of 0) 0))))) ((performed start (lent (sessions) (streams) (objects)) (d) (sample) .tables .objects))) ((refl, refl, refl, objects-back start id-low next-low (lent sessions streams objects) d sample)) is-18 len-18-sessions len-18-streams len-23-objects)
+        by ! (exits (performed start (lent (sessions) (streams) (objects)) (d) (sample) .ran .wrote) sessions streams (restored same blank (objectSpot (32 * ((start .frame) .«session_id»))) 32 ((copied same blank (objectSpot (32 * ((start .frame) .«session_id»))) 32 (objects) ((replicate 32 (implicitOf (ObjectNumber-of 0) 0 0))))) ((performed start (lent (sessions) (streams) (objects)) (d) (sample) .tables .objects))) ((refl, refl, refl, objects-back start id-low next-low (lent sessions streams objects) d sample)) is-18 len-18-sessions len-18-streams len-23-objects)
 
-    part-19-0 : (is-3 : Is (u64-p .row) (32 * ((start .frame) .«session_id»)) (u64-p .val (32 * ((start .frame) .«session_id»)) ∷ [])) → (is-5 : Is (Object-p .row) (implicitOf (ObjectNumber-of 0) 0) (Object-p .val (implicitOf (ObjectNumber-of 0) 0) ∷ [])) → (asks-11 : ((32 * ((start .frame) .«session_id»)) + 32 ≤ length (objects)) × (32 ≤ length ((replicate 32 (implicitOf (ObjectNumber-of 0) 0))))) → (v-11-12 : Val) → (ais-11-12 : Is (Array Object-t.the-row 32) (copied same blank (objectSpot (32 * ((start .frame) .«session_id»))) 32 (objects) ((replicate 32 (implicitOf (ObjectNumber-of 0) 0)))) (v-11-12 ∷ [])) → (is-11 : Is (unit-p .row) tt (unit-p .val tt ∷ [])) → (asks-18 : (resumesFit (start .resumes) (length (sample)) ≡ true) × (256 ≤ length (sessions)) × (2048 ≤ length (streams))) → (len-18-sessions : length sessions ≡ n₁) → (len-18-streams : length streams ≡ n₂) → (len-18-objects : length (performed start (lent (sessions) (streams) (objects)) (d) (sample) .tables .objects) ≡ n₃) → (is-18 : Is (u64-p .row) (performed start (lent (sessions) (streams) (objects)) (d) (sample) .ran .wrote) (u64-p .val (performed start (lent (sessions) (streams) (objects)) (d) (sample) .ran .wrote) ∷ [])) → Sq W (‵ (MutSlice (named 0) κ₁ (Array u64 5) .own (at-list b₁ o₁ γ₁ sessions) (sliceVal (b₁, o₁) n₁ ∷ [])) ∷ ‵ (flft κ₁ q₁) ∷ ‵ (MutSlice (named 0) κ₂ (Array u16 35) .own (at-list b₂ o₂ γ₂ streams) (sliceVal (b₂, o₂) n₂ ∷ [])) ∷ ‵ (flft κ₂ q₂) ∷ ‵ (MutSlice (named 0) κ₃ Object-t.the-row .own (at-list b₃ o₃ γ₃ (performed start (lent (sessions) (streams) (objects)) (d) (sample) .tables .objects)) (sliceVal (b₃, o₃) n₃ ∷ [])) ∷ ‵ (flft κ₃ q₃) ∷ ‵ (ShrSlice (named 0) κ₄ u8 .own (at-list b₄ o₄ γ₄ d) (sliceVal (b₄, o₄) n₄ ∷ [])) ∷ ‵ (flft κ₄ q₄) ∷ ‵ (ShrSlice (named 0) κ₅ u8 .own (at-list b₅ o₅ γ₅ sample) (sliceVal (b₅, o₅) n₅ ∷ [])) ∷ ‵ (flft κ₅ q₅) ∷ free 𝓤 (sliceTy (tyRef erased mut (pointee (Object-t.the-row .written)))) l₂₈ (free 𝓤 (tyRef erased mut (pointee (Object-t.the-row .written))) l₂₇ (free 𝓤 (sliceTy (tyRef erased imm (pointee (Object-t.the-row .written)))) l₂₆ (free 𝓤 (tyRef erased imm (pointee ((Array Object-t.the-row 32) .written))) l₂₅ (full 𝓤 (sliceTy (tyRef erased mut (pointee (Object-t.the-row .written)))) l₂₄ (sliceVal (b₃, o₃) n₃) (full 𝓤 (tyRef erased mut (pointee (Object-t.the-row .written))) l₂₃ (vptr b₃ o₃) (full 𝓤 (sliceTy (tyRef erased mut (pointee ((Array u16 35) .written)))) l₂₂ (sliceVal (b₂, o₂) n₂) (full 𝓤 (tyRef erased mut (pointee ((Array u16 35) .written))) l₂₁ (vptr b₂ o₂) (full 𝓤 (sliceTy (tyRef erased mut (pointee ((Array u64 5) .written)))) l₂₀ (sliceVal (b₁, o₁) n₁) (full 𝓤 (tyRef erased mut (pointee ((Array u64 5) .written))) l₁₉ (vptr b₁ o₁) (full 𝓤 (sliceTy (tyRef erased mut (pointee (Object-t.the-row .written)))) l₁₈ (sliceVal (l₁₂, 0) 32) (full 𝓤 (tyRef erased mut (pointee ((Array Object-t.the-row 32) .written))) l₁₇ (vptr l₁₂ 0) (full 𝓤 (sliceTy (tyRef erased imm (pointee (Object-t.the-row .written)))) l₁₆ (sliceVal (b₃, o₃) n₃) (full 𝓤 (tyRef erased imm (pointee (Object-t.the-row .written))) l₁₅ (vptr b₃ o₃) (full 𝓤 tyUnit l₁₄ (unit-p .val tt) (full 𝓤 (tyInt w64) l₁₃ (u64-p .val (performed start (lent (sessions) (streams) (objects)) (d) (sample) .ran .wrote)) (full 𝓤 (tyArray Object-l.mir 32) l₁₂ v-11-12 (full 𝓤 Object-l.mir l₁₁ (Object-p .val (implicitOf (ObjectNumber-of 0) 0)) (full 𝓤 ObjectNumber-l.mir l₁₀ (ObjectNumber-p .val (ObjectNumber-of 0)) (full 𝓤 (tyInt w64) l₉ (u64-p .val (32 * ((start .frame) .«session_id»))) (full 𝓤 (tyInt w8) l₈ (u8-p .val ((start .frame) .«session_id»)) (full 𝓤 Frame-l.mir l₇ (Frame-p .val (start .frame)) (full 𝓤 Start-l.mir l₆ (Start-p .val start) (full 𝓤 (sliceTy (tyRef (named 4) imm (pointee (u8 .written)))) l₅ (sliceVal (b₅, o₅) n₅) (full 𝓤 (sliceTy (tyRef (named 3) imm (pointee (u8 .written)))) l₄ (sliceVal (b₄, o₄) n₄) (full 𝓤 (sliceTy (tyRef (named 2) mut (pointee (Object-t.the-row .written)))) l₃ (sliceVal (b₃, o₃) n₃) (full 𝓤 (sliceTy (tyRef (named 1) mut (pointee ((Array u16 35) .written)))) l₂ (sliceVal (b₂, o₂) n₂) (full 𝓤 (sliceTy (tyRef (named 0) mut (pointee ((Array u64 5) .written)))) l₁ (sliceVal (b₁, o₁) n₁) (free 𝓤 (tyInt w64) l₀ ([])))))))))))))))))))))))))))))) (runs C Λ En mir.t-19 (atRet En Post))
+    part-19-0 : (is-3 : Is (u64-p .row) (32 * ((start .frame) .«session_id»)) (u64-p .val (32 * ((start .frame) .«session_id»)) ∷ [])) → (is-5 : Is (Object-p .row) (implicitOf (ObjectNumber-of 0) 0 0) (Object-p .val (implicitOf (ObjectNumber-of 0) 0 0) ∷ [])) → (asks-11 : ((32 * ((start .frame) .«session_id»)) + 32 ≤ length (objects)) × (32 ≤ length ((replicate 32 (implicitOf (ObjectNumber-of 0) 0 0))))) → (v-11-12 : Val) → (ais-11-12 : Is (Array Object-t.the-row 32) (copied same blank (objectSpot (32 * ((start .frame) .«session_id»))) 32 (objects) ((replicate 32 (implicitOf (ObjectNumber-of 0) 0 0)))) (v-11-12 ∷ [])) → (is-11 : Is (unit-p .row) tt (unit-p .val tt ∷ [])) → (asks-18 : (resumesFit (start .resumes) (length (sample)) ≡ true) × (256 ≤ length (sessions)) × (2048 ≤ length (streams))) → (len-18-sessions : length sessions ≡ n₁) → (len-18-streams : length streams ≡ n₂) → (len-18-objects : length (performed start (lent (sessions) (streams) (objects)) (d) (sample) .tables .objects) ≡ n₃) → (is-18 : Is (u64-p .row) (performed start (lent (sessions) (streams) (objects)) (d) (sample) .ran .wrote) (u64-p .val (performed start (lent (sessions) (streams) (objects)) (d) (sample) .ran .wrote) ∷ [])) → Sq W (‵ (MutSlice (named 0) κ₁ (Array u64 5) .own (at-list b₁ o₁ γ₁ sessions) (sliceVal (b₁, o₁) n₁ ∷ [])) ∷ ‵ (flft κ₁ q₁) ∷ ‵ (MutSlice (named 0) κ₂ (Array u16 35) .own (at-list b₂ o₂ γ₂ streams) (sliceVal (b₂, o₂) n₂ ∷ [])) ∷ ‵ (flft κ₂ q₂) ∷ ‵ (MutSlice (named 0) κ₃ Object-t.the-row .own (at-list b₃ o₃ γ₃ (performed start (lent (sessions) (streams) (objects)) (d) (sample) .tables .objects)) (sliceVal (b₃, o₃) n₃ ∷ [])) ∷ ‵ (flft κ₃ q₃) ∷ ‵ (ShrSlice (named 0) κ₄ u8 .own (at-list b₄ o₄ γ₄ d) (sliceVal (b₄, o₄) n₄ ∷ [])) ∷ ‵ (flft κ₄ q₄) ∷ ‵ (ShrSlice (named 0) κ₅ u8 .own (at-list b₅ o₅ γ₅ sample) (sliceVal (b₅, o₅) n₅ ∷ [])) ∷ ‵ (flft κ₅ q₅) ∷ free 𝓤 (sliceTy (tyRef erased mut (pointee (Object-t.the-row .written)))) l₂₈ (free 𝓤 (tyRef erased mut (pointee (Object-t.the-row .written))) l₂₇ (free 𝓤 (sliceTy (tyRef erased imm (pointee (Object-t.the-row .written)))) l₂₆ (free 𝓤 (tyRef erased imm (pointee ((Array Object-t.the-row 32) .written))) l₂₅ (full 𝓤 (sliceTy (tyRef erased mut (pointee (Object-t.the-row .written)))) l₂₄ (sliceVal (b₃, o₃) n₃) (full 𝓤 (tyRef erased mut (pointee (Object-t.the-row .written))) l₂₃ (vptr b₃ o₃) (full 𝓤 (sliceTy (tyRef erased mut (pointee ((Array u16 35) .written)))) l₂₂ (sliceVal (b₂, o₂) n₂) (full 𝓤 (tyRef erased mut (pointee ((Array u16 35) .written))) l₂₁ (vptr b₂ o₂) (full 𝓤 (sliceTy (tyRef erased mut (pointee ((Array u64 5) .written)))) l₂₀ (sliceVal (b₁, o₁) n₁) (full 𝓤 (tyRef erased mut (pointee ((Array u64 5) .written))) l₁₉ (vptr b₁ o₁) (full 𝓤 (sliceTy (tyRef erased mut (pointee (Object-t.the-row .written)))) l₁₈ (sliceVal (l₁₂, 0) 32) (full 𝓤 (tyRef erased mut (pointee ((Array Object-t.the-row 32) .written))) l₁₇ (vptr l₁₂ 0) (full 𝓤 (sliceTy (tyRef erased imm (pointee (Object-t.the-row .written)))) l₁₆ (sliceVal (b₃, o₃) n₃) (full 𝓤 (tyRef erased imm (pointee (Object-t.the-row .written))) l₁₅ (vptr b₃ o₃) (full 𝓤 tyUnit l₁₄ (unit-p .val tt) (full 𝓤 (tyInt w64) l₁₃ (u64-p .val (performed start (lent (sessions) (streams) (objects)) (d) (sample) .ran .wrote)) (full 𝓤 (tyArray Object-l.mir 32) l₁₂ v-11-12 (full 𝓤 Object-l.mir l₁₁ (Object-p .val (implicitOf (ObjectNumber-of 0) 0 0)) (full 𝓤 ObjectNumber-l.mir l₁₀ (ObjectNumber-p .val (ObjectNumber-of 0)) (full 𝓤 (tyInt w64) l₉ (u64-p .val (32 * ((start .frame) .«session_id»))) (full 𝓤 (tyInt w8) l₈ (u8-p .val ((start .frame) .«session_id»)) (full 𝓤 Frame-l.mir l₇ (Frame-p .val (start .frame)) (full 𝓤 Start-l.mir l₆ (Start-p .val start) (full 𝓤 (sliceTy (tyRef (named 4) imm (pointee (u8 .written)))) l₅ (sliceVal (b₅, o₅) n₅) (full 𝓤 (sliceTy (tyRef (named 3) imm (pointee (u8 .written)))) l₄ (sliceVal (b₄, o₄) n₄) (full 𝓤 (sliceTy (tyRef (named 2) mut (pointee (Object-t.the-row .written)))) l₃ (sliceVal (b₃, o₃) n₃) (full 𝓤 (sliceTy (tyRef (named 1) mut (pointee ((Array u16 35) .written)))) l₂ (sliceVal (b₂, o₂) n₂) (full 𝓤 (sliceTy (tyRef (named 0) mut (pointee ((Array u64 5) .written)))) l₁ (sliceVal (b₁, o₁) n₁) (free 𝓤 (tyInt w64) l₀ ([])))))))))))))))))))))))))))))) (runs C Λ En mir.t-19 (atRet En Post))
     part-19-0 is-3 is-5 asks-11 v-11-12 ais-11-12 is-11 asks-18 len-18-sessions len-18-streams len-18-objects is-18 =
         assigns ! (addr ! (from ! (stop !))) (from ! (stop !)) (init ! 16 refl (tt, tt)) $
         assigns ! (agg ! (and-then ! (load ! (from ! (stop !)) (look ! 16 refl)) (and-then ! (lit ! tt) (no-more !)))) (from ! (stop !)) (init ! 14 refl (tt, (tt, (record { fits = lit< tt }, tt)))) $
         assigns ! (addr ! (from ! (fld ! refl (hop ! (look-in ! 60 (sub ! 0 refl (whole !))) (stop !))))) (from ! (stop !)) (init ! 12 refl (tt, tt)) $
         assigns ! (agg ! (and-then ! (load ! (from ! (stop !)) (look ! 12 refl)) (and-then ! (load ! (from ! (fld ! refl (stop !))) (look-in ! 60 (sub ! 1 refl (whole !)))) (no-more !)))) (from ! (stop !)) (init ! 10 refl (tt, (tt, (record { fits = room₃ .0 }, tt)))) $
-        knows ! ((32 ≤ length ((copied same blank (objectSpot (32 * ((start .frame) .«session_id»))) 32 (objects) ((replicate 32 (implicitOf (ObjectNumber-of 0) 0)))))) × ((32 * ((start .frame) .«session_id»)) + 32 ≤ length ((performed start (lent (sessions) (streams) (objects)) (d) (sample) .tables .objects)))) ((copied-long same blank (objectSpot (32 * start .frame .«session_id»)) objects 32 blank, objects-long start id-low next-low (lent sessions streams objects) d sample (within .3))) (λ asks-23.
+        knows ! ((32 ≤ length ((copied same blank (objectSpot (32 * ((start .frame) .«session_id»))) 32 (objects) ((replicate 32 (implicitOf (ObjectNumber-of 0) 0 0)))))) × ((32 * ((start .frame) .«session_id»)) + 32 ≤ length ((performed start (lent (sessions) (streams) (objects)) (d) (sample) .tables .objects)))) ((copied-long same blank (objectSpot (32 * start .frame .«session_id»)) objects 32 blank, objects-long start id-low next-low (lent sessions streams objects) d sample (within .3))) (λ asks-23.
         -- 23: agent::dry::restore_objects
         move ! (42 ∷ []) $
-        lends-array ! tt Object-t.the-row tt (Object-p .makes 𝓤 H A W) (Object-p .ty) 32 refl l₁₂ (copied same blank (objectSpot (32 * ((start .frame) .«session_id»))) 32 (objects) ((replicate 32 (implicitOf (ObjectNumber-of 0) 0)))) _ ais-11-12 (lit< tt, lit< tt) (λ ν-23-12 δ-23-12 llen-23-12.
+        lends-array ! tt Object-t.the-row tt (Object-p .makes 𝓤 H A W) (Object-p .ty) 32 refl l₁₂ (copied same blank (objectSpot (32 * ((start .frame) .«session_id»))) 32 (objects) ((replicate 32 (implicitOf (ObjectNumber-of 0) 0 0)))) _ ais-11-12 (lit< tt, lit< tt) (λ ν-23-12 δ-23-12 llen-23-12.
         move ! (1 ∷ 0 ∷ []) $
-        lends-view ! tt Object-t.the-row l₁₂ 0 (copied same blank (objectSpot (32 * ((start .frame) .«session_id»))) 32 (objects) ((replicate 32 (implicitOf (ObjectNumber-of 0) 0)))) 32 llen-23-12 (λ ν2-23-12 δ2-23-12.
+        lends-view ! tt Object-t.the-row l₁₂ 0 (copied same blank (objectSpot (32 * ((start .frame) .«session_id»))) 32 (objects) ((replicate 32 (implicitOf (ObjectNumber-of 0) 0 0)))) 32 llen-23-12 (λ ν2-23-12 δ2-23-12.
         move ! (8 ∷ 9 ∷ []) $
         lends-mut ! tt Object-t.the-row b₃ o₃ (performed start (lent (sessions) (streams) (objects)) (d) (sample) .tables .objects) n₃ (len-18-objects) (λ ν-23-objects δ-23-objects.
         nothing ! $ move ! (1 ∷ 0 ∷ []) $ join ! $ move ! (3 ∷ 0 ∷ []) $ join ! $
         use1 W (raw (toks 𝓤 A 2 (((ν2-23-12 ∷ []), ((ν-23-objects ∷ []), tt))) ((fullShare, (fullShare, tt))))) (id⊢ 𝓤 _) $ nothing ! $
         owned ! (u64-p .row) (Is (u64-p .row)) (u64-p .makes 𝓤 H A W) 32 (u64-p .val 32 ∷ []) ((refl, lit< tt)) $ fjoin ! $
         owned ! (u64-p .row) (Is (u64-p .row)) (u64-p .makes 𝓤 H A W) (32 * ((start .frame) .«session_id»)) (u64-p .val (32 * ((start .frame) .«session_id»)) ∷ []) is-3 $ fjoin ! $ move ! (2 ∷ 0 ∷ []) $ fjoin ! $ move ! (3 ∷ 0 ∷ []) $ fjoin ! $ move ! (1 ∷ 0 ∷ []) $
-        calls-any ! fm 2 [] (dry-restore-objects.signature .params) (dry-restore-objects.ended .kept) unit-p (dry-restore-objects.clauses 𝓤 H A mem run) known-dry-restore-objects ((ν2-23-12 ∷ []), ((ν-23-objects ∷ []), tt)) (fullShare, (fullShare, tt)) tt (at-list l₁₂ 0 δ2-23-12 (copied same blank (objectSpot (32 * ((start .frame) .«session_id»))) 32 (objects) ((replicate 32 (implicitOf (ObjectNumber-of 0) 0)))), (at-list b₃ o₃ δ-23-objects (performed start (lent (sessions) (streams) (objects)) (d) (sample) .tables .objects), (32 * ((start .frame) .«session_id»), (32, tt)))) (sliceVal (l₁₂, 0) 32 ∷ [], (sliceVal (b₃, o₃) n₃ ∷ [], (u64-p .val (32 * ((start .frame) .«session_id»)) ∷ [], (u64-p .val 32 ∷ [], tt)))) tt tt (λ ws-23. (ws-23 .1 .0 ≡ restored same blank (objectSpot (32 * ((start .frame) .«session_id»))) 32 ((copied same blank (objectSpot (32 * ((start .frame) .«session_id»))) 32 (objects) ((replicate 32 (implicitOf (ObjectNumber-of 0) 0))))) ((performed start (lent (sessions) (streams) (objects)) (d) (sample) .tables .objects)))) (factI 𝓤 ((32 ≤ length ((copied same blank (objectSpot (32 * ((start .frame) .«session_id»))) 32 (objects) ((replicate 32 (implicitOf (ObjectNumber-of 0) 0)))))) × ((32 * ((start .frame) .«session_id»)) + 32 ≤ length ((performed start (lent (sessions) (streams) (objects)) (d) (sample) .tables .objects)))) _ asks-23) (λ r ws-23. fact-mono 𝓤 ((ws-23 .1 .0) ≡ restored same blank (objectSpot (32 * ((start .frame) .«session_id»))) 32 ((copied same blank (objectSpot (32 * ((start .frame) .«session_id»))) 32 (objects) ((replicate 32 (implicitOf (ObjectNumber-of 0) 0))))) ((performed start (lent (sessions) (streams) (objects)) (d) (sample) .tables .objects))) ((r ≡ tt) × ((ws-23 .1 .0 ≡ restored same blank (objectSpot (32 * ((start .frame) .«session_id»))) 32 ((copied same blank (objectSpot (32 * ((start .frame) .«session_id»))) 32 (objects) ((replicate 32 (implicitOf (ObjectNumber-of 0) 0))))) ((performed start (lent (sessions) (streams) (objects)) (d) (sample) .tables .objects))))) (λ e. (refl, e))) (λ _. (and-then ! (load ! (from ! (stop !)) (look ! 16 refl)) (and-then ! (load ! (from ! (stop !)) (look ! 12 refl)) (and-then ! (load ! (from ! (stop !)) (look ! 49 refl)) (and-then ! (lit ! tt) (no-more !)))))) (λ ws-23 said-23 is-23.
+        calls-any ! fm 2 [] (dry-restore-objects.signature .params) (dry-restore-objects.ended .kept) unit-p (dry-restore-objects.clauses 𝓤 H A mem run) known-dry-restore-objects ((ν2-23-12 ∷ []), ((ν-23-objects ∷ []), tt)) (fullShare, (fullShare, tt)) tt (at-list l₁₂ 0 δ2-23-12 (copied same blank (objectSpot (32 * ((start .frame) .«session_id»))) 32 (objects) ((replicate 32 (implicitOf (ObjectNumber-of 0) 0 0)))), (at-list b₃ o₃ δ-23-objects (performed start (lent (sessions) (streams) (objects)) (d) (sample) .tables .objects), (32 * ((start .frame) .«session_id»), (32, tt)))) (sliceVal (l₁₂, 0) 32 ∷ [], (sliceVal (b₃, o₃) n₃ ∷ [], (u64-p .val (32 * ((start .frame) .«session_id»)) ∷ [], (u64-p .val 32 ∷ [], tt)))) tt tt (λ ws-23. (ws-23 .1 .0 ≡ restored same blank (objectSpot (32 * ((start .frame) .«session_id»))) 32 ((copied same blank (objectSpot (32 * ((start .frame) .«session_id»))) 32 (objects) ((replicate 32 (implicitOf (ObjectNumber-of 0) 0 0))))) ((performed start (lent (sessions) (streams) (objects)) (d) (sample) .tables .objects)))) (factI 𝓤 ((32 ≤ length ((copied same blank (objectSpot (32 * ((start .frame) .«session_id»))) 32 (objects) ((replicate 32 (implicitOf (ObjectNumber-of 0) 0 0)))))) × ((32 * ((start .frame) .«session_id»)) + 32 ≤ length ((performed start (lent (sessions) (streams) (objects)) (d) (sample) .tables .objects)))) _ asks-23) (λ r ws-23. fact-mono 𝓤 ((ws-23 .1 .0) ≡ restored same blank (objectSpot (32 * ((start .frame) .«session_id»))) 32 ((copied same blank (objectSpot (32 * ((start .frame) .«session_id»))) 32 (objects) ((replicate 32 (implicitOf (ObjectNumber-of 0) 0 0))))) ((performed start (lent (sessions) (streams) (objects)) (d) (sample) .tables .objects))) ((r ≡ tt) × ((ws-23 .1 .0 ≡ restored same blank (objectSpot (32 * ((start .frame) .«session_id»))) 32 ((copied same blank (objectSpot (32 * ((start .frame) .«session_id»))) 32 (objects) ((replicate 32 (implicitOf (ObjectNumber-of 0) 0 0))))) ((performed start (lent (sessions) (streams) (objects)) (d) (sample) .tables .objects))))) (λ e. (refl, e))) (λ _. (and-then ! (load ! (from ! (stop !)) (look ! 16 refl)) (and-then ! (load ! (from ! (stop !)) (look ! 12 refl)) (and-then ! (load ! (from ! (stop !)) (look ! 49 refl)) (and-then ! (lit ! tt) (no-more !)))))) (λ ws-23 said-23 is-23.
         use1 W ((‵ (flft (ν2-23-12 ∷ []) fullShare) ⊛ (‵ (flft (ν-23-objects ∷ []) fullShare) ⊛ ‵ ftrue))) (id⊢ 𝓤 _) $ split ! $ move ! (1 ∷ []) $ split ! $ move ! (3 ∷ []) $ fsplit ! $ move ! (1 ∷ []) $ fsplit ! $ fsplit ! $ move ! (1 ∷ []) $
         feqL ! (λ wlen-23-1.
         move ! (5 ∷ 7 ∷ []) $
-        backs-view ! tt Object-t.the-row l₁₂ 0 (copied same blank (objectSpot (32 * ((start .frame) .«session_id»))) 32 (objects) ((replicate 32 (implicitOf (ObjectNumber-of 0) 0)))) 32 llen-23-12 ν2-23-12 $
-        ends-mut ! Object-t.the-row l₁₂ 0 (copied same blank (objectSpot (32 * ((start .frame) .«session_id»))) 32 (objects) ((replicate 32 (implicitOf (ObjectNumber-of 0) 0)))) 32 $ move ! (0 ∷ 8 ∷ 1 ∷ []) $
-        backs-array ! tt Object-t.the-row (Object-p .ty) 32 refl l₁₂ ν-23-12 δ-23-12 (copied same blank (objectSpot (32 * ((start .frame) .«session_id»))) 32 (objects) ((replicate 32 (implicitOf (ObjectNumber-of 0) 0)))) (λ v-23-12 vis-23-12.
+        backs-view ! tt Object-t.the-row l₁₂ 0 (copied same blank (objectSpot (32 * ((start .frame) .«session_id»))) 32 (objects) ((replicate 32 (implicitOf (ObjectNumber-of 0) 0 0)))) 32 llen-23-12 ν2-23-12 $
+        ends-mut ! Object-t.the-row l₁₂ 0 (copied same blank (objectSpot (32 * ((start .frame) .«session_id»))) 32 (objects) ((replicate 32 (implicitOf (ObjectNumber-of 0) 0 0)))) 32 $ move ! (0 ∷ 8 ∷ 1 ∷ []) $
+        backs-array ! tt Object-t.the-row (Object-p .ty) 32 refl l₁₂ ν-23-12 δ-23-12 (copied same blank (objectSpot (32 * ((start .frame) .«session_id»))) 32 (objects) ((replicate 32 (implicitOf (ObjectNumber-of 0) 0 0)))) (λ v-23-12 vis-23-12.
         move ! (4 ∷ 6 ∷ 1 ∷ []) $
-        backs-mut ! tt Object-t.the-row b₃ o₃ (performed start (lent (sessions) (streams) (objects)) (d) (sample) .tables .objects) n₃ (len-18-objects) room₃ ν-23-objects δ-23-objects (ws-23 .1 .0) (restored same blank (objectSpot (32 * ((start .frame) .«session_id»))) 32 ((copied same blank (objectSpot (32 * ((start .frame) .«session_id»))) 32 (objects) ((replicate 32 (implicitOf (ObjectNumber-of 0) 0))))) ((performed start (lent (sessions) (streams) (objects)) (d) (sample) .tables .objects))) wlen-23-1 (said-23) (λ len-23-objects.
+        backs-mut ! tt Object-t.the-row b₃ o₃ (performed start (lent (sessions) (streams) (objects)) (d) (sample) .tables .objects) n₃ (len-18-objects) room₃ ν-23-objects δ-23-objects (ws-23 .1 .0) (restored same blank (objectSpot (32 * ((start .frame) .«session_id»))) 32 ((copied same blank (objectSpot (32 * ((start .frame) .«session_id»))) 32 (objects) ((replicate 32 (implicitOf (ObjectNumber-of 0) 0 0))))) ((performed start (lent (sessions) (streams) (objects)) (d) (sample) .tables .objects))) wlen-23-1 (said-23) (λ len-23-objects.
         move ! (3 ∷ []) $ drop ! $ move ! (3 ∷ []) $ drop ! $ move ! (3 ∷ []) $ drop ! $
         land ! (from ! (stop !)) (store ! 39 refl (unit-p .typed 𝓤 H A W tt is-23)) $ move ! (3 ∷ 4 ∷ 5 ∷ 6 ∷ 0 ∷ 1 ∷ 7 ∷ 8 ∷ 9 ∷ 10 ∷ 11 ∷ 12 ∷ 13 ∷ 14 ∷ 15 ∷ 16 ∷ 17 ∷ 18 ∷ 19 ∷ 20 ∷ 21 ∷ 22 ∷ 23 ∷ 24 ∷ 25 ∷ 26 ∷ 27 ∷ 28 ∷ 29 ∷ 30 ∷ 31 ∷ 32 ∷ 33 ∷ 34 ∷ 35 ∷ 36 ∷ 37 ∷ 38 ∷ 39 ∷ 40 ∷ 41 ∷ 42 ∷ 2 ∷ 43 ∷ 44 ∷ 45 ∷ 46 ∷ 47 ∷ 48 ∷ 49 ∷ 50 ∷ 51 ∷ 52 ∷ 53 ∷ 54 ∷ 55 ∷ 56 ∷ 57 ∷ 58 ∷ 59 ∷ 60 ∷ 61 ∷ 62 ∷ 63 ∷ 64 ∷ 65 ∷ 66 ∷ 67 ∷ []) $
         part-24-0 is-3 is-5 asks-11 v-11-12 ais-11-12 is-11 asks-18 len-18-sessions len-18-streams len-18-objects is-18 asks-23 v-23-12 vis-23-12 len-23-objects is-23))))))))
 
-    part-12-0 : (is-3 : Is (u64-p .row) (32 * ((start .frame) .«session_id»)) (u64-p .val (32 * ((start .frame) .«session_id»)) ∷ [])) → (is-5 : Is (Object-p .row) (implicitOf (ObjectNumber-of 0) 0) (Object-p .val (implicitOf (ObjectNumber-of 0) 0) ∷ [])) → (asks-11 : ((32 * ((start .frame) .«session_id»)) + 32 ≤ length (objects)) × (32 ≤ length ((replicate 32 (implicitOf (ObjectNumber-of 0) 0))))) → (v-11-12 : Val) → (ais-11-12 : Is (Array Object-t.the-row 32) (copied same blank (objectSpot (32 * ((start .frame) .«session_id»))) 32 (objects) ((replicate 32 (implicitOf (ObjectNumber-of 0) 0)))) (v-11-12 ∷ [])) → (is-11 : Is (unit-p .row) tt (unit-p .val tt ∷ [])) → Sq W (‵ (MutSlice (named 0) κ₁ (Array u64 5) .own (at-list b₁ o₁ γ₁ sessions) (sliceVal (b₁, o₁) n₁ ∷ [])) ∷ ‵ (flft κ₁ q₁) ∷ ‵ (MutSlice (named 0) κ₂ (Array u16 35) .own (at-list b₂ o₂ γ₂ streams) (sliceVal (b₂, o₂) n₂ ∷ [])) ∷ ‵ (flft κ₂ q₂) ∷ ‵ (MutSlice (named 0) κ₃ Object-t.the-row .own (at-list b₃ o₃ γ₃ objects) (sliceVal (b₃, o₃) n₃ ∷ [])) ∷ ‵ (flft κ₃ q₃) ∷ ‵ (ShrSlice (named 0) κ₄ u8 .own (at-list b₄ o₄ γ₄ d) (sliceVal (b₄, o₄) n₄ ∷ [])) ∷ ‵ (flft κ₄ q₄) ∷ ‵ (ShrSlice (named 0) κ₅ u8 .own (at-list b₅ o₅ γ₅ sample) (sliceVal (b₅, o₅) n₅ ∷ [])) ∷ ‵ (flft κ₅ q₅) ∷ free 𝓤 (sliceTy (tyRef erased mut (pointee (Object-t.the-row .written)))) l₂₈ (free 𝓤 (tyRef erased mut (pointee (Object-t.the-row .written))) l₂₇ (free 𝓤 (sliceTy (tyRef erased imm (pointee (Object-t.the-row .written)))) l₂₆ (free 𝓤 (tyRef erased imm (pointee ((Array Object-t.the-row 32) .written))) l₂₅ (free 𝓤 (sliceTy (tyRef erased mut (pointee (Object-t.the-row .written)))) l₂₄ (free 𝓤 (tyRef erased mut (pointee (Object-t.the-row .written))) l₂₃ (free 𝓤 (sliceTy (tyRef erased mut (pointee ((Array u16 35) .written)))) l₂₂ (free 𝓤 (tyRef erased mut (pointee ((Array u16 35) .written))) l₂₁ (free 𝓤 (sliceTy (tyRef erased mut (pointee ((Array u64 5) .written)))) l₂₀ (free 𝓤 (tyRef erased mut (pointee ((Array u64 5) .written))) l₁₉ (full 𝓤 (sliceTy (tyRef erased mut (pointee (Object-t.the-row .written)))) l₁₈ (sliceVal (l₁₂, 0) 32) (full 𝓤 (tyRef erased mut (pointee ((Array Object-t.the-row 32) .written))) l₁₇ (vptr l₁₂ 0) (full 𝓤 (sliceTy (tyRef erased imm (pointee (Object-t.the-row .written)))) l₁₆ (sliceVal (b₃, o₃) n₃) (full 𝓤 (tyRef erased imm (pointee (Object-t.the-row .written))) l₁₅ (vptr b₃ o₃) (full 𝓤 tyUnit l₁₄ (unit-p .val tt) (free 𝓤 (tyInt w64) l₁₃ (full 𝓤 (tyArray Object-l.mir 32) l₁₂ v-11-12 (full 𝓤 Object-l.mir l₁₁ (Object-p .val (implicitOf (ObjectNumber-of 0) 0)) (full 𝓤 ObjectNumber-l.mir l₁₀ (ObjectNumber-p .val (ObjectNumber-of 0)) (full 𝓤 (tyInt w64) l₉ (u64-p .val (32 * ((start .frame) .«session_id»))) (full 𝓤 (tyInt w8) l₈ (u8-p .val ((start .frame) .«session_id»)) (full 𝓤 Frame-l.mir l₇ (Frame-p .val (start .frame)) (full 𝓤 Start-l.mir l₆ (Start-p .val start) (full 𝓤 (sliceTy (tyRef (named 4) imm (pointee (u8 .written)))) l₅ (sliceVal (b₅, o₅) n₅) (full 𝓤 (sliceTy (tyRef (named 3) imm (pointee (u8 .written)))) l₄ (sliceVal (b₄, o₄) n₄) (full 𝓤 (sliceTy (tyRef (named 2) mut (pointee (Object-t.the-row .written)))) l₃ (sliceVal (b₃, o₃) n₃) (full 𝓤 (sliceTy (tyRef (named 1) mut (pointee ((Array u16 35) .written)))) l₂ (sliceVal (b₂, o₂) n₂) (full 𝓤 (sliceTy (tyRef (named 0) mut (pointee ((Array u64 5) .written)))) l₁ (sliceVal (b₁, o₁) n₁) (free 𝓤 (tyInt w64) l₀ ([])))))))))))))))))))))))))))))) (runs C Λ En mir.t-12 (atRet En Post))
+    part-12-0 : (is-3 : Is (u64-p .row) (32 * ((start .frame) .«session_id»)) (u64-p .val (32 * ((start .frame) .«session_id»)) ∷ [])) → (is-5 : Is (Object-p .row) (implicitOf (ObjectNumber-of 0) 0 0) (Object-p .val (implicitOf (ObjectNumber-of 0) 0 0) ∷ [])) → (asks-11 : ((32 * ((start .frame) .«session_id»)) + 32 ≤ length (objects)) × (32 ≤ length ((replicate 32 (implicitOf (ObjectNumber-of 0) 0 0))))) → (v-11-12 : Val) → (ais-11-12 : Is (Array Object-t.the-row 32) (copied same blank (objectSpot (32 * ((start .frame) .«session_id»))) 32 (objects) ((replicate 32 (implicitOf (ObjectNumber-of 0) 0 0)))) (v-11-12 ∷ [])) → (is-11 : Is (unit-p .row) tt (unit-p .val tt ∷ [])) → Sq W (‵ (MutSlice (named 0) κ₁ (Array u64 5) .own (at-list b₁ o₁ γ₁ sessions) (sliceVal (b₁, o₁) n₁ ∷ [])) ∷ ‵ (flft κ₁ q₁) ∷ ‵ (MutSlice (named 0) κ₂ (Array u16 35) .own (at-list b₂ o₂ γ₂ streams) (sliceVal (b₂, o₂) n₂ ∷ [])) ∷ ‵ (flft κ₂ q₂) ∷ ‵ (MutSlice (named 0) κ₃ Object-t.the-row .own (at-list b₃ o₃ γ₃ objects) (sliceVal (b₃, o₃) n₃ ∷ [])) ∷ ‵ (flft κ₃ q₃) ∷ ‵ (ShrSlice (named 0) κ₄ u8 .own (at-list b₄ o₄ γ₄ d) (sliceVal (b₄, o₄) n₄ ∷ [])) ∷ ‵ (flft κ₄ q₄) ∷ ‵ (ShrSlice (named 0) κ₅ u8 .own (at-list b₅ o₅ γ₅ sample) (sliceVal (b₅, o₅) n₅ ∷ [])) ∷ ‵ (flft κ₅ q₅) ∷ free 𝓤 (sliceTy (tyRef erased mut (pointee (Object-t.the-row .written)))) l₂₈ (free 𝓤 (tyRef erased mut (pointee (Object-t.the-row .written))) l₂₇ (free 𝓤 (sliceTy (tyRef erased imm (pointee (Object-t.the-row .written)))) l₂₆ (free 𝓤 (tyRef erased imm (pointee ((Array Object-t.the-row 32) .written))) l₂₅ (free 𝓤 (sliceTy (tyRef erased mut (pointee (Object-t.the-row .written)))) l₂₄ (free 𝓤 (tyRef erased mut (pointee (Object-t.the-row .written))) l₂₃ (free 𝓤 (sliceTy (tyRef erased mut (pointee ((Array u16 35) .written)))) l₂₂ (free 𝓤 (tyRef erased mut (pointee ((Array u16 35) .written))) l₂₁ (free 𝓤 (sliceTy (tyRef erased mut (pointee ((Array u64 5) .written)))) l₂₀ (free 𝓤 (tyRef erased mut (pointee ((Array u64 5) .written))) l₁₉ (full 𝓤 (sliceTy (tyRef erased mut (pointee (Object-t.the-row .written)))) l₁₈ (sliceVal (l₁₂, 0) 32) (full 𝓤 (tyRef erased mut (pointee ((Array Object-t.the-row 32) .written))) l₁₇ (vptr l₁₂ 0) (full 𝓤 (sliceTy (tyRef erased imm (pointee (Object-t.the-row .written)))) l₁₆ (sliceVal (b₃, o₃) n₃) (full 𝓤 (tyRef erased imm (pointee (Object-t.the-row .written))) l₁₅ (vptr b₃ o₃) (full 𝓤 tyUnit l₁₄ (unit-p .val tt) (free 𝓤 (tyInt w64) l₁₃ (full 𝓤 (tyArray Object-l.mir 32) l₁₂ v-11-12 (full 𝓤 Object-l.mir l₁₁ (Object-p .val (implicitOf (ObjectNumber-of 0) 0 0)) (full 𝓤 ObjectNumber-l.mir l₁₀ (ObjectNumber-p .val (ObjectNumber-of 0)) (full 𝓤 (tyInt w64) l₉ (u64-p .val (32 * ((start .frame) .«session_id»))) (full 𝓤 (tyInt w8) l₈ (u8-p .val ((start .frame) .«session_id»)) (full 𝓤 Frame-l.mir l₇ (Frame-p .val (start .frame)) (full 𝓤 Start-l.mir l₆ (Start-p .val start) (full 𝓤 (sliceTy (tyRef (named 4) imm (pointee (u8 .written)))) l₅ (sliceVal (b₅, o₅) n₅) (full 𝓤 (sliceTy (tyRef (named 3) imm (pointee (u8 .written)))) l₄ (sliceVal (b₄, o₄) n₄) (full 𝓤 (sliceTy (tyRef (named 2) mut (pointee (Object-t.the-row .written)))) l₃ (sliceVal (b₃, o₃) n₃) (full 𝓤 (sliceTy (tyRef (named 1) mut (pointee ((Array u16 35) .written)))) l₂ (sliceVal (b₂, o₂) n₂) (full 𝓤 (sliceTy (tyRef (named 0) mut (pointee ((Array u64 5) .written)))) l₁ (sliceVal (b₁, o₁) n₁) (free 𝓤 (tyInt w64) l₀ ([])))))))))))))))))))))))))))))) (runs C Λ En mir.t-12 (atRet En Post))
     part-12-0 is-3 is-5 asks-11 v-11-12 ais-11-12 is-11 =
         assigns ! (addr ! (from ! (fld ! refl (hop ! (look-in ! 64 (sub ! 0 refl (whole !))) (stop !))))) (from ! (stop !)) (init ! 28 refl (tt, tt)) $
         assigns ! (agg ! (and-then ! (load ! (from ! (stop !)) (look ! 28 refl)) (and-then ! (load ! (from ! (fld ! refl (stop !))) (look-in ! 64 (sub ! 1 refl (whole !)))) (no-more !)))) (from ! (stop !)) (init ! 26 refl (tt, (tt, (record { fits = room₁ .0 }, tt)))) $
@@ -302,30 +302,30 @@ module _ {M : Type 1} (𝓤 : URA M) (H : Heap 𝓤) (A : Atoms 𝓤) (W : Given
         land ! (from ! (stop !)) (init ! 40 refl (u64-p .typed 𝓤 H A W (performed start (lent (sessions) (streams) (objects)) (d) (sample) .ran .wrote) is-18)) $ move ! (4 ∷ 5 ∷ 2 ∷ 3 ∷ 0 ∷ 1 ∷ 9 ∷ 7 ∷ 8 ∷ 6 ∷ 10 ∷ 11 ∷ 12 ∷ 13 ∷ 14 ∷ 15 ∷ 16 ∷ 17 ∷ 18 ∷ 19 ∷ 20 ∷ 21 ∷ 22 ∷ 23 ∷ 24 ∷ 25 ∷ 26 ∷ 27 ∷ 28 ∷ 29 ∷ 30 ∷ 31 ∷ 32 ∷ 33 ∷ 34 ∷ 35 ∷ 36 ∷ 37 ∷ 38 ∷ 39 ∷ 40 ∷ 41 ∷ 42 ∷ 43 ∷ 44 ∷ 45 ∷ 46 ∷ 47 ∷ 48 ∷ 49 ∷ 50 ∷ 51 ∷ 52 ∷ 53 ∷ 54 ∷ 55 ∷ 56 ∷ 57 ∷ 58 ∷ 59 ∷ 60 ∷ 61 ∷ 62 ∷ 63 ∷ 64 ∷ 65 ∷ 66 ∷ 67 ∷ []) $
         part-19-0 is-3 is-5 asks-11 v-11-12 ais-11-12 is-11 asks-18 len-18-sessions len-18-streams len-18-objects is-18)))))))))))
 
-    part-6-0 : (is-3 : Is (u64-p .row) (32 * ((start .frame) .«session_id»)) (u64-p .val (32 * ((start .frame) .«session_id»)) ∷ [])) → (is-5 : Is (Object-p .row) (implicitOf (ObjectNumber-of 0) 0) (Object-p .val (implicitOf (ObjectNumber-of 0) 0) ∷ [])) → Sq W (‵ (MutSlice (named 0) κ₁ (Array u64 5) .own (at-list b₁ o₁ γ₁ sessions) (sliceVal (b₁, o₁) n₁ ∷ [])) ∷ ‵ (flft κ₁ q₁) ∷ ‵ (MutSlice (named 0) κ₂ (Array u16 35) .own (at-list b₂ o₂ γ₂ streams) (sliceVal (b₂, o₂) n₂ ∷ [])) ∷ ‵ (flft κ₂ q₂) ∷ ‵ (MutSlice (named 0) κ₃ Object-t.the-row .own (at-list b₃ o₃ γ₃ objects) (sliceVal (b₃, o₃) n₃ ∷ [])) ∷ ‵ (flft κ₃ q₃) ∷ ‵ (ShrSlice (named 0) κ₄ u8 .own (at-list b₄ o₄ γ₄ d) (sliceVal (b₄, o₄) n₄ ∷ [])) ∷ ‵ (flft κ₄ q₄) ∷ ‵ (ShrSlice (named 0) κ₅ u8 .own (at-list b₅ o₅ γ₅ sample) (sliceVal (b₅, o₅) n₅ ∷ [])) ∷ ‵ (flft κ₅ q₅) ∷ free 𝓤 (sliceTy (tyRef erased mut (pointee (Object-t.the-row .written)))) l₂₈ (free 𝓤 (tyRef erased mut (pointee (Object-t.the-row .written))) l₂₇ (free 𝓤 (sliceTy (tyRef erased imm (pointee (Object-t.the-row .written)))) l₂₆ (free 𝓤 (tyRef erased imm (pointee ((Array Object-t.the-row 32) .written))) l₂₅ (free 𝓤 (sliceTy (tyRef erased mut (pointee (Object-t.the-row .written)))) l₂₄ (free 𝓤 (tyRef erased mut (pointee (Object-t.the-row .written))) l₂₃ (free 𝓤 (sliceTy (tyRef erased mut (pointee ((Array u16 35) .written)))) l₂₂ (free 𝓤 (tyRef erased mut (pointee ((Array u16 35) .written))) l₂₁ (free 𝓤 (sliceTy (tyRef erased mut (pointee ((Array u64 5) .written)))) l₂₀ (free 𝓤 (tyRef erased mut (pointee ((Array u64 5) .written))) l₁₉ (free 𝓤 (sliceTy (tyRef erased mut (pointee (Object-t.the-row .written)))) l₁₈ (free 𝓤 (tyRef erased mut (pointee ((Array Object-t.the-row 32) .written))) l₁₇ (free 𝓤 (sliceTy (tyRef erased imm (pointee (Object-t.the-row .written)))) l₁₆ (free 𝓤 (tyRef erased imm (pointee (Object-t.the-row .written))) l₁₅ (free 𝓤 tyUnit l₁₄ (free 𝓤 (tyInt w64) l₁₃ (free 𝓤 (tyArray Object-l.mir 32) l₁₂ (full 𝓤 Object-l.mir l₁₁ (Object-p .val (implicitOf (ObjectNumber-of 0) 0)) (full 𝓤 ObjectNumber-l.mir l₁₀ (ObjectNumber-p .val (ObjectNumber-of 0)) (full 𝓤 (tyInt w64) l₉ (u64-p .val (32 * ((start .frame) .«session_id»))) (full 𝓤 (tyInt w8) l₈ (u8-p .val ((start .frame) .«session_id»)) (full 𝓤 Frame-l.mir l₇ (Frame-p .val (start .frame)) (full 𝓤 Start-l.mir l₆ (Start-p .val start) (full 𝓤 (sliceTy (tyRef (named 4) imm (pointee (u8 .written)))) l₅ (sliceVal (b₅, o₅) n₅) (full 𝓤 (sliceTy (tyRef (named 3) imm (pointee (u8 .written)))) l₄ (sliceVal (b₄, o₄) n₄) (full 𝓤 (sliceTy (tyRef (named 2) mut (pointee (Object-t.the-row .written)))) l₃ (sliceVal (b₃, o₃) n₃) (full 𝓤 (sliceTy (tyRef (named 1) mut (pointee ((Array u16 35) .written)))) l₂ (sliceVal (b₂, o₂) n₂) (full 𝓤 (sliceTy (tyRef (named 0) mut (pointee ((Array u64 5) .written)))) l₁ (sliceVal (b₁, o₁) n₁) (free 𝓤 (tyInt w64) l₀ ([])))))))))))))))))))))))))))))) (runs C Λ En mir.t-6 (atRet En Post))
+    part-6-0 : (is-3 : Is (u64-p .row) (32 * ((start .frame) .«session_id»)) (u64-p .val (32 * ((start .frame) .«session_id»)) ∷ [])) → (is-5 : Is (Object-p .row) (implicitOf (ObjectNumber-of 0) 0 0) (Object-p .val (implicitOf (ObjectNumber-of 0) 0 0) ∷ [])) → Sq W (‵ (MutSlice (named 0) κ₁ (Array u64 5) .own (at-list b₁ o₁ γ₁ sessions) (sliceVal (b₁, o₁) n₁ ∷ [])) ∷ ‵ (flft κ₁ q₁) ∷ ‵ (MutSlice (named 0) κ₂ (Array u16 35) .own (at-list b₂ o₂ γ₂ streams) (sliceVal (b₂, o₂) n₂ ∷ [])) ∷ ‵ (flft κ₂ q₂) ∷ ‵ (MutSlice (named 0) κ₃ Object-t.the-row .own (at-list b₃ o₃ γ₃ objects) (sliceVal (b₃, o₃) n₃ ∷ [])) ∷ ‵ (flft κ₃ q₃) ∷ ‵ (ShrSlice (named 0) κ₄ u8 .own (at-list b₄ o₄ γ₄ d) (sliceVal (b₄, o₄) n₄ ∷ [])) ∷ ‵ (flft κ₄ q₄) ∷ ‵ (ShrSlice (named 0) κ₅ u8 .own (at-list b₅ o₅ γ₅ sample) (sliceVal (b₅, o₅) n₅ ∷ [])) ∷ ‵ (flft κ₅ q₅) ∷ free 𝓤 (sliceTy (tyRef erased mut (pointee (Object-t.the-row .written)))) l₂₈ (free 𝓤 (tyRef erased mut (pointee (Object-t.the-row .written))) l₂₇ (free 𝓤 (sliceTy (tyRef erased imm (pointee (Object-t.the-row .written)))) l₂₆ (free 𝓤 (tyRef erased imm (pointee ((Array Object-t.the-row 32) .written))) l₂₅ (free 𝓤 (sliceTy (tyRef erased mut (pointee (Object-t.the-row .written)))) l₂₄ (free 𝓤 (tyRef erased mut (pointee (Object-t.the-row .written))) l₂₃ (free 𝓤 (sliceTy (tyRef erased mut (pointee ((Array u16 35) .written)))) l₂₂ (free 𝓤 (tyRef erased mut (pointee ((Array u16 35) .written))) l₂₁ (free 𝓤 (sliceTy (tyRef erased mut (pointee ((Array u64 5) .written)))) l₂₀ (free 𝓤 (tyRef erased mut (pointee ((Array u64 5) .written))) l₁₉ (free 𝓤 (sliceTy (tyRef erased mut (pointee (Object-t.the-row .written)))) l₁₈ (free 𝓤 (tyRef erased mut (pointee ((Array Object-t.the-row 32) .written))) l₁₇ (free 𝓤 (sliceTy (tyRef erased imm (pointee (Object-t.the-row .written)))) l₁₆ (free 𝓤 (tyRef erased imm (pointee (Object-t.the-row .written))) l₁₅ (free 𝓤 tyUnit l₁₄ (free 𝓤 (tyInt w64) l₁₃ (free 𝓤 (tyArray Object-l.mir 32) l₁₂ (full 𝓤 Object-l.mir l₁₁ (Object-p .val (implicitOf (ObjectNumber-of 0) 0 0)) (full 𝓤 ObjectNumber-l.mir l₁₀ (ObjectNumber-p .val (ObjectNumber-of 0)) (full 𝓤 (tyInt w64) l₉ (u64-p .val (32 * ((start .frame) .«session_id»))) (full 𝓤 (tyInt w8) l₈ (u8-p .val ((start .frame) .«session_id»)) (full 𝓤 Frame-l.mir l₇ (Frame-p .val (start .frame)) (full 𝓤 Start-l.mir l₆ (Start-p .val start) (full 𝓤 (sliceTy (tyRef (named 4) imm (pointee (u8 .written)))) l₅ (sliceVal (b₅, o₅) n₅) (full 𝓤 (sliceTy (tyRef (named 3) imm (pointee (u8 .written)))) l₄ (sliceVal (b₄, o₄) n₄) (full 𝓤 (sliceTy (tyRef (named 2) mut (pointee (Object-t.the-row .written)))) l₃ (sliceVal (b₃, o₃) n₃) (full 𝓤 (sliceTy (tyRef (named 1) mut (pointee ((Array u16 35) .written)))) l₂ (sliceVal (b₂, o₂) n₂) (full 𝓤 (sliceTy (tyRef (named 0) mut (pointee ((Array u64 5) .written)))) l₁ (sliceVal (b₁, o₁) n₁) (free 𝓤 (tyInt w64) l₀ ([])))))))))))))))))))))))))))))) (runs C Λ En mir.t-6 (atRet En Post))
     part-6-0 is-3 is-5 =
-        assigns ! (rep ! 32 (load ! (from ! (stop !)) (look ! 44 refl))) (from ! (stop !)) (init ! 42 refl (array-typed Object-t.the-row (λ x vs p. LL.lawful Object-t.the-type Object-l.the-laws 𝓤 H A W .typed x vs p) 32 (replicate 32 (implicitOf (ObjectNumber-of 0) 0)) _ (rep-is Object-t.the-row 32 (implicitOf (ObjectNumber-of 0) 0) (Object-p .val (implicitOf (ObjectNumber-of 0) 0)) is-5) .0)) $
+        assigns ! (rep ! 32 (load ! (from ! (stop !)) (look ! 44 refl))) (from ! (stop !)) (init ! 42 refl (array-typed Object-t.the-row (λ x vs p. LL.lawful Object-t.the-type Object-l.the-laws 𝓤 H A W .typed x vs p) 32 (replicate 32 (implicitOf (ObjectNumber-of 0) 0 0)) _ (rep-is Object-t.the-row 32 (implicitOf (ObjectNumber-of 0) 0 0) (Object-p .val (implicitOf (ObjectNumber-of 0) 0 0)) is-5) .0)) $
         assigns ! (addr ! (from ! (fld ! refl (hop ! (look-in ! 60 (sub ! 0 refl (whole !))) (stop !))))) (from ! (stop !)) (init ! 36 refl (tt, tt)) $
         assigns ! (agg ! (and-then ! (load ! (from ! (stop !)) (look ! 36 refl)) (and-then ! (load ! (from ! (fld ! refl (stop !))) (look-in ! 60 (sub ! 1 refl (whole !)))) (no-more !)))) (from ! (stop !)) (init ! 34 refl (tt, (tt, (record { fits = room₃ .0 }, tt)))) $
         assigns ! (addr ! (from ! (stop !))) (from ! (stop !)) (init ! 32 refl (tt, tt)) $
         assigns ! (agg ! (and-then ! (load ! (from ! (stop !)) (look ! 32 refl)) (and-then ! (lit ! tt) (no-more !)))) (from ! (stop !)) (init ! 30 refl (tt, (tt, (record { fits = lit< tt }, tt)))) $
-        knows ! (((32 * ((start .frame) .«session_id»)) + 32 ≤ length (objects)) × (32 ≤ length ((replicate 32 (implicitOf (ObjectNumber-of 0) 0))))) ((first-fits, copies-long 32 blank)) (λ asks-11.
+        knows ! (((32 * ((start .frame) .«session_id»)) + 32 ≤ length (objects)) × (32 ≤ length ((replicate 32 (implicitOf (ObjectNumber-of 0) 0 0))))) ((first-fits, copies-long 32 blank)) (λ asks-11.
         -- 11: agent::dry::copy_objects
         move ! (4 ∷ 5 ∷ []) $
         lends-view ! tt Object-t.the-row b₃ o₃ objects n₃ (refl) (λ ν-11-objects δ-11-objects.
         move ! (43 ∷ []) $
-        lends-array ! tt Object-t.the-row tt (Object-p .makes 𝓤 H A W) (Object-p .ty) 32 refl l₁₂ (replicate 32 (implicitOf (ObjectNumber-of 0) 0)) _ (rep-is Object-t.the-row 32 (implicitOf (ObjectNumber-of 0) 0) (Object-p .val (implicitOf (ObjectNumber-of 0) 0)) is-5) (lit< tt, lit< tt) (λ ν-11-12 δ-11-12 llen-11-12.
+        lends-array ! tt Object-t.the-row tt (Object-p .makes 𝓤 H A W) (Object-p .ty) 32 refl l₁₂ (replicate 32 (implicitOf (ObjectNumber-of 0) 0 0)) _ (rep-is Object-t.the-row 32 (implicitOf (ObjectNumber-of 0) 0 0) (Object-p .val (implicitOf (ObjectNumber-of 0) 0 0)) is-5) (lit< tt, lit< tt) (λ ν-11-12 δ-11-12 llen-11-12.
         nothing ! $ move ! (1 ∷ 0 ∷ []) $ join ! $ move ! (3 ∷ 0 ∷ []) $ join ! $
         use1 W (raw (toks 𝓤 A 2 (((ν-11-objects ∷ []), ((ν-11-12 ∷ []), tt))) ((fullShare, (fullShare, tt))))) (id⊢ 𝓤 _) $ nothing ! $
         owned ! (u64-p .row) (Is (u64-p .row)) (u64-p .makes 𝓤 H A W) 32 (u64-p .val 32 ∷ []) ((refl, lit< tt)) $ fjoin ! $
         owned ! (u64-p .row) (Is (u64-p .row)) (u64-p .makes 𝓤 H A W) (32 * ((start .frame) .«session_id»)) (u64-p .val (32 * ((start .frame) .«session_id»)) ∷ []) is-3 $ fjoin ! $ move ! (2 ∷ 0 ∷ []) $ fjoin ! $ move ! (3 ∷ 0 ∷ []) $ fjoin ! $ move ! (1 ∷ 0 ∷ []) $
-        calls-any ! fm 2 [] (dry-copy-objects.signature .params) (dry-copy-objects.ended .kept) unit-p (dry-copy-objects.clauses 𝓤 H A mem run) known-dry-copy-objects ((ν-11-objects ∷ []), ((ν-11-12 ∷ []), tt)) (fullShare, (fullShare, tt)) tt (at-list b₃ o₃ δ-11-objects objects, (at-list l₁₂ 0 δ-11-12 (replicate 32 (implicitOf (ObjectNumber-of 0) 0)), (32 * ((start .frame) .«session_id»), (32, tt)))) (sliceVal (b₃, o₃) n₃ ∷ [], (sliceVal (l₁₂, 0) 32 ∷ [], (u64-p .val (32 * ((start .frame) .«session_id»)) ∷ [], (u64-p .val 32 ∷ [], tt)))) tt tt (λ ws-11. (ws-11 .1 .0 ≡ copied same blank (objectSpot (32 * ((start .frame) .«session_id»))) 32 (objects) ((replicate 32 (implicitOf (ObjectNumber-of 0) 0))))) (factI 𝓤 (((32 * ((start .frame) .«session_id»)) + 32 ≤ length (objects)) × (32 ≤ length ((replicate 32 (implicitOf (ObjectNumber-of 0) 0))))) _ asks-11) (λ r ws-11. fact-mono 𝓤 ((ws-11 .1 .0) ≡ copied same blank (objectSpot (32 * ((start .frame) .«session_id»))) 32 (objects) ((replicate 32 (implicitOf (ObjectNumber-of 0) 0)))) ((r ≡ tt) × ((ws-11 .1 .0 ≡ copied same blank (objectSpot (32 * ((start .frame) .«session_id»))) 32 (objects) ((replicate 32 (implicitOf (ObjectNumber-of 0) 0)))))) (λ e. (refl, e))) (λ _. (and-then ! (load ! (from ! (stop !)) (look ! 35 refl)) (and-then ! (load ! (from ! (stop !)) (look ! 31 refl)) (and-then ! (load ! (from ! (stop !)) (look ! 48 refl)) (and-then ! (lit ! tt) (no-more !)))))) (λ ws-11 said-11 is-11.
+        calls-any ! fm 2 [] (dry-copy-objects.signature .params) (dry-copy-objects.ended .kept) unit-p (dry-copy-objects.clauses 𝓤 H A mem run) known-dry-copy-objects ((ν-11-objects ∷ []), ((ν-11-12 ∷ []), tt)) (fullShare, (fullShare, tt)) tt (at-list b₃ o₃ δ-11-objects objects, (at-list l₁₂ 0 δ-11-12 (replicate 32 (implicitOf (ObjectNumber-of 0) 0 0)), (32 * ((start .frame) .«session_id»), (32, tt)))) (sliceVal (b₃, o₃) n₃ ∷ [], (sliceVal (l₁₂, 0) 32 ∷ [], (u64-p .val (32 * ((start .frame) .«session_id»)) ∷ [], (u64-p .val 32 ∷ [], tt)))) tt tt (λ ws-11. (ws-11 .1 .0 ≡ copied same blank (objectSpot (32 * ((start .frame) .«session_id»))) 32 (objects) ((replicate 32 (implicitOf (ObjectNumber-of 0) 0 0))))) (factI 𝓤 (((32 * ((start .frame) .«session_id»)) + 32 ≤ length (objects)) × (32 ≤ length ((replicate 32 (implicitOf (ObjectNumber-of 0) 0 0))))) _ asks-11) (λ r ws-11. fact-mono 𝓤 ((ws-11 .1 .0) ≡ copied same blank (objectSpot (32 * ((start .frame) .«session_id»))) 32 (objects) ((replicate 32 (implicitOf (ObjectNumber-of 0) 0 0)))) ((r ≡ tt) × ((ws-11 .1 .0 ≡ copied same blank (objectSpot (32 * ((start .frame) .«session_id»))) 32 (objects) ((replicate 32 (implicitOf (ObjectNumber-of 0) 0 0)))))) (λ e. (refl, e))) (λ _. (and-then ! (load ! (from ! (stop !)) (look ! 35 refl)) (and-then ! (load ! (from ! (stop !)) (look ! 31 refl)) (and-then ! (load ! (from ! (stop !)) (look ! 48 refl)) (and-then ! (lit ! tt) (no-more !)))))) (λ ws-11 said-11 is-11.
         use1 W ((‵ (flft (ν-11-objects ∷ []) fullShare) ⊛ (‵ (flft (ν-11-12 ∷ []) fullShare) ⊛ ‵ ftrue))) (id⊢ 𝓤 _) $ split ! $ move ! (1 ∷ []) $ split ! $ move ! (3 ∷ []) $ fsplit ! $ move ! (1 ∷ []) $ fsplit ! $ fsplit ! $ move ! (1 ∷ []) $
         feqL ! (λ wlen-11-1.
         move ! (5 ∷ 7 ∷ []) $
         backs-view ! tt Object-t.the-row b₃ o₃ objects n₃ (refl) ν-11-objects $ move ! (5 ∷ 7 ∷ 2 ∷ []) $
         backs-array ! tt Object-t.the-row (Object-p .ty) 32 refl l₁₂ ν-11-12 δ-11-12 (ws-11 .1 .0) (λ v-11-12 vis-11-12.
-        knows ! (Is (Array Object-t.the-row 32) (copied same blank (objectSpot (32 * ((start .frame) .«session_id»))) 32 (objects) ((replicate 32 (implicitOf (ObjectNumber-of 0) 0)))) (v-11-12 ∷ [])) (subst (λ (us : List Object). Is (Array Object-t.the-row 32) us (v-11-12 ∷ [])) (said-11) vis-11-12) (λ ais-11-12.
+        knows ! (Is (Array Object-t.the-row 32) (copied same blank (objectSpot (32 * ((start .frame) .«session_id»))) 32 (objects) ((replicate 32 (implicitOf (ObjectNumber-of 0) 0 0)))) (v-11-12 ∷ [])) (subst (λ (us : List Object). Is (Array Object-t.the-row 32) us (v-11-12 ∷ [])) (said-11) vis-11-12) (λ ais-11-12.
         move ! (3 ∷ []) $ drop ! $ move ! (3 ∷ []) $ drop ! $ move ! (3 ∷ []) $ drop ! $
         land ! (from ! (stop !)) (init ! 39 refl (unit-p .typed 𝓤 H A W tt is-11)) $ move ! (3 ∷ 4 ∷ 5 ∷ 6 ∷ 1 ∷ 2 ∷ 7 ∷ 8 ∷ 9 ∷ 10 ∷ 11 ∷ 12 ∷ 13 ∷ 14 ∷ 15 ∷ 16 ∷ 17 ∷ 18 ∷ 19 ∷ 20 ∷ 21 ∷ 22 ∷ 23 ∷ 24 ∷ 25 ∷ 26 ∷ 27 ∷ 28 ∷ 29 ∷ 30 ∷ 31 ∷ 32 ∷ 33 ∷ 34 ∷ 35 ∷ 36 ∷ 37 ∷ 38 ∷ 39 ∷ 40 ∷ 41 ∷ 42 ∷ 0 ∷ 43 ∷ 44 ∷ 45 ∷ 46 ∷ 47 ∷ 48 ∷ 49 ∷ 50 ∷ 51 ∷ 52 ∷ 53 ∷ 54 ∷ 55 ∷ 56 ∷ 57 ∷ 58 ∷ 59 ∷ 60 ∷ 61 ∷ 62 ∷ 63 ∷ 64 ∷ 65 ∷ 66 ∷ 67 ∷ []) $
         part-12-0 is-3 is-5 asks-11 v-11-12 ais-11-12 is-11)))))))
@@ -336,11 +336,12 @@ module _ {M : Type 1} (𝓤 : URA M) (H : Heap 𝓤) (A : Atoms 𝓤) (W : Given
         -- 5: sessions::objects::Object::implicit
         nothing ! $
         use1 W (raw (toks 𝓤 A 0 (tt) (tt))) (id⊢ 𝓤 _) $ nothing ! $
+        owned ! (u16-p .row) (Is (u16-p .row)) (u16-p .makes 𝓤 H A W) 0 (u16-p .val 0 ∷ []) ((refl, lit< tt)) $ fjoin ! $
         owned ! (u8-p .row) (Is (u8-p .row)) (u8-p .makes 𝓤 H A W) 0 (u8-p .val 0 ∷ []) ((refl, lit< tt)) $ fjoin ! $
         owned ! (ObjectNumber-p .row) (Is (ObjectNumber-p .row)) (ObjectNumber-p .makes 𝓤 H A W) (ObjectNumber-of 0) (ObjectNumber-p .val (ObjectNumber-of 0) ∷ []) (LL.owes ObjectNumber-t.the-type ObjectNumber-l.the-laws (ObjectNumber-of 0) ((refl, lit< tt), tt)) $ fjoin ! $ move ! (1 ∷ 0 ∷ []) $
-        calls-any ! fm 0 [] (objects-Object-implicit.signature .params) (objects-Object-implicit.ended .kept) Object-p (objects-Object-implicit.clauses 𝓤 H A mem run) known-objects-Object-implicit tt tt tt (ObjectNumber-of 0, (0, tt)) (ObjectNumber-p .val (ObjectNumber-of 0) ∷ [], (u8-p .val 0 ∷ [], tt)) tt (implicitOf (ObjectNumber-of 0) 0) (λ ws-5. Unit {0}) (id⊢ 𝓤 _) (λ r ws-5. fact-mono 𝓤 (r ≡ implicitOf (ObjectNumber-of 0) 0) ((r ≡ (implicitOf (ObjectNumber-of 0) 0)) × (Unit {0})) (λ e. (e, tt))) (λ _. (and-then ! (load ! (from ! (stop !)) (look ! 47 refl)) (and-then ! (lit ! tt) (no-more !)))) (λ ws-5 said-5 is-5.
+        calls-any ! fm 0 [] (objects-Object-implicit.signature .params) (objects-Object-implicit.ended .kept) Object-p (objects-Object-implicit.clauses 𝓤 H A mem run) known-objects-Object-implicit tt tt tt (ObjectNumber-of 0, (0, (0, tt))) (ObjectNumber-p .val (ObjectNumber-of 0) ∷ [], (u8-p .val 0 ∷ [], (u16-p .val 0 ∷ [], tt))) tt (implicitOf (ObjectNumber-of 0) 0 0) (λ ws-5. Unit {0}) (id⊢ 𝓤 _) (λ r ws-5. fact-mono 𝓤 (r ≡ implicitOf (ObjectNumber-of 0) 0 0) ((r ≡ (implicitOf (ObjectNumber-of 0) 0 0)) × (Unit {0})) (λ e. (e, tt))) (λ _. (and-then ! (load ! (from ! (stop !)) (look ! 47 refl)) (and-then ! (lit ! tt) (and-then ! (lit ! tt) (no-more !))))) (λ ws-5 said-5 is-5.
         drop ! $ drop ! $
-        land ! (from ! (stop !)) (init ! 44 refl (Object-p .typed 𝓤 H A W (implicitOf (ObjectNumber-of 0) 0) is-5)) $
+        land ! (from ! (stop !)) (init ! 44 refl (Object-p .typed 𝓤 H A W (implicitOf (ObjectNumber-of 0) 0 0) is-5)) $
         part-6-0 is-3 is-5)
 
     begins : Sq W (‵ (MutSlice (named 0) κ₁ (Array u64 5) .own (at-list b₁ o₁ γ₁ sessions) (sliceVal (b₁, o₁) n₁ ∷ [])) ∷ ‵ (flft κ₁ q₁) ∷ ‵ (MutSlice (named 0) κ₂ (Array u16 35) .own (at-list b₂ o₂ γ₂ streams) (sliceVal (b₂, o₂) n₂ ∷ [])) ∷ ‵ (flft κ₂ q₂) ∷ ‵ (MutSlice (named 0) κ₃ Object-t.the-row .own (at-list b₃ o₃ γ₃ objects) (sliceVal (b₃, o₃) n₃ ∷ [])) ∷ ‵ (flft κ₃ q₃) ∷ ‵ (ShrSlice (named 0) κ₄ u8 .own (at-list b₄ o₄ γ₄ d) (sliceVal (b₄, o₄) n₄ ∷ [])) ∷ ‵ (flft κ₄ q₄) ∷ ‵ (ShrSlice (named 0) κ₅ u8 .own (at-list b₅ o₅ γ₅ sample) (sliceVal (b₅, o₅) n₅ ∷ [])) ∷ ‵ (flft κ₅ q₅) ∷ free 𝓤 (sliceTy (tyRef erased mut (pointee (Object-t.the-row .written)))) l₂₈ (free 𝓤 (tyRef erased mut (pointee (Object-t.the-row .written))) l₂₇ (free 𝓤 (sliceTy (tyRef erased imm (pointee (Object-t.the-row .written)))) l₂₆ (free 𝓤 (tyRef erased imm (pointee ((Array Object-t.the-row 32) .written))) l₂₅ (free 𝓤 (sliceTy (tyRef erased mut (pointee (Object-t.the-row .written)))) l₂₄ (free 𝓤 (tyRef erased mut (pointee (Object-t.the-row .written))) l₂₃ (free 𝓤 (sliceTy (tyRef erased mut (pointee ((Array u16 35) .written)))) l₂₂ (free 𝓤 (tyRef erased mut (pointee ((Array u16 35) .written))) l₂₁ (free 𝓤 (sliceTy (tyRef erased mut (pointee ((Array u64 5) .written)))) l₂₀ (free 𝓤 (tyRef erased mut (pointee ((Array u64 5) .written))) l₁₉ (free 𝓤 (sliceTy (tyRef erased mut (pointee (Object-t.the-row .written)))) l₁₈ (free 𝓤 (tyRef erased mut (pointee ((Array Object-t.the-row 32) .written))) l₁₇ (free 𝓤 (sliceTy (tyRef erased imm (pointee (Object-t.the-row .written)))) l₁₆ (free 𝓤 (tyRef erased imm (pointee (Object-t.the-row .written))) l₁₅ (free 𝓤 tyUnit l₁₄ (free 𝓤 (tyInt w64) l₁₃ (free 𝓤 (tyArray Object-l.mir 32) l₁₂ (free 𝓤 Object-l.mir l₁₁ (free 𝓤 ObjectNumber-l.mir l₁₀ (free 𝓤 (tyInt w64) l₉ (free 𝓤 (tyInt w8) l₈ (free 𝓤 Frame-l.mir l₇ (full 𝓤 Start-l.mir l₆ (Start-p .val start) (full 𝓤 (sliceTy (tyRef (named 4) imm (pointee (u8 .written)))) l₅ (sliceVal (b₅, o₅) n₅) (full 𝓤 (sliceTy (tyRef (named 3) imm (pointee (u8 .written)))) l₄ (sliceVal (b₄, o₄) n₄) (full 𝓤 (sliceTy (tyRef (named 2) mut (pointee (Object-t.the-row .written)))) l₃ (sliceVal (b₃, o₃) n₃) (full 𝓤 (sliceTy (tyRef (named 1) mut (pointee ((Array u16 35) .written)))) l₂ (sliceVal (b₂, o₂) n₂) (full 𝓤 (sliceTy (tyRef (named 0) mut (pointee ((Array u64 5) .written)))) l₁ (sliceVal (b₁, o₁) n₁) (free 𝓤 (tyInt w64) l₀ ([])))))))))))))))))))))))))))))) (runs C Λ En mir.t-1 (atRet En Post))

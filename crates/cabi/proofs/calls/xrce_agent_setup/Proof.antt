@@ -104,8 +104,8 @@ use Rattle.cabi.proofs.calls.xrce_agent_setup.Statement as stated
 use Rattle.cabi.proofs.calls.xrce_agent_setup.Code as code
 use Rattle.cabi.proofs.calls.xrce_agent_setup.Code.Mir as mir
 
-abbrev Object-of : ObjectNumber → ℕ → ℕ → ℕ → Object
-Object-of x0 x1 x2 x3 = record { number = x0; kind = x1; bridged = x2; handle = x3 }
+abbrev Object-of : ObjectNumber → ℕ → ℕ → ℕ → ℕ → Object
+Object-of x0 x1 x2 x3 x4 = record { number = x0; kind = x1; bridged = x2; handle = x3; parent = x4 }
 
 abbrev Object-p : Plain
 Object-p = record { row = Object-t.the-row; val = LL.val Object-t.the-type Object-l.the-laws; tells = LL.tells Object-t.the-type Object-l.the-laws; makes = λ 𝓤 H A W. LL.makes Object-t.the-type Object-l.the-plain 𝓤 H A; ty = Object-l.mir; typed = λ 𝓤 H A W x is. LL.lawful Object-t.the-type Object-l.the-laws 𝓤 H A W .typed x _ is .0; copies = λ 𝓤 H A W. LL.copy Object-t.the-type Object-l.the-copy 𝓤 H A W }
@@ -141,7 +141,7 @@ abbrev Refusal-p : Plain
 Refusal-p = record { row = Refusal-t.the-row; val = EL.val Refusal-t.the-type Refusal-l.the-laws; tells = EL.tells Refusal-t.the-type Refusal-l.the-laws; makes = λ 𝓤 H A W. EL.makes Refusal-t.the-type Refusal-l.the-plain 𝓤 H A; ty = Refusal-l.mir; typed = λ 𝓤 H A W x is. EL.lawful Refusal-t.the-type Refusal-l.the-laws 𝓤 H A W tt .typed x _ is .0; copies = λ 𝓤 H A W. EL.copy Refusal-t.the-type Refusal-l.the-copy 𝓤 H A W }
 
 abbrev stayed : Stays (f.ended .signature .params) (f.ended .kept)
-stayed = (stay-slice (0 ∷ []) tt (plain (λ _. (Array u64 18))), (stay-slice (1 ∷ []) tt (plain (λ _. (Array u64 5))), (stay-slice (2 ∷ []) tt (plain (λ _. (Array u16 35))), (stay-slice (3 ∷ []) tt (plain (λ _. Object-t.the-row)), (stay-none (λ _. u64-p .row) yes, (stay-none (λ _. u64-p .row) yes, tt))))))
+stayed = (stay-slice (0 ∷ []) tt (plain (λ _. (Array u64 19))), (stay-slice (1 ∷ []) tt (plain (λ _. (Array u64 5))), (stay-slice (2 ∷ []) tt (plain (λ _. (Array u16 35))), (stay-slice (3 ∷ []) tt (plain (λ _. Object-t.the-row)), (stay-none (λ _. u64-p .row) yes, (stay-none (λ _. u64-p .row) yes, tt))))))
 
 module _ {M : Type 1} (𝓤 : URA M) (H : Heap 𝓤) (A : Atoms 𝓤) (mem : Memory → SProp 𝓤) (run : Routine → Fun 𝓤) where
   abbrev Of-agent-setup : Contract 𝓤
@@ -151,7 +151,7 @@ module _ {M : Type 1} (𝓤 : URA M) (H : Heap 𝓤) (A : Atoms 𝓤) (mem : Mem
   Of-calls-told-ready = tripleOf 𝓤 H A calls-told-ready.signature (calls-told-ready.spec 𝓤 H A mem run)
 
 module _ {M : Type 1} (𝓤 : URA M) (H : Heap 𝓤) (A : Atoms 𝓤) (W : Given 𝓤 H A) (mem : Memory → SProp 𝓤) (run : Routine → Fun 𝓤) (κ₁ : Lft) (q₁ : Share) (b₁ o₁ : ℕ) (γ₁ : GName) (agent : List (List ℕ)) (κ₂ : Lft) (q₂ : Share) (b₂ o₂ : ℕ) (γ₂ : GName) (sessions : List (List ℕ)) (κ₃ : Lft) (q₃ : Share) (b₃ o₃ : ℕ) (γ₃ : GName) (streams : List (List ℕ)) (κ₄ : Lft) (q₄ : Share) (b₄ o₄ : ℕ) (γ₄ : GName) (objects : List Object) (max_clients : ℕ) (timeout_ms : ℕ)
-    (room₁ : Room (Array u64 18) (length agent)) (room₂ : Room (Array u64 5) (length sessions)) (room₃ : Room (Array u16 35) (length streams)) (room₄ : Room Object-t.the-row (length objects)) (max_clients-is : Is (u64-p .row) max_clients (u64-p .val max_clients ∷ [])) (timeout_ms-is : Is (u64-p .row) timeout_ms (u64-p .val timeout_ms ∷ [])) where
+    (room₁ : Room (Array u64 19) (length agent)) (room₂ : Room (Array u64 5) (length sessions)) (room₃ : Room (Array u16 35) (length streams)) (room₄ : Room Object-t.the-row (length objects)) (max_clients-is : Is (u64-p .row) max_clients (u64-p .val max_clients ∷ [])) (timeout_ms-is : Is (u64-p .row) timeout_ms (u64-p .val timeout_ms ∷ [])) where
   abbrev n₁ : ℕ
   n₁ = length agent
 
@@ -179,9 +179,9 @@ module _ {M : Type 1} (𝓤 : URA M) (H : Heap 𝓤) (A : Atoms 𝓤) (W : Given
   left-is : left (eqb (length agent) 0) ≡ setUpLeft agent (lent sessions streams objects) max_clients timeout_ms
   left-is = set-up-if agent (lent sessions streams objects) max_clients timeout_ms
 
-  exits : (r : ℕ) (ws₁ : List (List ℕ)) (ws₂ : List (List ℕ)) (ws₃ : List (List ℕ)) (ws₄ : List Object) → ((r ≡ setUpLeft (agent) (lent (sessions) (streams) (objects)) max_clients timeout_ms .answer) × (ws₁ ≡ setUpLeft (agent) (lent (sessions) (streams) (objects)) max_clients timeout_ms .records) × (ws₂ ≡ setUpLeft (agent) (lent (sessions) (streams) (objects)) max_clients timeout_ms .tables .sessions) × (ws₃ ≡ setUpLeft (agent) (lent (sessions) (streams) (objects)) max_clients timeout_ms .tables .streams) × (ws₄ ≡ setUpLeft (agent) (lent (sessions) (streams) (objects)) max_clients timeout_ms .tables .objects)) → Is (u64-p .row) r (u64-p .val r ∷ []) → length ws₁ ≡ n₁ → length ws₂ ≡ n₂ → length ws₃ ≡ n₃ → length ws₄ ≡ n₄ → ent 𝓤 (⋆ 𝓤 H A (‵ (MutSlice (named 0) κ₁ (Array u64 18) .own (at-list b₁ o₁ γ₁ ws₁) (sliceVal (b₁, o₁) n₁ ∷ [])) ∷ ‵ (flft κ₁ q₁) ∷ ‵ (MutSlice (named 1) κ₂ (Array u64 5) .own (at-list b₂ o₂ γ₂ ws₂) (sliceVal (b₂, o₂) n₂ ∷ [])) ∷ ‵ (flft κ₂ q₂) ∷ ‵ (MutSlice (named 2) κ₃ (Array u16 35) .own (at-list b₃ o₃ γ₃ ws₃) (sliceVal (b₃, o₃) n₃ ∷ [])) ∷ ‵ (flft κ₃ q₃) ∷ ‵ (MutSlice (named 3) κ₄ Object-t.the-row .own (at-list b₄ o₄ γ₄ ws₄) (sliceVal (b₄, o₄) n₄ ∷ [])) ∷ ‵ (flft κ₄ q₄) ∷ [])) (Post (u64-p .val r))
+  exits : (r : ℕ) (ws₁ : List (List ℕ)) (ws₂ : List (List ℕ)) (ws₃ : List (List ℕ)) (ws₄ : List Object) → ((r ≡ setUpLeft (agent) (lent (sessions) (streams) (objects)) max_clients timeout_ms .answer) × (ws₁ ≡ setUpLeft (agent) (lent (sessions) (streams) (objects)) max_clients timeout_ms .records) × (ws₂ ≡ setUpLeft (agent) (lent (sessions) (streams) (objects)) max_clients timeout_ms .tables .sessions) × (ws₃ ≡ setUpLeft (agent) (lent (sessions) (streams) (objects)) max_clients timeout_ms .tables .streams) × (ws₄ ≡ setUpLeft (agent) (lent (sessions) (streams) (objects)) max_clients timeout_ms .tables .objects)) → Is (u64-p .row) r (u64-p .val r ∷ []) → length ws₁ ≡ n₁ → length ws₂ ≡ n₂ → length ws₃ ≡ n₃ → length ws₄ ≡ n₄ → ent 𝓤 (⋆ 𝓤 H A (‵ (MutSlice (named 0) κ₁ (Array u64 19) .own (at-list b₁ o₁ γ₁ ws₁) (sliceVal (b₁, o₁) n₁ ∷ [])) ∷ ‵ (flft κ₁ q₁) ∷ ‵ (MutSlice (named 1) κ₂ (Array u64 5) .own (at-list b₂ o₂ γ₂ ws₂) (sliceVal (b₂, o₂) n₂ ∷ [])) ∷ ‵ (flft κ₂ q₂) ∷ ‵ (MutSlice (named 2) κ₃ (Array u16 35) .own (at-list b₃ o₃ γ₃ ws₃) (sliceVal (b₃, o₃) n₃ ∷ [])) ∷ ‵ (flft κ₃ q₃) ∷ ‵ (MutSlice (named 3) κ₄ Object-t.the-row .own (at-list b₄ o₄ γ₄ ws₄) (sliceVal (b₄, o₄) n₄ ∷ [])) ∷ ‵ (flft κ₄ q₄) ∷ [])) (Post (u64-p .val r))
   exits r ws₁ ws₂ ws₃ ws₄ said r-is len₁ len₂ len₃ len₄ =
-      qed W (‵ (MutSlice (named 0) κ₁ (Array u64 18) .own (at-list b₁ o₁ γ₁ ws₁) (sliceVal (b₁, o₁) n₁ ∷ [])) ∷ ‵ (flft κ₁ q₁) ∷ ‵ (MutSlice (named 1) κ₂ (Array u64 5) .own (at-list b₂ o₂ γ₂ ws₂) (sliceVal (b₂, o₂) n₂ ∷ [])) ∷ ‵ (flft κ₂ q₂) ∷ ‵ (MutSlice (named 2) κ₃ (Array u16 35) .own (at-list b₃ o₃ γ₃ ws₃) (sliceVal (b₃, o₃) n₃ ∷ [])) ∷ ‵ (flft κ₃ q₃) ∷ ‵ (MutSlice (named 3) κ₄ Object-t.the-row .own (at-list b₄ o₄ γ₄ ws₄) (sliceVal (b₄, o₄) n₄ ∷ [])) ∷ ‵ (flft κ₄ q₄) ∷ []) ∵
+      qed W (‵ (MutSlice (named 0) κ₁ (Array u64 19) .own (at-list b₁ o₁ γ₁ ws₁) (sliceVal (b₁, o₁) n₁ ∷ [])) ∷ ‵ (flft κ₁ q₁) ∷ ‵ (MutSlice (named 1) κ₂ (Array u64 5) .own (at-list b₂ o₂ γ₂ ws₂) (sliceVal (b₂, o₂) n₂ ∷ [])) ∷ ‵ (flft κ₂ q₂) ∷ ‵ (MutSlice (named 2) κ₃ (Array u16 35) .own (at-list b₃ o₃ γ₃ ws₃) (sliceVal (b₃, o₃) n₃ ∷ [])) ∷ ‵ (flft κ₃ q₃) ∷ ‵ (MutSlice (named 3) κ₄ Object-t.the-row .own (at-list b₄ o₄ γ₄ ws₄) (sliceVal (b₄, o₄) n₄ ∷ [])) ∷ ‵ (flft κ₄ q₄) ∷ []) ∵
       suffices ! _ (ends-at 𝓤 H A f.ended stayed (f.clauses 𝓤 H A mem run) W (((κ₁, (κ₂, (κ₃, (κ₄, tt)))), (q₁, (q₂, (q₃, (q₄, tt)))), tt, x, at), tt) (u64-p .val r) r (ws₁, (ws₂, (ws₃, (ws₄, (tt, (tt, tt)))))) (len₁, (len₂, (len₃, (len₄, (tt, (tt, tt))))))) $ says ! said $ nothing ! $ move ! (8 ∷ 0 ∷ []) $ join ! $ move ! (6 ∷ 0 ∷ []) $ join ! $ move ! (4 ∷ 0 ∷ []) $ join ! $ move ! (2 ∷ 0 ∷ []) $ join ! $
       frame ! $ nothing ! $
       owned ! (u64-p .row) (Is (u64-p .row)) (u64-p .makes 𝓤 H A W) timeout_ms (u64-p .val timeout_ms ∷ []) timeout_ms-is $ fjoin ! $
@@ -200,9 +200,9 @@ module _ {M : Type 1} (𝓤 : URA M) (H : Heap 𝓤) (A : Atoms 𝓤) (W : Given
     fm = fmOf 𝓤 H (W .laws) 𝓣
 
     abbrev En : Env 𝓤 H
-    En = ((tyInt w64), l₀) ∷ ((sliceTy (tyRef (named 0) mut (pointee ((Array u64 18) .written)))), l₁) ∷ ((sliceTy (tyRef (named 1) mut (pointee ((Array u64 5) .written)))), l₂) ∷ ((sliceTy (tyRef (named 2) mut (pointee ((Array u16 35) .written)))), l₃) ∷ ((sliceTy (tyRef (named 3) mut (pointee (Object-t.the-row .written)))), l₄) ∷ ((tyInt w64), l₅) ∷ ((tyInt w64), l₆) ∷ ((tyInt w64), l₇) ∷ (AgentSetUp-l.mir, l₈) ∷ (tyBool, l₉) ∷ ((tyInt w64), l₁₀) ∷ ((tyRef erased mut (pointee ((Array u64 5) .written))), l₁₁) ∷ ((sliceTy (tyRef erased mut (pointee ((Array u64 5) .written)))), l₁₂) ∷ ((tyRef erased mut (pointee ((Array u16 35) .written))), l₁₃) ∷ ((sliceTy (tyRef erased mut (pointee ((Array u16 35) .written)))), l₁₄) ∷ ((tyRef erased mut (pointee (Object-t.the-row .written))), l₁₅) ∷ ((sliceTy (tyRef erased mut (pointee (Object-t.the-row .written)))), l₁₆) ∷ ((tyInt w64), l₁₇) ∷ ((tyRef erased mut (pointee ((Array u64 18) .written))), l₁₈) ∷ ((sliceTy (tyRef erased mut (pointee ((Array u64 18) .written)))), l₁₉) ∷ []
+    En = ((tyInt w64), l₀) ∷ ((sliceTy (tyRef (named 0) mut (pointee ((Array u64 19) .written)))), l₁) ∷ ((sliceTy (tyRef (named 1) mut (pointee ((Array u64 5) .written)))), l₂) ∷ ((sliceTy (tyRef (named 2) mut (pointee ((Array u16 35) .written)))), l₃) ∷ ((sliceTy (tyRef (named 3) mut (pointee (Object-t.the-row .written)))), l₄) ∷ ((tyInt w64), l₅) ∷ ((tyInt w64), l₆) ∷ ((tyInt w64), l₇) ∷ (AgentSetUp-l.mir, l₈) ∷ (tyBool, l₉) ∷ ((tyInt w64), l₁₀) ∷ ((tyRef erased mut (pointee ((Array u64 5) .written))), l₁₁) ∷ ((sliceTy (tyRef erased mut (pointee ((Array u64 5) .written)))), l₁₂) ∷ ((tyRef erased mut (pointee ((Array u16 35) .written))), l₁₃) ∷ ((sliceTy (tyRef erased mut (pointee ((Array u16 35) .written)))), l₁₄) ∷ ((tyRef erased mut (pointee (Object-t.the-row .written))), l₁₅) ∷ ((sliceTy (tyRef erased mut (pointee (Object-t.the-row .written)))), l₁₆) ∷ ((tyInt w64), l₁₇) ∷ ((tyRef erased mut (pointee ((Array u64 19) .written))), l₁₈) ∷ ((sliceTy (tyRef erased mut (pointee ((Array u64 19) .written)))), l₁₉) ∷ []
 
-    begins : Sq W (‵ (MutSlice (named 0) κ₁ (Array u64 18) .own (at-list b₁ o₁ γ₁ agent) (sliceVal (b₁, o₁) n₁ ∷ [])) ∷ ‵ (flft κ₁ q₁) ∷ ‵ (MutSlice (named 0) κ₂ (Array u64 5) .own (at-list b₂ o₂ γ₂ sessions) (sliceVal (b₂, o₂) n₂ ∷ [])) ∷ ‵ (flft κ₂ q₂) ∷ ‵ (MutSlice (named 0) κ₃ (Array u16 35) .own (at-list b₃ o₃ γ₃ streams) (sliceVal (b₃, o₃) n₃ ∷ [])) ∷ ‵ (flft κ₃ q₃) ∷ ‵ (MutSlice (named 0) κ₄ Object-t.the-row .own (at-list b₄ o₄ γ₄ objects) (sliceVal (b₄, o₄) n₄ ∷ [])) ∷ ‵ (flft κ₄ q₄) ∷ free 𝓤 (sliceTy (tyRef erased mut (pointee ((Array u64 18) .written)))) l₁₉ (free 𝓤 (tyRef erased mut (pointee ((Array u64 18) .written))) l₁₈ (free 𝓤 (tyInt w64) l₁₇ (free 𝓤 (sliceTy (tyRef erased mut (pointee (Object-t.the-row .written)))) l₁₆ (free 𝓤 (tyRef erased mut (pointee (Object-t.the-row .written))) l₁₅ (free 𝓤 (sliceTy (tyRef erased mut (pointee ((Array u16 35) .written)))) l₁₄ (free 𝓤 (tyRef erased mut (pointee ((Array u16 35) .written))) l₁₃ (free 𝓤 (sliceTy (tyRef erased mut (pointee ((Array u64 5) .written)))) l₁₂ (free 𝓤 (tyRef erased mut (pointee ((Array u64 5) .written))) l₁₁ (free 𝓤 (tyInt w64) l₁₀ (free 𝓤 tyBool l₉ (free 𝓤 AgentSetUp-l.mir l₈ (free 𝓤 (tyInt w64) l₇ (full 𝓤 (tyInt w64) l₆ (u64-p .val timeout_ms) (full 𝓤 (tyInt w64) l₅ (u64-p .val max_clients) (full 𝓤 (sliceTy (tyRef (named 3) mut (pointee (Object-t.the-row .written)))) l₄ (sliceVal (b₄, o₄) n₄) (full 𝓤 (sliceTy (tyRef (named 2) mut (pointee ((Array u16 35) .written)))) l₃ (sliceVal (b₃, o₃) n₃) (full 𝓤 (sliceTy (tyRef (named 1) mut (pointee ((Array u64 5) .written)))) l₂ (sliceVal (b₂, o₂) n₂) (full 𝓤 (sliceTy (tyRef (named 0) mut (pointee ((Array u64 18) .written)))) l₁ (sliceVal (b₁, o₁) n₁) (free 𝓤 (tyInt w64) l₀ ([]))))))))))))))))))))) (runs C Λ En mir.t-1 (atRet En Post))
+    begins : Sq W (‵ (MutSlice (named 0) κ₁ (Array u64 19) .own (at-list b₁ o₁ γ₁ agent) (sliceVal (b₁, o₁) n₁ ∷ [])) ∷ ‵ (flft κ₁ q₁) ∷ ‵ (MutSlice (named 0) κ₂ (Array u64 5) .own (at-list b₂ o₂ γ₂ sessions) (sliceVal (b₂, o₂) n₂ ∷ [])) ∷ ‵ (flft κ₂ q₂) ∷ ‵ (MutSlice (named 0) κ₃ (Array u16 35) .own (at-list b₃ o₃ γ₃ streams) (sliceVal (b₃, o₃) n₃ ∷ [])) ∷ ‵ (flft κ₃ q₃) ∷ ‵ (MutSlice (named 0) κ₄ Object-t.the-row .own (at-list b₄ o₄ γ₄ objects) (sliceVal (b₄, o₄) n₄ ∷ [])) ∷ ‵ (flft κ₄ q₄) ∷ free 𝓤 (sliceTy (tyRef erased mut (pointee ((Array u64 19) .written)))) l₁₉ (free 𝓤 (tyRef erased mut (pointee ((Array u64 19) .written))) l₁₈ (free 𝓤 (tyInt w64) l₁₇ (free 𝓤 (sliceTy (tyRef erased mut (pointee (Object-t.the-row .written)))) l₁₆ (free 𝓤 (tyRef erased mut (pointee (Object-t.the-row .written))) l₁₅ (free 𝓤 (sliceTy (tyRef erased mut (pointee ((Array u16 35) .written)))) l₁₄ (free 𝓤 (tyRef erased mut (pointee ((Array u16 35) .written))) l₁₃ (free 𝓤 (sliceTy (tyRef erased mut (pointee ((Array u64 5) .written)))) l₁₂ (free 𝓤 (tyRef erased mut (pointee ((Array u64 5) .written))) l₁₁ (free 𝓤 (tyInt w64) l₁₀ (free 𝓤 tyBool l₉ (free 𝓤 AgentSetUp-l.mir l₈ (free 𝓤 (tyInt w64) l₇ (full 𝓤 (tyInt w64) l₆ (u64-p .val timeout_ms) (full 𝓤 (tyInt w64) l₅ (u64-p .val max_clients) (full 𝓤 (sliceTy (tyRef (named 3) mut (pointee (Object-t.the-row .written)))) l₄ (sliceVal (b₄, o₄) n₄) (full 𝓤 (sliceTy (tyRef (named 2) mut (pointee ((Array u16 35) .written)))) l₃ (sliceVal (b₃, o₃) n₃) (full 𝓤 (sliceTy (tyRef (named 1) mut (pointee ((Array u64 5) .written)))) l₂ (sliceVal (b₂, o₂) n₂) (full 𝓤 (sliceTy (tyRef (named 0) mut (pointee ((Array u64 19) .written)))) l₁ (sliceVal (b₁, o₁) n₁) (free 𝓤 (tyInt w64) l₀ ([]))))))))))))))))))))) (runs C Λ En mir.t-1 (atRet En Post))
     begins =
         assigns ! (of-opd ! (load ! (from ! (fld ! refl (stop !))) (look-in ! 44 (sub ! 1 refl (whole !))))) (from ! (stop !)) (init ! 32 refl (u64-p .typed 𝓤 H A W n₁ ((refl, room₁ .0)))) $
         assigns ! (bin ! (load ! (from ! (stop !)) (look ! 32 refl)) (lit ! tt) (tt)) (from ! (stop !)) (init ! 28 refl (bool-p .typed 𝓤 H A W (eqb n₁ 0) refl)) $
@@ -254,7 +254,7 @@ module _ {M : Type 1} (𝓤 : URA M) (H : Heap 𝓤) (A : Atoms 𝓤) (W : Given
         assigns ! (agg ! (and-then ! (load ! (from ! (stop !)) (look ! 10 refl)) (and-then ! (load ! (from ! (fld ! refl (stop !))) (look-in ! 44 (sub ! 1 refl (whole !)))) (no-more !)))) (from ! (stop !)) (init ! 8 refl (tt, (tt, (record { fits = room₁ .0 }, tt)))) $
         -- 3.no.11: cabi::calls::told_ready
         move ! (6 ∷ 7 ∷ []) $
-        lends-mut ! tt (Array u64 18) b₁ o₁ agent n₁ (refl) (λ ν-3·no·11-agent δ-3·no·11-agent.
+        lends-mut ! tt (Array u64 19) b₁ o₁ agent n₁ (refl) (λ ν-3·no·11-agent δ-3·no·11-agent.
         nothing ! $ move ! (1 ∷ 0 ∷ []) $ join ! $
         use1 W (raw (toks 𝓤 A 1 (((ν-3·no·11-agent ∷ []), tt)) ((fullShare, tt)))) (id⊢ 𝓤 _) $ nothing ! $
         owned ! (AgentSetUp-p .row) (Is (AgentSetUp-p .row)) (AgentSetUp-p .makes 𝓤 H A W) (setUpAs (setUpOf (length (sessions)) (length (streams)) (length (objects)) max_clients) max_clients timeout_ms) (AgentSetUp-p .val (setUpAs (setUpOf (length (sessions)) (length (streams)) (length (objects)) max_clients) max_clients timeout_ms) ∷ []) is-3·no·8 $ fjoin ! $ move ! (2 ∷ 0 ∷ []) $ fjoin ! $ move ! (1 ∷ 0 ∷ []) $
@@ -262,7 +262,7 @@ module _ {M : Type 1} (𝓤 : URA M) (H : Heap 𝓤) (A : Atoms 𝓤) (W : Given
         use1 W ((‵ (flft (ν-3·no·11-agent ∷ []) fullShare) ⊛ ‵ ftrue)) (id⊢ 𝓤 _) $ split ! $ move ! (2 ∷ []) $ fsplit ! $ fsplit ! $ move ! (1 ∷ []) $
         feqL ! (λ wlen-3·no·11-0.
         move ! (2 ∷ 4 ∷ 0 ∷ []) $
-        backs-mut ! tt (Array u64 18) b₁ o₁ agent n₁ (refl) room₁ ν-3·no·11-agent δ-3·no·11-agent (ws-3·no·11 .0) (readyRecords (agent) (setUpAs (setUpOf (length (sessions)) (length (streams)) (length (objects)) max_clients) max_clients timeout_ms)) wlen-3·no·11-0 (said-3·no·11) (λ len-3·no·11-agent.
+        backs-mut ! tt (Array u64 19) b₁ o₁ agent n₁ (refl) room₁ ν-3·no·11-agent δ-3·no·11-agent (ws-3·no·11 .0) (readyRecords (agent) (setUpAs (setUpOf (length (sessions)) (length (streams)) (length (objects)) max_clients) max_clients timeout_ms)) wlen-3·no·11-0 (said-3·no·11) (λ len-3·no·11-agent.
         move ! (2 ∷ []) $ drop ! $ move ! (2 ∷ []) $ drop ! $
         land-last ! (from ! (stop !)) (init ! 26 refl (u64-p .typed 𝓤 H A W (readyAs (setUpAs (setUpOf (length (sessions)) (length (streams)) (length (objects)) max_clients) max_clients timeout_ms)) is-3·no·11)) $
         exec ! C Λ En mir.t-4 (atRet En Post) $
@@ -273,17 +273,17 @@ module _ {M : Type 1} (𝓤 : URA M) (H : Heap 𝓤) (A : Atoms 𝓤) (W : Given
   module _ (𝓣 : Tables 𝓤 H) (known-agent-setup : Triple 𝓤 (𝓣 .C #agent-setup) (Of-agent-setup 𝓤 H A mem run)) (known-calls-told-ready : Triple 𝓤 (𝓣 .C #calls-told-ready) (Of-calls-told-ready 𝓤 H A mem run)) where
     walk : ent 𝓤 (onEntry 𝓤 H A f.signature (κ₁, (κ₂, (κ₃, (κ₄, tt)))) (q₁, (q₂, (q₃, (q₄, tt)))) x at) (WpFn 𝓤 H (𝓣 .C) (𝓣 .Λ) code.function (sliceVal (b₁, o₁) n₁ ∷ sliceVal (b₂, o₂) n₂ ∷ sliceVal (b₃, o₃) n₃ ∷ sliceVal (b₄, o₄) n₄ ∷ u64-p .val max_clients ∷ u64-p .val timeout_ms ∷ []) Post)
     walk =
-        qed W ((‵ (flft κ₁ q₁) ⊛ (‵ (flft κ₂ q₂) ⊛ (‵ (flft κ₃ q₃) ⊛ (‵ (flft κ₄ q₄) ⊛ ‵ ftrue)))) ∷ ‵ (owns (MutSlice (named 0) κ₁ (Array u64 18) ∷ MutSlice (named 1) κ₂ (Array u64 5) ∷ MutSlice (named 2) κ₃ (Array u16 35) ∷ MutSlice (named 3) κ₄ Object-t.the-row ∷ u64-p .row ∷ u64-p .row ∷ []) x at) ∷ []) ∵ enter ! (𝓣 .C) (𝓣 .Λ) code.function (sliceVal (b₁, o₁) n₁ ∷ sliceVal (b₂, o₂) n₂ ∷ sliceVal (b₃, o₃) n₃ ∷ sliceVal (b₄, o₄) n₄ ∷ u64-p .val max_clients ∷ u64-p .val timeout_ms ∷ []) _ $
+        qed W ((‵ (flft κ₁ q₁) ⊛ (‵ (flft κ₂ q₂) ⊛ (‵ (flft κ₃ q₃) ⊛ (‵ (flft κ₄ q₄) ⊛ ‵ ftrue)))) ∷ ‵ (owns (MutSlice (named 0) κ₁ (Array u64 19) ∷ MutSlice (named 1) κ₂ (Array u64 5) ∷ MutSlice (named 2) κ₃ (Array u16 35) ∷ MutSlice (named 3) κ₄ Object-t.the-row ∷ u64-p .row ∷ u64-p .row ∷ []) x at) ∷ []) ∵ enter ! (𝓣 .C) (𝓣 .Λ) code.function (sliceVal (b₁, o₁) n₁ ∷ sliceVal (b₂, o₂) n₂ ∷ sliceVal (b₃, o₃) n₃ ∷ sliceVal (b₄, o₄) n₄ ∷ u64-p .val max_clients ∷ u64-p .val timeout_ms ∷ []) _ $
         alloc1 ! (λ l₀. alloc1 ! (λ l₁. alloc1 ! (λ l₂. alloc1 ! (λ l₃. alloc1 ! (λ l₄. alloc1 ! (λ l₅. alloc1 ! (λ l₆. alloc1 ! (λ l₇. alloc1 ! (λ l₈. alloc1 ! (λ l₉. alloc1 ! (λ l₁₀. alloc1 ! (λ l₁₁. alloc1 ! (λ l₁₂. alloc1 ! (λ l₁₃. alloc1 ! (λ l₁₄. alloc1 ! (λ l₁₅. alloc1 ! (λ l₁₆. alloc1 ! (λ l₁₇. alloc1 ! (λ l₁₈. alloc1 ! (λ l₁₉. alloc0 ! $ params1 ! $ pass1 ! (init ! 36 refl (tt, (tt, (record { fits = room₁ .0 }, tt)))) $ pass1 ! (init ! 34 refl (tt, (tt, (record { fits = room₂ .0 }, tt)))) $ pass1 ! (init ! 32 refl (tt, (tt, (record { fits = room₃ .0 }, tt)))) $ pass1 ! (init ! 30 refl (tt, (tt, (record { fits = room₄ .0 }, tt)))) $ pass1 ! (init ! 28 refl (u64-p .typed 𝓤 H A W max_clients max_clients-is)) $ pass1 ! (init ! 26 refl (u64-p .typed 𝓤 H A W timeout_ms timeout_ms-is)) $ pass0 ! $ move ! (41 ∷ []) $ fsplit ! $ move ! (1 ∷ []) $ fsplit ! $ move ! (1 ∷ []) $ fsplit ! $ move ! (1 ∷ []) $ fsplit ! $ move ! (45 ∷ []) $ split ! $ move ! (1 ∷ []) $ split ! $ move ! (1 ∷ []) $ split ! $ move ! (1 ∷ []) $ split ! $ move ! (1 ∷ []) $ drop ! $ move ! (5 ∷ []) $ drop ! $ move ! (7 ∷ 3 ∷ 6 ∷ 2 ∷ 5 ∷ 1 ∷ 4 ∷ 0 ∷ 8 ∷ 9 ∷ 10 ∷ 11 ∷ 12 ∷ 13 ∷ 14 ∷ 15 ∷ 16 ∷ 17 ∷ 18 ∷ 19 ∷ 20 ∷ 21 ∷ 22 ∷ 23 ∷ 24 ∷ 25 ∷ 26 ∷ 27 ∷ 28 ∷ 29 ∷ 30 ∷ 31 ∷ 32 ∷ 33 ∷ 34 ∷ 35 ∷ 36 ∷ 37 ∷ 38 ∷ 39 ∷ 40 ∷ 41 ∷ 42 ∷ 43 ∷ 44 ∷ 45 ∷ 46 ∷ 47 ∷ []) $
         begins 𝓣 known-agent-setup known-calls-told-ready l₀ l₁ l₂ l₃ l₄ l₅ l₆ l₇ l₈ l₉ l₁₀ l₁₁ l₁₂ l₁₃ l₁₄ l₁₅ l₁₆ l₁₇ l₁₈ l₁₉))))))))))))))))))))
 
 module _ {M : Type 1} (𝓤 : URA M) (H : Heap 𝓤) (A : Atoms 𝓤) (W : Given 𝓤 H A) (mem : Memory → SProp 𝓤) (run : Routine → Fun 𝓤) (𝓣 : Tables 𝓤 H) (known-agent-setup : Triple 𝓤 (𝓣 .C #agent-setup) (Of-agent-setup 𝓤 H A mem run)) (known-calls-told-ready : Triple 𝓤 (𝓣 .C #calls-told-ready) (Of-calls-told-ready 𝓤 H A mem run)) where
   walks : Walks 𝓤 H A f.ended stayed (WpFn 𝓤 H (𝓣 .C) (𝓣 .Λ) code.function) (f.clauses 𝓤 H A mem run)
-  walks = walked 𝓤 H A f.ended stayed (f.clauses 𝓤 H A mem run) (WpFn 𝓤 H (𝓣 .C) (𝓣 .Λ) code.function) (λ κs. (slice-vals, (slice-vals, (slice-vals, (slice-vals, ((λ y. u64-p .val y ∷ []), ((λ y. u64-p .val y ∷ []), tt))))))) (λ κs. (mut-slice-tells (named 0) (κs .0) (Array u64 18), (mut-slice-tells (named 1) (κs .1 .0) (Array u64 5), (mut-slice-tells (named 2) (κs .1 .1 .0) (Array u16 35), (mut-slice-tells (named 3) (κs .1 .1 .1 .0) Object-t.the-row, (u64-p .tells, (u64-p .tells, tt)))))))
+  walks = walked 𝓤 H A f.ended stayed (f.clauses 𝓤 H A mem run) (WpFn 𝓤 H (𝓣 .C) (𝓣 .Λ) code.function) (λ κs. (slice-vals, (slice-vals, (slice-vals, (slice-vals, ((λ y. u64-p .val y ∷ []), ((λ y. u64-p .val y ∷ []), tt))))))) (λ κs. (mut-slice-tells (named 0) (κs .0) (Array u64 19), (mut-slice-tells (named 1) (κs .1 .0) (Array u64 5), (mut-slice-tells (named 2) (κs .1 .1 .0) (Array u16 35), (mut-slice-tells (named 3) (κs .1 .1 .1 .0) Object-t.the-row, (u64-p .tells, (u64-p .tells, tt)))))))
       (λ κs qs bounds a g are. via 𝓤 _ (fst∗ 𝓤 _ (emp 𝓤)) (walk 𝓤 H A W mem run (κs .0) (qs .0) (a .0 .ptr .0) (a .0 .ptr .1) (a .0 .name) (a .0 .now) (κs .1 .0) (qs .1 .0) (a .1 .0 .ptr .0) (a .1 .0 .ptr .1) (a .1 .0 .name) (a .1 .0 .now) (κs .1 .1 .0) (qs .1 .1 .0) (a .1 .1 .0 .ptr .0) (a .1 .1 .0 .ptr .1) (a .1 .1 .0 .name) (a .1 .1 .0 .now) (κs .1 .1 .1 .0) (qs .1 .1 .1 .0) (a .1 .1 .1 .0 .ptr .0) (a .1 .1 .1 .0 .ptr .1) (a .1 .1 .1 .0 .name) (a .1 .1 .1 .0 .now) (a .1 .1 .1 .1 .0) (a .1 .1 .1 .1 .1 .0) (are .0 .0 .1) (are .1 .0 .0 .1) (are .1 .1 .0 .0 .1) (are .1 .1 .1 .0 .0 .1) (are .1 .1 .1 .1 .0) (are .1 .1 .1 .1 .1 .0) 𝓣 known-agent-setup known-calls-told-ready))
 
   meets : Meets 𝓤 H A f.signature (WpFn 𝓤 H (𝓣 .C) (𝓣 .Λ) code.function) (f.spec 𝓤 H A mem run)
-  meets = walk-meets 𝓤 H A f.ended stayed W (goes-slice 𝓤 H A W 4 0 tt (plain (λ _. (Array u64 18))), (goes-slice 𝓤 H A W 4 1 tt (plain (λ _. (Array u64 5))), (goes-slice 𝓤 H A W 4 2 tt (plain (λ _. (Array u16 35))), (goes-slice 𝓤 H A W 4 3 tt (plain (λ _. Object-t.the-row)), (goes-none 𝓤 H A W 4 (λ _. u64-p .row) yes (λ κs x f. refl), (goes-none 𝓤 H A W 4 (λ _. u64-p .row) yes (λ κs x f. refl), tt)))))) (f.clauses 𝓤 H A mem run) (WpFn 𝓤 H (𝓣 .C) (𝓣 .Λ) code.function) (WpFn-mono 𝓤 H (W .laws) 𝓣 code.function) walks
+  meets = walk-meets 𝓤 H A f.ended stayed W (goes-slice 𝓤 H A W 4 0 tt (plain (λ _. (Array u64 19))), (goes-slice 𝓤 H A W 4 1 tt (plain (λ _. (Array u64 5))), (goes-slice 𝓤 H A W 4 2 tt (plain (λ _. (Array u16 35))), (goes-slice 𝓤 H A W 4 3 tt (plain (λ _. Object-t.the-row)), (goes-none 𝓤 H A W 4 (λ _. u64-p .row) yes (λ κs x f. refl), (goes-none 𝓤 H A W 4 (λ _. u64-p .row) yes (λ κs x f. refl), tt)))))) (f.clauses 𝓤 H A mem run) (WpFn 𝓤 H (𝓣 .C) (𝓣 .Λ) code.function) (WpFn-mono 𝓤 H (W .laws) 𝓣 code.function) walks
 
 pub xrce-agent-setup-spec : {M : Type 1} → stated.statement M
 unfolding code.routine tablesOf

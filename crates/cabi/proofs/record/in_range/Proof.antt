@@ -19,7 +19,10 @@ returns-5 : tie.Need-returns-5
 returns-5 c = rw (le-leb _ 255 (c .before .before .before .before .before .before .before .before .if1 .left), le-leb _ 4 (c .before .before .before .before .before .before .if2 .left), le-leb _ 255 (c .before .before .before .before .if3 .left), le-leb _ 255 (c .before .before .if4 .left), lt-leb _ 255 (c .if5 .taken))
 
 returns-6 : tie.Need-returns-6
-returns-6 c = rw (le-leb _ 255 (c .before .before .before .before .before .before .before .before .before .if1 .left), le-leb _ 4 (c .before .before .before .before .before .before .before .if2 .left), le-leb _ 255 (c .before .before .before .before .before .if3 .left), le-leb _ 255 (c .before .before .before .if4 .left), le-leb _ 255 (c .before .if5 .left))
+returns-6 c = rw (le-leb _ 255 (c .before .before .before .before .before .before .before .before .before .before .if1 .left), le-leb _ 4 (c .before .before .before .before .before .before .before .before .if2 .left), le-leb _ 255 (c .before .before .before .before .before .before .if3 .left), le-leb _ 255 (c .before .before .before .before .if4 .left), le-leb _ 255 (c .before .before .if5 .left), lt-leb _ 65535 (c .if6 .taken))
+
+returns-7 : tie.Need-returns-7
+returns-7 c = rw (le-leb _ 255 (c .before .before .before .before .before .before .before .before .before .before .before .if1 .left), le-leb _ 4 (c .before .before .before .before .before .before .before .before .before .if2 .left), le-leb _ 255 (c .before .before .before .before .before .before .before .if3 .left), le-leb _ 255 (c .before .before .before .before .before .if4 .left), le-leb _ 255 (c .before .before .before .if5 .left), le-leb _ 65535 (c .before .if6 .left))
 
 pub in-range-spec : {M : Type 1} → statement M
-in-range-spec = tie.close (tie.spec returns returns-2 returns-3 returns-4 returns-5 returns-6)
+in-range-spec = tie.close (tie.spec returns returns-2 returns-3 returns-4 returns-5 returns-6 returns-7)

@@ -9,8 +9,8 @@ task-number-requires c κs = search needs
 task-kind-requires : tie.Need-task-kind-requires
 task-kind-requires c κs = search needs
 
-cast-t9 : tie.Need-cast-t9
-cast-t9 c = search needs
+task-parent-requires : tie.Need-task-parent-requires
+task-parent-requires c κs = search needs
 
 cast-t10 : tie.Need-cast-t10
 cast-t10 c = search needs
@@ -18,9 +18,20 @@ cast-t10 c = search needs
 cast-t11 : tie.Need-cast-t11
 cast-t11 c = search needs
 
+cast-t12 : tie.Need-cast-t12
+cast-t12 c = search needs
+
 returns : tie.Need-returns
-returns c = rw (c .before .before .before .before .task-number .ensures, c .before .before .before .task-kind .ensures)
+returns c = rw (c .before .before .before .before .before .task-number .ensures, c .before .before .before .before .task-kind .ensures, c .before .before .before .task-parent .ensures)
 
 pub open-record-spec : {M : Type 1} → statement M
 open-record-spec =
-    tie.close (tie.spec task-number-requires task-kind-requires cast-t9 cast-t10 cast-t11 returns)
+    tie.close
+    (tie.spec
+    task-number-requires
+    task-kind-requires
+    task-parent-requires
+    cast-t10
+    cast-t11
+    cast-t12
+    returns)

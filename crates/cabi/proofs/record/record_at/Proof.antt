@@ -65,6 +65,12 @@ index-1-t44 c = search needs
 index-2-t44 : tie.Need-index-2-t44
 index-2-t44 c = search needs
 
+index-1-t48 : tie.Need-index-1-t48
+index-1-t48 c = search needs
+
+index-2-t48 : tie.Need-index-2-t48
+index-2-t48 c = search needs
+
 no-record-requires : tie.Need-no-record-requires
 no-record-requires c κs = search needs
 
@@ -98,6 +104,8 @@ record-at-spec =
     index-2-t40
     index-1-t44
     index-2-t44
+    index-1-t48
+    index-2-t48
     no-record-requires
     returns
     returns-2)

@@ -54,11 +54,11 @@ use Rattle.walk.proofs.Parts.{part-len, lends-part, backs-part, parts-shr}
 use Rattle.walk.proofs.Arrays.{rep-is, lends-array, backs-array}
 use Rattle.moves.specs.Rows.{lent, blankAsked, opensWith, createsAs, namesOne, onStream, asksOf, handledMove, handledTables}
 use Rattle.sessions.specs.Objects.{implicitOf}
-use Rattle.sessions.specs.SessionObjects.{foundObject, greatestObject, storedObject, storedObjects, keepStored, removedObjects, keepRemoved}
+use Rattle.sessions.specs.SessionObjects.{foundObject, storedObject, storedObjects, keepStored, removedObjects, keepRemoved}
 use Rattle.sessions.specs.Room.{roomOf}
-use Rattle.moves.specs.Moves.{writeMove, readMove, deleteMove, topicMove, endpointMove}
+use Rattle.moves.specs.Moves.{writeMove, readMove, deleteMove, topicMove}
 use Rattle.moves.specs.Names.{namesIn}
-use Rattle.moves.specs.Rows.{okMove, createMove, createdSessions, createdObjects, isFree, noRoomMove, roomMove, roomSessions, roomObjects}
+use Rattle.moves.specs.Rows.{okMove, endpointIn, createMove, createdSessions, createdObjects, isFree, noRoomMove, roomMove, roomSessions, roomObjects}
 use Rattle.sessions.specs.SessionStreams.{streamPlace}
 use Rattle.moves.specs.RowsStreams.{acknowledgedRows, streamMove, streamRows, openedSessions, openedRows, readOf}
 use types.Kit.{frees, prop}
@@ -135,8 +135,8 @@ use Rattle.moves.proofs.handle.handle.Statement as stated
 use Rattle.moves.proofs.handle.handle.Code as code
 use Rattle.moves.proofs.handle.handle.Code.Mir as mir
 
-abbrev Object-of : ObjectNumber → ℕ → ℕ → ℕ → Object
-Object-of x0 x1 x2 x3 = record { number = x0; kind = x1; bridged = x2; handle = x3 }
+abbrev Object-of : ObjectNumber → ℕ → ℕ → ℕ → ℕ → Object
+Object-of x0 x1 x2 x3 x4 = record { number = x0; kind = x1; bridged = x2; handle = x3; parent = x4 }
 
 abbrev Object-p : Plain
 Object-p = record { row = Object-t.the-row; val = LL.val Object-t.the-type Object-l.the-laws; tells = LL.tells Object-t.the-type Object-l.the-laws; makes = λ 𝓤 H A W. LL.makes Object-t.the-type Object-l.the-plain 𝓤 H A; ty = Object-l.mir; typed = λ 𝓤 H A W x is. LL.lawful Object-t.the-type Object-l.the-laws 𝓤 H A W .typed x _ is .0; copies = λ 𝓤 H A W. LL.copy Object-t.the-type Object-l.the-copy 𝓤 H A W }
@@ -264,11 +264,11 @@ module _ {M : Type 1} (𝓤 : URA M) (H : Heap 𝓤) (A : Atoms 𝓤) (W : Given
         forget ! 52 refl $ forget ! 54 refl $ forget ! 56 refl $ forget ! 58 refl $ forget ! 60 refl $ forget ! 62 refl $ forget ! 64 refl $ forget ! 66 refl $ forget ! 68 refl $ move ! (68 ∷ 69 ∷ []) $ free1 ! $ move ! (66 ∷ 67 ∷ []) $ free1 ! $ move ! (64 ∷ 65 ∷ []) $ free1 ! $ move ! (62 ∷ 63 ∷ []) $ free1 ! $ move ! (60 ∷ 61 ∷ []) $ free1 ! $ move ! (58 ∷ 59 ∷ []) $ free1 ! $ move ! (56 ∷ 57 ∷ []) $ free1 ! $ move ! (54 ∷ 55 ∷ []) $ free1 ! $ move ! (52 ∷ 53 ∷ []) $ free1 ! $ move ! (50 ∷ 51 ∷ []) $ free1 ! $ move ! (48 ∷ 49 ∷ []) $ free1 ! $ move ! (46 ∷ 47 ∷ []) $ free1 ! $ move ! (44 ∷ 45 ∷ []) $ free1 ! $ move ! (42 ∷ 43 ∷ []) $ free1 ! $ move ! (40 ∷ 41 ∷ []) $ free1 ! $ move ! (38 ∷ 39 ∷ []) $ free1 ! $ move ! (36 ∷ 37 ∷ []) $ free1 ! $ move ! (34 ∷ 35 ∷ []) $ free1 ! $ move ! (32 ∷ 33 ∷ []) $ free1 ! $ move ! (30 ∷ 31 ∷ []) $ free1 ! $ move ! (28 ∷ 29 ∷ []) $ free1 ! $ move ! (26 ∷ 27 ∷ []) $ free1 ! $ move ! (24 ∷ 25 ∷ []) $ free1 ! $ move ! (22 ∷ 23 ∷ []) $ free1 ! $ move ! (20 ∷ 21 ∷ []) $ free1 ! $ move ! (18 ∷ 19 ∷ []) $ free1 ! $ move ! (16 ∷ 17 ∷ []) $ free1 ! $ move ! (14 ∷ 15 ∷ []) $ free1 ! $ move ! (12 ∷ 13 ∷ []) $ free1 ! $ move ! (10 ∷ 11 ∷ []) $ free1 ! $ move ! (8 ∷ 9 ∷ []) $ free1 ! $ free0 ! $
         by ! ends
 
-    part-3-0 : (e-2 : q .group ≡ Group-Creates) → (good-2 : Is (Group-p .row) Group-Creates (Group-p .val Group-Creates ∷ [])) → (len-2·Creates·5-sessions : length (roomSessions (roomOf (sessions) (objects) id (q .number)) (sessions) (objects) id (q .number) (q .kind)) ≡ n₁) → (len-2·Creates·5-objects : length (roomObjects (roomOf (sessions) (objects) id (q .number)) (sessions) (objects) id (q .number) (q .kind)) ≡ n₃) → (is-2·Creates·5 : Is (Move-p .row) (roomMove (roomOf (sessions) (objects) id (q .number)) (sessions) (objects) (d) id (q .number) (q .kind) (q .parent) body) (Move-p .val (roomMove (roomOf (sessions) (objects) id (q .number)) (sessions) (objects) (d) id (q .number) (q .kind) (q .parent) body) ∷ [])) → Sq W (‵ (MutSlice (named 0) κ₁ (Array u64 5) .own (at-list b₁ o₁ γ₁ (roomSessions (roomOf (sessions) (objects) id (q .number)) (sessions) (objects) id (q .number) (q .kind))) (sliceVal (b₁, o₁) n₁ ∷ [])) ∷ ‵ (flft κ₁ q₁) ∷ ‵ (MutSlice (named 0) κ₂ (Array u16 35) .own (at-list b₂ o₂ γ₂ streams) (sliceVal (b₂, o₂) n₂ ∷ [])) ∷ ‵ (flft κ₂ q₂) ∷ ‵ (MutSlice (named 0) κ₃ Object-t.the-row .own (at-list b₃ o₃ γ₃ (roomObjects (roomOf (sessions) (objects) id (q .number)) (sessions) (objects) id (q .number) (q .kind))) (sliceVal (b₃, o₃) n₃ ∷ [])) ∷ ‵ (flft κ₃ q₃) ∷ ‵ (ShrSlice (named 0) κ₄ u8 .own (at-list b₄ o₄ γ₄ d) (sliceVal (b₄, o₄) n₄ ∷ [])) ∷ ‵ (flft κ₄ q₄) ∷ free 𝓤 (sliceTy (tyRef erased mut (pointee ((Array u16 35) .written)))) l₃₀ (free 𝓤 (tyRef erased mut (pointee ((Array u16 35) .written))) l₂₉ (free 𝓤 (sliceTy (tyRef erased mut (pointee ((Array u64 5) .written)))) l₂₈ (free 𝓤 (tyRef erased mut (pointee ((Array u64 5) .written))) l₂₇ (free 𝓤 (sliceTy (tyRef erased imm (pointee (Object-t.the-row .written)))) l₂₆ (free 𝓤 (tyRef erased imm (pointee (Object-t.the-row .written))) l₂₅ (free 𝓤 (sliceTy (tyRef erased imm (pointee ((Array u64 5) .written)))) l₂₄ (free 𝓤 (tyRef erased imm (pointee ((Array u64 5) .written))) l₂₃ (free 𝓤 (sliceTy (tyRef erased imm (pointee (Object-t.the-row .written)))) l₂₂ (free 𝓤 (tyRef erased imm (pointee (Object-t.the-row .written))) l₂₁ (free 𝓤 (sliceTy (tyRef erased imm (pointee ((Array u64 5) .written)))) l₂₀ (free 𝓤 (tyRef erased imm (pointee ((Array u64 5) .written))) l₁₉ (free 𝓤 (sliceTy (tyRef erased mut (pointee (Object-t.the-row .written)))) l₁₈ (free 𝓤 (tyRef erased mut (pointee (Object-t.the-row .written))) l₁₇ (free 𝓤 (sliceTy (tyRef erased mut (pointee ((Array u64 5) .written)))) l₁₆ (free 𝓤 (tyRef erased mut (pointee ((Array u64 5) .written))) l₁₅ (full 𝓤 (sliceTy (tyRef erased mut (pointee (Object-t.the-row .written)))) l₁₄ (sliceVal (b₃, o₃) n₃) (full 𝓤 (tyRef erased mut (pointee (Object-t.the-row .written))) l₁₃ (vptr b₃ o₃) (full 𝓤 (sliceTy (tyRef erased mut (pointee ((Array u64 5) .written)))) l₁₂ (sliceVal (b₁, o₁) n₁) (full 𝓤 (tyRef erased mut (pointee ((Array u64 5) .written))) l₁₁ (vptr b₁ o₁) (full 𝓤 Move-l.mir l₁₀ (Move-p .val (roomMove (roomOf (sessions) (objects) id (q .number)) (sessions) (objects) (d) id (q .number) (q .kind) (q .parent) body)) (full 𝓤 Group-l.mir l₉ (Group-p .val Group-Creates) (full 𝓤 Span-l.mir l₈ (Span-p .val body) (full 𝓤 Asked-l.mir l₇ (Asked-p .val q) (full 𝓤 (tyInt w8) l₆ (u8-p .val n′) (full 𝓤 (tyInt w8) l₅ (u8-p .val id) (full 𝓤 (sliceTy (tyRef (named 3) imm (pointee (u8 .written)))) l₄ (sliceVal (b₄, o₄) n₄) (full 𝓤 (sliceTy (tyRef (named 2) mut (pointee (Object-t.the-row .written)))) l₃ (sliceVal (b₃, o₃) n₃) (full 𝓤 (sliceTy (tyRef (named 1) mut (pointee ((Array u16 35) .written)))) l₂ (sliceVal (b₂, o₂) n₂) (full 𝓤 (sliceTy (tyRef (named 0) mut (pointee ((Array u64 5) .written)))) l₁ (sliceVal (b₁, o₁) n₁) (free 𝓤 Move-l.mir l₀ ([])))))))))))))))))))))))))))))))) (runs C Λ En mir.t-3 (atRet En Post))
+    part-3-0 : (e-2 : q .group ≡ Group-Creates) → (good-2 : Is (Group-p .row) Group-Creates (Group-p .val Group-Creates ∷ [])) → (len-2·Creates·5-sessions : length (roomSessions (roomOf (sessions) (objects) id (q .number)) (sessions) (objects) id (q .number) (q .kind) (q .parent)) ≡ n₁) → (len-2·Creates·5-objects : length (roomObjects (roomOf (sessions) (objects) id (q .number)) (sessions) (objects) id (q .number) (q .kind) (q .parent)) ≡ n₃) → (is-2·Creates·5 : Is (Move-p .row) (roomMove (roomOf (sessions) (objects) id (q .number)) (sessions) (objects) (d) id (q .number) (q .kind) (q .parent) body) (Move-p .val (roomMove (roomOf (sessions) (objects) id (q .number)) (sessions) (objects) (d) id (q .number) (q .kind) (q .parent) body) ∷ [])) → Sq W (‵ (MutSlice (named 0) κ₁ (Array u64 5) .own (at-list b₁ o₁ γ₁ (roomSessions (roomOf (sessions) (objects) id (q .number)) (sessions) (objects) id (q .number) (q .kind) (q .parent))) (sliceVal (b₁, o₁) n₁ ∷ [])) ∷ ‵ (flft κ₁ q₁) ∷ ‵ (MutSlice (named 0) κ₂ (Array u16 35) .own (at-list b₂ o₂ γ₂ streams) (sliceVal (b₂, o₂) n₂ ∷ [])) ∷ ‵ (flft κ₂ q₂) ∷ ‵ (MutSlice (named 0) κ₃ Object-t.the-row .own (at-list b₃ o₃ γ₃ (roomObjects (roomOf (sessions) (objects) id (q .number)) (sessions) (objects) id (q .number) (q .kind) (q .parent))) (sliceVal (b₃, o₃) n₃ ∷ [])) ∷ ‵ (flft κ₃ q₃) ∷ ‵ (ShrSlice (named 0) κ₄ u8 .own (at-list b₄ o₄ γ₄ d) (sliceVal (b₄, o₄) n₄ ∷ [])) ∷ ‵ (flft κ₄ q₄) ∷ free 𝓤 (sliceTy (tyRef erased mut (pointee ((Array u16 35) .written)))) l₃₀ (free 𝓤 (tyRef erased mut (pointee ((Array u16 35) .written))) l₂₉ (free 𝓤 (sliceTy (tyRef erased mut (pointee ((Array u64 5) .written)))) l₂₈ (free 𝓤 (tyRef erased mut (pointee ((Array u64 5) .written))) l₂₇ (free 𝓤 (sliceTy (tyRef erased imm (pointee (Object-t.the-row .written)))) l₂₆ (free 𝓤 (tyRef erased imm (pointee (Object-t.the-row .written))) l₂₅ (free 𝓤 (sliceTy (tyRef erased imm (pointee ((Array u64 5) .written)))) l₂₄ (free 𝓤 (tyRef erased imm (pointee ((Array u64 5) .written))) l₂₃ (free 𝓤 (sliceTy (tyRef erased imm (pointee (Object-t.the-row .written)))) l₂₂ (free 𝓤 (tyRef erased imm (pointee (Object-t.the-row .written))) l₂₁ (free 𝓤 (sliceTy (tyRef erased imm (pointee ((Array u64 5) .written)))) l₂₀ (free 𝓤 (tyRef erased imm (pointee ((Array u64 5) .written))) l₁₉ (free 𝓤 (sliceTy (tyRef erased mut (pointee (Object-t.the-row .written)))) l₁₈ (free 𝓤 (tyRef erased mut (pointee (Object-t.the-row .written))) l₁₇ (free 𝓤 (sliceTy (tyRef erased mut (pointee ((Array u64 5) .written)))) l₁₆ (free 𝓤 (tyRef erased mut (pointee ((Array u64 5) .written))) l₁₅ (full 𝓤 (sliceTy (tyRef erased mut (pointee (Object-t.the-row .written)))) l₁₄ (sliceVal (b₃, o₃) n₃) (full 𝓤 (tyRef erased mut (pointee (Object-t.the-row .written))) l₁₃ (vptr b₃ o₃) (full 𝓤 (sliceTy (tyRef erased mut (pointee ((Array u64 5) .written)))) l₁₂ (sliceVal (b₁, o₁) n₁) (full 𝓤 (tyRef erased mut (pointee ((Array u64 5) .written))) l₁₁ (vptr b₁ o₁) (full 𝓤 Move-l.mir l₁₀ (Move-p .val (roomMove (roomOf (sessions) (objects) id (q .number)) (sessions) (objects) (d) id (q .number) (q .kind) (q .parent) body)) (full 𝓤 Group-l.mir l₉ (Group-p .val Group-Creates) (full 𝓤 Span-l.mir l₈ (Span-p .val body) (full 𝓤 Asked-l.mir l₇ (Asked-p .val q) (full 𝓤 (tyInt w8) l₆ (u8-p .val n′) (full 𝓤 (tyInt w8) l₅ (u8-p .val id) (full 𝓤 (sliceTy (tyRef (named 3) imm (pointee (u8 .written)))) l₄ (sliceVal (b₄, o₄) n₄) (full 𝓤 (sliceTy (tyRef (named 2) mut (pointee (Object-t.the-row .written)))) l₃ (sliceVal (b₃, o₃) n₃) (full 𝓤 (sliceTy (tyRef (named 1) mut (pointee ((Array u16 35) .written)))) l₂ (sliceVal (b₂, o₂) n₂) (full 𝓤 (sliceTy (tyRef (named 0) mut (pointee ((Array u64 5) .written)))) l₁ (sliceVal (b₁, o₁) n₁) (free 𝓤 Move-l.mir l₀ ([])))))))))))))))))))))))))))))))) (runs C Λ En mir.t-3 (atRet En Post))
     part-3-0 e-2 good-2 len-2·Creates·5-sessions len-2·Creates·5-objects is-2·Creates·5 =
         assigns ! (of-opd ! (load ! (from ! (stop !)) (look ! 48 refl))) (from ! (stop !)) (init ! 68 refl (Move-p .typed 𝓤 H A W (roomMove (roomOf (sessions) (objects) id (q .number)) (sessions) (objects) (d) id (q .number) (q .kind) (q .parent) body) is-2·Creates·5)) $
         returns ! (look ! 68 refl) $ forget ! 40 refl $ forget ! 42 refl $ forget ! 44 refl $ forget ! 46 refl $ forget ! 48 refl $ forget ! 50 refl $
-        frees-all (roomMove (roomOf (sessions) (objects) id (q .number)) (sessions) (objects) (d) id (q .number) (q .kind) (q .parent) body) (roomSessions (roomOf (sessions) (objects) id (q .number)) (sessions) (objects) id (q .number) (q .kind)) streams (roomObjects (roomOf (sessions) (objects) id (q .number)) (sessions) (objects) id (q .number) (q .kind)) (exits (roomMove (roomOf (sessions) (objects) id (q .number)) (sessions) (objects) (d) id (q .number) (q .kind) (q .parent) body) (roomSessions (roomOf (sessions) (objects) id (q .number)) (sessions) (objects) id (q .number) (q .kind)) streams (roomObjects (roomOf (sessions) (objects) id (q .number)) (sessions) (objects) id (q .number) (q .kind)) ((ap (λ (g : Group). handledBy g q (lent sessions streams objects) d id n′ body) (sym e-2), ap (λ (g : Group). handledIn g q (lent sessions streams objects) id n′ .sessions) (sym e-2), ap (λ (g : Group). handledIn g q (lent sessions streams objects) id n′ .streams) (sym e-2), ap (λ (g : Group). handledIn g q (lent sessions streams objects) id n′ .objects) (sym e-2))) is-2·Creates·5 len-2·Creates·5-sessions refl len-2·Creates·5-objects)
+        frees-all (roomMove (roomOf (sessions) (objects) id (q .number)) (sessions) (objects) (d) id (q .number) (q .kind) (q .parent) body) (roomSessions (roomOf (sessions) (objects) id (q .number)) (sessions) (objects) id (q .number) (q .kind) (q .parent)) streams (roomObjects (roomOf (sessions) (objects) id (q .number)) (sessions) (objects) id (q .number) (q .kind) (q .parent)) (exits (roomMove (roomOf (sessions) (objects) id (q .number)) (sessions) (objects) (d) id (q .number) (q .kind) (q .parent) body) (roomSessions (roomOf (sessions) (objects) id (q .number)) (sessions) (objects) id (q .number) (q .kind) (q .parent)) streams (roomObjects (roomOf (sessions) (objects) id (q .number)) (sessions) (objects) id (q .number) (q .kind) (q .parent)) ((ap (λ (g : Group). handledBy g q (lent sessions streams objects) d id n′ body) (sym e-2), ap (λ (g : Group). handledIn g q (lent sessions streams objects) id n′ .sessions) (sym e-2), ap (λ (g : Group). handledIn g q (lent sessions streams objects) id n′ .streams) (sym e-2), ap (λ (g : Group). handledIn g q (lent sessions streams objects) id n′ .objects) (sym e-2))) is-2·Creates·5 len-2·Creates·5-sessions refl len-2·Creates·5-objects)
 
     matched-2-Creates-0 : (e-2 : q .group ≡ Group-Creates) → (good-2 : Is (Group-p .row) Group-Creates (Group-p .val Group-Creates ∷ [])) → Sq W (‵ (MutSlice (named 0) κ₁ (Array u64 5) .own (at-list b₁ o₁ γ₁ sessions) (sliceVal (b₁, o₁) n₁ ∷ [])) ∷ ‵ (flft κ₁ q₁) ∷ ‵ (MutSlice (named 0) κ₂ (Array u16 35) .own (at-list b₂ o₂ γ₂ streams) (sliceVal (b₂, o₂) n₂ ∷ [])) ∷ ‵ (flft κ₂ q₂) ∷ ‵ (MutSlice (named 0) κ₃ Object-t.the-row .own (at-list b₃ o₃ γ₃ objects) (sliceVal (b₃, o₃) n₃ ∷ [])) ∷ ‵ (flft κ₃ q₃) ∷ ‵ (ShrSlice (named 0) κ₄ u8 .own (at-list b₄ o₄ γ₄ d) (sliceVal (b₄, o₄) n₄ ∷ [])) ∷ ‵ (flft κ₄ q₄) ∷ free 𝓤 (sliceTy (tyRef erased mut (pointee ((Array u16 35) .written)))) l₃₀ (free 𝓤 (tyRef erased mut (pointee ((Array u16 35) .written))) l₂₉ (free 𝓤 (sliceTy (tyRef erased mut (pointee ((Array u64 5) .written)))) l₂₈ (free 𝓤 (tyRef erased mut (pointee ((Array u64 5) .written))) l₂₇ (free 𝓤 (sliceTy (tyRef erased imm (pointee (Object-t.the-row .written)))) l₂₆ (free 𝓤 (tyRef erased imm (pointee (Object-t.the-row .written))) l₂₅ (free 𝓤 (sliceTy (tyRef erased imm (pointee ((Array u64 5) .written)))) l₂₄ (free 𝓤 (tyRef erased imm (pointee ((Array u64 5) .written))) l₂₃ (free 𝓤 (sliceTy (tyRef erased imm (pointee (Object-t.the-row .written)))) l₂₂ (free 𝓤 (tyRef erased imm (pointee (Object-t.the-row .written))) l₂₁ (free 𝓤 (sliceTy (tyRef erased imm (pointee ((Array u64 5) .written)))) l₂₀ (free 𝓤 (tyRef erased imm (pointee ((Array u64 5) .written))) l₁₉ (free 𝓤 (sliceTy (tyRef erased mut (pointee (Object-t.the-row .written)))) l₁₈ (free 𝓤 (tyRef erased mut (pointee (Object-t.the-row .written))) l₁₇ (free 𝓤 (sliceTy (tyRef erased mut (pointee ((Array u64 5) .written)))) l₁₆ (free 𝓤 (tyRef erased mut (pointee ((Array u64 5) .written))) l₁₅ (free 𝓤 (sliceTy (tyRef erased mut (pointee (Object-t.the-row .written)))) l₁₄ (free 𝓤 (tyRef erased mut (pointee (Object-t.the-row .written))) l₁₃ (free 𝓤 (sliceTy (tyRef erased mut (pointee ((Array u64 5) .written)))) l₁₂ (free 𝓤 (tyRef erased mut (pointee ((Array u64 5) .written))) l₁₁ (free 𝓤 Move-l.mir l₁₀ (full 𝓤 Group-l.mir l₉ (Group-p .val Group-Creates) (full 𝓤 Span-l.mir l₈ (Span-p .val body) (full 𝓤 Asked-l.mir l₇ (Asked-p .val q) (full 𝓤 (tyInt w8) l₆ (u8-p .val n′) (full 𝓤 (tyInt w8) l₅ (u8-p .val id) (full 𝓤 (sliceTy (tyRef (named 3) imm (pointee (u8 .written)))) l₄ (sliceVal (b₄, o₄) n₄) (full 𝓤 (sliceTy (tyRef (named 2) mut (pointee (Object-t.the-row .written)))) l₃ (sliceVal (b₃, o₃) n₃) (full 𝓤 (sliceTy (tyRef (named 1) mut (pointee ((Array u16 35) .written)))) l₂ (sliceVal (b₂, o₂) n₂) (full 𝓤 (sliceTy (tyRef (named 0) mut (pointee ((Array u64 5) .written)))) l₁ (sliceVal (b₁, o₁) n₁) (free 𝓤 Move-l.mir l₀ ([])))))))))))))))))))))))))))))))) (runs C Λ En (one mir.t-2) (anyQ (afterSeq 𝓤 H (Wp 𝓤 H C Λ En mir.t-3 (atReturn 𝓤 H En Post)) (atReturn 𝓤 H En Post))))
     matched-2-Creates-0 e-2 good-2 =
@@ -289,15 +289,15 @@ module _ {M : Type 1} (𝓤 : URA M) (H : Heap 𝓤) (A : Atoms 𝓤) (W : Given
         owned ! (ObjectKind-p .row) (Is (ObjectKind-p .row)) (ObjectKind-p .makes 𝓤 H A W) (q .kind) (ObjectKind-p .val (q .kind) ∷ []) (LL.owed Asked-t.the-type Asked-l.the-laws q _ q-is .1 .1 .1 .1 .0) $ fjoin ! $
         owned ! (ObjectNumber-p .row) (Is (ObjectNumber-p .row)) (ObjectNumber-p .makes 𝓤 H A W) (q .number) (ObjectNumber-p .val (q .number) ∷ []) (LL.owed Asked-t.the-type Asked-l.the-laws q _ q-is .1 .1 .1 .0) $ fjoin ! $
         owned ! (u8-p .row) (Is (u8-p .row)) (u8-p .makes 𝓤 H A W) id (u8-p .val id ∷ []) id-is $ fjoin ! $ move ! (2 ∷ 0 ∷ []) $ fjoin ! $ move ! (3 ∷ 0 ∷ []) $ fjoin ! $ move ! (4 ∷ 0 ∷ []) $ fjoin ! $ move ! (1 ∷ 0 ∷ []) $
-        calls-any-last ! fm 3 [] (objects-create.signature .params) (objects-create.ended .kept) Move-p (objects-create.clauses 𝓤 H A mem run) known-objects-create ((ν-2·Creates·5-sessions ∷ []), ((ν-2·Creates·5-objects ∷ []), (κ₄, tt))) (fullShare, (fullShare, (q₄, tt))) tt (at-list b₁ o₁ δ-2·Creates·5-sessions sessions, (at-list b₃ o₃ δ-2·Creates·5-objects objects, (at-list b₄ o₄ γ₄ d, (id, (q .number, (q .kind, (q .parent, (body, tt)))))))) (sliceVal (b₁, o₁) n₁ ∷ [], (sliceVal (b₃, o₃) n₃ ∷ [], (sliceVal (b₄, o₄) n₄ ∷ [], (u8-p .val id ∷ [], (ObjectNumber-p .val (q .number) ∷ [], (ObjectKind-p .val (q .kind) ∷ [], (u16-p .val (q .parent) ∷ [], (Span-p .val body ∷ [], tt)))))))) tt (roomMove (roomOf (sessions) (objects) id (q .number)) (sessions) (objects) (d) id (q .number) (q .kind) (q .parent) body) (λ ws-2·Creates·5. (ws-2·Creates·5 .0 ≡ roomSessions (roomOf (sessions) (objects) id (q .number)) (sessions) (objects) id (q .number) (q .kind)) × (ws-2·Creates·5 .1 .0 ≡ roomObjects (roomOf (sessions) (objects) id (q .number)) (sessions) (objects) id (q .number) (q .kind))) (id⊢ 𝓤 _) (λ r ws-2·Creates·5. fact-mono 𝓤 ((r ≡ roomMove (roomOf (sessions) (objects) id (q .number)) (sessions) (objects) (d) id (q .number) (q .kind) (q .parent) body) × ((ws-2·Creates·5 .0) ≡ roomSessions (roomOf (sessions) (objects) id (q .number)) (sessions) (objects) id (q .number) (q .kind)) × ((ws-2·Creates·5 .1 .0) ≡ roomObjects (roomOf (sessions) (objects) id (q .number)) (sessions) (objects) id (q .number) (q .kind))) ((r ≡ (roomMove (roomOf (sessions) (objects) id (q .number)) (sessions) (objects) (d) id (q .number) (q .kind) (q .parent) body)) × ((ws-2·Creates·5 .0 ≡ roomSessions (roomOf (sessions) (objects) id (q .number)) (sessions) (objects) id (q .number) (q .kind)) × (ws-2·Creates·5 .1 .0 ≡ roomObjects (roomOf (sessions) (objects) id (q .number)) (sessions) (objects) id (q .number) (q .kind)))) (λ e. (e .0, (e .1, e .2)))) (λ _. (and-then ! (load ! (from ! (stop !)) (look ! 42 refl)) (and-then ! (load ! (from ! (stop !)) (look ! 38 refl)) (and-then ! (load ! (from ! (stop !)) (look ! 58 refl)) (and-then ! (load ! (from ! (stop !)) (look ! 56 refl)) (and-then ! (load ! (from ! (fld ! refl (stop !))) (look-in ! 52 (sub ! 3 refl (whole !)))) (and-then ! (load ! (from ! (fld ! refl (stop !))) (look-in ! 52 (sub ! 4 refl (whole !)))) (and-then ! (load ! (from ! (fld ! refl (stop !))) (look-in ! 52 (sub ! 5 refl (whole !)))) (and-then ! (load ! (from ! (stop !)) (look ! 50 refl)) (no-more !)))))))))) (λ ws-2·Creates·5 said-2·Creates·5 is-2·Creates·5.
+        calls-any-last ! fm 3 [] (objects-create.signature .params) (objects-create.ended .kept) Move-p (objects-create.clauses 𝓤 H A mem run) known-objects-create ((ν-2·Creates·5-sessions ∷ []), ((ν-2·Creates·5-objects ∷ []), (κ₄, tt))) (fullShare, (fullShare, (q₄, tt))) tt (at-list b₁ o₁ δ-2·Creates·5-sessions sessions, (at-list b₃ o₃ δ-2·Creates·5-objects objects, (at-list b₄ o₄ γ₄ d, (id, (q .number, (q .kind, (q .parent, (body, tt)))))))) (sliceVal (b₁, o₁) n₁ ∷ [], (sliceVal (b₃, o₃) n₃ ∷ [], (sliceVal (b₄, o₄) n₄ ∷ [], (u8-p .val id ∷ [], (ObjectNumber-p .val (q .number) ∷ [], (ObjectKind-p .val (q .kind) ∷ [], (u16-p .val (q .parent) ∷ [], (Span-p .val body ∷ [], tt)))))))) tt (roomMove (roomOf (sessions) (objects) id (q .number)) (sessions) (objects) (d) id (q .number) (q .kind) (q .parent) body) (λ ws-2·Creates·5. (ws-2·Creates·5 .0 ≡ roomSessions (roomOf (sessions) (objects) id (q .number)) (sessions) (objects) id (q .number) (q .kind) (q .parent)) × (ws-2·Creates·5 .1 .0 ≡ roomObjects (roomOf (sessions) (objects) id (q .number)) (sessions) (objects) id (q .number) (q .kind) (q .parent))) (id⊢ 𝓤 _) (λ r ws-2·Creates·5. fact-mono 𝓤 ((r ≡ roomMove (roomOf (sessions) (objects) id (q .number)) (sessions) (objects) (d) id (q .number) (q .kind) (q .parent) body) × ((ws-2·Creates·5 .0) ≡ roomSessions (roomOf (sessions) (objects) id (q .number)) (sessions) (objects) id (q .number) (q .kind) (q .parent)) × ((ws-2·Creates·5 .1 .0) ≡ roomObjects (roomOf (sessions) (objects) id (q .number)) (sessions) (objects) id (q .number) (q .kind) (q .parent))) ((r ≡ (roomMove (roomOf (sessions) (objects) id (q .number)) (sessions) (objects) (d) id (q .number) (q .kind) (q .parent) body)) × ((ws-2·Creates·5 .0 ≡ roomSessions (roomOf (sessions) (objects) id (q .number)) (sessions) (objects) id (q .number) (q .kind) (q .parent)) × (ws-2·Creates·5 .1 .0 ≡ roomObjects (roomOf (sessions) (objects) id (q .number)) (sessions) (objects) id (q .number) (q .kind) (q .parent)))) (λ e. (e .0, (e .1, e .2)))) (λ _. (and-then ! (load ! (from ! (stop !)) (look ! 42 refl)) (and-then ! (load ! (from ! (stop !)) (look ! 38 refl)) (and-then ! (load ! (from ! (stop !)) (look ! 58 refl)) (and-then ! (load ! (from ! (stop !)) (look ! 56 refl)) (and-then ! (load ! (from ! (fld ! refl (stop !))) (look-in ! 52 (sub ! 3 refl (whole !)))) (and-then ! (load ! (from ! (fld ! refl (stop !))) (look-in ! 52 (sub ! 4 refl (whole !)))) (and-then ! (load ! (from ! (fld ! refl (stop !))) (look-in ! 52 (sub ! 5 refl (whole !)))) (and-then ! (load ! (from ! (stop !)) (look ! 50 refl)) (no-more !)))))))))) (λ ws-2·Creates·5 said-2·Creates·5 is-2·Creates·5.
         use1 W ((‵ (flft (ν-2·Creates·5-sessions ∷ []) fullShare) ⊛ (‵ (flft (ν-2·Creates·5-objects ∷ []) fullShare) ⊛ (‵ (flft κ₄ q₄) ⊛ ‵ ftrue)))) (id⊢ 𝓤 _) $ split ! $ move ! (1 ∷ []) $ split ! $ move ! (1 ∷ []) $ split ! $ move ! (4 ∷ []) $ fsplit ! $ fsplit ! $ move ! (1 ∷ []) $
         feqL ! (λ wlen-2·Creates·5-0.
         move ! (1 ∷ []) $ fsplit ! $ fsplit ! $ move ! (1 ∷ []) $
         feqL ! (λ wlen-2·Creates·5-1.
         move ! (1 ∷ []) $ fsplit ! $ move ! (7 ∷ 10 ∷ 3 ∷ []) $
-        backs-mut ! tt (Array u64 5) b₁ o₁ sessions n₁ (refl) room₁ ν-2·Creates·5-sessions δ-2·Creates·5-sessions (ws-2·Creates·5 .0) (roomSessions (roomOf (sessions) (objects) id (q .number)) (sessions) (objects) id (q .number) (q .kind)) wlen-2·Creates·5-0 (said-2·Creates·5 .0) (λ len-2·Creates·5-sessions.
+        backs-mut ! tt (Array u64 5) b₁ o₁ sessions n₁ (refl) room₁ ν-2·Creates·5-sessions δ-2·Creates·5-sessions (ws-2·Creates·5 .0) (roomSessions (roomOf (sessions) (objects) id (q .number)) (sessions) (objects) id (q .number) (q .kind) (q .parent)) wlen-2·Creates·5-0 (said-2·Creates·5 .0) (λ len-2·Creates·5-sessions.
         move ! (7 ∷ 9 ∷ 4 ∷ []) $
-        backs-mut ! tt Object-t.the-row b₃ o₃ objects n₃ (refl) room₃ ν-2·Creates·5-objects δ-2·Creates·5-objects (ws-2·Creates·5 .1 .0) (roomObjects (roomOf (sessions) (objects) id (q .number)) (sessions) (objects) id (q .number) (q .kind)) wlen-2·Creates·5-1 (said-2·Creates·5 .1) (λ len-2·Creates·5-objects.
+        backs-mut ! tt Object-t.the-row b₃ o₃ objects n₃ (refl) room₃ ν-2·Creates·5-objects δ-2·Creates·5-objects (ws-2·Creates·5 .1 .0) (roomObjects (roomOf (sessions) (objects) id (q .number)) (sessions) (objects) id (q .number) (q .kind) (q .parent)) wlen-2·Creates·5-1 (said-2·Creates·5 .1) (λ len-2·Creates·5-objects.
         move ! (4 ∷ []) $ drop ! $ move ! (4 ∷ []) $ drop ! $ move ! (5 ∷ []) $ drop ! $
         land-last ! (from ! (stop !)) (init ! 48 refl (Move-p .typed 𝓤 H A W (roomMove (roomOf (sessions) (objects) id (q .number)) (sessions) (objects) (d) id (q .number) (q .kind) (q .parent) body) is-2·Creates·5)) $
         exec ! C Λ En mir.t-3 (atRet En Post) $ move ! (2 ∷ 3 ∷ 6 ∷ 7 ∷ 0 ∷ 1 ∷ 5 ∷ 4 ∷ 8 ∷ 9 ∷ 10 ∷ 11 ∷ 12 ∷ 13 ∷ 14 ∷ 15 ∷ 16 ∷ 17 ∷ 18 ∷ 19 ∷ 20 ∷ 21 ∷ 22 ∷ 23 ∷ 24 ∷ 25 ∷ 26 ∷ 27 ∷ 28 ∷ 29 ∷ 30 ∷ 31 ∷ 32 ∷ 33 ∷ 34 ∷ 35 ∷ 36 ∷ 37 ∷ 38 ∷ 39 ∷ 40 ∷ 41 ∷ 42 ∷ 43 ∷ 44 ∷ 45 ∷ 46 ∷ 47 ∷ 48 ∷ 49 ∷ 50 ∷ 51 ∷ 52 ∷ 53 ∷ 54 ∷ 55 ∷ 56 ∷ 57 ∷ 58 ∷ 59 ∷ 60 ∷ 61 ∷ 62 ∷ 63 ∷ 64 ∷ 65 ∷ 66 ∷ 67 ∷ 68 ∷ 69 ∷ []) $

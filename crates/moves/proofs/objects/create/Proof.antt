@@ -53,11 +53,11 @@ use borrow.Rule.Slice.PartMut.{midOf, putMid}
 use Rattle.walk.proofs.Parts.{part-len, lends-part, backs-part, parts-shr}
 use Rattle.walk.proofs.Arrays.{rep-is, lends-array, backs-array}
 use Rattle.sessions.specs.Objects.{implicitOf}
-use Rattle.sessions.specs.SessionObjects.{foundObject, greatestObject, storedObject, storedObjects, keepStored, removedObjects, keepRemoved}
+use Rattle.sessions.specs.SessionObjects.{foundObject, storedObject, storedObjects, keepStored, removedObjects, keepRemoved}
 use Rattle.sessions.specs.Room.{roomOf}
-use Rattle.moves.specs.Moves.{writeMove, readMove, deleteMove, topicMove, endpointMove}
+use Rattle.moves.specs.Moves.{writeMove, readMove, deleteMove, topicMove}
 use Rattle.moves.specs.Names.{namesIn}
-use Rattle.moves.specs.Rows.{okMove, createMove, createdSessions, createdObjects, isFree, noRoomMove, roomMove, roomSessions, roomObjects}
+use Rattle.moves.specs.Rows.{okMove, endpointIn, createMove, createdSessions, createdObjects, isFree, noRoomMove, roomMove, roomSessions, roomObjects}
 use Rattle.sessions.specs.Table.{sessionAt}
 use Rattle.sessions.specs.Room.{roomFor}
 use types.Kit.{frees, prop}
@@ -127,8 +127,8 @@ use Rattle.moves.proofs.objects.create.Statement as stated
 use Rattle.moves.proofs.objects.create.Code as code
 use Rattle.moves.proofs.objects.create.Code.Mir as mir
 
-abbrev Object-of : ObjectNumber → ℕ → ℕ → ℕ → Object
-Object-of x0 x1 x2 x3 = record { number = x0; kind = x1; bridged = x2; handle = x3 }
+abbrev Object-of : ObjectNumber → ℕ → ℕ → ℕ → ℕ → Object
+Object-of x0 x1 x2 x3 x4 = record { number = x0; kind = x1; bridged = x2; handle = x3; parent = x4 }
 
 abbrev Object-p : Plain
 Object-p = record { row = Object-t.the-row; val = LL.val Object-t.the-type Object-l.the-laws; tells = LL.tells Object-t.the-type Object-l.the-laws; makes = λ 𝓤 H A W. LL.makes Object-t.the-type Object-l.the-plain 𝓤 H A; ty = Object-l.mir; typed = λ 𝓤 H A W x is. LL.lawful Object-t.the-type Object-l.the-laws 𝓤 H A W .typed x _ is .0; copies = λ 𝓤 H A W. LL.copy Object-t.the-type Object-l.the-copy 𝓤 H A W }
@@ -221,12 +221,12 @@ module _ {M : Type 1} (𝓤 : URA M) (H : Heap 𝓤) (A : Atoms 𝓤) (W : Given
   moved b = cond b (createMove kind sessions objects d id number parent body) (noRoomMove number room)
 
   abbrev sessions-left : Bool → List (List ℕ)
-  sessions-left b = cond b (createdSessions kind sessions objects id number) sessions
+  sessions-left b = cond b (createdSessions kind sessions objects id number parent) sessions
 
   abbrev objects-left : Bool → List Object
-  objects-left b = cond b (createdObjects kind sessions objects id number) objects
+  objects-left b = cond b (createdObjects kind sessions objects id number parent) objects
 
-  exits : (r : Move) (ws₁ : List (List ℕ)) (ws₂ : List Object) → ((r ≡ roomMove (roomOf (sessions) (objects) id number) (sessions) (objects) (d) id number kind parent body) × (ws₁ ≡ roomSessions (roomOf (sessions) (objects) id number) (sessions) (objects) id number kind) × (ws₂ ≡ roomObjects (roomOf (sessions) (objects) id number) (sessions) (objects) id number kind)) → Is (Move-p .row) r (Move-p .val r ∷ []) → length ws₁ ≡ n₁ → length ws₂ ≡ n₂ → ent 𝓤 (⋆ 𝓤 H A (‵ (MutSlice (named 0) κ₁ (Array u64 5) .own (at-list b₁ o₁ γ₁ ws₁) (sliceVal (b₁, o₁) n₁ ∷ [])) ∷ ‵ (flft κ₁ q₁) ∷ ‵ (MutSlice (named 1) κ₂ Object-t.the-row .own (at-list b₂ o₂ γ₂ ws₂) (sliceVal (b₂, o₂) n₂ ∷ [])) ∷ ‵ (flft κ₂ q₂) ∷ ‵ (ShrSlice (named 2) κ₃ u8 .own (at-list b₃ o₃ γ₃ d) (sliceVal (b₃, o₃) n₃ ∷ [])) ∷ ‵ (flft κ₃ q₃) ∷ [])) (Post (Move-p .val r))
+  exits : (r : Move) (ws₁ : List (List ℕ)) (ws₂ : List Object) → ((r ≡ roomMove (roomOf (sessions) (objects) id number) (sessions) (objects) (d) id number kind parent body) × (ws₁ ≡ roomSessions (roomOf (sessions) (objects) id number) (sessions) (objects) id number kind parent) × (ws₂ ≡ roomObjects (roomOf (sessions) (objects) id number) (sessions) (objects) id number kind parent)) → Is (Move-p .row) r (Move-p .val r ∷ []) → length ws₁ ≡ n₁ → length ws₂ ≡ n₂ → ent 𝓤 (⋆ 𝓤 H A (‵ (MutSlice (named 0) κ₁ (Array u64 5) .own (at-list b₁ o₁ γ₁ ws₁) (sliceVal (b₁, o₁) n₁ ∷ [])) ∷ ‵ (flft κ₁ q₁) ∷ ‵ (MutSlice (named 1) κ₂ Object-t.the-row .own (at-list b₂ o₂ γ₂ ws₂) (sliceVal (b₂, o₂) n₂ ∷ [])) ∷ ‵ (flft κ₂ q₂) ∷ ‵ (ShrSlice (named 2) κ₃ u8 .own (at-list b₃ o₃ γ₃ d) (sliceVal (b₃, o₃) n₃ ∷ [])) ∷ ‵ (flft κ₃ q₃) ∷ [])) (Post (Move-p .val r))
   exits r ws₁ ws₂ said r-is len₁ len₂ =
       qed W (‵ (MutSlice (named 0) κ₁ (Array u64 5) .own (at-list b₁ o₁ γ₁ ws₁) (sliceVal (b₁, o₁) n₁ ∷ [])) ∷ ‵ (flft κ₁ q₁) ∷ ‵ (MutSlice (named 1) κ₂ Object-t.the-row .own (at-list b₂ o₂ γ₂ ws₂) (sliceVal (b₂, o₂) n₂ ∷ [])) ∷ ‵ (flft κ₂ q₂) ∷ ‵ (ShrSlice (named 2) κ₃ u8 .own (at-list b₃ o₃ γ₃ d) (sliceVal (b₃, o₃) n₃ ∷ [])) ∷ ‵ (flft κ₃ q₃) ∷ []) ∵
       suffices ! _ (ends-at 𝓤 H A f.ended stayed (f.clauses 𝓤 H A mem run) W (((κ₁, (κ₂, (κ₃, tt))), (q₁, (q₂, (q₃, tt))), tt, x, at), tt) (Move-p .val r) r (ws₁, (ws₂, (tt, (tt, (tt, (tt, (tt, (tt, tt)))))))) (len₁, (len₂, (tt, (tt, (tt, (tt, (tt, (tt, tt))))))))) $ says ! said $ nothing ! $ move ! (6 ∷ 0 ∷ []) $ join ! $ move ! (4 ∷ 0 ∷ []) $ join ! $ move ! (2 ∷ 0 ∷ []) $ join ! $
@@ -257,11 +257,11 @@ module _ {M : Type 1} (𝓤 : URA M) (H : Heap 𝓤) (A : Atoms 𝓤) (W : Given
         forget ! 28 refl $ forget ! 30 refl $ forget ! 32 refl $ forget ! 34 refl $ forget ! 36 refl $ forget ! 38 refl $ forget ! 40 refl $ forget ! 42 refl $ forget ! 44 refl $ move ! (44 ∷ 45 ∷ []) $ free1 ! $ move ! (42 ∷ 43 ∷ []) $ free1 ! $ move ! (40 ∷ 41 ∷ []) $ free1 ! $ move ! (38 ∷ 39 ∷ []) $ free1 ! $ move ! (36 ∷ 37 ∷ []) $ free1 ! $ move ! (34 ∷ 35 ∷ []) $ free1 ! $ move ! (32 ∷ 33 ∷ []) $ free1 ! $ move ! (30 ∷ 31 ∷ []) $ free1 ! $ move ! (28 ∷ 29 ∷ []) $ free1 ! $ move ! (26 ∷ 27 ∷ []) $ free1 ! $ move ! (24 ∷ 25 ∷ []) $ free1 ! $ move ! (22 ∷ 23 ∷ []) $ free1 ! $ move ! (20 ∷ 21 ∷ []) $ free1 ! $ move ! (18 ∷ 19 ∷ []) $ free1 ! $ move ! (16 ∷ 17 ∷ []) $ free1 ! $ move ! (14 ∷ 15 ∷ []) $ free1 ! $ move ! (12 ∷ 13 ∷ []) $ free1 ! $ move ! (10 ∷ 11 ∷ []) $ free1 ! $ move ! (8 ∷ 9 ∷ []) $ free1 ! $ move ! (6 ∷ 7 ∷ []) $ free1 ! $ free0 ! $
         by ! ends
 
-    part-8-0 : (is-5 : Is (Room′-p .row) (roomOf (sessions) (objects) id number) (Room′-p .val (roomOf (sessions) (objects) id number) ∷ [])) → (is-6 : Is (bool-p .row) (isFree (roomOf (sessions) (objects) id number)) (bool-p .val (isFree (roomOf (sessions) (objects) id number)) ∷ [])) → (c-7 : isFree (roomOf (sessions) (objects) id number) ≡ true) → (len-7·yes·5-sessions : length (createdSessions kind (sessions) (objects) id number) ≡ n₁) → (len-7·yes·5-objects : length (createdObjects kind (sessions) (objects) id number) ≡ n₂) → (is-7·yes·5 : Is (Move-p .row) (createMove kind (sessions) (objects) (d) id number parent body) (Move-p .val (createMove kind (sessions) (objects) (d) id number parent body) ∷ [])) → Sq W (‵ (MutSlice (named 0) κ₁ (Array u64 5) .own (at-list b₁ o₁ γ₁ (createdSessions kind (sessions) (objects) id number)) (sliceVal (b₁, o₁) n₁ ∷ [])) ∷ ‵ (flft κ₁ q₁) ∷ ‵ (MutSlice (named 0) κ₂ Object-t.the-row .own (at-list b₂ o₂ γ₂ (createdObjects kind (sessions) (objects) id number)) (sliceVal (b₂, o₂) n₂ ∷ [])) ∷ ‵ (flft κ₂ q₂) ∷ ‵ (ShrSlice (named 0) κ₃ u8 .own (at-list b₃ o₃ γ₃ d) (sliceVal (b₃, o₃) n₃ ∷ [])) ∷ ‵ (flft κ₃ q₃) ∷ full 𝓤 (sliceTy (tyRef erased mut (pointee (Object-t.the-row .written)))) l₁₉ (sliceVal (b₂, o₂) n₂) (full 𝓤 (tyRef erased mut (pointee (Object-t.the-row .written))) l₁₈ (vptr b₂ o₂) (full 𝓤 (sliceTy (tyRef erased mut (pointee ((Array u64 5) .written)))) l₁₇ (sliceVal (b₁, o₁) n₁) (full 𝓤 (tyRef erased mut (pointee ((Array u64 5) .written))) l₁₆ (vptr b₁ o₁) (full 𝓤 Move-l.mir l₁₅ (Move-p .val (createMove kind (sessions) (objects) (d) id number parent body)) (full 𝓤 tyBool l₁₄ (bool-p .val (isFree (roomOf (sessions) (objects) id number))) (full 𝓤 (sliceTy (tyRef erased imm (pointee (Object-t.the-row .written)))) l₁₃ (sliceVal (b₂, o₂) n₂) (full 𝓤 (tyRef erased imm (pointee (Object-t.the-row .written))) l₁₂ (vptr b₂ o₂) (full 𝓤 (sliceTy (tyRef erased imm (pointee ((Array u64 5) .written)))) l₁₁ (sliceVal (b₁, o₁) n₁) (full 𝓤 (tyRef erased imm (pointee ((Array u64 5) .written))) l₁₀ (vptr b₁ o₁) (full 𝓤 Room′-l.mir l₉ (Room′-p .val (roomOf (sessions) (objects) id number)) (full 𝓤 Span-l.mir l₈ (Span-p .val body) (full 𝓤 (tyInt w16) l₇ (u16-p .val parent) (full 𝓤 ObjectKind-l.mir l₆ (ObjectKind-p .val kind) (full 𝓤 ObjectNumber-l.mir l₅ (ObjectNumber-p .val number) (full 𝓤 (tyInt w8) l₄ (u8-p .val id) (full 𝓤 (sliceTy (tyRef (named 2) imm (pointee (u8 .written)))) l₃ (sliceVal (b₃, o₃) n₃) (full 𝓤 (sliceTy (tyRef (named 1) mut (pointee (Object-t.the-row .written)))) l₂ (sliceVal (b₂, o₂) n₂) (full 𝓤 (sliceTy (tyRef (named 0) mut (pointee ((Array u64 5) .written)))) l₁ (sliceVal (b₁, o₁) n₁) (free 𝓤 Move-l.mir l₀ ([]))))))))))))))))))))) (runs C Λ En mir.t-8 (atRet En Post))
+    part-8-0 : (is-5 : Is (Room′-p .row) (roomOf (sessions) (objects) id number) (Room′-p .val (roomOf (sessions) (objects) id number) ∷ [])) → (is-6 : Is (bool-p .row) (isFree (roomOf (sessions) (objects) id number)) (bool-p .val (isFree (roomOf (sessions) (objects) id number)) ∷ [])) → (c-7 : isFree (roomOf (sessions) (objects) id number) ≡ true) → (len-7·yes·5-sessions : length (createdSessions kind (sessions) (objects) id number parent) ≡ n₁) → (len-7·yes·5-objects : length (createdObjects kind (sessions) (objects) id number parent) ≡ n₂) → (is-7·yes·5 : Is (Move-p .row) (createMove kind (sessions) (objects) (d) id number parent body) (Move-p .val (createMove kind (sessions) (objects) (d) id number parent body) ∷ [])) → Sq W (‵ (MutSlice (named 0) κ₁ (Array u64 5) .own (at-list b₁ o₁ γ₁ (createdSessions kind (sessions) (objects) id number parent)) (sliceVal (b₁, o₁) n₁ ∷ [])) ∷ ‵ (flft κ₁ q₁) ∷ ‵ (MutSlice (named 0) κ₂ Object-t.the-row .own (at-list b₂ o₂ γ₂ (createdObjects kind (sessions) (objects) id number parent)) (sliceVal (b₂, o₂) n₂ ∷ [])) ∷ ‵ (flft κ₂ q₂) ∷ ‵ (ShrSlice (named 0) κ₃ u8 .own (at-list b₃ o₃ γ₃ d) (sliceVal (b₃, o₃) n₃ ∷ [])) ∷ ‵ (flft κ₃ q₃) ∷ full 𝓤 (sliceTy (tyRef erased mut (pointee (Object-t.the-row .written)))) l₁₉ (sliceVal (b₂, o₂) n₂) (full 𝓤 (tyRef erased mut (pointee (Object-t.the-row .written))) l₁₈ (vptr b₂ o₂) (full 𝓤 (sliceTy (tyRef erased mut (pointee ((Array u64 5) .written)))) l₁₇ (sliceVal (b₁, o₁) n₁) (full 𝓤 (tyRef erased mut (pointee ((Array u64 5) .written))) l₁₆ (vptr b₁ o₁) (full 𝓤 Move-l.mir l₁₅ (Move-p .val (createMove kind (sessions) (objects) (d) id number parent body)) (full 𝓤 tyBool l₁₄ (bool-p .val (isFree (roomOf (sessions) (objects) id number))) (full 𝓤 (sliceTy (tyRef erased imm (pointee (Object-t.the-row .written)))) l₁₃ (sliceVal (b₂, o₂) n₂) (full 𝓤 (tyRef erased imm (pointee (Object-t.the-row .written))) l₁₂ (vptr b₂ o₂) (full 𝓤 (sliceTy (tyRef erased imm (pointee ((Array u64 5) .written)))) l₁₁ (sliceVal (b₁, o₁) n₁) (full 𝓤 (tyRef erased imm (pointee ((Array u64 5) .written))) l₁₀ (vptr b₁ o₁) (full 𝓤 Room′-l.mir l₉ (Room′-p .val (roomOf (sessions) (objects) id number)) (full 𝓤 Span-l.mir l₈ (Span-p .val body) (full 𝓤 (tyInt w16) l₇ (u16-p .val parent) (full 𝓤 ObjectKind-l.mir l₆ (ObjectKind-p .val kind) (full 𝓤 ObjectNumber-l.mir l₅ (ObjectNumber-p .val number) (full 𝓤 (tyInt w8) l₄ (u8-p .val id) (full 𝓤 (sliceTy (tyRef (named 2) imm (pointee (u8 .written)))) l₃ (sliceVal (b₃, o₃) n₃) (full 𝓤 (sliceTy (tyRef (named 1) mut (pointee (Object-t.the-row .written)))) l₂ (sliceVal (b₂, o₂) n₂) (full 𝓤 (sliceTy (tyRef (named 0) mut (pointee ((Array u64 5) .written)))) l₁ (sliceVal (b₁, o₁) n₁) (free 𝓤 Move-l.mir l₀ ([]))))))))))))))))))))) (runs C Λ En mir.t-8 (atRet En Post))
     part-8-0 is-5 is-6 c-7 len-7·yes·5-sessions len-7·yes·5-objects is-7·yes·5 =
         assigns ! (of-opd ! (load ! (from ! (stop !)) (look ! 14 refl))) (from ! (stop !)) (init ! 44 refl (Move-p .typed 𝓤 H A W (createMove kind (sessions) (objects) (d) id number parent body) is-7·yes·5)) $
         returns ! (look ! 44 refl) $ forget ! 6 refl $ forget ! 8 refl $ forget ! 10 refl $ forget ! 12 refl $ forget ! 14 refl $ forget ! 16 refl $ forget ! 18 refl $ forget ! 20 refl $ forget ! 22 refl $ forget ! 24 refl $ forget ! 26 refl $
-        frees-all (createMove kind (sessions) (objects) (d) id number parent body) (createdSessions kind (sessions) (objects) id number) (createdObjects kind (sessions) (objects) id number) (exits (createMove kind (sessions) (objects) (d) id number parent body) (createdSessions kind (sessions) (objects) id number) (createdObjects kind (sessions) (objects) id number) ((if-true moved _ c-7, if-true sessions-left _ c-7, if-true objects-left _ c-7)) is-7·yes·5 len-7·yes·5-sessions len-7·yes·5-objects)
+        frees-all (createMove kind (sessions) (objects) (d) id number parent body) (createdSessions kind (sessions) (objects) id number parent) (createdObjects kind (sessions) (objects) id number parent) (exits (createMove kind (sessions) (objects) (d) id number parent body) (createdSessions kind (sessions) (objects) id number parent) (createdObjects kind (sessions) (objects) id number parent) ((if-true moved _ c-7, if-true sessions-left _ c-7, if-true objects-left _ c-7)) is-7·yes·5 len-7·yes·5-sessions len-7·yes·5-objects)
 
     part-8-2 : (is-5 : Is (Room′-p .row) (roomOf (sessions) (objects) id number) (Room′-p .val (roomOf (sessions) (objects) id number) ∷ [])) → (is-6 : Is (bool-p .row) (isFree (roomOf (sessions) (objects) id number)) (bool-p .val (isFree (roomOf (sessions) (objects) id number)) ∷ [])) → (c-7 : isFree (roomOf (sessions) (objects) id number) ≡ false) → (is-7·no·1 : Is (Move-p .row) (noRoomMove number (roomOf (sessions) (objects) id number)) (Move-p .val (noRoomMove number (roomOf (sessions) (objects) id number)) ∷ [])) → Sq W (‵ (MutSlice (named 0) κ₁ (Array u64 5) .own (at-list b₁ o₁ γ₁ sessions) (sliceVal (b₁, o₁) n₁ ∷ [])) ∷ ‵ (flft κ₁ q₁) ∷ ‵ (MutSlice (named 0) κ₂ Object-t.the-row .own (at-list b₂ o₂ γ₂ objects) (sliceVal (b₂, o₂) n₂ ∷ [])) ∷ ‵ (flft κ₂ q₂) ∷ ‵ (ShrSlice (named 0) κ₃ u8 .own (at-list b₃ o₃ γ₃ d) (sliceVal (b₃, o₃) n₃ ∷ [])) ∷ ‵ (flft κ₃ q₃) ∷ free 𝓤 (sliceTy (tyRef erased mut (pointee (Object-t.the-row .written)))) l₁₉ (free 𝓤 (tyRef erased mut (pointee (Object-t.the-row .written))) l₁₈ (free 𝓤 (sliceTy (tyRef erased mut (pointee ((Array u64 5) .written)))) l₁₇ (free 𝓤 (tyRef erased mut (pointee ((Array u64 5) .written))) l₁₆ (full 𝓤 Move-l.mir l₁₅ (Move-p .val (noRoomMove number (roomOf (sessions) (objects) id number))) (full 𝓤 tyBool l₁₄ (bool-p .val (isFree (roomOf (sessions) (objects) id number))) (full 𝓤 (sliceTy (tyRef erased imm (pointee (Object-t.the-row .written)))) l₁₃ (sliceVal (b₂, o₂) n₂) (full 𝓤 (tyRef erased imm (pointee (Object-t.the-row .written))) l₁₂ (vptr b₂ o₂) (full 𝓤 (sliceTy (tyRef erased imm (pointee ((Array u64 5) .written)))) l₁₁ (sliceVal (b₁, o₁) n₁) (full 𝓤 (tyRef erased imm (pointee ((Array u64 5) .written))) l₁₀ (vptr b₁ o₁) (full 𝓤 Room′-l.mir l₉ (Room′-p .val (roomOf (sessions) (objects) id number)) (full 𝓤 Span-l.mir l₈ (Span-p .val body) (full 𝓤 (tyInt w16) l₇ (u16-p .val parent) (full 𝓤 ObjectKind-l.mir l₆ (ObjectKind-p .val kind) (full 𝓤 ObjectNumber-l.mir l₅ (ObjectNumber-p .val number) (full 𝓤 (tyInt w8) l₄ (u8-p .val id) (full 𝓤 (sliceTy (tyRef (named 2) imm (pointee (u8 .written)))) l₃ (sliceVal (b₃, o₃) n₃) (full 𝓤 (sliceTy (tyRef (named 1) mut (pointee (Object-t.the-row .written)))) l₂ (sliceVal (b₂, o₂) n₂) (full 𝓤 (sliceTy (tyRef (named 0) mut (pointee ((Array u64 5) .written)))) l₁ (sliceVal (b₁, o₁) n₁) (free 𝓤 Move-l.mir l₀ ([]))))))))))))))))))))) (runs C Λ En mir.t-8 (atRet En Post))
     part-8-2 is-5 is-6 c-7 is-7·no·1 =
@@ -291,15 +291,15 @@ module _ {M : Type 1} (𝓤 : URA M) (H : Heap 𝓤) (A : Atoms 𝓤) (W : Given
         owned ! (ObjectKind-p .row) (Is (ObjectKind-p .row)) (ObjectKind-p .makes 𝓤 H A W) kind (ObjectKind-p .val kind ∷ []) kind-is $ fjoin ! $
         owned ! (ObjectNumber-p .row) (Is (ObjectNumber-p .row)) (ObjectNumber-p .makes 𝓤 H A W) number (ObjectNumber-p .val number ∷ []) number-is $ fjoin ! $
         owned ! (u8-p .row) (Is (u8-p .row)) (u8-p .makes 𝓤 H A W) id (u8-p .val id ∷ []) id-is $ fjoin ! $ move ! (2 ∷ 0 ∷ []) $ fjoin ! $ move ! (3 ∷ 0 ∷ []) $ fjoin ! $ move ! (4 ∷ 0 ∷ []) $ fjoin ! $ move ! (1 ∷ 0 ∷ []) $
-        calls-any-last ! fm 3 [] (objects-create-kind.signature .params) (objects-create-kind.ended .kept) Move-p (objects-create-kind.clauses 𝓤 H A mem run) known-objects-create-kind ((ν-7·yes·5-sessions ∷ []), ((ν-7·yes·5-objects ∷ []), (κ₃, tt))) (fullShare, (fullShare, (q₃, tt))) tt (at-list b₁ o₁ δ-7·yes·5-sessions sessions, (at-list b₂ o₂ δ-7·yes·5-objects objects, (at-list b₃ o₃ γ₃ d, (id, (number, (kind, (parent, (body, tt)))))))) (sliceVal (b₁, o₁) n₁ ∷ [], (sliceVal (b₂, o₂) n₂ ∷ [], (sliceVal (b₃, o₃) n₃ ∷ [], (u8-p .val id ∷ [], (ObjectNumber-p .val number ∷ [], (ObjectKind-p .val kind ∷ [], (u16-p .val parent ∷ [], (Span-p .val body ∷ [], tt)))))))) tt (createMove kind (sessions) (objects) (d) id number parent body) (λ ws-7·yes·5. (ws-7·yes·5 .0 ≡ createdSessions kind (sessions) (objects) id number) × (ws-7·yes·5 .1 .0 ≡ createdObjects kind (sessions) (objects) id number)) (id⊢ 𝓤 _) (λ r ws-7·yes·5. fact-mono 𝓤 ((r ≡ createMove kind (sessions) (objects) (d) id number parent body) × ((ws-7·yes·5 .0) ≡ createdSessions kind (sessions) (objects) id number) × ((ws-7·yes·5 .1 .0) ≡ createdObjects kind (sessions) (objects) id number)) ((r ≡ (createMove kind (sessions) (objects) (d) id number parent body)) × ((ws-7·yes·5 .0 ≡ createdSessions kind (sessions) (objects) id number) × (ws-7·yes·5 .1 .0 ≡ createdObjects kind (sessions) (objects) id number))) (λ e. (e .0, (e .1, e .2)))) (λ _. (and-then ! (load ! (from ! (stop !)) (look ! 8 refl)) (and-then ! (load ! (from ! (stop !)) (look ! 4 refl)) (and-then ! (load ! (from ! (stop !)) (look ! 36 refl)) (and-then ! (load ! (from ! (stop !)) (look ! 34 refl)) (and-then ! (load ! (from ! (stop !)) (look ! 32 refl)) (and-then ! (load ! (from ! (stop !)) (look ! 30 refl)) (and-then ! (load ! (from ! (stop !)) (look ! 28 refl)) (and-then ! (load ! (from ! (stop !)) (look ! 26 refl)) (no-more !)))))))))) (λ ws-7·yes·5 said-7·yes·5 is-7·yes·5.
+        calls-any-last ! fm 3 [] (objects-create-kind.signature .params) (objects-create-kind.ended .kept) Move-p (objects-create-kind.clauses 𝓤 H A mem run) known-objects-create-kind ((ν-7·yes·5-sessions ∷ []), ((ν-7·yes·5-objects ∷ []), (κ₃, tt))) (fullShare, (fullShare, (q₃, tt))) tt (at-list b₁ o₁ δ-7·yes·5-sessions sessions, (at-list b₂ o₂ δ-7·yes·5-objects objects, (at-list b₃ o₃ γ₃ d, (id, (number, (kind, (parent, (body, tt)))))))) (sliceVal (b₁, o₁) n₁ ∷ [], (sliceVal (b₂, o₂) n₂ ∷ [], (sliceVal (b₃, o₃) n₃ ∷ [], (u8-p .val id ∷ [], (ObjectNumber-p .val number ∷ [], (ObjectKind-p .val kind ∷ [], (u16-p .val parent ∷ [], (Span-p .val body ∷ [], tt)))))))) tt (createMove kind (sessions) (objects) (d) id number parent body) (λ ws-7·yes·5. (ws-7·yes·5 .0 ≡ createdSessions kind (sessions) (objects) id number parent) × (ws-7·yes·5 .1 .0 ≡ createdObjects kind (sessions) (objects) id number parent)) (id⊢ 𝓤 _) (λ r ws-7·yes·5. fact-mono 𝓤 ((r ≡ createMove kind (sessions) (objects) (d) id number parent body) × ((ws-7·yes·5 .0) ≡ createdSessions kind (sessions) (objects) id number parent) × ((ws-7·yes·5 .1 .0) ≡ createdObjects kind (sessions) (objects) id number parent)) ((r ≡ (createMove kind (sessions) (objects) (d) id number parent body)) × ((ws-7·yes·5 .0 ≡ createdSessions kind (sessions) (objects) id number parent) × (ws-7·yes·5 .1 .0 ≡ createdObjects kind (sessions) (objects) id number parent))) (λ e. (e .0, (e .1, e .2)))) (λ _. (and-then ! (load ! (from ! (stop !)) (look ! 8 refl)) (and-then ! (load ! (from ! (stop !)) (look ! 4 refl)) (and-then ! (load ! (from ! (stop !)) (look ! 36 refl)) (and-then ! (load ! (from ! (stop !)) (look ! 34 refl)) (and-then ! (load ! (from ! (stop !)) (look ! 32 refl)) (and-then ! (load ! (from ! (stop !)) (look ! 30 refl)) (and-then ! (load ! (from ! (stop !)) (look ! 28 refl)) (and-then ! (load ! (from ! (stop !)) (look ! 26 refl)) (no-more !)))))))))) (λ ws-7·yes·5 said-7·yes·5 is-7·yes·5.
         use1 W ((‵ (flft (ν-7·yes·5-sessions ∷ []) fullShare) ⊛ (‵ (flft (ν-7·yes·5-objects ∷ []) fullShare) ⊛ (‵ (flft κ₃ q₃) ⊛ ‵ ftrue)))) (id⊢ 𝓤 _) $ split ! $ move ! (1 ∷ []) $ split ! $ move ! (1 ∷ []) $ split ! $ move ! (4 ∷ []) $ fsplit ! $ fsplit ! $ move ! (1 ∷ []) $
         feqL ! (λ wlen-7·yes·5-0.
         move ! (1 ∷ []) $ fsplit ! $ fsplit ! $ move ! (1 ∷ []) $
         feqL ! (λ wlen-7·yes·5-1.
         move ! (1 ∷ []) $ fsplit ! $ move ! (7 ∷ 10 ∷ 3 ∷ []) $
-        backs-mut ! tt (Array u64 5) b₁ o₁ sessions n₁ (refl) room₁ ν-7·yes·5-sessions δ-7·yes·5-sessions (ws-7·yes·5 .0) (createdSessions kind (sessions) (objects) id number) wlen-7·yes·5-0 (said-7·yes·5 .0) (λ len-7·yes·5-sessions.
+        backs-mut ! tt (Array u64 5) b₁ o₁ sessions n₁ (refl) room₁ ν-7·yes·5-sessions δ-7·yes·5-sessions (ws-7·yes·5 .0) (createdSessions kind (sessions) (objects) id number parent) wlen-7·yes·5-0 (said-7·yes·5 .0) (λ len-7·yes·5-sessions.
         move ! (7 ∷ 9 ∷ 4 ∷ []) $
-        backs-mut ! tt Object-t.the-row b₂ o₂ objects n₂ (refl) room₂ ν-7·yes·5-objects δ-7·yes·5-objects (ws-7·yes·5 .1 .0) (createdObjects kind (sessions) (objects) id number) wlen-7·yes·5-1 (said-7·yes·5 .1) (λ len-7·yes·5-objects.
+        backs-mut ! tt Object-t.the-row b₂ o₂ objects n₂ (refl) room₂ ν-7·yes·5-objects δ-7·yes·5-objects (ws-7·yes·5 .1 .0) (createdObjects kind (sessions) (objects) id number parent) wlen-7·yes·5-1 (said-7·yes·5 .1) (λ len-7·yes·5-objects.
         move ! (4 ∷ []) $ drop ! $ move ! (4 ∷ []) $ drop ! $ move ! (5 ∷ []) $ drop ! $
         land-last ! (from ! (stop !)) (init ! 14 refl (Move-p .typed 𝓤 H A W (createMove kind (sessions) (objects) (d) id number parent body) is-7·yes·5)) $
         exec ! C Λ En mir.t-8 (atRet En Post) $ move ! (2 ∷ 3 ∷ 0 ∷ 1 ∷ 5 ∷ 4 ∷ 6 ∷ 7 ∷ 8 ∷ 9 ∷ 10 ∷ 11 ∷ 12 ∷ 13 ∷ 14 ∷ 15 ∷ 16 ∷ 17 ∷ 18 ∷ 19 ∷ 20 ∷ 21 ∷ 22 ∷ 23 ∷ 24 ∷ 25 ∷ 26 ∷ 27 ∷ 28 ∷ 29 ∷ 30 ∷ 31 ∷ 32 ∷ 33 ∷ 34 ∷ 35 ∷ 36 ∷ 37 ∷ 38 ∷ 39 ∷ 40 ∷ 41 ∷ 42 ∷ 43 ∷ 44 ∷ 45 ∷ []) $

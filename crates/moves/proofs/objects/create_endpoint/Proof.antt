@@ -53,13 +53,13 @@ use borrow.Rule.Slice.PartMut.{midOf, putMid}
 use Rattle.walk.proofs.Parts.{part-len, lends-part, backs-part, parts-shr}
 use Rattle.walk.proofs.Arrays.{rep-is, lends-array, backs-array}
 use Rattle.sessions.specs.Objects.{implicitOf}
-use Rattle.sessions.specs.SessionObjects.{foundObject, greatestObject, storedObject, storedObjects, keepStored, removedObjects, keepRemoved}
+use Rattle.sessions.specs.SessionObjects.{foundObject, storedObject, storedObjects, keepStored, removedObjects, keepRemoved}
 use Rattle.sessions.specs.Room.{roomOf}
-use Rattle.moves.specs.Moves.{writeMove, readMove, deleteMove, topicMove, endpointMove}
+use Rattle.moves.specs.Moves.{writeMove, readMove, deleteMove, topicMove}
 use Rattle.moves.specs.Names.{namesIn}
-use Rattle.moves.specs.Rows.{okMove, createMove, createdSessions, createdObjects, isFree, noRoomMove, roomMove, roomSessions, roomObjects}
+use Rattle.moves.specs.Rows.{okMove, endpointIn, createMove, createdSessions, createdObjects, isFree, noRoomMove, roomMove, roomSessions, roomObjects}
 use Rattle.sessions.specs.SessionObjects.{objectsNamed, usedOf, firstObject, countedSession, keepUsed}
-use Rattle.moves.specs.Moves.{foundHandle, participantMove, endpointCall, endpointBy, droppedMove, heartbeatMove}
+use Rattle.moves.specs.Moves.{foundHandle, handleOfKind, parentOf, participantMove, endpointCall, endpointBy, endpointMove, droppedMove, heartbeatMove}
 use Rattle.sessions.specs.declared.objects.Object.{Object}
 use Rattle.sessions.proofs.objects.Object as Object-t
 use Rattle.sessions.proofs.objects.Object.Laws as Object-l
@@ -99,10 +99,14 @@ use Rattle.codec.specs.declared.refusals.Refusal.{Refusal}
 use Rattle.codec.proofs.refusals.Refusal as Refusal-t
 use Rattle.codec.proofs.refusals.Refusal.Laws as Refusal-l
 use Rattle.codec.specs.declared.refusals.Refusal.the-variants.{BufferTooShort as Refusal-BufferTooShort, UnknownSubmessageId as Refusal-UnknownSubmessageId, UnknownObjectKind as Refusal-UnknownObjectKind, UnknownStatusCode as Refusal-UnknownStatusCode, PayloadLengthMismatch as Refusal-PayloadLengthMismatch, SessionFull as Refusal-SessionFull, FragmentSizeZero as Refusal-FragmentSizeZero, EmptyPayload as Refusal-EmptyPayload, TooManyFragments as Refusal-TooManyFragments, FragmentNumber as Refusal-FragmentNumber, MissingFragments as Refusal-MissingFragments, TooLong as Refusal-TooLong, OutputTooShort as Refusal-OutputTooShort, StoreFull as Refusal-StoreFull, OutOfTurn as Refusal-OutOfTurn, OverLimit as Refusal-OverLimit}
-use Rattle.sessions.proofs.session_objects.greatest_object as session-objects-greatest-object
-use Rattle.sessions.proofs.session_objects.greatest_object.Symbol as session-objects-greatest-object-def
-use Rattle.sessions.proofs.session_objects.greatest_object.Symbol.{name as #session-objects-greatest-object}
-use Rattle.sessions.proofs.session_objects.greatest_object.Met as session-objects-greatest-object-thm
+use Rattle.sessions.proofs.session_objects.find_object as session-objects-find-object
+use Rattle.sessions.proofs.session_objects.find_object.Symbol as session-objects-find-object-def
+use Rattle.sessions.proofs.session_objects.find_object.Symbol.{name as #session-objects-find-object}
+use Rattle.sessions.proofs.session_objects.find_object.Met as session-objects-find-object-thm
+use Rattle.moves.proofs.moves.parent_of as moves-parent-of
+use Rattle.moves.proofs.moves.parent_of.Symbol as moves-parent-of-def
+use Rattle.moves.proofs.moves.parent_of.Symbol.{name as #moves-parent-of}
+use Rattle.moves.proofs.moves.parent_of.Met as moves-parent-of-thm
 use Rattle.moves.proofs.moves.endpoint_move as moves-endpoint-move
 use Rattle.moves.proofs.moves.endpoint_move.Symbol as moves-endpoint-move-def
 use Rattle.moves.proofs.moves.endpoint_move.Symbol.{name as #moves-endpoint-move}
@@ -113,8 +117,8 @@ use Rattle.moves.proofs.objects.create_endpoint.Statement as stated
 use Rattle.moves.proofs.objects.create_endpoint.Code as code
 use Rattle.moves.proofs.objects.create_endpoint.Code.Mir as mir
 
-abbrev Object-of : ObjectNumber → ℕ → ℕ → ℕ → Object
-Object-of x0 x1 x2 x3 = record { number = x0; kind = x1; bridged = x2; handle = x3 }
+abbrev Object-of : ObjectNumber → ℕ → ℕ → ℕ → ℕ → Object
+Object-of x0 x1 x2 x3 x4 = record { number = x0; kind = x1; bridged = x2; handle = x3; parent = x4 }
 
 abbrev Object-p : Plain
 Object-p = record { row = Object-t.the-row; val = LL.val Object-t.the-type Object-l.the-laws; tells = LL.tells Object-t.the-type Object-l.the-laws; makes = λ 𝓤 H A W. LL.makes Object-t.the-type Object-l.the-plain 𝓤 H A; ty = Object-l.mir; typed = λ 𝓤 H A W x is. LL.lawful Object-t.the-type Object-l.the-laws 𝓤 H A W .typed x _ is .0; copies = λ 𝓤 H A W. LL.copy Object-t.the-type Object-l.the-copy 𝓤 H A W }
@@ -162,44 +166,48 @@ abbrev Refusal-p : Plain
 Refusal-p = record { row = Refusal-t.the-row; val = EL.val Refusal-t.the-type Refusal-l.the-laws; tells = EL.tells Refusal-t.the-type Refusal-l.the-laws; makes = λ 𝓤 H A W. EL.makes Refusal-t.the-type Refusal-l.the-plain 𝓤 H A; ty = Refusal-l.mir; typed = λ 𝓤 H A W x is. EL.lawful Refusal-t.the-type Refusal-l.the-laws 𝓤 H A W tt .typed x _ is .0; copies = λ 𝓤 H A W. EL.copy Refusal-t.the-type Refusal-l.the-copy 𝓤 H A W }
 
 abbrev stayed : Stays (f.ended .signature .params) (f.ended .kept)
-stayed = (stay-none-slice (0 ∷ []) tt (plain (λ _. (Array u64 5))) yes, (stay-none-slice (1 ∷ []) tt (plain (λ _. Object-t.the-row)) yes, (stay-none (λ _. u8-p .row) yes, (stay-none (λ _. ObjectNumber-p .row) yes, (stay-none (λ _. u8-p .row) yes, tt)))))
+stayed = (stay-none-slice (0 ∷ []) tt (plain (λ _. (Array u64 5))) yes, (stay-none-slice (1 ∷ []) tt (plain (λ _. Object-t.the-row)) yes, (stay-none (λ _. u8-p .row) yes, (stay-none (λ _. ObjectNumber-p .row) yes, (stay-none (λ _. u8-p .row) yes, (stay-none (λ _. u16-p .row) yes, tt))))))
 
 module _ {M : Type 1} (𝓤 : URA M) (H : Heap 𝓤) (A : Atoms 𝓤) (mem : Memory → SProp 𝓤) (run : Routine → Fun 𝓤) where
-  abbrev Of-session-objects-greatest-object : Contract 𝓤
-  Of-session-objects-greatest-object = tripleOf 𝓤 H A session-objects-greatest-object.signature (session-objects-greatest-object.spec 𝓤 H A mem run)
+  abbrev Of-session-objects-find-object : Contract 𝓤
+  Of-session-objects-find-object = tripleOf 𝓤 H A session-objects-find-object.signature (session-objects-find-object.spec 𝓤 H A mem run)
+
+  abbrev Of-moves-parent-of : Contract 𝓤
+  Of-moves-parent-of = tripleOf 𝓤 H A moves-parent-of.signature (moves-parent-of.spec 𝓤 H A mem run)
 
   abbrev Of-moves-endpoint-move : Contract 𝓤
   Of-moves-endpoint-move = tripleOf 𝓤 H A moves-endpoint-move.signature (moves-endpoint-move.spec 𝓤 H A mem run)
 
-module _ {M : Type 1} (𝓤 : URA M) (H : Heap 𝓤) (A : Atoms 𝓤) (W : Given 𝓤 H A) (mem : Memory → SProp 𝓤) (run : Routine → Fun 𝓤) (κ₁ : Lft) (q₁ : Share) (b₁ o₁ : ℕ) (γ₁ : GName) (sessions : List (List ℕ)) (κ₂ : Lft) (q₂ : Share) (b₂ o₂ : ℕ) (γ₂ : GName) (objects : List Object) (id : ℕ) (number : ObjectNumber) (kind : ℕ)
-    (room₁ : Room (Array u64 5) (length sessions)) (room₂ : Room Object-t.the-row (length objects)) (id-is : Is (u8-p .row) id (u8-p .val id ∷ [])) (number-is : Is (ObjectNumber-p .row) number (ObjectNumber-p .val number ∷ [])) (kind-is : Is (u8-p .row) kind (u8-p .val kind ∷ [])) where
+module _ {M : Type 1} (𝓤 : URA M) (H : Heap 𝓤) (A : Atoms 𝓤) (W : Given 𝓤 H A) (mem : Memory → SProp 𝓤) (run : Routine → Fun 𝓤) (κ₁ : Lft) (q₁ : Share) (b₁ o₁ : ℕ) (γ₁ : GName) (sessions : List (List ℕ)) (κ₂ : Lft) (q₂ : Share) (b₂ o₂ : ℕ) (γ₂ : GName) (objects : List Object) (id : ℕ) (number : ObjectNumber) (kind : ℕ) (parent : ℕ)
+    (room₁ : Room (Array u64 5) (length sessions)) (room₂ : Room Object-t.the-row (length objects)) (id-is : Is (u8-p .row) id (u8-p .val id ∷ [])) (number-is : Is (ObjectNumber-p .row) number (ObjectNumber-p .val number ∷ [])) (kind-is : Is (u8-p .row) kind (u8-p .val kind ∷ [])) (parent-is : Is (u16-p .row) parent (u16-p .val parent ∷ [])) where
   abbrev n₁ : ℕ
   n₁ = length sessions
 
   abbrev n₂ : ℕ
   n₂ = length objects
 
-  abbrev x : RefT (List (List ℕ)) × (RefT (List Object) × (u8-p .row .Denot × (ObjectNumber-p .row .Denot × (u8-p .row .Denot × (Unit {0})))))
-  x = (at-list b₁ o₁ γ₁ sessions, (at-list b₂ o₂ γ₂ objects, (id, (number, (kind, tt)))))
+  abbrev x : RefT (List (List ℕ)) × (RefT (List Object) × (u8-p .row .Denot × (ObjectNumber-p .row .Denot × (u8-p .row .Denot × (u16-p .row .Denot × (Unit {0}))))))
+  x = (at-list b₁ o₁ γ₁ sessions, (at-list b₂ o₂ γ₂ objects, (id, (number, (kind, (parent, tt))))))
 
   abbrev at : Vals f.signature (κ₁, (κ₂, tt))
-  at = (sliceVal (b₁, o₁) n₁ ∷ [], (sliceVal (b₂, o₂) n₂ ∷ [], (u8-p .val id ∷ [], (ObjectNumber-p .val number ∷ [], (u8-p .val kind ∷ [], tt)))))
+  at = (sliceVal (b₁, o₁) n₁ ∷ [], (sliceVal (b₂, o₂) n₂ ∷ [], (u8-p .val id ∷ [], (ObjectNumber-p .val number ∷ [], (u8-p .val kind ∷ [], (u16-p .val parent ∷ [], tt))))))
 
   abbrev Post : Val → SProp 𝓤
   Post = walkOf 𝓤 H A f.ended stayed (f.clauses 𝓤 H A mem run) .post (((κ₁, (κ₂, tt)), (q₁, (q₂, tt)), tt, x, at), tt)
 
-  exits : (r : Move) → (r ≡ endpointMove number kind (greatestObject (sessions) (objects) id 1) (greatestObject (sessions) (objects) id 2)) → Is (Move-p .row) r (Move-p .val r ∷ []) → ent 𝓤 (⋆ 𝓤 H A (‵ (ShrSlice (named 0) κ₁ (Array u64 5) .own (at-list b₁ o₁ γ₁ sessions) (sliceVal (b₁, o₁) n₁ ∷ [])) ∷ ‵ (flft κ₁ q₁) ∷ ‵ (ShrSlice (named 1) κ₂ Object-t.the-row .own (at-list b₂ o₂ γ₂ objects) (sliceVal (b₂, o₂) n₂ ∷ [])) ∷ ‵ (flft κ₂ q₂) ∷ [])) (Post (Move-p .val r))
+  exits : (r : Move) → (r ≡ endpointIn (sessions) (objects) id number kind parent) → Is (Move-p .row) r (Move-p .val r ∷ []) → ent 𝓤 (⋆ 𝓤 H A (‵ (ShrSlice (named 0) κ₁ (Array u64 5) .own (at-list b₁ o₁ γ₁ sessions) (sliceVal (b₁, o₁) n₁ ∷ [])) ∷ ‵ (flft κ₁ q₁) ∷ ‵ (ShrSlice (named 1) κ₂ Object-t.the-row .own (at-list b₂ o₂ γ₂ objects) (sliceVal (b₂, o₂) n₂ ∷ [])) ∷ ‵ (flft κ₂ q₂) ∷ [])) (Post (Move-p .val r))
   exits r said r-is =
       qed W (‵ (ShrSlice (named 0) κ₁ (Array u64 5) .own (at-list b₁ o₁ γ₁ sessions) (sliceVal (b₁, o₁) n₁ ∷ [])) ∷ ‵ (flft κ₁ q₁) ∷ ‵ (ShrSlice (named 1) κ₂ Object-t.the-row .own (at-list b₂ o₂ γ₂ objects) (sliceVal (b₂, o₂) n₂ ∷ [])) ∷ ‵ (flft κ₂ q₂) ∷ []) ∵
-      suffices ! _ (ends-at 𝓤 H A f.ended stayed (f.clauses 𝓤 H A mem run) W (((κ₁, (κ₂, tt)), (q₁, (q₂, tt)), tt, x, at), tt) (Move-p .val r) r (tt, (tt, (tt, (tt, (tt, tt))))) (tt, (tt, (tt, (tt, (tt, tt)))))) $ says ! said $ nothing ! $ move ! (4 ∷ 0 ∷ []) $ join ! $ move ! (2 ∷ 0 ∷ []) $ join ! $
+      suffices ! _ (ends-at 𝓤 H A f.ended stayed (f.clauses 𝓤 H A mem run) W (((κ₁, (κ₂, tt)), (q₁, (q₂, tt)), tt, x, at), tt) (Move-p .val r) r (tt, (tt, (tt, (tt, (tt, (tt, tt)))))) (tt, (tt, (tt, (tt, (tt, (tt, tt))))))) $ says ! said $ nothing ! $ move ! (4 ∷ 0 ∷ []) $ join ! $ move ! (2 ∷ 0 ∷ []) $ join ! $
       frame ! $ nothing ! $
+      owned ! (u16-p .row) (Is (u16-p .row)) (u16-p .makes 𝓤 H A W) parent (u16-p .val parent ∷ []) parent-is $ fjoin ! $
       owned ! (u8-p .row) (Is (u8-p .row)) (u8-p .makes 𝓤 H A W) kind (u8-p .val kind ∷ []) kind-is $ fjoin ! $
       owned ! (ObjectNumber-p .row) (Is (ObjectNumber-p .row)) (ObjectNumber-p .makes 𝓤 H A W) number (ObjectNumber-p .val number ∷ []) number-is $ fjoin ! $
       owned ! (u8-p .row) (Is (u8-p .row)) (u8-p .makes 𝓤 H A W) id (u8-p .val id ∷ []) id-is $ fjoin ! $ move ! (2 ∷ 0 ∷ []) $ fjoin ! $ move ! (1 ∷ 0 ∷ []) $ fjoin ! $
       frame ! $
       owned ! (Move-p .row) (Is (Move-p .row)) (Move-p .makes 𝓤 H A W) r _ r-is $ done !
 
-  module _ (𝓣 : Tables 𝓤 H) (known-session-objects-greatest-object : Triple 𝓤 (𝓣 .C #session-objects-greatest-object) (Of-session-objects-greatest-object 𝓤 H A mem run)) (known-moves-endpoint-move : Triple 𝓤 (𝓣 .C #moves-endpoint-move) (Of-moves-endpoint-move 𝓤 H A mem run)) (l₀ l₁ l₂ l₃ l₄ l₅ l₆ l₇ : ℕ) where
+  module _ (𝓣 : Tables 𝓤 H) (known-session-objects-find-object : Triple 𝓤 (𝓣 .C #session-objects-find-object) (Of-session-objects-find-object 𝓤 H A mem run)) (known-moves-parent-of : Triple 𝓤 (𝓣 .C #moves-parent-of) (Of-moves-parent-of 𝓤 H A mem run)) (known-moves-endpoint-move : Triple 𝓤 (𝓣 .C #moves-endpoint-move) (Of-moves-endpoint-move 𝓤 H A mem run)) (l₀ l₁ l₂ l₃ l₄ l₅ l₆ l₇ l₈ l₉ l₁₀ : ℕ) where
     abbrev C : Calls 𝓤 H
     C = 𝓣 .C
 
@@ -210,56 +218,65 @@ module _ {M : Type 1} (𝓤 : URA M) (H : Heap 𝓤) (A : Atoms 𝓤) (W : Given
     fm = fmOf 𝓤 H (W .laws) 𝓣
 
     abbrev En : Env 𝓤 H
-    En = (Move-l.mir, l₀) ∷ ((sliceTy (tyRef (named 0) imm (pointee ((Array u64 5) .written)))), l₁) ∷ ((sliceTy (tyRef (named 1) imm (pointee (Object-t.the-row .written)))), l₂) ∷ ((tyInt w8), l₃) ∷ (ObjectNumber-l.mir, l₄) ∷ ((tyInt w8), l₅) ∷ (Found-l.mir, l₆) ∷ (Found-l.mir, l₇) ∷ []
+    En = (Move-l.mir, l₀) ∷ ((sliceTy (tyRef (named 0) imm (pointee ((Array u64 5) .written)))), l₁) ∷ ((sliceTy (tyRef (named 1) imm (pointee (Object-t.the-row .written)))), l₂) ∷ ((tyInt w8), l₃) ∷ (ObjectNumber-l.mir, l₄) ∷ ((tyInt w8), l₅) ∷ ((tyInt w16), l₆) ∷ (ObjectNumber-l.mir, l₇) ∷ (Found-l.mir, l₈) ∷ (ObjectNumber-l.mir, l₉) ∷ (Found-l.mir, l₁₀) ∷ []
 
-    begins : Sq W (‵ (ShrSlice (named 0) κ₁ (Array u64 5) .own (at-list b₁ o₁ γ₁ sessions) (sliceVal (b₁, o₁) n₁ ∷ [])) ∷ ‵ (flft κ₁ q₁) ∷ ‵ (ShrSlice (named 0) κ₂ Object-t.the-row .own (at-list b₂ o₂ γ₂ objects) (sliceVal (b₂, o₂) n₂ ∷ [])) ∷ ‵ (flft κ₂ q₂) ∷ free 𝓤 Found-l.mir l₇ (free 𝓤 Found-l.mir l₆ (full 𝓤 (tyInt w8) l₅ (u8-p .val kind) (full 𝓤 ObjectNumber-l.mir l₄ (ObjectNumber-p .val number) (full 𝓤 (tyInt w8) l₃ (u8-p .val id) (full 𝓤 (sliceTy (tyRef (named 1) imm (pointee (Object-t.the-row .written)))) l₂ (sliceVal (b₂, o₂) n₂) (full 𝓤 (sliceTy (tyRef (named 0) imm (pointee ((Array u64 5) .written)))) l₁ (sliceVal (b₁, o₁) n₁) (free 𝓤 Move-l.mir l₀ ([]))))))))) (runs C Λ En mir.t-1 (atRet En Post))
+    begins : Sq W (‵ (ShrSlice (named 0) κ₁ (Array u64 5) .own (at-list b₁ o₁ γ₁ sessions) (sliceVal (b₁, o₁) n₁ ∷ [])) ∷ ‵ (flft κ₁ q₁) ∷ ‵ (ShrSlice (named 0) κ₂ Object-t.the-row .own (at-list b₂ o₂ γ₂ objects) (sliceVal (b₂, o₂) n₂ ∷ [])) ∷ ‵ (flft κ₂ q₂) ∷ free 𝓤 Found-l.mir l₁₀ (free 𝓤 ObjectNumber-l.mir l₉ (free 𝓤 Found-l.mir l₈ (free 𝓤 ObjectNumber-l.mir l₇ (full 𝓤 (tyInt w16) l₆ (u16-p .val parent) (full 𝓤 (tyInt w8) l₅ (u8-p .val kind) (full 𝓤 ObjectNumber-l.mir l₄ (ObjectNumber-p .val number) (full 𝓤 (tyInt w8) l₃ (u8-p .val id) (full 𝓤 (sliceTy (tyRef (named 1) imm (pointee (Object-t.the-row .written)))) l₂ (sliceVal (b₂, o₂) n₂) (full 𝓤 (sliceTy (tyRef (named 0) imm (pointee ((Array u64 5) .written)))) l₁ (sliceVal (b₁, o₁) n₁) (free 𝓤 Move-l.mir l₀ ([])))))))))))) (runs C Λ En mir.t-1 (atRet En Post))
     begins =
-        -- 1: sessions::session_objects::greatest_object
+        assigns ! (agg ! (and-then ! (load ! (from ! (stop !)) (look ! 12 refl)) (no-more !))) (from ! (stop !)) (init ! 10 refl (ObjectNumber-p .typed 𝓤 H A W (ObjectNumber-of parent) (LL.owes ObjectNumber-t.the-type ObjectNumber-l.the-laws (ObjectNumber-of parent) (parent-is, tt)))) $
+        -- 2: sessions::session_objects::find_object
         copies-shr ! (Array u64 5) b₁ o₁ sessions n₁ $ move ! (3 ∷ 4 ∷ []) $
         copies-shr ! Object-t.the-row b₂ o₂ objects n₂ $ nothing ! $ move ! (1 ∷ 0 ∷ []) $ join ! $ move ! (3 ∷ 0 ∷ []) $ join ! $
         use1 W (raw (toks 𝓤 A 2 ((κ₁, (κ₂, tt))) ((q₁, (q₂, tt))))) (id⊢ 𝓤 _) $ nothing ! $
-        owned ! (u8-p .row) (Is (u8-p .row)) (u8-p .makes 𝓤 H A W) 1 (u8-p .val 1 ∷ []) ((refl, lit< tt)) $ fjoin ! $
+        owned ! (ObjectNumber-p .row) (Is (ObjectNumber-p .row)) (ObjectNumber-p .makes 𝓤 H A W) (ObjectNumber-of parent) (ObjectNumber-p .val (ObjectNumber-of parent) ∷ []) (LL.owes ObjectNumber-t.the-type ObjectNumber-l.the-laws (ObjectNumber-of parent) (parent-is, tt)) $ fjoin ! $
         owned ! (u8-p .row) (Is (u8-p .row)) (u8-p .makes 𝓤 H A W) id (u8-p .val id ∷ []) id-is $ fjoin ! $ move ! (2 ∷ 0 ∷ []) $ fjoin ! $ move ! (3 ∷ 0 ∷ []) $ fjoin ! $ move ! (1 ∷ 0 ∷ []) $
-        calls-any ! fm 2 [] (session-objects-greatest-object.signature .params) (session-objects-greatest-object.ended .kept) Found-p (session-objects-greatest-object.clauses 𝓤 H A mem run) known-session-objects-greatest-object (κ₁, (κ₂, tt)) (q₁, (q₂, tt)) tt (at-list b₁ o₁ γ₁ sessions, (at-list b₂ o₂ γ₂ objects, (id, (1, tt)))) (sliceVal (b₁, o₁) n₁ ∷ [], (sliceVal (b₂, o₂) n₂ ∷ [], (u8-p .val id ∷ [], (u8-p .val 1 ∷ [], tt)))) tt (greatestObject (sessions) (objects) id 1) (λ ws-1. Unit {0}) (id⊢ 𝓤 _) (λ r ws-1. fact-mono 𝓤 (r ≡ greatestObject (sessions) (objects) id 1) ((r ≡ (greatestObject (sessions) (objects) id 1)) × (Unit {0})) (λ e. (e, tt))) (λ _. (and-then ! (load ! (from ! (stop !)) (look ! 15 refl)) (and-then ! (load ! (from ! (stop !)) (look ! 13 refl)) (and-then ! (load ! (from ! (stop !)) (look ! 11 refl)) (and-then ! (lit ! tt) (no-more !)))))) (λ ws-1 said-1 is-1.
+        calls-any ! fm 2 [] (session-objects-find-object.signature .params) (session-objects-find-object.ended .kept) Found-p (session-objects-find-object.clauses 𝓤 H A mem run) known-session-objects-find-object (κ₁, (κ₂, tt)) (q₁, (q₂, tt)) tt (at-list b₁ o₁ γ₁ sessions, (at-list b₂ o₂ γ₂ objects, (id, (ObjectNumber-of parent, tt)))) (sliceVal (b₁, o₁) n₁ ∷ [], (sliceVal (b₂, o₂) n₂ ∷ [], (u8-p .val id ∷ [], (ObjectNumber-p .val (ObjectNumber-of parent) ∷ [], tt)))) tt (foundObject (sessions) (objects) id (ObjectNumber-of parent)) (λ ws-2. Unit {0}) (id⊢ 𝓤 _) (λ r ws-2. fact-mono 𝓤 (r ≡ foundObject (sessions) (objects) id (ObjectNumber-of parent)) ((r ≡ (foundObject (sessions) (objects) id (ObjectNumber-of parent))) × (Unit {0})) (λ e. (e, tt))) (λ _. (and-then ! (load ! (from ! (stop !)) (look ! 21 refl)) (and-then ! (load ! (from ! (stop !)) (look ! 19 refl)) (and-then ! (load ! (from ! (stop !)) (look ! 17 refl)) (and-then ! (load ! (from ! (stop !)) (look ! 9 refl)) (no-more !)))))) (λ ws-2 said-2 is-2.
         use1 W ((‵ (flft κ₁ q₁) ⊛ (‵ (flft κ₂ q₂) ⊛ ‵ ftrue))) (id⊢ 𝓤 _) $ split ! $ move ! (1 ∷ []) $ split ! $ move ! (3 ∷ []) $ fsplit ! $ move ! (1 ∷ []) $ fsplit ! $ drop ! $ drop ! $ drop ! $ move ! (1 ∷ []) $ drop ! $
-        land ! (from ! (stop !)) (init ! 6 refl (Found-p .typed 𝓤 H A W (greatestObject (sessions) (objects) id 1) is-1)) $
-        -- 2: sessions::session_objects::greatest_object
+        land ! (from ! (stop !)) (init ! 8 refl (Found-p .typed 𝓤 H A W (foundObject (sessions) (objects) id (ObjectNumber-of parent)) is-2)) $
+        -- 3: moves::moves::parent_of
+        nothing ! $
+        use1 W (raw (toks 𝓤 A 0 (tt) (tt))) (id⊢ 𝓤 _) $ nothing ! $
+        owned ! (Found-p .row) (Is (Found-p .row)) (Found-p .makes 𝓤 H A W) (foundObject (sessions) (objects) id (ObjectNumber-of parent)) (Found-p .val (foundObject (sessions) (objects) id (ObjectNumber-of parent)) ∷ []) is-2 $ fjoin ! $ move ! (1 ∷ 0 ∷ []) $
+        calls-any ! fm 0 [] (moves-parent-of.signature .params) (moves-parent-of.ended .kept) ObjectNumber-p (moves-parent-of.clauses 𝓤 H A mem run) known-moves-parent-of tt tt tt (foundObject (sessions) (objects) id (ObjectNumber-of parent), tt) (Found-p .val (foundObject (sessions) (objects) id (ObjectNumber-of parent)) ∷ [], tt) tt (parentOf (foundObject (sessions) (objects) id (ObjectNumber-of parent))) (λ ws-3. Unit {0}) (id⊢ 𝓤 _) (λ r ws-3. fact-mono 𝓤 (r ≡ parentOf (foundObject (sessions) (objects) id (ObjectNumber-of parent))) ((r ≡ (parentOf (foundObject (sessions) (objects) id (ObjectNumber-of parent)))) × (Unit {0})) (λ e. (e, tt))) (λ _. (and-then ! (load ! (from ! (stop !)) (look ! 9 refl)) (no-more !))) (λ ws-3 said-3 is-3.
+        drop ! $ drop ! $
+        land ! (from ! (stop !)) (init ! 6 refl (ObjectNumber-p .typed 𝓤 H A W (parentOf (foundObject (sessions) (objects) id (ObjectNumber-of parent))) is-3)) $
+        -- 4: sessions::session_objects::find_object
         move ! (3 ∷ 1 ∷ []) $
         copies-shr ! (Array u64 5) b₁ o₁ sessions n₁ $ move ! (4 ∷ 3 ∷ []) $
         copies-shr ! Object-t.the-row b₂ o₂ objects n₂ $ nothing ! $ move ! (1 ∷ 0 ∷ []) $ join ! $ move ! (3 ∷ 0 ∷ []) $ join ! $
         use1 W (raw (toks 𝓤 A 2 ((κ₁, (κ₂, tt))) ((q₁, (q₂, tt))))) (id⊢ 𝓤 _) $ nothing ! $
-        owned ! (u8-p .row) (Is (u8-p .row)) (u8-p .makes 𝓤 H A W) 2 (u8-p .val 2 ∷ []) ((refl, lit< tt)) $ fjoin ! $
+        owned ! (ObjectNumber-p .row) (Is (ObjectNumber-p .row)) (ObjectNumber-p .makes 𝓤 H A W) (parentOf (foundObject (sessions) (objects) id (ObjectNumber-of parent))) (ObjectNumber-p .val (parentOf (foundObject (sessions) (objects) id (ObjectNumber-of parent))) ∷ []) is-3 $ fjoin ! $
         owned ! (u8-p .row) (Is (u8-p .row)) (u8-p .makes 𝓤 H A W) id (u8-p .val id ∷ []) id-is $ fjoin ! $ move ! (2 ∷ 0 ∷ []) $ fjoin ! $ move ! (3 ∷ 0 ∷ []) $ fjoin ! $ move ! (1 ∷ 0 ∷ []) $
-        calls-any ! fm 2 [] (session-objects-greatest-object.signature .params) (session-objects-greatest-object.ended .kept) Found-p (session-objects-greatest-object.clauses 𝓤 H A mem run) known-session-objects-greatest-object (κ₁, (κ₂, tt)) (q₁, (q₂, tt)) tt (at-list b₁ o₁ γ₁ sessions, (at-list b₂ o₂ γ₂ objects, (id, (2, tt)))) (sliceVal (b₁, o₁) n₁ ∷ [], (sliceVal (b₂, o₂) n₂ ∷ [], (u8-p .val id ∷ [], (u8-p .val 2 ∷ [], tt)))) tt (greatestObject (sessions) (objects) id 2) (λ ws-2. Unit {0}) (id⊢ 𝓤 _) (λ r ws-2. fact-mono 𝓤 (r ≡ greatestObject (sessions) (objects) id 2) ((r ≡ (greatestObject (sessions) (objects) id 2)) × (Unit {0})) (λ e. (e, tt))) (λ _. (and-then ! (load ! (from ! (stop !)) (look ! 15 refl)) (and-then ! (load ! (from ! (stop !)) (look ! 13 refl)) (and-then ! (load ! (from ! (stop !)) (look ! 11 refl)) (and-then ! (lit ! tt) (no-more !)))))) (λ ws-2 said-2 is-2.
+        calls-any ! fm 2 [] (session-objects-find-object.signature .params) (session-objects-find-object.ended .kept) Found-p (session-objects-find-object.clauses 𝓤 H A mem run) known-session-objects-find-object (κ₁, (κ₂, tt)) (q₁, (q₂, tt)) tt (at-list b₁ o₁ γ₁ sessions, (at-list b₂ o₂ γ₂ objects, (id, (parentOf (foundObject (sessions) (objects) id (ObjectNumber-of parent)), tt)))) (sliceVal (b₁, o₁) n₁ ∷ [], (sliceVal (b₂, o₂) n₂ ∷ [], (u8-p .val id ∷ [], (ObjectNumber-p .val (parentOf (foundObject (sessions) (objects) id (ObjectNumber-of parent))) ∷ [], tt)))) tt (foundObject (sessions) (objects) id (parentOf (foundObject (sessions) (objects) id (ObjectNumber-of parent)))) (λ ws-4. Unit {0}) (id⊢ 𝓤 _) (λ r ws-4. fact-mono 𝓤 (r ≡ foundObject (sessions) (objects) id (parentOf (foundObject (sessions) (objects) id (ObjectNumber-of parent)))) ((r ≡ (foundObject (sessions) (objects) id (parentOf (foundObject (sessions) (objects) id (ObjectNumber-of parent))))) × (Unit {0})) (λ e. (e, tt))) (λ _. (and-then ! (load ! (from ! (stop !)) (look ! 21 refl)) (and-then ! (load ! (from ! (stop !)) (look ! 19 refl)) (and-then ! (load ! (from ! (stop !)) (look ! 17 refl)) (and-then ! (load ! (from ! (stop !)) (look ! 5 refl)) (no-more !)))))) (λ ws-4 said-4 is-4.
         use1 W ((‵ (flft κ₁ q₁) ⊛ (‵ (flft κ₂ q₂) ⊛ ‵ ftrue))) (id⊢ 𝓤 _) $ split ! $ move ! (1 ∷ []) $ split ! $ move ! (3 ∷ []) $ fsplit ! $ move ! (1 ∷ []) $ fsplit ! $ drop ! $ drop ! $ drop ! $ move ! (1 ∷ []) $ drop ! $
-        land ! (from ! (stop !)) (init ! 4 refl (Found-p .typed 𝓤 H A W (greatestObject (sessions) (objects) id 2) is-2)) $
-        -- 3: moves::moves::endpoint_move
+        land ! (from ! (stop !)) (init ! 4 refl (Found-p .typed 𝓤 H A W (foundObject (sessions) (objects) id (parentOf (foundObject (sessions) (objects) id (ObjectNumber-of parent)))) is-4)) $
+        -- 5: moves::moves::endpoint_move
         nothing ! $
         use1 W (raw (toks 𝓤 A 0 (tt) (tt))) (id⊢ 𝓤 _) $ nothing ! $
-        owned ! (Found-p .row) (Is (Found-p .row)) (Found-p .makes 𝓤 H A W) (greatestObject (sessions) (objects) id 2) (Found-p .val (greatestObject (sessions) (objects) id 2) ∷ []) is-2 $ fjoin ! $
-        owned ! (Found-p .row) (Is (Found-p .row)) (Found-p .makes 𝓤 H A W) (greatestObject (sessions) (objects) id 1) (Found-p .val (greatestObject (sessions) (objects) id 1) ∷ []) is-1 $ fjoin ! $
+        owned ! (Found-p .row) (Is (Found-p .row)) (Found-p .makes 𝓤 H A W) (foundObject (sessions) (objects) id (parentOf (foundObject (sessions) (objects) id (ObjectNumber-of parent)))) (Found-p .val (foundObject (sessions) (objects) id (parentOf (foundObject (sessions) (objects) id (ObjectNumber-of parent)))) ∷ []) is-4 $ fjoin ! $
+        owned ! (Found-p .row) (Is (Found-p .row)) (Found-p .makes 𝓤 H A W) (foundObject (sessions) (objects) id (ObjectNumber-of parent)) (Found-p .val (foundObject (sessions) (objects) id (ObjectNumber-of parent)) ∷ []) is-2 $ fjoin ! $
+        owned ! (u16-p .row) (Is (u16-p .row)) (u16-p .makes 𝓤 H A W) parent (u16-p .val parent ∷ []) parent-is $ fjoin ! $
         owned ! (u8-p .row) (Is (u8-p .row)) (u8-p .makes 𝓤 H A W) kind (u8-p .val kind ∷ []) kind-is $ fjoin ! $
         owned ! (ObjectNumber-p .row) (Is (ObjectNumber-p .row)) (ObjectNumber-p .makes 𝓤 H A W) number (ObjectNumber-p .val number ∷ []) number-is $ fjoin ! $ move ! (1 ∷ 0 ∷ []) $
-        calls-any ! fm 0 [] (moves-endpoint-move.signature .params) (moves-endpoint-move.ended .kept) Move-p (moves-endpoint-move.clauses 𝓤 H A mem run) known-moves-endpoint-move tt tt tt (number, (kind, (greatestObject (sessions) (objects) id 1, (greatestObject (sessions) (objects) id 2, tt)))) (ObjectNumber-p .val number ∷ [], (u8-p .val kind ∷ [], (Found-p .val (greatestObject (sessions) (objects) id 1) ∷ [], (Found-p .val (greatestObject (sessions) (objects) id 2) ∷ [], tt)))) tt (endpointMove number kind (greatestObject (sessions) (objects) id 1) (greatestObject (sessions) (objects) id 2)) (λ ws-3. Unit {0}) (id⊢ 𝓤 _) (λ r ws-3. fact-mono 𝓤 (r ≡ endpointMove number kind (greatestObject (sessions) (objects) id 1) (greatestObject (sessions) (objects) id 2)) ((r ≡ (endpointMove number kind (greatestObject (sessions) (objects) id 1) (greatestObject (sessions) (objects) id 2))) × (Unit {0})) (λ e. (e, tt))) (λ _. (and-then ! (load ! (from ! (stop !)) (look ! 11 refl)) (and-then ! (load ! (from ! (stop !)) (look ! 9 refl)) (and-then ! (load ! (from ! (stop !)) (look ! 7 refl)) (and-then ! (load ! (from ! (stop !)) (look ! 5 refl)) (no-more !)))))) (λ ws-3 said-3 is-3.
+        calls-any ! fm 0 [] (moves-endpoint-move.signature .params) (moves-endpoint-move.ended .kept) Move-p (moves-endpoint-move.clauses 𝓤 H A mem run) known-moves-endpoint-move tt tt tt (number, (kind, (parent, (foundObject (sessions) (objects) id (ObjectNumber-of parent), (foundObject (sessions) (objects) id (parentOf (foundObject (sessions) (objects) id (ObjectNumber-of parent))), tt))))) (ObjectNumber-p .val number ∷ [], (u8-p .val kind ∷ [], (u16-p .val parent ∷ [], (Found-p .val (foundObject (sessions) (objects) id (ObjectNumber-of parent)) ∷ [], (Found-p .val (foundObject (sessions) (objects) id (parentOf (foundObject (sessions) (objects) id (ObjectNumber-of parent)))) ∷ [], tt))))) tt (endpointMove number kind parent (foundObject (sessions) (objects) id (ObjectNumber-of parent)) (foundObject (sessions) (objects) id (parentOf (foundObject (sessions) (objects) id (ObjectNumber-of parent))))) (λ ws-5. Unit {0}) (id⊢ 𝓤 _) (λ r ws-5. fact-mono 𝓤 (r ≡ endpointMove number kind parent (foundObject (sessions) (objects) id (ObjectNumber-of parent)) (foundObject (sessions) (objects) id (parentOf (foundObject (sessions) (objects) id (ObjectNumber-of parent))))) ((r ≡ (endpointMove number kind parent (foundObject (sessions) (objects) id (ObjectNumber-of parent)) (foundObject (sessions) (objects) id (parentOf (foundObject (sessions) (objects) id (ObjectNumber-of parent)))))) × (Unit {0})) (λ e. (e, tt))) (λ _. (and-then ! (load ! (from ! (stop !)) (look ! 17 refl)) (and-then ! (load ! (from ! (stop !)) (look ! 15 refl)) (and-then ! (load ! (from ! (stop !)) (look ! 13 refl)) (and-then ! (load ! (from ! (stop !)) (look ! 9 refl)) (and-then ! (load ! (from ! (stop !)) (look ! 5 refl)) (no-more !))))))) (λ ws-5 said-5 is-5.
         drop ! $ drop ! $
-        land ! (from ! (stop !)) (init ! 18 refl (Move-p .typed 𝓤 H A W (endpointMove number kind (greatestObject (sessions) (objects) id 1) (greatestObject (sessions) (objects) id 2)) is-3)) $
-        returns ! (look ! 18 refl) $ forget ! 4 refl $ forget ! 6 refl $ forget ! 8 refl $ forget ! 10 refl $ forget ! 12 refl $ forget ! 14 refl $ forget ! 16 refl $ forget ! 18 refl $ move ! (18 ∷ 19 ∷ []) $ free1 ! $ move ! (16 ∷ 17 ∷ []) $ free1 ! $ move ! (14 ∷ 15 ∷ []) $ free1 ! $ move ! (12 ∷ 13 ∷ []) $ free1 ! $ move ! (10 ∷ 11 ∷ []) $ free1 ! $ move ! (8 ∷ 9 ∷ []) $ free1 ! $ move ! (6 ∷ 7 ∷ []) $ free1 ! $ move ! (4 ∷ 5 ∷ []) $ free1 ! $ free0 ! $ move ! (3 ∷ 1 ∷ 2 ∷ 0 ∷ []) $
-        by ! (exits (endpointMove number kind (greatestObject (sessions) (objects) id 1) (greatestObject (sessions) (objects) id 2)) (refl) is-3))))
+        land ! (from ! (stop !)) (init ! 24 refl (Move-p .typed 𝓤 H A W (endpointMove number kind parent (foundObject (sessions) (objects) id (ObjectNumber-of parent)) (foundObject (sessions) (objects) id (parentOf (foundObject (sessions) (objects) id (ObjectNumber-of parent))))) is-5)) $
+        returns ! (look ! 24 refl) $ forget ! 4 refl $ forget ! 6 refl $ forget ! 8 refl $ forget ! 10 refl $ forget ! 12 refl $ forget ! 14 refl $ forget ! 16 refl $ forget ! 18 refl $ forget ! 20 refl $ forget ! 22 refl $ forget ! 24 refl $ move ! (24 ∷ 25 ∷ []) $ free1 ! $ move ! (22 ∷ 23 ∷ []) $ free1 ! $ move ! (20 ∷ 21 ∷ []) $ free1 ! $ move ! (18 ∷ 19 ∷ []) $ free1 ! $ move ! (16 ∷ 17 ∷ []) $ free1 ! $ move ! (14 ∷ 15 ∷ []) $ free1 ! $ move ! (12 ∷ 13 ∷ []) $ free1 ! $ move ! (10 ∷ 11 ∷ []) $ free1 ! $ move ! (8 ∷ 9 ∷ []) $ free1 ! $ move ! (6 ∷ 7 ∷ []) $ free1 ! $ move ! (4 ∷ 5 ∷ []) $ free1 ! $ free0 ! $ move ! (3 ∷ 1 ∷ 2 ∷ 0 ∷ []) $
+        by ! (exits (endpointMove number kind parent (foundObject (sessions) (objects) id (ObjectNumber-of parent)) (foundObject (sessions) (objects) id (parentOf (foundObject (sessions) (objects) id (ObjectNumber-of parent))))) (refl) is-5)))))
 
-  module _ (𝓣 : Tables 𝓤 H) (known-session-objects-greatest-object : Triple 𝓤 (𝓣 .C #session-objects-greatest-object) (Of-session-objects-greatest-object 𝓤 H A mem run)) (known-moves-endpoint-move : Triple 𝓤 (𝓣 .C #moves-endpoint-move) (Of-moves-endpoint-move 𝓤 H A mem run)) where
-    walk : ent 𝓤 (onEntry 𝓤 H A f.signature (κ₁, (κ₂, tt)) (q₁, (q₂, tt)) x at) (WpFn 𝓤 H (𝓣 .C) (𝓣 .Λ) code.function (sliceVal (b₁, o₁) n₁ ∷ sliceVal (b₂, o₂) n₂ ∷ u8-p .val id ∷ ObjectNumber-p .val number ∷ u8-p .val kind ∷ []) Post)
+  module _ (𝓣 : Tables 𝓤 H) (known-session-objects-find-object : Triple 𝓤 (𝓣 .C #session-objects-find-object) (Of-session-objects-find-object 𝓤 H A mem run)) (known-moves-parent-of : Triple 𝓤 (𝓣 .C #moves-parent-of) (Of-moves-parent-of 𝓤 H A mem run)) (known-moves-endpoint-move : Triple 𝓤 (𝓣 .C #moves-endpoint-move) (Of-moves-endpoint-move 𝓤 H A mem run)) where
+    walk : ent 𝓤 (onEntry 𝓤 H A f.signature (κ₁, (κ₂, tt)) (q₁, (q₂, tt)) x at) (WpFn 𝓤 H (𝓣 .C) (𝓣 .Λ) code.function (sliceVal (b₁, o₁) n₁ ∷ sliceVal (b₂, o₂) n₂ ∷ u8-p .val id ∷ ObjectNumber-p .val number ∷ u8-p .val kind ∷ u16-p .val parent ∷ []) Post)
     walk =
-        qed W ((‵ (flft κ₁ q₁) ⊛ (‵ (flft κ₂ q₂) ⊛ ‵ ftrue)) ∷ ‵ (owns (ShrSlice (named 0) κ₁ (Array u64 5) ∷ ShrSlice (named 1) κ₂ Object-t.the-row ∷ u8-p .row ∷ ObjectNumber-p .row ∷ u8-p .row ∷ []) x at) ∷ []) ∵ enter ! (𝓣 .C) (𝓣 .Λ) code.function (sliceVal (b₁, o₁) n₁ ∷ sliceVal (b₂, o₂) n₂ ∷ u8-p .val id ∷ ObjectNumber-p .val number ∷ u8-p .val kind ∷ []) _ $
-        alloc1 ! (λ l₀. alloc1 ! (λ l₁. alloc1 ! (λ l₂. alloc1 ! (λ l₃. alloc1 ! (λ l₄. alloc1 ! (λ l₅. alloc1 ! (λ l₆. alloc1 ! (λ l₇. alloc0 ! $ params1 ! $ pass1 ! (init ! 12 refl (tt, (tt, (record { fits = room₁ .0 }, tt)))) $ pass1 ! (init ! 10 refl (tt, (tt, (record { fits = room₂ .0 }, tt)))) $ pass1 ! (init ! 8 refl (u8-p .typed 𝓤 H A W id id-is)) $ pass1 ! (init ! 6 refl (ObjectNumber-p .typed 𝓤 H A W number number-is)) $ pass1 ! (init ! 4 refl (u8-p .typed 𝓤 H A W kind kind-is)) $ pass0 ! $ move ! (17 ∷ []) $ fsplit ! $ move ! (1 ∷ []) $ fsplit ! $ move ! (19 ∷ []) $ split ! $ move ! (1 ∷ []) $ split ! $ move ! (1 ∷ []) $ drop ! $ move ! (3 ∷ []) $ drop ! $ move ! (3 ∷ 1 ∷ 2 ∷ 0 ∷ 4 ∷ 5 ∷ 6 ∷ 7 ∷ 8 ∷ 9 ∷ 10 ∷ 11 ∷ 12 ∷ 13 ∷ 14 ∷ 15 ∷ 16 ∷ 17 ∷ 18 ∷ 19 ∷ []) $
-        begins 𝓣 known-session-objects-greatest-object known-moves-endpoint-move l₀ l₁ l₂ l₃ l₄ l₅ l₆ l₇))))))))
+        qed W ((‵ (flft κ₁ q₁) ⊛ (‵ (flft κ₂ q₂) ⊛ ‵ ftrue)) ∷ ‵ (owns (ShrSlice (named 0) κ₁ (Array u64 5) ∷ ShrSlice (named 1) κ₂ Object-t.the-row ∷ u8-p .row ∷ ObjectNumber-p .row ∷ u8-p .row ∷ u16-p .row ∷ []) x at) ∷ []) ∵ enter ! (𝓣 .C) (𝓣 .Λ) code.function (sliceVal (b₁, o₁) n₁ ∷ sliceVal (b₂, o₂) n₂ ∷ u8-p .val id ∷ ObjectNumber-p .val number ∷ u8-p .val kind ∷ u16-p .val parent ∷ []) _ $
+        alloc1 ! (λ l₀. alloc1 ! (λ l₁. alloc1 ! (λ l₂. alloc1 ! (λ l₃. alloc1 ! (λ l₄. alloc1 ! (λ l₅. alloc1 ! (λ l₆. alloc1 ! (λ l₇. alloc1 ! (λ l₈. alloc1 ! (λ l₉. alloc1 ! (λ l₁₀. alloc0 ! $ params1 ! $ pass1 ! (init ! 18 refl (tt, (tt, (record { fits = room₁ .0 }, tt)))) $ pass1 ! (init ! 16 refl (tt, (tt, (record { fits = room₂ .0 }, tt)))) $ pass1 ! (init ! 14 refl (u8-p .typed 𝓤 H A W id id-is)) $ pass1 ! (init ! 12 refl (ObjectNumber-p .typed 𝓤 H A W number number-is)) $ pass1 ! (init ! 10 refl (u8-p .typed 𝓤 H A W kind kind-is)) $ pass1 ! (init ! 8 refl (u16-p .typed 𝓤 H A W parent parent-is)) $ pass0 ! $ move ! (23 ∷ []) $ fsplit ! $ move ! (1 ∷ []) $ fsplit ! $ move ! (25 ∷ []) $ split ! $ move ! (1 ∷ []) $ split ! $ move ! (1 ∷ []) $ drop ! $ move ! (3 ∷ []) $ drop ! $ move ! (3 ∷ 1 ∷ 2 ∷ 0 ∷ 4 ∷ 5 ∷ 6 ∷ 7 ∷ 8 ∷ 9 ∷ 10 ∷ 11 ∷ 12 ∷ 13 ∷ 14 ∷ 15 ∷ 16 ∷ 17 ∷ 18 ∷ 19 ∷ 20 ∷ 21 ∷ 22 ∷ 23 ∷ 24 ∷ 25 ∷ []) $
+        begins 𝓣 known-session-objects-find-object known-moves-parent-of known-moves-endpoint-move l₀ l₁ l₂ l₃ l₄ l₅ l₆ l₇ l₈ l₉ l₁₀)))))))))))
 
-module _ {M : Type 1} (𝓤 : URA M) (H : Heap 𝓤) (A : Atoms 𝓤) (W : Given 𝓤 H A) (mem : Memory → SProp 𝓤) (run : Routine → Fun 𝓤) (𝓣 : Tables 𝓤 H) (known-session-objects-greatest-object : Triple 𝓤 (𝓣 .C #session-objects-greatest-object) (Of-session-objects-greatest-object 𝓤 H A mem run)) (known-moves-endpoint-move : Triple 𝓤 (𝓣 .C #moves-endpoint-move) (Of-moves-endpoint-move 𝓤 H A mem run)) where
+module _ {M : Type 1} (𝓤 : URA M) (H : Heap 𝓤) (A : Atoms 𝓤) (W : Given 𝓤 H A) (mem : Memory → SProp 𝓤) (run : Routine → Fun 𝓤) (𝓣 : Tables 𝓤 H) (known-session-objects-find-object : Triple 𝓤 (𝓣 .C #session-objects-find-object) (Of-session-objects-find-object 𝓤 H A mem run)) (known-moves-parent-of : Triple 𝓤 (𝓣 .C #moves-parent-of) (Of-moves-parent-of 𝓤 H A mem run)) (known-moves-endpoint-move : Triple 𝓤 (𝓣 .C #moves-endpoint-move) (Of-moves-endpoint-move 𝓤 H A mem run)) where
   walks : Walks 𝓤 H A f.ended stayed (WpFn 𝓤 H (𝓣 .C) (𝓣 .Λ) code.function) (f.clauses 𝓤 H A mem run)
-  walks = walked 𝓤 H A f.ended stayed (f.clauses 𝓤 H A mem run) (WpFn 𝓤 H (𝓣 .C) (𝓣 .Λ) code.function) (λ κs. (slice-vals, (slice-vals, ((λ y. u8-p .val y ∷ []), ((λ y. ObjectNumber-p .val y ∷ []), ((λ y. u8-p .val y ∷ []), tt)))))) (λ κs. (shr-slice-tells (named 0) (κs .0) (Array u64 5), (shr-slice-tells (named 1) (κs .1 .0) Object-t.the-row, (u8-p .tells, (ObjectNumber-p .tells, (u8-p .tells, tt))))))
-      (λ κs qs bounds a g are. via 𝓤 _ (fst∗ 𝓤 _ (emp 𝓤)) (walk 𝓤 H A W mem run (κs .0) (qs .0) (a .0 .ptr .0) (a .0 .ptr .1) (a .0 .name) (a .0 .now) (κs .1 .0) (qs .1 .0) (a .1 .0 .ptr .0) (a .1 .0 .ptr .1) (a .1 .0 .name) (a .1 .0 .now) (a .1 .1 .0) (a .1 .1 .1 .0) (a .1 .1 .1 .1 .0) (are .0 .0 .1) (are .1 .0 .0 .1) (are .1 .1 .0) (are .1 .1 .1 .0) (are .1 .1 .1 .1 .0) 𝓣 known-session-objects-greatest-object known-moves-endpoint-move))
+  walks = walked 𝓤 H A f.ended stayed (f.clauses 𝓤 H A mem run) (WpFn 𝓤 H (𝓣 .C) (𝓣 .Λ) code.function) (λ κs. (slice-vals, (slice-vals, ((λ y. u8-p .val y ∷ []), ((λ y. ObjectNumber-p .val y ∷ []), ((λ y. u8-p .val y ∷ []), ((λ y. u16-p .val y ∷ []), tt))))))) (λ κs. (shr-slice-tells (named 0) (κs .0) (Array u64 5), (shr-slice-tells (named 1) (κs .1 .0) Object-t.the-row, (u8-p .tells, (ObjectNumber-p .tells, (u8-p .tells, (u16-p .tells, tt)))))))
+      (λ κs qs bounds a g are. via 𝓤 _ (fst∗ 𝓤 _ (emp 𝓤)) (walk 𝓤 H A W mem run (κs .0) (qs .0) (a .0 .ptr .0) (a .0 .ptr .1) (a .0 .name) (a .0 .now) (κs .1 .0) (qs .1 .0) (a .1 .0 .ptr .0) (a .1 .0 .ptr .1) (a .1 .0 .name) (a .1 .0 .now) (a .1 .1 .0) (a .1 .1 .1 .0) (a .1 .1 .1 .1 .0) (a .1 .1 .1 .1 .1 .0) (are .0 .0 .1) (are .1 .0 .0 .1) (are .1 .1 .0) (are .1 .1 .1 .0) (are .1 .1 .1 .1 .0) (are .1 .1 .1 .1 .1 .0) 𝓣 known-session-objects-find-object known-moves-parent-of known-moves-endpoint-move))
 
   meets : Meets 𝓤 H A f.signature (WpFn 𝓤 H (𝓣 .C) (𝓣 .Λ) code.function) (f.spec 𝓤 H A mem run)
-  meets = walk-meets 𝓤 H A f.ended stayed W (goes-none-slice 𝓤 H A W 2 (0 ∷ []) tt (plain (λ _. (Array u64 5))) yes, (goes-none-slice 𝓤 H A W 2 (1 ∷ []) tt (plain (λ _. Object-t.the-row)) yes, (goes-none 𝓤 H A W 2 (λ _. u8-p .row) yes (λ κs x f. refl), (goes-none 𝓤 H A W 2 (λ _. ObjectNumber-p .row) yes (λ κs x f. refl), (goes-none 𝓤 H A W 2 (λ _. u8-p .row) yes (λ κs x f. refl), tt))))) (f.clauses 𝓤 H A mem run) (WpFn 𝓤 H (𝓣 .C) (𝓣 .Λ) code.function) (WpFn-mono 𝓤 H (W .laws) 𝓣 code.function) walks
+  meets = walk-meets 𝓤 H A f.ended stayed W (goes-none-slice 𝓤 H A W 2 (0 ∷ []) tt (plain (λ _. (Array u64 5))) yes, (goes-none-slice 𝓤 H A W 2 (1 ∷ []) tt (plain (λ _. Object-t.the-row)) yes, (goes-none 𝓤 H A W 2 (λ _. u8-p .row) yes (λ κs x f. refl), (goes-none 𝓤 H A W 2 (λ _. ObjectNumber-p .row) yes (λ κs x f. refl), (goes-none 𝓤 H A W 2 (λ _. u8-p .row) yes (λ κs x f. refl), (goes-none 𝓤 H A W 2 (λ _. u16-p .row) yes (λ κs x f. refl), tt)))))) (f.clauses 𝓤 H A mem run) (WpFn 𝓤 H (𝓣 .C) (𝓣 .Λ) code.function) (WpFn-mono 𝓤 H (W .laws) 𝓣 code.function) walks
 
 pub create-endpoint-spec : {M : Type 1} → stated.statement M
 unfolding code.routine tablesOf
@@ -267,5 +284,6 @@ create-endpoint-spec 𝓤 H 𝓜 𝓖 𝓡 =
     entered 𝓤 H (tripleOf 𝓤 H (𝓖 .A) f.signature (f.spec 𝓤 H (𝓖 .A) (𝓜 .mem) (𝓡 .run)))
     (tables 𝓤 H 𝓜 𝓡 code.env .C) (tables 𝓤 H 𝓜 𝓡 code.env .Λ) #f code.function (code.unfolded 𝓤 H 𝓜 𝓡)
     (meets 𝓤 H (𝓖 .A) (givenOf 𝓤 H 𝓜 𝓖) (𝓜 .mem) (𝓡 .run) (tablesOf 𝓤 H 𝓜 (tables 𝓤 H 𝓜 𝓡 code.env))
-    (cited 𝓤 H (Of-session-objects-greatest-object 𝓤 H (𝓖 .A) (𝓜 .mem) (𝓡 .run)) 𝓜 𝓡 code.env #session-objects-greatest-object session-objects-greatest-object-def.routine code.calls-sessions·session-objects·greatest-object (session-objects-greatest-object-thm.met 𝓤 H 𝓜 𝓖 𝓡))
+    (cited 𝓤 H (Of-session-objects-find-object 𝓤 H (𝓖 .A) (𝓜 .mem) (𝓡 .run)) 𝓜 𝓡 code.env #session-objects-find-object session-objects-find-object-def.routine code.calls-sessions·session-objects·find-object (session-objects-find-object-thm.met 𝓤 H 𝓜 𝓖 𝓡))
+    (cited 𝓤 H (Of-moves-parent-of 𝓤 H (𝓖 .A) (𝓜 .mem) (𝓡 .run)) 𝓜 𝓡 code.env #moves-parent-of moves-parent-of-def.routine code.calls-moves·moves·parent-of (moves-parent-of-thm.met 𝓤 H 𝓜 𝓖 𝓡))
     (cited 𝓤 H (Of-moves-endpoint-move 𝓤 H (𝓖 .A) (𝓜 .mem) (𝓡 .run)) 𝓜 𝓡 code.env #moves-endpoint-move moves-endpoint-move-def.routine code.calls-moves·moves·endpoint-move (moves-endpoint-move-thm.met 𝓤 H 𝓜 𝓖 𝓡)))

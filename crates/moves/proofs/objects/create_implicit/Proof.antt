@@ -53,12 +53,12 @@ use borrow.Rule.Slice.PartMut.{midOf, putMid}
 use Rattle.walk.proofs.Parts.{part-len, lends-part, backs-part, parts-shr}
 use Rattle.walk.proofs.Arrays.{rep-is, lends-array, backs-array}
 use Rattle.sessions.specs.Objects.{implicitOf}
-use Rattle.sessions.specs.SessionObjects.{foundObject, greatestObject, storedObject, storedObjects, keepStored, removedObjects, keepRemoved}
+use Rattle.sessions.specs.SessionObjects.{foundObject, storedObject, storedObjects, keepStored, removedObjects, keepRemoved}
 use Rattle.sessions.specs.Room.{roomOf}
-use Rattle.moves.specs.Moves.{writeMove, readMove, deleteMove, topicMove, endpointMove}
+use Rattle.moves.specs.Moves.{writeMove, readMove, deleteMove, topicMove}
 use Rattle.moves.specs.Names.{namesIn}
-use Rattle.moves.specs.Rows.{okMove, createMove, createdSessions, createdObjects, isFree, noRoomMove, roomMove, roomSessions, roomObjects}
-use Rattle.sessions.specs.Objects.{bridgedOf, handleOf, isNumbered, greaterOf, betterOf, slotOf, usedAfter}
+use Rattle.moves.specs.Rows.{okMove, endpointIn, createMove, createdSessions, createdObjects, isFree, noRoomMove, roomMove, roomSessions, roomObjects}
+use Rattle.sessions.specs.Objects.{bridgedOf, handleOf, isNumbered, slotOf, usedAfter}
 use Rattle.sessions.specs.SessionObjects.{objectsNamed, usedOf, firstObject, countedSession, keepUsed}
 use Rattle.sessions.specs.declared.objects.Object.{Object}
 use Rattle.sessions.proofs.objects.Object as Object-t
@@ -113,8 +113,8 @@ use Rattle.moves.proofs.objects.create_implicit.Statement as stated
 use Rattle.moves.proofs.objects.create_implicit.Code as code
 use Rattle.moves.proofs.objects.create_implicit.Code.Mir as mir
 
-abbrev Object-of : ObjectNumber → ℕ → ℕ → ℕ → Object
-Object-of x0 x1 x2 x3 = record { number = x0; kind = x1; bridged = x2; handle = x3 }
+abbrev Object-of : ObjectNumber → ℕ → ℕ → ℕ → ℕ → Object
+Object-of x0 x1 x2 x3 x4 = record { number = x0; kind = x1; bridged = x2; handle = x3; parent = x4 }
 
 abbrev Object-p : Plain
 Object-p = record { row = Object-t.the-row; val = LL.val Object-t.the-type Object-l.the-laws; tells = LL.tells Object-t.the-type Object-l.the-laws; makes = λ 𝓤 H A W. LL.makes Object-t.the-type Object-l.the-plain 𝓤 H A; ty = Object-l.mir; typed = λ 𝓤 H A W x is. LL.lawful Object-t.the-type Object-l.the-laws 𝓤 H A W .typed x _ is .0; copies = λ 𝓤 H A W. LL.copy Object-t.the-type Object-l.the-copy 𝓤 H A W }
@@ -162,7 +162,7 @@ abbrev Refusal-p : Plain
 Refusal-p = record { row = Refusal-t.the-row; val = EL.val Refusal-t.the-type Refusal-l.the-laws; tells = EL.tells Refusal-t.the-type Refusal-l.the-laws; makes = λ 𝓤 H A W. EL.makes Refusal-t.the-type Refusal-l.the-plain 𝓤 H A; ty = Refusal-l.mir; typed = λ 𝓤 H A W x is. EL.lawful Refusal-t.the-type Refusal-l.the-laws 𝓤 H A W tt .typed x _ is .0; copies = λ 𝓤 H A W. EL.copy Refusal-t.the-type Refusal-l.the-copy 𝓤 H A W }
 
 abbrev stayed : Stays (f.ended .signature .params) (f.ended .kept)
-stayed = (stay-slice (0 ∷ []) tt (plain (λ _. (Array u64 5))), (stay-slice (1 ∷ []) tt (plain (λ _. Object-t.the-row)), (stay-none (λ _. u8-p .row) yes, (stay-none (λ _. ObjectNumber-p .row) yes, (stay-none (λ _. u8-p .row) yes, tt)))))
+stayed = (stay-slice (0 ∷ []) tt (plain (λ _. (Array u64 5))), (stay-slice (1 ∷ []) tt (plain (λ _. Object-t.the-row)), (stay-none (λ _. u8-p .row) yes, (stay-none (λ _. ObjectNumber-p .row) yes, (stay-none (λ _. u8-p .row) yes, (stay-none (λ _. u16-p .row) yes, tt))))))
 
 module _ {M : Type 1} (𝓤 : URA M) (H : Heap 𝓤) (A : Atoms 𝓤) (mem : Memory → SProp 𝓤) (run : Routine → Fun 𝓤) where
   abbrev Of-objects-Object-implicit : Contract 𝓤
@@ -171,35 +171,36 @@ module _ {M : Type 1} (𝓤 : URA M) (H : Heap 𝓤) (A : Atoms 𝓤) (mem : Mem
   abbrev Of-session-objects-put-object : Contract 𝓤
   Of-session-objects-put-object = tripleOf 𝓤 H A session-objects-put-object.signature (session-objects-put-object.spec 𝓤 H A mem run)
 
-module _ {M : Type 1} (𝓤 : URA M) (H : Heap 𝓤) (A : Atoms 𝓤) (W : Given 𝓤 H A) (mem : Memory → SProp 𝓤) (run : Routine → Fun 𝓤) (κ₁ : Lft) (q₁ : Share) (b₁ o₁ : ℕ) (γ₁ : GName) (sessions : List (List ℕ)) (κ₂ : Lft) (q₂ : Share) (b₂ o₂ : ℕ) (γ₂ : GName) (objects : List Object) (id : ℕ) (number : ObjectNumber) (kind : ℕ)
-    (room₁ : Room (Array u64 5) (length sessions)) (room₂ : Room Object-t.the-row (length objects)) (id-is : Is (u8-p .row) id (u8-p .val id ∷ [])) (number-is : Is (ObjectNumber-p .row) number (ObjectNumber-p .val number ∷ [])) (kind-is : Is (u8-p .row) kind (u8-p .val kind ∷ [])) where
+module _ {M : Type 1} (𝓤 : URA M) (H : Heap 𝓤) (A : Atoms 𝓤) (W : Given 𝓤 H A) (mem : Memory → SProp 𝓤) (run : Routine → Fun 𝓤) (κ₁ : Lft) (q₁ : Share) (b₁ o₁ : ℕ) (γ₁ : GName) (sessions : List (List ℕ)) (κ₂ : Lft) (q₂ : Share) (b₂ o₂ : ℕ) (γ₂ : GName) (objects : List Object) (id : ℕ) (number : ObjectNumber) (kind : ℕ) (parent : ℕ)
+    (room₁ : Room (Array u64 5) (length sessions)) (room₂ : Room Object-t.the-row (length objects)) (id-is : Is (u8-p .row) id (u8-p .val id ∷ [])) (number-is : Is (ObjectNumber-p .row) number (ObjectNumber-p .val number ∷ [])) (kind-is : Is (u8-p .row) kind (u8-p .val kind ∷ [])) (parent-is : Is (u16-p .row) parent (u16-p .val parent ∷ [])) where
   abbrev n₁ : ℕ
   n₁ = length sessions
 
   abbrev n₂ : ℕ
   n₂ = length objects
 
-  abbrev x : RefT (List (List ℕ)) × (RefT (List Object) × (u8-p .row .Denot × (ObjectNumber-p .row .Denot × (u8-p .row .Denot × (Unit {0})))))
-  x = (at-list b₁ o₁ γ₁ sessions, (at-list b₂ o₂ γ₂ objects, (id, (number, (kind, tt)))))
+  abbrev x : RefT (List (List ℕ)) × (RefT (List Object) × (u8-p .row .Denot × (ObjectNumber-p .row .Denot × (u8-p .row .Denot × (u16-p .row .Denot × (Unit {0}))))))
+  x = (at-list b₁ o₁ γ₁ sessions, (at-list b₂ o₂ γ₂ objects, (id, (number, (kind, (parent, tt))))))
 
   abbrev at : Vals f.signature (κ₁, (κ₂, tt))
-  at = (sliceVal (b₁, o₁) n₁ ∷ [], (sliceVal (b₂, o₂) n₂ ∷ [], (u8-p .val id ∷ [], (ObjectNumber-p .val number ∷ [], (u8-p .val kind ∷ [], tt)))))
+  at = (sliceVal (b₁, o₁) n₁ ∷ [], (sliceVal (b₂, o₂) n₂ ∷ [], (u8-p .val id ∷ [], (ObjectNumber-p .val number ∷ [], (u8-p .val kind ∷ [], (u16-p .val parent ∷ [], tt))))))
 
   abbrev Post : Val → SProp 𝓤
   Post = walkOf 𝓤 H A f.ended stayed (f.clauses 𝓤 H A mem run) .post (((κ₁, (κ₂, tt)), (q₁, (q₂, tt)), tt, x, at), tt)
 
-  exits : (r : Move) (ws₁ : List (List ℕ)) (ws₂ : List Object) → ((r ≡ okMove number) × (ws₁ ≡ keepStored (sessions) id (storedObject (sessions) (objects) id (implicitOf number kind))) × (ws₂ ≡ storedObjects (sessions) (objects) id (implicitOf number kind))) → Is (Move-p .row) r (Move-p .val r ∷ []) → length ws₁ ≡ n₁ → length ws₂ ≡ n₂ → ent 𝓤 (⋆ 𝓤 H A (‵ (MutSlice (named 0) κ₁ (Array u64 5) .own (at-list b₁ o₁ γ₁ ws₁) (sliceVal (b₁, o₁) n₁ ∷ [])) ∷ ‵ (flft κ₁ q₁) ∷ ‵ (MutSlice (named 1) κ₂ Object-t.the-row .own (at-list b₂ o₂ γ₂ ws₂) (sliceVal (b₂, o₂) n₂ ∷ [])) ∷ ‵ (flft κ₂ q₂) ∷ [])) (Post (Move-p .val r))
+  exits : (r : Move) (ws₁ : List (List ℕ)) (ws₂ : List Object) → ((r ≡ okMove number) × (ws₁ ≡ keepStored (sessions) id (storedObject (sessions) (objects) id (implicitOf number kind parent))) × (ws₂ ≡ storedObjects (sessions) (objects) id (implicitOf number kind parent))) → Is (Move-p .row) r (Move-p .val r ∷ []) → length ws₁ ≡ n₁ → length ws₂ ≡ n₂ → ent 𝓤 (⋆ 𝓤 H A (‵ (MutSlice (named 0) κ₁ (Array u64 5) .own (at-list b₁ o₁ γ₁ ws₁) (sliceVal (b₁, o₁) n₁ ∷ [])) ∷ ‵ (flft κ₁ q₁) ∷ ‵ (MutSlice (named 1) κ₂ Object-t.the-row .own (at-list b₂ o₂ γ₂ ws₂) (sliceVal (b₂, o₂) n₂ ∷ [])) ∷ ‵ (flft κ₂ q₂) ∷ [])) (Post (Move-p .val r))
   exits r ws₁ ws₂ said r-is len₁ len₂ =
       qed W (‵ (MutSlice (named 0) κ₁ (Array u64 5) .own (at-list b₁ o₁ γ₁ ws₁) (sliceVal (b₁, o₁) n₁ ∷ [])) ∷ ‵ (flft κ₁ q₁) ∷ ‵ (MutSlice (named 1) κ₂ Object-t.the-row .own (at-list b₂ o₂ γ₂ ws₂) (sliceVal (b₂, o₂) n₂ ∷ [])) ∷ ‵ (flft κ₂ q₂) ∷ []) ∵
-      suffices ! _ (ends-at 𝓤 H A f.ended stayed (f.clauses 𝓤 H A mem run) W (((κ₁, (κ₂, tt)), (q₁, (q₂, tt)), tt, x, at), tt) (Move-p .val r) r (ws₁, (ws₂, (tt, (tt, (tt, tt))))) (len₁, (len₂, (tt, (tt, (tt, tt)))))) $ says ! said $ nothing ! $ move ! (4 ∷ 0 ∷ []) $ join ! $ move ! (2 ∷ 0 ∷ []) $ join ! $
+      suffices ! _ (ends-at 𝓤 H A f.ended stayed (f.clauses 𝓤 H A mem run) W (((κ₁, (κ₂, tt)), (q₁, (q₂, tt)), tt, x, at), tt) (Move-p .val r) r (ws₁, (ws₂, (tt, (tt, (tt, (tt, tt)))))) (len₁, (len₂, (tt, (tt, (tt, (tt, tt))))))) $ says ! said $ nothing ! $ move ! (4 ∷ 0 ∷ []) $ join ! $ move ! (2 ∷ 0 ∷ []) $ join ! $
       frame ! $ nothing ! $
+      owned ! (u16-p .row) (Is (u16-p .row)) (u16-p .makes 𝓤 H A W) parent (u16-p .val parent ∷ []) parent-is $ fjoin ! $
       owned ! (u8-p .row) (Is (u8-p .row)) (u8-p .makes 𝓤 H A W) kind (u8-p .val kind ∷ []) kind-is $ fjoin ! $
       owned ! (ObjectNumber-p .row) (Is (ObjectNumber-p .row)) (ObjectNumber-p .makes 𝓤 H A W) number (ObjectNumber-p .val number ∷ []) number-is $ fjoin ! $
       owned ! (u8-p .row) (Is (u8-p .row)) (u8-p .makes 𝓤 H A W) id (u8-p .val id ∷ []) id-is $ fjoin ! $ move ! (2 ∷ 0 ∷ []) $ fjoin ! $ move ! (1 ∷ 0 ∷ []) $ fjoin ! $
       frame ! $
       owned ! (Move-p .row) (Is (Move-p .row)) (Move-p .makes 𝓤 H A W) r _ r-is $ done !
 
-  module _ (𝓣 : Tables 𝓤 H) (known-objects-Object-implicit : Triple 𝓤 (𝓣 .C #objects-Object-implicit) (Of-objects-Object-implicit 𝓤 H A mem run)) (known-session-objects-put-object : Triple 𝓤 (𝓣 .C #session-objects-put-object) (Of-session-objects-put-object 𝓤 H A mem run)) (l₀ l₁ l₂ l₃ l₄ l₅ l₆ l₇ l₈ l₉ l₁₀ l₁₁ l₁₂ : ℕ) where
+  module _ (𝓣 : Tables 𝓤 H) (known-objects-Object-implicit : Triple 𝓤 (𝓣 .C #objects-Object-implicit) (Of-objects-Object-implicit 𝓤 H A mem run)) (known-session-objects-put-object : Triple 𝓤 (𝓣 .C #session-objects-put-object) (Of-session-objects-put-object 𝓤 H A mem run)) (l₀ l₁ l₂ l₃ l₄ l₅ l₆ l₇ l₈ l₉ l₁₀ l₁₁ l₁₂ l₁₃ : ℕ) where
     abbrev C : Calls 𝓤 H
     C = 𝓣 .C
 
@@ -210,60 +211,61 @@ module _ {M : Type 1} (𝓤 : URA M) (H : Heap 𝓤) (A : Atoms 𝓤) (W : Given
     fm = fmOf 𝓤 H (W .laws) 𝓣
 
     abbrev En : Env 𝓤 H
-    En = (Move-l.mir, l₀) ∷ ((sliceTy (tyRef (named 0) mut (pointee ((Array u64 5) .written)))), l₁) ∷ ((sliceTy (tyRef (named 1) mut (pointee (Object-t.the-row .written)))), l₂) ∷ ((tyInt w8), l₃) ∷ (ObjectNumber-l.mir, l₄) ∷ ((tyInt w8), l₅) ∷ (Object-l.mir, l₆) ∷ (Stored-l.mir, l₇) ∷ ((tyRef erased mut (pointee ((Array u64 5) .written))), l₈) ∷ ((sliceTy (tyRef erased mut (pointee ((Array u64 5) .written)))), l₉) ∷ ((tyRef erased mut (pointee (Object-t.the-row .written))), l₁₀) ∷ ((sliceTy (tyRef erased mut (pointee (Object-t.the-row .written)))), l₁₁) ∷ (StatusCode-l.mir, l₁₂) ∷ []
+    En = (Move-l.mir, l₀) ∷ ((sliceTy (tyRef (named 0) mut (pointee ((Array u64 5) .written)))), l₁) ∷ ((sliceTy (tyRef (named 1) mut (pointee (Object-t.the-row .written)))), l₂) ∷ ((tyInt w8), l₃) ∷ (ObjectNumber-l.mir, l₄) ∷ ((tyInt w8), l₅) ∷ ((tyInt w16), l₆) ∷ (Object-l.mir, l₇) ∷ (Stored-l.mir, l₈) ∷ ((tyRef erased mut (pointee ((Array u64 5) .written))), l₉) ∷ ((sliceTy (tyRef erased mut (pointee ((Array u64 5) .written)))), l₁₀) ∷ ((tyRef erased mut (pointee (Object-t.the-row .written))), l₁₁) ∷ ((sliceTy (tyRef erased mut (pointee (Object-t.the-row .written)))), l₁₂) ∷ (StatusCode-l.mir, l₁₃) ∷ []
 
-    begins : Sq W (‵ (MutSlice (named 0) κ₁ (Array u64 5) .own (at-list b₁ o₁ γ₁ sessions) (sliceVal (b₁, o₁) n₁ ∷ [])) ∷ ‵ (flft κ₁ q₁) ∷ ‵ (MutSlice (named 0) κ₂ Object-t.the-row .own (at-list b₂ o₂ γ₂ objects) (sliceVal (b₂, o₂) n₂ ∷ [])) ∷ ‵ (flft κ₂ q₂) ∷ free 𝓤 StatusCode-l.mir l₁₂ (free 𝓤 (sliceTy (tyRef erased mut (pointee (Object-t.the-row .written)))) l₁₁ (free 𝓤 (tyRef erased mut (pointee (Object-t.the-row .written))) l₁₀ (free 𝓤 (sliceTy (tyRef erased mut (pointee ((Array u64 5) .written)))) l₉ (free 𝓤 (tyRef erased mut (pointee ((Array u64 5) .written))) l₈ (free 𝓤 Stored-l.mir l₇ (free 𝓤 Object-l.mir l₆ (full 𝓤 (tyInt w8) l₅ (u8-p .val kind) (full 𝓤 ObjectNumber-l.mir l₄ (ObjectNumber-p .val number) (full 𝓤 (tyInt w8) l₃ (u8-p .val id) (full 𝓤 (sliceTy (tyRef (named 1) mut (pointee (Object-t.the-row .written)))) l₂ (sliceVal (b₂, o₂) n₂) (full 𝓤 (sliceTy (tyRef (named 0) mut (pointee ((Array u64 5) .written)))) l₁ (sliceVal (b₁, o₁) n₁) (free 𝓤 Move-l.mir l₀ ([])))))))))))))) (runs C Λ En mir.t-1 (atRet En Post))
+    begins : Sq W (‵ (MutSlice (named 0) κ₁ (Array u64 5) .own (at-list b₁ o₁ γ₁ sessions) (sliceVal (b₁, o₁) n₁ ∷ [])) ∷ ‵ (flft κ₁ q₁) ∷ ‵ (MutSlice (named 0) κ₂ Object-t.the-row .own (at-list b₂ o₂ γ₂ objects) (sliceVal (b₂, o₂) n₂ ∷ [])) ∷ ‵ (flft κ₂ q₂) ∷ free 𝓤 StatusCode-l.mir l₁₃ (free 𝓤 (sliceTy (tyRef erased mut (pointee (Object-t.the-row .written)))) l₁₂ (free 𝓤 (tyRef erased mut (pointee (Object-t.the-row .written))) l₁₁ (free 𝓤 (sliceTy (tyRef erased mut (pointee ((Array u64 5) .written)))) l₁₀ (free 𝓤 (tyRef erased mut (pointee ((Array u64 5) .written))) l₉ (free 𝓤 Stored-l.mir l₈ (free 𝓤 Object-l.mir l₇ (full 𝓤 (tyInt w16) l₆ (u16-p .val parent) (full 𝓤 (tyInt w8) l₅ (u8-p .val kind) (full 𝓤 ObjectNumber-l.mir l₄ (ObjectNumber-p .val number) (full 𝓤 (tyInt w8) l₃ (u8-p .val id) (full 𝓤 (sliceTy (tyRef (named 1) mut (pointee (Object-t.the-row .written)))) l₂ (sliceVal (b₂, o₂) n₂) (full 𝓤 (sliceTy (tyRef (named 0) mut (pointee ((Array u64 5) .written)))) l₁ (sliceVal (b₁, o₁) n₁) (free 𝓤 Move-l.mir l₀ ([]))))))))))))))) (runs C Λ En mir.t-1 (atRet En Post))
     begins =
         -- 1: sessions::objects::Object::implicit
         nothing ! $
         use1 W (raw (toks 𝓤 A 0 (tt) (tt))) (id⊢ 𝓤 _) $ nothing ! $
+        owned ! (u16-p .row) (Is (u16-p .row)) (u16-p .makes 𝓤 H A W) parent (u16-p .val parent ∷ []) parent-is $ fjoin ! $
         owned ! (u8-p .row) (Is (u8-p .row)) (u8-p .makes 𝓤 H A W) kind (u8-p .val kind ∷ []) kind-is $ fjoin ! $
         owned ! (ObjectNumber-p .row) (Is (ObjectNumber-p .row)) (ObjectNumber-p .makes 𝓤 H A W) number (ObjectNumber-p .val number ∷ []) number-is $ fjoin ! $ move ! (1 ∷ 0 ∷ []) $
-        calls-any ! fm 0 [] (objects-Object-implicit.signature .params) (objects-Object-implicit.ended .kept) Object-p (objects-Object-implicit.clauses 𝓤 H A mem run) known-objects-Object-implicit tt tt tt (number, (kind, tt)) (ObjectNumber-p .val number ∷ [], (u8-p .val kind ∷ [], tt)) tt (implicitOf number kind) (λ ws-1. Unit {0}) (id⊢ 𝓤 _) (λ r ws-1. fact-mono 𝓤 (r ≡ implicitOf number kind) ((r ≡ (implicitOf number kind)) × (Unit {0})) (λ e. (e, tt))) (λ _. (and-then ! (load ! (from ! (stop !)) (look ! 21 refl)) (and-then ! (load ! (from ! (stop !)) (look ! 19 refl)) (no-more !)))) (λ ws-1 said-1 is-1.
+        calls-any ! fm 0 [] (objects-Object-implicit.signature .params) (objects-Object-implicit.ended .kept) Object-p (objects-Object-implicit.clauses 𝓤 H A mem run) known-objects-Object-implicit tt tt tt (number, (kind, (parent, tt))) (ObjectNumber-p .val number ∷ [], (u8-p .val kind ∷ [], (u16-p .val parent ∷ [], tt))) tt (implicitOf number kind parent) (λ ws-1. Unit {0}) (id⊢ 𝓤 _) (λ r ws-1. fact-mono 𝓤 (r ≡ implicitOf number kind parent) ((r ≡ (implicitOf number kind parent)) × (Unit {0})) (λ e. (e, tt))) (λ _. (and-then ! (load ! (from ! (stop !)) (look ! 23 refl)) (and-then ! (load ! (from ! (stop !)) (look ! 21 refl)) (and-then ! (load ! (from ! (stop !)) (look ! 19 refl)) (no-more !))))) (λ ws-1 said-1 is-1.
         drop ! $ drop ! $
-        land ! (from ! (stop !)) (init ! 16 refl (Object-p .typed 𝓤 H A W (implicitOf number kind) is-1)) $
-        assigns ! (addr ! (from ! (fld ! refl (hop ! (look-in ! 26 (sub ! 0 refl (whole !))) (stop !))))) (from ! (stop !)) (init ! 12 refl (tt, tt)) $
-        assigns ! (agg ! (and-then ! (load ! (from ! (stop !)) (look ! 12 refl)) (and-then ! (load ! (from ! (fld ! refl (stop !))) (look-in ! 26 (sub ! 1 refl (whole !)))) (no-more !)))) (from ! (stop !)) (init ! 10 refl (tt, (tt, (record { fits = room₁ .0 }, tt)))) $
-        assigns ! (addr ! (from ! (fld ! refl (hop ! (look-in ! 24 (sub ! 0 refl (whole !))) (stop !))))) (from ! (stop !)) (init ! 8 refl (tt, tt)) $
-        assigns ! (agg ! (and-then ! (load ! (from ! (stop !)) (look ! 8 refl)) (and-then ! (load ! (from ! (fld ! refl (stop !))) (look-in ! 24 (sub ! 1 refl (whole !)))) (no-more !)))) (from ! (stop !)) (init ! 6 refl (tt, (tt, (record { fits = room₂ .0 }, tt)))) $
+        land ! (from ! (stop !)) (init ! 16 refl (Object-p .typed 𝓤 H A W (implicitOf number kind parent) is-1)) $
+        assigns ! (addr ! (from ! (fld ! refl (hop ! (look-in ! 28 (sub ! 0 refl (whole !))) (stop !))))) (from ! (stop !)) (init ! 12 refl (tt, tt)) $
+        assigns ! (agg ! (and-then ! (load ! (from ! (stop !)) (look ! 12 refl)) (and-then ! (load ! (from ! (fld ! refl (stop !))) (look-in ! 28 (sub ! 1 refl (whole !)))) (no-more !)))) (from ! (stop !)) (init ! 10 refl (tt, (tt, (record { fits = room₁ .0 }, tt)))) $
+        assigns ! (addr ! (from ! (fld ! refl (hop ! (look-in ! 26 (sub ! 0 refl (whole !))) (stop !))))) (from ! (stop !)) (init ! 8 refl (tt, tt)) $
+        assigns ! (agg ! (and-then ! (load ! (from ! (stop !)) (look ! 8 refl)) (and-then ! (load ! (from ! (fld ! refl (stop !))) (look-in ! 26 (sub ! 1 refl (whole !)))) (no-more !)))) (from ! (stop !)) (init ! 6 refl (tt, (tt, (record { fits = room₂ .0 }, tt)))) $
         -- 6: sessions::session_objects::put_object
         lends-mut ! tt (Array u64 5) b₁ o₁ sessions n₁ (refl) (λ ν-6-sessions δ-6-sessions.
         move ! (3 ∷ 4 ∷ []) $
         lends-mut ! tt Object-t.the-row b₂ o₂ objects n₂ (refl) (λ ν-6-objects δ-6-objects.
         nothing ! $ move ! (1 ∷ 0 ∷ []) $ join ! $ move ! (3 ∷ 0 ∷ []) $ join ! $
         use1 W (raw (toks 𝓤 A 2 (((ν-6-sessions ∷ []), ((ν-6-objects ∷ []), tt))) ((fullShare, (fullShare, tt))))) (id⊢ 𝓤 _) $ nothing ! $
-        owned ! (Object-p .row) (Is (Object-p .row)) (Object-p .makes 𝓤 H A W) (implicitOf number kind) (Object-p .val (implicitOf number kind) ∷ []) is-1 $ fjoin ! $
+        owned ! (Object-p .row) (Is (Object-p .row)) (Object-p .makes 𝓤 H A W) (implicitOf number kind parent) (Object-p .val (implicitOf number kind parent) ∷ []) is-1 $ fjoin ! $
         owned ! (u8-p .row) (Is (u8-p .row)) (u8-p .makes 𝓤 H A W) id (u8-p .val id ∷ []) id-is $ fjoin ! $ move ! (2 ∷ 0 ∷ []) $ fjoin ! $ move ! (3 ∷ 0 ∷ []) $ fjoin ! $ move ! (1 ∷ 0 ∷ []) $
-        calls-any ! fm 2 [] (session-objects-put-object.signature .params) (session-objects-put-object.ended .kept) Stored-p (session-objects-put-object.clauses 𝓤 H A mem run) known-session-objects-put-object ((ν-6-sessions ∷ []), ((ν-6-objects ∷ []), tt)) (fullShare, (fullShare, tt)) tt (at-list b₁ o₁ δ-6-sessions sessions, (at-list b₂ o₂ δ-6-objects objects, (id, (implicitOf number kind, tt)))) (sliceVal (b₁, o₁) n₁ ∷ [], (sliceVal (b₂, o₂) n₂ ∷ [], (u8-p .val id ∷ [], (Object-p .val (implicitOf number kind) ∷ [], tt)))) tt (storedObject (sessions) (objects) id (implicitOf number kind)) (λ ws-6. (ws-6 .0 ≡ keepStored (sessions) id (storedObject (sessions) (objects) id (implicitOf number kind))) × (ws-6 .1 .0 ≡ storedObjects (sessions) (objects) id (implicitOf number kind))) (id⊢ 𝓤 _) (λ r ws-6. fact-mono 𝓤 ((r ≡ storedObject (sessions) (objects) id (implicitOf number kind)) × ((ws-6 .0) ≡ keepStored (sessions) id r) × ((ws-6 .1 .0) ≡ storedObjects (sessions) (objects) id (implicitOf number kind))) ((r ≡ (storedObject (sessions) (objects) id (implicitOf number kind))) × ((ws-6 .0 ≡ keepStored (sessions) id (storedObject (sessions) (objects) id (implicitOf number kind))) × (ws-6 .1 .0 ≡ storedObjects (sessions) (objects) id (implicitOf number kind)))) (λ e. (e .0, (subst (λ (r : Stored-p .row .Denot). (ws-6 .0) ≡ keepStored (sessions) id r) (e .0) (e .1), e .2)))) (λ _. (and-then ! (load ! (from ! (stop !)) (look ! 9 refl)) (and-then ! (load ! (from ! (stop !)) (look ! 5 refl)) (and-then ! (load ! (from ! (stop !)) (look ! 21 refl)) (and-then ! (load ! (from ! (stop !)) (look ! 15 refl)) (no-more !)))))) (λ ws-6 said-6 is-6.
+        calls-any ! fm 2 [] (session-objects-put-object.signature .params) (session-objects-put-object.ended .kept) Stored-p (session-objects-put-object.clauses 𝓤 H A mem run) known-session-objects-put-object ((ν-6-sessions ∷ []), ((ν-6-objects ∷ []), tt)) (fullShare, (fullShare, tt)) tt (at-list b₁ o₁ δ-6-sessions sessions, (at-list b₂ o₂ δ-6-objects objects, (id, (implicitOf number kind parent, tt)))) (sliceVal (b₁, o₁) n₁ ∷ [], (sliceVal (b₂, o₂) n₂ ∷ [], (u8-p .val id ∷ [], (Object-p .val (implicitOf number kind parent) ∷ [], tt)))) tt (storedObject (sessions) (objects) id (implicitOf number kind parent)) (λ ws-6. (ws-6 .0 ≡ keepStored (sessions) id (storedObject (sessions) (objects) id (implicitOf number kind parent))) × (ws-6 .1 .0 ≡ storedObjects (sessions) (objects) id (implicitOf number kind parent))) (id⊢ 𝓤 _) (λ r ws-6. fact-mono 𝓤 ((r ≡ storedObject (sessions) (objects) id (implicitOf number kind parent)) × ((ws-6 .0) ≡ keepStored (sessions) id r) × ((ws-6 .1 .0) ≡ storedObjects (sessions) (objects) id (implicitOf number kind parent))) ((r ≡ (storedObject (sessions) (objects) id (implicitOf number kind parent))) × ((ws-6 .0 ≡ keepStored (sessions) id (storedObject (sessions) (objects) id (implicitOf number kind parent))) × (ws-6 .1 .0 ≡ storedObjects (sessions) (objects) id (implicitOf number kind parent)))) (λ e. (e .0, (subst (λ (r : Stored-p .row .Denot). (ws-6 .0) ≡ keepStored (sessions) id r) (e .0) (e .1), e .2)))) (λ _. (and-then ! (load ! (from ! (stop !)) (look ! 9 refl)) (and-then ! (load ! (from ! (stop !)) (look ! 5 refl)) (and-then ! (load ! (from ! (stop !)) (look ! 23 refl)) (and-then ! (load ! (from ! (stop !)) (look ! 15 refl)) (no-more !)))))) (λ ws-6 said-6 is-6.
         use1 W ((‵ (flft (ν-6-sessions ∷ []) fullShare) ⊛ (‵ (flft (ν-6-objects ∷ []) fullShare) ⊛ ‵ ftrue))) (id⊢ 𝓤 _) $ split ! $ move ! (1 ∷ []) $ split ! $ move ! (3 ∷ []) $ fsplit ! $ fsplit ! $ move ! (1 ∷ []) $
         feqL ! (λ wlen-6-0.
         move ! (1 ∷ []) $ fsplit ! $ fsplit ! $ move ! (1 ∷ []) $
         feqL ! (λ wlen-6-1.
         move ! (5 ∷ 7 ∷ 2 ∷ []) $
-        backs-mut ! tt (Array u64 5) b₁ o₁ sessions n₁ (refl) room₁ ν-6-sessions δ-6-sessions (ws-6 .0) (keepStored (sessions) id (storedObject (sessions) (objects) id (implicitOf number kind))) wlen-6-0 (said-6 .0) (λ len-6-sessions.
+        backs-mut ! tt (Array u64 5) b₁ o₁ sessions n₁ (refl) room₁ ν-6-sessions δ-6-sessions (ws-6 .0) (keepStored (sessions) id (storedObject (sessions) (objects) id (implicitOf number kind parent))) wlen-6-0 (said-6 .0) (λ len-6-sessions.
         move ! (4 ∷ 6 ∷ 2 ∷ []) $
-        backs-mut ! tt Object-t.the-row b₂ o₂ objects n₂ (refl) room₂ ν-6-objects δ-6-objects (ws-6 .1 .0) (storedObjects (sessions) (objects) id (implicitOf number kind)) wlen-6-1 (said-6 .1) (λ len-6-objects.
+        backs-mut ! tt Object-t.the-row b₂ o₂ objects n₂ (refl) room₂ ν-6-objects δ-6-objects (ws-6 .1 .0) (storedObjects (sessions) (objects) id (implicitOf number kind parent)) wlen-6-1 (said-6 .1) (λ len-6-objects.
         move ! (4 ∷ []) $ drop ! $ move ! (4 ∷ []) $ drop ! $
-        land ! (from ! (stop !)) (init ! 14 refl (Stored-p .typed 𝓤 H A W (storedObject (sessions) (objects) id (implicitOf number kind)) is-6)) $
+        land ! (from ! (stop !)) (init ! 14 refl (Stored-p .typed 𝓤 H A W (storedObject (sessions) (objects) id (implicitOf number kind parent)) is-6)) $
         assigns ! (agg ! (and-then ! (lit ! tt) (no-more !))) (from ! (stop !)) (init ! 4 refl (StatusCode-p .typed 𝓤 H A W StatusCode-Ok (EL.owes StatusCode-t.the-type StatusCode-l.the-laws StatusCode-Ok tt))) $
-        assigns ! (agg ! (and-then ! (lit ! tt) (and-then ! (load ! (from ! (stop !)) (look ! 20 refl)) (and-then ! (load ! (from ! (stop !)) (look ! 4 refl)) (no-more !))))) (from ! (stop !)) (init ! 28 refl (Move-p .typed 𝓤 H A W (Move-Status number StatusCode-Ok) (EL.owes Move-t.the-type Move-l.the-laws (Move-Status number StatusCode-Ok) (number-is, (EL.owes StatusCode-t.the-type StatusCode-l.the-laws StatusCode-Ok tt, tt))))) $
-        returns ! (look ! 28 refl) $ forget ! 4 refl $ forget ! 6 refl $ forget ! 8 refl $ forget ! 10 refl $ forget ! 12 refl $ forget ! 14 refl $ forget ! 16 refl $ forget ! 18 refl $ forget ! 20 refl $ forget ! 22 refl $ forget ! 24 refl $ forget ! 26 refl $ forget ! 28 refl $ move ! (28 ∷ 29 ∷ []) $ free1 ! $ move ! (26 ∷ 27 ∷ []) $ free1 ! $ move ! (24 ∷ 25 ∷ []) $ free1 ! $ move ! (22 ∷ 23 ∷ []) $ free1 ! $ move ! (20 ∷ 21 ∷ []) $ free1 ! $ move ! (18 ∷ 19 ∷ []) $ free1 ! $ move ! (16 ∷ 17 ∷ []) $ free1 ! $ move ! (14 ∷ 15 ∷ []) $ free1 ! $ move ! (12 ∷ 13 ∷ []) $ free1 ! $ move ! (10 ∷ 11 ∷ []) $ free1 ! $ move ! (8 ∷ 9 ∷ []) $ free1 ! $ move ! (6 ∷ 7 ∷ []) $ free1 ! $ move ! (4 ∷ 5 ∷ []) $ free1 ! $ free0 ! $ move ! (2 ∷ 3 ∷ 0 ∷ 1 ∷ []) $
-        by ! (exits (Move-Status number StatusCode-Ok) (keepStored (sessions) id (storedObject (sessions) (objects) id (implicitOf number kind))) (storedObjects (sessions) (objects) id (implicitOf number kind)) ((refl, refl, refl)) (EL.owes Move-t.the-type Move-l.the-laws (Move-Status number StatusCode-Ok) (number-is, (EL.owes StatusCode-t.the-type StatusCode-l.the-laws StatusCode-Ok tt, tt))) len-6-sessions len-6-objects)))))))))
+        assigns ! (agg ! (and-then ! (lit ! tt) (and-then ! (load ! (from ! (stop !)) (look ! 22 refl)) (and-then ! (load ! (from ! (stop !)) (look ! 4 refl)) (no-more !))))) (from ! (stop !)) (init ! 30 refl (Move-p .typed 𝓤 H A W (Move-Status number StatusCode-Ok) (EL.owes Move-t.the-type Move-l.the-laws (Move-Status number StatusCode-Ok) (number-is, (EL.owes StatusCode-t.the-type StatusCode-l.the-laws StatusCode-Ok tt, tt))))) $
+        returns ! (look ! 30 refl) $ forget ! 4 refl $ forget ! 6 refl $ forget ! 8 refl $ forget ! 10 refl $ forget ! 12 refl $ forget ! 14 refl $ forget ! 16 refl $ forget ! 18 refl $ forget ! 20 refl $ forget ! 22 refl $ forget ! 24 refl $ forget ! 26 refl $ forget ! 28 refl $ forget ! 30 refl $ move ! (30 ∷ 31 ∷ []) $ free1 ! $ move ! (28 ∷ 29 ∷ []) $ free1 ! $ move ! (26 ∷ 27 ∷ []) $ free1 ! $ move ! (24 ∷ 25 ∷ []) $ free1 ! $ move ! (22 ∷ 23 ∷ []) $ free1 ! $ move ! (20 ∷ 21 ∷ []) $ free1 ! $ move ! (18 ∷ 19 ∷ []) $ free1 ! $ move ! (16 ∷ 17 ∷ []) $ free1 ! $ move ! (14 ∷ 15 ∷ []) $ free1 ! $ move ! (12 ∷ 13 ∷ []) $ free1 ! $ move ! (10 ∷ 11 ∷ []) $ free1 ! $ move ! (8 ∷ 9 ∷ []) $ free1 ! $ move ! (6 ∷ 7 ∷ []) $ free1 ! $ move ! (4 ∷ 5 ∷ []) $ free1 ! $ free0 ! $ move ! (2 ∷ 3 ∷ 0 ∷ 1 ∷ []) $
+        by ! (exits (Move-Status number StatusCode-Ok) (keepStored (sessions) id (storedObject (sessions) (objects) id (implicitOf number kind parent))) (storedObjects (sessions) (objects) id (implicitOf number kind parent)) ((refl, refl, refl)) (EL.owes Move-t.the-type Move-l.the-laws (Move-Status number StatusCode-Ok) (number-is, (EL.owes StatusCode-t.the-type StatusCode-l.the-laws StatusCode-Ok tt, tt))) len-6-sessions len-6-objects)))))))))
 
   module _ (𝓣 : Tables 𝓤 H) (known-objects-Object-implicit : Triple 𝓤 (𝓣 .C #objects-Object-implicit) (Of-objects-Object-implicit 𝓤 H A mem run)) (known-session-objects-put-object : Triple 𝓤 (𝓣 .C #session-objects-put-object) (Of-session-objects-put-object 𝓤 H A mem run)) where
-    walk : ent 𝓤 (onEntry 𝓤 H A f.signature (κ₁, (κ₂, tt)) (q₁, (q₂, tt)) x at) (WpFn 𝓤 H (𝓣 .C) (𝓣 .Λ) code.function (sliceVal (b₁, o₁) n₁ ∷ sliceVal (b₂, o₂) n₂ ∷ u8-p .val id ∷ ObjectNumber-p .val number ∷ u8-p .val kind ∷ []) Post)
+    walk : ent 𝓤 (onEntry 𝓤 H A f.signature (κ₁, (κ₂, tt)) (q₁, (q₂, tt)) x at) (WpFn 𝓤 H (𝓣 .C) (𝓣 .Λ) code.function (sliceVal (b₁, o₁) n₁ ∷ sliceVal (b₂, o₂) n₂ ∷ u8-p .val id ∷ ObjectNumber-p .val number ∷ u8-p .val kind ∷ u16-p .val parent ∷ []) Post)
     walk =
-        qed W ((‵ (flft κ₁ q₁) ⊛ (‵ (flft κ₂ q₂) ⊛ ‵ ftrue)) ∷ ‵ (owns (MutSlice (named 0) κ₁ (Array u64 5) ∷ MutSlice (named 1) κ₂ Object-t.the-row ∷ u8-p .row ∷ ObjectNumber-p .row ∷ u8-p .row ∷ []) x at) ∷ []) ∵ enter ! (𝓣 .C) (𝓣 .Λ) code.function (sliceVal (b₁, o₁) n₁ ∷ sliceVal (b₂, o₂) n₂ ∷ u8-p .val id ∷ ObjectNumber-p .val number ∷ u8-p .val kind ∷ []) _ $
-        alloc1 ! (λ l₀. alloc1 ! (λ l₁. alloc1 ! (λ l₂. alloc1 ! (λ l₃. alloc1 ! (λ l₄. alloc1 ! (λ l₅. alloc1 ! (λ l₆. alloc1 ! (λ l₇. alloc1 ! (λ l₈. alloc1 ! (λ l₉. alloc1 ! (λ l₁₀. alloc1 ! (λ l₁₁. alloc1 ! (λ l₁₂. alloc0 ! $ params1 ! $ pass1 ! (init ! 22 refl (tt, (tt, (record { fits = room₁ .0 }, tt)))) $ pass1 ! (init ! 20 refl (tt, (tt, (record { fits = room₂ .0 }, tt)))) $ pass1 ! (init ! 18 refl (u8-p .typed 𝓤 H A W id id-is)) $ pass1 ! (init ! 16 refl (ObjectNumber-p .typed 𝓤 H A W number number-is)) $ pass1 ! (init ! 14 refl (u8-p .typed 𝓤 H A W kind kind-is)) $ pass0 ! $ move ! (27 ∷ []) $ fsplit ! $ move ! (1 ∷ []) $ fsplit ! $ move ! (29 ∷ []) $ split ! $ move ! (1 ∷ []) $ split ! $ move ! (1 ∷ []) $ drop ! $ move ! (3 ∷ []) $ drop ! $ move ! (3 ∷ 1 ∷ 2 ∷ 0 ∷ 4 ∷ 5 ∷ 6 ∷ 7 ∷ 8 ∷ 9 ∷ 10 ∷ 11 ∷ 12 ∷ 13 ∷ 14 ∷ 15 ∷ 16 ∷ 17 ∷ 18 ∷ 19 ∷ 20 ∷ 21 ∷ 22 ∷ 23 ∷ 24 ∷ 25 ∷ 26 ∷ 27 ∷ 28 ∷ 29 ∷ []) $
-        begins 𝓣 known-objects-Object-implicit known-session-objects-put-object l₀ l₁ l₂ l₃ l₄ l₅ l₆ l₇ l₈ l₉ l₁₀ l₁₁ l₁₂)))))))))))))
+        qed W ((‵ (flft κ₁ q₁) ⊛ (‵ (flft κ₂ q₂) ⊛ ‵ ftrue)) ∷ ‵ (owns (MutSlice (named 0) κ₁ (Array u64 5) ∷ MutSlice (named 1) κ₂ Object-t.the-row ∷ u8-p .row ∷ ObjectNumber-p .row ∷ u8-p .row ∷ u16-p .row ∷ []) x at) ∷ []) ∵ enter ! (𝓣 .C) (𝓣 .Λ) code.function (sliceVal (b₁, o₁) n₁ ∷ sliceVal (b₂, o₂) n₂ ∷ u8-p .val id ∷ ObjectNumber-p .val number ∷ u8-p .val kind ∷ u16-p .val parent ∷ []) _ $
+        alloc1 ! (λ l₀. alloc1 ! (λ l₁. alloc1 ! (λ l₂. alloc1 ! (λ l₃. alloc1 ! (λ l₄. alloc1 ! (λ l₅. alloc1 ! (λ l₆. alloc1 ! (λ l₇. alloc1 ! (λ l₈. alloc1 ! (λ l₉. alloc1 ! (λ l₁₀. alloc1 ! (λ l₁₁. alloc1 ! (λ l₁₂. alloc1 ! (λ l₁₃. alloc0 ! $ params1 ! $ pass1 ! (init ! 24 refl (tt, (tt, (record { fits = room₁ .0 }, tt)))) $ pass1 ! (init ! 22 refl (tt, (tt, (record { fits = room₂ .0 }, tt)))) $ pass1 ! (init ! 20 refl (u8-p .typed 𝓤 H A W id id-is)) $ pass1 ! (init ! 18 refl (ObjectNumber-p .typed 𝓤 H A W number number-is)) $ pass1 ! (init ! 16 refl (u8-p .typed 𝓤 H A W kind kind-is)) $ pass1 ! (init ! 14 refl (u16-p .typed 𝓤 H A W parent parent-is)) $ pass0 ! $ move ! (29 ∷ []) $ fsplit ! $ move ! (1 ∷ []) $ fsplit ! $ move ! (31 ∷ []) $ split ! $ move ! (1 ∷ []) $ split ! $ move ! (1 ∷ []) $ drop ! $ move ! (3 ∷ []) $ drop ! $ move ! (3 ∷ 1 ∷ 2 ∷ 0 ∷ 4 ∷ 5 ∷ 6 ∷ 7 ∷ 8 ∷ 9 ∷ 10 ∷ 11 ∷ 12 ∷ 13 ∷ 14 ∷ 15 ∷ 16 ∷ 17 ∷ 18 ∷ 19 ∷ 20 ∷ 21 ∷ 22 ∷ 23 ∷ 24 ∷ 25 ∷ 26 ∷ 27 ∷ 28 ∷ 29 ∷ 30 ∷ 31 ∷ []) $
+        begins 𝓣 known-objects-Object-implicit known-session-objects-put-object l₀ l₁ l₂ l₃ l₄ l₅ l₆ l₇ l₈ l₉ l₁₀ l₁₁ l₁₂ l₁₃))))))))))))))
 
 module _ {M : Type 1} (𝓤 : URA M) (H : Heap 𝓤) (A : Atoms 𝓤) (W : Given 𝓤 H A) (mem : Memory → SProp 𝓤) (run : Routine → Fun 𝓤) (𝓣 : Tables 𝓤 H) (known-objects-Object-implicit : Triple 𝓤 (𝓣 .C #objects-Object-implicit) (Of-objects-Object-implicit 𝓤 H A mem run)) (known-session-objects-put-object : Triple 𝓤 (𝓣 .C #session-objects-put-object) (Of-session-objects-put-object 𝓤 H A mem run)) where
   walks : Walks 𝓤 H A f.ended stayed (WpFn 𝓤 H (𝓣 .C) (𝓣 .Λ) code.function) (f.clauses 𝓤 H A mem run)
-  walks = walked 𝓤 H A f.ended stayed (f.clauses 𝓤 H A mem run) (WpFn 𝓤 H (𝓣 .C) (𝓣 .Λ) code.function) (λ κs. (slice-vals, (slice-vals, ((λ y. u8-p .val y ∷ []), ((λ y. ObjectNumber-p .val y ∷ []), ((λ y. u8-p .val y ∷ []), tt)))))) (λ κs. (mut-slice-tells (named 0) (κs .0) (Array u64 5), (mut-slice-tells (named 1) (κs .1 .0) Object-t.the-row, (u8-p .tells, (ObjectNumber-p .tells, (u8-p .tells, tt))))))
-      (λ κs qs bounds a g are. via 𝓤 _ (fst∗ 𝓤 _ (emp 𝓤)) (walk 𝓤 H A W mem run (κs .0) (qs .0) (a .0 .ptr .0) (a .0 .ptr .1) (a .0 .name) (a .0 .now) (κs .1 .0) (qs .1 .0) (a .1 .0 .ptr .0) (a .1 .0 .ptr .1) (a .1 .0 .name) (a .1 .0 .now) (a .1 .1 .0) (a .1 .1 .1 .0) (a .1 .1 .1 .1 .0) (are .0 .0 .1) (are .1 .0 .0 .1) (are .1 .1 .0) (are .1 .1 .1 .0) (are .1 .1 .1 .1 .0) 𝓣 known-objects-Object-implicit known-session-objects-put-object))
+  walks = walked 𝓤 H A f.ended stayed (f.clauses 𝓤 H A mem run) (WpFn 𝓤 H (𝓣 .C) (𝓣 .Λ) code.function) (λ κs. (slice-vals, (slice-vals, ((λ y. u8-p .val y ∷ []), ((λ y. ObjectNumber-p .val y ∷ []), ((λ y. u8-p .val y ∷ []), ((λ y. u16-p .val y ∷ []), tt))))))) (λ κs. (mut-slice-tells (named 0) (κs .0) (Array u64 5), (mut-slice-tells (named 1) (κs .1 .0) Object-t.the-row, (u8-p .tells, (ObjectNumber-p .tells, (u8-p .tells, (u16-p .tells, tt)))))))
+      (λ κs qs bounds a g are. via 𝓤 _ (fst∗ 𝓤 _ (emp 𝓤)) (walk 𝓤 H A W mem run (κs .0) (qs .0) (a .0 .ptr .0) (a .0 .ptr .1) (a .0 .name) (a .0 .now) (κs .1 .0) (qs .1 .0) (a .1 .0 .ptr .0) (a .1 .0 .ptr .1) (a .1 .0 .name) (a .1 .0 .now) (a .1 .1 .0) (a .1 .1 .1 .0) (a .1 .1 .1 .1 .0) (a .1 .1 .1 .1 .1 .0) (are .0 .0 .1) (are .1 .0 .0 .1) (are .1 .1 .0) (are .1 .1 .1 .0) (are .1 .1 .1 .1 .0) (are .1 .1 .1 .1 .1 .0) 𝓣 known-objects-Object-implicit known-session-objects-put-object))
 
   meets : Meets 𝓤 H A f.signature (WpFn 𝓤 H (𝓣 .C) (𝓣 .Λ) code.function) (f.spec 𝓤 H A mem run)
-  meets = walk-meets 𝓤 H A f.ended stayed W (goes-slice 𝓤 H A W 2 0 tt (plain (λ _. (Array u64 5))), (goes-slice 𝓤 H A W 2 1 tt (plain (λ _. Object-t.the-row)), (goes-none 𝓤 H A W 2 (λ _. u8-p .row) yes (λ κs x f. refl), (goes-none 𝓤 H A W 2 (λ _. ObjectNumber-p .row) yes (λ κs x f. refl), (goes-none 𝓤 H A W 2 (λ _. u8-p .row) yes (λ κs x f. refl), tt))))) (f.clauses 𝓤 H A mem run) (WpFn 𝓤 H (𝓣 .C) (𝓣 .Λ) code.function) (WpFn-mono 𝓤 H (W .laws) 𝓣 code.function) walks
+  meets = walk-meets 𝓤 H A f.ended stayed W (goes-slice 𝓤 H A W 2 0 tt (plain (λ _. (Array u64 5))), (goes-slice 𝓤 H A W 2 1 tt (plain (λ _. Object-t.the-row)), (goes-none 𝓤 H A W 2 (λ _. u8-p .row) yes (λ κs x f. refl), (goes-none 𝓤 H A W 2 (λ _. ObjectNumber-p .row) yes (λ κs x f. refl), (goes-none 𝓤 H A W 2 (λ _. u8-p .row) yes (λ κs x f. refl), (goes-none 𝓤 H A W 2 (λ _. u16-p .row) yes (λ κs x f. refl), tt)))))) (f.clauses 𝓤 H A mem run) (WpFn 𝓤 H (𝓣 .C) (𝓣 .Λ) code.function) (WpFn-mono 𝓤 H (W .laws) 𝓣 code.function) walks
 
 pub create-implicit-spec : {M : Type 1} → stated.statement M
 unfolding code.routine tablesOf

@@ -53,12 +53,12 @@ use borrow.Rule.Slice.PartMut.{midOf, putMid}
 use Rattle.walk.proofs.Parts.{part-len, lends-part, backs-part, parts-shr}
 use Rattle.walk.proofs.Arrays.{rep-is, lends-array, backs-array}
 use Rattle.sessions.specs.Objects.{implicitOf}
-use Rattle.sessions.specs.SessionObjects.{foundObject, greatestObject, storedObject, storedObjects, keepStored, removedObjects, keepRemoved}
+use Rattle.sessions.specs.SessionObjects.{foundObject, storedObject, storedObjects, keepStored, removedObjects, keepRemoved}
 use Rattle.sessions.specs.Room.{roomOf}
-use Rattle.moves.specs.Moves.{writeMove, readMove, deleteMove, topicMove, endpointMove}
+use Rattle.moves.specs.Moves.{writeMove, readMove, deleteMove, topicMove}
 use Rattle.moves.specs.Names.{namesIn}
-use Rattle.moves.specs.Rows.{okMove, createMove, createdSessions, createdObjects, isFree, noRoomMove, roomMove, roomSessions, roomObjects}
-use Rattle.moves.specs.Moves.{foundHandle, participantMove, endpointCall, endpointBy, droppedMove, heartbeatMove}
+use Rattle.moves.specs.Rows.{okMove, endpointIn, createMove, createdSessions, createdObjects, isFree, noRoomMove, roomMove, roomSessions, roomObjects}
+use Rattle.moves.specs.Moves.{foundHandle, handleOfKind, parentOf, participantMove, endpointCall, endpointBy, endpointMove, droppedMove, heartbeatMove}
 use types.Kit.{frees, prop}
 use Rattle.sessions.specs.declared.objects.Object.{Object}
 use Rattle.sessions.proofs.objects.Object as Object-t
@@ -117,8 +117,8 @@ use Rattle.moves.proofs.objects.create_kind.Statement as stated
 use Rattle.moves.proofs.objects.create_kind.Code as code
 use Rattle.moves.proofs.objects.create_kind.Code.Mir as mir
 
-abbrev Object-of : ObjectNumber → ℕ → ℕ → ℕ → Object
-Object-of x0 x1 x2 x3 = record { number = x0; kind = x1; bridged = x2; handle = x3 }
+abbrev Object-of : ObjectNumber → ℕ → ℕ → ℕ → ℕ → Object
+Object-of x0 x1 x2 x3 x4 = record { number = x0; kind = x1; bridged = x2; handle = x3; parent = x4 }
 
 abbrev Object-p : Plain
 Object-p = record { row = Object-t.the-row; val = LL.val Object-t.the-type Object-l.the-laws; tells = LL.tells Object-t.the-type Object-l.the-laws; makes = λ 𝓤 H A W. LL.makes Object-t.the-type Object-l.the-plain 𝓤 H A; ty = Object-l.mir; typed = λ 𝓤 H A W x is. LL.lawful Object-t.the-type Object-l.the-laws 𝓤 H A W .typed x _ is .0; copies = λ 𝓤 H A W. LL.copy Object-t.the-type Object-l.the-copy 𝓤 H A W }
@@ -198,7 +198,7 @@ module _ {M : Type 1} (𝓤 : URA M) (H : Heap 𝓤) (A : Atoms 𝓤) (W : Given
   abbrev Post : Val → SProp 𝓤
   Post = walkOf 𝓤 H A f.ended stayed (f.clauses 𝓤 H A mem run) .post (((κ₁, (κ₂, (κ₃, tt))), (q₁, (q₂, (q₃, tt))), tt, x, at), tt)
 
-  exits : (r : Move) (ws₁ : List (List ℕ)) (ws₂ : List Object) → ((r ≡ createMove kind (sessions) (objects) (d) id number parent body) × (ws₁ ≡ createdSessions kind (sessions) (objects) id number) × (ws₂ ≡ createdObjects kind (sessions) (objects) id number)) → Is (Move-p .row) r (Move-p .val r ∷ []) → length ws₁ ≡ n₁ → length ws₂ ≡ n₂ → ent 𝓤 (⋆ 𝓤 H A (‵ (MutSlice (named 0) κ₁ (Array u64 5) .own (at-list b₁ o₁ γ₁ ws₁) (sliceVal (b₁, o₁) n₁ ∷ [])) ∷ ‵ (flft κ₁ q₁) ∷ ‵ (MutSlice (named 1) κ₂ Object-t.the-row .own (at-list b₂ o₂ γ₂ ws₂) (sliceVal (b₂, o₂) n₂ ∷ [])) ∷ ‵ (flft κ₂ q₂) ∷ ‵ (ShrSlice (named 2) κ₃ u8 .own (at-list b₃ o₃ γ₃ d) (sliceVal (b₃, o₃) n₃ ∷ [])) ∷ ‵ (flft κ₃ q₃) ∷ [])) (Post (Move-p .val r))
+  exits : (r : Move) (ws₁ : List (List ℕ)) (ws₂ : List Object) → ((r ≡ createMove kind (sessions) (objects) (d) id number parent body) × (ws₁ ≡ createdSessions kind (sessions) (objects) id number parent) × (ws₂ ≡ createdObjects kind (sessions) (objects) id number parent)) → Is (Move-p .row) r (Move-p .val r ∷ []) → length ws₁ ≡ n₁ → length ws₂ ≡ n₂ → ent 𝓤 (⋆ 𝓤 H A (‵ (MutSlice (named 0) κ₁ (Array u64 5) .own (at-list b₁ o₁ γ₁ ws₁) (sliceVal (b₁, o₁) n₁ ∷ [])) ∷ ‵ (flft κ₁ q₁) ∷ ‵ (MutSlice (named 1) κ₂ Object-t.the-row .own (at-list b₂ o₂ γ₂ ws₂) (sliceVal (b₂, o₂) n₂ ∷ [])) ∷ ‵ (flft κ₂ q₂) ∷ ‵ (ShrSlice (named 2) κ₃ u8 .own (at-list b₃ o₃ γ₃ d) (sliceVal (b₃, o₃) n₃ ∷ [])) ∷ ‵ (flft κ₃ q₃) ∷ [])) (Post (Move-p .val r))
   exits r ws₁ ws₂ said r-is len₁ len₂ =
       qed W (‵ (MutSlice (named 0) κ₁ (Array u64 5) .own (at-list b₁ o₁ γ₁ ws₁) (sliceVal (b₁, o₁) n₁ ∷ [])) ∷ ‵ (flft κ₁ q₁) ∷ ‵ (MutSlice (named 1) κ₂ Object-t.the-row .own (at-list b₂ o₂ γ₂ ws₂) (sliceVal (b₂, o₂) n₂ ∷ [])) ∷ ‵ (flft κ₂ q₂) ∷ ‵ (ShrSlice (named 2) κ₃ u8 .own (at-list b₃ o₃ γ₃ d) (sliceVal (b₃, o₃) n₃ ∷ [])) ∷ ‵ (flft κ₃ q₃) ∷ []) ∵
       suffices ! _ (ends-at 𝓤 H A f.ended stayed (f.clauses 𝓤 H A mem run) W (((κ₁, (κ₂, (κ₃, tt))), (q₁, (q₂, (q₃, tt))), tt, x, at), tt) (Move-p .val r) r (ws₁, (ws₂, (tt, (tt, (tt, (tt, (tt, (tt, tt)))))))) (len₁, (len₂, (tt, (tt, (tt, (tt, (tt, (tt, tt))))))))) $ says ! said $ nothing ! $ move ! (6 ∷ 0 ∷ []) $ join ! $ move ! (4 ∷ 0 ∷ []) $ join ! $ move ! (2 ∷ 0 ∷ []) $ join ! $
@@ -243,7 +243,7 @@ module _ {M : Type 1} (𝓤 : URA M) (H : Heap 𝓤) (A : Atoms 𝓤) (W : Given
         exec ! C Λ En mir.t-2 (atRet En Post) $
         assigns ! (of-opd ! (load ! (from ! (stop !)) (look ! 46 refl))) (from ! (stop !)) (init ! 64 refl (Move-p .typed 𝓤 H A W (participantMove number parent) is-1·Participant·1)) $
         returns ! (look ! 64 refl) $ forget ! 46 refl $ forget ! 52 refl $
-        frees-all (participantMove number parent) sessions objects (exits (participantMove number parent) sessions objects ((ap (λ (k : ObjectKind). createMove k sessions objects d id number parent body) (sym e-1), ap (λ (k : ObjectKind). createdSessions k sessions objects id number) (sym e-1), ap (λ (k : ObjectKind). createdObjects k sessions objects id number) (sym e-1))) is-1·Participant·1 refl refl))
+        frees-all (participantMove number parent) sessions objects (exits (participantMove number parent) sessions objects ((ap (λ (k : ObjectKind). createMove k sessions objects d id number parent body) (sym e-1), ap (λ (k : ObjectKind). createdSessions k sessions objects id number parent) (sym e-1), ap (λ (k : ObjectKind). createdObjects k sessions objects id number parent) (sym e-1))) is-1·Participant·1 refl refl))
 
     matched-1-Topic-2 : (e-1 : kind ≡ ObjectKind-Topic) → (good-1 : Is (ObjectKind-p .row) ObjectKind-Topic (ObjectKind-p .val ObjectKind-Topic ∷ [])) → Sq W (‵ (MutSlice (named 0) κ₁ (Array u64 5) .own (at-list b₁ o₁ γ₁ sessions) (sliceVal (b₁, o₁) n₁ ∷ [])) ∷ ‵ (flft κ₁ q₁) ∷ ‵ (MutSlice (named 0) κ₂ Object-t.the-row .own (at-list b₂ o₂ γ₂ objects) (sliceVal (b₂, o₂) n₂ ∷ [])) ∷ ‵ (flft κ₂ q₂) ∷ ‵ (ShrSlice (named 0) κ₃ u8 .own (at-list b₃ o₃ γ₃ d) (sliceVal (b₃, o₃) n₃ ∷ [])) ∷ ‵ (flft κ₃ q₃) ∷ free 𝓤 (sliceTy (tyRef erased imm (pointee (Object-t.the-row .written)))) l₂₉ (free 𝓤 (tyRef erased imm (pointee (Object-t.the-row .written))) l₂₈ (free 𝓤 (sliceTy (tyRef erased imm (pointee ((Array u64 5) .written)))) l₂₇ (free 𝓤 (tyRef erased imm (pointee ((Array u64 5) .written))) l₂₆ (free 𝓤 (sliceTy (tyRef erased imm (pointee (Object-t.the-row .written)))) l₂₅ (free 𝓤 (tyRef erased imm (pointee (Object-t.the-row .written))) l₂₄ (free 𝓤 (sliceTy (tyRef erased imm (pointee ((Array u64 5) .written)))) l₂₃ (free 𝓤 (tyRef erased imm (pointee ((Array u64 5) .written))) l₂₂ (free 𝓤 (sliceTy (tyRef erased mut (pointee (Object-t.the-row .written)))) l₂₁ (free 𝓤 (tyRef erased mut (pointee (Object-t.the-row .written))) l₂₀ (free 𝓤 (sliceTy (tyRef erased mut (pointee ((Array u64 5) .written)))) l₁₉ (free 𝓤 (tyRef erased mut (pointee ((Array u64 5) .written))) l₁₈ (free 𝓤 (sliceTy (tyRef erased mut (pointee (Object-t.the-row .written)))) l₁₇ (free 𝓤 (tyRef erased mut (pointee (Object-t.the-row .written))) l₁₆ (free 𝓤 (sliceTy (tyRef erased mut (pointee ((Array u64 5) .written)))) l₁₅ (free 𝓤 (tyRef erased mut (pointee ((Array u64 5) .written))) l₁₄ (free 𝓤 (sliceTy (tyRef erased imm (pointee (Object-t.the-row .written)))) l₁₃ (free 𝓤 (tyRef erased imm (pointee (Object-t.the-row .written))) l₁₂ (free 𝓤 (sliceTy (tyRef erased imm (pointee ((Array u64 5) .written)))) l₁₁ (free 𝓤 (tyRef erased imm (pointee ((Array u64 5) .written))) l₁₀ (free 𝓤 Move-l.mir l₉ (full 𝓤 Span-l.mir l₈ (Span-p .val body) (full 𝓤 (tyInt w16) l₇ (u16-p .val parent) (full 𝓤 ObjectKind-l.mir l₆ (ObjectKind-p .val ObjectKind-Topic) (full 𝓤 ObjectNumber-l.mir l₅ (ObjectNumber-p .val number) (full 𝓤 (tyInt w8) l₄ (u8-p .val id) (full 𝓤 (sliceTy (tyRef (named 2) imm (pointee (u8 .written)))) l₃ (sliceVal (b₃, o₃) n₃) (full 𝓤 (sliceTy (tyRef (named 1) mut (pointee (Object-t.the-row .written)))) l₂ (sliceVal (b₂, o₂) n₂) (full 𝓤 (sliceTy (tyRef (named 0) mut (pointee ((Array u64 5) .written)))) l₁ (sliceVal (b₁, o₁) n₁) (free 𝓤 Move-l.mir l₀ ([]))))))))))))))))))))))))))))))) (runs C Λ En (one mir.t-1) (anyQ (afterSeq 𝓤 H (Wp 𝓤 H C Λ En mir.t-2 (atReturn 𝓤 H En Post)) (atReturn 𝓤 H En Post))))
     matched-1-Topic-2 e-1 good-1 =
@@ -263,15 +263,15 @@ module _ {M : Type 1} (𝓤 : URA M) (H : Heap 𝓤) (A : Atoms 𝓤) (W : Given
         owned ! (u16-p .row) (Is (u16-p .row)) (u16-p .makes 𝓤 H A W) parent (u16-p .val parent ∷ []) parent-is $ fjoin ! $
         owned ! (ObjectNumber-p .row) (Is (ObjectNumber-p .row)) (ObjectNumber-p .makes 𝓤 H A W) number (ObjectNumber-p .val number ∷ []) number-is $ fjoin ! $
         owned ! (u8-p .row) (Is (u8-p .row)) (u8-p .makes 𝓤 H A W) id (u8-p .val id ∷ []) id-is $ fjoin ! $ move ! (2 ∷ 0 ∷ []) $ fjoin ! $ move ! (3 ∷ 0 ∷ []) $ fjoin ! $ move ! (4 ∷ 0 ∷ []) $ fjoin ! $ move ! (1 ∷ 0 ∷ []) $
-        calls-any-last ! fm 3 [] (objects-create-topic.signature .params) (objects-create-topic.ended .kept) Move-p (objects-create-topic.clauses 𝓤 H A mem run) known-objects-create-topic ((ν-1·Topic·5-sessions ∷ []), ((ν-1·Topic·5-objects ∷ []), (κ₃, tt))) (fullShare, (fullShare, (q₃, tt))) tt (at-list b₁ o₁ δ-1·Topic·5-sessions sessions, (at-list b₂ o₂ δ-1·Topic·5-objects objects, (at-list b₃ o₃ γ₃ d, (id, (number, (parent, (body, tt))))))) (sliceVal (b₁, o₁) n₁ ∷ [], (sliceVal (b₂, o₂) n₂ ∷ [], (sliceVal (b₃, o₃) n₃ ∷ [], (u8-p .val id ∷ [], (ObjectNumber-p .val number ∷ [], (u16-p .val parent ∷ [], (Span-p .val body ∷ [], tt))))))) tt (topicMove number (namesIn (d) body) (foundObject (sessions) (objects) id (record { 0 = parent }))) (λ ws-1·Topic·5. Unit {0}) (id⊢ 𝓤 _) (λ r ws-1·Topic·5. fact-mono 𝓤 (r ≡ topicMove number (namesIn (d) body) (foundObject (sessions) (objects) id (record { 0 = parent }))) ((r ≡ (topicMove number (namesIn (d) body) (foundObject (sessions) (objects) id (record { 0 = parent })))) × (Unit {0})) (λ e. (e, tt))) (λ _. (and-then ! (load ! (from ! (stop !)) (look ! 40 refl)) (and-then ! (load ! (from ! (stop !)) (look ! 36 refl)) (and-then ! (load ! (from ! (stop !)) (look ! 56 refl)) (and-then ! (load ! (from ! (stop !)) (look ! 54 refl)) (and-then ! (load ! (from ! (stop !)) (look ! 52 refl)) (and-then ! (load ! (from ! (stop !)) (look ! 48 refl)) (and-then ! (load ! (from ! (stop !)) (look ! 46 refl)) (no-more !))))))))) (λ ws-1·Topic·5 said-1·Topic·5 is-1·Topic·5.
+        calls-any-last ! fm 3 [] (objects-create-topic.signature .params) (objects-create-topic.ended .kept) Move-p (objects-create-topic.clauses 𝓤 H A mem run) known-objects-create-topic ((ν-1·Topic·5-sessions ∷ []), ((ν-1·Topic·5-objects ∷ []), (κ₃, tt))) (fullShare, (fullShare, (q₃, tt))) tt (at-list b₁ o₁ δ-1·Topic·5-sessions sessions, (at-list b₂ o₂ δ-1·Topic·5-objects objects, (at-list b₃ o₃ γ₃ d, (id, (number, (parent, (body, tt))))))) (sliceVal (b₁, o₁) n₁ ∷ [], (sliceVal (b₂, o₂) n₂ ∷ [], (sliceVal (b₃, o₃) n₃ ∷ [], (u8-p .val id ∷ [], (ObjectNumber-p .val number ∷ [], (u16-p .val parent ∷ [], (Span-p .val body ∷ [], tt))))))) tt (topicMove number parent (namesIn (d) body) (foundObject (sessions) (objects) id (record { 0 = parent }))) (λ ws-1·Topic·5. Unit {0}) (id⊢ 𝓤 _) (λ r ws-1·Topic·5. fact-mono 𝓤 (r ≡ topicMove number parent (namesIn (d) body) (foundObject (sessions) (objects) id (record { 0 = parent }))) ((r ≡ (topicMove number parent (namesIn (d) body) (foundObject (sessions) (objects) id (record { 0 = parent })))) × (Unit {0})) (λ e. (e, tt))) (λ _. (and-then ! (load ! (from ! (stop !)) (look ! 40 refl)) (and-then ! (load ! (from ! (stop !)) (look ! 36 refl)) (and-then ! (load ! (from ! (stop !)) (look ! 56 refl)) (and-then ! (load ! (from ! (stop !)) (look ! 54 refl)) (and-then ! (load ! (from ! (stop !)) (look ! 52 refl)) (and-then ! (load ! (from ! (stop !)) (look ! 48 refl)) (and-then ! (load ! (from ! (stop !)) (look ! 46 refl)) (no-more !))))))))) (λ ws-1·Topic·5 said-1·Topic·5 is-1·Topic·5.
         use1 W ((‵ (flft (ν-1·Topic·5-sessions ∷ []) fullShare) ⊛ (‵ (flft (ν-1·Topic·5-objects ∷ []) fullShare) ⊛ (‵ (flft κ₃ q₃) ⊛ ‵ ftrue)))) (id⊢ 𝓤 _) $ split ! $ move ! (1 ∷ []) $ split ! $ move ! (1 ∷ []) $ split ! $ move ! (4 ∷ []) $ fsplit ! $ move ! (1 ∷ []) $ fsplit ! $ move ! (1 ∷ []) $ fsplit ! $ move ! (7 ∷ 10 ∷ []) $
         backs-view ! tt (Array u64 5) b₁ o₁ sessions n₁ (refl) ν-1·Topic·5-sessions $ move ! (8 ∷ 10 ∷ []) $
         backs-view ! tt Object-t.the-row b₂ o₂ objects n₂ (refl) ν-1·Topic·5-objects $ move ! (4 ∷ []) $ drop ! $ move ! (4 ∷ []) $ drop ! $ move ! (4 ∷ []) $ drop ! $ move ! (4 ∷ []) $ drop ! $ move ! (5 ∷ []) $ drop ! $
-        land-last ! (from ! (stop !)) (init ! 46 refl (Move-p .typed 𝓤 H A W (topicMove number (namesIn (d) body) (foundObject (sessions) (objects) id (record { 0 = parent }))) is-1·Topic·5)) $
+        land-last ! (from ! (stop !)) (init ! 46 refl (Move-p .typed 𝓤 H A W (topicMove number parent (namesIn (d) body) (foundObject (sessions) (objects) id (record { 0 = parent }))) is-1·Topic·5)) $
         exec ! C Λ En mir.t-2 (atRet En Post) $
-        assigns ! (of-opd ! (load ! (from ! (stop !)) (look ! 46 refl))) (from ! (stop !)) (init ! 64 refl (Move-p .typed 𝓤 H A W (topicMove number (namesIn (d) body) (foundObject (sessions) (objects) id (record { 0 = parent }))) is-1·Topic·5)) $
+        assigns ! (of-opd ! (load ! (from ! (stop !)) (look ! 46 refl))) (from ! (stop !)) (init ! 64 refl (Move-p .typed 𝓤 H A W (topicMove number parent (namesIn (d) body) (foundObject (sessions) (objects) id (record { 0 = parent }))) is-1·Topic·5)) $
         returns ! (look ! 64 refl) $ forget ! 38 refl $ forget ! 40 refl $ forget ! 42 refl $ forget ! 44 refl $ forget ! 46 refl $ forget ! 52 refl $ move ! (2 ∷ 3 ∷ 0 ∷ 1 ∷ 5 ∷ 4 ∷ 6 ∷ 7 ∷ 8 ∷ 9 ∷ 10 ∷ 11 ∷ 12 ∷ 13 ∷ 14 ∷ 15 ∷ 16 ∷ 17 ∷ 18 ∷ 19 ∷ 20 ∷ 21 ∷ 22 ∷ 23 ∷ 24 ∷ 25 ∷ 26 ∷ 27 ∷ 28 ∷ 29 ∷ 30 ∷ 31 ∷ 32 ∷ 33 ∷ 34 ∷ 35 ∷ 36 ∷ 37 ∷ 38 ∷ 39 ∷ 40 ∷ 41 ∷ 42 ∷ 43 ∷ 44 ∷ 45 ∷ 46 ∷ 47 ∷ 48 ∷ 49 ∷ 50 ∷ 51 ∷ 52 ∷ 53 ∷ 54 ∷ 55 ∷ 56 ∷ 57 ∷ 58 ∷ 59 ∷ 60 ∷ 61 ∷ 62 ∷ 63 ∷ 64 ∷ 65 ∷ []) $
-        frees-all (topicMove number (namesIn (d) body) (foundObject (sessions) (objects) id (record { 0 = parent }))) sessions objects (exits (topicMove number (namesIn (d) body) (foundObject (sessions) (objects) id (record { 0 = parent }))) sessions objects ((ap (λ (k : ObjectKind). createMove k sessions objects d id number parent body) (sym e-1), ap (λ (k : ObjectKind). createdSessions k sessions objects id number) (sym e-1), ap (λ (k : ObjectKind). createdObjects k sessions objects id number) (sym e-1))) is-1·Topic·5 refl refl))))
+        frees-all (topicMove number parent (namesIn (d) body) (foundObject (sessions) (objects) id (record { 0 = parent }))) sessions objects (exits (topicMove number parent (namesIn (d) body) (foundObject (sessions) (objects) id (record { 0 = parent }))) sessions objects ((ap (λ (k : ObjectKind). createMove k sessions objects d id number parent body) (sym e-1), ap (λ (k : ObjectKind). createdSessions k sessions objects id number parent) (sym e-1), ap (λ (k : ObjectKind). createdObjects k sessions objects id number parent) (sym e-1))) is-1·Topic·5 refl refl))))
 
     matched-1-Publisher-3 : (e-1 : kind ≡ ObjectKind-Publisher) → (good-1 : Is (ObjectKind-p .row) ObjectKind-Publisher (ObjectKind-p .val ObjectKind-Publisher ∷ [])) → Sq W (‵ (MutSlice (named 0) κ₁ (Array u64 5) .own (at-list b₁ o₁ γ₁ sessions) (sliceVal (b₁, o₁) n₁ ∷ [])) ∷ ‵ (flft κ₁ q₁) ∷ ‵ (MutSlice (named 0) κ₂ Object-t.the-row .own (at-list b₂ o₂ γ₂ objects) (sliceVal (b₂, o₂) n₂ ∷ [])) ∷ ‵ (flft κ₂ q₂) ∷ ‵ (ShrSlice (named 0) κ₃ u8 .own (at-list b₃ o₃ γ₃ d) (sliceVal (b₃, o₃) n₃ ∷ [])) ∷ ‵ (flft κ₃ q₃) ∷ free 𝓤 (sliceTy (tyRef erased imm (pointee (Object-t.the-row .written)))) l₂₉ (free 𝓤 (tyRef erased imm (pointee (Object-t.the-row .written))) l₂₈ (free 𝓤 (sliceTy (tyRef erased imm (pointee ((Array u64 5) .written)))) l₂₇ (free 𝓤 (tyRef erased imm (pointee ((Array u64 5) .written))) l₂₆ (free 𝓤 (sliceTy (tyRef erased imm (pointee (Object-t.the-row .written)))) l₂₅ (free 𝓤 (tyRef erased imm (pointee (Object-t.the-row .written))) l₂₄ (free 𝓤 (sliceTy (tyRef erased imm (pointee ((Array u64 5) .written)))) l₂₃ (free 𝓤 (tyRef erased imm (pointee ((Array u64 5) .written))) l₂₂ (free 𝓤 (sliceTy (tyRef erased mut (pointee (Object-t.the-row .written)))) l₂₁ (free 𝓤 (tyRef erased mut (pointee (Object-t.the-row .written))) l₂₀ (free 𝓤 (sliceTy (tyRef erased mut (pointee ((Array u64 5) .written)))) l₁₉ (free 𝓤 (tyRef erased mut (pointee ((Array u64 5) .written))) l₁₈ (free 𝓤 (sliceTy (tyRef erased mut (pointee (Object-t.the-row .written)))) l₁₇ (free 𝓤 (tyRef erased mut (pointee (Object-t.the-row .written))) l₁₆ (free 𝓤 (sliceTy (tyRef erased mut (pointee ((Array u64 5) .written)))) l₁₅ (free 𝓤 (tyRef erased mut (pointee ((Array u64 5) .written))) l₁₄ (free 𝓤 (sliceTy (tyRef erased imm (pointee (Object-t.the-row .written)))) l₁₃ (free 𝓤 (tyRef erased imm (pointee (Object-t.the-row .written))) l₁₂ (free 𝓤 (sliceTy (tyRef erased imm (pointee ((Array u64 5) .written)))) l₁₁ (free 𝓤 (tyRef erased imm (pointee ((Array u64 5) .written))) l₁₀ (free 𝓤 Move-l.mir l₉ (full 𝓤 Span-l.mir l₈ (Span-p .val body) (full 𝓤 (tyInt w16) l₇ (u16-p .val parent) (full 𝓤 ObjectKind-l.mir l₆ (ObjectKind-p .val ObjectKind-Publisher) (full 𝓤 ObjectNumber-l.mir l₅ (ObjectNumber-p .val number) (full 𝓤 (tyInt w8) l₄ (u8-p .val id) (full 𝓤 (sliceTy (tyRef (named 2) imm (pointee (u8 .written)))) l₃ (sliceVal (b₃, o₃) n₃) (full 𝓤 (sliceTy (tyRef (named 1) mut (pointee (Object-t.the-row .written)))) l₂ (sliceVal (b₂, o₂) n₂) (full 𝓤 (sliceTy (tyRef (named 0) mut (pointee ((Array u64 5) .written)))) l₁ (sliceVal (b₁, o₁) n₁) (free 𝓤 Move-l.mir l₀ ([]))))))))))))))))))))))))))))))) (runs C Λ En (one mir.t-1) (anyQ (afterSeq 𝓤 H (Wp 𝓤 H C Λ En mir.t-2 (atReturn 𝓤 H En Post)) (atReturn 𝓤 H En Post))))
     matched-1-Publisher-3 e-1 good-1 =
@@ -286,24 +286,25 @@ module _ {M : Type 1} (𝓤 : URA M) (H : Heap 𝓤) (A : Atoms 𝓤) (W : Given
         lends-mut ! tt Object-t.the-row b₂ o₂ objects n₂ (refl) (λ ν-1·Publisher·5-objects δ-1·Publisher·5-objects.
         nothing ! $ move ! (1 ∷ 0 ∷ []) $ join ! $ move ! (3 ∷ 0 ∷ []) $ join ! $
         use1 W (raw (toks 𝓤 A 2 (((ν-1·Publisher·5-sessions ∷ []), ((ν-1·Publisher·5-objects ∷ []), tt))) ((fullShare, (fullShare, tt))))) (id⊢ 𝓤 _) $ nothing ! $
+        owned ! (u16-p .row) (Is (u16-p .row)) (u16-p .makes 𝓤 H A W) parent (u16-p .val parent ∷ []) parent-is $ fjoin ! $
         owned ! (u8-p .row) (Is (u8-p .row)) (u8-p .makes 𝓤 H A W) 3 (u8-p .val 3 ∷ []) ((refl, lit< tt)) $ fjoin ! $
         owned ! (ObjectNumber-p .row) (Is (ObjectNumber-p .row)) (ObjectNumber-p .makes 𝓤 H A W) number (ObjectNumber-p .val number ∷ []) number-is $ fjoin ! $
         owned ! (u8-p .row) (Is (u8-p .row)) (u8-p .makes 𝓤 H A W) id (u8-p .val id ∷ []) id-is $ fjoin ! $ move ! (2 ∷ 0 ∷ []) $ fjoin ! $ move ! (3 ∷ 0 ∷ []) $ fjoin ! $ move ! (1 ∷ 0 ∷ []) $
-        calls-any-last ! fm 2 [] (objects-create-implicit.signature .params) (objects-create-implicit.ended .kept) Move-p (objects-create-implicit.clauses 𝓤 H A mem run) known-objects-create-implicit ((ν-1·Publisher·5-sessions ∷ []), ((ν-1·Publisher·5-objects ∷ []), tt)) (fullShare, (fullShare, tt)) tt (at-list b₁ o₁ δ-1·Publisher·5-sessions sessions, (at-list b₂ o₂ δ-1·Publisher·5-objects objects, (id, (number, (3, tt))))) (sliceVal (b₁, o₁) n₁ ∷ [], (sliceVal (b₂, o₂) n₂ ∷ [], (u8-p .val id ∷ [], (ObjectNumber-p .val number ∷ [], (u8-p .val 3 ∷ [], tt))))) tt (okMove number) (λ ws-1·Publisher·5. (ws-1·Publisher·5 .0 ≡ keepStored (sessions) id (storedObject (sessions) (objects) id (implicitOf number 3))) × (ws-1·Publisher·5 .1 .0 ≡ storedObjects (sessions) (objects) id (implicitOf number 3))) (id⊢ 𝓤 _) (λ r ws-1·Publisher·5. fact-mono 𝓤 ((r ≡ okMove number) × ((ws-1·Publisher·5 .0) ≡ keepStored (sessions) id (storedObject (sessions) (objects) id (implicitOf number 3))) × ((ws-1·Publisher·5 .1 .0) ≡ storedObjects (sessions) (objects) id (implicitOf number 3))) ((r ≡ (okMove number)) × ((ws-1·Publisher·5 .0 ≡ keepStored (sessions) id (storedObject (sessions) (objects) id (implicitOf number 3))) × (ws-1·Publisher·5 .1 .0 ≡ storedObjects (sessions) (objects) id (implicitOf number 3)))) (λ e. (e .0, (e .1, e .2)))) (λ _. (and-then ! (load ! (from ! (stop !)) (look ! 33 refl)) (and-then ! (load ! (from ! (stop !)) (look ! 29 refl)) (and-then ! (load ! (from ! (stop !)) (look ! 55 refl)) (and-then ! (load ! (from ! (stop !)) (look ! 53 refl)) (and-then ! (lit ! tt) (no-more !))))))) (λ ws-1·Publisher·5 said-1·Publisher·5 is-1·Publisher·5.
+        calls-any-last ! fm 2 [] (objects-create-implicit.signature .params) (objects-create-implicit.ended .kept) Move-p (objects-create-implicit.clauses 𝓤 H A mem run) known-objects-create-implicit ((ν-1·Publisher·5-sessions ∷ []), ((ν-1·Publisher·5-objects ∷ []), tt)) (fullShare, (fullShare, tt)) tt (at-list b₁ o₁ δ-1·Publisher·5-sessions sessions, (at-list b₂ o₂ δ-1·Publisher·5-objects objects, (id, (number, (3, (parent, tt)))))) (sliceVal (b₁, o₁) n₁ ∷ [], (sliceVal (b₂, o₂) n₂ ∷ [], (u8-p .val id ∷ [], (ObjectNumber-p .val number ∷ [], (u8-p .val 3 ∷ [], (u16-p .val parent ∷ [], tt)))))) tt (okMove number) (λ ws-1·Publisher·5. (ws-1·Publisher·5 .0 ≡ keepStored (sessions) id (storedObject (sessions) (objects) id (implicitOf number 3 parent))) × (ws-1·Publisher·5 .1 .0 ≡ storedObjects (sessions) (objects) id (implicitOf number 3 parent))) (id⊢ 𝓤 _) (λ r ws-1·Publisher·5. fact-mono 𝓤 ((r ≡ okMove number) × ((ws-1·Publisher·5 .0) ≡ keepStored (sessions) id (storedObject (sessions) (objects) id (implicitOf number 3 parent))) × ((ws-1·Publisher·5 .1 .0) ≡ storedObjects (sessions) (objects) id (implicitOf number 3 parent))) ((r ≡ (okMove number)) × ((ws-1·Publisher·5 .0 ≡ keepStored (sessions) id (storedObject (sessions) (objects) id (implicitOf number 3 parent))) × (ws-1·Publisher·5 .1 .0 ≡ storedObjects (sessions) (objects) id (implicitOf number 3 parent)))) (λ e. (e .0, (e .1, e .2)))) (λ _. (and-then ! (load ! (from ! (stop !)) (look ! 33 refl)) (and-then ! (load ! (from ! (stop !)) (look ! 29 refl)) (and-then ! (load ! (from ! (stop !)) (look ! 55 refl)) (and-then ! (load ! (from ! (stop !)) (look ! 53 refl)) (and-then ! (lit ! tt) (and-then ! (load ! (from ! (stop !)) (look ! 49 refl)) (no-more !)))))))) (λ ws-1·Publisher·5 said-1·Publisher·5 is-1·Publisher·5.
         use1 W ((‵ (flft (ν-1·Publisher·5-sessions ∷ []) fullShare) ⊛ (‵ (flft (ν-1·Publisher·5-objects ∷ []) fullShare) ⊛ ‵ ftrue))) (id⊢ 𝓤 _) $ split ! $ move ! (1 ∷ []) $ split ! $ move ! (3 ∷ []) $ fsplit ! $ fsplit ! $ move ! (1 ∷ []) $
         feqL ! (λ wlen-1·Publisher·5-0.
         move ! (1 ∷ []) $ fsplit ! $ fsplit ! $ move ! (1 ∷ []) $
         feqL ! (λ wlen-1·Publisher·5-1.
         move ! (5 ∷ 7 ∷ 2 ∷ []) $
-        backs-mut ! tt (Array u64 5) b₁ o₁ sessions n₁ (refl) room₁ ν-1·Publisher·5-sessions δ-1·Publisher·5-sessions (ws-1·Publisher·5 .0) (keepStored (sessions) id (storedObject (sessions) (objects) id (implicitOf number 3))) wlen-1·Publisher·5-0 (said-1·Publisher·5 .0) (λ len-1·Publisher·5-sessions.
+        backs-mut ! tt (Array u64 5) b₁ o₁ sessions n₁ (refl) room₁ ν-1·Publisher·5-sessions δ-1·Publisher·5-sessions (ws-1·Publisher·5 .0) (keepStored (sessions) id (storedObject (sessions) (objects) id (implicitOf number 3 parent))) wlen-1·Publisher·5-0 (said-1·Publisher·5 .0) (λ len-1·Publisher·5-sessions.
         move ! (4 ∷ 6 ∷ 2 ∷ []) $
-        backs-mut ! tt Object-t.the-row b₂ o₂ objects n₂ (refl) room₂ ν-1·Publisher·5-objects δ-1·Publisher·5-objects (ws-1·Publisher·5 .1 .0) (storedObjects (sessions) (objects) id (implicitOf number 3)) wlen-1·Publisher·5-1 (said-1·Publisher·5 .1) (λ len-1·Publisher·5-objects.
+        backs-mut ! tt Object-t.the-row b₂ o₂ objects n₂ (refl) room₂ ν-1·Publisher·5-objects δ-1·Publisher·5-objects (ws-1·Publisher·5 .1 .0) (storedObjects (sessions) (objects) id (implicitOf number 3 parent)) wlen-1·Publisher·5-1 (said-1·Publisher·5 .1) (λ len-1·Publisher·5-objects.
         move ! (4 ∷ []) $ drop ! $ move ! (4 ∷ []) $ drop ! $
         land-last ! (from ! (stop !)) (init ! 46 refl (Move-p .typed 𝓤 H A W (okMove number) is-1·Publisher·5)) $
         exec ! C Λ En mir.t-2 (atRet En Post) $
         assigns ! (of-opd ! (load ! (from ! (stop !)) (look ! 46 refl))) (from ! (stop !)) (init ! 64 refl (Move-p .typed 𝓤 H A W (okMove number) is-1·Publisher·5)) $
         returns ! (look ! 64 refl) $ forget ! 30 refl $ forget ! 32 refl $ forget ! 34 refl $ forget ! 36 refl $ forget ! 46 refl $ forget ! 52 refl $ move ! (2 ∷ 3 ∷ 0 ∷ 1 ∷ 4 ∷ 5 ∷ 6 ∷ 7 ∷ 8 ∷ 9 ∷ 10 ∷ 11 ∷ 12 ∷ 13 ∷ 14 ∷ 15 ∷ 16 ∷ 17 ∷ 18 ∷ 19 ∷ 20 ∷ 21 ∷ 22 ∷ 23 ∷ 24 ∷ 25 ∷ 26 ∷ 27 ∷ 28 ∷ 29 ∷ 30 ∷ 31 ∷ 32 ∷ 33 ∷ 34 ∷ 35 ∷ 36 ∷ 37 ∷ 38 ∷ 39 ∷ 40 ∷ 41 ∷ 42 ∷ 43 ∷ 44 ∷ 45 ∷ 46 ∷ 47 ∷ 48 ∷ 49 ∷ 50 ∷ 51 ∷ 52 ∷ 53 ∷ 54 ∷ 55 ∷ 56 ∷ 57 ∷ 58 ∷ 59 ∷ 60 ∷ 61 ∷ 62 ∷ 63 ∷ 64 ∷ 65 ∷ []) $
-        frees-all (okMove number) (keepStored (sessions) id (storedObject (sessions) (objects) id (implicitOf number 3))) (storedObjects (sessions) (objects) id (implicitOf number 3)) (exits (okMove number) (keepStored (sessions) id (storedObject (sessions) (objects) id (implicitOf number 3))) (storedObjects (sessions) (objects) id (implicitOf number 3)) ((ap (λ (k : ObjectKind). createMove k sessions objects d id number parent body) (sym e-1), ap (λ (k : ObjectKind). createdSessions k sessions objects id number) (sym e-1), ap (λ (k : ObjectKind). createdObjects k sessions objects id number) (sym e-1))) is-1·Publisher·5 len-1·Publisher·5-sessions len-1·Publisher·5-objects))))))))
+        frees-all (okMove number) (keepStored (sessions) id (storedObject (sessions) (objects) id (implicitOf number 3 parent))) (storedObjects (sessions) (objects) id (implicitOf number 3 parent)) (exits (okMove number) (keepStored (sessions) id (storedObject (sessions) (objects) id (implicitOf number 3 parent))) (storedObjects (sessions) (objects) id (implicitOf number 3 parent)) ((ap (λ (k : ObjectKind). createMove k sessions objects d id number parent body) (sym e-1), ap (λ (k : ObjectKind). createdSessions k sessions objects id number parent) (sym e-1), ap (λ (k : ObjectKind). createdObjects k sessions objects id number parent) (sym e-1))) is-1·Publisher·5 len-1·Publisher·5-sessions len-1·Publisher·5-objects))))))))
 
     matched-1-Subscriber-4 : (e-1 : kind ≡ ObjectKind-Subscriber) → (good-1 : Is (ObjectKind-p .row) ObjectKind-Subscriber (ObjectKind-p .val ObjectKind-Subscriber ∷ [])) → Sq W (‵ (MutSlice (named 0) κ₁ (Array u64 5) .own (at-list b₁ o₁ γ₁ sessions) (sliceVal (b₁, o₁) n₁ ∷ [])) ∷ ‵ (flft κ₁ q₁) ∷ ‵ (MutSlice (named 0) κ₂ Object-t.the-row .own (at-list b₂ o₂ γ₂ objects) (sliceVal (b₂, o₂) n₂ ∷ [])) ∷ ‵ (flft κ₂ q₂) ∷ ‵ (ShrSlice (named 0) κ₃ u8 .own (at-list b₃ o₃ γ₃ d) (sliceVal (b₃, o₃) n₃ ∷ [])) ∷ ‵ (flft κ₃ q₃) ∷ free 𝓤 (sliceTy (tyRef erased imm (pointee (Object-t.the-row .written)))) l₂₉ (free 𝓤 (tyRef erased imm (pointee (Object-t.the-row .written))) l₂₈ (free 𝓤 (sliceTy (tyRef erased imm (pointee ((Array u64 5) .written)))) l₂₇ (free 𝓤 (tyRef erased imm (pointee ((Array u64 5) .written))) l₂₆ (free 𝓤 (sliceTy (tyRef erased imm (pointee (Object-t.the-row .written)))) l₂₅ (free 𝓤 (tyRef erased imm (pointee (Object-t.the-row .written))) l₂₄ (free 𝓤 (sliceTy (tyRef erased imm (pointee ((Array u64 5) .written)))) l₂₃ (free 𝓤 (tyRef erased imm (pointee ((Array u64 5) .written))) l₂₂ (free 𝓤 (sliceTy (tyRef erased mut (pointee (Object-t.the-row .written)))) l₂₁ (free 𝓤 (tyRef erased mut (pointee (Object-t.the-row .written))) l₂₀ (free 𝓤 (sliceTy (tyRef erased mut (pointee ((Array u64 5) .written)))) l₁₉ (free 𝓤 (tyRef erased mut (pointee ((Array u64 5) .written))) l₁₈ (free 𝓤 (sliceTy (tyRef erased mut (pointee (Object-t.the-row .written)))) l₁₇ (free 𝓤 (tyRef erased mut (pointee (Object-t.the-row .written))) l₁₆ (free 𝓤 (sliceTy (tyRef erased mut (pointee ((Array u64 5) .written)))) l₁₅ (free 𝓤 (tyRef erased mut (pointee ((Array u64 5) .written))) l₁₄ (free 𝓤 (sliceTy (tyRef erased imm (pointee (Object-t.the-row .written)))) l₁₃ (free 𝓤 (tyRef erased imm (pointee (Object-t.the-row .written))) l₁₂ (free 𝓤 (sliceTy (tyRef erased imm (pointee ((Array u64 5) .written)))) l₁₁ (free 𝓤 (tyRef erased imm (pointee ((Array u64 5) .written))) l₁₀ (free 𝓤 Move-l.mir l₉ (full 𝓤 Span-l.mir l₈ (Span-p .val body) (full 𝓤 (tyInt w16) l₇ (u16-p .val parent) (full 𝓤 ObjectKind-l.mir l₆ (ObjectKind-p .val ObjectKind-Subscriber) (full 𝓤 ObjectNumber-l.mir l₅ (ObjectNumber-p .val number) (full 𝓤 (tyInt w8) l₄ (u8-p .val id) (full 𝓤 (sliceTy (tyRef (named 2) imm (pointee (u8 .written)))) l₃ (sliceVal (b₃, o₃) n₃) (full 𝓤 (sliceTy (tyRef (named 1) mut (pointee (Object-t.the-row .written)))) l₂ (sliceVal (b₂, o₂) n₂) (full 𝓤 (sliceTy (tyRef (named 0) mut (pointee ((Array u64 5) .written)))) l₁ (sliceVal (b₁, o₁) n₁) (free 𝓤 Move-l.mir l₀ ([]))))))))))))))))))))))))))))))) (runs C Λ En (one mir.t-1) (anyQ (afterSeq 𝓤 H (Wp 𝓤 H C Λ En mir.t-2 (atReturn 𝓤 H En Post)) (atReturn 𝓤 H En Post))))
     matched-1-Subscriber-4 e-1 good-1 =
@@ -318,24 +319,25 @@ module _ {M : Type 1} (𝓤 : URA M) (H : Heap 𝓤) (A : Atoms 𝓤) (W : Given
         lends-mut ! tt Object-t.the-row b₂ o₂ objects n₂ (refl) (λ ν-1·Subscriber·5-objects δ-1·Subscriber·5-objects.
         nothing ! $ move ! (1 ∷ 0 ∷ []) $ join ! $ move ! (3 ∷ 0 ∷ []) $ join ! $
         use1 W (raw (toks 𝓤 A 2 (((ν-1·Subscriber·5-sessions ∷ []), ((ν-1·Subscriber·5-objects ∷ []), tt))) ((fullShare, (fullShare, tt))))) (id⊢ 𝓤 _) $ nothing ! $
+        owned ! (u16-p .row) (Is (u16-p .row)) (u16-p .makes 𝓤 H A W) parent (u16-p .val parent ∷ []) parent-is $ fjoin ! $
         owned ! (u8-p .row) (Is (u8-p .row)) (u8-p .makes 𝓤 H A W) 4 (u8-p .val 4 ∷ []) ((refl, lit< tt)) $ fjoin ! $
         owned ! (ObjectNumber-p .row) (Is (ObjectNumber-p .row)) (ObjectNumber-p .makes 𝓤 H A W) number (ObjectNumber-p .val number ∷ []) number-is $ fjoin ! $
         owned ! (u8-p .row) (Is (u8-p .row)) (u8-p .makes 𝓤 H A W) id (u8-p .val id ∷ []) id-is $ fjoin ! $ move ! (2 ∷ 0 ∷ []) $ fjoin ! $ move ! (3 ∷ 0 ∷ []) $ fjoin ! $ move ! (1 ∷ 0 ∷ []) $
-        calls-any-last ! fm 2 [] (objects-create-implicit.signature .params) (objects-create-implicit.ended .kept) Move-p (objects-create-implicit.clauses 𝓤 H A mem run) known-objects-create-implicit ((ν-1·Subscriber·5-sessions ∷ []), ((ν-1·Subscriber·5-objects ∷ []), tt)) (fullShare, (fullShare, tt)) tt (at-list b₁ o₁ δ-1·Subscriber·5-sessions sessions, (at-list b₂ o₂ δ-1·Subscriber·5-objects objects, (id, (number, (4, tt))))) (sliceVal (b₁, o₁) n₁ ∷ [], (sliceVal (b₂, o₂) n₂ ∷ [], (u8-p .val id ∷ [], (ObjectNumber-p .val number ∷ [], (u8-p .val 4 ∷ [], tt))))) tt (okMove number) (λ ws-1·Subscriber·5. (ws-1·Subscriber·5 .0 ≡ keepStored (sessions) id (storedObject (sessions) (objects) id (implicitOf number 4))) × (ws-1·Subscriber·5 .1 .0 ≡ storedObjects (sessions) (objects) id (implicitOf number 4))) (id⊢ 𝓤 _) (λ r ws-1·Subscriber·5. fact-mono 𝓤 ((r ≡ okMove number) × ((ws-1·Subscriber·5 .0) ≡ keepStored (sessions) id (storedObject (sessions) (objects) id (implicitOf number 4))) × ((ws-1·Subscriber·5 .1 .0) ≡ storedObjects (sessions) (objects) id (implicitOf number 4))) ((r ≡ (okMove number)) × ((ws-1·Subscriber·5 .0 ≡ keepStored (sessions) id (storedObject (sessions) (objects) id (implicitOf number 4))) × (ws-1·Subscriber·5 .1 .0 ≡ storedObjects (sessions) (objects) id (implicitOf number 4)))) (λ e. (e .0, (e .1, e .2)))) (λ _. (and-then ! (load ! (from ! (stop !)) (look ! 25 refl)) (and-then ! (load ! (from ! (stop !)) (look ! 21 refl)) (and-then ! (load ! (from ! (stop !)) (look ! 55 refl)) (and-then ! (load ! (from ! (stop !)) (look ! 53 refl)) (and-then ! (lit ! tt) (no-more !))))))) (λ ws-1·Subscriber·5 said-1·Subscriber·5 is-1·Subscriber·5.
+        calls-any-last ! fm 2 [] (objects-create-implicit.signature .params) (objects-create-implicit.ended .kept) Move-p (objects-create-implicit.clauses 𝓤 H A mem run) known-objects-create-implicit ((ν-1·Subscriber·5-sessions ∷ []), ((ν-1·Subscriber·5-objects ∷ []), tt)) (fullShare, (fullShare, tt)) tt (at-list b₁ o₁ δ-1·Subscriber·5-sessions sessions, (at-list b₂ o₂ δ-1·Subscriber·5-objects objects, (id, (number, (4, (parent, tt)))))) (sliceVal (b₁, o₁) n₁ ∷ [], (sliceVal (b₂, o₂) n₂ ∷ [], (u8-p .val id ∷ [], (ObjectNumber-p .val number ∷ [], (u8-p .val 4 ∷ [], (u16-p .val parent ∷ [], tt)))))) tt (okMove number) (λ ws-1·Subscriber·5. (ws-1·Subscriber·5 .0 ≡ keepStored (sessions) id (storedObject (sessions) (objects) id (implicitOf number 4 parent))) × (ws-1·Subscriber·5 .1 .0 ≡ storedObjects (sessions) (objects) id (implicitOf number 4 parent))) (id⊢ 𝓤 _) (λ r ws-1·Subscriber·5. fact-mono 𝓤 ((r ≡ okMove number) × ((ws-1·Subscriber·5 .0) ≡ keepStored (sessions) id (storedObject (sessions) (objects) id (implicitOf number 4 parent))) × ((ws-1·Subscriber·5 .1 .0) ≡ storedObjects (sessions) (objects) id (implicitOf number 4 parent))) ((r ≡ (okMove number)) × ((ws-1·Subscriber·5 .0 ≡ keepStored (sessions) id (storedObject (sessions) (objects) id (implicitOf number 4 parent))) × (ws-1·Subscriber·5 .1 .0 ≡ storedObjects (sessions) (objects) id (implicitOf number 4 parent)))) (λ e. (e .0, (e .1, e .2)))) (λ _. (and-then ! (load ! (from ! (stop !)) (look ! 25 refl)) (and-then ! (load ! (from ! (stop !)) (look ! 21 refl)) (and-then ! (load ! (from ! (stop !)) (look ! 55 refl)) (and-then ! (load ! (from ! (stop !)) (look ! 53 refl)) (and-then ! (lit ! tt) (and-then ! (load ! (from ! (stop !)) (look ! 49 refl)) (no-more !)))))))) (λ ws-1·Subscriber·5 said-1·Subscriber·5 is-1·Subscriber·5.
         use1 W ((‵ (flft (ν-1·Subscriber·5-sessions ∷ []) fullShare) ⊛ (‵ (flft (ν-1·Subscriber·5-objects ∷ []) fullShare) ⊛ ‵ ftrue))) (id⊢ 𝓤 _) $ split ! $ move ! (1 ∷ []) $ split ! $ move ! (3 ∷ []) $ fsplit ! $ fsplit ! $ move ! (1 ∷ []) $
         feqL ! (λ wlen-1·Subscriber·5-0.
         move ! (1 ∷ []) $ fsplit ! $ fsplit ! $ move ! (1 ∷ []) $
         feqL ! (λ wlen-1·Subscriber·5-1.
         move ! (5 ∷ 7 ∷ 2 ∷ []) $
-        backs-mut ! tt (Array u64 5) b₁ o₁ sessions n₁ (refl) room₁ ν-1·Subscriber·5-sessions δ-1·Subscriber·5-sessions (ws-1·Subscriber·5 .0) (keepStored (sessions) id (storedObject (sessions) (objects) id (implicitOf number 4))) wlen-1·Subscriber·5-0 (said-1·Subscriber·5 .0) (λ len-1·Subscriber·5-sessions.
+        backs-mut ! tt (Array u64 5) b₁ o₁ sessions n₁ (refl) room₁ ν-1·Subscriber·5-sessions δ-1·Subscriber·5-sessions (ws-1·Subscriber·5 .0) (keepStored (sessions) id (storedObject (sessions) (objects) id (implicitOf number 4 parent))) wlen-1·Subscriber·5-0 (said-1·Subscriber·5 .0) (λ len-1·Subscriber·5-sessions.
         move ! (4 ∷ 6 ∷ 2 ∷ []) $
-        backs-mut ! tt Object-t.the-row b₂ o₂ objects n₂ (refl) room₂ ν-1·Subscriber·5-objects δ-1·Subscriber·5-objects (ws-1·Subscriber·5 .1 .0) (storedObjects (sessions) (objects) id (implicitOf number 4)) wlen-1·Subscriber·5-1 (said-1·Subscriber·5 .1) (λ len-1·Subscriber·5-objects.
+        backs-mut ! tt Object-t.the-row b₂ o₂ objects n₂ (refl) room₂ ν-1·Subscriber·5-objects δ-1·Subscriber·5-objects (ws-1·Subscriber·5 .1 .0) (storedObjects (sessions) (objects) id (implicitOf number 4 parent)) wlen-1·Subscriber·5-1 (said-1·Subscriber·5 .1) (λ len-1·Subscriber·5-objects.
         move ! (4 ∷ []) $ drop ! $ move ! (4 ∷ []) $ drop ! $
         land-last ! (from ! (stop !)) (init ! 46 refl (Move-p .typed 𝓤 H A W (okMove number) is-1·Subscriber·5)) $
         exec ! C Λ En mir.t-2 (atRet En Post) $
         assigns ! (of-opd ! (load ! (from ! (stop !)) (look ! 46 refl))) (from ! (stop !)) (init ! 64 refl (Move-p .typed 𝓤 H A W (okMove number) is-1·Subscriber·5)) $
         returns ! (look ! 64 refl) $ forget ! 22 refl $ forget ! 24 refl $ forget ! 26 refl $ forget ! 28 refl $ forget ! 46 refl $ forget ! 52 refl $ move ! (2 ∷ 3 ∷ 0 ∷ 1 ∷ 4 ∷ 5 ∷ 6 ∷ 7 ∷ 8 ∷ 9 ∷ 10 ∷ 11 ∷ 12 ∷ 13 ∷ 14 ∷ 15 ∷ 16 ∷ 17 ∷ 18 ∷ 19 ∷ 20 ∷ 21 ∷ 22 ∷ 23 ∷ 24 ∷ 25 ∷ 26 ∷ 27 ∷ 28 ∷ 29 ∷ 30 ∷ 31 ∷ 32 ∷ 33 ∷ 34 ∷ 35 ∷ 36 ∷ 37 ∷ 38 ∷ 39 ∷ 40 ∷ 41 ∷ 42 ∷ 43 ∷ 44 ∷ 45 ∷ 46 ∷ 47 ∷ 48 ∷ 49 ∷ 50 ∷ 51 ∷ 52 ∷ 53 ∷ 54 ∷ 55 ∷ 56 ∷ 57 ∷ 58 ∷ 59 ∷ 60 ∷ 61 ∷ 62 ∷ 63 ∷ 64 ∷ 65 ∷ []) $
-        frees-all (okMove number) (keepStored (sessions) id (storedObject (sessions) (objects) id (implicitOf number 4))) (storedObjects (sessions) (objects) id (implicitOf number 4)) (exits (okMove number) (keepStored (sessions) id (storedObject (sessions) (objects) id (implicitOf number 4))) (storedObjects (sessions) (objects) id (implicitOf number 4)) ((ap (λ (k : ObjectKind). createMove k sessions objects d id number parent body) (sym e-1), ap (λ (k : ObjectKind). createdSessions k sessions objects id number) (sym e-1), ap (λ (k : ObjectKind). createdObjects k sessions objects id number) (sym e-1))) is-1·Subscriber·5 len-1·Subscriber·5-sessions len-1·Subscriber·5-objects))))))))
+        frees-all (okMove number) (keepStored (sessions) id (storedObject (sessions) (objects) id (implicitOf number 4 parent))) (storedObjects (sessions) (objects) id (implicitOf number 4 parent)) (exits (okMove number) (keepStored (sessions) id (storedObject (sessions) (objects) id (implicitOf number 4 parent))) (storedObjects (sessions) (objects) id (implicitOf number 4 parent)) ((ap (λ (k : ObjectKind). createMove k sessions objects d id number parent body) (sym e-1), ap (λ (k : ObjectKind). createdSessions k sessions objects id number parent) (sym e-1), ap (λ (k : ObjectKind). createdObjects k sessions objects id number parent) (sym e-1))) is-1·Subscriber·5 len-1·Subscriber·5-sessions len-1·Subscriber·5-objects))))))))
 
     matched-1-DataWriter-5 : (e-1 : kind ≡ ObjectKind-DataWriter) → (good-1 : Is (ObjectKind-p .row) ObjectKind-DataWriter (ObjectKind-p .val ObjectKind-DataWriter ∷ [])) → Sq W (‵ (MutSlice (named 0) κ₁ (Array u64 5) .own (at-list b₁ o₁ γ₁ sessions) (sliceVal (b₁, o₁) n₁ ∷ [])) ∷ ‵ (flft κ₁ q₁) ∷ ‵ (MutSlice (named 0) κ₂ Object-t.the-row .own (at-list b₂ o₂ γ₂ objects) (sliceVal (b₂, o₂) n₂ ∷ [])) ∷ ‵ (flft κ₂ q₂) ∷ ‵ (ShrSlice (named 0) κ₃ u8 .own (at-list b₃ o₃ γ₃ d) (sliceVal (b₃, o₃) n₃ ∷ [])) ∷ ‵ (flft κ₃ q₃) ∷ free 𝓤 (sliceTy (tyRef erased imm (pointee (Object-t.the-row .written)))) l₂₉ (free 𝓤 (tyRef erased imm (pointee (Object-t.the-row .written))) l₂₈ (free 𝓤 (sliceTy (tyRef erased imm (pointee ((Array u64 5) .written)))) l₂₇ (free 𝓤 (tyRef erased imm (pointee ((Array u64 5) .written))) l₂₆ (free 𝓤 (sliceTy (tyRef erased imm (pointee (Object-t.the-row .written)))) l₂₅ (free 𝓤 (tyRef erased imm (pointee (Object-t.the-row .written))) l₂₄ (free 𝓤 (sliceTy (tyRef erased imm (pointee ((Array u64 5) .written)))) l₂₃ (free 𝓤 (tyRef erased imm (pointee ((Array u64 5) .written))) l₂₂ (free 𝓤 (sliceTy (tyRef erased mut (pointee (Object-t.the-row .written)))) l₂₁ (free 𝓤 (tyRef erased mut (pointee (Object-t.the-row .written))) l₂₀ (free 𝓤 (sliceTy (tyRef erased mut (pointee ((Array u64 5) .written)))) l₁₉ (free 𝓤 (tyRef erased mut (pointee ((Array u64 5) .written))) l₁₈ (free 𝓤 (sliceTy (tyRef erased mut (pointee (Object-t.the-row .written)))) l₁₇ (free 𝓤 (tyRef erased mut (pointee (Object-t.the-row .written))) l₁₆ (free 𝓤 (sliceTy (tyRef erased mut (pointee ((Array u64 5) .written)))) l₁₅ (free 𝓤 (tyRef erased mut (pointee ((Array u64 5) .written))) l₁₄ (free 𝓤 (sliceTy (tyRef erased imm (pointee (Object-t.the-row .written)))) l₁₃ (free 𝓤 (tyRef erased imm (pointee (Object-t.the-row .written))) l₁₂ (free 𝓤 (sliceTy (tyRef erased imm (pointee ((Array u64 5) .written)))) l₁₁ (free 𝓤 (tyRef erased imm (pointee ((Array u64 5) .written))) l₁₀ (free 𝓤 Move-l.mir l₉ (full 𝓤 Span-l.mir l₈ (Span-p .val body) (full 𝓤 (tyInt w16) l₇ (u16-p .val parent) (full 𝓤 ObjectKind-l.mir l₆ (ObjectKind-p .val ObjectKind-DataWriter) (full 𝓤 ObjectNumber-l.mir l₅ (ObjectNumber-p .val number) (full 𝓤 (tyInt w8) l₄ (u8-p .val id) (full 𝓤 (sliceTy (tyRef (named 2) imm (pointee (u8 .written)))) l₃ (sliceVal (b₃, o₃) n₃) (full 𝓤 (sliceTy (tyRef (named 1) mut (pointee (Object-t.the-row .written)))) l₂ (sliceVal (b₂, o₂) n₂) (full 𝓤 (sliceTy (tyRef (named 0) mut (pointee ((Array u64 5) .written)))) l₁ (sliceVal (b₁, o₁) n₁) (free 𝓤 Move-l.mir l₀ ([]))))))))))))))))))))))))))))))) (runs C Λ En (one mir.t-1) (anyQ (afterSeq 𝓤 H (Wp 𝓤 H C Λ En mir.t-2 (atReturn 𝓤 H En Post)) (atReturn 𝓤 H En Post))))
     matched-1-DataWriter-5 e-1 good-1 =
@@ -350,18 +352,19 @@ module _ {M : Type 1} (𝓤 : URA M) (H : Heap 𝓤) (A : Atoms 𝓤) (W : Given
         lends-view ! tt Object-t.the-row b₂ o₂ objects n₂ (refl) (λ ν-1·DataWriter·5-objects δ-1·DataWriter·5-objects.
         nothing ! $ move ! (1 ∷ 0 ∷ []) $ join ! $ move ! (3 ∷ 0 ∷ []) $ join ! $
         use1 W (raw (toks 𝓤 A 2 (((ν-1·DataWriter·5-sessions ∷ []), ((ν-1·DataWriter·5-objects ∷ []), tt))) ((fullShare, (fullShare, tt))))) (id⊢ 𝓤 _) $ nothing ! $
+        owned ! (u16-p .row) (Is (u16-p .row)) (u16-p .makes 𝓤 H A W) parent (u16-p .val parent ∷ []) parent-is $ fjoin ! $
         owned ! (u8-p .row) (Is (u8-p .row)) (u8-p .makes 𝓤 H A W) 5 (u8-p .val 5 ∷ []) ((refl, lit< tt)) $ fjoin ! $
         owned ! (ObjectNumber-p .row) (Is (ObjectNumber-p .row)) (ObjectNumber-p .makes 𝓤 H A W) number (ObjectNumber-p .val number ∷ []) number-is $ fjoin ! $
         owned ! (u8-p .row) (Is (u8-p .row)) (u8-p .makes 𝓤 H A W) id (u8-p .val id ∷ []) id-is $ fjoin ! $ move ! (2 ∷ 0 ∷ []) $ fjoin ! $ move ! (3 ∷ 0 ∷ []) $ fjoin ! $ move ! (1 ∷ 0 ∷ []) $
-        calls-any-last ! fm 2 [] (objects-create-endpoint.signature .params) (objects-create-endpoint.ended .kept) Move-p (objects-create-endpoint.clauses 𝓤 H A mem run) known-objects-create-endpoint ((ν-1·DataWriter·5-sessions ∷ []), ((ν-1·DataWriter·5-objects ∷ []), tt)) (fullShare, (fullShare, tt)) tt (at-list b₁ o₁ δ-1·DataWriter·5-sessions sessions, (at-list b₂ o₂ δ-1·DataWriter·5-objects objects, (id, (number, (5, tt))))) (sliceVal (b₁, o₁) n₁ ∷ [], (sliceVal (b₂, o₂) n₂ ∷ [], (u8-p .val id ∷ [], (ObjectNumber-p .val number ∷ [], (u8-p .val 5 ∷ [], tt))))) tt (endpointMove number 5 (greatestObject (sessions) (objects) id 1) (greatestObject (sessions) (objects) id 2)) (λ ws-1·DataWriter·5. Unit {0}) (id⊢ 𝓤 _) (λ r ws-1·DataWriter·5. fact-mono 𝓤 (r ≡ endpointMove number 5 (greatestObject (sessions) (objects) id 1) (greatestObject (sessions) (objects) id 2)) ((r ≡ (endpointMove number 5 (greatestObject (sessions) (objects) id 1) (greatestObject (sessions) (objects) id 2))) × (Unit {0})) (λ e. (e, tt))) (λ _. (and-then ! (load ! (from ! (stop !)) (look ! 17 refl)) (and-then ! (load ! (from ! (stop !)) (look ! 13 refl)) (and-then ! (load ! (from ! (stop !)) (look ! 55 refl)) (and-then ! (load ! (from ! (stop !)) (look ! 53 refl)) (and-then ! (lit ! tt) (no-more !))))))) (λ ws-1·DataWriter·5 said-1·DataWriter·5 is-1·DataWriter·5.
+        calls-any-last ! fm 2 [] (objects-create-endpoint.signature .params) (objects-create-endpoint.ended .kept) Move-p (objects-create-endpoint.clauses 𝓤 H A mem run) known-objects-create-endpoint ((ν-1·DataWriter·5-sessions ∷ []), ((ν-1·DataWriter·5-objects ∷ []), tt)) (fullShare, (fullShare, tt)) tt (at-list b₁ o₁ δ-1·DataWriter·5-sessions sessions, (at-list b₂ o₂ δ-1·DataWriter·5-objects objects, (id, (number, (5, (parent, tt)))))) (sliceVal (b₁, o₁) n₁ ∷ [], (sliceVal (b₂, o₂) n₂ ∷ [], (u8-p .val id ∷ [], (ObjectNumber-p .val number ∷ [], (u8-p .val 5 ∷ [], (u16-p .val parent ∷ [], tt)))))) tt (endpointIn (sessions) (objects) id number 5 parent) (λ ws-1·DataWriter·5. Unit {0}) (id⊢ 𝓤 _) (λ r ws-1·DataWriter·5. fact-mono 𝓤 (r ≡ endpointIn (sessions) (objects) id number 5 parent) ((r ≡ (endpointIn (sessions) (objects) id number 5 parent)) × (Unit {0})) (λ e. (e, tt))) (λ _. (and-then ! (load ! (from ! (stop !)) (look ! 17 refl)) (and-then ! (load ! (from ! (stop !)) (look ! 13 refl)) (and-then ! (load ! (from ! (stop !)) (look ! 55 refl)) (and-then ! (load ! (from ! (stop !)) (look ! 53 refl)) (and-then ! (lit ! tt) (and-then ! (load ! (from ! (stop !)) (look ! 49 refl)) (no-more !)))))))) (λ ws-1·DataWriter·5 said-1·DataWriter·5 is-1·DataWriter·5.
         use1 W ((‵ (flft (ν-1·DataWriter·5-sessions ∷ []) fullShare) ⊛ (‵ (flft (ν-1·DataWriter·5-objects ∷ []) fullShare) ⊛ ‵ ftrue))) (id⊢ 𝓤 _) $ split ! $ move ! (1 ∷ []) $ split ! $ move ! (3 ∷ []) $ fsplit ! $ move ! (1 ∷ []) $ fsplit ! $ move ! (5 ∷ 7 ∷ []) $
         backs-view ! tt (Array u64 5) b₁ o₁ sessions n₁ (refl) ν-1·DataWriter·5-sessions $ move ! (5 ∷ 7 ∷ []) $
         backs-view ! tt Object-t.the-row b₂ o₂ objects n₂ (refl) ν-1·DataWriter·5-objects $ move ! (4 ∷ []) $ drop ! $ move ! (4 ∷ []) $ drop ! $ move ! (4 ∷ []) $ drop ! $ move ! (4 ∷ []) $ drop ! $
-        land-last ! (from ! (stop !)) (init ! 46 refl (Move-p .typed 𝓤 H A W (endpointMove number 5 (greatestObject (sessions) (objects) id 1) (greatestObject (sessions) (objects) id 2)) is-1·DataWriter·5)) $
+        land-last ! (from ! (stop !)) (init ! 46 refl (Move-p .typed 𝓤 H A W (endpointIn (sessions) (objects) id number 5 parent) is-1·DataWriter·5)) $
         exec ! C Λ En mir.t-2 (atRet En Post) $
-        assigns ! (of-opd ! (load ! (from ! (stop !)) (look ! 46 refl))) (from ! (stop !)) (init ! 64 refl (Move-p .typed 𝓤 H A W (endpointMove number 5 (greatestObject (sessions) (objects) id 1) (greatestObject (sessions) (objects) id 2)) is-1·DataWriter·5)) $
+        assigns ! (of-opd ! (load ! (from ! (stop !)) (look ! 46 refl))) (from ! (stop !)) (init ! 64 refl (Move-p .typed 𝓤 H A W (endpointIn (sessions) (objects) id number 5 parent) is-1·DataWriter·5)) $
         returns ! (look ! 64 refl) $ forget ! 14 refl $ forget ! 16 refl $ forget ! 18 refl $ forget ! 20 refl $ forget ! 46 refl $ forget ! 52 refl $ move ! (2 ∷ 3 ∷ 0 ∷ 1 ∷ 4 ∷ 5 ∷ 6 ∷ 7 ∷ 8 ∷ 9 ∷ 10 ∷ 11 ∷ 12 ∷ 13 ∷ 14 ∷ 15 ∷ 16 ∷ 17 ∷ 18 ∷ 19 ∷ 20 ∷ 21 ∷ 22 ∷ 23 ∷ 24 ∷ 25 ∷ 26 ∷ 27 ∷ 28 ∷ 29 ∷ 30 ∷ 31 ∷ 32 ∷ 33 ∷ 34 ∷ 35 ∷ 36 ∷ 37 ∷ 38 ∷ 39 ∷ 40 ∷ 41 ∷ 42 ∷ 43 ∷ 44 ∷ 45 ∷ 46 ∷ 47 ∷ 48 ∷ 49 ∷ 50 ∷ 51 ∷ 52 ∷ 53 ∷ 54 ∷ 55 ∷ 56 ∷ 57 ∷ 58 ∷ 59 ∷ 60 ∷ 61 ∷ 62 ∷ 63 ∷ 64 ∷ 65 ∷ []) $
-        frees-all (endpointMove number 5 (greatestObject (sessions) (objects) id 1) (greatestObject (sessions) (objects) id 2)) sessions objects (exits (endpointMove number 5 (greatestObject (sessions) (objects) id 1) (greatestObject (sessions) (objects) id 2)) sessions objects ((ap (λ (k : ObjectKind). createMove k sessions objects d id number parent body) (sym e-1), ap (λ (k : ObjectKind). createdSessions k sessions objects id number) (sym e-1), ap (λ (k : ObjectKind). createdObjects k sessions objects id number) (sym e-1))) is-1·DataWriter·5 refl refl))))
+        frees-all (endpointIn (sessions) (objects) id number 5 parent) sessions objects (exits (endpointIn (sessions) (objects) id number 5 parent) sessions objects ((ap (λ (k : ObjectKind). createMove k sessions objects d id number parent body) (sym e-1), ap (λ (k : ObjectKind). createdSessions k sessions objects id number parent) (sym e-1), ap (λ (k : ObjectKind). createdObjects k sessions objects id number parent) (sym e-1))) is-1·DataWriter·5 refl refl))))
 
     matched-1-DataReader-6 : (e-1 : kind ≡ ObjectKind-DataReader) → (good-1 : Is (ObjectKind-p .row) ObjectKind-DataReader (ObjectKind-p .val ObjectKind-DataReader ∷ [])) → Sq W (‵ (MutSlice (named 0) κ₁ (Array u64 5) .own (at-list b₁ o₁ γ₁ sessions) (sliceVal (b₁, o₁) n₁ ∷ [])) ∷ ‵ (flft κ₁ q₁) ∷ ‵ (MutSlice (named 0) κ₂ Object-t.the-row .own (at-list b₂ o₂ γ₂ objects) (sliceVal (b₂, o₂) n₂ ∷ [])) ∷ ‵ (flft κ₂ q₂) ∷ ‵ (ShrSlice (named 0) κ₃ u8 .own (at-list b₃ o₃ γ₃ d) (sliceVal (b₃, o₃) n₃ ∷ [])) ∷ ‵ (flft κ₃ q₃) ∷ free 𝓤 (sliceTy (tyRef erased imm (pointee (Object-t.the-row .written)))) l₂₉ (free 𝓤 (tyRef erased imm (pointee (Object-t.the-row .written))) l₂₈ (free 𝓤 (sliceTy (tyRef erased imm (pointee ((Array u64 5) .written)))) l₂₇ (free 𝓤 (tyRef erased imm (pointee ((Array u64 5) .written))) l₂₆ (free 𝓤 (sliceTy (tyRef erased imm (pointee (Object-t.the-row .written)))) l₂₅ (free 𝓤 (tyRef erased imm (pointee (Object-t.the-row .written))) l₂₄ (free 𝓤 (sliceTy (tyRef erased imm (pointee ((Array u64 5) .written)))) l₂₃ (free 𝓤 (tyRef erased imm (pointee ((Array u64 5) .written))) l₂₂ (free 𝓤 (sliceTy (tyRef erased mut (pointee (Object-t.the-row .written)))) l₂₁ (free 𝓤 (tyRef erased mut (pointee (Object-t.the-row .written))) l₂₀ (free 𝓤 (sliceTy (tyRef erased mut (pointee ((Array u64 5) .written)))) l₁₉ (free 𝓤 (tyRef erased mut (pointee ((Array u64 5) .written))) l₁₈ (free 𝓤 (sliceTy (tyRef erased mut (pointee (Object-t.the-row .written)))) l₁₇ (free 𝓤 (tyRef erased mut (pointee (Object-t.the-row .written))) l₁₆ (free 𝓤 (sliceTy (tyRef erased mut (pointee ((Array u64 5) .written)))) l₁₅ (free 𝓤 (tyRef erased mut (pointee ((Array u64 5) .written))) l₁₄ (free 𝓤 (sliceTy (tyRef erased imm (pointee (Object-t.the-row .written)))) l₁₃ (free 𝓤 (tyRef erased imm (pointee (Object-t.the-row .written))) l₁₂ (free 𝓤 (sliceTy (tyRef erased imm (pointee ((Array u64 5) .written)))) l₁₁ (free 𝓤 (tyRef erased imm (pointee ((Array u64 5) .written))) l₁₀ (free 𝓤 Move-l.mir l₉ (full 𝓤 Span-l.mir l₈ (Span-p .val body) (full 𝓤 (tyInt w16) l₇ (u16-p .val parent) (full 𝓤 ObjectKind-l.mir l₆ (ObjectKind-p .val ObjectKind-DataReader) (full 𝓤 ObjectNumber-l.mir l₅ (ObjectNumber-p .val number) (full 𝓤 (tyInt w8) l₄ (u8-p .val id) (full 𝓤 (sliceTy (tyRef (named 2) imm (pointee (u8 .written)))) l₃ (sliceVal (b₃, o₃) n₃) (full 𝓤 (sliceTy (tyRef (named 1) mut (pointee (Object-t.the-row .written)))) l₂ (sliceVal (b₂, o₂) n₂) (full 𝓤 (sliceTy (tyRef (named 0) mut (pointee ((Array u64 5) .written)))) l₁ (sliceVal (b₁, o₁) n₁) (free 𝓤 Move-l.mir l₀ ([]))))))))))))))))))))))))))))))) (runs C Λ En (one mir.t-1) (anyQ (afterSeq 𝓤 H (Wp 𝓤 H C Λ En mir.t-2 (atReturn 𝓤 H En Post)) (atReturn 𝓤 H En Post))))
     matched-1-DataReader-6 e-1 good-1 =
@@ -376,18 +379,19 @@ module _ {M : Type 1} (𝓤 : URA M) (H : Heap 𝓤) (A : Atoms 𝓤) (W : Given
         lends-view ! tt Object-t.the-row b₂ o₂ objects n₂ (refl) (λ ν-1·DataReader·5-objects δ-1·DataReader·5-objects.
         nothing ! $ move ! (1 ∷ 0 ∷ []) $ join ! $ move ! (3 ∷ 0 ∷ []) $ join ! $
         use1 W (raw (toks 𝓤 A 2 (((ν-1·DataReader·5-sessions ∷ []), ((ν-1·DataReader·5-objects ∷ []), tt))) ((fullShare, (fullShare, tt))))) (id⊢ 𝓤 _) $ nothing ! $
+        owned ! (u16-p .row) (Is (u16-p .row)) (u16-p .makes 𝓤 H A W) parent (u16-p .val parent ∷ []) parent-is $ fjoin ! $
         owned ! (u8-p .row) (Is (u8-p .row)) (u8-p .makes 𝓤 H A W) 6 (u8-p .val 6 ∷ []) ((refl, lit< tt)) $ fjoin ! $
         owned ! (ObjectNumber-p .row) (Is (ObjectNumber-p .row)) (ObjectNumber-p .makes 𝓤 H A W) number (ObjectNumber-p .val number ∷ []) number-is $ fjoin ! $
         owned ! (u8-p .row) (Is (u8-p .row)) (u8-p .makes 𝓤 H A W) id (u8-p .val id ∷ []) id-is $ fjoin ! $ move ! (2 ∷ 0 ∷ []) $ fjoin ! $ move ! (3 ∷ 0 ∷ []) $ fjoin ! $ move ! (1 ∷ 0 ∷ []) $
-        calls-any-last ! fm 2 [] (objects-create-endpoint.signature .params) (objects-create-endpoint.ended .kept) Move-p (objects-create-endpoint.clauses 𝓤 H A mem run) known-objects-create-endpoint ((ν-1·DataReader·5-sessions ∷ []), ((ν-1·DataReader·5-objects ∷ []), tt)) (fullShare, (fullShare, tt)) tt (at-list b₁ o₁ δ-1·DataReader·5-sessions sessions, (at-list b₂ o₂ δ-1·DataReader·5-objects objects, (id, (number, (6, tt))))) (sliceVal (b₁, o₁) n₁ ∷ [], (sliceVal (b₂, o₂) n₂ ∷ [], (u8-p .val id ∷ [], (ObjectNumber-p .val number ∷ [], (u8-p .val 6 ∷ [], tt))))) tt (endpointMove number 6 (greatestObject (sessions) (objects) id 1) (greatestObject (sessions) (objects) id 2)) (λ ws-1·DataReader·5. Unit {0}) (id⊢ 𝓤 _) (λ r ws-1·DataReader·5. fact-mono 𝓤 (r ≡ endpointMove number 6 (greatestObject (sessions) (objects) id 1) (greatestObject (sessions) (objects) id 2)) ((r ≡ (endpointMove number 6 (greatestObject (sessions) (objects) id 1) (greatestObject (sessions) (objects) id 2))) × (Unit {0})) (λ e. (e, tt))) (λ _. (and-then ! (load ! (from ! (stop !)) (look ! 9 refl)) (and-then ! (load ! (from ! (stop !)) (look ! 5 refl)) (and-then ! (load ! (from ! (stop !)) (look ! 55 refl)) (and-then ! (load ! (from ! (stop !)) (look ! 53 refl)) (and-then ! (lit ! tt) (no-more !))))))) (λ ws-1·DataReader·5 said-1·DataReader·5 is-1·DataReader·5.
+        calls-any-last ! fm 2 [] (objects-create-endpoint.signature .params) (objects-create-endpoint.ended .kept) Move-p (objects-create-endpoint.clauses 𝓤 H A mem run) known-objects-create-endpoint ((ν-1·DataReader·5-sessions ∷ []), ((ν-1·DataReader·5-objects ∷ []), tt)) (fullShare, (fullShare, tt)) tt (at-list b₁ o₁ δ-1·DataReader·5-sessions sessions, (at-list b₂ o₂ δ-1·DataReader·5-objects objects, (id, (number, (6, (parent, tt)))))) (sliceVal (b₁, o₁) n₁ ∷ [], (sliceVal (b₂, o₂) n₂ ∷ [], (u8-p .val id ∷ [], (ObjectNumber-p .val number ∷ [], (u8-p .val 6 ∷ [], (u16-p .val parent ∷ [], tt)))))) tt (endpointIn (sessions) (objects) id number 6 parent) (λ ws-1·DataReader·5. Unit {0}) (id⊢ 𝓤 _) (λ r ws-1·DataReader·5. fact-mono 𝓤 (r ≡ endpointIn (sessions) (objects) id number 6 parent) ((r ≡ (endpointIn (sessions) (objects) id number 6 parent)) × (Unit {0})) (λ e. (e, tt))) (λ _. (and-then ! (load ! (from ! (stop !)) (look ! 9 refl)) (and-then ! (load ! (from ! (stop !)) (look ! 5 refl)) (and-then ! (load ! (from ! (stop !)) (look ! 55 refl)) (and-then ! (load ! (from ! (stop !)) (look ! 53 refl)) (and-then ! (lit ! tt) (and-then ! (load ! (from ! (stop !)) (look ! 49 refl)) (no-more !)))))))) (λ ws-1·DataReader·5 said-1·DataReader·5 is-1·DataReader·5.
         use1 W ((‵ (flft (ν-1·DataReader·5-sessions ∷ []) fullShare) ⊛ (‵ (flft (ν-1·DataReader·5-objects ∷ []) fullShare) ⊛ ‵ ftrue))) (id⊢ 𝓤 _) $ split ! $ move ! (1 ∷ []) $ split ! $ move ! (3 ∷ []) $ fsplit ! $ move ! (1 ∷ []) $ fsplit ! $ move ! (5 ∷ 7 ∷ []) $
         backs-view ! tt (Array u64 5) b₁ o₁ sessions n₁ (refl) ν-1·DataReader·5-sessions $ move ! (5 ∷ 7 ∷ []) $
         backs-view ! tt Object-t.the-row b₂ o₂ objects n₂ (refl) ν-1·DataReader·5-objects $ move ! (4 ∷ []) $ drop ! $ move ! (4 ∷ []) $ drop ! $ move ! (4 ∷ []) $ drop ! $ move ! (4 ∷ []) $ drop ! $
-        land-last ! (from ! (stop !)) (init ! 46 refl (Move-p .typed 𝓤 H A W (endpointMove number 6 (greatestObject (sessions) (objects) id 1) (greatestObject (sessions) (objects) id 2)) is-1·DataReader·5)) $
+        land-last ! (from ! (stop !)) (init ! 46 refl (Move-p .typed 𝓤 H A W (endpointIn (sessions) (objects) id number 6 parent) is-1·DataReader·5)) $
         exec ! C Λ En mir.t-2 (atRet En Post) $
-        assigns ! (of-opd ! (load ! (from ! (stop !)) (look ! 46 refl))) (from ! (stop !)) (init ! 64 refl (Move-p .typed 𝓤 H A W (endpointMove number 6 (greatestObject (sessions) (objects) id 1) (greatestObject (sessions) (objects) id 2)) is-1·DataReader·5)) $
+        assigns ! (of-opd ! (load ! (from ! (stop !)) (look ! 46 refl))) (from ! (stop !)) (init ! 64 refl (Move-p .typed 𝓤 H A W (endpointIn (sessions) (objects) id number 6 parent) is-1·DataReader·5)) $
         returns ! (look ! 64 refl) $ forget ! 6 refl $ forget ! 8 refl $ forget ! 10 refl $ forget ! 12 refl $ forget ! 46 refl $ forget ! 52 refl $ move ! (2 ∷ 3 ∷ 0 ∷ 1 ∷ 4 ∷ 5 ∷ 6 ∷ 7 ∷ 8 ∷ 9 ∷ 10 ∷ 11 ∷ 12 ∷ 13 ∷ 14 ∷ 15 ∷ 16 ∷ 17 ∷ 18 ∷ 19 ∷ 20 ∷ 21 ∷ 22 ∷ 23 ∷ 24 ∷ 25 ∷ 26 ∷ 27 ∷ 28 ∷ 29 ∷ 30 ∷ 31 ∷ 32 ∷ 33 ∷ 34 ∷ 35 ∷ 36 ∷ 37 ∷ 38 ∷ 39 ∷ 40 ∷ 41 ∷ 42 ∷ 43 ∷ 44 ∷ 45 ∷ 46 ∷ 47 ∷ 48 ∷ 49 ∷ 50 ∷ 51 ∷ 52 ∷ 53 ∷ 54 ∷ 55 ∷ 56 ∷ 57 ∷ 58 ∷ 59 ∷ 60 ∷ 61 ∷ 62 ∷ 63 ∷ 64 ∷ 65 ∷ []) $
-        frees-all (endpointMove number 6 (greatestObject (sessions) (objects) id 1) (greatestObject (sessions) (objects) id 2)) sessions objects (exits (endpointMove number 6 (greatestObject (sessions) (objects) id 1) (greatestObject (sessions) (objects) id 2)) sessions objects ((ap (λ (k : ObjectKind). createMove k sessions objects d id number parent body) (sym e-1), ap (λ (k : ObjectKind). createdSessions k sessions objects id number) (sym e-1), ap (λ (k : ObjectKind). createdObjects k sessions objects id number) (sym e-1))) is-1·DataReader·5 refl refl))))
+        frees-all (endpointIn (sessions) (objects) id number 6 parent) sessions objects (exits (endpointIn (sessions) (objects) id number 6 parent) sessions objects ((ap (λ (k : ObjectKind). createMove k sessions objects d id number parent body) (sym e-1), ap (λ (k : ObjectKind). createdSessions k sessions objects id number parent) (sym e-1), ap (λ (k : ObjectKind). createdObjects k sessions objects id number parent) (sym e-1))) is-1·DataReader·5 refl refl))))
 
     matched-1-0 : (z : ObjectKind) → kind ≡ z → Is (ObjectKind-p .row) z (ObjectKind-p .val z ∷ []) → Sq W (‵ (MutSlice (named 0) κ₁ (Array u64 5) .own (at-list b₁ o₁ γ₁ sessions) (sliceVal (b₁, o₁) n₁ ∷ [])) ∷ ‵ (flft κ₁ q₁) ∷ ‵ (MutSlice (named 0) κ₂ Object-t.the-row .own (at-list b₂ o₂ γ₂ objects) (sliceVal (b₂, o₂) n₂ ∷ [])) ∷ ‵ (flft κ₂ q₂) ∷ ‵ (ShrSlice (named 0) κ₃ u8 .own (at-list b₃ o₃ γ₃ d) (sliceVal (b₃, o₃) n₃ ∷ [])) ∷ ‵ (flft κ₃ q₃) ∷ free 𝓤 (sliceTy (tyRef erased imm (pointee (Object-t.the-row .written)))) l₂₉ (free 𝓤 (tyRef erased imm (pointee (Object-t.the-row .written))) l₂₈ (free 𝓤 (sliceTy (tyRef erased imm (pointee ((Array u64 5) .written)))) l₂₇ (free 𝓤 (tyRef erased imm (pointee ((Array u64 5) .written))) l₂₆ (free 𝓤 (sliceTy (tyRef erased imm (pointee (Object-t.the-row .written)))) l₂₅ (free 𝓤 (tyRef erased imm (pointee (Object-t.the-row .written))) l₂₄ (free 𝓤 (sliceTy (tyRef erased imm (pointee ((Array u64 5) .written)))) l₂₃ (free 𝓤 (tyRef erased imm (pointee ((Array u64 5) .written))) l₂₂ (free 𝓤 (sliceTy (tyRef erased mut (pointee (Object-t.the-row .written)))) l₂₁ (free 𝓤 (tyRef erased mut (pointee (Object-t.the-row .written))) l₂₀ (free 𝓤 (sliceTy (tyRef erased mut (pointee ((Array u64 5) .written)))) l₁₉ (free 𝓤 (tyRef erased mut (pointee ((Array u64 5) .written))) l₁₈ (free 𝓤 (sliceTy (tyRef erased mut (pointee (Object-t.the-row .written)))) l₁₇ (free 𝓤 (tyRef erased mut (pointee (Object-t.the-row .written))) l₁₆ (free 𝓤 (sliceTy (tyRef erased mut (pointee ((Array u64 5) .written)))) l₁₅ (free 𝓤 (tyRef erased mut (pointee ((Array u64 5) .written))) l₁₄ (free 𝓤 (sliceTy (tyRef erased imm (pointee (Object-t.the-row .written)))) l₁₃ (free 𝓤 (tyRef erased imm (pointee (Object-t.the-row .written))) l₁₂ (free 𝓤 (sliceTy (tyRef erased imm (pointee ((Array u64 5) .written)))) l₁₁ (free 𝓤 (tyRef erased imm (pointee ((Array u64 5) .written))) l₁₀ (free 𝓤 Move-l.mir l₉ (full 𝓤 Span-l.mir l₈ (Span-p .val body) (full 𝓤 (tyInt w16) l₇ (u16-p .val parent) (full 𝓤 ObjectKind-l.mir l₆ (ObjectKind-p .val z) (full 𝓤 ObjectNumber-l.mir l₅ (ObjectNumber-p .val number) (full 𝓤 (tyInt w8) l₄ (u8-p .val id) (full 𝓤 (sliceTy (tyRef (named 2) imm (pointee (u8 .written)))) l₃ (sliceVal (b₃, o₃) n₃) (full 𝓤 (sliceTy (tyRef (named 1) mut (pointee (Object-t.the-row .written)))) l₂ (sliceVal (b₂, o₂) n₂) (full 𝓤 (sliceTy (tyRef (named 0) mut (pointee ((Array u64 5) .written)))) l₁ (sliceVal (b₁, o₁) n₁) (free 𝓤 Move-l.mir l₀ ([]))))))))))))))))))))))))))))))) (runs C Λ En (one mir.t-1) (anyQ (afterSeq 𝓤 H (Wp 𝓤 H C Λ En mir.t-2 (atReturn 𝓤 H En Post)) (atReturn 𝓤 H En Post))))
     matched-1-0 (ObjectKind-Participant) e-1 good-1 =

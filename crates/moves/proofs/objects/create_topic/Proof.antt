@@ -53,16 +53,16 @@ use borrow.Rule.Slice.PartMut.{midOf, putMid}
 use Rattle.walk.proofs.Parts.{part-len, lends-part, backs-part, parts-shr}
 use Rattle.walk.proofs.Arrays.{rep-is, lends-array, backs-array}
 use Rattle.sessions.specs.Objects.{implicitOf}
-use Rattle.sessions.specs.SessionObjects.{foundObject, greatestObject, storedObject, storedObjects, keepStored, removedObjects, keepRemoved}
+use Rattle.sessions.specs.SessionObjects.{foundObject, storedObject, storedObjects, keepStored, removedObjects, keepRemoved}
 use Rattle.sessions.specs.Room.{roomOf}
-use Rattle.moves.specs.Moves.{writeMove, readMove, deleteMove, topicMove, endpointMove}
+use Rattle.moves.specs.Moves.{writeMove, readMove, deleteMove, topicMove}
 use Rattle.moves.specs.Names.{namesIn}
-use Rattle.moves.specs.Rows.{okMove, createMove, createdSessions, createdObjects, isFree, noRoomMove, roomMove, roomSessions, roomObjects}
+use Rattle.moves.specs.Rows.{okMove, endpointIn, createMove, createdSessions, createdObjects, isFree, noRoomMove, roomMove, roomSessions, roomObjects}
 use Rattle.sessions.specs.SessionObjects.{objectsNamed, usedOf, firstObject, countedSession, keepUsed}
 use Rattle.codec.specs.Reading.{partOf}
 use Rattle.codec.specs.Strings.{stringAt}
 use Rattle.moves.specs.Names.{noNames, placedIn, typeAfter}
-use Rattle.moves.specs.Moves.{foundHandle, participantMove, endpointCall, endpointBy, droppedMove, heartbeatMove}
+use Rattle.moves.specs.Moves.{foundHandle, handleOfKind, parentOf, participantMove, endpointCall, endpointBy, endpointMove, droppedMove, heartbeatMove}
 use Rattle.sessions.specs.declared.objects.Object.{Object}
 use Rattle.sessions.proofs.objects.Object as Object-t
 use Rattle.sessions.proofs.objects.Object.Laws as Object-l
@@ -123,8 +123,8 @@ use Rattle.moves.proofs.objects.create_topic.Statement as stated
 use Rattle.moves.proofs.objects.create_topic.Code as code
 use Rattle.moves.proofs.objects.create_topic.Code.Mir as mir
 
-abbrev Object-of : ObjectNumber → ℕ → ℕ → ℕ → Object
-Object-of x0 x1 x2 x3 = record { number = x0; kind = x1; bridged = x2; handle = x3 }
+abbrev Object-of : ObjectNumber → ℕ → ℕ → ℕ → ℕ → Object
+Object-of x0 x1 x2 x3 x4 = record { number = x0; kind = x1; bridged = x2; handle = x3; parent = x4 }
 
 abbrev Object-p : Plain
 Object-p = record { row = Object-t.the-row; val = LL.val Object-t.the-type Object-l.the-laws; tells = LL.tells Object-t.the-type Object-l.the-laws; makes = λ 𝓤 H A W. LL.makes Object-t.the-type Object-l.the-plain 𝓤 H A; ty = Object-l.mir; typed = λ 𝓤 H A W x is. LL.lawful Object-t.the-type Object-l.the-laws 𝓤 H A W .typed x _ is .0; copies = λ 𝓤 H A W. LL.copy Object-t.the-type Object-l.the-copy 𝓤 H A W }
@@ -210,7 +210,7 @@ module _ {M : Type 1} (𝓤 : URA M) (H : Heap 𝓤) (A : Atoms 𝓤) (W : Given
   abbrev Post : Val → SProp 𝓤
   Post = walkOf 𝓤 H A f.ended stayed (f.clauses 𝓤 H A mem run) .post (((κ₁, (κ₂, (κ₃, tt))), (q₁, (q₂, (q₃, tt))), tt, x, at), tt)
 
-  exits : (r : Move) → (r ≡ topicMove number (namesIn (d) body) (foundObject (sessions) (objects) id (record { 0 = parent }))) → Is (Move-p .row) r (Move-p .val r ∷ []) → ent 𝓤 (⋆ 𝓤 H A (‵ (ShrSlice (named 0) κ₁ (Array u64 5) .own (at-list b₁ o₁ γ₁ sessions) (sliceVal (b₁, o₁) n₁ ∷ [])) ∷ ‵ (flft κ₁ q₁) ∷ ‵ (ShrSlice (named 1) κ₂ Object-t.the-row .own (at-list b₂ o₂ γ₂ objects) (sliceVal (b₂, o₂) n₂ ∷ [])) ∷ ‵ (flft κ₂ q₂) ∷ ‵ (ShrSlice (named 2) κ₃ u8 .own (at-list b₃ o₃ γ₃ d) (sliceVal (b₃, o₃) n₃ ∷ [])) ∷ ‵ (flft κ₃ q₃) ∷ [])) (Post (Move-p .val r))
+  exits : (r : Move) → (r ≡ topicMove number parent (namesIn (d) body) (foundObject (sessions) (objects) id (record { 0 = parent }))) → Is (Move-p .row) r (Move-p .val r ∷ []) → ent 𝓤 (⋆ 𝓤 H A (‵ (ShrSlice (named 0) κ₁ (Array u64 5) .own (at-list b₁ o₁ γ₁ sessions) (sliceVal (b₁, o₁) n₁ ∷ [])) ∷ ‵ (flft κ₁ q₁) ∷ ‵ (ShrSlice (named 1) κ₂ Object-t.the-row .own (at-list b₂ o₂ γ₂ objects) (sliceVal (b₂, o₂) n₂ ∷ [])) ∷ ‵ (flft κ₂ q₂) ∷ ‵ (ShrSlice (named 2) κ₃ u8 .own (at-list b₃ o₃ γ₃ d) (sliceVal (b₃, o₃) n₃ ∷ [])) ∷ ‵ (flft κ₃ q₃) ∷ [])) (Post (Move-p .val r))
   exits r said r-is =
       qed W (‵ (ShrSlice (named 0) κ₁ (Array u64 5) .own (at-list b₁ o₁ γ₁ sessions) (sliceVal (b₁, o₁) n₁ ∷ [])) ∷ ‵ (flft κ₁ q₁) ∷ ‵ (ShrSlice (named 1) κ₂ Object-t.the-row .own (at-list b₂ o₂ γ₂ objects) (sliceVal (b₂, o₂) n₂ ∷ [])) ∷ ‵ (flft κ₂ q₂) ∷ ‵ (ShrSlice (named 2) κ₃ u8 .own (at-list b₃ o₃ γ₃ d) (sliceVal (b₃, o₃) n₃ ∷ [])) ∷ ‵ (flft κ₃ q₃) ∷ []) ∵
       suffices ! _ (ends-at 𝓤 H A f.ended stayed (f.clauses 𝓤 H A mem run) W (((κ₁, (κ₂, (κ₃, tt))), (q₁, (q₂, (q₃, tt))), tt, x, at), tt) (Move-p .val r) r (tt, (tt, (tt, (tt, (tt, (tt, (tt, tt))))))) (tt, (tt, (tt, (tt, (tt, (tt, (tt, tt)))))))) $ says ! said $ nothing ! $ move ! (6 ∷ 0 ∷ []) $ join ! $ move ! (4 ∷ 0 ∷ []) $ join ! $ move ! (2 ∷ 0 ∷ []) $ join ! $
@@ -260,12 +260,13 @@ module _ {M : Type 1} (𝓤 : URA M) (H : Heap 𝓤) (A : Atoms 𝓤) (W : Given
         use1 W (raw (toks 𝓤 A 0 (tt) (tt))) (id⊢ 𝓤 _) $ nothing ! $
         owned ! (Found-p .row) (Is (Found-p .row)) (Found-p .makes 𝓤 H A W) (foundObject (sessions) (objects) id (ObjectNumber-of parent)) (Found-p .val (foundObject (sessions) (objects) id (ObjectNumber-of parent)) ∷ []) is-2 $ fjoin ! $
         owned ! (Names-p .row) (Is (Names-p .row)) (Names-p .makes 𝓤 H A W) (namesIn (d) body) (Names-p .val (namesIn (d) body) ∷ []) is-3 $ fjoin ! $
+        owned ! (u16-p .row) (Is (u16-p .row)) (u16-p .makes 𝓤 H A W) parent (u16-p .val parent ∷ []) parent-is $ fjoin ! $
         owned ! (ObjectNumber-p .row) (Is (ObjectNumber-p .row)) (ObjectNumber-p .makes 𝓤 H A W) number (ObjectNumber-p .val number ∷ []) number-is $ fjoin ! $ move ! (1 ∷ 0 ∷ []) $
-        calls-any ! fm 0 [] (moves-topic-move.signature .params) (moves-topic-move.ended .kept) Move-p (moves-topic-move.clauses 𝓤 H A mem run) known-moves-topic-move tt tt tt (number, (namesIn (d) body, (foundObject (sessions) (objects) id (ObjectNumber-of parent), tt))) (ObjectNumber-p .val number ∷ [], (Names-p .val (namesIn (d) body) ∷ [], (Found-p .val (foundObject (sessions) (objects) id (ObjectNumber-of parent)) ∷ [], tt))) tt (topicMove number (namesIn (d) body) (foundObject (sessions) (objects) id (ObjectNumber-of parent))) (λ ws-4. Unit {0}) (id⊢ 𝓤 _) (λ r ws-4. fact-mono 𝓤 (r ≡ topicMove number (namesIn (d) body) (foundObject (sessions) (objects) id (ObjectNumber-of parent))) ((r ≡ (topicMove number (namesIn (d) body) (foundObject (sessions) (objects) id (ObjectNumber-of parent)))) × (Unit {0})) (λ e. (e, tt))) (λ _. (and-then ! (load ! (from ! (stop !)) (look ! 17 refl)) (and-then ! (load ! (from ! (stop !)) (look ! 7 refl)) (and-then ! (load ! (from ! (stop !)) (look ! 9 refl)) (no-more !))))) (λ ws-4 said-4 is-4.
+        calls-any ! fm 0 [] (moves-topic-move.signature .params) (moves-topic-move.ended .kept) Move-p (moves-topic-move.clauses 𝓤 H A mem run) known-moves-topic-move tt tt tt (number, (parent, (namesIn (d) body, (foundObject (sessions) (objects) id (ObjectNumber-of parent), tt)))) (ObjectNumber-p .val number ∷ [], (u16-p .val parent ∷ [], (Names-p .val (namesIn (d) body) ∷ [], (Found-p .val (foundObject (sessions) (objects) id (ObjectNumber-of parent)) ∷ [], tt)))) tt (topicMove number parent (namesIn (d) body) (foundObject (sessions) (objects) id (ObjectNumber-of parent))) (λ ws-4. Unit {0}) (id⊢ 𝓤 _) (λ r ws-4. fact-mono 𝓤 (r ≡ topicMove number parent (namesIn (d) body) (foundObject (sessions) (objects) id (ObjectNumber-of parent))) ((r ≡ (topicMove number parent (namesIn (d) body) (foundObject (sessions) (objects) id (ObjectNumber-of parent)))) × (Unit {0})) (λ e. (e, tt))) (λ _. (and-then ! (load ! (from ! (stop !)) (look ! 17 refl)) (and-then ! (load ! (from ! (stop !)) (look ! 15 refl)) (and-then ! (load ! (from ! (stop !)) (look ! 7 refl)) (and-then ! (load ! (from ! (stop !)) (look ! 9 refl)) (no-more !)))))) (λ ws-4 said-4 is-4.
         drop ! $ drop ! $
-        land ! (from ! (stop !)) (init ! 26 refl (Move-p .typed 𝓤 H A W (topicMove number (namesIn (d) body) (foundObject (sessions) (objects) id (ObjectNumber-of parent))) is-4)) $
+        land ! (from ! (stop !)) (init ! 26 refl (Move-p .typed 𝓤 H A W (topicMove number parent (namesIn (d) body) (foundObject (sessions) (objects) id (ObjectNumber-of parent))) is-4)) $
         returns ! (look ! 26 refl) $ forget ! 6 refl $ forget ! 8 refl $ forget ! 10 refl $ forget ! 12 refl $ forget ! 14 refl $ forget ! 16 refl $ forget ! 18 refl $ forget ! 20 refl $ forget ! 22 refl $ forget ! 24 refl $ forget ! 26 refl $ move ! (26 ∷ 27 ∷ []) $ free1 ! $ move ! (24 ∷ 25 ∷ []) $ free1 ! $ move ! (22 ∷ 23 ∷ []) $ free1 ! $ move ! (20 ∷ 21 ∷ []) $ free1 ! $ move ! (18 ∷ 19 ∷ []) $ free1 ! $ move ! (16 ∷ 17 ∷ []) $ free1 ! $ move ! (14 ∷ 15 ∷ []) $ free1 ! $ move ! (12 ∷ 13 ∷ []) $ free1 ! $ move ! (10 ∷ 11 ∷ []) $ free1 ! $ move ! (8 ∷ 9 ∷ []) $ free1 ! $ move ! (6 ∷ 7 ∷ []) $ free1 ! $ free0 ! $ move ! (5 ∷ 3 ∷ 4 ∷ 2 ∷ 1 ∷ 0 ∷ []) $
-        by ! (exits (topicMove number (namesIn (d) body) (foundObject (sessions) (objects) id (ObjectNumber-of parent))) (refl) is-4))))
+        by ! (exits (topicMove number parent (namesIn (d) body) (foundObject (sessions) (objects) id (ObjectNumber-of parent))) (refl) is-4))))
 
   module _ (𝓣 : Tables 𝓤 H) (known-session-objects-find-object : Triple 𝓤 (𝓣 .C #session-objects-find-object) (Of-session-objects-find-object 𝓤 H A mem run)) (known-names-names-in : Triple 𝓤 (𝓣 .C #names-names-in) (Of-names-names-in 𝓤 H A mem run)) (known-moves-topic-move : Triple 𝓤 (𝓣 .C #moves-topic-move) (Of-moves-topic-move 𝓤 H A mem run)) where
     walk : ent 𝓤 (onEntry 𝓤 H A f.signature (κ₁, (κ₂, (κ₃, tt))) (q₁, (q₂, (q₃, tt))) x at) (WpFn 𝓤 H (𝓣 .C) (𝓣 .Λ) code.function (sliceVal (b₁, o₁) n₁ ∷ sliceVal (b₂, o₂) n₂ ∷ sliceVal (b₃, o₃) n₃ ∷ u8-p .val id ∷ ObjectNumber-p .val number ∷ u16-p .val parent ∷ Span-p .val body ∷ []) Post)

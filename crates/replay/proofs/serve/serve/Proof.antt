@@ -111,8 +111,8 @@ use Rattle.replay.proofs.serve.serve.Statement as stated
 use Rattle.replay.proofs.serve.serve.Code as code
 use Rattle.replay.proofs.serve.serve.Code.Mir as mir
 
-abbrev Object-of : ObjectNumber → ℕ → ℕ → ℕ → Object
-Object-of x0 x1 x2 x3 = record { number = x0; kind = x1; bridged = x2; handle = x3 }
+abbrev Object-of : ObjectNumber → ℕ → ℕ → ℕ → ℕ → Object
+Object-of x0 x1 x2 x3 x4 = record { number = x0; kind = x1; bridged = x2; handle = x3; parent = x4 }
 
 abbrev Object-p : Plain
 Object-p = record { row = Object-t.the-row; val = LL.val Object-t.the-type Object-l.the-laws; tells = LL.tells Object-t.the-type Object-l.the-laws; makes = λ 𝓤 H A W. LL.makes Object-t.the-type Object-l.the-plain 𝓤 H A; ty = Object-l.mir; typed = λ 𝓤 H A W x is. LL.lawful Object-t.the-type Object-l.the-laws 𝓤 H A W .typed x _ is .0; copies = λ 𝓤 H A W. LL.copy Object-t.the-type Object-l.the-copy 𝓤 H A W }
@@ -160,7 +160,7 @@ abbrev Reading-p : Plain
 Reading-p = record { row = Reading-t.the-row; val = LL.val Reading-t.the-type Reading-l.the-laws; tells = LL.tells Reading-t.the-type Reading-l.the-laws; makes = λ 𝓤 H A W. LL.makes Reading-t.the-type Reading-l.the-plain 𝓤 H A; ty = Reading-l.mir; typed = λ 𝓤 H A W x is. LL.lawful Reading-t.the-type Reading-l.the-laws 𝓤 H A W .typed x _ is .0; copies = λ 𝓤 H A W. LL.copy Reading-t.the-type Reading-l.the-copy 𝓤 H A W }
 
 abbrev stayed : Stays (f.ended .signature .params) (f.ended .kept)
-stayed = (stay-slice (0 ∷ []) tt (plain (λ _. u8)), (stay-slice (1 ∷ []) tt (plain (λ _. u8)), (stay-slice (2 ∷ []) tt (plain (λ _. u8)), (stay-slice (3 ∷ []) tt (plain (λ _. u8)), (stay-slice (4 ∷ []) tt (plain (λ _. (Array u64 5))), (stay-slice (5 ∷ []) tt (plain (λ _. (Array u16 35))), (stay-slice (6 ∷ []) tt (plain (λ _. Object-t.the-row)), (stay-slice (7 ∷ []) tt (plain (λ _. u64)), tt))))))))
+stayed = (stay-slice (0 ∷ []) tt (plain (λ _. u8)), (stay-slice (1 ∷ []) tt (plain (λ _. u8)), (stay-slice (2 ∷ []) tt (plain (λ _. u8)), (stay-slice (3 ∷ []) tt (plain (λ _. u8)), (stay-slice (4 ∷ []) tt (plain (λ _. (Array u64 5))), (stay-slice (5 ∷ []) tt (plain (λ _. (Array u16 35))), (stay-slice (6 ∷ []) tt (plain (λ _. Object-t.the-row)), (stay-slice (7 ∷ []) tt (plain (λ _. (Array u64 2))), tt))))))))
 
 module _ {M : Type 1} (𝓤 : URA M) (H : Heap 𝓤) (A : Atoms 𝓤) (mem : Memory → SProp 𝓤) (run : Routine → Fun 𝓤) where
   abbrev Of-reading-first-reading : Contract 𝓤
@@ -181,8 +181,8 @@ module _ {M : Type 1} (𝓤 : URA M) (H : Heap 𝓤) (A : Atoms 𝓤) (mem : Mem
   abbrev Of-events-event : Contract 𝓤
   Of-events-event = tripleOf 𝓤 H A events-event.signature (events-event.spec 𝓤 H A mem run)
 
-module _ {M : Type 1} (𝓤 : URA M) (H : Heap 𝓤) (A : Atoms 𝓤) (W : Given 𝓤 H A) (mem : Memory → SProp 𝓤) (run : Routine → Fun 𝓤) (κ₁ : Lft) (q₁ : Share) (b₁ o₁ : ℕ) (γ₁ : GName) (input : List ℕ) (κ₂ : Lft) (q₂ : Share) (b₂ o₂ : ℕ) (γ₂ : GName) (line : List ℕ) (κ₃ : Lft) (q₃ : Share) (b₃ o₃ : ℕ) (γ₃ : GName) (kept : List ℕ) (κ₄ : Lft) (q₄ : Share) (b₄ o₄ : ℕ) (γ₄ : GName) (out : List ℕ) (κ₅ : Lft) (q₅ : Share) (b₅ o₅ : ℕ) (γ₅ : GName) (sessions : List (List ℕ)) (κ₆ : Lft) (q₆ : Share) (b₆ o₆ : ℕ) (γ₆ : GName) (streams : List (List ℕ)) (κ₇ : Lft) (q₇ : Share) (b₇ o₇ : ℕ) (γ₇ : GName) (objects : List Object) (κ₈ : Lft) (q₈ : Share) (b₈ o₈ : ℕ) (γ₈ : GName) (packed : List ℕ)
-    (room₁ : Room u8 (length input)) (room₂ : Room u8 (length line)) (room₃ : Room u8 (length kept)) (room₄ : Room u8 (length out)) (room₅ : Room (Array u64 5) (length sessions)) (room₆ : Room (Array u16 35) (length streams)) (room₇ : Room Object-t.the-row (length objects)) (room₈ : Room u64 (length packed)) where
+module _ {M : Type 1} (𝓤 : URA M) (H : Heap 𝓤) (A : Atoms 𝓤) (W : Given 𝓤 H A) (mem : Memory → SProp 𝓤) (run : Routine → Fun 𝓤) (κ₁ : Lft) (q₁ : Share) (b₁ o₁ : ℕ) (γ₁ : GName) (input : List ℕ) (κ₂ : Lft) (q₂ : Share) (b₂ o₂ : ℕ) (γ₂ : GName) (line : List ℕ) (κ₃ : Lft) (q₃ : Share) (b₃ o₃ : ℕ) (γ₃ : GName) (kept : List ℕ) (κ₄ : Lft) (q₄ : Share) (b₄ o₄ : ℕ) (γ₄ : GName) (out : List ℕ) (κ₅ : Lft) (q₅ : Share) (b₅ o₅ : ℕ) (γ₅ : GName) (sessions : List (List ℕ)) (κ₆ : Lft) (q₆ : Share) (b₆ o₆ : ℕ) (γ₆ : GName) (streams : List (List ℕ)) (κ₇ : Lft) (q₇ : Share) (b₇ o₇ : ℕ) (γ₇ : GName) (objects : List Object) (κ₈ : Lft) (q₈ : Share) (b₈ o₈ : ℕ) (γ₈ : GName) (packed : List (List ℕ))
+    (room₁ : Room u8 (length input)) (room₂ : Room u8 (length line)) (room₃ : Room u8 (length kept)) (room₄ : Room u8 (length out)) (room₅ : Room (Array u64 5) (length sessions)) (room₆ : Room (Array u16 35) (length streams)) (room₇ : Room Object-t.the-row (length objects)) (room₈ : Room (Array u64 2) (length packed)) where
   abbrev n₁ : ℕ
   n₁ = length input
 
@@ -207,7 +207,7 @@ module _ {M : Type 1} (𝓤 : URA M) (H : Heap 𝓤) (A : Atoms 𝓤) (W : Given
   abbrev n₈ : ℕ
   n₈ = length packed
 
-  abbrev x : RefT (List ℕ) × (RefT (List ℕ) × (RefT (List ℕ) × (RefT (List ℕ) × (RefT (List (List ℕ)) × (RefT (List (List ℕ)) × (RefT (List Object) × (RefT (List ℕ) × (Unit {0}))))))))
+  abbrev x : RefT (List ℕ) × (RefT (List ℕ) × (RefT (List ℕ) × (RefT (List ℕ) × (RefT (List (List ℕ)) × (RefT (List (List ℕ)) × (RefT (List Object) × (RefT (List (List ℕ)) × (Unit {0}))))))))
   x = (at-list b₁ o₁ γ₁ input, (at-list b₂ o₂ γ₂ line, (at-list b₃ o₃ γ₃ kept, (at-list b₄ o₄ γ₄ out, (at-list b₅ o₅ γ₅ sessions, (at-list b₆ o₆ γ₆ streams, (at-list b₇ o₇ γ₇ objects, (at-list b₈ o₈ γ₈ packed, tt))))))))
 
   abbrev at : Vals f.signature (κ₁, (κ₂, (κ₃, (κ₄, (κ₅, (κ₆, (κ₇, (κ₈, tt))))))))
@@ -216,9 +216,9 @@ module _ {M : Type 1} (𝓤 : URA M) (H : Heap 𝓤) (A : Atoms 𝓤) (W : Given
   abbrev Post : Val → SProp 𝓤
   Post = walkOf 𝓤 H A f.ended stayed (f.clauses 𝓤 H A mem run) .post (((κ₁, (κ₂, (κ₃, (κ₄, (κ₅, (κ₆, (κ₇, (κ₈, tt)))))))), (q₁, (q₂, (q₃, (q₄, (q₅, (q₆, (q₇, (q₈, tt)))))))), tt, x, at), tt)
 
-  exits : (r : Unit {0}) (ws₁ : List ℕ) (ws₂ : List ℕ) (ws₃ : List ℕ) (ws₄ : List ℕ) (ws₅ : List (List ℕ)) (ws₆ : List (List ℕ)) (ws₇ : List Object) (ws₈ : List ℕ) → Is (unit-p .row) r (unit-p .val r ∷ []) → length ws₁ ≡ n₁ → length ws₂ ≡ n₂ → length ws₃ ≡ n₃ → length ws₄ ≡ n₄ → length ws₅ ≡ n₅ → length ws₆ ≡ n₆ → length ws₇ ≡ n₇ → length ws₈ ≡ n₈ → ent 𝓤 (⋆ 𝓤 H A (‵ (MutSlice (named 0) κ₁ u8 .own (at-list b₁ o₁ γ₁ ws₁) (sliceVal (b₁, o₁) n₁ ∷ [])) ∷ ‵ (flft κ₁ q₁) ∷ ‵ (MutSlice (named 1) κ₂ u8 .own (at-list b₂ o₂ γ₂ ws₂) (sliceVal (b₂, o₂) n₂ ∷ [])) ∷ ‵ (flft κ₂ q₂) ∷ ‵ (MutSlice (named 2) κ₃ u8 .own (at-list b₃ o₃ γ₃ ws₃) (sliceVal (b₃, o₃) n₃ ∷ [])) ∷ ‵ (flft κ₃ q₃) ∷ ‵ (MutSlice (named 3) κ₄ u8 .own (at-list b₄ o₄ γ₄ ws₄) (sliceVal (b₄, o₄) n₄ ∷ [])) ∷ ‵ (flft κ₄ q₄) ∷ ‵ (MutSlice (named 4) κ₅ (Array u64 5) .own (at-list b₅ o₅ γ₅ ws₅) (sliceVal (b₅, o₅) n₅ ∷ [])) ∷ ‵ (flft κ₅ q₅) ∷ ‵ (MutSlice (named 5) κ₆ (Array u16 35) .own (at-list b₆ o₆ γ₆ ws₆) (sliceVal (b₆, o₆) n₆ ∷ [])) ∷ ‵ (flft κ₆ q₆) ∷ ‵ (MutSlice (named 6) κ₇ Object-t.the-row .own (at-list b₇ o₇ γ₇ ws₇) (sliceVal (b₇, o₇) n₇ ∷ [])) ∷ ‵ (flft κ₇ q₇) ∷ ‵ (MutSlice (named 7) κ₈ u64 .own (at-list b₈ o₈ γ₈ ws₈) (sliceVal (b₈, o₈) n₈ ∷ [])) ∷ ‵ (flft κ₈ q₈) ∷ [])) (Post (unit-p .val r))
+  exits : (r : Unit {0}) (ws₁ : List ℕ) (ws₂ : List ℕ) (ws₃ : List ℕ) (ws₄ : List ℕ) (ws₅ : List (List ℕ)) (ws₆ : List (List ℕ)) (ws₇ : List Object) (ws₈ : List (List ℕ)) → Is (unit-p .row) r (unit-p .val r ∷ []) → length ws₁ ≡ n₁ → length ws₂ ≡ n₂ → length ws₃ ≡ n₃ → length ws₄ ≡ n₄ → length ws₅ ≡ n₅ → length ws₆ ≡ n₆ → length ws₇ ≡ n₇ → length ws₈ ≡ n₈ → ent 𝓤 (⋆ 𝓤 H A (‵ (MutSlice (named 0) κ₁ u8 .own (at-list b₁ o₁ γ₁ ws₁) (sliceVal (b₁, o₁) n₁ ∷ [])) ∷ ‵ (flft κ₁ q₁) ∷ ‵ (MutSlice (named 1) κ₂ u8 .own (at-list b₂ o₂ γ₂ ws₂) (sliceVal (b₂, o₂) n₂ ∷ [])) ∷ ‵ (flft κ₂ q₂) ∷ ‵ (MutSlice (named 2) κ₃ u8 .own (at-list b₃ o₃ γ₃ ws₃) (sliceVal (b₃, o₃) n₃ ∷ [])) ∷ ‵ (flft κ₃ q₃) ∷ ‵ (MutSlice (named 3) κ₄ u8 .own (at-list b₄ o₄ γ₄ ws₄) (sliceVal (b₄, o₄) n₄ ∷ [])) ∷ ‵ (flft κ₄ q₄) ∷ ‵ (MutSlice (named 4) κ₅ (Array u64 5) .own (at-list b₅ o₅ γ₅ ws₅) (sliceVal (b₅, o₅) n₅ ∷ [])) ∷ ‵ (flft κ₅ q₅) ∷ ‵ (MutSlice (named 5) κ₆ (Array u16 35) .own (at-list b₆ o₆ γ₆ ws₆) (sliceVal (b₆, o₆) n₆ ∷ [])) ∷ ‵ (flft κ₆ q₆) ∷ ‵ (MutSlice (named 6) κ₇ Object-t.the-row .own (at-list b₇ o₇ γ₇ ws₇) (sliceVal (b₇, o₇) n₇ ∷ [])) ∷ ‵ (flft κ₇ q₇) ∷ ‵ (MutSlice (named 7) κ₈ (Array u64 2) .own (at-list b₈ o₈ γ₈ ws₈) (sliceVal (b₈, o₈) n₈ ∷ [])) ∷ ‵ (flft κ₈ q₈) ∷ [])) (Post (unit-p .val r))
   exits r ws₁ ws₂ ws₃ ws₄ ws₅ ws₆ ws₇ ws₈ r-is len₁ len₂ len₃ len₄ len₅ len₆ len₇ len₈ =
-      qed W (‵ (MutSlice (named 0) κ₁ u8 .own (at-list b₁ o₁ γ₁ ws₁) (sliceVal (b₁, o₁) n₁ ∷ [])) ∷ ‵ (flft κ₁ q₁) ∷ ‵ (MutSlice (named 1) κ₂ u8 .own (at-list b₂ o₂ γ₂ ws₂) (sliceVal (b₂, o₂) n₂ ∷ [])) ∷ ‵ (flft κ₂ q₂) ∷ ‵ (MutSlice (named 2) κ₃ u8 .own (at-list b₃ o₃ γ₃ ws₃) (sliceVal (b₃, o₃) n₃ ∷ [])) ∷ ‵ (flft κ₃ q₃) ∷ ‵ (MutSlice (named 3) κ₄ u8 .own (at-list b₄ o₄ γ₄ ws₄) (sliceVal (b₄, o₄) n₄ ∷ [])) ∷ ‵ (flft κ₄ q₄) ∷ ‵ (MutSlice (named 4) κ₅ (Array u64 5) .own (at-list b₅ o₅ γ₅ ws₅) (sliceVal (b₅, o₅) n₅ ∷ [])) ∷ ‵ (flft κ₅ q₅) ∷ ‵ (MutSlice (named 5) κ₆ (Array u16 35) .own (at-list b₆ o₆ γ₆ ws₆) (sliceVal (b₆, o₆) n₆ ∷ [])) ∷ ‵ (flft κ₆ q₆) ∷ ‵ (MutSlice (named 6) κ₇ Object-t.the-row .own (at-list b₇ o₇ γ₇ ws₇) (sliceVal (b₇, o₇) n₇ ∷ [])) ∷ ‵ (flft κ₇ q₇) ∷ ‵ (MutSlice (named 7) κ₈ u64 .own (at-list b₈ o₈ γ₈ ws₈) (sliceVal (b₈, o₈) n₈ ∷ [])) ∷ ‵ (flft κ₈ q₈) ∷ []) ∵
+      qed W (‵ (MutSlice (named 0) κ₁ u8 .own (at-list b₁ o₁ γ₁ ws₁) (sliceVal (b₁, o₁) n₁ ∷ [])) ∷ ‵ (flft κ₁ q₁) ∷ ‵ (MutSlice (named 1) κ₂ u8 .own (at-list b₂ o₂ γ₂ ws₂) (sliceVal (b₂, o₂) n₂ ∷ [])) ∷ ‵ (flft κ₂ q₂) ∷ ‵ (MutSlice (named 2) κ₃ u8 .own (at-list b₃ o₃ γ₃ ws₃) (sliceVal (b₃, o₃) n₃ ∷ [])) ∷ ‵ (flft κ₃ q₃) ∷ ‵ (MutSlice (named 3) κ₄ u8 .own (at-list b₄ o₄ γ₄ ws₄) (sliceVal (b₄, o₄) n₄ ∷ [])) ∷ ‵ (flft κ₄ q₄) ∷ ‵ (MutSlice (named 4) κ₅ (Array u64 5) .own (at-list b₅ o₅ γ₅ ws₅) (sliceVal (b₅, o₅) n₅ ∷ [])) ∷ ‵ (flft κ₅ q₅) ∷ ‵ (MutSlice (named 5) κ₆ (Array u16 35) .own (at-list b₆ o₆ γ₆ ws₆) (sliceVal (b₆, o₆) n₆ ∷ [])) ∷ ‵ (flft κ₆ q₆) ∷ ‵ (MutSlice (named 6) κ₇ Object-t.the-row .own (at-list b₇ o₇ γ₇ ws₇) (sliceVal (b₇, o₇) n₇ ∷ [])) ∷ ‵ (flft κ₇ q₇) ∷ ‵ (MutSlice (named 7) κ₈ (Array u64 2) .own (at-list b₈ o₈ γ₈ ws₈) (sliceVal (b₈, o₈) n₈ ∷ [])) ∷ ‵ (flft κ₈ q₈) ∷ []) ∵
       suffices ! _ (ends-at 𝓤 H A f.ended stayed (f.clauses 𝓤 H A mem run) W (((κ₁, (κ₂, (κ₃, (κ₄, (κ₅, (κ₆, (κ₇, (κ₈, tt)))))))), (q₁, (q₂, (q₃, (q₄, (q₅, (q₆, (q₇, (q₈, tt)))))))), tt, x, at), tt) (unit-p .val r) r (ws₁, (ws₂, (ws₃, (ws₄, (ws₅, (ws₆, (ws₇, (ws₈, tt)))))))) (len₁, (len₂, (len₃, (len₄, (len₅, (len₆, (len₇, (len₈, tt))))))))) $ says-nothing ! $ nothing ! $ move ! (16 ∷ 0 ∷ []) $ join ! $ move ! (14 ∷ 0 ∷ []) $ join ! $ move ! (12 ∷ 0 ∷ []) $ join ! $ move ! (10 ∷ 0 ∷ []) $ join ! $ move ! (8 ∷ 0 ∷ []) $ join ! $ move ! (6 ∷ 0 ∷ []) $ join ! $ move ! (4 ∷ 0 ∷ []) $ join ! $ move ! (2 ∷ 0 ∷ []) $ join ! $
       frame ! $ nothing ! $ move ! (8 ∷ 0 ∷ []) $ fjoin ! $ move ! (7 ∷ 0 ∷ []) $ fjoin ! $ move ! (6 ∷ 0 ∷ []) $ fjoin ! $ move ! (5 ∷ 0 ∷ []) $ fjoin ! $ move ! (4 ∷ 0 ∷ []) $ fjoin ! $ move ! (3 ∷ 0 ∷ []) $ fjoin ! $ move ! (2 ∷ 0 ∷ []) $ fjoin ! $ move ! (1 ∷ 0 ∷ []) $ fjoin ! $
       frame ! $
@@ -235,17 +235,17 @@ module _ {M : Type 1} (𝓤 : URA M) (H : Heap 𝓤) (A : Atoms 𝓤) (W : Given
     fm = fmOf 𝓤 H (W .laws) 𝓣
 
     abbrev En : Env 𝓤 H
-    En = (tyUnit, l₀) ∷ ((sliceTy (tyRef (named 0) mut (pointee (u8 .written)))), l₁) ∷ ((sliceTy (tyRef (named 1) mut (pointee (u8 .written)))), l₂) ∷ ((sliceTy (tyRef (named 2) mut (pointee (u8 .written)))), l₃) ∷ ((sliceTy (tyRef (named 3) mut (pointee (u8 .written)))), l₄) ∷ ((sliceTy (tyRef (named 4) mut (pointee ((Array u64 5) .written)))), l₅) ∷ ((sliceTy (tyRef (named 5) mut (pointee ((Array u16 35) .written)))), l₆) ∷ ((sliceTy (tyRef (named 6) mut (pointee (Object-t.the-row .written)))), l₇) ∷ ((sliceTy (tyRef (named 7) mut (pointee (u64 .written)))), l₈) ∷ (Reading-l.mir, l₉) ∷ (Host-l.mir, l₁₀) ∷ ((tyInt w64), l₁₁) ∷ (tyBool, l₁₂) ∷ (tyBool, l₁₃) ∷ (Command-l.mir, l₁₄) ∷ (tyBool, l₁₅) ∷ ((tyRef erased mut (pointee (u8 .written))), l₁₆) ∷ ((sliceTy (tyRef erased mut (pointee (u8 .written)))), l₁₇) ∷ ((tyRef erased mut (pointee (u8 .written))), l₁₈) ∷ ((sliceTy (tyRef erased mut (pointee (u8 .written)))), l₁₉) ∷ ((tyRef erased mut (pointee (u8 .written))), l₂₀) ∷ ((sliceTy (tyRef erased mut (pointee (u8 .written)))), l₂₁) ∷ ((tyRef erased mut (pointee ((Array u64 5) .written))), l₂₂) ∷ ((sliceTy (tyRef erased mut (pointee ((Array u64 5) .written)))), l₂₃) ∷ ((tyRef erased mut (pointee ((Array u16 35) .written))), l₂₄) ∷ ((sliceTy (tyRef erased mut (pointee ((Array u16 35) .written)))), l₂₅) ∷ ((tyRef erased mut (pointee (Object-t.the-row .written))), l₂₆) ∷ ((sliceTy (tyRef erased mut (pointee (Object-t.the-row .written)))), l₂₇) ∷ ((tyRef erased mut (pointee (u8 .written))), l₂₈) ∷ ((sliceTy (tyRef erased mut (pointee (u8 .written)))), l₂₉) ∷ ((tyRef erased imm (pointee (u8 .written))), l₃₀) ∷ ((sliceTy (tyRef erased imm (pointee (u8 .written)))), l₃₁) ∷ ((tyRef erased mut (pointee (u8 .written))), l₃₂) ∷ ((sliceTy (tyRef erased mut (pointee (u8 .written)))), l₃₃) ∷ ((tyRef erased mut (pointee (u64 .written))), l₃₄) ∷ ((sliceTy (tyRef erased mut (pointee (u64 .written)))), l₃₅) ∷ []
+    En = (tyUnit, l₀) ∷ ((sliceTy (tyRef (named 0) mut (pointee (u8 .written)))), l₁) ∷ ((sliceTy (tyRef (named 1) mut (pointee (u8 .written)))), l₂) ∷ ((sliceTy (tyRef (named 2) mut (pointee (u8 .written)))), l₃) ∷ ((sliceTy (tyRef (named 3) mut (pointee (u8 .written)))), l₄) ∷ ((sliceTy (tyRef (named 4) mut (pointee ((Array u64 5) .written)))), l₅) ∷ ((sliceTy (tyRef (named 5) mut (pointee ((Array u16 35) .written)))), l₆) ∷ ((sliceTy (tyRef (named 6) mut (pointee (Object-t.the-row .written)))), l₇) ∷ ((sliceTy (tyRef (named 7) mut (pointee ((Array u64 2) .written)))), l₈) ∷ (Reading-l.mir, l₉) ∷ (Host-l.mir, l₁₀) ∷ ((tyInt w64), l₁₁) ∷ (tyBool, l₁₂) ∷ (tyBool, l₁₃) ∷ (Command-l.mir, l₁₄) ∷ (tyBool, l₁₅) ∷ ((tyRef erased mut (pointee (u8 .written))), l₁₆) ∷ ((sliceTy (tyRef erased mut (pointee (u8 .written)))), l₁₇) ∷ ((tyRef erased mut (pointee (u8 .written))), l₁₈) ∷ ((sliceTy (tyRef erased mut (pointee (u8 .written)))), l₁₉) ∷ ((tyRef erased mut (pointee (u8 .written))), l₂₀) ∷ ((sliceTy (tyRef erased mut (pointee (u8 .written)))), l₂₁) ∷ ((tyRef erased mut (pointee ((Array u64 5) .written))), l₂₂) ∷ ((sliceTy (tyRef erased mut (pointee ((Array u64 5) .written)))), l₂₃) ∷ ((tyRef erased mut (pointee ((Array u16 35) .written))), l₂₄) ∷ ((sliceTy (tyRef erased mut (pointee ((Array u16 35) .written)))), l₂₅) ∷ ((tyRef erased mut (pointee (Object-t.the-row .written))), l₂₆) ∷ ((sliceTy (tyRef erased mut (pointee (Object-t.the-row .written)))), l₂₇) ∷ ((tyRef erased mut (pointee (u8 .written))), l₂₈) ∷ ((sliceTy (tyRef erased mut (pointee (u8 .written)))), l₂₉) ∷ ((tyRef erased imm (pointee (u8 .written))), l₃₀) ∷ ((sliceTy (tyRef erased imm (pointee (u8 .written)))), l₃₁) ∷ ((tyRef erased mut (pointee (u8 .written))), l₃₂) ∷ ((sliceTy (tyRef erased mut (pointee (u8 .written)))), l₃₃) ∷ ((tyRef erased mut (pointee ((Array u64 2) .written))), l₃₄) ∷ ((sliceTy (tyRef erased mut (pointee ((Array u64 2) .written)))), l₃₅) ∷ []
 
     module _ (r-1 : Reading-p .row .Denot) (is-1 : Is (Reading-p .row) r-1 (Reading-p .val r-1 ∷ [])) (r-2 : Host-p .row .Denot) (is-2 : Is (Host-p .row) r-2 (Host-p .val r-2 ∷ [])) (r-3 : u64-p .row .Denot) (is-3 : Is (u64-p .row) r-3 (u64-p .val r-3 ∷ [])) where
-      abbrev At-4 : (reading : Reading) → (host : Host) → (turns : ℕ) → (input′ : List ℕ) → (line′ : List ℕ) → (kept′ : List ℕ) → (out′ : List ℕ) → (sessions′ : List (List ℕ)) → (streams′ : List (List ℕ)) → (objects′ : List Object) → (packed′ : List ℕ) → List (Item 𝓤)
-      At-4 reading host turns input′ line′ kept′ out′ sessions′ streams′ objects′ packed′ = ‵ (MutSlice (named 0) κ₁ u8 .own (at-list b₁ o₁ γ₁ input′) (sliceVal (b₁, o₁) n₁ ∷ [])) ∷ ‵ (flft κ₁ q₁) ∷ ‵ (MutSlice (named 0) κ₂ u8 .own (at-list b₂ o₂ γ₂ line′) (sliceVal (b₂, o₂) n₂ ∷ [])) ∷ ‵ (flft κ₂ q₂) ∷ ‵ (MutSlice (named 0) κ₃ u8 .own (at-list b₃ o₃ γ₃ kept′) (sliceVal (b₃, o₃) n₃ ∷ [])) ∷ ‵ (flft κ₃ q₃) ∷ ‵ (MutSlice (named 0) κ₄ u8 .own (at-list b₄ o₄ γ₄ out′) (sliceVal (b₄, o₄) n₄ ∷ [])) ∷ ‵ (flft κ₄ q₄) ∷ ‵ (MutSlice (named 0) κ₅ (Array u64 5) .own (at-list b₅ o₅ γ₅ sessions′) (sliceVal (b₅, o₅) n₅ ∷ [])) ∷ ‵ (flft κ₅ q₅) ∷ ‵ (MutSlice (named 0) κ₆ (Array u16 35) .own (at-list b₆ o₆ γ₆ streams′) (sliceVal (b₆, o₆) n₆ ∷ [])) ∷ ‵ (flft κ₆ q₆) ∷ ‵ (MutSlice (named 0) κ₇ Object-t.the-row .own (at-list b₇ o₇ γ₇ objects′) (sliceVal (b₇, o₇) n₇ ∷ [])) ∷ ‵ (flft κ₇ q₇) ∷ ‵ (MutSlice (named 0) κ₈ u64 .own (at-list b₈ o₈ γ₈ packed′) (sliceVal (b₈, o₈) n₈ ∷ [])) ∷ ‵ (flft κ₈ q₈) ∷ free 𝓤 (sliceTy (tyRef erased mut (pointee (u64 .written)))) l₃₅ (free 𝓤 (tyRef erased mut (pointee (u64 .written))) l₃₄ (free 𝓤 (sliceTy (tyRef erased mut (pointee (u8 .written)))) l₃₃ (free 𝓤 (tyRef erased mut (pointee (u8 .written))) l₃₂ (free 𝓤 (sliceTy (tyRef erased imm (pointee (u8 .written)))) l₃₁ (free 𝓤 (tyRef erased imm (pointee (u8 .written))) l₃₀ (free 𝓤 (sliceTy (tyRef erased mut (pointee (u8 .written)))) l₂₉ (free 𝓤 (tyRef erased mut (pointee (u8 .written))) l₂₈ (free 𝓤 (sliceTy (tyRef erased mut (pointee (Object-t.the-row .written)))) l₂₇ (free 𝓤 (tyRef erased mut (pointee (Object-t.the-row .written))) l₂₆ (free 𝓤 (sliceTy (tyRef erased mut (pointee ((Array u16 35) .written)))) l₂₅ (free 𝓤 (tyRef erased mut (pointee ((Array u16 35) .written))) l₂₄ (free 𝓤 (sliceTy (tyRef erased mut (pointee ((Array u64 5) .written)))) l₂₃ (free 𝓤 (tyRef erased mut (pointee ((Array u64 5) .written))) l₂₂ (free 𝓤 (sliceTy (tyRef erased mut (pointee (u8 .written)))) l₂₁ (free 𝓤 (tyRef erased mut (pointee (u8 .written))) l₂₀ (free 𝓤 (sliceTy (tyRef erased mut (pointee (u8 .written)))) l₁₉ (free 𝓤 (tyRef erased mut (pointee (u8 .written))) l₁₈ (free 𝓤 (sliceTy (tyRef erased mut (pointee (u8 .written)))) l₁₇ (free 𝓤 (tyRef erased mut (pointee (u8 .written))) l₁₆ (free 𝓤 tyBool l₁₅ (free 𝓤 Command-l.mir l₁₄ (free 𝓤 tyBool l₁₃ (free 𝓤 tyBool l₁₂ (full 𝓤 (tyInt w64) l₁₁ (u64-p .val turns) (full 𝓤 Host-l.mir l₁₀ (Host-p .val host) (full 𝓤 Reading-l.mir l₉ (Reading-p .val reading) (full 𝓤 (sliceTy (tyRef (named 7) mut (pointee (u64 .written)))) l₈ (sliceVal (b₈, o₈) n₈) (full 𝓤 (sliceTy (tyRef (named 6) mut (pointee (Object-t.the-row .written)))) l₇ (sliceVal (b₇, o₇) n₇) (full 𝓤 (sliceTy (tyRef (named 5) mut (pointee ((Array u16 35) .written)))) l₆ (sliceVal (b₆, o₆) n₆) (full 𝓤 (sliceTy (tyRef (named 4) mut (pointee ((Array u64 5) .written)))) l₅ (sliceVal (b₅, o₅) n₅) (full 𝓤 (sliceTy (tyRef (named 3) mut (pointee (u8 .written)))) l₄ (sliceVal (b₄, o₄) n₄) (full 𝓤 (sliceTy (tyRef (named 2) mut (pointee (u8 .written)))) l₃ (sliceVal (b₃, o₃) n₃) (full 𝓤 (sliceTy (tyRef (named 1) mut (pointee (u8 .written)))) l₂ (sliceVal (b₂, o₂) n₂) (full 𝓤 (sliceTy (tyRef (named 0) mut (pointee (u8 .written)))) l₁ (sliceVal (b₁, o₁) n₁) (free 𝓤 tyUnit l₀ ([]))))))))))))))))))))))))))))))))))))
+      abbrev At-4 : (reading : Reading) → (host : Host) → (turns : ℕ) → (input′ : List ℕ) → (line′ : List ℕ) → (kept′ : List ℕ) → (out′ : List ℕ) → (sessions′ : List (List ℕ)) → (streams′ : List (List ℕ)) → (objects′ : List Object) → (packed′ : List (List ℕ)) → List (Item 𝓤)
+      At-4 reading host turns input′ line′ kept′ out′ sessions′ streams′ objects′ packed′ = ‵ (MutSlice (named 0) κ₁ u8 .own (at-list b₁ o₁ γ₁ input′) (sliceVal (b₁, o₁) n₁ ∷ [])) ∷ ‵ (flft κ₁ q₁) ∷ ‵ (MutSlice (named 0) κ₂ u8 .own (at-list b₂ o₂ γ₂ line′) (sliceVal (b₂, o₂) n₂ ∷ [])) ∷ ‵ (flft κ₂ q₂) ∷ ‵ (MutSlice (named 0) κ₃ u8 .own (at-list b₃ o₃ γ₃ kept′) (sliceVal (b₃, o₃) n₃ ∷ [])) ∷ ‵ (flft κ₃ q₃) ∷ ‵ (MutSlice (named 0) κ₄ u8 .own (at-list b₄ o₄ γ₄ out′) (sliceVal (b₄, o₄) n₄ ∷ [])) ∷ ‵ (flft κ₄ q₄) ∷ ‵ (MutSlice (named 0) κ₅ (Array u64 5) .own (at-list b₅ o₅ γ₅ sessions′) (sliceVal (b₅, o₅) n₅ ∷ [])) ∷ ‵ (flft κ₅ q₅) ∷ ‵ (MutSlice (named 0) κ₆ (Array u16 35) .own (at-list b₆ o₆ γ₆ streams′) (sliceVal (b₆, o₆) n₆ ∷ [])) ∷ ‵ (flft κ₆ q₆) ∷ ‵ (MutSlice (named 0) κ₇ Object-t.the-row .own (at-list b₇ o₇ γ₇ objects′) (sliceVal (b₇, o₇) n₇ ∷ [])) ∷ ‵ (flft κ₇ q₇) ∷ ‵ (MutSlice (named 0) κ₈ (Array u64 2) .own (at-list b₈ o₈ γ₈ packed′) (sliceVal (b₈, o₈) n₈ ∷ [])) ∷ ‵ (flft κ₈ q₈) ∷ free 𝓤 (sliceTy (tyRef erased mut (pointee ((Array u64 2) .written)))) l₃₅ (free 𝓤 (tyRef erased mut (pointee ((Array u64 2) .written))) l₃₄ (free 𝓤 (sliceTy (tyRef erased mut (pointee (u8 .written)))) l₃₃ (free 𝓤 (tyRef erased mut (pointee (u8 .written))) l₃₂ (free 𝓤 (sliceTy (tyRef erased imm (pointee (u8 .written)))) l₃₁ (free 𝓤 (tyRef erased imm (pointee (u8 .written))) l₃₀ (free 𝓤 (sliceTy (tyRef erased mut (pointee (u8 .written)))) l₂₉ (free 𝓤 (tyRef erased mut (pointee (u8 .written))) l₂₈ (free 𝓤 (sliceTy (tyRef erased mut (pointee (Object-t.the-row .written)))) l₂₇ (free 𝓤 (tyRef erased mut (pointee (Object-t.the-row .written))) l₂₆ (free 𝓤 (sliceTy (tyRef erased mut (pointee ((Array u16 35) .written)))) l₂₅ (free 𝓤 (tyRef erased mut (pointee ((Array u16 35) .written))) l₂₄ (free 𝓤 (sliceTy (tyRef erased mut (pointee ((Array u64 5) .written)))) l₂₃ (free 𝓤 (tyRef erased mut (pointee ((Array u64 5) .written))) l₂₂ (free 𝓤 (sliceTy (tyRef erased mut (pointee (u8 .written)))) l₂₁ (free 𝓤 (tyRef erased mut (pointee (u8 .written))) l₂₀ (free 𝓤 (sliceTy (tyRef erased mut (pointee (u8 .written)))) l₁₉ (free 𝓤 (tyRef erased mut (pointee (u8 .written))) l₁₈ (free 𝓤 (sliceTy (tyRef erased mut (pointee (u8 .written)))) l₁₇ (free 𝓤 (tyRef erased mut (pointee (u8 .written))) l₁₆ (free 𝓤 tyBool l₁₅ (free 𝓤 Command-l.mir l₁₄ (free 𝓤 tyBool l₁₃ (free 𝓤 tyBool l₁₂ (full 𝓤 (tyInt w64) l₁₁ (u64-p .val turns) (full 𝓤 Host-l.mir l₁₀ (Host-p .val host) (full 𝓤 Reading-l.mir l₉ (Reading-p .val reading) (full 𝓤 (sliceTy (tyRef (named 7) mut (pointee ((Array u64 2) .written)))) l₈ (sliceVal (b₈, o₈) n₈) (full 𝓤 (sliceTy (tyRef (named 6) mut (pointee (Object-t.the-row .written)))) l₇ (sliceVal (b₇, o₇) n₇) (full 𝓤 (sliceTy (tyRef (named 5) mut (pointee ((Array u16 35) .written)))) l₆ (sliceVal (b₆, o₆) n₆) (full 𝓤 (sliceTy (tyRef (named 4) mut (pointee ((Array u64 5) .written)))) l₅ (sliceVal (b₅, o₅) n₅) (full 𝓤 (sliceTy (tyRef (named 3) mut (pointee (u8 .written)))) l₄ (sliceVal (b₄, o₄) n₄) (full 𝓤 (sliceTy (tyRef (named 2) mut (pointee (u8 .written)))) l₃ (sliceVal (b₃, o₃) n₃) (full 𝓤 (sliceTy (tyRef (named 1) mut (pointee (u8 .written)))) l₂ (sliceVal (b₂, o₂) n₂) (full 𝓤 (sliceTy (tyRef (named 0) mut (pointee (u8 .written)))) l₁ (sliceVal (b₁, o₁) n₁) (free 𝓤 tyUnit l₀ ([]))))))))))))))))))))))))))))))))))))
 
-      abbrev Facts-4 : ℕ → (reading : Reading) → (host : Host) → (turns : ℕ) → (input′ : List ℕ) → (line′ : List ℕ) → (kept′ : List ℕ) → (out′ : List ℕ) → (sessions′ : List (List ℕ)) → (streams′ : List (List ℕ)) → (objects′ : List Object) → (packed′ : List ℕ) → Type 0
+      abbrev Facts-4 : ℕ → (reading : Reading) → (host : Host) → (turns : ℕ) → (input′ : List ℕ) → (line′ : List ℕ) → (kept′ : List ℕ) → (out′ : List ℕ) → (sessions′ : List (List ℕ)) → (streams′ : List (List ℕ)) → (objects′ : List Object) → (packed′ : List (List ℕ)) → Type 0
       Facts-4 t reading host turns input′ line′ kept′ out′ sessions′ streams′ objects′ packed′ = (t ≡ turns) × (Is (Reading-p .row) reading (Reading-p .val reading ∷ [])) × (Is (Host-p .row) host (Host-p .val host ∷ [])) × (Is (u64-p .row) turns (u64-p .val turns ∷ [])) × (length input′ ≡ n₁) × (length line′ ≡ n₂) × (length kept′ ≡ n₃) × (length out′ ≡ n₄) × (length sessions′ ≡ n₅) × (length streams′ ≡ n₆) × (length objects′ ≡ n₇) × (length packed′ ≡ n₈) × (Unit {0})
 
       abbrev Inv-4 : ℕ → SProp 𝓤
-      Inv-4 t = ex 𝓤 (λ (reading : Reading). ex 𝓤 (λ (host : Host). ex 𝓤 (λ (turns : ℕ). ex 𝓤 (λ (input′ : List ℕ). ex 𝓤 (λ (line′ : List ℕ). ex 𝓤 (λ (kept′ : List ℕ). ex 𝓤 (λ (out′ : List ℕ). ex 𝓤 (λ (sessions′ : List (List ℕ)). ex 𝓤 (λ (streams′ : List (List ℕ)). ex 𝓤 (λ (objects′ : List Object). ex 𝓤 (λ (packed′ : List ℕ). guard 𝓤 (Facts-4 t reading host turns input′ line′ kept′ out′ sessions′ streams′ objects′ packed′) (⋆ 𝓤 H A (At-4 reading host turns input′ line′ kept′ out′ sessions′ streams′ objects′ packed′)))))))))))))
+      Inv-4 t = ex 𝓤 (λ (reading : Reading). ex 𝓤 (λ (host : Host). ex 𝓤 (λ (turns : ℕ). ex 𝓤 (λ (input′ : List ℕ). ex 𝓤 (λ (line′ : List ℕ). ex 𝓤 (λ (kept′ : List ℕ). ex 𝓤 (λ (out′ : List ℕ). ex 𝓤 (λ (sessions′ : List (List ℕ)). ex 𝓤 (λ (streams′ : List (List ℕ)). ex 𝓤 (λ (objects′ : List Object). ex 𝓤 (λ (packed′ : List (List ℕ)). guard 𝓤 (Facts-4 t reading host turns input′ line′ kept′ out′ sessions′ streams′ objects′ packed′) (⋆ 𝓤 H A (At-4 reading host turns input′ line′ kept′ out′ sessions′ streams′ objects′ packed′)))))))))))))
 
       abbrev Below-4 : ℕ → SProp 𝓤
       Below-4 t = ex 𝓤 (λ (u : ℕ). guard 𝓤 (u < t) (Inv-4 u))
@@ -253,13 +253,13 @@ module _ {M : Type 1} (𝓤 : URA M) (H : Heap 𝓤) (A : Atoms 𝓤) (W : Given
       abbrev Left-4 : Out → SProp 𝓤
       Left-4 = afterBlock 𝓤 H (afterSeq 𝓤 H (Wp 𝓤 H C Λ En mir.t-5 (atReturn 𝓤 H En Post)) (atReturn 𝓤 H En Post))
 
-      inv-at-4 : (t : ℕ) → (reading : Reading) → (host : Host) → (turns : ℕ) → (input′ : List ℕ) → (line′ : List ℕ) → (kept′ : List ℕ) → (out′ : List ℕ) → (sessions′ : List (List ℕ)) → (streams′ : List (List ℕ)) → (objects′ : List Object) → (packed′ : List ℕ) → Facts-4 t reading host turns input′ line′ kept′ out′ sessions′ streams′ objects′ packed′ → ent 𝓤 (⋆ 𝓤 H A (At-4 reading host turns input′ line′ kept′ out′ sessions′ streams′ objects′ packed′)) (Inv-4 t)
-      inv-at-4 t reading host turns input′ line′ kept′ out′ sessions′ streams′ objects′ packed′ fs = via 𝓤 (ex 𝓤 (λ (host : Host). ex 𝓤 (λ (turns : ℕ). ex 𝓤 (λ (input′ : List ℕ). ex 𝓤 (λ (line′ : List ℕ). ex 𝓤 (λ (kept′ : List ℕ). ex 𝓤 (λ (out′ : List ℕ). ex 𝓤 (λ (sessions′ : List (List ℕ)). ex 𝓤 (λ (streams′ : List (List ℕ)). ex 𝓤 (λ (objects′ : List Object). ex 𝓤 (λ (packed′ : List ℕ). guard 𝓤 (Facts-4 t reading host turns input′ line′ kept′ out′ sessions′ streams′ objects′ packed′) (⋆ 𝓤 H A (At-4 reading host turns input′ line′ kept′ out′ sessions′ streams′ objects′ packed′))))))))))))) (via 𝓤 (ex 𝓤 (λ (turns : ℕ). ex 𝓤 (λ (input′ : List ℕ). ex 𝓤 (λ (line′ : List ℕ). ex 𝓤 (λ (kept′ : List ℕ). ex 𝓤 (λ (out′ : List ℕ). ex 𝓤 (λ (sessions′ : List (List ℕ)). ex 𝓤 (λ (streams′ : List (List ℕ)). ex 𝓤 (λ (objects′ : List Object). ex 𝓤 (λ (packed′ : List ℕ). guard 𝓤 (Facts-4 t reading host turns input′ line′ kept′ out′ sessions′ streams′ objects′ packed′) (⋆ 𝓤 H A (At-4 reading host turns input′ line′ kept′ out′ sessions′ streams′ objects′ packed′)))))))))))) (via 𝓤 (ex 𝓤 (λ (input′ : List ℕ). ex 𝓤 (λ (line′ : List ℕ). ex 𝓤 (λ (kept′ : List ℕ). ex 𝓤 (λ (out′ : List ℕ). ex 𝓤 (λ (sessions′ : List (List ℕ)). ex 𝓤 (λ (streams′ : List (List ℕ)). ex 𝓤 (λ (objects′ : List Object). ex 𝓤 (λ (packed′ : List ℕ). guard 𝓤 (Facts-4 t reading host turns input′ line′ kept′ out′ sessions′ streams′ objects′ packed′) (⋆ 𝓤 H A (At-4 reading host turns input′ line′ kept′ out′ sessions′ streams′ objects′ packed′))))))))))) (via 𝓤 (ex 𝓤 (λ (line′ : List ℕ). ex 𝓤 (λ (kept′ : List ℕ). ex 𝓤 (λ (out′ : List ℕ). ex 𝓤 (λ (sessions′ : List (List ℕ)). ex 𝓤 (λ (streams′ : List (List ℕ)). ex 𝓤 (λ (objects′ : List Object). ex 𝓤 (λ (packed′ : List ℕ). guard 𝓤 (Facts-4 t reading host turns input′ line′ kept′ out′ sessions′ streams′ objects′ packed′) (⋆ 𝓤 H A (At-4 reading host turns input′ line′ kept′ out′ sessions′ streams′ objects′ packed′)))))))))) (via 𝓤 (ex 𝓤 (λ (kept′ : List ℕ). ex 𝓤 (λ (out′ : List ℕ). ex 𝓤 (λ (sessions′ : List (List ℕ)). ex 𝓤 (λ (streams′ : List (List ℕ)). ex 𝓤 (λ (objects′ : List Object). ex 𝓤 (λ (packed′ : List ℕ). guard 𝓤 (Facts-4 t reading host turns input′ line′ kept′ out′ sessions′ streams′ objects′ packed′) (⋆ 𝓤 H A (At-4 reading host turns input′ line′ kept′ out′ sessions′ streams′ objects′ packed′))))))))) (via 𝓤 (ex 𝓤 (λ (out′ : List ℕ). ex 𝓤 (λ (sessions′ : List (List ℕ)). ex 𝓤 (λ (streams′ : List (List ℕ)). ex 𝓤 (λ (objects′ : List Object). ex 𝓤 (λ (packed′ : List ℕ). guard 𝓤 (Facts-4 t reading host turns input′ line′ kept′ out′ sessions′ streams′ objects′ packed′) (⋆ 𝓤 H A (At-4 reading host turns input′ line′ kept′ out′ sessions′ streams′ objects′ packed′)))))))) (via 𝓤 (ex 𝓤 (λ (sessions′ : List (List ℕ)). ex 𝓤 (λ (streams′ : List (List ℕ)). ex 𝓤 (λ (objects′ : List Object). ex 𝓤 (λ (packed′ : List ℕ). guard 𝓤 (Facts-4 t reading host turns input′ line′ kept′ out′ sessions′ streams′ objects′ packed′) (⋆ 𝓤 H A (At-4 reading host turns input′ line′ kept′ out′ sessions′ streams′ objects′ packed′))))))) (via 𝓤 (ex 𝓤 (λ (streams′ : List (List ℕ)). ex 𝓤 (λ (objects′ : List Object). ex 𝓤 (λ (packed′ : List ℕ). guard 𝓤 (Facts-4 t reading host turns input′ line′ kept′ out′ sessions′ streams′ objects′ packed′) (⋆ 𝓤 H A (At-4 reading host turns input′ line′ kept′ out′ sessions′ streams′ objects′ packed′)))))) (via 𝓤 (ex 𝓤 (λ (objects′ : List Object). ex 𝓤 (λ (packed′ : List ℕ). guard 𝓤 (Facts-4 t reading host turns input′ line′ kept′ out′ sessions′ streams′ objects′ packed′) (⋆ 𝓤 H A (At-4 reading host turns input′ line′ kept′ out′ sessions′ streams′ objects′ packed′))))) (via 𝓤 (ex 𝓤 (λ (packed′ : List ℕ). guard 𝓤 (Facts-4 t reading host turns input′ line′ kept′ out′ sessions′ streams′ objects′ packed′) (⋆ 𝓤 H A (At-4 reading host turns input′ line′ kept′ out′ sessions′ streams′ objects′ packed′)))) (via 𝓤 (guard 𝓤 (Facts-4 t reading host turns input′ line′ kept′ out′ sessions′ streams′ objects′ packed′) (⋆ 𝓤 H A (At-4 reading host turns input′ line′ kept′ out′ sessions′ streams′ objects′ packed′))) (guardI 𝓤 (Facts-4 t reading host turns input′ line′ kept′ out′ sessions′ streams′ objects′ packed′) (⋆ 𝓤 H A (At-4 reading host turns input′ line′ kept′ out′ sessions′ streams′ objects′ packed′)) fs) (exI 𝓤 (λ (packed′ : List ℕ). guard 𝓤 (Facts-4 t reading host turns input′ line′ kept′ out′ sessions′ streams′ objects′ packed′) (⋆ 𝓤 H A (At-4 reading host turns input′ line′ kept′ out′ sessions′ streams′ objects′ packed′))) packed′)) (exI 𝓤 (λ (objects′ : List Object). ex 𝓤 (λ (packed′ : List ℕ). guard 𝓤 (Facts-4 t reading host turns input′ line′ kept′ out′ sessions′ streams′ objects′ packed′) (⋆ 𝓤 H A (At-4 reading host turns input′ line′ kept′ out′ sessions′ streams′ objects′ packed′)))) objects′)) (exI 𝓤 (λ (streams′ : List (List ℕ)). ex 𝓤 (λ (objects′ : List Object). ex 𝓤 (λ (packed′ : List ℕ). guard 𝓤 (Facts-4 t reading host turns input′ line′ kept′ out′ sessions′ streams′ objects′ packed′) (⋆ 𝓤 H A (At-4 reading host turns input′ line′ kept′ out′ sessions′ streams′ objects′ packed′))))) streams′)) (exI 𝓤 (λ (sessions′ : List (List ℕ)). ex 𝓤 (λ (streams′ : List (List ℕ)). ex 𝓤 (λ (objects′ : List Object). ex 𝓤 (λ (packed′ : List ℕ). guard 𝓤 (Facts-4 t reading host turns input′ line′ kept′ out′ sessions′ streams′ objects′ packed′) (⋆ 𝓤 H A (At-4 reading host turns input′ line′ kept′ out′ sessions′ streams′ objects′ packed′)))))) sessions′)) (exI 𝓤 (λ (out′ : List ℕ). ex 𝓤 (λ (sessions′ : List (List ℕ)). ex 𝓤 (λ (streams′ : List (List ℕ)). ex 𝓤 (λ (objects′ : List Object). ex 𝓤 (λ (packed′ : List ℕ). guard 𝓤 (Facts-4 t reading host turns input′ line′ kept′ out′ sessions′ streams′ objects′ packed′) (⋆ 𝓤 H A (At-4 reading host turns input′ line′ kept′ out′ sessions′ streams′ objects′ packed′))))))) out′)) (exI 𝓤 (λ (kept′ : List ℕ). ex 𝓤 (λ (out′ : List ℕ). ex 𝓤 (λ (sessions′ : List (List ℕ)). ex 𝓤 (λ (streams′ : List (List ℕ)). ex 𝓤 (λ (objects′ : List Object). ex 𝓤 (λ (packed′ : List ℕ). guard 𝓤 (Facts-4 t reading host turns input′ line′ kept′ out′ sessions′ streams′ objects′ packed′) (⋆ 𝓤 H A (At-4 reading host turns input′ line′ kept′ out′ sessions′ streams′ objects′ packed′)))))))) kept′)) (exI 𝓤 (λ (line′ : List ℕ). ex 𝓤 (λ (kept′ : List ℕ). ex 𝓤 (λ (out′ : List ℕ). ex 𝓤 (λ (sessions′ : List (List ℕ)). ex 𝓤 (λ (streams′ : List (List ℕ)). ex 𝓤 (λ (objects′ : List Object). ex 𝓤 (λ (packed′ : List ℕ). guard 𝓤 (Facts-4 t reading host turns input′ line′ kept′ out′ sessions′ streams′ objects′ packed′) (⋆ 𝓤 H A (At-4 reading host turns input′ line′ kept′ out′ sessions′ streams′ objects′ packed′))))))))) line′)) (exI 𝓤 (λ (input′ : List ℕ). ex 𝓤 (λ (line′ : List ℕ). ex 𝓤 (λ (kept′ : List ℕ). ex 𝓤 (λ (out′ : List ℕ). ex 𝓤 (λ (sessions′ : List (List ℕ)). ex 𝓤 (λ (streams′ : List (List ℕ)). ex 𝓤 (λ (objects′ : List Object). ex 𝓤 (λ (packed′ : List ℕ). guard 𝓤 (Facts-4 t reading host turns input′ line′ kept′ out′ sessions′ streams′ objects′ packed′) (⋆ 𝓤 H A (At-4 reading host turns input′ line′ kept′ out′ sessions′ streams′ objects′ packed′)))))))))) input′)) (exI 𝓤 (λ (turns : ℕ). ex 𝓤 (λ (input′ : List ℕ). ex 𝓤 (λ (line′ : List ℕ). ex 𝓤 (λ (kept′ : List ℕ). ex 𝓤 (λ (out′ : List ℕ). ex 𝓤 (λ (sessions′ : List (List ℕ)). ex 𝓤 (λ (streams′ : List (List ℕ)). ex 𝓤 (λ (objects′ : List Object). ex 𝓤 (λ (packed′ : List ℕ). guard 𝓤 (Facts-4 t reading host turns input′ line′ kept′ out′ sessions′ streams′ objects′ packed′) (⋆ 𝓤 H A (At-4 reading host turns input′ line′ kept′ out′ sessions′ streams′ objects′ packed′))))))))))) turns)) (exI 𝓤 (λ (host : Host). ex 𝓤 (λ (turns : ℕ). ex 𝓤 (λ (input′ : List ℕ). ex 𝓤 (λ (line′ : List ℕ). ex 𝓤 (λ (kept′ : List ℕ). ex 𝓤 (λ (out′ : List ℕ). ex 𝓤 (λ (sessions′ : List (List ℕ)). ex 𝓤 (λ (streams′ : List (List ℕ)). ex 𝓤 (λ (objects′ : List Object). ex 𝓤 (λ (packed′ : List ℕ). guard 𝓤 (Facts-4 t reading host turns input′ line′ kept′ out′ sessions′ streams′ objects′ packed′) (⋆ 𝓤 H A (At-4 reading host turns input′ line′ kept′ out′ sessions′ streams′ objects′ packed′)))))))))))) host)) (exI 𝓤 (λ (reading : Reading). ex 𝓤 (λ (host : Host). ex 𝓤 (λ (turns : ℕ). ex 𝓤 (λ (input′ : List ℕ). ex 𝓤 (λ (line′ : List ℕ). ex 𝓤 (λ (kept′ : List ℕ). ex 𝓤 (λ (out′ : List ℕ). ex 𝓤 (λ (sessions′ : List (List ℕ)). ex 𝓤 (λ (streams′ : List (List ℕ)). ex 𝓤 (λ (objects′ : List Object). ex 𝓤 (λ (packed′ : List ℕ). guard 𝓤 (Facts-4 t reading host turns input′ line′ kept′ out′ sessions′ streams′ objects′ packed′) (⋆ 𝓤 H A (At-4 reading host turns input′ line′ kept′ out′ sessions′ streams′ objects′ packed′))))))))))))) reading)
+      inv-at-4 : (t : ℕ) → (reading : Reading) → (host : Host) → (turns : ℕ) → (input′ : List ℕ) → (line′ : List ℕ) → (kept′ : List ℕ) → (out′ : List ℕ) → (sessions′ : List (List ℕ)) → (streams′ : List (List ℕ)) → (objects′ : List Object) → (packed′ : List (List ℕ)) → Facts-4 t reading host turns input′ line′ kept′ out′ sessions′ streams′ objects′ packed′ → ent 𝓤 (⋆ 𝓤 H A (At-4 reading host turns input′ line′ kept′ out′ sessions′ streams′ objects′ packed′)) (Inv-4 t)
+      inv-at-4 t reading host turns input′ line′ kept′ out′ sessions′ streams′ objects′ packed′ fs = via 𝓤 (ex 𝓤 (λ (host : Host). ex 𝓤 (λ (turns : ℕ). ex 𝓤 (λ (input′ : List ℕ). ex 𝓤 (λ (line′ : List ℕ). ex 𝓤 (λ (kept′ : List ℕ). ex 𝓤 (λ (out′ : List ℕ). ex 𝓤 (λ (sessions′ : List (List ℕ)). ex 𝓤 (λ (streams′ : List (List ℕ)). ex 𝓤 (λ (objects′ : List Object). ex 𝓤 (λ (packed′ : List (List ℕ)). guard 𝓤 (Facts-4 t reading host turns input′ line′ kept′ out′ sessions′ streams′ objects′ packed′) (⋆ 𝓤 H A (At-4 reading host turns input′ line′ kept′ out′ sessions′ streams′ objects′ packed′))))))))))))) (via 𝓤 (ex 𝓤 (λ (turns : ℕ). ex 𝓤 (λ (input′ : List ℕ). ex 𝓤 (λ (line′ : List ℕ). ex 𝓤 (λ (kept′ : List ℕ). ex 𝓤 (λ (out′ : List ℕ). ex 𝓤 (λ (sessions′ : List (List ℕ)). ex 𝓤 (λ (streams′ : List (List ℕ)). ex 𝓤 (λ (objects′ : List Object). ex 𝓤 (λ (packed′ : List (List ℕ)). guard 𝓤 (Facts-4 t reading host turns input′ line′ kept′ out′ sessions′ streams′ objects′ packed′) (⋆ 𝓤 H A (At-4 reading host turns input′ line′ kept′ out′ sessions′ streams′ objects′ packed′)))))))))))) (via 𝓤 (ex 𝓤 (λ (input′ : List ℕ). ex 𝓤 (λ (line′ : List ℕ). ex 𝓤 (λ (kept′ : List ℕ). ex 𝓤 (λ (out′ : List ℕ). ex 𝓤 (λ (sessions′ : List (List ℕ)). ex 𝓤 (λ (streams′ : List (List ℕ)). ex 𝓤 (λ (objects′ : List Object). ex 𝓤 (λ (packed′ : List (List ℕ)). guard 𝓤 (Facts-4 t reading host turns input′ line′ kept′ out′ sessions′ streams′ objects′ packed′) (⋆ 𝓤 H A (At-4 reading host turns input′ line′ kept′ out′ sessions′ streams′ objects′ packed′))))))))))) (via 𝓤 (ex 𝓤 (λ (line′ : List ℕ). ex 𝓤 (λ (kept′ : List ℕ). ex 𝓤 (λ (out′ : List ℕ). ex 𝓤 (λ (sessions′ : List (List ℕ)). ex 𝓤 (λ (streams′ : List (List ℕ)). ex 𝓤 (λ (objects′ : List Object). ex 𝓤 (λ (packed′ : List (List ℕ)). guard 𝓤 (Facts-4 t reading host turns input′ line′ kept′ out′ sessions′ streams′ objects′ packed′) (⋆ 𝓤 H A (At-4 reading host turns input′ line′ kept′ out′ sessions′ streams′ objects′ packed′)))))))))) (via 𝓤 (ex 𝓤 (λ (kept′ : List ℕ). ex 𝓤 (λ (out′ : List ℕ). ex 𝓤 (λ (sessions′ : List (List ℕ)). ex 𝓤 (λ (streams′ : List (List ℕ)). ex 𝓤 (λ (objects′ : List Object). ex 𝓤 (λ (packed′ : List (List ℕ)). guard 𝓤 (Facts-4 t reading host turns input′ line′ kept′ out′ sessions′ streams′ objects′ packed′) (⋆ 𝓤 H A (At-4 reading host turns input′ line′ kept′ out′ sessions′ streams′ objects′ packed′))))))))) (via 𝓤 (ex 𝓤 (λ (out′ : List ℕ). ex 𝓤 (λ (sessions′ : List (List ℕ)). ex 𝓤 (λ (streams′ : List (List ℕ)). ex 𝓤 (λ (objects′ : List Object). ex 𝓤 (λ (packed′ : List (List ℕ)). guard 𝓤 (Facts-4 t reading host turns input′ line′ kept′ out′ sessions′ streams′ objects′ packed′) (⋆ 𝓤 H A (At-4 reading host turns input′ line′ kept′ out′ sessions′ streams′ objects′ packed′)))))))) (via 𝓤 (ex 𝓤 (λ (sessions′ : List (List ℕ)). ex 𝓤 (λ (streams′ : List (List ℕ)). ex 𝓤 (λ (objects′ : List Object). ex 𝓤 (λ (packed′ : List (List ℕ)). guard 𝓤 (Facts-4 t reading host turns input′ line′ kept′ out′ sessions′ streams′ objects′ packed′) (⋆ 𝓤 H A (At-4 reading host turns input′ line′ kept′ out′ sessions′ streams′ objects′ packed′))))))) (via 𝓤 (ex 𝓤 (λ (streams′ : List (List ℕ)). ex 𝓤 (λ (objects′ : List Object). ex 𝓤 (λ (packed′ : List (List ℕ)). guard 𝓤 (Facts-4 t reading host turns input′ line′ kept′ out′ sessions′ streams′ objects′ packed′) (⋆ 𝓤 H A (At-4 reading host turns input′ line′ kept′ out′ sessions′ streams′ objects′ packed′)))))) (via 𝓤 (ex 𝓤 (λ (objects′ : List Object). ex 𝓤 (λ (packed′ : List (List ℕ)). guard 𝓤 (Facts-4 t reading host turns input′ line′ kept′ out′ sessions′ streams′ objects′ packed′) (⋆ 𝓤 H A (At-4 reading host turns input′ line′ kept′ out′ sessions′ streams′ objects′ packed′))))) (via 𝓤 (ex 𝓤 (λ (packed′ : List (List ℕ)). guard 𝓤 (Facts-4 t reading host turns input′ line′ kept′ out′ sessions′ streams′ objects′ packed′) (⋆ 𝓤 H A (At-4 reading host turns input′ line′ kept′ out′ sessions′ streams′ objects′ packed′)))) (via 𝓤 (guard 𝓤 (Facts-4 t reading host turns input′ line′ kept′ out′ sessions′ streams′ objects′ packed′) (⋆ 𝓤 H A (At-4 reading host turns input′ line′ kept′ out′ sessions′ streams′ objects′ packed′))) (guardI 𝓤 (Facts-4 t reading host turns input′ line′ kept′ out′ sessions′ streams′ objects′ packed′) (⋆ 𝓤 H A (At-4 reading host turns input′ line′ kept′ out′ sessions′ streams′ objects′ packed′)) fs) (exI 𝓤 (λ (packed′ : List (List ℕ)). guard 𝓤 (Facts-4 t reading host turns input′ line′ kept′ out′ sessions′ streams′ objects′ packed′) (⋆ 𝓤 H A (At-4 reading host turns input′ line′ kept′ out′ sessions′ streams′ objects′ packed′))) packed′)) (exI 𝓤 (λ (objects′ : List Object). ex 𝓤 (λ (packed′ : List (List ℕ)). guard 𝓤 (Facts-4 t reading host turns input′ line′ kept′ out′ sessions′ streams′ objects′ packed′) (⋆ 𝓤 H A (At-4 reading host turns input′ line′ kept′ out′ sessions′ streams′ objects′ packed′)))) objects′)) (exI 𝓤 (λ (streams′ : List (List ℕ)). ex 𝓤 (λ (objects′ : List Object). ex 𝓤 (λ (packed′ : List (List ℕ)). guard 𝓤 (Facts-4 t reading host turns input′ line′ kept′ out′ sessions′ streams′ objects′ packed′) (⋆ 𝓤 H A (At-4 reading host turns input′ line′ kept′ out′ sessions′ streams′ objects′ packed′))))) streams′)) (exI 𝓤 (λ (sessions′ : List (List ℕ)). ex 𝓤 (λ (streams′ : List (List ℕ)). ex 𝓤 (λ (objects′ : List Object). ex 𝓤 (λ (packed′ : List (List ℕ)). guard 𝓤 (Facts-4 t reading host turns input′ line′ kept′ out′ sessions′ streams′ objects′ packed′) (⋆ 𝓤 H A (At-4 reading host turns input′ line′ kept′ out′ sessions′ streams′ objects′ packed′)))))) sessions′)) (exI 𝓤 (λ (out′ : List ℕ). ex 𝓤 (λ (sessions′ : List (List ℕ)). ex 𝓤 (λ (streams′ : List (List ℕ)). ex 𝓤 (λ (objects′ : List Object). ex 𝓤 (λ (packed′ : List (List ℕ)). guard 𝓤 (Facts-4 t reading host turns input′ line′ kept′ out′ sessions′ streams′ objects′ packed′) (⋆ 𝓤 H A (At-4 reading host turns input′ line′ kept′ out′ sessions′ streams′ objects′ packed′))))))) out′)) (exI 𝓤 (λ (kept′ : List ℕ). ex 𝓤 (λ (out′ : List ℕ). ex 𝓤 (λ (sessions′ : List (List ℕ)). ex 𝓤 (λ (streams′ : List (List ℕ)). ex 𝓤 (λ (objects′ : List Object). ex 𝓤 (λ (packed′ : List (List ℕ)). guard 𝓤 (Facts-4 t reading host turns input′ line′ kept′ out′ sessions′ streams′ objects′ packed′) (⋆ 𝓤 H A (At-4 reading host turns input′ line′ kept′ out′ sessions′ streams′ objects′ packed′)))))))) kept′)) (exI 𝓤 (λ (line′ : List ℕ). ex 𝓤 (λ (kept′ : List ℕ). ex 𝓤 (λ (out′ : List ℕ). ex 𝓤 (λ (sessions′ : List (List ℕ)). ex 𝓤 (λ (streams′ : List (List ℕ)). ex 𝓤 (λ (objects′ : List Object). ex 𝓤 (λ (packed′ : List (List ℕ)). guard 𝓤 (Facts-4 t reading host turns input′ line′ kept′ out′ sessions′ streams′ objects′ packed′) (⋆ 𝓤 H A (At-4 reading host turns input′ line′ kept′ out′ sessions′ streams′ objects′ packed′))))))))) line′)) (exI 𝓤 (λ (input′ : List ℕ). ex 𝓤 (λ (line′ : List ℕ). ex 𝓤 (λ (kept′ : List ℕ). ex 𝓤 (λ (out′ : List ℕ). ex 𝓤 (λ (sessions′ : List (List ℕ)). ex 𝓤 (λ (streams′ : List (List ℕ)). ex 𝓤 (λ (objects′ : List Object). ex 𝓤 (λ (packed′ : List (List ℕ)). guard 𝓤 (Facts-4 t reading host turns input′ line′ kept′ out′ sessions′ streams′ objects′ packed′) (⋆ 𝓤 H A (At-4 reading host turns input′ line′ kept′ out′ sessions′ streams′ objects′ packed′)))))))))) input′)) (exI 𝓤 (λ (turns : ℕ). ex 𝓤 (λ (input′ : List ℕ). ex 𝓤 (λ (line′ : List ℕ). ex 𝓤 (λ (kept′ : List ℕ). ex 𝓤 (λ (out′ : List ℕ). ex 𝓤 (λ (sessions′ : List (List ℕ)). ex 𝓤 (λ (streams′ : List (List ℕ)). ex 𝓤 (λ (objects′ : List Object). ex 𝓤 (λ (packed′ : List (List ℕ)). guard 𝓤 (Facts-4 t reading host turns input′ line′ kept′ out′ sessions′ streams′ objects′ packed′) (⋆ 𝓤 H A (At-4 reading host turns input′ line′ kept′ out′ sessions′ streams′ objects′ packed′))))))))))) turns)) (exI 𝓤 (λ (host : Host). ex 𝓤 (λ (turns : ℕ). ex 𝓤 (λ (input′ : List ℕ). ex 𝓤 (λ (line′ : List ℕ). ex 𝓤 (λ (kept′ : List ℕ). ex 𝓤 (λ (out′ : List ℕ). ex 𝓤 (λ (sessions′ : List (List ℕ)). ex 𝓤 (λ (streams′ : List (List ℕ)). ex 𝓤 (λ (objects′ : List Object). ex 𝓤 (λ (packed′ : List (List ℕ)). guard 𝓤 (Facts-4 t reading host turns input′ line′ kept′ out′ sessions′ streams′ objects′ packed′) (⋆ 𝓤 H A (At-4 reading host turns input′ line′ kept′ out′ sessions′ streams′ objects′ packed′)))))))))))) host)) (exI 𝓤 (λ (reading : Reading). ex 𝓤 (λ (host : Host). ex 𝓤 (λ (turns : ℕ). ex 𝓤 (λ (input′ : List ℕ). ex 𝓤 (λ (line′ : List ℕ). ex 𝓤 (λ (kept′ : List ℕ). ex 𝓤 (λ (out′ : List ℕ). ex 𝓤 (λ (sessions′ : List (List ℕ)). ex 𝓤 (λ (streams′ : List (List ℕ)). ex 𝓤 (λ (objects′ : List Object). ex 𝓤 (λ (packed′ : List (List ℕ)). guard 𝓤 (Facts-4 t reading host turns input′ line′ kept′ out′ sessions′ streams′ objects′ packed′) (⋆ 𝓤 H A (At-4 reading host turns input′ line′ kept′ out′ sessions′ streams′ objects′ packed′))))))))))))) reading)
 
-      again-4 : (t : ℕ) → (reading : Reading) → (host : Host) → (turns : ℕ) → (input′ : List ℕ) → (line′ : List ℕ) → (kept′ : List ℕ) → (out′ : List ℕ) → (sessions′ : List (List ℕ)) → (streams′ : List (List ℕ)) → (objects′ : List Object) → (packed′ : List ℕ) → (reading-is : Is (Reading-p .row) reading (Reading-p .val reading ∷ [])) → (host-is : Is (Host-p .row) host (Host-p .val host ∷ [])) → (turns-is : Is (u64-p .row) turns (u64-p .val turns ∷ [])) → (input′-len : length input′ ≡ n₁) → (line′-len : length line′ ≡ n₂) → (kept′-len : length kept′ ≡ n₃) → (out′-len : length out′ ≡ n₄) → (sessions′-len : length sessions′ ≡ n₅) → (streams′-len : length streams′ ≡ n₆) → (objects′-len : length objects′ ≡ n₇) → (packed′-len : length packed′ ≡ n₈) → (Unit {0}) → (turns < t) → ent 𝓤 (⋆ 𝓤 H A (At-4 reading host turns input′ line′ kept′ out′ sessions′ streams′ objects′ packed′)) (Below-4 t)
+      again-4 : (t : ℕ) → (reading : Reading) → (host : Host) → (turns : ℕ) → (input′ : List ℕ) → (line′ : List ℕ) → (kept′ : List ℕ) → (out′ : List ℕ) → (sessions′ : List (List ℕ)) → (streams′ : List (List ℕ)) → (objects′ : List Object) → (packed′ : List (List ℕ)) → (reading-is : Is (Reading-p .row) reading (Reading-p .val reading ∷ [])) → (host-is : Is (Host-p .row) host (Host-p .val host ∷ [])) → (turns-is : Is (u64-p .row) turns (u64-p .val turns ∷ [])) → (input′-len : length input′ ≡ n₁) → (line′-len : length line′ ≡ n₂) → (kept′-len : length kept′ ≡ n₃) → (out′-len : length out′ ≡ n₄) → (sessions′-len : length sessions′ ≡ n₅) → (streams′-len : length streams′ ≡ n₆) → (objects′-len : length objects′ ≡ n₇) → (packed′-len : length packed′ ≡ n₈) → (Unit {0}) → (turns < t) → ent 𝓤 (⋆ 𝓤 H A (At-4 reading host turns input′ line′ kept′ out′ sessions′ streams′ objects′ packed′)) (Below-4 t)
       again-4 t reading host turns input′ line′ kept′ out′ sessions′ streams′ objects′ packed′ reading-is host-is turns-is input′-len line′-len kept′-len out′-len sessions′-len streams′-len objects′-len packed′-len inv less = via 𝓤 (Inv-4 turns) (inv-at-4 turns reading host turns input′ line′ kept′ out′ sessions′ streams′ objects′ packed′ (refl, reading-is, host-is, turns-is, input′-len, line′-len, kept′-len, out′-len, sessions′-len, streams′-len, objects′-len, packed′-len, inv)) (via 𝓤 (guard 𝓤 (turns < t) (Inv-4 turns)) (guardI 𝓤 (turns < t) (Inv-4 turns) less) (exI 𝓤 (λ (u : ℕ). guard 𝓤 (u < t) (Inv-4 u)) turns))
 
-      turn-4 : (reading : Reading) → (host : Host) → (turns : ℕ) → (input′ : List ℕ) → (line′ : List ℕ) → (kept′ : List ℕ) → (out′ : List ℕ) → (sessions′ : List (List ℕ)) → (streams′ : List (List ℕ)) → (objects′ : List Object) → (packed′ : List ℕ) → (t-4 : ℕ) → (reading-is : Is (Reading-p .row) reading (Reading-p .val reading ∷ [])) → (host-is : Is (Host-p .row) host (Host-p .val host ∷ [])) → (turns-is : Is (u64-p .row) turns (u64-p .val turns ∷ [])) → (input′-len : length input′ ≡ n₁) → (line′-len : length line′ ≡ n₂) → (kept′-len : length kept′ ≡ n₃) → (out′-len : length out′ ≡ n₄) → (sessions′-len : length sessions′ ≡ n₅) → (streams′-len : length streams′ ≡ n₆) → (objects′-len : length objects′ ≡ n₇) → (packed′-len : length packed′ ≡ n₈) → (t-is-4 : t-4 ≡ turns) → (inv-4 : Unit {0}) → ent 𝓤 (⋆ 𝓤 H A (At-4 reading host turns input′ line′ kept′ out′ sessions′ streams′ objects′ packed′)) (Wp 𝓤 H C Λ En mir.turn-1 (afterTurn 𝓤 H (Below-4 t-4) Left-4))
+      turn-4 : (reading : Reading) → (host : Host) → (turns : ℕ) → (input′ : List ℕ) → (line′ : List ℕ) → (kept′ : List ℕ) → (out′ : List ℕ) → (sessions′ : List (List ℕ)) → (streams′ : List (List ℕ)) → (objects′ : List Object) → (packed′ : List (List ℕ)) → (t-4 : ℕ) → (reading-is : Is (Reading-p .row) reading (Reading-p .val reading ∷ [])) → (host-is : Is (Host-p .row) host (Host-p .val host ∷ [])) → (turns-is : Is (u64-p .row) turns (u64-p .val turns ∷ [])) → (input′-len : length input′ ≡ n₁) → (line′-len : length line′ ≡ n₂) → (kept′-len : length kept′ ≡ n₃) → (out′-len : length out′ ≡ n₄) → (sessions′-len : length sessions′ ≡ n₅) → (streams′-len : length streams′ ≡ n₆) → (objects′-len : length objects′ ≡ n₇) → (packed′-len : length packed′ ≡ n₈) → (t-is-4 : t-4 ≡ turns) → (inv-4 : Unit {0}) → ent 𝓤 (⋆ 𝓤 H A (At-4 reading host turns input′ line′ kept′ out′ sessions′ streams′ objects′ packed′)) (Wp 𝓤 H C Λ En mir.turn-1 (afterTurn 𝓤 H (Below-4 t-4) Left-4))
       unfolding afterTurn
       turn-4 reading host turns input′ line′ kept′ out′ sessions′ streams′ objects′ packed′ t-4 reading-is host-is turns-is input′-len line′-len kept′-len out′-len sessions′-len streams′-len objects′-len packed′-len t-is-4 inv-4 =
           qed W (At-4 reading host turns input′ line′ kept′ out′ sessions′ streams′ objects′ packed′) ∵ exec ! C Λ En mir.turn-1 (anyQ (afterTurn 𝓤 H (Below-4 t-4) Left-4)) $
@@ -349,7 +349,7 @@ module _ {M : Type 1} (𝓤 : URA M) (H : Heap 𝓤) (A : Atoms 𝓤) (W : Given
           move ! (17 ∷ 18 ∷ []) $
           lends-mut ! tt u8 b₃ o₃ kept′ n₃ (kept′-len) (λ ν-4·29-kept δ-4·29-kept.
           move ! (20 ∷ 21 ∷ []) $
-          lends-mut ! tt u64 b₈ o₈ packed′ n₈ (packed′-len) (λ ν-4·29-packed δ-4·29-packed.
+          lends-mut ! tt (Array u64 2) b₈ o₈ packed′ n₈ (packed′-len) (λ ν-4·29-packed δ-4·29-packed.
           nothing ! $ move ! (1 ∷ 0 ∷ []) $ join ! $ move ! (3 ∷ 0 ∷ []) $ join ! $ move ! (5 ∷ 0 ∷ []) $ join ! $ move ! (7 ∷ 0 ∷ []) $ join ! $ move ! (9 ∷ 0 ∷ []) $ join ! $ move ! (11 ∷ 0 ∷ []) $ join ! $ move ! (13 ∷ 0 ∷ []) $ join ! $
           use1 W (raw (toks 𝓤 A 7 (((ν-4·29-sessions ∷ []), ((ν-4·29-streams ∷ []), ((ν-4·29-objects ∷ []), ((ν-4·29-out ∷ []), ((ν-4·29-line ∷ []), ((ν-4·29-kept ∷ []), ((ν-4·29-packed ∷ []), tt)))))))) ((fullShare, (fullShare, (fullShare, (fullShare, (fullShare, (fullShare, (fullShare, tt)))))))))) (id⊢ 𝓤 _) $ nothing ! $
           owned ! (Command-p .row) (Is (Command-p .row)) (Command-p .makes 𝓤 H A W) r-4·14 (Command-p .val r-4·14 ∷ []) is-4·14 $ fjoin ! $
@@ -379,7 +379,7 @@ module _ {M : Type 1} (𝓤 : URA M) (H : Heap 𝓤) (A : Atoms 𝓤) (W : Given
           backs-view ! tt u8 b₂ o₂ (ws-4·14 .0) n₂ (len-4·14-line) ν-4·29-line $ move ! (16 ∷ 18 ∷ 12 ∷ []) $
           backs-mut ! tt u8 b₃ o₃ kept′ n₃ (kept′-len) room₃ ν-4·29-kept δ-4·29-kept (ws-4·29 .1 .1 .1 .1 .1 .0) (ws-4·29 .1 .1 .1 .1 .1 .0) wlen-4·29-5 (refl) (λ len-4·29-kept.
           move ! (15 ∷ 17 ∷ 12 ∷ []) $
-          backs-mut ! tt u64 b₈ o₈ packed′ n₈ (packed′-len) room₈ ν-4·29-packed δ-4·29-packed (ws-4·29 .1 .1 .1 .1 .1 .1 .0) (ws-4·29 .1 .1 .1 .1 .1 .1 .0) wlen-4·29-6 (refl) (λ len-4·29-packed.
+          backs-mut ! tt (Array u64 2) b₈ o₈ packed′ n₈ (packed′-len) room₈ ν-4·29-packed δ-4·29-packed (ws-4·29 .1 .1 .1 .1 .1 .1 .0) (ws-4·29 .1 .1 .1 .1 .1 .1 .0) wlen-4·29-6 (refl) (λ len-4·29-packed.
           move ! (14 ∷ []) $ drop ! $ move ! (14 ∷ []) $ drop ! $ move ! (14 ∷ []) $ drop ! $
           land ! (from ! (stop !)) (store ! 66 refl (Host-p .typed 𝓤 H A W r-4·29 is-4·29)) $
           knows ! (1 ≤ turns) (omega (arith, ltb-true, ltb-false, leb-true, leb-false, eqb-true, eqb-false)) (λ le-4·30.
@@ -395,12 +395,12 @@ module _ {M : Type 1} (𝓤 : URA M) (H : Heap 𝓤) (A : Atoms 𝓤) (W : Given
           by ! (exits tt input′ line′ kept′ out′ sessions′ streams′ objects′ packed′ refl input′-len line′-len kept′-len out′-len sessions′-len streams′-len objects′-len packed′-len)))
 
       turns-4 : (t : ℕ) → ent 𝓤 (Inv-4 t) (Wp 𝓤 H C Λ En mir.turn-1 (afterTurn 𝓤 H (Below-4 t) Left-4))
-      turns-4 t = exE 𝓤 (λ (reading : Reading). ex 𝓤 (λ (host : Host). ex 𝓤 (λ (turns : ℕ). ex 𝓤 (λ (input′ : List ℕ). ex 𝓤 (λ (line′ : List ℕ). ex 𝓤 (λ (kept′ : List ℕ). ex 𝓤 (λ (out′ : List ℕ). ex 𝓤 (λ (sessions′ : List (List ℕ)). ex 𝓤 (λ (streams′ : List (List ℕ)). ex 𝓤 (λ (objects′ : List Object). ex 𝓤 (λ (packed′ : List ℕ). guard 𝓤 (Facts-4 t reading host turns input′ line′ kept′ out′ sessions′ streams′ objects′ packed′) (⋆ 𝓤 H A (At-4 reading host turns input′ line′ kept′ out′ sessions′ streams′ objects′ packed′))))))))))))) (λ reading. exE 𝓤 (λ (host : Host). ex 𝓤 (λ (turns : ℕ). ex 𝓤 (λ (input′ : List ℕ). ex 𝓤 (λ (line′ : List ℕ). ex 𝓤 (λ (kept′ : List ℕ). ex 𝓤 (λ (out′ : List ℕ). ex 𝓤 (λ (sessions′ : List (List ℕ)). ex 𝓤 (λ (streams′ : List (List ℕ)). ex 𝓤 (λ (objects′ : List Object). ex 𝓤 (λ (packed′ : List ℕ). guard 𝓤 (Facts-4 t reading host turns input′ line′ kept′ out′ sessions′ streams′ objects′ packed′) (⋆ 𝓤 H A (At-4 reading host turns input′ line′ kept′ out′ sessions′ streams′ objects′ packed′)))))))))))) (λ host. exE 𝓤 (λ (turns : ℕ). ex 𝓤 (λ (input′ : List ℕ). ex 𝓤 (λ (line′ : List ℕ). ex 𝓤 (λ (kept′ : List ℕ). ex 𝓤 (λ (out′ : List ℕ). ex 𝓤 (λ (sessions′ : List (List ℕ)). ex 𝓤 (λ (streams′ : List (List ℕ)). ex 𝓤 (λ (objects′ : List Object). ex 𝓤 (λ (packed′ : List ℕ). guard 𝓤 (Facts-4 t reading host turns input′ line′ kept′ out′ sessions′ streams′ objects′ packed′) (⋆ 𝓤 H A (At-4 reading host turns input′ line′ kept′ out′ sessions′ streams′ objects′ packed′))))))))))) (λ turns. exE 𝓤 (λ (input′ : List ℕ). ex 𝓤 (λ (line′ : List ℕ). ex 𝓤 (λ (kept′ : List ℕ). ex 𝓤 (λ (out′ : List ℕ). ex 𝓤 (λ (sessions′ : List (List ℕ)). ex 𝓤 (λ (streams′ : List (List ℕ)). ex 𝓤 (λ (objects′ : List Object). ex 𝓤 (λ (packed′ : List ℕ). guard 𝓤 (Facts-4 t reading host turns input′ line′ kept′ out′ sessions′ streams′ objects′ packed′) (⋆ 𝓤 H A (At-4 reading host turns input′ line′ kept′ out′ sessions′ streams′ objects′ packed′)))))))))) (λ input′. exE 𝓤 (λ (line′ : List ℕ). ex 𝓤 (λ (kept′ : List ℕ). ex 𝓤 (λ (out′ : List ℕ). ex 𝓤 (λ (sessions′ : List (List ℕ)). ex 𝓤 (λ (streams′ : List (List ℕ)). ex 𝓤 (λ (objects′ : List Object). ex 𝓤 (λ (packed′ : List ℕ). guard 𝓤 (Facts-4 t reading host turns input′ line′ kept′ out′ sessions′ streams′ objects′ packed′) (⋆ 𝓤 H A (At-4 reading host turns input′ line′ kept′ out′ sessions′ streams′ objects′ packed′))))))))) (λ line′. exE 𝓤 (λ (kept′ : List ℕ). ex 𝓤 (λ (out′ : List ℕ). ex 𝓤 (λ (sessions′ : List (List ℕ)). ex 𝓤 (λ (streams′ : List (List ℕ)). ex 𝓤 (λ (objects′ : List Object). ex 𝓤 (λ (packed′ : List ℕ). guard 𝓤 (Facts-4 t reading host turns input′ line′ kept′ out′ sessions′ streams′ objects′ packed′) (⋆ 𝓤 H A (At-4 reading host turns input′ line′ kept′ out′ sessions′ streams′ objects′ packed′)))))))) (λ kept′. exE 𝓤 (λ (out′ : List ℕ). ex 𝓤 (λ (sessions′ : List (List ℕ)). ex 𝓤 (λ (streams′ : List (List ℕ)). ex 𝓤 (λ (objects′ : List Object). ex 𝓤 (λ (packed′ : List ℕ). guard 𝓤 (Facts-4 t reading host turns input′ line′ kept′ out′ sessions′ streams′ objects′ packed′) (⋆ 𝓤 H A (At-4 reading host turns input′ line′ kept′ out′ sessions′ streams′ objects′ packed′))))))) (λ out′. exE 𝓤 (λ (sessions′ : List (List ℕ)). ex 𝓤 (λ (streams′ : List (List ℕ)). ex 𝓤 (λ (objects′ : List Object). ex 𝓤 (λ (packed′ : List ℕ). guard 𝓤 (Facts-4 t reading host turns input′ line′ kept′ out′ sessions′ streams′ objects′ packed′) (⋆ 𝓤 H A (At-4 reading host turns input′ line′ kept′ out′ sessions′ streams′ objects′ packed′)))))) (λ sessions′. exE 𝓤 (λ (streams′ : List (List ℕ)). ex 𝓤 (λ (objects′ : List Object). ex 𝓤 (λ (packed′ : List ℕ). guard 𝓤 (Facts-4 t reading host turns input′ line′ kept′ out′ sessions′ streams′ objects′ packed′) (⋆ 𝓤 H A (At-4 reading host turns input′ line′ kept′ out′ sessions′ streams′ objects′ packed′))))) (λ streams′. exE 𝓤 (λ (objects′ : List Object). ex 𝓤 (λ (packed′ : List ℕ). guard 𝓤 (Facts-4 t reading host turns input′ line′ kept′ out′ sessions′ streams′ objects′ packed′) (⋆ 𝓤 H A (At-4 reading host turns input′ line′ kept′ out′ sessions′ streams′ objects′ packed′)))) (λ objects′. exE 𝓤 (λ (packed′ : List ℕ). guard 𝓤 (Facts-4 t reading host turns input′ line′ kept′ out′ sessions′ streams′ objects′ packed′) (⋆ 𝓤 H A (At-4 reading host turns input′ line′ kept′ out′ sessions′ streams′ objects′ packed′))) (λ packed′. guardE 𝓤 (Facts-4 t reading host turns input′ line′ kept′ out′ sessions′ streams′ objects′ packed′) (⋆ 𝓤 H A (At-4 reading host turns input′ line′ kept′ out′ sessions′ streams′ objects′ packed′)) (λ fs. turn-4 reading host turns input′ line′ kept′ out′ sessions′ streams′ objects′ packed′ t (fs .1) (fs .2) (fs .3) (fs .4) (fs .5) (fs .6) (fs .7) (fs .8) (fs .9) (fs .10) (fs .11) (fs .0) (fs .12)))))))))))))
+      turns-4 t = exE 𝓤 (λ (reading : Reading). ex 𝓤 (λ (host : Host). ex 𝓤 (λ (turns : ℕ). ex 𝓤 (λ (input′ : List ℕ). ex 𝓤 (λ (line′ : List ℕ). ex 𝓤 (λ (kept′ : List ℕ). ex 𝓤 (λ (out′ : List ℕ). ex 𝓤 (λ (sessions′ : List (List ℕ)). ex 𝓤 (λ (streams′ : List (List ℕ)). ex 𝓤 (λ (objects′ : List Object). ex 𝓤 (λ (packed′ : List (List ℕ)). guard 𝓤 (Facts-4 t reading host turns input′ line′ kept′ out′ sessions′ streams′ objects′ packed′) (⋆ 𝓤 H A (At-4 reading host turns input′ line′ kept′ out′ sessions′ streams′ objects′ packed′))))))))))))) (λ reading. exE 𝓤 (λ (host : Host). ex 𝓤 (λ (turns : ℕ). ex 𝓤 (λ (input′ : List ℕ). ex 𝓤 (λ (line′ : List ℕ). ex 𝓤 (λ (kept′ : List ℕ). ex 𝓤 (λ (out′ : List ℕ). ex 𝓤 (λ (sessions′ : List (List ℕ)). ex 𝓤 (λ (streams′ : List (List ℕ)). ex 𝓤 (λ (objects′ : List Object). ex 𝓤 (λ (packed′ : List (List ℕ)). guard 𝓤 (Facts-4 t reading host turns input′ line′ kept′ out′ sessions′ streams′ objects′ packed′) (⋆ 𝓤 H A (At-4 reading host turns input′ line′ kept′ out′ sessions′ streams′ objects′ packed′)))))))))))) (λ host. exE 𝓤 (λ (turns : ℕ). ex 𝓤 (λ (input′ : List ℕ). ex 𝓤 (λ (line′ : List ℕ). ex 𝓤 (λ (kept′ : List ℕ). ex 𝓤 (λ (out′ : List ℕ). ex 𝓤 (λ (sessions′ : List (List ℕ)). ex 𝓤 (λ (streams′ : List (List ℕ)). ex 𝓤 (λ (objects′ : List Object). ex 𝓤 (λ (packed′ : List (List ℕ)). guard 𝓤 (Facts-4 t reading host turns input′ line′ kept′ out′ sessions′ streams′ objects′ packed′) (⋆ 𝓤 H A (At-4 reading host turns input′ line′ kept′ out′ sessions′ streams′ objects′ packed′))))))))))) (λ turns. exE 𝓤 (λ (input′ : List ℕ). ex 𝓤 (λ (line′ : List ℕ). ex 𝓤 (λ (kept′ : List ℕ). ex 𝓤 (λ (out′ : List ℕ). ex 𝓤 (λ (sessions′ : List (List ℕ)). ex 𝓤 (λ (streams′ : List (List ℕ)). ex 𝓤 (λ (objects′ : List Object). ex 𝓤 (λ (packed′ : List (List ℕ)). guard 𝓤 (Facts-4 t reading host turns input′ line′ kept′ out′ sessions′ streams′ objects′ packed′) (⋆ 𝓤 H A (At-4 reading host turns input′ line′ kept′ out′ sessions′ streams′ objects′ packed′)))))))))) (λ input′. exE 𝓤 (λ (line′ : List ℕ). ex 𝓤 (λ (kept′ : List ℕ). ex 𝓤 (λ (out′ : List ℕ). ex 𝓤 (λ (sessions′ : List (List ℕ)). ex 𝓤 (λ (streams′ : List (List ℕ)). ex 𝓤 (λ (objects′ : List Object). ex 𝓤 (λ (packed′ : List (List ℕ)). guard 𝓤 (Facts-4 t reading host turns input′ line′ kept′ out′ sessions′ streams′ objects′ packed′) (⋆ 𝓤 H A (At-4 reading host turns input′ line′ kept′ out′ sessions′ streams′ objects′ packed′))))))))) (λ line′. exE 𝓤 (λ (kept′ : List ℕ). ex 𝓤 (λ (out′ : List ℕ). ex 𝓤 (λ (sessions′ : List (List ℕ)). ex 𝓤 (λ (streams′ : List (List ℕ)). ex 𝓤 (λ (objects′ : List Object). ex 𝓤 (λ (packed′ : List (List ℕ)). guard 𝓤 (Facts-4 t reading host turns input′ line′ kept′ out′ sessions′ streams′ objects′ packed′) (⋆ 𝓤 H A (At-4 reading host turns input′ line′ kept′ out′ sessions′ streams′ objects′ packed′)))))))) (λ kept′. exE 𝓤 (λ (out′ : List ℕ). ex 𝓤 (λ (sessions′ : List (List ℕ)). ex 𝓤 (λ (streams′ : List (List ℕ)). ex 𝓤 (λ (objects′ : List Object). ex 𝓤 (λ (packed′ : List (List ℕ)). guard 𝓤 (Facts-4 t reading host turns input′ line′ kept′ out′ sessions′ streams′ objects′ packed′) (⋆ 𝓤 H A (At-4 reading host turns input′ line′ kept′ out′ sessions′ streams′ objects′ packed′))))))) (λ out′. exE 𝓤 (λ (sessions′ : List (List ℕ)). ex 𝓤 (λ (streams′ : List (List ℕ)). ex 𝓤 (λ (objects′ : List Object). ex 𝓤 (λ (packed′ : List (List ℕ)). guard 𝓤 (Facts-4 t reading host turns input′ line′ kept′ out′ sessions′ streams′ objects′ packed′) (⋆ 𝓤 H A (At-4 reading host turns input′ line′ kept′ out′ sessions′ streams′ objects′ packed′)))))) (λ sessions′. exE 𝓤 (λ (streams′ : List (List ℕ)). ex 𝓤 (λ (objects′ : List Object). ex 𝓤 (λ (packed′ : List (List ℕ)). guard 𝓤 (Facts-4 t reading host turns input′ line′ kept′ out′ sessions′ streams′ objects′ packed′) (⋆ 𝓤 H A (At-4 reading host turns input′ line′ kept′ out′ sessions′ streams′ objects′ packed′))))) (λ streams′. exE 𝓤 (λ (objects′ : List Object). ex 𝓤 (λ (packed′ : List (List ℕ)). guard 𝓤 (Facts-4 t reading host turns input′ line′ kept′ out′ sessions′ streams′ objects′ packed′) (⋆ 𝓤 H A (At-4 reading host turns input′ line′ kept′ out′ sessions′ streams′ objects′ packed′)))) (λ objects′. exE 𝓤 (λ (packed′ : List (List ℕ)). guard 𝓤 (Facts-4 t reading host turns input′ line′ kept′ out′ sessions′ streams′ objects′ packed′) (⋆ 𝓤 H A (At-4 reading host turns input′ line′ kept′ out′ sessions′ streams′ objects′ packed′))) (λ packed′. guardE 𝓤 (Facts-4 t reading host turns input′ line′ kept′ out′ sessions′ streams′ objects′ packed′) (⋆ 𝓤 H A (At-4 reading host turns input′ line′ kept′ out′ sessions′ streams′ objects′ packed′)) (λ fs. turn-4 reading host turns input′ line′ kept′ out′ sessions′ streams′ objects′ packed′ t (fs .1) (fs .2) (fs .3) (fs .4) (fs .5) (fs .6) (fs .7) (fs .8) (fs .9) (fs .10) (fs .11) (fs .0) (fs .12)))))))))))))
 
-      loops-4 : (reading : Reading) (reading-is : Is (Reading-p .row) reading (Reading-p .val reading ∷ [])) → (host : Host) (host-is : Is (Host-p .row) host (Host-p .val host ∷ [])) → (turns : ℕ) (turns-is : Is (u64-p .row) turns (u64-p .val turns ∷ [])) → (input′ : List ℕ) (input′-len : length input′ ≡ n₁) → (line′ : List ℕ) (line′-len : length line′ ≡ n₂) → (kept′ : List ℕ) (kept′-len : length kept′ ≡ n₃) → (out′ : List ℕ) (out′-len : length out′ ≡ n₄) → (sessions′ : List (List ℕ)) (sessions′-len : length sessions′ ≡ n₅) → (streams′ : List (List ℕ)) (streams′-len : length streams′ ≡ n₆) → (objects′ : List Object) (objects′-len : length objects′ ≡ n₇) → (packed′ : List ℕ) (packed′-len : length packed′ ≡ n₈) → (Unit {0}) → ent 𝓤 (⋆ 𝓤 H A (At-4 reading host turns input′ line′ kept′ out′ sessions′ streams′ objects′ packed′)) (Wp 𝓤 H C Λ En (loop mir.turn-1) Left-4)
+      loops-4 : (reading : Reading) (reading-is : Is (Reading-p .row) reading (Reading-p .val reading ∷ [])) → (host : Host) (host-is : Is (Host-p .row) host (Host-p .val host ∷ [])) → (turns : ℕ) (turns-is : Is (u64-p .row) turns (u64-p .val turns ∷ [])) → (input′ : List ℕ) (input′-len : length input′ ≡ n₁) → (line′ : List ℕ) (line′-len : length line′ ≡ n₂) → (kept′ : List ℕ) (kept′-len : length kept′ ≡ n₃) → (out′ : List ℕ) (out′-len : length out′ ≡ n₄) → (sessions′ : List (List ℕ)) (sessions′-len : length sessions′ ≡ n₅) → (streams′ : List (List ℕ)) (streams′-len : length streams′ ≡ n₆) → (objects′ : List Object) (objects′-len : length objects′ ≡ n₇) → (packed′ : List (List ℕ)) (packed′-len : length packed′ ≡ n₈) → (Unit {0}) → ent 𝓤 (⋆ 𝓤 H A (At-4 reading host turns input′ line′ kept′ out′ sessions′ streams′ objects′ packed′)) (Wp 𝓤 H C Λ En (loop mir.turn-1) Left-4)
       loops-4 reading reading-is host host-is turns turns-is input′ input′-len line′ line′-len kept′ kept′-len out′ out′-len sessions′ sessions′-len streams′ streams′-len objects′ objects′-len packed′ packed′-len inv = via 𝓤 (Inv-4 turns) (inv-at-4 turns reading host turns input′ line′ kept′ out′ sessions′ streams′ objects′ packed′ (refl, reading-is, host-is, turns-is, input′-len, line′-len, kept′-len, out′-len, sessions′-len, streams′-len, objects′-len, packed′-len, inv)) (loop-rule 𝓤 H (W .laws) 𝓣 _<_ (Nat·lt-wfRel .wf) En mir.turn-1 Left-4 Inv-4 turns-4 turns)
 
-    begins : Sq W (‵ (MutSlice (named 0) κ₁ u8 .own (at-list b₁ o₁ γ₁ input) (sliceVal (b₁, o₁) n₁ ∷ [])) ∷ ‵ (flft κ₁ q₁) ∷ ‵ (MutSlice (named 0) κ₂ u8 .own (at-list b₂ o₂ γ₂ line) (sliceVal (b₂, o₂) n₂ ∷ [])) ∷ ‵ (flft κ₂ q₂) ∷ ‵ (MutSlice (named 0) κ₃ u8 .own (at-list b₃ o₃ γ₃ kept) (sliceVal (b₃, o₃) n₃ ∷ [])) ∷ ‵ (flft κ₃ q₃) ∷ ‵ (MutSlice (named 0) κ₄ u8 .own (at-list b₄ o₄ γ₄ out) (sliceVal (b₄, o₄) n₄ ∷ [])) ∷ ‵ (flft κ₄ q₄) ∷ ‵ (MutSlice (named 0) κ₅ (Array u64 5) .own (at-list b₅ o₅ γ₅ sessions) (sliceVal (b₅, o₅) n₅ ∷ [])) ∷ ‵ (flft κ₅ q₅) ∷ ‵ (MutSlice (named 0) κ₆ (Array u16 35) .own (at-list b₆ o₆ γ₆ streams) (sliceVal (b₆, o₆) n₆ ∷ [])) ∷ ‵ (flft κ₆ q₆) ∷ ‵ (MutSlice (named 0) κ₇ Object-t.the-row .own (at-list b₇ o₇ γ₇ objects) (sliceVal (b₇, o₇) n₇ ∷ [])) ∷ ‵ (flft κ₇ q₇) ∷ ‵ (MutSlice (named 0) κ₈ u64 .own (at-list b₈ o₈ γ₈ packed) (sliceVal (b₈, o₈) n₈ ∷ [])) ∷ ‵ (flft κ₈ q₈) ∷ free 𝓤 (sliceTy (tyRef erased mut (pointee (u64 .written)))) l₃₅ (free 𝓤 (tyRef erased mut (pointee (u64 .written))) l₃₄ (free 𝓤 (sliceTy (tyRef erased mut (pointee (u8 .written)))) l₃₃ (free 𝓤 (tyRef erased mut (pointee (u8 .written))) l₃₂ (free 𝓤 (sliceTy (tyRef erased imm (pointee (u8 .written)))) l₃₁ (free 𝓤 (tyRef erased imm (pointee (u8 .written))) l₃₀ (free 𝓤 (sliceTy (tyRef erased mut (pointee (u8 .written)))) l₂₉ (free 𝓤 (tyRef erased mut (pointee (u8 .written))) l₂₈ (free 𝓤 (sliceTy (tyRef erased mut (pointee (Object-t.the-row .written)))) l₂₇ (free 𝓤 (tyRef erased mut (pointee (Object-t.the-row .written))) l₂₆ (free 𝓤 (sliceTy (tyRef erased mut (pointee ((Array u16 35) .written)))) l₂₅ (free 𝓤 (tyRef erased mut (pointee ((Array u16 35) .written))) l₂₄ (free 𝓤 (sliceTy (tyRef erased mut (pointee ((Array u64 5) .written)))) l₂₃ (free 𝓤 (tyRef erased mut (pointee ((Array u64 5) .written))) l₂₂ (free 𝓤 (sliceTy (tyRef erased mut (pointee (u8 .written)))) l₂₁ (free 𝓤 (tyRef erased mut (pointee (u8 .written))) l₂₀ (free 𝓤 (sliceTy (tyRef erased mut (pointee (u8 .written)))) l₁₉ (free 𝓤 (tyRef erased mut (pointee (u8 .written))) l₁₈ (free 𝓤 (sliceTy (tyRef erased mut (pointee (u8 .written)))) l₁₇ (free 𝓤 (tyRef erased mut (pointee (u8 .written))) l₁₆ (free 𝓤 tyBool l₁₅ (free 𝓤 Command-l.mir l₁₄ (free 𝓤 tyBool l₁₃ (free 𝓤 tyBool l₁₂ (free 𝓤 (tyInt w64) l₁₁ (free 𝓤 Host-l.mir l₁₀ (free 𝓤 Reading-l.mir l₉ (full 𝓤 (sliceTy (tyRef (named 7) mut (pointee (u64 .written)))) l₈ (sliceVal (b₈, o₈) n₈) (full 𝓤 (sliceTy (tyRef (named 6) mut (pointee (Object-t.the-row .written)))) l₇ (sliceVal (b₇, o₇) n₇) (full 𝓤 (sliceTy (tyRef (named 5) mut (pointee ((Array u16 35) .written)))) l₆ (sliceVal (b₆, o₆) n₆) (full 𝓤 (sliceTy (tyRef (named 4) mut (pointee ((Array u64 5) .written)))) l₅ (sliceVal (b₅, o₅) n₅) (full 𝓤 (sliceTy (tyRef (named 3) mut (pointee (u8 .written)))) l₄ (sliceVal (b₄, o₄) n₄) (full 𝓤 (sliceTy (tyRef (named 2) mut (pointee (u8 .written)))) l₃ (sliceVal (b₃, o₃) n₃) (full 𝓤 (sliceTy (tyRef (named 1) mut (pointee (u8 .written)))) l₂ (sliceVal (b₂, o₂) n₂) (full 𝓤 (sliceTy (tyRef (named 0) mut (pointee (u8 .written)))) l₁ (sliceVal (b₁, o₁) n₁) (free 𝓤 tyUnit l₀ ([]))))))))))))))))))))))))))))))))))))) (runs C Λ En mir.t-1 (atRet En Post))
+    begins : Sq W (‵ (MutSlice (named 0) κ₁ u8 .own (at-list b₁ o₁ γ₁ input) (sliceVal (b₁, o₁) n₁ ∷ [])) ∷ ‵ (flft κ₁ q₁) ∷ ‵ (MutSlice (named 0) κ₂ u8 .own (at-list b₂ o₂ γ₂ line) (sliceVal (b₂, o₂) n₂ ∷ [])) ∷ ‵ (flft κ₂ q₂) ∷ ‵ (MutSlice (named 0) κ₃ u8 .own (at-list b₃ o₃ γ₃ kept) (sliceVal (b₃, o₃) n₃ ∷ [])) ∷ ‵ (flft κ₃ q₃) ∷ ‵ (MutSlice (named 0) κ₄ u8 .own (at-list b₄ o₄ γ₄ out) (sliceVal (b₄, o₄) n₄ ∷ [])) ∷ ‵ (flft κ₄ q₄) ∷ ‵ (MutSlice (named 0) κ₅ (Array u64 5) .own (at-list b₅ o₅ γ₅ sessions) (sliceVal (b₅, o₅) n₅ ∷ [])) ∷ ‵ (flft κ₅ q₅) ∷ ‵ (MutSlice (named 0) κ₆ (Array u16 35) .own (at-list b₆ o₆ γ₆ streams) (sliceVal (b₆, o₆) n₆ ∷ [])) ∷ ‵ (flft κ₆ q₆) ∷ ‵ (MutSlice (named 0) κ₇ Object-t.the-row .own (at-list b₇ o₇ γ₇ objects) (sliceVal (b₇, o₇) n₇ ∷ [])) ∷ ‵ (flft κ₇ q₇) ∷ ‵ (MutSlice (named 0) κ₈ (Array u64 2) .own (at-list b₈ o₈ γ₈ packed) (sliceVal (b₈, o₈) n₈ ∷ [])) ∷ ‵ (flft κ₈ q₈) ∷ free 𝓤 (sliceTy (tyRef erased mut (pointee ((Array u64 2) .written)))) l₃₅ (free 𝓤 (tyRef erased mut (pointee ((Array u64 2) .written))) l₃₄ (free 𝓤 (sliceTy (tyRef erased mut (pointee (u8 .written)))) l₃₃ (free 𝓤 (tyRef erased mut (pointee (u8 .written))) l₃₂ (free 𝓤 (sliceTy (tyRef erased imm (pointee (u8 .written)))) l₃₁ (free 𝓤 (tyRef erased imm (pointee (u8 .written))) l₃₀ (free 𝓤 (sliceTy (tyRef erased mut (pointee (u8 .written)))) l₂₉ (free 𝓤 (tyRef erased mut (pointee (u8 .written))) l₂₈ (free 𝓤 (sliceTy (tyRef erased mut (pointee (Object-t.the-row .written)))) l₂₇ (free 𝓤 (tyRef erased mut (pointee (Object-t.the-row .written))) l₂₆ (free 𝓤 (sliceTy (tyRef erased mut (pointee ((Array u16 35) .written)))) l₂₅ (free 𝓤 (tyRef erased mut (pointee ((Array u16 35) .written))) l₂₄ (free 𝓤 (sliceTy (tyRef erased mut (pointee ((Array u64 5) .written)))) l₂₃ (free 𝓤 (tyRef erased mut (pointee ((Array u64 5) .written))) l₂₂ (free 𝓤 (sliceTy (tyRef erased mut (pointee (u8 .written)))) l₂₁ (free 𝓤 (tyRef erased mut (pointee (u8 .written))) l₂₀ (free 𝓤 (sliceTy (tyRef erased mut (pointee (u8 .written)))) l₁₉ (free 𝓤 (tyRef erased mut (pointee (u8 .written))) l₁₈ (free 𝓤 (sliceTy (tyRef erased mut (pointee (u8 .written)))) l₁₇ (free 𝓤 (tyRef erased mut (pointee (u8 .written))) l₁₆ (free 𝓤 tyBool l₁₅ (free 𝓤 Command-l.mir l₁₄ (free 𝓤 tyBool l₁₃ (free 𝓤 tyBool l₁₂ (free 𝓤 (tyInt w64) l₁₁ (free 𝓤 Host-l.mir l₁₀ (free 𝓤 Reading-l.mir l₉ (full 𝓤 (sliceTy (tyRef (named 7) mut (pointee ((Array u64 2) .written)))) l₈ (sliceVal (b₈, o₈) n₈) (full 𝓤 (sliceTy (tyRef (named 6) mut (pointee (Object-t.the-row .written)))) l₇ (sliceVal (b₇, o₇) n₇) (full 𝓤 (sliceTy (tyRef (named 5) mut (pointee ((Array u16 35) .written)))) l₆ (sliceVal (b₆, o₆) n₆) (full 𝓤 (sliceTy (tyRef (named 4) mut (pointee ((Array u64 5) .written)))) l₅ (sliceVal (b₅, o₅) n₅) (full 𝓤 (sliceTy (tyRef (named 3) mut (pointee (u8 .written)))) l₄ (sliceVal (b₄, o₄) n₄) (full 𝓤 (sliceTy (tyRef (named 2) mut (pointee (u8 .written)))) l₃ (sliceVal (b₃, o₃) n₃) (full 𝓤 (sliceTy (tyRef (named 1) mut (pointee (u8 .written)))) l₂ (sliceVal (b₂, o₂) n₂) (full 𝓤 (sliceTy (tyRef (named 0) mut (pointee (u8 .written)))) l₁ (sliceVal (b₁, o₁) n₁) (free 𝓤 tyUnit l₀ ([]))))))))))))))))))))))))))))))))))))) (runs C Λ En mir.t-1 (atRet En Post))
     begins =
         -- 1: replay::reading::first_reading
         nothing ! $
@@ -427,17 +427,17 @@ module _ {M : Type 1} (𝓤 : URA M) (H : Heap 𝓤) (A : Atoms 𝓤) (W : Given
   module _ (𝓣 : Tables 𝓤 H) (known-reading-first-reading : Triple 𝓤 (𝓣 .C #reading-first-reading) (Of-reading-first-reading 𝓤 H A mem run)) (known-host-nobody : Triple 𝓤 (𝓣 .C #host-nobody) (Of-host-nobody 𝓤 H A mem run)) (known-serve-all-turns : Triple 𝓤 (𝓣 .C #serve-all-turns) (Of-serve-all-turns 𝓤 H A mem run)) (known-reading-read-line : Triple 𝓤 (𝓣 .C #reading-read-line) (Of-reading-read-line 𝓤 H A mem run)) (known-command-parse : Triple 𝓤 (𝓣 .C #command-parse) (Of-command-parse 𝓤 H A mem run)) (known-events-event : Triple 𝓤 (𝓣 .C #events-event) (Of-events-event 𝓤 H A mem run)) where
     walk : ent 𝓤 (onEntry 𝓤 H A f.signature (κ₁, (κ₂, (κ₃, (κ₄, (κ₅, (κ₆, (κ₇, (κ₈, tt)))))))) (q₁, (q₂, (q₃, (q₄, (q₅, (q₆, (q₇, (q₈, tt)))))))) x at) (WpFn 𝓤 H (𝓣 .C) (𝓣 .Λ) code.function (sliceVal (b₁, o₁) n₁ ∷ sliceVal (b₂, o₂) n₂ ∷ sliceVal (b₃, o₃) n₃ ∷ sliceVal (b₄, o₄) n₄ ∷ sliceVal (b₅, o₅) n₅ ∷ sliceVal (b₆, o₆) n₆ ∷ sliceVal (b₇, o₇) n₇ ∷ sliceVal (b₈, o₈) n₈ ∷ []) Post)
     walk =
-        qed W ((‵ (flft κ₁ q₁) ⊛ (‵ (flft κ₂ q₂) ⊛ (‵ (flft κ₃ q₃) ⊛ (‵ (flft κ₄ q₄) ⊛ (‵ (flft κ₅ q₅) ⊛ (‵ (flft κ₆ q₆) ⊛ (‵ (flft κ₇ q₇) ⊛ (‵ (flft κ₈ q₈) ⊛ ‵ ftrue)))))))) ∷ ‵ (owns (MutSlice (named 0) κ₁ u8 ∷ MutSlice (named 1) κ₂ u8 ∷ MutSlice (named 2) κ₃ u8 ∷ MutSlice (named 3) κ₄ u8 ∷ MutSlice (named 4) κ₅ (Array u64 5) ∷ MutSlice (named 5) κ₆ (Array u16 35) ∷ MutSlice (named 6) κ₇ Object-t.the-row ∷ MutSlice (named 7) κ₈ u64 ∷ []) x at) ∷ []) ∵ enter ! (𝓣 .C) (𝓣 .Λ) code.function (sliceVal (b₁, o₁) n₁ ∷ sliceVal (b₂, o₂) n₂ ∷ sliceVal (b₃, o₃) n₃ ∷ sliceVal (b₄, o₄) n₄ ∷ sliceVal (b₅, o₅) n₅ ∷ sliceVal (b₆, o₆) n₆ ∷ sliceVal (b₇, o₇) n₇ ∷ sliceVal (b₈, o₈) n₈ ∷ []) _ $
+        qed W ((‵ (flft κ₁ q₁) ⊛ (‵ (flft κ₂ q₂) ⊛ (‵ (flft κ₃ q₃) ⊛ (‵ (flft κ₄ q₄) ⊛ (‵ (flft κ₅ q₅) ⊛ (‵ (flft κ₆ q₆) ⊛ (‵ (flft κ₇ q₇) ⊛ (‵ (flft κ₈ q₈) ⊛ ‵ ftrue)))))))) ∷ ‵ (owns (MutSlice (named 0) κ₁ u8 ∷ MutSlice (named 1) κ₂ u8 ∷ MutSlice (named 2) κ₃ u8 ∷ MutSlice (named 3) κ₄ u8 ∷ MutSlice (named 4) κ₅ (Array u64 5) ∷ MutSlice (named 5) κ₆ (Array u16 35) ∷ MutSlice (named 6) κ₇ Object-t.the-row ∷ MutSlice (named 7) κ₈ (Array u64 2) ∷ []) x at) ∷ []) ∵ enter ! (𝓣 .C) (𝓣 .Λ) code.function (sliceVal (b₁, o₁) n₁ ∷ sliceVal (b₂, o₂) n₂ ∷ sliceVal (b₃, o₃) n₃ ∷ sliceVal (b₄, o₄) n₄ ∷ sliceVal (b₅, o₅) n₅ ∷ sliceVal (b₆, o₆) n₆ ∷ sliceVal (b₇, o₇) n₇ ∷ sliceVal (b₈, o₈) n₈ ∷ []) _ $
         alloc1 ! (λ l₀. alloc1 ! (λ l₁. alloc1 ! (λ l₂. alloc1 ! (λ l₃. alloc1 ! (λ l₄. alloc1 ! (λ l₅. alloc1 ! (λ l₆. alloc1 ! (λ l₇. alloc1 ! (λ l₈. alloc1 ! (λ l₉. alloc1 ! (λ l₁₀. alloc1 ! (λ l₁₁. alloc1 ! (λ l₁₂. alloc1 ! (λ l₁₃. alloc1 ! (λ l₁₄. alloc1 ! (λ l₁₅. alloc1 ! (λ l₁₆. alloc1 ! (λ l₁₇. alloc1 ! (λ l₁₈. alloc1 ! (λ l₁₉. alloc1 ! (λ l₂₀. alloc1 ! (λ l₂₁. alloc1 ! (λ l₂₂. alloc1 ! (λ l₂₃. alloc1 ! (λ l₂₄. alloc1 ! (λ l₂₅. alloc1 ! (λ l₂₆. alloc1 ! (λ l₂₇. alloc1 ! (λ l₂₈. alloc1 ! (λ l₂₉. alloc1 ! (λ l₃₀. alloc1 ! (λ l₃₁. alloc1 ! (λ l₃₂. alloc1 ! (λ l₃₃. alloc1 ! (λ l₃₄. alloc1 ! (λ l₃₅. alloc0 ! $ params1 ! $ pass1 ! (init ! 68 refl (tt, (tt, (record { fits = room₁ .0 }, tt)))) $ pass1 ! (init ! 66 refl (tt, (tt, (record { fits = room₂ .0 }, tt)))) $ pass1 ! (init ! 64 refl (tt, (tt, (record { fits = room₃ .0 }, tt)))) $ pass1 ! (init ! 62 refl (tt, (tt, (record { fits = room₄ .0 }, tt)))) $ pass1 ! (init ! 60 refl (tt, (tt, (record { fits = room₅ .0 }, tt)))) $ pass1 ! (init ! 58 refl (tt, (tt, (record { fits = room₆ .0 }, tt)))) $ pass1 ! (init ! 56 refl (tt, (tt, (record { fits = room₇ .0 }, tt)))) $ pass1 ! (init ! 54 refl (tt, (tt, (record { fits = room₈ .0 }, tt)))) $ pass0 ! $ move ! (73 ∷ []) $ fsplit ! $ move ! (1 ∷ []) $ fsplit ! $ move ! (1 ∷ []) $ fsplit ! $ move ! (1 ∷ []) $ fsplit ! $ move ! (1 ∷ []) $ fsplit ! $ move ! (1 ∷ []) $ fsplit ! $ move ! (1 ∷ []) $ fsplit ! $ move ! (1 ∷ []) $ fsplit ! $ move ! (81 ∷ []) $ split ! $ move ! (1 ∷ []) $ split ! $ move ! (1 ∷ []) $ split ! $ move ! (1 ∷ []) $ split ! $ move ! (1 ∷ []) $ split ! $ move ! (1 ∷ []) $ split ! $ move ! (1 ∷ []) $ split ! $ move ! (1 ∷ []) $ split ! $ move ! (1 ∷ []) $ drop ! $ move ! (9 ∷ []) $ drop ! $ move ! (15 ∷ 7 ∷ 14 ∷ 6 ∷ 13 ∷ 5 ∷ 12 ∷ 4 ∷ 11 ∷ 3 ∷ 10 ∷ 2 ∷ 9 ∷ 1 ∷ 8 ∷ 0 ∷ 16 ∷ 17 ∷ 18 ∷ 19 ∷ 20 ∷ 21 ∷ 22 ∷ 23 ∷ 24 ∷ 25 ∷ 26 ∷ 27 ∷ 28 ∷ 29 ∷ 30 ∷ 31 ∷ 32 ∷ 33 ∷ 34 ∷ 35 ∷ 36 ∷ 37 ∷ 38 ∷ 39 ∷ 40 ∷ 41 ∷ 42 ∷ 43 ∷ 44 ∷ 45 ∷ 46 ∷ 47 ∷ 48 ∷ 49 ∷ 50 ∷ 51 ∷ 52 ∷ 53 ∷ 54 ∷ 55 ∷ 56 ∷ 57 ∷ 58 ∷ 59 ∷ 60 ∷ 61 ∷ 62 ∷ 63 ∷ 64 ∷ 65 ∷ 66 ∷ 67 ∷ 68 ∷ 69 ∷ 70 ∷ 71 ∷ 72 ∷ 73 ∷ 74 ∷ 75 ∷ 76 ∷ 77 ∷ 78 ∷ 79 ∷ 80 ∷ 81 ∷ 82 ∷ 83 ∷ 84 ∷ 85 ∷ 86 ∷ 87 ∷ []) $
         begins 𝓣 known-reading-first-reading known-host-nobody known-serve-all-turns known-reading-read-line known-command-parse known-events-event l₀ l₁ l₂ l₃ l₄ l₅ l₆ l₇ l₈ l₉ l₁₀ l₁₁ l₁₂ l₁₃ l₁₄ l₁₅ l₁₆ l₁₇ l₁₈ l₁₉ l₂₀ l₂₁ l₂₂ l₂₃ l₂₄ l₂₅ l₂₆ l₂₇ l₂₈ l₂₉ l₃₀ l₃₁ l₃₂ l₃₃ l₃₄ l₃₅))))))))))))))))))))))))))))))))))))
 
 module _ {M : Type 1} (𝓤 : URA M) (H : Heap 𝓤) (A : Atoms 𝓤) (W : Given 𝓤 H A) (mem : Memory → SProp 𝓤) (run : Routine → Fun 𝓤) (𝓣 : Tables 𝓤 H) (known-reading-first-reading : Triple 𝓤 (𝓣 .C #reading-first-reading) (Of-reading-first-reading 𝓤 H A mem run)) (known-host-nobody : Triple 𝓤 (𝓣 .C #host-nobody) (Of-host-nobody 𝓤 H A mem run)) (known-serve-all-turns : Triple 𝓤 (𝓣 .C #serve-all-turns) (Of-serve-all-turns 𝓤 H A mem run)) (known-reading-read-line : Triple 𝓤 (𝓣 .C #reading-read-line) (Of-reading-read-line 𝓤 H A mem run)) (known-command-parse : Triple 𝓤 (𝓣 .C #command-parse) (Of-command-parse 𝓤 H A mem run)) (known-events-event : Triple 𝓤 (𝓣 .C #events-event) (Of-events-event 𝓤 H A mem run)) where
   walks : Walks 𝓤 H A f.ended stayed (WpFn 𝓤 H (𝓣 .C) (𝓣 .Λ) code.function) (f.clauses 𝓤 H A mem run)
-  walks = walked 𝓤 H A f.ended stayed (f.clauses 𝓤 H A mem run) (WpFn 𝓤 H (𝓣 .C) (𝓣 .Λ) code.function) (λ κs. (slice-vals, (slice-vals, (slice-vals, (slice-vals, (slice-vals, (slice-vals, (slice-vals, (slice-vals, tt))))))))) (λ κs. (mut-slice-tells (named 0) (κs .0) u8, (mut-slice-tells (named 1) (κs .1 .0) u8, (mut-slice-tells (named 2) (κs .1 .1 .0) u8, (mut-slice-tells (named 3) (κs .1 .1 .1 .0) u8, (mut-slice-tells (named 4) (κs .1 .1 .1 .1 .0) (Array u64 5), (mut-slice-tells (named 5) (κs .1 .1 .1 .1 .1 .0) (Array u16 35), (mut-slice-tells (named 6) (κs .1 .1 .1 .1 .1 .1 .0) Object-t.the-row, (mut-slice-tells (named 7) (κs .1 .1 .1 .1 .1 .1 .1 .0) u64, tt)))))))))
+  walks = walked 𝓤 H A f.ended stayed (f.clauses 𝓤 H A mem run) (WpFn 𝓤 H (𝓣 .C) (𝓣 .Λ) code.function) (λ κs. (slice-vals, (slice-vals, (slice-vals, (slice-vals, (slice-vals, (slice-vals, (slice-vals, (slice-vals, tt))))))))) (λ κs. (mut-slice-tells (named 0) (κs .0) u8, (mut-slice-tells (named 1) (κs .1 .0) u8, (mut-slice-tells (named 2) (κs .1 .1 .0) u8, (mut-slice-tells (named 3) (κs .1 .1 .1 .0) u8, (mut-slice-tells (named 4) (κs .1 .1 .1 .1 .0) (Array u64 5), (mut-slice-tells (named 5) (κs .1 .1 .1 .1 .1 .0) (Array u16 35), (mut-slice-tells (named 6) (κs .1 .1 .1 .1 .1 .1 .0) Object-t.the-row, (mut-slice-tells (named 7) (κs .1 .1 .1 .1 .1 .1 .1 .0) (Array u64 2), tt)))))))))
       (λ κs qs bounds a g are. via 𝓤 _ (fst∗ 𝓤 _ (emp 𝓤)) (walk 𝓤 H A W mem run (κs .0) (qs .0) (a .0 .ptr .0) (a .0 .ptr .1) (a .0 .name) (a .0 .now) (κs .1 .0) (qs .1 .0) (a .1 .0 .ptr .0) (a .1 .0 .ptr .1) (a .1 .0 .name) (a .1 .0 .now) (κs .1 .1 .0) (qs .1 .1 .0) (a .1 .1 .0 .ptr .0) (a .1 .1 .0 .ptr .1) (a .1 .1 .0 .name) (a .1 .1 .0 .now) (κs .1 .1 .1 .0) (qs .1 .1 .1 .0) (a .1 .1 .1 .0 .ptr .0) (a .1 .1 .1 .0 .ptr .1) (a .1 .1 .1 .0 .name) (a .1 .1 .1 .0 .now) (κs .1 .1 .1 .1 .0) (qs .1 .1 .1 .1 .0) (a .1 .1 .1 .1 .0 .ptr .0) (a .1 .1 .1 .1 .0 .ptr .1) (a .1 .1 .1 .1 .0 .name) (a .1 .1 .1 .1 .0 .now) (κs .1 .1 .1 .1 .1 .0) (qs .1 .1 .1 .1 .1 .0) (a .1 .1 .1 .1 .1 .0 .ptr .0) (a .1 .1 .1 .1 .1 .0 .ptr .1) (a .1 .1 .1 .1 .1 .0 .name) (a .1 .1 .1 .1 .1 .0 .now) (κs .1 .1 .1 .1 .1 .1 .0) (qs .1 .1 .1 .1 .1 .1 .0) (a .1 .1 .1 .1 .1 .1 .0 .ptr .0) (a .1 .1 .1 .1 .1 .1 .0 .ptr .1) (a .1 .1 .1 .1 .1 .1 .0 .name) (a .1 .1 .1 .1 .1 .1 .0 .now) (κs .1 .1 .1 .1 .1 .1 .1 .0) (qs .1 .1 .1 .1 .1 .1 .1 .0) (a .1 .1 .1 .1 .1 .1 .1 .0 .ptr .0) (a .1 .1 .1 .1 .1 .1 .1 .0 .ptr .1) (a .1 .1 .1 .1 .1 .1 .1 .0 .name) (a .1 .1 .1 .1 .1 .1 .1 .0 .now) (are .0 .0 .1) (are .1 .0 .0 .1) (are .1 .1 .0 .0 .1) (are .1 .1 .1 .0 .0 .1) (are .1 .1 .1 .1 .0 .0 .1) (are .1 .1 .1 .1 .1 .0 .0 .1) (are .1 .1 .1 .1 .1 .1 .0 .0 .1) (are .1 .1 .1 .1 .1 .1 .1 .0 .0 .1) 𝓣 known-reading-first-reading known-host-nobody known-serve-all-turns known-reading-read-line known-command-parse known-events-event))
 
   meets : Meets 𝓤 H A f.signature (WpFn 𝓤 H (𝓣 .C) (𝓣 .Λ) code.function) (f.spec 𝓤 H A mem run)
-  meets = walk-meets 𝓤 H A f.ended stayed W (goes-slice 𝓤 H A W 8 0 tt (plain (λ _. u8)), (goes-slice 𝓤 H A W 8 1 tt (plain (λ _. u8)), (goes-slice 𝓤 H A W 8 2 tt (plain (λ _. u8)), (goes-slice 𝓤 H A W 8 3 tt (plain (λ _. u8)), (goes-slice 𝓤 H A W 8 4 tt (plain (λ _. (Array u64 5))), (goes-slice 𝓤 H A W 8 5 tt (plain (λ _. (Array u16 35))), (goes-slice 𝓤 H A W 8 6 tt (plain (λ _. Object-t.the-row)), (goes-slice 𝓤 H A W 8 7 tt (plain (λ _. u64)), tt)))))))) (f.clauses 𝓤 H A mem run) (WpFn 𝓤 H (𝓣 .C) (𝓣 .Λ) code.function) (WpFn-mono 𝓤 H (W .laws) 𝓣 code.function) walks
+  meets = walk-meets 𝓤 H A f.ended stayed W (goes-slice 𝓤 H A W 8 0 tt (plain (λ _. u8)), (goes-slice 𝓤 H A W 8 1 tt (plain (λ _. u8)), (goes-slice 𝓤 H A W 8 2 tt (plain (λ _. u8)), (goes-slice 𝓤 H A W 8 3 tt (plain (λ _. u8)), (goes-slice 𝓤 H A W 8 4 tt (plain (λ _. (Array u64 5))), (goes-slice 𝓤 H A W 8 5 tt (plain (λ _. (Array u16 35))), (goes-slice 𝓤 H A W 8 6 tt (plain (λ _. Object-t.the-row)), (goes-slice 𝓤 H A W 8 7 tt (plain (λ _. (Array u64 2))), tt)))))))) (f.clauses 𝓤 H A mem run) (WpFn 𝓤 H (𝓣 .C) (𝓣 .Λ) code.function) (WpFn-mono 𝓤 H (W .laws) 𝓣 code.function) walks
 
 pub serve-spec : {M : Type 1} → stated.statement M
 unfolding code.routine tablesOf

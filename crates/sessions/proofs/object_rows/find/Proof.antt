@@ -52,7 +52,7 @@ use Rattle.walk.proofs.Steps.{past, one, yes-of, no-of, in-block, arm-of, holds
 use borrow.Rule.Slice.PartMut.{midOf, putMid}
 use Rattle.walk.proofs.Parts.{part-len, lends-part, backs-part, parts-shr}
 use Rattle.walk.proofs.Arrays.{rep-is, lends-array, backs-array}
-use Rattle.sessions.specs.Objects.{objectPlace, foundOf, greatestOf, storedOf, storedRow, removedRow}
+use Rattle.sessions.specs.Objects.{objectPlace, foundOf, storedOf, storedRow, removedRow}
 use Rattle.sessions.proofs.ObjectSearch.{Under, place-under}
 use Rattle.sessions.specs.declared.objects.Object.{Object}
 use Rattle.sessions.proofs.objects.Object as Object-t
@@ -82,8 +82,8 @@ use Rattle.sessions.proofs.object_rows.find.Statement as stated
 use Rattle.sessions.proofs.object_rows.find.Code as code
 use Rattle.sessions.proofs.object_rows.find.Code.Mir as mir
 
-abbrev Object-of : ObjectNumber → ℕ → ℕ → ℕ → Object
-Object-of x0 x1 x2 x3 = record { number = x0; kind = x1; bridged = x2; handle = x3 }
+abbrev Object-of : ObjectNumber → ℕ → ℕ → ℕ → ℕ → Object
+Object-of x0 x1 x2 x3 x4 = record { number = x0; kind = x1; bridged = x2; handle = x3; parent = x4 }
 
 abbrev Object-p : Plain
 Object-p = record { row = Object-t.the-row; val = LL.val Object-t.the-type Object-l.the-laws; tells = LL.tells Object-t.the-type Object-l.the-laws; makes = λ 𝓤 H A W. LL.makes Object-t.the-type Object-l.the-plain 𝓤 H A; ty = Object-l.mir; typed = λ 𝓤 H A W x is. LL.lawful Object-t.the-type Object-l.the-laws 𝓤 H A W .typed x _ is .0; copies = λ 𝓤 H A W. LL.copy Object-t.the-type Object-l.the-copy 𝓤 H A W }
@@ -156,20 +156,20 @@ module _ {M : Type 1} (𝓤 : URA M) (H : Heap 𝓤) (A : Atoms 𝓤) (W : Given
         knows ! (Is (u64-p .row) i (u64-p .val i ∷ [])) (EL.owed Place-t.the-type Place-l.the-laws (Place-At i) _ good-2 .0) (λ i-is.
         switches-on ! (load ! (from ! (vrt ! refl (fld ! refl (stop !)))) (look-tag ! 14 (whole !))) $ exec ! C Λ En (arm-of 0 (one mir.t-2)) (anyQ (afterSeq 𝓤 H (Wp 𝓤 H C Λ En mir.t-3 (atReturn 𝓤 H En Post)) (atReturn 𝓤 H En Post))) $
         assigns ! (of-opd ! (load ! (from ! (vrt ! refl (fld ! refl (stop !)))) (look-in ! 14 (in-variant ! 0 0 refl refl (whole !))))) (from ! (stop !)) (init ! 12 refl (u64-p .typed 𝓤 H A W i i-is)) $
-        knows ! (i * 8 < 2 ^ 64) ((omega (arith, ltb-true, ltb-false, leb-true, leb-false, eqb-true, eqb-false, in-use i e-2))) (λ fits-2·At·2.
-        assigns ! (bin ! (load ! (from ! (stop !)) (look ! 12 refl)) (lit ! tt) (record { fits = fits-2·At·2 })) (from ! (stop !)) (init ! 6 refl (u64-p .typed 𝓤 H A W (i * 8) ((refl, fits-2·At·2)))) $
+        knows ! (i * 12 < 2 ^ 64) ((omega (arith, ltb-true, ltb-false, leb-true, leb-false, eqb-true, eqb-false, in-use i e-2))) (λ fits-2·At·2.
+        assigns ! (bin ! (load ! (from ! (stop !)) (look ! 12 refl)) (lit ! tt) (record { fits = fits-2·At·2 })) (from ! (stop !)) (init ! 6 refl (u64-p .typed 𝓤 H A W (i * 12) ((refl, fits-2·At·2)))) $
         assigns ! (bin ! (load ! (from ! (fld ! refl (stop !))) (look-in ! 20 (sub ! 0 refl (whole !)))) (load ! (from ! (stop !)) (look ! 6 refl)) tt) (from ! (stop !)) (init ! 4 refl (tt, tt)) $
-        rewrite ! 4 (λ (p : ℕ). ‵ (fat fullShare tyPtr l₉ 0 (vptr b₁ p))) (sym (place-is 8 o₁ i)) refl $
+        rewrite ! 4 (λ (p : ℕ). ‵ (fat fullShare tyPtr l₉ 0 (vptr b₁ p))) (sym (place-is 12 o₁ i)) refl $
         knows ! (i < length row) ((omega (arith, ltb-true, ltb-false, leb-true, leb-false, eqb-true, eqb-false, in-use i e-2))) (λ index-2·At·4.
-        views-elem ! tt Object-p b₁ o₁ row n₁ (refl) i ((Object-of (ObjectNumber-of 0) 0 0 0)) index-2·At·4 (λ s-2·At·4 is-2·At·4.
-        assigns ! (of-opd ! (load ! (from ! (hop ! (look ! 8 refl) (stop !))) (look-raw ! 0 refl))) (from ! (stop !)) (init ! 6 refl (Object-p .typed 𝓤 H A W (getD row i ((Object-of (ObjectNumber-of 0) 0 0 0))) is-2·At·4)) $
-        unviews-elem ! tt Object-p b₁ o₁ row n₁ (refl) room₁ i ((Object-of (ObjectNumber-of 0) 0 0 0)) index-2·At·4 s-2·At·4 $
-        assigns ! (of-opd ! (load ! (from ! (stop !)) (look ! 2 refl))) (from ! (stop !)) (init ! 10 refl (Object-p .typed 𝓤 H A W (getD row i ((Object-of (ObjectNumber-of 0) 0 0 0))) is-2·At·4)) $
-        assigns-last ! (agg ! (and-then ! (lit ! tt) (and-then ! (load ! (from ! (stop !)) (look ! 10 refl)) (no-more !)))) (from ! (stop !)) (init ! 8 refl (Found-p .typed 𝓤 H A W (Found-Held (getD row i ((Object-of (ObjectNumber-of 0) 0 0 0)))) (EL.owes Found-t.the-type Found-l.the-laws (Found-Held (getD row i ((Object-of (ObjectNumber-of 0) 0 0 0)))) (is-2·At·4, tt)))) $
+        views-elem ! tt Object-p b₁ o₁ row n₁ (refl) i ((Object-of (ObjectNumber-of 0) 0 0 0 0)) index-2·At·4 (λ s-2·At·4 is-2·At·4.
+        assigns ! (of-opd ! (load ! (from ! (hop ! (look ! 8 refl) (stop !))) (look-raw ! 0 refl))) (from ! (stop !)) (init ! 6 refl (Object-p .typed 𝓤 H A W (getD row i ((Object-of (ObjectNumber-of 0) 0 0 0 0))) is-2·At·4)) $
+        unviews-elem ! tt Object-p b₁ o₁ row n₁ (refl) room₁ i ((Object-of (ObjectNumber-of 0) 0 0 0 0)) index-2·At·4 s-2·At·4 $
+        assigns ! (of-opd ! (load ! (from ! (stop !)) (look ! 2 refl))) (from ! (stop !)) (init ! 10 refl (Object-p .typed 𝓤 H A W (getD row i ((Object-of (ObjectNumber-of 0) 0 0 0 0))) is-2·At·4)) $
+        assigns-last ! (agg ! (and-then ! (lit ! tt) (and-then ! (load ! (from ! (stop !)) (look ! 10 refl)) (no-more !)))) (from ! (stop !)) (init ! 8 refl (Found-p .typed 𝓤 H A W (Found-Held (getD row i ((Object-of (ObjectNumber-of 0) 0 0 0 0)))) (EL.owes Found-t.the-type Found-l.the-laws (Found-Held (getD row i ((Object-of (ObjectNumber-of 0) 0 0 0 0)))) (is-2·At·4, tt)))) $
         exec ! C Λ En mir.t-3 (atRet En Post) $
-        assigns ! (of-opd ! (load ! (from ! (stop !)) (look ! 8 refl))) (from ! (stop !)) (init ! 22 refl (Found-p .typed 𝓤 H A W (Found-Held (getD row i ((Object-of (ObjectNumber-of 0) 0 0 0)))) (EL.owes Found-t.the-type Found-l.the-laws (Found-Held (getD row i ((Object-of (ObjectNumber-of 0) 0 0 0)))) (is-2·At·4, tt)))) $
+        assigns ! (of-opd ! (load ! (from ! (stop !)) (look ! 8 refl))) (from ! (stop !)) (init ! 22 refl (Found-p .typed 𝓤 H A W (Found-Held (getD row i ((Object-of (ObjectNumber-of 0) 0 0 0 0)))) (EL.owes Found-t.the-type Found-l.the-laws (Found-Held (getD row i ((Object-of (ObjectNumber-of 0) 0 0 0 0)))) (is-2·At·4, tt)))) $
         returns ! (look ! 22 refl) $ forget ! 2 refl $ forget ! 4 refl $ forget ! 6 refl $ forget ! 8 refl $ forget ! 10 refl $ forget ! 12 refl $ forget ! 14 refl $ forget ! 16 refl $ forget ! 18 refl $ forget ! 20 refl $ forget ! 22 refl $ move ! (22 ∷ 23 ∷ []) $ free1 ! $ move ! (20 ∷ 21 ∷ []) $ free1 ! $ move ! (18 ∷ 19 ∷ []) $ free1 ! $ move ! (16 ∷ 17 ∷ []) $ free1 ! $ move ! (14 ∷ 15 ∷ []) $ free1 ! $ move ! (12 ∷ 13 ∷ []) $ free1 ! $ move ! (10 ∷ 11 ∷ []) $ free1 ! $ move ! (8 ∷ 9 ∷ []) $ free1 ! $ move ! (6 ∷ 7 ∷ []) $ free1 ! $ move ! (4 ∷ 5 ∷ []) $ free1 ! $ move ! (2 ∷ 3 ∷ []) $ free1 ! $ free0 ! $
-        by ! (exits (Found-Held (getD row i ((Object-of (ObjectNumber-of 0) 0 0 0)))) (ap (foundOf row) (sym e-2)) (EL.owes Found-t.the-type Found-l.the-laws (Found-Held (getD row i ((Object-of (ObjectNumber-of 0) 0 0 0)))) (is-2·At·4, tt)))))))
+        by ! (exits (Found-Held (getD row i ((Object-of (ObjectNumber-of 0) 0 0 0 0)))) (ap (foundOf row) (sym e-2)) (EL.owes Found-t.the-type Found-l.the-laws (Found-Held (getD row i ((Object-of (ObjectNumber-of 0) 0 0 0 0)))) (is-2·At·4, tt)))))))
     matched-2-0 asks-1 is-1 (Place-Nowhere) e-2 good-2 =
         switches-on ! (load ! (from ! (vrt ! refl (fld ! refl (stop !)))) (look-tag ! 14 (whole !))) $ exec ! C Λ En (arm-of 1 (one mir.t-2)) (anyQ (afterSeq 𝓤 H (Wp 𝓤 H C Λ En mir.t-3 (atReturn 𝓤 H En Post)) (atReturn 𝓤 H En Post))) $
         assigns-last ! (agg ! (and-then ! (lit ! tt) (no-more !))) (from ! (stop !)) (init ! 8 refl (Found-p .typed 𝓤 H A W Found-Nothing (EL.owes Found-t.the-type Found-l.the-laws Found-Nothing tt))) $

@@ -52,8 +52,8 @@ use Rattle.walk.proofs.Steps.{past, one, yes-of, no-of, in-block, arm-of, holds
 use borrow.Rule.Slice.PartMut.{midOf, putMid}
 use Rattle.walk.proofs.Parts.{part-len, lends-part, backs-part, parts-shr}
 use Rattle.walk.proofs.Arrays.{rep-is, lends-array, backs-array}
-use Rattle.sessions.specs.Objects.{objectPlace, foundOf, greatestOf, storedOf, storedRow, removedRow}
-use Rattle.sessions.specs.Objects.{bridgedOf, implicitOf, handleOf, isNumbered, greaterOf, betterOf, slotOf, usedAfter}
+use Rattle.sessions.specs.Objects.{objectPlace, foundOf, storedOf, storedRow, removedRow}
+use Rattle.sessions.specs.Objects.{bridgedOf, implicitOf, handleOf, isNumbered, slotOf, usedAfter}
 use Rattle.sessions.specs.Objects.{objectFrom}
 use Rattle.sessions.proofs.ObjectSearch.{at-hit, past-miss, at-end, at-start}
 use Rattle.sessions.specs.declared.objects.Object.{Object}
@@ -76,8 +76,8 @@ use Rattle.sessions.proofs.object_rows.place.Statement as stated
 use Rattle.sessions.proofs.object_rows.place.Code as code
 use Rattle.sessions.proofs.object_rows.place.Code.Mir as mir
 
-abbrev Object-of : ObjectNumber → ℕ → ℕ → ℕ → Object
-Object-of x0 x1 x2 x3 = record { number = x0; kind = x1; bridged = x2; handle = x3 }
+abbrev Object-of : ObjectNumber → ℕ → ℕ → ℕ → ℕ → Object
+Object-of x0 x1 x2 x3 x4 = record { number = x0; kind = x1; bridged = x2; handle = x3; parent = x4 }
 
 abbrev Object-p : Plain
 Object-p = record { row = Object-t.the-row; val = LL.val Object-t.the-type Object-l.the-laws; tells = LL.tells Object-t.the-type Object-l.the-laws; makes = λ 𝓤 H A W. LL.makes Object-t.the-type Object-l.the-plain 𝓤 H A; ty = Object-l.mir; typed = λ 𝓤 H A W x is. LL.lawful Object-t.the-type Object-l.the-laws 𝓤 H A W .typed x _ is .0; copies = λ 𝓤 H A W. LL.copy Object-t.the-type Object-l.the-copy 𝓤 H A W }
@@ -168,33 +168,33 @@ module _ {M : Type 1} (𝓤 : URA M) (H : Heap 𝓤) (A : Atoms 𝓤) (W : Given
           knows ! (ltb i used ≡ true) (holds (ltb i used) h-2·2) (λ c-2·2.
           skips ! $
           exec ! C Λ En (past 2 mir.turn-1) (anyQ (afterTurn 𝓤 H (Below-2 t-2) Left-2)) $
-          knows ! (i * 8 < 2 ^ 64) (omega (arith, ltb-true, ltb-false, leb-true, leb-false, eqb-true, eqb-false)) (λ fits-2·3.
-          assigns ! (bin ! (load ! (from ! (stop !)) (look ! 14 refl)) (lit ! tt) (record { fits = fits-2·3 })) (from ! (stop !)) (init ! 6 refl (u64-p .typed 𝓤 H A W (i * 8) ((refl, fits-2·3)))) $
+          knows ! (i * 12 < 2 ^ 64) (omega (arith, ltb-true, ltb-false, leb-true, leb-false, eqb-true, eqb-false)) (λ fits-2·3.
+          assigns ! (bin ! (load ! (from ! (stop !)) (look ! 14 refl)) (lit ! tt) (record { fits = fits-2·3 })) (from ! (stop !)) (init ! 6 refl (u64-p .typed 𝓤 H A W (i * 12) ((refl, fits-2·3)))) $
           assigns ! (bin ! (load ! (from ! (fld ! refl (stop !))) (look-in ! 20 (sub ! 0 refl (whole !)))) (load ! (from ! (stop !)) (look ! 6 refl)) tt) (from ! (stop !)) (init ! 4 refl (tt, tt)) $
-          rewrite ! 4 (λ (p : ℕ). ‵ (fat fullShare tyPtr l₉ 0 (vptr b₁ p))) (sym (place-is 8 o₁ i)) refl $
+          rewrite ! 4 (λ (p : ℕ). ‵ (fat fullShare tyPtr l₉ 0 (vptr b₁ p))) (sym (place-is 12 o₁ i)) refl $
           knows ! (i < length row) (omega (arith, ltb-true, ltb-false, leb-true, leb-false, eqb-true, eqb-false)) (λ index-2·5.
-          views-elem ! tt Object-p b₁ o₁ row n₁ (refl) i ((Object-of (ObjectNumber-of 0) 0 0 0)) index-2·5 (λ s-2·5 is-2·5.
-          assigns ! (of-opd ! (load ! (from ! (hop ! (look ! 8 refl) (stop !))) (look-raw ! 0 refl))) (from ! (stop !)) (init ! 6 refl (Object-p .typed 𝓤 H A W (getD row i ((Object-of (ObjectNumber-of 0) 0 0 0))) is-2·5)) $
-          unviews-elem ! tt Object-p b₁ o₁ row n₁ (refl) room₁ i ((Object-of (ObjectNumber-of 0) 0 0 0)) index-2·5 s-2·5 $
-          assigns ! (of-opd ! (load ! (from ! (stop !)) (look ! 2 refl))) (from ! (stop !)) (init ! 12 refl (Object-p .typed 𝓤 H A W (getD row i ((Object-of (ObjectNumber-of 0) 0 0 0))) is-2·5)) $
+          views-elem ! tt Object-p b₁ o₁ row n₁ (refl) i ((Object-of (ObjectNumber-of 0) 0 0 0 0)) index-2·5 (λ s-2·5 is-2·5.
+          assigns ! (of-opd ! (load ! (from ! (hop ! (look ! 8 refl) (stop !))) (look-raw ! 0 refl))) (from ! (stop !)) (init ! 6 refl (Object-p .typed 𝓤 H A W (getD row i ((Object-of (ObjectNumber-of 0) 0 0 0 0))) is-2·5)) $
+          unviews-elem ! tt Object-p b₁ o₁ row n₁ (refl) room₁ i ((Object-of (ObjectNumber-of 0) 0 0 0 0)) index-2·5 s-2·5 $
+          assigns ! (of-opd ! (load ! (from ! (stop !)) (look ! 2 refl))) (from ! (stop !)) (init ! 12 refl (Object-p .typed 𝓤 H A W (getD row i ((Object-of (ObjectNumber-of 0) 0 0 0 0))) is-2·5)) $
           -- 2.7: sessions::objects::is_numbered
           nothing ! $
           use1 W (raw (toks 𝓤 A 0 (tt) (tt))) (id⊢ 𝓤 _) $ nothing ! $
           owned ! (ObjectNumber-p .row) (Is (ObjectNumber-p .row)) (ObjectNumber-p .makes 𝓤 H A W) number (ObjectNumber-p .val number ∷ []) number-is $ fjoin ! $
-          owned ! (Object-p .row) (Is (Object-p .row)) (Object-p .makes 𝓤 H A W) (getD row i ((Object-of (ObjectNumber-of 0) 0 0 0))) (Object-p .val (getD row i ((Object-of (ObjectNumber-of 0) 0 0 0))) ∷ []) is-2·5 $ fjoin ! $ move ! (1 ∷ 0 ∷ []) $
-          calls-any ! fm 0 [] (objects-is-numbered.signature .params) (objects-is-numbered.ended .kept) bool-p (objects-is-numbered.clauses 𝓤 H A mem run) known-objects-is-numbered tt tt tt (getD row i ((Object-of (ObjectNumber-of 0) 0 0 0)), (number, tt)) (Object-p .val (getD row i ((Object-of (ObjectNumber-of 0) 0 0 0))) ∷ [], (ObjectNumber-p .val number ∷ [], tt)) tt (isNumbered (getD row i ((Object-of (ObjectNumber-of 0) 0 0 0))) number) (λ ws-2·7. Unit {0}) (id⊢ 𝓤 _) (λ r ws-2·7. fact-mono 𝓤 (r ≡ isNumbered (getD row i ((Object-of (ObjectNumber-of 0) 0 0 0))) number) ((r ≡ (isNumbered (getD row i ((Object-of (ObjectNumber-of 0) 0 0 0))) number)) × (Unit {0})) (λ e. (e, tt))) (λ _. (and-then ! (load ! (from ! (stop !)) (look ! 13 refl)) (and-then ! (load ! (from ! (stop !)) (look ! 17 refl)) (no-more !)))) (λ ws-2·7 said-2·7 is-2·7.
+          owned ! (Object-p .row) (Is (Object-p .row)) (Object-p .makes 𝓤 H A W) (getD row i ((Object-of (ObjectNumber-of 0) 0 0 0 0))) (Object-p .val (getD row i ((Object-of (ObjectNumber-of 0) 0 0 0 0))) ∷ []) is-2·5 $ fjoin ! $ move ! (1 ∷ 0 ∷ []) $
+          calls-any ! fm 0 [] (objects-is-numbered.signature .params) (objects-is-numbered.ended .kept) bool-p (objects-is-numbered.clauses 𝓤 H A mem run) known-objects-is-numbered tt tt tt (getD row i ((Object-of (ObjectNumber-of 0) 0 0 0 0)), (number, tt)) (Object-p .val (getD row i ((Object-of (ObjectNumber-of 0) 0 0 0 0))) ∷ [], (ObjectNumber-p .val number ∷ [], tt)) tt (isNumbered (getD row i ((Object-of (ObjectNumber-of 0) 0 0 0 0))) number) (λ ws-2·7. Unit {0}) (id⊢ 𝓤 _) (λ r ws-2·7. fact-mono 𝓤 (r ≡ isNumbered (getD row i ((Object-of (ObjectNumber-of 0) 0 0 0 0))) number) ((r ≡ (isNumbered (getD row i ((Object-of (ObjectNumber-of 0) 0 0 0 0))) number)) × (Unit {0})) (λ e. (e, tt))) (λ _. (and-then ! (load ! (from ! (stop !)) (look ! 13 refl)) (and-then ! (load ! (from ! (stop !)) (look ! 17 refl)) (no-more !)))) (λ ws-2·7 said-2·7 is-2·7.
           drop ! $ drop ! $
-          land ! (from ! (stop !)) (init ! 10 refl (bool-p .typed 𝓤 H A W (isNumbered (getD row i ((Object-of (ObjectNumber-of 0) 0 0 0))) number) is-2·7)) $
-          assigns ! (of-opd ! (load ! (from ! (stop !)) (look ! 10 refl))) (from ! (stop !)) (store ! 8 refl (bool-p .typed 𝓤 H A W (isNumbered (getD row i ((Object-of (ObjectNumber-of 0) 0 0 0))) number) is-2·7)) $
+          land ! (from ! (stop !)) (init ! 10 refl (bool-p .typed 𝓤 H A W (isNumbered (getD row i ((Object-of (ObjectNumber-of 0) 0 0 0 0))) number) is-2·7)) $
+          assigns ! (of-opd ! (load ! (from ! (stop !)) (look ! 10 refl))) (from ! (stop !)) (store ! 8 refl (bool-p .typed 𝓤 H A W (isNumbered (getD row i ((Object-of (ObjectNumber-of 0) 0 0 0 0))) number) is-2·7)) $
           first ! $
           branches ! (load ! (from ! (stop !)) (look ! 8 refl))
           (λ h-2·9.
-          knows ! (isNumbered (getD row i ((Object-of (ObjectNumber-of 0) 0 0 0))) number ≡ true) (holds (isNumbered (getD row i ((Object-of (ObjectNumber-of 0) 0 0 0))) number) h-2·9) (λ c-2·9.
+          knows ! (isNumbered (getD row i ((Object-of (ObjectNumber-of 0) 0 0 0 0))) number ≡ true) (holds (isNumbered (getD row i ((Object-of (ObjectNumber-of 0) 0 0 0 0))) number) h-2·9) (λ c-2·9.
           assigns ! (agg ! (and-then ! (lit ! tt) (and-then ! (load ! (from ! (stop !)) (look ! 14 refl)) (no-more !)))) (from ! (stop !)) (init ! 22 refl (Place-p .typed 𝓤 H A W (Place-At i) (EL.owes Place-t.the-type Place-l.the-laws (Place-At i) (i-is, tt)))) $
           returns-within ! Post refl (look ! 22 refl) $ forget ! 2 refl $ forget ! 4 refl $ forget ! 6 refl $ forget ! 8 refl $ forget ! 10 refl $ forget ! 12 refl $ forget ! 14 refl $ forget ! 16 refl $ forget ! 18 refl $ forget ! 20 refl $ forget ! 22 refl $ move ! (22 ∷ 23 ∷ []) $ free1 ! $ move ! (20 ∷ 21 ∷ []) $ free1 ! $ move ! (18 ∷ 19 ∷ []) $ free1 ! $ move ! (16 ∷ 17 ∷ []) $ free1 ! $ move ! (14 ∷ 15 ∷ []) $ free1 ! $ move ! (12 ∷ 13 ∷ []) $ free1 ! $ move ! (10 ∷ 11 ∷ []) $ free1 ! $ move ! (8 ∷ 9 ∷ []) $ free1 ! $ move ! (6 ∷ 7 ∷ []) $ free1 ! $ move ! (4 ∷ 5 ∷ []) $ free1 ! $ move ! (2 ∷ 3 ∷ []) $ free1 ! $ free0 ! $
           by ! (exits (Place-At i) (at-hit row number i used (omega (arith, ltb-true, ltb-false, leb-true, leb-false, eqb-true, eqb-false)) c-2·9 ∙ inv-2 .1) (EL.owes Place-t.the-type Place-l.the-laws (Place-At i) (i-is, tt)))))
           (λ h-2·9.
-          knows ! (isNumbered (getD row i ((Object-of (ObjectNumber-of 0) 0 0 0))) number ≡ false) (fails (isNumbered (getD row i ((Object-of (ObjectNumber-of 0) 0 0 0))) number) (T-not (isNumbered (getD row i ((Object-of (ObjectNumber-of 0) 0 0 0))) number) h-2·9)) (λ c-2·9.
+          knows ! (isNumbered (getD row i ((Object-of (ObjectNumber-of 0) 0 0 0 0))) number ≡ false) (fails (isNumbered (getD row i ((Object-of (ObjectNumber-of 0) 0 0 0 0))) number) (T-not (isNumbered (getD row i ((Object-of (ObjectNumber-of 0) 0 0 0 0))) number) h-2·9)) (λ c-2·9.
           skips ! $
           exec ! C Λ En (past 9 mir.turn-1) (anyQ (afterTurn 𝓤 H (Below-2 t-2) Left-2)) $
           knows ! (i + 1 < 2 ^ 64) (omega (arith, ltb-true, ltb-false, leb-true, leb-false, eqb-true, eqb-false)) (λ fits-2·10.

@@ -52,8 +52,8 @@ use Rattle.walk.proofs.Steps.{past, one, yes-of, no-of, in-block, arm-of, holds
 use borrow.Rule.Slice.PartMut.{midOf, putMid}
 use Rattle.walk.proofs.Parts.{part-len, lends-part, backs-part, parts-shr}
 use Rattle.walk.proofs.Arrays.{rep-is, lends-array, backs-array}
-use Rattle.sessions.specs.Objects.{objectPlace, foundOf, greatestOf, storedOf, storedRow, removedRow}
-use Rattle.sessions.specs.Objects.{bridgedOf, implicitOf, handleOf, isNumbered, greaterOf, betterOf, slotOf, usedAfter}
+use Rattle.sessions.specs.Objects.{objectPlace, foundOf, storedOf, storedRow, removedRow}
+use Rattle.sessions.specs.Objects.{bridgedOf, implicitOf, handleOf, isNumbered, slotOf, usedAfter}
 use mathlib.Core.Bool.{cond}
 use Rattle.sessions.proofs.object_rows.Laws.{put-full}
 use Rattle.sessions.specs.declared.objects.Object.{Object}
@@ -92,8 +92,8 @@ use Rattle.sessions.proofs.object_rows.put.Statement as stated
 use Rattle.sessions.proofs.object_rows.put.Code as code
 use Rattle.sessions.proofs.object_rows.put.Code.Mir as mir
 
-abbrev Object-of : ObjectNumber → ℕ → ℕ → ℕ → Object
-Object-of x0 x1 x2 x3 = record { number = x0; kind = x1; bridged = x2; handle = x3 }
+abbrev Object-of : ObjectNumber → ℕ → ℕ → ℕ → ℕ → Object
+Object-of x0 x1 x2 x3 x4 = record { number = x0; kind = x1; bridged = x2; handle = x3; parent = x4 }
 
 abbrev Object-p : Plain
 Object-p = record { row = Object-t.the-row; val = LL.val Object-t.the-type Object-l.the-laws; tells = LL.tells Object-t.the-type Object-l.the-laws; makes = λ 𝓤 H A W. LL.makes Object-t.the-type Object-l.the-plain 𝓤 H A; ty = Object-l.mir; typed = λ 𝓤 H A W x is. LL.lawful Object-t.the-type Object-l.the-laws 𝓤 H A W .typed x _ is .0; copies = λ 𝓤 H A W. LL.copy Object-t.the-type Object-l.the-copy 𝓤 H A W }
@@ -199,14 +199,14 @@ module _ {M : Type 1} (𝓤 : URA M) (H : Heap 𝓤) (A : Atoms 𝓤) (W : Given
         branches ! (load ! (from ! (stop !)) (look ! 8 refl))
         (λ h-8.
         knows ! (ltb (slotOf (objectPlace (row) used (o .number)) used) n₁ ≡ true) (holds (ltb (slotOf (objectPlace (row) used (o .number)) used) n₁) h-8) (λ c-8.
-        knows ! ((slotOf (objectPlace (row) used (o .number)) used) * 8 < 2 ^ 64) (omega (arith, ltb-true, ltb-false, leb-true, leb-false, eqb-true, eqb-false)) (λ fits-8·yes·1.
-        assigns ! (bin ! (load ! (from ! (stop !)) (look ! 18 refl)) (lit ! tt) (record { fits = fits-8·yes·1 })) (from ! (stop !)) (init ! 4 refl (u64-p .typed 𝓤 H A W ((slotOf (objectPlace (row) used (o .number)) used) * 8) ((refl, fits-8·yes·1)))) $
+        knows ! ((slotOf (objectPlace (row) used (o .number)) used) * 12 < 2 ^ 64) (omega (arith, ltb-true, ltb-false, leb-true, leb-false, eqb-true, eqb-false)) (λ fits-8·yes·1.
+        assigns ! (bin ! (load ! (from ! (stop !)) (look ! 18 refl)) (lit ! tt) (record { fits = fits-8·yes·1 })) (from ! (stop !)) (init ! 4 refl (u64-p .typed 𝓤 H A W ((slotOf (objectPlace (row) used (o .number)) used) * 12) ((refl, fits-8·yes·1)))) $
         assigns ! (bin ! (load ! (from ! (fld ! refl (stop !))) (look-in ! 28 (sub ! 0 refl (whole !)))) (load ! (from ! (stop !)) (look ! 4 refl)) tt) (from ! (stop !)) (init ! 2 refl (tt, tt)) $
-        rewrite ! 2 (λ (p : ℕ). ‵ (fat fullShare tyPtr l₁₄ 0 (vptr b₁ p))) (sym (place-is 8 o₁ (slotOf (objectPlace (row) used (o .number)) used))) refl $
+        rewrite ! 2 (λ (p : ℕ). ‵ (fat fullShare tyPtr l₁₄ 0 (vptr b₁ p))) (sym (place-is 12 o₁ (slotOf (objectPlace (row) used (o .number)) used))) refl $
         knows ! (slotOf (objectPlace (row) used (o .number)) used < length row) (omega (arith, ltb-true, ltb-false, leb-true, leb-false, eqb-true, eqb-false)) (λ index-8·yes·3.
-        opens-elem ! tt Object-p b₁ o₁ row n₁ (refl) (slotOf (objectPlace (row) used (o .number)) used) ((Object-of (ObjectNumber-of 0) 0 0 0)) index-8·yes·3 (λ _.
+        opens-elem ! tt Object-p b₁ o₁ row n₁ (refl) (slotOf (objectPlace (row) used (o .number)) used) ((Object-of (ObjectNumber-of 0) 0 0 0 0)) index-8·yes·3 (λ _.
         assigns ! (of-opd ! (load ! (from ! (stop !)) (look ! 28 refl))) (from ! (hop ! (look ! 6 refl) (stop !))) (store-raw ! 0 refl (Object-p .typed 𝓤 H A W o o-is)) $
-        puts-elem ! tt Object-p b₁ o₁ row n₁ (refl) room₁ (slotOf (objectPlace (row) used (o .number)) used) ((Object-of (ObjectNumber-of 0) 0 0 0)) o index-8·yes·3 o-is (λ len-8·yes·3.
+        puts-elem ! tt Object-p b₁ o₁ row n₁ (refl) room₁ (slotOf (objectPlace (row) used (o .number)) used) ((Object-of (ObjectNumber-of 0) 0 0 0 0)) o index-8·yes·3 o-is (λ len-8·yes·3.
         knows ! (used < 64) (omega (arith, ltb-true, ltb-false, leb-true, leb-false, eqb-true, eqb-false)) (λ asks-8·yes·4.
         -- 8.yes.4: sessions::objects::count
         nothing ! $

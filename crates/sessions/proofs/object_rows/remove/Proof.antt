@@ -52,7 +52,7 @@ use Rattle.walk.proofs.Steps.{past, one, yes-of, no-of, in-block, arm-of, holds
 use borrow.Rule.Slice.PartMut.{midOf, putMid}
 use Rattle.walk.proofs.Parts.{part-len, lends-part, backs-part, parts-shr}
 use Rattle.walk.proofs.Arrays.{rep-is, lends-array, backs-array}
-use Rattle.sessions.specs.Objects.{objectPlace, foundOf, greatestOf, storedOf, storedRow, removedRow}
+use Rattle.sessions.specs.Objects.{objectPlace, foundOf, storedOf, storedRow, removedRow}
 use Rattle.sessions.proofs.ObjectSearch.{Under, place-under}
 use Rattle.sessions.specs.declared.objects.Object.{Object}
 use Rattle.sessions.proofs.objects.Object as Object-t
@@ -82,8 +82,8 @@ use Rattle.sessions.proofs.object_rows.remove.Statement as stated
 use Rattle.sessions.proofs.object_rows.remove.Code as code
 use Rattle.sessions.proofs.object_rows.remove.Code.Mir as mir
 
-abbrev Object-of : ObjectNumber → ℕ → ℕ → ℕ → Object
-Object-of x0 x1 x2 x3 = record { number = x0; kind = x1; bridged = x2; handle = x3 }
+abbrev Object-of : ObjectNumber → ℕ → ℕ → ℕ → ℕ → Object
+Object-of x0 x1 x2 x3 x4 = record { number = x0; kind = x1; bridged = x2; handle = x3; parent = x4 }
 
 abbrev Object-p : Plain
 Object-p = record { row = Object-t.the-row; val = LL.val Object-t.the-type Object-l.the-laws; tells = LL.tells Object-t.the-type Object-l.the-laws; makes = λ 𝓤 H A W. LL.makes Object-t.the-type Object-l.the-plain 𝓤 H A; ty = Object-l.mir; typed = λ 𝓤 H A W x is. LL.lawful Object-t.the-type Object-l.the-laws 𝓤 H A W .typed x _ is .0; copies = λ 𝓤 H A W. LL.copy Object-t.the-type Object-l.the-copy 𝓤 H A W }
@@ -156,40 +156,40 @@ module _ {M : Type 1} (𝓤 : URA M) (H : Heap 𝓤) (A : Atoms 𝓤) (W : Given
         knows ! (Is (u64-p .row) i (u64-p .val i ∷ [])) (EL.owed Place-t.the-type Place-l.the-laws (Place-At i) _ good-4 .0) (λ i-is.
         switches-on ! (load ! (from ! (vrt ! refl (fld ! refl (stop !)))) (look-tag ! 26 (whole !))) $ exec ! C Λ En (arm-of 0 (one mir.t-4)) (anyQ (afterSeq 𝓤 H (Wp 𝓤 H C Λ En mir.t-5 (atReturn 𝓤 H En Post)) (atReturn 𝓤 H En Post))) $
         assigns ! (of-opd ! (load ! (from ! (vrt ! refl (fld ! refl (stop !)))) (look-in ! 26 (in-variant ! 0 0 refl refl (whole !))))) (from ! (stop !)) (init ! 24 refl (u64-p .typed 𝓤 H A W i i-is)) $
-        knows ! (i * 8 < 2 ^ 64) ((omega (arith, ltb-true, ltb-false, leb-true, leb-false, eqb-true, eqb-false, in-use i e-4))) (λ fits-4·At·2.
-        assigns ! (bin ! (load ! (from ! (stop !)) (look ! 24 refl)) (lit ! tt) (record { fits = fits-4·At·2 })) (from ! (stop !)) (init ! 10 refl (u64-p .typed 𝓤 H A W (i * 8) ((refl, fits-4·At·2)))) $
+        knows ! (i * 12 < 2 ^ 64) ((omega (arith, ltb-true, ltb-false, leb-true, leb-false, eqb-true, eqb-false, in-use i e-4))) (λ fits-4·At·2.
+        assigns ! (bin ! (load ! (from ! (stop !)) (look ! 24 refl)) (lit ! tt) (record { fits = fits-4·At·2 })) (from ! (stop !)) (init ! 10 refl (u64-p .typed 𝓤 H A W (i * 12) ((refl, fits-4·At·2)))) $
         assigns ! (bin ! (load ! (from ! (fld ! refl (stop !))) (look-in ! 32 (sub ! 0 refl (whole !)))) (load ! (from ! (stop !)) (look ! 10 refl)) tt) (from ! (stop !)) (init ! 8 refl (tt, tt)) $
-        rewrite ! 8 (λ (p : ℕ). ‵ (fat fullShare tyPtr l₁₃ 0 (vptr b₁ p))) (sym (place-is 8 o₁ i)) refl $
+        rewrite ! 8 (λ (p : ℕ). ‵ (fat fullShare tyPtr l₁₃ 0 (vptr b₁ p))) (sym (place-is 12 o₁ i)) refl $
         knows ! (i < length row) ((omega (arith, ltb-true, ltb-false, leb-true, leb-false, eqb-true, eqb-false, in-use i e-4))) (λ index-4·At·4.
-        opens-elem ! tt Object-p b₁ o₁ row n₁ (refl) i ((Object-of (ObjectNumber-of 0) 0 0 0)) index-4·At·4 (λ is-4·At·4.
-        assigns ! (of-opd ! (load ! (from ! (hop ! (look ! 12 refl) (stop !))) (look-raw ! 0 refl))) (from ! (stop !)) (init ! 10 refl (Object-p .typed 𝓤 H A W (getD row i ((Object-of (ObjectNumber-of 0) 0 0 0))) is-4·At·4)) $
-        shuts-elem ! tt Object-p b₁ o₁ row n₁ (refl) room₁ i ((Object-of (ObjectNumber-of 0) 0 0 0)) index-4·At·4 $
-        assigns ! (of-opd ! (load ! (from ! (stop !)) (look ! 6 refl))) (from ! (stop !)) (init ! 22 refl (Object-p .typed 𝓤 H A W (getD row i ((Object-of (ObjectNumber-of 0) 0 0 0))) is-4·At·4)) $
+        opens-elem ! tt Object-p b₁ o₁ row n₁ (refl) i ((Object-of (ObjectNumber-of 0) 0 0 0 0)) index-4·At·4 (λ is-4·At·4.
+        assigns ! (of-opd ! (load ! (from ! (hop ! (look ! 12 refl) (stop !))) (look-raw ! 0 refl))) (from ! (stop !)) (init ! 10 refl (Object-p .typed 𝓤 H A W (getD row i ((Object-of (ObjectNumber-of 0) 0 0 0 0))) is-4·At·4)) $
+        shuts-elem ! tt Object-p b₁ o₁ row n₁ (refl) room₁ i ((Object-of (ObjectNumber-of 0) 0 0 0 0)) index-4·At·4 $
+        assigns ! (of-opd ! (load ! (from ! (stop !)) (look ! 6 refl))) (from ! (stop !)) (init ! 22 refl (Object-p .typed 𝓤 H A W (getD row i ((Object-of (ObjectNumber-of 0) 0 0 0 0))) is-4·At·4)) $
         knows ! (1 ≤ used) ((omega (arith, ltb-true, ltb-false, leb-true, leb-false, eqb-true, eqb-false, in-use i e-4))) (λ le-4·At·6.
         knows ! (used - 1 < 2 ^ 64) (omega (arith, used-is .1)) (λ fits-4·At·6.
         assigns ! (bin ! (load ! (from ! (stop !)) (look ! 30 refl)) (lit ! tt) (le-4·At·6)) (from ! (stop !)) (init ! 20 refl (u64-p .typed 𝓤 H A W (used - 1) ((refl, fits-4·At·6)))) $
-        knows ! ((used - 1) * 8 < 2 ^ 64) ((omega (arith, ltb-true, ltb-false, leb-true, leb-false, eqb-true, eqb-false, in-use i e-4))) (λ fits-4·At·7.
-        assigns ! (bin ! (load ! (from ! (stop !)) (look ! 20 refl)) (lit ! tt) (record { fits = fits-4·At·7 })) (from ! (stop !)) (store ! 10 refl (u64-p .typed 𝓤 H A W ((used - 1) * 8) ((refl, fits-4·At·7)))) $
+        knows ! ((used - 1) * 12 < 2 ^ 64) ((omega (arith, ltb-true, ltb-false, leb-true, leb-false, eqb-true, eqb-false, in-use i e-4))) (λ fits-4·At·7.
+        assigns ! (bin ! (load ! (from ! (stop !)) (look ! 20 refl)) (lit ! tt) (record { fits = fits-4·At·7 })) (from ! (stop !)) (store ! 10 refl (u64-p .typed 𝓤 H A W ((used - 1) * 12) ((refl, fits-4·At·7)))) $
         assigns ! (bin ! (load ! (from ! (fld ! refl (stop !))) (look-in ! 32 (sub ! 0 refl (whole !)))) (load ! (from ! (stop !)) (look ! 10 refl)) tt) (from ! (stop !)) (init ! 4 refl (tt, tt)) $
-        rewrite ! 4 (λ (p : ℕ). ‵ (fat fullShare tyPtr l₁₅ 0 (vptr b₁ p))) (sym (place-is 8 o₁ (used - 1))) refl $
+        rewrite ! 4 (λ (p : ℕ). ‵ (fat fullShare tyPtr l₁₅ 0 (vptr b₁ p))) (sym (place-is 12 o₁ (used - 1))) refl $
         knows ! (used - 1 < length row) ((omega (arith, ltb-true, ltb-false, leb-true, leb-false, eqb-true, eqb-false, in-use i e-4))) (λ index-4·At·9.
-        opens-elem ! tt Object-p b₁ o₁ row n₁ (refl) (used - 1) ((Object-of (ObjectNumber-of 0) 0 0 0)) index-4·At·9 (λ is-4·At·9.
-        assigns ! (of-opd ! (load ! (from ! (hop ! (look ! 8 refl) (stop !))) (look-raw ! 0 refl))) (from ! (stop !)) (store ! 10 refl (Object-p .typed 𝓤 H A W (getD row (used - 1) ((Object-of (ObjectNumber-of 0) 0 0 0))) is-4·At·9)) $
-        shuts-elem ! tt Object-p b₁ o₁ row n₁ (refl) room₁ (used - 1) ((Object-of (ObjectNumber-of 0) 0 0 0)) index-4·At·9 $
-        assigns ! (of-opd ! (load ! (from ! (stop !)) (look ! 6 refl))) (from ! (stop !)) (init ! 18 refl (Object-p .typed 𝓤 H A W (getD row (used - 1) ((Object-of (ObjectNumber-of 0) 0 0 0))) is-4·At·9)) $
-        knows ! (i * 8 < 2 ^ 64) ((omega (arith, ltb-true, ltb-false, leb-true, leb-false, eqb-true, eqb-false, in-use i e-4))) (λ fits-4·At·11.
-        assigns ! (bin ! (load ! (from ! (stop !)) (look ! 24 refl)) (lit ! tt) (record { fits = fits-4·At·11 })) (from ! (stop !)) (store ! 10 refl (u64-p .typed 𝓤 H A W (i * 8) ((refl, fits-4·At·11)))) $
+        opens-elem ! tt Object-p b₁ o₁ row n₁ (refl) (used - 1) ((Object-of (ObjectNumber-of 0) 0 0 0 0)) index-4·At·9 (λ is-4·At·9.
+        assigns ! (of-opd ! (load ! (from ! (hop ! (look ! 8 refl) (stop !))) (look-raw ! 0 refl))) (from ! (stop !)) (store ! 10 refl (Object-p .typed 𝓤 H A W (getD row (used - 1) ((Object-of (ObjectNumber-of 0) 0 0 0 0))) is-4·At·9)) $
+        shuts-elem ! tt Object-p b₁ o₁ row n₁ (refl) room₁ (used - 1) ((Object-of (ObjectNumber-of 0) 0 0 0 0)) index-4·At·9 $
+        assigns ! (of-opd ! (load ! (from ! (stop !)) (look ! 6 refl))) (from ! (stop !)) (init ! 18 refl (Object-p .typed 𝓤 H A W (getD row (used - 1) ((Object-of (ObjectNumber-of 0) 0 0 0 0))) is-4·At·9)) $
+        knows ! (i * 12 < 2 ^ 64) ((omega (arith, ltb-true, ltb-false, leb-true, leb-false, eqb-true, eqb-false, in-use i e-4))) (λ fits-4·At·11.
+        assigns ! (bin ! (load ! (from ! (stop !)) (look ! 24 refl)) (lit ! tt) (record { fits = fits-4·At·11 })) (from ! (stop !)) (store ! 10 refl (u64-p .typed 𝓤 H A W (i * 12) ((refl, fits-4·At·11)))) $
         assigns ! (bin ! (load ! (from ! (fld ! refl (stop !))) (look-in ! 32 (sub ! 0 refl (whole !)))) (load ! (from ! (stop !)) (look ! 10 refl)) tt) (from ! (stop !)) (init ! 2 refl (tt, tt)) $
-        rewrite ! 2 (λ (p : ℕ). ‵ (fat fullShare tyPtr l₁₆ 0 (vptr b₁ p))) (sym (place-is 8 o₁ i)) refl $
+        rewrite ! 2 (λ (p : ℕ). ‵ (fat fullShare tyPtr l₁₆ 0 (vptr b₁ p))) (sym (place-is 12 o₁ i)) refl $
         knows ! (i < length row) ((omega (arith, ltb-true, ltb-false, leb-true, leb-false, eqb-true, eqb-false, in-use i e-4))) (λ index-4·At·13.
-        opens-elem ! tt Object-p b₁ o₁ row n₁ (refl) i ((Object-of (ObjectNumber-of 0) 0 0 0)) index-4·At·13 (λ _.
-        assigns ! (of-opd ! (load ! (from ! (stop !)) (look ! 22 refl))) (from ! (hop ! (look ! 6 refl) (stop !))) (store-raw ! 0 refl (Object-p .typed 𝓤 H A W (getD row (used - 1) ((Object-of (ObjectNumber-of 0) 0 0 0))) is-4·At·9)) $
-        puts-elem ! tt Object-p b₁ o₁ row n₁ (refl) room₁ i ((Object-of (ObjectNumber-of 0) 0 0 0)) (getD row (used - 1) ((Object-of (ObjectNumber-of 0) 0 0 0))) index-4·At·13 is-4·At·9 (λ len-4·At·13.
-        assigns-last ! (agg ! (and-then ! (lit ! tt) (and-then ! (load ! (from ! (stop !)) (look ! 22 refl)) (no-more !)))) (from ! (stop !)) (init ! 12 refl (Found-p .typed 𝓤 H A W (Found-Held (getD row i ((Object-of (ObjectNumber-of 0) 0 0 0)))) (EL.owes Found-t.the-type Found-l.the-laws (Found-Held (getD row i ((Object-of (ObjectNumber-of 0) 0 0 0)))) (is-4·At·4, tt)))) $
+        opens-elem ! tt Object-p b₁ o₁ row n₁ (refl) i ((Object-of (ObjectNumber-of 0) 0 0 0 0)) index-4·At·13 (λ _.
+        assigns ! (of-opd ! (load ! (from ! (stop !)) (look ! 22 refl))) (from ! (hop ! (look ! 6 refl) (stop !))) (store-raw ! 0 refl (Object-p .typed 𝓤 H A W (getD row (used - 1) ((Object-of (ObjectNumber-of 0) 0 0 0 0))) is-4·At·9)) $
+        puts-elem ! tt Object-p b₁ o₁ row n₁ (refl) room₁ i ((Object-of (ObjectNumber-of 0) 0 0 0 0)) (getD row (used - 1) ((Object-of (ObjectNumber-of 0) 0 0 0 0))) index-4·At·13 is-4·At·9 (λ len-4·At·13.
+        assigns-last ! (agg ! (and-then ! (lit ! tt) (and-then ! (load ! (from ! (stop !)) (look ! 22 refl)) (no-more !)))) (from ! (stop !)) (init ! 12 refl (Found-p .typed 𝓤 H A W (Found-Held (getD row i ((Object-of (ObjectNumber-of 0) 0 0 0 0)))) (EL.owes Found-t.the-type Found-l.the-laws (Found-Held (getD row i ((Object-of (ObjectNumber-of 0) 0 0 0 0)))) (is-4·At·4, tt)))) $
         exec ! C Λ En mir.t-5 (atRet En Post) $
-        assigns ! (of-opd ! (load ! (from ! (stop !)) (look ! 12 refl))) (from ! (stop !)) (init ! 34 refl (Found-p .typed 𝓤 H A W (Found-Held (getD row i ((Object-of (ObjectNumber-of 0) 0 0 0)))) (EL.owes Found-t.the-type Found-l.the-laws (Found-Held (getD row i ((Object-of (ObjectNumber-of 0) 0 0 0)))) (is-4·At·4, tt)))) $
+        assigns ! (of-opd ! (load ! (from ! (stop !)) (look ! 12 refl))) (from ! (stop !)) (init ! 34 refl (Found-p .typed 𝓤 H A W (Found-Held (getD row i ((Object-of (ObjectNumber-of 0) 0 0 0 0)))) (EL.owes Found-t.the-type Found-l.the-laws (Found-Held (getD row i ((Object-of (ObjectNumber-of 0) 0 0 0 0)))) (is-4·At·4, tt)))) $
         returns ! (look ! 34 refl) $ forget ! 2 refl $ forget ! 4 refl $ forget ! 6 refl $ forget ! 8 refl $ forget ! 10 refl $ forget ! 12 refl $ forget ! 14 refl $ forget ! 16 refl $ forget ! 18 refl $ forget ! 20 refl $ forget ! 22 refl $ forget ! 24 refl $ forget ! 26 refl $ forget ! 28 refl $ forget ! 30 refl $ forget ! 32 refl $ forget ! 34 refl $ move ! (34 ∷ 35 ∷ []) $ free1 ! $ move ! (32 ∷ 33 ∷ []) $ free1 ! $ move ! (30 ∷ 31 ∷ []) $ free1 ! $ move ! (28 ∷ 29 ∷ []) $ free1 ! $ move ! (26 ∷ 27 ∷ []) $ free1 ! $ move ! (24 ∷ 25 ∷ []) $ free1 ! $ move ! (22 ∷ 23 ∷ []) $ free1 ! $ move ! (20 ∷ 21 ∷ []) $ free1 ! $ move ! (18 ∷ 19 ∷ []) $ free1 ! $ move ! (16 ∷ 17 ∷ []) $ free1 ! $ move ! (14 ∷ 15 ∷ []) $ free1 ! $ move ! (12 ∷ 13 ∷ []) $ free1 ! $ move ! (10 ∷ 11 ∷ []) $ free1 ! $ move ! (8 ∷ 9 ∷ []) $ free1 ! $ move ! (6 ∷ 7 ∷ []) $ free1 ! $ move ! (4 ∷ 5 ∷ []) $ free1 ! $ move ! (2 ∷ 3 ∷ []) $ free1 ! $ free0 ! $
-        by ! (exits (Found-Held (getD row i ((Object-of (ObjectNumber-of 0) 0 0 0)))) (set row i (getD row (used - 1) ((Object-of (ObjectNumber-of 0) 0 0 0)))) ((ap (foundOf row) (sym e-4), ap (removedRow row used) (sym e-4))) (EL.owes Found-t.the-type Found-l.the-laws (Found-Held (getD row i ((Object-of (ObjectNumber-of 0) 0 0 0)))) (is-4·At·4, tt)) len-4·At·13))))))))))))))
+        by ! (exits (Found-Held (getD row i ((Object-of (ObjectNumber-of 0) 0 0 0 0)))) (set row i (getD row (used - 1) ((Object-of (ObjectNumber-of 0) 0 0 0 0)))) ((ap (foundOf row) (sym e-4), ap (removedRow row used) (sym e-4))) (EL.owes Found-t.the-type Found-l.the-laws (Found-Held (getD row i ((Object-of (ObjectNumber-of 0) 0 0 0 0)))) (is-4·At·4, tt)) len-4·At·13))))))))))))))
     matched-4-0 asks-3 is-3 (Place-Nowhere) e-4 good-4 =
         switches-on ! (load ! (from ! (vrt ! refl (fld ! refl (stop !)))) (look-tag ! 26 (whole !))) $ exec ! C Λ En (arm-of 1 (one mir.t-4)) (anyQ (afterSeq 𝓤 H (Wp 𝓤 H C Λ En mir.t-5 (atReturn 𝓤 H En Post)) (atReturn 𝓤 H En Post))) $
         assigns-last ! (agg ! (and-then ! (lit ! tt) (no-more !))) (from ! (stop !)) (init ! 12 refl (Found-p .typed 𝓤 H A W Found-Nothing (EL.owes Found-t.the-type Found-l.the-laws Found-Nothing tt))) $

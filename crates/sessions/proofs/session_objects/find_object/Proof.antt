@@ -52,8 +52,8 @@ use Rattle.walk.proofs.Steps.{past, one, yes-of, no-of, in-block, arm-of, holds
 use borrow.Rule.Slice.PartMut.{midOf, putMid}
 use Rattle.walk.proofs.Parts.{part-len, lends-part, backs-part, parts-shr}
 use Rattle.walk.proofs.Arrays.{rep-is, lends-array, backs-array}
-use Rattle.sessions.specs.SessionObjects.{objectsNamed, usedOf, firstObject, countedSession, keepUsed, foundObject, greatestObject, storedObject, storedObjects, keepStored, removedObjects, keepRemoved}
-use Rattle.sessions.specs.Objects.{objectPlace, foundOf, greatestOf, storedOf, storedRow, removedRow}
+use Rattle.sessions.specs.SessionObjects.{objectsNamed, usedOf, firstObject, countedSession, keepUsed, foundObject, storedObject, storedObjects, keepStored, removedObjects, keepRemoved}
+use Rattle.sessions.specs.Objects.{objectPlace, foundOf, storedOf, storedRow, removedRow}
 use Rattle.sessions.proofs.session_objects.Laws.{lent-row, found-is, found-lent}
 use Rattle.sessions.specs.declared.objects.Object.{Object}
 use Rattle.sessions.proofs.objects.Object as Object-t
@@ -99,8 +99,8 @@ use Rattle.sessions.proofs.session_objects.find_object.Statement as sta
 use Rattle.sessions.proofs.session_objects.find_object.Code as code
 use Rattle.sessions.proofs.session_objects.find_object.Code.Mir as mir
 
-abbrev Object-of : ObjectNumber → ℕ → ℕ → ℕ → Object
-Object-of x0 x1 x2 x3 = record { number = x0; kind = x1; bridged = x2; handle = x3 }
+abbrev Object-of : ObjectNumber → ℕ → ℕ → ℕ → ℕ → Object
+Object-of x0 x1 x2 x3 x4 = record { number = x0; kind = x1; bridged = x2; handle = x3; parent = x4 }
 
 abbrev Object-p : Plain
 Object-p = record { row = Object-t.the-row; val = LL.val Object-t.the-type Object-l.the-laws; tells = LL.tells Object-t.the-type Object-l.the-laws; makes = λ 𝓤 H A W. LL.makes Object-t.the-type Object-l.the-plain 𝓤 H A; ty = Object-l.mir; typed = λ 𝓤 H A W x is. LL.lawful Object-t.the-type Object-l.the-laws 𝓤 H A W .typed x _ is .0; copies = λ 𝓤 H A W. LL.copy Object-t.the-type Object-l.the-copy 𝓤 H A W }
@@ -179,7 +179,7 @@ module _ {M : Type 1} (𝓤 : URA M) (H : Heap 𝓤) (A : Atoms 𝓤) (W : Given
     abbrev En : Env 𝓤 H
     En = (Found-l.mir, l₀) ∷ ((sliceTy (tyRef (named 0) imm (pointee ((Array u64 5) .written)))), l₁) ∷ ((sliceTy (tyRef (named 1) imm (pointee (Object-t.the-row .written)))), l₂) ∷ ((tyInt w8), l₃) ∷ (ObjectNumber-l.mir, l₄) ∷ ((tyInt w64), l₅) ∷ (Named-l.mir, l₆) ∷ ((tyInt w64), l₇) ∷ ((tyInt w64), l₈) ∷ ((tyInt w64), l₉) ∷ (Refusal-l.mir, l₁₀) ∷ (Found-l.mir, l₁₁) ∷ ((tyInt w64), l₁₂) ∷ (tyPtr, l₁₃) ∷ ((tyInt w64), l₁₄) ∷ ((tyRef erased imm (pointee (Object-t.the-row .written))), l₁₅) ∷ ((sliceTy (tyRef erased imm (pointee (Object-t.the-row .written)))), l₁₆) ∷ []
 
-    part-4-0 : (is-2 : Is (Named-p .row) (objectsNamed (sessions) n₂ id) (Named-p .val (objectsNamed (sessions) n₂ id) ∷ [])) → (e-3 : objectsNamed (sessions) n₂ id ≡ Named-Live) → (good-3 : Is (Named-p .row) Named-Live (Named-p .val Named-Live ∷ [])) → (is-3·Live·1 : Is (u64-p .row) (firstObject id) (u64-p .val (firstObject id) ∷ [])) → (is-3·Live·2 : Is (u64-p .row) (firstObject id + 32) (u64-p .val (firstObject id + 32) ∷ [])) → (is-3·Live·3 : Is (u64-p .row) (usedOf (sessions) id) (u64-p .val (usedOf (sessions) id) ∷ [])) → (fits-3·Live·4 : (firstObject id) * 8 < 2 ^ 64) → (le-3·Live·6 : (firstObject id) ≤ (firstObject id + 32)) → (fits-3·Live·6 : (firstObject id + 32) - (firstObject id) < 2 ^ 64) → (part-3·Live·9-objects : (firstObject id) + ((firstObject id + 32) - (firstObject id)) ≤ length objects) → (ppart-3·Live·9-objects : length (midOf (firstObject id) ((firstObject id + 32) - (firstObject id)) objects) ≡ ((firstObject id + 32) - (firstObject id))) → (asks-3·Live·9 : (usedOf (sessions) id) ≤ length ((midOf (firstObject id) ((firstObject id + 32) - (firstObject id)) objects))) → (is-3·Live·9 : Is (Found-p .row) (foundOf ((midOf (firstObject id) ((firstObject id + 32) - (firstObject id)) objects)) (objectPlace ((midOf (firstObject id) ((firstObject id + 32) - (firstObject id)) objects)) (usedOf (sessions) id) number)) (Found-p .val (foundOf ((midOf (firstObject id) ((firstObject id + 32) - (firstObject id)) objects)) (objectPlace ((midOf (firstObject id) ((firstObject id + 32) - (firstObject id)) objects)) (usedOf (sessions) id) number)) ∷ [])) → Sq W (‵ (ShrSlice (named 0) κ₁ (Array u64 5) .own (at-list b₁ o₁ γ₁ sessions) (sliceVal (b₁, o₁) n₁ ∷ [])) ∷ ‵ (flft κ₁ q₁) ∷ ‵ (ShrSlice (named 0) κ₂ Object-t.the-row .own (at-list b₂ o₂ γ₂ objects) (sliceVal (b₂, o₂) n₂ ∷ [])) ∷ ‵ (flft κ₂ q₂) ∷ full 𝓤 (sliceTy (tyRef erased imm (pointee (Object-t.the-row .written)))) l₁₆ (sliceVal (b₂, place 8 o₂ (firstObject id)) ((firstObject id + 32) - (firstObject id))) (full 𝓤 (tyRef erased imm (pointee (Object-t.the-row .written))) l₁₅ (vptr b₂ (place 8 o₂ (firstObject id))) (full 𝓤 (tyInt w64) l₁₄ (u64-p .val ((firstObject id + 32) - (firstObject id))) (full 𝓤 tyPtr l₁₃ (vptr b₂ (place 8 o₂ (firstObject id))) (full 𝓤 (tyInt w64) l₁₂ (u64-p .val ((firstObject id) * 8)) (full 𝓤 Found-l.mir l₁₁ (Found-p .val (foundOf ((midOf (firstObject id) ((firstObject id + 32) - (firstObject id)) objects)) (objectPlace ((midOf (firstObject id) ((firstObject id + 32) - (firstObject id)) objects)) (usedOf (sessions) id) number))) (free 𝓤 Refusal-l.mir l₁₀ (full 𝓤 (tyInt w64) l₉ (u64-p .val (usedOf (sessions) id)) (full 𝓤 (tyInt w64) l₈ (u64-p .val (firstObject id + 32)) (full 𝓤 (tyInt w64) l₇ (u64-p .val (firstObject id)) (full 𝓤 Named-l.mir l₆ (Named-p .val Named-Live) (full 𝓤 (tyInt w64) l₅ (u64-p .val n₂) (full 𝓤 ObjectNumber-l.mir l₄ (ObjectNumber-p .val number) (full 𝓤 (tyInt w8) l₃ (u8-p .val id) (full 𝓤 (sliceTy (tyRef (named 1) imm (pointee (Object-t.the-row .written)))) l₂ (sliceVal (b₂, o₂) n₂) (full 𝓤 (sliceTy (tyRef (named 0) imm (pointee ((Array u64 5) .written)))) l₁ (sliceVal (b₁, o₁) n₁) (free 𝓤 Found-l.mir l₀ ([])))))))))))))))))) (runs C Λ En mir.t-4 (atRet En Post))
+    part-4-0 : (is-2 : Is (Named-p .row) (objectsNamed (sessions) n₂ id) (Named-p .val (objectsNamed (sessions) n₂ id) ∷ [])) → (e-3 : objectsNamed (sessions) n₂ id ≡ Named-Live) → (good-3 : Is (Named-p .row) Named-Live (Named-p .val Named-Live ∷ [])) → (is-3·Live·1 : Is (u64-p .row) (firstObject id) (u64-p .val (firstObject id) ∷ [])) → (is-3·Live·2 : Is (u64-p .row) (firstObject id + 32) (u64-p .val (firstObject id + 32) ∷ [])) → (is-3·Live·3 : Is (u64-p .row) (usedOf (sessions) id) (u64-p .val (usedOf (sessions) id) ∷ [])) → (fits-3·Live·4 : (firstObject id) * 12 < 2 ^ 64) → (le-3·Live·6 : (firstObject id) ≤ (firstObject id + 32)) → (fits-3·Live·6 : (firstObject id + 32) - (firstObject id) < 2 ^ 64) → (part-3·Live·9-objects : (firstObject id) + ((firstObject id + 32) - (firstObject id)) ≤ length objects) → (ppart-3·Live·9-objects : length (midOf (firstObject id) ((firstObject id + 32) - (firstObject id)) objects) ≡ ((firstObject id + 32) - (firstObject id))) → (asks-3·Live·9 : (usedOf (sessions) id) ≤ length ((midOf (firstObject id) ((firstObject id + 32) - (firstObject id)) objects))) → (is-3·Live·9 : Is (Found-p .row) (foundOf ((midOf (firstObject id) ((firstObject id + 32) - (firstObject id)) objects)) (objectPlace ((midOf (firstObject id) ((firstObject id + 32) - (firstObject id)) objects)) (usedOf (sessions) id) number)) (Found-p .val (foundOf ((midOf (firstObject id) ((firstObject id + 32) - (firstObject id)) objects)) (objectPlace ((midOf (firstObject id) ((firstObject id + 32) - (firstObject id)) objects)) (usedOf (sessions) id) number)) ∷ [])) → Sq W (‵ (ShrSlice (named 0) κ₁ (Array u64 5) .own (at-list b₁ o₁ γ₁ sessions) (sliceVal (b₁, o₁) n₁ ∷ [])) ∷ ‵ (flft κ₁ q₁) ∷ ‵ (ShrSlice (named 0) κ₂ Object-t.the-row .own (at-list b₂ o₂ γ₂ objects) (sliceVal (b₂, o₂) n₂ ∷ [])) ∷ ‵ (flft κ₂ q₂) ∷ full 𝓤 (sliceTy (tyRef erased imm (pointee (Object-t.the-row .written)))) l₁₆ (sliceVal (b₂, place 12 o₂ (firstObject id)) ((firstObject id + 32) - (firstObject id))) (full 𝓤 (tyRef erased imm (pointee (Object-t.the-row .written))) l₁₅ (vptr b₂ (place 12 o₂ (firstObject id))) (full 𝓤 (tyInt w64) l₁₄ (u64-p .val ((firstObject id + 32) - (firstObject id))) (full 𝓤 tyPtr l₁₃ (vptr b₂ (place 12 o₂ (firstObject id))) (full 𝓤 (tyInt w64) l₁₂ (u64-p .val ((firstObject id) * 12)) (full 𝓤 Found-l.mir l₁₁ (Found-p .val (foundOf ((midOf (firstObject id) ((firstObject id + 32) - (firstObject id)) objects)) (objectPlace ((midOf (firstObject id) ((firstObject id + 32) - (firstObject id)) objects)) (usedOf (sessions) id) number))) (free 𝓤 Refusal-l.mir l₁₀ (full 𝓤 (tyInt w64) l₉ (u64-p .val (usedOf (sessions) id)) (full 𝓤 (tyInt w64) l₈ (u64-p .val (firstObject id + 32)) (full 𝓤 (tyInt w64) l₇ (u64-p .val (firstObject id)) (full 𝓤 Named-l.mir l₆ (Named-p .val Named-Live) (full 𝓤 (tyInt w64) l₅ (u64-p .val n₂) (full 𝓤 ObjectNumber-l.mir l₄ (ObjectNumber-p .val number) (full 𝓤 (tyInt w8) l₃ (u8-p .val id) (full 𝓤 (sliceTy (tyRef (named 1) imm (pointee (Object-t.the-row .written)))) l₂ (sliceVal (b₂, o₂) n₂) (full 𝓤 (sliceTy (tyRef (named 0) imm (pointee ((Array u64 5) .written)))) l₁ (sliceVal (b₁, o₁) n₁) (free 𝓤 Found-l.mir l₀ ([])))))))))))))))))) (runs C Λ En mir.t-4 (atRet En Post))
     part-4-0 is-2 e-3 good-3 is-3·Live·1 is-3·Live·2 is-3·Live·3 fits-3·Live·4 le-3·Live·6 fits-3·Live·6 part-3·Live·9-objects ppart-3·Live·9-objects asks-3·Live·9 is-3·Live·9 =
         assigns ! (of-opd ! (load ! (from ! (stop !)) (look ! 14 refl))) (from ! (stop !)) (init ! 36 refl (Found-p .typed 𝓤 H A W (foundOf ((midOf (firstObject id) ((firstObject id + 32) - (firstObject id)) objects)) (objectPlace ((midOf (firstObject id) ((firstObject id + 32) - (firstObject id)) objects)) (usedOf (sessions) id) number)) is-3·Live·9)) $
         returns ! (look ! 36 refl) $ forget ! 4 refl $ forget ! 6 refl $ forget ! 8 refl $ forget ! 10 refl $ forget ! 12 refl $ forget ! 14 refl $ forget ! 18 refl $ forget ! 20 refl $ forget ! 22 refl $ forget ! 24 refl $ forget ! 26 refl $ forget ! 28 refl $ forget ! 30 refl $ forget ! 32 refl $ forget ! 34 refl $ forget ! 36 refl $ move ! (36 ∷ 37 ∷ []) $ free1 ! $ move ! (34 ∷ 35 ∷ []) $ free1 ! $ move ! (32 ∷ 33 ∷ []) $ free1 ! $ move ! (30 ∷ 31 ∷ []) $ free1 ! $ move ! (28 ∷ 29 ∷ []) $ free1 ! $ move ! (26 ∷ 27 ∷ []) $ free1 ! $ move ! (24 ∷ 25 ∷ []) $ free1 ! $ move ! (22 ∷ 23 ∷ []) $ free1 ! $ move ! (20 ∷ 21 ∷ []) $ free1 ! $ move ! (18 ∷ 19 ∷ []) $ free1 ! $ move ! (16 ∷ 17 ∷ []) $ free1 ! $ move ! (14 ∷ 15 ∷ []) $ free1 ! $ move ! (12 ∷ 13 ∷ []) $ free1 ! $ move ! (10 ∷ 11 ∷ []) $ free1 ! $ move ! (8 ∷ 9 ∷ []) $ free1 ! $ move ! (6 ∷ 7 ∷ []) $ free1 ! $ move ! (4 ∷ 5 ∷ []) $ free1 ! $ free0 ! $
@@ -209,10 +209,10 @@ module _ {M : Type 1} (𝓤 : URA M) (H : Heap 𝓤) (A : Atoms 𝓤) (W : Given
         calls-any ! fm 1 [] (session-objects-used.signature .params) (session-objects-used.ended .kept) u64-p (session-objects-used.clauses 𝓤 H A mem run) known-session-objects-used (κ₁, tt) (q₁, tt) tt (at-list b₁ o₁ γ₁ sessions, (id, tt)) (sliceVal (b₁, o₁) n₁ ∷ [], (u8-p .val id ∷ [], tt)) tt (usedOf (sessions) id) (λ ws-3·Live·3. Unit {0}) (id⊢ 𝓤 _) (λ r ws-3·Live·3. fact-mono 𝓤 (r ≡ usedOf (sessions) id) ((r ≡ (usedOf (sessions) id)) × (Unit {0})) (λ e. (e, tt))) (λ _. (and-then ! (load ! (from ! (stop !)) (look ! 34 refl)) (and-then ! (load ! (from ! (stop !)) (look ! 30 refl)) (no-more !)))) (λ ws-3·Live·3 said-3·Live·3 is-3·Live·3.
         use1 W ((‵ (flft κ₁ q₁) ⊛ ‵ ftrue)) (id⊢ 𝓤 _) $ split ! $ move ! (2 ∷ []) $ fsplit ! $ drop ! $ drop ! $ move ! (1 ∷ []) $ drop ! $
         land ! (from ! (stop !)) (init ! 18 refl (u64-p .typed 𝓤 H A W (usedOf (sessions) id) is-3·Live·3)) $
-        knows ! ((firstObject id) * 8 < 2 ^ 64) ((omega (arith, ltb-true, ltb-false, leb-true, leb-false, eqb-true, eqb-false, lent-row sessions objects id e-3 (id-is .1) .inside))) (λ fits-3·Live·4.
-        assigns ! (bin ! (load ! (from ! (stop !)) (look ! 22 refl)) (lit ! tt) (record { fits = fits-3·Live·4 })) (from ! (stop !)) (init ! 12 refl (u64-p .typed 𝓤 H A W ((firstObject id) * 8) ((refl, fits-3·Live·4)))) $
+        knows ! ((firstObject id) * 12 < 2 ^ 64) ((omega (arith, ltb-true, ltb-false, leb-true, leb-false, eqb-true, eqb-false, lent-row sessions objects id e-3 (id-is .1) .inside))) (λ fits-3·Live·4.
+        assigns ! (bin ! (load ! (from ! (stop !)) (look ! 22 refl)) (lit ! tt) (record { fits = fits-3·Live·4 })) (from ! (stop !)) (init ! 12 refl (u64-p .typed 𝓤 H A W ((firstObject id) * 12) ((refl, fits-3·Live·4)))) $
         assigns ! (bin ! (load ! (from ! (fld ! refl (stop !))) (look-in ! 32 (sub ! 0 refl (whole !)))) (load ! (from ! (stop !)) (look ! 12 refl)) tt) (from ! (stop !)) (init ! 10 refl (tt, tt)) $
-        rewrite ! 10 (λ (p : ℕ). ‵ (fat fullShare tyPtr l₁₃ 0 (vptr b₂ p))) (sym (place-is 8 o₂ (firstObject id))) refl $
+        rewrite ! 10 (λ (p : ℕ). ‵ (fat fullShare tyPtr l₁₃ 0 (vptr b₂ p))) (sym (place-is 12 o₂ (firstObject id))) refl $
         knows ! ((firstObject id) ≤ (firstObject id + 32)) (omega (arith, ltb-true, ltb-false, leb-true, leb-false, eqb-true, eqb-false)) (λ le-3·Live·6.
         knows ! ((firstObject id + 32) - (firstObject id) < 2 ^ 64) (omega (arith, is-3·Live·2 .1)) (λ fits-3·Live·6.
         assigns ! (bin ! (load ! (from ! (stop !)) (look ! 20 refl)) (load ! (from ! (stop !)) (look ! 22 refl)) (le-3·Live·6)) (from ! (stop !)) (init ! 8 refl (u64-p .typed 𝓤 H A W ((firstObject id + 32) - (firstObject id)) ((refl, fits-3·Live·6)))) $
@@ -229,7 +229,7 @@ module _ {M : Type 1} (𝓤 : URA M) (H : Heap 𝓤) (A : Atoms 𝓤) (W : Given
         use1 W (raw (toks 𝓤 A 1 ((κ₂, tt)) ((q₂, tt)))) (id⊢ 𝓤 _) $ nothing ! $
         owned ! (ObjectNumber-p .row) (Is (ObjectNumber-p .row)) (ObjectNumber-p .makes 𝓤 H A W) number (ObjectNumber-p .val number ∷ []) number-is $ fjoin ! $
         owned ! (u64-p .row) (Is (u64-p .row)) (u64-p .makes 𝓤 H A W) (usedOf (sessions) id) (u64-p .val (usedOf (sessions) id) ∷ []) is-3·Live·3 $ fjoin ! $ move ! (2 ∷ 0 ∷ []) $ fjoin ! $ move ! (1 ∷ 0 ∷ []) $
-        calls-any-last ! fm 1 [] (object-rows-find.signature .params) (object-rows-find.ended .kept) Found-p (object-rows-find.clauses 𝓤 H A mem run) known-object-rows-find (κ₂, tt) (q₂, tt) tt (at-list b₂ (place 8 o₂ (firstObject id)) δp-3·Live·9-objects (midOf (firstObject id) ((firstObject id + 32) - (firstObject id)) objects), (usedOf (sessions) id, (number, tt))) (sliceVal (b₂, (place 8 o₂ (firstObject id))) ((firstObject id + 32) - (firstObject id)) ∷ [], (u64-p .val (usedOf (sessions) id) ∷ [], (ObjectNumber-p .val number ∷ [], tt))) tt (foundOf ((midOf (firstObject id) ((firstObject id + 32) - (firstObject id)) objects)) (objectPlace ((midOf (firstObject id) ((firstObject id + 32) - (firstObject id)) objects)) (usedOf (sessions) id) number)) (λ ws-3·Live·9. Unit {0}) (factI 𝓤 ((usedOf (sessions) id) ≤ length ((midOf (firstObject id) ((firstObject id + 32) - (firstObject id)) objects))) _ asks-3·Live·9) (λ r ws-3·Live·9. fact-mono 𝓤 (r ≡ foundOf ((midOf (firstObject id) ((firstObject id + 32) - (firstObject id)) objects)) (objectPlace ((midOf (firstObject id) ((firstObject id + 32) - (firstObject id)) objects)) (usedOf (sessions) id) number)) ((r ≡ (foundOf ((midOf (firstObject id) ((firstObject id + 32) - (firstObject id)) objects)) (objectPlace ((midOf (firstObject id) ((firstObject id + 32) - (firstObject id)) objects)) (usedOf (sessions) id) number))) × (Unit {0})) (λ e. (e, tt))) (λ _. (and-then ! (load ! (from ! (stop !)) (look ! 4 refl)) (and-then ! (load ! (from ! (stop !)) (look ! 18 refl)) (and-then ! (load ! (from ! (stop !)) (look ! 28 refl)) (no-more !))))) (λ ws-3·Live·9 said-3·Live·9 is-3·Live·9.
+        calls-any-last ! fm 1 [] (object-rows-find.signature .params) (object-rows-find.ended .kept) Found-p (object-rows-find.clauses 𝓤 H A mem run) known-object-rows-find (κ₂, tt) (q₂, tt) tt (at-list b₂ (place 12 o₂ (firstObject id)) δp-3·Live·9-objects (midOf (firstObject id) ((firstObject id + 32) - (firstObject id)) objects), (usedOf (sessions) id, (number, tt))) (sliceVal (b₂, (place 12 o₂ (firstObject id))) ((firstObject id + 32) - (firstObject id)) ∷ [], (u64-p .val (usedOf (sessions) id) ∷ [], (ObjectNumber-p .val number ∷ [], tt))) tt (foundOf ((midOf (firstObject id) ((firstObject id + 32) - (firstObject id)) objects)) (objectPlace ((midOf (firstObject id) ((firstObject id + 32) - (firstObject id)) objects)) (usedOf (sessions) id) number)) (λ ws-3·Live·9. Unit {0}) (factI 𝓤 ((usedOf (sessions) id) ≤ length ((midOf (firstObject id) ((firstObject id + 32) - (firstObject id)) objects))) _ asks-3·Live·9) (λ r ws-3·Live·9. fact-mono 𝓤 (r ≡ foundOf ((midOf (firstObject id) ((firstObject id + 32) - (firstObject id)) objects)) (objectPlace ((midOf (firstObject id) ((firstObject id + 32) - (firstObject id)) objects)) (usedOf (sessions) id) number)) ((r ≡ (foundOf ((midOf (firstObject id) ((firstObject id + 32) - (firstObject id)) objects)) (objectPlace ((midOf (firstObject id) ((firstObject id + 32) - (firstObject id)) objects)) (usedOf (sessions) id) number))) × (Unit {0})) (λ e. (e, tt))) (λ _. (and-then ! (load ! (from ! (stop !)) (look ! 4 refl)) (and-then ! (load ! (from ! (stop !)) (look ! 18 refl)) (and-then ! (load ! (from ! (stop !)) (look ! 28 refl)) (no-more !))))) (λ ws-3·Live·9 said-3·Live·9 is-3·Live·9.
         use1 W ((‵ (flft κ₂ q₂) ⊛ ‵ ftrue)) (id⊢ 𝓤 _) $ split ! $ move ! (2 ∷ []) $ fsplit ! $ drop ! $ drop ! $ move ! (1 ∷ []) $ drop ! $
         land-last ! (from ! (stop !)) (init ! 14 refl (Found-p .typed 𝓤 H A W (foundOf ((midOf (firstObject id) ((firstObject id + 32) - (firstObject id)) objects)) (objectPlace ((midOf (firstObject id) ((firstObject id + 32) - (firstObject id)) objects)) (usedOf (sessions) id) number)) is-3·Live·9)) $
         exec ! C Λ En mir.t-4 (atRet En Post) $ move ! (3 ∷ 2 ∷ 1 ∷ 0 ∷ 4 ∷ 5 ∷ 6 ∷ 7 ∷ 8 ∷ 9 ∷ 10 ∷ 11 ∷ 12 ∷ 13 ∷ 14 ∷ 15 ∷ 16 ∷ 17 ∷ 18 ∷ 19 ∷ 20 ∷ 21 ∷ 22 ∷ 23 ∷ 24 ∷ 25 ∷ 26 ∷ 27 ∷ 28 ∷ 29 ∷ 30 ∷ 31 ∷ 32 ∷ 33 ∷ 34 ∷ 35 ∷ 36 ∷ 37 ∷ []) $

@@ -52,8 +52,8 @@ use Rattle.walk.proofs.Steps.{past, one, yes-of, no-of, in-block, arm-of, holds
 use borrow.Rule.Slice.PartMut.{midOf, putMid}
 use Rattle.walk.proofs.Parts.{part-len, lends-part, backs-part, parts-shr}
 use Rattle.walk.proofs.Arrays.{rep-is, lends-array, backs-array}
-use Rattle.sessions.specs.SessionObjects.{objectsNamed, usedOf, firstObject, countedSession, keepUsed, foundObject, greatestObject, storedObject, storedObjects, keepStored, removedObjects, keepRemoved}
-use Rattle.sessions.specs.Objects.{objectPlace, foundOf, greatestOf, storedOf, storedRow, removedRow}
+use Rattle.sessions.specs.SessionObjects.{objectsNamed, usedOf, firstObject, countedSession, keepUsed, foundObject, storedObject, storedObjects, keepStored, removedObjects, keepRemoved}
+use Rattle.sessions.specs.Objects.{objectPlace, foundOf, storedOf, storedRow, removedRow}
 use Rattle.sessions.proofs.session_objects.Laws.{lent-row, found-is, found-lent, removed-is, removed-lent}
 use Rattle.sessions.specs.declared.objects.Object.{Object}
 use Rattle.sessions.proofs.objects.Object as Object-t
@@ -103,8 +103,8 @@ use Rattle.sessions.proofs.session_objects.remove_object.Statement as s
 use Rattle.sessions.proofs.session_objects.remove_object.Code as code
 use Rattle.sessions.proofs.session_objects.remove_object.Code.Mir as mir
 
-abbrev Object-of : ObjectNumber → ℕ → ℕ → ℕ → Object
-Object-of x0 x1 x2 x3 = record { number = x0; kind = x1; bridged = x2; handle = x3 }
+abbrev Object-of : ObjectNumber → ℕ → ℕ → ℕ → ℕ → Object
+Object-of x0 x1 x2 x3 x4 = record { number = x0; kind = x1; bridged = x2; handle = x3; parent = x4 }
 
 abbrev Object-p : Plain
 Object-p = record { row = Object-t.the-row; val = LL.val Object-t.the-type Object-l.the-laws; tells = LL.tells Object-t.the-type Object-l.the-laws; makes = λ 𝓤 H A W. LL.makes Object-t.the-type Object-l.the-plain 𝓤 H A; ty = Object-l.mir; typed = λ 𝓤 H A W x is. LL.lawful Object-t.the-type Object-l.the-laws 𝓤 H A W .typed x _ is .0; copies = λ 𝓤 H A W. LL.copy Object-t.the-type Object-l.the-copy 𝓤 H A W }
@@ -186,7 +186,7 @@ module _ {M : Type 1} (𝓤 : URA M) (H : Heap 𝓤) (A : Atoms 𝓤) (W : Given
     abbrev En : Env 𝓤 H
     En = (Found-l.mir, l₀) ∷ ((sliceTy (tyRef (named 0) mut (pointee ((Array u64 5) .written)))), l₁) ∷ ((sliceTy (tyRef (named 1) mut (pointee (Object-t.the-row .written)))), l₂) ∷ ((tyInt w8), l₃) ∷ (ObjectNumber-l.mir, l₄) ∷ ((tyInt w64), l₅) ∷ (Named-l.mir, l₆) ∷ ((tyInt w64), l₇) ∷ ((tyInt w64), l₈) ∷ ((tyInt w64), l₉) ∷ (Found-l.mir, l₁₀) ∷ (Refusal-l.mir, l₁₁) ∷ ((tyRef erased imm (pointee ((Array u64 5) .written))), l₁₂) ∷ ((sliceTy (tyRef erased imm (pointee ((Array u64 5) .written)))), l₁₃) ∷ (Found-l.mir, l₁₄) ∷ ((tyRef erased imm (pointee ((Array u64 5) .written))), l₁₅) ∷ ((sliceTy (tyRef erased imm (pointee ((Array u64 5) .written)))), l₁₆) ∷ ((tyInt w64), l₁₇) ∷ (tyPtr, l₁₈) ∷ ((tyInt w64), l₁₉) ∷ ((tyRef erased mut (pointee (Object-t.the-row .written))), l₂₀) ∷ ((sliceTy (tyRef erased mut (pointee (Object-t.the-row .written)))), l₂₁) ∷ (tyUnit, l₂₂) ∷ ((tyRef erased mut (pointee ((Array u64 5) .written))), l₂₃) ∷ ((sliceTy (tyRef erased mut (pointee ((Array u64 5) .written)))), l₂₄) ∷ []
 
-    part-5·Live·12-0 : (is-4 : Is (Named-p .row) (objectsNamed (sessions) n₂ id) (Named-p .val (objectsNamed (sessions) n₂ id) ∷ [])) → (e-5 : objectsNamed (sessions) n₂ id ≡ Named-Live) → (good-5 : Is (Named-p .row) Named-Live (Named-p .val Named-Live ∷ [])) → (is-5·Live·1 : Is (u64-p .row) (firstObject id) (u64-p .val (firstObject id) ∷ [])) → (is-5·Live·2 : Is (u64-p .row) (firstObject id + 32) (u64-p .val (firstObject id + 32) ∷ [])) → (is-5·Live·5 : Is (u64-p .row) (usedOf (sessions) id) (u64-p .val (usedOf (sessions) id) ∷ [])) → (fits-5·Live·6 : (firstObject id) * 8 < 2 ^ 64) → (le-5·Live·8 : (firstObject id) ≤ (firstObject id + 32)) → (fits-5·Live·8 : (firstObject id + 32) - (firstObject id) < 2 ^ 64) → (part-5·Live·11-objects : (firstObject id) + ((firstObject id + 32) - (firstObject id)) ≤ length objects) → (ppart-5·Live·11-objects : length (midOf (firstObject id) ((firstObject id + 32) - (firstObject id)) objects) ≡ ((firstObject id + 32) - (firstObject id))) → (asks-5·Live·11 : (usedOf (sessions) id) ≤ length ((midOf (firstObject id) ((firstObject id + 32) - (firstObject id)) objects))) → (len-5·Live·11-objects : length (putMid (firstObject id) ((firstObject id + 32) - (firstObject id)) objects (removedRow ((midOf (firstObject id) ((firstObject id + 32) - (firstObject id)) objects)) (usedOf (sessions) id) (objectPlace ((midOf (firstObject id) ((firstObject id + 32) - (firstObject id)) objects)) (usedOf (sessions) id) number))) ≡ n₂) → (is-5·Live·11 : Is (Found-p .row) (foundOf ((midOf (firstObject id) ((firstObject id + 32) - (firstObject id)) objects)) (objectPlace ((midOf (firstObject id) ((firstObject id + 32) - (firstObject id)) objects)) (usedOf (sessions) id) number)) (Found-p .val (foundOf ((midOf (firstObject id) ((firstObject id + 32) - (firstObject id)) objects)) (objectPlace ((midOf (firstObject id) ((firstObject id + 32) - (firstObject id)) objects)) (usedOf (sessions) id) number)) ∷ [])) → Sq W (‵ (MutSlice (named 0) κ₁ (Array u64 5) .own (at-list b₁ o₁ γ₁ sessions) (sliceVal (b₁, o₁) n₁ ∷ [])) ∷ ‵ (flft κ₁ q₁) ∷ ‵ (MutSlice (named 0) κ₂ Object-t.the-row .own (at-list b₂ o₂ γ₂ (putMid (firstObject id) ((firstObject id + 32) - (firstObject id)) objects (removedRow ((midOf (firstObject id) ((firstObject id + 32) - (firstObject id)) objects)) (usedOf (sessions) id) (objectPlace ((midOf (firstObject id) ((firstObject id + 32) - (firstObject id)) objects)) (usedOf (sessions) id) number)))) (sliceVal (b₂, o₂) n₂ ∷ [])) ∷ ‵ (flft κ₂ q₂) ∷ free 𝓤 (sliceTy (tyRef erased mut (pointee ((Array u64 5) .written)))) l₂₄ (free 𝓤 (tyRef erased mut (pointee ((Array u64 5) .written))) l₂₃ (free 𝓤 tyUnit l₂₂ (full 𝓤 (sliceTy (tyRef erased mut (pointee (Object-t.the-row .written)))) l₂₁ (sliceVal (b₂, place 8 o₂ (firstObject id)) ((firstObject id + 32) - (firstObject id))) (full 𝓤 (tyRef erased mut (pointee (Object-t.the-row .written))) l₂₀ (vptr b₂ (place 8 o₂ (firstObject id))) (full 𝓤 (tyInt w64) l₁₉ (u64-p .val ((firstObject id + 32) - (firstObject id))) (full 𝓤 tyPtr l₁₈ (vptr b₂ (place 8 o₂ (firstObject id))) (full 𝓤 (tyInt w64) l₁₇ (u64-p .val ((firstObject id) * 8)) (full 𝓤 (sliceTy (tyRef erased imm (pointee ((Array u64 5) .written)))) l₁₆ (sliceVal (b₁, o₁) n₁) (full 𝓤 (tyRef erased imm (pointee ((Array u64 5) .written))) l₁₅ (vptr b₁ o₁) (free 𝓤 Found-l.mir l₁₄ (full 𝓤 (sliceTy (tyRef erased imm (pointee ((Array u64 5) .written)))) l₁₃ (sliceVal (b₁, o₁) n₁) (full 𝓤 (tyRef erased imm (pointee ((Array u64 5) .written))) l₁₂ (vptr b₁ o₁) (free 𝓤 Refusal-l.mir l₁₁ (full 𝓤 Found-l.mir l₁₀ (Found-p .val (foundOf ((midOf (firstObject id) ((firstObject id + 32) - (firstObject id)) objects)) (objectPlace ((midOf (firstObject id) ((firstObject id + 32) - (firstObject id)) objects)) (usedOf (sessions) id) number))) (full 𝓤 (tyInt w64) l₉ (u64-p .val (usedOf (sessions) id)) (full 𝓤 (tyInt w64) l₈ (u64-p .val (firstObject id + 32)) (full 𝓤 (tyInt w64) l₇ (u64-p .val (firstObject id)) (full 𝓤 Named-l.mir l₆ (Named-p .val Named-Live) (full 𝓤 (tyInt w64) l₅ (u64-p .val n₂) (full 𝓤 ObjectNumber-l.mir l₄ (ObjectNumber-p .val number) (full 𝓤 (tyInt w8) l₃ (u8-p .val id) (full 𝓤 (sliceTy (tyRef (named 1) mut (pointee (Object-t.the-row .written)))) l₂ (sliceVal (b₂, o₂) n₂) (full 𝓤 (sliceTy (tyRef (named 0) mut (pointee ((Array u64 5) .written)))) l₁ (sliceVal (b₁, o₁) n₁) (free 𝓤 Found-l.mir l₀ ([])))))))))))))))))))))))))) (runs C Λ En (past 11 (arm-of 0 (one mir.t-5))) (anyQ (afterSeq 𝓤 H (Wp 𝓤 H C Λ En mir.t-6 (atReturn 𝓤 H En Post)) (atReturn 𝓤 H En Post))))
+    part-5·Live·12-0 : (is-4 : Is (Named-p .row) (objectsNamed (sessions) n₂ id) (Named-p .val (objectsNamed (sessions) n₂ id) ∷ [])) → (e-5 : objectsNamed (sessions) n₂ id ≡ Named-Live) → (good-5 : Is (Named-p .row) Named-Live (Named-p .val Named-Live ∷ [])) → (is-5·Live·1 : Is (u64-p .row) (firstObject id) (u64-p .val (firstObject id) ∷ [])) → (is-5·Live·2 : Is (u64-p .row) (firstObject id + 32) (u64-p .val (firstObject id + 32) ∷ [])) → (is-5·Live·5 : Is (u64-p .row) (usedOf (sessions) id) (u64-p .val (usedOf (sessions) id) ∷ [])) → (fits-5·Live·6 : (firstObject id) * 12 < 2 ^ 64) → (le-5·Live·8 : (firstObject id) ≤ (firstObject id + 32)) → (fits-5·Live·8 : (firstObject id + 32) - (firstObject id) < 2 ^ 64) → (part-5·Live·11-objects : (firstObject id) + ((firstObject id + 32) - (firstObject id)) ≤ length objects) → (ppart-5·Live·11-objects : length (midOf (firstObject id) ((firstObject id + 32) - (firstObject id)) objects) ≡ ((firstObject id + 32) - (firstObject id))) → (asks-5·Live·11 : (usedOf (sessions) id) ≤ length ((midOf (firstObject id) ((firstObject id + 32) - (firstObject id)) objects))) → (len-5·Live·11-objects : length (putMid (firstObject id) ((firstObject id + 32) - (firstObject id)) objects (removedRow ((midOf (firstObject id) ((firstObject id + 32) - (firstObject id)) objects)) (usedOf (sessions) id) (objectPlace ((midOf (firstObject id) ((firstObject id + 32) - (firstObject id)) objects)) (usedOf (sessions) id) number))) ≡ n₂) → (is-5·Live·11 : Is (Found-p .row) (foundOf ((midOf (firstObject id) ((firstObject id + 32) - (firstObject id)) objects)) (objectPlace ((midOf (firstObject id) ((firstObject id + 32) - (firstObject id)) objects)) (usedOf (sessions) id) number)) (Found-p .val (foundOf ((midOf (firstObject id) ((firstObject id + 32) - (firstObject id)) objects)) (objectPlace ((midOf (firstObject id) ((firstObject id + 32) - (firstObject id)) objects)) (usedOf (sessions) id) number)) ∷ [])) → Sq W (‵ (MutSlice (named 0) κ₁ (Array u64 5) .own (at-list b₁ o₁ γ₁ sessions) (sliceVal (b₁, o₁) n₁ ∷ [])) ∷ ‵ (flft κ₁ q₁) ∷ ‵ (MutSlice (named 0) κ₂ Object-t.the-row .own (at-list b₂ o₂ γ₂ (putMid (firstObject id) ((firstObject id + 32) - (firstObject id)) objects (removedRow ((midOf (firstObject id) ((firstObject id + 32) - (firstObject id)) objects)) (usedOf (sessions) id) (objectPlace ((midOf (firstObject id) ((firstObject id + 32) - (firstObject id)) objects)) (usedOf (sessions) id) number)))) (sliceVal (b₂, o₂) n₂ ∷ [])) ∷ ‵ (flft κ₂ q₂) ∷ free 𝓤 (sliceTy (tyRef erased mut (pointee ((Array u64 5) .written)))) l₂₄ (free 𝓤 (tyRef erased mut (pointee ((Array u64 5) .written))) l₂₃ (free 𝓤 tyUnit l₂₂ (full 𝓤 (sliceTy (tyRef erased mut (pointee (Object-t.the-row .written)))) l₂₁ (sliceVal (b₂, place 12 o₂ (firstObject id)) ((firstObject id + 32) - (firstObject id))) (full 𝓤 (tyRef erased mut (pointee (Object-t.the-row .written))) l₂₀ (vptr b₂ (place 12 o₂ (firstObject id))) (full 𝓤 (tyInt w64) l₁₉ (u64-p .val ((firstObject id + 32) - (firstObject id))) (full 𝓤 tyPtr l₁₈ (vptr b₂ (place 12 o₂ (firstObject id))) (full 𝓤 (tyInt w64) l₁₇ (u64-p .val ((firstObject id) * 12)) (full 𝓤 (sliceTy (tyRef erased imm (pointee ((Array u64 5) .written)))) l₁₆ (sliceVal (b₁, o₁) n₁) (full 𝓤 (tyRef erased imm (pointee ((Array u64 5) .written))) l₁₅ (vptr b₁ o₁) (free 𝓤 Found-l.mir l₁₄ (full 𝓤 (sliceTy (tyRef erased imm (pointee ((Array u64 5) .written)))) l₁₃ (sliceVal (b₁, o₁) n₁) (full 𝓤 (tyRef erased imm (pointee ((Array u64 5) .written))) l₁₂ (vptr b₁ o₁) (free 𝓤 Refusal-l.mir l₁₁ (full 𝓤 Found-l.mir l₁₀ (Found-p .val (foundOf ((midOf (firstObject id) ((firstObject id + 32) - (firstObject id)) objects)) (objectPlace ((midOf (firstObject id) ((firstObject id + 32) - (firstObject id)) objects)) (usedOf (sessions) id) number))) (full 𝓤 (tyInt w64) l₉ (u64-p .val (usedOf (sessions) id)) (full 𝓤 (tyInt w64) l₈ (u64-p .val (firstObject id + 32)) (full 𝓤 (tyInt w64) l₇ (u64-p .val (firstObject id)) (full 𝓤 Named-l.mir l₆ (Named-p .val Named-Live) (full 𝓤 (tyInt w64) l₅ (u64-p .val n₂) (full 𝓤 ObjectNumber-l.mir l₄ (ObjectNumber-p .val number) (full 𝓤 (tyInt w8) l₃ (u8-p .val id) (full 𝓤 (sliceTy (tyRef (named 1) mut (pointee (Object-t.the-row .written)))) l₂ (sliceVal (b₂, o₂) n₂) (full 𝓤 (sliceTy (tyRef (named 0) mut (pointee ((Array u64 5) .written)))) l₁ (sliceVal (b₁, o₁) n₁) (free 𝓤 Found-l.mir l₀ ([])))))))))))))))))))))))))) (runs C Λ En (past 11 (arm-of 0 (one mir.t-5))) (anyQ (afterSeq 𝓤 H (Wp 𝓤 H C Λ En mir.t-6 (atReturn 𝓤 H En Post)) (atReturn 𝓤 H En Post))))
     part-5·Live·12-0 is-4 e-5 good-5 is-5·Live·1 is-5·Live·2 is-5·Live·5 fits-5·Live·6 le-5·Live·8 fits-5·Live·8 part-5·Live·11-objects ppart-5·Live·11-objects asks-5·Live·11 len-5·Live·11-objects is-5·Live·11 =
         assigns ! (addr ! (from ! (fld ! refl (hop ! (look-in ! 50 (sub ! 0 refl (whole !))) (stop !))))) (from ! (stop !)) (init ! 6 refl (tt, tt)) $
         assigns ! (agg ! (and-then ! (load ! (from ! (stop !)) (look ! 6 refl)) (and-then ! (load ! (from ! (fld ! refl (stop !))) (look-in ! 50 (sub ! 1 refl (whole !)))) (no-more !)))) (from ! (stop !)) (init ! 4 refl (tt, (tt, (record { fits = room₁ .0 }, tt)))) $
@@ -237,10 +237,10 @@ module _ {M : Type 1} (𝓤 : URA M) (H : Heap 𝓤) (A : Atoms 𝓤) (W : Given
         use1 W ((‵ (flft (ν-5·Live·5-sessions ∷ []) fullShare) ⊛ ‵ ftrue)) (id⊢ 𝓤 _) $ split ! $ move ! (2 ∷ []) $ fsplit ! $ move ! (2 ∷ 4 ∷ []) $
         backs-view ! tt (Array u64 5) b₁ o₁ sessions n₁ (refl) ν-5·Live·5-sessions $ move ! (2 ∷ []) $ drop ! $ move ! (2 ∷ []) $ drop ! $ move ! (2 ∷ []) $ drop ! $
         land ! (from ! (stop !)) (init ! 34 refl (u64-p .typed 𝓤 H A W (usedOf (sessions) id) is-5·Live·5)) $
-        knows ! ((firstObject id) * 8 < 2 ^ 64) ((omega (arith, ltb-true, ltb-false, leb-true, leb-false, eqb-true, eqb-false, lent-row sessions objects id e-5 (id-is .1) .inside))) (λ fits-5·Live·6.
-        assigns ! (bin ! (load ! (from ! (stop !)) (look ! 38 refl)) (lit ! tt) (record { fits = fits-5·Live·6 })) (from ! (stop !)) (init ! 18 refl (u64-p .typed 𝓤 H A W ((firstObject id) * 8) ((refl, fits-5·Live·6)))) $
+        knows ! ((firstObject id) * 12 < 2 ^ 64) ((omega (arith, ltb-true, ltb-false, leb-true, leb-false, eqb-true, eqb-false, lent-row sessions objects id e-5 (id-is .1) .inside))) (λ fits-5·Live·6.
+        assigns ! (bin ! (load ! (from ! (stop !)) (look ! 38 refl)) (lit ! tt) (record { fits = fits-5·Live·6 })) (from ! (stop !)) (init ! 18 refl (u64-p .typed 𝓤 H A W ((firstObject id) * 12) ((refl, fits-5·Live·6)))) $
         assigns ! (bin ! (load ! (from ! (fld ! refl (stop !))) (look-in ! 48 (sub ! 0 refl (whole !)))) (load ! (from ! (stop !)) (look ! 18 refl)) tt) (from ! (stop !)) (init ! 16 refl (tt, tt)) $
-        rewrite ! 16 (λ (p : ℕ). ‵ (fat fullShare tyPtr l₁₈ 0 (vptr b₂ p))) (sym (place-is 8 o₂ (firstObject id))) refl $
+        rewrite ! 16 (λ (p : ℕ). ‵ (fat fullShare tyPtr l₁₈ 0 (vptr b₂ p))) (sym (place-is 12 o₂ (firstObject id))) refl $
         knows ! ((firstObject id) ≤ (firstObject id + 32)) (omega (arith, ltb-true, ltb-false, leb-true, leb-false, eqb-true, eqb-false)) (λ le-5·Live·8.
         knows ! ((firstObject id + 32) - (firstObject id) < 2 ^ 64) (omega (arith, is-5·Live·2 .1)) (λ fits-5·Live·8.
         assigns ! (bin ! (load ! (from ! (stop !)) (look ! 36 refl)) (load ! (from ! (stop !)) (look ! 38 refl)) (le-5·Live·8)) (from ! (stop !)) (init ! 14 refl (u64-p .typed 𝓤 H A W ((firstObject id + 32) - (firstObject id)) ((refl, fits-5·Live·8)))) $
@@ -256,7 +256,7 @@ module _ {M : Type 1} (𝓤 : URA M) (H : Heap 𝓤) (A : Atoms 𝓤) (W : Given
         use1 W (raw (toks 𝓤 A 1 (((ν-5·Live·11-objects ∷ []), tt)) ((fullShare, tt)))) (id⊢ 𝓤 _) $ nothing ! $
         owned ! (ObjectNumber-p .row) (Is (ObjectNumber-p .row)) (ObjectNumber-p .makes 𝓤 H A W) number (ObjectNumber-p .val number ∷ []) number-is $ fjoin ! $
         owned ! (u64-p .row) (Is (u64-p .row)) (u64-p .makes 𝓤 H A W) (usedOf (sessions) id) (u64-p .val (usedOf (sessions) id) ∷ []) is-5·Live·5 $ fjoin ! $ move ! (2 ∷ 0 ∷ []) $ fjoin ! $ move ! (1 ∷ 0 ∷ []) $
-        calls-any ! fm 1 [] (object-rows-remove.signature .params) (object-rows-remove.ended .kept) Found-p (object-rows-remove.clauses 𝓤 H A mem run) known-object-rows-remove ((ν-5·Live·11-objects ∷ []), tt) (fullShare, tt) tt (at-list b₂ (place 8 o₂ (firstObject id)) δ-5·Live·11-objects (midOf (firstObject id) ((firstObject id + 32) - (firstObject id)) objects), (usedOf (sessions) id, (number, tt))) (sliceVal (b₂, (place 8 o₂ (firstObject id))) ((firstObject id + 32) - (firstObject id)) ∷ [], (u64-p .val (usedOf (sessions) id) ∷ [], (ObjectNumber-p .val number ∷ [], tt))) tt (foundOf ((midOf (firstObject id) ((firstObject id + 32) - (firstObject id)) objects)) (objectPlace ((midOf (firstObject id) ((firstObject id + 32) - (firstObject id)) objects)) (usedOf (sessions) id) number)) (λ ws-5·Live·11. (ws-5·Live·11 .0 ≡ removedRow ((midOf (firstObject id) ((firstObject id + 32) - (firstObject id)) objects)) (usedOf (sessions) id) (objectPlace ((midOf (firstObject id) ((firstObject id + 32) - (firstObject id)) objects)) (usedOf (sessions) id) number))) (factI 𝓤 ((usedOf (sessions) id) ≤ length ((midOf (firstObject id) ((firstObject id + 32) - (firstObject id)) objects))) _ asks-5·Live·11) (λ r ws-5·Live·11. fact-mono 𝓤 ((r ≡ foundOf ((midOf (firstObject id) ((firstObject id + 32) - (firstObject id)) objects)) (objectPlace ((midOf (firstObject id) ((firstObject id + 32) - (firstObject id)) objects)) (usedOf (sessions) id) number)) × ((ws-5·Live·11 .0) ≡ removedRow ((midOf (firstObject id) ((firstObject id + 32) - (firstObject id)) objects)) (usedOf (sessions) id) (objectPlace ((midOf (firstObject id) ((firstObject id + 32) - (firstObject id)) objects)) (usedOf (sessions) id) number))) ((r ≡ (foundOf ((midOf (firstObject id) ((firstObject id + 32) - (firstObject id)) objects)) (objectPlace ((midOf (firstObject id) ((firstObject id + 32) - (firstObject id)) objects)) (usedOf (sessions) id) number))) × ((ws-5·Live·11 .0 ≡ removedRow ((midOf (firstObject id) ((firstObject id + 32) - (firstObject id)) objects)) (usedOf (sessions) id) (objectPlace ((midOf (firstObject id) ((firstObject id + 32) - (firstObject id)) objects)) (usedOf (sessions) id) number)))) (λ e. (e .0, e .1))) (λ _. (and-then ! (load ! (from ! (stop !)) (look ! 10 refl)) (and-then ! (load ! (from ! (stop !)) (look ! 34 refl)) (and-then ! (load ! (from ! (stop !)) (look ! 44 refl)) (no-more !))))) (λ ws-5·Live·11 said-5·Live·11 is-5·Live·11.
+        calls-any ! fm 1 [] (object-rows-remove.signature .params) (object-rows-remove.ended .kept) Found-p (object-rows-remove.clauses 𝓤 H A mem run) known-object-rows-remove ((ν-5·Live·11-objects ∷ []), tt) (fullShare, tt) tt (at-list b₂ (place 12 o₂ (firstObject id)) δ-5·Live·11-objects (midOf (firstObject id) ((firstObject id + 32) - (firstObject id)) objects), (usedOf (sessions) id, (number, tt))) (sliceVal (b₂, (place 12 o₂ (firstObject id))) ((firstObject id + 32) - (firstObject id)) ∷ [], (u64-p .val (usedOf (sessions) id) ∷ [], (ObjectNumber-p .val number ∷ [], tt))) tt (foundOf ((midOf (firstObject id) ((firstObject id + 32) - (firstObject id)) objects)) (objectPlace ((midOf (firstObject id) ((firstObject id + 32) - (firstObject id)) objects)) (usedOf (sessions) id) number)) (λ ws-5·Live·11. (ws-5·Live·11 .0 ≡ removedRow ((midOf (firstObject id) ((firstObject id + 32) - (firstObject id)) objects)) (usedOf (sessions) id) (objectPlace ((midOf (firstObject id) ((firstObject id + 32) - (firstObject id)) objects)) (usedOf (sessions) id) number))) (factI 𝓤 ((usedOf (sessions) id) ≤ length ((midOf (firstObject id) ((firstObject id + 32) - (firstObject id)) objects))) _ asks-5·Live·11) (λ r ws-5·Live·11. fact-mono 𝓤 ((r ≡ foundOf ((midOf (firstObject id) ((firstObject id + 32) - (firstObject id)) objects)) (objectPlace ((midOf (firstObject id) ((firstObject id + 32) - (firstObject id)) objects)) (usedOf (sessions) id) number)) × ((ws-5·Live·11 .0) ≡ removedRow ((midOf (firstObject id) ((firstObject id + 32) - (firstObject id)) objects)) (usedOf (sessions) id) (objectPlace ((midOf (firstObject id) ((firstObject id + 32) - (firstObject id)) objects)) (usedOf (sessions) id) number))) ((r ≡ (foundOf ((midOf (firstObject id) ((firstObject id + 32) - (firstObject id)) objects)) (objectPlace ((midOf (firstObject id) ((firstObject id + 32) - (firstObject id)) objects)) (usedOf (sessions) id) number))) × ((ws-5·Live·11 .0 ≡ removedRow ((midOf (firstObject id) ((firstObject id + 32) - (firstObject id)) objects)) (usedOf (sessions) id) (objectPlace ((midOf (firstObject id) ((firstObject id + 32) - (firstObject id)) objects)) (usedOf (sessions) id) number)))) (λ e. (e .0, e .1))) (λ _. (and-then ! (load ! (from ! (stop !)) (look ! 10 refl)) (and-then ! (load ! (from ! (stop !)) (look ! 34 refl)) (and-then ! (load ! (from ! (stop !)) (look ! 44 refl)) (no-more !))))) (λ ws-5·Live·11 said-5·Live·11 is-5·Live·11.
         use1 W ((‵ (flft (ν-5·Live·11-objects ∷ []) fullShare) ⊛ ‵ ftrue)) (id⊢ 𝓤 _) $ split ! $ move ! (2 ∷ []) $ fsplit ! $ fsplit ! $ move ! (1 ∷ []) $
         feqL ! (λ wlen-5·Live·11-0.
         move ! (2 ∷ 4 ∷ 0 ∷ []) $

@@ -55,7 +55,7 @@ use Rattle.walk.proofs.Arrays.{rep-is, lends-array, backs-array}
 use Rattle.sessions.specs.Table.{rowOf, endedSession}
 use Rattle.sessions.specs.Objects.{blank}
 use Rattle.sessions.specs.Setup.{setUpFits, cleared, noStream, emptySessions, emptyStreams, emptyObjects, setUpOf, leaves}
-use Rattle.sessions.specs.Objects.{bridgedOf, implicitOf, handleOf, isNumbered, greaterOf, betterOf, slotOf, usedAfter}
+use Rattle.sessions.specs.Objects.{bridgedOf, implicitOf, handleOf, isNumbered, slotOf, usedAfter}
 use Rattle.sessions.proofs.setup.Laws.{cleared-none, cleared-more}
 use Rattle.sessions.specs.declared.objects.Object.{Object}
 use Rattle.sessions.proofs.objects.Object as Object-t
@@ -73,8 +73,8 @@ use Rattle.sessions.proofs.setup.clear_objects.Statement as stated
 use Rattle.sessions.proofs.setup.clear_objects.Code as code
 use Rattle.sessions.proofs.setup.clear_objects.Code.Mir as mir
 
-abbrev Object-of : ObjectNumber → ℕ → ℕ → ℕ → Object
-Object-of x0 x1 x2 x3 = record { number = x0; kind = x1; bridged = x2; handle = x3 }
+abbrev Object-of : ObjectNumber → ℕ → ℕ → ℕ → ℕ → Object
+Object-of x0 x1 x2 x3 x4 = record { number = x0; kind = x1; bridged = x2; handle = x3; parent = x4 }
 
 abbrev Object-p : Plain
 Object-p = record { row = Object-t.the-row; val = LL.val Object-t.the-type Object-l.the-laws; tells = LL.tells Object-t.the-type Object-l.the-laws; makes = λ 𝓤 H A W. LL.makes Object-t.the-type Object-l.the-plain 𝓤 H A; ty = Object-l.mir; typed = λ 𝓤 H A W x is. LL.lawful Object-t.the-type Object-l.the-laws 𝓤 H A W .typed x _ is .0; copies = λ 𝓤 H A W. LL.copy Object-t.the-type Object-l.the-copy 𝓤 H A W }
@@ -128,9 +128,9 @@ module _ {M : Type 1} (𝓤 : URA M) (H : Heap 𝓤) (A : Atoms 𝓤) (W : Given
     abbrev En : Env 𝓤 H
     En = (tyUnit, l₀) ∷ ((sliceTy (tyRef (named 0) mut (pointee (Object-t.the-row .written)))), l₁) ∷ ((tyInt w64), l₂) ∷ (ObjectNumber-l.mir, l₃) ∷ (Object-l.mir, l₄) ∷ ((tyInt w64), l₅) ∷ (tyBool, l₆) ∷ ((tyInt w64), l₇) ∷ (tyPtr, l₈) ∷ []
 
-    module _ (is-2 : Is (Object-p .row) (implicitOf (ObjectNumber-of 0) 0) (Object-p .val (implicitOf (ObjectNumber-of 0) 0) ∷ [])) where
+    module _ (is-2 : Is (Object-p .row) (implicitOf (ObjectNumber-of 0) 0 0) (Object-p .val (implicitOf (ObjectNumber-of 0) 0 0) ∷ [])) where
       abbrev At-4 : (i : ℕ) → (ys : List Object) → List (Item 𝓤)
-      At-4 i ys = ‵ (MutSlice (named 0) κ₁ Object-t.the-row .own (at-list b₁ o₁ γ₁ ys) (sliceVal (b₁, o₁) n₁ ∷ [])) ∷ ‵ (flft κ₁ q₁) ∷ free 𝓤 tyPtr l₈ (free 𝓤 (tyInt w64) l₇ (free 𝓤 tyBool l₆ (full 𝓤 (tyInt w64) l₅ (u64-p .val i) (full 𝓤 Object-l.mir l₄ (Object-p .val (implicitOf (ObjectNumber-of 0) 0)) (full 𝓤 ObjectNumber-l.mir l₃ (ObjectNumber-p .val (ObjectNumber-of 0)) (full 𝓤 (tyInt w64) l₂ (u64-p .val n′) (full 𝓤 (sliceTy (tyRef (named 0) mut (pointee (Object-t.the-row .written)))) l₁ (sliceVal (b₁, o₁) n₁) (free 𝓤 tyUnit l₀ ([])))))))))
+      At-4 i ys = ‵ (MutSlice (named 0) κ₁ Object-t.the-row .own (at-list b₁ o₁ γ₁ ys) (sliceVal (b₁, o₁) n₁ ∷ [])) ∷ ‵ (flft κ₁ q₁) ∷ free 𝓤 tyPtr l₈ (free 𝓤 (tyInt w64) l₇ (free 𝓤 tyBool l₆ (full 𝓤 (tyInt w64) l₅ (u64-p .val i) (full 𝓤 Object-l.mir l₄ (Object-p .val (implicitOf (ObjectNumber-of 0) 0 0)) (full 𝓤 ObjectNumber-l.mir l₃ (ObjectNumber-p .val (ObjectNumber-of 0)) (full 𝓤 (tyInt w64) l₂ (u64-p .val n′) (full 𝓤 (sliceTy (tyRef (named 0) mut (pointee (Object-t.the-row .written)))) l₁ (sliceVal (b₁, o₁) n₁) (free 𝓤 tyUnit l₀ ([])))))))))
 
       abbrev Facts-4 : ℕ → (i : ℕ) → (ys : List Object) → Type 0
       Facts-4 t i ys = (t ≡ n′ - i) × (Is (u64-p .row) i (u64-p .val i ∷ [])) × (length ys ≡ n₁) × ((i ≤ n′) × (ys ≡ cleared i blank objects))
@@ -161,17 +161,17 @@ module _ {M : Type 1} (𝓤 : URA M) (H : Heap 𝓤) (A : Atoms 𝓤) (W : Given
           knows ! (ltb i n′ ≡ true) (holds (ltb i n′) h-4·2) (λ c-4·2.
           skips ! $
           exec ! C Λ En (past 2 mir.turn-1) (anyQ (afterTurn 𝓤 H (Below-4 t-4) Left-4)) $
-          knows ! (i * 8 < 2 ^ 64) (omega (arith, ltb-true, ltb-false, leb-true, leb-false, eqb-true, eqb-false)) (λ fits-4·3.
-          assigns ! (bin ! (load ! (from ! (stop !)) (look ! 8 refl)) (lit ! tt) (record { fits = fits-4·3 })) (from ! (stop !)) (init ! 4 refl (u64-p .typed 𝓤 H A W (i * 8) ((refl, fits-4·3)))) $
+          knows ! (i * 12 < 2 ^ 64) (omega (arith, ltb-true, ltb-false, leb-true, leb-false, eqb-true, eqb-false)) (λ fits-4·3.
+          assigns ! (bin ! (load ! (from ! (stop !)) (look ! 8 refl)) (lit ! tt) (record { fits = fits-4·3 })) (from ! (stop !)) (init ! 4 refl (u64-p .typed 𝓤 H A W (i * 12) ((refl, fits-4·3)))) $
           assigns ! (bin ! (load ! (from ! (fld ! refl (stop !))) (look-in ! 16 (sub ! 0 refl (whole !)))) (load ! (from ! (stop !)) (look ! 4 refl)) tt) (from ! (stop !)) (init ! 2 refl (tt, tt)) $
-          rewrite ! 2 (λ (p : ℕ). ‵ (fat fullShare tyPtr l₈ 0 (vptr b₁ p))) (sym (place-is 8 o₁ i)) refl $
+          rewrite ! 2 (λ (p : ℕ). ‵ (fat fullShare tyPtr l₈ 0 (vptr b₁ p))) (sym (place-is 12 o₁ i)) refl $
           knows ! (i < length ys) (omega (arith, ltb-true, ltb-false, leb-true, leb-false, eqb-true, eqb-false)) (λ index-4·5.
-          opens-elem ! tt Object-p b₁ o₁ ys n₁ (ys-len) i ((Object-of (ObjectNumber-of 0) 0 0 0)) index-4·5 (λ _.
-          assigns ! (of-opd ! (load ! (from ! (stop !)) (look ! 14 refl))) (from ! (hop ! (look ! 6 refl) (stop !))) (store-raw ! 0 refl (Object-p .typed 𝓤 H A W (implicitOf (ObjectNumber-of 0) 0) is-2)) $
-          puts-elem ! tt Object-p b₁ o₁ ys n₁ (ys-len) room₁ i ((Object-of (ObjectNumber-of 0) 0 0 0)) (implicitOf (ObjectNumber-of 0) 0) index-4·5 is-2 (λ len-4·5.
+          opens-elem ! tt Object-p b₁ o₁ ys n₁ (ys-len) i ((Object-of (ObjectNumber-of 0) 0 0 0 0)) index-4·5 (λ _.
+          assigns ! (of-opd ! (load ! (from ! (stop !)) (look ! 14 refl))) (from ! (hop ! (look ! 6 refl) (stop !))) (store-raw ! 0 refl (Object-p .typed 𝓤 H A W (implicitOf (ObjectNumber-of 0) 0 0) is-2)) $
+          puts-elem ! tt Object-p b₁ o₁ ys n₁ (ys-len) room₁ i ((Object-of (ObjectNumber-of 0) 0 0 0 0)) (implicitOf (ObjectNumber-of 0) 0 0) index-4·5 is-2 (λ len-4·5.
           knows ! (i + 1 < 2 ^ 64) (omega (arith, ltb-true, ltb-false, leb-true, leb-false, eqb-true, eqb-false)) (λ fits-4·6.
           assigns-last ! (bin ! (load ! (from ! (stop !)) (look ! 8 refl)) (lit ! tt) (record { fits = fits-4·6 })) (from ! (stop !)) (store ! 8 refl (u64-p .typed 𝓤 H A W (i + 1) ((refl, fits-4·6)))) $ forget ! 2 refl $ forget ! 4 refl $ forget ! 6 refl $
-          by ! (again-4 t-4 (i + 1) (set ys i (implicitOf (ObjectNumber-of 0) 0)) ((refl, fits-4·6)) len-4·5 (((omega (arith, ltb-true, ltb-false, leb-true, leb-false, eqb-true, eqb-false)), ap (λ (zs : List Object). set zs i blank) (inv-4 .1) ∙ cleared-more blank i objects (omega (arith, ltb-true, ltb-false, leb-true, leb-false, eqb-true, eqb-false)))) (omega (arith, ltb-true, ltb-false, leb-true, leb-false, eqb-true, eqb-false))))))))))
+          by ! (again-4 t-4 (i + 1) (set ys i (implicitOf (ObjectNumber-of 0) 0 0)) ((refl, fits-4·6)) len-4·5 (((omega (arith, ltb-true, ltb-false, leb-true, leb-false, eqb-true, eqb-false)), ap (λ (zs : List Object). set zs i blank) (inv-4 .1) ∙ cleared-more blank i objects (omega (arith, ltb-true, ltb-false, leb-true, leb-false, eqb-true, eqb-false)))) (omega (arith, ltb-true, ltb-false, leb-true, leb-false, eqb-true, eqb-false))))))))))
           (λ h-4·2.
           knows ! (ltb i n′ ≡ false) (fails (ltb i n′) (T-not (ltb i n′) h-4·2)) (λ c-4·2.
           jumps ! $
@@ -192,11 +192,12 @@ module _ {M : Type 1} (𝓤 : URA M) (H : Heap 𝓤) (A : Atoms 𝓤) (W : Given
         -- 2: sessions::objects::Object::implicit
         nothing ! $
         use1 W (raw (toks 𝓤 A 0 (tt) (tt))) (id⊢ 𝓤 _) $ nothing ! $
+        owned ! (u16-p .row) (Is (u16-p .row)) (u16-p .makes 𝓤 H A W) 0 (u16-p .val 0 ∷ []) ((refl, lit< tt)) $ fjoin ! $
         owned ! (u8-p .row) (Is (u8-p .row)) (u8-p .makes 𝓤 H A W) 0 (u8-p .val 0 ∷ []) ((refl, lit< tt)) $ fjoin ! $
         owned ! (ObjectNumber-p .row) (Is (ObjectNumber-p .row)) (ObjectNumber-p .makes 𝓤 H A W) (ObjectNumber-of 0) (ObjectNumber-p .val (ObjectNumber-of 0) ∷ []) (LL.owes ObjectNumber-t.the-type ObjectNumber-l.the-laws (ObjectNumber-of 0) ((refl, lit< tt), tt)) $ fjoin ! $ move ! (1 ∷ 0 ∷ []) $
-        calls-any ! fm 0 [] (objects-Object-implicit.signature .params) (objects-Object-implicit.ended .kept) Object-p (objects-Object-implicit.clauses 𝓤 H A mem run) known-objects-Object-implicit tt tt tt (ObjectNumber-of 0, (0, tt)) (ObjectNumber-p .val (ObjectNumber-of 0) ∷ [], (u8-p .val 0 ∷ [], tt)) tt (implicitOf (ObjectNumber-of 0) 0) (λ ws-2. Unit {0}) (id⊢ 𝓤 _) (λ r ws-2. fact-mono 𝓤 (r ≡ implicitOf (ObjectNumber-of 0) 0) ((r ≡ (implicitOf (ObjectNumber-of 0) 0)) × (Unit {0})) (λ e. (e, tt))) (λ _. (and-then ! (load ! (from ! (stop !)) (look ! 13 refl)) (and-then ! (lit ! tt) (no-more !)))) (λ ws-2 said-2 is-2.
+        calls-any ! fm 0 [] (objects-Object-implicit.signature .params) (objects-Object-implicit.ended .kept) Object-p (objects-Object-implicit.clauses 𝓤 H A mem run) known-objects-Object-implicit tt tt tt (ObjectNumber-of 0, (0, (0, tt))) (ObjectNumber-p .val (ObjectNumber-of 0) ∷ [], (u8-p .val 0 ∷ [], (u16-p .val 0 ∷ [], tt))) tt (implicitOf (ObjectNumber-of 0) 0 0) (λ ws-2. Unit {0}) (id⊢ 𝓤 _) (λ r ws-2. fact-mono 𝓤 (r ≡ implicitOf (ObjectNumber-of 0) 0 0) ((r ≡ (implicitOf (ObjectNumber-of 0) 0 0)) × (Unit {0})) (λ e. (e, tt))) (λ _. (and-then ! (load ! (from ! (stop !)) (look ! 13 refl)) (and-then ! (lit ! tt) (and-then ! (lit ! tt) (no-more !))))) (λ ws-2 said-2 is-2.
         drop ! $ drop ! $
-        land ! (from ! (stop !)) (init ! 10 refl (Object-p .typed 𝓤 H A W (implicitOf (ObjectNumber-of 0) 0) is-2)) $
+        land ! (from ! (stop !)) (init ! 10 refl (Object-p .typed 𝓤 H A W (implicitOf (ObjectNumber-of 0) 0 0) is-2)) $
         assigns ! (of-opd ! (lit ! tt)) (from ! (stop !)) (init ! 8 refl (u64-p .typed 𝓤 H A W 0 ((refl, lit< tt)))) $
         first ! $
         blocks ! $
