@@ -39,6 +39,11 @@ fn lossy(line: &str, places: &[usize]) -> String {
     words.collect::<Vec<_>>().join(" ")
 }
 
+// An object's line without its parent number, which the original's records lack.
+fn without_parent(line: &str) -> String {
+    line.split(' ').take(4).collect::<Vec<_>>().join(" ")
+}
+
 // Records are matched by number, so the order in which a table lists them is free.
 fn sorted_runs(lines: &mut [String]) {
     for word in ["object ", "stream ", "held "] {
@@ -183,6 +188,7 @@ impl Outcome {
                 "call" if line.starts_with("call create_topic ") => self.calls.push(lossy(&line, &[3, 4])),
                 "call" => self.calls.push(line),
                 "reply" => self.replies.push(line),
+                "object" => self.rest.push(without_parent(&line)),
                 _ => self.rest.push(line),
             }
         }

@@ -7,7 +7,7 @@ use crate::datagrams;
 use crate::replay::{address, agent, remove, Answer, Answers, Bridge};
 use crate::words::hex;
 use hdds_xrce::agent::XrceAgent;
-use hdds_xrce::protocol::{parse_message, ObjectKind, Submessage};
+use hdds_xrce::protocol::{parse_message, ObjectKind, StatusCode, Submessage};
 use std::collections::{BTreeMap, BTreeSet};
 use std::sync::{Arc, Mutex};
 
@@ -44,6 +44,8 @@ struct Making {
     chance: Chance,
     bridge: Arc<Bridge<Drawn>>,
     agent: XrceAgent,
+    /// The parent number of each session's objects: the original's records have none.
+    parents: BTreeMap<(u8, u16), u16>,
     timeout: u64,
     time: u64,
     last_opened: u8,
@@ -61,9 +63,10 @@ pub fn scripts(seed: u64, count: u64) -> Vec<String> {
     lines
 }
 
-/// What one number or stream of a session may hold after any answers: enough to stay inside the domain.
+/// What one number or stream of a session may hold after any answers: enough to stay inside the domain. Of an object, its
+/// kind and parent number.
 struct Domain {
-    objects: BTreeMap<u16, BTreeSet<u8>>,
+    objects: BTreeMap<u16, BTreeSet<(u8, u16)>>,
     streams: BTreeSet<u8>,
 }
 
@@ -72,21 +75,23 @@ fn implicit(kind: ObjectKind) -> bool {
 }
 
 impl Domain {
-    fn of(agent: &XrceAgent, session: u8) -> Self {
-        let session = agent.sessions().get(session);
-        let objects = session.iter().flat_map(|s| s.objects.values());
-        Self {
-            objects: objects.map(|object| (object.object_id, BTreeSet::from([object.kind.as_u8()]))).collect(),
-            streams: session.map_or(BTreeSet::from([0]), |s| s.stream_states.keys().copied().collect()),
-        }
-    }
-
-    fn of_kind(&self, kind: ObjectKind) -> usize {
-        self.objects.values().filter(|kinds| kinds.contains(&kind.as_u8())).count()
+    /// The numbers that may be of a kind, each with the parent number that it then has.
+    fn of_kind(&self, kind: ObjectKind) -> impl Iterator<Item = (u16, u16)> + '_ {
+        let records =
+            self.objects.iter().flat_map(|(number, records)| records.iter().map(move |record| (*number, *record)));
+        records.filter(move |(_, record)| record.0 == kind.as_u8()).map(|(number, (_, parent))| (number, parent))
     }
 
     fn may_be_implicit(&self, number: u16) -> bool {
-        self.objects.get(&number).is_some_and(|kinds| kinds.contains(&3) || kinds.contains(&4))
+        self.objects.get(&number).is_some_and(|records| records.iter().any(|(kind, _)| matches!(kind, 3 | 4)))
+    }
+
+    /// Whether a writer or reader with this parent finds what the original finds: the Topic that it names, and the
+    /// Participant that this names, are the session's only ones. Without any Topic or any Participant both find nothing.
+    fn names_the_only_ones(&self, parent: u16) -> bool {
+        self.of_kind(ObjectKind::Topic).all(|(topic, its_parent)| {
+            self.of_kind(ObjectKind::Participant).all(|(participant, _)| topic == parent && participant == its_parent)
+        })
     }
 
     /// Whether the submessage stays inside, whatever the bridge answered before it; and what it may leave behind.
@@ -95,16 +100,14 @@ impl Domain {
             Submessage::Create(p) => {
                 let finds = match p.kind {
                     ObjectKind::Topic => !self.may_be_implicit(p.parent_id),
-                    ObjectKind::DataWriter | ObjectKind::DataReader => {
-                        self.of_kind(ObjectKind::Participant) <= 1 && self.of_kind(ObjectKind::Topic) <= 1
-                    }
+                    ObjectKind::DataWriter | ObjectKind::DataReader => self.names_the_only_ones(p.parent_id),
                     _ => true,
                 };
-                let kinds = self.objects.entry(p.object_id).or_default();
+                let records = self.objects.entry(p.object_id).or_default();
                 if implicit(p.kind) {
-                    kinds.clear();
+                    records.clear();
                 }
-                kinds.insert(p.kind.as_u8());
+                records.insert((p.kind.as_u8(), p.parent_id));
                 finds && self.objects.len() <= 32
             }
             Submessage::Delete(p) => {
@@ -123,19 +126,33 @@ impl Domain {
     }
 }
 
-fn inside(agent: &XrceAgent, datagram: &[u8]) -> bool {
-    let Ok(message) = parse_message(datagram) else { return true };
-    let mut domain = Domain::of(agent, message.header.session_id);
-    message.submessages.iter().all(|submessage| domain.takes(submessage, message.header.stream_id))
-}
-
 impl Making {
     fn new(mut chance: Chance) -> Self {
         let drawn = Drawn { chance: Chance::new(chance.word()), answers: Vec::new() };
         let bridge = Arc::new(Bridge(Mutex::new(drawn)));
         let agent = agent(1, 1, bridge.clone()).expect("an agent for one client");
         let time = chance.pick(&[0, 3, 100_000, 1 << 45]);
-        Self { chance, bridge, agent, timeout: 1, time, last_opened: 0, lines: Vec::new() }
+        Self { chance, bridge, agent, parents: BTreeMap::new(), timeout: 1, time, last_opened: 0, lines: Vec::new() }
+    }
+
+    fn domain(&self, session: u8) -> Domain {
+        let held = self.agent.sessions().get(session);
+        let objects = held.iter().flat_map(|s| s.objects.values()).map(|object| {
+            let parent = self.parents[&(session, object.object_id)];
+            (object.object_id, BTreeSet::from([(object.kind.as_u8(), parent)]))
+        });
+        Domain {
+            objects: objects.collect(),
+            streams: held.map_or(BTreeSet::from([0]), |s| s.stream_states.keys().copied().collect()),
+        }
+    }
+
+    /// What the session of a datagram may hold behind it, if it stays inside.
+    fn behind(&self, datagram: &[u8]) -> Option<Domain> {
+        let mut domain = self.domain(datagram.first().copied().unwrap_or(0));
+        let Ok(message) = parse_message(datagram) else { return Some(domain) };
+        let stream = message.header.stream_id;
+        message.submessages.iter().all(|submessage| domain.takes(submessage, stream)).then_some(domain)
     }
 
     fn setup(&mut self, max: usize, timeout: u64) {
@@ -210,14 +227,17 @@ impl Making {
 
     /// Sends a datagram if it lies inside the domain, and writes the answers that it needed behind it.
     fn send(&mut self, datagram: &[u8]) {
-        if !inside(&self.agent, datagram) {
+        if self.behind(datagram).is_none() {
             return;
         }
         clock::set(self.time);
+        let before = self.live();
         let replies = self.agent.process_incoming(&address(self.lines.len()), datagram);
+        let replies: Vec<Vec<u8>> = replies.into_iter().map(|(_, reply)| reply).collect();
         self.note_opened();
+        self.note_parents(datagram, &before, &replies);
         let answers = std::mem::take(&mut self.bridge.0.lock().unwrap().answers);
-        let need: usize = replies.iter().map(|(_, reply)| reply.len()).sum();
+        let need: usize = replies.iter().map(Vec::len).sum();
         let room = need as u64 + self.chance.pick(&[0, 0, 1, 12, 70_000]);
         self.lines.push(format!("datagram {} {room} {}", self.time, hex(datagram)));
         for answer in answers {
@@ -243,6 +263,33 @@ impl Making {
         }
     }
 
+    // Keeps the parent numbers of what a datagram created, by the replies, which come in the order of the submessages:
+    // one for each CREATE_CLIENT and, once the session is live, one for each other submessage that is answered at all.
+    fn note_parents(&mut self, datagram: &[u8], before: &[u8], replies: &[Vec<u8>]) {
+        let Ok(message) = parse_message(datagram) else { return };
+        let session = message.header.session_id;
+        if self.agent.sessions().get(session).is_none() {
+            return;
+        }
+        let mut live = before.contains(&session);
+        let mut replies = replies.iter().map(|reply| parse_message(reply).expect("a reply reads"));
+        for submessage in &message.submessages {
+            let answered = match submessage {
+                Submessage::CreateClient(_) => true,
+                Submessage::Acknack(_) | Submessage::Data(_) | Submessage::Status(_) => false,
+                _ => live,
+            };
+            let Some(reply) = answered.then(|| replies.next()).flatten() else { continue };
+            match (submessage, &reply.submessages[..]) {
+                (Submessage::CreateClient(_), _) => live |= reply.header.session_id == session,
+                (Submessage::Create(p), [Submessage::Status(status)]) if status.status == StatusCode::Ok => {
+                    self.parents.insert((session, p.object_id), p.parent_id);
+                }
+                _ => {}
+            }
+        }
+    }
+
     fn session(&mut self) -> u8 {
         let live = self.live();
         match self.chance.below(12) {
@@ -259,8 +306,9 @@ impl Making {
         let mut datagram = datagrams::header(session, stream, self.chance.word() as u16);
         let unknown = self.agent.sessions().get(session).is_none();
         let mut wanted = self.chance.pick(&[1, 1, 1, 2, 3, 4, 6]);
+        let mut domain = self.domain(session);
         if unknown && !self.chance.one_in(4) {
-            datagram.extend(self.submessage(session, 0x00));
+            datagram.extend(self.submessage(&domain, 0x00));
             wanted -= 1;
         }
         let mut tries = 0;
@@ -269,21 +317,18 @@ impl Making {
             let id = self.chance.pick(&[
                 0x01, 0x01, 0x01, 0x01, 0x01, 0x07, 0x07, 0x08, 0x08, 0x08, 0x02, 0x0D, 0x0E, 0x00, 0x05, 0x09,
             ]);
-            let longer = [&datagram[..], &self.submessage(session, id)].concat();
-            if inside(&self.agent, &longer) {
-                datagram = longer;
+            let longer = [&datagram[..], &self.submessage(&domain, id)].concat();
+            if let Some(behind) = self.behind(&longer) {
+                (datagram, domain) = (longer, behind);
                 wanted -= 1;
             }
         }
         datagram
     }
 
-    // An object number that the session holds, or one of a small pool, or any.
-    fn object(&mut self, session: u8) -> u16 {
-        let held: Vec<u16> = match self.agent.sessions().get(session) {
-            Some(session) => session.objects.keys().copied().collect::<BTreeSet<u16>>().into_iter().collect(),
-            None => Vec::new(),
-        };
+    // An object number that the session may hold, or one of a small pool, or any.
+    fn object(&mut self, domain: &Domain) -> u16 {
+        let held: Vec<u16> = domain.objects.keys().copied().collect();
         match self.chance.below(8) {
             0 => self.chance.word() as u16,
             1 | 2 => self.chance.below(40) as u16,
@@ -292,11 +337,11 @@ impl Making {
         }
     }
 
-    fn submessage(&mut self, session: u8, id: u8) -> Vec<u8> {
-        let object = self.object(session).to_le_bytes().to_vec();
+    fn submessage(&mut self, domain: &Domain, id: u8) -> Vec<u8> {
+        let object = self.object(domain).to_le_bytes().to_vec();
         let payload = match id {
             0x00 => self.chance.bytes(5),
-            0x01 => self.create(session),
+            0x01 => self.create(domain),
             0x05 => [&object[..], &[self.chance.below(5) as u8]].concat(),
             0x07 | 0x09 => {
                 let length = self.chance.pick(&[0, 1, 4, 30]);
@@ -316,13 +361,32 @@ impl Making {
         datagrams::submessage(id, self.chance.pick(&[0, 0, 1, 255]), &payload)
     }
 
-    fn create(&mut self, session: u8) -> Vec<u8> {
-        let kind = self.kind(session);
-        let fresh = self.chance.below(40) as u16;
-        let number = if self.chance.one_in(3) { self.object(session) } else { fresh };
-        let parent = match kind {
-            2 if !self.chance.one_in(5) => self.first_of(session, ObjectKind::Participant),
-            _ => self.object(session),
+    // Mostly what the session lacks for writers and readers: a Participant, then a Topic that names it.
+    fn create(&mut self, domain: &Domain) -> Vec<u8> {
+        let participant = domain.of_kind(ObjectKind::Participant).next();
+        let topic = domain.of_kind(ObjectKind::Topic).next();
+        let kind = match (participant, topic) {
+            _ if self.chance.one_in(4) => self.chance.within(1, 6) as u8,
+            (None, _) => 1,
+            (Some((participant, _)), Some((_, parent))) if parent == participant => {
+                self.chance.pick(&[5, 5, 6, 6, 3, 4])
+            }
+            _ => 2,
+        };
+        let number = match (kind, topic) {
+            _ if self.chance.one_in(3) => self.object(domain),
+            (1, Some((_, parent))) => parent,
+            (2, Some((topic, _))) => topic,
+            _ => self.chance.below(40) as u16,
+        };
+        let named = match kind {
+            2 => participant,
+            5 | 6 => topic,
+            _ => None,
+        };
+        let parent = match named {
+            Some((named, _)) if !self.chance.one_in(5) => named,
+            _ => self.object(domain),
         };
         let mut payload = [number.to_le_bytes(), [kind, parent as u8]].concat();
         payload.push((parent >> 8) as u8);
@@ -330,28 +394,6 @@ impl Making {
             payload.extend(self.names());
         }
         payload
-    }
-
-    // Mostly what the session lacks: a Participant first, then a Topic, then writers and readers.
-    fn kind(&mut self, session: u8) -> u8 {
-        let domain = Domain::of(&self.agent, session);
-        let any = self.chance.within(1, 6) as u8;
-        if self.chance.one_in(4) {
-            return any;
-        }
-        if domain.of_kind(ObjectKind::Participant) == 0 {
-            return 1;
-        }
-        if domain.of_kind(ObjectKind::Topic) == 0 {
-            return 2;
-        }
-        self.chance.pick(&[5, 5, 6, 6, 3, 4])
-    }
-
-    fn first_of(&self, session: u8, kind: ObjectKind) -> u16 {
-        let session = self.agent.sessions().get(session);
-        let held = session.iter().flat_map(|s| s.objects.values()).filter(|object| object.kind == kind);
-        held.map(|object| object.object_id).min().unwrap_or(0)
     }
 
     // Two strings, sometimes with bytes behind them, cut short, or not UTF-8.
@@ -379,8 +421,9 @@ impl Making {
     fn round_the_ids(&mut self, max: usize) {
         let many = |making: &mut Making, count: usize| {
             let mut datagram = datagrams::header(making.chance.byte(), 0, 0);
+            let domain = making.domain(0);
             for _ in 0..count {
-                datagram.extend(making.submessage(0, 0x00));
+                datagram.extend(making.submessage(&domain, 0x00));
             }
             making.send(&datagram);
         };
@@ -403,7 +446,8 @@ impl Making {
 
     // 32 objects and 8 streams in one session, and then again numbers and streams that it has.
     fn fill_a_session(&mut self) {
-        let opening = [datagrams::header(1, 0, 0), self.submessage(0, 0x00), self.filling(0), self.filling(1)];
+        let domain = self.domain(1);
+        let opening = [datagrams::header(1, 0, 0), self.submessage(&domain, 0x00), self.filling(0), self.filling(1)];
         self.send(&opening.concat());
         for _ in 0..20 {
             (0..32).for_each(|number| self.fill(number));
@@ -413,7 +457,9 @@ impl Making {
             self.send(&[datagrams::header(1, 0, 7), again].concat());
         }
         for stream in [1, 2, 3, 4, 5, 6, 7, 0, 7, 128] {
-            let both = [datagrams::header(1, stream, 0), self.submessage(1, 0x0D), self.submessage(1, 0x0E)];
+            let domain = self.domain(1);
+            let both =
+                [datagrams::header(1, stream, 0), self.submessage(&domain, 0x0D), self.submessage(&domain, 0x0E)];
             self.send(&both.concat());
         }
         self.lines.push("dump".into());
@@ -423,14 +469,14 @@ impl Making {
         self.agent.sessions().get(1).is_some_and(|session| session.get_object(number).is_some())
     }
 
-    // Object 0 is a Participant, 1 its Topic, the others writers and readers.
+    // Object 0 is a Participant, 1 its Topic, the others are the Topic's writers and readers.
     fn filling(&mut self, number: u16) -> Vec<u8> {
-        let kind = match number {
-            0 => 1,
-            1 => 2,
-            _ => self.chance.pick(&[5, 6]),
+        let (kind, parent) = match number {
+            0 => (1, 0),
+            1 => (2, 0),
+            _ => (self.chance.pick(&[5, 6]), 1),
         };
-        let fixed = [number as u8, 0, kind, 0, 0];
+        let fixed = [number as u8, 0, kind, parent, 0];
         let strings = [1, 0, b'a', 1, 0, b'b'];
         datagrams::submessage(0x01, 0, &[&fixed[..], if number == 1 { &strings } else { &[] }].concat())
     }
