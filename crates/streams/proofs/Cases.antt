@@ -1,6 +1,6 @@
 -- Document 01's lettered cases d to j, added to the wire's table.
 use Prim.Native.Nat.{ℕ, suc}
-use mathlib.Core.Path.{_≡_, refl, ap, _∙_}
+use mathlib.Core.Path.{_≡_, refl, sym, ap, _∙_}
 use mathlib.Core.Bool.{Bool, true, false, cond, _||_}
 use mathlib.Core.List.{List, [], _∷_}
 use native.Mathlib.Omega.{arith}
@@ -13,7 +13,8 @@ use Rattle.streams.specs.Places.{isHeld}
 use Rattle.streams.specs.Acknowledged.{wanted, repeatsFrom, repeats, acknowledge, repeatsOf, padded, firstUnacked, heartbeatOf}
 use Rattle.streams.specs.Received.{bitValue, bitmapFrom, bitmapOf, acknackOf}
 use Rattle.streams.proofs.Repeats.{left}
-use Rattle.streams.proofs.Heartbeat.{least}
+use Rattle.streams.proofs.places.Laws.{never}
+use Rattle.streams.proofs.Heartbeat.{named, furthest}
 
 -- the numbers held are those of a list
 unfoldable pub among : ℕ → List ℕ → Bool
@@ -43,8 +44,8 @@ pub record Table : Type 0 where
   -- "i: held 65,534, 65,535, 0, 1; ACKNACK first 0, bitmap 3 leaves and lists 0, 1."
   pub i : (s : StreamState) → HoldsOnly s (65534 ∷ 65535 ∷ 0 ∷ 1 ∷ [])
       → HoldsOnly (acknowledge s 0 3 .state) (0 ∷ 1 ∷ []) × (acknowledge s 0 3 .repeats ≡ 0 ∷ 1 ∷ 0 ∷ 0 ∷ 0 ∷ 0 ∷ 0 ∷ 0 ∷ 0 ∷ 0 ∷ 0 ∷ 0 ∷ 0 ∷ 0 ∷ 0 ∷ 0 ∷ []) × (acknowledge s 0 3 .count ≡ 2)
-  -- "j: held 65,535, 0, next 1: heartbeat (0,0)."
-  pub j : (s : StreamState) → HoldsOnly s (65535 ∷ 0 ∷ []) → s .«next_send_seq» ≡ 1 → heartbeatOf s ≡ record { «first_unacked_seq» = 0; «last_seq» = 0 }
+  -- "j: held 65,535, 0, next 1": document 02, W2: "Case j then gives (65,535, 0)."
+  pub j : (s : StreamState) → HoldsOnly s (65535 ∷ 0 ∷ []) → s .«next_send_seq» ≡ 1 → heartbeatOf s ≡ record { «first_unacked_seq» = 65535; «last_seq» = 0 }
 
 bitmaps : (first last bitmap : ℕ) → bitmapOf 0 first last ≡ bitmap → Bitmap first last bitmap
 unfolding acknackOf
@@ -93,9 +94,17 @@ module _ (s : StreamState) where
   unfolding acknowledge repeatsOf
   answers k = rw (lists k) (refl, refl)
 
-  pub names : HoldsOnly s (65535 ∷ 0 ∷ []) → s .«next_send_seq» ≡ 1 → heartbeatOf s ≡ record { «first_unacked_seq» = 0; «last_seq» = 0 }
+  pub names : HoldsOnly s (65535 ∷ 0 ∷ []) → s .«next_send_seq» ≡ 1 → heartbeatOf s ≡ record { «first_unacked_seq» = 65535; «last_seq» = 0 }
   unfolding heartbeatOf among
-  names k e = let z : firstUnacked s ≡ 0 = omega (arith, least s 0 (k 0)) in rw (z, e)
+  names k e = rw (by (eqb first 65535) (eqb first 0) refl refl (sym (k first) ∙ named s 65535 (k 65535)), e)
+    where
+      first : ℕ
+      first = firstUnacked s
+
+      by : (a b : Bool) → eqb first 65535 ≡ a → eqb first 0 ≡ b → among first (65535 ∷ 0 ∷ []) ≡ true → firstUnacked s ≡ 65535
+      by true b p q h = eqb-true first 65535 p
+      by false true p q h = absurd (omega (arith, eqb-true first 0 q, e, furthest s 65535 (k 65535)))
+      by false false p q h = absurd (never (rw (p, q) at h) refl)
 
 pub cases : Table
 unfolding bitmapOf bitmapFrom bitValue seqLt padded

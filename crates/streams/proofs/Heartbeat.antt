@@ -1,4 +1,4 @@
--- The first number of a HEARTBEAT is the numerically least that is held, or the next to send if none is.
+-- The first number of a HEARTBEAT is the held one that is furthest behind the next to send, or the next to send if none is held.
 use Prim.Native.Nat.{ℕ, zero, suc, _+_, _≤_, _<_}
 use mathlib.Core.Path.{_≡_, refl, sym, ap, _∙_}
 use mathlib.Core.Bool.{Bool, true, false, cond}
@@ -10,6 +10,7 @@ use lib.Dec.{eqb}
 use lib.ListN.{getD}
 use Rattle.streams.specs.declared.state.StreamState.{StreamState}
 use Rattle.streams.specs.declared.acknowledged.Oldest.{Oldest}
+use Rattle.streams.specs.Sequence.{minus}
 use Rattle.streams.specs.Places.{holds, holdsAt, isHeld}
 use Rattle.streams.specs.Acknowledged.{namedFirst, older, oldestFrom, firstUnacked}
 use Rattle.streams.proofs.places.Laws.{never}
@@ -20,15 +21,15 @@ use Rattle.streams.proofs.places.Held.{holds-nonzero, holds-number, hel
 module _ (next a b : ℕ) where
   first-same : namedFirst next a a ≡ true
   unfolding namedFirst
-  first-same = le-leb a a (omega arith)
+  first-same = le-leb (minus next a) (minus next a) (omega arith)
 
   first-else : namedFirst next a b ≡ false → namedFirst next b a ≡ true
   unfolding namedFirst
-  first-else e = le-leb b a (omega (arith, leb-false a b e))
+  first-else e = le-leb (minus next a) (minus next b) (omega (arith, leb-false (minus next b) (minus next a) e))
 
   first-through : (c : ℕ) → namedFirst next a b ≡ true → namedFirst next b c ≡ true → namedFirst next a c ≡ true
   unfolding namedFirst
-  first-through c e f = le-leb a c (le-trans (leb-true a b e) (leb-true b c f))
+  first-through c e f = le-leb (minus next c) (minus next a) (le-trans (leb-true (minus next c) (minus next b) f) (leb-true (minus next b) (minus next a) e))
 
 -- ---- the choice between two numbers
 
@@ -106,10 +107,10 @@ module _ (s : StreamState) where
       let l = held-low s m e in
       from-first m 16 0 _ (record { any = false; seq = s .«next_send_seq» }) (omega arith) l (held-there s m l) .1
 
-  -- "`make_heartbeat` names the numerically least held number"
-  pub least : (m : ℕ) → isHeld s m ≡ true → firstUnacked s ≤ m
+  -- no held number is further behind the next to send
+  pub furthest : (m : ℕ) → isHeld s m ≡ true → minus (s .«next_send_seq») m ≤ minus (s .«next_send_seq») (firstUnacked s)
   unfolding namedFirst
-  least m e = leb-true (firstUnacked s) m (first-of-held m e)
+  furthest m e = leb-true (minus (s .«next_send_seq») m) (minus (s .«next_send_seq») (firstUnacked s)) (first-of-held m e)
 
   -- the number of a place that isn't free is held
   held-number : (i : ℕ) → i < 16 → eqb (getD (s .lengths) i 0) 0 ≡ false → isHeld s (getD (s .numbers) i 0) ≡ true

@@ -10,5 +10,6 @@ pub mod Answers
 pub mod History
 pub mod Repeats
 pub mod Heartbeat
+pub mod Oldest
 pub mod Seen
 pub mod Cases

@@ -9,10 +9,11 @@ use Rattle.streams.specs.declared.state.StreamState.{StreamState}
 use Rattle.streams.specs.Sequence.{plus, minus}
 use Rattle.streams.specs.Places.{isHeld}
 use Rattle.streams.specs.Acknowledged.{wanted, repeatsFrom, repeats, padded, repeatsOf, dropBefore, acknowledge, firstUnacked, heartbeatOf}
+use Rattle.streams.specs.Oldest.{SixteenBits}
 use Rattle.streams.specs.Received.{bitmapOf, acknackOf, receivedOf}
 use Rattle.streams.specs.View.{heldBy, Kept, keptOf, acknackIn}
 use Rattle.streams.proofs.places.Laws.{never}
-use Rattle.streams.proofs.Heartbeat.{least, named, next-if-none}
+use Rattle.streams.proofs.Oldest.{oldest, no-other}
 use Rattle.streams.proofs.Soundness.{receive-is}
 use Rattle.streams.proofs.Kept.{drop-kept}
 
@@ -31,22 +32,13 @@ module _ (s t : StreamState) (same : (m : ℕ) → isHeld s m ≡ isHeld t m) wh
   unfolding repeats
   repeats-same first bitmap = repeats-from first bitmap 16 0
 
-  first-same : s .«next_send_seq» ≡ t .«next_send_seq» → firstUnacked s ≡ firstUnacked t
-  first-same next = by (isHeld s (firstUnacked s)) refl
-    where
-      nothing : isHeld s (firstUnacked s) ≡ false → (m : ℕ) (b : Bool) → isHeld s m ≡ b → isHeld s m ≡ false
-      nothing e m true h = absurd (never (named s m h) e)
-      nothing e m false h = h
-
-      by : (b : Bool) → isHeld s (firstUnacked s) ≡ b → firstUnacked s ≡ firstUnacked t
-      by true e =
-          let there = sym (same (firstUnacked s)) ∙ e in
-          let back = same (firstUnacked t) ∙ named t (firstUnacked s) there in
-          omega (arith, least s (firstUnacked t) back, least t (firstUnacked s) there)
-      by false e =
-          next-if-none s (λ m. nothing e m (isHeld s m) refl)
-          ∙ next
-          ∙ sym (next-if-none t (λ m. sym (same m) ∙ nothing e m (isHeld s m) refl))
+  -- the first number of a HEARTBEAT is told by what is held, since one number alone is the first
+  first-same : SixteenBits s → s .«next_send_seq» ≡ t .«next_send_seq» → firstUnacked s ≡ firstUnacked t
+  first-same bits next = no-other t (λ m h. bits m (same m ∙ h)) (firstUnacked s) (record {
+    held = λ m h. sym (same (firstUnacked s)) ∙ oldest s .held m (same m ∙ h);
+    first = λ m h. rw (← next) (oldest s .first m (same m ∙ h));
+    empty = λ f. oldest s .empty (λ m. same m ∙ f m) ∙ next;
+  })
 
 module _ {A : Type 0} (read : ℕ → ℕ → A) where
   told-held : (s : StreamState) (m : ℕ) → told (heldBy read s m) ≡ isHeld s m
@@ -70,11 +62,11 @@ module _ {A : Type 0} (read : ℕ → ℕ → A) where
         let e : s .«next_recv_seq» ≡ t .«next_recv_seq» = ap (λ (k : Kept A). k .expected) same in
         λ i. record { «first_unacked_seq» = e i; «nack_bitmap» = bitmapOf (e i) first last }
 
-    pub heartbeat-same : heartbeatOf s ≡ heartbeatOf t
+    pub heartbeat-same : SixteenBits s → heartbeatOf s ≡ heartbeatOf t
     unfolding heartbeatOf
-    heartbeat-same =
+    heartbeat-same bits =
         let e : s .«next_send_seq» ≡ t .«next_send_seq» = ap (λ (k : Kept A). k .next) same in
-        λ i. record { «first_unacked_seq» = first-same s t held-same e i; «last_seq» = minus (e i) 1 }
+        λ i. record { «first_unacked_seq» = first-same s t held-same bits e i; «last_seq» = minus (e i) 1 }
 
   -- what is listed of the numbers that an ACKNACK leaves
   pub lists-same : (s t : StreamState) → keptOf read s ≡ keptOf read t → (first bitmap : ℕ)

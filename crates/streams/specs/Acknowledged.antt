@@ -57,10 +57,10 @@ repeatsOf s first bitmap = record { state = s; repeats = padded (repeats s first
 unfoldable pub acknowledge : StreamState → ℕ → ℕ → Acknowledged
 acknowledge s first bitmap = repeatsOf (dropBefore s first) first bitmap
 
--- "`make_heartbeat` names the numerically least held number": whether a is named rather than b, on a stream whose next to send is given.
--- An order by the distance to the next to send, as document 02 asks for, is a change of this definition and of its laws.
+-- document 02, W2: "The first number becomes the held one with the greatest forward distance to the next to send." Whether a is named rather than b,
+-- on a stream whose next to send is given: the distance from b up to it is no greater.
 unfoldable pub namedFirst : ℕ → ℕ → ℕ → Bool
-namedFirst next a b = leb a b
+namedFirst next a b = leb (minus next b) (minus next a)
 
 -- the choice between the best so far and one more place
 unfoldable pub older : ℕ → Oldest → ℕ → ℕ → Oldest

@@ -4,5 +4,6 @@ pub mod State
 pub mod Places
 pub mod Sent
 pub mod Acknowledged
+pub mod Oldest
 pub mod Received
 pub mod View

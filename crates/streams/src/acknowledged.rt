@@ -7,7 +7,7 @@ use crate::state::StreamState;
 use codec::submessages::HeartbeatPayload;
 ghost use mathlib.Core.Path.{_≡_};
 ghost use Prim.Native.Nat.{_<_};
-ghost use Rattle.streams.specs.Acknowledged.{keptLength, dropBefore, wanted, repeatsOf, acknowledge, older, firstUnacked, heartbeatOf};
+ghost use Rattle.streams.specs.Acknowledged.{keptLength, dropBefore, wanted, repeatsOf, acknowledge, namedFirst, older, firstUnacked, heartbeatOf};
 
 // The numbers to repeat, in the order of their bits: the first `count` of the sixteen.
 pub struct Acknowledged {
@@ -29,7 +29,14 @@ fn kept_length(number: u16, length: u16, first: u16) -> u16
     if seq_lt(number, first) { 0 } else { length }
 }
 
-// The choice of the number that a HEARTBEAT names first: the numerically least, wherever the next to send stands.
+// Whether a HEARTBEAT names `a` rather than `b`: `b` is no further behind the next to send (document 02, W2).
+fn named_first(next: u16, a: u16, b: u16) -> bool
+    ensures { λ r. ⌜ r ≡ namedFirst next a b ⌝ }
+{
+    seq_sub(next, b) <= seq_sub(next, a)
+}
+
+// The choice of the number that a HEARTBEAT names first, between the best so far and one more place.
 fn older(next: u16, best: Oldest, number: u16, length: u16) -> Oldest
     ensures { λ r. ⌜ r ≡ older next best number length ⌝ }
 {
@@ -37,7 +44,7 @@ fn older(next: u16, best: Oldest, number: u16, length: u16) -> Oldest
         return best;
     }
     if best.any {
-        if best.seq <= number {
+        if named_first(next, best.seq, number) {
             return best;
         }
     }

@@ -1,5 +1,6 @@
-//! Replay scripts by chance, inside document 01's domain of comparison. The original runs along: the answers to its
-//! bridge calls are drawn here and written down behind their datagram, and its tables say what the next one may hold.
+//! Replay scripts by chance, inside the domain of comparison of documents 01 and 02. The original runs along: the answers
+//! to its bridge calls are drawn here and written down behind their datagram, and its tables say what the next one may
+//! hold.
 
 use crate::chance::Chance;
 use crate::clock;

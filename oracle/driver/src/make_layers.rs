@@ -1,5 +1,5 @@
-//! Commands for the layers by chance, inside document 01's domain of comparison. The original answers along, so that
-//! the limits (16 held messages, 8 streams) are met and not passed.
+//! Commands for the layers by chance, inside the domain of comparison of documents 01 and 02. The original answers
+//! along, so that the limits (16 held messages, 8 streams) are met and not passed.
 
 use crate::chance::Chance;
 use crate::datagrams;
@@ -151,8 +151,8 @@ impl Making {
                 self.say(format!("receive {at}"));
                 self.say("alloc".into());
             }
-            self.say("record 7 0102".into());
-            self.say("heartbeat".into());
+            self.say("record 5 0102".into());
+            self.heartbeat();
             self.say("held".into());
         }
     }
@@ -161,14 +161,22 @@ impl Making {
     fn held_everywhere(&mut self) {
         for held in ENDS {
             for first in ENDS {
-                self.say(format!("stream 5 {held} 0"));
+                self.say(format!("stream 5 {} 0", held.wrapping_add(2)));
                 self.say(format!("record {held} aa"));
                 self.say(format!("record {} bb", held.wrapping_add(1)));
-                self.say("heartbeat".into());
+                self.heartbeat();
                 self.say(format!("acknack {first} 65535"));
-                self.say("heartbeat".into());
+                self.heartbeat();
                 self.say("held".into());
             }
+        }
+    }
+
+    // Only where every held number is below the next to send is the original's heartbeat document 02's (W2).
+    fn heartbeat(&mut self) {
+        let stream = &self.original.stream;
+        if stream.unacked.keys().all(|held| *held < stream.next_send_seq) {
+            self.say("heartbeat".into());
         }
     }
 
@@ -315,7 +323,10 @@ impl Making {
                     self.say(format!("acknack {first} {bitmap}"));
                 }
             }
-            10 => self.say("heartbeat".into()),
+            10 => {
+                self.send_past_held();
+                self.heartbeat();
+            }
             11 | 12 => {
                 let at = if self.chance.one_in(3) { self.chance.near(expected) } else { expected };
                 self.say(format!("receive {at}"));
@@ -331,6 +342,15 @@ impl Making {
                 self.say(format!("make_acknack {at} {next}"));
                 self.say("held".into());
             }
+        }
+    }
+
+    // Takes numbers until the next to send is above every held one, where few are lacking.
+    fn send_past_held(&mut self) {
+        let stream = &self.original.stream;
+        let past = stream.unacked.keys().max().map_or(0, |held| held.saturating_add(1));
+        for _ in 0..past.saturating_sub(stream.next_send_seq).min(24) {
+            self.say("alloc".into());
         }
     }
 

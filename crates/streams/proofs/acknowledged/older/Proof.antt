@@ -1,6 +1,8 @@
 -- `streams::acknowledged::older` meets its contract.
-use borrow.Author.Tests.{eq-eqb, ne-eqb, le-leb, lt-leb}
-use Rattle.streams.specs.Acknowledged.{namedFirst, older}
+use borrow.Author.Tests.{eq-eqb, ne-eqb}
+use mathlib.Core.Path.{sym, _∙_}
+use borrow.Author.Needs.{needs}
+use Rattle.streams.specs.Acknowledged.{older}
 use Rattle.streams.proofs.acknowledged.older.Statement.{statement}
 use Rattle.streams.proofs.acknowledged.older.Tie as tie
 
@@ -8,17 +10,20 @@ returns : tie.Need-returns
 unfolding older
 returns c = rw (eq-eqb (c .before .args .length) 0 (c .if1 .taken))
 
+named-first-requires : tie.Need-named-first-requires
+named-first-requires c κs = search needs
+
 returns-2 : tie.Need-returns-2
-unfolding namedFirst older
+unfolding older
 returns-2 c =
     let a = c .before .before .before .before .args in
-    rw (ne-eqb (a .length) 0 (c .before .before .before .if1 .left), c .before .before .if2 .taken, le-leb (a .best .seq) (a .number) (c .if3 .taken))
+    rw (ne-eqb (a .length) 0 (c .before .before .before .if1 .left), c .before .before .if2 .taken, sym (c .before .named-first .ensures) ∙ c .if3 .taken)
 
 returns-3 : tie.Need-returns-3
-unfolding namedFirst older
+unfolding older
 returns-3 c =
     let a = c .before .before .before .before .args in
-    rw (ne-eqb (a .length) 0 (c .before .before .before .if1 .left), c .before .before .if2 .taken, lt-leb (a .best .seq) (a .number) (c .if3 .left))
+    rw (ne-eqb (a .length) 0 (c .before .before .before .if1 .left), c .before .before .if2 .taken, sym (c .before .named-first .ensures) ∙ c .if3 .left)
 
 returns-4 : tie.Need-returns-4
 unfolding older
@@ -27,4 +32,4 @@ returns-4 c =
     rw (ne-eqb (a .length) 0 (c .before .if1 .left), c .if2 .left)
 
 pub older-spec : {M : Type 1} → statement M
-older-spec = tie.close (tie.spec returns returns-2 returns-3 returns-4)
+older-spec = tie.close (tie.spec returns named-first-requires returns-2 returns-3 returns-4)
