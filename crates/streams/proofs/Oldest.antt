@@ -1,10 +1,9 @@
--- The first number of a HEARTBEAT is the one that document 02 (W2) describes and no other, and the Rust's where every held number is below the next to send.
-use Prim.Native.Nat.{ℕ, _≤_}
+-- The first number of a HEARTBEAT is the one that document 02 (W2) describes and no other, and the original's where every held number is below the next to send.
+use Prim.Native.Nat.{ℕ}
 use mathlib.Core.Path.{_≡_, refl, sym, _∙_}
 use mathlib.Core.Bool.{Bool, true, false}
 use native.Mathlib.Omega.{arith}
 use Rattle.streams.specs.declared.state.StreamState.{StreamState}
-use Rattle.streams.specs.Sequence.{minus}
 use Rattle.streams.specs.Places.{isHeld}
 use Rattle.streams.specs.Acknowledged.{firstUnacked}
 use Rattle.streams.specs.Oldest.{FirstBy, Furthest, Least, SixteenBits, AllBelow}
@@ -30,6 +29,7 @@ module _ (s : StreamState) where
   pub oldest : Furthest s (firstUnacked s)
   oldest = record { held = named s; first = furthest s; empty = next-if-none s }
 
+  -- two numbers of 16 bits never lie equally far behind it
   pub no-other : SixteenBits s → (n : ℕ) → Furthest s n → n ≡ firstUnacked s
   no-other bits n x = only-one _ s (λ a b ha hb p q. omega (arith, bits a ha, bits b hb)) n (firstUnacked s) x oldest
 

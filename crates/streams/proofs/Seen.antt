@@ -3,7 +3,6 @@ use Prim.Native.Nat.{ℕ, zero, suc}
 use mathlib.Core.Path.{_≡_, refl, sym, ap, _∙_}
 use mathlib.Core.Bool.{Bool, true, false, cond}
 use mathlib.Core.Option.{Option, none, some}
-use native.Mathlib.Omega.{arith}
 use lib.Dec.{eqb}
 use Rattle.streams.specs.declared.state.StreamState.{StreamState}
 use Rattle.streams.specs.Sequence.{plus, minus}
@@ -12,7 +11,6 @@ use Rattle.streams.specs.Acknowledged.{wanted, repeatsFrom, repeats, pad
 use Rattle.streams.specs.Oldest.{SixteenBits}
 use Rattle.streams.specs.Received.{bitmapOf, acknackOf, receivedOf}
 use Rattle.streams.specs.View.{heldBy, Kept, keptOf, acknackIn}
-use Rattle.streams.proofs.places.Laws.{never}
 use Rattle.streams.proofs.Oldest.{oldest, no-other}
 use Rattle.streams.proofs.Soundness.{receive-is}
 use Rattle.streams.proofs.Kept.{drop-kept}

@@ -1,4 +1,4 @@
--- What the first number of a HEARTBEAT is, said of the held numbers alone: by document 02 (W2), and by document 01, as the Rust has it.
+-- What the first number of a HEARTBEAT is, said of the held numbers alone: by document 02 (W2), and by document 01, as the original has it.
 use Prim.Native.Nat.{ℕ, _≤_, _<_}
 use mathlib.Core.Path.{_≡_}
 use mathlib.Core.Bool.{true, false}
