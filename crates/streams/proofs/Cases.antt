@@ -10,11 +10,12 @@ use Rattle.codec.proofs.Cases.{Table as Wire, cases as wire-cases}
 use Rattle.streams.specs.declared.state.StreamState.{StreamState}
 use Rattle.streams.specs.Sequence.{plus, seqLt}
 use Rattle.streams.specs.Places.{isHeld}
-use Rattle.streams.specs.Acknowledged.{wanted, repeatsFrom, repeats, acknowledge, repeatsOf, padded, firstUnacked, heartbeatOf}
+use Rattle.streams.specs.Acknowledged.{wanted, repeatsFrom, repeats, acknowledge, repeatsOf, padded, heartbeatOf}
+use Rattle.streams.specs.Oldest.{SixteenBits}
 use Rattle.streams.specs.Received.{bitValue, bitmapFrom, bitmapOf, acknackOf}
 use Rattle.streams.proofs.Repeats.{left}
 use Rattle.streams.proofs.places.Laws.{never}
-use Rattle.streams.proofs.Heartbeat.{named, furthest}
+use Rattle.streams.proofs.Oldest.{no-other}
 
 -- the numbers held are those of a list
 unfoldable pub among : ℕ → List ℕ → Bool
@@ -96,15 +97,19 @@ module _ (s : StreamState) where
 
   pub names : HoldsOnly s (65535 ∷ 0 ∷ []) → s .«next_send_seq» ≡ 1 → heartbeatOf s ≡ record { «first_unacked_seq» = 65535; «last_seq» = 0 }
   unfolding heartbeatOf among
-  names k e = rw (by (eqb first 65535) (eqb first 0) refl refl (sym (k first) ∙ named s 65535 (k 65535)), e)
+  names k e = rw (sym (no-other s bits 65535 (record { held = λ m h. k 65535; first = λ m h. only m h (λ z. omega (arith, e)) (λ z. omega (arith, e)); empty = λ f. absurd (never (k 65535) (f 65535)) })), e)
     where
-      first : ℕ
-      first = firstUnacked s
+      -- what holds of both numbers holds of every held one
+      only : {A : Type 0} → (m : ℕ) → isHeld s m ≡ true → (m ≡ 65535 → A) → (m ≡ 0 → A) → A
+      only {A} m h x y = by (eqb m 65535) (eqb m 0) refl refl (sym (k m) ∙ h)
+        where
+          by : (a b : Bool) → eqb m 65535 ≡ a → eqb m 0 ≡ b → among m (65535 ∷ 0 ∷ []) ≡ true → A
+          by true b p q t = x (eqb-true m 65535 p)
+          by false true p q t = y (eqb-true m 0 q)
+          by false false p q t = absurd (never (rw (p, q) at t) refl)
 
-      by : (a b : Bool) → eqb first 65535 ≡ a → eqb first 0 ≡ b → among first (65535 ∷ 0 ∷ []) ≡ true → firstUnacked s ≡ 65535
-      by true b p q h = eqb-true first 65535 p
-      by false true p q h = absurd (omega (arith, eqb-true first 0 q, e, furthest s 65535 (k 65535)))
-      by false false p q h = absurd (never (rw (p, q) at h) refl)
+      bits : SixteenBits s
+      bits = record { next = omega arith; held = λ m h. only m h (λ z. omega arith) (λ z. omega arith) }
 
 pub cases : Table
 unfolding bitmapOf bitmapFrom bitValue seqLt padded

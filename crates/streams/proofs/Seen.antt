@@ -32,11 +32,13 @@ module _ (s t : StreamState) (same : (m : ℕ) → isHeld s m ≡ isHeld t m) wh
 
   -- the first number of a HEARTBEAT is told by what is held, since one number alone is the first
   first-same : SixteenBits s → s .«next_send_seq» ≡ t .«next_send_seq» → firstUnacked s ≡ firstUnacked t
-  first-same bits next = no-other t (λ m h. bits m (same m ∙ h)) (firstUnacked s) (record {
-    held = λ m h. sym (same (firstUnacked s)) ∙ oldest s .held m (same m ∙ h);
-    first = λ m h. rw (← next) (oldest s .first m (same m ∙ h));
-    empty = λ f. oldest s .empty (λ m. same m ∙ f m) ∙ next;
-  })
+  first-same bits next =
+      let o = oldest s bits in
+      no-other t (record { next = rw (← next) (bits .next); held = λ m h. bits .held m (same m ∙ h) }) (firstUnacked s) (record {
+        held = λ m h. sym (same (firstUnacked s)) ∙ o .held m (same m ∙ h);
+        first = λ m h. rw (← next) (o .first m (same m ∙ h));
+        empty = λ f. o .empty (λ m. same m ∙ f m) ∙ next;
+      })
 
 module _ {A : Type 0} (read : ℕ → ℕ → A) where
   told-held : (s : StreamState) (m : ℕ) → told (heldBy read s m) ≡ isHeld s m

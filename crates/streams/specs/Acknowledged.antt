@@ -1,13 +1,12 @@
 -- What an ACKNACK acknowledges and asks for, and the HEARTBEAT that says what is still held.
 use Prim.Native.Nat.{ℕ, zero, suc, _-_, _/_, _%_, _^_}
-use mathlib.Core.Bool.{Bool, true, false, cond}
+use mathlib.Core.Bool.{Bool, false, cond}
 use mathlib.Core.List.{List, [], _∷_, _++_}
-use lib.Dec.{eqb, leb}
+use lib.Dec.{eqb, ltb}
 use lib.ListN.{getD, length, replicate}
 use Rattle.codec.specs.declared.submessages.HeartbeatPayload.{HeartbeatPayload}
 use Rattle.streams.specs.declared.state.StreamState.{StreamState}
 use Rattle.streams.specs.declared.acknowledged.Acknowledged.{Acknowledged}
-use Rattle.streams.specs.declared.acknowledged.Oldest.{Oldest}
 use Rattle.streams.specs.Sequence.{plus, minus, seqLt}
 use Rattle.streams.specs.Places.{isHeld}
 
@@ -57,25 +56,18 @@ repeatsOf s first bitmap = record { state = s; repeats = padded (repeats s first
 unfoldable pub acknowledge : StreamState → ℕ → ℕ → Acknowledged
 acknowledge s first bitmap = repeatsOf (dropBefore s first) first bitmap
 
--- document 02, W2: "The first number becomes the held one with the greatest forward distance to the next to send." Whether a is named rather than b,
--- on a stream whose next to send is given: the distance from b up to it is no greater.
-unfoldable pub namedFirst : ℕ → ℕ → ℕ → Bool
-namedFirst next a b = leb (minus next b) (minus next a)
+-- document 02, W2: "the greatest forward distance to the next to send": that of one more place, or the greatest so far; a free place has none
+unfoldable pub further : ℕ → ℕ → ℕ → ℕ → ℕ
+further next best number len = cond (eqb len 0) best (cond (ltb best (minus next number)) (minus next number) best)
 
--- the choice between the best so far and one more place
-unfoldable pub older : ℕ → Oldest → ℕ → ℕ → Oldest
-older next best number len =
-    cond (eqb len 0) best
-    (cond (best .any) (cond (namedFirst next (best .seq) number) best (record { any = true; seq = number }))
-    (record { any = true; seq = number }))
+-- the greatest distance of k places from i on, given the greatest so far
+unfoldable pub furthestFrom : StreamState → ℕ → ℕ → ℕ → ℕ
+furthestFrom s best zero i = best
+furthestFrom s best (suc k) i = furthestFrom s (further (s .«next_send_seq») best (getD (s .numbers) i 0) (getD (s .lengths) i 0)) k (suc i)
 
-unfoldable pub oldestFrom : StreamState → Oldest → ℕ → ℕ → Oldest
-oldestFrom s best zero i = best
-oldestFrom s best (suc k) i = oldestFrom s (older (s .«next_send_seq») best (getD (s .numbers) i 0) (getD (s .lengths) i 0)) k (suc i)
-
--- "or the next to send if none is held"
+-- "The first number becomes the held one" at that distance; "or the next to send if none is held", which is at distance 0
 unfoldable pub firstUnacked : StreamState → ℕ
-firstUnacked s = oldestFrom s (record { any = false; seq = s .«next_send_seq» }) 16 0 .seq
+firstUnacked s = minus (s .«next_send_seq») (furthestFrom s 0 16 0)
 
 -- "and as last the number before the next to send"
 unfoldable pub heartbeatOf : StreamState → HeartbeatPayload

@@ -1,4 +1,4 @@
--- What the first number of a HEARTBEAT is, said of the held numbers alone: by document 02 (W2), and by document 01, as the original has it.
+-- What the first number of a HEARTBEAT is, said of the held numbers alone: by document 02 (W2), and by document 01, whose rule the original has.
 use Prim.Native.Nat.{ℕ, _≤_, _<_}
 use mathlib.Core.Path.{_≡_}
 use mathlib.Core.Bool.{true, false}
@@ -21,10 +21,10 @@ abbrev pub Least : StreamState → ℕ → Type 0
 Least = FirstBy (λ n m. n ≤ m)
 
 -- sequence numbers have 16 bits, as those of every stream in memory
-abbrev pub SixteenBits : StreamState → Type 0
-SixteenBits s = (m : ℕ) → isHeld s m ≡ true → m < 65536
+pub record SixteenBits (s : StreamState) : Type 0 where
+  pub next : s .«next_send_seq» < 65536
+  pub held : (m : ℕ) → isHeld s m ≡ true → m < 65536
 
 -- document 02: "where every held number is below the next to send"
-pub record AllBelow (s : StreamState) : Type 0 where
-  pub next : s .«next_send_seq» < 65536
-  pub below : (m : ℕ) → isHeld s m ≡ true → m < s .«next_send_seq»
+abbrev pub AllBelow : StreamState → Type 0
+AllBelow s = (m : ℕ) → isHeld s m ≡ true → m < s .«next_send_seq»

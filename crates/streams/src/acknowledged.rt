@@ -7,19 +7,13 @@ use crate::state::StreamState;
 use codec::submessages::HeartbeatPayload;
 ghost use mathlib.Core.Path.{_≡_};
 ghost use Prim.Native.Nat.{_<_};
-ghost use Rattle.streams.specs.Acknowledged.{keptLength, dropBefore, wanted, repeatsOf, acknowledge, namedFirst, older, firstUnacked, heartbeatOf};
+ghost use Rattle.streams.specs.Acknowledged.{keptLength, dropBefore, wanted, repeatsOf, acknowledge, further, firstUnacked, heartbeatOf};
 
 // The numbers to repeat, in the order of their bits: the first `count` of the sixteen.
 pub struct Acknowledged {
     pub state: StreamState,
     pub repeats: [u16; PLACES],
     pub count: usize,
-}
-
-// The oldest number met so far; `any` says whether one was met.
-struct Oldest {
-    pub any: bool,
-    pub seq: u16,
 }
 
 // The length of a place when what comes before `first` is dropped.
@@ -29,29 +23,15 @@ fn kept_length(number: u16, length: u16, first: u16) -> u16
     if seq_lt(number, first) { 0 } else { length }
 }
 
-// Whether a HEARTBEAT names `a` rather than `b`: `b` is no further behind the next to send (document 02, W2).
-fn named_first(next: u16, a: u16, b: u16) -> bool
-    ensures { λ r. ⌜ r ≡ namedFirst next a b ⌝ }
-{
-    seq_sub(next, b) <= seq_sub(next, a)
-}
-
-// The choice of the number that a HEARTBEAT names first, between the best so far and one more place.
-fn older(next: u16, best: Oldest, number: u16, length: u16) -> Oldest
-    ensures { λ r. ⌜ r ≡ older next best number length ⌝ }
+// The greatest forward distance to the next to send, with one more place (document 02, W2): free places have no say.
+fn further(next: u16, best: u16, number: u16, length: u16) -> u16
+    ensures { λ r. ⌜ r ≡ further next best number length ⌝ }
 {
     if length == 0 {
         return best;
     }
-    if best.any {
-        if named_first(next, best.seq, number) {
-            return best;
-        }
-    }
-    Oldest {
-        any: true,
-        seq: number,
-    }
+    let distance = seq_sub(next, number);
+    if best < distance { distance } else { best }
 }
 
 impl StreamState {
@@ -110,19 +90,17 @@ impl StreamState {
             .list_repeats(first_unacked_seq, nack_bitmap)
     }
 
+    // Numbers are compared by their distances, so that the next to send itself, at distance 0, stands for none held.
     fn first_unacked(self) -> u16
         ensures { λ r. ⌜ r ≡ firstUnacked self ⌝ }
     {
-        let mut best = Oldest {
-            any: false,
-            seq: self.next_send_seq,
-        };
+        let mut best: u16 = 0;
         let mut i = 0;
         while i < PLACES {
-            best = older(self.next_send_seq, best, self.numbers[i], self.lengths[i]);
+            best = further(self.next_send_seq, best, self.numbers[i], self.lengths[i]);
             i += 1;
         }
-        best.seq
+        seq_sub(self.next_send_seq, best)
     }
 
     pub fn make_heartbeat(self) -> HeartbeatPayload

@@ -8,9 +8,8 @@ use native.Mathlib.Omega.{arith}
 use lib.ListN.{getD, length, take, drop, set, replicate, length-set, take-append-drop}
 use lib.Seq.{take-suc-set, drop-set-lt, length-take-le, drop-drop, take-all}
 use Rattle.streams.specs.declared.state.StreamState.{StreamState}
-use Rattle.streams.specs.declared.acknowledged.Oldest.{Oldest}
-use Rattle.streams.specs.Sequence.{plus, seqLt}
-use Rattle.streams.specs.Acknowledged.{keptLength, listFrom, sixteen, wanted, repeatsFrom, repeats, padded, older, oldestFrom, firstUnacked}
+use Rattle.streams.specs.Sequence.{plus, minus, seqLt}
+use Rattle.streams.specs.Acknowledged.{keptLength, listFrom, sixteen, wanted, repeatsFrom, repeats, padded, further, furthestFrom, firstUnacked}
 use Rattle.streams.proofs.places.Laws.{left-suc}
 
 -- the length of a place whose number is dropped, and of one whose number stays
@@ -88,19 +87,19 @@ module _ (s : StreamState) (first bitmap : ℕ) where
         let k : count ≡ length (repeats s first bitmap) = sym (length-take-le count xs (omega (arith, l .1, l .2))) ∙ ap length t in
         (rw (← k, ← t, ← l .4) (sym (take-append-drop count xs)), k)
 
--- the oldest of what is left from i on, given the best so far, is the oldest of all
-unfoldable pub Sought : StreamState → Oldest → ℕ → Type 0
-Sought s best i = (i ≤ 16) × (oldestFrom s best (16 - i) i .seq ≡ firstUnacked s)
+-- the greatest distance of what is left from i on, given the greatest so far, is the greatest of all
+unfoldable pub Sought : StreamState → ℕ → ℕ → Type 0
+Sought s best i = (i ≤ 16) × (minus (s .«next_send_seq») (furthestFrom s best (16 - i) i) ≡ firstUnacked s)
 
 module _ (s : StreamState) where
-  pub sought-start : Sought s (record { any = false; seq = s .«next_send_seq» }) 0
+  pub sought-start : Sought s 0 0
   unfolding Sought firstUnacked
   sought-start = (omega arith, refl)
 
-  pub sought-step : (best : Oldest) (i : ℕ) → Sought s best i → i < 16 → Sought s (older (s .«next_send_seq») best (getD (s .numbers) i 0) (getD (s .lengths) i 0)) (i + 1)
-  unfolding Sought oldestFrom
+  pub sought-step : (best i : ℕ) → Sought s best i → i < 16 → Sought s (further (s .«next_send_seq») best (getD (s .numbers) i 0) (getD (s .lengths) i 0)) (i + 1)
+  unfolding Sought furthestFrom
   sought-step best i k h = (omega arith, rw (add-one i) (rw (left-suc i h, add-one i) at (k .1)))
 
-  pub sought-end : (best : Oldest) (i : ℕ) → Sought s best i → 16 ≤ i → best .seq ≡ firstUnacked s
-  unfolding Sought oldestFrom
+  pub sought-end : (best i : ℕ) → Sought s best i → 16 ≤ i → minus (s .«next_send_seq») best ≡ firstUnacked s
+  unfolding Sought furthestFrom
   sought-end best i k h = let e : i ≡ 16 = omega arith in (rw e at (k .1))

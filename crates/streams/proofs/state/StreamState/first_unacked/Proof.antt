@@ -1,5 +1,6 @@
--- `streams::state::StreamState::first_unacked` meets its contract: the oldest of what is left is the oldest of all.
+-- `streams::state::StreamState::first_unacked` meets its contract: the greatest distance of what is left is the greatest of all.
 use Prim.Native.Nat.{_-_}
+use mathlib.Core.Path.{_∙_}
 use native.Mathlib.Omega.{arith}
 use Rattle.streams.proofs.acknowledged.Laws.{Sought, sought-start, sought-step, sought-end}
 use borrow.Author.Needs.{needs}
@@ -15,20 +16,20 @@ abbrev μ-loop : tie.MeasureT-loop
 loop-holds : tie.Need-loop-holds Inv-loop μ-loop
 loop-holds c = sought-start (c .args .t1)
 
-mul-older : tie.Need-mul-older Inv-loop μ-loop
-mul-older c = search needs
+mul-further : tie.Need-mul-further Inv-loop μ-loop
+mul-further c = search needs
 
-element-copy-out-older : tie.Need-element-copy-out-older Inv-loop μ-loop
-element-copy-out-older c = search needs
+element-copy-out-further : tie.Need-element-copy-out-further Inv-loop μ-loop
+element-copy-out-further c = search needs
 
-mul-older-2 : tie.Need-mul-older-2 Inv-loop μ-loop
-mul-older-2 c = search needs
+mul-further-2 : tie.Need-mul-further-2 Inv-loop μ-loop
+mul-further-2 c = search needs
 
-element-copy-out-older-2 : tie.Need-element-copy-out-older-2 Inv-loop μ-loop
-element-copy-out-older-2 c = search needs
+element-copy-out-further-2 : tie.Need-element-copy-out-further-2 Inv-loop μ-loop
+element-copy-out-further-2 c = search needs
 
-older-requires : tie.Need-older-requires Inv-loop μ-loop
-older-requires c κs = search needs
+further-requires : tie.Need-further-requires Inv-loop μ-loop
+further-requires c κs = search needs
 
 add-i : tie.Need-add-i Inv-loop μ-loop
 add-i c = search needs
@@ -39,12 +40,15 @@ loop-less c = search needs
 loop-again : tie.Need-loop-again Inv-loop μ-loop
 loop-again c =
     let l = c .before .before .before .before .loop in
-    rw (c .older .ensures) (sought-step (c .before .before .before .before .before .args .t1) (l .best) (l .i) (l .inv) (omega arith))
+    rw (c .further .ensures) (sought-step (c .before .before .before .before .before .args .t1) (l .best) (l .i) (l .inv) (omega arith))
+
+seq-sub-requires : tie.Need-seq-sub-requires Inv-loop μ-loop
+seq-sub-requires c κs = search needs
 
 returns : tie.Need-returns Inv-loop μ-loop
 returns c =
-    let l = c .before .loop in
-    sought-end (c .before .before .args .t1) (l .best) (l .i) (l .inv) (omega arith)
+    let l = c .before .before .loop in
+    c .seq-sub .ensures ∙ sought-end (c .before .before .before .args .t1) (l .best) (l .i) (l .inv) (omega arith)
 
 pub first-unacked-spec : {M : Type 1} → statement M
 first-unacked-spec =
@@ -53,12 +57,13 @@ first-unacked-spec =
     Inv-loop
     μ-loop
     loop-holds
-    mul-older
-    element-copy-out-older
-    mul-older-2
-    element-copy-out-older-2
-    older-requires
+    mul-further
+    element-copy-out-further
+    mul-further-2
+    element-copy-out-further-2
+    further-requires
     add-i
     loop-less
     loop-again
+    seq-sub-requires
     returns)
