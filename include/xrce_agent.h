@@ -133,6 +133,13 @@ uint64_t xrce_agent_remove(const struct xrce_agent *agent, size_t agents, xrce_s
 uint64_t xrce_agent_sweep(const struct xrce_agent *agent, size_t agents, xrce_session_row *sessions, size_t session_rows, uint8_t *out,
                           size_t room, uint64_t time);
 
+/* The listing of a session: the numbers of its objects, each once, kind 6 down to 1 and ascending within a kind, at the start of the
+ * output; the answer's number is how many. So every dependant stands before what it depends on: DELETEs in this order are never answered
+ * ERR_INCOMPATIBLE. An id that isn't live has none. `room` counts numbers, and 32 always suffice. It only reads, takes no agent's record, and
+ * is never out of turn: it answers while a call is open. Refused: 16, 13. */
+uint64_t xrce_agent_list(const xrce_session_row *sessions, size_t session_rows, const struct xrce_object *objects, size_t object_records,
+                         uint16_t *out, size_t room, uint8_t id);
+
 /* Tables of the documented need. */
 struct xrce_tables {
     xrce_session_row sessions[XRCE_SESSIONS];
@@ -164,6 +171,10 @@ static inline uint64_t xrce_remove(const struct xrce_agent *a, struct xrce_table
 
 static inline uint64_t xrce_sweep(const struct xrce_agent *a, struct xrce_tables *t, uint8_t *out, size_t room, uint64_t time) {
     return xrce_agent_sweep(a, 1, t->sessions, XRCE_SESSIONS, out, room, time);
+}
+
+static inline uint64_t xrce_list(const struct xrce_tables *t, uint16_t *out, size_t room, uint8_t id) {
+    return xrce_agent_list(t->sessions, XRCE_SESSIONS, t->objects, XRCE_OBJECTS, out, room, id);
 }
 
 #ifdef __cplusplus

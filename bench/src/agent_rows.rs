@@ -9,49 +9,57 @@ use crate::timed::Side;
 use crate::works::{Datagrams, Ending, Opening, Sweep, Work, LATER};
 
 const SESSIONS: [usize; 4] = [1, 16, 128, 255];
-const MANY: u16 = 32;
+
+/// The objects of a session: as few as a writer or reader can stand with, and as many as there may be.
+pub const FEW: u16 = 3;
+pub const MANY: u16 = 32;
 
 /// The stream of HEARTBEAT and ACKNACK, a reliable one.
 const RELIABLE: u8 = 1;
 
-/// The objects that stand in each session.
+/// The objects that stand in each session, numbered from 1 in the order in which they are made: a Participant, its Topic,
+/// and objects of these kinds in turn that name the Topic. The first two stay, since the others depend on them.
 #[derive(Clone, Copy)]
-struct Objects {
-    kind: u8,
-    count: u16,
-    // Writers and readers need a Participant and a Topic when they are made, and not from then on.
-    parents: bool,
+pub struct Objects {
+    pub kinds: &'static [u8],
+    pub count: u16,
 }
 
 impl Objects {
-    /// The number of the object made last.
-    fn last(self) -> u16 {
-        if self.parents {
-            self.count
-        } else {
-            2 + self.count
+    /// The kind and the parent of an object.
+    fn made(self, number: u16) -> (u8, u16) {
+        match number {
+            1 => (PARTICIPANT, 0),
+            2 => (TOPIC, 1),
+            _ => (self.kinds[usize::from(number) % self.kinds.len()], 2),
         }
     }
 
-    /// CREATE of them all, and DELETE of the parents that aren't to stay.
-    fn submessages(self) -> Vec<Vec<u8>> {
-        let mut list = vec![create(1, PARTICIPANT, 0), create(2, TOPIC, 1)];
-        list.extend((3..=self.last()).map(|number| create(number, self.kind, 2)));
-        if !self.parents {
-            list.extend([delete(1), delete(2)]);
-        }
-        list
+    /// Their numbers as the listing has them.
+    pub fn listing(self) -> Vec<u16> {
+        let mut numbers: Vec<u16> = (1..=self.count).collect();
+        numbers.sort_by_key(|number| std::cmp::Reverse(self.made(*number).0));
+        numbers
     }
 }
 
+/// Hands in a datagram about an object of session `id`, which must be answered by STATUS OK and nothing else: a row's two
+/// sides would else stand differently, and what they do would still look alike.
+fn accepted<A: Agent>(agent: &mut A, id: u8, object: u16, submessage: &[u8]) {
+    let mut replies: Vec<u8> = Vec::new();
+    agent.deliver(&datagram(id, 0, submessage), &mut |reply| replies.extend(reply));
+    assert_eq!(replies, datagram(id, 0, &status_ok(object)), "object {object} of session {id} in a row's set-up");
+}
+
 /// An agent with that many sessions, last active `LATER`, and these objects in each.
-fn standing<A: Agent>(sessions: usize, objects: Option<Objects>) -> A {
+pub fn standing<A: Agent>(sessions: usize, objects: Option<Objects>) -> A {
     let mut agent = A::new();
     agent.set_time(LATER);
     for id in 1..=sessions as u8 {
-        agent.deliver(&datagram(id, 0, &create_client()), &mut |reply| assert!(reply.is_empty() || reply[0] == id));
-        for submessage in objects.iter().flat_map(|objects| objects.submessages()) {
-            agent.deliver(&datagram(id, 0, &submessage), &mut |_| ());
+        accepted(&mut agent, id, 0, &create_client());
+        let made = objects.iter().flat_map(|objects| (1..=objects.count).map(|number| (number, objects.made(number))));
+        for (number, (kind, parent)) in made {
+            accepted(&mut agent, id, number, &create(number, kind, parent));
         }
     }
     agent
@@ -82,33 +90,34 @@ fn datagrams(name: &'static str, sessions: usize, objects: Objects, stream: u8, 
 
 /// Datagrams that look for an object: the one made last, which is the port's last place.
 fn with_objects(sessions: usize, count: u16) -> Vec<Row> {
-    let writers = Objects { kind: WRITER, count, parents: count > 1 };
-    let readers = Objects { kind: READER, count, parents: count > 1 };
+    let (writers, readers) = (Objects { kinds: &[WRITER], count }, Objects { kinds: &[READER], count });
     let one = |name, objects: Objects, submessage| datagrams(name, sessions, objects, 0, vec![submessage]);
     vec![
-        one("WRITE_DATA, 16 bytes", writers, write_data(writers.last(), 16)),
-        one("WRITE_DATA, 1,024 bytes", writers, write_data(writers.last(), 1024)),
-        one("READ_DATA, sample of 16 bytes", readers, read_data(readers.last())),
+        one("WRITE_DATA, 16 bytes", writers, write_data(count, 16)),
+        one("WRITE_DATA, 1,024 bytes", writers, write_data(count, 1024)),
+        one("READ_DATA, sample of 16 bytes", readers, read_data(count)),
         one("DELETE of an unknown object", writers, delete(999)),
     ]
 }
 
-/// CREATE needs a Participant and a Topic beside the object that it makes.
+/// The object made is the last of `count`. Nothing depends on it, so it can be deleted, and made in place of itself.
 fn creating(sessions: usize, count: u16) -> Vec<Row> {
-    let objects = Objects { kind: WRITER, count, parents: true };
-    let (made, fresh) = (objects.last(), Objects { count: count - 1, ..objects });
-    let again = vec![create(made, WRITER, 2)];
-    let pair = vec![create(made, WRITER, 2), delete(made)];
-    let shape = (sessions, count as usize);
-    let work = move || Datagrams::new(sessions, 0, &pair);
+    let objects = Objects { kinds: &[WRITER], count };
+    let fresh = Objects { count: count - 1, ..objects };
+    let pair = |name, created: Vec<u8>| {
+        let work = move || Datagrams::new(sessions, 0, &[created.clone(), delete(count)]);
+        row(name, Goal::Datagrams(2), (sessions, usize::from(count)), (sessions, Some(fresh)), work)
+    };
+    let writer = create(count, WRITER, 2);
     vec![
-        datagrams("CREATE of a DataWriter in place of one", sessions, objects, 0, again),
-        row("CREATE of a DataWriter, and DELETE", Goal::Datagrams(2), shape, (sessions, Some(fresh)), work),
+        datagrams("CREATE of a DataWriter in place of one", sessions, objects, 0, vec![writer.clone()]),
+        pair("CREATE of a DataWriter, and DELETE", writer),
+        pair("CREATE of a Topic, and DELETE", create(count, TOPIC, 1)),
     ]
 }
 
 fn streams(sessions: usize) -> Vec<Row> {
-    let objects = Objects { kind: WRITER, count: 1, parents: false };
+    let objects = Objects { kinds: &[WRITER], count: FEW };
     let one = |name, submessage| datagrams(name, sessions, objects, RELIABLE, vec![submessage]);
     vec![one("HEARTBEAT", heartbeat(0, 5)), one("ACKNACK", acknack(0, 3))]
 }
@@ -127,13 +136,13 @@ fn sessions(live: usize) -> Vec<Row> {
 
 /// The same as above with the machine's clock read for each datagram, on both sides.
 fn clocked() -> Vec<Row> {
-    let objects = Objects { kind: WRITER, count: 1, parents: false };
+    let objects = Objects { kinds: &[WRITER], count: FEW };
     let one = |name, stream, submessage: Vec<u8>| {
         let work = move || Datagrams::new(1, stream, std::slice::from_ref(&submessage));
-        row(name, Goal::Clock, (1, 1), (1, Some(objects)), work)
+        row(name, Goal::Clock, (1, usize::from(FEW)), (1, Some(objects)), work)
     };
     vec![
-        one("WRITE_DATA, 16 bytes, clock read", 0, write_data(objects.last(), 16)),
+        one("WRITE_DATA, 16 bytes, clock read", 0, write_data(FEW, 16)),
         one("HEARTBEAT, clock read", RELIABLE, heartbeat(0, 5)),
     ]
 }
@@ -141,10 +150,10 @@ fn clocked() -> Vec<Row> {
 pub fn rows() -> Vec<Row> {
     let mut rows = Vec::new();
     for live in SESSIONS {
-        rows.extend(with_objects(live, 1));
-        rows.extend(with_objects(live, MANY));
-        rows.extend(creating(live, 3));
-        rows.extend(creating(live, MANY));
+        for count in [FEW, MANY] {
+            rows.extend(with_objects(live, count));
+            rows.extend(creating(live, count));
+        }
         rows.extend(streams(live));
         rows.extend(sessions(live));
     }

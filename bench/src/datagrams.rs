@@ -2,6 +2,8 @@
 
 pub const PARTICIPANT: u8 = 1;
 pub const TOPIC: u8 = 2;
+pub const PUBLISHER: u8 = 3;
+pub const SUBSCRIBER: u8 = 4;
 pub const WRITER: u8 = 5;
 pub const READER: u8 = 6;
 
@@ -42,6 +44,11 @@ pub fn delete(object: u16) -> Vec<u8> {
     submessage(0x02, &object.to_le_bytes())
 }
 
+/// STATUS OK, as both agents reply it.
+pub fn status_ok(object: u16) -> Vec<u8> {
+    submessage(0x05, &[&object.to_le_bytes()[..], &[0]].concat())
+}
+
 pub fn write_data(writer: u16, len: usize) -> Vec<u8> {
     let mut payload = writer.to_le_bytes().to_vec();
     payload.extend(data(len));
@@ -72,6 +79,7 @@ mod tests {
     #[test]
     fn they_are_laid_out_as_the_wire_asks() {
         assert_eq!(datagram(1, 0, &delete(3)), [1, 0, 0, 0, 2, 0, 2, 0, 3, 0]);
+        assert_eq!(status_ok(3), [5, 0, 3, 0, 3, 0, 0]);
         assert_eq!(write_data(3, 2), [7, 0, 4, 0, 3, 0, 0, 7]);
         assert_eq!(heartbeat(0, 5), [13, 0, 4, 0, 0, 0, 5, 0]);
     }

@@ -114,6 +114,16 @@ extern "C" {
         time: u64,
     ) -> u64;
 
+    pub fn xrce_agent_list(
+        sessions: *const SessionRow,
+        session_rows: usize,
+        objects: *const Object,
+        object_records: usize,
+        out: *mut u16,
+        room: usize,
+        id: u8,
+    ) -> u64;
+
     pub fn xrce_wire_header(datagram: *const u8, datagram_len: usize) -> u64;
 
     pub fn xrce_wire_parse(datagram: *const u8, datagram_len: usize, rows: *mut [u64; ROW], row_count: usize) -> u64;

@@ -78,6 +78,14 @@ impl Port {
         }
     }
 
+    /// The listing of a session, which the original doesn't have, at the start of `out`; how many objects it has.
+    pub fn list(&self, id: u8, out: &mut [u16]) -> usize {
+        let (sessions, rows) = (self.tables.sessions.as_ptr(), SESSIONS);
+        let (objects, records) = (self.tables.objects.as_ptr(), OBJECTS);
+        // SAFETY: as in `process`; the tables are read alone.
+        number(unsafe { xrce_agent_list(sessions, rows, objects, records, out.as_mut_ptr(), out.len(), id) })
+    }
+
     fn replied(&self) -> &[u8] {
         &self.out[..self.agent.wrote as usize]
     }

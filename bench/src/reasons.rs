@@ -1,5 +1,6 @@
 //! Why a row misses its goal, told by other figures of the same run.
 
+use crate::agent_rows::FEW;
 use crate::row::{median, paired, Goal, Row};
 use crate::table::nanoseconds;
 use crate::yardsticks::Yardsticks;
@@ -105,7 +106,7 @@ fn of_calls(rows: &[Row], row: &Row, yard: &Yardsticks) -> Option<String> {
             nanoseconds(yard.call)
         ));
     }
-    let single = find(rows, "DELETE of an unknown object", row.sessions, 1)?;
+    let single = find(rows, "DELETE of an unknown object", row.sessions, usize::from(FEW))?;
     Some(format!(
         "it is {} calls of the port, {} ns each; a datagram without a bridge call (DELETE of an unknown object) takes \
          {} ns",

@@ -59,6 +59,11 @@ fn steps(yard: &Yardsticks) -> String {
     )
 }
 
+/// What the port has alone.
+fn listing(yard: &Yardsticks) -> String {
+    format!("{}.\n", yard.listing())
+}
+
 /// The machine, and how far the batches lie apart.
 fn head(rows: &[Row]) -> String {
     let spreads: Vec<f64> = rows.iter().flat_map(|row| [spread(&row.port), spread(&row.original)]).collect();
@@ -77,7 +82,7 @@ fn head(rows: &[Row]) -> String {
 /// What stands between the two marks.
 pub fn section(rows: &[Row], yard: &Yardsticks) -> String {
     let plot = "![port and original, each kind of row](performance.svg)";
-    [&head(rows), &goals(rows, yard), plot, "", &markdown(rows), &steps(yard)].join("\n")
+    [&head(rows), &goals(rows, yard), plot, "", &markdown(rows), &listing(yard), &steps(yard)].join("\n")
 }
 
 /// The document with the section put between its marks, or nothing if it doesn't have both.

@@ -1,9 +1,13 @@
-//! What single steps cost on this machine, so that a row's time can be explained by what it consists of.
+//! What single steps cost on this machine, so that a row's time can be explained by what it consists of; and what the port
+//! has alone.
 
+use crate::agent_rows::{standing, Objects, FEW, MANY};
 use crate::clock;
+use crate::datagrams::{PUBLISHER, READER, SUBSCRIBER, WRITER};
 use crate::measure::{batch, turns, Plan};
-use crate::port::shortest_call;
+use crate::port::{shortest_call, Port};
 use crate::row::median;
+use crate::table::nanoseconds;
 use crate::timed::Timed;
 use std::collections::HashMap;
 use std::hint::black_box;
@@ -20,6 +24,17 @@ pub struct Yardsticks {
     pub lookup: f64,
     /// The C library's copy of 64 KiB.
     pub copy: f64,
+    /// The port's listing of a session with few objects, and with many.
+    pub few_listed: f64,
+    pub many_listed: f64,
+}
+
+impl Yardsticks {
+    /// The listing in a line.
+    pub fn listing(&self) -> String {
+        let (few, many) = (nanoseconds(self.few_listed), nanoseconds(self.many_listed));
+        format!("The listing of a session, which the original doesn't have: {few} ns with {FEW} objects, {many} ns with {MANY}")
+    }
 }
 
 struct Step<F>(F);
@@ -52,6 +67,17 @@ fn clock_cost(plan: &Plan) -> f64 {
     cost
 }
 
+/// A listing of a session with objects of all kinds, once it is seen to be right.
+fn listing_cost(plan: &Plan, count: u16) -> f64 {
+    let objects = Objects { kinds: &[PUBLISHER, READER, SUBSCRIBER, WRITER], count };
+    let (port, mut out): (Port, _) = (standing(1, Some(objects)), [0; MANY as usize]);
+    let listed = port.list(1, &mut out);
+    assert_eq!(out[..listed], objects.listing(), "the listing of {count} objects");
+    cost(plan, || {
+        black_box(port.list(black_box(1), black_box(&mut out)));
+    })
+}
+
 pub fn yardsticks(plan: &Plan) -> Yardsticks {
     let (from, mut to) = (vec![1u8; 65536], vec![0u8; 65536]);
     let table: HashMap<u8, u64> = (1..=128).map(|id| (id, 0)).collect();
@@ -69,5 +95,7 @@ pub fn yardsticks(plan: &Plan) -> Yardsticks {
         copy: cost(plan, || {
             black_box(&mut to).copy_from_slice(black_box(&from));
         }),
+        few_listed: listing_cost(plan, FEW),
+        many_listed: listing_cost(plan, MANY),
     }
 }

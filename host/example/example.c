@@ -1,5 +1,6 @@
 /*
- * The smallest host in C: sets an agent up, lets a client open a session and create a participant, and prints what happened.
+ * The smallest host in C: sets an agent up, lets a client open a session and create a participant, lists its objects, and prints what
+ * happened.
  *
  *   cc -Wall -Wextra -Werror -I../../include example.c ../../target/staticlib/libcabi.a -o example
  *
@@ -60,6 +61,7 @@ int main(void) {
     static const uint8_t create[] = {1, 0, 0, 0, 0x01, 0, 5, 0, 7, 0, 1, 0, 0}; /* object 7, a Participant, domain 0 */
     static const uint8_t unknown[] = {1, 0, 0, 0, 0x03, 0, 0, 0};
     uint8_t ended[255];
+    uint16_t numbers[32];
 
     /* At most 4 clients; one that is silent for longer than 1,000 ms expires. */
     if (xrce_refused(xrce_setup(&agent, &tables, 4, 1000)) != 0) return 1;
@@ -67,6 +69,11 @@ int main(void) {
     if (receive("CREATE_CLIENT at 0 ms", open, sizeof open, 0)) return 1;
     if (receive("CREATE of participant 7 at 5 ms", create, sizeof create, 5)) return 1;
     if (receive("a submessage that there isn't at 6 ms", unknown, sizeof unknown, 6)) return 1;
+
+    /* The objects of session 1, in the order in which they can be deleted. */
+    uint64_t listed = xrce_list(&tables, numbers, 32, 1);
+    if (xrce_refused(listed) != 0) return 1;
+    printf("session 1 has %u object, number %u\n", (unsigned)xrce_number(listed), numbers[0]);
 
     uint64_t swept = xrce_sweep(&agent, &tables, ended, sizeof ended, 1006);
     printf("sweep at 1006 ms: %u ended, the first is %u\n", (unsigned)xrce_number(swept), ended[0]);

@@ -7,15 +7,16 @@ use mathlib.Core.List.{List, [], _∷_}
 use borrow.Author.Tests.{eq-eqb}
 use Rattle.codec.specs.declared.submessages.ObjectKind.{ObjectKind}
 use Rattle.codec.specs.declared.submessages.ObjectKind.the-variants.{Participant, Topic, Publisher, Subscriber, DataWriter, DataReader}
-use Rattle.codec.specs.declared.submessages.StatusCode.the-variants.{Ok, ErrUnknownRef, ErrInvalidData, ErrResources}
+use Rattle.codec.specs.declared.submessages.StatusCode.the-variants.{Ok, ErrUnknownRef, ErrInvalidData, ErrIncompatible, ErrResources}
 use Rattle.codec.specs.declared.submessages.Submessage.{Submessage}
 use Rattle.codec.specs.declared.submessages.Submessage.the-variants as sub
 use Rattle.isolation.specs.Rules.{done, calls, Sub, opens, names}
 use Rattle.sessions.specs.View.{Entry, Local, findIn}
+use Rattle.sessions.specs.Dependants.{dependantIn, hasDependant}
 use Rattle.agent.specs.Local.{touched, full, dropping, handleAt}
 use Rattle.agent.specs.Parents.{handlesNamed}
 use Rattle.moves.specs.Calls.{Call, createTopic, createWriter, createReader, writeData, readData, deleteEntity, Task, creating, writing, reading, deleting}
-use Rattle.agent.specs.RulesObjects.{Move, says, asks, ifHandle, ifHandles, namesOf, createFor, deleteFound}
+use Rattle.agent.specs.RulesObjects.{Move, says, asks, ifHandle, ifHandles, namesOf, createFor, createUnless, drops, deleteFound}
 use Rattle.agent.specs.Rules.{Opening, In, onSubmessage, handle}
 use Rattle.agent.specs.Step.{Tables, Open, chosen, openAs, Ran, keep, act, deliver, run}
 
@@ -55,9 +56,11 @@ module _ (stream number : ℕ) (l : Local) where
   create-room DataWriter parent body e = with-room 5 parent createWriter e (handlesNamed (l .objects) parent)
   create-room DataReader parent body e = with-room 6 parent createReader e (handlesNamed (l .objects) parent)
 
-  limit-room : (k : ObjectKind) (parent : ℕ) (body : List ℕ) (b : Bool) → full number l ≡ b → MoveRoom (cond b (says stream number ErrResources l) (createFor k stream number parent body l))
-  limit-room k parent body true e = tt
-  limit-room k parent body false e = create-room k parent body e
+  limit-room : (k : ObjectKind) (parent : ℕ) (body : List ℕ) (b c : Bool) → full number l ≡ b
+      → MoveRoom (cond b (says stream number ErrResources l) (createUnless c k stream number parent body l))
+  limit-room k parent body true c e = tt
+  limit-room k parent body false true e = tt
+  limit-room k parent body false false e = create-room k parent body e
 
   write-room : (body : List ℕ) (x : Option ℕ) → MoveRoom (ifHandle x (λ h. asks stream number writing (writeData h body) l) (says stream number ErrUnknownRef l))
   write-room body none = tt
@@ -73,10 +76,15 @@ module _ (stream number : ℕ) (l : Local) where
 
   delete-room : (x : Option Entry) → MoveRoom (deleteFound stream number x l)
   delete-room none = tt
-  delete-room (some e) = dropped-room (e .handle)
+  delete-room (some e) = by (dependantIn (l .objects) e)
+    where
+      by : (b : Bool) → MoveRoom (cond b (says stream number ErrIncompatible l) (drops stream number (e .handle) l))
+      by true = tt
+      by false = dropped-room (e .handle)
 
 submessage-room : (m : Submessage) (body : List ℕ) (stream : ℕ) (l : Local) → MoveRoom (onSubmessage m body stream l)
-submessage-room (sub.Create p) body stream l = limit-room stream (p .«object_id» .0) l (p .kind) (p .«parent_id») body (full (p .«object_id» .0) l) refl
+submessage-room (sub.Create p) body stream l =
+    let n = p .«object_id» .0 in limit-room stream n l (p .kind) (p .«parent_id») body (full n l) (hasDependant (l .objects) (findIn (l .objects) n)) refl
 submessage-room (sub.Delete p) body stream l = delete-room stream (p .«object_id» .0) l (findIn (l .objects) (p .«object_id» .0))
 submessage-room (sub.WriteData p) body stream l = write-room stream (p .«writer_id» .0) l body (handleAt (p .«writer_id» .0) l)
 submessage-room (sub.ReadData p) body stream l = read-room stream (p .«reader_id» .0) l (handleAt (p .«reader_id» .0) l)

@@ -7,7 +7,7 @@ use native.Mathlib.Omega.{arith}
 use native.Mathlib.Nat.{zero-add, suc-add}
 use borrow.Author.Tests.{ltb-true, ltb-false, leb-false, eqb-false}
 use lib.Dec.{eqb, leb, ltb}
-use lib.ListN.{length, set, take, drop, replicate, take-append-drop}
+use lib.ListN.{length, getD, set, take, drop, replicate, take-append-drop}
 use Rattle.codec.specs.Reading.{readAt}
 use Rattle.codec.specs.declared.layouts.Parsed.{Parsed}
 use Rattle.codec.specs.declared.refusals.Refusal.the-variants.{OverLimit, SessionFull}
@@ -20,16 +20,17 @@ use Rattle.streams.specs.State.{newStream}
 use Rattle.streams.specs.declared.state.StreamState.{StreamState}
 use Rattle.sessions.specs.Table.{rowOf, namedOf, isFree, keptRows, touchedSession, sessionAt, touchedRows, gotOf}
 use Rattle.sessions.specs.Opening.{after, liveOf, freeFrom, freeOf, openFits, takenAs, chosenOf, createdOf}
-use Rattle.sessions.specs.Objects.{blank, implicitOf, objectPlace, removedRow}
+use Rattle.sessions.specs.Objects.{blank, implicitOf, objectPlace}
 use Rattle.sessions.specs.Room.{roomOf}
 use Rattle.sessions.specs.Streams.{firstStream, streamRow}
-use Rattle.sessions.specs.SessionObjects.{objectRow, withObjectRow, usedOf, objectsNamed, foundObject, storedIn, storedObject, storedObjects, keepStored, removedIn, removedObjects, keepRemoved}
+use Rattle.sessions.specs.SessionObjects.{objectRow, withObjectRow, usedOf, objectsNamed, storedIn, storedObject, storedObjects, keepStored}
+use Rattle.sessions.specs.Removal.{dependedIn, takenObject, removedRow, removedIn, removedObjects, keepRemoved}
 use Rattle.sessions.specs.SessionStreams.{streamsUsed, streamedSession, streamsNamed, isStream, placedAs, placeBy, streamPlace, openedIn, openedCount, writtenIn}
 use Rattle.sessions.specs.Calls.{createTables}
 use Rattle.sessions.specs.View.{Tables}
 use Rattle.sessions.specs.declared.objects.Object.{Object}
-use Rattle.sessions.specs.declared.objects.Found.{Found}
-use Rattle.sessions.specs.declared.objects.Found.the-variants as found
+use Rattle.sessions.specs.declared.objects.Taken.{Taken as Removed}
+use Rattle.sessions.specs.declared.objects.Taken.the-variants as removed
 use Rattle.sessions.specs.declared.objects.Place.{Place}
 use Rattle.sessions.specs.declared.objects.Place.the-variants.{At, Nowhere}
 use Rattle.sessions.specs.declared.objects.Stored.{Stored}
@@ -164,10 +165,11 @@ module _ (id : ℕ) (below : id < 256) where
   count-kept s stored.NotLive = rows-same s
   count-kept s (stored.Refused r) = rows-same s
 
-  less-kept : (s : List (List ℕ)) (x : Found) → Rows s (keepRemoved s id x)
-  less-kept s (found.Held o) = row-set s id _ below
-  less-kept s found.Nothing = rows-same s
-  less-kept s (found.Refused r) = rows-same s
+  less-kept : (s : List (List ℕ)) (x : Removed) → Rows s (keepRemoved s id x)
+  less-kept s (removed.Gone o) = row-set s id _ below
+  less-kept s removed.Depended = rows-same s
+  less-kept s removed.Nothing = rows-same s
+  less-kept s (removed.Refused r) = rows-same s
 
 stored-kept : (s : List (List ℕ)) (o : List Object) (id : ℕ) (x : Object) → RecordsOf id o (storedObjects s o id x)
 unfolding storedObjects
@@ -182,8 +184,18 @@ removed-kept : (s : List (List ℕ)) (o : List Object) (id : ℕ) (n : ObjectNum
 unfolding removedObjects
 removed-kept s o id n = go (objectsNamed s (length o) id)
   where
+    row : List Object
+    row = objectRow o id
+
+    used : ℕ
+    used = usedOf s id
+
     at : (p : Place) → RecordsOf id o (withObjectRow o id (removedRow (objectRow o id) (usedOf s id) p))
-    at (At i) = record-set o id i _
+    at (At i) = by (dependedIn row used (getD row i blank))
+      where
+        by : (b : Bool) → RecordsOf id o (withObjectRow o id (cond b row (set row i (getD row (used - 1) blank))))
+        by true = record-same o id
+        by false = record-set o id i _
     at Nowhere = record-same o id
 
     go : (w : Named) → RecordsOf id o (removedIn w s o id n)
@@ -323,12 +335,14 @@ module _ (id : ℕ) (below : id < 256) where
   room-sessions : (r : Room) (s : List (List ℕ)) (o : List Object) (n : ObjectNumber) (k : ObjectKind) (p : ℕ) → Rows s (roomSessions r s o id n k p)
   room-sessions room.Free s o n k p = created-sessions k s o n p
   room-sessions room.Full s o n k p = rows-same s
+  room-sessions room.Depended s o n k p = rows-same s
   room-sessions room.NotLive s o n k p = rows-same s
   room-sessions (room.Refused x) s o n k p = rows-same s
 
   room-objects : (r : Room) (s : List (List ℕ)) (o : List Object) (n : ObjectNumber) (k : ObjectKind) (p : ℕ) → RecordsOf id o (roomObjects r s o id n k p)
   room-objects room.Free s o n k p = created-objects k s o n p
   room-objects room.Full s o n k p = records-same id o
+  room-objects room.Depended s o n k p = records-same id o
   room-objects room.NotLive s o n k p = records-same id o
   room-objects (room.Refused x) s o n k p = records-same id o
 
@@ -351,7 +365,7 @@ module _ (id : ℕ) (below : id < 256) where
         objects-kept = room-objects room (t .sessions) (t .objects) (q .number) (q .kind) (q .parent);
       }
   handled-kept Deletes q t n = record {
-    sessions-kept = less-kept id below (t .sessions) (foundObject (t .sessions) (t .objects) id (q .number));
+    sessions-kept = less-kept id below (t .sessions) (takenObject (t .sessions) (t .objects) id (q .number));
     streams-kept = streams-same id (t .streams);
     objects-kept = removed-kept (t .sessions) (t .objects) id (q .number);
   }

@@ -11,6 +11,7 @@ use Rattle.codec.specs.declared.submessages.Submessage.{Submessage}
 use Rattle.codec.specs.declared.submessages.Submessage.the-variants.{CreateClient, Create, Delete, Status, WriteData, ReadData, Data, Heartbeat, Acknack}
 use Rattle.isolation.proofs.Provenance.{Fair, Honest}
 use Rattle.sessions.specs.View.{Entry, Local, findIn}
+use Rattle.sessions.specs.Dependants.{dependantIn, hasDependant}
 use Rattle.agent.specs.Local.{touched, full, entryHandle, handleAt}
 use Rattle.agent.specs.Parents.{handlesNamed}
 use Rattle.moves.specs.Calls.{Call, createWriter, createReader, Answer, created, succeeded, sample, noSample, failed, Task, creating, deleting, writing, reading}
@@ -81,12 +82,15 @@ module _ (timeout : ℕ) where
     delete-fair : (stream number : ℕ) (x : Option Entry) → findIn (b .objects) number ≡ x → Good b (deleteFound stream number x l)
     delete-fair stream number none e = kept
     delete-fair stream number (some o) e =
-        handle-fair (o .handle) _ _
-        (λ h q. ((λ y m. drop-held (b .objects) number y m), kept, one-handle b h (find-held (b .objects) number h (rw e q)))) (λ y m. drop-held (b .objects) number y m)
+        either (dependantIn (b .objects) o) _ _ kept
+        (handle-fair (o .handle) _ _
+        (λ h q. ((λ y m. drop-held (b .objects) number y m), kept, one-handle b h (find-held (b .objects) number h (rw e q)))) (λ y m. drop-held (b .objects) number y m))
 
     submessage-fair : (m : Submessage) (body : List ℕ) (stream : ℕ) → Good b (onSubmessage m body stream l)
     submessage-fair (CreateClient p) body stream = kept
-    submessage-fair (Create p) body stream = either (full (p .«object_id» .0) l) _ _ kept (create-fair (p .kind) stream (p .«object_id» .0) (p .«parent_id») body)
+    submessage-fair (Create p) body stream =
+        let n = p .«object_id» .0 in
+        either (full n l) _ _ kept (either (hasDependant (b .objects) (findIn (b .objects) n)) _ _ kept (create-fair (p .kind) stream n (p .«parent_id») body))
     submessage-fair (Delete p) body stream = delete-fair stream (p .«object_id» .0) (findIn (b .objects) (p .«object_id» .0)) refl
     submessage-fair (Status p) body stream = kept
     submessage-fair (WriteData p) body stream = let n = p .«writer_id» .0 in handle-fair (handleAt n l) _ _ (λ h e. (kept, kept, one-handle b h (find-held (b .objects) n h e))) kept

@@ -22,6 +22,7 @@ use Rattle.codec.specs.declared.submessages.Submessage.the-variants.{CreateClie
 use Rattle.streams.specs.Received.{bitmapOf}
 use Rattle.isolation.specs.Rules.{done, calls, Sub, opens, names}
 use Rattle.sessions.specs.View.{Entry, KeptStream, Local, findIn, streamIn}
+use Rattle.sessions.specs.Dependants.{dependantIn, hasDependant}
 use Rattle.agent.specs.Local.{full, touched, opening, handleAt}
 use Rattle.agent.specs.Parents.{handlesNamed}
 use Rattle.moves.specs.Calls.{Call, fits}
@@ -156,7 +157,8 @@ either-short false x y p q = q
 
 delete-short : (stream number : ℕ) (x : Option Entry) (l : Local) → Short (deleteFound stream number x l)
 delete-short stream number none l = says-short (l .id) stream number _
-delete-short stream number (some e) l = handle-short (e .handle) _ _ (λ h. nothing-short) (says-short (l .id) stream number _)
+delete-short stream number (some e) l =
+    either-short (dependantIn (l .objects) e) _ _ (says-short (l .id) stream number _) (handle-short (e .handle) _ _ (λ h. nothing-short) (says-short (l .id) stream number _))
 
 acknack-short : (session first last : ℕ) (x : Option KeptStream) → size (acknackFrom session first last x) ≤ 12
 acknack-short session first last none = nothing-short
@@ -164,7 +166,10 @@ acknack-short session first last (some s) = let e = acknack-long session (s .num
 
 pub submessage-short : (m : Submessage) (body : List ℕ) (stream : ℕ) (l : Local) → Short (onSubmessage m body stream l)
 submessage-short (CreateClient p) body stream l = nothing-short
-submessage-short (Create p) body stream l = either-short (full (p .«object_id» .0) l) _ _ (says-short (l .id) stream (p .«object_id» .0) _) (create-short (p .kind) stream (p .«object_id» .0) (p .«parent_id») body l)
+submessage-short (Create p) body stream l =
+    let n = p .«object_id» .0 in
+    either-short (full n l) _ _ (says-short (l .id) stream n _)
+    (either-short (hasDependant (l .objects) (findIn (l .objects) n)) _ _ (says-short (l .id) stream n _) (create-short (p .kind) stream n (p .«parent_id») body l))
 submessage-short (Delete p) body stream l = delete-short stream (p .«object_id» .0) (findIn (l .objects) (p .«object_id» .0)) l
 submessage-short (Status p) body stream l = nothing-short
 submessage-short (WriteData p) body stream l = handle-short (handleAt (p .«writer_id» .0) l) _ _ (λ h. nothing-short) (says-short (l .id) stream (p .«writer_id» .0) _)

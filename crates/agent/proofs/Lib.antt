@@ -28,6 +28,8 @@ pub mod WholeInStep
 pub mod WireNumbers
 pub mod Planned
 pub mod Promised
+pub mod OwnRank
+pub mod TakeDown
 pub mod Back
 pub mod Frame
 pub mod Judged

@@ -12,10 +12,11 @@ use Rattle.codec.specs.declared.submessages.ObjectKind.the-variants.{Participan
 use Rattle.codec.specs.declared.submessages.StatusCode.the-variants.{ErrInvalidData, ErrResources}
 use Rattle.isolation.proofs.Simulation.{none-some}
 use Rattle.sessions.specs.View.{Entry, Local, findIn}
+use Rattle.sessions.specs.Dependants.{hasDependant}
 use Rattle.moves.specs.Calls.{Call, createWriter, createReader, creating}
 use Rattle.agent.specs.Local.{entryHandle}
 use Rattle.agent.specs.Parents.{ofKind, bothHandles, handlesAbove, handlesNamed}
-use Rattle.agent.specs.RulesObjects.{Move, says, asks, ifHandles, createWith, createFor, onCreate}
+use Rattle.agent.specs.RulesObjects.{Move, says, asks, ifHandles, createWith, createFor, createUnless, onCreate}
 use Rattle.agent.specs.Follows.{Follows, MadeBy, FollowsExactly}
 
 -- ---- one object held with its kind
@@ -102,11 +103,14 @@ module _ (kind : ObjectKind) (stream number parent : ℕ) (call : ℕ → ℕ �
 exactly : (kind : ObjectKind) (call : ℕ → ℕ → Call)
     → ((stream number parent : ℕ) (body : List ℕ) (l : Local) → createFor kind stream number parent body l ≡ createWith kind stream number parent call l)
     → MadeBy kind call
-exactly kind call is stream number parent body l e =
+exactly kind call is stream number parent body l e u =
     (λ p t f. within ∙ called kind stream number parent call l p t f, λ never. within ∙ uncalled kind stream number parent call l never)
   where
     within : onCreate kind stream number parent body l ≡ createWith kind stream number parent call l
-    within = ap (λ (b : Bool). cond b (says stream number ErrResources l) (createFor kind stream number parent body l)) e ∙ is stream number parent body l
+    within =
+        ap (λ (b : Bool). cond b (says stream number ErrResources l) (createUnless (hasDependant (l .objects) (findIn (l .objects) number)) kind stream number parent body l)) e
+        ∙ ap (λ (b : Bool). createUnless b kind stream number parent body l) u
+        ∙ is stream number parent body l
 
 pub follows-exactly : FollowsExactly
 follows-exactly =

@@ -48,6 +48,7 @@ module _ (t : Tables) (sound : SoundTables Sound t) (id : ℕ) (id< : id < 256) 
       by DataWriter = stays-led
       by DataReader = stays-led
   create-led p room.Full = stays-led
+  create-led p room.Depended = stays-led
   create-led p room.NotLive = stays-led
   create-led p (room.Refused x) = stays-led
 

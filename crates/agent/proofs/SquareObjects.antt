@@ -7,7 +7,7 @@ use mathlib.Core.List.{List}
 use native.Mathlib.Omega.{arith}
 use borrow.Author.Tests.{lt-leb, le-leb, leb-false, ltb-true, ltb-false}
 use lib.Dec.{eqb, leb, ltb}
-use lib.ListN.{length}
+use lib.ListN.{length, getD}
 use Rattle.codec.specs.Reading.{partOf}
 use Rattle.codec.specs.Submessages.{kindByte}
 use Rattle.codec.specs.declared.layouts.Span.{Span}
@@ -18,15 +18,16 @@ use Rattle.codec.specs.declared.submessages.ObjectNumber.{ObjectNumber}
 use Rattle.codec.specs.declared.submessages.DeletePayload.{DeletePayload}
 use Rattle.codec.specs.declared.submessages.ReadDataPayload.{ReadDataPayload}
 use Rattle.codec.specs.declared.submessages.WriteDataPayload.{WriteDataPayload}
-use Rattle.codec.specs.declared.submessages.StatusCode.the-variants.{Ok, ErrUnknownRef, ErrInvalidData, ErrResources}
+use Rattle.codec.specs.declared.submessages.StatusCode.the-variants.{Ok, ErrUnknownRef, ErrInvalidData, ErrIncompatible, ErrResources}
 use Rattle.codec.specs.declared.submessages.Submessage.the-variants as sub
 use Rattle.streams.specs.View.{Sound}
-use Rattle.isolation.proofs.Simulation.{none-some}
 use Rattle.sessions.specs.Table.{isFree, sessionAt}
-use Rattle.sessions.specs.Objects.{handleOf, implicitOf, objectPlace, foundOf, slotOf}
+use Rattle.sessions.specs.Objects.{blank, handleOf, implicitOf, objectPlace, foundOf, slotOf}
 use Rattle.sessions.specs.SessionObjects.{objectRow, usedOf, foundObject}
+use Rattle.sessions.specs.Dependants.{dependantIn, hasDependant}
+use Rattle.sessions.specs.Removal.{removeIn, dependedIn, takenOf, takenObject, dependedFound}
 use Rattle.sessions.specs.Room.{roomFor, roomOf}
-use Rattle.sessions.specs.View.{Tables, Entry, Local, entryOf, placeIn, heldAt, findIn, putIn, dropAt, dropIn}
+use Rattle.sessions.specs.View.{Tables, Entry, Local, entryOf, blankEntry, placeIn, heldAt, findIn, putIn, dropAt}
 use Rattle.sessions.specs.Calls.{SoundTables, putTables}
 use Rattle.sessions.specs.declared.objects.Found.{Found}
 use Rattle.sessions.specs.declared.objects.Found.the-variants as found
@@ -34,16 +35,18 @@ use Rattle.sessions.specs.declared.objects.Handle.{Handle}
 use Rattle.sessions.specs.declared.objects.Object.{Object}
 use Rattle.sessions.specs.declared.objects.ObjectHandle.{ObjectHandle}
 use Rattle.sessions.specs.declared.objects.ObjectHandle.the-variants.{Bridged, Implicit}
+use Rattle.sessions.specs.declared.objects.Taken.{Taken}
+use Rattle.sessions.specs.declared.objects.Taken.the-variants as taken
 use Rattle.sessions.specs.declared.objects.Place.{Place}
 use Rattle.sessions.specs.declared.objects.Place.the-variants.{At, Nowhere}
 use Rattle.sessions.specs.declared.room.Room.{Room}
 use Rattle.sessions.specs.declared.room.Room.the-variants as room
 use Rattle.sessions.specs.declared.table.Named.the-variants.{Live}
 use Rattle.sessions.proofs.ObjectSearch.{Under, place-under, place-shown}
-use Rattle.sessions.proofs.ViewObjects.{entryFound, listed-length}
+use Rattle.sessions.proofs.ViewObjects.{entryFound, listed-length, listed-at}
 use Rattle.sessions.proofs.ViewStores as stores
 use Rattle.sessions.proofs.ViewStores.{fits, find-view, put-here, put-elsewhere, drop-here, drop-elsewhere}
-use Rattle.sessions.proofs.session_objects.Laws.{found-is}
+use Rattle.sessions.proofs.session_objects.Laws.{found-is, taken-is, depended-is}
 use Rattle.moves.specs.Calls.{Call, createTopic, createWriter, createReader, writeData, readData, deleteEntity, creating, writing, reading, deleting}
 use Rattle.agent.specs.Local.{withObjects, noPlace, full, listing, dropping, entryHandle, handleAt}
 use Rattle.agent.specs.Parents.{ofKind, bothHandles, handlesAbove, handlesNamed}
@@ -51,7 +54,7 @@ use Rattle.moves.specs.Names.{namesIn}
 use Rattle.moves.specs.Moves.{foundHandle, handleOfKind, parentOf, topicBy, endpointCall, endpointFor, writeBy, readBy, writeMove, readMove, droppedMove, deleteMove}
 use Rattle.moves.specs.Proxy.{callAs}
 use Rattle.moves.specs.Rows.{endpointIn, createMove, createdSessions, createdObjects, roomMove, roomSessions, roomObjects}
-use Rattle.agent.specs.RulesObjects.{Move, Names, says, asks, ifHandle, ifHandles, namesOf, createWith, createFor, onCreate, deleteFound, onDelete, onWrite, onRead}
+use Rattle.agent.specs.RulesObjects.{Move, Names, says, asks, ifHandle, ifHandles, namesOf, createWith, createFor, onCreate, drops, deleteFound, onDelete, onWrite, onRead}
 use Rattle.moves.specs.declared.moves.Move as code
 use Rattle.moves.specs.declared.moves.Move.the-variants.{Status}
 use Rattle.agent.proofs.NameParts.{names-same}
@@ -152,47 +155,7 @@ module _ (t : Tables) (sound : SoundTables Sound t) (id : ℕ) (id< : id < 256) 
       (ap (λ (h : Option ℕ). ifHandle h (λ x. asks n (number .0) reading (readData x) l) (says n (number .0) ErrUnknownRef l)) (handle-view number)
       ∙ read-moves number (foundHandle (foundAt number)))
 
-  -- ---- DELETE
-
-  -- of a number that is not held nothing is dropped
-  none-dropped : (number : ℕ) → findIn (l .objects) number ≡ none → dropping number l ≡ l
-  none-dropped number e = by (placeIn (l .objects) number) e
-    where
-      by : (p : Place) → heldAt (l .objects) p ≡ none → withObjects l (dropAt (l .objects) p) ≡ l
-      by (At i) e = absurd (none-some (sym e))
-      by Nowhere e = refl
-
-  delete-moves : (number : ObjectNumber) (f : Found) → entryFound f ≡ findIn (l .objects) (number .0)
-      → onDelete n (number .0) l ≡ outcome d id n (dropping (number .0) l) (deleteMove number f)
-  delete-moves number f e = ap (λ (x : Option Entry). deleteFound n (number .0) x l) (sym e) ∙ by f e
-    where
-      left : Local
-      left = dropping (number .0) l
-
-      has : (h : ObjectHandle) → ifHandle (handleShown h) (λ x. asks n (number .0) deleting (deleteEntity x) left) (says n (number .0) Ok left) ≡ outcome d id n left (droppedMove number h)
-      has (Bridged h) = refl
-      has Implicit = refl
-
-      unknown : none ≡ findIn (l .objects) (number .0) → says n (number .0) ErrUnknownRef l ≡ outcome d id n left (Status number ErrUnknownRef)
-      unknown e = ap (λ (x : Local). outcome d id n x (Status number ErrUnknownRef)) (sym (none-dropped (number .0) (sym e)))
-
-      by : (f : Found) → entryFound f ≡ findIn (l .objects) (number .0) → deleteFound n (number .0) (entryFound f) l ≡ outcome d id n left (deleteMove number f)
-      by (found.Held o) e = ap (λ (h : Option ℕ). ifHandle h (λ x. asks n (number .0) deleting (deleteEntity x) left) (says n (number .0) Ok left)) (sym (own-shown o)) ∙ has (handleOf o)
-      by found.Nothing e = unknown e
-      by (found.Refused r) e = unknown e
-
-  pub delete-square : (p : DeletePayload) → Squares (sub.Delete p) t d id n body
-  delete-square p =
-      let number = p .«object_id» in
-      let reached = reach-objects t sound id id< live in
-      record {
-        after = dropping (number .0) l;
-        shows = drop-here t id id< reached number ∙ ap (stores.withObjects (dropIn (l .objects) (number .0))) (shown-live t id live);
-        moves = delete-moves number (foundAt number) (find-view t id id< reached number);
-        elsewhere = drop-elsewhere t id id< reached number;
-      }
-
-  -- ---- CREATE
+  -- ---- the row
 
   abbrev row : List Object
   row = objectRow (t .objects) id
@@ -206,20 +169,88 @@ module _ (t : Tables) (sound : SoundTables Sound t) (id : ℕ) (id< : id < 256) 
   place-view : (number : ObjectNumber) → objectPlace row used number ≡ placeIn (l .objects) (number .0)
   place-view number = place-shown row number used (fits t id id< (reach-objects t sound id id< live))
 
-  room-view : (number : ObjectNumber) → roomOf (t .sessions) (t .objects) id number ≡ cond (full (number .0) l) room.Full room.Free
+  -- the object at a place, as the list has it
+  entry-at : (k : ℕ) → k < used → getD (l .objects) k blankEntry ≡ entryOf (getD row k blank)
+  entry-at k h = listed-at row used (fits t id id< (reach-objects t sound id id< live)) k h
+
+  -- ---- DELETE
+
+  -- what is left
+  abbrev removing : ℕ → Local
+  removing number = withObjects l (removeIn (l .objects) number)
+
+  delete-at : (number : ObjectNumber) (p : Place) → placeIn (l .objects) (number .0) ≡ p → Under used p
+      → deleteFound n (number .0) (heldAt (l .objects) p) l
+      ≡ outcome d id n (withObjects l (cond (hasDependant (l .objects) (heldAt (l .objects) p)) (l .objects) (dropAt (l .objects) p))) (deleteMove number (takenOf row used p))
+  delete-at number (At k) q h =
+      ap (λ (e : Entry). deleteFound n (number .0) (some e) l) (entry-at k h)
+      ∙ by (dependedIn row used x)
+      ∙ ap (λ (e : Entry). outcome d id n (withObjects l (cond (dependantIn (l .objects) e) (l .objects) (dropAt (l .objects) (At k)))) (deleteMove number (takenOf row used (At k)))) (sym (entry-at k h))
+    where
+      x : Object
+      x = getD row k blank
+
+      left : Local
+      left = withObjects l (dropAt (l .objects) (At k))
+
+      dropped : dropping (number .0) l ≡ left
+      dropped = ap (λ (p : Place). withObjects l (dropAt (l .objects) p)) q
+
+      has : (h : ObjectHandle) → ifHandle (handleShown h) (λ x. asks n (number .0) deleting (deleteEntity x) left) (says n (number .0) Ok left) ≡ outcome d id n left (droppedMove number h)
+      has (Bridged h) = refl
+      has Implicit = refl
+
+      by : (b : Bool)
+          → cond b (says n (number .0) ErrIncompatible l) (drops n (number .0) (entryOf x .handle) l)
+          ≡ outcome d id n (withObjects l (cond b (l .objects) (dropAt (l .objects) (At k)))) (deleteMove number (cond b taken.Depended (taken.Gone x)))
+      by true = refl
+      by false =
+          ap (λ (m : Local). ifHandle (entryOf x .handle) (λ h. asks n (number .0) deleting (deleteEntity h) m) (says n (number .0) Ok m)) dropped
+          ∙ ap (λ (h : Option ℕ). ifHandle h (λ h. asks n (number .0) deleting (deleteEntity h) left) (says n (number .0) Ok left)) (sym (own-shown x))
+          ∙ has (handleOf x)
+  delete-at number Nowhere q h = refl
+
+  delete-moves : (number : ObjectNumber) → onDelete n (number .0) l ≡ outcome d id n (removing (number .0)) (deleteMove number (takenObject (t .sessions) (t .objects) id number))
+  delete-moves number =
+      delete-at number (placeIn (l .objects) (number .0)) refl (subst (Under used) (place-view number) (place-under row number used))
+      ∙ ap (λ (p : Place). outcome d id n (removing (number .0)) (deleteMove number (takenOf row used p))) (sym (place-view number))
+      ∙ ap (λ (x : Taken). outcome d id n (removing (number .0)) (deleteMove number x)) (taken-is (t .sessions) (t .objects) id number Live (reach-objects t sound id id< live))
+
+  pub delete-square : (p : DeletePayload) → Squares (sub.Delete p) t d id n body
+  delete-square p =
+      let number = p .«object_id» in
+      let reached = reach-objects t sound id id< live in
+      record {
+        after = removing (number .0);
+        shows = drop-here t id id< reached number ∙ ap (stores.withObjects (removeIn (l .objects) (number .0))) (shown-live t id live);
+        moves = delete-moves number;
+        elsewhere = drop-elsewhere t id id< reached number;
+      }
+
+  -- ---- CREATE
+
+  -- where there is room: not past the count, and no dependant of the object that has the number
+  abbrev roomBy : Bool → Bool → Room
+  roomBy past depended = cond past room.Full (cond depended room.Depended room.Free)
+
+  room-view : (number : ObjectNumber) → roomOf (t .sessions) (t .objects) id number ≡ roomBy (full (number .0) l) (hasDependant (l .objects) (findIn (l .objects) (number .0)))
   unfolding roomOf
   room-view number =
-      ap (λ (f : Found). roomFor f (sessionAt (t .sessions) id)) (sym (found-is (t .sessions) (t .objects) id number Live (reach-objects t sound id id< live)))
-      ∙ by (objectPlace row used number)
-      ∙ ap (λ (p : Place). cond (noPlace (heldAt (l .objects) p) (l .objects)) room.Full room.Free) (place-view number)
+      ap (λ (f : Found). roomFor f (dependedFound (t .sessions) (t .objects) id f) (sessionAt (t .sessions) id)) (sym (found-is (t .sessions) (t .objects) id number Live (reach-objects t sound id id< live)))
+      ∙ by (objectPlace row used number) (place-under row number used)
+      ∙ ap (λ (p : Place). roomBy (noPlace (heldAt (l .objects) p) (l .objects)) (hasDependant (l .objects) (heldAt (l .objects) p))) (place-view number)
     where
       count : (b : Bool) → ltb used 32 ≡ b → cond b room.Free room.Full ≡ cond (leb 32 (length (l .objects))) room.Full room.Free
       count true e = rw (lt-leb 32 (length (l .objects)) (rw count-shown (ltb-true used 32 e))) refl
       count false e = rw (le-leb 32 (length (l .objects)) (rw count-shown (ltb-false used 32 e))) refl
 
-      by : (p : Place) → roomFor (foundOf row p) (sessionAt (t .sessions) id) ≡ cond (noPlace (heldAt (l .objects) p) (l .objects)) room.Full room.Free
-      by (At i) = refl
-      by Nowhere = ap (λ (b : Bool). cond b room.NotLive (cond (ltb used 32) room.Free room.Full)) live ∙ count (ltb used 32) refl
+      by : (p : Place) → Under used p
+          → roomFor (foundOf row p) (dependedFound (t .sessions) (t .objects) id (foundOf row p)) (sessionAt (t .sessions) id)
+          ≡ roomBy (noPlace (heldAt (l .objects) p) (l .objects)) (hasDependant (l .objects) (heldAt (l .objects) p))
+      by (At i) h =
+          ap (λ (b : Bool). cond b room.Depended room.Free)
+          (sym (depended-is (t .sessions) (t .objects) id (getD row i blank) Live (reach-objects t sound id id< live)) ∙ ap (λ (e : Entry). dependantIn (l .objects) e) (sym (entry-at i h)))
+      by Nowhere h = ap (λ (b : Bool). cond b room.NotLive (cond (ltb used 32) room.Free room.Full)) live ∙ count (ltb used 32) refl
 
   -- where there is room, the object has a place in the row
   pub slot-in : (number : ObjectNumber) → full (number .0) l ≡ false → slotOf (objectPlace row used number) used < 32
@@ -310,9 +341,10 @@ module _ (t : Tables) (sound : SoundTables Sound t) (id : ℕ) (id< : id < 256) 
     pub create-square : Squares (sub.Create p) t d id n body
     create-square =
         subst (λ (r : Room). Meets t d id n (onCreate (p .kind) n (number .0) (p .«parent_id») (partOf d body) l) (roomTables r) (roomMove r (t .sessions) (t .objects) d id number (p .kind) (p .«parent_id») body))
-        (sym (room-view number)) (by (full (number .0) l) refl)
+        (sym (room-view number)) (by (full (number .0) l) (hasDependant (l .objects) (findIn (l .objects) (number .0))) refl)
       where
-        by : (b : Bool) → full (number .0) l ≡ b
-            → Meets t d id n (cond b (says n (number .0) ErrResources l) rule) (roomTables (cond b room.Full room.Free)) (roomMove (cond b room.Full room.Free) (t .sessions) (t .objects) d id number (p .kind) (p .«parent_id») body)
-        by true e = stays _ _ refl
-        by false e = free-square (p .kind) e
+        by : (b c : Bool) → full (number .0) l ≡ b
+            → Meets t d id n (cond b (says n (number .0) ErrResources l) (cond c (says n (number .0) ErrIncompatible l) rule)) (roomTables (roomBy b c)) (roomMove (roomBy b c) (t .sessions) (t .objects) d id number (p .kind) (p .«parent_id») body)
+        by true c e = stays _ _ refl
+        by false true e = stays _ _ refl
+        by false false e = free-square (p .kind) e

@@ -35,11 +35,12 @@ use Rattle.codec.proofs.reading.Laws.{payload-unlisted, payload-under, payload-
 use Rattle.sessions.specs.Opening.{createdOf}
 use Rattle.sessions.specs.Room.{roomOf}
 use Rattle.sessions.specs.SessionObjects.{foundObject}
+use Rattle.sessions.specs.Removal.{takenObject}
 use Rattle.sessions.specs.Objects.{handleOf}
 use Rattle.sessions.specs.Table.{namedOf}
 use Rattle.sessions.specs.View.{Tables}
-use Rattle.sessions.specs.declared.objects.Found.{Found}
-use Rattle.sessions.specs.declared.objects.Found.the-variants as found
+use Rattle.sessions.specs.declared.objects.Taken.{Taken as Removed}
+use Rattle.sessions.specs.declared.objects.Taken.the-variants as removed
 use Rattle.sessions.specs.declared.objects.Object.{Object}
 use Rattle.sessions.specs.declared.objects.ObjectHandle.{ObjectHandle}
 use Rattle.sessions.specs.declared.objects.ObjectHandle.the-variants.{Bridged, Implicit}
@@ -175,6 +176,7 @@ create-brief kind.DataReader s o d id number parent body = fetched-brief s o id 
 room-brief : (x : Room) (s : List (List ℕ)) (o : List Object) (d : List ℕ) (id : ℕ) (number : ObjectNumber) (k : ObjectKind) (parent : ℕ) (body : Span) → Brief (roomMove x s o d id number k parent body)
 room-brief room.Free s o d id number k parent body = create-brief k s o d id number parent body
 room-brief room.Full s o d id number k parent body = omega arith
+room-brief room.Depended s o d id number k parent body = omega arith
 room-brief room.NotLive s o d id number k parent body = tt
 room-brief (room.Refused r) s o d id number k parent body = tt
 
@@ -182,10 +184,11 @@ dropped-brief : (number : ObjectNumber) (h : ObjectHandle) → Brief (droppedMov
 dropped-brief number (Bridged h) = tt
 dropped-brief number Implicit = omega arith
 
-delete-brief : (number : ObjectNumber) (f : Found) → Brief (deleteMove number f)
-delete-brief number (found.Held o) = dropped-brief number (handleOf o)
-delete-brief number found.Nothing = omega arith
-delete-brief number (found.Refused r) = omega arith
+delete-brief : (number : ObjectNumber) (x : Removed) → Brief (deleteMove number x)
+delete-brief number (removed.Gone o) = dropped-brief number (handleOf o)
+delete-brief number removed.Depended = omega arith
+delete-brief number removed.Nothing = omega arith
+delete-brief number (removed.Refused r) = omega arith
 
 write-brief : (number : ObjectNumber) (body : Span) (h : ObjectHandle) → Brief (writeBy number body h)
 write-brief number body (Bridged w) = tt
@@ -215,7 +218,7 @@ mostFor Neither = 11
 
 pub handled-most : (g : Group) (q : Asked) (t : Tables) (d : List ℕ) (id n : ℕ) (body : Span) → Most (mostFor g) (handledBy g q t d id n body)
 handled-most Creates q t d id n body = room-brief (roomOf (t .sessions) (t .objects) id (q .number)) (t .sessions) (t .objects) d id (q .number) (q .kind) (q .parent) body
-handled-most Deletes q t d id n body = delete-brief (q .number) (foundObject (t .sessions) (t .objects) id (q .number))
+handled-most Deletes q t d id n body = delete-brief (q .number) (takenObject (t .sessions) (t .objects) id (q .number))
 handled-most Writes q t d id n body = write-brief (q .number) body (foundHandle (foundObject (t .sessions) (t .objects) id (q .number)))
 handled-most Reads q t d id n body = read-brief (q .number) (foundHandle (foundObject (t .sessions) (t .objects) id (q .number)))
 handled-most Streams q t d id n body =

@@ -9,6 +9,7 @@ use Rattle.codec.specs.declared.submessages.ObjectKind.{ObjectKind}
 use Rattle.codec.specs.declared.submessages.ObjectKind.the-variants.{Participant, Topic, DataWriter, DataReader}
 use Rattle.codec.specs.declared.submessages.StatusCode.the-variants.{ErrInvalidData}
 use Rattle.sessions.specs.View.{Entry, Local, findIn}
+use Rattle.sessions.specs.Dependants.{hasDependant}
 use Rattle.moves.specs.Calls.{Call, createWriter, createReader, creating}
 use Rattle.agent.specs.Local.{full}
 use Rattle.agent.specs.RulesObjects.{says, asks, onCreate}
@@ -24,11 +25,12 @@ pub record Follows (es : List Entry) (parent participantHandle topicHandle : ℕ
   pub participant-kind : participant .kind ≡ kindByte Participant
   pub participant-handle : participant .handle ≡ some participantHandle
 
--- Within the object limit the call has the handles of these two; "If either isn't held with that kind, the answer is ERR_INVALID_DATA without a call."
+-- Within the object limit, and where nothing depends on an object of that number (W3), the call has the handles of these two; "If either isn't held with that kind, the answer is ERR_INVALID_DATA without a call."
 abbrev pub MadeBy : ObjectKind → (ℕ → ℕ → Call) → Type 0
 MadeBy kind call =
     (stream number parent : ℕ) (body : List ℕ) (l : Local)
     → full number l ≡ false
+    → hasDependant (l .objects) (findIn (l .objects) number) ≡ false
     → ((p t : ℕ) → Follows (l .objects) parent p t → onCreate kind stream number parent body l ≡ asks stream number (creating (kindByte kind) parent) (call p t) l)
     × (((p t : ℕ) → Follows (l .objects) parent p t → ⊥) → onCreate kind stream number parent body l ≡ says stream number ErrInvalidData l)
 

@@ -1,4 +1,4 @@
--- The host's calls over the lent tables: what the contracts of the five entry points are equal to.
+-- The host's calls over the lent tables: what the contracts of the entry points are equal to. That of the listing cites sessions' `listOf` and `listOut`.
 use Prim.Native.Nat.{ℕ, _+_, _-_, _/_}
 use mathlib.Core.Bool.{Bool, true, false, cond}
 use mathlib.Core.List.{List, [], _++_}
@@ -160,7 +160,7 @@ processedBy (judged.Refused r) a t out d sample = refuse a t out r
 unfoldable pub processOf : Agent → Tables → List ℕ → List ℕ → List ℕ → Input → Leaves
 processOf a t out d sample i = processedBy (judgeOf t d a i (length sample)) a t out d sample
 
--- ---- the five entry points
+-- ---- the entry points
 
 abbrev pub setUpAs : SetUp → ℕ → ℕ → AgentSetUp
 setUpAs (setup.Ready next) max timeout = ready.Ready (record { «max_clients» = max; «timeout_ms» = timeout; next = next; waits = waiting.Nothing })

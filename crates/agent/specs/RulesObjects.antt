@@ -1,6 +1,6 @@
 -- CREATE, DELETE, WRITE_DATA and READ_DATA, on the tables of a session that was just touched. `stream` is the header's.
 use Prim.Native.Nat.{ℕ, _+_}
-use mathlib.Core.Bool.{cond}
+use mathlib.Core.Bool.{Bool, cond}
 use mathlib.Core.Option.{Option, none, some}
 use mathlib.Core.List.{List, [], _∷_}
 use Rattle.codec.specs.Reading.{partOf}
@@ -12,9 +12,10 @@ use Rattle.codec.specs.declared.strings.StringRead.the-variants as string
 use Rattle.codec.specs.declared.submessages.ObjectKind.{ObjectKind}
 use Rattle.codec.specs.declared.submessages.ObjectKind.the-variants.{Participant, Topic, Publisher, Subscriber, DataWriter, DataReader}
 use Rattle.codec.specs.declared.submessages.StatusCode.{StatusCode}
-use Rattle.codec.specs.declared.submessages.StatusCode.the-variants.{Ok, ErrUnknownRef, ErrInvalidData, ErrResources}
+use Rattle.codec.specs.declared.submessages.StatusCode.the-variants.{Ok, ErrUnknownRef, ErrInvalidData, ErrIncompatible, ErrResources}
 use Rattle.isolation.specs.Rules.{Bytes, Outcome, done, calls}
 use Rattle.sessions.specs.View.{Entry, Local, findIn}
+use Rattle.sessions.specs.Dependants.{dependantIn, hasDependant}
 use Rattle.agent.specs.Local.{listing, dropping, full, handleAt}
 use Rattle.moves.specs.Calls.{Call, createParticipant, createTopic, createWriter, createReader, writeData, readData, deleteEntity, Task, creating, writing, reading, deleting, Pending}
 use Rattle.moves.specs.Replies.{statusBytes}
@@ -80,16 +81,26 @@ createFor Subscriber stream number parent body l = says stream number Ok (listin
 createFor DataWriter stream number parent body l = createWith DataWriter stream number parent createWriter l
 createFor DataReader stream number parent body l = createWith DataReader stream number parent createReader l
 
--- "CREATE of a 33rd number answers ERR_RESOURCES before any lookup or call."
+-- W3: a CREATE of the number of an object that has a dependant "answers ERR_INCOMPATIBLE without a bridge call and keeps it"
+abbrev pub createUnless : Bool → ObjectKind → ℕ → ℕ → ℕ → List ℕ → Local → Move
+createUnless depended kind stream number parent body l = cond depended (says stream number ErrIncompatible l) (createFor kind stream number parent body l)
+
+-- "CREATE of a 33rd number answers ERR_RESOURCES before any lookup or call."; W3 "comes after the count of objects and before any lookup"
 abbrev pub onCreate : ObjectKind → ℕ → ℕ → ℕ → List ℕ → Local → Move
-onCreate kind stream number parent body l = cond (full number l) (says stream number ErrResources l) (createFor kind stream number parent body l)
+onCreate kind stream number parent body l =
+    cond (full number l) (says stream number ErrResources l)
+    (createUnless (hasDependant (l .objects) (findIn (l .objects) number)) kind stream number parent body l)
 
 -- ---- DELETE, WRITE_DATA and READ_DATA "take an object of any kind"; "unknown objects ERR_UNKNOWN_REF"
 
 -- "DELETE drops its object before its call."; of a Publisher or Subscriber it "answers OK without a call"
+abbrev pub drops : ℕ → ℕ → Option ℕ → Local → Move
+drops stream number handle l = ifHandle handle (λ h. asks stream number deleting (deleteEntity h) (dropping number l)) (says stream number Ok (dropping number l))
+
+-- W3: an object that has a dependant stays
 abbrev pub deleteFound : ℕ → ℕ → Option Entry → Local → Move
 deleteFound stream number none l = says stream number ErrUnknownRef l
-deleteFound stream number (some e) l = ifHandle (e .handle) (λ h. asks stream number deleting (deleteEntity h) (dropping number l)) (says stream number Ok (dropping number l))
+deleteFound stream number (some e) l = cond (dependantIn (l .objects) e) (says stream number ErrIncompatible l) (drops stream number (e .handle) l)
 
 abbrev pub onDelete : ℕ → ℕ → Local → Move
 onDelete stream number l = deleteFound stream number (findIn (l .objects) number) l

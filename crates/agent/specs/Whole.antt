@@ -1,4 +1,4 @@
--- The agent that a host calls, as `isolation` speaks of one: the record and the lent tables, and what the five entry points do to them,
+-- The agent that a host calls, as `isolation` speaks of one: the record and the lent tables, and what the entry points do to them, but for the listing, which changes nothing,
 -- by the very definitions that their contracts cite.
 use Prim.Native.Nat.{ℕ, _<_}
 use mathlib.Core.Bool.{true, false}

@@ -1,5 +1,5 @@
-// The host's five entry points. A datagram and an answer take the `Agent` by value and hand it back, a removal and a sweep leave
-// it as it is; tables and output are lent, and a refused call changes neither.
+// The host's six entry points. A datagram and an answer take the `Agent` by value and hand it back, a removal and a sweep leave
+// it as it is, a listing needs none; tables and output are lent, and a refused call changes neither.
 use crate::judge::Input;
 use crate::judge::sound_record;
 use crate::process::Processed;
@@ -9,6 +9,8 @@ use crate::state::Waiting;
 use codec::bytes::Written;
 use codec::refusals::Refusal;
 use moves::proxy::BridgeAnswer;
+use sessions::object_list;
+use sessions::object_list::Listed;
 use sessions::objects::Object;
 use sessions::setup::SetUp;
 use sessions::setup::set_up;
@@ -21,6 +23,7 @@ ghost use mathlib.Core.Path.{_≡_};
 ghost use lib.ListN.{length};
 ghost use Rattle.sessions.specs.Setup.{setUpOf};
 ghost use Rattle.sessions.specs.Calls.{setUpTables};
+ghost use Rattle.sessions.specs.ObjectList.{listOf, listOut};
 ghost use Rattle.moves.specs.Rows.{lent};
 ghost use Rattle.agent.specs.Host.{setUpAs, incomingOf, answerOf, idleOf, removedAs, removedBy, removedRows, sweptBy, sweptRows, sweptOut};
 
@@ -189,4 +192,13 @@ pub fn evict_expired(
         Idle::Free => sweep::evict_expired(sessions, time, agent.timeout_ms, out),
         Idle::Refused(x) => Written::Refused(x),
     }
+}
+
+// The listing of a session (document 02, W3): the numbers of its objects, dependants before what they depend on, at the start of the output. It
+// only reads, so that it is never out of turn.
+pub fn list_objects(sessions: &[SessionRow], objects: &[Object], out: &mut [u16], id: u8) -> Listed
+    ensures { λ r. ⌜ (r ≡ listOf (now (sessions .entry)) (now (objects .entry)) id (now (out .entry)))
+        × (now (out .exit) ≡ listOut (now (sessions .entry)) (now (objects .entry)) id (now (out .entry))) ⌝ }
+{
+    object_list::list_objects(sessions, objects, id, out)
 }

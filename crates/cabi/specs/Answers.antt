@@ -4,6 +4,8 @@ use Rattle.codec.specs.Refusals.{numberOf, byteOf}
 use Rattle.codec.specs.declared.bytes.Written.{Written}
 use Rattle.codec.specs.declared.bytes.Written.the-variants as written
 use Rattle.codec.specs.declared.refusals.Refusal.{Refusal}
+use Rattle.sessions.specs.declared.object_list.Listed.{Listed}
+use Rattle.sessions.specs.declared.object_list.Listed.the-variants as listed
 use Rattle.sessions.specs.declared.need.Needed.{Needed}
 use Rattle.sessions.specs.declared.need.Needed.the-variants as needed
 use Rattle.agent.specs.declared.agent.Removed.{Removed}
@@ -29,6 +31,11 @@ removedAs (removed.Refused r) = refusedAs r
 abbrev pub sweptAs : Written → ℕ
 sweptAs (written.Bytes n) = 65536 * (n % 65536)
 sweptAs (written.Refused r) = refusedAs r
+
+-- how many numbers a listing has, 32 at most
+abbrev pub listedAs : Listed → ℕ
+listedAs (listed.Numbers n) = 65536 * (n % 65536)
+listedAs (listed.Refused r) = refusedAs r
 
 -- the bytes of all tables together, 1,048,576 × 256 at most
 abbrev pub neededAs : Needed → ℕ

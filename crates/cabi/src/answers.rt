@@ -5,8 +5,9 @@ use agent::process::Outcome;
 use codec::bytes::Written;
 use codec::refusals::Refusal;
 use sessions::need::Needed;
+use sessions::object_list::Listed;
 ghost use mathlib.Core.Path.{_≡_};
-ghost use Rattle.cabi.specs.Answers.{refusedAs, outcomeAs, removedAs, sweptAs, neededAs};
+ghost use Rattle.cabi.specs.Answers.{refusedAs, outcomeAs, removedAs, sweptAs, listedAs, neededAs};
 
 pub(crate) fn refused_as(x: Refusal) -> u64
     ensures { λ r. ⌜ r ≡ refusedAs x ⌝ }
@@ -42,6 +43,15 @@ pub(crate) fn swept_as(x: Written) -> u64
     match x {
         Written::Bytes(n) => 65536 * ((n % 65536) as u64),
         Written::Refused(r) => refused_as(r),
+    }
+}
+
+pub(crate) fn listed_as(x: Listed) -> u64
+    ensures { λ r. ⌜ r ≡ listedAs x ⌝ }
+{
+    match x {
+        Listed::Numbers(n) => 65536 * ((n % 65536) as u64),
+        Listed::Refused(r) => refused_as(r),
     }
 }
 

@@ -1,5 +1,6 @@
 // The exported functions. Each is the agent's call on the agent that the record says; what can't be done is refused, and a
 // refused call changes no byte of what was lent to it.
+use crate::answers::listed_as;
 use crate::answers::needed_as;
 use crate::answers::outcome_as;
 use crate::answers::refused_as;
@@ -16,6 +17,7 @@ use crate::told::keep_record;
 use crate::told::nothing_told;
 use agent::agent::AgentSetUp;
 use agent::agent::evict_expired;
+use agent::agent::list_objects;
 use agent::agent::remove_session;
 use agent::agent::setup;
 use agent::process::Processed;
@@ -24,8 +26,9 @@ use sessions::need::documented_need;
 use sessions::objects::Object;
 ghost use mathlib.Core.Path.{_≡_};
 ghost use Rattle.sessions.specs.Need.{neededFor};
+ghost use Rattle.sessions.specs.ObjectList.{listOf, listOut};
 ghost use Rattle.moves.specs.Rows.{lent};
-ghost use Rattle.cabi.specs.Answers.{outcomeAs, neededAs};
+ghost use Rattle.cabi.specs.Answers.{outcomeAs, listedAs, neededAs};
 ghost use Rattle.cabi.specs.Record.{recordsAfter};
 ghost use Rattle.cabi.specs.Calls.{readyAs, readyRecords, processLeft, setUpLeft, removeAnswer, removeRows, sweepAnswer, sweepRows, sweepOut};
 
@@ -145,4 +148,18 @@ pub extern "C" fn xrce_agent_sweep(
     }
     let a = agent_in(record_at(agent));
     swept_as(evict_expired(sessions, out, a, time))
+}
+
+// The listing takes no record: it reads the tables alone, whether a call is open or not.
+#[no_mangle]
+pub extern "C" fn xrce_agent_list(
+    sessions: &[[u64; 5]],
+    objects: &[Object],
+    out: &mut [u16],
+    id: u8,
+) -> u64
+    ensures { λ r. ⌜ (r ≡ listedAs (listOf (now (sessions .entry)) (now (objects .entry)) id (now (out .entry))))
+        × (now (out .exit) ≡ listOut (now (sessions .entry)) (now (objects .entry)) id (now (out .entry))) ⌝ }
+{
+    listed_as(list_objects(sessions, objects, out, id))
 }

@@ -7,11 +7,13 @@ use Rattle.codec.specs.declared.layouts.Span.{Span}
 use Rattle.codec.specs.declared.submessages.HeartbeatPayload.{HeartbeatPayload}
 use Rattle.codec.specs.declared.submessages.ObjectNumber.{ObjectNumber}
 use Rattle.codec.specs.declared.submessages.StatusCode.{StatusCode}
-use Rattle.codec.specs.declared.submessages.StatusCode.the-variants.{Ok, ErrUnknownRef, ErrInvalidData}
+use Rattle.codec.specs.declared.submessages.StatusCode.the-variants.{Ok, ErrUnknownRef, ErrInvalidData, ErrIncompatible}
 use Rattle.streams.specs.Received.{acknackOf}
 use Rattle.sessions.specs.Objects.{handleOf}
 use Rattle.sessions.specs.declared.objects.Found.{Found}
 use Rattle.sessions.specs.declared.objects.Found.the-variants.{Held, Nothing, Refused}
+use Rattle.sessions.specs.declared.objects.Taken.{Taken}
+use Rattle.sessions.specs.declared.objects.Taken.the-variants as taken
 use Rattle.sessions.specs.declared.objects.Handle.{Handle}
 use Rattle.sessions.specs.declared.objects.ObjectHandle.{ObjectHandle}
 use Rattle.sessions.specs.declared.objects.ObjectHandle.the-variants.{Bridged, Implicit}
@@ -92,10 +94,12 @@ abbrev pub droppedMove : ObjectNumber → ObjectHandle → Move
 droppedMove number (Bridged h) = Calls number Deleting (DeleteEntity h)
 droppedMove number Implicit = Status number Ok
 
-abbrev pub deleteMove : ObjectNumber → Found → Move
-deleteMove number (Held o) = droppedMove number (handleOf o)
-deleteMove number Nothing = Status number ErrUnknownRef
-deleteMove number (Refused r) = Status number ErrUnknownRef
+-- W3: of an object that has a dependant, "ERR_INCOMPATIBLE without a bridge call"
+abbrev pub deleteMove : ObjectNumber → Taken → Move
+deleteMove number (taken.Gone o) = droppedMove number (handleOf o)
+deleteMove number taken.Depended = Status number ErrIncompatible
+deleteMove number taken.Nothing = Status number ErrUnknownRef
+deleteMove number (taken.Refused r) = Status number ErrUnknownRef
 
 -- ---- HEARTBEAT, on its stream as it is read behind its opening
 

@@ -6,16 +6,17 @@ use Rattle.codec.specs.declared.layouts.Span.{Span}
 use Rattle.codec.specs.declared.submessages.ObjectKind.{ObjectKind}
 use Rattle.codec.specs.declared.submessages.ObjectKind.the-variants.{Participant, Topic, Publisher, Subscriber, DataWriter, DataReader}
 use Rattle.codec.specs.declared.submessages.ObjectNumber.{ObjectNumber}
-use Rattle.codec.specs.declared.submessages.StatusCode.the-variants.{Ok, ErrResources}
+use Rattle.codec.specs.declared.submessages.StatusCode.the-variants.{Ok, ErrIncompatible, ErrResources}
 use Rattle.codec.specs.declared.submessages.Submessage.{Submessage}
 use Rattle.codec.specs.declared.submessages.Submessage.the-variants as sub
 use Rattle.sessions.specs.Objects.{implicitOf}
-use Rattle.sessions.specs.SessionObjects.{foundObject, storedObject, storedObjects, keepStored, removedObjects, keepRemoved}
+use Rattle.sessions.specs.SessionObjects.{foundObject, storedObject, storedObjects, keepStored}
+use Rattle.sessions.specs.Removal.{takenObject, removedObjects, keepRemoved}
 use Rattle.sessions.specs.Room.{roomOf}
 use Rattle.sessions.specs.View.{Tables}
 use Rattle.sessions.specs.declared.objects.Object.{Object}
 use Rattle.sessions.specs.declared.room.Room.{Room}
-use Rattle.sessions.specs.declared.room.Room.the-variants.{Free, Full, NotLive, Refused}
+use Rattle.sessions.specs.declared.room.Room.the-variants.{Free, Full, Depended, NotLive, Refused}
 use Rattle.moves.specs.Names.{namesIn}
 use Rattle.moves.specs.Moves.{parentOf, participantMove, topicMove, endpointMove, writeMove, readMove, deleteMove}
 use Rattle.moves.specs.RowsStreams.{openedSessions, openedRows, readOf, streamMove, streamRows}
@@ -64,16 +65,19 @@ createdObjects Subscriber s o id number parent = storedObjects s o id (implicitO
 createdObjects DataWriter s o id number parent = o
 createdObjects DataReader s o id number parent = o
 
--- "CREATE of a 33rd number answers ERR_RESOURCES before any lookup or call."
+-- "CREATE of a 33rd number answers ERR_RESOURCES before any lookup or call."; W3: a CREATE of the number of an object that has a dependant "answers
+-- ERR_INCOMPATIBLE without a bridge call and keeps it", "after the count of objects and before any lookup"
 abbrev pub isFree : Room → Bool
 isFree Free = true
 isFree Full = false
+isFree Depended = false
 isFree NotLive = false
 isFree (Refused r) = false
 
 abbrev pub noRoomMove : ObjectNumber → Room → Move
 noRoomMove number Free = Silent
 noRoomMove number Full = Status number ErrResources
+noRoomMove number Depended = Status number ErrIncompatible
 noRoomMove number NotLive = Silent
 noRoomMove number (Refused r) = Silent
 
@@ -123,7 +127,7 @@ asksOf (sub.Data p) = blankAsked Other
 abbrev pub handledBy : Group → Asked → Tables → List ℕ → ℕ → ℕ → Span → Move
 handledBy Creates q t d id n body =
     roomMove (roomOf (t .sessions) (t .objects) id (q .number)) (t .sessions) (t .objects) d id (q .number) (q .kind) (q .parent) body
-handledBy Deletes q t d id n body = deleteMove (q .number) (foundObject (t .sessions) (t .objects) id (q .number))
+handledBy Deletes q t d id n body = deleteMove (q .number) (takenObject (t .sessions) (t .objects) id (q .number))
 handledBy Writes q t d id n body = writeMove (q .number) body (foundObject (t .sessions) (t .objects) id (q .number))
 handledBy Reads q t d id n body = readMove (q .number) (foundObject (t .sessions) (t .objects) id (q .number))
 handledBy Streams q t d id n body =
@@ -138,7 +142,7 @@ handledIn Creates q t id n =
     let room = roomOf (t .sessions) (t .objects) id (q .number) in
     record { sessions = roomSessions room (t .sessions) (t .objects) id (q .number) (q .kind) (q .parent); streams = t .streams; objects = roomObjects room (t .sessions) (t .objects) id (q .number) (q .kind) (q .parent) }
 handledIn Deletes q t id n =
-    record { sessions = keepRemoved (t .sessions) id (foundObject (t .sessions) (t .objects) id (q .number)); streams = t .streams; objects = removedObjects (t .sessions) (t .objects) id (q .number) }
+    record { sessions = keepRemoved (t .sessions) id (takenObject (t .sessions) (t .objects) id (q .number)); streams = t .streams; objects = removedObjects (t .sessions) (t .objects) id (q .number) }
 handledIn Writes q t id n = t
 handledIn Reads q t id n = t
 handledIn Streams q t id n =

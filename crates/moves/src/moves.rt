@@ -10,6 +10,7 @@ use codec::submessages::StatusCode;
 use sessions::objects::Found;
 use sessions::objects::Handle;
 use sessions::objects::ObjectHandle;
+use sessions::objects::Taken;
 use sessions::session_streams::StreamNamed;
 use sessions::session_streams::StreamRead;
 ghost use mathlib.Core.Path.{_≡_};
@@ -178,14 +179,15 @@ fn dropped_move(number: ObjectNumber, handle: ObjectHandle) -> Move
     }
 }
 
-// DELETE, of the object that was there.
-pub(crate) fn delete_move(number: ObjectNumber, gone: Found) -> Move
+// DELETE, by what was taken out; an object that another depends on stays (document 02, W3).
+pub(crate) fn delete_move(number: ObjectNumber, gone: Taken) -> Move
     ensures { λ r. ⌜ r ≡ deleteMove number gone ⌝ }
 {
     match gone {
-        Found::Held(o) => dropped_move(number, o.bridge_handle()),
-        Found::Nothing => Move::Status(number, StatusCode::ErrUnknownRef),
-        Found::Refused(_) => Move::Status(number, StatusCode::ErrUnknownRef),
+        Taken::Gone(o) => dropped_move(number, o.bridge_handle()),
+        Taken::Depended => Move::Status(number, StatusCode::ErrIncompatible),
+        Taken::Nothing => Move::Status(number, StatusCode::ErrUnknownRef),
+        Taken::Refused(_) => Move::Status(number, StatusCode::ErrUnknownRef),
     }
 }
 

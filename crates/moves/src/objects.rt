@@ -24,7 +24,8 @@ use sessions::session_objects::remove_object;
 use sessions::table::SessionRow;
 ghost use mathlib.Core.Path.{_≡_};
 ghost use Rattle.sessions.specs.Objects.{implicitOf};
-ghost use Rattle.sessions.specs.SessionObjects.{foundObject, storedObject, storedObjects, keepStored, removedObjects, keepRemoved};
+ghost use Rattle.sessions.specs.SessionObjects.{foundObject, storedObject, storedObjects, keepStored};
+ghost use Rattle.sessions.specs.Removal.{takenObject, removedObjects, keepRemoved};
 ghost use Rattle.sessions.specs.Room.{roomOf};
 ghost use Rattle.moves.specs.Moves.{writeMove, readMove, deleteMove, topicMove};
 ghost use Rattle.moves.specs.Names.{namesIn};
@@ -55,15 +56,15 @@ pub(crate) fn read_data(
     read_move(number, f)
 }
 
-// DELETE drops its object before its call.
+// DELETE drops its object before its call, unless another depends on it.
 pub(crate) fn delete(
     sessions: &mut [SessionRow],
     objects: &mut [Object],
     id: u8,
     number: ObjectNumber,
 ) -> Move
-    ensures { λ r. ⌜ (r ≡ deleteMove number (foundObject (now (sessions .entry)) (now (objects .entry)) id number))
-        × (now (sessions .exit) ≡ keepRemoved (now (sessions .entry)) id (foundObject (now (sessions .entry)) (now (objects .entry)) id number))
+    ensures { λ r. ⌜ (r ≡ deleteMove number (takenObject (now (sessions .entry)) (now (objects .entry)) id number))
+        × (now (sessions .exit) ≡ keepRemoved (now (sessions .entry)) id (takenObject (now (sessions .entry)) (now (objects .entry)) id number))
         × (now (objects .exit) ≡ removedObjects (now (sessions .entry)) (now (objects .entry)) id number) ⌝ }
 {
     let f = remove_object(sessions, objects, id, number);
@@ -147,13 +148,15 @@ fn create_kind(
     }
 }
 
-// "CREATE of a 33rd number answers ERR_RESOURCES before any lookup or call."
+// "CREATE of a 33rd number answers ERR_RESOURCES before any lookup or call."; so does, with ERR_INCOMPATIBLE, one of a number that another object
+// depends on (document 02, W3).
 fn is_free(room: Room) -> bool
     ensures { λ r. ⌜ r ≡ isFree room ⌝ }
 {
     match room {
         Room::Free => true,
         Room::Full => false,
+        Room::Depended => false,
         Room::NotLive => false,
         Room::Refused(_) => false,
     }
@@ -165,6 +168,7 @@ fn no_room_move(number: ObjectNumber, room: Room) -> Move
     match room {
         Room::Free => Move::Silent,
         Room::Full => Move::Status(number, StatusCode::ErrResources),
+        Room::Depended => Move::Status(number, StatusCode::ErrIncompatible),
         Room::NotLive => Move::Silent,
         Room::Refused(_) => Move::Silent,
     }

@@ -48,6 +48,7 @@ fn shape_of(name: usize) -> Shape {
         names::CREATED => shaped(3, 2, u64::MAX, 0xffff_ffff, 0),
         names::DATA => shaped(3, 1, u64::MAX, 0, 2),
         names::REMOVE => shaped(2, 1, 255, 0, 0),
+        names::LIST => shaped(2, 1, 255, 0, 0),
         names::SWEEP => shaped(3, 2, u64::MAX, u64::MAX, 0),
         names::DUMP => shaped(1, 0, 0, 0, 0),
         names::BAD => shaped(0, 0, 0, 0, 0),

@@ -8,6 +8,8 @@ use crate::host::answer_of;
 use crate::host::max_clients;
 use crate::host::say;
 use crate::host::set_up_said;
+use crate::listing::MARK;
+use crate::listing::listed_said;
 use crate::names;
 use crate::objects::Packed;
 use crate::objects::pack_all;
@@ -20,6 +22,7 @@ use crate::words::least;
 use agent::agent::Given;
 use agent::agent::Removed;
 use agent::agent::evict_expired;
+use agent::agent::list_objects;
 use agent::agent::process_answer;
 use agent::agent::process_incoming;
 use agent::agent::remove_session;
@@ -161,12 +164,21 @@ fn answer(
     after(p, length)
 }
 
+// No session has more than 32 objects.
+fn list(sessions: &[SessionRow], objects: &[Object], c: Command) {
+    let id = low_8(c.first);
+    let mut numbers = [MARK; 32];
+    let l = list_objects(sessions, objects, &mut numbers, id);
+    listed_said(&numbers, l);
+}
+
 // Which stores an event needs.
 enum Group {
     SetUp,
     Datagram,
     Answer,
     Dump,
+    List,
     Other,
 }
 
@@ -177,6 +189,7 @@ fn group_of(c: Command) -> Group {
         names::DATAGRAM => Group::Datagram,
         names::CREATED | names::DONE | names::DATA | names::NONE | names::FAILED => Group::Answer,
         names::DUMP => Group::Dump,
+        names::LIST => Group::List,
         _ => Group::Other,
     }
 }
@@ -200,6 +213,10 @@ pub fn event(
         Group::Dump => {
             pack_all(objects, packed);
             dump(sessions, streams, packed);
+            host
+        }
+        Group::List => {
+            list(sessions, objects, c);
             host
         }
         Group::Other => {

@@ -5,6 +5,7 @@ mod command;
 mod dump;
 mod events;
 mod host;
+mod listing;
 mod names;
 mod objects;
 mod output;

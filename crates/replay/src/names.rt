@@ -22,14 +22,16 @@ pub const SWEEP: usize = 8;
 
 pub const DUMP: usize = 9;
 
-// A line that isn't in the format, and a line that asks nothing.
-pub const BAD: usize = 10;
+pub const LIST: usize = 10;
 
-pub const SILENT: usize = 11;
+// A line that isn't in the format, and a line that asks nothing.
+pub const BAD: usize = 11;
+
+pub const SILENT: usize = 12;
 
 // The event that a word names.
 pub fn name_of(first: &[u8]) -> usize {
-    let names = *b"setup datagram created done data none failed remove sweep dump";
+    let names = *b"setup datagram created done data none failed remove sweep dump list";
     let mut i = 0;
     while i < BAD {
         if same(word(&names, i), first) {

@@ -6,18 +6,19 @@ use mathlib.Core.List.{List}
 use native.Mathlib.Omega.{arith}
 use borrow.Author.Tests.{lt-ltb}
 use lib.Dec.{leb, ltb}
-use lib.ListN.{length}
+use lib.ListN.{length, getD}
 use Rattle.codec.specs.Answers.{gives, numberIn}
 use Rattle.codec.specs.declared.submessages.ObjectNumber.{ObjectNumber}
 use Rattle.streams.specs.Places.{firstFrom}
 use Rattle.sessions.specs.Table.{sessionAt, isFree, namedOf, gotBy, gotOf}
-use Rattle.sessions.specs.Objects.{objectPlace, foundOf, slotOf, usedAfter}
+use Rattle.sessions.specs.Objects.{blank, objectPlace, foundOf, slotOf, usedAfter}
 use Rattle.sessions.specs.SessionObjects.{objectRow, usedOf, objectsNamed, foundBy, foundObject, storedBy, storedObject}
 use Rattle.sessions.specs.Streams.{firstStream}
 use Rattle.sessions.specs.SessionStreams.{streamsUsed, streamsNamed, isStream, placeBy, streamPlace, openedAs, namedAs}
 use Rattle.sessions.specs.Limits.{limitsOf}
+use Rattle.sessions.specs.Removal.{dependedIn, takenOf, takenBy, takenObject, dependedFound}
 use Rattle.sessions.specs.Room.{roomFor, roomOf}
-use Rattle.sessions.specs.Answers.{limitsAnswer, gotAnswer, namedAnswer, foundAnswer, storedAnswer, roomAnswer, openedAnswer, streamAnswer}
+use Rattle.sessions.specs.Answers.{limitsAnswer, gotAnswer, namedAnswer, foundAnswer, takenAnswer, storedAnswer, roomAnswer, openedAnswer, streamAnswer}
 use Rattle.sessions.specs.declared.limits.Limits.{Limits}
 use Rattle.sessions.specs.declared.limits.Limits.the-variants as limits
 use Rattle.sessions.specs.declared.objects.Object.{Object}
@@ -26,9 +27,10 @@ use Rattle.sessions.specs.declared.objects.Found.the-variants as found
 use Rattle.sessions.specs.declared.objects.Place.{Place}
 use Rattle.sessions.specs.declared.objects.Place.the-variants.{At, Nowhere}
 use Rattle.sessions.specs.declared.objects.Stored.{Stored}
+use Rattle.sessions.specs.declared.objects.Taken.the-variants as taken
 use Rattle.sessions.specs.declared.objects.Stored.the-variants as stored
 use Rattle.sessions.specs.declared.room.Room.{Room}
-use Rattle.sessions.specs.declared.room.Room.the-variants.{Free, Full, NotLive, Refused}
+use Rattle.sessions.specs.declared.room.Room.the-variants.{Free, Full, Depended, NotLive, Refused}
 use Rattle.sessions.specs.declared.session_streams.StreamPlace.{StreamPlace}
 use Rattle.sessions.specs.declared.session_streams.StreamPlace.the-variants.{Have, Add}
 use Rattle.sessions.specs.declared.session_streams.StreamPlace.the-variants as place
@@ -48,8 +50,8 @@ module _ (sessions streams : List (List ℕ)) (objects : List Object) (id : ℕ)
     pub get : numberIn (gotAnswer (gotOf sessions id)) ≡ 0
     -- touch and remove
     pub named : numberIn (namedAnswer (namedOf sessions id)) ≡ 0
-    -- find_object and remove_object
     pub find : (n : ObjectNumber) → numberIn (foundAnswer (foundObject sessions objects id n)) ≡ 0
+    pub take : (n : ObjectNumber) → numberIn (takenAnswer (takenObject sessions objects id n)) ≡ 0
     pub put : (o : Object) → numberIn (storedAnswer (storedObject sessions objects id o)) ≡ 0
     pub room : (n : ObjectNumber) → numberIn (roomAnswer (roomOf sessions objects id n)) ≡ 0
     pub open-stream : (n : ℕ) → numberIn (openedAnswer (openedAs (streamPlace sessions streams id n))) ≡ 0
@@ -100,6 +102,22 @@ module _ (sessions streams : List (List ℕ)) (objects : List Object) (id : ℕ)
         by true = refl
         by false = held (objectRow objects id) (objectPlace (objectRow objects id) (usedOf sessions id) n)
 
+    take-none : (n : ObjectNumber) → numberIn (takenAnswer (takenObject sessions objects id n)) ≡ 0
+    unfolding takenObject
+    take-none n = rw names-objects (by (isFree sessions id))
+      where
+        at : (row : List Object) (used : ℕ) (p : Place) → numberIn (takenAnswer (takenOf row used p)) ≡ 0
+        at row used (At i) = stays (dependedIn row used (getD row i blank))
+          where
+            stays : (b : Bool) → numberIn (takenAnswer (cond b taken.Depended (taken.Gone (getD row i blank)))) ≡ 0
+            stays true = refl
+            stays false = refl
+        at row used Nowhere = refl
+
+        by : (f : Bool) → numberIn (takenAnswer (takenBy (byFree f) sessions objects id n)) ≡ 0
+        by true = refl
+        by false = at (objectRow objects id) (usedOf sessions id) (objectPlace (objectRow objects id) (usedOf sessions id) n)
+
     put-none : (o : Object) → numberIn (storedAnswer (storedObject sessions objects id o)) ≡ 0
     unfolding storedObject
     put-none o = rw names-objects (by (isFree sessions id))
@@ -114,17 +132,18 @@ module _ (sessions streams : List (List ℕ)) (objects : List Object) (id : ℕ)
 
     room-none : (n : ObjectNumber) → numberIn (roomAnswer (roomOf sessions objects id n)) ≡ 0
     unfolding roomOf
-    room-none n = by (foundObject sessions objects id n) (find-none n)
+    room-none n = by (foundObject sessions objects id n) (dependedFound sessions objects id (foundObject sessions objects id n)) (find-none n)
       where
         beside : (f g : Bool) → numberIn (roomAnswer (cond f NotLive (cond g Free Full))) ≡ 0
         beside true g = refl
         beside false true = refl
         beside false false = refl
 
-        by : (r : Found) → numberIn (foundAnswer r) ≡ 0 → numberIn (roomAnswer (roomFor r (sessionAt sessions id))) ≡ 0
-        by (found.Held o) e = refl
-        by found.Nothing e = beside (isFree sessions id) (ltb (usedOf sessions id) 32)
-        by (found.Refused r) e = e
+        by : (r : Found) (b : Bool) → numberIn (foundAnswer r) ≡ 0 → numberIn (roomAnswer (roomFor r b (sessionAt sessions id))) ≡ 0
+        by (found.Held o) true e = refl
+        by (found.Held o) false e = refl
+        by found.Nothing b e = beside (isFree sessions id) (ltb (usedOf sessions id) 32)
+        by (found.Refused r) b e = e
 
     stream-none : (n : ℕ) → (numberIn (openedAnswer (openedAs (streamPlace sessions streams id n))) ≡ 0) × (numberIn (streamAnswer (namedAs (streamPlace sessions streams id n))) ≡ 0)
     unfolding streamPlace
@@ -153,6 +172,7 @@ module _ (sessions streams : List (List ℕ)) (objects : List Object) (id : ℕ)
         get = got-none k;
         named = named-none k;
         find = find-none k;
+        take = take-none k;
         put = put-none k;
         room = room-none k;
         open-stream = λ n. stream-none k n .0;
@@ -179,8 +199,13 @@ module _ (sessions : List (List ℕ)) (objects : List Object) (id : ℕ) (id< : 
   abbrev used : ℕ
   used = usedOf sessions id
 
+  -- whether the object of that number is there and has a dependant
+  abbrev held-up : Bool
+  held-up = dependedFound sessions objects id (foundObject sessions objects id (o .number))
+
   in-row : isFree sessions id ≡ false → used ≤ 32 → length row ≡ 32 → (p : Place) → Under used p
-      → roomFor (foundOf row p) (sessionAt sessions id) ≡ roomAs (cond (ltb (slotOf p used) (length row)) (stored.Count (usedAfter p used)) stored.Full)
+      → roomFor (foundOf row p) (dependedFound sessions objects id (foundOf row p)) (sessionAt sessions id)
+      ≡ cond (dependedFound sessions objects id (foundOf row p)) Depended (roomAs (cond (ltb (slotOf p used) (length row)) (stored.Count (usedAfter p used)) stored.Full))
   in-row live few long (At i) u = rw (lt-ltb i (length row) (omega arith)) refl
   in-row live few long Nowhere u = rw (live, long) (by (ltb used 32))
     where
@@ -188,12 +213,14 @@ module _ (sessions : List (List ℕ)) (objects : List Object) (id : ℕ) (id< : 
       by true = refl
       by false = refl
 
-  -- there is room exactly where putting an object of that number finds it
-  pub room-put : roomOf sessions objects id (o .number) ≡ roomAs (storedObject sessions objects id o)
+  -- there is room exactly where putting an object of that number finds it, unless one has the number and a dependant
+  pub room-put : roomOf sessions objects id (o .number) ≡ cond held-up Depended (roomAs (storedObject sessions objects id o))
   unfolding roomOf foundObject storedObject
   room-put = by (objectsNamed sessions (length objects) id) refl
     where
-      by : (w : Named) → objectsNamed sessions (length objects) id ≡ w → roomFor (foundBy w sessions objects id (o .number)) (sessionAt sessions id) ≡ roomAs (storedBy w sessions objects id o)
+      by : (w : Named) → objectsNamed sessions (length objects) id ≡ w
+          → roomFor (foundBy w sessions objects id (o .number)) (dependedFound sessions objects id (foundBy w sessions objects id (o .number))) (sessionAt sessions id)
+          ≡ cond (dependedFound sessions objects id (foundBy w sessions objects id (o .number))) Depended (roomAs (storedBy w sessions objects id o))
       by named.Live e =
           let f = live-fits sessions id used 32 (length objects) 8192 (sym (named-is sessions objects id) ∙ e) in
           let l = lent-row sessions objects id e id< in
@@ -201,13 +228,38 @@ module _ (sessions : List (List ℕ)) (objects : List Object) (id : ℕ) (id< : 
       by named.NotLive e = rw (free-named sessions id used 32 (length objects) 8192 (sym (named-is sessions objects id) ∙ e)) refl
       by (named.Refused r) e = refl
 
+  -- a number that is held is no 33rd
+  full-none : storedObject sessions objects id o ≡ stored.Full → held-up ≡ false
+  unfolding foundObject storedObject
+  full-none = by (objectsNamed sessions (length objects) id) refl
+    where
+      at : used ≤ length row → (p : Place) → Under used p → cond (ltb (slotOf p used) (length row)) (stored.Count (usedAfter p used)) stored.Full ≡ stored.Full
+          → dependedFound sessions objects id (foundOf row p) ≡ false
+      at long (At i) u e = counts (rw (lt-ltb i (length row) (omega arith)) at e)
+        where
+          counts : stored.Count (usedAfter (At i) used) ≡ stored.Full → dependedFound sessions objects id (foundOf row (At i)) ≡ false
+          counts e = let z : _≡_ {A = ℕ} 0 1 = cc in absurd (omega arith)
+      at long Nowhere u e = refl
+
+      by : (w : Named) → objectsNamed sessions (length objects) id ≡ w → storedBy w sessions objects id o ≡ stored.Full → dependedFound sessions objects id (foundBy w sessions objects id (o .number)) ≡ false
+      by named.Live e h =
+          let f = live-fits sessions id used 32 (length objects) 8192 (sym (named-is sessions objects id) ∙ e) in
+          let l = lent-row sessions objects id e id< in
+          at (let n : length row ≡ 32 = sym (ap length (row-lent objects id)) ∙ l .long in omega (arith, f .count)) (objectPlace row used (o .number)) (place-under row (o .number) used) h
+      by named.NotLive e h = refl
+      by (named.Refused r) e h = refl
+
   -- "full" exactly if a put would say so
   pub full-exactly : (roomOf sessions objects id (o .number) ≡ Full → storedObject sessions objects id o ≡ stored.Full)
       × (storedObject sessions objects id o ≡ stored.Full → roomOf sessions objects id (o .number) ≡ Full)
-  full-exactly = (λ e. by (storedObject sessions objects id o) (sym room-put ∙ e), λ e. room-put ∙ ap roomAs e)
+  full-exactly = (
+    λ e. by held-up (storedObject sessions objects id o) (sym room-put ∙ e),
+    λ e. room-put ∙ ap (λ (b : Bool). cond b Depended (roomAs (storedObject sessions objects id o))) (full-none e) ∙ ap roomAs e,
+  )
     where
-      by : (r : Stored) → roomAs r ≡ Full → r ≡ stored.Full
-      by (stored.Count n) e = let z : _≡_ {A = ℕ} 0 1 = cc in absurd (omega arith)
-      by stored.Full e = refl
-      by stored.NotLive e = let z : _≡_ {A = ℕ} 0 1 = cc in absurd (omega arith)
-      by (stored.Refused r) e = let z : _≡_ {A = ℕ} 0 1 = cc in absurd (omega arith)
+      by : (b : Bool) (r : Stored) → cond b Depended (roomAs r) ≡ Full → r ≡ stored.Full
+      by true r e = let z : _≡_ {A = ℕ} 0 1 = cc in absurd (omega arith)
+      by false (stored.Count n) e = let z : _≡_ {A = ℕ} 0 1 = cc in absurd (omega arith)
+      by false stored.Full e = refl
+      by false stored.NotLive e = let z : _≡_ {A = ℕ} 0 1 = cc in absurd (omega arith)
+      by false (stored.Refused r) e = let z : _≡_ {A = ℕ} 0 1 = cc in absurd (omega arith)

@@ -11,7 +11,9 @@ use lib.Dec.{eqb, leb, ltb}
 use lib.ListN.{length, take, getD, set, length-append, length-map, length-set, List·getD-append, List·getD-map}
 use lib.Seq.{getD-set-same, getD-set-other, getD-append-seam, getD-take, length-take-le}
 use Rattle.streams.specs.View.{Kept, freshOf}
-use Rattle.sessions.specs.View.{Entry, blankEntry, onePast, placeIn, putEntry, putIn, dropAt, dropIn, streamIn, openIf, openIn, writeIn, Distinct, objectNumbers, streamNumbers}
+use Rattle.sessions.specs.Dependants.{hasDependant}
+use Rattle.sessions.specs.Removal.{removeIn}
+use Rattle.sessions.specs.View.{Entry, blankEntry, onePast, placeIn, findIn, putEntry, putIn, dropAt, dropIn, streamIn, openIf, openIn, writeIn, Distinct, objectNumbers, streamNumbers}
 use Rattle.sessions.specs.declared.objects.Place.{Place}
 use Rattle.sessions.specs.declared.objects.Place.the-variants.{At, Nowhere}
 use Rattle.sessions.proofs.Parts.{map-set, map-take}
@@ -116,7 +118,7 @@ abbrev pub FoundIn : List Entry → ℕ → Place → Type 0
 FoundIn es n (At k) = (k < length es) × (getD es k blankEntry .number ≡ n)
 FoundIn es n Nowhere = (i : ℕ) → i < length es → getD es i blankEntry .number ≢ n
 
-place-found : (es : List Entry) (n : ℕ) → FoundIn es n (placeIn es n)
+pub place-found : (es : List Entry) (n : ℕ) → FoundIn es n (placeIn es n)
 place-found [] n = λ i h. let z : ⊥ = omega arith in absurd z
 place-found (e ∷ es) n = by (eqb (e .number) n) refl (placeIn es n) (place-found es n)
   where
@@ -163,6 +165,13 @@ module _ (es : List Entry) where
         by : (p : Place) → FoundIn es n p → Distinct (objectNumbers (dropAt es p))
         by (At k) f = subst Distinct (sym (drop-numbers k)) (distinct-less (objectNumbers es) d k (rw numbers-length (f .0)))
         by Nowhere f = d
+
+    pub remove-distinct : (n : ℕ) → Distinct (objectNumbers (removeIn es n))
+    remove-distinct n = by (hasDependant es (findIn es n))
+      where
+        by : (b : Bool) → Distinct (objectNumbers (cond b es (dropIn es n)))
+        by true = d
+        by false = drop-distinct n
 
 -- ---- streams
 

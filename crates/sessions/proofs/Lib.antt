@@ -2,6 +2,8 @@
 pub mod ObjectSearch
 pub mod Parts
 pub mod ViewObjects
+pub mod DependantSearch
+pub mod Weighed
 pub mod ViewTable
 pub mod ViewStores
 pub mod Counted
@@ -13,6 +15,9 @@ pub mod Within
 pub mod StreamBack
 pub mod ViewStreams
 pub mod Kept
+pub mod FoundAgain
+pub mod Ordered
+pub mod TakeDown
 pub mod Reached
 pub mod Steps
 pub mod Calls

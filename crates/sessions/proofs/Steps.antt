@@ -21,7 +21,8 @@ use Rattle.sessions.specs.Setup.{noStream, emptySessions, emptyStreams, 
 use Rattle.sessions.specs.Sweep.{goes, expiredIds, sweptRows, evictedRows}
 use Rattle.sessions.specs.Streams.{streamRow, streamOf, streamsFit, firstStream}
 use Rattle.sessions.specs.Objects.{blank, slotOf, usedAfter, objectPlace}
-use Rattle.sessions.specs.SessionObjects.{objectRow, usedOf, countedSession, objectsNamed, keepStored, keepRemoved}
+use Rattle.sessions.specs.SessionObjects.{objectRow, usedOf, countedSession, objectsNamed, keepStored}
+use Rattle.sessions.specs.Removal.{keepRemoved}
 use Rattle.sessions.specs.SessionStreams.{streamsUsed, streamedSession, streamsNamed, streamPlace, stateAt, readAs}
 use Rattle.sessions.specs.View.{Tables, Part, Entry, KeptStream, entryOf, listed, opened, streamRows, tablePart, streamIn, Distinct, objectNumbers, streamNumbers}
 use Rattle.sessions.specs.Calls.{withSessions, setUpTables, createTables, putTables, dropTables, openTables, writeTables, Lasting, SoundPart, SoundTables, LeadsTo}
@@ -39,13 +40,13 @@ use Rattle.sessions.specs.declared.table.Named.{Named}
 use Rattle.sessions.specs.declared.table.Named.the-variants as named
 use Rattle.sessions.proofs.ObjectSearch.{Under, place-under}
 use Rattle.sessions.proofs.Chosen.{found-by}
-use Rattle.sessions.proofs.Kept.{none-distinct, one-distinct, put-distinct, drop-distinct, open-distinct, write-numbers}
+use Rattle.sessions.proofs.Kept.{none-distinct, one-distinct, put-distinct, remove-distinct, open-distinct, write-numbers}
 use Rattle.sessions.proofs.Reached.{named-when}
-use Rattle.sessions.proofs.ViewObjects.{left, put-shown, drop-shown}
+use Rattle.sessions.proofs.ViewObjects.{dependedAt, left, put-shown, drop-shown}
 use Rattle.sessions.proofs.ViewTable as table
 use Rattle.sessions.proofs.ViewStores as stores
 use Rattle.sessions.proofs.ViewStreams as streams
-use Rattle.sessions.proofs.session_objects.Laws.{found-is, stored-is, kept-is, removed-is}
+use Rattle.sessions.proofs.session_objects.Laws.{taken-is, stored-is, kept-is, removed-is}
 use Rattle.sessions.proofs.setup.Laws.{Long, accepts, cleared-at, cleared-length}
 use Rattle.sessions.proofs.table.Laws.{reach-named}
 
@@ -233,7 +234,7 @@ module _ (P : StreamState → Type 0) (lasting : Lasting P) where
 
         drop-free : (n : ObjectNumber) → dropTables t id n ≡ t
         drop-free n = λ i. record {
-          sessions = ap (keepRemoved (t .sessions) id) (sym (found-is (t .sessions) (t .objects) id n named.NotLive no-objects)) i;
+          sessions = ap (keepRemoved (t .sessions) id) (sym (taken-is (t .sessions) (t .objects) id n named.NotLive no-objects)) i;
           streams = t .streams;
           objects = sym (removed-is (t .sessions) (t .objects) id n named.NotLive no-objects) i;
         }
@@ -303,21 +304,41 @@ module _ (P : StreamState → Type 0) (lasting : Lasting P) where
             under = place-under row n used
 
             sessions-same : (q : Place) → length (stores.dropped t id id< its-objects q .sessions) ≡ length (t .sessions)
-            sessions-same (At k) = length-set (t .sessions) id (rowOf (countedSession (sessionAt (t .sessions) id) (used - 1)))
+            sessions-same (At k) = by (dependedAt row used fits (At k))
+              where
+                by : (b : Bool) → length (cond b t (stores.gone t id id< its-objects k) .sessions) ≡ length (t .sessions)
+                by true = refl
+                by false = length-set (t .sessions) id (rowOf (countedSession (sessionAt (t .sessions) id) (used - 1)))
             sessions-same Nowhere = refl
 
+            streams-same : (q : Place) → length (stores.dropped t id id< its-objects q .streams) ≡ length (t .streams)
+            streams-same (At k) = by (dependedAt row used fits (At k))
+              where
+                by : (b : Bool) → length (cond b t (stores.gone t id id< its-objects k) .streams) ≡ length (t .streams)
+                by true = refl
+                by false = refl
+            streams-same Nowhere = refl
+
             objects-same : (q : Place) → Under used q → length (stores.dropped t id id< its-objects q .objects) ≡ length (t .objects)
-            objects-same (At k) h = ap length (stores.dropped-set t id id< its-objects k h) ∙ length-set (t .objects) _ _
-            objects-same Nowhere h = ap length (stores.row-same (t .objects) id (stores.inside t id id< its-objects))
+            objects-same (At k) h = by (dependedAt row used fits (At k))
+              where
+                by : (b : Bool) → length (cond b t (stores.gone t id id< its-objects k) .objects) ≡ length (t .objects)
+                by true = refl
+                by false = ap length (stores.gone-set t id id< its-objects k h) ∙ length-set (t .objects) _ _
+            objects-same Nowhere h = refl
 
             few : (q : Place) → left row used fits q ≤ 32
-            few (At k) = let f : used ≤ 32 = g .few-objects in omega arith
+            few (At k) = by (dependedAt row used fits (At k))
+              where
+                by : (b : Bool) → cond b used (used - 1) ≤ 32
+                by true = g .few-objects
+                by false = let f : used ≤ 32 = g .few-objects in omega arith
             few Nowhere = g .few-objects
 
             changed : Changed t (stores.dropped t id id< its-objects p) id
             changed = record {
               sessions-length = sessions-same p;
-              streams-length = refl;
+              streams-length = streams-same p;
               objects-length = objects-same p under;
               elsewhere = λ j h. stores.dropped-part-elsewhere t id id< its-objects j h p under;
               here =
@@ -325,7 +346,7 @@ module _ (P : StreamState → Type 0) (lasting : Lasting P) where
                   (record {
                     few-objects = few p;
                     few-streams = g .few-streams;
-                    objects-differ = subst (λ (es : List Entry). Distinct (objectNumbers es)) (sym (drop-shown row used fits n)) (drop-distinct (listed used row) (g .objects-differ) (n .0));
+                    objects-differ = subst (λ (es : List Entry). Distinct (objectNumbers es)) (sym (drop-shown row used fits n)) (remove-distinct (listed used row) (g .objects-differ) (n .0));
                     streams-differ = g .streams-differ;
                     written = g .written;
                   });

@@ -1,6 +1,7 @@
 -- The view of a session's objects: a row changed by an operation shows the list changed by document 01's.
 use Prim.Native.Nat.{ℕ, _+_, _-_, _<_, _≤_}
 use mathlib.Core.Path.{_≡_, refl, sym, ap, _∙_}
+use mathlib.Core.Bool.{Bool, true, false, cond}
 use mathlib.Core.Option.{Option, none, some}
 use mathlib.Core.List.{List, [], _∷_, _++_, map, map-append}
 use native.Mathlib.Omega.{arith}
@@ -8,8 +9,10 @@ use native.Mathlib.Numerals.{add-one}
 use lib.ListN.{length, take, getD, set, length-map, List·getD-map}
 use lib.Seq.{length-take-le, getD-take, take-take, take-set-lt, take-suc-set}
 use Rattle.codec.specs.declared.submessages.ObjectNumber.{ObjectNumber}
-use Rattle.sessions.specs.Objects.{blank, objectPlace, foundOf, slotOf, usedAfter, storedRow, removedRow}
-use Rattle.sessions.specs.View.{Entry, entryOf, blankEntry, listed, placeIn, heldAt, findIn, putEntry, putIn, dropAt, dropIn}
+use Rattle.sessions.specs.Objects.{blank, objectPlace, foundOf, slotOf, usedAfter, storedRow}
+use Rattle.sessions.specs.Dependants.{hasDependant}
+use Rattle.sessions.specs.Removal.{removeIn, dependedIn, removedRow}
+use Rattle.sessions.specs.View.{Entry, entryOf, blankEntry, listed, placeIn, heldAt, findIn, putEntry, putIn, dropAt}
 use Rattle.sessions.specs.declared.objects.Object.{Object}
 use Rattle.sessions.specs.declared.objects.Place.{Place}
 use Rattle.sessions.specs.declared.objects.Place.the-variants.{At, Nowhere}
@@ -29,7 +32,7 @@ module _ (row : List Object) (used : ℕ) (fits : used ≤ length row) where
   unfolding listed
   listed-length = length-map (take used row) entryOf ∙ length-take-le used row fits
 
-  listed-at : (i : ℕ) → i < used → getD (listed used row) i blankEntry ≡ entryOf (getD row i blank)
+  pub listed-at : (i : ℕ) → i < used → getD (listed used row) i blankEntry ≡ entryOf (getD row i blank)
   unfolding listed
   listed-at i h = List·getD-map entryOf (take used row) i blank ∙ ap entryOf (getD-take used row i blank h)
 
@@ -58,12 +61,7 @@ module _ (row : List Object) (used : ℕ) (fits : used ≤ length row) where
 
   -- ---- remove
 
-  -- how many records a removal leaves
-  abbrev pub left : Place → ℕ
-  left (At i) = used - 1
-  left Nowhere = used
-
-  drop-at : (i : ℕ) → i < used → listed (used - 1) (removedRow row used (At i)) ≡ dropAt (listed used row) (At i)
+  drop-at : (i : ℕ) → i < used → listed (used - 1) (set row i (getD row (used - 1) blank)) ≡ dropAt (listed used row) (At i)
   unfolding listed
   drop-at i h =
       let x = getD row (used - 1) blank in
@@ -75,9 +73,32 @@ module _ (row : List Object) (used : ℕ) (fits : used ≤ length row) where
       ∙ ap (λ (e : Entry). take (used - 1) (set (map entryOf (take used row)) i e)) (sym last)
       ∙ ap (λ (n : ℕ). take (n - 1) (set (map entryOf (take used row)) i (getD (map entryOf (take used row)) (n - 1) blankEntry))) (sym (length-map (take used row) entryOf ∙ length-take-le used row fits))
 
-  pub drop-shown : (n : ObjectNumber) → listed (left (objectPlace row used n)) (removedRow row used (objectPlace row used n)) ≡ dropIn (listed used row) (n .0)
-  drop-shown n = by (objectPlace row used n) (place-under row n used) ∙ ap (dropAt (listed used row)) (place-shown row n used fits)
+  -- whether the record at a place has a dependant, as the list says
+  abbrev pub dependedAt : Place → Bool
+  dependedAt (At i) = dependedIn row used (getD row i blank)
+  dependedAt Nowhere = false
+
+  pub depended-shown : (n : ObjectNumber) → dependedAt (objectPlace row used n) ≡ hasDependant (listed used row) (findIn (listed used row) (n .0))
+  depended-shown n = by (objectPlace row used n) (place-under row n used) ∙ ap (λ (p : Place). hasDependant (listed used row) (heldAt (listed used row) p)) (place-shown row n used fits)
     where
-      by : (p : Place) → Under used p → listed (left p) (removedRow row used p) ≡ dropAt (listed used row) p
-      by (At i) h = drop-at i h
+      by : (p : Place) → Under used p → dependedAt p ≡ hasDependant (listed used row) (heldAt (listed used row) p)
+      by (At i) h = ap (λ (e : Entry). hasDependant (listed used row) (some e)) (sym (listed-at i h))
+      by Nowhere h = refl
+
+  -- how many records a removal leaves
+  abbrev pub left : Place → ℕ
+  left (At i) = cond (dependedAt (At i)) used (used - 1)
+  left Nowhere = used
+
+  pub drop-shown : (n : ObjectNumber) → listed (left (objectPlace row used n)) (removedRow row used (objectPlace row used n)) ≡ removeIn (listed used row) (n .0)
+  drop-shown n =
+      by (objectPlace row used n) (place-under row n used)
+      ∙ (λ i. cond (depended-shown n i) (listed used row) (dropAt (listed used row) (place-shown row n used fits i)))
+    where
+      by : (p : Place) → Under used p → listed (left p) (removedRow row used p) ≡ cond (dependedAt p) (listed used row) (dropAt (listed used row) p)
+      by (At i) h = at (dependedAt (At i))
+        where
+          at : (b : Bool) → listed (cond b used (used - 1)) (cond b row (set row i (getD row (used - 1) blank))) ≡ cond b (listed used row) (dropAt (listed used row) (At i))
+          at true = refl
+          at false = drop-at i h
       by Nowhere h = refl

@@ -13,20 +13,22 @@ use lib.ListN.{length, take, drop, getD, set, length-set, length-drop}
 use lib.Seq.{drop-drop, drop-at, take-at, length-take-le, set-out}
 use Rattle.codec.specs.declared.submessages.ObjectNumber.{ObjectNumber}
 use Rattle.sessions.specs.Table.{sessionAt}
-use Rattle.sessions.specs.Objects.{blank, objectPlace, foundOf, slotOf, usedAfter, storedRow, removedRow}
-use Rattle.sessions.specs.SessionObjects.{firstObject, objectRow, withObjectRow, usedOf, countedSession, keepUsed, objectsNamed, foundObject, storedObject, storedObjects, keepStored, keepRemoved}
-use Rattle.sessions.specs.View.{Tables, Entry, Local, Part, entryOf, listed, streamRows, tablePart, sessionShown, localShown, localOf, objectsOf, findIn, putIn, dropIn}
+use Rattle.sessions.specs.Objects.{blank, objectPlace, slotOf, usedAfter, storedRow}
+use Rattle.sessions.specs.SessionObjects.{firstObject, objectRow, withObjectRow, usedOf, countedSession, keepUsed, objectsNamed, foundObject, storedObject, storedObjects, keepStored}
+use Rattle.sessions.specs.Removal.{removeIn, takenOf, removedRow, keepRemoved}
+use Rattle.sessions.specs.View.{Tables, Entry, Local, Part, entryOf, listed, streamRows, tablePart, sessionShown, localShown, localOf, objectsOf, findIn, putIn}
 use Rattle.sessions.specs.Calls.{putTables, dropTables}
 use Rattle.sessions.specs.declared.objects.Object.{Object}
 use Rattle.sessions.specs.declared.objects.Place.{Place}
 use Rattle.sessions.specs.declared.objects.Place.the-variants.{At, Nowhere}
 use Rattle.sessions.specs.declared.objects.Stored.the-variants.{Count, Full}
+use Rattle.sessions.specs.declared.objects.Taken.the-variants.{Gone, Depended}
 use Rattle.sessions.specs.declared.table.Named.the-variants.{Live}
 use Rattle.sessions.proofs.ObjectSearch.{Under, place-under}
 use Rattle.sessions.proofs.Parts.{part-below, part-above}
-use Rattle.sessions.proofs.ViewObjects.{entryFound, find-shown, put-shown, left, drop-shown}
+use Rattle.sessions.proofs.ViewObjects.{entryFound, find-shown, put-shown, dependedAt, left, drop-shown}
 use Rattle.sessions.proofs.ViewTable.{kept-here, kept-elsewhere}
-use Rattle.sessions.proofs.session_objects.Laws.{lent-row, found-is, stored-is, kept-is, removed-is}
+use Rattle.sessions.proofs.session_objects.Laws.{lent-row, found-is, stored-is, kept-is, taken-is, removed-is}
 use Rattle.sessions.proofs.table.Laws.{live-fits}
 
 -- ---- a session's row in the store
@@ -169,46 +171,70 @@ module _ (t : Tables) (id : ℕ) (id< : id < 256) (live : objectsNamed (t .sessi
 
   -- ---- remove
 
-  -- the tables after a removal, by the place of what is removed
+  abbrev last : Object
+  last = getD row (used - 1) blank
+
+  -- the tables without the record at place k
+  abbrev pub gone : ℕ → Tables
+  gone k = record { sessions = keepUsed (t .sessions) id (used - 1); streams = t .streams; objects = withObjectRow (t .objects) id (set row k last) }
+
+  -- the tables after a removal, by the place of what is removed: what has a dependant stays
   abbrev pub dropped : Place → Tables
-  dropped p = record { sessions = keepRemoved (t .sessions) id (foundOf row p); streams = t .streams; objects = withObjectRow (t .objects) id (removedRow row used p) }
+  dropped (At k) = cond (dependedAt row used fits (At k)) t (gone k)
+  dropped Nowhere = t
 
   pub by-place : (n : ObjectNumber) → dropTables t id n ≡ dropped (place n)
-  by-place n = λ i. record {
-    sessions = ap (keepRemoved (t .sessions) id) (sym (found-is (t .sessions) (t .objects) id n Live live)) i;
-    streams = t .streams;
-    objects = sym (removed-is (t .sessions) (t .objects) id n Live live) i;
-  }
+  by-place n =
+      (λ i. record {
+        sessions = ap (keepRemoved (t .sessions) id) (sym (taken-is (t .sessions) (t .objects) id n Live live)) i;
+        streams = t .streams;
+        objects = sym (removed-is (t .sessions) (t .objects) id n Live live) i;
+      })
+      ∙ by (place n)
+    where
+      at : (k : ℕ) (b : Bool)
+          → _≡_ {A = Tables}
+          (record { sessions = keepRemoved (t .sessions) id (cond b Depended (Gone (getD row k blank))); streams = t .streams; objects = withObjectRow (t .objects) id (cond b row (set row k last)) })
+          (cond b t (gone k))
+      at k true = λ i. record { sessions = t .sessions; streams = t .streams; objects = row-same (t .objects) id inside i }
+      at k false = refl
+
+      by : (p : Place)
+          → _≡_ {A = Tables}
+          (record { sessions = keepRemoved (t .sessions) id (takenOf row used p); streams = t .streams; objects = withObjectRow (t .objects) id (removedRow row used p) })
+          (dropped p)
+      by (At k) = at k (dependedAt row used fits (At k))
+      by Nowhere = λ i. record { sessions = t .sessions; streams = t .streams; objects = row-same (t .objects) id inside i }
 
   pub dropped-part : (p : Place) → Under used p → tablePart (dropped p) id ≡ withCounted (left row used fits p) (removedRow row used p) (tablePart t id)
-  dropped-part (At k) h = λ i. record {
-    session = kept-here (t .sessions) id (countedSession (sessionAt (t .sessions) id) (used - 1)) rows-long i;
-    objects = row-seen (t .objects) id inside (set row k (getD row (used - 1) blank)) (length-set row k (getD row (used - 1) blank) ∙ row-length (t .objects) id inside) i;
-    streams = streamRows (t .streams) id;
-  }
-  dropped-part Nowhere h = λ i. record {
-    session = sessionAt (t .sessions) id;
-    objects = row-seen (t .objects) id inside row (row-length (t .objects) id inside) i;
-    streams = streamRows (t .streams) id;
-  }
+  dropped-part (At k) h = by (dependedAt row used fits (At k))
+    where
+      by : (b : Bool) → tablePart (cond b t (gone k)) id ≡ withCounted (cond b used (used - 1)) (cond b row (set row k last)) (tablePart t id)
+      by true = refl
+      by false = λ i. record {
+        session = kept-here (t .sessions) id (countedSession (sessionAt (t .sessions) id) (used - 1)) rows-long i;
+        objects = row-seen (t .objects) id inside (set row k last) (length-set row k last ∙ row-length (t .objects) id inside) i;
+        streams = streamRows (t .streams) id;
+      }
+  dropped-part Nowhere h = refl
 
   -- the store with a record less, as one record that is set
-  pub dropped-set : (k : ℕ) → k < used → dropped (At k) .objects ≡ set (t .objects) (firstObject id + k) (getD row (used - 1) blank)
-  dropped-set k h = row-set (t .objects) id inside k (getD row (used - 1) blank) (omega (arith, row-length (t .objects) id inside, fits))
+  pub gone-set : (k : ℕ) → k < used → gone k .objects ≡ set (t .objects) (firstObject id + k) last
+  gone-set k h = row-set (t .objects) id inside k last (omega (arith, row-length (t .objects) id inside, fits))
 
   pub dropped-part-elsewhere : (j : ℕ) → j ≢ id → (p : Place) → Under used p → tablePart (dropped p) j ≡ tablePart t j
-  dropped-part-elsewhere j h (At k) u = λ i. record {
-    session = kept-elsewhere (t .sessions) id (countedSession (sessionAt (t .sessions) id) (used - 1)) j h i;
-    objects = (ap (λ (l : List Object). objectRow l j) (dropped-set k u) ∙ row-elsewhere (t .objects) id k j (getD row (used - 1) blank) (omega (arith, row-length (t .objects) id inside, fits)) h) i;
-    streams = streamRows (t .streams) j;
-  }
-  dropped-part-elsewhere j h Nowhere u = λ i. record {
-    session = sessionAt (t .sessions) j;
-    objects = ap (λ (l : List Object). objectRow l j) (row-same (t .objects) id inside) i;
-    streams = streamRows (t .streams) j;
-  }
+  dropped-part-elsewhere j h (At k) u = by (dependedAt row used fits (At k))
+    where
+      by : (b : Bool) → tablePart (cond b t (gone k)) j ≡ tablePart t j
+      by true = refl
+      by false = λ i. record {
+        session = kept-elsewhere (t .sessions) id (countedSession (sessionAt (t .sessions) id) (used - 1)) j h i;
+        objects = (ap (λ (l : List Object). objectRow l j) (gone-set k u) ∙ row-elsewhere (t .objects) id k j last (omega (arith, row-length (t .objects) id inside, fits)) h) i;
+        streams = streamRows (t .streams) j;
+      }
+  dropped-part-elsewhere j h Nowhere u = refl
 
-  pub drop-here : (n : ObjectNumber) → localOf (dropTables t id n) id ≡ withObjects (dropIn (objectsOf t id) (n .0)) (localOf t id)
+  pub drop-here : (n : ObjectNumber) → localOf (dropTables t id n) id ≡ withObjects (removeIn (objectsOf t id) (n .0)) (localOf t id)
   drop-here n =
       ap (λ (u : Tables). localOf u id) (by-place n)
       ∙ ap (localShown id) (dropped-part (place n) (place-under row n used))

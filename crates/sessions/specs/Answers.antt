@@ -17,6 +17,10 @@ use Rattle.sessions.specs.declared.objects.ObjectHandle.{ObjectHandle}
 use Rattle.sessions.specs.declared.objects.ObjectHandle.the-variants as handle
 use Rattle.sessions.specs.declared.objects.Found.{Found}
 use Rattle.sessions.specs.declared.objects.Found.the-variants as found
+use Rattle.sessions.specs.declared.objects.Taken.{Taken}
+use Rattle.sessions.specs.declared.objects.Taken.the-variants as taken
+use Rattle.sessions.specs.declared.object_list.Listed.{Listed}
+use Rattle.sessions.specs.declared.object_list.Listed.the-variants as list
 use Rattle.sessions.specs.declared.objects.Stored.{Stored}
 use Rattle.sessions.specs.declared.objects.Stored.the-variants as stored
 use Rattle.sessions.specs.declared.opening.Counted.{Counted}
@@ -92,6 +96,18 @@ foundAnswer (found.Held o) = gives (some o)
 foundAnswer found.Nothing = gives none
 foundAnswer (found.Refused r) = refusal r
 
+-- none where there is no such object; else the object, or none where another depends on it, which keeps it
+abbrev pub takenAnswer : Taken → Answer (Option (Option Object))
+takenAnswer (taken.Gone o) = gives (some (some o))
+takenAnswer taken.Depended = gives (some none)
+takenAnswer taken.Nothing = gives none
+takenAnswer (taken.Refused r) = refusal r
+
+-- how many numbers are listed
+abbrev pub listedAnswer : Listed → Answer ℕ
+listedAnswer (list.Numbers n) = gives n
+listedAnswer (list.Refused r) = refusal r
+
 -- none where there is no session; else how many objects it has, or none where there is no place for another
 abbrev pub storedAnswer : Stored → Answer (Option (Option ℕ))
 storedAnswer (stored.Count n) = gives (some (some n))
@@ -99,10 +115,11 @@ storedAnswer stored.Full = gives (some none)
 storedAnswer stored.NotLive = gives none
 storedAnswer (stored.Refused r) = refusal r
 
--- none where there is no session; else whether there is room
-abbrev pub roomAnswer : Room → Answer (Option Bool)
-roomAnswer room.Free = gives (some true)
-roomAnswer room.Full = gives (some false)
+-- none where there is no session; else whether there is room, or none where another depends on the object of that number
+abbrev pub roomAnswer : Room → Answer (Option (Option Bool))
+roomAnswer room.Free = gives (some (some true))
+roomAnswer room.Full = gives (some (some false))
+roomAnswer room.Depended = gives (some none)
 roomAnswer room.NotLive = gives none
 roomAnswer (room.Refused r) = refusal r
 

@@ -11,7 +11,8 @@ use Rattle.sessions.specs.Table.{isFree, touchedRows, endedRows}
 use Rattle.sessions.specs.Setup.{emptySessions, emptyStreams, emptyObjects, setUpOf, leaves}
 use Rattle.sessions.specs.Opening.{createdOf, openedRows, openedStreams}
 use Rattle.sessions.specs.Sweep.{evictedRows}
-use Rattle.sessions.specs.SessionObjects.{foundObject, storedObject, storedObjects, keepStored, removedObjects, keepRemoved}
+use Rattle.sessions.specs.SessionObjects.{storedObject, storedObjects, keepStored}
+use Rattle.sessions.specs.Removal.{takenObject, removedObjects, keepRemoved}
 use Rattle.sessions.specs.SessionStreams.{streamPlace, openedCount, openedIn, writtenIn}
 use Rattle.sessions.specs.Streams.{streamOf, streamRow}
 use Rattle.sessions.specs.View.{Tables, Part, tablePart, objectsShown, streamsShown, Distinct, objectNumbers, streamNumbers}
@@ -37,7 +38,7 @@ putTables t id o =
 
 abbrev pub dropTables : Tables → ℕ → ObjectNumber → Tables
 dropTables t id n =
-    record { sessions = keepRemoved (t .sessions) id (foundObject (t .sessions) (t .objects) id n); streams = t .streams; objects = removedObjects (t .sessions) (t .objects) id n }
+    record { sessions = keepRemoved (t .sessions) id (takenObject (t .sessions) (t .objects) id n); streams = t .streams; objects = removedObjects (t .sessions) (t .objects) id n }
 
 abbrev pub openTables : Tables → ℕ → ℕ → Tables
 openTables t id n =

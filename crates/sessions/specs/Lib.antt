@@ -8,6 +8,10 @@ pub mod Sweep
 pub mod SessionObjects
 pub mod SessionStreams
 pub mod View
+pub mod Dependants
+pub mod Removal
+pub mod ObjectList
+pub mod TakeDown
 pub mod Answers
 pub mod Setup
 pub mod Limits

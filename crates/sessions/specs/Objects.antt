@@ -1,5 +1,5 @@
 -- The objects of one session: a row of records, of which the first are in use.
-use Prim.Native.Nat.{ℕ, zero, suc, _+_, _-_}
+use Prim.Native.Nat.{ℕ, zero, suc, _+_}
 use mathlib.Core.Bool.{Bool, cond}
 use mathlib.Core.List.{List}
 use lib.Dec.{eqb, ltb}
@@ -65,8 +65,3 @@ storedOf row used o = cond (ltb (slotOf (objectPlace row used (o .number)) used)
 
 abbrev pub storedRow : List Object → ℕ → Object → List Object
 storedRow row used o = set row (slotOf (objectPlace row used (o .number)) used) o
-
--- the last record in use moves into the place of the one that goes
-abbrev pub removedRow : List Object → ℕ → Place → List Object
-removedRow row used (At i) = set row i (getD row (used - 1) blank)
-removedRow row used Nowhere = row

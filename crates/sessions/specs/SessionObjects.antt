@@ -1,11 +1,11 @@
 -- The objects of a session, by its id: 32 records a session, in one lent store.
-use Prim.Native.Nat.{ℕ, _+_, _-_, _*_}
+use Prim.Native.Nat.{ℕ, _+_, _*_}
 use mathlib.Core.List.{List, [], _∷_, _++_}
 use lib.ListN.{length, take, drop}
 use Rattle.codec.specs.declared.submessages.ObjectNumber.{ObjectNumber}
 use Rattle.sessions.specs.Need.{mostObjects, objectsNeed}
 use Rattle.sessions.specs.Table.{sessionAt, keepSession, reachedOf}
-use Rattle.sessions.specs.Objects.{objectPlace, foundOf, storedOf, storedRow, removedRow}
+use Rattle.sessions.specs.Objects.{objectPlace, foundOf, storedOf, storedRow}
 use Rattle.sessions.specs.declared.objects.Object.{Object}
 use Rattle.sessions.specs.declared.objects.Found.{Found}
 use Rattle.sessions.specs.declared.objects.Found.the-variants as found
@@ -75,19 +75,3 @@ keepStored sessions id (stored.Count n) = keepUsed sessions id n
 keepStored sessions id stored.Full = sessions
 keepStored sessions id stored.NotLive = sessions
 keepStored sessions id (stored.Refused r) = sessions
-
--- ---- remove
-
-abbrev pub removedIn : Named → List (List ℕ) → List Object → ℕ → ObjectNumber → List Object
-removedIn Live sessions objects id n =
-    withObjectRow objects id (removedRow (objectRow objects id) (usedOf sessions id) (objectPlace (objectRow objects id) (usedOf sessions id) n))
-removedIn NotLive sessions objects id n = objects
-removedIn (Refused r) sessions objects id n = objects
-
-unfoldable pub removedObjects : List (List ℕ) → List Object → ℕ → ObjectNumber → List Object
-removedObjects sessions objects id n = removedIn (objectsNamed sessions (length objects) id) sessions objects id n
-
-abbrev pub keepRemoved : List (List ℕ) → ℕ → Found → List (List ℕ)
-keepRemoved sessions id (found.Held o) = keepUsed sessions id (usedOf sessions id - 1)
-keepRemoved sessions id found.Nothing = sessions
-keepRemoved sessions id (found.Refused r) = sessions

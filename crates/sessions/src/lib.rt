@@ -1,6 +1,7 @@
 // The sessions of session.rs: the table of sessions by id, and the objects and streams of each.
 pub mod limits;
 pub mod need;
+pub mod object_list;
 pub mod object_rows;
 pub mod objects;
 pub mod opening;

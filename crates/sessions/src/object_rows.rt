@@ -4,14 +4,18 @@ use crate::objects::Found;
 use crate::objects::Object;
 use crate::objects::Place;
 use crate::objects::Stored;
+use crate::objects::Taken;
 use crate::objects::count;
+use crate::objects::depends;
+use crate::objects::is_above;
 use crate::objects::is_numbered;
 use crate::objects::slot;
 use codec::submessages::ObjectNumber;
 ghost use mathlib.Core.Path.{_≡_};
 ghost use Prim.Native.Nat.{_≤_};
 ghost use lib.ListN.{length};
-ghost use Rattle.sessions.specs.Objects.{objectPlace, foundOf, storedOf, storedRow, removedRow};
+ghost use Rattle.sessions.specs.Objects.{objectPlace, foundOf, storedOf, storedRow};
+ghost use Rattle.sessions.specs.Removal.{dependedIn, takenOf, removedRow};
 
 // Where the record of that number is: the search goes up from the first record.
 pub(crate) fn place(row: &[Object], used: usize, number: ObjectNumber) -> Place
@@ -62,21 +66,56 @@ pub(crate) fn put(row: &mut [Object], used: usize, o: Object) -> Stored
     }
 }
 
-// Takes the record of that number out; the last one moves into its place.
-pub(crate) fn remove(row: &mut [Object], used: usize, number: ObjectNumber) -> Found
+// Whether a record depends on this one: one pass.
+fn any_depends(row: &[Object], used: usize, o: Object) -> bool
     requires { ⌜ used ≤ length (now row) ⌝ }
-    ensures { λ r. ⌜ (r ≡ foundOf (now (row .entry)) (objectPlace (now (row .entry)) used number))
+    ensures { λ r. ⌜ r ≡ dependedIn (now (row .entry)) used o ⌝ }
+{
+    let mut i = 0;
+    while i < used {
+        let x = row[i];
+        let hit = depends(x, o);
+        if hit {
+            return true;
+        }
+        i = i + 1;
+    }
+    false
+}
+
+// The same, without the pass for a kind that nothing depends on.
+pub(crate) fn depended(row: &[Object], used: usize, o: Object) -> bool
+    requires { ⌜ used ≤ length (now row) ⌝ }
+    ensures { λ r. ⌜ r ≡ dependedIn (now (row .entry)) used o ⌝ }
+{
+    let kind = o.kind;
+    let above = is_above(kind);
+    if above {
+        any_depends(row, used, o)
+    } else {
+        false
+    }
+}
+
+// Takes the record of that number out, unless another depends on it; the last one moves into its place.
+pub(crate) fn remove(row: &mut [Object], used: usize, number: ObjectNumber) -> Taken
+    requires { ⌜ used ≤ length (now row) ⌝ }
+    ensures { λ r. ⌜ (r ≡ takenOf (now (row .entry)) used (objectPlace (now (row .entry)) used number))
         × (now (row .exit) ≡ removedRow (now (row .entry)) used (objectPlace (now (row .entry)) used number)) ⌝ }
 {
     let p = place(row, used, number);
     match p {
         Place::At(i) => {
             let o = row[i];
+            let stays = depended(row, used, o);
+            if stays {
+                return Taken::Depended;
+            }
             let last = used - 1;
             let moved = row[last];
             row[i] = moved;
-            Found::Held(o)
+            Taken::Gone(o)
         }
-        Place::Nowhere => Found::Nothing,
+        Place::Nowhere => Taken::Nothing,
     }
 }

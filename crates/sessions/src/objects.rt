@@ -4,6 +4,9 @@ use codec::submessages::ObjectNumber;
 ghost use mathlib.Core.Path.{_≡_};
 ghost use Prim.Native.Nat.{_<_};
 ghost use Rattle.sessions.specs.Objects.{bridgedOf, implicitOf, handleOf, isNumbered, slotOf, usedAfter};
+ghost use Rattle.sessions.specs.View.{entryOf};
+ghost use Rattle.sessions.specs.Dependants.{kindsDepend, dependsOn};
+ghost use Rattle.sessions.specs.Removal.{isAbove};
 
 // What the bridge knows an entity by. One is made of a bridge's answer, or read out of a record that holds one: a bridge
 // call takes this struct alone, so an object number never stands where a handle is due.
@@ -79,6 +82,14 @@ pub enum Found {
     Refused(Refusal),
 }
 
+// What taking a record out comes to: the record, or that another depends on it, which keeps it.
+pub enum Taken {
+    Gone(Object),
+    Depended,
+    Nothing,
+    Refused(Refusal),
+}
+
 // What storing a record comes to: the number of records now in use, or that there is no place for another.
 pub enum Stored {
     Count(usize),
@@ -93,6 +104,45 @@ pub(crate) fn is_numbered(o: Object, n: ObjectNumber) -> bool
     let held = o.number.0;
     let asked = n.0;
     held == asked
+}
+
+// Only a Participant or a Topic may have a dependant.
+pub(crate) fn is_above(kind: u8) -> bool
+    ensures { λ r. ⌜ r ≡ isAbove kind ⌝ }
+{
+    if kind == 1 {
+        return true;
+    }
+    kind == 2
+}
+
+// Document 02, W3: on a Participant a Topic depends, on a Topic a DataWriter or DataReader.
+fn kinds_depend(kind: u8, named: u8) -> bool
+    ensures { λ r. ⌜ r ≡ kindsDepend kind named ⌝ }
+{
+    if named == 1 {
+        return kind == 2;
+    }
+    if named == 2 {
+        if kind == 5 {
+            return true;
+        }
+        return kind == 6;
+    }
+    false
+}
+
+// Whether the first names the second as its parent, by kinds that depend so.
+pub(crate) fn depends(o: Object, named: Object) -> bool
+    ensures { λ r. ⌜ r ≡ dependsOn (entryOf o) (entryOf named) ⌝ }
+{
+    let parent = o.parent;
+    let number = named.number.0;
+    if parent == number {
+        kinds_depend(o.kind, named.kind)
+    } else {
+        false
+    }
 }
 
 // Where a record goes: in the place of the older one of its number, else behind the last.

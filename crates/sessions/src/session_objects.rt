@@ -6,6 +6,7 @@ use crate::object_rows;
 use crate::objects::Found;
 use crate::objects::Object;
 use crate::objects::Stored;
+use crate::objects::Taken;
 use crate::table::ClientSession;
 use crate::table::Named;
 use crate::table::SessionRow;
@@ -17,28 +18,29 @@ use codec::submessages::ObjectNumber;
 ghost use mathlib.Core.Path.{_≡_};
 ghost use Prim.Native.Nat.{_+_, _-_};
 ghost use lib.ListN.{length};
-ghost use Rattle.sessions.specs.SessionObjects.{objectsNamed, usedOf, firstObject, countedSession, keepUsed, foundObject, storedObject, storedObjects, keepStored, removedObjects, keepRemoved};
+ghost use Rattle.sessions.specs.SessionObjects.{objectsNamed, usedOf, firstObject, countedSession, keepUsed, foundObject, storedObject, storedObjects, keepStored};
+ghost use Rattle.sessions.specs.Removal.{takenObject, removedObjects, keepRemoved, dependedObject};
 
-fn reach(sessions: &[SessionRow], objects: usize, id: u8) -> Named
+pub(crate) fn reach(sessions: &[SessionRow], objects: usize, id: u8) -> Named
     ensures { λ r. ⌜ r ≡ objectsNamed (now (sessions .entry)) objects id ⌝ }
 {
     let used = session_at(sessions, id).objects;
     reached(sessions, id, used, MOST_OBJECTS as u64, objects, OBJECTS)
 }
 
-fn used(sessions: &[SessionRow], id: u8) -> usize
+pub(crate) fn used(sessions: &[SessionRow], id: u8) -> usize
     ensures { λ r. ⌜ r ≡ usedOf (now (sessions .entry)) id ⌝ }
 {
     session_at(sessions, id).objects as usize
 }
 
-fn first(id: u8) -> usize
+pub(crate) fn first(id: u8) -> usize
     ensures { λ r. ⌜ r ≡ firstObject id ⌝ }
 {
     MOST_OBJECTS * (id as usize)
 }
 
-fn behind(id: u8) -> usize
+pub(crate) fn behind(id: u8) -> usize
     ensures { λ r. ⌜ r ≡ firstObject id + 32 ⌝ }
 {
     first(id) + MOST_OBJECTS
@@ -82,16 +84,17 @@ fn one_less(n: u64) -> u64
     if n == 0 { 0 } else { n - 1 }
 }
 
-fn keep_removed(sessions: &mut [SessionRow], id: u8, r: Found)
+fn keep_removed(sessions: &mut [SessionRow], id: u8, r: Taken)
     ensures { λ _. ⌜ now (sessions .exit) ≡ keepRemoved (now (sessions .entry)) id r ⌝ }
 {
     match r {
-        Found::Held(_) => {
+        Taken::Gone(_) => {
             let n = one_less(session_at(sessions, id).objects);
             keep_used(sessions, id, n);
         }
-        Found::Nothing => {}
-        Found::Refused(_) => {}
+        Taken::Depended => {}
+        Taken::Nothing => {}
+        Taken::Refused(_) => {}
     }
 }
 
@@ -140,14 +143,32 @@ pub fn put_object(sessions: &mut [SessionRow], objects: &mut [Object], id: u8, o
     }
 }
 
-// Drops the object of that number, and hands it back.
+// Whether another of the session's objects depends on this one.
+pub(crate) fn has_dependant(sessions: &[SessionRow], objects: &[Object], id: u8, o: Object) -> bool
+    ensures { λ r. ⌜ r ≡ dependedObject (now (sessions .entry)) (now (objects .entry)) id o ⌝ }
+{
+    let len = objects.len();
+    let named = reach(sessions, len, id);
+    match named {
+        Named::Live => {
+            let a = first(id);
+            let e = behind(id);
+            let n = used(sessions, id);
+            object_rows::depended(&objects[a..e], n, o)
+        }
+        Named::NotLive => false,
+        Named::Refused(_) => false,
+    }
+}
+
+// Drops the object of that number, unless another depends on it, and hands it back.
 pub fn remove_object(
     sessions: &mut [SessionRow],
     objects: &mut [Object],
     id: u8,
     number: ObjectNumber,
-) -> Found
-    ensures { λ r. ⌜ (r ≡ foundObject (now (sessions .entry)) (now (objects .entry)) id number)
+) -> Taken
+    ensures { λ r. ⌜ (r ≡ takenObject (now (sessions .entry)) (now (objects .entry)) id number)
         × (now (sessions .exit) ≡ keepRemoved (now (sessions .entry)) id r)
         × (now (objects .exit) ≡ removedObjects (now (sessions .entry)) (now (objects .entry)) id number) ⌝ }
 {
@@ -162,7 +183,7 @@ pub fn remove_object(
             keep_removed(sessions, id, r);
             r
         }
-        Named::NotLive => Found::Nothing,
-        Named::Refused(x) => Found::Refused(x),
+        Named::NotLive => Taken::Nothing,
+        Named::Refused(x) => Taken::Refused(x),
     }
 }

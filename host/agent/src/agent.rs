@@ -8,7 +8,7 @@ use crate::refusal::{read, Refusal};
 /// An agent. It holds about 246 KiB of tables on the heap, whatever `max_clients` is.
 ///
 /// While a bridge call is open, [`Agent::answer`] is the only call in its turn: datagrams, removals and sweeps are
-/// refused as 15 (document 01, "Refused").
+/// refused as 15 (document 01, "Refused"). [`Agent::list`] only reads, and answers then too.
 #[derive(Debug)]
 pub struct Agent {
     record: AgentRecord,
@@ -79,5 +79,13 @@ impl Agent {
     pub fn sweep<'a>(&mut self, time_ms: u64, out: &'a mut [u8]) -> Result<&'a [u8], Refusal> {
         let ended = read(ffi::sweep(self.record.lend(), &mut self.tables.sessions, out, time_ms))?;
         Ok(&out[..ended as usize])
+    }
+
+    /// The numbers of a session's objects, each once, from the start of `out`; 32 numbers always suffice. Kind 6 comes first
+    /// and 1 last, numbers ascend within a kind: DELETEs in this order never meet an object that another depends on. An id
+    /// that isn't live has none. Refused: 13.
+    pub fn list<'a>(&self, id: u8, out: &'a mut [u16]) -> Result<&'a [u16], Refusal> {
+        let count = read(ffi::list(&self.tables.sessions, &self.tables.objects, out, id))?;
+        Ok(&out[..count as usize])
     }
 }

@@ -57,6 +57,16 @@ unsafe extern "C" {
         room: usize,
         time: u64,
     ) -> u64;
+
+    fn xrce_agent_list(
+        sessions: *const SessionRow,
+        session_rows: usize,
+        objects: *const ObjectRecord,
+        object_records: usize,
+        out: *mut u16,
+        room: usize,
+        id: u8,
+    ) -> u64;
 }
 
 /// The documented need for `max_clients` in bytes; refused: 16.
@@ -131,6 +141,23 @@ pub fn sweep(agent: &[AgentRecord], sessions: &mut [SessionRow], out: &mut [u8],
             out.as_mut_ptr(),
             out.len(),
             time_ms,
+        )
+    }
+}
+
+/// Lists the numbers of a session's objects in `out`, kind 6 down to 1 and ascending within a kind; the answer's number is how
+/// many. Never out of turn. Refused: 16, 13.
+pub fn list(sessions: &[SessionRow], objects: &[ObjectRecord], out: &mut [u16], id: u8) -> u64 {
+    // SAFETY: as in `setup`; the tables are read alone, and shared slices share no byte with the output.
+    unsafe {
+        xrce_agent_list(
+            sessions.as_ptr(),
+            sessions.len(),
+            objects.as_ptr(),
+            objects.len(),
+            out.as_mut_ptr(),
+            out.len(),
+            id,
         )
     }
 }

@@ -49,6 +49,7 @@
 //!
 //! A host whose bridge answers later uses [`Agent::incoming`], makes the [`Call`] it hands out when it likes, and hands the
 //! [`Answer`] in with [`Agent::answer`]. What can't be done is a [`Refusal`], and a refused call changed nothing.
+//! [`Agent::list`] has a session's objects in the order in which they can be deleted.
 //!
 //! The archive is found by `XRCE_AGENT_LIB` (a folder with `libcabi.a`), or in the repository's `target/staticlib`.
 #![deny(unsafe_op_in_unsafe_fn)]

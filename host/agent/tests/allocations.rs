@@ -34,6 +34,7 @@ fn serve(agent: &mut Agent, datagrams: &[Vec<u8>], out: &mut [u8]) {
         }
     }
     agent.sweep(1, out).unwrap();
+    assert_eq!(agent.list(1, &mut [0; 32]), Ok(&[1][..]));
 }
 
 #[test]

@@ -105,9 +105,13 @@ fn a_writer_or_reader_whose_parent_leads_to_no_participant() {
     for parent in [9, 1, 3, 4, 5, 6, 0x0102] {
         invalid(&mut fixture, parent);
     }
-    assert_eq!(fixture.datagram(&Datagram::new(1, 0).delete(1).bytes()), 0);
+    // A Topic may name a writer, which goes before it; the Topic then names nothing, and later a Participant.
+    fixture.creates(7, wire::TOPIC, 3);
+    assert_eq!(fixture.datagram(&Datagram::new(1, 0).delete(3).bytes()), 0);
     assert_eq!(fixture.answer(DONE, 0, &[]), 0);
-    invalid(&mut fixture, 2);
+    invalid(&mut fixture, 7);
+    fixture.creates(3, wire::PARTICIPANT, 0);
+    fixture.creates(9, wire::DATA_WRITER, 7);
 }
 
 #[test]

@@ -15,6 +15,7 @@ call create_participant, domain 0: handle 41
 reply 01 00 00 00 05 00 03 00 07 00 00
 a submessage that there isn't at 6 ms
 refused 2, byte 3
+session 1 has 1 object, number 7
 sweep at 1006 ms: 1 ended, the first is 1
 ";
     assert_eq!(printed, wanted);

@@ -91,6 +91,8 @@ fn no_record() {
         assert_eq!(fixture.setup(none, 256, 1000), 16);
         assert_eq!(fixture.remove(none, 1), 16);
         assert_eq!(fixture.sweep(none, 0, u64::MAX), 16);
+        // The listing takes no record.
+        assert!(fixture.list(none, 32, 1).is_ok());
     }
 }
 
@@ -114,6 +116,12 @@ fn stores_under_their_need() {
     for short in &shorts[..3] {
         assert_eq!(fixture.remove(*short, 1), 16);
         assert_eq!(fixture.sweep(*short, 255, 0), 16);
+    }
+    // A listing looks at the sessions and the objects, and at no stream; 16 comes before 13.
+    for (short, answer) in shorts.iter().zip([None, Some(16), Some(16), None, None, Some(16), Some(16)]) {
+        let listed = answer.map_or(Ok(vec![4, 3, 2, 1]), Err);
+        assert_eq!(fixture.list(*short, 32, 1), listed);
+        assert_eq!(fixture.list(*short, 0, 1), Err(answer.unwrap_or(13)));
     }
     assert_eq!(fixture.datagram(&datagram), 0);
     for short in &shorts[..] {
@@ -245,7 +253,15 @@ fn altered_tables() {
         let mut fixture = Fixture::with_objects();
         fixture.tables.sessions[1][place] = value;
         assert_eq!(fixture.datagram(&Datagram::new(1, 0).delete(4).bytes()), 16, "{place} {value}");
+        // A listing looks at the objects alone, and at no other session.
+        let listed = if place == 3 { Err(16) } else { Ok(vec![4, 3, 2, 1]) };
+        assert_eq!(fixture.list(WHOLE, 32, 1), listed, "{place} {value}");
+        assert_eq!(fixture.list(WHOLE, 0, 2), Ok(vec![]), "{place} {value}");
     }
+    // A free row with such a count was altered too.
+    let mut fixture = Fixture::with_objects();
+    fixture.tables.sessions[2][3] = 33;
+    assert_eq!(fixture.list(WHOLE, 64, 2), Err(16));
 }
 
 #[test]

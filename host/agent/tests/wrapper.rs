@@ -53,6 +53,29 @@ fn removal_and_sweep() {
 }
 
 #[test]
+fn the_listing_takes_a_session_down_in_order_and_answers_while_a_call_is_open() {
+    let (mut agent, mut bridge, mut out, mut numbers) = (opened(), Noting::default(), Vec::new(), [7; 6]);
+    assert_eq!(agent.list(1, &mut []), Ok(&[][..]));
+    agent.serve(&all_but_the_delete().bytes(), 1, &mut out, &mut bridge).unwrap();
+    assert_eq!(agent.list(1, &mut numbers[..3]), Err(Refusal::OutputTooShort));
+    assert_eq!(agent.list(2, &mut numbers), Ok(&[][..]));
+    assert_eq!(numbers, [7; 6]);
+    assert_eq!(agent.list(1, &mut numbers), Ok(&[4, 3, 2, 1][..]));
+    assert_eq!(numbers, [4, 3, 2, 1, 7, 7]);
+    // The other way round everything stays, and no call is made.
+    bridge.calls.clear();
+    agent.serve(&Datagram::new(1, 0).delete(1).delete(2).bytes(), 1, &mut out, &mut bridge).unwrap();
+    assert_eq!((&out, bridge.calls.len()), (&[status(1, 3), status(2, 3)].concat(), 0));
+    for (gone, number) in numbers[..4].iter().enumerate() {
+        agent.incoming(&Datagram::new(1, 0).delete(*number).bytes(), 1, &mut out).unwrap();
+        assert!(agent.open_call().is_some());
+        assert_eq!(agent.list(1, &mut [0; 32]), Ok(&numbers[gone + 1..4]));
+        assert_eq!(agent.answer(Answer::Done, &mut out), Ok(Outcome { wrote: 11, call: None }));
+        assert_eq!(out[..11], status(*number, 0));
+    }
+}
+
+#[test]
 fn replies_that_are_cut_short_are_not_given() {
     let two = [status(1, 0), status(2, 0)].concat();
     assert_eq!(replies(&two).count(), 2);
@@ -107,7 +130,7 @@ impl Bridge for Noting {
     }
 }
 
-fn all_seven() -> Datagram {
+fn all_but_the_delete() -> Datagram {
     Datagram::new(1, 0)
         .create(1, 1, 3, &[])
         .create(2, 2, 1, &strings(b"n", b"t"))
@@ -115,7 +138,10 @@ fn all_seven() -> Datagram {
         .create(4, 6, 2, &[])
         .write_data(3, b"a\n")
         .read_data(4)
-        .delete(4)
+}
+
+fn all_seven() -> Datagram {
+    all_but_the_delete().delete(4)
 }
 
 #[test]

@@ -49,6 +49,7 @@ fn run(options: &Options) -> Result<(), Wrong> {
     println!("created participant 1, topic 2 '{}', writer 3, reader 4", options.topic);
     let summary = Messages::new(options).exchange(&mut client)?;
     print!("{summary}");
+    // In the order of the agent's listing: what others depend on can't be deleted before them.
     for (object, what) in [(4, "reader"), (3, "writer"), (2, "topic"), (1, "participant")] {
         client.delete(object, what)?;
     }

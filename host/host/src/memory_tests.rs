@@ -61,6 +61,17 @@ fn a_session_takes_its_entities_along() {
 }
 
 #[test]
+fn a_session_is_cleared_away_from_the_last_made_to_the_first() {
+    let mut bridge = Memory::default();
+    let (p, t) = topic(&mut bridge, b"a");
+    let (writer, reader) = (bridge.create_writer(p, t).unwrap(), bridge.create_reader(p, t).unwrap());
+    let other = bridge.create_participant(0).unwrap();
+    bridge.delete_entity(writer).unwrap();
+    assert_eq!(bridge.made.take(0).collect::<Vec<_>>(), [other, reader, t, p]);
+    assert_eq!(bridge.made.take(0).count(), 0);
+}
+
+#[test]
 fn handles_are_not_used_twice_and_sessions_have_a_limit() {
     let mut bridge = Memory { last: u32::MAX - 1, ..Memory::default() };
     assert_eq!(bridge.create_participant(0), Ok(Handle(u32::MAX)));

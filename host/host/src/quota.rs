@@ -26,8 +26,9 @@ impl Made {
         }
     }
 
-    /// The session is gone: what it made.
-    pub fn take(&mut self, session: u8) -> Vec<Handle> {
-        self.0.remove(&session).unwrap_or_default()
+    /// The session is gone: what it made, the last first. An entity is made after those that it was made with, so in this
+    /// order it goes before them.
+    pub fn take(&mut self, session: u8) -> impl Iterator<Item = Handle> {
+        self.0.remove(&session).unwrap_or_default().into_iter().rev()
     }
 }

@@ -9,6 +9,9 @@ use std::time::{Duration, Instant};
 /// Calls between two fresh set-ups.
 const ROUND: u64 = 400;
 
+/// The call that only reads.
+const LIST: usize = 4;
+
 /// Calls at least; the time it may take at most.
 pub const CALLS: u64 = 1_200_000;
 const LIMIT: Duration = Duration::from_secs(30);
@@ -56,7 +59,15 @@ pub fn run(seed: u64) -> Result<String, String> {
     if counts.answered < CALLS / 5 {
         return Err(format!("too few calls were answered: {}", counts.shown()));
     }
-    Ok(format!("{}; {checked} compared whole, {} ms", counts.shown(), start.elapsed().as_millis()))
+    if stores.listed < CALLS / 200 {
+        return Err(format!("the listings had only {} objects", stores.listed));
+    }
+    Ok(format!(
+        "{}; {checked} compared whole, {} objects in listings, {} ms",
+        counts.shown(),
+        stores.listed,
+        start.elapsed().as_millis()
+    ))
 }
 
 // One set-up and the calls on it. How often something is altered differs from round to round.
@@ -81,19 +92,21 @@ fn round(chance: &mut Chance, stores: &mut Stores, counts: &mut Counts) -> Resul
 
 fn call(chance: &mut Chance, stores: &mut Stores, whole: bool) -> Result<u64, String> {
     let before = whole.then(|| stores.copy());
-    let answer = match chance.below(40) {
+    let which = chance.below(40);
+    let answer = match which {
         0 => stores.sweep(chance)?,
         1 => stores.remove(chance),
         2 => xrce_agent::lent::need(chance.extreme()),
         3 if whole => stores.setup(chance),
+        LIST => stores.list(chance)?,
         _ => {
             let datagram = any_datagram(chance, &[1, 2, 3, 255]);
             stores.process(chance, &datagram)?
         }
     };
     match before {
-        Some(before) if !went(answer) && before != stores.copy() => {
-            Err(format!("a call refused as {} changed its record or tables", answer % 256))
+        Some(before) if (which == LIST || !went(answer)) && before != stores.copy() => {
+            Err(format!("a listing, or a call refused as {}, changed its record or tables", answer % 256))
         }
         _ => Ok(answer),
     }

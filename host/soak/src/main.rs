@@ -6,6 +6,7 @@ mod chance;
 mod crowd;
 mod datagrams;
 mod flood;
+mod listing;
 mod stores;
 mod sys;
 mod witness;

@@ -1,14 +1,17 @@
 //! Everything that a host lends, each in memory of its own between guard pages.
 
 use crate::chance::Chance;
+use crate::listing::{listing, Kept};
 use crate::sys::{Guarded, Side};
 use xrce_agent::lent::{
     self, AgentRecord, Lent, ObjectRecord, SessionRow, StreamRow, Told, OBJECTS, SESSIONS, STREAMS,
 };
 
 const OUT: usize = 8192;
+const NUMBERS: usize = 64;
 const BYTES: usize = 70_000;
 const FILL: u8 = 0xA5;
+const FILL_NUMBER: u16 = 0xA5A5;
 
 pub struct Stores {
     record: Guarded<AgentRecord>,
@@ -16,11 +19,14 @@ pub struct Stores {
     streams: Guarded<StreamRow>,
     objects: Guarded<ObjectRecord>,
     out: Guarded<u8>,
+    numbers: Guarded<u16>,
     datagram: Guarded<u8>,
     sample: Guarded<u8>,
     side: Side,
     // The datagram of the open call, as a host keeps it.
     kept: Vec<u8>,
+    /// Objects in listings that were checked whole.
+    pub listed: u64,
 }
 
 /// A copy of record and tables.
@@ -49,14 +55,12 @@ pub fn went(answer: u64) -> bool {
 }
 
 // A refused call leaves the output, an answered one what stands behind its result.
-fn output_kept(out: &[u8], answer: u64, wrote: u64) -> Result<(), String> {
+fn output_kept<T: PartialEq>(out: &[T], fill: T, answer: u64, wrote: u64) -> Result<(), String> {
     let from = if went(answer) { wrote } else { 0 };
     let rest = usize::try_from(from).ok().and_then(|from| out.get(from..));
     match rest {
-        None => Err(format!("{wrote} bytes replied in an output of {}", out.len())),
-        Some(rest) if rest.iter().any(|byte| *byte != FILL) => {
-            Err(format!("bytes changed behind {from} of the output"))
-        }
+        None => Err(format!("{wrote} written in an output of {}", out.len())),
+        Some(rest) if rest.iter().any(|one| *one != fill) => Err(format!("the output changed behind {from}")),
         Some(_) => Ok(()),
     }
 }
@@ -69,10 +73,12 @@ impl Stores {
             streams: Guarded::new(STREAMS),
             objects: Guarded::new(OBJECTS),
             out: Guarded::new(OUT),
+            numbers: Guarded::new(NUMBERS),
             datagram: Guarded::new(BYTES),
             sample: Guarded::new(BYTES),
             side: Side::End,
             kept: Vec::new(),
+            listed: 0,
         }
     }
 
@@ -131,7 +137,7 @@ impl Stores {
         };
         let records = self.record.slice(side, records);
         let answer = lent::process(records, tables, out, told);
-        output_kept(out, answer, records.first().map_or(0, |record| record.wrote))?;
+        output_kept(out, FILL, answer, records.first().map_or(0, |record| record.wrote))?;
         if went(answer) {
             told_whole(records.first().ok_or("a call without a record was answered")?, bytes.len())?;
             self.kept = bytes;
@@ -154,7 +160,32 @@ impl Stores {
         let out = self.out.slice(side, room);
         out.fill(FILL);
         let answer = lent::sweep(self.record.slice(side, records), sessions, out, chance.extreme());
-        output_kept(out, answer, answer / 65536)?;
+        output_kept(out, FILL, answer, answer / 65536)?;
+        Ok(answer)
+    }
+
+    /// The listing of a session, which must be right wherever the session's row and records are such as the agent leaves.
+    pub fn list(&mut self, chance: &mut Chance) -> Result<u64, String> {
+        let side = self.side;
+        let sessions = self.sessions.slice(side, length(chance, SESSIONS));
+        let objects = self.objects.slice(side, length(chance, OBJECTS));
+        let out = self.numbers.slice(side, chance.of(&[0, 1, 2, 4, 8, 31, 32, 32, 33, NUMBERS]));
+        out.fill(FILL_NUMBER);
+        let id = if chance.once_in(4) { chance.extreme() as u8 } else { 1 + chance.below(3) as u8 };
+        let answer = lent::list(sessions, objects, out, id);
+        output_kept(out, FILL_NUMBER, answer, answer / 65536)?;
+        let wanted = listing(sessions, objects, out.len(), id);
+        let right = match &wanted {
+            Kept::Listed(numbers) => went(answer) && out[..answer as usize / 65536] == numbers[..],
+            Kept::Refused(number) => answer == *number,
+            Kept::Altered => matches!(answer % 256, 0 | 13 | 16),
+        };
+        if !right {
+            return Err(format!("the listing of session {id} answered {answer} instead of {wanted:?}: {out:?}"));
+        }
+        if let Kept::Listed(numbers) = wanted {
+            self.listed += numbers.len() as u64;
+        }
         Ok(answer)
     }
 

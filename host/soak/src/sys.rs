@@ -17,6 +17,7 @@ const PAGE: usize = 65_536;
 /// Numbers of which every bit pattern is one.
 pub trait Plain {}
 impl Plain for u8 {}
+impl Plain for u16 {}
 impl Plain for u64 {}
 impl Plain for [u64; 5] {}
 impl Plain for [u16; 35] {}

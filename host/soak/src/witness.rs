@@ -60,9 +60,12 @@ impl Witness {
         }
     }
 
-    /// Writes the next message and reads it back.
+    /// Writes the next message and reads it back; every so often it first tries to take down what that needs.
     pub fn exchange(&mut self) -> Result<(), String> {
         self.exchanges += 1;
+        if self.exchanges.is_multiple_of(32) {
+            self.take_down()?;
+        }
         let sent = format!("message {}", self.exchanges).into_bytes();
         let write = Datagram::new(self.session, 0).write_data(WRITER, &sent).bytes();
         self.until_ok(&write, WRITER)?;
@@ -80,6 +83,21 @@ impl Witness {
             }
         }
         Err(format!("message {} didn't come back", self.exchanges))
+    }
+
+    // What others depend on stays, and the agent says so without its bridge: a bridge that fails doesn't show.
+    fn take_down(&mut self) -> Result<(), String> {
+        for object in [PARTICIPANT, TOPIC] {
+            let datagram = Datagram::new(self.session, 0);
+            for datagram in [datagram.clone().delete(object), datagram.create(object, wire::PARTICIPANT, 0, &[])] {
+                match self.ask(&datagram.bytes(), object)? {
+                    Told::Status(wire::ERR_INCOMPATIBLE) => {}
+                    Told::Status(code) => return Err(format!("taking {object} down was answered by status {code}")),
+                    Told::Data(_) => return Err(format!("object {object} was answered by DATA")),
+                }
+            }
+        }
+        Ok(())
     }
 
     // A bridge that fails answers ERR_INVALID_DATA, whatever was asked.
@@ -107,7 +125,8 @@ impl Witness {
                     (true, Body::Status { object, code }) if object == wanted => return Ok(Told::Status(code)),
                     (true, Body::Data { reader, data }) if reader == wanted => return Ok(Told::Data(data.to_vec())),
                     // A second reply to what was sent again.
-                    (true, Body::Status { object: WRITER, .. } | Body::Data { reader: READER, .. }) => {}
+                    (true, Body::Status { object: WRITER | TOPIC | PARTICIPANT, .. }) => {}
+                    (true, Body::Data { reader: READER, .. }) => {}
                     _ => return Err(format!("the witness got a reply that isn't its own: {reply:?}")),
                 }
             }

@@ -21,6 +21,16 @@ pub fn submessage(id: u8, flags: u8, payload: &[u8]) -> Vec<u8> {
     with_length(id, flags, payload.len() as u16, payload)
 }
 
+/// CREATE of an object, with its strings.
+pub fn create(object: u16, kind: u8, parent: u16, strings: &[u8]) -> Vec<u8> {
+    let fixed = [&object.to_le_bytes()[..], &[kind], &parent.to_le_bytes()].concat();
+    submessage(0x01, 0, &[&fixed, strings].concat())
+}
+
+pub fn delete(object: u16) -> Vec<u8> {
+    submessage(0x02, 0, &object.to_le_bytes())
+}
+
 fn few(chance: &mut Chance) -> u64 {
     match chance.below(40) {
         0 => chance.within(200, 700),

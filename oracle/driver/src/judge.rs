@@ -212,7 +212,7 @@ pub fn replay(script: &str, original: &str, port: &str) -> Verdict {
             setup = at;
         }
         let (mut ours, mut theirs) = (Outcome::default(), Outcome::default());
-        while at == first || at < events.len() && is_answer(events[at].1) {
+        while at == first || at < events.len() && goes_on(events[at].1) {
             ours.add(original.answer(ends_event));
             theirs.add(port.answer(ends_event));
             *counts.entry(first_word(events[at].1)).or_insert(0) += 1;
@@ -233,8 +233,9 @@ pub fn replay(script: &str, original: &str, port: &str) -> Verdict {
     Ok(summary("events of replay scripts", &counts))
 }
 
-fn is_answer(line: &str) -> bool {
-    matches!(first_word(line), "created" | "done" | "data" | "none" | "failed")
+// Answers belong to their datagram, and so does a listing, which may stand between them.
+fn goes_on(line: &str) -> bool {
+    matches!(first_word(line), "created" | "done" | "data" | "none" | "failed" | "list")
 }
 
 fn ends_event(line: &str) -> bool {

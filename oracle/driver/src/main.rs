@@ -5,6 +5,7 @@ mod clock;
 mod datagrams;
 mod judge;
 mod layers;
+mod listing;
 mod make_agent;
 mod make_layers;
 mod refusals;

@@ -5,6 +5,7 @@
 use crate::chance::Chance;
 use crate::clock;
 use crate::datagrams;
+use crate::listing::listing;
 use crate::replay::{address, agent, remove, Answer, Answers, Bridge};
 use crate::words::hex;
 use hdds_xrce::agent::XrceAgent;
@@ -83,8 +84,24 @@ impl Domain {
         records.filter(move |(_, record)| record.0 == kind.as_u8()).map(|(number, (_, parent))| (number, parent))
     }
 
+    /// A number that a Topic names as its parent and that is no Participant's.
+    fn lacking(&self) -> Option<u16> {
+        let is_none = |number| self.of_kind(ObjectKind::Participant).all(|(participant, _)| participant != number);
+        self.of_kind(ObjectKind::Topic).map(|(_, parent)| parent).find(|parent| is_none(*parent))
+    }
+
     fn may_be_implicit(&self, number: u16) -> bool {
         self.objects.get(&number).is_some_and(|records| records.iter().any(|(kind, _)| matches!(kind, 3 | 4)))
+    }
+
+    /// Whether another object may depend on this one: on a Participant a Topic that names it, on a Topic a writer or reader.
+    fn may_have_dependant(&self, number: u16) -> bool {
+        let may_be = |kind: ObjectKind| {
+            self.objects.get(&number).is_some_and(|records| records.iter().any(|record| record.0 == kind.as_u8()))
+        };
+        let named_by = |kind| self.of_kind(kind).any(|(other, parent)| other != number && parent == number);
+        may_be(ObjectKind::Participant) && named_by(ObjectKind::Topic)
+            || may_be(ObjectKind::Topic) && (named_by(ObjectKind::DataWriter) || named_by(ObjectKind::DataReader))
     }
 
     /// Whether a writer or reader with this parent finds what the original finds: the Topic that it names, and the
@@ -99,6 +116,7 @@ impl Domain {
     fn takes(&mut self, submessage: &Submessage, stream: u8) -> bool {
         match submessage {
             Submessage::Create(p) => {
+                let free = !self.may_have_dependant(p.object_id);
                 let finds = match p.kind {
                     ObjectKind::Topic => !self.may_be_implicit(p.parent_id),
                     ObjectKind::DataWriter | ObjectKind::DataReader => self.names_the_only_ones(p.parent_id),
@@ -109,10 +127,10 @@ impl Domain {
                     records.clear();
                 }
                 records.insert((p.kind.as_u8(), p.parent_id));
-                finds && self.objects.len() <= 32
+                free && finds && self.objects.len() <= 32
             }
             Submessage::Delete(p) => {
-                let inside = !self.may_be_implicit(p.object_id);
+                let inside = !self.may_be_implicit(p.object_id) && !self.may_have_dependant(p.object_id);
                 self.objects.remove(&p.object_id);
                 inside
             }
@@ -170,9 +188,10 @@ impl Making {
         match script % 4 {
             0 => self.round_the_ids(max),
             1 => self.fill_a_session(),
+            2 => self.change_a_parent(),
             _ => {}
         }
-        for _ in 0..60 {
+        for _ in 0..66 {
             self.event();
         }
         self.lines.push("dump".into());
@@ -180,7 +199,7 @@ impl Making {
 
     fn event(&mut self) {
         self.pass_time();
-        match self.chance.below(20) {
+        match self.chance.below(24) {
             0 => self.sweep(),
             1 => {
                 let id = self.session();
@@ -195,6 +214,14 @@ impl Making {
             4 => {
                 let whole = datagrams::whole(&mut self.chance);
                 self.send(&whole);
+            }
+            5 | 6 => {
+                let id = self.session();
+                self.list(id);
+            }
+            7 | 8 => {
+                let id = self.session();
+                self.take_down(id);
             }
             _ => {
                 let whole = self.datagram();
@@ -226,7 +253,28 @@ impl Making {
         self.lines.push(format!("remove {id}"));
     }
 
-    /// Sends a datagram if it lies inside the domain, and writes the answers that it needed behind it.
+    fn list(&mut self, id: u8) {
+        self.lines.push(format!("list {id}"));
+    }
+
+    /// DELETE of a session's objects along its listing, a few in a datagram: of all, or of so few that some are left.
+    /// Publishers and Subscribers stay, since a DELETE of one isn't compared.
+    fn take_down(&mut self, session: u8) {
+        let objects = listing(self.agent.sessions(), session);
+        let mut numbers: Vec<u16> = objects.iter().filter(|o| !implicit(o.kind)).map(|o| o.object_id).collect();
+        if self.chance.one_in(2) {
+            numbers.truncate(self.chance.below(numbers.len() as u64 + 1) as usize);
+        }
+        while !numbers.is_empty() {
+            let few = self.chance.pick(&[1, 1, 2, 3, 8]).min(numbers.len());
+            let mut datagram = datagrams::header(session, self.chance.pick(&[0, 1]), 0);
+            numbers.drain(..few).for_each(|number| datagram.extend(datagrams::delete(number)));
+            self.send(&datagram);
+        }
+        self.list(session);
+    }
+
+    /// Sends a datagram if it lies inside the domain, and writes the answers that it needed behind it, with listings between.
     fn send(&mut self, datagram: &[u8]) {
         if self.behind(datagram).is_none() {
             return;
@@ -242,6 +290,10 @@ impl Making {
         let room = need as u64 + self.chance.pick(&[0, 0, 1, 12, 70_000]);
         self.lines.push(format!("datagram {} {room} {}", self.time, hex(datagram)));
         for answer in answers {
+            if self.chance.one_in(8) {
+                let id = if self.chance.one_in(4) { self.session() } else { datagram[0] };
+                self.list(id);
+            }
             self.lines.push(match answer {
                 Answer::Created(handle) => format!("created {room} {handle}"),
                 Answer::Done => format!("done {room}"),
@@ -362,22 +414,25 @@ impl Making {
         datagrams::submessage(id, self.chance.pick(&[0, 0, 1, 255]), &payload)
     }
 
-    // Mostly what the session lacks for writers and readers: a Participant, then a Topic that names it.
+    // Mostly what the session lacks for writers and readers: a Participant, then a Topic that names it. A Topic may name
+    // another kind or nothing; a Participant made there is one that it depends on from then on.
     fn create(&mut self, domain: &Domain) -> Vec<u8> {
         let participant = domain.of_kind(ObjectKind::Participant).next();
         let topic = domain.of_kind(ObjectKind::Topic).next();
+        let lacking = domain.lacking();
         let kind = match (participant, topic) {
             _ if self.chance.one_in(4) => self.chance.within(1, 6) as u8,
+            _ if lacking.is_some() && self.chance.one_in(2) => 1,
             (None, _) => 1,
             (Some((participant, _)), Some((_, parent))) if parent == participant => {
                 self.chance.pick(&[5, 5, 6, 6, 3, 4])
             }
             _ => 2,
         };
-        let number = match (kind, topic) {
+        let number = match (kind, lacking, topic) {
             _ if self.chance.one_in(3) => self.object(domain),
-            (1, Some((_, parent))) => parent,
-            (2, Some((topic, _))) => topic,
+            (1, Some(lacking), _) => lacking,
+            (2, _, Some((topic, _))) if !domain.may_have_dependant(topic) => topic,
             _ => self.chance.below(40) as u16,
         };
         let named = match kind {
@@ -453,10 +508,11 @@ impl Making {
         for _ in 0..20 {
             (0..32).for_each(|number| self.fill(number));
         }
-        for number in [31, 0, 16] {
+        for number in [31, 2, 16] {
             let again = self.filling(number);
             self.send(&[datagrams::header(1, 0, 7), again].concat());
         }
+        self.list(1);
         for stream in [1, 2, 3, 4, 5, 6, 7, 0, 7, 128] {
             let domain = self.domain(1);
             let both =
@@ -464,6 +520,30 @@ impl Making {
             self.send(&both.concat());
         }
         self.lines.push("dump".into());
+        if self.chance.one_in(2) {
+            self.take_down(1);
+        }
+    }
+
+    // A Topic names a Topic, which goes and comes back as a Participant; then a writer finds both. Calls may fail on the way.
+    fn change_a_parent(&mut self) {
+        let [old, changed, topic, writer] = [0, 1, 2, 3].map(|number| 4 * self.chance.below(9) as u16 + number);
+        let domain = self.domain(1);
+        let steps = [
+            self.submessage(&domain, 0x00),
+            datagrams::create(old, 1, 0, &[]),
+            datagrams::create(changed, 2, old, &[]),
+            datagrams::create(topic, 2, changed, &[]),
+            datagrams::delete(changed),
+            datagrams::delete(old),
+            datagrams::create(changed, 1, 0, &[]),
+            datagrams::create(writer, self.chance.pick(&[5, 6]), topic, &[]),
+        ];
+        for step in steps {
+            self.send(&[datagrams::header(1, 0, 0), step].concat());
+        }
+        self.list(1);
+        self.take_down(1);
     }
 
     fn holds(&self, number: u16) -> bool {
@@ -477,9 +557,7 @@ impl Making {
             1 => (2, 0),
             _ => (self.chance.pick(&[5, 6]), 1),
         };
-        let fixed = [number as u8, 0, kind, parent, 0];
-        let strings = [1, 0, b'a', 1, 0, b'b'];
-        datagrams::submessage(0x01, 0, &[&fixed[..], if number == 1 { &strings } else { &[] }].concat())
+        datagrams::create(number, kind, parent, if number == 1 { &[1, 0, b'a', 1, 0, b'b'] } else { &[] })
     }
 
     fn fill(&mut self, number: u16) {

@@ -1,9 +1,11 @@
 //! Replay scripts, answered by the original. A bridge call is answered inside `process_incoming`, so the answers that
 //! follow a datagram are read ahead, and all its replies are printed with its last event: the original doesn't say
-//! which reply stood before which call.
+//! which reply stood before which call. Nor can its tables be looked at while a call is open, so a listing that stands
+//! between a datagram's answers is taken from another one that is led to the same place.
 
 use crate::clock;
 use crate::layers::dump;
+use crate::listing::listing_line;
 use crate::refusals::refused;
 use crate::words::{bytes, hex, number, silent, words};
 use hdds_xrce::agent::XrceAgent;
@@ -150,6 +152,8 @@ pub struct Replay {
     bridge: Arc<Bridge<Ahead>>,
     agent: Option<XrceAgent>,
     timeout: u64,
+    /// The place of the set-up in the script.
+    set_up_at: usize,
 }
 
 fn answer(line: &str) -> Option<Answer> {
@@ -163,10 +167,39 @@ fn answer(line: &str) -> Option<Answer> {
     }
 }
 
+// The session that a line asks to be listed.
+fn asked(line: &str) -> Option<u8> {
+    match *words(line) {
+        ["list", id] => number(id),
+        _ => None,
+    }
+}
+
+/// How many of the lines that follow a datagram belong to it: all up to the last answer.
+fn follows(lines: &[&str]) -> usize {
+    let all = lines.iter().take_while(|line| silent(line) || answer(line).is_some() || asked(line).is_some()).count();
+    lines[..all].iter().rposition(|line| answer(line).is_some()).map_or(0, |last| last + 1)
+}
+
+fn answers(lines: &[&str]) -> VecDeque<Answer> {
+    lines.iter().filter_map(|line| answer(line)).collect()
+}
+
+/// The submessages of a datagram that reads, each behind the datagram's header.
+fn apart(datagram: &[u8]) -> Vec<Vec<u8>> {
+    let (mut all, mut at) = (Vec::new(), 4);
+    while at < datagram.len() {
+        let end = at + 4 + usize::from(u16::from_le_bytes([datagram[at + 2], datagram[at + 3]]));
+        all.push([&datagram[..4], &datagram[at..end]].concat());
+        at = end;
+    }
+    all
+}
+
 impl Replay {
     pub fn new() -> Self {
         let ahead = Ahead { answers: VecDeque::new(), lines: Vec::new(), unanswered: false };
-        Self { bridge: Arc::new(Bridge(Mutex::new(ahead))), agent: None, timeout: 0 }
+        Self { bridge: Arc::new(Bridge(Mutex::new(ahead))), agent: None, timeout: 0, set_up_at: 0 }
     }
 
     /// What the whole script prints.
@@ -179,17 +212,45 @@ impl Replay {
             if silent(line) {
                 continue;
             }
-            let follows = script[at..].iter().take_while(|line| silent(line) || answer(line).is_some()).count();
-            let answers = script[at..at + follows].iter().filter_map(|line| answer(line)).collect();
-            match self.datagram(line, at, answers) {
+            let behind = &script[at..at + follows(&script[at..])];
+            match self.datagram(line, at, answers(behind)) {
                 Some(lines) => {
-                    printed.extend(lines);
-                    at += follows;
+                    printed.extend(self.with_listings(&script[self.set_up_at..at], behind, &lines));
+                    at += behind.len();
                 }
-                None => printed.extend(self.event(line).unwrap_or_else(|| vec!["bad line".into()])),
+                None => {
+                    let lines = self.event(line).unwrap_or_else(|| vec!["bad line".into()]);
+                    if lines == ["ok"] {
+                        self.set_up_at = at - 1;
+                    }
+                    printed.extend(lines);
+                }
             }
         }
         printed
+    }
+
+    /// A datagram's lines with the listings that are asked for between its answers, each event's lines in its place. `since`
+    /// ends with the datagram, and `behind` follows it.
+    fn with_listings(&self, since: &[&str], behind: &[&str], lines: &[String]) -> Vec<String> {
+        let mut events = lines.split_inclusive(|line| !line.starts_with("reply "));
+        let mut all = events.next().unwrap_or_default().to_vec();
+        for (at, line) in behind.iter().enumerate() {
+            match asked(line) {
+                Some(id) => all.push(self.listed_between(since, &behind[..at], id)),
+                None if silent(line) => {}
+                None => all.extend_from_slice(events.next().unwrap_or_default()),
+            }
+        }
+        all.extend(events.flatten().cloned());
+        all
+    }
+
+    /// The listing behind some of a datagram's answers: of the agent as it stands where no call is open then.
+    fn listed_between(&self, since: &[&str], answered: &[&str], id: u8) -> String {
+        let open = at_open_call(since, answered);
+        let agent = open.as_ref().unwrap_or(self).agent.as_ref().expect("a datagram was taken");
+        listing_line(agent.sessions(), id)
     }
 
     fn datagram(&mut self, line: &str, count: usize, answers: VecDeque<Answer>) -> Option<Vec<String>> {
@@ -241,6 +302,7 @@ impl Replay {
                 gone.sort();
                 gone.iter().fold("swept".to_string(), |line, id| format!("{line} {id}"))
             }
+            ["list", id] => listing_line(agent.sessions(), number(id)?),
             ["dump"] => return Some(dump(agent.sessions())),
             _ => return None,
         };
@@ -260,4 +322,30 @@ impl Replay {
             Err(error) => format!("outside: {error}"),
         }
     }
+}
+
+/// The original while a call of the last line's datagram is open, or none if none is: led there over the script since its
+/// set-up, and over the datagram's submessages one by one until these answers don't suffice. The call that is then open
+/// fails, which leaves the objects as they were when it was made: DELETE had dropped its own, and CREATE lists none.
+fn at_open_call(since: &[&str], answered: &[&str]) -> Option<Replay> {
+    let (last, before) = since.split_last()?;
+    let ["datagram", time, _, datagram] = *words(last) else { return None };
+    let (time, datagram) = (number(time)?, bytes(datagram)?);
+    parse_message(&datagram).ok()?;
+    let mut replay = Replay::new();
+    // Neither prints to anyone here, nor changes anything.
+    let changing: Vec<&str> = before.iter().copied().filter(|line| asked(line).is_none() && *line != "dump").collect();
+    replay.run(&changing);
+    let agent = replay.agent.as_mut()?;
+    let mut answers = answers(answered);
+    answers.push_back(Answer::Failed);
+    *replay.bridge.0.lock().unwrap() = Ahead { answers, lines: Vec::new(), unanswered: false };
+    clock::set(time);
+    for submessage in apart(&datagram) {
+        agent.process_incoming(&address(0), &submessage);
+        if replay.bridge.0.lock().unwrap().answers.is_empty() {
+            return Some(replay);
+        }
+    }
+    None
 }

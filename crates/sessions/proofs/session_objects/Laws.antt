@@ -10,8 +10,12 @@ use Rattle.sessions.specs.Table.{reachedOf}
 use Rattle.sessions.proofs.table.Laws.{live-fits}
 use Rattle.codec.specs.declared.submessages.ObjectNumber.{ObjectNumber}
 use Rattle.walk.proofs.Parts.{part-len}
-use Rattle.sessions.specs.Objects.{objectPlace, foundOf, storedOf, storedRow, removedRow}
-use Rattle.sessions.specs.SessionObjects.{firstObject, objectRow, withObjectRow, usedOf, objectsNamed, foundBy, foundObject, storedBy, storedObject, storedIn, storedObjects, removedIn, removedObjects}
+use Rattle.sessions.specs.Objects.{objectPlace, foundOf, storedOf, storedRow}
+use Rattle.sessions.specs.SessionObjects.{firstObject, objectRow, withObjectRow, usedOf, objectsNamed, foundBy, foundObject, storedBy, storedObject, storedIn, storedObjects}
+use Rattle.sessions.specs.Removal.{dependedIn, takenOf, removedRow, takenBy, takenObject, removedIn, removedObjects, dependedBy, dependedObject}
+use Rattle.sessions.specs.ObjectList.{listedOr13, inOrder, listBy, listOf, listOutBy, listOut}
+use Rattle.sessions.specs.View.{listed}
+use Rattle.codec.specs.Bytes.{putBytes}
 use Rattle.sessions.specs.declared.objects.Object.{Object}
 use Rattle.sessions.specs.declared.table.Named.{Named}
 use Rattle.sessions.specs.declared.table.Named.the-variants.{Live, NotLive, Refused}
@@ -59,6 +63,13 @@ module _ (sessions : List (List ℕ)) (objects : List Object) (id : ℕ) where
     pub found-lent : objectsNamed sessions (length objects) id ≡ Live → foundOf lent (objectPlace lent (usedOf sessions id) n) ≡ foundObject sessions objects id n
     found-lent e = ap (λ (row : List Object). foundOf row (objectPlace row (usedOf sessions id) n)) (row-lent objects id) ∙ found-is Live e
 
+    pub taken-is : (w : Named) → objectsNamed sessions (length objects) id ≡ w → takenBy w sessions objects id n ≡ takenObject sessions objects id n
+    unfolding takenObject
+    taken-is w e = ap (λ (v : Named). takenBy v sessions objects id n) (sym e)
+
+    pub taken-lent : objectsNamed sessions (length objects) id ≡ Live → takenOf lent (usedOf sessions id) (objectPlace lent (usedOf sessions id) n) ≡ takenObject sessions objects id n
+    taken-lent e = ap (λ (row : List Object). takenOf row (usedOf sessions id) (objectPlace row (usedOf sessions id) n)) (row-lent objects id) ∙ taken-is Live e
+
     pub removed-is : (w : Named) → objectsNamed sessions (length objects) id ≡ w → removedIn w sessions objects id n ≡ removedObjects sessions objects id n
     unfolding removedObjects
     removed-is w e = ap (λ (v : Named). removedIn v sessions objects id n) (sym e)
@@ -71,6 +82,13 @@ module _ (sessions : List (List ℕ)) (objects : List Object) (id : ℕ) where
         ∙ removed-is Live e
 
   module _ (o : Object) where
+    pub depended-is : (w : Named) → objectsNamed sessions (length objects) id ≡ w → dependedBy w sessions objects id o ≡ dependedObject sessions objects id o
+    unfolding dependedObject
+    depended-is w e = ap (λ (v : Named). dependedBy v sessions objects id o) (sym e)
+
+    pub depended-lent : objectsNamed sessions (length objects) id ≡ Live → dependedIn lent (usedOf sessions id) o ≡ dependedObject sessions objects id o
+    depended-lent e = ap (λ (row : List Object). dependedIn row (usedOf sessions id) o) (row-lent objects id) ∙ depended-is Live e
+
     pub stored-is : (w : Named) → objectsNamed sessions (length objects) id ≡ w → storedBy w sessions objects id o ≡ storedObject sessions objects id o
     unfolding storedObject
     stored-is w e = ap (λ (v : Named). storedBy v sessions objects id o) (sym e)
@@ -88,3 +106,16 @@ module _ (sessions : List (List ℕ)) (objects : List Object) (id : ℕ) where
         row-back objects id (storedRow lent (usedOf sessions id) o)
         ∙ ap (λ (row : List Object). withObjectRow objects id (storedRow row (usedOf sessions id) o)) (row-lent objects id)
         ∙ kept-is Live e
+
+  module _ (out : List ℕ) where
+    pub list-is : (w : Named) → objectsNamed sessions (length objects) id ≡ w
+        → (listBy w sessions objects id out ≡ listOf sessions objects id out) × (listOutBy w sessions objects id out ≡ listOut sessions objects id out)
+    unfolding listOf listOut
+    list-is w e = (ap (λ (v : Named). listBy v sessions objects id out) (sym e), ap (λ (v : Named). listOutBy v sessions objects id out) (sym e))
+
+    pub list-lent : objectsNamed sessions (length objects) id ≡ Live
+        → (listedOr13 (inOrder (listed (usedOf sessions id) lent)) out ≡ listOf sessions objects id out) × (putBytes out 0 (inOrder (listed (usedOf sessions id) lent)) ≡ listOut sessions objects id out)
+    list-lent e = (
+      ap (λ (row : List Object). listedOr13 (inOrder (listed (usedOf sessions id) row)) out) (row-lent objects id) ∙ list-is Live e .0,
+      ap (λ (row : List Object). putBytes out 0 (inOrder (listed (usedOf sessions id) row))) (row-lent objects id) ∙ list-is Live e .1,
+    )

@@ -5,6 +5,7 @@ use wire::Datagram;
 use xrce_agent::lent::{self, AgentRecord, Lent, Tables, Told};
 
 pub const FILL: u8 = 0xA5;
+pub const FILL_NUMBER: u16 = 0xA5A5;
 
 /// Inputs of `process` (enum xrce_input).
 pub const CREATED: u8 = 1;
@@ -131,6 +132,23 @@ impl Fixture {
             let (record, tables, out) = fixture.lend(short);
             lent::sweep(record, tables.sessions, &mut out[..room], time)
         })
+    }
+
+    /// The listing of a session, or the refusal, with an output of that many numbers.
+    pub fn list(&mut self, short: Short, room: usize, id: u8) -> Result<Vec<u16>, u64> {
+        let before = self.clone();
+        let mut out = vec![FILL_NUMBER; room];
+        let (_, tables, _) = self.lend(short);
+        let answer = lent::list(tables.sessions, tables.objects, &mut out, id);
+        assert!(*self == before, "a listing changed something");
+        let listed = if answer.is_multiple_of(256) { answer as usize / 65_536 } else { 0 };
+        assert!(out[listed..].iter().all(|number| *number == FILL_NUMBER), "numbers behind the listing changed");
+        out.truncate(listed);
+        if answer.is_multiple_of(256) {
+            Ok(out)
+        } else {
+            Err(answer)
+        }
     }
 
     // "a refused call changes no byte of what was lent to it"

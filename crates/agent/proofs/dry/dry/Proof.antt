@@ -57,6 +57,9 @@ use Rattle.moves.specs.Rows.{lent}
 use Rattle.agent.specs.Host.{resumesFit, performed}
 use Rattle.agent.specs.Dry.{sessionCopy, sessionBack, noSession, streamCopy, streamBack, noStream, same, sessionSpot, streamSpot, objectSpot, copied, restored}
 use Rattle.sessions.specs.Objects.{bridgedOf, implicitOf, handleOf, isNumbered, slotOf, usedAfter}
+use Rattle.sessions.specs.View.{entryOf}
+use Rattle.sessions.specs.Dependants.{kindsDepend, dependsOn}
+use Rattle.sessions.specs.Removal.{isAbove}
 use Rattle.agent.proofs.Back.{copies-long, copied-long}
 use Rattle.agent.proofs.Frame.{objects-long, objects-back}
 use Rattle.sessions.specs.declared.objects.Object.{Object}

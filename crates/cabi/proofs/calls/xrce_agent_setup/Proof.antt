@@ -53,8 +53,9 @@ use borrow.Rule.Slice.PartMut.{midOf, putMid}
 use Rattle.walk.proofs.Parts.{part-len, lends-part, backs-part, parts-shr}
 use Rattle.walk.proofs.Arrays.{rep-is, lends-array, backs-array}
 use Rattle.sessions.specs.Need.{neededFor}
+use Rattle.sessions.specs.ObjectList.{listOf, listOut}
 use Rattle.moves.specs.Rows.{lent}
-use Rattle.cabi.specs.Answers.{outcomeAs, neededAs}
+use Rattle.cabi.specs.Answers.{outcomeAs, listedAs, neededAs}
 use Rattle.cabi.specs.Record.{recordsAfter}
 use Rattle.cabi.specs.Calls.{readyAs, readyRecords, processLeft, setUpLeft, removeAnswer, removeRows, sweepAnswer, sweepRows, sweepOut}
 use Rattle.sessions.specs.Setup.{setUpOf}

@@ -54,7 +54,8 @@ use Rattle.walk.proofs.Parts.{part-len, lends-part, backs-part, parts-shr}
 use Rattle.walk.proofs.Arrays.{rep-is, lends-array, backs-array}
 use Rattle.moves.specs.Rows.{lent, blankAsked, opensWith, createsAs, namesOne, onStream, asksOf, handledMove, handledTables}
 use Rattle.sessions.specs.Objects.{implicitOf}
-use Rattle.sessions.specs.SessionObjects.{foundObject, storedObject, storedObjects, keepStored, removedObjects, keepRemoved}
+use Rattle.sessions.specs.SessionObjects.{foundObject, storedObject, storedObjects, keepStored}
+use Rattle.sessions.specs.Removal.{takenObject, removedObjects, keepRemoved}
 use Rattle.sessions.specs.Room.{roomOf}
 use Rattle.moves.specs.Moves.{writeMove, readMove, deleteMove, topicMove}
 use Rattle.moves.specs.Names.{namesIn}
@@ -303,11 +304,11 @@ module _ {M : Type 1} (𝓤 : URA M) (H : Heap 𝓤) (A : Atoms 𝓤) (W : Given
         exec ! C Λ En mir.t-3 (atRet En Post) $ move ! (2 ∷ 3 ∷ 6 ∷ 7 ∷ 0 ∷ 1 ∷ 5 ∷ 4 ∷ 8 ∷ 9 ∷ 10 ∷ 11 ∷ 12 ∷ 13 ∷ 14 ∷ 15 ∷ 16 ∷ 17 ∷ 18 ∷ 19 ∷ 20 ∷ 21 ∷ 22 ∷ 23 ∷ 24 ∷ 25 ∷ 26 ∷ 27 ∷ 28 ∷ 29 ∷ 30 ∷ 31 ∷ 32 ∷ 33 ∷ 34 ∷ 35 ∷ 36 ∷ 37 ∷ 38 ∷ 39 ∷ 40 ∷ 41 ∷ 42 ∷ 43 ∷ 44 ∷ 45 ∷ 46 ∷ 47 ∷ 48 ∷ 49 ∷ 50 ∷ 51 ∷ 52 ∷ 53 ∷ 54 ∷ 55 ∷ 56 ∷ 57 ∷ 58 ∷ 59 ∷ 60 ∷ 61 ∷ 62 ∷ 63 ∷ 64 ∷ 65 ∷ 66 ∷ 67 ∷ 68 ∷ 69 ∷ []) $
         part-3-0 e-2 good-2 len-2·Creates·5-sessions len-2·Creates·5-objects is-2·Creates·5)))))))
 
-    part-3-3 : (e-2 : q .group ≡ Group-Deletes) → (good-2 : Is (Group-p .row) Group-Deletes (Group-p .val Group-Deletes ∷ [])) → (len-2·Deletes·5-sessions : length (keepRemoved (sessions) id (foundObject (sessions) (objects) id (q .number))) ≡ n₁) → (len-2·Deletes·5-objects : length (removedObjects (sessions) (objects) id (q .number)) ≡ n₃) → (is-2·Deletes·5 : Is (Move-p .row) (deleteMove (q .number) (foundObject (sessions) (objects) id (q .number))) (Move-p .val (deleteMove (q .number) (foundObject (sessions) (objects) id (q .number))) ∷ [])) → Sq W (‵ (MutSlice (named 0) κ₁ (Array u64 5) .own (at-list b₁ o₁ γ₁ (keepRemoved (sessions) id (foundObject (sessions) (objects) id (q .number)))) (sliceVal (b₁, o₁) n₁ ∷ [])) ∷ ‵ (flft κ₁ q₁) ∷ ‵ (MutSlice (named 0) κ₂ (Array u16 35) .own (at-list b₂ o₂ γ₂ streams) (sliceVal (b₂, o₂) n₂ ∷ [])) ∷ ‵ (flft κ₂ q₂) ∷ ‵ (MutSlice (named 0) κ₃ Object-t.the-row .own (at-list b₃ o₃ γ₃ (removedObjects (sessions) (objects) id (q .number))) (sliceVal (b₃, o₃) n₃ ∷ [])) ∷ ‵ (flft κ₃ q₃) ∷ ‵ (ShrSlice (named 0) κ₄ u8 .own (at-list b₄ o₄ γ₄ d) (sliceVal (b₄, o₄) n₄ ∷ [])) ∷ ‵ (flft κ₄ q₄) ∷ free 𝓤 (sliceTy (tyRef erased mut (pointee ((Array u16 35) .written)))) l₃₀ (free 𝓤 (tyRef erased mut (pointee ((Array u16 35) .written))) l₂₉ (free 𝓤 (sliceTy (tyRef erased mut (pointee ((Array u64 5) .written)))) l₂₈ (free 𝓤 (tyRef erased mut (pointee ((Array u64 5) .written))) l₂₇ (free 𝓤 (sliceTy (tyRef erased imm (pointee (Object-t.the-row .written)))) l₂₆ (free 𝓤 (tyRef erased imm (pointee (Object-t.the-row .written))) l₂₅ (free 𝓤 (sliceTy (tyRef erased imm (pointee ((Array u64 5) .written)))) l₂₄ (free 𝓤 (tyRef erased imm (pointee ((Array u64 5) .written))) l₂₃ (free 𝓤 (sliceTy (tyRef erased imm (pointee (Object-t.the-row .written)))) l₂₂ (free 𝓤 (tyRef erased imm (pointee (Object-t.the-row .written))) l₂₁ (free 𝓤 (sliceTy (tyRef erased imm (pointee ((Array u64 5) .written)))) l₂₀ (free 𝓤 (tyRef erased imm (pointee ((Array u64 5) .written))) l₁₉ (full 𝓤 (sliceTy (tyRef erased mut (pointee (Object-t.the-row .written)))) l₁₈ (sliceVal (b₃, o₃) n₃) (full 𝓤 (tyRef erased mut (pointee (Object-t.the-row .written))) l₁₇ (vptr b₃ o₃) (full 𝓤 (sliceTy (tyRef erased mut (pointee ((Array u64 5) .written)))) l₁₆ (sliceVal (b₁, o₁) n₁) (full 𝓤 (tyRef erased mut (pointee ((Array u64 5) .written))) l₁₅ (vptr b₁ o₁) (free 𝓤 (sliceTy (tyRef erased mut (pointee (Object-t.the-row .written)))) l₁₄ (free 𝓤 (tyRef erased mut (pointee (Object-t.the-row .written))) l₁₃ (free 𝓤 (sliceTy (tyRef erased mut (pointee ((Array u64 5) .written)))) l₁₂ (free 𝓤 (tyRef erased mut (pointee ((Array u64 5) .written))) l₁₁ (full 𝓤 Move-l.mir l₁₀ (Move-p .val (deleteMove (q .number) (foundObject (sessions) (objects) id (q .number)))) (full 𝓤 Group-l.mir l₉ (Group-p .val Group-Deletes) (full 𝓤 Span-l.mir l₈ (Span-p .val body) (full 𝓤 Asked-l.mir l₇ (Asked-p .val q) (full 𝓤 (tyInt w8) l₆ (u8-p .val n′) (full 𝓤 (tyInt w8) l₅ (u8-p .val id) (full 𝓤 (sliceTy (tyRef (named 3) imm (pointee (u8 .written)))) l₄ (sliceVal (b₄, o₄) n₄) (full 𝓤 (sliceTy (tyRef (named 2) mut (pointee (Object-t.the-row .written)))) l₃ (sliceVal (b₃, o₃) n₃) (full 𝓤 (sliceTy (tyRef (named 1) mut (pointee ((Array u16 35) .written)))) l₂ (sliceVal (b₂, o₂) n₂) (full 𝓤 (sliceTy (tyRef (named 0) mut (pointee ((Array u64 5) .written)))) l₁ (sliceVal (b₁, o₁) n₁) (free 𝓤 Move-l.mir l₀ ([])))))))))))))))))))))))))))))))) (runs C Λ En mir.t-3 (atRet En Post))
+    part-3-3 : (e-2 : q .group ≡ Group-Deletes) → (good-2 : Is (Group-p .row) Group-Deletes (Group-p .val Group-Deletes ∷ [])) → (len-2·Deletes·5-sessions : length (keepRemoved (sessions) id (takenObject (sessions) (objects) id (q .number))) ≡ n₁) → (len-2·Deletes·5-objects : length (removedObjects (sessions) (objects) id (q .number)) ≡ n₃) → (is-2·Deletes·5 : Is (Move-p .row) (deleteMove (q .number) (takenObject (sessions) (objects) id (q .number))) (Move-p .val (deleteMove (q .number) (takenObject (sessions) (objects) id (q .number))) ∷ [])) → Sq W (‵ (MutSlice (named 0) κ₁ (Array u64 5) .own (at-list b₁ o₁ γ₁ (keepRemoved (sessions) id (takenObject (sessions) (objects) id (q .number)))) (sliceVal (b₁, o₁) n₁ ∷ [])) ∷ ‵ (flft κ₁ q₁) ∷ ‵ (MutSlice (named 0) κ₂ (Array u16 35) .own (at-list b₂ o₂ γ₂ streams) (sliceVal (b₂, o₂) n₂ ∷ [])) ∷ ‵ (flft κ₂ q₂) ∷ ‵ (MutSlice (named 0) κ₃ Object-t.the-row .own (at-list b₃ o₃ γ₃ (removedObjects (sessions) (objects) id (q .number))) (sliceVal (b₃, o₃) n₃ ∷ [])) ∷ ‵ (flft κ₃ q₃) ∷ ‵ (ShrSlice (named 0) κ₄ u8 .own (at-list b₄ o₄ γ₄ d) (sliceVal (b₄, o₄) n₄ ∷ [])) ∷ ‵ (flft κ₄ q₄) ∷ free 𝓤 (sliceTy (tyRef erased mut (pointee ((Array u16 35) .written)))) l₃₀ (free 𝓤 (tyRef erased mut (pointee ((Array u16 35) .written))) l₂₉ (free 𝓤 (sliceTy (tyRef erased mut (pointee ((Array u64 5) .written)))) l₂₈ (free 𝓤 (tyRef erased mut (pointee ((Array u64 5) .written))) l₂₇ (free 𝓤 (sliceTy (tyRef erased imm (pointee (Object-t.the-row .written)))) l₂₆ (free 𝓤 (tyRef erased imm (pointee (Object-t.the-row .written))) l₂₅ (free 𝓤 (sliceTy (tyRef erased imm (pointee ((Array u64 5) .written)))) l₂₄ (free 𝓤 (tyRef erased imm (pointee ((Array u64 5) .written))) l₂₃ (free 𝓤 (sliceTy (tyRef erased imm (pointee (Object-t.the-row .written)))) l₂₂ (free 𝓤 (tyRef erased imm (pointee (Object-t.the-row .written))) l₂₁ (free 𝓤 (sliceTy (tyRef erased imm (pointee ((Array u64 5) .written)))) l₂₀ (free 𝓤 (tyRef erased imm (pointee ((Array u64 5) .written))) l₁₉ (full 𝓤 (sliceTy (tyRef erased mut (pointee (Object-t.the-row .written)))) l₁₈ (sliceVal (b₃, o₃) n₃) (full 𝓤 (tyRef erased mut (pointee (Object-t.the-row .written))) l₁₇ (vptr b₃ o₃) (full 𝓤 (sliceTy (tyRef erased mut (pointee ((Array u64 5) .written)))) l₁₆ (sliceVal (b₁, o₁) n₁) (full 𝓤 (tyRef erased mut (pointee ((Array u64 5) .written))) l₁₅ (vptr b₁ o₁) (free 𝓤 (sliceTy (tyRef erased mut (pointee (Object-t.the-row .written)))) l₁₄ (free 𝓤 (tyRef erased mut (pointee (Object-t.the-row .written))) l₁₃ (free 𝓤 (sliceTy (tyRef erased mut (pointee ((Array u64 5) .written)))) l₁₂ (free 𝓤 (tyRef erased mut (pointee ((Array u64 5) .written))) l₁₁ (full 𝓤 Move-l.mir l₁₀ (Move-p .val (deleteMove (q .number) (takenObject (sessions) (objects) id (q .number)))) (full 𝓤 Group-l.mir l₉ (Group-p .val Group-Deletes) (full 𝓤 Span-l.mir l₈ (Span-p .val body) (full 𝓤 Asked-l.mir l₇ (Asked-p .val q) (full 𝓤 (tyInt w8) l₆ (u8-p .val n′) (full 𝓤 (tyInt w8) l₅ (u8-p .val id) (full 𝓤 (sliceTy (tyRef (named 3) imm (pointee (u8 .written)))) l₄ (sliceVal (b₄, o₄) n₄) (full 𝓤 (sliceTy (tyRef (named 2) mut (pointee (Object-t.the-row .written)))) l₃ (sliceVal (b₃, o₃) n₃) (full 𝓤 (sliceTy (tyRef (named 1) mut (pointee ((Array u16 35) .written)))) l₂ (sliceVal (b₂, o₂) n₂) (full 𝓤 (sliceTy (tyRef (named 0) mut (pointee ((Array u64 5) .written)))) l₁ (sliceVal (b₁, o₁) n₁) (free 𝓤 Move-l.mir l₀ ([])))))))))))))))))))))))))))))))) (runs C Λ En mir.t-3 (atRet En Post))
     part-3-3 e-2 good-2 len-2·Deletes·5-sessions len-2·Deletes·5-objects is-2·Deletes·5 =
-        assigns ! (of-opd ! (load ! (from ! (stop !)) (look ! 48 refl))) (from ! (stop !)) (init ! 68 refl (Move-p .typed 𝓤 H A W (deleteMove (q .number) (foundObject (sessions) (objects) id (q .number))) is-2·Deletes·5)) $
+        assigns ! (of-opd ! (load ! (from ! (stop !)) (look ! 48 refl))) (from ! (stop !)) (init ! 68 refl (Move-p .typed 𝓤 H A W (deleteMove (q .number) (takenObject (sessions) (objects) id (q .number))) is-2·Deletes·5)) $
         returns ! (look ! 68 refl) $ forget ! 32 refl $ forget ! 34 refl $ forget ! 36 refl $ forget ! 38 refl $ forget ! 48 refl $ forget ! 50 refl $
-        frees-all (deleteMove (q .number) (foundObject (sessions) (objects) id (q .number))) (keepRemoved (sessions) id (foundObject (sessions) (objects) id (q .number))) streams (removedObjects (sessions) (objects) id (q .number)) (exits (deleteMove (q .number) (foundObject (sessions) (objects) id (q .number))) (keepRemoved (sessions) id (foundObject (sessions) (objects) id (q .number))) streams (removedObjects (sessions) (objects) id (q .number)) ((ap (λ (g : Group). handledBy g q (lent sessions streams objects) d id n′ body) (sym e-2), ap (λ (g : Group). handledIn g q (lent sessions streams objects) id n′ .sessions) (sym e-2), ap (λ (g : Group). handledIn g q (lent sessions streams objects) id n′ .streams) (sym e-2), ap (λ (g : Group). handledIn g q (lent sessions streams objects) id n′ .objects) (sym e-2))) is-2·Deletes·5 len-2·Deletes·5-sessions refl len-2·Deletes·5-objects)
+        frees-all (deleteMove (q .number) (takenObject (sessions) (objects) id (q .number))) (keepRemoved (sessions) id (takenObject (sessions) (objects) id (q .number))) streams (removedObjects (sessions) (objects) id (q .number)) (exits (deleteMove (q .number) (takenObject (sessions) (objects) id (q .number))) (keepRemoved (sessions) id (takenObject (sessions) (objects) id (q .number))) streams (removedObjects (sessions) (objects) id (q .number)) ((ap (λ (g : Group). handledBy g q (lent sessions streams objects) d id n′ body) (sym e-2), ap (λ (g : Group). handledIn g q (lent sessions streams objects) id n′ .sessions) (sym e-2), ap (λ (g : Group). handledIn g q (lent sessions streams objects) id n′ .streams) (sym e-2), ap (λ (g : Group). handledIn g q (lent sessions streams objects) id n′ .objects) (sym e-2))) is-2·Deletes·5 len-2·Deletes·5-sessions refl len-2·Deletes·5-objects)
 
     matched-2-Deletes-3 : (e-2 : q .group ≡ Group-Deletes) → (good-2 : Is (Group-p .row) Group-Deletes (Group-p .val Group-Deletes ∷ [])) → Sq W (‵ (MutSlice (named 0) κ₁ (Array u64 5) .own (at-list b₁ o₁ γ₁ sessions) (sliceVal (b₁, o₁) n₁ ∷ [])) ∷ ‵ (flft κ₁ q₁) ∷ ‵ (MutSlice (named 0) κ₂ (Array u16 35) .own (at-list b₂ o₂ γ₂ streams) (sliceVal (b₂, o₂) n₂ ∷ [])) ∷ ‵ (flft κ₂ q₂) ∷ ‵ (MutSlice (named 0) κ₃ Object-t.the-row .own (at-list b₃ o₃ γ₃ objects) (sliceVal (b₃, o₃) n₃ ∷ [])) ∷ ‵ (flft κ₃ q₃) ∷ ‵ (ShrSlice (named 0) κ₄ u8 .own (at-list b₄ o₄ γ₄ d) (sliceVal (b₄, o₄) n₄ ∷ [])) ∷ ‵ (flft κ₄ q₄) ∷ free 𝓤 (sliceTy (tyRef erased mut (pointee ((Array u16 35) .written)))) l₃₀ (free 𝓤 (tyRef erased mut (pointee ((Array u16 35) .written))) l₂₉ (free 𝓤 (sliceTy (tyRef erased mut (pointee ((Array u64 5) .written)))) l₂₈ (free 𝓤 (tyRef erased mut (pointee ((Array u64 5) .written))) l₂₇ (free 𝓤 (sliceTy (tyRef erased imm (pointee (Object-t.the-row .written)))) l₂₆ (free 𝓤 (tyRef erased imm (pointee (Object-t.the-row .written))) l₂₅ (free 𝓤 (sliceTy (tyRef erased imm (pointee ((Array u64 5) .written)))) l₂₄ (free 𝓤 (tyRef erased imm (pointee ((Array u64 5) .written))) l₂₃ (free 𝓤 (sliceTy (tyRef erased imm (pointee (Object-t.the-row .written)))) l₂₂ (free 𝓤 (tyRef erased imm (pointee (Object-t.the-row .written))) l₂₁ (free 𝓤 (sliceTy (tyRef erased imm (pointee ((Array u64 5) .written)))) l₂₀ (free 𝓤 (tyRef erased imm (pointee ((Array u64 5) .written))) l₁₉ (free 𝓤 (sliceTy (tyRef erased mut (pointee (Object-t.the-row .written)))) l₁₈ (free 𝓤 (tyRef erased mut (pointee (Object-t.the-row .written))) l₁₇ (free 𝓤 (sliceTy (tyRef erased mut (pointee ((Array u64 5) .written)))) l₁₆ (free 𝓤 (tyRef erased mut (pointee ((Array u64 5) .written))) l₁₅ (free 𝓤 (sliceTy (tyRef erased mut (pointee (Object-t.the-row .written)))) l₁₄ (free 𝓤 (tyRef erased mut (pointee (Object-t.the-row .written))) l₁₃ (free 𝓤 (sliceTy (tyRef erased mut (pointee ((Array u64 5) .written)))) l₁₂ (free 𝓤 (tyRef erased mut (pointee ((Array u64 5) .written))) l₁₁ (free 𝓤 Move-l.mir l₁₀ (full 𝓤 Group-l.mir l₉ (Group-p .val Group-Deletes) (full 𝓤 Span-l.mir l₈ (Span-p .val body) (full 𝓤 Asked-l.mir l₇ (Asked-p .val q) (full 𝓤 (tyInt w8) l₆ (u8-p .val n′) (full 𝓤 (tyInt w8) l₅ (u8-p .val id) (full 𝓤 (sliceTy (tyRef (named 3) imm (pointee (u8 .written)))) l₄ (sliceVal (b₄, o₄) n₄) (full 𝓤 (sliceTy (tyRef (named 2) mut (pointee (Object-t.the-row .written)))) l₃ (sliceVal (b₃, o₃) n₃) (full 𝓤 (sliceTy (tyRef (named 1) mut (pointee ((Array u16 35) .written)))) l₂ (sliceVal (b₂, o₂) n₂) (full 𝓤 (sliceTy (tyRef (named 0) mut (pointee ((Array u64 5) .written)))) l₁ (sliceVal (b₁, o₁) n₁) (free 𝓤 Move-l.mir l₀ ([])))))))))))))))))))))))))))))))) (runs C Λ En (one mir.t-2) (anyQ (afterSeq 𝓤 H (Wp 𝓤 H C Λ En mir.t-3 (atReturn 𝓤 H En Post)) (atReturn 𝓤 H En Post))))
     matched-2-Deletes-3 e-2 good-2 =
@@ -324,17 +325,17 @@ module _ {M : Type 1} (𝓤 : URA M) (H : Heap 𝓤) (A : Atoms 𝓤) (W : Given
         use1 W (raw (toks 𝓤 A 2 (((ν-2·Deletes·5-sessions ∷ []), ((ν-2·Deletes·5-objects ∷ []), tt))) ((fullShare, (fullShare, tt))))) (id⊢ 𝓤 _) $ nothing ! $
         owned ! (ObjectNumber-p .row) (Is (ObjectNumber-p .row)) (ObjectNumber-p .makes 𝓤 H A W) (q .number) (ObjectNumber-p .val (q .number) ∷ []) (LL.owed Asked-t.the-type Asked-l.the-laws q _ q-is .1 .1 .1 .0) $ fjoin ! $
         owned ! (u8-p .row) (Is (u8-p .row)) (u8-p .makes 𝓤 H A W) id (u8-p .val id ∷ []) id-is $ fjoin ! $ move ! (2 ∷ 0 ∷ []) $ fjoin ! $ move ! (3 ∷ 0 ∷ []) $ fjoin ! $ move ! (1 ∷ 0 ∷ []) $
-        calls-any-last ! fm 2 [] (objects-delete.signature .params) (objects-delete.ended .kept) Move-p (objects-delete.clauses 𝓤 H A mem run) known-objects-delete ((ν-2·Deletes·5-sessions ∷ []), ((ν-2·Deletes·5-objects ∷ []), tt)) (fullShare, (fullShare, tt)) tt (at-list b₁ o₁ δ-2·Deletes·5-sessions sessions, (at-list b₃ o₃ δ-2·Deletes·5-objects objects, (id, (q .number, tt)))) (sliceVal (b₁, o₁) n₁ ∷ [], (sliceVal (b₃, o₃) n₃ ∷ [], (u8-p .val id ∷ [], (ObjectNumber-p .val (q .number) ∷ [], tt)))) tt (deleteMove (q .number) (foundObject (sessions) (objects) id (q .number))) (λ ws-2·Deletes·5. (ws-2·Deletes·5 .0 ≡ keepRemoved (sessions) id (foundObject (sessions) (objects) id (q .number))) × (ws-2·Deletes·5 .1 .0 ≡ removedObjects (sessions) (objects) id (q .number))) (id⊢ 𝓤 _) (λ r ws-2·Deletes·5. fact-mono 𝓤 ((r ≡ deleteMove (q .number) (foundObject (sessions) (objects) id (q .number))) × ((ws-2·Deletes·5 .0) ≡ keepRemoved (sessions) id (foundObject (sessions) (objects) id (q .number))) × ((ws-2·Deletes·5 .1 .0) ≡ removedObjects (sessions) (objects) id (q .number))) ((r ≡ (deleteMove (q .number) (foundObject (sessions) (objects) id (q .number)))) × ((ws-2·Deletes·5 .0 ≡ keepRemoved (sessions) id (foundObject (sessions) (objects) id (q .number))) × (ws-2·Deletes·5 .1 .0 ≡ removedObjects (sessions) (objects) id (q .number)))) (λ e. (e .0, (e .1, e .2)))) (λ _. (and-then ! (load ! (from ! (stop !)) (look ! 35 refl)) (and-then ! (load ! (from ! (stop !)) (look ! 31 refl)) (and-then ! (load ! (from ! (stop !)) (look ! 57 refl)) (and-then ! (load ! (from ! (fld ! refl (stop !))) (look-in ! 53 (sub ! 3 refl (whole !)))) (no-more !)))))) (λ ws-2·Deletes·5 said-2·Deletes·5 is-2·Deletes·5.
+        calls-any-last ! fm 2 [] (objects-delete.signature .params) (objects-delete.ended .kept) Move-p (objects-delete.clauses 𝓤 H A mem run) known-objects-delete ((ν-2·Deletes·5-sessions ∷ []), ((ν-2·Deletes·5-objects ∷ []), tt)) (fullShare, (fullShare, tt)) tt (at-list b₁ o₁ δ-2·Deletes·5-sessions sessions, (at-list b₃ o₃ δ-2·Deletes·5-objects objects, (id, (q .number, tt)))) (sliceVal (b₁, o₁) n₁ ∷ [], (sliceVal (b₃, o₃) n₃ ∷ [], (u8-p .val id ∷ [], (ObjectNumber-p .val (q .number) ∷ [], tt)))) tt (deleteMove (q .number) (takenObject (sessions) (objects) id (q .number))) (λ ws-2·Deletes·5. (ws-2·Deletes·5 .0 ≡ keepRemoved (sessions) id (takenObject (sessions) (objects) id (q .number))) × (ws-2·Deletes·5 .1 .0 ≡ removedObjects (sessions) (objects) id (q .number))) (id⊢ 𝓤 _) (λ r ws-2·Deletes·5. fact-mono 𝓤 ((r ≡ deleteMove (q .number) (takenObject (sessions) (objects) id (q .number))) × ((ws-2·Deletes·5 .0) ≡ keepRemoved (sessions) id (takenObject (sessions) (objects) id (q .number))) × ((ws-2·Deletes·5 .1 .0) ≡ removedObjects (sessions) (objects) id (q .number))) ((r ≡ (deleteMove (q .number) (takenObject (sessions) (objects) id (q .number)))) × ((ws-2·Deletes·5 .0 ≡ keepRemoved (sessions) id (takenObject (sessions) (objects) id (q .number))) × (ws-2·Deletes·5 .1 .0 ≡ removedObjects (sessions) (objects) id (q .number)))) (λ e. (e .0, (e .1, e .2)))) (λ _. (and-then ! (load ! (from ! (stop !)) (look ! 35 refl)) (and-then ! (load ! (from ! (stop !)) (look ! 31 refl)) (and-then ! (load ! (from ! (stop !)) (look ! 57 refl)) (and-then ! (load ! (from ! (fld ! refl (stop !))) (look-in ! 53 (sub ! 3 refl (whole !)))) (no-more !)))))) (λ ws-2·Deletes·5 said-2·Deletes·5 is-2·Deletes·5.
         use1 W ((‵ (flft (ν-2·Deletes·5-sessions ∷ []) fullShare) ⊛ (‵ (flft (ν-2·Deletes·5-objects ∷ []) fullShare) ⊛ ‵ ftrue))) (id⊢ 𝓤 _) $ split ! $ move ! (1 ∷ []) $ split ! $ move ! (3 ∷ []) $ fsplit ! $ fsplit ! $ move ! (1 ∷ []) $
         feqL ! (λ wlen-2·Deletes·5-0.
         move ! (1 ∷ []) $ fsplit ! $ fsplit ! $ move ! (1 ∷ []) $
         feqL ! (λ wlen-2·Deletes·5-1.
         move ! (5 ∷ 7 ∷ 2 ∷ []) $
-        backs-mut ! tt (Array u64 5) b₁ o₁ sessions n₁ (refl) room₁ ν-2·Deletes·5-sessions δ-2·Deletes·5-sessions (ws-2·Deletes·5 .0) (keepRemoved (sessions) id (foundObject (sessions) (objects) id (q .number))) wlen-2·Deletes·5-0 (said-2·Deletes·5 .0) (λ len-2·Deletes·5-sessions.
+        backs-mut ! tt (Array u64 5) b₁ o₁ sessions n₁ (refl) room₁ ν-2·Deletes·5-sessions δ-2·Deletes·5-sessions (ws-2·Deletes·5 .0) (keepRemoved (sessions) id (takenObject (sessions) (objects) id (q .number))) wlen-2·Deletes·5-0 (said-2·Deletes·5 .0) (λ len-2·Deletes·5-sessions.
         move ! (4 ∷ 6 ∷ 2 ∷ []) $
         backs-mut ! tt Object-t.the-row b₃ o₃ objects n₃ (refl) room₃ ν-2·Deletes·5-objects δ-2·Deletes·5-objects (ws-2·Deletes·5 .1 .0) (removedObjects (sessions) (objects) id (q .number)) wlen-2·Deletes·5-1 (said-2·Deletes·5 .1) (λ len-2·Deletes·5-objects.
         move ! (4 ∷ []) $ drop ! $ move ! (4 ∷ []) $ drop ! $
-        land-last ! (from ! (stop !)) (init ! 48 refl (Move-p .typed 𝓤 H A W (deleteMove (q .number) (foundObject (sessions) (objects) id (q .number))) is-2·Deletes·5)) $
+        land-last ! (from ! (stop !)) (init ! 48 refl (Move-p .typed 𝓤 H A W (deleteMove (q .number) (takenObject (sessions) (objects) id (q .number))) is-2·Deletes·5)) $
         exec ! C Λ En mir.t-3 (atRet En Post) $ move ! (2 ∷ 3 ∷ 4 ∷ 5 ∷ 0 ∷ 1 ∷ 6 ∷ 7 ∷ 8 ∷ 9 ∷ 10 ∷ 11 ∷ 12 ∷ 13 ∷ 14 ∷ 15 ∷ 16 ∷ 17 ∷ 18 ∷ 19 ∷ 20 ∷ 21 ∷ 22 ∷ 23 ∷ 24 ∷ 25 ∷ 26 ∷ 27 ∷ 28 ∷ 29 ∷ 30 ∷ 31 ∷ 32 ∷ 33 ∷ 34 ∷ 35 ∷ 36 ∷ 37 ∷ 38 ∷ 39 ∷ 40 ∷ 41 ∷ 42 ∷ 43 ∷ 44 ∷ 45 ∷ 46 ∷ 47 ∷ 48 ∷ 49 ∷ 50 ∷ 51 ∷ 52 ∷ 53 ∷ 54 ∷ 55 ∷ 56 ∷ 57 ∷ 58 ∷ 59 ∷ 60 ∷ 61 ∷ 62 ∷ 63 ∷ 64 ∷ 65 ∷ 66 ∷ 67 ∷ 68 ∷ 69 ∷ []) $
         part-3-3 e-2 good-2 len-2·Deletes·5-sessions len-2·Deletes·5-objects is-2·Deletes·5)))))))
 

@@ -18,6 +18,9 @@ enum-told c = search needs
 enum-told-2 : tie.Need-enum-told-2
 enum-told-2 c = search needs
 
+enum-told-3 : tie.Need-enum-told-3
+enum-told-3 c = search needs
+
 returns : tie.Need-returns
 returns c = rw (c .before .before .before .gone .given .1, ← c .before .bridge-handle .ensures) (c .dropped-move .ensures)
 
@@ -26,6 +29,9 @@ returns-2 c = rw (c .enum-told .given .1)
 
 returns-3 : tie.Need-returns-3
 returns-3 c = rw (c .enum-told2 .given .1)
+
+returns-4 : tie.Need-returns-4
+returns-4 c = rw (c .enum-told3 .given .1)
 
 pub delete-move-spec : {M : Type 1} → statement M
 delete-move-spec =
@@ -36,6 +42,8 @@ delete-move-spec =
     dropped-move-requires
     enum-told
     enum-told-2
+    enum-told-3
     returns
     returns-2
-    returns-3)
+    returns-3
+    returns-4)

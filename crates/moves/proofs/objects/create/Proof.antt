@@ -53,12 +53,14 @@ use borrow.Rule.Slice.PartMut.{midOf, putMid}
 use Rattle.walk.proofs.Parts.{part-len, lends-part, backs-part, parts-shr}
 use Rattle.walk.proofs.Arrays.{rep-is, lends-array, backs-array}
 use Rattle.sessions.specs.Objects.{implicitOf}
-use Rattle.sessions.specs.SessionObjects.{foundObject, storedObject, storedObjects, keepStored, removedObjects, keepRemoved}
+use Rattle.sessions.specs.SessionObjects.{foundObject, storedObject, storedObjects, keepStored}
+use Rattle.sessions.specs.Removal.{takenObject, removedObjects, keepRemoved}
 use Rattle.sessions.specs.Room.{roomOf}
 use Rattle.moves.specs.Moves.{writeMove, readMove, deleteMove, topicMove}
 use Rattle.moves.specs.Names.{namesIn}
 use Rattle.moves.specs.Rows.{okMove, endpointIn, createMove, createdSessions, createdObjects, isFree, noRoomMove, roomMove, roomSessions, roomObjects}
 use Rattle.sessions.specs.Table.{sessionAt}
+use Rattle.sessions.specs.Removal.{dependedFound}
 use Rattle.sessions.specs.Room.{roomFor}
 use types.Kit.{frees, prop}
 use mathlib.Core.Bool.{cond}
@@ -100,7 +102,7 @@ use Rattle.sessions.proofs.objects.Handle.Laws as Handle-l
 use Rattle.sessions.specs.declared.room.Room.{Room as Room′}
 use Rattle.sessions.proofs.room.Room as Room′-t
 use Rattle.sessions.proofs.room.Room.Laws as Room′-l
-use Rattle.sessions.specs.declared.room.Room.the-variants.{Free as Room′-Free, Full as Room′-Full, NotLive as Room′-NotLive, Refused as Room′-Refused}
+use Rattle.sessions.specs.declared.room.Room.the-variants.{Free as Room′-Free, Full as Room′-Full, Depended as Room′-Depended, NotLive as Room′-NotLive, Refused as Room′-Refused}
 use Rattle.codec.specs.declared.refusals.Refusal.{Refusal}
 use Rattle.codec.proofs.refusals.Refusal as Refusal-t
 use Rattle.codec.proofs.refusals.Refusal.Laws as Refusal-l

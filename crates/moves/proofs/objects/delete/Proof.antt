@@ -53,12 +53,14 @@ use borrow.Rule.Slice.PartMut.{midOf, putMid}
 use Rattle.walk.proofs.Parts.{part-len, lends-part, backs-part, parts-shr}
 use Rattle.walk.proofs.Arrays.{rep-is, lends-array, backs-array}
 use Rattle.sessions.specs.Objects.{implicitOf}
-use Rattle.sessions.specs.SessionObjects.{foundObject, storedObject, storedObjects, keepStored, removedObjects, keepRemoved}
+use Rattle.sessions.specs.SessionObjects.{foundObject, storedObject, storedObjects, keepStored}
+use Rattle.sessions.specs.Removal.{takenObject, removedObjects, keepRemoved}
 use Rattle.sessions.specs.Room.{roomOf}
 use Rattle.moves.specs.Moves.{writeMove, readMove, deleteMove, topicMove}
 use Rattle.moves.specs.Names.{namesIn}
 use Rattle.moves.specs.Rows.{okMove, endpointIn, createMove, createdSessions, createdObjects, isFree, noRoomMove, roomMove, roomSessions, roomObjects}
 use Rattle.sessions.specs.SessionObjects.{objectsNamed, usedOf, firstObject, countedSession, keepUsed}
+use Rattle.sessions.specs.Removal.{dependedObject}
 use Rattle.moves.specs.Moves.{foundHandle, handleOfKind, parentOf, participantMove, endpointCall, endpointBy, endpointMove, droppedMove, heartbeatMove}
 use Rattle.sessions.specs.declared.objects.Object.{Object}
 use Rattle.sessions.proofs.objects.Object as Object-t
@@ -91,10 +93,10 @@ use Rattle.sessions.proofs.objects.Handle.Laws as Handle-l
 use Rattle.codec.specs.declared.layouts.Span.{Span}
 use Rattle.codec.proofs.layouts.Span as Span-t
 use Rattle.codec.proofs.layouts.Span.Laws as Span-l
-use Rattle.sessions.specs.declared.objects.Found.{Found}
-use Rattle.sessions.proofs.objects.Found as Found-t
-use Rattle.sessions.proofs.objects.Found.Laws as Found-l
-use Rattle.sessions.specs.declared.objects.Found.the-variants.{Held as Found-Held, Nothing as Found-Nothing, Refused as Found-Refused}
+use Rattle.sessions.specs.declared.objects.Taken.{Taken}
+use Rattle.sessions.proofs.objects.Taken as Taken-t
+use Rattle.sessions.proofs.objects.Taken.Laws as Taken-l
+use Rattle.sessions.specs.declared.objects.Taken.the-variants.{Gone as Taken-Gone, Depended as Taken-Depended, Nothing as Taken-Nothing, Refused as Taken-Refused}
 use Rattle.codec.specs.declared.refusals.Refusal.{Refusal}
 use Rattle.codec.proofs.refusals.Refusal as Refusal-t
 use Rattle.codec.proofs.refusals.Refusal.Laws as Refusal-l
@@ -155,8 +157,8 @@ Span-of x0 x1 = record { start = x0; len = x1 }
 abbrev Span-p : Plain
 Span-p = record { row = Span-t.the-row; val = LL.val Span-t.the-type Span-l.the-laws; tells = LL.tells Span-t.the-type Span-l.the-laws; makes = λ 𝓤 H A W. LL.makes Span-t.the-type Span-l.the-plain 𝓤 H A; ty = Span-l.mir; typed = λ 𝓤 H A W x is. LL.lawful Span-t.the-type Span-l.the-laws 𝓤 H A W .typed x _ is .0; copies = λ 𝓤 H A W. LL.copy Span-t.the-type Span-l.the-copy 𝓤 H A W }
 
-abbrev Found-p : Plain
-Found-p = record { row = Found-t.the-row; val = EL.val Found-t.the-type Found-l.the-laws; tells = EL.tells Found-t.the-type Found-l.the-laws; makes = λ 𝓤 H A W. EL.makes Found-t.the-type Found-l.the-plain 𝓤 H A; ty = Found-l.mir; typed = λ 𝓤 H A W x is. EL.lawful Found-t.the-type Found-l.the-laws 𝓤 H A W tt .typed x _ is .0; copies = λ 𝓤 H A W. EL.copy Found-t.the-type Found-l.the-copy 𝓤 H A W }
+abbrev Taken-p : Plain
+Taken-p = record { row = Taken-t.the-row; val = EL.val Taken-t.the-type Taken-l.the-laws; tells = EL.tells Taken-t.the-type Taken-l.the-laws; makes = λ 𝓤 H A W. EL.makes Taken-t.the-type Taken-l.the-plain 𝓤 H A; ty = Taken-l.mir; typed = λ 𝓤 H A W x is. EL.lawful Taken-t.the-type Taken-l.the-laws 𝓤 H A W tt .typed x _ is .0; copies = λ 𝓤 H A W. EL.copy Taken-t.the-type Taken-l.the-copy 𝓤 H A W }
 
 abbrev Refusal-p : Plain
 Refusal-p = record { row = Refusal-t.the-row; val = EL.val Refusal-t.the-type Refusal-l.the-laws; tells = EL.tells Refusal-t.the-type Refusal-l.the-laws; makes = λ 𝓤 H A W. EL.makes Refusal-t.the-type Refusal-l.the-plain 𝓤 H A; ty = Refusal-l.mir; typed = λ 𝓤 H A W x is. EL.lawful Refusal-t.the-type Refusal-l.the-laws 𝓤 H A W tt .typed x _ is .0; copies = λ 𝓤 H A W. EL.copy Refusal-t.the-type Refusal-l.the-copy 𝓤 H A W }
@@ -188,7 +190,7 @@ module _ {M : Type 1} (𝓤 : URA M) (H : Heap 𝓤) (A : Atoms 𝓤) (W : Given
   abbrev Post : Val → SProp 𝓤
   Post = walkOf 𝓤 H A f.ended stayed (f.clauses 𝓤 H A mem run) .post (((κ₁, (κ₂, tt)), (q₁, (q₂, tt)), tt, x, at), tt)
 
-  exits : (r : Move) (ws₁ : List (List ℕ)) (ws₂ : List Object) → ((r ≡ deleteMove number (foundObject (sessions) (objects) id number)) × (ws₁ ≡ keepRemoved (sessions) id (foundObject (sessions) (objects) id number)) × (ws₂ ≡ removedObjects (sessions) (objects) id number)) → Is (Move-p .row) r (Move-p .val r ∷ []) → length ws₁ ≡ n₁ → length ws₂ ≡ n₂ → ent 𝓤 (⋆ 𝓤 H A (‵ (MutSlice (named 0) κ₁ (Array u64 5) .own (at-list b₁ o₁ γ₁ ws₁) (sliceVal (b₁, o₁) n₁ ∷ [])) ∷ ‵ (flft κ₁ q₁) ∷ ‵ (MutSlice (named 1) κ₂ Object-t.the-row .own (at-list b₂ o₂ γ₂ ws₂) (sliceVal (b₂, o₂) n₂ ∷ [])) ∷ ‵ (flft κ₂ q₂) ∷ [])) (Post (Move-p .val r))
+  exits : (r : Move) (ws₁ : List (List ℕ)) (ws₂ : List Object) → ((r ≡ deleteMove number (takenObject (sessions) (objects) id number)) × (ws₁ ≡ keepRemoved (sessions) id (takenObject (sessions) (objects) id number)) × (ws₂ ≡ removedObjects (sessions) (objects) id number)) → Is (Move-p .row) r (Move-p .val r ∷ []) → length ws₁ ≡ n₁ → length ws₂ ≡ n₂ → ent 𝓤 (⋆ 𝓤 H A (‵ (MutSlice (named 0) κ₁ (Array u64 5) .own (at-list b₁ o₁ γ₁ ws₁) (sliceVal (b₁, o₁) n₁ ∷ [])) ∷ ‵ (flft κ₁ q₁) ∷ ‵ (MutSlice (named 1) κ₂ Object-t.the-row .own (at-list b₂ o₂ γ₂ ws₂) (sliceVal (b₂, o₂) n₂ ∷ [])) ∷ ‵ (flft κ₂ q₂) ∷ [])) (Post (Move-p .val r))
   exits r ws₁ ws₂ said r-is len₁ len₂ =
       qed W (‵ (MutSlice (named 0) κ₁ (Array u64 5) .own (at-list b₁ o₁ γ₁ ws₁) (sliceVal (b₁, o₁) n₁ ∷ [])) ∷ ‵ (flft κ₁ q₁) ∷ ‵ (MutSlice (named 1) κ₂ Object-t.the-row .own (at-list b₂ o₂ γ₂ ws₂) (sliceVal (b₂, o₂) n₂ ∷ [])) ∷ ‵ (flft κ₂ q₂) ∷ []) ∵
       suffices ! _ (ends-at 𝓤 H A f.ended stayed (f.clauses 𝓤 H A mem run) W (((κ₁, (κ₂, tt)), (q₁, (q₂, tt)), tt, x, at), tt) (Move-p .val r) r (ws₁, (ws₂, (tt, (tt, tt)))) (len₁, (len₂, (tt, (tt, tt))))) $ says ! said $ nothing ! $ move ! (4 ∷ 0 ∷ []) $ join ! $ move ! (2 ∷ 0 ∷ []) $ join ! $
@@ -209,9 +211,9 @@ module _ {M : Type 1} (𝓤 : URA M) (H : Heap 𝓤) (A : Atoms 𝓤) (W : Given
     fm = fmOf 𝓤 H (W .laws) 𝓣
 
     abbrev En : Env 𝓤 H
-    En = (Move-l.mir, l₀) ∷ ((sliceTy (tyRef (named 0) mut (pointee ((Array u64 5) .written)))), l₁) ∷ ((sliceTy (tyRef (named 1) mut (pointee (Object-t.the-row .written)))), l₂) ∷ ((tyInt w8), l₃) ∷ (ObjectNumber-l.mir, l₄) ∷ (Found-l.mir, l₅) ∷ ((tyRef erased mut (pointee ((Array u64 5) .written))), l₆) ∷ ((sliceTy (tyRef erased mut (pointee ((Array u64 5) .written)))), l₇) ∷ ((tyRef erased mut (pointee (Object-t.the-row .written))), l₈) ∷ ((sliceTy (tyRef erased mut (pointee (Object-t.the-row .written)))), l₉) ∷ []
+    En = (Move-l.mir, l₀) ∷ ((sliceTy (tyRef (named 0) mut (pointee ((Array u64 5) .written)))), l₁) ∷ ((sliceTy (tyRef (named 1) mut (pointee (Object-t.the-row .written)))), l₂) ∷ ((tyInt w8), l₃) ∷ (ObjectNumber-l.mir, l₄) ∷ (Taken-l.mir, l₅) ∷ ((tyRef erased mut (pointee ((Array u64 5) .written))), l₆) ∷ ((sliceTy (tyRef erased mut (pointee ((Array u64 5) .written)))), l₇) ∷ ((tyRef erased mut (pointee (Object-t.the-row .written))), l₈) ∷ ((sliceTy (tyRef erased mut (pointee (Object-t.the-row .written)))), l₉) ∷ []
 
-    begins : Sq W (‵ (MutSlice (named 0) κ₁ (Array u64 5) .own (at-list b₁ o₁ γ₁ sessions) (sliceVal (b₁, o₁) n₁ ∷ [])) ∷ ‵ (flft κ₁ q₁) ∷ ‵ (MutSlice (named 0) κ₂ Object-t.the-row .own (at-list b₂ o₂ γ₂ objects) (sliceVal (b₂, o₂) n₂ ∷ [])) ∷ ‵ (flft κ₂ q₂) ∷ free 𝓤 (sliceTy (tyRef erased mut (pointee (Object-t.the-row .written)))) l₉ (free 𝓤 (tyRef erased mut (pointee (Object-t.the-row .written))) l₈ (free 𝓤 (sliceTy (tyRef erased mut (pointee ((Array u64 5) .written)))) l₇ (free 𝓤 (tyRef erased mut (pointee ((Array u64 5) .written))) l₆ (free 𝓤 Found-l.mir l₅ (full 𝓤 ObjectNumber-l.mir l₄ (ObjectNumber-p .val number) (full 𝓤 (tyInt w8) l₃ (u8-p .val id) (full 𝓤 (sliceTy (tyRef (named 1) mut (pointee (Object-t.the-row .written)))) l₂ (sliceVal (b₂, o₂) n₂) (full 𝓤 (sliceTy (tyRef (named 0) mut (pointee ((Array u64 5) .written)))) l₁ (sliceVal (b₁, o₁) n₁) (free 𝓤 Move-l.mir l₀ ([]))))))))))) (runs C Λ En mir.t-1 (atRet En Post))
+    begins : Sq W (‵ (MutSlice (named 0) κ₁ (Array u64 5) .own (at-list b₁ o₁ γ₁ sessions) (sliceVal (b₁, o₁) n₁ ∷ [])) ∷ ‵ (flft κ₁ q₁) ∷ ‵ (MutSlice (named 0) κ₂ Object-t.the-row .own (at-list b₂ o₂ γ₂ objects) (sliceVal (b₂, o₂) n₂ ∷ [])) ∷ ‵ (flft κ₂ q₂) ∷ free 𝓤 (sliceTy (tyRef erased mut (pointee (Object-t.the-row .written)))) l₉ (free 𝓤 (tyRef erased mut (pointee (Object-t.the-row .written))) l₈ (free 𝓤 (sliceTy (tyRef erased mut (pointee ((Array u64 5) .written)))) l₇ (free 𝓤 (tyRef erased mut (pointee ((Array u64 5) .written))) l₆ (free 𝓤 Taken-l.mir l₅ (full 𝓤 ObjectNumber-l.mir l₄ (ObjectNumber-p .val number) (full 𝓤 (tyInt w8) l₃ (u8-p .val id) (full 𝓤 (sliceTy (tyRef (named 1) mut (pointee (Object-t.the-row .written)))) l₂ (sliceVal (b₂, o₂) n₂) (full 𝓤 (sliceTy (tyRef (named 0) mut (pointee ((Array u64 5) .written)))) l₁ (sliceVal (b₁, o₁) n₁) (free 𝓤 Move-l.mir l₀ ([]))))))))))) (runs C Λ En mir.t-1 (atRet En Post))
     begins =
         assigns ! (addr ! (from ! (fld ! refl (hop ! (look-in ! 20 (sub ! 0 refl (whole !))) (stop !))))) (from ! (stop !)) (init ! 10 refl (tt, tt)) $
         assigns ! (agg ! (and-then ! (load ! (from ! (stop !)) (look ! 10 refl)) (and-then ! (load ! (from ! (fld ! refl (stop !))) (look-in ! 20 (sub ! 1 refl (whole !)))) (no-more !)))) (from ! (stop !)) (init ! 8 refl (tt, (tt, (record { fits = room₁ .0 }, tt)))) $
@@ -225,27 +227,27 @@ module _ {M : Type 1} (𝓤 : URA M) (H : Heap 𝓤) (A : Atoms 𝓤) (W : Given
         use1 W (raw (toks 𝓤 A 2 (((ν-5-sessions ∷ []), ((ν-5-objects ∷ []), tt))) ((fullShare, (fullShare, tt))))) (id⊢ 𝓤 _) $ nothing ! $
         owned ! (ObjectNumber-p .row) (Is (ObjectNumber-p .row)) (ObjectNumber-p .makes 𝓤 H A W) number (ObjectNumber-p .val number ∷ []) number-is $ fjoin ! $
         owned ! (u8-p .row) (Is (u8-p .row)) (u8-p .makes 𝓤 H A W) id (u8-p .val id ∷ []) id-is $ fjoin ! $ move ! (2 ∷ 0 ∷ []) $ fjoin ! $ move ! (3 ∷ 0 ∷ []) $ fjoin ! $ move ! (1 ∷ 0 ∷ []) $
-        calls-any ! fm 2 [] (session-objects-remove-object.signature .params) (session-objects-remove-object.ended .kept) Found-p (session-objects-remove-object.clauses 𝓤 H A mem run) known-session-objects-remove-object ((ν-5-sessions ∷ []), ((ν-5-objects ∷ []), tt)) (fullShare, (fullShare, tt)) tt (at-list b₁ o₁ δ-5-sessions sessions, (at-list b₂ o₂ δ-5-objects objects, (id, (number, tt)))) (sliceVal (b₁, o₁) n₁ ∷ [], (sliceVal (b₂, o₂) n₂ ∷ [], (u8-p .val id ∷ [], (ObjectNumber-p .val number ∷ [], tt)))) tt (foundObject (sessions) (objects) id number) (λ ws-5. (ws-5 .0 ≡ keepRemoved (sessions) id (foundObject (sessions) (objects) id number)) × (ws-5 .1 .0 ≡ removedObjects (sessions) (objects) id number)) (id⊢ 𝓤 _) (λ r ws-5. fact-mono 𝓤 ((r ≡ foundObject (sessions) (objects) id number) × ((ws-5 .0) ≡ keepRemoved (sessions) id r) × ((ws-5 .1 .0) ≡ removedObjects (sessions) (objects) id number)) ((r ≡ (foundObject (sessions) (objects) id number)) × ((ws-5 .0 ≡ keepRemoved (sessions) id (foundObject (sessions) (objects) id number)) × (ws-5 .1 .0 ≡ removedObjects (sessions) (objects) id number))) (λ e. (e .0, (subst (λ (r : Found-p .row .Denot). (ws-5 .0) ≡ keepRemoved (sessions) id r) (e .0) (e .1), e .2)))) (λ _. (and-then ! (load ! (from ! (stop !)) (look ! 7 refl)) (and-then ! (load ! (from ! (stop !)) (look ! 3 refl)) (and-then ! (load ! (from ! (stop !)) (look ! 15 refl)) (and-then ! (load ! (from ! (stop !)) (look ! 13 refl)) (no-more !)))))) (λ ws-5 said-5 is-5.
+        calls-any ! fm 2 [] (session-objects-remove-object.signature .params) (session-objects-remove-object.ended .kept) Taken-p (session-objects-remove-object.clauses 𝓤 H A mem run) known-session-objects-remove-object ((ν-5-sessions ∷ []), ((ν-5-objects ∷ []), tt)) (fullShare, (fullShare, tt)) tt (at-list b₁ o₁ δ-5-sessions sessions, (at-list b₂ o₂ δ-5-objects objects, (id, (number, tt)))) (sliceVal (b₁, o₁) n₁ ∷ [], (sliceVal (b₂, o₂) n₂ ∷ [], (u8-p .val id ∷ [], (ObjectNumber-p .val number ∷ [], tt)))) tt (takenObject (sessions) (objects) id number) (λ ws-5. (ws-5 .0 ≡ keepRemoved (sessions) id (takenObject (sessions) (objects) id number)) × (ws-5 .1 .0 ≡ removedObjects (sessions) (objects) id number)) (id⊢ 𝓤 _) (λ r ws-5. fact-mono 𝓤 ((r ≡ takenObject (sessions) (objects) id number) × ((ws-5 .0) ≡ keepRemoved (sessions) id r) × ((ws-5 .1 .0) ≡ removedObjects (sessions) (objects) id number)) ((r ≡ (takenObject (sessions) (objects) id number)) × ((ws-5 .0 ≡ keepRemoved (sessions) id (takenObject (sessions) (objects) id number)) × (ws-5 .1 .0 ≡ removedObjects (sessions) (objects) id number))) (λ e. (e .0, (subst (λ (r : Taken-p .row .Denot). (ws-5 .0) ≡ keepRemoved (sessions) id r) (e .0) (e .1), e .2)))) (λ _. (and-then ! (load ! (from ! (stop !)) (look ! 7 refl)) (and-then ! (load ! (from ! (stop !)) (look ! 3 refl)) (and-then ! (load ! (from ! (stop !)) (look ! 15 refl)) (and-then ! (load ! (from ! (stop !)) (look ! 13 refl)) (no-more !)))))) (λ ws-5 said-5 is-5.
         use1 W ((‵ (flft (ν-5-sessions ∷ []) fullShare) ⊛ (‵ (flft (ν-5-objects ∷ []) fullShare) ⊛ ‵ ftrue))) (id⊢ 𝓤 _) $ split ! $ move ! (1 ∷ []) $ split ! $ move ! (3 ∷ []) $ fsplit ! $ fsplit ! $ move ! (1 ∷ []) $
         feqL ! (λ wlen-5-0.
         move ! (1 ∷ []) $ fsplit ! $ fsplit ! $ move ! (1 ∷ []) $
         feqL ! (λ wlen-5-1.
         move ! (5 ∷ 7 ∷ 2 ∷ []) $
-        backs-mut ! tt (Array u64 5) b₁ o₁ sessions n₁ (refl) room₁ ν-5-sessions δ-5-sessions (ws-5 .0) (keepRemoved (sessions) id (foundObject (sessions) (objects) id number)) wlen-5-0 (said-5 .0) (λ len-5-sessions.
+        backs-mut ! tt (Array u64 5) b₁ o₁ sessions n₁ (refl) room₁ ν-5-sessions δ-5-sessions (ws-5 .0) (keepRemoved (sessions) id (takenObject (sessions) (objects) id number)) wlen-5-0 (said-5 .0) (λ len-5-sessions.
         move ! (4 ∷ 6 ∷ 2 ∷ []) $
         backs-mut ! tt Object-t.the-row b₂ o₂ objects n₂ (refl) room₂ ν-5-objects δ-5-objects (ws-5 .1 .0) (removedObjects (sessions) (objects) id number) wlen-5-1 (said-5 .1) (λ len-5-objects.
         move ! (4 ∷ []) $ drop ! $ move ! (4 ∷ []) $ drop ! $
-        land ! (from ! (stop !)) (init ! 12 refl (Found-p .typed 𝓤 H A W (foundObject (sessions) (objects) id number) is-5)) $
+        land ! (from ! (stop !)) (init ! 12 refl (Taken-p .typed 𝓤 H A W (takenObject (sessions) (objects) id number) is-5)) $
         -- 6: moves::moves::delete_move
         nothing ! $
         use1 W (raw (toks 𝓤 A 0 (tt) (tt))) (id⊢ 𝓤 _) $ nothing ! $
-        owned ! (Found-p .row) (Is (Found-p .row)) (Found-p .makes 𝓤 H A W) (foundObject (sessions) (objects) id number) (Found-p .val (foundObject (sessions) (objects) id number) ∷ []) is-5 $ fjoin ! $
+        owned ! (Taken-p .row) (Is (Taken-p .row)) (Taken-p .makes 𝓤 H A W) (takenObject (sessions) (objects) id number) (Taken-p .val (takenObject (sessions) (objects) id number) ∷ []) is-5 $ fjoin ! $
         owned ! (ObjectNumber-p .row) (Is (ObjectNumber-p .row)) (ObjectNumber-p .makes 𝓤 H A W) number (ObjectNumber-p .val number ∷ []) number-is $ fjoin ! $ move ! (1 ∷ 0 ∷ []) $
-        calls-any ! fm 0 [] (moves-delete-move.signature .params) (moves-delete-move.ended .kept) Move-p (moves-delete-move.clauses 𝓤 H A mem run) known-moves-delete-move tt tt tt (number, (foundObject (sessions) (objects) id number, tt)) (ObjectNumber-p .val number ∷ [], (Found-p .val (foundObject (sessions) (objects) id number) ∷ [], tt)) tt (deleteMove number (foundObject (sessions) (objects) id number)) (λ ws-6. Unit {0}) (id⊢ 𝓤 _) (λ r ws-6. fact-mono 𝓤 (r ≡ deleteMove number (foundObject (sessions) (objects) id number)) ((r ≡ (deleteMove number (foundObject (sessions) (objects) id number))) × (Unit {0})) (λ e. (e, tt))) (λ _. (and-then ! (load ! (from ! (stop !)) (look ! 15 refl)) (and-then ! (load ! (from ! (stop !)) (look ! 13 refl)) (no-more !)))) (λ ws-6 said-6 is-6.
+        calls-any ! fm 0 [] (moves-delete-move.signature .params) (moves-delete-move.ended .kept) Move-p (moves-delete-move.clauses 𝓤 H A mem run) known-moves-delete-move tt tt tt (number, (takenObject (sessions) (objects) id number, tt)) (ObjectNumber-p .val number ∷ [], (Taken-p .val (takenObject (sessions) (objects) id number) ∷ [], tt)) tt (deleteMove number (takenObject (sessions) (objects) id number)) (λ ws-6. Unit {0}) (id⊢ 𝓤 _) (λ r ws-6. fact-mono 𝓤 (r ≡ deleteMove number (takenObject (sessions) (objects) id number)) ((r ≡ (deleteMove number (takenObject (sessions) (objects) id number))) × (Unit {0})) (λ e. (e, tt))) (λ _. (and-then ! (load ! (from ! (stop !)) (look ! 15 refl)) (and-then ! (load ! (from ! (stop !)) (look ! 13 refl)) (no-more !)))) (λ ws-6 said-6 is-6.
         drop ! $ drop ! $
-        land ! (from ! (stop !)) (init ! 22 refl (Move-p .typed 𝓤 H A W (deleteMove number (foundObject (sessions) (objects) id number)) is-6)) $
+        land ! (from ! (stop !)) (init ! 22 refl (Move-p .typed 𝓤 H A W (deleteMove number (takenObject (sessions) (objects) id number)) is-6)) $
         returns ! (look ! 22 refl) $ forget ! 4 refl $ forget ! 6 refl $ forget ! 8 refl $ forget ! 10 refl $ forget ! 12 refl $ forget ! 14 refl $ forget ! 16 refl $ forget ! 18 refl $ forget ! 20 refl $ forget ! 22 refl $ move ! (22 ∷ 23 ∷ []) $ free1 ! $ move ! (20 ∷ 21 ∷ []) $ free1 ! $ move ! (18 ∷ 19 ∷ []) $ free1 ! $ move ! (16 ∷ 17 ∷ []) $ free1 ! $ move ! (14 ∷ 15 ∷ []) $ free1 ! $ move ! (12 ∷ 13 ∷ []) $ free1 ! $ move ! (10 ∷ 11 ∷ []) $ free1 ! $ move ! (8 ∷ 9 ∷ []) $ free1 ! $ move ! (6 ∷ 7 ∷ []) $ free1 ! $ move ! (4 ∷ 5 ∷ []) $ free1 ! $ free0 ! $ move ! (2 ∷ 3 ∷ 0 ∷ 1 ∷ []) $
-        by ! (exits (deleteMove number (foundObject (sessions) (objects) id number)) (keepRemoved (sessions) id (foundObject (sessions) (objects) id number)) (removedObjects (sessions) (objects) id number) ((refl, refl, refl)) is-6 len-5-sessions len-5-objects)))))))))
+        by ! (exits (deleteMove number (takenObject (sessions) (objects) id number)) (keepRemoved (sessions) id (takenObject (sessions) (objects) id number)) (removedObjects (sessions) (objects) id number) ((refl, refl, refl)) is-6 len-5-sessions len-5-objects)))))))))
 
   module _ (𝓣 : Tables 𝓤 H) (known-session-objects-remove-object : Triple 𝓤 (𝓣 .C #session-objects-remove-object) (Of-session-objects-remove-object 𝓤 H A mem run)) (known-moves-delete-move : Triple 𝓤 (𝓣 .C #moves-delete-move) (Of-moves-delete-move 𝓤 H A mem run)) where
     walk : ent 𝓤 (onEntry 𝓤 H A f.signature (κ₁, (κ₂, tt)) (q₁, (q₂, tt)) x at) (WpFn 𝓤 H (𝓣 .C) (𝓣 .Λ) code.function (sliceVal (b₁, o₁) n₁ ∷ sliceVal (b₂, o₂) n₂ ∷ u8-p .val id ∷ ObjectNumber-p .val number ∷ []) Post)

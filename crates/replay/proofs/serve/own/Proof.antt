@@ -53,6 +53,9 @@ use borrow.Rule.Slice.PartMut.{midOf, putMid}
 use Rattle.walk.proofs.Parts.{part-len, lends-part, backs-part, parts-shr}
 use Rattle.walk.proofs.Arrays.{rep-is, lends-array, backs-array}
 use Rattle.sessions.specs.Objects.{bridgedOf, implicitOf, handleOf, isNumbered, slotOf, usedAfter}
+use Rattle.sessions.specs.View.{entryOf}
+use Rattle.sessions.specs.Dependants.{kindsDepend, dependsOn}
+use Rattle.sessions.specs.Removal.{isAbove}
 use Rattle.replay.proofs.Literals.{big-lit}
 use Rattle.sessions.specs.declared.objects.Object.{Object}
 use Rattle.sessions.proofs.objects.Object as Object-t

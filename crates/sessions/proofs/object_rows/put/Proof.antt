@@ -52,8 +52,12 @@ use Rattle.walk.proofs.Steps.{past, one, yes-of, no-of, in-block, arm-of, holds
 use borrow.Rule.Slice.PartMut.{midOf, putMid}
 use Rattle.walk.proofs.Parts.{part-len, lends-part, backs-part, parts-shr}
 use Rattle.walk.proofs.Arrays.{rep-is, lends-array, backs-array}
-use Rattle.sessions.specs.Objects.{objectPlace, foundOf, storedOf, storedRow, removedRow}
+use Rattle.sessions.specs.Objects.{objectPlace, foundOf, storedOf, storedRow}
+use Rattle.sessions.specs.Removal.{dependedIn, takenOf, removedRow}
 use Rattle.sessions.specs.Objects.{bridgedOf, implicitOf, handleOf, isNumbered, slotOf, usedAfter}
+use Rattle.sessions.specs.View.{entryOf}
+use Rattle.sessions.specs.Dependants.{kindsDepend, dependsOn}
+use Rattle.sessions.specs.Removal.{isAbove}
 use mathlib.Core.Bool.{cond}
 use Rattle.sessions.proofs.object_rows.Laws.{put-full}
 use Rattle.sessions.specs.declared.objects.Object.{Object}

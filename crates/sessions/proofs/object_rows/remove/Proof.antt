@@ -52,7 +52,10 @@ use Rattle.walk.proofs.Steps.{past, one, yes-of, no-of, in-block, arm-of, holds
 use borrow.Rule.Slice.PartMut.{midOf, putMid}
 use Rattle.walk.proofs.Parts.{part-len, lends-part, backs-part, parts-shr}
 use Rattle.walk.proofs.Arrays.{rep-is, lends-array, backs-array}
-use Rattle.sessions.specs.Objects.{objectPlace, foundOf, storedOf, storedRow, removedRow}
+use Rattle.sessions.specs.Objects.{objectPlace, foundOf, storedOf, storedRow}
+use Rattle.sessions.specs.Removal.{dependedIn, takenOf, removedRow}
+use mathlib.Core.Bool.{cond}
+use Rattle.sessions.specs.Objects.{blank}
 use Rattle.sessions.proofs.ObjectSearch.{Under, place-under}
 use Rattle.sessions.specs.declared.objects.Object.{Object}
 use Rattle.sessions.proofs.objects.Object as Object-t
@@ -60,10 +63,10 @@ use Rattle.sessions.proofs.objects.Object.Laws as Object-l
 use Rattle.codec.specs.declared.submessages.ObjectNumber.{ObjectNumber}
 use Rattle.codec.proofs.submessages.ObjectNumber as ObjectNumber-t
 use Rattle.codec.proofs.submessages.ObjectNumber.Laws as ObjectNumber-l
-use Rattle.sessions.specs.declared.objects.Found.{Found}
-use Rattle.sessions.proofs.objects.Found as Found-t
-use Rattle.sessions.proofs.objects.Found.Laws as Found-l
-use Rattle.sessions.specs.declared.objects.Found.the-variants.{Held as Found-Held, Nothing as Found-Nothing, Refused as Found-Refused}
+use Rattle.sessions.specs.declared.objects.Taken.{Taken}
+use Rattle.sessions.proofs.objects.Taken as Taken-t
+use Rattle.sessions.proofs.objects.Taken.Laws as Taken-l
+use Rattle.sessions.specs.declared.objects.Taken.the-variants.{Gone as Taken-Gone, Depended as Taken-Depended, Nothing as Taken-Nothing, Refused as Taken-Refused}
 use Rattle.codec.specs.declared.refusals.Refusal.{Refusal}
 use Rattle.codec.proofs.refusals.Refusal as Refusal-t
 use Rattle.codec.proofs.refusals.Refusal.Laws as Refusal-l
@@ -76,6 +79,10 @@ use Rattle.sessions.proofs.object_rows.place as object-rows-place
 use Rattle.sessions.proofs.object_rows.place.Symbol as object-rows-place-def
 use Rattle.sessions.proofs.object_rows.place.Symbol.{name as #object-rows-place}
 use Rattle.sessions.proofs.object_rows.place.Met as object-rows-place-thm
+use Rattle.sessions.proofs.object_rows.depended as object-rows-depended
+use Rattle.sessions.proofs.object_rows.depended.Symbol as object-rows-depended-def
+use Rattle.sessions.proofs.object_rows.depended.Symbol.{name as #object-rows-depended}
+use Rattle.sessions.proofs.object_rows.depended.Met as object-rows-depended-thm
 use Rattle.sessions.proofs.object_rows.remove.Key.{name as #f}
 use Rattle.sessions.proofs.object_rows.remove as f
 use Rattle.sessions.proofs.object_rows.remove.Statement as stated
@@ -94,8 +101,8 @@ ObjectNumber-of x0 = record { 0 = x0 }
 abbrev ObjectNumber-p : Plain
 ObjectNumber-p = record { row = ObjectNumber-t.the-row; val = LL.val ObjectNumber-t.the-type ObjectNumber-l.the-laws; tells = LL.tells ObjectNumber-t.the-type ObjectNumber-l.the-laws; makes = λ 𝓤 H A W. LL.makes ObjectNumber-t.the-type ObjectNumber-l.the-plain 𝓤 H A; ty = ObjectNumber-l.mir; typed = λ 𝓤 H A W x is. LL.lawful ObjectNumber-t.the-type ObjectNumber-l.the-laws 𝓤 H A W .typed x _ is .0; copies = λ 𝓤 H A W. LL.copy ObjectNumber-t.the-type ObjectNumber-l.the-copy 𝓤 H A W }
 
-abbrev Found-p : Plain
-Found-p = record { row = Found-t.the-row; val = EL.val Found-t.the-type Found-l.the-laws; tells = EL.tells Found-t.the-type Found-l.the-laws; makes = λ 𝓤 H A W. EL.makes Found-t.the-type Found-l.the-plain 𝓤 H A; ty = Found-l.mir; typed = λ 𝓤 H A W x is. EL.lawful Found-t.the-type Found-l.the-laws 𝓤 H A W tt .typed x _ is .0; copies = λ 𝓤 H A W. EL.copy Found-t.the-type Found-l.the-copy 𝓤 H A W }
+abbrev Taken-p : Plain
+Taken-p = record { row = Taken-t.the-row; val = EL.val Taken-t.the-type Taken-l.the-laws; tells = EL.tells Taken-t.the-type Taken-l.the-laws; makes = λ 𝓤 H A W. EL.makes Taken-t.the-type Taken-l.the-plain 𝓤 H A; ty = Taken-l.mir; typed = λ 𝓤 H A W x is. EL.lawful Taken-t.the-type Taken-l.the-laws 𝓤 H A W tt .typed x _ is .0; copies = λ 𝓤 H A W. EL.copy Taken-t.the-type Taken-l.the-copy 𝓤 H A W }
 
 abbrev Refusal-p : Plain
 Refusal-p = record { row = Refusal-t.the-row; val = EL.val Refusal-t.the-type Refusal-l.the-laws; tells = EL.tells Refusal-t.the-type Refusal-l.the-laws; makes = λ 𝓤 H A W. EL.makes Refusal-t.the-type Refusal-l.the-plain 𝓤 H A; ty = Refusal-l.mir; typed = λ 𝓤 H A W x is. EL.lawful Refusal-t.the-type Refusal-l.the-laws 𝓤 H A W tt .typed x _ is .0; copies = λ 𝓤 H A W. EL.copy Refusal-t.the-type Refusal-l.the-copy 𝓤 H A W }
@@ -109,6 +116,9 @@ stayed = (stay-slice (0 ∷ []) tt (plain (λ _. Object-t.the-row)), (stay-none 
 module _ {M : Type 1} (𝓤 : URA M) (H : Heap 𝓤) (A : Atoms 𝓤) (mem : Memory → SProp 𝓤) (run : Routine → Fun 𝓤) where
   abbrev Of-object-rows-place : Contract 𝓤
   Of-object-rows-place = tripleOf 𝓤 H A object-rows-place.signature (object-rows-place.spec 𝓤 H A mem run)
+
+  abbrev Of-object-rows-depended : Contract 𝓤
+  Of-object-rows-depended = tripleOf 𝓤 H A object-rows-depended.signature (object-rows-depended.spec 𝓤 H A mem run)
 
 module _ {M : Type 1} (𝓤 : URA M) (H : Heap 𝓤) (A : Atoms 𝓤) (W : Given 𝓤 H A) (mem : Memory → SProp 𝓤) (run : Routine → Fun 𝓤) (κ₁ : Lft) (q₁ : Share) (b₁ o₁ : ℕ) (γ₁ : GName) (row : List Object) (used : ℕ) (number : ObjectNumber)
     (room₁ : Room Object-t.the-row (length row)) (used-is : Is (u64-p .row) used (u64-p .val used ∷ [])) (number-is : Is (ObjectNumber-p .row) number (ObjectNumber-p .val number ∷ [])) (within : used ≤ length (row)) where
@@ -128,17 +138,23 @@ module _ {M : Type 1} (𝓤 : URA M) (H : Heap 𝓤) (A : Atoms 𝓤) (W : Given
   in-use : (i : ℕ) → objectPlace row used number ≡ Place-At i → i < used
   in-use i e = subst (Under used) e (place-under row number used)
 
-  exits : (r : Found) (ws₁ : List Object) → ((r ≡ foundOf (row) (objectPlace (row) used number)) × (ws₁ ≡ removedRow (row) used (objectPlace (row) used number))) → Is (Found-p .row) r (Found-p .val r ∷ []) → length ws₁ ≡ n₁ → ent 𝓤 (⋆ 𝓤 H A (‵ (MutSlice (named 0) κ₁ Object-t.the-row .own (at-list b₁ o₁ γ₁ ws₁) (sliceVal (b₁, o₁) n₁ ∷ [])) ∷ ‵ (flft κ₁ q₁) ∷ [])) (Post (Found-p .val r))
+  abbrev taken : Bool → Object → Taken
+  taken b o = cond b Taken-Depended (Taken-Gone o)
+
+  abbrev left : Bool → ℕ → List Object
+  left b i = cond b row (set row i (getD row (used - 1) blank))
+
+  exits : (r : Taken) (ws₁ : List Object) → ((r ≡ takenOf (row) used (objectPlace (row) used number)) × (ws₁ ≡ removedRow (row) used (objectPlace (row) used number))) → Is (Taken-p .row) r (Taken-p .val r ∷ []) → length ws₁ ≡ n₁ → ent 𝓤 (⋆ 𝓤 H A (‵ (MutSlice (named 0) κ₁ Object-t.the-row .own (at-list b₁ o₁ γ₁ ws₁) (sliceVal (b₁, o₁) n₁ ∷ [])) ∷ ‵ (flft κ₁ q₁) ∷ [])) (Post (Taken-p .val r))
   exits r ws₁ said r-is len₁ =
       qed W (‵ (MutSlice (named 0) κ₁ Object-t.the-row .own (at-list b₁ o₁ γ₁ ws₁) (sliceVal (b₁, o₁) n₁ ∷ [])) ∷ ‵ (flft κ₁ q₁) ∷ []) ∵
-      suffices ! _ (ends-at 𝓤 H A f.ended stayed (f.clauses 𝓤 H A mem run) W (((κ₁, tt), (q₁, tt), tt, x, at), tt) (Found-p .val r) r (ws₁, (tt, (tt, tt))) (len₁, (tt, (tt, tt)))) $ says ! said $ nothing ! $ move ! (2 ∷ 0 ∷ []) $ join ! $
+      suffices ! _ (ends-at 𝓤 H A f.ended stayed (f.clauses 𝓤 H A mem run) W (((κ₁, tt), (q₁, tt), tt, x, at), tt) (Taken-p .val r) r (ws₁, (tt, (tt, tt))) (len₁, (tt, (tt, tt)))) $ says ! said $ nothing ! $ move ! (2 ∷ 0 ∷ []) $ join ! $
       frame ! $ nothing ! $
       owned ! (ObjectNumber-p .row) (Is (ObjectNumber-p .row)) (ObjectNumber-p .makes 𝓤 H A W) number (ObjectNumber-p .val number ∷ []) number-is $ fjoin ! $
       owned ! (u64-p .row) (Is (u64-p .row)) (u64-p .makes 𝓤 H A W) used (u64-p .val used ∷ []) used-is $ fjoin ! $ move ! (1 ∷ 0 ∷ []) $ fjoin ! $
       frame ! $
-      owned ! (Found-p .row) (Is (Found-p .row)) (Found-p .makes 𝓤 H A W) r _ r-is $ done !
+      owned ! (Taken-p .row) (Is (Taken-p .row)) (Taken-p .makes 𝓤 H A W) r _ r-is $ done !
 
-  module _ (𝓣 : Tables 𝓤 H) (known-object-rows-place : Triple 𝓤 (𝓣 .C #object-rows-place) (Of-object-rows-place 𝓤 H A mem run)) (l₀ l₁ l₂ l₃ l₄ l₅ l₆ l₇ l₈ l₉ l₁₀ l₁₁ l₁₂ l₁₃ l₁₄ l₁₅ l₁₆ : ℕ) where
+  module _ (𝓣 : Tables 𝓤 H) (known-object-rows-place : Triple 𝓤 (𝓣 .C #object-rows-place) (Of-object-rows-place 𝓤 H A mem run)) (known-object-rows-depended : Triple 𝓤 (𝓣 .C #object-rows-depended) (Of-object-rows-depended 𝓤 H A mem run)) (l₀ l₁ l₂ l₃ l₄ l₅ l₆ l₇ l₈ l₉ l₁₀ l₁₁ l₁₂ l₁₃ l₁₄ l₁₅ l₁₆ l₁₇ l₁₈ l₁₉ l₂₀ : ℕ) where
     abbrev C : Calls 𝓤 H
     C = 𝓣 .C
 
@@ -149,59 +165,84 @@ module _ {M : Type 1} (𝓤 : URA M) (H : Heap 𝓤) (A : Atoms 𝓤) (W : Given
     fm = fmOf 𝓤 H (W .laws) 𝓣
 
     abbrev En : Env 𝓤 H
-    En = (Found-l.mir, l₀) ∷ ((sliceTy (tyRef (named 0) mut (pointee (Object-t.the-row .written)))), l₁) ∷ ((tyInt w64), l₂) ∷ (ObjectNumber-l.mir, l₃) ∷ (Place-l.mir, l₄) ∷ ((tyInt w64), l₅) ∷ (Object-l.mir, l₆) ∷ ((tyInt w64), l₇) ∷ (Object-l.mir, l₈) ∷ ((tyRef erased imm (pointee (Object-t.the-row .written))), l₉) ∷ ((sliceTy (tyRef erased imm (pointee (Object-t.the-row .written)))), l₁₀) ∷ (Found-l.mir, l₁₁) ∷ ((tyInt w64), l₁₂) ∷ (tyPtr, l₁₃) ∷ (Object-l.mir, l₁₄) ∷ (tyPtr, l₁₅) ∷ (tyPtr, l₁₆) ∷ []
+    En = (Taken-l.mir, l₀) ∷ ((sliceTy (tyRef (named 0) mut (pointee (Object-t.the-row .written)))), l₁) ∷ ((tyInt w64), l₂) ∷ (ObjectNumber-l.mir, l₃) ∷ (Place-l.mir, l₄) ∷ ((tyInt w64), l₅) ∷ (Object-l.mir, l₆) ∷ (tyBool, l₇) ∷ ((tyInt w64), l₈) ∷ (Object-l.mir, l₉) ∷ ((tyRef erased imm (pointee (Object-t.the-row .written))), l₁₀) ∷ ((sliceTy (tyRef erased imm (pointee (Object-t.the-row .written)))), l₁₁) ∷ (Taken-l.mir, l₁₂) ∷ ((tyInt w64), l₁₃) ∷ (tyPtr, l₁₄) ∷ (Object-l.mir, l₁₅) ∷ ((tyRef erased imm (pointee (Object-t.the-row .written))), l₁₆) ∷ ((sliceTy (tyRef erased imm (pointee (Object-t.the-row .written)))), l₁₇) ∷ (tyBool, l₁₈) ∷ (tyPtr, l₁₉) ∷ (tyPtr, l₂₀) ∷ []
 
-    matched-4-0 : (asks-3 : used ≤ length (row)) → (is-3 : Is (Place-p .row) (objectPlace (row) used number) (Place-p .val (objectPlace (row) used number) ∷ [])) → (z : Place) → (objectPlace (row) used number) ≡ z → Is (Place-p .row) z (Place-p .val z ∷ []) → Sq W (‵ (MutSlice (named 0) κ₁ Object-t.the-row .own (at-list b₁ o₁ γ₁ row) (sliceVal (b₁, o₁) n₁ ∷ [])) ∷ ‵ (flft κ₁ q₁) ∷ free 𝓤 tyPtr l₁₆ (free 𝓤 tyPtr l₁₅ (free 𝓤 Object-l.mir l₁₄ (free 𝓤 tyPtr l₁₃ (free 𝓤 (tyInt w64) l₁₂ (free 𝓤 Found-l.mir l₁₁ (full 𝓤 (sliceTy (tyRef erased imm (pointee (Object-t.the-row .written)))) l₁₀ (sliceVal (b₁, o₁) n₁) (full 𝓤 (tyRef erased imm (pointee (Object-t.the-row .written))) l₉ (vptr b₁ o₁) (free 𝓤 Object-l.mir l₈ (free 𝓤 (tyInt w64) l₇ (free 𝓤 Object-l.mir l₆ (free 𝓤 (tyInt w64) l₅ (full 𝓤 Place-l.mir l₄ (Place-p .val z) (full 𝓤 ObjectNumber-l.mir l₃ (ObjectNumber-p .val number) (full 𝓤 (tyInt w64) l₂ (u64-p .val used) (full 𝓤 (sliceTy (tyRef (named 0) mut (pointee (Object-t.the-row .written)))) l₁ (sliceVal (b₁, o₁) n₁) (free 𝓤 Found-l.mir l₀ ([])))))))))))))))))) (runs C Λ En (one mir.t-4) (anyQ (afterSeq 𝓤 H (Wp 𝓤 H C Λ En mir.t-5 (atReturn 𝓤 H En Post)) (atReturn 𝓤 H En Post))))
+    matched-4-0 : (asks-3 : used ≤ length (row)) → (is-3 : Is (Place-p .row) (objectPlace (row) used number) (Place-p .val (objectPlace (row) used number) ∷ [])) → (z : Place) → (objectPlace (row) used number) ≡ z → Is (Place-p .row) z (Place-p .val z ∷ []) → Sq W (‵ (MutSlice (named 0) κ₁ Object-t.the-row .own (at-list b₁ o₁ γ₁ row) (sliceVal (b₁, o₁) n₁ ∷ [])) ∷ ‵ (flft κ₁ q₁) ∷ free 𝓤 tyPtr l₂₀ (free 𝓤 tyPtr l₁₉ (free 𝓤 tyBool l₁₈ (free 𝓤 (sliceTy (tyRef erased imm (pointee (Object-t.the-row .written)))) l₁₇ (free 𝓤 (tyRef erased imm (pointee (Object-t.the-row .written))) l₁₆ (free 𝓤 Object-l.mir l₁₅ (free 𝓤 tyPtr l₁₄ (free 𝓤 (tyInt w64) l₁₃ (free 𝓤 Taken-l.mir l₁₂ (full 𝓤 (sliceTy (tyRef erased imm (pointee (Object-t.the-row .written)))) l₁₁ (sliceVal (b₁, o₁) n₁) (full 𝓤 (tyRef erased imm (pointee (Object-t.the-row .written))) l₁₀ (vptr b₁ o₁) (free 𝓤 Object-l.mir l₉ (free 𝓤 (tyInt w64) l₈ (free 𝓤 tyBool l₇ (free 𝓤 Object-l.mir l₆ (free 𝓤 (tyInt w64) l₅ (full 𝓤 Place-l.mir l₄ (Place-p .val z) (full 𝓤 ObjectNumber-l.mir l₃ (ObjectNumber-p .val number) (full 𝓤 (tyInt w64) l₂ (u64-p .val used) (full 𝓤 (sliceTy (tyRef (named 0) mut (pointee (Object-t.the-row .written)))) l₁ (sliceVal (b₁, o₁) n₁) (free 𝓤 Taken-l.mir l₀ ([])))))))))))))))))))))) (runs C Λ En (one mir.t-4) (anyQ (afterSeq 𝓤 H (Wp 𝓤 H C Λ En mir.t-5 (atReturn 𝓤 H En Post)) (atReturn 𝓤 H En Post))))
     matched-4-0 asks-3 is-3 (Place-At i) e-4 good-4 =
         knows ! (Is (u64-p .row) i (u64-p .val i ∷ [])) (EL.owed Place-t.the-type Place-l.the-laws (Place-At i) _ good-4 .0) (λ i-is.
-        switches-on ! (load ! (from ! (vrt ! refl (fld ! refl (stop !)))) (look-tag ! 26 (whole !))) $ exec ! C Λ En (arm-of 0 (one mir.t-4)) (anyQ (afterSeq 𝓤 H (Wp 𝓤 H C Λ En mir.t-5 (atReturn 𝓤 H En Post)) (atReturn 𝓤 H En Post))) $
-        assigns ! (of-opd ! (load ! (from ! (vrt ! refl (fld ! refl (stop !)))) (look-in ! 26 (in-variant ! 0 0 refl refl (whole !))))) (from ! (stop !)) (init ! 24 refl (u64-p .typed 𝓤 H A W i i-is)) $
+        switches-on ! (load ! (from ! (vrt ! refl (fld ! refl (stop !)))) (look-tag ! 34 (whole !))) $ exec ! C Λ En (arm-of 0 (one mir.t-4)) (anyQ (afterSeq 𝓤 H (Wp 𝓤 H C Λ En mir.t-5 (atReturn 𝓤 H En Post)) (atReturn 𝓤 H En Post))) $
+        assigns ! (of-opd ! (load ! (from ! (vrt ! refl (fld ! refl (stop !)))) (look-in ! 34 (in-variant ! 0 0 refl refl (whole !))))) (from ! (stop !)) (init ! 32 refl (u64-p .typed 𝓤 H A W i i-is)) $
         knows ! (i * 12 < 2 ^ 64) ((omega (arith, ltb-true, ltb-false, leb-true, leb-false, eqb-true, eqb-false, in-use i e-4))) (λ fits-4·At·2.
-        assigns ! (bin ! (load ! (from ! (stop !)) (look ! 24 refl)) (lit ! tt) (record { fits = fits-4·At·2 })) (from ! (stop !)) (init ! 10 refl (u64-p .typed 𝓤 H A W (i * 12) ((refl, fits-4·At·2)))) $
-        assigns ! (bin ! (load ! (from ! (fld ! refl (stop !))) (look-in ! 32 (sub ! 0 refl (whole !)))) (load ! (from ! (stop !)) (look ! 10 refl)) tt) (from ! (stop !)) (init ! 8 refl (tt, tt)) $
-        rewrite ! 8 (λ (p : ℕ). ‵ (fat fullShare tyPtr l₁₃ 0 (vptr b₁ p))) (sym (place-is 12 o₁ i)) refl $
+        assigns ! (bin ! (load ! (from ! (stop !)) (look ! 32 refl)) (lit ! tt) (record { fits = fits-4·At·2 })) (from ! (stop !)) (init ! 16 refl (u64-p .typed 𝓤 H A W (i * 12) ((refl, fits-4·At·2)))) $
+        assigns ! (bin ! (load ! (from ! (fld ! refl (stop !))) (look-in ! 40 (sub ! 0 refl (whole !)))) (load ! (from ! (stop !)) (look ! 16 refl)) tt) (from ! (stop !)) (init ! 14 refl (tt, tt)) $
+        rewrite ! 14 (λ (p : ℕ). ‵ (fat fullShare tyPtr l₁₄ 0 (vptr b₁ p))) (sym (place-is 12 o₁ i)) refl $
         knows ! (i < length row) ((omega (arith, ltb-true, ltb-false, leb-true, leb-false, eqb-true, eqb-false, in-use i e-4))) (λ index-4·At·4.
         opens-elem ! tt Object-p b₁ o₁ row n₁ (refl) i ((Object-of (ObjectNumber-of 0) 0 0 0 0)) index-4·At·4 (λ is-4·At·4.
-        assigns ! (of-opd ! (load ! (from ! (hop ! (look ! 12 refl) (stop !))) (look-raw ! 0 refl))) (from ! (stop !)) (init ! 10 refl (Object-p .typed 𝓤 H A W (getD row i ((Object-of (ObjectNumber-of 0) 0 0 0 0))) is-4·At·4)) $
+        assigns ! (of-opd ! (load ! (from ! (hop ! (look ! 18 refl) (stop !))) (look-raw ! 0 refl))) (from ! (stop !)) (init ! 16 refl (Object-p .typed 𝓤 H A W (getD row i ((Object-of (ObjectNumber-of 0) 0 0 0 0))) is-4·At·4)) $
         shuts-elem ! tt Object-p b₁ o₁ row n₁ (refl) room₁ i ((Object-of (ObjectNumber-of 0) 0 0 0 0)) index-4·At·4 $
-        assigns ! (of-opd ! (load ! (from ! (stop !)) (look ! 6 refl))) (from ! (stop !)) (init ! 22 refl (Object-p .typed 𝓤 H A W (getD row i ((Object-of (ObjectNumber-of 0) 0 0 0 0))) is-4·At·4)) $
-        knows ! (1 ≤ used) ((omega (arith, ltb-true, ltb-false, leb-true, leb-false, eqb-true, eqb-false, in-use i e-4))) (λ le-4·At·6.
-        knows ! (used - 1 < 2 ^ 64) (omega (arith, used-is .1)) (λ fits-4·At·6.
-        assigns ! (bin ! (load ! (from ! (stop !)) (look ! 30 refl)) (lit ! tt) (le-4·At·6)) (from ! (stop !)) (init ! 20 refl (u64-p .typed 𝓤 H A W (used - 1) ((refl, fits-4·At·6)))) $
-        knows ! ((used - 1) * 12 < 2 ^ 64) ((omega (arith, ltb-true, ltb-false, leb-true, leb-false, eqb-true, eqb-false, in-use i e-4))) (λ fits-4·At·7.
-        assigns ! (bin ! (load ! (from ! (stop !)) (look ! 20 refl)) (lit ! tt) (record { fits = fits-4·At·7 })) (from ! (stop !)) (store ! 10 refl (u64-p .typed 𝓤 H A W ((used - 1) * 12) ((refl, fits-4·At·7)))) $
-        assigns ! (bin ! (load ! (from ! (fld ! refl (stop !))) (look-in ! 32 (sub ! 0 refl (whole !)))) (load ! (from ! (stop !)) (look ! 10 refl)) tt) (from ! (stop !)) (init ! 4 refl (tt, tt)) $
-        rewrite ! 4 (λ (p : ℕ). ‵ (fat fullShare tyPtr l₁₅ 0 (vptr b₁ p))) (sym (place-is 12 o₁ (used - 1))) refl $
-        knows ! (used - 1 < length row) ((omega (arith, ltb-true, ltb-false, leb-true, leb-false, eqb-true, eqb-false, in-use i e-4))) (λ index-4·At·9.
-        opens-elem ! tt Object-p b₁ o₁ row n₁ (refl) (used - 1) ((Object-of (ObjectNumber-of 0) 0 0 0 0)) index-4·At·9 (λ is-4·At·9.
-        assigns ! (of-opd ! (load ! (from ! (hop ! (look ! 8 refl) (stop !))) (look-raw ! 0 refl))) (from ! (stop !)) (store ! 10 refl (Object-p .typed 𝓤 H A W (getD row (used - 1) ((Object-of (ObjectNumber-of 0) 0 0 0 0))) is-4·At·9)) $
-        shuts-elem ! tt Object-p b₁ o₁ row n₁ (refl) room₁ (used - 1) ((Object-of (ObjectNumber-of 0) 0 0 0 0)) index-4·At·9 $
-        assigns ! (of-opd ! (load ! (from ! (stop !)) (look ! 6 refl))) (from ! (stop !)) (init ! 18 refl (Object-p .typed 𝓤 H A W (getD row (used - 1) ((Object-of (ObjectNumber-of 0) 0 0 0 0))) is-4·At·9)) $
-        knows ! (i * 12 < 2 ^ 64) ((omega (arith, ltb-true, ltb-false, leb-true, leb-false, eqb-true, eqb-false, in-use i e-4))) (λ fits-4·At·11.
-        assigns ! (bin ! (load ! (from ! (stop !)) (look ! 24 refl)) (lit ! tt) (record { fits = fits-4·At·11 })) (from ! (stop !)) (store ! 10 refl (u64-p .typed 𝓤 H A W (i * 12) ((refl, fits-4·At·11)))) $
-        assigns ! (bin ! (load ! (from ! (fld ! refl (stop !))) (look-in ! 32 (sub ! 0 refl (whole !)))) (load ! (from ! (stop !)) (look ! 10 refl)) tt) (from ! (stop !)) (init ! 2 refl (tt, tt)) $
-        rewrite ! 2 (λ (p : ℕ). ‵ (fat fullShare tyPtr l₁₆ 0 (vptr b₁ p))) (sym (place-is 12 o₁ i)) refl $
-        knows ! (i < length row) ((omega (arith, ltb-true, ltb-false, leb-true, leb-false, eqb-true, eqb-false, in-use i e-4))) (λ index-4·At·13.
-        opens-elem ! tt Object-p b₁ o₁ row n₁ (refl) i ((Object-of (ObjectNumber-of 0) 0 0 0 0)) index-4·At·13 (λ _.
-        assigns ! (of-opd ! (load ! (from ! (stop !)) (look ! 22 refl))) (from ! (hop ! (look ! 6 refl) (stop !))) (store-raw ! 0 refl (Object-p .typed 𝓤 H A W (getD row (used - 1) ((Object-of (ObjectNumber-of 0) 0 0 0 0))) is-4·At·9)) $
-        puts-elem ! tt Object-p b₁ o₁ row n₁ (refl) room₁ i ((Object-of (ObjectNumber-of 0) 0 0 0 0)) (getD row (used - 1) ((Object-of (ObjectNumber-of 0) 0 0 0 0))) index-4·At·13 is-4·At·9 (λ len-4·At·13.
-        assigns-last ! (agg ! (and-then ! (lit ! tt) (and-then ! (load ! (from ! (stop !)) (look ! 22 refl)) (no-more !)))) (from ! (stop !)) (init ! 12 refl (Found-p .typed 𝓤 H A W (Found-Held (getD row i ((Object-of (ObjectNumber-of 0) 0 0 0 0)))) (EL.owes Found-t.the-type Found-l.the-laws (Found-Held (getD row i ((Object-of (ObjectNumber-of 0) 0 0 0 0)))) (is-4·At·4, tt)))) $
+        assigns ! (of-opd ! (load ! (from ! (stop !)) (look ! 12 refl))) (from ! (stop !)) (init ! 30 refl (Object-p .typed 𝓤 H A W (getD row i ((Object-of (ObjectNumber-of 0) 0 0 0 0))) is-4·At·4)) $
+        assigns ! (addr ! (from ! (fld ! refl (hop ! (look-in ! 40 (sub ! 0 refl (whole !))) (stop !))))) (from ! (stop !)) (init ! 10 refl (tt, tt)) $
+        assigns ! (agg ! (and-then ! (load ! (from ! (stop !)) (look ! 10 refl)) (and-then ! (load ! (from ! (fld ! refl (stop !))) (look-in ! 40 (sub ! 1 refl (whole !)))) (no-more !)))) (from ! (stop !)) (init ! 8 refl (tt, (tt, (record { fits = room₁ .0 }, tt)))) $
+        knows ! (used ≤ length (row)) (omega (arith, ltb-true, ltb-false, leb-true, leb-false, eqb-true, eqb-false)) (λ asks-4·At·8.
+        -- 4.At.8: sessions::object_rows::depended
+        lends-view ! tt Object-t.the-row b₁ o₁ row n₁ (refl) (λ ν-4·At·8-row δ-4·At·8-row.
+        nothing ! $ move ! (1 ∷ 0 ∷ []) $ join ! $
+        use1 W (raw (toks 𝓤 A 1 (((ν-4·At·8-row ∷ []), tt)) ((fullShare, tt)))) (id⊢ 𝓤 _) $ nothing ! $
+        owned ! (Object-p .row) (Is (Object-p .row)) (Object-p .makes 𝓤 H A W) (getD row i ((Object-of (ObjectNumber-of 0) 0 0 0 0))) (Object-p .val (getD row i ((Object-of (ObjectNumber-of 0) 0 0 0 0))) ∷ []) is-4·At·4 $ fjoin ! $
+        owned ! (u64-p .row) (Is (u64-p .row)) (u64-p .makes 𝓤 H A W) used (u64-p .val used ∷ []) used-is $ fjoin ! $ move ! (2 ∷ 0 ∷ []) $ fjoin ! $ move ! (1 ∷ 0 ∷ []) $
+        calls-any ! fm 1 [] (object-rows-depended.signature .params) (object-rows-depended.ended .kept) bool-p (object-rows-depended.clauses 𝓤 H A mem run) known-object-rows-depended ((ν-4·At·8-row ∷ []), tt) (fullShare, tt) tt (at-list b₁ o₁ δ-4·At·8-row row, (used, (getD row i ((Object-of (ObjectNumber-of 0) 0 0 0 0)), tt))) (sliceVal (b₁, o₁) n₁ ∷ [], (u64-p .val used ∷ [], (Object-p .val (getD row i ((Object-of (ObjectNumber-of 0) 0 0 0 0))) ∷ [], tt))) tt (dependedIn (row) used (getD row i ((Object-of (ObjectNumber-of 0) 0 0 0 0)))) (λ ws-4·At·8. Unit {0}) (factI 𝓤 (used ≤ length (row)) _ asks-4·At·8) (λ r ws-4·At·8. fact-mono 𝓤 (r ≡ dependedIn (row) used (getD row i ((Object-of (ObjectNumber-of 0) 0 0 0 0)))) ((r ≡ (dependedIn (row) used (getD row i ((Object-of (ObjectNumber-of 0) 0 0 0 0))))) × (Unit {0})) (λ e. (e, tt))) (λ _. (and-then ! (load ! (from ! (stop !)) (look ! 8 refl)) (and-then ! (load ! (from ! (stop !)) (look ! 38 refl)) (and-then ! (load ! (from ! (stop !)) (look ! 30 refl)) (no-more !))))) (λ ws-4·At·8 said-4·At·8 is-4·At·8.
+        use1 W ((‵ (flft (ν-4·At·8-row ∷ []) fullShare) ⊛ ‵ ftrue)) (id⊢ 𝓤 _) $ split ! $ move ! (2 ∷ []) $ fsplit ! $ move ! (2 ∷ 4 ∷ []) $
+        backs-view ! tt Object-t.the-row b₁ o₁ row n₁ (refl) ν-4·At·8-row $ move ! (2 ∷ []) $ drop ! $ move ! (2 ∷ []) $ drop ! $ move ! (2 ∷ []) $ drop ! $
+        land ! (from ! (stop !)) (init ! 28 refl (bool-p .typed 𝓤 H A W (dependedIn (row) used (getD row i ((Object-of (ObjectNumber-of 0) 0 0 0 0)))) is-4·At·8)) $
+        assigns ! (of-opd ! (load ! (from ! (stop !)) (look ! 28 refl))) (from ! (stop !)) (init ! 6 refl (bool-p .typed 𝓤 H A W (dependedIn (row) used (getD row i ((Object-of (ObjectNumber-of 0) 0 0 0 0)))) is-4·At·8)) $
+        first ! $
+        branches ! (load ! (from ! (stop !)) (look ! 6 refl))
+        (λ h-4·At·10.
+        knows ! (dependedIn (row) used (getD row i ((Object-of (ObjectNumber-of 0) 0 0 0 0))) ≡ true) (holds (dependedIn (row) used (getD row i ((Object-of (ObjectNumber-of 0) 0 0 0 0)))) h-4·At·10) (λ c-4·At·10.
+        assigns ! (agg ! (and-then ! (lit ! tt) (no-more !))) (from ! (stop !)) (init ! 42 refl (Taken-p .typed 𝓤 H A W Taken-Depended (EL.owes Taken-t.the-type Taken-l.the-laws Taken-Depended tt))) $
+        returns-within ! Post refl (look ! 42 refl) $ forget ! 6 refl $ forget ! 8 refl $ forget ! 10 refl $ forget ! 12 refl $ forget ! 14 refl $ forget ! 16 refl $ forget ! 20 refl $ forget ! 22 refl $ forget ! 28 refl $ forget ! 30 refl $ forget ! 32 refl $ forget ! 34 refl $ forget ! 36 refl $ forget ! 38 refl $ forget ! 40 refl $ forget ! 42 refl $ move ! (42 ∷ 43 ∷ []) $ free1 ! $ move ! (40 ∷ 41 ∷ []) $ free1 ! $ move ! (38 ∷ 39 ∷ []) $ free1 ! $ move ! (36 ∷ 37 ∷ []) $ free1 ! $ move ! (34 ∷ 35 ∷ []) $ free1 ! $ move ! (32 ∷ 33 ∷ []) $ free1 ! $ move ! (30 ∷ 31 ∷ []) $ free1 ! $ move ! (28 ∷ 29 ∷ []) $ free1 ! $ move ! (26 ∷ 27 ∷ []) $ free1 ! $ move ! (24 ∷ 25 ∷ []) $ free1 ! $ move ! (22 ∷ 23 ∷ []) $ free1 ! $ move ! (20 ∷ 21 ∷ []) $ free1 ! $ move ! (18 ∷ 19 ∷ []) $ free1 ! $ move ! (16 ∷ 17 ∷ []) $ free1 ! $ move ! (14 ∷ 15 ∷ []) $ free1 ! $ move ! (12 ∷ 13 ∷ []) $ free1 ! $ move ! (10 ∷ 11 ∷ []) $ free1 ! $ move ! (8 ∷ 9 ∷ []) $ free1 ! $ move ! (6 ∷ 7 ∷ []) $ free1 ! $ move ! (4 ∷ 5 ∷ []) $ free1 ! $ move ! (2 ∷ 3 ∷ []) $ free1 ! $ free0 ! $
+        by ! (exits Taken-Depended row ((if-true (λ b. taken b (getD row i blank)) _ c-4·At·10 ∙ ap (takenOf row used) (sym e-4), if-true (λ b. left b i) _ c-4·At·10 ∙ ap (removedRow row used) (sym e-4))) (EL.owes Taken-t.the-type Taken-l.the-laws Taken-Depended tt) refl)))
+        (λ h-4·At·10.
+        knows ! (dependedIn (row) used (getD row i ((Object-of (ObjectNumber-of 0) 0 0 0 0))) ≡ false) (fails (dependedIn (row) used (getD row i ((Object-of (ObjectNumber-of 0) 0 0 0 0)))) (T-not (dependedIn (row) used (getD row i ((Object-of (ObjectNumber-of 0) 0 0 0 0)))) h-4·At·10)) (λ c-4·At·10.
+        skips ! $
+        exec ! C Λ En (past 10 (arm-of 0 (one mir.t-4))) (anyQ (afterSeq 𝓤 H (Wp 𝓤 H C Λ En mir.t-5 (atReturn 𝓤 H En Post)) (atReturn 𝓤 H En Post))) $
+        knows ! (1 ≤ used) ((omega (arith, ltb-true, ltb-false, leb-true, leb-false, eqb-true, eqb-false, in-use i e-4))) (λ le-4·At·11.
+        knows ! (used - 1 < 2 ^ 64) (omega (arith, used-is .1)) (λ fits-4·At·11.
+        assigns ! (bin ! (load ! (from ! (stop !)) (look ! 38 refl)) (lit ! tt) (le-4·At·11)) (from ! (stop !)) (init ! 26 refl (u64-p .typed 𝓤 H A W (used - 1) ((refl, fits-4·At·11)))) $
+        knows ! ((used - 1) * 12 < 2 ^ 64) ((omega (arith, ltb-true, ltb-false, leb-true, leb-false, eqb-true, eqb-false, in-use i e-4))) (λ fits-4·At·12.
+        assigns ! (bin ! (load ! (from ! (stop !)) (look ! 26 refl)) (lit ! tt) (record { fits = fits-4·At·12 })) (from ! (stop !)) (store ! 16 refl (u64-p .typed 𝓤 H A W ((used - 1) * 12) ((refl, fits-4·At·12)))) $
+        assigns ! (bin ! (load ! (from ! (fld ! refl (stop !))) (look-in ! 40 (sub ! 0 refl (whole !)))) (load ! (from ! (stop !)) (look ! 16 refl)) tt) (from ! (stop !)) (init ! 4 refl (tt, tt)) $
+        rewrite ! 4 (λ (p : ℕ). ‵ (fat fullShare tyPtr l₁₉ 0 (vptr b₁ p))) (sym (place-is 12 o₁ (used - 1))) refl $
+        knows ! (used - 1 < length row) ((omega (arith, ltb-true, ltb-false, leb-true, leb-false, eqb-true, eqb-false, in-use i e-4))) (λ index-4·At·14.
+        opens-elem ! tt Object-p b₁ o₁ row n₁ (refl) (used - 1) ((Object-of (ObjectNumber-of 0) 0 0 0 0)) index-4·At·14 (λ is-4·At·14.
+        assigns ! (of-opd ! (load ! (from ! (hop ! (look ! 8 refl) (stop !))) (look-raw ! 0 refl))) (from ! (stop !)) (store ! 16 refl (Object-p .typed 𝓤 H A W (getD row (used - 1) ((Object-of (ObjectNumber-of 0) 0 0 0 0))) is-4·At·14)) $
+        shuts-elem ! tt Object-p b₁ o₁ row n₁ (refl) room₁ (used - 1) ((Object-of (ObjectNumber-of 0) 0 0 0 0)) index-4·At·14 $
+        assigns ! (of-opd ! (load ! (from ! (stop !)) (look ! 12 refl))) (from ! (stop !)) (init ! 24 refl (Object-p .typed 𝓤 H A W (getD row (used - 1) ((Object-of (ObjectNumber-of 0) 0 0 0 0))) is-4·At·14)) $
+        knows ! (i * 12 < 2 ^ 64) ((omega (arith, ltb-true, ltb-false, leb-true, leb-false, eqb-true, eqb-false, in-use i e-4))) (λ fits-4·At·16.
+        assigns ! (bin ! (load ! (from ! (stop !)) (look ! 32 refl)) (lit ! tt) (record { fits = fits-4·At·16 })) (from ! (stop !)) (store ! 16 refl (u64-p .typed 𝓤 H A W (i * 12) ((refl, fits-4·At·16)))) $
+        assigns ! (bin ! (load ! (from ! (fld ! refl (stop !))) (look-in ! 40 (sub ! 0 refl (whole !)))) (load ! (from ! (stop !)) (look ! 16 refl)) tt) (from ! (stop !)) (init ! 2 refl (tt, tt)) $
+        rewrite ! 2 (λ (p : ℕ). ‵ (fat fullShare tyPtr l₂₀ 0 (vptr b₁ p))) (sym (place-is 12 o₁ i)) refl $
+        knows ! (i < length row) ((omega (arith, ltb-true, ltb-false, leb-true, leb-false, eqb-true, eqb-false, in-use i e-4))) (λ index-4·At·18.
+        opens-elem ! tt Object-p b₁ o₁ row n₁ (refl) i ((Object-of (ObjectNumber-of 0) 0 0 0 0)) index-4·At·18 (λ _.
+        assigns ! (of-opd ! (load ! (from ! (stop !)) (look ! 28 refl))) (from ! (hop ! (look ! 6 refl) (stop !))) (store-raw ! 0 refl (Object-p .typed 𝓤 H A W (getD row (used - 1) ((Object-of (ObjectNumber-of 0) 0 0 0 0))) is-4·At·14)) $
+        puts-elem ! tt Object-p b₁ o₁ row n₁ (refl) room₁ i ((Object-of (ObjectNumber-of 0) 0 0 0 0)) (getD row (used - 1) ((Object-of (ObjectNumber-of 0) 0 0 0 0))) index-4·At·18 is-4·At·14 (λ len-4·At·18.
+        assigns-last ! (agg ! (and-then ! (lit ! tt) (and-then ! (load ! (from ! (stop !)) (look ! 30 refl)) (no-more !)))) (from ! (stop !)) (init ! 18 refl (Taken-p .typed 𝓤 H A W (Taken-Gone (getD row i ((Object-of (ObjectNumber-of 0) 0 0 0 0)))) (EL.owes Taken-t.the-type Taken-l.the-laws (Taken-Gone (getD row i ((Object-of (ObjectNumber-of 0) 0 0 0 0)))) (is-4·At·4, tt)))) $
         exec ! C Λ En mir.t-5 (atRet En Post) $
-        assigns ! (of-opd ! (load ! (from ! (stop !)) (look ! 12 refl))) (from ! (stop !)) (init ! 34 refl (Found-p .typed 𝓤 H A W (Found-Held (getD row i ((Object-of (ObjectNumber-of 0) 0 0 0 0)))) (EL.owes Found-t.the-type Found-l.the-laws (Found-Held (getD row i ((Object-of (ObjectNumber-of 0) 0 0 0 0)))) (is-4·At·4, tt)))) $
-        returns ! (look ! 34 refl) $ forget ! 2 refl $ forget ! 4 refl $ forget ! 6 refl $ forget ! 8 refl $ forget ! 10 refl $ forget ! 12 refl $ forget ! 14 refl $ forget ! 16 refl $ forget ! 18 refl $ forget ! 20 refl $ forget ! 22 refl $ forget ! 24 refl $ forget ! 26 refl $ forget ! 28 refl $ forget ! 30 refl $ forget ! 32 refl $ forget ! 34 refl $ move ! (34 ∷ 35 ∷ []) $ free1 ! $ move ! (32 ∷ 33 ∷ []) $ free1 ! $ move ! (30 ∷ 31 ∷ []) $ free1 ! $ move ! (28 ∷ 29 ∷ []) $ free1 ! $ move ! (26 ∷ 27 ∷ []) $ free1 ! $ move ! (24 ∷ 25 ∷ []) $ free1 ! $ move ! (22 ∷ 23 ∷ []) $ free1 ! $ move ! (20 ∷ 21 ∷ []) $ free1 ! $ move ! (18 ∷ 19 ∷ []) $ free1 ! $ move ! (16 ∷ 17 ∷ []) $ free1 ! $ move ! (14 ∷ 15 ∷ []) $ free1 ! $ move ! (12 ∷ 13 ∷ []) $ free1 ! $ move ! (10 ∷ 11 ∷ []) $ free1 ! $ move ! (8 ∷ 9 ∷ []) $ free1 ! $ move ! (6 ∷ 7 ∷ []) $ free1 ! $ move ! (4 ∷ 5 ∷ []) $ free1 ! $ move ! (2 ∷ 3 ∷ []) $ free1 ! $ free0 ! $
-        by ! (exits (Found-Held (getD row i ((Object-of (ObjectNumber-of 0) 0 0 0 0)))) (set row i (getD row (used - 1) ((Object-of (ObjectNumber-of 0) 0 0 0 0)))) ((ap (foundOf row) (sym e-4), ap (removedRow row used) (sym e-4))) (EL.owes Found-t.the-type Found-l.the-laws (Found-Held (getD row i ((Object-of (ObjectNumber-of 0) 0 0 0 0)))) (is-4·At·4, tt)) len-4·At·13))))))))))))))
+        assigns ! (of-opd ! (load ! (from ! (stop !)) (look ! 18 refl))) (from ! (stop !)) (init ! 42 refl (Taken-p .typed 𝓤 H A W (Taken-Gone (getD row i ((Object-of (ObjectNumber-of 0) 0 0 0 0)))) (EL.owes Taken-t.the-type Taken-l.the-laws (Taken-Gone (getD row i ((Object-of (ObjectNumber-of 0) 0 0 0 0)))) (is-4·At·4, tt)))) $
+        returns ! (look ! 42 refl) $ forget ! 2 refl $ forget ! 4 refl $ forget ! 6 refl $ forget ! 8 refl $ forget ! 10 refl $ forget ! 12 refl $ forget ! 14 refl $ forget ! 16 refl $ forget ! 18 refl $ forget ! 20 refl $ forget ! 22 refl $ forget ! 24 refl $ forget ! 26 refl $ forget ! 28 refl $ forget ! 30 refl $ forget ! 32 refl $ forget ! 34 refl $ forget ! 36 refl $ forget ! 38 refl $ forget ! 40 refl $ forget ! 42 refl $ move ! (42 ∷ 43 ∷ []) $ free1 ! $ move ! (40 ∷ 41 ∷ []) $ free1 ! $ move ! (38 ∷ 39 ∷ []) $ free1 ! $ move ! (36 ∷ 37 ∷ []) $ free1 ! $ move ! (34 ∷ 35 ∷ []) $ free1 ! $ move ! (32 ∷ 33 ∷ []) $ free1 ! $ move ! (30 ∷ 31 ∷ []) $ free1 ! $ move ! (28 ∷ 29 ∷ []) $ free1 ! $ move ! (26 ∷ 27 ∷ []) $ free1 ! $ move ! (24 ∷ 25 ∷ []) $ free1 ! $ move ! (22 ∷ 23 ∷ []) $ free1 ! $ move ! (20 ∷ 21 ∷ []) $ free1 ! $ move ! (18 ∷ 19 ∷ []) $ free1 ! $ move ! (16 ∷ 17 ∷ []) $ free1 ! $ move ! (14 ∷ 15 ∷ []) $ free1 ! $ move ! (12 ∷ 13 ∷ []) $ free1 ! $ move ! (10 ∷ 11 ∷ []) $ free1 ! $ move ! (8 ∷ 9 ∷ []) $ free1 ! $ move ! (6 ∷ 7 ∷ []) $ free1 ! $ move ! (4 ∷ 5 ∷ []) $ free1 ! $ move ! (2 ∷ 3 ∷ []) $ free1 ! $ free0 ! $
+        by ! (exits (Taken-Gone (getD row i ((Object-of (ObjectNumber-of 0) 0 0 0 0)))) (set row i (getD row (used - 1) ((Object-of (ObjectNumber-of 0) 0 0 0 0)))) ((if-false (λ b. taken b (getD row i blank)) _ c-4·At·10 ∙ ap (takenOf row used) (sym e-4), if-false (λ b. left b i) _ c-4·At·10 ∙ ap (removedRow row used) (sym e-4))) (EL.owes Taken-t.the-type Taken-l.the-laws (Taken-Gone (getD row i ((Object-of (ObjectNumber-of 0) 0 0 0 0)))) (is-4·At·4, tt)) len-4·At·18)))))))))))))))))))
     matched-4-0 asks-3 is-3 (Place-Nowhere) e-4 good-4 =
-        switches-on ! (load ! (from ! (vrt ! refl (fld ! refl (stop !)))) (look-tag ! 26 (whole !))) $ exec ! C Λ En (arm-of 1 (one mir.t-4)) (anyQ (afterSeq 𝓤 H (Wp 𝓤 H C Λ En mir.t-5 (atReturn 𝓤 H En Post)) (atReturn 𝓤 H En Post))) $
-        assigns-last ! (agg ! (and-then ! (lit ! tt) (no-more !))) (from ! (stop !)) (init ! 12 refl (Found-p .typed 𝓤 H A W Found-Nothing (EL.owes Found-t.the-type Found-l.the-laws Found-Nothing tt))) $
+        switches-on ! (load ! (from ! (vrt ! refl (fld ! refl (stop !)))) (look-tag ! 34 (whole !))) $ exec ! C Λ En (arm-of 1 (one mir.t-4)) (anyQ (afterSeq 𝓤 H (Wp 𝓤 H C Λ En mir.t-5 (atReturn 𝓤 H En Post)) (atReturn 𝓤 H En Post))) $
+        assigns-last ! (agg ! (and-then ! (lit ! tt) (no-more !))) (from ! (stop !)) (init ! 18 refl (Taken-p .typed 𝓤 H A W Taken-Nothing (EL.owes Taken-t.the-type Taken-l.the-laws Taken-Nothing tt))) $
         exec ! C Λ En mir.t-5 (atRet En Post) $
-        assigns ! (of-opd ! (load ! (from ! (stop !)) (look ! 12 refl))) (from ! (stop !)) (init ! 34 refl (Found-p .typed 𝓤 H A W Found-Nothing (EL.owes Found-t.the-type Found-l.the-laws Found-Nothing tt))) $
-        returns ! (look ! 34 refl) $ forget ! 12 refl $ forget ! 14 refl $ forget ! 16 refl $ forget ! 26 refl $ forget ! 28 refl $ forget ! 30 refl $ forget ! 32 refl $ forget ! 34 refl $ move ! (34 ∷ 35 ∷ []) $ free1 ! $ move ! (32 ∷ 33 ∷ []) $ free1 ! $ move ! (30 ∷ 31 ∷ []) $ free1 ! $ move ! (28 ∷ 29 ∷ []) $ free1 ! $ move ! (26 ∷ 27 ∷ []) $ free1 ! $ move ! (24 ∷ 25 ∷ []) $ free1 ! $ move ! (22 ∷ 23 ∷ []) $ free1 ! $ move ! (20 ∷ 21 ∷ []) $ free1 ! $ move ! (18 ∷ 19 ∷ []) $ free1 ! $ move ! (16 ∷ 17 ∷ []) $ free1 ! $ move ! (14 ∷ 15 ∷ []) $ free1 ! $ move ! (12 ∷ 13 ∷ []) $ free1 ! $ move ! (10 ∷ 11 ∷ []) $ free1 ! $ move ! (8 ∷ 9 ∷ []) $ free1 ! $ move ! (6 ∷ 7 ∷ []) $ free1 ! $ move ! (4 ∷ 5 ∷ []) $ free1 ! $ move ! (2 ∷ 3 ∷ []) $ free1 ! $ free0 ! $
-        by ! (exits Found-Nothing row ((ap (foundOf row) (sym e-4), ap (removedRow row used) (sym e-4))) (EL.owes Found-t.the-type Found-l.the-laws Found-Nothing tt) refl)
+        assigns ! (of-opd ! (load ! (from ! (stop !)) (look ! 18 refl))) (from ! (stop !)) (init ! 42 refl (Taken-p .typed 𝓤 H A W Taken-Nothing (EL.owes Taken-t.the-type Taken-l.the-laws Taken-Nothing tt))) $
+        returns ! (look ! 42 refl) $ forget ! 18 refl $ forget ! 20 refl $ forget ! 22 refl $ forget ! 34 refl $ forget ! 36 refl $ forget ! 38 refl $ forget ! 40 refl $ forget ! 42 refl $ move ! (42 ∷ 43 ∷ []) $ free1 ! $ move ! (40 ∷ 41 ∷ []) $ free1 ! $ move ! (38 ∷ 39 ∷ []) $ free1 ! $ move ! (36 ∷ 37 ∷ []) $ free1 ! $ move ! (34 ∷ 35 ∷ []) $ free1 ! $ move ! (32 ∷ 33 ∷ []) $ free1 ! $ move ! (30 ∷ 31 ∷ []) $ free1 ! $ move ! (28 ∷ 29 ∷ []) $ free1 ! $ move ! (26 ∷ 27 ∷ []) $ free1 ! $ move ! (24 ∷ 25 ∷ []) $ free1 ! $ move ! (22 ∷ 23 ∷ []) $ free1 ! $ move ! (20 ∷ 21 ∷ []) $ free1 ! $ move ! (18 ∷ 19 ∷ []) $ free1 ! $ move ! (16 ∷ 17 ∷ []) $ free1 ! $ move ! (14 ∷ 15 ∷ []) $ free1 ! $ move ! (12 ∷ 13 ∷ []) $ free1 ! $ move ! (10 ∷ 11 ∷ []) $ free1 ! $ move ! (8 ∷ 9 ∷ []) $ free1 ! $ move ! (6 ∷ 7 ∷ []) $ free1 ! $ move ! (4 ∷ 5 ∷ []) $ free1 ! $ move ! (2 ∷ 3 ∷ []) $ free1 ! $ free0 ! $
+        by ! (exits Taken-Nothing row ((ap (takenOf row used) (sym e-4), ap (removedRow row used) (sym e-4))) (EL.owes Taken-t.the-type Taken-l.the-laws Taken-Nothing tt) refl)
 
-    begins : Sq W (‵ (MutSlice (named 0) κ₁ Object-t.the-row .own (at-list b₁ o₁ γ₁ row) (sliceVal (b₁, o₁) n₁ ∷ [])) ∷ ‵ (flft κ₁ q₁) ∷ free 𝓤 tyPtr l₁₆ (free 𝓤 tyPtr l₁₅ (free 𝓤 Object-l.mir l₁₄ (free 𝓤 tyPtr l₁₃ (free 𝓤 (tyInt w64) l₁₂ (free 𝓤 Found-l.mir l₁₁ (free 𝓤 (sliceTy (tyRef erased imm (pointee (Object-t.the-row .written)))) l₁₀ (free 𝓤 (tyRef erased imm (pointee (Object-t.the-row .written))) l₉ (free 𝓤 Object-l.mir l₈ (free 𝓤 (tyInt w64) l₇ (free 𝓤 Object-l.mir l₆ (free 𝓤 (tyInt w64) l₅ (free 𝓤 Place-l.mir l₄ (full 𝓤 ObjectNumber-l.mir l₃ (ObjectNumber-p .val number) (full 𝓤 (tyInt w64) l₂ (u64-p .val used) (full 𝓤 (sliceTy (tyRef (named 0) mut (pointee (Object-t.the-row .written)))) l₁ (sliceVal (b₁, o₁) n₁) (free 𝓤 Found-l.mir l₀ ([])))))))))))))))))) (runs C Λ En mir.t-1 (atRet En Post))
+    begins : Sq W (‵ (MutSlice (named 0) κ₁ Object-t.the-row .own (at-list b₁ o₁ γ₁ row) (sliceVal (b₁, o₁) n₁ ∷ [])) ∷ ‵ (flft κ₁ q₁) ∷ free 𝓤 tyPtr l₂₀ (free 𝓤 tyPtr l₁₉ (free 𝓤 tyBool l₁₈ (free 𝓤 (sliceTy (tyRef erased imm (pointee (Object-t.the-row .written)))) l₁₇ (free 𝓤 (tyRef erased imm (pointee (Object-t.the-row .written))) l₁₆ (free 𝓤 Object-l.mir l₁₅ (free 𝓤 tyPtr l₁₄ (free 𝓤 (tyInt w64) l₁₃ (free 𝓤 Taken-l.mir l₁₂ (free 𝓤 (sliceTy (tyRef erased imm (pointee (Object-t.the-row .written)))) l₁₁ (free 𝓤 (tyRef erased imm (pointee (Object-t.the-row .written))) l₁₀ (free 𝓤 Object-l.mir l₉ (free 𝓤 (tyInt w64) l₈ (free 𝓤 tyBool l₇ (free 𝓤 Object-l.mir l₆ (free 𝓤 (tyInt w64) l₅ (free 𝓤 Place-l.mir l₄ (full 𝓤 ObjectNumber-l.mir l₃ (ObjectNumber-p .val number) (full 𝓤 (tyInt w64) l₂ (u64-p .val used) (full 𝓤 (sliceTy (tyRef (named 0) mut (pointee (Object-t.the-row .written)))) l₁ (sliceVal (b₁, o₁) n₁) (free 𝓤 Taken-l.mir l₀ ([])))))))))))))))))))))) (runs C Λ En mir.t-1 (atRet En Post))
     begins =
-        assigns ! (addr ! (from ! (fld ! refl (hop ! (look-in ! 32 (sub ! 0 refl (whole !))) (stop !))))) (from ! (stop !)) (init ! 16 refl (tt, tt)) $
-        assigns ! (agg ! (and-then ! (load ! (from ! (stop !)) (look ! 16 refl)) (and-then ! (load ! (from ! (fld ! refl (stop !))) (look-in ! 32 (sub ! 1 refl (whole !)))) (no-more !)))) (from ! (stop !)) (init ! 14 refl (tt, (tt, (record { fits = room₁ .0 }, tt)))) $
+        assigns ! (addr ! (from ! (fld ! refl (hop ! (look-in ! 40 (sub ! 0 refl (whole !))) (stop !))))) (from ! (stop !)) (init ! 22 refl (tt, tt)) $
+        assigns ! (agg ! (and-then ! (load ! (from ! (stop !)) (look ! 22 refl)) (and-then ! (load ! (from ! (fld ! refl (stop !))) (look-in ! 40 (sub ! 1 refl (whole !)))) (no-more !)))) (from ! (stop !)) (init ! 20 refl (tt, (tt, (record { fits = room₁ .0 }, tt)))) $
         knows ! (used ≤ length (row)) (omega (arith, ltb-true, ltb-false, leb-true, leb-false, eqb-true, eqb-false)) (λ asks-3.
         -- 3: sessions::object_rows::place
         lends-view ! tt Object-t.the-row b₁ o₁ row n₁ (refl) (λ ν-3-row δ-3-row.
@@ -209,24 +250,24 @@ module _ {M : Type 1} (𝓤 : URA M) (H : Heap 𝓤) (A : Atoms 𝓤) (W : Given
         use1 W (raw (toks 𝓤 A 1 (((ν-3-row ∷ []), tt)) ((fullShare, tt)))) (id⊢ 𝓤 _) $ nothing ! $
         owned ! (ObjectNumber-p .row) (Is (ObjectNumber-p .row)) (ObjectNumber-p .makes 𝓤 H A W) number (ObjectNumber-p .val number ∷ []) number-is $ fjoin ! $
         owned ! (u64-p .row) (Is (u64-p .row)) (u64-p .makes 𝓤 H A W) used (u64-p .val used ∷ []) used-is $ fjoin ! $ move ! (2 ∷ 0 ∷ []) $ fjoin ! $ move ! (1 ∷ 0 ∷ []) $
-        calls-any ! fm 1 [] (object-rows-place.signature .params) (object-rows-place.ended .kept) Place-p (object-rows-place.clauses 𝓤 H A mem run) known-object-rows-place ((ν-3-row ∷ []), tt) (fullShare, tt) tt (at-list b₁ o₁ δ-3-row row, (used, (number, tt))) (sliceVal (b₁, o₁) n₁ ∷ [], (u64-p .val used ∷ [], (ObjectNumber-p .val number ∷ [], tt))) tt (objectPlace (row) used number) (λ ws-3. Unit {0}) (factI 𝓤 (used ≤ length (row)) _ asks-3) (λ r ws-3. fact-mono 𝓤 (r ≡ objectPlace (row) used number) ((r ≡ (objectPlace (row) used number)) × (Unit {0})) (λ e. (e, tt))) (λ _. (and-then ! (load ! (from ! (stop !)) (look ! 14 refl)) (and-then ! (load ! (from ! (stop !)) (look ! 30 refl)) (and-then ! (load ! (from ! (stop !)) (look ! 28 refl)) (no-more !))))) (λ ws-3 said-3 is-3.
+        calls-any ! fm 1 [] (object-rows-place.signature .params) (object-rows-place.ended .kept) Place-p (object-rows-place.clauses 𝓤 H A mem run) known-object-rows-place ((ν-3-row ∷ []), tt) (fullShare, tt) tt (at-list b₁ o₁ δ-3-row row, (used, (number, tt))) (sliceVal (b₁, o₁) n₁ ∷ [], (u64-p .val used ∷ [], (ObjectNumber-p .val number ∷ [], tt))) tt (objectPlace (row) used number) (λ ws-3. Unit {0}) (factI 𝓤 (used ≤ length (row)) _ asks-3) (λ r ws-3. fact-mono 𝓤 (r ≡ objectPlace (row) used number) ((r ≡ (objectPlace (row) used number)) × (Unit {0})) (λ e. (e, tt))) (λ _. (and-then ! (load ! (from ! (stop !)) (look ! 20 refl)) (and-then ! (load ! (from ! (stop !)) (look ! 38 refl)) (and-then ! (load ! (from ! (stop !)) (look ! 36 refl)) (no-more !))))) (λ ws-3 said-3 is-3.
         use1 W ((‵ (flft (ν-3-row ∷ []) fullShare) ⊛ ‵ ftrue)) (id⊢ 𝓤 _) $ split ! $ move ! (2 ∷ []) $ fsplit ! $ move ! (2 ∷ 4 ∷ []) $
         backs-view ! tt Object-t.the-row b₁ o₁ row n₁ (refl) ν-3-row $ move ! (2 ∷ []) $ drop ! $ move ! (2 ∷ []) $ drop ! $ move ! (2 ∷ []) $ drop ! $
-        land ! (from ! (stop !)) (init ! 26 refl (Place-p .typed 𝓤 H A W (objectPlace (row) used number) is-3)) $
+        land ! (from ! (stop !)) (init ! 34 refl (Place-p .typed 𝓤 H A W (objectPlace (row) used number) is-3)) $
         first ! $
         matched-4-0 asks-3 is-3 (objectPlace (row) used number) refl is-3)))
 
-  module _ (𝓣 : Tables 𝓤 H) (known-object-rows-place : Triple 𝓤 (𝓣 .C #object-rows-place) (Of-object-rows-place 𝓤 H A mem run)) where
+  module _ (𝓣 : Tables 𝓤 H) (known-object-rows-place : Triple 𝓤 (𝓣 .C #object-rows-place) (Of-object-rows-place 𝓤 H A mem run)) (known-object-rows-depended : Triple 𝓤 (𝓣 .C #object-rows-depended) (Of-object-rows-depended 𝓤 H A mem run)) where
     walk : ent 𝓤 (onEntry 𝓤 H A f.signature (κ₁, tt) (q₁, tt) x at) (WpFn 𝓤 H (𝓣 .C) (𝓣 .Λ) code.function (sliceVal (b₁, o₁) n₁ ∷ u64-p .val used ∷ ObjectNumber-p .val number ∷ []) Post)
     walk =
         qed W ((‵ (flft κ₁ q₁) ⊛ ‵ ftrue) ∷ ‵ (owns (MutSlice (named 0) κ₁ Object-t.the-row ∷ u64-p .row ∷ ObjectNumber-p .row ∷ []) x at) ∷ []) ∵ enter ! (𝓣 .C) (𝓣 .Λ) code.function (sliceVal (b₁, o₁) n₁ ∷ u64-p .val used ∷ ObjectNumber-p .val number ∷ []) _ $
-        alloc1 ! (λ l₀. alloc1 ! (λ l₁. alloc1 ! (λ l₂. alloc1 ! (λ l₃. alloc1 ! (λ l₄. alloc1 ! (λ l₅. alloc1 ! (λ l₆. alloc1 ! (λ l₇. alloc1 ! (λ l₈. alloc1 ! (λ l₉. alloc1 ! (λ l₁₀. alloc1 ! (λ l₁₁. alloc1 ! (λ l₁₂. alloc1 ! (λ l₁₃. alloc1 ! (λ l₁₄. alloc1 ! (λ l₁₅. alloc1 ! (λ l₁₆. alloc0 ! $ params1 ! $ pass1 ! (init ! 30 refl (tt, (tt, (record { fits = room₁ .0 }, tt)))) $ pass1 ! (init ! 28 refl (u64-p .typed 𝓤 H A W used used-is)) $ pass1 ! (init ! 26 refl (ObjectNumber-p .typed 𝓤 H A W number number-is)) $ pass0 ! $ move ! (35 ∷ []) $ fsplit ! $ move ! (36 ∷ []) $ split ! $ move ! (1 ∷ []) $ drop ! $ move ! (2 ∷ []) $ drop ! $ move ! (1 ∷ 0 ∷ 2 ∷ 3 ∷ 4 ∷ 5 ∷ 6 ∷ 7 ∷ 8 ∷ 9 ∷ 10 ∷ 11 ∷ 12 ∷ 13 ∷ 14 ∷ 15 ∷ 16 ∷ 17 ∷ 18 ∷ 19 ∷ 20 ∷ 21 ∷ 22 ∷ 23 ∷ 24 ∷ 25 ∷ 26 ∷ 27 ∷ 28 ∷ 29 ∷ 30 ∷ 31 ∷ 32 ∷ 33 ∷ 34 ∷ 35 ∷ []) $
-        begins 𝓣 known-object-rows-place l₀ l₁ l₂ l₃ l₄ l₅ l₆ l₇ l₈ l₉ l₁₀ l₁₁ l₁₂ l₁₃ l₁₄ l₁₅ l₁₆)))))))))))))))))
+        alloc1 ! (λ l₀. alloc1 ! (λ l₁. alloc1 ! (λ l₂. alloc1 ! (λ l₃. alloc1 ! (λ l₄. alloc1 ! (λ l₅. alloc1 ! (λ l₆. alloc1 ! (λ l₇. alloc1 ! (λ l₈. alloc1 ! (λ l₉. alloc1 ! (λ l₁₀. alloc1 ! (λ l₁₁. alloc1 ! (λ l₁₂. alloc1 ! (λ l₁₃. alloc1 ! (λ l₁₄. alloc1 ! (λ l₁₅. alloc1 ! (λ l₁₆. alloc1 ! (λ l₁₇. alloc1 ! (λ l₁₈. alloc1 ! (λ l₁₉. alloc1 ! (λ l₂₀. alloc0 ! $ params1 ! $ pass1 ! (init ! 38 refl (tt, (tt, (record { fits = room₁ .0 }, tt)))) $ pass1 ! (init ! 36 refl (u64-p .typed 𝓤 H A W used used-is)) $ pass1 ! (init ! 34 refl (ObjectNumber-p .typed 𝓤 H A W number number-is)) $ pass0 ! $ move ! (43 ∷ []) $ fsplit ! $ move ! (44 ∷ []) $ split ! $ move ! (1 ∷ []) $ drop ! $ move ! (2 ∷ []) $ drop ! $ move ! (1 ∷ 0 ∷ 2 ∷ 3 ∷ 4 ∷ 5 ∷ 6 ∷ 7 ∷ 8 ∷ 9 ∷ 10 ∷ 11 ∷ 12 ∷ 13 ∷ 14 ∷ 15 ∷ 16 ∷ 17 ∷ 18 ∷ 19 ∷ 20 ∷ 21 ∷ 22 ∷ 23 ∷ 24 ∷ 25 ∷ 26 ∷ 27 ∷ 28 ∷ 29 ∷ 30 ∷ 31 ∷ 32 ∷ 33 ∷ 34 ∷ 35 ∷ 36 ∷ 37 ∷ 38 ∷ 39 ∷ 40 ∷ 41 ∷ 42 ∷ 43 ∷ []) $
+        begins 𝓣 known-object-rows-place known-object-rows-depended l₀ l₁ l₂ l₃ l₄ l₅ l₆ l₇ l₈ l₉ l₁₀ l₁₁ l₁₂ l₁₃ l₁₄ l₁₅ l₁₆ l₁₇ l₁₈ l₁₉ l₂₀)))))))))))))))))))))
 
-module _ {M : Type 1} (𝓤 : URA M) (H : Heap 𝓤) (A : Atoms 𝓤) (W : Given 𝓤 H A) (mem : Memory → SProp 𝓤) (run : Routine → Fun 𝓤) (𝓣 : Tables 𝓤 H) (known-object-rows-place : Triple 𝓤 (𝓣 .C #object-rows-place) (Of-object-rows-place 𝓤 H A mem run)) where
+module _ {M : Type 1} (𝓤 : URA M) (H : Heap 𝓤) (A : Atoms 𝓤) (W : Given 𝓤 H A) (mem : Memory → SProp 𝓤) (run : Routine → Fun 𝓤) (𝓣 : Tables 𝓤 H) (known-object-rows-place : Triple 𝓤 (𝓣 .C #object-rows-place) (Of-object-rows-place 𝓤 H A mem run)) (known-object-rows-depended : Triple 𝓤 (𝓣 .C #object-rows-depended) (Of-object-rows-depended 𝓤 H A mem run)) where
   walks : Walks 𝓤 H A f.ended stayed (WpFn 𝓤 H (𝓣 .C) (𝓣 .Λ) code.function) (f.clauses 𝓤 H A mem run)
   walks = walked 𝓤 H A f.ended stayed (f.clauses 𝓤 H A mem run) (WpFn 𝓤 H (𝓣 .C) (𝓣 .Λ) code.function) (λ κs. (slice-vals, ((λ y. u64-p .val y ∷ []), ((λ y. ObjectNumber-p .val y ∷ []), tt)))) (λ κs. (mut-slice-tells (named 0) (κs .0) Object-t.the-row, (u64-p .tells, (ObjectNumber-p .tells, tt))))
-      (λ κs qs bounds a g are. needs 𝓤 _ _ (λ within. walk 𝓤 H A W mem run (κs .0) (qs .0) (a .0 .ptr .0) (a .0 .ptr .1) (a .0 .name) (a .0 .now) (a .1 .0) (a .1 .1 .0) (are .0 .0 .1) (are .1 .0) (are .1 .1 .0) within 𝓣 known-object-rows-place))
+      (λ κs qs bounds a g are. needs 𝓤 _ _ (λ within. walk 𝓤 H A W mem run (κs .0) (qs .0) (a .0 .ptr .0) (a .0 .ptr .1) (a .0 .name) (a .0 .now) (a .1 .0) (a .1 .1 .0) (are .0 .0 .1) (are .1 .0) (are .1 .1 .0) within 𝓣 known-object-rows-place known-object-rows-depended))
 
   meets : Meets 𝓤 H A f.signature (WpFn 𝓤 H (𝓣 .C) (𝓣 .Λ) code.function) (f.spec 𝓤 H A mem run)
   meets = walk-meets 𝓤 H A f.ended stayed W (goes-slice 𝓤 H A W 1 0 tt (plain (λ _. Object-t.the-row)), (goes-none 𝓤 H A W 1 (λ _. u64-p .row) yes (λ κs x f. refl), (goes-none 𝓤 H A W 1 (λ _. ObjectNumber-p .row) yes (λ κs x f. refl), tt))) (f.clauses 𝓤 H A mem run) (WpFn 𝓤 H (𝓣 .C) (𝓣 .Λ) code.function) (WpFn-mono 𝓤 H (W .laws) 𝓣 code.function) walks
@@ -237,4 +278,5 @@ remove-spec 𝓤 H 𝓜 𝓖 𝓡 =
     entered 𝓤 H (tripleOf 𝓤 H (𝓖 .A) f.signature (f.spec 𝓤 H (𝓖 .A) (𝓜 .mem) (𝓡 .run)))
     (tables 𝓤 H 𝓜 𝓡 code.env .C) (tables 𝓤 H 𝓜 𝓡 code.env .Λ) #f code.function (code.unfolded 𝓤 H 𝓜 𝓡)
     (meets 𝓤 H (𝓖 .A) (givenOf 𝓤 H 𝓜 𝓖) (𝓜 .mem) (𝓡 .run) (tablesOf 𝓤 H 𝓜 (tables 𝓤 H 𝓜 𝓡 code.env))
-    (cited 𝓤 H (Of-object-rows-place 𝓤 H (𝓖 .A) (𝓜 .mem) (𝓡 .run)) 𝓜 𝓡 code.env #object-rows-place object-rows-place-def.routine code.calls-sessions·object-rows·place (object-rows-place-thm.met 𝓤 H 𝓜 𝓖 𝓡)))
+    (cited 𝓤 H (Of-object-rows-place 𝓤 H (𝓖 .A) (𝓜 .mem) (𝓡 .run)) 𝓜 𝓡 code.env #object-rows-place object-rows-place-def.routine code.calls-sessions·object-rows·place (object-rows-place-thm.met 𝓤 H 𝓜 𝓖 𝓡))
+    (cited 𝓤 H (Of-object-rows-depended 𝓤 H (𝓖 .A) (𝓜 .mem) (𝓡 .run)) 𝓜 𝓡 code.env #object-rows-depended object-rows-depended-def.routine code.calls-sessions·object-rows·depended (object-rows-depended-thm.met 𝓤 H 𝓜 𝓖 𝓡)))

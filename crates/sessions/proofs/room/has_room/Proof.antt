@@ -53,8 +53,10 @@ use borrow.Rule.Slice.PartMut.{midOf, putMid}
 use Rattle.walk.proofs.Parts.{part-len, lends-part, backs-part, parts-shr}
 use Rattle.walk.proofs.Arrays.{rep-is, lends-array, backs-array}
 use Rattle.sessions.specs.Table.{sessionAt}
+use Rattle.sessions.specs.Removal.{dependedFound}
 use Rattle.sessions.specs.Room.{roomFor, roomOf}
-use Rattle.sessions.specs.SessionObjects.{objectsNamed, usedOf, firstObject, countedSession, keepUsed, foundObject, storedObject, storedObjects, keepStored, removedObjects, keepRemoved}
+use Rattle.sessions.specs.SessionObjects.{objectsNamed, usedOf, firstObject, countedSession, keepUsed, foundObject, storedObject, storedObjects, keepStored}
+use Rattle.sessions.specs.Removal.{takenObject, removedObjects, keepRemoved, dependedObject}
 use Rattle.sessions.proofs.room.Laws.{room-is}
 use Rattle.sessions.specs.declared.objects.Object.{Object}
 use Rattle.sessions.proofs.objects.Object as Object-t
@@ -65,7 +67,7 @@ use Rattle.codec.proofs.submessages.ObjectNumber.Laws as ObjectNumber-l
 use Rattle.sessions.specs.declared.room.Room.{Room as Room′}
 use Rattle.sessions.proofs.room.Room as Room′-t
 use Rattle.sessions.proofs.room.Room.Laws as Room′-l
-use Rattle.sessions.specs.declared.room.Room.the-variants.{Free as Room′-Free, Full as Room′-Full, NotLive as Room′-NotLive, Refused as Room′-Refused}
+use Rattle.sessions.specs.declared.room.Room.the-variants.{Free as Room′-Free, Full as Room′-Full, Depended as Room′-Depended, NotLive as Room′-NotLive, Refused as Room′-Refused}
 use Rattle.codec.specs.declared.refusals.Refusal.{Refusal}
 use Rattle.codec.proofs.refusals.Refusal as Refusal-t
 use Rattle.codec.proofs.refusals.Refusal.Laws as Refusal-l
@@ -78,6 +80,10 @@ use Rattle.sessions.proofs.session_objects.find_object as session-objec
 use Rattle.sessions.proofs.session_objects.find_object.Symbol as session-objects-find-object-def
 use Rattle.sessions.proofs.session_objects.find_object.Symbol.{name as #session-objects-find-object}
 use Rattle.sessions.proofs.session_objects.find_object.Met as session-objects-find-object-thm
+use Rattle.sessions.proofs.room.is_depended as room-is-depended
+use Rattle.sessions.proofs.room.is_depended.Symbol as room-is-depended-def
+use Rattle.sessions.proofs.room.is_depended.Symbol.{name as #room-is-depended}
+use Rattle.sessions.proofs.room.is_depended.Met as room-is-depended-thm
 use Rattle.sessions.proofs.room.room_for as room-room-for
 use Rattle.sessions.proofs.room.room_for.Symbol as room-room-for-def
 use Rattle.sessions.proofs.room.room_for.Symbol.{name as #room-room-for}
@@ -116,6 +122,9 @@ module _ {M : Type 1} (𝓤 : URA M) (H : Heap 𝓤) (A : Atoms 𝓤) (mem : Mem
   abbrev Of-session-objects-find-object : Contract 𝓤
   Of-session-objects-find-object = tripleOf 𝓤 H A session-objects-find-object.signature (session-objects-find-object.spec 𝓤 H A mem run)
 
+  abbrev Of-room-is-depended : Contract 𝓤
+  Of-room-is-depended = tripleOf 𝓤 H A room-is-depended.signature (room-is-depended.spec 𝓤 H A mem run)
+
   abbrev Of-room-room-for : Contract 𝓤
   Of-room-room-for = tripleOf 𝓤 H A room-room-for.signature (room-room-for.spec 𝓤 H A mem run)
 
@@ -146,7 +155,7 @@ module _ {M : Type 1} (𝓤 : URA M) (H : Heap 𝓤) (A : Atoms 𝓤) (W : Given
       frame ! $
       owned ! (Room′-p .row) (Is (Room′-p .row)) (Room′-p .makes 𝓤 H A W) r _ r-is $ done !
 
-  module _ (𝓣 : Tables 𝓤 H) (known-session-objects-find-object : Triple 𝓤 (𝓣 .C #session-objects-find-object) (Of-session-objects-find-object 𝓤 H A mem run)) (known-room-room-for : Triple 𝓤 (𝓣 .C #room-room-for) (Of-room-room-for 𝓤 H A mem run)) (l₀ l₁ l₂ l₃ l₄ l₅ : ℕ) where
+  module _ (𝓣 : Tables 𝓤 H) (known-session-objects-find-object : Triple 𝓤 (𝓣 .C #session-objects-find-object) (Of-session-objects-find-object 𝓤 H A mem run)) (known-room-is-depended : Triple 𝓤 (𝓣 .C #room-is-depended) (Of-room-is-depended 𝓤 H A mem run)) (known-room-room-for : Triple 𝓤 (𝓣 .C #room-room-for) (Of-room-room-for 𝓤 H A mem run)) (l₀ l₁ l₂ l₃ l₄ l₅ l₆ : ℕ) where
     abbrev C : Calls 𝓤 H
     C = 𝓣 .C
 
@@ -157,9 +166,9 @@ module _ {M : Type 1} (𝓤 : URA M) (H : Heap 𝓤) (A : Atoms 𝓤) (W : Given
     fm = fmOf 𝓤 H (W .laws) 𝓣
 
     abbrev En : Env 𝓤 H
-    En = (Room′-l.mir, l₀) ∷ ((sliceTy (tyRef (named 0) imm (pointee ((Array u64 5) .written)))), l₁) ∷ ((sliceTy (tyRef (named 1) imm (pointee (Object-t.the-row .written)))), l₂) ∷ ((tyInt w8), l₃) ∷ (ObjectNumber-l.mir, l₄) ∷ (Found-l.mir, l₅) ∷ []
+    En = (Room′-l.mir, l₀) ∷ ((sliceTy (tyRef (named 0) imm (pointee ((Array u64 5) .written)))), l₁) ∷ ((sliceTy (tyRef (named 1) imm (pointee (Object-t.the-row .written)))), l₂) ∷ ((tyInt w8), l₃) ∷ (ObjectNumber-l.mir, l₄) ∷ (Found-l.mir, l₅) ∷ (tyBool, l₆) ∷ []
 
-    begins : Sq W (‵ (ShrSlice (named 0) κ₁ (Array u64 5) .own (at-list b₁ o₁ γ₁ sessions) (sliceVal (b₁, o₁) n₁ ∷ [])) ∷ ‵ (flft κ₁ q₁) ∷ ‵ (ShrSlice (named 0) κ₂ Object-t.the-row .own (at-list b₂ o₂ γ₂ objects) (sliceVal (b₂, o₂) n₂ ∷ [])) ∷ ‵ (flft κ₂ q₂) ∷ free 𝓤 Found-l.mir l₅ (full 𝓤 ObjectNumber-l.mir l₄ (ObjectNumber-p .val number) (full 𝓤 (tyInt w8) l₃ (u8-p .val id) (full 𝓤 (sliceTy (tyRef (named 1) imm (pointee (Object-t.the-row .written)))) l₂ (sliceVal (b₂, o₂) n₂) (full 𝓤 (sliceTy (tyRef (named 0) imm (pointee ((Array u64 5) .written)))) l₁ (sliceVal (b₁, o₁) n₁) (free 𝓤 Room′-l.mir l₀ ([]))))))) (runs C Λ En mir.t-1 (atRet En Post))
+    begins : Sq W (‵ (ShrSlice (named 0) κ₁ (Array u64 5) .own (at-list b₁ o₁ γ₁ sessions) (sliceVal (b₁, o₁) n₁ ∷ [])) ∷ ‵ (flft κ₁ q₁) ∷ ‵ (ShrSlice (named 0) κ₂ Object-t.the-row .own (at-list b₂ o₂ γ₂ objects) (sliceVal (b₂, o₂) n₂ ∷ [])) ∷ ‵ (flft κ₂ q₂) ∷ free 𝓤 tyBool l₆ (free 𝓤 Found-l.mir l₅ (full 𝓤 ObjectNumber-l.mir l₄ (ObjectNumber-p .val number) (full 𝓤 (tyInt w8) l₃ (u8-p .val id) (full 𝓤 (sliceTy (tyRef (named 1) imm (pointee (Object-t.the-row .written)))) l₂ (sliceVal (b₂, o₂) n₂) (full 𝓤 (sliceTy (tyRef (named 0) imm (pointee ((Array u64 5) .written)))) l₁ (sliceVal (b₁, o₁) n₁) (free 𝓤 Room′-l.mir l₀ ([])))))))) (runs C Λ En mir.t-1 (atRet En Post))
     begins =
         -- 1: sessions::session_objects::find_object
         copies-shr ! (Array u64 5) b₁ o₁ sessions n₁ $ move ! (3 ∷ 4 ∷ []) $
@@ -167,32 +176,43 @@ module _ {M : Type 1} (𝓤 : URA M) (H : Heap 𝓤) (A : Atoms 𝓤) (W : Given
         use1 W (raw (toks 𝓤 A 2 ((κ₁, (κ₂, tt))) ((q₁, (q₂, tt))))) (id⊢ 𝓤 _) $ nothing ! $
         owned ! (ObjectNumber-p .row) (Is (ObjectNumber-p .row)) (ObjectNumber-p .makes 𝓤 H A W) number (ObjectNumber-p .val number ∷ []) number-is $ fjoin ! $
         owned ! (u8-p .row) (Is (u8-p .row)) (u8-p .makes 𝓤 H A W) id (u8-p .val id ∷ []) id-is $ fjoin ! $ move ! (2 ∷ 0 ∷ []) $ fjoin ! $ move ! (3 ∷ 0 ∷ []) $ fjoin ! $ move ! (1 ∷ 0 ∷ []) $
-        calls-any ! fm 2 [] (session-objects-find-object.signature .params) (session-objects-find-object.ended .kept) Found-p (session-objects-find-object.clauses 𝓤 H A mem run) known-session-objects-find-object (κ₁, (κ₂, tt)) (q₁, (q₂, tt)) tt (at-list b₁ o₁ γ₁ sessions, (at-list b₂ o₂ γ₂ objects, (id, (number, tt)))) (sliceVal (b₁, o₁) n₁ ∷ [], (sliceVal (b₂, o₂) n₂ ∷ [], (u8-p .val id ∷ [], (ObjectNumber-p .val number ∷ [], tt)))) tt (foundObject (sessions) (objects) id number) (λ ws-1. Unit {0}) (id⊢ 𝓤 _) (λ r ws-1. fact-mono 𝓤 (r ≡ foundObject (sessions) (objects) id number) ((r ≡ (foundObject (sessions) (objects) id number)) × (Unit {0})) (λ e. (e, tt))) (λ _. (and-then ! (load ! (from ! (stop !)) (look ! 11 refl)) (and-then ! (load ! (from ! (stop !)) (look ! 9 refl)) (and-then ! (load ! (from ! (stop !)) (look ! 7 refl)) (and-then ! (load ! (from ! (stop !)) (look ! 5 refl)) (no-more !)))))) (λ ws-1 said-1 is-1.
+        calls-any ! fm 2 [] (session-objects-find-object.signature .params) (session-objects-find-object.ended .kept) Found-p (session-objects-find-object.clauses 𝓤 H A mem run) known-session-objects-find-object (κ₁, (κ₂, tt)) (q₁, (q₂, tt)) tt (at-list b₁ o₁ γ₁ sessions, (at-list b₂ o₂ γ₂ objects, (id, (number, tt)))) (sliceVal (b₁, o₁) n₁ ∷ [], (sliceVal (b₂, o₂) n₂ ∷ [], (u8-p .val id ∷ [], (ObjectNumber-p .val number ∷ [], tt)))) tt (foundObject (sessions) (objects) id number) (λ ws-1. Unit {0}) (id⊢ 𝓤 _) (λ r ws-1. fact-mono 𝓤 (r ≡ foundObject (sessions) (objects) id number) ((r ≡ (foundObject (sessions) (objects) id number)) × (Unit {0})) (λ e. (e, tt))) (λ _. (and-then ! (load ! (from ! (stop !)) (look ! 13 refl)) (and-then ! (load ! (from ! (stop !)) (look ! 11 refl)) (and-then ! (load ! (from ! (stop !)) (look ! 9 refl)) (and-then ! (load ! (from ! (stop !)) (look ! 7 refl)) (no-more !)))))) (λ ws-1 said-1 is-1.
         use1 W ((‵ (flft κ₁ q₁) ⊛ (‵ (flft κ₂ q₂) ⊛ ‵ ftrue))) (id⊢ 𝓤 _) $ split ! $ move ! (1 ∷ []) $ split ! $ move ! (3 ∷ []) $ fsplit ! $ move ! (1 ∷ []) $ fsplit ! $ drop ! $ drop ! $ drop ! $ move ! (1 ∷ []) $ drop ! $
-        land ! (from ! (stop !)) (init ! 4 refl (Found-p .typed 𝓤 H A W (foundObject (sessions) (objects) id number) is-1)) $
-        -- 2: sessions::room::room_for
+        land ! (from ! (stop !)) (init ! 6 refl (Found-p .typed 𝓤 H A W (foundObject (sessions) (objects) id number) is-1)) $
+        -- 2: sessions::room::is_depended
+        move ! (3 ∷ 1 ∷ []) $
+        copies-shr ! (Array u64 5) b₁ o₁ sessions n₁ $ move ! (4 ∷ 3 ∷ []) $
+        copies-shr ! Object-t.the-row b₂ o₂ objects n₂ $ nothing ! $ move ! (1 ∷ 0 ∷ []) $ join ! $ move ! (3 ∷ 0 ∷ []) $ join ! $
+        use1 W (raw (toks 𝓤 A 2 ((κ₁, (κ₂, tt))) ((q₁, (q₂, tt))))) (id⊢ 𝓤 _) $ nothing ! $
+        owned ! (Found-p .row) (Is (Found-p .row)) (Found-p .makes 𝓤 H A W) (foundObject (sessions) (objects) id number) (Found-p .val (foundObject (sessions) (objects) id number) ∷ []) is-1 $ fjoin ! $
+        owned ! (u8-p .row) (Is (u8-p .row)) (u8-p .makes 𝓤 H A W) id (u8-p .val id ∷ []) id-is $ fjoin ! $ move ! (2 ∷ 0 ∷ []) $ fjoin ! $ move ! (3 ∷ 0 ∷ []) $ fjoin ! $ move ! (1 ∷ 0 ∷ []) $
+        calls-any ! fm 2 [] (room-is-depended.signature .params) (room-is-depended.ended .kept) bool-p (room-is-depended.clauses 𝓤 H A mem run) known-room-is-depended (κ₁, (κ₂, tt)) (q₁, (q₂, tt)) tt (at-list b₁ o₁ γ₁ sessions, (at-list b₂ o₂ γ₂ objects, (id, (foundObject (sessions) (objects) id number, tt)))) (sliceVal (b₁, o₁) n₁ ∷ [], (sliceVal (b₂, o₂) n₂ ∷ [], (u8-p .val id ∷ [], (Found-p .val (foundObject (sessions) (objects) id number) ∷ [], tt)))) tt (dependedFound (sessions) (objects) id (foundObject (sessions) (objects) id number)) (λ ws-2. Unit {0}) (id⊢ 𝓤 _) (λ r ws-2. fact-mono 𝓤 (r ≡ dependedFound (sessions) (objects) id (foundObject (sessions) (objects) id number)) ((r ≡ (dependedFound (sessions) (objects) id (foundObject (sessions) (objects) id number))) × (Unit {0})) (λ e. (e, tt))) (λ _. (and-then ! (load ! (from ! (stop !)) (look ! 13 refl)) (and-then ! (load ! (from ! (stop !)) (look ! 11 refl)) (and-then ! (load ! (from ! (stop !)) (look ! 9 refl)) (and-then ! (load ! (from ! (stop !)) (look ! 5 refl)) (no-more !)))))) (λ ws-2 said-2 is-2.
+        use1 W ((‵ (flft κ₁ q₁) ⊛ (‵ (flft κ₂ q₂) ⊛ ‵ ftrue))) (id⊢ 𝓤 _) $ split ! $ move ! (1 ∷ []) $ split ! $ move ! (3 ∷ []) $ fsplit ! $ move ! (1 ∷ []) $ fsplit ! $ drop ! $ drop ! $ drop ! $ move ! (1 ∷ []) $ drop ! $
+        land ! (from ! (stop !)) (init ! 4 refl (bool-p .typed 𝓤 H A W (dependedFound (sessions) (objects) id (foundObject (sessions) (objects) id number)) is-2)) $
+        -- 3: sessions::room::room_for
         move ! (3 ∷ 1 ∷ []) $
         copies-shr ! (Array u64 5) b₁ o₁ sessions n₁ $ nothing ! $ move ! (1 ∷ 0 ∷ []) $ join ! $
         use1 W (raw (toks 𝓤 A 1 ((κ₁, tt)) ((q₁, tt)))) (id⊢ 𝓤 _) $ nothing ! $
+        owned ! (bool-p .row) (Is (bool-p .row)) (bool-p .makes 𝓤 H A W) (dependedFound (sessions) (objects) id (foundObject (sessions) (objects) id number)) (bool-p .val (dependedFound (sessions) (objects) id (foundObject (sessions) (objects) id number)) ∷ []) is-2 $ fjoin ! $
         owned ! (Found-p .row) (Is (Found-p .row)) (Found-p .makes 𝓤 H A W) (foundObject (sessions) (objects) id number) (Found-p .val (foundObject (sessions) (objects) id number) ∷ []) is-1 $ fjoin ! $
         owned ! (u8-p .row) (Is (u8-p .row)) (u8-p .makes 𝓤 H A W) id (u8-p .val id ∷ []) id-is $ fjoin ! $ move ! (2 ∷ 0 ∷ []) $ fjoin ! $ move ! (1 ∷ 0 ∷ []) $
-        calls-any ! fm 1 [] (room-room-for.signature .params) (room-room-for.ended .kept) Room′-p (room-room-for.clauses 𝓤 H A mem run) known-room-room-for (κ₁, tt) (q₁, tt) tt (at-list b₁ o₁ γ₁ sessions, (id, (foundObject (sessions) (objects) id number, tt))) (sliceVal (b₁, o₁) n₁ ∷ [], (u8-p .val id ∷ [], (Found-p .val (foundObject (sessions) (objects) id number) ∷ [], tt))) tt (roomFor (foundObject (sessions) (objects) id number) (sessionAt (sessions) id)) (λ ws-2. Unit {0}) (id⊢ 𝓤 _) (λ r ws-2. fact-mono 𝓤 (r ≡ roomFor (foundObject (sessions) (objects) id number) (sessionAt (sessions) id)) ((r ≡ (roomFor (foundObject (sessions) (objects) id number) (sessionAt (sessions) id))) × (Unit {0})) (λ e. (e, tt))) (λ _. (and-then ! (load ! (from ! (stop !)) (look ! 12 refl)) (and-then ! (load ! (from ! (stop !)) (look ! 8 refl)) (and-then ! (load ! (from ! (stop !)) (look ! 4 refl)) (no-more !))))) (λ ws-2 said-2 is-2.
+        calls-any ! fm 1 [] (room-room-for.signature .params) (room-room-for.ended .kept) Room′-p (room-room-for.clauses 𝓤 H A mem run) known-room-room-for (κ₁, tt) (q₁, tt) tt (at-list b₁ o₁ γ₁ sessions, (id, (foundObject (sessions) (objects) id number, (dependedFound (sessions) (objects) id (foundObject (sessions) (objects) id number), tt)))) (sliceVal (b₁, o₁) n₁ ∷ [], (u8-p .val id ∷ [], (Found-p .val (foundObject (sessions) (objects) id number) ∷ [], (bool-p .val (dependedFound (sessions) (objects) id (foundObject (sessions) (objects) id number)) ∷ [], tt)))) tt (roomFor (foundObject (sessions) (objects) id number) (dependedFound (sessions) (objects) id (foundObject (sessions) (objects) id number)) (sessionAt (sessions) id)) (λ ws-3. Unit {0}) (id⊢ 𝓤 _) (λ r ws-3. fact-mono 𝓤 (r ≡ roomFor (foundObject (sessions) (objects) id number) (dependedFound (sessions) (objects) id (foundObject (sessions) (objects) id number)) (sessionAt (sessions) id)) ((r ≡ (roomFor (foundObject (sessions) (objects) id number) (dependedFound (sessions) (objects) id (foundObject (sessions) (objects) id number)) (sessionAt (sessions) id))) × (Unit {0})) (λ e. (e, tt))) (λ _. (and-then ! (load ! (from ! (stop !)) (look ! 14 refl)) (and-then ! (load ! (from ! (stop !)) (look ! 10 refl)) (and-then ! (load ! (from ! (stop !)) (look ! 6 refl)) (and-then ! (load ! (from ! (stop !)) (look ! 4 refl)) (no-more !)))))) (λ ws-3 said-3 is-3.
         use1 W ((‵ (flft κ₁ q₁) ⊛ ‵ ftrue)) (id⊢ 𝓤 _) $ split ! $ move ! (2 ∷ []) $ fsplit ! $ drop ! $ drop ! $ move ! (1 ∷ []) $ drop ! $
-        land ! (from ! (stop !)) (init ! 14 refl (Room′-p .typed 𝓤 H A W (roomFor (foundObject (sessions) (objects) id number) (sessionAt (sessions) id)) is-2)) $
-        returns ! (look ! 14 refl) $ forget ! 4 refl $ forget ! 6 refl $ forget ! 8 refl $ forget ! 10 refl $ forget ! 12 refl $ forget ! 14 refl $ move ! (14 ∷ 15 ∷ []) $ free1 ! $ move ! (12 ∷ 13 ∷ []) $ free1 ! $ move ! (10 ∷ 11 ∷ []) $ free1 ! $ move ! (8 ∷ 9 ∷ []) $ free1 ! $ move ! (6 ∷ 7 ∷ []) $ free1 ! $ move ! (4 ∷ 5 ∷ []) $ free1 ! $ free0 ! $ move ! (1 ∷ 0 ∷ 3 ∷ 2 ∷ []) $
-        by ! (exits (roomFor (foundObject (sessions) (objects) id number) (sessionAt (sessions) id)) (room-is sessions objects id number) is-2)))
+        land ! (from ! (stop !)) (init ! 16 refl (Room′-p .typed 𝓤 H A W (roomFor (foundObject (sessions) (objects) id number) (dependedFound (sessions) (objects) id (foundObject (sessions) (objects) id number)) (sessionAt (sessions) id)) is-3)) $
+        returns ! (look ! 16 refl) $ forget ! 4 refl $ forget ! 6 refl $ forget ! 8 refl $ forget ! 10 refl $ forget ! 12 refl $ forget ! 14 refl $ forget ! 16 refl $ move ! (16 ∷ 17 ∷ []) $ free1 ! $ move ! (14 ∷ 15 ∷ []) $ free1 ! $ move ! (12 ∷ 13 ∷ []) $ free1 ! $ move ! (10 ∷ 11 ∷ []) $ free1 ! $ move ! (8 ∷ 9 ∷ []) $ free1 ! $ move ! (6 ∷ 7 ∷ []) $ free1 ! $ move ! (4 ∷ 5 ∷ []) $ free1 ! $ free0 ! $ move ! (1 ∷ 0 ∷ 3 ∷ 2 ∷ []) $
+        by ! (exits (roomFor (foundObject (sessions) (objects) id number) (dependedFound (sessions) (objects) id (foundObject (sessions) (objects) id number)) (sessionAt (sessions) id)) (room-is sessions objects id number) is-3))))
 
-  module _ (𝓣 : Tables 𝓤 H) (known-session-objects-find-object : Triple 𝓤 (𝓣 .C #session-objects-find-object) (Of-session-objects-find-object 𝓤 H A mem run)) (known-room-room-for : Triple 𝓤 (𝓣 .C #room-room-for) (Of-room-room-for 𝓤 H A mem run)) where
+  module _ (𝓣 : Tables 𝓤 H) (known-session-objects-find-object : Triple 𝓤 (𝓣 .C #session-objects-find-object) (Of-session-objects-find-object 𝓤 H A mem run)) (known-room-is-depended : Triple 𝓤 (𝓣 .C #room-is-depended) (Of-room-is-depended 𝓤 H A mem run)) (known-room-room-for : Triple 𝓤 (𝓣 .C #room-room-for) (Of-room-room-for 𝓤 H A mem run)) where
     walk : ent 𝓤 (onEntry 𝓤 H A f.signature (κ₁, (κ₂, tt)) (q₁, (q₂, tt)) x at) (WpFn 𝓤 H (𝓣 .C) (𝓣 .Λ) code.function (sliceVal (b₁, o₁) n₁ ∷ sliceVal (b₂, o₂) n₂ ∷ u8-p .val id ∷ ObjectNumber-p .val number ∷ []) Post)
     walk =
         qed W ((‵ (flft κ₁ q₁) ⊛ (‵ (flft κ₂ q₂) ⊛ ‵ ftrue)) ∷ ‵ (owns (ShrSlice (named 0) κ₁ (Array u64 5) ∷ ShrSlice (named 1) κ₂ Object-t.the-row ∷ u8-p .row ∷ ObjectNumber-p .row ∷ []) x at) ∷ []) ∵ enter ! (𝓣 .C) (𝓣 .Λ) code.function (sliceVal (b₁, o₁) n₁ ∷ sliceVal (b₂, o₂) n₂ ∷ u8-p .val id ∷ ObjectNumber-p .val number ∷ []) _ $
-        alloc1 ! (λ l₀. alloc1 ! (λ l₁. alloc1 ! (λ l₂. alloc1 ! (λ l₃. alloc1 ! (λ l₄. alloc1 ! (λ l₅. alloc0 ! $ params1 ! $ pass1 ! (init ! 8 refl (tt, (tt, (record { fits = room₁ .0 }, tt)))) $ pass1 ! (init ! 6 refl (tt, (tt, (record { fits = room₂ .0 }, tt)))) $ pass1 ! (init ! 4 refl (u8-p .typed 𝓤 H A W id id-is)) $ pass1 ! (init ! 2 refl (ObjectNumber-p .typed 𝓤 H A W number number-is)) $ pass0 ! $ move ! (13 ∷ []) $ fsplit ! $ move ! (1 ∷ []) $ fsplit ! $ move ! (15 ∷ []) $ split ! $ move ! (1 ∷ []) $ split ! $ move ! (1 ∷ []) $ drop ! $ move ! (3 ∷ []) $ drop ! $ move ! (3 ∷ 1 ∷ 2 ∷ 0 ∷ 4 ∷ 5 ∷ 6 ∷ 7 ∷ 8 ∷ 9 ∷ 10 ∷ 11 ∷ 12 ∷ 13 ∷ 14 ∷ 15 ∷ []) $
-        begins 𝓣 known-session-objects-find-object known-room-room-for l₀ l₁ l₂ l₃ l₄ l₅))))))
+        alloc1 ! (λ l₀. alloc1 ! (λ l₁. alloc1 ! (λ l₂. alloc1 ! (λ l₃. alloc1 ! (λ l₄. alloc1 ! (λ l₅. alloc1 ! (λ l₆. alloc0 ! $ params1 ! $ pass1 ! (init ! 10 refl (tt, (tt, (record { fits = room₁ .0 }, tt)))) $ pass1 ! (init ! 8 refl (tt, (tt, (record { fits = room₂ .0 }, tt)))) $ pass1 ! (init ! 6 refl (u8-p .typed 𝓤 H A W id id-is)) $ pass1 ! (init ! 4 refl (ObjectNumber-p .typed 𝓤 H A W number number-is)) $ pass0 ! $ move ! (15 ∷ []) $ fsplit ! $ move ! (1 ∷ []) $ fsplit ! $ move ! (17 ∷ []) $ split ! $ move ! (1 ∷ []) $ split ! $ move ! (1 ∷ []) $ drop ! $ move ! (3 ∷ []) $ drop ! $ move ! (3 ∷ 1 ∷ 2 ∷ 0 ∷ 4 ∷ 5 ∷ 6 ∷ 7 ∷ 8 ∷ 9 ∷ 10 ∷ 11 ∷ 12 ∷ 13 ∷ 14 ∷ 15 ∷ 16 ∷ 17 ∷ []) $
+        begins 𝓣 known-session-objects-find-object known-room-is-depended known-room-room-for l₀ l₁ l₂ l₃ l₄ l₅ l₆)))))))
 
-module _ {M : Type 1} (𝓤 : URA M) (H : Heap 𝓤) (A : Atoms 𝓤) (W : Given 𝓤 H A) (mem : Memory → SProp 𝓤) (run : Routine → Fun 𝓤) (𝓣 : Tables 𝓤 H) (known-session-objects-find-object : Triple 𝓤 (𝓣 .C #session-objects-find-object) (Of-session-objects-find-object 𝓤 H A mem run)) (known-room-room-for : Triple 𝓤 (𝓣 .C #room-room-for) (Of-room-room-for 𝓤 H A mem run)) where
+module _ {M : Type 1} (𝓤 : URA M) (H : Heap 𝓤) (A : Atoms 𝓤) (W : Given 𝓤 H A) (mem : Memory → SProp 𝓤) (run : Routine → Fun 𝓤) (𝓣 : Tables 𝓤 H) (known-session-objects-find-object : Triple 𝓤 (𝓣 .C #session-objects-find-object) (Of-session-objects-find-object 𝓤 H A mem run)) (known-room-is-depended : Triple 𝓤 (𝓣 .C #room-is-depended) (Of-room-is-depended 𝓤 H A mem run)) (known-room-room-for : Triple 𝓤 (𝓣 .C #room-room-for) (Of-room-room-for 𝓤 H A mem run)) where
   walks : Walks 𝓤 H A f.ended stayed (WpFn 𝓤 H (𝓣 .C) (𝓣 .Λ) code.function) (f.clauses 𝓤 H A mem run)
   walks = walked 𝓤 H A f.ended stayed (f.clauses 𝓤 H A mem run) (WpFn 𝓤 H (𝓣 .C) (𝓣 .Λ) code.function) (λ κs. (slice-vals, (slice-vals, ((λ y. u8-p .val y ∷ []), ((λ y. ObjectNumber-p .val y ∷ []), tt))))) (λ κs. (shr-slice-tells (named 0) (κs .0) (Array u64 5), (shr-slice-tells (named 1) (κs .1 .0) Object-t.the-row, (u8-p .tells, (ObjectNumber-p .tells, tt)))))
-      (λ κs qs bounds a g are. via 𝓤 _ (fst∗ 𝓤 _ (emp 𝓤)) (walk 𝓤 H A W mem run (κs .0) (qs .0) (a .0 .ptr .0) (a .0 .ptr .1) (a .0 .name) (a .0 .now) (κs .1 .0) (qs .1 .0) (a .1 .0 .ptr .0) (a .1 .0 .ptr .1) (a .1 .0 .name) (a .1 .0 .now) (a .1 .1 .0) (a .1 .1 .1 .0) (are .0 .0 .1) (are .1 .0 .0 .1) (are .1 .1 .0) (are .1 .1 .1 .0) 𝓣 known-session-objects-find-object known-room-room-for))
+      (λ κs qs bounds a g are. via 𝓤 _ (fst∗ 𝓤 _ (emp 𝓤)) (walk 𝓤 H A W mem run (κs .0) (qs .0) (a .0 .ptr .0) (a .0 .ptr .1) (a .0 .name) (a .0 .now) (κs .1 .0) (qs .1 .0) (a .1 .0 .ptr .0) (a .1 .0 .ptr .1) (a .1 .0 .name) (a .1 .0 .now) (a .1 .1 .0) (a .1 .1 .1 .0) (are .0 .0 .1) (are .1 .0 .0 .1) (are .1 .1 .0) (are .1 .1 .1 .0) 𝓣 known-session-objects-find-object known-room-is-depended known-room-room-for))
 
   meets : Meets 𝓤 H A f.signature (WpFn 𝓤 H (𝓣 .C) (𝓣 .Λ) code.function) (f.spec 𝓤 H A mem run)
   meets = walk-meets 𝓤 H A f.ended stayed W (goes-none-slice 𝓤 H A W 2 (0 ∷ []) tt (plain (λ _. (Array u64 5))) yes, (goes-none-slice 𝓤 H A W 2 (1 ∷ []) tt (plain (λ _. Object-t.the-row)) yes, (goes-none 𝓤 H A W 2 (λ _. u8-p .row) yes (λ κs x f. refl), (goes-none 𝓤 H A W 2 (λ _. ObjectNumber-p .row) yes (λ κs x f. refl), tt)))) (f.clauses 𝓤 H A mem run) (WpFn 𝓤 H (𝓣 .C) (𝓣 .Λ) code.function) (WpFn-mono 𝓤 H (W .laws) 𝓣 code.function) walks
@@ -204,4 +224,5 @@ has-room-spec 𝓤 H 𝓜 𝓖 𝓡 =
     (tables 𝓤 H 𝓜 𝓡 code.env .C) (tables 𝓤 H 𝓜 𝓡 code.env .Λ) #f code.function (code.unfolded 𝓤 H 𝓜 𝓡)
     (meets 𝓤 H (𝓖 .A) (givenOf 𝓤 H 𝓜 𝓖) (𝓜 .mem) (𝓡 .run) (tablesOf 𝓤 H 𝓜 (tables 𝓤 H 𝓜 𝓡 code.env))
     (cited 𝓤 H (Of-session-objects-find-object 𝓤 H (𝓖 .A) (𝓜 .mem) (𝓡 .run)) 𝓜 𝓡 code.env #session-objects-find-object session-objects-find-object-def.routine code.calls-sessions·session-objects·find-object (session-objects-find-object-thm.met 𝓤 H 𝓜 𝓖 𝓡))
+    (cited 𝓤 H (Of-room-is-depended 𝓤 H (𝓖 .A) (𝓜 .mem) (𝓡 .run)) 𝓜 𝓡 code.env #room-is-depended room-is-depended-def.routine code.calls-sessions·room·is-depended (room-is-depended-thm.met 𝓤 H 𝓜 𝓖 𝓡))
     (cited 𝓤 H (Of-room-room-for 𝓤 H (𝓖 .A) (𝓜 .mem) (𝓡 .run)) 𝓜 𝓡 code.env #room-room-for room-room-for-def.routine code.calls-sessions·room·room-for (room-room-for-thm.met 𝓤 H 𝓜 𝓖 𝓡)))

@@ -20,20 +20,23 @@ returns : tie.Need-returns
 returns c = search needs
 
 returns-2 : tie.Need-returns-2
-returns-2 c = rw (← c .before .before .before .before .session-at .ensures, c .before .before .enum-told2 .given .1, eq-eqb _ 0 (c .if1 .taken))
+returns-2 c = search needs
 
 returns-3 : tie.Need-returns-3
-returns-3 c =
-    let d = c .before .before .before .before in
-    rw (← d .before .before .session-at .ensures, d .enum-told2 .given .1, ne-eqb _ 0 (c .before .before .if1 .left), lt-ltb _ 32 (c .if2 .taken))
+returns-3 c = rw (← c .before .before .before .before .session-at .ensures, c .before .before .enum-told2 .given .1, eq-eqb _ 0 (c .if2 .taken))
 
 returns-4 : tie.Need-returns-4
 returns-4 c =
     let d = c .before .before .before .before in
-    rw (← d .before .before .session-at .ensures, d .enum-told2 .given .1, ne-eqb _ 0 (c .before .before .if1 .left), le-ltb _ 32 (c .if2 .left))
+    rw (← d .before .before .session-at .ensures, d .enum-told2 .given .1, ne-eqb _ 0 (c .before .before .if2 .left), lt-ltb _ 32 (c .if3 .taken))
 
 returns-5 : tie.Need-returns-5
-returns-5 c = rw (c .before .found .given .1)
+returns-5 c =
+    let d = c .before .before .before .before in
+    rw (← d .before .before .session-at .ensures, d .enum-told2 .given .1, ne-eqb _ 0 (c .before .before .if2 .left), le-ltb _ 32 (c .if3 .left))
+
+returns-6 : tie.Need-returns-6
+returns-6 c = rw (c .before .found .given .1)
 
 pub room-for-spec : {M : Type 1} → statement M
 room-for-spec =
@@ -47,4 +50,5 @@ room-for-spec =
     returns-2
     returns-3
     returns-4
-    returns-5)
+    returns-5
+    returns-6)

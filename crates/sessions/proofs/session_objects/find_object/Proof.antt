@@ -52,8 +52,10 @@ use Rattle.walk.proofs.Steps.{past, one, yes-of, no-of, in-block, arm-of, holds
 use borrow.Rule.Slice.PartMut.{midOf, putMid}
 use Rattle.walk.proofs.Parts.{part-len, lends-part, backs-part, parts-shr}
 use Rattle.walk.proofs.Arrays.{rep-is, lends-array, backs-array}
-use Rattle.sessions.specs.SessionObjects.{objectsNamed, usedOf, firstObject, countedSession, keepUsed, foundObject, storedObject, storedObjects, keepStored, removedObjects, keepRemoved}
-use Rattle.sessions.specs.Objects.{objectPlace, foundOf, storedOf, storedRow, removedRow}
+use Rattle.sessions.specs.SessionObjects.{objectsNamed, usedOf, firstObject, countedSession, keepUsed, foundObject, storedObject, storedObjects, keepStored}
+use Rattle.sessions.specs.Removal.{takenObject, removedObjects, keepRemoved, dependedObject}
+use Rattle.sessions.specs.Objects.{objectPlace, foundOf, storedOf, storedRow}
+use Rattle.sessions.specs.Removal.{dependedIn, takenOf, removedRow}
 use Rattle.sessions.proofs.session_objects.Laws.{lent-row, found-is, found-lent}
 use Rattle.sessions.specs.declared.objects.Object.{Object}
 use Rattle.sessions.proofs.objects.Object as Object-t

@@ -25,6 +25,9 @@ enum-told-2 c = search needs
 enum-told-3 : tie.Need-enum-told-3
 enum-told-3 c = search needs
 
+enum-told-4 : tie.Need-enum-told-4
+enum-told-4 c = search needs
+
 same-length : tie.Need-same-length
 same-length c = search needs
 
@@ -40,6 +43,9 @@ returns-2 c = search needs
 returns-3 : tie.Need-returns-3
 returns-3 c = search needs
 
+returns-4 : tie.Need-returns-4
+returns-4 c = search needs
+
 pub keep-removed-spec : {M : Type 1} → statement M
 keep-removed-spec =
     tie.close
@@ -50,7 +56,9 @@ keep-removed-spec =
     keep-used-requires
     enum-told-2
     enum-told-3
+    enum-told-4
     same-length
     returns
     returns-2
-    returns-3)
+    returns-3
+    returns-4)

@@ -52,19 +52,21 @@ use Rattle.walk.proofs.Steps.{past, one, yes-of, no-of, in-block, arm-of, holds
 use borrow.Rule.Slice.PartMut.{midOf, putMid}
 use Rattle.walk.proofs.Parts.{part-len, lends-part, backs-part, parts-shr}
 use Rattle.walk.proofs.Arrays.{rep-is, lends-array, backs-array}
-use Rattle.sessions.specs.SessionObjects.{objectsNamed, usedOf, firstObject, countedSession, keepUsed, foundObject, storedObject, storedObjects, keepStored, removedObjects, keepRemoved}
-use Rattle.sessions.specs.Objects.{objectPlace, foundOf, storedOf, storedRow, removedRow}
-use Rattle.sessions.proofs.session_objects.Laws.{lent-row, found-is, found-lent, removed-is, removed-lent}
+use Rattle.sessions.specs.SessionObjects.{objectsNamed, usedOf, firstObject, countedSession, keepUsed, foundObject, storedObject, storedObjects, keepStored}
+use Rattle.sessions.specs.Removal.{takenObject, removedObjects, keepRemoved, dependedObject}
+use Rattle.sessions.specs.Objects.{objectPlace, foundOf, storedOf, storedRow}
+use Rattle.sessions.specs.Removal.{dependedIn, takenOf, removedRow}
+use Rattle.sessions.proofs.session_objects.Laws.{lent-row, taken-is, taken-lent, removed-is, removed-lent}
 use Rattle.sessions.specs.declared.objects.Object.{Object}
 use Rattle.sessions.proofs.objects.Object as Object-t
 use Rattle.sessions.proofs.objects.Object.Laws as Object-l
 use Rattle.codec.specs.declared.submessages.ObjectNumber.{ObjectNumber}
 use Rattle.codec.proofs.submessages.ObjectNumber as ObjectNumber-t
 use Rattle.codec.proofs.submessages.ObjectNumber.Laws as ObjectNumber-l
-use Rattle.sessions.specs.declared.objects.Found.{Found}
-use Rattle.sessions.proofs.objects.Found as Found-t
-use Rattle.sessions.proofs.objects.Found.Laws as Found-l
-use Rattle.sessions.specs.declared.objects.Found.the-variants.{Held as Found-Held, Nothing as Found-Nothing, Refused as Found-Refused}
+use Rattle.sessions.specs.declared.objects.Taken.{Taken}
+use Rattle.sessions.proofs.objects.Taken as Taken-t
+use Rattle.sessions.proofs.objects.Taken.Laws as Taken-l
+use Rattle.sessions.specs.declared.objects.Taken.the-variants.{Gone as Taken-Gone, Depended as Taken-Depended, Nothing as Taken-Nothing, Refused as Taken-Refused}
 use Rattle.codec.specs.declared.refusals.Refusal.{Refusal}
 use Rattle.codec.proofs.refusals.Refusal as Refusal-t
 use Rattle.codec.proofs.refusals.Refusal.Laws as Refusal-l
@@ -115,8 +117,8 @@ ObjectNumber-of x0 = record { 0 = x0 }
 abbrev ObjectNumber-p : Plain
 ObjectNumber-p = record { row = ObjectNumber-t.the-row; val = LL.val ObjectNumber-t.the-type ObjectNumber-l.the-laws; tells = LL.tells ObjectNumber-t.the-type ObjectNumber-l.the-laws; makes = λ 𝓤 H A W. LL.makes ObjectNumber-t.the-type ObjectNumber-l.the-plain 𝓤 H A; ty = ObjectNumber-l.mir; typed = λ 𝓤 H A W x is. LL.lawful ObjectNumber-t.the-type ObjectNumber-l.the-laws 𝓤 H A W .typed x _ is .0; copies = λ 𝓤 H A W. LL.copy ObjectNumber-t.the-type ObjectNumber-l.the-copy 𝓤 H A W }
 
-abbrev Found-p : Plain
-Found-p = record { row = Found-t.the-row; val = EL.val Found-t.the-type Found-l.the-laws; tells = EL.tells Found-t.the-type Found-l.the-laws; makes = λ 𝓤 H A W. EL.makes Found-t.the-type Found-l.the-plain 𝓤 H A; ty = Found-l.mir; typed = λ 𝓤 H A W x is. EL.lawful Found-t.the-type Found-l.the-laws 𝓤 H A W tt .typed x _ is .0; copies = λ 𝓤 H A W. EL.copy Found-t.the-type Found-l.the-copy 𝓤 H A W }
+abbrev Taken-p : Plain
+Taken-p = record { row = Taken-t.the-row; val = EL.val Taken-t.the-type Taken-l.the-laws; tells = EL.tells Taken-t.the-type Taken-l.the-laws; makes = λ 𝓤 H A W. EL.makes Taken-t.the-type Taken-l.the-plain 𝓤 H A; ty = Taken-l.mir; typed = λ 𝓤 H A W x is. EL.lawful Taken-t.the-type Taken-l.the-laws 𝓤 H A W tt .typed x _ is .0; copies = λ 𝓤 H A W. EL.copy Taken-t.the-type Taken-l.the-copy 𝓤 H A W }
 
 abbrev Refusal-p : Plain
 Refusal-p = record { row = Refusal-t.the-row; val = EL.val Refusal-t.the-type Refusal-l.the-laws; tells = EL.tells Refusal-t.the-type Refusal-l.the-laws; makes = λ 𝓤 H A W. EL.makes Refusal-t.the-type Refusal-l.the-plain 𝓤 H A; ty = Refusal-l.mir; typed = λ 𝓤 H A W x is. EL.lawful Refusal-t.the-type Refusal-l.the-laws 𝓤 H A W tt .typed x _ is .0; copies = λ 𝓤 H A W. EL.copy Refusal-t.the-type Refusal-l.the-copy 𝓤 H A W }
@@ -163,15 +165,15 @@ module _ {M : Type 1} (𝓤 : URA M) (H : Heap 𝓤) (A : Atoms 𝓤) (W : Given
   abbrev Post : Val → SProp 𝓤
   Post = walkOf 𝓤 H A f.ended stayed (f.clauses 𝓤 H A mem run) .post (((κ₁, (κ₂, tt)), (q₁, (q₂, tt)), tt, x, at), tt)
 
-  exits : (r : Found) (ws₁ : List (List ℕ)) (ws₂ : List Object) → ((r ≡ foundObject (sessions) (objects) id number) × (ws₁ ≡ keepRemoved (sessions) id r) × (ws₂ ≡ removedObjects (sessions) (objects) id number)) → Is (Found-p .row) r (Found-p .val r ∷ []) → length ws₁ ≡ n₁ → length ws₂ ≡ n₂ → ent 𝓤 (⋆ 𝓤 H A (‵ (MutSlice (named 0) κ₁ (Array u64 5) .own (at-list b₁ o₁ γ₁ ws₁) (sliceVal (b₁, o₁) n₁ ∷ [])) ∷ ‵ (flft κ₁ q₁) ∷ ‵ (MutSlice (named 1) κ₂ Object-t.the-row .own (at-list b₂ o₂ γ₂ ws₂) (sliceVal (b₂, o₂) n₂ ∷ [])) ∷ ‵ (flft κ₂ q₂) ∷ [])) (Post (Found-p .val r))
+  exits : (r : Taken) (ws₁ : List (List ℕ)) (ws₂ : List Object) → ((r ≡ takenObject (sessions) (objects) id number) × (ws₁ ≡ keepRemoved (sessions) id r) × (ws₂ ≡ removedObjects (sessions) (objects) id number)) → Is (Taken-p .row) r (Taken-p .val r ∷ []) → length ws₁ ≡ n₁ → length ws₂ ≡ n₂ → ent 𝓤 (⋆ 𝓤 H A (‵ (MutSlice (named 0) κ₁ (Array u64 5) .own (at-list b₁ o₁ γ₁ ws₁) (sliceVal (b₁, o₁) n₁ ∷ [])) ∷ ‵ (flft κ₁ q₁) ∷ ‵ (MutSlice (named 1) κ₂ Object-t.the-row .own (at-list b₂ o₂ γ₂ ws₂) (sliceVal (b₂, o₂) n₂ ∷ [])) ∷ ‵ (flft κ₂ q₂) ∷ [])) (Post (Taken-p .val r))
   exits r ws₁ ws₂ said r-is len₁ len₂ =
       qed W (‵ (MutSlice (named 0) κ₁ (Array u64 5) .own (at-list b₁ o₁ γ₁ ws₁) (sliceVal (b₁, o₁) n₁ ∷ [])) ∷ ‵ (flft κ₁ q₁) ∷ ‵ (MutSlice (named 1) κ₂ Object-t.the-row .own (at-list b₂ o₂ γ₂ ws₂) (sliceVal (b₂, o₂) n₂ ∷ [])) ∷ ‵ (flft κ₂ q₂) ∷ []) ∵
-      suffices ! _ (ends-at 𝓤 H A f.ended stayed (f.clauses 𝓤 H A mem run) W (((κ₁, (κ₂, tt)), (q₁, (q₂, tt)), tt, x, at), tt) (Found-p .val r) r (ws₁, (ws₂, (tt, (tt, tt)))) (len₁, (len₂, (tt, (tt, tt))))) $ says ! said $ nothing ! $ move ! (4 ∷ 0 ∷ []) $ join ! $ move ! (2 ∷ 0 ∷ []) $ join ! $
+      suffices ! _ (ends-at 𝓤 H A f.ended stayed (f.clauses 𝓤 H A mem run) W (((κ₁, (κ₂, tt)), (q₁, (q₂, tt)), tt, x, at), tt) (Taken-p .val r) r (ws₁, (ws₂, (tt, (tt, tt)))) (len₁, (len₂, (tt, (tt, tt))))) $ says ! said $ nothing ! $ move ! (4 ∷ 0 ∷ []) $ join ! $ move ! (2 ∷ 0 ∷ []) $ join ! $
       frame ! $ nothing ! $
       owned ! (ObjectNumber-p .row) (Is (ObjectNumber-p .row)) (ObjectNumber-p .makes 𝓤 H A W) number (ObjectNumber-p .val number ∷ []) number-is $ fjoin ! $
       owned ! (u8-p .row) (Is (u8-p .row)) (u8-p .makes 𝓤 H A W) id (u8-p .val id ∷ []) id-is $ fjoin ! $ move ! (2 ∷ 0 ∷ []) $ fjoin ! $ move ! (1 ∷ 0 ∷ []) $ fjoin ! $
       frame ! $
-      owned ! (Found-p .row) (Is (Found-p .row)) (Found-p .makes 𝓤 H A W) r _ r-is $ done !
+      owned ! (Taken-p .row) (Is (Taken-p .row)) (Taken-p .makes 𝓤 H A W) r _ r-is $ done !
 
   module _ (𝓣 : Tables 𝓤 H) (known-session-objects-reach : Triple 𝓤 (𝓣 .C #session-objects-reach) (Of-session-objects-reach 𝓤 H A mem run)) (known-session-objects-first : Triple 𝓤 (𝓣 .C #session-objects-first) (Of-session-objects-first 𝓤 H A mem run)) (known-session-objects-behind : Triple 𝓤 (𝓣 .C #session-objects-behind) (Of-session-objects-behind 𝓤 H A mem run)) (known-session-objects-used : Triple 𝓤 (𝓣 .C #session-objects-used) (Of-session-objects-used 𝓤 H A mem run)) (known-object-rows-remove : Triple 𝓤 (𝓣 .C #object-rows-remove) (Of-object-rows-remove 𝓤 H A mem run)) (known-session-objects-keep-removed : Triple 𝓤 (𝓣 .C #session-objects-keep-removed) (Of-session-objects-keep-removed 𝓤 H A mem run)) (l₀ l₁ l₂ l₃ l₄ l₅ l₆ l₇ l₈ l₉ l₁₀ l₁₁ l₁₂ l₁₃ l₁₄ l₁₅ l₁₆ l₁₇ l₁₈ l₁₉ l₂₀ l₂₁ l₂₂ l₂₃ l₂₄ : ℕ) where
     abbrev C : Calls 𝓤 H
@@ -184,9 +186,9 @@ module _ {M : Type 1} (𝓤 : URA M) (H : Heap 𝓤) (A : Atoms 𝓤) (W : Given
     fm = fmOf 𝓤 H (W .laws) 𝓣
 
     abbrev En : Env 𝓤 H
-    En = (Found-l.mir, l₀) ∷ ((sliceTy (tyRef (named 0) mut (pointee ((Array u64 5) .written)))), l₁) ∷ ((sliceTy (tyRef (named 1) mut (pointee (Object-t.the-row .written)))), l₂) ∷ ((tyInt w8), l₃) ∷ (ObjectNumber-l.mir, l₄) ∷ ((tyInt w64), l₅) ∷ (Named-l.mir, l₆) ∷ ((tyInt w64), l₇) ∷ ((tyInt w64), l₈) ∷ ((tyInt w64), l₉) ∷ (Found-l.mir, l₁₀) ∷ (Refusal-l.mir, l₁₁) ∷ ((tyRef erased imm (pointee ((Array u64 5) .written))), l₁₂) ∷ ((sliceTy (tyRef erased imm (pointee ((Array u64 5) .written)))), l₁₃) ∷ (Found-l.mir, l₁₄) ∷ ((tyRef erased imm (pointee ((Array u64 5) .written))), l₁₅) ∷ ((sliceTy (tyRef erased imm (pointee ((Array u64 5) .written)))), l₁₆) ∷ ((tyInt w64), l₁₇) ∷ (tyPtr, l₁₈) ∷ ((tyInt w64), l₁₉) ∷ ((tyRef erased mut (pointee (Object-t.the-row .written))), l₂₀) ∷ ((sliceTy (tyRef erased mut (pointee (Object-t.the-row .written)))), l₂₁) ∷ (tyUnit, l₂₂) ∷ ((tyRef erased mut (pointee ((Array u64 5) .written))), l₂₃) ∷ ((sliceTy (tyRef erased mut (pointee ((Array u64 5) .written)))), l₂₄) ∷ []
+    En = (Taken-l.mir, l₀) ∷ ((sliceTy (tyRef (named 0) mut (pointee ((Array u64 5) .written)))), l₁) ∷ ((sliceTy (tyRef (named 1) mut (pointee (Object-t.the-row .written)))), l₂) ∷ ((tyInt w8), l₃) ∷ (ObjectNumber-l.mir, l₄) ∷ ((tyInt w64), l₅) ∷ (Named-l.mir, l₆) ∷ ((tyInt w64), l₇) ∷ ((tyInt w64), l₈) ∷ ((tyInt w64), l₉) ∷ (Taken-l.mir, l₁₀) ∷ (Refusal-l.mir, l₁₁) ∷ ((tyRef erased imm (pointee ((Array u64 5) .written))), l₁₂) ∷ ((sliceTy (tyRef erased imm (pointee ((Array u64 5) .written)))), l₁₃) ∷ (Taken-l.mir, l₁₄) ∷ ((tyRef erased imm (pointee ((Array u64 5) .written))), l₁₅) ∷ ((sliceTy (tyRef erased imm (pointee ((Array u64 5) .written)))), l₁₆) ∷ ((tyInt w64), l₁₇) ∷ (tyPtr, l₁₈) ∷ ((tyInt w64), l₁₉) ∷ ((tyRef erased mut (pointee (Object-t.the-row .written))), l₂₀) ∷ ((sliceTy (tyRef erased mut (pointee (Object-t.the-row .written)))), l₂₁) ∷ (tyUnit, l₂₂) ∷ ((tyRef erased mut (pointee ((Array u64 5) .written))), l₂₃) ∷ ((sliceTy (tyRef erased mut (pointee ((Array u64 5) .written)))), l₂₄) ∷ []
 
-    part-5·Live·12-0 : (is-4 : Is (Named-p .row) (objectsNamed (sessions) n₂ id) (Named-p .val (objectsNamed (sessions) n₂ id) ∷ [])) → (e-5 : objectsNamed (sessions) n₂ id ≡ Named-Live) → (good-5 : Is (Named-p .row) Named-Live (Named-p .val Named-Live ∷ [])) → (is-5·Live·1 : Is (u64-p .row) (firstObject id) (u64-p .val (firstObject id) ∷ [])) → (is-5·Live·2 : Is (u64-p .row) (firstObject id + 32) (u64-p .val (firstObject id + 32) ∷ [])) → (is-5·Live·5 : Is (u64-p .row) (usedOf (sessions) id) (u64-p .val (usedOf (sessions) id) ∷ [])) → (fits-5·Live·6 : (firstObject id) * 12 < 2 ^ 64) → (le-5·Live·8 : (firstObject id) ≤ (firstObject id + 32)) → (fits-5·Live·8 : (firstObject id + 32) - (firstObject id) < 2 ^ 64) → (part-5·Live·11-objects : (firstObject id) + ((firstObject id + 32) - (firstObject id)) ≤ length objects) → (ppart-5·Live·11-objects : length (midOf (firstObject id) ((firstObject id + 32) - (firstObject id)) objects) ≡ ((firstObject id + 32) - (firstObject id))) → (asks-5·Live·11 : (usedOf (sessions) id) ≤ length ((midOf (firstObject id) ((firstObject id + 32) - (firstObject id)) objects))) → (len-5·Live·11-objects : length (putMid (firstObject id) ((firstObject id + 32) - (firstObject id)) objects (removedRow ((midOf (firstObject id) ((firstObject id + 32) - (firstObject id)) objects)) (usedOf (sessions) id) (objectPlace ((midOf (firstObject id) ((firstObject id + 32) - (firstObject id)) objects)) (usedOf (sessions) id) number))) ≡ n₂) → (is-5·Live·11 : Is (Found-p .row) (foundOf ((midOf (firstObject id) ((firstObject id + 32) - (firstObject id)) objects)) (objectPlace ((midOf (firstObject id) ((firstObject id + 32) - (firstObject id)) objects)) (usedOf (sessions) id) number)) (Found-p .val (foundOf ((midOf (firstObject id) ((firstObject id + 32) - (firstObject id)) objects)) (objectPlace ((midOf (firstObject id) ((firstObject id + 32) - (firstObject id)) objects)) (usedOf (sessions) id) number)) ∷ [])) → Sq W (‵ (MutSlice (named 0) κ₁ (Array u64 5) .own (at-list b₁ o₁ γ₁ sessions) (sliceVal (b₁, o₁) n₁ ∷ [])) ∷ ‵ (flft κ₁ q₁) ∷ ‵ (MutSlice (named 0) κ₂ Object-t.the-row .own (at-list b₂ o₂ γ₂ (putMid (firstObject id) ((firstObject id + 32) - (firstObject id)) objects (removedRow ((midOf (firstObject id) ((firstObject id + 32) - (firstObject id)) objects)) (usedOf (sessions) id) (objectPlace ((midOf (firstObject id) ((firstObject id + 32) - (firstObject id)) objects)) (usedOf (sessions) id) number)))) (sliceVal (b₂, o₂) n₂ ∷ [])) ∷ ‵ (flft κ₂ q₂) ∷ free 𝓤 (sliceTy (tyRef erased mut (pointee ((Array u64 5) .written)))) l₂₄ (free 𝓤 (tyRef erased mut (pointee ((Array u64 5) .written))) l₂₃ (free 𝓤 tyUnit l₂₂ (full 𝓤 (sliceTy (tyRef erased mut (pointee (Object-t.the-row .written)))) l₂₁ (sliceVal (b₂, place 12 o₂ (firstObject id)) ((firstObject id + 32) - (firstObject id))) (full 𝓤 (tyRef erased mut (pointee (Object-t.the-row .written))) l₂₀ (vptr b₂ (place 12 o₂ (firstObject id))) (full 𝓤 (tyInt w64) l₁₉ (u64-p .val ((firstObject id + 32) - (firstObject id))) (full 𝓤 tyPtr l₁₈ (vptr b₂ (place 12 o₂ (firstObject id))) (full 𝓤 (tyInt w64) l₁₇ (u64-p .val ((firstObject id) * 12)) (full 𝓤 (sliceTy (tyRef erased imm (pointee ((Array u64 5) .written)))) l₁₆ (sliceVal (b₁, o₁) n₁) (full 𝓤 (tyRef erased imm (pointee ((Array u64 5) .written))) l₁₅ (vptr b₁ o₁) (free 𝓤 Found-l.mir l₁₄ (full 𝓤 (sliceTy (tyRef erased imm (pointee ((Array u64 5) .written)))) l₁₃ (sliceVal (b₁, o₁) n₁) (full 𝓤 (tyRef erased imm (pointee ((Array u64 5) .written))) l₁₂ (vptr b₁ o₁) (free 𝓤 Refusal-l.mir l₁₁ (full 𝓤 Found-l.mir l₁₀ (Found-p .val (foundOf ((midOf (firstObject id) ((firstObject id + 32) - (firstObject id)) objects)) (objectPlace ((midOf (firstObject id) ((firstObject id + 32) - (firstObject id)) objects)) (usedOf (sessions) id) number))) (full 𝓤 (tyInt w64) l₉ (u64-p .val (usedOf (sessions) id)) (full 𝓤 (tyInt w64) l₈ (u64-p .val (firstObject id + 32)) (full 𝓤 (tyInt w64) l₇ (u64-p .val (firstObject id)) (full 𝓤 Named-l.mir l₆ (Named-p .val Named-Live) (full 𝓤 (tyInt w64) l₅ (u64-p .val n₂) (full 𝓤 ObjectNumber-l.mir l₄ (ObjectNumber-p .val number) (full 𝓤 (tyInt w8) l₃ (u8-p .val id) (full 𝓤 (sliceTy (tyRef (named 1) mut (pointee (Object-t.the-row .written)))) l₂ (sliceVal (b₂, o₂) n₂) (full 𝓤 (sliceTy (tyRef (named 0) mut (pointee ((Array u64 5) .written)))) l₁ (sliceVal (b₁, o₁) n₁) (free 𝓤 Found-l.mir l₀ ([])))))))))))))))))))))))))) (runs C Λ En (past 11 (arm-of 0 (one mir.t-5))) (anyQ (afterSeq 𝓤 H (Wp 𝓤 H C Λ En mir.t-6 (atReturn 𝓤 H En Post)) (atReturn 𝓤 H En Post))))
+    part-5·Live·12-0 : (is-4 : Is (Named-p .row) (objectsNamed (sessions) n₂ id) (Named-p .val (objectsNamed (sessions) n₂ id) ∷ [])) → (e-5 : objectsNamed (sessions) n₂ id ≡ Named-Live) → (good-5 : Is (Named-p .row) Named-Live (Named-p .val Named-Live ∷ [])) → (is-5·Live·1 : Is (u64-p .row) (firstObject id) (u64-p .val (firstObject id) ∷ [])) → (is-5·Live·2 : Is (u64-p .row) (firstObject id + 32) (u64-p .val (firstObject id + 32) ∷ [])) → (is-5·Live·5 : Is (u64-p .row) (usedOf (sessions) id) (u64-p .val (usedOf (sessions) id) ∷ [])) → (fits-5·Live·6 : (firstObject id) * 12 < 2 ^ 64) → (le-5·Live·8 : (firstObject id) ≤ (firstObject id + 32)) → (fits-5·Live·8 : (firstObject id + 32) - (firstObject id) < 2 ^ 64) → (part-5·Live·11-objects : (firstObject id) + ((firstObject id + 32) - (firstObject id)) ≤ length objects) → (ppart-5·Live·11-objects : length (midOf (firstObject id) ((firstObject id + 32) - (firstObject id)) objects) ≡ ((firstObject id + 32) - (firstObject id))) → (asks-5·Live·11 : (usedOf (sessions) id) ≤ length ((midOf (firstObject id) ((firstObject id + 32) - (firstObject id)) objects))) → (len-5·Live·11-objects : length (putMid (firstObject id) ((firstObject id + 32) - (firstObject id)) objects (removedRow ((midOf (firstObject id) ((firstObject id + 32) - (firstObject id)) objects)) (usedOf (sessions) id) (objectPlace ((midOf (firstObject id) ((firstObject id + 32) - (firstObject id)) objects)) (usedOf (sessions) id) number))) ≡ n₂) → (is-5·Live·11 : Is (Taken-p .row) (takenOf ((midOf (firstObject id) ((firstObject id + 32) - (firstObject id)) objects)) (usedOf (sessions) id) (objectPlace ((midOf (firstObject id) ((firstObject id + 32) - (firstObject id)) objects)) (usedOf (sessions) id) number)) (Taken-p .val (takenOf ((midOf (firstObject id) ((firstObject id + 32) - (firstObject id)) objects)) (usedOf (sessions) id) (objectPlace ((midOf (firstObject id) ((firstObject id + 32) - (firstObject id)) objects)) (usedOf (sessions) id) number)) ∷ [])) → Sq W (‵ (MutSlice (named 0) κ₁ (Array u64 5) .own (at-list b₁ o₁ γ₁ sessions) (sliceVal (b₁, o₁) n₁ ∷ [])) ∷ ‵ (flft κ₁ q₁) ∷ ‵ (MutSlice (named 0) κ₂ Object-t.the-row .own (at-list b₂ o₂ γ₂ (putMid (firstObject id) ((firstObject id + 32) - (firstObject id)) objects (removedRow ((midOf (firstObject id) ((firstObject id + 32) - (firstObject id)) objects)) (usedOf (sessions) id) (objectPlace ((midOf (firstObject id) ((firstObject id + 32) - (firstObject id)) objects)) (usedOf (sessions) id) number)))) (sliceVal (b₂, o₂) n₂ ∷ [])) ∷ ‵ (flft κ₂ q₂) ∷ free 𝓤 (sliceTy (tyRef erased mut (pointee ((Array u64 5) .written)))) l₂₄ (free 𝓤 (tyRef erased mut (pointee ((Array u64 5) .written))) l₂₃ (free 𝓤 tyUnit l₂₂ (full 𝓤 (sliceTy (tyRef erased mut (pointee (Object-t.the-row .written)))) l₂₁ (sliceVal (b₂, place 12 o₂ (firstObject id)) ((firstObject id + 32) - (firstObject id))) (full 𝓤 (tyRef erased mut (pointee (Object-t.the-row .written))) l₂₀ (vptr b₂ (place 12 o₂ (firstObject id))) (full 𝓤 (tyInt w64) l₁₉ (u64-p .val ((firstObject id + 32) - (firstObject id))) (full 𝓤 tyPtr l₁₈ (vptr b₂ (place 12 o₂ (firstObject id))) (full 𝓤 (tyInt w64) l₁₇ (u64-p .val ((firstObject id) * 12)) (full 𝓤 (sliceTy (tyRef erased imm (pointee ((Array u64 5) .written)))) l₁₆ (sliceVal (b₁, o₁) n₁) (full 𝓤 (tyRef erased imm (pointee ((Array u64 5) .written))) l₁₅ (vptr b₁ o₁) (free 𝓤 Taken-l.mir l₁₄ (full 𝓤 (sliceTy (tyRef erased imm (pointee ((Array u64 5) .written)))) l₁₃ (sliceVal (b₁, o₁) n₁) (full 𝓤 (tyRef erased imm (pointee ((Array u64 5) .written))) l₁₂ (vptr b₁ o₁) (free 𝓤 Refusal-l.mir l₁₁ (full 𝓤 Taken-l.mir l₁₀ (Taken-p .val (takenOf ((midOf (firstObject id) ((firstObject id + 32) - (firstObject id)) objects)) (usedOf (sessions) id) (objectPlace ((midOf (firstObject id) ((firstObject id + 32) - (firstObject id)) objects)) (usedOf (sessions) id) number))) (full 𝓤 (tyInt w64) l₉ (u64-p .val (usedOf (sessions) id)) (full 𝓤 (tyInt w64) l₈ (u64-p .val (firstObject id + 32)) (full 𝓤 (tyInt w64) l₇ (u64-p .val (firstObject id)) (full 𝓤 Named-l.mir l₆ (Named-p .val Named-Live) (full 𝓤 (tyInt w64) l₅ (u64-p .val n₂) (full 𝓤 ObjectNumber-l.mir l₄ (ObjectNumber-p .val number) (full 𝓤 (tyInt w8) l₃ (u8-p .val id) (full 𝓤 (sliceTy (tyRef (named 1) mut (pointee (Object-t.the-row .written)))) l₂ (sliceVal (b₂, o₂) n₂) (full 𝓤 (sliceTy (tyRef (named 0) mut (pointee ((Array u64 5) .written)))) l₁ (sliceVal (b₁, o₁) n₁) (free 𝓤 Taken-l.mir l₀ ([])))))))))))))))))))))))))) (runs C Λ En (past 11 (arm-of 0 (one mir.t-5))) (anyQ (afterSeq 𝓤 H (Wp 𝓤 H C Λ En mir.t-6 (atReturn 𝓤 H En Post)) (atReturn 𝓤 H En Post))))
     part-5·Live·12-0 is-4 e-5 good-5 is-5·Live·1 is-5·Live·2 is-5·Live·5 fits-5·Live·6 le-5·Live·8 fits-5·Live·8 part-5·Live·11-objects ppart-5·Live·11-objects asks-5·Live·11 len-5·Live·11-objects is-5·Live·11 =
         assigns ! (addr ! (from ! (fld ! refl (hop ! (look-in ! 50 (sub ! 0 refl (whole !))) (stop !))))) (from ! (stop !)) (init ! 6 refl (tt, tt)) $
         assigns ! (agg ! (and-then ! (load ! (from ! (stop !)) (look ! 6 refl)) (and-then ! (load ! (from ! (fld ! refl (stop !))) (look-in ! 50 (sub ! 1 refl (whole !)))) (no-more !)))) (from ! (stop !)) (init ! 4 refl (tt, (tt, (record { fits = room₁ .0 }, tt)))) $
@@ -194,22 +196,22 @@ module _ {M : Type 1} (𝓤 : URA M) (H : Heap 𝓤) (A : Atoms 𝓤) (W : Given
         lends-mut ! tt (Array u64 5) b₁ o₁ sessions n₁ (refl) (λ ν-5·Live·14-sessions δ-5·Live·14-sessions.
         nothing ! $ move ! (1 ∷ 0 ∷ []) $ join ! $
         use1 W (raw (toks 𝓤 A 1 (((ν-5·Live·14-sessions ∷ []), tt)) ((fullShare, tt)))) (id⊢ 𝓤 _) $ nothing ! $
-        owned ! (Found-p .row) (Is (Found-p .row)) (Found-p .makes 𝓤 H A W) (foundOf ((midOf (firstObject id) ((firstObject id + 32) - (firstObject id)) objects)) (objectPlace ((midOf (firstObject id) ((firstObject id + 32) - (firstObject id)) objects)) (usedOf (sessions) id) number)) (Found-p .val (foundOf ((midOf (firstObject id) ((firstObject id + 32) - (firstObject id)) objects)) (objectPlace ((midOf (firstObject id) ((firstObject id + 32) - (firstObject id)) objects)) (usedOf (sessions) id) number)) ∷ []) is-5·Live·11 $ fjoin ! $
+        owned ! (Taken-p .row) (Is (Taken-p .row)) (Taken-p .makes 𝓤 H A W) (takenOf ((midOf (firstObject id) ((firstObject id + 32) - (firstObject id)) objects)) (usedOf (sessions) id) (objectPlace ((midOf (firstObject id) ((firstObject id + 32) - (firstObject id)) objects)) (usedOf (sessions) id) number)) (Taken-p .val (takenOf ((midOf (firstObject id) ((firstObject id + 32) - (firstObject id)) objects)) (usedOf (sessions) id) (objectPlace ((midOf (firstObject id) ((firstObject id + 32) - (firstObject id)) objects)) (usedOf (sessions) id) number)) ∷ []) is-5·Live·11 $ fjoin ! $
         owned ! (u8-p .row) (Is (u8-p .row)) (u8-p .makes 𝓤 H A W) id (u8-p .val id ∷ []) id-is $ fjoin ! $ move ! (2 ∷ 0 ∷ []) $ fjoin ! $ move ! (1 ∷ 0 ∷ []) $
-        calls-any ! fm 1 [] (session-objects-keep-removed.signature .params) (session-objects-keep-removed.ended .kept) unit-p (session-objects-keep-removed.clauses 𝓤 H A mem run) known-session-objects-keep-removed ((ν-5·Live·14-sessions ∷ []), tt) (fullShare, tt) tt (at-list b₁ o₁ δ-5·Live·14-sessions sessions, (id, (foundOf ((midOf (firstObject id) ((firstObject id + 32) - (firstObject id)) objects)) (objectPlace ((midOf (firstObject id) ((firstObject id + 32) - (firstObject id)) objects)) (usedOf (sessions) id) number), tt))) (sliceVal (b₁, o₁) n₁ ∷ [], (u8-p .val id ∷ [], (Found-p .val (foundOf ((midOf (firstObject id) ((firstObject id + 32) - (firstObject id)) objects)) (objectPlace ((midOf (firstObject id) ((firstObject id + 32) - (firstObject id)) objects)) (usedOf (sessions) id) number)) ∷ [], tt))) tt tt (λ ws-5·Live·14. (ws-5·Live·14 .0 ≡ keepRemoved (sessions) id (foundOf ((midOf (firstObject id) ((firstObject id + 32) - (firstObject id)) objects)) (objectPlace ((midOf (firstObject id) ((firstObject id + 32) - (firstObject id)) objects)) (usedOf (sessions) id) number)))) (id⊢ 𝓤 _) (λ r ws-5·Live·14. fact-mono 𝓤 ((ws-5·Live·14 .0) ≡ keepRemoved (sessions) id (foundOf ((midOf (firstObject id) ((firstObject id + 32) - (firstObject id)) objects)) (objectPlace ((midOf (firstObject id) ((firstObject id + 32) - (firstObject id)) objects)) (usedOf (sessions) id) number))) ((r ≡ tt) × ((ws-5·Live·14 .0 ≡ keepRemoved (sessions) id (foundOf ((midOf (firstObject id) ((firstObject id + 32) - (firstObject id)) objects)) (objectPlace ((midOf (firstObject id) ((firstObject id + 32) - (firstObject id)) objects)) (usedOf (sessions) id) number))))) (λ e. (refl, e))) (λ _. (and-then ! (load ! (from ! (stop !)) (look ! 4 refl)) (and-then ! (load ! (from ! (stop !)) (look ! 46 refl)) (and-then ! (load ! (from ! (stop !)) (look ! 32 refl)) (no-more !))))) (λ ws-5·Live·14 said-5·Live·14 is-5·Live·14.
+        calls-any ! fm 1 [] (session-objects-keep-removed.signature .params) (session-objects-keep-removed.ended .kept) unit-p (session-objects-keep-removed.clauses 𝓤 H A mem run) known-session-objects-keep-removed ((ν-5·Live·14-sessions ∷ []), tt) (fullShare, tt) tt (at-list b₁ o₁ δ-5·Live·14-sessions sessions, (id, (takenOf ((midOf (firstObject id) ((firstObject id + 32) - (firstObject id)) objects)) (usedOf (sessions) id) (objectPlace ((midOf (firstObject id) ((firstObject id + 32) - (firstObject id)) objects)) (usedOf (sessions) id) number), tt))) (sliceVal (b₁, o₁) n₁ ∷ [], (u8-p .val id ∷ [], (Taken-p .val (takenOf ((midOf (firstObject id) ((firstObject id + 32) - (firstObject id)) objects)) (usedOf (sessions) id) (objectPlace ((midOf (firstObject id) ((firstObject id + 32) - (firstObject id)) objects)) (usedOf (sessions) id) number)) ∷ [], tt))) tt tt (λ ws-5·Live·14. (ws-5·Live·14 .0 ≡ keepRemoved (sessions) id (takenOf ((midOf (firstObject id) ((firstObject id + 32) - (firstObject id)) objects)) (usedOf (sessions) id) (objectPlace ((midOf (firstObject id) ((firstObject id + 32) - (firstObject id)) objects)) (usedOf (sessions) id) number)))) (id⊢ 𝓤 _) (λ r ws-5·Live·14. fact-mono 𝓤 ((ws-5·Live·14 .0) ≡ keepRemoved (sessions) id (takenOf ((midOf (firstObject id) ((firstObject id + 32) - (firstObject id)) objects)) (usedOf (sessions) id) (objectPlace ((midOf (firstObject id) ((firstObject id + 32) - (firstObject id)) objects)) (usedOf (sessions) id) number))) ((r ≡ tt) × ((ws-5·Live·14 .0 ≡ keepRemoved (sessions) id (takenOf ((midOf (firstObject id) ((firstObject id + 32) - (firstObject id)) objects)) (usedOf (sessions) id) (objectPlace ((midOf (firstObject id) ((firstObject id + 32) - (firstObject id)) objects)) (usedOf (sessions) id) number))))) (λ e. (refl, e))) (λ _. (and-then ! (load ! (from ! (stop !)) (look ! 4 refl)) (and-then ! (load ! (from ! (stop !)) (look ! 46 refl)) (and-then ! (load ! (from ! (stop !)) (look ! 32 refl)) (no-more !))))) (λ ws-5·Live·14 said-5·Live·14 is-5·Live·14.
         use1 W ((‵ (flft (ν-5·Live·14-sessions ∷ []) fullShare) ⊛ ‵ ftrue)) (id⊢ 𝓤 _) $ split ! $ move ! (2 ∷ []) $ fsplit ! $ fsplit ! $ move ! (1 ∷ []) $
         feqL ! (λ wlen-5·Live·14-0.
         move ! (2 ∷ 4 ∷ 0 ∷ []) $
-        backs-mut ! tt (Array u64 5) b₁ o₁ sessions n₁ (refl) room₁ ν-5·Live·14-sessions δ-5·Live·14-sessions (ws-5·Live·14 .0) (keepRemoved (sessions) id (foundOf ((midOf (firstObject id) ((firstObject id + 32) - (firstObject id)) objects)) (objectPlace ((midOf (firstObject id) ((firstObject id + 32) - (firstObject id)) objects)) (usedOf (sessions) id) number))) wlen-5·Live·14-0 (said-5·Live·14) (λ len-5·Live·14-sessions.
+        backs-mut ! tt (Array u64 5) b₁ o₁ sessions n₁ (refl) room₁ ν-5·Live·14-sessions δ-5·Live·14-sessions (ws-5·Live·14 .0) (keepRemoved (sessions) id (takenOf ((midOf (firstObject id) ((firstObject id + 32) - (firstObject id)) objects)) (usedOf (sessions) id) (objectPlace ((midOf (firstObject id) ((firstObject id + 32) - (firstObject id)) objects)) (usedOf (sessions) id) number))) wlen-5·Live·14-0 (said-5·Live·14) (λ len-5·Live·14-sessions.
         move ! (2 ∷ []) $ drop ! $ move ! (2 ∷ []) $ drop ! $
         land ! (from ! (stop !)) (init ! 8 refl (unit-p .typed 𝓤 H A W tt is-5·Live·14)) $
-        assigns-last ! (of-opd ! (load ! (from ! (stop !)) (look ! 32 refl))) (from ! (stop !)) (init ! 24 refl (Found-p .typed 𝓤 H A W (foundOf ((midOf (firstObject id) ((firstObject id + 32) - (firstObject id)) objects)) (objectPlace ((midOf (firstObject id) ((firstObject id + 32) - (firstObject id)) objects)) (usedOf (sessions) id) number)) is-5·Live·11)) $
+        assigns-last ! (of-opd ! (load ! (from ! (stop !)) (look ! 32 refl))) (from ! (stop !)) (init ! 24 refl (Taken-p .typed 𝓤 H A W (takenOf ((midOf (firstObject id) ((firstObject id + 32) - (firstObject id)) objects)) (usedOf (sessions) id) (objectPlace ((midOf (firstObject id) ((firstObject id + 32) - (firstObject id)) objects)) (usedOf (sessions) id) number)) is-5·Live·11)) $
         exec ! C Λ En mir.t-6 (atRet En Post) $
-        assigns ! (of-opd ! (load ! (from ! (stop !)) (look ! 24 refl))) (from ! (stop !)) (init ! 52 refl (Found-p .typed 𝓤 H A W (foundOf ((midOf (firstObject id) ((firstObject id + 32) - (firstObject id)) objects)) (objectPlace ((midOf (firstObject id) ((firstObject id + 32) - (firstObject id)) objects)) (usedOf (sessions) id) number)) is-5·Live·11)) $
+        assigns ! (of-opd ! (load ! (from ! (stop !)) (look ! 24 refl))) (from ! (stop !)) (init ! 52 refl (Taken-p .typed 𝓤 H A W (takenOf ((midOf (firstObject id) ((firstObject id + 32) - (firstObject id)) objects)) (usedOf (sessions) id) (objectPlace ((midOf (firstObject id) ((firstObject id + 32) - (firstObject id)) objects)) (usedOf (sessions) id) number)) is-5·Live·11)) $
         returns ! (look ! 52 refl) $ forget ! 4 refl $ forget ! 6 refl $ forget ! 8 refl $ forget ! 10 refl $ forget ! 12 refl $ forget ! 14 refl $ forget ! 16 refl $ forget ! 18 refl $ forget ! 20 refl $ forget ! 22 refl $ forget ! 24 refl $ forget ! 26 refl $ forget ! 28 refl $ forget ! 32 refl $ forget ! 34 refl $ forget ! 36 refl $ forget ! 38 refl $ forget ! 40 refl $ forget ! 42 refl $ forget ! 44 refl $ forget ! 46 refl $ forget ! 48 refl $ forget ! 50 refl $ forget ! 52 refl $ move ! (52 ∷ 53 ∷ []) $ free1 ! $ move ! (50 ∷ 51 ∷ []) $ free1 ! $ move ! (48 ∷ 49 ∷ []) $ free1 ! $ move ! (46 ∷ 47 ∷ []) $ free1 ! $ move ! (44 ∷ 45 ∷ []) $ free1 ! $ move ! (42 ∷ 43 ∷ []) $ free1 ! $ move ! (40 ∷ 41 ∷ []) $ free1 ! $ move ! (38 ∷ 39 ∷ []) $ free1 ! $ move ! (36 ∷ 37 ∷ []) $ free1 ! $ move ! (34 ∷ 35 ∷ []) $ free1 ! $ move ! (32 ∷ 33 ∷ []) $ free1 ! $ move ! (30 ∷ 31 ∷ []) $ free1 ! $ move ! (28 ∷ 29 ∷ []) $ free1 ! $ move ! (26 ∷ 27 ∷ []) $ free1 ! $ move ! (24 ∷ 25 ∷ []) $ free1 ! $ move ! (22 ∷ 23 ∷ []) $ free1 ! $ move ! (20 ∷ 21 ∷ []) $ free1 ! $ move ! (18 ∷ 19 ∷ []) $ free1 ! $ move ! (16 ∷ 17 ∷ []) $ free1 ! $ move ! (14 ∷ 15 ∷ []) $ free1 ! $ move ! (12 ∷ 13 ∷ []) $ free1 ! $ move ! (10 ∷ 11 ∷ []) $ free1 ! $ move ! (8 ∷ 9 ∷ []) $ free1 ! $ move ! (6 ∷ 7 ∷ []) $ free1 ! $ move ! (4 ∷ 5 ∷ []) $ free1 ! $ free0 ! $
-        by ! (exits (foundOf ((midOf (firstObject id) ((firstObject id + 32) - (firstObject id)) objects)) (objectPlace ((midOf (firstObject id) ((firstObject id + 32) - (firstObject id)) objects)) (usedOf (sessions) id) number)) (keepRemoved (sessions) id (foundOf ((midOf (firstObject id) ((firstObject id + 32) - (firstObject id)) objects)) (objectPlace ((midOf (firstObject id) ((firstObject id + 32) - (firstObject id)) objects)) (usedOf (sessions) id) number))) (putMid (firstObject id) ((firstObject id + 32) - (firstObject id)) objects (removedRow ((midOf (firstObject id) ((firstObject id + 32) - (firstObject id)) objects)) (usedOf (sessions) id) (objectPlace ((midOf (firstObject id) ((firstObject id + 32) - (firstObject id)) objects)) (usedOf (sessions) id) number))) ((found-lent sessions objects id number e-5, refl, removed-lent sessions objects id number e-5)) is-5·Live·11 len-5·Live·14-sessions len-5·Live·11-objects)))))
+        by ! (exits (takenOf ((midOf (firstObject id) ((firstObject id + 32) - (firstObject id)) objects)) (usedOf (sessions) id) (objectPlace ((midOf (firstObject id) ((firstObject id + 32) - (firstObject id)) objects)) (usedOf (sessions) id) number)) (keepRemoved (sessions) id (takenOf ((midOf (firstObject id) ((firstObject id + 32) - (firstObject id)) objects)) (usedOf (sessions) id) (objectPlace ((midOf (firstObject id) ((firstObject id + 32) - (firstObject id)) objects)) (usedOf (sessions) id) number))) (putMid (firstObject id) ((firstObject id + 32) - (firstObject id)) objects (removedRow ((midOf (firstObject id) ((firstObject id + 32) - (firstObject id)) objects)) (usedOf (sessions) id) (objectPlace ((midOf (firstObject id) ((firstObject id + 32) - (firstObject id)) objects)) (usedOf (sessions) id) number))) ((taken-lent sessions objects id number e-5, refl, removed-lent sessions objects id number e-5)) is-5·Live·11 len-5·Live·14-sessions len-5·Live·11-objects)))))
 
-    matched-5-0 : (is-4 : Is (Named-p .row) (objectsNamed (sessions) n₂ id) (Named-p .val (objectsNamed (sessions) n₂ id) ∷ [])) → (z : Named) → (objectsNamed (sessions) n₂ id) ≡ z → Is (Named-p .row) z (Named-p .val z ∷ []) → Sq W (‵ (MutSlice (named 0) κ₁ (Array u64 5) .own (at-list b₁ o₁ γ₁ sessions) (sliceVal (b₁, o₁) n₁ ∷ [])) ∷ ‵ (flft κ₁ q₁) ∷ ‵ (MutSlice (named 0) κ₂ Object-t.the-row .own (at-list b₂ o₂ γ₂ objects) (sliceVal (b₂, o₂) n₂ ∷ [])) ∷ ‵ (flft κ₂ q₂) ∷ free 𝓤 (sliceTy (tyRef erased mut (pointee ((Array u64 5) .written)))) l₂₄ (free 𝓤 (tyRef erased mut (pointee ((Array u64 5) .written))) l₂₃ (free 𝓤 tyUnit l₂₂ (free 𝓤 (sliceTy (tyRef erased mut (pointee (Object-t.the-row .written)))) l₂₁ (free 𝓤 (tyRef erased mut (pointee (Object-t.the-row .written))) l₂₀ (free 𝓤 (tyInt w64) l₁₉ (free 𝓤 tyPtr l₁₈ (free 𝓤 (tyInt w64) l₁₇ (free 𝓤 (sliceTy (tyRef erased imm (pointee ((Array u64 5) .written)))) l₁₆ (free 𝓤 (tyRef erased imm (pointee ((Array u64 5) .written))) l₁₅ (free 𝓤 Found-l.mir l₁₄ (full 𝓤 (sliceTy (tyRef erased imm (pointee ((Array u64 5) .written)))) l₁₃ (sliceVal (b₁, o₁) n₁) (full 𝓤 (tyRef erased imm (pointee ((Array u64 5) .written))) l₁₂ (vptr b₁ o₁) (free 𝓤 Refusal-l.mir l₁₁ (free 𝓤 Found-l.mir l₁₀ (free 𝓤 (tyInt w64) l₉ (free 𝓤 (tyInt w64) l₈ (free 𝓤 (tyInt w64) l₇ (full 𝓤 Named-l.mir l₆ (Named-p .val z) (full 𝓤 (tyInt w64) l₅ (u64-p .val n₂) (full 𝓤 ObjectNumber-l.mir l₄ (ObjectNumber-p .val number) (full 𝓤 (tyInt w8) l₃ (u8-p .val id) (full 𝓤 (sliceTy (tyRef (named 1) mut (pointee (Object-t.the-row .written)))) l₂ (sliceVal (b₂, o₂) n₂) (full 𝓤 (sliceTy (tyRef (named 0) mut (pointee ((Array u64 5) .written)))) l₁ (sliceVal (b₁, o₁) n₁) (free 𝓤 Found-l.mir l₀ ([])))))))))))))))))))))))))) (runs C Λ En (one mir.t-5) (anyQ (afterSeq 𝓤 H (Wp 𝓤 H C Λ En mir.t-6 (atReturn 𝓤 H En Post)) (atReturn 𝓤 H En Post))))
+    matched-5-0 : (is-4 : Is (Named-p .row) (objectsNamed (sessions) n₂ id) (Named-p .val (objectsNamed (sessions) n₂ id) ∷ [])) → (z : Named) → (objectsNamed (sessions) n₂ id) ≡ z → Is (Named-p .row) z (Named-p .val z ∷ []) → Sq W (‵ (MutSlice (named 0) κ₁ (Array u64 5) .own (at-list b₁ o₁ γ₁ sessions) (sliceVal (b₁, o₁) n₁ ∷ [])) ∷ ‵ (flft κ₁ q₁) ∷ ‵ (MutSlice (named 0) κ₂ Object-t.the-row .own (at-list b₂ o₂ γ₂ objects) (sliceVal (b₂, o₂) n₂ ∷ [])) ∷ ‵ (flft κ₂ q₂) ∷ free 𝓤 (sliceTy (tyRef erased mut (pointee ((Array u64 5) .written)))) l₂₄ (free 𝓤 (tyRef erased mut (pointee ((Array u64 5) .written))) l₂₃ (free 𝓤 tyUnit l₂₂ (free 𝓤 (sliceTy (tyRef erased mut (pointee (Object-t.the-row .written)))) l₂₁ (free 𝓤 (tyRef erased mut (pointee (Object-t.the-row .written))) l₂₀ (free 𝓤 (tyInt w64) l₁₉ (free 𝓤 tyPtr l₁₈ (free 𝓤 (tyInt w64) l₁₇ (free 𝓤 (sliceTy (tyRef erased imm (pointee ((Array u64 5) .written)))) l₁₆ (free 𝓤 (tyRef erased imm (pointee ((Array u64 5) .written))) l₁₅ (free 𝓤 Taken-l.mir l₁₄ (full 𝓤 (sliceTy (tyRef erased imm (pointee ((Array u64 5) .written)))) l₁₃ (sliceVal (b₁, o₁) n₁) (full 𝓤 (tyRef erased imm (pointee ((Array u64 5) .written))) l₁₂ (vptr b₁ o₁) (free 𝓤 Refusal-l.mir l₁₁ (free 𝓤 Taken-l.mir l₁₀ (free 𝓤 (tyInt w64) l₉ (free 𝓤 (tyInt w64) l₈ (free 𝓤 (tyInt w64) l₇ (full 𝓤 Named-l.mir l₆ (Named-p .val z) (full 𝓤 (tyInt w64) l₅ (u64-p .val n₂) (full 𝓤 ObjectNumber-l.mir l₄ (ObjectNumber-p .val number) (full 𝓤 (tyInt w8) l₃ (u8-p .val id) (full 𝓤 (sliceTy (tyRef (named 1) mut (pointee (Object-t.the-row .written)))) l₂ (sliceVal (b₂, o₂) n₂) (full 𝓤 (sliceTy (tyRef (named 0) mut (pointee ((Array u64 5) .written)))) l₁ (sliceVal (b₁, o₁) n₁) (free 𝓤 Taken-l.mir l₀ ([])))))))))))))))))))))))))) (runs C Λ En (one mir.t-5) (anyQ (afterSeq 𝓤 H (Wp 𝓤 H C Λ En mir.t-6 (atReturn 𝓤 H En Post)) (atReturn 𝓤 H En Post))))
     matched-5-0 is-4 (Named-Live) e-5 good-5 =
         switches-on ! (load ! (from ! (vrt ! refl (fld ! refl (stop !)))) (look-tag ! 40 (whole !))) $ exec ! C Λ En (arm-of 0 (one mir.t-5)) (anyQ (afterSeq 𝓤 H (Wp 𝓤 H C Λ En mir.t-6 (atReturn 𝓤 H En Post)) (atReturn 𝓤 H En Post))) $
         -- 5.Live.1: sessions::session_objects::first
@@ -256,32 +258,32 @@ module _ {M : Type 1} (𝓤 : URA M) (H : Heap 𝓤) (A : Atoms 𝓤) (W : Given
         use1 W (raw (toks 𝓤 A 1 (((ν-5·Live·11-objects ∷ []), tt)) ((fullShare, tt)))) (id⊢ 𝓤 _) $ nothing ! $
         owned ! (ObjectNumber-p .row) (Is (ObjectNumber-p .row)) (ObjectNumber-p .makes 𝓤 H A W) number (ObjectNumber-p .val number ∷ []) number-is $ fjoin ! $
         owned ! (u64-p .row) (Is (u64-p .row)) (u64-p .makes 𝓤 H A W) (usedOf (sessions) id) (u64-p .val (usedOf (sessions) id) ∷ []) is-5·Live·5 $ fjoin ! $ move ! (2 ∷ 0 ∷ []) $ fjoin ! $ move ! (1 ∷ 0 ∷ []) $
-        calls-any ! fm 1 [] (object-rows-remove.signature .params) (object-rows-remove.ended .kept) Found-p (object-rows-remove.clauses 𝓤 H A mem run) known-object-rows-remove ((ν-5·Live·11-objects ∷ []), tt) (fullShare, tt) tt (at-list b₂ (place 12 o₂ (firstObject id)) δ-5·Live·11-objects (midOf (firstObject id) ((firstObject id + 32) - (firstObject id)) objects), (usedOf (sessions) id, (number, tt))) (sliceVal (b₂, (place 12 o₂ (firstObject id))) ((firstObject id + 32) - (firstObject id)) ∷ [], (u64-p .val (usedOf (sessions) id) ∷ [], (ObjectNumber-p .val number ∷ [], tt))) tt (foundOf ((midOf (firstObject id) ((firstObject id + 32) - (firstObject id)) objects)) (objectPlace ((midOf (firstObject id) ((firstObject id + 32) - (firstObject id)) objects)) (usedOf (sessions) id) number)) (λ ws-5·Live·11. (ws-5·Live·11 .0 ≡ removedRow ((midOf (firstObject id) ((firstObject id + 32) - (firstObject id)) objects)) (usedOf (sessions) id) (objectPlace ((midOf (firstObject id) ((firstObject id + 32) - (firstObject id)) objects)) (usedOf (sessions) id) number))) (factI 𝓤 ((usedOf (sessions) id) ≤ length ((midOf (firstObject id) ((firstObject id + 32) - (firstObject id)) objects))) _ asks-5·Live·11) (λ r ws-5·Live·11. fact-mono 𝓤 ((r ≡ foundOf ((midOf (firstObject id) ((firstObject id + 32) - (firstObject id)) objects)) (objectPlace ((midOf (firstObject id) ((firstObject id + 32) - (firstObject id)) objects)) (usedOf (sessions) id) number)) × ((ws-5·Live·11 .0) ≡ removedRow ((midOf (firstObject id) ((firstObject id + 32) - (firstObject id)) objects)) (usedOf (sessions) id) (objectPlace ((midOf (firstObject id) ((firstObject id + 32) - (firstObject id)) objects)) (usedOf (sessions) id) number))) ((r ≡ (foundOf ((midOf (firstObject id) ((firstObject id + 32) - (firstObject id)) objects)) (objectPlace ((midOf (firstObject id) ((firstObject id + 32) - (firstObject id)) objects)) (usedOf (sessions) id) number))) × ((ws-5·Live·11 .0 ≡ removedRow ((midOf (firstObject id) ((firstObject id + 32) - (firstObject id)) objects)) (usedOf (sessions) id) (objectPlace ((midOf (firstObject id) ((firstObject id + 32) - (firstObject id)) objects)) (usedOf (sessions) id) number)))) (λ e. (e .0, e .1))) (λ _. (and-then ! (load ! (from ! (stop !)) (look ! 10 refl)) (and-then ! (load ! (from ! (stop !)) (look ! 34 refl)) (and-then ! (load ! (from ! (stop !)) (look ! 44 refl)) (no-more !))))) (λ ws-5·Live·11 said-5·Live·11 is-5·Live·11.
+        calls-any ! fm 1 [] (object-rows-remove.signature .params) (object-rows-remove.ended .kept) Taken-p (object-rows-remove.clauses 𝓤 H A mem run) known-object-rows-remove ((ν-5·Live·11-objects ∷ []), tt) (fullShare, tt) tt (at-list b₂ (place 12 o₂ (firstObject id)) δ-5·Live·11-objects (midOf (firstObject id) ((firstObject id + 32) - (firstObject id)) objects), (usedOf (sessions) id, (number, tt))) (sliceVal (b₂, (place 12 o₂ (firstObject id))) ((firstObject id + 32) - (firstObject id)) ∷ [], (u64-p .val (usedOf (sessions) id) ∷ [], (ObjectNumber-p .val number ∷ [], tt))) tt (takenOf ((midOf (firstObject id) ((firstObject id + 32) - (firstObject id)) objects)) (usedOf (sessions) id) (objectPlace ((midOf (firstObject id) ((firstObject id + 32) - (firstObject id)) objects)) (usedOf (sessions) id) number)) (λ ws-5·Live·11. (ws-5·Live·11 .0 ≡ removedRow ((midOf (firstObject id) ((firstObject id + 32) - (firstObject id)) objects)) (usedOf (sessions) id) (objectPlace ((midOf (firstObject id) ((firstObject id + 32) - (firstObject id)) objects)) (usedOf (sessions) id) number))) (factI 𝓤 ((usedOf (sessions) id) ≤ length ((midOf (firstObject id) ((firstObject id + 32) - (firstObject id)) objects))) _ asks-5·Live·11) (λ r ws-5·Live·11. fact-mono 𝓤 ((r ≡ takenOf ((midOf (firstObject id) ((firstObject id + 32) - (firstObject id)) objects)) (usedOf (sessions) id) (objectPlace ((midOf (firstObject id) ((firstObject id + 32) - (firstObject id)) objects)) (usedOf (sessions) id) number)) × ((ws-5·Live·11 .0) ≡ removedRow ((midOf (firstObject id) ((firstObject id + 32) - (firstObject id)) objects)) (usedOf (sessions) id) (objectPlace ((midOf (firstObject id) ((firstObject id + 32) - (firstObject id)) objects)) (usedOf (sessions) id) number))) ((r ≡ (takenOf ((midOf (firstObject id) ((firstObject id + 32) - (firstObject id)) objects)) (usedOf (sessions) id) (objectPlace ((midOf (firstObject id) ((firstObject id + 32) - (firstObject id)) objects)) (usedOf (sessions) id) number))) × ((ws-5·Live·11 .0 ≡ removedRow ((midOf (firstObject id) ((firstObject id + 32) - (firstObject id)) objects)) (usedOf (sessions) id) (objectPlace ((midOf (firstObject id) ((firstObject id + 32) - (firstObject id)) objects)) (usedOf (sessions) id) number)))) (λ e. (e .0, e .1))) (λ _. (and-then ! (load ! (from ! (stop !)) (look ! 10 refl)) (and-then ! (load ! (from ! (stop !)) (look ! 34 refl)) (and-then ! (load ! (from ! (stop !)) (look ! 44 refl)) (no-more !))))) (λ ws-5·Live·11 said-5·Live·11 is-5·Live·11.
         use1 W ((‵ (flft (ν-5·Live·11-objects ∷ []) fullShare) ⊛ ‵ ftrue)) (id⊢ 𝓤 _) $ split ! $ move ! (2 ∷ []) $ fsplit ! $ fsplit ! $ move ! (1 ∷ []) $
         feqL ! (λ wlen-5·Live·11-0.
         move ! (2 ∷ 4 ∷ 0 ∷ []) $
         backs-part ! tt Object-t.the-row b₂ o₂ objects n₂ (refl) (firstObject id) ((firstObject id + 32) - (firstObject id)) ν-5·Live·11-objects δ-5·Live·11-objects (ws-5·Live·11 .0) (removedRow ((midOf (firstObject id) ((firstObject id + 32) - (firstObject id)) objects)) (usedOf (sessions) id) (objectPlace ((midOf (firstObject id) ((firstObject id + 32) - (firstObject id)) objects)) (usedOf (sessions) id) number)) (said-5·Live·11) (λ len-5·Live·11-objects.
         move ! (2 ∷ []) $ drop ! $ move ! (2 ∷ []) $ drop ! $
-        land ! (from ! (stop !)) (init ! 32 refl (Found-p .typed 𝓤 H A W (foundOf ((midOf (firstObject id) ((firstObject id + 32) - (firstObject id)) objects)) (objectPlace ((midOf (firstObject id) ((firstObject id + 32) - (firstObject id)) objects)) (usedOf (sessions) id) number)) is-5·Live·11)) $ move ! (2 ∷ 3 ∷ 0 ∷ 1 ∷ 4 ∷ 5 ∷ 6 ∷ 7 ∷ 8 ∷ 9 ∷ 10 ∷ 11 ∷ 12 ∷ 13 ∷ 14 ∷ 15 ∷ 16 ∷ 17 ∷ 18 ∷ 19 ∷ 20 ∷ 21 ∷ 22 ∷ 23 ∷ 24 ∷ 25 ∷ 26 ∷ 27 ∷ 28 ∷ 29 ∷ 30 ∷ 31 ∷ 32 ∷ 33 ∷ 34 ∷ 35 ∷ 36 ∷ 37 ∷ 38 ∷ 39 ∷ 40 ∷ 41 ∷ 42 ∷ 43 ∷ 44 ∷ 45 ∷ 46 ∷ 47 ∷ 48 ∷ 49 ∷ 50 ∷ 51 ∷ 52 ∷ 53 ∷ []) $
+        land ! (from ! (stop !)) (init ! 32 refl (Taken-p .typed 𝓤 H A W (takenOf ((midOf (firstObject id) ((firstObject id + 32) - (firstObject id)) objects)) (usedOf (sessions) id) (objectPlace ((midOf (firstObject id) ((firstObject id + 32) - (firstObject id)) objects)) (usedOf (sessions) id) number)) is-5·Live·11)) $ move ! (2 ∷ 3 ∷ 0 ∷ 1 ∷ 4 ∷ 5 ∷ 6 ∷ 7 ∷ 8 ∷ 9 ∷ 10 ∷ 11 ∷ 12 ∷ 13 ∷ 14 ∷ 15 ∷ 16 ∷ 17 ∷ 18 ∷ 19 ∷ 20 ∷ 21 ∷ 22 ∷ 23 ∷ 24 ∷ 25 ∷ 26 ∷ 27 ∷ 28 ∷ 29 ∷ 30 ∷ 31 ∷ 32 ∷ 33 ∷ 34 ∷ 35 ∷ 36 ∷ 37 ∷ 38 ∷ 39 ∷ 40 ∷ 41 ∷ 42 ∷ 43 ∷ 44 ∷ 45 ∷ 46 ∷ 47 ∷ 48 ∷ 49 ∷ 50 ∷ 51 ∷ 52 ∷ 53 ∷ []) $
         part-5·Live·12-0 is-4 e-5 good-5 is-5·Live·1 is-5·Live·2 is-5·Live·5 fits-5·Live·6 le-5·Live·8 fits-5·Live·8 part-5·Live·11-objects ppart-5·Live·11-objects asks-5·Live·11 len-5·Live·11-objects is-5·Live·11))))))))))))))
     matched-5-0 is-4 (Named-NotLive) e-5 good-5 =
         switches-on ! (load ! (from ! (vrt ! refl (fld ! refl (stop !)))) (look-tag ! 40 (whole !))) $ exec ! C Λ En (arm-of 1 (one mir.t-5)) (anyQ (afterSeq 𝓤 H (Wp 𝓤 H C Λ En mir.t-6 (atReturn 𝓤 H En Post)) (atReturn 𝓤 H En Post))) $
-        assigns-last ! (agg ! (and-then ! (lit ! tt) (no-more !))) (from ! (stop !)) (init ! 24 refl (Found-p .typed 𝓤 H A W Found-Nothing (EL.owes Found-t.the-type Found-l.the-laws Found-Nothing tt))) $
+        assigns-last ! (agg ! (and-then ! (lit ! tt) (no-more !))) (from ! (stop !)) (init ! 24 refl (Taken-p .typed 𝓤 H A W Taken-Nothing (EL.owes Taken-t.the-type Taken-l.the-laws Taken-Nothing tt))) $
         exec ! C Λ En mir.t-6 (atRet En Post) $
-        assigns ! (of-opd ! (load ! (from ! (stop !)) (look ! 24 refl))) (from ! (stop !)) (init ! 52 refl (Found-p .typed 𝓤 H A W Found-Nothing (EL.owes Found-t.the-type Found-l.the-laws Found-Nothing tt))) $
+        assigns ! (of-opd ! (load ! (from ! (stop !)) (look ! 24 refl))) (from ! (stop !)) (init ! 52 refl (Taken-p .typed 𝓤 H A W Taken-Nothing (EL.owes Taken-t.the-type Taken-l.the-laws Taken-Nothing tt))) $
         returns ! (look ! 52 refl) $ forget ! 24 refl $ forget ! 26 refl $ forget ! 28 refl $ forget ! 40 refl $ forget ! 42 refl $ forget ! 44 refl $ forget ! 46 refl $ forget ! 48 refl $ forget ! 50 refl $ forget ! 52 refl $ move ! (52 ∷ 53 ∷ []) $ free1 ! $ move ! (50 ∷ 51 ∷ []) $ free1 ! $ move ! (48 ∷ 49 ∷ []) $ free1 ! $ move ! (46 ∷ 47 ∷ []) $ free1 ! $ move ! (44 ∷ 45 ∷ []) $ free1 ! $ move ! (42 ∷ 43 ∷ []) $ free1 ! $ move ! (40 ∷ 41 ∷ []) $ free1 ! $ move ! (38 ∷ 39 ∷ []) $ free1 ! $ move ! (36 ∷ 37 ∷ []) $ free1 ! $ move ! (34 ∷ 35 ∷ []) $ free1 ! $ move ! (32 ∷ 33 ∷ []) $ free1 ! $ move ! (30 ∷ 31 ∷ []) $ free1 ! $ move ! (28 ∷ 29 ∷ []) $ free1 ! $ move ! (26 ∷ 27 ∷ []) $ free1 ! $ move ! (24 ∷ 25 ∷ []) $ free1 ! $ move ! (22 ∷ 23 ∷ []) $ free1 ! $ move ! (20 ∷ 21 ∷ []) $ free1 ! $ move ! (18 ∷ 19 ∷ []) $ free1 ! $ move ! (16 ∷ 17 ∷ []) $ free1 ! $ move ! (14 ∷ 15 ∷ []) $ free1 ! $ move ! (12 ∷ 13 ∷ []) $ free1 ! $ move ! (10 ∷ 11 ∷ []) $ free1 ! $ move ! (8 ∷ 9 ∷ []) $ free1 ! $ move ! (6 ∷ 7 ∷ []) $ free1 ! $ move ! (4 ∷ 5 ∷ []) $ free1 ! $ free0 ! $
-        by ! (exits Found-Nothing sessions objects ((found-is sessions objects id number Named-NotLive e-5, refl, removed-is sessions objects id number Named-NotLive e-5)) (EL.owes Found-t.the-type Found-l.the-laws Found-Nothing tt) refl refl)
+        by ! (exits Taken-Nothing sessions objects ((taken-is sessions objects id number Named-NotLive e-5, refl, removed-is sessions objects id number Named-NotLive e-5)) (EL.owes Taken-t.the-type Taken-l.the-laws Taken-Nothing tt) refl refl)
     matched-5-0 is-4 (Named-Refused x) e-5 good-5 =
         knows ! (Is (Refusal-p .row) x (Refusal-p .val x ∷ [])) (EL.owed Named-t.the-type Named-l.the-laws (Named-Refused x) _ good-5 .0) (λ x-is.
         switches-on ! (load ! (from ! (vrt ! refl (fld ! refl (stop !)))) (look-tag ! 40 (whole !))) $ exec ! C Λ En (arm-of 2 (one mir.t-5)) (anyQ (afterSeq 𝓤 H (Wp 𝓤 H C Λ En mir.t-6 (atReturn 𝓤 H En Post)) (atReturn 𝓤 H En Post))) $
         assigns ! (of-opd ! (load ! (from ! (vrt ! refl (fld ! refl (stop !)))) (look-in ! 40 (in-variant ! 2 0 refl refl (whole !))))) (from ! (stop !)) (init ! 30 refl (Refusal-p .typed 𝓤 H A W x x-is)) $
-        assigns-last ! (agg ! (and-then ! (lit ! tt) (and-then ! (load ! (from ! (stop !)) (look ! 30 refl)) (no-more !)))) (from ! (stop !)) (init ! 24 refl (Found-p .typed 𝓤 H A W (Found-Refused x) (EL.owes Found-t.the-type Found-l.the-laws (Found-Refused x) (x-is, tt)))) $
+        assigns-last ! (agg ! (and-then ! (lit ! tt) (and-then ! (load ! (from ! (stop !)) (look ! 30 refl)) (no-more !)))) (from ! (stop !)) (init ! 24 refl (Taken-p .typed 𝓤 H A W (Taken-Refused x) (EL.owes Taken-t.the-type Taken-l.the-laws (Taken-Refused x) (x-is, tt)))) $
         exec ! C Λ En mir.t-6 (atRet En Post) $
-        assigns ! (of-opd ! (load ! (from ! (stop !)) (look ! 24 refl))) (from ! (stop !)) (init ! 52 refl (Found-p .typed 𝓤 H A W (Found-Refused x) (EL.owes Found-t.the-type Found-l.the-laws (Found-Refused x) (x-is, tt)))) $
+        assigns ! (of-opd ! (load ! (from ! (stop !)) (look ! 24 refl))) (from ! (stop !)) (init ! 52 refl (Taken-p .typed 𝓤 H A W (Taken-Refused x) (EL.owes Taken-t.the-type Taken-l.the-laws (Taken-Refused x) (x-is, tt)))) $
         returns ! (look ! 52 refl) $ forget ! 24 refl $ forget ! 26 refl $ forget ! 28 refl $ forget ! 30 refl $ forget ! 40 refl $ forget ! 42 refl $ forget ! 44 refl $ forget ! 46 refl $ forget ! 48 refl $ forget ! 50 refl $ forget ! 52 refl $ move ! (52 ∷ 53 ∷ []) $ free1 ! $ move ! (50 ∷ 51 ∷ []) $ free1 ! $ move ! (48 ∷ 49 ∷ []) $ free1 ! $ move ! (46 ∷ 47 ∷ []) $ free1 ! $ move ! (44 ∷ 45 ∷ []) $ free1 ! $ move ! (42 ∷ 43 ∷ []) $ free1 ! $ move ! (40 ∷ 41 ∷ []) $ free1 ! $ move ! (38 ∷ 39 ∷ []) $ free1 ! $ move ! (36 ∷ 37 ∷ []) $ free1 ! $ move ! (34 ∷ 35 ∷ []) $ free1 ! $ move ! (32 ∷ 33 ∷ []) $ free1 ! $ move ! (30 ∷ 31 ∷ []) $ free1 ! $ move ! (28 ∷ 29 ∷ []) $ free1 ! $ move ! (26 ∷ 27 ∷ []) $ free1 ! $ move ! (24 ∷ 25 ∷ []) $ free1 ! $ move ! (22 ∷ 23 ∷ []) $ free1 ! $ move ! (20 ∷ 21 ∷ []) $ free1 ! $ move ! (18 ∷ 19 ∷ []) $ free1 ! $ move ! (16 ∷ 17 ∷ []) $ free1 ! $ move ! (14 ∷ 15 ∷ []) $ free1 ! $ move ! (12 ∷ 13 ∷ []) $ free1 ! $ move ! (10 ∷ 11 ∷ []) $ free1 ! $ move ! (8 ∷ 9 ∷ []) $ free1 ! $ move ! (6 ∷ 7 ∷ []) $ free1 ! $ move ! (4 ∷ 5 ∷ []) $ free1 ! $ free0 ! $
-        by ! (exits (Found-Refused x) sessions objects ((found-is sessions objects id number (Named-Refused x) e-5, refl, removed-is sessions objects id number (Named-Refused x) e-5)) (EL.owes Found-t.the-type Found-l.the-laws (Found-Refused x) (x-is, tt)) refl refl))
+        by ! (exits (Taken-Refused x) sessions objects ((taken-is sessions objects id number (Named-Refused x) e-5, refl, removed-is sessions objects id number (Named-Refused x) e-5)) (EL.owes Taken-t.the-type Taken-l.the-laws (Taken-Refused x) (x-is, tt)) refl refl))
 
-    begins : Sq W (‵ (MutSlice (named 0) κ₁ (Array u64 5) .own (at-list b₁ o₁ γ₁ sessions) (sliceVal (b₁, o₁) n₁ ∷ [])) ∷ ‵ (flft κ₁ q₁) ∷ ‵ (MutSlice (named 0) κ₂ Object-t.the-row .own (at-list b₂ o₂ γ₂ objects) (sliceVal (b₂, o₂) n₂ ∷ [])) ∷ ‵ (flft κ₂ q₂) ∷ free 𝓤 (sliceTy (tyRef erased mut (pointee ((Array u64 5) .written)))) l₂₄ (free 𝓤 (tyRef erased mut (pointee ((Array u64 5) .written))) l₂₃ (free 𝓤 tyUnit l₂₂ (free 𝓤 (sliceTy (tyRef erased mut (pointee (Object-t.the-row .written)))) l₂₁ (free 𝓤 (tyRef erased mut (pointee (Object-t.the-row .written))) l₂₀ (free 𝓤 (tyInt w64) l₁₉ (free 𝓤 tyPtr l₁₈ (free 𝓤 (tyInt w64) l₁₇ (free 𝓤 (sliceTy (tyRef erased imm (pointee ((Array u64 5) .written)))) l₁₆ (free 𝓤 (tyRef erased imm (pointee ((Array u64 5) .written))) l₁₅ (free 𝓤 Found-l.mir l₁₄ (free 𝓤 (sliceTy (tyRef erased imm (pointee ((Array u64 5) .written)))) l₁₃ (free 𝓤 (tyRef erased imm (pointee ((Array u64 5) .written))) l₁₂ (free 𝓤 Refusal-l.mir l₁₁ (free 𝓤 Found-l.mir l₁₀ (free 𝓤 (tyInt w64) l₉ (free 𝓤 (tyInt w64) l₈ (free 𝓤 (tyInt w64) l₇ (free 𝓤 Named-l.mir l₆ (free 𝓤 (tyInt w64) l₅ (full 𝓤 ObjectNumber-l.mir l₄ (ObjectNumber-p .val number) (full 𝓤 (tyInt w8) l₃ (u8-p .val id) (full 𝓤 (sliceTy (tyRef (named 1) mut (pointee (Object-t.the-row .written)))) l₂ (sliceVal (b₂, o₂) n₂) (full 𝓤 (sliceTy (tyRef (named 0) mut (pointee ((Array u64 5) .written)))) l₁ (sliceVal (b₁, o₁) n₁) (free 𝓤 Found-l.mir l₀ ([])))))))))))))))))))))))))) (runs C Λ En mir.t-1 (atRet En Post))
+    begins : Sq W (‵ (MutSlice (named 0) κ₁ (Array u64 5) .own (at-list b₁ o₁ γ₁ sessions) (sliceVal (b₁, o₁) n₁ ∷ [])) ∷ ‵ (flft κ₁ q₁) ∷ ‵ (MutSlice (named 0) κ₂ Object-t.the-row .own (at-list b₂ o₂ γ₂ objects) (sliceVal (b₂, o₂) n₂ ∷ [])) ∷ ‵ (flft κ₂ q₂) ∷ free 𝓤 (sliceTy (tyRef erased mut (pointee ((Array u64 5) .written)))) l₂₄ (free 𝓤 (tyRef erased mut (pointee ((Array u64 5) .written))) l₂₃ (free 𝓤 tyUnit l₂₂ (free 𝓤 (sliceTy (tyRef erased mut (pointee (Object-t.the-row .written)))) l₂₁ (free 𝓤 (tyRef erased mut (pointee (Object-t.the-row .written))) l₂₀ (free 𝓤 (tyInt w64) l₁₉ (free 𝓤 tyPtr l₁₈ (free 𝓤 (tyInt w64) l₁₇ (free 𝓤 (sliceTy (tyRef erased imm (pointee ((Array u64 5) .written)))) l₁₆ (free 𝓤 (tyRef erased imm (pointee ((Array u64 5) .written))) l₁₅ (free 𝓤 Taken-l.mir l₁₄ (free 𝓤 (sliceTy (tyRef erased imm (pointee ((Array u64 5) .written)))) l₁₃ (free 𝓤 (tyRef erased imm (pointee ((Array u64 5) .written))) l₁₂ (free 𝓤 Refusal-l.mir l₁₁ (free 𝓤 Taken-l.mir l₁₀ (free 𝓤 (tyInt w64) l₉ (free 𝓤 (tyInt w64) l₈ (free 𝓤 (tyInt w64) l₇ (free 𝓤 Named-l.mir l₆ (free 𝓤 (tyInt w64) l₅ (full 𝓤 ObjectNumber-l.mir l₄ (ObjectNumber-p .val number) (full 𝓤 (tyInt w8) l₃ (u8-p .val id) (full 𝓤 (sliceTy (tyRef (named 1) mut (pointee (Object-t.the-row .written)))) l₂ (sliceVal (b₂, o₂) n₂) (full 𝓤 (sliceTy (tyRef (named 0) mut (pointee ((Array u64 5) .written)))) l₁ (sliceVal (b₁, o₁) n₁) (free 𝓤 Taken-l.mir l₀ ([])))))))))))))))))))))))))) (runs C Λ En mir.t-1 (atRet En Post))
     begins =
         assigns ! (of-opd ! (load ! (from ! (fld ! refl (stop !))) (look-in ! 48 (sub ! 1 refl (whole !))))) (from ! (stop !)) (init ! 42 refl (u64-p .typed 𝓤 H A W n₂ ((refl, room₂ .0)))) $
         assigns ! (addr ! (from ! (fld ! refl (hop ! (look-in ! 50 (sub ! 0 refl (whole !))) (stop !))))) (from ! (stop !)) (init ! 28 refl (tt, tt)) $

@@ -56,6 +56,9 @@ use Rattle.sessions.specs.Table.{rowOf, endedSession}
 use Rattle.sessions.specs.Objects.{blank}
 use Rattle.sessions.specs.Setup.{setUpFits, cleared, noStream, emptySessions, emptyStreams, emptyObjects, setUpOf, leaves}
 use Rattle.sessions.specs.Objects.{bridgedOf, implicitOf, handleOf, isNumbered, slotOf, usedAfter}
+use Rattle.sessions.specs.View.{entryOf}
+use Rattle.sessions.specs.Dependants.{kindsDepend, dependsOn}
+use Rattle.sessions.specs.Removal.{isAbove}
 use Rattle.sessions.proofs.setup.Laws.{cleared-none, cleared-more}
 use Rattle.sessions.specs.declared.objects.Object.{Object}
 use Rattle.sessions.proofs.objects.Object as Object-t
