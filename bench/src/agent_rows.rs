@@ -88,7 +88,7 @@ fn datagrams(name: &'static str, sessions: usize, objects: Objects, stream: u8, 
     row(name, Goal::Datagram, shape, (sessions, Some(objects)), work)
 }
 
-/// Datagrams that look for an object: the one made last, which is the port's last place.
+/// Datagrams that look for an object: the one made last, which the port's search meets first; or one that there isn't.
 fn with_objects(sessions: usize, count: u16) -> Vec<Row> {
     let (writers, readers) = (Objects { kinds: &[WRITER], count }, Objects { kinds: &[READER], count });
     let one = |name, objects: Objects, submessage| datagrams(name, sessions, objects, 0, vec![submessage]);

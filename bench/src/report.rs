@@ -59,9 +59,9 @@ fn steps(yard: &Yardsticks) -> String {
     )
 }
 
-/// What the port has alone.
-fn listing(yard: &Yardsticks) -> String {
-    format!("{}.\n", yard.listing())
+/// What the port has alone: how a search differs by place, and the listing.
+fn alone(yard: &Yardsticks) -> String {
+    format!("{}.\n\n{}.\n", yard.search(), yard.listing())
 }
 
 /// The machine, and how far the batches lie apart.
@@ -82,7 +82,7 @@ fn head(rows: &[Row]) -> String {
 /// What stands between the two marks.
 pub fn section(rows: &[Row], yard: &Yardsticks) -> String {
     let plot = "![port and original, each kind of row](performance.svg)";
-    [&head(rows), &goals(rows, yard), plot, "", &markdown(rows), &listing(yard), &steps(yard)].join("\n")
+    [&head(rows), &goals(rows, yard), plot, "", &markdown(rows), &alone(yard), &steps(yard)].join("\n")
 }
 
 /// The document with the section put between its marks, or nothing if it doesn't have both.

@@ -3,12 +3,13 @@
 
 use crate::agent_rows::{standing, Objects, FEW, MANY};
 use crate::clock;
-use crate::datagrams::{PUBLISHER, READER, SUBSCRIBER, WRITER};
+use crate::datagrams::{write_data, PUBLISHER, READER, SUBSCRIBER, WRITER};
 use crate::measure::{batch, turns, Plan};
 use crate::port::{shortest_call, Port};
 use crate::row::median;
 use crate::table::nanoseconds;
-use crate::timed::Timed;
+use crate::timed::{Side, Timed};
+use crate::works::Datagrams;
 use std::collections::HashMap;
 use std::hint::black_box;
 use std::time::Instant;
@@ -27,6 +28,8 @@ pub struct Yardsticks {
     /// The port's listing of a session with few objects, and with many.
     pub few_listed: f64,
     pub many_listed: f64,
+    /// The port's WRITE_DATA to the object made last of one, to the last of many, and to the first of many.
+    pub found: [f64; 3],
 }
 
 impl Yardsticks {
@@ -34,6 +37,15 @@ impl Yardsticks {
     pub fn listing(&self) -> String {
         let (few, many) = (nanoseconds(self.few_listed), nanoseconds(self.many_listed));
         format!("The listing of a session, which the original doesn't have: {few} ns with {FEW} objects, {many} ns with {MANY}")
+    }
+
+    /// What a search for an object number costs, in a line.
+    pub fn search(&self) -> String {
+        let [alone, last, first] = self.found.map(nanoseconds);
+        format!(
+            "The search for an object number, seen in WRITE_DATA of 16 bytes: to the object made last {alone} ns where it is \
+             the only one and {last} ns where there are {MANY}, to the first of {MANY} {first} ns"
+        )
     }
 }
 
@@ -78,6 +90,25 @@ fn listing_cost(plan: &Plan, count: u16) -> f64 {
     })
 }
 
+/// WRITE_DATA to an object of a session with `count`.
+fn writing(count: u16, number: u16) -> Side<Port, Datagrams> {
+    let port = standing(1, Some(Objects { kinds: &[WRITER], count }));
+    Side::new(port, Datagrams::new(1, 0, &[write_data(number, 16)]), false)
+}
+
+/// The three in turn, a batch of each, since what matters is how they differ.
+fn found_costs(plan: &Plan) -> [f64; 3] {
+    let mut sides = [writing(1, 1), writing(MANY, MANY), writing(MANY, 1)];
+    let fills = sides.each_mut().map(|side| turns(side, plan.batch));
+    let mut samples = [const { Vec::new() }; 3];
+    for _ in 0..plan.passes * plan.rounds {
+        for ((side, fill), samples) in sides.iter_mut().zip(fills).zip(&mut samples) {
+            samples.push(batch(side, fill));
+        }
+    }
+    samples.map(|samples| median(&samples))
+}
+
 pub fn yardsticks(plan: &Plan) -> Yardsticks {
     let (from, mut to) = (vec![1u8; 65536], vec![0u8; 65536]);
     let table: HashMap<u8, u64> = (1..=128).map(|id| (id, 0)).collect();
@@ -97,5 +128,6 @@ pub fn yardsticks(plan: &Plan) -> Yardsticks {
         }),
         few_listed: listing_cost(plan, FEW),
         many_listed: listing_cost(plan, MANY),
+        found: found_costs(plan),
     }
 }

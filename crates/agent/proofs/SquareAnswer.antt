@@ -91,7 +91,7 @@ module _ (t : Tables) (sound : SoundTables Sound t) (f : Frame) (id< : f .«sess
         record {
           after = listing (number .0) kind (some (h .0)) parent l;
           moves = refl;
-          shows = put-here t id id< reached o slot ∙ ap (stores.withObjects (putIn (l .objects) (entryOf o))) (shown-live t id live);
+          shows = put-here t id id< reached o slot (sound .each id id< .objects-differ) ∙ ap (stores.withObjects (putIn (l .objects) (entryOf o))) (shown-live t id live);
           elsewhere = put-elsewhere t id id< reached o slot;
           led = put-led Sound sound-lasts t sound id id< o;
         }

@@ -42,8 +42,8 @@ use Rattle.sessions.specs.declared.objects.Place.the-variants.{At, Nowhere}
 use Rattle.sessions.specs.declared.room.Room.{Room}
 use Rattle.sessions.specs.declared.room.Room.the-variants as room
 use Rattle.sessions.specs.declared.table.Named.the-variants.{Live}
-use Rattle.sessions.proofs.ObjectSearch.{Under, place-under, place-shown}
-use Rattle.sessions.proofs.ViewObjects.{entryFound, listed-length, listed-at}
+use Rattle.sessions.proofs.ObjectSearch.{Under, place-under}
+use Rattle.sessions.proofs.ViewObjects.{entryFound, listed-length, listed-at, place-shown}
 use Rattle.sessions.proofs.ViewStores as stores
 use Rattle.sessions.proofs.ViewStores.{fits, find-view, put-here, put-elsewhere, drop-here, drop-elsewhere}
 use Rattle.sessions.proofs.session_objects.Laws.{found-is, taken-is, depended-is}
@@ -101,7 +101,7 @@ module _ (t : Tables) (sound : SoundTables Sound t) (id : ℕ) (id< : id < 256) 
   foundAt number = foundObject (t .sessions) (t .objects) id number
 
   handle-view : (number : ObjectNumber) → handleAt (number .0) l ≡ handleShown (foundHandle (foundAt number))
-  handle-view number = ap entryHandle (sym (find-view t id id< (reach-objects t sound id id< live) number)) ∙ sym (handle-shown (foundAt number))
+  handle-view number = ap entryHandle (sym (find-view t id id< (reach-objects t sound id id< live) (sound .each id id< .objects-differ) number)) ∙ sym (handle-shown (foundAt number))
 
   -- the two handles that a parent number names, by the objects that are fetched
   named-view : (parent : ℕ)
@@ -110,7 +110,7 @@ module _ (t : Tables) (sound : SoundTables Sound t) (id : ℕ) (id< : id < 256) 
   named-view parent = ap (λ (x : Option Entry). handlesAbove (l .objects) (ofKind Topic x)) (found-view (record { 0 = parent })) ∙ by (foundAt (record { 0 = parent }))
     where
       found-view : (number : ObjectNumber) → findIn (l .objects) (number .0) ≡ entryFound (foundAt number)
-      found-view number = sym (find-view t id id< (reach-objects t sound id id< live) number)
+      found-view number = sym (find-view t id id< (reach-objects t sound id id< live) (sound .each id id< .objects-differ) number)
 
       above : (number : ObjectNumber) → entryHandle (ofKind Participant (findIn (l .objects) (number .0))) ≡ handleShown (handleOfKind (foundAt number) 1)
       above number = ap (λ (x : Option Entry). entryHandle (ofKind Participant x)) (found-view number) ∙ sym (kind-shown Participant (foundAt number))
@@ -167,7 +167,7 @@ module _ (t : Tables) (sound : SoundTables Sound t) (id : ℕ) (id< : id < 256) 
   count-shown = listed-length row used (fits t id id< (reach-objects t sound id id< live))
 
   place-view : (number : ObjectNumber) → objectPlace row used number ≡ placeIn (l .objects) (number .0)
-  place-view number = place-shown row number used (fits t id id< (reach-objects t sound id id< live))
+  place-view number = place-shown row used (fits t id id< (reach-objects t sound id id< live)) (sound .each id id< .objects-differ) number
 
   -- the object at a place, as the list has it
   entry-at : (k : ℕ) → k < used → getD (l .objects) k blankEntry ≡ entryOf (getD row k blank)
@@ -222,7 +222,7 @@ module _ (t : Tables) (sound : SoundTables Sound t) (id : ℕ) (id< : id < 256) 
       let reached = reach-objects t sound id id< live in
       record {
         after = removing (number .0);
-        shows = drop-here t id id< reached number ∙ ap (stores.withObjects (removeIn (l .objects) (number .0))) (shown-live t id live);
+        shows = drop-here t id id< reached (sound .each id id< .objects-differ) number ∙ ap (stores.withObjects (removeIn (l .objects) (number .0))) (shown-live t id live);
         moves = delete-moves number;
         elsewhere = drop-elsewhere t id id< reached number;
       }
@@ -296,7 +296,7 @@ module _ (t : Tables) (sound : SoundTables Sound t) (id : ℕ) (id< : id < 256) 
       let reached = reach-objects t sound id id< live in
       record {
         after = listing (number .0) kind none parent l;
-        shows = put-here t id id< reached o (slot-in number e) ∙ ap (stores.withObjects (putIn (l .objects) (entryOf o))) (shown-live t id live);
+        shows = put-here t id id< reached o (slot-in number e) (sound .each id id< .objects-differ) ∙ ap (stores.withObjects (putIn (l .objects) (entryOf o))) (shown-live t id live);
         moves = refl;
         elsewhere = put-elsewhere t id id< reached o (slot-in number e);
       }

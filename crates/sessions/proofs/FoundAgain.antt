@@ -36,7 +36,7 @@ found-among es n e = by (placeIn es n) (place-found es n)
     by (At k) f q = let z = same (getD es k blankEntry) e q in (record { at = k; inside = f .0; is = z }, ap (λ (x : Entry). x .number) (sym z) ∙ f .1)
     by Nowhere f q = absurd (absent q)
 
-one-place : (es : List Entry) → Distinct (objectNumbers es) → (i j : ℕ) → i < length es → j < length es → getD es i blankEntry .number ≡ getD es j blankEntry .number → i ≡ j
+pub one-place : (es : List Entry) → Distinct (objectNumbers es) → (i j : ℕ) → i < length es → j < length es → getD es i blankEntry .number ≡ getD es j blankEntry .number → i ≡ j
 unfolding Distinct
 one-place es d i j a c q =
     let l = length-map es (λ (e : Entry). e .number) in

@@ -1,14 +1,15 @@
--- The search for an object's number: step by step in a row, and that the list which the row shows gives the same place.
-use Prim.Native.Nat.{ℕ, zero, suc, _+_, _-_, _<_, _≤_}
+-- The search for an object's number in any row, duplicates included: step by step, and that it ends at the last record in use.
+use Prim.Native.Nat.{ℕ, zero, suc, _-_, _<_, _≤_}
 use mathlib.Core.Path.{_≡_, refl, sym, ap, _∙_}
+use mathlib.Core.Logic.{_≢_}
 use mathlib.Core.Bool.{Bool, true, false, cond}
 use mathlib.Core.List.{List}
 use native.Mathlib.Omega.{arith}
-use lib.ListN.{length, drop, getD}
-use lib.Seq.{drop-cons}
+use borrow.Author.Tests.{eqb-true, eqb-false, leb-true, leb-false}
+use lib.Dec.{leb}
+use lib.ListN.{getD}
 use Rattle.codec.specs.declared.submessages.ObjectNumber.{ObjectNumber}
-use Rattle.sessions.specs.Objects.{blank, isNumbered, objectFrom, objectPlace}
-use Rattle.sessions.specs.View.{listed, onePast, placeIn}
+use Rattle.sessions.specs.Objects.{blank, isNumbered, objectPlace, LastOf}
 use Rattle.sessions.specs.declared.objects.Object.{Object}
 use Rattle.sessions.specs.declared.objects.Place.{Place}
 use Rattle.sessions.specs.declared.objects.Place.the-variants.{At, Nowhere}
@@ -22,70 +23,60 @@ module _ (row : List Object) (n : ObjectNumber) where
   abbrev hit : ℕ → Bool
   hit i = isNumbered (getD row i blank) n
 
-  -- ---- one step, from i on in the first `used` records
+  -- ---- one step down from the first i records
 
-  next : (i used : ℕ) → i < used → objectFrom row n i (used - i) ≡ cond (hit i) (At i) (objectFrom row n (i + 1) (used - (i + 1)))
-  next i used h = go (used - i) (used - (i + 1)) (omega arith)
+  next : (i : ℕ) → 0 < i → objectPlace row i n ≡ cond (hit (i - 1)) (At (i - 1)) (objectPlace row (i - 1) n)
+  next zero h = let z : ⊥ = omega arith in absurd z
+  next (suc i) h = let e : suc i - 1 ≡ i = omega arith in rw e refl
+
+  pub at-hit : (i : ℕ) → 0 < i → hit (i - 1) ≡ true → At (i - 1) ≡ objectPlace row i n
+  at-hit i h e = sym (next i h ∙ ap (λ (b : Bool). cond b (At (i - 1)) (objectPlace row (i - 1) n)) e)
+
+  pub past-miss : (i : ℕ) → 0 < i → hit (i - 1) ≡ false → objectPlace row (i - 1) n ≡ objectPlace row i n
+  past-miss i h e = sym (next i h ∙ ap (λ (b : Bool). cond b (At (i - 1)) (objectPlace row (i - 1) n)) e)
+
+  pub at-first : (i : ℕ) → i ≤ 0 → Nowhere ≡ objectPlace row i n
+  at-first zero h = refl
+  at-first (suc i) h = let z : ⊥ = omega arith in absurd z
+
+  -- ---- it ends at the last record in use with that number, and nowhere if there is none
+
+  pub search-last : (used : ℕ) → LastOf row used n (objectPlace row used n)
+  search-last zero = λ j h. let z : ⊥ = omega arith in absurd z
+  search-last (suc i) = by (hit i) refl (objectPlace row i n) (search-last i)
     where
-      go : (k j : ℕ) → k ≡ suc j → objectFrom row n i k ≡ cond (hit i) (At i) (objectFrom row n (i + 1) j)
-      go k j e = rw e (ap (λ (m : ℕ). cond (hit i) (At i) (objectFrom row n m j)) (omega arith))
+      -- what holds of every record below i, and of the one at i, holds below i + 1
+      below : getD row i blank .number .0 ≢ n .0 → (j : ℕ) → j < suc i → (j < i → getD row j blank .number .0 ≢ n .0) → getD row j blank .number .0 ≢ n .0
+      below q j h f = at (leb i j) refl
+        where
+          at : (b : Bool) → leb i j ≡ b → getD row j blank .number .0 ≢ n .0
+          at true e = let w : j ≡ i = let v : i ≤ j = leb-true i j e in omega arith in rw w q
+          at false e = f (leb-false i j e)
 
-  pub at-hit : (i used : ℕ) → i < used → hit i ≡ true → At i ≡ objectFrom row n i (used - i)
-  at-hit i used h e = sym (next i used h ∙ ap (λ (b : Bool). cond b (At i) (objectFrom row n (i + 1) (used - (i + 1)))) e)
+      by : (b : Bool) → hit i ≡ b → (p : Place) → LastOf row i n p → LastOf row (suc i) n (cond b (At i) p)
+      by true e p l = (omega arith, eqb-true (getD row i blank .number .0) (n .0) e, λ j a c. let z : ⊥ = omega arith in absurd z)
+      by false e (At k) l = (let w = l .0 in omega arith, l .1, λ j a c. below (eqb-false (getD row i blank .number .0) (n .0) e) j c (l .2 j a))
+      by false e Nowhere l = λ j c. below (eqb-false (getD row i blank .number .0) (n .0) e) j c (l j)
 
-  pub past-miss : (i used : ℕ) → i < used → hit i ≡ false → objectFrom row n (i + 1) (used - (i + 1)) ≡ objectFrom row n i (used - i)
-  past-miss i used h e = sym (next i used h ∙ ap (λ (b : Bool). cond b (At i) (objectFrom row n (i + 1) (used - (i + 1)))) e)
-
-  pub at-end : (i used : ℕ) → used ≤ i → Nowhere ≡ objectFrom row n i (used - i)
-  at-end i used h = go (used - i) (omega arith)
+  -- and at no other place
+  pub search-only : (used : ℕ) (p : Place) → LastOf row used n p → p ≡ objectPlace row used n
+  search-only used p l = one p (objectPlace row used n) l (search-last used)
     where
-      go : (k : ℕ) → k ≡ 0 → Nowhere ≡ objectFrom row n i k
-      go k e = rw e refl
+      one : (p q : Place) → LastOf row used n p → LastOf row used n q → p ≡ q
+      one (At i) (At k) l m = by (leb i k) refl (leb k i) refl
+        where
+          by : (a : Bool) → leb i k ≡ a → (b : Bool) → leb k i ≡ b → At i ≡ At k
+          by true a true b = let u = leb-true i k a in let v = leb-true k i b in let w : i ≡ k = omega arith in ap At w
+          by true a false b = absurd (l .2 k (leb-false k i b) (m .0) (m .1))
+          by false a b d = absurd (m .2 i (leb-false i k a) (l .0) (l .1))
+      one (At i) Nowhere l m = absurd (m i (l .0) (l .1))
+      one Nowhere (At k) l m = absurd (l k (m .0) (m .1))
+      one Nowhere Nowhere l m = refl
 
-  pub at-start : (used : ℕ) → objectFrom row n 0 (used - 0) ≡ objectPlace row used n
-  at-start used = let e : used - 0 ≡ used = omega arith in ap (objectFrom row n 0) e
-
-  -- ---- a record that is found is in use
-
-  under-from : (i left used : ℕ) → i + left ≤ used → Under used (objectFrom row n i left)
-  under-from i zero used h = tt
-  under-from i (suc left) used h = go (hit i) (under-from (suc i) left used (omega arith))
-    where
-      go : (b : Bool) → Under used (objectFrom row n (suc i) left) → Under used (cond b (At i) (objectFrom row n (suc i) left))
-      go true w = omega arith
-      go false w = w
-
+  -- a record that is found is in use
   pub place-under : (used : ℕ) → Under used (objectPlace row used n)
-  place-under used = under-from 0 used used (omega arith)
-
-  -- ---- the search in the row is the search in the list
-
-  -- a place, i records further on
-  abbrev past : ℕ → Place → Place
-  past i (At k) = At (i + k)
-  past i Nowhere = Nowhere
-
-  shown-from : (i left : ℕ) → i + left ≤ length row → objectFrom row n i left ≡ past i (placeIn (listed left (drop i row)) (n .0))
-  unfolding listed
-  shown-from i zero h = refl
-  shown-from i (suc left) h =
-      by (hit i) (shown-from (suc i) left (omega arith))
-      ∙ ap (λ (l : List Object). past i (placeIn (listed (suc left) l) (n .0))) (sym (drop-cons row i blank (omega arith)))
+  place-under used = by (objectPlace row used n) (search-last used)
     where
-      behind : Place
-      behind = placeIn (listed left (drop (suc i) row)) (n .0)
-
-      shift : (p : Place) → past (suc i) p ≡ past i (onePast p)
-      shift (At k) = ap At (omega arith)
-      shift Nowhere = refl
-
-      by : (b : Bool) → objectFrom row n (suc i) left ≡ past (suc i) behind → cond b (At i) (objectFrom row n (suc i) left) ≡ past i (cond b (At 0) (onePast behind))
-      by true e = ap At (omega arith)
-      by false e = e ∙ shift behind
-
-  pub place-shown : (used : ℕ) → used ≤ length row → objectPlace row used n ≡ placeIn (listed used row) (n .0)
-  place-shown used h = shown-from 0 used (omega arith) ∙ first (placeIn (listed used row) (n .0))
-    where
-      first : (p : Place) → past 0 p ≡ p
-      first (At k) = ap At (omega arith)
-      first Nowhere = refl
+      by : (p : Place) → LastOf row used n p → Under used p
+      by (At i) l = l .0
+      by Nowhere l = tt

@@ -287,7 +287,7 @@ module _ (P : StreamState → Type 0) (lasting : Lasting P) where
                         few-objects = few (objectPlace row used (o .number)) room;
                         few-streams = g .few-streams;
                         objects-differ =
-                            subst (λ (es : List Entry). Distinct (objectNumbers es)) (sym (put-shown row used fits o (stores.in-row t id id< its-objects o room)))
+                            subst (λ (es : List Entry). Distinct (objectNumbers es)) (sym (put-shown row used fits (g .objects-differ) o (stores.in-row t id id< its-objects o room)))
                             (put-distinct (listed used row) (g .objects-differ) (entryOf o));
                         streams-differ = g .streams-differ;
                         written = g .written;
@@ -346,7 +346,7 @@ module _ (P : StreamState → Type 0) (lasting : Lasting P) where
                   (record {
                     few-objects = few p;
                     few-streams = g .few-streams;
-                    objects-differ = subst (λ (es : List Entry). Distinct (objectNumbers es)) (sym (drop-shown row used fits n)) (remove-distinct (listed used row) (g .objects-differ) (n .0));
+                    objects-differ = subst (λ (es : List Entry). Distinct (objectNumbers es)) (sym (drop-shown row used fits (g .objects-differ) n)) (remove-distinct (listed used row) (g .objects-differ) (n .0));
                     streams-differ = g .streams-differ;
                     written = g .written;
                   });

@@ -9,16 +9,18 @@ use native.Mathlib.Numerals.{add-one}
 use lib.ListN.{length, take, getD, set, length-map, List·getD-map}
 use lib.Seq.{length-take-le, getD-take, take-take, take-set-lt, take-suc-set}
 use Rattle.codec.specs.declared.submessages.ObjectNumber.{ObjectNumber}
-use Rattle.sessions.specs.Objects.{blank, objectPlace, foundOf, slotOf, usedAfter, storedRow}
+use Rattle.sessions.specs.Objects.{blank, objectPlace, LastOf, foundOf, slotOf, usedAfter, storedRow}
 use Rattle.sessions.specs.Dependants.{hasDependant}
 use Rattle.sessions.specs.Removal.{removeIn, dependedIn, removedRow}
-use Rattle.sessions.specs.View.{Entry, entryOf, blankEntry, listed, placeIn, heldAt, findIn, putEntry, putIn, dropAt}
+use Rattle.sessions.specs.View.{Entry, entryOf, blankEntry, listed, placeIn, heldAt, findIn, putEntry, putIn, dropAt, Distinct, objectNumbers}
 use Rattle.sessions.specs.declared.objects.Object.{Object}
 use Rattle.sessions.specs.declared.objects.Place.{Place}
 use Rattle.sessions.specs.declared.objects.Place.the-variants.{At, Nowhere}
 use Rattle.sessions.specs.declared.objects.Found.{Found}
 use Rattle.sessions.specs.declared.objects.Found.the-variants.{Held, Nothing, Refused}
-use Rattle.sessions.proofs.ObjectSearch.{Under, place-under, place-shown}
+use Rattle.sessions.proofs.FoundAgain.{one-place}
+use Rattle.sessions.proofs.Kept.{FoundIn, place-found}
+use Rattle.sessions.proofs.ObjectSearch.{Under, place-under, search-last}
 use Rattle.sessions.proofs.Parts.{map-set, map-take}
 
 -- the record that was found, as an entry
@@ -36,14 +38,31 @@ module _ (row : List Object) (used : ℕ) (fits : used ≤ length row) where
   unfolding listed
   listed-at i h = List·getD-map entryOf (take used row) i blank ∙ ap entryOf (getD-take used row i blank h)
 
+  -- ---- the search
+
+  last-found : (n : ObjectNumber) (p : Place) → LastOf row used n p → FoundIn (listed used row) (n .0) p
+  last-found n (At i) l = (rw listed-length (l .0), ap (λ (e : Entry). e .number) (listed-at i (l .0)) ∙ l .1)
+  last-found n Nowhere l = λ i h q. let w : i < used = rw listed-length at h in l i w (ap (λ (e : Entry). e .number) (sym (listed-at i w)) ∙ q)
+
+  -- in a row of different numbers the search down and the list's, which goes up, end at the same place
+  pub place-shown : Distinct (objectNumbers (listed used row)) → (n : ObjectNumber) → objectPlace row used n ≡ placeIn (listed used row) (n .0)
+  place-shown different n =
+      by (objectPlace row used n) (placeIn (listed used row) (n .0)) (last-found n (objectPlace row used n) (search-last row n used)) (place-found (listed used row) (n .0))
+    where
+      by : (p q : Place) → FoundIn (listed used row) (n .0) p → FoundIn (listed used row) (n .0) q → p ≡ q
+      by (At i) (At k) f g = ap At (one-place (listed used row) different i k (f .0) (g .0) (f .1 ∙ sym (g .1)))
+      by (At i) Nowhere f g = absurd (g i (f .0) (f .1))
+      by Nowhere (At k) f g = absurd (f k (g .0) (g .1))
+      by Nowhere Nowhere f g = refl
+
   -- ---- find
 
   held-shown : (p : Place) → Under used p → entryFound (foundOf row p) ≡ heldAt (listed used row) p
   held-shown (At i) h = ap some (sym (listed-at i h))
   held-shown Nowhere h = refl
 
-  pub find-shown : (n : ObjectNumber) → entryFound (foundOf row (objectPlace row used n)) ≡ findIn (listed used row) (n .0)
-  find-shown n = held-shown (objectPlace row used n) (place-under row n used) ∙ ap (heldAt (listed used row)) (place-shown row n used fits)
+  pub find-shown : Distinct (objectNumbers (listed used row)) → (n : ObjectNumber) → entryFound (foundOf row (objectPlace row used n)) ≡ findIn (listed used row) (n .0)
+  find-shown different n = held-shown (objectPlace row used n) (place-under row n used) ∙ ap (heldAt (listed used row)) (place-shown different n)
 
   -- ---- put
 
@@ -55,9 +74,9 @@ module _ (row : List Object) (used : ℕ) (fits : used ≤ length row) where
       ∙ ap (map entryOf) (take-suc-set row used o l)
       ∙ map-append entryOf (take used row) (o ∷ [])
 
-  pub put-shown : (o : Object) → slotOf (objectPlace row used (o .number)) used < length row
+  pub put-shown : Distinct (objectNumbers (listed used row)) → (o : Object) → slotOf (objectPlace row used (o .number)) used < length row
       → listed (usedAfter (objectPlace row used (o .number)) used) (storedRow row used o) ≡ putIn (listed used row) (entryOf o)
-  put-shown o l = put-at (objectPlace row used (o .number)) o (place-under row (o .number) used) l ∙ ap (λ (p : Place). putEntry (listed used row) p (entryOf o)) (place-shown row (o .number) used fits)
+  put-shown different o l = put-at (objectPlace row used (o .number)) o (place-under row (o .number) used) l ∙ ap (λ (p : Place). putEntry (listed used row) p (entryOf o)) (place-shown different (o .number))
 
   -- ---- remove
 
@@ -78,8 +97,8 @@ module _ (row : List Object) (used : ℕ) (fits : used ≤ length row) where
   dependedAt (At i) = dependedIn row used (getD row i blank)
   dependedAt Nowhere = false
 
-  pub depended-shown : (n : ObjectNumber) → dependedAt (objectPlace row used n) ≡ hasDependant (listed used row) (findIn (listed used row) (n .0))
-  depended-shown n = by (objectPlace row used n) (place-under row n used) ∙ ap (λ (p : Place). hasDependant (listed used row) (heldAt (listed used row) p)) (place-shown row n used fits)
+  pub depended-shown : Distinct (objectNumbers (listed used row)) → (n : ObjectNumber) → dependedAt (objectPlace row used n) ≡ hasDependant (listed used row) (findIn (listed used row) (n .0))
+  depended-shown different n = by (objectPlace row used n) (place-under row n used) ∙ ap (λ (p : Place). hasDependant (listed used row) (heldAt (listed used row) p)) (place-shown different n)
     where
       by : (p : Place) → Under used p → dependedAt p ≡ hasDependant (listed used row) (heldAt (listed used row) p)
       by (At i) h = ap (λ (e : Entry). hasDependant (listed used row) (some e)) (sym (listed-at i h))
@@ -90,10 +109,10 @@ module _ (row : List Object) (used : ℕ) (fits : used ≤ length row) where
   left (At i) = cond (dependedAt (At i)) used (used - 1)
   left Nowhere = used
 
-  pub drop-shown : (n : ObjectNumber) → listed (left (objectPlace row used n)) (removedRow row used (objectPlace row used n)) ≡ removeIn (listed used row) (n .0)
-  drop-shown n =
+  pub drop-shown : Distinct (objectNumbers (listed used row)) → (n : ObjectNumber) → listed (left (objectPlace row used n)) (removedRow row used (objectPlace row used n)) ≡ removeIn (listed used row) (n .0)
+  drop-shown different n =
       by (objectPlace row used n) (place-under row n used)
-      ∙ (λ i. cond (depended-shown n i) (listed used row) (dropAt (listed used row) (place-shown row n used fits i)))
+      ∙ (λ i. cond (depended-shown different n i) (listed used row) (dropAt (listed used row) (place-shown different n i)))
     where
       by : (p : Place) → Under used p → listed (left p) (removedRow row used p) ≡ cond (dependedAt p) (listed used row) (dropAt (listed used row) p)
       by (At i) h = at (dependedAt (At i))

@@ -16,7 +16,7 @@ use Rattle.sessions.specs.Table.{sessionAt}
 use Rattle.sessions.specs.Objects.{blank, objectPlace, slotOf, usedAfter, storedRow}
 use Rattle.sessions.specs.SessionObjects.{firstObject, objectRow, withObjectRow, usedOf, countedSession, keepUsed, objectsNamed, foundObject, storedObject, storedObjects, keepStored}
 use Rattle.sessions.specs.Removal.{removeIn, takenOf, removedRow, keepRemoved}
-use Rattle.sessions.specs.View.{Tables, Entry, Local, Part, entryOf, listed, streamRows, tablePart, sessionShown, localShown, localOf, objectsOf, findIn, putIn}
+use Rattle.sessions.specs.View.{Tables, Entry, Local, Part, entryOf, listed, streamRows, tablePart, sessionShown, localShown, localOf, objectsOf, findIn, putIn, Distinct, objectNumbers}
 use Rattle.sessions.specs.Calls.{putTables, dropTables}
 use Rattle.sessions.specs.declared.objects.Object.{Object}
 use Rattle.sessions.specs.declared.objects.Place.{Place}
@@ -106,8 +106,8 @@ module _ (t : Tables) (id : ℕ) (id< : id < 256) (live : objectsNamed (t .sessi
 
   -- ---- find
 
-  pub find-view : (n : ObjectNumber) → entryFound (foundObject (t .sessions) (t .objects) id n) ≡ findIn (objectsOf t id) (n .0)
-  find-view n = ap entryFound (sym (found-is (t .sessions) (t .objects) id n Live live)) ∙ find-shown row used fits n
+  pub find-view : Distinct (objectNumbers (objectsOf t id)) → (n : ObjectNumber) → entryFound (foundObject (t .sessions) (t .objects) id n) ≡ findIn (objectsOf t id) (n .0)
+  find-view different n = ap entryFound (sym (found-is (t .sessions) (t .objects) id n Live live)) ∙ find-shown row used fits different n
 
   -- ---- put
 
@@ -144,11 +144,11 @@ module _ (t : Tables) (id : ℕ) (id< : id < 256) (live : objectsNamed (t .sessi
       streams = streamRows (t .streams) j;
     }
 
-    pub put-here : localOf (putTables t id o) id ≡ withObjects (putIn (objectsOf t id) (entryOf o)) (localOf t id)
-    put-here =
+    pub put-here : Distinct (objectNumbers (objectsOf t id)) → localOf (putTables t id o) id ≡ withObjects (putIn (objectsOf t id) (entryOf o)) (localOf t id)
+    put-here different =
         ap (localShown id) put-part
         ∙ counted-shown id (usedAfter (place (o .number)) used) (storedRow row used o) (tablePart t id)
-        ∙ ap (λ (es : List Entry). withObjects es (localOf t id)) (put-shown row used fits o in-row)
+        ∙ ap (λ (es : List Entry). withObjects es (localOf t id)) (put-shown row used fits different o in-row)
 
     pub put-elsewhere : (j : ℕ) → j ≢ id → localOf (putTables t id o) j ≡ localOf t j
     put-elsewhere j h = ap (localShown j) (put-part-elsewhere j h)
@@ -234,12 +234,12 @@ module _ (t : Tables) (id : ℕ) (id< : id < 256) (live : objectsNamed (t .sessi
       }
   dropped-part-elsewhere j h Nowhere u = refl
 
-  pub drop-here : (n : ObjectNumber) → localOf (dropTables t id n) id ≡ withObjects (removeIn (objectsOf t id) (n .0)) (localOf t id)
-  drop-here n =
+  pub drop-here : Distinct (objectNumbers (objectsOf t id)) → (n : ObjectNumber) → localOf (dropTables t id n) id ≡ withObjects (removeIn (objectsOf t id) (n .0)) (localOf t id)
+  drop-here different n =
       ap (λ (u : Tables). localOf u id) (by-place n)
       ∙ ap (localShown id) (dropped-part (place n) (place-under row n used))
       ∙ counted-shown id (left row used fits (place n)) (removedRow row used (place n)) (tablePart t id)
-      ∙ ap (λ (es : List Entry). withObjects es (localOf t id)) (drop-shown row used fits n)
+      ∙ ap (λ (es : List Entry). withObjects es (localOf t id)) (drop-shown row used fits different n)
 
   pub drop-elsewhere : (n : ObjectNumber) (j : ℕ) → j ≢ id → localOf (dropTables t id n) j ≡ localOf t j
   drop-elsewhere n j h = ap (λ (u : Tables). localOf u j) (by-place n) ∙ ap (localShown j) (dropped-part-elsewhere j h (place n) (place-under row n used))

@@ -1,5 +1,7 @@
 -- The objects of one session: a row of records, of which the first are in use.
-use Prim.Native.Nat.{ℕ, zero, suc, _+_}
+use Prim.Native.Nat.{ℕ, zero, suc, _+_, _<_}
+use mathlib.Core.Path.{_≡_}
+use mathlib.Core.Logic.{_≢_}
 use mathlib.Core.Bool.{Bool, cond}
 use mathlib.Core.List.{List}
 use lib.Dec.{eqb, ltb}
@@ -39,13 +41,15 @@ handleOf o = cond (eqb (o .bridged) 0) Implicit (Bridged (record { 0 = o .handle
 abbrev pub isNumbered : Object → ObjectNumber → Bool
 isNumbered o n = eqb (o .number .0) (n .0)
 
--- the search goes up from the first record: of `left` records from i on, the first of that number
-abbrev pub objectFrom : List Object → ObjectNumber → ℕ → ℕ → Place
-objectFrom row n i zero = Nowhere
-objectFrom row n i (suc left) = cond (isNumbered (getD row i blank) n) (At i) (objectFrom row n (suc i) left)
-
+-- W4: "The search for an object number shall go down from the last record in use."
 abbrev pub objectPlace : List Object → ℕ → ObjectNumber → Place
-objectPlace row used n = objectFrom row n 0 used
+objectPlace row zero n = Nowhere
+objectPlace row (suc i) n = cond (isNumbered (getD row i blank) n) (At i) (objectPlace row i n)
+
+-- W4: "In any lent row within its limits it finds the last record in use with that number, and none exactly if there is none."
+abbrev pub LastOf : List Object → ℕ → ObjectNumber → Place → Type 0
+LastOf row used n (At i) = (i < used) × (getD row i blank .number .0 ≡ n .0) × ((j : ℕ) → i < j → j < used → getD row j blank .number .0 ≢ n .0)
+LastOf row used n Nowhere = (j : ℕ) → j < used → getD row j blank .number .0 ≢ n .0
 
 abbrev pub foundOf : List Object → Place → Found
 foundOf row (At i) = Held (getD row i blank)

@@ -17,19 +17,19 @@ ghost use lib.ListN.{length};
 ghost use Rattle.sessions.specs.Objects.{objectPlace, foundOf, storedOf, storedRow};
 ghost use Rattle.sessions.specs.Removal.{dependedIn, takenOf, removedRow};
 
-// Where the record of that number is: the search goes up from the first record.
+// Where the record of that number is. W4: the search goes down from the last record in use, since what was made last is used most.
 pub(crate) fn place(row: &[Object], used: usize, number: ObjectNumber) -> Place
     requires { ⌜ used ≤ length (now row) ⌝ }
     ensures { λ r. ⌜ r ≡ objectPlace (now (row .entry)) used number ⌝ }
 {
-    let mut i = 0;
-    while i < used {
+    let mut i = used;
+    while 0 < i {
+        i = i - 1;
         let o = row[i];
         let hit = is_numbered(o, number);
         if hit {
             return Place::At(i);
         }
-        i = i + 1;
     }
     Place::Nowhere
 }
