@@ -45,7 +45,7 @@ module _ (row : List Object) (n : ObjectNumber) where
   search-last zero = λ j h. let z : ⊥ = omega arith in absurd z
   search-last (suc i) = by (hit i) refl (objectPlace row i n) (search-last i)
     where
-      -- what holds of every record below i, and of the one at i, holds below i + 1
+      -- if the record at i doesn't have the number, one below i + 1 that has it is below i
       below : getD row i blank .number .0 ≢ n .0 → (j : ℕ) → j < suc i → (j < i → getD row j blank .number .0 ≢ n .0) → getD row j blank .number .0 ≢ n .0
       below q j h f = at (leb i j) refl
         where
