@@ -1,5 +1,5 @@
 -- The search for an object's number in any row, duplicates included: step by step, and that it ends at the last record in use.
-use Prim.Native.Nat.{ℕ, zero, suc, _-_, _<_, _≤_}
+use Prim.Native.Nat.{ℕ, zero, suc, _+_, _-_, _<_, _≤_}
 use mathlib.Core.Path.{_≡_, refl, sym, ap, _∙_}
 use mathlib.Core.Logic.{_≢_}
 use mathlib.Core.Bool.{Bool, true, false, cond}
@@ -23,21 +23,26 @@ module _ (row : List Object) (n : ObjectNumber) where
   abbrev hit : ℕ → Bool
   hit i = isNumbered (getD row i blank) n
 
-  -- ---- one step down from the first i records
+  -- ---- one step down, behind `seen` records
 
-  next : (i : ℕ) → 0 < i → objectPlace row i n ≡ cond (hit (i - 1)) (At (i - 1)) (objectPlace row (i - 1) n)
-  next zero h = let z : ⊥ = omega arith in absurd z
-  next (suc i) h = let e : suc i - 1 ≡ i = omega arith in rw e refl
+  module _ (used seen : ℕ) where
+    next : seen < used → objectPlace row (used - seen) n ≡ cond (hit (used - seen - 1)) (At (used - seen - 1)) (objectPlace row (used - (seen + 1)) n)
+    next h = go (used - seen) (used - seen - 1) (used - (seen + 1)) (omega arith) (omega arith)
+      where
+        go : (k i j : ℕ) → k ≡ suc i → j ≡ i → objectPlace row k n ≡ cond (hit i) (At i) (objectPlace row j n)
+        go k i j e f = rw e (rw f refl)
 
-  pub at-hit : (i : ℕ) → 0 < i → hit (i - 1) ≡ true → At (i - 1) ≡ objectPlace row i n
-  at-hit i h e = sym (next i h ∙ ap (λ (b : Bool). cond b (At (i - 1)) (objectPlace row (i - 1) n)) e)
+    pub at-hit : seen < used → hit (used - seen - 1) ≡ true → At (used - seen - 1) ≡ objectPlace row (used - seen) n
+    at-hit h e = sym (next h ∙ ap (λ (b : Bool). cond b (At (used - seen - 1)) (objectPlace row (used - (seen + 1)) n)) e)
 
-  pub past-miss : (i : ℕ) → 0 < i → hit (i - 1) ≡ false → objectPlace row (i - 1) n ≡ objectPlace row i n
-  past-miss i h e = sym (next i h ∙ ap (λ (b : Bool). cond b (At (i - 1)) (objectPlace row (i - 1) n)) e)
+    pub past-miss : seen < used → hit (used - seen - 1) ≡ false → objectPlace row (used - (seen + 1)) n ≡ objectPlace row (used - seen) n
+    past-miss h e = sym (next h ∙ ap (λ (b : Bool). cond b (At (used - seen - 1)) (objectPlace row (used - (seen + 1)) n)) e)
 
-  pub at-first : (i : ℕ) → i ≤ 0 → Nowhere ≡ objectPlace row i n
-  at-first zero h = refl
-  at-first (suc i) h = let z : ⊥ = omega arith in absurd z
+    pub at-end : used ≤ seen → Nowhere ≡ objectPlace row (used - seen) n
+    at-end h = let e : used - seen ≡ 0 = omega arith in rw e refl
+
+  pub at-start : (used : ℕ) → objectPlace row (used - 0) n ≡ objectPlace row used n
+  at-start used = let e : used - 0 ≡ used = omega arith in ap (λ (k : ℕ). objectPlace row k n) e
 
   -- ---- it ends at the last record in use with that number, and nowhere if there is none
 

@@ -58,7 +58,7 @@ use Rattle.sessions.specs.Objects.{bridgedOf, implicitOf, handleOf, isNu
 use Rattle.sessions.specs.View.{entryOf}
 use Rattle.sessions.specs.Dependants.{kindsDepend, dependsOn}
 use Rattle.sessions.specs.Removal.{isAbove}
-use Rattle.sessions.proofs.ObjectSearch.{at-hit, past-miss, at-first}
+use Rattle.sessions.proofs.ObjectSearch.{at-start, at-hit, past-miss, at-end}
 use Rattle.sessions.specs.declared.objects.Object.{Object}
 use Rattle.sessions.proofs.objects.Object as Object-t
 use Rattle.sessions.proofs.objects.Object.Laws as Object-l
@@ -125,7 +125,7 @@ module _ {M : Type 1} (𝓤 : URA M) (H : Heap 𝓤) (A : Atoms 𝓤) (W : Given
       frame ! $
       owned ! (Place-p .row) (Is (Place-p .row)) (Place-p .makes 𝓤 H A W) r _ r-is $ done !
 
-  module _ (𝓣 : Tables 𝓤 H) (known-objects-is-numbered : Triple 𝓤 (𝓣 .C #objects-is-numbered) (Of-objects-is-numbered 𝓤 H A mem run)) (l₀ l₁ l₂ l₃ l₄ l₅ l₆ l₇ l₈ l₉ l₁₀ : ℕ) where
+  module _ (𝓣 : Tables 𝓤 H) (known-objects-is-numbered : Triple 𝓤 (𝓣 .C #objects-is-numbered) (Of-objects-is-numbered 𝓤 H A mem run)) (l₀ l₁ l₂ l₃ l₄ l₅ l₆ l₇ l₈ l₉ l₁₀ l₁₁ : ℕ) where
     abbrev C : Calls 𝓤 H
     C = 𝓣 .C
 
@@ -136,17 +136,17 @@ module _ {M : Type 1} (𝓤 : URA M) (H : Heap 𝓤) (A : Atoms 𝓤) (W : Given
     fm = fmOf 𝓤 H (W .laws) 𝓣
 
     abbrev En : Env 𝓤 H
-    En = (Place-l.mir, l₀) ∷ ((sliceTy (tyRef (named 0) imm (pointee (Object-t.the-row .written)))), l₁) ∷ ((tyInt w64), l₂) ∷ (ObjectNumber-l.mir, l₃) ∷ ((tyInt w64), l₄) ∷ (Object-l.mir, l₅) ∷ (tyBool, l₆) ∷ (tyBool, l₇) ∷ ((tyInt w64), l₈) ∷ (tyPtr, l₉) ∷ (Object-l.mir, l₁₀) ∷ []
+    En = (Place-l.mir, l₀) ∷ ((sliceTy (tyRef (named 0) imm (pointee (Object-t.the-row .written)))), l₁) ∷ ((tyInt w64), l₂) ∷ (ObjectNumber-l.mir, l₃) ∷ ((tyInt w64), l₄) ∷ ((tyInt w64), l₅) ∷ (Object-l.mir, l₆) ∷ (tyBool, l₇) ∷ (tyBool, l₈) ∷ ((tyInt w64), l₉) ∷ (tyPtr, l₁₀) ∷ (Object-l.mir, l₁₁) ∷ []
 
     module _ where
-      abbrev At-2 : (i : ℕ) → List (Item 𝓤)
-      At-2 i = ‵ (ShrSlice (named 0) κ₁ Object-t.the-row .own (at-list b₁ o₁ γ₁ row) (sliceVal (b₁, o₁) n₁ ∷ [])) ∷ ‵ (flft κ₁ q₁) ∷ free 𝓤 Object-l.mir l₁₀ (free 𝓤 tyPtr l₉ (free 𝓤 (tyInt w64) l₈ (free 𝓤 tyBool l₇ (free 𝓤 tyBool l₆ (free 𝓤 Object-l.mir l₅ (full 𝓤 (tyInt w64) l₄ (u64-p .val i) (full 𝓤 ObjectNumber-l.mir l₃ (ObjectNumber-p .val number) (full 𝓤 (tyInt w64) l₂ (u64-p .val used) (full 𝓤 (sliceTy (tyRef (named 0) imm (pointee (Object-t.the-row .written)))) l₁ (sliceVal (b₁, o₁) n₁) (free 𝓤 Place-l.mir l₀ ([])))))))))))
+      abbrev At-2 : (seen : ℕ) → List (Item 𝓤)
+      At-2 seen = ‵ (ShrSlice (named 0) κ₁ Object-t.the-row .own (at-list b₁ o₁ γ₁ row) (sliceVal (b₁, o₁) n₁ ∷ [])) ∷ ‵ (flft κ₁ q₁) ∷ free 𝓤 Object-l.mir l₁₁ (free 𝓤 tyPtr l₁₀ (free 𝓤 (tyInt w64) l₉ (free 𝓤 tyBool l₈ (free 𝓤 tyBool l₇ (free 𝓤 Object-l.mir l₆ (free 𝓤 (tyInt w64) l₅ (full 𝓤 (tyInt w64) l₄ (u64-p .val seen) (full 𝓤 ObjectNumber-l.mir l₃ (ObjectNumber-p .val number) (full 𝓤 (tyInt w64) l₂ (u64-p .val used) (full 𝓤 (sliceTy (tyRef (named 0) imm (pointee (Object-t.the-row .written)))) l₁ (sliceVal (b₁, o₁) n₁) (free 𝓤 Place-l.mir l₀ ([]))))))))))))
 
-      abbrev Facts-2 : ℕ → (i : ℕ) → Type 0
-      Facts-2 t i = (t ≡ i) × (Is (u64-p .row) i (u64-p .val i ∷ [])) × ((i ≤ used) × (objectPlace row i number ≡ objectPlace row used number))
+      abbrev Facts-2 : ℕ → (seen : ℕ) → Type 0
+      Facts-2 t seen = (t ≡ used - seen) × (Is (u64-p .row) seen (u64-p .val seen ∷ [])) × ((seen ≤ used) × (objectPlace row (used - seen) number ≡ objectPlace row used number))
 
       abbrev Inv-2 : ℕ → SProp 𝓤
-      Inv-2 t = ex 𝓤 (λ (i : ℕ). guard 𝓤 (Facts-2 t i) (⋆ 𝓤 H A (At-2 i)))
+      Inv-2 t = ex 𝓤 (λ (seen : ℕ). guard 𝓤 (Facts-2 t seen) (⋆ 𝓤 H A (At-2 seen)))
 
       abbrev Below-2 : ℕ → SProp 𝓤
       Below-2 t = ex 𝓤 (λ (u : ℕ). guard 𝓤 (u < t) (Inv-2 u))
@@ -154,81 +154,88 @@ module _ {M : Type 1} (𝓤 : URA M) (H : Heap 𝓤) (A : Atoms 𝓤) (W : Given
       abbrev Left-2 : Out → SProp 𝓤
       Left-2 = afterBlock 𝓤 H (afterSeq 𝓤 H (Wp 𝓤 H C Λ En mir.t-3 (atReturn 𝓤 H En Post)) (atReturn 𝓤 H En Post))
 
-      inv-at-2 : (t : ℕ) → (i : ℕ) → Facts-2 t i → ent 𝓤 (⋆ 𝓤 H A (At-2 i)) (Inv-2 t)
-      inv-at-2 t i fs = via 𝓤 (guard 𝓤 (Facts-2 t i) (⋆ 𝓤 H A (At-2 i))) (guardI 𝓤 (Facts-2 t i) (⋆ 𝓤 H A (At-2 i)) fs) (exI 𝓤 (λ (i : ℕ). guard 𝓤 (Facts-2 t i) (⋆ 𝓤 H A (At-2 i))) i)
+      inv-at-2 : (t : ℕ) → (seen : ℕ) → Facts-2 t seen → ent 𝓤 (⋆ 𝓤 H A (At-2 seen)) (Inv-2 t)
+      inv-at-2 t seen fs = via 𝓤 (guard 𝓤 (Facts-2 t seen) (⋆ 𝓤 H A (At-2 seen))) (guardI 𝓤 (Facts-2 t seen) (⋆ 𝓤 H A (At-2 seen)) fs) (exI 𝓤 (λ (seen : ℕ). guard 𝓤 (Facts-2 t seen) (⋆ 𝓤 H A (At-2 seen))) seen)
 
-      again-2 : (t : ℕ) → (i : ℕ) → (i-is : Is (u64-p .row) i (u64-p .val i ∷ [])) → ((i ≤ used) × (objectPlace row i number ≡ objectPlace row used number)) → (i < t) → ent 𝓤 (⋆ 𝓤 H A (At-2 i)) (Below-2 t)
-      again-2 t i i-is inv less = via 𝓤 (Inv-2 i) (inv-at-2 i i (refl, i-is, inv)) (via 𝓤 (guard 𝓤 (i < t) (Inv-2 i)) (guardI 𝓤 (i < t) (Inv-2 i) less) (exI 𝓤 (λ (u : ℕ). guard 𝓤 (u < t) (Inv-2 u)) i))
+      again-2 : (t : ℕ) → (seen : ℕ) → (seen-is : Is (u64-p .row) seen (u64-p .val seen ∷ [])) → ((seen ≤ used) × (objectPlace row (used - seen) number ≡ objectPlace row used number)) → ((used - seen) < t) → ent 𝓤 (⋆ 𝓤 H A (At-2 seen)) (Below-2 t)
+      again-2 t seen seen-is inv less = via 𝓤 (Inv-2 (used - seen)) (inv-at-2 (used - seen) seen (refl, seen-is, inv)) (via 𝓤 (guard 𝓤 ((used - seen) < t) (Inv-2 (used - seen))) (guardI 𝓤 ((used - seen) < t) (Inv-2 (used - seen)) less) (exI 𝓤 (λ (u : ℕ). guard 𝓤 (u < t) (Inv-2 u)) (used - seen)))
 
-      turn-2 : (i : ℕ) → (t-2 : ℕ) → (i-is : Is (u64-p .row) i (u64-p .val i ∷ [])) → (t-is-2 : t-2 ≡ i) → (inv-2 : (i ≤ used) × (objectPlace row i number ≡ objectPlace row used number)) → ent 𝓤 (⋆ 𝓤 H A (At-2 i)) (Wp 𝓤 H C Λ En mir.turn-1 (afterTurn 𝓤 H (Below-2 t-2) Left-2))
+      turn-2 : (seen : ℕ) → (t-2 : ℕ) → (seen-is : Is (u64-p .row) seen (u64-p .val seen ∷ [])) → (t-is-2 : t-2 ≡ used - seen) → (inv-2 : (seen ≤ used) × (objectPlace row (used - seen) number ≡ objectPlace row used number)) → ent 𝓤 (⋆ 𝓤 H A (At-2 seen)) (Wp 𝓤 H C Λ En mir.turn-1 (afterTurn 𝓤 H (Below-2 t-2) Left-2))
       unfolding afterTurn
-      turn-2 i t-2 i-is t-is-2 inv-2 =
-          qed W (At-2 i) ∵ exec ! C Λ En mir.turn-1 (anyQ (afterTurn 𝓤 H (Below-2 t-2) Left-2)) $
-          assigns ! (bin ! (lit ! tt) (load ! (from ! (stop !)) (look ! 14 refl)) (tt)) (from ! (stop !)) (init ! 8 refl (bool-p .typed 𝓤 H A W (ltb 0 i) refl)) $
+      turn-2 seen t-2 seen-is t-is-2 inv-2 =
+          qed W (At-2 seen) ∵ exec ! C Λ En mir.turn-1 (anyQ (afterTurn 𝓤 H (Below-2 t-2) Left-2)) $
+          assigns ! (bin ! (load ! (from ! (stop !)) (look ! 16 refl)) (load ! (from ! (stop !)) (look ! 20 refl)) (tt)) (from ! (stop !)) (init ! 8 refl (bool-p .typed 𝓤 H A W (ltb seen used) refl)) $
           first ! $
           branches ! (load ! (from ! (stop !)) (look ! 8 refl))
           (λ h-2·2.
-          knows ! (ltb 0 i ≡ true) (holds (ltb 0 i) h-2·2) (λ c-2·2.
+          knows ! (ltb seen used ≡ true) (holds (ltb seen used) h-2·2) (λ c-2·2.
           skips ! $
           exec ! C Λ En (past 2 mir.turn-1) (anyQ (afterTurn 𝓤 H (Below-2 t-2) Left-2)) $
-          knows ! (1 ≤ i) (omega (arith, ltb-true, ltb-false, leb-true, leb-false, eqb-true, eqb-false)) (λ le-2·3.
-          knows ! (i - 1 < 2 ^ 64) (omega (arith, i-is .1)) (λ fits-2·3.
-          assigns ! (bin ! (load ! (from ! (stop !)) (look ! 14 refl)) (lit ! tt) (le-2·3)) (from ! (stop !)) (store ! 14 refl (u64-p .typed 𝓤 H A W (i - 1) ((refl, fits-2·3)))) $
-          knows ! ((i - 1) * 12 < 2 ^ 64) (omega (arith, ltb-true, ltb-false, leb-true, leb-false, eqb-true, eqb-false)) (λ fits-2·4.
-          assigns ! (bin ! (load ! (from ! (stop !)) (look ! 14 refl)) (lit ! tt) (record { fits = fits-2·4 })) (from ! (stop !)) (init ! 6 refl (u64-p .typed 𝓤 H A W ((i - 1) * 12) ((refl, fits-2·4)))) $
-          assigns ! (bin ! (load ! (from ! (fld ! refl (stop !))) (look-in ! 20 (sub ! 0 refl (whole !)))) (load ! (from ! (stop !)) (look ! 6 refl)) tt) (from ! (stop !)) (init ! 4 refl (tt, tt)) $
-          rewrite ! 4 (λ (p : ℕ). ‵ (fat fullShare tyPtr l₉ 0 (vptr b₁ p))) (sym (place-is 12 o₁ (i - 1))) refl $
-          knows ! (i - 1 < length row) (omega (arith, ltb-true, ltb-false, leb-true, leb-false, eqb-true, eqb-false)) (λ index-2·6.
-          views-elem ! tt Object-p b₁ o₁ row n₁ (refl) (i - 1) ((Object-of (ObjectNumber-of 0) 0 0 0 0)) index-2·6 (λ s-2·6 is-2·6.
-          assigns ! (of-opd ! (load ! (from ! (hop ! (look ! 8 refl) (stop !))) (look-raw ! 0 refl))) (from ! (stop !)) (init ! 6 refl (Object-p .typed 𝓤 H A W (getD row (i - 1) ((Object-of (ObjectNumber-of 0) 0 0 0 0))) is-2·6)) $
-          unviews-elem ! tt Object-p b₁ o₁ row n₁ (refl) room₁ (i - 1) ((Object-of (ObjectNumber-of 0) 0 0 0 0)) index-2·6 s-2·6 $
-          assigns ! (of-opd ! (load ! (from ! (stop !)) (look ! 2 refl))) (from ! (stop !)) (init ! 12 refl (Object-p .typed 𝓤 H A W (getD row (i - 1) ((Object-of (ObjectNumber-of 0) 0 0 0 0))) is-2·6)) $
-          -- 2.8: sessions::objects::is_numbered
+          knows ! (seen ≤ used) (omega (arith, ltb-true, ltb-false, leb-true, leb-false, eqb-true, eqb-false)) (λ le-2·3.
+          knows ! (used - seen < 2 ^ 64) (omega (arith, used-is .1)) (λ fits-2·3.
+          assigns ! (bin ! (load ! (from ! (stop !)) (look ! 20 refl)) (load ! (from ! (stop !)) (look ! 16 refl)) (le-2·3)) (from ! (stop !)) (init ! 6 refl (u64-p .typed 𝓤 H A W (used - seen) ((refl, fits-2·3)))) $
+          knows ! (1 ≤ (used - seen)) (omega (arith, ltb-true, ltb-false, leb-true, leb-false, eqb-true, eqb-false)) (λ le-2·4.
+          knows ! ((used - seen) - 1 < 2 ^ 64) (omega (arith, fits-2·3)) (λ fits-2·4.
+          assigns ! (bin ! (load ! (from ! (stop !)) (look ! 6 refl)) (lit ! tt) (le-2·4)) (from ! (stop !)) (init ! 14 refl (u64-p .typed 𝓤 H A W ((used - seen) - 1) ((refl, fits-2·4)))) $
+          knows ! (((used - seen) - 1) * 12 < 2 ^ 64) (omega (arith, ltb-true, ltb-false, leb-true, leb-false, eqb-true, eqb-false)) (λ fits-2·5.
+          assigns ! (bin ! (load ! (from ! (stop !)) (look ! 14 refl)) (lit ! tt) (record { fits = fits-2·5 })) (from ! (stop !)) (store ! 6 refl (u64-p .typed 𝓤 H A W (((used - seen) - 1) * 12) ((refl, fits-2·5)))) $
+          assigns ! (bin ! (load ! (from ! (fld ! refl (stop !))) (look-in ! 22 (sub ! 0 refl (whole !)))) (load ! (from ! (stop !)) (look ! 6 refl)) tt) (from ! (stop !)) (init ! 4 refl (tt, tt)) $
+          rewrite ! 4 (λ (p : ℕ). ‵ (fat fullShare tyPtr l₁₀ 0 (vptr b₁ p))) (sym (place-is 12 o₁ ((used - seen) - 1))) refl $
+          knows ! ((used - seen) - 1 < length row) (omega (arith, ltb-true, ltb-false, leb-true, leb-false, eqb-true, eqb-false)) (λ index-2·7.
+          views-elem ! tt Object-p b₁ o₁ row n₁ (refl) ((used - seen) - 1) ((Object-of (ObjectNumber-of 0) 0 0 0 0)) index-2·7 (λ s-2·7 is-2·7.
+          assigns ! (of-opd ! (load ! (from ! (hop ! (look ! 8 refl) (stop !))) (look-raw ! 0 refl))) (from ! (stop !)) (init ! 6 refl (Object-p .typed 𝓤 H A W (getD row ((used - seen) - 1) ((Object-of (ObjectNumber-of 0) 0 0 0 0))) is-2·7)) $
+          unviews-elem ! tt Object-p b₁ o₁ row n₁ (refl) room₁ ((used - seen) - 1) ((Object-of (ObjectNumber-of 0) 0 0 0 0)) index-2·7 s-2·7 $
+          assigns ! (of-opd ! (load ! (from ! (stop !)) (look ! 2 refl))) (from ! (stop !)) (init ! 12 refl (Object-p .typed 𝓤 H A W (getD row ((used - seen) - 1) ((Object-of (ObjectNumber-of 0) 0 0 0 0))) is-2·7)) $
+          -- 2.9: sessions::objects::is_numbered
           nothing ! $
           use1 W (raw (toks 𝓤 A 0 (tt) (tt))) (id⊢ 𝓤 _) $ nothing ! $
           owned ! (ObjectNumber-p .row) (Is (ObjectNumber-p .row)) (ObjectNumber-p .makes 𝓤 H A W) number (ObjectNumber-p .val number ∷ []) number-is $ fjoin ! $
-          owned ! (Object-p .row) (Is (Object-p .row)) (Object-p .makes 𝓤 H A W) (getD row (i - 1) ((Object-of (ObjectNumber-of 0) 0 0 0 0))) (Object-p .val (getD row (i - 1) ((Object-of (ObjectNumber-of 0) 0 0 0 0))) ∷ []) is-2·6 $ fjoin ! $ move ! (1 ∷ 0 ∷ []) $
-          calls-any ! fm 0 [] (objects-is-numbered.signature .params) (objects-is-numbered.ended .kept) bool-p (objects-is-numbered.clauses 𝓤 H A mem run) known-objects-is-numbered tt tt tt (getD row (i - 1) ((Object-of (ObjectNumber-of 0) 0 0 0 0)), (number, tt)) (Object-p .val (getD row (i - 1) ((Object-of (ObjectNumber-of 0) 0 0 0 0))) ∷ [], (ObjectNumber-p .val number ∷ [], tt)) tt (isNumbered (getD row (i - 1) ((Object-of (ObjectNumber-of 0) 0 0 0 0))) number) (λ ws-2·8. Unit {0}) (id⊢ 𝓤 _) (λ r ws-2·8. fact-mono 𝓤 (r ≡ isNumbered (getD row (i - 1) ((Object-of (ObjectNumber-of 0) 0 0 0 0))) number) ((r ≡ (isNumbered (getD row (i - 1) ((Object-of (ObjectNumber-of 0) 0 0 0 0))) number)) × (Unit {0})) (λ e. (e, tt))) (λ _. (and-then ! (load ! (from ! (stop !)) (look ! 13 refl)) (and-then ! (load ! (from ! (stop !)) (look ! 17 refl)) (no-more !)))) (λ ws-2·8 said-2·8 is-2·8.
+          owned ! (Object-p .row) (Is (Object-p .row)) (Object-p .makes 𝓤 H A W) (getD row ((used - seen) - 1) ((Object-of (ObjectNumber-of 0) 0 0 0 0))) (Object-p .val (getD row ((used - seen) - 1) ((Object-of (ObjectNumber-of 0) 0 0 0 0))) ∷ []) is-2·7 $ fjoin ! $ move ! (1 ∷ 0 ∷ []) $
+          calls-any ! fm 0 [] (objects-is-numbered.signature .params) (objects-is-numbered.ended .kept) bool-p (objects-is-numbered.clauses 𝓤 H A mem run) known-objects-is-numbered tt tt tt (getD row ((used - seen) - 1) ((Object-of (ObjectNumber-of 0) 0 0 0 0)), (number, tt)) (Object-p .val (getD row ((used - seen) - 1) ((Object-of (ObjectNumber-of 0) 0 0 0 0))) ∷ [], (ObjectNumber-p .val number ∷ [], tt)) tt (isNumbered (getD row ((used - seen) - 1) ((Object-of (ObjectNumber-of 0) 0 0 0 0))) number) (λ ws-2·9. Unit {0}) (id⊢ 𝓤 _) (λ r ws-2·9. fact-mono 𝓤 (r ≡ isNumbered (getD row ((used - seen) - 1) ((Object-of (ObjectNumber-of 0) 0 0 0 0))) number) ((r ≡ (isNumbered (getD row ((used - seen) - 1) ((Object-of (ObjectNumber-of 0) 0 0 0 0))) number)) × (Unit {0})) (λ e. (e, tt))) (λ _. (and-then ! (load ! (from ! (stop !)) (look ! 13 refl)) (and-then ! (load ! (from ! (stop !)) (look ! 19 refl)) (no-more !)))) (λ ws-2·9 said-2·9 is-2·9.
           drop ! $ drop ! $
-          land ! (from ! (stop !)) (init ! 10 refl (bool-p .typed 𝓤 H A W (isNumbered (getD row (i - 1) ((Object-of (ObjectNumber-of 0) 0 0 0 0))) number) is-2·8)) $
-          assigns ! (of-opd ! (load ! (from ! (stop !)) (look ! 10 refl))) (from ! (stop !)) (store ! 8 refl (bool-p .typed 𝓤 H A W (isNumbered (getD row (i - 1) ((Object-of (ObjectNumber-of 0) 0 0 0 0))) number) is-2·8)) $
+          land ! (from ! (stop !)) (init ! 10 refl (bool-p .typed 𝓤 H A W (isNumbered (getD row ((used - seen) - 1) ((Object-of (ObjectNumber-of 0) 0 0 0 0))) number) is-2·9)) $
+          assigns ! (of-opd ! (load ! (from ! (stop !)) (look ! 10 refl))) (from ! (stop !)) (store ! 8 refl (bool-p .typed 𝓤 H A W (isNumbered (getD row ((used - seen) - 1) ((Object-of (ObjectNumber-of 0) 0 0 0 0))) number) is-2·9)) $
+          first ! $
           branches ! (load ! (from ! (stop !)) (look ! 8 refl))
-          (λ h-2·10.
-          knows ! (isNumbered (getD row (i - 1) ((Object-of (ObjectNumber-of 0) 0 0 0 0))) number ≡ true) (holds (isNumbered (getD row (i - 1) ((Object-of (ObjectNumber-of 0) 0 0 0 0))) number) h-2·10) (λ c-2·10.
-          assigns ! (agg ! (and-then ! (lit ! tt) (and-then ! (load ! (from ! (stop !)) (look ! 14 refl)) (no-more !)))) (from ! (stop !)) (init ! 22 refl (Place-p .typed 𝓤 H A W (Place-At (i - 1)) (EL.owes Place-t.the-type Place-l.the-laws (Place-At (i - 1)) ((refl, fits-2·3), tt)))) $
-          returns-within ! Post refl (look ! 22 refl) $ forget ! 2 refl $ forget ! 4 refl $ forget ! 6 refl $ forget ! 8 refl $ forget ! 10 refl $ forget ! 12 refl $ forget ! 14 refl $ forget ! 16 refl $ forget ! 18 refl $ forget ! 20 refl $ forget ! 22 refl $ move ! (22 ∷ 23 ∷ []) $ free1 ! $ move ! (20 ∷ 21 ∷ []) $ free1 ! $ move ! (18 ∷ 19 ∷ []) $ free1 ! $ move ! (16 ∷ 17 ∷ []) $ free1 ! $ move ! (14 ∷ 15 ∷ []) $ free1 ! $ move ! (12 ∷ 13 ∷ []) $ free1 ! $ move ! (10 ∷ 11 ∷ []) $ free1 ! $ move ! (8 ∷ 9 ∷ []) $ free1 ! $ move ! (6 ∷ 7 ∷ []) $ free1 ! $ move ! (4 ∷ 5 ∷ []) $ free1 ! $ move ! (2 ∷ 3 ∷ []) $ free1 ! $ free0 ! $
-          by ! (exits (Place-At (i - 1)) (at-hit row number i (omega (arith, ltb-true, ltb-false, leb-true, leb-false, eqb-true, eqb-false)) c-2·10 ∙ inv-2 .1) (EL.owes Place-t.the-type Place-l.the-laws (Place-At (i - 1)) ((refl, fits-2·3), tt)))))
-          (λ h-2·10.
-          knows ! (isNumbered (getD row (i - 1) ((Object-of (ObjectNumber-of 0) 0 0 0 0))) number ≡ false) (fails (isNumbered (getD row (i - 1) ((Object-of (ObjectNumber-of 0) 0 0 0 0))) number) (T-not (isNumbered (getD row (i - 1) ((Object-of (ObjectNumber-of 0) 0 0 0 0))) number) h-2·10)) (λ c-2·10.
-          skips ! $ forget ! 2 refl $ forget ! 4 refl $ forget ! 6 refl $ forget ! 8 refl $ forget ! 10 refl $ forget ! 12 refl $
-          by ! (again-2 t-2 (i - 1) ((refl, fits-2·3)) (((omega (arith, ltb-true, ltb-false, leb-true, leb-false, eqb-true, eqb-false)), past-miss row number i (omega (arith, ltb-true, ltb-false, leb-true, leb-false, eqb-true, eqb-false)) c-2·10 ∙ inv-2 .1)) (omega (arith, ltb-true, ltb-false, leb-true, leb-false, eqb-true, eqb-false)))))))))))))
+          (λ h-2·11.
+          knows ! (isNumbered (getD row ((used - seen) - 1) ((Object-of (ObjectNumber-of 0) 0 0 0 0))) number ≡ true) (holds (isNumbered (getD row ((used - seen) - 1) ((Object-of (ObjectNumber-of 0) 0 0 0 0))) number) h-2·11) (λ c-2·11.
+          assigns ! (agg ! (and-then ! (lit ! tt) (and-then ! (load ! (from ! (stop !)) (look ! 14 refl)) (no-more !)))) (from ! (stop !)) (init ! 24 refl (Place-p .typed 𝓤 H A W (Place-At ((used - seen) - 1)) (EL.owes Place-t.the-type Place-l.the-laws (Place-At ((used - seen) - 1)) ((refl, fits-2·4), tt)))) $
+          returns-within ! Post refl (look ! 24 refl) $ forget ! 2 refl $ forget ! 4 refl $ forget ! 6 refl $ forget ! 8 refl $ forget ! 10 refl $ forget ! 12 refl $ forget ! 14 refl $ forget ! 16 refl $ forget ! 18 refl $ forget ! 20 refl $ forget ! 22 refl $ forget ! 24 refl $ move ! (24 ∷ 25 ∷ []) $ free1 ! $ move ! (22 ∷ 23 ∷ []) $ free1 ! $ move ! (20 ∷ 21 ∷ []) $ free1 ! $ move ! (18 ∷ 19 ∷ []) $ free1 ! $ move ! (16 ∷ 17 ∷ []) $ free1 ! $ move ! (14 ∷ 15 ∷ []) $ free1 ! $ move ! (12 ∷ 13 ∷ []) $ free1 ! $ move ! (10 ∷ 11 ∷ []) $ free1 ! $ move ! (8 ∷ 9 ∷ []) $ free1 ! $ move ! (6 ∷ 7 ∷ []) $ free1 ! $ move ! (4 ∷ 5 ∷ []) $ free1 ! $ move ! (2 ∷ 3 ∷ []) $ free1 ! $ free0 ! $
+          by ! (exits (Place-At ((used - seen) - 1)) (at-hit row number used seen (omega (arith, ltb-true, ltb-false, leb-true, leb-false, eqb-true, eqb-false)) c-2·11 ∙ inv-2 .1) (EL.owes Place-t.the-type Place-l.the-laws (Place-At ((used - seen) - 1)) ((refl, fits-2·4), tt)))))
+          (λ h-2·11.
+          knows ! (isNumbered (getD row ((used - seen) - 1) ((Object-of (ObjectNumber-of 0) 0 0 0 0))) number ≡ false) (fails (isNumbered (getD row ((used - seen) - 1) ((Object-of (ObjectNumber-of 0) 0 0 0 0))) number) (T-not (isNumbered (getD row ((used - seen) - 1) ((Object-of (ObjectNumber-of 0) 0 0 0 0))) number) h-2·11)) (λ c-2·11.
+          skips ! $
+          exec ! C Λ En (past 11 mir.turn-1) (anyQ (afterTurn 𝓤 H (Below-2 t-2) Left-2)) $
+          knows ! (seen + 1 < 2 ^ 64) (omega (arith, ltb-true, ltb-false, leb-true, leb-false, eqb-true, eqb-false)) (λ fits-2·12.
+          assigns-last ! (bin ! (load ! (from ! (stop !)) (look ! 16 refl)) (lit ! tt) (record { fits = fits-2·12 })) (from ! (stop !)) (store ! 16 refl (u64-p .typed 𝓤 H A W (seen + 1) ((refl, fits-2·12)))) $ forget ! 2 refl $ forget ! 4 refl $ forget ! 6 refl $ forget ! 8 refl $ forget ! 10 refl $ forget ! 12 refl $ forget ! 14 refl $
+          by ! (again-2 t-2 (seen + 1) ((refl, fits-2·12)) (((omega (arith, ltb-true, ltb-false, leb-true, leb-false, eqb-true, eqb-false)), past-miss row number used seen (omega (arith, ltb-true, ltb-false, leb-true, leb-false, eqb-true, eqb-false)) c-2·11 ∙ inv-2 .1)) (omega (arith, ltb-true, ltb-false, leb-true, leb-false, eqb-true, eqb-false))))))))))))))))
           (λ h-2·2.
-          knows ! (ltb 0 i ≡ false) (fails (ltb 0 i) (T-not (ltb 0 i) h-2·2)) (λ c-2·2.
+          knows ! (ltb seen used ≡ false) (fails (ltb seen used) (T-not (ltb seen used) h-2·2)) (λ c-2·2.
           jumps ! $
           exec ! C Λ En mir.t-3 (atRet En Post) $
-          assigns ! (agg ! (and-then ! (lit ! tt) (no-more !))) (from ! (stop !)) (init ! 22 refl (Place-p .typed 𝓤 H A W Place-Nowhere (EL.owes Place-t.the-type Place-l.the-laws Place-Nowhere tt))) $
-          returns ! (look ! 22 refl) $ forget ! 8 refl $ forget ! 14 refl $ forget ! 16 refl $ forget ! 18 refl $ forget ! 20 refl $ forget ! 22 refl $ move ! (22 ∷ 23 ∷ []) $ free1 ! $ move ! (20 ∷ 21 ∷ []) $ free1 ! $ move ! (18 ∷ 19 ∷ []) $ free1 ! $ move ! (16 ∷ 17 ∷ []) $ free1 ! $ move ! (14 ∷ 15 ∷ []) $ free1 ! $ move ! (12 ∷ 13 ∷ []) $ free1 ! $ move ! (10 ∷ 11 ∷ []) $ free1 ! $ move ! (8 ∷ 9 ∷ []) $ free1 ! $ move ! (6 ∷ 7 ∷ []) $ free1 ! $ move ! (4 ∷ 5 ∷ []) $ free1 ! $ move ! (2 ∷ 3 ∷ []) $ free1 ! $ free0 ! $
-          by ! (exits Place-Nowhere (at-first row number i (omega (arith, ltb-true, ltb-false, leb-true, leb-false, eqb-true, eqb-false)) ∙ inv-2 .1) (EL.owes Place-t.the-type Place-l.the-laws Place-Nowhere tt))))
+          assigns ! (agg ! (and-then ! (lit ! tt) (no-more !))) (from ! (stop !)) (init ! 24 refl (Place-p .typed 𝓤 H A W Place-Nowhere (EL.owes Place-t.the-type Place-l.the-laws Place-Nowhere tt))) $
+          returns ! (look ! 24 refl) $ forget ! 8 refl $ forget ! 16 refl $ forget ! 18 refl $ forget ! 20 refl $ forget ! 22 refl $ forget ! 24 refl $ move ! (24 ∷ 25 ∷ []) $ free1 ! $ move ! (22 ∷ 23 ∷ []) $ free1 ! $ move ! (20 ∷ 21 ∷ []) $ free1 ! $ move ! (18 ∷ 19 ∷ []) $ free1 ! $ move ! (16 ∷ 17 ∷ []) $ free1 ! $ move ! (14 ∷ 15 ∷ []) $ free1 ! $ move ! (12 ∷ 13 ∷ []) $ free1 ! $ move ! (10 ∷ 11 ∷ []) $ free1 ! $ move ! (8 ∷ 9 ∷ []) $ free1 ! $ move ! (6 ∷ 7 ∷ []) $ free1 ! $ move ! (4 ∷ 5 ∷ []) $ free1 ! $ move ! (2 ∷ 3 ∷ []) $ free1 ! $ free0 ! $
+          by ! (exits Place-Nowhere (at-end row number used seen (omega (arith, ltb-true, ltb-false, leb-true, leb-false, eqb-true, eqb-false)) ∙ inv-2 .1) (EL.owes Place-t.the-type Place-l.the-laws Place-Nowhere tt))))
 
       turns-2 : (t : ℕ) → ent 𝓤 (Inv-2 t) (Wp 𝓤 H C Λ En mir.turn-1 (afterTurn 𝓤 H (Below-2 t) Left-2))
-      turns-2 t = exE 𝓤 (λ (i : ℕ). guard 𝓤 (Facts-2 t i) (⋆ 𝓤 H A (At-2 i))) (λ i. guardE 𝓤 (Facts-2 t i) (⋆ 𝓤 H A (At-2 i)) (λ fs. turn-2 i t (fs .1) (fs .0) (fs .2)))
+      turns-2 t = exE 𝓤 (λ (seen : ℕ). guard 𝓤 (Facts-2 t seen) (⋆ 𝓤 H A (At-2 seen))) (λ seen. guardE 𝓤 (Facts-2 t seen) (⋆ 𝓤 H A (At-2 seen)) (λ fs. turn-2 seen t (fs .1) (fs .0) (fs .2)))
 
-      loops-2 : (i : ℕ) (i-is : Is (u64-p .row) i (u64-p .val i ∷ [])) → ((i ≤ used) × (objectPlace row i number ≡ objectPlace row used number)) → ent 𝓤 (⋆ 𝓤 H A (At-2 i)) (Wp 𝓤 H C Λ En (loop mir.turn-1) Left-2)
-      loops-2 i i-is inv = via 𝓤 (Inv-2 i) (inv-at-2 i i (refl, i-is, inv)) (loop-rule 𝓤 H (W .laws) 𝓣 _<_ (Nat·lt-wfRel .wf) En mir.turn-1 Left-2 Inv-2 turns-2 i)
+      loops-2 : (seen : ℕ) (seen-is : Is (u64-p .row) seen (u64-p .val seen ∷ [])) → ((seen ≤ used) × (objectPlace row (used - seen) number ≡ objectPlace row used number)) → ent 𝓤 (⋆ 𝓤 H A (At-2 seen)) (Wp 𝓤 H C Λ En (loop mir.turn-1) Left-2)
+      loops-2 seen seen-is inv = via 𝓤 (Inv-2 (used - seen)) (inv-at-2 (used - seen) seen (refl, seen-is, inv)) (loop-rule 𝓤 H (W .laws) 𝓣 _<_ (Nat·lt-wfRel .wf) En mir.turn-1 Left-2 Inv-2 turns-2 (used - seen))
 
-    begins : Sq W (‵ (ShrSlice (named 0) κ₁ Object-t.the-row .own (at-list b₁ o₁ γ₁ row) (sliceVal (b₁, o₁) n₁ ∷ [])) ∷ ‵ (flft κ₁ q₁) ∷ free 𝓤 Object-l.mir l₁₀ (free 𝓤 tyPtr l₉ (free 𝓤 (tyInt w64) l₈ (free 𝓤 tyBool l₇ (free 𝓤 tyBool l₆ (free 𝓤 Object-l.mir l₅ (free 𝓤 (tyInt w64) l₄ (full 𝓤 ObjectNumber-l.mir l₃ (ObjectNumber-p .val number) (full 𝓤 (tyInt w64) l₂ (u64-p .val used) (full 𝓤 (sliceTy (tyRef (named 0) imm (pointee (Object-t.the-row .written)))) l₁ (sliceVal (b₁, o₁) n₁) (free 𝓤 Place-l.mir l₀ ([])))))))))))) (runs C Λ En mir.t-1 (atRet En Post))
+    begins : Sq W (‵ (ShrSlice (named 0) κ₁ Object-t.the-row .own (at-list b₁ o₁ γ₁ row) (sliceVal (b₁, o₁) n₁ ∷ [])) ∷ ‵ (flft κ₁ q₁) ∷ free 𝓤 Object-l.mir l₁₁ (free 𝓤 tyPtr l₁₀ (free 𝓤 (tyInt w64) l₉ (free 𝓤 tyBool l₈ (free 𝓤 tyBool l₇ (free 𝓤 Object-l.mir l₆ (free 𝓤 (tyInt w64) l₅ (free 𝓤 (tyInt w64) l₄ (full 𝓤 ObjectNumber-l.mir l₃ (ObjectNumber-p .val number) (full 𝓤 (tyInt w64) l₂ (u64-p .val used) (full 𝓤 (sliceTy (tyRef (named 0) imm (pointee (Object-t.the-row .written)))) l₁ (sliceVal (b₁, o₁) n₁) (free 𝓤 Place-l.mir l₀ ([]))))))))))))) (runs C Λ En mir.t-1 (atRet En Post))
     begins =
-        assigns ! (of-opd ! (load ! (from ! (stop !)) (look ! 18 refl))) (from ! (stop !)) (init ! 14 refl (u64-p .typed 𝓤 H A W used used-is)) $
+        assigns ! (of-opd ! (lit ! tt)) (from ! (stop !)) (init ! 16 refl (u64-p .typed 𝓤 H A W 0 ((refl, lit< tt)))) $
         first ! $
         blocks ! $
-        by ! (loops-2 used used-is (((omega (arith, ltb-true, ltb-false, leb-true, leb-false, eqb-true, eqb-false)), refl)))
+        by ! (loops-2 0 ((refl, lit< tt)) (((omega (arith, ltb-true, ltb-false, leb-true, leb-false, eqb-true, eqb-false)), at-start row number used)))
 
   module _ (𝓣 : Tables 𝓤 H) (known-objects-is-numbered : Triple 𝓤 (𝓣 .C #objects-is-numbered) (Of-objects-is-numbered 𝓤 H A mem run)) where
     walk : ent 𝓤 (onEntry 𝓤 H A f.signature (κ₁, tt) (q₁, tt) x at) (WpFn 𝓤 H (𝓣 .C) (𝓣 .Λ) code.function (sliceVal (b₁, o₁) n₁ ∷ u64-p .val used ∷ ObjectNumber-p .val number ∷ []) Post)
     walk =
         qed W ((‵ (flft κ₁ q₁) ⊛ ‵ ftrue) ∷ ‵ (owns (ShrSlice (named 0) κ₁ Object-t.the-row ∷ u64-p .row ∷ ObjectNumber-p .row ∷ []) x at) ∷ []) ∵ enter ! (𝓣 .C) (𝓣 .Λ) code.function (sliceVal (b₁, o₁) n₁ ∷ u64-p .val used ∷ ObjectNumber-p .val number ∷ []) _ $
-        alloc1 ! (λ l₀. alloc1 ! (λ l₁. alloc1 ! (λ l₂. alloc1 ! (λ l₃. alloc1 ! (λ l₄. alloc1 ! (λ l₅. alloc1 ! (λ l₆. alloc1 ! (λ l₇. alloc1 ! (λ l₈. alloc1 ! (λ l₉. alloc1 ! (λ l₁₀. alloc0 ! $ params1 ! $ pass1 ! (init ! 18 refl (tt, (tt, (record { fits = room₁ .0 }, tt)))) $ pass1 ! (init ! 16 refl (u64-p .typed 𝓤 H A W used used-is)) $ pass1 ! (init ! 14 refl (ObjectNumber-p .typed 𝓤 H A W number number-is)) $ pass0 ! $ move ! (23 ∷ []) $ fsplit ! $ move ! (24 ∷ []) $ split ! $ move ! (1 ∷ []) $ drop ! $ move ! (2 ∷ []) $ drop ! $ move ! (1 ∷ 0 ∷ 2 ∷ 3 ∷ 4 ∷ 5 ∷ 6 ∷ 7 ∷ 8 ∷ 9 ∷ 10 ∷ 11 ∷ 12 ∷ 13 ∷ 14 ∷ 15 ∷ 16 ∷ 17 ∷ 18 ∷ 19 ∷ 20 ∷ 21 ∷ 22 ∷ 23 ∷ []) $
-        begins 𝓣 known-objects-is-numbered l₀ l₁ l₂ l₃ l₄ l₅ l₆ l₇ l₈ l₉ l₁₀)))))))))))
+        alloc1 ! (λ l₀. alloc1 ! (λ l₁. alloc1 ! (λ l₂. alloc1 ! (λ l₃. alloc1 ! (λ l₄. alloc1 ! (λ l₅. alloc1 ! (λ l₆. alloc1 ! (λ l₇. alloc1 ! (λ l₈. alloc1 ! (λ l₉. alloc1 ! (λ l₁₀. alloc1 ! (λ l₁₁. alloc0 ! $ params1 ! $ pass1 ! (init ! 20 refl (tt, (tt, (record { fits = room₁ .0 }, tt)))) $ pass1 ! (init ! 18 refl (u64-p .typed 𝓤 H A W used used-is)) $ pass1 ! (init ! 16 refl (ObjectNumber-p .typed 𝓤 H A W number number-is)) $ pass0 ! $ move ! (25 ∷ []) $ fsplit ! $ move ! (26 ∷ []) $ split ! $ move ! (1 ∷ []) $ drop ! $ move ! (2 ∷ []) $ drop ! $ move ! (1 ∷ 0 ∷ 2 ∷ 3 ∷ 4 ∷ 5 ∷ 6 ∷ 7 ∷ 8 ∷ 9 ∷ 10 ∷ 11 ∷ 12 ∷ 13 ∷ 14 ∷ 15 ∷ 16 ∷ 17 ∷ 18 ∷ 19 ∷ 20 ∷ 21 ∷ 22 ∷ 23 ∷ 24 ∷ 25 ∷ []) $
+        begins 𝓣 known-objects-is-numbered l₀ l₁ l₂ l₃ l₄ l₅ l₆ l₇ l₈ l₉ l₁₀ l₁₁))))))))))))
 
 module _ {M : Type 1} (𝓤 : URA M) (H : Heap 𝓤) (A : Atoms 𝓤) (W : Given 𝓤 H A) (mem : Memory → SProp 𝓤) (run : Routine → Fun 𝓤) (𝓣 : Tables 𝓤 H) (known-objects-is-numbered : Triple 𝓤 (𝓣 .C #objects-is-numbered) (Of-objects-is-numbered 𝓤 H A mem run)) where
   walks : Walks 𝓤 H A f.ended stayed (WpFn 𝓤 H (𝓣 .C) (𝓣 .Λ) code.function) (f.clauses 𝓤 H A mem run)
