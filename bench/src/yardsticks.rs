@@ -3,7 +3,7 @@
 
 use crate::agent_rows::{standing, Objects, FEW, MANY};
 use crate::clock;
-use crate::datagrams::{write_data, PUBLISHER, READER, SUBSCRIBER, WRITER};
+use crate::datagrams::{datagram, status_ok, write_data, PUBLISHER, READER, SUBSCRIBER, WRITER};
 use crate::measure::{batch, turns, Plan};
 use crate::port::{shortest_call, Port};
 use crate::row::median;
@@ -90,10 +90,12 @@ fn listing_cost(plan: &Plan, count: u16) -> f64 {
     })
 }
 
-/// WRITE_DATA to an object of a session with `count`.
+/// WRITE_DATA to an object of a session with `count`, once it is seen to be found.
 fn writing(count: u16, number: u16) -> Side<Port, Datagrams> {
     let port = standing(1, Some(Objects { kinds: &[WRITER], count }));
-    Side::new(port, Datagrams::new(1, 0, &[write_data(number, 16)]), false)
+    let mut side = Side::new(port, Datagrams::new(1, 0, &[write_data(number, 16)]), false);
+    assert!(side.shown().starts_with(&datagram(1, 0, &status_ok(number))), "object {number} of {count}");
+    side
 }
 
 /// The three in turn, a batch of each, since what matters is how they differ.
