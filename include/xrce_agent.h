@@ -1,9 +1,9 @@
 /*
  * The C interface of the agent.
  *
- * The host owns everything: it lends the agent's record, the three tables and an output with each call, and keeps the record and the
- * tables between calls as the last call left them. Every function answers for every argument. What can't be done is refused with a
- * number of enum xrce_refusal, and a refused call changes no byte of what was lent to it.
+ * The host owns everything: it lends the agent's record, the three tables, the store of held messages and an output with each call, and
+ * keeps the record, the tables and the store between calls as the last call left them. Every function answers for every argument. What
+ * can't be done is refused with a number of enum xrce_refusal, and a refused call changes no byte of what was lent to it.
  *
  * A slice is a pointer and a number of elements. A pointer is never null, not even with 0 elements, and two slices that a function may
  * write share no byte. Nothing is kept of a pointer behind the call.
@@ -94,36 +94,48 @@ struct xrce_object {
     uint16_t parent;
 };
 
-/* A row of the table of sessions, and of the table of streams. */
-typedef uint64_t xrce_session_row[5];
+/* A row of the table of sessions: whether it is live, key, last activity, objects in use, streams in use, and the session's slot, a number
+ * below max_clients that no other live session has: its part of the store of held messages (0 in a row that isn't live). A row of the
+ * table of streams. */
+typedef uint64_t xrce_session_row[6];
 typedef uint16_t xrce_stream_row[35];
 
 /* The documented need: how many rows and records each table must have, whatever max_clients is (at most 255). */
 enum { XRCE_SESSIONS = 256, XRCE_STREAMS = 2048, XRCE_OBJECTS = 8192 };
+
+/* The store of held messages: so many bytes for each of max_clients, 16 messages of 1,024 bytes on each of 7 streams. A DATA reply on a
+ * stream other than 0 stands there until its client acknowledges it, so that it can be sent again byte for byte. With max_clients 0 the
+ * store may be empty. */
+enum { XRCE_HELD = 114688 };
 
 /* Of an answer: the refusal (0: none), its byte (with 2, 3 and 4), and the number that comes with "none". */
 static inline unsigned xrce_refused(uint64_t answer) { return (unsigned)(answer % 256); }
 static inline unsigned xrce_byte(uint64_t answer) { return (unsigned)(answer / 256 % 256); }
 static inline uint64_t xrce_number(uint64_t answer) { return answer / 65536; }
 
-/* The documented need for max_clients in bytes, all tables together; refused: 16. The need is the answer's number. */
+/* The documented need for max_clients in bytes, all tables and the store together; refused: 16. The need is the answer's number. */
 uint64_t xrce_need(uint64_t max_clients);
 
-/* Sets the agent up over the tables, whatever stood in them: no session, and every limit as given. Refused: 16. */
+/* Sets the agent up over the tables, whatever stood in them: no session, and every limit as given. The store of held messages is measured,
+ * and no byte of it is looked at or written. Refused: 16, also if the store has fewer than XRCE_HELD * max_clients bytes. */
 uint64_t xrce_agent_setup(struct xrce_agent *agent, size_t agents, xrce_session_row *sessions, size_t session_rows, xrce_stream_row *streams,
-                          size_t stream_rows, struct xrce_object *objects, size_t object_records, uint64_t max_clients,
-                          uint64_t timeout_ms);
+                          size_t stream_rows, struct xrce_object *objects, size_t object_records, const uint8_t *held, size_t held_bytes,
+                          uint64_t max_clients, uint64_t timeout_ms);
 
 /*
  * A datagram (input XRCE_DATAGRAM, with its time), or the bridge's answer to the open call (any other input), with the call's datagram lent again,
  * the handle of XRCE_CREATED and the bytes of XRCE_SAMPLE. Replies stand one behind the other at the start of the output, agent->wrote bytes in all,
  * each to be sent to the address that the datagram came from. Where agent->call isn't XRCE_NO_CALL the host makes that call and hands in its answer
- * before anything else. Refused, in this order: 15, 16, 1 to 5, 12, 13.
+ * before anything else. Refused, in this order: 15, 16, 1 to 5, 12, 14, 13.
+ *
+ * On a stream other than 0, DATA has the stream's next number as its sequence and is held: a sample of more than 1,014 bytes is refused as 14 there, and
+ * the call stays open. An ACKNACK there is answered by the held messages that it lists. So an output of 2 * the datagram + the sample + 12 bytes is
+ * enough for all other replies, and each bit that is set in the bitmap of an ACKNACK may ask for 1,024 bytes more.
  */
 uint64_t xrce_agent_process(struct xrce_agent *agent, size_t agents, xrce_session_row *sessions, size_t session_rows, xrce_stream_row *streams,
-                            size_t stream_rows, struct xrce_object *objects, size_t object_records, uint8_t *out, size_t room,
-                            const uint8_t *datagram, size_t datagram_len, const uint8_t *sample, size_t sample_len, uint8_t input,
-                            uint64_t time, uint32_t handle);
+                            size_t stream_rows, struct xrce_object *objects, size_t object_records, uint8_t *held, size_t held_bytes,
+                            uint8_t *out, size_t room, const uint8_t *datagram, size_t datagram_len, const uint8_t *sample,
+                            size_t sample_len, uint8_t input, uint64_t time, uint32_t handle);
 
 /* Ends a session; the answer's number is 1 if it was live, else 0. No bridge call is made for its objects. Refused: 15, 16. */
 uint64_t xrce_agent_remove(const struct xrce_agent *agent, size_t agents, xrce_session_row *sessions, size_t session_rows, uint8_t id);
@@ -140,29 +152,37 @@ uint64_t xrce_agent_sweep(const struct xrce_agent *agent, size_t agents, xrce_se
 uint64_t xrce_agent_list(const xrce_session_row *sessions, size_t session_rows, const struct xrce_object *objects, size_t object_records,
                          uint16_t *out, size_t room, uint8_t id);
 
-/* Tables of the documented need. */
+/* For how many clients struct xrce_tables has a store of held messages, 1 to 255. A program that needs fewer defines it before it includes
+ * this header; xrce_setup refuses a greater max_clients as 16. */
+#ifndef XRCE_MAX_CLIENTS
+#define XRCE_MAX_CLIENTS 255
+#endif
+
+/* Tables of the documented need, and the store: 253,952 bytes, and 114,688 for each of XRCE_MAX_CLIENTS. */
 struct xrce_tables {
     xrce_session_row sessions[XRCE_SESSIONS];
     xrce_stream_row streams[XRCE_STREAMS];
     struct xrce_object objects[XRCE_OBJECTS];
+    uint8_t held[XRCE_HELD * XRCE_MAX_CLIENTS];
 };
 
 /* The calls over such tables. */
 static inline uint64_t xrce_setup(struct xrce_agent *a, struct xrce_tables *t, uint64_t max_clients, uint64_t timeout_ms) {
     return xrce_agent_setup(a, 1, t->sessions, XRCE_SESSIONS, t->streams, XRCE_STREAMS, t->objects, XRCE_OBJECTS,
-                            max_clients, timeout_ms);
+                            t->held, sizeof t->held, max_clients, timeout_ms);
 }
 
 static inline uint64_t xrce_incoming(struct xrce_agent *a, struct xrce_tables *t, uint8_t *out, size_t room, const uint8_t *datagram,
                                      size_t datagram_len, uint64_t time) {
     return xrce_agent_process(a, 1, t->sessions, XRCE_SESSIONS, t->streams, XRCE_STREAMS, t->objects, XRCE_OBJECTS,
-                              out, room, datagram, datagram_len, datagram, 0, XRCE_DATAGRAM, time, 0);
+                              t->held, sizeof t->held, out, room, datagram, datagram_len, datagram, 0, XRCE_DATAGRAM, time, 0);
 }
 
 static inline uint64_t xrce_answer(struct xrce_agent *a, struct xrce_tables *t, uint8_t *out, size_t room, const uint8_t *datagram,
                                    size_t datagram_len, enum xrce_input told, uint32_t handle, const uint8_t *sample, size_t sample_len) {
     return xrce_agent_process(a, 1, t->sessions, XRCE_SESSIONS, t->streams, XRCE_STREAMS, t->objects, XRCE_OBJECTS,
-                              out, room, datagram, datagram_len, sample, sample_len, (uint8_t)(told == XRCE_DATAGRAM ? 255 : told), 0, handle);
+                              t->held, sizeof t->held, out, room, datagram, datagram_len, sample, sample_len,
+                              (uint8_t)(told == XRCE_DATAGRAM ? 255 : told), 0, handle);
 }
 
 static inline uint64_t xrce_remove(const struct xrce_agent *a, struct xrce_tables *t, uint8_t id) {

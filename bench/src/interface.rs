@@ -1,7 +1,7 @@
 //! The port's C interface as its headers state it (include/xrce_agent.h, include/xrce_wire.h). No compiler checks these
 //! lines against them; that every row's bytes are compared does.
 
-pub type SessionRow = [u64; 5];
+pub type SessionRow = [u64; 6];
 pub type StreamRow = [u16; 35];
 
 /// The agent's record.
@@ -43,6 +43,8 @@ pub struct Object {
 pub const SESSIONS: usize = 256;
 pub const STREAMS: usize = 2048;
 pub const OBJECTS: usize = 8192;
+/// Bytes of the store of held messages for each client.
+pub const HELD: usize = 114_688;
 
 /// What `xrce_agent_process` is given.
 pub const DATAGRAM: u8 = 0;
@@ -72,6 +74,8 @@ extern "C" {
         stream_rows: usize,
         objects: *mut Object,
         object_records: usize,
+        held: *const u8,
+        held_bytes: usize,
         max_clients: u64,
         timeout_ms: u64,
     ) -> u64;
@@ -85,6 +89,8 @@ extern "C" {
         stream_rows: usize,
         objects: *mut Object,
         object_records: usize,
+        held: *mut u8,
+        held_bytes: usize,
         out: *mut u8,
         room: usize,
         datagram: *const u8,

@@ -12,6 +12,7 @@ mod original;
 mod plot;
 mod port;
 mod reasons;
+mod repeats;
 mod report;
 mod row;
 mod table;
@@ -44,7 +45,7 @@ fn main() -> Result<()> {
     rows.extend(wire_rows::rows());
     measure::measure(&mut rows, plan);
     let yard = yardsticks::yardsticks(plan);
-    print!("{}\n{}{}\n{}\n", table::text(&rows), lines(&rows), yard.search(), yard.listing());
+    print!("{}\n{}{}\n{}\n{}\n", table::text(&rows), lines(&rows), yard.search(), yard.listing(), yard.repeats());
     std::fs::create_dir_all("../target/bench")?;
     std::fs::write(FIGURES, table::tsv(&rows))?;
     // A quick run's figures are rough, and the document keeps those of the last full one.

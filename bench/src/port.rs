@@ -6,8 +6,11 @@ use crate::interface::*;
 use std::hint::black_box;
 use std::time::Instant;
 
-/// Room for every reply of a row.
-const ROOM: usize = 2048;
+/// Room for every reply of a row, and for all that an ACKNACK may ask for: with less, the port counts its replies first.
+const ROOM: usize = 65536;
+
+/// For how many clients an agent is set up.
+const CLIENTS: usize = 255;
 
 /// Tables of the documented need.
 struct Tables {
@@ -25,6 +28,8 @@ pub fn shortest_call(max_clients: u64) -> u64 {
 pub struct Port {
     agent: AgentRecord,
     tables: Box<Tables>,
+    /// The store of held messages. No row holds one, so its pages stay untouched, and no time is spent on them.
+    held: Box<[u8]>,
     out: Box<[u8; ROOM]>,
     time: u64,
     /// Where the host reads the machine's clock for each datagram: since when.
@@ -46,6 +51,8 @@ impl Port {
                 STREAMS,
                 self.tables.objects.as_mut_ptr(),
                 OBJECTS,
+                self.held.as_mut_ptr(),
+                self.held.len(),
                 self.out.as_mut_ptr(),
                 ROOM,
                 datagram.as_ptr(),
@@ -102,7 +109,9 @@ impl Port {
                 STREAMS,
                 self.tables.objects.as_mut_ptr(),
                 OBJECTS,
-                255,
+                self.held.as_ptr(),
+                self.held.len(),
+                CLIENTS as u64,
                 TIMEOUT,
             )
         };
@@ -115,10 +124,11 @@ impl Agent for Port {
         let mut port = Self {
             agent: AgentRecord::default(),
             tables: Box::new(Tables {
-                sessions: [[0; 5]; SESSIONS],
+                sessions: [[0; 6]; SESSIONS],
                 streams: [[0; 35]; STREAMS],
                 objects: [Object::default(); OBJECTS],
             }),
+            held: vec![0; HELD * CLIENTS].into_boxed_slice(),
             out: Box::new([0; ROOM]),
             time: 0,
             reads_clock: None,

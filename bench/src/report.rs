@@ -59,9 +59,9 @@ fn steps(yard: &Yardsticks) -> String {
     )
 }
 
-/// What the port has alone: how a search differs by place, and the listing.
+/// What the port has alone: how a search differs by place, the listing, and repeats.
 fn alone(yard: &Yardsticks) -> String {
-    format!("{}.\n\n{}.\n", yard.search(), yard.listing())
+    format!("{}.\n\n{}.\n\n{}.\n", yard.search(), yard.listing(), yard.repeats())
 }
 
 /// The machine, and how far the batches lie apart.

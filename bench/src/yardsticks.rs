@@ -6,6 +6,7 @@ use crate::clock;
 use crate::datagrams::{datagram, status_ok, write_data, PUBLISHER, READER, SUBSCRIBER, WRITER};
 use crate::measure::{batch, turns, Plan};
 use crate::port::{shortest_call, Port};
+use crate::repeats::{read_and_acknowledge, repeat_all};
 use crate::row::median;
 use crate::table::nanoseconds;
 use crate::timed::{Side, Timed};
@@ -28,6 +29,9 @@ pub struct Yardsticks {
     /// The port's listing of a session with few objects, and with many.
     pub few_listed: f64,
     pub many_listed: f64,
+    /// The port's READ_DATA where its DATA is held, with the acknowledgement of the one before; and the repeat of 16.
+    pub held: f64,
+    pub repeated: f64,
     /// The port's WRITE_DATA to the object made last of one, to the last of many, and to the first of many.
     pub found: [f64; 3],
 }
@@ -37,6 +41,15 @@ impl Yardsticks {
     pub fn listing(&self) -> String {
         let (few, many) = (nanoseconds(self.few_listed), nanoseconds(self.many_listed));
         format!("The listing of a session, which the original doesn't have: {few} ns with {FEW} objects, {many} ns with {MANY}")
+    }
+
+    /// Holding and repeating in a line.
+    pub fn repeats(&self) -> String {
+        let (held, repeated) = (nanoseconds(self.held), nanoseconds(self.repeated));
+        format!(
+            "On a stream other than 0, READ_DATA of a sample of 16 bytes, whose DATA is held, with the ACKNACK of the one before: \
+             {held} ns; an ACKNACK that repeats 16 such messages: {repeated} ns"
+        )
     }
 
     /// What a search for an object number costs, in a line.
@@ -130,6 +143,8 @@ pub fn yardsticks(plan: &Plan) -> Yardsticks {
         }),
         few_listed: listing_cost(plan, FEW),
         many_listed: listing_cost(plan, MANY),
+        held: cost(plan, read_and_acknowledge()),
+        repeated: cost(plan, repeat_all()),
         found: found_costs(plan),
     }
 }

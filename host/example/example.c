@@ -8,9 +8,11 @@
  */
 #include <stdio.h>
 
+/* At most 4 clients: so many have a part in the store of held messages, 112 KiB each. */
+#define XRCE_MAX_CLIENTS 4
 #include "xrce_agent.h"
 
-/* What the host owns: the record, the tables (about 246 KiB) and an output. Static, so that nothing large stands on the stack. */
+/* What the host owns: the record, the tables (248 KiB) with the store, and an output. Static, so that nothing large stands on the stack. */
 static struct xrce_agent agent;
 static struct xrce_tables tables;
 static uint8_t out[512];
@@ -63,9 +65,9 @@ int main(void) {
     uint8_t ended[255];
     uint16_t numbers[32];
 
-    /* At most 4 clients; one that is silent for longer than 1,000 ms expires. */
-    if (xrce_refused(xrce_setup(&agent, &tables, 4, 1000)) != 0) return 1;
-    printf("set up; %u bytes of tables\n", (unsigned)xrce_number(xrce_need(4)));
+    /* A client that is silent for longer than 1,000 ms expires. */
+    if (xrce_refused(xrce_setup(&agent, &tables, XRCE_MAX_CLIENTS, 1000)) != 0) return 1;
+    printf("set up; %u bytes of tables\n", (unsigned)xrce_number(xrce_need(XRCE_MAX_CLIENTS)));
     if (receive("CREATE_CLIENT at 0 ms", open, sizeof open, 0)) return 1;
     if (receive("CREATE of participant 7 at 5 ms", create, sizeof create, 5)) return 1;
     if (receive("a submessage that there isn't at 6 ms", unknown, sizeof unknown, 6)) return 1;

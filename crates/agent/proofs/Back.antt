@@ -1,4 +1,5 @@
--- Records that are copied and put back: a store that differs from another only at the spots that were copied becomes that one.
+-- Records that are copied and put back: a store that differs from another only at the spots that were copied becomes that one. And bytes that are
+-- copied to the start of a line and taken again.
 use Prim.Native.Nat.{ℕ, zero, suc, _+_, _-_, _*_, _<_, _≤_}
 use mathlib.Core.Path.{_≡_, refl, sym, ap, _∙_}
 use mathlib.Core.Bool.{Bool, true, false, cond}
@@ -6,8 +7,11 @@ use mathlib.Core.List.{List, [], _∷_}
 use native.Mathlib.Omega.{arith}
 use borrow.Author.Tests.{eqb-true, eqb-false, lt-ltb, le-ltb}
 use lib.Dec.{eqb}
-use lib.ListN.{length, set, getD, replicate, length-set, length-replicate}
+use lib.ListN.{length, set, getD, take, replicate, length-set, length-replicate}
 use lib.Seq.{getD-set-same, getD-set-other}
+use Rattle.codec.specs.Bytes.{putBytes}
+use Rattle.codec.proofs.bytes.Laws.{put-fits, length-put}
+use Rattle.streams.proofs.Slots.{read-same}
 use Rattle.agent.specs.Dry.{streamSpot, copied, restored}
 
 -- ---- which row of the streams is copied
@@ -173,3 +177,18 @@ module _ {A B : Type 0} (copy : A → B) (back : B → A) (again : (x : A) → b
 
       each : (p : ℕ) → p < length from → getD (restored back past spot n (copied copy none spot n from blank) to) p none ≡ getD from p none
       each p l = back-at n n to p (omega arith) w l (k .long) ∙ either p (isSpot spot n p) refl
+
+-- ---- bytes at the start of a line of m
+
+abbrev zeros : ℕ → List ℕ
+zeros m = replicate m 0
+
+module _ (m : ℕ) (bytes : List ℕ) (few : length bytes ≤ m) where
+  fits : 0 + length bytes ≤ length (zeros m)
+  fits = let l = length-replicate {A = ℕ} m 0 in omega (arith, l, few)
+
+  pub line-length : length (putBytes (replicate m 0) 0 bytes) ≡ m
+  line-length = ap length (sym (put-fits (zeros m) 0 bytes fits .1)) ∙ (length-put (zeros m) 0 bytes fits ∙ length-replicate {A = ℕ} m 0)
+
+  pub line-back : take (length bytes) (putBytes (replicate m 0) 0 bytes) ≡ bytes
+  line-back = ap (take (length bytes)) (sym (put-fits (zeros m) 0 bytes fits .1)) ∙ read-same (zeros m) 0 bytes fits

@@ -1,4 +1,5 @@
--- What a call may change of the lent stores: the sessions' rows, the first stream's of each, and the streams and objects of the session that it names.
+-- What a call may change of the lent stores: the sessions' rows, the first stream's of each, the streams and objects of the session that it names, and the
+-- buffer of the stream that it names.
 use Prim.Native.Nat.{ℕ, zero, suc, _+_, _-_, _*_, _<_, _≤_}
 use mathlib.Core.Path.{_≡_, refl, sym, ap, _∙_, subst}
 use mathlib.Core.Bool.{Bool, true, false, cond}
@@ -8,6 +9,7 @@ use native.Mathlib.Nat.{zero-add, suc-add}
 use borrow.Author.Tests.{ltb-true, ltb-false, leb-false, eqb-false}
 use lib.Dec.{eqb, leb, ltb}
 use lib.ListN.{length, getD, set, take, drop, replicate, take-append-drop}
+use Rattle.codec.specs.Bytes.{putBytes}
 use Rattle.codec.specs.Reading.{readAt}
 use Rattle.codec.specs.declared.layouts.Parsed.{Parsed}
 use Rattle.codec.specs.declared.refusals.Refusal.the-variants.{OverLimit, SessionFull}
@@ -16,19 +18,25 @@ use Rattle.codec.specs.declared.submessages.ObjectKind.{ObjectKind}
 use Rattle.codec.specs.declared.submessages.ObjectKind.the-variants.{Participant, Topic, Publisher, Subscriber, DataWriter, DataReader}
 use Rattle.codec.specs.declared.submessages.ObjectNumber.{ObjectNumber}
 use Rattle.streams.specs.Places.{firstFrom}
+use Rattle.streams.specs.Sent.{allocOf, recordOf}
 use Rattle.streams.specs.State.{newStream}
+use Rattle.streams.specs.declared.sent.Slot.{Slot}
+use Rattle.streams.specs.declared.sent.Slot.the-variants as slot
 use Rattle.streams.specs.declared.state.StreamState.{StreamState}
 use Rattle.sessions.specs.Table.{rowOf, namedOf, isFree, keptRows, touchedSession, sessionAt, touchedRows, gotOf}
 use Rattle.sessions.specs.Opening.{after, liveOf, freeFrom, freeOf, openFits, takenAs, chosenOf, createdOf}
 use Rattle.sessions.specs.Objects.{blank, implicitOf, objectPlace}
 use Rattle.sessions.specs.Room.{roomOf}
-use Rattle.sessions.specs.Streams.{firstStream, streamRow}
-use Rattle.sessions.specs.SessionObjects.{objectRow, withObjectRow, usedOf, objectsNamed, storedIn, storedObject, storedObjects, keepStored}
+use Rattle.sessions.specs.Streams.{firstStream, streamRow, streamAt}
+use Rattle.sessions.specs.SessionObjects.{objectRow, withObjectRow, usedOf, objectsNamed, foundObject, storedIn, storedObject, storedObjects, keepStored}
 use Rattle.sessions.specs.Removal.{dependedIn, takenObject, removedRow, removedIn, removedObjects, keepRemoved}
 use Rattle.sessions.specs.SessionStreams.{streamsUsed, streamedSession, streamsNamed, isStream, placedAs, placeBy, streamPlace, openedIn, openedCount, writtenIn}
+use Rattle.sessions.specs.Sending.{roomOf as roomIn, bufferIn, stretchAt, bufferStretch, sentRow, sentStreamsAt, sentStreams, sentHeld}
 use Rattle.sessions.specs.Calls.{createTables}
 use Rattle.sessions.specs.View.{Tables}
 use Rattle.sessions.specs.declared.objects.Object.{Object}
+use Rattle.sessions.specs.declared.objects.ObjectHandle.{ObjectHandle}
+use Rattle.sessions.specs.declared.objects.ObjectHandle.the-variants.{Bridged, Implicit}
 use Rattle.sessions.specs.declared.objects.Taken.{Taken as Removed}
 use Rattle.sessions.specs.declared.objects.Taken.the-variants as removed
 use Rattle.sessions.specs.declared.objects.Place.{Place}
@@ -39,6 +47,7 @@ use Rattle.sessions.specs.declared.opening.Created.{Created}
 use Rattle.sessions.specs.declared.opening.Created.the-variants as created
 use Rattle.sessions.specs.declared.room.Room.{Room}
 use Rattle.sessions.specs.declared.room.Room.the-variants as room
+use Rattle.sessions.specs.declared.sending.Stretch.{Stretch}
 use Rattle.sessions.specs.declared.session_streams.StreamNamed.{StreamNamed}
 use Rattle.sessions.specs.declared.session_streams.StreamNamed.the-variants as named-stream
 use Rattle.sessions.specs.declared.session_streams.StreamRead.{StreamRead}
@@ -47,16 +56,23 @@ use Rattle.sessions.specs.declared.table.Got.the-variants as got
 use Rattle.sessions.specs.declared.table.Named.{Named}
 use Rattle.sessions.specs.declared.table.Named.the-variants as named
 use Rattle.sessions.proofs.table.Laws.{live-fits}
-use Rattle.moves.specs.Rows.{createdSessions, createdObjects, roomSessions, roomObjects, handledIn, handledTables}
-use Rattle.moves.specs.RowsStreams.{openedSessions, openedRows, readOf, acknowledgedRows, streamRows}
+use Rattle.sessions.proofs.sending.Laws.{buffer-length}
+use Rattle.sessions.proofs.Buffers.{with-same, put-back as put-buffer-back}
+use Rattle.sessions.proofs.ViewSending.{held-back}
+use Rattle.moves.specs.Moves.{foundHandle}
+use Rattle.moves.specs.Rows.{createdSessions, createdObjects, roomSessions, roomObjects, handledIn, handledRows}
+use Rattle.moves.specs.RowsStreams.{openedSessions, openedRows, readOf, acknowledgedRows, streamRows, readSessions, readRows}
+use Rattle.agent.specs.Lent.{rowsOf, withRows}
 use Rattle.agent.specs.Step.{opened, joinedReplies}
 use Rattle.agent.specs.Run.{Turned, pointerOf, greeted, idOpened, opening, touchedTables, delivered, takenOf, subTurned, turnedBy, turned, goesOn, before, runIn, runAt}
-use Rattle.moves.specs.Answers.{keepsOf}
-use Rattle.agent.specs.Answered.{answeredSessions, answeredObjects}
-use Rattle.agent.specs.Host.{begunBy, begunSessions, begunObjects, begunTables, firstRan, performed}
-use Rattle.agent.specs.Dry.{sessionCopy, sessionBack, noSession, streamCopy, streamBack, noStream, same, sessionSpot, streamSpot, objectSpot, copied, restored}
+use Rattle.moves.specs.Answers.{keepsOf, saysOf}
+use Rattle.agent.specs.Answered.{answeredSessions, answeredStreams, answeredObjects, answeredHeld}
+use Rattle.agent.specs.Host.{begunBy, begunBytes, begunSessions, begunStreams, begunObjects, begunHeld, begunTables, firstRan, performed}
+use Rattle.agent.specs.Dry.{sessionCopy, sessionBack, noSession, streamCopy, streamBack, noStream, same, sessionSpot, streamSpot, objectSpot, copied, restored, bufferCopy, bufferBack}
 use Rattle.moves.specs.declared.answers.Keeps.{Keeps}
 use Rattle.moves.specs.declared.answers.Keeps.the-variants as keeps
+use Rattle.moves.specs.declared.answers.Says.{Says}
+use Rattle.moves.specs.declared.answers.Says.the-variants as says
 use Rattle.moves.specs.declared.handle.Opening.{Opening}
 use Rattle.moves.specs.declared.handle.Opening.the-variants.{Client, Other, Unread}
 use Rattle.agent.specs.declared.judge.Resumes.{Resumes}
@@ -68,7 +84,8 @@ use Rattle.moves.specs.declared.handle.Group.{Group}
 use Rattle.moves.specs.declared.handle.Group.the-variants.{Creates, Deletes, Writes, Reads, Streams, Neither}
 use Rattle.agent.specs.declared.turn.Ran.{Ran}
 use Rattle.agent.specs.declared.turn.Taken.{Taken}
-use Rattle.agent.proofs.Back.{spot-first, spot-own, KeptBut, kept-same, kept-then, kept-set, copies-long, put-back}
+use Rattle.agent.proofs.Back.{spot-first, spot-own, KeptBut, kept-same, kept-then, kept-set, copies-long, put-back, line-length, line-back}
+use Rattle.agent.proofs.Running.{performed-by}
 
 -- ---- one store
 
@@ -257,6 +274,30 @@ module _ (s x : List (List ℕ)) (id n : ℕ) where
       go named.NotLive e = streams-same id x
       go (named.Refused r) e = streams-same id x
 
+  -- a message that is held changes its stream's row
+  sent-rows : (h message : List ℕ) → RowsOf id x (sentStreams s x h id n message)
+  unfolding sentStreams streamPlace
+  sent-rows h message = go (streamsNamed s (length x) id) refl
+    where
+      kept : (k : ℕ) → k < 8 → (w : Slot) (state : StreamState) → RowsOf id x (sentRow w x (firstStream id + k) state)
+      kept k l (slot.At i) state = own-set x id k (streamRow (allocOf state .state)) l
+      kept k l slot.Nowhere state = streams-same id x
+      kept k l (slot.Refused r) state = streams-same id x
+
+      placed : used ≤ 8 → (b c : Bool) → ltb found-at used ≡ b → leb 8 used ≡ c → RowsOf id x (sentStreamsAt (placedAs found-at used) s x h id message)
+      placed few true c p q =
+          let l = ltb-true found-at used p in
+          let state = streamAt x (firstStream id + found-at) in
+          let r = recordOf state (state .«next_send_seq») (length message) (roomIn (stretchAt s (length h) id found-at)) in
+          rw p (kept found-at (omega (arith, l, few)) (r .slot) (r .state))
+      placed few false true p q = rw (p, q) (streams-same id x)
+      placed few false false p q = rw (p, q) (streams-same id x)
+
+      go : (w : Named) → streamsNamed s (length x) id ≡ w → RowsOf id x (sentStreamsAt (placeBy w s x id n) s x h id message)
+      go named.Live e = placed (few-streams s x id e) (ltb found-at used) (leb 8 used) refl refl
+      go named.NotLive e = streams-same id x
+      go (named.Refused r) e = streams-same id x
+
 -- the id of a new session, and the pointer behind it, are at most 255
 free-most : (free : ℕ → Bool) (n i : ℕ) → i < 256 → freeFrom free i n < 256
 unfolding freeFrom
@@ -298,7 +339,7 @@ created-fits s x max next h = go (openFits s x max next) (ltb (liveOf s) max)
     go true false = tt
     go false c = tt
 
--- ---- all three stores
+-- ---- the rows and records of all stores
 
 pub record TablesKept (id : ℕ) (t u : Tables) : Type 0 where
   pub sessions-kept : Rows (t .sessions) (u .sessions)
@@ -356,7 +397,23 @@ module _ (id : ℕ) (below : id < 256) where
   stream-rows true first second s x r = streams-same id x
   stream-rows false first second s x r = acknowledged-kept s x (r .answer) (r .state) _
 
-  handled-kept : (g : Group) (q : Asked) (t : Tables) (n : ℕ) → TablesKept id t (handledIn g q t id n)
+  read-sessions : (h : ObjectHandle) (s x : List (List ℕ)) (n : ℕ) → Rows s (readSessions h s x id n)
+  read-sessions (Bridged h) s x n = go (eqb n 0)
+    where
+      go : (b : Bool) → Rows s (cond b s (openedSessions s x id n))
+      go true = rows-same s
+      go false = open-sessions s x id n below
+  read-sessions Implicit s x n = rows-same s
+
+  read-rows : (h : ObjectHandle) (s x : List (List ℕ)) (n : ℕ) → RowsOf id x (readRows h s x id n)
+  read-rows (Bridged h) s x n = go (eqb n 0)
+    where
+      go : (b : Bool) → RowsOf id x (cond b x (openedRows s x id n))
+      go true = streams-same id x
+      go false = open-rows s x id n
+  read-rows Implicit s x n = streams-same id x
+
+  handled-kept : (g : Group) (q : Asked) (t : Tables) (n : ℕ) → TablesKept id t (withRows t (handledIn g q (rowsOf t) id n))
   handled-kept Creates q t n =
       let room = roomOf (t .sessions) (t .objects) id (q .number) in
       record {
@@ -370,7 +427,13 @@ module _ (id : ℕ) (below : id < 256) where
     objects-kept = removed-kept (t .sessions) (t .objects) id (q .number);
   }
   handled-kept Writes q t n = same-tables id t
-  handled-kept Reads q t n = same-tables id t
+  handled-kept Reads q t n =
+      let h = foundHandle (foundObject (t .sessions) (t .objects) id (q .number)) in
+      record {
+        sessions-kept = read-sessions h (t .sessions) (t .streams) n;
+        streams-kept = read-rows h (t .sessions) (t .streams) n;
+        objects-kept = records-same id (t .objects);
+      }
   handled-kept Streams q t n =
       let s = openedSessions (t .sessions) (t .streams) id n in
       let x = openedRows (t .sessions) (t .streams) id n in
@@ -407,7 +470,7 @@ module _ (f : Frame) (below : f .«session_id» < 256) where
       open-next (created.Opened j next) g = g .1
       open-next (created.Refused x) g = h
 
-      go : (c : Created) → CreatedFits c → Goes named-id t (record { ran = greeted f r key at c; tables = createTables c t key (f .time); replies = opened (idOpened c) ∷ [] })
+      go : (c : Created) → CreatedFits c → Goes named-id t (record { ran = greeted f r at c; tables = createTables c t key (f .time); replies = opened (idOpened c) ∷ [] })
       go c g = record { tables-kept = create-kept named-id below c t key (f .time) g; next-low = open-next c g }
 
   touched-tables : (t : Tables) → TablesKept named-id t (touchedTables f t)
@@ -417,7 +480,7 @@ module _ (f : Frame) (below : f .«session_id» < 256) where
   delivered-goes named.Live t d r x h =
       let u = touchedTables f t in
       let q = x .asked in
-      record { tables-kept = then-tables named-id t u (handledTables q u named-id (f .«stream_id»)) (touched-tables t) (handled-kept named-id below (q .group) q u (f .«stream_id»)); next-low = h }
+      record { tables-kept = then-tables named-id t u (withRows u (handledRows q (rowsOf u) named-id (f .«stream_id»))) (touched-tables t) (handled-kept named-id below (q .group) q u (f .«stream_id»)); next-low = h }
   delivered-goes named.NotLive t d r x h = record { tables-kept = touched-tables t; next-low = h }
   delivered-goes (named.Refused y) t d r x h = record { tables-kept = touched-tables t; next-low = h }
 
@@ -463,22 +526,40 @@ module _ (f : Frame) (below : f .«session_id» < 256) where
       go got.NotLive k = records-same named-id o
       go (got.Refused r) k = records-same named-id o
 
+  begun-streams : (x : Resumes) (s y : List (List ℕ)) (h sample : List ℕ) → RowsOf named-id y (begunStreams x s y h f sample)
+  begun-streams resumes.Nothing s y h sample = streams-same named-id y
+  begun-streams (resumes.Answer number task a) s y h sample = go (gotOf s named-id) (saysOf task a)
+    where
+      bytes : List ℕ
+      bytes = begunBytes number task a s y f sample
+
+      held : (b : Bool) → RowsOf named-id y (cond b y (sentStreams s y h named-id (f .«stream_id») bytes))
+      held true = streams-same named-id y
+      held false = sent-rows s y named-id (f .«stream_id») h bytes
+
+      go : (g : Got) (q : Says) → RowsOf named-id y (answeredStreams g q f s y h bytes)
+      go (got.Session z) (says.Status code) = streams-same named-id y
+      go (got.Session z) says.Data = held (eqb (f .«stream_id») 0)
+      go got.NotLive q = streams-same named-id y
+      go (got.Refused r) q = streams-same named-id y
+
 module _ (x : Start) (below : x .frame .«session_id» < 256) (low : x .next < 256) (t : Tables) (d sample : List ℕ) where
   abbrev its-id : ℕ
   its-id = x .frame .«session_id»
 
-  begun-kept : TablesKept its-id t (begunTables x t)
+  begun-kept : TablesKept its-id t (begunTables x t sample)
   begun-kept = record {
     sessions-kept = begun-sessions (x .frame) below (x .resumes) (t .sessions) (t .objects);
-    streams-kept = streams-same its-id (t .streams);
+    streams-kept = begun-streams (x .frame) below (x .resumes) (t .sessions) (t .streams) (t .held) sample;
     objects-kept = begun-objects (x .frame) below (x .resumes) (t .sessions) (t .objects);
   }
 
   pub performed-kept : TablesKept its-id t (performed x t d sample .tables)
   unfolding performed runAt
   performed-kept =
-      let r = firstRan x (length (joinedReplies (begunBy (x .resumes) (t .sessions) (x .frame) sample))) in
-      then-tables its-id t (begunTables x t) (runAt (x .frame) d r (begunTables x t) .tables) begun-kept (run-kept (x .frame) below (length d - r .at) d r (begunTables x t) low)
+      let r = firstRan x (length (joinedReplies (begunBy (x .resumes) (t .sessions) (t .streams) (x .frame) sample))) in
+      let u = begunTables x t sample in
+      then-tables its-id t u (runAt (x .frame) d r u .tables) begun-kept (run-kept (x .frame) below (length d - r .at) d r u low)
 
   pub sessions-long : 256 ≤ length (t .sessions) → 256 ≤ length (performed x t d sample .tables .sessions)
   sessions-long h = let e = performed-kept .sessions-kept .long in omega (arith, e, h)
@@ -498,3 +579,49 @@ module _ (x : Start) (below : x .frame .«session_id» < 256) (low : x .next < 2
 
   pub objects-back : restored same blank (objectSpot (32 * its-id)) 32 (copied same blank (objectSpot (32 * its-id)) 32 (t .objects) (replicate 32 blank)) (performed x t d sample .tables .objects) ≡ t .objects
   objects-back = put-back same same (λ o. refl) blank blank (objectSpot (32 * its-id)) (t .objects) (replicate 32 blank) 32 (performed x t d sample .tables .objects) (copies-long 32 blank) (performed-kept .objects-kept)
+
+-- ---- and the buffer of the stream that the call names, which the answer's part may fill
+
+module _ (h : List ℕ) (b : Stretch) (low : b .start ≤ b .end) (within : b .end ≤ length h) where
+  -- its own bytes put there again change nothing
+  own-back : putBytes h (b .start) (bufferIn h b) ≡ h
+  own-back =
+      ap (λ (l : List ℕ). putBytes l (b .start) (bufferIn h b)) (sym (with-same h b))
+      ∙ put-buffer-back h b low within (bufferIn h b) (buffer-length h b low within)
+
+  pub copy-long : b .end - b .start ≤ 16384 → length (bufferCopy (bufferIn h b) .0) ≡ 16384
+  copy-long few = let l = buffer-length h b low within in line-length 16384 (bufferIn h b) (omega (arith, l, few))
+
+  buffer-copied : b .end - b .start ≤ 16384 → bufferBack (bufferCopy (bufferIn h b)) (b .end - b .start) ≡ bufferIn h b
+  buffer-copied few =
+      let bytes = bufferIn h b in
+      let l = buffer-length h b low within in
+      ap (λ (n : ℕ). take n (putBytes (replicate 16384 0) 0 bytes)) (sym l) ∙ line-back 16384 bytes (omega (arith, l, few))
+
+module _ (x : Start) (t : Tables) (d sample : List ℕ) where
+  abbrev its-buffer : Stretch
+  its-buffer = bufferStretch (t .sessions) (t .streams) (length (t .held)) (x .frame .«session_id») (x .frame .«stream_id»)
+
+  module _ (low : its-buffer .start ≤ its-buffer .end) (within : its-buffer .end ≤ length (t .held)) where
+    begun-back : (r : Resumes) → putBytes (begunHeld r (t .sessions) (t .streams) (t .held) (x .frame) sample) (its-buffer .start) (bufferIn (t .held) its-buffer) ≡ t .held
+    begun-back resumes.Nothing = own-back (t .held) its-buffer low within
+    begun-back (resumes.Answer number task a) = go (gotOf (t .sessions) (x .frame .«session_id»)) (saysOf task a)
+      where
+        bytes : List ℕ
+        bytes = begunBytes number task a (t .sessions) (t .streams) (x .frame) sample
+
+        sent : (b : Bool) → putBytes (cond b (t .held) (sentHeld (t .sessions) (t .streams) (t .held) (x .frame .«session_id») (x .frame .«stream_id») bytes)) (its-buffer .start) (bufferIn (t .held) its-buffer) ≡ t .held
+        sent true = own-back (t .held) its-buffer low within
+        sent false = held-back (t .sessions) (t .streams) (t .held) (x .frame .«session_id») (x .frame .«stream_id») bytes
+
+        go : (g : Got) (q : Says) → putBytes (answeredHeld g q (x .frame) (t .sessions) (t .streams) (t .held) bytes) (its-buffer .start) (bufferIn (t .held) its-buffer) ≡ t .held
+        go (got.Session z) (says.Status code) = own-back (t .held) its-buffer low within
+        go (got.Session z) says.Data = sent (eqb (x .frame .«stream_id») 0)
+        go got.NotLive q = own-back (t .held) its-buffer low within
+        go (got.Refused r) q = own-back (t .held) its-buffer low within
+
+    pub buffer-back : its-buffer .end - its-buffer .start ≤ 16384
+        → putBytes (performed x t d sample .tables .held) (its-buffer .start) (bufferBack (bufferCopy (bufferIn (t .held) its-buffer)) (its-buffer .end - its-buffer .start)) ≡ t .held
+    buffer-back few =
+        ap (putBytes (performed x t d sample .tables .held) (its-buffer .start)) (buffer-copied (t .held) its-buffer low within few)
+        ∙ (ap (λ (l : List ℕ). putBytes l (its-buffer .start) (bufferIn (t .held) its-buffer)) (sym (performed-by x t d sample [] .4)) ∙ begun-back (x .resumes))

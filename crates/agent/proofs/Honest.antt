@@ -1,25 +1,26 @@
 -- The rules are honest about handles: a call has handles of the session's own objects only, and a handle is listed only where a CREATE got it.
 use mathlib.Core.Path.{_≡_, refl, ap, _∙_}
 use Prim.Native.Nat.{ℕ}
-use mathlib.Core.Bool.{Bool, true, false, cond}
 use mathlib.Core.Option.{Option, none, some}
 use mathlib.Core.Logic.{_⊎_, inl, inr}
 use mathlib.Core.List.{List, [], _∷_, _++_, List·Memᴰ, List·Memᴰ·not-nil, List·Memᴰ·cases-cons, List·Memᴰ·eq-of-singleton}
+use lib.Dec.{eqb}
 use Rattle.codec.specs.declared.submessages.ObjectKind.{ObjectKind}
 use Rattle.codec.specs.declared.submessages.ObjectKind.the-variants.{Participant, Topic, Publisher, Subscriber, DataWriter, DataReader}
 use Rattle.codec.specs.declared.submessages.Submessage.{Submessage}
 use Rattle.codec.specs.declared.submessages.Submessage.the-variants.{CreateClient, Create, Delete, Status, WriteData, ReadData, Data, Heartbeat, Acknack}
 use Rattle.isolation.proofs.Provenance.{Fair, Honest}
-use Rattle.sessions.specs.View.{Entry, Local, findIn}
+use Rattle.sessions.specs.View.{Entry, KeptStream, Local, findIn, streamIn}
 use Rattle.sessions.specs.Dependants.{dependantIn, hasDependant}
 use Rattle.agent.specs.Local.{touched, full, entryHandle, handleAt}
 use Rattle.agent.specs.Parents.{handlesNamed}
-use Rattle.moves.specs.Calls.{Call, createWriter, createReader, Answer, created, succeeded, sample, noSample, failed, Task, creating, deleting, writing, reading}
+use Rattle.moves.specs.Calls.{Call, createWriter, createReader, readData, Answer, created, succeeded, sample, noSample, failed, Task, creating, deleting, writing, reading}
 use Rattle.agent.specs.RulesObjects.{Move, ifHandle, ifHandles, createWith, createFor, deleteFound}
-use Rattle.agent.specs.RulesAnswers.{answerOf}
+use Rattle.agent.specs.RulesAnswers.{sampleOn, answerOf}
 use Rattle.agent.specs.Rules.{onSubmessage, rules, handlesIn, handlesHeld, grantedBy, handlesOf}
 use Rattle.agent.proofs.Held.{put-held, drop-held, Holds, find-held}
 use Rattle.agent.proofs.Parents.{follows}
+use Rattle.agent.proofs.MoveCases.{either, read-cases}
 
 module _ (timeout : ℕ) where
   -- a rule at work on tables that hold what b holds
@@ -75,14 +76,10 @@ module _ (timeout : ℕ) where
     create-fair DataWriter stream number parent body = with-fair DataWriter stream number parent createWriter (λ h k. refl)
     create-fair DataReader stream number parent body = with-fair DataReader stream number parent createReader (λ h k. refl)
 
-    either : (c : Bool) (x y : Move) → Good b x → Good b y → Good b (cond c x y)
-    either true x y p q = p
-    either false x y p q = q
-
     delete-fair : (stream number : ℕ) (x : Option Entry) → findIn (b .objects) number ≡ x → Good b (deleteFound stream number x l)
     delete-fair stream number none e = kept
     delete-fair stream number (some o) e =
-        either (dependantIn (b .objects) o) _ _ kept
+        either (Good b) (dependantIn (b .objects) o) _ _ kept
         (handle-fair (o .handle) _ _
         (λ h q. ((λ y m. drop-held (b .objects) number y m), kept, one-handle b h (find-held (b .objects) number h (rw e q)))) (λ y m. drop-held (b .objects) number y m))
 
@@ -90,14 +87,22 @@ module _ (timeout : ℕ) where
     submessage-fair (CreateClient p) body stream = kept
     submessage-fair (Create p) body stream =
         let n = p .«object_id» .0 in
-        either (full n l) _ _ kept (either (hasDependant (b .objects) (findIn (b .objects) n)) _ _ kept (create-fair (p .kind) stream n (p .«parent_id») body))
+        either (Good b) (full n l) _ _ kept (either (Good b) (hasDependant (b .objects) (findIn (b .objects) n)) _ _ kept (create-fair (p .kind) stream n (p .«parent_id») body))
     submessage-fair (Delete p) body stream = delete-fair stream (p .«object_id» .0) (findIn (b .objects) (p .«object_id» .0)) refl
     submessage-fair (Status p) body stream = kept
     submessage-fair (WriteData p) body stream = let n = p .«writer_id» .0 in handle-fair (handleAt n l) _ _ (λ h e. (kept, kept, one-handle b h (find-held (b .objects) n h e))) kept
-    submessage-fair (ReadData p) body stream = let n = p .«reader_id» .0 in handle-fair (handleAt n l) _ _ (λ h e. (kept, kept, one-handle b h (find-held (b .objects) n h e))) kept
+    submessage-fair (ReadData p) body stream =
+        let n = p .«reader_id» .0 in
+        let own : (h : ℕ) → handleAt n l ≡ some h → Uses b (readData h) = λ h e. one-handle b h (find-held (b .objects) n h e) in
+        read-cases (Good b) stream n l kept (λ h e z. (kept, kept, own h e)) kept kept (λ h e k f. (kept, kept, own h e))
     submessage-fair (Data p) body stream = kept
     submessage-fair (Heartbeat p) body stream = kept
     submessage-fair (Acknack p) body stream = kept
+
+  -- a DATA reply that is held changes the streams alone
+  sample-fair : (l : Local) (stream number : ℕ) (d : List ℕ) (x : Option KeptStream) → Good l (sampleOn stream number d x l)
+  sample-fair l stream number d none = λ y m. m
+  sample-fair l stream number d (some k) = λ y m. m
 
   answer-fair : (l : Local) (stream number : ℕ) (t : Task) (a : Answer)
       → Fair (rules timeout) (handlesOf timeout) l (grantedBy t number a ++ handlesHeld (l .objects)) (answerOf t stream number a l)
@@ -118,7 +123,7 @@ module _ (timeout : ℕ) where
   answer-fair l stream number writing failed = λ y m. m
   answer-fair l stream number reading (created h) = λ y m. m
   answer-fair l stream number reading succeeded = λ y m. m
-  answer-fair l stream number reading (sample d) = λ y m. m
+  answer-fair l stream number reading (sample d) = either (Good l) (eqb stream 0) _ _ (λ y m. m) (sample-fair l stream number d (streamIn (l .streams) stream))
   answer-fair l stream number reading noSample = λ y m. m
   answer-fair l stream number reading failed = λ y m. m
 

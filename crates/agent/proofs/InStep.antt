@@ -1,4 +1,4 @@
--- The agent goes in step with `isolation`'s reference agent over the same rules: the same runs, and 15, 12 and 13 refused besides.
+-- The agent goes in step with `isolation`'s reference agent over the same rules: the same runs, and 15, 12, 14 and 13 refused besides.
 use mathlib.Core.Path.{_≡_, refl, sym, ap, _∙_, subst}
 use Prim.Native.Nat.{ℕ, zero, suc, _+_}
 use mathlib.Core.Bool.{Bool, true, false, cond}
@@ -23,7 +23,7 @@ use Rattle.moves.specs.Replies.{clientBytes}
 use Rattle.agent.specs.RulesObjects.{Move}
 use Rattle.agent.specs.RulesAnswers.{onAnswer}
 use Rattle.agent.specs.Rules.{Opening, In, parsedAs, messageFrom, handle, rules}
-use Rattle.agent.specs.Step.{Tables, Open, Agent, nextFree, chosen, openAs, Reply, opened, replied, Ran, behind, keep, act, deliver, run, continued, Event, datagram, answer, removal, sweep, Result, refused, ran, removed, swept, Did, refuse, finish, joinedReplies, callOf, openOf, withTables, settle, begin, tooLong, withId, isLive, stays, lapsedIds, withLocals, stepped, step}
+use Rattle.agent.specs.Step.{Tables, Open, Agent, nextFree, chosen, openAs, Reply, opened, replied, Ran, behind, keep, act, deliver, run, continued, Event, datagram, answer, removal, sweep, Result, refused, ran, removed, swept, Did, refuse, finish, joinedReplies, callOf, openOf, withTables, settle, begin, tooLong, overHeld, withId, isLive, stays, lapsedIds, withLocals, stepped, step}
 use Rattle.agent.specs.Claim.{Hosted, hostCall, outOf, askedOf, resultOf, agent}
 
 module _ (max timeout : ℕ) where
@@ -176,15 +176,16 @@ module _ (max timeout : ℕ) where
       finish-goes (made t none) out (withLocals (made t none) (λ i. stays timeout now (t .at i))) ids (swept ids)
       (ref.stepped R D none (stateOf (made t none)) (iso.sweep now)) (λ j. record { tables = record { next = t .next; at = λ i. stays-same now (t .at i) j }; wait = none }) refl (refl, refl)
   stepped-goes t (some w) (datagram time bytes) out = refuse-goes (made t (some w)) out 15 0 _
-  stepped-goes t (some w) (answer a) out = go (fits (w .pending .task) a) (tooLong (w .pending) a)
+  stepped-goes t (some w) (answer a) out = go (fits (w .pending .task) a) (tooLong (w .pending) a) (overHeld w a t)
     where
       st : Agent
       st = made t (some w)
 
-      go : (b c : Bool) → Goes st (cond b (cond c (refuse st out 12 0) (settle st out (continued max w a t))) (refuse st out 15 0)) (ref.settle R D (ref.continue R D (waitOf w) a (tablesOf t)))
-      go true true = refuse-goes st out 12 0 _
-      go true false = settle-goes st out (continued max w a t) (ref.continue R D (waitOf w) a (tablesOf t)) (continued-same w a t)
-      go false c = refuse-goes st out 15 0 _
+      go : (b c d : Bool) → Goes st (cond b (cond c (refuse st out 12 0) (cond d (refuse st out 14 0) (settle st out (continued max w a t)))) (refuse st out 15 0)) (ref.settle R D (ref.continue R D (waitOf w) a (tablesOf t)))
+      go true true d = refuse-goes st out 12 0 _
+      go true false true = refuse-goes st out 14 0 _
+      go true false false = settle-goes st out (continued max w a t) (ref.continue R D (waitOf w) a (tablesOf t)) (continued-same w a t)
+      go false c d = refuse-goes st out 15 0 _
   stepped-goes t (some w) (removal id) out = refuse-goes (made t (some w)) out 15 0 _
   stepped-goes t (some w) (sweep now) out = refuse-goes (made t (some w)) out 15 0 _
 

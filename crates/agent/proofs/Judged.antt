@@ -1,18 +1,21 @@
 -- What the judge lets through: the stores are long enough, the answer fits its call, and the submessages to run are counted.
-use Prim.Native.Nat.{ℕ, _≤_}
+use Prim.Native.Nat.{ℕ, _+_, _≤_}
 use mathlib.Core.Path.{_≡_, refl, sym, subst}
 use mathlib.Core.Bool.{Bool, true, false, cond, true≢false}
 use mathlib.Core.List.{List, []}
 use borrow.Author.Tests.{ltb-false, le-leb}
-use lib.Dec.{leb, ltb}
+use lib.Dec.{eqb, leb, ltb}
 use lib.ListN.{length}
 use Rattle.codec.specs.Reading.{Item, Items, items, stopped, itemsAt, Message, refused, under, messageOf, checkedOf, countAt, checkOf}
 use Rattle.codec.specs.Header.{headerOf as headerIn}
 use Rattle.codec.specs.declared.header.MessageHeader.{MessageHeader}
 use Rattle.codec.specs.declared.reading.Checked.{Checked}
 use Rattle.codec.specs.declared.reading.Checked.the-variants as checked
-use Rattle.codec.specs.declared.refusals.Refusal.the-variants.{BufferTooShort, OverLimit, TooLong, OutOfTurn}
+use Rattle.codec.specs.declared.refusals.Refusal.the-variants.{BufferTooShort, OverLimit, TooLong, OutOfTurn, StoreFull}
+use Rattle.streams.specs.declared.sent.Slot.{Slot}
+use Rattle.streams.specs.declared.sent.Slot.the-variants as slot
 use Rattle.sessions.specs.Limits.{limitsOf}
+use Rattle.sessions.specs.Sending.{dataSlot}
 use Rattle.sessions.specs.View.{Tables}
 use Rattle.sessions.specs.declared.limits.Limits.{Limits}
 use Rattle.sessions.specs.declared.limits.Limits.the-variants as limits
@@ -21,7 +24,7 @@ use Rattle.moves.specs.Calls.{fits}
 use Rattle.moves.specs.Proxy.{answerAs, taskAs}
 use Rattle.moves.specs.Answers.{saysOf}
 use Rattle.agent.specs.Answered.{saysFits}
-use Rattle.agent.specs.Judge.{answersOf, turnOf, sessionOf, recordSound, checkedJudged, datagramJudged, tooLong, answerStart, restJudged, headerOf, answerJudged, judgedBy, judgeOf, partsOf}
+use Rattle.agent.specs.Judge.{answersOf, turnOf, sessionOf, streamOf, recordSound, checkedJudged, datagramJudged, tooLong, answerSlot, slotOf, answerStart, placedJudged, restJudged, headerOf, answerJudged, judgedBy, judgeOf, partsOf}
 use Rattle.agent.specs.Host.{resumesFit}
 use Rattle.agent.specs.declared.judge.Input.{Input}
 use Rattle.agent.specs.declared.judge.Input.the-variants as input
@@ -73,17 +76,18 @@ abbrev pub AnswerFits : Resumes → Type 0
 AnswerFits resumes.Nothing = Unit {0}
 AnswerFits (resumes.Answer number task a) = fits (taskAs task) (answerAs a []) ≡ true
 
-pub record Sound (t : Tables) (d : List ℕ) (sample : ℕ) (x : Start) (n : ℕ) : Type 0 where
+pub record Sound (t : Tables) (d : List ℕ) (sample room : ℕ) (x : Start) (n : ℕ) : Type 0 where
   pub sessions-long : 256 ≤ length (t .sessions)
   pub streams-long : 2048 ≤ length (t .streams)
   pub objects-long : 8192 ≤ length (t .objects)
-  pub sample-fits : resumesFit (x .resumes) sample ≡ true
+  pub sample-fits : resumesFit (x .resumes) (x .frame .«stream_id») sample ≡ true
   pub answer-fits : AnswerFits (x .resumes)
   pub counted : CountedAs d (x .at) n
+  pub room-is : x .frame .room ≡ room
 
-abbrev pub JudgedSound : Tables → List ℕ → ℕ → Judged → Type 0
-JudgedSound t d sample (judged.Goes x n) = Sound t d sample x n
-JudgedSound t d sample (judged.Refused r) = Unit {0}
+abbrev pub JudgedSound : Tables → List ℕ → ℕ → ℕ → Judged → Type 0
+JudgedSound t d sample room (judged.Goes x n) = Sound t d sample room x n
+JudgedSound t d sample room (judged.Refused r) = Unit {0}
 
 -- what was judged, put together again
 pub goes-is : (j : Judged) → partsOf j .goes ≡ true → j ≡ judged.Goes (partsOf j .start) (partsOf j .count)
@@ -94,95 +98,129 @@ pub refused-is : (j : Judged) → partsOf j .goes ≡ false → j ≡ judged.Ref
 refused-is (judged.Goes x n) c = absurd (true≢false c)
 refused-is (judged.Refused r) c = refl
 
--- 12 has refused the sample that is too long
-says-fits : (task : Task) (a : BridgeAnswer) (sample : ℕ) → tooLong a sample ≡ false → saysFits (saysOf task a) sample ≡ true
-says-fits (Creating kind parent) (Created h) sample e = refl
-says-fits (Creating kind parent) Done sample e = refl
-says-fits (Creating kind parent) Sample sample e = refl
-says-fits (Creating kind parent) NoSample sample e = refl
-says-fits (Creating kind parent) Failed sample e = refl
-says-fits Writing (Created h) sample e = refl
-says-fits Writing Done sample e = refl
-says-fits Writing Sample sample e = refl
-says-fits Writing NoSample sample e = refl
-says-fits Writing Failed sample e = refl
-says-fits Reading (Created h) sample e = refl
-says-fits Reading Done sample e = refl
-says-fits Reading Sample sample e = le-leb sample 65533 (ltb-false 65533 sample e)
-says-fits Reading NoSample sample e = refl
-says-fits Reading Failed sample e = refl
-says-fits Deleting (Created h) sample e = refl
-says-fits Deleting Done sample e = refl
-says-fits Deleting Sample sample e = refl
-says-fits Deleting NoSample sample e = refl
-says-fits Deleting Failed sample e = refl
+-- 12 has refused the sample that is too long, and 14 the one that is too long to be held
+abbrev Placed : Slot → Type 0
+Placed (slot.At i) = Unit {0}
+Placed slot.Nowhere = Unit {0}
+Placed (slot.Refused r) = ⊥
 
-module _ (t : Tables) (d : List ℕ) (a : Agent) (sample : ℕ) where
+sample-fits-in : (stream n : ℕ) (place : Slot) → ltb 65533 n ≡ false → Placed (cond (eqb stream 0) slot.Nowhere (cond (ltb 1014 n) (slot.Refused StoreFull) place))
+    → cond (eqb stream 0) (leb n 65533) (leb n 1014) ≡ true
+sample-fits-in stream n place short = go (eqb stream 0) (ltb 1014 n) refl
+  where
+    go : (b c : Bool) → ltb 1014 n ≡ c → Placed (cond b slot.Nowhere (cond c (slot.Refused StoreFull) place)) → cond b (leb n 65533) (leb n 1014) ≡ true
+    go true c e k = le-leb n 65533 (ltb-false 65533 n short)
+    go false true e k = absurd k
+    go false false e k = le-leb n 1014 (ltb-false 1014 n e)
+
+module _ (t : Tables) (p : Pending) (n : ℕ) where
+  abbrev its-slot : BridgeAnswer → Slot
+  its-slot a = answerSlot p a (t .sessions) (t .streams) (length (t .held)) n
+
+  says-fits : (task : Task) (a : BridgeAnswer) → tooLong a n ≡ false → Placed (its-slot a) → saysFits (saysOf task a) (p .«stream_id») n ≡ true
+  says-fits (Creating kind parent) (Created h) e k = refl
+  says-fits (Creating kind parent) Done e k = refl
+  says-fits (Creating kind parent) Sample e k = refl
+  says-fits (Creating kind parent) NoSample e k = refl
+  says-fits (Creating kind parent) Failed e k = refl
+  says-fits Writing (Created h) e k = refl
+  says-fits Writing Done e k = refl
+  says-fits Writing Sample e k = refl
+  says-fits Writing NoSample e k = refl
+  says-fits Writing Failed e k = refl
+  says-fits Reading (Created h) e k = refl
+  says-fits Reading Done e k = refl
+  says-fits Reading Sample e k = sample-fits-in (p .«stream_id») n (dataSlot (t .sessions) (t .streams) (length (t .held)) (p .«session_id») (p .«stream_id») (10 + n)) e k
+  says-fits Reading NoSample e k = refl
+  says-fits Reading Failed e k = refl
+  says-fits Deleting (Created h) e k = refl
+  says-fits Deleting Done e k = refl
+  says-fits Deleting Sample e k = refl
+  says-fits Deleting NoSample e k = refl
+  says-fits Deleting Failed e k = refl
+
+module _ (t : Tables) (d : List ℕ) (a : Agent) (sample room : ℕ) where
   record Long : Type 0 where
     sessions : 256 ≤ length (t .sessions)
     streams : 2048 ≤ length (t .streams)
     objects : 8192 ≤ length (t .objects)
 
-  long-of : (id : ℕ) → limitsOf (t .sessions) (t .streams) (t .objects) id ≡ limits.Within → Long
-  long-of id e =
-      let k = kept-limits (t .sessions) (t .streams) (t .objects) id e in
+  abbrev within-at : ℕ → ℕ → Limits
+  within-at id n = limitsOf (t .sessions) (t .streams) (t .objects) (length (t .held)) (a .«max_clients») id n
+
+  long-of : (id n : ℕ) → within-at id n ≡ limits.Within → Long
+  long-of id n e =
+      let k = kept-limits (t .sessions) (t .streams) (t .objects) (length (t .held)) (a .«max_clients») id n e .stores in
       record { sessions = k .sessions-long; streams = k .streams-long; objects = k .objects-long }
 
-  checked-sound : Long → (time : ℕ) (c : Checked) → Counts d 4 c → JudgedSound t d sample (checkedJudged a time c)
+  abbrev Lets : Judged → Type 0
+  Lets j = JudgedSound t d sample room j
+
+  checked-sound : Long → (time : ℕ) (c : Checked) → Counts d 4 c → Lets (checkedJudged a time room c)
   checked-sound k time (checked.Message h n) e =
-      record { sessions-long = k .sessions; streams-long = k .streams; objects-long = k .objects; sample-fits = refl; answer-fits = tt; counted = e }
+      record { sessions-long = k .sessions; streams-long = k .streams; objects-long = k .objects; sample-fits = refl; answer-fits = tt; counted = e; room-is = refl }
   checked-sound k time (checked.Refused r) e = tt
 
-  datagram-sound : (time id : ℕ) → JudgedSound t d sample (datagramJudged d a (limitsOf (t .sessions) (t .streams) (t .objects) id) time)
-  datagram-sound time id = go (limitsOf (t .sessions) (t .streams) (t .objects) id) refl
+  datagram-sound : (time id n : ℕ) → Lets (datagramJudged d a (within-at id n) time room)
+  datagram-sound time id n = go (within-at id n) refl
     where
-      within : Long → (b : Bool) → JudgedSound t d sample (cond b (checkedJudged a time (checkOf d)) (judged.Refused OverLimit))
+      within : Long → (b : Bool) → Lets (cond b (checkedJudged a time room (checkOf d)) (judged.Refused OverLimit))
       within k true = checked-sound k time (checkOf d) (counted-whole d)
       within k false = tt
 
-      go : (l : Limits) → limitsOf (t .sessions) (t .streams) (t .objects) id ≡ l → JudgedSound t d sample (datagramJudged d a l time)
-      go limits.Within e = within (long-of id e) (recordSound a)
+      go : (l : Limits) → within-at id n ≡ l → Lets (datagramJudged d a l time room)
+      go limits.Within e = within (long-of id n e) (recordSound a)
       go (limits.Refused r) e = tt
 
-  rest-sound : Long → (p : Pending) (b : BridgeAnswer) → fits (taskAs (p .task)) (answerAs b []) ≡ true → (c : Checked) → Counts d (p .at) c → JudgedSound t d sample (restJudged a p b sample c)
-  rest-sound k p b f (checked.Message h n) e = go (tooLong b sample) refl
-    where
-      go : (w : Bool) → tooLong b sample ≡ w → JudgedSound t d sample (cond w (judged.Refused TooLong) (judged.Goes (answerStart a p b) n))
-      go true q = tt
-      go false q = record { sessions-long = k .sessions; streams-long = k .streams; objects-long = k .objects; sample-fits = says-fits (p .task) b sample q; answer-fits = f; counted = e }
-  rest-sound k p b f (checked.Refused r) e = tt
+  module _ (p : Pending) (b : BridgeAnswer) (f : fits (taskAs (p .task)) (answerAs b []) ≡ true) where
+    abbrev place : Slot
+    place = its-slot t p sample b
 
-  answer-sound : (p : Pending) (b : BridgeAnswer) (id : ℕ) → fits (taskAs (p .task)) (answerAs b []) ≡ true → JudgedSound t d sample (answerJudged d a (limitsOf (t .sessions) (t .streams) (t .objects) id) p b sample)
-  answer-sound p b id f = go (limitsOf (t .sessions) (t .streams) (t .objects) id) refl
-    where
-      within : Long → (v w : Bool) → JudgedSound t d sample (cond v (cond w (judged.Refused OverLimit) (restJudged a p b sample (countAt (headerOf p) d (p .at)))) (judged.Refused OverLimit))
-      within k true true = tt
-      within k true false = rest-sound k p b f (countAt (headerOf p) d (p .at)) (counted-at (headerOf p) d (p .at))
-      within k false w = tt
+    rest-sound : Long → (c : Checked) → Counts d (p .at) c → Lets (restJudged a p b sample place room c)
+    rest-sound k (checked.Message h n) e = go (tooLong b sample) refl place refl
+      where
+        goes : tooLong b sample ≡ false → Placed place → Sound t d sample room (answerStart a p b room) n
+        goes q s =
+            record { sessions-long = k .sessions; streams-long = k .streams; objects-long = k .objects; sample-fits = says-fits t p sample (p .task) b q s; answer-fits = f; counted = e; room-is = refl }
 
-      go : (l : Limits) → limitsOf (t .sessions) (t .streams) (t .objects) id ≡ l → JudgedSound t d sample (answerJudged d a l p b sample)
-      go limits.Within e = within (long-of id e) (recordSound a) (ltb (length d) (p .at))
-      go (limits.Refused r) e = tt
+        go : (w : Bool) → tooLong b sample ≡ w → (s : Slot) → place ≡ s → Lets (cond w (judged.Refused TooLong) (placedJudged s (judged.Goes (answerStart a p b room) n)))
+        go true q s g = tt
+        go false q (slot.At i) g = goes q (subst Placed (sym g) tt)
+        go false q slot.Nowhere g = goes q (subst Placed (sym g) tt)
+        go false q (slot.Refused r) g = tt
+    rest-sound k (checked.Refused r) e = tt
+
+    answer-sound : (id n : ℕ) → Lets (answerJudged d a (within-at id n) p b sample place room)
+    answer-sound id n = go (within-at id n) refl
+      where
+        within : Long → (v w : Bool) → Lets (cond v (cond w (judged.Refused OverLimit) (restJudged a p b sample place room (countAt (headerOf p) d (p .at)))) (judged.Refused OverLimit))
+        within k true true = tt
+        within k true false = rest-sound k (countAt (headerOf p) d (p .at)) (counted-at (headerOf p) d (p .at))
+        within k false w = tt
+
+        go : (l : Limits) → within-at id n ≡ l → Lets (answerJudged d a l p b sample place room)
+        go limits.Within e = within (long-of id n e) (recordSound a) (ltb (length d) (p .at))
+        go (limits.Refused r) e = tt
 
   abbrev TurnSound : Turn → Type 0
-  TurnSound x = JudgedSound t d sample (judgedBy d a (limitsOf (t .sessions) (t .streams) (t .objects) (sessionOf d x)) x sample)
+  TurnSound x = Lets (judgedBy d a (within-at (sessionOf d x) (streamOf d x)) x sample (slotOf x (t .sessions) (t .streams) (length (t .held)) sample) room)
 
   answers-sound : (p : Pending) (b : BridgeAnswer) → TurnSound (answersOf p b)
   answers-sound p b = go (fits (taskAs (p .task)) (answerAs b [])) refl
     where
       go : (w : Bool) → fits (taskAs (p .task)) (answerAs b []) ≡ w → TurnSound (cond w (turn.Answer p b) (turn.Refused OutOfTurn))
-      go true f = answer-sound p b (p .«session_id») f
+      go true f = answer-sound p b f (p .«session_id») (p .«stream_id»)
       go false f = tt
 
   turn-sound : (w : Waiting) (i : Input) → TurnSound (turnOf w i)
-  turn-sound waiting.Nothing (input.Datagram time) = datagram-sound time (sessionOf d (turn.Datagram time))
+  turn-sound waiting.Nothing (input.Datagram time) = datagram-sound time (sessionOf d (turn.Datagram time)) (streamOf d (turn.Datagram time))
   turn-sound waiting.Nothing (input.Answer b) = tt
   turn-sound (waiting.Call p) (input.Datagram time) = tt
   turn-sound (waiting.Call p) (input.Answer b) = answers-sound p b
 
-  judge-sound : (i : Input) → JudgedSound t d sample (judgeOf t d a i sample)
+  judge-sound : (i : Input) → Lets (judgeOf t d a i sample room)
   unfolding judgeOf
   judge-sound i = turn-sound (a .waits) i
 
-  pub judged-goes : (i : Input) (x : Start) (n : ℕ) → judgeOf t d a i sample ≡ judged.Goes x n → Sound t d sample x n
-  judged-goes i x n e = subst (JudgedSound t d sample) e (judge-sound i)
+  pub judged-goes : (i : Input) (x : Start) (n : ℕ) → judgeOf t d a i sample room ≡ judged.Goes x n → Sound t d sample room x n
+  judged-goes i x n e = subst (JudgedSound t d sample room) e (judge-sound i)

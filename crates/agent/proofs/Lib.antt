@@ -1,33 +1,42 @@
 -- What is proved of the agent's definitions: the rules are honest about handles, the agent goes in step with `isolation`'s, and so has term 3; no reply is hidden; document 01's frauds are
--- shut out; and the definitions over the lent tables do what the rules and the step over lists do.
+-- shut out; an ACKNACK repeats what was sent (W5); and the definitions over the lent tables do what the rules and the step over lists do.
 pub mod Held
 pub mod Parents
+pub mod MoveCases
 pub mod Honest
 pub mod InStep
 pub mod Term3
 pub mod Frauds
 pub mod Shown
 pub mod Laws
+pub mod StreamLists
+pub mod RepeatLaws
 pub mod Place
 pub mod MoveBytes
 pub mod NameParts
+pub mod Repeated
 pub mod Square
 pub mod SquareObjects
 pub mod SquareStreams
+pub mod SquareReads
 pub mod SquareHandled
 pub mod SquareOpen
 pub mod SquareRun
 pub mod SquareHost
 pub mod Written
 pub mod Turns
+pub mod Acknacks
 pub mod Running
+pub mod Rooms
 pub mod CallRoom
+pub mod SquareHeld
 pub mod SquareAnswer
 pub mod SquareStep
 pub mod WholeInStep
 pub mod WireNumbers
 pub mod Planned
 pub mod Promised
+pub mod AsSent
 pub mod OwnRank
 pub mod TakeDown
 pub mod Back

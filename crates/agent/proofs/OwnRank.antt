@@ -18,7 +18,7 @@ use Rattle.codec.specs.declared.submessages.Submessage.{Submessage}
 use Rattle.codec.specs.declared.submessages.Submessage.the-variants as sub
 use Rattle.isolation.specs.Rules.{done, calls, Sub, opens, names}
 use Rattle.isolation.specs.Claim as claim
-use Rattle.sessions.specs.View.{Tables as Stores, Entry, Local, blankEntry, placeIn, findIn, putEntry, putIn, dropAt, dropIn, expired}
+use Rattle.sessions.specs.View.{Tables as Stores, Entry, KeptStream, Local, blankEntry, placeIn, findIn, putEntry, putIn, dropAt, dropIn, streamIn, expired}
 use Rattle.sessions.specs.Dependants.{dependantIn, hasDependant}
 use Rattle.sessions.specs.ObjectList.{rankOf}
 use Rattle.sessions.specs.declared.objects.Place.{Place}
@@ -28,7 +28,7 @@ use Rattle.moves.specs.Calls.{Answer, created, succeeded, sample, noSample, fai
 use Rattle.agent.specs.Local.{full, touched, handleAt}
 use Rattle.agent.specs.Parents.{handlesNamed}
 use Rattle.agent.specs.RulesObjects.{Move, ifHandle, ifHandles, createFor, deleteFound}
-use Rattle.agent.specs.RulesAnswers.{answerOf}
+use Rattle.agent.specs.RulesAnswers.{sampleOn, answerOf}
 use Rattle.agent.specs.Rules.{rules, Opening, In, messageFrom, onSubmessage, handle}
 use Rattle.agent.specs.Step as step
 use Rattle.agent.specs.Step.{Tables, Open, Ran, chosen, openAs, run, deliver, act, keep, continued, settle, begin, stays}
@@ -36,6 +36,7 @@ use Rattle.agent.specs.Whole as whole
 use Rattle.agent.specs.Whole.{Hosted, agentOf, eventOf, sessionIn, setUpWith}
 use Rattle.agent.specs.declared.agent.AgentSetUp.the-variants.{Ready}
 use Rattle.agent.specs.declared.state.Agent.{Agent}
+use Rattle.agent.proofs.MoveCases.{either, read-cases}
 use Rattle.agent.proofs.SquareStep.{empty-square, step-square}
 use Rattle.agent.proofs.WholeInStep.{Holds, holds-empty, holds-step}
 use Rattle.agent.proofs.Promised.{stateAfter}
@@ -108,10 +109,6 @@ kind-own Subscriber = refl
 kind-own DataWriter = refl
 kind-own DataReader = refl
 
-either : (b : Bool) (x y : Move) → MoveGood x → MoveGood y → MoveGood (cond b x y)
-either true x y p q = p
-either false x y p q = q
-
 if-handle : (x : Option ℕ) (f : ℕ → Move) (other : Move) → ((h : ℕ) → MoveGood (f h)) → MoveGood other → MoveGood (ifHandle x f other)
 if-handle none f other p q = q
 if-handle (some h) f other p q = p h
@@ -131,7 +128,11 @@ module _ (l : Local) (g : Good l) (stream number : ℕ) where
 
   delete-good : (x : Option Entry) → MoveGood (deleteFound stream number x l)
   delete-good none = g
-  delete-good (some e) = let d = drop-each (l .objects) number g in either (dependantIn (l .objects) e) _ _ g (if-handle (e .handle) _ _ (λ h. (d, tt)) d)
+  delete-good (some e) = let d = drop-each (l .objects) number g in either MoveGood (dependantIn (l .objects) e) _ _ g (if-handle (e .handle) _ _ (λ h. (d, tt)) d)
+
+  sample-good : (d : List ℕ) (x : Option KeptStream) → MoveGood (sampleOn stream number d x l)
+  sample-good d none = g
+  sample-good d (some k) = g
 
   answer-good : (t : Task) → TaskOwn t → (a : Answer) → MoveGood (answerOf t stream number a l)
   answer-good (creating kind parent) o (created h) = put-each (l .objects) _ g o
@@ -146,7 +147,7 @@ module _ (l : Local) (g : Good l) (stream number : ℕ) where
   answer-good writing o failed = g
   answer-good readingTask o (created h) = g
   answer-good readingTask o succeeded = g
-  answer-good readingTask o (sample d) = g
+  answer-good readingTask o (sample d) = either MoveGood (eqb stream 0) _ _ g (sample-good d (streamIn (l .streams) stream))
   answer-good readingTask o noSample = g
   answer-good readingTask o failed = g
   answer-good deleting o (created h) = g
@@ -158,10 +159,10 @@ module _ (l : Local) (g : Good l) (stream number : ℕ) where
 submessage-good : (m : Submessage) (body : List ℕ) (stream : ℕ) (l : Local) → Good l → MoveGood (onSubmessage m body stream l)
 submessage-good (sub.Create p) body stream l g =
     let n = p .«object_id» .0 in
-    either (full n l) _ _ g (either (hasDependant (l .objects) (findIn (l .objects) n)) _ _ g (create-good l g stream n (p .kind) (p .«parent_id») body))
+    either MoveGood (full n l) _ _ g (either MoveGood (hasDependant (l .objects) (findIn (l .objects) n)) _ _ g (create-good l g stream n (p .kind) (p .«parent_id») body))
 submessage-good (sub.Delete p) body stream l g = delete-good l g stream (p .«object_id» .0) (findIn (l .objects) (p .«object_id» .0))
 submessage-good (sub.WriteData p) body stream l g = if-handle (handleAt (p .«writer_id» .0) l) _ _ (λ h. (g, tt)) g
-submessage-good (sub.ReadData p) body stream l g = if-handle (handleAt (p .«reader_id» .0) l) _ _ (λ h. (g, tt)) g
+submessage-good (sub.ReadData p) body stream l g = read-cases MoveGood stream (p .«reader_id» .0) l g (λ h e z. (g, tt)) g g (λ h e k f. (g, tt))
 submessage-good (sub.Heartbeat p) body stream l g = g
 submessage-good (sub.Acknack p) body stream l g = g
 submessage-good (sub.Data p) body stream l g = g
@@ -252,12 +253,14 @@ stepped-good none st (step.sweep now) out g o =
     let is = step.lapsedIds (st .timeout) now (st .tables .at) in
     finish-good st out (step.withLocals st (λ i. stays (st .timeout) now (st .tables .at i))) is (step.swept is) g ((λ i. stays-good (st .timeout) now (st .tables .at i) (g .0 i)), tt)
 stepped-good (some w) st (step.datagram time bytes) out g o = g
-stepped-good (some w) st (step.answer a) out g o = by (fits (w .pending .task) a) (step.tooLong (w .pending) a)
+stepped-good (some w) st (step.answer a) out g o = by (fits (w .pending .task) a) (step.tooLong (w .pending) a) (step.overHeld w a (st .tables))
   where
-    by : (b c : Bool) → AgentGood ((cond b (cond c (step.refuse st out 12 0) (settle st out (continued (st .max) w a (st .tables)))) (step.refuse st out 15 0)) .agent)
-    by true true = g
-    by true false = settle-good st out (continued (st .max) w a (st .tables)) g (continued-good (st .max) w a (st .tables) (g .0) o)
-    by false c = g
+    by : (b c d : Bool)
+        → AgentGood ((cond b (cond c (step.refuse st out 12 0) (cond d (step.refuse st out 14 0) (settle st out (continued (st .max) w a (st .tables))))) (step.refuse st out 15 0)) .agent)
+    by true true d = g
+    by true false true = g
+    by true false false = settle-good st out (continued (st .max) w a (st .tables)) g (continued-good (st .max) w a (st .tables) (g .0) o)
+    by false c d = g
 stepped-good (some w) st (step.removal id) out g o = g
 stepped-good (some w) st (step.sweep now) out g o = g
 

@@ -2,12 +2,12 @@
 use Prim.Native.Nat.{ℕ, _+_}
 use mathlib.Core.Path.{_≡_, refl, sym, ap, _∙_}
 use mathlib.Core.Logic.{_≢_}
-use mathlib.Core.Bool.{Bool, true, false, cond}
+use mathlib.Core.Bool.{Bool, true, false, cond, not}
 use mathlib.Core.Option.{none, some}
 use mathlib.Core.List.{List, []}
 use native.Mathlib.Omega.{arith}
 use borrow.Author.Tests.{le-ltb}
-use lib.Dec.{ltb}
+use lib.Dec.{eqb, leb, ltb}
 use lib.ListN.{length, take, drop}
 use lib.Seq.{take-append-seam}
 use Rattle.codec.specs.Bytes.{putAt, putOf, putBytes}
@@ -16,20 +16,29 @@ use Rattle.codec.specs.Refusals.{numberOf, byteOf}
 use Rattle.codec.specs.declared.bytes.Written.the-variants as written
 use Rattle.codec.specs.declared.reading.Checked.{Checked}
 use Rattle.codec.specs.declared.reading.Checked.the-variants as checked
-use Rattle.codec.specs.declared.refusals.Refusal.the-variants.{OutOfTurn, OverLimit, TooLong, OutputTooShort}
+use Rattle.codec.specs.declared.refusals.Refusal.the-variants.{OutOfTurn, OverLimit, TooLong, StoreFull, OutputTooShort}
+use Rattle.streams.specs.Places.{firstFrom, inLimits, placeFor}
+use Rattle.streams.specs.Sent.{need, slotFor}
+use Rattle.streams.specs.declared.sent.Slot.{Slot}
+use Rattle.streams.specs.declared.sent.Slot.the-variants as slot
+use Rattle.streams.specs.declared.state.StreamState.{StreamState}
 use Rattle.sessions.specs.Limits.{limitsOf}
+use Rattle.sessions.specs.Sending.{roomOf, stretchAt, dataSlot}
+use Rattle.sessions.specs.SessionStreams.{streamsUsed, streamsNamed, isStream, streamPlace}
+use Rattle.sessions.specs.Streams.{streamAt, firstStream}
 use Rattle.sessions.specs.Sweep.{expiredIds, evictedOf, evictedOut, evictedRows, sweptRows}
-use Rattle.sessions.specs.Table.{tableFits, isFree, namedOf, keptRows, endedSession, endedRows}
+use Rattle.sessions.specs.Table.{tableFits, isFree, namedOf, recordsFit, reachedOf, keptRows, endedSession, endedRows}
 use Rattle.sessions.specs.View.{Tables}
 use Rattle.sessions.specs.declared.limits.Limits.{Limits}
 use Rattle.sessions.specs.declared.table.Named.{Named}
 use Rattle.sessions.specs.declared.table.Named.the-variants as named
 use Rattle.moves.specs.Calls.{fits}
 use Rattle.moves.specs.Proxy.{callAs, answerAs, taskAs}
+use Rattle.moves.specs.declared.proxy.BridgeAnswer.the-variants.{Created, Done, Sample, NoSample, Failed}
 use Rattle.agent.specs.Step as step
 use Rattle.agent.specs.Step.{Reply, joinedReplies}
 use Rattle.agent.specs.Run.{Turned}
-use Rattle.agent.specs.Judge.{recordSound, soundOf, turnOf, sessionOf, headerOf, tooLong, answerStart, checkedJudged, restJudged, judgedBy, judgeOf}
+use Rattle.agent.specs.Judge.{recordSound, soundOf, turnOf, sessionOf, streamOf, headerOf, tooLong, slotOf, answerStart, placedJudged, checkedJudged, restJudged, judgedBy, judgeOf}
 use Rattle.agent.specs.Host as host
 use Rattle.agent.specs.Host.{performed, finishedOf, finish, processedBy, processOf, idleOf, removedAs, removedBy, removedRows, sweptBy}
 use Rattle.agent.specs.Whole.{State, Event, datagram, answer, removal, sweep, Did, didBy, removedResult, sweptResult, withRows, stepOf}
@@ -49,6 +58,7 @@ use Rattle.agent.specs.declared.turn.Stop.{Stop}
 use Rattle.agent.specs.declared.turn.Stop.the-variants as stop
 use Rattle.agent.proofs.Laws.{went}
 use Rattle.agent.proofs.WireNumbers.{InMessage, message-wire}
+use Rattle.agent.proofs.Rooms.{startAt, performed-alike}
 use Rattle.agent.proofs.Running.{performed-told}
 
 -- what a result says into the lent output: the replies in order, or the ids of a sweep
@@ -106,9 +116,9 @@ not-limit e = omega arith
 not-turn : numberOf OutOfTurn ≢ 13
 not-turn e = omega arith
 
-checked-not : (a : Agent) (time : ℕ) (s : List ℕ) (m : Message) → InMessage s m → Not13 (checkedJudged a time (checkedOf m))
-checked-not a time s (message h xs) k = tt
-checked-not a time s (refused r) k = let z = k .most in λ e. omega (arith, z, e)
+checked-not : (a : Agent) (time room : ℕ) (s : List ℕ) (m : Message) → InMessage s m → Not13 (checkedJudged a time room (checkedOf m))
+checked-not a time room s (message h xs) k = tt
+checked-not a time room s (refused r) k = let z = k .most in λ e. omega (arith, z, e)
 
 abbrev TurnNot : Turn → Type 0
 TurnNot (turn.Datagram time) = Unit {0}
@@ -125,71 +135,200 @@ in-turn (waiting.Call p) (input.Answer b) = by (fits (taskAs (p .task)) (answerA
     by true = tt
     by false = not-turn
 
-turn-not : (d : List ℕ) (a : Agent) (l : Limits) (x : Turn) (n : ℕ) → TurnNot x → Not13 (judgedBy d a l x n)
-unfolding checkOf
-turn-not d a l (turn.Datagram time) n h = by (soundOf a l)
-  where
-    by : (b : Bool) → Not13 (cond b (checkedJudged a time (checkOf d)) (judged.Refused OverLimit))
-    by true = checked-not a time d (messageOf d) (message-wire d)
-    by false = not-limit
-turn-not d a l (turn.Answer p b) n h = by (soundOf a l) (ltb (length d) (p .at)) (countAt (headerOf p) d (p .at))
-  where
-    long : (c : Bool) (k : ℕ) → Not13 (cond c (judged.Refused TooLong) (judged.Goes (answerStart a p b) k))
-    long true k = λ e. omega arith
-    long false k = tt
+-- nor among what refuses to hold a reply
+abbrev SlotNot : Slot → Type 0
+SlotNot (slot.At i) = Unit {0}
+SlotNot slot.Nowhere = Unit {0}
+SlotNot (slot.Refused r) = numberOf r ≢ 13
 
-    rest : (c : Checked) → Not13 (restJudged a p b n c)
-    rest (checked.Message h k) = long (tooLong b n) k
+not-full : numberOf StoreFull ≢ 13
+not-full e = omega arith
+
+either-not : (b : Bool) (x y : Slot) → SlotNot x → SlotNot y → SlotNot (cond b x y)
+either-not true x y p q = p
+either-not false x y p q = q
+
+slot-for-not : (s : StreamState) (n len room : ℕ) → SlotNot (slotFor s n len room)
+unfolding slotFor
+slot-for-not s n len room =
+    either-not (eqb (s .«stream_id») 0) _ _ tt
+    (either-not (ltb room need) _ _ not-limit
+    (either-not (not (inLimits s)) _ _ not-limit
+    (either-not (ltb 1024 len) _ _ not-full
+    (either-not (leb 16 (placeFor s n)) _ _ not-full tt))))
+
+data-slot-not : (sessions streams : List (List ℕ)) (held id n len : ℕ) → SlotNot (dataSlot sessions streams held id n len)
+unfolding dataSlot streamPlace streamsNamed reachedOf namedOf
+data-slot-not sessions streams held id n len =
+    by (recordsFit used 8 (length streams) 2048) (tableFits sessions) (isFree sessions id) (ltb k used) (leb 8 used) refl refl refl refl refl
+  where
+    used : ℕ
+    used = streamsUsed sessions id
+
+    k : ℕ
+    k = firstFrom (isStream streams (firstStream id) n) used 0
+
+    by : (fits long free have full : Bool) → recordsFit used 8 (length streams) 2048 ≡ fits → tableFits sessions ≡ long → isFree sessions id ≡ free → ltb k used ≡ have → leb 8 used ≡ full
+        → SlotNot (dataSlot sessions streams held id n len)
+    by false long free have full f l e h u = rw f not-limit
+    by true false free have full f l e h u = rw (f, l) not-limit
+    by true true true have full f l e h u = rw (f, l, e) tt
+    by true true false true full f l e h u =
+        rw (f, l, e, h) (slot-for-not (streamAt streams (firstStream id + k)) (streamAt streams (firstStream id + k) .«next_send_seq») len (roomOf (stretchAt sessions held id k)))
+    by true true false false true f l e h u = rw (f, l, e, h, u) tt
+    by true true false false false f l e h u = rw (f, l, e, h, u) tt
+
+slot-not : (x : Turn) (s y : List (List ℕ)) (held n : ℕ) → SlotNot (slotOf x s y held n)
+slot-not (turn.Datagram time) s y held n = tt
+slot-not (turn.Answer p Sample) s y held n =
+    either-not (eqb (p .«stream_id») 0) _ _ tt (either-not (ltb 1014 n) _ _ not-full (data-slot-not s y held (p .«session_id») (p .«stream_id») (10 + n)))
+slot-not (turn.Answer p (Created h)) s y held n = tt
+slot-not (turn.Answer p Done) s y held n = tt
+slot-not (turn.Answer p NoSample) s y held n = tt
+slot-not (turn.Answer p Failed) s y held n = tt
+slot-not (turn.Refused r) s y held n = tt
+
+turn-not : (d : List ℕ) (a : Agent) (l : Limits) (x : Turn) (n : ℕ) (y : Slot) (room : ℕ) → TurnNot x → SlotNot y → Not13 (judgedBy d a l x n y room)
+unfolding checkOf
+turn-not d a l (turn.Datagram time) n y room h k = by (soundOf a l)
+  where
+    by : (b : Bool) → Not13 (cond b (checkedJudged a time room (checkOf d)) (judged.Refused OverLimit))
+    by true = checked-not a time room d (messageOf d) (message-wire d)
+    by false = not-limit
+turn-not d a l (turn.Answer p b) n y room h k = by (soundOf a l) (ltb (length d) (p .at)) (countAt (headerOf p) d (p .at))
+  where
+    placed : (y : Slot) → SlotNot y → (m : ℕ) → Not13 (placedJudged y (judged.Goes (answerStart a p b room) m))
+    placed (slot.At i) k m = tt
+    placed slot.Nowhere k m = tt
+    placed (slot.Refused r) k m = k
+
+    long : (c : Bool) (m : ℕ) → Not13 (cond c (judged.Refused TooLong) (placedJudged y (judged.Goes (answerStart a p b room) m)))
+    long true m = λ e. omega arith
+    long false m = placed y k m
+
+    rest : (c : Checked) → Not13 (restJudged a p b n y room c)
+    rest (checked.Message h m) = long (tooLong b n) m
     rest (checked.Refused r) = not-limit
 
-    by : (s e : Bool) (c : Checked) → Not13 (cond s (cond e (judged.Refused OverLimit) (restJudged a p b n c)) (judged.Refused OverLimit))
+    by : (s e : Bool) (c : Checked) → Not13 (cond s (cond e (judged.Refused OverLimit) (restJudged a p b n y room c)) (judged.Refused OverLimit))
     by true true c = not-limit
     by true false c = rest c
     by false e c = not-limit
-turn-not d a l (turn.Refused r) n h = h
+turn-not d a l (turn.Refused r) n y room h k = h
 
-judge-not : (t : Tables) (d : List ℕ) (a : Agent) (i : Input) (n : ℕ) → Not13 (judgeOf t d a i n)
-unfolding judgeOf
-judge-not t d a i n = let x = turnOf (a .waits) i in turn-not d a (limitsOf (t .sessions) (t .streams) (t .objects) (sessionOf d x)) x n (in-turn (a .waits) i)
+-- and it does not look at the room
+abbrev atRoom : Judged → ℕ → Judged
+atRoom (judged.Goes x n) room = judged.Goes (startAt x room) n
+atRoom (judged.Refused r) room = judged.Refused r
+
+turn-room : (d : List ℕ) (a : Agent) (l : Limits) (x : Turn) (n : ℕ) (y : Slot) (room : ℕ) → judgedBy d a l x n y room ≡ atRoom (judgedBy d a l x n y 0) room
+turn-room d a l (turn.Datagram time) n y room = by (soundOf a l) (checkOf d)
+  where
+    by : (b : Bool) (c : Checked) → cond b (checkedJudged a time room c) (judged.Refused OverLimit) ≡ atRoom (cond b (checkedJudged a time 0 c) (judged.Refused OverLimit)) room
+    by true (checked.Message h m) = refl
+    by true (checked.Refused r) = refl
+    by false c = refl
+turn-room d a l (turn.Answer p b) n y room = by (soundOf a l) (ltb (length d) (p .at)) (countAt (headerOf p) d (p .at))
+  where
+    placed : (y : Slot) (m : ℕ) → placedJudged y (judged.Goes (answerStart a p b room) m) ≡ atRoom (placedJudged y (judged.Goes (answerStart a p b 0) m)) room
+    placed (slot.At i) m = refl
+    placed slot.Nowhere m = refl
+    placed (slot.Refused r) m = refl
+
+    long : (c : Bool) (m : ℕ)
+        → cond c (judged.Refused TooLong) (placedJudged y (judged.Goes (answerStart a p b room) m)) ≡ atRoom (cond c (judged.Refused TooLong) (placedJudged y (judged.Goes (answerStart a p b 0) m))) room
+    long true m = refl
+    long false m = placed y m
+
+    rest : (c : Checked) → restJudged a p b n y room c ≡ atRoom (restJudged a p b n y 0 c) room
+    rest (checked.Message h m) = long (tooLong b n) m
+    rest (checked.Refused r) = refl
+
+    by : (s e : Bool) (c : Checked)
+        → cond s (cond e (judged.Refused OverLimit) (restJudged a p b n y room c)) (judged.Refused OverLimit)
+        ≡ atRoom (cond s (cond e (judged.Refused OverLimit) (restJudged a p b n y 0 c)) (judged.Refused OverLimit)) room
+    by true true c = refl
+    by true false c = rest c
+    by false e c = refl
+turn-room d a l (turn.Refused r) n y room = refl
+
+module _ (t : Tables) (d : List ℕ) (a : Agent) (i : Input) (n : ℕ) where
+  abbrev inTurn : Turn
+  inTurn = turnOf (a .waits) i
+
+  abbrev within : Limits
+  within = limitsOf (t .sessions) (t .streams) (t .objects) (length (t .held)) (a .«max_clients») (sessionOf d inTurn) (streamOf d inTurn)
+
+  abbrev holds : Slot
+  holds = slotOf inTurn (t .sessions) (t .streams) (length (t .held)) n
+
+  judge-not : Not13 (judgeOf t d a i n 0)
+  unfolding judgeOf
+  judge-not = turn-not d a within inTurn n holds 0 (in-turn (a .waits) i) (slot-not inTurn (t .sessions) (t .streams) (length (t .held)) n)
+
+  judge-room : (room : ℕ) → judgeOf t d a i n room ≡ atRoom (judgeOf t d a i n 0) room
+  unfolding judgeOf
+  judge-room room = turn-room d a within inTurn n holds room
 
 module _ (st : State) (d sample : List ℕ) where
-  module _ (x : Start) (next at wrote : ℕ) (t : Tables) (rs : List Reply) (w : wrote ≡ length (joinedReplies rs)) where
-    abbrev turnedAs : Stop → Turned
-    turnedAs s = record { ran = record { next = next; at = at; wrote = wrote; stop = s }; tables = t; replies = rs }
+  module _ (x : Start) (next at : ℕ) (t : Tables) (rs : List Reply) where
+    abbrev turnedAs : ℕ → Stop → Turned
+    turnedAs wrote s = record { ran = record { next = next; at = at; wrote = wrote; stop = s }; tables = t; replies = rs }
 
-    abbrev finishes : Stop → List ℕ → Did
-    finishes s out = didBy d (st .lent) (finish (st .agent) (st .tables) out x (turnedAs s))
+    -- a run that replied rs, of which so many bytes were counted
+    abbrev finishes : Stop → ℕ → List ℕ → Did
+    finishes s wrote out = didBy d (st .lent) (finish (st .agent) (st .tables) out (startAt x (length out)) (turnedAs wrote s))
 
-    abbrev leaves : Stop → host.Leaves
-    leaves s = record { processed = finishedOf (st .agent) x (turnedAs s .ran); tables = t; out = []; replies = rs }
+    abbrev full : Stop → ℕ → List ℕ → host.Leaves
+    full s wrote out = record { processed = finishedOf (st .agent) (startAt x (length out)) (turnedAs wrote s .ran); tables = t; out = putAt out 0 (joinedReplies rs); replies = rs }
 
-    carried-as : (s : Stop) (out : List ℕ) (q : step.Result) → didBy d (st .lent) (leaves s) .result ≡ q → saidBy q ≡ joinedReplies rs → finishes s out ≡ carry st (goes (didBy d (st .lent) (leaves s) .state) q) out
-    carried-as s out q e f =
-        ap (λ (k : ℕ). didBy d (st .lent) (cond (ltb (length out) k) (host.refuse (st .agent) (st .tables) out OutputTooShort) (full))) w
+    -- 13 sees whether they are too many
+    abbrev Told : ℕ → List ℕ → Type 0
+    Told wrote out = ltb (length out) wrote ≡ ltb (length out) (length (joinedReplies rs))
+
+    carried-as : (s : Stop) (wrote : ℕ) (out : List ℕ) (st′ : State) (q : step.Result) → didBy d (st .lent) (full s wrote out) ≡ record { state = st′; out = putAt out 0 (joinedReplies rs); result = q }
+        → saidBy q ≡ joinedReplies rs → Told wrote out → finishes s wrote out ≡ carry st (goes st′ q) out
+    carried-as s wrote out st′ q e f w =
+        ap (λ (b : Bool). didBy d (st .lent) (cond b (host.refuse (st .agent) (st .tables) out OutputTooShort) (full s wrote out))) w
         ∙ by (ltb (length out) (length (joinedReplies rs)))
-        ∙ ap (λ (bs : List ℕ). cond (ltb (length out) (length bs)) (refusing st out 13 0) (record { state = didBy d (st .lent) (leaves s) .state; out = putAt out 0 bs; result = q })) (sym f)
+        ∙ ap (λ (bs : List ℕ). cond (ltb (length out) (length bs)) (refusing st out 13 0) (record { state = st′; out = putAt out 0 bs; result = q })) (sym f)
       where
-        full : host.Leaves
-        full = record { processed = finishedOf (st .agent) x (turnedAs s .ran); tables = t; out = putAt out 0 (joinedReplies rs); replies = rs }
-
-        by : (b : Bool) → didBy d (st .lent) (cond b (host.refuse (st .agent) (st .tables) out OutputTooShort) full)
-            ≡ cond b (refusing st out 13 0) (record { state = didBy d (st .lent) (leaves s) .state; out = putAt out 0 (joinedReplies rs); result = q })
+        by : (b : Bool) → didBy d (st .lent) (cond b (host.refuse (st .agent) (st .tables) out OutputTooShort) (full s wrote out))
+            ≡ cond b (refusing st out 13 0) (record { state = st′; out = putAt out 0 (joinedReplies rs); result = q })
         by true = refl
-        by false = ap (λ (q : step.Result). record { state = didBy d (st .lent) (leaves s) .state; out = putAt out 0 (joinedReplies rs); result = q }) e
+        by false = e
 
-    finish-planned : (s : Stop) → Planned st (finishes s)
-    finish-planned stop.Nothing =
-        record { plan = goes (didBy d (st .lent) (leaves stop.Nothing) .state) (step.ran rs none); good = refl; carries = λ out. carried-as stop.Nothing out (step.ran rs none) refl refl }
-    finish-planned (stop.Call number task call) =
+    finish-planned : (wrote : List ℕ → ℕ) → ((out : List ℕ) → Told (wrote out) out) → (s : Stop) → Planned st (λ out. finishes s (wrote out) out)
+    finish-planned wrote w stop.Nothing =
+        let st′ = didBy d (st .lent) (full stop.Nothing 0 []) .state in
+        let q = step.ran rs none in
+        record { plan = goes st′ q; good = refl; carries = λ out. carried-as stop.Nothing (wrote out) out st′ q refl refl (w out) }
+    finish-planned wrote w (stop.Call number task call) =
         let s = stop.Call number task call in
+        let st′ = didBy d (st .lent) (full s 0 []) .state in
         let q = step.ran rs (some (callAs d call)) in
-        record { plan = goes (didBy d (st .lent) (leaves s) .state) q; good = refl; carries = λ out. carried-as s out q refl refl }
+        record { plan = goes st′ q; good = refl; carries = λ out. carried-as s (wrote out) out st′ q refl refl (w out) }
 
-  judged-planned : (j : Judged) → Not13 j → Planned st (λ out. didBy d (st .lent) (processedBy j (st .agent) (st .tables) out d sample))
+  -- the same of any room, since that is told by the count alone
+  judged-planned : (j : Judged) → Not13 j → Planned st (λ out. didBy d (st .lent) (processedBy (atRoom j (length out)) (st .agent) (st .tables) out d sample))
   judged-planned (judged.Refused r) h = refuses st (numberOf r) (byteOf r) h
-  judged-planned (judged.Goes x n) h =
-      let y = performed x (st .tables) d sample in
-      finish-planned x (y .ran .next) (y .ran .at) (y .ran .wrote) (y .tables) (y .replies) (performed-told x (st .tables) d sample) (y .ran .stop)
+  judged-planned (judged.Goes x n) h = record {
+    plan = p .plan;
+    good = p .good;
+    carries = λ out. ap (λ (z : Turned). didBy d (st .lent) (finish (st .agent) (st .tables) out (startAt x (length out)) z)) (performed-alike x (length out) (st .tables) d sample) ∙ p .carries out;
+  }
+    where
+      y : Turned
+      y = performed x (st .tables) d sample
+
+      inRoom : List ℕ → Turned
+      inRoom out = performed (startAt x (length out)) (st .tables) d sample
+
+      p : Planned st (λ out. finishes x (y .ran .next) (y .ran .at) (y .tables) (y .replies) (y .ran .stop) (inRoom out .ran .wrote) out)
+      p =
+          finish-planned x (y .ran .next) (y .ran .at) (y .tables) (y .replies) (λ out. inRoom out .ran .wrote)
+          (λ out. performed-told (startAt x (length out)) (st .tables) d sample ∙ ap (λ (z : Turned). ltb (length out) (length (joinedReplies (z .replies)))) (performed-alike x (length out) (st .tables) d sample))
+          (y .ran .stop)
 
 -- ---- a removal and a sweep
 
@@ -294,11 +433,21 @@ module _ (st : State) where
     sweep-planned idle.Free h = fitting-planned (tableFits rows)
     sweep-planned (idle.Refused r) h = refuses st (numberOf r) (byteOf r) h
 
+-- a datagram or an answer, judged in any room
+processed-planned : (st : State) (d sample : List ℕ) (i : Input)
+    → Planned st (λ out. didBy d (st .lent) (processedBy (judgeOf (st .tables) d (st .agent) i (length sample) (length out)) (st .agent) (st .tables) out d sample))
+processed-planned st d sample i =
+    let j = judgeOf (st .tables) d (st .agent) i (length sample) 0 in
+    let p = judged-planned st d sample j (judge-not (st .tables) d (st .agent) i (length sample)) in
+    record {
+      plan = p .plan;
+      good = p .good;
+      carries = λ out. ap (λ (j : Judged). didBy d (st .lent) (processedBy j (st .agent) (st .tables) out d sample)) (judge-room (st .tables) d (st .agent) i (length sample) (length out)) ∙ p .carries out;
+    }
+
 pub planned : (st : State) (e : Event) → Planned st (λ out. stepOf st e out)
 unfolding stepOf processOf
-planned st (datagram time bytes small) =
-    judged-planned st bytes [] (judgeOf (st .tables) bytes (st .agent) (input.Datagram time) 0) (judge-not (st .tables) bytes (st .agent) (input.Datagram time) 0)
-planned st (answer b sample) =
-    judged-planned st (st .lent) sample (judgeOf (st .tables) (st .lent) (st .agent) (input.Answer b) (length sample)) (judge-not (st .tables) (st .lent) (st .agent) (input.Answer b) (length sample))
+planned st (datagram time bytes small) = processed-planned st bytes [] (input.Datagram time)
+planned st (answer b sample) = processed-planned st (st .lent) sample (input.Answer b)
 planned st (removal id small) = removal-planned st id (idleOf (st .agent .waits) (st .agent)) (idle-not st (st .agent .waits))
 planned st (sweep now) = sweep-planned st now (idleOf (st .agent .waits) (st .agent)) (idle-not st (st .agent .waits))

@@ -16,7 +16,8 @@ use Rattle.codec.specs.Reading.{refused}
 use Rattle.codec.specs.declared.header.MessageHeader.{MessageHeader}
 use Rattle.isolation.specs.Claim as claim
 use Rattle.codec.specs.declared.refusals.Refusal.the-variants.{OverLimit}
-use Rattle.sessions.specs.Setup.{setUpFits, setUpOf}
+use Rattle.sessions.specs.Need.{storesFit}
+use Rattle.sessions.specs.Setup.{setUpOf}
 use Rattle.sessions.specs.View.{Tables}
 use Rattle.sessions.specs.declared.setup.SetUp.the-variants as setup
 use Rattle.moves.specs.Calls.{fits}
@@ -153,11 +154,12 @@ module _ (t : Tables) (max timeout : ℕ) (a : Agent) where
 
 -- ---- behind set-up
 
--- what a call may be refused with: 1 to 5, 12, 13, 15
+-- what a call may be refused with: 1 to 5, 12, 13, 14, 15
 pub data Listed : ℕ → Type 0 where
   wire : (number : ℕ) → OfWire number → Listed number
   too-long : Listed 12
   output-short : Listed 13
+  store-full : Listed 14
   out-of-turn : Listed 15
 
 abbrev ListedIn : step.Result → Type 0
@@ -190,12 +192,14 @@ stepped-listed none st (step.sweep now) out =
     let is = step.lapsedIds (st .timeout) now (st .tables .at) in
     finish-listed st out (step.withLocals st (λ i. step.stays (st .timeout) now (st .tables .at i))) is (step.swept is) tt
 stepped-listed (some w) st (step.datagram time bytes) out = out-of-turn
-stepped-listed (some w) st (step.answer a) out = by (fits (w .pending .task) a) (step.tooLong (w .pending) a)
+stepped-listed (some w) st (step.answer a) out = by (fits (w .pending .task) a) (step.tooLong (w .pending) a) (step.overHeld w a (st .tables))
   where
-    by : (b c : Bool) → ListedIn ((cond b (cond c (step.refuse st out 12 0) (settle st out (continued (st .max) w a (st .tables)))) (step.refuse st out 15 0)) .result)
-    by true true = too-long
-    by true false = settle-listed st out (continued (st .max) w a (st .tables))
-    by false c = out-of-turn
+    by : (b c d : Bool)
+        → ListedIn ((cond b (cond c (step.refuse st out 12 0) (cond d (step.refuse st out 14 0) (settle st out (continued (st .max) w a (st .tables))))) (step.refuse st out 15 0)) .result)
+    by true true d = too-long
+    by true false true = store-full
+    by true false false = settle-listed st out (continued (st .max) w a (st .tables))
+    by false c d = out-of-turn
 stepped-listed (some w) st (step.removal id) out = out-of-turn
 stepped-listed (some w) st (step.sweep now) out = out-of-turn
 
@@ -211,6 +215,7 @@ listed-16 : (number : ℕ) → Listed number → number ≢ 16
 listed-16 number (wire n h) e = let z = h .most in omega (arith, z, e)
 listed-16 number too-long e = omega (arith, e)
 listed-16 number output-short e = omega (arith, e)
+listed-16 number store-full e = omega (arith, e)
 listed-16 number out-of-turn e = omega (arith, e)
 
 -- whatever stood in the tables that set-up accepts, no call behind it is refused as 16
@@ -235,9 +240,9 @@ module _ (t : Tables) (max timeout : ℕ) (a : Agent) (made : setUpWith t max ti
 -- 16, "`max_clients` over 255, lent store under its documented need": set-up is refused exactly so, and else the agent is empty
 pub set-up-answers : (t : Tables) (max timeout : ℕ)
     → setUpAnswer (setUpWith t max timeout)
-    ≡ cond (setUpFits (length (t .sessions)) (length (t .streams)) (length (t .objects)) max) (gives (record { «max_clients» = max; «timeout_ms» = timeout; next = 1; waits = waiting.Nothing })) (refusedAs 16 0)
+    ≡ cond (storesFit (length (t .sessions)) (length (t .streams)) (length (t .objects)) (length (t .held)) max) (gives (record { «max_clients» = max; «timeout_ms» = timeout; next = 1; waits = waiting.Nothing })) (refusedAs 16 0)
 unfolding setUpOf
-set-up-answers t max timeout = by (setUpFits (length (t .sessions)) (length (t .streams)) (length (t .objects)) max)
+set-up-answers t max timeout = by (storesFit (length (t .sessions)) (length (t .streams)) (length (t .objects)) (length (t .held)) max)
   where
     by : (b : Bool)
         → setUpAnswer (setUpAs (cond b (setup.Ready 1) (setup.Refused OverLimit)) max timeout)

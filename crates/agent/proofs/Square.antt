@@ -10,29 +10,31 @@ use Rattle.codec.specs.Reading.{partOf}
 use Rattle.codec.specs.declared.layouts.Span.{Span}
 use Rattle.codec.specs.declared.submessages.Submessage.{Submessage}
 use Rattle.isolation.specs.Rules.{done, calls}
-use Rattle.streams.specs.View.{Sound}
 use Rattle.sessions.specs.Table.{isFree}
 use Rattle.sessions.specs.SessionObjects.{objectsNamed}
 use Rattle.sessions.specs.SessionStreams.{streamsNamed}
 use Rattle.sessions.specs.View.{Tables, Local, tablePart, sessionShown, localOf, absent}
-use Rattle.sessions.specs.Calls.{SoundTables, LeadsTo}
+use Rattle.sessions.specs.Calls.{SoundStream, SoundTables, LeadsTo}
 use Rattle.sessions.specs.declared.table.Named.the-variants.{Live}
 use Rattle.sessions.proofs.Reached.{free-view, objects-live, streams-live}
 use Rattle.moves.specs.Replies.{statusBytes, acknackBytes}
 use Rattle.moves.specs.Proxy.{callAs, taskAs}
 use Rattle.agent.specs.RulesObjects.{Move}
 use Rattle.agent.specs.Rules.{onSubmessage}
-use Rattle.moves.specs.Rows.{asksOf, handledMove, handledTables}
+use Rattle.agent.specs.Lent.{rowsOf, withRows}
+use Rattle.agent.specs.Run.{repeatsIn}
+use Rattle.moves.specs.Rows.{asksOf, handledMove, handledRows}
 use Rattle.moves.specs.declared.moves.Move as code
-use Rattle.moves.specs.declared.moves.Move.the-variants.{Greets, Status, Acknack, Calls, Silent}
+use Rattle.moves.specs.declared.moves.Move.the-variants.{Greets, Status, Acknack, Repeats, Calls, Silent}
 
--- the code's move as the rules': the session that is left, and what it says or asks
-abbrev pub outcome : List ℕ → ℕ → ℕ → Local → code.Move → Move
-outcome d id n l (Greets other code) = done l []
-outcome d id n l (Status number code) = done l (statusBytes id n (number .0) code ∷ [])
-outcome d id n l (Acknack p) = done l (acknackBytes id n (p .«first_unacked_seq») (p .«nack_bitmap») ∷ [])
-outcome d id n l (Calls number task call) = calls l [] (callAs d call) (record { stream = n; number = number .0; task = taskAs task })
-outcome d id n l Silent = done l []
+-- the code's move as the rules': the session that is left, and what it says or asks; what is repeated is read off the tables that are left
+abbrev pub outcome : List ℕ → Tables → ℕ → ℕ → Local → code.Move → Move
+outcome d t id n l (Greets other code) = done l []
+outcome d t id n l (Status number code) = done l (statusBytes id n (number .0) code ∷ [])
+outcome d t id n l (Acknack p) = done l (acknackBytes id n (p .«first_unacked_seq») (p .«nack_bitmap») ∷ [])
+outcome d t id n l (Repeats p) = done l (repeatsIn (t .sessions) (t .streams) (t .held) id n p)
+outcome d t id n l (Calls number task call) = calls l [] (callAs d call) (record { stream = n; number = number .0; task = taskAs task })
+outcome d t id n l Silent = done l []
 
 -- a live session, as the tables show it
 abbrev pub shownAt : Tables → ℕ → Local
@@ -42,12 +44,17 @@ shownAt t id = sessionShown id (tablePart t id)
 pub record Meets (t : Tables) (d : List ℕ) (id n : ℕ) (rule : Move) (t′ : Tables) (m : code.Move) : Type 0 where
   pub after : Local
   pub shows : localOf t′ id ≡ some after
-  pub moves : rule ≡ outcome d id n after m
+  pub moves : rule ≡ outcome d t′ id n after m
   pub elsewhere : (j : ℕ) → j ≢ id → localOf t′ j ≡ localOf t j
+
+-- the tables behind a submessage
+abbrev pub handledIn : Submessage → Tables → ℕ → ℕ → Tables
+handledIn m t id n = withRows t (handledRows (asksOf m) (rowsOf t) id n)
 
 -- a submessage, over tables in which the session was touched
 abbrev pub Squares : Submessage → Tables → List ℕ → ℕ → ℕ → Span → Type 0
-Squares m t d id n body = Meets t d id n (onSubmessage m (partOf d body) n (shownAt t id)) (handledTables (asksOf m) t id n) (handledMove (asksOf m) t d id n body)
+Squares m t d id n body =
+    Meets t d id n (onSubmessage m (partOf d body) n (shownAt t id)) (handledIn m t id n) (handledMove (asksOf m) (rowsOf t) d id n body)
 
 -- ---- a live session
 
@@ -65,7 +72,7 @@ pub same-local : (t : Tables) (id : ℕ) (l : Local) → localOf t id ≡ some l
 same-local t id l e = let z : some (shownAt t id) ≡ some l = sym (shown-live t id (live-shown t id l e)) ∙ e in cc
 
 -- what is reached of it
-module _ (t : Tables) (sound : SoundTables Sound t) (id : ℕ) (id< : id < 256) (live : isFree (t .sessions) id ≡ false) where
+module _ {most : ℕ} (t : Tables) (sound : SoundTables SoundStream most t) (id : ℕ) (id< : id < 256) (live : isFree (t .sessions) id ≡ false) where
   pub reach-objects : objectsNamed (t .sessions) (length (t .objects)) id ≡ Live
   reach-objects = objects-live (t .sessions) id (sound .sessions-need) (length (t .objects)) (sound .objects-need) (sound .each id id< .few-objects) live
 
@@ -74,10 +81,11 @@ module _ (t : Tables) (sound : SoundTables Sound t) (id : ℕ) (id< : id < 256) 
 
 -- ---- calls one behind the other keep the tables sound
 
-pub led-on : {t u v : Tables} → LeadsTo Sound t u → LeadsTo Sound u v → LeadsTo Sound t v
+pub led-on : {most : ℕ} {t u v : Tables} → LeadsTo SoundStream most t u → LeadsTo SoundStream most u v → LeadsTo SoundStream most t v
 led-on a b = record {
   sound = b .sound;
   sessions-length = b .sessions-length ∙ a .sessions-length;
   streams-length = b .streams-length ∙ a .streams-length;
   objects-length = b .objects-length ∙ a .objects-length;
+  held-length = b .held-length ∙ a .held-length;
 }

@@ -1,5 +1,5 @@
 -- The square of any submessage for a live session, with the touch before it; and the tables stay sound.
-use Prim.Native.Nat.{ℕ, _<_}
+use Prim.Native.Nat.{ℕ, _<_, _≤_}
 use mathlib.Core.Path.{_≡_, refl, sym, ap, _∙_}
 use mathlib.Core.Bool.{false}
 use mathlib.Core.Option.{some}
@@ -12,39 +12,42 @@ use Rattle.codec.specs.declared.submessages.ObjectKind.the-variants.{Participan
 use Rattle.codec.specs.declared.submessages.Submessage.{Submessage}
 use Rattle.codec.specs.declared.submessages.Submessage.the-variants as sub
 use Rattle.isolation.specs.Rules.{done}
-use Rattle.streams.specs.View.{Sound}
 use Rattle.sessions.specs.Table.{isFree, touchedRows}
 use Rattle.sessions.specs.Objects.{implicitOf}
 use Rattle.sessions.specs.Room.{roomOf}
+use Rattle.sessions.specs.SessionObjects.{foundObject}
 use Rattle.sessions.specs.View.{Tables, Local, localOf}
-use Rattle.sessions.specs.Calls.{SoundTables, LeadsTo, withSessions}
+use Rattle.sessions.specs.Calls.{SoundStream, SoundTables, LeadsTo, withSessions}
 use Rattle.sessions.specs.declared.room.Room.{Room}
 use Rattle.sessions.specs.declared.room.Room.the-variants as room
-use Rattle.sessions.proofs.Calls.{sound-lasts}
+use Rattle.sessions.proofs.SoundStreams.{stream-lasts}
 use Rattle.sessions.proofs.Steps.{same-led, touch-led, put-led, drop-led}
 use Rattle.sessions.proofs.ViewTable.{touchedLocal, touch-here, touch-elsewhere}
+use Rattle.agent.specs.Lent.{rowsOf}
 use Rattle.agent.specs.Local.{touched}
 use Rattle.agent.specs.Rules.{onSubmessage, handle}
-use Rattle.moves.specs.Rows.{asksOf, createdSessions, createdObjects, roomSessions, roomObjects, handledMove, handledTables}
+use Rattle.moves.specs.Moves.{foundHandle}
+use Rattle.moves.specs.Rows.{asksOf, createdSessions, createdObjects, roomSessions, roomObjects, handledMove}
 use Rattle.moves.specs.declared.moves.Move.the-variants.{Silent}
-use Rattle.agent.proofs.Square.{led-on, shownAt, Meets, Squares, shown-live, live-shown, same-local}
-use Rattle.agent.proofs.SquareObjects.{create-square, delete-square, write-square, read-square}
+use Rattle.agent.proofs.Square.{led-on, shownAt, handledIn, Meets, Squares, shown-live, live-shown, same-local}
+use Rattle.agent.proofs.SquareObjects.{create-square, delete-square, write-square}
+use Rattle.agent.proofs.SquareReads.{reads-led, read-square}
 use Rattle.agent.proofs.SquareStreams.{opens-led, acks-led, heartbeat-square, acknack-square}
 
-module _ (t : Tables) (sound : SoundTables Sound t) (id : ℕ) (id< : id < 256) where
-  abbrev stays-led : LeadsTo Sound t t
-  stays-led = same-led Sound sound-lasts t sound
+module _ {most : ℕ} (t : Tables) (sound : SoundTables SoundStream most t) (few : most ≤ 255) (id : ℕ) (id< : id < 256) where
+  abbrev stays-led : LeadsTo SoundStream most t t
+  stays-led = same-led SoundStream stream-lasts most t sound
 
   create-led : (p : CreatePayload) (r : Room)
-      → LeadsTo Sound t (record { sessions = roomSessions r (t .sessions) (t .objects) id (p .«object_id») (p .kind) (p .«parent_id»); streams = t .streams; objects = roomObjects r (t .sessions) (t .objects) id (p .«object_id») (p .kind) (p .«parent_id») })
+      → LeadsTo SoundStream most t (record { sessions = roomSessions r (t .sessions) (t .objects) id (p .«object_id») (p .kind) (p .«parent_id»); streams = t .streams; objects = roomObjects r (t .sessions) (t .objects) id (p .«object_id») (p .kind) (p .«parent_id»); held = t .held })
   create-led p room.Free = by (p .kind)
     where
       by : (k : ObjectKind)
-          → LeadsTo Sound t (record { sessions = createdSessions k (t .sessions) (t .objects) id (p .«object_id») (p .«parent_id»); streams = t .streams; objects = createdObjects k (t .sessions) (t .objects) id (p .«object_id») (p .«parent_id») })
+          → LeadsTo SoundStream most t (record { sessions = createdSessions k (t .sessions) (t .objects) id (p .«object_id») (p .«parent_id»); streams = t .streams; objects = createdObjects k (t .sessions) (t .objects) id (p .«object_id») (p .«parent_id»); held = t .held })
       by Participant = stays-led
       by Topic = stays-led
-      by Publisher = put-led Sound sound-lasts t sound id id< (implicitOf (p .«object_id») 3 (p .«parent_id»))
-      by Subscriber = put-led Sound sound-lasts t sound id id< (implicitOf (p .«object_id») 4 (p .«parent_id»))
+      by Publisher = put-led SoundStream stream-lasts most t sound id id< (implicitOf (p .«object_id») 3 (p .«parent_id»))
+      by Subscriber = put-led SoundStream stream-lasts most t sound id id< (implicitOf (p .«object_id») 4 (p .«parent_id»))
       by DataWriter = stays-led
       by DataReader = stays-led
   create-led p room.Full = stays-led
@@ -53,16 +56,16 @@ module _ (t : Tables) (sound : SoundTables Sound t) (id : ℕ) (id< : id < 256) 
   create-led p (room.Refused x) = stays-led
 
   module _ (live : isFree (t .sessions) id ≡ false) (n : ℕ) (n< : n < 256) where
-    pub handled-led : (m : Submessage) → LeadsTo Sound t (handledTables (asksOf m) t id n)
+    pub handled-led : (m : Submessage) → LeadsTo SoundStream most t (handledIn m t id n)
     handled-led (sub.CreateClient p) = stays-led
     handled-led (sub.Create p) = create-led p (roomOf (t .sessions) (t .objects) id (p .«object_id»))
-    handled-led (sub.Delete p) = drop-led Sound sound-lasts t sound id id< (p .«object_id»)
+    handled-led (sub.Delete p) = drop-led SoundStream stream-lasts most t sound id id< (p .«object_id»)
     handled-led (sub.Status p) = stays-led
     handled-led (sub.WriteData p) = stays-led
-    handled-led (sub.ReadData p) = stays-led
+    handled-led (sub.ReadData p) = reads-led t sound few id id< live n n< (foundHandle (foundObject (t .sessions) (t .objects) id (p .«reader_id»)))
     handled-led (sub.Data p) = stays-led
-    handled-led (sub.Heartbeat p) = opens-led t sound id id< live n n<
-    handled-led (sub.Acknack p) = acks-led t sound id id< live n n< p
+    handled-led (sub.Heartbeat p) = opens-led t sound few id id< live n n<
+    handled-led (sub.Acknack p) = acks-led t sound few id id< live n n< p
 
     module _ (d : List ℕ) (body : Span) where
       -- "DATA and STATUS get no reply"
@@ -75,22 +78,22 @@ module _ (t : Tables) (sound : SoundTables Sound t) (id : ℕ) (id< : id < 256) 
       handled-square (sub.Delete p) = delete-square t sound id id< live d n body p
       handled-square (sub.Status p) = nothing
       handled-square (sub.WriteData p) = write-square t sound id id< live d n body p
-      handled-square (sub.ReadData p) = read-square t sound id id< live d n body p
+      handled-square (sub.ReadData p) = read-square t sound few id id< live n n< d body p
       handled-square (sub.Data p) = nothing
-      handled-square (sub.Heartbeat p) = heartbeat-square t sound id id< live n n< d p body
-      handled-square (sub.Acknack p) = acknack-square t sound id id< live n n< p d body
+      handled-square (sub.Heartbeat p) = heartbeat-square t sound few id id< live n n< d p body
+      handled-square (sub.Acknack p) = acknack-square t sound few id id< live n n< p d body
 
 -- ---- with the touch: "The time becomes the last activity; then the rules above work on its lists alone."
 
 abbrev pub touchedAt : Tables → ℕ → ℕ → Tables
 touchedAt t id time = withSessions t (touchedRows (t .sessions) id time)
 
-module _ (t : Tables) (sound : SoundTables Sound t) (id : ℕ) (id< : id < 256) (time : ℕ) where
+module _ {most : ℕ} (t : Tables) (sound : SoundTables SoundStream most t) (few : most ≤ 255) (id : ℕ) (id< : id < 256) (time : ℕ) where
   abbrev u : Tables
   u = touchedAt t id time
 
-  pub touches-led : LeadsTo Sound t u
-  touches-led = touch-led Sound sound-lasts t sound id time id<
+  pub touches-led : LeadsTo SoundStream most t u
+  touches-led = touch-led SoundStream stream-lasts most t sound id time id<
 
   module _ (l : Local) (is : localOf t id ≡ some l) (n : ℕ) (n< : n < 256) (m : Submessage) where
     touch-shown : localOf u id ≡ some (touched time l)
@@ -99,13 +102,13 @@ module _ (t : Tables) (sound : SoundTables Sound t) (id : ℕ) (id< : id < 256) 
     touch-live : isFree (u .sessions) id ≡ false
     touch-live = live-shown u id (touched time l) touch-shown
 
-    pub turn-led : LeadsTo Sound t (handledTables (asksOf m) u id n)
-    turn-led = led-on touches-led (handled-led u (touches-led .sound) id id< touch-live n n< m)
+    pub turn-led : LeadsTo SoundStream most t (handledIn m u id n)
+    turn-led = led-on touches-led (handled-led u (touches-led .sound) few id id< touch-live n n< m)
 
     pub turn-square : (d : List ℕ) (body : Span)
-        → Meets t d id n (handle l (record { time = time; stream = n; fields = m; body = partOf d body })) (handledTables (asksOf m) u id n) (handledMove (asksOf m) u d id n body)
+        → Meets t d id n (handle l (record { time = time; stream = n; fields = m; body = partOf d body })) (handledIn m u id n) (handledMove (asksOf m) (rowsOf u) d id n body)
     turn-square d body =
-        let q = handled-square u (touches-led .sound) id id< touch-live n n< d body m in
+        let q = handled-square u (touches-led .sound) few id id< touch-live n n< d body m in
         record {
           after = q .after;
           shows = q .shows;

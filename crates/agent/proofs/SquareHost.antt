@@ -6,11 +6,10 @@ use mathlib.Core.Option.{Option, none, some}
 use native.Mathlib.Omega.{arith}
 use borrow.Author.Tests.{ltb-true}
 use lib.Dec.{ltb}
-use Rattle.streams.specs.View.{Sound}
 use Rattle.sessions.specs.Table.{isFree, endedRows}
 use Rattle.sessions.specs.Sweep.{goes, expiredFrom, expiredIds, sweptRows}
 use Rattle.sessions.specs.View.{Tables, Local, tablePart, localShown, localOf, lapsed}
-use Rattle.sessions.specs.Calls.{SoundTables, withSessions, setUpTables}
+use Rattle.sessions.specs.Calls.{SoundStream, SoundTables, withSessions, setUpTables}
 use Rattle.sessions.specs.declared.setup.SetUp.the-variants.{Ready}
 use Rattle.sessions.specs.declared.table.ClientSession.{ClientSession}
 use Rattle.sessions.proofs.Empty.{none-live}
@@ -34,14 +33,14 @@ empty-view t max timeout next e = λ i. record { next = e i; at = λ id. at-none
         by true q = free-none (setUpTables (Ready next) t) id (none-live (t .sessions) id (ltb-true id 256 q))
         by false q = refl
 
-module _ (t : Tables) (sound : SoundTables Sound t) where
+module _ {most : ℕ} (t : Tables) (sound : SoundTables SoundStream most t) where
   -- ---- a removal
 
   pub remove-view : (next id : ℕ) → id < 256 → viewOf next (withSessions t (endedRows (t .sessions) id)) ≡ record { next = next; at = withId id none (sessionIn t) }
   remove-view next id h =
       λ i. record {
         next = next;
-        at = sym (with-view t (withSessions t (endedRows (t .sessions) id)) id h none (remove-here t id (sound .sessions-need) h) (remove-elsewhere t id (sound .sessions-need) h)) i;
+        at = sym (with-view t (withSessions t (endedRows (t .sessions) id)) id h none (remove-here t id (sound .sessions-need) h) (λ j l q. remove-elsewhere t id (sound .sessions-need) h j q)) i;
       }
 
   -- ---- a sweep
@@ -57,7 +56,7 @@ module _ (t : Tables) (sound : SoundTables Sound t) where
     -- id 0 is not live, and is not swept
     zero-stays : localOf swept 0 ≡ localOf t 0
     unfolding sweptRows
-    zero-stays = ap (λ (s : ClientSession). localShown 0 (withSession s (tablePart t 0))) (swept-outside time timeout (t .sessions) 1 255 0 (λ a b. omega arith))
+    zero-stays = ap (λ (s : ClientSession). localShown 0 (withSession (t .held) s (tablePart t 0))) (swept-outside time timeout (t .sessions) 1 255 0 (λ a b. omega arith))
 
     swept-local : (j : ℕ) → j < 256 → localOf swept j ≡ stays timeout time (localOf t j)
     swept-local zero h = let z = free-none t 0 (sound .zero-free) in zero-stays ∙ z ∙ sym (ap (stays timeout time) z)

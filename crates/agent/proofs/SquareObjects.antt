@@ -1,4 +1,4 @@
--- The square of CREATE, DELETE, WRITE_DATA and READ_DATA.
+-- The square of CREATE, DELETE and WRITE_DATA.
 use Prim.Native.Nat.{ℕ, _<_, _≤_}
 use mathlib.Core.Path.{_≡_, refl, sym, ap, _∙_, subst}
 use mathlib.Core.Bool.{Bool, true, false, cond}
@@ -16,11 +16,9 @@ use Rattle.codec.specs.declared.submessages.ObjectKind.{ObjectKind}
 use Rattle.codec.specs.declared.submessages.ObjectKind.the-variants.{Participant, Topic, Publisher, Subscriber, DataWriter, DataReader}
 use Rattle.codec.specs.declared.submessages.ObjectNumber.{ObjectNumber}
 use Rattle.codec.specs.declared.submessages.DeletePayload.{DeletePayload}
-use Rattle.codec.specs.declared.submessages.ReadDataPayload.{ReadDataPayload}
 use Rattle.codec.specs.declared.submessages.WriteDataPayload.{WriteDataPayload}
 use Rattle.codec.specs.declared.submessages.StatusCode.the-variants.{Ok, ErrUnknownRef, ErrInvalidData, ErrIncompatible, ErrResources}
 use Rattle.codec.specs.declared.submessages.Submessage.the-variants as sub
-use Rattle.streams.specs.View.{Sound}
 use Rattle.sessions.specs.Table.{isFree, sessionAt}
 use Rattle.sessions.specs.Objects.{blank, handleOf, implicitOf, objectPlace, foundOf, slotOf}
 use Rattle.sessions.specs.SessionObjects.{objectRow, usedOf, foundObject}
@@ -28,7 +26,7 @@ use Rattle.sessions.specs.Dependants.{dependantIn, hasDependant}
 use Rattle.sessions.specs.Removal.{removeIn, dependedIn, takenOf, takenObject, dependedFound}
 use Rattle.sessions.specs.Room.{roomFor, roomOf}
 use Rattle.sessions.specs.View.{Tables, Entry, Local, entryOf, blankEntry, placeIn, heldAt, findIn, putIn, dropAt}
-use Rattle.sessions.specs.Calls.{SoundTables, putTables}
+use Rattle.sessions.specs.Calls.{SoundStream, SoundTables, putTables, dropTables}
 use Rattle.sessions.specs.declared.objects.Found.{Found}
 use Rattle.sessions.specs.declared.objects.Found.the-variants as found
 use Rattle.sessions.specs.declared.objects.Handle.{Handle}
@@ -47,14 +45,14 @@ use Rattle.sessions.proofs.ViewObjects.{entryFound, listed-length, listed-at, p
 use Rattle.sessions.proofs.ViewStores as stores
 use Rattle.sessions.proofs.ViewStores.{fits, find-view, put-here, put-elsewhere, drop-here, drop-elsewhere}
 use Rattle.sessions.proofs.session_objects.Laws.{found-is, taken-is, depended-is}
-use Rattle.moves.specs.Calls.{Call, createTopic, createWriter, createReader, writeData, readData, deleteEntity, creating, writing, reading, deleting}
+use Rattle.moves.specs.Calls.{Call, createTopic, createWriter, createReader, writeData, deleteEntity, creating, writing, deleting}
 use Rattle.agent.specs.Local.{withObjects, noPlace, full, listing, dropping, entryHandle, handleAt}
 use Rattle.agent.specs.Parents.{ofKind, bothHandles, handlesAbove, handlesNamed}
 use Rattle.moves.specs.Names.{namesIn}
-use Rattle.moves.specs.Moves.{foundHandle, handleOfKind, parentOf, topicBy, endpointCall, endpointFor, writeBy, readBy, writeMove, readMove, droppedMove, deleteMove}
+use Rattle.moves.specs.Moves.{foundHandle, handleOfKind, parentOf, topicBy, endpointCall, endpointFor, writeBy, writeMove, droppedMove, deleteMove}
 use Rattle.moves.specs.Proxy.{callAs}
 use Rattle.moves.specs.Rows.{endpointIn, createMove, createdSessions, createdObjects, roomMove, roomSessions, roomObjects}
-use Rattle.agent.specs.RulesObjects.{Move, Names, says, asks, ifHandle, ifHandles, namesOf, createWith, createFor, onCreate, drops, deleteFound, onDelete, onWrite, onRead}
+use Rattle.agent.specs.RulesObjects.{Move, Names, says, asks, ifHandle, ifHandles, namesOf, createWith, createFor, onCreate, drops, deleteFound, onDelete, onWrite}
 use Rattle.moves.specs.declared.moves.Move as code
 use Rattle.moves.specs.declared.moves.Move.the-variants.{Status}
 use Rattle.agent.proofs.NameParts.{names-same}
@@ -93,14 +91,14 @@ both-none : (x : Option ℕ) → bothHandles x none ≡ none
 both-none none = refl
 both-none (some p) = refl
 
-module _ (t : Tables) (sound : SoundTables Sound t) (id : ℕ) (id< : id < 256) (live : isFree (t .sessions) id ≡ false) (d : List ℕ) (n : ℕ) (body : Span) where
+module _ {most : ℕ} (t : Tables) (sound : SoundTables SoundStream most t) (id : ℕ) (id< : id < 256) (live : isFree (t .sessions) id ≡ false) (d : List ℕ) (n : ℕ) (body : Span) where
   abbrev l : Local
   l = shownAt t id
 
   abbrev foundAt : ObjectNumber → Found
   foundAt number = foundObject (t .sessions) (t .objects) id number
 
-  handle-view : (number : ObjectNumber) → handleAt (number .0) l ≡ handleShown (foundHandle (foundAt number))
+  pub handle-view : (number : ObjectNumber) → handleAt (number .0) l ≡ handleShown (foundHandle (foundAt number))
   handle-view number = ap entryHandle (sym (find-view t id id< (reach-objects t sound id id< live) (sound .each id id< .objects-differ) number)) ∙ sym (handle-shown (foundAt number))
 
   -- the two handles that a parent number names, by the objects that are fetched
@@ -126,13 +124,13 @@ module _ (t : Tables) (sound : SoundTables Sound t) (id : ℕ) (id< : id < 256) 
       by (found.Refused r) = sym (both-none (handleShown (handleOfKind (foundAt (record { 0 = 0 })) 1)))
 
   -- where the tables stay
-  stays : (rule : Move) (m : code.Move) → rule ≡ outcome d id n l m → Meets t d id n rule t m
+  stays : (rule : Move) (m : code.Move) → rule ≡ outcome d t id n l m → Meets t d id n rule t m
   stays rule m e = record { after = l; shows = shown-live t id live; moves = e; elsewhere = λ j h. refl }
 
-  -- ---- WRITE_DATA and READ_DATA
+  -- ---- WRITE_DATA
 
   write-moves : (number : ObjectNumber) (h : ObjectHandle)
-      → ifHandle (handleShown h) (λ w. asks n (number .0) writing (writeData w (partOf d body)) l) (says n (number .0) ErrUnknownRef l) ≡ outcome d id n l (writeBy number body h)
+      → ifHandle (handleShown h) (λ w. asks n (number .0) writing (writeData w (partOf d body)) l) (says n (number .0) ErrUnknownRef l) ≡ outcome d t id n l (writeBy number body h)
   write-moves number (Bridged w) = refl
   write-moves number Implicit = refl
 
@@ -142,18 +140,6 @@ module _ (t : Tables) (sound : SoundTables Sound t) (id : ℕ) (id< : id < 256) 
       stays (onWrite n (number .0) (partOf d body) l) (writeMove number body (foundAt number))
       (ap (λ (h : Option ℕ). ifHandle h (λ w. asks n (number .0) writing (writeData w (partOf d body)) l) (says n (number .0) ErrUnknownRef l)) (handle-view number)
       ∙ write-moves number (foundHandle (foundAt number)))
-
-  read-moves : (number : ObjectNumber) (h : ObjectHandle)
-      → ifHandle (handleShown h) (λ x. asks n (number .0) reading (readData x) l) (says n (number .0) ErrUnknownRef l) ≡ outcome d id n l (readBy number h)
-  read-moves number (Bridged x) = refl
-  read-moves number Implicit = refl
-
-  pub read-square : (p : ReadDataPayload) → Squares (sub.ReadData p) t d id n body
-  read-square p =
-      let number = p .«reader_id» in
-      stays (onRead n (number .0) l) (readMove number (foundAt number))
-      (ap (λ (h : Option ℕ). ifHandle h (λ x. asks n (number .0) reading (readData x) l) (says n (number .0) ErrUnknownRef l)) (handle-view number)
-      ∙ read-moves number (foundHandle (foundAt number)))
 
   -- ---- the row
 
@@ -176,16 +162,19 @@ module _ (t : Tables) (sound : SoundTables Sound t) (id : ℕ) (id< : id < 256) 
   -- ---- DELETE
 
   -- what is left
+  abbrev gone : ObjectNumber → Tables
+  gone number = dropTables t id number
+
   abbrev removing : ℕ → Local
   removing number = withObjects l (removeIn (l .objects) number)
 
   delete-at : (number : ObjectNumber) (p : Place) → placeIn (l .objects) (number .0) ≡ p → Under used p
       → deleteFound n (number .0) (heldAt (l .objects) p) l
-      ≡ outcome d id n (withObjects l (cond (hasDependant (l .objects) (heldAt (l .objects) p)) (l .objects) (dropAt (l .objects) p))) (deleteMove number (takenOf row used p))
+      ≡ outcome d (gone number) id n (withObjects l (cond (hasDependant (l .objects) (heldAt (l .objects) p)) (l .objects) (dropAt (l .objects) p))) (deleteMove number (takenOf row used p))
   delete-at number (At k) q h =
       ap (λ (e : Entry). deleteFound n (number .0) (some e) l) (entry-at k h)
       ∙ by (dependedIn row used x)
-      ∙ ap (λ (e : Entry). outcome d id n (withObjects l (cond (dependantIn (l .objects) e) (l .objects) (dropAt (l .objects) (At k)))) (deleteMove number (takenOf row used (At k)))) (sym (entry-at k h))
+      ∙ ap (λ (e : Entry). outcome d (gone number) id n (withObjects l (cond (dependantIn (l .objects) e) (l .objects) (dropAt (l .objects) (At k)))) (deleteMove number (takenOf row used (At k)))) (sym (entry-at k h))
     where
       x : Object
       x = getD row k blank
@@ -196,13 +185,13 @@ module _ (t : Tables) (sound : SoundTables Sound t) (id : ℕ) (id< : id < 256) 
       dropped : dropping (number .0) l ≡ left
       dropped = ap (λ (p : Place). withObjects l (dropAt (l .objects) p)) q
 
-      has : (h : ObjectHandle) → ifHandle (handleShown h) (λ x. asks n (number .0) deleting (deleteEntity x) left) (says n (number .0) Ok left) ≡ outcome d id n left (droppedMove number h)
+      has : (h : ObjectHandle) → ifHandle (handleShown h) (λ x. asks n (number .0) deleting (deleteEntity x) left) (says n (number .0) Ok left) ≡ outcome d (gone number) id n left (droppedMove number h)
       has (Bridged h) = refl
       has Implicit = refl
 
       by : (b : Bool)
           → cond b (says n (number .0) ErrIncompatible l) (drops n (number .0) (entryOf x .handle) l)
-          ≡ outcome d id n (withObjects l (cond b (l .objects) (dropAt (l .objects) (At k)))) (deleteMove number (cond b taken.Depended (taken.Gone x)))
+          ≡ outcome d (gone number) id n (withObjects l (cond b (l .objects) (dropAt (l .objects) (At k)))) (deleteMove number (cond b taken.Depended (taken.Gone x)))
       by true = refl
       by false =
           ap (λ (m : Local). ifHandle (entryOf x .handle) (λ h. asks n (number .0) deleting (deleteEntity h) m) (says n (number .0) Ok m)) dropped
@@ -210,11 +199,11 @@ module _ (t : Tables) (sound : SoundTables Sound t) (id : ℕ) (id< : id < 256) 
           ∙ has (handleOf x)
   delete-at number Nowhere q h = refl
 
-  delete-moves : (number : ObjectNumber) → onDelete n (number .0) l ≡ outcome d id n (removing (number .0)) (deleteMove number (takenObject (t .sessions) (t .objects) id number))
+  delete-moves : (number : ObjectNumber) → onDelete n (number .0) l ≡ outcome d (gone number) id n (removing (number .0)) (deleteMove number (takenObject (t .sessions) (t .objects) id number))
   delete-moves number =
       delete-at number (placeIn (l .objects) (number .0)) refl (subst (Under used) (place-view number) (place-under row number used))
-      ∙ ap (λ (p : Place). outcome d id n (removing (number .0)) (deleteMove number (takenOf row used p))) (sym (place-view number))
-      ∙ ap (λ (x : Taken). outcome d id n (removing (number .0)) (deleteMove number x)) (taken-is (t .sessions) (t .objects) id number Live (reach-objects t sound id id< live))
+      ∙ ap (λ (p : Place). outcome d (gone number) id n (removing (number .0)) (deleteMove number (takenOf row used p))) (sym (place-view number))
+      ∙ ap (λ (x : Taken). outcome d (gone number) id n (removing (number .0)) (deleteMove number x)) (taken-is (t .sessions) (t .objects) id number Live (reach-objects t sound id id< live))
 
   pub delete-square : (p : DeletePayload) → Squares (sub.Delete p) t d id n body
   delete-square p =
@@ -266,23 +255,23 @@ module _ (t : Tables) (sound : SoundTables Sound t) (id : ℕ) (id< : id < 256) 
 
   topic-moves : (number : ObjectNumber) (parent : ℕ) (h : ObjectHandle)
       → ifHandle (handleShown h) (λ p. asks n (number .0) (creating 2 parent) (createTopic p (namesOf (partOf d body) .name) (namesOf (partOf d body) .type)) l) (says n (number .0) ErrInvalidData l)
-      ≡ outcome d id n l (topicBy number parent (namesIn d body) h)
+      ≡ outcome d t id n l (topicBy number parent (namesIn d body) h)
   topic-moves number parent (Bridged p) = ap (λ (x : Names). asks n (number .0) (creating 2 parent) (createTopic (p .0) (x .name) (x .type)) l) (sym (names-same d body))
   topic-moves number parent Implicit = refl
 
   -- a writer or a reader, whose call is made of the two handles
   with-moves : (number : ObjectNumber) (kind : ObjectKind) (parent : ℕ) (call : ℕ → ℕ → Call)
       → ((p t : Handle) → callAs d (endpointCall (kindByte kind) p t) ≡ call (p .0) (t .0))
-      → (p t : ObjectHandle)
-      → ifHandles (bothHandles (handleShown p) (handleShown t)) (λ p t. asks n (number .0) (creating (kindByte kind) parent) (call p t) l) (says n (number .0) ErrInvalidData l)
-      ≡ outcome d id n l (endpointFor number (kindByte kind) parent p t)
+      → (p q : ObjectHandle)
+      → ifHandles (bothHandles (handleShown p) (handleShown q)) (λ p t. asks n (number .0) (creating (kindByte kind) parent) (call p t) l) (says n (number .0) ErrInvalidData l)
+      ≡ outcome d t id n l (endpointFor number (kindByte kind) parent p q)
   with-moves number kind parent call e (Bridged p) (Bridged t) = ap (λ (c : Call). asks n (number .0) (creating (kindByte kind) parent) c l) (sym (e p t))
   with-moves number kind parent call e (Bridged p) Implicit = refl
   with-moves number kind parent call e Implicit t = refl
 
   with-view : (number : ObjectNumber) (kind : ObjectKind) (parent : ℕ) (call : ℕ → ℕ → Call)
       → ((p t : Handle) → callAs d (endpointCall (kindByte kind) p t) ≡ call (p .0) (t .0))
-      → createWith kind n (number .0) parent call l ≡ outcome d id n l (endpointIn (t .sessions) (t .objects) id number (kindByte kind) parent)
+      → createWith kind n (number .0) parent call l ≡ outcome d t id n l (endpointIn (t .sessions) (t .objects) id number (kindByte kind) parent)
   with-view number kind parent call e =
       let topic = foundAt (record { 0 = parent }) in
       ap (λ (x : Option (ℕ × ℕ)). ifHandles x (λ p t. asks n (number .0) (creating (kindByte kind) parent) (call p t) l) (says n (number .0) ErrInvalidData l)) (named-view parent)
@@ -314,6 +303,7 @@ module _ (t : Tables) (sound : SoundTables Sound t) (id : ℕ) (id< : id < 256) 
           sessions = createdSessions k (t .sessions) (t .objects) id number (p .«parent_id»);
           streams = t .streams;
           objects = createdObjects k (t .sessions) (t .objects) id number (p .«parent_id»);
+          held = t .held;
         }
 
     -- each kind, where there is room
@@ -336,6 +326,7 @@ module _ (t : Tables) (sound : SoundTables Sound t) (id : ℕ) (id< : id < 256) 
           sessions = roomSessions r (t .sessions) (t .objects) id number (p .kind) (p .«parent_id»);
           streams = t .streams;
           objects = roomObjects r (t .sessions) (t .objects) id number (p .kind) (p .«parent_id»);
+          held = t .held;
         }
 
     pub create-square : Squares (sub.Create p) t d id n body

@@ -5,19 +5,18 @@ use mathlib.Core.Logic.{_≢_}
 use mathlib.Core.Bool.{Bool, true, false, cond}
 use mathlib.Core.Option.{Option, none, some}
 use native.Mathlib.Omega.{arith}
-use borrow.Author.Tests.{eqb-true, eqb-false, lt-ltb, ne-eqb}
+use borrow.Author.Tests.{eqb-true, eqb-false, ltb-true, lt-ltb, ne-eqb}
 use lib.Dec.{eqb, ltb}
 use Rattle.codec.specs.declared.refusals.Refusal.the-variants.{SessionFull}
-use Rattle.streams.specs.View.{Sound}
 use Rattle.sessions.specs.Table.{isFree}
 use Rattle.sessions.specs.Opening.{after, liveFrom, liveOf, freeFrom, freeOf, takenAs, chosenOf, createdOf}
 use Rattle.sessions.specs.View.{Tables, Local, startOf, localOf, absent}
-use Rattle.sessions.specs.Calls.{SoundTables, LeadsTo, createTables}
+use Rattle.sessions.specs.Calls.{SoundStream, SoundTables, LeadsTo, createTables}
 use Rattle.sessions.specs.declared.opening.Created.{Created}
 use Rattle.sessions.specs.declared.opening.Created.the-variants.{Opened, Refused}
-use Rattle.sessions.proofs.Calls.{sound-lasts}
 use Rattle.sessions.proofs.Chosen.{found-by}
 use Rattle.sessions.proofs.Reached.{free-view, created-when}
+use Rattle.sessions.proofs.SoundStreams.{stream-lasts}
 use Rattle.sessions.proofs.Steps.{create-led}
 use Rattle.sessions.proofs.ViewTable.{open-here, open-elsewhere}
 use Rattle.agent.specs.Run.{pointerOf, idOpened}
@@ -34,18 +33,22 @@ pub at-in : (t : Tables) (id : ℕ) → id < 256 → sessionIn t id ≡ localOf 
 at-in t id h = rw (lt-ltb id 256 h) refl
 
 -- another session for an id, and the others as they were
-module _ (t t′ : Tables) (id : ℕ) (id< : id < 256) (x : Option Local) (here : localOf t′ id ≡ x) (elsewhere : (j : ℕ) → j ≢ id → localOf t′ j ≡ localOf t j) where
+module _ (t t′ : Tables) (id : ℕ) (id< : id < 256) (x : Option Local) (here : localOf t′ id ≡ x) (elsewhere : (j : ℕ) → j < 256 → j ≢ id → localOf t′ j ≡ localOf t j) where
   with-at : (j : ℕ) → withId id x (sessionIn t) j ≡ sessionIn t′ j
   with-at j = by (eqb j id) refl
     where
       by : (b : Bool) → eqb j id ≡ b → cond b x (sessionIn t j) ≡ sessionIn t′ j
       by true e = let q : j ≡ id = eqb-true j id e in rw q (sym here ∙ sym (at-in t′ id id<))
-      by false e = ap (λ (y : Option Local). cond (ltb j 256) y none) (sym (elsewhere j (eqb-false j id e)))
+      by false e = in-table (ltb j 256) refl
+        where
+          in-table : (c : Bool) → ltb j 256 ≡ c → cond c (localOf t j) none ≡ cond c (localOf t′ j) none
+          in-table true h = sym (elsewhere j (ltb-true j 256 h) (eqb-false j id e))
+          in-table false h = refl
 
   pub with-view : _≡_ {A = ℕ → Option Local} (withId id x (sessionIn t)) (sessionIn t′)
   with-view = λ i j. with-at j i
 
-pub keep-view : (next : ℕ) (t t′ : Tables) (id : ℕ) (l : Local) → id < 256 → localOf t′ id ≡ some l → ((j : ℕ) → j ≢ id → localOf t′ j ≡ localOf t j) → keep id l (viewOf next t) ≡ viewOf next t′
+pub keep-view : (next : ℕ) (t t′ : Tables) (id : ℕ) (l : Local) → id < 256 → localOf t′ id ≡ some l → ((j : ℕ) → j < 256 → j ≢ id → localOf t′ j ≡ localOf t j) → keep id l (viewOf next t) ≡ viewOf next t′
 keep-view next t t′ id l h e f = λ i. record { next = next; at = with-view t t′ id h (some l) e f i }
 
 -- ---- which id is taken
@@ -77,7 +80,7 @@ module _ (t : Tables) where
       by none e later = rw (← e, ne-eqb i 0 (λ z. omega arith)) refl
       by (some l) e later = rw (← e) later
 
-module _ (t : Tables) (sound : SoundTables Sound t) (max next : ℕ) (max≤ : max ≤ 255) (low : 1 ≤ next) (high : next ≤ 255) where
+module _ (t : Tables) (max : ℕ) (sound : SoundTables SoundStream max t) (next : ℕ) (max≤ : max ≤ 255) (low : 1 ≤ next) (high : next ≤ 255) where
   abbrev made : Created
   made = createdOf (t .sessions) (t .streams) max next
 
@@ -117,8 +120,8 @@ module _ (t : Tables) (sound : SoundTables Sound t) (max next : ℕ) (max≤ : m
       by (Refused r) o = (low, high)
 
   module _ (key time : ℕ) where
-    pub creates-led : LeadsTo Sound t (createTables made t key time)
-    creates-led = create-led Sound sound-lasts t sound max next key time (omega arith)
+    pub creates-led : LeadsTo SoundStream max t (createTables made t key time)
+    creates-led = create-led SoundStream stream-lasts max t sound max next key time (omega arith) (omega arith)
 
     pub open-view : openAs (record { time = time; key = key }) (viewOf next t) (idOpened made) ≡ viewOf (pointerOf made next) (createTables made t key time)
     open-view = by made made-opens
@@ -130,6 +133,6 @@ module _ (t : Tables) (sound : SoundTables Sound t) (max next : ℕ) (max≤ : m
               next = sym (o .0) i;
               at = with-view t (createTables (Opened id n) t key time) id h (some (startOf id key time))
                   (open-here t id n key time (sound .sessions-need) (sound .streams-need) h)
-                  (open-elsewhere t id n key time (sound .sessions-need) (sound .streams-need) h) i;
+                  (λ j l q. open-elsewhere t id n key time (sound .sessions-need) (sound .streams-need) h j q) i;
             }
         by (Refused r) o = refl

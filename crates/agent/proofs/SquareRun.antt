@@ -18,29 +18,29 @@ use Rattle.codec.specs.declared.submessages.Submessage.{Submessage}
 use Rattle.codec.specs.declared.submessages.Submessage.the-variants as sub
 use Rattle.codec.proofs.reading.Laws.{items-more, read-placed}
 use Rattle.isolation.specs.Rules.{Sub, opens, names}
-use Rattle.streams.specs.View.{Sound}
 use Rattle.sessions.specs.Table.{isFree, namedOf, touchedRows}
 use Rattle.sessions.specs.Opening.{createdOf}
 use Rattle.sessions.specs.View.{Tables, Local, localOf, absent}
-use Rattle.sessions.specs.Calls.{SoundTables, LeadsTo, createTables}
+use Rattle.sessions.specs.Calls.{SoundStream, SoundTables, LeadsTo, createTables}
 use Rattle.sessions.specs.declared.opening.Created.{Created}
 use Rattle.sessions.specs.declared.opening.Created.the-variants as created
 use Rattle.sessions.specs.declared.table.Named.{Named}
 use Rattle.sessions.specs.declared.table.Named.the-variants.{Live, NotLive}
-use Rattle.sessions.proofs.Calls.{sound-lasts}
 use Rattle.sessions.proofs.Reached.{free-view, named-when}
+use Rattle.sessions.proofs.SoundStreams.{stream-lasts}
 use Rattle.sessions.proofs.Steps.{same-led}
 use Rattle.moves.specs.Calls.{Call}
 use Rattle.moves.specs.Proxy.{callAs, taskAs}
 use Rattle.agent.specs.RulesObjects.{Move}
 use Rattle.agent.specs.Rules.{Opening, In, subFrom, handle}
-use Rattle.moves.specs.Rows.{asksOf, handledMove, handledTables}
+use Rattle.moves.specs.Rows.{asksOf, handledMove}
+use Rattle.agent.specs.Lent.{rowsOf}
 use Rattle.agent.specs.Place.{subsAt}
 use Rattle.agent.specs.Run.{Turned, stopOf, greeting, idOpened, opening, repliesOf, touchedTables, acted, delivered, turnedBy, turned, isCall, goesOn, before, runIn, runAt}
 use Rattle.agent.specs.Step as agent
 use Rattle.agent.specs.Step.{Open, Reply, opened, behind, keep, act, deliver, run, openAs}
 use Rattle.moves.specs.declared.moves.Move as code
-use Rattle.moves.specs.declared.moves.Move.the-variants.{Greets, Status, Acknack, Calls, Silent}
+use Rattle.moves.specs.declared.moves.Move.the-variants.{Greets, Status, Acknack, Repeats, Calls, Silent}
 use Rattle.moves.specs.declared.proxy.BridgeCall.{BridgeCall}
 use Rattle.moves.specs.declared.proxy.Task.{Task}
 use Rattle.agent.specs.declared.turn.Frame.{Frame}
@@ -48,7 +48,7 @@ use Rattle.agent.specs.declared.turn.Ran.{Ran}
 use Rattle.agent.specs.declared.turn.Stop.{Stop}
 use Rattle.agent.specs.declared.turn.Stop.the-variants as stop
 use Rattle.agent.proofs.Place.{items-not, subs-end, subs-more}
-use Rattle.agent.proofs.Square.{outcome, led-on}
+use Rattle.agent.proofs.Square.{outcome, handledIn, led-on}
 use Rattle.agent.proofs.SquareHandled.{turn-led, turn-square}
 use Rattle.agent.proofs.SquareOpen.{viewOf, at-in, keep-view, chosen-view, pointer-in, creates-led, open-view}
 
@@ -72,13 +72,16 @@ pub record RunSquare (f : Frame) (d : List ℕ) (t : Tables) (y : agent.Ran) (x 
   pub tables : y .tables ≡ viewOf (x .ran .next) (x .tables)
   pub replies : y .replies ≡ x .replies
   pub stop : y .stop ≡ stopAs f d (x .ran .stop) (x .ran .at)
-  pub led : LeadsTo Sound t (x .tables)
+  pub led : LeadsTo SoundStream (f .«max_clients») t (x .tables)
   pub low : 1 ≤ x .ran .next
   pub high : x .ran .next ≤ 255
   pub within : x .ran .at ≤ length d
   pub reads : (ys : List Item) × (itemsAt d (x .ran .at) ≡ items ys)
 
 module _ (f : Frame) (d : List ℕ) (max≤ : f .«max_clients» ≤ 255) (id< : f .«session_id» < 256) (n< : f .«stream_id» < 256) where
+  abbrev max : ℕ
+  max = f .«max_clients»
+
   abbrev id : ℕ
   id = f .«session_id»
 
@@ -89,7 +92,7 @@ module _ (f : Frame) (d : List ℕ) (max≤ : f .«max_clients» ≤ 255) (id< :
   restAt at = subsAt (f .time) n d at
 
   abbrev runs : List (Sub Opening In) → agent.Tables → agent.Ran
-  runs ss t = run (f .«max_clients») id ss t
+  runs ss t = run max id ss t
 
   -- ---- one submessage
 
@@ -101,12 +104,12 @@ module _ (f : Frame) (d : List ℕ) (max≤ : f .«max_clients» ≤ 255) (id< :
 
   record Turns (t : Tables) (next : ℕ) (s : Sub Opening In) (at : ℕ) (x : Turned) : Type 0 where
     goes : runs (s ∷ restAt at) (viewOf next t) ≡ onward-from (x .ran .stop) x
-    led : LeadsTo Sound t (x .tables)
+    led : LeadsTo SoundStream max t (x .tables)
     low : 1 ≤ x .ran .next
     high : x .ran .next ≤ 255
     place : x .ran .at ≡ at
 
-  module _ (t : Tables) (sound : SoundTables Sound t) (r : Ran) (idle : r .stop ≡ stop.Nothing) (low : 1 ≤ r .next) (high : r .next ≤ 255) (at : ℕ) where
+  module _ (t : Tables) (sound : SoundTables SoundStream max t) (r : Ran) (idle : r .stop ≡ stop.Nothing) (low : 1 ≤ r .next) (high : r .next ≤ 255) (at : ℕ) where
     abbrev v : agent.Tables
     v = viewOf (r .next) t
 
@@ -116,7 +119,7 @@ module _ (f : Frame) (d : List ℕ) (max≤ : f .«max_clients» ≤ 255) (id< :
       o = record { time = f .time; key = key }
 
       abbrev c : Created
-      c = createdOf (t .sessions) (t .streams) (f .«max_clients») (r .next)
+      c = createdOf (t .sessions) (t .streams) max (r .next)
 
       greets-on : (c : Created) → stopOf (greeting c) ≡ stop.Nothing
       greets-on (created.Opened i k) = refl
@@ -125,15 +128,15 @@ module _ (f : Frame) (d : List ℕ) (max≤ : f .«max_clients» ≤ 255) (id< :
       client-goes : runs (opens o ∷ restAt at) v ≡ behind (opened (idOpened c) ∷ []) (runs (restAt at) (viewOf (opening f t r key at .ran .next) (createTables c t key (f .time))))
       unfolding run
       client-goes =
-          ap (λ (x : Option ℕ). behind (opened x ∷ []) (runs (restAt at) (openAs o v x))) (sym (chosen-view t sound (f .«max_clients») (r .next) max≤ low high))
-          ∙ ap (λ (u : agent.Tables). behind (opened (idOpened c) ∷ []) (runs (restAt at) u)) (open-view t sound (f .«max_clients») (r .next) max≤ low high key (f .time))
+          ap (λ (x : Option ℕ). behind (opened x ∷ []) (runs (restAt at) (openAs o v x))) (sym (chosen-view t max sound (r .next) max≤ low high))
+          ∙ ap (λ (u : agent.Tables). behind (opened (idOpened c) ∷ []) (runs (restAt at) u)) (open-view t max sound (r .next) max≤ low high key (f .time))
 
       client-turns : Turns t (r .next) (opens o) at (opening f t r key at)
       client-turns =
-          let p = pointer-in t sound (f .«max_clients») (r .next) max≤ low high in
+          let p = pointer-in t max sound (r .next) max≤ low high in
           record {
             goes = client-goes ∙ ap (λ (s : Stop). onward-from s (opening f t r key at)) (sym (greets-on c));
-            led = creates-led t sound (f .«max_clients») (r .next) max≤ low high key (f .time);
+            led = creates-led t max sound (r .next) max≤ low high key (f .time);
             low = p .0;
             high = p .1;
             place = refl;
@@ -152,10 +155,11 @@ module _ (f : Frame) (d : List ℕ) (max≤ : f .«max_clients» ≤ 255) (id< :
 
       -- a session's move
       acts-goes : (t′ : Tables) (l : Local) (w : code.Move) → keep id l v ≡ viewOf (r .next) t′
-          → act id (restAt at) v (outcome d id n l w) go ≡ onward-from (stopOf w) (acted f r at w t′)
+          → act id (restAt at) v (outcome d t′ id n l w) go ≡ onward-from (stopOf w) (acted f r at w t′)
       acts-goes t′ l (Greets other code) e = ap (λ (x : agent.Tables). behind [] (go x)) e
-      acts-goes t′ l (Status number code) e = ap (λ (x : agent.Tables). behind (repliesOf f (Status number code)) (go x)) e
-      acts-goes t′ l (Acknack p) e = ap (λ (x : agent.Tables). behind (repliesOf f (Acknack p)) (go x)) e
+      acts-goes t′ l (Status number code) e = ap (λ (x : agent.Tables). behind (repliesOf f t′ (Status number code)) (go x)) e
+      acts-goes t′ l (Acknack p) e = ap (λ (x : agent.Tables). behind (repliesOf f t′ (Acknack p)) (go x)) e
+      acts-goes t′ l (Repeats p) e = ap (λ (x : agent.Tables). behind (repliesOf f t′ (Repeats p)) (go x)) e
       acts-goes t′ l (Calls number task call) e =
           ap (λ (x : agent.Tables). record { tables = x; replies = []; stop = stopAs f d (stop.Call number task call) at }) e
       acts-goes t′ l Silent e = ap (λ (x : agent.Tables). behind [] (go x)) e
@@ -166,14 +170,14 @@ module _ (f : Frame) (d : List ℕ) (max≤ : f .«max_clients» ≤ 255) (id< :
       live-turns : (l : Local) → localOf t id ≡ some l → Turns t (r .next) (names i) at (X Live)
       unfolding run
       live-turns l e =
-          let q = turn-square t sound id id< (f .time) l e n n< m d body in
-          let w = handledMove (asksOf m) u d id n body in
+          let q = turn-square t sound max≤ id id< (f .time) l e n n< m d body in
+          let w = handledMove (asksOf m) (rowsOf u) d id n body in
           record {
             goes =
                 ap (λ (x : Option Local). deliver id (restAt at) v x (λ l. handle l i) go) (at-in t id id< ∙ e)
                 ∙ ap (λ (x : Move). act id (restAt at) v x go) (q .moves)
-                ∙ acts-goes (handledTables (asksOf m) u id n) (q .after) w (keep-view (r .next) t (handledTables (asksOf m) u id n) id (q .after) id< (q .shows) (q .elsewhere));
-            led = turn-led t sound id id< (f .time) l e n n< m;
+                ∙ acts-goes (handledIn m u id n) (q .after) w (keep-view (r .next) t (handledIn m u id n) id (q .after) id< (q .shows) (λ j h. q .elsewhere j));
+            led = turn-led t sound max≤ id id< (f .time) l e n n< m;
             low = low;
             high = high;
             place = refl;
@@ -191,7 +195,7 @@ module _ (f : Frame) (d : List ℕ) (max≤ : f .«max_clients» ≤ 255) (id< :
                 ap (λ (x : Option Local). deliver id (restAt at) v x (λ l. handle l i) go) (at-in t id id< ∙ e)
                 ∙ ap (λ (t′ : Tables). go (viewOf (r .next) t′)) (sym (untouched z))
                 ∙ ap (λ (s : Stop). onward-from s (X NotLive)) (sym idle);
-            led = subst (LeadsTo Sound t) (sym (untouched z)) (same-led Sound sound-lasts t sound);
+            led = subst (LeadsTo SoundStream max t) (sym (untouched z)) (same-led SoundStream stream-lasts max t sound);
             low = low;
             high = high;
             place = refl;
@@ -209,7 +213,7 @@ module _ (f : Frame) (d : List ℕ) (max≤ : f .«max_clients» ≤ 255) (id< :
               subst (λ (w : Named). Turns t (r .next) (names i) at (X w)) (sym z) (gone-turns e z)
           by (some l) e = subst (λ (w : Named). Turns t (r .next) (names i) at (X w)) (sym (named false (free-view t id ∙ ap absent e))) (live-turns l e)
 
-  module _ (t : Tables) (sound : SoundTables Sound t) (r : Ran) (idle : r .stop ≡ stop.Nothing) (low : 1 ≤ r .next) (high : r .next ≤ 255) where
+  module _ (t : Tables) (sound : SoundTables SoundStream max t) (r : Ran) (idle : r .stop ≡ stop.Nothing) (low : 1 ≤ r .next) (high : r .next ≤ 255) where
     -- each kind
     sub-turns : (m : Submessage) (body : Span) (k : Cursor) → Turns t (r .next) (subFrom (f .time) n m (partOf d body)) (k .at) (turnedBy (parsed.Sub m body k) f t d r)
     sub-turns (sub.CreateClient p) body k = client-turns t sound r idle low high (k .at) (p .«client_key»)
@@ -245,7 +249,7 @@ module _ (f : Frame) (d : List ℕ) (max≤ : f .«max_clients» ≤ 255) (id< :
   idle-goes r idle = ap (λ (s : Stop). cond (isCall s) false (ltb (r .at) (length d))) idle
 
   -- at the end of the datagram
-  ended : (r : Ran) (t : Tables) → SoundTables Sound t → r .stop ≡ stop.Nothing → 1 ≤ r .next → r .next ≤ 255 → r .at ≤ length d → (ys : List Item) → itemsAt d (r .at) ≡ items ys → length d ≤ r .at
+  ended : (r : Ran) (t : Tables) → SoundTables SoundStream max t → r .stop ≡ stop.Nothing → 1 ≤ r .next → r .next ≤ 255 → r .at ≤ length d → (ys : List Item) → itemsAt d (r .at) ≡ items ys → length d ≤ r .at
       → RunSquare f d t (runs (restAt (r .at)) (viewOf (r .next) t)) (idleRun r t)
   unfolding run
   ended r t sound idle low high within ys e h =
@@ -254,7 +258,7 @@ module _ (f : Frame) (d : List ℕ) (max≤ : f .«max_clients» ≤ 255) (id< :
         tables = ap (λ (y : agent.Ran). y .tables) z;
         replies = ap (λ (y : agent.Ran). y .replies) z;
         stop = ap (λ (y : agent.Ran). y .stop) z ∙ ap (λ (s : Stop). stopAs f d s (r .at)) (sym idle);
-        led = same-led Sound sound-lasts t sound;
+        led = same-led SoundStream stream-lasts max t sound;
         low = low;
         high = high;
         within = within;
@@ -262,11 +266,11 @@ module _ (f : Frame) (d : List ℕ) (max≤ : f .«max_clients» ≤ 255) (id< :
       }
 
   abbrev Goes : ℕ → Type 0
-  Goes left = (r : Ran) (t : Tables) (ys : List Item) → SoundTables Sound t → r .stop ≡ stop.Nothing → 1 ≤ r .next → r .next ≤ 255 → r .at ≤ length d
+  Goes left = (r : Ran) (t : Tables) (ys : List Item) → SoundTables SoundStream max t → r .stop ≡ stop.Nothing → 1 ≤ r .next → r .next ≤ 255 → r .at ≤ length d
       → itemsAt d (r .at) ≡ items ys → length d - r .at ≤ left → RunSquare f d t (runs (restAt (r .at)) (viewOf (r .next) t)) (runIn left f d r t)
 
   -- behind one submessage
-  behind-one : (left : ℕ) → Goes left → (t : Tables) (x : Turned) (ys : List Item) → LeadsTo Sound t (x .tables) → 1 ≤ x .ran .next → x .ran .next ≤ 255 → x .ran .at ≤ length d
+  behind-one : (left : ℕ) → Goes left → (t : Tables) (x : Turned) (ys : List Item) → LeadsTo SoundStream max t (x .tables) → 1 ≤ x .ran .next → x .ran .next ≤ 255 → x .ran .at ≤ length d
       → itemsAt d (x .ran .at) ≡ items ys → length d - x .ran .at ≤ left
       → RunSquare f d t (onward-from (x .ran .stop) x) (before x (λ r′ t′. runIn left f d r′ t′))
   behind-one left go t x ys led low high within e h = by (x .ran .stop) refl
@@ -328,7 +332,7 @@ module _ (f : Frame) (d : List ℕ) (max≤ : f .«max_clients» ≤ 255) (id< :
       by false q go = subst (λ (x : Turned). RunSquare f d t (runs (restAt (r .at)) (viewOf (r .next) t)) x) (sym (run-ends (suc left) r t (idle-goes r idle ∙ q))) (ended r t sound idle low high within ys e (ltb-false (r .at) (length d) q))
 
   -- the run from a place of a datagram that was checked
-  pub run-square : (r : Ran) (t : Tables) (ys : List Item) → SoundTables Sound t → r .stop ≡ stop.Nothing → 1 ≤ r .next → r .next ≤ 255 → r .at ≤ length d → itemsAt d (r .at) ≡ items ys
-      → RunSquare f d t (run (f .«max_clients») (f .«session_id») (subsAt (f .time) (f .«stream_id») d (r .at)) (viewOf (r .next) t)) (runAt f d r t)
+  pub run-square : (r : Ran) (t : Tables) (ys : List Item) → SoundTables SoundStream max t → r .stop ≡ stop.Nothing → 1 ≤ r .next → r .next ≤ 255 → r .at ≤ length d → itemsAt d (r .at) ≡ items ys
+      → RunSquare f d t (run max (f .«session_id») (subsAt (f .time) (f .«stream_id») d (r .at)) (viewOf (r .next) t)) (runAt f d r t)
   unfolding runAt
   run-square r t ys sound idle low high within e = goes-on (length d - r .at) r t ys sound idle low high within e (omega arith)

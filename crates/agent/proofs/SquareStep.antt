@@ -14,24 +14,27 @@ use Rattle.codec.specs.Reading.{Item, Items, items, stopped, Message, message, 
 use Rattle.codec.specs.Grammar.{saidIn, readingOf, reading}
 use Rattle.codec.specs.Refusals.{numberOf, byteOf}
 use Rattle.codec.specs.declared.refusals.Refusal.{Refusal}
-use Rattle.codec.specs.declared.refusals.Refusal.the-variants.{BufferTooShort, OutOfTurn, OverLimit, TooLong, OutputTooShort}
+use Rattle.codec.specs.declared.reading.Checked.{Checked}
+use Rattle.codec.specs.declared.refusals.Refusal.the-variants.{BufferTooShort, OutOfTurn, OverLimit, TooLong, StoreFull, OutputTooShort}
 use Rattle.isolation.specs.Rules.{Sub}
-use Rattle.streams.specs.View.{Sound}
+use Rattle.streams.specs.declared.sent.Slot.{Slot}
 use Rattle.sessions.specs.Limits.{limitsOf}
 use Rattle.sessions.specs.Setup.{setUpOf}
 use Rattle.sessions.specs.Sweep.{expiredIds, evictedRows, sweptRows}
 use Rattle.sessions.specs.Table.{isFree, gotOf, endedRows}
 use Rattle.sessions.specs.View.{Tables, Local, localOf}
-use Rattle.sessions.specs.Calls.{SoundTables, withSessions, setUpTables}
+use Rattle.sessions.specs.Calls.{SoundTables, SoundStream, withSessions, setUpTables}
 use Rattle.sessions.specs.declared.limits.Limits.{Limits}
 use Rattle.sessions.specs.declared.limits.Limits.the-variants.{Within}
 use Rattle.sessions.specs.declared.setup.SetUp.{SetUp}
 use Rattle.sessions.specs.declared.setup.SetUp.the-variants as setup
 use Rattle.sessions.specs.declared.table.Named.{Named}
 use Rattle.sessions.specs.declared.table.Named.the-variants as named
-use Rattle.sessions.proofs.Calls.{sound-lasts, within-limits}
+use Rattle.streams.proofs.Soundness.{sound-limits}
+use Rattle.sessions.proofs.Calls.{within-limits}
 use Rattle.sessions.proofs.Empty.{long, first-is}
 use Rattle.sessions.proofs.Reached.{named-when}
+use Rattle.sessions.proofs.SoundStreams.{stream-lasts}
 use Rattle.sessions.proofs.Steps.{remove-led, sweep-led, ready-led}
 use Rattle.moves.specs.Calls as calls
 use Rattle.moves.specs.Calls.{fits}
@@ -42,8 +45,8 @@ use Rattle.agent.specs.Step as step
 use Rattle.agent.specs.Step.{Reply, joinedReplies, withId, run, continued, settle, begin, stays, lapsedIds, isLive, emptyAgent, callOf, openOf, withTables, withLocals}
 use Rattle.agent.specs.Run.{Turned, runAt}
 use Rattle.agent.specs.Judge as judge
-use Rattle.agent.specs.Judge.{recordSound, datagramStart, answerStart, checkedJudged, datagramJudged, restJudged, answerJudged, sessionOf, judgedBy, judgeOf}
-use Rattle.agent.specs.Answered.{answeredBy}
+use Rattle.agent.specs.Judge.{recordSound, datagramStart, answerStart, answerSlot, placedJudged, checkedJudged, datagramJudged, restJudged, answerJudged, sessionOf, streamOf, slotOf, judgedBy, judgeOf}
+use Rattle.agent.specs.Answered.{sequenceOf, answeredBy}
 use Rattle.agent.specs.Host as host
 use Rattle.agent.specs.Host.{Leaves, performed, begunTables, firstRan, finishedOf, finish, processedBy, processOf, idleOf, removedAs, removedBy, removedRows, setUpAs}
 use Rattle.agent.specs.Whole.{State, Event, datagram, answer, removal, sweep, Did, didBy, removedResult, withRows, stepOf, sessionIn, agentOf, eventOf, setUpWith, emptyOf}
@@ -73,6 +76,7 @@ use Rattle.agent.proofs.Planned.{sweepTo, swept-as}
 use Rattle.agent.proofs.Running.{performed-told}
 use Rattle.agent.proofs.Square.{led-on, shown-live}
 use Rattle.agent.proofs.SquareAnswer.{begins}
+use Rattle.agent.proofs.SquareHeld.{held-same}
 use Rattle.agent.proofs.SquareHost.{empty-view, remove-view, swept-view, swept-ids}
 use Rattle.agent.proofs.SquareOpen.{viewOf, at-in}
 use Rattle.agent.proofs.SquareRun.{stopAs, RunSquare, run-square}
@@ -95,7 +99,7 @@ pub record Inv (st : State) : Type 0 where
   pub few : st .agent .«max_clients» ≤ 255
   pub low : 1 ≤ st .agent .next
   pub high : st .agent .next ≤ 255
-  pub sound : SoundTables Sound (st .tables)
+  pub sound : SoundTables SoundStream (st .agent .«max_clients») (st .tables)
   pub waits : Waits (st .tables) (st .lent) (st .agent .waits)
 
 -- a call's result against the step's over lists, and the state that it leaves
@@ -110,7 +114,8 @@ refuses st d out r v = record { agent = refl; out = refl; result = refl; inv = v
 
 -- ---- behind a run: 13, or the replies and what is open then
 
-module _ (st : State) (v : Inv st) (out d : List ℕ) (x : Start) (session-in : x .frame .«session_id» < 256) (stream-in : x .frame .«stream_id» < 256) where
+module _ (st : State) (v : Inv st) (out d : List ℕ) (x : Start) (session-in : x .frame .«session_id» < 256) (stream-in : x .frame .«stream_id» < 256)
+    (most-is : x .frame .«max_clients» ≡ st .agent .«max_clients») where
   abbrev f : Frame
   f = x .frame
 
@@ -130,7 +135,8 @@ module _ (st : State) (v : Inv st) (out d : List ℕ) (x : Start) (session-in : 
       cond b (step.refuse (agentOf st) out 13 0)
       (record { agent = withTables (agentOf st) (r .tables) (openOf (r .stop)); out = putAt out 0 (joinedReplies (r .replies)); result = step.ran (r .replies) (callOf (r .stop)) })
 
-  module _ (next at wrote : ℕ) (t : Tables) (rs : List Reply) (low : 1 ≤ next) (high : next ≤ 255) (within : at ≤ length d) (reads : (ys : List Item) × (itemsAt d at ≡ items ys)) (sound : SoundTables Sound t) where
+  module _ (next at wrote : ℕ) (t : Tables) (rs : List Reply) (low : 1 ≤ next) (high : next ≤ 255) (within : at ≤ length d) (reads : (ys : List Item) × (itemsAt d at ≡ items ys))
+      (sound : SoundTables SoundStream (st .agent .«max_clients») t) where
     finishes : (s : Stop) (b : Bool) → StopRoom (stopAs f d s at) (viewOf next t) → Same (didBy d (st .lent) (leavesAs b (turnedAs next at wrote s t rs))) (settledAs b (ranAs next at s t rs))
     finishes s true e = refuses st d out OutputTooShort v
     finishes stop.Nothing false e =
@@ -143,14 +149,14 @@ module _ (st : State) (v : Inv st) (out d : List ℕ) (x : Start) (session-in : 
           inv = record { few = v .few; low = low; high = high; sound = sound; waits = record { session-in = session-in; stream-in = stream-in; within = within; reads = reads; room = e } };
         }
 
-  settles : (t : Tables) (y : Turned) (r : step.Ran) → y .ran .wrote ≡ length (joinedReplies (y .replies)) → RunSquare f d t r y → StopRoom (r .stop) (r .tables)
+  settles : (t : Tables) (y : Turned) (r : step.Ran) → ltb (length out) (y .ran .wrote) ≡ ltb (length out) (length (joinedReplies (y .replies))) → RunSquare f d t r y → StopRoom (r .stop) (r .tables)
       → Same (didBy d (st .lent) (finish (st .agent) (st .tables) out x y)) (settle (agentOf st) out r)
   settles t y r w q e =
       let z : r ≡ ranAs (y .ran .next) (y .ran .at) (y .ran .stop) (y .tables) (y .replies) = λ i. record { tables = q .tables i; replies = q .replies i; stop = q .stop i } in
       subst (λ (r : step.Ran). Same (didBy d (st .lent) (finish (st .agent) (st .tables) out x y)) (settle (agentOf st) out r)) (sym z)
-      (subst (λ (k : ℕ). Same (didBy d (st .lent) (leavesAs (ltb (length out) k) y)) (settle (agentOf st) out (ranAs (y .ran .next) (y .ran .at) (y .ran .stop) (y .tables) (y .replies)))) (sym w)
-      (finishes (y .ran .next) (y .ran .at) (y .ran .wrote) (y .tables) (y .replies) (q .low) (q .high) (q .within) (q .reads) (q .led .sound) (y .ran .stop) (ltb (length out) (length (joinedReplies (y .replies))))
-      (subst (λ (r : step.Ran). StopRoom (r .stop) (r .tables)) z e)))
+      (subst (λ (b : Bool). Same (didBy d (st .lent) (leavesAs b y)) (settle (agentOf st) out (ranAs (y .ran .next) (y .ran .at) (y .ran .stop) (y .tables) (y .replies)))) (sym w)
+      (finishes (y .ran .next) (y .ran .at) (y .ran .wrote) (y .tables) (y .replies) (q .low) (q .high) (q .within) (q .reads) (subst (λ (m : ℕ). SoundTables SoundStream m (y .tables)) most-is (q .led .sound))
+      (y .ran .stop) (ltb (length out) (length (joinedReplies (y .replies)))) (subst (λ (r : step.Ran). StopRoom (r .stop) (r .tables)) z e)))
 
 -- ---- an answer in its turn, and 12
 
@@ -177,7 +183,7 @@ long-same p Failed sample = refl
 
 -- ---- 16 is never answered
 
-module _ (t : Tables) (sound : SoundTables Sound t) (max timeout next : ℕ) (few : max ≤ 255) (low : 1 ≤ next) (high : next ≤ 255) (lent : List ℕ) where
+module _ (t : Tables) (max : ℕ) (sound : SoundTables SoundStream max t) (timeout next : ℕ) (few : max ≤ 255) (low : 1 ≤ next) (high : next ≤ 255) (lent : List ℕ) where
   abbrev agentWith : Waiting → Agent
   agentWith w = record { «max_clients» = max; «timeout_ms» = timeout; next = next; waits = w }
 
@@ -187,8 +193,8 @@ module _ (t : Tables) (sound : SoundTables Sound t) (max timeout next : ℕ) (fe
   record-sound : (w : Waiting) → recordSound (agentWith w) ≡ true
   record-sound w = rw (le-ltb 255 max few, ne-eqb next 0 (λ e. omega arith)) refl
 
-  limits : (id : ℕ) → id < 256 → limitsOf (t .sessions) (t .streams) (t .objects) id ≡ Within
-  limits id h = within-limits Sound sound-lasts t sound id h
+  limits : (id n : ℕ) → id < 256 → limitsOf (t .sessions) (t .streams) (t .objects) (length (t .held)) max id n ≡ Within
+  limits id n h = within-limits SoundStream stream-lasts max (λ s w. sound-limits s (w .sound)) t sound few id n h
 
   free : idleOf waiting.Nothing (agentWith waiting.Nothing) ≡ idle.Free
   free = ap (λ (b : Bool). cond b idle.Free (idle.Refused OverLimit)) (record-sound waiting.Nothing)
@@ -213,25 +219,28 @@ module _ (t : Tables) (sound : SoundTables Sound t) (max timeout next : ℕ) (fe
     unfolding AllBytes
     second-in = small 1
 
-    judge-datagram : judgeOf t d a (input.Datagram time) 0 ≡ checkedJudged a time (checkedOf (messageOf d))
+    abbrev room : ℕ
+    room = length out
+
+    judge-datagram : judgeOf t d a (input.Datagram time) 0 room ≡ checkedJudged a time room (checkedOf (messageOf d))
     unfolding judgeOf checkOf
     judge-datagram =
-        ap (λ (l : Limits). datagramJudged d a l time) (limits (getD d 0 0) first-in)
-        ∙ ap (λ (b : Bool). cond b (checkedJudged a time (checkOf d)) (judged.Refused OverLimit)) (record-sound waiting.Nothing)
+        ap (λ (l : Limits). datagramJudged d a l time room) (limits (getD d 0 0) (getD d 1 0) first-in)
+        ∙ ap (λ (b : Bool). cond b (checkedJudged a time room (checkOf d)) (judged.Refused OverLimit)) (record-sound waiting.Nothing)
 
     abbrev Goes : Message → Type 0
-    Goes m = Same (didBy d lent (processedBy (checkedJudged a time (checkedOf m)) a t out d [])) (begin (agentOf st) out time (readingOf d m))
+    Goes m = Same (didBy d lent (processedBy (checkedJudged a time room (checkedOf m)) a t out d [])) (begin (agentOf st) out time (readingOf d m))
 
     message-goes : (xs : List Item) → 4 < length d → itemsAt d 4 ≡ items xs → messageOf d ≡ message (headerOf d) xs → Goes (message (headerOf d) xs)
     unfolding performed joinedReplies headerOf reading
     message-goes xs h e m =
         let head = headerOf d in
-        let x = datagramStart a time head in
+        let x = datagramStart a time head room in
         let r = firstRan x 0 in
         let q = run-square (x .frame) d few first-in second-in r t xs sound refl low high (omega arith) e in
         subst (λ (ss : List (Sub Opening In)). Same (didBy d lent (finish a t out x (runAt (x .frame) d r t))) (settle (agentOf st) out (run max (head .«session_id») ss (viewOf next t))))
         (sym (whole-as time d head (map (saidIn d) xs) (ap (readingOf d) m)))
-        (settles st v out d x first-in second-in t (runAt (x .frame) d r t) (run max (head .«session_id») (subsAt time (head .«stream_id») d 4) (viewOf next t))
+        (settles st v out d x first-in second-in refl t (runAt (x .frame) d r t) (run max (head .«session_id») (subsAt time (head .«stream_id») d 4) (viewOf next t))
         (performed-told x t d []) q (stop-room max (head .«session_id») (subsAt time (head .«stream_id») d 4) (viewOf next t)))
 
     message-is : (b : Bool) → leb (length d) 4 ≡ b → (i : Items) → itemsAt d 4 ≡ i → messageOf d ≡ cond b (refused BufferTooShort) (under (headerOf d) i)
@@ -253,7 +262,7 @@ module _ (t : Tables) (sound : SoundTables Sound t) (max timeout next : ℕ) (fe
 
   -- ---- a removal and a sweep
 
-  idle-inv : (t′ : Tables) → SoundTables Sound t′ → Inv (record { agent = agentWith waiting.Nothing; tables = t′; lent = lent })
+  idle-inv : (t′ : Tables) → SoundTables SoundStream max t′ → Inv (record { agent = agentWith waiting.Nothing; tables = t′; lent = lent })
   idle-inv t′ s = record { few = few; low = low; high = high; sound = s; waits = tt }
 
   removal-same : (id : ℕ) (small : id < 256) (out : List ℕ) → Same (stepOf (stateWith waiting.Nothing) (removal id small) out) (step.step (agentOf (stateWith waiting.Nothing)) (step.removal id) out)
@@ -265,7 +274,7 @@ module _ (t : Tables) (sound : SoundTables Sound t) (max timeout next : ℕ) (fe
         agent = ap (λ (u : step.Tables). record { max = max; timeout = timeout; tables = u; waits = none }) (remove-view t sound next id small);
         out = refl;
         result = ap (λ (w : Named). removedResult (removedAs w)) (named-when (t .sessions) id (sound .sessions-need)) ∙ live-is (isFree (t .sessions) id) refl;
-        inv = idle-inv (withSessions t (endedRows (t .sessions) id)) (remove-led Sound sound-lasts t sound id small .sound);
+        inv = idle-inv (withSessions t (endedRows (t .sessions) id)) (remove-led SoundStream stream-lasts max t sound id small .sound);
       })
     where
       removes : Idle → Did
@@ -280,13 +289,13 @@ module _ (t : Tables) (sound : SoundTables Sound t) (max timeout next : ℕ) (fe
       live-is true e = let z : localOf t id ≡ none = rw e refl in sym (ap (λ (x : Option Local). step.removed (isLive x)) (at-in t id small ∙ z))
       live-is false e = sym (ap (λ (x : Option Local). step.removed (isLive x)) (at-in t id small ∙ shown-live t id e))
 
-  swept-sound : (now : ℕ) (out : List ℕ) → leb 256 (length (t .sessions)) ≡ true → ltb (length out) (length (expiredIds (t .sessions) now timeout)) ≡ false → SoundTables Sound (withSessions t (sweptRows (t .sessions) now timeout))
+  swept-sound : (now : ℕ) (out : List ℕ) → leb 256 (length (t .sessions)) ≡ true → ltb (length out) (length (expiredIds (t .sessions) now timeout)) ≡ false → SoundTables SoundStream max (withSessions t (sweptRows (t .sessions) now timeout))
   unfolding evictedRows
   swept-sound now out need e =
       let s = t .sessions in
       let z : evictedRows s now timeout out ≡ sweptRows s now timeout =
       ap (λ (f : Bool). cond f (cond (ltb (length out) (length (expiredIds s now timeout))) s (sweptRows s now timeout)) s) need ∙ ap (λ (b : Bool). cond b s (sweptRows s now timeout)) e in
-      subst (λ (rows : List (List ℕ)). SoundTables Sound (withSessions t rows)) z (sweep-led Sound sound-lasts t sound now timeout out .sound)
+      subst (λ (rows : List (List ℕ)). SoundTables SoundStream max (withSessions t rows)) z (sweep-led SoundStream stream-lasts max t sound now timeout out .sound)
 
   sweep-same : (now : ℕ) (out : List ℕ) → Same (stepOf (stateWith waiting.Nothing) (sweep now) out) (step.step (agentOf (stateWith waiting.Nothing)) (step.sweep now) out)
   unfolding step.step
@@ -332,7 +341,7 @@ module _ (t : Tables) (sound : SoundTables Sound t) (max timeout next : ℕ) (fe
       c = agentWith (waiting.Call p)
 
       abbrev x : Start
-      x = answerStart c p b
+      x = answerStart c p b (length out)
 
       abbrev n : ℕ
       n = length sample
@@ -346,33 +355,47 @@ module _ (t : Tables) (sound : SoundTables Sound t) (max timeout next : ℕ) (fe
       abbrev waits : step.Open
       waits = record { session = session; pending = record { stream = p .«stream_id»; number = p .number .0; task = taskAs (p .task) }; rest = rest }
 
-      abbrev restAs : Judged
-      restAs = cond (judge.tooLong b n) (judged.Refused TooLong) (judged.Goes x (length (w .reads .0)))
+      abbrev goesOn : Judged
+      goesOn = judged.Goes x (length (w .reads .0))
 
-      rest-judged : answerJudged lent c Within p b n ≡ restAs
+      abbrev place : Slot
+      place = answerSlot p b (t .sessions) (t .streams) (length (t .held)) n
+
+      abbrev restAs : Judged
+      restAs = cond (judge.tooLong b n) (judged.Refused TooLong) (placedJudged place goesOn)
+
+      rest-judged : answerJudged lent c Within p b n place (length out) ≡ restAs
       unfolding countAt
       rest-judged =
-          ap (λ (e : Bool). cond e (cond (ltb (length lent) (p .at)) (judged.Refused OverLimit) (restJudged c p b n (countAt (judge.headerOf p) lent (p .at)))) (judged.Refused OverLimit)) (record-sound (waiting.Call p))
-          ∙ ap (λ (e : Bool). cond e (judged.Refused OverLimit) (restJudged c p b n (countAt (judge.headerOf p) lent (p .at)))) (le-ltb (length lent) (p .at) (w .within))
-          ∙ ap (λ (i : Items). restJudged c p b n (checkedOf (under (judge.headerOf p) i))) (w .reads .1)
+          ap (λ (e : Bool). cond e (cond (ltb (length lent) (p .at)) (judged.Refused OverLimit) (judges (countAt (judge.headerOf p) lent (p .at)))) (judged.Refused OverLimit)) (record-sound (waiting.Call p))
+          ∙ ap (λ (e : Bool). cond e (judged.Refused OverLimit) (judges (countAt (judge.headerOf p) lent (p .at)))) (le-ltb (length lent) (p .at) (w .within))
+          ∙ ap (λ (i : Items). judges (checkedOf (under (judge.headerOf p) i))) (w .reads .1)
+        where
+          judges : Checked → Judged
+          judges k = restJudged c p b n place (length out) k
 
-      judge-answer : judgeOf t lent c (input.Answer b) n ≡ cond (fits (taskAs (p .task)) (answerAs b [])) restAs (judged.Refused OutOfTurn)
+      judge-answer : judgeOf t lent c (input.Answer b) n (length out) ≡ cond (fits (taskAs (p .task)) (answerAs b [])) restAs (judged.Refused OutOfTurn)
       unfolding judgeOf
       judge-answer = by (fits (taskAs (p .task)) (answerAs b []))
         where
           by : (e : Bool)
-              → (let x = cond e (turn.Answer p b) (turn.Refused OutOfTurn) in judgedBy lent c (limitsOf (t .sessions) (t .streams) (t .objects) (sessionOf lent x)) x n)
+              → (let x = cond e (turn.Answer p b) (turn.Refused OutOfTurn) in
+              judgedBy lent c (limitsOf (t .sessions) (t .streams) (t .objects) (length (t .held)) max (sessionOf lent x) (streamOf lent x)) x n (slotOf x (t .sessions) (t .streams) (length (t .held)) n) (length out))
               ≡ cond e restAs (judged.Refused OutOfTurn)
-          by true = ap (λ (l : Limits). answerJudged lent c l p b n) (limits session (w .session-in)) ∙ rest-judged
+          by true = ap (λ (l : Limits). answerJudged lent c l p b n place (length out)) (limits session (p .«stream_id») (w .session-in)) ∙ rest-judged
           by false = refl
 
-      answer-goes : Same (didBy lent lent (finish c t out x (performed x t lent sample))) (settle (agentOf busy) out (continued max waits (answerAs b sample) (viewOf next t)))
+      -- 14
+      abbrev over : Bool
+      over = step.overHeld waits (answerAs b sample) (viewOf next t)
+
+      answer-goes : over ≡ false → Same (didBy lent lent (finish c t out x (performed x t lent sample))) (settle (agentOf busy) out (continued max waits (answerAs b sample) (viewOf next t)))
       unfolding performed
-      answer-goes =
+      answer-goes held =
           let f = x .frame in
-          let rs = answeredBy (gotOf (t .sessions) session) f sample (p .number) (p .task) b in
-          let a = begins t sound f (w .session-in) (p .number) sample (p .task) b next (w .room) in
-          let u = begunTables x t in
+          let rs = answeredBy (gotOf (t .sessions) session) f (sequenceOf (t .sessions) (t .streams) f) sample (p .number) (p .task) b in
+          let a = begins t sound few f (w .session-in) (p .number) sample (p .task) b rest next (w .room) held in
+          let u = begunTables x t sample in
           let r = firstRan x (length (joinedReplies rs)) in
           let y = runAt f lent r u in
           let q = run-square f lent few (w .session-in) (w .stream-in) r u (w .reads .0) (a .led .sound) refl low high (w .within) (w .reads .1) in
@@ -387,29 +410,44 @@ module _ (t : Tables) (sound : SoundTables Sound t) (max timeout next : ℕ) (fe
             within = q .within;
             reads = q .reads;
           } in
-          subst (λ (r : step.Ran). Same (didBy lent lent (finish c t out x (host.behind rs y))) (settle (agentOf busy) out r)) (sym (a .goes rest (λ v. run max session rest v)))
-          (settles busy busy-inv out lent x (w .session-in) (w .stream-in) t (host.behind rs y) (step.behind rs (run max session rest (viewOf next u)))
+          subst (λ (r : step.Ran). Same (didBy lent lent (finish c t out x (host.behind rs y))) (settle (agentOf busy) out r)) (sym (a .goes (λ v. run max session rest v)))
+          (settles busy busy-inv out lent x (w .session-in) (w .stream-in) refl t (host.behind rs y) (step.behind rs (run max session rest (viewOf next u)))
           (performed-told x t lent sample) s (stop-room max session rest (viewOf next u)))
 
       answer-same : Same (stepOf busy (answer b sample) out) (step.step (agentOf busy) (step.answer (answerAs b sample)) out)
       unfolding stepOf processOf step.step
       answer-same =
-          subst (λ (j : Judged). Same (didBy lent lent (processedBy j c t out lent sample)) (steps (fits (taskAs (p .task)) (answerAs b sample)) (step.tooLong (waits .pending) (answerAs b sample)))) (sym judge-answer)
-          (subst (λ (e : Bool). Same (judges (fits (taskAs (p .task)) (answerAs b [])) (judge.tooLong b n)) (steps e (step.tooLong (waits .pending) (answerAs b sample)))) (sym (fits-same (p .task) b sample))
-          (subst (λ (e : Bool). Same (judges (fits (taskAs (p .task)) (answerAs b [])) (judge.tooLong b n)) (steps (fits (taskAs (p .task)) (answerAs b [])) e)) (sym (long-same (waits .pending) b sample))
-          (by (fits (taskAs (p .task)) (answerAs b [])) (judge.tooLong b n))))
+          subst (λ (j : Judged). Same (judges j) (steps fitting long over)) (sym judge-answer)
+          (subst (λ (e : Bool). Same (judges (cond fitted restAs (judged.Refused OutOfTurn))) (steps e long over)) (sym (fits-same (p .task) b sample))
+          (subst (λ (e : Bool). Same (judges (cond fitted restAs (judged.Refused OutOfTurn))) (steps fitted e over)) (sym (long-same (waits .pending) b sample))
+          (subst (λ (j : Judged). Same (judges (cond fitted (cond (judge.tooLong b n) (judged.Refused TooLong) j) (judged.Refused OutOfTurn))) (steps fitted (judge.tooLong b n) over))
+          (sym (held-same max t sound few p (w .session-in) sample goesOn b rest next))
+          (by fitted (judge.tooLong b n) over refl))))
         where
-          judges : Bool → Bool → Did
-          judges e z = didBy lent lent (processedBy (cond e (cond z (judged.Refused TooLong) (judged.Goes x (length (w .reads .0)))) (judged.Refused OutOfTurn)) c t out lent sample)
+          fitted : Bool
+          fitted = fits (taskAs (p .task)) (answerAs b [])
 
-          steps : Bool → Bool → step.Did
-          steps e z =
-              cond e (cond z (step.refuse (agentOf busy) out 12 0) (settle (agentOf busy) out (continued max waits (answerAs b sample) (viewOf next t)))) (step.refuse (agentOf busy) out 15 0)
+          fitting : Bool
+          fitting = fits (taskAs (p .task)) (answerAs b sample)
 
-          by : (e z : Bool) → Same (judges e z) (steps e z)
-          by true true = refuses busy lent out TooLong busy-inv
-          by true false = answer-goes
-          by false z = refuses busy lent out OutOfTurn busy-inv
+          long : Bool
+          long = step.tooLong (waits .pending) (answerAs b sample)
+
+          judges : Judged → Did
+          judges j = didBy lent lent (processedBy j c t out lent sample)
+
+          steps : Bool → Bool → Bool → step.Did
+          steps e z o =
+              cond e
+              (cond z (step.refuse (agentOf busy) out 12 0)
+              (cond o (step.refuse (agentOf busy) out 14 0) (settle (agentOf busy) out (continued max waits (answerAs b sample) (viewOf next t)))))
+              (step.refuse (agentOf busy) out 15 0)
+
+          by : (e z o : Bool) → over ≡ o → Same (judges (cond e (cond z (judged.Refused TooLong) (cond o (judged.Refused StoreFull) goesOn)) (judged.Refused OutOfTurn))) (steps e z o)
+          by true true o h = refuses busy lent out TooLong busy-inv
+          by true false true h = refuses busy lent out StoreFull busy-inv
+          by true false false h = answer-goes h
+          by false z o h = refuses busy lent out OutOfTurn busy-inv
 
     busy-same : (e : Event) (out : List ℕ) → Same (stepOf busy e out) (step.step (agentOf busy) (eventOf e) out)
     unfolding stepOf processOf judgeOf step.step
@@ -431,7 +469,7 @@ module _ (t : Tables) (sound : SoundTables Sound t) (max timeout next : ℕ) (fe
 
 -- every call of the host, in every state that calls lead to
 pub step-square : (st : State) → Inv st → (e : Event) (out : List ℕ) → Same (stepOf st e out) (step.step (agentOf st) (eventOf e) out)
-step-square st v e out = call-same (st .tables) (v .sound) (st .agent .«max_clients») (st .agent .«timeout_ms») (st .agent .next) (v .few) (v .low) (v .high) (st .lent) (st .agent .waits) (v .waits) e out
+step-square st v e out = call-same (st .tables) (st .agent .«max_clients») (v .sound) (st .agent .«timeout_ms») (st .agent .next) (v .few) (v .low) (v .high) (st .lent) (st .agent .waits) (v .waits) e out
 
 -- ---- an agent just set up
 
@@ -440,20 +478,20 @@ pub record Empty (t : Tables) (max timeout : ℕ) (a : Agent) : Type 0 where
   pub inv : Inv (emptyOf t max a)
 
 pub empty-square : (t : Tables) (max timeout : ℕ) (a : Agent) → setUpWith t max timeout ≡ ready.Ready a → Empty t max timeout a
-empty-square t max timeout a e = by (setUpOf (length (t .sessions)) (length (t .streams)) (length (t .objects)) max) refl e
+empty-square t max timeout a e = by (setUpOf (length (t .sessions)) (length (t .streams)) (length (t .objects)) (length (t .held)) max) refl e
   where
     states : SetUp → Agent → State
     states r a = record { agent = a; tables = setUpTables r t; lent = [] }
 
-    by : (r : SetUp) → setUpOf (length (t .sessions)) (length (t .streams)) (length (t .objects)) max ≡ r → setUpAs r max timeout ≡ ready.Ready a → Empty t max timeout a
+    by : (r : SetUp) → setUpOf (length (t .sessions)) (length (t .streams)) (length (t .objects)) (length (t .held)) max ≡ r → setUpAs r max timeout ≡ ready.Ready a → Empty t max timeout a
     by (setup.Refused r) q z = let k : _≡_ {A = ℕ} 0 1 = cc in let n : ⊥ = omega arith in absurd n
     by (setup.Ready next) q z =
         let fresh : Agent = record { «max_clients» = max; «timeout_ms» = timeout; next = next; waits = waiting.Nothing } in
         let same : fresh ≡ a = cc in
-        let first = first-is (t .sessions) (t .streams) (t .objects) max next q in
-        let kept = long (t .sessions) (t .streams) (t .objects) max next q in
+        let first = first-is (t .sessions) (t .streams) (t .objects) (length (t .held)) max next q in
+        let kept = long (t .sessions) (t .streams) (t .objects) (length (t .held)) max next q in
         let st : states (setup.Ready next) fresh ≡ emptyOf t max a = λ i. states (sym q i) (same i) in
         record {
           agent = sym (ap agentOf st) ∙ ap (λ (u : step.Tables). record { max = max; timeout = timeout; tables = u; waits = none }) (empty-view t max timeout next first);
-          inv = subst Inv st (record { few = kept .clients; low = omega (arith, first); high = omega (arith, first); sound = ready-led Sound sound-lasts t max next kept .sound; waits = tt });
+          inv = subst Inv st (record { few = kept .clients; low = omega (arith, first); high = omega (arith, first); sound = ready-led SoundStream stream-lasts max t max next kept (kept .held-long) .sound; waits = tt });
         }

@@ -12,18 +12,17 @@ use Rattle.codec.proofs.bytes.Laws.{put-fits, put-nothing}
 use Rattle.codec.specs.declared.refusals.Refusal.the-variants.{OutputTooShort}
 use Rattle.codec.specs.declared.submessages.ObjectKind.{ObjectKind}
 use Rattle.codec.specs.declared.submessages.StatusCode.the-variants.{ErrIncompatible}
-use Rattle.streams.specs.View.{Sound}
 use Rattle.isolation.proofs.Simulation.{none-some}
 use Rattle.sessions.specs.Table.{isFree}
 use Rattle.sessions.specs.SessionObjects.{objectsNamed}
 use Rattle.sessions.specs.View.{Tables, Entry, Local, sessionShown, tablePart, findIn, dropIn, Distinct, objectNumbers}
-use Rattle.sessions.specs.Calls.{SoundTables}
+use Rattle.sessions.specs.Calls.{SoundStream, SoundTables}
 use Rattle.sessions.specs.Dependants.{hasDependant}
 use Rattle.sessions.specs.ObjectList.{rankOf, inOrder}
 use Rattle.sessions.specs.TakeDown.{Alone, TakenDown}
 use Rattle.sessions.specs.declared.object_list.Listed.the-variants.{Numbers, Refused}
 use Rattle.sessions.specs.declared.table.Named.the-variants.{Live, NotLive}
-use Rattle.sessions.proofs.Calls.{sound-lasts}
+use Rattle.sessions.proofs.SoundStreams.{stream-lasts}
 use Rattle.sessions.proofs.Steps.{objects-named}
 use Rattle.sessions.proofs.session_objects.Laws.{list-is}
 use Rattle.sessions.proofs.Ordered.{ordered, dependants-first}
@@ -70,13 +69,13 @@ right l d own =
 
 -- ---- what the listing shows
 
-module _ (t : Tables) (sound : SoundTables Sound t) (id : ℕ) (id< : id < 256) where
+module _ {most : ℕ} (t : Tables) (sound : SoundTables SoundStream most t) (id : ℕ) (id< : id < 256) where
   -- the answer of a session, or of none
   shows : (out : List ℕ) → Shows t id out (numbersShown (sessionIn t id))
   shows out = rw (lt-ltb id 256 id<) (by (isFree (t .sessions) id) refl)
     where
       named : (b : Bool) → isFree (t .sessions) id ≡ b → objectsNamed (t .sessions) (length (t .objects)) id ≡ cond b NotLive Live
-      named b e = objects-named Sound sound-lasts t sound id id< ∙ ap (λ (b : Bool). cond b NotLive Live) e
+      named b e = objects-named SoundStream stream-lasts most t sound id id< ∙ ap (λ (b : Bool). cond b NotLive Live) e
 
       by : (b : Bool) → isFree (t .sessions) id ≡ b → Shows t id out (numbersShown (cond b none (some (sessionShown id (tablePart t id)))))
       by true e =

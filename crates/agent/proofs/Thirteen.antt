@@ -5,7 +5,7 @@ use mathlib.Core.Bool.{Bool, true, false, cond}
 use mathlib.Core.List.{List, []}
 use native.Mathlib.Omega.{arith}
 use borrow.Author.Tests.{ltb-false, leb-true, le-ltb, le-leb, lt-leb, lt-ltb}
-use lib.Dec.{leb, ltb}
+use lib.Dec.{eqb, leb, ltb}
 use lib.ListN.{length, length-append}
 use Rattle.codec.specs.declared.submessages.ObjectNumber.{ObjectNumber}
 use Rattle.codec.specs.declared.submessages.StatusCode.{StatusCode}
@@ -18,9 +18,9 @@ use Rattle.agent.specs.Step.{joinedReplies}
 use Rattle.moves.specs.Calls.{fits}
 use Rattle.moves.specs.Proxy.{answerAs, taskAs}
 use Rattle.moves.specs.Answers.{saysOf}
-use Rattle.agent.specs.Answered.{saysFits, saysBytes, answeredBy}
+use Rattle.agent.specs.Answered.{saysFits, sequenceOf, saysBytes, answeredBy}
 use Rattle.agent.specs.Judge.{judgeOf}
-use Rattle.agent.specs.Host.{begunBy, performed, resumesFit, answerMost, firstMost, roomy, neededOf, Leaves, finishedOf, refuse, finish, processedBy, processOf}
+use Rattle.agent.specs.Host.{begunBy, performed, resumesFit, answerMost, firstMost, asksIn, roomy, neededOf, Leaves, finishedOf, refuse, finish, processedBy, processOf}
 use Rattle.moves.specs.declared.answers.Says.the-variants as says
 use Rattle.agent.specs.declared.judge.Input.{Input}
 use Rattle.agent.specs.declared.judge.Judged.{Judged}
@@ -36,6 +36,8 @@ use Rattle.agent.specs.declared.turn.Frame.{Frame}
 use Rattle.agent.proofs.Laws.{status-long}
 use Rattle.agent.proofs.MoveBytes.{data-long}
 use Rattle.agent.proofs.Running.{fits-whole, performed-told, performed-most}
+use Rattle.agent.proofs.answers.Laws.{sample-fits}
+use Rattle.agent.proofs.Acknacks.{acknacksFrom, acknacks-few}
 use Rattle.codec.specs.Bytes.{putAt}
 use Rattle.agent.specs.Run.{putReplies, Turned}
 use Rattle.agent.proofs.Judged.{AnswerFits, Sound}
@@ -49,27 +51,42 @@ sample-within told n e h = sym (ap (λ (a : BridgeAnswer). answerMost a n) e ∙
 pub sample-over : (told : BridgeAnswer) (n : ℕ) → told ≡ Sample → 65533 < n → 65543 ≡ answerMost told n
 sample-over told n e h = sym (ap (λ (a : BridgeAnswer). answerMost a n) e ∙ ap (λ (b : Bool). cond b (10 + n) 65543) (lt-leb n 65533 h))
 
-module _ (room : ℕ) (x : Resumes) (n sample first : ℕ) (e : first ≡ firstMost x sample) where
-  roomy-first : cond (ltb room first) false (leb n ((room - first) / 12)) ≡ roomy room x n sample
-  roomy-first = ap (λ (k : ℕ). cond (ltb room k) false (leb n ((room - k) / 12))) e
+-- 13 by its tests: the reply to the answer, 12 bytes to each submessage, and the ACKNACKs
+module _ (room : ℕ) (x : Start) (n : ℕ) (d : List ℕ) (sample first : ℕ) (e : first ≡ firstMost (x .resumes) sample) where
+  -- how many ACKNACKs there is room for
+  abbrev spare : ℕ
+  spare = (room - first - 12 * n) / 16384
 
-  pub no-room : room < first → false ≡ roomy room x n sample
-  no-room h = ap (λ (b : Bool). cond b false (leb n ((room - first) / 12))) (sym (lt-ltb room first h)) ∙ roomy-first
+  roomy-by : (a b c w : Bool) → ltb room first ≡ a → ltb ((room - first) / 12) n ≡ b → leb n spare ≡ c → leb (asksIn x d) spare ≡ w
+      → cond a false (cond b false (cond c true w)) ≡ roomy room x n d sample
+  roomy-by a b c w p q r s =
+      (λ i. cond (sym p i) false (cond (sym q i) false (cond (sym r i) true (sym s i))))
+      ∙ ap (λ (k : ℕ). cond (ltb room k) false (cond (ltb ((room - k) / 12) n) false (cond (leb n ((room - k - 12 * n) / 16384)) true (leb (asksIn x d) ((room - k - 12 * n) / 16384))))) e
 
-  pub room-for : first ≤ room → leb n ((room - first) / 12) ≡ roomy room x n sample
-  room-for h = ap (λ (b : Bool). cond b false (leb n ((room - first) / 12))) (sym (le-ltb room first h)) ∙ roomy-first
+  pub no-room : room < first → false ≡ roomy room x n d sample
+  no-room h = roomy-by true _ _ _ (lt-ltb room first h) refl refl refl
+
+  pub few-bytes : first ≤ room → (room - first) / 12 < n → false ≡ roomy room x n d sample
+  few-bytes h k = roomy-by false true _ _ (le-ltb room first h) (lt-ltb ((room - first) / 12) n k) refl refl
+
+  pub for-all : first ≤ room → n ≤ (room - first) / 12 → n ≤ spare → true ≡ roomy room x n d sample
+  for-all h k l = roomy-by false false true _ (le-ltb room first h) (le-ltb ((room - first) / 12) n k) (le-leb n spare l) refl
+
+  pub for-acknacks : first ≤ room → n ≤ (room - first) / 12 → spare < n → leb (asksIn x d) spare ≡ roomy room x n d sample
+  for-acknacks h k l = roomy-by false false false _ (le-ltb room first h) (le-ltb ((room - first) / 12) n k) (lt-leb n spare l) refl
 
 -- ---- how much a call can reply
 
 no-fit : false ≡ true → ⊥
 no-fit e = let z : _≡_ {A = ℕ} 0 1 = ap (λ (b : Bool). cond b 1 0) e in omega (arith, z)
 
-module _ (f : Frame) (bytes : List ℕ) (number : ObjectNumber) where
-  status-most : (code : StatusCode) → length (saysBytes (says.Status code) f number bytes) ≤ 11
+module _ (f : Frame) (sequence : ℕ) (bytes : List ℕ) (number : ObjectNumber) where
+  status-most : (code : StatusCode) → length (saysBytes (says.Status code) f sequence number bytes) ≤ 11
   status-most code = let e = status-long (f .«session_id») (f .«stream_id») (number .0) code in omega (arith, e)
 
   -- an answer that fits its call: DATA to a sample, else a STATUS
-  says-most : (task : Task) (a : BridgeAnswer) → saysFits (saysOf task a) (length bytes) ≡ true → fits (taskAs task) (answerAs a []) ≡ true → length (saysBytes (saysOf task a) f number bytes) ≤ answerMost a (length bytes)
+  says-most : (task : Task) (a : BridgeAnswer) → saysFits (saysOf task a) (f .«stream_id») (length bytes) ≡ true → fits (taskAs task) (answerAs a []) ≡ true
+      → length (saysBytes (saysOf task a) f sequence number bytes) ≤ answerMost a (length bytes)
   says-most (Creating kind parent) (Created h) e m = status-most Ok
   says-most (Creating kind parent) Done e m = status-most ErrInvalidData
   says-most (Creating kind parent) Sample e m = absurd (no-fit m)
@@ -82,7 +99,9 @@ module _ (f : Frame) (bytes : List ℕ) (number : ObjectNumber) where
   says-most Writing Failed e m = status-most ErrInvalidData
   says-most Reading (Created h) e m = status-most ErrInvalidData
   says-most Reading Done e m = status-most ErrInvalidData
-  says-most Reading Sample e m = rw e (let l = data-long (f .«session_id») (f .«stream_id») (number .0) bytes in omega (arith, l))
+  says-most Reading Sample e m =
+      rw (le-leb (length bytes) 65533 (sample-fits (f .«stream_id») (length bytes) e))
+      (let l = data-long (f .«session_id») (f .«stream_id») sequence (number .0) bytes in omega (arith, l))
   says-most Reading NoSample e m = status-most Ok
   says-most Reading Failed e m = status-most ErrInvalidData
   says-most Deleting (Created h) e m = status-most ErrUnknownRef
@@ -91,44 +110,71 @@ module _ (f : Frame) (bytes : List ℕ) (number : ObjectNumber) where
   says-most Deleting NoSample e m = status-most ErrUnknownRef
   says-most Deleting Failed e m = status-most ErrUnknownRef
 
-begun-most : (x : Resumes) (s : List (List ℕ)) (f : Frame) (bytes : List ℕ) → resumesFit x (length bytes) ≡ true → AnswerFits x → length (joinedReplies (begunBy x s f bytes)) ≤ firstMost x (length bytes)
+begun-most : (x : Resumes) (s y : List (List ℕ)) (f : Frame) (bytes : List ℕ) → resumesFit x (f .«stream_id») (length bytes) ≡ true → AnswerFits x
+    → length (joinedReplies (begunBy x s y f bytes)) ≤ firstMost x (length bytes)
 unfolding joinedReplies
-begun-most resumes.Nothing s f bytes e m = omega arith
-begun-most (resumes.Answer number task a) s f bytes e m = go (gotOf s (f .«session_id»))
+begun-most resumes.Nothing s y f bytes e m = omega arith
+begun-most (resumes.Answer number task a) s y f bytes e m = go (gotOf s (f .«session_id»))
   where
-    go : (g : Got) → length (joinedReplies (answeredBy g f bytes number task a)) ≤ answerMost a (length bytes)
-    go (got.Session y) =
-        let l = length-append (saysBytes (saysOf task a) f number bytes) [] in
-        let k = says-most f bytes number task a e m in
+    go : (g : Got) → length (joinedReplies (answeredBy g f (sequenceOf s y f) bytes number task a)) ≤ answerMost a (length bytes)
+    go (got.Session z) =
+        let l = length-append (saysBytes (saysOf task a) f (sequenceOf s y f) number bytes) [] in
+        let k = says-most f (sequenceOf s y f) bytes number task a e m in
         omega (arith, l, k)
     go got.NotLive = omega arith
     go (got.Refused r) = omega arith
 
-module _ (t : Tables) (d sample : List ℕ) (x : Start) (n room : ℕ) (k : Sound t d (length sample) x n) where
-  roomy-most : roomy room (x .resumes) n (length sample) ≡ true → performed x t d sample .ran .wrote ≤ room
-  roomy-most e = go (ltb room (firstMost (x .resumes) (length sample))) refl e
+module _ (t : Tables) (d sample : List ℕ) (x : Start) (n room : ℕ) (k : Sound t d (length sample) room x n) where
+  abbrev first : ℕ
+  first = firstMost (x .resumes) (length sample)
+
+  most : performed x t d sample .ran .wrote ≤ first + 12 * n + 16384 * asksIn x d
+  most =
+      let p = performed-most x t d sample (k .counted .0) (k .counted .1) in
+      let q = begun-most (x .resumes) (t .sessions) (t .streams) (x .frame) sample (k .sample-fits) (k .answer-fits) in
+      let c = k .counted .2 in
+      omega (arith, p, q, c)
+
+  -- there are no more ACKNACKs than submessages
+  asks-few : asksIn x d ≤ n
+  asks-few = go (eqb (x .frame .«stream_id») 0)
     where
-      most : performed x t d sample .ran .wrote ≤ firstMost (x .resumes) (length sample) + 12 * n
-      most =
-          let p = performed-most x t d sample (k .counted .0) (k .counted .1) in
-          let q = begun-most (x .resumes) (t .sessions) (x .frame) sample (k .sample-fits) (k .answer-fits) in
+      go : (b : Bool) → cond b 0 (acknacksFrom d (x .at)) ≤ n
+      go true = omega arith
+      go false =
+          let a = acknacks-few d (x .at) (k .counted .0) (k .counted .1) in
           let c = k .counted .2 in
-          omega (arith, p, q, c)
+          omega (arith, a, c)
 
-      go : (b : Bool) → ltb room (firstMost (x .resumes) (length sample)) ≡ b → cond b false (leb n ((room - firstMost (x .resumes) (length sample)) / 12)) ≡ true → performed x t d sample .ran .wrote ≤ room
-      go true p q = let z : _≡_ {A = ℕ} 0 1 = ap (λ (b : Bool). cond b 1 0) q in absurd (omega (arith, z))
-      go false p q =
-          let l = ltb-false room (firstMost (x .resumes) (length sample)) p in
-          let m = leb-true n ((room - firstMost (x .resumes) (length sample)) / 12) q in
-          omega (arith, l, m, most)
+  roomy-most : roomy room x n d (length sample) ≡ true → performed x t d sample .ran .wrote ≤ room
+  roomy-most e = go (ltb room first) (ltb ((room - first) / 12) n) (leb n spare) refl refl refl e
+    where
+      spare : ℕ
+      spare = (room - first - 12 * n) / 16384
 
-  pub thirteen : ltb room (neededOf (roomy room (x .resumes) n (length sample)) (performed x t d sample .ran .wrote)) ≡ ltb room (performed x t d sample .ran .wrote)
-  thirteen = go (roomy room (x .resumes) n (length sample)) refl
+      go : (a b c : Bool) → ltb room first ≡ a → ltb ((room - first) / 12) n ≡ b → leb n spare ≡ c → cond a false (cond b false (cond c true (leb (asksIn x d) spare))) ≡ true
+          → performed x t d sample .ran .wrote ≤ room
+      go true b c p q r s = absurd (no-fit s)
+      go false true c p q r s = absurd (no-fit s)
+      go false false true p q r s =
+          let l = ltb-false room first p in
+          let m = ltb-false ((room - first) / 12) n q in
+          let a = leb-true n spare r in
+          let b = asks-few in
+          omega (arith, l, m, a, b, most)
+      go false false false p q r s =
+          let l = ltb-false room first p in
+          let m = ltb-false ((room - first) / 12) n q in
+          let a = leb-true (asksIn x d) spare s in
+          omega (arith, l, m, a, most)
+
+  pub thirteen : ltb room (neededOf (roomy room x n d (length sample)) (performed x t d sample .ran .wrote)) ≡ ltb room (performed x t d sample .ran .wrote)
+  thirteen = go (roomy room x n d (length sample)) refl
     where
       w : ℕ
       w = performed x t d sample .ran .wrote
 
-      go : (b : Bool) → roomy room (x .resumes) n (length sample) ≡ b → ltb room (neededOf b w) ≡ ltb room w
+      go : (b : Bool) → roomy room x n d (length sample) ≡ b → ltb room (neededOf b w) ≡ ltb room w
       go true e = le-ltb room 0 (omega arith) ∙ sym (le-ltb room w (roomy-most e))
       go false e = refl
 
@@ -150,18 +196,26 @@ module _ (a : Agent) (t : Tables) (out d sample : List ℕ) (x : Start) where
   pub finish-went : ltb (length out) (y .ran .wrote) ≡ false → went ≡ finish a t out x y
   finish-went e = finish-by false e
 
-  pub finish-out : ltb (length out) (y .ran .wrote) ≡ false → putReplies out 0 (y .replies) ≡ putAt out 0 (joinedReplies (y .replies))
-  finish-out e =
-      let l = ltb-false (length out) (y .ran .wrote) e in
-      let w = performed-told x t d sample in
-      fits-whole out (y .replies) (omega (arith, l, w))
+  -- the output's room is what the run counts by
+  pub finish-out : x .frame .room ≡ length out → ltb (length out) (y .ran .wrote) ≡ false → putReplies (x .frame .room) out 0 (y .replies) ≡ putAt out 0 (joinedReplies (y .replies))
+  finish-out long e =
+      let r = x .frame .room in
+      let short = sym (performed-told x t d sample) ∙ (ap (λ (n : ℕ). ltb n (y .ran .wrote)) long ∙ e) in
+      fits-whole r out (y .replies) (omega (arith, long)) (ltb-false r (length (joinedReplies (y .replies))) short)
 
-pub process-by : (a : Agent) (t : Tables) (out d sample : List ℕ) (i : Input) (j : Judged) → judgeOf t d a i (length sample) ≡ j → processedBy j a t out d sample ≡ processOf a t out d sample i
+pub process-by : (a : Agent) (t : Tables) (out d sample : List ℕ) (i : Input) (j : Judged) → judgeOf t d a i (length sample) (length out) ≡ j → processedBy j a t out d sample ≡ processOf a t out d sample i
 unfolding processOf
 process-by a t out d sample i j e = ap (λ (k : Judged). processedBy k a t out d sample) (sym e)
 
 -- all that a call leaves, the replies apart
 pub same-leaves : (x y : Leaves) → x ≡ y
-    → (x .processed ≡ y .processed) × (x .tables .sessions ≡ y .tables .sessions) × (x .tables .streams ≡ y .tables .streams) × (x .tables .objects ≡ y .tables .objects) × (x .out ≡ y .out)
-same-leaves x y e =
-    (ap (λ (l : Leaves). l .processed) e, ap (λ (l : Leaves). l .tables .sessions) e, ap (λ (l : Leaves). l .tables .streams) e, ap (λ (l : Leaves). l .tables .objects) e, ap (λ (l : Leaves). l .out) e)
+    → (x .processed ≡ y .processed) × (x .tables .sessions ≡ y .tables .sessions) × (x .tables .streams ≡ y .tables .streams) × (x .tables .objects ≡ y .tables .objects)
+    × (x .tables .held ≡ y .tables .held) × (x .out ≡ y .out)
+same-leaves x y e = (
+  ap (λ (l : Leaves). l .processed) e,
+  ap (λ (l : Leaves). l .tables .sessions) e,
+  ap (λ (l : Leaves). l .tables .streams) e,
+  ap (λ (l : Leaves). l .tables .objects) e,
+  ap (λ (l : Leaves). l .tables .held) e,
+  ap (λ (l : Leaves). l .out) e,
+)

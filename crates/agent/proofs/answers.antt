@@ -1,2 +1,2 @@
 -- Laws of the reply to an answer.
-mod Laws
+pub mod Laws

@@ -3,9 +3,11 @@ use Prim.Native.Nat.{ℕ, zero, suc, _+_, _-_, _*_}
 use mathlib.Core.Bool.{cond}
 use mathlib.Core.List.{List}
 use lib.Dec.{ltb}
-use lib.ListN.{getD, set, replicate}
+use lib.ListN.{getD, set, take, replicate}
+use Rattle.codec.specs.Bytes.{putBytes}
 use Rattle.agent.specs.declared.dry.SessionCopy.{SessionCopy}
 use Rattle.agent.specs.declared.dry.StreamCopy.{StreamCopy}
+use Rattle.agent.specs.declared.dry.BufferCopy.{BufferCopy}
 
 -- a row, as it is copied
 abbrev pub sessionCopy : List ℕ → SessionCopy
@@ -15,7 +17,7 @@ abbrev pub sessionBack : SessionCopy → List ℕ
 sessionBack c = c .0
 
 abbrev pub noSession : SessionCopy
-noSession = sessionCopy (replicate 5 0)
+noSession = sessionCopy (replicate 6 0)
 
 abbrev pub streamCopy : List ℕ → StreamCopy
 streamCopy row = record { 0 = row }
@@ -49,3 +51,10 @@ copied copy none spot (suc k) from to = set (copied copy none spot k from to) k 
 unfoldable pub restored : {A B : Type 0} → (B → A) → B → (ℕ → ℕ) → ℕ → List B → List A → List A
 restored back none spot zero from to = to
 restored back none spot (suc k) from to = set (restored back none spot k from to) (spot k) (back (getD from k none))
+
+-- the buffer of a stream is at most 16,384 bytes: it is copied to the start of so many, and the first n of them go back
+abbrev pub bufferCopy : List ℕ → BufferCopy
+bufferCopy bytes = record { 0 = putBytes (replicate 16384 0) 0 bytes }
+
+abbrev pub bufferBack : BufferCopy → ℕ → List ℕ
+bufferBack c n = take n (c .0)

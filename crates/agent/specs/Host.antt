@@ -1,10 +1,10 @@
 -- The host's calls over the lent tables: what the contracts of the entry points are equal to. That of the listing cites sessions' `listOf` and `listOut`.
-use Prim.Native.Nat.{ℕ, _+_, _-_, _/_}
+use Prim.Native.Nat.{ℕ, zero, suc, _+_, _-_, _*_, _/_}
 use mathlib.Core.Bool.{Bool, true, false, cond}
 use mathlib.Core.List.{List, [], _++_}
-use lib.Dec.{leb, ltb}
-use lib.ListN.{length}
-use Rattle.codec.specs.Bytes.{putAt}
+use lib.Dec.{eqb, leb, ltb}
+use lib.ListN.{getD, length}
+use Rattle.codec.specs.Bytes.{wordAt, putAt}
 use Rattle.codec.specs.declared.bytes.Written.{Written}
 use Rattle.codec.specs.declared.bytes.Written.the-variants as written
 use Rattle.codec.specs.declared.refusals.Refusal.{Refusal}
@@ -13,6 +13,7 @@ use Rattle.codec.specs.declared.submessages.StatusCode.the-variants.{Ok}
 use Rattle.sessions.specs.Table.{gotOf, namedOf, endedRows}
 use Rattle.sessions.specs.Sweep.{evictedOf, evictedOut, evictedRows}
 use Rattle.sessions.specs.View.{Tables}
+use Rattle.codec.specs.declared.submessages.ObjectNumber.{ObjectNumber}
 use Rattle.sessions.specs.declared.objects.Object.{Object}
 use Rattle.sessions.specs.declared.setup.SetUp.{SetUp}
 use Rattle.sessions.specs.declared.setup.SetUp.the-variants as setup
@@ -24,7 +25,8 @@ use Rattle.agent.specs.Step.{Reply, joinedReplies}
 use Rattle.moves.specs.Rows.{noObject}
 use Rattle.agent.specs.Run.{Turned, runAt}
 use Rattle.moves.specs.Answers.{keepsOf, saysOf}
-use Rattle.agent.specs.Answered.{saysFits, answeredBy, answeredSessions, answeredObjects}
+use Rattle.agent.specs.Lent.{lent}
+use Rattle.agent.specs.Answered.{saysFits, sequenceOf, saysBytes, answeredBy, answeredSessions, answeredObjects, answeredStreams, answeredHeld}
 use Rattle.agent.specs.Judge.{judgeOf, recordSound}
 use Rattle.agent.specs.declared.agent.AgentSetUp.{AgentSetUp}
 use Rattle.agent.specs.declared.agent.AgentSetUp.the-variants as ready
@@ -48,6 +50,7 @@ use Rattle.agent.specs.declared.state.Waiting.the-variants as waiting
 use Rattle.agent.specs.declared.process.Outcome.{Outcome}
 use Rattle.agent.specs.declared.process.Outcome.the-variants.{Replied, Called, Refused}
 use Rattle.agent.specs.declared.process.Processed.{Processed}
+use Rattle.moves.specs.declared.proxy.Task.{Task}
 use Rattle.moves.specs.declared.proxy.BridgeAnswer.{BridgeAnswer}
 use Rattle.moves.specs.declared.proxy.BridgeAnswer.the-variants.{Created, Done, Sample, NoSample, Failed}
 use Rattle.agent.specs.declared.turn.Frame.{Frame}
@@ -57,9 +60,9 @@ use Rattle.agent.specs.declared.turn.Stop.the-variants as stop
 
 -- ---- once nothing refuses it: the answer's part, if it is one, then the submessages behind it
 
-abbrev pub begunBy : Resumes → List (List ℕ) → Frame → List ℕ → List Reply
-begunBy resumes.Nothing s f sample = []
-begunBy (resumes.Answer number task a) s f sample = answeredBy (gotOf s (f .«session_id»)) f sample number task a
+abbrev pub begunBy : Resumes → List (List ℕ) → List (List ℕ) → Frame → List ℕ → List Reply
+begunBy resumes.Nothing s x f sample = []
+begunBy (resumes.Answer number task a) s x f sample = answeredBy (gotOf s (f .«session_id»)) f (sequenceOf s x f) sample number task a
 
 abbrev pub begunSessions : Resumes → List (List ℕ) → List Object → Frame → List (List ℕ)
 begunSessions resumes.Nothing s o f = s
@@ -68,6 +71,18 @@ begunSessions (resumes.Answer number task a) s o f = answeredSessions (gotOf s (
 abbrev pub begunObjects : Resumes → List (List ℕ) → List Object → Frame → List Object
 begunObjects resumes.Nothing s o f = o
 begunObjects (resumes.Answer number task a) s o f = answeredObjects (gotOf s (f .«session_id»)) (keepsOf number task a) s o (f .«session_id»)
+
+-- a DATA reply is held as it was sent
+abbrev pub begunBytes : ObjectNumber → Task → BridgeAnswer → List (List ℕ) → List (List ℕ) → Frame → List ℕ → List ℕ
+begunBytes number task a s x f sample = saysBytes (saysOf task a) f (sequenceOf s x f) number sample
+
+abbrev pub begunStreams : Resumes → List (List ℕ) → List (List ℕ) → List ℕ → Frame → List ℕ → List (List ℕ)
+begunStreams resumes.Nothing s x h f sample = x
+begunStreams (resumes.Answer number task a) s x h f sample = answeredStreams (gotOf s (f .«session_id»)) (saysOf task a) f s x h (begunBytes number task a s x f sample)
+
+abbrev pub begunHeld : Resumes → List (List ℕ) → List (List ℕ) → List ℕ → Frame → List ℕ → List ℕ
+begunHeld resumes.Nothing s x h f sample = h
+begunHeld (resumes.Answer number task a) s x h f sample = answeredHeld (gotOf s (f .«session_id»)) (saysOf task a) f s x h (begunBytes number task a s x f sample)
 
 -- the same, as the code takes an answer apart
 abbrev pub answersNow : Resumes → Got → Bool
@@ -80,9 +95,10 @@ abbrev pub toldBy : Resumes → Told
 toldBy resumes.Nothing = record { keeps = keeps.Nothing; says = says.Status Ok; number = noObject }
 toldBy (resumes.Answer number task a) = record { keeps = keepsOf number task a; says = saysOf task a; number = number }
 
-abbrev pub begunTables : Start → Tables → Tables
-begunTables x t =
-    record { sessions = begunSessions (x .resumes) (t .sessions) (t .objects) (x .frame); streams = t .streams; objects = begunObjects (x .resumes) (t .sessions) (t .objects) (x .frame) }
+abbrev pub begunTables : Start → Tables → List ℕ → Tables
+begunTables x t sample =
+    lent (begunSessions (x .resumes) (t .sessions) (t .objects) (x .frame)) (begunStreams (x .resumes) (t .sessions) (t .streams) (t .held) (x .frame) sample)
+    (begunObjects (x .resumes) (t .sessions) (t .objects) (x .frame)) (begunHeld (x .resumes) (t .sessions) (t .streams) (t .held) (x .frame) sample)
 
 abbrev pub firstRan : Start → ℕ → Ran
 firstRan x wrote = record { next = x .next; at = x .at; wrote = wrote; stop = stop.Nothing }
@@ -92,17 +108,18 @@ behind rs y = record { ran = y .ran; tables = y .tables; replies = rs ++ y .repl
 
 unfoldable pub performed : Start → Tables → List ℕ → List ℕ → Turned
 performed x t d sample =
-    let rs = begunBy (x .resumes) (t .sessions) (x .frame) sample in
-    behind rs (runAt (x .frame) d (firstRan x (length (joinedReplies rs))) (begunTables x t))
+    let rs = begunBy (x .resumes) (t .sessions) (t .streams) (x .frame) sample in
+    behind rs (runAt (x .frame) d (firstRan x (length (joinedReplies rs))) (begunTables x t sample))
 
--- 12 has refused a longer sample
-abbrev pub resumesFit : Resumes → ℕ → Bool
-resumesFit resumes.Nothing n = true
-resumesFit (resumes.Answer number task a) n = saysFits (saysOf task a) n
+-- 12 and 14 have refused a longer sample
+abbrev pub resumesFit : Resumes → ℕ → ℕ → Bool
+resumesFit resumes.Nothing stream n = true
+resumesFit (resumes.Answer number task a) stream n = saysFits (saysOf task a) stream n
 
 -- ---- 13, last, and the answer to the host
 
--- the bound on what a call can reply, for 13: to the answer, and 12 bytes to each submessage
+-- the bound on what a call can reply, for 13: to the answer; 12 bytes to each submessage; and 16 messages of 1,024 bytes to each ACKNACK on a
+-- stream other than 0. There are no more of these than submessages, so that they are counted only where the room wouldn't do for so many.
 abbrev pub answerMost : BridgeAnswer → ℕ → ℕ
 answerMost Sample n = cond (leb n 65533) (10 + n) 65543
 answerMost (Created h) n = 11
@@ -114,8 +131,24 @@ abbrev pub firstMost : Resumes → ℕ → ℕ
 firstMost resumes.Nothing n = 0
 firstMost (resumes.Answer number task a) n = answerMost a n
 
-abbrev pub roomy : ℕ → Resumes → ℕ → ℕ → Bool
-roomy room x n sample = cond (ltb room (firstMost x sample)) false (leb n ((room - firstMost x sample) / 12))
+-- 0x0E ACKNACK
+abbrev pub asksAgain : ℕ → ℕ
+asksAgain id = cond (eqb id 0x0E) 1 0
+
+-- how many there are from a place of the datagram on. "Submessage: id, flags (a byte each), length (2), payload": the next begins behind the payload.
+unfoldable pub acknacksIn : ℕ → List ℕ → ℕ → ℕ
+acknacksIn zero d at = 0
+acknacksIn (suc left) d at = cond (ltb (length d) (at + 4)) 0 (asksAgain (getD d at 0) + acknacksIn left d (at + 4 + wordAt d (at + 2)))
+
+abbrev pub asksIn : Start → List ℕ → ℕ
+asksIn x d = cond (eqb (x .frame .«stream_id») 0) 0 (acknacksIn (length d - x .at) d (x .at))
+
+abbrev pub roomy : ℕ → Start → ℕ → List ℕ → ℕ → Bool
+roomy room x n d sample =
+    let first = firstMost (x .resumes) sample in
+    let left = room - first in
+    let most = (left - 12 * n) / 16384 in
+    cond (ltb room first) false (cond (ltb (left / 12) n) false (cond (leb n most) true (leb (asksIn x d) most)))
 
 abbrev pub neededOf : Bool → ℕ → ℕ
 neededOf true n = 0
@@ -158,7 +191,7 @@ processedBy (judged.Goes x n) a t out d sample = finish a t out x (performed x t
 processedBy (judged.Refused r) a t out d sample = refuse a t out r
 
 unfoldable pub processOf : Agent → Tables → List ℕ → List ℕ → List ℕ → Input → Leaves
-processOf a t out d sample i = processedBy (judgeOf t d a i (length sample)) a t out d sample
+processOf a t out d sample i = processedBy (judgeOf t d a i (length sample) (length out)) a t out d sample
 
 -- ---- the entry points
 

@@ -1,5 +1,5 @@
--- What refuses a datagram or an answer before it runs: "15 is checked first", 16 "right after 15", then 1 to 5, then 12.
-use Prim.Native.Nat.{ℕ}
+-- What refuses a datagram or an answer before it runs: "15 is checked first", 16 "right after 15", then 1 to 5, then 12, then 14.
+use Prim.Native.Nat.{ℕ, _+_}
 use mathlib.Core.Bool.{Bool, true, false, cond, not}
 use mathlib.Core.List.{List, []}
 use lib.Dec.{eqb, ltb}
@@ -8,8 +8,11 @@ use Rattle.codec.specs.Reading.{countAt, checkOf}
 use Rattle.codec.specs.declared.header.MessageHeader.{MessageHeader}
 use Rattle.codec.specs.declared.reading.Checked.{Checked}
 use Rattle.codec.specs.declared.reading.Checked.the-variants as checked
-use Rattle.codec.specs.declared.refusals.Refusal.the-variants.{OutOfTurn, OverLimit, TooLong}
+use Rattle.codec.specs.declared.refusals.Refusal.the-variants.{OutOfTurn, OverLimit, TooLong, StoreFull}
+use Rattle.streams.specs.declared.sent.Slot.{Slot}
+use Rattle.streams.specs.declared.sent.Slot.the-variants as slot
 use Rattle.sessions.specs.Limits.{limitsOf}
+use Rattle.sessions.specs.Sending.{dataSlot}
 use Rattle.sessions.specs.View.{Tables}
 use Rattle.sessions.specs.declared.limits.Limits.{Limits}
 use Rattle.sessions.specs.declared.limits.Limits.the-variants as limits
@@ -55,6 +58,12 @@ sessionOf d (turn.Datagram time) = getD d 0 0
 sessionOf d (turn.Answer p a) = p .«session_id»
 sessionOf d (turn.Refused r) = 0
 
+-- and its stream
+abbrev pub streamOf : List ℕ → Turn → ℕ
+streamOf d (turn.Datagram time) = getD d 1 0
+streamOf d (turn.Answer p a) = p .«stream_id»
+streamOf d (turn.Refused r) = 0
+
 abbrev pub recordSound : Agent → Bool
 recordSound a = cond (ltb 255 (a .«max_clients»)) false (not (eqb (a .next) 0))
 
@@ -64,16 +73,16 @@ soundOf a (limits.Refused r) = false
 
 -- ---- 1 to 5
 
-abbrev pub datagramStart : Agent → ℕ → MessageHeader → Start
-datagramStart a time h =
-    record { frame = record { «max_clients» = a .«max_clients»; time = time; «session_id» = h .«session_id»; «stream_id» = h .«stream_id» }; next = a .next; at = 4; resumes = resumes.Nothing }
+abbrev pub datagramStart : Agent → ℕ → MessageHeader → ℕ → Start
+datagramStart a time h room =
+    record { frame = record { «max_clients» = a .«max_clients»; time = time; «session_id» = h .«session_id»; «stream_id» = h .«stream_id»; room = room }; next = a .next; at = 4; resumes = resumes.Nothing }
 
-abbrev pub checkedJudged : Agent → ℕ → Checked → Judged
-checkedJudged a time (checked.Message h n) = Goes (datagramStart a time h) n
-checkedJudged a time (checked.Refused r) = Refused r
+abbrev pub checkedJudged : Agent → ℕ → ℕ → Checked → Judged
+checkedJudged a time room (checked.Message h n) = Goes (datagramStart a time h room) n
+checkedJudged a time room (checked.Refused r) = Refused r
 
-abbrev pub datagramJudged : List ℕ → Agent → Limits → ℕ → Judged
-datagramJudged d a l time = cond (soundOf a l) (checkedJudged a time (checkOf d)) (Refused OverLimit)
+abbrev pub datagramJudged : List ℕ → Agent → Limits → ℕ → ℕ → Judged
+datagramJudged d a l time room = cond (soundOf a l) (checkedJudged a time room (checkOf d)) (Refused OverLimit)
 
 -- ---- 12, "payload or string over 65,535 bytes": the DATA that a sample would need
 
@@ -84,38 +93,63 @@ tooLong Done n = false
 tooLong NoSample n = false
 tooLong Failed n = false
 
--- the submessages behind the call's own, in the datagram lent again, with the time and the header that it had
-abbrev pub answerStart : Agent → Pending → BridgeAnswer → Start
-answerStart a p b =
-    record { frame = record { «max_clients» = a .«max_clients»; time = p .time; «session_id» = p .«session_id»; «stream_id» = p .«stream_id» }; next = a .next; at = p .at; resumes = resumes.Answer (p .number) (p .task) b }
+-- ---- 14, W5: "A reply that would be held is refused as 14 if over 1,024 bytes", its header of ten bytes counted; or what its stream has no place for
 
-abbrev pub restJudged : Agent → Pending → BridgeAnswer → ℕ → Checked → Judged
-restJudged a p b sample (checked.Message h n) = cond (tooLong b sample) (Refused TooLong) (Goes (answerStart a p b) n)
-restJudged a p b sample (checked.Refused r) = Refused OverLimit
+abbrev pub sampleSlot : Pending → List (List ℕ) → List (List ℕ) → ℕ → ℕ → Slot
+sampleSlot p s x held n =
+    cond (eqb (p .«stream_id») 0) slot.Nowhere
+    (cond (ltb 1014 n) (slot.Refused StoreFull) (dataSlot s x held (p .«session_id») (p .«stream_id») (10 + n)))
+
+abbrev pub answerSlot : Pending → BridgeAnswer → List (List ℕ) → List (List ℕ) → ℕ → ℕ → Slot
+answerSlot p Sample s x held n = sampleSlot p s x held n
+answerSlot p (Created h) s x held n = slot.Nowhere
+answerSlot p Done s x held n = slot.Nowhere
+answerSlot p NoSample s x held n = slot.Nowhere
+answerSlot p Failed s x held n = slot.Nowhere
+
+abbrev pub slotOf : Turn → List (List ℕ) → List (List ℕ) → ℕ → ℕ → Slot
+slotOf (turn.Answer p b) s x held n = answerSlot p b s x held n
+slotOf (turn.Datagram time) s x held n = slot.Nowhere
+slotOf (turn.Refused r) s x held n = slot.Nowhere
+
+-- the submessages behind the call's own, in the datagram lent again, with the time and the header that it had
+abbrev pub answerStart : Agent → Pending → BridgeAnswer → ℕ → Start
+answerStart a p b room =
+    record { frame = record { «max_clients» = a .«max_clients»; time = p .time; «session_id» = p .«session_id»; «stream_id» = p .«stream_id»; room = room }; next = a .next; at = p .at; resumes = resumes.Answer (p .number) (p .task) b }
+
+abbrev pub placedJudged : Slot → Judged → Judged
+placedJudged (slot.At i) j = j
+placedJudged slot.Nowhere j = j
+placedJudged (slot.Refused r) j = Refused r
+
+abbrev pub restJudged : Agent → Pending → BridgeAnswer → ℕ → Slot → ℕ → Checked → Judged
+restJudged a p b sample place room (checked.Message h n) = cond (tooLong b sample) (Refused TooLong) (placedJudged place (Goes (answerStart a p b room) n))
+restJudged a p b sample place room (checked.Refused r) = Refused OverLimit
 
 abbrev pub headerOf : Pending → MessageHeader
 headerOf p = record { «session_id» = p .«session_id»; «stream_id» = p .«stream_id»; «sequence_nr» = 0 }
 
 -- "A datagram whose bridge call is open may be lent again with the answer": it reads from the call's place to its end, else 16
-abbrev pub answerJudged : List ℕ → Agent → Limits → Pending → BridgeAnswer → ℕ → Judged
-answerJudged d a l p b sample =
+abbrev pub answerJudged : List ℕ → Agent → Limits → Pending → BridgeAnswer → ℕ → Slot → ℕ → Judged
+answerJudged d a l p b sample place room =
     cond (soundOf a l)
-    (cond (ltb (length d) (p .at)) (Refused OverLimit) (restJudged a p b sample (countAt (headerOf p) d (p .at))))
+    (cond (ltb (length d) (p .at)) (Refused OverLimit) (restJudged a p b sample place room (countAt (headerOf p) d (p .at))))
     (Refused OverLimit)
 
-abbrev pub judgedBy : List ℕ → Agent → Limits → Turn → ℕ → Judged
-judgedBy d a l (turn.Datagram time) sample = datagramJudged d a l time
-judgedBy d a l (turn.Answer p b) sample = answerJudged d a l p b sample
-judgedBy d a l (turn.Refused r) sample = Refused r
+abbrev pub judgedBy : List ℕ → Agent → Limits → Turn → ℕ → Slot → ℕ → Judged
+judgedBy d a l (turn.Datagram time) sample place room = datagramJudged d a l time room
+judgedBy d a l (turn.Answer p b) sample place room = answerJudged d a l p b sample place room
+judgedBy d a l (turn.Refused r) sample place room = Refused r
 
-unfoldable pub judgeOf : Tables → List ℕ → Agent → Input → ℕ → Judged
-judgeOf t d a i sample =
+-- with the length of a sample, and the output's
+unfoldable pub judgeOf : Tables → List ℕ → Agent → Input → ℕ → ℕ → Judged
+judgeOf t d a i sample room =
     let x = turnOf (a .waits) i in
-    judgedBy d a (limitsOf (t .sessions) (t .streams) (t .objects) (sessionOf d x)) x sample
+    judgedBy d a (limitsOf (t .sessions) (t .streams) (t .objects) (length (t .held)) (a .«max_clients») (sessionOf d x) (streamOf d x)) x sample (slotOf x (t .sessions) (t .streams) (length (t .held)) sample) room
 
 -- a start or a refusal, as the code takes them apart
 abbrev pub noStart : Start
-noStart = record { frame = record { «max_clients» = 0; time = 0; «session_id» = 0; «stream_id» = 0 }; next = 0; at = 0; resumes = resumes.Nothing }
+noStart = record { frame = record { «max_clients» = 0; time = 0; «session_id» = 0; «stream_id» = 0; room = 0 }; next = 0; at = 0; resumes = resumes.Nothing }
 
 abbrev pub partsOf : Judged → Parts
 partsOf (Goes x n) = record { goes = true; start = x; count = n; why = OverLimit }

@@ -9,7 +9,9 @@ pub mod RulesAnswers
 pub mod Rules
 pub mod Step
 pub mod Claim
+pub mod Repeats
 pub mod Place
+pub mod Lent
 pub mod Whole
 -- The step over the lent rows, which the contracts cite. In every state that calls lead to it is the step above (`proofs/SquareStep.antt`).
 pub mod Run

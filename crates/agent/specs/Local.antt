@@ -5,7 +5,7 @@ use mathlib.Core.Option.{Option, none, some}
 use mathlib.Core.List.{List}
 use lib.Dec.{leb}
 use lib.ListN.{length}
-use Rattle.streams.specs.View.{acknackIn}
+use Rattle.streams.specs.View.{acknackIn, sentIn}
 use Rattle.sessions.specs.View.{Entry, KeptStream, Local, findIn, putIn, dropIn, streamIn, openIn, writeIn}
 
 -- "The time becomes the last activity"
@@ -57,3 +57,7 @@ acknowledgedBy first (some k) ss = writeIn ss (acknackIn first k)
 
 abbrev pub acknowledging : ℕ → ℕ → Local → Local
 acknowledging n first l = withStreams l (acknowledgedBy first (streamIn (l .streams) n) (l .streams))
+
+-- W5: a message "takes the next send sequence .. and is held", on its stream
+abbrev pub sending : List ℕ → KeptStream → Local → Local
+sending bytes k l = withStreams l (writeIn (l .streams) (sentIn bytes k))

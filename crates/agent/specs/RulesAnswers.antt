@@ -1,11 +1,13 @@
 -- The answer to a session's call: "The same rules give the reply."
 use Prim.Native.Nat.{ℕ}
-use mathlib.Core.Option.{some}
-use mathlib.Core.List.{[], _∷_}
+use mathlib.Core.Bool.{cond}
+use mathlib.Core.Option.{Option, none, some}
+use mathlib.Core.List.{List, [], _∷_}
+use lib.Dec.{eqb}
 use Rattle.codec.specs.declared.submessages.StatusCode.the-variants.{Ok, ErrUnknownRef, ErrInvalidData}
 use Rattle.isolation.specs.Rules.{done}
-use Rattle.sessions.specs.View.{Local}
-use Rattle.agent.specs.Local.{listing}
+use Rattle.sessions.specs.View.{KeptStream, Local, streamIn}
+use Rattle.agent.specs.Local.{listing, sending}
 use Rattle.moves.specs.Calls.{Answer, created, succeeded, sample, noSample, failed, Task, creating, deleting, writing, reading, Pending}
 use Rattle.moves.specs.Replies.{dataBytes}
 use Rattle.agent.specs.RulesObjects.{Move, says}
@@ -36,9 +38,15 @@ writeAnswered stream number (sample d) l = says stream number ErrInvalidData l
 writeAnswered stream number noSample l = says stream number ErrInvalidData l
 writeAnswered stream number failed l = says stream number ErrInvalidData l
 
+-- W5: "On streams other than 0 each DATA reply now takes the next send sequence in its header and is held." READ_DATA has opened the stream.
+abbrev pub sampleOn : ℕ → ℕ → List ℕ → Option KeptStream → Local → Move
+sampleOn stream number d none l = done l (dataBytes (l .id) stream 0 number d ∷ [])
+sampleOn stream number d (some k) l = let bytes = dataBytes (l .id) stream (k .next) number d in done (sending bytes k l) (bytes ∷ [])
+
 -- a sample is answered by DATA; "A read without data answers STATUS OK"
 abbrev pub readAnswered : ℕ → ℕ → Answer → Local → Move
-readAnswered stream number (sample d) l = done l (dataBytes (l .id) stream number d ∷ [])
+readAnswered stream number (sample d) l =
+    cond (eqb stream 0) (done l (dataBytes (l .id) stream 0 number d ∷ [])) (sampleOn stream number d (streamIn (l .streams) stream) l)
 readAnswered stream number noSample l = says stream number Ok l
 readAnswered stream number (created h) l = says stream number ErrInvalidData l
 readAnswered stream number succeeded l = says stream number ErrInvalidData l

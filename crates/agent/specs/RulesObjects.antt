@@ -3,6 +3,7 @@ use Prim.Native.Nat.{ℕ, _+_}
 use mathlib.Core.Bool.{Bool, cond}
 use mathlib.Core.Option.{Option, none, some}
 use mathlib.Core.List.{List, [], _∷_}
+use lib.Dec.{eqb, leb}
 use Rattle.codec.specs.Reading.{partOf}
 use Rattle.codec.specs.Strings.{stringAt}
 use Rattle.codec.specs.Submessages.{kindByte}
@@ -14,9 +15,10 @@ use Rattle.codec.specs.declared.submessages.ObjectKind.the-variants.{Participan
 use Rattle.codec.specs.declared.submessages.StatusCode.{StatusCode}
 use Rattle.codec.specs.declared.submessages.StatusCode.the-variants.{Ok, ErrUnknownRef, ErrInvalidData, ErrIncompatible, ErrResources}
 use Rattle.isolation.specs.Rules.{Bytes, Outcome, done, calls}
-use Rattle.sessions.specs.View.{Entry, Local, findIn}
+use Rattle.streams.specs.View.{manyHeld}
+use Rattle.sessions.specs.View.{Entry, KeptStream, Local, findIn, streamIn}
 use Rattle.sessions.specs.Dependants.{dependantIn, hasDependant}
-use Rattle.agent.specs.Local.{listing, dropping, full, handleAt}
+use Rattle.agent.specs.Local.{listing, dropping, full, handleAt, opening}
 use Rattle.moves.specs.Calls.{Call, createParticipant, createTopic, createWriter, createReader, writeData, readData, deleteEntity, Task, creating, writing, reading, deleting, Pending}
 use Rattle.moves.specs.Replies.{statusBytes}
 use Rattle.agent.specs.Parents.{handlesNamed}
@@ -108,6 +110,17 @@ onDelete stream number l = deleteFound stream number (findIn (l .objects) number
 abbrev pub onWrite : ℕ → ℕ → List ℕ → Local → Move
 onWrite stream number body l = ifHandle (handleAt number l) (λ h. asks stream number writing (writeData h body) l) (says stream number ErrUnknownRef l)
 
+-- W5: "With 16 held, it then answers ERR_RESOURCES before the bridge is called"; "a ninth stream gets no reply and no call"
+abbrev pub readOn : ℕ → ℕ → ℕ → Option KeptStream → Local → Move
+readOn stream number h none l = done l []
+readOn stream number h (some k) l = cond (leb 16 (manyHeld (k .held))) (says stream number ErrResources l) (asks stream number reading (readData h) l)
+
+-- "On a stream other than 0, READ_DATA of a known reader opens it"
+abbrev pub readFrom : ℕ → ℕ → ℕ → Local → Move
+readFrom stream number h l =
+    let o = opening stream l in
+    cond (eqb stream 0) (asks stream number reading (readData h) l) (readOn stream number h (streamIn (o .streams) stream) o)
+
 -- "`max_samples` is unused"
 abbrev pub onRead : ℕ → ℕ → Local → Move
-onRead stream number l = ifHandle (handleAt number l) (λ h. asks stream number reading (readData h) l) (says stream number ErrUnknownRef l)
+onRead stream number l = ifHandle (handleAt number l) (λ h. readFrom stream number h l) (says stream number ErrUnknownRef l)

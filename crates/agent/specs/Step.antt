@@ -3,7 +3,7 @@ use Prim.Native.Nat.{ℕ, zero, suc}
 use mathlib.Core.Bool.{Bool, true, false, cond}
 use mathlib.Core.Option.{Option, none, some}
 use mathlib.Core.List.{List, [], _∷_, _++_, map}
-use lib.Dec.{eqb, ltb}
+use lib.Dec.{eqb, ltb, leb}
 use lib.ListN.{length}
 use Rattle.codec.specs.Bytes.{putAt}
 use Rattle.codec.specs.Answers.{Answer as Read, gives, refusedAs}
@@ -12,9 +12,10 @@ use Rattle.codec.specs.declared.header.MessageHeader.{MessageHeader}
 use Rattle.isolation.specs.Rules.{done, calls, Sub, opens, names}
 use Rattle.sessions.specs.Opening.{after, liveFrom}
 use Rattle.sessions.specs.Sweep.{expiredFrom}
-use Rattle.sessions.specs.View.{Local, absent, expired, lapsed}
+use Rattle.streams.specs.View.{present, manyHeld}
+use Rattle.sessions.specs.View.{KeptStream, Local, absent, expired, lapsed, streamIn}
 use Rattle.moves.specs.Calls.{Call, Answer, created, succeeded, sample, noSample, failed, Pending, fits}
-use Rattle.moves.specs.Replies.{clientBytes, dataPayload}
+use Rattle.moves.specs.Replies.{clientBytes, dataBytes, dataPayload}
 use Rattle.agent.specs.RulesObjects.{Move}
 use Rattle.agent.specs.RulesAnswers.{onAnswer}
 use Rattle.agent.specs.Rules.{Opening, In, messageFrom, start, handle}
@@ -171,6 +172,26 @@ tooLong p succeeded = false
 tooLong p noSample = false
 tooLong p failed = false
 
+-- 14, W5: "A reply that would be held is refused as 14 if over 1,024 bytes", its header counted; and 01's "17th held number": "A number recorded
+-- again replaces its message"
+abbrev pub crowded : Option KeptStream → Bool
+crowded none = false
+crowded (some k) = cond (present (k .held (k .next))) false (leb 16 (manyHeld (k .held)))
+
+abbrev pub crowdedIn : ℕ → Option Local → Bool
+crowdedIn stream none = false
+crowdedIn stream (some l) = crowded (streamIn (l .streams) stream)
+
+abbrev pub overHeld : Open → Answer → Tables → Bool
+overHeld w (sample d) t =
+    let stream = w .pending .stream in
+    cond (eqb stream 0) false
+    (cond (ltb 1024 (length (dataBytes (w .session) stream 0 (w .pending .number) d))) true (crowdedIn stream (t .at (w .session))))
+overHeld w (created h) t = false
+overHeld w succeeded t = false
+overHeld w noSample t = false
+overHeld w failed t = false
+
 abbrev pub isLive : Option Local → Bool
 isLive none = false
 isLive (some l) = true
@@ -198,7 +219,8 @@ stepped none st (sweep now) out =
 stepped (some w) st (datagram time bytes) out = refuse st out 15 0
 stepped (some w) st (answer a) out =
     cond (fits (w .pending .task) a)
-    (cond (tooLong (w .pending) a) (refuse st out 12 0) (settle st out (continued (st .max) w a (st .tables))))
+    (cond (tooLong (w .pending) a) (refuse st out 12 0)
+    (cond (overHeld w a (st .tables)) (refuse st out 14 0) (settle st out (continued (st .max) w a (st .tables)))))
     (refuse st out 15 0)
 stepped (some w) st (removal id) out = refuse st out 15 0
 stepped (some w) st (sweep now) out = refuse st out 15 0

@@ -124,7 +124,7 @@ pub record Hosted : Type 0 where
 
 -- what `setup` answers of tables, and what it leaves: "An empty agent is one just set up."
 abbrev pub setUpWith : Tables → ℕ → ℕ → AgentSetUp
-setUpWith t max timeout = setUpAs (setUpOf (length (t .sessions)) (length (t .streams)) (length (t .objects)) max) max timeout
+setUpWith t max timeout = setUpAs (setUpOf (length (t .sessions)) (length (t .streams)) (length (t .objects)) (length (t .held)) max) max timeout
 
 -- its answer in document 01's numbers
 abbrev pub setUpAnswer : AgentSetUp → Answer Agent
@@ -132,7 +132,7 @@ setUpAnswer (set-up.Ready a) = gives a
 setUpAnswer (set-up.Refused r) = refusal r
 
 abbrev pub emptyOf : Tables → ℕ → Agent → State
-emptyOf t max a = record { agent = a; tables = setUpTables (setUpOf (length (t .sessions)) (length (t .streams)) (length (t .objects)) max) t; lent = [] }
+emptyOf t max a = record { agent = a; tables = setUpTables (setUpOf (length (t .sessions)) (length (t .streams)) (length (t .objects)) (length (t .held)) max) t; lent = [] }
 
 module _ (t : Tables) (max timeout : ℕ) (a : Agent) where
   abbrev pub agent : claim.Agent (rules timeout)

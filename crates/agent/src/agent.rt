@@ -24,7 +24,7 @@ ghost use lib.ListN.{length};
 ghost use Rattle.sessions.specs.Setup.{setUpOf};
 ghost use Rattle.sessions.specs.Calls.{setUpTables};
 ghost use Rattle.sessions.specs.ObjectList.{listOf, listOut};
-ghost use Rattle.moves.specs.Rows.{lent};
+ghost use Rattle.agent.specs.Lent.{lent};
 ghost use Rattle.agent.specs.Host.{setUpAs, incomingOf, answerOf, idleOf, removedAs, removedBy, removedRows, sweptBy, sweptRows, sweptOut};
 
 pub enum AgentSetUp {
@@ -57,20 +57,21 @@ fn ready(s: SetUp, max_clients: usize, timeout_ms: u64) -> AgentSetUp
     }
 }
 
-// An empty agent over the lent tables, whatever stood in them.
+// An empty agent over the lent tables, whatever stood in them; of the store of held messages only its length is asked.
 pub fn setup(
     sessions: &mut [SessionRow],
     streams: &mut [StreamRow],
     objects: &mut [Object],
+    held: &[u8],
     max_clients: usize,
     timeout_ms: u64,
 ) -> AgentSetUp
-    ensures { λ a. ⌜ (a ≡ setUpAs (setUpOf (length (now (sessions .entry))) (length (now (streams .entry))) (length (now (objects .entry))) «max_clients») «max_clients» «timeout_ms»)
-        × (now (sessions .exit) ≡ setUpTables (setUpOf (length (now (sessions .entry))) (length (now (streams .entry))) (length (now (objects .entry))) «max_clients») (lent (now (sessions .entry)) (now (streams .entry)) (now (objects .entry))) .sessions)
-        × (now (streams .exit) ≡ setUpTables (setUpOf (length (now (sessions .entry))) (length (now (streams .entry))) (length (now (objects .entry))) «max_clients») (lent (now (sessions .entry)) (now (streams .entry)) (now (objects .entry))) .streams)
-        × (now (objects .exit) ≡ setUpTables (setUpOf (length (now (sessions .entry))) (length (now (streams .entry))) (length (now (objects .entry))) «max_clients») (lent (now (sessions .entry)) (now (streams .entry)) (now (objects .entry))) .objects) ⌝ }
+    ensures { λ a. ⌜ (a ≡ setUpAs (setUpOf (length (now (sessions .entry))) (length (now (streams .entry))) (length (now (objects .entry))) (length (now (held .entry))) «max_clients») «max_clients» «timeout_ms»)
+        × (now (sessions .exit) ≡ setUpTables (setUpOf (length (now (sessions .entry))) (length (now (streams .entry))) (length (now (objects .entry))) (length (now (held .entry))) «max_clients») (lent (now (sessions .entry)) (now (streams .entry)) (now (objects .entry)) (now (held .entry))) .sessions)
+        × (now (streams .exit) ≡ setUpTables (setUpOf (length (now (sessions .entry))) (length (now (streams .entry))) (length (now (objects .entry))) (length (now (held .entry))) «max_clients») (lent (now (sessions .entry)) (now (streams .entry)) (now (objects .entry)) (now (held .entry))) .streams)
+        × (now (objects .exit) ≡ setUpTables (setUpOf (length (now (sessions .entry))) (length (now (streams .entry))) (length (now (objects .entry))) (length (now (held .entry))) «max_clients») (lent (now (sessions .entry)) (now (streams .entry)) (now (objects .entry)) (now (held .entry))) .objects) ⌝ }
 {
-    let s = set_up(sessions, streams, objects, max_clients);
+    let s = set_up(sessions, streams, objects, held.len(), max_clients);
     ready(s, max_clients, timeout_ms)
 }
 
@@ -79,16 +80,18 @@ pub fn process_incoming(
     sessions: &mut [SessionRow],
     streams: &mut [StreamRow],
     objects: &mut [Object],
+    held: &mut [u8],
     out: &mut [u8],
     datagram: &[u8],
     agent: Agent,
     given: Given,
 ) -> Processed
-    ensures { λ p. ⌜ (p ≡ incomingOf agent (lent (now (sessions .entry)) (now (streams .entry)) (now (objects .entry))) (now (out .entry)) (now (datagram .entry)) (given .time) .processed)
-        × (now (sessions .exit) ≡ incomingOf agent (lent (now (sessions .entry)) (now (streams .entry)) (now (objects .entry))) (now (out .entry)) (now (datagram .entry)) (given .time) .tables .sessions)
-        × (now (streams .exit) ≡ incomingOf agent (lent (now (sessions .entry)) (now (streams .entry)) (now (objects .entry))) (now (out .entry)) (now (datagram .entry)) (given .time) .tables .streams)
-        × (now (objects .exit) ≡ incomingOf agent (lent (now (sessions .entry)) (now (streams .entry)) (now (objects .entry))) (now (out .entry)) (now (datagram .entry)) (given .time) .tables .objects)
-        × (now (out .exit) ≡ incomingOf agent (lent (now (sessions .entry)) (now (streams .entry)) (now (objects .entry))) (now (out .entry)) (now (datagram .entry)) (given .time) .out) ⌝ }
+    ensures { λ p. ⌜ (p ≡ incomingOf agent (lent (now (sessions .entry)) (now (streams .entry)) (now (objects .entry)) (now (held .entry))) (now (out .entry)) (now (datagram .entry)) (given .time) .processed)
+        × (now (sessions .exit) ≡ incomingOf agent (lent (now (sessions .entry)) (now (streams .entry)) (now (objects .entry)) (now (held .entry))) (now (out .entry)) (now (datagram .entry)) (given .time) .tables .sessions)
+        × (now (streams .exit) ≡ incomingOf agent (lent (now (sessions .entry)) (now (streams .entry)) (now (objects .entry)) (now (held .entry))) (now (out .entry)) (now (datagram .entry)) (given .time) .tables .streams)
+        × (now (objects .exit) ≡ incomingOf agent (lent (now (sessions .entry)) (now (streams .entry)) (now (objects .entry)) (now (held .entry))) (now (out .entry)) (now (datagram .entry)) (given .time) .tables .objects)
+        × (now (held .exit) ≡ incomingOf agent (lent (now (sessions .entry)) (now (streams .entry)) (now (objects .entry)) (now (held .entry))) (now (out .entry)) (now (datagram .entry)) (given .time) .tables .held)
+        × (now (out .exit) ≡ incomingOf agent (lent (now (sessions .entry)) (now (streams .entry)) (now (objects .entry)) (now (held .entry))) (now (out .entry)) (now (datagram .entry)) (given .time) .out) ⌝ }
 {
     // A datagram is processed without a look at a sample.
     let none = [0u8; 2];
@@ -96,6 +99,7 @@ pub fn process_incoming(
         sessions,
         streams,
         objects,
+        held,
         out,
         datagram,
         &none,
@@ -109,22 +113,25 @@ pub fn process_answer(
     sessions: &mut [SessionRow],
     streams: &mut [StreamRow],
     objects: &mut [Object],
+    held: &mut [u8],
     out: &mut [u8],
     datagram: &[u8],
     sample: &[u8],
     agent: Agent,
     answer: BridgeAnswer,
 ) -> Processed
-    ensures { λ p. ⌜ (p ≡ answerOf agent (lent (now (sessions .entry)) (now (streams .entry)) (now (objects .entry))) (now (out .entry)) (now (datagram .entry)) (now (sample .entry)) answer .processed)
-        × (now (sessions .exit) ≡ answerOf agent (lent (now (sessions .entry)) (now (streams .entry)) (now (objects .entry))) (now (out .entry)) (now (datagram .entry)) (now (sample .entry)) answer .tables .sessions)
-        × (now (streams .exit) ≡ answerOf agent (lent (now (sessions .entry)) (now (streams .entry)) (now (objects .entry))) (now (out .entry)) (now (datagram .entry)) (now (sample .entry)) answer .tables .streams)
-        × (now (objects .exit) ≡ answerOf agent (lent (now (sessions .entry)) (now (streams .entry)) (now (objects .entry))) (now (out .entry)) (now (datagram .entry)) (now (sample .entry)) answer .tables .objects)
-        × (now (out .exit) ≡ answerOf agent (lent (now (sessions .entry)) (now (streams .entry)) (now (objects .entry))) (now (out .entry)) (now (datagram .entry)) (now (sample .entry)) answer .out) ⌝ }
+    ensures { λ p. ⌜ (p ≡ answerOf agent (lent (now (sessions .entry)) (now (streams .entry)) (now (objects .entry)) (now (held .entry))) (now (out .entry)) (now (datagram .entry)) (now (sample .entry)) answer .processed)
+        × (now (sessions .exit) ≡ answerOf agent (lent (now (sessions .entry)) (now (streams .entry)) (now (objects .entry)) (now (held .entry))) (now (out .entry)) (now (datagram .entry)) (now (sample .entry)) answer .tables .sessions)
+        × (now (streams .exit) ≡ answerOf agent (lent (now (sessions .entry)) (now (streams .entry)) (now (objects .entry)) (now (held .entry))) (now (out .entry)) (now (datagram .entry)) (now (sample .entry)) answer .tables .streams)
+        × (now (objects .exit) ≡ answerOf agent (lent (now (sessions .entry)) (now (streams .entry)) (now (objects .entry)) (now (held .entry))) (now (out .entry)) (now (datagram .entry)) (now (sample .entry)) answer .tables .objects)
+        × (now (held .exit) ≡ answerOf agent (lent (now (sessions .entry)) (now (streams .entry)) (now (objects .entry)) (now (held .entry))) (now (out .entry)) (now (datagram .entry)) (now (sample .entry)) answer .tables .held)
+        × (now (out .exit) ≡ answerOf agent (lent (now (sessions .entry)) (now (streams .entry)) (now (objects .entry)) (now (held .entry))) (now (out .entry)) (now (datagram .entry)) (now (sample .entry)) answer .out) ⌝ }
 {
     process(
         sessions,
         streams,
         objects,
+        held,
         out,
         datagram,
         sample,

@@ -1,31 +1,36 @@
 // 13 is exact: where the output may be too short, the call runs once on an output of its own, which tells what it would
-// write, and the records that it may have changed are put back: all sessions', the first stream's of each, and the named
-// session's streams and objects.
+// write, and the records that it may have changed are put back: all sessions', the first stream's of each, the named
+// session's streams and objects, and the buffer of its stream.
 use crate::judge::Start;
 use crate::perform::perform;
+use codec::bytes::put_bytes;
 use codec::submessages::ObjectNumber;
 use sessions::objects::Object;
+use sessions::sending::Stretch;
+use sessions::sending::buffer_stretch;
 use sessions::stream_rows::StreamRow;
 use sessions::table::SessionRow;
 ghost use mathlib.Core.Path.{_≡_};
 ghost use mathlib.Core.Bool.{true};
 ghost use mathlib.Core.List.{[]};
-ghost use Prim.Native.Nat.{_+_, _*_, _<_, _≤_};
+ghost use Prim.Native.Nat.{_+_, _-_, _*_, _<_, _≤_};
 ghost use lib.ListN.{length, getD, set};
 ghost use Rattle.sessions.specs.Objects.{blank};
-ghost use Rattle.moves.specs.Rows.{lent};
+ghost use Rattle.agent.specs.Lent.{lent};
 ghost use Rattle.agent.specs.Host.{resumesFit, performed};
-ghost use Rattle.agent.specs.Dry.{sessionCopy, sessionBack, noSession, streamCopy, streamBack, noStream, same, sessionSpot, streamSpot, objectSpot, copied, restored};
+ghost use Rattle.agent.specs.Dry.{sessionCopy, sessionBack, noSession, streamCopy, streamBack, noStream, same, sessionSpot, streamSpot, objectSpot, copied, restored, bufferCopy, bufferBack};
+ghost use Rattle.codec.specs.Bytes.{putBytes};
+ghost use Rattle.sessions.specs.Sending.{bufferIn};
 
 // A row, as an element of a local array that is lent.
-pub struct SessionCopy(pub [u64; 5]);
+pub struct SessionCopy(pub [u64; 6]);
 
 pub struct StreamCopy(pub [u16; 35]);
 
 fn no_session() -> SessionCopy
     ensures { λ r. ⌜ r ≡ noSession ⌝ }
 {
-    SessionCopy([0u64; 5])
+    SessionCopy([0u64; 6])
 }
 
 fn no_stream() -> StreamCopy
@@ -160,22 +165,34 @@ fn dry_sessions(
     sessions: &mut [SessionRow],
     streams: &mut [StreamRow],
     objects: &mut [Object],
+    held: &mut [u8],
     d: &[u8],
     sample: &[u8],
     start: Start,
 ) -> usize
-    requires { ⌜ (resumesFit (start .resumes) (length (now sample)) ≡ true)
+    requires { ⌜ (resumesFit (start .resumes) (start .frame .«stream_id») (length (now sample)) ≡ true)
+        × (start .frame .room ≤ 9223372036854775807)
         × (256 ≤ length (now sessions)) ⌝ }
-    ensures { λ n. ⌜ (n ≡ performed start (lent (now (sessions .entry)) (now (streams .entry)) (now (objects .entry))) (now (d .entry)) (now (sample .entry)) .ran .wrote)
+    ensures { λ n. ⌜ (n ≡ performed start (lent (now (sessions .entry)) (now (streams .entry)) (now (objects .entry)) (now (held .entry))) (now (d .entry)) (now (sample .entry)) .ran .wrote)
         × (now (sessions .exit) ≡ now (sessions .entry))
-        × (now (streams .exit) ≡ performed start (lent (now (sessions .entry)) (now (streams .entry)) (now (objects .entry))) (now (d .entry)) (now (sample .entry)) .tables .streams)
-        × (now (objects .exit) ≡ performed start (lent (now (sessions .entry)) (now (streams .entry)) (now (objects .entry))) (now (d .entry)) (now (sample .entry)) .tables .objects) ⌝ }
+        × (now (streams .exit) ≡ performed start (lent (now (sessions .entry)) (now (streams .entry)) (now (objects .entry)) (now (held .entry))) (now (d .entry)) (now (sample .entry)) .tables .streams)
+        × (now (objects .exit) ≡ performed start (lent (now (sessions .entry)) (now (streams .entry)) (now (objects .entry)) (now (held .entry))) (now (d .entry)) (now (sample .entry)) .tables .objects)
+        × (now (held .exit) ≡ performed start (lent (now (sessions .entry)) (now (streams .entry)) (now (objects .entry)) (now (held .entry))) (now (d .entry)) (now (sample .entry)) .tables .held) ⌝ }
 {
     let session = no_session();
     let mut rows = [session; 256];
     copy_sessions(sessions, &mut rows, 256);
     let mut none = [0u8; 2];
-    let ran = perform(sessions, streams, objects, &mut none, d, sample, start);
+    let ran = perform(
+        sessions,
+        streams,
+        objects,
+        held,
+        &mut none,
+        d,
+        sample,
+        start,
+    );
     restore_sessions(&rows, sessions, 256);
     ran.wrote
 }
@@ -185,45 +202,51 @@ fn dry_streams(
     sessions: &mut [SessionRow],
     streams: &mut [StreamRow],
     objects: &mut [Object],
+    held: &mut [u8],
     d: &[u8],
     sample: &[u8],
     start: Start,
 ) -> usize
-    requires { ⌜ (resumesFit (start .resumes) (length (now sample)) ≡ true)
+    requires { ⌜ (resumesFit (start .resumes) (start .frame .«stream_id») (length (now sample)) ≡ true)
+        × (start .frame .room ≤ 9223372036854775807)
         × (256 ≤ length (now sessions))
         × (2048 ≤ length (now streams)) ⌝ }
-    ensures { λ n. ⌜ (n ≡ performed start (lent (now (sessions .entry)) (now (streams .entry)) (now (objects .entry))) (now (d .entry)) (now (sample .entry)) .ran .wrote)
+    ensures { λ n. ⌜ (n ≡ performed start (lent (now (sessions .entry)) (now (streams .entry)) (now (objects .entry)) (now (held .entry))) (now (d .entry)) (now (sample .entry)) .ran .wrote)
         × (now (sessions .exit) ≡ now (sessions .entry))
         × (now (streams .exit) ≡ now (streams .entry))
-        × (now (objects .exit) ≡ performed start (lent (now (sessions .entry)) (now (streams .entry)) (now (objects .entry))) (now (d .entry)) (now (sample .entry)) .tables .objects) ⌝ }
+        × (now (objects .exit) ≡ performed start (lent (now (sessions .entry)) (now (streams .entry)) (now (objects .entry)) (now (held .entry))) (now (d .entry)) (now (sample .entry)) .tables .objects)
+        × (now (held .exit) ≡ performed start (lent (now (sessions .entry)) (now (streams .entry)) (now (objects .entry)) (now (held .entry))) (now (d .entry)) (now (sample .entry)) .tables .held) ⌝ }
 {
     let frame = start.frame;
     let id = frame.session_id;
     let stream = no_stream();
     let mut rows = [stream; 264];
     copy_streams(streams, &mut rows, id, 264);
-    let n = dry_sessions(sessions, streams, objects, d, sample, start);
+    let n = dry_sessions(sessions, streams, objects, held, d, sample, start);
     restore_streams(&rows, streams, id, 264);
     n
 }
 
-// And the objects': every lent store is left as it was.
-pub(crate) fn dry(
+// And the objects'.
+fn dry_objects(
     sessions: &mut [SessionRow],
     streams: &mut [StreamRow],
     objects: &mut [Object],
+    held: &mut [u8],
     d: &[u8],
     sample: &[u8],
     start: Start,
 ) -> usize
-    requires { ⌜ (resumesFit (start .resumes) (length (now sample)) ≡ true)
+    requires { ⌜ (resumesFit (start .resumes) (start .frame .«stream_id») (length (now sample)) ≡ true)
+        × (start .frame .room ≤ 9223372036854775807)
         × (256 ≤ length (now sessions))
         × (2048 ≤ length (now streams))
         × (8192 ≤ length (now objects)) ⌝ }
-    ensures { λ n. ⌜ (n ≡ performed start (lent (now (sessions .entry)) (now (streams .entry)) (now (objects .entry))) (now (d .entry)) (now (sample .entry)) .ran .wrote)
+    ensures { λ n. ⌜ (n ≡ performed start (lent (now (sessions .entry)) (now (streams .entry)) (now (objects .entry)) (now (held .entry))) (now (d .entry)) (now (sample .entry)) .ran .wrote)
         × (now (sessions .exit) ≡ now (sessions .entry))
         × (now (streams .exit) ≡ now (streams .entry))
-        × (now (objects .exit) ≡ now (objects .entry)) ⌝ }
+        × (now (objects .exit) ≡ now (objects .entry))
+        × (now (held .exit) ≡ performed start (lent (now (sessions .entry)) (now (streams .entry)) (now (objects .entry)) (now (held .entry))) (now (d .entry)) (now (sample .entry)) .tables .held) ⌝ }
 {
     let frame = start.frame;
     let id = frame.session_id;
@@ -232,7 +255,60 @@ pub(crate) fn dry(
     let o = Object::implicit(number, 0, 0);
     let mut records = [o; 32];
     copy_objects(objects, &mut records, first, 32);
-    let n = dry_streams(sessions, streams, objects, d, sample, start);
+    let n = dry_streams(sessions, streams, objects, held, d, sample, start);
     restore_objects(&records, objects, first, 32);
+    n
+}
+
+// The buffer of a stream, as it was.
+pub struct BufferCopy(pub [u8; 16384]);
+
+fn copy_buffer(held: &[u8], b: Stretch) -> BufferCopy
+    requires { ⌜ (b .start ≤ b .end) × (b .end ≤ length (now held)) × (b .end - b .start ≤ 16384) ⌝ }
+    ensures { λ r. ⌜ r ≡ bufferCopy (bufferIn (now (held .entry)) b) ⌝ }
+{
+    let start = b.start;
+    let end = b.end;
+    let mut bytes = [0u8; 16384];
+    put_bytes(&mut bytes, 0, &held[start..end]);
+    BufferCopy(bytes)
+}
+
+fn restore_buffer(held: &mut [u8], b: Stretch, copy: BufferCopy)
+    requires { ⌜ (b .start ≤ b .end) × (b .end - b .start ≤ 16384) × (length (copy .0) ≡ 16384) ⌝ }
+    ensures { λ _. ⌜ now (held .exit) ≡ putBytes (now (held .entry)) (b .start) (bufferBack copy (b .end - b .start)) ⌝ }
+{
+    let bytes = copy.0;
+    let n = b.end - b.start;
+    put_bytes(held, b.start, &bytes[..n]);
+}
+
+// And the buffer of the call's stream, which a DATA reply may have joined: every lent store is left as it was.
+pub(crate) fn dry(
+    sessions: &mut [SessionRow],
+    streams: &mut [StreamRow],
+    objects: &mut [Object],
+    held: &mut [u8],
+    d: &[u8],
+    sample: &[u8],
+    start: Start,
+) -> usize
+    requires { ⌜ (resumesFit (start .resumes) (start .frame .«stream_id») (length (now sample)) ≡ true)
+        × (start .frame .room ≤ 9223372036854775807)
+        × (256 ≤ length (now sessions))
+        × (2048 ≤ length (now streams))
+        × (8192 ≤ length (now objects)) ⌝ }
+    ensures { λ n. ⌜ (n ≡ performed start (lent (now (sessions .entry)) (now (streams .entry)) (now (objects .entry)) (now (held .entry))) (now (d .entry)) (now (sample .entry)) .ran .wrote)
+        × (now (sessions .exit) ≡ now (sessions .entry))
+        × (now (streams .exit) ≡ now (streams .entry))
+        × (now (objects .exit) ≡ now (objects .entry))
+        × (now (held .exit) ≡ now (held .entry)) ⌝ }
+{
+    let frame = start.frame;
+    let bytes = held.len();
+    let b = buffer_stretch(sessions, streams, bytes, frame.session_id, frame.stream_id);
+    let copy = copy_buffer(held, b);
+    let n = dry_objects(sessions, streams, objects, held, d, sample, start);
+    restore_buffer(held, b, copy);
     n
 }

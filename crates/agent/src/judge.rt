@@ -1,4 +1,4 @@
-// What refuses a call before it runs, in document 01's order: 15, 16, 1 to 5, 12.
+// What refuses a call before it runs, in document 01's order: 15, 16, 1 to 5, 12, 14.
 use crate::state::Agent;
 use crate::state::Pending;
 use crate::state::Waiting;
@@ -15,13 +15,15 @@ use moves::proxy::fits;
 use sessions::limits::Limits;
 use sessions::limits::within_limits;
 use sessions::objects::Object;
+use sessions::sending::data_slot;
 use sessions::stream_rows::StreamRow;
 use sessions::table::SessionRow;
+use streams::sent::Slot;
 ghost use mathlib.Core.Path.{_≡_};
-ghost use lib.ListN.{getD};
+ghost use lib.ListN.{getD, length};
 ghost use Rattle.sessions.specs.Limits.{limitsOf};
-ghost use Rattle.moves.specs.Rows.{lent};
-ghost use Rattle.agent.specs.Judge.{answersOf, idleTurn, busyTurn, turnOf, sessionOf, recordSound, soundOf, tooLong, datagramStart, answerStart, datagramJudged, restJudged, answerJudged, judgedBy, judgeOf, partsOf};
+ghost use Rattle.agent.specs.Lent.{lent};
+ghost use Rattle.agent.specs.Judge.{answersOf, idleTurn, busyTurn, turnOf, sessionOf, streamOf, recordSound, soundOf, tooLong, sampleSlot, answerSlot, slotOf, placedJudged, datagramStart, answerStart, datagramJudged, restJudged, answerJudged, judgedBy, judgeOf, partsOf};
 
 // A call of the host: a datagram with its time, or the bridge's answer.
 pub enum Input {
@@ -101,16 +103,27 @@ fn session_of(d: &[u8], t: Turn) -> u8
     ensures { λ r. ⌜ r ≡ sessionOf (now (d .entry)) t ⌝ }
 {
     match t {
-        Turn::Datagram(_) => first_byte(d),
+        Turn::Datagram(_) => byte_at(d, 0),
         Turn::Answer(p, _) => p.session_id,
         Turn::Refused(_) => 0,
     }
 }
 
-fn first_byte(d: &[u8]) -> u8
-    ensures { λ r. ⌜ r ≡ getD (now (d .entry)) 0 0 ⌝ }
+// And its stream.
+fn stream_of(d: &[u8], t: Turn) -> u8
+    ensures { λ r. ⌜ r ≡ streamOf (now (d .entry)) t ⌝ }
 {
-    if 0 < d.len() { d[0] } else { 0 }
+    match t {
+        Turn::Datagram(_) => byte_at(d, 1),
+        Turn::Answer(p, _) => p.stream_id,
+        Turn::Refused(_) => 0,
+    }
+}
+
+fn byte_at(d: &[u8], i: usize) -> u8
+    ensures { λ r. ⌜ r ≡ getD (now (d .entry)) i 0 ⌝ }
+{
+    if i < d.len() { d[i] } else { 0 }
 }
 
 // 16, of the record.
@@ -133,14 +146,15 @@ fn sound(a: Agent, limits: Limits) -> bool
     }
 }
 
-fn start_datagram(a: Agent, time: u64, header: MessageHeader) -> Start
-    ensures { λ r. ⌜ r ≡ datagramStart a time header ⌝ }
+fn start_datagram(a: Agent, time: u64, header: MessageHeader, room: usize) -> Start
+    ensures { λ r. ⌜ r ≡ datagramStart a time header room ⌝ }
 {
     let frame = Frame {
         max_clients: a.max_clients,
         time,
         session_id: header.session_id,
         stream_id: header.stream_id,
+        room,
     };
     Start {
         frame,
@@ -151,12 +165,12 @@ fn start_datagram(a: Agent, time: u64, header: MessageHeader) -> Start
 }
 
 // 1 to 5
-fn judge_datagram(d: &[u8], a: Agent, limits: Limits, time: u64) -> Judged
-    ensures { λ r. ⌜ r ≡ datagramJudged (now (d .entry)) a limits time ⌝ }
+fn judge_datagram(d: &[u8], a: Agent, limits: Limits, time: u64, room: usize) -> Judged
+    ensures { λ r. ⌜ r ≡ datagramJudged (now (d .entry)) a limits time room ⌝ }
 {
     if sound(a, limits) {
         match check(d) {
-            Checked::Message(header, n) => Judged::Goes(start_datagram(a, time, header), n),
+            Checked::Message(header, n) => Judged::Goes(start_datagram(a, time, header, room), n),
             Checked::Refused(x) => Judged::Refused(x),
         }
     } else {
@@ -164,14 +178,15 @@ fn judge_datagram(d: &[u8], a: Agent, limits: Limits, time: u64) -> Judged
     }
 }
 
-fn start_answer(a: Agent, p: Pending, told: BridgeAnswer) -> Start
-    ensures { λ r. ⌜ r ≡ answerStart a p told ⌝ }
+fn start_answer(a: Agent, p: Pending, told: BridgeAnswer, room: usize) -> Start
+    ensures { λ r. ⌜ r ≡ answerStart a p told room ⌝ }
 {
     let frame = Frame {
         max_clients: a.max_clients,
         time: p.time,
         session_id: p.session_id,
         stream_id: p.stream_id,
+        room,
     };
     let number = p.number;
     let task = p.task;
@@ -196,14 +211,81 @@ fn too_long(told: BridgeAnswer, sample: usize) -> bool
     }
 }
 
-fn judge_rest(a: Agent, p: Pending, told: BridgeAnswer, sample: usize, rest: Checked) -> Judged
-    ensures { λ r. ⌜ r ≡ restJudged a p told sample rest ⌝ }
+// 14: the DATA that would be held has over 1,024 bytes, ten of them before the sample, or finds no place (document 02, W5).
+fn sample_slot(
+    sessions: &[SessionRow],
+    streams: &[StreamRow],
+    held: &[u8],
+    p: Pending,
+    sample: usize,
+) -> Slot
+    ensures { λ r. ⌜ r ≡ sampleSlot p (now (sessions .entry)) (now (streams .entry)) (length (now (held .entry))) sample ⌝ }
+{
+    if p.stream_id == 0 {
+        return Slot::Nowhere;
+    }
+    if 1014 < sample {
+        return Slot::Refused(Refusal::StoreFull);
+    }
+    data_slot(
+        sessions,
+        streams,
+        held.len(),
+        p.session_id,
+        p.stream_id,
+        10 + sample,
+    )
+}
+
+fn answer_slot(
+    sessions: &[SessionRow],
+    streams: &[StreamRow],
+    held: &[u8],
+    p: Pending,
+    told: BridgeAnswer,
+    sample: usize,
+) -> Slot
+    ensures { λ r. ⌜ r ≡ answerSlot p told (now (sessions .entry)) (now (streams .entry)) (length (now (held .entry))) sample ⌝ }
+{
+    match told {
+        BridgeAnswer::Sample => sample_slot(sessions, streams, held, p, sample),
+        BridgeAnswer::Created(_) => Slot::Nowhere,
+        BridgeAnswer::Done => Slot::Nowhere,
+        BridgeAnswer::NoSample => Slot::Nowhere,
+        BridgeAnswer::Failed => Slot::Nowhere,
+    }
+}
+
+fn placed(slot: Slot, j: Judged) -> Judged
+    ensures { λ r. ⌜ r ≡ placedJudged slot j ⌝ }
+{
+    match slot {
+        Slot::At(_) => j,
+        Slot::Nowhere => j,
+        Slot::Refused(x) => Judged::Refused(x),
+    }
+}
+
+// 12, then 14: the place of a reply that would be held is looked for here, so that the answer isn't taken apart twice.
+fn judge_rest(
+    sessions: &[SessionRow],
+    streams: &[StreamRow],
+    held: &[u8],
+    a: Agent,
+    p: Pending,
+    told: BridgeAnswer,
+    sample: usize,
+    room: usize,
+    rest: Checked,
+) -> Judged
+    ensures { λ r. ⌜ r ≡ restJudged a p told sample (answerSlot p told (now (sessions .entry)) (now (streams .entry)) (length (now (held .entry))) sample) room rest ⌝ }
 {
     match rest {
         Checked::Message(_, n) => if too_long(told, sample) {
             Judged::Refused(Refusal::TooLong)
         } else {
-            Judged::Goes(start_answer(a, p, told), n)
+            let slot = answer_slot(sessions, streams, held, p, told, sample);
+            placed(slot, Judged::Goes(start_answer(a, p, told, room), n))
         },
         Checked::Refused(_) => Judged::Refused(Refusal::OverLimit),
     }
@@ -211,14 +293,18 @@ fn judge_rest(a: Agent, p: Pending, told: BridgeAnswer, sample: usize, rest: Che
 
 // The datagram lent again must read from the open call's place to its end, else 16.
 fn judge_answer(
+    sessions: &[SessionRow],
+    streams: &[StreamRow],
+    held: &[u8],
     d: &[u8],
     a: Agent,
     limits: Limits,
     p: Pending,
     told: BridgeAnswer,
     sample: usize,
+    room: usize,
 ) -> Judged
-    ensures { λ r. ⌜ r ≡ answerJudged (now (d .entry)) a limits p told sample ⌝ }
+    ensures { λ r. ⌜ r ≡ answerJudged (now (d .entry)) a limits p told sample (answerSlot p told (now (sessions .entry)) (now (streams .entry)) (length (now (held .entry))) sample) room ⌝ }
 {
     if sound(a, limits) {
         if d.len() < p.at {
@@ -230,18 +316,39 @@ fn judge_answer(
             sequence_nr: 0,
         };
         let rest = count_at(d, header, p.at);
-        judge_rest(a, p, told, sample, rest)
+        judge_rest(sessions, streams, held, a, p, told, sample, room, rest)
     } else {
         Judged::Refused(Refusal::OverLimit)
     }
 }
 
-fn judged_by(d: &[u8], a: Agent, limits: Limits, t: Turn, sample: usize) -> Judged
-    ensures { λ r. ⌜ r ≡ judgedBy (now (d .entry)) a limits t sample ⌝ }
+fn judged_by(
+    sessions: &[SessionRow],
+    streams: &[StreamRow],
+    held: &[u8],
+    d: &[u8],
+    a: Agent,
+    limits: Limits,
+    t: Turn,
+    sample: usize,
+    room: usize,
+) -> Judged
+    ensures { λ r. ⌜ r ≡ judgedBy (now (d .entry)) a limits t sample (slotOf t (now (sessions .entry)) (now (streams .entry)) (length (now (held .entry))) sample) room ⌝ }
 {
     match t {
-        Turn::Datagram(time) => judge_datagram(d, a, limits, time),
-        Turn::Answer(p, told) => judge_answer(d, a, limits, p, told, sample),
+        Turn::Datagram(time) => judge_datagram(d, a, limits, time, room),
+        Turn::Answer(p, told) => judge_answer(
+            sessions,
+            streams,
+            held,
+            d,
+            a,
+            limits,
+            p,
+            told,
+            sample,
+            room,
+        ),
         Turn::Refused(x) => Judged::Refused(x),
     }
 }
@@ -250,17 +357,21 @@ pub(crate) fn judge(
     sessions: &[SessionRow],
     streams: &[StreamRow],
     objects: &[Object],
+    held: &[u8],
     d: &[u8],
     a: Agent,
     input: Input,
     sample: usize,
+    room: usize,
 ) -> Judged
-    ensures { λ j. ⌜ j ≡ judgeOf (lent (now (sessions .entry)) (now (streams .entry)) (now (objects .entry))) (now (d .entry)) a input sample ⌝ }
+    ensures { λ j. ⌜ j ≡ judgeOf (lent (now (sessions .entry)) (now (streams .entry)) (now (objects .entry)) (now (held .entry))) (now (d .entry)) a input sample room ⌝ }
 {
     let turn = whose_turn(a, input);
     let id = session_of(d, turn);
-    let limits = within_limits(sessions, streams, objects, id);
-    judged_by(d, a, limits, turn, sample)
+    let n = stream_of(d, turn);
+    let bytes = held.len();
+    let limits = within_limits(sessions, streams, objects, bytes, a.max_clients, id, n);
+    judged_by(sessions, streams, held, d, a, limits, turn, sample, room)
 }
 
 // What was judged, taken apart: whether the call goes on, where it starts, how many submessages there are to run, and why
@@ -290,6 +401,7 @@ pub(crate) fn parts_of(j: Judged) -> Parts
                     time: 0,
                     session_id: 0,
                     stream_id: 0,
+                    room: 0,
                 },
                 next: 0,
                 at: 0,

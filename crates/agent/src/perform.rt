@@ -9,8 +9,9 @@ use sessions::stream_rows::StreamRow;
 use sessions::table::SessionRow;
 ghost use mathlib.Core.Path.{_≡_};
 ghost use mathlib.Core.Bool.{true};
+ghost use Prim.Native.Nat.{_≤_};
 ghost use lib.ListN.{length};
-ghost use Rattle.moves.specs.Rows.{lent};
+ghost use Rattle.agent.specs.Lent.{lent};
 ghost use Rattle.agent.specs.Run.{putReplies};
 ghost use Rattle.agent.specs.Host.{resumesFit, performed, firstRan};
 
@@ -29,21 +30,33 @@ pub(crate) fn perform(
     sessions: &mut [SessionRow],
     streams: &mut [StreamRow],
     objects: &mut [Object],
+    held: &mut [u8],
     out: &mut [u8],
     d: &[u8],
     sample: &[u8],
     start: Start,
 ) -> Ran
-    requires { ⌜ resumesFit (start .resumes) (length (now sample)) ≡ true ⌝ }
-    ensures { λ x. ⌜ (x ≡ performed start (lent (now (sessions .entry)) (now (streams .entry)) (now (objects .entry))) (now (d .entry)) (now (sample .entry)) .ran)
-        × (now (sessions .exit) ≡ performed start (lent (now (sessions .entry)) (now (streams .entry)) (now (objects .entry))) (now (d .entry)) (now (sample .entry)) .tables .sessions)
-        × (now (streams .exit) ≡ performed start (lent (now (sessions .entry)) (now (streams .entry)) (now (objects .entry))) (now (d .entry)) (now (sample .entry)) .tables .streams)
-        × (now (objects .exit) ≡ performed start (lent (now (sessions .entry)) (now (streams .entry)) (now (objects .entry))) (now (d .entry)) (now (sample .entry)) .tables .objects)
-        × (now (out .exit) ≡ putReplies (now (out .entry)) 0 (performed start (lent (now (sessions .entry)) (now (streams .entry)) (now (objects .entry))) (now (d .entry)) (now (sample .entry)) .replies)) ⌝ }
+    requires { ⌜ (resumesFit (start .resumes) (start .frame .«stream_id») (length (now sample)) ≡ true)
+        × (start .frame .room ≤ 9223372036854775807) ⌝ }
+    ensures { λ x. ⌜ (x ≡ performed start (lent (now (sessions .entry)) (now (streams .entry)) (now (objects .entry)) (now (held .entry))) (now (d .entry)) (now (sample .entry)) .ran)
+        × (now (sessions .exit) ≡ performed start (lent (now (sessions .entry)) (now (streams .entry)) (now (objects .entry)) (now (held .entry))) (now (d .entry)) (now (sample .entry)) .tables .sessions)
+        × (now (streams .exit) ≡ performed start (lent (now (sessions .entry)) (now (streams .entry)) (now (objects .entry)) (now (held .entry))) (now (d .entry)) (now (sample .entry)) .tables .streams)
+        × (now (objects .exit) ≡ performed start (lent (now (sessions .entry)) (now (streams .entry)) (now (objects .entry)) (now (held .entry))) (now (d .entry)) (now (sample .entry)) .tables .objects)
+        × (now (held .exit) ≡ performed start (lent (now (sessions .entry)) (now (streams .entry)) (now (objects .entry)) (now (held .entry))) (now (d .entry)) (now (sample .entry)) .tables .held)
+        × (now (out .exit) ≡ putReplies (start .frame .room) (now (out .entry)) 0 (performed start (lent (now (sessions .entry)) (now (streams .entry)) (now (objects .entry)) (now (held .entry))) (now (d .entry)) (now (sample .entry)) .replies)) ⌝ }
 {
     let frame = start.frame;
     let resumes = start.resumes;
-    let wrote = begin(sessions, objects, out, sample, frame, resumes);
+    let wrote = begin(
+        sessions,
+        streams,
+        objects,
+        held,
+        out,
+        sample,
+        frame,
+        resumes,
+    );
     let first = first_ran(start, wrote);
-    run(sessions, streams, objects, out, d, frame, first)
+    run(sessions, streams, objects, held, out, d, frame, first)
 }

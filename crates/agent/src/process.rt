@@ -19,11 +19,12 @@ use sessions::stream_rows::StreamRow;
 use sessions::table::SessionRow;
 ghost use mathlib.Core.Path.{_≡_};
 ghost use mathlib.Core.Bool.{true};
-ghost use Prim.Native.Nat.{_≤_};
+ghost use Prim.Native.Nat.{_+_, _-_, _≤_};
 ghost use lib.Dec.{ltb};
 ghost use lib.ListN.{length};
-ghost use Rattle.moves.specs.Rows.{lent};
-ghost use Rattle.agent.specs.Host.{outcomeOf, waitsOf, finishedOf, refusedOf, answerMost, firstMost, roomy, neededOf, resumesFit, performed, finish, processOf};
+ghost use Rattle.codec.specs.Bytes.{wordAt};
+ghost use Rattle.agent.specs.Lent.{lent};
+ghost use Rattle.agent.specs.Host.{outcomeOf, waitsOf, finishedOf, refusedOf, answerMost, firstMost, roomy, asksAgain, acknacksIn, asksIn, neededOf, resumesFit, performed, finish, processOf};
 
 // The bytes replied, at the start of the output; the same with a call handed out; or why not.
 pub enum Outcome {
@@ -92,16 +93,68 @@ fn finished(agent: Agent, s: Start, ran: Ran) -> Processed
     }
 }
 
-// Whether the output is long enough whatever the submessages say.
-fn is_roomy(room: usize, s: Start, n: usize, sample: usize) -> bool
-    ensures { λ r. ⌜ r ≡ roomy room (s .resumes) n sample ⌝ }
+// Whether the output is long enough whatever the submessages say. ACKNACKs are counted only where it isn't for as many as
+// there are submessages.
+fn is_roomy(room: usize, d: &[u8], s: Start, n: usize, sample: usize) -> bool
+    ensures { λ r. ⌜ r ≡ roomy room s n (now (d .entry)) sample ⌝ }
 {
     let resumes = s.resumes;
     let first = first_most(resumes, sample);
     if room < first {
         return false;
     }
-    n <= (room - first) / 12
+    let left = room - first;
+    if left / 12 < n {
+        return false;
+    }
+    let most = (left - 12 * n) / 16384;
+    if n <= most {
+        return true;
+    }
+    asks_in(d, s) <= most
+}
+
+// ACKNACK's id is 0x0E.
+fn asks_again(id: u8) -> usize
+    ensures { λ r. ⌜ (r ≡ asksAgain id) × (r ≤ 1) ⌝ }
+{
+    if id == 14 { 1 } else { 0 }
+}
+
+// "Submessage: id, flags (a byte each), length (2), payload": the length of the one at a place.
+fn payload_length(d: &[u8], at: usize) -> usize
+    requires { ⌜ at + 4 ≤ length (now d) ⌝ }
+    ensures { λ r. ⌜ (r ≡ wordAt (now (d .entry)) (at + 2)) × (r ≤ 65535) ⌝ }
+{
+    (d[at + 2] as usize) + 256 * (d[at + 3] as usize)
+}
+
+// How many ACKNACKs there are from a place of the datagram on, by the headers alone: the datagram was checked before.
+fn acknacks(d: &[u8], from: usize) -> usize
+    ensures { λ r. ⌜ r ≡ acknacksIn (length (now (d .entry)) - from) (now (d .entry)) from ⌝ }
+{
+    let len = d.len();
+    let mut at = from;
+    let mut n: usize = 0;
+    while at < len {
+        if len - at < 4 {
+            return n;
+        }
+        n += asks_again(d[at]);
+        at = at + 4 + payload_length(d, at);
+    }
+    n
+}
+
+// Those that may be answered by held messages: stream 0 holds none.
+fn asks_in(d: &[u8], s: Start) -> usize
+    ensures { λ r. ⌜ r ≡ asksIn s (now (d .entry)) ⌝ }
+{
+    let frame = s.frame;
+    if frame.stream_id == 0 {
+        return 0;
+    }
+    acknacks(d, s.at)
 }
 
 fn first_most(resumes: Resumes, sample: usize) -> usize
@@ -129,27 +182,30 @@ fn needed(
     sessions: &mut [SessionRow],
     streams: &mut [StreamRow],
     objects: &mut [Object],
+    held: &mut [u8],
     d: &[u8],
     sample: &[u8],
     start: Start,
     n: usize,
     room: usize,
 ) -> usize
-    requires { ⌜ (resumesFit (start .resumes) (length (now sample)) ≡ true)
+    requires { ⌜ (resumesFit (start .resumes) (start .frame .«stream_id») (length (now sample)) ≡ true)
+        × (start .frame .room ≤ 9223372036854775807)
         × (256 ≤ length (now sessions))
         × (2048 ≤ length (now streams))
         × (8192 ≤ length (now objects)) ⌝ }
-    ensures { λ k. ⌜ (k ≡ neededOf (roomy room (start .resumes) n (length (now (sample .entry)))) (performed start (lent (now (sessions .entry)) (now (streams .entry)) (now (objects .entry))) (now (d .entry)) (now (sample .entry)) .ran .wrote))
+    ensures { λ k. ⌜ (k ≡ neededOf (roomy room start n (now (d .entry)) (length (now (sample .entry)))) (performed start (lent (now (sessions .entry)) (now (streams .entry)) (now (objects .entry)) (now (held .entry))) (now (d .entry)) (now (sample .entry)) .ran .wrote))
         × (now (sessions .exit) ≡ now (sessions .entry))
         × (now (streams .exit) ≡ now (streams .entry))
-        × (now (objects .exit) ≡ now (objects .entry)) ⌝ }
+        × (now (objects .exit) ≡ now (objects .entry))
+        × (now (held .exit) ≡ now (held .entry)) ⌝ }
 {
     let long = sample.len();
-    let ok = is_roomy(room, start, n, long);
+    let ok = is_roomy(room, d, start, n, long);
     if ok {
         0
     } else {
-        dry(sessions, streams, objects, d, sample, start)
+        dry(sessions, streams, objects, held, d, sample, start)
     }
 }
 
@@ -158,6 +214,7 @@ fn go(
     sessions: &mut [SessionRow],
     streams: &mut [StreamRow],
     objects: &mut [Object],
+    held: &mut [u8],
     out: &mut [u8],
     d: &[u8],
     sample: &[u8],
@@ -165,24 +222,26 @@ fn go(
     start: Start,
     n: usize,
 ) -> Processed
-    requires { ⌜ (resumesFit (start .resumes) (length (now sample)) ≡ true)
-        × (ltb (length (now out)) (neededOf (roomy (length (now out)) (start .resumes) n (length (now sample))) (performed start (lent (now sessions) (now streams) (now objects)) (now d) (now sample) .ran .wrote))
-        ≡ ltb (length (now out)) (performed start (lent (now sessions) (now streams) (now objects)) (now d) (now sample) .ran .wrote))
+    requires { ⌜ (resumesFit (start .resumes) (start .frame .«stream_id») (length (now sample)) ≡ true)
+        × (start .frame .room ≡ length (now out))
+        × (ltb (length (now out)) (neededOf (roomy (length (now out)) start n (now d) (length (now sample))) (performed start (lent (now sessions) (now streams) (now objects) (now held)) (now d) (now sample) .ran .wrote))
+        ≡ ltb (length (now out)) (performed start (lent (now sessions) (now streams) (now objects) (now held)) (now d) (now sample) .ran .wrote))
         × (256 ≤ length (now sessions))
         × (2048 ≤ length (now streams))
         × (8192 ≤ length (now objects)) ⌝ }
-    ensures { λ p. ⌜ (p ≡ finish agent (lent (now (sessions .entry)) (now (streams .entry)) (now (objects .entry))) (now (out .entry)) start (performed start (lent (now (sessions .entry)) (now (streams .entry)) (now (objects .entry))) (now (d .entry)) (now (sample .entry))) .processed)
-        × (now (sessions .exit) ≡ finish agent (lent (now (sessions .entry)) (now (streams .entry)) (now (objects .entry))) (now (out .entry)) start (performed start (lent (now (sessions .entry)) (now (streams .entry)) (now (objects .entry))) (now (d .entry)) (now (sample .entry))) .tables .sessions)
-        × (now (streams .exit) ≡ finish agent (lent (now (sessions .entry)) (now (streams .entry)) (now (objects .entry))) (now (out .entry)) start (performed start (lent (now (sessions .entry)) (now (streams .entry)) (now (objects .entry))) (now (d .entry)) (now (sample .entry))) .tables .streams)
-        × (now (objects .exit) ≡ finish agent (lent (now (sessions .entry)) (now (streams .entry)) (now (objects .entry))) (now (out .entry)) start (performed start (lent (now (sessions .entry)) (now (streams .entry)) (now (objects .entry))) (now (d .entry)) (now (sample .entry))) .tables .objects)
-        × (now (out .exit) ≡ finish agent (lent (now (sessions .entry)) (now (streams .entry)) (now (objects .entry))) (now (out .entry)) start (performed start (lent (now (sessions .entry)) (now (streams .entry)) (now (objects .entry))) (now (d .entry)) (now (sample .entry))) .out) ⌝ }
+    ensures { λ p. ⌜ (p ≡ finish agent (lent (now (sessions .entry)) (now (streams .entry)) (now (objects .entry)) (now (held .entry))) (now (out .entry)) start (performed start (lent (now (sessions .entry)) (now (streams .entry)) (now (objects .entry)) (now (held .entry))) (now (d .entry)) (now (sample .entry))) .processed)
+        × (now (sessions .exit) ≡ finish agent (lent (now (sessions .entry)) (now (streams .entry)) (now (objects .entry)) (now (held .entry))) (now (out .entry)) start (performed start (lent (now (sessions .entry)) (now (streams .entry)) (now (objects .entry)) (now (held .entry))) (now (d .entry)) (now (sample .entry))) .tables .sessions)
+        × (now (streams .exit) ≡ finish agent (lent (now (sessions .entry)) (now (streams .entry)) (now (objects .entry)) (now (held .entry))) (now (out .entry)) start (performed start (lent (now (sessions .entry)) (now (streams .entry)) (now (objects .entry)) (now (held .entry))) (now (d .entry)) (now (sample .entry))) .tables .streams)
+        × (now (objects .exit) ≡ finish agent (lent (now (sessions .entry)) (now (streams .entry)) (now (objects .entry)) (now (held .entry))) (now (out .entry)) start (performed start (lent (now (sessions .entry)) (now (streams .entry)) (now (objects .entry)) (now (held .entry))) (now (d .entry)) (now (sample .entry))) .tables .objects)
+        × (now (held .exit) ≡ finish agent (lent (now (sessions .entry)) (now (streams .entry)) (now (objects .entry)) (now (held .entry))) (now (out .entry)) start (performed start (lent (now (sessions .entry)) (now (streams .entry)) (now (objects .entry)) (now (held .entry))) (now (d .entry)) (now (sample .entry))) .tables .held)
+        × (now (out .exit) ≡ finish agent (lent (now (sessions .entry)) (now (streams .entry)) (now (objects .entry)) (now (held .entry))) (now (out .entry)) start (performed start (lent (now (sessions .entry)) (now (streams .entry)) (now (objects .entry)) (now (held .entry))) (now (d .entry)) (now (sample .entry))) .out) ⌝ }
 {
     let room = out.len();
-    let need = needed(sessions, streams, objects, d, sample, start, n, room);
+    let need = needed(sessions, streams, objects, held, d, sample, start, n, room);
     if room < need {
         refused(agent, Refusal::OutputTooShort)
     } else {
-        let ran = perform(sessions, streams, objects, out, d, sample, start);
+        let ran = perform(sessions, streams, objects, held, out, d, sample, start);
         finished(agent, start, ran)
     }
 }
@@ -191,25 +250,49 @@ pub fn process(
     sessions: &mut [SessionRow],
     streams: &mut [StreamRow],
     objects: &mut [Object],
+    held: &mut [u8],
     out: &mut [u8],
     d: &[u8],
     sample: &[u8],
     agent: Agent,
     input: Input,
 ) -> Processed
-    ensures { λ p. ⌜ (p ≡ processOf agent (lent (now (sessions .entry)) (now (streams .entry)) (now (objects .entry))) (now (out .entry)) (now (d .entry)) (now (sample .entry)) input .processed)
-        × (now (sessions .exit) ≡ processOf agent (lent (now (sessions .entry)) (now (streams .entry)) (now (objects .entry))) (now (out .entry)) (now (d .entry)) (now (sample .entry)) input .tables .sessions)
-        × (now (streams .exit) ≡ processOf agent (lent (now (sessions .entry)) (now (streams .entry)) (now (objects .entry))) (now (out .entry)) (now (d .entry)) (now (sample .entry)) input .tables .streams)
-        × (now (objects .exit) ≡ processOf agent (lent (now (sessions .entry)) (now (streams .entry)) (now (objects .entry))) (now (out .entry)) (now (d .entry)) (now (sample .entry)) input .tables .objects)
-        × (now (out .exit) ≡ processOf agent (lent (now (sessions .entry)) (now (streams .entry)) (now (objects .entry))) (now (out .entry)) (now (d .entry)) (now (sample .entry)) input .out) ⌝ }
+    ensures { λ p. ⌜ (p ≡ processOf agent (lent (now (sessions .entry)) (now (streams .entry)) (now (objects .entry)) (now (held .entry))) (now (out .entry)) (now (d .entry)) (now (sample .entry)) input .processed)
+        × (now (sessions .exit) ≡ processOf agent (lent (now (sessions .entry)) (now (streams .entry)) (now (objects .entry)) (now (held .entry))) (now (out .entry)) (now (d .entry)) (now (sample .entry)) input .tables .sessions)
+        × (now (streams .exit) ≡ processOf agent (lent (now (sessions .entry)) (now (streams .entry)) (now (objects .entry)) (now (held .entry))) (now (out .entry)) (now (d .entry)) (now (sample .entry)) input .tables .streams)
+        × (now (objects .exit) ≡ processOf agent (lent (now (sessions .entry)) (now (streams .entry)) (now (objects .entry)) (now (held .entry))) (now (out .entry)) (now (d .entry)) (now (sample .entry)) input .tables .objects)
+        × (now (held .exit) ≡ processOf agent (lent (now (sessions .entry)) (now (streams .entry)) (now (objects .entry)) (now (held .entry))) (now (out .entry)) (now (d .entry)) (now (sample .entry)) input .tables .held)
+        × (now (out .exit) ≡ processOf agent (lent (now (sessions .entry)) (now (streams .entry)) (now (objects .entry)) (now (held .entry))) (now (out .entry)) (now (d .entry)) (now (sample .entry)) input .out) ⌝ }
 {
     let long = sample.len();
-    let j = judge(sessions, streams, objects, d, agent, input, long);
+    let room = out.len();
+    let j = judge(
+        sessions,
+        streams,
+        objects,
+        held,
+        d,
+        agent,
+        input,
+        long,
+        room,
+    );
     let x = parts_of(j);
     if x.goes {
         let start = x.start;
         let n = x.count;
-        go(sessions, streams, objects, out, d, sample, agent, start, n)
+        go(
+            sessions,
+            streams,
+            objects,
+            held,
+            out,
+            d,
+            sample,
+            agent,
+            start,
+            n,
+        )
     } else {
         let why = x.why;
         refused(agent, why)

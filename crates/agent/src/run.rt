@@ -8,7 +8,7 @@ use sessions::stream_rows::StreamRow;
 use sessions::table::SessionRow;
 ghost use mathlib.Core.Path.{_≡_};
 ghost use Prim.Native.Nat.{_≤_};
-ghost use Rattle.moves.specs.Rows.{lent};
+ghost use Rattle.agent.specs.Lent.{lent};
 ghost use Rattle.agent.specs.Run.{putReplies, isCall, goesOn, runAt};
 
 fn is_call(s: Stop) -> bool
@@ -30,27 +30,27 @@ fn goes_on(len: usize, r: Ran) -> bool
     r.at < len
 }
 
-// A reply has at most eleven bytes for six of its submessage, so that their count never wraps.
 pub(crate) fn run(
     sessions: &mut [SessionRow],
     streams: &mut [StreamRow],
     objects: &mut [Object],
+    held: &[u8],
     out: &mut [u8],
     d: &[u8],
     f: Frame,
     start: Ran,
 ) -> Ran
-    requires { ⌜ start .wrote ≤ 65543 ⌝ }
-    ensures { λ x. ⌜ (x ≡ runAt f (now (d .entry)) start (lent (now (sessions .entry)) (now (streams .entry)) (now (objects .entry))) .ran)
-        × (now (sessions .exit) ≡ runAt f (now (d .entry)) start (lent (now (sessions .entry)) (now (streams .entry)) (now (objects .entry))) .tables .sessions)
-        × (now (streams .exit) ≡ runAt f (now (d .entry)) start (lent (now (sessions .entry)) (now (streams .entry)) (now (objects .entry))) .tables .streams)
-        × (now (objects .exit) ≡ runAt f (now (d .entry)) start (lent (now (sessions .entry)) (now (streams .entry)) (now (objects .entry))) .tables .objects)
-        × (now (out .exit) ≡ putReplies (now (out .entry)) (start .wrote) (runAt f (now (d .entry)) start (lent (now (sessions .entry)) (now (streams .entry)) (now (objects .entry))) .replies)) ⌝ }
+    requires { ⌜ f .room ≤ 9223372036854775807 ⌝ }
+    ensures { λ x. ⌜ (x ≡ runAt f (now (d .entry)) start (lent (now (sessions .entry)) (now (streams .entry)) (now (objects .entry)) (now (held .entry))) .ran)
+        × (now (sessions .exit) ≡ runAt f (now (d .entry)) start (lent (now (sessions .entry)) (now (streams .entry)) (now (objects .entry)) (now (held .entry))) .tables .sessions)
+        × (now (streams .exit) ≡ runAt f (now (d .entry)) start (lent (now (sessions .entry)) (now (streams .entry)) (now (objects .entry)) (now (held .entry))) .tables .streams)
+        × (now (objects .exit) ≡ runAt f (now (d .entry)) start (lent (now (sessions .entry)) (now (streams .entry)) (now (objects .entry)) (now (held .entry))) .tables .objects)
+        × (now (out .exit) ≡ putReplies (f .room) (now (out .entry)) (start .wrote) (runAt f (now (d .entry)) start (lent (now (sessions .entry)) (now (streams .entry)) (now (objects .entry)) (now (held .entry))) .replies)) ⌝ }
 {
     let len = d.len();
     let mut r = start;
     while goes_on(len, r) {
-        r = turn(sessions, streams, objects, out, d, f, r);
+        r = turn(sessions, streams, objects, held, out, d, f, r);
     }
     r
 }

@@ -1,7 +1,8 @@
 // One submessage of a datagram: read, opened or touched, handled, replied to.
-use crate::clients::greeting;
 use crate::clients::pointer;
-use crate::replies::reply;
+use crate::clients::put_greeting;
+use crate::repeats::answer;
+use crate::replies::count;
 use codec::layouts::Cursor;
 use codec::layouts::Parsed;
 use codec::layouts::Span;
@@ -26,16 +27,16 @@ ghost use Prim.Native.Nat.{_≤_};
 ghost use Rattle.codec.specs.Bytes.{putBytes};
 ghost use Rattle.sessions.specs.Table.{namedOf};
 ghost use Rattle.sessions.specs.Opening.{createdOf, openedRows, openedStreams};
-ghost use Rattle.moves.specs.Moves.{moveBytes};
-ghost use Rattle.moves.specs.Rows.{lent};
+ghost use Rattle.agent.specs.Lent.{lent};
 ghost use Rattle.agent.specs.Run.{putReplies, settled, stopOf, greetingBytes, greeted, passed, isLive, delivered, takenOf, turned};
 
-// What a datagram's submessages have in common: the limit, the time, and the header's session and stream.
+// What a datagram's submessages have in common: the limit, the time, the header's session and stream, and the output's room.
 pub(crate) struct Frame {
     pub max_clients: usize,
     pub time: u64,
     pub session_id: u8,
     pub stream_id: u8,
+    pub room: usize,
 }
 
 pub(crate) enum Stop {
@@ -59,22 +60,20 @@ fn stop_of(m: Move) -> Stop
         Move::Greets(_, _) => Stop::Nothing,
         Move::Status(_, _) => Stop::Nothing,
         Move::Acknack(_) => Stop::Nothing,
+        Move::Repeats(_) => Stop::Nothing,
         Move::Silent => Stop::Nothing,
     }
 }
 
-// Replies, and goes on behind the submessage.
-fn settle(out: &mut [u8], f: Frame, next: u8, wrote: usize, m: Move, at: usize) -> Ran
-    requires { ⌜ wrote ≤ 18446744073709551600 ⌝ }
-    ensures { λ r. ⌜ (r ≡ settled f next wrote m at)
-        × (now (out .exit) ≡ putBytes (now (out .entry)) wrote (moveBytes (f .«session_id») (f .«stream_id») m)) ⌝ }
+// On behind the submessage.
+fn settle(next: u8, at: usize, wrote: usize, m: Move) -> Ran
+    ensures { λ r. ⌜ r ≡ settled next at wrote m ⌝ }
 {
-    let w = reply(out, wrote, f.session_id, f.stream_id, m);
     let stop = stop_of(m);
     Ran {
         next,
         at,
-        wrote: w,
+        wrote,
         stop,
     }
 }
@@ -89,15 +88,21 @@ fn greet(
     key: u32,
     at: usize,
 ) -> Ran
-    requires { ⌜ r .wrote ≤ 18446744073709551600 ⌝ }
-    ensures { λ x. ⌜ (x ≡ greeted f r key at (createdOf (now (sessions .entry)) (now (streams .entry)) (f .«max_clients») (r .next)))
+    requires { ⌜ f .room ≤ 9223372036854775807 ⌝ }
+    ensures { λ x. ⌜ (x ≡ greeted f r at (createdOf (now (sessions .entry)) (now (streams .entry)) (f .«max_clients») (r .next)))
         × (now (sessions .exit) ≡ openedRows (createdOf (now (sessions .entry)) (now (streams .entry)) (f .«max_clients») (r .next)) (now (sessions .entry)) key (f .time))
         × (now (streams .exit) ≡ openedStreams (createdOf (now (sessions .entry)) (now (streams .entry)) (f .«max_clients») (r .next)) (now (streams .entry)))
         × (now (out .exit) ≡ putBytes (now (out .entry)) (r .wrote) (greetingBytes (createdOf (now (sessions .entry)) (now (streams .entry)) (f .«max_clients») (r .next)))) ⌝ }
 {
     let c = create_session(sessions, streams, f.max_clients, r.next, key, f.time);
-    let m = greeting(c);
-    settle(out, f, pointer(c, r.next), r.wrote, m, at)
+    put_greeting(out, r.wrote, c);
+    let wrote = count(f.room, r.wrote, 11);
+    Ran {
+        next: pointer(c, r.next),
+        at,
+        wrote,
+        stop: Stop::Nothing,
+    }
 }
 
 // "No such session: no reply."
@@ -153,25 +158,27 @@ fn deliver(
     sessions: &mut [SessionRow],
     streams: &mut [StreamRow],
     objects: &mut [Object],
+    held: &[u8],
     out: &mut [u8],
     d: &[u8],
     f: Frame,
     r: Ran,
     took: Taken,
 ) -> Ran
-    requires { ⌜ r .wrote ≤ 18446744073709551600 ⌝ }
-    ensures { λ x. ⌜ (x ≡ delivered (namedOf (now (sessions .entry)) (f .«session_id»)) f (lent (now (sessions .entry)) (now (streams .entry)) (now (objects .entry))) (now (d .entry)) r took .ran)
-        × (now (sessions .exit) ≡ delivered (namedOf (now (sessions .entry)) (f .«session_id»)) f (lent (now (sessions .entry)) (now (streams .entry)) (now (objects .entry))) (now (d .entry)) r took .tables .sessions)
-        × (now (streams .exit) ≡ delivered (namedOf (now (sessions .entry)) (f .«session_id»)) f (lent (now (sessions .entry)) (now (streams .entry)) (now (objects .entry))) (now (d .entry)) r took .tables .streams)
-        × (now (objects .exit) ≡ delivered (namedOf (now (sessions .entry)) (f .«session_id»)) f (lent (now (sessions .entry)) (now (streams .entry)) (now (objects .entry))) (now (d .entry)) r took .tables .objects)
-        × (now (out .exit) ≡ putReplies (now (out .entry)) (r .wrote) (delivered (namedOf (now (sessions .entry)) (f .«session_id»)) f (lent (now (sessions .entry)) (now (streams .entry)) (now (objects .entry))) (now (d .entry)) r took .replies)) ⌝ }
+    requires { ⌜ f .room ≤ 9223372036854775807 ⌝ }
+    ensures { λ x. ⌜ (x ≡ delivered (namedOf (now (sessions .entry)) (f .«session_id»)) f (lent (now (sessions .entry)) (now (streams .entry)) (now (objects .entry)) (now (held .entry))) (now (d .entry)) r took .ran)
+        × (now (sessions .exit) ≡ delivered (namedOf (now (sessions .entry)) (f .«session_id»)) f (lent (now (sessions .entry)) (now (streams .entry)) (now (objects .entry)) (now (held .entry))) (now (d .entry)) r took .tables .sessions)
+        × (now (streams .exit) ≡ delivered (namedOf (now (sessions .entry)) (f .«session_id»)) f (lent (now (sessions .entry)) (now (streams .entry)) (now (objects .entry)) (now (held .entry))) (now (d .entry)) r took .tables .streams)
+        × (now (objects .exit) ≡ delivered (namedOf (now (sessions .entry)) (f .«session_id»)) f (lent (now (sessions .entry)) (now (streams .entry)) (now (objects .entry)) (now (held .entry))) (now (d .entry)) r took .tables .objects)
+        × (now (out .exit) ≡ putReplies (f .room) (now (out .entry)) (r .wrote) (delivered (namedOf (now (sessions .entry)) (f .«session_id»)) f (lent (now (sessions .entry)) (now (streams .entry)) (now (objects .entry)) (now (held .entry))) (now (d .entry)) r took .replies)) ⌝ }
 {
     let id = f.session_id;
     let n = f.stream_id;
     let named = touch(sessions, id, f.time);
     if is_live(named) {
         let v = handle(sessions, streams, objects, d, id, n, took.asked, took.body);
-        settle(out, f, r.next, r.wrote, v, took.at)
+        let w = answer(sessions, streams, held, out, f, r.wrote, v);
+        settle(r.next, took.at, w, v)
     } else {
         passed(r, took.at)
     }
@@ -182,17 +189,18 @@ pub(crate) fn turn(
     sessions: &mut [SessionRow],
     streams: &mut [StreamRow],
     objects: &mut [Object],
+    held: &[u8],
     out: &mut [u8],
     d: &[u8],
     f: Frame,
     r: Ran,
 ) -> Ran
-    requires { ⌜ r .wrote ≤ 18446744073709551600 ⌝ }
-    ensures { λ x. ⌜ (x ≡ turned f (lent (now (sessions .entry)) (now (streams .entry)) (now (objects .entry))) (now (d .entry)) r .ran)
-        × (now (sessions .exit) ≡ turned f (lent (now (sessions .entry)) (now (streams .entry)) (now (objects .entry))) (now (d .entry)) r .tables .sessions)
-        × (now (streams .exit) ≡ turned f (lent (now (sessions .entry)) (now (streams .entry)) (now (objects .entry))) (now (d .entry)) r .tables .streams)
-        × (now (objects .exit) ≡ turned f (lent (now (sessions .entry)) (now (streams .entry)) (now (objects .entry))) (now (d .entry)) r .tables .objects)
-        × (now (out .exit) ≡ putReplies (now (out .entry)) (r .wrote) (turned f (lent (now (sessions .entry)) (now (streams .entry)) (now (objects .entry))) (now (d .entry)) r .replies)) ⌝ }
+    requires { ⌜ f .room ≤ 9223372036854775807 ⌝ }
+    ensures { λ x. ⌜ (x ≡ turned f (lent (now (sessions .entry)) (now (streams .entry)) (now (objects .entry)) (now (held .entry))) (now (d .entry)) r .ran)
+        × (now (sessions .exit) ≡ turned f (lent (now (sessions .entry)) (now (streams .entry)) (now (objects .entry)) (now (held .entry))) (now (d .entry)) r .tables .sessions)
+        × (now (streams .exit) ≡ turned f (lent (now (sessions .entry)) (now (streams .entry)) (now (objects .entry)) (now (held .entry))) (now (d .entry)) r .tables .streams)
+        × (now (objects .exit) ≡ turned f (lent (now (sessions .entry)) (now (streams .entry)) (now (objects .entry)) (now (held .entry))) (now (d .entry)) r .tables .objects)
+        × (now (out .exit) ≡ putReplies (f .room) (now (out .entry)) (r .wrote) (turned f (lent (now (sessions .entry)) (now (streams .entry)) (now (objects .entry)) (now (held .entry))) (now (d .entry)) r .replies)) ⌝ }
 {
     let c = Cursor { at: r.at };
     let p = read(d, c);
@@ -201,7 +209,7 @@ pub(crate) fn turn(
     let o = q.opening;
     match o {
         Opening::Client => greet(sessions, streams, out, f, r, q.key, x.at),
-        Opening::Other => deliver(sessions, streams, objects, out, d, f, r, x),
+        Opening::Other => deliver(sessions, streams, objects, held, out, d, f, r, x),
         Opening::Unread => passed(r, x.at),
     }
 }

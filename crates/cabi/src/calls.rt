@@ -27,12 +27,12 @@ use sessions::objects::Object;
 ghost use mathlib.Core.Path.{_≡_};
 ghost use Rattle.sessions.specs.Need.{neededFor};
 ghost use Rattle.sessions.specs.ObjectList.{listOf, listOut};
-ghost use Rattle.moves.specs.Rows.{lent};
+ghost use Rattle.agent.specs.Lent.{lent};
 ghost use Rattle.cabi.specs.Answers.{outcomeAs, listedAs, neededAs};
 ghost use Rattle.cabi.specs.Record.{recordsAfter};
 ghost use Rattle.cabi.specs.Calls.{readyAs, readyRecords, processLeft, setUpLeft, removeAnswer, removeRows, sweepAnswer, sweepRows, sweepOut};
 
-// The documented need for `max_clients`, all tables together.
+// The documented need for `max_clients`, all tables and the store of held messages together.
 #[no_mangle]
 pub extern "C" fn xrce_need(max_clients: u64) -> u64
     ensures { λ r. ⌜ r ≡ neededAs (neededFor «max_clients») ⌝ }
@@ -52,9 +52,10 @@ fn told(agent: &mut [RecordRow], p: Processed) -> u64
 #[no_mangle]
 pub extern "C" fn xrce_agent_process(
     agent: &mut [[u64; 19]],
-    sessions: &mut [[u64; 5]],
+    sessions: &mut [[u64; 6]],
     streams: &mut [[u16; 35]],
     objects: &mut [Object],
+    held: &mut [u8],
     out: &mut [u8],
     datagram: &[u8],
     sample: &[u8],
@@ -62,19 +63,30 @@ pub extern "C" fn xrce_agent_process(
     time: u64,
     handle: u32,
 ) -> u64
-    ensures { λ r. ⌜ (r ≡ processLeft (now (agent .entry)) (lent (now (sessions .entry)) (now (streams .entry)) (now (objects .entry))) (now (out .entry)) (now (datagram .entry)) (now (sample .entry)) input time handle .answer)
-        × (now (agent .exit) ≡ processLeft (now (agent .entry)) (lent (now (sessions .entry)) (now (streams .entry)) (now (objects .entry))) (now (out .entry)) (now (datagram .entry)) (now (sample .entry)) input time handle .records)
-        × (now (sessions .exit) ≡ processLeft (now (agent .entry)) (lent (now (sessions .entry)) (now (streams .entry)) (now (objects .entry))) (now (out .entry)) (now (datagram .entry)) (now (sample .entry)) input time handle .tables .sessions)
-        × (now (streams .exit) ≡ processLeft (now (agent .entry)) (lent (now (sessions .entry)) (now (streams .entry)) (now (objects .entry))) (now (out .entry)) (now (datagram .entry)) (now (sample .entry)) input time handle .tables .streams)
-        × (now (objects .exit) ≡ processLeft (now (agent .entry)) (lent (now (sessions .entry)) (now (streams .entry)) (now (objects .entry))) (now (out .entry)) (now (datagram .entry)) (now (sample .entry)) input time handle .tables .objects)
-        × (now (out .exit) ≡ processLeft (now (agent .entry)) (lent (now (sessions .entry)) (now (streams .entry)) (now (objects .entry))) (now (out .entry)) (now (datagram .entry)) (now (sample .entry)) input time handle .out) ⌝ }
+    ensures { λ r. ⌜ (r ≡ processLeft (now (agent .entry)) (lent (now (sessions .entry)) (now (streams .entry)) (now (objects .entry)) (now (held .entry))) (now (out .entry)) (now (datagram .entry)) (now (sample .entry)) input time handle .answer)
+        × (now (agent .exit) ≡ processLeft (now (agent .entry)) (lent (now (sessions .entry)) (now (streams .entry)) (now (objects .entry)) (now (held .entry))) (now (out .entry)) (now (datagram .entry)) (now (sample .entry)) input time handle .records)
+        × (now (sessions .exit) ≡ processLeft (now (agent .entry)) (lent (now (sessions .entry)) (now (streams .entry)) (now (objects .entry)) (now (held .entry))) (now (out .entry)) (now (datagram .entry)) (now (sample .entry)) input time handle .tables .sessions)
+        × (now (streams .exit) ≡ processLeft (now (agent .entry)) (lent (now (sessions .entry)) (now (streams .entry)) (now (objects .entry)) (now (held .entry))) (now (out .entry)) (now (datagram .entry)) (now (sample .entry)) input time handle .tables .streams)
+        × (now (objects .exit) ≡ processLeft (now (agent .entry)) (lent (now (sessions .entry)) (now (streams .entry)) (now (objects .entry)) (now (held .entry))) (now (out .entry)) (now (datagram .entry)) (now (sample .entry)) input time handle .tables .objects)
+        × (now (held .exit) ≡ processLeft (now (agent .entry)) (lent (now (sessions .entry)) (now (streams .entry)) (now (objects .entry)) (now (held .entry))) (now (out .entry)) (now (datagram .entry)) (now (sample .entry)) input time handle .tables .held)
+        × (now (out .exit) ≡ processLeft (now (agent .entry)) (lent (now (sessions .entry)) (now (streams .entry)) (now (objects .entry)) (now (held .entry))) (now (out .entry)) (now (datagram .entry)) (now (sample .entry)) input time handle .out) ⌝ }
 {
     let why = bad_call(agent.len(), input);
     if why == 0 {
         let r = record_at(agent);
         let a = agent_in(r);
         let i = input_in(input, time, handle);
-        let p = process(sessions, streams, objects, out, datagram, sample, a, i);
+        let p = process(
+            sessions,
+            streams,
+            objects,
+            held,
+            out,
+            datagram,
+            sample,
+            a,
+            i,
+        );
         told(agent, p)
     } else {
         why
@@ -99,29 +111,37 @@ fn told_ready(agent: &mut [RecordRow], s: AgentSetUp) -> u64
 #[no_mangle]
 pub extern "C" fn xrce_agent_setup(
     agent: &mut [[u64; 19]],
-    sessions: &mut [[u64; 5]],
+    sessions: &mut [[u64; 6]],
     streams: &mut [[u16; 35]],
     objects: &mut [Object],
+    held: &[u8],
     max_clients: u64,
     timeout_ms: u64,
 ) -> u64
-    ensures { λ r. ⌜ (r ≡ setUpLeft (now (agent .entry)) (lent (now (sessions .entry)) (now (streams .entry)) (now (objects .entry))) «max_clients» «timeout_ms» .answer)
-        × (now (agent .exit) ≡ setUpLeft (now (agent .entry)) (lent (now (sessions .entry)) (now (streams .entry)) (now (objects .entry))) «max_clients» «timeout_ms» .records)
-        × (now (sessions .exit) ≡ setUpLeft (now (agent .entry)) (lent (now (sessions .entry)) (now (streams .entry)) (now (objects .entry))) «max_clients» «timeout_ms» .tables .sessions)
-        × (now (streams .exit) ≡ setUpLeft (now (agent .entry)) (lent (now (sessions .entry)) (now (streams .entry)) (now (objects .entry))) «max_clients» «timeout_ms» .tables .streams)
-        × (now (objects .exit) ≡ setUpLeft (now (agent .entry)) (lent (now (sessions .entry)) (now (streams .entry)) (now (objects .entry))) «max_clients» «timeout_ms» .tables .objects) ⌝ }
+    ensures { λ r. ⌜ (r ≡ setUpLeft (now (agent .entry)) (lent (now (sessions .entry)) (now (streams .entry)) (now (objects .entry)) (now (held .entry))) «max_clients» «timeout_ms» .answer)
+        × (now (agent .exit) ≡ setUpLeft (now (agent .entry)) (lent (now (sessions .entry)) (now (streams .entry)) (now (objects .entry)) (now (held .entry))) «max_clients» «timeout_ms» .records)
+        × (now (sessions .exit) ≡ setUpLeft (now (agent .entry)) (lent (now (sessions .entry)) (now (streams .entry)) (now (objects .entry)) (now (held .entry))) «max_clients» «timeout_ms» .tables .sessions)
+        × (now (streams .exit) ≡ setUpLeft (now (agent .entry)) (lent (now (sessions .entry)) (now (streams .entry)) (now (objects .entry)) (now (held .entry))) «max_clients» «timeout_ms» .tables .streams)
+        × (now (objects .exit) ≡ setUpLeft (now (agent .entry)) (lent (now (sessions .entry)) (now (streams .entry)) (now (objects .entry)) (now (held .entry))) «max_clients» «timeout_ms» .tables .objects) ⌝ }
 {
     let records = agent.len();
     if records == 0 {
         16
     } else {
-        let s = setup(sessions, streams, objects, max_clients as usize, timeout_ms);
+        let s = setup(
+            sessions,
+            streams,
+            objects,
+            held,
+            max_clients as usize,
+            timeout_ms,
+        );
         told_ready(agent, s)
     }
 }
 
 #[no_mangle]
-pub extern "C" fn xrce_agent_remove(agent: &[[u64; 19]], sessions: &mut [[u64; 5]], id: u8) -> u64
+pub extern "C" fn xrce_agent_remove(agent: &[[u64; 19]], sessions: &mut [[u64; 6]], id: u8) -> u64
     ensures { λ r. ⌜ (r ≡ removeAnswer (now (agent .entry)) (now (sessions .entry)) id)
         × (now (sessions .exit) ≡ removeRows (now (agent .entry)) (now (sessions .entry)) id) ⌝ }
 {
@@ -135,7 +155,7 @@ pub extern "C" fn xrce_agent_remove(agent: &[[u64; 19]], sessions: &mut [[u64; 5
 #[no_mangle]
 pub extern "C" fn xrce_agent_sweep(
     agent: &[[u64; 19]],
-    sessions: &mut [[u64; 5]],
+    sessions: &mut [[u64; 6]],
     out: &mut [u8],
     time: u64,
 ) -> u64
@@ -153,7 +173,7 @@ pub extern "C" fn xrce_agent_sweep(
 // The listing takes no record: it reads the tables alone, whether a call is open or not.
 #[no_mangle]
 pub extern "C" fn xrce_agent_list(
-    sessions: &[[u64; 5]],
+    sessions: &[[u64; 6]],
     objects: &[Object],
     out: &mut [u16],
     id: u8,

@@ -48,8 +48,8 @@ fn wide(n: u16) -> u64 {
     n as u64
 }
 
+// The first `count` numbers, to the end of their line.
 fn repeats(numbers: &[u16; 16], count: usize) {
-    say(names::REPEAT);
     let mut i = 0;
     while i < 16 {
         if count <= i {
@@ -62,8 +62,12 @@ fn repeats(numbers: &[u16; 16], count: usize) {
     end_line();
 }
 
+// How many messages the bitmap asks for, how many are repeated (document 02, W5), and their numbers.
 fn acknowledge(c: Command, s: StreamState) -> StreamState {
     let r = s.process_acknack(low_16(c.first), low_16(c.second));
+    say(names::REPEAT);
+    number(r.asked as u64);
+    number(r.count as u64);
     let numbers = r.repeats;
     repeats(&numbers, r.count);
     let stream = r.state;

@@ -4,10 +4,12 @@ use mathlib.Core.Bool.{cond}
 use mathlib.Core.List.{List, []}
 use lib.Dec.{eqb}
 use Rattle.codec.specs.declared.layouts.Span.{Span}
+use Rattle.codec.specs.declared.submessages.AcknackPayload.{AcknackPayload}
 use Rattle.codec.specs.declared.submessages.HeartbeatPayload.{HeartbeatPayload}
 use Rattle.codec.specs.declared.submessages.ObjectNumber.{ObjectNumber}
 use Rattle.codec.specs.declared.submessages.StatusCode.{StatusCode}
-use Rattle.codec.specs.declared.submessages.StatusCode.the-variants.{Ok, ErrUnknownRef, ErrInvalidData, ErrIncompatible}
+use Rattle.codec.specs.declared.submessages.StatusCode.the-variants.{Ok, ErrUnknownRef, ErrInvalidData, ErrIncompatible, ErrResources}
+use Rattle.streams.specs.Places.{isFull}
 use Rattle.streams.specs.Received.{acknackOf}
 use Rattle.sessions.specs.Objects.{handleOf}
 use Rattle.sessions.specs.declared.objects.Found.{Found}
@@ -24,7 +26,7 @@ use Rattle.streams.specs.declared.state.StreamState.{StreamState}
 use Rattle.moves.specs.Replies.{statusBytes, acknackBytes}
 use Rattle.moves.specs.declared.names.Names.{Names}
 use Rattle.moves.specs.declared.moves.Move.{Move}
-use Rattle.moves.specs.declared.moves.Move.the-variants.{Greets, Status, Acknack, Calls, Silent}
+use Rattle.moves.specs.declared.moves.Move.the-variants.{Greets, Status, Acknack, Repeats, Calls, Silent}
 use Rattle.moves.specs.declared.proxy.BridgeCall.{BridgeCall}
 use Rattle.moves.specs.declared.proxy.BridgeCall.the-variants.{CreateParticipant, CreateTopic, CreateWriter, CreateReader, WriteData, ReadData, DeleteEntity}
 use Rattle.moves.specs.declared.proxy.Task.the-variants.{Creating, Writing, Reading, Deleting}
@@ -83,12 +85,16 @@ writeBy number body Implicit = Status number ErrUnknownRef
 abbrev pub writeMove : ObjectNumber → Span → Found → Move
 writeMove number body f = writeBy number body (foundHandle f)
 
-abbrev pub readBy : ObjectNumber → ObjectHandle → Move
-readBy number (Bridged x) = Calls number Reading (ReadData x)
-readBy number Implicit = Status number ErrUnknownRef
+abbrev pub readCall : ObjectNumber → Handle → Move
+readCall number h = Calls number Reading (ReadData h)
 
-abbrev pub readMove : ObjectNumber → Found → Move
-readMove number f = readBy number (foundHandle f)
+-- W5, on a stream other than 0 as it is read behind its opening: "a ninth stream gets no reply and no call. With 16 held, it then answers
+-- ERR_RESOURCES before the bridge is called."
+abbrev pub readOn : StreamNamed → StreamState → ObjectNumber → Handle → Move
+readOn stream.Open s number h = cond (isFull s) (Status number ErrResources) (readCall number h)
+readOn stream.NotOpen s number h = Silent
+readOn stream.NotLive s number h = Silent
+readOn (stream.Refused r) s number h = Silent
 
 abbrev pub droppedMove : ObjectNumber → ObjectHandle → Move
 droppedMove number (Bridged h) = Calls number Deleting (DeleteEntity h)
@@ -112,11 +118,20 @@ heartbeatOn (stream.Refused r) s p = Silent
 abbrev pub heartbeatMove : StreamRead → HeartbeatPayload → Move
 heartbeatMove r p = heartbeatOn (r .answer) (r .state) p
 
--- ---- the reply, for the header's session and stream
+-- ---- ACKNACK, on its stream as it is read behind its opening: on a stream other than 0 it "is answered by the listed messages" (W5)
+
+abbrev pub acknackOn : StreamNamed → StreamState → AcknackPayload → Move
+acknackOn stream.Open s p = cond (eqb (s .«stream_id») 0) Silent (Repeats p)
+acknackOn stream.NotOpen s p = Silent
+acknackOn stream.NotLive s p = Silent
+acknackOn (stream.Refused r) s p = Silent
+
+-- ---- the reply, for the header's session and stream; what an ACKNACK repeats is read off the tables
 
 abbrev pub moveBytes : ℕ → ℕ → Move → List ℕ
 moveBytes session stream (Greets id code) = statusBytes id 0 0 code
 moveBytes session stream (Status number code) = statusBytes session stream (number .0) code
 moveBytes session stream (Acknack p) = acknackBytes session stream (p .«first_unacked_seq») (p .«nack_bitmap»)
 moveBytes session stream (Calls number task call) = []
+moveBytes session stream (Repeats p) = []
 moveBytes session stream Silent = []

@@ -13,13 +13,12 @@ use Rattle.sessions.specs.Objects.{implicitOf}
 use Rattle.sessions.specs.SessionObjects.{foundObject, storedObject, storedObjects, keepStored}
 use Rattle.sessions.specs.Removal.{takenObject, removedObjects, keepRemoved}
 use Rattle.sessions.specs.Room.{roomOf}
-use Rattle.sessions.specs.View.{Tables}
 use Rattle.sessions.specs.declared.objects.Object.{Object}
 use Rattle.sessions.specs.declared.room.Room.{Room}
 use Rattle.sessions.specs.declared.room.Room.the-variants.{Free, Full, Depended, NotLive, Refused}
 use Rattle.moves.specs.Names.{namesIn}
-use Rattle.moves.specs.Moves.{parentOf, participantMove, topicMove, endpointMove, writeMove, readMove, deleteMove}
-use Rattle.moves.specs.RowsStreams.{openedSessions, openedRows, readOf, streamMove, streamRows}
+use Rattle.moves.specs.Moves.{foundHandle, parentOf, participantMove, topicMove, endpointMove, writeMove, deleteMove}
+use Rattle.moves.specs.RowsStreams.{openedSessions, openedRows, readOf, streamMove, streamRows, readMove, readSessions, readRows}
 use Rattle.moves.specs.declared.moves.Move.{Move}
 use Rattle.moves.specs.declared.moves.Move.the-variants.{Status, Silent}
 use Rattle.moves.specs.declared.handle.Asked.{Asked}
@@ -28,8 +27,14 @@ use Rattle.moves.specs.declared.handle.Opening.the-variants.{Client, Oth
 use Rattle.moves.specs.declared.handle.Group.{Group}
 use Rattle.moves.specs.declared.handle.Group.the-variants.{Creates, Deletes, Writes, Reads, Streams, Neither}
 
-abbrev pub lent : List (List ℕ) → List (List ℕ) → List Object → Tables
-lent sessions streams objects = record { sessions = sessions; streams = streams; objects = objects }
+-- what a submessage is handled over: the rows of sessions and streams, and the records of objects
+pub record Rows : Type 0 where
+  pub sessions : List (List ℕ)
+  pub streams : List (List ℕ)
+  pub objects : List Object
+
+abbrev pub rows : List (List ℕ) → List (List ℕ) → List Object → Rows
+rows sessions streams objects = record { sessions = sessions; streams = streams; objects = objects }
 
 abbrev pub okMove : ObjectNumber → Move
 okMove number = Status number Ok
@@ -124,32 +129,35 @@ asksOf (sub.Data p) = blankAsked Other
 
 -- ---- all submessages but CREATE_CLIENT, by what they are about
 
-abbrev pub handledBy : Group → Asked → Tables → List ℕ → ℕ → ℕ → Span → Move
+abbrev pub handledBy : Group → Asked → Rows → List ℕ → ℕ → ℕ → Span → Move
 handledBy Creates q t d id n body =
     roomMove (roomOf (t .sessions) (t .objects) id (q .number)) (t .sessions) (t .objects) d id (q .number) (q .kind) (q .parent) body
 handledBy Deletes q t d id n body = deleteMove (q .number) (takenObject (t .sessions) (t .objects) id (q .number))
 handledBy Writes q t d id n body = writeMove (q .number) body (foundObject (t .sessions) (t .objects) id (q .number))
-handledBy Reads q t d id n body = readMove (q .number) (foundObject (t .sessions) (t .objects) id (q .number))
+handledBy Reads q t d id n body =
+    readMove (q .number) (foundHandle (foundObject (t .sessions) (t .objects) id (q .number))) (t .sessions) (t .streams) id n
 handledBy Streams q t d id n body =
     streamMove (q .hears) (q .first) (q .second) (readOf (openedSessions (t .sessions) (t .streams) id n) (openedRows (t .sessions) (t .streams) id n) id n)
 handledBy Neither q t d id n body = Silent
 
-abbrev pub handledMove : Asked → Tables → List ℕ → ℕ → ℕ → Span → Move
+abbrev pub handledMove : Asked → Rows → List ℕ → ℕ → ℕ → Span → Move
 handledMove q t d id n body = handledBy (q .group) q t d id n body
 
-abbrev pub handledIn : Group → Asked → Tables → ℕ → ℕ → Tables
+abbrev pub handledIn : Group → Asked → Rows → ℕ → ℕ → Rows
 handledIn Creates q t id n =
     let room = roomOf (t .sessions) (t .objects) id (q .number) in
     record { sessions = roomSessions room (t .sessions) (t .objects) id (q .number) (q .kind) (q .parent); streams = t .streams; objects = roomObjects room (t .sessions) (t .objects) id (q .number) (q .kind) (q .parent) }
 handledIn Deletes q t id n =
     record { sessions = keepRemoved (t .sessions) id (takenObject (t .sessions) (t .objects) id (q .number)); streams = t .streams; objects = removedObjects (t .sessions) (t .objects) id (q .number) }
 handledIn Writes q t id n = t
-handledIn Reads q t id n = t
+handledIn Reads q t id n =
+    let h = foundHandle (foundObject (t .sessions) (t .objects) id (q .number)) in
+    record { sessions = readSessions h (t .sessions) (t .streams) id n; streams = readRows h (t .sessions) (t .streams) id n; objects = t .objects }
 handledIn Streams q t id n =
     let s = openedSessions (t .sessions) (t .streams) id n in
     let x = openedRows (t .sessions) (t .streams) id n in
     record { sessions = s; streams = streamRows (q .hears) (q .first) (q .second) s x id (readOf s x id n); objects = t .objects }
 handledIn Neither q t id n = t
 
-abbrev pub handledTables : Asked → Tables → ℕ → ℕ → Tables
-handledTables q t id n = handledIn (q .group) q t id n
+abbrev pub handledRows : Asked → Rows → ℕ → ℕ → Rows
+handledRows q t id n = handledIn (q .group) q t id n

@@ -13,7 +13,7 @@ use sessions::objects::Object;
 use sessions::stream_rows::StreamRow;
 use sessions::table::SessionRow;
 ghost use mathlib.Core.Path.{_≡_};
-ghost use Rattle.moves.specs.Rows.{lent, blankAsked, opensWith, createsAs, namesOne, onStream, asksOf, handledMove, handledTables};
+ghost use Rattle.moves.specs.Rows.{rows, blankAsked, opensWith, createsAs, namesOne, onStream, asksOf, handledMove, handledRows};
 
 // Whether a submessage opens a session; `Unread` where none was read.
 pub enum Opening {
@@ -158,17 +158,17 @@ pub fn handle(
     q: Asked,
     body: Span,
 ) -> Move
-    ensures { λ r. ⌜ (r ≡ handledMove q (lent (now (sessions .entry)) (now (streams .entry)) (now (objects .entry))) (now (d .entry)) id n body)
-        × (now (sessions .exit) ≡ handledTables q (lent (now (sessions .entry)) (now (streams .entry)) (now (objects .entry))) id n .sessions)
-        × (now (streams .exit) ≡ handledTables q (lent (now (sessions .entry)) (now (streams .entry)) (now (objects .entry))) id n .streams)
-        × (now (objects .exit) ≡ handledTables q (lent (now (sessions .entry)) (now (streams .entry)) (now (objects .entry))) id n .objects) ⌝ }
+    ensures { λ r. ⌜ (r ≡ handledMove q (rows (now (sessions .entry)) (now (streams .entry)) (now (objects .entry))) (now (d .entry)) id n body)
+        × (now (sessions .exit) ≡ handledRows q (rows (now (sessions .entry)) (now (streams .entry)) (now (objects .entry))) id n .sessions)
+        × (now (streams .exit) ≡ handledRows q (rows (now (sessions .entry)) (now (streams .entry)) (now (objects .entry))) id n .streams)
+        × (now (objects .exit) ≡ handledRows q (rows (now (sessions .entry)) (now (streams .entry)) (now (objects .entry))) id n .objects) ⌝ }
 {
     let group = q.group;
     match group {
         Group::Creates => create(sessions, objects, d, id, q.number, q.kind, q.parent, body),
         Group::Deletes => delete(sessions, objects, id, q.number),
         Group::Writes => write_data(sessions, objects, id, q.number, body),
-        Group::Reads => read_data(sessions, objects, id, q.number),
+        Group::Reads => read_data(sessions, streams, objects, id, n, q.number),
         Group::Streams => handle_stream(sessions, streams, id, n, q.hears, q.first, q.second),
         Group::Neither => Move::Silent,
     }

@@ -14,20 +14,23 @@ use sessions::objects::Taken;
 use sessions::session_streams::StreamNamed;
 use sessions::session_streams::StreamRead;
 ghost use mathlib.Core.Path.{_≡_};
-ghost use Rattle.moves.specs.Moves.{foundHandle, handleOfKind, parentOf, participantMove, topicMove, endpointCall, endpointBy, endpointMove, writeMove, readMove, droppedMove, deleteMove, heartbeatMove};
+ghost use mathlib.Core.Bool.{cond};
+ghost use lib.Dec.{eqb};
+ghost use Rattle.moves.specs.Moves.{foundHandle, handleOfKind, parentOf, participantMove, topicMove, endpointCall, endpointBy, endpointMove, writeMove, readCall, readOn, droppedMove, deleteMove, heartbeatMove, acknackOn};
 
-// The STATUS that answers a CREATE_CLIENT, with its session's id; a STATUS for an object; an ACKNACK; a call for an
-// object; nothing.
+// The STATUS that answers a CREATE_CLIENT, with its session's id; a STATUS for an object; an ACKNACK; the held messages that
+// an ACKNACK asks for; a call for an object; nothing.
 pub enum Move {
     Greets(u8, StatusCode),
     Status(ObjectNumber, StatusCode),
     Acknack(AcknackPayload),
+    Repeats(AcknackPayload),
     Calls(ObjectNumber, Task, BridgeCall),
     Silent,
 }
 
 // The handle of an object, if it is there and has one.
-fn found_handle(f: Found) -> ObjectHandle
+pub(crate) fn found_handle(f: Found) -> ObjectHandle
     ensures { λ r. ⌜ r ≡ foundHandle f ⌝ }
 {
     match f {
@@ -156,13 +159,34 @@ pub(crate) fn write_move(number: ObjectNumber, body: Span, writer: Found) -> Mov
     }
 }
 
-pub(crate) fn read_move(number: ObjectNumber, reader: Found) -> Move
-    ensures { λ r. ⌜ r ≡ readMove number reader ⌝ }
+pub(crate) fn read_call(number: ObjectNumber, reader: Handle) -> Move
+    ensures { λ r. ⌜ r ≡ readCall number reader ⌝ }
 {
-    let h = found_handle(reader);
-    match h {
-        ObjectHandle::Bridged(x) => Move::Calls(number, Task::Reading, BridgeCall::ReadData(x)),
-        ObjectHandle::Implicit => Move::Status(number, StatusCode::ErrUnknownRef),
+    Move::Calls(number, Task::Reading, BridgeCall::ReadData(reader))
+}
+
+fn read_unless(full: bool, number: ObjectNumber, reader: Handle) -> Move
+    ensures { λ r. ⌜ r ≡ cond full (Move.Status number StatusCode.ErrResources) (readCall number reader) ⌝ }
+{
+    if full {
+        Move::Status(number, StatusCode::ErrResources)
+    } else {
+        read_call(number, reader)
+    }
+}
+
+// READ_DATA on a stream other than 0, as it is read behind its opening (document 02, W5): a ninth stream gets no reply and
+// no call, and with 16 held the bridge isn't called.
+pub(crate) fn read_on(stream: StreamRead, number: ObjectNumber, reader: Handle) -> Move
+    ensures { λ r. ⌜ r ≡ readOn (stream .answer) (stream .state) number reader ⌝ }
+{
+    let answer = stream.answer;
+    let state = stream.state;
+    match answer {
+        StreamNamed::Open => read_unless(state.is_full(), number, reader),
+        StreamNamed::NotOpen => Move::Silent,
+        StreamNamed::NotLive => Move::Silent,
+        StreamNamed::Refused(_) => Move::Silent,
     }
 }
 
@@ -199,6 +223,30 @@ pub(crate) fn heartbeat_move(stream: StreamRead, p: HeartbeatPayload) -> Move
     let state = stream.state;
     match answer {
         StreamNamed::Open => Move::Acknack(state.make_acknack(p.first_unacked_seq, p.last_seq)),
+        StreamNamed::NotOpen => Move::Silent,
+        StreamNamed::NotLive => Move::Silent,
+        StreamNamed::Refused(_) => Move::Silent,
+    }
+}
+
+fn repeats_on(stream_id: u8, p: AcknackPayload) -> Move
+    ensures { λ r. ⌜ r ≡ cond (eqb «stream_id» 0) Move.Silent (Move.Repeats p) ⌝ }
+{
+    if stream_id == 0 {
+        Move::Silent
+    } else {
+        Move::Repeats(p)
+    }
+}
+
+// ACKNACK, on its stream as it is read behind its opening: stream 0 holds nothing to repeat.
+pub(crate) fn acknack_move(stream: StreamRead, p: AcknackPayload) -> Move
+    ensures { λ r. ⌜ r ≡ acknackOn (stream .answer) (stream .state) p ⌝ }
+{
+    let answer = stream.answer;
+    let state = stream.state;
+    match answer {
+        StreamNamed::Open => repeats_on(state.stream_id, p),
         StreamNamed::NotOpen => Move::Silent,
         StreamNamed::NotLive => Move::Silent,
         StreamNamed::Refused(_) => Move::Silent,

@@ -3,12 +3,13 @@
 use crate::moves::Move;
 use crate::moves::delete_move;
 use crate::moves::endpoint_move;
+use crate::moves::found_handle;
 use crate::moves::parent_of;
 use crate::moves::participant_move;
-use crate::moves::read_move;
 use crate::moves::topic_move;
 use crate::moves::write_move;
 use crate::names::names_in;
+use crate::stream_moves::read_by;
 use codec::layouts::Span;
 use codec::submessages::ObjectKind;
 use codec::submessages::ObjectNumber;
@@ -21,13 +22,15 @@ use sessions::room::has_room;
 use sessions::session_objects::find_object;
 use sessions::session_objects::put_object;
 use sessions::session_objects::remove_object;
+use sessions::stream_rows::StreamRow;
 use sessions::table::SessionRow;
 ghost use mathlib.Core.Path.{_≡_};
 ghost use Rattle.sessions.specs.Objects.{implicitOf};
 ghost use Rattle.sessions.specs.SessionObjects.{foundObject, storedObject, storedObjects, keepStored};
 ghost use Rattle.sessions.specs.Removal.{takenObject, removedObjects, keepRemoved};
 ghost use Rattle.sessions.specs.Room.{roomOf};
-ghost use Rattle.moves.specs.Moves.{writeMove, readMove, deleteMove, topicMove};
+ghost use Rattle.moves.specs.Moves.{foundHandle, writeMove, deleteMove, topicMove};
+ghost use Rattle.moves.specs.RowsStreams.{readMove, readSessions, readRows};
 ghost use Rattle.moves.specs.Names.{namesIn};
 ghost use Rattle.moves.specs.Rows.{okMove, endpointIn, createMove, createdSessions, createdObjects, isFree, noRoomMove, roomMove, roomSessions, roomObjects};
 
@@ -45,15 +48,20 @@ pub(crate) fn write_data(
 }
 
 pub(crate) fn read_data(
-    sessions: &[SessionRow],
+    sessions: &mut [SessionRow],
+    streams: &mut [StreamRow],
     objects: &[Object],
     id: u8,
+    n: u8,
     number: ObjectNumber,
 ) -> Move
-    ensures { λ r. ⌜ r ≡ readMove number (foundObject (now (sessions .entry)) (now (objects .entry)) id number) ⌝ }
+    ensures { λ r. ⌜ (r ≡ readMove number (foundHandle (foundObject (now (sessions .entry)) (now (objects .entry)) id number)) (now (sessions .entry)) (now (streams .entry)) id n)
+        × (now (sessions .exit) ≡ readSessions (foundHandle (foundObject (now (sessions .entry)) (now (objects .entry)) id number)) (now (sessions .entry)) (now (streams .entry)) id n)
+        × (now (streams .exit) ≡ readRows (foundHandle (foundObject (now (sessions .entry)) (now (objects .entry)) id number)) (now (sessions .entry)) (now (streams .entry)) id n) ⌝ }
 {
     let f = find_object(sessions, objects, id, number);
-    read_move(number, f)
+    let reader = found_handle(f);
+    read_by(sessions, streams, id, n, number, reader)
 }
 
 // DELETE drops its object before its call, unless another depends on it.

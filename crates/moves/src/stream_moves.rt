@@ -1,8 +1,15 @@
-// HEARTBEAT and ACKNACK over the session's streams: both open their stream, then go by it as it is read.
+// HEARTBEAT, ACKNACK and READ_DATA over the session's streams: each opens its stream, then goes by it as it is read.
 use crate::moves::Move;
+use crate::moves::acknack_move;
 use crate::moves::heartbeat_move;
+use crate::moves::read_call;
+use crate::moves::read_on;
 use codec::submessages::AcknackPayload;
 use codec::submessages::HeartbeatPayload;
+use codec::submessages::ObjectNumber;
+use codec::submessages::StatusCode;
+use sessions::objects::Handle;
+use sessions::objects::ObjectHandle;
 use sessions::session_streams::StreamNamed;
 use sessions::session_streams::StreamOpened;
 use sessions::session_streams::StreamRead;
@@ -14,9 +21,12 @@ use sessions::table::SessionRow;
 use streams::state::StreamState;
 ghost use mathlib.Core.Path.{_≡_};
 ghost use Rattle.sessions.specs.SessionStreams.{streamPlace};
-ghost use Rattle.moves.specs.RowsStreams.{acknowledgedRows, streamMove, streamRows, openedSessions, openedRows, readOf};
+ghost use Rattle.moves.specs.RowsStreams.{acknowledgedRows, streamMove, streamRows, openedSessions, openedRows, readOf, readFrom, readMove, readSessions, readRows};
+ghost use mathlib.Core.Bool.{cond};
+ghost use lib.Dec.{eqb};
 
-// What an ACKNACK leaves of its stream is written back, if it is open.
+// What an ACKNACK leaves of its stream is written back, if it is open. It goes by the first number alone: the bitmap asks
+// for repeats, and leaves the stream as it is.
 fn acknowledge(
     sessions: &[SessionRow],
     streams: &mut [StreamRow],
@@ -30,8 +40,7 @@ fn acknowledge(
     let state = stream.state;
     match answer {
         StreamNamed::Open => {
-            let a = state.process_acknack(p.first_unacked_seq, p.nack_bitmap);
-            let s = a.state;
+            let s = state.drop_before(p.first_unacked_seq);
             write_stream(sessions, streams, id, s);
         }
         StreamNamed::NotOpen => {}
@@ -64,7 +73,7 @@ fn stream_by(
             nack_bitmap: second,
         };
         acknowledge(sessions, streams, id, stream, p);
-        Move::Silent
+        acknack_move(stream, p)
     }
 }
 
@@ -86,4 +95,44 @@ pub(crate) fn handle_stream(
     open_stream(sessions, streams, id, n);
     let r = read_stream(sessions, streams, id, n);
     stream_by(sessions, streams, id, r, hears, first, second)
+}
+
+// READ_DATA of a known reader: stream 0 is open and holds nothing; any other is opened first (document 02, W5).
+fn read_from(
+    sessions: &mut [SessionRow],
+    streams: &mut [StreamRow],
+    id: u8,
+    n: u8,
+    number: ObjectNumber,
+    reader: Handle,
+) -> Move
+    ensures { λ r. ⌜ (r ≡ readFrom number reader (now (sessions .entry)) (now (streams .entry)) id n)
+        × (now (sessions .exit) ≡ cond (eqb n 0) (now (sessions .entry)) (openedSessions (now (sessions .entry)) (now (streams .entry)) id n))
+        × (now (streams .exit) ≡ cond (eqb n 0) (now (streams .entry)) (openedRows (now (sessions .entry)) (now (streams .entry)) id n)) ⌝ }
+{
+    if n == 0 {
+        return read_call(number, reader);
+    }
+    open_stream(sessions, streams, id, n);
+    let r = read_stream(sessions, streams, id, n);
+    read_on(r, number, reader)
+}
+
+// An unknown reader opens no stream.
+pub(crate) fn read_by(
+    sessions: &mut [SessionRow],
+    streams: &mut [StreamRow],
+    id: u8,
+    n: u8,
+    number: ObjectNumber,
+    reader: ObjectHandle,
+) -> Move
+    ensures { λ r. ⌜ (r ≡ readMove number reader (now (sessions .entry)) (now (streams .entry)) id n)
+        × (now (sessions .exit) ≡ readSessions reader (now (sessions .entry)) (now (streams .entry)) id n)
+        × (now (streams .exit) ≡ readRows reader (now (sessions .entry)) (now (streams .entry)) id n) ⌝ }
+{
+    match reader {
+        ObjectHandle::Bridged(h) => read_from(sessions, streams, id, n, number, h),
+        ObjectHandle::Implicit => Move::Status(number, StatusCode::ErrUnknownRef),
+    }
 }

@@ -97,11 +97,12 @@ fn set_up(
     sessions: &mut [SessionRow],
     streams: &mut [StreamRow],
     objects: &mut [Object],
+    held: &[u8],
     host: Host,
     c: Command,
 ) -> Host {
     let max = max_clients(c);
-    let made = setup(sessions, streams, objects, max, c.second);
+    let made = setup(sessions, streams, objects, held, max, c.second);
     set_up_said(made, host)
 }
 
@@ -109,6 +110,7 @@ fn datagram(
     sessions: &mut [SessionRow],
     streams: &mut [StreamRow],
     objects: &mut [Object],
+    held: &mut [u8],
     out: &mut [u8],
     line: &[u8],
     kept: &mut [u8],
@@ -124,6 +126,7 @@ fn datagram(
         sessions,
         streams,
         objects,
+        held,
         &mut out[..room],
         &line[..count],
         agent,
@@ -138,6 +141,7 @@ fn answer(
     sessions: &mut [SessionRow],
     streams: &mut [StreamRow],
     objects: &mut [Object],
+    held: &mut [u8],
     out: &mut [u8],
     line: &[u8],
     kept: &[u8],
@@ -154,6 +158,7 @@ fn answer(
         sessions,
         streams,
         objects,
+        held,
         &mut out[..room],
         &kept[..length],
         &line[..count],
@@ -198,6 +203,7 @@ pub fn event(
     sessions: &mut [SessionRow],
     streams: &mut [StreamRow],
     objects: &mut [Object],
+    held: &mut [u8],
     out: &mut [u8],
     line: &[u8],
     kept: &mut [u8],
@@ -207,12 +213,12 @@ pub fn event(
 ) -> Host {
     let g = group_of(c);
     match g {
-        Group::SetUp => set_up(sessions, streams, objects, host, c),
-        Group::Datagram => datagram(sessions, streams, objects, out, line, kept, host, c),
-        Group::Answer => answer(sessions, streams, objects, out, line, kept, host, c),
+        Group::SetUp => set_up(sessions, streams, objects, held, host, c),
+        Group::Datagram => datagram(sessions, streams, objects, held, out, line, kept, host, c),
+        Group::Answer => answer(sessions, streams, objects, held, out, line, kept, host, c),
         Group::Dump => {
             pack_all(objects, packed);
-            dump(sessions, streams, packed);
+            dump(sessions, streams, held, packed);
             host
         }
         Group::List => {

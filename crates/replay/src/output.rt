@@ -4,7 +4,7 @@ use crate::words::between;
 ghost use Prim.Native.Nat.{_≤_, _<_};
 ghost use lib.ListN.{length};
 
-// How much of a store a script's number asks for. More than there is can't be told from it: no result is that long.
+// How much of a store a script's number asks for, at most all of it: a longer result is refused as 13.
 pub fn within(asked: u64, have: usize) -> usize
     ensures { λ r. ⌜ r ≤ have ⌝ }
 {

@@ -73,19 +73,31 @@ fn byte_at(bytes: &[u8], at: usize, i: usize) -> u8 {
     0
 }
 
-// A space and the bytes, `-` where there are none.
+// A space and the bytes.
 pub fn bytes(bytes: &[u8]) {
+    text(b" ");
+    digits(bytes);
+}
+
+// The bytes as digits, `-` where there are none.
+fn digits(bytes: &[u8]) {
     if bytes.len() == 0 {
-        text(b" -");
+        text(b"-");
         return;
     }
-    text(b" ");
     let mut at = 0;
     while at < bytes.len() {
         let n = portion(bytes.len() - at);
         some_bytes(bytes, at, n);
         at += n;
     }
+}
+
+// A held message: its number and its bytes.
+pub fn message(n: u16, bytes: &[u8]) {
+    number(n as u64);
+    text(b":");
+    digits(bytes);
 }
 
 // A client's key: its four bytes in the order of the wire.

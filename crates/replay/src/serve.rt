@@ -24,6 +24,7 @@ fn serve(
     sessions: &mut [SessionRow],
     streams: &mut [StreamRow],
     objects: &mut [Object],
+    held: &mut [u8],
     packed: &mut [Packed],
 ) {
     let mut reading = first_reading();
@@ -37,7 +38,18 @@ fn serve(
         }
         let ready = host.ready;
         let c = parse(line, reading, ready);
-        host = event(sessions, streams, objects, out, line, kept, packed, host, c);
+        host = event(
+            sessions,
+            streams,
+            objects,
+            held,
+            out,
+            line,
+            kept,
+            packed,
+            host,
+            c,
+        );
         turns = turns - 1;
     }
 }
@@ -50,6 +62,7 @@ pub fn own(
     out: &mut [u8],
     sessions: &mut [SessionRow],
     streams: &mut [StreamRow],
+    held: &mut [u8],
     packed: &mut [Packed],
 ) {
     let number = ObjectNumber(0);
@@ -63,6 +76,7 @@ pub fn own(
         sessions,
         streams,
         &mut objects,
+        held,
         packed,
     );
 }

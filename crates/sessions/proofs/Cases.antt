@@ -11,7 +11,7 @@ use Rattle.streams.specs.State.{newStream}
 use Rattle.streams.proofs.Cases.{Table as Below, cases as below}
 use Rattle.sessions.specs.Table.{rowOf, newSession, endedSession, isFree, namedOf, endedRows}
 use Rattle.sessions.specs.Streams.{streamRow, firstStream}
-use Rattle.sessions.specs.Opening.{after, liveOf, createdOf, openedRows, openedStreams}
+use Rattle.sessions.specs.Opening.{after, liveOf, createdOf, openedRows, openedStreams, freeSlot}
 use Rattle.sessions.specs.Answers.{setUpAnswer, createdAnswer, namedAnswer}
 use Rattle.sessions.specs.Setup.{emptySessions, emptyStreams, setUpOf}
 use Rattle.sessions.specs.declared.objects.Object.{Object}
@@ -70,8 +70,8 @@ pub record Table : Type 0 where
   -- a to k
   pub streams : Below
   -- l, on what set-up leaves of any stores that it accepts
-  pub l : (sessions streams : List (List ℕ)) (objects : List Object) (next : ℕ)
-      → setUpAnswer (setUpOf (length sessions) (length streams) (length objects) 8) ≡ gives next → CaseL (empty sessions streams) next
+  pub l : (sessions streams : List (List ℕ)) (objects : List Object) (held next : ℕ)
+      → setUpAnswer (setUpOf (length sessions) (length streams) (length objects) held 8) ≡ gives next → CaseL (empty sessions streams) next
 
 -- ---- k sessions are live, and the ids from n on are free
 
@@ -90,16 +90,16 @@ module _ (t : Stores) (k n : ℕ) (u : Upto t k n) (low : 1 ≤ n) (high : n ≤
 
   module _ (key time : ℕ) where
     is-live : isFree (opened n t key time .sessions) n ≡ false
-    is-live = ap (λ (w : List ℕ). isFree (w ∷ []) 0) (getD-set-same (t .sessions) n (rowOf (newSession key time)) [] (omega (arith, u .sessions-long)))
+    is-live = ap (λ (w : List ℕ). isFree (w ∷ []) 0) (getD-set-same (t .sessions) n (rowOf (newSession key time (freeSlot (t .sessions)))) [] (omega (arith, u .sessions-long)))
 
     goes-on : Upto (opened n t key time) (k + 1) (n + 1)
     goes-on =
-        let c = live-changed (t .sessions) n (rowOf (newSession key time)) low high in
+        let c = live-changed (t .sessions) n (rowOf (newSession key time (freeSlot (t .sessions)))) low high in
         record {
-          sessions-long = rw (length-set (t .sessions) n (rowOf (newSession key time))) (u .sessions-long);
+          sessions-long = rw (length-set (t .sessions) n (rowOf (newSession key time (freeSlot (t .sessions))))) (u .sessions-long);
           streams-long = rw (length-set (t .streams) (firstStream n) (streamRow (newStream 0))) (u .streams-long);
           live = let d = rw (is-live, u .free n (omega arith) (omega arith)) at c in omega (arith, d, u .live);
-          free = λ j a b. free-elsewhere (t .sessions) n (rowOf (newSession key time)) j (λ e. omega arith) ∙ u .free j (omega arith) b;
+          free = λ j a b. free-elsewhere (t .sessions) n (rowOf (newSession key time (freeSlot (t .sessions)))) j (λ e. omega arith) ∙ u .free j (omega arith) b;
         }
 
 -- a live session below them is removed
@@ -124,12 +124,12 @@ module _ (t : Stores) (k n id : ℕ) (u : Upto t k n) (low : 1 ≤ id) (below : 
 
 -- ---- the case
 
-module _ (sessions streams : List (List ℕ)) (objects : List Object) (next : ℕ) (ok : setUpOf (length sessions) (length streams) (length objects) 8 ≡ Ready next) where
+module _ (sessions streams : List (List ℕ)) (objects : List Object) (held next : ℕ) (ok : setUpOf (length sessions) (length streams) (length objects) held 8 ≡ Ready next) where
   from-none : Upto (empty sessions streams) 0 1
   from-none =
       record {
-        sessions-long = rows-long sessions streams objects 8 next ok;
-        streams-long = streams-long sessions streams objects 8 next ok;
+        sessions-long = rows-long sessions streams objects held 8 next ok;
+        streams-long = streams-long sessions streams objects held 8 next ok;
         live = live-none sessions;
         free = λ j a b. none-live sessions j b;
       }
@@ -142,8 +142,8 @@ module _ (sessions streams : List (List ℕ)) (objects : List Object) (next : �
       let w = goes-on (two t key time) 2 3 v (omega arith) (omega arith) (key 3) (time 3) in
       let second = is-live (one t key time) 1 2 u (omega arith) (omega arith) (key 2) (time 2) in
       let still : isFree (three t key time .sessions) 2 ≡ false =
-      free-elsewhere (two t key time .sessions) 3 (rowOf (newSession (key 3) (time 3))) 2 (λ e. omega arith) ∙ second in (
-        first-opened sessions streams objects 8 next ok (omega arith),
+      free-elsewhere (two t key time .sessions) 3 (rowOf (newSession (key 3) (time 3) (freeSlot (two t key time .sessions)))) 2 (λ e. omega arith) ∙ second in (
+        first-opened sessions streams objects held 8 next ok (omega arith),
         opens-next (one t key time) 1 2 u (omega arith) (omega arith) (omega arith),
         opens-next (two t key time) 2 3 v (omega arith) (omega arith) (omega arith),
         ap namedAnswer (removes (three t key time) 3 4 2 w (omega arith) (omega arith) (omega arith) still),
@@ -158,5 +158,5 @@ pub cases : Table
 cases =
     record {
       streams = below;
-      l = λ sessions streams objects next e. case-l sessions streams objects next (ready (setUpOf (length sessions) (length streams) (length objects) 8) next e);
+      l = λ sessions streams objects held next e. case-l sessions streams objects held next (ready (setUpOf (length sessions) (length streams) (length objects) held 8) next e);
     }

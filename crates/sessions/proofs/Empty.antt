@@ -9,10 +9,11 @@ use borrow.Author.Tests.{le-leb}
 use lib.ListN.{length}
 use Rattle.codec.specs.Answers.{gives}
 use Rattle.codec.specs.declared.refusals.Refusal.the-variants.{OverLimit}
+use Rattle.sessions.specs.Need.{storesFit}
 use Rattle.sessions.specs.Table.{rowOf, endedSession, isFree, gotOf}
 use Rattle.sessions.specs.Opening.{liveOf, countedOf, createdOf}
 use Rattle.sessions.specs.Answers.{gotAnswer, countedAnswer, createdAnswer}
-use Rattle.sessions.specs.Setup.{noStream, emptySessions, emptyStreams, firstId, setUpFits, setUpOf}
+use Rattle.sessions.specs.Setup.{noStream, emptySessions, emptyStreams, firstId, setUpOf}
 use Rattle.sessions.specs.declared.objects.Object.{Object}
 use Rattle.sessions.specs.declared.setup.SetUp.the-variants.{Ready, Refused}
 use Rattle.sessions.proofs.Counted.{none-counted, opens-at}
@@ -27,18 +28,18 @@ pub live-none : (sessions : List (List ℕ)) → liveOf (emptySessions sessions)
 unfolding liveOf
 live-none sessions = none-counted (emptySessions sessions) 255 1 (λ j h. none-live sessions j (omega arith))
 
-module _ (sessions streams : List (List ℕ)) (objects : List Object) (max next : ℕ)
-    (ok : setUpOf (length sessions) (length streams) (length objects) max ≡ Ready next) where
+module _ (sessions streams : List (List ℕ)) (objects : List Object) (held max next : ℕ)
+    (ok : setUpOf (length sessions) (length streams) (length objects) held max ≡ Ready next) where
   by-fits : (b : Bool) → cond b (Ready firstId) (Refused OverLimit) ≡ Ready next → (b ≡ true) × (next ≡ firstId)
   by-fits true e = (refl, cc)
   by-fits false e = let z : _≡_ {A = ℕ} 0 1 = cc in absurd (omega arith)
 
-  accepted : (setUpFits (length sessions) (length streams) (length objects) max ≡ true) × (next ≡ firstId)
+  accepted : (storesFit (length sessions) (length streams) (length objects) held max ≡ true) × (next ≡ firstId)
   unfolding setUpOf
-  accepted = by-fits (setUpFits (length sessions) (length streams) (length objects) max) ok
+  accepted = by-fits (storesFit (length sessions) (length streams) (length objects) held max) ok
 
-  pub long : Long (length sessions) (length streams) (length objects) max
-  long = accepts (length sessions) (length streams) (length objects) max (accepted .0)
+  pub long : Long (length sessions) (length streams) (length objects) held max
+  long = accepts (length sessions) (length streams) (length objects) held max (accepted .0)
 
   pub first-is : next ≡ firstId
   first-is = accepted .1

@@ -62,17 +62,17 @@ module _ (sessions streams : List (List ℕ)) (objects : List Object) (id : ℕ)
   abbrev byFree : Bool → Named
   byFree free = cond free named.NotLive named.Live
 
-  module _ (k : Kept sessions streams objects id) where
+  module _ (room max stream : ℕ) (k : Kept sessions streams objects room max id stream) where
     names : namedOf sessions id ≡ byFree (isFree sessions id)
-    names = named-when sessions id (k .sessions-long)
+    names = named-when sessions id (k .stores .sessions-long)
 
     names-objects : objectsNamed sessions (length objects) id ≡ byFree (isFree sessions id)
     unfolding objectsNamed
-    names-objects = sym (reach-named sessions id (usedOf sessions id) 32 (length objects) 8192 (k .objects-long) (k .objects-few)) ∙ names
+    names-objects = sym (reach-named sessions id (usedOf sessions id) 32 (length objects) 8192 (k .stores .objects-long) (k .objects-few)) ∙ names
 
     names-streams : streamsNamed sessions (length streams) id ≡ byFree (isFree sessions id)
     unfolding streamsNamed
-    names-streams = sym (reach-named sessions id (streamsUsed sessions id) 8 (length streams) 2048 (k .streams-long) (k .streams-few)) ∙ names
+    names-streams = sym (reach-named sessions id (streamsUsed sessions id) 8 (length streams) 2048 (k .stores .streams-long) (k .streams-few)) ∙ names
 
     got-none : numberIn (gotAnswer (gotOf sessions id)) ≡ 0
     unfolding gotOf
@@ -165,18 +165,18 @@ module _ (sessions streams : List (List ℕ)) (objects : List Object) (id : ℕ)
             placed (ltb k used) (leb 8 used) k used
 
   -- "right after 15", with one check for all of them
-  pub within-none : limitsAnswer (limitsOf sessions streams objects id) ≡ gives tt → NoneRefused
-  within-none e =
-      let k = kept-limits sessions streams objects id (by (limitsOf sessions streams objects id) e) in
+  pub within-none : (held max stream : ℕ) → limitsAnswer (limitsOf sessions streams objects held max id stream) ≡ gives tt → NoneRefused
+  within-none held max stream e =
+      let k = kept-limits sessions streams objects held max id stream (by (limitsOf sessions streams objects held max id stream) e) in
       record {
-        get = got-none k;
-        named = named-none k;
-        find = find-none k;
-        take = take-none k;
-        put = put-none k;
-        room = room-none k;
-        open-stream = λ n. stream-none k n .0;
-        stream = λ n. stream-none k n .1;
+        get = got-none held max stream k;
+        named = named-none held max stream k;
+        find = find-none held max stream k;
+        take = take-none held max stream k;
+        put = put-none held max stream k;
+        room = room-none held max stream k;
+        open-stream = λ n. stream-none held max stream k n .0;
+        stream = λ n. stream-none held max stream k n .1;
       }
     where
       by : (r : Limits) → limitsAnswer r ≡ gives tt → r ≡ limits.Within

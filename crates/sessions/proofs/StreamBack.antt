@@ -6,13 +6,19 @@ use native.Mathlib.Omega.{arith}
 use lib.ListN.{length, getD}
 use Rattle.streams.specs.Acknowledged.{listFrom, sixteen}
 use Rattle.streams.specs.State.{newStream}
-use Rattle.streams.specs.View.{Sound, keptOf, lengthIn, freshOf}
+use Rattle.streams.specs.Sent.{bytesIn}
+use Rattle.streams.specs.View.{Sound, keptOf, freshOf}
 use Rattle.streams.specs.declared.state.StreamState.{StreamState}
 use Rattle.streams.proofs.Agree.{Agree, same-held, same-sound}
 use Rattle.streams.proofs.Dropped.{sixteen-at, sixteen-length}
 use Rattle.streams.proofs.Kept.{new-kept}
 use Rattle.sessions.specs.Streams.{numberAt, rowFrom, streamRow, streamOf}
 use Rattle.sessions.specs.View.{streamShown}
+
+-- a row's stream has a number of 8 bits
+pub row-small : (w : List ℕ) → streamOf w .«stream_id» < 256
+unfolding streamOf
+row-small w = omega arith
 
 module _ (s : StreamState) where
   back-numbers : streamOf (streamRow s) .numbers ≡ sixteen (numberAt (s .numbers))
@@ -24,24 +30,24 @@ module _ (s : StreamState) where
   back-lengths = refl
 
   -- the sixteen places are those that were written, whatever stood behind them
-  back-agrees : Agree (streamOf (streamRow s)) s
+  pub back-agrees : Agree (streamOf (streamRow s)) s
   back-agrees j h = (
     ap (λ (l : List ℕ). getD l j 0) back-numbers ∙ sixteen-at (numberAt (s .numbers)) j h,
     ap (λ (l : List ℕ). getD l j 0) back-lengths ∙ sixteen-at (numberAt (s .lengths)) j h,
   )
 
-  pub row-shown : s .«stream_id» < 256 → streamShown (streamRow s) ≡ keptOf lengthIn s
+  pub row-shown : (buffer : List ℕ) → s .«stream_id» < 256 → streamShown buffer (streamRow s) ≡ keptOf (bytesIn buffer) s
   unfolding streamOf rowFrom
-  row-shown a =
+  row-shown buffer a =
       let m : s .«stream_id» % 256 ≡ s .«stream_id» = omega arith in
-      λ i. record { number = m i; next = s .«next_send_seq»; expected = s .«next_recv_seq»; held = λ n. same-held s (streamOf (streamRow s)) back-agrees lengthIn n i }
+      λ i. record { number = m i; next = s .«next_send_seq»; expected = s .«next_recv_seq»; held = λ n. same-held s (streamOf (streamRow s)) back-agrees (bytesIn buffer) n i }
 
   pub row-sound : Sound s → Sound (streamOf (streamRow s))
   row-sound d =
       same-sound s (streamOf (streamRow s)) back-agrees d (ap length back-numbers ∙ sixteen-length (numberAt (s .numbers))) (ap length back-lengths ∙ sixteen-length (numberAt (s .lengths)))
 
-pub new-shown : (n : ℕ) → n < 256 → streamShown (streamRow (newStream n)) ≡ freshOf n
-new-shown n h = row-shown (newStream n) h ∙ new-kept lengthIn n
+pub new-shown : (buffer : List ℕ) (n : ℕ) → n < 256 → streamShown buffer (streamRow (newStream n)) ≡ freshOf n
+new-shown buffer n h = row-shown (newStream n) buffer h ∙ new-kept (bytesIn buffer) n
 
 -- ---- a stream of sixteen places that is written is the stream that is read
 

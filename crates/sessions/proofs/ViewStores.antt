@@ -16,6 +16,7 @@ use Rattle.sessions.specs.Table.{sessionAt}
 use Rattle.sessions.specs.Objects.{blank, objectPlace, slotOf, usedAfter, storedRow}
 use Rattle.sessions.specs.SessionObjects.{firstObject, objectRow, withObjectRow, usedOf, countedSession, keepUsed, objectsNamed, foundObject, storedObject, storedObjects, keepStored}
 use Rattle.sessions.specs.Removal.{removeIn, takenOf, removedRow, keepRemoved}
+use Rattle.sessions.specs.Held.{heldPart}
 use Rattle.sessions.specs.View.{Tables, Entry, Local, Part, entryOf, listed, streamRows, tablePart, sessionShown, localShown, localOf, objectsOf, findIn, putIn, Distinct, objectNumbers}
 use Rattle.sessions.specs.Calls.{putTables, dropTables}
 use Rattle.sessions.specs.declared.objects.Object.{Object}
@@ -75,7 +76,7 @@ withObjects es (some l) = some (record { id = l .id; key = l .key; last = l .las
 
 -- a part with n objects in another row
 abbrev pub withCounted : ℕ → List Object → Part → Part
-withCounted n row p = record { session = countedSession (p .session) n; objects = row; streams = p .streams }
+withCounted n row p = record { session = countedSession (p .session) n; objects = row; streams = p .streams; held = p .held }
 
 counted-shown : (id n : ℕ) (row : List Object) (p : Part) → localShown id (withCounted n row p) ≡ withObjects (listed n row) (localShown id p)
 counted-shown id n row p = by (eqb (p .session .live) 0)
@@ -131,18 +132,24 @@ module _ (t : Tables) (id : ℕ) (id< : id < 256) (live : objectsNamed (t .sessi
     put-set = put-store ∙ row-set (t .objects) id inside (slotOf (place (o .number)) used) o room
 
     pub put-part : tablePart (putTables t id o) id ≡ withCounted (usedAfter (place (o .number)) used) (storedRow row used o) (tablePart t id)
-    put-part = λ i. record {
-      session = (ap (λ (rows : List (List ℕ)). sessionAt rows id) put-rows ∙ kept-here (t .sessions) id (countedSession (sessionAt (t .sessions) id) (usedAfter (place (o .number)) used)) rows-long) i;
-      objects = (ap (λ (l : List Object). objectRow l id) put-store ∙ row-seen (t .objects) id inside (storedRow row used o) (length-set row (slotOf (place (o .number)) used) o ∙ row-length (t .objects) id inside)) i;
-      streams = streamRows (t .streams) id;
-    }
+    put-part =
+        let e = ap (λ (rows : List (List ℕ)). sessionAt rows id) put-rows ∙ kept-here (t .sessions) id (countedSession (sessionAt (t .sessions) id) (usedAfter (place (o .number)) used)) rows-long in
+        λ i. record {
+          session = e i;
+          held = heldPart (t .held) (e i);
+          objects = (ap (λ (l : List Object). objectRow l id) put-store ∙ row-seen (t .objects) id inside (storedRow row used o) (length-set row (slotOf (place (o .number)) used) o ∙ row-length (t .objects) id inside)) i;
+          streams = streamRows (t .streams) id;
+        }
 
     pub put-part-elsewhere : (j : ℕ) → j ≢ id → tablePart (putTables t id o) j ≡ tablePart t j
-    put-part-elsewhere j h = λ i. record {
-      session = (ap (λ (rows : List (List ℕ)). sessionAt rows j) put-rows ∙ kept-elsewhere (t .sessions) id (countedSession (sessionAt (t .sessions) id) (usedAfter (place (o .number)) used)) j h) i;
-      objects = (ap (λ (l : List Object). objectRow l j) put-set ∙ row-elsewhere (t .objects) id (slotOf (place (o .number)) used) j o room h) i;
-      streams = streamRows (t .streams) j;
-    }
+    put-part-elsewhere j h =
+        let e = ap (λ (rows : List (List ℕ)). sessionAt rows j) put-rows ∙ kept-elsewhere (t .sessions) id (countedSession (sessionAt (t .sessions) id) (usedAfter (place (o .number)) used)) j h in
+        λ i. record {
+          session = e i;
+          held = heldPart (t .held) (e i);
+          objects = (ap (λ (l : List Object). objectRow l j) put-set ∙ row-elsewhere (t .objects) id (slotOf (place (o .number)) used) j o room h) i;
+          streams = streamRows (t .streams) j;
+        }
 
     pub put-here : Distinct (objectNumbers (objectsOf t id)) → localOf (putTables t id o) id ≡ withObjects (putIn (objectsOf t id) (entryOf o)) (localOf t id)
     put-here different =
@@ -164,7 +171,7 @@ module _ (t : Tables) (id : ℕ) (id< : id < 256) (live : objectsNamed (t .sessi
         ∙ ap (λ (b : Bool). cond b (Count (usedAfter (place (o .number)) used)) Full) (le-ltb (slotOf (place (o .number)) used) (length row) past-row)
 
     pub put-nothing : putTables t id o ≡ t
-    put-nothing = λ i. record { sessions = ap (keepStored (t .sessions) id) put-full i; streams = t .streams; objects = kept i }
+    put-nothing = λ i. record { sessions = ap (keepStored (t .sessions) id) put-full i; streams = t .streams; objects = kept i; held = t .held }
       where
         kept : storedObjects (t .sessions) (t .objects) id o ≡ t .objects
         kept = sym (kept-is (t .sessions) (t .objects) id o Live live) ∙ ap (withObjectRow (t .objects) id) (set-out row (slotOf (place (o .number)) used) o past-row) ∙ row-same (t .objects) id inside
@@ -176,7 +183,7 @@ module _ (t : Tables) (id : ℕ) (id< : id < 256) (live : objectsNamed (t .sessi
 
   -- the tables without the record at place k
   abbrev pub gone : ℕ → Tables
-  gone k = record { sessions = keepUsed (t .sessions) id (used - 1); streams = t .streams; objects = withObjectRow (t .objects) id (set row k last) }
+  gone k = record { sessions = keepUsed (t .sessions) id (used - 1); streams = t .streams; objects = withObjectRow (t .objects) id (set row k last); held = t .held }
 
   -- the tables after a removal, by the place of what is removed: what has a dependant stays
   abbrev pub dropped : Place → Tables
@@ -189,33 +196,37 @@ module _ (t : Tables) (id : ℕ) (id< : id < 256) (live : objectsNamed (t .sessi
         sessions = ap (keepRemoved (t .sessions) id) (sym (taken-is (t .sessions) (t .objects) id n Live live)) i;
         streams = t .streams;
         objects = sym (removed-is (t .sessions) (t .objects) id n Live live) i;
+        held = t .held;
       })
       ∙ by (place n)
     where
       at : (k : ℕ) (b : Bool)
           → _≡_ {A = Tables}
-          (record { sessions = keepRemoved (t .sessions) id (cond b Depended (Gone (getD row k blank))); streams = t .streams; objects = withObjectRow (t .objects) id (cond b row (set row k last)) })
+          (record { sessions = keepRemoved (t .sessions) id (cond b Depended (Gone (getD row k blank))); streams = t .streams; objects = withObjectRow (t .objects) id (cond b row (set row k last)); held = t .held })
           (cond b t (gone k))
-      at k true = λ i. record { sessions = t .sessions; streams = t .streams; objects = row-same (t .objects) id inside i }
+      at k true = λ i. record { sessions = t .sessions; streams = t .streams; objects = row-same (t .objects) id inside i; held = t .held }
       at k false = refl
 
       by : (p : Place)
           → _≡_ {A = Tables}
-          (record { sessions = keepRemoved (t .sessions) id (takenOf row used p); streams = t .streams; objects = withObjectRow (t .objects) id (removedRow row used p) })
+          (record { sessions = keepRemoved (t .sessions) id (takenOf row used p); streams = t .streams; objects = withObjectRow (t .objects) id (removedRow row used p); held = t .held })
           (dropped p)
       by (At k) = at k (dependedAt row used fits (At k))
-      by Nowhere = λ i. record { sessions = t .sessions; streams = t .streams; objects = row-same (t .objects) id inside i }
+      by Nowhere = λ i. record { sessions = t .sessions; streams = t .streams; objects = row-same (t .objects) id inside i; held = t .held }
 
   pub dropped-part : (p : Place) → Under used p → tablePart (dropped p) id ≡ withCounted (left row used fits p) (removedRow row used p) (tablePart t id)
   dropped-part (At k) h = by (dependedAt row used fits (At k))
     where
       by : (b : Bool) → tablePart (cond b t (gone k)) id ≡ withCounted (cond b used (used - 1)) (cond b row (set row k last)) (tablePart t id)
       by true = refl
-      by false = λ i. record {
-        session = kept-here (t .sessions) id (countedSession (sessionAt (t .sessions) id) (used - 1)) rows-long i;
-        objects = row-seen (t .objects) id inside (set row k last) (length-set row k last ∙ row-length (t .objects) id inside) i;
-        streams = streamRows (t .streams) id;
-      }
+      by false =
+          let e = kept-here (t .sessions) id (countedSession (sessionAt (t .sessions) id) (used - 1)) rows-long in
+          λ i. record {
+            session = e i;
+            held = heldPart (t .held) (e i);
+            objects = row-seen (t .objects) id inside (set row k last) (length-set row k last ∙ row-length (t .objects) id inside) i;
+            streams = streamRows (t .streams) id;
+          }
   dropped-part Nowhere h = refl
 
   -- the store with a record less, as one record that is set
@@ -227,11 +238,14 @@ module _ (t : Tables) (id : ℕ) (id< : id < 256) (live : objectsNamed (t .sessi
     where
       by : (b : Bool) → tablePart (cond b t (gone k)) j ≡ tablePart t j
       by true = refl
-      by false = λ i. record {
-        session = kept-elsewhere (t .sessions) id (countedSession (sessionAt (t .sessions) id) (used - 1)) j h i;
-        objects = (ap (λ (l : List Object). objectRow l j) (gone-set k u) ∙ row-elsewhere (t .objects) id k j last (omega (arith, row-length (t .objects) id inside, fits)) h) i;
-        streams = streamRows (t .streams) j;
-      }
+      by false =
+          let e = kept-elsewhere (t .sessions) id (countedSession (sessionAt (t .sessions) id) (used - 1)) j h in
+          λ i. record {
+            session = e i;
+            held = heldPart (t .held) (e i);
+            objects = (ap (λ (l : List Object). objectRow l j) (gone-set k u) ∙ row-elsewhere (t .objects) id k j last (omega (arith, row-length (t .objects) id inside, fits)) h) i;
+            streams = streamRows (t .streams) j;
+          }
   dropped-part-elsewhere j h Nowhere u = refl
 
   pub drop-here : Distinct (objectNumbers (objectsOf t id)) → (n : ObjectNumber) → localOf (dropTables t id n) id ≡ withObjects (removeIn (objectsOf t id) (n .0)) (localOf t id)

@@ -4,7 +4,7 @@ use mathlib.Core.Path.{_≡_, refl, sym, ap, _∙_}
 use mathlib.Core.Logic.{_≢_}
 use mathlib.Core.Bool.{Bool, true, false, cond}
 use mathlib.Core.Option.{Option, none, some}
-use mathlib.Core.List.{List, [], _∷_, map}
+use mathlib.Core.List.{List, [], _∷_}
 use native.Mathlib.Omega.{arith}
 use borrow.Author.Tests.{le-leb, eqb-true, eqb-false, leb-true, leb-false}
 use lib.Dec.{eqb, leb, ltb}
@@ -16,7 +16,9 @@ use Rattle.sessions.specs.Table.{sessionAt, sessionOf, rowOf, keepSessio
 use Rattle.sessions.specs.Sweep.{goes, expiredFrom, sweptAt, sweptFrom, sweptRows}
 use Rattle.sessions.specs.SessionObjects.{objectRow}
 use Rattle.sessions.specs.Streams.{streamRow, firstStream}
-use Rattle.sessions.specs.View.{Tables, KeptStream, Local, Part, startOf, streamShown, streamRows, listed, opened, tablePart, sessionShown, localShown, localOf, lapsed, expiredAt}
+use Rattle.sessions.specs.Opening.{freeSlot}
+use Rattle.sessions.specs.Held.{heldPart, bufferAt}
+use Rattle.sessions.specs.View.{Tables, KeptStream, Local, Part, startOf, shownFrom, streamRows, listed, opened, tablePart, sessionShown, localShown, localOf, lapsed, expiredAt}
 use Rattle.sessions.specs.Calls.{withSessions, createTables}
 use Rattle.sessions.specs.declared.table.ClientSession.{ClientSession}
 use Rattle.sessions.specs.declared.table.Named.{Named}
@@ -59,8 +61,9 @@ module _ (rows : List (List ℕ)) (id : ℕ) (s : ClientSession) where
 
 -- ---- the tables with other sessions in them
 
-abbrev pub withSession : ClientSession → Part → Part
-withSession s p = record { session = s; objects = p .objects; streams = p .streams }
+-- a part with another session, and what is then its part of the held messages
+abbrev pub withSession : List ℕ → ClientSession → Part → Part
+withSession held s p = record { session = s; objects = p .objects; streams = p .streams; held = heldPart held s }
 
 module _ (t : Tables) (id : ℕ) (long : 256 ≤ length (t .sessions)) (id< : id < 256) where
   -- a live session that becomes s, and the others
@@ -68,11 +71,11 @@ module _ (t : Tables) (id : ℕ) (long : 256 ≤ length (t .sessions)) (id< : id
     abbrev pub changed : Tables
     changed = withSessions t (keptRows (namedOf (t .sessions) id) (t .sessions) id s)
 
-    pub changed-here : isFree (t .sessions) id ≡ false → tablePart changed id ≡ withSession s (tablePart t id)
-    changed-here e = ap (λ (x : ClientSession). withSession x (tablePart t id)) (live-here (t .sessions) id s long id< e)
+    pub changed-here : isFree (t .sessions) id ≡ false → tablePart changed id ≡ withSession (t .held) s (tablePart t id)
+    changed-here e = ap (λ (x : ClientSession). withSession (t .held) x (tablePart t id)) (live-here (t .sessions) id s long id< e)
 
     pub changed-elsewhere : (j : ℕ) → j ≢ id → tablePart changed j ≡ tablePart t j
-    changed-elsewhere j h = ap (λ (x : ClientSession). withSession x (tablePart t j)) (live-elsewhere (t .sessions) id s j h)
+    changed-elsewhere j h = ap (λ (x : ClientSession). withSession (t .held) x (tablePart t j)) (live-elsewhere (t .sessions) id s j h)
 
     -- an id that is not live stays so
     pub changed-free : isFree (t .sessions) id ≡ true → changed ≡ t
@@ -94,7 +97,7 @@ module _ (t : Tables) (id : ℕ) (long : 256 ≤ length (t .sessions)) (id< : id
       s : ClientSession
       s = touchedSession (sessionAt (t .sessions) id) time
 
-      shown : eqb (sessionAt (t .sessions) id .live) 0 ≡ false → localShown id (withSession s (tablePart t id)) ≡ touchedLocal time (localOf t id)
+      shown : eqb (sessionAt (t .sessions) id .live) 0 ≡ false → localShown id (withSession (t .held) s (tablePart t id)) ≡ touchedLocal time (localOf t id)
       shown e = rw e refl
 
       by : (b : Bool) → isFree (t .sessions) id ≡ b → localOf (changed s) id ≡ touchedLocal time (localOf t id)
@@ -152,35 +155,35 @@ unfolding streamRows
 streams-length streams id h l = length-take-le 8 (drop (8 * id) streams) (rw (length-drop (8 * id) streams) (omega arith))
 
 module _ (t : Tables) (id next key time : ℕ) (long : 256 ≤ length (t .sessions)) (store : 2048 ≤ length (t .streams)) (id< : id < 256) where
+  -- the new session has the lowest slot that no live one has
+  abbrev pub made : ClientSession
+  made = newSession key time (freeSlot (t .sessions))
+
   -- the part of the new session: nothing of the last holder of its rows is in use
   pub opened-here : tablePart (openedTables t id next key time) id
-      ≡ record { session = newSession key time; objects = objectRow (t .objects) id; streams = set (streamRows (t .streams) id) 0 (streamRow (newStream 0)) }
-  opened-here = λ i. record {
-    session = kept-here (t .sessions) id (newSession key time) (omega arith) i;
-    objects = objectRow (t .objects) id;
-    streams = streams-first (t .streams) id (streamRow (newStream 0)) i;
-  }
+      ≡ record { session = made; objects = objectRow (t .objects) id; streams = set (streamRows (t .streams) id) 0 (streamRow (newStream 0)); held = heldPart (t .held) made }
+  opened-here =
+      let e = kept-here (t .sessions) id made (omega arith) in
+      λ i. record { session = e i; objects = objectRow (t .objects) id; streams = streams-first (t .streams) id (streamRow (newStream 0)) i; held = heldPart (t .held) (e i) }
 
   pub opened-elsewhere : (j : ℕ) → j ≢ id → tablePart (openedTables t id next key time) j ≡ tablePart t j
-  opened-elsewhere j h = λ i. record {
-    session = kept-elsewhere (t .sessions) id (newSession key time) j h i;
-    objects = objectRow (t .objects) j;
-    streams = first-elsewhere (t .streams) id j (streamRow (newStream 0)) h i;
-  }
+  opened-elsewhere j h =
+      let e = kept-elsewhere (t .sessions) id made j h in
+      λ i. record { session = e i; objects = objectRow (t .objects) j; streams = first-elsewhere (t .streams) id j (streamRow (newStream 0)) h i; held = heldPart (t .held) (e i) }
 
-  pub one-open : opened 1 (set (streamRows (t .streams) id) 0 (streamRow (newStream 0))) ≡ freshOf 0 ∷ []
-  unfolding opened
-  one-open = by (streamRows (t .streams) id) (streams-length (t .streams) id store id<)
+  pub one-open : (held : List ℕ) → opened 1 held (set (streamRows (t .streams) id) 0 (streamRow (newStream 0))) ≡ freshOf 0 ∷ []
+  unfolding opened shownFrom
+  one-open held = by (streamRows (t .streams) id) (streams-length (t .streams) id store id<)
     where
-      by : (l : List (List ℕ)) → length l ≡ 8 → map streamShown (take 1 (set l 0 (streamRow (newStream 0)))) ≡ freshOf 0 ∷ []
+      by : (l : List (List ℕ)) → length l ≡ 8 → shownFrom held 0 (take 1 (set l 0 (streamRow (newStream 0)))) ≡ freshOf 0 ∷ []
       by [] e = let z : ⊥ = omega arith in absurd z
-      by (x ∷ l) e = ap (λ (k : KeptStream). k ∷ []) (new-shown 0 (omega arith))
+      by (x ∷ l) e = ap (λ (k : KeptStream). k ∷ []) (new-shown (bufferAt held 0) 0 (omega arith))
 
   pub open-here : localOf (openedTables t id next key time) id ≡ some (startOf id key time)
   unfolding listed
   open-here =
       ap (localShown id) opened-here
-      ∙ ap (λ (ks : List KeptStream). some (record { id = id; key = key; last = time; objects = []; streams = ks })) one-open
+      ∙ ap (λ (ks : List KeptStream). some (record { id = id; key = key; last = time; objects = []; streams = ks })) (one-open (heldPart (t .held) made))
 
   pub open-elsewhere : (j : ℕ) → j ≢ id → localOf (openedTables t id next key time) j ≡ localOf t j
   open-elsewhere j h = ap (localShown j) (opened-elsewhere j h)
@@ -259,16 +262,16 @@ module _ (time timeout : ℕ) where
 
   -- what is left of a session's part
   pub swept-part : (t : Tables) (j : ℕ) → 256 ≤ length (t .sessions) → 1 ≤ j → j < 256
-      → tablePart (withSessions t (sweptRows (t .sessions) time timeout)) j ≡ withSession (cond (goes (t .sessions) time timeout j) endedSession (sessionAt (t .sessions) j)) (tablePart t j)
+      → tablePart (withSessions t (sweptRows (t .sessions) time timeout)) j ≡ withSession (t .held) (cond (goes (t .sessions) time timeout j) endedSession (sessionAt (t .sessions) j)) (tablePart t j)
   unfolding sweptRows
-  swept-part t j long a b = ap (λ (s : ClientSession). withSession s (tablePart t j)) (swept-inside (t .sessions) 1 255 j (omega arith) a (omega arith))
+  swept-part t j long a b = ap (λ (s : ClientSession). withSession (t .held) s (tablePart t j)) (swept-inside (t .sessions) 1 255 j (omega arith) a (omega arith))
 
   -- "a sweep when it is expired, ends it"; every other session stays
   pub sweep-view : (t : Tables) (j : ℕ) → 256 ≤ length (t .sessions) → 1 ≤ j → j < 256
       → localOf (withSessions t (sweptRows (t .sessions) time timeout)) j ≡ cond (lapsed time timeout (localOf t j)) none (localOf t j)
   sweep-view t j long a b = ap (localShown j) (swept-part t j long a b) ∙ by (goes (t .sessions) time timeout j) ∙ ap (λ (g : Bool). cond g none (localOf t j)) (goes-view t j)
     where
-      by : (g : Bool) → localShown j (withSession (cond g endedSession (sessionAt (t .sessions) j)) (tablePart t j)) ≡ cond g none (localOf t j)
+      by : (g : Bool) → localShown j (withSession (t .held) (cond g endedSession (sessionAt (t .sessions) j)) (tablePart t j)) ≡ cond g none (localOf t j)
       by true = refl
       by false = refl
 

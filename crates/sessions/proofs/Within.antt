@@ -8,7 +8,7 @@ use Rattle.sessions.specs.Need.{needOf, neededFor}
 use Rattle.sessions.specs.Answers.{neededAnswer}
 
 -- "at most 1,048,576 × (`max_clients` + 1) bytes in all", for every `max_clients` that is not refused
-pub need-within : (max : ℕ) → max ≤ 255 → (neededAnswer (neededFor max) ≡ gives needOf) × (needOf .bytes ≤ 1048576 * (max + 1))
+pub need-within : (max : ℕ) → max ≤ 255 → (neededAnswer (neededFor max) ≡ gives (needOf max)) × (needOf max .bytes ≤ 1048576 * (max + 1))
 unfolding neededFor
 need-within max h = (rw (le-leb max 255 h) refl, omega arith)
 

@@ -7,6 +7,8 @@ pub mod Opening
 pub mod Sweep
 pub mod SessionObjects
 pub mod SessionStreams
+pub mod Sending
+pub mod Held
 pub mod View
 pub mod Dependants
 pub mod Removal

@@ -1,12 +1,14 @@
 -- 16 of one session: "Given others, a call still answers, or refuses as 16, right after 15, where a count, length or place in them exceeds its limit."
 use Prim.Native.Nat.{ℕ}
-use mathlib.Core.Bool.{Bool, false, cond}
+use mathlib.Core.Bool.{Bool, true, false, cond}
 use mathlib.Core.List.{List}
-use lib.Dec.{leb}
-use lib.ListN.{length}
+use lib.Dec.{eqb, leb, ltb}
+use lib.ListN.{getD, length}
 use Rattle.codec.specs.declared.refusals.Refusal.the-variants.{OverLimit}
 use Rattle.sessions.specs.Need.{mostObjects, mostStreams, storesFit}
+use Rattle.streams.specs.Places.{firstPlace, within, inLimits}
 use Rattle.sessions.specs.Table.{sessionAt}
+use Rattle.sessions.specs.SessionStreams.{streamPlace, stateAt}
 use Rattle.sessions.specs.declared.objects.Object.{Object}
 use Rattle.sessions.specs.declared.table.ClientSession.{ClientSession}
 use Rattle.sessions.specs.declared.limits.Limits.{Limits}
@@ -16,9 +18,29 @@ use Rattle.sessions.specs.declared.limits.Limits.the-variants.{Within, R
 abbrev pub countsKept : ClientSession → Bool
 countsKept s = cond (leb (s .objects) mostObjects) (leb (s .streams) mostStreams) false
 
-abbrev pub limitsFrom : ClientSession → Limits
-limitsFrom s = cond (countsKept s) Within (Refused OverLimit)
+-- W5: a live session's slot is one of `max_clients`
+abbrev pub slotKept : ClientSession → ℕ → Bool
+slotKept s max = cond (eqb (s .live) 0) true (ltb (s .slot) max)
 
--- the stores, and of the session that a call names, live or not, the counts
-unfoldable pub limitsOf : List (List ℕ) → List (List ℕ) → List Object → ℕ → Limits
-limitsOf sessions streams objects id = cond (storesFit (length sessions) (length streams) (length objects)) (limitsFrom (sessionAt sessions id)) (Refused OverLimit)
+-- a length past that of 1,024 bytes, as `inLimits` looks at each of a stream's sixteen
+abbrev pub overLong : ℕ → Bool
+overLong len = within len 1026 65535
+
+abbrev pub lengthsShort : List ℕ → Bool
+lengthsShort lengths = leb 16 (firstPlace (λ i. overLong (getD lengths i 0)))
+
+-- "messages of up to 1,024 bytes", of what the stream of that number holds; stream 0 holds nothing
+abbrev pub lengthsKept : List (List ℕ) → List (List ℕ) → ℕ → ℕ → Bool
+lengthsKept sessions streams id n = cond (eqb n 0) true (inLimits (stateAt (streamPlace sessions streams id n) streams id))
+
+abbrev pub rowsKept : List (List ℕ) → List (List ℕ) → ℕ → ℕ → ℕ → Bool
+rowsKept sessions streams max id n =
+    let s = sessionAt sessions id in cond (countsKept s) (cond (slotKept s max) (lengthsKept sessions streams id n) false) false
+
+abbrev pub limitsFrom : List (List ℕ) → List (List ℕ) → ℕ → ℕ → ℕ → Limits
+limitsFrom sessions streams max id n = cond (rowsKept sessions streams max id n) Within (Refused OverLimit)
+
+-- the stores; of the session that a call names, live or not, the counts; and the stream that it names
+unfoldable pub limitsOf : List (List ℕ) → List (List ℕ) → List Object → ℕ → ℕ → ℕ → ℕ → Limits
+limitsOf sessions streams objects held max id n =
+    cond (storesFit (length sessions) (length streams) (length objects) held max) (limitsFrom sessions streams max id n) (Refused OverLimit)

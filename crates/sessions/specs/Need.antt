@@ -1,5 +1,5 @@
 -- "The agent's documented need is at most 1,048,576 × (`max_clients` + 1) bytes in all, records counted by their fields."
-use Prim.Native.Nat.{ℕ, _+_, _*_}
+use Prim.Native.Nat.{ℕ, _+_, _-_, _*_}
 use mathlib.Core.Bool.{Bool, false, cond}
 use lib.Dec.{leb}
 use Rattle.codec.specs.declared.refusals.Refusal.the-variants.{OverLimit}
@@ -24,15 +24,28 @@ streamsNeed = sessionsNeed * mostStreams
 abbrev pub objectsNeed : ℕ
 objectsNeed = sessionsNeed * mostObjects
 
--- a session is five numbers of 8 bytes, a stream 35 numbers of 2 bytes, an object 2 + 1 + 1 + 4 + 2 bytes
-abbrev pub needOf : Need
-needOf =
-    record { sessions = sessionsNeed; streams = streamsNeed; objects = objectsNeed; bytes = sessionsNeed * (5 * 8) + streamsNeed * (35 * 2) + objectsNeed * (2 + 1 + 1 + 4 + 2) }
+-- "A stream holds 16 unacknowledged messages of up to 1,024 bytes", and "Best effort (stream 0) records nothing": the bytes of one client, and of all
+abbrev pub streamBytes : ℕ
+streamBytes = 16 * 1024
 
--- 16: "`max_clients` over 255"; the stores are by id, so the need is one for all
+abbrev pub slotBytes : ℕ
+slotBytes = (mostStreams - 1) * streamBytes
+
+abbrev pub heldNeed : ℕ → ℕ
+heldNeed max = slotBytes * max
+
+-- a session is six numbers of 8 bytes, a stream 35 numbers of 2 bytes, an object 2 + 1 + 1 + 4 + 2 bytes
+abbrev pub needOf : ℕ → Need
+needOf max =
+    record { sessions = sessionsNeed; streams = streamsNeed; objects = objectsNeed; held = heldNeed max; bytes = sessionsNeed * (6 * 8) + streamsNeed * (35 * 2) + objectsNeed * (2 + 1 + 1 + 4 + 2) + heldNeed max }
+
+-- 16: "`max_clients` over 255"
 unfoldable pub neededFor : ℕ → Needed
-neededFor max = cond (leb max 255) (Stores needOf) (Refused OverLimit)
+neededFor max = cond (leb max 255) (Stores (needOf max)) (Refused OverLimit)
 
--- 16, "lent store under its documented need", of all three stores
-unfoldable pub storesFit : ℕ → ℕ → ℕ → Bool
-storesFit sessions streams objects = cond (leb sessionsNeed sessions) (cond (leb streamsNeed streams) (leb objectsNeed objects) false) false
+-- 16, "`max_clients` over 255, lent store under its documented need", of all four stores
+unfoldable pub storesFit : ℕ → ℕ → ℕ → ℕ → ℕ → Bool
+storesFit sessions streams objects held max =
+    cond (leb max 255)
+    (cond (leb sessionsNeed sessions) (cond (leb streamsNeed streams) (cond (leb objectsNeed objects) (leb (heldNeed max) held) false) false) false)
+    false

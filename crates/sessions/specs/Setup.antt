@@ -1,8 +1,7 @@
 -- Set-up, the counterpart of `SessionTable::new`: "An empty agent is one just set up."
 use Prim.Native.Nat.{ℕ}
-use mathlib.Core.Bool.{Bool, false, cond}
+use mathlib.Core.Bool.{cond}
 use mathlib.Core.List.{List, _++_}
-use lib.Dec.{leb}
 use lib.ListN.{drop, replicate}
 use Rattle.codec.specs.declared.refusals.Refusal.the-variants.{OverLimit}
 use Rattle.sessions.specs.Need.{sessionsNeed, streamsNeed, objectsNeed, storesFit}
@@ -35,11 +34,8 @@ abbrev pub firstId : ℕ
 firstId = 1
 
 -- 16: "`max_clients` over 255, lent store under its documented need"
-unfoldable pub setUpFits : ℕ → ℕ → ℕ → ℕ → Bool
-setUpFits sessions streams objects max = cond (leb max 255) (storesFit sessions streams objects) false
-
-unfoldable pub setUpOf : ℕ → ℕ → ℕ → ℕ → SetUp
-setUpOf sessions streams objects max = cond (setUpFits sessions streams objects max) (Ready firstId) (Refused OverLimit)
+unfoldable pub setUpOf : ℕ → ℕ → ℕ → ℕ → ℕ → SetUp
+setUpOf sessions streams objects held max = cond (storesFit sessions streams objects held max) (Ready firstId) (Refused OverLimit)
 
 -- what a store is left as; a refusal changes nothing
 abbrev pub leaves : {A : Type 0} → SetUp → A → A → A

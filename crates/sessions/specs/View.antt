@@ -6,10 +6,12 @@ use mathlib.Core.Option.{Option, none, some}
 use mathlib.Core.List.{List, [], _∷_, _++_, map}
 use lib.Dec.{eqb, ltb}
 use lib.ListN.{length, take, drop, getD, set}
-use Rattle.streams.specs.View.{Kept, keptOf, lengthIn, freshOf}
+use Rattle.streams.specs.Sent.{bytesIn}
+use Rattle.streams.specs.View.{Kept, keptOf, freshOf}
 use Rattle.sessions.specs.Table.{sessionAt, elapsedOf}
 use Rattle.sessions.specs.SessionObjects.{objectRow}
 use Rattle.sessions.specs.Streams.{streamOf, firstStream}
+use Rattle.sessions.specs.Held.{heldPart, bufferAt}
 use Rattle.sessions.specs.declared.objects.Object.{Object}
 use Rattle.sessions.specs.declared.objects.Place.{Place}
 use Rattle.sessions.specs.declared.objects.Place.the-variants.{At, Nowhere}
@@ -21,6 +23,7 @@ pub record Tables : Type 0 where
   pub sessions : List (List ℕ)
   pub streams : List (List ℕ)
   pub objects : List Object
+  pub held : List ℕ
 
 -- ---- one session
 
@@ -34,12 +37,13 @@ pub record Entry : Type 0 where
 abbrev pub entryOf : Object → Entry
 entryOf o = record { number = o .number .0; kind = o .kind; handle = cond (eqb (o .bridged) 0) none (some (o .handle)); parent = o .parent }
 
--- "a list of streams (number, next to send, expected, held messages)"; no bytes of messages are lent, so of each its length is read
+-- "a list of streams (number, next to send, expected, held messages)"; a held message is its bytes
 abbrev pub KeptStream : Type 0
-KeptStream = Kept ℕ
+KeptStream = Kept (List ℕ)
 
-abbrev pub streamShown : List ℕ → KeptStream
-streamShown w = keptOf lengthIn (streamOf w)
+-- a stream with its row and its buffer
+abbrev pub streamShown : List ℕ → List ℕ → KeptStream
+streamShown buffer w = keptOf (bytesIn buffer) (streamOf w)
 
 -- "an id and what else the tables keep of its opening, a last activity, a list of objects .., a list of streams"
 pub record Local : Type 0 where
@@ -63,6 +67,7 @@ pub record Part : Type 0 where
   pub session : ClientSession
   pub objects : List Object
   pub streams : List (List ℕ)
+  pub held : List ℕ
 
 unfoldable pub streamRows : List (List ℕ) → ℕ → List (List ℕ)
 streamRows streams id = take 8 (drop (firstStream id) streams)
@@ -70,18 +75,24 @@ streamRows streams id = take 8 (drop (firstStream id) streams)
 unfoldable pub listed : ℕ → List Object → List Entry
 listed used row = map entryOf (take used row)
 
-unfoldable pub opened : ℕ → List (List ℕ) → List KeptStream
-opened used rows = map streamShown (take used rows)
+-- the streams in rows from place k on, each with its buffer
+unfoldable pub shownFrom : List ℕ → ℕ → List (List ℕ) → List KeptStream
+shownFrom held k [] = []
+shownFrom held k (w ∷ ws) = streamShown (bufferAt held k) w ∷ shownFrom held (suc k) ws
+
+unfoldable pub opened : ℕ → List ℕ → List (List ℕ) → List KeptStream
+opened used held rows = shownFrom held 0 (take used rows)
 
 abbrev pub tablePart : Tables → ℕ → Part
-tablePart t id = record { session = sessionAt (t .sessions) id; objects = objectRow (t .objects) id; streams = streamRows (t .streams) id }
+tablePart t id =
+    record { session = sessionAt (t .sessions) id; objects = objectRow (t .objects) id; streams = streamRows (t .streams) id; held = heldPart (t .held) (sessionAt (t .sessions) id) }
 
 -- a session's objects, its streams, and the session, or none where the id is not live
 abbrev pub objectsShown : Part → List Entry
 objectsShown p = listed (p .session .objects) (p .objects)
 
 abbrev pub streamsShown : Part → List KeptStream
-streamsShown p = opened (p .session .streams) (p .streams)
+streamsShown p = opened (p .session .streams) (p .held) (p .streams)
 
 abbrev pub sessionShown : ℕ → Part → Local
 sessionShown id p = record { id = id; key = p .session .«client_key»; last = p .session .«last_activity»; objects = objectsShown p; streams = streamsShown p }

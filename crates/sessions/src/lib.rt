@@ -6,6 +6,7 @@ pub mod object_rows;
 pub mod objects;
 pub mod opening;
 pub mod room;
+pub mod sending;
 pub mod session_objects;
 pub mod session_streams;
 pub mod setup;

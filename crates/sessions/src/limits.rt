@@ -3,13 +3,18 @@ use crate::need::MOST_OBJECTS;
 use crate::need::MOST_STREAMS;
 use crate::need::stores_fit;
 use crate::objects::Object;
+use crate::session_streams::StreamPlace;
+use crate::session_streams::find_stream;
 use crate::stream_rows::StreamRow;
+use crate::stream_rows::first_stream;
+use crate::stream_rows::stream_at;
+use crate::table::ClientSession;
 use crate::table::SessionRow;
 use crate::table::session_at;
 use codec::refusals::Refusal;
 ghost use mathlib.Core.Path.{_≡_};
-ghost use Rattle.sessions.specs.Table.{sessionAt};
-ghost use Rattle.sessions.specs.Limits.{limitsFrom, limitsOf};
+ghost use mathlib.Core.Bool.{cond};
+ghost use Rattle.sessions.specs.Limits.{overLong, countsKept, slotKept, lengthsShort, lengthsKept, limitsFrom, limitsOf};
 
 pub enum Limits {
     Within,
@@ -18,35 +23,108 @@ pub enum Limits {
 
 // The counts are looked at whether or not the session is live: a row that a call left free has none, so that a count past
 // its limit there was altered too.
-fn counts_within(sessions: &[SessionRow], id: u8) -> Limits
-    ensures { λ r. ⌜ r ≡ limitsFrom (sessionAt (now (sessions .entry)) id) ⌝ }
+fn counts_kept(s: ClientSession) -> bool
+    ensures { λ r. ⌜ r ≡ countsKept s ⌝ }
 {
-    let s = session_at(sessions, id);
     if (MOST_OBJECTS as u64) < s.objects {
-        return Limits::Refused(Refusal::OverLimit);
+        return false;
     }
-    if (MOST_STREAMS as u64) < s.streams {
-        return Limits::Refused(Refusal::OverLimit);
-    }
-    Limits::Within
+    s.streams <= (MOST_STREAMS as u64)
 }
 
-// Whether the stores are as long as they must be and the counts of that id within 32 objects and 8 streams. The length of
-// a held message may be any number: of one, the calls here ask only whether it is 0.
+// A live session's slot is one of `max_clients`.
+fn slot_kept(s: ClientSession, max_clients: usize) -> bool
+    ensures { λ r. ⌜ r ≡ slotKept s «max_clients» ⌝ }
+{
+    if s.live == 0 {
+        return true;
+    }
+    s.slot < (max_clients as u64)
+}
+
+// 1 from the first length on that is past 1,025, the length of 1,024 bytes.
+fn over_long(length: u16, over: u16) -> u16
+    ensures { λ r. ⌜ r ≡ cond (overLong length) 1 over ⌝ }
+{
+    if 1025 < length { 1 } else { over }
+}
+
+// All sixteen are looked at, with no way out before the last: so they can be looked at side by side.
+fn lengths_short(lengths: [u16; 16]) -> bool
+    ensures { λ r. ⌜ r ≡ lengthsShort lengths ⌝ }
+{
+    let mut over: u16 = 0;
+    let mut i: usize = 0;
+    while i < 16 {
+        over = over_long(lengths[i], over);
+        i += 1;
+    }
+    over == 0
+}
+
+// Stream 0 holds nothing, so that its lengths are never used; nor does a stream that isn't open.
+fn lengths_kept(sessions: &[SessionRow], streams: &[StreamRow], id: u8, n: u8) -> bool
+    ensures { λ r. ⌜ r ≡ lengthsKept (now (sessions .entry)) (now (streams .entry)) id n ⌝ }
+{
+    if n == 0 {
+        return true;
+    }
+    let p = find_stream(sessions, streams, id, n);
+    match p {
+        StreamPlace::Have(k) => {
+            let s = stream_at(streams, first_stream(id) + k);
+            let lengths = s.lengths;
+            lengths_short(lengths)
+        }
+        StreamPlace::Add(_) => true,
+        StreamPlace::Full => true,
+        StreamPlace::NotLive => true,
+        StreamPlace::Refused(_) => true,
+    }
+}
+
+fn rows_within(
+    sessions: &[SessionRow],
+    streams: &[StreamRow],
+    max_clients: usize,
+    id: u8,
+    n: u8,
+) -> Limits
+    ensures { λ r. ⌜ r ≡ limitsFrom (now (sessions .entry)) (now (streams .entry)) «max_clients» id n ⌝ }
+{
+    let s = session_at(sessions, id);
+    if !counts_kept(s) {
+        return Limits::Refused(Refusal::OverLimit);
+    }
+    if !slot_kept(s, max_clients) {
+        return Limits::Refused(Refusal::OverLimit);
+    }
+    if lengths_kept(sessions, streams, id, n) {
+        Limits::Within
+    } else {
+        Limits::Refused(Refusal::OverLimit)
+    }
+}
+
+// Whether the stores are as long as they must be, the counts of that id within 32 objects and 8 streams, its slot within
+// `max_clients`, and the lengths of what its stream of that number holds within 1,024 bytes.
 pub fn within_limits(
     sessions: &[SessionRow],
     streams: &[StreamRow],
     objects: &[Object],
+    held: usize,
+    max_clients: usize,
     id: u8,
+    n: u8,
 ) -> Limits
-    ensures { λ r. ⌜ r ≡ limitsOf (now (sessions .entry)) (now (streams .entry)) (now (objects .entry)) id ⌝ }
+    ensures { λ r. ⌜ r ≡ limitsOf (now (sessions .entry)) (now (streams .entry)) (now (objects .entry)) held «max_clients» id n ⌝ }
 {
     let session_rows = sessions.len();
     let stream_rows = streams.len();
     let records = objects.len();
-    let ok = stores_fit(session_rows, stream_rows, records);
+    let ok = stores_fit(session_rows, stream_rows, records, held, max_clients);
     if ok {
-        counts_within(sessions, id)
+        rows_within(sessions, streams, max_clients, id, n)
     } else {
         Limits::Refused(Refusal::OverLimit)
     }

@@ -1,6 +1,7 @@
 // What the host lends for the sessions: the rows and records of each store, and their bytes, counted by their fields.
 use codec::refusals::Refusal;
 ghost use mathlib.Core.Path.{_≡_};
+ghost use Prim.Native.Nat.{_≤_};
 ghost use Rattle.sessions.specs.Need.{needOf, neededFor, storesFit};
 
 // The most objects and streams of a session, stream 0 included.
@@ -15,10 +16,14 @@ pub(crate) const STREAMS: usize = 2048;
 
 pub(crate) const OBJECTS: usize = 8192;
 
+// The bytes of held messages of a client: 16 messages of 1,024 bytes for each of its streams but stream 0 (document 02, W5).
+pub(crate) const HELD: usize = 114688;
+
 pub struct Need {
     pub sessions: usize,
     pub streams: usize,
     pub objects: usize,
+    pub held: usize,
     pub bytes: usize,
 }
 
@@ -27,15 +32,18 @@ pub enum Needed {
     Refused(Refusal),
 }
 
-// Every store here is by id, so that none grows with `max_clients`.
-pub(crate) fn stores_need() -> Need
-    ensures { λ r. ⌜ r ≡ needOf ⌝ }
+// Rows and records are by id, whatever `max_clients` is; the bytes of held messages are by slot.
+pub(crate) fn stores_need(max_clients: usize) -> Need
+    requires { ⌜ «max_clients» ≤ 255 ⌝ }
+    ensures { λ r. ⌜ r ≡ needOf «max_clients» ⌝ }
 {
+    let held = HELD * max_clients;
     Need {
         sessions: SESSIONS,
         streams: STREAMS,
         objects: OBJECTS,
-        bytes: 235520,
+        held,
+        bytes: 237568 + held,
     }
 }
 
@@ -46,19 +54,31 @@ pub fn documented_need(max_clients: usize) -> Needed
     if 255 < max_clients {
         return Needed::Refused(Refusal::OverLimit);
     }
-    let need = stores_need();
+    let need = stores_need(max_clients);
     Needed::Stores(need)
 }
 
-// Whether each of the three lent stores has at least as many rows or records as it needs.
-pub(crate) fn stores_fit(sessions: usize, streams: usize, objects: usize) -> bool
-    ensures { λ r. ⌜ r ≡ storesFit sessions streams objects ⌝ }
+// Whether each of the four lent stores has at least as many rows, records or bytes as it needs.
+pub(crate) fn stores_fit(
+    sessions: usize,
+    streams: usize,
+    objects: usize,
+    held: usize,
+    max_clients: usize,
+) -> bool
+    ensures { λ r. ⌜ r ≡ storesFit sessions streams objects held «max_clients» ⌝ }
 {
+    if 255 < max_clients {
+        return false;
+    }
     if sessions < SESSIONS {
         return false;
     }
     if streams < STREAMS {
         return false;
     }
-    OBJECTS <= objects
+    if objects < OBJECTS {
+        return false;
+    }
+    HELD * max_clients <= held
 }

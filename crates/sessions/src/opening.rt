@@ -15,7 +15,9 @@ ghost use mathlib.Core.Bool.{cond};
 ghost use Prim.Native.Nat.{_≤_};
 ghost use lib.Dec.{eqb};
 ghost use lib.ListN.{length};
-ghost use Rattle.sessions.specs.Opening.{after, liveOf, freeOf, countedOf, openFits, chosenOf, createdOf, openedRows, openedStreams};
+ghost use Rattle.sessions.specs.Table.{isFree};
+ghost use Rattle.sessions.specs.Opening.{after, liveFrom, liveOf, freeOf, countedOf, openFits, chosenOf, createdOf, markedAt, markedFrom, unmarked, freeSlot, openedRows, openedStreams};
+ghost use Rattle.streams.specs.Places.{firstFrom};
 
 pub enum Counted {
     Sessions(usize),
@@ -127,6 +129,82 @@ fn admit(sessions: &[SessionRow], streams: &[StreamRow], max_clients: usize, nex
     }
 }
 
+// The slot of a live session is taken.
+fn mark(sessions: &[SessionRow], taken: &mut [u8], id: u8)
+    ensures { λ _. ⌜ now (taken .exit) ≡ markedAt (now (sessions .entry)) id (now (taken .entry)) ⌝ }
+{
+    let s = session_at(sessions, id);
+    if s.live == 0 {
+        return;
+    }
+    let k = s.slot as usize;
+    if k < taken.len() {
+        taken[k] = 1;
+    }
+}
+
+// The marks of five ids in one number: where it is 0, none of them is live.
+pub(crate) fn marks(sessions: &[SessionRow], id: u8) -> u64
+    requires { ⌜ id ≤ 251 ⌝ }
+    ensures { λ r. ⌜ (r ≡ 0 → liveFrom (isFree (now (sessions .entry))) id 5 ≡ 0) ⌝ }
+{
+    let a = session_at(sessions, id).live;
+    let b = session_at(sessions, id + 1).live;
+    let c = session_at(sessions, id + 2).live;
+    let d = session_at(sessions, id + 3).live;
+    let e = session_at(sessions, id + 4).live;
+    a | b | c | d | e
+}
+
+// The slots of five. Most ids are free, so that one test often passes over five.
+fn mark_five(sessions: &[SessionRow], taken: &mut [u8], id: u8)
+    requires { ⌜ id ≤ 251 ⌝ }
+    ensures { λ _. ⌜ now (taken .exit) ≡ markedFrom (now (sessions .entry)) 5 id (now (taken .entry)) ⌝ }
+{
+    if marks(sessions, id) == 0 {
+        return;
+    }
+    mark(sessions, taken, id);
+    mark(sessions, taken, id + 1);
+    mark(sessions, taken, id + 2);
+    mark(sessions, taken, id + 3);
+    mark(sessions, taken, id + 4);
+}
+
+// The ids are 1 to 255: 51 times five.
+fn mark_slots(sessions: &[SessionRow], taken: &mut [u8])
+    ensures { λ _. ⌜ now (taken .exit) ≡ markedFrom (now (sessions .entry)) 255 1 (now (taken .entry)) ⌝ }
+{
+    let mut k: u8 = 0;
+    while k < 51 {
+        mark_five(sessions, taken, 5 * k + 1);
+        k += 1;
+    }
+}
+
+fn first_unmarked(taken: &[u8]) -> usize
+    requires { ⌜ 255 ≤ length (now taken) ⌝ }
+    ensures { λ r. ⌜ r ≡ firstFrom (unmarked (now (taken .entry))) 255 0 ⌝ }
+{
+    let mut k: usize = 0;
+    while k < 255 {
+        if taken[k] == 0 {
+            return k;
+        }
+        k += 1;
+    }
+    255
+}
+
+// The lowest slot that no live session has (document 02, W5): with fewer sessions live than `max_clients` it is one of those.
+fn free_slot(sessions: &[SessionRow]) -> usize
+    ensures { λ r. ⌜ r ≡ freeSlot (now (sessions .entry)) ⌝ }
+{
+    let mut taken = [0u8; 256];
+    mark_slots(sessions, &mut taken);
+    first_unmarked(&taken)
+}
+
 fn open_as(
     sessions: &mut [SessionRow],
     streams: &mut [StreamRow],
@@ -139,7 +217,8 @@ fn open_as(
 {
     match created {
         Created::Opened { id, next: _ } => {
-            let s = ClientSession::new(client_key, time);
+            let slot = free_slot(sessions);
+            let s = ClientSession::new(client_key, time, slot);
             keep_session(sessions, id, s);
             let at = first_stream(id);
             let stream = StreamState::new(0);

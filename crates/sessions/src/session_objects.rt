@@ -55,6 +55,7 @@ fn counted(s: ClientSession, objects: u64) -> ClientSession
         last_activity: s.last_activity,
         objects,
         streams: s.streams,
+        slot: s.slot,
     }
 }
 

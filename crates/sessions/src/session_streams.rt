@@ -20,7 +20,7 @@ ghost use Rattle.streams.specs.State.{newStream};
 ghost use Rattle.sessions.specs.SessionStreams.{streamsNamed, streamedSession, isStream, placedAs, streamPlace, openedAs, openedIn, openedCount, readAs, namedAs, writtenIn};
 
 // The place that a stream has among its session's eight, or the place that it would get: there is none for a ninth.
-enum StreamPlace {
+pub(crate) enum StreamPlace {
     Have(usize),
     Add(usize),
     Full,
@@ -93,7 +93,12 @@ fn placed(k: usize, used: usize) -> StreamPlace
 }
 
 // Where the stream of that number is, or would be.
-fn find_stream(sessions: &[SessionRow], streams: &[StreamRow], id: u8, n: u8) -> StreamPlace
+pub(crate) fn find_stream(
+    sessions: &[SessionRow],
+    streams: &[StreamRow],
+    id: u8,
+    n: u8,
+) -> StreamPlace
     ensures { λ r. ⌜ r ≡ streamPlace (now (sessions .entry)) (now (streams .entry)) id n ⌝ }
 {
     let named = reach(sessions, streams.len(), id);
@@ -118,6 +123,7 @@ fn streamed(s: ClientSession, streams: u64) -> ClientSession
         last_activity: s.last_activity,
         objects: s.objects,
         streams,
+        slot: s.slot,
     }
 }
 

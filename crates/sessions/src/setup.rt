@@ -11,22 +11,12 @@ ghost use Prim.Native.Nat.{_≤_};
 ghost use lib.ListN.{length};
 ghost use Rattle.sessions.specs.Table.{rowOf, endedSession};
 ghost use Rattle.sessions.specs.Objects.{blank};
-ghost use Rattle.sessions.specs.Setup.{setUpFits, cleared, noStream, emptySessions, emptyStreams, emptyObjects, setUpOf, leaves};
+ghost use Rattle.sessions.specs.Setup.{cleared, noStream, emptySessions, emptyStreams, emptyObjects, setUpOf, leaves};
 
 // The stores are cleared, and `next` is the id from which the first free one is looked for.
 pub enum SetUp {
     Ready { next: u8 },
     Refused(Refusal),
-}
-
-// 16 where a lent store is under its need, or `max_clients` over 255.
-fn accepted(sessions: usize, streams: usize, objects: usize, max_clients: usize) -> bool
-    ensures { λ r. ⌜ r ≡ setUpFits sessions streams objects «max_clients» ⌝ }
-{
-    if 255 < max_clients {
-        return false;
-    }
-    stores_fit(sessions, streams, objects)
 }
 
 // The first `n` ids are free, 0 included: row 0 never names a session.
@@ -36,7 +26,7 @@ fn clear_sessions(sessions: &mut [SessionRow], n: usize)
 {
     let mut id: usize = 0;
     while id < n {
-        sessions[id] = [0u64; 5];
+        sessions[id] = [0u64; 6];
         id += 1;
     }
 }
@@ -66,14 +56,16 @@ fn clear_objects(objects: &mut [Object], n: usize)
     }
 }
 
-// Clears every store within its need, whatever stood there; what a store has beyond it stays. A refusal changes nothing.
+// Clears every table within its need, whatever stood there; what a table has beyond it stays. Of the held messages only the
+// number of bytes is asked: what no stream holds is never read. A refusal changes nothing.
 pub fn set_up(
     sessions: &mut [SessionRow],
     streams: &mut [StreamRow],
     objects: &mut [Object],
+    held: usize,
     max_clients: usize,
 ) -> SetUp
-    ensures { λ r. ⌜ (r ≡ setUpOf (length (now (sessions .entry))) (length (now (streams .entry))) (length (now (objects .entry))) «max_clients»)
+    ensures { λ r. ⌜ (r ≡ setUpOf (length (now (sessions .entry))) (length (now (streams .entry))) (length (now (objects .entry))) held «max_clients»)
         × (now (sessions .exit) ≡ leaves r (emptySessions (now (sessions .entry))) (now (sessions .entry)))
         × (now (streams .exit) ≡ leaves r (emptyStreams (now (streams .entry))) (now (streams .entry)))
         × (now (objects .exit) ≡ leaves r (emptyObjects (now (objects .entry))) (now (objects .entry))) ⌝ }
@@ -81,9 +73,9 @@ pub fn set_up(
     let session_rows = sessions.len();
     let stream_rows = streams.len();
     let records = objects.len();
-    let ok = accepted(session_rows, stream_rows, records, max_clients);
+    let ok = stores_fit(session_rows, stream_rows, records, held, max_clients);
     if ok {
-        let need = stores_need();
+        let need = stores_need(max_clients);
         let ids = need.sessions;
         clear_sessions(sessions, ids);
         let rows = need.streams;

@@ -1,5 +1,6 @@
 // A sweep: every expired session ends, and their ids are listed.
 use crate::need::SESSIONS;
+use crate::opening::marks;
 use crate::table::ClientSession;
 use crate::table::SessionRow;
 use crate::table::keep_session;
@@ -8,7 +9,7 @@ use codec::bytes::Written;
 use codec::refusals::Refusal;
 ghost use mathlib.Core.Path.{_≡_};
 ghost use mathlib.Core.Bool.{cond};
-ghost use Prim.Native.Nat.{ℕ, _+_, _-_, _≤_};
+ghost use Prim.Native.Nat.{_+_, _-_, _≤_};
 ghost use lib.ListN.{length, set};
 ghost use Rattle.codec.specs.Bytes.{putAt};
 ghost use Rattle.sessions.specs.Sweep.{goes, expiredFrom, expiredIds, sweptAt, sweptRows, evictedOf, evictedOut, evictedRows};
@@ -33,19 +34,6 @@ fn one(sessions: &[SessionRow], id: u8, time: u64, timeout_ms: u64) -> usize
     } else {
         0
     }
-}
-
-// The marks of five ids in one number: where it is 0, none of them is live, and none goes.
-fn marks(sessions: &[SessionRow], id: u8) -> u64
-    requires { ⌜ id ≤ 251 ⌝ }
-    ensures { λ r. ⌜ ((time timeout : ℕ) → r ≡ 0 → length (expiredFrom (goes (now (sessions .entry)) time timeout) id 5) ≡ 0) ⌝ }
-{
-    let a = session_at(sessions, id).live;
-    let b = session_at(sessions, id + 1).live;
-    let c = session_at(sessions, id + 2).live;
-    let d = session_at(sessions, id + 3).live;
-    let e = session_at(sessions, id + 4).live;
-    a | b | c | d | e
 }
 
 // How many of five go. Most ids are free, so that one test often passes over five.

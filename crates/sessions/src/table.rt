@@ -5,16 +5,17 @@ ghost use mathlib.Core.Path.{_≡_};
 ghost use Rattle.sessions.specs.Table.{newSession, endedSession, touchedSession, expiredOf, elapsedOf, sessionAt, keepSession, namedOf, gotOf, reachedOf, keptRows, touchedRows, endedRows};
 
 // The row of an id: the numbers of `ClientSession`, in its order.
-pub type SessionRow = [u64; 5];
+pub type SessionRow = [u64; 6];
 
 // What the table keeps of a session. `live` is 0 where the id is free; the counts say how many of the session's
-// object records and stream records are in use.
+// object records and stream records are in use; the slot says which part of the stores by slot is the session's (document 02, W5).
 pub struct ClientSession {
     pub live: u64,
     pub client_key: u64,
     pub last_activity: u64,
     pub objects: u64,
     pub streams: u64,
+    pub slot: u64,
 }
 
 // What an id names.
@@ -40,8 +41,8 @@ fn elapsed(last: u64, time: u64) -> u64
 
 impl ClientSession {
     // A session as it is opened: no objects, and stream 0.
-    pub(crate) fn new(client_key: u32, time: u64) -> ClientSession
-        ensures { λ r. ⌜ r ≡ newSession «client_key» time ⌝ }
+    pub(crate) fn new(client_key: u32, time: u64, slot: usize) -> ClientSession
+        ensures { λ r. ⌜ r ≡ newSession «client_key» time slot ⌝ }
     {
         ClientSession {
             live: 1,
@@ -49,6 +50,7 @@ impl ClientSession {
             last_activity: time,
             objects: 0,
             streams: 1,
+            slot: slot as u64,
         }
     }
 
@@ -62,6 +64,7 @@ impl ClientSession {
             last_activity: 0,
             objects: 0,
             streams: 0,
+            slot: 0,
         }
     }
 
@@ -74,6 +77,7 @@ impl ClientSession {
             last_activity: time,
             objects: self.objects,
             streams: self.streams,
+            slot: self.slot,
         }
     }
 
@@ -98,6 +102,7 @@ pub(crate) fn session_at(sessions: &[SessionRow], id: u8) -> ClientSession
             last_activity: sessions[i][2],
             objects: sessions[i][3],
             streams: sessions[i][4],
+            slot: sessions[i][5],
         }
     } else {
         ClientSession::ended()
@@ -109,7 +114,14 @@ pub(crate) fn keep_session(sessions: &mut [SessionRow], id: u8, s: ClientSession
     ensures { λ _. ⌜ now (sessions .exit) ≡ keepSession (now (sessions .entry)) id s ⌝ }
 {
     let i = id as usize;
-    let row = [s.live, s.client_key, s.last_activity, s.objects, s.streams];
+    let row = [
+        s.live,
+        s.client_key,
+        s.last_activity,
+        s.objects,
+        s.streams,
+        s.slot,
+    ];
     if i < sessions.len() {
         sessions[i] = row;
     }

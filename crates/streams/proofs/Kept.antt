@@ -20,6 +20,18 @@ use Rattle.streams.proofs.Dropped.{acknowledged}
 use Rattle.streams.proofs.View.{recorded-by, recorded}
 use Rattle.streams.proofs.Soundness.{new-empty, receive-is}
 
+-- what is expected has no say in what is sent and held
+pub receive-spares : {A : Type 0} (k : Kept A) (n : ℕ) → (receiveIn n k .next ≡ k .next) × ((m : ℕ) → receiveIn n k .held m ≡ k .held m)
+receive-spares {A} k n = by (eqb (k .number) 0) (eqb n (k .expected))
+  where
+    then : Bool → Bool → Kept A
+    then t u = cond t k (cond u (record { number = k .number; next = k .next; expected = plus n 1; held = k .held }) k)
+
+    by : (t u : Bool) → (then t u .next ≡ k .next) × ((m : ℕ) → then t u .held m ≡ k .held m)
+    by true u = (refl, λ m. refl)
+    by false true = (refl, λ m. refl)
+    by false false = (refl, λ m. refl)
+
 -- ---- the calls that record nothing, whatever is read of a message
 
 module _ {A : Type 0} (read : ℕ → ℕ → A) where
@@ -61,14 +73,8 @@ module _ {A : Type 0} (read : ℕ → ℕ → A) where
         }
         by false false = refl
 
-    -- what is expected has no say in what is held
     pub receive-held : (n m : ℕ) → keptOf read (receivedOf s n .state) .held m ≡ keptOf read s .held m
-    receive-held n m = ap (λ (k : Kept A). k .held m) (receive-kept n) ∙ by (eqb (s .«stream_id») 0) (eqb n (s .«next_recv_seq»))
-      where
-        by : (t u : Bool) → cond t (keptOf read s) (cond u (record { number = s .«stream_id»; next = s .«next_send_seq»; expected = plus n 1; held = keptOf read s .held }) (keptOf read s)) .held m ≡ keptOf read s .held m
-        by true u = refl
-        by false true = refl
-        by false false = refl
+    receive-held n m = ap (λ (k : Kept A). k .held m) (receive-kept n) ∙ receive-spares (keptOf read s) n .1 m
 
 -- ---- `record_sent`, by its answer: the bytes, and their number
 

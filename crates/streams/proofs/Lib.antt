@@ -12,4 +12,8 @@ pub mod Repeats
 pub mod Heartbeat
 pub mod Oldest
 pub mod Seen
+pub mod Counted
+pub mod Reply
+pub mod Repeated
+pub mod LastSent
 pub mod Cases

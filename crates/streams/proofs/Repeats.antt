@@ -7,14 +7,14 @@ use mathlib.Core.Logic.{⊎-elim}
 use native.Mathlib.Nat.{eq-or-lt-of-le, div-one}
 use native.Mathlib.Omega.{arith}
 use borrow.Author.Tests.{eqb-true}
-use lib.Count.{ones, ones-step}
+use lib.Count.{ones, ones-step, ones-le}
 use lib.ListN.{length, take, replicate}
 use lib.Pow.{shr-shr}
 use lib.Seq.{take-append-seam}
 use Rattle.streams.specs.declared.state.StreamState.{StreamState}
 use Rattle.streams.specs.Sequence.{plus, seqLt}
 use Rattle.streams.specs.Places.{isHeld}
-use Rattle.streams.specs.Acknowledged.{bitOf, wanted, repeatsFrom, repeats, padded, repeatsOf, dropBefore, acknowledge}
+use Rattle.streams.specs.Acknowledged.{bitOf, wanted, repeatsFrom, repeats, padded, repeatsOf, dropBefore, acknowledge, UpperBound}
 use Rattle.streams.proofs.places.Laws.{never}
 use Rattle.streams.proofs.Dropped.{dropped}
 
@@ -111,3 +111,8 @@ module _ (s : StreamState) (first bitmap : ℕ) where
   pub answer-lists : let a = acknowledge s first bitmap in take (a .count) (a .repeats) ≡ repeats (a .state) first bitmap
   unfolding acknowledge repeatsOf padded
   answer-lists = let l = repeats (dropBefore s first) first bitmap in take-append-seam l (replicate (16 - length l) 0)
+
+  -- "how many messages the bitmap asks for and how many were repeated": the second is at most the first, and that at most sixteen
+  pub upper-bound : bitmap < 65536 → UpperBound (acknowledge s first bitmap)
+  unfolding acknowledge repeatsOf
+  upper-bound h = record { repeats-most = listed-count (dropBefore s first) first bitmap; asked-most = ones-le 16 bitmap h }

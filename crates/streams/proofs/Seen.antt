@@ -1,8 +1,7 @@
 -- What a stream answers is seen in what is kept of it: what stands in free places has no say, nor which place a message has.
 use Prim.Native.Nat.{ℕ, zero, suc}
 use mathlib.Core.Path.{_≡_, refl, sym, ap, _∙_}
-use mathlib.Core.Bool.{Bool, true, false, cond}
-use mathlib.Core.Option.{Option, none, some}
+use mathlib.Core.Bool.{true, cond}
 use lib.Dec.{eqb}
 use Rattle.streams.specs.declared.state.StreamState.{StreamState}
 use Rattle.streams.specs.Sequence.{plus, minus}
@@ -10,14 +9,11 @@ use Rattle.streams.specs.Places.{isHeld}
 use Rattle.streams.specs.Acknowledged.{wanted, repeatsFrom, repeats, padded, repeatsOf, dropBefore, acknowledge, firstUnacked, heartbeatOf}
 use Rattle.streams.specs.Oldest.{SixteenBits}
 use Rattle.streams.specs.Received.{bitmapOf, acknackOf, receivedOf}
-use Rattle.streams.specs.View.{heldBy, Kept, keptOf, acknackIn}
+use Rattle.streams.specs.View.{present, Kept, keptOf, acknackIn}
+use Rattle.streams.proofs.places.Held.{read-present}
 use Rattle.streams.proofs.Oldest.{oldest, no-other}
 use Rattle.streams.proofs.Soundness.{receive-is}
 use Rattle.streams.proofs.Kept.{drop-kept}
-
-told : {A : Type 0} → Option A → Bool
-told (some x) = true
-told none = false
 
 -- two streams that hold the same numbers
 module _ (s t : StreamState) (same : (m : ℕ) → isHeld s m ≡ isHeld t m) where
@@ -41,17 +37,9 @@ module _ (s t : StreamState) (same : (m : ℕ) → isHeld s m ≡ isHeld t m) wh
       })
 
 module _ {A : Type 0} (read : ℕ → ℕ → A) where
-  told-held : (s : StreamState) (m : ℕ) → told (heldBy read s m) ≡ isHeld s m
-  unfolding heldBy told
-  told-held s m = by (isHeld s m) _
-    where
-      by : (b : Bool) (x : A) → told (cond b (some x) none) ≡ b
-      by true x = refl
-      by false x = refl
-
   module _ (s t : StreamState) (same : keptOf read s ≡ keptOf read t) where
     held-same : (m : ℕ) → isHeld s m ≡ isHeld t m
-    held-same m = sym (told-held s m) ∙ ap (λ (k : Kept A). told (k .held m)) same ∙ told-held t m
+    held-same m = sym (read-present s m read) ∙ ap (λ (k : Kept A). present (k .held m)) same ∙ read-present t m read
 
     pub accepts-same : (n : ℕ) → receivedOf s n .accepted ≡ receivedOf t n .accepted
     accepts-same n = receive-is s n .0 ∙ ap (λ (k : Kept A). cond (eqb (k .number) 0) true (eqb n (k .expected))) same ∙ sym (receive-is t n .0)

@@ -1,7 +1,8 @@
 -- What an ACKNACK acknowledges and asks for, and the HEARTBEAT that says what is still held.
-use Prim.Native.Nat.{ℕ, zero, suc, _-_, _/_, _%_, _^_}
+use Prim.Native.Nat.{ℕ, zero, suc, _-_, _/_, _%_, _^_, _≤_}
 use mathlib.Core.Bool.{Bool, false, cond}
 use mathlib.Core.List.{List, [], _∷_, _++_}
+use lib.Count.{ones}
 use lib.Dec.{eqb, ltb}
 use lib.ListN.{getD, length, replicate}
 use Rattle.codec.specs.declared.submessages.HeartbeatPayload.{HeartbeatPayload}
@@ -49,12 +50,19 @@ repeats s first bitmap = repeatsFrom s first bitmap 16 0
 unfoldable pub padded : List ℕ → List ℕ
 padded l = l ++ replicate (16 - length l) 0
 
+-- document 02, W5: "the stream layer's answer gives how many messages the bitmap asks for and how many were repeated"
 unfoldable pub repeatsOf : StreamState → ℕ → ℕ → Acknowledged
-repeatsOf s first bitmap = record { state = s; repeats = padded (repeats s first bitmap); count = length (repeats s first bitmap) }
+repeatsOf s first bitmap =
+    record { state = s; asked = ones bitmap; repeats = padded (repeats s first bitmap); count = length (repeats s first bitmap) }
 
 -- first what is acknowledged is dropped, then what is still held is listed
 unfoldable pub acknowledge : StreamState → ℕ → ℕ → Acknowledged
 acknowledge s first bitmap = repeatsOf (dropBefore s first) first bitmap
+
+-- document 01: "count of ones of the 16-bit nack bitmap, an upper bound for the repeats"
+pub record UpperBound (a : Acknowledged) : Type 0 where
+  pub repeats-most : a .count ≤ a .asked
+  pub asked-most : a .asked ≤ 16
 
 -- document 02, W2: "the greatest forward distance to the next to send": that of one more place, or the greatest so far; a free place has none
 unfoldable pub further : ℕ → ℕ → ℕ → ℕ → ℕ

@@ -7,3 +7,4 @@ pub mod Acknowledged
 pub mod Oldest
 pub mod Received
 pub mod View
+pub mod Repeats

@@ -10,6 +10,11 @@ unfoldable pub firstFrom : (ℕ → Bool) → ℕ → ℕ → ℕ
 firstFrom t zero i = i
 firstFrom t (suc k) i = cond (t i) i (firstFrom t k (suc i))
 
+-- at how many of k places from i on a test holds
+unfoldable pub countFrom : (ℕ → Bool) → ℕ → ℕ → ℕ
+countFrom t zero i = 0
+countFrom t (suc k) i = cond (t i) (suc (countFrom t k (suc i))) (countFrom t k (suc i))
+
 -- the first of the sixteen places at which a test holds, or 16
 unfoldable pub firstPlace : (ℕ → Bool) → ℕ
 firstPlace t = firstFrom t 16 0
@@ -43,6 +48,10 @@ placeBetween s least most = firstPlace (lengthAt s least most)
 -- whether it is 0, and of a number nothing, so that any value is allowed there.
 unfoldable pub inLimits : StreamState → Bool
 inLimits s = leb 16 (placeBetween s 1026 65535)
+
+-- document 02, W5: "With 16 held": no place is free
+unfoldable pub isFull : StreamState → Bool
+isFull s = leb 16 (placeBetween s 0 0)
 
 -- "A number recorded again replaces its message"; any other takes the first free place; or 16
 unfoldable pub placeFor : StreamState → ℕ → ℕ

@@ -1,8 +1,8 @@
 -- What the tables keep of a stream, read as document 01's "number, next to send, expected, held messages", and what calls make of it.
-use Prim.Native.Nat.{ℕ, _-_, _≤_, _<_}
+use Prim.Native.Nat.{ℕ, zero, suc, _-_, _≤_, _<_}
 use mathlib.Core.Path.{_≡_}
-use mathlib.Core.Bool.{Bool, true, cond, not}
-use mathlib.Core.List.{List, [], _∷_}
+use mathlib.Core.Bool.{Bool, true, false, cond, not}
+use mathlib.Core.List.{List, [], _∷_, _++_}
 use mathlib.Core.Option.{Option, none, some}
 use lib.Dec.{eqb}
 use lib.ListN.{getD, length}
@@ -10,9 +10,9 @@ use Rattle.streams.specs.declared.state.StreamState.{StreamState}
 use Rattle.streams.specs.declared.sent.Slot.{Slot}
 use Rattle.streams.specs.declared.sent.Slot.the-variants as slot
 use Rattle.streams.specs.Sequence.{plus, seqLt}
-use Rattle.streams.specs.Places.{holdsAt, placeOf, isHeld}
+use Rattle.streams.specs.Places.{countFrom, holdsAt, placeOf, isHeld}
 use Rattle.streams.specs.Sent.{allocOf, recordOf, recordBytes, bytesIn}
-use Rattle.streams.specs.Acknowledged.{acknowledge}
+use Rattle.streams.specs.Acknowledged.{bitOf, acknowledge}
 use Rattle.streams.specs.Received.{receivedOf}
 
 -- ---- the held messages, as the Rust's map from their numbers
@@ -28,6 +28,19 @@ messageHeld s buffer n = heldBy (bytesIn buffer) s n
 -- how many it has, where no buffer is lent
 abbrev pub lengthIn : ℕ → ℕ → ℕ
 lengthIn place len = len
+
+-- whether there is one
+abbrev pub present : {A : Type 0} → Option A → Bool
+present (some x) = true
+present none = false
+
+-- a sequence number is one of 65,536; the name keeps every proof from counting them
+unfoldable pub allNumbers : ℕ
+allNumbers = 65536
+
+-- document 02, W5: "With 16 held": how many numbers are held
+unfoldable pub manyHeld : {A : Type 0} → (ℕ → Option A) → ℕ
+manyHeld held = countFrom (λ n. present (held n)) allNumbers 0
 
 -- ---- "number, next to send, expected, held messages"
 
@@ -58,9 +71,27 @@ recordIn (slot.At place) n x k = holding n x k
 recordIn slot.Nowhere n x k = k
 recordIn (slot.Refused r) n x k = k
 
+-- document 02, W5: "each DATA reply now takes the next send sequence in its header and is held"
+abbrev pub sentIn : {A : Type 0} → A → Kept A → Kept A
+sentIn x k = allocIn (holding (k .next) x k)
+
 -- "`process_acknack` drops held numbers before `first_unacked_seq`"
 abbrev pub acknackIn : {A : Type 0} → ℕ → Kept A → Kept A
 acknackIn first k = record { number = k .number; next = k .next; expected = k .expected; held = λ m. cond (seqLt m first) none (k .held m) }
+
+-- the message, or none
+abbrev pub listOf : {A : Type 0} → Option A → List A
+listOf (some x) = x ∷ []
+listOf none = []
+
+-- document 02, W5: "An ACKNACK is answered by the listed messages, byte for byte, in bit order": those of k bits from one on
+unfoldable pub repeatedFrom : {A : Type 0} → (ℕ → Option A) → ℕ → ℕ → ℕ → ℕ → List A
+repeatedFrom held first bitmap zero bit = []
+repeatedFrom held first bitmap (suc k) bit =
+    cond (bitOf bitmap bit) (listOf (held (plus first bit))) [] ++ repeatedFrom held first bitmap k (suc bit)
+
+unfoldable pub repeatedIn : {A : Type 0} → (ℕ → Option A) → ℕ → ℕ → List A
+repeatedIn held first bitmap = repeatedFrom held first bitmap 16 0
 
 -- "Best effort (stream 0) .. accepts all numbers. A reliable stream accepts only the expected one; after 65,535 comes 0."
 abbrev pub receiveIn : {A : Type 0} → ℕ → Kept A → Kept A

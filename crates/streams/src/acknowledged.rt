@@ -9,9 +9,11 @@ ghost use mathlib.Core.Path.{_≡_};
 ghost use Prim.Native.Nat.{_<_};
 ghost use Rattle.streams.specs.Acknowledged.{keptLength, dropBefore, wanted, repeatsOf, acknowledge, further, firstUnacked, heartbeatOf};
 
-// The numbers to repeat, in the order of their bits: the first `count` of the sixteen.
+// How many messages the bitmap asks for (document 02, W5), and the numbers to repeat, in the order of their bits: the
+// first `count` of the sixteen.
 pub struct Acknowledged {
     pub state: StreamState,
+    pub asked: u32,
     pub repeats: [u16; PLACES],
     pub count: usize,
 }
@@ -36,7 +38,7 @@ fn further(next: u16, best: u16, number: u16, length: u16) -> u16
 
 impl StreamState {
     // The stream without the numbers before the first unacknowledged one.
-    fn drop_before(self, first_unacked_seq: u16) -> StreamState
+    pub fn drop_before(self, first_unacked_seq: u16) -> StreamState
         ensures { λ r. ⌜ r ≡ dropBefore self «first_unacked_seq» ⌝ }
     {
         let mut lengths = [0u16; PLACES];
@@ -62,7 +64,7 @@ impl StreamState {
         }
     }
 
-    fn list_repeats(self, first_unacked_seq: u16, nack_bitmap: u16) -> Acknowledged
+    pub fn list_repeats(self, first_unacked_seq: u16, nack_bitmap: u16) -> Acknowledged
         ensures { λ r. ⌜ r ≡ repeatsOf self «first_unacked_seq» «nack_bitmap» ⌝ }
     {
         let mut repeats = [0u16; PLACES];
@@ -77,6 +79,7 @@ impl StreamState {
         }
         Acknowledged {
             state: self,
+            asked: u16::count_ones(nack_bitmap),
             repeats,
             count,
         }

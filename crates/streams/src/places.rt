@@ -2,7 +2,7 @@
 use crate::state::PLACES;
 use crate::state::StreamState;
 ghost use mathlib.Core.Path.{_≡_};
-ghost use Rattle.streams.specs.Places.{holds, within, placeOf, placeBetween, isHeld, inLimits, placeFor};
+ghost use Rattle.streams.specs.Places.{holds, within, placeOf, placeBetween, isHeld, inLimits, isFull, placeFor};
 
 fn holds(number: u16, length: u16, seq: u16) -> bool
     ensures { λ r. ⌜ r ≡ holds number length seq ⌝ }
@@ -60,6 +60,13 @@ impl StreamState {
         ensures { λ r. ⌜ r ≡ inLimits self ⌝ }
     {
         PLACES <= self.place_between(1026, 65535)
+    }
+
+    // Whether no place is free (document 02, W5: "With 16 held").
+    pub fn is_full(self) -> bool
+        ensures { λ r. ⌜ r ≡ isFull self ⌝ }
+    {
+        PLACES <= self.place_between(0, 0)
     }
 
     // The place for a message under `seq`: the one that holds it already, else the first free one, or 16.

@@ -1,11 +1,11 @@
-//! The agent with everything it needs: its record, its tables, and the datagram of an open call.
+//! The agent with everything it needs: its record, its tables with the store of held messages, and the datagram of an open call.
 
 use crate::call::{Answer, Call};
 use crate::ffi;
 use crate::records::{AgentRecord, Tables, Told};
 use crate::refusal::{read, Refusal};
 
-/// An agent. It holds about 246 KiB of tables on the heap, whatever `max_clients` is.
+/// An agent. It holds 248 KiB of tables on the heap, and 112 KiB for each of `max_clients`.
 ///
 /// While a bridge call is open, [`Agent::answer`] is the only call in its turn: datagrams, removals and sweeps are
 /// refused as 15 (document 01, "Refused"). [`Agent::list`] only reads, and answers then too.
@@ -30,12 +30,12 @@ pub struct Outcome<'a> {
 impl Agent {
     /// An agent without sessions. Refused as 16 if `max_clients` is over 255.
     pub fn new(max_clients: u64, timeout_ms: u64) -> Result<Agent, Refusal> {
-        let mut agent = Agent { record: AgentRecord::default(), tables: Tables::new(), kept: Vec::new() };
+        let mut agent = Agent { record: AgentRecord::default(), tables: Tables::new(max_clients), kept: Vec::new() };
         read(ffi::setup(agent.record.lend_mut(), agent.tables.lend(), max_clients, timeout_ms))?;
         Ok(agent)
     }
 
-    /// A datagram and its time. Refused: 15, 16, 1 to 5, 12, 13, in this order.
+    /// A datagram and its time. Refused: 15, 16, 1 to 5, 12, 14, 13, in this order.
     pub fn incoming(&mut self, datagram: &[u8], time_ms: u64, out: &mut [u8]) -> Result<Outcome<'_>, Refusal> {
         let told = Told { datagram, time_ms, ..Told::default() };
         read(ffi::process(self.record.lend_mut(), self.tables.lend(), out, told))?;

@@ -79,7 +79,8 @@ impl Agent {
     /// A datagram with all its bridge calls; `out` then holds all replies and nothing else. It grows as they need, and
     /// not again for a datagram that needs no more. Refused: 15 if a call was open, 1 to 5; then no bridge call was made.
     ///
-    /// A sample over 65,533 bytes can't be replied (12): it is lost, and the client is told that the read failed.
+    /// A sample over 65,533 bytes can't be replied (12), nor one over 1,014 on a stream other than 0 (14), where it would be
+    /// held: it is lost, and the client is told that the read failed.
     pub fn serve(
         &mut self,
         datagram: &[u8],
@@ -88,7 +89,7 @@ impl Agent {
         bridge: &mut dyn Bridge,
     ) -> Result<(), Refusal> {
         out.clear();
-        out.resize(room(datagram.len(), 0), 0);
+        out.resize(room(datagram, 0), 0);
         let mut wrote = match self.incoming(datagram, time_ms, out) {
             Ok(outcome) => outcome.wrote,
             Err(refusal) => {
@@ -98,18 +99,18 @@ impl Agent {
         };
         while let Some(call) = self.open_call() {
             let answered = call.make(bridge);
-            wrote += self.served(datagram.len(), &answered, wrote, out)?;
+            wrote += self.served(datagram, &answered, wrote, out)?;
         }
         out.truncate(wrote);
         Ok(())
     }
 
     /// Hands the answer in with room behind the replies that stand there; how many bytes it added.
-    fn served(&mut self, len: usize, answered: &Answered, at: usize, out: &mut Vec<u8>) -> Result<usize, Refusal> {
+    fn served(&mut self, datagram: &[u8], answered: &Answered, at: usize, out: &mut Vec<u8>) -> Result<usize, Refusal> {
         let sample = if let Answered::Sample(sample) = answered { sample.len() } else { 0 };
-        out.resize(at + room(len, sample), 0);
+        out.resize(at + room(datagram, sample), 0);
         match self.answer(answered.lend(), &mut out[at..]) {
-            Err(Refusal::TooLong) => Ok(self.answer(Answer::Failed, &mut out[at..])?.wrote),
+            Err(Refusal::TooLong | Refusal::StoreFull) => Ok(self.answer(Answer::Failed, &mut out[at..])?.wrote),
             told => Ok(told?.wrote),
         }
     }

@@ -16,6 +16,8 @@ unsafe extern "C" {
         stream_rows: usize,
         objects: *mut ObjectRecord,
         object_records: usize,
+        held: *const u8,
+        held_bytes: usize,
         max_clients: u64,
         timeout_ms: u64,
     ) -> u64;
@@ -29,6 +31,8 @@ unsafe extern "C" {
         stream_rows: usize,
         objects: *mut ObjectRecord,
         object_records: usize,
+        held: *mut u8,
+        held_bytes: usize,
         out: *mut u8,
         room: usize,
         datagram: *const u8,
@@ -75,9 +79,9 @@ pub fn need(max_clients: u64) -> u64 {
     unsafe { xrce_need(max_clients) }
 }
 
-/// Sets an agent up over lent tables. Refused: 16.
+/// Sets an agent up over lent tables and a lent store, of which no byte is looked at. Refused: 16.
 pub fn setup(agent: &mut [AgentRecord], tables: Lent<'_>, max_clients: u64, timeout_ms: u64) -> u64 {
-    let Lent { sessions, streams, objects } = tables;
+    let Lent { sessions, streams, objects, held } = tables;
     // SAFETY: each pointer comes from a slice with its length, so it isn't null and all its elements may be written;
     // mutable slices share no byte; every bit pattern is a value of the numbers in them; no pointer is kept.
     unsafe {
@@ -90,15 +94,17 @@ pub fn setup(agent: &mut [AgentRecord], tables: Lent<'_>, max_clients: u64, time
             streams.len(),
             objects.as_mut_ptr(),
             objects.len(),
+            held.as_ptr(),
+            held.len(),
             max_clients,
             timeout_ms,
         )
     }
 }
 
-/// A datagram, or the bridge's answer. Refused, in this order: 15, 16, 1 to 5, 12, 13.
+/// A datagram, or the bridge's answer. Refused, in this order: 15, 16, 1 to 5, 12, 14, 13.
 pub fn process(agent: &mut [AgentRecord], tables: Lent<'_>, out: &mut [u8], told: Told<'_>) -> u64 {
-    let Lent { sessions, streams, objects } = tables;
+    let Lent { sessions, streams, objects, held } = tables;
     // SAFETY: as in `setup`; the datagram and the sample are read alone, and shared slices share no byte with mutable ones.
     unsafe {
         xrce_agent_process(
@@ -110,6 +116,8 @@ pub fn process(agent: &mut [AgentRecord], tables: Lent<'_>, out: &mut [u8], told
             streams.len(),
             objects.as_mut_ptr(),
             objects.len(),
+            held.as_mut_ptr(),
+            held.len(),
             out.as_mut_ptr(),
             out.len(),
             told.datagram.as_ptr(),

@@ -8,9 +8,11 @@ pub const SESSIONS: usize = 256;
 pub const STREAMS: usize = 2048;
 /// Records of the table of objects: 32 a session.
 pub const OBJECTS: usize = 8192;
+/// Bytes of the store of held messages for each client: 16 messages of 1,024 bytes on each of 7 streams.
+pub const HELD: usize = 114_688;
 
-/// A row of the table of sessions.
-pub type SessionRow = [u64; 5];
+/// A row of the table of sessions: live, key, last activity, objects in use, streams in use, and the session's slot.
+pub type SessionRow = [u64; 6];
 /// A row of the table of streams.
 pub type StreamRow = [u16; 35];
 
@@ -96,7 +98,7 @@ pub struct ObjectRecord {
     pub parent: u16,
 }
 
-/// The three tables, lent for one call.
+/// The three tables and the store of held messages, lent for one call.
 pub struct Lent<'a> {
     /// At least [`SESSIONS`] rows, else the call is refused as 16.
     pub sessions: &'a mut [SessionRow],
@@ -104,6 +106,8 @@ pub struct Lent<'a> {
     pub streams: &'a mut [StreamRow],
     /// At least [`OBJECTS`] records.
     pub objects: &'a mut [ObjectRecord],
+    /// At least [`HELD`] bytes for each of `max_clients`. A set-up measures it and writes none of them.
+    pub held: &'a mut [u8],
 }
 
 /// What `process` is told: `enum xrce_input` with what belongs to it.
@@ -121,7 +125,7 @@ pub struct Told<'a> {
     pub sample: &'a [u8],
 }
 
-/// The tables of the documented need, on the heap. Zeroed there: nothing of their size stands on the stack.
+/// The tables and the store of the documented need, on the heap. Zeroed there: nothing of their size stands on the stack.
 #[derive(Clone, Debug, PartialEq, Eq)]
 pub struct Tables {
     /// The table of sessions.
@@ -130,27 +134,30 @@ pub struct Tables {
     pub streams: Box<[StreamRow]>,
     /// The table of objects.
     pub objects: Box<[ObjectRecord]>,
+    /// The store of held messages.
+    pub held: Box<[u8]>,
 }
 
 impl Tables {
-    /// Tables of the documented need, all zero.
-    pub fn new() -> Self {
+    /// Tables of the documented need for that many clients, all zero. For more than the 255 that there may be, the store is
+    /// that of 255: the set-up refuses them.
+    pub fn new(max_clients: u64) -> Self {
         Tables {
-            sessions: vec![[0; 5]; SESSIONS].into_boxed_slice(),
+            sessions: vec![[0; 6]; SESSIONS].into_boxed_slice(),
             streams: vec![[0; 35]; STREAMS].into_boxed_slice(),
             objects: vec![ObjectRecord::default(); OBJECTS].into_boxed_slice(),
+            held: vec![0; HELD * max_clients.min(255) as usize].into_boxed_slice(),
         }
     }
 
-    /// The tables, lent for one call.
+    /// The tables and the store, lent for one call.
     pub fn lend(&mut self) -> Lent<'_> {
-        Lent { sessions: &mut self.sessions, streams: &mut self.streams, objects: &mut self.objects }
-    }
-}
-
-impl Default for Tables {
-    fn default() -> Self {
-        Tables::new()
+        Lent {
+            sessions: &mut self.sessions,
+            streams: &mut self.streams,
+            objects: &mut self.objects,
+            held: &mut self.held,
+        }
     }
 }
 
@@ -176,5 +183,5 @@ const _: () = {
     assert!(offset_of!(ObjectRecord, handle) == 4);
     assert!(offset_of!(ObjectRecord, parent) == 8);
     assert!(size_of::<ObjectRecord>() == 12 && align_of::<ObjectRecord>() == 4);
-    assert!(size_of::<SessionRow>() == 40 && size_of::<StreamRow>() == 70);
+    assert!(size_of::<SessionRow>() == 48 && size_of::<StreamRow>() == 70);
 };

@@ -2,8 +2,8 @@
 
 use std::alloc::{GlobalAlloc, Layout, System};
 use std::sync::atomic::{AtomicU64, Ordering};
-use wire::Datagram;
-use xrce_agent::{Agent, Answer, Handle};
+use wire::{strings, Datagram};
+use xrce_agent::{Agent, Answer, Call, Handle};
 
 struct Counting;
 
@@ -29,12 +29,14 @@ static ALLOCATOR: Counting = Counting;
 fn serve(agent: &mut Agent, datagrams: &[Vec<u8>], out: &mut [u8]) {
     for datagram in datagrams {
         agent.incoming(datagram, 1, out).unwrap();
-        while agent.open_call().is_some() {
-            agent.answer(Answer::Created(Handle(1)), out).unwrap();
+        while let Some(call) = agent.open_call() {
+            let reads = matches!(call, Call::ReadData { .. });
+            let answer = if reads { Answer::Sample(b"sample") } else { Answer::Created(Handle(1)) };
+            agent.answer(answer, out).unwrap();
         }
     }
     agent.sweep(1, out).unwrap();
-    assert_eq!(agent.list(1, &mut [0; 32]), Ok(&[1][..]));
+    assert_eq!(agent.list(1, &mut [0; 32]), Ok(&[3, 2, 1][..]));
 }
 
 #[test]
@@ -43,9 +45,12 @@ fn nothing_is_allocated_once_warm() {
     let datagrams = [
         Datagram::new(0, 0).create_client([1; 4]).bytes(),
         Datagram::new(1, 0).create(1, 1, 0, &[]).heartbeat(0, 1).bytes(),
+        Datagram::new(1, 0).create(2, 2, 1, &strings(b"n", b"t")).create(3, 6, 2, &[]).bytes(),
         Datagram::new(1, 0).delete(9).bytes(),
+        // What is read on another stream than 0 is held, and repeated.
+        Datagram::new(1, 7).read_data(3).acknack(0, 0xFFFF).bytes(),
     ];
-    let mut out = [0; 64];
+    let mut out = [0; 512];
     serve(&mut agent, &datagrams, &mut out);
     let before = COUNT.load(Ordering::Relaxed);
     for _ in 0..100 {

@@ -182,7 +182,7 @@ fn an_answer_without_a_call_is_out_of_turn() {
 
 #[test]
 fn of_two_records_the_first_is_the_agents() {
-    let (mut tables, mut out) = (Tables::new(), [FILL; 64]);
+    let (mut tables, mut out) = (Tables::new(4), [FILL; 64]);
     let other = AgentRecord { max_clients: 256, open: 9, wrote: u64::MAX, ..AgentRecord::default() };
     let mut records = [other.clone(), other.clone()];
     assert_eq!(lent::setup(&mut records, tables.lend(), 4, 1000), 0);

@@ -6,7 +6,7 @@ mod c;
 use std::fs;
 use std::mem::{align_of, offset_of, size_of};
 use std::path::Path;
-use xrce_agent::lent::{AgentRecord, ObjectRecord, SessionRow, StreamRow, OBJECTS, SESSIONS, STREAMS};
+use xrce_agent::lent::{AgentRecord, ObjectRecord, SessionRow, StreamRow, HELD, OBJECTS, SESSIONS, STREAMS};
 
 // A line of C and the same line from Rust for each field.
 macro_rules! fields {
@@ -37,7 +37,8 @@ fn lines() -> Vec<(String, (usize, usize))> {
         (size_of::<SessionRow>(), size_of::<StreamRow>()),
     ));
     lines.push(("(size_t)XRCE_SESSIONS, (size_t)XRCE_STREAMS".into(), (SESSIONS, STREAMS)));
-    lines.push(("(size_t)XRCE_OBJECTS, sizeof(struct xrce_tables)".into(), (OBJECTS, 251_904)));
+    lines.push(("(size_t)XRCE_OBJECTS, sizeof(struct xrce_tables)".into(), (OBJECTS, 253_952 + 255 * HELD)));
+    lines.push(("(size_t)XRCE_HELD, (size_t)XRCE_MAX_CLIENTS".into(), (HELD, 255)));
     lines
 }
 
@@ -54,5 +55,5 @@ fn the_layout_is_the_headers() {
     let Some(printed) = c::output(&source, "layout") else { return };
     let wanted: Vec<String> = lines.iter().map(|(_, (a, b))| format!("{a} {b}")).collect();
     assert_eq!(printed.lines().collect::<Vec<_>>(), wanted);
-    assert_eq!(lines.len(), AgentRecord::NUMBERS + 5 + 2 + 3);
+    assert_eq!(lines.len(), AgentRecord::NUMBERS + 5 + 2 + 4);
 }

@@ -4,7 +4,7 @@ mod common;
 
 use common::*;
 use wire::Datagram;
-use xrce_agent::lent::{self, AgentRecord, Told, OBJECTS, SESSIONS, STREAMS};
+use xrce_agent::lent::{self, AgentRecord, Tables, Told, HELD, OBJECTS, SESSIONS, STREAMS};
 use xrce_agent::Refusal;
 
 #[test]
@@ -106,19 +106,25 @@ fn stores_under_their_need() {
         Short { streams: 0, ..WHOLE },
         Short { objects: OBJECTS - 1, ..WHOLE },
         Short { objects: 0, ..WHOLE },
+        Short { held: WHOLE.held - 1, ..WHOLE },
+        Short { held: 0, ..WHOLE },
     ];
     let mut fixture = Fixture::with_objects();
     let datagram = Datagram::new(1, 0).delete(4).bytes();
     for short in shorts {
-        assert_eq!(fixture.setup(short, 4, 1000), 16);
+        assert_eq!(fixture.setup(short, CLIENTS, 1000), 16);
         assert_eq!(fixture.process(short, Told { datagram: &datagram, ..Told::default() }), 16);
     }
     for short in &shorts[..3] {
         assert_eq!(fixture.remove(*short, 1), 16);
         assert_eq!(fixture.sweep(*short, 255, 0), 16);
     }
-    // A listing looks at the sessions and the objects, and at no stream; 16 comes before 13.
-    for (short, answer) in shorts.iter().zip([None, Some(16), Some(16), None, None, Some(16), Some(16)]) {
+    // A removal and a sweep take no store of held messages.
+    assert_eq!(fixture.remove(Short { held: 0, ..WHOLE }, 9), 0);
+    assert_eq!(fixture.sweep(Short { held: 0, ..WHOLE }, 255, 0), 0);
+    // A listing looks at the sessions and the objects, and at no stream and no held message; 16 comes before 13.
+    for (at, short) in shorts.iter().enumerate() {
+        let answer = [1, 2, 5, 6].contains(&at).then_some(16);
         let listed = answer.map_or(Ok(vec![4, 3, 2, 1]), Err);
         assert_eq!(fixture.list(*short, 32, 1), listed);
         assert_eq!(fixture.list(*short, 0, 1), Err(answer.unwrap_or(13)));
@@ -137,12 +143,28 @@ fn limits_of_the_set_up() {
         assert_eq!(fixture.setup(WHOLE, max, 1000), 16);
         assert_eq!(lent::need(max), 16);
     }
-    for max in [0, 1, 255] {
-        assert_eq!(fixture.setup(WHOLE, max, 0), 0);
+    for max in [0, 1, CLIENTS, 255] {
+        fixture.tables = Tables::new(max);
+        let held = HELD * max as usize;
+        assert_eq!(fixture.setup(Short { held, ..WHOLE }, max, 0), 0);
         let need = lent::read(lent::need(max)).unwrap();
-        assert_eq!(need, 256 * 40 + 2048 * 70 + 8192 * 10);
+        assert_eq!(need, 256 * 48 + 2048 * 70 + 8192 * 10 + 114_688 * max);
         // Document 01: "at most 1,048,576 × (max_clients + 1) bytes in all".
         assert!(need <= 1_048_576 * (max + 1));
+    }
+}
+
+// A set-up measures the store of held messages and leaves every byte of it, whatever stood there.
+#[test]
+fn a_set_up_leaves_the_store_of_held_messages() {
+    let mut fixture = Fixture::with_objects();
+    fixture.tables.held.fill(FILL);
+    assert_eq!(fixture.setup(WHOLE, CLIENTS + 1, 1000), 16);
+    for max in [0, 1, CLIENTS] {
+        assert_eq!(fixture.setup(WHOLE, max, 1000), 0);
+        assert!(fixture.tables.held.iter().all(|byte| *byte == FILL), "{max} clients");
+        let held = HELD * max as usize;
+        assert_eq!(fixture.setup(Short { held, ..WHOLE }, max, 1000), 0, "{max} clients");
     }
 }
 

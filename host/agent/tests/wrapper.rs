@@ -167,6 +167,22 @@ fn a_datagram_served_whole() {
     assert!(out.is_empty());
 }
 
+// On a stream other than 0 a DATA reply is held, and has at most 1,024 bytes.
+#[test]
+fn a_sample_that_is_too_long_to_be_held_is_a_failed_read() {
+    for (len, reply) in [(1014, 1024), (1015, 11)] {
+        let (mut agent, mut bridge) = (opened(), Noting { sample: vec![1; len], ..Noting::default() });
+        let mut out = Vec::new();
+        agent.serve(&all_but_the_delete().bytes(), 1, &mut out, &mut bridge).unwrap();
+        let read = Datagram::new(1, 7).read_data(4).acknack(0, 0xFFFF).bytes();
+        agent.serve(&read, 1, &mut out, &mut bridge).unwrap();
+        // What is held is repeated at once; a failed read holds nothing.
+        let repeated = if reply == 1024 { 1024 } else { 0 };
+        assert_eq!(out.len(), reply + repeated, "a sample of {len} bytes");
+        assert_eq!(agent.open_call(), None);
+    }
+}
+
 #[test]
 fn a_sample_that_is_too_long_is_a_failed_read() {
     for (len, wrote) in [(65_533, 65_543), (65_534, 11)] {

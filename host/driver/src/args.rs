@@ -12,6 +12,8 @@ driver [FLAG VALUE ..]   plays a client: opens a session, creates a participant,
   --rate N         a second; 0 for as fast as it goes                      (0)
   --topic NAME     the topic's name; it should be no other client's        (driver- and a number)
   --size N         bytes of each message, 8 to 65497                       (24)
+  --stream N       of the reads: on one other than 0 DATA that gets lost
+                   is asked for again, and has at most 1014 bytes          (1; 0 if the size is greater)
   --help           this text
 
 Up to 10 messages are shown one by one, more as a summary. A missing or wrong reply ends it with exit code 1.
@@ -21,6 +23,8 @@ Up to 10 messages are shown one by one, more as a summary. A missing or wrong re
 pub const MOST_BYTES: usize = 65_507 - 10;
 /// A message begins with its number, 8 digits.
 pub const LEAST_BYTES: usize = 8;
+/// The most that a DATA reply carries where the agent holds it: 1,024 bytes with its headers (document 02, W5).
+pub const MOST_HELD: usize = 1024 - 10;
 /// As many messages as 8 digits count.
 pub const MOST_MESSAGES: u64 = 99_999_999;
 
@@ -31,6 +35,7 @@ pub struct Options {
     pub rate: u64,
     pub topic: String,
     pub size: usize,
+    stream: Option<u8>,
 }
 
 #[derive(Debug, PartialEq, Eq)]
@@ -48,7 +53,15 @@ impl Default for Options {
             // A name of its own: samples of another client would reach this reader too.
             topic: format!("driver-{}", std::process::id()),
             size: 24,
+            stream: None,
         }
+    }
+}
+
+impl Options {
+    /// The stream of the reads: if none is given, one on which nothing gets lost, where the messages aren't too long for it.
+    pub fn stream(&self) -> u8 {
+        self.stream.unwrap_or(if self.size > MOST_HELD { 0 } else { 1 })
     }
 }
 
@@ -72,6 +85,7 @@ fn set(options: &mut Options, flag: &str, word: &str) -> Result<(), String> {
         "--topic" if word.len() > 1024 => return Err("--topic wants at most 1024 bytes".into()),
         "--topic" => options.topic = word.into(),
         "--size" => options.size = within(flag, word, LEAST_BYTES, MOST_BYTES, "8 to 65497")?,
+        "--stream" => options.stream = Some(within(flag, word, 0, 255, "0 to 255")?),
         _ => return Err(format!("there is no flag '{flag}'")),
     }
     Ok(())
@@ -91,6 +105,9 @@ pub fn parse(words: &[String]) -> Result<Parsed, String> {
         let value = given.or_else(|| rest.next()).ok_or_else(|| format!("{flag} wants a value"))?;
         set(&mut options, flag, value)?;
     }
+    if options.stream() != 0 && options.size > MOST_HELD {
+        return Err(format!("--size {} wants --stream 0: the agent holds no longer ones than 1014", options.size));
+    }
     Ok(Parsed::Run(options))
 }
 
@@ -108,6 +125,12 @@ mod tests {
         let some = Options { messages: 7, size: 65_497, topic: "a=b".into(), ..Options::default() };
         assert_eq!(parsed("--messages 7 --size=65497 --topic=a=b"), Ok(Parsed::Run(some)));
         assert_eq!(parsed("--help"), Ok(Parsed::Help));
+        for (line, stream) in
+            [("", 1), ("--size 1014", 1), ("--size 1015", 0), ("--stream 0", 0), ("--stream 255", 255)]
+        {
+            let Ok(Parsed::Run(options)) = parsed(line) else { panic!("{line}") };
+            assert_eq!(options.stream(), stream, "{line}");
+        }
     }
 
     #[test]
@@ -116,6 +139,8 @@ mod tests {
             ("--messages 0", "--messages wants 1 to 99999999, not '0'"),
             ("--size 7", "--size wants 8 to 65497, not '7'"),
             ("--size 65498", "--size wants 8 to 65497, not '65498'"),
+            ("--stream 256", "--stream wants 0 to 255, not '256'"),
+            ("--stream 2 --size 1015", "--size 1015 wants --stream 0: the agent holds no longer ones than 1014"),
             ("--rate fast", "--rate wants 0 to 1000000, not 'fast'"),
             ("--host here", "--host wants an address and a port such as 127.0.0.1:2019, not 'here'"),
             ("--host", "--host wants a value"),

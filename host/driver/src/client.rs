@@ -4,10 +4,10 @@ use std::fmt;
 use std::io;
 use std::net::{SocketAddr, UdpSocket};
 use std::time::{Duration, Instant};
-use wire::{Body, Datagram, Reply};
+use wire::{Body, Datagram, Received, Reply};
 
 /// A reply that takes longer is asked for again.
-const AGAIN: Duration = Duration::from_millis(250);
+pub const AGAIN: Duration = Duration::from_millis(250);
 /// After that long a reply counts as missing.
 pub const LIMIT: Duration = Duration::from_secs(3);
 
@@ -61,18 +61,24 @@ pub enum Told {
 
 pub struct Client {
     socket: UdpSocket,
-    session: u8,
-    inbox: Vec<u8>,
+    pub(crate) session: u8,
+    /// The stream of its reads, and what has come on it if it isn't 0. All else goes on stream 0.
+    pub(crate) stream: u8,
+    pub(crate) received: Received,
+    pub(crate) inbox: Vec<u8>,
     pub resent: u64,
+    /// How often it asked for repeats.
+    pub asked: u64,
 }
 
 impl Client {
     /// Opens a session. A CREATE_CLIENT that is sent again opens another; the first is then left to expire.
-    pub fn connect(host: SocketAddr) -> Result<Client, Wrong> {
+    pub fn connect(host: SocketAddr, stream: u8) -> Result<Client, Wrong> {
         let any = if host.is_ipv4() { "0.0.0.0:0" } else { "[::]:0" };
         let socket = UdpSocket::bind(any)?;
         socket.connect(host)?;
-        let mut client = Client { socket, session: 0, inbox: vec![0; 65_536], resent: 0 };
+        let (received, inbox) = (Received::default(), vec![0; 65_536]);
+        let mut client = Client { socket, session: 0, stream, received, inbox, resent: 0, asked: 0 };
         let key = std::process::id().to_le_bytes();
         let open = Datagram::new(0, 0).create_client(key).bytes();
         let wanted = |reply: &Reply<'_>| match reply.body {
@@ -115,6 +121,9 @@ impl Client {
 
     /// One sample, or `None` if the reader has none.
     pub fn read(&mut self, reader: u16) -> Result<Option<Vec<u8>>, Wrong> {
+        if self.stream != 0 {
+            return self.read_numbered(reader);
+        }
         match self.about(&Datagram::new(self.session, 0).read_data(reader).bytes(), reader, "READ_DATA")? {
             Told::Data(data) => Ok(Some(data)),
             Told::Status(wire::OK) => Ok(None),
@@ -151,9 +160,7 @@ impl Client {
     ) -> Result<T, Wrong> {
         let start = Instant::now();
         while start.elapsed() < LIMIT {
-            if let Err(error) = self.socket.send(datagram) {
-                self.pause_if_refused(error)?;
-            }
+            self.send(datagram)?;
             let until = Instant::now() + AGAIN;
             while let Some(len) = self.receive(until)? {
                 let bytes = &self.inbox[..len];
@@ -167,8 +174,15 @@ impl Client {
         Err(Wrong::Missing(what.into()))
     }
 
+    pub(crate) fn send(&self, datagram: &[u8]) -> Result<(), Wrong> {
+        match self.socket.send(datagram) {
+            Ok(_) => Ok(()),
+            Err(error) => self.pause_if_refused(error),
+        }
+    }
+
     // The length of the next datagram, or `None` if none has come by then.
-    fn receive(&mut self, until: Instant) -> Result<Option<usize>, Wrong> {
+    pub(crate) fn receive(&mut self, until: Instant) -> Result<Option<usize>, Wrong> {
         let left = until.saturating_duration_since(Instant::now());
         if left.is_zero() {
             return Ok(None);

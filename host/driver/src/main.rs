@@ -4,6 +4,7 @@ mod args;
 mod client;
 mod messages;
 mod progress;
+mod reading;
 mod summary;
 
 use args::{parse, Options, Parsed, HELP};
@@ -35,8 +36,8 @@ fn main() -> ExitCode {
 
 // Objects 1 to 4 of the session that is opened here.
 fn run(options: &Options) -> Result<(), Wrong> {
-    let mut client = Client::connect(options.host)?;
-    println!("session {} opened by {}", client.session(), options.host);
+    let mut client = Client::connect(options.host, options.stream())?;
+    println!("session {} opened by {}, reads on stream {}", client.session(), options.host, options.stream());
     let names = wire::strings(options.topic.as_bytes(), b"driver::Message");
     for (object, kind, parent, strings, what) in [
         (1, wire::PARTICIPANT, 0, &[][..], "participant"),

@@ -52,7 +52,7 @@ impl Messages {
             progress.at(number);
         }
         progress.done();
-        summary.finish(start.elapsed(), client.resent);
+        summary.finish(start.elapsed(), client.resent, client.asked);
         Ok(summary)
     }
 
@@ -64,7 +64,7 @@ impl Messages {
         }
     }
 
-    // Older messages may come twice where a write was sent again. A sample whose reply got lost is written again.
+    // Older messages may come twice where a write was sent again. On stream 0 a sample whose reply got lost is written again.
     fn read_back(&self, client: &mut Client, number: u64, sent: &[u8], seen: &mut Summary) -> Result<(), Wrong> {
         let start = Instant::now();
         while start.elapsed() < LIMIT {

@@ -8,21 +8,23 @@ pub struct Summary {
     size: usize,
     pub repeated: u64,
     resent: u64,
+    asked: u64,
     took: Duration,
 }
 
 impl Summary {
     pub fn new(size: usize) -> Self {
-        Summary { times: Vec::new(), size, repeated: 0, resent: 0, took: Duration::ZERO }
+        Summary { times: Vec::new(), size, repeated: 0, resent: 0, asked: 0, took: Duration::ZERO }
     }
 
     pub fn add(&mut self, time: Duration) {
         self.times.push(time);
     }
 
-    pub fn finish(&mut self, took: Duration, resent: u64) {
+    pub fn finish(&mut self, took: Duration, resent: u64, asked: u64) {
         self.took = took;
         self.resent = resent;
+        self.asked = asked;
         self.times.sort();
     }
 
@@ -40,8 +42,8 @@ impl fmt::Display for Summary {
         writeln!(f, "{count} messages of {} bytes written and read back, none missing or wrong", self.size)?;
         writeln!(
             f,
-            "{} requests sent again, {} samples repeated, {rate:.0} messages a second",
-            self.resent, self.repeated
+            "{} requests sent again, {} times asked for repeats, {} samples came twice, {rate:.0} messages a second",
+            self.resent, self.asked, self.repeated
         )?;
         let (half, most, worst) = (self.within(500), self.within(990), self.within(1000));
         writeln!(f, "write to sample: half within {half} µs, 99 in 100 within {most} µs, all within {worst} µs")

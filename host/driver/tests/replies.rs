@@ -1,81 +1,9 @@
 //! The client against hosts that lose replies, reply wrongly, or aren't there.
 
-use std::collections::VecDeque;
+mod common;
+
+use common::{driver, host, told};
 use std::net::UdpSocket;
-use std::process::{Command, Output};
-use xrce_agent::{replies, Agent, Bridge, Failed, Handle};
-
-/// One queue for whoever writes and reads.
-#[derive(Default)]
-struct Queue(u32, VecDeque<Vec<u8>>);
-
-impl Queue {
-    fn make(&mut self) -> Result<Handle, Failed> {
-        self.0 += 1;
-        Ok(Handle(self.0))
-    }
-}
-
-impl Bridge for Queue {
-    fn create_participant(&mut self, _domain: u16) -> Result<Handle, Failed> {
-        self.make()
-    }
-
-    fn create_topic(&mut self, _: Handle, _: &[u8], _: &[u8]) -> Result<Handle, Failed> {
-        self.make()
-    }
-
-    fn create_writer(&mut self, _: Handle, _: Handle) -> Result<Handle, Failed> {
-        self.make()
-    }
-
-    fn create_reader(&mut self, _: Handle, _: Handle) -> Result<Handle, Failed> {
-        self.make()
-    }
-
-    fn write_data(&mut self, _: Handle, data: &[u8]) -> Result<(), Failed> {
-        self.1.push_back(data.to_vec());
-        Ok(())
-    }
-
-    fn read_data(&mut self, _: Handle) -> Result<Option<Vec<u8>>, Failed> {
-        Ok(self.1.pop_front())
-    }
-
-    fn delete_entity(&mut self, _: Handle) -> Result<(), Failed> {
-        Ok(())
-    }
-}
-
-/// A host in a thread of this test, which does with the nth reply what it is told. It ends with the test.
-fn host(change: impl Fn(usize, &[u8]) -> Option<Vec<u8>> + Send + 'static) -> String {
-    let socket = UdpSocket::bind("127.0.0.1:0").unwrap();
-    let address = socket.local_addr().unwrap().to_string();
-    std::thread::spawn(move || {
-        let (mut agent, mut bridge) = (Agent::new(8, 60_000).unwrap(), Queue::default());
-        let (mut inbox, mut out, mut count) = (vec![0; 65_536], Vec::new(), 0);
-        loop {
-            let (len, from) = socket.recv_from(&mut inbox).unwrap();
-            agent.serve(&inbox[..len], 0, &mut out, &mut bridge).unwrap();
-            for reply in replies(&out) {
-                count += 1;
-                if let Some(reply) = change(count, reply) {
-                    socket.send_to(&reply, from).unwrap();
-                }
-            }
-        }
-    });
-    address
-}
-
-fn driver(words: &[&str]) -> Output {
-    Command::new(env!("CARGO_BIN_EXE_driver")).args(words).output().unwrap()
-}
-
-fn told(output: &Output) -> (Option<i32>, String, String) {
-    let text = |bytes: &[u8]| String::from_utf8_lossy(bytes).into_owned();
-    (output.status.code(), text(&output.stdout), text(&output.stderr))
-}
 
 #[test]
 fn messages_come_back() {

@@ -9,6 +9,9 @@ use std::net::{SocketAddr, UdpSocket};
 use std::time::{Duration, Instant};
 use xrce_agent::{replies, room, Agent, Answer, Answered, Refusal};
 
+/// A datagram whose replies may take more isn't served: 8 bytes of ACKNACK can ask for 16 messages of 1,024 bytes.
+const MOST_REPLIED: usize = 1 << 20;
+
 /// How long a signal may wait for the loop to look.
 const LOOK: Duration = Duration::from_millis(100);
 
@@ -80,7 +83,12 @@ impl Host {
         self.served += 1;
         let time = self.now();
         log!(Debug, "{from}: {len} bytes");
-        self.out.resize(self.out.len().max(room(len, 0)), 0);
+        let room = room(&self.inbox[..len], 0);
+        if MOST_REPLIED < room {
+            log!(Warn, "{from}: not served: its replies may take {room} bytes");
+            return Ok(());
+        }
+        self.out.resize(self.out.len().max(room), 0);
         match self.agent.incoming(&self.inbox[..len], time, &mut self.out) {
             Ok(outcome) => send(&self.socket, from, &self.out[..outcome.wrote]),
             Err(refusal) => {
@@ -98,14 +106,14 @@ impl Host {
             self.bridge.serve_session(session);
             let answered = call.make(&mut self.bridge);
             let sample = if let Answered::Sample(sample) = &answered { sample.len() } else { 0 };
-            self.out.resize(self.out.len().max(room(len, sample)), 0);
+            self.out.resize(self.out.len().max(room(&self.inbox[..len], sample)), 0);
             let wrote = self.answer(&answered).map_err(io::Error::other)?;
             send(&self.socket, from, &self.out[..wrote]);
         }
         Ok(())
     }
 
-    // A sample that no DATA can carry (12) is told as a failed read: the call must not stay open.
+    // A sample that no DATA can carry (12), or that can't be held (14), is told as a failed read: the call must not stay open.
     fn answer(&mut self, answered: &Answered) -> Result<usize, Refusal> {
         match self.agent.answer(answered.lend(), &mut self.out) {
             Ok(outcome) => Ok(outcome.wrote),

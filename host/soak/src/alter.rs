@@ -105,8 +105,11 @@ fn call(chance: &mut Chance, stores: &mut Stores, whole: bool) -> Result<u64, St
         }
     };
     match before {
-        Some(before) if (which == LIST || !went(answer)) && before != stores.copy() => {
-            Err(format!("a listing, or a call refused as {}, changed its record or tables", answer % 256))
+        Some(before) if which > LIST && went(answer) && !stores.others_held(&before) => {
+            Err("a datagram or an answer changed held messages of another session".into())
+        }
+        Some(before) if (which == LIST || !went(answer)) && !stores.equals(&before) => {
+            Err(format!("a listing, or a call refused as {}, changed its record, tables or store", answer % 256))
         }
         _ => Ok(answer),
     }

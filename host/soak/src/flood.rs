@@ -87,15 +87,18 @@ pub fn run(seed: u64, program: &str) -> Result<String, String> {
     }
     crowd.held()?;
     let served = host.end()?;
+    if witness.repeated < witness.exchanges / 2 {
+        return Err(format!("only {} messages were repeated in {} exchanges", witness.repeated, witness.exchanges));
+    }
     if crowd.sent < DATAGRAMS || served < crowd.sent + 2 * witness.exchanges {
         return Err(format!("the host served {served} of {} datagrams", crowd.sent));
     }
     let took = start.elapsed().as_millis();
-    let (sent, replies, exchanges) = (crowd.sent, crowd.replies, witness.exchanges);
+    let (sent, replies, exchanges, repeated) = (crowd.sent, crowd.replies, witness.exchanges, witness.repeated);
     let (opened, full) = (crowd.opened, crowd.full);
     Ok(format!(
         "{sent} datagrams from {} ports, {replies} replies, {opened} sessions opened (ids wrapped {} times), \
-         {full} times full; the witness made {exchanges} exchanges; the host served {served} and ended with 0; {took} ms",
+         {full} times full; the witness made {exchanges} exchanges and had {repeated} messages repeated; the host served {served} and ended with 0; {took} ms",
         crowd.ports(),
         crowd.wrapped
     ))

@@ -19,7 +19,7 @@ pub fn listing(sessions: &[SessionRow], objects: &[ObjectRecord], room: usize, i
     if sessions.len() < SESSIONS || objects.len() < OBJECTS {
         return Kept::Refused(16);
     }
-    let [live, _, _, used, _] = sessions[usize::from(id)];
+    let [live, _, _, used, ..] = sessions[usize::from(id)];
     let Some(used) = usize::try_from(used).ok().filter(|used| *used <= MOST) else { return Kept::Refused(16) };
     let mut held = objects[MOST * usize::from(id)..][..used].to_vec();
     held.sort_by_key(|object| object.number);

@@ -7,6 +7,7 @@ mod crowd;
 mod datagrams;
 mod flood;
 mod listing;
+mod repeats;
 mod stores;
 mod sys;
 mod witness;

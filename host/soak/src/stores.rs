@@ -4,9 +4,11 @@ use crate::chance::Chance;
 use crate::listing::{listing, Kept};
 use crate::sys::{Guarded, Side};
 use xrce_agent::lent::{
-    self, AgentRecord, Lent, ObjectRecord, SessionRow, StreamRow, Told, OBJECTS, SESSIONS, STREAMS,
+    self, AgentRecord, Lent, ObjectRecord, SessionRow, StreamRow, Told, HELD, OBJECTS, SESSIONS, STREAMS,
 };
 
+/// For so many clients there is a store of held messages; a set-up for more is refused.
+const CLIENTS: usize = 6;
 const OUT: usize = 8192;
 const NUMBERS: usize = 64;
 const BYTES: usize = 70_000;
@@ -18,20 +20,23 @@ pub struct Stores {
     sessions: Guarded<SessionRow>,
     streams: Guarded<StreamRow>,
     objects: Guarded<ObjectRecord>,
+    held: Guarded<u8>,
     out: Guarded<u8>,
     numbers: Guarded<u16>,
     datagram: Guarded<u8>,
     sample: Guarded<u8>,
     side: Side,
+    // Of the last datagram or answer: the session that it named, and where the store began that was lent with it.
+    named: u8,
+    held_from: usize,
     // The datagram of the open call, as a host keeps it.
     kept: Vec<u8>,
     /// Objects in listings that were checked whole.
     pub listed: u64,
 }
 
-/// A copy of record and tables.
-#[derive(PartialEq, Eq)]
-pub struct Copied(AgentRecord, Vec<SessionRow>, Vec<StreamRow>, Vec<ObjectRecord>);
+/// A copy of record, tables and store.
+pub struct Copied(AgentRecord, Vec<SessionRow>, Vec<StreamRow>, Vec<ObjectRecord>, Vec<u8>);
 
 // Mostly the whole need, at times less.
 fn length(chance: &mut Chance, need: usize) -> usize {
@@ -40,6 +45,16 @@ fn length(chance: &mut Chance, need: usize) -> usize {
         1 => need - 1,
         2 => chance.below(3).min(need),
         _ => need,
+    }
+}
+
+// Mostly the whole store of held messages, at times what some number of clients needs, or a byte less.
+fn held_length(chance: &mut Chance) -> usize {
+    let some = HELD * chance.below(CLIENTS + 1);
+    match chance.below(100) {
+        0 => some,
+        1 => some.saturating_sub(1),
+        _ => HELD * CLIENTS,
     }
 }
 
@@ -72,11 +87,14 @@ impl Stores {
             sessions: Guarded::new(SESSIONS),
             streams: Guarded::new(STREAMS),
             objects: Guarded::new(OBJECTS),
+            held: Guarded::new(HELD * CLIENTS),
             out: Guarded::new(OUT),
             numbers: Guarded::new(NUMBERS),
             datagram: Guarded::new(BYTES),
             sample: Guarded::new(BYTES),
             side: Side::End,
+            named: 0,
+            held_from: 0,
             kept: Vec::new(),
             listed: 0,
         }
@@ -98,7 +116,28 @@ impl Stores {
             self.sessions.slice(side, SESSIONS).to_vec(),
             self.streams.slice(side, STREAMS).to_vec(),
             self.objects.slice(side, OBJECTS).to_vec(),
+            self.held.slice(side, HELD * CLIENTS).to_vec(),
         )
+    }
+
+    /// Whether all is as it was when it was copied.
+    pub fn equals(&mut self, copied: &Copied) -> bool {
+        let side = self.side;
+        *self.record() == copied.0
+            && *self.sessions.slice(side, SESSIONS) == copied.1
+            && *self.streams.slice(side, STREAMS) == copied.2
+            && *self.objects.slice(side, OBJECTS) == copied.3
+            && *self.held.slice(side, HELD * CLIENTS) == copied.4
+    }
+
+    /// Whether the last datagram or answer left the messages of every other session: only the part of the named session's slot may
+    /// have changed since the copy.
+    pub fn others_held(&mut self, copied: &Copied) -> bool {
+        let (side, from) = (self.side, self.held_from);
+        let [live, .., slot] = self.sessions.slice(side, SESSIONS)[usize::from(self.named)];
+        let held = self.held.slice(side, HELD * CLIENTS);
+        let own = if live == 0 { from..from } else { from + HELD * slot as usize..from + HELD * (slot as usize + 1) };
+        held[..own.start] == copied.4[..own.start] && held[own.end..] == copied.4[own.end..]
     }
 
     pub fn setup(&mut self, chance: &mut Chance) -> u64 {
@@ -108,8 +147,9 @@ impl Stores {
             sessions: self.sessions.slice(side, length(chance, SESSIONS)),
             streams: self.streams.slice(side, length(chance, STREAMS)),
             objects: self.objects.slice(side, length(chance, OBJECTS)),
+            held: self.held.slice(side, held_length(chance)),
         };
-        let max = if chance.once_in(8) { chance.extreme() } else { 1 + chance.below(6) as u64 };
+        let max = if chance.once_in(8) { chance.extreme() } else { 1 + chance.below(CLIENTS) as u64 };
         lent::setup(self.record.slice(side, records), tables, max, chance.of(&[0, 10, 1000, u64::MAX]))
     }
 
@@ -129,13 +169,19 @@ impl Stores {
         };
         let out = self.out.slice(side, room(chance));
         out.fill(FILL);
-        let records = length(chance, 1);
+        let (records, held) = (length(chance, 1), held_length(chance));
         let tables = Lent {
             sessions: self.sessions.slice(side, length(chance, SESSIONS)),
             streams: self.streams.slice(side, length(chance, STREAMS)),
             objects: self.objects.slice(side, length(chance, OBJECTS)),
+            held: self.held.slice(side, held),
         };
         let records = self.record.slice(side, records);
+        self.named = match records.first() {
+            Some(record) if open != 0 => record.session as u8,
+            _ => bytes.first().copied().unwrap_or(0),
+        };
+        self.held_from = if matches!(side, Side::End) { HELD * CLIENTS - held } else { 0 };
         let answer = lent::process(records, tables, out, told);
         output_kept(out, FILL, answer, records.first().map_or(0, |record| record.wrote))?;
         if went(answer) {
@@ -189,20 +235,21 @@ impl Stores {
         Ok(answer)
     }
 
-    /// Sets some numbers of the record or of a table to others; the record as it was.
+    /// Sets some numbers of the record, of a table or of the store to others; the record as it was.
     pub fn alter(&mut self, chance: &mut Chance) -> AgentRecord {
         let (side, kept) = (self.side, self.record().clone());
         for _ in 0..=chance.below(4) {
             let row = 1 + chance.below(5);
-            match chance.below(6) {
+            match chance.below(7) {
                 0 | 1 => *self.record().numbers_mut()[chance.below(AgentRecord::NUMBERS)] = chance.extreme(),
-                2 => self.sessions.slice(side, SESSIONS)[row][chance.below(5)] = chance.extreme(),
+                2 => self.sessions.slice(side, SESSIONS)[row][chance.below(6)] = chance.extreme(),
                 3 => {
                     self.streams.slice(side, STREAMS)[8 * row + chance.below(9)][chance.below(35)] =
                         chance.extreme() as u16
                 }
                 4 => self.objects.slice(side, OBJECTS)[32 * row + chance.below(33)] = object(chance),
-                _ => self.sessions.slice(side, SESSIONS)[chance.below(SESSIONS)][chance.below(5)] = chance.extreme(),
+                5 => self.held.slice(side, HELD * CLIENTS)[chance.below(HELD * CLIENTS)] = chance.byte(),
+                _ => self.sessions.slice(side, SESSIONS)[chance.below(SESSIONS)][chance.below(6)] = chance.extreme(),
             }
         }
         kept
@@ -257,6 +304,7 @@ fn input(chance: &mut Chance, open: u64) -> u8 {
 fn sample(chance: &mut Chance, input: u8) -> Vec<u8> {
     let len = match (input, chance.below(300)) {
         (3, 0) => chance.of(&[65_532, 65_533, 65_534, 65_536, 70_000]),
+        (3, 1..=6) => chance.of(&[1013, 1014, 1015, 1016]),
         (3, _) => chance.below(64),
         _ => 0,
     };

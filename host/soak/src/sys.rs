@@ -19,7 +19,7 @@ pub trait Plain {}
 impl Plain for u8 {}
 impl Plain for u16 {}
 impl Plain for u64 {}
-impl Plain for [u64; 5] {}
+impl Plain for [u64; 6] {}
 impl Plain for [u16; 35] {}
 impl Plain for xrce_agent::lent::AgentRecord {}
 impl Plain for xrce_agent::lent::ObjectRecord {}

@@ -7,7 +7,13 @@ pub struct Datagram(Vec<u8>);
 impl Datagram {
     /// A header alone, sequence 0.
     pub fn new(session: u8, stream: u8) -> Self {
-        Datagram(vec![session, stream, 0, 0])
+        Datagram::numbered(session, stream, 0)
+    }
+
+    /// A header alone.
+    pub fn numbered(session: u8, stream: u8, sequence: u16) -> Self {
+        let [low, high] = sequence.to_le_bytes();
+        Datagram(vec![session, stream, low, high])
     }
 
     /// Adds a submessage of any id and payload, flags 0.

@@ -1,9 +1,11 @@
 //! What a client writes and reads: the layouts of document 01, "The wire". Numbers of two bytes have the low byte first.
 
 mod datagram;
+mod received;
 mod reply;
 
 pub use datagram::{strings, Datagram};
+pub use received::Received;
 pub use reply::{Body, Reply};
 
 /// Object kinds.

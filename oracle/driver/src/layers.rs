@@ -88,7 +88,7 @@ impl Layers {
             }
             ["acknack", first, bitmap] => {
                 let ack = AcknackPayload { first_unacked_seq: number(first)?, nack_bitmap: number(bitmap)? };
-                listed("repeat", &stream.process_acknack(&ack))
+                repeats(&ack, &stream.process_acknack(&ack))
             }
             ["heartbeat"] => {
                 let heartbeat = stream.make_heartbeat();
@@ -159,6 +159,12 @@ fn yes(holds: bool) -> String {
 
 fn listed<T: ToString>(word: &str, numbers: &[T]) -> String {
     numbers.iter().fold(word.to_string(), |line, n| line + " " + &n.to_string())
+}
+
+/// How many messages the bitmap asks for and how many are repeated (document 02, W5), then the numbers of these. The original
+/// says the numbers alone.
+fn repeats(ack: &AcknackPayload, numbers: &[u16]) -> String {
+    listed(&format!("repeat {} {}", ack.nack_bitmap.count_ones(), numbers.len()), numbers)
 }
 
 fn found(session: Option<&mut ClientSession>, act: impl FnOnce(&mut ClientSession)) -> String {
@@ -244,8 +250,9 @@ pub fn dump(table: &SessionTable) -> Vec<String> {
         let mut streams: Vec<(&u8, &StreamState)> = session.stream_states.iter().collect();
         streams.sort_by_key(|(id, _)| **id);
         for (id, stream) in streams {
-            let mut held: Vec<&u16> = stream.unacked.keys().collect();
+            let mut held: Vec<(&u16, &Vec<u8>)> = stream.unacked.iter().collect();
             held.sort();
+            let held: Vec<String> = held.iter().map(|(number, message)| format!("{number}:{}", hex(message))).collect();
             lines.push(listed(&format!("stream {id} {} {}", stream.next_send_seq, stream.next_recv_seq), &held));
         }
     }

@@ -135,7 +135,8 @@ impl Domain {
                 inside
             }
             Submessage::WriteData(p) => !self.may_be_implicit(p.writer_id),
-            Submessage::ReadData(p) => !self.may_be_implicit(p.reader_id),
+            // On another stream the port numbers its DATA and holds it (document 02, W5).
+            Submessage::ReadData(p) => stream == 0 && !self.may_be_implicit(p.reader_id),
             Submessage::Heartbeat(_) | Submessage::Acknack(_) => {
                 self.streams.insert(stream);
                 self.streams.len() <= 8
@@ -355,7 +356,8 @@ impl Making {
 
     fn datagram(&mut self) -> Vec<u8> {
         let session = self.session();
-        let stream = self.chance.pick(&[0, 0, 1, 1, 2, 3, 127, 128, 129, 255, 4, 5]);
+        // Half of them on stream 0, since READ_DATA comes there alone.
+        let stream = self.chance.pick(&[0, 0, 0, 0, 0, 0, 0, 0, 0, 0, 1, 1, 2, 3, 127, 128, 129, 255, 4, 5]);
         let mut datagram = datagrams::header(session, stream, self.chance.word() as u16);
         let unknown = self.agent.sessions().get(session).is_none();
         let mut wanted = self.chance.pick(&[1, 1, 1, 2, 3, 4, 6]);

@@ -50,6 +50,7 @@ impl Making {
         self.short_stores();
         self.short_acknacks();
         self.held_everywhere();
+        self.sent_round_the_end();
         self.all_ids();
     }
 
@@ -168,6 +169,27 @@ impl Making {
                 self.say(format!("acknack {first} 65535"));
                 self.heartbeat();
                 self.say("held".into());
+            }
+        }
+    }
+
+    // As many as a stream holds, each with the number that it is given, past 65,535; acknowledged and asked for from each of them
+    // on, and from those beside.
+    fn sent_round_the_end(&mut self) {
+        for next in [65_519u16, 65_520, 65_521, 65_528, 65_534, 65_535, 0] {
+            for behind in 0..19 {
+                self.say(format!("stream 3 {next} 0"));
+                for body in 0..16 {
+                    let number = self.original.stream.next_send_seq;
+                    self.say("alloc".into());
+                    self.say(format!("record {number} {body:02x}"));
+                }
+                let first = next.wrapping_add(behind).wrapping_sub(1);
+                for bitmap in [0x8001, 0x5555, 0, 0xFFFF] {
+                    self.say(format!("acknack {first} {bitmap}"));
+                }
+                self.say("held".into());
+                self.say("alloc".into());
             }
         }
     }

@@ -4,12 +4,12 @@ use mathlib.Core.Path.{_≡_, refl, sym, ap, _∙_}
 use mathlib.Core.Bool.{Bool, true, false, cond}
 use mathlib.Core.List.{List, [], _∷_, _++_}
 use native.Mathlib.Omega.{arith}
-use borrow.Author.Tests.{lt-leb, le-leb, leb-true}
+use borrow.Author.Tests.{leb-true}
 use lib.Dec.{leb}
 use lib.ListN.{length, set, getD, drop, replicate, length-append, length-drop, length-replicate, getD-replicate, List·getD-append}
 use Rattle.codec.specs.declared.refusals.Refusal.the-variants.{OverLimit}
-use Rattle.sessions.specs.Need.{storesFit}
-use Rattle.sessions.specs.Setup.{cleared, firstId, setUpFits, setUpOf}
+use Rattle.sessions.specs.Need.{heldNeed, storesFit}
+use Rattle.sessions.specs.Setup.{cleared, firstId, setUpOf}
 use Rattle.sessions.specs.declared.setup.SetUp.the-variants.{Ready, Refused}
 
 -- ---- one record more
@@ -38,32 +38,34 @@ module _ {A : Type 0} (x : A) where
 
 -- ---- what is accepted
 
-module _ (sessions streams objects max : ℕ) where
-  pub over-clients : 255 < max → false ≡ setUpFits sessions streams objects max
-  unfolding setUpFits
-  over-clients h = rw (lt-leb max 255 h)
+-- both of two tests hold
+pub both : (a b : Bool) → cond a b false ≡ true → (a ≡ true) × (b ≡ true)
+both true b e = (refl, e)
+both false b e = let z : _≡_ {A = ℕ} 0 1 = cc in absurd (omega arith)
 
-  pub by-stores : max ≤ 255 → storesFit sessions streams objects ≡ setUpFits sessions streams objects max
-  unfolding setUpFits
-  by-stores h = rw (le-leb max 255 h)
-
+module _ (sessions streams objects held max : ℕ) where
   pub record Long : Type 0 where
     pub clients : max ≤ 255
     pub sessions-long : 256 ≤ sessions
     pub streams-long : 2048 ≤ streams
     pub objects-long : 8192 ≤ objects
+    pub held-long : heldNeed max ≤ held
 
-  pub accepts : setUpFits sessions streams objects max ≡ true → Long
-  unfolding setUpFits storesFit
-  accepts e = go (leb max 255) (leb 256 sessions) (leb 2048 streams) (leb 8192 objects) refl refl refl refl e
-    where
-      go : (a b c d : Bool) → leb max 255 ≡ a → leb 256 sessions ≡ b → leb 2048 streams ≡ c → leb 8192 objects ≡ d → cond a (cond b (cond c d false) false) false ≡ true → Long
-      go true true true true p q r s z = record { clients = leb-true max 255 p; sessions-long = leb-true 256 sessions q; streams-long = leb-true 2048 streams r; objects-long = leb-true 8192 objects s }
-      go true true true false p q r s z = let n : _≡_ {A = ℕ} 0 1 = cc in absurd (omega arith)
-      go true true false d p q r s z = let n : _≡_ {A = ℕ} 0 1 = cc in absurd (omega arith)
-      go true false c d p q r s z = let n : _≡_ {A = ℕ} 0 1 = cc in absurd (omega arith)
-      go false b c d p q r s z = let n : _≡_ {A = ℕ} 0 1 = cc in absurd (omega arith)
+  pub accepts : storesFit sessions streams objects held max ≡ true → Long
+  unfolding storesFit
+  accepts e =
+      let a = both (leb max 255) _ e in
+      let b = both (leb 256 sessions) _ (a .1) in
+      let c = both (leb 2048 streams) _ (b .1) in
+      let d = both (leb 8192 objects) (leb (heldNeed max) held) (c .1) in
+      record {
+        clients = leb-true max 255 (a .0);
+        sessions-long = leb-true 256 sessions (b .0);
+        streams-long = leb-true 2048 streams (c .0);
+        objects-long = leb-true 8192 objects (d .0);
+        held-long = leb-true (heldNeed max) held (d .1);
+      }
 
-  pub set-up-by : (b : Bool) → setUpFits sessions streams objects max ≡ b → cond b (Ready firstId) (Refused OverLimit) ≡ setUpOf sessions streams objects max
+  pub set-up-by : (b : Bool) → storesFit sessions streams objects held max ≡ b → cond b (Ready firstId) (Refused OverLimit) ≡ setUpOf sessions streams objects held max
   unfolding setUpOf
   set-up-by b e = ap (λ (f : Bool). cond f (Ready firstId) (Refused OverLimit)) (sym e)

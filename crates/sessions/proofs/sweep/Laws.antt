@@ -8,7 +8,6 @@ use native.Mathlib.Omega.{arith}
 use native.Mathlib.Decide.{decLe}
 use borrow.Author.Tests.{lt-leb, le-leb, lt-ltb, le-ltb, eq-eqb, ne-eqb}
 use lib.Dec.{eqb}
-use lib.Bits.{bitOr, or-add-and, and-le-l, and-le-r}
 use lib.ListN.{getD, set, length}
 use lib.Seq.{sets, getD-set-other}
 use Rattle.codec.specs.Bytes.{putAt}
@@ -17,6 +16,7 @@ use Rattle.codec.specs.declared.bytes.Written.the-variants.{Bytes, Refused}
 use Rattle.codec.specs.declared.refusals.Refusal.the-variants.{OutputTooShort, OverLimit}
 use Rattle.sessions.specs.Table.{sessionAt, isFree, rowOf, endedSession, expiredOf}
 use Rattle.sessions.specs.declared.table.ClientSession.{ClientSession}
+use Rattle.sessions.specs.Opening.{liveFrom}
 use Rattle.sessions.specs.Sweep.{goes, expiredFrom, sweptAt, sweptFrom, expiredIds, sweptRows, evictedOf, evictedRows, evictedOut}
 
 -- a list of no length is empty, and nothing is stored of it
@@ -185,33 +185,16 @@ module _ (rows : List (List ℕ)) (time timeout id : ℕ) (s : ClientSession) (e
   unfolding goes
   goes-live h = rw (ne-eqb (sessionAt rows id .live) 0 (λ z. h (ap (λ (t : ClientSession). t .live) e ∙ z))) (ap (λ (t : ClientSession). expiredOf t time timeout) e)
 
--- numbers that have no bit together are 0 each
-or-none : (a b : ℕ) → bitOr a b ≡ 0 → (a ≡ 0) × (b ≡ 0)
-or-none a b h = (omega (arith, or-add-and a b, and-le-r a b), omega (arith, or-add-and a b, and-le-l a b))
-
-module _ (rows : List (List ℕ)) (time timeout : ℕ) where
-  free-none : (i : ℕ) (s : ClientSession) → s ≡ sessionAt rows i → s .live ≡ 0 → _≡_ {A = ℕ} (cond (goes rows time timeout i) 1 0) 0
-  free-none i s e h = rw (sym (goes-free rows time timeout i s e h)) refl
-
-  -- five ids whose marks are 0 together
-  pub marks-none : (i : ℕ) (a b c d e : ClientSession)
-      → a ≡ sessionAt rows i → b ≡ sessionAt rows (i + 1) → c ≡ sessionAt rows (i + 2) → d ≡ sessionAt rows (i + 3) → e ≡ sessionAt rows (i + 4)
-      → bitOr (bitOr (bitOr (bitOr (a .live) (b .live)) (c .live)) (d .live)) (e .live) ≡ 0 → length (expiredFrom (goes rows time timeout) i 5) ≡ 0
-  marks-none i a b c d e p q r s t h =
-      let abcd = or-none (bitOr (bitOr (bitOr (a .live) (b .live)) (c .live)) (d .live)) (e .live) h in
-      let abc = or-none (bitOr (bitOr (a .live) (b .live)) (c .live)) (d .live) (abcd .0) in
-      let ab = or-none (bitOr (a .live) (b .live)) (c .live) (abc .0) in
-      let a-b = or-none (a .live) (b .live) (ab .0) in
-      omega (
-        arith,
-        count-more (goes rows time timeout) i (i + 5) 5 0 refl refl,
-        count-none (goes rows time timeout) (i + 5) 0 refl,
-        free-none i a p (a-b .0),
-        free-none (i + 1) b q (a-b .1),
-        free-none (i + 2) c r (ab .1),
-        free-none (i + 3) d s (abc .1),
-        free-none (i + 4) e t (abcd .1),
-      )
+-- of ids of which none is live none goes
+pub free-stay : (rows : List (List ℕ)) (time timeout i n : ℕ) → liveFrom (isFree rows) i n ≡ 0 → length (expiredFrom (goes rows time timeout) i n) ≡ 0
+unfolding liveFrom expiredFrom goes
+free-stay rows time timeout i zero h = refl
+free-stay rows time timeout i (suc n) h = by (isFree rows i) (expiredFrom (goes rows time timeout) (suc i) n) h (free-stay rows time timeout (suc i) n)
+  where
+    by : (b : Bool) (ids : List ℕ) → cond b 0 1 + liveFrom (isFree rows) (suc i) n ≡ 0 → (liveFrom (isFree rows) (suc i) n ≡ 0 → length ids ≡ 0)
+        → length (cond (cond b false (expiredOf (sessionAt rows i) time timeout)) (i ∷ ids) ids) ≡ 0
+    by true ids k rest = rest (omega arith)
+    by false ids k rest = absurd (omega arith)
 
 -- ---- what a sweep comes to
 

@@ -9,7 +9,7 @@ use lib.Dec.{eqb, ltb, leb}
 use lib.ListN.{getD}
 use Rattle.streams.specs.declared.state.StreamState.{StreamState}
 use Rattle.streams.specs.Places.{firstPlace, holds, within, holdsAt, lengthAt, placeOf, placeBetween, isHeld, placeFor}
-use Rattle.streams.specs.View.{heldBy}
+use Rattle.streams.specs.View.{heldBy, present}
 use Rattle.streams.proofs.places.Laws.{never, first-found, first-before, first-most}
 
 -- one place: its number, its length, and a number that is asked for
@@ -39,6 +39,15 @@ holds-nonzero number len n e = holds-true number len n e .0
 
 pub holds-number : (number len n : ℕ) → holds number len n ≡ true → number ≡ n
 holds-number number len n e = holds-true number len n e .1
+
+-- a length between 0 and 0 is 0, as that of a free place
+pub within-zero : (len : ℕ) → within len 0 0 ≡ true → len ≡ 0
+unfolding within
+within-zero len e = by (ltb len 0) e
+  where
+    by : (t : Bool) → cond t false (leb len 0) ≡ true → len ≡ 0
+    by true h = absurd (never h refl)
+    by false h = omega (arith, leb-true len 0 h)
 
 module _ (s : StreamState) (n : ℕ) where
   -- a number that is held has a place, and one that isn't is at none
@@ -75,18 +84,18 @@ module _ (s : StreamState) (n : ℕ) where
     unfolding heldBy isHeld
     read-none e = rw e
 
+    pub read-present : present (heldBy read s n) ≡ isHeld s n
+    unfolding heldBy
+    read-present = by (isHeld s n) _
+      where
+        by : (b : Bool) (x : A) → present (cond b (some x) none) ≡ b
+        by true x = refl
+        by false x = refl
+
   -- the place for n: no place before it holds n, and it holds no other number
   pub record ChosenFor (p : ℕ) : Type 0 where
     pub before : (j : ℕ) → j < p → holdsAt s n j ≡ false
     pub other : (m : ℕ) → (m ≡ n → ⊥) → holdsAt s m p ≡ false
-
-  within-zero : (len : ℕ) → within len 0 0 ≡ true → len ≡ 0
-  unfolding within
-  within-zero len e = by (ltb len 0) e
-    where
-      by : (t : Bool) → cond t false (leb len 0) ≡ true → len ≡ 0
-      by true h = absurd (never h refl)
-      by false h = omega (arith, leb-true len 0 h)
 
   number-at : (p : ℕ) → placeOf s n ≡ p → p < 16 → getD (s .numbers) p 0 ≡ n
   unfolding holdsAt

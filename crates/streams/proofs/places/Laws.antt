@@ -67,6 +67,15 @@ module _ (t : ℕ → Bool) where
   before-from zero i j h l = absurd (omega arith)
   before-from (suc k) i j h l = before-at t i (firstFrom t k (suc i)) j (t i) refl (before-from k (suc i) j) h l
 
+  pub least-from : (k i : ℕ) → i ≤ firstFrom t k i
+  unfolding firstFrom
+  least-from zero i = omega arith
+  least-from (suc k) i = by (t i) (least-from k (suc i))
+    where
+      by : (b : Bool) → suc i ≤ firstFrom t k (suc i) → i ≤ cond b i (firstFrom t k (suc i))
+      by true h = omega arith
+      by false h = omega arith
+
   pub most-from : (k i : ℕ) → firstFrom t k i ≤ i + k
   unfolding firstFrom
   most-from zero i = omega arith

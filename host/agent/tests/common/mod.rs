@@ -23,16 +23,26 @@ pub const WRITE_DATA: u64 = 5;
 pub const READ_DATA: u64 = 6;
 pub const DELETE_ENTITY: u64 = 7;
 
-/// How many records of the agent, and rows and records of each table, are lent.
+/// For how many clients a fixture has a store of held messages.
+pub const CLIENTS: u64 = 4;
+
+/// How many records of the agent, rows and records of each table, and bytes of the store of held messages are lent.
 #[derive(Clone, Copy)]
 pub struct Short {
     pub agents: usize,
     pub sessions: usize,
     pub streams: usize,
     pub objects: usize,
+    pub held: usize,
 }
 
-pub const WHOLE: Short = Short { agents: 1, sessions: lent::SESSIONS, streams: lent::STREAMS, objects: lent::OBJECTS };
+pub const WHOLE: Short = Short {
+    agents: 1,
+    sessions: lent::SESSIONS,
+    streams: lent::STREAMS,
+    objects: lent::OBJECTS,
+    held: lent::HELD * CLIENTS as usize,
+};
 
 #[derive(Clone, Debug, PartialEq, Eq)]
 pub struct Fixture {
@@ -45,13 +55,13 @@ pub struct Fixture {
 impl Fixture {
     /// Nothing set up: zeroes.
     pub fn empty() -> Self {
-        Fixture { record: AgentRecord::default(), tables: Tables::new(), out: vec![FILL; 256], kept: Vec::new() }
+        Fixture { record: AgentRecord::default(), tables: Tables::new(CLIENTS), out: vec![FILL; 256], kept: Vec::new() }
     }
 
     /// An agent for four clients that expire after 1,000 ms.
     pub fn new() -> Self {
         let mut fixture = Fixture::empty();
-        assert_eq!(fixture.setup(WHOLE, 4, 1000), 0);
+        assert_eq!(fixture.setup(WHOLE, CLIENTS, 1000), 0);
         fixture
     }
 
@@ -59,18 +69,28 @@ impl Fixture {
     pub fn with_objects() -> Self {
         let mut fixture = Fixture::new();
         fixture.opens();
-        for (object, kind, parent) in [(1, 1, 0), (2, 2, 1), (3, 5, 2), (4, 6, 2)] {
-            fixture.creates(object, kind, parent);
-        }
+        fixture.fills(1);
         fixture
+    }
+
+    /// The same four objects in that session.
+    pub fn fills(&mut self, session: u8) {
+        for (object, kind, parent) in [(1, 1, 0), (2, 2, 1), (3, 5, 2), (4, 6, 2)] {
+            self.creates_in(session, object, kind, parent);
+        }
     }
 
     /// CREATE in session 1, with a bridge call: the handle is 10 more than the number.
     pub fn creates(&mut self, object: u16, kind: u8, parent: u16) {
-        let datagram = Datagram::new(1, 0).create(object, kind, parent, &wire::strings(b"n", b"t")).bytes();
+        self.creates_in(1, object, kind, parent);
+    }
+
+    /// The same in that session.
+    pub fn creates_in(&mut self, session: u8, object: u16, kind: u8, parent: u16) {
+        let datagram = Datagram::new(session, 0).create(object, kind, parent, &wire::strings(b"n", b"t")).bytes();
         assert_eq!(self.datagram(&datagram), 0);
         assert_eq!(self.answer(CREATED, 10 + u32::from(object), &[]), 0);
-        assert_eq!(self.replied(), status(1, object, 0));
+        assert_eq!(self.replied(), status(session, object, 0));
     }
 
     pub fn opens(&mut self) {
@@ -83,6 +103,7 @@ impl Fixture {
             sessions: &mut self.tables.sessions[..short.sessions],
             streams: &mut self.tables.streams[..short.streams],
             objects: &mut self.tables.objects[..short.objects],
+            held: &mut self.tables.held[..short.held],
         };
         (&mut self.record.lend_mut()[..short.agents], tables, &mut self.out)
     }

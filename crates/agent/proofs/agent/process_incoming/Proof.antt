@@ -55,9 +55,10 @@ use Rattle.walk.proofs.Arrays.{rep-is, lends-array, backs-array}
 use Rattle.sessions.specs.Setup.{setUpOf}
 use Rattle.sessions.specs.Calls.{setUpTables}
 use Rattle.sessions.specs.ObjectList.{listOf, listOut}
-use Rattle.moves.specs.Rows.{lent}
+use Rattle.agent.specs.Lent.{lent}
 use Rattle.agent.specs.Host.{setUpAs, incomingOf, answerOf, idleOf, removedAs, removedBy, removedRows, sweptBy, sweptRows, sweptOut}
-use Rattle.agent.specs.Host.{outcomeOf, waitsOf, finishedOf, refusedOf, answerMost, firstMost, roomy, neededOf, resumesFit, performed, finish, processOf}
+use Rattle.codec.specs.Bytes.{wordAt}
+use Rattle.agent.specs.Host.{outcomeOf, waitsOf, finishedOf, refusedOf, answerMost, firstMost, roomy, asksAgain, acknacksIn, asksIn, neededOf, resumesFit, performed, finish, processOf}
 use denote.Plain.{uint-lawful}
 use Rattle.agent.proofs.agent.Laws.{any-sample}
 use Rattle.agent.proofs.Thirteen.{same-leaves}
@@ -193,14 +194,14 @@ abbrev BridgeAnswer-p : Plain
 BridgeAnswer-p = record { row = BridgeAnswer-t.the-row; val = EL.val BridgeAnswer-t.the-type BridgeAnswer-l.the-laws; tells = EL.tells BridgeAnswer-t.the-type BridgeAnswer-l.the-laws; makes = λ 𝓤 H A W. EL.makes BridgeAnswer-t.the-type BridgeAnswer-l.the-plain 𝓤 H A; ty = BridgeAnswer-l.mir; typed = λ 𝓤 H A W x is. EL.lawful BridgeAnswer-t.the-type BridgeAnswer-l.the-laws 𝓤 H A W tt .typed x _ is .0; copies = λ 𝓤 H A W. EL.copy BridgeAnswer-t.the-type BridgeAnswer-l.the-copy 𝓤 H A W }
 
 abbrev stayed : Stays (f.ended .signature .params) (f.ended .kept)
-stayed = (stay-slice (0 ∷ []) tt (plain (λ _. (Array u64 5))), (stay-slice (1 ∷ []) tt (plain (λ _. (Array u16 35))), (stay-slice (2 ∷ []) tt (plain (λ _. Object-t.the-row)), (stay-slice (3 ∷ []) tt (plain (λ _. u8)), (stay-none-slice (4 ∷ []) tt (plain (λ _. u8)) yes, (stay-none (λ _. Agent-p .row) yes, (stay-none (λ _. Given′-p .row) yes, tt)))))))
+stayed = (stay-slice (0 ∷ []) tt (plain (λ _. (Array u64 6))), (stay-slice (1 ∷ []) tt (plain (λ _. (Array u16 35))), (stay-slice (2 ∷ []) tt (plain (λ _. Object-t.the-row)), (stay-slice (3 ∷ []) tt (plain (λ _. u8)), (stay-slice (4 ∷ []) tt (plain (λ _. u8)), (stay-none-slice (5 ∷ []) tt (plain (λ _. u8)) yes, (stay-none (λ _. Agent-p .row) yes, (stay-none (λ _. Given′-p .row) yes, tt))))))))
 
 module _ {M : Type 1} (𝓤 : URA M) (H : Heap 𝓤) (A : Atoms 𝓤) (mem : Memory → SProp 𝓤) (run : Routine → Fun 𝓤) where
   abbrev Of-process-process : Contract 𝓤
   Of-process-process = tripleOf 𝓤 H A process-process.signature (process-process.spec 𝓤 H A mem run)
 
-module _ {M : Type 1} (𝓤 : URA M) (H : Heap 𝓤) (A : Atoms 𝓤) (W : Given 𝓤 H A) (mem : Memory → SProp 𝓤) (run : Routine → Fun 𝓤) (κ₁ : Lft) (q₁ : Share) (b₁ o₁ : ℕ) (γ₁ : GName) (sessions : List (List ℕ)) (κ₂ : Lft) (q₂ : Share) (b₂ o₂ : ℕ) (γ₂ : GName) (streams : List (List ℕ)) (κ₃ : Lft) (q₃ : Share) (b₃ o₃ : ℕ) (γ₃ : GName) (objects : List Object) (κ₄ : Lft) (q₄ : Share) (b₄ o₄ : ℕ) (γ₄ : GName) (out : List ℕ) (κ₅ : Lft) (q₅ : Share) (b₅ o₅ : ℕ) (γ₅ : GName) (datagram : List ℕ) (agent : Agent) (given : Given′)
-    (room₁ : Room (Array u64 5) (length sessions)) (room₂ : Room (Array u16 35) (length streams)) (room₃ : Room Object-t.the-row (length objects)) (room₄ : Room u8 (length out)) (room₅ : Room u8 (length datagram)) (agent-is : Is (Agent-p .row) agent (Agent-p .val agent ∷ [])) (given-is : Is (Given′-p .row) given (Given′-p .val given ∷ [])) where
+module _ {M : Type 1} (𝓤 : URA M) (H : Heap 𝓤) (A : Atoms 𝓤) (W : Given 𝓤 H A) (mem : Memory → SProp 𝓤) (run : Routine → Fun 𝓤) (κ₁ : Lft) (q₁ : Share) (b₁ o₁ : ℕ) (γ₁ : GName) (sessions : List (List ℕ)) (κ₂ : Lft) (q₂ : Share) (b₂ o₂ : ℕ) (γ₂ : GName) (streams : List (List ℕ)) (κ₃ : Lft) (q₃ : Share) (b₃ o₃ : ℕ) (γ₃ : GName) (objects : List Object) (κ₄ : Lft) (q₄ : Share) (b₄ o₄ : ℕ) (γ₄ : GName) (held : List ℕ) (κ₅ : Lft) (q₅ : Share) (b₅ o₅ : ℕ) (γ₅ : GName) (out : List ℕ) (κ₆ : Lft) (q₆ : Share) (b₆ o₆ : ℕ) (γ₆ : GName) (datagram : List ℕ) (agent : Agent) (given : Given′)
+    (room₁ : Room (Array u64 6) (length sessions)) (room₂ : Room (Array u16 35) (length streams)) (room₃ : Room Object-t.the-row (length objects)) (room₄ : Room u8 (length held)) (room₅ : Room u8 (length out)) (room₆ : Room u8 (length datagram)) (agent-is : Is (Agent-p .row) agent (Agent-p .val agent ∷ [])) (given-is : Is (Given′-p .row) given (Given′-p .val given ∷ [])) where
   abbrev n₁ : ℕ
   n₁ = length sessions
 
@@ -211,31 +212,34 @@ module _ {M : Type 1} (𝓤 : URA M) (H : Heap 𝓤) (A : Atoms 𝓤) (W : Given
   n₃ = length objects
 
   abbrev n₄ : ℕ
-  n₄ = length out
+  n₄ = length held
 
   abbrev n₅ : ℕ
-  n₅ = length datagram
+  n₅ = length out
 
-  abbrev x : RefT (List (List ℕ)) × (RefT (List (List ℕ)) × (RefT (List Object) × (RefT (List ℕ) × (RefT (List ℕ) × (Agent-p .row .Denot × (Given′-p .row .Denot × (Unit {0})))))))
-  x = (at-list b₁ o₁ γ₁ sessions, (at-list b₂ o₂ γ₂ streams, (at-list b₃ o₃ γ₃ objects, (at-list b₄ o₄ γ₄ out, (at-list b₅ o₅ γ₅ datagram, (agent, (given, tt)))))))
+  abbrev n₆ : ℕ
+  n₆ = length datagram
 
-  abbrev at : Vals f.signature (κ₁, (κ₂, (κ₃, (κ₄, (κ₅, tt)))))
-  at = (sliceVal (b₁, o₁) n₁ ∷ [], (sliceVal (b₂, o₂) n₂ ∷ [], (sliceVal (b₃, o₃) n₃ ∷ [], (sliceVal (b₄, o₄) n₄ ∷ [], (sliceVal (b₅, o₅) n₅ ∷ [], (Agent-p .val agent ∷ [], (Given′-p .val given ∷ [], tt)))))))
+  abbrev x : RefT (List (List ℕ)) × (RefT (List (List ℕ)) × (RefT (List Object) × (RefT (List ℕ) × (RefT (List ℕ) × (RefT (List ℕ) × (Agent-p .row .Denot × (Given′-p .row .Denot × (Unit {0}))))))))
+  x = (at-list b₁ o₁ γ₁ sessions, (at-list b₂ o₂ γ₂ streams, (at-list b₃ o₃ γ₃ objects, (at-list b₄ o₄ γ₄ held, (at-list b₅ o₅ γ₅ out, (at-list b₆ o₆ γ₆ datagram, (agent, (given, tt))))))))
+
+  abbrev at : Vals f.signature (κ₁, (κ₂, (κ₃, (κ₄, (κ₅, (κ₆, tt))))))
+  at = (sliceVal (b₁, o₁) n₁ ∷ [], (sliceVal (b₂, o₂) n₂ ∷ [], (sliceVal (b₃, o₃) n₃ ∷ [], (sliceVal (b₄, o₄) n₄ ∷ [], (sliceVal (b₅, o₅) n₅ ∷ [], (sliceVal (b₆, o₆) n₆ ∷ [], (Agent-p .val agent ∷ [], (Given′-p .val given ∷ [], tt))))))))
 
   abbrev Post : Val → SProp 𝓤
-  Post = walkOf 𝓤 H A f.ended stayed (f.clauses 𝓤 H A mem run) .post (((κ₁, (κ₂, (κ₃, (κ₄, (κ₅, tt))))), (q₁, (q₂, (q₃, (q₄, (q₅, tt))))), tt, x, at), tt)
+  Post = walkOf 𝓤 H A f.ended stayed (f.clauses 𝓤 H A mem run) .post (((κ₁, (κ₂, (κ₃, (κ₄, (κ₅, (κ₆, tt)))))), (q₁, (q₂, (q₃, (q₄, (q₅, (q₆, tt)))))), tt, x, at), tt)
 
-  exits : (r : Processed) (ws₁ : List (List ℕ)) (ws₂ : List (List ℕ)) (ws₃ : List Object) (ws₄ : List ℕ) → ((r ≡ incomingOf agent (lent (sessions) (streams) (objects)) (out) (datagram) (given .time) .processed) × (ws₁ ≡ incomingOf agent (lent (sessions) (streams) (objects)) (out) (datagram) (given .time) .tables .sessions) × (ws₂ ≡ incomingOf agent (lent (sessions) (streams) (objects)) (out) (datagram) (given .time) .tables .streams) × (ws₃ ≡ incomingOf agent (lent (sessions) (streams) (objects)) (out) (datagram) (given .time) .tables .objects) × (ws₄ ≡ incomingOf agent (lent (sessions) (streams) (objects)) (out) (datagram) (given .time) .out)) → Is (Processed-p .row) r (Processed-p .val r ∷ []) → length ws₁ ≡ n₁ → length ws₂ ≡ n₂ → length ws₃ ≡ n₃ → length ws₄ ≡ n₄ → ent 𝓤 (⋆ 𝓤 H A (‵ (MutSlice (named 0) κ₁ (Array u64 5) .own (at-list b₁ o₁ γ₁ ws₁) (sliceVal (b₁, o₁) n₁ ∷ [])) ∷ ‵ (flft κ₁ q₁) ∷ ‵ (MutSlice (named 1) κ₂ (Array u16 35) .own (at-list b₂ o₂ γ₂ ws₂) (sliceVal (b₂, o₂) n₂ ∷ [])) ∷ ‵ (flft κ₂ q₂) ∷ ‵ (MutSlice (named 2) κ₃ Object-t.the-row .own (at-list b₃ o₃ γ₃ ws₃) (sliceVal (b₃, o₃) n₃ ∷ [])) ∷ ‵ (flft κ₃ q₃) ∷ ‵ (MutSlice (named 3) κ₄ u8 .own (at-list b₄ o₄ γ₄ ws₄) (sliceVal (b₄, o₄) n₄ ∷ [])) ∷ ‵ (flft κ₄ q₄) ∷ ‵ (ShrSlice (named 4) κ₅ u8 .own (at-list b₅ o₅ γ₅ datagram) (sliceVal (b₅, o₅) n₅ ∷ [])) ∷ ‵ (flft κ₅ q₅) ∷ [])) (Post (Processed-p .val r))
-  exits r ws₁ ws₂ ws₃ ws₄ said r-is len₁ len₂ len₃ len₄ =
-      qed W (‵ (MutSlice (named 0) κ₁ (Array u64 5) .own (at-list b₁ o₁ γ₁ ws₁) (sliceVal (b₁, o₁) n₁ ∷ [])) ∷ ‵ (flft κ₁ q₁) ∷ ‵ (MutSlice (named 1) κ₂ (Array u16 35) .own (at-list b₂ o₂ γ₂ ws₂) (sliceVal (b₂, o₂) n₂ ∷ [])) ∷ ‵ (flft κ₂ q₂) ∷ ‵ (MutSlice (named 2) κ₃ Object-t.the-row .own (at-list b₃ o₃ γ₃ ws₃) (sliceVal (b₃, o₃) n₃ ∷ [])) ∷ ‵ (flft κ₃ q₃) ∷ ‵ (MutSlice (named 3) κ₄ u8 .own (at-list b₄ o₄ γ₄ ws₄) (sliceVal (b₄, o₄) n₄ ∷ [])) ∷ ‵ (flft κ₄ q₄) ∷ ‵ (ShrSlice (named 4) κ₅ u8 .own (at-list b₅ o₅ γ₅ datagram) (sliceVal (b₅, o₅) n₅ ∷ [])) ∷ ‵ (flft κ₅ q₅) ∷ []) ∵
-      suffices ! _ (ends-at 𝓤 H A f.ended stayed (f.clauses 𝓤 H A mem run) W (((κ₁, (κ₂, (κ₃, (κ₄, (κ₅, tt))))), (q₁, (q₂, (q₃, (q₄, (q₅, tt))))), tt, x, at), tt) (Processed-p .val r) r (ws₁, (ws₂, (ws₃, (ws₄, (tt, (tt, (tt, tt))))))) (len₁, (len₂, (len₃, (len₄, (tt, (tt, (tt, tt)))))))) $ says ! said $ nothing ! $ move ! (10 ∷ 0 ∷ []) $ join ! $ move ! (8 ∷ 0 ∷ []) $ join ! $ move ! (6 ∷ 0 ∷ []) $ join ! $ move ! (4 ∷ 0 ∷ []) $ join ! $ move ! (2 ∷ 0 ∷ []) $ join ! $
+  exits : (r : Processed) (ws₁ : List (List ℕ)) (ws₂ : List (List ℕ)) (ws₃ : List Object) (ws₄ : List ℕ) (ws₅ : List ℕ) → ((r ≡ incomingOf agent (lent (sessions) (streams) (objects) (held)) (out) (datagram) (given .time) .processed) × (ws₁ ≡ incomingOf agent (lent (sessions) (streams) (objects) (held)) (out) (datagram) (given .time) .tables .sessions) × (ws₂ ≡ incomingOf agent (lent (sessions) (streams) (objects) (held)) (out) (datagram) (given .time) .tables .streams) × (ws₃ ≡ incomingOf agent (lent (sessions) (streams) (objects) (held)) (out) (datagram) (given .time) .tables .objects) × (ws₄ ≡ incomingOf agent (lent (sessions) (streams) (objects) (held)) (out) (datagram) (given .time) .tables .held) × (ws₅ ≡ incomingOf agent (lent (sessions) (streams) (objects) (held)) (out) (datagram) (given .time) .out)) → Is (Processed-p .row) r (Processed-p .val r ∷ []) → length ws₁ ≡ n₁ → length ws₂ ≡ n₂ → length ws₃ ≡ n₃ → length ws₄ ≡ n₄ → length ws₅ ≡ n₅ → ent 𝓤 (⋆ 𝓤 H A (‵ (MutSlice (named 0) κ₁ (Array u64 6) .own (at-list b₁ o₁ γ₁ ws₁) (sliceVal (b₁, o₁) n₁ ∷ [])) ∷ ‵ (flft κ₁ q₁) ∷ ‵ (MutSlice (named 1) κ₂ (Array u16 35) .own (at-list b₂ o₂ γ₂ ws₂) (sliceVal (b₂, o₂) n₂ ∷ [])) ∷ ‵ (flft κ₂ q₂) ∷ ‵ (MutSlice (named 2) κ₃ Object-t.the-row .own (at-list b₃ o₃ γ₃ ws₃) (sliceVal (b₃, o₃) n₃ ∷ [])) ∷ ‵ (flft κ₃ q₃) ∷ ‵ (MutSlice (named 3) κ₄ u8 .own (at-list b₄ o₄ γ₄ ws₄) (sliceVal (b₄, o₄) n₄ ∷ [])) ∷ ‵ (flft κ₄ q₄) ∷ ‵ (MutSlice (named 4) κ₅ u8 .own (at-list b₅ o₅ γ₅ ws₅) (sliceVal (b₅, o₅) n₅ ∷ [])) ∷ ‵ (flft κ₅ q₅) ∷ ‵ (ShrSlice (named 5) κ₆ u8 .own (at-list b₆ o₆ γ₆ datagram) (sliceVal (b₆, o₆) n₆ ∷ [])) ∷ ‵ (flft κ₆ q₆) ∷ [])) (Post (Processed-p .val r))
+  exits r ws₁ ws₂ ws₃ ws₄ ws₅ said r-is len₁ len₂ len₃ len₄ len₅ =
+      qed W (‵ (MutSlice (named 0) κ₁ (Array u64 6) .own (at-list b₁ o₁ γ₁ ws₁) (sliceVal (b₁, o₁) n₁ ∷ [])) ∷ ‵ (flft κ₁ q₁) ∷ ‵ (MutSlice (named 1) κ₂ (Array u16 35) .own (at-list b₂ o₂ γ₂ ws₂) (sliceVal (b₂, o₂) n₂ ∷ [])) ∷ ‵ (flft κ₂ q₂) ∷ ‵ (MutSlice (named 2) κ₃ Object-t.the-row .own (at-list b₃ o₃ γ₃ ws₃) (sliceVal (b₃, o₃) n₃ ∷ [])) ∷ ‵ (flft κ₃ q₃) ∷ ‵ (MutSlice (named 3) κ₄ u8 .own (at-list b₄ o₄ γ₄ ws₄) (sliceVal (b₄, o₄) n₄ ∷ [])) ∷ ‵ (flft κ₄ q₄) ∷ ‵ (MutSlice (named 4) κ₅ u8 .own (at-list b₅ o₅ γ₅ ws₅) (sliceVal (b₅, o₅) n₅ ∷ [])) ∷ ‵ (flft κ₅ q₅) ∷ ‵ (ShrSlice (named 5) κ₆ u8 .own (at-list b₆ o₆ γ₆ datagram) (sliceVal (b₆, o₆) n₆ ∷ [])) ∷ ‵ (flft κ₆ q₆) ∷ []) ∵
+      suffices ! _ (ends-at 𝓤 H A f.ended stayed (f.clauses 𝓤 H A mem run) W (((κ₁, (κ₂, (κ₃, (κ₄, (κ₅, (κ₆, tt)))))), (q₁, (q₂, (q₃, (q₄, (q₅, (q₆, tt)))))), tt, x, at), tt) (Processed-p .val r) r (ws₁, (ws₂, (ws₃, (ws₄, (ws₅, (tt, (tt, (tt, tt)))))))) (len₁, (len₂, (len₃, (len₄, (len₅, (tt, (tt, (tt, tt))))))))) $ says ! said $ nothing ! $ move ! (12 ∷ 0 ∷ []) $ join ! $ move ! (10 ∷ 0 ∷ []) $ join ! $ move ! (8 ∷ 0 ∷ []) $ join ! $ move ! (6 ∷ 0 ∷ []) $ join ! $ move ! (4 ∷ 0 ∷ []) $ join ! $ move ! (2 ∷ 0 ∷ []) $ join ! $
       frame ! $ nothing ! $
       owned ! (Given′-p .row) (Is (Given′-p .row)) (Given′-p .makes 𝓤 H A W) given (Given′-p .val given ∷ []) given-is $ fjoin ! $
-      owned ! (Agent-p .row) (Is (Agent-p .row)) (Agent-p .makes 𝓤 H A W) agent (Agent-p .val agent ∷ []) agent-is $ fjoin ! $ move ! (5 ∷ 0 ∷ []) $ fjoin ! $ move ! (4 ∷ 0 ∷ []) $ fjoin ! $ move ! (3 ∷ 0 ∷ []) $ fjoin ! $ move ! (2 ∷ 0 ∷ []) $ fjoin ! $ move ! (1 ∷ 0 ∷ []) $ fjoin ! $
+      owned ! (Agent-p .row) (Is (Agent-p .row)) (Agent-p .makes 𝓤 H A W) agent (Agent-p .val agent ∷ []) agent-is $ fjoin ! $ move ! (6 ∷ 0 ∷ []) $ fjoin ! $ move ! (5 ∷ 0 ∷ []) $ fjoin ! $ move ! (4 ∷ 0 ∷ []) $ fjoin ! $ move ! (3 ∷ 0 ∷ []) $ fjoin ! $ move ! (2 ∷ 0 ∷ []) $ fjoin ! $ move ! (1 ∷ 0 ∷ []) $ fjoin ! $
       frame ! $
       owned ! (Processed-p .row) (Is (Processed-p .row)) (Processed-p .makes 𝓤 H A W) r _ r-is $ done !
 
-  module _ (𝓣 : Tables 𝓤 H) (known-process-process : Triple 𝓤 (𝓣 .C #process-process) (Of-process-process 𝓤 H A mem run)) (l₀ l₁ l₂ l₃ l₄ l₅ l₆ l₇ l₈ l₉ l₁₀ l₁₁ l₁₂ l₁₃ l₁₄ l₁₅ l₁₆ l₁₇ l₁₈ l₁₉ : ℕ) where
+  module _ (𝓣 : Tables 𝓤 H) (known-process-process : Triple 𝓤 (𝓣 .C #process-process) (Of-process-process 𝓤 H A mem run)) (l₀ l₁ l₂ l₃ l₄ l₅ l₆ l₇ l₈ l₉ l₁₀ l₁₁ l₁₂ l₁₃ l₁₄ l₁₅ l₁₆ l₁₇ l₁₈ l₁₉ l₂₀ l₂₁ l₂₂ : ℕ) where
     abbrev C : Calls 𝓤 H
     C = 𝓣 .C
 
@@ -246,79 +250,87 @@ module _ {M : Type 1} (𝓤 : URA M) (H : Heap 𝓤) (A : Atoms 𝓤) (W : Given
     fm = fmOf 𝓤 H (W .laws) 𝓣
 
     abbrev En : Env 𝓤 H
-    En = (Processed-l.mir, l₀) ∷ ((sliceTy (tyRef (named 0) mut (pointee ((Array u64 5) .written)))), l₁) ∷ ((sliceTy (tyRef (named 1) mut (pointee ((Array u16 35) .written)))), l₂) ∷ ((sliceTy (tyRef (named 2) mut (pointee (Object-t.the-row .written)))), l₃) ∷ ((sliceTy (tyRef (named 3) mut (pointee (u8 .written)))), l₄) ∷ ((sliceTy (tyRef (named 4) imm (pointee (u8 .written)))), l₅) ∷ (Agent-l.mir, l₆) ∷ (Given′-l.mir, l₇) ∷ ((tyArray (tyInt w8) 2), l₈) ∷ ((tyRef erased mut (pointee ((Array u64 5) .written))), l₉) ∷ ((sliceTy (tyRef erased mut (pointee ((Array u64 5) .written)))), l₁₀) ∷ ((tyRef erased mut (pointee ((Array u16 35) .written))), l₁₁) ∷ ((sliceTy (tyRef erased mut (pointee ((Array u16 35) .written)))), l₁₂) ∷ ((tyRef erased mut (pointee (Object-t.the-row .written))), l₁₃) ∷ ((sliceTy (tyRef erased mut (pointee (Object-t.the-row .written)))), l₁₄) ∷ ((tyRef erased mut (pointee (u8 .written))), l₁₅) ∷ ((sliceTy (tyRef erased mut (pointee (u8 .written)))), l₁₆) ∷ ((tyRef erased imm (pointee ((Array u8 2) .written))), l₁₇) ∷ ((sliceTy (tyRef erased imm (pointee (u8 .written)))), l₁₈) ∷ (Input-l.mir, l₁₉) ∷ []
+    En = (Processed-l.mir, l₀) ∷ ((sliceTy (tyRef (named 0) mut (pointee ((Array u64 6) .written)))), l₁) ∷ ((sliceTy (tyRef (named 1) mut (pointee ((Array u16 35) .written)))), l₂) ∷ ((sliceTy (tyRef (named 2) mut (pointee (Object-t.the-row .written)))), l₃) ∷ ((sliceTy (tyRef (named 3) mut (pointee (u8 .written)))), l₄) ∷ ((sliceTy (tyRef (named 4) mut (pointee (u8 .written)))), l₅) ∷ ((sliceTy (tyRef (named 5) imm (pointee (u8 .written)))), l₆) ∷ (Agent-l.mir, l₇) ∷ (Given′-l.mir, l₈) ∷ ((tyArray (tyInt w8) 2), l₉) ∷ ((tyRef erased mut (pointee ((Array u64 6) .written))), l₁₀) ∷ ((sliceTy (tyRef erased mut (pointee ((Array u64 6) .written)))), l₁₁) ∷ ((tyRef erased mut (pointee ((Array u16 35) .written))), l₁₂) ∷ ((sliceTy (tyRef erased mut (pointee ((Array u16 35) .written)))), l₁₃) ∷ ((tyRef erased mut (pointee (Object-t.the-row .written))), l₁₄) ∷ ((sliceTy (tyRef erased mut (pointee (Object-t.the-row .written)))), l₁₅) ∷ ((tyRef erased mut (pointee (u8 .written))), l₁₆) ∷ ((sliceTy (tyRef erased mut (pointee (u8 .written)))), l₁₇) ∷ ((tyRef erased mut (pointee (u8 .written))), l₁₈) ∷ ((sliceTy (tyRef erased mut (pointee (u8 .written)))), l₁₉) ∷ ((tyRef erased imm (pointee ((Array u8 2) .written))), l₂₀) ∷ ((sliceTy (tyRef erased imm (pointee (u8 .written)))), l₂₁) ∷ (Input-l.mir, l₂₂) ∷ []
 
-    begins : Sq W (‵ (MutSlice (named 0) κ₁ (Array u64 5) .own (at-list b₁ o₁ γ₁ sessions) (sliceVal (b₁, o₁) n₁ ∷ [])) ∷ ‵ (flft κ₁ q₁) ∷ ‵ (MutSlice (named 0) κ₂ (Array u16 35) .own (at-list b₂ o₂ γ₂ streams) (sliceVal (b₂, o₂) n₂ ∷ [])) ∷ ‵ (flft κ₂ q₂) ∷ ‵ (MutSlice (named 0) κ₃ Object-t.the-row .own (at-list b₃ o₃ γ₃ objects) (sliceVal (b₃, o₃) n₃ ∷ [])) ∷ ‵ (flft κ₃ q₃) ∷ ‵ (MutSlice (named 0) κ₄ u8 .own (at-list b₄ o₄ γ₄ out) (sliceVal (b₄, o₄) n₄ ∷ [])) ∷ ‵ (flft κ₄ q₄) ∷ ‵ (ShrSlice (named 0) κ₅ u8 .own (at-list b₅ o₅ γ₅ datagram) (sliceVal (b₅, o₅) n₅ ∷ [])) ∷ ‵ (flft κ₅ q₅) ∷ free 𝓤 Input-l.mir l₁₉ (free 𝓤 (sliceTy (tyRef erased imm (pointee (u8 .written)))) l₁₈ (free 𝓤 (tyRef erased imm (pointee ((Array u8 2) .written))) l₁₇ (free 𝓤 (sliceTy (tyRef erased mut (pointee (u8 .written)))) l₁₆ (free 𝓤 (tyRef erased mut (pointee (u8 .written))) l₁₅ (free 𝓤 (sliceTy (tyRef erased mut (pointee (Object-t.the-row .written)))) l₁₄ (free 𝓤 (tyRef erased mut (pointee (Object-t.the-row .written))) l₁₃ (free 𝓤 (sliceTy (tyRef erased mut (pointee ((Array u16 35) .written)))) l₁₂ (free 𝓤 (tyRef erased mut (pointee ((Array u16 35) .written))) l₁₁ (free 𝓤 (sliceTy (tyRef erased mut (pointee ((Array u64 5) .written)))) l₁₀ (free 𝓤 (tyRef erased mut (pointee ((Array u64 5) .written))) l₉ (free 𝓤 (tyArray (tyInt w8) 2) l₈ (full 𝓤 Given′-l.mir l₇ (Given′-p .val given) (full 𝓤 Agent-l.mir l₆ (Agent-p .val agent) (full 𝓤 (sliceTy (tyRef (named 4) imm (pointee (u8 .written)))) l₅ (sliceVal (b₅, o₅) n₅) (full 𝓤 (sliceTy (tyRef (named 3) mut (pointee (u8 .written)))) l₄ (sliceVal (b₄, o₄) n₄) (full 𝓤 (sliceTy (tyRef (named 2) mut (pointee (Object-t.the-row .written)))) l₃ (sliceVal (b₃, o₃) n₃) (full 𝓤 (sliceTy (tyRef (named 1) mut (pointee ((Array u16 35) .written)))) l₂ (sliceVal (b₂, o₂) n₂) (full 𝓤 (sliceTy (tyRef (named 0) mut (pointee ((Array u64 5) .written)))) l₁ (sliceVal (b₁, o₁) n₁) (free 𝓤 Processed-l.mir l₀ ([]))))))))))))))))))))) (runs C Λ En mir.t-1 (atRet En Post))
+    begins : Sq W (‵ (MutSlice (named 0) κ₁ (Array u64 6) .own (at-list b₁ o₁ γ₁ sessions) (sliceVal (b₁, o₁) n₁ ∷ [])) ∷ ‵ (flft κ₁ q₁) ∷ ‵ (MutSlice (named 0) κ₂ (Array u16 35) .own (at-list b₂ o₂ γ₂ streams) (sliceVal (b₂, o₂) n₂ ∷ [])) ∷ ‵ (flft κ₂ q₂) ∷ ‵ (MutSlice (named 0) κ₃ Object-t.the-row .own (at-list b₃ o₃ γ₃ objects) (sliceVal (b₃, o₃) n₃ ∷ [])) ∷ ‵ (flft κ₃ q₃) ∷ ‵ (MutSlice (named 0) κ₄ u8 .own (at-list b₄ o₄ γ₄ held) (sliceVal (b₄, o₄) n₄ ∷ [])) ∷ ‵ (flft κ₄ q₄) ∷ ‵ (MutSlice (named 0) κ₅ u8 .own (at-list b₅ o₅ γ₅ out) (sliceVal (b₅, o₅) n₅ ∷ [])) ∷ ‵ (flft κ₅ q₅) ∷ ‵ (ShrSlice (named 0) κ₆ u8 .own (at-list b₆ o₆ γ₆ datagram) (sliceVal (b₆, o₆) n₆ ∷ [])) ∷ ‵ (flft κ₆ q₆) ∷ free 𝓤 Input-l.mir l₂₂ (free 𝓤 (sliceTy (tyRef erased imm (pointee (u8 .written)))) l₂₁ (free 𝓤 (tyRef erased imm (pointee ((Array u8 2) .written))) l₂₀ (free 𝓤 (sliceTy (tyRef erased mut (pointee (u8 .written)))) l₁₉ (free 𝓤 (tyRef erased mut (pointee (u8 .written))) l₁₈ (free 𝓤 (sliceTy (tyRef erased mut (pointee (u8 .written)))) l₁₇ (free 𝓤 (tyRef erased mut (pointee (u8 .written))) l₁₆ (free 𝓤 (sliceTy (tyRef erased mut (pointee (Object-t.the-row .written)))) l₁₅ (free 𝓤 (tyRef erased mut (pointee (Object-t.the-row .written))) l₁₄ (free 𝓤 (sliceTy (tyRef erased mut (pointee ((Array u16 35) .written)))) l₁₃ (free 𝓤 (tyRef erased mut (pointee ((Array u16 35) .written))) l₁₂ (free 𝓤 (sliceTy (tyRef erased mut (pointee ((Array u64 6) .written)))) l₁₁ (free 𝓤 (tyRef erased mut (pointee ((Array u64 6) .written))) l₁₀ (free 𝓤 (tyArray (tyInt w8) 2) l₉ (full 𝓤 Given′-l.mir l₈ (Given′-p .val given) (full 𝓤 Agent-l.mir l₇ (Agent-p .val agent) (full 𝓤 (sliceTy (tyRef (named 5) imm (pointee (u8 .written)))) l₆ (sliceVal (b₆, o₆) n₆) (full 𝓤 (sliceTy (tyRef (named 4) mut (pointee (u8 .written)))) l₅ (sliceVal (b₅, o₅) n₅) (full 𝓤 (sliceTy (tyRef (named 3) mut (pointee (u8 .written)))) l₄ (sliceVal (b₄, o₄) n₄) (full 𝓤 (sliceTy (tyRef (named 2) mut (pointee (Object-t.the-row .written)))) l₃ (sliceVal (b₃, o₃) n₃) (full 𝓤 (sliceTy (tyRef (named 1) mut (pointee ((Array u16 35) .written)))) l₂ (sliceVal (b₂, o₂) n₂) (full 𝓤 (sliceTy (tyRef (named 0) mut (pointee ((Array u64 6) .written)))) l₁ (sliceVal (b₁, o₁) n₁) (free 𝓤 Processed-l.mir l₀ ([])))))))))))))))))))))))) (runs C Λ En mir.t-1 (atRet En Post))
     begins =
-        assigns ! (rep ! 2 (lit ! tt)) (from ! (stop !)) (init ! 32 refl (array-typed u8 (λ x vs p. uint-lawful 𝓤 H A W w8 .typed x vs p) 2 (replicate {A = ℕ} 2 0) _ (rep-is u8 2 0 (u8-p .val 0) ((refl, lit< tt))) .0)) $
-        assigns ! (addr ! (from ! (fld ! refl (hop ! (look-in ! 46 (sub ! 0 refl (whole !))) (stop !))))) (from ! (stop !)) (init ! 30 refl (tt, tt)) $
-        assigns ! (agg ! (and-then ! (load ! (from ! (stop !)) (look ! 30 refl)) (and-then ! (load ! (from ! (fld ! refl (stop !))) (look-in ! 46 (sub ! 1 refl (whole !)))) (no-more !)))) (from ! (stop !)) (init ! 28 refl (tt, (tt, (record { fits = room₁ .0 }, tt)))) $
-        assigns ! (addr ! (from ! (fld ! refl (hop ! (look-in ! 44 (sub ! 0 refl (whole !))) (stop !))))) (from ! (stop !)) (init ! 26 refl (tt, tt)) $
-        assigns ! (agg ! (and-then ! (load ! (from ! (stop !)) (look ! 26 refl)) (and-then ! (load ! (from ! (fld ! refl (stop !))) (look-in ! 44 (sub ! 1 refl (whole !)))) (no-more !)))) (from ! (stop !)) (init ! 24 refl (tt, (tt, (record { fits = room₂ .0 }, tt)))) $
-        assigns ! (addr ! (from ! (fld ! refl (hop ! (look-in ! 42 (sub ! 0 refl (whole !))) (stop !))))) (from ! (stop !)) (init ! 22 refl (tt, tt)) $
-        assigns ! (agg ! (and-then ! (load ! (from ! (stop !)) (look ! 22 refl)) (and-then ! (load ! (from ! (fld ! refl (stop !))) (look-in ! 42 (sub ! 1 refl (whole !)))) (no-more !)))) (from ! (stop !)) (init ! 20 refl (tt, (tt, (record { fits = room₃ .0 }, tt)))) $
-        assigns ! (addr ! (from ! (fld ! refl (hop ! (look-in ! 40 (sub ! 0 refl (whole !))) (stop !))))) (from ! (stop !)) (init ! 18 refl (tt, tt)) $
-        assigns ! (agg ! (and-then ! (load ! (from ! (stop !)) (look ! 18 refl)) (and-then ! (load ! (from ! (fld ! refl (stop !))) (look-in ! 40 (sub ! 1 refl (whole !)))) (no-more !)))) (from ! (stop !)) (init ! 16 refl (tt, (tt, (record { fits = room₄ .0 }, tt)))) $
-        assigns ! (addr ! (from ! (stop !))) (from ! (stop !)) (init ! 14 refl (tt, tt)) $
-        assigns ! (agg ! (and-then ! (load ! (from ! (stop !)) (look ! 14 refl)) (and-then ! (lit ! tt) (no-more !)))) (from ! (stop !)) (init ! 12 refl (tt, (tt, (record { fits = lit< tt }, tt)))) $
-        assigns ! (agg ! (and-then ! (lit ! tt) (and-then ! (load ! (from ! (fld ! refl (stop !))) (look-in ! 34 (sub ! 0 refl (whole !)))) (no-more !)))) (from ! (stop !)) (init ! 10 refl (Input-p .typed 𝓤 H A W (Input-Datagram (given .time)) (EL.owes Input-t.the-type Input-l.the-laws (Input-Datagram (given .time)) (LL.owed Given′-t.the-type Given′-l.the-laws given _ given-is .0, tt)))) $
-        -- 13: agent::process::process
-        lends-mut ! tt (Array u64 5) b₁ o₁ sessions n₁ (refl) (λ ν-13-sessions δ-13-sessions.
+        assigns ! (rep ! 2 (lit ! tt)) (from ! (stop !)) (init ! 38 refl (array-typed u8 (λ x vs p. uint-lawful 𝓤 H A W w8 .typed x vs p) 2 (replicate {A = ℕ} 2 0) _ (rep-is u8 2 0 (u8-p .val 0) ((refl, lit< tt))) .0)) $
+        assigns ! (addr ! (from ! (fld ! refl (hop ! (look-in ! 54 (sub ! 0 refl (whole !))) (stop !))))) (from ! (stop !)) (init ! 36 refl (tt, tt)) $
+        assigns ! (agg ! (and-then ! (load ! (from ! (stop !)) (look ! 36 refl)) (and-then ! (load ! (from ! (fld ! refl (stop !))) (look-in ! 54 (sub ! 1 refl (whole !)))) (no-more !)))) (from ! (stop !)) (init ! 34 refl (tt, (tt, (record { fits = room₁ .0 }, tt)))) $
+        assigns ! (addr ! (from ! (fld ! refl (hop ! (look-in ! 52 (sub ! 0 refl (whole !))) (stop !))))) (from ! (stop !)) (init ! 32 refl (tt, tt)) $
+        assigns ! (agg ! (and-then ! (load ! (from ! (stop !)) (look ! 32 refl)) (and-then ! (load ! (from ! (fld ! refl (stop !))) (look-in ! 52 (sub ! 1 refl (whole !)))) (no-more !)))) (from ! (stop !)) (init ! 30 refl (tt, (tt, (record { fits = room₂ .0 }, tt)))) $
+        assigns ! (addr ! (from ! (fld ! refl (hop ! (look-in ! 50 (sub ! 0 refl (whole !))) (stop !))))) (from ! (stop !)) (init ! 28 refl (tt, tt)) $
+        assigns ! (agg ! (and-then ! (load ! (from ! (stop !)) (look ! 28 refl)) (and-then ! (load ! (from ! (fld ! refl (stop !))) (look-in ! 50 (sub ! 1 refl (whole !)))) (no-more !)))) (from ! (stop !)) (init ! 26 refl (tt, (tt, (record { fits = room₃ .0 }, tt)))) $
+        assigns ! (addr ! (from ! (fld ! refl (hop ! (look-in ! 48 (sub ! 0 refl (whole !))) (stop !))))) (from ! (stop !)) (init ! 24 refl (tt, tt)) $
+        assigns ! (agg ! (and-then ! (load ! (from ! (stop !)) (look ! 24 refl)) (and-then ! (load ! (from ! (fld ! refl (stop !))) (look-in ! 48 (sub ! 1 refl (whole !)))) (no-more !)))) (from ! (stop !)) (init ! 22 refl (tt, (tt, (record { fits = room₄ .0 }, tt)))) $
+        assigns ! (addr ! (from ! (fld ! refl (hop ! (look-in ! 46 (sub ! 0 refl (whole !))) (stop !))))) (from ! (stop !)) (init ! 20 refl (tt, tt)) $
+        assigns ! (agg ! (and-then ! (load ! (from ! (stop !)) (look ! 20 refl)) (and-then ! (load ! (from ! (fld ! refl (stop !))) (look-in ! 46 (sub ! 1 refl (whole !)))) (no-more !)))) (from ! (stop !)) (init ! 18 refl (tt, (tt, (record { fits = room₅ .0 }, tt)))) $
+        assigns ! (addr ! (from ! (stop !))) (from ! (stop !)) (init ! 16 refl (tt, tt)) $
+        assigns ! (agg ! (and-then ! (load ! (from ! (stop !)) (look ! 16 refl)) (and-then ! (lit ! tt) (no-more !)))) (from ! (stop !)) (init ! 14 refl (tt, (tt, (record { fits = lit< tt }, tt)))) $
+        assigns ! (agg ! (and-then ! (lit ! tt) (and-then ! (load ! (from ! (fld ! refl (stop !))) (look-in ! 40 (sub ! 0 refl (whole !)))) (no-more !)))) (from ! (stop !)) (init ! 12 refl (Input-p .typed 𝓤 H A W (Input-Datagram (given .time)) (EL.owes Input-t.the-type Input-l.the-laws (Input-Datagram (given .time)) (LL.owed Given′-t.the-type Given′-l.the-laws given _ given-is .0, tt)))) $
+        -- 15: agent::process::process
+        lends-mut ! tt (Array u64 6) b₁ o₁ sessions n₁ (refl) (λ ν-15-sessions δ-15-sessions.
         move ! (3 ∷ 4 ∷ []) $
-        lends-mut ! tt (Array u16 35) b₂ o₂ streams n₂ (refl) (λ ν-13-streams δ-13-streams.
+        lends-mut ! tt (Array u16 35) b₂ o₂ streams n₂ (refl) (λ ν-15-streams δ-15-streams.
         move ! (6 ∷ 7 ∷ []) $
-        lends-mut ! tt Object-t.the-row b₃ o₃ objects n₃ (refl) (λ ν-13-objects δ-13-objects.
+        lends-mut ! tt Object-t.the-row b₃ o₃ objects n₃ (refl) (λ ν-15-objects δ-15-objects.
         move ! (9 ∷ 10 ∷ []) $
-        lends-mut ! tt u8 b₄ o₄ out n₄ (refl) (λ ν-13-out δ-13-out.
+        lends-mut ! tt u8 b₄ o₄ held n₄ (refl) (λ ν-15-held δ-15-held.
         move ! (12 ∷ 13 ∷ []) $
-        copies-shr ! u8 b₅ o₅ datagram n₅ $ move ! (37 ∷ []) $
-        lends-array ! tt u8 tt (u8-p .makes 𝓤 H A W) (u8-p .ty) 2 refl l₈ (replicate {A = ℕ} 2 0) _ (rep-is u8 2 0 (u8-p .val 0) ((refl, lit< tt))) (lit< tt, lit< tt) (λ ν-13-8 δ-13-8 llen-13-8.
+        lends-mut ! tt u8 b₅ o₅ out n₅ (refl) (λ ν-15-out δ-15-out.
+        move ! (15 ∷ 16 ∷ []) $
+        copies-shr ! u8 b₆ o₆ datagram n₆ $ move ! (44 ∷ []) $
+        lends-array ! tt u8 tt (u8-p .makes 𝓤 H A W) (u8-p .ty) 2 refl l₉ (replicate {A = ℕ} 2 0) _ (rep-is u8 2 0 (u8-p .val 0) ((refl, lit< tt))) (lit< tt, lit< tt) (λ ν-15-9 δ-15-9 llen-15-9.
         move ! (1 ∷ 0 ∷ []) $
-        lends-view ! tt u8 l₈ 0 (replicate {A = ℕ} 2 0) 2 llen-13-8 (λ ν2-13-8 δ2-13-8.
-        nothing ! $ move ! (1 ∷ 0 ∷ []) $ join ! $ move ! (4 ∷ 0 ∷ []) $ join ! $ move ! (6 ∷ 0 ∷ []) $ join ! $ move ! (8 ∷ 0 ∷ []) $ join ! $ move ! (10 ∷ 0 ∷ []) $ join ! $ move ! (12 ∷ 0 ∷ []) $ join ! $
-        use1 W (raw (toks 𝓤 A 6 (((ν-13-sessions ∷ []), ((ν-13-streams ∷ []), ((ν-13-objects ∷ []), ((ν-13-out ∷ []), (κ₅, ((ν2-13-8 ∷ []), tt))))))) ((fullShare, (fullShare, (fullShare, (fullShare, (q₅, (fullShare, tt))))))))) (id⊢ 𝓤 _) $ nothing ! $
+        lends-view ! tt u8 l₉ 0 (replicate {A = ℕ} 2 0) 2 llen-15-9 (λ ν2-15-9 δ2-15-9.
+        nothing ! $ move ! (1 ∷ 0 ∷ []) $ join ! $ move ! (4 ∷ 0 ∷ []) $ join ! $ move ! (6 ∷ 0 ∷ []) $ join ! $ move ! (8 ∷ 0 ∷ []) $ join ! $ move ! (10 ∷ 0 ∷ []) $ join ! $ move ! (12 ∷ 0 ∷ []) $ join ! $ move ! (14 ∷ 0 ∷ []) $ join ! $
+        use1 W (raw (toks 𝓤 A 7 (((ν-15-sessions ∷ []), ((ν-15-streams ∷ []), ((ν-15-objects ∷ []), ((ν-15-held ∷ []), ((ν-15-out ∷ []), (κ₆, ((ν2-15-9 ∷ []), tt)))))))) ((fullShare, (fullShare, (fullShare, (fullShare, (fullShare, (q₆, (fullShare, tt)))))))))) (id⊢ 𝓤 _) $ nothing ! $
         owned ! (Input-p .row) (Is (Input-p .row)) (Input-p .makes 𝓤 H A W) (Input-Datagram (given .time)) (Input-p .val (Input-Datagram (given .time)) ∷ []) (EL.owes Input-t.the-type Input-l.the-laws (Input-Datagram (given .time)) (LL.owed Given′-t.the-type Given′-l.the-laws given _ given-is .0, tt)) $ fjoin ! $
-        owned ! (Agent-p .row) (Is (Agent-p .row)) (Agent-p .makes 𝓤 H A W) agent (Agent-p .val agent ∷ []) agent-is $ fjoin ! $ move ! (2 ∷ 0 ∷ []) $ fjoin ! $ move ! (4 ∷ 0 ∷ []) $ fjoin ! $ move ! (5 ∷ 0 ∷ []) $ fjoin ! $ move ! (6 ∷ 0 ∷ []) $ fjoin ! $ move ! (7 ∷ 0 ∷ []) $ fjoin ! $ move ! (8 ∷ 0 ∷ []) $ fjoin ! $ move ! (1 ∷ 0 ∷ []) $
-        calls-any ! fm 6 [] (process-process.signature .params) (process-process.ended .kept) Processed-p (process-process.clauses 𝓤 H A mem run) known-process-process ((ν-13-sessions ∷ []), ((ν-13-streams ∷ []), ((ν-13-objects ∷ []), ((ν-13-out ∷ []), (κ₅, ((ν2-13-8 ∷ []), tt)))))) (fullShare, (fullShare, (fullShare, (fullShare, (q₅, (fullShare, tt)))))) tt (at-list b₁ o₁ δ-13-sessions sessions, (at-list b₂ o₂ δ-13-streams streams, (at-list b₃ o₃ δ-13-objects objects, (at-list b₄ o₄ δ-13-out out, (at-list b₅ o₅ γ₅ datagram, (at-list l₈ 0 δ2-13-8 (replicate {A = ℕ} 2 0), (agent, (Input-Datagram (given .time), tt)))))))) (sliceVal (b₁, o₁) n₁ ∷ [], (sliceVal (b₂, o₂) n₂ ∷ [], (sliceVal (b₃, o₃) n₃ ∷ [], (sliceVal (b₄, o₄) n₄ ∷ [], (sliceVal (b₅, o₅) n₅ ∷ [], (sliceVal (l₈, 0) 2 ∷ [], (Agent-p .val agent ∷ [], (Input-p .val (Input-Datagram (given .time)) ∷ [], tt)))))))) tt (processOf agent (lent (sessions) (streams) (objects)) (out) (datagram) ((replicate {A = ℕ} 2 0)) (Input-Datagram (given .time)) .processed) (λ ws-13. (ws-13 .0 ≡ processOf agent (lent (sessions) (streams) (objects)) (out) (datagram) ((replicate {A = ℕ} 2 0)) (Input-Datagram (given .time)) .tables .sessions) × (ws-13 .1 .0 ≡ processOf agent (lent (sessions) (streams) (objects)) (out) (datagram) ((replicate {A = ℕ} 2 0)) (Input-Datagram (given .time)) .tables .streams) × (ws-13 .1 .1 .0 ≡ processOf agent (lent (sessions) (streams) (objects)) (out) (datagram) ((replicate {A = ℕ} 2 0)) (Input-Datagram (given .time)) .tables .objects) × (ws-13 .1 .1 .1 .0 ≡ processOf agent (lent (sessions) (streams) (objects)) (out) (datagram) ((replicate {A = ℕ} 2 0)) (Input-Datagram (given .time)) .out)) (id⊢ 𝓤 _) (λ r ws-13. fact-mono 𝓤 ((r ≡ processOf agent (lent (sessions) (streams) (objects)) (out) (datagram) ((replicate {A = ℕ} 2 0)) (Input-Datagram (given .time)) .processed) × ((ws-13 .0) ≡ processOf agent (lent (sessions) (streams) (objects)) (out) (datagram) ((replicate {A = ℕ} 2 0)) (Input-Datagram (given .time)) .tables .sessions) × ((ws-13 .1 .0) ≡ processOf agent (lent (sessions) (streams) (objects)) (out) (datagram) ((replicate {A = ℕ} 2 0)) (Input-Datagram (given .time)) .tables .streams) × ((ws-13 .1 .1 .0) ≡ processOf agent (lent (sessions) (streams) (objects)) (out) (datagram) ((replicate {A = ℕ} 2 0)) (Input-Datagram (given .time)) .tables .objects) × ((ws-13 .1 .1 .1 .0) ≡ processOf agent (lent (sessions) (streams) (objects)) (out) (datagram) ((replicate {A = ℕ} 2 0)) (Input-Datagram (given .time)) .out)) ((r ≡ (processOf agent (lent (sessions) (streams) (objects)) (out) (datagram) ((replicate {A = ℕ} 2 0)) (Input-Datagram (given .time)) .processed)) × ((ws-13 .0 ≡ processOf agent (lent (sessions) (streams) (objects)) (out) (datagram) ((replicate {A = ℕ} 2 0)) (Input-Datagram (given .time)) .tables .sessions) × (ws-13 .1 .0 ≡ processOf agent (lent (sessions) (streams) (objects)) (out) (datagram) ((replicate {A = ℕ} 2 0)) (Input-Datagram (given .time)) .tables .streams) × (ws-13 .1 .1 .0 ≡ processOf agent (lent (sessions) (streams) (objects)) (out) (datagram) ((replicate {A = ℕ} 2 0)) (Input-Datagram (given .time)) .tables .objects) × (ws-13 .1 .1 .1 .0 ≡ processOf agent (lent (sessions) (streams) (objects)) (out) (datagram) ((replicate {A = ℕ} 2 0)) (Input-Datagram (given .time)) .out))) (λ e. (e .0, (e .1, e .2, e .3, e .4)))) (λ _. (and-then ! (load ! (from ! (stop !)) (look ! 26 refl)) (and-then ! (load ! (from ! (stop !)) (look ! 22 refl)) (and-then ! (load ! (from ! (stop !)) (look ! 18 refl)) (and-then ! (load ! (from ! (stop !)) (look ! 14 refl)) (and-then ! (load ! (from ! (stop !)) (look ! 35 refl)) (and-then ! (load ! (from ! (stop !)) (look ! 10 refl)) (and-then ! (load ! (from ! (stop !)) (look ! 33 refl)) (and-then ! (load ! (from ! (stop !)) (look ! 8 refl)) (no-more !)))))))))) (λ ws-13 said-13 is-13.
-        use1 W ((‵ (flft (ν-13-sessions ∷ []) fullShare) ⊛ (‵ (flft (ν-13-streams ∷ []) fullShare) ⊛ (‵ (flft (ν-13-objects ∷ []) fullShare) ⊛ (‵ (flft (ν-13-out ∷ []) fullShare) ⊛ (‵ (flft κ₅ q₅) ⊛ (‵ (flft (ν2-13-8 ∷ []) fullShare) ⊛ ‵ ftrue))))))) (id⊢ 𝓤 _) $ split ! $ move ! (1 ∷ []) $ split ! $ move ! (1 ∷ []) $ split ! $ move ! (1 ∷ []) $ split ! $ move ! (1 ∷ []) $ split ! $ move ! (1 ∷ []) $ split ! $ move ! (7 ∷ []) $ fsplit ! $ fsplit ! $ move ! (1 ∷ []) $
-        feqL ! (λ wlen-13-0.
+        owned ! (Agent-p .row) (Is (Agent-p .row)) (Agent-p .makes 𝓤 H A W) agent (Agent-p .val agent ∷ []) agent-is $ fjoin ! $ move ! (2 ∷ 0 ∷ []) $ fjoin ! $ move ! (4 ∷ 0 ∷ []) $ fjoin ! $ move ! (5 ∷ 0 ∷ []) $ fjoin ! $ move ! (6 ∷ 0 ∷ []) $ fjoin ! $ move ! (7 ∷ 0 ∷ []) $ fjoin ! $ move ! (8 ∷ 0 ∷ []) $ fjoin ! $ move ! (9 ∷ 0 ∷ []) $ fjoin ! $ move ! (1 ∷ 0 ∷ []) $
+        calls-any ! fm 7 [] (process-process.signature .params) (process-process.ended .kept) Processed-p (process-process.clauses 𝓤 H A mem run) known-process-process ((ν-15-sessions ∷ []), ((ν-15-streams ∷ []), ((ν-15-objects ∷ []), ((ν-15-held ∷ []), ((ν-15-out ∷ []), (κ₆, ((ν2-15-9 ∷ []), tt))))))) (fullShare, (fullShare, (fullShare, (fullShare, (fullShare, (q₆, (fullShare, tt))))))) tt (at-list b₁ o₁ δ-15-sessions sessions, (at-list b₂ o₂ δ-15-streams streams, (at-list b₃ o₃ δ-15-objects objects, (at-list b₄ o₄ δ-15-held held, (at-list b₅ o₅ δ-15-out out, (at-list b₆ o₆ γ₆ datagram, (at-list l₉ 0 δ2-15-9 (replicate {A = ℕ} 2 0), (agent, (Input-Datagram (given .time), tt))))))))) (sliceVal (b₁, o₁) n₁ ∷ [], (sliceVal (b₂, o₂) n₂ ∷ [], (sliceVal (b₃, o₃) n₃ ∷ [], (sliceVal (b₄, o₄) n₄ ∷ [], (sliceVal (b₅, o₅) n₅ ∷ [], (sliceVal (b₆, o₆) n₆ ∷ [], (sliceVal (l₉, 0) 2 ∷ [], (Agent-p .val agent ∷ [], (Input-p .val (Input-Datagram (given .time)) ∷ [], tt))))))))) tt (processOf agent (lent (sessions) (streams) (objects) (held)) (out) (datagram) ((replicate {A = ℕ} 2 0)) (Input-Datagram (given .time)) .processed) (λ ws-15. (ws-15 .0 ≡ processOf agent (lent (sessions) (streams) (objects) (held)) (out) (datagram) ((replicate {A = ℕ} 2 0)) (Input-Datagram (given .time)) .tables .sessions) × (ws-15 .1 .0 ≡ processOf agent (lent (sessions) (streams) (objects) (held)) (out) (datagram) ((replicate {A = ℕ} 2 0)) (Input-Datagram (given .time)) .tables .streams) × (ws-15 .1 .1 .0 ≡ processOf agent (lent (sessions) (streams) (objects) (held)) (out) (datagram) ((replicate {A = ℕ} 2 0)) (Input-Datagram (given .time)) .tables .objects) × (ws-15 .1 .1 .1 .0 ≡ processOf agent (lent (sessions) (streams) (objects) (held)) (out) (datagram) ((replicate {A = ℕ} 2 0)) (Input-Datagram (given .time)) .tables .held) × (ws-15 .1 .1 .1 .1 .0 ≡ processOf agent (lent (sessions) (streams) (objects) (held)) (out) (datagram) ((replicate {A = ℕ} 2 0)) (Input-Datagram (given .time)) .out)) (id⊢ 𝓤 _) (λ r ws-15. fact-mono 𝓤 ((r ≡ processOf agent (lent (sessions) (streams) (objects) (held)) (out) (datagram) ((replicate {A = ℕ} 2 0)) (Input-Datagram (given .time)) .processed) × ((ws-15 .0) ≡ processOf agent (lent (sessions) (streams) (objects) (held)) (out) (datagram) ((replicate {A = ℕ} 2 0)) (Input-Datagram (given .time)) .tables .sessions) × ((ws-15 .1 .0) ≡ processOf agent (lent (sessions) (streams) (objects) (held)) (out) (datagram) ((replicate {A = ℕ} 2 0)) (Input-Datagram (given .time)) .tables .streams) × ((ws-15 .1 .1 .0) ≡ processOf agent (lent (sessions) (streams) (objects) (held)) (out) (datagram) ((replicate {A = ℕ} 2 0)) (Input-Datagram (given .time)) .tables .objects) × ((ws-15 .1 .1 .1 .0) ≡ processOf agent (lent (sessions) (streams) (objects) (held)) (out) (datagram) ((replicate {A = ℕ} 2 0)) (Input-Datagram (given .time)) .tables .held) × ((ws-15 .1 .1 .1 .1 .0) ≡ processOf agent (lent (sessions) (streams) (objects) (held)) (out) (datagram) ((replicate {A = ℕ} 2 0)) (Input-Datagram (given .time)) .out)) ((r ≡ (processOf agent (lent (sessions) (streams) (objects) (held)) (out) (datagram) ((replicate {A = ℕ} 2 0)) (Input-Datagram (given .time)) .processed)) × ((ws-15 .0 ≡ processOf agent (lent (sessions) (streams) (objects) (held)) (out) (datagram) ((replicate {A = ℕ} 2 0)) (Input-Datagram (given .time)) .tables .sessions) × (ws-15 .1 .0 ≡ processOf agent (lent (sessions) (streams) (objects) (held)) (out) (datagram) ((replicate {A = ℕ} 2 0)) (Input-Datagram (given .time)) .tables .streams) × (ws-15 .1 .1 .0 ≡ processOf agent (lent (sessions) (streams) (objects) (held)) (out) (datagram) ((replicate {A = ℕ} 2 0)) (Input-Datagram (given .time)) .tables .objects) × (ws-15 .1 .1 .1 .0 ≡ processOf agent (lent (sessions) (streams) (objects) (held)) (out) (datagram) ((replicate {A = ℕ} 2 0)) (Input-Datagram (given .time)) .tables .held) × (ws-15 .1 .1 .1 .1 .0 ≡ processOf agent (lent (sessions) (streams) (objects) (held)) (out) (datagram) ((replicate {A = ℕ} 2 0)) (Input-Datagram (given .time)) .out))) (λ e. (e .0, (e .1, e .2, e .3, e .4, e .5)))) (λ _. (and-then ! (load ! (from ! (stop !)) (look ! 31 refl)) (and-then ! (load ! (from ! (stop !)) (look ! 27 refl)) (and-then ! (load ! (from ! (stop !)) (look ! 23 refl)) (and-then ! (load ! (from ! (stop !)) (look ! 19 refl)) (and-then ! (load ! (from ! (stop !)) (look ! 15 refl)) (and-then ! (load ! (from ! (stop !)) (look ! 40 refl)) (and-then ! (load ! (from ! (stop !)) (look ! 11 refl)) (and-then ! (load ! (from ! (stop !)) (look ! 38 refl)) (and-then ! (load ! (from ! (stop !)) (look ! 9 refl)) (no-more !))))))))))) (λ ws-15 said-15 is-15.
+        use1 W ((‵ (flft (ν-15-sessions ∷ []) fullShare) ⊛ (‵ (flft (ν-15-streams ∷ []) fullShare) ⊛ (‵ (flft (ν-15-objects ∷ []) fullShare) ⊛ (‵ (flft (ν-15-held ∷ []) fullShare) ⊛ (‵ (flft (ν-15-out ∷ []) fullShare) ⊛ (‵ (flft κ₆ q₆) ⊛ (‵ (flft (ν2-15-9 ∷ []) fullShare) ⊛ ‵ ftrue)))))))) (id⊢ 𝓤 _) $ split ! $ move ! (1 ∷ []) $ split ! $ move ! (1 ∷ []) $ split ! $ move ! (1 ∷ []) $ split ! $ move ! (1 ∷ []) $ split ! $ move ! (1 ∷ []) $ split ! $ move ! (1 ∷ []) $ split ! $ move ! (8 ∷ []) $ fsplit ! $ fsplit ! $ move ! (1 ∷ []) $
+        feqL ! (λ wlen-15-0.
         move ! (1 ∷ []) $ fsplit ! $ fsplit ! $ move ! (1 ∷ []) $
-        feqL ! (λ wlen-13-1.
+        feqL ! (λ wlen-15-1.
         move ! (1 ∷ []) $ fsplit ! $ fsplit ! $ move ! (1 ∷ []) $
-        feqL ! (λ wlen-13-2.
+        feqL ! (λ wlen-15-2.
         move ! (1 ∷ []) $ fsplit ! $ fsplit ! $ move ! (1 ∷ []) $
-        feqL ! (λ wlen-13-3.
-        move ! (1 ∷ []) $ fsplit ! $ move ! (1 ∷ []) $ fsplit ! $ move ! (13 ∷ 20 ∷ 6 ∷ []) $
-        backs-mut ! tt (Array u64 5) b₁ o₁ sessions n₁ (refl) room₁ ν-13-sessions δ-13-sessions (ws-13 .0) (processOf agent (lent (sessions) (streams) (objects)) (out) (datagram) ((replicate {A = ℕ} 2 0)) (Input-Datagram (given .time)) .tables .sessions) wlen-13-0 (said-13 .0) (λ len-13-sessions.
-        move ! (13 ∷ 19 ∷ 7 ∷ []) $
-        backs-mut ! tt (Array u16 35) b₂ o₂ streams n₂ (refl) room₂ ν-13-streams δ-13-streams (ws-13 .1 .0) (processOf agent (lent (sessions) (streams) (objects)) (out) (datagram) ((replicate {A = ℕ} 2 0)) (Input-Datagram (given .time)) .tables .streams) wlen-13-1 (said-13 .1) (λ len-13-streams.
-        move ! (13 ∷ 18 ∷ 8 ∷ []) $
-        backs-mut ! tt Object-t.the-row b₃ o₃ objects n₃ (refl) room₃ ν-13-objects δ-13-objects (ws-13 .1 .1 .0) (processOf agent (lent (sessions) (streams) (objects)) (out) (datagram) ((replicate {A = ℕ} 2 0)) (Input-Datagram (given .time)) .tables .objects) wlen-13-2 (said-13 .2) (λ len-13-objects.
-        move ! (13 ∷ 17 ∷ 9 ∷ []) $
-        backs-mut ! tt u8 b₄ o₄ out n₄ (refl) room₄ ν-13-out δ-13-out (ws-13 .1 .1 .1 .0) (processOf agent (lent (sessions) (streams) (objects)) (out) (datagram) ((replicate {A = ℕ} 2 0)) (Input-Datagram (given .time)) .out) wlen-13-3 (said-13 .3) (λ len-13-out.
-        move ! (11 ∷ 14 ∷ []) $
-        backs-view ! tt u8 l₈ 0 (replicate {A = ℕ} 2 0) 2 llen-13-8 ν2-13-8 $
-        ends-mut ! u8 l₈ 0 (replicate {A = ℕ} 2 0) 2 $ move ! (0 ∷ 15 ∷ 1 ∷ []) $
-        backs-array ! tt u8 (u8-p .ty) 2 refl l₈ ν-13-8 δ-13-8 (replicate {A = ℕ} 2 0) (λ v-13-8 vis-13-8.
-        move ! (9 ∷ []) $ drop ! $ move ! (9 ∷ []) $ drop ! $ move ! (9 ∷ []) $ drop ! $ move ! (9 ∷ []) $ drop ! $
-        land ! (from ! (stop !)) (init ! 48 refl (Processed-p .typed 𝓤 H A W (processOf agent (lent (sessions) (streams) (objects)) (out) (datagram) ((replicate {A = ℕ} 2 0)) (Input-Datagram (given .time)) .processed) is-13)) $
-        returns ! (look ! 48 refl) $ forget ! 0 refl $ forget ! 11 refl $ forget ! 13 refl $ forget ! 15 refl $ forget ! 17 refl $ forget ! 19 refl $ forget ! 21 refl $ forget ! 23 refl $ forget ! 25 refl $ forget ! 27 refl $ forget ! 29 refl $ forget ! 31 refl $ forget ! 34 refl $ forget ! 36 refl $ forget ! 38 refl $ forget ! 40 refl $ forget ! 42 refl $ forget ! 44 refl $ forget ! 46 refl $ forget ! 48 refl $ move ! (48 ∷ 49 ∷ []) $ free1 ! $ move ! (46 ∷ 47 ∷ []) $ free1 ! $ move ! (44 ∷ 45 ∷ []) $ free1 ! $ move ! (42 ∷ 43 ∷ []) $ free1 ! $ move ! (40 ∷ 41 ∷ []) $ free1 ! $ move ! (38 ∷ 39 ∷ []) $ free1 ! $ move ! (36 ∷ 37 ∷ []) $ free1 ! $ move ! (34 ∷ 35 ∷ []) $ free1 ! $ move ! (0 ∷ 33 ∷ []) $ free1 ! $ move ! (30 ∷ 31 ∷ []) $ free1 ! $ move ! (28 ∷ 29 ∷ []) $ free1 ! $ move ! (26 ∷ 27 ∷ []) $ free1 ! $ move ! (24 ∷ 25 ∷ []) $ free1 ! $ move ! (22 ∷ 23 ∷ []) $ free1 ! $ move ! (20 ∷ 21 ∷ []) $ free1 ! $ move ! (18 ∷ 19 ∷ []) $ free1 ! $ move ! (16 ∷ 17 ∷ []) $ free1 ! $ move ! (14 ∷ 15 ∷ []) $ free1 ! $ move ! (12 ∷ 13 ∷ []) $ free1 ! $ move ! (10 ∷ 11 ∷ []) $ free1 ! $ free0 ! $ move ! (6 ∷ 7 ∷ 4 ∷ 5 ∷ 2 ∷ 3 ∷ 0 ∷ 1 ∷ 9 ∷ 8 ∷ []) $
-        by ! (exits (processOf agent (lent (sessions) (streams) (objects)) (out) (datagram) ((replicate {A = ℕ} 2 0)) (Input-Datagram (given .time)) .processed) (processOf agent (lent (sessions) (streams) (objects)) (out) (datagram) ((replicate {A = ℕ} 2 0)) (Input-Datagram (given .time)) .tables .sessions) (processOf agent (lent (sessions) (streams) (objects)) (out) (datagram) ((replicate {A = ℕ} 2 0)) (Input-Datagram (given .time)) .tables .streams) (processOf agent (lent (sessions) (streams) (objects)) (out) (datagram) ((replicate {A = ℕ} 2 0)) (Input-Datagram (given .time)) .tables .objects) (processOf agent (lent (sessions) (streams) (objects)) (out) (datagram) ((replicate {A = ℕ} 2 0)) (Input-Datagram (given .time)) .out) (same-leaves _ _ (any-sample agent (lent sessions streams objects) out datagram (replicate 2 0) [] (given .time))) is-13 len-13-sessions len-13-streams len-13-objects len-13-out)))))))))))))))))
+        feqL ! (λ wlen-15-3.
+        move ! (1 ∷ []) $ fsplit ! $ fsplit ! $ move ! (1 ∷ []) $
+        feqL ! (λ wlen-15-4.
+        move ! (1 ∷ []) $ fsplit ! $ move ! (1 ∷ []) $ fsplit ! $ move ! (15 ∷ 23 ∷ 7 ∷ []) $
+        backs-mut ! tt (Array u64 6) b₁ o₁ sessions n₁ (refl) room₁ ν-15-sessions δ-15-sessions (ws-15 .0) (processOf agent (lent (sessions) (streams) (objects) (held)) (out) (datagram) ((replicate {A = ℕ} 2 0)) (Input-Datagram (given .time)) .tables .sessions) wlen-15-0 (said-15 .0) (λ len-15-sessions.
+        move ! (15 ∷ 22 ∷ 8 ∷ []) $
+        backs-mut ! tt (Array u16 35) b₂ o₂ streams n₂ (refl) room₂ ν-15-streams δ-15-streams (ws-15 .1 .0) (processOf agent (lent (sessions) (streams) (objects) (held)) (out) (datagram) ((replicate {A = ℕ} 2 0)) (Input-Datagram (given .time)) .tables .streams) wlen-15-1 (said-15 .1) (λ len-15-streams.
+        move ! (15 ∷ 21 ∷ 9 ∷ []) $
+        backs-mut ! tt Object-t.the-row b₃ o₃ objects n₃ (refl) room₃ ν-15-objects δ-15-objects (ws-15 .1 .1 .0) (processOf agent (lent (sessions) (streams) (objects) (held)) (out) (datagram) ((replicate {A = ℕ} 2 0)) (Input-Datagram (given .time)) .tables .objects) wlen-15-2 (said-15 .2) (λ len-15-objects.
+        move ! (15 ∷ 20 ∷ 10 ∷ []) $
+        backs-mut ! tt u8 b₄ o₄ held n₄ (refl) room₄ ν-15-held δ-15-held (ws-15 .1 .1 .1 .0) (processOf agent (lent (sessions) (streams) (objects) (held)) (out) (datagram) ((replicate {A = ℕ} 2 0)) (Input-Datagram (given .time)) .tables .held) wlen-15-3 (said-15 .3) (λ len-15-held.
+        move ! (15 ∷ 19 ∷ 11 ∷ []) $
+        backs-mut ! tt u8 b₅ o₅ out n₅ (refl) room₅ ν-15-out δ-15-out (ws-15 .1 .1 .1 .1 .0) (processOf agent (lent (sessions) (streams) (objects) (held)) (out) (datagram) ((replicate {A = ℕ} 2 0)) (Input-Datagram (given .time)) .out) wlen-15-4 (said-15 .4) (λ len-15-out.
+        move ! (13 ∷ 16 ∷ []) $
+        backs-view ! tt u8 l₉ 0 (replicate {A = ℕ} 2 0) 2 llen-15-9 ν2-15-9 $
+        ends-mut ! u8 l₉ 0 (replicate {A = ℕ} 2 0) 2 $ move ! (0 ∷ 17 ∷ 1 ∷ []) $
+        backs-array ! tt u8 (u8-p .ty) 2 refl l₉ ν-15-9 δ-15-9 (replicate {A = ℕ} 2 0) (λ v-15-9 vis-15-9.
+        move ! (11 ∷ []) $ drop ! $ move ! (11 ∷ []) $ drop ! $ move ! (11 ∷ []) $ drop ! $ move ! (11 ∷ []) $ drop ! $
+        land ! (from ! (stop !)) (init ! 56 refl (Processed-p .typed 𝓤 H A W (processOf agent (lent (sessions) (streams) (objects) (held)) (out) (datagram) ((replicate {A = ℕ} 2 0)) (Input-Datagram (given .time)) .processed) is-15)) $
+        returns ! (look ! 56 refl) $ forget ! 0 refl $ forget ! 13 refl $ forget ! 15 refl $ forget ! 17 refl $ forget ! 19 refl $ forget ! 21 refl $ forget ! 23 refl $ forget ! 25 refl $ forget ! 27 refl $ forget ! 29 refl $ forget ! 31 refl $ forget ! 33 refl $ forget ! 35 refl $ forget ! 37 refl $ forget ! 40 refl $ forget ! 42 refl $ forget ! 44 refl $ forget ! 46 refl $ forget ! 48 refl $ forget ! 50 refl $ forget ! 52 refl $ forget ! 54 refl $ forget ! 56 refl $ move ! (56 ∷ 57 ∷ []) $ free1 ! $ move ! (54 ∷ 55 ∷ []) $ free1 ! $ move ! (52 ∷ 53 ∷ []) $ free1 ! $ move ! (50 ∷ 51 ∷ []) $ free1 ! $ move ! (48 ∷ 49 ∷ []) $ free1 ! $ move ! (46 ∷ 47 ∷ []) $ free1 ! $ move ! (44 ∷ 45 ∷ []) $ free1 ! $ move ! (42 ∷ 43 ∷ []) $ free1 ! $ move ! (40 ∷ 41 ∷ []) $ free1 ! $ move ! (0 ∷ 39 ∷ []) $ free1 ! $ move ! (36 ∷ 37 ∷ []) $ free1 ! $ move ! (34 ∷ 35 ∷ []) $ free1 ! $ move ! (32 ∷ 33 ∷ []) $ free1 ! $ move ! (30 ∷ 31 ∷ []) $ free1 ! $ move ! (28 ∷ 29 ∷ []) $ free1 ! $ move ! (26 ∷ 27 ∷ []) $ free1 ! $ move ! (24 ∷ 25 ∷ []) $ free1 ! $ move ! (22 ∷ 23 ∷ []) $ free1 ! $ move ! (20 ∷ 21 ∷ []) $ free1 ! $ move ! (18 ∷ 19 ∷ []) $ free1 ! $ move ! (16 ∷ 17 ∷ []) $ free1 ! $ move ! (14 ∷ 15 ∷ []) $ free1 ! $ move ! (12 ∷ 13 ∷ []) $ free1 ! $ free0 ! $ move ! (8 ∷ 9 ∷ 6 ∷ 7 ∷ 4 ∷ 5 ∷ 2 ∷ 3 ∷ 0 ∷ 1 ∷ 11 ∷ 10 ∷ []) $
+        by ! (exits (processOf agent (lent (sessions) (streams) (objects) (held)) (out) (datagram) ((replicate {A = ℕ} 2 0)) (Input-Datagram (given .time)) .processed) (processOf agent (lent (sessions) (streams) (objects) (held)) (out) (datagram) ((replicate {A = ℕ} 2 0)) (Input-Datagram (given .time)) .tables .sessions) (processOf agent (lent (sessions) (streams) (objects) (held)) (out) (datagram) ((replicate {A = ℕ} 2 0)) (Input-Datagram (given .time)) .tables .streams) (processOf agent (lent (sessions) (streams) (objects) (held)) (out) (datagram) ((replicate {A = ℕ} 2 0)) (Input-Datagram (given .time)) .tables .objects) (processOf agent (lent (sessions) (streams) (objects) (held)) (out) (datagram) ((replicate {A = ℕ} 2 0)) (Input-Datagram (given .time)) .tables .held) (processOf agent (lent (sessions) (streams) (objects) (held)) (out) (datagram) ((replicate {A = ℕ} 2 0)) (Input-Datagram (given .time)) .out) (same-leaves _ _ (any-sample agent (lent sessions streams objects held) out datagram (replicate 2 0) [] (given .time))) is-15 len-15-sessions len-15-streams len-15-objects len-15-held len-15-out))))))))))))))))))))
 
   module _ (𝓣 : Tables 𝓤 H) (known-process-process : Triple 𝓤 (𝓣 .C #process-process) (Of-process-process 𝓤 H A mem run)) where
-    walk : ent 𝓤 (onEntry 𝓤 H A f.signature (κ₁, (κ₂, (κ₃, (κ₄, (κ₅, tt))))) (q₁, (q₂, (q₃, (q₄, (q₅, tt))))) x at) (WpFn 𝓤 H (𝓣 .C) (𝓣 .Λ) code.function (sliceVal (b₁, o₁) n₁ ∷ sliceVal (b₂, o₂) n₂ ∷ sliceVal (b₃, o₃) n₃ ∷ sliceVal (b₄, o₄) n₄ ∷ sliceVal (b₅, o₅) n₅ ∷ Agent-p .val agent ∷ Given′-p .val given ∷ []) Post)
+    walk : ent 𝓤 (onEntry 𝓤 H A f.signature (κ₁, (κ₂, (κ₃, (κ₄, (κ₅, (κ₆, tt)))))) (q₁, (q₂, (q₃, (q₄, (q₅, (q₆, tt)))))) x at) (WpFn 𝓤 H (𝓣 .C) (𝓣 .Λ) code.function (sliceVal (b₁, o₁) n₁ ∷ sliceVal (b₂, o₂) n₂ ∷ sliceVal (b₃, o₃) n₃ ∷ sliceVal (b₄, o₄) n₄ ∷ sliceVal (b₅, o₅) n₅ ∷ sliceVal (b₆, o₆) n₆ ∷ Agent-p .val agent ∷ Given′-p .val given ∷ []) Post)
     walk =
-        qed W ((‵ (flft κ₁ q₁) ⊛ (‵ (flft κ₂ q₂) ⊛ (‵ (flft κ₃ q₃) ⊛ (‵ (flft κ₄ q₄) ⊛ (‵ (flft κ₅ q₅) ⊛ ‵ ftrue))))) ∷ ‵ (owns (MutSlice (named 0) κ₁ (Array u64 5) ∷ MutSlice (named 1) κ₂ (Array u16 35) ∷ MutSlice (named 2) κ₃ Object-t.the-row ∷ MutSlice (named 3) κ₄ u8 ∷ ShrSlice (named 4) κ₅ u8 ∷ Agent-p .row ∷ Given′-p .row ∷ []) x at) ∷ []) ∵ enter ! (𝓣 .C) (𝓣 .Λ) code.function (sliceVal (b₁, o₁) n₁ ∷ sliceVal (b₂, o₂) n₂ ∷ sliceVal (b₃, o₃) n₃ ∷ sliceVal (b₄, o₄) n₄ ∷ sliceVal (b₅, o₅) n₅ ∷ Agent-p .val agent ∷ Given′-p .val given ∷ []) _ $
-        alloc1 ! (λ l₀. alloc1 ! (λ l₁. alloc1 ! (λ l₂. alloc1 ! (λ l₃. alloc1 ! (λ l₄. alloc1 ! (λ l₅. alloc1 ! (λ l₆. alloc1 ! (λ l₇. alloc1 ! (λ l₈. alloc1 ! (λ l₉. alloc1 ! (λ l₁₀. alloc1 ! (λ l₁₁. alloc1 ! (λ l₁₂. alloc1 ! (λ l₁₃. alloc1 ! (λ l₁₄. alloc1 ! (λ l₁₅. alloc1 ! (λ l₁₆. alloc1 ! (λ l₁₇. alloc1 ! (λ l₁₈. alloc1 ! (λ l₁₉. alloc0 ! $ params1 ! $ pass1 ! (init ! 36 refl (tt, (tt, (record { fits = room₁ .0 }, tt)))) $ pass1 ! (init ! 34 refl (tt, (tt, (record { fits = room₂ .0 }, tt)))) $ pass1 ! (init ! 32 refl (tt, (tt, (record { fits = room₃ .0 }, tt)))) $ pass1 ! (init ! 30 refl (tt, (tt, (record { fits = room₄ .0 }, tt)))) $ pass1 ! (init ! 28 refl (tt, (tt, (record { fits = room₅ .0 }, tt)))) $ pass1 ! (init ! 26 refl (Agent-p .typed 𝓤 H A W agent agent-is)) $ pass1 ! (init ! 24 refl (Given′-p .typed 𝓤 H A W given given-is)) $ pass0 ! $ move ! (41 ∷ []) $ fsplit ! $ move ! (1 ∷ []) $ fsplit ! $ move ! (1 ∷ []) $ fsplit ! $ move ! (1 ∷ []) $ fsplit ! $ move ! (1 ∷ []) $ fsplit ! $ move ! (46 ∷ []) $ split ! $ move ! (1 ∷ []) $ split ! $ move ! (1 ∷ []) $ split ! $ move ! (1 ∷ []) $ split ! $ move ! (1 ∷ []) $ split ! $ move ! (1 ∷ []) $ drop ! $ move ! (6 ∷ []) $ drop ! $ move ! (9 ∷ 4 ∷ 8 ∷ 3 ∷ 7 ∷ 2 ∷ 6 ∷ 1 ∷ 5 ∷ 0 ∷ 10 ∷ 11 ∷ 12 ∷ 13 ∷ 14 ∷ 15 ∷ 16 ∷ 17 ∷ 18 ∷ 19 ∷ 20 ∷ 21 ∷ 22 ∷ 23 ∷ 24 ∷ 25 ∷ 26 ∷ 27 ∷ 28 ∷ 29 ∷ 30 ∷ 31 ∷ 32 ∷ 33 ∷ 34 ∷ 35 ∷ 36 ∷ 37 ∷ 38 ∷ 39 ∷ 40 ∷ 41 ∷ 42 ∷ 43 ∷ 44 ∷ 45 ∷ 46 ∷ 47 ∷ 48 ∷ 49 ∷ []) $
-        begins 𝓣 known-process-process l₀ l₁ l₂ l₃ l₄ l₅ l₆ l₇ l₈ l₉ l₁₀ l₁₁ l₁₂ l₁₃ l₁₄ l₁₅ l₁₆ l₁₇ l₁₈ l₁₉))))))))))))))))))))
+        qed W ((‵ (flft κ₁ q₁) ⊛ (‵ (flft κ₂ q₂) ⊛ (‵ (flft κ₃ q₃) ⊛ (‵ (flft κ₄ q₄) ⊛ (‵ (flft κ₅ q₅) ⊛ (‵ (flft κ₆ q₆) ⊛ ‵ ftrue)))))) ∷ ‵ (owns (MutSlice (named 0) κ₁ (Array u64 6) ∷ MutSlice (named 1) κ₂ (Array u16 35) ∷ MutSlice (named 2) κ₃ Object-t.the-row ∷ MutSlice (named 3) κ₄ u8 ∷ MutSlice (named 4) κ₅ u8 ∷ ShrSlice (named 5) κ₆ u8 ∷ Agent-p .row ∷ Given′-p .row ∷ []) x at) ∷ []) ∵ enter ! (𝓣 .C) (𝓣 .Λ) code.function (sliceVal (b₁, o₁) n₁ ∷ sliceVal (b₂, o₂) n₂ ∷ sliceVal (b₃, o₃) n₃ ∷ sliceVal (b₄, o₄) n₄ ∷ sliceVal (b₅, o₅) n₅ ∷ sliceVal (b₆, o₆) n₆ ∷ Agent-p .val agent ∷ Given′-p .val given ∷ []) _ $
+        alloc1 ! (λ l₀. alloc1 ! (λ l₁. alloc1 ! (λ l₂. alloc1 ! (λ l₃. alloc1 ! (λ l₄. alloc1 ! (λ l₅. alloc1 ! (λ l₆. alloc1 ! (λ l₇. alloc1 ! (λ l₈. alloc1 ! (λ l₉. alloc1 ! (λ l₁₀. alloc1 ! (λ l₁₁. alloc1 ! (λ l₁₂. alloc1 ! (λ l₁₃. alloc1 ! (λ l₁₄. alloc1 ! (λ l₁₅. alloc1 ! (λ l₁₆. alloc1 ! (λ l₁₇. alloc1 ! (λ l₁₈. alloc1 ! (λ l₁₉. alloc1 ! (λ l₂₀. alloc1 ! (λ l₂₁. alloc1 ! (λ l₂₂. alloc0 ! $ params1 ! $ pass1 ! (init ! 42 refl (tt, (tt, (record { fits = room₁ .0 }, tt)))) $ pass1 ! (init ! 40 refl (tt, (tt, (record { fits = room₂ .0 }, tt)))) $ pass1 ! (init ! 38 refl (tt, (tt, (record { fits = room₃ .0 }, tt)))) $ pass1 ! (init ! 36 refl (tt, (tt, (record { fits = room₄ .0 }, tt)))) $ pass1 ! (init ! 34 refl (tt, (tt, (record { fits = room₅ .0 }, tt)))) $ pass1 ! (init ! 32 refl (tt, (tt, (record { fits = room₆ .0 }, tt)))) $ pass1 ! (init ! 30 refl (Agent-p .typed 𝓤 H A W agent agent-is)) $ pass1 ! (init ! 28 refl (Given′-p .typed 𝓤 H A W given given-is)) $ pass0 ! $ move ! (47 ∷ []) $ fsplit ! $ move ! (1 ∷ []) $ fsplit ! $ move ! (1 ∷ []) $ fsplit ! $ move ! (1 ∷ []) $ fsplit ! $ move ! (1 ∷ []) $ fsplit ! $ move ! (1 ∷ []) $ fsplit ! $ move ! (53 ∷ []) $ split ! $ move ! (1 ∷ []) $ split ! $ move ! (1 ∷ []) $ split ! $ move ! (1 ∷ []) $ split ! $ move ! (1 ∷ []) $ split ! $ move ! (1 ∷ []) $ split ! $ move ! (1 ∷ []) $ drop ! $ move ! (7 ∷ []) $ drop ! $ move ! (11 ∷ 5 ∷ 10 ∷ 4 ∷ 9 ∷ 3 ∷ 8 ∷ 2 ∷ 7 ∷ 1 ∷ 6 ∷ 0 ∷ 12 ∷ 13 ∷ 14 ∷ 15 ∷ 16 ∷ 17 ∷ 18 ∷ 19 ∷ 20 ∷ 21 ∷ 22 ∷ 23 ∷ 24 ∷ 25 ∷ 26 ∷ 27 ∷ 28 ∷ 29 ∷ 30 ∷ 31 ∷ 32 ∷ 33 ∷ 34 ∷ 35 ∷ 36 ∷ 37 ∷ 38 ∷ 39 ∷ 40 ∷ 41 ∷ 42 ∷ 43 ∷ 44 ∷ 45 ∷ 46 ∷ 47 ∷ 48 ∷ 49 ∷ 50 ∷ 51 ∷ 52 ∷ 53 ∷ 54 ∷ 55 ∷ 56 ∷ 57 ∷ []) $
+        begins 𝓣 known-process-process l₀ l₁ l₂ l₃ l₄ l₅ l₆ l₇ l₈ l₉ l₁₀ l₁₁ l₁₂ l₁₃ l₁₄ l₁₅ l₁₆ l₁₇ l₁₈ l₁₉ l₂₀ l₂₁ l₂₂)))))))))))))))))))))))
 
 module _ {M : Type 1} (𝓤 : URA M) (H : Heap 𝓤) (A : Atoms 𝓤) (W : Given 𝓤 H A) (mem : Memory → SProp 𝓤) (run : Routine → Fun 𝓤) (𝓣 : Tables 𝓤 H) (known-process-process : Triple 𝓤 (𝓣 .C #process-process) (Of-process-process 𝓤 H A mem run)) where
   walks : Walks 𝓤 H A f.ended stayed (WpFn 𝓤 H (𝓣 .C) (𝓣 .Λ) code.function) (f.clauses 𝓤 H A mem run)
-  walks = walked 𝓤 H A f.ended stayed (f.clauses 𝓤 H A mem run) (WpFn 𝓤 H (𝓣 .C) (𝓣 .Λ) code.function) (λ κs. (slice-vals, (slice-vals, (slice-vals, (slice-vals, (slice-vals, ((λ y. Agent-p .val y ∷ []), ((λ y. Given′-p .val y ∷ []), tt)))))))) (λ κs. (mut-slice-tells (named 0) (κs .0) (Array u64 5), (mut-slice-tells (named 1) (κs .1 .0) (Array u16 35), (mut-slice-tells (named 2) (κs .1 .1 .0) Object-t.the-row, (mut-slice-tells (named 3) (κs .1 .1 .1 .0) u8, (shr-slice-tells (named 4) (κs .1 .1 .1 .1 .0) u8, (Agent-p .tells, (Given′-p .tells, tt))))))))
-      (λ κs qs bounds a g are. via 𝓤 _ (fst∗ 𝓤 _ (emp 𝓤)) (walk 𝓤 H A W mem run (κs .0) (qs .0) (a .0 .ptr .0) (a .0 .ptr .1) (a .0 .name) (a .0 .now) (κs .1 .0) (qs .1 .0) (a .1 .0 .ptr .0) (a .1 .0 .ptr .1) (a .1 .0 .name) (a .1 .0 .now) (κs .1 .1 .0) (qs .1 .1 .0) (a .1 .1 .0 .ptr .0) (a .1 .1 .0 .ptr .1) (a .1 .1 .0 .name) (a .1 .1 .0 .now) (κs .1 .1 .1 .0) (qs .1 .1 .1 .0) (a .1 .1 .1 .0 .ptr .0) (a .1 .1 .1 .0 .ptr .1) (a .1 .1 .1 .0 .name) (a .1 .1 .1 .0 .now) (κs .1 .1 .1 .1 .0) (qs .1 .1 .1 .1 .0) (a .1 .1 .1 .1 .0 .ptr .0) (a .1 .1 .1 .1 .0 .ptr .1) (a .1 .1 .1 .1 .0 .name) (a .1 .1 .1 .1 .0 .now) (a .1 .1 .1 .1 .1 .0) (a .1 .1 .1 .1 .1 .1 .0) (are .0 .0 .1) (are .1 .0 .0 .1) (are .1 .1 .0 .0 .1) (are .1 .1 .1 .0 .0 .1) (are .1 .1 .1 .1 .0 .0 .1) (are .1 .1 .1 .1 .1 .0) (are .1 .1 .1 .1 .1 .1 .0) 𝓣 known-process-process))
+  walks = walked 𝓤 H A f.ended stayed (f.clauses 𝓤 H A mem run) (WpFn 𝓤 H (𝓣 .C) (𝓣 .Λ) code.function) (λ κs. (slice-vals, (slice-vals, (slice-vals, (slice-vals, (slice-vals, (slice-vals, ((λ y. Agent-p .val y ∷ []), ((λ y. Given′-p .val y ∷ []), tt))))))))) (λ κs. (mut-slice-tells (named 0) (κs .0) (Array u64 6), (mut-slice-tells (named 1) (κs .1 .0) (Array u16 35), (mut-slice-tells (named 2) (κs .1 .1 .0) Object-t.the-row, (mut-slice-tells (named 3) (κs .1 .1 .1 .0) u8, (mut-slice-tells (named 4) (κs .1 .1 .1 .1 .0) u8, (shr-slice-tells (named 5) (κs .1 .1 .1 .1 .1 .0) u8, (Agent-p .tells, (Given′-p .tells, tt)))))))))
+      (λ κs qs bounds a g are. via 𝓤 _ (fst∗ 𝓤 _ (emp 𝓤)) (walk 𝓤 H A W mem run (κs .0) (qs .0) (a .0 .ptr .0) (a .0 .ptr .1) (a .0 .name) (a .0 .now) (κs .1 .0) (qs .1 .0) (a .1 .0 .ptr .0) (a .1 .0 .ptr .1) (a .1 .0 .name) (a .1 .0 .now) (κs .1 .1 .0) (qs .1 .1 .0) (a .1 .1 .0 .ptr .0) (a .1 .1 .0 .ptr .1) (a .1 .1 .0 .name) (a .1 .1 .0 .now) (κs .1 .1 .1 .0) (qs .1 .1 .1 .0) (a .1 .1 .1 .0 .ptr .0) (a .1 .1 .1 .0 .ptr .1) (a .1 .1 .1 .0 .name) (a .1 .1 .1 .0 .now) (κs .1 .1 .1 .1 .0) (qs .1 .1 .1 .1 .0) (a .1 .1 .1 .1 .0 .ptr .0) (a .1 .1 .1 .1 .0 .ptr .1) (a .1 .1 .1 .1 .0 .name) (a .1 .1 .1 .1 .0 .now) (κs .1 .1 .1 .1 .1 .0) (qs .1 .1 .1 .1 .1 .0) (a .1 .1 .1 .1 .1 .0 .ptr .0) (a .1 .1 .1 .1 .1 .0 .ptr .1) (a .1 .1 .1 .1 .1 .0 .name) (a .1 .1 .1 .1 .1 .0 .now) (a .1 .1 .1 .1 .1 .1 .0) (a .1 .1 .1 .1 .1 .1 .1 .0) (are .0 .0 .1) (are .1 .0 .0 .1) (are .1 .1 .0 .0 .1) (are .1 .1 .1 .0 .0 .1) (are .1 .1 .1 .1 .0 .0 .1) (are .1 .1 .1 .1 .1 .0 .0 .1) (are .1 .1 .1 .1 .1 .1 .0) (are .1 .1 .1 .1 .1 .1 .1 .0) 𝓣 known-process-process))
 
   meets : Meets 𝓤 H A f.signature (WpFn 𝓤 H (𝓣 .C) (𝓣 .Λ) code.function) (f.spec 𝓤 H A mem run)
-  meets = walk-meets 𝓤 H A f.ended stayed W (goes-slice 𝓤 H A W 5 0 tt (plain (λ _. (Array u64 5))), (goes-slice 𝓤 H A W 5 1 tt (plain (λ _. (Array u16 35))), (goes-slice 𝓤 H A W 5 2 tt (plain (λ _. Object-t.the-row)), (goes-slice 𝓤 H A W 5 3 tt (plain (λ _. u8)), (goes-none-slice 𝓤 H A W 5 (4 ∷ []) tt (plain (λ _. u8)) yes, (goes-none 𝓤 H A W 5 (λ _. Agent-p .row) yes (λ κs x f. refl), (goes-none 𝓤 H A W 5 (λ _. Given′-p .row) yes (λ κs x f. refl), tt))))))) (f.clauses 𝓤 H A mem run) (WpFn 𝓤 H (𝓣 .C) (𝓣 .Λ) code.function) (WpFn-mono 𝓤 H (W .laws) 𝓣 code.function) walks
+  meets = walk-meets 𝓤 H A f.ended stayed W (goes-slice 𝓤 H A W 6 0 tt (plain (λ _. (Array u64 6))), (goes-slice 𝓤 H A W 6 1 tt (plain (λ _. (Array u16 35))), (goes-slice 𝓤 H A W 6 2 tt (plain (λ _. Object-t.the-row)), (goes-slice 𝓤 H A W 6 3 tt (plain (λ _. u8)), (goes-slice 𝓤 H A W 6 4 tt (plain (λ _. u8)), (goes-none-slice 𝓤 H A W 6 (5 ∷ []) tt (plain (λ _. u8)) yes, (goes-none 𝓤 H A W 6 (λ _. Agent-p .row) yes (λ κs x f. refl), (goes-none 𝓤 H A W 6 (λ _. Given′-p .row) yes (λ κs x f. refl), tt)))))))) (f.clauses 𝓤 H A mem run) (WpFn 𝓤 H (𝓣 .C) (𝓣 .Λ) code.function) (WpFn-mono 𝓤 H (W .laws) 𝓣 code.function) walks
 
 pub process-incoming-spec : {M : Type 1} → stated.statement M
 unfolding code.routine tablesOf

@@ -53,10 +53,13 @@ use borrow.Rule.Slice.PartMut.{midOf, putMid}
 use Rattle.walk.proofs.Parts.{part-len, lends-part, backs-part, parts-shr}
 use Rattle.walk.proofs.Arrays.{rep-is, lends-array, backs-array}
 use Rattle.codec.specs.Bytes.{putBytes}
+use Rattle.moves.specs.Replies.{dataBytes}
+use Rattle.moves.specs.declared.answers.Says.the-variants.{Data}
+use Rattle.sessions.specs.Sending.{sentStreams, sentHeld}
 use Rattle.agent.specs.Step.{joinedReplies}
 use Rattle.agent.specs.Run.{putReplies}
-use Rattle.agent.specs.Answered.{saysFits, saysBytes}
-use Rattle.agent.specs.Host.{answersNow, toldBy, begunBy, begunSessions, begunObjects, resumesFit}
+use Rattle.agent.specs.Answered.{saysFits, sequenceOf, saysBytes, saysStreams, saysHeld}
+use Rattle.agent.specs.Host.{answersNow, toldBy, begunBy, begunSessions, begunStreams, begunObjects, begunHeld, resumesFit}
 use Rattle.sessions.specs.Table.{newSession, endedSession, touchedSession, expiredOf, elapsedOf, sessionAt, keepSession, namedOf, gotOf, reachedOf, keptRows, touchedRows, endedRows}
 use Rattle.moves.specs.Answers.{createdKeeps, keepsOf, createdSays, doneSays, readSays, saysOf, keptSessions, keptObjects}
 use types.Kit.{frees, prop}
@@ -123,14 +126,14 @@ use Rattle.agent.proofs.answers.told_by as answers-told-by
 use Rattle.agent.proofs.answers.told_by.Symbol as answers-told-by-def
 use Rattle.agent.proofs.answers.told_by.Symbol.{name as #answers-told-by}
 use Rattle.agent.proofs.answers.told_by.Met as answers-told-by-thm
+use Rattle.agent.proofs.answers.say as answers-say
+use Rattle.agent.proofs.answers.say.Symbol as answers-say-def
+use Rattle.agent.proofs.answers.say.Symbol.{name as #answers-say}
+use Rattle.agent.proofs.answers.say.Met as answers-say-thm
 use Rattle.moves.proofs.answers.keep as answers-keep
 use Rattle.moves.proofs.answers.keep.Symbol as answers-keep-def
 use Rattle.moves.proofs.answers.keep.Symbol.{name as #answers-keep}
 use Rattle.moves.proofs.answers.keep.Met as answers-keep-thm
-use Rattle.agent.proofs.answers.reply_says as answers-reply-says
-use Rattle.agent.proofs.answers.reply_says.Symbol as answers-reply-says-def
-use Rattle.agent.proofs.answers.reply_says.Symbol.{name as #answers-reply-says}
-use Rattle.agent.proofs.answers.reply_says.Met as answers-reply-says-thm
 use Rattle.agent.proofs.answers.begin.Key.{name as #f}
 use Rattle.agent.proofs.answers.begin as f
 use Rattle.agent.proofs.answers.begin.Statement as stated
@@ -149,8 +152,8 @@ ObjectNumber-of x0 = record { 0 = x0 }
 abbrev ObjectNumber-p : Plain
 ObjectNumber-p = record { row = ObjectNumber-t.the-row; val = LL.val ObjectNumber-t.the-type ObjectNumber-l.the-laws; tells = LL.tells ObjectNumber-t.the-type ObjectNumber-l.the-laws; makes = λ 𝓤 H A W. LL.makes ObjectNumber-t.the-type ObjectNumber-l.the-plain 𝓤 H A; ty = ObjectNumber-l.mir; typed = λ 𝓤 H A W x is. LL.lawful ObjectNumber-t.the-type ObjectNumber-l.the-laws 𝓤 H A W .typed x _ is .0; copies = λ 𝓤 H A W. LL.copy ObjectNumber-t.the-type ObjectNumber-l.the-copy 𝓤 H A W }
 
-abbrev Frame-of : ℕ → ℕ → ℕ → ℕ → Frame
-Frame-of x0 x1 x2 x3 = record { «max_clients» = x0; time = x1; «session_id» = x2; «stream_id» = x3 }
+abbrev Frame-of : ℕ → ℕ → ℕ → ℕ → ℕ → Frame
+Frame-of x0 x1 x2 x3 x4 = record { «max_clients» = x0; time = x1; «session_id» = x2; «stream_id» = x3; room = x4 }
 
 abbrev Frame-p : Plain
 Frame-p = record { row = Frame-t.the-row; val = LL.val Frame-t.the-type Frame-l.the-laws; tells = LL.tells Frame-t.the-type Frame-l.the-laws; makes = λ 𝓤 H A W. LL.makes Frame-t.the-type Frame-l.the-plain 𝓤 H A; ty = Frame-l.mir; typed = λ 𝓤 H A W x is. LL.lawful Frame-t.the-type Frame-l.the-laws 𝓤 H A W .typed x _ is .0; copies = λ 𝓤 H A W. LL.copy Frame-t.the-type Frame-l.the-copy 𝓤 H A W }
@@ -188,8 +191,8 @@ StatusCode-p = record { row = StatusCode-t.the-row; val = EL.val StatusCode-t.th
 abbrev Got-p : Plain
 Got-p = record { row = Got-t.the-row; val = EL.val Got-t.the-type Got-l.the-laws; tells = EL.tells Got-t.the-type Got-l.the-laws; makes = λ 𝓤 H A W. EL.makes Got-t.the-type Got-l.the-plain 𝓤 H A; ty = Got-l.mir; typed = λ 𝓤 H A W x is. EL.lawful Got-t.the-type Got-l.the-laws 𝓤 H A W tt .typed x _ is .0; copies = λ 𝓤 H A W. EL.copy Got-t.the-type Got-l.the-copy 𝓤 H A W }
 
-abbrev ClientSession-of : ℕ → ℕ → ℕ → ℕ → ℕ → ClientSession
-ClientSession-of x0 x1 x2 x3 x4 = record { live = x0; «client_key» = x1; «last_activity» = x2; objects = x3; streams = x4 }
+abbrev ClientSession-of : ℕ → ℕ → ℕ → ℕ → ℕ → ℕ → ClientSession
+ClientSession-of x0 x1 x2 x3 x4 x5 = record { live = x0; «client_key» = x1; «last_activity» = x2; objects = x3; streams = x4; slot = x5 }
 
 abbrev ClientSession-p : Plain
 ClientSession-p = record { row = ClientSession-t.the-row; val = LL.val ClientSession-t.the-type ClientSession-l.the-laws; tells = LL.tells ClientSession-t.the-type ClientSession-l.the-laws; makes = λ 𝓤 H A W. LL.makes ClientSession-t.the-type ClientSession-l.the-plain 𝓤 H A; ty = ClientSession-l.mir; typed = λ 𝓤 H A W x is. LL.lawful ClientSession-t.the-type ClientSession-l.the-laws 𝓤 H A W .typed x _ is .0; copies = λ 𝓤 H A W. LL.copy ClientSession-t.the-type ClientSession-l.the-copy 𝓤 H A W }
@@ -198,7 +201,7 @@ abbrev Refusal-p : Plain
 Refusal-p = record { row = Refusal-t.the-row; val = EL.val Refusal-t.the-type Refusal-l.the-laws; tells = EL.tells Refusal-t.the-type Refusal-l.the-laws; makes = λ 𝓤 H A W. EL.makes Refusal-t.the-type Refusal-l.the-plain 𝓤 H A; ty = Refusal-l.mir; typed = λ 𝓤 H A W x is. EL.lawful Refusal-t.the-type Refusal-l.the-laws 𝓤 H A W tt .typed x _ is .0; copies = λ 𝓤 H A W. EL.copy Refusal-t.the-type Refusal-l.the-copy 𝓤 H A W }
 
 abbrev stayed : Stays (f.ended .signature .params) (f.ended .kept)
-stayed = (stay-slice (0 ∷ []) tt (plain (λ _. (Array u64 5))), (stay-slice (1 ∷ []) tt (plain (λ _. Object-t.the-row)), (stay-slice (2 ∷ []) tt (plain (λ _. u8)), (stay-none-slice (3 ∷ []) tt (plain (λ _. u8)) yes, (stay-none (λ _. Frame-p .row) yes, (stay-none (λ _. Resumes-p .row) yes, tt))))))
+stayed = (stay-slice (0 ∷ []) tt (plain (λ _. (Array u64 6))), (stay-slice (1 ∷ []) tt (plain (λ _. (Array u16 35))), (stay-slice (2 ∷ []) tt (plain (λ _. Object-t.the-row)), (stay-slice (3 ∷ []) tt (plain (λ _. u8)), (stay-slice (4 ∷ []) tt (plain (λ _. u8)), (stay-none-slice (5 ∷ []) tt (plain (λ _. u8)) yes, (stay-none (λ _. Frame-p .row) yes, (stay-none (λ _. Resumes-p .row) yes, tt))))))))
 
 module _ {M : Type 1} (𝓤 : URA M) (H : Heap 𝓤) (A : Atoms 𝓤) (mem : Memory → SProp 𝓤) (run : Routine → Fun 𝓤) where
   abbrev Of-table-get : Contract 𝓤
@@ -210,46 +213,52 @@ module _ {M : Type 1} (𝓤 : URA M) (H : Heap 𝓤) (A : Atoms 𝓤) (mem : Mem
   abbrev Of-answers-told-by : Contract 𝓤
   Of-answers-told-by = tripleOf 𝓤 H A answers-told-by.signature (answers-told-by.spec 𝓤 H A mem run)
 
+  abbrev Of-answers-say : Contract 𝓤
+  Of-answers-say = tripleOf 𝓤 H A answers-say.signature (answers-say.spec 𝓤 H A mem run)
+
   abbrev Of-answers-keep : Contract 𝓤
   Of-answers-keep = tripleOf 𝓤 H A answers-keep.signature (answers-keep.spec 𝓤 H A mem run)
 
-  abbrev Of-answers-reply-says : Contract 𝓤
-  Of-answers-reply-says = tripleOf 𝓤 H A answers-reply-says.signature (answers-reply-says.spec 𝓤 H A mem run)
-
-module _ {M : Type 1} (𝓤 : URA M) (H : Heap 𝓤) (A : Atoms 𝓤) (W : Given 𝓤 H A) (mem : Memory → SProp 𝓤) (run : Routine → Fun 𝓤) (κ₁ : Lft) (q₁ : Share) (b₁ o₁ : ℕ) (γ₁ : GName) (sessions : List (List ℕ)) (κ₂ : Lft) (q₂ : Share) (b₂ o₂ : ℕ) (γ₂ : GName) (objects : List Object) (κ₃ : Lft) (q₃ : Share) (b₃ o₃ : ℕ) (γ₃ : GName) (out : List ℕ) (κ₄ : Lft) (q₄ : Share) (b₄ o₄ : ℕ) (γ₄ : GName) (sample : List ℕ) (frame′ : Frame) (resumes : Resumes)
-    (room₁ : Room (Array u64 5) (length sessions)) (room₂ : Room Object-t.the-row (length objects)) (room₃ : Room u8 (length out)) (room₄ : Room u8 (length sample)) (frame′-is : Is (Frame-p .row) frame′ (Frame-p .val frame′ ∷ [])) (resumes-is : Is (Resumes-p .row) resumes (Resumes-p .val resumes ∷ [])) (within : resumesFit resumes (length (sample)) ≡ true) where
+module _ {M : Type 1} (𝓤 : URA M) (H : Heap 𝓤) (A : Atoms 𝓤) (W : Given 𝓤 H A) (mem : Memory → SProp 𝓤) (run : Routine → Fun 𝓤) (κ₁ : Lft) (q₁ : Share) (b₁ o₁ : ℕ) (γ₁ : GName) (sessions : List (List ℕ)) (κ₂ : Lft) (q₂ : Share) (b₂ o₂ : ℕ) (γ₂ : GName) (streams : List (List ℕ)) (κ₃ : Lft) (q₃ : Share) (b₃ o₃ : ℕ) (γ₃ : GName) (objects : List Object) (κ₄ : Lft) (q₄ : Share) (b₄ o₄ : ℕ) (γ₄ : GName) (held : List ℕ) (κ₅ : Lft) (q₅ : Share) (b₅ o₅ : ℕ) (γ₅ : GName) (out : List ℕ) (κ₆ : Lft) (q₆ : Share) (b₆ o₆ : ℕ) (γ₆ : GName) (sample : List ℕ) (frame′ : Frame) (resumes : Resumes)
+    (room₁ : Room (Array u64 6) (length sessions)) (room₂ : Room (Array u16 35) (length streams)) (room₃ : Room Object-t.the-row (length objects)) (room₄ : Room u8 (length held)) (room₅ : Room u8 (length out)) (room₆ : Room u8 (length sample)) (frame′-is : Is (Frame-p .row) frame′ (Frame-p .val frame′ ∷ [])) (resumes-is : Is (Resumes-p .row) resumes (Resumes-p .val resumes ∷ [])) (within : resumesFit resumes (frame′ .«stream_id») (length (sample)) ≡ true) where
   abbrev n₁ : ℕ
   n₁ = length sessions
 
   abbrev n₂ : ℕ
-  n₂ = length objects
+  n₂ = length streams
 
   abbrev n₃ : ℕ
-  n₃ = length out
+  n₃ = length objects
 
   abbrev n₄ : ℕ
-  n₄ = length sample
+  n₄ = length held
 
-  abbrev x : RefT (List (List ℕ)) × (RefT (List Object) × (RefT (List ℕ) × (RefT (List ℕ) × (Frame-p .row .Denot × (Resumes-p .row .Denot × (Unit {0}))))))
-  x = (at-list b₁ o₁ γ₁ sessions, (at-list b₂ o₂ γ₂ objects, (at-list b₃ o₃ γ₃ out, (at-list b₄ o₄ γ₄ sample, (frame′, (resumes, tt))))))
+  abbrev n₅ : ℕ
+  n₅ = length out
 
-  abbrev at : Vals f.signature (κ₁, (κ₂, (κ₃, (κ₄, tt))))
-  at = (sliceVal (b₁, o₁) n₁ ∷ [], (sliceVal (b₂, o₂) n₂ ∷ [], (sliceVal (b₃, o₃) n₃ ∷ [], (sliceVal (b₄, o₄) n₄ ∷ [], (Frame-p .val frame′ ∷ [], (Resumes-p .val resumes ∷ [], tt))))))
+  abbrev n₆ : ℕ
+  n₆ = length sample
+
+  abbrev x : RefT (List (List ℕ)) × (RefT (List (List ℕ)) × (RefT (List Object) × (RefT (List ℕ) × (RefT (List ℕ) × (RefT (List ℕ) × (Frame-p .row .Denot × (Resumes-p .row .Denot × (Unit {0}))))))))
+  x = (at-list b₁ o₁ γ₁ sessions, (at-list b₂ o₂ γ₂ streams, (at-list b₃ o₃ γ₃ objects, (at-list b₄ o₄ γ₄ held, (at-list b₅ o₅ γ₅ out, (at-list b₆ o₆ γ₆ sample, (frame′, (resumes, tt))))))))
+
+  abbrev at : Vals f.signature (κ₁, (κ₂, (κ₃, (κ₄, (κ₅, (κ₆, tt))))))
+  at = (sliceVal (b₁, o₁) n₁ ∷ [], (sliceVal (b₂, o₂) n₂ ∷ [], (sliceVal (b₃, o₃) n₃ ∷ [], (sliceVal (b₄, o₄) n₄ ∷ [], (sliceVal (b₅, o₅) n₅ ∷ [], (sliceVal (b₆, o₆) n₆ ∷ [], (Frame-p .val frame′ ∷ [], (Resumes-p .val resumes ∷ [], tt))))))))
 
   abbrev Post : Val → SProp 𝓤
-  Post = walkOf 𝓤 H A f.ended stayed (f.clauses 𝓤 H A mem run) .post (((κ₁, (κ₂, (κ₃, (κ₄, tt)))), (q₁, (q₂, (q₃, (q₄, tt)))), tt, x, at), tt)
+  Post = walkOf 𝓤 H A f.ended stayed (f.clauses 𝓤 H A mem run) .post (((κ₁, (κ₂, (κ₃, (κ₄, (κ₅, (κ₆, tt)))))), (q₁, (q₂, (q₃, (q₄, (q₅, (q₆, tt)))))), tt, x, at), tt)
 
-  exits : (r : ℕ) (ws₁ : List (List ℕ)) (ws₂ : List Object) (ws₃ : List ℕ) → ((r ≡ length (joinedReplies (begunBy resumes (sessions) frame′ (sample)))) × (ws₁ ≡ begunSessions resumes (sessions) (objects) frame′) × (ws₂ ≡ begunObjects resumes (sessions) (objects) frame′) × (ws₃ ≡ putReplies (out) 0 (begunBy resumes (sessions) frame′ (sample)))) → Is (u64-p .row) r (u64-p .val r ∷ []) → length ws₁ ≡ n₁ → length ws₂ ≡ n₂ → length ws₃ ≡ n₃ → ent 𝓤 (⋆ 𝓤 H A (‵ (MutSlice (named 0) κ₁ (Array u64 5) .own (at-list b₁ o₁ γ₁ ws₁) (sliceVal (b₁, o₁) n₁ ∷ [])) ∷ ‵ (flft κ₁ q₁) ∷ ‵ (MutSlice (named 1) κ₂ Object-t.the-row .own (at-list b₂ o₂ γ₂ ws₂) (sliceVal (b₂, o₂) n₂ ∷ [])) ∷ ‵ (flft κ₂ q₂) ∷ ‵ (MutSlice (named 2) κ₃ u8 .own (at-list b₃ o₃ γ₃ ws₃) (sliceVal (b₃, o₃) n₃ ∷ [])) ∷ ‵ (flft κ₃ q₃) ∷ ‵ (ShrSlice (named 3) κ₄ u8 .own (at-list b₄ o₄ γ₄ sample) (sliceVal (b₄, o₄) n₄ ∷ [])) ∷ ‵ (flft κ₄ q₄) ∷ [])) (Post (u64-p .val r))
-  exits r ws₁ ws₂ ws₃ said r-is len₁ len₂ len₃ =
-      qed W (‵ (MutSlice (named 0) κ₁ (Array u64 5) .own (at-list b₁ o₁ γ₁ ws₁) (sliceVal (b₁, o₁) n₁ ∷ [])) ∷ ‵ (flft κ₁ q₁) ∷ ‵ (MutSlice (named 1) κ₂ Object-t.the-row .own (at-list b₂ o₂ γ₂ ws₂) (sliceVal (b₂, o₂) n₂ ∷ [])) ∷ ‵ (flft κ₂ q₂) ∷ ‵ (MutSlice (named 2) κ₃ u8 .own (at-list b₃ o₃ γ₃ ws₃) (sliceVal (b₃, o₃) n₃ ∷ [])) ∷ ‵ (flft κ₃ q₃) ∷ ‵ (ShrSlice (named 3) κ₄ u8 .own (at-list b₄ o₄ γ₄ sample) (sliceVal (b₄, o₄) n₄ ∷ [])) ∷ ‵ (flft κ₄ q₄) ∷ []) ∵
-      suffices ! _ (ends-at 𝓤 H A f.ended stayed (f.clauses 𝓤 H A mem run) W (((κ₁, (κ₂, (κ₃, (κ₄, tt)))), (q₁, (q₂, (q₃, (q₄, tt)))), tt, x, at), tt) (u64-p .val r) r (ws₁, (ws₂, (ws₃, (tt, (tt, (tt, tt)))))) (len₁, (len₂, (len₃, (tt, (tt, (tt, tt))))))) $ says ! said $ nothing ! $ move ! (8 ∷ 0 ∷ []) $ join ! $ move ! (6 ∷ 0 ∷ []) $ join ! $ move ! (4 ∷ 0 ∷ []) $ join ! $ move ! (2 ∷ 0 ∷ []) $ join ! $
+  exits : (r : ℕ) (ws₁ : List (List ℕ)) (ws₂ : List (List ℕ)) (ws₃ : List Object) (ws₄ : List ℕ) (ws₅ : List ℕ) → ((r ≡ length (joinedReplies (begunBy resumes (sessions) (streams) frame′ (sample)))) × (ws₁ ≡ begunSessions resumes (sessions) (objects) frame′) × (ws₂ ≡ begunStreams resumes (sessions) (streams) (held) frame′ (sample)) × (ws₃ ≡ begunObjects resumes (sessions) (objects) frame′) × (ws₄ ≡ begunHeld resumes (sessions) (streams) (held) frame′ (sample)) × (ws₅ ≡ putReplies (frame′ .room) (out) 0 (begunBy resumes (sessions) (streams) frame′ (sample)))) → Is (u64-p .row) r (u64-p .val r ∷ []) → length ws₁ ≡ n₁ → length ws₂ ≡ n₂ → length ws₃ ≡ n₃ → length ws₄ ≡ n₄ → length ws₅ ≡ n₅ → ent 𝓤 (⋆ 𝓤 H A (‵ (MutSlice (named 0) κ₁ (Array u64 6) .own (at-list b₁ o₁ γ₁ ws₁) (sliceVal (b₁, o₁) n₁ ∷ [])) ∷ ‵ (flft κ₁ q₁) ∷ ‵ (MutSlice (named 1) κ₂ (Array u16 35) .own (at-list b₂ o₂ γ₂ ws₂) (sliceVal (b₂, o₂) n₂ ∷ [])) ∷ ‵ (flft κ₂ q₂) ∷ ‵ (MutSlice (named 2) κ₃ Object-t.the-row .own (at-list b₃ o₃ γ₃ ws₃) (sliceVal (b₃, o₃) n₃ ∷ [])) ∷ ‵ (flft κ₃ q₃) ∷ ‵ (MutSlice (named 3) κ₄ u8 .own (at-list b₄ o₄ γ₄ ws₄) (sliceVal (b₄, o₄) n₄ ∷ [])) ∷ ‵ (flft κ₄ q₄) ∷ ‵ (MutSlice (named 4) κ₅ u8 .own (at-list b₅ o₅ γ₅ ws₅) (sliceVal (b₅, o₅) n₅ ∷ [])) ∷ ‵ (flft κ₅ q₅) ∷ ‵ (ShrSlice (named 5) κ₆ u8 .own (at-list b₆ o₆ γ₆ sample) (sliceVal (b₆, o₆) n₆ ∷ [])) ∷ ‵ (flft κ₆ q₆) ∷ [])) (Post (u64-p .val r))
+  exits r ws₁ ws₂ ws₃ ws₄ ws₅ said r-is len₁ len₂ len₃ len₄ len₅ =
+      qed W (‵ (MutSlice (named 0) κ₁ (Array u64 6) .own (at-list b₁ o₁ γ₁ ws₁) (sliceVal (b₁, o₁) n₁ ∷ [])) ∷ ‵ (flft κ₁ q₁) ∷ ‵ (MutSlice (named 1) κ₂ (Array u16 35) .own (at-list b₂ o₂ γ₂ ws₂) (sliceVal (b₂, o₂) n₂ ∷ [])) ∷ ‵ (flft κ₂ q₂) ∷ ‵ (MutSlice (named 2) κ₃ Object-t.the-row .own (at-list b₃ o₃ γ₃ ws₃) (sliceVal (b₃, o₃) n₃ ∷ [])) ∷ ‵ (flft κ₃ q₃) ∷ ‵ (MutSlice (named 3) κ₄ u8 .own (at-list b₄ o₄ γ₄ ws₄) (sliceVal (b₄, o₄) n₄ ∷ [])) ∷ ‵ (flft κ₄ q₄) ∷ ‵ (MutSlice (named 4) κ₅ u8 .own (at-list b₅ o₅ γ₅ ws₅) (sliceVal (b₅, o₅) n₅ ∷ [])) ∷ ‵ (flft κ₅ q₅) ∷ ‵ (ShrSlice (named 5) κ₆ u8 .own (at-list b₆ o₆ γ₆ sample) (sliceVal (b₆, o₆) n₆ ∷ [])) ∷ ‵ (flft κ₆ q₆) ∷ []) ∵
+      suffices ! _ (ends-at 𝓤 H A f.ended stayed (f.clauses 𝓤 H A mem run) W (((κ₁, (κ₂, (κ₃, (κ₄, (κ₅, (κ₆, tt)))))), (q₁, (q₂, (q₃, (q₄, (q₅, (q₆, tt)))))), tt, x, at), tt) (u64-p .val r) r (ws₁, (ws₂, (ws₃, (ws₄, (ws₅, (tt, (tt, (tt, tt)))))))) (len₁, (len₂, (len₃, (len₄, (len₅, (tt, (tt, (tt, tt))))))))) $ says ! said $ nothing ! $ move ! (12 ∷ 0 ∷ []) $ join ! $ move ! (10 ∷ 0 ∷ []) $ join ! $ move ! (8 ∷ 0 ∷ []) $ join ! $ move ! (6 ∷ 0 ∷ []) $ join ! $ move ! (4 ∷ 0 ∷ []) $ join ! $ move ! (2 ∷ 0 ∷ []) $ join ! $
       frame ! $ nothing ! $
       owned ! (Resumes-p .row) (Is (Resumes-p .row)) (Resumes-p .makes 𝓤 H A W) resumes (Resumes-p .val resumes ∷ []) resumes-is $ fjoin ! $
-      owned ! (Frame-p .row) (Is (Frame-p .row)) (Frame-p .makes 𝓤 H A W) frame′ (Frame-p .val frame′ ∷ []) frame′-is $ fjoin ! $ move ! (4 ∷ 0 ∷ []) $ fjoin ! $ move ! (3 ∷ 0 ∷ []) $ fjoin ! $ move ! (2 ∷ 0 ∷ []) $ fjoin ! $ move ! (1 ∷ 0 ∷ []) $ fjoin ! $
+      owned ! (Frame-p .row) (Is (Frame-p .row)) (Frame-p .makes 𝓤 H A W) frame′ (Frame-p .val frame′ ∷ []) frame′-is $ fjoin ! $ move ! (6 ∷ 0 ∷ []) $ fjoin ! $ move ! (5 ∷ 0 ∷ []) $ fjoin ! $ move ! (4 ∷ 0 ∷ []) $ fjoin ! $ move ! (3 ∷ 0 ∷ []) $ fjoin ! $ move ! (2 ∷ 0 ∷ []) $ fjoin ! $ move ! (1 ∷ 0 ∷ []) $ fjoin ! $
       frame ! $
       owned ! (u64-p .row) (Is (u64-p .row)) (u64-p .makes 𝓤 H A W) r _ r-is $ done !
 
-  module _ (𝓣 : Tables 𝓤 H) (known-table-get : Triple 𝓤 (𝓣 .C #table-get) (Of-table-get 𝓤 H A mem run)) (known-answers-answers-now : Triple 𝓤 (𝓣 .C #answers-answers-now) (Of-answers-answers-now 𝓤 H A mem run)) (known-answers-told-by : Triple 𝓤 (𝓣 .C #answers-told-by) (Of-answers-told-by 𝓤 H A mem run)) (known-answers-keep : Triple 𝓤 (𝓣 .C #answers-keep) (Of-answers-keep 𝓤 H A mem run)) (known-answers-reply-says : Triple 𝓤 (𝓣 .C #answers-reply-says) (Of-answers-reply-says 𝓤 H A mem run)) (l₀ l₁ l₂ l₃ l₄ l₅ l₆ l₇ l₈ l₉ l₁₀ l₁₁ l₁₂ l₁₃ l₁₄ l₁₅ l₁₆ l₁₇ l₁₈ l₁₉ l₂₀ : ℕ) where
+  module _ (𝓣 : Tables 𝓤 H) (known-table-get : Triple 𝓤 (𝓣 .C #table-get) (Of-table-get 𝓤 H A mem run)) (known-answers-answers-now : Triple 𝓤 (𝓣 .C #answers-answers-now) (Of-answers-answers-now 𝓤 H A mem run)) (known-answers-told-by : Triple 𝓤 (𝓣 .C #answers-told-by) (Of-answers-told-by 𝓤 H A mem run)) (known-answers-say : Triple 𝓤 (𝓣 .C #answers-say) (Of-answers-say 𝓤 H A mem run)) (known-answers-keep : Triple 𝓤 (𝓣 .C #answers-keep) (Of-answers-keep 𝓤 H A mem run)) (l₀ l₁ l₂ l₃ l₄ l₅ l₆ l₇ l₈ l₉ l₁₀ l₁₁ l₁₂ l₁₃ l₁₄ l₁₅ l₁₆ l₁₇ l₁₈ l₁₉ l₂₀ l₂₁ l₂₂ l₂₃ l₂₄ l₂₅ l₂₆ l₂₇ l₂₈ l₂₉ : ℕ) where
     abbrev C : Calls 𝓤 H
     C = 𝓣 .C
 
@@ -260,134 +269,155 @@ module _ {M : Type 1} (𝓤 : URA M) (H : Heap 𝓤) (A : Atoms 𝓤) (W : Given
     fm = fmOf 𝓤 H (W .laws) 𝓣
 
     abbrev En : Env 𝓤 H
-    En = ((tyInt w64), l₀) ∷ ((sliceTy (tyRef (named 0) mut (pointee ((Array u64 5) .written)))), l₁) ∷ ((sliceTy (tyRef (named 1) mut (pointee (Object-t.the-row .written)))), l₂) ∷ ((sliceTy (tyRef (named 2) mut (pointee (u8 .written)))), l₃) ∷ ((sliceTy (tyRef (named 3) imm (pointee (u8 .written)))), l₄) ∷ (Frame-l.mir, l₅) ∷ (Resumes-l.mir, l₆) ∷ ((tyInt w8), l₇) ∷ (Got-l.mir, l₈) ∷ (Told-l.mir, l₉) ∷ ((tyRef erased imm (pointee ((Array u64 5) .written))), l₁₀) ∷ ((sliceTy (tyRef erased imm (pointee ((Array u64 5) .written)))), l₁₁) ∷ (tyBool, l₁₂) ∷ ((tyInt w64), l₁₃) ∷ (tyUnit, l₁₄) ∷ ((tyRef erased mut (pointee ((Array u64 5) .written))), l₁₅) ∷ ((sliceTy (tyRef erased mut (pointee ((Array u64 5) .written)))), l₁₆) ∷ ((tyRef erased mut (pointee (Object-t.the-row .written))), l₁₇) ∷ ((sliceTy (tyRef erased mut (pointee (Object-t.the-row .written)))), l₁₈) ∷ ((tyRef erased mut (pointee (u8 .written))), l₁₉) ∷ ((sliceTy (tyRef erased mut (pointee (u8 .written)))), l₂₀) ∷ []
+    En = ((tyInt w64), l₀) ∷ ((sliceTy (tyRef (named 0) mut (pointee ((Array u64 6) .written)))), l₁) ∷ ((sliceTy (tyRef (named 1) mut (pointee ((Array u16 35) .written)))), l₂) ∷ ((sliceTy (tyRef (named 2) mut (pointee (Object-t.the-row .written)))), l₃) ∷ ((sliceTy (tyRef (named 3) mut (pointee (u8 .written)))), l₄) ∷ ((sliceTy (tyRef (named 4) mut (pointee (u8 .written)))), l₅) ∷ ((sliceTy (tyRef (named 5) imm (pointee (u8 .written)))), l₆) ∷ (Frame-l.mir, l₇) ∷ (Resumes-l.mir, l₈) ∷ ((tyInt w8), l₉) ∷ (Got-l.mir, l₁₀) ∷ (Told-l.mir, l₁₁) ∷ ((tyInt w64), l₁₂) ∷ ((tyRef erased imm (pointee ((Array u64 6) .written))), l₁₃) ∷ ((sliceTy (tyRef erased imm (pointee ((Array u64 6) .written)))), l₁₄) ∷ (tyBool, l₁₅) ∷ ((tyInt w64), l₁₆) ∷ ((tyRef erased imm (pointee ((Array u64 6) .written))), l₁₇) ∷ ((sliceTy (tyRef erased imm (pointee ((Array u64 6) .written)))), l₁₈) ∷ ((tyRef erased mut (pointee ((Array u16 35) .written))), l₁₉) ∷ ((sliceTy (tyRef erased mut (pointee ((Array u16 35) .written)))), l₂₀) ∷ ((tyRef erased mut (pointee (u8 .written))), l₂₁) ∷ ((sliceTy (tyRef erased mut (pointee (u8 .written)))), l₂₂) ∷ ((tyRef erased mut (pointee (u8 .written))), l₂₃) ∷ ((sliceTy (tyRef erased mut (pointee (u8 .written)))), l₂₄) ∷ (tyUnit, l₂₅) ∷ ((tyRef erased mut (pointee ((Array u64 6) .written))), l₂₆) ∷ ((sliceTy (tyRef erased mut (pointee ((Array u64 6) .written)))), l₂₇) ∷ ((tyRef erased mut (pointee (Object-t.the-row .written))), l₂₈) ∷ ((sliceTy (tyRef erased mut (pointee (Object-t.the-row .written)))), l₂₉) ∷ []
 
-    frees-all : (r : ℕ) (ws₁ : List (List ℕ)) (ws₂ : List Object) (ws₃ : List ℕ) → ent 𝓤 (⋆ 𝓤 H A (‵ (MutSlice (named 0) κ₁ (Array u64 5) .own (at-list b₁ o₁ γ₁ ws₁) (sliceVal (b₁, o₁) n₁ ∷ [])) ∷ ‵ (flft κ₁ q₁) ∷ ‵ (MutSlice (named 1) κ₂ Object-t.the-row .own (at-list b₂ o₂ γ₂ ws₂) (sliceVal (b₂, o₂) n₂ ∷ [])) ∷ ‵ (flft κ₂ q₂) ∷ ‵ (MutSlice (named 2) κ₃ u8 .own (at-list b₃ o₃ γ₃ ws₃) (sliceVal (b₃, o₃) n₃ ∷ [])) ∷ ‵ (flft κ₃ q₃) ∷ ‵ (ShrSlice (named 3) κ₄ u8 .own (at-list b₄ o₄ γ₄ sample) (sliceVal (b₄, o₄) n₄ ∷ [])) ∷ ‵ (flft κ₄ q₄) ∷ [])) (Post (u64-p .val r)) → Sq W (‵ (MutSlice (named 0) κ₁ (Array u64 5) .own (at-list b₁ o₁ γ₁ ws₁) (sliceVal (b₁, o₁) n₁ ∷ [])) ∷ ‵ (flft κ₁ q₁) ∷ ‵ (MutSlice (named 0) κ₂ Object-t.the-row .own (at-list b₂ o₂ γ₂ ws₂) (sliceVal (b₂, o₂) n₂ ∷ [])) ∷ ‵ (flft κ₂ q₂) ∷ ‵ (MutSlice (named 0) κ₃ u8 .own (at-list b₃ o₃ γ₃ ws₃) (sliceVal (b₃, o₃) n₃ ∷ [])) ∷ ‵ (flft κ₃ q₃) ∷ ‵ (ShrSlice (named 0) κ₄ u8 .own (at-list b₄ o₄ γ₄ sample) (sliceVal (b₄, o₄) n₄ ∷ [])) ∷ ‵ (flft κ₄ q₄) ∷ free 𝓤 (sliceTy (tyRef erased mut (pointee (u8 .written)))) l₂₀ (free 𝓤 (tyRef erased mut (pointee (u8 .written))) l₁₉ (free 𝓤 (sliceTy (tyRef erased mut (pointee (Object-t.the-row .written)))) l₁₈ (free 𝓤 (tyRef erased mut (pointee (Object-t.the-row .written))) l₁₇ (free 𝓤 (sliceTy (tyRef erased mut (pointee ((Array u64 5) .written)))) l₁₆ (free 𝓤 (tyRef erased mut (pointee ((Array u64 5) .written))) l₁₅ (free 𝓤 tyUnit l₁₄ (free 𝓤 (tyInt w64) l₁₃ (free 𝓤 tyBool l₁₂ (free 𝓤 (sliceTy (tyRef erased imm (pointee ((Array u64 5) .written)))) l₁₁ (free 𝓤 (tyRef erased imm (pointee ((Array u64 5) .written))) l₁₀ (free 𝓤 Told-l.mir l₉ (free 𝓤 Got-l.mir l₈ (free 𝓤 (tyInt w8) l₇ (full 𝓤 Resumes-l.mir l₆ (Resumes-p .val resumes) (full 𝓤 Frame-l.mir l₅ (Frame-p .val frame′) (full 𝓤 (sliceTy (tyRef (named 3) imm (pointee (u8 .written)))) l₄ (sliceVal (b₄, o₄) n₄) (full 𝓤 (sliceTy (tyRef (named 2) mut (pointee (u8 .written)))) l₃ (sliceVal (b₃, o₃) n₃) (full 𝓤 (sliceTy (tyRef (named 1) mut (pointee (Object-t.the-row .written)))) l₂ (sliceVal (b₂, o₂) n₂) (full 𝓤 (sliceTy (tyRef (named 0) mut (pointee ((Array u64 5) .written)))) l₁ (sliceVal (b₁, o₁) n₁) (full 𝓤 (tyInt w64) l₀ (u64-p .val r) ([])))))))))))))))))))))) (frees En (prop (Post (u64-p .val r))))
-    frees-all r ws₁ ws₂ ws₃ ends =
-        forget ! 36 refl $ forget ! 38 refl $ forget ! 40 refl $ forget ! 42 refl $ forget ! 44 refl $ forget ! 46 refl $ forget ! 48 refl $ move ! (48 ∷ 49 ∷ []) $ free1 ! $ move ! (46 ∷ 47 ∷ []) $ free1 ! $ move ! (44 ∷ 45 ∷ []) $ free1 ! $ move ! (42 ∷ 43 ∷ []) $ free1 ! $ move ! (40 ∷ 41 ∷ []) $ free1 ! $ move ! (38 ∷ 39 ∷ []) $ free1 ! $ move ! (36 ∷ 37 ∷ []) $ free1 ! $ move ! (34 ∷ 35 ∷ []) $ free1 ! $ move ! (32 ∷ 33 ∷ []) $ free1 ! $ move ! (30 ∷ 31 ∷ []) $ free1 ! $ move ! (28 ∷ 29 ∷ []) $ free1 ! $ move ! (26 ∷ 27 ∷ []) $ free1 ! $ move ! (24 ∷ 25 ∷ []) $ free1 ! $ move ! (22 ∷ 23 ∷ []) $ free1 ! $ move ! (20 ∷ 21 ∷ []) $ free1 ! $ move ! (18 ∷ 19 ∷ []) $ free1 ! $ move ! (16 ∷ 17 ∷ []) $ free1 ! $ move ! (14 ∷ 15 ∷ []) $ free1 ! $ move ! (12 ∷ 13 ∷ []) $ free1 ! $ move ! (10 ∷ 11 ∷ []) $ free1 ! $ move ! (8 ∷ 9 ∷ []) $ free1 ! $ free0 ! $
+    frees-all : (r : ℕ) (ws₁ : List (List ℕ)) (ws₂ : List (List ℕ)) (ws₃ : List Object) (ws₄ : List ℕ) (ws₅ : List ℕ) → ent 𝓤 (⋆ 𝓤 H A (‵ (MutSlice (named 0) κ₁ (Array u64 6) .own (at-list b₁ o₁ γ₁ ws₁) (sliceVal (b₁, o₁) n₁ ∷ [])) ∷ ‵ (flft κ₁ q₁) ∷ ‵ (MutSlice (named 1) κ₂ (Array u16 35) .own (at-list b₂ o₂ γ₂ ws₂) (sliceVal (b₂, o₂) n₂ ∷ [])) ∷ ‵ (flft κ₂ q₂) ∷ ‵ (MutSlice (named 2) κ₃ Object-t.the-row .own (at-list b₃ o₃ γ₃ ws₃) (sliceVal (b₃, o₃) n₃ ∷ [])) ∷ ‵ (flft κ₃ q₃) ∷ ‵ (MutSlice (named 3) κ₄ u8 .own (at-list b₄ o₄ γ₄ ws₄) (sliceVal (b₄, o₄) n₄ ∷ [])) ∷ ‵ (flft κ₄ q₄) ∷ ‵ (MutSlice (named 4) κ₅ u8 .own (at-list b₅ o₅ γ₅ ws₅) (sliceVal (b₅, o₅) n₅ ∷ [])) ∷ ‵ (flft κ₅ q₅) ∷ ‵ (ShrSlice (named 5) κ₆ u8 .own (at-list b₆ o₆ γ₆ sample) (sliceVal (b₆, o₆) n₆ ∷ [])) ∷ ‵ (flft κ₆ q₆) ∷ [])) (Post (u64-p .val r)) → Sq W (‵ (MutSlice (named 0) κ₁ (Array u64 6) .own (at-list b₁ o₁ γ₁ ws₁) (sliceVal (b₁, o₁) n₁ ∷ [])) ∷ ‵ (flft κ₁ q₁) ∷ ‵ (MutSlice (named 0) κ₂ (Array u16 35) .own (at-list b₂ o₂ γ₂ ws₂) (sliceVal (b₂, o₂) n₂ ∷ [])) ∷ ‵ (flft κ₂ q₂) ∷ ‵ (MutSlice (named 0) κ₃ Object-t.the-row .own (at-list b₃ o₃ γ₃ ws₃) (sliceVal (b₃, o₃) n₃ ∷ [])) ∷ ‵ (flft κ₃ q₃) ∷ ‵ (MutSlice (named 0) κ₄ u8 .own (at-list b₄ o₄ γ₄ ws₄) (sliceVal (b₄, o₄) n₄ ∷ [])) ∷ ‵ (flft κ₄ q₄) ∷ ‵ (MutSlice (named 0) κ₅ u8 .own (at-list b₅ o₅ γ₅ ws₅) (sliceVal (b₅, o₅) n₅ ∷ [])) ∷ ‵ (flft κ₅ q₅) ∷ ‵ (ShrSlice (named 0) κ₆ u8 .own (at-list b₆ o₆ γ₆ sample) (sliceVal (b₆, o₆) n₆ ∷ [])) ∷ ‵ (flft κ₆ q₆) ∷ free 𝓤 (sliceTy (tyRef erased mut (pointee (Object-t.the-row .written)))) l₂₉ (free 𝓤 (tyRef erased mut (pointee (Object-t.the-row .written))) l₂₈ (free 𝓤 (sliceTy (tyRef erased mut (pointee ((Array u64 6) .written)))) l₂₇ (free 𝓤 (tyRef erased mut (pointee ((Array u64 6) .written))) l₂₆ (free 𝓤 tyUnit l₂₅ (free 𝓤 (sliceTy (tyRef erased mut (pointee (u8 .written)))) l₂₄ (free 𝓤 (tyRef erased mut (pointee (u8 .written))) l₂₃ (free 𝓤 (sliceTy (tyRef erased mut (pointee (u8 .written)))) l₂₂ (free 𝓤 (tyRef erased mut (pointee (u8 .written))) l₂₁ (free 𝓤 (sliceTy (tyRef erased mut (pointee ((Array u16 35) .written)))) l₂₀ (free 𝓤 (tyRef erased mut (pointee ((Array u16 35) .written))) l₁₉ (free 𝓤 (sliceTy (tyRef erased imm (pointee ((Array u64 6) .written)))) l₁₈ (free 𝓤 (tyRef erased imm (pointee ((Array u64 6) .written))) l₁₇ (free 𝓤 (tyInt w64) l₁₆ (free 𝓤 tyBool l₁₅ (free 𝓤 (sliceTy (tyRef erased imm (pointee ((Array u64 6) .written)))) l₁₄ (free 𝓤 (tyRef erased imm (pointee ((Array u64 6) .written))) l₁₃ (free 𝓤 (tyInt w64) l₁₂ (free 𝓤 Told-l.mir l₁₁ (free 𝓤 Got-l.mir l₁₀ (free 𝓤 (tyInt w8) l₉ (full 𝓤 Resumes-l.mir l₈ (Resumes-p .val resumes) (full 𝓤 Frame-l.mir l₇ (Frame-p .val frame′) (full 𝓤 (sliceTy (tyRef (named 5) imm (pointee (u8 .written)))) l₆ (sliceVal (b₆, o₆) n₆) (full 𝓤 (sliceTy (tyRef (named 4) mut (pointee (u8 .written)))) l₅ (sliceVal (b₅, o₅) n₅) (full 𝓤 (sliceTy (tyRef (named 3) mut (pointee (u8 .written)))) l₄ (sliceVal (b₄, o₄) n₄) (full 𝓤 (sliceTy (tyRef (named 2) mut (pointee (Object-t.the-row .written)))) l₃ (sliceVal (b₃, o₃) n₃) (full 𝓤 (sliceTy (tyRef (named 1) mut (pointee ((Array u16 35) .written)))) l₂ (sliceVal (b₂, o₂) n₂) (full 𝓤 (sliceTy (tyRef (named 0) mut (pointee ((Array u64 6) .written)))) l₁ (sliceVal (b₁, o₁) n₁) (full 𝓤 (tyInt w64) l₀ (u64-p .val r) ([]))))))))))))))))))))))))))))))) (frees En (prop (Post (u64-p .val r))))
+    frees-all r ws₁ ws₂ ws₃ ws₄ ws₅ ends =
+        forget ! 54 refl $ forget ! 56 refl $ forget ! 58 refl $ forget ! 60 refl $ forget ! 62 refl $ forget ! 64 refl $ forget ! 66 refl $ forget ! 68 refl $ forget ! 70 refl $ move ! (70 ∷ 71 ∷ []) $ free1 ! $ move ! (68 ∷ 69 ∷ []) $ free1 ! $ move ! (66 ∷ 67 ∷ []) $ free1 ! $ move ! (64 ∷ 65 ∷ []) $ free1 ! $ move ! (62 ∷ 63 ∷ []) $ free1 ! $ move ! (60 ∷ 61 ∷ []) $ free1 ! $ move ! (58 ∷ 59 ∷ []) $ free1 ! $ move ! (56 ∷ 57 ∷ []) $ free1 ! $ move ! (54 ∷ 55 ∷ []) $ free1 ! $ move ! (52 ∷ 53 ∷ []) $ free1 ! $ move ! (50 ∷ 51 ∷ []) $ free1 ! $ move ! (48 ∷ 49 ∷ []) $ free1 ! $ move ! (46 ∷ 47 ∷ []) $ free1 ! $ move ! (44 ∷ 45 ∷ []) $ free1 ! $ move ! (42 ∷ 43 ∷ []) $ free1 ! $ move ! (40 ∷ 41 ∷ []) $ free1 ! $ move ! (38 ∷ 39 ∷ []) $ free1 ! $ move ! (36 ∷ 37 ∷ []) $ free1 ! $ move ! (34 ∷ 35 ∷ []) $ free1 ! $ move ! (32 ∷ 33 ∷ []) $ free1 ! $ move ! (30 ∷ 31 ∷ []) $ free1 ! $ move ! (28 ∷ 29 ∷ []) $ free1 ! $ move ! (26 ∷ 27 ∷ []) $ free1 ! $ move ! (24 ∷ 25 ∷ []) $ free1 ! $ move ! (22 ∷ 23 ∷ []) $ free1 ! $ move ! (20 ∷ 21 ∷ []) $ free1 ! $ move ! (18 ∷ 19 ∷ []) $ free1 ! $ move ! (16 ∷ 17 ∷ []) $ free1 ! $ move ! (14 ∷ 15 ∷ []) $ free1 ! $ move ! (12 ∷ 13 ∷ []) $ free1 ! $ free0 ! $
         by ! ends
 
-    part-7-0 : (is-4 : Is (Got-p .row) (gotOf (sessions) (frame′ .«session_id»)) (Got-p .val (gotOf (sessions) (frame′ .«session_id»)) ∷ [])) → (is-5 : Is (bool-p .row) (answersNow resumes (gotOf (sessions) (frame′ .«session_id»))) (bool-p .val (answersNow resumes (gotOf (sessions) (frame′ .«session_id»))) ∷ [])) → (c-6 : answersNow resumes (gotOf (sessions) (frame′ .«session_id»)) ≡ true) → (is-6·yes·1 : Is (Told-p .row) (toldBy resumes) (Told-p .val (toldBy resumes) ∷ [])) → (len-6·yes·6-sessions : length (keptSessions ((toldBy resumes) .keeps) (sessions) (objects) (frame′ .«session_id»)) ≡ n₁) → (len-6·yes·6-objects : length (keptObjects ((toldBy resumes) .keeps) (sessions) (objects) (frame′ .«session_id»)) ≡ n₂) → (is-6·yes·6 : Is (unit-p .row) tt (unit-p .val tt ∷ [])) → (asks-6·yes·9 : saysFits ((toldBy resumes) .says) (length (sample)) ≡ true) → (len-6·yes·9-out : length (putBytes (out) 0 (saysBytes ((toldBy resumes) .says) frame′ ((toldBy resumes) .number) (sample))) ≡ n₃) → (is-6·yes·9 : Is (u64-p .row) (length (saysBytes ((toldBy resumes) .says) frame′ ((toldBy resumes) .number) (sample))) (u64-p .val (length (saysBytes ((toldBy resumes) .says) frame′ ((toldBy resumes) .number) (sample))) ∷ [])) → Sq W (‵ (MutSlice (named 0) κ₁ (Array u64 5) .own (at-list b₁ o₁ γ₁ (keptSessions ((toldBy resumes) .keeps) (sessions) (objects) (frame′ .«session_id»))) (sliceVal (b₁, o₁) n₁ ∷ [])) ∷ ‵ (flft κ₁ q₁) ∷ ‵ (MutSlice (named 0) κ₂ Object-t.the-row .own (at-list b₂ o₂ γ₂ (keptObjects ((toldBy resumes) .keeps) (sessions) (objects) (frame′ .«session_id»))) (sliceVal (b₂, o₂) n₂ ∷ [])) ∷ ‵ (flft κ₂ q₂) ∷ ‵ (MutSlice (named 0) κ₃ u8 .own (at-list b₃ o₃ γ₃ (putBytes (out) 0 (saysBytes ((toldBy resumes) .says) frame′ ((toldBy resumes) .number) (sample)))) (sliceVal (b₃, o₃) n₃ ∷ [])) ∷ ‵ (flft κ₃ q₃) ∷ ‵ (ShrSlice (named 0) κ₄ u8 .own (at-list b₄ o₄ γ₄ sample) (sliceVal (b₄, o₄) n₄ ∷ [])) ∷ ‵ (flft κ₄ q₄) ∷ full 𝓤 (sliceTy (tyRef erased mut (pointee (u8 .written)))) l₂₀ (sliceVal (b₃, o₃) n₃) (full 𝓤 (tyRef erased mut (pointee (u8 .written))) l₁₉ (vptr b₃ o₃) (full 𝓤 (sliceTy (tyRef erased mut (pointee (Object-t.the-row .written)))) l₁₈ (sliceVal (b₂, o₂) n₂) (full 𝓤 (tyRef erased mut (pointee (Object-t.the-row .written))) l₁₇ (vptr b₂ o₂) (full 𝓤 (sliceTy (tyRef erased mut (pointee ((Array u64 5) .written)))) l₁₆ (sliceVal (b₁, o₁) n₁) (full 𝓤 (tyRef erased mut (pointee ((Array u64 5) .written))) l₁₅ (vptr b₁ o₁) (full 𝓤 tyUnit l₁₄ (unit-p .val tt) (full 𝓤 (tyInt w64) l₁₃ (u64-p .val (length (saysBytes ((toldBy resumes) .says) frame′ ((toldBy resumes) .number) (sample)))) (full 𝓤 tyBool l₁₂ (bool-p .val (answersNow resumes (gotOf (sessions) (frame′ .«session_id»)))) (full 𝓤 (sliceTy (tyRef erased imm (pointee ((Array u64 5) .written)))) l₁₁ (sliceVal (b₁, o₁) n₁) (full 𝓤 (tyRef erased imm (pointee ((Array u64 5) .written))) l₁₀ (vptr b₁ o₁) (full 𝓤 Told-l.mir l₉ (Told-p .val (toldBy resumes)) (full 𝓤 Got-l.mir l₈ (Got-p .val (gotOf (sessions) (frame′ .«session_id»))) (full 𝓤 (tyInt w8) l₇ (u8-p .val (frame′ .«session_id»)) (full 𝓤 Resumes-l.mir l₆ (Resumes-p .val resumes) (full 𝓤 Frame-l.mir l₅ (Frame-p .val frame′) (full 𝓤 (sliceTy (tyRef (named 3) imm (pointee (u8 .written)))) l₄ (sliceVal (b₄, o₄) n₄) (full 𝓤 (sliceTy (tyRef (named 2) mut (pointee (u8 .written)))) l₃ (sliceVal (b₃, o₃) n₃) (full 𝓤 (sliceTy (tyRef (named 1) mut (pointee (Object-t.the-row .written)))) l₂ (sliceVal (b₂, o₂) n₂) (full 𝓤 (sliceTy (tyRef (named 0) mut (pointee ((Array u64 5) .written)))) l₁ (sliceVal (b₁, o₁) n₁) (free 𝓤 (tyInt w64) l₀ ([])))))))))))))))))))))) (runs C Λ En mir.t-7 (atRet En Post))
-    part-7-0 is-4 is-5 c-6 is-6·yes·1 len-6·yes·6-sessions len-6·yes·6-objects is-6·yes·6 asks-6·yes·9 len-6·yes·9-out is-6·yes·9 =
-        assigns ! (of-opd ! (load ! (from ! (stop !)) (look ! 22 refl))) (from ! (stop !)) (init ! 48 refl (u64-p .typed 𝓤 H A W (length (saysBytes ((toldBy resumes) .says) frame′ ((toldBy resumes) .number) (sample))) is-6·yes·9)) $
-        returns ! (look ! 48 refl) $ forget ! 8 refl $ forget ! 10 refl $ forget ! 12 refl $ forget ! 14 refl $ forget ! 16 refl $ forget ! 18 refl $ forget ! 20 refl $ forget ! 22 refl $ forget ! 24 refl $ forget ! 26 refl $ forget ! 28 refl $ forget ! 30 refl $ forget ! 32 refl $ forget ! 34 refl $
-        frees-all (length (saysBytes ((toldBy resumes) .says) frame′ ((toldBy resumes) .number) (sample))) (keptSessions ((toldBy resumes) .keeps) (sessions) (objects) (frame′ .«session_id»)) (keptObjects ((toldBy resumes) .keeps) (sessions) (objects) (frame′ .«session_id»)) (putBytes (out) 0 (saysBytes ((toldBy resumes) .says) frame′ ((toldBy resumes) .number) (sample))) (exits (length (saysBytes ((toldBy resumes) .says) frame′ ((toldBy resumes) .number) (sample))) (keptSessions ((toldBy resumes) .keeps) (sessions) (objects) (frame′ .«session_id»)) (keptObjects ((toldBy resumes) .keeps) (sessions) (objects) (frame′ .«session_id»)) (putBytes (out) 0 (saysBytes ((toldBy resumes) .says) frame′ ((toldBy resumes) .number) (sample))) (begun-now sessions objects out frame′ sample resumes c-6) is-6·yes·9 len-6·yes·6-sessions len-6·yes·6-objects len-6·yes·9-out)
+    part-6·yes·16-0 : (is-4 : Is (Got-p .row) (gotOf (sessions) (frame′ .«session_id»)) (Got-p .val (gotOf (sessions) (frame′ .«session_id»)) ∷ [])) → (is-5 : Is (bool-p .row) (answersNow resumes (gotOf (sessions) (frame′ .«session_id»))) (bool-p .val (answersNow resumes (gotOf (sessions) (frame′ .«session_id»))) ∷ [])) → (c-6 : answersNow resumes (gotOf (sessions) (frame′ .«session_id»)) ≡ true) → (is-6·yes·1 : Is (Told-p .row) (toldBy resumes) (Told-p .val (toldBy resumes) ∷ [])) → (asks-6·yes·10 : saysFits ((toldBy resumes) .says) (frame′ .«stream_id») (length (sample)) ≡ true) → (len-6·yes·10-streams : length (saysStreams ((toldBy resumes) .says) frame′ (sessions) (streams) (held) (saysBytes ((toldBy resumes) .says) frame′ (sequenceOf (sessions) (streams) frame′) ((toldBy resumes) .number) (sample))) ≡ n₂) → (len-6·yes·10-held : length (saysHeld ((toldBy resumes) .says) frame′ (sessions) (streams) (held) (saysBytes ((toldBy resumes) .says) frame′ (sequenceOf (sessions) (streams) frame′) ((toldBy resumes) .number) (sample))) ≡ n₄) → (len-6·yes·10-out : length (putBytes (out) 0 (saysBytes ((toldBy resumes) .says) frame′ (sequenceOf (sessions) (streams) frame′) ((toldBy resumes) .number) (sample))) ≡ n₅) → (is-6·yes·10 : Is (u64-p .row) (length (saysBytes ((toldBy resumes) .says) frame′ (sequenceOf (sessions) (streams) frame′) ((toldBy resumes) .number) (sample))) (u64-p .val (length (saysBytes ((toldBy resumes) .says) frame′ (sequenceOf (sessions) (streams) frame′) ((toldBy resumes) .number) (sample))) ∷ [])) → (len-6·yes·15-sessions : length (keptSessions ((toldBy resumes) .keeps) (sessions) (objects) (frame′ .«session_id»)) ≡ n₁) → (len-6·yes·15-objects : length (keptObjects ((toldBy resumes) .keeps) (sessions) (objects) (frame′ .«session_id»)) ≡ n₃) → (is-6·yes·15 : Is (unit-p .row) tt (unit-p .val tt ∷ [])) → Sq W (‵ (MutSlice (named 0) κ₁ (Array u64 6) .own (at-list b₁ o₁ γ₁ (keptSessions ((toldBy resumes) .keeps) (sessions) (objects) (frame′ .«session_id»))) (sliceVal (b₁, o₁) n₁ ∷ [])) ∷ ‵ (flft κ₁ q₁) ∷ ‵ (MutSlice (named 0) κ₂ (Array u16 35) .own (at-list b₂ o₂ γ₂ (saysStreams ((toldBy resumes) .says) frame′ (sessions) (streams) (held) (saysBytes ((toldBy resumes) .says) frame′ (sequenceOf (sessions) (streams) frame′) ((toldBy resumes) .number) (sample)))) (sliceVal (b₂, o₂) n₂ ∷ [])) ∷ ‵ (flft κ₂ q₂) ∷ ‵ (MutSlice (named 0) κ₃ Object-t.the-row .own (at-list b₃ o₃ γ₃ (keptObjects ((toldBy resumes) .keeps) (sessions) (objects) (frame′ .«session_id»))) (sliceVal (b₃, o₃) n₃ ∷ [])) ∷ ‵ (flft κ₃ q₃) ∷ ‵ (MutSlice (named 0) κ₄ u8 .own (at-list b₄ o₄ γ₄ (saysHeld ((toldBy resumes) .says) frame′ (sessions) (streams) (held) (saysBytes ((toldBy resumes) .says) frame′ (sequenceOf (sessions) (streams) frame′) ((toldBy resumes) .number) (sample)))) (sliceVal (b₄, o₄) n₄ ∷ [])) ∷ ‵ (flft κ₄ q₄) ∷ ‵ (MutSlice (named 0) κ₅ u8 .own (at-list b₅ o₅ γ₅ (putBytes (out) 0 (saysBytes ((toldBy resumes) .says) frame′ (sequenceOf (sessions) (streams) frame′) ((toldBy resumes) .number) (sample)))) (sliceVal (b₅, o₅) n₅ ∷ [])) ∷ ‵ (flft κ₅ q₅) ∷ ‵ (ShrSlice (named 0) κ₆ u8 .own (at-list b₆ o₆ γ₆ sample) (sliceVal (b₆, o₆) n₆ ∷ [])) ∷ ‵ (flft κ₆ q₆) ∷ full 𝓤 (sliceTy (tyRef erased mut (pointee (Object-t.the-row .written)))) l₂₉ (sliceVal (b₃, o₃) n₃) (full 𝓤 (tyRef erased mut (pointee (Object-t.the-row .written))) l₂₈ (vptr b₃ o₃) (full 𝓤 (sliceTy (tyRef erased mut (pointee ((Array u64 6) .written)))) l₂₇ (sliceVal (b₁, o₁) n₁) (full 𝓤 (tyRef erased mut (pointee ((Array u64 6) .written))) l₂₆ (vptr b₁ o₁) (full 𝓤 tyUnit l₂₅ (unit-p .val tt) (full 𝓤 (sliceTy (tyRef erased mut (pointee (u8 .written)))) l₂₄ (sliceVal (b₅, o₅) n₅) (full 𝓤 (tyRef erased mut (pointee (u8 .written))) l₂₃ (vptr b₅ o₅) (full 𝓤 (sliceTy (tyRef erased mut (pointee (u8 .written)))) l₂₂ (sliceVal (b₄, o₄) n₄) (full 𝓤 (tyRef erased mut (pointee (u8 .written))) l₂₁ (vptr b₄ o₄) (full 𝓤 (sliceTy (tyRef erased mut (pointee ((Array u16 35) .written)))) l₂₀ (sliceVal (b₂, o₂) n₂) (full 𝓤 (tyRef erased mut (pointee ((Array u16 35) .written))) l₁₉ (vptr b₂ o₂) (full 𝓤 (sliceTy (tyRef erased imm (pointee ((Array u64 6) .written)))) l₁₈ (sliceVal (b₁, o₁) n₁) (full 𝓤 (tyRef erased imm (pointee ((Array u64 6) .written))) l₁₇ (vptr b₁ o₁) (free 𝓤 (tyInt w64) l₁₆ (full 𝓤 tyBool l₁₅ (bool-p .val (answersNow resumes (gotOf (sessions) (frame′ .«session_id»)))) (full 𝓤 (sliceTy (tyRef erased imm (pointee ((Array u64 6) .written)))) l₁₄ (sliceVal (b₁, o₁) n₁) (full 𝓤 (tyRef erased imm (pointee ((Array u64 6) .written))) l₁₃ (vptr b₁ o₁) (full 𝓤 (tyInt w64) l₁₂ (u64-p .val (length (saysBytes ((toldBy resumes) .says) frame′ (sequenceOf (sessions) (streams) frame′) ((toldBy resumes) .number) (sample)))) (full 𝓤 Told-l.mir l₁₁ (Told-p .val (toldBy resumes)) (full 𝓤 Got-l.mir l₁₀ (Got-p .val (gotOf (sessions) (frame′ .«session_id»))) (full 𝓤 (tyInt w8) l₉ (u8-p .val (frame′ .«session_id»)) (full 𝓤 Resumes-l.mir l₈ (Resumes-p .val resumes) (full 𝓤 Frame-l.mir l₇ (Frame-p .val frame′) (full 𝓤 (sliceTy (tyRef (named 5) imm (pointee (u8 .written)))) l₆ (sliceVal (b₆, o₆) n₆) (full 𝓤 (sliceTy (tyRef (named 4) mut (pointee (u8 .written)))) l₅ (sliceVal (b₅, o₅) n₅) (full 𝓤 (sliceTy (tyRef (named 3) mut (pointee (u8 .written)))) l₄ (sliceVal (b₄, o₄) n₄) (full 𝓤 (sliceTy (tyRef (named 2) mut (pointee (Object-t.the-row .written)))) l₃ (sliceVal (b₃, o₃) n₃) (full 𝓤 (sliceTy (tyRef (named 1) mut (pointee ((Array u16 35) .written)))) l₂ (sliceVal (b₂, o₂) n₂) (full 𝓤 (sliceTy (tyRef (named 0) mut (pointee ((Array u64 6) .written)))) l₁ (sliceVal (b₁, o₁) n₁) (free 𝓤 (tyInt w64) l₀ ([]))))))))))))))))))))))))))))))) (runs C Λ En (past 15 (yes-of (one mir.t-6))) (anyQ (afterSeq 𝓤 H (Wp 𝓤 H C Λ En mir.t-7 (atReturn 𝓤 H En Post)) (atReturn 𝓤 H En Post))))
+    part-6·yes·16-0 is-4 is-5 c-6 is-6·yes·1 asks-6·yes·10 len-6·yes·10-streams len-6·yes·10-held len-6·yes·10-out is-6·yes·10 len-6·yes·15-sessions len-6·yes·15-objects is-6·yes·15 =
+        assigns-last ! (of-opd ! (load ! (from ! (stop !)) (look ! 46 refl))) (from ! (stop !)) (init ! 38 refl (u64-p .typed 𝓤 H A W (length (saysBytes ((toldBy resumes) .says) frame′ (sequenceOf (sessions) (streams) frame′) ((toldBy resumes) .number) (sample))) is-6·yes·10)) $
+        exec ! C Λ En mir.t-7 (atRet En Post) $
+        assigns ! (of-opd ! (load ! (from ! (stop !)) (look ! 38 refl))) (from ! (stop !)) (init ! 70 refl (u64-p .typed 𝓤 H A W (length (saysBytes ((toldBy resumes) .says) frame′ (sequenceOf (sessions) (streams) frame′) ((toldBy resumes) .number) (sample))) is-6·yes·10)) $
+        returns ! (look ! 70 refl) $ forget ! 12 refl $ forget ! 14 refl $ forget ! 16 refl $ forget ! 18 refl $ forget ! 20 refl $ forget ! 22 refl $ forget ! 24 refl $ forget ! 26 refl $ forget ! 28 refl $ forget ! 30 refl $ forget ! 32 refl $ forget ! 34 refl $ forget ! 36 refl $ forget ! 38 refl $ forget ! 40 refl $ forget ! 42 refl $ forget ! 44 refl $ forget ! 46 refl $ forget ! 48 refl $ forget ! 50 refl $ forget ! 52 refl $
+        frees-all (length (saysBytes ((toldBy resumes) .says) frame′ (sequenceOf (sessions) (streams) frame′) ((toldBy resumes) .number) (sample))) (keptSessions ((toldBy resumes) .keeps) (sessions) (objects) (frame′ .«session_id»)) (saysStreams ((toldBy resumes) .says) frame′ (sessions) (streams) (held) (saysBytes ((toldBy resumes) .says) frame′ (sequenceOf (sessions) (streams) frame′) ((toldBy resumes) .number) (sample))) (keptObjects ((toldBy resumes) .keeps) (sessions) (objects) (frame′ .«session_id»)) (saysHeld ((toldBy resumes) .says) frame′ (sessions) (streams) (held) (saysBytes ((toldBy resumes) .says) frame′ (sequenceOf (sessions) (streams) frame′) ((toldBy resumes) .number) (sample))) (putBytes (out) 0 (saysBytes ((toldBy resumes) .says) frame′ (sequenceOf (sessions) (streams) frame′) ((toldBy resumes) .number) (sample))) (exits (length (saysBytes ((toldBy resumes) .says) frame′ (sequenceOf (sessions) (streams) frame′) ((toldBy resumes) .number) (sample))) (keptSessions ((toldBy resumes) .keeps) (sessions) (objects) (frame′ .«session_id»)) (saysStreams ((toldBy resumes) .says) frame′ (sessions) (streams) (held) (saysBytes ((toldBy resumes) .says) frame′ (sequenceOf (sessions) (streams) frame′) ((toldBy resumes) .number) (sample))) (keptObjects ((toldBy resumes) .keeps) (sessions) (objects) (frame′ .«session_id»)) (saysHeld ((toldBy resumes) .says) frame′ (sessions) (streams) (held) (saysBytes ((toldBy resumes) .says) frame′ (sequenceOf (sessions) (streams) frame′) ((toldBy resumes) .number) (sample))) (putBytes (out) 0 (saysBytes ((toldBy resumes) .says) frame′ (sequenceOf (sessions) (streams) frame′) ((toldBy resumes) .number) (sample))) (begun-now sessions streams objects held out frame′ sample resumes c-6) is-6·yes·10 len-6·yes·15-sessions len-6·yes·10-streams len-6·yes·15-objects len-6·yes·10-held len-6·yes·10-out)
 
-    part-6·yes·7-0 : (is-4 : Is (Got-p .row) (gotOf (sessions) (frame′ .«session_id»)) (Got-p .val (gotOf (sessions) (frame′ .«session_id»)) ∷ [])) → (is-5 : Is (bool-p .row) (answersNow resumes (gotOf (sessions) (frame′ .«session_id»))) (bool-p .val (answersNow resumes (gotOf (sessions) (frame′ .«session_id»))) ∷ [])) → (c-6 : answersNow resumes (gotOf (sessions) (frame′ .«session_id»)) ≡ true) → (is-6·yes·1 : Is (Told-p .row) (toldBy resumes) (Told-p .val (toldBy resumes) ∷ [])) → (len-6·yes·6-sessions : length (keptSessions ((toldBy resumes) .keeps) (sessions) (objects) (frame′ .«session_id»)) ≡ n₁) → (len-6·yes·6-objects : length (keptObjects ((toldBy resumes) .keeps) (sessions) (objects) (frame′ .«session_id»)) ≡ n₂) → (is-6·yes·6 : Is (unit-p .row) tt (unit-p .val tt ∷ [])) → Sq W (‵ (MutSlice (named 0) κ₁ (Array u64 5) .own (at-list b₁ o₁ γ₁ (keptSessions ((toldBy resumes) .keeps) (sessions) (objects) (frame′ .«session_id»))) (sliceVal (b₁, o₁) n₁ ∷ [])) ∷ ‵ (flft κ₁ q₁) ∷ ‵ (MutSlice (named 0) κ₂ Object-t.the-row .own (at-list b₂ o₂ γ₂ (keptObjects ((toldBy resumes) .keeps) (sessions) (objects) (frame′ .«session_id»))) (sliceVal (b₂, o₂) n₂ ∷ [])) ∷ ‵ (flft κ₂ q₂) ∷ ‵ (MutSlice (named 0) κ₃ u8 .own (at-list b₃ o₃ γ₃ out) (sliceVal (b₃, o₃) n₃ ∷ [])) ∷ ‵ (flft κ₃ q₃) ∷ ‵ (ShrSlice (named 0) κ₄ u8 .own (at-list b₄ o₄ γ₄ sample) (sliceVal (b₄, o₄) n₄ ∷ [])) ∷ ‵ (flft κ₄ q₄) ∷ free 𝓤 (sliceTy (tyRef erased mut (pointee (u8 .written)))) l₂₀ (free 𝓤 (tyRef erased mut (pointee (u8 .written))) l₁₉ (full 𝓤 (sliceTy (tyRef erased mut (pointee (Object-t.the-row .written)))) l₁₈ (sliceVal (b₂, o₂) n₂) (full 𝓤 (tyRef erased mut (pointee (Object-t.the-row .written))) l₁₇ (vptr b₂ o₂) (full 𝓤 (sliceTy (tyRef erased mut (pointee ((Array u64 5) .written)))) l₁₆ (sliceVal (b₁, o₁) n₁) (full 𝓤 (tyRef erased mut (pointee ((Array u64 5) .written))) l₁₅ (vptr b₁ o₁) (full 𝓤 tyUnit l₁₄ (unit-p .val tt) (free 𝓤 (tyInt w64) l₁₃ (full 𝓤 tyBool l₁₂ (bool-p .val (answersNow resumes (gotOf (sessions) (frame′ .«session_id»)))) (full 𝓤 (sliceTy (tyRef erased imm (pointee ((Array u64 5) .written)))) l₁₁ (sliceVal (b₁, o₁) n₁) (full 𝓤 (tyRef erased imm (pointee ((Array u64 5) .written))) l₁₀ (vptr b₁ o₁) (full 𝓤 Told-l.mir l₉ (Told-p .val (toldBy resumes)) (full 𝓤 Got-l.mir l₈ (Got-p .val (gotOf (sessions) (frame′ .«session_id»))) (full 𝓤 (tyInt w8) l₇ (u8-p .val (frame′ .«session_id»)) (full 𝓤 Resumes-l.mir l₆ (Resumes-p .val resumes) (full 𝓤 Frame-l.mir l₅ (Frame-p .val frame′) (full 𝓤 (sliceTy (tyRef (named 3) imm (pointee (u8 .written)))) l₄ (sliceVal (b₄, o₄) n₄) (full 𝓤 (sliceTy (tyRef (named 2) mut (pointee (u8 .written)))) l₃ (sliceVal (b₃, o₃) n₃) (full 𝓤 (sliceTy (tyRef (named 1) mut (pointee (Object-t.the-row .written)))) l₂ (sliceVal (b₂, o₂) n₂) (full 𝓤 (sliceTy (tyRef (named 0) mut (pointee ((Array u64 5) .written)))) l₁ (sliceVal (b₁, o₁) n₁) (free 𝓤 (tyInt w64) l₀ ([])))))))))))))))))))))) (runs C Λ En (past 6 (yes-of (one mir.t-6))) (anyQ (afterSeq 𝓤 H (Wp 𝓤 H C Λ En mir.t-7 (atReturn 𝓤 H En Post)) (atReturn 𝓤 H En Post))))
-    part-6·yes·7-0 is-4 is-5 c-6 is-6·yes·1 len-6·yes·6-sessions len-6·yes·6-objects is-6·yes·6 =
-        assigns ! (addr ! (from ! (fld ! refl (hop ! (look-in ! 42 (sub ! 0 refl (whole !))) (stop !))))) (from ! (stop !)) (init ! 10 refl (tt, tt)) $
-        assigns ! (agg ! (and-then ! (load ! (from ! (stop !)) (look ! 10 refl)) (and-then ! (load ! (from ! (fld ! refl (stop !))) (look-in ! 42 (sub ! 1 refl (whole !)))) (no-more !)))) (from ! (stop !)) (init ! 8 refl (tt, (tt, (record { fits = room₃ .0 }, tt)))) $
-        knows ! (saysFits ((toldBy resumes) .says) (length (sample)) ≡ true) (says-fit resumes (length sample) within) (λ asks-6·yes·9.
-        -- 6.yes.9: agent::answers::reply_says
-        move ! (4 ∷ 5 ∷ []) $
-        lends-mut ! tt u8 b₃ o₃ out n₃ (refl) (λ ν-6·yes·9-out δ-6·yes·9-out.
-        move ! (7 ∷ 8 ∷ []) $
-        copies-shr ! u8 b₄ o₄ sample n₄ $ nothing ! $ move ! (1 ∷ 0 ∷ []) $ join ! $ move ! (3 ∷ 0 ∷ []) $ join ! $
-        use1 W (raw (toks 𝓤 A 2 (((ν-6·yes·9-out ∷ []), (κ₄, tt))) ((fullShare, (q₄, tt))))) (id⊢ 𝓤 _) $ nothing ! $
-        owned ! (Says-p .row) (Is (Says-p .row)) (Says-p .makes 𝓤 H A W) ((toldBy resumes) .says) (Says-p .val ((toldBy resumes) .says) ∷ []) (LL.owed Told-t.the-type Told-l.the-laws (toldBy resumes) _ is-6·yes·1 .1 .0) $ fjoin ! $
-        owned ! (ObjectNumber-p .row) (Is (ObjectNumber-p .row)) (ObjectNumber-p .makes 𝓤 H A W) ((toldBy resumes) .number) (ObjectNumber-p .val ((toldBy resumes) .number) ∷ []) (LL.owed Told-t.the-type Told-l.the-laws (toldBy resumes) _ is-6·yes·1 .1 .1 .0) $ fjoin ! $
-        owned ! (Frame-p .row) (Is (Frame-p .row)) (Frame-p .makes 𝓤 H A W) frame′ (Frame-p .val frame′ ∷ []) frame′-is $ fjoin ! $ move ! (2 ∷ 0 ∷ []) $ fjoin ! $ move ! (3 ∷ 0 ∷ []) $ fjoin ! $ move ! (1 ∷ 0 ∷ []) $
-        calls-any-last ! fm 2 [] (answers-reply-says.signature .params) (answers-reply-says.ended .kept) u64-p (answers-reply-says.clauses 𝓤 H A mem run) known-answers-reply-says ((ν-6·yes·9-out ∷ []), (κ₄, tt)) (fullShare, (q₄, tt)) tt (at-list b₃ o₃ δ-6·yes·9-out out, (at-list b₄ o₄ γ₄ sample, (frame′, ((toldBy resumes) .number, ((toldBy resumes) .says, tt))))) (sliceVal (b₃, o₃) n₃ ∷ [], (sliceVal (b₄, o₄) n₄ ∷ [], (Frame-p .val frame′ ∷ [], (ObjectNumber-p .val ((toldBy resumes) .number) ∷ [], (Says-p .val ((toldBy resumes) .says) ∷ [], tt))))) tt (length (saysBytes ((toldBy resumes) .says) frame′ ((toldBy resumes) .number) (sample))) (λ ws-6·yes·9. (ws-6·yes·9 .0 ≡ putBytes (out) 0 (saysBytes ((toldBy resumes) .says) frame′ ((toldBy resumes) .number) (sample)))) (factI 𝓤 (saysFits ((toldBy resumes) .says) (length (sample)) ≡ true) _ asks-6·yes·9) (λ r ws-6·yes·9. fact-mono 𝓤 ((r ≡ length (saysBytes ((toldBy resumes) .says) frame′ ((toldBy resumes) .number) (sample))) × ((ws-6·yes·9 .0) ≡ putBytes (out) 0 (saysBytes ((toldBy resumes) .says) frame′ ((toldBy resumes) .number) (sample)))) ((r ≡ (length (saysBytes ((toldBy resumes) .says) frame′ ((toldBy resumes) .number) (sample)))) × ((ws-6·yes·9 .0 ≡ putBytes (out) 0 (saysBytes ((toldBy resumes) .says) frame′ ((toldBy resumes) .number) (sample))))) (λ e. (e .0, e .1))) (λ _. (and-then ! (load ! (from ! (stop !)) (look ! 7 refl)) (and-then ! (load ! (from ! (stop !)) (look ! 39 refl)) (and-then ! (load ! (from ! (stop !)) (look ! 37 refl)) (and-then ! (load ! (from ! (fld ! refl (stop !))) (look-in ! 29 (sub ! 2 refl (whole !)))) (and-then ! (load ! (from ! (fld ! refl (stop !))) (look-in ! 29 (sub ! 1 refl (whole !)))) (no-more !))))))) (λ ws-6·yes·9 said-6·yes·9 is-6·yes·9.
-        use1 W ((‵ (flft (ν-6·yes·9-out ∷ []) fullShare) ⊛ (‵ (flft κ₄ q₄) ⊛ ‵ ftrue))) (id⊢ 𝓤 _) $ split ! $ move ! (1 ∷ []) $ split ! $ move ! (3 ∷ []) $ fsplit ! $ fsplit ! $ move ! (1 ∷ []) $
-        feqL ! (λ wlen-6·yes·9-0.
-        move ! (1 ∷ []) $ fsplit ! $ move ! (5 ∷ 7 ∷ 2 ∷ []) $
-        backs-mut ! tt u8 b₃ o₃ out n₃ (refl) room₃ ν-6·yes·9-out δ-6·yes·9-out (ws-6·yes·9 .0) (putBytes (out) 0 (saysBytes ((toldBy resumes) .says) frame′ ((toldBy resumes) .number) (sample))) wlen-6·yes·9-0 (said-6·yes·9) (λ len-6·yes·9-out.
-        move ! (2 ∷ []) $ drop ! $ move ! (2 ∷ []) $ drop ! $ move ! (3 ∷ []) $ drop ! $
-        land-last ! (from ! (stop !)) (init ! 22 refl (u64-p .typed 𝓤 H A W (length (saysBytes ((toldBy resumes) .says) frame′ ((toldBy resumes) .number) (sample))) is-6·yes·9)) $
-        exec ! C Λ En mir.t-7 (atRet En Post) $ move ! (4 ∷ 5 ∷ 6 ∷ 7 ∷ 0 ∷ 1 ∷ 3 ∷ 2 ∷ 8 ∷ 9 ∷ 10 ∷ 11 ∷ 12 ∷ 13 ∷ 14 ∷ 15 ∷ 16 ∷ 17 ∷ 18 ∷ 19 ∷ 20 ∷ 21 ∷ 22 ∷ 23 ∷ 24 ∷ 25 ∷ 26 ∷ 27 ∷ 28 ∷ 29 ∷ 30 ∷ 31 ∷ 32 ∷ 33 ∷ 34 ∷ 35 ∷ 36 ∷ 37 ∷ 38 ∷ 39 ∷ 40 ∷ 41 ∷ 42 ∷ 43 ∷ 44 ∷ 45 ∷ 46 ∷ 47 ∷ 48 ∷ 49 ∷ []) $
-        part-7-0 is-4 is-5 c-6 is-6·yes·1 len-6·yes·6-sessions len-6·yes·6-objects is-6·yes·6 asks-6·yes·9 len-6·yes·9-out is-6·yes·9)))))
-
-    part-6·yes·2-0 : (is-4 : Is (Got-p .row) (gotOf (sessions) (frame′ .«session_id»)) (Got-p .val (gotOf (sessions) (frame′ .«session_id»)) ∷ [])) → (is-5 : Is (bool-p .row) (answersNow resumes (gotOf (sessions) (frame′ .«session_id»))) (bool-p .val (answersNow resumes (gotOf (sessions) (frame′ .«session_id»))) ∷ [])) → (c-6 : answersNow resumes (gotOf (sessions) (frame′ .«session_id»)) ≡ true) → (is-6·yes·1 : Is (Told-p .row) (toldBy resumes) (Told-p .val (toldBy resumes) ∷ [])) → Sq W (‵ (MutSlice (named 0) κ₁ (Array u64 5) .own (at-list b₁ o₁ γ₁ sessions) (sliceVal (b₁, o₁) n₁ ∷ [])) ∷ ‵ (flft κ₁ q₁) ∷ ‵ (MutSlice (named 0) κ₂ Object-t.the-row .own (at-list b₂ o₂ γ₂ objects) (sliceVal (b₂, o₂) n₂ ∷ [])) ∷ ‵ (flft κ₂ q₂) ∷ ‵ (MutSlice (named 0) κ₃ u8 .own (at-list b₃ o₃ γ₃ out) (sliceVal (b₃, o₃) n₃ ∷ [])) ∷ ‵ (flft κ₃ q₃) ∷ ‵ (ShrSlice (named 0) κ₄ u8 .own (at-list b₄ o₄ γ₄ sample) (sliceVal (b₄, o₄) n₄ ∷ [])) ∷ ‵ (flft κ₄ q₄) ∷ free 𝓤 (sliceTy (tyRef erased mut (pointee (u8 .written)))) l₂₀ (free 𝓤 (tyRef erased mut (pointee (u8 .written))) l₁₉ (free 𝓤 (sliceTy (tyRef erased mut (pointee (Object-t.the-row .written)))) l₁₈ (free 𝓤 (tyRef erased mut (pointee (Object-t.the-row .written))) l₁₇ (free 𝓤 (sliceTy (tyRef erased mut (pointee ((Array u64 5) .written)))) l₁₆ (free 𝓤 (tyRef erased mut (pointee ((Array u64 5) .written))) l₁₅ (free 𝓤 tyUnit l₁₄ (free 𝓤 (tyInt w64) l₁₃ (full 𝓤 tyBool l₁₂ (bool-p .val (answersNow resumes (gotOf (sessions) (frame′ .«session_id»)))) (full 𝓤 (sliceTy (tyRef erased imm (pointee ((Array u64 5) .written)))) l₁₁ (sliceVal (b₁, o₁) n₁) (full 𝓤 (tyRef erased imm (pointee ((Array u64 5) .written))) l₁₀ (vptr b₁ o₁) (full 𝓤 Told-l.mir l₉ (Told-p .val (toldBy resumes)) (full 𝓤 Got-l.mir l₈ (Got-p .val (gotOf (sessions) (frame′ .«session_id»))) (full 𝓤 (tyInt w8) l₇ (u8-p .val (frame′ .«session_id»)) (full 𝓤 Resumes-l.mir l₆ (Resumes-p .val resumes) (full 𝓤 Frame-l.mir l₅ (Frame-p .val frame′) (full 𝓤 (sliceTy (tyRef (named 3) imm (pointee (u8 .written)))) l₄ (sliceVal (b₄, o₄) n₄) (full 𝓤 (sliceTy (tyRef (named 2) mut (pointee (u8 .written)))) l₃ (sliceVal (b₃, o₃) n₃) (full 𝓤 (sliceTy (tyRef (named 1) mut (pointee (Object-t.the-row .written)))) l₂ (sliceVal (b₂, o₂) n₂) (full 𝓤 (sliceTy (tyRef (named 0) mut (pointee ((Array u64 5) .written)))) l₁ (sliceVal (b₁, o₁) n₁) (free 𝓤 (tyInt w64) l₀ ([])))))))))))))))))))))) (runs C Λ En (past 1 (yes-of (one mir.t-6))) (anyQ (afterSeq 𝓤 H (Wp 𝓤 H C Λ En mir.t-7 (atReturn 𝓤 H En Post)) (atReturn 𝓤 H En Post))))
-    part-6·yes·2-0 is-4 is-5 c-6 is-6·yes·1 =
-        assigns ! (addr ! (from ! (fld ! refl (hop ! (look-in ! 46 (sub ! 0 refl (whole !))) (stop !))))) (from ! (stop !)) (init ! 18 refl (tt, tt)) $
-        assigns ! (agg ! (and-then ! (load ! (from ! (stop !)) (look ! 18 refl)) (and-then ! (load ! (from ! (fld ! refl (stop !))) (look-in ! 46 (sub ! 1 refl (whole !)))) (no-more !)))) (from ! (stop !)) (init ! 16 refl (tt, (tt, (record { fits = room₁ .0 }, tt)))) $
-        assigns ! (addr ! (from ! (fld ! refl (hop ! (look-in ! 44 (sub ! 0 refl (whole !))) (stop !))))) (from ! (stop !)) (init ! 14 refl (tt, tt)) $
-        assigns ! (agg ! (and-then ! (load ! (from ! (stop !)) (look ! 14 refl)) (and-then ! (load ! (from ! (fld ! refl (stop !))) (look-in ! 44 (sub ! 1 refl (whole !)))) (no-more !)))) (from ! (stop !)) (init ! 12 refl (tt, (tt, (record { fits = room₂ .0 }, tt)))) $
-        -- 6.yes.6: moves::answers::keep
-        lends-mut ! tt (Array u64 5) b₁ o₁ sessions n₁ (refl) (λ ν-6·yes·6-sessions δ-6·yes·6-sessions.
-        move ! (3 ∷ 4 ∷ []) $
-        lends-mut ! tt Object-t.the-row b₂ o₂ objects n₂ (refl) (λ ν-6·yes·6-objects δ-6·yes·6-objects.
+    part-6·yes·11-0 : (is-4 : Is (Got-p .row) (gotOf (sessions) (frame′ .«session_id»)) (Got-p .val (gotOf (sessions) (frame′ .«session_id»)) ∷ [])) → (is-5 : Is (bool-p .row) (answersNow resumes (gotOf (sessions) (frame′ .«session_id»))) (bool-p .val (answersNow resumes (gotOf (sessions) (frame′ .«session_id»))) ∷ [])) → (c-6 : answersNow resumes (gotOf (sessions) (frame′ .«session_id»)) ≡ true) → (is-6·yes·1 : Is (Told-p .row) (toldBy resumes) (Told-p .val (toldBy resumes) ∷ [])) → (asks-6·yes·10 : saysFits ((toldBy resumes) .says) (frame′ .«stream_id») (length (sample)) ≡ true) → (len-6·yes·10-streams : length (saysStreams ((toldBy resumes) .says) frame′ (sessions) (streams) (held) (saysBytes ((toldBy resumes) .says) frame′ (sequenceOf (sessions) (streams) frame′) ((toldBy resumes) .number) (sample))) ≡ n₂) → (len-6·yes·10-held : length (saysHeld ((toldBy resumes) .says) frame′ (sessions) (streams) (held) (saysBytes ((toldBy resumes) .says) frame′ (sequenceOf (sessions) (streams) frame′) ((toldBy resumes) .number) (sample))) ≡ n₄) → (len-6·yes·10-out : length (putBytes (out) 0 (saysBytes ((toldBy resumes) .says) frame′ (sequenceOf (sessions) (streams) frame′) ((toldBy resumes) .number) (sample))) ≡ n₅) → (is-6·yes·10 : Is (u64-p .row) (length (saysBytes ((toldBy resumes) .says) frame′ (sequenceOf (sessions) (streams) frame′) ((toldBy resumes) .number) (sample))) (u64-p .val (length (saysBytes ((toldBy resumes) .says) frame′ (sequenceOf (sessions) (streams) frame′) ((toldBy resumes) .number) (sample))) ∷ [])) → Sq W (‵ (MutSlice (named 0) κ₁ (Array u64 6) .own (at-list b₁ o₁ γ₁ sessions) (sliceVal (b₁, o₁) n₁ ∷ [])) ∷ ‵ (flft κ₁ q₁) ∷ ‵ (MutSlice (named 0) κ₂ (Array u16 35) .own (at-list b₂ o₂ γ₂ (saysStreams ((toldBy resumes) .says) frame′ (sessions) (streams) (held) (saysBytes ((toldBy resumes) .says) frame′ (sequenceOf (sessions) (streams) frame′) ((toldBy resumes) .number) (sample)))) (sliceVal (b₂, o₂) n₂ ∷ [])) ∷ ‵ (flft κ₂ q₂) ∷ ‵ (MutSlice (named 0) κ₃ Object-t.the-row .own (at-list b₃ o₃ γ₃ objects) (sliceVal (b₃, o₃) n₃ ∷ [])) ∷ ‵ (flft κ₃ q₃) ∷ ‵ (MutSlice (named 0) κ₄ u8 .own (at-list b₄ o₄ γ₄ (saysHeld ((toldBy resumes) .says) frame′ (sessions) (streams) (held) (saysBytes ((toldBy resumes) .says) frame′ (sequenceOf (sessions) (streams) frame′) ((toldBy resumes) .number) (sample)))) (sliceVal (b₄, o₄) n₄ ∷ [])) ∷ ‵ (flft κ₄ q₄) ∷ ‵ (MutSlice (named 0) κ₅ u8 .own (at-list b₅ o₅ γ₅ (putBytes (out) 0 (saysBytes ((toldBy resumes) .says) frame′ (sequenceOf (sessions) (streams) frame′) ((toldBy resumes) .number) (sample)))) (sliceVal (b₅, o₅) n₅ ∷ [])) ∷ ‵ (flft κ₅ q₅) ∷ ‵ (ShrSlice (named 0) κ₆ u8 .own (at-list b₆ o₆ γ₆ sample) (sliceVal (b₆, o₆) n₆ ∷ [])) ∷ ‵ (flft κ₆ q₆) ∷ free 𝓤 (sliceTy (tyRef erased mut (pointee (Object-t.the-row .written)))) l₂₉ (free 𝓤 (tyRef erased mut (pointee (Object-t.the-row .written))) l₂₈ (free 𝓤 (sliceTy (tyRef erased mut (pointee ((Array u64 6) .written)))) l₂₇ (free 𝓤 (tyRef erased mut (pointee ((Array u64 6) .written))) l₂₆ (free 𝓤 tyUnit l₂₅ (full 𝓤 (sliceTy (tyRef erased mut (pointee (u8 .written)))) l₂₄ (sliceVal (b₅, o₅) n₅) (full 𝓤 (tyRef erased mut (pointee (u8 .written))) l₂₃ (vptr b₅ o₅) (full 𝓤 (sliceTy (tyRef erased mut (pointee (u8 .written)))) l₂₂ (sliceVal (b₄, o₄) n₄) (full 𝓤 (tyRef erased mut (pointee (u8 .written))) l₂₁ (vptr b₄ o₄) (full 𝓤 (sliceTy (tyRef erased mut (pointee ((Array u16 35) .written)))) l₂₀ (sliceVal (b₂, o₂) n₂) (full 𝓤 (tyRef erased mut (pointee ((Array u16 35) .written))) l₁₉ (vptr b₂ o₂) (full 𝓤 (sliceTy (tyRef erased imm (pointee ((Array u64 6) .written)))) l₁₈ (sliceVal (b₁, o₁) n₁) (full 𝓤 (tyRef erased imm (pointee ((Array u64 6) .written))) l₁₇ (vptr b₁ o₁) (free 𝓤 (tyInt w64) l₁₆ (full 𝓤 tyBool l₁₅ (bool-p .val (answersNow resumes (gotOf (sessions) (frame′ .«session_id»)))) (full 𝓤 (sliceTy (tyRef erased imm (pointee ((Array u64 6) .written)))) l₁₄ (sliceVal (b₁, o₁) n₁) (full 𝓤 (tyRef erased imm (pointee ((Array u64 6) .written))) l₁₃ (vptr b₁ o₁) (full 𝓤 (tyInt w64) l₁₂ (u64-p .val (length (saysBytes ((toldBy resumes) .says) frame′ (sequenceOf (sessions) (streams) frame′) ((toldBy resumes) .number) (sample)))) (full 𝓤 Told-l.mir l₁₁ (Told-p .val (toldBy resumes)) (full 𝓤 Got-l.mir l₁₀ (Got-p .val (gotOf (sessions) (frame′ .«session_id»))) (full 𝓤 (tyInt w8) l₉ (u8-p .val (frame′ .«session_id»)) (full 𝓤 Resumes-l.mir l₈ (Resumes-p .val resumes) (full 𝓤 Frame-l.mir l₇ (Frame-p .val frame′) (full 𝓤 (sliceTy (tyRef (named 5) imm (pointee (u8 .written)))) l₆ (sliceVal (b₆, o₆) n₆) (full 𝓤 (sliceTy (tyRef (named 4) mut (pointee (u8 .written)))) l₅ (sliceVal (b₅, o₅) n₅) (full 𝓤 (sliceTy (tyRef (named 3) mut (pointee (u8 .written)))) l₄ (sliceVal (b₄, o₄) n₄) (full 𝓤 (sliceTy (tyRef (named 2) mut (pointee (Object-t.the-row .written)))) l₃ (sliceVal (b₃, o₃) n₃) (full 𝓤 (sliceTy (tyRef (named 1) mut (pointee ((Array u16 35) .written)))) l₂ (sliceVal (b₂, o₂) n₂) (full 𝓤 (sliceTy (tyRef (named 0) mut (pointee ((Array u64 6) .written)))) l₁ (sliceVal (b₁, o₁) n₁) (free 𝓤 (tyInt w64) l₀ ([]))))))))))))))))))))))))))))))) (runs C Λ En (past 10 (yes-of (one mir.t-6))) (anyQ (afterSeq 𝓤 H (Wp 𝓤 H C Λ En mir.t-7 (atReturn 𝓤 H En Post)) (atReturn 𝓤 H En Post))))
+    part-6·yes·11-0 is-4 is-5 c-6 is-6·yes·1 asks-6·yes·10 len-6·yes·10-streams len-6·yes·10-held len-6·yes·10-out is-6·yes·10 =
+        assigns ! (addr ! (from ! (fld ! refl (hop ! (look-in ! 68 (sub ! 0 refl (whole !))) (stop !))))) (from ! (stop !)) (init ! 18 refl (tt, tt)) $
+        assigns ! (agg ! (and-then ! (load ! (from ! (stop !)) (look ! 18 refl)) (and-then ! (load ! (from ! (fld ! refl (stop !))) (look-in ! 68 (sub ! 1 refl (whole !)))) (no-more !)))) (from ! (stop !)) (init ! 16 refl (tt, (tt, (record { fits = room₁ .0 }, tt)))) $
+        assigns ! (addr ! (from ! (fld ! refl (hop ! (look-in ! 64 (sub ! 0 refl (whole !))) (stop !))))) (from ! (stop !)) (init ! 14 refl (tt, tt)) $
+        assigns ! (agg ! (and-then ! (load ! (from ! (stop !)) (look ! 14 refl)) (and-then ! (load ! (from ! (fld ! refl (stop !))) (look-in ! 64 (sub ! 1 refl (whole !)))) (no-more !)))) (from ! (stop !)) (init ! 12 refl (tt, (tt, (record { fits = room₃ .0 }, tt)))) $
+        -- 6.yes.15: moves::answers::keep
+        lends-mut ! tt (Array u64 6) b₁ o₁ sessions n₁ (refl) (λ ν-6·yes·15-sessions δ-6·yes·15-sessions.
+        move ! (5 ∷ 6 ∷ []) $
+        lends-mut ! tt Object-t.the-row b₃ o₃ objects n₃ (refl) (λ ν-6·yes·15-objects δ-6·yes·15-objects.
         nothing ! $ move ! (1 ∷ 0 ∷ []) $ join ! $ move ! (3 ∷ 0 ∷ []) $ join ! $
-        use1 W (raw (toks 𝓤 A 2 (((ν-6·yes·6-sessions ∷ []), ((ν-6·yes·6-objects ∷ []), tt))) ((fullShare, (fullShare, tt))))) (id⊢ 𝓤 _) $ nothing ! $
+        use1 W (raw (toks 𝓤 A 2 (((ν-6·yes·15-sessions ∷ []), ((ν-6·yes·15-objects ∷ []), tt))) ((fullShare, (fullShare, tt))))) (id⊢ 𝓤 _) $ nothing ! $
         owned ! (Keeps-p .row) (Is (Keeps-p .row)) (Keeps-p .makes 𝓤 H A W) ((toldBy resumes) .keeps) (Keeps-p .val ((toldBy resumes) .keeps) ∷ []) (LL.owed Told-t.the-type Told-l.the-laws (toldBy resumes) _ is-6·yes·1 .0) $ fjoin ! $
         owned ! (u8-p .row) (Is (u8-p .row)) (u8-p .makes 𝓤 H A W) (frame′ .«session_id») (u8-p .val (frame′ .«session_id») ∷ []) (LL.owed Frame-t.the-type Frame-l.the-laws frame′ _ frame′-is .1 .1 .0) $ fjoin ! $ move ! (2 ∷ 0 ∷ []) $ fjoin ! $ move ! (3 ∷ 0 ∷ []) $ fjoin ! $ move ! (1 ∷ 0 ∷ []) $
-        calls-any ! fm 2 [] (answers-keep.signature .params) (answers-keep.ended .kept) unit-p (answers-keep.clauses 𝓤 H A mem run) known-answers-keep ((ν-6·yes·6-sessions ∷ []), ((ν-6·yes·6-objects ∷ []), tt)) (fullShare, (fullShare, tt)) tt (at-list b₁ o₁ δ-6·yes·6-sessions sessions, (at-list b₂ o₂ δ-6·yes·6-objects objects, (frame′ .«session_id», ((toldBy resumes) .keeps, tt)))) (sliceVal (b₁, o₁) n₁ ∷ [], (sliceVal (b₂, o₂) n₂ ∷ [], (u8-p .val (frame′ .«session_id») ∷ [], (Keeps-p .val ((toldBy resumes) .keeps) ∷ [], tt)))) tt tt (λ ws-6·yes·6. (ws-6·yes·6 .0 ≡ keptSessions ((toldBy resumes) .keeps) (sessions) (objects) (frame′ .«session_id»)) × (ws-6·yes·6 .1 .0 ≡ keptObjects ((toldBy resumes) .keeps) (sessions) (objects) (frame′ .«session_id»))) (id⊢ 𝓤 _) (λ r ws-6·yes·6. fact-mono 𝓤 (((ws-6·yes·6 .0) ≡ keptSessions ((toldBy resumes) .keeps) (sessions) (objects) (frame′ .«session_id»)) × ((ws-6·yes·6 .1 .0) ≡ keptObjects ((toldBy resumes) .keeps) (sessions) (objects) (frame′ .«session_id»))) ((r ≡ tt) × ((ws-6·yes·6 .0 ≡ keptSessions ((toldBy resumes) .keeps) (sessions) (objects) (frame′ .«session_id»)) × (ws-6·yes·6 .1 .0 ≡ keptObjects ((toldBy resumes) .keeps) (sessions) (objects) (frame′ .«session_id»)))) (λ e. (refl, (e .0, e .1)))) (λ _. (and-then ! (load ! (from ! (stop !)) (look ! 15 refl)) (and-then ! (load ! (from ! (stop !)) (look ! 11 refl)) (and-then ! (load ! (from ! (stop !)) (look ! 33 refl)) (and-then ! (load ! (from ! (fld ! refl (stop !))) (look-in ! 29 (sub ! 0 refl (whole !)))) (no-more !)))))) (λ ws-6·yes·6 said-6·yes·6 is-6·yes·6.
-        use1 W ((‵ (flft (ν-6·yes·6-sessions ∷ []) fullShare) ⊛ (‵ (flft (ν-6·yes·6-objects ∷ []) fullShare) ⊛ ‵ ftrue))) (id⊢ 𝓤 _) $ split ! $ move ! (1 ∷ []) $ split ! $ move ! (3 ∷ []) $ fsplit ! $ fsplit ! $ move ! (1 ∷ []) $
-        feqL ! (λ wlen-6·yes·6-0.
+        calls-any ! fm 2 [] (answers-keep.signature .params) (answers-keep.ended .kept) unit-p (answers-keep.clauses 𝓤 H A mem run) known-answers-keep ((ν-6·yes·15-sessions ∷ []), ((ν-6·yes·15-objects ∷ []), tt)) (fullShare, (fullShare, tt)) tt (at-list b₁ o₁ δ-6·yes·15-sessions sessions, (at-list b₃ o₃ δ-6·yes·15-objects objects, (frame′ .«session_id», ((toldBy resumes) .keeps, tt)))) (sliceVal (b₁, o₁) n₁ ∷ [], (sliceVal (b₃, o₃) n₃ ∷ [], (u8-p .val (frame′ .«session_id») ∷ [], (Keeps-p .val ((toldBy resumes) .keeps) ∷ [], tt)))) tt tt (λ ws-6·yes·15. (ws-6·yes·15 .0 ≡ keptSessions ((toldBy resumes) .keeps) (sessions) (objects) (frame′ .«session_id»)) × (ws-6·yes·15 .1 .0 ≡ keptObjects ((toldBy resumes) .keeps) (sessions) (objects) (frame′ .«session_id»))) (id⊢ 𝓤 _) (λ r ws-6·yes·15. fact-mono 𝓤 (((ws-6·yes·15 .0) ≡ keptSessions ((toldBy resumes) .keeps) (sessions) (objects) (frame′ .«session_id»)) × ((ws-6·yes·15 .1 .0) ≡ keptObjects ((toldBy resumes) .keeps) (sessions) (objects) (frame′ .«session_id»))) ((r ≡ tt) × ((ws-6·yes·15 .0 ≡ keptSessions ((toldBy resumes) .keeps) (sessions) (objects) (frame′ .«session_id»)) × (ws-6·yes·15 .1 .0 ≡ keptObjects ((toldBy resumes) .keeps) (sessions) (objects) (frame′ .«session_id»)))) (λ e. (refl, (e .0, e .1)))) (λ _. (and-then ! (load ! (from ! (stop !)) (look ! 15 refl)) (and-then ! (load ! (from ! (stop !)) (look ! 11 refl)) (and-then ! (load ! (from ! (stop !)) (look ! 51 refl)) (and-then ! (load ! (from ! (fld ! refl (stop !))) (look-in ! 47 (sub ! 0 refl (whole !)))) (no-more !)))))) (λ ws-6·yes·15 said-6·yes·15 is-6·yes·15.
+        use1 W ((‵ (flft (ν-6·yes·15-sessions ∷ []) fullShare) ⊛ (‵ (flft (ν-6·yes·15-objects ∷ []) fullShare) ⊛ ‵ ftrue))) (id⊢ 𝓤 _) $ split ! $ move ! (1 ∷ []) $ split ! $ move ! (3 ∷ []) $ fsplit ! $ fsplit ! $ move ! (1 ∷ []) $
+        feqL ! (λ wlen-6·yes·15-0.
         move ! (1 ∷ []) $ fsplit ! $ fsplit ! $ move ! (1 ∷ []) $
-        feqL ! (λ wlen-6·yes·6-1.
+        feqL ! (λ wlen-6·yes·15-1.
         move ! (5 ∷ 7 ∷ 2 ∷ []) $
-        backs-mut ! tt (Array u64 5) b₁ o₁ sessions n₁ (refl) room₁ ν-6·yes·6-sessions δ-6·yes·6-sessions (ws-6·yes·6 .0) (keptSessions ((toldBy resumes) .keeps) (sessions) (objects) (frame′ .«session_id»)) wlen-6·yes·6-0 (said-6·yes·6 .0) (λ len-6·yes·6-sessions.
+        backs-mut ! tt (Array u64 6) b₁ o₁ sessions n₁ (refl) room₁ ν-6·yes·15-sessions δ-6·yes·15-sessions (ws-6·yes·15 .0) (keptSessions ((toldBy resumes) .keeps) (sessions) (objects) (frame′ .«session_id»)) wlen-6·yes·15-0 (said-6·yes·15 .0) (λ len-6·yes·15-sessions.
         move ! (4 ∷ 6 ∷ 2 ∷ []) $
-        backs-mut ! tt Object-t.the-row b₂ o₂ objects n₂ (refl) room₂ ν-6·yes·6-objects δ-6·yes·6-objects (ws-6·yes·6 .1 .0) (keptObjects ((toldBy resumes) .keeps) (sessions) (objects) (frame′ .«session_id»)) wlen-6·yes·6-1 (said-6·yes·6 .1) (λ len-6·yes·6-objects.
+        backs-mut ! tt Object-t.the-row b₃ o₃ objects n₃ (refl) room₃ ν-6·yes·15-objects δ-6·yes·15-objects (ws-6·yes·15 .1 .0) (keptObjects ((toldBy resumes) .keeps) (sessions) (objects) (frame′ .«session_id»)) wlen-6·yes·15-1 (said-6·yes·15 .1) (λ len-6·yes·15-objects.
         move ! (4 ∷ []) $ drop ! $ move ! (4 ∷ []) $ drop ! $
-        land ! (from ! (stop !)) (init ! 20 refl (unit-p .typed 𝓤 H A W tt is-6·yes·6)) $ move ! (2 ∷ 3 ∷ 0 ∷ 1 ∷ 4 ∷ 5 ∷ 6 ∷ 7 ∷ 8 ∷ 9 ∷ 10 ∷ 11 ∷ 12 ∷ 13 ∷ 14 ∷ 15 ∷ 16 ∷ 17 ∷ 18 ∷ 19 ∷ 20 ∷ 21 ∷ 22 ∷ 23 ∷ 24 ∷ 25 ∷ 26 ∷ 27 ∷ 28 ∷ 29 ∷ 30 ∷ 31 ∷ 32 ∷ 33 ∷ 34 ∷ 35 ∷ 36 ∷ 37 ∷ 38 ∷ 39 ∷ 40 ∷ 41 ∷ 42 ∷ 43 ∷ 44 ∷ 45 ∷ 46 ∷ 47 ∷ 48 ∷ 49 ∷ []) $
-        part-6·yes·7-0 is-4 is-5 c-6 is-6·yes·1 len-6·yes·6-sessions len-6·yes·6-objects is-6·yes·6)))))))
+        land ! (from ! (stop !)) (init ! 20 refl (unit-p .typed 𝓤 H A W tt is-6·yes·15)) $ move ! (2 ∷ 3 ∷ 4 ∷ 5 ∷ 0 ∷ 1 ∷ 6 ∷ 7 ∷ 8 ∷ 9 ∷ 10 ∷ 11 ∷ 12 ∷ 13 ∷ 14 ∷ 15 ∷ 16 ∷ 17 ∷ 18 ∷ 19 ∷ 20 ∷ 21 ∷ 22 ∷ 23 ∷ 24 ∷ 25 ∷ 26 ∷ 27 ∷ 28 ∷ 29 ∷ 30 ∷ 31 ∷ 32 ∷ 33 ∷ 34 ∷ 35 ∷ 36 ∷ 37 ∷ 38 ∷ 39 ∷ 40 ∷ 41 ∷ 42 ∷ 43 ∷ 44 ∷ 45 ∷ 46 ∷ 47 ∷ 48 ∷ 49 ∷ 50 ∷ 51 ∷ 52 ∷ 53 ∷ 54 ∷ 55 ∷ 56 ∷ 57 ∷ 58 ∷ 59 ∷ 60 ∷ 61 ∷ 62 ∷ 63 ∷ 64 ∷ 65 ∷ 66 ∷ 67 ∷ 68 ∷ 69 ∷ 70 ∷ 71 ∷ []) $
+        part-6·yes·16-0 is-4 is-5 c-6 is-6·yes·1 asks-6·yes·10 len-6·yes·10-streams len-6·yes·10-held len-6·yes·10-out is-6·yes·10 len-6·yes·15-sessions len-6·yes·15-objects is-6·yes·15)))))))
 
-    part-6-0 : (is-4 : Is (Got-p .row) (gotOf (sessions) (frame′ .«session_id»)) (Got-p .val (gotOf (sessions) (frame′ .«session_id»)) ∷ [])) → (is-5 : Is (bool-p .row) (answersNow resumes (gotOf (sessions) (frame′ .«session_id»))) (bool-p .val (answersNow resumes (gotOf (sessions) (frame′ .«session_id»))) ∷ [])) → Sq W (‵ (MutSlice (named 0) κ₁ (Array u64 5) .own (at-list b₁ o₁ γ₁ sessions) (sliceVal (b₁, o₁) n₁ ∷ [])) ∷ ‵ (flft κ₁ q₁) ∷ ‵ (MutSlice (named 0) κ₂ Object-t.the-row .own (at-list b₂ o₂ γ₂ objects) (sliceVal (b₂, o₂) n₂ ∷ [])) ∷ ‵ (flft κ₂ q₂) ∷ ‵ (MutSlice (named 0) κ₃ u8 .own (at-list b₃ o₃ γ₃ out) (sliceVal (b₃, o₃) n₃ ∷ [])) ∷ ‵ (flft κ₃ q₃) ∷ ‵ (ShrSlice (named 0) κ₄ u8 .own (at-list b₄ o₄ γ₄ sample) (sliceVal (b₄, o₄) n₄ ∷ [])) ∷ ‵ (flft κ₄ q₄) ∷ free 𝓤 (sliceTy (tyRef erased mut (pointee (u8 .written)))) l₂₀ (free 𝓤 (tyRef erased mut (pointee (u8 .written))) l₁₉ (free 𝓤 (sliceTy (tyRef erased mut (pointee (Object-t.the-row .written)))) l₁₈ (free 𝓤 (tyRef erased mut (pointee (Object-t.the-row .written))) l₁₇ (free 𝓤 (sliceTy (tyRef erased mut (pointee ((Array u64 5) .written)))) l₁₆ (free 𝓤 (tyRef erased mut (pointee ((Array u64 5) .written))) l₁₅ (free 𝓤 tyUnit l₁₄ (free 𝓤 (tyInt w64) l₁₃ (full 𝓤 tyBool l₁₂ (bool-p .val (answersNow resumes (gotOf (sessions) (frame′ .«session_id»)))) (full 𝓤 (sliceTy (tyRef erased imm (pointee ((Array u64 5) .written)))) l₁₁ (sliceVal (b₁, o₁) n₁) (full 𝓤 (tyRef erased imm (pointee ((Array u64 5) .written))) l₁₀ (vptr b₁ o₁) (free 𝓤 Told-l.mir l₉ (full 𝓤 Got-l.mir l₈ (Got-p .val (gotOf (sessions) (frame′ .«session_id»))) (full 𝓤 (tyInt w8) l₇ (u8-p .val (frame′ .«session_id»)) (full 𝓤 Resumes-l.mir l₆ (Resumes-p .val resumes) (full 𝓤 Frame-l.mir l₅ (Frame-p .val frame′) (full 𝓤 (sliceTy (tyRef (named 3) imm (pointee (u8 .written)))) l₄ (sliceVal (b₄, o₄) n₄) (full 𝓤 (sliceTy (tyRef (named 2) mut (pointee (u8 .written)))) l₃ (sliceVal (b₃, o₃) n₃) (full 𝓤 (sliceTy (tyRef (named 1) mut (pointee (Object-t.the-row .written)))) l₂ (sliceVal (b₂, o₂) n₂) (full 𝓤 (sliceTy (tyRef (named 0) mut (pointee ((Array u64 5) .written)))) l₁ (sliceVal (b₁, o₁) n₁) (free 𝓤 (tyInt w64) l₀ ([])))))))))))))))))))))) (runs C Λ En mir.t-6 (atRet En Post))
+    part-6·yes·2-0 : (is-4 : Is (Got-p .row) (gotOf (sessions) (frame′ .«session_id»)) (Got-p .val (gotOf (sessions) (frame′ .«session_id»)) ∷ [])) → (is-5 : Is (bool-p .row) (answersNow resumes (gotOf (sessions) (frame′ .«session_id»))) (bool-p .val (answersNow resumes (gotOf (sessions) (frame′ .«session_id»))) ∷ [])) → (c-6 : answersNow resumes (gotOf (sessions) (frame′ .«session_id»)) ≡ true) → (is-6·yes·1 : Is (Told-p .row) (toldBy resumes) (Told-p .val (toldBy resumes) ∷ [])) → Sq W (‵ (MutSlice (named 0) κ₁ (Array u64 6) .own (at-list b₁ o₁ γ₁ sessions) (sliceVal (b₁, o₁) n₁ ∷ [])) ∷ ‵ (flft κ₁ q₁) ∷ ‵ (MutSlice (named 0) κ₂ (Array u16 35) .own (at-list b₂ o₂ γ₂ streams) (sliceVal (b₂, o₂) n₂ ∷ [])) ∷ ‵ (flft κ₂ q₂) ∷ ‵ (MutSlice (named 0) κ₃ Object-t.the-row .own (at-list b₃ o₃ γ₃ objects) (sliceVal (b₃, o₃) n₃ ∷ [])) ∷ ‵ (flft κ₃ q₃) ∷ ‵ (MutSlice (named 0) κ₄ u8 .own (at-list b₄ o₄ γ₄ held) (sliceVal (b₄, o₄) n₄ ∷ [])) ∷ ‵ (flft κ₄ q₄) ∷ ‵ (MutSlice (named 0) κ₅ u8 .own (at-list b₅ o₅ γ₅ out) (sliceVal (b₅, o₅) n₅ ∷ [])) ∷ ‵ (flft κ₅ q₅) ∷ ‵ (ShrSlice (named 0) κ₆ u8 .own (at-list b₆ o₆ γ₆ sample) (sliceVal (b₆, o₆) n₆ ∷ [])) ∷ ‵ (flft κ₆ q₆) ∷ free 𝓤 (sliceTy (tyRef erased mut (pointee (Object-t.the-row .written)))) l₂₉ (free 𝓤 (tyRef erased mut (pointee (Object-t.the-row .written))) l₂₈ (free 𝓤 (sliceTy (tyRef erased mut (pointee ((Array u64 6) .written)))) l₂₇ (free 𝓤 (tyRef erased mut (pointee ((Array u64 6) .written))) l₂₆ (free 𝓤 tyUnit l₂₅ (free 𝓤 (sliceTy (tyRef erased mut (pointee (u8 .written)))) l₂₄ (free 𝓤 (tyRef erased mut (pointee (u8 .written))) l₂₃ (free 𝓤 (sliceTy (tyRef erased mut (pointee (u8 .written)))) l₂₂ (free 𝓤 (tyRef erased mut (pointee (u8 .written))) l₂₁ (free 𝓤 (sliceTy (tyRef erased mut (pointee ((Array u16 35) .written)))) l₂₀ (free 𝓤 (tyRef erased mut (pointee ((Array u16 35) .written))) l₁₉ (free 𝓤 (sliceTy (tyRef erased imm (pointee ((Array u64 6) .written)))) l₁₈ (free 𝓤 (tyRef erased imm (pointee ((Array u64 6) .written))) l₁₇ (free 𝓤 (tyInt w64) l₁₆ (full 𝓤 tyBool l₁₅ (bool-p .val (answersNow resumes (gotOf (sessions) (frame′ .«session_id»)))) (full 𝓤 (sliceTy (tyRef erased imm (pointee ((Array u64 6) .written)))) l₁₄ (sliceVal (b₁, o₁) n₁) (full 𝓤 (tyRef erased imm (pointee ((Array u64 6) .written))) l₁₃ (vptr b₁ o₁) (free 𝓤 (tyInt w64) l₁₂ (full 𝓤 Told-l.mir l₁₁ (Told-p .val (toldBy resumes)) (full 𝓤 Got-l.mir l₁₀ (Got-p .val (gotOf (sessions) (frame′ .«session_id»))) (full 𝓤 (tyInt w8) l₉ (u8-p .val (frame′ .«session_id»)) (full 𝓤 Resumes-l.mir l₈ (Resumes-p .val resumes) (full 𝓤 Frame-l.mir l₇ (Frame-p .val frame′) (full 𝓤 (sliceTy (tyRef (named 5) imm (pointee (u8 .written)))) l₆ (sliceVal (b₆, o₆) n₆) (full 𝓤 (sliceTy (tyRef (named 4) mut (pointee (u8 .written)))) l₅ (sliceVal (b₅, o₅) n₅) (full 𝓤 (sliceTy (tyRef (named 3) mut (pointee (u8 .written)))) l₄ (sliceVal (b₄, o₄) n₄) (full 𝓤 (sliceTy (tyRef (named 2) mut (pointee (Object-t.the-row .written)))) l₃ (sliceVal (b₃, o₃) n₃) (full 𝓤 (sliceTy (tyRef (named 1) mut (pointee ((Array u16 35) .written)))) l₂ (sliceVal (b₂, o₂) n₂) (full 𝓤 (sliceTy (tyRef (named 0) mut (pointee ((Array u64 6) .written)))) l₁ (sliceVal (b₁, o₁) n₁) (free 𝓤 (tyInt w64) l₀ ([]))))))))))))))))))))))))))))))) (runs C Λ En (past 1 (yes-of (one mir.t-6))) (anyQ (afterSeq 𝓤 H (Wp 𝓤 H C Λ En mir.t-7 (atReturn 𝓤 H En Post)) (atReturn 𝓤 H En Post))))
+    part-6·yes·2-0 is-4 is-5 c-6 is-6·yes·1 =
+        assigns ! (addr ! (from ! (fld ! refl (hop ! (look-in ! 68 (sub ! 0 refl (whole !))) (stop !))))) (from ! (stop !)) (init ! 36 refl (tt, tt)) $
+        assigns ! (agg ! (and-then ! (load ! (from ! (stop !)) (look ! 36 refl)) (and-then ! (load ! (from ! (fld ! refl (stop !))) (look-in ! 68 (sub ! 1 refl (whole !)))) (no-more !)))) (from ! (stop !)) (init ! 34 refl (tt, (tt, (record { fits = room₁ .0 }, tt)))) $
+        assigns ! (addr ! (from ! (fld ! refl (hop ! (look-in ! 66 (sub ! 0 refl (whole !))) (stop !))))) (from ! (stop !)) (init ! 32 refl (tt, tt)) $
+        assigns ! (agg ! (and-then ! (load ! (from ! (stop !)) (look ! 32 refl)) (and-then ! (load ! (from ! (fld ! refl (stop !))) (look-in ! 66 (sub ! 1 refl (whole !)))) (no-more !)))) (from ! (stop !)) (init ! 30 refl (tt, (tt, (record { fits = room₂ .0 }, tt)))) $
+        assigns ! (addr ! (from ! (fld ! refl (hop ! (look-in ! 62 (sub ! 0 refl (whole !))) (stop !))))) (from ! (stop !)) (init ! 28 refl (tt, tt)) $
+        assigns ! (agg ! (and-then ! (load ! (from ! (stop !)) (look ! 28 refl)) (and-then ! (load ! (from ! (fld ! refl (stop !))) (look-in ! 62 (sub ! 1 refl (whole !)))) (no-more !)))) (from ! (stop !)) (init ! 26 refl (tt, (tt, (record { fits = room₄ .0 }, tt)))) $
+        assigns ! (addr ! (from ! (fld ! refl (hop ! (look-in ! 60 (sub ! 0 refl (whole !))) (stop !))))) (from ! (stop !)) (init ! 24 refl (tt, tt)) $
+        assigns ! (agg ! (and-then ! (load ! (from ! (stop !)) (look ! 24 refl)) (and-then ! (load ! (from ! (fld ! refl (stop !))) (look-in ! 60 (sub ! 1 refl (whole !)))) (no-more !)))) (from ! (stop !)) (init ! 22 refl (tt, (tt, (record { fits = room₅ .0 }, tt)))) $
+        knows ! (saysFits ((toldBy resumes) .says) (frame′ .«stream_id») (length (sample)) ≡ true) (says-fit resumes (frame′ .«stream_id») (length sample) within) (λ asks-6·yes·10.
+        -- 6.yes.10: agent::answers::say
+        lends-view ! tt (Array u64 6) b₁ o₁ sessions n₁ (refl) (λ ν-6·yes·10-sessions δ-6·yes·10-sessions.
+        move ! (3 ∷ 4 ∷ []) $
+        lends-mut ! tt (Array u16 35) b₂ o₂ streams n₂ (refl) (λ ν-6·yes·10-streams δ-6·yes·10-streams.
+        move ! (8 ∷ 9 ∷ []) $
+        lends-mut ! tt u8 b₄ o₄ held n₄ (refl) (λ ν-6·yes·10-held δ-6·yes·10-held.
+        move ! (11 ∷ 12 ∷ []) $
+        lends-mut ! tt u8 b₅ o₅ out n₅ (refl) (λ ν-6·yes·10-out δ-6·yes·10-out.
+        move ! (14 ∷ 15 ∷ []) $
+        copies-shr ! u8 b₆ o₆ sample n₆ $ nothing ! $ move ! (1 ∷ 0 ∷ []) $ join ! $ move ! (3 ∷ 0 ∷ []) $ join ! $ move ! (5 ∷ 0 ∷ []) $ join ! $ move ! (7 ∷ 0 ∷ []) $ join ! $ move ! (9 ∷ 0 ∷ []) $ join ! $
+        use1 W (raw (toks 𝓤 A 5 (((ν-6·yes·10-sessions ∷ []), ((ν-6·yes·10-streams ∷ []), ((ν-6·yes·10-held ∷ []), ((ν-6·yes·10-out ∷ []), (κ₆, tt)))))) ((fullShare, (fullShare, (fullShare, (fullShare, (q₆, tt)))))))) (id⊢ 𝓤 _) $ nothing ! $
+        owned ! (Says-p .row) (Is (Says-p .row)) (Says-p .makes 𝓤 H A W) ((toldBy resumes) .says) (Says-p .val ((toldBy resumes) .says) ∷ []) (LL.owed Told-t.the-type Told-l.the-laws (toldBy resumes) _ is-6·yes·1 .1 .0) $ fjoin ! $
+        owned ! (ObjectNumber-p .row) (Is (ObjectNumber-p .row)) (ObjectNumber-p .makes 𝓤 H A W) ((toldBy resumes) .number) (ObjectNumber-p .val ((toldBy resumes) .number) ∷ []) (LL.owed Told-t.the-type Told-l.the-laws (toldBy resumes) _ is-6·yes·1 .1 .1 .0) $ fjoin ! $
+        owned ! (Frame-p .row) (Is (Frame-p .row)) (Frame-p .makes 𝓤 H A W) frame′ (Frame-p .val frame′ ∷ []) frame′-is $ fjoin ! $ move ! (2 ∷ 0 ∷ []) $ fjoin ! $ move ! (3 ∷ 0 ∷ []) $ fjoin ! $ move ! (4 ∷ 0 ∷ []) $ fjoin ! $ move ! (5 ∷ 0 ∷ []) $ fjoin ! $ move ! (6 ∷ 0 ∷ []) $ fjoin ! $ move ! (1 ∷ 0 ∷ []) $
+        calls-any ! fm 5 [] (answers-say.signature .params) (answers-say.ended .kept) u64-p (answers-say.clauses 𝓤 H A mem run) known-answers-say ((ν-6·yes·10-sessions ∷ []), ((ν-6·yes·10-streams ∷ []), ((ν-6·yes·10-held ∷ []), ((ν-6·yes·10-out ∷ []), (κ₆, tt))))) (fullShare, (fullShare, (fullShare, (fullShare, (q₆, tt))))) tt (at-list b₁ o₁ δ-6·yes·10-sessions sessions, (at-list b₂ o₂ δ-6·yes·10-streams streams, (at-list b₄ o₄ δ-6·yes·10-held held, (at-list b₅ o₅ δ-6·yes·10-out out, (at-list b₆ o₆ γ₆ sample, (frame′, ((toldBy resumes) .number, ((toldBy resumes) .says, tt)))))))) (sliceVal (b₁, o₁) n₁ ∷ [], (sliceVal (b₂, o₂) n₂ ∷ [], (sliceVal (b₄, o₄) n₄ ∷ [], (sliceVal (b₅, o₅) n₅ ∷ [], (sliceVal (b₆, o₆) n₆ ∷ [], (Frame-p .val frame′ ∷ [], (ObjectNumber-p .val ((toldBy resumes) .number) ∷ [], (Says-p .val ((toldBy resumes) .says) ∷ [], tt)))))))) tt (length (saysBytes ((toldBy resumes) .says) frame′ (sequenceOf (sessions) (streams) frame′) ((toldBy resumes) .number) (sample))) (λ ws-6·yes·10. (ws-6·yes·10 .1 .0 ≡ saysStreams ((toldBy resumes) .says) frame′ (sessions) (streams) (held) (saysBytes ((toldBy resumes) .says) frame′ (sequenceOf (sessions) (streams) frame′) ((toldBy resumes) .number) (sample))) × (ws-6·yes·10 .1 .1 .0 ≡ saysHeld ((toldBy resumes) .says) frame′ (sessions) (streams) (held) (saysBytes ((toldBy resumes) .says) frame′ (sequenceOf (sessions) (streams) frame′) ((toldBy resumes) .number) (sample))) × (ws-6·yes·10 .1 .1 .1 .0 ≡ putBytes (out) 0 (saysBytes ((toldBy resumes) .says) frame′ (sequenceOf (sessions) (streams) frame′) ((toldBy resumes) .number) (sample)))) (factI 𝓤 (saysFits ((toldBy resumes) .says) (frame′ .«stream_id») (length (sample)) ≡ true) _ asks-6·yes·10) (λ r ws-6·yes·10. fact-mono 𝓤 ((r ≡ length (saysBytes ((toldBy resumes) .says) frame′ (sequenceOf (sessions) (streams) frame′) ((toldBy resumes) .number) (sample))) × ((ws-6·yes·10 .1 .0) ≡ saysStreams ((toldBy resumes) .says) frame′ (sessions) (streams) (held) (saysBytes ((toldBy resumes) .says) frame′ (sequenceOf (sessions) (streams) frame′) ((toldBy resumes) .number) (sample))) × ((ws-6·yes·10 .1 .1 .0) ≡ saysHeld ((toldBy resumes) .says) frame′ (sessions) (streams) (held) (saysBytes ((toldBy resumes) .says) frame′ (sequenceOf (sessions) (streams) frame′) ((toldBy resumes) .number) (sample))) × ((ws-6·yes·10 .1 .1 .1 .0) ≡ putBytes (out) 0 (saysBytes ((toldBy resumes) .says) frame′ (sequenceOf (sessions) (streams) frame′) ((toldBy resumes) .number) (sample)))) ((r ≡ (length (saysBytes ((toldBy resumes) .says) frame′ (sequenceOf (sessions) (streams) frame′) ((toldBy resumes) .number) (sample)))) × ((ws-6·yes·10 .1 .0 ≡ saysStreams ((toldBy resumes) .says) frame′ (sessions) (streams) (held) (saysBytes ((toldBy resumes) .says) frame′ (sequenceOf (sessions) (streams) frame′) ((toldBy resumes) .number) (sample))) × (ws-6·yes·10 .1 .1 .0 ≡ saysHeld ((toldBy resumes) .says) frame′ (sessions) (streams) (held) (saysBytes ((toldBy resumes) .says) frame′ (sequenceOf (sessions) (streams) frame′) ((toldBy resumes) .number) (sample))) × (ws-6·yes·10 .1 .1 .1 .0 ≡ putBytes (out) 0 (saysBytes ((toldBy resumes) .says) frame′ (sequenceOf (sessions) (streams) frame′) ((toldBy resumes) .number) (sample))))) (λ e. (e .0, (e .1, e .2, e .3)))) (λ _. (and-then ! (load ! (from ! (stop !)) (look ! 30 refl)) (and-then ! (load ! (from ! (stop !)) (look ! 26 refl)) (and-then ! (load ! (from ! (stop !)) (look ! 22 refl)) (and-then ! (load ! (from ! (stop !)) (look ! 18 refl)) (and-then ! (load ! (from ! (stop !)) (look ! 54 refl)) (and-then ! (load ! (from ! (stop !)) (look ! 52 refl)) (and-then ! (load ! (from ! (fld ! refl (stop !))) (look-in ! 44 (sub ! 2 refl (whole !)))) (and-then ! (load ! (from ! (fld ! refl (stop !))) (look-in ! 44 (sub ! 1 refl (whole !)))) (no-more !)))))))))) (λ ws-6·yes·10 said-6·yes·10 is-6·yes·10.
+        use1 W ((‵ (flft (ν-6·yes·10-sessions ∷ []) fullShare) ⊛ (‵ (flft (ν-6·yes·10-streams ∷ []) fullShare) ⊛ (‵ (flft (ν-6·yes·10-held ∷ []) fullShare) ⊛ (‵ (flft (ν-6·yes·10-out ∷ []) fullShare) ⊛ (‵ (flft κ₆ q₆) ⊛ ‵ ftrue)))))) (id⊢ 𝓤 _) $ split ! $ move ! (1 ∷ []) $ split ! $ move ! (1 ∷ []) $ split ! $ move ! (1 ∷ []) $ split ! $ move ! (1 ∷ []) $ split ! $ move ! (6 ∷ []) $ fsplit ! $ move ! (1 ∷ []) $ fsplit ! $ fsplit ! $ move ! (1 ∷ []) $
+        feqL ! (λ wlen-6·yes·10-1.
+        move ! (1 ∷ []) $ fsplit ! $ fsplit ! $ move ! (1 ∷ []) $
+        feqL ! (λ wlen-6·yes·10-2.
+        move ! (1 ∷ []) $ fsplit ! $ fsplit ! $ move ! (1 ∷ []) $
+        feqL ! (λ wlen-6·yes·10-3.
+        move ! (1 ∷ []) $ fsplit ! $ move ! (11 ∷ 16 ∷ []) $
+        backs-view ! tt (Array u64 6) b₁ o₁ sessions n₁ (refl) ν-6·yes·10-sessions $ move ! (12 ∷ 16 ∷ 6 ∷ []) $
+        backs-mut ! tt (Array u16 35) b₂ o₂ streams n₂ (refl) room₂ ν-6·yes·10-streams δ-6·yes·10-streams (ws-6·yes·10 .1 .0) (saysStreams ((toldBy resumes) .says) frame′ (sessions) (streams) (held) (saysBytes ((toldBy resumes) .says) frame′ (sequenceOf (sessions) (streams) frame′) ((toldBy resumes) .number) (sample))) wlen-6·yes·10-1 (said-6·yes·10 .0) (λ len-6·yes·10-streams.
+        move ! (12 ∷ 15 ∷ 7 ∷ []) $
+        backs-mut ! tt u8 b₄ o₄ held n₄ (refl) room₄ ν-6·yes·10-held δ-6·yes·10-held (ws-6·yes·10 .1 .1 .0) (saysHeld ((toldBy resumes) .says) frame′ (sessions) (streams) (held) (saysBytes ((toldBy resumes) .says) frame′ (sequenceOf (sessions) (streams) frame′) ((toldBy resumes) .number) (sample))) wlen-6·yes·10-2 (said-6·yes·10 .1) (λ len-6·yes·10-held.
+        move ! (12 ∷ 14 ∷ 8 ∷ []) $
+        backs-mut ! tt u8 b₅ o₅ out n₅ (refl) room₅ ν-6·yes·10-out δ-6·yes·10-out (ws-6·yes·10 .1 .1 .1 .0) (putBytes (out) 0 (saysBytes ((toldBy resumes) .says) frame′ (sequenceOf (sessions) (streams) frame′) ((toldBy resumes) .number) (sample))) wlen-6·yes·10-3 (said-6·yes·10 .2) (λ len-6·yes·10-out.
+        move ! (8 ∷ []) $ drop ! $ move ! (8 ∷ []) $ drop ! $ move ! (8 ∷ []) $ drop ! $ move ! (9 ∷ []) $ drop ! $
+        land ! (from ! (stop !)) (init ! 46 refl (u64-p .typed 𝓤 H A W (length (saysBytes ((toldBy resumes) .says) frame′ (sequenceOf (sessions) (streams) frame′) ((toldBy resumes) .number) (sample))) is-6·yes·10)) $ move ! (6 ∷ 7 ∷ 4 ∷ 5 ∷ 10 ∷ 11 ∷ 2 ∷ 3 ∷ 0 ∷ 1 ∷ 9 ∷ 8 ∷ 12 ∷ 13 ∷ 14 ∷ 15 ∷ 16 ∷ 17 ∷ 18 ∷ 19 ∷ 20 ∷ 21 ∷ 22 ∷ 23 ∷ 24 ∷ 25 ∷ 26 ∷ 27 ∷ 28 ∷ 29 ∷ 30 ∷ 31 ∷ 32 ∷ 33 ∷ 34 ∷ 35 ∷ 36 ∷ 37 ∷ 38 ∷ 39 ∷ 40 ∷ 41 ∷ 42 ∷ 43 ∷ 44 ∷ 45 ∷ 46 ∷ 47 ∷ 48 ∷ 49 ∷ 50 ∷ 51 ∷ 52 ∷ 53 ∷ 54 ∷ 55 ∷ 56 ∷ 57 ∷ 58 ∷ 59 ∷ 60 ∷ 61 ∷ 62 ∷ 63 ∷ 64 ∷ 65 ∷ 66 ∷ 67 ∷ 68 ∷ 69 ∷ 70 ∷ 71 ∷ []) $
+        part-6·yes·11-0 is-4 is-5 c-6 is-6·yes·1 asks-6·yes·10 len-6·yes·10-streams len-6·yes·10-held len-6·yes·10-out is-6·yes·10))))))))))))
+
+    part-6-0 : (is-4 : Is (Got-p .row) (gotOf (sessions) (frame′ .«session_id»)) (Got-p .val (gotOf (sessions) (frame′ .«session_id»)) ∷ [])) → (is-5 : Is (bool-p .row) (answersNow resumes (gotOf (sessions) (frame′ .«session_id»))) (bool-p .val (answersNow resumes (gotOf (sessions) (frame′ .«session_id»))) ∷ [])) → Sq W (‵ (MutSlice (named 0) κ₁ (Array u64 6) .own (at-list b₁ o₁ γ₁ sessions) (sliceVal (b₁, o₁) n₁ ∷ [])) ∷ ‵ (flft κ₁ q₁) ∷ ‵ (MutSlice (named 0) κ₂ (Array u16 35) .own (at-list b₂ o₂ γ₂ streams) (sliceVal (b₂, o₂) n₂ ∷ [])) ∷ ‵ (flft κ₂ q₂) ∷ ‵ (MutSlice (named 0) κ₃ Object-t.the-row .own (at-list b₃ o₃ γ₃ objects) (sliceVal (b₃, o₃) n₃ ∷ [])) ∷ ‵ (flft κ₃ q₃) ∷ ‵ (MutSlice (named 0) κ₄ u8 .own (at-list b₄ o₄ γ₄ held) (sliceVal (b₄, o₄) n₄ ∷ [])) ∷ ‵ (flft κ₄ q₄) ∷ ‵ (MutSlice (named 0) κ₅ u8 .own (at-list b₅ o₅ γ₅ out) (sliceVal (b₅, o₅) n₅ ∷ [])) ∷ ‵ (flft κ₅ q₅) ∷ ‵ (ShrSlice (named 0) κ₆ u8 .own (at-list b₆ o₆ γ₆ sample) (sliceVal (b₆, o₆) n₆ ∷ [])) ∷ ‵ (flft κ₆ q₆) ∷ free 𝓤 (sliceTy (tyRef erased mut (pointee (Object-t.the-row .written)))) l₂₉ (free 𝓤 (tyRef erased mut (pointee (Object-t.the-row .written))) l₂₈ (free 𝓤 (sliceTy (tyRef erased mut (pointee ((Array u64 6) .written)))) l₂₇ (free 𝓤 (tyRef erased mut (pointee ((Array u64 6) .written))) l₂₆ (free 𝓤 tyUnit l₂₅ (free 𝓤 (sliceTy (tyRef erased mut (pointee (u8 .written)))) l₂₄ (free 𝓤 (tyRef erased mut (pointee (u8 .written))) l₂₃ (free 𝓤 (sliceTy (tyRef erased mut (pointee (u8 .written)))) l₂₂ (free 𝓤 (tyRef erased mut (pointee (u8 .written))) l₂₁ (free 𝓤 (sliceTy (tyRef erased mut (pointee ((Array u16 35) .written)))) l₂₀ (free 𝓤 (tyRef erased mut (pointee ((Array u16 35) .written))) l₁₉ (free 𝓤 (sliceTy (tyRef erased imm (pointee ((Array u64 6) .written)))) l₁₈ (free 𝓤 (tyRef erased imm (pointee ((Array u64 6) .written))) l₁₇ (free 𝓤 (tyInt w64) l₁₆ (full 𝓤 tyBool l₁₅ (bool-p .val (answersNow resumes (gotOf (sessions) (frame′ .«session_id»)))) (full 𝓤 (sliceTy (tyRef erased imm (pointee ((Array u64 6) .written)))) l₁₄ (sliceVal (b₁, o₁) n₁) (full 𝓤 (tyRef erased imm (pointee ((Array u64 6) .written))) l₁₃ (vptr b₁ o₁) (free 𝓤 (tyInt w64) l₁₂ (free 𝓤 Told-l.mir l₁₁ (full 𝓤 Got-l.mir l₁₀ (Got-p .val (gotOf (sessions) (frame′ .«session_id»))) (full 𝓤 (tyInt w8) l₉ (u8-p .val (frame′ .«session_id»)) (full 𝓤 Resumes-l.mir l₈ (Resumes-p .val resumes) (full 𝓤 Frame-l.mir l₇ (Frame-p .val frame′) (full 𝓤 (sliceTy (tyRef (named 5) imm (pointee (u8 .written)))) l₆ (sliceVal (b₆, o₆) n₆) (full 𝓤 (sliceTy (tyRef (named 4) mut (pointee (u8 .written)))) l₅ (sliceVal (b₅, o₅) n₅) (full 𝓤 (sliceTy (tyRef (named 3) mut (pointee (u8 .written)))) l₄ (sliceVal (b₄, o₄) n₄) (full 𝓤 (sliceTy (tyRef (named 2) mut (pointee (Object-t.the-row .written)))) l₃ (sliceVal (b₃, o₃) n₃) (full 𝓤 (sliceTy (tyRef (named 1) mut (pointee ((Array u16 35) .written)))) l₂ (sliceVal (b₂, o₂) n₂) (full 𝓤 (sliceTy (tyRef (named 0) mut (pointee ((Array u64 6) .written)))) l₁ (sliceVal (b₁, o₁) n₁) (free 𝓤 (tyInt w64) l₀ ([]))))))))))))))))))))))))))))))) (runs C Λ En mir.t-6 (atRet En Post))
     part-6-0 is-4 is-5 =
         first ! $
-        branches ! (load ! (from ! (stop !)) (look ! 24 refl))
+        branches ! (load ! (from ! (stop !)) (look ! 40 refl))
         (λ h-6.
         knows ! (answersNow resumes (gotOf (sessions) (frame′ .«session_id»)) ≡ true) (holds (answersNow resumes (gotOf (sessions) (frame′ .«session_id»))) h-6) (λ c-6.
         -- 6.yes.1: agent::answers::told_by
         nothing ! $
         use1 W (raw (toks 𝓤 A 0 (tt) (tt))) (id⊢ 𝓤 _) $ nothing ! $
         owned ! (Resumes-p .row) (Is (Resumes-p .row)) (Resumes-p .makes 𝓤 H A W) resumes (Resumes-p .val resumes ∷ []) resumes-is $ fjoin ! $ move ! (1 ∷ 0 ∷ []) $
-        calls-any ! fm 0 [] (answers-told-by.signature .params) (answers-told-by.ended .kept) Told-p (answers-told-by.clauses 𝓤 H A mem run) known-answers-told-by tt tt tt (resumes, tt) (Resumes-p .val resumes ∷ [], tt) tt (toldBy resumes) (λ ws-6·yes·1. Unit {0}) (id⊢ 𝓤 _) (λ r ws-6·yes·1. fact-mono 𝓤 (r ≡ toldBy resumes) ((r ≡ (toldBy resumes)) × (Unit {0})) (λ e. (e, tt))) (λ _. (and-then ! (load ! (from ! (stop !)) (look ! 37 refl)) (no-more !))) (λ ws-6·yes·1 said-6·yes·1 is-6·yes·1.
+        calls-any ! fm 0 [] (answers-told-by.signature .params) (answers-told-by.ended .kept) Told-p (answers-told-by.clauses 𝓤 H A mem run) known-answers-told-by tt tt tt (resumes, tt) (Resumes-p .val resumes ∷ [], tt) tt (toldBy resumes) (λ ws-6·yes·1. Unit {0}) (id⊢ 𝓤 _) (λ r ws-6·yes·1. fact-mono 𝓤 (r ≡ toldBy resumes) ((r ≡ (toldBy resumes)) × (Unit {0})) (λ e. (e, tt))) (λ _. (and-then ! (load ! (from ! (stop !)) (look ! 55 refl)) (no-more !))) (λ ws-6·yes·1 said-6·yes·1 is-6·yes·1.
         drop ! $ drop ! $
-        land ! (from ! (stop !)) (init ! 30 refl (Told-p .typed 𝓤 H A W (toldBy resumes) is-6·yes·1)) $
+        land ! (from ! (stop !)) (init ! 48 refl (Told-p .typed 𝓤 H A W (toldBy resumes) is-6·yes·1)) $
         part-6·yes·2-0 is-4 is-5 c-6 is-6·yes·1)))
         (λ h-6.
         knows ! (answersNow resumes (gotOf (sessions) (frame′ .«session_id»)) ≡ false) (fails (answersNow resumes (gotOf (sessions) (frame′ .«session_id»))) (T-not (answersNow resumes (gotOf (sessions) (frame′ .«session_id»))) h-6)) (λ c-6.
-        assigns-last ! (of-opd ! (lit ! tt)) (from ! (stop !)) (init ! 22 refl (u64-p .typed 𝓤 H A W 0 ((refl, lit< tt)))) $
+        assigns-last ! (of-opd ! (lit ! tt)) (from ! (stop !)) (init ! 38 refl (u64-p .typed 𝓤 H A W 0 ((refl, lit< tt)))) $
         exec ! C Λ En mir.t-7 (atRet En Post) $
-        assigns ! (of-opd ! (load ! (from ! (stop !)) (look ! 22 refl))) (from ! (stop !)) (init ! 48 refl (u64-p .typed 𝓤 H A W 0 ((refl, lit< tt)))) $
-        returns ! (look ! 48 refl) $ forget ! 22 refl $ forget ! 24 refl $ forget ! 26 refl $ forget ! 28 refl $ forget ! 32 refl $ forget ! 34 refl $
-        frees-all 0 sessions objects out (exits 0 sessions objects out (begun-not sessions objects out frame′ sample resumes c-6) ((refl, lit< tt)) refl refl refl)))
+        assigns ! (of-opd ! (load ! (from ! (stop !)) (look ! 38 refl))) (from ! (stop !)) (init ! 70 refl (u64-p .typed 𝓤 H A W 0 ((refl, lit< tt)))) $
+        returns ! (look ! 70 refl) $ forget ! 38 refl $ forget ! 40 refl $ forget ! 42 refl $ forget ! 44 refl $ forget ! 50 refl $ forget ! 52 refl $
+        frees-all 0 sessions streams objects held out (exits 0 sessions streams objects held out (begun-not sessions streams objects held out frame′ sample resumes c-6) ((refl, lit< tt)) refl refl refl refl refl)))
 
-    part-5-0 : (is-4 : Is (Got-p .row) (gotOf (sessions) (frame′ .«session_id»)) (Got-p .val (gotOf (sessions) (frame′ .«session_id»)) ∷ [])) → Sq W (‵ (MutSlice (named 0) κ₁ (Array u64 5) .own (at-list b₁ o₁ γ₁ sessions) (sliceVal (b₁, o₁) n₁ ∷ [])) ∷ ‵ (flft κ₁ q₁) ∷ ‵ (MutSlice (named 0) κ₂ Object-t.the-row .own (at-list b₂ o₂ γ₂ objects) (sliceVal (b₂, o₂) n₂ ∷ [])) ∷ ‵ (flft κ₂ q₂) ∷ ‵ (MutSlice (named 0) κ₃ u8 .own (at-list b₃ o₃ γ₃ out) (sliceVal (b₃, o₃) n₃ ∷ [])) ∷ ‵ (flft κ₃ q₃) ∷ ‵ (ShrSlice (named 0) κ₄ u8 .own (at-list b₄ o₄ γ₄ sample) (sliceVal (b₄, o₄) n₄ ∷ [])) ∷ ‵ (flft κ₄ q₄) ∷ free 𝓤 (sliceTy (tyRef erased mut (pointee (u8 .written)))) l₂₀ (free 𝓤 (tyRef erased mut (pointee (u8 .written))) l₁₉ (free 𝓤 (sliceTy (tyRef erased mut (pointee (Object-t.the-row .written)))) l₁₈ (free 𝓤 (tyRef erased mut (pointee (Object-t.the-row .written))) l₁₇ (free 𝓤 (sliceTy (tyRef erased mut (pointee ((Array u64 5) .written)))) l₁₆ (free 𝓤 (tyRef erased mut (pointee ((Array u64 5) .written))) l₁₅ (free 𝓤 tyUnit l₁₄ (free 𝓤 (tyInt w64) l₁₃ (free 𝓤 tyBool l₁₂ (full 𝓤 (sliceTy (tyRef erased imm (pointee ((Array u64 5) .written)))) l₁₁ (sliceVal (b₁, o₁) n₁) (full 𝓤 (tyRef erased imm (pointee ((Array u64 5) .written))) l₁₀ (vptr b₁ o₁) (free 𝓤 Told-l.mir l₉ (full 𝓤 Got-l.mir l₈ (Got-p .val (gotOf (sessions) (frame′ .«session_id»))) (full 𝓤 (tyInt w8) l₇ (u8-p .val (frame′ .«session_id»)) (full 𝓤 Resumes-l.mir l₆ (Resumes-p .val resumes) (full 𝓤 Frame-l.mir l₅ (Frame-p .val frame′) (full 𝓤 (sliceTy (tyRef (named 3) imm (pointee (u8 .written)))) l₄ (sliceVal (b₄, o₄) n₄) (full 𝓤 (sliceTy (tyRef (named 2) mut (pointee (u8 .written)))) l₃ (sliceVal (b₃, o₃) n₃) (full 𝓤 (sliceTy (tyRef (named 1) mut (pointee (Object-t.the-row .written)))) l₂ (sliceVal (b₂, o₂) n₂) (full 𝓤 (sliceTy (tyRef (named 0) mut (pointee ((Array u64 5) .written)))) l₁ (sliceVal (b₁, o₁) n₁) (free 𝓤 (tyInt w64) l₀ ([])))))))))))))))))))))) (runs C Λ En mir.t-5 (atRet En Post))
+    part-5-0 : (is-4 : Is (Got-p .row) (gotOf (sessions) (frame′ .«session_id»)) (Got-p .val (gotOf (sessions) (frame′ .«session_id»)) ∷ [])) → Sq W (‵ (MutSlice (named 0) κ₁ (Array u64 6) .own (at-list b₁ o₁ γ₁ sessions) (sliceVal (b₁, o₁) n₁ ∷ [])) ∷ ‵ (flft κ₁ q₁) ∷ ‵ (MutSlice (named 0) κ₂ (Array u16 35) .own (at-list b₂ o₂ γ₂ streams) (sliceVal (b₂, o₂) n₂ ∷ [])) ∷ ‵ (flft κ₂ q₂) ∷ ‵ (MutSlice (named 0) κ₃ Object-t.the-row .own (at-list b₃ o₃ γ₃ objects) (sliceVal (b₃, o₃) n₃ ∷ [])) ∷ ‵ (flft κ₃ q₃) ∷ ‵ (MutSlice (named 0) κ₄ u8 .own (at-list b₄ o₄ γ₄ held) (sliceVal (b₄, o₄) n₄ ∷ [])) ∷ ‵ (flft κ₄ q₄) ∷ ‵ (MutSlice (named 0) κ₅ u8 .own (at-list b₅ o₅ γ₅ out) (sliceVal (b₅, o₅) n₅ ∷ [])) ∷ ‵ (flft κ₅ q₅) ∷ ‵ (ShrSlice (named 0) κ₆ u8 .own (at-list b₆ o₆ γ₆ sample) (sliceVal (b₆, o₆) n₆ ∷ [])) ∷ ‵ (flft κ₆ q₆) ∷ free 𝓤 (sliceTy (tyRef erased mut (pointee (Object-t.the-row .written)))) l₂₉ (free 𝓤 (tyRef erased mut (pointee (Object-t.the-row .written))) l₂₈ (free 𝓤 (sliceTy (tyRef erased mut (pointee ((Array u64 6) .written)))) l₂₇ (free 𝓤 (tyRef erased mut (pointee ((Array u64 6) .written))) l₂₆ (free 𝓤 tyUnit l₂₅ (free 𝓤 (sliceTy (tyRef erased mut (pointee (u8 .written)))) l₂₄ (free 𝓤 (tyRef erased mut (pointee (u8 .written))) l₂₃ (free 𝓤 (sliceTy (tyRef erased mut (pointee (u8 .written)))) l₂₂ (free 𝓤 (tyRef erased mut (pointee (u8 .written))) l₂₁ (free 𝓤 (sliceTy (tyRef erased mut (pointee ((Array u16 35) .written)))) l₂₀ (free 𝓤 (tyRef erased mut (pointee ((Array u16 35) .written))) l₁₉ (free 𝓤 (sliceTy (tyRef erased imm (pointee ((Array u64 6) .written)))) l₁₈ (free 𝓤 (tyRef erased imm (pointee ((Array u64 6) .written))) l₁₇ (free 𝓤 (tyInt w64) l₁₆ (free 𝓤 tyBool l₁₅ (full 𝓤 (sliceTy (tyRef erased imm (pointee ((Array u64 6) .written)))) l₁₄ (sliceVal (b₁, o₁) n₁) (full 𝓤 (tyRef erased imm (pointee ((Array u64 6) .written))) l₁₃ (vptr b₁ o₁) (free 𝓤 (tyInt w64) l₁₂ (free 𝓤 Told-l.mir l₁₁ (full 𝓤 Got-l.mir l₁₀ (Got-p .val (gotOf (sessions) (frame′ .«session_id»))) (full 𝓤 (tyInt w8) l₉ (u8-p .val (frame′ .«session_id»)) (full 𝓤 Resumes-l.mir l₈ (Resumes-p .val resumes) (full 𝓤 Frame-l.mir l₇ (Frame-p .val frame′) (full 𝓤 (sliceTy (tyRef (named 5) imm (pointee (u8 .written)))) l₆ (sliceVal (b₆, o₆) n₆) (full 𝓤 (sliceTy (tyRef (named 4) mut (pointee (u8 .written)))) l₅ (sliceVal (b₅, o₅) n₅) (full 𝓤 (sliceTy (tyRef (named 3) mut (pointee (u8 .written)))) l₄ (sliceVal (b₄, o₄) n₄) (full 𝓤 (sliceTy (tyRef (named 2) mut (pointee (Object-t.the-row .written)))) l₃ (sliceVal (b₃, o₃) n₃) (full 𝓤 (sliceTy (tyRef (named 1) mut (pointee ((Array u16 35) .written)))) l₂ (sliceVal (b₂, o₂) n₂) (full 𝓤 (sliceTy (tyRef (named 0) mut (pointee ((Array u64 6) .written)))) l₁ (sliceVal (b₁, o₁) n₁) (free 𝓤 (tyInt w64) l₀ ([]))))))))))))))))))))))))))))))) (runs C Λ En mir.t-5 (atRet En Post))
     part-5-0 is-4 =
         -- 5: agent::answers::answers_now
         nothing ! $
         use1 W (raw (toks 𝓤 A 0 (tt) (tt))) (id⊢ 𝓤 _) $ nothing ! $
         owned ! (Got-p .row) (Is (Got-p .row)) (Got-p .makes 𝓤 H A W) (gotOf (sessions) (frame′ .«session_id»)) (Got-p .val (gotOf (sessions) (frame′ .«session_id»)) ∷ []) is-4 $ fjoin ! $
         owned ! (Resumes-p .row) (Is (Resumes-p .row)) (Resumes-p .makes 𝓤 H A W) resumes (Resumes-p .val resumes ∷ []) resumes-is $ fjoin ! $ move ! (1 ∷ 0 ∷ []) $
-        calls-any ! fm 0 [] (answers-answers-now.signature .params) (answers-answers-now.ended .kept) bool-p (answers-answers-now.clauses 𝓤 H A mem run) known-answers-answers-now tt tt tt (resumes, (gotOf (sessions) (frame′ .«session_id»), tt)) (Resumes-p .val resumes ∷ [], (Got-p .val (gotOf (sessions) (frame′ .«session_id»)) ∷ [], tt)) tt (answersNow resumes (gotOf (sessions) (frame′ .«session_id»))) (λ ws-5. Unit {0}) (id⊢ 𝓤 _) (λ r ws-5. fact-mono 𝓤 (r ≡ answersNow resumes (gotOf (sessions) (frame′ .«session_id»))) ((r ≡ (answersNow resumes (gotOf (sessions) (frame′ .«session_id»)))) × (Unit {0})) (λ e. (e, tt))) (λ _. (and-then ! (load ! (from ! (stop !)) (look ! 37 refl)) (and-then ! (load ! (from ! (stop !)) (look ! 33 refl)) (no-more !)))) (λ ws-5 said-5 is-5.
+        calls-any ! fm 0 [] (answers-answers-now.signature .params) (answers-answers-now.ended .kept) bool-p (answers-answers-now.clauses 𝓤 H A mem run) known-answers-answers-now tt tt tt (resumes, (gotOf (sessions) (frame′ .«session_id»), tt)) (Resumes-p .val resumes ∷ [], (Got-p .val (gotOf (sessions) (frame′ .«session_id»)) ∷ [], tt)) tt (answersNow resumes (gotOf (sessions) (frame′ .«session_id»))) (λ ws-5. Unit {0}) (id⊢ 𝓤 _) (λ r ws-5. fact-mono 𝓤 (r ≡ answersNow resumes (gotOf (sessions) (frame′ .«session_id»))) ((r ≡ (answersNow resumes (gotOf (sessions) (frame′ .«session_id»)))) × (Unit {0})) (λ e. (e, tt))) (λ _. (and-then ! (load ! (from ! (stop !)) (look ! 55 refl)) (and-then ! (load ! (from ! (stop !)) (look ! 51 refl)) (no-more !)))) (λ ws-5 said-5 is-5.
         drop ! $ drop ! $
-        land ! (from ! (stop !)) (init ! 24 refl (bool-p .typed 𝓤 H A W (answersNow resumes (gotOf (sessions) (frame′ .«session_id»))) is-5)) $
+        land ! (from ! (stop !)) (init ! 40 refl (bool-p .typed 𝓤 H A W (answersNow resumes (gotOf (sessions) (frame′ .«session_id»))) is-5)) $
         part-6-0 is-4 is-5)
 
-    begins : Sq W (‵ (MutSlice (named 0) κ₁ (Array u64 5) .own (at-list b₁ o₁ γ₁ sessions) (sliceVal (b₁, o₁) n₁ ∷ [])) ∷ ‵ (flft κ₁ q₁) ∷ ‵ (MutSlice (named 0) κ₂ Object-t.the-row .own (at-list b₂ o₂ γ₂ objects) (sliceVal (b₂, o₂) n₂ ∷ [])) ∷ ‵ (flft κ₂ q₂) ∷ ‵ (MutSlice (named 0) κ₃ u8 .own (at-list b₃ o₃ γ₃ out) (sliceVal (b₃, o₃) n₃ ∷ [])) ∷ ‵ (flft κ₃ q₃) ∷ ‵ (ShrSlice (named 0) κ₄ u8 .own (at-list b₄ o₄ γ₄ sample) (sliceVal (b₄, o₄) n₄ ∷ [])) ∷ ‵ (flft κ₄ q₄) ∷ free 𝓤 (sliceTy (tyRef erased mut (pointee (u8 .written)))) l₂₀ (free 𝓤 (tyRef erased mut (pointee (u8 .written))) l₁₉ (free 𝓤 (sliceTy (tyRef erased mut (pointee (Object-t.the-row .written)))) l₁₈ (free 𝓤 (tyRef erased mut (pointee (Object-t.the-row .written))) l₁₇ (free 𝓤 (sliceTy (tyRef erased mut (pointee ((Array u64 5) .written)))) l₁₆ (free 𝓤 (tyRef erased mut (pointee ((Array u64 5) .written))) l₁₅ (free 𝓤 tyUnit l₁₄ (free 𝓤 (tyInt w64) l₁₃ (free 𝓤 tyBool l₁₂ (free 𝓤 (sliceTy (tyRef erased imm (pointee ((Array u64 5) .written)))) l₁₁ (free 𝓤 (tyRef erased imm (pointee ((Array u64 5) .written))) l₁₀ (free 𝓤 Told-l.mir l₉ (free 𝓤 Got-l.mir l₈ (free 𝓤 (tyInt w8) l₇ (full 𝓤 Resumes-l.mir l₆ (Resumes-p .val resumes) (full 𝓤 Frame-l.mir l₅ (Frame-p .val frame′) (full 𝓤 (sliceTy (tyRef (named 3) imm (pointee (u8 .written)))) l₄ (sliceVal (b₄, o₄) n₄) (full 𝓤 (sliceTy (tyRef (named 2) mut (pointee (u8 .written)))) l₃ (sliceVal (b₃, o₃) n₃) (full 𝓤 (sliceTy (tyRef (named 1) mut (pointee (Object-t.the-row .written)))) l₂ (sliceVal (b₂, o₂) n₂) (full 𝓤 (sliceTy (tyRef (named 0) mut (pointee ((Array u64 5) .written)))) l₁ (sliceVal (b₁, o₁) n₁) (free 𝓤 (tyInt w64) l₀ ([])))))))))))))))))))))) (runs C Λ En mir.t-1 (atRet En Post))
+    begins : Sq W (‵ (MutSlice (named 0) κ₁ (Array u64 6) .own (at-list b₁ o₁ γ₁ sessions) (sliceVal (b₁, o₁) n₁ ∷ [])) ∷ ‵ (flft κ₁ q₁) ∷ ‵ (MutSlice (named 0) κ₂ (Array u16 35) .own (at-list b₂ o₂ γ₂ streams) (sliceVal (b₂, o₂) n₂ ∷ [])) ∷ ‵ (flft κ₂ q₂) ∷ ‵ (MutSlice (named 0) κ₃ Object-t.the-row .own (at-list b₃ o₃ γ₃ objects) (sliceVal (b₃, o₃) n₃ ∷ [])) ∷ ‵ (flft κ₃ q₃) ∷ ‵ (MutSlice (named 0) κ₄ u8 .own (at-list b₄ o₄ γ₄ held) (sliceVal (b₄, o₄) n₄ ∷ [])) ∷ ‵ (flft κ₄ q₄) ∷ ‵ (MutSlice (named 0) κ₅ u8 .own (at-list b₅ o₅ γ₅ out) (sliceVal (b₅, o₅) n₅ ∷ [])) ∷ ‵ (flft κ₅ q₅) ∷ ‵ (ShrSlice (named 0) κ₆ u8 .own (at-list b₆ o₆ γ₆ sample) (sliceVal (b₆, o₆) n₆ ∷ [])) ∷ ‵ (flft κ₆ q₆) ∷ free 𝓤 (sliceTy (tyRef erased mut (pointee (Object-t.the-row .written)))) l₂₉ (free 𝓤 (tyRef erased mut (pointee (Object-t.the-row .written))) l₂₈ (free 𝓤 (sliceTy (tyRef erased mut (pointee ((Array u64 6) .written)))) l₂₇ (free 𝓤 (tyRef erased mut (pointee ((Array u64 6) .written))) l₂₆ (free 𝓤 tyUnit l₂₅ (free 𝓤 (sliceTy (tyRef erased mut (pointee (u8 .written)))) l₂₄ (free 𝓤 (tyRef erased mut (pointee (u8 .written))) l₂₃ (free 𝓤 (sliceTy (tyRef erased mut (pointee (u8 .written)))) l₂₂ (free 𝓤 (tyRef erased mut (pointee (u8 .written))) l₂₁ (free 𝓤 (sliceTy (tyRef erased mut (pointee ((Array u16 35) .written)))) l₂₀ (free 𝓤 (tyRef erased mut (pointee ((Array u16 35) .written))) l₁₉ (free 𝓤 (sliceTy (tyRef erased imm (pointee ((Array u64 6) .written)))) l₁₈ (free 𝓤 (tyRef erased imm (pointee ((Array u64 6) .written))) l₁₇ (free 𝓤 (tyInt w64) l₁₆ (free 𝓤 tyBool l₁₅ (free 𝓤 (sliceTy (tyRef erased imm (pointee ((Array u64 6) .written)))) l₁₄ (free 𝓤 (tyRef erased imm (pointee ((Array u64 6) .written))) l₁₃ (free 𝓤 (tyInt w64) l₁₂ (free 𝓤 Told-l.mir l₁₁ (free 𝓤 Got-l.mir l₁₀ (free 𝓤 (tyInt w8) l₉ (full 𝓤 Resumes-l.mir l₈ (Resumes-p .val resumes) (full 𝓤 Frame-l.mir l₇ (Frame-p .val frame′) (full 𝓤 (sliceTy (tyRef (named 5) imm (pointee (u8 .written)))) l₆ (sliceVal (b₆, o₆) n₆) (full 𝓤 (sliceTy (tyRef (named 4) mut (pointee (u8 .written)))) l₅ (sliceVal (b₅, o₅) n₅) (full 𝓤 (sliceTy (tyRef (named 3) mut (pointee (u8 .written)))) l₄ (sliceVal (b₄, o₄) n₄) (full 𝓤 (sliceTy (tyRef (named 2) mut (pointee (Object-t.the-row .written)))) l₃ (sliceVal (b₃, o₃) n₃) (full 𝓤 (sliceTy (tyRef (named 1) mut (pointee ((Array u16 35) .written)))) l₂ (sliceVal (b₂, o₂) n₂) (full 𝓤 (sliceTy (tyRef (named 0) mut (pointee ((Array u64 6) .written)))) l₁ (sliceVal (b₁, o₁) n₁) (free 𝓤 (tyInt w64) l₀ ([]))))))))))))))))))))))))))))))) (runs C Λ En mir.t-1 (atRet En Post))
     begins =
-        assigns ! (of-opd ! (load ! (from ! (fld ! refl (stop !))) (look-in ! 38 (sub ! 2 refl (whole !))))) (from ! (stop !)) (init ! 34 refl (u8-p .typed 𝓤 H A W (frame′ .«session_id») (LL.owed Frame-t.the-type Frame-l.the-laws frame′ _ frame′-is .1 .1 .0))) $
-        assigns ! (addr ! (from ! (fld ! refl (hop ! (look-in ! 46 (sub ! 0 refl (whole !))) (stop !))))) (from ! (stop !)) (init ! 28 refl (tt, tt)) $
-        assigns ! (agg ! (and-then ! (load ! (from ! (stop !)) (look ! 28 refl)) (and-then ! (load ! (from ! (fld ! refl (stop !))) (look-in ! 46 (sub ! 1 refl (whole !)))) (no-more !)))) (from ! (stop !)) (init ! 26 refl (tt, (tt, (record { fits = room₁ .0 }, tt)))) $
+        assigns ! (of-opd ! (load ! (from ! (fld ! refl (stop !))) (look-in ! 56 (sub ! 2 refl (whole !))))) (from ! (stop !)) (init ! 52 refl (u8-p .typed 𝓤 H A W (frame′ .«session_id») (LL.owed Frame-t.the-type Frame-l.the-laws frame′ _ frame′-is .1 .1 .0))) $
+        assigns ! (addr ! (from ! (fld ! refl (hop ! (look-in ! 68 (sub ! 0 refl (whole !))) (stop !))))) (from ! (stop !)) (init ! 44 refl (tt, tt)) $
+        assigns ! (agg ! (and-then ! (load ! (from ! (stop !)) (look ! 44 refl)) (and-then ! (load ! (from ! (fld ! refl (stop !))) (look-in ! 68 (sub ! 1 refl (whole !)))) (no-more !)))) (from ! (stop !)) (init ! 42 refl (tt, (tt, (record { fits = room₁ .0 }, tt)))) $
         -- 4: sessions::table::get
-        lends-view ! tt (Array u64 5) b₁ o₁ sessions n₁ (refl) (λ ν-4-sessions δ-4-sessions.
+        lends-view ! tt (Array u64 6) b₁ o₁ sessions n₁ (refl) (λ ν-4-sessions δ-4-sessions.
         nothing ! $ move ! (1 ∷ 0 ∷ []) $ join ! $
         use1 W (raw (toks 𝓤 A 1 (((ν-4-sessions ∷ []), tt)) ((fullShare, tt)))) (id⊢ 𝓤 _) $ nothing ! $
         owned ! (u8-p .row) (Is (u8-p .row)) (u8-p .makes 𝓤 H A W) (frame′ .«session_id») (u8-p .val (frame′ .«session_id») ∷ []) (LL.owed Frame-t.the-type Frame-l.the-laws frame′ _ frame′-is .1 .1 .0) $ fjoin ! $ move ! (2 ∷ 0 ∷ []) $ fjoin ! $ move ! (1 ∷ 0 ∷ []) $
-        calls-any ! fm 1 [] (table-get.signature .params) (table-get.ended .kept) Got-p (table-get.clauses 𝓤 H A mem run) known-table-get ((ν-4-sessions ∷ []), tt) (fullShare, tt) tt (at-list b₁ o₁ δ-4-sessions sessions, (frame′ .«session_id», tt)) (sliceVal (b₁, o₁) n₁ ∷ [], (u8-p .val (frame′ .«session_id») ∷ [], tt)) tt (gotOf (sessions) (frame′ .«session_id»)) (λ ws-4. Unit {0}) (id⊢ 𝓤 _) (λ r ws-4. fact-mono 𝓤 (r ≡ gotOf (sessions) (frame′ .«session_id»)) ((r ≡ (gotOf (sessions) (frame′ .«session_id»))) × (Unit {0})) (λ e. (e, tt))) (λ _. (and-then ! (load ! (from ! (stop !)) (look ! 26 refl)) (and-then ! (load ! (from ! (stop !)) (look ! 34 refl)) (no-more !)))) (λ ws-4 said-4 is-4.
+        calls-any ! fm 1 [] (table-get.signature .params) (table-get.ended .kept) Got-p (table-get.clauses 𝓤 H A mem run) known-table-get ((ν-4-sessions ∷ []), tt) (fullShare, tt) tt (at-list b₁ o₁ δ-4-sessions sessions, (frame′ .«session_id», tt)) (sliceVal (b₁, o₁) n₁ ∷ [], (u8-p .val (frame′ .«session_id») ∷ [], tt)) tt (gotOf (sessions) (frame′ .«session_id»)) (λ ws-4. Unit {0}) (id⊢ 𝓤 _) (λ r ws-4. fact-mono 𝓤 (r ≡ gotOf (sessions) (frame′ .«session_id»)) ((r ≡ (gotOf (sessions) (frame′ .«session_id»))) × (Unit {0})) (λ e. (e, tt))) (λ _. (and-then ! (load ! (from ! (stop !)) (look ! 42 refl)) (and-then ! (load ! (from ! (stop !)) (look ! 52 refl)) (no-more !)))) (λ ws-4 said-4 is-4.
         use1 W ((‵ (flft (ν-4-sessions ∷ []) fullShare) ⊛ ‵ ftrue)) (id⊢ 𝓤 _) $ split ! $ move ! (2 ∷ []) $ fsplit ! $ move ! (2 ∷ 4 ∷ []) $
-        backs-view ! tt (Array u64 5) b₁ o₁ sessions n₁ (refl) ν-4-sessions $ move ! (2 ∷ []) $ drop ! $ move ! (2 ∷ []) $ drop ! $ move ! (2 ∷ []) $ drop ! $
-        land ! (from ! (stop !)) (init ! 32 refl (Got-p .typed 𝓤 H A W (gotOf (sessions) (frame′ .«session_id»)) is-4)) $
+        backs-view ! tt (Array u64 6) b₁ o₁ sessions n₁ (refl) ν-4-sessions $ move ! (2 ∷ []) $ drop ! $ move ! (2 ∷ []) $ drop ! $ move ! (2 ∷ []) $ drop ! $
+        land ! (from ! (stop !)) (init ! 50 refl (Got-p .typed 𝓤 H A W (gotOf (sessions) (frame′ .«session_id»)) is-4)) $
         part-5-0 is-4))
 
-  module _ (𝓣 : Tables 𝓤 H) (known-table-get : Triple 𝓤 (𝓣 .C #table-get) (Of-table-get 𝓤 H A mem run)) (known-answers-answers-now : Triple 𝓤 (𝓣 .C #answers-answers-now) (Of-answers-answers-now 𝓤 H A mem run)) (known-answers-told-by : Triple 𝓤 (𝓣 .C #answers-told-by) (Of-answers-told-by 𝓤 H A mem run)) (known-answers-keep : Triple 𝓤 (𝓣 .C #answers-keep) (Of-answers-keep 𝓤 H A mem run)) (known-answers-reply-says : Triple 𝓤 (𝓣 .C #answers-reply-says) (Of-answers-reply-says 𝓤 H A mem run)) where
-    walk : ent 𝓤 (onEntry 𝓤 H A f.signature (κ₁, (κ₂, (κ₃, (κ₄, tt)))) (q₁, (q₂, (q₃, (q₄, tt)))) x at) (WpFn 𝓤 H (𝓣 .C) (𝓣 .Λ) code.function (sliceVal (b₁, o₁) n₁ ∷ sliceVal (b₂, o₂) n₂ ∷ sliceVal (b₃, o₃) n₃ ∷ sliceVal (b₄, o₄) n₄ ∷ Frame-p .val frame′ ∷ Resumes-p .val resumes ∷ []) Post)
+  module _ (𝓣 : Tables 𝓤 H) (known-table-get : Triple 𝓤 (𝓣 .C #table-get) (Of-table-get 𝓤 H A mem run)) (known-answers-answers-now : Triple 𝓤 (𝓣 .C #answers-answers-now) (Of-answers-answers-now 𝓤 H A mem run)) (known-answers-told-by : Triple 𝓤 (𝓣 .C #answers-told-by) (Of-answers-told-by 𝓤 H A mem run)) (known-answers-say : Triple 𝓤 (𝓣 .C #answers-say) (Of-answers-say 𝓤 H A mem run)) (known-answers-keep : Triple 𝓤 (𝓣 .C #answers-keep) (Of-answers-keep 𝓤 H A mem run)) where
+    walk : ent 𝓤 (onEntry 𝓤 H A f.signature (κ₁, (κ₂, (κ₃, (κ₄, (κ₅, (κ₆, tt)))))) (q₁, (q₂, (q₃, (q₄, (q₅, (q₆, tt)))))) x at) (WpFn 𝓤 H (𝓣 .C) (𝓣 .Λ) code.function (sliceVal (b₁, o₁) n₁ ∷ sliceVal (b₂, o₂) n₂ ∷ sliceVal (b₃, o₃) n₃ ∷ sliceVal (b₄, o₄) n₄ ∷ sliceVal (b₅, o₅) n₅ ∷ sliceVal (b₆, o₆) n₆ ∷ Frame-p .val frame′ ∷ Resumes-p .val resumes ∷ []) Post)
     walk =
-        qed W ((‵ (flft κ₁ q₁) ⊛ (‵ (flft κ₂ q₂) ⊛ (‵ (flft κ₃ q₃) ⊛ (‵ (flft κ₄ q₄) ⊛ ‵ ftrue)))) ∷ ‵ (owns (MutSlice (named 0) κ₁ (Array u64 5) ∷ MutSlice (named 1) κ₂ Object-t.the-row ∷ MutSlice (named 2) κ₃ u8 ∷ ShrSlice (named 3) κ₄ u8 ∷ Frame-p .row ∷ Resumes-p .row ∷ []) x at) ∷ []) ∵ enter ! (𝓣 .C) (𝓣 .Λ) code.function (sliceVal (b₁, o₁) n₁ ∷ sliceVal (b₂, o₂) n₂ ∷ sliceVal (b₃, o₃) n₃ ∷ sliceVal (b₄, o₄) n₄ ∷ Frame-p .val frame′ ∷ Resumes-p .val resumes ∷ []) _ $
-        alloc1 ! (λ l₀. alloc1 ! (λ l₁. alloc1 ! (λ l₂. alloc1 ! (λ l₃. alloc1 ! (λ l₄. alloc1 ! (λ l₅. alloc1 ! (λ l₆. alloc1 ! (λ l₇. alloc1 ! (λ l₈. alloc1 ! (λ l₉. alloc1 ! (λ l₁₀. alloc1 ! (λ l₁₁. alloc1 ! (λ l₁₂. alloc1 ! (λ l₁₃. alloc1 ! (λ l₁₄. alloc1 ! (λ l₁₅. alloc1 ! (λ l₁₆. alloc1 ! (λ l₁₇. alloc1 ! (λ l₁₈. alloc1 ! (λ l₁₉. alloc1 ! (λ l₂₀. alloc0 ! $ params1 ! $ pass1 ! (init ! 38 refl (tt, (tt, (record { fits = room₁ .0 }, tt)))) $ pass1 ! (init ! 36 refl (tt, (tt, (record { fits = room₂ .0 }, tt)))) $ pass1 ! (init ! 34 refl (tt, (tt, (record { fits = room₃ .0 }, tt)))) $ pass1 ! (init ! 32 refl (tt, (tt, (record { fits = room₄ .0 }, tt)))) $ pass1 ! (init ! 30 refl (Frame-p .typed 𝓤 H A W frame′ frame′-is)) $ pass1 ! (init ! 28 refl (Resumes-p .typed 𝓤 H A W resumes resumes-is)) $ pass0 ! $ move ! (43 ∷ []) $ fsplit ! $ move ! (1 ∷ []) $ fsplit ! $ move ! (1 ∷ []) $ fsplit ! $ move ! (1 ∷ []) $ fsplit ! $ move ! (47 ∷ []) $ split ! $ move ! (1 ∷ []) $ split ! $ move ! (1 ∷ []) $ split ! $ move ! (1 ∷ []) $ split ! $ move ! (1 ∷ []) $ drop ! $ move ! (5 ∷ []) $ drop ! $ move ! (7 ∷ 3 ∷ 6 ∷ 2 ∷ 5 ∷ 1 ∷ 4 ∷ 0 ∷ 8 ∷ 9 ∷ 10 ∷ 11 ∷ 12 ∷ 13 ∷ 14 ∷ 15 ∷ 16 ∷ 17 ∷ 18 ∷ 19 ∷ 20 ∷ 21 ∷ 22 ∷ 23 ∷ 24 ∷ 25 ∷ 26 ∷ 27 ∷ 28 ∷ 29 ∷ 30 ∷ 31 ∷ 32 ∷ 33 ∷ 34 ∷ 35 ∷ 36 ∷ 37 ∷ 38 ∷ 39 ∷ 40 ∷ 41 ∷ 42 ∷ 43 ∷ 44 ∷ 45 ∷ 46 ∷ 47 ∷ 48 ∷ 49 ∷ []) $
-        begins 𝓣 known-table-get known-answers-answers-now known-answers-told-by known-answers-keep known-answers-reply-says l₀ l₁ l₂ l₃ l₄ l₅ l₆ l₇ l₈ l₉ l₁₀ l₁₁ l₁₂ l₁₃ l₁₄ l₁₅ l₁₆ l₁₇ l₁₈ l₁₉ l₂₀)))))))))))))))))))))
+        qed W ((‵ (flft κ₁ q₁) ⊛ (‵ (flft κ₂ q₂) ⊛ (‵ (flft κ₃ q₃) ⊛ (‵ (flft κ₄ q₄) ⊛ (‵ (flft κ₅ q₅) ⊛ (‵ (flft κ₆ q₆) ⊛ ‵ ftrue)))))) ∷ ‵ (owns (MutSlice (named 0) κ₁ (Array u64 6) ∷ MutSlice (named 1) κ₂ (Array u16 35) ∷ MutSlice (named 2) κ₃ Object-t.the-row ∷ MutSlice (named 3) κ₄ u8 ∷ MutSlice (named 4) κ₅ u8 ∷ ShrSlice (named 5) κ₆ u8 ∷ Frame-p .row ∷ Resumes-p .row ∷ []) x at) ∷ []) ∵ enter ! (𝓣 .C) (𝓣 .Λ) code.function (sliceVal (b₁, o₁) n₁ ∷ sliceVal (b₂, o₂) n₂ ∷ sliceVal (b₃, o₃) n₃ ∷ sliceVal (b₄, o₄) n₄ ∷ sliceVal (b₅, o₅) n₅ ∷ sliceVal (b₆, o₆) n₆ ∷ Frame-p .val frame′ ∷ Resumes-p .val resumes ∷ []) _ $
+        alloc1 ! (λ l₀. alloc1 ! (λ l₁. alloc1 ! (λ l₂. alloc1 ! (λ l₃. alloc1 ! (λ l₄. alloc1 ! (λ l₅. alloc1 ! (λ l₆. alloc1 ! (λ l₇. alloc1 ! (λ l₈. alloc1 ! (λ l₉. alloc1 ! (λ l₁₀. alloc1 ! (λ l₁₁. alloc1 ! (λ l₁₂. alloc1 ! (λ l₁₃. alloc1 ! (λ l₁₄. alloc1 ! (λ l₁₅. alloc1 ! (λ l₁₆. alloc1 ! (λ l₁₇. alloc1 ! (λ l₁₈. alloc1 ! (λ l₁₉. alloc1 ! (λ l₂₀. alloc1 ! (λ l₂₁. alloc1 ! (λ l₂₂. alloc1 ! (λ l₂₃. alloc1 ! (λ l₂₄. alloc1 ! (λ l₂₅. alloc1 ! (λ l₂₆. alloc1 ! (λ l₂₇. alloc1 ! (λ l₂₈. alloc1 ! (λ l₂₉. alloc0 ! $ params1 ! $ pass1 ! (init ! 56 refl (tt, (tt, (record { fits = room₁ .0 }, tt)))) $ pass1 ! (init ! 54 refl (tt, (tt, (record { fits = room₂ .0 }, tt)))) $ pass1 ! (init ! 52 refl (tt, (tt, (record { fits = room₃ .0 }, tt)))) $ pass1 ! (init ! 50 refl (tt, (tt, (record { fits = room₄ .0 }, tt)))) $ pass1 ! (init ! 48 refl (tt, (tt, (record { fits = room₅ .0 }, tt)))) $ pass1 ! (init ! 46 refl (tt, (tt, (record { fits = room₆ .0 }, tt)))) $ pass1 ! (init ! 44 refl (Frame-p .typed 𝓤 H A W frame′ frame′-is)) $ pass1 ! (init ! 42 refl (Resumes-p .typed 𝓤 H A W resumes resumes-is)) $ pass0 ! $ move ! (61 ∷ []) $ fsplit ! $ move ! (1 ∷ []) $ fsplit ! $ move ! (1 ∷ []) $ fsplit ! $ move ! (1 ∷ []) $ fsplit ! $ move ! (1 ∷ []) $ fsplit ! $ move ! (1 ∷ []) $ fsplit ! $ move ! (67 ∷ []) $ split ! $ move ! (1 ∷ []) $ split ! $ move ! (1 ∷ []) $ split ! $ move ! (1 ∷ []) $ split ! $ move ! (1 ∷ []) $ split ! $ move ! (1 ∷ []) $ split ! $ move ! (1 ∷ []) $ drop ! $ move ! (7 ∷ []) $ drop ! $ move ! (11 ∷ 5 ∷ 10 ∷ 4 ∷ 9 ∷ 3 ∷ 8 ∷ 2 ∷ 7 ∷ 1 ∷ 6 ∷ 0 ∷ 12 ∷ 13 ∷ 14 ∷ 15 ∷ 16 ∷ 17 ∷ 18 ∷ 19 ∷ 20 ∷ 21 ∷ 22 ∷ 23 ∷ 24 ∷ 25 ∷ 26 ∷ 27 ∷ 28 ∷ 29 ∷ 30 ∷ 31 ∷ 32 ∷ 33 ∷ 34 ∷ 35 ∷ 36 ∷ 37 ∷ 38 ∷ 39 ∷ 40 ∷ 41 ∷ 42 ∷ 43 ∷ 44 ∷ 45 ∷ 46 ∷ 47 ∷ 48 ∷ 49 ∷ 50 ∷ 51 ∷ 52 ∷ 53 ∷ 54 ∷ 55 ∷ 56 ∷ 57 ∷ 58 ∷ 59 ∷ 60 ∷ 61 ∷ 62 ∷ 63 ∷ 64 ∷ 65 ∷ 66 ∷ 67 ∷ 68 ∷ 69 ∷ 70 ∷ 71 ∷ []) $
+        begins 𝓣 known-table-get known-answers-answers-now known-answers-told-by known-answers-say known-answers-keep l₀ l₁ l₂ l₃ l₄ l₅ l₆ l₇ l₈ l₉ l₁₀ l₁₁ l₁₂ l₁₃ l₁₄ l₁₅ l₁₆ l₁₇ l₁₈ l₁₉ l₂₀ l₂₁ l₂₂ l₂₃ l₂₄ l₂₅ l₂₆ l₂₇ l₂₈ l₂₉))))))))))))))))))))))))))))))
 
-module _ {M : Type 1} (𝓤 : URA M) (H : Heap 𝓤) (A : Atoms 𝓤) (W : Given 𝓤 H A) (mem : Memory → SProp 𝓤) (run : Routine → Fun 𝓤) (𝓣 : Tables 𝓤 H) (known-table-get : Triple 𝓤 (𝓣 .C #table-get) (Of-table-get 𝓤 H A mem run)) (known-answers-answers-now : Triple 𝓤 (𝓣 .C #answers-answers-now) (Of-answers-answers-now 𝓤 H A mem run)) (known-answers-told-by : Triple 𝓤 (𝓣 .C #answers-told-by) (Of-answers-told-by 𝓤 H A mem run)) (known-answers-keep : Triple 𝓤 (𝓣 .C #answers-keep) (Of-answers-keep 𝓤 H A mem run)) (known-answers-reply-says : Triple 𝓤 (𝓣 .C #answers-reply-says) (Of-answers-reply-says 𝓤 H A mem run)) where
+module _ {M : Type 1} (𝓤 : URA M) (H : Heap 𝓤) (A : Atoms 𝓤) (W : Given 𝓤 H A) (mem : Memory → SProp 𝓤) (run : Routine → Fun 𝓤) (𝓣 : Tables 𝓤 H) (known-table-get : Triple 𝓤 (𝓣 .C #table-get) (Of-table-get 𝓤 H A mem run)) (known-answers-answers-now : Triple 𝓤 (𝓣 .C #answers-answers-now) (Of-answers-answers-now 𝓤 H A mem run)) (known-answers-told-by : Triple 𝓤 (𝓣 .C #answers-told-by) (Of-answers-told-by 𝓤 H A mem run)) (known-answers-say : Triple 𝓤 (𝓣 .C #answers-say) (Of-answers-say 𝓤 H A mem run)) (known-answers-keep : Triple 𝓤 (𝓣 .C #answers-keep) (Of-answers-keep 𝓤 H A mem run)) where
   walks : Walks 𝓤 H A f.ended stayed (WpFn 𝓤 H (𝓣 .C) (𝓣 .Λ) code.function) (f.clauses 𝓤 H A mem run)
-  walks = walked 𝓤 H A f.ended stayed (f.clauses 𝓤 H A mem run) (WpFn 𝓤 H (𝓣 .C) (𝓣 .Λ) code.function) (λ κs. (slice-vals, (slice-vals, (slice-vals, (slice-vals, ((λ y. Frame-p .val y ∷ []), ((λ y. Resumes-p .val y ∷ []), tt))))))) (λ κs. (mut-slice-tells (named 0) (κs .0) (Array u64 5), (mut-slice-tells (named 1) (κs .1 .0) Object-t.the-row, (mut-slice-tells (named 2) (κs .1 .1 .0) u8, (shr-slice-tells (named 3) (κs .1 .1 .1 .0) u8, (Frame-p .tells, (Resumes-p .tells, tt)))))))
-      (λ κs qs bounds a g are. needs 𝓤 _ _ (λ within. walk 𝓤 H A W mem run (κs .0) (qs .0) (a .0 .ptr .0) (a .0 .ptr .1) (a .0 .name) (a .0 .now) (κs .1 .0) (qs .1 .0) (a .1 .0 .ptr .0) (a .1 .0 .ptr .1) (a .1 .0 .name) (a .1 .0 .now) (κs .1 .1 .0) (qs .1 .1 .0) (a .1 .1 .0 .ptr .0) (a .1 .1 .0 .ptr .1) (a .1 .1 .0 .name) (a .1 .1 .0 .now) (κs .1 .1 .1 .0) (qs .1 .1 .1 .0) (a .1 .1 .1 .0 .ptr .0) (a .1 .1 .1 .0 .ptr .1) (a .1 .1 .1 .0 .name) (a .1 .1 .1 .0 .now) (a .1 .1 .1 .1 .0) (a .1 .1 .1 .1 .1 .0) (are .0 .0 .1) (are .1 .0 .0 .1) (are .1 .1 .0 .0 .1) (are .1 .1 .1 .0 .0 .1) (are .1 .1 .1 .1 .0) (are .1 .1 .1 .1 .1 .0) within 𝓣 known-table-get known-answers-answers-now known-answers-told-by known-answers-keep known-answers-reply-says))
+  walks = walked 𝓤 H A f.ended stayed (f.clauses 𝓤 H A mem run) (WpFn 𝓤 H (𝓣 .C) (𝓣 .Λ) code.function) (λ κs. (slice-vals, (slice-vals, (slice-vals, (slice-vals, (slice-vals, (slice-vals, ((λ y. Frame-p .val y ∷ []), ((λ y. Resumes-p .val y ∷ []), tt))))))))) (λ κs. (mut-slice-tells (named 0) (κs .0) (Array u64 6), (mut-slice-tells (named 1) (κs .1 .0) (Array u16 35), (mut-slice-tells (named 2) (κs .1 .1 .0) Object-t.the-row, (mut-slice-tells (named 3) (κs .1 .1 .1 .0) u8, (mut-slice-tells (named 4) (κs .1 .1 .1 .1 .0) u8, (shr-slice-tells (named 5) (κs .1 .1 .1 .1 .1 .0) u8, (Frame-p .tells, (Resumes-p .tells, tt)))))))))
+      (λ κs qs bounds a g are. needs 𝓤 _ _ (λ within. walk 𝓤 H A W mem run (κs .0) (qs .0) (a .0 .ptr .0) (a .0 .ptr .1) (a .0 .name) (a .0 .now) (κs .1 .0) (qs .1 .0) (a .1 .0 .ptr .0) (a .1 .0 .ptr .1) (a .1 .0 .name) (a .1 .0 .now) (κs .1 .1 .0) (qs .1 .1 .0) (a .1 .1 .0 .ptr .0) (a .1 .1 .0 .ptr .1) (a .1 .1 .0 .name) (a .1 .1 .0 .now) (κs .1 .1 .1 .0) (qs .1 .1 .1 .0) (a .1 .1 .1 .0 .ptr .0) (a .1 .1 .1 .0 .ptr .1) (a .1 .1 .1 .0 .name) (a .1 .1 .1 .0 .now) (κs .1 .1 .1 .1 .0) (qs .1 .1 .1 .1 .0) (a .1 .1 .1 .1 .0 .ptr .0) (a .1 .1 .1 .1 .0 .ptr .1) (a .1 .1 .1 .1 .0 .name) (a .1 .1 .1 .1 .0 .now) (κs .1 .1 .1 .1 .1 .0) (qs .1 .1 .1 .1 .1 .0) (a .1 .1 .1 .1 .1 .0 .ptr .0) (a .1 .1 .1 .1 .1 .0 .ptr .1) (a .1 .1 .1 .1 .1 .0 .name) (a .1 .1 .1 .1 .1 .0 .now) (a .1 .1 .1 .1 .1 .1 .0) (a .1 .1 .1 .1 .1 .1 .1 .0) (are .0 .0 .1) (are .1 .0 .0 .1) (are .1 .1 .0 .0 .1) (are .1 .1 .1 .0 .0 .1) (are .1 .1 .1 .1 .0 .0 .1) (are .1 .1 .1 .1 .1 .0 .0 .1) (are .1 .1 .1 .1 .1 .1 .0) (are .1 .1 .1 .1 .1 .1 .1 .0) within 𝓣 known-table-get known-answers-answers-now known-answers-told-by known-answers-say known-answers-keep))
 
   meets : Meets 𝓤 H A f.signature (WpFn 𝓤 H (𝓣 .C) (𝓣 .Λ) code.function) (f.spec 𝓤 H A mem run)
-  meets = walk-meets 𝓤 H A f.ended stayed W (goes-slice 𝓤 H A W 4 0 tt (plain (λ _. (Array u64 5))), (goes-slice 𝓤 H A W 4 1 tt (plain (λ _. Object-t.the-row)), (goes-slice 𝓤 H A W 4 2 tt (plain (λ _. u8)), (goes-none-slice 𝓤 H A W 4 (3 ∷ []) tt (plain (λ _. u8)) yes, (goes-none 𝓤 H A W 4 (λ _. Frame-p .row) yes (λ κs x f. refl), (goes-none 𝓤 H A W 4 (λ _. Resumes-p .row) yes (λ κs x f. refl), tt)))))) (f.clauses 𝓤 H A mem run) (WpFn 𝓤 H (𝓣 .C) (𝓣 .Λ) code.function) (WpFn-mono 𝓤 H (W .laws) 𝓣 code.function) walks
+  meets = walk-meets 𝓤 H A f.ended stayed W (goes-slice 𝓤 H A W 6 0 tt (plain (λ _. (Array u64 6))), (goes-slice 𝓤 H A W 6 1 tt (plain (λ _. (Array u16 35))), (goes-slice 𝓤 H A W 6 2 tt (plain (λ _. Object-t.the-row)), (goes-slice 𝓤 H A W 6 3 tt (plain (λ _. u8)), (goes-slice 𝓤 H A W 6 4 tt (plain (λ _. u8)), (goes-none-slice 𝓤 H A W 6 (5 ∷ []) tt (plain (λ _. u8)) yes, (goes-none 𝓤 H A W 6 (λ _. Frame-p .row) yes (λ κs x f. refl), (goes-none 𝓤 H A W 6 (λ _. Resumes-p .row) yes (λ κs x f. refl), tt)))))))) (f.clauses 𝓤 H A mem run) (WpFn 𝓤 H (𝓣 .C) (𝓣 .Λ) code.function) (WpFn-mono 𝓤 H (W .laws) 𝓣 code.function) walks
 
 pub begin-spec : {M : Type 1} → stated.statement M
 unfolding code.routine tablesOf
@@ -398,5 +428,5 @@ begin-spec 𝓤 H 𝓜 𝓖 𝓡 =
     (cited 𝓤 H (Of-table-get 𝓤 H (𝓖 .A) (𝓜 .mem) (𝓡 .run)) 𝓜 𝓡 code.env #table-get table-get-def.routine code.calls-sessions·table·get (table-get-thm.met 𝓤 H 𝓜 𝓖 𝓡))
     (cited 𝓤 H (Of-answers-answers-now 𝓤 H (𝓖 .A) (𝓜 .mem) (𝓡 .run)) 𝓜 𝓡 code.env #answers-answers-now answers-answers-now-def.routine code.calls-agent·answers·answers-now (answers-answers-now-thm.met 𝓤 H 𝓜 𝓖 𝓡))
     (cited 𝓤 H (Of-answers-told-by 𝓤 H (𝓖 .A) (𝓜 .mem) (𝓡 .run)) 𝓜 𝓡 code.env #answers-told-by answers-told-by-def.routine code.calls-agent·answers·told-by (answers-told-by-thm.met 𝓤 H 𝓜 𝓖 𝓡))
-    (cited 𝓤 H (Of-answers-keep 𝓤 H (𝓖 .A) (𝓜 .mem) (𝓡 .run)) 𝓜 𝓡 code.env #answers-keep answers-keep-def.routine code.calls-moves·answers·keep (answers-keep-thm.met 𝓤 H 𝓜 𝓖 𝓡))
-    (cited 𝓤 H (Of-answers-reply-says 𝓤 H (𝓖 .A) (𝓜 .mem) (𝓡 .run)) 𝓜 𝓡 code.env #answers-reply-says answers-reply-says-def.routine code.calls-agent·answers·reply-says (answers-reply-says-thm.met 𝓤 H 𝓜 𝓖 𝓡)))
+    (cited 𝓤 H (Of-answers-say 𝓤 H (𝓖 .A) (𝓜 .mem) (𝓡 .run)) 𝓜 𝓡 code.env #answers-say answers-say-def.routine code.calls-agent·answers·say (answers-say-thm.met 𝓤 H 𝓜 𝓖 𝓡))
+    (cited 𝓤 H (Of-answers-keep 𝓤 H (𝓖 .A) (𝓜 .mem) (𝓡 .run)) 𝓜 𝓡 code.env #answers-keep answers-keep-def.routine code.calls-moves·answers·keep (answers-keep-thm.met 𝓤 H 𝓜 𝓖 𝓡)))

@@ -53,15 +53,15 @@ use borrow.Rule.Slice.PartMut.{midOf, putMid}
 use Rattle.walk.proofs.Parts.{part-len, lends-part, backs-part, parts-shr}
 use Rattle.walk.proofs.Arrays.{rep-is, lends-array, backs-array}
 use Rattle.sessions.specs.Objects.{blank}
-use Rattle.moves.specs.Rows.{lent}
+use Rattle.agent.specs.Lent.{lent}
 use Rattle.agent.specs.Host.{resumesFit, performed}
-use Rattle.agent.specs.Dry.{sessionCopy, sessionBack, noSession, streamCopy, streamBack, noStream, same, sessionSpot, streamSpot, objectSpot, copied, restored}
-use Rattle.sessions.specs.Objects.{bridgedOf, implicitOf, handleOf, isNumbered, slotOf, usedAfter}
-use Rattle.sessions.specs.View.{entryOf}
-use Rattle.sessions.specs.Dependants.{kindsDepend, dependsOn}
-use Rattle.sessions.specs.Removal.{isAbove}
-use Rattle.agent.proofs.Back.{copies-long, copied-long}
-use Rattle.agent.proofs.Frame.{objects-long, objects-back}
+use Rattle.agent.specs.Dry.{sessionCopy, sessionBack, noSession, streamCopy, streamBack, noStream, same, sessionSpot, streamSpot, objectSpot, copied, restored, bufferCopy, bufferBack}
+use Rattle.codec.specs.Bytes.{putBytes}
+use Rattle.sessions.specs.Sending.{bufferIn}
+use Rattle.sessions.specs.Streams.{streamAt}
+use Rattle.sessions.specs.SessionStreams.{streamPlace, readAs}
+use Rattle.sessions.specs.Sending.{stretchOf, roomOf, bufferStretch, nextSlot, dataSlot, keptSent, sentRows, sentBytes, sentStreams, sentHeld, messageOf}
+use Rattle.agent.proofs.Frame.{copy-long, buffer-back}
 use Rattle.sessions.specs.declared.objects.Object.{Object}
 use Rattle.sessions.proofs.objects.Object as Object-t
 use Rattle.sessions.proofs.objects.Object.Laws as Object-l
@@ -89,26 +89,28 @@ use Rattle.moves.specs.declared.proxy.BridgeAnswer.the-variants.{Created as Bri
 use Rattle.sessions.specs.declared.objects.Handle.{Handle}
 use Rattle.sessions.proofs.objects.Handle as Handle-t
 use Rattle.sessions.proofs.objects.Handle.Laws as Handle-l
-use Rattle.agent.proofs.dry.first_object as dry-first-object
-use Rattle.agent.proofs.dry.first_object.Symbol as dry-first-object-def
-use Rattle.agent.proofs.dry.first_object.Symbol.{name as #dry-first-object}
-use Rattle.agent.proofs.dry.first_object.Met as dry-first-object-thm
-use Rattle.sessions.proofs.objects.Object.implicit as objects-Object-implicit
-use Rattle.sessions.proofs.objects.Object.implicit.Symbol as objects-Object-implicit-def
-use Rattle.sessions.proofs.objects.Object.implicit.Symbol.{name as #objects-Object-implicit}
-use Rattle.sessions.proofs.objects.Object.implicit.Met as objects-Object-implicit-thm
-use Rattle.agent.proofs.dry.copy_objects as dry-copy-objects
-use Rattle.agent.proofs.dry.copy_objects.Symbol as dry-copy-objects-def
-use Rattle.agent.proofs.dry.copy_objects.Symbol.{name as #dry-copy-objects}
-use Rattle.agent.proofs.dry.copy_objects.Met as dry-copy-objects-thm
-use Rattle.agent.proofs.dry.dry_streams as dry-dry-streams
-use Rattle.agent.proofs.dry.dry_streams.Symbol as dry-dry-streams-def
-use Rattle.agent.proofs.dry.dry_streams.Symbol.{name as #dry-dry-streams}
-use Rattle.agent.proofs.dry.dry_streams.Met as dry-dry-streams-thm
-use Rattle.agent.proofs.dry.restore_objects as dry-restore-objects
-use Rattle.agent.proofs.dry.restore_objects.Symbol as dry-restore-objects-def
-use Rattle.agent.proofs.dry.restore_objects.Symbol.{name as #dry-restore-objects}
-use Rattle.agent.proofs.dry.restore_objects.Met as dry-restore-objects-thm
+use Rattle.agent.specs.declared.dry.BufferCopy.{BufferCopy}
+use Rattle.agent.proofs.dry.BufferCopy as BufferCopy-t
+use Rattle.agent.proofs.dry.BufferCopy.Laws as BufferCopy-l
+use Rattle.sessions.specs.declared.sending.Stretch.{Stretch}
+use Rattle.sessions.proofs.sending.Stretch as Stretch-t
+use Rattle.sessions.proofs.sending.Stretch.Laws as Stretch-l
+use Rattle.sessions.proofs.sending.buffer_stretch as sending-buffer-stretch
+use Rattle.sessions.proofs.sending.buffer_stretch.Symbol as sending-buffer-stretch-def
+use Rattle.sessions.proofs.sending.buffer_stretch.Symbol.{name as #sending-buffer-stretch}
+use Rattle.sessions.proofs.sending.buffer_stretch.Met as sending-buffer-stretch-thm
+use Rattle.agent.proofs.dry.copy_buffer as dry-copy-buffer
+use Rattle.agent.proofs.dry.copy_buffer.Symbol as dry-copy-buffer-def
+use Rattle.agent.proofs.dry.copy_buffer.Symbol.{name as #dry-copy-buffer}
+use Rattle.agent.proofs.dry.copy_buffer.Met as dry-copy-buffer-thm
+use Rattle.agent.proofs.dry.dry_objects as dry-dry-objects
+use Rattle.agent.proofs.dry.dry_objects.Symbol as dry-dry-objects-def
+use Rattle.agent.proofs.dry.dry_objects.Symbol.{name as #dry-dry-objects}
+use Rattle.agent.proofs.dry.dry_objects.Met as dry-dry-objects-thm
+use Rattle.agent.proofs.dry.restore_buffer as dry-restore-buffer
+use Rattle.agent.proofs.dry.restore_buffer.Symbol as dry-restore-buffer-def
+use Rattle.agent.proofs.dry.restore_buffer.Symbol.{name as #dry-restore-buffer}
+use Rattle.agent.proofs.dry.restore_buffer.Met as dry-restore-buffer-thm
 use Rattle.agent.proofs.dry.dry.Key.{name as #f}
 use Rattle.agent.proofs.dry.dry as f
 use Rattle.agent.proofs.dry.dry.Statement as stated
@@ -133,8 +135,8 @@ Start-of x0 x1 x2 x3 = record { frame = x0; next = x1; at = x2; resumes = x3 }
 abbrev Start-p : Plain
 Start-p = record { row = Start-t.the-row; val = LL.val Start-t.the-type Start-l.the-laws; tells = LL.tells Start-t.the-type Start-l.the-laws; makes = λ 𝓤 H A W. LL.makes Start-t.the-type Start-l.the-plain 𝓤 H A; ty = Start-l.mir; typed = λ 𝓤 H A W x is. LL.lawful Start-t.the-type Start-l.the-laws 𝓤 H A W .typed x _ is .0; copies = λ 𝓤 H A W. LL.copy Start-t.the-type Start-l.the-copy 𝓤 H A W }
 
-abbrev Frame-of : ℕ → ℕ → ℕ → ℕ → Frame
-Frame-of x0 x1 x2 x3 = record { «max_clients» = x0; time = x1; «session_id» = x2; «stream_id» = x3 }
+abbrev Frame-of : ℕ → ℕ → ℕ → ℕ → ℕ → Frame
+Frame-of x0 x1 x2 x3 x4 = record { «max_clients» = x0; time = x1; «session_id» = x2; «stream_id» = x3; room = x4 }
 
 abbrev Frame-p : Plain
 Frame-p = record { row = Frame-t.the-row; val = LL.val Frame-t.the-type Frame-l.the-laws; tells = LL.tells Frame-t.the-type Frame-l.the-laws; makes = λ 𝓤 H A W. LL.makes Frame-t.the-type Frame-l.the-plain 𝓤 H A; ty = Frame-l.mir; typed = λ 𝓤 H A W x is. LL.lawful Frame-t.the-type Frame-l.the-laws 𝓤 H A W .typed x _ is .0; copies = λ 𝓤 H A W. LL.copy Frame-t.the-type Frame-l.the-copy 𝓤 H A W }
@@ -154,27 +156,36 @@ Handle-of x0 = record { 0 = x0 }
 abbrev Handle-p : Plain
 Handle-p = record { row = Handle-t.the-row; val = LL.val Handle-t.the-type Handle-l.the-laws; tells = LL.tells Handle-t.the-type Handle-l.the-laws; makes = λ 𝓤 H A W. LL.makes Handle-t.the-type Handle-l.the-plain 𝓤 H A; ty = Handle-l.mir; typed = λ 𝓤 H A W x is. LL.lawful Handle-t.the-type Handle-l.the-laws 𝓤 H A W .typed x _ is .0; copies = λ 𝓤 H A W. LL.copy Handle-t.the-type Handle-l.the-copy 𝓤 H A W }
 
+abbrev BufferCopy-of : (List ℕ) → BufferCopy
+BufferCopy-of x0 = record { 0 = x0 }
+
+abbrev BufferCopy-p : Plain
+BufferCopy-p = record { row = BufferCopy-t.the-row; val = LL.val BufferCopy-t.the-type BufferCopy-l.the-laws; tells = LL.tells BufferCopy-t.the-type BufferCopy-l.the-laws; makes = λ 𝓤 H A W. LL.makes BufferCopy-t.the-type BufferCopy-l.the-plain 𝓤 H A; ty = BufferCopy-l.mir; typed = λ 𝓤 H A W x is. LL.lawful BufferCopy-t.the-type BufferCopy-l.the-laws 𝓤 H A W .typed x _ is .0; copies = λ 𝓤 H A W. LL.copy BufferCopy-t.the-type BufferCopy-l.the-copy 𝓤 H A W }
+
+abbrev Stretch-of : ℕ → ℕ → Stretch
+Stretch-of x0 x1 = record { start = x0; end = x1 }
+
+abbrev Stretch-p : Plain
+Stretch-p = record { row = Stretch-t.the-row; val = LL.val Stretch-t.the-type Stretch-l.the-laws; tells = LL.tells Stretch-t.the-type Stretch-l.the-laws; makes = λ 𝓤 H A W. LL.makes Stretch-t.the-type Stretch-l.the-plain 𝓤 H A; ty = Stretch-l.mir; typed = λ 𝓤 H A W x is. LL.lawful Stretch-t.the-type Stretch-l.the-laws 𝓤 H A W .typed x _ is .0; copies = λ 𝓤 H A W. LL.copy Stretch-t.the-type Stretch-l.the-copy 𝓤 H A W }
+
 abbrev stayed : Stays (f.ended .signature .params) (f.ended .kept)
-stayed = (stay-slice (0 ∷ []) tt (plain (λ _. (Array u64 5))), (stay-slice (1 ∷ []) tt (plain (λ _. (Array u16 35))), (stay-slice (2 ∷ []) tt (plain (λ _. Object-t.the-row)), (stay-none-slice (3 ∷ []) tt (plain (λ _. u8)) yes, (stay-none-slice (4 ∷ []) tt (plain (λ _. u8)) yes, (stay-none (λ _. Start-p .row) yes, tt))))))
+stayed = (stay-slice (0 ∷ []) tt (plain (λ _. (Array u64 6))), (stay-slice (1 ∷ []) tt (plain (λ _. (Array u16 35))), (stay-slice (2 ∷ []) tt (plain (λ _. Object-t.the-row)), (stay-slice (3 ∷ []) tt (plain (λ _. u8)), (stay-none-slice (4 ∷ []) tt (plain (λ _. u8)) yes, (stay-none-slice (5 ∷ []) tt (plain (λ _. u8)) yes, (stay-none (λ _. Start-p .row) yes, tt)))))))
 
 module _ {M : Type 1} (𝓤 : URA M) (H : Heap 𝓤) (A : Atoms 𝓤) (mem : Memory → SProp 𝓤) (run : Routine → Fun 𝓤) where
-  abbrev Of-dry-first-object : Contract 𝓤
-  Of-dry-first-object = tripleOf 𝓤 H A dry-first-object.signature (dry-first-object.spec 𝓤 H A mem run)
+  abbrev Of-sending-buffer-stretch : Contract 𝓤
+  Of-sending-buffer-stretch = tripleOf 𝓤 H A sending-buffer-stretch.signature (sending-buffer-stretch.spec 𝓤 H A mem run)
 
-  abbrev Of-objects-Object-implicit : Contract 𝓤
-  Of-objects-Object-implicit = tripleOf 𝓤 H A objects-Object-implicit.signature (objects-Object-implicit.spec 𝓤 H A mem run)
+  abbrev Of-dry-copy-buffer : Contract 𝓤
+  Of-dry-copy-buffer = tripleOf 𝓤 H A dry-copy-buffer.signature (dry-copy-buffer.spec 𝓤 H A mem run)
 
-  abbrev Of-dry-copy-objects : Contract 𝓤
-  Of-dry-copy-objects = tripleOf 𝓤 H A dry-copy-objects.signature (dry-copy-objects.spec 𝓤 H A mem run)
+  abbrev Of-dry-dry-objects : Contract 𝓤
+  Of-dry-dry-objects = tripleOf 𝓤 H A dry-dry-objects.signature (dry-dry-objects.spec 𝓤 H A mem run)
 
-  abbrev Of-dry-dry-streams : Contract 𝓤
-  Of-dry-dry-streams = tripleOf 𝓤 H A dry-dry-streams.signature (dry-dry-streams.spec 𝓤 H A mem run)
+  abbrev Of-dry-restore-buffer : Contract 𝓤
+  Of-dry-restore-buffer = tripleOf 𝓤 H A dry-restore-buffer.signature (dry-restore-buffer.spec 𝓤 H A mem run)
 
-  abbrev Of-dry-restore-objects : Contract 𝓤
-  Of-dry-restore-objects = tripleOf 𝓤 H A dry-restore-objects.signature (dry-restore-objects.spec 𝓤 H A mem run)
-
-module _ {M : Type 1} (𝓤 : URA M) (H : Heap 𝓤) (A : Atoms 𝓤) (W : Given 𝓤 H A) (mem : Memory → SProp 𝓤) (run : Routine → Fun 𝓤) (κ₁ : Lft) (q₁ : Share) (b₁ o₁ : ℕ) (γ₁ : GName) (sessions : List (List ℕ)) (κ₂ : Lft) (q₂ : Share) (b₂ o₂ : ℕ) (γ₂ : GName) (streams : List (List ℕ)) (κ₃ : Lft) (q₃ : Share) (b₃ o₃ : ℕ) (γ₃ : GName) (objects : List Object) (κ₄ : Lft) (q₄ : Share) (b₄ o₄ : ℕ) (γ₄ : GName) (d : List ℕ) (κ₅ : Lft) (q₅ : Share) (b₅ o₅ : ℕ) (γ₅ : GName) (sample : List ℕ) (start : Start)
-    (room₁ : Room (Array u64 5) (length sessions)) (room₂ : Room (Array u16 35) (length streams)) (room₃ : Room Object-t.the-row (length objects)) (room₄ : Room u8 (length d)) (room₅ : Room u8 (length sample)) (start-is : Is (Start-p .row) start (Start-p .val start ∷ [])) (within : (resumesFit (start .resumes) (length (sample)) ≡ true) × (256 ≤ length (sessions)) × (2048 ≤ length (streams)) × (8192 ≤ length (objects))) where
+module _ {M : Type 1} (𝓤 : URA M) (H : Heap 𝓤) (A : Atoms 𝓤) (W : Given 𝓤 H A) (mem : Memory → SProp 𝓤) (run : Routine → Fun 𝓤) (κ₁ : Lft) (q₁ : Share) (b₁ o₁ : ℕ) (γ₁ : GName) (sessions : List (List ℕ)) (κ₂ : Lft) (q₂ : Share) (b₂ o₂ : ℕ) (γ₂ : GName) (streams : List (List ℕ)) (κ₃ : Lft) (q₃ : Share) (b₃ o₃ : ℕ) (γ₃ : GName) (objects : List Object) (κ₄ : Lft) (q₄ : Share) (b₄ o₄ : ℕ) (γ₄ : GName) (held : List ℕ) (κ₅ : Lft) (q₅ : Share) (b₅ o₅ : ℕ) (γ₅ : GName) (d : List ℕ) (κ₆ : Lft) (q₆ : Share) (b₆ o₆ : ℕ) (γ₆ : GName) (sample : List ℕ) (start : Start)
+    (room₁ : Room (Array u64 6) (length sessions)) (room₂ : Room (Array u16 35) (length streams)) (room₃ : Room Object-t.the-row (length objects)) (room₄ : Room u8 (length held)) (room₅ : Room u8 (length d)) (room₆ : Room u8 (length sample)) (start-is : Is (Start-p .row) start (Start-p .val start ∷ [])) (within : (resumesFit (start .resumes) (start .frame .«stream_id») (length (sample)) ≡ true) × (start .frame .room ≤ 9223372036854775807) × (256 ≤ length (sessions)) × (2048 ≤ length (streams)) × (8192 ≤ length (objects))) where
   abbrev n₁ : ℕ
   n₁ = length sessions
 
@@ -185,40 +196,33 @@ module _ {M : Type 1} (𝓤 : URA M) (H : Heap 𝓤) (A : Atoms 𝓤) (W : Given
   n₃ = length objects
 
   abbrev n₄ : ℕ
-  n₄ = length d
+  n₄ = length held
 
   abbrev n₅ : ℕ
-  n₅ = length sample
+  n₅ = length d
 
-  abbrev x : RefT (List (List ℕ)) × (RefT (List (List ℕ)) × (RefT (List Object) × (RefT (List ℕ) × (RefT (List ℕ) × (Start-p .row .Denot × (Unit {0}))))))
-  x = (at-list b₁ o₁ γ₁ sessions, (at-list b₂ o₂ γ₂ streams, (at-list b₃ o₃ γ₃ objects, (at-list b₄ o₄ γ₄ d, (at-list b₅ o₅ γ₅ sample, (start, tt))))))
+  abbrev n₆ : ℕ
+  n₆ = length sample
 
-  abbrev at : Vals f.signature (κ₁, (κ₂, (κ₃, (κ₄, (κ₅, tt)))))
-  at = (sliceVal (b₁, o₁) n₁ ∷ [], (sliceVal (b₂, o₂) n₂ ∷ [], (sliceVal (b₃, o₃) n₃ ∷ [], (sliceVal (b₄, o₄) n₄ ∷ [], (sliceVal (b₅, o₅) n₅ ∷ [], (Start-p .val start ∷ [], tt))))))
+  abbrev x : RefT (List (List ℕ)) × (RefT (List (List ℕ)) × (RefT (List Object) × (RefT (List ℕ) × (RefT (List ℕ) × (RefT (List ℕ) × (Start-p .row .Denot × (Unit {0})))))))
+  x = (at-list b₁ o₁ γ₁ sessions, (at-list b₂ o₂ γ₂ streams, (at-list b₃ o₃ γ₃ objects, (at-list b₄ o₄ γ₄ held, (at-list b₅ o₅ γ₅ d, (at-list b₆ o₆ γ₆ sample, (start, tt)))))))
+
+  abbrev at : Vals f.signature (κ₁, (κ₂, (κ₃, (κ₄, (κ₅, (κ₆, tt))))))
+  at = (sliceVal (b₁, o₁) n₁ ∷ [], (sliceVal (b₂, o₂) n₂ ∷ [], (sliceVal (b₃, o₃) n₃ ∷ [], (sliceVal (b₄, o₄) n₄ ∷ [], (sliceVal (b₅, o₅) n₅ ∷ [], (sliceVal (b₆, o₆) n₆ ∷ [], (Start-p .val start ∷ [], tt)))))))
 
   abbrev Post : Val → SProp 𝓤
-  Post = walkOf 𝓤 H A f.ended stayed (f.clauses 𝓤 H A mem run) .post (((κ₁, (κ₂, (κ₃, (κ₄, (κ₅, tt))))), (q₁, (q₂, (q₃, (q₄, (q₅, tt))))), tt, x, at), tt)
+  Post = walkOf 𝓤 H A f.ended stayed (f.clauses 𝓤 H A mem run) .post (((κ₁, (κ₂, (κ₃, (κ₄, (κ₅, (κ₆, tt)))))), (q₁, (q₂, (q₃, (q₄, (q₅, (q₆, tt)))))), tt, x, at), tt)
 
-  -- ids are bytes
-  id-low : start .frame .«session_id» < 256
-  id-low = LL.owed Frame-t.the-type Frame-l.the-laws (start .frame) _ (LL.owed Start-t.the-type Start-l.the-laws start _ start-is .0) .1 .1 .0 .1
-
-  next-low : start .next < 256
-  next-low = LL.owed Start-t.the-type Start-l.the-laws start _ start-is .1 .0 .1
-
-  first-fits : 32 * start .frame .«session_id» + 32 ≤ length objects
-  first-fits = let long = within .3 in omega (arith, id-low, long)
-
-  exits : (r : ℕ) (ws₁ : List (List ℕ)) (ws₂ : List (List ℕ)) (ws₃ : List Object) → ((r ≡ performed start (lent (sessions) (streams) (objects)) (d) (sample) .ran .wrote) × (ws₁ ≡ sessions) × (ws₂ ≡ streams) × (ws₃ ≡ objects)) → Is (u64-p .row) r (u64-p .val r ∷ []) → length ws₁ ≡ n₁ → length ws₂ ≡ n₂ → length ws₃ ≡ n₃ → ent 𝓤 (⋆ 𝓤 H A (‵ (MutSlice (named 0) κ₁ (Array u64 5) .own (at-list b₁ o₁ γ₁ ws₁) (sliceVal (b₁, o₁) n₁ ∷ [])) ∷ ‵ (flft κ₁ q₁) ∷ ‵ (MutSlice (named 1) κ₂ (Array u16 35) .own (at-list b₂ o₂ γ₂ ws₂) (sliceVal (b₂, o₂) n₂ ∷ [])) ∷ ‵ (flft κ₂ q₂) ∷ ‵ (MutSlice (named 2) κ₃ Object-t.the-row .own (at-list b₃ o₃ γ₃ ws₃) (sliceVal (b₃, o₃) n₃ ∷ [])) ∷ ‵ (flft κ₃ q₃) ∷ ‵ (ShrSlice (named 3) κ₄ u8 .own (at-list b₄ o₄ γ₄ d) (sliceVal (b₄, o₄) n₄ ∷ [])) ∷ ‵ (flft κ₄ q₄) ∷ ‵ (ShrSlice (named 4) κ₅ u8 .own (at-list b₅ o₅ γ₅ sample) (sliceVal (b₅, o₅) n₅ ∷ [])) ∷ ‵ (flft κ₅ q₅) ∷ [])) (Post (u64-p .val r))
-  exits r ws₁ ws₂ ws₃ said r-is len₁ len₂ len₃ =
-      qed W (‵ (MutSlice (named 0) κ₁ (Array u64 5) .own (at-list b₁ o₁ γ₁ ws₁) (sliceVal (b₁, o₁) n₁ ∷ [])) ∷ ‵ (flft κ₁ q₁) ∷ ‵ (MutSlice (named 1) κ₂ (Array u16 35) .own (at-list b₂ o₂ γ₂ ws₂) (sliceVal (b₂, o₂) n₂ ∷ [])) ∷ ‵ (flft κ₂ q₂) ∷ ‵ (MutSlice (named 2) κ₃ Object-t.the-row .own (at-list b₃ o₃ γ₃ ws₃) (sliceVal (b₃, o₃) n₃ ∷ [])) ∷ ‵ (flft κ₃ q₃) ∷ ‵ (ShrSlice (named 3) κ₄ u8 .own (at-list b₄ o₄ γ₄ d) (sliceVal (b₄, o₄) n₄ ∷ [])) ∷ ‵ (flft κ₄ q₄) ∷ ‵ (ShrSlice (named 4) κ₅ u8 .own (at-list b₅ o₅ γ₅ sample) (sliceVal (b₅, o₅) n₅ ∷ [])) ∷ ‵ (flft κ₅ q₅) ∷ []) ∵
-      suffices ! _ (ends-at 𝓤 H A f.ended stayed (f.clauses 𝓤 H A mem run) W (((κ₁, (κ₂, (κ₃, (κ₄, (κ₅, tt))))), (q₁, (q₂, (q₃, (q₄, (q₅, tt))))), tt, x, at), tt) (u64-p .val r) r (ws₁, (ws₂, (ws₃, (tt, (tt, (tt, tt)))))) (len₁, (len₂, (len₃, (tt, (tt, (tt, tt))))))) $ says ! said $ nothing ! $ move ! (10 ∷ 0 ∷ []) $ join ! $ move ! (8 ∷ 0 ∷ []) $ join ! $ move ! (6 ∷ 0 ∷ []) $ join ! $ move ! (4 ∷ 0 ∷ []) $ join ! $ move ! (2 ∷ 0 ∷ []) $ join ! $
+  exits : (r : ℕ) (ws₁ : List (List ℕ)) (ws₂ : List (List ℕ)) (ws₃ : List Object) (ws₄ : List ℕ) → ((r ≡ performed start (lent (sessions) (streams) (objects) (held)) (d) (sample) .ran .wrote) × (ws₁ ≡ sessions) × (ws₂ ≡ streams) × (ws₃ ≡ objects) × (ws₄ ≡ held)) → Is (u64-p .row) r (u64-p .val r ∷ []) → length ws₁ ≡ n₁ → length ws₂ ≡ n₂ → length ws₃ ≡ n₃ → length ws₄ ≡ n₄ → ent 𝓤 (⋆ 𝓤 H A (‵ (MutSlice (named 0) κ₁ (Array u64 6) .own (at-list b₁ o₁ γ₁ ws₁) (sliceVal (b₁, o₁) n₁ ∷ [])) ∷ ‵ (flft κ₁ q₁) ∷ ‵ (MutSlice (named 1) κ₂ (Array u16 35) .own (at-list b₂ o₂ γ₂ ws₂) (sliceVal (b₂, o₂) n₂ ∷ [])) ∷ ‵ (flft κ₂ q₂) ∷ ‵ (MutSlice (named 2) κ₃ Object-t.the-row .own (at-list b₃ o₃ γ₃ ws₃) (sliceVal (b₃, o₃) n₃ ∷ [])) ∷ ‵ (flft κ₃ q₃) ∷ ‵ (MutSlice (named 3) κ₄ u8 .own (at-list b₄ o₄ γ₄ ws₄) (sliceVal (b₄, o₄) n₄ ∷ [])) ∷ ‵ (flft κ₄ q₄) ∷ ‵ (ShrSlice (named 4) κ₅ u8 .own (at-list b₅ o₅ γ₅ d) (sliceVal (b₅, o₅) n₅ ∷ [])) ∷ ‵ (flft κ₅ q₅) ∷ ‵ (ShrSlice (named 5) κ₆ u8 .own (at-list b₆ o₆ γ₆ sample) (sliceVal (b₆, o₆) n₆ ∷ [])) ∷ ‵ (flft κ₆ q₆) ∷ [])) (Post (u64-p .val r))
+  exits r ws₁ ws₂ ws₃ ws₄ said r-is len₁ len₂ len₃ len₄ =
+      qed W (‵ (MutSlice (named 0) κ₁ (Array u64 6) .own (at-list b₁ o₁ γ₁ ws₁) (sliceVal (b₁, o₁) n₁ ∷ [])) ∷ ‵ (flft κ₁ q₁) ∷ ‵ (MutSlice (named 1) κ₂ (Array u16 35) .own (at-list b₂ o₂ γ₂ ws₂) (sliceVal (b₂, o₂) n₂ ∷ [])) ∷ ‵ (flft κ₂ q₂) ∷ ‵ (MutSlice (named 2) κ₃ Object-t.the-row .own (at-list b₃ o₃ γ₃ ws₃) (sliceVal (b₃, o₃) n₃ ∷ [])) ∷ ‵ (flft κ₃ q₃) ∷ ‵ (MutSlice (named 3) κ₄ u8 .own (at-list b₄ o₄ γ₄ ws₄) (sliceVal (b₄, o₄) n₄ ∷ [])) ∷ ‵ (flft κ₄ q₄) ∷ ‵ (ShrSlice (named 4) κ₅ u8 .own (at-list b₅ o₅ γ₅ d) (sliceVal (b₅, o₅) n₅ ∷ [])) ∷ ‵ (flft κ₅ q₅) ∷ ‵ (ShrSlice (named 5) κ₆ u8 .own (at-list b₆ o₆ γ₆ sample) (sliceVal (b₆, o₆) n₆ ∷ [])) ∷ ‵ (flft κ₆ q₆) ∷ []) ∵
+      suffices ! _ (ends-at 𝓤 H A f.ended stayed (f.clauses 𝓤 H A mem run) W (((κ₁, (κ₂, (κ₃, (κ₄, (κ₅, (κ₆, tt)))))), (q₁, (q₂, (q₃, (q₄, (q₅, (q₆, tt)))))), tt, x, at), tt) (u64-p .val r) r (ws₁, (ws₂, (ws₃, (ws₄, (tt, (tt, (tt, tt))))))) (len₁, (len₂, (len₃, (len₄, (tt, (tt, (tt, tt)))))))) $ says ! said $ nothing ! $ move ! (12 ∷ 0 ∷ []) $ join ! $ move ! (10 ∷ 0 ∷ []) $ join ! $ move ! (8 ∷ 0 ∷ []) $ join ! $ move ! (6 ∷ 0 ∷ []) $ join ! $ move ! (4 ∷ 0 ∷ []) $ join ! $ move ! (2 ∷ 0 ∷ []) $ join ! $
       frame ! $ nothing ! $
-      owned ! (Start-p .row) (Is (Start-p .row)) (Start-p .makes 𝓤 H A W) start (Start-p .val start ∷ []) start-is $ fjoin ! $ move ! (5 ∷ 0 ∷ []) $ fjoin ! $ move ! (4 ∷ 0 ∷ []) $ fjoin ! $ move ! (3 ∷ 0 ∷ []) $ fjoin ! $ move ! (2 ∷ 0 ∷ []) $ fjoin ! $ move ! (1 ∷ 0 ∷ []) $ fjoin ! $
+      owned ! (Start-p .row) (Is (Start-p .row)) (Start-p .makes 𝓤 H A W) start (Start-p .val start ∷ []) start-is $ fjoin ! $ move ! (6 ∷ 0 ∷ []) $ fjoin ! $ move ! (5 ∷ 0 ∷ []) $ fjoin ! $ move ! (4 ∷ 0 ∷ []) $ fjoin ! $ move ! (3 ∷ 0 ∷ []) $ fjoin ! $ move ! (2 ∷ 0 ∷ []) $ fjoin ! $ move ! (1 ∷ 0 ∷ []) $ fjoin ! $
       frame ! $
       owned ! (u64-p .row) (Is (u64-p .row)) (u64-p .makes 𝓤 H A W) r _ r-is $ done !
 
-  module _ (𝓣 : Tables 𝓤 H) (known-dry-first-object : Triple 𝓤 (𝓣 .C #dry-first-object) (Of-dry-first-object 𝓤 H A mem run)) (known-objects-Object-implicit : Triple 𝓤 (𝓣 .C #objects-Object-implicit) (Of-objects-Object-implicit 𝓤 H A mem run)) (known-dry-copy-objects : Triple 𝓤 (𝓣 .C #dry-copy-objects) (Of-dry-copy-objects 𝓤 H A mem run)) (known-dry-dry-streams : Triple 𝓤 (𝓣 .C #dry-dry-streams) (Of-dry-dry-streams 𝓤 H A mem run)) (known-dry-restore-objects : Triple 𝓤 (𝓣 .C #dry-restore-objects) (Of-dry-restore-objects 𝓤 H A mem run)) (l₀ l₁ l₂ l₃ l₄ l₅ l₆ l₇ l₈ l₉ l₁₀ l₁₁ l₁₂ l₁₃ l₁₄ l₁₅ l₁₆ l₁₇ l₁₈ l₁₉ l₂₀ l₂₁ l₂₂ l₂₃ l₂₄ l₂₅ l₂₆ l₂₇ l₂₈ : ℕ) where
+  module _ (𝓣 : Tables 𝓤 H) (known-sending-buffer-stretch : Triple 𝓤 (𝓣 .C #sending-buffer-stretch) (Of-sending-buffer-stretch 𝓤 H A mem run)) (known-dry-copy-buffer : Triple 𝓤 (𝓣 .C #dry-copy-buffer) (Of-dry-copy-buffer 𝓤 H A mem run)) (known-dry-dry-objects : Triple 𝓤 (𝓣 .C #dry-dry-objects) (Of-dry-dry-objects 𝓤 H A mem run)) (known-dry-restore-buffer : Triple 𝓤 (𝓣 .C #dry-restore-buffer) (Of-dry-restore-buffer 𝓤 H A mem run)) (l₀ l₁ l₂ l₃ l₄ l₅ l₆ l₇ l₈ l₉ l₁₀ l₁₁ l₁₂ l₁₃ l₁₄ l₁₅ l₁₆ l₁₇ l₁₈ l₁₉ l₂₀ l₂₁ l₂₂ l₂₃ l₂₄ l₂₅ l₂₆ l₂₇ l₂₈ l₂₉ : ℕ) where
     abbrev C : Calls 𝓤 H
     C = 𝓣 .C
 
@@ -229,151 +233,137 @@ module _ {M : Type 1} (𝓤 : URA M) (H : Heap 𝓤) (A : Atoms 𝓤) (W : Given
     fm = fmOf 𝓤 H (W .laws) 𝓣
 
     abbrev En : Env 𝓤 H
-    En = ((tyInt w64), l₀) ∷ ((sliceTy (tyRef (named 0) mut (pointee ((Array u64 5) .written)))), l₁) ∷ ((sliceTy (tyRef (named 1) mut (pointee ((Array u16 35) .written)))), l₂) ∷ ((sliceTy (tyRef (named 2) mut (pointee (Object-t.the-row .written)))), l₃) ∷ ((sliceTy (tyRef (named 3) imm (pointee (u8 .written)))), l₄) ∷ ((sliceTy (tyRef (named 4) imm (pointee (u8 .written)))), l₅) ∷ (Start-l.mir, l₆) ∷ (Frame-l.mir, l₇) ∷ ((tyInt w8), l₈) ∷ ((tyInt w64), l₉) ∷ (ObjectNumber-l.mir, l₁₀) ∷ (Object-l.mir, l₁₁) ∷ ((tyArray Object-l.mir 32), l₁₂) ∷ ((tyInt w64), l₁₃) ∷ (tyUnit, l₁₄) ∷ ((tyRef erased imm (pointee (Object-t.the-row .written))), l₁₅) ∷ ((sliceTy (tyRef erased imm (pointee (Object-t.the-row .written)))), l₁₆) ∷ ((tyRef erased mut (pointee ((Array Object-t.the-row 32) .written))), l₁₇) ∷ ((sliceTy (tyRef erased mut (pointee (Object-t.the-row .written)))), l₁₈) ∷ ((tyRef erased mut (pointee ((Array u64 5) .written))), l₁₉) ∷ ((sliceTy (tyRef erased mut (pointee ((Array u64 5) .written)))), l₂₀) ∷ ((tyRef erased mut (pointee ((Array u16 35) .written))), l₂₁) ∷ ((sliceTy (tyRef erased mut (pointee ((Array u16 35) .written)))), l₂₂) ∷ ((tyRef erased mut (pointee (Object-t.the-row .written))), l₂₃) ∷ ((sliceTy (tyRef erased mut (pointee (Object-t.the-row .written)))), l₂₄) ∷ ((tyRef erased imm (pointee ((Array Object-t.the-row 32) .written))), l₂₅) ∷ ((sliceTy (tyRef erased imm (pointee (Object-t.the-row .written)))), l₂₆) ∷ ((tyRef erased mut (pointee (Object-t.the-row .written))), l₂₇) ∷ ((sliceTy (tyRef erased mut (pointee (Object-t.the-row .written)))), l₂₈) ∷ []
+    En = ((tyInt w64), l₀) ∷ ((sliceTy (tyRef (named 0) mut (pointee ((Array u64 6) .written)))), l₁) ∷ ((sliceTy (tyRef (named 1) mut (pointee ((Array u16 35) .written)))), l₂) ∷ ((sliceTy (tyRef (named 2) mut (pointee (Object-t.the-row .written)))), l₃) ∷ ((sliceTy (tyRef (named 3) mut (pointee (u8 .written)))), l₄) ∷ ((sliceTy (tyRef (named 4) imm (pointee (u8 .written)))), l₅) ∷ ((sliceTy (tyRef (named 5) imm (pointee (u8 .written)))), l₆) ∷ (Start-l.mir, l₇) ∷ (Frame-l.mir, l₈) ∷ ((tyInt w64), l₉) ∷ (Stretch-l.mir, l₁₀) ∷ (BufferCopy-l.mir, l₁₁) ∷ ((tyInt w64), l₁₂) ∷ ((tyRef erased imm (pointee ((Array u64 6) .written))), l₁₃) ∷ ((sliceTy (tyRef erased imm (pointee ((Array u64 6) .written)))), l₁₄) ∷ ((tyRef erased imm (pointee ((Array u16 35) .written))), l₁₅) ∷ ((sliceTy (tyRef erased imm (pointee ((Array u16 35) .written)))), l₁₆) ∷ ((tyRef erased imm (pointee (u8 .written))), l₁₇) ∷ ((sliceTy (tyRef erased imm (pointee (u8 .written)))), l₁₈) ∷ ((tyRef erased mut (pointee ((Array u64 6) .written))), l₁₉) ∷ ((sliceTy (tyRef erased mut (pointee ((Array u64 6) .written)))), l₂₀) ∷ ((tyRef erased mut (pointee ((Array u16 35) .written))), l₂₁) ∷ ((sliceTy (tyRef erased mut (pointee ((Array u16 35) .written)))), l₂₂) ∷ ((tyRef erased mut (pointee (Object-t.the-row .written))), l₂₃) ∷ ((sliceTy (tyRef erased mut (pointee (Object-t.the-row .written)))), l₂₄) ∷ ((tyRef erased mut (pointee (u8 .written))), l₂₅) ∷ ((sliceTy (tyRef erased mut (pointee (u8 .written)))), l₂₆) ∷ (tyUnit, l₂₇) ∷ ((tyRef erased mut (pointee (u8 .written))), l₂₈) ∷ ((sliceTy (tyRef erased mut (pointee (u8 .written)))), l₂₉) ∷ []
 
-    part-24-0 : (is-3 : Is (u64-p .row) (32 * ((start .frame) .«session_id»)) (u64-p .val (32 * ((start .frame) .«session_id»)) ∷ [])) → (is-5 : Is (Object-p .row) (implicitOf (ObjectNumber-of 0) 0 0) (Object-p .val (implicitOf (ObjectNumber-of 0) 0 0) ∷ [])) → (asks-11 : ((32 * ((start .frame) .«session_id»)) + 32 ≤ length (objects)) × (32 ≤ length ((replicate 32 (implicitOf (ObjectNumber-of 0) 0 0))))) → (v-11-12 : Val) → (ais-11-12 : Is (Array Object-t.the-row 32) (copied same blank (objectSpot (32 * ((start .frame) .«session_id»))) 32 (objects) ((replicate 32 (implicitOf (ObjectNumber-of 0) 0 0)))) (v-11-12 ∷ [])) → (is-11 : Is (unit-p .row) tt (unit-p .val tt ∷ [])) → (asks-18 : (resumesFit (start .resumes) (length (sample)) ≡ true) × (256 ≤ length (sessions)) × (2048 ≤ length (streams))) → (len-18-sessions : length sessions ≡ n₁) → (len-18-streams : length streams ≡ n₂) → (len-18-objects : length (performed start (lent (sessions) (streams) (objects)) (d) (sample) .tables .objects) ≡ n₃) → (is-18 : Is (u64-p .row) (performed start (lent (sessions) (streams) (objects)) (d) (sample) .ran .wrote) (u64-p .val (performed start (lent (sessions) (streams) (objects)) (d) (sample) .ran .wrote) ∷ [])) → (asks-23 : (32 ≤ length ((copied same blank (objectSpot (32 * ((start .frame) .«session_id»))) 32 (objects) ((replicate 32 (implicitOf (ObjectNumber-of 0) 0 0)))))) × ((32 * ((start .frame) .«session_id»)) + 32 ≤ length ((performed start (lent (sessions) (streams) (objects)) (d) (sample) .tables .objects)))) → (v-23-12 : Val) → (vis-23-12 : Is (Array Object-t.the-row 32) (copied same blank (objectSpot (32 * ((start .frame) .«session_id»))) 32 (objects) ((replicate 32 (implicitOf (ObjectNumber-of 0) 0 0)))) (v-23-12 ∷ [])) → (len-23-objects : length (restored same blank (objectSpot (32 * ((start .frame) .«session_id»))) 32 ((copied same blank (objectSpot (32 * ((start .frame) .«session_id»))) 32 (objects) ((replicate 32 (implicitOf (ObjectNumber-of 0) 0 0))))) ((performed start (lent (sessions) (streams) (objects)) (d) (sample) .tables .objects))) ≡ n₃) → (is-23 : Is (unit-p .row) tt (unit-p .val tt ∷ [])) → Sq W (‵ (MutSlice (named 0) κ₁ (Array u64 5) .own (at-list b₁ o₁ γ₁ sessions) (sliceVal (b₁, o₁) n₁ ∷ [])) ∷ ‵ (flft κ₁ q₁) ∷ ‵ (MutSlice (named 0) κ₂ (Array u16 35) .own (at-list b₂ o₂ γ₂ streams) (sliceVal (b₂, o₂) n₂ ∷ [])) ∷ ‵ (flft κ₂ q₂) ∷ ‵ (MutSlice (named 0) κ₃ Object-t.the-row .own (at-list b₃ o₃ γ₃ (restored same blank (objectSpot (32 * ((start .frame) .«session_id»))) 32 ((copied same blank (objectSpot (32 * ((start .frame) .«session_id»))) 32 (objects) ((replicate 32 (implicitOf (ObjectNumber-of 0) 0 0))))) ((performed start (lent (sessions) (streams) (objects)) (d) (sample) .tables .objects)))) (sliceVal (b₃, o₃) n₃ ∷ [])) ∷ ‵ (flft κ₃ q₃) ∷ ‵ (ShrSlice (named 0) κ₄ u8 .own (at-list b₄ o₄ γ₄ d) (sliceVal (b₄, o₄) n₄ ∷ [])) ∷ ‵ (flft κ₄ q₄) ∷ ‵ (ShrSlice (named 0) κ₅ u8 .own (at-list b₅ o₅ γ₅ sample) (sliceVal (b₅, o₅) n₅ ∷ [])) ∷ ‵ (flft κ₅ q₅) ∷ full 𝓤 (sliceTy (tyRef erased mut (pointee (Object-t.the-row .written)))) l₂₈ (sliceVal (b₃, o₃) n₃) (full 𝓤 (tyRef erased mut (pointee (Object-t.the-row .written))) l₂₇ (vptr b₃ o₃) (full 𝓤 (sliceTy (tyRef erased imm (pointee (Object-t.the-row .written)))) l₂₆ (sliceVal (l₁₂, 0) 32) (full 𝓤 (tyRef erased imm (pointee ((Array Object-t.the-row 32) .written))) l₂₅ (vptr l₁₂ 0) (full 𝓤 (sliceTy (tyRef erased mut (pointee (Object-t.the-row .written)))) l₂₄ (sliceVal (b₃, o₃) n₃) (full 𝓤 (tyRef erased mut (pointee (Object-t.the-row .written))) l₂₃ (vptr b₃ o₃) (full 𝓤 (sliceTy (tyRef erased mut (pointee ((Array u16 35) .written)))) l₂₂ (sliceVal (b₂, o₂) n₂) (full 𝓤 (tyRef erased mut (pointee ((Array u16 35) .written))) l₂₁ (vptr b₂ o₂) (full 𝓤 (sliceTy (tyRef erased mut (pointee ((Array u64 5) .written)))) l₂₀ (sliceVal (b₁, o₁) n₁) (full 𝓤 (tyRef erased mut (pointee ((Array u64 5) .written))) l₁₉ (vptr b₁ o₁) (full 𝓤 (sliceTy (tyRef erased mut (pointee (Object-t.the-row .written)))) l₁₈ (sliceVal (l₁₂, 0) 32) (full 𝓤 (tyRef erased mut (pointee ((Array Object-t.the-row 32) .written))) l₁₇ (vptr l₁₂ 0) (full 𝓤 (sliceTy (tyRef erased imm (pointee (Object-t.the-row .written)))) l₁₆ (sliceVal (b₃, o₃) n₃) (full 𝓤 (tyRef erased imm (pointee (Object-t.the-row .written))) l₁₅ (vptr b₃ o₃) (full 𝓤 tyUnit l₁₄ (unit-p .val tt) (full 𝓤 (tyInt w64) l₁₃ (u64-p .val (performed start (lent (sessions) (streams) (objects)) (d) (sample) .ran .wrote)) (full 𝓤 (tyArray Object-l.mir 32) l₁₂ v-23-12 (full 𝓤 Object-l.mir l₁₁ (Object-p .val (implicitOf (ObjectNumber-of 0) 0 0)) (full 𝓤 ObjectNumber-l.mir l₁₀ (ObjectNumber-p .val (ObjectNumber-of 0)) (full 𝓤 (tyInt w64) l₉ (u64-p .val (32 * ((start .frame) .«session_id»))) (full 𝓤 (tyInt w8) l₈ (u8-p .val ((start .frame) .«session_id»)) (full 𝓤 Frame-l.mir l₇ (Frame-p .val (start .frame)) (full 𝓤 Start-l.mir l₆ (Start-p .val start) (full 𝓤 (sliceTy (tyRef (named 4) imm (pointee (u8 .written)))) l₅ (sliceVal (b₅, o₅) n₅) (full 𝓤 (sliceTy (tyRef (named 3) imm (pointee (u8 .written)))) l₄ (sliceVal (b₄, o₄) n₄) (full 𝓤 (sliceTy (tyRef (named 2) mut (pointee (Object-t.the-row .written)))) l₃ (sliceVal (b₃, o₃) n₃) (full 𝓤 (sliceTy (tyRef (named 1) mut (pointee ((Array u16 35) .written)))) l₂ (sliceVal (b₂, o₂) n₂) (full 𝓤 (sliceTy (tyRef (named 0) mut (pointee ((Array u64 5) .written)))) l₁ (sliceVal (b₁, o₁) n₁) (free 𝓤 (tyInt w64) l₀ ([])))))))))))))))))))))))))))))) (runs C Λ En mir.t-24 (atRet En Post))
-    part-24-0 is-3 is-5 asks-11 v-11-12 ais-11-12 is-11 asks-18 len-18-sessions len-18-streams len-18-objects is-18 asks-23 v-23-12 vis-23-12 len-23-objects is-23 =
-        assigns ! (of-opd ! (load ! (from ! (stop !)) (look ! 40 refl))) (from ! (stop !)) (init ! 66 refl (u64-p .typed 𝓤 H A W (performed start (lent (sessions) (streams) (objects)) (d) (sample) .ran .wrote) is-18)) $
-        returns ! (look ! 66 refl) $ forget ! 10 refl $ forget ! 12 refl $ forget ! 14 refl $ forget ! 16 refl $ forget ! 18 refl $ forget ! 20 refl $ forget ! 22 refl $ forget ! 24 refl $ forget ! 26 refl $ forget ! 28 refl $ forget ! 30 refl $ forget ! 32 refl $ forget ! 34 refl $ forget ! 36 refl $ forget ! 38 refl $ forget ! 40 refl $ forget ! 42 refl $ forget ! 44 refl $ forget ! 46 refl $ forget ! 48 refl $ forget ! 50 refl $ forget ! 52 refl $ forget ! 54 refl $ forget ! 56 refl $ forget ! 58 refl $ forget ! 60 refl $ forget ! 62 refl $ forget ! 64 refl $ forget ! 66 refl $ move ! (66 ∷ 67 ∷ []) $ free1 ! $ move ! (64 ∷ 65 ∷ []) $ free1 ! $ move ! (62 ∷ 63 ∷ []) $ free1 ! $ move ! (60 ∷ 61 ∷ []) $ free1 ! $ move ! (58 ∷ 59 ∷ []) $ free1 ! $ move ! (56 ∷ 57 ∷ []) $ free1 ! $ move ! (54 ∷ 55 ∷ []) $ free1 ! $ move ! (52 ∷ 53 ∷ []) $ free1 ! $ move ! (50 ∷ 51 ∷ []) $ free1 ! $ move ! (48 ∷ 49 ∷ []) $ free1 ! $ move ! (46 ∷ 47 ∷ []) $ free1 ! $ move ! (44 ∷ 45 ∷ []) $ free1 ! $ move ! (42 ∷ 43 ∷ []) $ free1 ! $ move ! (40 ∷ 41 ∷ []) $ free1 ! $ move ! (38 ∷ 39 ∷ []) $ free1 ! $ move ! (36 ∷ 37 ∷ []) $ free1 ! $ move ! (34 ∷ 35 ∷ []) $ free1 ! $ move ! (32 ∷ 33 ∷ []) $ free1 ! $ move ! (30 ∷ 31 ∷ []) $ free1 ! $ move ! (28 ∷ 29 ∷ []) $ free1 ! $ move ! (26 ∷ 27 ∷ []) $ free1 ! $ move ! (24 ∷ 25 ∷ []) $ free1 ! $ move ! (22 ∷ 23 ∷ []) $ free1 ! $ move ! (20 ∷ 21 ∷ []) $ free1 ! $ move ! (18 ∷ 19 ∷ []) $ free1 ! $ move ! (16 ∷ 17 ∷ []) $ free1 ! $ move ! (14 ∷ 15 ∷ []) $ free1 ! $ move ! (12 ∷ 13 ∷ []) $ free1 ! $ move ! (10 ∷ 11 ∷ []) $ free1 ! $ free0 ! $
-        by ! (exits (performed start (lent (sessions) (streams) (objects)) (d) (sample) .ran .wrote) sessions streams (restored same blank (objectSpot (32 * ((start .frame) .«session_id»))) 32 ((copied same blank (objectSpot (32 * ((start .frame) .«session_id»))) 32 (objects) ((replicate 32 (implicitOf (ObjectNumber-of 0) 0 0))))) ((performed start (lent (sessions) (streams) (objects)) (d) (sample) .tables .objects))) ((refl, refl, refl, objects-back start id-low next-low (lent sessions streams objects) d sample)) is-18 len-18-sessions len-18-streams len-23-objects)
+    part-23-0 : (fact-7 : ((bufferStretch (sessions) (streams) n₄ ((start .frame) .«session_id») ((start .frame) .«stream_id»)) .start ≤ (bufferStretch (sessions) (streams) n₄ ((start .frame) .«session_id») ((start .frame) .«stream_id»)) .end) × ((bufferStretch (sessions) (streams) n₄ ((start .frame) .«session_id») ((start .frame) .«stream_id»)) .end ≤ n₄) × ((bufferStretch (sessions) (streams) n₄ ((start .frame) .«session_id») ((start .frame) .«stream_id»)) .end - (bufferStretch (sessions) (streams) n₄ ((start .frame) .«session_id») ((start .frame) .«stream_id»)) .start ≤ 16384)) → (is-7 : Is (Stretch-p .row) (bufferStretch (sessions) (streams) n₄ ((start .frame) .«session_id») ((start .frame) .«stream_id»)) (Stretch-p .val (bufferStretch (sessions) (streams) n₄ ((start .frame) .«session_id») ((start .frame) .«stream_id»)) ∷ [])) → (asks-10 : ((bufferStretch (sessions) (streams) n₄ ((start .frame) .«session_id») ((start .frame) .«stream_id»)) .start ≤ (bufferStretch (sessions) (streams) n₄ ((start .frame) .«session_id») ((start .frame) .«stream_id»)) .end) × ((bufferStretch (sessions) (streams) n₄ ((start .frame) .«session_id») ((start .frame) .«stream_id»)) .end ≤ length (held)) × ((bufferStretch (sessions) (streams) n₄ ((start .frame) .«session_id») ((start .frame) .«stream_id»)) .end - (bufferStretch (sessions) (streams) n₄ ((start .frame) .«session_id») ((start .frame) .«stream_id»)) .start ≤ 16384)) → (is-10 : Is (BufferCopy-p .row) (bufferCopy (bufferIn (held) (bufferStretch (sessions) (streams) n₄ ((start .frame) .«session_id») ((start .frame) .«stream_id»)))) (BufferCopy-p .val (bufferCopy (bufferIn (held) (bufferStretch (sessions) (streams) n₄ ((start .frame) .«session_id») ((start .frame) .«stream_id»)))) ∷ [])) → (asks-19 : (resumesFit (start .resumes) (start .frame .«stream_id») (length (sample)) ≡ true) × (start .frame .room ≤ 9223372036854775807) × (256 ≤ length (sessions)) × (2048 ≤ length (streams)) × (8192 ≤ length (objects))) → (len-19-sessions : length sessions ≡ n₁) → (len-19-streams : length streams ≡ n₂) → (len-19-objects : length objects ≡ n₃) → (len-19-held : length (performed start (lent (sessions) (streams) (objects) (held)) (d) (sample) .tables .held) ≡ n₄) → (is-19 : Is (u64-p .row) (performed start (lent (sessions) (streams) (objects) (held)) (d) (sample) .ran .wrote) (u64-p .val (performed start (lent (sessions) (streams) (objects) (held)) (d) (sample) .ran .wrote) ∷ [])) → (asks-22 : ((bufferStretch (sessions) (streams) n₄ ((start .frame) .«session_id») ((start .frame) .«stream_id»)) .start ≤ (bufferStretch (sessions) (streams) n₄ ((start .frame) .«session_id») ((start .frame) .«stream_id»)) .end) × ((bufferStretch (sessions) (streams) n₄ ((start .frame) .«session_id») ((start .frame) .«stream_id»)) .end - (bufferStretch (sessions) (streams) n₄ ((start .frame) .«session_id») ((start .frame) .«stream_id»)) .start ≤ 16384) × (length ((bufferCopy (bufferIn (held) (bufferStretch (sessions) (streams) n₄ ((start .frame) .«session_id») ((start .frame) .«stream_id»)))) .0) ≡ 16384)) → (len-22-held : length (putBytes ((performed start (lent (sessions) (streams) (objects) (held)) (d) (sample) .tables .held)) ((bufferStretch (sessions) (streams) n₄ ((start .frame) .«session_id») ((start .frame) .«stream_id»)) .start) (bufferBack (bufferCopy (bufferIn (held) (bufferStretch (sessions) (streams) n₄ ((start .frame) .«session_id») ((start .frame) .«stream_id»)))) ((bufferStretch (sessions) (streams) n₄ ((start .frame) .«session_id») ((start .frame) .«stream_id»)) .end - (bufferStretch (sessions) (streams) n₄ ((start .frame) .«session_id») ((start .frame) .«stream_id»)) .start))) ≡ n₄) → (is-22 : Is (unit-p .row) tt (unit-p .val tt ∷ [])) → Sq W (‵ (MutSlice (named 0) κ₁ (Array u64 6) .own (at-list b₁ o₁ γ₁ sessions) (sliceVal (b₁, o₁) n₁ ∷ [])) ∷ ‵ (flft κ₁ q₁) ∷ ‵ (MutSlice (named 0) κ₂ (Array u16 35) .own (at-list b₂ o₂ γ₂ streams) (sliceVal (b₂, o₂) n₂ ∷ [])) ∷ ‵ (flft κ₂ q₂) ∷ ‵ (MutSlice (named 0) κ₃ Object-t.the-row .own (at-list b₃ o₃ γ₃ objects) (sliceVal (b₃, o₃) n₃ ∷ [])) ∷ ‵ (flft κ₃ q₃) ∷ ‵ (MutSlice (named 0) κ₄ u8 .own (at-list b₄ o₄ γ₄ (putBytes ((performed start (lent (sessions) (streams) (objects) (held)) (d) (sample) .tables .held)) ((bufferStretch (sessions) (streams) n₄ ((start .frame) .«session_id») ((start .frame) .«stream_id»)) .start) (bufferBack (bufferCopy (bufferIn (held) (bufferStretch (sessions) (streams) n₄ ((start .frame) .«session_id») ((start .frame) .«stream_id»)))) ((bufferStretch (sessions) (streams) n₄ ((start .frame) .«session_id») ((start .frame) .«stream_id»)) .end - (bufferStretch (sessions) (streams) n₄ ((start .frame) .«session_id») ((start .frame) .«stream_id»)) .start)))) (sliceVal (b₄, o₄) n₄ ∷ [])) ∷ ‵ (flft κ₄ q₄) ∷ ‵ (ShrSlice (named 0) κ₅ u8 .own (at-list b₅ o₅ γ₅ d) (sliceVal (b₅, o₅) n₅ ∷ [])) ∷ ‵ (flft κ₅ q₅) ∷ ‵ (ShrSlice (named 0) κ₆ u8 .own (at-list b₆ o₆ γ₆ sample) (sliceVal (b₆, o₆) n₆ ∷ [])) ∷ ‵ (flft κ₆ q₆) ∷ full 𝓤 (sliceTy (tyRef erased mut (pointee (u8 .written)))) l₂₉ (sliceVal (b₄, o₄) n₄) (full 𝓤 (tyRef erased mut (pointee (u8 .written))) l₂₈ (vptr b₄ o₄) (full 𝓤 tyUnit l₂₇ (unit-p .val tt) (full 𝓤 (sliceTy (tyRef erased mut (pointee (u8 .written)))) l₂₆ (sliceVal (b₄, o₄) n₄) (full 𝓤 (tyRef erased mut (pointee (u8 .written))) l₂₅ (vptr b₄ o₄) (full 𝓤 (sliceTy (tyRef erased mut (pointee (Object-t.the-row .written)))) l₂₄ (sliceVal (b₃, o₃) n₃) (full 𝓤 (tyRef erased mut (pointee (Object-t.the-row .written))) l₂₃ (vptr b₃ o₃) (full 𝓤 (sliceTy (tyRef erased mut (pointee ((Array u16 35) .written)))) l₂₂ (sliceVal (b₂, o₂) n₂) (full 𝓤 (tyRef erased mut (pointee ((Array u16 35) .written))) l₂₁ (vptr b₂ o₂) (full 𝓤 (sliceTy (tyRef erased mut (pointee ((Array u64 6) .written)))) l₂₀ (sliceVal (b₁, o₁) n₁) (full 𝓤 (tyRef erased mut (pointee ((Array u64 6) .written))) l₁₉ (vptr b₁ o₁) (full 𝓤 (sliceTy (tyRef erased imm (pointee (u8 .written)))) l₁₈ (sliceVal (b₄, o₄) n₄) (full 𝓤 (tyRef erased imm (pointee (u8 .written))) l₁₇ (vptr b₄ o₄) (full 𝓤 (sliceTy (tyRef erased imm (pointee ((Array u16 35) .written)))) l₁₆ (sliceVal (b₂, o₂) n₂) (full 𝓤 (tyRef erased imm (pointee ((Array u16 35) .written))) l₁₅ (vptr b₂ o₂) (full 𝓤 (sliceTy (tyRef erased imm (pointee ((Array u64 6) .written)))) l₁₄ (sliceVal (b₁, o₁) n₁) (full 𝓤 (tyRef erased imm (pointee ((Array u64 6) .written))) l₁₃ (vptr b₁ o₁) (full 𝓤 (tyInt w64) l₁₂ (u64-p .val (performed start (lent (sessions) (streams) (objects) (held)) (d) (sample) .ran .wrote)) (full 𝓤 BufferCopy-l.mir l₁₁ (BufferCopy-p .val (bufferCopy (bufferIn (held) (bufferStretch (sessions) (streams) n₄ ((start .frame) .«session_id») ((start .frame) .«stream_id»))))) (full 𝓤 Stretch-l.mir l₁₀ (Stretch-p .val (bufferStretch (sessions) (streams) n₄ ((start .frame) .«session_id») ((start .frame) .«stream_id»))) (full 𝓤 (tyInt w64) l₉ (u64-p .val n₄) (full 𝓤 Frame-l.mir l₈ (Frame-p .val (start .frame)) (full 𝓤 Start-l.mir l₇ (Start-p .val start) (full 𝓤 (sliceTy (tyRef (named 5) imm (pointee (u8 .written)))) l₆ (sliceVal (b₆, o₆) n₆) (full 𝓤 (sliceTy (tyRef (named 4) imm (pointee (u8 .written)))) l₅ (sliceVal (b₅, o₅) n₅) (full 𝓤 (sliceTy (tyRef (named 3) mut (pointee (u8 .written)))) l₄ (sliceVal (b₄, o₄) n₄) (full 𝓤 (sliceTy (tyRef (named 2) mut (pointee (Object-t.the-row .written)))) l₃ (sliceVal (b₃, o₃) n₃) (full 𝓤 (sliceTy (tyRef (named 1) mut (pointee ((Array u16 35) .written)))) l₂ (sliceVal (b₂, o₂) n₂) (full 𝓤 (sliceTy (tyRef (named 0) mut (pointee ((Array u64 6) .written)))) l₁ (sliceVal (b₁, o₁) n₁) (free 𝓤 (tyInt w64) l₀ ([]))))))))))))))))))))))))))))))) (runs C Λ En mir.t-23 (atRet En Post))
+    part-23-0 fact-7 is-7 asks-10 is-10 asks-19 len-19-sessions len-19-streams len-19-objects len-19-held is-19 asks-22 len-22-held is-22 =
+        assigns ! (of-opd ! (load ! (from ! (stop !)) (look ! 46 refl))) (from ! (stop !)) (init ! 70 refl (u64-p .typed 𝓤 H A W (performed start (lent (sessions) (streams) (objects) (held)) (d) (sample) .ran .wrote) is-19)) $
+        returns ! (look ! 70 refl) $ forget ! 12 refl $ forget ! 14 refl $ forget ! 16 refl $ forget ! 18 refl $ forget ! 20 refl $ forget ! 22 refl $ forget ! 24 refl $ forget ! 26 refl $ forget ! 28 refl $ forget ! 30 refl $ forget ! 32 refl $ forget ! 34 refl $ forget ! 36 refl $ forget ! 38 refl $ forget ! 40 refl $ forget ! 42 refl $ forget ! 44 refl $ forget ! 46 refl $ forget ! 48 refl $ forget ! 50 refl $ forget ! 52 refl $ forget ! 54 refl $ forget ! 56 refl $ forget ! 58 refl $ forget ! 60 refl $ forget ! 62 refl $ forget ! 64 refl $ forget ! 66 refl $ forget ! 68 refl $ forget ! 70 refl $ move ! (70 ∷ 71 ∷ []) $ free1 ! $ move ! (68 ∷ 69 ∷ []) $ free1 ! $ move ! (66 ∷ 67 ∷ []) $ free1 ! $ move ! (64 ∷ 65 ∷ []) $ free1 ! $ move ! (62 ∷ 63 ∷ []) $ free1 ! $ move ! (60 ∷ 61 ∷ []) $ free1 ! $ move ! (58 ∷ 59 ∷ []) $ free1 ! $ move ! (56 ∷ 57 ∷ []) $ free1 ! $ move ! (54 ∷ 55 ∷ []) $ free1 ! $ move ! (52 ∷ 53 ∷ []) $ free1 ! $ move ! (50 ∷ 51 ∷ []) $ free1 ! $ move ! (48 ∷ 49 ∷ []) $ free1 ! $ move ! (46 ∷ 47 ∷ []) $ free1 ! $ move ! (44 ∷ 45 ∷ []) $ free1 ! $ move ! (42 ∷ 43 ∷ []) $ free1 ! $ move ! (40 ∷ 41 ∷ []) $ free1 ! $ move ! (38 ∷ 39 ∷ []) $ free1 ! $ move ! (36 ∷ 37 ∷ []) $ free1 ! $ move ! (34 ∷ 35 ∷ []) $ free1 ! $ move ! (32 ∷ 33 ∷ []) $ free1 ! $ move ! (30 ∷ 31 ∷ []) $ free1 ! $ move ! (28 ∷ 29 ∷ []) $ free1 ! $ move ! (26 ∷ 27 ∷ []) $ free1 ! $ move ! (24 ∷ 25 ∷ []) $ free1 ! $ move ! (22 ∷ 23 ∷ []) $ free1 ! $ move ! (20 ∷ 21 ∷ []) $ free1 ! $ move ! (18 ∷ 19 ∷ []) $ free1 ! $ move ! (16 ∷ 17 ∷ []) $ free1 ! $ move ! (14 ∷ 15 ∷ []) $ free1 ! $ move ! (12 ∷ 13 ∷ []) $ free1 ! $ free0 ! $
+        by ! (exits (performed start (lent (sessions) (streams) (objects) (held)) (d) (sample) .ran .wrote) sessions streams objects (putBytes ((performed start (lent (sessions) (streams) (objects) (held)) (d) (sample) .tables .held)) ((bufferStretch (sessions) (streams) n₄ ((start .frame) .«session_id») ((start .frame) .«stream_id»)) .start) (bufferBack (bufferCopy (bufferIn (held) (bufferStretch (sessions) (streams) n₄ ((start .frame) .«session_id») ((start .frame) .«stream_id»)))) ((bufferStretch (sessions) (streams) n₄ ((start .frame) .«session_id») ((start .frame) .«stream_id»)) .end - (bufferStretch (sessions) (streams) n₄ ((start .frame) .«session_id») ((start .frame) .«stream_id»)) .start))) ((refl, refl, refl, refl, buffer-back start (lent sessions streams objects held) d sample (fact-7 .0) (fact-7 .1) (fact-7 .2))) is-19 len-19-sessions len-19-streams len-19-objects len-22-held)
 
-    part-19-0 : (is-3 : Is (u64-p .row) (32 * ((start .frame) .«session_id»)) (u64-p .val (32 * ((start .frame) .«session_id»)) ∷ [])) → (is-5 : Is (Object-p .row) (implicitOf (ObjectNumber-of 0) 0 0) (Object-p .val (implicitOf (ObjectNumber-of 0) 0 0) ∷ [])) → (asks-11 : ((32 * ((start .frame) .«session_id»)) + 32 ≤ length (objects)) × (32 ≤ length ((replicate 32 (implicitOf (ObjectNumber-of 0) 0 0))))) → (v-11-12 : Val) → (ais-11-12 : Is (Array Object-t.the-row 32) (copied same blank (objectSpot (32 * ((start .frame) .«session_id»))) 32 (objects) ((replicate 32 (implicitOf (ObjectNumber-of 0) 0 0)))) (v-11-12 ∷ [])) → (is-11 : Is (unit-p .row) tt (unit-p .val tt ∷ [])) → (asks-18 : (resumesFit (start .resumes) (length (sample)) ≡ true) × (256 ≤ length (sessions)) × (2048 ≤ length (streams))) → (len-18-sessions : length sessions ≡ n₁) → (len-18-streams : length streams ≡ n₂) → (len-18-objects : length (performed start (lent (sessions) (streams) (objects)) (d) (sample) .tables .objects) ≡ n₃) → (is-18 : Is (u64-p .row) (performed start (lent (sessions) (streams) (objects)) (d) (sample) .ran .wrote) (u64-p .val (performed start (lent (sessions) (streams) (objects)) (d) (sample) .ran .wrote) ∷ [])) → Sq W (‵ (MutSlice (named 0) κ₁ (Array u64 5) .own (at-list b₁ o₁ γ₁ sessions) (sliceVal (b₁, o₁) n₁ ∷ [])) ∷ ‵ (flft κ₁ q₁) ∷ ‵ (MutSlice (named 0) κ₂ (Array u16 35) .own (at-list b₂ o₂ γ₂ streams) (sliceVal (b₂, o₂) n₂ ∷ [])) ∷ ‵ (flft κ₂ q₂) ∷ ‵ (MutSlice (named 0) κ₃ Object-t.the-row .own (at-list b₃ o₃ γ₃ (performed start (lent (sessions) (streams) (objects)) (d) (sample) .tables .objects)) (sliceVal (b₃, o₃) n₃ ∷ [])) ∷ ‵ (flft κ₃ q₃) ∷ ‵ (ShrSlice (named 0) κ₄ u8 .own (at-list b₄ o₄ γ₄ d) (sliceVal (b₄, o₄) n₄ ∷ [])) ∷ ‵ (flft κ₄ q₄) ∷ ‵ (ShrSlice (named 0) κ₅ u8 .own (at-list b₅ o₅ γ₅ sample) (sliceVal (b₅, o₅) n₅ ∷ [])) ∷ ‵ (flft κ₅ q₅) ∷ free 𝓤 (sliceTy (tyRef erased mut (pointee (Object-t.the-row .written)))) l₂₈ (free 𝓤 (tyRef erased mut (pointee (Object-t.the-row .written))) l₂₇ (free 𝓤 (sliceTy (tyRef erased imm (pointee (Object-t.the-row .written)))) l₂₆ (free 𝓤 (tyRef erased imm (pointee ((Array Object-t.the-row 32) .written))) l₂₅ (full 𝓤 (sliceTy (tyRef erased mut (pointee (Object-t.the-row .written)))) l₂₄ (sliceVal (b₃, o₃) n₃) (full 𝓤 (tyRef erased mut (pointee (Object-t.the-row .written))) l₂₃ (vptr b₃ o₃) (full 𝓤 (sliceTy (tyRef erased mut (pointee ((Array u16 35) .written)))) l₂₂ (sliceVal (b₂, o₂) n₂) (full 𝓤 (tyRef erased mut (pointee ((Array u16 35) .written))) l₂₁ (vptr b₂ o₂) (full 𝓤 (sliceTy (tyRef erased mut (pointee ((Array u64 5) .written)))) l₂₀ (sliceVal (b₁, o₁) n₁) (full 𝓤 (tyRef erased mut (pointee ((Array u64 5) .written))) l₁₉ (vptr b₁ o₁) (full 𝓤 (sliceTy (tyRef erased mut (pointee (Object-t.the-row .written)))) l₁₈ (sliceVal (l₁₂, 0) 32) (full 𝓤 (tyRef erased mut (pointee ((Array Object-t.the-row 32) .written))) l₁₇ (vptr l₁₂ 0) (full 𝓤 (sliceTy (tyRef erased imm (pointee (Object-t.the-row .written)))) l₁₆ (sliceVal (b₃, o₃) n₃) (full 𝓤 (tyRef erased imm (pointee (Object-t.the-row .written))) l₁₅ (vptr b₃ o₃) (full 𝓤 tyUnit l₁₄ (unit-p .val tt) (full 𝓤 (tyInt w64) l₁₃ (u64-p .val (performed start (lent (sessions) (streams) (objects)) (d) (sample) .ran .wrote)) (full 𝓤 (tyArray Object-l.mir 32) l₁₂ v-11-12 (full 𝓤 Object-l.mir l₁₁ (Object-p .val (implicitOf (ObjectNumber-of 0) 0 0)) (full 𝓤 ObjectNumber-l.mir l₁₀ (ObjectNumber-p .val (ObjectNumber-of 0)) (full 𝓤 (tyInt w64) l₉ (u64-p .val (32 * ((start .frame) .«session_id»))) (full 𝓤 (tyInt w8) l₈ (u8-p .val ((start .frame) .«session_id»)) (full 𝓤 Frame-l.mir l₇ (Frame-p .val (start .frame)) (full 𝓤 Start-l.mir l₆ (Start-p .val start) (full 𝓤 (sliceTy (tyRef (named 4) imm (pointee (u8 .written)))) l₅ (sliceVal (b₅, o₅) n₅) (full 𝓤 (sliceTy (tyRef (named 3) imm (pointee (u8 .written)))) l₄ (sliceVal (b₄, o₄) n₄) (full 𝓤 (sliceTy (tyRef (named 2) mut (pointee (Object-t.the-row .written)))) l₃ (sliceVal (b₃, o₃) n₃) (full 𝓤 (sliceTy (tyRef (named 1) mut (pointee ((Array u16 35) .written)))) l₂ (sliceVal (b₂, o₂) n₂) (full 𝓤 (sliceTy (tyRef (named 0) mut (pointee ((Array u64 5) .written)))) l₁ (sliceVal (b₁, o₁) n₁) (free 𝓤 (tyInt w64) l₀ ([])))))))))))))))))))))))))))))) (runs C Λ En mir.t-19 (atRet En Post))
-    part-19-0 is-3 is-5 asks-11 v-11-12 ais-11-12 is-11 asks-18 len-18-sessions len-18-streams len-18-objects is-18 =
-        assigns ! (addr ! (from ! (stop !))) (from ! (stop !)) (init ! 16 refl (tt, tt)) $
-        assigns ! (agg ! (and-then ! (load ! (from ! (stop !)) (look ! 16 refl)) (and-then ! (lit ! tt) (no-more !)))) (from ! (stop !)) (init ! 14 refl (tt, (tt, (record { fits = lit< tt }, tt)))) $
-        assigns ! (addr ! (from ! (fld ! refl (hop ! (look-in ! 60 (sub ! 0 refl (whole !))) (stop !))))) (from ! (stop !)) (init ! 12 refl (tt, tt)) $
-        assigns ! (agg ! (and-then ! (load ! (from ! (stop !)) (look ! 12 refl)) (and-then ! (load ! (from ! (fld ! refl (stop !))) (look-in ! 60 (sub ! 1 refl (whole !)))) (no-more !)))) (from ! (stop !)) (init ! 10 refl (tt, (tt, (record { fits = room₃ .0 }, tt)))) $
-        knows ! ((32 ≤ length ((copied same blank (objectSpot (32 * ((start .frame) .«session_id»))) 32 (objects) ((replicate 32 (implicitOf (ObjectNumber-of 0) 0 0)))))) × ((32 * ((start .frame) .«session_id»)) + 32 ≤ length ((performed start (lent (sessions) (streams) (objects)) (d) (sample) .tables .objects)))) ((copied-long same blank (objectSpot (32 * start .frame .«session_id»)) objects 32 blank, objects-long start id-low next-low (lent sessions streams objects) d sample (within .3))) (λ asks-23.
-        -- 23: agent::dry::restore_objects
-        move ! (42 ∷ []) $
-        lends-array ! tt Object-t.the-row tt (Object-p .makes 𝓤 H A W) (Object-p .ty) 32 refl l₁₂ (copied same blank (objectSpot (32 * ((start .frame) .«session_id»))) 32 (objects) ((replicate 32 (implicitOf (ObjectNumber-of 0) 0 0)))) _ ais-11-12 (lit< tt, lit< tt) (λ ν-23-12 δ-23-12 llen-23-12.
-        move ! (1 ∷ 0 ∷ []) $
-        lends-view ! tt Object-t.the-row l₁₂ 0 (copied same blank (objectSpot (32 * ((start .frame) .«session_id»))) 32 (objects) ((replicate 32 (implicitOf (ObjectNumber-of 0) 0 0)))) 32 llen-23-12 (λ ν2-23-12 δ2-23-12.
-        move ! (8 ∷ 9 ∷ []) $
-        lends-mut ! tt Object-t.the-row b₃ o₃ (performed start (lent (sessions) (streams) (objects)) (d) (sample) .tables .objects) n₃ (len-18-objects) (λ ν-23-objects δ-23-objects.
-        nothing ! $ move ! (1 ∷ 0 ∷ []) $ join ! $ move ! (3 ∷ 0 ∷ []) $ join ! $
-        use1 W (raw (toks 𝓤 A 2 (((ν2-23-12 ∷ []), ((ν-23-objects ∷ []), tt))) ((fullShare, (fullShare, tt))))) (id⊢ 𝓤 _) $ nothing ! $
-        owned ! (u64-p .row) (Is (u64-p .row)) (u64-p .makes 𝓤 H A W) 32 (u64-p .val 32 ∷ []) ((refl, lit< tt)) $ fjoin ! $
-        owned ! (u64-p .row) (Is (u64-p .row)) (u64-p .makes 𝓤 H A W) (32 * ((start .frame) .«session_id»)) (u64-p .val (32 * ((start .frame) .«session_id»)) ∷ []) is-3 $ fjoin ! $ move ! (2 ∷ 0 ∷ []) $ fjoin ! $ move ! (3 ∷ 0 ∷ []) $ fjoin ! $ move ! (1 ∷ 0 ∷ []) $
-        calls-any ! fm 2 [] (dry-restore-objects.signature .params) (dry-restore-objects.ended .kept) unit-p (dry-restore-objects.clauses 𝓤 H A mem run) known-dry-restore-objects ((ν2-23-12 ∷ []), ((ν-23-objects ∷ []), tt)) (fullShare, (fullShare, tt)) tt (at-list l₁₂ 0 δ2-23-12 (copied same blank (objectSpot (32 * ((start .frame) .«session_id»))) 32 (objects) ((replicate 32 (implicitOf (ObjectNumber-of 0) 0 0)))), (at-list b₃ o₃ δ-23-objects (performed start (lent (sessions) (streams) (objects)) (d) (sample) .tables .objects), (32 * ((start .frame) .«session_id»), (32, tt)))) (sliceVal (l₁₂, 0) 32 ∷ [], (sliceVal (b₃, o₃) n₃ ∷ [], (u64-p .val (32 * ((start .frame) .«session_id»)) ∷ [], (u64-p .val 32 ∷ [], tt)))) tt tt (λ ws-23. (ws-23 .1 .0 ≡ restored same blank (objectSpot (32 * ((start .frame) .«session_id»))) 32 ((copied same blank (objectSpot (32 * ((start .frame) .«session_id»))) 32 (objects) ((replicate 32 (implicitOf (ObjectNumber-of 0) 0 0))))) ((performed start (lent (sessions) (streams) (objects)) (d) (sample) .tables .objects)))) (factI 𝓤 ((32 ≤ length ((copied same blank (objectSpot (32 * ((start .frame) .«session_id»))) 32 (objects) ((replicate 32 (implicitOf (ObjectNumber-of 0) 0 0)))))) × ((32 * ((start .frame) .«session_id»)) + 32 ≤ length ((performed start (lent (sessions) (streams) (objects)) (d) (sample) .tables .objects)))) _ asks-23) (λ r ws-23. fact-mono 𝓤 ((ws-23 .1 .0) ≡ restored same blank (objectSpot (32 * ((start .frame) .«session_id»))) 32 ((copied same blank (objectSpot (32 * ((start .frame) .«session_id»))) 32 (objects) ((replicate 32 (implicitOf (ObjectNumber-of 0) 0 0))))) ((performed start (lent (sessions) (streams) (objects)) (d) (sample) .tables .objects))) ((r ≡ tt) × ((ws-23 .1 .0 ≡ restored same blank (objectSpot (32 * ((start .frame) .«session_id»))) 32 ((copied same blank (objectSpot (32 * ((start .frame) .«session_id»))) 32 (objects) ((replicate 32 (implicitOf (ObjectNumber-of 0) 0 0))))) ((performed start (lent (sessions) (streams) (objects)) (d) (sample) .tables .objects))))) (λ e. (refl, e))) (λ _. (and-then ! (load ! (from ! (stop !)) (look ! 16 refl)) (and-then ! (load ! (from ! (stop !)) (look ! 12 refl)) (and-then ! (load ! (from ! (stop !)) (look ! 49 refl)) (and-then ! (lit ! tt) (no-more !)))))) (λ ws-23 said-23 is-23.
-        use1 W ((‵ (flft (ν2-23-12 ∷ []) fullShare) ⊛ (‵ (flft (ν-23-objects ∷ []) fullShare) ⊛ ‵ ftrue))) (id⊢ 𝓤 _) $ split ! $ move ! (1 ∷ []) $ split ! $ move ! (3 ∷ []) $ fsplit ! $ move ! (1 ∷ []) $ fsplit ! $ fsplit ! $ move ! (1 ∷ []) $
-        feqL ! (λ wlen-23-1.
-        move ! (5 ∷ 7 ∷ []) $
-        backs-view ! tt Object-t.the-row l₁₂ 0 (copied same blank (objectSpot (32 * ((start .frame) .«session_id»))) 32 (objects) ((replicate 32 (implicitOf (ObjectNumber-of 0) 0 0)))) 32 llen-23-12 ν2-23-12 $
-        ends-mut ! Object-t.the-row l₁₂ 0 (copied same blank (objectSpot (32 * ((start .frame) .«session_id»))) 32 (objects) ((replicate 32 (implicitOf (ObjectNumber-of 0) 0 0)))) 32 $ move ! (0 ∷ 8 ∷ 1 ∷ []) $
-        backs-array ! tt Object-t.the-row (Object-p .ty) 32 refl l₁₂ ν-23-12 δ-23-12 (copied same blank (objectSpot (32 * ((start .frame) .«session_id»))) 32 (objects) ((replicate 32 (implicitOf (ObjectNumber-of 0) 0 0)))) (λ v-23-12 vis-23-12.
-        move ! (4 ∷ 6 ∷ 1 ∷ []) $
-        backs-mut ! tt Object-t.the-row b₃ o₃ (performed start (lent (sessions) (streams) (objects)) (d) (sample) .tables .objects) n₃ (len-18-objects) room₃ ν-23-objects δ-23-objects (ws-23 .1 .0) (restored same blank (objectSpot (32 * ((start .frame) .«session_id»))) 32 ((copied same blank (objectSpot (32 * ((start .frame) .«session_id»))) 32 (objects) ((replicate 32 (implicitOf (ObjectNumber-of 0) 0 0))))) ((performed start (lent (sessions) (streams) (objects)) (d) (sample) .tables .objects))) wlen-23-1 (said-23) (λ len-23-objects.
-        move ! (3 ∷ []) $ drop ! $ move ! (3 ∷ []) $ drop ! $ move ! (3 ∷ []) $ drop ! $
-        land ! (from ! (stop !)) (store ! 39 refl (unit-p .typed 𝓤 H A W tt is-23)) $ move ! (3 ∷ 4 ∷ 5 ∷ 6 ∷ 0 ∷ 1 ∷ 7 ∷ 8 ∷ 9 ∷ 10 ∷ 11 ∷ 12 ∷ 13 ∷ 14 ∷ 15 ∷ 16 ∷ 17 ∷ 18 ∷ 19 ∷ 20 ∷ 21 ∷ 22 ∷ 23 ∷ 24 ∷ 25 ∷ 26 ∷ 27 ∷ 28 ∷ 29 ∷ 30 ∷ 31 ∷ 32 ∷ 33 ∷ 34 ∷ 35 ∷ 36 ∷ 37 ∷ 38 ∷ 39 ∷ 40 ∷ 41 ∷ 42 ∷ 2 ∷ 43 ∷ 44 ∷ 45 ∷ 46 ∷ 47 ∷ 48 ∷ 49 ∷ 50 ∷ 51 ∷ 52 ∷ 53 ∷ 54 ∷ 55 ∷ 56 ∷ 57 ∷ 58 ∷ 59 ∷ 60 ∷ 61 ∷ 62 ∷ 63 ∷ 64 ∷ 65 ∷ 66 ∷ 67 ∷ []) $
-        part-24-0 is-3 is-5 asks-11 v-11-12 ais-11-12 is-11 asks-18 len-18-sessions len-18-streams len-18-objects is-18 asks-23 v-23-12 vis-23-12 len-23-objects is-23))))))))
-
-    part-12-0 : (is-3 : Is (u64-p .row) (32 * ((start .frame) .«session_id»)) (u64-p .val (32 * ((start .frame) .«session_id»)) ∷ [])) → (is-5 : Is (Object-p .row) (implicitOf (ObjectNumber-of 0) 0 0) (Object-p .val (implicitOf (ObjectNumber-of 0) 0 0) ∷ [])) → (asks-11 : ((32 * ((start .frame) .«session_id»)) + 32 ≤ length (objects)) × (32 ≤ length ((replicate 32 (implicitOf (ObjectNumber-of 0) 0 0))))) → (v-11-12 : Val) → (ais-11-12 : Is (Array Object-t.the-row 32) (copied same blank (objectSpot (32 * ((start .frame) .«session_id»))) 32 (objects) ((replicate 32 (implicitOf (ObjectNumber-of 0) 0 0)))) (v-11-12 ∷ [])) → (is-11 : Is (unit-p .row) tt (unit-p .val tt ∷ [])) → Sq W (‵ (MutSlice (named 0) κ₁ (Array u64 5) .own (at-list b₁ o₁ γ₁ sessions) (sliceVal (b₁, o₁) n₁ ∷ [])) ∷ ‵ (flft κ₁ q₁) ∷ ‵ (MutSlice (named 0) κ₂ (Array u16 35) .own (at-list b₂ o₂ γ₂ streams) (sliceVal (b₂, o₂) n₂ ∷ [])) ∷ ‵ (flft κ₂ q₂) ∷ ‵ (MutSlice (named 0) κ₃ Object-t.the-row .own (at-list b₃ o₃ γ₃ objects) (sliceVal (b₃, o₃) n₃ ∷ [])) ∷ ‵ (flft κ₃ q₃) ∷ ‵ (ShrSlice (named 0) κ₄ u8 .own (at-list b₄ o₄ γ₄ d) (sliceVal (b₄, o₄) n₄ ∷ [])) ∷ ‵ (flft κ₄ q₄) ∷ ‵ (ShrSlice (named 0) κ₅ u8 .own (at-list b₅ o₅ γ₅ sample) (sliceVal (b₅, o₅) n₅ ∷ [])) ∷ ‵ (flft κ₅ q₅) ∷ free 𝓤 (sliceTy (tyRef erased mut (pointee (Object-t.the-row .written)))) l₂₈ (free 𝓤 (tyRef erased mut (pointee (Object-t.the-row .written))) l₂₇ (free 𝓤 (sliceTy (tyRef erased imm (pointee (Object-t.the-row .written)))) l₂₆ (free 𝓤 (tyRef erased imm (pointee ((Array Object-t.the-row 32) .written))) l₂₅ (free 𝓤 (sliceTy (tyRef erased mut (pointee (Object-t.the-row .written)))) l₂₄ (free 𝓤 (tyRef erased mut (pointee (Object-t.the-row .written))) l₂₃ (free 𝓤 (sliceTy (tyRef erased mut (pointee ((Array u16 35) .written)))) l₂₂ (free 𝓤 (tyRef erased mut (pointee ((Array u16 35) .written))) l₂₁ (free 𝓤 (sliceTy (tyRef erased mut (pointee ((Array u64 5) .written)))) l₂₀ (free 𝓤 (tyRef erased mut (pointee ((Array u64 5) .written))) l₁₉ (full 𝓤 (sliceTy (tyRef erased mut (pointee (Object-t.the-row .written)))) l₁₈ (sliceVal (l₁₂, 0) 32) (full 𝓤 (tyRef erased mut (pointee ((Array Object-t.the-row 32) .written))) l₁₇ (vptr l₁₂ 0) (full 𝓤 (sliceTy (tyRef erased imm (pointee (Object-t.the-row .written)))) l₁₆ (sliceVal (b₃, o₃) n₃) (full 𝓤 (tyRef erased imm (pointee (Object-t.the-row .written))) l₁₅ (vptr b₃ o₃) (full 𝓤 tyUnit l₁₄ (unit-p .val tt) (free 𝓤 (tyInt w64) l₁₃ (full 𝓤 (tyArray Object-l.mir 32) l₁₂ v-11-12 (full 𝓤 Object-l.mir l₁₁ (Object-p .val (implicitOf (ObjectNumber-of 0) 0 0)) (full 𝓤 ObjectNumber-l.mir l₁₀ (ObjectNumber-p .val (ObjectNumber-of 0)) (full 𝓤 (tyInt w64) l₉ (u64-p .val (32 * ((start .frame) .«session_id»))) (full 𝓤 (tyInt w8) l₈ (u8-p .val ((start .frame) .«session_id»)) (full 𝓤 Frame-l.mir l₇ (Frame-p .val (start .frame)) (full 𝓤 Start-l.mir l₆ (Start-p .val start) (full 𝓤 (sliceTy (tyRef (named 4) imm (pointee (u8 .written)))) l₅ (sliceVal (b₅, o₅) n₅) (full 𝓤 (sliceTy (tyRef (named 3) imm (pointee (u8 .written)))) l₄ (sliceVal (b₄, o₄) n₄) (full 𝓤 (sliceTy (tyRef (named 2) mut (pointee (Object-t.the-row .written)))) l₃ (sliceVal (b₃, o₃) n₃) (full 𝓤 (sliceTy (tyRef (named 1) mut (pointee ((Array u16 35) .written)))) l₂ (sliceVal (b₂, o₂) n₂) (full 𝓤 (sliceTy (tyRef (named 0) mut (pointee ((Array u64 5) .written)))) l₁ (sliceVal (b₁, o₁) n₁) (free 𝓤 (tyInt w64) l₀ ([])))))))))))))))))))))))))))))) (runs C Λ En mir.t-12 (atRet En Post))
-    part-12-0 is-3 is-5 asks-11 v-11-12 ais-11-12 is-11 =
-        assigns ! (addr ! (from ! (fld ! refl (hop ! (look-in ! 64 (sub ! 0 refl (whole !))) (stop !))))) (from ! (stop !)) (init ! 28 refl (tt, tt)) $
-        assigns ! (agg ! (and-then ! (load ! (from ! (stop !)) (look ! 28 refl)) (and-then ! (load ! (from ! (fld ! refl (stop !))) (look-in ! 64 (sub ! 1 refl (whole !)))) (no-more !)))) (from ! (stop !)) (init ! 26 refl (tt, (tt, (record { fits = room₁ .0 }, tt)))) $
-        assigns ! (addr ! (from ! (fld ! refl (hop ! (look-in ! 62 (sub ! 0 refl (whole !))) (stop !))))) (from ! (stop !)) (init ! 24 refl (tt, tt)) $
-        assigns ! (agg ! (and-then ! (load ! (from ! (stop !)) (look ! 24 refl)) (and-then ! (load ! (from ! (fld ! refl (stop !))) (look-in ! 62 (sub ! 1 refl (whole !)))) (no-more !)))) (from ! (stop !)) (init ! 22 refl (tt, (tt, (record { fits = room₂ .0 }, tt)))) $
-        assigns ! (addr ! (from ! (fld ! refl (hop ! (look-in ! 60 (sub ! 0 refl (whole !))) (stop !))))) (from ! (stop !)) (init ! 20 refl (tt, tt)) $
-        assigns ! (agg ! (and-then ! (load ! (from ! (stop !)) (look ! 20 refl)) (and-then ! (load ! (from ! (fld ! refl (stop !))) (look-in ! 60 (sub ! 1 refl (whole !)))) (no-more !)))) (from ! (stop !)) (init ! 18 refl (tt, (tt, (record { fits = room₃ .0 }, tt)))) $
-        knows ! ((resumesFit (start .resumes) (length (sample)) ≡ true) × (256 ≤ length (sessions)) × (2048 ≤ length (streams))) ((within .0, within .1, within .2)) (λ asks-18.
-        -- 18: agent::dry::dry_streams
-        lends-mut ! tt (Array u64 5) b₁ o₁ sessions n₁ (refl) (λ ν-18-sessions δ-18-sessions.
-        move ! (3 ∷ 4 ∷ []) $
-        lends-mut ! tt (Array u16 35) b₂ o₂ streams n₂ (refl) (λ ν-18-streams δ-18-streams.
+    part-20-0 : (fact-7 : ((bufferStretch (sessions) (streams) n₄ ((start .frame) .«session_id») ((start .frame) .«stream_id»)) .start ≤ (bufferStretch (sessions) (streams) n₄ ((start .frame) .«session_id») ((start .frame) .«stream_id»)) .end) × ((bufferStretch (sessions) (streams) n₄ ((start .frame) .«session_id») ((start .frame) .«stream_id»)) .end ≤ n₄) × ((bufferStretch (sessions) (streams) n₄ ((start .frame) .«session_id») ((start .frame) .«stream_id»)) .end - (bufferStretch (sessions) (streams) n₄ ((start .frame) .«session_id») ((start .frame) .«stream_id»)) .start ≤ 16384)) → (is-7 : Is (Stretch-p .row) (bufferStretch (sessions) (streams) n₄ ((start .frame) .«session_id») ((start .frame) .«stream_id»)) (Stretch-p .val (bufferStretch (sessions) (streams) n₄ ((start .frame) .«session_id») ((start .frame) .«stream_id»)) ∷ [])) → (asks-10 : ((bufferStretch (sessions) (streams) n₄ ((start .frame) .«session_id») ((start .frame) .«stream_id»)) .start ≤ (bufferStretch (sessions) (streams) n₄ ((start .frame) .«session_id») ((start .frame) .«stream_id»)) .end) × ((bufferStretch (sessions) (streams) n₄ ((start .frame) .«session_id») ((start .frame) .«stream_id»)) .end ≤ length (held)) × ((bufferStretch (sessions) (streams) n₄ ((start .frame) .«session_id») ((start .frame) .«stream_id»)) .end - (bufferStretch (sessions) (streams) n₄ ((start .frame) .«session_id») ((start .frame) .«stream_id»)) .start ≤ 16384)) → (is-10 : Is (BufferCopy-p .row) (bufferCopy (bufferIn (held) (bufferStretch (sessions) (streams) n₄ ((start .frame) .«session_id») ((start .frame) .«stream_id»)))) (BufferCopy-p .val (bufferCopy (bufferIn (held) (bufferStretch (sessions) (streams) n₄ ((start .frame) .«session_id») ((start .frame) .«stream_id»)))) ∷ [])) → (asks-19 : (resumesFit (start .resumes) (start .frame .«stream_id») (length (sample)) ≡ true) × (start .frame .room ≤ 9223372036854775807) × (256 ≤ length (sessions)) × (2048 ≤ length (streams)) × (8192 ≤ length (objects))) → (len-19-sessions : length sessions ≡ n₁) → (len-19-streams : length streams ≡ n₂) → (len-19-objects : length objects ≡ n₃) → (len-19-held : length (performed start (lent (sessions) (streams) (objects) (held)) (d) (sample) .tables .held) ≡ n₄) → (is-19 : Is (u64-p .row) (performed start (lent (sessions) (streams) (objects) (held)) (d) (sample) .ran .wrote) (u64-p .val (performed start (lent (sessions) (streams) (objects) (held)) (d) (sample) .ran .wrote) ∷ [])) → Sq W (‵ (MutSlice (named 0) κ₁ (Array u64 6) .own (at-list b₁ o₁ γ₁ sessions) (sliceVal (b₁, o₁) n₁ ∷ [])) ∷ ‵ (flft κ₁ q₁) ∷ ‵ (MutSlice (named 0) κ₂ (Array u16 35) .own (at-list b₂ o₂ γ₂ streams) (sliceVal (b₂, o₂) n₂ ∷ [])) ∷ ‵ (flft κ₂ q₂) ∷ ‵ (MutSlice (named 0) κ₃ Object-t.the-row .own (at-list b₃ o₃ γ₃ objects) (sliceVal (b₃, o₃) n₃ ∷ [])) ∷ ‵ (flft κ₃ q₃) ∷ ‵ (MutSlice (named 0) κ₄ u8 .own (at-list b₄ o₄ γ₄ (performed start (lent (sessions) (streams) (objects) (held)) (d) (sample) .tables .held)) (sliceVal (b₄, o₄) n₄ ∷ [])) ∷ ‵ (flft κ₄ q₄) ∷ ‵ (ShrSlice (named 0) κ₅ u8 .own (at-list b₅ o₅ γ₅ d) (sliceVal (b₅, o₅) n₅ ∷ [])) ∷ ‵ (flft κ₅ q₅) ∷ ‵ (ShrSlice (named 0) κ₆ u8 .own (at-list b₆ o₆ γ₆ sample) (sliceVal (b₆, o₆) n₆ ∷ [])) ∷ ‵ (flft κ₆ q₆) ∷ free 𝓤 (sliceTy (tyRef erased mut (pointee (u8 .written)))) l₂₉ (free 𝓤 (tyRef erased mut (pointee (u8 .written))) l₂₈ (free 𝓤 tyUnit l₂₇ (full 𝓤 (sliceTy (tyRef erased mut (pointee (u8 .written)))) l₂₆ (sliceVal (b₄, o₄) n₄) (full 𝓤 (tyRef erased mut (pointee (u8 .written))) l₂₅ (vptr b₄ o₄) (full 𝓤 (sliceTy (tyRef erased mut (pointee (Object-t.the-row .written)))) l₂₄ (sliceVal (b₃, o₃) n₃) (full 𝓤 (tyRef erased mut (pointee (Object-t.the-row .written))) l₂₃ (vptr b₃ o₃) (full 𝓤 (sliceTy (tyRef erased mut (pointee ((Array u16 35) .written)))) l₂₂ (sliceVal (b₂, o₂) n₂) (full 𝓤 (tyRef erased mut (pointee ((Array u16 35) .written))) l₂₁ (vptr b₂ o₂) (full 𝓤 (sliceTy (tyRef erased mut (pointee ((Array u64 6) .written)))) l₂₀ (sliceVal (b₁, o₁) n₁) (full 𝓤 (tyRef erased mut (pointee ((Array u64 6) .written))) l₁₉ (vptr b₁ o₁) (full 𝓤 (sliceTy (tyRef erased imm (pointee (u8 .written)))) l₁₈ (sliceVal (b₄, o₄) n₄) (full 𝓤 (tyRef erased imm (pointee (u8 .written))) l₁₇ (vptr b₄ o₄) (full 𝓤 (sliceTy (tyRef erased imm (pointee ((Array u16 35) .written)))) l₁₆ (sliceVal (b₂, o₂) n₂) (full 𝓤 (tyRef erased imm (pointee ((Array u16 35) .written))) l₁₅ (vptr b₂ o₂) (full 𝓤 (sliceTy (tyRef erased imm (pointee ((Array u64 6) .written)))) l₁₄ (sliceVal (b₁, o₁) n₁) (full 𝓤 (tyRef erased imm (pointee ((Array u64 6) .written))) l₁₃ (vptr b₁ o₁) (full 𝓤 (tyInt w64) l₁₂ (u64-p .val (performed start (lent (sessions) (streams) (objects) (held)) (d) (sample) .ran .wrote)) (full 𝓤 BufferCopy-l.mir l₁₁ (BufferCopy-p .val (bufferCopy (bufferIn (held) (bufferStretch (sessions) (streams) n₄ ((start .frame) .«session_id») ((start .frame) .«stream_id»))))) (full 𝓤 Stretch-l.mir l₁₀ (Stretch-p .val (bufferStretch (sessions) (streams) n₄ ((start .frame) .«session_id») ((start .frame) .«stream_id»))) (full 𝓤 (tyInt w64) l₉ (u64-p .val n₄) (full 𝓤 Frame-l.mir l₈ (Frame-p .val (start .frame)) (full 𝓤 Start-l.mir l₇ (Start-p .val start) (full 𝓤 (sliceTy (tyRef (named 5) imm (pointee (u8 .written)))) l₆ (sliceVal (b₆, o₆) n₆) (full 𝓤 (sliceTy (tyRef (named 4) imm (pointee (u8 .written)))) l₅ (sliceVal (b₅, o₅) n₅) (full 𝓤 (sliceTy (tyRef (named 3) mut (pointee (u8 .written)))) l₄ (sliceVal (b₄, o₄) n₄) (full 𝓤 (sliceTy (tyRef (named 2) mut (pointee (Object-t.the-row .written)))) l₃ (sliceVal (b₃, o₃) n₃) (full 𝓤 (sliceTy (tyRef (named 1) mut (pointee ((Array u16 35) .written)))) l₂ (sliceVal (b₂, o₂) n₂) (full 𝓤 (sliceTy (tyRef (named 0) mut (pointee ((Array u64 6) .written)))) l₁ (sliceVal (b₁, o₁) n₁) (free 𝓤 (tyInt w64) l₀ ([]))))))))))))))))))))))))))))))) (runs C Λ En mir.t-20 (atRet En Post))
+    part-20-0 fact-7 is-7 asks-10 is-10 asks-19 len-19-sessions len-19-streams len-19-objects len-19-held is-19 =
+        assigns ! (addr ! (from ! (fld ! refl (hop ! (look-in ! 62 (sub ! 0 refl (whole !))) (stop !))))) (from ! (stop !)) (init ! 14 refl (tt, tt)) $
+        assigns ! (agg ! (and-then ! (load ! (from ! (stop !)) (look ! 14 refl)) (and-then ! (load ! (from ! (fld ! refl (stop !))) (look-in ! 62 (sub ! 1 refl (whole !)))) (no-more !)))) (from ! (stop !)) (init ! 12 refl (tt, (tt, (record { fits = room₄ .0 }, tt)))) $
+        knows ! (((bufferStretch (sessions) (streams) n₄ ((start .frame) .«session_id») ((start .frame) .«stream_id»)) .start ≤ (bufferStretch (sessions) (streams) n₄ ((start .frame) .«session_id») ((start .frame) .«stream_id»)) .end) × ((bufferStretch (sessions) (streams) n₄ ((start .frame) .«session_id») ((start .frame) .«stream_id»)) .end - (bufferStretch (sessions) (streams) n₄ ((start .frame) .«session_id») ((start .frame) .«stream_id»)) .start ≤ 16384) × (length ((bufferCopy (bufferIn (held) (bufferStretch (sessions) (streams) n₄ ((start .frame) .«session_id») ((start .frame) .«stream_id»)))) .0) ≡ 16384)) ((fact-7 .0, fact-7 .2, copy-long held (bufferStretch sessions streams (length held) (start .frame .«session_id») (start .frame .«stream_id»)) (fact-7 .0) (fact-7 .1) (fact-7 .2))) (λ asks-22.
+        -- 22: agent::dry::restore_buffer
         move ! (6 ∷ 7 ∷ []) $
-        lends-mut ! tt Object-t.the-row b₃ o₃ objects n₃ (refl) (λ ν-18-objects δ-18-objects.
+        lends-mut ! tt u8 b₄ o₄ (performed start (lent (sessions) (streams) (objects) (held)) (d) (sample) .tables .held) n₄ (len-19-held) (λ ν-22-held δ-22-held.
+        nothing ! $ move ! (1 ∷ 0 ∷ []) $ join ! $
+        use1 W (raw (toks 𝓤 A 1 (((ν-22-held ∷ []), tt)) ((fullShare, tt)))) (id⊢ 𝓤 _) $ nothing ! $
+        owned ! (BufferCopy-p .row) (Is (BufferCopy-p .row)) (BufferCopy-p .makes 𝓤 H A W) (bufferCopy (bufferIn (held) (bufferStretch (sessions) (streams) n₄ ((start .frame) .«session_id») ((start .frame) .«stream_id»)))) (BufferCopy-p .val (bufferCopy (bufferIn (held) (bufferStretch (sessions) (streams) n₄ ((start .frame) .«session_id») ((start .frame) .«stream_id»)))) ∷ []) is-10 $ fjoin ! $
+        owned ! (Stretch-p .row) (Is (Stretch-p .row)) (Stretch-p .makes 𝓤 H A W) (bufferStretch (sessions) (streams) n₄ ((start .frame) .«session_id») ((start .frame) .«stream_id»)) (Stretch-p .val (bufferStretch (sessions) (streams) n₄ ((start .frame) .«session_id») ((start .frame) .«stream_id»)) ∷ []) is-7 $ fjoin ! $ move ! (2 ∷ 0 ∷ []) $ fjoin ! $ move ! (1 ∷ 0 ∷ []) $
+        calls-any ! fm 1 [] (dry-restore-buffer.signature .params) (dry-restore-buffer.ended .kept) unit-p (dry-restore-buffer.clauses 𝓤 H A mem run) known-dry-restore-buffer ((ν-22-held ∷ []), tt) (fullShare, tt) tt (at-list b₄ o₄ δ-22-held (performed start (lent (sessions) (streams) (objects) (held)) (d) (sample) .tables .held), (bufferStretch (sessions) (streams) n₄ ((start .frame) .«session_id») ((start .frame) .«stream_id»), (bufferCopy (bufferIn (held) (bufferStretch (sessions) (streams) n₄ ((start .frame) .«session_id») ((start .frame) .«stream_id»))), tt))) (sliceVal (b₄, o₄) n₄ ∷ [], (Stretch-p .val (bufferStretch (sessions) (streams) n₄ ((start .frame) .«session_id») ((start .frame) .«stream_id»)) ∷ [], (BufferCopy-p .val (bufferCopy (bufferIn (held) (bufferStretch (sessions) (streams) n₄ ((start .frame) .«session_id») ((start .frame) .«stream_id»)))) ∷ [], tt))) tt tt (λ ws-22. (ws-22 .0 ≡ putBytes ((performed start (lent (sessions) (streams) (objects) (held)) (d) (sample) .tables .held)) ((bufferStretch (sessions) (streams) n₄ ((start .frame) .«session_id») ((start .frame) .«stream_id»)) .start) (bufferBack (bufferCopy (bufferIn (held) (bufferStretch (sessions) (streams) n₄ ((start .frame) .«session_id») ((start .frame) .«stream_id»)))) ((bufferStretch (sessions) (streams) n₄ ((start .frame) .«session_id») ((start .frame) .«stream_id»)) .end - (bufferStretch (sessions) (streams) n₄ ((start .frame) .«session_id») ((start .frame) .«stream_id»)) .start)))) (factI 𝓤 (((bufferStretch (sessions) (streams) n₄ ((start .frame) .«session_id») ((start .frame) .«stream_id»)) .start ≤ (bufferStretch (sessions) (streams) n₄ ((start .frame) .«session_id») ((start .frame) .«stream_id»)) .end) × ((bufferStretch (sessions) (streams) n₄ ((start .frame) .«session_id») ((start .frame) .«stream_id»)) .end - (bufferStretch (sessions) (streams) n₄ ((start .frame) .«session_id») ((start .frame) .«stream_id»)) .start ≤ 16384) × (length ((bufferCopy (bufferIn (held) (bufferStretch (sessions) (streams) n₄ ((start .frame) .«session_id») ((start .frame) .«stream_id»)))) .0) ≡ 16384)) _ asks-22) (λ r ws-22. fact-mono 𝓤 ((ws-22 .0) ≡ putBytes ((performed start (lent (sessions) (streams) (objects) (held)) (d) (sample) .tables .held)) ((bufferStretch (sessions) (streams) n₄ ((start .frame) .«session_id») ((start .frame) .«stream_id»)) .start) (bufferBack (bufferCopy (bufferIn (held) (bufferStretch (sessions) (streams) n₄ ((start .frame) .«session_id») ((start .frame) .«stream_id»)))) ((bufferStretch (sessions) (streams) n₄ ((start .frame) .«session_id») ((start .frame) .«stream_id»)) .end - (bufferStretch (sessions) (streams) n₄ ((start .frame) .«session_id») ((start .frame) .«stream_id»)) .start))) ((r ≡ tt) × ((ws-22 .0 ≡ putBytes ((performed start (lent (sessions) (streams) (objects) (held)) (d) (sample) .tables .held)) ((bufferStretch (sessions) (streams) n₄ ((start .frame) .«session_id») ((start .frame) .«stream_id»)) .start) (bufferBack (bufferCopy (bufferIn (held) (bufferStretch (sessions) (streams) n₄ ((start .frame) .«session_id») ((start .frame) .«stream_id»)))) ((bufferStretch (sessions) (streams) n₄ ((start .frame) .«session_id») ((start .frame) .«stream_id»)) .end - (bufferStretch (sessions) (streams) n₄ ((start .frame) .«session_id») ((start .frame) .«stream_id»)) .start))))) (λ e. (refl, e))) (λ _. (and-then ! (load ! (from ! (stop !)) (look ! 12 refl)) (and-then ! (load ! (from ! (stop !)) (look ! 50 refl)) (and-then ! (load ! (from ! (stop !)) (look ! 48 refl)) (no-more !))))) (λ ws-22 said-22 is-22.
+        use1 W ((‵ (flft (ν-22-held ∷ []) fullShare) ⊛ ‵ ftrue)) (id⊢ 𝓤 _) $ split ! $ move ! (2 ∷ []) $ fsplit ! $ fsplit ! $ move ! (1 ∷ []) $
+        feqL ! (λ wlen-22-0.
+        move ! (2 ∷ 4 ∷ 0 ∷ []) $
+        backs-mut ! tt u8 b₄ o₄ (performed start (lent (sessions) (streams) (objects) (held)) (d) (sample) .tables .held) n₄ (len-19-held) room₄ ν-22-held δ-22-held (ws-22 .0) (putBytes ((performed start (lent (sessions) (streams) (objects) (held)) (d) (sample) .tables .held)) ((bufferStretch (sessions) (streams) n₄ ((start .frame) .«session_id») ((start .frame) .«stream_id»)) .start) (bufferBack (bufferCopy (bufferIn (held) (bufferStretch (sessions) (streams) n₄ ((start .frame) .«session_id») ((start .frame) .«stream_id»)))) ((bufferStretch (sessions) (streams) n₄ ((start .frame) .«session_id») ((start .frame) .«stream_id»)) .end - (bufferStretch (sessions) (streams) n₄ ((start .frame) .«session_id») ((start .frame) .«stream_id»)) .start))) wlen-22-0 (said-22) (λ len-22-held.
+        move ! (2 ∷ []) $ drop ! $ move ! (2 ∷ []) $ drop ! $
+        land ! (from ! (stop !)) (init ! 16 refl (unit-p .typed 𝓤 H A W tt is-22)) $ move ! (2 ∷ 3 ∷ 4 ∷ 5 ∷ 6 ∷ 7 ∷ 0 ∷ 1 ∷ 8 ∷ 9 ∷ 10 ∷ 11 ∷ 12 ∷ 13 ∷ 14 ∷ 15 ∷ 16 ∷ 17 ∷ 18 ∷ 19 ∷ 20 ∷ 21 ∷ 22 ∷ 23 ∷ 24 ∷ 25 ∷ 26 ∷ 27 ∷ 28 ∷ 29 ∷ 30 ∷ 31 ∷ 32 ∷ 33 ∷ 34 ∷ 35 ∷ 36 ∷ 37 ∷ 38 ∷ 39 ∷ 40 ∷ 41 ∷ 42 ∷ 43 ∷ 44 ∷ 45 ∷ 46 ∷ 47 ∷ 48 ∷ 49 ∷ 50 ∷ 51 ∷ 52 ∷ 53 ∷ 54 ∷ 55 ∷ 56 ∷ 57 ∷ 58 ∷ 59 ∷ 60 ∷ 61 ∷ 62 ∷ 63 ∷ 64 ∷ 65 ∷ 66 ∷ 67 ∷ 68 ∷ 69 ∷ 70 ∷ 71 ∷ []) $
+        part-23-0 fact-7 is-7 asks-10 is-10 asks-19 len-19-sessions len-19-streams len-19-objects len-19-held is-19 asks-22 len-22-held is-22)))))
+
+    part-11-0 : (fact-7 : ((bufferStretch (sessions) (streams) n₄ ((start .frame) .«session_id») ((start .frame) .«stream_id»)) .start ≤ (bufferStretch (sessions) (streams) n₄ ((start .frame) .«session_id») ((start .frame) .«stream_id»)) .end) × ((bufferStretch (sessions) (streams) n₄ ((start .frame) .«session_id») ((start .frame) .«stream_id»)) .end ≤ n₄) × ((bufferStretch (sessions) (streams) n₄ ((start .frame) .«session_id») ((start .frame) .«stream_id»)) .end - (bufferStretch (sessions) (streams) n₄ ((start .frame) .«session_id») ((start .frame) .«stream_id»)) .start ≤ 16384)) → (is-7 : Is (Stretch-p .row) (bufferStretch (sessions) (streams) n₄ ((start .frame) .«session_id») ((start .frame) .«stream_id»)) (Stretch-p .val (bufferStretch (sessions) (streams) n₄ ((start .frame) .«session_id») ((start .frame) .«stream_id»)) ∷ [])) → (asks-10 : ((bufferStretch (sessions) (streams) n₄ ((start .frame) .«session_id») ((start .frame) .«stream_id»)) .start ≤ (bufferStretch (sessions) (streams) n₄ ((start .frame) .«session_id») ((start .frame) .«stream_id»)) .end) × ((bufferStretch (sessions) (streams) n₄ ((start .frame) .«session_id») ((start .frame) .«stream_id»)) .end ≤ length (held)) × ((bufferStretch (sessions) (streams) n₄ ((start .frame) .«session_id») ((start .frame) .«stream_id»)) .end - (bufferStretch (sessions) (streams) n₄ ((start .frame) .«session_id») ((start .frame) .«stream_id»)) .start ≤ 16384)) → (is-10 : Is (BufferCopy-p .row) (bufferCopy (bufferIn (held) (bufferStretch (sessions) (streams) n₄ ((start .frame) .«session_id») ((start .frame) .«stream_id»)))) (BufferCopy-p .val (bufferCopy (bufferIn (held) (bufferStretch (sessions) (streams) n₄ ((start .frame) .«session_id») ((start .frame) .«stream_id»)))) ∷ [])) → Sq W (‵ (MutSlice (named 0) κ₁ (Array u64 6) .own (at-list b₁ o₁ γ₁ sessions) (sliceVal (b₁, o₁) n₁ ∷ [])) ∷ ‵ (flft κ₁ q₁) ∷ ‵ (MutSlice (named 0) κ₂ (Array u16 35) .own (at-list b₂ o₂ γ₂ streams) (sliceVal (b₂, o₂) n₂ ∷ [])) ∷ ‵ (flft κ₂ q₂) ∷ ‵ (MutSlice (named 0) κ₃ Object-t.the-row .own (at-list b₃ o₃ γ₃ objects) (sliceVal (b₃, o₃) n₃ ∷ [])) ∷ ‵ (flft κ₃ q₃) ∷ ‵ (MutSlice (named 0) κ₄ u8 .own (at-list b₄ o₄ γ₄ held) (sliceVal (b₄, o₄) n₄ ∷ [])) ∷ ‵ (flft κ₄ q₄) ∷ ‵ (ShrSlice (named 0) κ₅ u8 .own (at-list b₅ o₅ γ₅ d) (sliceVal (b₅, o₅) n₅ ∷ [])) ∷ ‵ (flft κ₅ q₅) ∷ ‵ (ShrSlice (named 0) κ₆ u8 .own (at-list b₆ o₆ γ₆ sample) (sliceVal (b₆, o₆) n₆ ∷ [])) ∷ ‵ (flft κ₆ q₆) ∷ free 𝓤 (sliceTy (tyRef erased mut (pointee (u8 .written)))) l₂₉ (free 𝓤 (tyRef erased mut (pointee (u8 .written))) l₂₈ (free 𝓤 tyUnit l₂₇ (free 𝓤 (sliceTy (tyRef erased mut (pointee (u8 .written)))) l₂₆ (free 𝓤 (tyRef erased mut (pointee (u8 .written))) l₂₅ (free 𝓤 (sliceTy (tyRef erased mut (pointee (Object-t.the-row .written)))) l₂₄ (free 𝓤 (tyRef erased mut (pointee (Object-t.the-row .written))) l₂₃ (free 𝓤 (sliceTy (tyRef erased mut (pointee ((Array u16 35) .written)))) l₂₂ (free 𝓤 (tyRef erased mut (pointee ((Array u16 35) .written))) l₂₁ (free 𝓤 (sliceTy (tyRef erased mut (pointee ((Array u64 6) .written)))) l₂₀ (free 𝓤 (tyRef erased mut (pointee ((Array u64 6) .written))) l₁₉ (full 𝓤 (sliceTy (tyRef erased imm (pointee (u8 .written)))) l₁₈ (sliceVal (b₄, o₄) n₄) (full 𝓤 (tyRef erased imm (pointee (u8 .written))) l₁₇ (vptr b₄ o₄) (full 𝓤 (sliceTy (tyRef erased imm (pointee ((Array u16 35) .written)))) l₁₆ (sliceVal (b₂, o₂) n₂) (full 𝓤 (tyRef erased imm (pointee ((Array u16 35) .written))) l₁₅ (vptr b₂ o₂) (full 𝓤 (sliceTy (tyRef erased imm (pointee ((Array u64 6) .written)))) l₁₄ (sliceVal (b₁, o₁) n₁) (full 𝓤 (tyRef erased imm (pointee ((Array u64 6) .written))) l₁₃ (vptr b₁ o₁) (free 𝓤 (tyInt w64) l₁₂ (full 𝓤 BufferCopy-l.mir l₁₁ (BufferCopy-p .val (bufferCopy (bufferIn (held) (bufferStretch (sessions) (streams) n₄ ((start .frame) .«session_id») ((start .frame) .«stream_id»))))) (full 𝓤 Stretch-l.mir l₁₀ (Stretch-p .val (bufferStretch (sessions) (streams) n₄ ((start .frame) .«session_id») ((start .frame) .«stream_id»))) (full 𝓤 (tyInt w64) l₉ (u64-p .val n₄) (full 𝓤 Frame-l.mir l₈ (Frame-p .val (start .frame)) (full 𝓤 Start-l.mir l₇ (Start-p .val start) (full 𝓤 (sliceTy (tyRef (named 5) imm (pointee (u8 .written)))) l₆ (sliceVal (b₆, o₆) n₆) (full 𝓤 (sliceTy (tyRef (named 4) imm (pointee (u8 .written)))) l₅ (sliceVal (b₅, o₅) n₅) (full 𝓤 (sliceTy (tyRef (named 3) mut (pointee (u8 .written)))) l₄ (sliceVal (b₄, o₄) n₄) (full 𝓤 (sliceTy (tyRef (named 2) mut (pointee (Object-t.the-row .written)))) l₃ (sliceVal (b₃, o₃) n₃) (full 𝓤 (sliceTy (tyRef (named 1) mut (pointee ((Array u16 35) .written)))) l₂ (sliceVal (b₂, o₂) n₂) (full 𝓤 (sliceTy (tyRef (named 0) mut (pointee ((Array u64 6) .written)))) l₁ (sliceVal (b₁, o₁) n₁) (free 𝓤 (tyInt w64) l₀ ([]))))))))))))))))))))))))))))))) (runs C Λ En mir.t-11 (atRet En Post))
+    part-11-0 fact-7 is-7 asks-10 is-10 =
+        assigns ! (addr ! (from ! (fld ! refl (hop ! (look-in ! 68 (sub ! 0 refl (whole !))) (stop !))))) (from ! (stop !)) (init ! 32 refl (tt, tt)) $
+        assigns ! (agg ! (and-then ! (load ! (from ! (stop !)) (look ! 32 refl)) (and-then ! (load ! (from ! (fld ! refl (stop !))) (look-in ! 68 (sub ! 1 refl (whole !)))) (no-more !)))) (from ! (stop !)) (init ! 30 refl (tt, (tt, (record { fits = room₁ .0 }, tt)))) $
+        assigns ! (addr ! (from ! (fld ! refl (hop ! (look-in ! 66 (sub ! 0 refl (whole !))) (stop !))))) (from ! (stop !)) (init ! 28 refl (tt, tt)) $
+        assigns ! (agg ! (and-then ! (load ! (from ! (stop !)) (look ! 28 refl)) (and-then ! (load ! (from ! (fld ! refl (stop !))) (look-in ! 66 (sub ! 1 refl (whole !)))) (no-more !)))) (from ! (stop !)) (init ! 26 refl (tt, (tt, (record { fits = room₂ .0 }, tt)))) $
+        assigns ! (addr ! (from ! (fld ! refl (hop ! (look-in ! 64 (sub ! 0 refl (whole !))) (stop !))))) (from ! (stop !)) (init ! 24 refl (tt, tt)) $
+        assigns ! (agg ! (and-then ! (load ! (from ! (stop !)) (look ! 24 refl)) (and-then ! (load ! (from ! (fld ! refl (stop !))) (look-in ! 64 (sub ! 1 refl (whole !)))) (no-more !)))) (from ! (stop !)) (init ! 22 refl (tt, (tt, (record { fits = room₃ .0 }, tt)))) $
+        assigns ! (addr ! (from ! (fld ! refl (hop ! (look-in ! 62 (sub ! 0 refl (whole !))) (stop !))))) (from ! (stop !)) (init ! 20 refl (tt, tt)) $
+        assigns ! (agg ! (and-then ! (load ! (from ! (stop !)) (look ! 20 refl)) (and-then ! (load ! (from ! (fld ! refl (stop !))) (look-in ! 62 (sub ! 1 refl (whole !)))) (no-more !)))) (from ! (stop !)) (init ! 18 refl (tt, (tt, (record { fits = room₄ .0 }, tt)))) $
+        knows ! ((resumesFit (start .resumes) (start .frame .«stream_id») (length (sample)) ≡ true) × (start .frame .room ≤ 9223372036854775807) × (256 ≤ length (sessions)) × (2048 ≤ length (streams)) × (8192 ≤ length (objects))) (within) (λ asks-19.
+        -- 19: agent::dry::dry_objects
+        lends-mut ! tt (Array u64 6) b₁ o₁ sessions n₁ (refl) (λ ν-19-sessions δ-19-sessions.
+        move ! (3 ∷ 4 ∷ []) $
+        lends-mut ! tt (Array u16 35) b₂ o₂ streams n₂ (refl) (λ ν-19-streams δ-19-streams.
+        move ! (6 ∷ 7 ∷ []) $
+        lends-mut ! tt Object-t.the-row b₃ o₃ objects n₃ (refl) (λ ν-19-objects δ-19-objects.
         move ! (9 ∷ 10 ∷ []) $
-        copies-shr ! u8 b₄ o₄ d n₄ $ move ! (12 ∷ 13 ∷ []) $
-        copies-shr ! u8 b₅ o₅ sample n₅ $ nothing ! $ move ! (1 ∷ 0 ∷ []) $ join ! $ move ! (3 ∷ 0 ∷ []) $ join ! $ move ! (5 ∷ 0 ∷ []) $ join ! $ move ! (7 ∷ 0 ∷ []) $ join ! $ move ! (9 ∷ 0 ∷ []) $ join ! $
-        use1 W (raw (toks 𝓤 A 5 (((ν-18-sessions ∷ []), ((ν-18-streams ∷ []), ((ν-18-objects ∷ []), (κ₄, (κ₅, tt)))))) ((fullShare, (fullShare, (fullShare, (q₄, (q₅, tt)))))))) (id⊢ 𝓤 _) $ nothing ! $
-        owned ! (Start-p .row) (Is (Start-p .row)) (Start-p .makes 𝓤 H A W) start (Start-p .val start ∷ []) start-is $ fjoin ! $ move ! (2 ∷ 0 ∷ []) $ fjoin ! $ move ! (3 ∷ 0 ∷ []) $ fjoin ! $ move ! (4 ∷ 0 ∷ []) $ fjoin ! $ move ! (5 ∷ 0 ∷ []) $ fjoin ! $ move ! (6 ∷ 0 ∷ []) $ fjoin ! $ move ! (1 ∷ 0 ∷ []) $
-        calls-any ! fm 5 [] (dry-dry-streams.signature .params) (dry-dry-streams.ended .kept) u64-p (dry-dry-streams.clauses 𝓤 H A mem run) known-dry-dry-streams ((ν-18-sessions ∷ []), ((ν-18-streams ∷ []), ((ν-18-objects ∷ []), (κ₄, (κ₅, tt))))) (fullShare, (fullShare, (fullShare, (q₄, (q₅, tt))))) tt (at-list b₁ o₁ δ-18-sessions sessions, (at-list b₂ o₂ δ-18-streams streams, (at-list b₃ o₃ δ-18-objects objects, (at-list b₄ o₄ γ₄ d, (at-list b₅ o₅ γ₅ sample, (start, tt)))))) (sliceVal (b₁, o₁) n₁ ∷ [], (sliceVal (b₂, o₂) n₂ ∷ [], (sliceVal (b₃, o₃) n₃ ∷ [], (sliceVal (b₄, o₄) n₄ ∷ [], (sliceVal (b₅, o₅) n₅ ∷ [], (Start-p .val start ∷ [], tt)))))) tt (performed start (lent (sessions) (streams) (objects)) (d) (sample) .ran .wrote) (λ ws-18. (ws-18 .0 ≡ sessions) × (ws-18 .1 .0 ≡ streams) × (ws-18 .1 .1 .0 ≡ performed start (lent (sessions) (streams) (objects)) (d) (sample) .tables .objects)) (factI 𝓤 ((resumesFit (start .resumes) (length (sample)) ≡ true) × (256 ≤ length (sessions)) × (2048 ≤ length (streams))) _ asks-18) (λ r ws-18. fact-mono 𝓤 ((r ≡ performed start (lent (sessions) (streams) (objects)) (d) (sample) .ran .wrote) × ((ws-18 .0) ≡ sessions) × ((ws-18 .1 .0) ≡ streams) × ((ws-18 .1 .1 .0) ≡ performed start (lent (sessions) (streams) (objects)) (d) (sample) .tables .objects)) ((r ≡ (performed start (lent (sessions) (streams) (objects)) (d) (sample) .ran .wrote)) × ((ws-18 .0 ≡ sessions) × (ws-18 .1 .0 ≡ streams) × (ws-18 .1 .1 .0 ≡ performed start (lent (sessions) (streams) (objects)) (d) (sample) .tables .objects))) (λ e. (e .0, (e .1, e .2, e .3)))) (λ _. (and-then ! (load ! (from ! (stop !)) (look ! 22 refl)) (and-then ! (load ! (from ! (stop !)) (look ! 18 refl)) (and-then ! (load ! (from ! (stop !)) (look ! 14 refl)) (and-then ! (load ! (from ! (stop !)) (look ! 54 refl)) (and-then ! (load ! (from ! (stop !)) (look ! 52 refl)) (and-then ! (load ! (from ! (stop !)) (look ! 50 refl)) (no-more !)))))))) (λ ws-18 said-18 is-18.
-        use1 W ((‵ (flft (ν-18-sessions ∷ []) fullShare) ⊛ (‵ (flft (ν-18-streams ∷ []) fullShare) ⊛ (‵ (flft (ν-18-objects ∷ []) fullShare) ⊛ (‵ (flft κ₄ q₄) ⊛ (‵ (flft κ₅ q₅) ⊛ ‵ ftrue)))))) (id⊢ 𝓤 _) $ split ! $ move ! (1 ∷ []) $ split ! $ move ! (1 ∷ []) $ split ! $ move ! (1 ∷ []) $ split ! $ move ! (1 ∷ []) $ split ! $ move ! (6 ∷ []) $ fsplit ! $ fsplit ! $ move ! (1 ∷ []) $
-        feqL ! (λ wlen-18-0.
+        lends-mut ! tt u8 b₄ o₄ held n₄ (refl) (λ ν-19-held δ-19-held.
+        move ! (12 ∷ 13 ∷ []) $
+        copies-shr ! u8 b₅ o₅ d n₅ $ move ! (15 ∷ 16 ∷ []) $
+        copies-shr ! u8 b₆ o₆ sample n₆ $ nothing ! $ move ! (1 ∷ 0 ∷ []) $ join ! $ move ! (3 ∷ 0 ∷ []) $ join ! $ move ! (5 ∷ 0 ∷ []) $ join ! $ move ! (7 ∷ 0 ∷ []) $ join ! $ move ! (9 ∷ 0 ∷ []) $ join ! $ move ! (11 ∷ 0 ∷ []) $ join ! $
+        use1 W (raw (toks 𝓤 A 6 (((ν-19-sessions ∷ []), ((ν-19-streams ∷ []), ((ν-19-objects ∷ []), ((ν-19-held ∷ []), (κ₅, (κ₆, tt))))))) ((fullShare, (fullShare, (fullShare, (fullShare, (q₅, (q₆, tt))))))))) (id⊢ 𝓤 _) $ nothing ! $
+        owned ! (Start-p .row) (Is (Start-p .row)) (Start-p .makes 𝓤 H A W) start (Start-p .val start ∷ []) start-is $ fjoin ! $ move ! (2 ∷ 0 ∷ []) $ fjoin ! $ move ! (3 ∷ 0 ∷ []) $ fjoin ! $ move ! (4 ∷ 0 ∷ []) $ fjoin ! $ move ! (5 ∷ 0 ∷ []) $ fjoin ! $ move ! (6 ∷ 0 ∷ []) $ fjoin ! $ move ! (7 ∷ 0 ∷ []) $ fjoin ! $ move ! (1 ∷ 0 ∷ []) $
+        calls-any ! fm 6 [] (dry-dry-objects.signature .params) (dry-dry-objects.ended .kept) u64-p (dry-dry-objects.clauses 𝓤 H A mem run) known-dry-dry-objects ((ν-19-sessions ∷ []), ((ν-19-streams ∷ []), ((ν-19-objects ∷ []), ((ν-19-held ∷ []), (κ₅, (κ₆, tt)))))) (fullShare, (fullShare, (fullShare, (fullShare, (q₅, (q₆, tt)))))) tt (at-list b₁ o₁ δ-19-sessions sessions, (at-list b₂ o₂ δ-19-streams streams, (at-list b₃ o₃ δ-19-objects objects, (at-list b₄ o₄ δ-19-held held, (at-list b₅ o₅ γ₅ d, (at-list b₆ o₆ γ₆ sample, (start, tt))))))) (sliceVal (b₁, o₁) n₁ ∷ [], (sliceVal (b₂, o₂) n₂ ∷ [], (sliceVal (b₃, o₃) n₃ ∷ [], (sliceVal (b₄, o₄) n₄ ∷ [], (sliceVal (b₅, o₅) n₅ ∷ [], (sliceVal (b₆, o₆) n₆ ∷ [], (Start-p .val start ∷ [], tt))))))) tt (performed start (lent (sessions) (streams) (objects) (held)) (d) (sample) .ran .wrote) (λ ws-19. (ws-19 .0 ≡ sessions) × (ws-19 .1 .0 ≡ streams) × (ws-19 .1 .1 .0 ≡ objects) × (ws-19 .1 .1 .1 .0 ≡ performed start (lent (sessions) (streams) (objects) (held)) (d) (sample) .tables .held)) (factI 𝓤 ((resumesFit (start .resumes) (start .frame .«stream_id») (length (sample)) ≡ true) × (start .frame .room ≤ 9223372036854775807) × (256 ≤ length (sessions)) × (2048 ≤ length (streams)) × (8192 ≤ length (objects))) _ asks-19) (λ r ws-19. fact-mono 𝓤 ((r ≡ performed start (lent (sessions) (streams) (objects) (held)) (d) (sample) .ran .wrote) × ((ws-19 .0) ≡ sessions) × ((ws-19 .1 .0) ≡ streams) × ((ws-19 .1 .1 .0) ≡ objects) × ((ws-19 .1 .1 .1 .0) ≡ performed start (lent (sessions) (streams) (objects) (held)) (d) (sample) .tables .held)) ((r ≡ (performed start (lent (sessions) (streams) (objects) (held)) (d) (sample) .ran .wrote)) × ((ws-19 .0 ≡ sessions) × (ws-19 .1 .0 ≡ streams) × (ws-19 .1 .1 .0 ≡ objects) × (ws-19 .1 .1 .1 .0 ≡ performed start (lent (sessions) (streams) (objects) (held)) (d) (sample) .tables .held))) (λ e. (e .0, (e .1, e .2, e .3, e .4)))) (λ _. (and-then ! (load ! (from ! (stop !)) (look ! 25 refl)) (and-then ! (load ! (from ! (stop !)) (look ! 21 refl)) (and-then ! (load ! (from ! (stop !)) (look ! 17 refl)) (and-then ! (load ! (from ! (stop !)) (look ! 13 refl)) (and-then ! (load ! (from ! (stop !)) (look ! 55 refl)) (and-then ! (load ! (from ! (stop !)) (look ! 53 refl)) (and-then ! (load ! (from ! (stop !)) (look ! 51 refl)) (no-more !))))))))) (λ ws-19 said-19 is-19.
+        use1 W ((‵ (flft (ν-19-sessions ∷ []) fullShare) ⊛ (‵ (flft (ν-19-streams ∷ []) fullShare) ⊛ (‵ (flft (ν-19-objects ∷ []) fullShare) ⊛ (‵ (flft (ν-19-held ∷ []) fullShare) ⊛ (‵ (flft κ₅ q₅) ⊛ (‵ (flft κ₆ q₆) ⊛ ‵ ftrue))))))) (id⊢ 𝓤 _) $ split ! $ move ! (1 ∷ []) $ split ! $ move ! (1 ∷ []) $ split ! $ move ! (1 ∷ []) $ split ! $ move ! (1 ∷ []) $ split ! $ move ! (1 ∷ []) $ split ! $ move ! (7 ∷ []) $ fsplit ! $ fsplit ! $ move ! (1 ∷ []) $
+        feqL ! (λ wlen-19-0.
         move ! (1 ∷ []) $ fsplit ! $ fsplit ! $ move ! (1 ∷ []) $
-        feqL ! (λ wlen-18-1.
+        feqL ! (λ wlen-19-1.
         move ! (1 ∷ []) $ fsplit ! $ fsplit ! $ move ! (1 ∷ []) $
-        feqL ! (λ wlen-18-2.
-        move ! (1 ∷ []) $ fsplit ! $ move ! (1 ∷ []) $ fsplit ! $ move ! (11 ∷ 16 ∷ 5 ∷ []) $
-        backs-mut ! tt (Array u64 5) b₁ o₁ sessions n₁ (refl) room₁ ν-18-sessions δ-18-sessions (ws-18 .0) sessions wlen-18-0 (said-18 .0) (λ len-18-sessions.
-        move ! (11 ∷ 15 ∷ 6 ∷ []) $
-        backs-mut ! tt (Array u16 35) b₂ o₂ streams n₂ (refl) room₂ ν-18-streams δ-18-streams (ws-18 .1 .0) streams wlen-18-1 (said-18 .1) (λ len-18-streams.
-        move ! (11 ∷ 14 ∷ 7 ∷ []) $
-        backs-mut ! tt Object-t.the-row b₃ o₃ objects n₃ (refl) room₃ ν-18-objects δ-18-objects (ws-18 .1 .1 .0) (performed start (lent (sessions) (streams) (objects)) (d) (sample) .tables .objects) wlen-18-2 (said-18 .2) (λ len-18-objects.
-        move ! (6 ∷ []) $ drop ! $ move ! (6 ∷ []) $ drop ! $ move ! (6 ∷ []) $ drop ! $ move ! (7 ∷ []) $ drop ! $
-        land ! (from ! (stop !)) (init ! 40 refl (u64-p .typed 𝓤 H A W (performed start (lent (sessions) (streams) (objects)) (d) (sample) .ran .wrote) is-18)) $ move ! (4 ∷ 5 ∷ 2 ∷ 3 ∷ 0 ∷ 1 ∷ 9 ∷ 7 ∷ 8 ∷ 6 ∷ 10 ∷ 11 ∷ 12 ∷ 13 ∷ 14 ∷ 15 ∷ 16 ∷ 17 ∷ 18 ∷ 19 ∷ 20 ∷ 21 ∷ 22 ∷ 23 ∷ 24 ∷ 25 ∷ 26 ∷ 27 ∷ 28 ∷ 29 ∷ 30 ∷ 31 ∷ 32 ∷ 33 ∷ 34 ∷ 35 ∷ 36 ∷ 37 ∷ 38 ∷ 39 ∷ 40 ∷ 41 ∷ 42 ∷ 43 ∷ 44 ∷ 45 ∷ 46 ∷ 47 ∷ 48 ∷ 49 ∷ 50 ∷ 51 ∷ 52 ∷ 53 ∷ 54 ∷ 55 ∷ 56 ∷ 57 ∷ 58 ∷ 59 ∷ 60 ∷ 61 ∷ 62 ∷ 63 ∷ 64 ∷ 65 ∷ 66 ∷ 67 ∷ []) $
-        part-19-0 is-3 is-5 asks-11 v-11-12 ais-11-12 is-11 asks-18 len-18-sessions len-18-streams len-18-objects is-18)))))))))))
+        feqL ! (λ wlen-19-2.
+        move ! (1 ∷ []) $ fsplit ! $ fsplit ! $ move ! (1 ∷ []) $
+        feqL ! (λ wlen-19-3.
+        move ! (1 ∷ []) $ fsplit ! $ move ! (1 ∷ []) $ fsplit ! $ move ! (13 ∷ 19 ∷ 6 ∷ []) $
+        backs-mut ! tt (Array u64 6) b₁ o₁ sessions n₁ (refl) room₁ ν-19-sessions δ-19-sessions (ws-19 .0) sessions wlen-19-0 (said-19 .0) (λ len-19-sessions.
+        move ! (13 ∷ 18 ∷ 7 ∷ []) $
+        backs-mut ! tt (Array u16 35) b₂ o₂ streams n₂ (refl) room₂ ν-19-streams δ-19-streams (ws-19 .1 .0) streams wlen-19-1 (said-19 .1) (λ len-19-streams.
+        move ! (13 ∷ 17 ∷ 8 ∷ []) $
+        backs-mut ! tt Object-t.the-row b₃ o₃ objects n₃ (refl) room₃ ν-19-objects δ-19-objects (ws-19 .1 .1 .0) objects wlen-19-2 (said-19 .2) (λ len-19-objects.
+        move ! (13 ∷ 16 ∷ 9 ∷ []) $
+        backs-mut ! tt u8 b₄ o₄ held n₄ (refl) room₄ ν-19-held δ-19-held (ws-19 .1 .1 .1 .0) (performed start (lent (sessions) (streams) (objects) (held)) (d) (sample) .tables .held) wlen-19-3 (said-19 .3) (λ len-19-held.
+        move ! (8 ∷ []) $ drop ! $ move ! (8 ∷ []) $ drop ! $ move ! (8 ∷ []) $ drop ! $ move ! (9 ∷ []) $ drop ! $
+        land ! (from ! (stop !)) (init ! 46 refl (u64-p .typed 𝓤 H A W (performed start (lent (sessions) (streams) (objects) (held)) (d) (sample) .ran .wrote) is-19)) $ move ! (6 ∷ 7 ∷ 4 ∷ 5 ∷ 2 ∷ 3 ∷ 0 ∷ 1 ∷ 11 ∷ 9 ∷ 10 ∷ 8 ∷ 12 ∷ 13 ∷ 14 ∷ 15 ∷ 16 ∷ 17 ∷ 18 ∷ 19 ∷ 20 ∷ 21 ∷ 22 ∷ 23 ∷ 24 ∷ 25 ∷ 26 ∷ 27 ∷ 28 ∷ 29 ∷ 30 ∷ 31 ∷ 32 ∷ 33 ∷ 34 ∷ 35 ∷ 36 ∷ 37 ∷ 38 ∷ 39 ∷ 40 ∷ 41 ∷ 42 ∷ 43 ∷ 44 ∷ 45 ∷ 46 ∷ 47 ∷ 48 ∷ 49 ∷ 50 ∷ 51 ∷ 52 ∷ 53 ∷ 54 ∷ 55 ∷ 56 ∷ 57 ∷ 58 ∷ 59 ∷ 60 ∷ 61 ∷ 62 ∷ 63 ∷ 64 ∷ 65 ∷ 66 ∷ 67 ∷ 68 ∷ 69 ∷ 70 ∷ 71 ∷ []) $
+        part-20-0 fact-7 is-7 asks-10 is-10 asks-19 len-19-sessions len-19-streams len-19-objects len-19-held is-19))))))))))))))
 
-    part-6-0 : (is-3 : Is (u64-p .row) (32 * ((start .frame) .«session_id»)) (u64-p .val (32 * ((start .frame) .«session_id»)) ∷ [])) → (is-5 : Is (Object-p .row) (implicitOf (ObjectNumber-of 0) 0 0) (Object-p .val (implicitOf (ObjectNumber-of 0) 0 0) ∷ [])) → Sq W (‵ (MutSlice (named 0) κ₁ (Array u64 5) .own (at-list b₁ o₁ γ₁ sessions) (sliceVal (b₁, o₁) n₁ ∷ [])) ∷ ‵ (flft κ₁ q₁) ∷ ‵ (MutSlice (named 0) κ₂ (Array u16 35) .own (at-list b₂ o₂ γ₂ streams) (sliceVal (b₂, o₂) n₂ ∷ [])) ∷ ‵ (flft κ₂ q₂) ∷ ‵ (MutSlice (named 0) κ₃ Object-t.the-row .own (at-list b₃ o₃ γ₃ objects) (sliceVal (b₃, o₃) n₃ ∷ [])) ∷ ‵ (flft κ₃ q₃) ∷ ‵ (ShrSlice (named 0) κ₄ u8 .own (at-list b₄ o₄ γ₄ d) (sliceVal (b₄, o₄) n₄ ∷ [])) ∷ ‵ (flft κ₄ q₄) ∷ ‵ (ShrSlice (named 0) κ₅ u8 .own (at-list b₅ o₅ γ₅ sample) (sliceVal (b₅, o₅) n₅ ∷ [])) ∷ ‵ (flft κ₅ q₅) ∷ free 𝓤 (sliceTy (tyRef erased mut (pointee (Object-t.the-row .written)))) l₂₈ (free 𝓤 (tyRef erased mut (pointee (Object-t.the-row .written))) l₂₇ (free 𝓤 (sliceTy (tyRef erased imm (pointee (Object-t.the-row .written)))) l₂₆ (free 𝓤 (tyRef erased imm (pointee ((Array Object-t.the-row 32) .written))) l₂₅ (free 𝓤 (sliceTy (tyRef erased mut (pointee (Object-t.the-row .written)))) l₂₄ (free 𝓤 (tyRef erased mut (pointee (Object-t.the-row .written))) l₂₃ (free 𝓤 (sliceTy (tyRef erased mut (pointee ((Array u16 35) .written)))) l₂₂ (free 𝓤 (tyRef erased mut (pointee ((Array u16 35) .written))) l₂₁ (free 𝓤 (sliceTy (tyRef erased mut (pointee ((Array u64 5) .written)))) l₂₀ (free 𝓤 (tyRef erased mut (pointee ((Array u64 5) .written))) l₁₉ (free 𝓤 (sliceTy (tyRef erased mut (pointee (Object-t.the-row .written)))) l₁₈ (free 𝓤 (tyRef erased mut (pointee ((Array Object-t.the-row 32) .written))) l₁₇ (free 𝓤 (sliceTy (tyRef erased imm (pointee (Object-t.the-row .written)))) l₁₆ (free 𝓤 (tyRef erased imm (pointee (Object-t.the-row .written))) l₁₅ (free 𝓤 tyUnit l₁₄ (free 𝓤 (tyInt w64) l₁₃ (free 𝓤 (tyArray Object-l.mir 32) l₁₂ (full 𝓤 Object-l.mir l₁₁ (Object-p .val (implicitOf (ObjectNumber-of 0) 0 0)) (full 𝓤 ObjectNumber-l.mir l₁₀ (ObjectNumber-p .val (ObjectNumber-of 0)) (full 𝓤 (tyInt w64) l₉ (u64-p .val (32 * ((start .frame) .«session_id»))) (full 𝓤 (tyInt w8) l₈ (u8-p .val ((start .frame) .«session_id»)) (full 𝓤 Frame-l.mir l₇ (Frame-p .val (start .frame)) (full 𝓤 Start-l.mir l₆ (Start-p .val start) (full 𝓤 (sliceTy (tyRef (named 4) imm (pointee (u8 .written)))) l₅ (sliceVal (b₅, o₅) n₅) (full 𝓤 (sliceTy (tyRef (named 3) imm (pointee (u8 .written)))) l₄ (sliceVal (b₄, o₄) n₄) (full 𝓤 (sliceTy (tyRef (named 2) mut (pointee (Object-t.the-row .written)))) l₃ (sliceVal (b₃, o₃) n₃) (full 𝓤 (sliceTy (tyRef (named 1) mut (pointee ((Array u16 35) .written)))) l₂ (sliceVal (b₂, o₂) n₂) (full 𝓤 (sliceTy (tyRef (named 0) mut (pointee ((Array u64 5) .written)))) l₁ (sliceVal (b₁, o₁) n₁) (free 𝓤 (tyInt w64) l₀ ([])))))))))))))))))))))))))))))) (runs C Λ En mir.t-6 (atRet En Post))
-    part-6-0 is-3 is-5 =
-        assigns ! (rep ! 32 (load ! (from ! (stop !)) (look ! 44 refl))) (from ! (stop !)) (init ! 42 refl (array-typed Object-t.the-row (λ x vs p. LL.lawful Object-t.the-type Object-l.the-laws 𝓤 H A W .typed x vs p) 32 (replicate 32 (implicitOf (ObjectNumber-of 0) 0 0)) _ (rep-is Object-t.the-row 32 (implicitOf (ObjectNumber-of 0) 0 0) (Object-p .val (implicitOf (ObjectNumber-of 0) 0 0)) is-5) .0)) $
-        assigns ! (addr ! (from ! (fld ! refl (hop ! (look-in ! 60 (sub ! 0 refl (whole !))) (stop !))))) (from ! (stop !)) (init ! 36 refl (tt, tt)) $
-        assigns ! (agg ! (and-then ! (load ! (from ! (stop !)) (look ! 36 refl)) (and-then ! (load ! (from ! (fld ! refl (stop !))) (look-in ! 60 (sub ! 1 refl (whole !)))) (no-more !)))) (from ! (stop !)) (init ! 34 refl (tt, (tt, (record { fits = room₃ .0 }, tt)))) $
-        assigns ! (addr ! (from ! (stop !))) (from ! (stop !)) (init ! 32 refl (tt, tt)) $
-        assigns ! (agg ! (and-then ! (load ! (from ! (stop !)) (look ! 32 refl)) (and-then ! (lit ! tt) (no-more !)))) (from ! (stop !)) (init ! 30 refl (tt, (tt, (record { fits = lit< tt }, tt)))) $
-        knows ! (((32 * ((start .frame) .«session_id»)) + 32 ≤ length (objects)) × (32 ≤ length ((replicate 32 (implicitOf (ObjectNumber-of 0) 0 0))))) ((first-fits, copies-long 32 blank)) (λ asks-11.
-        -- 11: agent::dry::copy_objects
-        move ! (4 ∷ 5 ∷ []) $
-        lends-view ! tt Object-t.the-row b₃ o₃ objects n₃ (refl) (λ ν-11-objects δ-11-objects.
-        move ! (43 ∷ []) $
-        lends-array ! tt Object-t.the-row tt (Object-p .makes 𝓤 H A W) (Object-p .ty) 32 refl l₁₂ (replicate 32 (implicitOf (ObjectNumber-of 0) 0 0)) _ (rep-is Object-t.the-row 32 (implicitOf (ObjectNumber-of 0) 0 0) (Object-p .val (implicitOf (ObjectNumber-of 0) 0 0)) is-5) (lit< tt, lit< tt) (λ ν-11-12 δ-11-12 llen-11-12.
-        nothing ! $ move ! (1 ∷ 0 ∷ []) $ join ! $ move ! (3 ∷ 0 ∷ []) $ join ! $
-        use1 W (raw (toks 𝓤 A 2 (((ν-11-objects ∷ []), ((ν-11-12 ∷ []), tt))) ((fullShare, (fullShare, tt))))) (id⊢ 𝓤 _) $ nothing ! $
-        owned ! (u64-p .row) (Is (u64-p .row)) (u64-p .makes 𝓤 H A W) 32 (u64-p .val 32 ∷ []) ((refl, lit< tt)) $ fjoin ! $
-        owned ! (u64-p .row) (Is (u64-p .row)) (u64-p .makes 𝓤 H A W) (32 * ((start .frame) .«session_id»)) (u64-p .val (32 * ((start .frame) .«session_id»)) ∷ []) is-3 $ fjoin ! $ move ! (2 ∷ 0 ∷ []) $ fjoin ! $ move ! (3 ∷ 0 ∷ []) $ fjoin ! $ move ! (1 ∷ 0 ∷ []) $
-        calls-any ! fm 2 [] (dry-copy-objects.signature .params) (dry-copy-objects.ended .kept) unit-p (dry-copy-objects.clauses 𝓤 H A mem run) known-dry-copy-objects ((ν-11-objects ∷ []), ((ν-11-12 ∷ []), tt)) (fullShare, (fullShare, tt)) tt (at-list b₃ o₃ δ-11-objects objects, (at-list l₁₂ 0 δ-11-12 (replicate 32 (implicitOf (ObjectNumber-of 0) 0 0)), (32 * ((start .frame) .«session_id»), (32, tt)))) (sliceVal (b₃, o₃) n₃ ∷ [], (sliceVal (l₁₂, 0) 32 ∷ [], (u64-p .val (32 * ((start .frame) .«session_id»)) ∷ [], (u64-p .val 32 ∷ [], tt)))) tt tt (λ ws-11. (ws-11 .1 .0 ≡ copied same blank (objectSpot (32 * ((start .frame) .«session_id»))) 32 (objects) ((replicate 32 (implicitOf (ObjectNumber-of 0) 0 0))))) (factI 𝓤 (((32 * ((start .frame) .«session_id»)) + 32 ≤ length (objects)) × (32 ≤ length ((replicate 32 (implicitOf (ObjectNumber-of 0) 0 0))))) _ asks-11) (λ r ws-11. fact-mono 𝓤 ((ws-11 .1 .0) ≡ copied same blank (objectSpot (32 * ((start .frame) .«session_id»))) 32 (objects) ((replicate 32 (implicitOf (ObjectNumber-of 0) 0 0)))) ((r ≡ tt) × ((ws-11 .1 .0 ≡ copied same blank (objectSpot (32 * ((start .frame) .«session_id»))) 32 (objects) ((replicate 32 (implicitOf (ObjectNumber-of 0) 0 0)))))) (λ e. (refl, e))) (λ _. (and-then ! (load ! (from ! (stop !)) (look ! 35 refl)) (and-then ! (load ! (from ! (stop !)) (look ! 31 refl)) (and-then ! (load ! (from ! (stop !)) (look ! 48 refl)) (and-then ! (lit ! tt) (no-more !)))))) (λ ws-11 said-11 is-11.
-        use1 W ((‵ (flft (ν-11-objects ∷ []) fullShare) ⊛ (‵ (flft (ν-11-12 ∷ []) fullShare) ⊛ ‵ ftrue))) (id⊢ 𝓤 _) $ split ! $ move ! (1 ∷ []) $ split ! $ move ! (3 ∷ []) $ fsplit ! $ move ! (1 ∷ []) $ fsplit ! $ fsplit ! $ move ! (1 ∷ []) $
-        feqL ! (λ wlen-11-1.
-        move ! (5 ∷ 7 ∷ []) $
-        backs-view ! tt Object-t.the-row b₃ o₃ objects n₃ (refl) ν-11-objects $ move ! (5 ∷ 7 ∷ 2 ∷ []) $
-        backs-array ! tt Object-t.the-row (Object-p .ty) 32 refl l₁₂ ν-11-12 δ-11-12 (ws-11 .1 .0) (λ v-11-12 vis-11-12.
-        knows ! (Is (Array Object-t.the-row 32) (copied same blank (objectSpot (32 * ((start .frame) .«session_id»))) 32 (objects) ((replicate 32 (implicitOf (ObjectNumber-of 0) 0 0)))) (v-11-12 ∷ [])) (subst (λ (us : List Object). Is (Array Object-t.the-row 32) us (v-11-12 ∷ [])) (said-11) vis-11-12) (λ ais-11-12.
-        move ! (3 ∷ []) $ drop ! $ move ! (3 ∷ []) $ drop ! $ move ! (3 ∷ []) $ drop ! $
-        land ! (from ! (stop !)) (init ! 39 refl (unit-p .typed 𝓤 H A W tt is-11)) $ move ! (3 ∷ 4 ∷ 5 ∷ 6 ∷ 1 ∷ 2 ∷ 7 ∷ 8 ∷ 9 ∷ 10 ∷ 11 ∷ 12 ∷ 13 ∷ 14 ∷ 15 ∷ 16 ∷ 17 ∷ 18 ∷ 19 ∷ 20 ∷ 21 ∷ 22 ∷ 23 ∷ 24 ∷ 25 ∷ 26 ∷ 27 ∷ 28 ∷ 29 ∷ 30 ∷ 31 ∷ 32 ∷ 33 ∷ 34 ∷ 35 ∷ 36 ∷ 37 ∷ 38 ∷ 39 ∷ 40 ∷ 41 ∷ 42 ∷ 0 ∷ 43 ∷ 44 ∷ 45 ∷ 46 ∷ 47 ∷ 48 ∷ 49 ∷ 50 ∷ 51 ∷ 52 ∷ 53 ∷ 54 ∷ 55 ∷ 56 ∷ 57 ∷ 58 ∷ 59 ∷ 60 ∷ 61 ∷ 62 ∷ 63 ∷ 64 ∷ 65 ∷ 66 ∷ 67 ∷ []) $
-        part-12-0 is-3 is-5 asks-11 v-11-12 ais-11-12 is-11)))))))
+    part-8-0 : (fact-7 : ((bufferStretch (sessions) (streams) n₄ ((start .frame) .«session_id») ((start .frame) .«stream_id»)) .start ≤ (bufferStretch (sessions) (streams) n₄ ((start .frame) .«session_id») ((start .frame) .«stream_id»)) .end) × ((bufferStretch (sessions) (streams) n₄ ((start .frame) .«session_id») ((start .frame) .«stream_id»)) .end ≤ n₄) × ((bufferStretch (sessions) (streams) n₄ ((start .frame) .«session_id») ((start .frame) .«stream_id»)) .end - (bufferStretch (sessions) (streams) n₄ ((start .frame) .«session_id») ((start .frame) .«stream_id»)) .start ≤ 16384)) → (is-7 : Is (Stretch-p .row) (bufferStretch (sessions) (streams) n₄ ((start .frame) .«session_id») ((start .frame) .«stream_id»)) (Stretch-p .val (bufferStretch (sessions) (streams) n₄ ((start .frame) .«session_id») ((start .frame) .«stream_id»)) ∷ [])) → Sq W (‵ (MutSlice (named 0) κ₁ (Array u64 6) .own (at-list b₁ o₁ γ₁ sessions) (sliceVal (b₁, o₁) n₁ ∷ [])) ∷ ‵ (flft κ₁ q₁) ∷ ‵ (MutSlice (named 0) κ₂ (Array u16 35) .own (at-list b₂ o₂ γ₂ streams) (sliceVal (b₂, o₂) n₂ ∷ [])) ∷ ‵ (flft κ₂ q₂) ∷ ‵ (MutSlice (named 0) κ₃ Object-t.the-row .own (at-list b₃ o₃ γ₃ objects) (sliceVal (b₃, o₃) n₃ ∷ [])) ∷ ‵ (flft κ₃ q₃) ∷ ‵ (MutSlice (named 0) κ₄ u8 .own (at-list b₄ o₄ γ₄ held) (sliceVal (b₄, o₄) n₄ ∷ [])) ∷ ‵ (flft κ₄ q₄) ∷ ‵ (ShrSlice (named 0) κ₅ u8 .own (at-list b₅ o₅ γ₅ d) (sliceVal (b₅, o₅) n₅ ∷ [])) ∷ ‵ (flft κ₅ q₅) ∷ ‵ (ShrSlice (named 0) κ₆ u8 .own (at-list b₆ o₆ γ₆ sample) (sliceVal (b₆, o₆) n₆ ∷ [])) ∷ ‵ (flft κ₆ q₆) ∷ free 𝓤 (sliceTy (tyRef erased mut (pointee (u8 .written)))) l₂₉ (free 𝓤 (tyRef erased mut (pointee (u8 .written))) l₂₈ (free 𝓤 tyUnit l₂₇ (free 𝓤 (sliceTy (tyRef erased mut (pointee (u8 .written)))) l₂₆ (free 𝓤 (tyRef erased mut (pointee (u8 .written))) l₂₅ (free 𝓤 (sliceTy (tyRef erased mut (pointee (Object-t.the-row .written)))) l₂₄ (free 𝓤 (tyRef erased mut (pointee (Object-t.the-row .written))) l₂₃ (free 𝓤 (sliceTy (tyRef erased mut (pointee ((Array u16 35) .written)))) l₂₂ (free 𝓤 (tyRef erased mut (pointee ((Array u16 35) .written))) l₂₁ (free 𝓤 (sliceTy (tyRef erased mut (pointee ((Array u64 6) .written)))) l₂₀ (free 𝓤 (tyRef erased mut (pointee ((Array u64 6) .written))) l₁₉ (free 𝓤 (sliceTy (tyRef erased imm (pointee (u8 .written)))) l₁₈ (free 𝓤 (tyRef erased imm (pointee (u8 .written))) l₁₇ (full 𝓤 (sliceTy (tyRef erased imm (pointee ((Array u16 35) .written)))) l₁₆ (sliceVal (b₂, o₂) n₂) (full 𝓤 (tyRef erased imm (pointee ((Array u16 35) .written))) l₁₅ (vptr b₂ o₂) (full 𝓤 (sliceTy (tyRef erased imm (pointee ((Array u64 6) .written)))) l₁₄ (sliceVal (b₁, o₁) n₁) (full 𝓤 (tyRef erased imm (pointee ((Array u64 6) .written))) l₁₃ (vptr b₁ o₁) (free 𝓤 (tyInt w64) l₁₂ (free 𝓤 BufferCopy-l.mir l₁₁ (full 𝓤 Stretch-l.mir l₁₀ (Stretch-p .val (bufferStretch (sessions) (streams) n₄ ((start .frame) .«session_id») ((start .frame) .«stream_id»))) (full 𝓤 (tyInt w64) l₉ (u64-p .val n₄) (full 𝓤 Frame-l.mir l₈ (Frame-p .val (start .frame)) (full 𝓤 Start-l.mir l₇ (Start-p .val start) (full 𝓤 (sliceTy (tyRef (named 5) imm (pointee (u8 .written)))) l₆ (sliceVal (b₆, o₆) n₆) (full 𝓤 (sliceTy (tyRef (named 4) imm (pointee (u8 .written)))) l₅ (sliceVal (b₅, o₅) n₅) (full 𝓤 (sliceTy (tyRef (named 3) mut (pointee (u8 .written)))) l₄ (sliceVal (b₄, o₄) n₄) (full 𝓤 (sliceTy (tyRef (named 2) mut (pointee (Object-t.the-row .written)))) l₃ (sliceVal (b₃, o₃) n₃) (full 𝓤 (sliceTy (tyRef (named 1) mut (pointee ((Array u16 35) .written)))) l₂ (sliceVal (b₂, o₂) n₂) (full 𝓤 (sliceTy (tyRef (named 0) mut (pointee ((Array u64 6) .written)))) l₁ (sliceVal (b₁, o₁) n₁) (free 𝓤 (tyInt w64) l₀ ([]))))))))))))))))))))))))))))))) (runs C Λ En mir.t-8 (atRet En Post))
+    part-8-0 fact-7 is-7 =
+        assigns ! (addr ! (from ! (fld ! refl (hop ! (look-in ! 62 (sub ! 0 refl (whole !))) (stop !))))) (from ! (stop !)) (init ! 36 refl (tt, tt)) $
+        assigns ! (agg ! (and-then ! (load ! (from ! (stop !)) (look ! 36 refl)) (and-then ! (load ! (from ! (fld ! refl (stop !))) (look-in ! 62 (sub ! 1 refl (whole !)))) (no-more !)))) (from ! (stop !)) (init ! 34 refl (tt, (tt, (record { fits = room₄ .0 }, tt)))) $
+        knows ! (((bufferStretch (sessions) (streams) n₄ ((start .frame) .«session_id») ((start .frame) .«stream_id»)) .start ≤ (bufferStretch (sessions) (streams) n₄ ((start .frame) .«session_id») ((start .frame) .«stream_id»)) .end) × ((bufferStretch (sessions) (streams) n₄ ((start .frame) .«session_id») ((start .frame) .«stream_id»)) .end ≤ length (held)) × ((bufferStretch (sessions) (streams) n₄ ((start .frame) .«session_id») ((start .frame) .«stream_id»)) .end - (bufferStretch (sessions) (streams) n₄ ((start .frame) .«session_id») ((start .frame) .«stream_id»)) .start ≤ 16384)) ((fact-7 .0, fact-7 .1, fact-7 .2)) (λ asks-10.
+        -- 10: agent::dry::copy_buffer
+        move ! (6 ∷ 7 ∷ []) $
+        lends-view ! tt u8 b₄ o₄ held n₄ (refl) (λ ν-10-held δ-10-held.
+        nothing ! $ move ! (1 ∷ 0 ∷ []) $ join ! $
+        use1 W (raw (toks 𝓤 A 1 (((ν-10-held ∷ []), tt)) ((fullShare, tt)))) (id⊢ 𝓤 _) $ nothing ! $
+        owned ! (Stretch-p .row) (Is (Stretch-p .row)) (Stretch-p .makes 𝓤 H A W) (bufferStretch (sessions) (streams) n₄ ((start .frame) .«session_id») ((start .frame) .«stream_id»)) (Stretch-p .val (bufferStretch (sessions) (streams) n₄ ((start .frame) .«session_id») ((start .frame) .«stream_id»)) ∷ []) is-7 $ fjoin ! $ move ! (2 ∷ 0 ∷ []) $ fjoin ! $ move ! (1 ∷ 0 ∷ []) $
+        calls-any ! fm 1 [] (dry-copy-buffer.signature .params) (dry-copy-buffer.ended .kept) BufferCopy-p (dry-copy-buffer.clauses 𝓤 H A mem run) known-dry-copy-buffer ((ν-10-held ∷ []), tt) (fullShare, tt) tt (at-list b₄ o₄ δ-10-held held, (bufferStretch (sessions) (streams) n₄ ((start .frame) .«session_id») ((start .frame) .«stream_id»), tt)) (sliceVal (b₄, o₄) n₄ ∷ [], (Stretch-p .val (bufferStretch (sessions) (streams) n₄ ((start .frame) .«session_id») ((start .frame) .«stream_id»)) ∷ [], tt)) tt (bufferCopy (bufferIn (held) (bufferStretch (sessions) (streams) n₄ ((start .frame) .«session_id») ((start .frame) .«stream_id»)))) (λ ws-10. Unit {0}) (factI 𝓤 (((bufferStretch (sessions) (streams) n₄ ((start .frame) .«session_id») ((start .frame) .«stream_id»)) .start ≤ (bufferStretch (sessions) (streams) n₄ ((start .frame) .«session_id») ((start .frame) .«stream_id»)) .end) × ((bufferStretch (sessions) (streams) n₄ ((start .frame) .«session_id») ((start .frame) .«stream_id»)) .end ≤ length (held)) × ((bufferStretch (sessions) (streams) n₄ ((start .frame) .«session_id») ((start .frame) .«stream_id»)) .end - (bufferStretch (sessions) (streams) n₄ ((start .frame) .«session_id») ((start .frame) .«stream_id»)) .start ≤ 16384)) _ asks-10) (λ r ws-10. fact-mono 𝓤 (r ≡ bufferCopy (bufferIn (held) (bufferStretch (sessions) (streams) n₄ ((start .frame) .«session_id») ((start .frame) .«stream_id»)))) ((r ≡ (bufferCopy (bufferIn (held) (bufferStretch (sessions) (streams) n₄ ((start .frame) .«session_id») ((start .frame) .«stream_id»))))) × (Unit {0})) (λ e. (e, tt))) (λ _. (and-then ! (load ! (from ! (stop !)) (look ! 34 refl)) (and-then ! (load ! (from ! (stop !)) (look ! 50 refl)) (no-more !)))) (λ ws-10 said-10 is-10.
+        use1 W ((‵ (flft (ν-10-held ∷ []) fullShare) ⊛ ‵ ftrue)) (id⊢ 𝓤 _) $ split ! $ move ! (2 ∷ []) $ fsplit ! $ move ! (2 ∷ 4 ∷ []) $
+        backs-view ! tt u8 b₄ o₄ held n₄ (refl) ν-10-held $ move ! (2 ∷ []) $ drop ! $ move ! (2 ∷ []) $ drop ! $ move ! (2 ∷ []) $ drop ! $
+        land ! (from ! (stop !)) (init ! 48 refl (BufferCopy-p .typed 𝓤 H A W (bufferCopy (bufferIn (held) (bufferStretch (sessions) (streams) n₄ ((start .frame) .«session_id») ((start .frame) .«stream_id»)))) is-10)) $ move ! (2 ∷ 3 ∷ 4 ∷ 5 ∷ 6 ∷ 7 ∷ 0 ∷ 1 ∷ 8 ∷ 9 ∷ 10 ∷ 11 ∷ 12 ∷ 13 ∷ 14 ∷ 15 ∷ 16 ∷ 17 ∷ 18 ∷ 19 ∷ 20 ∷ 21 ∷ 22 ∷ 23 ∷ 24 ∷ 25 ∷ 26 ∷ 27 ∷ 28 ∷ 29 ∷ 30 ∷ 31 ∷ 32 ∷ 33 ∷ 34 ∷ 35 ∷ 36 ∷ 37 ∷ 38 ∷ 39 ∷ 40 ∷ 41 ∷ 42 ∷ 43 ∷ 44 ∷ 45 ∷ 46 ∷ 47 ∷ 48 ∷ 49 ∷ 50 ∷ 51 ∷ 52 ∷ 53 ∷ 54 ∷ 55 ∷ 56 ∷ 57 ∷ 58 ∷ 59 ∷ 60 ∷ 61 ∷ 62 ∷ 63 ∷ 64 ∷ 65 ∷ 66 ∷ 67 ∷ 68 ∷ 69 ∷ 70 ∷ 71 ∷ []) $
+        part-11-0 fact-7 is-7 asks-10 is-10)))
 
-    part-4-0 : (is-3 : Is (u64-p .row) (32 * ((start .frame) .«session_id»)) (u64-p .val (32 * ((start .frame) .«session_id»)) ∷ [])) → Sq W (‵ (MutSlice (named 0) κ₁ (Array u64 5) .own (at-list b₁ o₁ γ₁ sessions) (sliceVal (b₁, o₁) n₁ ∷ [])) ∷ ‵ (flft κ₁ q₁) ∷ ‵ (MutSlice (named 0) κ₂ (Array u16 35) .own (at-list b₂ o₂ γ₂ streams) (sliceVal (b₂, o₂) n₂ ∷ [])) ∷ ‵ (flft κ₂ q₂) ∷ ‵ (MutSlice (named 0) κ₃ Object-t.the-row .own (at-list b₃ o₃ γ₃ objects) (sliceVal (b₃, o₃) n₃ ∷ [])) ∷ ‵ (flft κ₃ q₃) ∷ ‵ (ShrSlice (named 0) κ₄ u8 .own (at-list b₄ o₄ γ₄ d) (sliceVal (b₄, o₄) n₄ ∷ [])) ∷ ‵ (flft κ₄ q₄) ∷ ‵ (ShrSlice (named 0) κ₅ u8 .own (at-list b₅ o₅ γ₅ sample) (sliceVal (b₅, o₅) n₅ ∷ [])) ∷ ‵ (flft κ₅ q₅) ∷ free 𝓤 (sliceTy (tyRef erased mut (pointee (Object-t.the-row .written)))) l₂₈ (free 𝓤 (tyRef erased mut (pointee (Object-t.the-row .written))) l₂₇ (free 𝓤 (sliceTy (tyRef erased imm (pointee (Object-t.the-row .written)))) l₂₆ (free 𝓤 (tyRef erased imm (pointee ((Array Object-t.the-row 32) .written))) l₂₅ (free 𝓤 (sliceTy (tyRef erased mut (pointee (Object-t.the-row .written)))) l₂₄ (free 𝓤 (tyRef erased mut (pointee (Object-t.the-row .written))) l₂₃ (free 𝓤 (sliceTy (tyRef erased mut (pointee ((Array u16 35) .written)))) l₂₂ (free 𝓤 (tyRef erased mut (pointee ((Array u16 35) .written))) l₂₁ (free 𝓤 (sliceTy (tyRef erased mut (pointee ((Array u64 5) .written)))) l₂₀ (free 𝓤 (tyRef erased mut (pointee ((Array u64 5) .written))) l₁₉ (free 𝓤 (sliceTy (tyRef erased mut (pointee (Object-t.the-row .written)))) l₁₈ (free 𝓤 (tyRef erased mut (pointee ((Array Object-t.the-row 32) .written))) l₁₇ (free 𝓤 (sliceTy (tyRef erased imm (pointee (Object-t.the-row .written)))) l₁₆ (free 𝓤 (tyRef erased imm (pointee (Object-t.the-row .written))) l₁₅ (free 𝓤 tyUnit l₁₄ (free 𝓤 (tyInt w64) l₁₃ (free 𝓤 (tyArray Object-l.mir 32) l₁₂ (free 𝓤 Object-l.mir l₁₁ (free 𝓤 ObjectNumber-l.mir l₁₀ (full 𝓤 (tyInt w64) l₉ (u64-p .val (32 * ((start .frame) .«session_id»))) (full 𝓤 (tyInt w8) l₈ (u8-p .val ((start .frame) .«session_id»)) (full 𝓤 Frame-l.mir l₇ (Frame-p .val (start .frame)) (full 𝓤 Start-l.mir l₆ (Start-p .val start) (full 𝓤 (sliceTy (tyRef (named 4) imm (pointee (u8 .written)))) l₅ (sliceVal (b₅, o₅) n₅) (full 𝓤 (sliceTy (tyRef (named 3) imm (pointee (u8 .written)))) l₄ (sliceVal (b₄, o₄) n₄) (full 𝓤 (sliceTy (tyRef (named 2) mut (pointee (Object-t.the-row .written)))) l₃ (sliceVal (b₃, o₃) n₃) (full 𝓤 (sliceTy (tyRef (named 1) mut (pointee ((Array u16 35) .written)))) l₂ (sliceVal (b₂, o₂) n₂) (full 𝓤 (sliceTy (tyRef (named 0) mut (pointee ((Array u64 5) .written)))) l₁ (sliceVal (b₁, o₁) n₁) (free 𝓤 (tyInt w64) l₀ ([])))))))))))))))))))))))))))))) (runs C Λ En mir.t-4 (atRet En Post))
-    part-4-0 is-3 =
-        assigns ! (agg ! (and-then ! (lit ! tt) (no-more !))) (from ! (stop !)) (init ! 46 refl (ObjectNumber-p .typed 𝓤 H A W (ObjectNumber-of 0) (LL.owes ObjectNumber-t.the-type ObjectNumber-l.the-laws (ObjectNumber-of 0) ((refl, lit< tt), tt)))) $
-        -- 5: sessions::objects::Object::implicit
-        nothing ! $
-        use1 W (raw (toks 𝓤 A 0 (tt) (tt))) (id⊢ 𝓤 _) $ nothing ! $
-        owned ! (u16-p .row) (Is (u16-p .row)) (u16-p .makes 𝓤 H A W) 0 (u16-p .val 0 ∷ []) ((refl, lit< tt)) $ fjoin ! $
-        owned ! (u8-p .row) (Is (u8-p .row)) (u8-p .makes 𝓤 H A W) 0 (u8-p .val 0 ∷ []) ((refl, lit< tt)) $ fjoin ! $
-        owned ! (ObjectNumber-p .row) (Is (ObjectNumber-p .row)) (ObjectNumber-p .makes 𝓤 H A W) (ObjectNumber-of 0) (ObjectNumber-p .val (ObjectNumber-of 0) ∷ []) (LL.owes ObjectNumber-t.the-type ObjectNumber-l.the-laws (ObjectNumber-of 0) ((refl, lit< tt), tt)) $ fjoin ! $ move ! (1 ∷ 0 ∷ []) $
-        calls-any ! fm 0 [] (objects-Object-implicit.signature .params) (objects-Object-implicit.ended .kept) Object-p (objects-Object-implicit.clauses 𝓤 H A mem run) known-objects-Object-implicit tt tt tt (ObjectNumber-of 0, (0, (0, tt))) (ObjectNumber-p .val (ObjectNumber-of 0) ∷ [], (u8-p .val 0 ∷ [], (u16-p .val 0 ∷ [], tt))) tt (implicitOf (ObjectNumber-of 0) 0 0) (λ ws-5. Unit {0}) (id⊢ 𝓤 _) (λ r ws-5. fact-mono 𝓤 (r ≡ implicitOf (ObjectNumber-of 0) 0 0) ((r ≡ (implicitOf (ObjectNumber-of 0) 0 0)) × (Unit {0})) (λ e. (e, tt))) (λ _. (and-then ! (load ! (from ! (stop !)) (look ! 47 refl)) (and-then ! (lit ! tt) (and-then ! (lit ! tt) (no-more !))))) (λ ws-5 said-5 is-5.
-        drop ! $ drop ! $
-        land ! (from ! (stop !)) (init ! 44 refl (Object-p .typed 𝓤 H A W (implicitOf (ObjectNumber-of 0) 0 0) is-5)) $
-        part-6-0 is-3 is-5)
-
-    begins : Sq W (‵ (MutSlice (named 0) κ₁ (Array u64 5) .own (at-list b₁ o₁ γ₁ sessions) (sliceVal (b₁, o₁) n₁ ∷ [])) ∷ ‵ (flft κ₁ q₁) ∷ ‵ (MutSlice (named 0) κ₂ (Array u16 35) .own (at-list b₂ o₂ γ₂ streams) (sliceVal (b₂, o₂) n₂ ∷ [])) ∷ ‵ (flft κ₂ q₂) ∷ ‵ (MutSlice (named 0) κ₃ Object-t.the-row .own (at-list b₃ o₃ γ₃ objects) (sliceVal (b₃, o₃) n₃ ∷ [])) ∷ ‵ (flft κ₃ q₃) ∷ ‵ (ShrSlice (named 0) κ₄ u8 .own (at-list b₄ o₄ γ₄ d) (sliceVal (b₄, o₄) n₄ ∷ [])) ∷ ‵ (flft κ₄ q₄) ∷ ‵ (ShrSlice (named 0) κ₅ u8 .own (at-list b₅ o₅ γ₅ sample) (sliceVal (b₅, o₅) n₅ ∷ [])) ∷ ‵ (flft κ₅ q₅) ∷ free 𝓤 (sliceTy (tyRef erased mut (pointee (Object-t.the-row .written)))) l₂₈ (free 𝓤 (tyRef erased mut (pointee (Object-t.the-row .written))) l₂₇ (free 𝓤 (sliceTy (tyRef erased imm (pointee (Object-t.the-row .written)))) l₂₆ (free 𝓤 (tyRef erased imm (pointee ((Array Object-t.the-row 32) .written))) l₂₅ (free 𝓤 (sliceTy (tyRef erased mut (pointee (Object-t.the-row .written)))) l₂₄ (free 𝓤 (tyRef erased mut (pointee (Object-t.the-row .written))) l₂₃ (free 𝓤 (sliceTy (tyRef erased mut (pointee ((Array u16 35) .written)))) l₂₂ (free 𝓤 (tyRef erased mut (pointee ((Array u16 35) .written))) l₂₁ (free 𝓤 (sliceTy (tyRef erased mut (pointee ((Array u64 5) .written)))) l₂₀ (free 𝓤 (tyRef erased mut (pointee ((Array u64 5) .written))) l₁₉ (free 𝓤 (sliceTy (tyRef erased mut (pointee (Object-t.the-row .written)))) l₁₈ (free 𝓤 (tyRef erased mut (pointee ((Array Object-t.the-row 32) .written))) l₁₇ (free 𝓤 (sliceTy (tyRef erased imm (pointee (Object-t.the-row .written)))) l₁₆ (free 𝓤 (tyRef erased imm (pointee (Object-t.the-row .written))) l₁₅ (free 𝓤 tyUnit l₁₄ (free 𝓤 (tyInt w64) l₁₃ (free 𝓤 (tyArray Object-l.mir 32) l₁₂ (free 𝓤 Object-l.mir l₁₁ (free 𝓤 ObjectNumber-l.mir l₁₀ (free 𝓤 (tyInt w64) l₉ (free 𝓤 (tyInt w8) l₈ (free 𝓤 Frame-l.mir l₇ (full 𝓤 Start-l.mir l₆ (Start-p .val start) (full 𝓤 (sliceTy (tyRef (named 4) imm (pointee (u8 .written)))) l₅ (sliceVal (b₅, o₅) n₅) (full 𝓤 (sliceTy (tyRef (named 3) imm (pointee (u8 .written)))) l₄ (sliceVal (b₄, o₄) n₄) (full 𝓤 (sliceTy (tyRef (named 2) mut (pointee (Object-t.the-row .written)))) l₃ (sliceVal (b₃, o₃) n₃) (full 𝓤 (sliceTy (tyRef (named 1) mut (pointee ((Array u16 35) .written)))) l₂ (sliceVal (b₂, o₂) n₂) (full 𝓤 (sliceTy (tyRef (named 0) mut (pointee ((Array u64 5) .written)))) l₁ (sliceVal (b₁, o₁) n₁) (free 𝓤 (tyInt w64) l₀ ([])))))))))))))))))))))))))))))) (runs C Λ En mir.t-1 (atRet En Post))
+    begins : Sq W (‵ (MutSlice (named 0) κ₁ (Array u64 6) .own (at-list b₁ o₁ γ₁ sessions) (sliceVal (b₁, o₁) n₁ ∷ [])) ∷ ‵ (flft κ₁ q₁) ∷ ‵ (MutSlice (named 0) κ₂ (Array u16 35) .own (at-list b₂ o₂ γ₂ streams) (sliceVal (b₂, o₂) n₂ ∷ [])) ∷ ‵ (flft κ₂ q₂) ∷ ‵ (MutSlice (named 0) κ₃ Object-t.the-row .own (at-list b₃ o₃ γ₃ objects) (sliceVal (b₃, o₃) n₃ ∷ [])) ∷ ‵ (flft κ₃ q₃) ∷ ‵ (MutSlice (named 0) κ₄ u8 .own (at-list b₄ o₄ γ₄ held) (sliceVal (b₄, o₄) n₄ ∷ [])) ∷ ‵ (flft κ₄ q₄) ∷ ‵ (ShrSlice (named 0) κ₅ u8 .own (at-list b₅ o₅ γ₅ d) (sliceVal (b₅, o₅) n₅ ∷ [])) ∷ ‵ (flft κ₅ q₅) ∷ ‵ (ShrSlice (named 0) κ₆ u8 .own (at-list b₆ o₆ γ₆ sample) (sliceVal (b₆, o₆) n₆ ∷ [])) ∷ ‵ (flft κ₆ q₆) ∷ free 𝓤 (sliceTy (tyRef erased mut (pointee (u8 .written)))) l₂₉ (free 𝓤 (tyRef erased mut (pointee (u8 .written))) l₂₈ (free 𝓤 tyUnit l₂₇ (free 𝓤 (sliceTy (tyRef erased mut (pointee (u8 .written)))) l₂₆ (free 𝓤 (tyRef erased mut (pointee (u8 .written))) l₂₅ (free 𝓤 (sliceTy (tyRef erased mut (pointee (Object-t.the-row .written)))) l₂₄ (free 𝓤 (tyRef erased mut (pointee (Object-t.the-row .written))) l₂₃ (free 𝓤 (sliceTy (tyRef erased mut (pointee ((Array u16 35) .written)))) l₂₂ (free 𝓤 (tyRef erased mut (pointee ((Array u16 35) .written))) l₂₁ (free 𝓤 (sliceTy (tyRef erased mut (pointee ((Array u64 6) .written)))) l₂₀ (free 𝓤 (tyRef erased mut (pointee ((Array u64 6) .written))) l₁₉ (free 𝓤 (sliceTy (tyRef erased imm (pointee (u8 .written)))) l₁₈ (free 𝓤 (tyRef erased imm (pointee (u8 .written))) l₁₇ (free 𝓤 (sliceTy (tyRef erased imm (pointee ((Array u16 35) .written)))) l₁₆ (free 𝓤 (tyRef erased imm (pointee ((Array u16 35) .written))) l₁₅ (free 𝓤 (sliceTy (tyRef erased imm (pointee ((Array u64 6) .written)))) l₁₄ (free 𝓤 (tyRef erased imm (pointee ((Array u64 6) .written))) l₁₃ (free 𝓤 (tyInt w64) l₁₂ (free 𝓤 BufferCopy-l.mir l₁₁ (free 𝓤 Stretch-l.mir l₁₀ (free 𝓤 (tyInt w64) l₉ (free 𝓤 Frame-l.mir l₈ (full 𝓤 Start-l.mir l₇ (Start-p .val start) (full 𝓤 (sliceTy (tyRef (named 5) imm (pointee (u8 .written)))) l₆ (sliceVal (b₆, o₆) n₆) (full 𝓤 (sliceTy (tyRef (named 4) imm (pointee (u8 .written)))) l₅ (sliceVal (b₅, o₅) n₅) (full 𝓤 (sliceTy (tyRef (named 3) mut (pointee (u8 .written)))) l₄ (sliceVal (b₄, o₄) n₄) (full 𝓤 (sliceTy (tyRef (named 2) mut (pointee (Object-t.the-row .written)))) l₃ (sliceVal (b₃, o₃) n₃) (full 𝓤 (sliceTy (tyRef (named 1) mut (pointee ((Array u16 35) .written)))) l₂ (sliceVal (b₂, o₂) n₂) (full 𝓤 (sliceTy (tyRef (named 0) mut (pointee ((Array u64 6) .written)))) l₁ (sliceVal (b₁, o₁) n₁) (free 𝓤 (tyInt w64) l₀ ([]))))))))))))))))))))))))))))))) (runs C Λ En mir.t-1 (atRet En Post))
     begins =
-        assigns ! (of-opd ! (load ! (from ! (fld ! refl (stop !))) (look-in ! 54 (sub ! 0 refl (whole !))))) (from ! (stop !)) (init ! 52 refl (Frame-p .typed 𝓤 H A W (start .frame) (LL.owed Start-t.the-type Start-l.the-laws start _ start-is .0))) $
-        assigns ! (of-opd ! (load ! (from ! (fld ! refl (stop !))) (look-in ! 52 (sub ! 2 refl (whole !))))) (from ! (stop !)) (init ! 50 refl (u8-p .typed 𝓤 H A W ((start .frame) .«session_id») (LL.owed Frame-t.the-type Frame-l.the-laws (start .frame) _ (LL.owed Start-t.the-type Start-l.the-laws start _ start-is .0) .1 .1 .0))) $
-        -- 3: agent::dry::first_object
-        nothing ! $
-        use1 W (raw (toks 𝓤 A 0 (tt) (tt))) (id⊢ 𝓤 _) $ nothing ! $
-        owned ! (u8-p .row) (Is (u8-p .row)) (u8-p .makes 𝓤 H A W) ((start .frame) .«session_id») (u8-p .val ((start .frame) .«session_id») ∷ []) (LL.owed Frame-t.the-type Frame-l.the-laws (start .frame) _ (LL.owed Start-t.the-type Start-l.the-laws start _ start-is .0) .1 .1 .0) $ fjoin ! $ move ! (1 ∷ 0 ∷ []) $
-        calls-any ! fm 0 [] (dry-first-object.signature .params) (dry-first-object.ended .kept) u64-p (dry-first-object.clauses 𝓤 H A mem run) known-dry-first-object tt tt tt ((start .frame) .«session_id», tt) (u8-p .val ((start .frame) .«session_id») ∷ [], tt) tt (32 * ((start .frame) .«session_id»)) (λ ws-3. Unit {0}) (id⊢ 𝓤 _) (λ r ws-3. fact-mono 𝓤 (r ≡ 32 * ((start .frame) .«session_id»)) ((r ≡ (32 * ((start .frame) .«session_id»))) × (Unit {0})) (λ e. (e, tt))) (λ _. (and-then ! (load ! (from ! (stop !)) (look ! 51 refl)) (no-more !))) (λ ws-3 said-3 is-3.
-        drop ! $ drop ! $
-        land ! (from ! (stop !)) (init ! 48 refl (u64-p .typed 𝓤 H A W (32 * ((start .frame) .«session_id»)) is-3)) $
-        part-4-0 is-3)
+        assigns ! (of-opd ! (load ! (from ! (fld ! refl (stop !))) (look-in ! 56 (sub ! 0 refl (whole !))))) (from ! (stop !)) (init ! 54 refl (Frame-p .typed 𝓤 H A W (start .frame) (LL.owed Start-t.the-type Start-l.the-laws start _ start-is .0))) $
+        assigns ! (of-opd ! (load ! (from ! (fld ! refl (stop !))) (look-in ! 62 (sub ! 1 refl (whole !))))) (from ! (stop !)) (init ! 52 refl (u64-p .typed 𝓤 H A W n₄ ((refl, room₄ .0)))) $
+        assigns ! (addr ! (from ! (fld ! refl (hop ! (look-in ! 68 (sub ! 0 refl (whole !))) (stop !))))) (from ! (stop !)) (init ! 44 refl (tt, tt)) $
+        assigns ! (agg ! (and-then ! (load ! (from ! (stop !)) (look ! 44 refl)) (and-then ! (load ! (from ! (fld ! refl (stop !))) (look-in ! 68 (sub ! 1 refl (whole !)))) (no-more !)))) (from ! (stop !)) (init ! 42 refl (tt, (tt, (record { fits = room₁ .0 }, tt)))) $
+        assigns ! (addr ! (from ! (fld ! refl (hop ! (look-in ! 66 (sub ! 0 refl (whole !))) (stop !))))) (from ! (stop !)) (init ! 40 refl (tt, tt)) $
+        assigns ! (agg ! (and-then ! (load ! (from ! (stop !)) (look ! 40 refl)) (and-then ! (load ! (from ! (fld ! refl (stop !))) (look-in ! 66 (sub ! 1 refl (whole !)))) (no-more !)))) (from ! (stop !)) (init ! 38 refl (tt, (tt, (record { fits = room₂ .0 }, tt)))) $
+        -- 7: sessions::sending::buffer_stretch
+        lends-view ! tt (Array u64 6) b₁ o₁ sessions n₁ (refl) (λ ν-7-sessions δ-7-sessions.
+        move ! (3 ∷ 4 ∷ []) $
+        lends-view ! tt (Array u16 35) b₂ o₂ streams n₂ (refl) (λ ν-7-streams δ-7-streams.
+        nothing ! $ move ! (1 ∷ 0 ∷ []) $ join ! $ move ! (3 ∷ 0 ∷ []) $ join ! $
+        use1 W (raw (toks 𝓤 A 2 (((ν-7-sessions ∷ []), ((ν-7-streams ∷ []), tt))) ((fullShare, (fullShare, tt))))) (id⊢ 𝓤 _) $ nothing ! $
+        owned ! (u8-p .row) (Is (u8-p .row)) (u8-p .makes 𝓤 H A W) ((start .frame) .«stream_id») (u8-p .val ((start .frame) .«stream_id») ∷ []) (LL.owed Frame-t.the-type Frame-l.the-laws (start .frame) _ (LL.owed Start-t.the-type Start-l.the-laws start _ start-is .0) .1 .1 .1 .0) $ fjoin ! $
+        owned ! (u8-p .row) (Is (u8-p .row)) (u8-p .makes 𝓤 H A W) ((start .frame) .«session_id») (u8-p .val ((start .frame) .«session_id») ∷ []) (LL.owed Frame-t.the-type Frame-l.the-laws (start .frame) _ (LL.owed Start-t.the-type Start-l.the-laws start _ start-is .0) .1 .1 .0) $ fjoin ! $
+        owned ! (u64-p .row) (Is (u64-p .row)) (u64-p .makes 𝓤 H A W) n₄ (u64-p .val n₄ ∷ []) ((refl, room₄ .0)) $ fjoin ! $ move ! (2 ∷ 0 ∷ []) $ fjoin ! $ move ! (3 ∷ 0 ∷ []) $ fjoin ! $ move ! (1 ∷ 0 ∷ []) $
+        calls-any ! fm 2 [] (sending-buffer-stretch.signature .params) (sending-buffer-stretch.ended .kept) Stretch-p (sending-buffer-stretch.clauses 𝓤 H A mem run) known-sending-buffer-stretch ((ν-7-sessions ∷ []), ((ν-7-streams ∷ []), tt)) (fullShare, (fullShare, tt)) tt (at-list b₁ o₁ δ-7-sessions sessions, (at-list b₂ o₂ δ-7-streams streams, (n₄, ((start .frame) .«session_id», ((start .frame) .«stream_id», tt))))) (sliceVal (b₁, o₁) n₁ ∷ [], (sliceVal (b₂, o₂) n₂ ∷ [], (u64-p .val n₄ ∷ [], (u8-p .val ((start .frame) .«session_id») ∷ [], (u8-p .val ((start .frame) .«stream_id») ∷ [], tt))))) tt (bufferStretch (sessions) (streams) n₄ ((start .frame) .«session_id») ((start .frame) .«stream_id»)) (λ ws-7. ((bufferStretch (sessions) (streams) n₄ ((start .frame) .«session_id») ((start .frame) .«stream_id»)) .start ≤ (bufferStretch (sessions) (streams) n₄ ((start .frame) .«session_id») ((start .frame) .«stream_id»)) .end) × ((bufferStretch (sessions) (streams) n₄ ((start .frame) .«session_id») ((start .frame) .«stream_id»)) .end ≤ n₄) × ((bufferStretch (sessions) (streams) n₄ ((start .frame) .«session_id») ((start .frame) .«stream_id»)) .end - (bufferStretch (sessions) (streams) n₄ ((start .frame) .«session_id») ((start .frame) .«stream_id»)) .start ≤ 16384)) (id⊢ 𝓤 _) (λ r ws-7. fact-mono 𝓤 ((r ≡ bufferStretch (sessions) (streams) n₄ ((start .frame) .«session_id») ((start .frame) .«stream_id»)) × (r .start ≤ r .end) × (r .end ≤ n₄) × (r .end - r .start ≤ 16384)) ((r ≡ (bufferStretch (sessions) (streams) n₄ ((start .frame) .«session_id») ((start .frame) .«stream_id»))) × (((bufferStretch (sessions) (streams) n₄ ((start .frame) .«session_id») ((start .frame) .«stream_id»)) .start ≤ (bufferStretch (sessions) (streams) n₄ ((start .frame) .«session_id») ((start .frame) .«stream_id»)) .end) × ((bufferStretch (sessions) (streams) n₄ ((start .frame) .«session_id») ((start .frame) .«stream_id»)) .end ≤ n₄) × ((bufferStretch (sessions) (streams) n₄ ((start .frame) .«session_id») ((start .frame) .«stream_id»)) .end - (bufferStretch (sessions) (streams) n₄ ((start .frame) .«session_id») ((start .frame) .«stream_id»)) .start ≤ 16384))) (λ e. (e .0, (subst (λ (r : Stretch-p .row .Denot). r .start ≤ r .end) (e .0) (e .1), subst (λ (r : Stretch-p .row .Denot). r .end ≤ n₄) (e .0) (e .2), subst (λ (r : Stretch-p .row .Denot). r .end - r .start ≤ 16384) (e .0) (e .3))))) (λ _. (and-then ! (load ! (from ! (stop !)) (look ! 41 refl)) (and-then ! (load ! (from ! (stop !)) (look ! 37 refl)) (and-then ! (load ! (from ! (stop !)) (look ! 51 refl)) (and-then ! (load ! (from ! (fld ! refl (stop !))) (look-in ! 53 (sub ! 2 refl (whole !)))) (and-then ! (load ! (from ! (fld ! refl (stop !))) (look-in ! 53 (sub ! 3 refl (whole !)))) (no-more !))))))) (λ ws-7 said-7 is-7.
+        use1 W ((‵ (flft (ν-7-sessions ∷ []) fullShare) ⊛ (‵ (flft (ν-7-streams ∷ []) fullShare) ⊛ ‵ ftrue))) (id⊢ 𝓤 _) $ split ! $ move ! (1 ∷ []) $ split ! $ move ! (3 ∷ []) $ fsplit ! $ move ! (1 ∷ []) $ fsplit ! $ move ! (5 ∷ 7 ∷ []) $
+        backs-view ! tt (Array u64 6) b₁ o₁ sessions n₁ (refl) ν-7-sessions $ move ! (5 ∷ 7 ∷ []) $
+        backs-view ! tt (Array u16 35) b₂ o₂ streams n₂ (refl) ν-7-streams $
+        knows ! (((bufferStretch (sessions) (streams) n₄ ((start .frame) .«session_id») ((start .frame) .«stream_id»)) .start ≤ (bufferStretch (sessions) (streams) n₄ ((start .frame) .«session_id») ((start .frame) .«stream_id»)) .end) × ((bufferStretch (sessions) (streams) n₄ ((start .frame) .«session_id») ((start .frame) .«stream_id»)) .end ≤ n₄) × ((bufferStretch (sessions) (streams) n₄ ((start .frame) .«session_id») ((start .frame) .«stream_id»)) .end - (bufferStretch (sessions) (streams) n₄ ((start .frame) .«session_id») ((start .frame) .«stream_id»)) .start ≤ 16384)) ((said-7 .0, said-7 .1, said-7 .2)) (λ fact-7.
+        move ! (4 ∷ []) $ drop ! $ move ! (4 ∷ []) $ drop ! $ move ! (4 ∷ []) $ drop ! $ move ! (4 ∷ []) $ drop ! $
+        land ! (from ! (stop !)) (init ! 50 refl (Stretch-p .typed 𝓤 H A W (bufferStretch (sessions) (streams) n₄ ((start .frame) .«session_id») ((start .frame) .«stream_id»)) is-7)) $ move ! (2 ∷ 3 ∷ 0 ∷ 1 ∷ 4 ∷ 5 ∷ 6 ∷ 7 ∷ 8 ∷ 9 ∷ 10 ∷ 11 ∷ 12 ∷ 13 ∷ 14 ∷ 15 ∷ 16 ∷ 17 ∷ 18 ∷ 19 ∷ 20 ∷ 21 ∷ 22 ∷ 23 ∷ 24 ∷ 25 ∷ 26 ∷ 27 ∷ 28 ∷ 29 ∷ 30 ∷ 31 ∷ 32 ∷ 33 ∷ 34 ∷ 35 ∷ 36 ∷ 37 ∷ 38 ∷ 39 ∷ 40 ∷ 41 ∷ 42 ∷ 43 ∷ 44 ∷ 45 ∷ 46 ∷ 47 ∷ 48 ∷ 49 ∷ 50 ∷ 51 ∷ 52 ∷ 53 ∷ 54 ∷ 55 ∷ 56 ∷ 57 ∷ 58 ∷ 59 ∷ 60 ∷ 61 ∷ 62 ∷ 63 ∷ 64 ∷ 65 ∷ 66 ∷ 67 ∷ 68 ∷ 69 ∷ 70 ∷ 71 ∷ []) $
+        part-8-0 fact-7 is-7))))
 
-  module _ (𝓣 : Tables 𝓤 H) (known-dry-first-object : Triple 𝓤 (𝓣 .C #dry-first-object) (Of-dry-first-object 𝓤 H A mem run)) (known-objects-Object-implicit : Triple 𝓤 (𝓣 .C #objects-Object-implicit) (Of-objects-Object-implicit 𝓤 H A mem run)) (known-dry-copy-objects : Triple 𝓤 (𝓣 .C #dry-copy-objects) (Of-dry-copy-objects 𝓤 H A mem run)) (known-dry-dry-streams : Triple 𝓤 (𝓣 .C #dry-dry-streams) (Of-dry-dry-streams 𝓤 H A mem run)) (known-dry-restore-objects : Triple 𝓤 (𝓣 .C #dry-restore-objects) (Of-dry-restore-objects 𝓤 H A mem run)) where
-    walk : ent 𝓤 (onEntry 𝓤 H A f.signature (κ₁, (κ₂, (κ₃, (κ₄, (κ₅, tt))))) (q₁, (q₂, (q₃, (q₄, (q₅, tt))))) x at) (WpFn 𝓤 H (𝓣 .C) (𝓣 .Λ) code.function (sliceVal (b₁, o₁) n₁ ∷ sliceVal (b₂, o₂) n₂ ∷ sliceVal (b₃, o₃) n₃ ∷ sliceVal (b₄, o₄) n₄ ∷ sliceVal (b₅, o₅) n₅ ∷ Start-p .val start ∷ []) Post)
+  module _ (𝓣 : Tables 𝓤 H) (known-sending-buffer-stretch : Triple 𝓤 (𝓣 .C #sending-buffer-stretch) (Of-sending-buffer-stretch 𝓤 H A mem run)) (known-dry-copy-buffer : Triple 𝓤 (𝓣 .C #dry-copy-buffer) (Of-dry-copy-buffer 𝓤 H A mem run)) (known-dry-dry-objects : Triple 𝓤 (𝓣 .C #dry-dry-objects) (Of-dry-dry-objects 𝓤 H A mem run)) (known-dry-restore-buffer : Triple 𝓤 (𝓣 .C #dry-restore-buffer) (Of-dry-restore-buffer 𝓤 H A mem run)) where
+    walk : ent 𝓤 (onEntry 𝓤 H A f.signature (κ₁, (κ₂, (κ₃, (κ₄, (κ₅, (κ₆, tt)))))) (q₁, (q₂, (q₃, (q₄, (q₅, (q₆, tt)))))) x at) (WpFn 𝓤 H (𝓣 .C) (𝓣 .Λ) code.function (sliceVal (b₁, o₁) n₁ ∷ sliceVal (b₂, o₂) n₂ ∷ sliceVal (b₃, o₃) n₃ ∷ sliceVal (b₄, o₄) n₄ ∷ sliceVal (b₅, o₅) n₅ ∷ sliceVal (b₆, o₆) n₆ ∷ Start-p .val start ∷ []) Post)
     walk =
-        qed W ((‵ (flft κ₁ q₁) ⊛ (‵ (flft κ₂ q₂) ⊛ (‵ (flft κ₃ q₃) ⊛ (‵ (flft κ₄ q₄) ⊛ (‵ (flft κ₅ q₅) ⊛ ‵ ftrue))))) ∷ ‵ (owns (MutSlice (named 0) κ₁ (Array u64 5) ∷ MutSlice (named 1) κ₂ (Array u16 35) ∷ MutSlice (named 2) κ₃ Object-t.the-row ∷ ShrSlice (named 3) κ₄ u8 ∷ ShrSlice (named 4) κ₅ u8 ∷ Start-p .row ∷ []) x at) ∷ []) ∵ enter ! (𝓣 .C) (𝓣 .Λ) code.function (sliceVal (b₁, o₁) n₁ ∷ sliceVal (b₂, o₂) n₂ ∷ sliceVal (b₃, o₃) n₃ ∷ sliceVal (b₄, o₄) n₄ ∷ sliceVal (b₅, o₅) n₅ ∷ Start-p .val start ∷ []) _ $
-        alloc1 ! (λ l₀. alloc1 ! (λ l₁. alloc1 ! (λ l₂. alloc1 ! (λ l₃. alloc1 ! (λ l₄. alloc1 ! (λ l₅. alloc1 ! (λ l₆. alloc1 ! (λ l₇. alloc1 ! (λ l₈. alloc1 ! (λ l₉. alloc1 ! (λ l₁₀. alloc1 ! (λ l₁₁. alloc1 ! (λ l₁₂. alloc1 ! (λ l₁₃. alloc1 ! (λ l₁₄. alloc1 ! (λ l₁₅. alloc1 ! (λ l₁₆. alloc1 ! (λ l₁₇. alloc1 ! (λ l₁₈. alloc1 ! (λ l₁₉. alloc1 ! (λ l₂₀. alloc1 ! (λ l₂₁. alloc1 ! (λ l₂₂. alloc1 ! (λ l₂₃. alloc1 ! (λ l₂₄. alloc1 ! (λ l₂₅. alloc1 ! (λ l₂₆. alloc1 ! (λ l₂₇. alloc1 ! (λ l₂₈. alloc0 ! $ params1 ! $ pass1 ! (init ! 54 refl (tt, (tt, (record { fits = room₁ .0 }, tt)))) $ pass1 ! (init ! 52 refl (tt, (tt, (record { fits = room₂ .0 }, tt)))) $ pass1 ! (init ! 50 refl (tt, (tt, (record { fits = room₃ .0 }, tt)))) $ pass1 ! (init ! 48 refl (tt, (tt, (record { fits = room₄ .0 }, tt)))) $ pass1 ! (init ! 46 refl (tt, (tt, (record { fits = room₅ .0 }, tt)))) $ pass1 ! (init ! 44 refl (Start-p .typed 𝓤 H A W start start-is)) $ pass0 ! $ move ! (59 ∷ []) $ fsplit ! $ move ! (1 ∷ []) $ fsplit ! $ move ! (1 ∷ []) $ fsplit ! $ move ! (1 ∷ []) $ fsplit ! $ move ! (1 ∷ []) $ fsplit ! $ move ! (64 ∷ []) $ split ! $ move ! (1 ∷ []) $ split ! $ move ! (1 ∷ []) $ split ! $ move ! (1 ∷ []) $ split ! $ move ! (1 ∷ []) $ split ! $ move ! (1 ∷ []) $ drop ! $ move ! (6 ∷ []) $ drop ! $ move ! (9 ∷ 4 ∷ 8 ∷ 3 ∷ 7 ∷ 2 ∷ 6 ∷ 1 ∷ 5 ∷ 0 ∷ 10 ∷ 11 ∷ 12 ∷ 13 ∷ 14 ∷ 15 ∷ 16 ∷ 17 ∷ 18 ∷ 19 ∷ 20 ∷ 21 ∷ 22 ∷ 23 ∷ 24 ∷ 25 ∷ 26 ∷ 27 ∷ 28 ∷ 29 ∷ 30 ∷ 31 ∷ 32 ∷ 33 ∷ 34 ∷ 35 ∷ 36 ∷ 37 ∷ 38 ∷ 39 ∷ 40 ∷ 41 ∷ 42 ∷ 43 ∷ 44 ∷ 45 ∷ 46 ∷ 47 ∷ 48 ∷ 49 ∷ 50 ∷ 51 ∷ 52 ∷ 53 ∷ 54 ∷ 55 ∷ 56 ∷ 57 ∷ 58 ∷ 59 ∷ 60 ∷ 61 ∷ 62 ∷ 63 ∷ 64 ∷ 65 ∷ 66 ∷ 67 ∷ []) $
-        begins 𝓣 known-dry-first-object known-objects-Object-implicit known-dry-copy-objects known-dry-dry-streams known-dry-restore-objects l₀ l₁ l₂ l₃ l₄ l₅ l₆ l₇ l₈ l₉ l₁₀ l₁₁ l₁₂ l₁₃ l₁₄ l₁₅ l₁₆ l₁₇ l₁₈ l₁₉ l₂₀ l₂₁ l₂₂ l₂₃ l₂₄ l₂₅ l₂₆ l₂₇ l₂₈)))))))))))))))))))))))))))))
+        qed W ((‵ (flft κ₁ q₁) ⊛ (‵ (flft κ₂ q₂) ⊛ (‵ (flft κ₃ q₃) ⊛ (‵ (flft κ₄ q₄) ⊛ (‵ (flft κ₅ q₅) ⊛ (‵ (flft κ₆ q₆) ⊛ ‵ ftrue)))))) ∷ ‵ (owns (MutSlice (named 0) κ₁ (Array u64 6) ∷ MutSlice (named 1) κ₂ (Array u16 35) ∷ MutSlice (named 2) κ₃ Object-t.the-row ∷ MutSlice (named 3) κ₄ u8 ∷ ShrSlice (named 4) κ₅ u8 ∷ ShrSlice (named 5) κ₆ u8 ∷ Start-p .row ∷ []) x at) ∷ []) ∵ enter ! (𝓣 .C) (𝓣 .Λ) code.function (sliceVal (b₁, o₁) n₁ ∷ sliceVal (b₂, o₂) n₂ ∷ sliceVal (b₃, o₃) n₃ ∷ sliceVal (b₄, o₄) n₄ ∷ sliceVal (b₅, o₅) n₅ ∷ sliceVal (b₆, o₆) n₆ ∷ Start-p .val start ∷ []) _ $
+        alloc1 ! (λ l₀. alloc1 ! (λ l₁. alloc1 ! (λ l₂. alloc1 ! (λ l₃. alloc1 ! (λ l₄. alloc1 ! (λ l₅. alloc1 ! (λ l₆. alloc1 ! (λ l₇. alloc1 ! (λ l₈. alloc1 ! (λ l₉. alloc1 ! (λ l₁₀. alloc1 ! (λ l₁₁. alloc1 ! (λ l₁₂. alloc1 ! (λ l₁₃. alloc1 ! (λ l₁₄. alloc1 ! (λ l₁₅. alloc1 ! (λ l₁₆. alloc1 ! (λ l₁₇. alloc1 ! (λ l₁₈. alloc1 ! (λ l₁₉. alloc1 ! (λ l₂₀. alloc1 ! (λ l₂₁. alloc1 ! (λ l₂₂. alloc1 ! (λ l₂₃. alloc1 ! (λ l₂₄. alloc1 ! (λ l₂₅. alloc1 ! (λ l₂₆. alloc1 ! (λ l₂₇. alloc1 ! (λ l₂₈. alloc1 ! (λ l₂₉. alloc0 ! $ params1 ! $ pass1 ! (init ! 56 refl (tt, (tt, (record { fits = room₁ .0 }, tt)))) $ pass1 ! (init ! 54 refl (tt, (tt, (record { fits = room₂ .0 }, tt)))) $ pass1 ! (init ! 52 refl (tt, (tt, (record { fits = room₃ .0 }, tt)))) $ pass1 ! (init ! 50 refl (tt, (tt, (record { fits = room₄ .0 }, tt)))) $ pass1 ! (init ! 48 refl (tt, (tt, (record { fits = room₅ .0 }, tt)))) $ pass1 ! (init ! 46 refl (tt, (tt, (record { fits = room₆ .0 }, tt)))) $ pass1 ! (init ! 44 refl (Start-p .typed 𝓤 H A W start start-is)) $ pass0 ! $ move ! (61 ∷ []) $ fsplit ! $ move ! (1 ∷ []) $ fsplit ! $ move ! (1 ∷ []) $ fsplit ! $ move ! (1 ∷ []) $ fsplit ! $ move ! (1 ∷ []) $ fsplit ! $ move ! (1 ∷ []) $ fsplit ! $ move ! (67 ∷ []) $ split ! $ move ! (1 ∷ []) $ split ! $ move ! (1 ∷ []) $ split ! $ move ! (1 ∷ []) $ split ! $ move ! (1 ∷ []) $ split ! $ move ! (1 ∷ []) $ split ! $ move ! (1 ∷ []) $ drop ! $ move ! (7 ∷ []) $ drop ! $ move ! (11 ∷ 5 ∷ 10 ∷ 4 ∷ 9 ∷ 3 ∷ 8 ∷ 2 ∷ 7 ∷ 1 ∷ 6 ∷ 0 ∷ 12 ∷ 13 ∷ 14 ∷ 15 ∷ 16 ∷ 17 ∷ 18 ∷ 19 ∷ 20 ∷ 21 ∷ 22 ∷ 23 ∷ 24 ∷ 25 ∷ 26 ∷ 27 ∷ 28 ∷ 29 ∷ 30 ∷ 31 ∷ 32 ∷ 33 ∷ 34 ∷ 35 ∷ 36 ∷ 37 ∷ 38 ∷ 39 ∷ 40 ∷ 41 ∷ 42 ∷ 43 ∷ 44 ∷ 45 ∷ 46 ∷ 47 ∷ 48 ∷ 49 ∷ 50 ∷ 51 ∷ 52 ∷ 53 ∷ 54 ∷ 55 ∷ 56 ∷ 57 ∷ 58 ∷ 59 ∷ 60 ∷ 61 ∷ 62 ∷ 63 ∷ 64 ∷ 65 ∷ 66 ∷ 67 ∷ 68 ∷ 69 ∷ 70 ∷ 71 ∷ []) $
+        begins 𝓣 known-sending-buffer-stretch known-dry-copy-buffer known-dry-dry-objects known-dry-restore-buffer l₀ l₁ l₂ l₃ l₄ l₅ l₆ l₇ l₈ l₉ l₁₀ l₁₁ l₁₂ l₁₃ l₁₄ l₁₅ l₁₆ l₁₇ l₁₈ l₁₉ l₂₀ l₂₁ l₂₂ l₂₃ l₂₄ l₂₅ l₂₆ l₂₇ l₂₈ l₂₉))))))))))))))))))))))))))))))
 
-module _ {M : Type 1} (𝓤 : URA M) (H : Heap 𝓤) (A : Atoms 𝓤) (W : Given 𝓤 H A) (mem : Memory → SProp 𝓤) (run : Routine → Fun 𝓤) (𝓣 : Tables 𝓤 H) (known-dry-first-object : Triple 𝓤 (𝓣 .C #dry-first-object) (Of-dry-first-object 𝓤 H A mem run)) (known-objects-Object-implicit : Triple 𝓤 (𝓣 .C #objects-Object-implicit) (Of-objects-Object-implicit 𝓤 H A mem run)) (known-dry-copy-objects : Triple 𝓤 (𝓣 .C #dry-copy-objects) (Of-dry-copy-objects 𝓤 H A mem run)) (known-dry-dry-streams : Triple 𝓤 (𝓣 .C #dry-dry-streams) (Of-dry-dry-streams 𝓤 H A mem run)) (known-dry-restore-objects : Triple 𝓤 (𝓣 .C #dry-restore-objects) (Of-dry-restore-objects 𝓤 H A mem run)) where
+module _ {M : Type 1} (𝓤 : URA M) (H : Heap 𝓤) (A : Atoms 𝓤) (W : Given 𝓤 H A) (mem : Memory → SProp 𝓤) (run : Routine → Fun 𝓤) (𝓣 : Tables 𝓤 H) (known-sending-buffer-stretch : Triple 𝓤 (𝓣 .C #sending-buffer-stretch) (Of-sending-buffer-stretch 𝓤 H A mem run)) (known-dry-copy-buffer : Triple 𝓤 (𝓣 .C #dry-copy-buffer) (Of-dry-copy-buffer 𝓤 H A mem run)) (known-dry-dry-objects : Triple 𝓤 (𝓣 .C #dry-dry-objects) (Of-dry-dry-objects 𝓤 H A mem run)) (known-dry-restore-buffer : Triple 𝓤 (𝓣 .C #dry-restore-buffer) (Of-dry-restore-buffer 𝓤 H A mem run)) where
   walks : Walks 𝓤 H A f.ended stayed (WpFn 𝓤 H (𝓣 .C) (𝓣 .Λ) code.function) (f.clauses 𝓤 H A mem run)
-  walks = walked 𝓤 H A f.ended stayed (f.clauses 𝓤 H A mem run) (WpFn 𝓤 H (𝓣 .C) (𝓣 .Λ) code.function) (λ κs. (slice-vals, (slice-vals, (slice-vals, (slice-vals, (slice-vals, ((λ y. Start-p .val y ∷ []), tt))))))) (λ κs. (mut-slice-tells (named 0) (κs .0) (Array u64 5), (mut-slice-tells (named 1) (κs .1 .0) (Array u16 35), (mut-slice-tells (named 2) (κs .1 .1 .0) Object-t.the-row, (shr-slice-tells (named 3) (κs .1 .1 .1 .0) u8, (shr-slice-tells (named 4) (κs .1 .1 .1 .1 .0) u8, (Start-p .tells, tt)))))))
-      (λ κs qs bounds a g are. needs 𝓤 _ _ (λ within. walk 𝓤 H A W mem run (κs .0) (qs .0) (a .0 .ptr .0) (a .0 .ptr .1) (a .0 .name) (a .0 .now) (κs .1 .0) (qs .1 .0) (a .1 .0 .ptr .0) (a .1 .0 .ptr .1) (a .1 .0 .name) (a .1 .0 .now) (κs .1 .1 .0) (qs .1 .1 .0) (a .1 .1 .0 .ptr .0) (a .1 .1 .0 .ptr .1) (a .1 .1 .0 .name) (a .1 .1 .0 .now) (κs .1 .1 .1 .0) (qs .1 .1 .1 .0) (a .1 .1 .1 .0 .ptr .0) (a .1 .1 .1 .0 .ptr .1) (a .1 .1 .1 .0 .name) (a .1 .1 .1 .0 .now) (κs .1 .1 .1 .1 .0) (qs .1 .1 .1 .1 .0) (a .1 .1 .1 .1 .0 .ptr .0) (a .1 .1 .1 .1 .0 .ptr .1) (a .1 .1 .1 .1 .0 .name) (a .1 .1 .1 .1 .0 .now) (a .1 .1 .1 .1 .1 .0) (are .0 .0 .1) (are .1 .0 .0 .1) (are .1 .1 .0 .0 .1) (are .1 .1 .1 .0 .0 .1) (are .1 .1 .1 .1 .0 .0 .1) (are .1 .1 .1 .1 .1 .0) within 𝓣 known-dry-first-object known-objects-Object-implicit known-dry-copy-objects known-dry-dry-streams known-dry-restore-objects))
+  walks = walked 𝓤 H A f.ended stayed (f.clauses 𝓤 H A mem run) (WpFn 𝓤 H (𝓣 .C) (𝓣 .Λ) code.function) (λ κs. (slice-vals, (slice-vals, (slice-vals, (slice-vals, (slice-vals, (slice-vals, ((λ y. Start-p .val y ∷ []), tt)))))))) (λ κs. (mut-slice-tells (named 0) (κs .0) (Array u64 6), (mut-slice-tells (named 1) (κs .1 .0) (Array u16 35), (mut-slice-tells (named 2) (κs .1 .1 .0) Object-t.the-row, (mut-slice-tells (named 3) (κs .1 .1 .1 .0) u8, (shr-slice-tells (named 4) (κs .1 .1 .1 .1 .0) u8, (shr-slice-tells (named 5) (κs .1 .1 .1 .1 .1 .0) u8, (Start-p .tells, tt))))))))
+      (λ κs qs bounds a g are. needs 𝓤 _ _ (λ within. walk 𝓤 H A W mem run (κs .0) (qs .0) (a .0 .ptr .0) (a .0 .ptr .1) (a .0 .name) (a .0 .now) (κs .1 .0) (qs .1 .0) (a .1 .0 .ptr .0) (a .1 .0 .ptr .1) (a .1 .0 .name) (a .1 .0 .now) (κs .1 .1 .0) (qs .1 .1 .0) (a .1 .1 .0 .ptr .0) (a .1 .1 .0 .ptr .1) (a .1 .1 .0 .name) (a .1 .1 .0 .now) (κs .1 .1 .1 .0) (qs .1 .1 .1 .0) (a .1 .1 .1 .0 .ptr .0) (a .1 .1 .1 .0 .ptr .1) (a .1 .1 .1 .0 .name) (a .1 .1 .1 .0 .now) (κs .1 .1 .1 .1 .0) (qs .1 .1 .1 .1 .0) (a .1 .1 .1 .1 .0 .ptr .0) (a .1 .1 .1 .1 .0 .ptr .1) (a .1 .1 .1 .1 .0 .name) (a .1 .1 .1 .1 .0 .now) (κs .1 .1 .1 .1 .1 .0) (qs .1 .1 .1 .1 .1 .0) (a .1 .1 .1 .1 .1 .0 .ptr .0) (a .1 .1 .1 .1 .1 .0 .ptr .1) (a .1 .1 .1 .1 .1 .0 .name) (a .1 .1 .1 .1 .1 .0 .now) (a .1 .1 .1 .1 .1 .1 .0) (are .0 .0 .1) (are .1 .0 .0 .1) (are .1 .1 .0 .0 .1) (are .1 .1 .1 .0 .0 .1) (are .1 .1 .1 .1 .0 .0 .1) (are .1 .1 .1 .1 .1 .0 .0 .1) (are .1 .1 .1 .1 .1 .1 .0) within 𝓣 known-sending-buffer-stretch known-dry-copy-buffer known-dry-dry-objects known-dry-restore-buffer))
 
   meets : Meets 𝓤 H A f.signature (WpFn 𝓤 H (𝓣 .C) (𝓣 .Λ) code.function) (f.spec 𝓤 H A mem run)
-  meets = walk-meets 𝓤 H A f.ended stayed W (goes-slice 𝓤 H A W 5 0 tt (plain (λ _. (Array u64 5))), (goes-slice 𝓤 H A W 5 1 tt (plain (λ _. (Array u16 35))), (goes-slice 𝓤 H A W 5 2 tt (plain (λ _. Object-t.the-row)), (goes-none-slice 𝓤 H A W 5 (3 ∷ []) tt (plain (λ _. u8)) yes, (goes-none-slice 𝓤 H A W 5 (4 ∷ []) tt (plain (λ _. u8)) yes, (goes-none 𝓤 H A W 5 (λ _. Start-p .row) yes (λ κs x f. refl), tt)))))) (f.clauses 𝓤 H A mem run) (WpFn 𝓤 H (𝓣 .C) (𝓣 .Λ) code.function) (WpFn-mono 𝓤 H (W .laws) 𝓣 code.function) walks
+  meets = walk-meets 𝓤 H A f.ended stayed W (goes-slice 𝓤 H A W 6 0 tt (plain (λ _. (Array u64 6))), (goes-slice 𝓤 H A W 6 1 tt (plain (λ _. (Array u16 35))), (goes-slice 𝓤 H A W 6 2 tt (plain (λ _. Object-t.the-row)), (goes-slice 𝓤 H A W 6 3 tt (plain (λ _. u8)), (goes-none-slice 𝓤 H A W 6 (4 ∷ []) tt (plain (λ _. u8)) yes, (goes-none-slice 𝓤 H A W 6 (5 ∷ []) tt (plain (λ _. u8)) yes, (goes-none 𝓤 H A W 6 (λ _. Start-p .row) yes (λ κs x f. refl), tt))))))) (f.clauses 𝓤 H A mem run) (WpFn 𝓤 H (𝓣 .C) (𝓣 .Λ) code.function) (WpFn-mono 𝓤 H (W .laws) 𝓣 code.function) walks
 
 pub dry-spec : {M : Type 1} → stated.statement M
 unfolding code.routine tablesOf
@@ -381,8 +371,7 @@ dry-spec 𝓤 H 𝓜 𝓖 𝓡 =
     entered 𝓤 H (tripleOf 𝓤 H (𝓖 .A) f.signature (f.spec 𝓤 H (𝓖 .A) (𝓜 .mem) (𝓡 .run)))
     (tables 𝓤 H 𝓜 𝓡 code.env .C) (tables 𝓤 H 𝓜 𝓡 code.env .Λ) #f code.function (code.unfolded 𝓤 H 𝓜 𝓡)
     (meets 𝓤 H (𝓖 .A) (givenOf 𝓤 H 𝓜 𝓖) (𝓜 .mem) (𝓡 .run) (tablesOf 𝓤 H 𝓜 (tables 𝓤 H 𝓜 𝓡 code.env))
-    (cited 𝓤 H (Of-dry-first-object 𝓤 H (𝓖 .A) (𝓜 .mem) (𝓡 .run)) 𝓜 𝓡 code.env #dry-first-object dry-first-object-def.routine code.calls-agent·dry·first-object (dry-first-object-thm.met 𝓤 H 𝓜 𝓖 𝓡))
-    (cited 𝓤 H (Of-objects-Object-implicit 𝓤 H (𝓖 .A) (𝓜 .mem) (𝓡 .run)) 𝓜 𝓡 code.env #objects-Object-implicit objects-Object-implicit-def.routine code.calls-sessions·objects·Object·implicit (objects-Object-implicit-thm.met 𝓤 H 𝓜 𝓖 𝓡))
-    (cited 𝓤 H (Of-dry-copy-objects 𝓤 H (𝓖 .A) (𝓜 .mem) (𝓡 .run)) 𝓜 𝓡 code.env #dry-copy-objects dry-copy-objects-def.routine code.calls-agent·dry·copy-objects (dry-copy-objects-thm.met 𝓤 H 𝓜 𝓖 𝓡))
-    (cited 𝓤 H (Of-dry-dry-streams 𝓤 H (𝓖 .A) (𝓜 .mem) (𝓡 .run)) 𝓜 𝓡 code.env #dry-dry-streams dry-dry-streams-def.routine code.calls-agent·dry·dry-streams (dry-dry-streams-thm.met 𝓤 H 𝓜 𝓖 𝓡))
-    (cited 𝓤 H (Of-dry-restore-objects 𝓤 H (𝓖 .A) (𝓜 .mem) (𝓡 .run)) 𝓜 𝓡 code.env #dry-restore-objects dry-restore-objects-def.routine code.calls-agent·dry·restore-objects (dry-restore-objects-thm.met 𝓤 H 𝓜 𝓖 𝓡)))
+    (cited 𝓤 H (Of-sending-buffer-stretch 𝓤 H (𝓖 .A) (𝓜 .mem) (𝓡 .run)) 𝓜 𝓡 code.env #sending-buffer-stretch sending-buffer-stretch-def.routine code.calls-sessions·sending·buffer-stretch (sending-buffer-stretch-thm.met 𝓤 H 𝓜 𝓖 𝓡))
+    (cited 𝓤 H (Of-dry-copy-buffer 𝓤 H (𝓖 .A) (𝓜 .mem) (𝓡 .run)) 𝓜 𝓡 code.env #dry-copy-buffer dry-copy-buffer-def.routine code.calls-agent·dry·copy-buffer (dry-copy-buffer-thm.met 𝓤 H 𝓜 𝓖 𝓡))
+    (cited 𝓤 H (Of-dry-dry-objects 𝓤 H (𝓖 .A) (𝓜 .mem) (𝓡 .run)) 𝓜 𝓡 code.env #dry-dry-objects dry-dry-objects-def.routine code.calls-agent·dry·dry-objects (dry-dry-objects-thm.met 𝓤 H 𝓜 𝓖 𝓡))
+    (cited 𝓤 H (Of-dry-restore-buffer 𝓤 H (𝓖 .A) (𝓜 .mem) (𝓡 .run)) 𝓜 𝓡 code.env #dry-restore-buffer dry-restore-buffer-def.routine code.calls-agent·dry·restore-buffer (dry-restore-buffer-thm.met 𝓤 H 𝓜 𝓖 𝓡)))

@@ -53,9 +53,11 @@ use borrow.Rule.Slice.PartMut.{midOf, putMid}
 use Rattle.walk.proofs.Parts.{part-len, lends-part, backs-part, parts-shr}
 use Rattle.walk.proofs.Arrays.{rep-is, lends-array, backs-array}
 use Rattle.sessions.specs.Objects.{blank}
-use Rattle.moves.specs.Rows.{lent}
+use Rattle.agent.specs.Lent.{lent}
 use Rattle.agent.specs.Host.{resumesFit, performed}
-use Rattle.agent.specs.Dry.{sessionCopy, sessionBack, noSession, streamCopy, streamBack, noStream, same, sessionSpot, streamSpot, objectSpot, copied, restored}
+use Rattle.agent.specs.Dry.{sessionCopy, sessionBack, noSession, streamCopy, streamBack, noStream, same, sessionSpot, streamSpot, objectSpot, copied, restored, bufferCopy, bufferBack}
+use Rattle.codec.specs.Bytes.{putBytes}
+use Rattle.sessions.specs.Sending.{bufferIn}
 use Rattle.agent.specs.Run.{putReplies}
 use Rattle.agent.specs.Host.{firstRan}
 use denote.Plain.{uint-lawful}
@@ -145,8 +147,8 @@ Start-of x0 x1 x2 x3 = record { frame = x0; next = x1; at = x2; resumes = x3 }
 abbrev Start-p : Plain
 Start-p = record { row = Start-t.the-row; val = LL.val Start-t.the-type Start-l.the-laws; tells = LL.tells Start-t.the-type Start-l.the-laws; makes = λ 𝓤 H A W. LL.makes Start-t.the-type Start-l.the-plain 𝓤 H A; ty = Start-l.mir; typed = λ 𝓤 H A W x is. LL.lawful Start-t.the-type Start-l.the-laws 𝓤 H A W .typed x _ is .0; copies = λ 𝓤 H A W. LL.copy Start-t.the-type Start-l.the-copy 𝓤 H A W }
 
-abbrev Frame-of : ℕ → ℕ → ℕ → ℕ → Frame
-Frame-of x0 x1 x2 x3 = record { «max_clients» = x0; time = x1; «session_id» = x2; «stream_id» = x3 }
+abbrev Frame-of : ℕ → ℕ → ℕ → ℕ → ℕ → Frame
+Frame-of x0 x1 x2 x3 x4 = record { «max_clients» = x0; time = x1; «session_id» = x2; «stream_id» = x3; room = x4 }
 
 abbrev Frame-p : Plain
 Frame-p = record { row = Frame-t.the-row; val = LL.val Frame-t.the-type Frame-l.the-laws; tells = LL.tells Frame-t.the-type Frame-l.the-laws; makes = λ 𝓤 H A W. LL.makes Frame-t.the-type Frame-l.the-plain 𝓤 H A; ty = Frame-l.mir; typed = λ 𝓤 H A W x is. LL.lawful Frame-t.the-type Frame-l.the-laws 𝓤 H A W .typed x _ is .0; copies = λ 𝓤 H A W. LL.copy Frame-t.the-type Frame-l.the-copy 𝓤 H A W }
@@ -191,7 +193,7 @@ abbrev Span-p : Plain
 Span-p = record { row = Span-t.the-row; val = LL.val Span-t.the-type Span-l.the-laws; tells = LL.tells Span-t.the-type Span-l.the-laws; makes = λ 𝓤 H A W. LL.makes Span-t.the-type Span-l.the-plain 𝓤 H A; ty = Span-l.mir; typed = λ 𝓤 H A W x is. LL.lawful Span-t.the-type Span-l.the-laws 𝓤 H A W .typed x _ is .0; copies = λ 𝓤 H A W. LL.copy Span-t.the-type Span-l.the-copy 𝓤 H A W }
 
 abbrev stayed : Stays (f.ended .signature .params) (f.ended .kept)
-stayed = (stay-slice (0 ∷ []) tt (plain (λ _. (Array u64 5))), (stay-slice (1 ∷ []) tt (plain (λ _. (Array u16 35))), (stay-slice (2 ∷ []) tt (plain (λ _. Object-t.the-row)), (stay-none-slice (3 ∷ []) tt (plain (λ _. u8)) yes, (stay-none-slice (4 ∷ []) tt (plain (λ _. u8)) yes, (stay-none (λ _. Start-p .row) yes, tt))))))
+stayed = (stay-slice (0 ∷ []) tt (plain (λ _. (Array u64 6))), (stay-slice (1 ∷ []) tt (plain (λ _. (Array u16 35))), (stay-slice (2 ∷ []) tt (plain (λ _. Object-t.the-row)), (stay-slice (3 ∷ []) tt (plain (λ _. u8)), (stay-none-slice (4 ∷ []) tt (plain (λ _. u8)) yes, (stay-none-slice (5 ∷ []) tt (plain (λ _. u8)) yes, (stay-none (λ _. Start-p .row) yes, tt)))))))
 
 module _ {M : Type 1} (𝓤 : URA M) (H : Heap 𝓤) (A : Atoms 𝓤) (mem : Memory → SProp 𝓤) (run : Routine → Fun 𝓤) where
   abbrev Of-dry-no-session : Contract 𝓤
@@ -206,8 +208,8 @@ module _ {M : Type 1} (𝓤 : URA M) (H : Heap 𝓤) (A : Atoms 𝓤) (mem : Mem
   abbrev Of-dry-restore-sessions : Contract 𝓤
   Of-dry-restore-sessions = tripleOf 𝓤 H A dry-restore-sessions.signature (dry-restore-sessions.spec 𝓤 H A mem run)
 
-module _ {M : Type 1} (𝓤 : URA M) (H : Heap 𝓤) (A : Atoms 𝓤) (W : Given 𝓤 H A) (mem : Memory → SProp 𝓤) (run : Routine → Fun 𝓤) (κ₁ : Lft) (q₁ : Share) (b₁ o₁ : ℕ) (γ₁ : GName) (sessions : List (List ℕ)) (κ₂ : Lft) (q₂ : Share) (b₂ o₂ : ℕ) (γ₂ : GName) (streams : List (List ℕ)) (κ₃ : Lft) (q₃ : Share) (b₃ o₃ : ℕ) (γ₃ : GName) (objects : List Object) (κ₄ : Lft) (q₄ : Share) (b₄ o₄ : ℕ) (γ₄ : GName) (d : List ℕ) (κ₅ : Lft) (q₅ : Share) (b₅ o₅ : ℕ) (γ₅ : GName) (sample : List ℕ) (start : Start)
-    (room₁ : Room (Array u64 5) (length sessions)) (room₂ : Room (Array u16 35) (length streams)) (room₃ : Room Object-t.the-row (length objects)) (room₄ : Room u8 (length d)) (room₅ : Room u8 (length sample)) (start-is : Is (Start-p .row) start (Start-p .val start ∷ [])) (within : (resumesFit (start .resumes) (length (sample)) ≡ true) × (256 ≤ length (sessions))) where
+module _ {M : Type 1} (𝓤 : URA M) (H : Heap 𝓤) (A : Atoms 𝓤) (W : Given 𝓤 H A) (mem : Memory → SProp 𝓤) (run : Routine → Fun 𝓤) (κ₁ : Lft) (q₁ : Share) (b₁ o₁ : ℕ) (γ₁ : GName) (sessions : List (List ℕ)) (κ₂ : Lft) (q₂ : Share) (b₂ o₂ : ℕ) (γ₂ : GName) (streams : List (List ℕ)) (κ₃ : Lft) (q₃ : Share) (b₃ o₃ : ℕ) (γ₃ : GName) (objects : List Object) (κ₄ : Lft) (q₄ : Share) (b₄ o₄ : ℕ) (γ₄ : GName) (held : List ℕ) (κ₅ : Lft) (q₅ : Share) (b₅ o₅ : ℕ) (γ₅ : GName) (d : List ℕ) (κ₆ : Lft) (q₆ : Share) (b₆ o₆ : ℕ) (γ₆ : GName) (sample : List ℕ) (start : Start)
+    (room₁ : Room (Array u64 6) (length sessions)) (room₂ : Room (Array u16 35) (length streams)) (room₃ : Room Object-t.the-row (length objects)) (room₄ : Room u8 (length held)) (room₅ : Room u8 (length d)) (room₆ : Room u8 (length sample)) (start-is : Is (Start-p .row) start (Start-p .val start ∷ [])) (within : (resumesFit (start .resumes) (start .frame .«stream_id») (length (sample)) ≡ true) × (start .frame .room ≤ 9223372036854775807) × (256 ≤ length (sessions))) where
   abbrev n₁ : ℕ
   n₁ = length sessions
 
@@ -218,19 +220,22 @@ module _ {M : Type 1} (𝓤 : URA M) (H : Heap 𝓤) (A : Atoms 𝓤) (W : Given
   n₃ = length objects
 
   abbrev n₄ : ℕ
-  n₄ = length d
+  n₄ = length held
 
   abbrev n₅ : ℕ
-  n₅ = length sample
+  n₅ = length d
 
-  abbrev x : RefT (List (List ℕ)) × (RefT (List (List ℕ)) × (RefT (List Object) × (RefT (List ℕ) × (RefT (List ℕ) × (Start-p .row .Denot × (Unit {0}))))))
-  x = (at-list b₁ o₁ γ₁ sessions, (at-list b₂ o₂ γ₂ streams, (at-list b₃ o₃ γ₃ objects, (at-list b₄ o₄ γ₄ d, (at-list b₅ o₅ γ₅ sample, (start, tt))))))
+  abbrev n₆ : ℕ
+  n₆ = length sample
 
-  abbrev at : Vals f.signature (κ₁, (κ₂, (κ₃, (κ₄, (κ₅, tt)))))
-  at = (sliceVal (b₁, o₁) n₁ ∷ [], (sliceVal (b₂, o₂) n₂ ∷ [], (sliceVal (b₃, o₃) n₃ ∷ [], (sliceVal (b₄, o₄) n₄ ∷ [], (sliceVal (b₅, o₅) n₅ ∷ [], (Start-p .val start ∷ [], tt))))))
+  abbrev x : RefT (List (List ℕ)) × (RefT (List (List ℕ)) × (RefT (List Object) × (RefT (List ℕ) × (RefT (List ℕ) × (RefT (List ℕ) × (Start-p .row .Denot × (Unit {0})))))))
+  x = (at-list b₁ o₁ γ₁ sessions, (at-list b₂ o₂ γ₂ streams, (at-list b₃ o₃ γ₃ objects, (at-list b₄ o₄ γ₄ held, (at-list b₅ o₅ γ₅ d, (at-list b₆ o₆ γ₆ sample, (start, tt)))))))
+
+  abbrev at : Vals f.signature (κ₁, (κ₂, (κ₃, (κ₄, (κ₅, (κ₆, tt))))))
+  at = (sliceVal (b₁, o₁) n₁ ∷ [], (sliceVal (b₂, o₂) n₂ ∷ [], (sliceVal (b₃, o₃) n₃ ∷ [], (sliceVal (b₄, o₄) n₄ ∷ [], (sliceVal (b₅, o₅) n₅ ∷ [], (sliceVal (b₆, o₆) n₆ ∷ [], (Start-p .val start ∷ [], tt)))))))
 
   abbrev Post : Val → SProp 𝓤
-  Post = walkOf 𝓤 H A f.ended stayed (f.clauses 𝓤 H A mem run) .post (((κ₁, (κ₂, (κ₃, (κ₄, (κ₅, tt))))), (q₁, (q₂, (q₃, (q₄, (q₅, tt))))), tt, x, at), tt)
+  Post = walkOf 𝓤 H A f.ended stayed (f.clauses 𝓤 H A mem run) .post (((κ₁, (κ₂, (κ₃, (κ₄, (κ₅, (κ₆, tt)))))), (q₁, (q₂, (q₃, (q₄, (q₅, (q₆, tt)))))), tt, x, at), tt)
 
   -- ids are bytes
   id-low : start .frame .«session_id» < 256
@@ -239,16 +244,16 @@ module _ {M : Type 1} (𝓤 : URA M) (H : Heap 𝓤) (A : Atoms 𝓤) (W : Given
   next-low : start .next < 256
   next-low = LL.owed Start-t.the-type Start-l.the-laws start _ start-is .1 .0 .1
 
-  exits : (r : ℕ) (ws₁ : List (List ℕ)) (ws₂ : List (List ℕ)) (ws₃ : List Object) → ((r ≡ performed start (lent (sessions) (streams) (objects)) (d) (sample) .ran .wrote) × (ws₁ ≡ sessions) × (ws₂ ≡ performed start (lent (sessions) (streams) (objects)) (d) (sample) .tables .streams) × (ws₃ ≡ performed start (lent (sessions) (streams) (objects)) (d) (sample) .tables .objects)) → Is (u64-p .row) r (u64-p .val r ∷ []) → length ws₁ ≡ n₁ → length ws₂ ≡ n₂ → length ws₃ ≡ n₃ → ent 𝓤 (⋆ 𝓤 H A (‵ (MutSlice (named 0) κ₁ (Array u64 5) .own (at-list b₁ o₁ γ₁ ws₁) (sliceVal (b₁, o₁) n₁ ∷ [])) ∷ ‵ (flft κ₁ q₁) ∷ ‵ (MutSlice (named 1) κ₂ (Array u16 35) .own (at-list b₂ o₂ γ₂ ws₂) (sliceVal (b₂, o₂) n₂ ∷ [])) ∷ ‵ (flft κ₂ q₂) ∷ ‵ (MutSlice (named 2) κ₃ Object-t.the-row .own (at-list b₃ o₃ γ₃ ws₃) (sliceVal (b₃, o₃) n₃ ∷ [])) ∷ ‵ (flft κ₃ q₃) ∷ ‵ (ShrSlice (named 3) κ₄ u8 .own (at-list b₄ o₄ γ₄ d) (sliceVal (b₄, o₄) n₄ ∷ [])) ∷ ‵ (flft κ₄ q₄) ∷ ‵ (ShrSlice (named 4) κ₅ u8 .own (at-list b₅ o₅ γ₅ sample) (sliceVal (b₅, o₅) n₅ ∷ [])) ∷ ‵ (flft κ₅ q₅) ∷ [])) (Post (u64-p .val r))
-  exits r ws₁ ws₂ ws₃ said r-is len₁ len₂ len₃ =
-      qed W (‵ (MutSlice (named 0) κ₁ (Array u64 5) .own (at-list b₁ o₁ γ₁ ws₁) (sliceVal (b₁, o₁) n₁ ∷ [])) ∷ ‵ (flft κ₁ q₁) ∷ ‵ (MutSlice (named 1) κ₂ (Array u16 35) .own (at-list b₂ o₂ γ₂ ws₂) (sliceVal (b₂, o₂) n₂ ∷ [])) ∷ ‵ (flft κ₂ q₂) ∷ ‵ (MutSlice (named 2) κ₃ Object-t.the-row .own (at-list b₃ o₃ γ₃ ws₃) (sliceVal (b₃, o₃) n₃ ∷ [])) ∷ ‵ (flft κ₃ q₃) ∷ ‵ (ShrSlice (named 3) κ₄ u8 .own (at-list b₄ o₄ γ₄ d) (sliceVal (b₄, o₄) n₄ ∷ [])) ∷ ‵ (flft κ₄ q₄) ∷ ‵ (ShrSlice (named 4) κ₅ u8 .own (at-list b₅ o₅ γ₅ sample) (sliceVal (b₅, o₅) n₅ ∷ [])) ∷ ‵ (flft κ₅ q₅) ∷ []) ∵
-      suffices ! _ (ends-at 𝓤 H A f.ended stayed (f.clauses 𝓤 H A mem run) W (((κ₁, (κ₂, (κ₃, (κ₄, (κ₅, tt))))), (q₁, (q₂, (q₃, (q₄, (q₅, tt))))), tt, x, at), tt) (u64-p .val r) r (ws₁, (ws₂, (ws₃, (tt, (tt, (tt, tt)))))) (len₁, (len₂, (len₃, (tt, (tt, (tt, tt))))))) $ says ! said $ nothing ! $ move ! (10 ∷ 0 ∷ []) $ join ! $ move ! (8 ∷ 0 ∷ []) $ join ! $ move ! (6 ∷ 0 ∷ []) $ join ! $ move ! (4 ∷ 0 ∷ []) $ join ! $ move ! (2 ∷ 0 ∷ []) $ join ! $
+  exits : (r : ℕ) (ws₁ : List (List ℕ)) (ws₂ : List (List ℕ)) (ws₃ : List Object) (ws₄ : List ℕ) → ((r ≡ performed start (lent (sessions) (streams) (objects) (held)) (d) (sample) .ran .wrote) × (ws₁ ≡ sessions) × (ws₂ ≡ performed start (lent (sessions) (streams) (objects) (held)) (d) (sample) .tables .streams) × (ws₃ ≡ performed start (lent (sessions) (streams) (objects) (held)) (d) (sample) .tables .objects) × (ws₄ ≡ performed start (lent (sessions) (streams) (objects) (held)) (d) (sample) .tables .held)) → Is (u64-p .row) r (u64-p .val r ∷ []) → length ws₁ ≡ n₁ → length ws₂ ≡ n₂ → length ws₃ ≡ n₃ → length ws₄ ≡ n₄ → ent 𝓤 (⋆ 𝓤 H A (‵ (MutSlice (named 0) κ₁ (Array u64 6) .own (at-list b₁ o₁ γ₁ ws₁) (sliceVal (b₁, o₁) n₁ ∷ [])) ∷ ‵ (flft κ₁ q₁) ∷ ‵ (MutSlice (named 1) κ₂ (Array u16 35) .own (at-list b₂ o₂ γ₂ ws₂) (sliceVal (b₂, o₂) n₂ ∷ [])) ∷ ‵ (flft κ₂ q₂) ∷ ‵ (MutSlice (named 2) κ₃ Object-t.the-row .own (at-list b₃ o₃ γ₃ ws₃) (sliceVal (b₃, o₃) n₃ ∷ [])) ∷ ‵ (flft κ₃ q₃) ∷ ‵ (MutSlice (named 3) κ₄ u8 .own (at-list b₄ o₄ γ₄ ws₄) (sliceVal (b₄, o₄) n₄ ∷ [])) ∷ ‵ (flft κ₄ q₄) ∷ ‵ (ShrSlice (named 4) κ₅ u8 .own (at-list b₅ o₅ γ₅ d) (sliceVal (b₅, o₅) n₅ ∷ [])) ∷ ‵ (flft κ₅ q₅) ∷ ‵ (ShrSlice (named 5) κ₆ u8 .own (at-list b₆ o₆ γ₆ sample) (sliceVal (b₆, o₆) n₆ ∷ [])) ∷ ‵ (flft κ₆ q₆) ∷ [])) (Post (u64-p .val r))
+  exits r ws₁ ws₂ ws₃ ws₄ said r-is len₁ len₂ len₃ len₄ =
+      qed W (‵ (MutSlice (named 0) κ₁ (Array u64 6) .own (at-list b₁ o₁ γ₁ ws₁) (sliceVal (b₁, o₁) n₁ ∷ [])) ∷ ‵ (flft κ₁ q₁) ∷ ‵ (MutSlice (named 1) κ₂ (Array u16 35) .own (at-list b₂ o₂ γ₂ ws₂) (sliceVal (b₂, o₂) n₂ ∷ [])) ∷ ‵ (flft κ₂ q₂) ∷ ‵ (MutSlice (named 2) κ₃ Object-t.the-row .own (at-list b₃ o₃ γ₃ ws₃) (sliceVal (b₃, o₃) n₃ ∷ [])) ∷ ‵ (flft κ₃ q₃) ∷ ‵ (MutSlice (named 3) κ₄ u8 .own (at-list b₄ o₄ γ₄ ws₄) (sliceVal (b₄, o₄) n₄ ∷ [])) ∷ ‵ (flft κ₄ q₄) ∷ ‵ (ShrSlice (named 4) κ₅ u8 .own (at-list b₅ o₅ γ₅ d) (sliceVal (b₅, o₅) n₅ ∷ [])) ∷ ‵ (flft κ₅ q₅) ∷ ‵ (ShrSlice (named 5) κ₆ u8 .own (at-list b₆ o₆ γ₆ sample) (sliceVal (b₆, o₆) n₆ ∷ [])) ∷ ‵ (flft κ₆ q₆) ∷ []) ∵
+      suffices ! _ (ends-at 𝓤 H A f.ended stayed (f.clauses 𝓤 H A mem run) W (((κ₁, (κ₂, (κ₃, (κ₄, (κ₅, (κ₆, tt)))))), (q₁, (q₂, (q₃, (q₄, (q₅, (q₆, tt)))))), tt, x, at), tt) (u64-p .val r) r (ws₁, (ws₂, (ws₃, (ws₄, (tt, (tt, (tt, tt))))))) (len₁, (len₂, (len₃, (len₄, (tt, (tt, (tt, tt)))))))) $ says ! said $ nothing ! $ move ! (12 ∷ 0 ∷ []) $ join ! $ move ! (10 ∷ 0 ∷ []) $ join ! $ move ! (8 ∷ 0 ∷ []) $ join ! $ move ! (6 ∷ 0 ∷ []) $ join ! $ move ! (4 ∷ 0 ∷ []) $ join ! $ move ! (2 ∷ 0 ∷ []) $ join ! $
       frame ! $ nothing ! $
-      owned ! (Start-p .row) (Is (Start-p .row)) (Start-p .makes 𝓤 H A W) start (Start-p .val start ∷ []) start-is $ fjoin ! $ move ! (5 ∷ 0 ∷ []) $ fjoin ! $ move ! (4 ∷ 0 ∷ []) $ fjoin ! $ move ! (3 ∷ 0 ∷ []) $ fjoin ! $ move ! (2 ∷ 0 ∷ []) $ fjoin ! $ move ! (1 ∷ 0 ∷ []) $ fjoin ! $
+      owned ! (Start-p .row) (Is (Start-p .row)) (Start-p .makes 𝓤 H A W) start (Start-p .val start ∷ []) start-is $ fjoin ! $ move ! (6 ∷ 0 ∷ []) $ fjoin ! $ move ! (5 ∷ 0 ∷ []) $ fjoin ! $ move ! (4 ∷ 0 ∷ []) $ fjoin ! $ move ! (3 ∷ 0 ∷ []) $ fjoin ! $ move ! (2 ∷ 0 ∷ []) $ fjoin ! $ move ! (1 ∷ 0 ∷ []) $ fjoin ! $
       frame ! $
       owned ! (u64-p .row) (Is (u64-p .row)) (u64-p .makes 𝓤 H A W) r _ r-is $ done !
 
-  module _ (𝓣 : Tables 𝓤 H) (known-dry-no-session : Triple 𝓤 (𝓣 .C #dry-no-session) (Of-dry-no-session 𝓤 H A mem run)) (known-dry-copy-sessions : Triple 𝓤 (𝓣 .C #dry-copy-sessions) (Of-dry-copy-sessions 𝓤 H A mem run)) (known-perform-perform : Triple 𝓤 (𝓣 .C #perform-perform) (Of-perform-perform 𝓤 H A mem run)) (known-dry-restore-sessions : Triple 𝓤 (𝓣 .C #dry-restore-sessions) (Of-dry-restore-sessions 𝓤 H A mem run)) (l₀ l₁ l₂ l₃ l₄ l₅ l₆ l₇ l₈ l₉ l₁₀ l₁₁ l₁₂ l₁₃ l₁₄ l₁₅ l₁₆ l₁₇ l₁₈ l₁₉ l₂₀ l₂₁ l₂₂ l₂₃ l₂₄ l₂₅ l₂₆ l₂₇ : ℕ) where
+  module _ (𝓣 : Tables 𝓤 H) (known-dry-no-session : Triple 𝓤 (𝓣 .C #dry-no-session) (Of-dry-no-session 𝓤 H A mem run)) (known-dry-copy-sessions : Triple 𝓤 (𝓣 .C #dry-copy-sessions) (Of-dry-copy-sessions 𝓤 H A mem run)) (known-perform-perform : Triple 𝓤 (𝓣 .C #perform-perform) (Of-perform-perform 𝓤 H A mem run)) (known-dry-restore-sessions : Triple 𝓤 (𝓣 .C #dry-restore-sessions) (Of-dry-restore-sessions 𝓤 H A mem run)) (l₀ l₁ l₂ l₃ l₄ l₅ l₆ l₇ l₈ l₉ l₁₀ l₁₁ l₁₂ l₁₃ l₁₄ l₁₅ l₁₆ l₁₇ l₁₈ l₁₉ l₂₀ l₂₁ l₂₂ l₂₃ l₂₄ l₂₅ l₂₆ l₂₇ l₂₈ l₂₉ l₃₀ : ℕ) where
     abbrev C : Calls 𝓤 H
     C = 𝓣 .C
 
@@ -259,141 +264,149 @@ module _ {M : Type 1} (𝓤 : URA M) (H : Heap 𝓤) (A : Atoms 𝓤) (W : Given
     fm = fmOf 𝓤 H (W .laws) 𝓣
 
     abbrev En : Env 𝓤 H
-    En = ((tyInt w64), l₀) ∷ ((sliceTy (tyRef (named 0) mut (pointee ((Array u64 5) .written)))), l₁) ∷ ((sliceTy (tyRef (named 1) mut (pointee ((Array u16 35) .written)))), l₂) ∷ ((sliceTy (tyRef (named 2) mut (pointee (Object-t.the-row .written)))), l₃) ∷ ((sliceTy (tyRef (named 3) imm (pointee (u8 .written)))), l₄) ∷ ((sliceTy (tyRef (named 4) imm (pointee (u8 .written)))), l₅) ∷ (Start-l.mir, l₆) ∷ (SessionCopy-l.mir, l₇) ∷ ((tyArray SessionCopy-l.mir 256), l₈) ∷ ((tyArray (tyInt w8) 2), l₉) ∷ (Ran-l.mir, l₁₀) ∷ (tyUnit, l₁₁) ∷ ((tyRef erased imm (pointee ((Array u64 5) .written))), l₁₂) ∷ ((sliceTy (tyRef erased imm (pointee ((Array u64 5) .written)))), l₁₃) ∷ ((tyRef erased mut (pointee ((Array SessionCopy-t.the-row 256) .written))), l₁₄) ∷ ((sliceTy (tyRef erased mut (pointee (SessionCopy-t.the-row .written)))), l₁₅) ∷ ((tyRef erased mut (pointee ((Array u64 5) .written))), l₁₆) ∷ ((sliceTy (tyRef erased mut (pointee ((Array u64 5) .written)))), l₁₇) ∷ ((tyRef erased mut (pointee ((Array u16 35) .written))), l₁₈) ∷ ((sliceTy (tyRef erased mut (pointee ((Array u16 35) .written)))), l₁₉) ∷ ((tyRef erased mut (pointee (Object-t.the-row .written))), l₂₀) ∷ ((sliceTy (tyRef erased mut (pointee (Object-t.the-row .written)))), l₂₁) ∷ ((tyRef erased mut (pointee ((Array u8 2) .written))), l₂₂) ∷ ((sliceTy (tyRef erased mut (pointee (u8 .written)))), l₂₃) ∷ ((tyRef erased imm (pointee ((Array SessionCopy-t.the-row 256) .written))), l₂₄) ∷ ((sliceTy (tyRef erased imm (pointee (SessionCopy-t.the-row .written)))), l₂₅) ∷ ((tyRef erased mut (pointee ((Array u64 5) .written))), l₂₆) ∷ ((sliceTy (tyRef erased mut (pointee ((Array u64 5) .written)))), l₂₇) ∷ []
+    En = ((tyInt w64), l₀) ∷ ((sliceTy (tyRef (named 0) mut (pointee ((Array u64 6) .written)))), l₁) ∷ ((sliceTy (tyRef (named 1) mut (pointee ((Array u16 35) .written)))), l₂) ∷ ((sliceTy (tyRef (named 2) mut (pointee (Object-t.the-row .written)))), l₃) ∷ ((sliceTy (tyRef (named 3) mut (pointee (u8 .written)))), l₄) ∷ ((sliceTy (tyRef (named 4) imm (pointee (u8 .written)))), l₅) ∷ ((sliceTy (tyRef (named 5) imm (pointee (u8 .written)))), l₆) ∷ (Start-l.mir, l₇) ∷ (SessionCopy-l.mir, l₈) ∷ ((tyArray SessionCopy-l.mir 256), l₉) ∷ ((tyArray (tyInt w8) 2), l₁₀) ∷ (Ran-l.mir, l₁₁) ∷ (tyUnit, l₁₂) ∷ ((tyRef erased imm (pointee ((Array u64 6) .written))), l₁₃) ∷ ((sliceTy (tyRef erased imm (pointee ((Array u64 6) .written)))), l₁₄) ∷ ((tyRef erased mut (pointee ((Array SessionCopy-t.the-row 256) .written))), l₁₅) ∷ ((sliceTy (tyRef erased mut (pointee (SessionCopy-t.the-row .written)))), l₁₆) ∷ ((tyRef erased mut (pointee ((Array u64 6) .written))), l₁₇) ∷ ((sliceTy (tyRef erased mut (pointee ((Array u64 6) .written)))), l₁₈) ∷ ((tyRef erased mut (pointee ((Array u16 35) .written))), l₁₉) ∷ ((sliceTy (tyRef erased mut (pointee ((Array u16 35) .written)))), l₂₀) ∷ ((tyRef erased mut (pointee (Object-t.the-row .written))), l₂₁) ∷ ((sliceTy (tyRef erased mut (pointee (Object-t.the-row .written)))), l₂₂) ∷ ((tyRef erased mut (pointee (u8 .written))), l₂₃) ∷ ((sliceTy (tyRef erased mut (pointee (u8 .written)))), l₂₄) ∷ ((tyRef erased mut (pointee ((Array u8 2) .written))), l₂₅) ∷ ((sliceTy (tyRef erased mut (pointee (u8 .written)))), l₂₆) ∷ ((tyRef erased imm (pointee ((Array SessionCopy-t.the-row 256) .written))), l₂₇) ∷ ((sliceTy (tyRef erased imm (pointee (SessionCopy-t.the-row .written)))), l₂₈) ∷ ((tyRef erased mut (pointee ((Array u64 6) .written))), l₂₉) ∷ ((sliceTy (tyRef erased mut (pointee ((Array u64 6) .written)))), l₃₀) ∷ []
 
-    part-23-0 : (is-1 : Is (SessionCopy-p .row) noSession (SessionCopy-p .val noSession ∷ [])) → (asks-7 : (256 ≤ length (sessions)) × (256 ≤ length ((replicate 256 noSession)))) → (v-7-8 : Val) → (ais-7-8 : Is (Array SessionCopy-t.the-row 256) (copied sessionCopy [] sessionSpot 256 (sessions) ((replicate 256 noSession))) (v-7-8 ∷ [])) → (is-7 : Is (unit-p .row) tt (unit-p .val tt ∷ [])) → (asks-17 : resumesFit (start .resumes) (length (sample)) ≡ true) → (len-17-sessions : length (performed start (lent (sessions) (streams) (objects)) (d) (sample) .tables .sessions) ≡ n₁) → (len-17-streams : length (performed start (lent (sessions) (streams) (objects)) (d) (sample) .tables .streams) ≡ n₂) → (len-17-objects : length (performed start (lent (sessions) (streams) (objects)) (d) (sample) .tables .objects) ≡ n₃) → (v-17-9 : Val) → (ais-17-9 : Is (Array u8 2) (putReplies ((replicate {A = ℕ} 2 0)) 0 (performed start (lent (sessions) (streams) (objects)) (d) (sample) .replies)) (v-17-9 ∷ [])) → (is-17 : Is (Ran-p .row) (performed start (lent (sessions) (streams) (objects)) (d) (sample) .ran) (Ran-p .val (performed start (lent (sessions) (streams) (objects)) (d) (sample) .ran) ∷ [])) → (asks-22 : (256 ≤ length ((copied sessionCopy [] sessionSpot 256 (sessions) ((replicate 256 noSession))))) × (256 ≤ length ((performed start (lent (sessions) (streams) (objects)) (d) (sample) .tables .sessions)))) → (v-22-8 : Val) → (vis-22-8 : Is (Array SessionCopy-t.the-row 256) (copied sessionCopy [] sessionSpot 256 (sessions) ((replicate 256 noSession))) (v-22-8 ∷ [])) → (len-22-sessions : length (restored sessionBack noSession sessionSpot 256 ((copied sessionCopy [] sessionSpot 256 (sessions) ((replicate 256 noSession)))) ((performed start (lent (sessions) (streams) (objects)) (d) (sample) .tables .sessions))) ≡ n₁) → (is-22 : Is (unit-p .row) tt (unit-p .val tt ∷ [])) → Sq W (‵ (MutSlice (named 0) κ₁ (Array u64 5) .own (at-list b₁ o₁ γ₁ (restored sessionBack noSession sessionSpot 256 ((copied sessionCopy [] sessionSpot 256 (sessions) ((replicate 256 noSession)))) ((performed start (lent (sessions) (streams) (objects)) (d) (sample) .tables .sessions)))) (sliceVal (b₁, o₁) n₁ ∷ [])) ∷ ‵ (flft κ₁ q₁) ∷ ‵ (MutSlice (named 0) κ₂ (Array u16 35) .own (at-list b₂ o₂ γ₂ (performed start (lent (sessions) (streams) (objects)) (d) (sample) .tables .streams)) (sliceVal (b₂, o₂) n₂ ∷ [])) ∷ ‵ (flft κ₂ q₂) ∷ ‵ (MutSlice (named 0) κ₃ Object-t.the-row .own (at-list b₃ o₃ γ₃ (performed start (lent (sessions) (streams) (objects)) (d) (sample) .tables .objects)) (sliceVal (b₃, o₃) n₃ ∷ [])) ∷ ‵ (flft κ₃ q₃) ∷ ‵ (ShrSlice (named 0) κ₄ u8 .own (at-list b₄ o₄ γ₄ d) (sliceVal (b₄, o₄) n₄ ∷ [])) ∷ ‵ (flft κ₄ q₄) ∷ ‵ (ShrSlice (named 0) κ₅ u8 .own (at-list b₅ o₅ γ₅ sample) (sliceVal (b₅, o₅) n₅ ∷ [])) ∷ ‵ (flft κ₅ q₅) ∷ full 𝓤 (sliceTy (tyRef erased mut (pointee ((Array u64 5) .written)))) l₂₇ (sliceVal (b₁, o₁) n₁) (full 𝓤 (tyRef erased mut (pointee ((Array u64 5) .written))) l₂₆ (vptr b₁ o₁) (full 𝓤 (sliceTy (tyRef erased imm (pointee (SessionCopy-t.the-row .written)))) l₂₅ (sliceVal (l₈, 0) 256) (full 𝓤 (tyRef erased imm (pointee ((Array SessionCopy-t.the-row 256) .written))) l₂₄ (vptr l₈ 0) (full 𝓤 (sliceTy (tyRef erased mut (pointee (u8 .written)))) l₂₃ (sliceVal (l₉, 0) 2) (full 𝓤 (tyRef erased mut (pointee ((Array u8 2) .written))) l₂₂ (vptr l₉ 0) (full 𝓤 (sliceTy (tyRef erased mut (pointee (Object-t.the-row .written)))) l₂₁ (sliceVal (b₃, o₃) n₃) (full 𝓤 (tyRef erased mut (pointee (Object-t.the-row .written))) l₂₀ (vptr b₃ o₃) (full 𝓤 (sliceTy (tyRef erased mut (pointee ((Array u16 35) .written)))) l₁₉ (sliceVal (b₂, o₂) n₂) (full 𝓤 (tyRef erased mut (pointee ((Array u16 35) .written))) l₁₈ (vptr b₂ o₂) (full 𝓤 (sliceTy (tyRef erased mut (pointee ((Array u64 5) .written)))) l₁₇ (sliceVal (b₁, o₁) n₁) (full 𝓤 (tyRef erased mut (pointee ((Array u64 5) .written))) l₁₆ (vptr b₁ o₁) (full 𝓤 (sliceTy (tyRef erased mut (pointee (SessionCopy-t.the-row .written)))) l₁₅ (sliceVal (l₈, 0) 256) (full 𝓤 (tyRef erased mut (pointee ((Array SessionCopy-t.the-row 256) .written))) l₁₄ (vptr l₈ 0) (full 𝓤 (sliceTy (tyRef erased imm (pointee ((Array u64 5) .written)))) l₁₃ (sliceVal (b₁, o₁) n₁) (full 𝓤 (tyRef erased imm (pointee ((Array u64 5) .written))) l₁₂ (vptr b₁ o₁) (full 𝓤 tyUnit l₁₁ (unit-p .val tt) (full 𝓤 Ran-l.mir l₁₀ (Ran-p .val (performed start (lent (sessions) (streams) (objects)) (d) (sample) .ran)) (full 𝓤 (tyArray (tyInt w8) 2) l₉ v-17-9 (full 𝓤 (tyArray SessionCopy-l.mir 256) l₈ v-22-8 (full 𝓤 SessionCopy-l.mir l₇ (SessionCopy-p .val noSession) (full 𝓤 Start-l.mir l₆ (Start-p .val start) (full 𝓤 (sliceTy (tyRef (named 4) imm (pointee (u8 .written)))) l₅ (sliceVal (b₅, o₅) n₅) (full 𝓤 (sliceTy (tyRef (named 3) imm (pointee (u8 .written)))) l₄ (sliceVal (b₄, o₄) n₄) (full 𝓤 (sliceTy (tyRef (named 2) mut (pointee (Object-t.the-row .written)))) l₃ (sliceVal (b₃, o₃) n₃) (full 𝓤 (sliceTy (tyRef (named 1) mut (pointee ((Array u16 35) .written)))) l₂ (sliceVal (b₂, o₂) n₂) (full 𝓤 (sliceTy (tyRef (named 0) mut (pointee ((Array u64 5) .written)))) l₁ (sliceVal (b₁, o₁) n₁) (free 𝓤 (tyInt w64) l₀ ([]))))))))))))))))))))))))))))) (runs C Λ En mir.t-23 (atRet En Post))
-    part-23-0 is-1 asks-7 v-7-8 ais-7-8 is-7 asks-17 len-17-sessions len-17-streams len-17-objects v-17-9 ais-17-9 is-17 asks-22 v-22-8 vis-22-8 len-22-sessions is-22 =
-        assigns ! (of-opd ! (load ! (from ! (fld ! refl (stop !))) (look-in ! 44 (sub ! 2 refl (whole !))))) (from ! (stop !)) (init ! 64 refl (u64-p .typed 𝓤 H A W ((performed start (lent (sessions) (streams) (objects)) (d) (sample) .ran) .wrote) (LL.owed Ran-t.the-type Ran-l.the-laws (performed start (lent (sessions) (streams) (objects)) (d) (sample) .ran) _ is-17 .1 .1 .0))) $
-        returns ! (look ! 64 refl) $ forget ! 10 refl $ forget ! 12 refl $ forget ! 14 refl $ forget ! 16 refl $ forget ! 18 refl $ forget ! 20 refl $ forget ! 22 refl $ forget ! 24 refl $ forget ! 26 refl $ forget ! 28 refl $ forget ! 30 refl $ forget ! 32 refl $ forget ! 34 refl $ forget ! 36 refl $ forget ! 38 refl $ forget ! 40 refl $ forget ! 42 refl $ forget ! 44 refl $ forget ! 46 refl $ forget ! 48 refl $ forget ! 50 refl $ forget ! 52 refl $ forget ! 54 refl $ forget ! 56 refl $ forget ! 58 refl $ forget ! 60 refl $ forget ! 62 refl $ forget ! 64 refl $ move ! (64 ∷ 65 ∷ []) $ free1 ! $ move ! (62 ∷ 63 ∷ []) $ free1 ! $ move ! (60 ∷ 61 ∷ []) $ free1 ! $ move ! (58 ∷ 59 ∷ []) $ free1 ! $ move ! (56 ∷ 57 ∷ []) $ free1 ! $ move ! (54 ∷ 55 ∷ []) $ free1 ! $ move ! (52 ∷ 53 ∷ []) $ free1 ! $ move ! (50 ∷ 51 ∷ []) $ free1 ! $ move ! (48 ∷ 49 ∷ []) $ free1 ! $ move ! (46 ∷ 47 ∷ []) $ free1 ! $ move ! (44 ∷ 45 ∷ []) $ free1 ! $ move ! (42 ∷ 43 ∷ []) $ free1 ! $ move ! (40 ∷ 41 ∷ []) $ free1 ! $ move ! (38 ∷ 39 ∷ []) $ free1 ! $ move ! (36 ∷ 37 ∷ []) $ free1 ! $ move ! (34 ∷ 35 ∷ []) $ free1 ! $ move ! (32 ∷ 33 ∷ []) $ free1 ! $ move ! (30 ∷ 31 ∷ []) $ free1 ! $ move ! (28 ∷ 29 ∷ []) $ free1 ! $ move ! (26 ∷ 27 ∷ []) $ free1 ! $ move ! (24 ∷ 25 ∷ []) $ free1 ! $ move ! (22 ∷ 23 ∷ []) $ free1 ! $ move ! (20 ∷ 21 ∷ []) $ free1 ! $ move ! (18 ∷ 19 ∷ []) $ free1 ! $ move ! (16 ∷ 17 ∷ []) $ free1 ! $ move ! (14 ∷ 15 ∷ []) $ free1 ! $ move ! (12 ∷ 13 ∷ []) $ free1 ! $ move ! (10 ∷ 11 ∷ []) $ free1 ! $ free0 ! $
-        by ! (exits ((performed start (lent (sessions) (streams) (objects)) (d) (sample) .ran) .wrote) (restored sessionBack noSession sessionSpot 256 ((copied sessionCopy [] sessionSpot 256 (sessions) ((replicate 256 noSession)))) ((performed start (lent (sessions) (streams) (objects)) (d) (sample) .tables .sessions))) (performed start (lent (sessions) (streams) (objects)) (d) (sample) .tables .streams) (performed start (lent (sessions) (streams) (objects)) (d) (sample) .tables .objects) ((refl, sessions-back start id-low next-low (lent sessions streams objects) d sample, refl, refl)) (LL.owed Ran-t.the-type Ran-l.the-laws (performed start (lent (sessions) (streams) (objects)) (d) (sample) .ran) _ is-17 .1 .1 .0) len-22-sessions len-17-streams len-17-objects)
+    part-25-0 : (is-1 : Is (SessionCopy-p .row) noSession (SessionCopy-p .val noSession ∷ [])) → (asks-7 : (256 ≤ length (sessions)) × (256 ≤ length ((replicate 256 noSession)))) → (v-7-9 : Val) → (ais-7-9 : Is (Array SessionCopy-t.the-row 256) (copied sessionCopy [] sessionSpot 256 (sessions) ((replicate 256 noSession))) (v-7-9 ∷ [])) → (is-7 : Is (unit-p .row) tt (unit-p .val tt ∷ [])) → (asks-19 : (resumesFit (start .resumes) (start .frame .«stream_id») (length (sample)) ≡ true) × (start .frame .room ≤ 9223372036854775807)) → (len-19-sessions : length (performed start (lent (sessions) (streams) (objects) (held)) (d) (sample) .tables .sessions) ≡ n₁) → (len-19-streams : length (performed start (lent (sessions) (streams) (objects) (held)) (d) (sample) .tables .streams) ≡ n₂) → (len-19-objects : length (performed start (lent (sessions) (streams) (objects) (held)) (d) (sample) .tables .objects) ≡ n₃) → (len-19-held : length (performed start (lent (sessions) (streams) (objects) (held)) (d) (sample) .tables .held) ≡ n₄) → (v-19-10 : Val) → (ais-19-10 : Is (Array u8 2) (putReplies (start .frame .room) ((replicate {A = ℕ} 2 0)) 0 (performed start (lent (sessions) (streams) (objects) (held)) (d) (sample) .replies)) (v-19-10 ∷ [])) → (is-19 : Is (Ran-p .row) (performed start (lent (sessions) (streams) (objects) (held)) (d) (sample) .ran) (Ran-p .val (performed start (lent (sessions) (streams) (objects) (held)) (d) (sample) .ran) ∷ [])) → (asks-24 : (256 ≤ length ((copied sessionCopy [] sessionSpot 256 (sessions) ((replicate 256 noSession))))) × (256 ≤ length ((performed start (lent (sessions) (streams) (objects) (held)) (d) (sample) .tables .sessions)))) → (v-24-9 : Val) → (vis-24-9 : Is (Array SessionCopy-t.the-row 256) (copied sessionCopy [] sessionSpot 256 (sessions) ((replicate 256 noSession))) (v-24-9 ∷ [])) → (len-24-sessions : length (restored sessionBack noSession sessionSpot 256 ((copied sessionCopy [] sessionSpot 256 (sessions) ((replicate 256 noSession)))) ((performed start (lent (sessions) (streams) (objects) (held)) (d) (sample) .tables .sessions))) ≡ n₁) → (is-24 : Is (unit-p .row) tt (unit-p .val tt ∷ [])) → Sq W (‵ (MutSlice (named 0) κ₁ (Array u64 6) .own (at-list b₁ o₁ γ₁ (restored sessionBack noSession sessionSpot 256 ((copied sessionCopy [] sessionSpot 256 (sessions) ((replicate 256 noSession)))) ((performed start (lent (sessions) (streams) (objects) (held)) (d) (sample) .tables .sessions)))) (sliceVal (b₁, o₁) n₁ ∷ [])) ∷ ‵ (flft κ₁ q₁) ∷ ‵ (MutSlice (named 0) κ₂ (Array u16 35) .own (at-list b₂ o₂ γ₂ (performed start (lent (sessions) (streams) (objects) (held)) (d) (sample) .tables .streams)) (sliceVal (b₂, o₂) n₂ ∷ [])) ∷ ‵ (flft κ₂ q₂) ∷ ‵ (MutSlice (named 0) κ₃ Object-t.the-row .own (at-list b₃ o₃ γ₃ (performed start (lent (sessions) (streams) (objects) (held)) (d) (sample) .tables .objects)) (sliceVal (b₃, o₃) n₃ ∷ [])) ∷ ‵ (flft κ₃ q₃) ∷ ‵ (MutSlice (named 0) κ₄ u8 .own (at-list b₄ o₄ γ₄ (performed start (lent (sessions) (streams) (objects) (held)) (d) (sample) .tables .held)) (sliceVal (b₄, o₄) n₄ ∷ [])) ∷ ‵ (flft κ₄ q₄) ∷ ‵ (ShrSlice (named 0) κ₅ u8 .own (at-list b₅ o₅ γ₅ d) (sliceVal (b₅, o₅) n₅ ∷ [])) ∷ ‵ (flft κ₅ q₅) ∷ ‵ (ShrSlice (named 0) κ₆ u8 .own (at-list b₆ o₆ γ₆ sample) (sliceVal (b₆, o₆) n₆ ∷ [])) ∷ ‵ (flft κ₆ q₆) ∷ full 𝓤 (sliceTy (tyRef erased mut (pointee ((Array u64 6) .written)))) l₃₀ (sliceVal (b₁, o₁) n₁) (full 𝓤 (tyRef erased mut (pointee ((Array u64 6) .written))) l₂₉ (vptr b₁ o₁) (full 𝓤 (sliceTy (tyRef erased imm (pointee (SessionCopy-t.the-row .written)))) l₂₈ (sliceVal (l₉, 0) 256) (full 𝓤 (tyRef erased imm (pointee ((Array SessionCopy-t.the-row 256) .written))) l₂₇ (vptr l₉ 0) (full 𝓤 (sliceTy (tyRef erased mut (pointee (u8 .written)))) l₂₆ (sliceVal (l₁₀, 0) 2) (full 𝓤 (tyRef erased mut (pointee ((Array u8 2) .written))) l₂₅ (vptr l₁₀ 0) (full 𝓤 (sliceTy (tyRef erased mut (pointee (u8 .written)))) l₂₄ (sliceVal (b₄, o₄) n₄) (full 𝓤 (tyRef erased mut (pointee (u8 .written))) l₂₃ (vptr b₄ o₄) (full 𝓤 (sliceTy (tyRef erased mut (pointee (Object-t.the-row .written)))) l₂₂ (sliceVal (b₃, o₃) n₃) (full 𝓤 (tyRef erased mut (pointee (Object-t.the-row .written))) l₂₁ (vptr b₃ o₃) (full 𝓤 (sliceTy (tyRef erased mut (pointee ((Array u16 35) .written)))) l₂₀ (sliceVal (b₂, o₂) n₂) (full 𝓤 (tyRef erased mut (pointee ((Array u16 35) .written))) l₁₉ (vptr b₂ o₂) (full 𝓤 (sliceTy (tyRef erased mut (pointee ((Array u64 6) .written)))) l₁₈ (sliceVal (b₁, o₁) n₁) (full 𝓤 (tyRef erased mut (pointee ((Array u64 6) .written))) l₁₇ (vptr b₁ o₁) (full 𝓤 (sliceTy (tyRef erased mut (pointee (SessionCopy-t.the-row .written)))) l₁₆ (sliceVal (l₉, 0) 256) (full 𝓤 (tyRef erased mut (pointee ((Array SessionCopy-t.the-row 256) .written))) l₁₅ (vptr l₉ 0) (full 𝓤 (sliceTy (tyRef erased imm (pointee ((Array u64 6) .written)))) l₁₄ (sliceVal (b₁, o₁) n₁) (full 𝓤 (tyRef erased imm (pointee ((Array u64 6) .written))) l₁₃ (vptr b₁ o₁) (full 𝓤 tyUnit l₁₂ (unit-p .val tt) (full 𝓤 Ran-l.mir l₁₁ (Ran-p .val (performed start (lent (sessions) (streams) (objects) (held)) (d) (sample) .ran)) (full 𝓤 (tyArray (tyInt w8) 2) l₁₀ v-19-10 (full 𝓤 (tyArray SessionCopy-l.mir 256) l₉ v-24-9 (full 𝓤 SessionCopy-l.mir l₈ (SessionCopy-p .val noSession) (full 𝓤 Start-l.mir l₇ (Start-p .val start) (full 𝓤 (sliceTy (tyRef (named 5) imm (pointee (u8 .written)))) l₆ (sliceVal (b₆, o₆) n₆) (full 𝓤 (sliceTy (tyRef (named 4) imm (pointee (u8 .written)))) l₅ (sliceVal (b₅, o₅) n₅) (full 𝓤 (sliceTy (tyRef (named 3) mut (pointee (u8 .written)))) l₄ (sliceVal (b₄, o₄) n₄) (full 𝓤 (sliceTy (tyRef (named 2) mut (pointee (Object-t.the-row .written)))) l₃ (sliceVal (b₃, o₃) n₃) (full 𝓤 (sliceTy (tyRef (named 1) mut (pointee ((Array u16 35) .written)))) l₂ (sliceVal (b₂, o₂) n₂) (full 𝓤 (sliceTy (tyRef (named 0) mut (pointee ((Array u64 6) .written)))) l₁ (sliceVal (b₁, o₁) n₁) (free 𝓤 (tyInt w64) l₀ ([])))))))))))))))))))))))))))))))) (runs C Λ En mir.t-25 (atRet En Post))
+    part-25-0 is-1 asks-7 v-7-9 ais-7-9 is-7 asks-19 len-19-sessions len-19-streams len-19-objects len-19-held v-19-10 ais-19-10 is-19 asks-24 v-24-9 vis-24-9 len-24-sessions is-24 =
+        assigns ! (of-opd ! (load ! (from ! (fld ! refl (stop !))) (look-in ! 50 (sub ! 2 refl (whole !))))) (from ! (stop !)) (init ! 72 refl (u64-p .typed 𝓤 H A W ((performed start (lent (sessions) (streams) (objects) (held)) (d) (sample) .ran) .wrote) (LL.owed Ran-t.the-type Ran-l.the-laws (performed start (lent (sessions) (streams) (objects) (held)) (d) (sample) .ran) _ is-19 .1 .1 .0))) $
+        returns ! (look ! 72 refl) $ forget ! 12 refl $ forget ! 14 refl $ forget ! 16 refl $ forget ! 18 refl $ forget ! 20 refl $ forget ! 22 refl $ forget ! 24 refl $ forget ! 26 refl $ forget ! 28 refl $ forget ! 30 refl $ forget ! 32 refl $ forget ! 34 refl $ forget ! 36 refl $ forget ! 38 refl $ forget ! 40 refl $ forget ! 42 refl $ forget ! 44 refl $ forget ! 46 refl $ forget ! 48 refl $ forget ! 50 refl $ forget ! 52 refl $ forget ! 54 refl $ forget ! 56 refl $ forget ! 58 refl $ forget ! 60 refl $ forget ! 62 refl $ forget ! 64 refl $ forget ! 66 refl $ forget ! 68 refl $ forget ! 70 refl $ forget ! 72 refl $ move ! (72 ∷ 73 ∷ []) $ free1 ! $ move ! (70 ∷ 71 ∷ []) $ free1 ! $ move ! (68 ∷ 69 ∷ []) $ free1 ! $ move ! (66 ∷ 67 ∷ []) $ free1 ! $ move ! (64 ∷ 65 ∷ []) $ free1 ! $ move ! (62 ∷ 63 ∷ []) $ free1 ! $ move ! (60 ∷ 61 ∷ []) $ free1 ! $ move ! (58 ∷ 59 ∷ []) $ free1 ! $ move ! (56 ∷ 57 ∷ []) $ free1 ! $ move ! (54 ∷ 55 ∷ []) $ free1 ! $ move ! (52 ∷ 53 ∷ []) $ free1 ! $ move ! (50 ∷ 51 ∷ []) $ free1 ! $ move ! (48 ∷ 49 ∷ []) $ free1 ! $ move ! (46 ∷ 47 ∷ []) $ free1 ! $ move ! (44 ∷ 45 ∷ []) $ free1 ! $ move ! (42 ∷ 43 ∷ []) $ free1 ! $ move ! (40 ∷ 41 ∷ []) $ free1 ! $ move ! (38 ∷ 39 ∷ []) $ free1 ! $ move ! (36 ∷ 37 ∷ []) $ free1 ! $ move ! (34 ∷ 35 ∷ []) $ free1 ! $ move ! (32 ∷ 33 ∷ []) $ free1 ! $ move ! (30 ∷ 31 ∷ []) $ free1 ! $ move ! (28 ∷ 29 ∷ []) $ free1 ! $ move ! (26 ∷ 27 ∷ []) $ free1 ! $ move ! (24 ∷ 25 ∷ []) $ free1 ! $ move ! (22 ∷ 23 ∷ []) $ free1 ! $ move ! (20 ∷ 21 ∷ []) $ free1 ! $ move ! (18 ∷ 19 ∷ []) $ free1 ! $ move ! (16 ∷ 17 ∷ []) $ free1 ! $ move ! (14 ∷ 15 ∷ []) $ free1 ! $ move ! (12 ∷ 13 ∷ []) $ free1 ! $ free0 ! $
+        by ! (exits ((performed start (lent (sessions) (streams) (objects) (held)) (d) (sample) .ran) .wrote) (restored sessionBack noSession sessionSpot 256 ((copied sessionCopy [] sessionSpot 256 (sessions) ((replicate 256 noSession)))) ((performed start (lent (sessions) (streams) (objects) (held)) (d) (sample) .tables .sessions))) (performed start (lent (sessions) (streams) (objects) (held)) (d) (sample) .tables .streams) (performed start (lent (sessions) (streams) (objects) (held)) (d) (sample) .tables .objects) (performed start (lent (sessions) (streams) (objects) (held)) (d) (sample) .tables .held) ((refl, sessions-back start id-low next-low (lent sessions streams objects held) d sample, refl, refl, refl)) (LL.owed Ran-t.the-type Ran-l.the-laws (performed start (lent (sessions) (streams) (objects) (held)) (d) (sample) .ran) _ is-19 .1 .1 .0) len-24-sessions len-19-streams len-19-objects len-19-held)
 
-    part-18-0 : (is-1 : Is (SessionCopy-p .row) noSession (SessionCopy-p .val noSession ∷ [])) → (asks-7 : (256 ≤ length (sessions)) × (256 ≤ length ((replicate 256 noSession)))) → (v-7-8 : Val) → (ais-7-8 : Is (Array SessionCopy-t.the-row 256) (copied sessionCopy [] sessionSpot 256 (sessions) ((replicate 256 noSession))) (v-7-8 ∷ [])) → (is-7 : Is (unit-p .row) tt (unit-p .val tt ∷ [])) → (asks-17 : resumesFit (start .resumes) (length (sample)) ≡ true) → (len-17-sessions : length (performed start (lent (sessions) (streams) (objects)) (d) (sample) .tables .sessions) ≡ n₁) → (len-17-streams : length (performed start (lent (sessions) (streams) (objects)) (d) (sample) .tables .streams) ≡ n₂) → (len-17-objects : length (performed start (lent (sessions) (streams) (objects)) (d) (sample) .tables .objects) ≡ n₃) → (v-17-9 : Val) → (ais-17-9 : Is (Array u8 2) (putReplies ((replicate {A = ℕ} 2 0)) 0 (performed start (lent (sessions) (streams) (objects)) (d) (sample) .replies)) (v-17-9 ∷ [])) → (is-17 : Is (Ran-p .row) (performed start (lent (sessions) (streams) (objects)) (d) (sample) .ran) (Ran-p .val (performed start (lent (sessions) (streams) (objects)) (d) (sample) .ran) ∷ [])) → Sq W (‵ (MutSlice (named 0) κ₁ (Array u64 5) .own (at-list b₁ o₁ γ₁ (performed start (lent (sessions) (streams) (objects)) (d) (sample) .tables .sessions)) (sliceVal (b₁, o₁) n₁ ∷ [])) ∷ ‵ (flft κ₁ q₁) ∷ ‵ (MutSlice (named 0) κ₂ (Array u16 35) .own (at-list b₂ o₂ γ₂ (performed start (lent (sessions) (streams) (objects)) (d) (sample) .tables .streams)) (sliceVal (b₂, o₂) n₂ ∷ [])) ∷ ‵ (flft κ₂ q₂) ∷ ‵ (MutSlice (named 0) κ₃ Object-t.the-row .own (at-list b₃ o₃ γ₃ (performed start (lent (sessions) (streams) (objects)) (d) (sample) .tables .objects)) (sliceVal (b₃, o₃) n₃ ∷ [])) ∷ ‵ (flft κ₃ q₃) ∷ ‵ (ShrSlice (named 0) κ₄ u8 .own (at-list b₄ o₄ γ₄ d) (sliceVal (b₄, o₄) n₄ ∷ [])) ∷ ‵ (flft κ₄ q₄) ∷ ‵ (ShrSlice (named 0) κ₅ u8 .own (at-list b₅ o₅ γ₅ sample) (sliceVal (b₅, o₅) n₅ ∷ [])) ∷ ‵ (flft κ₅ q₅) ∷ free 𝓤 (sliceTy (tyRef erased mut (pointee ((Array u64 5) .written)))) l₂₇ (free 𝓤 (tyRef erased mut (pointee ((Array u64 5) .written))) l₂₆ (free 𝓤 (sliceTy (tyRef erased imm (pointee (SessionCopy-t.the-row .written)))) l₂₅ (free 𝓤 (tyRef erased imm (pointee ((Array SessionCopy-t.the-row 256) .written))) l₂₄ (full 𝓤 (sliceTy (tyRef erased mut (pointee (u8 .written)))) l₂₃ (sliceVal (l₉, 0) 2) (full 𝓤 (tyRef erased mut (pointee ((Array u8 2) .written))) l₂₂ (vptr l₉ 0) (full 𝓤 (sliceTy (tyRef erased mut (pointee (Object-t.the-row .written)))) l₂₁ (sliceVal (b₃, o₃) n₃) (full 𝓤 (tyRef erased mut (pointee (Object-t.the-row .written))) l₂₀ (vptr b₃ o₃) (full 𝓤 (sliceTy (tyRef erased mut (pointee ((Array u16 35) .written)))) l₁₉ (sliceVal (b₂, o₂) n₂) (full 𝓤 (tyRef erased mut (pointee ((Array u16 35) .written))) l₁₈ (vptr b₂ o₂) (full 𝓤 (sliceTy (tyRef erased mut (pointee ((Array u64 5) .written)))) l₁₇ (sliceVal (b₁, o₁) n₁) (full 𝓤 (tyRef erased mut (pointee ((Array u64 5) .written))) l₁₆ (vptr b₁ o₁) (full 𝓤 (sliceTy (tyRef erased mut (pointee (SessionCopy-t.the-row .written)))) l₁₅ (sliceVal (l₈, 0) 256) (full 𝓤 (tyRef erased mut (pointee ((Array SessionCopy-t.the-row 256) .written))) l₁₄ (vptr l₈ 0) (full 𝓤 (sliceTy (tyRef erased imm (pointee ((Array u64 5) .written)))) l₁₃ (sliceVal (b₁, o₁) n₁) (full 𝓤 (tyRef erased imm (pointee ((Array u64 5) .written))) l₁₂ (vptr b₁ o₁) (full 𝓤 tyUnit l₁₁ (unit-p .val tt) (full 𝓤 Ran-l.mir l₁₀ (Ran-p .val (performed start (lent (sessions) (streams) (objects)) (d) (sample) .ran)) (full 𝓤 (tyArray (tyInt w8) 2) l₉ v-17-9 (full 𝓤 (tyArray SessionCopy-l.mir 256) l₈ v-7-8 (full 𝓤 SessionCopy-l.mir l₇ (SessionCopy-p .val noSession) (full 𝓤 Start-l.mir l₆ (Start-p .val start) (full 𝓤 (sliceTy (tyRef (named 4) imm (pointee (u8 .written)))) l₅ (sliceVal (b₅, o₅) n₅) (full 𝓤 (sliceTy (tyRef (named 3) imm (pointee (u8 .written)))) l₄ (sliceVal (b₄, o₄) n₄) (full 𝓤 (sliceTy (tyRef (named 2) mut (pointee (Object-t.the-row .written)))) l₃ (sliceVal (b₃, o₃) n₃) (full 𝓤 (sliceTy (tyRef (named 1) mut (pointee ((Array u16 35) .written)))) l₂ (sliceVal (b₂, o₂) n₂) (full 𝓤 (sliceTy (tyRef (named 0) mut (pointee ((Array u64 5) .written)))) l₁ (sliceVal (b₁, o₁) n₁) (free 𝓤 (tyInt w64) l₀ ([]))))))))))))))))))))))))))))) (runs C Λ En mir.t-18 (atRet En Post))
-    part-18-0 is-1 asks-7 v-7-8 ais-7-8 is-7 asks-17 len-17-sessions len-17-streams len-17-objects v-17-9 ais-17-9 is-17 =
-        assigns ! (addr ! (from ! (stop !))) (from ! (stop !)) (init ! 16 refl (tt, tt)) $
-        assigns ! (agg ! (and-then ! (load ! (from ! (stop !)) (look ! 16 refl)) (and-then ! (lit ! tt) (no-more !)))) (from ! (stop !)) (init ! 14 refl (tt, (tt, (record { fits = lit< tt }, tt)))) $
-        assigns ! (addr ! (from ! (fld ! refl (hop ! (look-in ! 62 (sub ! 0 refl (whole !))) (stop !))))) (from ! (stop !)) (init ! 12 refl (tt, tt)) $
-        assigns ! (agg ! (and-then ! (load ! (from ! (stop !)) (look ! 12 refl)) (and-then ! (load ! (from ! (fld ! refl (stop !))) (look-in ! 62 (sub ! 1 refl (whole !)))) (no-more !)))) (from ! (stop !)) (init ! 10 refl (tt, (tt, (record { fits = room₁ .0 }, tt)))) $
-        knows ! ((256 ≤ length ((copied sessionCopy [] sessionSpot 256 (sessions) ((replicate 256 noSession))))) × (256 ≤ length ((performed start (lent (sessions) (streams) (objects)) (d) (sample) .tables .sessions)))) ((copied-long sessionCopy [] sessionSpot sessions 256 noSession, sessions-long start id-low next-low (lent sessions streams objects) d sample (within .1))) (λ asks-22.
-        -- 22: agent::dry::restore_sessions
-        move ! (48 ∷ []) $
-        lends-array ! tt SessionCopy-t.the-row tt (SessionCopy-p .makes 𝓤 H A W) (SessionCopy-p .ty) 256 refl l₈ (copied sessionCopy [] sessionSpot 256 (sessions) ((replicate 256 noSession))) _ ais-7-8 (lit< tt, lit< tt) (λ ν-22-8 δ-22-8 llen-22-8.
+    part-20-0 : (is-1 : Is (SessionCopy-p .row) noSession (SessionCopy-p .val noSession ∷ [])) → (asks-7 : (256 ≤ length (sessions)) × (256 ≤ length ((replicate 256 noSession)))) → (v-7-9 : Val) → (ais-7-9 : Is (Array SessionCopy-t.the-row 256) (copied sessionCopy [] sessionSpot 256 (sessions) ((replicate 256 noSession))) (v-7-9 ∷ [])) → (is-7 : Is (unit-p .row) tt (unit-p .val tt ∷ [])) → (asks-19 : (resumesFit (start .resumes) (start .frame .«stream_id») (length (sample)) ≡ true) × (start .frame .room ≤ 9223372036854775807)) → (len-19-sessions : length (performed start (lent (sessions) (streams) (objects) (held)) (d) (sample) .tables .sessions) ≡ n₁) → (len-19-streams : length (performed start (lent (sessions) (streams) (objects) (held)) (d) (sample) .tables .streams) ≡ n₂) → (len-19-objects : length (performed start (lent (sessions) (streams) (objects) (held)) (d) (sample) .tables .objects) ≡ n₃) → (len-19-held : length (performed start (lent (sessions) (streams) (objects) (held)) (d) (sample) .tables .held) ≡ n₄) → (v-19-10 : Val) → (ais-19-10 : Is (Array u8 2) (putReplies (start .frame .room) ((replicate {A = ℕ} 2 0)) 0 (performed start (lent (sessions) (streams) (objects) (held)) (d) (sample) .replies)) (v-19-10 ∷ [])) → (is-19 : Is (Ran-p .row) (performed start (lent (sessions) (streams) (objects) (held)) (d) (sample) .ran) (Ran-p .val (performed start (lent (sessions) (streams) (objects) (held)) (d) (sample) .ran) ∷ [])) → Sq W (‵ (MutSlice (named 0) κ₁ (Array u64 6) .own (at-list b₁ o₁ γ₁ (performed start (lent (sessions) (streams) (objects) (held)) (d) (sample) .tables .sessions)) (sliceVal (b₁, o₁) n₁ ∷ [])) ∷ ‵ (flft κ₁ q₁) ∷ ‵ (MutSlice (named 0) κ₂ (Array u16 35) .own (at-list b₂ o₂ γ₂ (performed start (lent (sessions) (streams) (objects) (held)) (d) (sample) .tables .streams)) (sliceVal (b₂, o₂) n₂ ∷ [])) ∷ ‵ (flft κ₂ q₂) ∷ ‵ (MutSlice (named 0) κ₃ Object-t.the-row .own (at-list b₃ o₃ γ₃ (performed start (lent (sessions) (streams) (objects) (held)) (d) (sample) .tables .objects)) (sliceVal (b₃, o₃) n₃ ∷ [])) ∷ ‵ (flft κ₃ q₃) ∷ ‵ (MutSlice (named 0) κ₄ u8 .own (at-list b₄ o₄ γ₄ (performed start (lent (sessions) (streams) (objects) (held)) (d) (sample) .tables .held)) (sliceVal (b₄, o₄) n₄ ∷ [])) ∷ ‵ (flft κ₄ q₄) ∷ ‵ (ShrSlice (named 0) κ₅ u8 .own (at-list b₅ o₅ γ₅ d) (sliceVal (b₅, o₅) n₅ ∷ [])) ∷ ‵ (flft κ₅ q₅) ∷ ‵ (ShrSlice (named 0) κ₆ u8 .own (at-list b₆ o₆ γ₆ sample) (sliceVal (b₆, o₆) n₆ ∷ [])) ∷ ‵ (flft κ₆ q₆) ∷ free 𝓤 (sliceTy (tyRef erased mut (pointee ((Array u64 6) .written)))) l₃₀ (free 𝓤 (tyRef erased mut (pointee ((Array u64 6) .written))) l₂₉ (free 𝓤 (sliceTy (tyRef erased imm (pointee (SessionCopy-t.the-row .written)))) l₂₈ (free 𝓤 (tyRef erased imm (pointee ((Array SessionCopy-t.the-row 256) .written))) l₂₇ (full 𝓤 (sliceTy (tyRef erased mut (pointee (u8 .written)))) l₂₆ (sliceVal (l₁₀, 0) 2) (full 𝓤 (tyRef erased mut (pointee ((Array u8 2) .written))) l₂₅ (vptr l₁₀ 0) (full 𝓤 (sliceTy (tyRef erased mut (pointee (u8 .written)))) l₂₄ (sliceVal (b₄, o₄) n₄) (full 𝓤 (tyRef erased mut (pointee (u8 .written))) l₂₃ (vptr b₄ o₄) (full 𝓤 (sliceTy (tyRef erased mut (pointee (Object-t.the-row .written)))) l₂₂ (sliceVal (b₃, o₃) n₃) (full 𝓤 (tyRef erased mut (pointee (Object-t.the-row .written))) l₂₁ (vptr b₃ o₃) (full 𝓤 (sliceTy (tyRef erased mut (pointee ((Array u16 35) .written)))) l₂₀ (sliceVal (b₂, o₂) n₂) (full 𝓤 (tyRef erased mut (pointee ((Array u16 35) .written))) l₁₉ (vptr b₂ o₂) (full 𝓤 (sliceTy (tyRef erased mut (pointee ((Array u64 6) .written)))) l₁₈ (sliceVal (b₁, o₁) n₁) (full 𝓤 (tyRef erased mut (pointee ((Array u64 6) .written))) l₁₇ (vptr b₁ o₁) (full 𝓤 (sliceTy (tyRef erased mut (pointee (SessionCopy-t.the-row .written)))) l₁₆ (sliceVal (l₉, 0) 256) (full 𝓤 (tyRef erased mut (pointee ((Array SessionCopy-t.the-row 256) .written))) l₁₅ (vptr l₉ 0) (full 𝓤 (sliceTy (tyRef erased imm (pointee ((Array u64 6) .written)))) l₁₄ (sliceVal (b₁, o₁) n₁) (full 𝓤 (tyRef erased imm (pointee ((Array u64 6) .written))) l₁₃ (vptr b₁ o₁) (full 𝓤 tyUnit l₁₂ (unit-p .val tt) (full 𝓤 Ran-l.mir l₁₁ (Ran-p .val (performed start (lent (sessions) (streams) (objects) (held)) (d) (sample) .ran)) (full 𝓤 (tyArray (tyInt w8) 2) l₁₀ v-19-10 (full 𝓤 (tyArray SessionCopy-l.mir 256) l₉ v-7-9 (full 𝓤 SessionCopy-l.mir l₈ (SessionCopy-p .val noSession) (full 𝓤 Start-l.mir l₇ (Start-p .val start) (full 𝓤 (sliceTy (tyRef (named 5) imm (pointee (u8 .written)))) l₆ (sliceVal (b₆, o₆) n₆) (full 𝓤 (sliceTy (tyRef (named 4) imm (pointee (u8 .written)))) l₅ (sliceVal (b₅, o₅) n₅) (full 𝓤 (sliceTy (tyRef (named 3) mut (pointee (u8 .written)))) l₄ (sliceVal (b₄, o₄) n₄) (full 𝓤 (sliceTy (tyRef (named 2) mut (pointee (Object-t.the-row .written)))) l₃ (sliceVal (b₃, o₃) n₃) (full 𝓤 (sliceTy (tyRef (named 1) mut (pointee ((Array u16 35) .written)))) l₂ (sliceVal (b₂, o₂) n₂) (full 𝓤 (sliceTy (tyRef (named 0) mut (pointee ((Array u64 6) .written)))) l₁ (sliceVal (b₁, o₁) n₁) (free 𝓤 (tyInt w64) l₀ ([])))))))))))))))))))))))))))))))) (runs C Λ En mir.t-20 (atRet En Post))
+    part-20-0 is-1 asks-7 v-7-9 ais-7-9 is-7 asks-19 len-19-sessions len-19-streams len-19-objects len-19-held v-19-10 ais-19-10 is-19 =
+        assigns ! (addr ! (from ! (stop !))) (from ! (stop !)) (init ! 18 refl (tt, tt)) $
+        assigns ! (agg ! (and-then ! (load ! (from ! (stop !)) (look ! 18 refl)) (and-then ! (lit ! tt) (no-more !)))) (from ! (stop !)) (init ! 16 refl (tt, (tt, (record { fits = lit< tt }, tt)))) $
+        assigns ! (addr ! (from ! (fld ! refl (hop ! (look-in ! 70 (sub ! 0 refl (whole !))) (stop !))))) (from ! (stop !)) (init ! 14 refl (tt, tt)) $
+        assigns ! (agg ! (and-then ! (load ! (from ! (stop !)) (look ! 14 refl)) (and-then ! (load ! (from ! (fld ! refl (stop !))) (look-in ! 70 (sub ! 1 refl (whole !)))) (no-more !)))) (from ! (stop !)) (init ! 12 refl (tt, (tt, (record { fits = room₁ .0 }, tt)))) $
+        knows ! ((256 ≤ length ((copied sessionCopy [] sessionSpot 256 (sessions) ((replicate 256 noSession))))) × (256 ≤ length ((performed start (lent (sessions) (streams) (objects) (held)) (d) (sample) .tables .sessions)))) ((copied-long sessionCopy [] sessionSpot sessions 256 noSession, sessions-long start id-low next-low (lent sessions streams objects held) d sample (within .2))) (λ asks-24.
+        -- 24: agent::dry::restore_sessions
+        move ! (54 ∷ []) $
+        lends-array ! tt SessionCopy-t.the-row tt (SessionCopy-p .makes 𝓤 H A W) (SessionCopy-p .ty) 256 refl l₉ (copied sessionCopy [] sessionSpot 256 (sessions) ((replicate 256 noSession))) _ ais-7-9 (lit< tt, lit< tt) (λ ν-24-9 δ-24-9 llen-24-9.
         move ! (1 ∷ 0 ∷ []) $
-        lends-view ! tt SessionCopy-t.the-row l₈ 0 (copied sessionCopy [] sessionSpot 256 (sessions) ((replicate 256 noSession))) 256 llen-22-8 (λ ν2-22-8 δ2-22-8.
+        lends-view ! tt SessionCopy-t.the-row l₉ 0 (copied sessionCopy [] sessionSpot 256 (sessions) ((replicate 256 noSession))) 256 llen-24-9 (λ ν2-24-9 δ2-24-9.
         move ! (4 ∷ 5 ∷ []) $
-        lends-mut ! tt (Array u64 5) b₁ o₁ (performed start (lent (sessions) (streams) (objects)) (d) (sample) .tables .sessions) n₁ (len-17-sessions) (λ ν-22-sessions δ-22-sessions.
+        lends-mut ! tt (Array u64 6) b₁ o₁ (performed start (lent (sessions) (streams) (objects) (held)) (d) (sample) .tables .sessions) n₁ (len-19-sessions) (λ ν-24-sessions δ-24-sessions.
         nothing ! $ move ! (1 ∷ 0 ∷ []) $ join ! $ move ! (3 ∷ 0 ∷ []) $ join ! $
-        use1 W (raw (toks 𝓤 A 2 (((ν2-22-8 ∷ []), ((ν-22-sessions ∷ []), tt))) ((fullShare, (fullShare, tt))))) (id⊢ 𝓤 _) $ nothing ! $
+        use1 W (raw (toks 𝓤 A 2 (((ν2-24-9 ∷ []), ((ν-24-sessions ∷ []), tt))) ((fullShare, (fullShare, tt))))) (id⊢ 𝓤 _) $ nothing ! $
         owned ! (u64-p .row) (Is (u64-p .row)) (u64-p .makes 𝓤 H A W) 256 (u64-p .val 256 ∷ []) ((refl, lit< tt)) $ fjoin ! $ move ! (2 ∷ 0 ∷ []) $ fjoin ! $ move ! (3 ∷ 0 ∷ []) $ fjoin ! $ move ! (1 ∷ 0 ∷ []) $
-        calls-any ! fm 2 [] (dry-restore-sessions.signature .params) (dry-restore-sessions.ended .kept) unit-p (dry-restore-sessions.clauses 𝓤 H A mem run) known-dry-restore-sessions ((ν2-22-8 ∷ []), ((ν-22-sessions ∷ []), tt)) (fullShare, (fullShare, tt)) tt (at-list l₈ 0 δ2-22-8 (copied sessionCopy [] sessionSpot 256 (sessions) ((replicate 256 noSession))), (at-list b₁ o₁ δ-22-sessions (performed start (lent (sessions) (streams) (objects)) (d) (sample) .tables .sessions), (256, tt))) (sliceVal (l₈, 0) 256 ∷ [], (sliceVal (b₁, o₁) n₁ ∷ [], (u64-p .val 256 ∷ [], tt))) tt tt (λ ws-22. (ws-22 .1 .0 ≡ restored sessionBack noSession sessionSpot 256 ((copied sessionCopy [] sessionSpot 256 (sessions) ((replicate 256 noSession)))) ((performed start (lent (sessions) (streams) (objects)) (d) (sample) .tables .sessions)))) (factI 𝓤 ((256 ≤ length ((copied sessionCopy [] sessionSpot 256 (sessions) ((replicate 256 noSession))))) × (256 ≤ length ((performed start (lent (sessions) (streams) (objects)) (d) (sample) .tables .sessions)))) _ asks-22) (λ r ws-22. fact-mono 𝓤 ((ws-22 .1 .0) ≡ restored sessionBack noSession sessionSpot 256 ((copied sessionCopy [] sessionSpot 256 (sessions) ((replicate 256 noSession)))) ((performed start (lent (sessions) (streams) (objects)) (d) (sample) .tables .sessions))) ((r ≡ tt) × ((ws-22 .1 .0 ≡ restored sessionBack noSession sessionSpot 256 ((copied sessionCopy [] sessionSpot 256 (sessions) ((replicate 256 noSession)))) ((performed start (lent (sessions) (streams) (objects)) (d) (sample) .tables .sessions))))) (λ e. (refl, e))) (λ _. (and-then ! (load ! (from ! (stop !)) (look ! 16 refl)) (and-then ! (load ! (from ! (stop !)) (look ! 12 refl)) (and-then ! (lit ! tt) (no-more !))))) (λ ws-22 said-22 is-22.
-        use1 W ((‵ (flft (ν2-22-8 ∷ []) fullShare) ⊛ (‵ (flft (ν-22-sessions ∷ []) fullShare) ⊛ ‵ ftrue))) (id⊢ 𝓤 _) $ split ! $ move ! (1 ∷ []) $ split ! $ move ! (3 ∷ []) $ fsplit ! $ move ! (1 ∷ []) $ fsplit ! $ fsplit ! $ move ! (1 ∷ []) $
-        feqL ! (λ wlen-22-1.
+        calls-any ! fm 2 [] (dry-restore-sessions.signature .params) (dry-restore-sessions.ended .kept) unit-p (dry-restore-sessions.clauses 𝓤 H A mem run) known-dry-restore-sessions ((ν2-24-9 ∷ []), ((ν-24-sessions ∷ []), tt)) (fullShare, (fullShare, tt)) tt (at-list l₉ 0 δ2-24-9 (copied sessionCopy [] sessionSpot 256 (sessions) ((replicate 256 noSession))), (at-list b₁ o₁ δ-24-sessions (performed start (lent (sessions) (streams) (objects) (held)) (d) (sample) .tables .sessions), (256, tt))) (sliceVal (l₉, 0) 256 ∷ [], (sliceVal (b₁, o₁) n₁ ∷ [], (u64-p .val 256 ∷ [], tt))) tt tt (λ ws-24. (ws-24 .1 .0 ≡ restored sessionBack noSession sessionSpot 256 ((copied sessionCopy [] sessionSpot 256 (sessions) ((replicate 256 noSession)))) ((performed start (lent (sessions) (streams) (objects) (held)) (d) (sample) .tables .sessions)))) (factI 𝓤 ((256 ≤ length ((copied sessionCopy [] sessionSpot 256 (sessions) ((replicate 256 noSession))))) × (256 ≤ length ((performed start (lent (sessions) (streams) (objects) (held)) (d) (sample) .tables .sessions)))) _ asks-24) (λ r ws-24. fact-mono 𝓤 ((ws-24 .1 .0) ≡ restored sessionBack noSession sessionSpot 256 ((copied sessionCopy [] sessionSpot 256 (sessions) ((replicate 256 noSession)))) ((performed start (lent (sessions) (streams) (objects) (held)) (d) (sample) .tables .sessions))) ((r ≡ tt) × ((ws-24 .1 .0 ≡ restored sessionBack noSession sessionSpot 256 ((copied sessionCopy [] sessionSpot 256 (sessions) ((replicate 256 noSession)))) ((performed start (lent (sessions) (streams) (objects) (held)) (d) (sample) .tables .sessions))))) (λ e. (refl, e))) (λ _. (and-then ! (load ! (from ! (stop !)) (look ! 18 refl)) (and-then ! (load ! (from ! (stop !)) (look ! 14 refl)) (and-then ! (lit ! tt) (no-more !))))) (λ ws-24 said-24 is-24.
+        use1 W ((‵ (flft (ν2-24-9 ∷ []) fullShare) ⊛ (‵ (flft (ν-24-sessions ∷ []) fullShare) ⊛ ‵ ftrue))) (id⊢ 𝓤 _) $ split ! $ move ! (1 ∷ []) $ split ! $ move ! (3 ∷ []) $ fsplit ! $ move ! (1 ∷ []) $ fsplit ! $ fsplit ! $ move ! (1 ∷ []) $
+        feqL ! (λ wlen-24-1.
         move ! (5 ∷ 7 ∷ []) $
-        backs-view ! tt SessionCopy-t.the-row l₈ 0 (copied sessionCopy [] sessionSpot 256 (sessions) ((replicate 256 noSession))) 256 llen-22-8 ν2-22-8 $
-        ends-mut ! SessionCopy-t.the-row l₈ 0 (copied sessionCopy [] sessionSpot 256 (sessions) ((replicate 256 noSession))) 256 $ move ! (0 ∷ 8 ∷ 1 ∷ []) $
-        backs-array ! tt SessionCopy-t.the-row (SessionCopy-p .ty) 256 refl l₈ ν-22-8 δ-22-8 (copied sessionCopy [] sessionSpot 256 (sessions) ((replicate 256 noSession))) (λ v-22-8 vis-22-8.
+        backs-view ! tt SessionCopy-t.the-row l₉ 0 (copied sessionCopy [] sessionSpot 256 (sessions) ((replicate 256 noSession))) 256 llen-24-9 ν2-24-9 $
+        ends-mut ! SessionCopy-t.the-row l₉ 0 (copied sessionCopy [] sessionSpot 256 (sessions) ((replicate 256 noSession))) 256 $ move ! (0 ∷ 8 ∷ 1 ∷ []) $
+        backs-array ! tt SessionCopy-t.the-row (SessionCopy-p .ty) 256 refl l₉ ν-24-9 δ-24-9 (copied sessionCopy [] sessionSpot 256 (sessions) ((replicate 256 noSession))) (λ v-24-9 vis-24-9.
         move ! (4 ∷ 6 ∷ 1 ∷ []) $
-        backs-mut ! tt (Array u64 5) b₁ o₁ (performed start (lent (sessions) (streams) (objects)) (d) (sample) .tables .sessions) n₁ (len-17-sessions) room₁ ν-22-sessions δ-22-sessions (ws-22 .1 .0) (restored sessionBack noSession sessionSpot 256 ((copied sessionCopy [] sessionSpot 256 (sessions) ((replicate 256 noSession)))) ((performed start (lent (sessions) (streams) (objects)) (d) (sample) .tables .sessions))) wlen-22-1 (said-22) (λ len-22-sessions.
+        backs-mut ! tt (Array u64 6) b₁ o₁ (performed start (lent (sessions) (streams) (objects) (held)) (d) (sample) .tables .sessions) n₁ (len-19-sessions) room₁ ν-24-sessions δ-24-sessions (ws-24 .1 .0) (restored sessionBack noSession sessionSpot 256 ((copied sessionCopy [] sessionSpot 256 (sessions) ((replicate 256 noSession)))) ((performed start (lent (sessions) (streams) (objects) (held)) (d) (sample) .tables .sessions))) wlen-24-1 (said-24) (λ len-24-sessions.
         move ! (3 ∷ []) $ drop ! $ move ! (3 ∷ []) $ drop ! $ move ! (3 ∷ []) $ drop ! $
-        land ! (from ! (stop !)) (store ! 43 refl (unit-p .typed 𝓤 H A W tt is-22)) $ move ! (0 ∷ 1 ∷ 3 ∷ 4 ∷ 5 ∷ 6 ∷ 7 ∷ 8 ∷ 9 ∷ 10 ∷ 11 ∷ 12 ∷ 13 ∷ 14 ∷ 15 ∷ 16 ∷ 17 ∷ 18 ∷ 19 ∷ 20 ∷ 21 ∷ 22 ∷ 23 ∷ 24 ∷ 25 ∷ 26 ∷ 27 ∷ 28 ∷ 29 ∷ 30 ∷ 31 ∷ 32 ∷ 33 ∷ 34 ∷ 35 ∷ 36 ∷ 37 ∷ 38 ∷ 39 ∷ 40 ∷ 41 ∷ 42 ∷ 43 ∷ 44 ∷ 45 ∷ 46 ∷ 47 ∷ 48 ∷ 2 ∷ 49 ∷ 50 ∷ 51 ∷ 52 ∷ 53 ∷ 54 ∷ 55 ∷ 56 ∷ 57 ∷ 58 ∷ 59 ∷ 60 ∷ 61 ∷ 62 ∷ 63 ∷ 64 ∷ 65 ∷ []) $
-        part-23-0 is-1 asks-7 v-7-8 ais-7-8 is-7 asks-17 len-17-sessions len-17-streams len-17-objects v-17-9 ais-17-9 is-17 asks-22 v-22-8 vis-22-8 len-22-sessions is-22))))))))
+        land ! (from ! (stop !)) (store ! 49 refl (unit-p .typed 𝓤 H A W tt is-24)) $ move ! (0 ∷ 1 ∷ 3 ∷ 4 ∷ 5 ∷ 6 ∷ 7 ∷ 8 ∷ 9 ∷ 10 ∷ 11 ∷ 12 ∷ 13 ∷ 14 ∷ 15 ∷ 16 ∷ 17 ∷ 18 ∷ 19 ∷ 20 ∷ 21 ∷ 22 ∷ 23 ∷ 24 ∷ 25 ∷ 26 ∷ 27 ∷ 28 ∷ 29 ∷ 30 ∷ 31 ∷ 32 ∷ 33 ∷ 34 ∷ 35 ∷ 36 ∷ 37 ∷ 38 ∷ 39 ∷ 40 ∷ 41 ∷ 42 ∷ 43 ∷ 44 ∷ 45 ∷ 46 ∷ 47 ∷ 48 ∷ 49 ∷ 50 ∷ 51 ∷ 52 ∷ 53 ∷ 54 ∷ 2 ∷ 55 ∷ 56 ∷ 57 ∷ 58 ∷ 59 ∷ 60 ∷ 61 ∷ 62 ∷ 63 ∷ 64 ∷ 65 ∷ 66 ∷ 67 ∷ 68 ∷ 69 ∷ 70 ∷ 71 ∷ 72 ∷ 73 ∷ []) $
+        part-25-0 is-1 asks-7 v-7-9 ais-7-9 is-7 asks-19 len-19-sessions len-19-streams len-19-objects len-19-held v-19-10 ais-19-10 is-19 asks-24 v-24-9 vis-24-9 len-24-sessions is-24))))))))
 
-    part-8-0 : (is-1 : Is (SessionCopy-p .row) noSession (SessionCopy-p .val noSession ∷ [])) → (asks-7 : (256 ≤ length (sessions)) × (256 ≤ length ((replicate 256 noSession)))) → (v-7-8 : Val) → (ais-7-8 : Is (Array SessionCopy-t.the-row 256) (copied sessionCopy [] sessionSpot 256 (sessions) ((replicate 256 noSession))) (v-7-8 ∷ [])) → (is-7 : Is (unit-p .row) tt (unit-p .val tt ∷ [])) → Sq W (‵ (MutSlice (named 0) κ₁ (Array u64 5) .own (at-list b₁ o₁ γ₁ sessions) (sliceVal (b₁, o₁) n₁ ∷ [])) ∷ ‵ (flft κ₁ q₁) ∷ ‵ (MutSlice (named 0) κ₂ (Array u16 35) .own (at-list b₂ o₂ γ₂ streams) (sliceVal (b₂, o₂) n₂ ∷ [])) ∷ ‵ (flft κ₂ q₂) ∷ ‵ (MutSlice (named 0) κ₃ Object-t.the-row .own (at-list b₃ o₃ γ₃ objects) (sliceVal (b₃, o₃) n₃ ∷ [])) ∷ ‵ (flft κ₃ q₃) ∷ ‵ (ShrSlice (named 0) κ₄ u8 .own (at-list b₄ o₄ γ₄ d) (sliceVal (b₄, o₄) n₄ ∷ [])) ∷ ‵ (flft κ₄ q₄) ∷ ‵ (ShrSlice (named 0) κ₅ u8 .own (at-list b₅ o₅ γ₅ sample) (sliceVal (b₅, o₅) n₅ ∷ [])) ∷ ‵ (flft κ₅ q₅) ∷ free 𝓤 (sliceTy (tyRef erased mut (pointee ((Array u64 5) .written)))) l₂₇ (free 𝓤 (tyRef erased mut (pointee ((Array u64 5) .written))) l₂₆ (free 𝓤 (sliceTy (tyRef erased imm (pointee (SessionCopy-t.the-row .written)))) l₂₅ (free 𝓤 (tyRef erased imm (pointee ((Array SessionCopy-t.the-row 256) .written))) l₂₄ (free 𝓤 (sliceTy (tyRef erased mut (pointee (u8 .written)))) l₂₃ (free 𝓤 (tyRef erased mut (pointee ((Array u8 2) .written))) l₂₂ (free 𝓤 (sliceTy (tyRef erased mut (pointee (Object-t.the-row .written)))) l₂₁ (free 𝓤 (tyRef erased mut (pointee (Object-t.the-row .written))) l₂₀ (free 𝓤 (sliceTy (tyRef erased mut (pointee ((Array u16 35) .written)))) l₁₉ (free 𝓤 (tyRef erased mut (pointee ((Array u16 35) .written))) l₁₈ (free 𝓤 (sliceTy (tyRef erased mut (pointee ((Array u64 5) .written)))) l₁₇ (free 𝓤 (tyRef erased mut (pointee ((Array u64 5) .written))) l₁₆ (full 𝓤 (sliceTy (tyRef erased mut (pointee (SessionCopy-t.the-row .written)))) l₁₅ (sliceVal (l₈, 0) 256) (full 𝓤 (tyRef erased mut (pointee ((Array SessionCopy-t.the-row 256) .written))) l₁₄ (vptr l₈ 0) (full 𝓤 (sliceTy (tyRef erased imm (pointee ((Array u64 5) .written)))) l₁₃ (sliceVal (b₁, o₁) n₁) (full 𝓤 (tyRef erased imm (pointee ((Array u64 5) .written))) l₁₂ (vptr b₁ o₁) (full 𝓤 tyUnit l₁₁ (unit-p .val tt) (free 𝓤 Ran-l.mir l₁₀ (free 𝓤 (tyArray (tyInt w8) 2) l₉ (full 𝓤 (tyArray SessionCopy-l.mir 256) l₈ v-7-8 (full 𝓤 SessionCopy-l.mir l₇ (SessionCopy-p .val noSession) (full 𝓤 Start-l.mir l₆ (Start-p .val start) (full 𝓤 (sliceTy (tyRef (named 4) imm (pointee (u8 .written)))) l₅ (sliceVal (b₅, o₅) n₅) (full 𝓤 (sliceTy (tyRef (named 3) imm (pointee (u8 .written)))) l₄ (sliceVal (b₄, o₄) n₄) (full 𝓤 (sliceTy (tyRef (named 2) mut (pointee (Object-t.the-row .written)))) l₃ (sliceVal (b₃, o₃) n₃) (full 𝓤 (sliceTy (tyRef (named 1) mut (pointee ((Array u16 35) .written)))) l₂ (sliceVal (b₂, o₂) n₂) (full 𝓤 (sliceTy (tyRef (named 0) mut (pointee ((Array u64 5) .written)))) l₁ (sliceVal (b₁, o₁) n₁) (free 𝓤 (tyInt w64) l₀ ([]))))))))))))))))))))))))))))) (runs C Λ En mir.t-8 (atRet En Post))
-    part-8-0 is-1 asks-7 v-7-8 ais-7-8 is-7 =
-        assigns ! (rep ! 2 (lit ! tt)) (from ! (stop !)) (init ! 46 refl (array-typed u8 (λ x vs p. uint-lawful 𝓤 H A W w8 .typed x vs p) 2 (replicate {A = ℕ} 2 0) _ (rep-is u8 2 0 (u8-p .val 0) ((refl, lit< tt))) .0)) $
-        assigns ! (addr ! (from ! (fld ! refl (hop ! (look-in ! 62 (sub ! 0 refl (whole !))) (stop !))))) (from ! (stop !)) (init ! 32 refl (tt, tt)) $
-        assigns ! (agg ! (and-then ! (load ! (from ! (stop !)) (look ! 32 refl)) (and-then ! (load ! (from ! (fld ! refl (stop !))) (look-in ! 62 (sub ! 1 refl (whole !)))) (no-more !)))) (from ! (stop !)) (init ! 30 refl (tt, (tt, (record { fits = room₁ .0 }, tt)))) $
-        assigns ! (addr ! (from ! (fld ! refl (hop ! (look-in ! 60 (sub ! 0 refl (whole !))) (stop !))))) (from ! (stop !)) (init ! 28 refl (tt, tt)) $
-        assigns ! (agg ! (and-then ! (load ! (from ! (stop !)) (look ! 28 refl)) (and-then ! (load ! (from ! (fld ! refl (stop !))) (look-in ! 60 (sub ! 1 refl (whole !)))) (no-more !)))) (from ! (stop !)) (init ! 26 refl (tt, (tt, (record { fits = room₂ .0 }, tt)))) $
-        assigns ! (addr ! (from ! (fld ! refl (hop ! (look-in ! 58 (sub ! 0 refl (whole !))) (stop !))))) (from ! (stop !)) (init ! 24 refl (tt, tt)) $
-        assigns ! (agg ! (and-then ! (load ! (from ! (stop !)) (look ! 24 refl)) (and-then ! (load ! (from ! (fld ! refl (stop !))) (look-in ! 58 (sub ! 1 refl (whole !)))) (no-more !)))) (from ! (stop !)) (init ! 22 refl (tt, (tt, (record { fits = room₃ .0 }, tt)))) $
-        assigns ! (addr ! (from ! (stop !))) (from ! (stop !)) (init ! 20 refl (tt, tt)) $
-        assigns ! (agg ! (and-then ! (load ! (from ! (stop !)) (look ! 20 refl)) (and-then ! (lit ! tt) (no-more !)))) (from ! (stop !)) (init ! 18 refl (tt, (tt, (record { fits = lit< tt }, tt)))) $
-        knows ! (resumesFit (start .resumes) (length (sample)) ≡ true) (within .0) (λ asks-17.
-        -- 17: agent::perform::perform
-        lends-mut ! tt (Array u64 5) b₁ o₁ sessions n₁ (refl) (λ ν-17-sessions δ-17-sessions.
+    part-8-0 : (is-1 : Is (SessionCopy-p .row) noSession (SessionCopy-p .val noSession ∷ [])) → (asks-7 : (256 ≤ length (sessions)) × (256 ≤ length ((replicate 256 noSession)))) → (v-7-9 : Val) → (ais-7-9 : Is (Array SessionCopy-t.the-row 256) (copied sessionCopy [] sessionSpot 256 (sessions) ((replicate 256 noSession))) (v-7-9 ∷ [])) → (is-7 : Is (unit-p .row) tt (unit-p .val tt ∷ [])) → Sq W (‵ (MutSlice (named 0) κ₁ (Array u64 6) .own (at-list b₁ o₁ γ₁ sessions) (sliceVal (b₁, o₁) n₁ ∷ [])) ∷ ‵ (flft κ₁ q₁) ∷ ‵ (MutSlice (named 0) κ₂ (Array u16 35) .own (at-list b₂ o₂ γ₂ streams) (sliceVal (b₂, o₂) n₂ ∷ [])) ∷ ‵ (flft κ₂ q₂) ∷ ‵ (MutSlice (named 0) κ₃ Object-t.the-row .own (at-list b₃ o₃ γ₃ objects) (sliceVal (b₃, o₃) n₃ ∷ [])) ∷ ‵ (flft κ₃ q₃) ∷ ‵ (MutSlice (named 0) κ₄ u8 .own (at-list b₄ o₄ γ₄ held) (sliceVal (b₄, o₄) n₄ ∷ [])) ∷ ‵ (flft κ₄ q₄) ∷ ‵ (ShrSlice (named 0) κ₅ u8 .own (at-list b₅ o₅ γ₅ d) (sliceVal (b₅, o₅) n₅ ∷ [])) ∷ ‵ (flft κ₅ q₅) ∷ ‵ (ShrSlice (named 0) κ₆ u8 .own (at-list b₆ o₆ γ₆ sample) (sliceVal (b₆, o₆) n₆ ∷ [])) ∷ ‵ (flft κ₆ q₆) ∷ free 𝓤 (sliceTy (tyRef erased mut (pointee ((Array u64 6) .written)))) l₃₀ (free 𝓤 (tyRef erased mut (pointee ((Array u64 6) .written))) l₂₉ (free 𝓤 (sliceTy (tyRef erased imm (pointee (SessionCopy-t.the-row .written)))) l₂₈ (free 𝓤 (tyRef erased imm (pointee ((Array SessionCopy-t.the-row 256) .written))) l₂₇ (free 𝓤 (sliceTy (tyRef erased mut (pointee (u8 .written)))) l₂₆ (free 𝓤 (tyRef erased mut (pointee ((Array u8 2) .written))) l₂₅ (free 𝓤 (sliceTy (tyRef erased mut (pointee (u8 .written)))) l₂₄ (free 𝓤 (tyRef erased mut (pointee (u8 .written))) l₂₃ (free 𝓤 (sliceTy (tyRef erased mut (pointee (Object-t.the-row .written)))) l₂₂ (free 𝓤 (tyRef erased mut (pointee (Object-t.the-row .written))) l₂₁ (free 𝓤 (sliceTy (tyRef erased mut (pointee ((Array u16 35) .written)))) l₂₀ (free 𝓤 (tyRef erased mut (pointee ((Array u16 35) .written))) l₁₉ (free 𝓤 (sliceTy (tyRef erased mut (pointee ((Array u64 6) .written)))) l₁₈ (free 𝓤 (tyRef erased mut (pointee ((Array u64 6) .written))) l₁₇ (full 𝓤 (sliceTy (tyRef erased mut (pointee (SessionCopy-t.the-row .written)))) l₁₆ (sliceVal (l₉, 0) 256) (full 𝓤 (tyRef erased mut (pointee ((Array SessionCopy-t.the-row 256) .written))) l₁₅ (vptr l₉ 0) (full 𝓤 (sliceTy (tyRef erased imm (pointee ((Array u64 6) .written)))) l₁₄ (sliceVal (b₁, o₁) n₁) (full 𝓤 (tyRef erased imm (pointee ((Array u64 6) .written))) l₁₃ (vptr b₁ o₁) (full 𝓤 tyUnit l₁₂ (unit-p .val tt) (free 𝓤 Ran-l.mir l₁₁ (free 𝓤 (tyArray (tyInt w8) 2) l₁₀ (full 𝓤 (tyArray SessionCopy-l.mir 256) l₉ v-7-9 (full 𝓤 SessionCopy-l.mir l₈ (SessionCopy-p .val noSession) (full 𝓤 Start-l.mir l₇ (Start-p .val start) (full 𝓤 (sliceTy (tyRef (named 5) imm (pointee (u8 .written)))) l₆ (sliceVal (b₆, o₆) n₆) (full 𝓤 (sliceTy (tyRef (named 4) imm (pointee (u8 .written)))) l₅ (sliceVal (b₅, o₅) n₅) (full 𝓤 (sliceTy (tyRef (named 3) mut (pointee (u8 .written)))) l₄ (sliceVal (b₄, o₄) n₄) (full 𝓤 (sliceTy (tyRef (named 2) mut (pointee (Object-t.the-row .written)))) l₃ (sliceVal (b₃, o₃) n₃) (full 𝓤 (sliceTy (tyRef (named 1) mut (pointee ((Array u16 35) .written)))) l₂ (sliceVal (b₂, o₂) n₂) (full 𝓤 (sliceTy (tyRef (named 0) mut (pointee ((Array u64 6) .written)))) l₁ (sliceVal (b₁, o₁) n₁) (free 𝓤 (tyInt w64) l₀ ([])))))))))))))))))))))))))))))))) (runs C Λ En mir.t-8 (atRet En Post))
+    part-8-0 is-1 asks-7 v-7-9 ais-7-9 is-7 =
+        assigns ! (rep ! 2 (lit ! tt)) (from ! (stop !)) (init ! 52 refl (array-typed u8 (λ x vs p. uint-lawful 𝓤 H A W w8 .typed x vs p) 2 (replicate {A = ℕ} 2 0) _ (rep-is u8 2 0 (u8-p .val 0) ((refl, lit< tt))) .0)) $
+        assigns ! (addr ! (from ! (fld ! refl (hop ! (look-in ! 70 (sub ! 0 refl (whole !))) (stop !))))) (from ! (stop !)) (init ! 38 refl (tt, tt)) $
+        assigns ! (agg ! (and-then ! (load ! (from ! (stop !)) (look ! 38 refl)) (and-then ! (load ! (from ! (fld ! refl (stop !))) (look-in ! 70 (sub ! 1 refl (whole !)))) (no-more !)))) (from ! (stop !)) (init ! 36 refl (tt, (tt, (record { fits = room₁ .0 }, tt)))) $
+        assigns ! (addr ! (from ! (fld ! refl (hop ! (look-in ! 68 (sub ! 0 refl (whole !))) (stop !))))) (from ! (stop !)) (init ! 34 refl (tt, tt)) $
+        assigns ! (agg ! (and-then ! (load ! (from ! (stop !)) (look ! 34 refl)) (and-then ! (load ! (from ! (fld ! refl (stop !))) (look-in ! 68 (sub ! 1 refl (whole !)))) (no-more !)))) (from ! (stop !)) (init ! 32 refl (tt, (tt, (record { fits = room₂ .0 }, tt)))) $
+        assigns ! (addr ! (from ! (fld ! refl (hop ! (look-in ! 66 (sub ! 0 refl (whole !))) (stop !))))) (from ! (stop !)) (init ! 30 refl (tt, tt)) $
+        assigns ! (agg ! (and-then ! (load ! (from ! (stop !)) (look ! 30 refl)) (and-then ! (load ! (from ! (fld ! refl (stop !))) (look-in ! 66 (sub ! 1 refl (whole !)))) (no-more !)))) (from ! (stop !)) (init ! 28 refl (tt, (tt, (record { fits = room₃ .0 }, tt)))) $
+        assigns ! (addr ! (from ! (fld ! refl (hop ! (look-in ! 64 (sub ! 0 refl (whole !))) (stop !))))) (from ! (stop !)) (init ! 26 refl (tt, tt)) $
+        assigns ! (agg ! (and-then ! (load ! (from ! (stop !)) (look ! 26 refl)) (and-then ! (load ! (from ! (fld ! refl (stop !))) (look-in ! 64 (sub ! 1 refl (whole !)))) (no-more !)))) (from ! (stop !)) (init ! 24 refl (tt, (tt, (record { fits = room₄ .0 }, tt)))) $
+        assigns ! (addr ! (from ! (stop !))) (from ! (stop !)) (init ! 22 refl (tt, tt)) $
+        assigns ! (agg ! (and-then ! (load ! (from ! (stop !)) (look ! 22 refl)) (and-then ! (lit ! tt) (no-more !)))) (from ! (stop !)) (init ! 20 refl (tt, (tt, (record { fits = lit< tt }, tt)))) $
+        knows ! ((resumesFit (start .resumes) (start .frame .«stream_id») (length (sample)) ≡ true) × (start .frame .room ≤ 9223372036854775807)) ((within .0, within .1)) (λ asks-19.
+        -- 19: agent::perform::perform
+        lends-mut ! tt (Array u64 6) b₁ o₁ sessions n₁ (refl) (λ ν-19-sessions δ-19-sessions.
         move ! (3 ∷ 4 ∷ []) $
-        lends-mut ! tt (Array u16 35) b₂ o₂ streams n₂ (refl) (λ ν-17-streams δ-17-streams.
+        lends-mut ! tt (Array u16 35) b₂ o₂ streams n₂ (refl) (λ ν-19-streams δ-19-streams.
         move ! (6 ∷ 7 ∷ []) $
-        lends-mut ! tt Object-t.the-row b₃ o₃ objects n₃ (refl) (λ ν-17-objects δ-17-objects.
-        move ! (49 ∷ []) $
-        lends-array ! tt u8 tt (u8-p .makes 𝓤 H A W) (u8-p .ty) 2 refl l₉ (replicate {A = ℕ} 2 0) _ (rep-is u8 2 0 (u8-p .val 0) ((refl, lit< tt))) (lit< tt, lit< tt) (λ ν-17-9 δ-17-9 llen-17-9.
-        move ! (12 ∷ 13 ∷ []) $
-        copies-shr ! u8 b₄ o₄ d n₄ $ move ! (15 ∷ 16 ∷ []) $
-        copies-shr ! u8 b₅ o₅ sample n₅ $ nothing ! $ move ! (1 ∷ 0 ∷ []) $ join ! $ move ! (3 ∷ 0 ∷ []) $ join ! $ move ! (5 ∷ 0 ∷ []) $ join ! $ move ! (7 ∷ 0 ∷ []) $ join ! $ move ! (9 ∷ 0 ∷ []) $ join ! $ move ! (11 ∷ 0 ∷ []) $ join ! $
-        use1 W (raw (toks 𝓤 A 6 (((ν-17-sessions ∷ []), ((ν-17-streams ∷ []), ((ν-17-objects ∷ []), ((ν-17-9 ∷ []), (κ₄, (κ₅, tt))))))) ((fullShare, (fullShare, (fullShare, (fullShare, (q₄, (q₅, tt))))))))) (id⊢ 𝓤 _) $ nothing ! $
-        owned ! (Start-p .row) (Is (Start-p .row)) (Start-p .makes 𝓤 H A W) start (Start-p .val start ∷ []) start-is $ fjoin ! $ move ! (2 ∷ 0 ∷ []) $ fjoin ! $ move ! (3 ∷ 0 ∷ []) $ fjoin ! $ move ! (4 ∷ 0 ∷ []) $ fjoin ! $ move ! (5 ∷ 0 ∷ []) $ fjoin ! $ move ! (6 ∷ 0 ∷ []) $ fjoin ! $ move ! (7 ∷ 0 ∷ []) $ fjoin ! $ move ! (1 ∷ 0 ∷ []) $
-        calls-any ! fm 6 [] (perform-perform.signature .params) (perform-perform.ended .kept) Ran-p (perform-perform.clauses 𝓤 H A mem run) known-perform-perform ((ν-17-sessions ∷ []), ((ν-17-streams ∷ []), ((ν-17-objects ∷ []), ((ν-17-9 ∷ []), (κ₄, (κ₅, tt)))))) (fullShare, (fullShare, (fullShare, (fullShare, (q₄, (q₅, tt)))))) tt (at-list b₁ o₁ δ-17-sessions sessions, (at-list b₂ o₂ δ-17-streams streams, (at-list b₃ o₃ δ-17-objects objects, (at-list l₉ 0 δ-17-9 (replicate {A = ℕ} 2 0), (at-list b₄ o₄ γ₄ d, (at-list b₅ o₅ γ₅ sample, (start, tt))))))) (sliceVal (b₁, o₁) n₁ ∷ [], (sliceVal (b₂, o₂) n₂ ∷ [], (sliceVal (b₃, o₃) n₃ ∷ [], (sliceVal (l₉, 0) 2 ∷ [], (sliceVal (b₄, o₄) n₄ ∷ [], (sliceVal (b₅, o₅) n₅ ∷ [], (Start-p .val start ∷ [], tt))))))) tt (performed start (lent (sessions) (streams) (objects)) (d) (sample) .ran) (λ ws-17. (ws-17 .0 ≡ performed start (lent (sessions) (streams) (objects)) (d) (sample) .tables .sessions) × (ws-17 .1 .0 ≡ performed start (lent (sessions) (streams) (objects)) (d) (sample) .tables .streams) × (ws-17 .1 .1 .0 ≡ performed start (lent (sessions) (streams) (objects)) (d) (sample) .tables .objects) × (ws-17 .1 .1 .1 .0 ≡ putReplies ((replicate {A = ℕ} 2 0)) 0 (performed start (lent (sessions) (streams) (objects)) (d) (sample) .replies))) (factI 𝓤 (resumesFit (start .resumes) (length (sample)) ≡ true) _ asks-17) (λ r ws-17. fact-mono 𝓤 ((r ≡ performed start (lent (sessions) (streams) (objects)) (d) (sample) .ran) × ((ws-17 .0) ≡ performed start (lent (sessions) (streams) (objects)) (d) (sample) .tables .sessions) × ((ws-17 .1 .0) ≡ performed start (lent (sessions) (streams) (objects)) (d) (sample) .tables .streams) × ((ws-17 .1 .1 .0) ≡ performed start (lent (sessions) (streams) (objects)) (d) (sample) .tables .objects) × ((ws-17 .1 .1 .1 .0) ≡ putReplies ((replicate {A = ℕ} 2 0)) 0 (performed start (lent (sessions) (streams) (objects)) (d) (sample) .replies))) ((r ≡ (performed start (lent (sessions) (streams) (objects)) (d) (sample) .ran)) × ((ws-17 .0 ≡ performed start (lent (sessions) (streams) (objects)) (d) (sample) .tables .sessions) × (ws-17 .1 .0 ≡ performed start (lent (sessions) (streams) (objects)) (d) (sample) .tables .streams) × (ws-17 .1 .1 .0 ≡ performed start (lent (sessions) (streams) (objects)) (d) (sample) .tables .objects) × (ws-17 .1 .1 .1 .0 ≡ putReplies ((replicate {A = ℕ} 2 0)) 0 (performed start (lent (sessions) (streams) (objects)) (d) (sample) .replies)))) (λ e. (e .0, (e .1, e .2, e .3, e .4)))) (λ _. (and-then ! (load ! (from ! (stop !)) (look ! 27 refl)) (and-then ! (load ! (from ! (stop !)) (look ! 23 refl)) (and-then ! (load ! (from ! (stop !)) (look ! 19 refl)) (and-then ! (load ! (from ! (stop !)) (look ! 15 refl)) (and-then ! (load ! (from ! (stop !)) (look ! 52 refl)) (and-then ! (load ! (from ! (stop !)) (look ! 50 refl)) (and-then ! (load ! (from ! (stop !)) (look ! 48 refl)) (no-more !))))))))) (λ ws-17 said-17 is-17.
-        use1 W ((‵ (flft (ν-17-sessions ∷ []) fullShare) ⊛ (‵ (flft (ν-17-streams ∷ []) fullShare) ⊛ (‵ (flft (ν-17-objects ∷ []) fullShare) ⊛ (‵ (flft (ν-17-9 ∷ []) fullShare) ⊛ (‵ (flft κ₄ q₄) ⊛ (‵ (flft κ₅ q₅) ⊛ ‵ ftrue))))))) (id⊢ 𝓤 _) $ split ! $ move ! (1 ∷ []) $ split ! $ move ! (1 ∷ []) $ split ! $ move ! (1 ∷ []) $ split ! $ move ! (1 ∷ []) $ split ! $ move ! (1 ∷ []) $ split ! $ move ! (7 ∷ []) $ fsplit ! $ fsplit ! $ move ! (1 ∷ []) $
-        feqL ! (λ wlen-17-0.
+        lends-mut ! tt Object-t.the-row b₃ o₃ objects n₃ (refl) (λ ν-19-objects δ-19-objects.
+        move ! (9 ∷ 10 ∷ []) $
+        lends-mut ! tt u8 b₄ o₄ held n₄ (refl) (λ ν-19-held δ-19-held.
+        move ! (56 ∷ []) $
+        lends-array ! tt u8 tt (u8-p .makes 𝓤 H A W) (u8-p .ty) 2 refl l₁₀ (replicate {A = ℕ} 2 0) _ (rep-is u8 2 0 (u8-p .val 0) ((refl, lit< tt))) (lit< tt, lit< tt) (λ ν-19-10 δ-19-10 llen-19-10.
+        move ! (15 ∷ 16 ∷ []) $
+        copies-shr ! u8 b₅ o₅ d n₅ $ move ! (18 ∷ 19 ∷ []) $
+        copies-shr ! u8 b₆ o₆ sample n₆ $ nothing ! $ move ! (1 ∷ 0 ∷ []) $ join ! $ move ! (3 ∷ 0 ∷ []) $ join ! $ move ! (5 ∷ 0 ∷ []) $ join ! $ move ! (7 ∷ 0 ∷ []) $ join ! $ move ! (9 ∷ 0 ∷ []) $ join ! $ move ! (11 ∷ 0 ∷ []) $ join ! $ move ! (13 ∷ 0 ∷ []) $ join ! $
+        use1 W (raw (toks 𝓤 A 7 (((ν-19-sessions ∷ []), ((ν-19-streams ∷ []), ((ν-19-objects ∷ []), ((ν-19-held ∷ []), ((ν-19-10 ∷ []), (κ₅, (κ₆, tt)))))))) ((fullShare, (fullShare, (fullShare, (fullShare, (fullShare, (q₅, (q₆, tt)))))))))) (id⊢ 𝓤 _) $ nothing ! $
+        owned ! (Start-p .row) (Is (Start-p .row)) (Start-p .makes 𝓤 H A W) start (Start-p .val start ∷ []) start-is $ fjoin ! $ move ! (2 ∷ 0 ∷ []) $ fjoin ! $ move ! (3 ∷ 0 ∷ []) $ fjoin ! $ move ! (4 ∷ 0 ∷ []) $ fjoin ! $ move ! (5 ∷ 0 ∷ []) $ fjoin ! $ move ! (6 ∷ 0 ∷ []) $ fjoin ! $ move ! (7 ∷ 0 ∷ []) $ fjoin ! $ move ! (8 ∷ 0 ∷ []) $ fjoin ! $ move ! (1 ∷ 0 ∷ []) $
+        calls-any ! fm 7 [] (perform-perform.signature .params) (perform-perform.ended .kept) Ran-p (perform-perform.clauses 𝓤 H A mem run) known-perform-perform ((ν-19-sessions ∷ []), ((ν-19-streams ∷ []), ((ν-19-objects ∷ []), ((ν-19-held ∷ []), ((ν-19-10 ∷ []), (κ₅, (κ₆, tt))))))) (fullShare, (fullShare, (fullShare, (fullShare, (fullShare, (q₅, (q₆, tt))))))) tt (at-list b₁ o₁ δ-19-sessions sessions, (at-list b₂ o₂ δ-19-streams streams, (at-list b₃ o₃ δ-19-objects objects, (at-list b₄ o₄ δ-19-held held, (at-list l₁₀ 0 δ-19-10 (replicate {A = ℕ} 2 0), (at-list b₅ o₅ γ₅ d, (at-list b₆ o₆ γ₆ sample, (start, tt)))))))) (sliceVal (b₁, o₁) n₁ ∷ [], (sliceVal (b₂, o₂) n₂ ∷ [], (sliceVal (b₃, o₃) n₃ ∷ [], (sliceVal (b₄, o₄) n₄ ∷ [], (sliceVal (l₁₀, 0) 2 ∷ [], (sliceVal (b₅, o₅) n₅ ∷ [], (sliceVal (b₆, o₆) n₆ ∷ [], (Start-p .val start ∷ [], tt)))))))) tt (performed start (lent (sessions) (streams) (objects) (held)) (d) (sample) .ran) (λ ws-19. (ws-19 .0 ≡ performed start (lent (sessions) (streams) (objects) (held)) (d) (sample) .tables .sessions) × (ws-19 .1 .0 ≡ performed start (lent (sessions) (streams) (objects) (held)) (d) (sample) .tables .streams) × (ws-19 .1 .1 .0 ≡ performed start (lent (sessions) (streams) (objects) (held)) (d) (sample) .tables .objects) × (ws-19 .1 .1 .1 .0 ≡ performed start (lent (sessions) (streams) (objects) (held)) (d) (sample) .tables .held) × (ws-19 .1 .1 .1 .1 .0 ≡ putReplies (start .frame .room) ((replicate {A = ℕ} 2 0)) 0 (performed start (lent (sessions) (streams) (objects) (held)) (d) (sample) .replies))) (factI 𝓤 ((resumesFit (start .resumes) (start .frame .«stream_id») (length (sample)) ≡ true) × (start .frame .room ≤ 9223372036854775807)) _ asks-19) (λ r ws-19. fact-mono 𝓤 ((r ≡ performed start (lent (sessions) (streams) (objects) (held)) (d) (sample) .ran) × ((ws-19 .0) ≡ performed start (lent (sessions) (streams) (objects) (held)) (d) (sample) .tables .sessions) × ((ws-19 .1 .0) ≡ performed start (lent (sessions) (streams) (objects) (held)) (d) (sample) .tables .streams) × ((ws-19 .1 .1 .0) ≡ performed start (lent (sessions) (streams) (objects) (held)) (d) (sample) .tables .objects) × ((ws-19 .1 .1 .1 .0) ≡ performed start (lent (sessions) (streams) (objects) (held)) (d) (sample) .tables .held) × ((ws-19 .1 .1 .1 .1 .0) ≡ putReplies (start .frame .room) ((replicate {A = ℕ} 2 0)) 0 (performed start (lent (sessions) (streams) (objects) (held)) (d) (sample) .replies))) ((r ≡ (performed start (lent (sessions) (streams) (objects) (held)) (d) (sample) .ran)) × ((ws-19 .0 ≡ performed start (lent (sessions) (streams) (objects) (held)) (d) (sample) .tables .sessions) × (ws-19 .1 .0 ≡ performed start (lent (sessions) (streams) (objects) (held)) (d) (sample) .tables .streams) × (ws-19 .1 .1 .0 ≡ performed start (lent (sessions) (streams) (objects) (held)) (d) (sample) .tables .objects) × (ws-19 .1 .1 .1 .0 ≡ performed start (lent (sessions) (streams) (objects) (held)) (d) (sample) .tables .held) × (ws-19 .1 .1 .1 .1 .0 ≡ putReplies (start .frame .room) ((replicate {A = ℕ} 2 0)) 0 (performed start (lent (sessions) (streams) (objects) (held)) (d) (sample) .replies)))) (λ e. (e .0, (e .1, e .2, e .3, e .4, e .5)))) (λ _. (and-then ! (load ! (from ! (stop !)) (look ! 32 refl)) (and-then ! (load ! (from ! (stop !)) (look ! 28 refl)) (and-then ! (load ! (from ! (stop !)) (look ! 24 refl)) (and-then ! (load ! (from ! (stop !)) (look ! 20 refl)) (and-then ! (load ! (from ! (stop !)) (look ! 16 refl)) (and-then ! (load ! (from ! (stop !)) (look ! 57 refl)) (and-then ! (load ! (from ! (stop !)) (look ! 55 refl)) (and-then ! (load ! (from ! (stop !)) (look ! 53 refl)) (no-more !)))))))))) (λ ws-19 said-19 is-19.
+        use1 W ((‵ (flft (ν-19-sessions ∷ []) fullShare) ⊛ (‵ (flft (ν-19-streams ∷ []) fullShare) ⊛ (‵ (flft (ν-19-objects ∷ []) fullShare) ⊛ (‵ (flft (ν-19-held ∷ []) fullShare) ⊛ (‵ (flft (ν-19-10 ∷ []) fullShare) ⊛ (‵ (flft κ₅ q₅) ⊛ (‵ (flft κ₆ q₆) ⊛ ‵ ftrue)))))))) (id⊢ 𝓤 _) $ split ! $ move ! (1 ∷ []) $ split ! $ move ! (1 ∷ []) $ split ! $ move ! (1 ∷ []) $ split ! $ move ! (1 ∷ []) $ split ! $ move ! (1 ∷ []) $ split ! $ move ! (1 ∷ []) $ split ! $ move ! (8 ∷ []) $ fsplit ! $ fsplit ! $ move ! (1 ∷ []) $
+        feqL ! (λ wlen-19-0.
         move ! (1 ∷ []) $ fsplit ! $ fsplit ! $ move ! (1 ∷ []) $
-        feqL ! (λ wlen-17-1.
+        feqL ! (λ wlen-19-1.
         move ! (1 ∷ []) $ fsplit ! $ fsplit ! $ move ! (1 ∷ []) $
-        feqL ! (λ wlen-17-2.
+        feqL ! (λ wlen-19-2.
         move ! (1 ∷ []) $ fsplit ! $ fsplit ! $ move ! (1 ∷ []) $
-        feqL ! (λ wlen-17-3.
-        move ! (1 ∷ []) $ fsplit ! $ move ! (1 ∷ []) $ fsplit ! $ move ! (13 ∷ 19 ∷ 6 ∷ []) $
-        backs-mut ! tt (Array u64 5) b₁ o₁ sessions n₁ (refl) room₁ ν-17-sessions δ-17-sessions (ws-17 .0) (performed start (lent (sessions) (streams) (objects)) (d) (sample) .tables .sessions) wlen-17-0 (said-17 .0) (λ len-17-sessions.
-        move ! (13 ∷ 18 ∷ 7 ∷ []) $
-        backs-mut ! tt (Array u16 35) b₂ o₂ streams n₂ (refl) room₂ ν-17-streams δ-17-streams (ws-17 .1 .0) (performed start (lent (sessions) (streams) (objects)) (d) (sample) .tables .streams) wlen-17-1 (said-17 .1) (λ len-17-streams.
-        move ! (13 ∷ 17 ∷ 8 ∷ []) $
-        backs-mut ! tt Object-t.the-row b₃ o₃ objects n₃ (refl) room₃ ν-17-objects δ-17-objects (ws-17 .1 .1 .0) (performed start (lent (sessions) (streams) (objects)) (d) (sample) .tables .objects) wlen-17-2 (said-17 .2) (λ len-17-objects.
-        move ! (13 ∷ 16 ∷ 9 ∷ []) $
-        backs-array ! tt u8 (u8-p .ty) 2 refl l₉ ν-17-9 δ-17-9 (ws-17 .1 .1 .1 .0) (λ v-17-9 vis-17-9.
-        knows ! (Is (Array u8 2) (putReplies ((replicate {A = ℕ} 2 0)) 0 (performed start (lent (sessions) (streams) (objects)) (d) (sample) .replies)) (v-17-9 ∷ [])) (subst (λ (us : List ℕ). Is (Array u8 2) us (v-17-9 ∷ [])) (said-17 .3) vis-17-9) (λ ais-17-9.
-        move ! (7 ∷ []) $ drop ! $ move ! (7 ∷ []) $ drop ! $ move ! (7 ∷ []) $ drop ! $ move ! (8 ∷ []) $ drop ! $
-        land ! (from ! (stop !)) (init ! 45 refl (Ran-p .typed 𝓤 H A W (performed start (lent (sessions) (streams) (objects)) (d) (sample) .ran) is-17)) $ move ! (5 ∷ 6 ∷ 3 ∷ 4 ∷ 1 ∷ 2 ∷ 10 ∷ 8 ∷ 9 ∷ 7 ∷ 11 ∷ 12 ∷ 13 ∷ 14 ∷ 15 ∷ 16 ∷ 17 ∷ 18 ∷ 19 ∷ 20 ∷ 21 ∷ 22 ∷ 23 ∷ 24 ∷ 25 ∷ 26 ∷ 27 ∷ 28 ∷ 29 ∷ 30 ∷ 31 ∷ 32 ∷ 33 ∷ 34 ∷ 35 ∷ 36 ∷ 37 ∷ 38 ∷ 39 ∷ 40 ∷ 41 ∷ 42 ∷ 43 ∷ 44 ∷ 45 ∷ 46 ∷ 0 ∷ 47 ∷ 48 ∷ 49 ∷ 50 ∷ 51 ∷ 52 ∷ 53 ∷ 54 ∷ 55 ∷ 56 ∷ 57 ∷ 58 ∷ 59 ∷ 60 ∷ 61 ∷ 62 ∷ 63 ∷ 64 ∷ 65 ∷ []) $
-        part-18-0 is-1 asks-7 v-7-8 ais-7-8 is-7 asks-17 len-17-sessions len-17-streams len-17-objects v-17-9 ais-17-9 is-17)))))))))))))))
+        feqL ! (λ wlen-19-3.
+        move ! (1 ∷ []) $ fsplit ! $ fsplit ! $ move ! (1 ∷ []) $
+        feqL ! (λ wlen-19-4.
+        move ! (1 ∷ []) $ fsplit ! $ move ! (1 ∷ []) $ fsplit ! $ move ! (15 ∷ 22 ∷ 7 ∷ []) $
+        backs-mut ! tt (Array u64 6) b₁ o₁ sessions n₁ (refl) room₁ ν-19-sessions δ-19-sessions (ws-19 .0) (performed start (lent (sessions) (streams) (objects) (held)) (d) (sample) .tables .sessions) wlen-19-0 (said-19 .0) (λ len-19-sessions.
+        move ! (15 ∷ 21 ∷ 8 ∷ []) $
+        backs-mut ! tt (Array u16 35) b₂ o₂ streams n₂ (refl) room₂ ν-19-streams δ-19-streams (ws-19 .1 .0) (performed start (lent (sessions) (streams) (objects) (held)) (d) (sample) .tables .streams) wlen-19-1 (said-19 .1) (λ len-19-streams.
+        move ! (15 ∷ 20 ∷ 9 ∷ []) $
+        backs-mut ! tt Object-t.the-row b₃ o₃ objects n₃ (refl) room₃ ν-19-objects δ-19-objects (ws-19 .1 .1 .0) (performed start (lent (sessions) (streams) (objects) (held)) (d) (sample) .tables .objects) wlen-19-2 (said-19 .2) (λ len-19-objects.
+        move ! (15 ∷ 19 ∷ 10 ∷ []) $
+        backs-mut ! tt u8 b₄ o₄ held n₄ (refl) room₄ ν-19-held δ-19-held (ws-19 .1 .1 .1 .0) (performed start (lent (sessions) (streams) (objects) (held)) (d) (sample) .tables .held) wlen-19-3 (said-19 .3) (λ len-19-held.
+        move ! (15 ∷ 18 ∷ 11 ∷ []) $
+        backs-array ! tt u8 (u8-p .ty) 2 refl l₁₀ ν-19-10 δ-19-10 (ws-19 .1 .1 .1 .1 .0) (λ v-19-10 vis-19-10.
+        knows ! (Is (Array u8 2) (putReplies (start .frame .room) ((replicate {A = ℕ} 2 0)) 0 (performed start (lent (sessions) (streams) (objects) (held)) (d) (sample) .replies)) (v-19-10 ∷ [])) (subst (λ (us : List ℕ). Is (Array u8 2) us (v-19-10 ∷ [])) (said-19 .4) vis-19-10) (λ ais-19-10.
+        move ! (9 ∷ []) $ drop ! $ move ! (9 ∷ []) $ drop ! $ move ! (9 ∷ []) $ drop ! $ move ! (10 ∷ []) $ drop ! $
+        land ! (from ! (stop !)) (init ! 51 refl (Ran-p .typed 𝓤 H A W (performed start (lent (sessions) (streams) (objects) (held)) (d) (sample) .ran) is-19)) $ move ! (7 ∷ 8 ∷ 5 ∷ 6 ∷ 3 ∷ 4 ∷ 1 ∷ 2 ∷ 12 ∷ 10 ∷ 11 ∷ 9 ∷ 13 ∷ 14 ∷ 15 ∷ 16 ∷ 17 ∷ 18 ∷ 19 ∷ 20 ∷ 21 ∷ 22 ∷ 23 ∷ 24 ∷ 25 ∷ 26 ∷ 27 ∷ 28 ∷ 29 ∷ 30 ∷ 31 ∷ 32 ∷ 33 ∷ 34 ∷ 35 ∷ 36 ∷ 37 ∷ 38 ∷ 39 ∷ 40 ∷ 41 ∷ 42 ∷ 43 ∷ 44 ∷ 45 ∷ 46 ∷ 47 ∷ 48 ∷ 49 ∷ 50 ∷ 51 ∷ 52 ∷ 0 ∷ 53 ∷ 54 ∷ 55 ∷ 56 ∷ 57 ∷ 58 ∷ 59 ∷ 60 ∷ 61 ∷ 62 ∷ 63 ∷ 64 ∷ 65 ∷ 66 ∷ 67 ∷ 68 ∷ 69 ∷ 70 ∷ 71 ∷ 72 ∷ 73 ∷ []) $
+        part-20-0 is-1 asks-7 v-7-9 ais-7-9 is-7 asks-19 len-19-sessions len-19-streams len-19-objects len-19-held v-19-10 ais-19-10 is-19))))))))))))))))))
 
-    part-2-0 : (is-1 : Is (SessionCopy-p .row) noSession (SessionCopy-p .val noSession ∷ [])) → Sq W (‵ (MutSlice (named 0) κ₁ (Array u64 5) .own (at-list b₁ o₁ γ₁ sessions) (sliceVal (b₁, o₁) n₁ ∷ [])) ∷ ‵ (flft κ₁ q₁) ∷ ‵ (MutSlice (named 0) κ₂ (Array u16 35) .own (at-list b₂ o₂ γ₂ streams) (sliceVal (b₂, o₂) n₂ ∷ [])) ∷ ‵ (flft κ₂ q₂) ∷ ‵ (MutSlice (named 0) κ₃ Object-t.the-row .own (at-list b₃ o₃ γ₃ objects) (sliceVal (b₃, o₃) n₃ ∷ [])) ∷ ‵ (flft κ₃ q₃) ∷ ‵ (ShrSlice (named 0) κ₄ u8 .own (at-list b₄ o₄ γ₄ d) (sliceVal (b₄, o₄) n₄ ∷ [])) ∷ ‵ (flft κ₄ q₄) ∷ ‵ (ShrSlice (named 0) κ₅ u8 .own (at-list b₅ o₅ γ₅ sample) (sliceVal (b₅, o₅) n₅ ∷ [])) ∷ ‵ (flft κ₅ q₅) ∷ free 𝓤 (sliceTy (tyRef erased mut (pointee ((Array u64 5) .written)))) l₂₇ (free 𝓤 (tyRef erased mut (pointee ((Array u64 5) .written))) l₂₆ (free 𝓤 (sliceTy (tyRef erased imm (pointee (SessionCopy-t.the-row .written)))) l₂₅ (free 𝓤 (tyRef erased imm (pointee ((Array SessionCopy-t.the-row 256) .written))) l₂₄ (free 𝓤 (sliceTy (tyRef erased mut (pointee (u8 .written)))) l₂₃ (free 𝓤 (tyRef erased mut (pointee ((Array u8 2) .written))) l₂₂ (free 𝓤 (sliceTy (tyRef erased mut (pointee (Object-t.the-row .written)))) l₂₁ (free 𝓤 (tyRef erased mut (pointee (Object-t.the-row .written))) l₂₀ (free 𝓤 (sliceTy (tyRef erased mut (pointee ((Array u16 35) .written)))) l₁₉ (free 𝓤 (tyRef erased mut (pointee ((Array u16 35) .written))) l₁₈ (free 𝓤 (sliceTy (tyRef erased mut (pointee ((Array u64 5) .written)))) l₁₇ (free 𝓤 (tyRef erased mut (pointee ((Array u64 5) .written))) l₁₆ (free 𝓤 (sliceTy (tyRef erased mut (pointee (SessionCopy-t.the-row .written)))) l₁₅ (free 𝓤 (tyRef erased mut (pointee ((Array SessionCopy-t.the-row 256) .written))) l₁₄ (free 𝓤 (sliceTy (tyRef erased imm (pointee ((Array u64 5) .written)))) l₁₃ (free 𝓤 (tyRef erased imm (pointee ((Array u64 5) .written))) l₁₂ (free 𝓤 tyUnit l₁₁ (free 𝓤 Ran-l.mir l₁₀ (free 𝓤 (tyArray (tyInt w8) 2) l₉ (free 𝓤 (tyArray SessionCopy-l.mir 256) l₈ (full 𝓤 SessionCopy-l.mir l₇ (SessionCopy-p .val noSession) (full 𝓤 Start-l.mir l₆ (Start-p .val start) (full 𝓤 (sliceTy (tyRef (named 4) imm (pointee (u8 .written)))) l₅ (sliceVal (b₅, o₅) n₅) (full 𝓤 (sliceTy (tyRef (named 3) imm (pointee (u8 .written)))) l₄ (sliceVal (b₄, o₄) n₄) (full 𝓤 (sliceTy (tyRef (named 2) mut (pointee (Object-t.the-row .written)))) l₃ (sliceVal (b₃, o₃) n₃) (full 𝓤 (sliceTy (tyRef (named 1) mut (pointee ((Array u16 35) .written)))) l₂ (sliceVal (b₂, o₂) n₂) (full 𝓤 (sliceTy (tyRef (named 0) mut (pointee ((Array u64 5) .written)))) l₁ (sliceVal (b₁, o₁) n₁) (free 𝓤 (tyInt w64) l₀ ([]))))))))))))))))))))))))))))) (runs C Λ En mir.t-2 (atRet En Post))
+    part-2-0 : (is-1 : Is (SessionCopy-p .row) noSession (SessionCopy-p .val noSession ∷ [])) → Sq W (‵ (MutSlice (named 0) κ₁ (Array u64 6) .own (at-list b₁ o₁ γ₁ sessions) (sliceVal (b₁, o₁) n₁ ∷ [])) ∷ ‵ (flft κ₁ q₁) ∷ ‵ (MutSlice (named 0) κ₂ (Array u16 35) .own (at-list b₂ o₂ γ₂ streams) (sliceVal (b₂, o₂) n₂ ∷ [])) ∷ ‵ (flft κ₂ q₂) ∷ ‵ (MutSlice (named 0) κ₃ Object-t.the-row .own (at-list b₃ o₃ γ₃ objects) (sliceVal (b₃, o₃) n₃ ∷ [])) ∷ ‵ (flft κ₃ q₃) ∷ ‵ (MutSlice (named 0) κ₄ u8 .own (at-list b₄ o₄ γ₄ held) (sliceVal (b₄, o₄) n₄ ∷ [])) ∷ ‵ (flft κ₄ q₄) ∷ ‵ (ShrSlice (named 0) κ₅ u8 .own (at-list b₅ o₅ γ₅ d) (sliceVal (b₅, o₅) n₅ ∷ [])) ∷ ‵ (flft κ₅ q₅) ∷ ‵ (ShrSlice (named 0) κ₆ u8 .own (at-list b₆ o₆ γ₆ sample) (sliceVal (b₆, o₆) n₆ ∷ [])) ∷ ‵ (flft κ₆ q₆) ∷ free 𝓤 (sliceTy (tyRef erased mut (pointee ((Array u64 6) .written)))) l₃₀ (free 𝓤 (tyRef erased mut (pointee ((Array u64 6) .written))) l₂₉ (free 𝓤 (sliceTy (tyRef erased imm (pointee (SessionCopy-t.the-row .written)))) l₂₈ (free 𝓤 (tyRef erased imm (pointee ((Array SessionCopy-t.the-row 256) .written))) l₂₇ (free 𝓤 (sliceTy (tyRef erased mut (pointee (u8 .written)))) l₂₆ (free 𝓤 (tyRef erased mut (pointee ((Array u8 2) .written))) l₂₅ (free 𝓤 (sliceTy (tyRef erased mut (pointee (u8 .written)))) l₂₄ (free 𝓤 (tyRef erased mut (pointee (u8 .written))) l₂₃ (free 𝓤 (sliceTy (tyRef erased mut (pointee (Object-t.the-row .written)))) l₂₂ (free 𝓤 (tyRef erased mut (pointee (Object-t.the-row .written))) l₂₁ (free 𝓤 (sliceTy (tyRef erased mut (pointee ((Array u16 35) .written)))) l₂₀ (free 𝓤 (tyRef erased mut (pointee ((Array u16 35) .written))) l₁₉ (free 𝓤 (sliceTy (tyRef erased mut (pointee ((Array u64 6) .written)))) l₁₈ (free 𝓤 (tyRef erased mut (pointee ((Array u64 6) .written))) l₁₇ (free 𝓤 (sliceTy (tyRef erased mut (pointee (SessionCopy-t.the-row .written)))) l₁₆ (free 𝓤 (tyRef erased mut (pointee ((Array SessionCopy-t.the-row 256) .written))) l₁₅ (free 𝓤 (sliceTy (tyRef erased imm (pointee ((Array u64 6) .written)))) l₁₄ (free 𝓤 (tyRef erased imm (pointee ((Array u64 6) .written))) l₁₃ (free 𝓤 tyUnit l₁₂ (free 𝓤 Ran-l.mir l₁₁ (free 𝓤 (tyArray (tyInt w8) 2) l₁₀ (free 𝓤 (tyArray SessionCopy-l.mir 256) l₉ (full 𝓤 SessionCopy-l.mir l₈ (SessionCopy-p .val noSession) (full 𝓤 Start-l.mir l₇ (Start-p .val start) (full 𝓤 (sliceTy (tyRef (named 5) imm (pointee (u8 .written)))) l₆ (sliceVal (b₆, o₆) n₆) (full 𝓤 (sliceTy (tyRef (named 4) imm (pointee (u8 .written)))) l₅ (sliceVal (b₅, o₅) n₅) (full 𝓤 (sliceTy (tyRef (named 3) mut (pointee (u8 .written)))) l₄ (sliceVal (b₄, o₄) n₄) (full 𝓤 (sliceTy (tyRef (named 2) mut (pointee (Object-t.the-row .written)))) l₃ (sliceVal (b₃, o₃) n₃) (full 𝓤 (sliceTy (tyRef (named 1) mut (pointee ((Array u16 35) .written)))) l₂ (sliceVal (b₂, o₂) n₂) (full 𝓤 (sliceTy (tyRef (named 0) mut (pointee ((Array u64 6) .written)))) l₁ (sliceVal (b₁, o₁) n₁) (free 𝓤 (tyInt w64) l₀ ([])))))))))))))))))))))))))))))))) (runs C Λ En mir.t-2 (atRet En Post))
     part-2-0 is-1 =
-        assigns ! (rep ! 256 (load ! (from ! (stop !)) (look ! 50 refl))) (from ! (stop !)) (init ! 48 refl (array-typed SessionCopy-t.the-row (λ x vs p. LL.lawful SessionCopy-t.the-type SessionCopy-l.the-laws 𝓤 H A W .typed x vs p) 256 (replicate 256 noSession) _ (rep-is SessionCopy-t.the-row 256 noSession (SessionCopy-p .val noSession) is-1) .0)) $
-        assigns ! (addr ! (from ! (fld ! refl (hop ! (look-in ! 62 (sub ! 0 refl (whole !))) (stop !))))) (from ! (stop !)) (init ! 40 refl (tt, tt)) $
-        assigns ! (agg ! (and-then ! (load ! (from ! (stop !)) (look ! 40 refl)) (and-then ! (load ! (from ! (fld ! refl (stop !))) (look-in ! 62 (sub ! 1 refl (whole !)))) (no-more !)))) (from ! (stop !)) (init ! 38 refl (tt, (tt, (record { fits = room₁ .0 }, tt)))) $
-        assigns ! (addr ! (from ! (stop !))) (from ! (stop !)) (init ! 36 refl (tt, tt)) $
-        assigns ! (agg ! (and-then ! (load ! (from ! (stop !)) (look ! 36 refl)) (and-then ! (lit ! tt) (no-more !)))) (from ! (stop !)) (init ! 34 refl (tt, (tt, (record { fits = lit< tt }, tt)))) $
-        knows ! ((256 ≤ length (sessions)) × (256 ≤ length ((replicate 256 noSession)))) ((within .1, copies-long 256 noSession)) (λ asks-7.
+        assigns ! (rep ! 256 (load ! (from ! (stop !)) (look ! 56 refl))) (from ! (stop !)) (init ! 54 refl (array-typed SessionCopy-t.the-row (λ x vs p. LL.lawful SessionCopy-t.the-type SessionCopy-l.the-laws 𝓤 H A W .typed x vs p) 256 (replicate 256 noSession) _ (rep-is SessionCopy-t.the-row 256 noSession (SessionCopy-p .val noSession) is-1) .0)) $
+        assigns ! (addr ! (from ! (fld ! refl (hop ! (look-in ! 70 (sub ! 0 refl (whole !))) (stop !))))) (from ! (stop !)) (init ! 46 refl (tt, tt)) $
+        assigns ! (agg ! (and-then ! (load ! (from ! (stop !)) (look ! 46 refl)) (and-then ! (load ! (from ! (fld ! refl (stop !))) (look-in ! 70 (sub ! 1 refl (whole !)))) (no-more !)))) (from ! (stop !)) (init ! 44 refl (tt, (tt, (record { fits = room₁ .0 }, tt)))) $
+        assigns ! (addr ! (from ! (stop !))) (from ! (stop !)) (init ! 42 refl (tt, tt)) $
+        assigns ! (agg ! (and-then ! (load ! (from ! (stop !)) (look ! 42 refl)) (and-then ! (lit ! tt) (no-more !)))) (from ! (stop !)) (init ! 40 refl (tt, (tt, (record { fits = lit< tt }, tt)))) $
+        knows ! ((256 ≤ length (sessions)) × (256 ≤ length ((replicate 256 noSession)))) ((within .2, copies-long 256 noSession)) (λ asks-7.
         -- 7: agent::dry::copy_sessions
-        lends-view ! tt (Array u64 5) b₁ o₁ sessions n₁ (refl) (λ ν-7-sessions δ-7-sessions.
-        move ! (49 ∷ []) $
-        lends-array ! tt SessionCopy-t.the-row tt (SessionCopy-p .makes 𝓤 H A W) (SessionCopy-p .ty) 256 refl l₈ (replicate 256 noSession) _ (rep-is SessionCopy-t.the-row 256 noSession (SessionCopy-p .val noSession) is-1) (lit< tt, lit< tt) (λ ν-7-8 δ-7-8 llen-7-8.
+        lends-view ! tt (Array u64 6) b₁ o₁ sessions n₁ (refl) (λ ν-7-sessions δ-7-sessions.
+        move ! (55 ∷ []) $
+        lends-array ! tt SessionCopy-t.the-row tt (SessionCopy-p .makes 𝓤 H A W) (SessionCopy-p .ty) 256 refl l₉ (replicate 256 noSession) _ (rep-is SessionCopy-t.the-row 256 noSession (SessionCopy-p .val noSession) is-1) (lit< tt, lit< tt) (λ ν-7-9 δ-7-9 llen-7-9.
         nothing ! $ move ! (1 ∷ 0 ∷ []) $ join ! $ move ! (3 ∷ 0 ∷ []) $ join ! $
-        use1 W (raw (toks 𝓤 A 2 (((ν-7-sessions ∷ []), ((ν-7-8 ∷ []), tt))) ((fullShare, (fullShare, tt))))) (id⊢ 𝓤 _) $ nothing ! $
+        use1 W (raw (toks 𝓤 A 2 (((ν-7-sessions ∷ []), ((ν-7-9 ∷ []), tt))) ((fullShare, (fullShare, tt))))) (id⊢ 𝓤 _) $ nothing ! $
         owned ! (u64-p .row) (Is (u64-p .row)) (u64-p .makes 𝓤 H A W) 256 (u64-p .val 256 ∷ []) ((refl, lit< tt)) $ fjoin ! $ move ! (2 ∷ 0 ∷ []) $ fjoin ! $ move ! (3 ∷ 0 ∷ []) $ fjoin ! $ move ! (1 ∷ 0 ∷ []) $
-        calls-any ! fm 2 [] (dry-copy-sessions.signature .params) (dry-copy-sessions.ended .kept) unit-p (dry-copy-sessions.clauses 𝓤 H A mem run) known-dry-copy-sessions ((ν-7-sessions ∷ []), ((ν-7-8 ∷ []), tt)) (fullShare, (fullShare, tt)) tt (at-list b₁ o₁ δ-7-sessions sessions, (at-list l₈ 0 δ-7-8 (replicate 256 noSession), (256, tt))) (sliceVal (b₁, o₁) n₁ ∷ [], (sliceVal (l₈, 0) 256 ∷ [], (u64-p .val 256 ∷ [], tt))) tt tt (λ ws-7. (ws-7 .1 .0 ≡ copied sessionCopy [] sessionSpot 256 (sessions) ((replicate 256 noSession)))) (factI 𝓤 ((256 ≤ length (sessions)) × (256 ≤ length ((replicate 256 noSession)))) _ asks-7) (λ r ws-7. fact-mono 𝓤 ((ws-7 .1 .0) ≡ copied sessionCopy [] sessionSpot 256 (sessions) ((replicate 256 noSession))) ((r ≡ tt) × ((ws-7 .1 .0 ≡ copied sessionCopy [] sessionSpot 256 (sessions) ((replicate 256 noSession))))) (λ e. (refl, e))) (λ _. (and-then ! (load ! (from ! (stop !)) (look ! 39 refl)) (and-then ! (load ! (from ! (stop !)) (look ! 35 refl)) (and-then ! (lit ! tt) (no-more !))))) (λ ws-7 said-7 is-7.
-        use1 W ((‵ (flft (ν-7-sessions ∷ []) fullShare) ⊛ (‵ (flft (ν-7-8 ∷ []) fullShare) ⊛ ‵ ftrue))) (id⊢ 𝓤 _) $ split ! $ move ! (1 ∷ []) $ split ! $ move ! (3 ∷ []) $ fsplit ! $ move ! (1 ∷ []) $ fsplit ! $ fsplit ! $ move ! (1 ∷ []) $
+        calls-any ! fm 2 [] (dry-copy-sessions.signature .params) (dry-copy-sessions.ended .kept) unit-p (dry-copy-sessions.clauses 𝓤 H A mem run) known-dry-copy-sessions ((ν-7-sessions ∷ []), ((ν-7-9 ∷ []), tt)) (fullShare, (fullShare, tt)) tt (at-list b₁ o₁ δ-7-sessions sessions, (at-list l₉ 0 δ-7-9 (replicate 256 noSession), (256, tt))) (sliceVal (b₁, o₁) n₁ ∷ [], (sliceVal (l₉, 0) 256 ∷ [], (u64-p .val 256 ∷ [], tt))) tt tt (λ ws-7. (ws-7 .1 .0 ≡ copied sessionCopy [] sessionSpot 256 (sessions) ((replicate 256 noSession)))) (factI 𝓤 ((256 ≤ length (sessions)) × (256 ≤ length ((replicate 256 noSession)))) _ asks-7) (λ r ws-7. fact-mono 𝓤 ((ws-7 .1 .0) ≡ copied sessionCopy [] sessionSpot 256 (sessions) ((replicate 256 noSession))) ((r ≡ tt) × ((ws-7 .1 .0 ≡ copied sessionCopy [] sessionSpot 256 (sessions) ((replicate 256 noSession))))) (λ e. (refl, e))) (λ _. (and-then ! (load ! (from ! (stop !)) (look ! 45 refl)) (and-then ! (load ! (from ! (stop !)) (look ! 41 refl)) (and-then ! (lit ! tt) (no-more !))))) (λ ws-7 said-7 is-7.
+        use1 W ((‵ (flft (ν-7-sessions ∷ []) fullShare) ⊛ (‵ (flft (ν-7-9 ∷ []) fullShare) ⊛ ‵ ftrue))) (id⊢ 𝓤 _) $ split ! $ move ! (1 ∷ []) $ split ! $ move ! (3 ∷ []) $ fsplit ! $ move ! (1 ∷ []) $ fsplit ! $ fsplit ! $ move ! (1 ∷ []) $
         feqL ! (λ wlen-7-1.
         move ! (5 ∷ 7 ∷ []) $
-        backs-view ! tt (Array u64 5) b₁ o₁ sessions n₁ (refl) ν-7-sessions $ move ! (5 ∷ 7 ∷ 2 ∷ []) $
-        backs-array ! tt SessionCopy-t.the-row (SessionCopy-p .ty) 256 refl l₈ ν-7-8 δ-7-8 (ws-7 .1 .0) (λ v-7-8 vis-7-8.
-        knows ! (Is (Array SessionCopy-t.the-row 256) (copied sessionCopy [] sessionSpot 256 (sessions) ((replicate 256 noSession))) (v-7-8 ∷ [])) (subst (λ (us : List SessionCopy). Is (Array SessionCopy-t.the-row 256) us (v-7-8 ∷ [])) (said-7) vis-7-8) (λ ais-7-8.
+        backs-view ! tt (Array u64 6) b₁ o₁ sessions n₁ (refl) ν-7-sessions $ move ! (5 ∷ 7 ∷ 2 ∷ []) $
+        backs-array ! tt SessionCopy-t.the-row (SessionCopy-p .ty) 256 refl l₉ ν-7-9 δ-7-9 (ws-7 .1 .0) (λ v-7-9 vis-7-9.
+        knows ! (Is (Array SessionCopy-t.the-row 256) (copied sessionCopy [] sessionSpot 256 (sessions) ((replicate 256 noSession))) (v-7-9 ∷ [])) (subst (λ (us : List SessionCopy). Is (Array SessionCopy-t.the-row 256) us (v-7-9 ∷ [])) (said-7) vis-7-9) (λ ais-7-9.
         move ! (3 ∷ []) $ drop ! $ move ! (3 ∷ []) $ drop ! $ move ! (3 ∷ []) $ drop ! $
-        land ! (from ! (stop !)) (init ! 43 refl (unit-p .typed 𝓤 H A W tt is-7)) $ move ! (1 ∷ 2 ∷ 3 ∷ 4 ∷ 5 ∷ 6 ∷ 7 ∷ 8 ∷ 9 ∷ 10 ∷ 11 ∷ 12 ∷ 13 ∷ 14 ∷ 15 ∷ 16 ∷ 17 ∷ 18 ∷ 19 ∷ 20 ∷ 21 ∷ 22 ∷ 23 ∷ 24 ∷ 25 ∷ 26 ∷ 27 ∷ 28 ∷ 29 ∷ 30 ∷ 31 ∷ 32 ∷ 33 ∷ 34 ∷ 35 ∷ 36 ∷ 37 ∷ 38 ∷ 39 ∷ 40 ∷ 41 ∷ 42 ∷ 43 ∷ 44 ∷ 45 ∷ 46 ∷ 47 ∷ 48 ∷ 0 ∷ 49 ∷ 50 ∷ 51 ∷ 52 ∷ 53 ∷ 54 ∷ 55 ∷ 56 ∷ 57 ∷ 58 ∷ 59 ∷ 60 ∷ 61 ∷ 62 ∷ 63 ∷ 64 ∷ 65 ∷ []) $
-        part-8-0 is-1 asks-7 v-7-8 ais-7-8 is-7)))))))
+        land ! (from ! (stop !)) (init ! 49 refl (unit-p .typed 𝓤 H A W tt is-7)) $ move ! (1 ∷ 2 ∷ 3 ∷ 4 ∷ 5 ∷ 6 ∷ 7 ∷ 8 ∷ 9 ∷ 10 ∷ 11 ∷ 12 ∷ 13 ∷ 14 ∷ 15 ∷ 16 ∷ 17 ∷ 18 ∷ 19 ∷ 20 ∷ 21 ∷ 22 ∷ 23 ∷ 24 ∷ 25 ∷ 26 ∷ 27 ∷ 28 ∷ 29 ∷ 30 ∷ 31 ∷ 32 ∷ 33 ∷ 34 ∷ 35 ∷ 36 ∷ 37 ∷ 38 ∷ 39 ∷ 40 ∷ 41 ∷ 42 ∷ 43 ∷ 44 ∷ 45 ∷ 46 ∷ 47 ∷ 48 ∷ 49 ∷ 50 ∷ 51 ∷ 52 ∷ 53 ∷ 54 ∷ 0 ∷ 55 ∷ 56 ∷ 57 ∷ 58 ∷ 59 ∷ 60 ∷ 61 ∷ 62 ∷ 63 ∷ 64 ∷ 65 ∷ 66 ∷ 67 ∷ 68 ∷ 69 ∷ 70 ∷ 71 ∷ 72 ∷ 73 ∷ []) $
+        part-8-0 is-1 asks-7 v-7-9 ais-7-9 is-7)))))))
 
-    begins : Sq W (‵ (MutSlice (named 0) κ₁ (Array u64 5) .own (at-list b₁ o₁ γ₁ sessions) (sliceVal (b₁, o₁) n₁ ∷ [])) ∷ ‵ (flft κ₁ q₁) ∷ ‵ (MutSlice (named 0) κ₂ (Array u16 35) .own (at-list b₂ o₂ γ₂ streams) (sliceVal (b₂, o₂) n₂ ∷ [])) ∷ ‵ (flft κ₂ q₂) ∷ ‵ (MutSlice (named 0) κ₃ Object-t.the-row .own (at-list b₃ o₃ γ₃ objects) (sliceVal (b₃, o₃) n₃ ∷ [])) ∷ ‵ (flft κ₃ q₃) ∷ ‵ (ShrSlice (named 0) κ₄ u8 .own (at-list b₄ o₄ γ₄ d) (sliceVal (b₄, o₄) n₄ ∷ [])) ∷ ‵ (flft κ₄ q₄) ∷ ‵ (ShrSlice (named 0) κ₅ u8 .own (at-list b₅ o₅ γ₅ sample) (sliceVal (b₅, o₅) n₅ ∷ [])) ∷ ‵ (flft κ₅ q₅) ∷ free 𝓤 (sliceTy (tyRef erased mut (pointee ((Array u64 5) .written)))) l₂₇ (free 𝓤 (tyRef erased mut (pointee ((Array u64 5) .written))) l₂₆ (free 𝓤 (sliceTy (tyRef erased imm (pointee (SessionCopy-t.the-row .written)))) l₂₅ (free 𝓤 (tyRef erased imm (pointee ((Array SessionCopy-t.the-row 256) .written))) l₂₄ (free 𝓤 (sliceTy (tyRef erased mut (pointee (u8 .written)))) l₂₃ (free 𝓤 (tyRef erased mut (pointee ((Array u8 2) .written))) l₂₂ (free 𝓤 (sliceTy (tyRef erased mut (pointee (Object-t.the-row .written)))) l₂₁ (free 𝓤 (tyRef erased mut (pointee (Object-t.the-row .written))) l₂₀ (free 𝓤 (sliceTy (tyRef erased mut (pointee ((Array u16 35) .written)))) l₁₉ (free 𝓤 (tyRef erased mut (pointee ((Array u16 35) .written))) l₁₈ (free 𝓤 (sliceTy (tyRef erased mut (pointee ((Array u64 5) .written)))) l₁₇ (free 𝓤 (tyRef erased mut (pointee ((Array u64 5) .written))) l₁₆ (free 𝓤 (sliceTy (tyRef erased mut (pointee (SessionCopy-t.the-row .written)))) l₁₅ (free 𝓤 (tyRef erased mut (pointee ((Array SessionCopy-t.the-row 256) .written))) l₁₄ (free 𝓤 (sliceTy (tyRef erased imm (pointee ((Array u64 5) .written)))) l₁₃ (free 𝓤 (tyRef erased imm (pointee ((Array u64 5) .written))) l₁₂ (free 𝓤 tyUnit l₁₁ (free 𝓤 Ran-l.mir l₁₀ (free 𝓤 (tyArray (tyInt w8) 2) l₉ (free 𝓤 (tyArray SessionCopy-l.mir 256) l₈ (free 𝓤 SessionCopy-l.mir l₇ (full 𝓤 Start-l.mir l₆ (Start-p .val start) (full 𝓤 (sliceTy (tyRef (named 4) imm (pointee (u8 .written)))) l₅ (sliceVal (b₅, o₅) n₅) (full 𝓤 (sliceTy (tyRef (named 3) imm (pointee (u8 .written)))) l₄ (sliceVal (b₄, o₄) n₄) (full 𝓤 (sliceTy (tyRef (named 2) mut (pointee (Object-t.the-row .written)))) l₃ (sliceVal (b₃, o₃) n₃) (full 𝓤 (sliceTy (tyRef (named 1) mut (pointee ((Array u16 35) .written)))) l₂ (sliceVal (b₂, o₂) n₂) (full 𝓤 (sliceTy (tyRef (named 0) mut (pointee ((Array u64 5) .written)))) l₁ (sliceVal (b₁, o₁) n₁) (free 𝓤 (tyInt w64) l₀ ([]))))))))))))))))))))))))))))) (runs C Λ En mir.t-1 (atRet En Post))
+    begins : Sq W (‵ (MutSlice (named 0) κ₁ (Array u64 6) .own (at-list b₁ o₁ γ₁ sessions) (sliceVal (b₁, o₁) n₁ ∷ [])) ∷ ‵ (flft κ₁ q₁) ∷ ‵ (MutSlice (named 0) κ₂ (Array u16 35) .own (at-list b₂ o₂ γ₂ streams) (sliceVal (b₂, o₂) n₂ ∷ [])) ∷ ‵ (flft κ₂ q₂) ∷ ‵ (MutSlice (named 0) κ₃ Object-t.the-row .own (at-list b₃ o₃ γ₃ objects) (sliceVal (b₃, o₃) n₃ ∷ [])) ∷ ‵ (flft κ₃ q₃) ∷ ‵ (MutSlice (named 0) κ₄ u8 .own (at-list b₄ o₄ γ₄ held) (sliceVal (b₄, o₄) n₄ ∷ [])) ∷ ‵ (flft κ₄ q₄) ∷ ‵ (ShrSlice (named 0) κ₅ u8 .own (at-list b₅ o₅ γ₅ d) (sliceVal (b₅, o₅) n₅ ∷ [])) ∷ ‵ (flft κ₅ q₅) ∷ ‵ (ShrSlice (named 0) κ₆ u8 .own (at-list b₆ o₆ γ₆ sample) (sliceVal (b₆, o₆) n₆ ∷ [])) ∷ ‵ (flft κ₆ q₆) ∷ free 𝓤 (sliceTy (tyRef erased mut (pointee ((Array u64 6) .written)))) l₃₀ (free 𝓤 (tyRef erased mut (pointee ((Array u64 6) .written))) l₂₉ (free 𝓤 (sliceTy (tyRef erased imm (pointee (SessionCopy-t.the-row .written)))) l₂₈ (free 𝓤 (tyRef erased imm (pointee ((Array SessionCopy-t.the-row 256) .written))) l₂₇ (free 𝓤 (sliceTy (tyRef erased mut (pointee (u8 .written)))) l₂₆ (free 𝓤 (tyRef erased mut (pointee ((Array u8 2) .written))) l₂₅ (free 𝓤 (sliceTy (tyRef erased mut (pointee (u8 .written)))) l₂₄ (free 𝓤 (tyRef erased mut (pointee (u8 .written))) l₂₃ (free 𝓤 (sliceTy (tyRef erased mut (pointee (Object-t.the-row .written)))) l₂₂ (free 𝓤 (tyRef erased mut (pointee (Object-t.the-row .written))) l₂₁ (free 𝓤 (sliceTy (tyRef erased mut (pointee ((Array u16 35) .written)))) l₂₀ (free 𝓤 (tyRef erased mut (pointee ((Array u16 35) .written))) l₁₉ (free 𝓤 (sliceTy (tyRef erased mut (pointee ((Array u64 6) .written)))) l₁₈ (free 𝓤 (tyRef erased mut (pointee ((Array u64 6) .written))) l₁₇ (free 𝓤 (sliceTy (tyRef erased mut (pointee (SessionCopy-t.the-row .written)))) l₁₆ (free 𝓤 (tyRef erased mut (pointee ((Array SessionCopy-t.the-row 256) .written))) l₁₅ (free 𝓤 (sliceTy (tyRef erased imm (pointee ((Array u64 6) .written)))) l₁₄ (free 𝓤 (tyRef erased imm (pointee ((Array u64 6) .written))) l₁₃ (free 𝓤 tyUnit l₁₂ (free 𝓤 Ran-l.mir l₁₁ (free 𝓤 (tyArray (tyInt w8) 2) l₁₀ (free 𝓤 (tyArray SessionCopy-l.mir 256) l₉ (free 𝓤 SessionCopy-l.mir l₈ (full 𝓤 Start-l.mir l₇ (Start-p .val start) (full 𝓤 (sliceTy (tyRef (named 5) imm (pointee (u8 .written)))) l₆ (sliceVal (b₆, o₆) n₆) (full 𝓤 (sliceTy (tyRef (named 4) imm (pointee (u8 .written)))) l₅ (sliceVal (b₅, o₅) n₅) (full 𝓤 (sliceTy (tyRef (named 3) mut (pointee (u8 .written)))) l₄ (sliceVal (b₄, o₄) n₄) (full 𝓤 (sliceTy (tyRef (named 2) mut (pointee (Object-t.the-row .written)))) l₃ (sliceVal (b₃, o₃) n₃) (full 𝓤 (sliceTy (tyRef (named 1) mut (pointee ((Array u16 35) .written)))) l₂ (sliceVal (b₂, o₂) n₂) (full 𝓤 (sliceTy (tyRef (named 0) mut (pointee ((Array u64 6) .written)))) l₁ (sliceVal (b₁, o₁) n₁) (free 𝓤 (tyInt w64) l₀ ([])))))))))))))))))))))))))))))))) (runs C Λ En mir.t-1 (atRet En Post))
     begins =
         -- 1: agent::dry::no_session
         nothing ! $
         use1 W (raw (toks 𝓤 A 0 (tt) (tt))) (id⊢ 𝓤 _) $ nothing ! $ move ! (1 ∷ 0 ∷ []) $
         calls-any ! fm 0 [] (dry-no-session.signature .params) (dry-no-session.ended .kept) SessionCopy-p (dry-no-session.clauses 𝓤 H A mem run) known-dry-no-session tt tt tt tt tt tt noSession (λ ws-1. Unit {0}) (id⊢ 𝓤 _) (λ r ws-1. fact-mono 𝓤 (r ≡ noSession) ((r ≡ noSession) × (Unit {0})) (λ e. (e, tt))) (λ _. (no-more !)) (λ ws-1 said-1 is-1.
         drop ! $ drop ! $
-        land ! (from ! (stop !)) (init ! 50 refl (SessionCopy-p .typed 𝓤 H A W noSession is-1)) $
+        land ! (from ! (stop !)) (init ! 56 refl (SessionCopy-p .typed 𝓤 H A W noSession is-1)) $
         part-2-0 is-1)
 
   module _ (𝓣 : Tables 𝓤 H) (known-dry-no-session : Triple 𝓤 (𝓣 .C #dry-no-session) (Of-dry-no-session 𝓤 H A mem run)) (known-dry-copy-sessions : Triple 𝓤 (𝓣 .C #dry-copy-sessions) (Of-dry-copy-sessions 𝓤 H A mem run)) (known-perform-perform : Triple 𝓤 (𝓣 .C #perform-perform) (Of-perform-perform 𝓤 H A mem run)) (known-dry-restore-sessions : Triple 𝓤 (𝓣 .C #dry-restore-sessions) (Of-dry-restore-sessions 𝓤 H A mem run)) where
-    walk : ent 𝓤 (onEntry 𝓤 H A f.signature (κ₁, (κ₂, (κ₃, (κ₄, (κ₅, tt))))) (q₁, (q₂, (q₃, (q₄, (q₅, tt))))) x at) (WpFn 𝓤 H (𝓣 .C) (𝓣 .Λ) code.function (sliceVal (b₁, o₁) n₁ ∷ sliceVal (b₂, o₂) n₂ ∷ sliceVal (b₃, o₃) n₃ ∷ sliceVal (b₄, o₄) n₄ ∷ sliceVal (b₅, o₅) n₅ ∷ Start-p .val start ∷ []) Post)
+    walk : ent 𝓤 (onEntry 𝓤 H A f.signature (κ₁, (κ₂, (κ₃, (κ₄, (κ₅, (κ₆, tt)))))) (q₁, (q₂, (q₃, (q₄, (q₅, (q₆, tt)))))) x at) (WpFn 𝓤 H (𝓣 .C) (𝓣 .Λ) code.function (sliceVal (b₁, o₁) n₁ ∷ sliceVal (b₂, o₂) n₂ ∷ sliceVal (b₃, o₃) n₃ ∷ sliceVal (b₄, o₄) n₄ ∷ sliceVal (b₅, o₅) n₅ ∷ sliceVal (b₆, o₆) n₆ ∷ Start-p .val start ∷ []) Post)
     walk =
-        qed W ((‵ (flft κ₁ q₁) ⊛ (‵ (flft κ₂ q₂) ⊛ (‵ (flft κ₃ q₃) ⊛ (‵ (flft κ₄ q₄) ⊛ (‵ (flft κ₅ q₅) ⊛ ‵ ftrue))))) ∷ ‵ (owns (MutSlice (named 0) κ₁ (Array u64 5) ∷ MutSlice (named 1) κ₂ (Array u16 35) ∷ MutSlice (named 2) κ₃ Object-t.the-row ∷ ShrSlice (named 3) κ₄ u8 ∷ ShrSlice (named 4) κ₅ u8 ∷ Start-p .row ∷ []) x at) ∷ []) ∵ enter ! (𝓣 .C) (𝓣 .Λ) code.function (sliceVal (b₁, o₁) n₁ ∷ sliceVal (b₂, o₂) n₂ ∷ sliceVal (b₃, o₃) n₃ ∷ sliceVal (b₄, o₄) n₄ ∷ sliceVal (b₅, o₅) n₅ ∷ Start-p .val start ∷ []) _ $
-        alloc1 ! (λ l₀. alloc1 ! (λ l₁. alloc1 ! (λ l₂. alloc1 ! (λ l₃. alloc1 ! (λ l₄. alloc1 ! (λ l₅. alloc1 ! (λ l₆. alloc1 ! (λ l₇. alloc1 ! (λ l₈. alloc1 ! (λ l₉. alloc1 ! (λ l₁₀. alloc1 ! (λ l₁₁. alloc1 ! (λ l₁₂. alloc1 ! (λ l₁₃. alloc1 ! (λ l₁₄. alloc1 ! (λ l₁₅. alloc1 ! (λ l₁₆. alloc1 ! (λ l₁₇. alloc1 ! (λ l₁₈. alloc1 ! (λ l₁₉. alloc1 ! (λ l₂₀. alloc1 ! (λ l₂₁. alloc1 ! (λ l₂₂. alloc1 ! (λ l₂₃. alloc1 ! (λ l₂₄. alloc1 ! (λ l₂₅. alloc1 ! (λ l₂₆. alloc1 ! (λ l₂₇. alloc0 ! $ params1 ! $ pass1 ! (init ! 52 refl (tt, (tt, (record { fits = room₁ .0 }, tt)))) $ pass1 ! (init ! 50 refl (tt, (tt, (record { fits = room₂ .0 }, tt)))) $ pass1 ! (init ! 48 refl (tt, (tt, (record { fits = room₃ .0 }, tt)))) $ pass1 ! (init ! 46 refl (tt, (tt, (record { fits = room₄ .0 }, tt)))) $ pass1 ! (init ! 44 refl (tt, (tt, (record { fits = room₅ .0 }, tt)))) $ pass1 ! (init ! 42 refl (Start-p .typed 𝓤 H A W start start-is)) $ pass0 ! $ move ! (57 ∷ []) $ fsplit ! $ move ! (1 ∷ []) $ fsplit ! $ move ! (1 ∷ []) $ fsplit ! $ move ! (1 ∷ []) $ fsplit ! $ move ! (1 ∷ []) $ fsplit ! $ move ! (62 ∷ []) $ split ! $ move ! (1 ∷ []) $ split ! $ move ! (1 ∷ []) $ split ! $ move ! (1 ∷ []) $ split ! $ move ! (1 ∷ []) $ split ! $ move ! (1 ∷ []) $ drop ! $ move ! (6 ∷ []) $ drop ! $ move ! (9 ∷ 4 ∷ 8 ∷ 3 ∷ 7 ∷ 2 ∷ 6 ∷ 1 ∷ 5 ∷ 0 ∷ 10 ∷ 11 ∷ 12 ∷ 13 ∷ 14 ∷ 15 ∷ 16 ∷ 17 ∷ 18 ∷ 19 ∷ 20 ∷ 21 ∷ 22 ∷ 23 ∷ 24 ∷ 25 ∷ 26 ∷ 27 ∷ 28 ∷ 29 ∷ 30 ∷ 31 ∷ 32 ∷ 33 ∷ 34 ∷ 35 ∷ 36 ∷ 37 ∷ 38 ∷ 39 ∷ 40 ∷ 41 ∷ 42 ∷ 43 ∷ 44 ∷ 45 ∷ 46 ∷ 47 ∷ 48 ∷ 49 ∷ 50 ∷ 51 ∷ 52 ∷ 53 ∷ 54 ∷ 55 ∷ 56 ∷ 57 ∷ 58 ∷ 59 ∷ 60 ∷ 61 ∷ 62 ∷ 63 ∷ 64 ∷ 65 ∷ []) $
-        begins 𝓣 known-dry-no-session known-dry-copy-sessions known-perform-perform known-dry-restore-sessions l₀ l₁ l₂ l₃ l₄ l₅ l₆ l₇ l₈ l₉ l₁₀ l₁₁ l₁₂ l₁₃ l₁₄ l₁₅ l₁₆ l₁₇ l₁₈ l₁₉ l₂₀ l₂₁ l₂₂ l₂₃ l₂₄ l₂₅ l₂₆ l₂₇))))))))))))))))))))))))))))
+        qed W ((‵ (flft κ₁ q₁) ⊛ (‵ (flft κ₂ q₂) ⊛ (‵ (flft κ₃ q₃) ⊛ (‵ (flft κ₄ q₄) ⊛ (‵ (flft κ₅ q₅) ⊛ (‵ (flft κ₆ q₆) ⊛ ‵ ftrue)))))) ∷ ‵ (owns (MutSlice (named 0) κ₁ (Array u64 6) ∷ MutSlice (named 1) κ₂ (Array u16 35) ∷ MutSlice (named 2) κ₃ Object-t.the-row ∷ MutSlice (named 3) κ₄ u8 ∷ ShrSlice (named 4) κ₅ u8 ∷ ShrSlice (named 5) κ₆ u8 ∷ Start-p .row ∷ []) x at) ∷ []) ∵ enter ! (𝓣 .C) (𝓣 .Λ) code.function (sliceVal (b₁, o₁) n₁ ∷ sliceVal (b₂, o₂) n₂ ∷ sliceVal (b₃, o₃) n₃ ∷ sliceVal (b₄, o₄) n₄ ∷ sliceVal (b₅, o₅) n₅ ∷ sliceVal (b₆, o₆) n₆ ∷ Start-p .val start ∷ []) _ $
+        alloc1 ! (λ l₀. alloc1 ! (λ l₁. alloc1 ! (λ l₂. alloc1 ! (λ l₃. alloc1 ! (λ l₄. alloc1 ! (λ l₅. alloc1 ! (λ l₆. alloc1 ! (λ l₇. alloc1 ! (λ l₈. alloc1 ! (λ l₉. alloc1 ! (λ l₁₀. alloc1 ! (λ l₁₁. alloc1 ! (λ l₁₂. alloc1 ! (λ l₁₃. alloc1 ! (λ l₁₄. alloc1 ! (λ l₁₅. alloc1 ! (λ l₁₆. alloc1 ! (λ l₁₇. alloc1 ! (λ l₁₈. alloc1 ! (λ l₁₉. alloc1 ! (λ l₂₀. alloc1 ! (λ l₂₁. alloc1 ! (λ l₂₂. alloc1 ! (λ l₂₃. alloc1 ! (λ l₂₄. alloc1 ! (λ l₂₅. alloc1 ! (λ l₂₆. alloc1 ! (λ l₂₇. alloc1 ! (λ l₂₈. alloc1 ! (λ l₂₉. alloc1 ! (λ l₃₀. alloc0 ! $ params1 ! $ pass1 ! (init ! 58 refl (tt, (tt, (record { fits = room₁ .0 }, tt)))) $ pass1 ! (init ! 56 refl (tt, (tt, (record { fits = room₂ .0 }, tt)))) $ pass1 ! (init ! 54 refl (tt, (tt, (record { fits = room₃ .0 }, tt)))) $ pass1 ! (init ! 52 refl (tt, (tt, (record { fits = room₄ .0 }, tt)))) $ pass1 ! (init ! 50 refl (tt, (tt, (record { fits = room₅ .0 }, tt)))) $ pass1 ! (init ! 48 refl (tt, (tt, (record { fits = room₆ .0 }, tt)))) $ pass1 ! (init ! 46 refl (Start-p .typed 𝓤 H A W start start-is)) $ pass0 ! $ move ! (63 ∷ []) $ fsplit ! $ move ! (1 ∷ []) $ fsplit ! $ move ! (1 ∷ []) $ fsplit ! $ move ! (1 ∷ []) $ fsplit ! $ move ! (1 ∷ []) $ fsplit ! $ move ! (1 ∷ []) $ fsplit ! $ move ! (69 ∷ []) $ split ! $ move ! (1 ∷ []) $ split ! $ move ! (1 ∷ []) $ split ! $ move ! (1 ∷ []) $ split ! $ move ! (1 ∷ []) $ split ! $ move ! (1 ∷ []) $ split ! $ move ! (1 ∷ []) $ drop ! $ move ! (7 ∷ []) $ drop ! $ move ! (11 ∷ 5 ∷ 10 ∷ 4 ∷ 9 ∷ 3 ∷ 8 ∷ 2 ∷ 7 ∷ 1 ∷ 6 ∷ 0 ∷ 12 ∷ 13 ∷ 14 ∷ 15 ∷ 16 ∷ 17 ∷ 18 ∷ 19 ∷ 20 ∷ 21 ∷ 22 ∷ 23 ∷ 24 ∷ 25 ∷ 26 ∷ 27 ∷ 28 ∷ 29 ∷ 30 ∷ 31 ∷ 32 ∷ 33 ∷ 34 ∷ 35 ∷ 36 ∷ 37 ∷ 38 ∷ 39 ∷ 40 ∷ 41 ∷ 42 ∷ 43 ∷ 44 ∷ 45 ∷ 46 ∷ 47 ∷ 48 ∷ 49 ∷ 50 ∷ 51 ∷ 52 ∷ 53 ∷ 54 ∷ 55 ∷ 56 ∷ 57 ∷ 58 ∷ 59 ∷ 60 ∷ 61 ∷ 62 ∷ 63 ∷ 64 ∷ 65 ∷ 66 ∷ 67 ∷ 68 ∷ 69 ∷ 70 ∷ 71 ∷ 72 ∷ 73 ∷ []) $
+        begins 𝓣 known-dry-no-session known-dry-copy-sessions known-perform-perform known-dry-restore-sessions l₀ l₁ l₂ l₃ l₄ l₅ l₆ l₇ l₈ l₉ l₁₀ l₁₁ l₁₂ l₁₃ l₁₄ l₁₅ l₁₆ l₁₇ l₁₈ l₁₉ l₂₀ l₂₁ l₂₂ l₂₃ l₂₄ l₂₅ l₂₆ l₂₇ l₂₈ l₂₉ l₃₀)))))))))))))))))))))))))))))))
 
 module _ {M : Type 1} (𝓤 : URA M) (H : Heap 𝓤) (A : Atoms 𝓤) (W : Given 𝓤 H A) (mem : Memory → SProp 𝓤) (run : Routine → Fun 𝓤) (𝓣 : Tables 𝓤 H) (known-dry-no-session : Triple 𝓤 (𝓣 .C #dry-no-session) (Of-dry-no-session 𝓤 H A mem run)) (known-dry-copy-sessions : Triple 𝓤 (𝓣 .C #dry-copy-sessions) (Of-dry-copy-sessions 𝓤 H A mem run)) (known-perform-perform : Triple 𝓤 (𝓣 .C #perform-perform) (Of-perform-perform 𝓤 H A mem run)) (known-dry-restore-sessions : Triple 𝓤 (𝓣 .C #dry-restore-sessions) (Of-dry-restore-sessions 𝓤 H A mem run)) where
   walks : Walks 𝓤 H A f.ended stayed (WpFn 𝓤 H (𝓣 .C) (𝓣 .Λ) code.function) (f.clauses 𝓤 H A mem run)
-  walks = walked 𝓤 H A f.ended stayed (f.clauses 𝓤 H A mem run) (WpFn 𝓤 H (𝓣 .C) (𝓣 .Λ) code.function) (λ κs. (slice-vals, (slice-vals, (slice-vals, (slice-vals, (slice-vals, ((λ y. Start-p .val y ∷ []), tt))))))) (λ κs. (mut-slice-tells (named 0) (κs .0) (Array u64 5), (mut-slice-tells (named 1) (κs .1 .0) (Array u16 35), (mut-slice-tells (named 2) (κs .1 .1 .0) Object-t.the-row, (shr-slice-tells (named 3) (κs .1 .1 .1 .0) u8, (shr-slice-tells (named 4) (κs .1 .1 .1 .1 .0) u8, (Start-p .tells, tt)))))))
-      (λ κs qs bounds a g are. needs 𝓤 _ _ (λ within. walk 𝓤 H A W mem run (κs .0) (qs .0) (a .0 .ptr .0) (a .0 .ptr .1) (a .0 .name) (a .0 .now) (κs .1 .0) (qs .1 .0) (a .1 .0 .ptr .0) (a .1 .0 .ptr .1) (a .1 .0 .name) (a .1 .0 .now) (κs .1 .1 .0) (qs .1 .1 .0) (a .1 .1 .0 .ptr .0) (a .1 .1 .0 .ptr .1) (a .1 .1 .0 .name) (a .1 .1 .0 .now) (κs .1 .1 .1 .0) (qs .1 .1 .1 .0) (a .1 .1 .1 .0 .ptr .0) (a .1 .1 .1 .0 .ptr .1) (a .1 .1 .1 .0 .name) (a .1 .1 .1 .0 .now) (κs .1 .1 .1 .1 .0) (qs .1 .1 .1 .1 .0) (a .1 .1 .1 .1 .0 .ptr .0) (a .1 .1 .1 .1 .0 .ptr .1) (a .1 .1 .1 .1 .0 .name) (a .1 .1 .1 .1 .0 .now) (a .1 .1 .1 .1 .1 .0) (are .0 .0 .1) (are .1 .0 .0 .1) (are .1 .1 .0 .0 .1) (are .1 .1 .1 .0 .0 .1) (are .1 .1 .1 .1 .0 .0 .1) (are .1 .1 .1 .1 .1 .0) within 𝓣 known-dry-no-session known-dry-copy-sessions known-perform-perform known-dry-restore-sessions))
+  walks = walked 𝓤 H A f.ended stayed (f.clauses 𝓤 H A mem run) (WpFn 𝓤 H (𝓣 .C) (𝓣 .Λ) code.function) (λ κs. (slice-vals, (slice-vals, (slice-vals, (slice-vals, (slice-vals, (slice-vals, ((λ y. Start-p .val y ∷ []), tt)))))))) (λ κs. (mut-slice-tells (named 0) (κs .0) (Array u64 6), (mut-slice-tells (named 1) (κs .1 .0) (Array u16 35), (mut-slice-tells (named 2) (κs .1 .1 .0) Object-t.the-row, (mut-slice-tells (named 3) (κs .1 .1 .1 .0) u8, (shr-slice-tells (named 4) (κs .1 .1 .1 .1 .0) u8, (shr-slice-tells (named 5) (κs .1 .1 .1 .1 .1 .0) u8, (Start-p .tells, tt))))))))
+      (λ κs qs bounds a g are. needs 𝓤 _ _ (λ within. walk 𝓤 H A W mem run (κs .0) (qs .0) (a .0 .ptr .0) (a .0 .ptr .1) (a .0 .name) (a .0 .now) (κs .1 .0) (qs .1 .0) (a .1 .0 .ptr .0) (a .1 .0 .ptr .1) (a .1 .0 .name) (a .1 .0 .now) (κs .1 .1 .0) (qs .1 .1 .0) (a .1 .1 .0 .ptr .0) (a .1 .1 .0 .ptr .1) (a .1 .1 .0 .name) (a .1 .1 .0 .now) (κs .1 .1 .1 .0) (qs .1 .1 .1 .0) (a .1 .1 .1 .0 .ptr .0) (a .1 .1 .1 .0 .ptr .1) (a .1 .1 .1 .0 .name) (a .1 .1 .1 .0 .now) (κs .1 .1 .1 .1 .0) (qs .1 .1 .1 .1 .0) (a .1 .1 .1 .1 .0 .ptr .0) (a .1 .1 .1 .1 .0 .ptr .1) (a .1 .1 .1 .1 .0 .name) (a .1 .1 .1 .1 .0 .now) (κs .1 .1 .1 .1 .1 .0) (qs .1 .1 .1 .1 .1 .0) (a .1 .1 .1 .1 .1 .0 .ptr .0) (a .1 .1 .1 .1 .1 .0 .ptr .1) (a .1 .1 .1 .1 .1 .0 .name) (a .1 .1 .1 .1 .1 .0 .now) (a .1 .1 .1 .1 .1 .1 .0) (are .0 .0 .1) (are .1 .0 .0 .1) (are .1 .1 .0 .0 .1) (are .1 .1 .1 .0 .0 .1) (are .1 .1 .1 .1 .0 .0 .1) (are .1 .1 .1 .1 .1 .0 .0 .1) (are .1 .1 .1 .1 .1 .1 .0) within 𝓣 known-dry-no-session known-dry-copy-sessions known-perform-perform known-dry-restore-sessions))
 
   meets : Meets 𝓤 H A f.signature (WpFn 𝓤 H (𝓣 .C) (𝓣 .Λ) code.function) (f.spec 𝓤 H A mem run)
-  meets = walk-meets 𝓤 H A f.ended stayed W (goes-slice 𝓤 H A W 5 0 tt (plain (λ _. (Array u64 5))), (goes-slice 𝓤 H A W 5 1 tt (plain (λ _. (Array u16 35))), (goes-slice 𝓤 H A W 5 2 tt (plain (λ _. Object-t.the-row)), (goes-none-slice 𝓤 H A W 5 (3 ∷ []) tt (plain (λ _. u8)) yes, (goes-none-slice 𝓤 H A W 5 (4 ∷ []) tt (plain (λ _. u8)) yes, (goes-none 𝓤 H A W 5 (λ _. Start-p .row) yes (λ κs x f. refl), tt)))))) (f.clauses 𝓤 H A mem run) (WpFn 𝓤 H (𝓣 .C) (𝓣 .Λ) code.function) (WpFn-mono 𝓤 H (W .laws) 𝓣 code.function) walks
+  meets = walk-meets 𝓤 H A f.ended stayed W (goes-slice 𝓤 H A W 6 0 tt (plain (λ _. (Array u64 6))), (goes-slice 𝓤 H A W 6 1 tt (plain (λ _. (Array u16 35))), (goes-slice 𝓤 H A W 6 2 tt (plain (λ _. Object-t.the-row)), (goes-slice 𝓤 H A W 6 3 tt (plain (λ _. u8)), (goes-none-slice 𝓤 H A W 6 (4 ∷ []) tt (plain (λ _. u8)) yes, (goes-none-slice 𝓤 H A W 6 (5 ∷ []) tt (plain (λ _. u8)) yes, (goes-none 𝓤 H A W 6 (λ _. Start-p .row) yes (λ κs x f. refl), tt))))))) (f.clauses 𝓤 H A mem run) (WpFn 𝓤 H (𝓣 .C) (𝓣 .Λ) code.function) (WpFn-mono 𝓤 H (W .laws) 𝓣 code.function) walks
 
 pub dry-sessions-spec : {M : Type 1} → stated.statement M
 unfolding code.routine tablesOf

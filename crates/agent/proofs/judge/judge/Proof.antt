@@ -53,10 +53,10 @@ use borrow.Rule.Slice.PartMut.{midOf, putMid}
 use Rattle.walk.proofs.Parts.{part-len, lends-part, backs-part, parts-shr}
 use Rattle.walk.proofs.Arrays.{rep-is, lends-array, backs-array}
 use Rattle.sessions.specs.Limits.{limitsOf}
-use Rattle.moves.specs.Rows.{lent}
-use Rattle.agent.specs.Judge.{answersOf, idleTurn, busyTurn, turnOf, sessionOf, recordSound, soundOf, tooLong, datagramStart, answerStart, datagramJudged, restJudged, answerJudged, judgedBy, judgeOf, partsOf}
-use Rattle.sessions.specs.Table.{sessionAt}
-use Rattle.sessions.specs.Limits.{limitsFrom}
+use Rattle.agent.specs.Lent.{lent}
+use Rattle.agent.specs.Judge.{answersOf, idleTurn, busyTurn, turnOf, sessionOf, streamOf, recordSound, soundOf, tooLong, sampleSlot, answerSlot, slotOf, placedJudged, datagramStart, answerStart, datagramJudged, restJudged, answerJudged, judgedBy, judgeOf, partsOf}
+use mathlib.Core.Bool.{cond}
+use Rattle.sessions.specs.Limits.{overLong, countsKept, slotKept, lengthsShort, lengthsKept, limitsFrom}
 use Rattle.agent.proofs.judge.Laws.{judged-whole}
 use Rattle.sessions.specs.declared.objects.Object.{Object}
 use Rattle.sessions.proofs.objects.Object as Object-t
@@ -123,6 +123,10 @@ use Rattle.agent.proofs.judge.session_of as judge-session-of
 use Rattle.agent.proofs.judge.session_of.Symbol as judge-session-of-def
 use Rattle.agent.proofs.judge.session_of.Symbol.{name as #judge-session-of}
 use Rattle.agent.proofs.judge.session_of.Met as judge-session-of-thm
+use Rattle.agent.proofs.judge.stream_of as judge-stream-of
+use Rattle.agent.proofs.judge.stream_of.Symbol as judge-stream-of-def
+use Rattle.agent.proofs.judge.stream_of.Symbol.{name as #judge-stream-of}
+use Rattle.agent.proofs.judge.stream_of.Met as judge-stream-of-thm
 use Rattle.sessions.proofs.limits.within_limits as limits-within-limits
 use Rattle.sessions.proofs.limits.within_limits.Symbol as limits-within-limits-def
 use Rattle.sessions.proofs.limits.within_limits.Symbol.{name as #limits-within-limits}
@@ -188,8 +192,8 @@ Start-of x0 x1 x2 x3 = record { frame = x0; next = x1; at = x2; resumes = x3 }
 abbrev Start-p : Plain
 Start-p = record { row = Start-t.the-row; val = LL.val Start-t.the-type Start-l.the-laws; tells = LL.tells Start-t.the-type Start-l.the-laws; makes = λ 𝓤 H A W. LL.makes Start-t.the-type Start-l.the-plain 𝓤 H A; ty = Start-l.mir; typed = λ 𝓤 H A W x is. LL.lawful Start-t.the-type Start-l.the-laws 𝓤 H A W .typed x _ is .0; copies = λ 𝓤 H A W. LL.copy Start-t.the-type Start-l.the-copy 𝓤 H A W }
 
-abbrev Frame-of : ℕ → ℕ → ℕ → ℕ → Frame
-Frame-of x0 x1 x2 x3 = record { «max_clients» = x0; time = x1; «session_id» = x2; «stream_id» = x3 }
+abbrev Frame-of : ℕ → ℕ → ℕ → ℕ → ℕ → Frame
+Frame-of x0 x1 x2 x3 x4 = record { «max_clients» = x0; time = x1; «session_id» = x2; «stream_id» = x3; room = x4 }
 
 abbrev Frame-p : Plain
 Frame-p = record { row = Frame-t.the-row; val = LL.val Frame-t.the-type Frame-l.the-laws; tells = LL.tells Frame-t.the-type Frame-l.the-laws; makes = λ 𝓤 H A W. LL.makes Frame-t.the-type Frame-l.the-plain 𝓤 H A; ty = Frame-l.mir; typed = λ 𝓤 H A W x is. LL.lawful Frame-t.the-type Frame-l.the-laws 𝓤 H A W .typed x _ is .0; copies = λ 𝓤 H A W. LL.copy Frame-t.the-type Frame-l.the-copy 𝓤 H A W }
@@ -207,7 +211,7 @@ abbrev Turn-p : Plain
 Turn-p = record { row = Turn-t.the-row; val = EL.val Turn-t.the-type Turn-l.the-laws; tells = EL.tells Turn-t.the-type Turn-l.the-laws; makes = λ 𝓤 H A W. EL.makes Turn-t.the-type Turn-l.the-plain 𝓤 H A; ty = Turn-l.mir; typed = λ 𝓤 H A W x is. EL.lawful Turn-t.the-type Turn-l.the-laws 𝓤 H A W tt .typed x _ is .0; copies = λ 𝓤 H A W. EL.copy Turn-t.the-type Turn-l.the-copy 𝓤 H A W }
 
 abbrev stayed : Stays (f.ended .signature .params) (f.ended .kept)
-stayed = (stay-none-slice (0 ∷ []) tt (plain (λ _. (Array u64 5))) yes, (stay-none-slice (1 ∷ []) tt (plain (λ _. (Array u16 35))) yes, (stay-none-slice (2 ∷ []) tt (plain (λ _. Object-t.the-row)) yes, (stay-none-slice (3 ∷ []) tt (plain (λ _. u8)) yes, (stay-none (λ _. Agent-p .row) yes, (stay-none (λ _. Input-p .row) yes, (stay-none (λ _. u64-p .row) yes, tt)))))))
+stayed = (stay-none-slice (0 ∷ []) tt (plain (λ _. (Array u64 6))) yes, (stay-none-slice (1 ∷ []) tt (plain (λ _. (Array u16 35))) yes, (stay-none-slice (2 ∷ []) tt (plain (λ _. Object-t.the-row)) yes, (stay-none-slice (3 ∷ []) tt (plain (λ _. u8)) yes, (stay-none-slice (4 ∷ []) tt (plain (λ _. u8)) yes, (stay-none (λ _. Agent-p .row) yes, (stay-none (λ _. Input-p .row) yes, (stay-none (λ _. u64-p .row) yes, (stay-none (λ _. u64-p .row) yes, tt)))))))))
 
 module _ {M : Type 1} (𝓤 : URA M) (H : Heap 𝓤) (A : Atoms 𝓤) (mem : Memory → SProp 𝓤) (run : Routine → Fun 𝓤) where
   abbrev Of-judge-whose-turn : Contract 𝓤
@@ -216,14 +220,17 @@ module _ {M : Type 1} (𝓤 : URA M) (H : Heap 𝓤) (A : Atoms 𝓤) (mem : Mem
   abbrev Of-judge-session-of : Contract 𝓤
   Of-judge-session-of = tripleOf 𝓤 H A judge-session-of.signature (judge-session-of.spec 𝓤 H A mem run)
 
+  abbrev Of-judge-stream-of : Contract 𝓤
+  Of-judge-stream-of = tripleOf 𝓤 H A judge-stream-of.signature (judge-stream-of.spec 𝓤 H A mem run)
+
   abbrev Of-limits-within-limits : Contract 𝓤
   Of-limits-within-limits = tripleOf 𝓤 H A limits-within-limits.signature (limits-within-limits.spec 𝓤 H A mem run)
 
   abbrev Of-judge-judged-by : Contract 𝓤
   Of-judge-judged-by = tripleOf 𝓤 H A judge-judged-by.signature (judge-judged-by.spec 𝓤 H A mem run)
 
-module _ {M : Type 1} (𝓤 : URA M) (H : Heap 𝓤) (A : Atoms 𝓤) (W : Given 𝓤 H A) (mem : Memory → SProp 𝓤) (run : Routine → Fun 𝓤) (κ₁ : Lft) (q₁ : Share) (b₁ o₁ : ℕ) (γ₁ : GName) (sessions : List (List ℕ)) (κ₂ : Lft) (q₂ : Share) (b₂ o₂ : ℕ) (γ₂ : GName) (streams : List (List ℕ)) (κ₃ : Lft) (q₃ : Share) (b₃ o₃ : ℕ) (γ₃ : GName) (objects : List Object) (κ₄ : Lft) (q₄ : Share) (b₄ o₄ : ℕ) (γ₄ : GName) (d : List ℕ) (a : Agent) (input : Input) (sample : ℕ)
-    (room₁ : Room (Array u64 5) (length sessions)) (room₂ : Room (Array u16 35) (length streams)) (room₃ : Room Object-t.the-row (length objects)) (room₄ : Room u8 (length d)) (a-is : Is (Agent-p .row) a (Agent-p .val a ∷ [])) (input-is : Is (Input-p .row) input (Input-p .val input ∷ [])) (sample-is : Is (u64-p .row) sample (u64-p .val sample ∷ [])) where
+module _ {M : Type 1} (𝓤 : URA M) (H : Heap 𝓤) (A : Atoms 𝓤) (W : Given 𝓤 H A) (mem : Memory → SProp 𝓤) (run : Routine → Fun 𝓤) (κ₁ : Lft) (q₁ : Share) (b₁ o₁ : ℕ) (γ₁ : GName) (sessions : List (List ℕ)) (κ₂ : Lft) (q₂ : Share) (b₂ o₂ : ℕ) (γ₂ : GName) (streams : List (List ℕ)) (κ₃ : Lft) (q₃ : Share) (b₃ o₃ : ℕ) (γ₃ : GName) (objects : List Object) (κ₄ : Lft) (q₄ : Share) (b₄ o₄ : ℕ) (γ₄ : GName) (held : List ℕ) (κ₅ : Lft) (q₅ : Share) (b₅ o₅ : ℕ) (γ₅ : GName) (d : List ℕ) (a : Agent) (input : Input) (sample : ℕ) (room : ℕ)
+    (room₁ : Room (Array u64 6) (length sessions)) (room₂ : Room (Array u16 35) (length streams)) (room₃ : Room Object-t.the-row (length objects)) (room₄ : Room u8 (length held)) (room₅ : Room u8 (length d)) (a-is : Is (Agent-p .row) a (Agent-p .val a ∷ [])) (input-is : Is (Input-p .row) input (Input-p .val input ∷ [])) (sample-is : Is (u64-p .row) sample (u64-p .val sample ∷ [])) (room-is : Is (u64-p .row) room (u64-p .val room ∷ [])) where
   abbrev n₁ : ℕ
   n₁ = length sessions
 
@@ -234,29 +241,33 @@ module _ {M : Type 1} (𝓤 : URA M) (H : Heap 𝓤) (A : Atoms 𝓤) (W : Given
   n₃ = length objects
 
   abbrev n₄ : ℕ
-  n₄ = length d
+  n₄ = length held
 
-  abbrev x : RefT (List (List ℕ)) × (RefT (List (List ℕ)) × (RefT (List Object) × (RefT (List ℕ) × (Agent-p .row .Denot × (Input-p .row .Denot × (u64-p .row .Denot × (Unit {0})))))))
-  x = (at-list b₁ o₁ γ₁ sessions, (at-list b₂ o₂ γ₂ streams, (at-list b₃ o₃ γ₃ objects, (at-list b₄ o₄ γ₄ d, (a, (input, (sample, tt)))))))
+  abbrev n₅ : ℕ
+  n₅ = length d
 
-  abbrev at : Vals f.signature (κ₁, (κ₂, (κ₃, (κ₄, tt))))
-  at = (sliceVal (b₁, o₁) n₁ ∷ [], (sliceVal (b₂, o₂) n₂ ∷ [], (sliceVal (b₃, o₃) n₃ ∷ [], (sliceVal (b₄, o₄) n₄ ∷ [], (Agent-p .val a ∷ [], (Input-p .val input ∷ [], (u64-p .val sample ∷ [], tt)))))))
+  abbrev x : RefT (List (List ℕ)) × (RefT (List (List ℕ)) × (RefT (List Object) × (RefT (List ℕ) × (RefT (List ℕ) × (Agent-p .row .Denot × (Input-p .row .Denot × (u64-p .row .Denot × (u64-p .row .Denot × (Unit {0})))))))))
+  x = (at-list b₁ o₁ γ₁ sessions, (at-list b₂ o₂ γ₂ streams, (at-list b₃ o₃ γ₃ objects, (at-list b₄ o₄ γ₄ held, (at-list b₅ o₅ γ₅ d, (a, (input, (sample, (room, tt)))))))))
+
+  abbrev at : Vals f.signature (κ₁, (κ₂, (κ₃, (κ₄, (κ₅, tt)))))
+  at = (sliceVal (b₁, o₁) n₁ ∷ [], (sliceVal (b₂, o₂) n₂ ∷ [], (sliceVal (b₃, o₃) n₃ ∷ [], (sliceVal (b₄, o₄) n₄ ∷ [], (sliceVal (b₅, o₅) n₅ ∷ [], (Agent-p .val a ∷ [], (Input-p .val input ∷ [], (u64-p .val sample ∷ [], (u64-p .val room ∷ [], tt)))))))))
 
   abbrev Post : Val → SProp 𝓤
-  Post = walkOf 𝓤 H A f.ended stayed (f.clauses 𝓤 H A mem run) .post (((κ₁, (κ₂, (κ₃, (κ₄, tt)))), (q₁, (q₂, (q₃, (q₄, tt)))), tt, x, at), tt)
+  Post = walkOf 𝓤 H A f.ended stayed (f.clauses 𝓤 H A mem run) .post (((κ₁, (κ₂, (κ₃, (κ₄, (κ₅, tt))))), (q₁, (q₂, (q₃, (q₄, (q₅, tt))))), tt, x, at), tt)
 
-  exits : (r : Judged) → (r ≡ judgeOf (lent (sessions) (streams) (objects)) (d) a input sample) → Is (Judged-p .row) r (Judged-p .val r ∷ []) → ent 𝓤 (⋆ 𝓤 H A (‵ (ShrSlice (named 0) κ₁ (Array u64 5) .own (at-list b₁ o₁ γ₁ sessions) (sliceVal (b₁, o₁) n₁ ∷ [])) ∷ ‵ (flft κ₁ q₁) ∷ ‵ (ShrSlice (named 1) κ₂ (Array u16 35) .own (at-list b₂ o₂ γ₂ streams) (sliceVal (b₂, o₂) n₂ ∷ [])) ∷ ‵ (flft κ₂ q₂) ∷ ‵ (ShrSlice (named 2) κ₃ Object-t.the-row .own (at-list b₃ o₃ γ₃ objects) (sliceVal (b₃, o₃) n₃ ∷ [])) ∷ ‵ (flft κ₃ q₃) ∷ ‵ (ShrSlice (named 3) κ₄ u8 .own (at-list b₄ o₄ γ₄ d) (sliceVal (b₄, o₄) n₄ ∷ [])) ∷ ‵ (flft κ₄ q₄) ∷ [])) (Post (Judged-p .val r))
+  exits : (r : Judged) → (r ≡ judgeOf (lent (sessions) (streams) (objects) (held)) (d) a input sample room) → Is (Judged-p .row) r (Judged-p .val r ∷ []) → ent 𝓤 (⋆ 𝓤 H A (‵ (ShrSlice (named 0) κ₁ (Array u64 6) .own (at-list b₁ o₁ γ₁ sessions) (sliceVal (b₁, o₁) n₁ ∷ [])) ∷ ‵ (flft κ₁ q₁) ∷ ‵ (ShrSlice (named 1) κ₂ (Array u16 35) .own (at-list b₂ o₂ γ₂ streams) (sliceVal (b₂, o₂) n₂ ∷ [])) ∷ ‵ (flft κ₂ q₂) ∷ ‵ (ShrSlice (named 2) κ₃ Object-t.the-row .own (at-list b₃ o₃ γ₃ objects) (sliceVal (b₃, o₃) n₃ ∷ [])) ∷ ‵ (flft κ₃ q₃) ∷ ‵ (ShrSlice (named 3) κ₄ u8 .own (at-list b₄ o₄ γ₄ held) (sliceVal (b₄, o₄) n₄ ∷ [])) ∷ ‵ (flft κ₄ q₄) ∷ ‵ (ShrSlice (named 4) κ₅ u8 .own (at-list b₅ o₅ γ₅ d) (sliceVal (b₅, o₅) n₅ ∷ [])) ∷ ‵ (flft κ₅ q₅) ∷ [])) (Post (Judged-p .val r))
   exits r said r-is =
-      qed W (‵ (ShrSlice (named 0) κ₁ (Array u64 5) .own (at-list b₁ o₁ γ₁ sessions) (sliceVal (b₁, o₁) n₁ ∷ [])) ∷ ‵ (flft κ₁ q₁) ∷ ‵ (ShrSlice (named 1) κ₂ (Array u16 35) .own (at-list b₂ o₂ γ₂ streams) (sliceVal (b₂, o₂) n₂ ∷ [])) ∷ ‵ (flft κ₂ q₂) ∷ ‵ (ShrSlice (named 2) κ₃ Object-t.the-row .own (at-list b₃ o₃ γ₃ objects) (sliceVal (b₃, o₃) n₃ ∷ [])) ∷ ‵ (flft κ₃ q₃) ∷ ‵ (ShrSlice (named 3) κ₄ u8 .own (at-list b₄ o₄ γ₄ d) (sliceVal (b₄, o₄) n₄ ∷ [])) ∷ ‵ (flft κ₄ q₄) ∷ []) ∵
-      suffices ! _ (ends-at 𝓤 H A f.ended stayed (f.clauses 𝓤 H A mem run) W (((κ₁, (κ₂, (κ₃, (κ₄, tt)))), (q₁, (q₂, (q₃, (q₄, tt)))), tt, x, at), tt) (Judged-p .val r) r (tt, (tt, (tt, (tt, (tt, (tt, (tt, tt))))))) (tt, (tt, (tt, (tt, (tt, (tt, (tt, tt)))))))) $ says ! said $ nothing ! $ move ! (8 ∷ 0 ∷ []) $ join ! $ move ! (6 ∷ 0 ∷ []) $ join ! $ move ! (4 ∷ 0 ∷ []) $ join ! $ move ! (2 ∷ 0 ∷ []) $ join ! $
+      qed W (‵ (ShrSlice (named 0) κ₁ (Array u64 6) .own (at-list b₁ o₁ γ₁ sessions) (sliceVal (b₁, o₁) n₁ ∷ [])) ∷ ‵ (flft κ₁ q₁) ∷ ‵ (ShrSlice (named 1) κ₂ (Array u16 35) .own (at-list b₂ o₂ γ₂ streams) (sliceVal (b₂, o₂) n₂ ∷ [])) ∷ ‵ (flft κ₂ q₂) ∷ ‵ (ShrSlice (named 2) κ₃ Object-t.the-row .own (at-list b₃ o₃ γ₃ objects) (sliceVal (b₃, o₃) n₃ ∷ [])) ∷ ‵ (flft κ₃ q₃) ∷ ‵ (ShrSlice (named 3) κ₄ u8 .own (at-list b₄ o₄ γ₄ held) (sliceVal (b₄, o₄) n₄ ∷ [])) ∷ ‵ (flft κ₄ q₄) ∷ ‵ (ShrSlice (named 4) κ₅ u8 .own (at-list b₅ o₅ γ₅ d) (sliceVal (b₅, o₅) n₅ ∷ [])) ∷ ‵ (flft κ₅ q₅) ∷ []) ∵
+      suffices ! _ (ends-at 𝓤 H A f.ended stayed (f.clauses 𝓤 H A mem run) W (((κ₁, (κ₂, (κ₃, (κ₄, (κ₅, tt))))), (q₁, (q₂, (q₃, (q₄, (q₅, tt))))), tt, x, at), tt) (Judged-p .val r) r (tt, (tt, (tt, (tt, (tt, (tt, (tt, (tt, (tt, tt))))))))) (tt, (tt, (tt, (tt, (tt, (tt, (tt, (tt, (tt, tt)))))))))) $ says ! said $ nothing ! $ move ! (10 ∷ 0 ∷ []) $ join ! $ move ! (8 ∷ 0 ∷ []) $ join ! $ move ! (6 ∷ 0 ∷ []) $ join ! $ move ! (4 ∷ 0 ∷ []) $ join ! $ move ! (2 ∷ 0 ∷ []) $ join ! $
       frame ! $ nothing ! $
+      owned ! (u64-p .row) (Is (u64-p .row)) (u64-p .makes 𝓤 H A W) room (u64-p .val room ∷ []) room-is $ fjoin ! $
       owned ! (u64-p .row) (Is (u64-p .row)) (u64-p .makes 𝓤 H A W) sample (u64-p .val sample ∷ []) sample-is $ fjoin ! $
       owned ! (Input-p .row) (Is (Input-p .row)) (Input-p .makes 𝓤 H A W) input (Input-p .val input ∷ []) input-is $ fjoin ! $
-      owned ! (Agent-p .row) (Is (Agent-p .row)) (Agent-p .makes 𝓤 H A W) a (Agent-p .val a ∷ []) a-is $ fjoin ! $ move ! (4 ∷ 0 ∷ []) $ fjoin ! $ move ! (3 ∷ 0 ∷ []) $ fjoin ! $ move ! (2 ∷ 0 ∷ []) $ fjoin ! $ move ! (1 ∷ 0 ∷ []) $ fjoin ! $
+      owned ! (Agent-p .row) (Is (Agent-p .row)) (Agent-p .makes 𝓤 H A W) a (Agent-p .val a ∷ []) a-is $ fjoin ! $ move ! (5 ∷ 0 ∷ []) $ fjoin ! $ move ! (4 ∷ 0 ∷ []) $ fjoin ! $ move ! (3 ∷ 0 ∷ []) $ fjoin ! $ move ! (2 ∷ 0 ∷ []) $ fjoin ! $ move ! (1 ∷ 0 ∷ []) $ fjoin ! $
       frame ! $
       owned ! (Judged-p .row) (Is (Judged-p .row)) (Judged-p .makes 𝓤 H A W) r _ r-is $ done !
 
-  module _ (𝓣 : Tables 𝓤 H) (known-judge-whose-turn : Triple 𝓤 (𝓣 .C #judge-whose-turn) (Of-judge-whose-turn 𝓤 H A mem run)) (known-judge-session-of : Triple 𝓤 (𝓣 .C #judge-session-of) (Of-judge-session-of 𝓤 H A mem run)) (known-limits-within-limits : Triple 𝓤 (𝓣 .C #limits-within-limits) (Of-limits-within-limits 𝓤 H A mem run)) (known-judge-judged-by : Triple 𝓤 (𝓣 .C #judge-judged-by) (Of-judge-judged-by 𝓤 H A mem run)) (l₀ l₁ l₂ l₃ l₄ l₅ l₆ l₇ l₈ l₉ l₁₀ : ℕ) where
+  module _ (𝓣 : Tables 𝓤 H) (known-judge-whose-turn : Triple 𝓤 (𝓣 .C #judge-whose-turn) (Of-judge-whose-turn 𝓤 H A mem run)) (known-judge-session-of : Triple 𝓤 (𝓣 .C #judge-session-of) (Of-judge-session-of 𝓤 H A mem run)) (known-judge-stream-of : Triple 𝓤 (𝓣 .C #judge-stream-of) (Of-judge-stream-of 𝓤 H A mem run)) (known-limits-within-limits : Triple 𝓤 (𝓣 .C #limits-within-limits) (Of-limits-within-limits 𝓤 H A mem run)) (known-judge-judged-by : Triple 𝓤 (𝓣 .C #judge-judged-by) (Of-judge-judged-by 𝓤 H A mem run)) (l₀ l₁ l₂ l₃ l₄ l₅ l₆ l₇ l₈ l₉ l₁₀ l₁₁ l₁₂ l₁₃ l₁₄ : ℕ) where
     abbrev C : Calls 𝓤 H
     C = 𝓣 .C
 
@@ -267,79 +278,98 @@ module _ {M : Type 1} (𝓤 : URA M) (H : Heap 𝓤) (A : Atoms 𝓤) (W : Given
     fm = fmOf 𝓤 H (W .laws) 𝓣
 
     abbrev En : Env 𝓤 H
-    En = (Judged-l.mir, l₀) ∷ ((sliceTy (tyRef (named 0) imm (pointee ((Array u64 5) .written)))), l₁) ∷ ((sliceTy (tyRef (named 1) imm (pointee ((Array u16 35) .written)))), l₂) ∷ ((sliceTy (tyRef (named 2) imm (pointee (Object-t.the-row .written)))), l₃) ∷ ((sliceTy (tyRef (named 3) imm (pointee (u8 .written)))), l₄) ∷ (Agent-l.mir, l₅) ∷ (Input-l.mir, l₆) ∷ ((tyInt w64), l₇) ∷ (Turn-l.mir, l₈) ∷ ((tyInt w8), l₉) ∷ (Limits-l.mir, l₁₀) ∷ []
+    En = (Judged-l.mir, l₀) ∷ ((sliceTy (tyRef (named 0) imm (pointee ((Array u64 6) .written)))), l₁) ∷ ((sliceTy (tyRef (named 1) imm (pointee ((Array u16 35) .written)))), l₂) ∷ ((sliceTy (tyRef (named 2) imm (pointee (Object-t.the-row .written)))), l₃) ∷ ((sliceTy (tyRef (named 3) imm (pointee (u8 .written)))), l₄) ∷ ((sliceTy (tyRef (named 4) imm (pointee (u8 .written)))), l₅) ∷ (Agent-l.mir, l₆) ∷ (Input-l.mir, l₇) ∷ ((tyInt w64), l₈) ∷ ((tyInt w64), l₉) ∷ (Turn-l.mir, l₁₀) ∷ ((tyInt w8), l₁₁) ∷ ((tyInt w8), l₁₂) ∷ ((tyInt w64), l₁₃) ∷ (Limits-l.mir, l₁₄) ∷ []
 
-    part-5-0 : (is-1 : Is (Turn-p .row) (turnOf (a .waits) input) (Turn-p .val (turnOf (a .waits) input) ∷ [])) → (is-2 : Is (u8-p .row) (sessionOf (d) (turnOf (a .waits) input)) (u8-p .val (sessionOf (d) (turnOf (a .waits) input)) ∷ [])) → (is-3 : Is (Limits-p .row) (limitsOf (sessions) (streams) (objects) (sessionOf (d) (turnOf (a .waits) input))) (Limits-p .val (limitsOf (sessions) (streams) (objects) (sessionOf (d) (turnOf (a .waits) input))) ∷ [])) → (is-4 : Is (Judged-p .row) (judgedBy (d) a (limitsOf (sessions) (streams) (objects) (sessionOf (d) (turnOf (a .waits) input))) (turnOf (a .waits) input) sample) (Judged-p .val (judgedBy (d) a (limitsOf (sessions) (streams) (objects) (sessionOf (d) (turnOf (a .waits) input))) (turnOf (a .waits) input) sample) ∷ [])) → Sq W (‵ (ShrSlice (named 0) κ₁ (Array u64 5) .own (at-list b₁ o₁ γ₁ sessions) (sliceVal (b₁, o₁) n₁ ∷ [])) ∷ ‵ (flft κ₁ q₁) ∷ ‵ (ShrSlice (named 0) κ₂ (Array u16 35) .own (at-list b₂ o₂ γ₂ streams) (sliceVal (b₂, o₂) n₂ ∷ [])) ∷ ‵ (flft κ₂ q₂) ∷ ‵ (ShrSlice (named 0) κ₃ Object-t.the-row .own (at-list b₃ o₃ γ₃ objects) (sliceVal (b₃, o₃) n₃ ∷ [])) ∷ ‵ (flft κ₃ q₃) ∷ ‵ (ShrSlice (named 0) κ₄ u8 .own (at-list b₄ o₄ γ₄ d) (sliceVal (b₄, o₄) n₄ ∷ [])) ∷ ‵ (flft κ₄ q₄) ∷ full 𝓤 Limits-l.mir l₁₀ (Limits-p .val (limitsOf (sessions) (streams) (objects) (sessionOf (d) (turnOf (a .waits) input)))) (full 𝓤 (tyInt w8) l₉ (u8-p .val (sessionOf (d) (turnOf (a .waits) input))) (full 𝓤 Turn-l.mir l₈ (Turn-p .val (turnOf (a .waits) input)) (full 𝓤 (tyInt w64) l₇ (u64-p .val sample) (full 𝓤 Input-l.mir l₆ (Input-p .val input) (full 𝓤 Agent-l.mir l₅ (Agent-p .val a) (full 𝓤 (sliceTy (tyRef (named 3) imm (pointee (u8 .written)))) l₄ (sliceVal (b₄, o₄) n₄) (full 𝓤 (sliceTy (tyRef (named 2) imm (pointee (Object-t.the-row .written)))) l₃ (sliceVal (b₃, o₃) n₃) (full 𝓤 (sliceTy (tyRef (named 1) imm (pointee ((Array u16 35) .written)))) l₂ (sliceVal (b₂, o₂) n₂) (full 𝓤 (sliceTy (tyRef (named 0) imm (pointee ((Array u64 5) .written)))) l₁ (sliceVal (b₁, o₁) n₁) (full 𝓤 Judged-l.mir l₀ (Judged-p .val (judgedBy (d) a (limitsOf (sessions) (streams) (objects) (sessionOf (d) (turnOf (a .waits) input))) (turnOf (a .waits) input) sample)) ([])))))))))))) (runs C Λ En mir.t-5 (atRet En Post))
-    part-5-0 is-1 is-2 is-3 is-4 =
-        returns ! (look ! 28 refl) $ forget ! 8 refl $ forget ! 10 refl $ forget ! 12 refl $ forget ! 14 refl $ forget ! 16 refl $ forget ! 18 refl $ forget ! 20 refl $ forget ! 22 refl $ forget ! 24 refl $ forget ! 26 refl $ forget ! 28 refl $ move ! (28 ∷ 29 ∷ []) $ free1 ! $ move ! (26 ∷ 27 ∷ []) $ free1 ! $ move ! (24 ∷ 25 ∷ []) $ free1 ! $ move ! (22 ∷ 23 ∷ []) $ free1 ! $ move ! (20 ∷ 21 ∷ []) $ free1 ! $ move ! (18 ∷ 19 ∷ []) $ free1 ! $ move ! (16 ∷ 17 ∷ []) $ free1 ! $ move ! (14 ∷ 15 ∷ []) $ free1 ! $ move ! (12 ∷ 13 ∷ []) $ free1 ! $ move ! (10 ∷ 11 ∷ []) $ free1 ! $ move ! (8 ∷ 9 ∷ []) $ free1 ! $ free0 ! $
-        by ! (exits (judgedBy (d) a (limitsOf (sessions) (streams) (objects) (sessionOf (d) (turnOf (a .waits) input))) (turnOf (a .waits) input) sample) (judged-whole sessions streams objects d a input sample) is-4)
+    part-7-0 : (is-1 : Is (Turn-p .row) (turnOf (a .waits) input) (Turn-p .val (turnOf (a .waits) input) ∷ [])) → (is-2 : Is (u8-p .row) (sessionOf (d) (turnOf (a .waits) input)) (u8-p .val (sessionOf (d) (turnOf (a .waits) input)) ∷ [])) → (is-3 : Is (u8-p .row) (streamOf (d) (turnOf (a .waits) input)) (u8-p .val (streamOf (d) (turnOf (a .waits) input)) ∷ [])) → (is-5 : Is (Limits-p .row) (limitsOf (sessions) (streams) (objects) n₄ (a .«max_clients») (sessionOf (d) (turnOf (a .waits) input)) (streamOf (d) (turnOf (a .waits) input))) (Limits-p .val (limitsOf (sessions) (streams) (objects) n₄ (a .«max_clients») (sessionOf (d) (turnOf (a .waits) input)) (streamOf (d) (turnOf (a .waits) input))) ∷ [])) → (is-6 : Is (Judged-p .row) (judgedBy (d) a (limitsOf (sessions) (streams) (objects) n₄ (a .«max_clients») (sessionOf (d) (turnOf (a .waits) input)) (streamOf (d) (turnOf (a .waits) input))) (turnOf (a .waits) input) sample (slotOf (turnOf (a .waits) input) (sessions) (streams) (length (held)) sample) room) (Judged-p .val (judgedBy (d) a (limitsOf (sessions) (streams) (objects) n₄ (a .«max_clients») (sessionOf (d) (turnOf (a .waits) input)) (streamOf (d) (turnOf (a .waits) input))) (turnOf (a .waits) input) sample (slotOf (turnOf (a .waits) input) (sessions) (streams) (length (held)) sample) room) ∷ [])) → Sq W (‵ (ShrSlice (named 0) κ₁ (Array u64 6) .own (at-list b₁ o₁ γ₁ sessions) (sliceVal (b₁, o₁) n₁ ∷ [])) ∷ ‵ (flft κ₁ q₁) ∷ ‵ (ShrSlice (named 0) κ₂ (Array u16 35) .own (at-list b₂ o₂ γ₂ streams) (sliceVal (b₂, o₂) n₂ ∷ [])) ∷ ‵ (flft κ₂ q₂) ∷ ‵ (ShrSlice (named 0) κ₃ Object-t.the-row .own (at-list b₃ o₃ γ₃ objects) (sliceVal (b₃, o₃) n₃ ∷ [])) ∷ ‵ (flft κ₃ q₃) ∷ ‵ (ShrSlice (named 0) κ₄ u8 .own (at-list b₄ o₄ γ₄ held) (sliceVal (b₄, o₄) n₄ ∷ [])) ∷ ‵ (flft κ₄ q₄) ∷ ‵ (ShrSlice (named 0) κ₅ u8 .own (at-list b₅ o₅ γ₅ d) (sliceVal (b₅, o₅) n₅ ∷ [])) ∷ ‵ (flft κ₅ q₅) ∷ full 𝓤 Limits-l.mir l₁₄ (Limits-p .val (limitsOf (sessions) (streams) (objects) n₄ (a .«max_clients») (sessionOf (d) (turnOf (a .waits) input)) (streamOf (d) (turnOf (a .waits) input)))) (full 𝓤 (tyInt w64) l₁₃ (u64-p .val n₄) (full 𝓤 (tyInt w8) l₁₂ (u8-p .val (streamOf (d) (turnOf (a .waits) input))) (full 𝓤 (tyInt w8) l₁₁ (u8-p .val (sessionOf (d) (turnOf (a .waits) input))) (full 𝓤 Turn-l.mir l₁₀ (Turn-p .val (turnOf (a .waits) input)) (full 𝓤 (tyInt w64) l₉ (u64-p .val room) (full 𝓤 (tyInt w64) l₈ (u64-p .val sample) (full 𝓤 Input-l.mir l₇ (Input-p .val input) (full 𝓤 Agent-l.mir l₆ (Agent-p .val a) (full 𝓤 (sliceTy (tyRef (named 4) imm (pointee (u8 .written)))) l₅ (sliceVal (b₅, o₅) n₅) (full 𝓤 (sliceTy (tyRef (named 3) imm (pointee (u8 .written)))) l₄ (sliceVal (b₄, o₄) n₄) (full 𝓤 (sliceTy (tyRef (named 2) imm (pointee (Object-t.the-row .written)))) l₃ (sliceVal (b₃, o₃) n₃) (full 𝓤 (sliceTy (tyRef (named 1) imm (pointee ((Array u16 35) .written)))) l₂ (sliceVal (b₂, o₂) n₂) (full 𝓤 (sliceTy (tyRef (named 0) imm (pointee ((Array u64 6) .written)))) l₁ (sliceVal (b₁, o₁) n₁) (full 𝓤 Judged-l.mir l₀ (Judged-p .val (judgedBy (d) a (limitsOf (sessions) (streams) (objects) n₄ (a .«max_clients») (sessionOf (d) (turnOf (a .waits) input)) (streamOf (d) (turnOf (a .waits) input))) (turnOf (a .waits) input) sample (slotOf (turnOf (a .waits) input) (sessions) (streams) (length (held)) sample) room)) ([])))))))))))))))) (runs C Λ En mir.t-7 (atRet En Post))
+    part-7-0 is-1 is-2 is-3 is-5 is-6 =
+        returns ! (look ! 38 refl) $ forget ! 10 refl $ forget ! 12 refl $ forget ! 14 refl $ forget ! 16 refl $ forget ! 18 refl $ forget ! 20 refl $ forget ! 22 refl $ forget ! 24 refl $ forget ! 26 refl $ forget ! 28 refl $ forget ! 30 refl $ forget ! 32 refl $ forget ! 34 refl $ forget ! 36 refl $ forget ! 38 refl $ move ! (38 ∷ 39 ∷ []) $ free1 ! $ move ! (36 ∷ 37 ∷ []) $ free1 ! $ move ! (34 ∷ 35 ∷ []) $ free1 ! $ move ! (32 ∷ 33 ∷ []) $ free1 ! $ move ! (30 ∷ 31 ∷ []) $ free1 ! $ move ! (28 ∷ 29 ∷ []) $ free1 ! $ move ! (26 ∷ 27 ∷ []) $ free1 ! $ move ! (24 ∷ 25 ∷ []) $ free1 ! $ move ! (22 ∷ 23 ∷ []) $ free1 ! $ move ! (20 ∷ 21 ∷ []) $ free1 ! $ move ! (18 ∷ 19 ∷ []) $ free1 ! $ move ! (16 ∷ 17 ∷ []) $ free1 ! $ move ! (14 ∷ 15 ∷ []) $ free1 ! $ move ! (12 ∷ 13 ∷ []) $ free1 ! $ move ! (10 ∷ 11 ∷ []) $ free1 ! $ free0 ! $
+        by ! (exits (judgedBy (d) a (limitsOf (sessions) (streams) (objects) n₄ (a .«max_clients») (sessionOf (d) (turnOf (a .waits) input)) (streamOf (d) (turnOf (a .waits) input))) (turnOf (a .waits) input) sample (slotOf (turnOf (a .waits) input) (sessions) (streams) (length (held)) sample) room) (judged-whole sessions streams objects held d a input sample room) is-6)
 
-    part-4-0 : (is-1 : Is (Turn-p .row) (turnOf (a .waits) input) (Turn-p .val (turnOf (a .waits) input) ∷ [])) → (is-2 : Is (u8-p .row) (sessionOf (d) (turnOf (a .waits) input)) (u8-p .val (sessionOf (d) (turnOf (a .waits) input)) ∷ [])) → (is-3 : Is (Limits-p .row) (limitsOf (sessions) (streams) (objects) (sessionOf (d) (turnOf (a .waits) input))) (Limits-p .val (limitsOf (sessions) (streams) (objects) (sessionOf (d) (turnOf (a .waits) input))) ∷ [])) → Sq W (‵ (ShrSlice (named 0) κ₁ (Array u64 5) .own (at-list b₁ o₁ γ₁ sessions) (sliceVal (b₁, o₁) n₁ ∷ [])) ∷ ‵ (flft κ₁ q₁) ∷ ‵ (ShrSlice (named 0) κ₂ (Array u16 35) .own (at-list b₂ o₂ γ₂ streams) (sliceVal (b₂, o₂) n₂ ∷ [])) ∷ ‵ (flft κ₂ q₂) ∷ ‵ (ShrSlice (named 0) κ₃ Object-t.the-row .own (at-list b₃ o₃ γ₃ objects) (sliceVal (b₃, o₃) n₃ ∷ [])) ∷ ‵ (flft κ₃ q₃) ∷ ‵ (ShrSlice (named 0) κ₄ u8 .own (at-list b₄ o₄ γ₄ d) (sliceVal (b₄, o₄) n₄ ∷ [])) ∷ ‵ (flft κ₄ q₄) ∷ full 𝓤 Limits-l.mir l₁₀ (Limits-p .val (limitsOf (sessions) (streams) (objects) (sessionOf (d) (turnOf (a .waits) input)))) (full 𝓤 (tyInt w8) l₉ (u8-p .val (sessionOf (d) (turnOf (a .waits) input))) (full 𝓤 Turn-l.mir l₈ (Turn-p .val (turnOf (a .waits) input)) (full 𝓤 (tyInt w64) l₇ (u64-p .val sample) (full 𝓤 Input-l.mir l₆ (Input-p .val input) (full 𝓤 Agent-l.mir l₅ (Agent-p .val a) (full 𝓤 (sliceTy (tyRef (named 3) imm (pointee (u8 .written)))) l₄ (sliceVal (b₄, o₄) n₄) (full 𝓤 (sliceTy (tyRef (named 2) imm (pointee (Object-t.the-row .written)))) l₃ (sliceVal (b₃, o₃) n₃) (full 𝓤 (sliceTy (tyRef (named 1) imm (pointee ((Array u16 35) .written)))) l₂ (sliceVal (b₂, o₂) n₂) (full 𝓤 (sliceTy (tyRef (named 0) imm (pointee ((Array u64 5) .written)))) l₁ (sliceVal (b₁, o₁) n₁) (free 𝓤 Judged-l.mir l₀ ([])))))))))))) (runs C Λ En mir.t-4 (atRet En Post))
-    part-4-0 is-1 is-2 is-3 =
-        -- 4: agent::judge::judged_by
-        move ! (6 ∷ 7 ∷ []) $
-        copies-shr ! u8 b₄ o₄ d n₄ $ nothing ! $ move ! (1 ∷ 0 ∷ []) $ join ! $
-        use1 W (raw (toks 𝓤 A 1 ((κ₄, tt)) ((q₄, tt)))) (id⊢ 𝓤 _) $ nothing ! $
+    part-6-0 : (is-1 : Is (Turn-p .row) (turnOf (a .waits) input) (Turn-p .val (turnOf (a .waits) input) ∷ [])) → (is-2 : Is (u8-p .row) (sessionOf (d) (turnOf (a .waits) input)) (u8-p .val (sessionOf (d) (turnOf (a .waits) input)) ∷ [])) → (is-3 : Is (u8-p .row) (streamOf (d) (turnOf (a .waits) input)) (u8-p .val (streamOf (d) (turnOf (a .waits) input)) ∷ [])) → (is-5 : Is (Limits-p .row) (limitsOf (sessions) (streams) (objects) n₄ (a .«max_clients») (sessionOf (d) (turnOf (a .waits) input)) (streamOf (d) (turnOf (a .waits) input))) (Limits-p .val (limitsOf (sessions) (streams) (objects) n₄ (a .«max_clients») (sessionOf (d) (turnOf (a .waits) input)) (streamOf (d) (turnOf (a .waits) input))) ∷ [])) → Sq W (‵ (ShrSlice (named 0) κ₁ (Array u64 6) .own (at-list b₁ o₁ γ₁ sessions) (sliceVal (b₁, o₁) n₁ ∷ [])) ∷ ‵ (flft κ₁ q₁) ∷ ‵ (ShrSlice (named 0) κ₂ (Array u16 35) .own (at-list b₂ o₂ γ₂ streams) (sliceVal (b₂, o₂) n₂ ∷ [])) ∷ ‵ (flft κ₂ q₂) ∷ ‵ (ShrSlice (named 0) κ₃ Object-t.the-row .own (at-list b₃ o₃ γ₃ objects) (sliceVal (b₃, o₃) n₃ ∷ [])) ∷ ‵ (flft κ₃ q₃) ∷ ‵ (ShrSlice (named 0) κ₄ u8 .own (at-list b₄ o₄ γ₄ held) (sliceVal (b₄, o₄) n₄ ∷ [])) ∷ ‵ (flft κ₄ q₄) ∷ ‵ (ShrSlice (named 0) κ₅ u8 .own (at-list b₅ o₅ γ₅ d) (sliceVal (b₅, o₅) n₅ ∷ [])) ∷ ‵ (flft κ₅ q₅) ∷ full 𝓤 Limits-l.mir l₁₄ (Limits-p .val (limitsOf (sessions) (streams) (objects) n₄ (a .«max_clients») (sessionOf (d) (turnOf (a .waits) input)) (streamOf (d) (turnOf (a .waits) input)))) (full 𝓤 (tyInt w64) l₁₃ (u64-p .val n₄) (full 𝓤 (tyInt w8) l₁₂ (u8-p .val (streamOf (d) (turnOf (a .waits) input))) (full 𝓤 (tyInt w8) l₁₁ (u8-p .val (sessionOf (d) (turnOf (a .waits) input))) (full 𝓤 Turn-l.mir l₁₀ (Turn-p .val (turnOf (a .waits) input)) (full 𝓤 (tyInt w64) l₉ (u64-p .val room) (full 𝓤 (tyInt w64) l₈ (u64-p .val sample) (full 𝓤 Input-l.mir l₇ (Input-p .val input) (full 𝓤 Agent-l.mir l₆ (Agent-p .val a) (full 𝓤 (sliceTy (tyRef (named 4) imm (pointee (u8 .written)))) l₅ (sliceVal (b₅, o₅) n₅) (full 𝓤 (sliceTy (tyRef (named 3) imm (pointee (u8 .written)))) l₄ (sliceVal (b₄, o₄) n₄) (full 𝓤 (sliceTy (tyRef (named 2) imm (pointee (Object-t.the-row .written)))) l₃ (sliceVal (b₃, o₃) n₃) (full 𝓤 (sliceTy (tyRef (named 1) imm (pointee ((Array u16 35) .written)))) l₂ (sliceVal (b₂, o₂) n₂) (full 𝓤 (sliceTy (tyRef (named 0) imm (pointee ((Array u64 6) .written)))) l₁ (sliceVal (b₁, o₁) n₁) (free 𝓤 Judged-l.mir l₀ ([])))))))))))))))) (runs C Λ En mir.t-6 (atRet En Post))
+    part-6-0 is-1 is-2 is-3 is-5 =
+        -- 6: agent::judge::judged_by
+        copies-shr ! (Array u64 6) b₁ o₁ sessions n₁ $ move ! (3 ∷ 4 ∷ []) $
+        copies-shr ! (Array u16 35) b₂ o₂ streams n₂ $ move ! (8 ∷ 9 ∷ []) $
+        copies-shr ! u8 b₄ o₄ held n₄ $ move ! (11 ∷ 12 ∷ []) $
+        copies-shr ! u8 b₅ o₅ d n₅ $ nothing ! $ move ! (1 ∷ 0 ∷ []) $ join ! $ move ! (3 ∷ 0 ∷ []) $ join ! $ move ! (5 ∷ 0 ∷ []) $ join ! $ move ! (7 ∷ 0 ∷ []) $ join ! $
+        use1 W (raw (toks 𝓤 A 4 ((κ₁, (κ₂, (κ₄, (κ₅, tt))))) ((q₁, (q₂, (q₄, (q₅, tt))))))) (id⊢ 𝓤 _) $ nothing ! $
+        owned ! (u64-p .row) (Is (u64-p .row)) (u64-p .makes 𝓤 H A W) room (u64-p .val room ∷ []) room-is $ fjoin ! $
         owned ! (u64-p .row) (Is (u64-p .row)) (u64-p .makes 𝓤 H A W) sample (u64-p .val sample ∷ []) sample-is $ fjoin ! $
         owned ! (Turn-p .row) (Is (Turn-p .row)) (Turn-p .makes 𝓤 H A W) (turnOf (a .waits) input) (Turn-p .val (turnOf (a .waits) input) ∷ []) is-1 $ fjoin ! $
-        owned ! (Limits-p .row) (Is (Limits-p .row)) (Limits-p .makes 𝓤 H A W) (limitsOf (sessions) (streams) (objects) (sessionOf (d) (turnOf (a .waits) input))) (Limits-p .val (limitsOf (sessions) (streams) (objects) (sessionOf (d) (turnOf (a .waits) input))) ∷ []) is-3 $ fjoin ! $
-        owned ! (Agent-p .row) (Is (Agent-p .row)) (Agent-p .makes 𝓤 H A W) a (Agent-p .val a ∷ []) a-is $ fjoin ! $ move ! (2 ∷ 0 ∷ []) $ fjoin ! $ move ! (1 ∷ 0 ∷ []) $
-        calls-any ! fm 1 [] (judge-judged-by.signature .params) (judge-judged-by.ended .kept) Judged-p (judge-judged-by.clauses 𝓤 H A mem run) known-judge-judged-by (κ₄, tt) (q₄, tt) tt (at-list b₄ o₄ γ₄ d, (a, (limitsOf (sessions) (streams) (objects) (sessionOf (d) (turnOf (a .waits) input)), (turnOf (a .waits) input, (sample, tt))))) (sliceVal (b₄, o₄) n₄ ∷ [], (Agent-p .val a ∷ [], (Limits-p .val (limitsOf (sessions) (streams) (objects) (sessionOf (d) (turnOf (a .waits) input))) ∷ [], (Turn-p .val (turnOf (a .waits) input) ∷ [], (u64-p .val sample ∷ [], tt))))) tt (judgedBy (d) a (limitsOf (sessions) (streams) (objects) (sessionOf (d) (turnOf (a .waits) input))) (turnOf (a .waits) input) sample) (λ ws-4. Unit {0}) (id⊢ 𝓤 _) (λ r ws-4. fact-mono 𝓤 (r ≡ judgedBy (d) a (limitsOf (sessions) (streams) (objects) (sessionOf (d) (turnOf (a .waits) input))) (turnOf (a .waits) input) sample) ((r ≡ (judgedBy (d) a (limitsOf (sessions) (streams) (objects) (sessionOf (d) (turnOf (a .waits) input))) (turnOf (a .waits) input) sample)) × (Unit {0})) (λ e. (e, tt))) (λ _. (and-then ! (load ! (from ! (stop !)) (look ! 20 refl)) (and-then ! (load ! (from ! (stop !)) (look ! 18 refl)) (and-then ! (load ! (from ! (stop !)) (look ! 8 refl)) (and-then ! (load ! (from ! (stop !)) (look ! 12 refl)) (and-then ! (load ! (from ! (stop !)) (look ! 14 refl)) (no-more !))))))) (λ ws-4 said-4 is-4.
-        use1 W ((‵ (flft κ₄ q₄) ⊛ ‵ ftrue)) (id⊢ 𝓤 _) $ split ! $ move ! (2 ∷ []) $ fsplit ! $ drop ! $ drop ! $ move ! (1 ∷ []) $ drop ! $
-        land ! (from ! (stop !)) (init ! 28 refl (Judged-p .typed 𝓤 H A W (judgedBy (d) a (limitsOf (sessions) (streams) (objects) (sessionOf (d) (turnOf (a .waits) input))) (turnOf (a .waits) input) sample) is-4)) $ move ! (2 ∷ 3 ∷ 4 ∷ 5 ∷ 6 ∷ 7 ∷ 1 ∷ 0 ∷ 8 ∷ 9 ∷ 10 ∷ 11 ∷ 12 ∷ 13 ∷ 14 ∷ 15 ∷ 16 ∷ 17 ∷ 18 ∷ 19 ∷ 20 ∷ 21 ∷ 22 ∷ 23 ∷ 24 ∷ 25 ∷ 26 ∷ 27 ∷ 28 ∷ 29 ∷ []) $
-        part-5-0 is-1 is-2 is-3 is-4)
+        owned ! (Limits-p .row) (Is (Limits-p .row)) (Limits-p .makes 𝓤 H A W) (limitsOf (sessions) (streams) (objects) n₄ (a .«max_clients») (sessionOf (d) (turnOf (a .waits) input)) (streamOf (d) (turnOf (a .waits) input))) (Limits-p .val (limitsOf (sessions) (streams) (objects) n₄ (a .«max_clients») (sessionOf (d) (turnOf (a .waits) input)) (streamOf (d) (turnOf (a .waits) input))) ∷ []) is-5 $ fjoin ! $
+        owned ! (Agent-p .row) (Is (Agent-p .row)) (Agent-p .makes 𝓤 H A W) a (Agent-p .val a ∷ []) a-is $ fjoin ! $ move ! (2 ∷ 0 ∷ []) $ fjoin ! $ move ! (3 ∷ 0 ∷ []) $ fjoin ! $ move ! (4 ∷ 0 ∷ []) $ fjoin ! $ move ! (5 ∷ 0 ∷ []) $ fjoin ! $ move ! (1 ∷ 0 ∷ []) $
+        calls-any ! fm 4 [] (judge-judged-by.signature .params) (judge-judged-by.ended .kept) Judged-p (judge-judged-by.clauses 𝓤 H A mem run) known-judge-judged-by (κ₁, (κ₂, (κ₄, (κ₅, tt)))) (q₁, (q₂, (q₄, (q₅, tt)))) tt (at-list b₁ o₁ γ₁ sessions, (at-list b₂ o₂ γ₂ streams, (at-list b₄ o₄ γ₄ held, (at-list b₅ o₅ γ₅ d, (a, (limitsOf (sessions) (streams) (objects) n₄ (a .«max_clients») (sessionOf (d) (turnOf (a .waits) input)) (streamOf (d) (turnOf (a .waits) input)), (turnOf (a .waits) input, (sample, (room, tt))))))))) (sliceVal (b₁, o₁) n₁ ∷ [], (sliceVal (b₂, o₂) n₂ ∷ [], (sliceVal (b₄, o₄) n₄ ∷ [], (sliceVal (b₅, o₅) n₅ ∷ [], (Agent-p .val a ∷ [], (Limits-p .val (limitsOf (sessions) (streams) (objects) n₄ (a .«max_clients») (sessionOf (d) (turnOf (a .waits) input)) (streamOf (d) (turnOf (a .waits) input))) ∷ [], (Turn-p .val (turnOf (a .waits) input) ∷ [], (u64-p .val sample ∷ [], (u64-p .val room ∷ [], tt))))))))) tt (judgedBy (d) a (limitsOf (sessions) (streams) (objects) n₄ (a .«max_clients») (sessionOf (d) (turnOf (a .waits) input)) (streamOf (d) (turnOf (a .waits) input))) (turnOf (a .waits) input) sample (slotOf (turnOf (a .waits) input) (sessions) (streams) (length (held)) sample) room) (λ ws-6. Unit {0}) (id⊢ 𝓤 _) (λ r ws-6. fact-mono 𝓤 (r ≡ judgedBy (d) a (limitsOf (sessions) (streams) (objects) n₄ (a .«max_clients») (sessionOf (d) (turnOf (a .waits) input)) (streamOf (d) (turnOf (a .waits) input))) (turnOf (a .waits) input) sample (slotOf (turnOf (a .waits) input) (sessions) (streams) (length (held)) sample) room) ((r ≡ (judgedBy (d) a (limitsOf (sessions) (streams) (objects) n₄ (a .«max_clients») (sessionOf (d) (turnOf (a .waits) input)) (streamOf (d) (turnOf (a .waits) input))) (turnOf (a .waits) input) sample (slotOf (turnOf (a .waits) input) (sessions) (streams) (length (held)) sample) room)) × (Unit {0})) (λ e. (e, tt))) (λ _. (and-then ! (load ! (from ! (stop !)) (look ! 33 refl)) (and-then ! (load ! (from ! (stop !)) (look ! 31 refl)) (and-then ! (load ! (from ! (stop !)) (look ! 27 refl)) (and-then ! (load ! (from ! (stop !)) (look ! 25 refl)) (and-then ! (load ! (from ! (stop !)) (look ! 23 refl)) (and-then ! (load ! (from ! (stop !)) (look ! 7 refl)) (and-then ! (load ! (from ! (stop !)) (look ! 15 refl)) (and-then ! (load ! (from ! (stop !)) (look ! 19 refl)) (and-then ! (load ! (from ! (stop !)) (look ! 17 refl)) (no-more !))))))))))) (λ ws-6 said-6 is-6.
+        use1 W ((‵ (flft κ₁ q₁) ⊛ (‵ (flft κ₂ q₂) ⊛ (‵ (flft κ₄ q₄) ⊛ (‵ (flft κ₅ q₅) ⊛ ‵ ftrue))))) (id⊢ 𝓤 _) $ split ! $ move ! (1 ∷ []) $ split ! $ move ! (1 ∷ []) $ split ! $ move ! (1 ∷ []) $ split ! $ move ! (5 ∷ []) $ fsplit ! $ move ! (1 ∷ []) $ fsplit ! $ move ! (1 ∷ []) $ fsplit ! $ move ! (1 ∷ []) $ fsplit ! $ drop ! $ drop ! $ drop ! $ drop ! $ drop ! $ move ! (1 ∷ []) $ drop ! $
+        land ! (from ! (stop !)) (init ! 38 refl (Judged-p .typed 𝓤 H A W (judgedBy (d) a (limitsOf (sessions) (streams) (objects) n₄ (a .«max_clients») (sessionOf (d) (turnOf (a .waits) input)) (streamOf (d) (turnOf (a .waits) input))) (turnOf (a .waits) input) sample (slotOf (turnOf (a .waits) input) (sessions) (streams) (length (held)) sample) room) is-6)) $ move ! (7 ∷ 3 ∷ 6 ∷ 2 ∷ 8 ∷ 9 ∷ 5 ∷ 1 ∷ 4 ∷ 0 ∷ 10 ∷ 11 ∷ 12 ∷ 13 ∷ 14 ∷ 15 ∷ 16 ∷ 17 ∷ 18 ∷ 19 ∷ 20 ∷ 21 ∷ 22 ∷ 23 ∷ 24 ∷ 25 ∷ 26 ∷ 27 ∷ 28 ∷ 29 ∷ 30 ∷ 31 ∷ 32 ∷ 33 ∷ 34 ∷ 35 ∷ 36 ∷ 37 ∷ 38 ∷ 39 ∷ []) $
+        part-7-0 is-1 is-2 is-3 is-5 is-6)
 
-    part-3-0 : (is-1 : Is (Turn-p .row) (turnOf (a .waits) input) (Turn-p .val (turnOf (a .waits) input) ∷ [])) → (is-2 : Is (u8-p .row) (sessionOf (d) (turnOf (a .waits) input)) (u8-p .val (sessionOf (d) (turnOf (a .waits) input)) ∷ [])) → Sq W (‵ (ShrSlice (named 0) κ₁ (Array u64 5) .own (at-list b₁ o₁ γ₁ sessions) (sliceVal (b₁, o₁) n₁ ∷ [])) ∷ ‵ (flft κ₁ q₁) ∷ ‵ (ShrSlice (named 0) κ₂ (Array u16 35) .own (at-list b₂ o₂ γ₂ streams) (sliceVal (b₂, o₂) n₂ ∷ [])) ∷ ‵ (flft κ₂ q₂) ∷ ‵ (ShrSlice (named 0) κ₃ Object-t.the-row .own (at-list b₃ o₃ γ₃ objects) (sliceVal (b₃, o₃) n₃ ∷ [])) ∷ ‵ (flft κ₃ q₃) ∷ ‵ (ShrSlice (named 0) κ₄ u8 .own (at-list b₄ o₄ γ₄ d) (sliceVal (b₄, o₄) n₄ ∷ [])) ∷ ‵ (flft κ₄ q₄) ∷ free 𝓤 Limits-l.mir l₁₀ (full 𝓤 (tyInt w8) l₉ (u8-p .val (sessionOf (d) (turnOf (a .waits) input))) (full 𝓤 Turn-l.mir l₈ (Turn-p .val (turnOf (a .waits) input)) (full 𝓤 (tyInt w64) l₇ (u64-p .val sample) (full 𝓤 Input-l.mir l₆ (Input-p .val input) (full 𝓤 Agent-l.mir l₅ (Agent-p .val a) (full 𝓤 (sliceTy (tyRef (named 3) imm (pointee (u8 .written)))) l₄ (sliceVal (b₄, o₄) n₄) (full 𝓤 (sliceTy (tyRef (named 2) imm (pointee (Object-t.the-row .written)))) l₃ (sliceVal (b₃, o₃) n₃) (full 𝓤 (sliceTy (tyRef (named 1) imm (pointee ((Array u16 35) .written)))) l₂ (sliceVal (b₂, o₂) n₂) (full 𝓤 (sliceTy (tyRef (named 0) imm (pointee ((Array u64 5) .written)))) l₁ (sliceVal (b₁, o₁) n₁) (free 𝓤 Judged-l.mir l₀ ([])))))))))))) (runs C Λ En mir.t-3 (atRet En Post))
-    part-3-0 is-1 is-2 =
-        -- 3: sessions::limits::within_limits
-        copies-shr ! (Array u64 5) b₁ o₁ sessions n₁ $ move ! (3 ∷ 4 ∷ []) $
+    part-4-0 : (is-1 : Is (Turn-p .row) (turnOf (a .waits) input) (Turn-p .val (turnOf (a .waits) input) ∷ [])) → (is-2 : Is (u8-p .row) (sessionOf (d) (turnOf (a .waits) input)) (u8-p .val (sessionOf (d) (turnOf (a .waits) input)) ∷ [])) → (is-3 : Is (u8-p .row) (streamOf (d) (turnOf (a .waits) input)) (u8-p .val (streamOf (d) (turnOf (a .waits) input)) ∷ [])) → Sq W (‵ (ShrSlice (named 0) κ₁ (Array u64 6) .own (at-list b₁ o₁ γ₁ sessions) (sliceVal (b₁, o₁) n₁ ∷ [])) ∷ ‵ (flft κ₁ q₁) ∷ ‵ (ShrSlice (named 0) κ₂ (Array u16 35) .own (at-list b₂ o₂ γ₂ streams) (sliceVal (b₂, o₂) n₂ ∷ [])) ∷ ‵ (flft κ₂ q₂) ∷ ‵ (ShrSlice (named 0) κ₃ Object-t.the-row .own (at-list b₃ o₃ γ₃ objects) (sliceVal (b₃, o₃) n₃ ∷ [])) ∷ ‵ (flft κ₃ q₃) ∷ ‵ (ShrSlice (named 0) κ₄ u8 .own (at-list b₄ o₄ γ₄ held) (sliceVal (b₄, o₄) n₄ ∷ [])) ∷ ‵ (flft κ₄ q₄) ∷ ‵ (ShrSlice (named 0) κ₅ u8 .own (at-list b₅ o₅ γ₅ d) (sliceVal (b₅, o₅) n₅ ∷ [])) ∷ ‵ (flft κ₅ q₅) ∷ free 𝓤 Limits-l.mir l₁₄ (free 𝓤 (tyInt w64) l₁₃ (full 𝓤 (tyInt w8) l₁₂ (u8-p .val (streamOf (d) (turnOf (a .waits) input))) (full 𝓤 (tyInt w8) l₁₁ (u8-p .val (sessionOf (d) (turnOf (a .waits) input))) (full 𝓤 Turn-l.mir l₁₀ (Turn-p .val (turnOf (a .waits) input)) (full 𝓤 (tyInt w64) l₉ (u64-p .val room) (full 𝓤 (tyInt w64) l₈ (u64-p .val sample) (full 𝓤 Input-l.mir l₇ (Input-p .val input) (full 𝓤 Agent-l.mir l₆ (Agent-p .val a) (full 𝓤 (sliceTy (tyRef (named 4) imm (pointee (u8 .written)))) l₅ (sliceVal (b₅, o₅) n₅) (full 𝓤 (sliceTy (tyRef (named 3) imm (pointee (u8 .written)))) l₄ (sliceVal (b₄, o₄) n₄) (full 𝓤 (sliceTy (tyRef (named 2) imm (pointee (Object-t.the-row .written)))) l₃ (sliceVal (b₃, o₃) n₃) (full 𝓤 (sliceTy (tyRef (named 1) imm (pointee ((Array u16 35) .written)))) l₂ (sliceVal (b₂, o₂) n₂) (full 𝓤 (sliceTy (tyRef (named 0) imm (pointee ((Array u64 6) .written)))) l₁ (sliceVal (b₁, o₁) n₁) (free 𝓤 Judged-l.mir l₀ ([])))))))))))))))) (runs C Λ En mir.t-4 (atRet En Post))
+    part-4-0 is-1 is-2 is-3 =
+        assigns ! (of-opd ! (load ! (from ! (fld ! refl (stop !))) (look-in ! 30 (sub ! 1 refl (whole !))))) (from ! (stop !)) (init ! 12 refl (u64-p .typed 𝓤 H A W n₄ ((refl, room₄ .0)))) $
+        -- 5: sessions::limits::within_limits
+        copies-shr ! (Array u64 6) b₁ o₁ sessions n₁ $ move ! (3 ∷ 4 ∷ []) $
         copies-shr ! (Array u16 35) b₂ o₂ streams n₂ $ move ! (6 ∷ 7 ∷ []) $
         copies-shr ! Object-t.the-row b₃ o₃ objects n₃ $ nothing ! $ move ! (1 ∷ 0 ∷ []) $ join ! $ move ! (3 ∷ 0 ∷ []) $ join ! $ move ! (5 ∷ 0 ∷ []) $ join ! $
         use1 W (raw (toks 𝓤 A 3 ((κ₁, (κ₂, (κ₃, tt)))) ((q₁, (q₂, (q₃, tt)))))) (id⊢ 𝓤 _) $ nothing ! $
-        owned ! (u8-p .row) (Is (u8-p .row)) (u8-p .makes 𝓤 H A W) (sessionOf (d) (turnOf (a .waits) input)) (u8-p .val (sessionOf (d) (turnOf (a .waits) input)) ∷ []) is-2 $ fjoin ! $ move ! (2 ∷ 0 ∷ []) $ fjoin ! $ move ! (3 ∷ 0 ∷ []) $ fjoin ! $ move ! (4 ∷ 0 ∷ []) $ fjoin ! $ move ! (1 ∷ 0 ∷ []) $
-        calls-any ! fm 3 [] (limits-within-limits.signature .params) (limits-within-limits.ended .kept) Limits-p (limits-within-limits.clauses 𝓤 H A mem run) known-limits-within-limits (κ₁, (κ₂, (κ₃, tt))) (q₁, (q₂, (q₃, tt))) tt (at-list b₁ o₁ γ₁ sessions, (at-list b₂ o₂ γ₂ streams, (at-list b₃ o₃ γ₃ objects, (sessionOf (d) (turnOf (a .waits) input), tt)))) (sliceVal (b₁, o₁) n₁ ∷ [], (sliceVal (b₂, o₂) n₂ ∷ [], (sliceVal (b₃, o₃) n₃ ∷ [], (u8-p .val (sessionOf (d) (turnOf (a .waits) input)) ∷ [], tt)))) tt (limitsOf (sessions) (streams) (objects) (sessionOf (d) (turnOf (a .waits) input))) (λ ws-3. Unit {0}) (id⊢ 𝓤 _) (λ r ws-3. fact-mono 𝓤 (r ≡ limitsOf (sessions) (streams) (objects) (sessionOf (d) (turnOf (a .waits) input))) ((r ≡ (limitsOf (sessions) (streams) (objects) (sessionOf (d) (turnOf (a .waits) input)))) × (Unit {0})) (λ e. (e, tt))) (λ _. (and-then ! (load ! (from ! (stop !)) (look ! 24 refl)) (and-then ! (load ! (from ! (stop !)) (look ! 22 refl)) (and-then ! (load ! (from ! (stop !)) (look ! 20 refl)) (and-then ! (load ! (from ! (stop !)) (look ! 8 refl)) (no-more !)))))) (λ ws-3 said-3 is-3.
+        owned ! (u8-p .row) (Is (u8-p .row)) (u8-p .makes 𝓤 H A W) (streamOf (d) (turnOf (a .waits) input)) (u8-p .val (streamOf (d) (turnOf (a .waits) input)) ∷ []) is-3 $ fjoin ! $
+        owned ! (u8-p .row) (Is (u8-p .row)) (u8-p .makes 𝓤 H A W) (sessionOf (d) (turnOf (a .waits) input)) (u8-p .val (sessionOf (d) (turnOf (a .waits) input)) ∷ []) is-2 $ fjoin ! $
+        owned ! (u64-p .row) (Is (u64-p .row)) (u64-p .makes 𝓤 H A W) (a .«max_clients») (u64-p .val (a .«max_clients») ∷ []) (LL.owed Agent-t.the-type Agent-l.the-laws a _ a-is .0) $ fjoin ! $
+        owned ! (u64-p .row) (Is (u64-p .row)) (u64-p .makes 𝓤 H A W) n₄ (u64-p .val n₄ ∷ []) ((refl, room₄ .0)) $ fjoin ! $ move ! (2 ∷ 0 ∷ []) $ fjoin ! $ move ! (3 ∷ 0 ∷ []) $ fjoin ! $ move ! (4 ∷ 0 ∷ []) $ fjoin ! $ move ! (1 ∷ 0 ∷ []) $
+        calls-any ! fm 3 [] (limits-within-limits.signature .params) (limits-within-limits.ended .kept) Limits-p (limits-within-limits.clauses 𝓤 H A mem run) known-limits-within-limits (κ₁, (κ₂, (κ₃, tt))) (q₁, (q₂, (q₃, tt))) tt (at-list b₁ o₁ γ₁ sessions, (at-list b₂ o₂ γ₂ streams, (at-list b₃ o₃ γ₃ objects, (n₄, (a .«max_clients», (sessionOf (d) (turnOf (a .waits) input), (streamOf (d) (turnOf (a .waits) input), tt))))))) (sliceVal (b₁, o₁) n₁ ∷ [], (sliceVal (b₂, o₂) n₂ ∷ [], (sliceVal (b₃, o₃) n₃ ∷ [], (u64-p .val n₄ ∷ [], (u64-p .val (a .«max_clients») ∷ [], (u8-p .val (sessionOf (d) (turnOf (a .waits) input)) ∷ [], (u8-p .val (streamOf (d) (turnOf (a .waits) input)) ∷ [], tt))))))) tt (limitsOf (sessions) (streams) (objects) n₄ (a .«max_clients») (sessionOf (d) (turnOf (a .waits) input)) (streamOf (d) (turnOf (a .waits) input))) (λ ws-5. Unit {0}) (id⊢ 𝓤 _) (λ r ws-5. fact-mono 𝓤 (r ≡ limitsOf (sessions) (streams) (objects) n₄ (a .«max_clients») (sessionOf (d) (turnOf (a .waits) input)) (streamOf (d) (turnOf (a .waits) input))) ((r ≡ (limitsOf (sessions) (streams) (objects) n₄ (a .«max_clients») (sessionOf (d) (turnOf (a .waits) input)) (streamOf (d) (turnOf (a .waits) input)))) × (Unit {0})) (λ e. (e, tt))) (λ _. (and-then ! (load ! (from ! (stop !)) (look ! 34 refl)) (and-then ! (load ! (from ! (stop !)) (look ! 32 refl)) (and-then ! (load ! (from ! (stop !)) (look ! 30 refl)) (and-then ! (load ! (from ! (stop !)) (look ! 10 refl)) (and-then ! (load ! (from ! (fld ! refl (stop !))) (look-in ! 24 (sub ! 0 refl (whole !)))) (and-then ! (load ! (from ! (stop !)) (look ! 14 refl)) (and-then ! (load ! (from ! (stop !)) (look ! 12 refl)) (no-more !))))))))) (λ ws-5 said-5 is-5.
         use1 W ((‵ (flft κ₁ q₁) ⊛ (‵ (flft κ₂ q₂) ⊛ (‵ (flft κ₃ q₃) ⊛ ‵ ftrue)))) (id⊢ 𝓤 _) $ split ! $ move ! (1 ∷ []) $ split ! $ move ! (1 ∷ []) $ split ! $ move ! (4 ∷ []) $ fsplit ! $ move ! (1 ∷ []) $ fsplit ! $ move ! (1 ∷ []) $ fsplit ! $ drop ! $ drop ! $ drop ! $ drop ! $ move ! (1 ∷ []) $ drop ! $
-        land ! (from ! (stop !)) (init ! 8 refl (Limits-p .typed 𝓤 H A W (limitsOf (sessions) (streams) (objects) (sessionOf (d) (turnOf (a .waits) input))) is-3)) $ move ! (5 ∷ 2 ∷ 4 ∷ 1 ∷ 3 ∷ 0 ∷ 6 ∷ 7 ∷ 8 ∷ 9 ∷ 10 ∷ 11 ∷ 12 ∷ 13 ∷ 14 ∷ 15 ∷ 16 ∷ 17 ∷ 18 ∷ 19 ∷ 20 ∷ 21 ∷ 22 ∷ 23 ∷ 24 ∷ 25 ∷ 26 ∷ 27 ∷ 28 ∷ 29 ∷ []) $
+        land ! (from ! (stop !)) (init ! 10 refl (Limits-p .typed 𝓤 H A W (limitsOf (sessions) (streams) (objects) n₄ (a .«max_clients») (sessionOf (d) (turnOf (a .waits) input)) (streamOf (d) (turnOf (a .waits) input))) is-5)) $ move ! (5 ∷ 2 ∷ 4 ∷ 1 ∷ 3 ∷ 0 ∷ 6 ∷ 7 ∷ 8 ∷ 9 ∷ 10 ∷ 11 ∷ 12 ∷ 13 ∷ 14 ∷ 15 ∷ 16 ∷ 17 ∷ 18 ∷ 19 ∷ 20 ∷ 21 ∷ 22 ∷ 23 ∷ 24 ∷ 25 ∷ 26 ∷ 27 ∷ 28 ∷ 29 ∷ 30 ∷ 31 ∷ 32 ∷ 33 ∷ 34 ∷ 35 ∷ 36 ∷ 37 ∷ 38 ∷ 39 ∷ []) $
+        part-6-0 is-1 is-2 is-3 is-5)
+
+    part-3-0 : (is-1 : Is (Turn-p .row) (turnOf (a .waits) input) (Turn-p .val (turnOf (a .waits) input) ∷ [])) → (is-2 : Is (u8-p .row) (sessionOf (d) (turnOf (a .waits) input)) (u8-p .val (sessionOf (d) (turnOf (a .waits) input)) ∷ [])) → Sq W (‵ (ShrSlice (named 0) κ₁ (Array u64 6) .own (at-list b₁ o₁ γ₁ sessions) (sliceVal (b₁, o₁) n₁ ∷ [])) ∷ ‵ (flft κ₁ q₁) ∷ ‵ (ShrSlice (named 0) κ₂ (Array u16 35) .own (at-list b₂ o₂ γ₂ streams) (sliceVal (b₂, o₂) n₂ ∷ [])) ∷ ‵ (flft κ₂ q₂) ∷ ‵ (ShrSlice (named 0) κ₃ Object-t.the-row .own (at-list b₃ o₃ γ₃ objects) (sliceVal (b₃, o₃) n₃ ∷ [])) ∷ ‵ (flft κ₃ q₃) ∷ ‵ (ShrSlice (named 0) κ₄ u8 .own (at-list b₄ o₄ γ₄ held) (sliceVal (b₄, o₄) n₄ ∷ [])) ∷ ‵ (flft κ₄ q₄) ∷ ‵ (ShrSlice (named 0) κ₅ u8 .own (at-list b₅ o₅ γ₅ d) (sliceVal (b₅, o₅) n₅ ∷ [])) ∷ ‵ (flft κ₅ q₅) ∷ free 𝓤 Limits-l.mir l₁₄ (free 𝓤 (tyInt w64) l₁₃ (free 𝓤 (tyInt w8) l₁₂ (full 𝓤 (tyInt w8) l₁₁ (u8-p .val (sessionOf (d) (turnOf (a .waits) input))) (full 𝓤 Turn-l.mir l₁₀ (Turn-p .val (turnOf (a .waits) input)) (full 𝓤 (tyInt w64) l₉ (u64-p .val room) (full 𝓤 (tyInt w64) l₈ (u64-p .val sample) (full 𝓤 Input-l.mir l₇ (Input-p .val input) (full 𝓤 Agent-l.mir l₆ (Agent-p .val a) (full 𝓤 (sliceTy (tyRef (named 4) imm (pointee (u8 .written)))) l₅ (sliceVal (b₅, o₅) n₅) (full 𝓤 (sliceTy (tyRef (named 3) imm (pointee (u8 .written)))) l₄ (sliceVal (b₄, o₄) n₄) (full 𝓤 (sliceTy (tyRef (named 2) imm (pointee (Object-t.the-row .written)))) l₃ (sliceVal (b₃, o₃) n₃) (full 𝓤 (sliceTy (tyRef (named 1) imm (pointee ((Array u16 35) .written)))) l₂ (sliceVal (b₂, o₂) n₂) (full 𝓤 (sliceTy (tyRef (named 0) imm (pointee ((Array u64 6) .written)))) l₁ (sliceVal (b₁, o₁) n₁) (free 𝓤 Judged-l.mir l₀ ([])))))))))))))))) (runs C Λ En mir.t-3 (atRet En Post))
+    part-3-0 is-1 is-2 =
+        -- 3: agent::judge::stream_of
+        move ! (8 ∷ 9 ∷ []) $
+        copies-shr ! u8 b₅ o₅ d n₅ $ nothing ! $ move ! (1 ∷ 0 ∷ []) $ join ! $
+        use1 W (raw (toks 𝓤 A 1 ((κ₅, tt)) ((q₅, tt)))) (id⊢ 𝓤 _) $ nothing ! $
+        owned ! (Turn-p .row) (Is (Turn-p .row)) (Turn-p .makes 𝓤 H A W) (turnOf (a .waits) input) (Turn-p .val (turnOf (a .waits) input) ∷ []) is-1 $ fjoin ! $ move ! (2 ∷ 0 ∷ []) $ fjoin ! $ move ! (1 ∷ 0 ∷ []) $
+        calls-any ! fm 1 [] (judge-stream-of.signature .params) (judge-stream-of.ended .kept) u8-p (judge-stream-of.clauses 𝓤 H A mem run) known-judge-stream-of (κ₅, tt) (q₅, tt) tt (at-list b₅ o₅ γ₅ d, (turnOf (a .waits) input, tt)) (sliceVal (b₅, o₅) n₅ ∷ [], (Turn-p .val (turnOf (a .waits) input) ∷ [], tt)) tt (streamOf (d) (turnOf (a .waits) input)) (λ ws-3. Unit {0}) (id⊢ 𝓤 _) (λ r ws-3. fact-mono 𝓤 (r ≡ streamOf (d) (turnOf (a .waits) input)) ((r ≡ (streamOf (d) (turnOf (a .waits) input))) × (Unit {0})) (λ e. (e, tt))) (λ _. (and-then ! (load ! (from ! (stop !)) (look ! 28 refl)) (and-then ! (load ! (from ! (stop !)) (look ! 18 refl)) (no-more !)))) (λ ws-3 said-3 is-3.
+        use1 W ((‵ (flft κ₅ q₅) ⊛ ‵ ftrue)) (id⊢ 𝓤 _) $ split ! $ move ! (2 ∷ []) $ fsplit ! $ drop ! $ drop ! $ move ! (1 ∷ []) $ drop ! $
+        land ! (from ! (stop !)) (init ! 14 refl (u8-p .typed 𝓤 H A W (streamOf (d) (turnOf (a .waits) input)) is-3)) $ move ! (2 ∷ 3 ∷ 4 ∷ 5 ∷ 6 ∷ 7 ∷ 8 ∷ 9 ∷ 1 ∷ 0 ∷ 10 ∷ 11 ∷ 12 ∷ 13 ∷ 14 ∷ 15 ∷ 16 ∷ 17 ∷ 18 ∷ 19 ∷ 20 ∷ 21 ∷ 22 ∷ 23 ∷ 24 ∷ 25 ∷ 26 ∷ 27 ∷ 28 ∷ 29 ∷ 30 ∷ 31 ∷ 32 ∷ 33 ∷ 34 ∷ 35 ∷ 36 ∷ 37 ∷ 38 ∷ 39 ∷ []) $
         part-4-0 is-1 is-2 is-3)
 
-    part-2-0 : (is-1 : Is (Turn-p .row) (turnOf (a .waits) input) (Turn-p .val (turnOf (a .waits) input) ∷ [])) → Sq W (‵ (ShrSlice (named 0) κ₁ (Array u64 5) .own (at-list b₁ o₁ γ₁ sessions) (sliceVal (b₁, o₁) n₁ ∷ [])) ∷ ‵ (flft κ₁ q₁) ∷ ‵ (ShrSlice (named 0) κ₂ (Array u16 35) .own (at-list b₂ o₂ γ₂ streams) (sliceVal (b₂, o₂) n₂ ∷ [])) ∷ ‵ (flft κ₂ q₂) ∷ ‵ (ShrSlice (named 0) κ₃ Object-t.the-row .own (at-list b₃ o₃ γ₃ objects) (sliceVal (b₃, o₃) n₃ ∷ [])) ∷ ‵ (flft κ₃ q₃) ∷ ‵ (ShrSlice (named 0) κ₄ u8 .own (at-list b₄ o₄ γ₄ d) (sliceVal (b₄, o₄) n₄ ∷ [])) ∷ ‵ (flft κ₄ q₄) ∷ free 𝓤 Limits-l.mir l₁₀ (free 𝓤 (tyInt w8) l₉ (full 𝓤 Turn-l.mir l₈ (Turn-p .val (turnOf (a .waits) input)) (full 𝓤 (tyInt w64) l₇ (u64-p .val sample) (full 𝓤 Input-l.mir l₆ (Input-p .val input) (full 𝓤 Agent-l.mir l₅ (Agent-p .val a) (full 𝓤 (sliceTy (tyRef (named 3) imm (pointee (u8 .written)))) l₄ (sliceVal (b₄, o₄) n₄) (full 𝓤 (sliceTy (tyRef (named 2) imm (pointee (Object-t.the-row .written)))) l₃ (sliceVal (b₃, o₃) n₃) (full 𝓤 (sliceTy (tyRef (named 1) imm (pointee ((Array u16 35) .written)))) l₂ (sliceVal (b₂, o₂) n₂) (full 𝓤 (sliceTy (tyRef (named 0) imm (pointee ((Array u64 5) .written)))) l₁ (sliceVal (b₁, o₁) n₁) (free 𝓤 Judged-l.mir l₀ ([])))))))))))) (runs C Λ En mir.t-2 (atRet En Post))
+    part-2-0 : (is-1 : Is (Turn-p .row) (turnOf (a .waits) input) (Turn-p .val (turnOf (a .waits) input) ∷ [])) → Sq W (‵ (ShrSlice (named 0) κ₁ (Array u64 6) .own (at-list b₁ o₁ γ₁ sessions) (sliceVal (b₁, o₁) n₁ ∷ [])) ∷ ‵ (flft κ₁ q₁) ∷ ‵ (ShrSlice (named 0) κ₂ (Array u16 35) .own (at-list b₂ o₂ γ₂ streams) (sliceVal (b₂, o₂) n₂ ∷ [])) ∷ ‵ (flft κ₂ q₂) ∷ ‵ (ShrSlice (named 0) κ₃ Object-t.the-row .own (at-list b₃ o₃ γ₃ objects) (sliceVal (b₃, o₃) n₃ ∷ [])) ∷ ‵ (flft κ₃ q₃) ∷ ‵ (ShrSlice (named 0) κ₄ u8 .own (at-list b₄ o₄ γ₄ held) (sliceVal (b₄, o₄) n₄ ∷ [])) ∷ ‵ (flft κ₄ q₄) ∷ ‵ (ShrSlice (named 0) κ₅ u8 .own (at-list b₅ o₅ γ₅ d) (sliceVal (b₅, o₅) n₅ ∷ [])) ∷ ‵ (flft κ₅ q₅) ∷ free 𝓤 Limits-l.mir l₁₄ (free 𝓤 (tyInt w64) l₁₃ (free 𝓤 (tyInt w8) l₁₂ (free 𝓤 (tyInt w8) l₁₁ (full 𝓤 Turn-l.mir l₁₀ (Turn-p .val (turnOf (a .waits) input)) (full 𝓤 (tyInt w64) l₉ (u64-p .val room) (full 𝓤 (tyInt w64) l₈ (u64-p .val sample) (full 𝓤 Input-l.mir l₇ (Input-p .val input) (full 𝓤 Agent-l.mir l₆ (Agent-p .val a) (full 𝓤 (sliceTy (tyRef (named 4) imm (pointee (u8 .written)))) l₅ (sliceVal (b₅, o₅) n₅) (full 𝓤 (sliceTy (tyRef (named 3) imm (pointee (u8 .written)))) l₄ (sliceVal (b₄, o₄) n₄) (full 𝓤 (sliceTy (tyRef (named 2) imm (pointee (Object-t.the-row .written)))) l₃ (sliceVal (b₃, o₃) n₃) (full 𝓤 (sliceTy (tyRef (named 1) imm (pointee ((Array u16 35) .written)))) l₂ (sliceVal (b₂, o₂) n₂) (full 𝓤 (sliceTy (tyRef (named 0) imm (pointee ((Array u64 6) .written)))) l₁ (sliceVal (b₁, o₁) n₁) (free 𝓤 Judged-l.mir l₀ ([])))))))))))))))) (runs C Λ En mir.t-2 (atRet En Post))
     part-2-0 is-1 =
         -- 2: agent::judge::session_of
-        move ! (6 ∷ 7 ∷ []) $
-        copies-shr ! u8 b₄ o₄ d n₄ $ nothing ! $ move ! (1 ∷ 0 ∷ []) $ join ! $
-        use1 W (raw (toks 𝓤 A 1 ((κ₄, tt)) ((q₄, tt)))) (id⊢ 𝓤 _) $ nothing ! $
+        move ! (8 ∷ 9 ∷ []) $
+        copies-shr ! u8 b₅ o₅ d n₅ $ nothing ! $ move ! (1 ∷ 0 ∷ []) $ join ! $
+        use1 W (raw (toks 𝓤 A 1 ((κ₅, tt)) ((q₅, tt)))) (id⊢ 𝓤 _) $ nothing ! $
         owned ! (Turn-p .row) (Is (Turn-p .row)) (Turn-p .makes 𝓤 H A W) (turnOf (a .waits) input) (Turn-p .val (turnOf (a .waits) input) ∷ []) is-1 $ fjoin ! $ move ! (2 ∷ 0 ∷ []) $ fjoin ! $ move ! (1 ∷ 0 ∷ []) $
-        calls-any ! fm 1 [] (judge-session-of.signature .params) (judge-session-of.ended .kept) u8-p (judge-session-of.clauses 𝓤 H A mem run) known-judge-session-of (κ₄, tt) (q₄, tt) tt (at-list b₄ o₄ γ₄ d, (turnOf (a .waits) input, tt)) (sliceVal (b₄, o₄) n₄ ∷ [], (Turn-p .val (turnOf (a .waits) input) ∷ [], tt)) tt (sessionOf (d) (turnOf (a .waits) input)) (λ ws-2. Unit {0}) (id⊢ 𝓤 _) (λ r ws-2. fact-mono 𝓤 (r ≡ sessionOf (d) (turnOf (a .waits) input)) ((r ≡ (sessionOf (d) (turnOf (a .waits) input))) × (Unit {0})) (λ e. (e, tt))) (λ _. (and-then ! (load ! (from ! (stop !)) (look ! 20 refl)) (and-then ! (load ! (from ! (stop !)) (look ! 12 refl)) (no-more !)))) (λ ws-2 said-2 is-2.
-        use1 W ((‵ (flft κ₄ q₄) ⊛ ‵ ftrue)) (id⊢ 𝓤 _) $ split ! $ move ! (2 ∷ []) $ fsplit ! $ drop ! $ drop ! $ move ! (1 ∷ []) $ drop ! $
-        land ! (from ! (stop !)) (init ! 10 refl (u8-p .typed 𝓤 H A W (sessionOf (d) (turnOf (a .waits) input)) is-2)) $ move ! (2 ∷ 3 ∷ 4 ∷ 5 ∷ 6 ∷ 7 ∷ 1 ∷ 0 ∷ 8 ∷ 9 ∷ 10 ∷ 11 ∷ 12 ∷ 13 ∷ 14 ∷ 15 ∷ 16 ∷ 17 ∷ 18 ∷ 19 ∷ 20 ∷ 21 ∷ 22 ∷ 23 ∷ 24 ∷ 25 ∷ 26 ∷ 27 ∷ 28 ∷ 29 ∷ []) $
+        calls-any ! fm 1 [] (judge-session-of.signature .params) (judge-session-of.ended .kept) u8-p (judge-session-of.clauses 𝓤 H A mem run) known-judge-session-of (κ₅, tt) (q₅, tt) tt (at-list b₅ o₅ γ₅ d, (turnOf (a .waits) input, tt)) (sliceVal (b₅, o₅) n₅ ∷ [], (Turn-p .val (turnOf (a .waits) input) ∷ [], tt)) tt (sessionOf (d) (turnOf (a .waits) input)) (λ ws-2. Unit {0}) (id⊢ 𝓤 _) (λ r ws-2. fact-mono 𝓤 (r ≡ sessionOf (d) (turnOf (a .waits) input)) ((r ≡ (sessionOf (d) (turnOf (a .waits) input))) × (Unit {0})) (λ e. (e, tt))) (λ _. (and-then ! (load ! (from ! (stop !)) (look ! 28 refl)) (and-then ! (load ! (from ! (stop !)) (look ! 18 refl)) (no-more !)))) (λ ws-2 said-2 is-2.
+        use1 W ((‵ (flft κ₅ q₅) ⊛ ‵ ftrue)) (id⊢ 𝓤 _) $ split ! $ move ! (2 ∷ []) $ fsplit ! $ drop ! $ drop ! $ move ! (1 ∷ []) $ drop ! $
+        land ! (from ! (stop !)) (init ! 16 refl (u8-p .typed 𝓤 H A W (sessionOf (d) (turnOf (a .waits) input)) is-2)) $ move ! (2 ∷ 3 ∷ 4 ∷ 5 ∷ 6 ∷ 7 ∷ 8 ∷ 9 ∷ 1 ∷ 0 ∷ 10 ∷ 11 ∷ 12 ∷ 13 ∷ 14 ∷ 15 ∷ 16 ∷ 17 ∷ 18 ∷ 19 ∷ 20 ∷ 21 ∷ 22 ∷ 23 ∷ 24 ∷ 25 ∷ 26 ∷ 27 ∷ 28 ∷ 29 ∷ 30 ∷ 31 ∷ 32 ∷ 33 ∷ 34 ∷ 35 ∷ 36 ∷ 37 ∷ 38 ∷ 39 ∷ []) $
         part-3-0 is-1 is-2)
 
-    begins : Sq W (‵ (ShrSlice (named 0) κ₁ (Array u64 5) .own (at-list b₁ o₁ γ₁ sessions) (sliceVal (b₁, o₁) n₁ ∷ [])) ∷ ‵ (flft κ₁ q₁) ∷ ‵ (ShrSlice (named 0) κ₂ (Array u16 35) .own (at-list b₂ o₂ γ₂ streams) (sliceVal (b₂, o₂) n₂ ∷ [])) ∷ ‵ (flft κ₂ q₂) ∷ ‵ (ShrSlice (named 0) κ₃ Object-t.the-row .own (at-list b₃ o₃ γ₃ objects) (sliceVal (b₃, o₃) n₃ ∷ [])) ∷ ‵ (flft κ₃ q₃) ∷ ‵ (ShrSlice (named 0) κ₄ u8 .own (at-list b₄ o₄ γ₄ d) (sliceVal (b₄, o₄) n₄ ∷ [])) ∷ ‵ (flft κ₄ q₄) ∷ free 𝓤 Limits-l.mir l₁₀ (free 𝓤 (tyInt w8) l₉ (free 𝓤 Turn-l.mir l₈ (full 𝓤 (tyInt w64) l₇ (u64-p .val sample) (full 𝓤 Input-l.mir l₆ (Input-p .val input) (full 𝓤 Agent-l.mir l₅ (Agent-p .val a) (full 𝓤 (sliceTy (tyRef (named 3) imm (pointee (u8 .written)))) l₄ (sliceVal (b₄, o₄) n₄) (full 𝓤 (sliceTy (tyRef (named 2) imm (pointee (Object-t.the-row .written)))) l₃ (sliceVal (b₃, o₃) n₃) (full 𝓤 (sliceTy (tyRef (named 1) imm (pointee ((Array u16 35) .written)))) l₂ (sliceVal (b₂, o₂) n₂) (full 𝓤 (sliceTy (tyRef (named 0) imm (pointee ((Array u64 5) .written)))) l₁ (sliceVal (b₁, o₁) n₁) (free 𝓤 Judged-l.mir l₀ ([])))))))))))) (runs C Λ En mir.t-1 (atRet En Post))
+    begins : Sq W (‵ (ShrSlice (named 0) κ₁ (Array u64 6) .own (at-list b₁ o₁ γ₁ sessions) (sliceVal (b₁, o₁) n₁ ∷ [])) ∷ ‵ (flft κ₁ q₁) ∷ ‵ (ShrSlice (named 0) κ₂ (Array u16 35) .own (at-list b₂ o₂ γ₂ streams) (sliceVal (b₂, o₂) n₂ ∷ [])) ∷ ‵ (flft κ₂ q₂) ∷ ‵ (ShrSlice (named 0) κ₃ Object-t.the-row .own (at-list b₃ o₃ γ₃ objects) (sliceVal (b₃, o₃) n₃ ∷ [])) ∷ ‵ (flft κ₃ q₃) ∷ ‵ (ShrSlice (named 0) κ₄ u8 .own (at-list b₄ o₄ γ₄ held) (sliceVal (b₄, o₄) n₄ ∷ [])) ∷ ‵ (flft κ₄ q₄) ∷ ‵ (ShrSlice (named 0) κ₅ u8 .own (at-list b₅ o₅ γ₅ d) (sliceVal (b₅, o₅) n₅ ∷ [])) ∷ ‵ (flft κ₅ q₅) ∷ free 𝓤 Limits-l.mir l₁₄ (free 𝓤 (tyInt w64) l₁₃ (free 𝓤 (tyInt w8) l₁₂ (free 𝓤 (tyInt w8) l₁₁ (free 𝓤 Turn-l.mir l₁₀ (full 𝓤 (tyInt w64) l₉ (u64-p .val room) (full 𝓤 (tyInt w64) l₈ (u64-p .val sample) (full 𝓤 Input-l.mir l₇ (Input-p .val input) (full 𝓤 Agent-l.mir l₆ (Agent-p .val a) (full 𝓤 (sliceTy (tyRef (named 4) imm (pointee (u8 .written)))) l₅ (sliceVal (b₅, o₅) n₅) (full 𝓤 (sliceTy (tyRef (named 3) imm (pointee (u8 .written)))) l₄ (sliceVal (b₄, o₄) n₄) (full 𝓤 (sliceTy (tyRef (named 2) imm (pointee (Object-t.the-row .written)))) l₃ (sliceVal (b₃, o₃) n₃) (full 𝓤 (sliceTy (tyRef (named 1) imm (pointee ((Array u16 35) .written)))) l₂ (sliceVal (b₂, o₂) n₂) (full 𝓤 (sliceTy (tyRef (named 0) imm (pointee ((Array u64 6) .written)))) l₁ (sliceVal (b₁, o₁) n₁) (free 𝓤 Judged-l.mir l₀ ([])))))))))))))))) (runs C Λ En mir.t-1 (atRet En Post))
     begins =
         -- 1: agent::judge::whose_turn
         nothing ! $
         use1 W (raw (toks 𝓤 A 0 (tt) (tt))) (id⊢ 𝓤 _) $ nothing ! $
         owned ! (Input-p .row) (Is (Input-p .row)) (Input-p .makes 𝓤 H A W) input (Input-p .val input ∷ []) input-is $ fjoin ! $
         owned ! (Agent-p .row) (Is (Agent-p .row)) (Agent-p .makes 𝓤 H A W) a (Agent-p .val a ∷ []) a-is $ fjoin ! $ move ! (1 ∷ 0 ∷ []) $
-        calls-any ! fm 0 [] (judge-whose-turn.signature .params) (judge-whose-turn.ended .kept) Turn-p (judge-whose-turn.clauses 𝓤 H A mem run) known-judge-whose-turn tt tt tt (a, (input, tt)) (Agent-p .val a ∷ [], (Input-p .val input ∷ [], tt)) tt (turnOf (a .waits) input) (λ ws-1. Unit {0}) (id⊢ 𝓤 _) (λ r ws-1. fact-mono 𝓤 (r ≡ turnOf (a .waits) input) ((r ≡ (turnOf (a .waits) input)) × (Unit {0})) (λ e. (e, tt))) (λ _. (and-then ! (load ! (from ! (stop !)) (look ! 19 refl)) (and-then ! (load ! (from ! (stop !)) (look ! 17 refl)) (no-more !)))) (λ ws-1 said-1 is-1.
+        calls-any ! fm 0 [] (judge-whose-turn.signature .params) (judge-whose-turn.ended .kept) Turn-p (judge-whose-turn.clauses 𝓤 H A mem run) known-judge-whose-turn tt tt tt (a, (input, tt)) (Agent-p .val a ∷ [], (Input-p .val input ∷ [], tt)) tt (turnOf (a .waits) input) (λ ws-1. Unit {0}) (id⊢ 𝓤 _) (λ r ws-1. fact-mono 𝓤 (r ≡ turnOf (a .waits) input) ((r ≡ (turnOf (a .waits) input)) × (Unit {0})) (λ e. (e, tt))) (λ _. (and-then ! (load ! (from ! (stop !)) (look ! 27 refl)) (and-then ! (load ! (from ! (stop !)) (look ! 25 refl)) (no-more !)))) (λ ws-1 said-1 is-1.
         drop ! $ drop ! $
-        land ! (from ! (stop !)) (init ! 12 refl (Turn-p .typed 𝓤 H A W (turnOf (a .waits) input) is-1)) $
+        land ! (from ! (stop !)) (init ! 18 refl (Turn-p .typed 𝓤 H A W (turnOf (a .waits) input) is-1)) $
         part-2-0 is-1)
 
-  module _ (𝓣 : Tables 𝓤 H) (known-judge-whose-turn : Triple 𝓤 (𝓣 .C #judge-whose-turn) (Of-judge-whose-turn 𝓤 H A mem run)) (known-judge-session-of : Triple 𝓤 (𝓣 .C #judge-session-of) (Of-judge-session-of 𝓤 H A mem run)) (known-limits-within-limits : Triple 𝓤 (𝓣 .C #limits-within-limits) (Of-limits-within-limits 𝓤 H A mem run)) (known-judge-judged-by : Triple 𝓤 (𝓣 .C #judge-judged-by) (Of-judge-judged-by 𝓤 H A mem run)) where
-    walk : ent 𝓤 (onEntry 𝓤 H A f.signature (κ₁, (κ₂, (κ₃, (κ₄, tt)))) (q₁, (q₂, (q₃, (q₄, tt)))) x at) (WpFn 𝓤 H (𝓣 .C) (𝓣 .Λ) code.function (sliceVal (b₁, o₁) n₁ ∷ sliceVal (b₂, o₂) n₂ ∷ sliceVal (b₃, o₃) n₃ ∷ sliceVal (b₄, o₄) n₄ ∷ Agent-p .val a ∷ Input-p .val input ∷ u64-p .val sample ∷ []) Post)
+  module _ (𝓣 : Tables 𝓤 H) (known-judge-whose-turn : Triple 𝓤 (𝓣 .C #judge-whose-turn) (Of-judge-whose-turn 𝓤 H A mem run)) (known-judge-session-of : Triple 𝓤 (𝓣 .C #judge-session-of) (Of-judge-session-of 𝓤 H A mem run)) (known-judge-stream-of : Triple 𝓤 (𝓣 .C #judge-stream-of) (Of-judge-stream-of 𝓤 H A mem run)) (known-limits-within-limits : Triple 𝓤 (𝓣 .C #limits-within-limits) (Of-limits-within-limits 𝓤 H A mem run)) (known-judge-judged-by : Triple 𝓤 (𝓣 .C #judge-judged-by) (Of-judge-judged-by 𝓤 H A mem run)) where
+    walk : ent 𝓤 (onEntry 𝓤 H A f.signature (κ₁, (κ₂, (κ₃, (κ₄, (κ₅, tt))))) (q₁, (q₂, (q₃, (q₄, (q₅, tt))))) x at) (WpFn 𝓤 H (𝓣 .C) (𝓣 .Λ) code.function (sliceVal (b₁, o₁) n₁ ∷ sliceVal (b₂, o₂) n₂ ∷ sliceVal (b₃, o₃) n₃ ∷ sliceVal (b₄, o₄) n₄ ∷ sliceVal (b₅, o₅) n₅ ∷ Agent-p .val a ∷ Input-p .val input ∷ u64-p .val sample ∷ u64-p .val room ∷ []) Post)
     walk =
-        qed W ((‵ (flft κ₁ q₁) ⊛ (‵ (flft κ₂ q₂) ⊛ (‵ (flft κ₃ q₃) ⊛ (‵ (flft κ₄ q₄) ⊛ ‵ ftrue)))) ∷ ‵ (owns (ShrSlice (named 0) κ₁ (Array u64 5) ∷ ShrSlice (named 1) κ₂ (Array u16 35) ∷ ShrSlice (named 2) κ₃ Object-t.the-row ∷ ShrSlice (named 3) κ₄ u8 ∷ Agent-p .row ∷ Input-p .row ∷ u64-p .row ∷ []) x at) ∷ []) ∵ enter ! (𝓣 .C) (𝓣 .Λ) code.function (sliceVal (b₁, o₁) n₁ ∷ sliceVal (b₂, o₂) n₂ ∷ sliceVal (b₃, o₃) n₃ ∷ sliceVal (b₄, o₄) n₄ ∷ Agent-p .val a ∷ Input-p .val input ∷ u64-p .val sample ∷ []) _ $
-        alloc1 ! (λ l₀. alloc1 ! (λ l₁. alloc1 ! (λ l₂. alloc1 ! (λ l₃. alloc1 ! (λ l₄. alloc1 ! (λ l₅. alloc1 ! (λ l₆. alloc1 ! (λ l₇. alloc1 ! (λ l₈. alloc1 ! (λ l₉. alloc1 ! (λ l₁₀. alloc0 ! $ params1 ! $ pass1 ! (init ! 18 refl (tt, (tt, (record { fits = room₁ .0 }, tt)))) $ pass1 ! (init ! 16 refl (tt, (tt, (record { fits = room₂ .0 }, tt)))) $ pass1 ! (init ! 14 refl (tt, (tt, (record { fits = room₃ .0 }, tt)))) $ pass1 ! (init ! 12 refl (tt, (tt, (record { fits = room₄ .0 }, tt)))) $ pass1 ! (init ! 10 refl (Agent-p .typed 𝓤 H A W a a-is)) $ pass1 ! (init ! 8 refl (Input-p .typed 𝓤 H A W input input-is)) $ pass1 ! (init ! 6 refl (u64-p .typed 𝓤 H A W sample sample-is)) $ pass0 ! $ move ! (23 ∷ []) $ fsplit ! $ move ! (1 ∷ []) $ fsplit ! $ move ! (1 ∷ []) $ fsplit ! $ move ! (1 ∷ []) $ fsplit ! $ move ! (27 ∷ []) $ split ! $ move ! (1 ∷ []) $ split ! $ move ! (1 ∷ []) $ split ! $ move ! (1 ∷ []) $ split ! $ move ! (1 ∷ []) $ drop ! $ move ! (5 ∷ []) $ drop ! $ move ! (7 ∷ 3 ∷ 6 ∷ 2 ∷ 5 ∷ 1 ∷ 4 ∷ 0 ∷ 8 ∷ 9 ∷ 10 ∷ 11 ∷ 12 ∷ 13 ∷ 14 ∷ 15 ∷ 16 ∷ 17 ∷ 18 ∷ 19 ∷ 20 ∷ 21 ∷ 22 ∷ 23 ∷ 24 ∷ 25 ∷ 26 ∷ 27 ∷ 28 ∷ 29 ∷ []) $
-        begins 𝓣 known-judge-whose-turn known-judge-session-of known-limits-within-limits known-judge-judged-by l₀ l₁ l₂ l₃ l₄ l₅ l₆ l₇ l₈ l₉ l₁₀)))))))))))
+        qed W ((‵ (flft κ₁ q₁) ⊛ (‵ (flft κ₂ q₂) ⊛ (‵ (flft κ₃ q₃) ⊛ (‵ (flft κ₄ q₄) ⊛ (‵ (flft κ₅ q₅) ⊛ ‵ ftrue))))) ∷ ‵ (owns (ShrSlice (named 0) κ₁ (Array u64 6) ∷ ShrSlice (named 1) κ₂ (Array u16 35) ∷ ShrSlice (named 2) κ₃ Object-t.the-row ∷ ShrSlice (named 3) κ₄ u8 ∷ ShrSlice (named 4) κ₅ u8 ∷ Agent-p .row ∷ Input-p .row ∷ u64-p .row ∷ u64-p .row ∷ []) x at) ∷ []) ∵ enter ! (𝓣 .C) (𝓣 .Λ) code.function (sliceVal (b₁, o₁) n₁ ∷ sliceVal (b₂, o₂) n₂ ∷ sliceVal (b₃, o₃) n₃ ∷ sliceVal (b₄, o₄) n₄ ∷ sliceVal (b₅, o₅) n₅ ∷ Agent-p .val a ∷ Input-p .val input ∷ u64-p .val sample ∷ u64-p .val room ∷ []) _ $
+        alloc1 ! (λ l₀. alloc1 ! (λ l₁. alloc1 ! (λ l₂. alloc1 ! (λ l₃. alloc1 ! (λ l₄. alloc1 ! (λ l₅. alloc1 ! (λ l₆. alloc1 ! (λ l₇. alloc1 ! (λ l₈. alloc1 ! (λ l₉. alloc1 ! (λ l₁₀. alloc1 ! (λ l₁₁. alloc1 ! (λ l₁₂. alloc1 ! (λ l₁₃. alloc1 ! (λ l₁₄. alloc0 ! $ params1 ! $ pass1 ! (init ! 26 refl (tt, (tt, (record { fits = room₁ .0 }, tt)))) $ pass1 ! (init ! 24 refl (tt, (tt, (record { fits = room₂ .0 }, tt)))) $ pass1 ! (init ! 22 refl (tt, (tt, (record { fits = room₃ .0 }, tt)))) $ pass1 ! (init ! 20 refl (tt, (tt, (record { fits = room₄ .0 }, tt)))) $ pass1 ! (init ! 18 refl (tt, (tt, (record { fits = room₅ .0 }, tt)))) $ pass1 ! (init ! 16 refl (Agent-p .typed 𝓤 H A W a a-is)) $ pass1 ! (init ! 14 refl (Input-p .typed 𝓤 H A W input input-is)) $ pass1 ! (init ! 12 refl (u64-p .typed 𝓤 H A W sample sample-is)) $ pass1 ! (init ! 10 refl (u64-p .typed 𝓤 H A W room room-is)) $ pass0 ! $ move ! (31 ∷ []) $ fsplit ! $ move ! (1 ∷ []) $ fsplit ! $ move ! (1 ∷ []) $ fsplit ! $ move ! (1 ∷ []) $ fsplit ! $ move ! (1 ∷ []) $ fsplit ! $ move ! (36 ∷ []) $ split ! $ move ! (1 ∷ []) $ split ! $ move ! (1 ∷ []) $ split ! $ move ! (1 ∷ []) $ split ! $ move ! (1 ∷ []) $ split ! $ move ! (1 ∷ []) $ drop ! $ move ! (6 ∷ []) $ drop ! $ move ! (9 ∷ 4 ∷ 8 ∷ 3 ∷ 7 ∷ 2 ∷ 6 ∷ 1 ∷ 5 ∷ 0 ∷ 10 ∷ 11 ∷ 12 ∷ 13 ∷ 14 ∷ 15 ∷ 16 ∷ 17 ∷ 18 ∷ 19 ∷ 20 ∷ 21 ∷ 22 ∷ 23 ∷ 24 ∷ 25 ∷ 26 ∷ 27 ∷ 28 ∷ 29 ∷ 30 ∷ 31 ∷ 32 ∷ 33 ∷ 34 ∷ 35 ∷ 36 ∷ 37 ∷ 38 ∷ 39 ∷ []) $
+        begins 𝓣 known-judge-whose-turn known-judge-session-of known-judge-stream-of known-limits-within-limits known-judge-judged-by l₀ l₁ l₂ l₃ l₄ l₅ l₆ l₇ l₈ l₉ l₁₀ l₁₁ l₁₂ l₁₃ l₁₄)))))))))))))))
 
-module _ {M : Type 1} (𝓤 : URA M) (H : Heap 𝓤) (A : Atoms 𝓤) (W : Given 𝓤 H A) (mem : Memory → SProp 𝓤) (run : Routine → Fun 𝓤) (𝓣 : Tables 𝓤 H) (known-judge-whose-turn : Triple 𝓤 (𝓣 .C #judge-whose-turn) (Of-judge-whose-turn 𝓤 H A mem run)) (known-judge-session-of : Triple 𝓤 (𝓣 .C #judge-session-of) (Of-judge-session-of 𝓤 H A mem run)) (known-limits-within-limits : Triple 𝓤 (𝓣 .C #limits-within-limits) (Of-limits-within-limits 𝓤 H A mem run)) (known-judge-judged-by : Triple 𝓤 (𝓣 .C #judge-judged-by) (Of-judge-judged-by 𝓤 H A mem run)) where
+module _ {M : Type 1} (𝓤 : URA M) (H : Heap 𝓤) (A : Atoms 𝓤) (W : Given 𝓤 H A) (mem : Memory → SProp 𝓤) (run : Routine → Fun 𝓤) (𝓣 : Tables 𝓤 H) (known-judge-whose-turn : Triple 𝓤 (𝓣 .C #judge-whose-turn) (Of-judge-whose-turn 𝓤 H A mem run)) (known-judge-session-of : Triple 𝓤 (𝓣 .C #judge-session-of) (Of-judge-session-of 𝓤 H A mem run)) (known-judge-stream-of : Triple 𝓤 (𝓣 .C #judge-stream-of) (Of-judge-stream-of 𝓤 H A mem run)) (known-limits-within-limits : Triple 𝓤 (𝓣 .C #limits-within-limits) (Of-limits-within-limits 𝓤 H A mem run)) (known-judge-judged-by : Triple 𝓤 (𝓣 .C #judge-judged-by) (Of-judge-judged-by 𝓤 H A mem run)) where
   walks : Walks 𝓤 H A f.ended stayed (WpFn 𝓤 H (𝓣 .C) (𝓣 .Λ) code.function) (f.clauses 𝓤 H A mem run)
-  walks = walked 𝓤 H A f.ended stayed (f.clauses 𝓤 H A mem run) (WpFn 𝓤 H (𝓣 .C) (𝓣 .Λ) code.function) (λ κs. (slice-vals, (slice-vals, (slice-vals, (slice-vals, ((λ y. Agent-p .val y ∷ []), ((λ y. Input-p .val y ∷ []), ((λ y. u64-p .val y ∷ []), tt)))))))) (λ κs. (shr-slice-tells (named 0) (κs .0) (Array u64 5), (shr-slice-tells (named 1) (κs .1 .0) (Array u16 35), (shr-slice-tells (named 2) (κs .1 .1 .0) Object-t.the-row, (shr-slice-tells (named 3) (κs .1 .1 .1 .0) u8, (Agent-p .tells, (Input-p .tells, (u64-p .tells, tt))))))))
-      (λ κs qs bounds a g are. via 𝓤 _ (fst∗ 𝓤 _ (emp 𝓤)) (walk 𝓤 H A W mem run (κs .0) (qs .0) (a .0 .ptr .0) (a .0 .ptr .1) (a .0 .name) (a .0 .now) (κs .1 .0) (qs .1 .0) (a .1 .0 .ptr .0) (a .1 .0 .ptr .1) (a .1 .0 .name) (a .1 .0 .now) (κs .1 .1 .0) (qs .1 .1 .0) (a .1 .1 .0 .ptr .0) (a .1 .1 .0 .ptr .1) (a .1 .1 .0 .name) (a .1 .1 .0 .now) (κs .1 .1 .1 .0) (qs .1 .1 .1 .0) (a .1 .1 .1 .0 .ptr .0) (a .1 .1 .1 .0 .ptr .1) (a .1 .1 .1 .0 .name) (a .1 .1 .1 .0 .now) (a .1 .1 .1 .1 .0) (a .1 .1 .1 .1 .1 .0) (a .1 .1 .1 .1 .1 .1 .0) (are .0 .0 .1) (are .1 .0 .0 .1) (are .1 .1 .0 .0 .1) (are .1 .1 .1 .0 .0 .1) (are .1 .1 .1 .1 .0) (are .1 .1 .1 .1 .1 .0) (are .1 .1 .1 .1 .1 .1 .0) 𝓣 known-judge-whose-turn known-judge-session-of known-limits-within-limits known-judge-judged-by))
+  walks = walked 𝓤 H A f.ended stayed (f.clauses 𝓤 H A mem run) (WpFn 𝓤 H (𝓣 .C) (𝓣 .Λ) code.function) (λ κs. (slice-vals, (slice-vals, (slice-vals, (slice-vals, (slice-vals, ((λ y. Agent-p .val y ∷ []), ((λ y. Input-p .val y ∷ []), ((λ y. u64-p .val y ∷ []), ((λ y. u64-p .val y ∷ []), tt)))))))))) (λ κs. (shr-slice-tells (named 0) (κs .0) (Array u64 6), (shr-slice-tells (named 1) (κs .1 .0) (Array u16 35), (shr-slice-tells (named 2) (κs .1 .1 .0) Object-t.the-row, (shr-slice-tells (named 3) (κs .1 .1 .1 .0) u8, (shr-slice-tells (named 4) (κs .1 .1 .1 .1 .0) u8, (Agent-p .tells, (Input-p .tells, (u64-p .tells, (u64-p .tells, tt))))))))))
+      (λ κs qs bounds a g are. via 𝓤 _ (fst∗ 𝓤 _ (emp 𝓤)) (walk 𝓤 H A W mem run (κs .0) (qs .0) (a .0 .ptr .0) (a .0 .ptr .1) (a .0 .name) (a .0 .now) (κs .1 .0) (qs .1 .0) (a .1 .0 .ptr .0) (a .1 .0 .ptr .1) (a .1 .0 .name) (a .1 .0 .now) (κs .1 .1 .0) (qs .1 .1 .0) (a .1 .1 .0 .ptr .0) (a .1 .1 .0 .ptr .1) (a .1 .1 .0 .name) (a .1 .1 .0 .now) (κs .1 .1 .1 .0) (qs .1 .1 .1 .0) (a .1 .1 .1 .0 .ptr .0) (a .1 .1 .1 .0 .ptr .1) (a .1 .1 .1 .0 .name) (a .1 .1 .1 .0 .now) (κs .1 .1 .1 .1 .0) (qs .1 .1 .1 .1 .0) (a .1 .1 .1 .1 .0 .ptr .0) (a .1 .1 .1 .1 .0 .ptr .1) (a .1 .1 .1 .1 .0 .name) (a .1 .1 .1 .1 .0 .now) (a .1 .1 .1 .1 .1 .0) (a .1 .1 .1 .1 .1 .1 .0) (a .1 .1 .1 .1 .1 .1 .1 .0) (a .1 .1 .1 .1 .1 .1 .1 .1 .0) (are .0 .0 .1) (are .1 .0 .0 .1) (are .1 .1 .0 .0 .1) (are .1 .1 .1 .0 .0 .1) (are .1 .1 .1 .1 .0 .0 .1) (are .1 .1 .1 .1 .1 .0) (are .1 .1 .1 .1 .1 .1 .0) (are .1 .1 .1 .1 .1 .1 .1 .0) (are .1 .1 .1 .1 .1 .1 .1 .1 .0) 𝓣 known-judge-whose-turn known-judge-session-of known-judge-stream-of known-limits-within-limits known-judge-judged-by))
 
   meets : Meets 𝓤 H A f.signature (WpFn 𝓤 H (𝓣 .C) (𝓣 .Λ) code.function) (f.spec 𝓤 H A mem run)
-  meets = walk-meets 𝓤 H A f.ended stayed W (goes-none-slice 𝓤 H A W 4 (0 ∷ []) tt (plain (λ _. (Array u64 5))) yes, (goes-none-slice 𝓤 H A W 4 (1 ∷ []) tt (plain (λ _. (Array u16 35))) yes, (goes-none-slice 𝓤 H A W 4 (2 ∷ []) tt (plain (λ _. Object-t.the-row)) yes, (goes-none-slice 𝓤 H A W 4 (3 ∷ []) tt (plain (λ _. u8)) yes, (goes-none 𝓤 H A W 4 (λ _. Agent-p .row) yes (λ κs x f. refl), (goes-none 𝓤 H A W 4 (λ _. Input-p .row) yes (λ κs x f. refl), (goes-none 𝓤 H A W 4 (λ _. u64-p .row) yes (λ κs x f. refl), tt))))))) (f.clauses 𝓤 H A mem run) (WpFn 𝓤 H (𝓣 .C) (𝓣 .Λ) code.function) (WpFn-mono 𝓤 H (W .laws) 𝓣 code.function) walks
+  meets = walk-meets 𝓤 H A f.ended stayed W (goes-none-slice 𝓤 H A W 5 (0 ∷ []) tt (plain (λ _. (Array u64 6))) yes, (goes-none-slice 𝓤 H A W 5 (1 ∷ []) tt (plain (λ _. (Array u16 35))) yes, (goes-none-slice 𝓤 H A W 5 (2 ∷ []) tt (plain (λ _. Object-t.the-row)) yes, (goes-none-slice 𝓤 H A W 5 (3 ∷ []) tt (plain (λ _. u8)) yes, (goes-none-slice 𝓤 H A W 5 (4 ∷ []) tt (plain (λ _. u8)) yes, (goes-none 𝓤 H A W 5 (λ _. Agent-p .row) yes (λ κs x f. refl), (goes-none 𝓤 H A W 5 (λ _. Input-p .row) yes (λ κs x f. refl), (goes-none 𝓤 H A W 5 (λ _. u64-p .row) yes (λ κs x f. refl), (goes-none 𝓤 H A W 5 (λ _. u64-p .row) yes (λ κs x f. refl), tt))))))))) (f.clauses 𝓤 H A mem run) (WpFn 𝓤 H (𝓣 .C) (𝓣 .Λ) code.function) (WpFn-mono 𝓤 H (W .laws) 𝓣 code.function) walks
 
 pub judge-spec : {M : Type 1} → stated.statement M
 unfolding code.routine tablesOf
@@ -349,5 +379,6 @@ judge-spec 𝓤 H 𝓜 𝓖 𝓡 =
     (meets 𝓤 H (𝓖 .A) (givenOf 𝓤 H 𝓜 𝓖) (𝓜 .mem) (𝓡 .run) (tablesOf 𝓤 H 𝓜 (tables 𝓤 H 𝓜 𝓡 code.env))
     (cited 𝓤 H (Of-judge-whose-turn 𝓤 H (𝓖 .A) (𝓜 .mem) (𝓡 .run)) 𝓜 𝓡 code.env #judge-whose-turn judge-whose-turn-def.routine code.calls-agent·judge·whose-turn (judge-whose-turn-thm.met 𝓤 H 𝓜 𝓖 𝓡))
     (cited 𝓤 H (Of-judge-session-of 𝓤 H (𝓖 .A) (𝓜 .mem) (𝓡 .run)) 𝓜 𝓡 code.env #judge-session-of judge-session-of-def.routine code.calls-agent·judge·session-of (judge-session-of-thm.met 𝓤 H 𝓜 𝓖 𝓡))
+    (cited 𝓤 H (Of-judge-stream-of 𝓤 H (𝓖 .A) (𝓜 .mem) (𝓡 .run)) 𝓜 𝓡 code.env #judge-stream-of judge-stream-of-def.routine code.calls-agent·judge·stream-of (judge-stream-of-thm.met 𝓤 H 𝓜 𝓖 𝓡))
     (cited 𝓤 H (Of-limits-within-limits 𝓤 H (𝓖 .A) (𝓜 .mem) (𝓡 .run)) 𝓜 𝓡 code.env #limits-within-limits limits-within-limits-def.routine code.calls-sessions·limits·within-limits (limits-within-limits-thm.met 𝓤 H 𝓜 𝓖 𝓡))
     (cited 𝓤 H (Of-judge-judged-by 𝓤 H (𝓖 .A) (𝓜 .mem) (𝓡 .run)) 𝓜 𝓡 code.env #judge-judged-by judge-judged-by-def.routine code.calls-agent·judge·judged-by (judge-judged-by-thm.met 𝓤 H 𝓜 𝓖 𝓡)))

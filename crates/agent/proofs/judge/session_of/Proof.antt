@@ -6,8 +6,8 @@ use Rattle.agent.proofs.judge.session_of.Tie as tie
 enum-told : tie.Need-enum-told
 enum-told c = search needs
 
-first-byte-requires : tie.Need-first-byte-requires
-first-byte-requires c κs = search needs
+byte-at-requires : tie.Need-byte-at-requires
+byte-at-requires c κs = search needs
 
 enum-known-t : tie.Need-enum-known-t
 enum-known-t c = search needs
@@ -16,7 +16,7 @@ enum-told-2 : tie.Need-enum-told-2
 enum-told-2 c = search needs
 
 returns : tie.Need-returns
-returns c = rw (c .before .enum-told .given .1) (c .first-byte .ensures)
+returns c = rw (c .before .enum-told .given .1) (c .byte-at .ensures)
 
 returns-2 : tie.Need-returns-2
 returns-2 c = rw (c .before .t .given .1)
@@ -27,4 +27,4 @@ returns-3 c = search needs
 pub session-of-spec : {M : Type 1} → statement M
 session-of-spec =
     tie.close
-    (tie.spec enum-told first-byte-requires enum-known-t enum-told-2 returns returns-2 returns-3)
+    (tie.spec enum-told byte-at-requires enum-known-t enum-told-2 returns returns-2 returns-3)

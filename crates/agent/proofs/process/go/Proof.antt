@@ -52,8 +52,9 @@ use Rattle.walk.proofs.Steps.{past, one, yes-of, no-of, in-block, arm-of, holds
 use borrow.Rule.Slice.PartMut.{midOf, putMid}
 use Rattle.walk.proofs.Parts.{part-len, lends-part, backs-part, parts-shr}
 use Rattle.walk.proofs.Arrays.{rep-is, lends-array, backs-array}
-use Rattle.moves.specs.Rows.{lent}
-use Rattle.agent.specs.Host.{outcomeOf, waitsOf, finishedOf, refusedOf, answerMost, firstMost, roomy, neededOf, resumesFit, performed, finish, processOf}
+use Rattle.codec.specs.Bytes.{wordAt}
+use Rattle.agent.specs.Lent.{lent}
+use Rattle.agent.specs.Host.{outcomeOf, waitsOf, finishedOf, refusedOf, answerMost, firstMost, roomy, asksAgain, acknacksIn, asksIn, neededOf, resumesFit, performed, finish, processOf}
 use Rattle.agent.specs.Run.{putReplies}
 use Rattle.agent.specs.Host.{firstRan}
 use types.Kit.{frees, prop}
@@ -181,8 +182,8 @@ Start-of x0 x1 x2 x3 = record { frame = x0; next = x1; at = x2; resumes = x3 }
 abbrev Start-p : Plain
 Start-p = record { row = Start-t.the-row; val = LL.val Start-t.the-type Start-l.the-laws; tells = LL.tells Start-t.the-type Start-l.the-laws; makes = λ 𝓤 H A W. LL.makes Start-t.the-type Start-l.the-plain 𝓤 H A; ty = Start-l.mir; typed = λ 𝓤 H A W x is. LL.lawful Start-t.the-type Start-l.the-laws 𝓤 H A W .typed x _ is .0; copies = λ 𝓤 H A W. LL.copy Start-t.the-type Start-l.the-copy 𝓤 H A W }
 
-abbrev Frame-of : ℕ → ℕ → ℕ → ℕ → Frame
-Frame-of x0 x1 x2 x3 = record { «max_clients» = x0; time = x1; «session_id» = x2; «stream_id» = x3 }
+abbrev Frame-of : ℕ → ℕ → ℕ → ℕ → ℕ → Frame
+Frame-of x0 x1 x2 x3 x4 = record { «max_clients» = x0; time = x1; «session_id» = x2; «stream_id» = x3; room = x4 }
 
 abbrev Frame-p : Plain
 Frame-p = record { row = Frame-t.the-row; val = LL.val Frame-t.the-type Frame-l.the-laws; tells = LL.tells Frame-t.the-type Frame-l.the-laws; makes = λ 𝓤 H A W. LL.makes Frame-t.the-type Frame-l.the-plain 𝓤 H A; ty = Frame-l.mir; typed = λ 𝓤 H A W x is. LL.lawful Frame-t.the-type Frame-l.the-laws 𝓤 H A W .typed x _ is .0; copies = λ 𝓤 H A W. LL.copy Frame-t.the-type Frame-l.the-copy 𝓤 H A W }
@@ -230,7 +231,7 @@ abbrev Stop-p : Plain
 Stop-p = record { row = Stop-t.the-row; val = EL.val Stop-t.the-type Stop-l.the-laws; tells = EL.tells Stop-t.the-type Stop-l.the-laws; makes = λ 𝓤 H A W. EL.makes Stop-t.the-type Stop-l.the-plain 𝓤 H A; ty = Stop-l.mir; typed = λ 𝓤 H A W x is. EL.lawful Stop-t.the-type Stop-l.the-laws 𝓤 H A W tt .typed x _ is .0; copies = λ 𝓤 H A W. EL.copy Stop-t.the-type Stop-l.the-copy 𝓤 H A W }
 
 abbrev stayed : Stays (f.ended .signature .params) (f.ended .kept)
-stayed = (stay-slice (0 ∷ []) tt (plain (λ _. (Array u64 5))), (stay-slice (1 ∷ []) tt (plain (λ _. (Array u16 35))), (stay-slice (2 ∷ []) tt (plain (λ _. Object-t.the-row)), (stay-slice (3 ∷ []) tt (plain (λ _. u8)), (stay-none-slice (4 ∷ []) tt (plain (λ _. u8)) yes, (stay-none-slice (5 ∷ []) tt (plain (λ _. u8)) yes, (stay-none (λ _. Agent-p .row) yes, (stay-none (λ _. Start-p .row) yes, (stay-none (λ _. u64-p .row) yes, tt)))))))))
+stayed = (stay-slice (0 ∷ []) tt (plain (λ _. (Array u64 6))), (stay-slice (1 ∷ []) tt (plain (λ _. (Array u16 35))), (stay-slice (2 ∷ []) tt (plain (λ _. Object-t.the-row)), (stay-slice (3 ∷ []) tt (plain (λ _. u8)), (stay-slice (4 ∷ []) tt (plain (λ _. u8)), (stay-none-slice (5 ∷ []) tt (plain (λ _. u8)) yes, (stay-none-slice (6 ∷ []) tt (plain (λ _. u8)) yes, (stay-none (λ _. Agent-p .row) yes, (stay-none (λ _. Start-p .row) yes, (stay-none (λ _. u64-p .row) yes, tt))))))))))
 
 module _ {M : Type 1} (𝓤 : URA M) (H : Heap 𝓤) (A : Atoms 𝓤) (mem : Memory → SProp 𝓤) (run : Routine → Fun 𝓤) where
   abbrev Of-process-needed : Contract 𝓤
@@ -245,8 +246,8 @@ module _ {M : Type 1} (𝓤 : URA M) (H : Heap 𝓤) (A : Atoms 𝓤) (mem : Mem
   abbrev Of-process-finished : Contract 𝓤
   Of-process-finished = tripleOf 𝓤 H A process-finished.signature (process-finished.spec 𝓤 H A mem run)
 
-module _ {M : Type 1} (𝓤 : URA M) (H : Heap 𝓤) (A : Atoms 𝓤) (W : Given 𝓤 H A) (mem : Memory → SProp 𝓤) (run : Routine → Fun 𝓤) (κ₁ : Lft) (q₁ : Share) (b₁ o₁ : ℕ) (γ₁ : GName) (sessions : List (List ℕ)) (κ₂ : Lft) (q₂ : Share) (b₂ o₂ : ℕ) (γ₂ : GName) (streams : List (List ℕ)) (κ₃ : Lft) (q₃ : Share) (b₃ o₃ : ℕ) (γ₃ : GName) (objects : List Object) (κ₄ : Lft) (q₄ : Share) (b₄ o₄ : ℕ) (γ₄ : GName) (out : List ℕ) (κ₅ : Lft) (q₅ : Share) (b₅ o₅ : ℕ) (γ₅ : GName) (d : List ℕ) (κ₆ : Lft) (q₆ : Share) (b₆ o₆ : ℕ) (γ₆ : GName) (sample : List ℕ) (agent : Agent) (start : Start) (n′ : ℕ)
-    (room₁ : Room (Array u64 5) (length sessions)) (room₂ : Room (Array u16 35) (length streams)) (room₃ : Room Object-t.the-row (length objects)) (room₄ : Room u8 (length out)) (room₅ : Room u8 (length d)) (room₆ : Room u8 (length sample)) (agent-is : Is (Agent-p .row) agent (Agent-p .val agent ∷ [])) (start-is : Is (Start-p .row) start (Start-p .val start ∷ [])) (n′-is : Is (u64-p .row) n′ (u64-p .val n′ ∷ [])) (within : (resumesFit (start .resumes) (length (sample)) ≡ true) × (ltb (length (out)) (neededOf (roomy (length (out)) (start .resumes) n′ (length (sample))) (performed start (lent (sessions) (streams) (objects)) (d) (sample) .ran .wrote)) ≡ ltb (length (out)) (performed start (lent (sessions) (streams) (objects)) (d) (sample) .ran .wrote)) × (256 ≤ length (sessions)) × (2048 ≤ length (streams)) × (8192 ≤ length (objects))) where
+module _ {M : Type 1} (𝓤 : URA M) (H : Heap 𝓤) (A : Atoms 𝓤) (W : Given 𝓤 H A) (mem : Memory → SProp 𝓤) (run : Routine → Fun 𝓤) (κ₁ : Lft) (q₁ : Share) (b₁ o₁ : ℕ) (γ₁ : GName) (sessions : List (List ℕ)) (κ₂ : Lft) (q₂ : Share) (b₂ o₂ : ℕ) (γ₂ : GName) (streams : List (List ℕ)) (κ₃ : Lft) (q₃ : Share) (b₃ o₃ : ℕ) (γ₃ : GName) (objects : List Object) (κ₄ : Lft) (q₄ : Share) (b₄ o₄ : ℕ) (γ₄ : GName) (held : List ℕ) (κ₅ : Lft) (q₅ : Share) (b₅ o₅ : ℕ) (γ₅ : GName) (out : List ℕ) (κ₆ : Lft) (q₆ : Share) (b₆ o₆ : ℕ) (γ₆ : GName) (d : List ℕ) (κ₇ : Lft) (q₇ : Share) (b₇ o₇ : ℕ) (γ₇ : GName) (sample : List ℕ) (agent : Agent) (start : Start) (n′ : ℕ)
+    (room₁ : Room (Array u64 6) (length sessions)) (room₂ : Room (Array u16 35) (length streams)) (room₃ : Room Object-t.the-row (length objects)) (room₄ : Room u8 (length held)) (room₅ : Room u8 (length out)) (room₆ : Room u8 (length d)) (room₇ : Room u8 (length sample)) (agent-is : Is (Agent-p .row) agent (Agent-p .val agent ∷ [])) (start-is : Is (Start-p .row) start (Start-p .val start ∷ [])) (n′-is : Is (u64-p .row) n′ (u64-p .val n′ ∷ [])) (within : (resumesFit (start .resumes) (start .frame .«stream_id») (length (sample)) ≡ true) × (start .frame .room ≡ length (out)) × (ltb (length (out)) (neededOf (roomy (length (out)) start n′ (d) (length (sample))) (performed start (lent (sessions) (streams) (objects) (held)) (d) (sample) .ran .wrote)) ≡ ltb (length (out)) (performed start (lent (sessions) (streams) (objects) (held)) (d) (sample) .ran .wrote)) × (256 ≤ length (sessions)) × (2048 ≤ length (streams)) × (8192 ≤ length (objects))) where
   abbrev n₁ : ℕ
   n₁ = length sessions
 
@@ -257,50 +258,57 @@ module _ {M : Type 1} (𝓤 : URA M) (H : Heap 𝓤) (A : Atoms 𝓤) (W : Given
   n₃ = length objects
 
   abbrev n₄ : ℕ
-  n₄ = length out
+  n₄ = length held
 
   abbrev n₅ : ℕ
-  n₅ = length d
+  n₅ = length out
 
   abbrev n₆ : ℕ
-  n₆ = length sample
+  n₆ = length d
 
-  abbrev x : RefT (List (List ℕ)) × (RefT (List (List ℕ)) × (RefT (List Object) × (RefT (List ℕ) × (RefT (List ℕ) × (RefT (List ℕ) × (Agent-p .row .Denot × (Start-p .row .Denot × (u64-p .row .Denot × (Unit {0})))))))))
-  x = (at-list b₁ o₁ γ₁ sessions, (at-list b₂ o₂ γ₂ streams, (at-list b₃ o₃ γ₃ objects, (at-list b₄ o₄ γ₄ out, (at-list b₅ o₅ γ₅ d, (at-list b₆ o₆ γ₆ sample, (agent, (start, (n′, tt)))))))))
+  abbrev n₇ : ℕ
+  n₇ = length sample
 
-  abbrev at : Vals f.signature (κ₁, (κ₂, (κ₃, (κ₄, (κ₅, (κ₆, tt))))))
-  at = (sliceVal (b₁, o₁) n₁ ∷ [], (sliceVal (b₂, o₂) n₂ ∷ [], (sliceVal (b₃, o₃) n₃ ∷ [], (sliceVal (b₄, o₄) n₄ ∷ [], (sliceVal (b₅, o₅) n₅ ∷ [], (sliceVal (b₆, o₆) n₆ ∷ [], (Agent-p .val agent ∷ [], (Start-p .val start ∷ [], (u64-p .val n′ ∷ [], tt)))))))))
+  abbrev x : RefT (List (List ℕ)) × (RefT (List (List ℕ)) × (RefT (List Object) × (RefT (List ℕ) × (RefT (List ℕ) × (RefT (List ℕ) × (RefT (List ℕ) × (Agent-p .row .Denot × (Start-p .row .Denot × (u64-p .row .Denot × (Unit {0}))))))))))
+  x = (at-list b₁ o₁ γ₁ sessions, (at-list b₂ o₂ γ₂ streams, (at-list b₃ o₃ γ₃ objects, (at-list b₄ o₄ γ₄ held, (at-list b₅ o₅ γ₅ out, (at-list b₆ o₆ γ₆ d, (at-list b₇ o₇ γ₇ sample, (agent, (start, (n′, tt))))))))))
+
+  abbrev at : Vals f.signature (κ₁, (κ₂, (κ₃, (κ₄, (κ₅, (κ₆, (κ₇, tt)))))))
+  at = (sliceVal (b₁, o₁) n₁ ∷ [], (sliceVal (b₂, o₂) n₂ ∷ [], (sliceVal (b₃, o₃) n₃ ∷ [], (sliceVal (b₄, o₄) n₄ ∷ [], (sliceVal (b₅, o₅) n₅ ∷ [], (sliceVal (b₆, o₆) n₆ ∷ [], (sliceVal (b₇, o₇) n₇ ∷ [], (Agent-p .val agent ∷ [], (Start-p .val start ∷ [], (u64-p .val n′ ∷ [], tt))))))))))
 
   abbrev Post : Val → SProp 𝓤
-  Post = walkOf 𝓤 H A f.ended stayed (f.clauses 𝓤 H A mem run) .post (((κ₁, (κ₂, (κ₃, (κ₄, (κ₅, (κ₆, tt)))))), (q₁, (q₂, (q₃, (q₄, (q₅, (q₆, tt)))))), tt, x, at), tt)
+  Post = walkOf 𝓤 H A f.ended stayed (f.clauses 𝓤 H A mem run) .post (((κ₁, (κ₂, (κ₃, (κ₄, (κ₅, (κ₆, (κ₇, tt))))))), (q₁, (q₂, (q₃, (q₄, (q₅, (q₆, (q₇, tt))))))), tt, x, at), tt)
 
   abbrev tables-lent : Stores
-  tables-lent = lent sessions streams objects
+  tables-lent = lent sessions streams objects held
+
+  -- no slice is longer
+  room-low : start .frame .room ≤ 9223372036854775807
+  room-low = let long = within .1 in omega (arith, long, room₅ .1)
 
   abbrev leaves : Leaves
   leaves = finish agent tables-lent out start (performed start tables-lent d sample)
 
   abbrev Short : Bool → Type 0
-  Short b = ltb (length out) (neededOf (roomy (length out) (start .resumes) n′ (length sample)) (performed start tables-lent d sample .ran .wrote)) ≡ b
+  Short b = ltb (length out) (neededOf (roomy (length out) start n′ d (length sample)) (performed start tables-lent d sample .ran .wrote)) ≡ b
 
   is-short : Short true → refuse agent tables-lent out OutputTooShort ≡ leaves
-  is-short c = finish-short agent tables-lent out d sample start (sym (within .1) ∙ c)
+  is-short c = finish-short agent tables-lent out d sample start (sym (within .2) ∙ c)
 
   has-room : Short false → went agent tables-lent out d sample start ≡ leaves
-  has-room c = finish-went agent tables-lent out d sample start (sym (within .1) ∙ c)
+  has-room c = finish-went agent tables-lent out d sample start (sym (within .2) ∙ c)
 
-  exits : (r : Processed) (ws₁ : List (List ℕ)) (ws₂ : List (List ℕ)) (ws₃ : List Object) (ws₄ : List ℕ) → ((r ≡ finish agent (lent (sessions) (streams) (objects)) (out) start (performed start (lent (sessions) (streams) (objects)) (d) (sample)) .processed) × (ws₁ ≡ finish agent (lent (sessions) (streams) (objects)) (out) start (performed start (lent (sessions) (streams) (objects)) (d) (sample)) .tables .sessions) × (ws₂ ≡ finish agent (lent (sessions) (streams) (objects)) (out) start (performed start (lent (sessions) (streams) (objects)) (d) (sample)) .tables .streams) × (ws₃ ≡ finish agent (lent (sessions) (streams) (objects)) (out) start (performed start (lent (sessions) (streams) (objects)) (d) (sample)) .tables .objects) × (ws₄ ≡ finish agent (lent (sessions) (streams) (objects)) (out) start (performed start (lent (sessions) (streams) (objects)) (d) (sample)) .out)) → Is (Processed-p .row) r (Processed-p .val r ∷ []) → length ws₁ ≡ n₁ → length ws₂ ≡ n₂ → length ws₃ ≡ n₃ → length ws₄ ≡ n₄ → ent 𝓤 (⋆ 𝓤 H A (‵ (MutSlice (named 0) κ₁ (Array u64 5) .own (at-list b₁ o₁ γ₁ ws₁) (sliceVal (b₁, o₁) n₁ ∷ [])) ∷ ‵ (flft κ₁ q₁) ∷ ‵ (MutSlice (named 1) κ₂ (Array u16 35) .own (at-list b₂ o₂ γ₂ ws₂) (sliceVal (b₂, o₂) n₂ ∷ [])) ∷ ‵ (flft κ₂ q₂) ∷ ‵ (MutSlice (named 2) κ₃ Object-t.the-row .own (at-list b₃ o₃ γ₃ ws₃) (sliceVal (b₃, o₃) n₃ ∷ [])) ∷ ‵ (flft κ₃ q₃) ∷ ‵ (MutSlice (named 3) κ₄ u8 .own (at-list b₄ o₄ γ₄ ws₄) (sliceVal (b₄, o₄) n₄ ∷ [])) ∷ ‵ (flft κ₄ q₄) ∷ ‵ (ShrSlice (named 4) κ₅ u8 .own (at-list b₅ o₅ γ₅ d) (sliceVal (b₅, o₅) n₅ ∷ [])) ∷ ‵ (flft κ₅ q₅) ∷ ‵ (ShrSlice (named 5) κ₆ u8 .own (at-list b₆ o₆ γ₆ sample) (sliceVal (b₆, o₆) n₆ ∷ [])) ∷ ‵ (flft κ₆ q₆) ∷ [])) (Post (Processed-p .val r))
-  exits r ws₁ ws₂ ws₃ ws₄ said r-is len₁ len₂ len₃ len₄ =
-      qed W (‵ (MutSlice (named 0) κ₁ (Array u64 5) .own (at-list b₁ o₁ γ₁ ws₁) (sliceVal (b₁, o₁) n₁ ∷ [])) ∷ ‵ (flft κ₁ q₁) ∷ ‵ (MutSlice (named 1) κ₂ (Array u16 35) .own (at-list b₂ o₂ γ₂ ws₂) (sliceVal (b₂, o₂) n₂ ∷ [])) ∷ ‵ (flft κ₂ q₂) ∷ ‵ (MutSlice (named 2) κ₃ Object-t.the-row .own (at-list b₃ o₃ γ₃ ws₃) (sliceVal (b₃, o₃) n₃ ∷ [])) ∷ ‵ (flft κ₃ q₃) ∷ ‵ (MutSlice (named 3) κ₄ u8 .own (at-list b₄ o₄ γ₄ ws₄) (sliceVal (b₄, o₄) n₄ ∷ [])) ∷ ‵ (flft κ₄ q₄) ∷ ‵ (ShrSlice (named 4) κ₅ u8 .own (at-list b₅ o₅ γ₅ d) (sliceVal (b₅, o₅) n₅ ∷ [])) ∷ ‵ (flft κ₅ q₅) ∷ ‵ (ShrSlice (named 5) κ₆ u8 .own (at-list b₆ o₆ γ₆ sample) (sliceVal (b₆, o₆) n₆ ∷ [])) ∷ ‵ (flft κ₆ q₆) ∷ []) ∵
-      suffices ! _ (ends-at 𝓤 H A f.ended stayed (f.clauses 𝓤 H A mem run) W (((κ₁, (κ₂, (κ₃, (κ₄, (κ₅, (κ₆, tt)))))), (q₁, (q₂, (q₃, (q₄, (q₅, (q₆, tt)))))), tt, x, at), tt) (Processed-p .val r) r (ws₁, (ws₂, (ws₃, (ws₄, (tt, (tt, (tt, (tt, (tt, tt))))))))) (len₁, (len₂, (len₃, (len₄, (tt, (tt, (tt, (tt, (tt, tt)))))))))) $ says ! said $ nothing ! $ move ! (12 ∷ 0 ∷ []) $ join ! $ move ! (10 ∷ 0 ∷ []) $ join ! $ move ! (8 ∷ 0 ∷ []) $ join ! $ move ! (6 ∷ 0 ∷ []) $ join ! $ move ! (4 ∷ 0 ∷ []) $ join ! $ move ! (2 ∷ 0 ∷ []) $ join ! $
+  exits : (r : Processed) (ws₁ : List (List ℕ)) (ws₂ : List (List ℕ)) (ws₃ : List Object) (ws₄ : List ℕ) (ws₅ : List ℕ) → ((r ≡ finish agent (lent (sessions) (streams) (objects) (held)) (out) start (performed start (lent (sessions) (streams) (objects) (held)) (d) (sample)) .processed) × (ws₁ ≡ finish agent (lent (sessions) (streams) (objects) (held)) (out) start (performed start (lent (sessions) (streams) (objects) (held)) (d) (sample)) .tables .sessions) × (ws₂ ≡ finish agent (lent (sessions) (streams) (objects) (held)) (out) start (performed start (lent (sessions) (streams) (objects) (held)) (d) (sample)) .tables .streams) × (ws₃ ≡ finish agent (lent (sessions) (streams) (objects) (held)) (out) start (performed start (lent (sessions) (streams) (objects) (held)) (d) (sample)) .tables .objects) × (ws₄ ≡ finish agent (lent (sessions) (streams) (objects) (held)) (out) start (performed start (lent (sessions) (streams) (objects) (held)) (d) (sample)) .tables .held) × (ws₅ ≡ finish agent (lent (sessions) (streams) (objects) (held)) (out) start (performed start (lent (sessions) (streams) (objects) (held)) (d) (sample)) .out)) → Is (Processed-p .row) r (Processed-p .val r ∷ []) → length ws₁ ≡ n₁ → length ws₂ ≡ n₂ → length ws₃ ≡ n₃ → length ws₄ ≡ n₄ → length ws₅ ≡ n₅ → ent 𝓤 (⋆ 𝓤 H A (‵ (MutSlice (named 0) κ₁ (Array u64 6) .own (at-list b₁ o₁ γ₁ ws₁) (sliceVal (b₁, o₁) n₁ ∷ [])) ∷ ‵ (flft κ₁ q₁) ∷ ‵ (MutSlice (named 1) κ₂ (Array u16 35) .own (at-list b₂ o₂ γ₂ ws₂) (sliceVal (b₂, o₂) n₂ ∷ [])) ∷ ‵ (flft κ₂ q₂) ∷ ‵ (MutSlice (named 2) κ₃ Object-t.the-row .own (at-list b₃ o₃ γ₃ ws₃) (sliceVal (b₃, o₃) n₃ ∷ [])) ∷ ‵ (flft κ₃ q₃) ∷ ‵ (MutSlice (named 3) κ₄ u8 .own (at-list b₄ o₄ γ₄ ws₄) (sliceVal (b₄, o₄) n₄ ∷ [])) ∷ ‵ (flft κ₄ q₄) ∷ ‵ (MutSlice (named 4) κ₅ u8 .own (at-list b₅ o₅ γ₅ ws₅) (sliceVal (b₅, o₅) n₅ ∷ [])) ∷ ‵ (flft κ₅ q₅) ∷ ‵ (ShrSlice (named 5) κ₆ u8 .own (at-list b₆ o₆ γ₆ d) (sliceVal (b₆, o₆) n₆ ∷ [])) ∷ ‵ (flft κ₆ q₆) ∷ ‵ (ShrSlice (named 6) κ₇ u8 .own (at-list b₇ o₇ γ₇ sample) (sliceVal (b₇, o₇) n₇ ∷ [])) ∷ ‵ (flft κ₇ q₇) ∷ [])) (Post (Processed-p .val r))
+  exits r ws₁ ws₂ ws₃ ws₄ ws₅ said r-is len₁ len₂ len₃ len₄ len₅ =
+      qed W (‵ (MutSlice (named 0) κ₁ (Array u64 6) .own (at-list b₁ o₁ γ₁ ws₁) (sliceVal (b₁, o₁) n₁ ∷ [])) ∷ ‵ (flft κ₁ q₁) ∷ ‵ (MutSlice (named 1) κ₂ (Array u16 35) .own (at-list b₂ o₂ γ₂ ws₂) (sliceVal (b₂, o₂) n₂ ∷ [])) ∷ ‵ (flft κ₂ q₂) ∷ ‵ (MutSlice (named 2) κ₃ Object-t.the-row .own (at-list b₃ o₃ γ₃ ws₃) (sliceVal (b₃, o₃) n₃ ∷ [])) ∷ ‵ (flft κ₃ q₃) ∷ ‵ (MutSlice (named 3) κ₄ u8 .own (at-list b₄ o₄ γ₄ ws₄) (sliceVal (b₄, o₄) n₄ ∷ [])) ∷ ‵ (flft κ₄ q₄) ∷ ‵ (MutSlice (named 4) κ₅ u8 .own (at-list b₅ o₅ γ₅ ws₅) (sliceVal (b₅, o₅) n₅ ∷ [])) ∷ ‵ (flft κ₅ q₅) ∷ ‵ (ShrSlice (named 5) κ₆ u8 .own (at-list b₆ o₆ γ₆ d) (sliceVal (b₆, o₆) n₆ ∷ [])) ∷ ‵ (flft κ₆ q₆) ∷ ‵ (ShrSlice (named 6) κ₇ u8 .own (at-list b₇ o₇ γ₇ sample) (sliceVal (b₇, o₇) n₇ ∷ [])) ∷ ‵ (flft κ₇ q₇) ∷ []) ∵
+      suffices ! _ (ends-at 𝓤 H A f.ended stayed (f.clauses 𝓤 H A mem run) W (((κ₁, (κ₂, (κ₃, (κ₄, (κ₅, (κ₆, (κ₇, tt))))))), (q₁, (q₂, (q₃, (q₄, (q₅, (q₆, (q₇, tt))))))), tt, x, at), tt) (Processed-p .val r) r (ws₁, (ws₂, (ws₃, (ws₄, (ws₅, (tt, (tt, (tt, (tt, (tt, tt)))))))))) (len₁, (len₂, (len₃, (len₄, (len₅, (tt, (tt, (tt, (tt, (tt, tt))))))))))) $ says ! said $ nothing ! $ move ! (14 ∷ 0 ∷ []) $ join ! $ move ! (12 ∷ 0 ∷ []) $ join ! $ move ! (10 ∷ 0 ∷ []) $ join ! $ move ! (8 ∷ 0 ∷ []) $ join ! $ move ! (6 ∷ 0 ∷ []) $ join ! $ move ! (4 ∷ 0 ∷ []) $ join ! $ move ! (2 ∷ 0 ∷ []) $ join ! $
       frame ! $ nothing ! $
       owned ! (u64-p .row) (Is (u64-p .row)) (u64-p .makes 𝓤 H A W) n′ (u64-p .val n′ ∷ []) n′-is $ fjoin ! $
       owned ! (Start-p .row) (Is (Start-p .row)) (Start-p .makes 𝓤 H A W) start (Start-p .val start ∷ []) start-is $ fjoin ! $
-      owned ! (Agent-p .row) (Is (Agent-p .row)) (Agent-p .makes 𝓤 H A W) agent (Agent-p .val agent ∷ []) agent-is $ fjoin ! $ move ! (6 ∷ 0 ∷ []) $ fjoin ! $ move ! (5 ∷ 0 ∷ []) $ fjoin ! $ move ! (4 ∷ 0 ∷ []) $ fjoin ! $ move ! (3 ∷ 0 ∷ []) $ fjoin ! $ move ! (2 ∷ 0 ∷ []) $ fjoin ! $ move ! (1 ∷ 0 ∷ []) $ fjoin ! $
+      owned ! (Agent-p .row) (Is (Agent-p .row)) (Agent-p .makes 𝓤 H A W) agent (Agent-p .val agent ∷ []) agent-is $ fjoin ! $ move ! (7 ∷ 0 ∷ []) $ fjoin ! $ move ! (6 ∷ 0 ∷ []) $ fjoin ! $ move ! (5 ∷ 0 ∷ []) $ fjoin ! $ move ! (4 ∷ 0 ∷ []) $ fjoin ! $ move ! (3 ∷ 0 ∷ []) $ fjoin ! $ move ! (2 ∷ 0 ∷ []) $ fjoin ! $ move ! (1 ∷ 0 ∷ []) $ fjoin ! $
       frame ! $
       owned ! (Processed-p .row) (Is (Processed-p .row)) (Processed-p .makes 𝓤 H A W) r _ r-is $ done !
 
-  module _ (𝓣 : Tables 𝓤 H) (known-process-needed : Triple 𝓤 (𝓣 .C #process-needed) (Of-process-needed 𝓤 H A mem run)) (known-process-refused : Triple 𝓤 (𝓣 .C #process-refused) (Of-process-refused 𝓤 H A mem run)) (known-perform-perform : Triple 𝓤 (𝓣 .C #perform-perform) (Of-perform-perform 𝓤 H A mem run)) (known-process-finished : Triple 𝓤 (𝓣 .C #process-finished) (Of-process-finished 𝓤 H A mem run)) (l₀ l₁ l₂ l₃ l₄ l₅ l₆ l₇ l₈ l₉ l₁₀ l₁₁ l₁₂ l₁₃ l₁₄ l₁₅ l₁₆ l₁₇ l₁₈ l₁₉ l₂₀ l₂₁ l₂₂ l₂₃ l₂₄ l₂₅ l₂₆ l₂₇ l₂₈ l₂₉ : ℕ) where
+  module _ (𝓣 : Tables 𝓤 H) (known-process-needed : Triple 𝓤 (𝓣 .C #process-needed) (Of-process-needed 𝓤 H A mem run)) (known-process-refused : Triple 𝓤 (𝓣 .C #process-refused) (Of-process-refused 𝓤 H A mem run)) (known-perform-perform : Triple 𝓤 (𝓣 .C #perform-perform) (Of-perform-perform 𝓤 H A mem run)) (known-process-finished : Triple 𝓤 (𝓣 .C #process-finished) (Of-process-finished 𝓤 H A mem run)) (l₀ l₁ l₂ l₃ l₄ l₅ l₆ l₇ l₈ l₉ l₁₀ l₁₁ l₁₂ l₁₃ l₁₄ l₁₅ l₁₆ l₁₇ l₁₈ l₁₉ l₂₀ l₂₁ l₂₂ l₂₃ l₂₄ l₂₅ l₂₆ l₂₇ l₂₈ l₂₉ l₃₀ l₃₁ l₃₂ l₃₃ l₃₄ : ℕ) where
     abbrev C : Calls 𝓤 H
     C = 𝓣 .C
 
@@ -311,156 +319,172 @@ module _ {M : Type 1} (𝓤 : URA M) (H : Heap 𝓤) (A : Atoms 𝓤) (W : Given
     fm = fmOf 𝓤 H (W .laws) 𝓣
 
     abbrev En : Env 𝓤 H
-    En = (Processed-l.mir, l₀) ∷ ((sliceTy (tyRef (named 0) mut (pointee ((Array u64 5) .written)))), l₁) ∷ ((sliceTy (tyRef (named 1) mut (pointee ((Array u16 35) .written)))), l₂) ∷ ((sliceTy (tyRef (named 2) mut (pointee (Object-t.the-row .written)))), l₃) ∷ ((sliceTy (tyRef (named 3) mut (pointee (u8 .written)))), l₄) ∷ ((sliceTy (tyRef (named 4) imm (pointee (u8 .written)))), l₅) ∷ ((sliceTy (tyRef (named 5) imm (pointee (u8 .written)))), l₆) ∷ (Agent-l.mir, l₇) ∷ (Start-l.mir, l₈) ∷ ((tyInt w64), l₉) ∷ ((tyInt w64), l₁₀) ∷ ((tyInt w64), l₁₁) ∷ (Ran-l.mir, l₁₂) ∷ ((tyRef erased mut (pointee ((Array u64 5) .written))), l₁₃) ∷ ((sliceTy (tyRef erased mut (pointee ((Array u64 5) .written)))), l₁₄) ∷ ((tyRef erased mut (pointee ((Array u16 35) .written))), l₁₅) ∷ ((sliceTy (tyRef erased mut (pointee ((Array u16 35) .written)))), l₁₆) ∷ ((tyRef erased mut (pointee (Object-t.the-row .written))), l₁₇) ∷ ((sliceTy (tyRef erased mut (pointee (Object-t.the-row .written)))), l₁₈) ∷ (tyBool, l₁₉) ∷ (Processed-l.mir, l₂₀) ∷ (Refusal-l.mir, l₂₁) ∷ ((tyRef erased mut (pointee ((Array u64 5) .written))), l₂₂) ∷ ((sliceTy (tyRef erased mut (pointee ((Array u64 5) .written)))), l₂₃) ∷ ((tyRef erased mut (pointee ((Array u16 35) .written))), l₂₄) ∷ ((sliceTy (tyRef erased mut (pointee ((Array u16 35) .written)))), l₂₅) ∷ ((tyRef erased mut (pointee (Object-t.the-row .written))), l₂₆) ∷ ((sliceTy (tyRef erased mut (pointee (Object-t.the-row .written)))), l₂₇) ∷ ((tyRef erased mut (pointee (u8 .written))), l₂₈) ∷ ((sliceTy (tyRef erased mut (pointee (u8 .written)))), l₂₉) ∷ []
+    En = (Processed-l.mir, l₀) ∷ ((sliceTy (tyRef (named 0) mut (pointee ((Array u64 6) .written)))), l₁) ∷ ((sliceTy (tyRef (named 1) mut (pointee ((Array u16 35) .written)))), l₂) ∷ ((sliceTy (tyRef (named 2) mut (pointee (Object-t.the-row .written)))), l₃) ∷ ((sliceTy (tyRef (named 3) mut (pointee (u8 .written)))), l₄) ∷ ((sliceTy (tyRef (named 4) mut (pointee (u8 .written)))), l₅) ∷ ((sliceTy (tyRef (named 5) imm (pointee (u8 .written)))), l₆) ∷ ((sliceTy (tyRef (named 6) imm (pointee (u8 .written)))), l₇) ∷ (Agent-l.mir, l₈) ∷ (Start-l.mir, l₉) ∷ ((tyInt w64), l₁₀) ∷ ((tyInt w64), l₁₁) ∷ ((tyInt w64), l₁₂) ∷ (Ran-l.mir, l₁₃) ∷ ((tyRef erased mut (pointee ((Array u64 6) .written))), l₁₄) ∷ ((sliceTy (tyRef erased mut (pointee ((Array u64 6) .written)))), l₁₅) ∷ ((tyRef erased mut (pointee ((Array u16 35) .written))), l₁₆) ∷ ((sliceTy (tyRef erased mut (pointee ((Array u16 35) .written)))), l₁₇) ∷ ((tyRef erased mut (pointee (Object-t.the-row .written))), l₁₈) ∷ ((sliceTy (tyRef erased mut (pointee (Object-t.the-row .written)))), l₁₉) ∷ ((tyRef erased mut (pointee (u8 .written))), l₂₀) ∷ ((sliceTy (tyRef erased mut (pointee (u8 .written)))), l₂₁) ∷ (tyBool, l₂₂) ∷ (Processed-l.mir, l₂₃) ∷ (Refusal-l.mir, l₂₄) ∷ ((tyRef erased mut (pointee ((Array u64 6) .written))), l₂₅) ∷ ((sliceTy (tyRef erased mut (pointee ((Array u64 6) .written)))), l₂₆) ∷ ((tyRef erased mut (pointee ((Array u16 35) .written))), l₂₇) ∷ ((sliceTy (tyRef erased mut (pointee ((Array u16 35) .written)))), l₂₈) ∷ ((tyRef erased mut (pointee (Object-t.the-row .written))), l₂₉) ∷ ((sliceTy (tyRef erased mut (pointee (Object-t.the-row .written)))), l₃₀) ∷ ((tyRef erased mut (pointee (u8 .written))), l₃₁) ∷ ((sliceTy (tyRef erased mut (pointee (u8 .written)))), l₃₂) ∷ ((tyRef erased mut (pointee (u8 .written))), l₃₃) ∷ ((sliceTy (tyRef erased mut (pointee (u8 .written)))), l₃₄) ∷ []
 
-    frees-all : (r : Processed) (ws₁ : List (List ℕ)) (ws₂ : List (List ℕ)) (ws₃ : List Object) (ws₄ : List ℕ) → ent 𝓤 (⋆ 𝓤 H A (‵ (MutSlice (named 0) κ₁ (Array u64 5) .own (at-list b₁ o₁ γ₁ ws₁) (sliceVal (b₁, o₁) n₁ ∷ [])) ∷ ‵ (flft κ₁ q₁) ∷ ‵ (MutSlice (named 1) κ₂ (Array u16 35) .own (at-list b₂ o₂ γ₂ ws₂) (sliceVal (b₂, o₂) n₂ ∷ [])) ∷ ‵ (flft κ₂ q₂) ∷ ‵ (MutSlice (named 2) κ₃ Object-t.the-row .own (at-list b₃ o₃ γ₃ ws₃) (sliceVal (b₃, o₃) n₃ ∷ [])) ∷ ‵ (flft κ₃ q₃) ∷ ‵ (MutSlice (named 3) κ₄ u8 .own (at-list b₄ o₄ γ₄ ws₄) (sliceVal (b₄, o₄) n₄ ∷ [])) ∷ ‵ (flft κ₄ q₄) ∷ ‵ (ShrSlice (named 4) κ₅ u8 .own (at-list b₅ o₅ γ₅ d) (sliceVal (b₅, o₅) n₅ ∷ [])) ∷ ‵ (flft κ₅ q₅) ∷ ‵ (ShrSlice (named 5) κ₆ u8 .own (at-list b₆ o₆ γ₆ sample) (sliceVal (b₆, o₆) n₆ ∷ [])) ∷ ‵ (flft κ₆ q₆) ∷ [])) (Post (Processed-p .val r)) → Sq W (‵ (MutSlice (named 0) κ₁ (Array u64 5) .own (at-list b₁ o₁ γ₁ ws₁) (sliceVal (b₁, o₁) n₁ ∷ [])) ∷ ‵ (flft κ₁ q₁) ∷ ‵ (MutSlice (named 0) κ₂ (Array u16 35) .own (at-list b₂ o₂ γ₂ ws₂) (sliceVal (b₂, o₂) n₂ ∷ [])) ∷ ‵ (flft κ₂ q₂) ∷ ‵ (MutSlice (named 0) κ₃ Object-t.the-row .own (at-list b₃ o₃ γ₃ ws₃) (sliceVal (b₃, o₃) n₃ ∷ [])) ∷ ‵ (flft κ₃ q₃) ∷ ‵ (MutSlice (named 0) κ₄ u8 .own (at-list b₄ o₄ γ₄ ws₄) (sliceVal (b₄, o₄) n₄ ∷ [])) ∷ ‵ (flft κ₄ q₄) ∷ ‵ (ShrSlice (named 0) κ₅ u8 .own (at-list b₅ o₅ γ₅ d) (sliceVal (b₅, o₅) n₅ ∷ [])) ∷ ‵ (flft κ₅ q₅) ∷ ‵ (ShrSlice (named 0) κ₆ u8 .own (at-list b₆ o₆ γ₆ sample) (sliceVal (b₆, o₆) n₆ ∷ [])) ∷ ‵ (flft κ₆ q₆) ∷ free 𝓤 (sliceTy (tyRef erased mut (pointee (u8 .written)))) l₂₉ (free 𝓤 (tyRef erased mut (pointee (u8 .written))) l₂₈ (free 𝓤 (sliceTy (tyRef erased mut (pointee (Object-t.the-row .written)))) l₂₇ (free 𝓤 (tyRef erased mut (pointee (Object-t.the-row .written))) l₂₆ (free 𝓤 (sliceTy (tyRef erased mut (pointee ((Array u16 35) .written)))) l₂₅ (free 𝓤 (tyRef erased mut (pointee ((Array u16 35) .written))) l₂₄ (free 𝓤 (sliceTy (tyRef erased mut (pointee ((Array u64 5) .written)))) l₂₃ (free 𝓤 (tyRef erased mut (pointee ((Array u64 5) .written))) l₂₂ (free 𝓤 Refusal-l.mir l₂₁ (free 𝓤 Processed-l.mir l₂₀ (free 𝓤 tyBool l₁₉ (free 𝓤 (sliceTy (tyRef erased mut (pointee (Object-t.the-row .written)))) l₁₈ (free 𝓤 (tyRef erased mut (pointee (Object-t.the-row .written))) l₁₇ (free 𝓤 (sliceTy (tyRef erased mut (pointee ((Array u16 35) .written)))) l₁₆ (free 𝓤 (tyRef erased mut (pointee ((Array u16 35) .written))) l₁₅ (free 𝓤 (sliceTy (tyRef erased mut (pointee ((Array u64 5) .written)))) l₁₄ (free 𝓤 (tyRef erased mut (pointee ((Array u64 5) .written))) l₁₃ (free 𝓤 Ran-l.mir l₁₂ (free 𝓤 (tyInt w64) l₁₁ (free 𝓤 (tyInt w64) l₁₀ (full 𝓤 (tyInt w64) l₉ (u64-p .val n′) (full 𝓤 Start-l.mir l₈ (Start-p .val start) (full 𝓤 Agent-l.mir l₇ (Agent-p .val agent) (full 𝓤 (sliceTy (tyRef (named 5) imm (pointee (u8 .written)))) l₆ (sliceVal (b₆, o₆) n₆) (full 𝓤 (sliceTy (tyRef (named 4) imm (pointee (u8 .written)))) l₅ (sliceVal (b₅, o₅) n₅) (full 𝓤 (sliceTy (tyRef (named 3) mut (pointee (u8 .written)))) l₄ (sliceVal (b₄, o₄) n₄) (full 𝓤 (sliceTy (tyRef (named 2) mut (pointee (Object-t.the-row .written)))) l₃ (sliceVal (b₃, o₃) n₃) (full 𝓤 (sliceTy (tyRef (named 1) mut (pointee ((Array u16 35) .written)))) l₂ (sliceVal (b₂, o₂) n₂) (full 𝓤 (sliceTy (tyRef (named 0) mut (pointee ((Array u64 5) .written)))) l₁ (sliceVal (b₁, o₁) n₁) (full 𝓤 Processed-l.mir l₀ (Processed-p .val r) ([]))))))))))))))))))))))))))))))) (frees En (prop (Post (Processed-p .val r))))
-    frees-all r ws₁ ws₂ ws₃ ws₄ ends =
-        forget ! 52 refl $ forget ! 54 refl $ forget ! 56 refl $ forget ! 58 refl $ forget ! 60 refl $ forget ! 62 refl $ forget ! 64 refl $ forget ! 66 refl $ forget ! 68 refl $ forget ! 70 refl $ move ! (70 ∷ 71 ∷ []) $ free1 ! $ move ! (68 ∷ 69 ∷ []) $ free1 ! $ move ! (66 ∷ 67 ∷ []) $ free1 ! $ move ! (64 ∷ 65 ∷ []) $ free1 ! $ move ! (62 ∷ 63 ∷ []) $ free1 ! $ move ! (60 ∷ 61 ∷ []) $ free1 ! $ move ! (58 ∷ 59 ∷ []) $ free1 ! $ move ! (56 ∷ 57 ∷ []) $ free1 ! $ move ! (54 ∷ 55 ∷ []) $ free1 ! $ move ! (52 ∷ 53 ∷ []) $ free1 ! $ move ! (50 ∷ 51 ∷ []) $ free1 ! $ move ! (48 ∷ 49 ∷ []) $ free1 ! $ move ! (46 ∷ 47 ∷ []) $ free1 ! $ move ! (44 ∷ 45 ∷ []) $ free1 ! $ move ! (42 ∷ 43 ∷ []) $ free1 ! $ move ! (40 ∷ 41 ∷ []) $ free1 ! $ move ! (38 ∷ 39 ∷ []) $ free1 ! $ move ! (36 ∷ 37 ∷ []) $ free1 ! $ move ! (34 ∷ 35 ∷ []) $ free1 ! $ move ! (32 ∷ 33 ∷ []) $ free1 ! $ move ! (30 ∷ 31 ∷ []) $ free1 ! $ move ! (28 ∷ 29 ∷ []) $ free1 ! $ move ! (26 ∷ 27 ∷ []) $ free1 ! $ move ! (24 ∷ 25 ∷ []) $ free1 ! $ move ! (22 ∷ 23 ∷ []) $ free1 ! $ move ! (20 ∷ 21 ∷ []) $ free1 ! $ move ! (18 ∷ 19 ∷ []) $ free1 ! $ move ! (16 ∷ 17 ∷ []) $ free1 ! $ move ! (14 ∷ 15 ∷ []) $ free1 ! $ move ! (12 ∷ 13 ∷ []) $ free1 ! $ free0 ! $
+    frees-all : (r : Processed) (ws₁ : List (List ℕ)) (ws₂ : List (List ℕ)) (ws₃ : List Object) (ws₄ : List ℕ) (ws₅ : List ℕ) → ent 𝓤 (⋆ 𝓤 H A (‵ (MutSlice (named 0) κ₁ (Array u64 6) .own (at-list b₁ o₁ γ₁ ws₁) (sliceVal (b₁, o₁) n₁ ∷ [])) ∷ ‵ (flft κ₁ q₁) ∷ ‵ (MutSlice (named 1) κ₂ (Array u16 35) .own (at-list b₂ o₂ γ₂ ws₂) (sliceVal (b₂, o₂) n₂ ∷ [])) ∷ ‵ (flft κ₂ q₂) ∷ ‵ (MutSlice (named 2) κ₃ Object-t.the-row .own (at-list b₃ o₃ γ₃ ws₃) (sliceVal (b₃, o₃) n₃ ∷ [])) ∷ ‵ (flft κ₃ q₃) ∷ ‵ (MutSlice (named 3) κ₄ u8 .own (at-list b₄ o₄ γ₄ ws₄) (sliceVal (b₄, o₄) n₄ ∷ [])) ∷ ‵ (flft κ₄ q₄) ∷ ‵ (MutSlice (named 4) κ₅ u8 .own (at-list b₅ o₅ γ₅ ws₅) (sliceVal (b₅, o₅) n₅ ∷ [])) ∷ ‵ (flft κ₅ q₅) ∷ ‵ (ShrSlice (named 5) κ₆ u8 .own (at-list b₆ o₆ γ₆ d) (sliceVal (b₆, o₆) n₆ ∷ [])) ∷ ‵ (flft κ₆ q₆) ∷ ‵ (ShrSlice (named 6) κ₇ u8 .own (at-list b₇ o₇ γ₇ sample) (sliceVal (b₇, o₇) n₇ ∷ [])) ∷ ‵ (flft κ₇ q₇) ∷ [])) (Post (Processed-p .val r)) → Sq W (‵ (MutSlice (named 0) κ₁ (Array u64 6) .own (at-list b₁ o₁ γ₁ ws₁) (sliceVal (b₁, o₁) n₁ ∷ [])) ∷ ‵ (flft κ₁ q₁) ∷ ‵ (MutSlice (named 0) κ₂ (Array u16 35) .own (at-list b₂ o₂ γ₂ ws₂) (sliceVal (b₂, o₂) n₂ ∷ [])) ∷ ‵ (flft κ₂ q₂) ∷ ‵ (MutSlice (named 0) κ₃ Object-t.the-row .own (at-list b₃ o₃ γ₃ ws₃) (sliceVal (b₃, o₃) n₃ ∷ [])) ∷ ‵ (flft κ₃ q₃) ∷ ‵ (MutSlice (named 0) κ₄ u8 .own (at-list b₄ o₄ γ₄ ws₄) (sliceVal (b₄, o₄) n₄ ∷ [])) ∷ ‵ (flft κ₄ q₄) ∷ ‵ (MutSlice (named 0) κ₅ u8 .own (at-list b₅ o₅ γ₅ ws₅) (sliceVal (b₅, o₅) n₅ ∷ [])) ∷ ‵ (flft κ₅ q₅) ∷ ‵ (ShrSlice (named 0) κ₆ u8 .own (at-list b₆ o₆ γ₆ d) (sliceVal (b₆, o₆) n₆ ∷ [])) ∷ ‵ (flft κ₆ q₆) ∷ ‵ (ShrSlice (named 0) κ₇ u8 .own (at-list b₇ o₇ γ₇ sample) (sliceVal (b₇, o₇) n₇ ∷ [])) ∷ ‵ (flft κ₇ q₇) ∷ free 𝓤 (sliceTy (tyRef erased mut (pointee (u8 .written)))) l₃₄ (free 𝓤 (tyRef erased mut (pointee (u8 .written))) l₃₃ (free 𝓤 (sliceTy (tyRef erased mut (pointee (u8 .written)))) l₃₂ (free 𝓤 (tyRef erased mut (pointee (u8 .written))) l₃₁ (free 𝓤 (sliceTy (tyRef erased mut (pointee (Object-t.the-row .written)))) l₃₀ (free 𝓤 (tyRef erased mut (pointee (Object-t.the-row .written))) l₂₉ (free 𝓤 (sliceTy (tyRef erased mut (pointee ((Array u16 35) .written)))) l₂₈ (free 𝓤 (tyRef erased mut (pointee ((Array u16 35) .written))) l₂₇ (free 𝓤 (sliceTy (tyRef erased mut (pointee ((Array u64 6) .written)))) l₂₆ (free 𝓤 (tyRef erased mut (pointee ((Array u64 6) .written))) l₂₅ (free 𝓤 Refusal-l.mir l₂₄ (free 𝓤 Processed-l.mir l₂₃ (free 𝓤 tyBool l₂₂ (free 𝓤 (sliceTy (tyRef erased mut (pointee (u8 .written)))) l₂₁ (free 𝓤 (tyRef erased mut (pointee (u8 .written))) l₂₀ (free 𝓤 (sliceTy (tyRef erased mut (pointee (Object-t.the-row .written)))) l₁₉ (free 𝓤 (tyRef erased mut (pointee (Object-t.the-row .written))) l₁₈ (free 𝓤 (sliceTy (tyRef erased mut (pointee ((Array u16 35) .written)))) l₁₇ (free 𝓤 (tyRef erased mut (pointee ((Array u16 35) .written))) l₁₆ (free 𝓤 (sliceTy (tyRef erased mut (pointee ((Array u64 6) .written)))) l₁₅ (free 𝓤 (tyRef erased mut (pointee ((Array u64 6) .written))) l₁₄ (free 𝓤 Ran-l.mir l₁₃ (free 𝓤 (tyInt w64) l₁₂ (free 𝓤 (tyInt w64) l₁₁ (full 𝓤 (tyInt w64) l₁₀ (u64-p .val n′) (full 𝓤 Start-l.mir l₉ (Start-p .val start) (full 𝓤 Agent-l.mir l₈ (Agent-p .val agent) (full 𝓤 (sliceTy (tyRef (named 6) imm (pointee (u8 .written)))) l₇ (sliceVal (b₇, o₇) n₇) (full 𝓤 (sliceTy (tyRef (named 5) imm (pointee (u8 .written)))) l₆ (sliceVal (b₆, o₆) n₆) (full 𝓤 (sliceTy (tyRef (named 4) mut (pointee (u8 .written)))) l₅ (sliceVal (b₅, o₅) n₅) (full 𝓤 (sliceTy (tyRef (named 3) mut (pointee (u8 .written)))) l₄ (sliceVal (b₄, o₄) n₄) (full 𝓤 (sliceTy (tyRef (named 2) mut (pointee (Object-t.the-row .written)))) l₃ (sliceVal (b₃, o₃) n₃) (full 𝓤 (sliceTy (tyRef (named 1) mut (pointee ((Array u16 35) .written)))) l₂ (sliceVal (b₂, o₂) n₂) (full 𝓤 (sliceTy (tyRef (named 0) mut (pointee ((Array u64 6) .written)))) l₁ (sliceVal (b₁, o₁) n₁) (full 𝓤 Processed-l.mir l₀ (Processed-p .val r) ([])))))))))))))))))))))))))))))))))))) (frees En (prop (Post (Processed-p .val r))))
+    frees-all r ws₁ ws₂ ws₃ ws₄ ws₅ ends =
+        forget ! 62 refl $ forget ! 64 refl $ forget ! 66 refl $ forget ! 68 refl $ forget ! 70 refl $ forget ! 72 refl $ forget ! 74 refl $ forget ! 76 refl $ forget ! 78 refl $ forget ! 80 refl $ forget ! 82 refl $ move ! (82 ∷ 83 ∷ []) $ free1 ! $ move ! (80 ∷ 81 ∷ []) $ free1 ! $ move ! (78 ∷ 79 ∷ []) $ free1 ! $ move ! (76 ∷ 77 ∷ []) $ free1 ! $ move ! (74 ∷ 75 ∷ []) $ free1 ! $ move ! (72 ∷ 73 ∷ []) $ free1 ! $ move ! (70 ∷ 71 ∷ []) $ free1 ! $ move ! (68 ∷ 69 ∷ []) $ free1 ! $ move ! (66 ∷ 67 ∷ []) $ free1 ! $ move ! (64 ∷ 65 ∷ []) $ free1 ! $ move ! (62 ∷ 63 ∷ []) $ free1 ! $ move ! (60 ∷ 61 ∷ []) $ free1 ! $ move ! (58 ∷ 59 ∷ []) $ free1 ! $ move ! (56 ∷ 57 ∷ []) $ free1 ! $ move ! (54 ∷ 55 ∷ []) $ free1 ! $ move ! (52 ∷ 53 ∷ []) $ free1 ! $ move ! (50 ∷ 51 ∷ []) $ free1 ! $ move ! (48 ∷ 49 ∷ []) $ free1 ! $ move ! (46 ∷ 47 ∷ []) $ free1 ! $ move ! (44 ∷ 45 ∷ []) $ free1 ! $ move ! (42 ∷ 43 ∷ []) $ free1 ! $ move ! (40 ∷ 41 ∷ []) $ free1 ! $ move ! (38 ∷ 39 ∷ []) $ free1 ! $ move ! (36 ∷ 37 ∷ []) $ free1 ! $ move ! (34 ∷ 35 ∷ []) $ free1 ! $ move ! (32 ∷ 33 ∷ []) $ free1 ! $ move ! (30 ∷ 31 ∷ []) $ free1 ! $ move ! (28 ∷ 29 ∷ []) $ free1 ! $ move ! (26 ∷ 27 ∷ []) $ free1 ! $ move ! (24 ∷ 25 ∷ []) $ free1 ! $ move ! (22 ∷ 23 ∷ []) $ free1 ! $ move ! (20 ∷ 21 ∷ []) $ free1 ! $ move ! (18 ∷ 19 ∷ []) $ free1 ! $ move ! (16 ∷ 17 ∷ []) $ free1 ! $ move ! (14 ∷ 15 ∷ []) $ free1 ! $ free0 ! $
         by ! ends
 
-    part-11-0 : (asks-8 : (resumesFit (start .resumes) (length (sample)) ≡ true) × (256 ≤ length (sessions)) × (2048 ≤ length (streams)) × (8192 ≤ length (objects))) → (len-8-sessions : length sessions ≡ n₁) → (len-8-streams : length streams ≡ n₂) → (len-8-objects : length objects ≡ n₃) → (is-8 : Is (u64-p .row) (neededOf (roomy n₄ (start .resumes) n′ (length (sample))) (performed start (lent (sessions) (streams) (objects)) (d) (sample) .ran .wrote)) (u64-p .val (neededOf (roomy n₄ (start .resumes) n′ (length (sample))) (performed start (lent (sessions) (streams) (objects)) (d) (sample) .ran .wrote)) ∷ [])) → (c-10 : ltb n₄ (neededOf (roomy n₄ (start .resumes) n′ (length (sample))) (performed start (lent (sessions) (streams) (objects)) (d) (sample) .ran .wrote)) ≡ true) → (is-10·yes·2 : Is (Processed-p .row) (refusedOf agent Refusal-OutputTooShort) (Processed-p .val (refusedOf agent Refusal-OutputTooShort) ∷ [])) → Sq W (‵ (MutSlice (named 0) κ₁ (Array u64 5) .own (at-list b₁ o₁ γ₁ sessions) (sliceVal (b₁, o₁) n₁ ∷ [])) ∷ ‵ (flft κ₁ q₁) ∷ ‵ (MutSlice (named 0) κ₂ (Array u16 35) .own (at-list b₂ o₂ γ₂ streams) (sliceVal (b₂, o₂) n₂ ∷ [])) ∷ ‵ (flft κ₂ q₂) ∷ ‵ (MutSlice (named 0) κ₃ Object-t.the-row .own (at-list b₃ o₃ γ₃ objects) (sliceVal (b₃, o₃) n₃ ∷ [])) ∷ ‵ (flft κ₃ q₃) ∷ ‵ (MutSlice (named 0) κ₄ u8 .own (at-list b₄ o₄ γ₄ out) (sliceVal (b₄, o₄) n₄ ∷ [])) ∷ ‵ (flft κ₄ q₄) ∷ ‵ (ShrSlice (named 0) κ₅ u8 .own (at-list b₅ o₅ γ₅ d) (sliceVal (b₅, o₅) n₅ ∷ [])) ∷ ‵ (flft κ₅ q₅) ∷ ‵ (ShrSlice (named 0) κ₆ u8 .own (at-list b₆ o₆ γ₆ sample) (sliceVal (b₆, o₆) n₆ ∷ [])) ∷ ‵ (flft κ₆ q₆) ∷ free 𝓤 (sliceTy (tyRef erased mut (pointee (u8 .written)))) l₂₉ (free 𝓤 (tyRef erased mut (pointee (u8 .written))) l₂₈ (free 𝓤 (sliceTy (tyRef erased mut (pointee (Object-t.the-row .written)))) l₂₇ (free 𝓤 (tyRef erased mut (pointee (Object-t.the-row .written))) l₂₆ (free 𝓤 (sliceTy (tyRef erased mut (pointee ((Array u16 35) .written)))) l₂₅ (free 𝓤 (tyRef erased mut (pointee ((Array u16 35) .written))) l₂₄ (free 𝓤 (sliceTy (tyRef erased mut (pointee ((Array u64 5) .written)))) l₂₃ (free 𝓤 (tyRef erased mut (pointee ((Array u64 5) .written))) l₂₂ (full 𝓤 Refusal-l.mir l₂₁ (Refusal-p .val Refusal-OutputTooShort) (full 𝓤 Processed-l.mir l₂₀ (Processed-p .val (refusedOf agent Refusal-OutputTooShort)) (full 𝓤 tyBool l₁₉ (bool-p .val (ltb n₄ (neededOf (roomy n₄ (start .resumes) n′ (length (sample))) (performed start (lent (sessions) (streams) (objects)) (d) (sample) .ran .wrote)))) (full 𝓤 (sliceTy (tyRef erased mut (pointee (Object-t.the-row .written)))) l₁₈ (sliceVal (b₃, o₃) n₃) (full 𝓤 (tyRef erased mut (pointee (Object-t.the-row .written))) l₁₇ (vptr b₃ o₃) (full 𝓤 (sliceTy (tyRef erased mut (pointee ((Array u16 35) .written)))) l₁₆ (sliceVal (b₂, o₂) n₂) (full 𝓤 (tyRef erased mut (pointee ((Array u16 35) .written))) l₁₅ (vptr b₂ o₂) (full 𝓤 (sliceTy (tyRef erased mut (pointee ((Array u64 5) .written)))) l₁₄ (sliceVal (b₁, o₁) n₁) (full 𝓤 (tyRef erased mut (pointee ((Array u64 5) .written))) l₁₃ (vptr b₁ o₁) (free 𝓤 Ran-l.mir l₁₂ (full 𝓤 (tyInt w64) l₁₁ (u64-p .val (neededOf (roomy n₄ (start .resumes) n′ (length (sample))) (performed start (lent (sessions) (streams) (objects)) (d) (sample) .ran .wrote))) (full 𝓤 (tyInt w64) l₁₀ (u64-p .val n₄) (full 𝓤 (tyInt w64) l₉ (u64-p .val n′) (full 𝓤 Start-l.mir l₈ (Start-p .val start) (full 𝓤 Agent-l.mir l₇ (Agent-p .val agent) (full 𝓤 (sliceTy (tyRef (named 5) imm (pointee (u8 .written)))) l₆ (sliceVal (b₆, o₆) n₆) (full 𝓤 (sliceTy (tyRef (named 4) imm (pointee (u8 .written)))) l₅ (sliceVal (b₅, o₅) n₅) (full 𝓤 (sliceTy (tyRef (named 3) mut (pointee (u8 .written)))) l₄ (sliceVal (b₄, o₄) n₄) (full 𝓤 (sliceTy (tyRef (named 2) mut (pointee (Object-t.the-row .written)))) l₃ (sliceVal (b₃, o₃) n₃) (full 𝓤 (sliceTy (tyRef (named 1) mut (pointee ((Array u16 35) .written)))) l₂ (sliceVal (b₂, o₂) n₂) (full 𝓤 (sliceTy (tyRef (named 0) mut (pointee ((Array u64 5) .written)))) l₁ (sliceVal (b₁, o₁) n₁) (free 𝓤 Processed-l.mir l₀ ([]))))))))))))))))))))))))))))))) (runs C Λ En mir.t-11 (atRet En Post))
-    part-11-0 asks-8 len-8-sessions len-8-streams len-8-objects is-8 c-10 is-10·yes·2 =
-        assigns ! (of-opd ! (load ! (from ! (stop !)) (look ! 30 refl))) (from ! (stop !)) (init ! 70 refl (Processed-p .typed 𝓤 H A W (refusedOf agent Refusal-OutputTooShort) is-10·yes·2)) $
-        returns ! (look ! 70 refl) $ forget ! 28 refl $ forget ! 30 refl $ forget ! 32 refl $ forget ! 34 refl $ forget ! 36 refl $ forget ! 38 refl $ forget ! 40 refl $ forget ! 42 refl $ forget ! 44 refl $ forget ! 48 refl $ forget ! 50 refl $
-        frees-all (refusedOf agent Refusal-OutputTooShort) sessions streams objects out (exits (refusedOf agent Refusal-OutputTooShort) sessions streams objects out (same-leaves _ _ (is-short c-10)) is-10·yes·2 len-8-sessions len-8-streams len-8-objects refl)
+    part-13-0 : (asks-10 : (resumesFit (start .resumes) (start .frame .«stream_id») (length (sample)) ≡ true) × (start .frame .room ≤ 9223372036854775807) × (256 ≤ length (sessions)) × (2048 ≤ length (streams)) × (8192 ≤ length (objects))) → (len-10-sessions : length sessions ≡ n₁) → (len-10-streams : length streams ≡ n₂) → (len-10-objects : length objects ≡ n₃) → (len-10-held : length held ≡ n₄) → (is-10 : Is (u64-p .row) (neededOf (roomy n₅ start n′ (d) (length (sample))) (performed start (lent (sessions) (streams) (objects) (held)) (d) (sample) .ran .wrote)) (u64-p .val (neededOf (roomy n₅ start n′ (d) (length (sample))) (performed start (lent (sessions) (streams) (objects) (held)) (d) (sample) .ran .wrote)) ∷ [])) → (c-12 : ltb n₅ (neededOf (roomy n₅ start n′ (d) (length (sample))) (performed start (lent (sessions) (streams) (objects) (held)) (d) (sample) .ran .wrote)) ≡ true) → (is-12·yes·2 : Is (Processed-p .row) (refusedOf agent Refusal-OutputTooShort) (Processed-p .val (refusedOf agent Refusal-OutputTooShort) ∷ [])) → Sq W (‵ (MutSlice (named 0) κ₁ (Array u64 6) .own (at-list b₁ o₁ γ₁ sessions) (sliceVal (b₁, o₁) n₁ ∷ [])) ∷ ‵ (flft κ₁ q₁) ∷ ‵ (MutSlice (named 0) κ₂ (Array u16 35) .own (at-list b₂ o₂ γ₂ streams) (sliceVal (b₂, o₂) n₂ ∷ [])) ∷ ‵ (flft κ₂ q₂) ∷ ‵ (MutSlice (named 0) κ₃ Object-t.the-row .own (at-list b₃ o₃ γ₃ objects) (sliceVal (b₃, o₃) n₃ ∷ [])) ∷ ‵ (flft κ₃ q₃) ∷ ‵ (MutSlice (named 0) κ₄ u8 .own (at-list b₄ o₄ γ₄ held) (sliceVal (b₄, o₄) n₄ ∷ [])) ∷ ‵ (flft κ₄ q₄) ∷ ‵ (MutSlice (named 0) κ₅ u8 .own (at-list b₅ o₅ γ₅ out) (sliceVal (b₅, o₅) n₅ ∷ [])) ∷ ‵ (flft κ₅ q₅) ∷ ‵ (ShrSlice (named 0) κ₆ u8 .own (at-list b₆ o₆ γ₆ d) (sliceVal (b₆, o₆) n₆ ∷ [])) ∷ ‵ (flft κ₆ q₆) ∷ ‵ (ShrSlice (named 0) κ₇ u8 .own (at-list b₇ o₇ γ₇ sample) (sliceVal (b₇, o₇) n₇ ∷ [])) ∷ ‵ (flft κ₇ q₇) ∷ free 𝓤 (sliceTy (tyRef erased mut (pointee (u8 .written)))) l₃₄ (free 𝓤 (tyRef erased mut (pointee (u8 .written))) l₃₃ (free 𝓤 (sliceTy (tyRef erased mut (pointee (u8 .written)))) l₃₂ (free 𝓤 (tyRef erased mut (pointee (u8 .written))) l₃₁ (free 𝓤 (sliceTy (tyRef erased mut (pointee (Object-t.the-row .written)))) l₃₀ (free 𝓤 (tyRef erased mut (pointee (Object-t.the-row .written))) l₂₉ (free 𝓤 (sliceTy (tyRef erased mut (pointee ((Array u16 35) .written)))) l₂₈ (free 𝓤 (tyRef erased mut (pointee ((Array u16 35) .written))) l₂₇ (free 𝓤 (sliceTy (tyRef erased mut (pointee ((Array u64 6) .written)))) l₂₆ (free 𝓤 (tyRef erased mut (pointee ((Array u64 6) .written))) l₂₅ (full 𝓤 Refusal-l.mir l₂₄ (Refusal-p .val Refusal-OutputTooShort) (full 𝓤 Processed-l.mir l₂₃ (Processed-p .val (refusedOf agent Refusal-OutputTooShort)) (full 𝓤 tyBool l₂₂ (bool-p .val (ltb n₅ (neededOf (roomy n₅ start n′ (d) (length (sample))) (performed start (lent (sessions) (streams) (objects) (held)) (d) (sample) .ran .wrote)))) (full 𝓤 (sliceTy (tyRef erased mut (pointee (u8 .written)))) l₂₁ (sliceVal (b₄, o₄) n₄) (full 𝓤 (tyRef erased mut (pointee (u8 .written))) l₂₀ (vptr b₄ o₄) (full 𝓤 (sliceTy (tyRef erased mut (pointee (Object-t.the-row .written)))) l₁₉ (sliceVal (b₃, o₃) n₃) (full 𝓤 (tyRef erased mut (pointee (Object-t.the-row .written))) l₁₈ (vptr b₃ o₃) (full 𝓤 (sliceTy (tyRef erased mut (pointee ((Array u16 35) .written)))) l₁₇ (sliceVal (b₂, o₂) n₂) (full 𝓤 (tyRef erased mut (pointee ((Array u16 35) .written))) l₁₆ (vptr b₂ o₂) (full 𝓤 (sliceTy (tyRef erased mut (pointee ((Array u64 6) .written)))) l₁₅ (sliceVal (b₁, o₁) n₁) (full 𝓤 (tyRef erased mut (pointee ((Array u64 6) .written))) l₁₄ (vptr b₁ o₁) (free 𝓤 Ran-l.mir l₁₃ (full 𝓤 (tyInt w64) l₁₂ (u64-p .val (neededOf (roomy n₅ start n′ (d) (length (sample))) (performed start (lent (sessions) (streams) (objects) (held)) (d) (sample) .ran .wrote))) (full 𝓤 (tyInt w64) l₁₁ (u64-p .val n₅) (full 𝓤 (tyInt w64) l₁₀ (u64-p .val n′) (full 𝓤 Start-l.mir l₉ (Start-p .val start) (full 𝓤 Agent-l.mir l₈ (Agent-p .val agent) (full 𝓤 (sliceTy (tyRef (named 6) imm (pointee (u8 .written)))) l₇ (sliceVal (b₇, o₇) n₇) (full 𝓤 (sliceTy (tyRef (named 5) imm (pointee (u8 .written)))) l₆ (sliceVal (b₆, o₆) n₆) (full 𝓤 (sliceTy (tyRef (named 4) mut (pointee (u8 .written)))) l₅ (sliceVal (b₅, o₅) n₅) (full 𝓤 (sliceTy (tyRef (named 3) mut (pointee (u8 .written)))) l₄ (sliceVal (b₄, o₄) n₄) (full 𝓤 (sliceTy (tyRef (named 2) mut (pointee (Object-t.the-row .written)))) l₃ (sliceVal (b₃, o₃) n₃) (full 𝓤 (sliceTy (tyRef (named 1) mut (pointee ((Array u16 35) .written)))) l₂ (sliceVal (b₂, o₂) n₂) (full 𝓤 (sliceTy (tyRef (named 0) mut (pointee ((Array u64 6) .written)))) l₁ (sliceVal (b₁, o₁) n₁) (free 𝓤 Processed-l.mir l₀ ([])))))))))))))))))))))))))))))))))))) (runs C Λ En mir.t-13 (atRet En Post))
+    part-13-0 asks-10 len-10-sessions len-10-streams len-10-objects len-10-held is-10 c-12 is-12·yes·2 =
+        assigns ! (of-opd ! (load ! (from ! (stop !)) (look ! 36 refl))) (from ! (stop !)) (init ! 82 refl (Processed-p .typed 𝓤 H A W (refusedOf agent Refusal-OutputTooShort) is-12·yes·2)) $
+        returns ! (look ! 82 refl) $ forget ! 34 refl $ forget ! 36 refl $ forget ! 38 refl $ forget ! 40 refl $ forget ! 42 refl $ forget ! 44 refl $ forget ! 46 refl $ forget ! 48 refl $ forget ! 50 refl $ forget ! 52 refl $ forget ! 54 refl $ forget ! 58 refl $ forget ! 60 refl $
+        frees-all (refusedOf agent Refusal-OutputTooShort) sessions streams objects held out (exits (refusedOf agent Refusal-OutputTooShort) sessions streams objects held out (same-leaves _ _ (is-short c-12)) is-12·yes·2 len-10-sessions len-10-streams len-10-objects len-10-held refl)
 
-    part-11-2 : (asks-8 : (resumesFit (start .resumes) (length (sample)) ≡ true) × (256 ≤ length (sessions)) × (2048 ≤ length (streams)) × (8192 ≤ length (objects))) → (len-8-sessions : length sessions ≡ n₁) → (len-8-streams : length streams ≡ n₂) → (len-8-objects : length objects ≡ n₃) → (is-8 : Is (u64-p .row) (neededOf (roomy n₄ (start .resumes) n′ (length (sample))) (performed start (lent (sessions) (streams) (objects)) (d) (sample) .ran .wrote)) (u64-p .val (neededOf (roomy n₄ (start .resumes) n′ (length (sample))) (performed start (lent (sessions) (streams) (objects)) (d) (sample) .ran .wrote)) ∷ [])) → (c-10 : ltb n₄ (neededOf (roomy n₄ (start .resumes) n′ (length (sample))) (performed start (lent (sessions) (streams) (objects)) (d) (sample) .ran .wrote)) ≡ false) → (asks-10·no·9 : resumesFit (start .resumes) (length (sample)) ≡ true) → (len-10·no·9-sessions : length (performed start (lent (sessions) (streams) (objects)) (d) (sample) .tables .sessions) ≡ n₁) → (len-10·no·9-streams : length (performed start (lent (sessions) (streams) (objects)) (d) (sample) .tables .streams) ≡ n₂) → (len-10·no·9-objects : length (performed start (lent (sessions) (streams) (objects)) (d) (sample) .tables .objects) ≡ n₃) → (len-10·no·9-out : length (putReplies (out) 0 (performed start (lent (sessions) (streams) (objects)) (d) (sample) .replies)) ≡ n₄) → (is-10·no·9 : Is (Ran-p .row) (performed start (lent (sessions) (streams) (objects)) (d) (sample) .ran) (Ran-p .val (performed start (lent (sessions) (streams) (objects)) (d) (sample) .ran) ∷ [])) → (is-10·no·10 : Is (Processed-p .row) (finishedOf agent start (performed start (lent (sessions) (streams) (objects)) (d) (sample) .ran)) (Processed-p .val (finishedOf agent start (performed start (lent (sessions) (streams) (objects)) (d) (sample) .ran)) ∷ [])) → Sq W (‵ (MutSlice (named 0) κ₁ (Array u64 5) .own (at-list b₁ o₁ γ₁ (performed start (lent (sessions) (streams) (objects)) (d) (sample) .tables .sessions)) (sliceVal (b₁, o₁) n₁ ∷ [])) ∷ ‵ (flft κ₁ q₁) ∷ ‵ (MutSlice (named 0) κ₂ (Array u16 35) .own (at-list b₂ o₂ γ₂ (performed start (lent (sessions) (streams) (objects)) (d) (sample) .tables .streams)) (sliceVal (b₂, o₂) n₂ ∷ [])) ∷ ‵ (flft κ₂ q₂) ∷ ‵ (MutSlice (named 0) κ₃ Object-t.the-row .own (at-list b₃ o₃ γ₃ (performed start (lent (sessions) (streams) (objects)) (d) (sample) .tables .objects)) (sliceVal (b₃, o₃) n₃ ∷ [])) ∷ ‵ (flft κ₃ q₃) ∷ ‵ (MutSlice (named 0) κ₄ u8 .own (at-list b₄ o₄ γ₄ (putReplies (out) 0 (performed start (lent (sessions) (streams) (objects)) (d) (sample) .replies))) (sliceVal (b₄, o₄) n₄ ∷ [])) ∷ ‵ (flft κ₄ q₄) ∷ ‵ (ShrSlice (named 0) κ₅ u8 .own (at-list b₅ o₅ γ₅ d) (sliceVal (b₅, o₅) n₅ ∷ [])) ∷ ‵ (flft κ₅ q₅) ∷ ‵ (ShrSlice (named 0) κ₆ u8 .own (at-list b₆ o₆ γ₆ sample) (sliceVal (b₆, o₆) n₆ ∷ [])) ∷ ‵ (flft κ₆ q₆) ∷ full 𝓤 (sliceTy (tyRef erased mut (pointee (u8 .written)))) l₂₉ (sliceVal (b₄, o₄) n₄) (full 𝓤 (tyRef erased mut (pointee (u8 .written))) l₂₈ (vptr b₄ o₄) (full 𝓤 (sliceTy (tyRef erased mut (pointee (Object-t.the-row .written)))) l₂₇ (sliceVal (b₃, o₃) n₃) (full 𝓤 (tyRef erased mut (pointee (Object-t.the-row .written))) l₂₆ (vptr b₃ o₃) (full 𝓤 (sliceTy (tyRef erased mut (pointee ((Array u16 35) .written)))) l₂₅ (sliceVal (b₂, o₂) n₂) (full 𝓤 (tyRef erased mut (pointee ((Array u16 35) .written))) l₂₄ (vptr b₂ o₂) (full 𝓤 (sliceTy (tyRef erased mut (pointee ((Array u64 5) .written)))) l₂₃ (sliceVal (b₁, o₁) n₁) (full 𝓤 (tyRef erased mut (pointee ((Array u64 5) .written))) l₂₂ (vptr b₁ o₁) (free 𝓤 Refusal-l.mir l₂₁ (full 𝓤 Processed-l.mir l₂₀ (Processed-p .val (finishedOf agent start (performed start (lent (sessions) (streams) (objects)) (d) (sample) .ran))) (full 𝓤 tyBool l₁₉ (bool-p .val (ltb n₄ (neededOf (roomy n₄ (start .resumes) n′ (length (sample))) (performed start (lent (sessions) (streams) (objects)) (d) (sample) .ran .wrote)))) (full 𝓤 (sliceTy (tyRef erased mut (pointee (Object-t.the-row .written)))) l₁₈ (sliceVal (b₃, o₃) n₃) (full 𝓤 (tyRef erased mut (pointee (Object-t.the-row .written))) l₁₇ (vptr b₃ o₃) (full 𝓤 (sliceTy (tyRef erased mut (pointee ((Array u16 35) .written)))) l₁₆ (sliceVal (b₂, o₂) n₂) (full 𝓤 (tyRef erased mut (pointee ((Array u16 35) .written))) l₁₅ (vptr b₂ o₂) (full 𝓤 (sliceTy (tyRef erased mut (pointee ((Array u64 5) .written)))) l₁₄ (sliceVal (b₁, o₁) n₁) (full 𝓤 (tyRef erased mut (pointee ((Array u64 5) .written))) l₁₃ (vptr b₁ o₁) (full 𝓤 Ran-l.mir l₁₂ (Ran-p .val (performed start (lent (sessions) (streams) (objects)) (d) (sample) .ran)) (full 𝓤 (tyInt w64) l₁₁ (u64-p .val (neededOf (roomy n₄ (start .resumes) n′ (length (sample))) (performed start (lent (sessions) (streams) (objects)) (d) (sample) .ran .wrote))) (full 𝓤 (tyInt w64) l₁₀ (u64-p .val n₄) (full 𝓤 (tyInt w64) l₉ (u64-p .val n′) (full 𝓤 Start-l.mir l₈ (Start-p .val start) (full 𝓤 Agent-l.mir l₇ (Agent-p .val agent) (full 𝓤 (sliceTy (tyRef (named 5) imm (pointee (u8 .written)))) l₆ (sliceVal (b₆, o₆) n₆) (full 𝓤 (sliceTy (tyRef (named 4) imm (pointee (u8 .written)))) l₅ (sliceVal (b₅, o₅) n₅) (full 𝓤 (sliceTy (tyRef (named 3) mut (pointee (u8 .written)))) l₄ (sliceVal (b₄, o₄) n₄) (full 𝓤 (sliceTy (tyRef (named 2) mut (pointee (Object-t.the-row .written)))) l₃ (sliceVal (b₃, o₃) n₃) (full 𝓤 (sliceTy (tyRef (named 1) mut (pointee ((Array u16 35) .written)))) l₂ (sliceVal (b₂, o₂) n₂) (full 𝓤 (sliceTy (tyRef (named 0) mut (pointee ((Array u64 5) .written)))) l₁ (sliceVal (b₁, o₁) n₁) (free 𝓤 Processed-l.mir l₀ ([]))))))))))))))))))))))))))))))) (runs C Λ En mir.t-11 (atRet En Post))
-    part-11-2 asks-8 len-8-sessions len-8-streams len-8-objects is-8 c-10 asks-10·no·9 len-10·no·9-sessions len-10·no·9-streams len-10·no·9-objects len-10·no·9-out is-10·no·9 is-10·no·10 =
-        assigns ! (of-opd ! (load ! (from ! (stop !)) (look ! 30 refl))) (from ! (stop !)) (init ! 70 refl (Processed-p .typed 𝓤 H A W (finishedOf agent start (performed start (lent (sessions) (streams) (objects)) (d) (sample) .ran)) is-10·no·10)) $
-        returns ! (look ! 70 refl) $ forget ! 12 refl $ forget ! 14 refl $ forget ! 16 refl $ forget ! 18 refl $ forget ! 20 refl $ forget ! 22 refl $ forget ! 24 refl $ forget ! 26 refl $ forget ! 30 refl $ forget ! 32 refl $ forget ! 34 refl $ forget ! 36 refl $ forget ! 38 refl $ forget ! 40 refl $ forget ! 42 refl $ forget ! 44 refl $ forget ! 46 refl $ forget ! 48 refl $ forget ! 50 refl $
-        frees-all (finishedOf agent start (performed start (lent (sessions) (streams) (objects)) (d) (sample) .ran)) (performed start (lent (sessions) (streams) (objects)) (d) (sample) .tables .sessions) (performed start (lent (sessions) (streams) (objects)) (d) (sample) .tables .streams) (performed start (lent (sessions) (streams) (objects)) (d) (sample) .tables .objects) (putReplies (out) 0 (performed start (lent (sessions) (streams) (objects)) (d) (sample) .replies)) (exits (finishedOf agent start (performed start (lent (sessions) (streams) (objects)) (d) (sample) .ran)) (performed start (lent (sessions) (streams) (objects)) (d) (sample) .tables .sessions) (performed start (lent (sessions) (streams) (objects)) (d) (sample) .tables .streams) (performed start (lent (sessions) (streams) (objects)) (d) (sample) .tables .objects) (putReplies (out) 0 (performed start (lent (sessions) (streams) (objects)) (d) (sample) .replies)) ((ap (λ (l : Leaves). l .processed) (has-room c-10), ap (λ (l : Leaves). l .tables .sessions) (has-room c-10), ap (λ (l : Leaves). l .tables .streams) (has-room c-10), ap (λ (l : Leaves). l .tables .objects) (has-room c-10), finish-out agent tables-lent out d sample start (sym (within .1) ∙ c-10) ∙ ap (λ (l : Leaves). l .out) (has-room c-10))) is-10·no·10 len-10·no·9-sessions len-10·no·9-streams len-10·no·9-objects len-10·no·9-out)
+    part-13-2 : (asks-10 : (resumesFit (start .resumes) (start .frame .«stream_id») (length (sample)) ≡ true) × (start .frame .room ≤ 9223372036854775807) × (256 ≤ length (sessions)) × (2048 ≤ length (streams)) × (8192 ≤ length (objects))) → (len-10-sessions : length sessions ≡ n₁) → (len-10-streams : length streams ≡ n₂) → (len-10-objects : length objects ≡ n₃) → (len-10-held : length held ≡ n₄) → (is-10 : Is (u64-p .row) (neededOf (roomy n₅ start n′ (d) (length (sample))) (performed start (lent (sessions) (streams) (objects) (held)) (d) (sample) .ran .wrote)) (u64-p .val (neededOf (roomy n₅ start n′ (d) (length (sample))) (performed start (lent (sessions) (streams) (objects) (held)) (d) (sample) .ran .wrote)) ∷ [])) → (c-12 : ltb n₅ (neededOf (roomy n₅ start n′ (d) (length (sample))) (performed start (lent (sessions) (streams) (objects) (held)) (d) (sample) .ran .wrote)) ≡ false) → (asks-12·no·11 : (resumesFit (start .resumes) (start .frame .«stream_id») (length (sample)) ≡ true) × (start .frame .room ≤ 9223372036854775807)) → (len-12·no·11-sessions : length (performed start (lent (sessions) (streams) (objects) (held)) (d) (sample) .tables .sessions) ≡ n₁) → (len-12·no·11-streams : length (performed start (lent (sessions) (streams) (objects) (held)) (d) (sample) .tables .streams) ≡ n₂) → (len-12·no·11-objects : length (performed start (lent (sessions) (streams) (objects) (held)) (d) (sample) .tables .objects) ≡ n₃) → (len-12·no·11-held : length (performed start (lent (sessions) (streams) (objects) (held)) (d) (sample) .tables .held) ≡ n₄) → (len-12·no·11-out : length (putReplies (start .frame .room) (out) 0 (performed start (lent (sessions) (streams) (objects) (held)) (d) (sample) .replies)) ≡ n₅) → (is-12·no·11 : Is (Ran-p .row) (performed start (lent (sessions) (streams) (objects) (held)) (d) (sample) .ran) (Ran-p .val (performed start (lent (sessions) (streams) (objects) (held)) (d) (sample) .ran) ∷ [])) → (is-12·no·12 : Is (Processed-p .row) (finishedOf agent start (performed start (lent (sessions) (streams) (objects) (held)) (d) (sample) .ran)) (Processed-p .val (finishedOf agent start (performed start (lent (sessions) (streams) (objects) (held)) (d) (sample) .ran)) ∷ [])) → Sq W (‵ (MutSlice (named 0) κ₁ (Array u64 6) .own (at-list b₁ o₁ γ₁ (performed start (lent (sessions) (streams) (objects) (held)) (d) (sample) .tables .sessions)) (sliceVal (b₁, o₁) n₁ ∷ [])) ∷ ‵ (flft κ₁ q₁) ∷ ‵ (MutSlice (named 0) κ₂ (Array u16 35) .own (at-list b₂ o₂ γ₂ (performed start (lent (sessions) (streams) (objects) (held)) (d) (sample) .tables .streams)) (sliceVal (b₂, o₂) n₂ ∷ [])) ∷ ‵ (flft κ₂ q₂) ∷ ‵ (MutSlice (named 0) κ₃ Object-t.the-row .own (at-list b₃ o₃ γ₃ (performed start (lent (sessions) (streams) (objects) (held)) (d) (sample) .tables .objects)) (sliceVal (b₃, o₃) n₃ ∷ [])) ∷ ‵ (flft κ₃ q₃) ∷ ‵ (MutSlice (named 0) κ₄ u8 .own (at-list b₄ o₄ γ₄ (performed start (lent (sessions) (streams) (objects) (held)) (d) (sample) .tables .held)) (sliceVal (b₄, o₄) n₄ ∷ [])) ∷ ‵ (flft κ₄ q₄) ∷ ‵ (MutSlice (named 0) κ₅ u8 .own (at-list b₅ o₅ γ₅ (putReplies (start .frame .room) (out) 0 (performed start (lent (sessions) (streams) (objects) (held)) (d) (sample) .replies))) (sliceVal (b₅, o₅) n₅ ∷ [])) ∷ ‵ (flft κ₅ q₅) ∷ ‵ (ShrSlice (named 0) κ₆ u8 .own (at-list b₆ o₆ γ₆ d) (sliceVal (b₆, o₆) n₆ ∷ [])) ∷ ‵ (flft κ₆ q₆) ∷ ‵ (ShrSlice (named 0) κ₇ u8 .own (at-list b₇ o₇ γ₇ sample) (sliceVal (b₇, o₇) n₇ ∷ [])) ∷ ‵ (flft κ₇ q₇) ∷ full 𝓤 (sliceTy (tyRef erased mut (pointee (u8 .written)))) l₃₄ (sliceVal (b₅, o₅) n₅) (full 𝓤 (tyRef erased mut (pointee (u8 .written))) l₃₃ (vptr b₅ o₅) (full 𝓤 (sliceTy (tyRef erased mut (pointee (u8 .written)))) l₃₂ (sliceVal (b₄, o₄) n₄) (full 𝓤 (tyRef erased mut (pointee (u8 .written))) l₃₁ (vptr b₄ o₄) (full 𝓤 (sliceTy (tyRef erased mut (pointee (Object-t.the-row .written)))) l₃₀ (sliceVal (b₃, o₃) n₃) (full 𝓤 (tyRef erased mut (pointee (Object-t.the-row .written))) l₂₉ (vptr b₃ o₃) (full 𝓤 (sliceTy (tyRef erased mut (pointee ((Array u16 35) .written)))) l₂₈ (sliceVal (b₂, o₂) n₂) (full 𝓤 (tyRef erased mut (pointee ((Array u16 35) .written))) l₂₇ (vptr b₂ o₂) (full 𝓤 (sliceTy (tyRef erased mut (pointee ((Array u64 6) .written)))) l₂₆ (sliceVal (b₁, o₁) n₁) (full 𝓤 (tyRef erased mut (pointee ((Array u64 6) .written))) l₂₅ (vptr b₁ o₁) (free 𝓤 Refusal-l.mir l₂₄ (full 𝓤 Processed-l.mir l₂₃ (Processed-p .val (finishedOf agent start (performed start (lent (sessions) (streams) (objects) (held)) (d) (sample) .ran))) (full 𝓤 tyBool l₂₂ (bool-p .val (ltb n₅ (neededOf (roomy n₅ start n′ (d) (length (sample))) (performed start (lent (sessions) (streams) (objects) (held)) (d) (sample) .ran .wrote)))) (full 𝓤 (sliceTy (tyRef erased mut (pointee (u8 .written)))) l₂₁ (sliceVal (b₄, o₄) n₄) (full 𝓤 (tyRef erased mut (pointee (u8 .written))) l₂₀ (vptr b₄ o₄) (full 𝓤 (sliceTy (tyRef erased mut (pointee (Object-t.the-row .written)))) l₁₉ (sliceVal (b₃, o₃) n₃) (full 𝓤 (tyRef erased mut (pointee (Object-t.the-row .written))) l₁₈ (vptr b₃ o₃) (full 𝓤 (sliceTy (tyRef erased mut (pointee ((Array u16 35) .written)))) l₁₇ (sliceVal (b₂, o₂) n₂) (full 𝓤 (tyRef erased mut (pointee ((Array u16 35) .written))) l₁₆ (vptr b₂ o₂) (full 𝓤 (sliceTy (tyRef erased mut (pointee ((Array u64 6) .written)))) l₁₅ (sliceVal (b₁, o₁) n₁) (full 𝓤 (tyRef erased mut (pointee ((Array u64 6) .written))) l₁₄ (vptr b₁ o₁) (full 𝓤 Ran-l.mir l₁₃ (Ran-p .val (performed start (lent (sessions) (streams) (objects) (held)) (d) (sample) .ran)) (full 𝓤 (tyInt w64) l₁₂ (u64-p .val (neededOf (roomy n₅ start n′ (d) (length (sample))) (performed start (lent (sessions) (streams) (objects) (held)) (d) (sample) .ran .wrote))) (full 𝓤 (tyInt w64) l₁₁ (u64-p .val n₅) (full 𝓤 (tyInt w64) l₁₀ (u64-p .val n′) (full 𝓤 Start-l.mir l₉ (Start-p .val start) (full 𝓤 Agent-l.mir l₈ (Agent-p .val agent) (full 𝓤 (sliceTy (tyRef (named 6) imm (pointee (u8 .written)))) l₇ (sliceVal (b₇, o₇) n₇) (full 𝓤 (sliceTy (tyRef (named 5) imm (pointee (u8 .written)))) l₆ (sliceVal (b₆, o₆) n₆) (full 𝓤 (sliceTy (tyRef (named 4) mut (pointee (u8 .written)))) l₅ (sliceVal (b₅, o₅) n₅) (full 𝓤 (sliceTy (tyRef (named 3) mut (pointee (u8 .written)))) l₄ (sliceVal (b₄, o₄) n₄) (full 𝓤 (sliceTy (tyRef (named 2) mut (pointee (Object-t.the-row .written)))) l₃ (sliceVal (b₃, o₃) n₃) (full 𝓤 (sliceTy (tyRef (named 1) mut (pointee ((Array u16 35) .written)))) l₂ (sliceVal (b₂, o₂) n₂) (full 𝓤 (sliceTy (tyRef (named 0) mut (pointee ((Array u64 6) .written)))) l₁ (sliceVal (b₁, o₁) n₁) (free 𝓤 Processed-l.mir l₀ ([])))))))))))))))))))))))))))))))))))) (runs C Λ En mir.t-13 (atRet En Post))
+    part-13-2 asks-10 len-10-sessions len-10-streams len-10-objects len-10-held is-10 c-12 asks-12·no·11 len-12·no·11-sessions len-12·no·11-streams len-12·no·11-objects len-12·no·11-held len-12·no·11-out is-12·no·11 is-12·no·12 =
+        assigns ! (of-opd ! (load ! (from ! (stop !)) (look ! 36 refl))) (from ! (stop !)) (init ! 82 refl (Processed-p .typed 𝓤 H A W (finishedOf agent start (performed start (lent (sessions) (streams) (objects) (held)) (d) (sample) .ran)) is-12·no·12)) $
+        returns ! (look ! 82 refl) $ forget ! 14 refl $ forget ! 16 refl $ forget ! 18 refl $ forget ! 20 refl $ forget ! 22 refl $ forget ! 24 refl $ forget ! 26 refl $ forget ! 28 refl $ forget ! 30 refl $ forget ! 32 refl $ forget ! 36 refl $ forget ! 38 refl $ forget ! 40 refl $ forget ! 42 refl $ forget ! 44 refl $ forget ! 46 refl $ forget ! 48 refl $ forget ! 50 refl $ forget ! 52 refl $ forget ! 54 refl $ forget ! 56 refl $ forget ! 58 refl $ forget ! 60 refl $
+        frees-all (finishedOf agent start (performed start (lent (sessions) (streams) (objects) (held)) (d) (sample) .ran)) (performed start (lent (sessions) (streams) (objects) (held)) (d) (sample) .tables .sessions) (performed start (lent (sessions) (streams) (objects) (held)) (d) (sample) .tables .streams) (performed start (lent (sessions) (streams) (objects) (held)) (d) (sample) .tables .objects) (performed start (lent (sessions) (streams) (objects) (held)) (d) (sample) .tables .held) (putReplies (start .frame .room) (out) 0 (performed start (lent (sessions) (streams) (objects) (held)) (d) (sample) .replies)) (exits (finishedOf agent start (performed start (lent (sessions) (streams) (objects) (held)) (d) (sample) .ran)) (performed start (lent (sessions) (streams) (objects) (held)) (d) (sample) .tables .sessions) (performed start (lent (sessions) (streams) (objects) (held)) (d) (sample) .tables .streams) (performed start (lent (sessions) (streams) (objects) (held)) (d) (sample) .tables .objects) (performed start (lent (sessions) (streams) (objects) (held)) (d) (sample) .tables .held) (putReplies (start .frame .room) (out) 0 (performed start (lent (sessions) (streams) (objects) (held)) (d) (sample) .replies)) ((ap (λ (l : Leaves). l .processed) (has-room c-12), ap (λ (l : Leaves). l .tables .sessions) (has-room c-12), ap (λ (l : Leaves). l .tables .streams) (has-room c-12), ap (λ (l : Leaves). l .tables .objects) (has-room c-12), ap (λ (l : Leaves). l .tables .held) (has-room c-12), finish-out agent tables-lent out d sample start (within .1) (sym (within .2) ∙ c-12) ∙ ap (λ (l : Leaves). l .out) (has-room c-12))) is-12·no·12 len-12·no·11-sessions len-12·no·11-streams len-12·no·11-objects len-12·no·11-held len-12·no·11-out)
 
-    part-10·no·10-2 : (asks-8 : (resumesFit (start .resumes) (length (sample)) ≡ true) × (256 ≤ length (sessions)) × (2048 ≤ length (streams)) × (8192 ≤ length (objects))) → (len-8-sessions : length sessions ≡ n₁) → (len-8-streams : length streams ≡ n₂) → (len-8-objects : length objects ≡ n₃) → (is-8 : Is (u64-p .row) (neededOf (roomy n₄ (start .resumes) n′ (length (sample))) (performed start (lent (sessions) (streams) (objects)) (d) (sample) .ran .wrote)) (u64-p .val (neededOf (roomy n₄ (start .resumes) n′ (length (sample))) (performed start (lent (sessions) (streams) (objects)) (d) (sample) .ran .wrote)) ∷ [])) → (c-10 : ltb n₄ (neededOf (roomy n₄ (start .resumes) n′ (length (sample))) (performed start (lent (sessions) (streams) (objects)) (d) (sample) .ran .wrote)) ≡ false) → (asks-10·no·9 : resumesFit (start .resumes) (length (sample)) ≡ true) → (len-10·no·9-sessions : length (performed start (lent (sessions) (streams) (objects)) (d) (sample) .tables .sessions) ≡ n₁) → (len-10·no·9-streams : length (performed start (lent (sessions) (streams) (objects)) (d) (sample) .tables .streams) ≡ n₂) → (len-10·no·9-objects : length (performed start (lent (sessions) (streams) (objects)) (d) (sample) .tables .objects) ≡ n₃) → (len-10·no·9-out : length (putReplies (out) 0 (performed start (lent (sessions) (streams) (objects)) (d) (sample) .replies)) ≡ n₄) → (is-10·no·9 : Is (Ran-p .row) (performed start (lent (sessions) (streams) (objects)) (d) (sample) .ran) (Ran-p .val (performed start (lent (sessions) (streams) (objects)) (d) (sample) .ran) ∷ [])) → Sq W (‵ (MutSlice (named 0) κ₁ (Array u64 5) .own (at-list b₁ o₁ γ₁ (performed start (lent (sessions) (streams) (objects)) (d) (sample) .tables .sessions)) (sliceVal (b₁, o₁) n₁ ∷ [])) ∷ ‵ (flft κ₁ q₁) ∷ ‵ (MutSlice (named 0) κ₂ (Array u16 35) .own (at-list b₂ o₂ γ₂ (performed start (lent (sessions) (streams) (objects)) (d) (sample) .tables .streams)) (sliceVal (b₂, o₂) n₂ ∷ [])) ∷ ‵ (flft κ₂ q₂) ∷ ‵ (MutSlice (named 0) κ₃ Object-t.the-row .own (at-list b₃ o₃ γ₃ (performed start (lent (sessions) (streams) (objects)) (d) (sample) .tables .objects)) (sliceVal (b₃, o₃) n₃ ∷ [])) ∷ ‵ (flft κ₃ q₃) ∷ ‵ (MutSlice (named 0) κ₄ u8 .own (at-list b₄ o₄ γ₄ (putReplies (out) 0 (performed start (lent (sessions) (streams) (objects)) (d) (sample) .replies))) (sliceVal (b₄, o₄) n₄ ∷ [])) ∷ ‵ (flft κ₄ q₄) ∷ ‵ (ShrSlice (named 0) κ₅ u8 .own (at-list b₅ o₅ γ₅ d) (sliceVal (b₅, o₅) n₅ ∷ [])) ∷ ‵ (flft κ₅ q₅) ∷ ‵ (ShrSlice (named 0) κ₆ u8 .own (at-list b₆ o₆ γ₆ sample) (sliceVal (b₆, o₆) n₆ ∷ [])) ∷ ‵ (flft κ₆ q₆) ∷ full 𝓤 (sliceTy (tyRef erased mut (pointee (u8 .written)))) l₂₉ (sliceVal (b₄, o₄) n₄) (full 𝓤 (tyRef erased mut (pointee (u8 .written))) l₂₈ (vptr b₄ o₄) (full 𝓤 (sliceTy (tyRef erased mut (pointee (Object-t.the-row .written)))) l₂₇ (sliceVal (b₃, o₃) n₃) (full 𝓤 (tyRef erased mut (pointee (Object-t.the-row .written))) l₂₆ (vptr b₃ o₃) (full 𝓤 (sliceTy (tyRef erased mut (pointee ((Array u16 35) .written)))) l₂₅ (sliceVal (b₂, o₂) n₂) (full 𝓤 (tyRef erased mut (pointee ((Array u16 35) .written))) l₂₄ (vptr b₂ o₂) (full 𝓤 (sliceTy (tyRef erased mut (pointee ((Array u64 5) .written)))) l₂₃ (sliceVal (b₁, o₁) n₁) (full 𝓤 (tyRef erased mut (pointee ((Array u64 5) .written))) l₂₂ (vptr b₁ o₁) (free 𝓤 Refusal-l.mir l₂₁ (free 𝓤 Processed-l.mir l₂₀ (full 𝓤 tyBool l₁₉ (bool-p .val (ltb n₄ (neededOf (roomy n₄ (start .resumes) n′ (length (sample))) (performed start (lent (sessions) (streams) (objects)) (d) (sample) .ran .wrote)))) (full 𝓤 (sliceTy (tyRef erased mut (pointee (Object-t.the-row .written)))) l₁₈ (sliceVal (b₃, o₃) n₃) (full 𝓤 (tyRef erased mut (pointee (Object-t.the-row .written))) l₁₇ (vptr b₃ o₃) (full 𝓤 (sliceTy (tyRef erased mut (pointee ((Array u16 35) .written)))) l₁₆ (sliceVal (b₂, o₂) n₂) (full 𝓤 (tyRef erased mut (pointee ((Array u16 35) .written))) l₁₅ (vptr b₂ o₂) (full 𝓤 (sliceTy (tyRef erased mut (pointee ((Array u64 5) .written)))) l₁₄ (sliceVal (b₁, o₁) n₁) (full 𝓤 (tyRef erased mut (pointee ((Array u64 5) .written))) l₁₃ (vptr b₁ o₁) (full 𝓤 Ran-l.mir l₁₂ (Ran-p .val (performed start (lent (sessions) (streams) (objects)) (d) (sample) .ran)) (full 𝓤 (tyInt w64) l₁₁ (u64-p .val (neededOf (roomy n₄ (start .resumes) n′ (length (sample))) (performed start (lent (sessions) (streams) (objects)) (d) (sample) .ran .wrote))) (full 𝓤 (tyInt w64) l₁₀ (u64-p .val n₄) (full 𝓤 (tyInt w64) l₉ (u64-p .val n′) (full 𝓤 Start-l.mir l₈ (Start-p .val start) (full 𝓤 Agent-l.mir l₇ (Agent-p .val agent) (full 𝓤 (sliceTy (tyRef (named 5) imm (pointee (u8 .written)))) l₆ (sliceVal (b₆, o₆) n₆) (full 𝓤 (sliceTy (tyRef (named 4) imm (pointee (u8 .written)))) l₅ (sliceVal (b₅, o₅) n₅) (full 𝓤 (sliceTy (tyRef (named 3) mut (pointee (u8 .written)))) l₄ (sliceVal (b₄, o₄) n₄) (full 𝓤 (sliceTy (tyRef (named 2) mut (pointee (Object-t.the-row .written)))) l₃ (sliceVal (b₃, o₃) n₃) (full 𝓤 (sliceTy (tyRef (named 1) mut (pointee ((Array u16 35) .written)))) l₂ (sliceVal (b₂, o₂) n₂) (full 𝓤 (sliceTy (tyRef (named 0) mut (pointee ((Array u64 5) .written)))) l₁ (sliceVal (b₁, o₁) n₁) (free 𝓤 Processed-l.mir l₀ ([]))))))))))))))))))))))))))))))) (runs C Λ En (past 9 (no-of (one mir.t-10))) (anyQ (afterSeq 𝓤 H (Wp 𝓤 H C Λ En mir.t-11 (atReturn 𝓤 H En Post)) (atReturn 𝓤 H En Post))))
-    part-10·no·10-2 asks-8 len-8-sessions len-8-streams len-8-objects is-8 c-10 asks-10·no·9 len-10·no·9-sessions len-10·no·9-streams len-10·no·9-objects len-10·no·9-out is-10·no·9 =
-        -- 10.no.10: agent::process::finished
+    part-12·no·12-2 : (asks-10 : (resumesFit (start .resumes) (start .frame .«stream_id») (length (sample)) ≡ true) × (start .frame .room ≤ 9223372036854775807) × (256 ≤ length (sessions)) × (2048 ≤ length (streams)) × (8192 ≤ length (objects))) → (len-10-sessions : length sessions ≡ n₁) → (len-10-streams : length streams ≡ n₂) → (len-10-objects : length objects ≡ n₃) → (len-10-held : length held ≡ n₄) → (is-10 : Is (u64-p .row) (neededOf (roomy n₅ start n′ (d) (length (sample))) (performed start (lent (sessions) (streams) (objects) (held)) (d) (sample) .ran .wrote)) (u64-p .val (neededOf (roomy n₅ start n′ (d) (length (sample))) (performed start (lent (sessions) (streams) (objects) (held)) (d) (sample) .ran .wrote)) ∷ [])) → (c-12 : ltb n₅ (neededOf (roomy n₅ start n′ (d) (length (sample))) (performed start (lent (sessions) (streams) (objects) (held)) (d) (sample) .ran .wrote)) ≡ false) → (asks-12·no·11 : (resumesFit (start .resumes) (start .frame .«stream_id») (length (sample)) ≡ true) × (start .frame .room ≤ 9223372036854775807)) → (len-12·no·11-sessions : length (performed start (lent (sessions) (streams) (objects) (held)) (d) (sample) .tables .sessions) ≡ n₁) → (len-12·no·11-streams : length (performed start (lent (sessions) (streams) (objects) (held)) (d) (sample) .tables .streams) ≡ n₂) → (len-12·no·11-objects : length (performed start (lent (sessions) (streams) (objects) (held)) (d) (sample) .tables .objects) ≡ n₃) → (len-12·no·11-held : length (performed start (lent (sessions) (streams) (objects) (held)) (d) (sample) .tables .held) ≡ n₄) → (len-12·no·11-out : length (putReplies (start .frame .room) (out) 0 (performed start (lent (sessions) (streams) (objects) (held)) (d) (sample) .replies)) ≡ n₅) → (is-12·no·11 : Is (Ran-p .row) (performed start (lent (sessions) (streams) (objects) (held)) (d) (sample) .ran) (Ran-p .val (performed start (lent (sessions) (streams) (objects) (held)) (d) (sample) .ran) ∷ [])) → Sq W (‵ (MutSlice (named 0) κ₁ (Array u64 6) .own (at-list b₁ o₁ γ₁ (performed start (lent (sessions) (streams) (objects) (held)) (d) (sample) .tables .sessions)) (sliceVal (b₁, o₁) n₁ ∷ [])) ∷ ‵ (flft κ₁ q₁) ∷ ‵ (MutSlice (named 0) κ₂ (Array u16 35) .own (at-list b₂ o₂ γ₂ (performed start (lent (sessions) (streams) (objects) (held)) (d) (sample) .tables .streams)) (sliceVal (b₂, o₂) n₂ ∷ [])) ∷ ‵ (flft κ₂ q₂) ∷ ‵ (MutSlice (named 0) κ₃ Object-t.the-row .own (at-list b₃ o₃ γ₃ (performed start (lent (sessions) (streams) (objects) (held)) (d) (sample) .tables .objects)) (sliceVal (b₃, o₃) n₃ ∷ [])) ∷ ‵ (flft κ₃ q₃) ∷ ‵ (MutSlice (named 0) κ₄ u8 .own (at-list b₄ o₄ γ₄ (performed start (lent (sessions) (streams) (objects) (held)) (d) (sample) .tables .held)) (sliceVal (b₄, o₄) n₄ ∷ [])) ∷ ‵ (flft κ₄ q₄) ∷ ‵ (MutSlice (named 0) κ₅ u8 .own (at-list b₅ o₅ γ₅ (putReplies (start .frame .room) (out) 0 (performed start (lent (sessions) (streams) (objects) (held)) (d) (sample) .replies))) (sliceVal (b₅, o₅) n₅ ∷ [])) ∷ ‵ (flft κ₅ q₅) ∷ ‵ (ShrSlice (named 0) κ₆ u8 .own (at-list b₆ o₆ γ₆ d) (sliceVal (b₆, o₆) n₆ ∷ [])) ∷ ‵ (flft κ₆ q₆) ∷ ‵ (ShrSlice (named 0) κ₇ u8 .own (at-list b₇ o₇ γ₇ sample) (sliceVal (b₇, o₇) n₇ ∷ [])) ∷ ‵ (flft κ₇ q₇) ∷ full 𝓤 (sliceTy (tyRef erased mut (pointee (u8 .written)))) l₃₄ (sliceVal (b₅, o₅) n₅) (full 𝓤 (tyRef erased mut (pointee (u8 .written))) l₃₃ (vptr b₅ o₅) (full 𝓤 (sliceTy (tyRef erased mut (pointee (u8 .written)))) l₃₂ (sliceVal (b₄, o₄) n₄) (full 𝓤 (tyRef erased mut (pointee (u8 .written))) l₃₁ (vptr b₄ o₄) (full 𝓤 (sliceTy (tyRef erased mut (pointee (Object-t.the-row .written)))) l₃₀ (sliceVal (b₃, o₃) n₃) (full 𝓤 (tyRef erased mut (pointee (Object-t.the-row .written))) l₂₉ (vptr b₃ o₃) (full 𝓤 (sliceTy (tyRef erased mut (pointee ((Array u16 35) .written)))) l₂₈ (sliceVal (b₂, o₂) n₂) (full 𝓤 (tyRef erased mut (pointee ((Array u16 35) .written))) l₂₇ (vptr b₂ o₂) (full 𝓤 (sliceTy (tyRef erased mut (pointee ((Array u64 6) .written)))) l₂₆ (sliceVal (b₁, o₁) n₁) (full 𝓤 (tyRef erased mut (pointee ((Array u64 6) .written))) l₂₅ (vptr b₁ o₁) (free 𝓤 Refusal-l.mir l₂₄ (free 𝓤 Processed-l.mir l₂₃ (full 𝓤 tyBool l₂₂ (bool-p .val (ltb n₅ (neededOf (roomy n₅ start n′ (d) (length (sample))) (performed start (lent (sessions) (streams) (objects) (held)) (d) (sample) .ran .wrote)))) (full 𝓤 (sliceTy (tyRef erased mut (pointee (u8 .written)))) l₂₁ (sliceVal (b₄, o₄) n₄) (full 𝓤 (tyRef erased mut (pointee (u8 .written))) l₂₀ (vptr b₄ o₄) (full 𝓤 (sliceTy (tyRef erased mut (pointee (Object-t.the-row .written)))) l₁₉ (sliceVal (b₃, o₃) n₃) (full 𝓤 (tyRef erased mut (pointee (Object-t.the-row .written))) l₁₈ (vptr b₃ o₃) (full 𝓤 (sliceTy (tyRef erased mut (pointee ((Array u16 35) .written)))) l₁₇ (sliceVal (b₂, o₂) n₂) (full 𝓤 (tyRef erased mut (pointee ((Array u16 35) .written))) l₁₆ (vptr b₂ o₂) (full 𝓤 (sliceTy (tyRef erased mut (pointee ((Array u64 6) .written)))) l₁₅ (sliceVal (b₁, o₁) n₁) (full 𝓤 (tyRef erased mut (pointee ((Array u64 6) .written))) l₁₄ (vptr b₁ o₁) (full 𝓤 Ran-l.mir l₁₃ (Ran-p .val (performed start (lent (sessions) (streams) (objects) (held)) (d) (sample) .ran)) (full 𝓤 (tyInt w64) l₁₂ (u64-p .val (neededOf (roomy n₅ start n′ (d) (length (sample))) (performed start (lent (sessions) (streams) (objects) (held)) (d) (sample) .ran .wrote))) (full 𝓤 (tyInt w64) l₁₁ (u64-p .val n₅) (full 𝓤 (tyInt w64) l₁₀ (u64-p .val n′) (full 𝓤 Start-l.mir l₉ (Start-p .val start) (full 𝓤 Agent-l.mir l₈ (Agent-p .val agent) (full 𝓤 (sliceTy (tyRef (named 6) imm (pointee (u8 .written)))) l₇ (sliceVal (b₇, o₇) n₇) (full 𝓤 (sliceTy (tyRef (named 5) imm (pointee (u8 .written)))) l₆ (sliceVal (b₆, o₆) n₆) (full 𝓤 (sliceTy (tyRef (named 4) mut (pointee (u8 .written)))) l₅ (sliceVal (b₅, o₅) n₅) (full 𝓤 (sliceTy (tyRef (named 3) mut (pointee (u8 .written)))) l₄ (sliceVal (b₄, o₄) n₄) (full 𝓤 (sliceTy (tyRef (named 2) mut (pointee (Object-t.the-row .written)))) l₃ (sliceVal (b₃, o₃) n₃) (full 𝓤 (sliceTy (tyRef (named 1) mut (pointee ((Array u16 35) .written)))) l₂ (sliceVal (b₂, o₂) n₂) (full 𝓤 (sliceTy (tyRef (named 0) mut (pointee ((Array u64 6) .written)))) l₁ (sliceVal (b₁, o₁) n₁) (free 𝓤 Processed-l.mir l₀ ([])))))))))))))))))))))))))))))))))))) (runs C Λ En (past 11 (no-of (one mir.t-12))) (anyQ (afterSeq 𝓤 H (Wp 𝓤 H C Λ En mir.t-13 (atReturn 𝓤 H En Post)) (atReturn 𝓤 H En Post))))
+    part-12·no·12-2 asks-10 len-10-sessions len-10-streams len-10-objects len-10-held is-10 c-12 asks-12·no·11 len-12·no·11-sessions len-12·no·11-streams len-12·no·11-objects len-12·no·11-held len-12·no·11-out is-12·no·11 =
+        -- 12.no.12: agent::process::finished
         nothing ! $
         use1 W (raw (toks 𝓤 A 0 (tt) (tt))) (id⊢ 𝓤 _) $ nothing ! $
-        owned ! (Ran-p .row) (Is (Ran-p .row)) (Ran-p .makes 𝓤 H A W) (performed start (lent (sessions) (streams) (objects)) (d) (sample) .ran) (Ran-p .val (performed start (lent (sessions) (streams) (objects)) (d) (sample) .ran) ∷ []) is-10·no·9 $ fjoin ! $
+        owned ! (Ran-p .row) (Is (Ran-p .row)) (Ran-p .makes 𝓤 H A W) (performed start (lent (sessions) (streams) (objects) (held)) (d) (sample) .ran) (Ran-p .val (performed start (lent (sessions) (streams) (objects) (held)) (d) (sample) .ran) ∷ []) is-12·no·11 $ fjoin ! $
         owned ! (Start-p .row) (Is (Start-p .row)) (Start-p .makes 𝓤 H A W) start (Start-p .val start ∷ []) start-is $ fjoin ! $
         owned ! (Agent-p .row) (Is (Agent-p .row)) (Agent-p .makes 𝓤 H A W) agent (Agent-p .val agent ∷ []) agent-is $ fjoin ! $ move ! (1 ∷ 0 ∷ []) $
-        calls-any-last ! fm 0 [] (process-finished.signature .params) (process-finished.ended .kept) Processed-p (process-finished.clauses 𝓤 H A mem run) known-process-finished tt tt tt (agent, (start, (performed start (lent (sessions) (streams) (objects)) (d) (sample) .ran, tt))) (Agent-p .val agent ∷ [], (Start-p .val start ∷ [], (Ran-p .val (performed start (lent (sessions) (streams) (objects)) (d) (sample) .ran) ∷ [], tt))) tt (finishedOf agent start (performed start (lent (sessions) (streams) (objects)) (d) (sample) .ran)) (λ ws-10·no·10. Unit {0}) (id⊢ 𝓤 _) (λ r ws-10·no·10. fact-mono 𝓤 (r ≡ finishedOf agent start (performed start (lent (sessions) (streams) (objects)) (d) (sample) .ran)) ((r ≡ (finishedOf agent start (performed start (lent (sessions) (streams) (objects)) (d) (sample) .ran))) × (Unit {0})) (λ e. (e, tt))) (λ _. (and-then ! (load ! (from ! (stop !)) (look ! 57 refl)) (and-then ! (load ! (from ! (stop !)) (look ! 55 refl)) (and-then ! (load ! (from ! (stop !)) (look ! 47 refl)) (no-more !))))) (λ ws-10·no·10 said-10·no·10 is-10·no·10.
+        calls-any-last ! fm 0 [] (process-finished.signature .params) (process-finished.ended .kept) Processed-p (process-finished.clauses 𝓤 H A mem run) known-process-finished tt tt tt (agent, (start, (performed start (lent (sessions) (streams) (objects) (held)) (d) (sample) .ran, tt))) (Agent-p .val agent ∷ [], (Start-p .val start ∷ [], (Ran-p .val (performed start (lent (sessions) (streams) (objects) (held)) (d) (sample) .ran) ∷ [], tt))) tt (finishedOf agent start (performed start (lent (sessions) (streams) (objects) (held)) (d) (sample) .ran)) (λ ws-12·no·12. Unit {0}) (id⊢ 𝓤 _) (λ r ws-12·no·12. fact-mono 𝓤 (r ≡ finishedOf agent start (performed start (lent (sessions) (streams) (objects) (held)) (d) (sample) .ran)) ((r ≡ (finishedOf agent start (performed start (lent (sessions) (streams) (objects) (held)) (d) (sample) .ran))) × (Unit {0})) (λ e. (e, tt))) (λ _. (and-then ! (load ! (from ! (stop !)) (look ! 67 refl)) (and-then ! (load ! (from ! (stop !)) (look ! 65 refl)) (and-then ! (load ! (from ! (stop !)) (look ! 57 refl)) (no-more !))))) (λ ws-12·no·12 said-12·no·12 is-12·no·12.
         drop ! $ drop ! $
-        land-last ! (from ! (stop !)) (init ! 30 refl (Processed-p .typed 𝓤 H A W (finishedOf agent start (performed start (lent (sessions) (streams) (objects)) (d) (sample) .ran)) is-10·no·10)) $
-        exec ! C Λ En mir.t-11 (atRet En Post) $
-        part-11-2 asks-8 len-8-sessions len-8-streams len-8-objects is-8 c-10 asks-10·no·9 len-10·no·9-sessions len-10·no·9-streams len-10·no·9-objects len-10·no·9-out is-10·no·9 is-10·no·10)
+        land-last ! (from ! (stop !)) (init ! 36 refl (Processed-p .typed 𝓤 H A W (finishedOf agent start (performed start (lent (sessions) (streams) (objects) (held)) (d) (sample) .ran)) is-12·no·12)) $
+        exec ! C Λ En mir.t-13 (atRet En Post) $
+        part-13-2 asks-10 len-10-sessions len-10-streams len-10-objects len-10-held is-10 c-12 asks-12·no·11 len-12·no·11-sessions len-12·no·11-streams len-12·no·11-objects len-12·no·11-held len-12·no·11-out is-12·no·11 is-12·no·12)
 
-    part-9-0 : (asks-8 : (resumesFit (start .resumes) (length (sample)) ≡ true) × (256 ≤ length (sessions)) × (2048 ≤ length (streams)) × (8192 ≤ length (objects))) → (len-8-sessions : length sessions ≡ n₁) → (len-8-streams : length streams ≡ n₂) → (len-8-objects : length objects ≡ n₃) → (is-8 : Is (u64-p .row) (neededOf (roomy n₄ (start .resumes) n′ (length (sample))) (performed start (lent (sessions) (streams) (objects)) (d) (sample) .ran .wrote)) (u64-p .val (neededOf (roomy n₄ (start .resumes) n′ (length (sample))) (performed start (lent (sessions) (streams) (objects)) (d) (sample) .ran .wrote)) ∷ [])) → Sq W (‵ (MutSlice (named 0) κ₁ (Array u64 5) .own (at-list b₁ o₁ γ₁ sessions) (sliceVal (b₁, o₁) n₁ ∷ [])) ∷ ‵ (flft κ₁ q₁) ∷ ‵ (MutSlice (named 0) κ₂ (Array u16 35) .own (at-list b₂ o₂ γ₂ streams) (sliceVal (b₂, o₂) n₂ ∷ [])) ∷ ‵ (flft κ₂ q₂) ∷ ‵ (MutSlice (named 0) κ₃ Object-t.the-row .own (at-list b₃ o₃ γ₃ objects) (sliceVal (b₃, o₃) n₃ ∷ [])) ∷ ‵ (flft κ₃ q₃) ∷ ‵ (MutSlice (named 0) κ₄ u8 .own (at-list b₄ o₄ γ₄ out) (sliceVal (b₄, o₄) n₄ ∷ [])) ∷ ‵ (flft κ₄ q₄) ∷ ‵ (ShrSlice (named 0) κ₅ u8 .own (at-list b₅ o₅ γ₅ d) (sliceVal (b₅, o₅) n₅ ∷ [])) ∷ ‵ (flft κ₅ q₅) ∷ ‵ (ShrSlice (named 0) κ₆ u8 .own (at-list b₆ o₆ γ₆ sample) (sliceVal (b₆, o₆) n₆ ∷ [])) ∷ ‵ (flft κ₆ q₆) ∷ free 𝓤 (sliceTy (tyRef erased mut (pointee (u8 .written)))) l₂₉ (free 𝓤 (tyRef erased mut (pointee (u8 .written))) l₂₈ (free 𝓤 (sliceTy (tyRef erased mut (pointee (Object-t.the-row .written)))) l₂₇ (free 𝓤 (tyRef erased mut (pointee (Object-t.the-row .written))) l₂₆ (free 𝓤 (sliceTy (tyRef erased mut (pointee ((Array u16 35) .written)))) l₂₅ (free 𝓤 (tyRef erased mut (pointee ((Array u16 35) .written))) l₂₄ (free 𝓤 (sliceTy (tyRef erased mut (pointee ((Array u64 5) .written)))) l₂₃ (free 𝓤 (tyRef erased mut (pointee ((Array u64 5) .written))) l₂₂ (free 𝓤 Refusal-l.mir l₂₁ (free 𝓤 Processed-l.mir l₂₀ (free 𝓤 tyBool l₁₉ (full 𝓤 (sliceTy (tyRef erased mut (pointee (Object-t.the-row .written)))) l₁₈ (sliceVal (b₃, o₃) n₃) (full 𝓤 (tyRef erased mut (pointee (Object-t.the-row .written))) l₁₇ (vptr b₃ o₃) (full 𝓤 (sliceTy (tyRef erased mut (pointee ((Array u16 35) .written)))) l₁₆ (sliceVal (b₂, o₂) n₂) (full 𝓤 (tyRef erased mut (pointee ((Array u16 35) .written))) l₁₅ (vptr b₂ o₂) (full 𝓤 (sliceTy (tyRef erased mut (pointee ((Array u64 5) .written)))) l₁₄ (sliceVal (b₁, o₁) n₁) (full 𝓤 (tyRef erased mut (pointee ((Array u64 5) .written))) l₁₃ (vptr b₁ o₁) (free 𝓤 Ran-l.mir l₁₂ (full 𝓤 (tyInt w64) l₁₁ (u64-p .val (neededOf (roomy n₄ (start .resumes) n′ (length (sample))) (performed start (lent (sessions) (streams) (objects)) (d) (sample) .ran .wrote))) (full 𝓤 (tyInt w64) l₁₀ (u64-p .val n₄) (full 𝓤 (tyInt w64) l₉ (u64-p .val n′) (full 𝓤 Start-l.mir l₈ (Start-p .val start) (full 𝓤 Agent-l.mir l₇ (Agent-p .val agent) (full 𝓤 (sliceTy (tyRef (named 5) imm (pointee (u8 .written)))) l₆ (sliceVal (b₆, o₆) n₆) (full 𝓤 (sliceTy (tyRef (named 4) imm (pointee (u8 .written)))) l₅ (sliceVal (b₅, o₅) n₅) (full 𝓤 (sliceTy (tyRef (named 3) mut (pointee (u8 .written)))) l₄ (sliceVal (b₄, o₄) n₄) (full 𝓤 (sliceTy (tyRef (named 2) mut (pointee (Object-t.the-row .written)))) l₃ (sliceVal (b₃, o₃) n₃) (full 𝓤 (sliceTy (tyRef (named 1) mut (pointee ((Array u16 35) .written)))) l₂ (sliceVal (b₂, o₂) n₂) (full 𝓤 (sliceTy (tyRef (named 0) mut (pointee ((Array u64 5) .written)))) l₁ (sliceVal (b₁, o₁) n₁) (free 𝓤 Processed-l.mir l₀ ([]))))))))))))))))))))))))))))))) (runs C Λ En mir.t-9 (atRet En Post))
-    part-9-0 asks-8 len-8-sessions len-8-streams len-8-objects is-8 =
-        assigns ! (bin ! (load ! (from ! (stop !)) (look ! 50 refl)) (load ! (from ! (stop !)) (look ! 48 refl)) (tt)) (from ! (stop !)) (init ! 32 refl (bool-p .typed 𝓤 H A W (ltb n₄ (neededOf (roomy n₄ (start .resumes) n′ (length (sample))) (performed start (lent (sessions) (streams) (objects)) (d) (sample) .ran .wrote))) refl)) $
+    part-11-0 : (asks-10 : (resumesFit (start .resumes) (start .frame .«stream_id») (length (sample)) ≡ true) × (start .frame .room ≤ 9223372036854775807) × (256 ≤ length (sessions)) × (2048 ≤ length (streams)) × (8192 ≤ length (objects))) → (len-10-sessions : length sessions ≡ n₁) → (len-10-streams : length streams ≡ n₂) → (len-10-objects : length objects ≡ n₃) → (len-10-held : length held ≡ n₄) → (is-10 : Is (u64-p .row) (neededOf (roomy n₅ start n′ (d) (length (sample))) (performed start (lent (sessions) (streams) (objects) (held)) (d) (sample) .ran .wrote)) (u64-p .val (neededOf (roomy n₅ start n′ (d) (length (sample))) (performed start (lent (sessions) (streams) (objects) (held)) (d) (sample) .ran .wrote)) ∷ [])) → Sq W (‵ (MutSlice (named 0) κ₁ (Array u64 6) .own (at-list b₁ o₁ γ₁ sessions) (sliceVal (b₁, o₁) n₁ ∷ [])) ∷ ‵ (flft κ₁ q₁) ∷ ‵ (MutSlice (named 0) κ₂ (Array u16 35) .own (at-list b₂ o₂ γ₂ streams) (sliceVal (b₂, o₂) n₂ ∷ [])) ∷ ‵ (flft κ₂ q₂) ∷ ‵ (MutSlice (named 0) κ₃ Object-t.the-row .own (at-list b₃ o₃ γ₃ objects) (sliceVal (b₃, o₃) n₃ ∷ [])) ∷ ‵ (flft κ₃ q₃) ∷ ‵ (MutSlice (named 0) κ₄ u8 .own (at-list b₄ o₄ γ₄ held) (sliceVal (b₄, o₄) n₄ ∷ [])) ∷ ‵ (flft κ₄ q₄) ∷ ‵ (MutSlice (named 0) κ₅ u8 .own (at-list b₅ o₅ γ₅ out) (sliceVal (b₅, o₅) n₅ ∷ [])) ∷ ‵ (flft κ₅ q₅) ∷ ‵ (ShrSlice (named 0) κ₆ u8 .own (at-list b₆ o₆ γ₆ d) (sliceVal (b₆, o₆) n₆ ∷ [])) ∷ ‵ (flft κ₆ q₆) ∷ ‵ (ShrSlice (named 0) κ₇ u8 .own (at-list b₇ o₇ γ₇ sample) (sliceVal (b₇, o₇) n₇ ∷ [])) ∷ ‵ (flft κ₇ q₇) ∷ free 𝓤 (sliceTy (tyRef erased mut (pointee (u8 .written)))) l₃₄ (free 𝓤 (tyRef erased mut (pointee (u8 .written))) l₃₃ (free 𝓤 (sliceTy (tyRef erased mut (pointee (u8 .written)))) l₃₂ (free 𝓤 (tyRef erased mut (pointee (u8 .written))) l₃₁ (free 𝓤 (sliceTy (tyRef erased mut (pointee (Object-t.the-row .written)))) l₃₀ (free 𝓤 (tyRef erased mut (pointee (Object-t.the-row .written))) l₂₉ (free 𝓤 (sliceTy (tyRef erased mut (pointee ((Array u16 35) .written)))) l₂₈ (free 𝓤 (tyRef erased mut (pointee ((Array u16 35) .written))) l₂₇ (free 𝓤 (sliceTy (tyRef erased mut (pointee ((Array u64 6) .written)))) l₂₆ (free 𝓤 (tyRef erased mut (pointee ((Array u64 6) .written))) l₂₅ (free 𝓤 Refusal-l.mir l₂₄ (free 𝓤 Processed-l.mir l₂₃ (free 𝓤 tyBool l₂₂ (full 𝓤 (sliceTy (tyRef erased mut (pointee (u8 .written)))) l₂₁ (sliceVal (b₄, o₄) n₄) (full 𝓤 (tyRef erased mut (pointee (u8 .written))) l₂₀ (vptr b₄ o₄) (full 𝓤 (sliceTy (tyRef erased mut (pointee (Object-t.the-row .written)))) l₁₉ (sliceVal (b₃, o₃) n₃) (full 𝓤 (tyRef erased mut (pointee (Object-t.the-row .written))) l₁₈ (vptr b₃ o₃) (full 𝓤 (sliceTy (tyRef erased mut (pointee ((Array u16 35) .written)))) l₁₇ (sliceVal (b₂, o₂) n₂) (full 𝓤 (tyRef erased mut (pointee ((Array u16 35) .written))) l₁₆ (vptr b₂ o₂) (full 𝓤 (sliceTy (tyRef erased mut (pointee ((Array u64 6) .written)))) l₁₅ (sliceVal (b₁, o₁) n₁) (full 𝓤 (tyRef erased mut (pointee ((Array u64 6) .written))) l₁₄ (vptr b₁ o₁) (free 𝓤 Ran-l.mir l₁₃ (full 𝓤 (tyInt w64) l₁₂ (u64-p .val (neededOf (roomy n₅ start n′ (d) (length (sample))) (performed start (lent (sessions) (streams) (objects) (held)) (d) (sample) .ran .wrote))) (full 𝓤 (tyInt w64) l₁₁ (u64-p .val n₅) (full 𝓤 (tyInt w64) l₁₀ (u64-p .val n′) (full 𝓤 Start-l.mir l₉ (Start-p .val start) (full 𝓤 Agent-l.mir l₈ (Agent-p .val agent) (full 𝓤 (sliceTy (tyRef (named 6) imm (pointee (u8 .written)))) l₇ (sliceVal (b₇, o₇) n₇) (full 𝓤 (sliceTy (tyRef (named 5) imm (pointee (u8 .written)))) l₆ (sliceVal (b₆, o₆) n₆) (full 𝓤 (sliceTy (tyRef (named 4) mut (pointee (u8 .written)))) l₅ (sliceVal (b₅, o₅) n₅) (full 𝓤 (sliceTy (tyRef (named 3) mut (pointee (u8 .written)))) l₄ (sliceVal (b₄, o₄) n₄) (full 𝓤 (sliceTy (tyRef (named 2) mut (pointee (Object-t.the-row .written)))) l₃ (sliceVal (b₃, o₃) n₃) (full 𝓤 (sliceTy (tyRef (named 1) mut (pointee ((Array u16 35) .written)))) l₂ (sliceVal (b₂, o₂) n₂) (full 𝓤 (sliceTy (tyRef (named 0) mut (pointee ((Array u64 6) .written)))) l₁ (sliceVal (b₁, o₁) n₁) (free 𝓤 Processed-l.mir l₀ ([])))))))))))))))))))))))))))))))))))) (runs C Λ En mir.t-11 (atRet En Post))
+    part-11-0 asks-10 len-10-sessions len-10-streams len-10-objects len-10-held is-10 =
+        assigns ! (bin ! (load ! (from ! (stop !)) (look ! 60 refl)) (load ! (from ! (stop !)) (look ! 58 refl)) (tt)) (from ! (stop !)) (init ! 38 refl (bool-p .typed 𝓤 H A W (ltb n₅ (neededOf (roomy n₅ start n′ (d) (length (sample))) (performed start (lent (sessions) (streams) (objects) (held)) (d) (sample) .ran .wrote))) refl)) $
         first ! $
-        branches ! (load ! (from ! (stop !)) (look ! 32 refl))
-        (λ h-10.
-        knows ! (ltb n₄ (neededOf (roomy n₄ (start .resumes) n′ (length (sample))) (performed start (lent (sessions) (streams) (objects)) (d) (sample) .ran .wrote)) ≡ true) (holds (ltb n₄ (neededOf (roomy n₄ (start .resumes) n′ (length (sample))) (performed start (lent (sessions) (streams) (objects)) (d) (sample) .ran .wrote))) h-10) (λ c-10.
-        assigns ! (agg ! (and-then ! (lit ! tt) (no-more !))) (from ! (stop !)) (init ! 28 refl (Refusal-p .typed 𝓤 H A W Refusal-OutputTooShort (EL.owes Refusal-t.the-type Refusal-l.the-laws Refusal-OutputTooShort tt))) $
-        -- 10.yes.2: agent::process::refused
+        branches ! (load ! (from ! (stop !)) (look ! 38 refl))
+        (λ h-12.
+        knows ! (ltb n₅ (neededOf (roomy n₅ start n′ (d) (length (sample))) (performed start (lent (sessions) (streams) (objects) (held)) (d) (sample) .ran .wrote)) ≡ true) (holds (ltb n₅ (neededOf (roomy n₅ start n′ (d) (length (sample))) (performed start (lent (sessions) (streams) (objects) (held)) (d) (sample) .ran .wrote))) h-12) (λ c-12.
+        assigns ! (agg ! (and-then ! (lit ! tt) (no-more !))) (from ! (stop !)) (init ! 34 refl (Refusal-p .typed 𝓤 H A W Refusal-OutputTooShort (EL.owes Refusal-t.the-type Refusal-l.the-laws Refusal-OutputTooShort tt))) $
+        -- 12.yes.2: agent::process::refused
         nothing ! $
         use1 W (raw (toks 𝓤 A 0 (tt) (tt))) (id⊢ 𝓤 _) $ nothing ! $
         owned ! (Refusal-p .row) (Is (Refusal-p .row)) (Refusal-p .makes 𝓤 H A W) Refusal-OutputTooShort (Refusal-p .val Refusal-OutputTooShort ∷ []) (EL.owes Refusal-t.the-type Refusal-l.the-laws Refusal-OutputTooShort tt) $ fjoin ! $
         owned ! (Agent-p .row) (Is (Agent-p .row)) (Agent-p .makes 𝓤 H A W) agent (Agent-p .val agent ∷ []) agent-is $ fjoin ! $ move ! (1 ∷ 0 ∷ []) $
-        calls-any-last ! fm 0 [] (process-refused.signature .params) (process-refused.ended .kept) Processed-p (process-refused.clauses 𝓤 H A mem run) known-process-refused tt tt tt (agent, (Refusal-OutputTooShort, tt)) (Agent-p .val agent ∷ [], (Refusal-p .val Refusal-OutputTooShort ∷ [], tt)) tt (refusedOf agent Refusal-OutputTooShort) (λ ws-10·yes·2. Unit {0}) (id⊢ 𝓤 _) (λ r ws-10·yes·2. fact-mono 𝓤 (r ≡ refusedOf agent Refusal-OutputTooShort) ((r ≡ (refusedOf agent Refusal-OutputTooShort)) × (Unit {0})) (λ e. (e, tt))) (λ _. (and-then ! (load ! (from ! (stop !)) (look ! 57 refl)) (and-then ! (load ! (from ! (stop !)) (look ! 29 refl)) (no-more !)))) (λ ws-10·yes·2 said-10·yes·2 is-10·yes·2.
+        calls-any-last ! fm 0 [] (process-refused.signature .params) (process-refused.ended .kept) Processed-p (process-refused.clauses 𝓤 H A mem run) known-process-refused tt tt tt (agent, (Refusal-OutputTooShort, tt)) (Agent-p .val agent ∷ [], (Refusal-p .val Refusal-OutputTooShort ∷ [], tt)) tt (refusedOf agent Refusal-OutputTooShort) (λ ws-12·yes·2. Unit {0}) (id⊢ 𝓤 _) (λ r ws-12·yes·2. fact-mono 𝓤 (r ≡ refusedOf agent Refusal-OutputTooShort) ((r ≡ (refusedOf agent Refusal-OutputTooShort)) × (Unit {0})) (λ e. (e, tt))) (λ _. (and-then ! (load ! (from ! (stop !)) (look ! 67 refl)) (and-then ! (load ! (from ! (stop !)) (look ! 35 refl)) (no-more !)))) (λ ws-12·yes·2 said-12·yes·2 is-12·yes·2.
         drop ! $ drop ! $
-        land-last ! (from ! (stop !)) (init ! 30 refl (Processed-p .typed 𝓤 H A W (refusedOf agent Refusal-OutputTooShort) is-10·yes·2)) $
-        exec ! C Λ En mir.t-11 (atRet En Post) $
-        part-11-0 asks-8 len-8-sessions len-8-streams len-8-objects is-8 c-10 is-10·yes·2)))
-        (λ h-10.
-        knows ! (ltb n₄ (neededOf (roomy n₄ (start .resumes) n′ (length (sample))) (performed start (lent (sessions) (streams) (objects)) (d) (sample) .ran .wrote)) ≡ false) (fails (ltb n₄ (neededOf (roomy n₄ (start .resumes) n′ (length (sample))) (performed start (lent (sessions) (streams) (objects)) (d) (sample) .ran .wrote))) (T-not (ltb n₄ (neededOf (roomy n₄ (start .resumes) n′ (length (sample))) (performed start (lent (sessions) (streams) (objects)) (d) (sample) .ran .wrote))) h-10)) (λ c-10.
-        assigns ! (addr ! (from ! (fld ! refl (hop ! (look-in ! 68 (sub ! 0 refl (whole !))) (stop !))))) (from ! (stop !)) (init ! 26 refl (tt, tt)) $
-        assigns ! (agg ! (and-then ! (load ! (from ! (stop !)) (look ! 26 refl)) (and-then ! (load ! (from ! (fld ! refl (stop !))) (look-in ! 68 (sub ! 1 refl (whole !)))) (no-more !)))) (from ! (stop !)) (init ! 24 refl (tt, (tt, (record { fits = room₁ .0 }, tt)))) $
-        assigns ! (addr ! (from ! (fld ! refl (hop ! (look-in ! 66 (sub ! 0 refl (whole !))) (stop !))))) (from ! (stop !)) (init ! 22 refl (tt, tt)) $
-        assigns ! (agg ! (and-then ! (load ! (from ! (stop !)) (look ! 22 refl)) (and-then ! (load ! (from ! (fld ! refl (stop !))) (look-in ! 66 (sub ! 1 refl (whole !)))) (no-more !)))) (from ! (stop !)) (init ! 20 refl (tt, (tt, (record { fits = room₂ .0 }, tt)))) $
-        assigns ! (addr ! (from ! (fld ! refl (hop ! (look-in ! 64 (sub ! 0 refl (whole !))) (stop !))))) (from ! (stop !)) (init ! 18 refl (tt, tt)) $
-        assigns ! (agg ! (and-then ! (load ! (from ! (stop !)) (look ! 18 refl)) (and-then ! (load ! (from ! (fld ! refl (stop !))) (look-in ! 64 (sub ! 1 refl (whole !)))) (no-more !)))) (from ! (stop !)) (init ! 16 refl (tt, (tt, (record { fits = room₃ .0 }, tt)))) $
-        assigns ! (addr ! (from ! (fld ! refl (hop ! (look-in ! 62 (sub ! 0 refl (whole !))) (stop !))))) (from ! (stop !)) (init ! 14 refl (tt, tt)) $
-        assigns ! (agg ! (and-then ! (load ! (from ! (stop !)) (look ! 14 refl)) (and-then ! (load ! (from ! (fld ! refl (stop !))) (look-in ! 62 (sub ! 1 refl (whole !)))) (no-more !)))) (from ! (stop !)) (init ! 12 refl (tt, (tt, (record { fits = room₄ .0 }, tt)))) $
-        knows ! (resumesFit (start .resumes) (length (sample)) ≡ true) (within .0) (λ asks-10·no·9.
-        -- 10.no.9: agent::perform::perform
-        lends-mut ! tt (Array u64 5) b₁ o₁ sessions n₁ (len-8-sessions) (λ ν-10·no·9-sessions δ-10·no·9-sessions.
+        land-last ! (from ! (stop !)) (init ! 36 refl (Processed-p .typed 𝓤 H A W (refusedOf agent Refusal-OutputTooShort) is-12·yes·2)) $
+        exec ! C Λ En mir.t-13 (atRet En Post) $
+        part-13-0 asks-10 len-10-sessions len-10-streams len-10-objects len-10-held is-10 c-12 is-12·yes·2)))
+        (λ h-12.
+        knows ! (ltb n₅ (neededOf (roomy n₅ start n′ (d) (length (sample))) (performed start (lent (sessions) (streams) (objects) (held)) (d) (sample) .ran .wrote)) ≡ false) (fails (ltb n₅ (neededOf (roomy n₅ start n′ (d) (length (sample))) (performed start (lent (sessions) (streams) (objects) (held)) (d) (sample) .ran .wrote))) (T-not (ltb n₅ (neededOf (roomy n₅ start n′ (d) (length (sample))) (performed start (lent (sessions) (streams) (objects) (held)) (d) (sample) .ran .wrote))) h-12)) (λ c-12.
+        assigns ! (addr ! (from ! (fld ! refl (hop ! (look-in ! 80 (sub ! 0 refl (whole !))) (stop !))))) (from ! (stop !)) (init ! 32 refl (tt, tt)) $
+        assigns ! (agg ! (and-then ! (load ! (from ! (stop !)) (look ! 32 refl)) (and-then ! (load ! (from ! (fld ! refl (stop !))) (look-in ! 80 (sub ! 1 refl (whole !)))) (no-more !)))) (from ! (stop !)) (init ! 30 refl (tt, (tt, (record { fits = room₁ .0 }, tt)))) $
+        assigns ! (addr ! (from ! (fld ! refl (hop ! (look-in ! 78 (sub ! 0 refl (whole !))) (stop !))))) (from ! (stop !)) (init ! 28 refl (tt, tt)) $
+        assigns ! (agg ! (and-then ! (load ! (from ! (stop !)) (look ! 28 refl)) (and-then ! (load ! (from ! (fld ! refl (stop !))) (look-in ! 78 (sub ! 1 refl (whole !)))) (no-more !)))) (from ! (stop !)) (init ! 26 refl (tt, (tt, (record { fits = room₂ .0 }, tt)))) $
+        assigns ! (addr ! (from ! (fld ! refl (hop ! (look-in ! 76 (sub ! 0 refl (whole !))) (stop !))))) (from ! (stop !)) (init ! 24 refl (tt, tt)) $
+        assigns ! (agg ! (and-then ! (load ! (from ! (stop !)) (look ! 24 refl)) (and-then ! (load ! (from ! (fld ! refl (stop !))) (look-in ! 76 (sub ! 1 refl (whole !)))) (no-more !)))) (from ! (stop !)) (init ! 22 refl (tt, (tt, (record { fits = room₃ .0 }, tt)))) $
+        assigns ! (addr ! (from ! (fld ! refl (hop ! (look-in ! 74 (sub ! 0 refl (whole !))) (stop !))))) (from ! (stop !)) (init ! 20 refl (tt, tt)) $
+        assigns ! (agg ! (and-then ! (load ! (from ! (stop !)) (look ! 20 refl)) (and-then ! (load ! (from ! (fld ! refl (stop !))) (look-in ! 74 (sub ! 1 refl (whole !)))) (no-more !)))) (from ! (stop !)) (init ! 18 refl (tt, (tt, (record { fits = room₄ .0 }, tt)))) $
+        assigns ! (addr ! (from ! (fld ! refl (hop ! (look-in ! 72 (sub ! 0 refl (whole !))) (stop !))))) (from ! (stop !)) (init ! 16 refl (tt, tt)) $
+        assigns ! (agg ! (and-then ! (load ! (from ! (stop !)) (look ! 16 refl)) (and-then ! (load ! (from ! (fld ! refl (stop !))) (look-in ! 72 (sub ! 1 refl (whole !)))) (no-more !)))) (from ! (stop !)) (init ! 14 refl (tt, (tt, (record { fits = room₅ .0 }, tt)))) $
+        knows ! ((resumesFit (start .resumes) (start .frame .«stream_id») (length (sample)) ≡ true) × (start .frame .room ≤ 9223372036854775807)) ((within .0, room-low)) (λ asks-12·no·11.
+        -- 12.no.11: agent::perform::perform
+        lends-mut ! tt (Array u64 6) b₁ o₁ sessions n₁ (len-10-sessions) (λ ν-12·no·11-sessions δ-12·no·11-sessions.
         move ! (3 ∷ 4 ∷ []) $
-        lends-mut ! tt (Array u16 35) b₂ o₂ streams n₂ (len-8-streams) (λ ν-10·no·9-streams δ-10·no·9-streams.
+        lends-mut ! tt (Array u16 35) b₂ o₂ streams n₂ (len-10-streams) (λ ν-12·no·11-streams δ-12·no·11-streams.
         move ! (6 ∷ 7 ∷ []) $
-        lends-mut ! tt Object-t.the-row b₃ o₃ objects n₃ (len-8-objects) (λ ν-10·no·9-objects δ-10·no·9-objects.
+        lends-mut ! tt Object-t.the-row b₃ o₃ objects n₃ (len-10-objects) (λ ν-12·no·11-objects δ-12·no·11-objects.
         move ! (9 ∷ 10 ∷ []) $
-        lends-mut ! tt u8 b₄ o₄ out n₄ (refl) (λ ν-10·no·9-out δ-10·no·9-out.
+        lends-mut ! tt u8 b₄ o₄ held n₄ (len-10-held) (λ ν-12·no·11-held δ-12·no·11-held.
         move ! (12 ∷ 13 ∷ []) $
-        copies-shr ! u8 b₅ o₅ d n₅ $ move ! (15 ∷ 16 ∷ []) $
-        copies-shr ! u8 b₆ o₆ sample n₆ $ nothing ! $ move ! (1 ∷ 0 ∷ []) $ join ! $ move ! (3 ∷ 0 ∷ []) $ join ! $ move ! (5 ∷ 0 ∷ []) $ join ! $ move ! (7 ∷ 0 ∷ []) $ join ! $ move ! (9 ∷ 0 ∷ []) $ join ! $ move ! (11 ∷ 0 ∷ []) $ join ! $
-        use1 W (raw (toks 𝓤 A 6 (((ν-10·no·9-sessions ∷ []), ((ν-10·no·9-streams ∷ []), ((ν-10·no·9-objects ∷ []), ((ν-10·no·9-out ∷ []), (κ₅, (κ₆, tt))))))) ((fullShare, (fullShare, (fullShare, (fullShare, (q₅, (q₆, tt))))))))) (id⊢ 𝓤 _) $ nothing ! $
-        owned ! (Start-p .row) (Is (Start-p .row)) (Start-p .makes 𝓤 H A W) start (Start-p .val start ∷ []) start-is $ fjoin ! $ move ! (2 ∷ 0 ∷ []) $ fjoin ! $ move ! (3 ∷ 0 ∷ []) $ fjoin ! $ move ! (4 ∷ 0 ∷ []) $ fjoin ! $ move ! (5 ∷ 0 ∷ []) $ fjoin ! $ move ! (6 ∷ 0 ∷ []) $ fjoin ! $ move ! (7 ∷ 0 ∷ []) $ fjoin ! $ move ! (1 ∷ 0 ∷ []) $
-        calls-any ! fm 6 [] (perform-perform.signature .params) (perform-perform.ended .kept) Ran-p (perform-perform.clauses 𝓤 H A mem run) known-perform-perform ((ν-10·no·9-sessions ∷ []), ((ν-10·no·9-streams ∷ []), ((ν-10·no·9-objects ∷ []), ((ν-10·no·9-out ∷ []), (κ₅, (κ₆, tt)))))) (fullShare, (fullShare, (fullShare, (fullShare, (q₅, (q₆, tt)))))) tt (at-list b₁ o₁ δ-10·no·9-sessions sessions, (at-list b₂ o₂ δ-10·no·9-streams streams, (at-list b₃ o₃ δ-10·no·9-objects objects, (at-list b₄ o₄ δ-10·no·9-out out, (at-list b₅ o₅ γ₅ d, (at-list b₆ o₆ γ₆ sample, (start, tt))))))) (sliceVal (b₁, o₁) n₁ ∷ [], (sliceVal (b₂, o₂) n₂ ∷ [], (sliceVal (b₃, o₃) n₃ ∷ [], (sliceVal (b₄, o₄) n₄ ∷ [], (sliceVal (b₅, o₅) n₅ ∷ [], (sliceVal (b₆, o₆) n₆ ∷ [], (Start-p .val start ∷ [], tt))))))) tt (performed start (lent (sessions) (streams) (objects)) (d) (sample) .ran) (λ ws-10·no·9. (ws-10·no·9 .0 ≡ performed start (lent (sessions) (streams) (objects)) (d) (sample) .tables .sessions) × (ws-10·no·9 .1 .0 ≡ performed start (lent (sessions) (streams) (objects)) (d) (sample) .tables .streams) × (ws-10·no·9 .1 .1 .0 ≡ performed start (lent (sessions) (streams) (objects)) (d) (sample) .tables .objects) × (ws-10·no·9 .1 .1 .1 .0 ≡ putReplies (out) 0 (performed start (lent (sessions) (streams) (objects)) (d) (sample) .replies))) (factI 𝓤 (resumesFit (start .resumes) (length (sample)) ≡ true) _ asks-10·no·9) (λ r ws-10·no·9. fact-mono 𝓤 ((r ≡ performed start (lent (sessions) (streams) (objects)) (d) (sample) .ran) × ((ws-10·no·9 .0) ≡ performed start (lent (sessions) (streams) (objects)) (d) (sample) .tables .sessions) × ((ws-10·no·9 .1 .0) ≡ performed start (lent (sessions) (streams) (objects)) (d) (sample) .tables .streams) × ((ws-10·no·9 .1 .1 .0) ≡ performed start (lent (sessions) (streams) (objects)) (d) (sample) .tables .objects) × ((ws-10·no·9 .1 .1 .1 .0) ≡ putReplies (out) 0 (performed start (lent (sessions) (streams) (objects)) (d) (sample) .replies))) ((r ≡ (performed start (lent (sessions) (streams) (objects)) (d) (sample) .ran)) × ((ws-10·no·9 .0 ≡ performed start (lent (sessions) (streams) (objects)) (d) (sample) .tables .sessions) × (ws-10·no·9 .1 .0 ≡ performed start (lent (sessions) (streams) (objects)) (d) (sample) .tables .streams) × (ws-10·no·9 .1 .1 .0 ≡ performed start (lent (sessions) (streams) (objects)) (d) (sample) .tables .objects) × (ws-10·no·9 .1 .1 .1 .0 ≡ putReplies (out) 0 (performed start (lent (sessions) (streams) (objects)) (d) (sample) .replies)))) (λ e. (e .0, (e .1, e .2, e .3, e .4)))) (λ _. (and-then ! (load ! (from ! (stop !)) (look ! 19 refl)) (and-then ! (load ! (from ! (stop !)) (look ! 15 refl)) (and-then ! (load ! (from ! (stop !)) (look ! 11 refl)) (and-then ! (load ! (from ! (stop !)) (look ! 7 refl)) (and-then ! (load ! (from ! (stop !)) (look ! 55 refl)) (and-then ! (load ! (from ! (stop !)) (look ! 53 refl)) (and-then ! (load ! (from ! (stop !)) (look ! 49 refl)) (no-more !))))))))) (λ ws-10·no·9 said-10·no·9 is-10·no·9.
-        use1 W ((‵ (flft (ν-10·no·9-sessions ∷ []) fullShare) ⊛ (‵ (flft (ν-10·no·9-streams ∷ []) fullShare) ⊛ (‵ (flft (ν-10·no·9-objects ∷ []) fullShare) ⊛ (‵ (flft (ν-10·no·9-out ∷ []) fullShare) ⊛ (‵ (flft κ₅ q₅) ⊛ (‵ (flft κ₆ q₆) ⊛ ‵ ftrue))))))) (id⊢ 𝓤 _) $ split ! $ move ! (1 ∷ []) $ split ! $ move ! (1 ∷ []) $ split ! $ move ! (1 ∷ []) $ split ! $ move ! (1 ∷ []) $ split ! $ move ! (1 ∷ []) $ split ! $ move ! (7 ∷ []) $ fsplit ! $ fsplit ! $ move ! (1 ∷ []) $
-        feqL ! (λ wlen-10·no·9-0.
+        lends-mut ! tt u8 b₅ o₅ out n₅ (refl) (λ ν-12·no·11-out δ-12·no·11-out.
+        move ! (15 ∷ 16 ∷ []) $
+        copies-shr ! u8 b₆ o₆ d n₆ $ move ! (18 ∷ 19 ∷ []) $
+        copies-shr ! u8 b₇ o₇ sample n₇ $ nothing ! $ move ! (1 ∷ 0 ∷ []) $ join ! $ move ! (3 ∷ 0 ∷ []) $ join ! $ move ! (5 ∷ 0 ∷ []) $ join ! $ move ! (7 ∷ 0 ∷ []) $ join ! $ move ! (9 ∷ 0 ∷ []) $ join ! $ move ! (11 ∷ 0 ∷ []) $ join ! $ move ! (13 ∷ 0 ∷ []) $ join ! $
+        use1 W (raw (toks 𝓤 A 7 (((ν-12·no·11-sessions ∷ []), ((ν-12·no·11-streams ∷ []), ((ν-12·no·11-objects ∷ []), ((ν-12·no·11-held ∷ []), ((ν-12·no·11-out ∷ []), (κ₆, (κ₇, tt)))))))) ((fullShare, (fullShare, (fullShare, (fullShare, (fullShare, (q₆, (q₇, tt)))))))))) (id⊢ 𝓤 _) $ nothing ! $
+        owned ! (Start-p .row) (Is (Start-p .row)) (Start-p .makes 𝓤 H A W) start (Start-p .val start ∷ []) start-is $ fjoin ! $ move ! (2 ∷ 0 ∷ []) $ fjoin ! $ move ! (3 ∷ 0 ∷ []) $ fjoin ! $ move ! (4 ∷ 0 ∷ []) $ fjoin ! $ move ! (5 ∷ 0 ∷ []) $ fjoin ! $ move ! (6 ∷ 0 ∷ []) $ fjoin ! $ move ! (7 ∷ 0 ∷ []) $ fjoin ! $ move ! (8 ∷ 0 ∷ []) $ fjoin ! $ move ! (1 ∷ 0 ∷ []) $
+        calls-any ! fm 7 [] (perform-perform.signature .params) (perform-perform.ended .kept) Ran-p (perform-perform.clauses 𝓤 H A mem run) known-perform-perform ((ν-12·no·11-sessions ∷ []), ((ν-12·no·11-streams ∷ []), ((ν-12·no·11-objects ∷ []), ((ν-12·no·11-held ∷ []), ((ν-12·no·11-out ∷ []), (κ₆, (κ₇, tt))))))) (fullShare, (fullShare, (fullShare, (fullShare, (fullShare, (q₆, (q₇, tt))))))) tt (at-list b₁ o₁ δ-12·no·11-sessions sessions, (at-list b₂ o₂ δ-12·no·11-streams streams, (at-list b₃ o₃ δ-12·no·11-objects objects, (at-list b₄ o₄ δ-12·no·11-held held, (at-list b₅ o₅ δ-12·no·11-out out, (at-list b₆ o₆ γ₆ d, (at-list b₇ o₇ γ₇ sample, (start, tt)))))))) (sliceVal (b₁, o₁) n₁ ∷ [], (sliceVal (b₂, o₂) n₂ ∷ [], (sliceVal (b₃, o₃) n₃ ∷ [], (sliceVal (b₄, o₄) n₄ ∷ [], (sliceVal (b₅, o₅) n₅ ∷ [], (sliceVal (b₆, o₆) n₆ ∷ [], (sliceVal (b₇, o₇) n₇ ∷ [], (Start-p .val start ∷ [], tt)))))))) tt (performed start (lent (sessions) (streams) (objects) (held)) (d) (sample) .ran) (λ ws-12·no·11. (ws-12·no·11 .0 ≡ performed start (lent (sessions) (streams) (objects) (held)) (d) (sample) .tables .sessions) × (ws-12·no·11 .1 .0 ≡ performed start (lent (sessions) (streams) (objects) (held)) (d) (sample) .tables .streams) × (ws-12·no·11 .1 .1 .0 ≡ performed start (lent (sessions) (streams) (objects) (held)) (d) (sample) .tables .objects) × (ws-12·no·11 .1 .1 .1 .0 ≡ performed start (lent (sessions) (streams) (objects) (held)) (d) (sample) .tables .held) × (ws-12·no·11 .1 .1 .1 .1 .0 ≡ putReplies (start .frame .room) (out) 0 (performed start (lent (sessions) (streams) (objects) (held)) (d) (sample) .replies))) (factI 𝓤 ((resumesFit (start .resumes) (start .frame .«stream_id») (length (sample)) ≡ true) × (start .frame .room ≤ 9223372036854775807)) _ asks-12·no·11) (λ r ws-12·no·11. fact-mono 𝓤 ((r ≡ performed start (lent (sessions) (streams) (objects) (held)) (d) (sample) .ran) × ((ws-12·no·11 .0) ≡ performed start (lent (sessions) (streams) (objects) (held)) (d) (sample) .tables .sessions) × ((ws-12·no·11 .1 .0) ≡ performed start (lent (sessions) (streams) (objects) (held)) (d) (sample) .tables .streams) × ((ws-12·no·11 .1 .1 .0) ≡ performed start (lent (sessions) (streams) (objects) (held)) (d) (sample) .tables .objects) × ((ws-12·no·11 .1 .1 .1 .0) ≡ performed start (lent (sessions) (streams) (objects) (held)) (d) (sample) .tables .held) × ((ws-12·no·11 .1 .1 .1 .1 .0) ≡ putReplies (start .frame .room) (out) 0 (performed start (lent (sessions) (streams) (objects) (held)) (d) (sample) .replies))) ((r ≡ (performed start (lent (sessions) (streams) (objects) (held)) (d) (sample) .ran)) × ((ws-12·no·11 .0 ≡ performed start (lent (sessions) (streams) (objects) (held)) (d) (sample) .tables .sessions) × (ws-12·no·11 .1 .0 ≡ performed start (lent (sessions) (streams) (objects) (held)) (d) (sample) .tables .streams) × (ws-12·no·11 .1 .1 .0 ≡ performed start (lent (sessions) (streams) (objects) (held)) (d) (sample) .tables .objects) × (ws-12·no·11 .1 .1 .1 .0 ≡ performed start (lent (sessions) (streams) (objects) (held)) (d) (sample) .tables .held) × (ws-12·no·11 .1 .1 .1 .1 .0 ≡ putReplies (start .frame .room) (out) 0 (performed start (lent (sessions) (streams) (objects) (held)) (d) (sample) .replies)))) (λ e. (e .0, (e .1, e .2, e .3, e .4, e .5)))) (λ _. (and-then ! (load ! (from ! (stop !)) (look ! 24 refl)) (and-then ! (load ! (from ! (stop !)) (look ! 20 refl)) (and-then ! (load ! (from ! (stop !)) (look ! 16 refl)) (and-then ! (load ! (from ! (stop !)) (look ! 12 refl)) (and-then ! (load ! (from ! (stop !)) (look ! 8 refl)) (and-then ! (load ! (from ! (stop !)) (look ! 64 refl)) (and-then ! (load ! (from ! (stop !)) (look ! 62 refl)) (and-then ! (load ! (from ! (stop !)) (look ! 58 refl)) (no-more !)))))))))) (λ ws-12·no·11 said-12·no·11 is-12·no·11.
+        use1 W ((‵ (flft (ν-12·no·11-sessions ∷ []) fullShare) ⊛ (‵ (flft (ν-12·no·11-streams ∷ []) fullShare) ⊛ (‵ (flft (ν-12·no·11-objects ∷ []) fullShare) ⊛ (‵ (flft (ν-12·no·11-held ∷ []) fullShare) ⊛ (‵ (flft (ν-12·no·11-out ∷ []) fullShare) ⊛ (‵ (flft κ₆ q₆) ⊛ (‵ (flft κ₇ q₇) ⊛ ‵ ftrue)))))))) (id⊢ 𝓤 _) $ split ! $ move ! (1 ∷ []) $ split ! $ move ! (1 ∷ []) $ split ! $ move ! (1 ∷ []) $ split ! $ move ! (1 ∷ []) $ split ! $ move ! (1 ∷ []) $ split ! $ move ! (1 ∷ []) $ split ! $ move ! (8 ∷ []) $ fsplit ! $ fsplit ! $ move ! (1 ∷ []) $
+        feqL ! (λ wlen-12·no·11-0.
         move ! (1 ∷ []) $ fsplit ! $ fsplit ! $ move ! (1 ∷ []) $
-        feqL ! (λ wlen-10·no·9-1.
+        feqL ! (λ wlen-12·no·11-1.
         move ! (1 ∷ []) $ fsplit ! $ fsplit ! $ move ! (1 ∷ []) $
-        feqL ! (λ wlen-10·no·9-2.
+        feqL ! (λ wlen-12·no·11-2.
         move ! (1 ∷ []) $ fsplit ! $ fsplit ! $ move ! (1 ∷ []) $
-        feqL ! (λ wlen-10·no·9-3.
-        move ! (1 ∷ []) $ fsplit ! $ move ! (1 ∷ []) $ fsplit ! $ move ! (13 ∷ 19 ∷ 6 ∷ []) $
-        backs-mut ! tt (Array u64 5) b₁ o₁ sessions n₁ (len-8-sessions) room₁ ν-10·no·9-sessions δ-10·no·9-sessions (ws-10·no·9 .0) (performed start (lent (sessions) (streams) (objects)) (d) (sample) .tables .sessions) wlen-10·no·9-0 (said-10·no·9 .0) (λ len-10·no·9-sessions.
-        move ! (13 ∷ 18 ∷ 7 ∷ []) $
-        backs-mut ! tt (Array u16 35) b₂ o₂ streams n₂ (len-8-streams) room₂ ν-10·no·9-streams δ-10·no·9-streams (ws-10·no·9 .1 .0) (performed start (lent (sessions) (streams) (objects)) (d) (sample) .tables .streams) wlen-10·no·9-1 (said-10·no·9 .1) (λ len-10·no·9-streams.
-        move ! (13 ∷ 17 ∷ 8 ∷ []) $
-        backs-mut ! tt Object-t.the-row b₃ o₃ objects n₃ (len-8-objects) room₃ ν-10·no·9-objects δ-10·no·9-objects (ws-10·no·9 .1 .1 .0) (performed start (lent (sessions) (streams) (objects)) (d) (sample) .tables .objects) wlen-10·no·9-2 (said-10·no·9 .2) (λ len-10·no·9-objects.
-        move ! (13 ∷ 16 ∷ 9 ∷ []) $
-        backs-mut ! tt u8 b₄ o₄ out n₄ (refl) room₄ ν-10·no·9-out δ-10·no·9-out (ws-10·no·9 .1 .1 .1 .0) (putReplies (out) 0 (performed start (lent (sessions) (streams) (objects)) (d) (sample) .replies)) wlen-10·no·9-3 (said-10·no·9 .3) (λ len-10·no·9-out.
-        move ! (8 ∷ []) $ drop ! $ move ! (8 ∷ []) $ drop ! $ move ! (8 ∷ []) $ drop ! $ move ! (9 ∷ []) $ drop ! $
-        land ! (from ! (stop !)) (init ! 46 refl (Ran-p .typed 𝓤 H A W (performed start (lent (sessions) (streams) (objects)) (d) (sample) .ran) is-10·no·9)) $ move ! (6 ∷ 7 ∷ 4 ∷ 5 ∷ 2 ∷ 3 ∷ 0 ∷ 1 ∷ 11 ∷ 9 ∷ 10 ∷ 8 ∷ 12 ∷ 13 ∷ 14 ∷ 15 ∷ 16 ∷ 17 ∷ 18 ∷ 19 ∷ 20 ∷ 21 ∷ 22 ∷ 23 ∷ 24 ∷ 25 ∷ 26 ∷ 27 ∷ 28 ∷ 29 ∷ 30 ∷ 31 ∷ 32 ∷ 33 ∷ 34 ∷ 35 ∷ 36 ∷ 37 ∷ 38 ∷ 39 ∷ 40 ∷ 41 ∷ 42 ∷ 43 ∷ 44 ∷ 45 ∷ 46 ∷ 47 ∷ 48 ∷ 49 ∷ 50 ∷ 51 ∷ 52 ∷ 53 ∷ 54 ∷ 55 ∷ 56 ∷ 57 ∷ 58 ∷ 59 ∷ 60 ∷ 61 ∷ 62 ∷ 63 ∷ 64 ∷ 65 ∷ 66 ∷ 67 ∷ 68 ∷ 69 ∷ 70 ∷ 71 ∷ []) $
-        part-10·no·10-2 asks-8 len-8-sessions len-8-streams len-8-objects is-8 c-10 asks-10·no·9 len-10·no·9-sessions len-10·no·9-streams len-10·no·9-objects len-10·no·9-out is-10·no·9))))))))))))))))
+        feqL ! (λ wlen-12·no·11-3.
+        move ! (1 ∷ []) $ fsplit ! $ fsplit ! $ move ! (1 ∷ []) $
+        feqL ! (λ wlen-12·no·11-4.
+        move ! (1 ∷ []) $ fsplit ! $ move ! (1 ∷ []) $ fsplit ! $ move ! (15 ∷ 22 ∷ 7 ∷ []) $
+        backs-mut ! tt (Array u64 6) b₁ o₁ sessions n₁ (len-10-sessions) room₁ ν-12·no·11-sessions δ-12·no·11-sessions (ws-12·no·11 .0) (performed start (lent (sessions) (streams) (objects) (held)) (d) (sample) .tables .sessions) wlen-12·no·11-0 (said-12·no·11 .0) (λ len-12·no·11-sessions.
+        move ! (15 ∷ 21 ∷ 8 ∷ []) $
+        backs-mut ! tt (Array u16 35) b₂ o₂ streams n₂ (len-10-streams) room₂ ν-12·no·11-streams δ-12·no·11-streams (ws-12·no·11 .1 .0) (performed start (lent (sessions) (streams) (objects) (held)) (d) (sample) .tables .streams) wlen-12·no·11-1 (said-12·no·11 .1) (λ len-12·no·11-streams.
+        move ! (15 ∷ 20 ∷ 9 ∷ []) $
+        backs-mut ! tt Object-t.the-row b₃ o₃ objects n₃ (len-10-objects) room₃ ν-12·no·11-objects δ-12·no·11-objects (ws-12·no·11 .1 .1 .0) (performed start (lent (sessions) (streams) (objects) (held)) (d) (sample) .tables .objects) wlen-12·no·11-2 (said-12·no·11 .2) (λ len-12·no·11-objects.
+        move ! (15 ∷ 19 ∷ 10 ∷ []) $
+        backs-mut ! tt u8 b₄ o₄ held n₄ (len-10-held) room₄ ν-12·no·11-held δ-12·no·11-held (ws-12·no·11 .1 .1 .1 .0) (performed start (lent (sessions) (streams) (objects) (held)) (d) (sample) .tables .held) wlen-12·no·11-3 (said-12·no·11 .3) (λ len-12·no·11-held.
+        move ! (15 ∷ 18 ∷ 11 ∷ []) $
+        backs-mut ! tt u8 b₅ o₅ out n₅ (refl) room₅ ν-12·no·11-out δ-12·no·11-out (ws-12·no·11 .1 .1 .1 .1 .0) (putReplies (start .frame .room) (out) 0 (performed start (lent (sessions) (streams) (objects) (held)) (d) (sample) .replies)) wlen-12·no·11-4 (said-12·no·11 .4) (λ len-12·no·11-out.
+        move ! (10 ∷ []) $ drop ! $ move ! (10 ∷ []) $ drop ! $ move ! (10 ∷ []) $ drop ! $ move ! (11 ∷ []) $ drop ! $
+        land ! (from ! (stop !)) (init ! 56 refl (Ran-p .typed 𝓤 H A W (performed start (lent (sessions) (streams) (objects) (held)) (d) (sample) .ran) is-12·no·11)) $ move ! (8 ∷ 9 ∷ 6 ∷ 7 ∷ 4 ∷ 5 ∷ 2 ∷ 3 ∷ 0 ∷ 1 ∷ 13 ∷ 11 ∷ 12 ∷ 10 ∷ 14 ∷ 15 ∷ 16 ∷ 17 ∷ 18 ∷ 19 ∷ 20 ∷ 21 ∷ 22 ∷ 23 ∷ 24 ∷ 25 ∷ 26 ∷ 27 ∷ 28 ∷ 29 ∷ 30 ∷ 31 ∷ 32 ∷ 33 ∷ 34 ∷ 35 ∷ 36 ∷ 37 ∷ 38 ∷ 39 ∷ 40 ∷ 41 ∷ 42 ∷ 43 ∷ 44 ∷ 45 ∷ 46 ∷ 47 ∷ 48 ∷ 49 ∷ 50 ∷ 51 ∷ 52 ∷ 53 ∷ 54 ∷ 55 ∷ 56 ∷ 57 ∷ 58 ∷ 59 ∷ 60 ∷ 61 ∷ 62 ∷ 63 ∷ 64 ∷ 65 ∷ 66 ∷ 67 ∷ 68 ∷ 69 ∷ 70 ∷ 71 ∷ 72 ∷ 73 ∷ 74 ∷ 75 ∷ 76 ∷ 77 ∷ 78 ∷ 79 ∷ 80 ∷ 81 ∷ 82 ∷ 83 ∷ []) $
+        part-12·no·12-2 asks-10 len-10-sessions len-10-streams len-10-objects len-10-held is-10 c-12 asks-12·no·11 len-12·no·11-sessions len-12·no·11-streams len-12·no·11-objects len-12·no·11-held len-12·no·11-out is-12·no·11)))))))))))))))))))
 
-    begins : Sq W (‵ (MutSlice (named 0) κ₁ (Array u64 5) .own (at-list b₁ o₁ γ₁ sessions) (sliceVal (b₁, o₁) n₁ ∷ [])) ∷ ‵ (flft κ₁ q₁) ∷ ‵ (MutSlice (named 0) κ₂ (Array u16 35) .own (at-list b₂ o₂ γ₂ streams) (sliceVal (b₂, o₂) n₂ ∷ [])) ∷ ‵ (flft κ₂ q₂) ∷ ‵ (MutSlice (named 0) κ₃ Object-t.the-row .own (at-list b₃ o₃ γ₃ objects) (sliceVal (b₃, o₃) n₃ ∷ [])) ∷ ‵ (flft κ₃ q₃) ∷ ‵ (MutSlice (named 0) κ₄ u8 .own (at-list b₄ o₄ γ₄ out) (sliceVal (b₄, o₄) n₄ ∷ [])) ∷ ‵ (flft κ₄ q₄) ∷ ‵ (ShrSlice (named 0) κ₅ u8 .own (at-list b₅ o₅ γ₅ d) (sliceVal (b₅, o₅) n₅ ∷ [])) ∷ ‵ (flft κ₅ q₅) ∷ ‵ (ShrSlice (named 0) κ₆ u8 .own (at-list b₆ o₆ γ₆ sample) (sliceVal (b₆, o₆) n₆ ∷ [])) ∷ ‵ (flft κ₆ q₆) ∷ free 𝓤 (sliceTy (tyRef erased mut (pointee (u8 .written)))) l₂₉ (free 𝓤 (tyRef erased mut (pointee (u8 .written))) l₂₈ (free 𝓤 (sliceTy (tyRef erased mut (pointee (Object-t.the-row .written)))) l₂₇ (free 𝓤 (tyRef erased mut (pointee (Object-t.the-row .written))) l₂₆ (free 𝓤 (sliceTy (tyRef erased mut (pointee ((Array u16 35) .written)))) l₂₅ (free 𝓤 (tyRef erased mut (pointee ((Array u16 35) .written))) l₂₄ (free 𝓤 (sliceTy (tyRef erased mut (pointee ((Array u64 5) .written)))) l₂₃ (free 𝓤 (tyRef erased mut (pointee ((Array u64 5) .written))) l₂₂ (free 𝓤 Refusal-l.mir l₂₁ (free 𝓤 Processed-l.mir l₂₀ (free 𝓤 tyBool l₁₉ (free 𝓤 (sliceTy (tyRef erased mut (pointee (Object-t.the-row .written)))) l₁₈ (free 𝓤 (tyRef erased mut (pointee (Object-t.the-row .written))) l₁₇ (free 𝓤 (sliceTy (tyRef erased mut (pointee ((Array u16 35) .written)))) l₁₆ (free 𝓤 (tyRef erased mut (pointee ((Array u16 35) .written))) l₁₅ (free 𝓤 (sliceTy (tyRef erased mut (pointee ((Array u64 5) .written)))) l₁₄ (free 𝓤 (tyRef erased mut (pointee ((Array u64 5) .written))) l₁₃ (free 𝓤 Ran-l.mir l₁₂ (free 𝓤 (tyInt w64) l₁₁ (free 𝓤 (tyInt w64) l₁₀ (full 𝓤 (tyInt w64) l₉ (u64-p .val n′) (full 𝓤 Start-l.mir l₈ (Start-p .val start) (full 𝓤 Agent-l.mir l₇ (Agent-p .val agent) (full 𝓤 (sliceTy (tyRef (named 5) imm (pointee (u8 .written)))) l₆ (sliceVal (b₆, o₆) n₆) (full 𝓤 (sliceTy (tyRef (named 4) imm (pointee (u8 .written)))) l₅ (sliceVal (b₅, o₅) n₅) (full 𝓤 (sliceTy (tyRef (named 3) mut (pointee (u8 .written)))) l₄ (sliceVal (b₄, o₄) n₄) (full 𝓤 (sliceTy (tyRef (named 2) mut (pointee (Object-t.the-row .written)))) l₃ (sliceVal (b₃, o₃) n₃) (full 𝓤 (sliceTy (tyRef (named 1) mut (pointee ((Array u16 35) .written)))) l₂ (sliceVal (b₂, o₂) n₂) (full 𝓤 (sliceTy (tyRef (named 0) mut (pointee ((Array u64 5) .written)))) l₁ (sliceVal (b₁, o₁) n₁) (free 𝓤 Processed-l.mir l₀ ([]))))))))))))))))))))))))))))))) (runs C Λ En mir.t-1 (atRet En Post))
+    begins : Sq W (‵ (MutSlice (named 0) κ₁ (Array u64 6) .own (at-list b₁ o₁ γ₁ sessions) (sliceVal (b₁, o₁) n₁ ∷ [])) ∷ ‵ (flft κ₁ q₁) ∷ ‵ (MutSlice (named 0) κ₂ (Array u16 35) .own (at-list b₂ o₂ γ₂ streams) (sliceVal (b₂, o₂) n₂ ∷ [])) ∷ ‵ (flft κ₂ q₂) ∷ ‵ (MutSlice (named 0) κ₃ Object-t.the-row .own (at-list b₃ o₃ γ₃ objects) (sliceVal (b₃, o₃) n₃ ∷ [])) ∷ ‵ (flft κ₃ q₃) ∷ ‵ (MutSlice (named 0) κ₄ u8 .own (at-list b₄ o₄ γ₄ held) (sliceVal (b₄, o₄) n₄ ∷ [])) ∷ ‵ (flft κ₄ q₄) ∷ ‵ (MutSlice (named 0) κ₅ u8 .own (at-list b₅ o₅ γ₅ out) (sliceVal (b₅, o₅) n₅ ∷ [])) ∷ ‵ (flft κ₅ q₅) ∷ ‵ (ShrSlice (named 0) κ₆ u8 .own (at-list b₆ o₆ γ₆ d) (sliceVal (b₆, o₆) n₆ ∷ [])) ∷ ‵ (flft κ₆ q₆) ∷ ‵ (ShrSlice (named 0) κ₇ u8 .own (at-list b₇ o₇ γ₇ sample) (sliceVal (b₇, o₇) n₇ ∷ [])) ∷ ‵ (flft κ₇ q₇) ∷ free 𝓤 (sliceTy (tyRef erased mut (pointee (u8 .written)))) l₃₄ (free 𝓤 (tyRef erased mut (pointee (u8 .written))) l₃₃ (free 𝓤 (sliceTy (tyRef erased mut (pointee (u8 .written)))) l₃₂ (free 𝓤 (tyRef erased mut (pointee (u8 .written))) l₃₁ (free 𝓤 (sliceTy (tyRef erased mut (pointee (Object-t.the-row .written)))) l₃₀ (free 𝓤 (tyRef erased mut (pointee (Object-t.the-row .written))) l₂₉ (free 𝓤 (sliceTy (tyRef erased mut (pointee ((Array u16 35) .written)))) l₂₈ (free 𝓤 (tyRef erased mut (pointee ((Array u16 35) .written))) l₂₇ (free 𝓤 (sliceTy (tyRef erased mut (pointee ((Array u64 6) .written)))) l₂₆ (free 𝓤 (tyRef erased mut (pointee ((Array u64 6) .written))) l₂₅ (free 𝓤 Refusal-l.mir l₂₄ (free 𝓤 Processed-l.mir l₂₃ (free 𝓤 tyBool l₂₂ (free 𝓤 (sliceTy (tyRef erased mut (pointee (u8 .written)))) l₂₁ (free 𝓤 (tyRef erased mut (pointee (u8 .written))) l₂₀ (free 𝓤 (sliceTy (tyRef erased mut (pointee (Object-t.the-row .written)))) l₁₉ (free 𝓤 (tyRef erased mut (pointee (Object-t.the-row .written))) l₁₈ (free 𝓤 (sliceTy (tyRef erased mut (pointee ((Array u16 35) .written)))) l₁₇ (free 𝓤 (tyRef erased mut (pointee ((Array u16 35) .written))) l₁₆ (free 𝓤 (sliceTy (tyRef erased mut (pointee ((Array u64 6) .written)))) l₁₅ (free 𝓤 (tyRef erased mut (pointee ((Array u64 6) .written))) l₁₄ (free 𝓤 Ran-l.mir l₁₃ (free 𝓤 (tyInt w64) l₁₂ (free 𝓤 (tyInt w64) l₁₁ (full 𝓤 (tyInt w64) l₁₀ (u64-p .val n′) (full 𝓤 Start-l.mir l₉ (Start-p .val start) (full 𝓤 Agent-l.mir l₈ (Agent-p .val agent) (full 𝓤 (sliceTy (tyRef (named 6) imm (pointee (u8 .written)))) l₇ (sliceVal (b₇, o₇) n₇) (full 𝓤 (sliceTy (tyRef (named 5) imm (pointee (u8 .written)))) l₆ (sliceVal (b₆, o₆) n₆) (full 𝓤 (sliceTy (tyRef (named 4) mut (pointee (u8 .written)))) l₅ (sliceVal (b₅, o₅) n₅) (full 𝓤 (sliceTy (tyRef (named 3) mut (pointee (u8 .written)))) l₄ (sliceVal (b₄, o₄) n₄) (full 𝓤 (sliceTy (tyRef (named 2) mut (pointee (Object-t.the-row .written)))) l₃ (sliceVal (b₃, o₃) n₃) (full 𝓤 (sliceTy (tyRef (named 1) mut (pointee ((Array u16 35) .written)))) l₂ (sliceVal (b₂, o₂) n₂) (full 𝓤 (sliceTy (tyRef (named 0) mut (pointee ((Array u64 6) .written)))) l₁ (sliceVal (b₁, o₁) n₁) (free 𝓤 Processed-l.mir l₀ ([])))))))))))))))))))))))))))))))))))) (runs C Λ En mir.t-1 (atRet En Post))
     begins =
-        assigns ! (of-opd ! (load ! (from ! (fld ! refl (stop !))) (look-in ! 62 (sub ! 1 refl (whole !))))) (from ! (stop !)) (init ! 50 refl (u64-p .typed 𝓤 H A W n₄ ((refl, room₄ .0)))) $
-        assigns ! (addr ! (from ! (fld ! refl (hop ! (look-in ! 68 (sub ! 0 refl (whole !))) (stop !))))) (from ! (stop !)) (init ! 44 refl (tt, tt)) $
-        assigns ! (agg ! (and-then ! (load ! (from ! (stop !)) (look ! 44 refl)) (and-then ! (load ! (from ! (fld ! refl (stop !))) (look-in ! 68 (sub ! 1 refl (whole !)))) (no-more !)))) (from ! (stop !)) (init ! 42 refl (tt, (tt, (record { fits = room₁ .0 }, tt)))) $
-        assigns ! (addr ! (from ! (fld ! refl (hop ! (look-in ! 66 (sub ! 0 refl (whole !))) (stop !))))) (from ! (stop !)) (init ! 40 refl (tt, tt)) $
-        assigns ! (agg ! (and-then ! (load ! (from ! (stop !)) (look ! 40 refl)) (and-then ! (load ! (from ! (fld ! refl (stop !))) (look-in ! 66 (sub ! 1 refl (whole !)))) (no-more !)))) (from ! (stop !)) (init ! 38 refl (tt, (tt, (record { fits = room₂ .0 }, tt)))) $
-        assigns ! (addr ! (from ! (fld ! refl (hop ! (look-in ! 64 (sub ! 0 refl (whole !))) (stop !))))) (from ! (stop !)) (init ! 36 refl (tt, tt)) $
-        assigns ! (agg ! (and-then ! (load ! (from ! (stop !)) (look ! 36 refl)) (and-then ! (load ! (from ! (fld ! refl (stop !))) (look-in ! 64 (sub ! 1 refl (whole !)))) (no-more !)))) (from ! (stop !)) (init ! 34 refl (tt, (tt, (record { fits = room₃ .0 }, tt)))) $
-        knows ! ((resumesFit (start .resumes) (length (sample)) ≡ true) × (256 ≤ length (sessions)) × (2048 ≤ length (streams)) × (8192 ≤ length (objects))) ((within .0, within .2, within .3, within .4)) (λ asks-8.
-        -- 8: agent::process::needed
-        lends-mut ! tt (Array u64 5) b₁ o₁ sessions n₁ (refl) (λ ν-8-sessions δ-8-sessions.
+        assigns ! (of-opd ! (load ! (from ! (fld ! refl (stop !))) (look-in ! 72 (sub ! 1 refl (whole !))))) (from ! (stop !)) (init ! 60 refl (u64-p .typed 𝓤 H A W n₅ ((refl, room₅ .0)))) $
+        assigns ! (addr ! (from ! (fld ! refl (hop ! (look-in ! 80 (sub ! 0 refl (whole !))) (stop !))))) (from ! (stop !)) (init ! 54 refl (tt, tt)) $
+        assigns ! (agg ! (and-then ! (load ! (from ! (stop !)) (look ! 54 refl)) (and-then ! (load ! (from ! (fld ! refl (stop !))) (look-in ! 80 (sub ! 1 refl (whole !)))) (no-more !)))) (from ! (stop !)) (init ! 52 refl (tt, (tt, (record { fits = room₁ .0 }, tt)))) $
+        assigns ! (addr ! (from ! (fld ! refl (hop ! (look-in ! 78 (sub ! 0 refl (whole !))) (stop !))))) (from ! (stop !)) (init ! 50 refl (tt, tt)) $
+        assigns ! (agg ! (and-then ! (load ! (from ! (stop !)) (look ! 50 refl)) (and-then ! (load ! (from ! (fld ! refl (stop !))) (look-in ! 78 (sub ! 1 refl (whole !)))) (no-more !)))) (from ! (stop !)) (init ! 48 refl (tt, (tt, (record { fits = room₂ .0 }, tt)))) $
+        assigns ! (addr ! (from ! (fld ! refl (hop ! (look-in ! 76 (sub ! 0 refl (whole !))) (stop !))))) (from ! (stop !)) (init ! 46 refl (tt, tt)) $
+        assigns ! (agg ! (and-then ! (load ! (from ! (stop !)) (look ! 46 refl)) (and-then ! (load ! (from ! (fld ! refl (stop !))) (look-in ! 76 (sub ! 1 refl (whole !)))) (no-more !)))) (from ! (stop !)) (init ! 44 refl (tt, (tt, (record { fits = room₃ .0 }, tt)))) $
+        assigns ! (addr ! (from ! (fld ! refl (hop ! (look-in ! 74 (sub ! 0 refl (whole !))) (stop !))))) (from ! (stop !)) (init ! 42 refl (tt, tt)) $
+        assigns ! (agg ! (and-then ! (load ! (from ! (stop !)) (look ! 42 refl)) (and-then ! (load ! (from ! (fld ! refl (stop !))) (look-in ! 74 (sub ! 1 refl (whole !)))) (no-more !)))) (from ! (stop !)) (init ! 40 refl (tt, (tt, (record { fits = room₄ .0 }, tt)))) $
+        knows ! ((resumesFit (start .resumes) (start .frame .«stream_id») (length (sample)) ≡ true) × (start .frame .room ≤ 9223372036854775807) × (256 ≤ length (sessions)) × (2048 ≤ length (streams)) × (8192 ≤ length (objects))) ((within .0, room-low, within .3, within .4, within .5)) (λ asks-10.
+        -- 10: agent::process::needed
+        lends-mut ! tt (Array u64 6) b₁ o₁ sessions n₁ (refl) (λ ν-10-sessions δ-10-sessions.
         move ! (3 ∷ 4 ∷ []) $
-        lends-mut ! tt (Array u16 35) b₂ o₂ streams n₂ (refl) (λ ν-8-streams δ-8-streams.
+        lends-mut ! tt (Array u16 35) b₂ o₂ streams n₂ (refl) (λ ν-10-streams δ-10-streams.
         move ! (6 ∷ 7 ∷ []) $
-        lends-mut ! tt Object-t.the-row b₃ o₃ objects n₃ (refl) (λ ν-8-objects δ-8-objects.
-        move ! (11 ∷ 12 ∷ []) $
-        copies-shr ! u8 b₅ o₅ d n₅ $ move ! (14 ∷ 15 ∷ []) $
-        copies-shr ! u8 b₆ o₆ sample n₆ $ nothing ! $ move ! (1 ∷ 0 ∷ []) $ join ! $ move ! (3 ∷ 0 ∷ []) $ join ! $ move ! (5 ∷ 0 ∷ []) $ join ! $ move ! (7 ∷ 0 ∷ []) $ join ! $ move ! (9 ∷ 0 ∷ []) $ join ! $
-        use1 W (raw (toks 𝓤 A 5 (((ν-8-sessions ∷ []), ((ν-8-streams ∷ []), ((ν-8-objects ∷ []), (κ₅, (κ₆, tt)))))) ((fullShare, (fullShare, (fullShare, (q₅, (q₆, tt)))))))) (id⊢ 𝓤 _) $ nothing ! $
-        owned ! (u64-p .row) (Is (u64-p .row)) (u64-p .makes 𝓤 H A W) n₄ (u64-p .val n₄ ∷ []) ((refl, room₄ .0)) $ fjoin ! $
+        lends-mut ! tt Object-t.the-row b₃ o₃ objects n₃ (refl) (λ ν-10-objects δ-10-objects.
+        move ! (9 ∷ 10 ∷ []) $
+        lends-mut ! tt u8 b₄ o₄ held n₄ (refl) (λ ν-10-held δ-10-held.
+        move ! (14 ∷ 15 ∷ []) $
+        copies-shr ! u8 b₆ o₆ d n₆ $ move ! (17 ∷ 18 ∷ []) $
+        copies-shr ! u8 b₇ o₇ sample n₇ $ nothing ! $ move ! (1 ∷ 0 ∷ []) $ join ! $ move ! (3 ∷ 0 ∷ []) $ join ! $ move ! (5 ∷ 0 ∷ []) $ join ! $ move ! (7 ∷ 0 ∷ []) $ join ! $ move ! (9 ∷ 0 ∷ []) $ join ! $ move ! (11 ∷ 0 ∷ []) $ join ! $
+        use1 W (raw (toks 𝓤 A 6 (((ν-10-sessions ∷ []), ((ν-10-streams ∷ []), ((ν-10-objects ∷ []), ((ν-10-held ∷ []), (κ₆, (κ₇, tt))))))) ((fullShare, (fullShare, (fullShare, (fullShare, (q₆, (q₇, tt))))))))) (id⊢ 𝓤 _) $ nothing ! $
+        owned ! (u64-p .row) (Is (u64-p .row)) (u64-p .makes 𝓤 H A W) n₅ (u64-p .val n₅ ∷ []) ((refl, room₅ .0)) $ fjoin ! $
         owned ! (u64-p .row) (Is (u64-p .row)) (u64-p .makes 𝓤 H A W) n′ (u64-p .val n′ ∷ []) n′-is $ fjoin ! $
-        owned ! (Start-p .row) (Is (Start-p .row)) (Start-p .makes 𝓤 H A W) start (Start-p .val start ∷ []) start-is $ fjoin ! $ move ! (2 ∷ 0 ∷ []) $ fjoin ! $ move ! (3 ∷ 0 ∷ []) $ fjoin ! $ move ! (4 ∷ 0 ∷ []) $ fjoin ! $ move ! (5 ∷ 0 ∷ []) $ fjoin ! $ move ! (6 ∷ 0 ∷ []) $ fjoin ! $ move ! (1 ∷ 0 ∷ []) $
-        calls-any ! fm 5 [] (process-needed.signature .params) (process-needed.ended .kept) u64-p (process-needed.clauses 𝓤 H A mem run) known-process-needed ((ν-8-sessions ∷ []), ((ν-8-streams ∷ []), ((ν-8-objects ∷ []), (κ₅, (κ₆, tt))))) (fullShare, (fullShare, (fullShare, (q₅, (q₆, tt))))) tt (at-list b₁ o₁ δ-8-sessions sessions, (at-list b₂ o₂ δ-8-streams streams, (at-list b₃ o₃ δ-8-objects objects, (at-list b₅ o₅ γ₅ d, (at-list b₆ o₆ γ₆ sample, (start, (n′, (n₄, tt)))))))) (sliceVal (b₁, o₁) n₁ ∷ [], (sliceVal (b₂, o₂) n₂ ∷ [], (sliceVal (b₃, o₃) n₃ ∷ [], (sliceVal (b₅, o₅) n₅ ∷ [], (sliceVal (b₆, o₆) n₆ ∷ [], (Start-p .val start ∷ [], (u64-p .val n′ ∷ [], (u64-p .val n₄ ∷ [], tt)))))))) tt (neededOf (roomy n₄ (start .resumes) n′ (length (sample))) (performed start (lent (sessions) (streams) (objects)) (d) (sample) .ran .wrote)) (λ ws-8. (ws-8 .0 ≡ sessions) × (ws-8 .1 .0 ≡ streams) × (ws-8 .1 .1 .0 ≡ objects)) (factI 𝓤 ((resumesFit (start .resumes) (length (sample)) ≡ true) × (256 ≤ length (sessions)) × (2048 ≤ length (streams)) × (8192 ≤ length (objects))) _ asks-8) (λ r ws-8. fact-mono 𝓤 ((r ≡ neededOf (roomy n₄ (start .resumes) n′ (length (sample))) (performed start (lent (sessions) (streams) (objects)) (d) (sample) .ran .wrote)) × ((ws-8 .0) ≡ sessions) × ((ws-8 .1 .0) ≡ streams) × ((ws-8 .1 .1 .0) ≡ objects)) ((r ≡ (neededOf (roomy n₄ (start .resumes) n′ (length (sample))) (performed start (lent (sessions) (streams) (objects)) (d) (sample) .ran .wrote))) × ((ws-8 .0 ≡ sessions) × (ws-8 .1 .0 ≡ streams) × (ws-8 .1 .1 .0 ≡ objects))) (λ e. (e .0, (e .1, e .2, e .3)))) (λ _. (and-then ! (load ! (from ! (stop !)) (look ! 38 refl)) (and-then ! (load ! (from ! (stop !)) (look ! 34 refl)) (and-then ! (load ! (from ! (stop !)) (look ! 30 refl)) (and-then ! (load ! (from ! (stop !)) (look ! 56 refl)) (and-then ! (load ! (from ! (stop !)) (look ! 54 refl)) (and-then ! (load ! (from ! (stop !)) (look ! 50 refl)) (and-then ! (load ! (from ! (stop !)) (look ! 48 refl)) (and-then ! (load ! (from ! (stop !)) (look ! 46 refl)) (no-more !)))))))))) (λ ws-8 said-8 is-8.
-        use1 W ((‵ (flft (ν-8-sessions ∷ []) fullShare) ⊛ (‵ (flft (ν-8-streams ∷ []) fullShare) ⊛ (‵ (flft (ν-8-objects ∷ []) fullShare) ⊛ (‵ (flft κ₅ q₅) ⊛ (‵ (flft κ₆ q₆) ⊛ ‵ ftrue)))))) (id⊢ 𝓤 _) $ split ! $ move ! (1 ∷ []) $ split ! $ move ! (1 ∷ []) $ split ! $ move ! (1 ∷ []) $ split ! $ move ! (1 ∷ []) $ split ! $ move ! (6 ∷ []) $ fsplit ! $ fsplit ! $ move ! (1 ∷ []) $
-        feqL ! (λ wlen-8-0.
+        owned ! (Start-p .row) (Is (Start-p .row)) (Start-p .makes 𝓤 H A W) start (Start-p .val start ∷ []) start-is $ fjoin ! $ move ! (2 ∷ 0 ∷ []) $ fjoin ! $ move ! (3 ∷ 0 ∷ []) $ fjoin ! $ move ! (4 ∷ 0 ∷ []) $ fjoin ! $ move ! (5 ∷ 0 ∷ []) $ fjoin ! $ move ! (6 ∷ 0 ∷ []) $ fjoin ! $ move ! (7 ∷ 0 ∷ []) $ fjoin ! $ move ! (1 ∷ 0 ∷ []) $
+        calls-any ! fm 6 [] (process-needed.signature .params) (process-needed.ended .kept) u64-p (process-needed.clauses 𝓤 H A mem run) known-process-needed ((ν-10-sessions ∷ []), ((ν-10-streams ∷ []), ((ν-10-objects ∷ []), ((ν-10-held ∷ []), (κ₆, (κ₇, tt)))))) (fullShare, (fullShare, (fullShare, (fullShare, (q₆, (q₇, tt)))))) tt (at-list b₁ o₁ δ-10-sessions sessions, (at-list b₂ o₂ δ-10-streams streams, (at-list b₃ o₃ δ-10-objects objects, (at-list b₄ o₄ δ-10-held held, (at-list b₆ o₆ γ₆ d, (at-list b₇ o₇ γ₇ sample, (start, (n′, (n₅, tt))))))))) (sliceVal (b₁, o₁) n₁ ∷ [], (sliceVal (b₂, o₂) n₂ ∷ [], (sliceVal (b₃, o₃) n₃ ∷ [], (sliceVal (b₄, o₄) n₄ ∷ [], (sliceVal (b₆, o₆) n₆ ∷ [], (sliceVal (b₇, o₇) n₇ ∷ [], (Start-p .val start ∷ [], (u64-p .val n′ ∷ [], (u64-p .val n₅ ∷ [], tt))))))))) tt (neededOf (roomy n₅ start n′ (d) (length (sample))) (performed start (lent (sessions) (streams) (objects) (held)) (d) (sample) .ran .wrote)) (λ ws-10. (ws-10 .0 ≡ sessions) × (ws-10 .1 .0 ≡ streams) × (ws-10 .1 .1 .0 ≡ objects) × (ws-10 .1 .1 .1 .0 ≡ held)) (factI 𝓤 ((resumesFit (start .resumes) (start .frame .«stream_id») (length (sample)) ≡ true) × (start .frame .room ≤ 9223372036854775807) × (256 ≤ length (sessions)) × (2048 ≤ length (streams)) × (8192 ≤ length (objects))) _ asks-10) (λ r ws-10. fact-mono 𝓤 ((r ≡ neededOf (roomy n₅ start n′ (d) (length (sample))) (performed start (lent (sessions) (streams) (objects) (held)) (d) (sample) .ran .wrote)) × ((ws-10 .0) ≡ sessions) × ((ws-10 .1 .0) ≡ streams) × ((ws-10 .1 .1 .0) ≡ objects) × ((ws-10 .1 .1 .1 .0) ≡ held)) ((r ≡ (neededOf (roomy n₅ start n′ (d) (length (sample))) (performed start (lent (sessions) (streams) (objects) (held)) (d) (sample) .ran .wrote))) × ((ws-10 .0 ≡ sessions) × (ws-10 .1 .0 ≡ streams) × (ws-10 .1 .1 .0 ≡ objects) × (ws-10 .1 .1 .1 .0 ≡ held))) (λ e. (e .0, (e .1, e .2, e .3, e .4)))) (λ _. (and-then ! (load ! (from ! (stop !)) (look ! 47 refl)) (and-then ! (load ! (from ! (stop !)) (look ! 43 refl)) (and-then ! (load ! (from ! (stop !)) (look ! 39 refl)) (and-then ! (load ! (from ! (stop !)) (look ! 35 refl)) (and-then ! (load ! (from ! (stop !)) (look ! 65 refl)) (and-then ! (load ! (from ! (stop !)) (look ! 63 refl)) (and-then ! (load ! (from ! (stop !)) (look ! 59 refl)) (and-then ! (load ! (from ! (stop !)) (look ! 57 refl)) (and-then ! (load ! (from ! (stop !)) (look ! 55 refl)) (no-more !))))))))))) (λ ws-10 said-10 is-10.
+        use1 W ((‵ (flft (ν-10-sessions ∷ []) fullShare) ⊛ (‵ (flft (ν-10-streams ∷ []) fullShare) ⊛ (‵ (flft (ν-10-objects ∷ []) fullShare) ⊛ (‵ (flft (ν-10-held ∷ []) fullShare) ⊛ (‵ (flft κ₆ q₆) ⊛ (‵ (flft κ₇ q₇) ⊛ ‵ ftrue))))))) (id⊢ 𝓤 _) $ split ! $ move ! (1 ∷ []) $ split ! $ move ! (1 ∷ []) $ split ! $ move ! (1 ∷ []) $ split ! $ move ! (1 ∷ []) $ split ! $ move ! (1 ∷ []) $ split ! $ move ! (7 ∷ []) $ fsplit ! $ fsplit ! $ move ! (1 ∷ []) $
+        feqL ! (λ wlen-10-0.
         move ! (1 ∷ []) $ fsplit ! $ fsplit ! $ move ! (1 ∷ []) $
-        feqL ! (λ wlen-8-1.
+        feqL ! (λ wlen-10-1.
         move ! (1 ∷ []) $ fsplit ! $ fsplit ! $ move ! (1 ∷ []) $
-        feqL ! (λ wlen-8-2.
-        move ! (1 ∷ []) $ fsplit ! $ move ! (1 ∷ []) $ fsplit ! $ move ! (11 ∷ 16 ∷ 5 ∷ []) $
-        backs-mut ! tt (Array u64 5) b₁ o₁ sessions n₁ (refl) room₁ ν-8-sessions δ-8-sessions (ws-8 .0) sessions wlen-8-0 (said-8 .0) (λ len-8-sessions.
-        move ! (11 ∷ 15 ∷ 6 ∷ []) $
-        backs-mut ! tt (Array u16 35) b₂ o₂ streams n₂ (refl) room₂ ν-8-streams δ-8-streams (ws-8 .1 .0) streams wlen-8-1 (said-8 .1) (λ len-8-streams.
-        move ! (11 ∷ 14 ∷ 7 ∷ []) $
-        backs-mut ! tt Object-t.the-row b₃ o₃ objects n₃ (refl) room₃ ν-8-objects δ-8-objects (ws-8 .1 .1 .0) objects wlen-8-2 (said-8 .2) (λ len-8-objects.
-        move ! (6 ∷ []) $ drop ! $ move ! (6 ∷ []) $ drop ! $ move ! (6 ∷ []) $ drop ! $ move ! (7 ∷ []) $ drop ! $
-        land ! (from ! (stop !)) (init ! 48 refl (u64-p .typed 𝓤 H A W (neededOf (roomy n₄ (start .resumes) n′ (length (sample))) (performed start (lent (sessions) (streams) (objects)) (d) (sample) .ran .wrote)) is-8)) $ move ! (4 ∷ 5 ∷ 2 ∷ 3 ∷ 0 ∷ 1 ∷ 10 ∷ 11 ∷ 9 ∷ 7 ∷ 8 ∷ 6 ∷ 12 ∷ 13 ∷ 14 ∷ 15 ∷ 16 ∷ 17 ∷ 18 ∷ 19 ∷ 20 ∷ 21 ∷ 22 ∷ 23 ∷ 24 ∷ 25 ∷ 26 ∷ 27 ∷ 28 ∷ 29 ∷ 30 ∷ 31 ∷ 32 ∷ 33 ∷ 34 ∷ 35 ∷ 36 ∷ 37 ∷ 38 ∷ 39 ∷ 40 ∷ 41 ∷ 42 ∷ 43 ∷ 44 ∷ 45 ∷ 46 ∷ 47 ∷ 48 ∷ 49 ∷ 50 ∷ 51 ∷ 52 ∷ 53 ∷ 54 ∷ 55 ∷ 56 ∷ 57 ∷ 58 ∷ 59 ∷ 60 ∷ 61 ∷ 62 ∷ 63 ∷ 64 ∷ 65 ∷ 66 ∷ 67 ∷ 68 ∷ 69 ∷ 70 ∷ 71 ∷ []) $
-        part-9-0 asks-8 len-8-sessions len-8-streams len-8-objects is-8)))))))))))
+        feqL ! (λ wlen-10-2.
+        move ! (1 ∷ []) $ fsplit ! $ fsplit ! $ move ! (1 ∷ []) $
+        feqL ! (λ wlen-10-3.
+        move ! (1 ∷ []) $ fsplit ! $ move ! (1 ∷ []) $ fsplit ! $ move ! (13 ∷ 19 ∷ 6 ∷ []) $
+        backs-mut ! tt (Array u64 6) b₁ o₁ sessions n₁ (refl) room₁ ν-10-sessions δ-10-sessions (ws-10 .0) sessions wlen-10-0 (said-10 .0) (λ len-10-sessions.
+        move ! (13 ∷ 18 ∷ 7 ∷ []) $
+        backs-mut ! tt (Array u16 35) b₂ o₂ streams n₂ (refl) room₂ ν-10-streams δ-10-streams (ws-10 .1 .0) streams wlen-10-1 (said-10 .1) (λ len-10-streams.
+        move ! (13 ∷ 17 ∷ 8 ∷ []) $
+        backs-mut ! tt Object-t.the-row b₃ o₃ objects n₃ (refl) room₃ ν-10-objects δ-10-objects (ws-10 .1 .1 .0) objects wlen-10-2 (said-10 .2) (λ len-10-objects.
+        move ! (13 ∷ 16 ∷ 9 ∷ []) $
+        backs-mut ! tt u8 b₄ o₄ held n₄ (refl) room₄ ν-10-held δ-10-held (ws-10 .1 .1 .1 .0) held wlen-10-3 (said-10 .3) (λ len-10-held.
+        move ! (8 ∷ []) $ drop ! $ move ! (8 ∷ []) $ drop ! $ move ! (8 ∷ []) $ drop ! $ move ! (9 ∷ []) $ drop ! $
+        land ! (from ! (stop !)) (init ! 58 refl (u64-p .typed 𝓤 H A W (neededOf (roomy n₅ start n′ (d) (length (sample))) (performed start (lent (sessions) (streams) (objects) (held)) (d) (sample) .ran .wrote)) is-10)) $ move ! (6 ∷ 7 ∷ 4 ∷ 5 ∷ 2 ∷ 3 ∷ 0 ∷ 1 ∷ 12 ∷ 13 ∷ 11 ∷ 9 ∷ 10 ∷ 8 ∷ 14 ∷ 15 ∷ 16 ∷ 17 ∷ 18 ∷ 19 ∷ 20 ∷ 21 ∷ 22 ∷ 23 ∷ 24 ∷ 25 ∷ 26 ∷ 27 ∷ 28 ∷ 29 ∷ 30 ∷ 31 ∷ 32 ∷ 33 ∷ 34 ∷ 35 ∷ 36 ∷ 37 ∷ 38 ∷ 39 ∷ 40 ∷ 41 ∷ 42 ∷ 43 ∷ 44 ∷ 45 ∷ 46 ∷ 47 ∷ 48 ∷ 49 ∷ 50 ∷ 51 ∷ 52 ∷ 53 ∷ 54 ∷ 55 ∷ 56 ∷ 57 ∷ 58 ∷ 59 ∷ 60 ∷ 61 ∷ 62 ∷ 63 ∷ 64 ∷ 65 ∷ 66 ∷ 67 ∷ 68 ∷ 69 ∷ 70 ∷ 71 ∷ 72 ∷ 73 ∷ 74 ∷ 75 ∷ 76 ∷ 77 ∷ 78 ∷ 79 ∷ 80 ∷ 81 ∷ 82 ∷ 83 ∷ []) $
+        part-11-0 asks-10 len-10-sessions len-10-streams len-10-objects len-10-held is-10))))))))))))))
 
   module _ (𝓣 : Tables 𝓤 H) (known-process-needed : Triple 𝓤 (𝓣 .C #process-needed) (Of-process-needed 𝓤 H A mem run)) (known-process-refused : Triple 𝓤 (𝓣 .C #process-refused) (Of-process-refused 𝓤 H A mem run)) (known-perform-perform : Triple 𝓤 (𝓣 .C #perform-perform) (Of-perform-perform 𝓤 H A mem run)) (known-process-finished : Triple 𝓤 (𝓣 .C #process-finished) (Of-process-finished 𝓤 H A mem run)) where
-    walk : ent 𝓤 (onEntry 𝓤 H A f.signature (κ₁, (κ₂, (κ₃, (κ₄, (κ₅, (κ₆, tt)))))) (q₁, (q₂, (q₃, (q₄, (q₅, (q₆, tt)))))) x at) (WpFn 𝓤 H (𝓣 .C) (𝓣 .Λ) code.function (sliceVal (b₁, o₁) n₁ ∷ sliceVal (b₂, o₂) n₂ ∷ sliceVal (b₃, o₃) n₃ ∷ sliceVal (b₄, o₄) n₄ ∷ sliceVal (b₅, o₅) n₅ ∷ sliceVal (b₆, o₆) n₆ ∷ Agent-p .val agent ∷ Start-p .val start ∷ u64-p .val n′ ∷ []) Post)
+    walk : ent 𝓤 (onEntry 𝓤 H A f.signature (κ₁, (κ₂, (κ₃, (κ₄, (κ₅, (κ₆, (κ₇, tt))))))) (q₁, (q₂, (q₃, (q₄, (q₅, (q₆, (q₇, tt))))))) x at) (WpFn 𝓤 H (𝓣 .C) (𝓣 .Λ) code.function (sliceVal (b₁, o₁) n₁ ∷ sliceVal (b₂, o₂) n₂ ∷ sliceVal (b₃, o₃) n₃ ∷ sliceVal (b₄, o₄) n₄ ∷ sliceVal (b₅, o₅) n₅ ∷ sliceVal (b₆, o₆) n₆ ∷ sliceVal (b₇, o₇) n₇ ∷ Agent-p .val agent ∷ Start-p .val start ∷ u64-p .val n′ ∷ []) Post)
     walk =
-        qed W ((‵ (flft κ₁ q₁) ⊛ (‵ (flft κ₂ q₂) ⊛ (‵ (flft κ₃ q₃) ⊛ (‵ (flft κ₄ q₄) ⊛ (‵ (flft κ₅ q₅) ⊛ (‵ (flft κ₆ q₆) ⊛ ‵ ftrue)))))) ∷ ‵ (owns (MutSlice (named 0) κ₁ (Array u64 5) ∷ MutSlice (named 1) κ₂ (Array u16 35) ∷ MutSlice (named 2) κ₃ Object-t.the-row ∷ MutSlice (named 3) κ₄ u8 ∷ ShrSlice (named 4) κ₅ u8 ∷ ShrSlice (named 5) κ₆ u8 ∷ Agent-p .row ∷ Start-p .row ∷ u64-p .row ∷ []) x at) ∷ []) ∵ enter ! (𝓣 .C) (𝓣 .Λ) code.function (sliceVal (b₁, o₁) n₁ ∷ sliceVal (b₂, o₂) n₂ ∷ sliceVal (b₃, o₃) n₃ ∷ sliceVal (b₄, o₄) n₄ ∷ sliceVal (b₅, o₅) n₅ ∷ sliceVal (b₆, o₆) n₆ ∷ Agent-p .val agent ∷ Start-p .val start ∷ u64-p .val n′ ∷ []) _ $
-        alloc1 ! (λ l₀. alloc1 ! (λ l₁. alloc1 ! (λ l₂. alloc1 ! (λ l₃. alloc1 ! (λ l₄. alloc1 ! (λ l₅. alloc1 ! (λ l₆. alloc1 ! (λ l₇. alloc1 ! (λ l₈. alloc1 ! (λ l₉. alloc1 ! (λ l₁₀. alloc1 ! (λ l₁₁. alloc1 ! (λ l₁₂. alloc1 ! (λ l₁₃. alloc1 ! (λ l₁₄. alloc1 ! (λ l₁₅. alloc1 ! (λ l₁₆. alloc1 ! (λ l₁₇. alloc1 ! (λ l₁₈. alloc1 ! (λ l₁₉. alloc1 ! (λ l₂₀. alloc1 ! (λ l₂₁. alloc1 ! (λ l₂₂. alloc1 ! (λ l₂₃. alloc1 ! (λ l₂₄. alloc1 ! (λ l₂₅. alloc1 ! (λ l₂₆. alloc1 ! (λ l₂₇. alloc1 ! (λ l₂₈. alloc1 ! (λ l₂₉. alloc0 ! $ params1 ! $ pass1 ! (init ! 56 refl (tt, (tt, (record { fits = room₁ .0 }, tt)))) $ pass1 ! (init ! 54 refl (tt, (tt, (record { fits = room₂ .0 }, tt)))) $ pass1 ! (init ! 52 refl (tt, (tt, (record { fits = room₃ .0 }, tt)))) $ pass1 ! (init ! 50 refl (tt, (tt, (record { fits = room₄ .0 }, tt)))) $ pass1 ! (init ! 48 refl (tt, (tt, (record { fits = room₅ .0 }, tt)))) $ pass1 ! (init ! 46 refl (tt, (tt, (record { fits = room₆ .0 }, tt)))) $ pass1 ! (init ! 44 refl (Agent-p .typed 𝓤 H A W agent agent-is)) $ pass1 ! (init ! 42 refl (Start-p .typed 𝓤 H A W start start-is)) $ pass1 ! (init ! 40 refl (u64-p .typed 𝓤 H A W n′ n′-is)) $ pass0 ! $ move ! (61 ∷ []) $ fsplit ! $ move ! (1 ∷ []) $ fsplit ! $ move ! (1 ∷ []) $ fsplit ! $ move ! (1 ∷ []) $ fsplit ! $ move ! (1 ∷ []) $ fsplit ! $ move ! (1 ∷ []) $ fsplit ! $ move ! (67 ∷ []) $ split ! $ move ! (1 ∷ []) $ split ! $ move ! (1 ∷ []) $ split ! $ move ! (1 ∷ []) $ split ! $ move ! (1 ∷ []) $ split ! $ move ! (1 ∷ []) $ split ! $ move ! (1 ∷ []) $ drop ! $ move ! (7 ∷ []) $ drop ! $ move ! (11 ∷ 5 ∷ 10 ∷ 4 ∷ 9 ∷ 3 ∷ 8 ∷ 2 ∷ 7 ∷ 1 ∷ 6 ∷ 0 ∷ 12 ∷ 13 ∷ 14 ∷ 15 ∷ 16 ∷ 17 ∷ 18 ∷ 19 ∷ 20 ∷ 21 ∷ 22 ∷ 23 ∷ 24 ∷ 25 ∷ 26 ∷ 27 ∷ 28 ∷ 29 ∷ 30 ∷ 31 ∷ 32 ∷ 33 ∷ 34 ∷ 35 ∷ 36 ∷ 37 ∷ 38 ∷ 39 ∷ 40 ∷ 41 ∷ 42 ∷ 43 ∷ 44 ∷ 45 ∷ 46 ∷ 47 ∷ 48 ∷ 49 ∷ 50 ∷ 51 ∷ 52 ∷ 53 ∷ 54 ∷ 55 ∷ 56 ∷ 57 ∷ 58 ∷ 59 ∷ 60 ∷ 61 ∷ 62 ∷ 63 ∷ 64 ∷ 65 ∷ 66 ∷ 67 ∷ 68 ∷ 69 ∷ 70 ∷ 71 ∷ []) $
-        begins 𝓣 known-process-needed known-process-refused known-perform-perform known-process-finished l₀ l₁ l₂ l₃ l₄ l₅ l₆ l₇ l₈ l₉ l₁₀ l₁₁ l₁₂ l₁₃ l₁₄ l₁₅ l₁₆ l₁₇ l₁₈ l₁₉ l₂₀ l₂₁ l₂₂ l₂₃ l₂₄ l₂₅ l₂₆ l₂₇ l₂₈ l₂₉))))))))))))))))))))))))))))))
+        qed W ((‵ (flft κ₁ q₁) ⊛ (‵ (flft κ₂ q₂) ⊛ (‵ (flft κ₃ q₃) ⊛ (‵ (flft κ₄ q₄) ⊛ (‵ (flft κ₅ q₅) ⊛ (‵ (flft κ₆ q₆) ⊛ (‵ (flft κ₇ q₇) ⊛ ‵ ftrue))))))) ∷ ‵ (owns (MutSlice (named 0) κ₁ (Array u64 6) ∷ MutSlice (named 1) κ₂ (Array u16 35) ∷ MutSlice (named 2) κ₃ Object-t.the-row ∷ MutSlice (named 3) κ₄ u8 ∷ MutSlice (named 4) κ₅ u8 ∷ ShrSlice (named 5) κ₆ u8 ∷ ShrSlice (named 6) κ₇ u8 ∷ Agent-p .row ∷ Start-p .row ∷ u64-p .row ∷ []) x at) ∷ []) ∵ enter ! (𝓣 .C) (𝓣 .Λ) code.function (sliceVal (b₁, o₁) n₁ ∷ sliceVal (b₂, o₂) n₂ ∷ sliceVal (b₃, o₃) n₃ ∷ sliceVal (b₄, o₄) n₄ ∷ sliceVal (b₅, o₅) n₅ ∷ sliceVal (b₆, o₆) n₆ ∷ sliceVal (b₇, o₇) n₇ ∷ Agent-p .val agent ∷ Start-p .val start ∷ u64-p .val n′ ∷ []) _ $
+        alloc1 ! (λ l₀. alloc1 ! (λ l₁. alloc1 ! (λ l₂. alloc1 ! (λ l₃. alloc1 ! (λ l₄. alloc1 ! (λ l₅. alloc1 ! (λ l₆. alloc1 ! (λ l₇. alloc1 ! (λ l₈. alloc1 ! (λ l₉. alloc1 ! (λ l₁₀. alloc1 ! (λ l₁₁. alloc1 ! (λ l₁₂. alloc1 ! (λ l₁₃. alloc1 ! (λ l₁₄. alloc1 ! (λ l₁₅. alloc1 ! (λ l₁₆. alloc1 ! (λ l₁₇. alloc1 ! (λ l₁₈. alloc1 ! (λ l₁₉. alloc1 ! (λ l₂₀. alloc1 ! (λ l₂₁. alloc1 ! (λ l₂₂. alloc1 ! (λ l₂₃. alloc1 ! (λ l₂₄. alloc1 ! (λ l₂₅. alloc1 ! (λ l₂₆. alloc1 ! (λ l₂₇. alloc1 ! (λ l₂₈. alloc1 ! (λ l₂₉. alloc1 ! (λ l₃₀. alloc1 ! (λ l₃₁. alloc1 ! (λ l₃₂. alloc1 ! (λ l₃₃. alloc1 ! (λ l₃₄. alloc0 ! $ params1 ! $ pass1 ! (init ! 66 refl (tt, (tt, (record { fits = room₁ .0 }, tt)))) $ pass1 ! (init ! 64 refl (tt, (tt, (record { fits = room₂ .0 }, tt)))) $ pass1 ! (init ! 62 refl (tt, (tt, (record { fits = room₃ .0 }, tt)))) $ pass1 ! (init ! 60 refl (tt, (tt, (record { fits = room₄ .0 }, tt)))) $ pass1 ! (init ! 58 refl (tt, (tt, (record { fits = room₅ .0 }, tt)))) $ pass1 ! (init ! 56 refl (tt, (tt, (record { fits = room₆ .0 }, tt)))) $ pass1 ! (init ! 54 refl (tt, (tt, (record { fits = room₇ .0 }, tt)))) $ pass1 ! (init ! 52 refl (Agent-p .typed 𝓤 H A W agent agent-is)) $ pass1 ! (init ! 50 refl (Start-p .typed 𝓤 H A W start start-is)) $ pass1 ! (init ! 48 refl (u64-p .typed 𝓤 H A W n′ n′-is)) $ pass0 ! $ move ! (71 ∷ []) $ fsplit ! $ move ! (1 ∷ []) $ fsplit ! $ move ! (1 ∷ []) $ fsplit ! $ move ! (1 ∷ []) $ fsplit ! $ move ! (1 ∷ []) $ fsplit ! $ move ! (1 ∷ []) $ fsplit ! $ move ! (1 ∷ []) $ fsplit ! $ move ! (78 ∷ []) $ split ! $ move ! (1 ∷ []) $ split ! $ move ! (1 ∷ []) $ split ! $ move ! (1 ∷ []) $ split ! $ move ! (1 ∷ []) $ split ! $ move ! (1 ∷ []) $ split ! $ move ! (1 ∷ []) $ split ! $ move ! (1 ∷ []) $ drop ! $ move ! (8 ∷ []) $ drop ! $ move ! (13 ∷ 6 ∷ 12 ∷ 5 ∷ 11 ∷ 4 ∷ 10 ∷ 3 ∷ 9 ∷ 2 ∷ 8 ∷ 1 ∷ 7 ∷ 0 ∷ 14 ∷ 15 ∷ 16 ∷ 17 ∷ 18 ∷ 19 ∷ 20 ∷ 21 ∷ 22 ∷ 23 ∷ 24 ∷ 25 ∷ 26 ∷ 27 ∷ 28 ∷ 29 ∷ 30 ∷ 31 ∷ 32 ∷ 33 ∷ 34 ∷ 35 ∷ 36 ∷ 37 ∷ 38 ∷ 39 ∷ 40 ∷ 41 ∷ 42 ∷ 43 ∷ 44 ∷ 45 ∷ 46 ∷ 47 ∷ 48 ∷ 49 ∷ 50 ∷ 51 ∷ 52 ∷ 53 ∷ 54 ∷ 55 ∷ 56 ∷ 57 ∷ 58 ∷ 59 ∷ 60 ∷ 61 ∷ 62 ∷ 63 ∷ 64 ∷ 65 ∷ 66 ∷ 67 ∷ 68 ∷ 69 ∷ 70 ∷ 71 ∷ 72 ∷ 73 ∷ 74 ∷ 75 ∷ 76 ∷ 77 ∷ 78 ∷ 79 ∷ 80 ∷ 81 ∷ 82 ∷ 83 ∷ []) $
+        begins 𝓣 known-process-needed known-process-refused known-perform-perform known-process-finished l₀ l₁ l₂ l₃ l₄ l₅ l₆ l₇ l₈ l₉ l₁₀ l₁₁ l₁₂ l₁₃ l₁₄ l₁₅ l₁₆ l₁₇ l₁₈ l₁₉ l₂₀ l₂₁ l₂₂ l₂₃ l₂₄ l₂₅ l₂₆ l₂₇ l₂₈ l₂₉ l₃₀ l₃₁ l₃₂ l₃₃ l₃₄)))))))))))))))))))))))))))))))))))
 
 module _ {M : Type 1} (𝓤 : URA M) (H : Heap 𝓤) (A : Atoms 𝓤) (W : Given 𝓤 H A) (mem : Memory → SProp 𝓤) (run : Routine → Fun 𝓤) (𝓣 : Tables 𝓤 H) (known-process-needed : Triple 𝓤 (𝓣 .C #process-needed) (Of-process-needed 𝓤 H A mem run)) (known-process-refused : Triple 𝓤 (𝓣 .C #process-refused) (Of-process-refused 𝓤 H A mem run)) (known-perform-perform : Triple 𝓤 (𝓣 .C #perform-perform) (Of-perform-perform 𝓤 H A mem run)) (known-process-finished : Triple 𝓤 (𝓣 .C #process-finished) (Of-process-finished 𝓤 H A mem run)) where
   walks : Walks 𝓤 H A f.ended stayed (WpFn 𝓤 H (𝓣 .C) (𝓣 .Λ) code.function) (f.clauses 𝓤 H A mem run)
-  walks = walked 𝓤 H A f.ended stayed (f.clauses 𝓤 H A mem run) (WpFn 𝓤 H (𝓣 .C) (𝓣 .Λ) code.function) (λ κs. (slice-vals, (slice-vals, (slice-vals, (slice-vals, (slice-vals, (slice-vals, ((λ y. Agent-p .val y ∷ []), ((λ y. Start-p .val y ∷ []), ((λ y. u64-p .val y ∷ []), tt)))))))))) (λ κs. (mut-slice-tells (named 0) (κs .0) (Array u64 5), (mut-slice-tells (named 1) (κs .1 .0) (Array u16 35), (mut-slice-tells (named 2) (κs .1 .1 .0) Object-t.the-row, (mut-slice-tells (named 3) (κs .1 .1 .1 .0) u8, (shr-slice-tells (named 4) (κs .1 .1 .1 .1 .0) u8, (shr-slice-tells (named 5) (κs .1 .1 .1 .1 .1 .0) u8, (Agent-p .tells, (Start-p .tells, (u64-p .tells, tt))))))))))
-      (λ κs qs bounds a g are. needs 𝓤 _ _ (λ within. walk 𝓤 H A W mem run (κs .0) (qs .0) (a .0 .ptr .0) (a .0 .ptr .1) (a .0 .name) (a .0 .now) (κs .1 .0) (qs .1 .0) (a .1 .0 .ptr .0) (a .1 .0 .ptr .1) (a .1 .0 .name) (a .1 .0 .now) (κs .1 .1 .0) (qs .1 .1 .0) (a .1 .1 .0 .ptr .0) (a .1 .1 .0 .ptr .1) (a .1 .1 .0 .name) (a .1 .1 .0 .now) (κs .1 .1 .1 .0) (qs .1 .1 .1 .0) (a .1 .1 .1 .0 .ptr .0) (a .1 .1 .1 .0 .ptr .1) (a .1 .1 .1 .0 .name) (a .1 .1 .1 .0 .now) (κs .1 .1 .1 .1 .0) (qs .1 .1 .1 .1 .0) (a .1 .1 .1 .1 .0 .ptr .0) (a .1 .1 .1 .1 .0 .ptr .1) (a .1 .1 .1 .1 .0 .name) (a .1 .1 .1 .1 .0 .now) (κs .1 .1 .1 .1 .1 .0) (qs .1 .1 .1 .1 .1 .0) (a .1 .1 .1 .1 .1 .0 .ptr .0) (a .1 .1 .1 .1 .1 .0 .ptr .1) (a .1 .1 .1 .1 .1 .0 .name) (a .1 .1 .1 .1 .1 .0 .now) (a .1 .1 .1 .1 .1 .1 .0) (a .1 .1 .1 .1 .1 .1 .1 .0) (a .1 .1 .1 .1 .1 .1 .1 .1 .0) (are .0 .0 .1) (are .1 .0 .0 .1) (are .1 .1 .0 .0 .1) (are .1 .1 .1 .0 .0 .1) (are .1 .1 .1 .1 .0 .0 .1) (are .1 .1 .1 .1 .1 .0 .0 .1) (are .1 .1 .1 .1 .1 .1 .0) (are .1 .1 .1 .1 .1 .1 .1 .0) (are .1 .1 .1 .1 .1 .1 .1 .1 .0) within 𝓣 known-process-needed known-process-refused known-perform-perform known-process-finished))
+  walks = walked 𝓤 H A f.ended stayed (f.clauses 𝓤 H A mem run) (WpFn 𝓤 H (𝓣 .C) (𝓣 .Λ) code.function) (λ κs. (slice-vals, (slice-vals, (slice-vals, (slice-vals, (slice-vals, (slice-vals, (slice-vals, ((λ y. Agent-p .val y ∷ []), ((λ y. Start-p .val y ∷ []), ((λ y. u64-p .val y ∷ []), tt))))))))))) (λ κs. (mut-slice-tells (named 0) (κs .0) (Array u64 6), (mut-slice-tells (named 1) (κs .1 .0) (Array u16 35), (mut-slice-tells (named 2) (κs .1 .1 .0) Object-t.the-row, (mut-slice-tells (named 3) (κs .1 .1 .1 .0) u8, (mut-slice-tells (named 4) (κs .1 .1 .1 .1 .0) u8, (shr-slice-tells (named 5) (κs .1 .1 .1 .1 .1 .0) u8, (shr-slice-tells (named 6) (κs .1 .1 .1 .1 .1 .1 .0) u8, (Agent-p .tells, (Start-p .tells, (u64-p .tells, tt)))))))))))
+      (λ κs qs bounds a g are. needs 𝓤 _ _ (λ within. walk 𝓤 H A W mem run (κs .0) (qs .0) (a .0 .ptr .0) (a .0 .ptr .1) (a .0 .name) (a .0 .now) (κs .1 .0) (qs .1 .0) (a .1 .0 .ptr .0) (a .1 .0 .ptr .1) (a .1 .0 .name) (a .1 .0 .now) (κs .1 .1 .0) (qs .1 .1 .0) (a .1 .1 .0 .ptr .0) (a .1 .1 .0 .ptr .1) (a .1 .1 .0 .name) (a .1 .1 .0 .now) (κs .1 .1 .1 .0) (qs .1 .1 .1 .0) (a .1 .1 .1 .0 .ptr .0) (a .1 .1 .1 .0 .ptr .1) (a .1 .1 .1 .0 .name) (a .1 .1 .1 .0 .now) (κs .1 .1 .1 .1 .0) (qs .1 .1 .1 .1 .0) (a .1 .1 .1 .1 .0 .ptr .0) (a .1 .1 .1 .1 .0 .ptr .1) (a .1 .1 .1 .1 .0 .name) (a .1 .1 .1 .1 .0 .now) (κs .1 .1 .1 .1 .1 .0) (qs .1 .1 .1 .1 .1 .0) (a .1 .1 .1 .1 .1 .0 .ptr .0) (a .1 .1 .1 .1 .1 .0 .ptr .1) (a .1 .1 .1 .1 .1 .0 .name) (a .1 .1 .1 .1 .1 .0 .now) (κs .1 .1 .1 .1 .1 .1 .0) (qs .1 .1 .1 .1 .1 .1 .0) (a .1 .1 .1 .1 .1 .1 .0 .ptr .0) (a .1 .1 .1 .1 .1 .1 .0 .ptr .1) (a .1 .1 .1 .1 .1 .1 .0 .name) (a .1 .1 .1 .1 .1 .1 .0 .now) (a .1 .1 .1 .1 .1 .1 .1 .0) (a .1 .1 .1 .1 .1 .1 .1 .1 .0) (a .1 .1 .1 .1 .1 .1 .1 .1 .1 .0) (are .0 .0 .1) (are .1 .0 .0 .1) (are .1 .1 .0 .0 .1) (are .1 .1 .1 .0 .0 .1) (are .1 .1 .1 .1 .0 .0 .1) (are .1 .1 .1 .1 .1 .0 .0 .1) (are .1 .1 .1 .1 .1 .1 .0 .0 .1) (are .1 .1 .1 .1 .1 .1 .1 .0) (are .1 .1 .1 .1 .1 .1 .1 .1 .0) (are .1 .1 .1 .1 .1 .1 .1 .1 .1 .0) within 𝓣 known-process-needed known-process-refused known-perform-perform known-process-finished))
 
   meets : Meets 𝓤 H A f.signature (WpFn 𝓤 H (𝓣 .C) (𝓣 .Λ) code.function) (f.spec 𝓤 H A mem run)
-  meets = walk-meets 𝓤 H A f.ended stayed W (goes-slice 𝓤 H A W 6 0 tt (plain (λ _. (Array u64 5))), (goes-slice 𝓤 H A W 6 1 tt (plain (λ _. (Array u16 35))), (goes-slice 𝓤 H A W 6 2 tt (plain (λ _. Object-t.the-row)), (goes-slice 𝓤 H A W 6 3 tt (plain (λ _. u8)), (goes-none-slice 𝓤 H A W 6 (4 ∷ []) tt (plain (λ _. u8)) yes, (goes-none-slice 𝓤 H A W 6 (5 ∷ []) tt (plain (λ _. u8)) yes, (goes-none 𝓤 H A W 6 (λ _. Agent-p .row) yes (λ κs x f. refl), (goes-none 𝓤 H A W 6 (λ _. Start-p .row) yes (λ κs x f. refl), (goes-none 𝓤 H A W 6 (λ _. u64-p .row) yes (λ κs x f. refl), tt))))))))) (f.clauses 𝓤 H A mem run) (WpFn 𝓤 H (𝓣 .C) (𝓣 .Λ) code.function) (WpFn-mono 𝓤 H (W .laws) 𝓣 code.function) walks
+  meets = walk-meets 𝓤 H A f.ended stayed W (goes-slice 𝓤 H A W 7 0 tt (plain (λ _. (Array u64 6))), (goes-slice 𝓤 H A W 7 1 tt (plain (λ _. (Array u16 35))), (goes-slice 𝓤 H A W 7 2 tt (plain (λ _. Object-t.the-row)), (goes-slice 𝓤 H A W 7 3 tt (plain (λ _. u8)), (goes-slice 𝓤 H A W 7 4 tt (plain (λ _. u8)), (goes-none-slice 𝓤 H A W 7 (5 ∷ []) tt (plain (λ _. u8)) yes, (goes-none-slice 𝓤 H A W 7 (6 ∷ []) tt (plain (λ _. u8)) yes, (goes-none 𝓤 H A W 7 (λ _. Agent-p .row) yes (λ κs x f. refl), (goes-none 𝓤 H A W 7 (λ _. Start-p .row) yes (λ κs x f. refl), (goes-none 𝓤 H A W 7 (λ _. u64-p .row) yes (λ κs x f. refl), tt)))))))))) (f.clauses 𝓤 H A mem run) (WpFn 𝓤 H (𝓣 .C) (𝓣 .Λ) code.function) (WpFn-mono 𝓤 H (W .laws) 𝓣 code.function) walks
 
 pub go-spec : {M : Type 1} → stated.statement M
 unfolding code.routine tablesOf

@@ -52,10 +52,13 @@ use Rattle.walk.proofs.Steps.{past, one, yes-of, no-of, in-block, arm-of, holds
 use borrow.Rule.Slice.PartMut.{midOf, putMid}
 use Rattle.walk.proofs.Parts.{part-len, lends-part, backs-part, parts-shr}
 use Rattle.walk.proofs.Arrays.{rep-is, lends-array, backs-array}
-use Rattle.moves.specs.Rows.{lent}
-use Rattle.agent.specs.Host.{outcomeOf, waitsOf, finishedOf, refusedOf, answerMost, firstMost, roomy, neededOf, resumesFit, performed, finish, processOf}
+use Rattle.codec.specs.Bytes.{wordAt}
+use Rattle.agent.specs.Lent.{lent}
+use Rattle.agent.specs.Host.{outcomeOf, waitsOf, finishedOf, refusedOf, answerMost, firstMost, roomy, asksAgain, acknacksIn, asksIn, neededOf, resumesFit, performed, finish, processOf}
 use Rattle.sessions.specs.Objects.{blank}
-use Rattle.agent.specs.Dry.{sessionCopy, sessionBack, noSession, streamCopy, streamBack, noStream, same, sessionSpot, streamSpot, objectSpot, copied, restored}
+use Rattle.agent.specs.Dry.{sessionCopy, sessionBack, noSession, streamCopy, streamBack, noStream, same, sessionSpot, streamSpot, objectSpot, copied, restored, bufferCopy, bufferBack}
+use Rattle.codec.specs.Bytes.{putBytes}
+use Rattle.sessions.specs.Sending.{bufferIn}
 use types.Kit.{frees, prop}
 use Rattle.sessions.specs.declared.objects.Object.{Object}
 use Rattle.sessions.proofs.objects.Object as Object-t
@@ -116,8 +119,8 @@ Start-of x0 x1 x2 x3 = record { frame = x0; next = x1; at = x2; resumes = x3 }
 abbrev Start-p : Plain
 Start-p = record { row = Start-t.the-row; val = LL.val Start-t.the-type Start-l.the-laws; tells = LL.tells Start-t.the-type Start-l.the-laws; makes = λ 𝓤 H A W. LL.makes Start-t.the-type Start-l.the-plain 𝓤 H A; ty = Start-l.mir; typed = λ 𝓤 H A W x is. LL.lawful Start-t.the-type Start-l.the-laws 𝓤 H A W .typed x _ is .0; copies = λ 𝓤 H A W. LL.copy Start-t.the-type Start-l.the-copy 𝓤 H A W }
 
-abbrev Frame-of : ℕ → ℕ → ℕ → ℕ → Frame
-Frame-of x0 x1 x2 x3 = record { «max_clients» = x0; time = x1; «session_id» = x2; «stream_id» = x3 }
+abbrev Frame-of : ℕ → ℕ → ℕ → ℕ → ℕ → Frame
+Frame-of x0 x1 x2 x3 x4 = record { «max_clients» = x0; time = x1; «session_id» = x2; «stream_id» = x3; room = x4 }
 
 abbrev Frame-p : Plain
 Frame-p = record { row = Frame-t.the-row; val = LL.val Frame-t.the-type Frame-l.the-laws; tells = LL.tells Frame-t.the-type Frame-l.the-laws; makes = λ 𝓤 H A W. LL.makes Frame-t.the-type Frame-l.the-plain 𝓤 H A; ty = Frame-l.mir; typed = λ 𝓤 H A W x is. LL.lawful Frame-t.the-type Frame-l.the-laws 𝓤 H A W .typed x _ is .0; copies = λ 𝓤 H A W. LL.copy Frame-t.the-type Frame-l.the-copy 𝓤 H A W }
@@ -138,7 +141,7 @@ abbrev Handle-p : Plain
 Handle-p = record { row = Handle-t.the-row; val = LL.val Handle-t.the-type Handle-l.the-laws; tells = LL.tells Handle-t.the-type Handle-l.the-laws; makes = λ 𝓤 H A W. LL.makes Handle-t.the-type Handle-l.the-plain 𝓤 H A; ty = Handle-l.mir; typed = λ 𝓤 H A W x is. LL.lawful Handle-t.the-type Handle-l.the-laws 𝓤 H A W .typed x _ is .0; copies = λ 𝓤 H A W. LL.copy Handle-t.the-type Handle-l.the-copy 𝓤 H A W }
 
 abbrev stayed : Stays (f.ended .signature .params) (f.ended .kept)
-stayed = (stay-slice (0 ∷ []) tt (plain (λ _. (Array u64 5))), (stay-slice (1 ∷ []) tt (plain (λ _. (Array u16 35))), (stay-slice (2 ∷ []) tt (plain (λ _. Object-t.the-row)), (stay-none-slice (3 ∷ []) tt (plain (λ _. u8)) yes, (stay-none-slice (4 ∷ []) tt (plain (λ _. u8)) yes, (stay-none (λ _. Start-p .row) yes, (stay-none (λ _. u64-p .row) yes, (stay-none (λ _. u64-p .row) yes, tt))))))))
+stayed = (stay-slice (0 ∷ []) tt (plain (λ _. (Array u64 6))), (stay-slice (1 ∷ []) tt (plain (λ _. (Array u16 35))), (stay-slice (2 ∷ []) tt (plain (λ _. Object-t.the-row)), (stay-slice (3 ∷ []) tt (plain (λ _. u8)), (stay-none-slice (4 ∷ []) tt (plain (λ _. u8)) yes, (stay-none-slice (5 ∷ []) tt (plain (λ _. u8)) yes, (stay-none (λ _. Start-p .row) yes, (stay-none (λ _. u64-p .row) yes, (stay-none (λ _. u64-p .row) yes, tt)))))))))
 
 module _ {M : Type 1} (𝓤 : URA M) (H : Heap 𝓤) (A : Atoms 𝓤) (mem : Memory → SProp 𝓤) (run : Routine → Fun 𝓤) where
   abbrev Of-process-is-roomy : Contract 𝓤
@@ -147,8 +150,8 @@ module _ {M : Type 1} (𝓤 : URA M) (H : Heap 𝓤) (A : Atoms 𝓤) (mem : Mem
   abbrev Of-dry-dry : Contract 𝓤
   Of-dry-dry = tripleOf 𝓤 H A dry-dry.signature (dry-dry.spec 𝓤 H A mem run)
 
-module _ {M : Type 1} (𝓤 : URA M) (H : Heap 𝓤) (A : Atoms 𝓤) (W : Given 𝓤 H A) (mem : Memory → SProp 𝓤) (run : Routine → Fun 𝓤) (κ₁ : Lft) (q₁ : Share) (b₁ o₁ : ℕ) (γ₁ : GName) (sessions : List (List ℕ)) (κ₂ : Lft) (q₂ : Share) (b₂ o₂ : ℕ) (γ₂ : GName) (streams : List (List ℕ)) (κ₃ : Lft) (q₃ : Share) (b₃ o₃ : ℕ) (γ₃ : GName) (objects : List Object) (κ₄ : Lft) (q₄ : Share) (b₄ o₄ : ℕ) (γ₄ : GName) (d : List ℕ) (κ₅ : Lft) (q₅ : Share) (b₅ o₅ : ℕ) (γ₅ : GName) (sample : List ℕ) (start : Start) (n′ : ℕ) (room : ℕ)
-    (room₁ : Room (Array u64 5) (length sessions)) (room₂ : Room (Array u16 35) (length streams)) (room₃ : Room Object-t.the-row (length objects)) (room₄ : Room u8 (length d)) (room₅ : Room u8 (length sample)) (start-is : Is (Start-p .row) start (Start-p .val start ∷ [])) (n′-is : Is (u64-p .row) n′ (u64-p .val n′ ∷ [])) (room-is : Is (u64-p .row) room (u64-p .val room ∷ [])) (within : (resumesFit (start .resumes) (length (sample)) ≡ true) × (256 ≤ length (sessions)) × (2048 ≤ length (streams)) × (8192 ≤ length (objects))) where
+module _ {M : Type 1} (𝓤 : URA M) (H : Heap 𝓤) (A : Atoms 𝓤) (W : Given 𝓤 H A) (mem : Memory → SProp 𝓤) (run : Routine → Fun 𝓤) (κ₁ : Lft) (q₁ : Share) (b₁ o₁ : ℕ) (γ₁ : GName) (sessions : List (List ℕ)) (κ₂ : Lft) (q₂ : Share) (b₂ o₂ : ℕ) (γ₂ : GName) (streams : List (List ℕ)) (κ₃ : Lft) (q₃ : Share) (b₃ o₃ : ℕ) (γ₃ : GName) (objects : List Object) (κ₄ : Lft) (q₄ : Share) (b₄ o₄ : ℕ) (γ₄ : GName) (held : List ℕ) (κ₅ : Lft) (q₅ : Share) (b₅ o₅ : ℕ) (γ₅ : GName) (d : List ℕ) (κ₆ : Lft) (q₆ : Share) (b₆ o₆ : ℕ) (γ₆ : GName) (sample : List ℕ) (start : Start) (n′ : ℕ) (room : ℕ)
+    (room₁ : Room (Array u64 6) (length sessions)) (room₂ : Room (Array u16 35) (length streams)) (room₃ : Room Object-t.the-row (length objects)) (room₄ : Room u8 (length held)) (room₅ : Room u8 (length d)) (room₆ : Room u8 (length sample)) (start-is : Is (Start-p .row) start (Start-p .val start ∷ [])) (n′-is : Is (u64-p .row) n′ (u64-p .val n′ ∷ [])) (room-is : Is (u64-p .row) room (u64-p .val room ∷ [])) (within : (resumesFit (start .resumes) (start .frame .«stream_id») (length (sample)) ≡ true) × (start .frame .room ≤ 9223372036854775807) × (256 ≤ length (sessions)) × (2048 ≤ length (streams)) × (8192 ≤ length (objects))) where
   abbrev n₁ : ℕ
   n₁ = length sessions
 
@@ -159,36 +162,39 @@ module _ {M : Type 1} (𝓤 : URA M) (H : Heap 𝓤) (A : Atoms 𝓤) (W : Given
   n₃ = length objects
 
   abbrev n₄ : ℕ
-  n₄ = length d
+  n₄ = length held
 
   abbrev n₅ : ℕ
-  n₅ = length sample
+  n₅ = length d
 
-  abbrev x : RefT (List (List ℕ)) × (RefT (List (List ℕ)) × (RefT (List Object) × (RefT (List ℕ) × (RefT (List ℕ) × (Start-p .row .Denot × (u64-p .row .Denot × (u64-p .row .Denot × (Unit {0}))))))))
-  x = (at-list b₁ o₁ γ₁ sessions, (at-list b₂ o₂ γ₂ streams, (at-list b₃ o₃ γ₃ objects, (at-list b₄ o₄ γ₄ d, (at-list b₅ o₅ γ₅ sample, (start, (n′, (room, tt))))))))
+  abbrev n₆ : ℕ
+  n₆ = length sample
 
-  abbrev at : Vals f.signature (κ₁, (κ₂, (κ₃, (κ₄, (κ₅, tt)))))
-  at = (sliceVal (b₁, o₁) n₁ ∷ [], (sliceVal (b₂, o₂) n₂ ∷ [], (sliceVal (b₃, o₃) n₃ ∷ [], (sliceVal (b₄, o₄) n₄ ∷ [], (sliceVal (b₅, o₅) n₅ ∷ [], (Start-p .val start ∷ [], (u64-p .val n′ ∷ [], (u64-p .val room ∷ [], tt))))))))
+  abbrev x : RefT (List (List ℕ)) × (RefT (List (List ℕ)) × (RefT (List Object) × (RefT (List ℕ) × (RefT (List ℕ) × (RefT (List ℕ) × (Start-p .row .Denot × (u64-p .row .Denot × (u64-p .row .Denot × (Unit {0})))))))))
+  x = (at-list b₁ o₁ γ₁ sessions, (at-list b₂ o₂ γ₂ streams, (at-list b₃ o₃ γ₃ objects, (at-list b₄ o₄ γ₄ held, (at-list b₅ o₅ γ₅ d, (at-list b₆ o₆ γ₆ sample, (start, (n′, (room, tt)))))))))
+
+  abbrev at : Vals f.signature (κ₁, (κ₂, (κ₃, (κ₄, (κ₅, (κ₆, tt))))))
+  at = (sliceVal (b₁, o₁) n₁ ∷ [], (sliceVal (b₂, o₂) n₂ ∷ [], (sliceVal (b₃, o₃) n₃ ∷ [], (sliceVal (b₄, o₄) n₄ ∷ [], (sliceVal (b₅, o₅) n₅ ∷ [], (sliceVal (b₆, o₆) n₆ ∷ [], (Start-p .val start ∷ [], (u64-p .val n′ ∷ [], (u64-p .val room ∷ [], tt)))))))))
 
   abbrev Post : Val → SProp 𝓤
-  Post = walkOf 𝓤 H A f.ended stayed (f.clauses 𝓤 H A mem run) .post (((κ₁, (κ₂, (κ₃, (κ₄, (κ₅, tt))))), (q₁, (q₂, (q₃, (q₄, (q₅, tt))))), tt, x, at), tt)
+  Post = walkOf 𝓤 H A f.ended stayed (f.clauses 𝓤 H A mem run) .post (((κ₁, (κ₂, (κ₃, (κ₄, (κ₅, (κ₆, tt)))))), (q₁, (q₂, (q₃, (q₄, (q₅, (q₆, tt)))))), tt, x, at), tt)
 
-  needs-by : (b : Bool) → roomy (room) (start .resumes) n′ (length sample) ≡ b
-      → neededOf b (performed start (lent sessions streams objects) d sample .ran .wrote) ≡ neededOf (roomy (room) (start .resumes) n′ (length sample)) (performed start (lent sessions streams objects) d sample .ran .wrote)
-  needs-by b e = ap (λ (c : Bool). neededOf c (performed start (lent sessions streams objects) d sample .ran .wrote)) (sym e)
+  needs-by : (b : Bool) → roomy room start n′ d (length sample) ≡ b
+      → neededOf b (performed start (lent sessions streams objects held) d sample .ran .wrote) ≡ neededOf (roomy room start n′ d (length sample)) (performed start (lent sessions streams objects held) d sample .ran .wrote)
+  needs-by b e = ap (λ (c : Bool). neededOf c (performed start (lent sessions streams objects held) d sample .ran .wrote)) (sym e)
 
-  exits : (r : ℕ) (ws₁ : List (List ℕ)) (ws₂ : List (List ℕ)) (ws₃ : List Object) → ((r ≡ neededOf (roomy room (start .resumes) n′ (length (sample))) (performed start (lent (sessions) (streams) (objects)) (d) (sample) .ran .wrote)) × (ws₁ ≡ sessions) × (ws₂ ≡ streams) × (ws₃ ≡ objects)) → Is (u64-p .row) r (u64-p .val r ∷ []) → length ws₁ ≡ n₁ → length ws₂ ≡ n₂ → length ws₃ ≡ n₃ → ent 𝓤 (⋆ 𝓤 H A (‵ (MutSlice (named 0) κ₁ (Array u64 5) .own (at-list b₁ o₁ γ₁ ws₁) (sliceVal (b₁, o₁) n₁ ∷ [])) ∷ ‵ (flft κ₁ q₁) ∷ ‵ (MutSlice (named 1) κ₂ (Array u16 35) .own (at-list b₂ o₂ γ₂ ws₂) (sliceVal (b₂, o₂) n₂ ∷ [])) ∷ ‵ (flft κ₂ q₂) ∷ ‵ (MutSlice (named 2) κ₃ Object-t.the-row .own (at-list b₃ o₃ γ₃ ws₃) (sliceVal (b₃, o₃) n₃ ∷ [])) ∷ ‵ (flft κ₃ q₃) ∷ ‵ (ShrSlice (named 3) κ₄ u8 .own (at-list b₄ o₄ γ₄ d) (sliceVal (b₄, o₄) n₄ ∷ [])) ∷ ‵ (flft κ₄ q₄) ∷ ‵ (ShrSlice (named 4) κ₅ u8 .own (at-list b₅ o₅ γ₅ sample) (sliceVal (b₅, o₅) n₅ ∷ [])) ∷ ‵ (flft κ₅ q₅) ∷ [])) (Post (u64-p .val r))
-  exits r ws₁ ws₂ ws₃ said r-is len₁ len₂ len₃ =
-      qed W (‵ (MutSlice (named 0) κ₁ (Array u64 5) .own (at-list b₁ o₁ γ₁ ws₁) (sliceVal (b₁, o₁) n₁ ∷ [])) ∷ ‵ (flft κ₁ q₁) ∷ ‵ (MutSlice (named 1) κ₂ (Array u16 35) .own (at-list b₂ o₂ γ₂ ws₂) (sliceVal (b₂, o₂) n₂ ∷ [])) ∷ ‵ (flft κ₂ q₂) ∷ ‵ (MutSlice (named 2) κ₃ Object-t.the-row .own (at-list b₃ o₃ γ₃ ws₃) (sliceVal (b₃, o₃) n₃ ∷ [])) ∷ ‵ (flft κ₃ q₃) ∷ ‵ (ShrSlice (named 3) κ₄ u8 .own (at-list b₄ o₄ γ₄ d) (sliceVal (b₄, o₄) n₄ ∷ [])) ∷ ‵ (flft κ₄ q₄) ∷ ‵ (ShrSlice (named 4) κ₅ u8 .own (at-list b₅ o₅ γ₅ sample) (sliceVal (b₅, o₅) n₅ ∷ [])) ∷ ‵ (flft κ₅ q₅) ∷ []) ∵
-      suffices ! _ (ends-at 𝓤 H A f.ended stayed (f.clauses 𝓤 H A mem run) W (((κ₁, (κ₂, (κ₃, (κ₄, (κ₅, tt))))), (q₁, (q₂, (q₃, (q₄, (q₅, tt))))), tt, x, at), tt) (u64-p .val r) r (ws₁, (ws₂, (ws₃, (tt, (tt, (tt, (tt, (tt, tt)))))))) (len₁, (len₂, (len₃, (tt, (tt, (tt, (tt, (tt, tt))))))))) $ says ! said $ nothing ! $ move ! (10 ∷ 0 ∷ []) $ join ! $ move ! (8 ∷ 0 ∷ []) $ join ! $ move ! (6 ∷ 0 ∷ []) $ join ! $ move ! (4 ∷ 0 ∷ []) $ join ! $ move ! (2 ∷ 0 ∷ []) $ join ! $
+  exits : (r : ℕ) (ws₁ : List (List ℕ)) (ws₂ : List (List ℕ)) (ws₃ : List Object) (ws₄ : List ℕ) → ((r ≡ neededOf (roomy room start n′ (d) (length (sample))) (performed start (lent (sessions) (streams) (objects) (held)) (d) (sample) .ran .wrote)) × (ws₁ ≡ sessions) × (ws₂ ≡ streams) × (ws₃ ≡ objects) × (ws₄ ≡ held)) → Is (u64-p .row) r (u64-p .val r ∷ []) → length ws₁ ≡ n₁ → length ws₂ ≡ n₂ → length ws₃ ≡ n₃ → length ws₄ ≡ n₄ → ent 𝓤 (⋆ 𝓤 H A (‵ (MutSlice (named 0) κ₁ (Array u64 6) .own (at-list b₁ o₁ γ₁ ws₁) (sliceVal (b₁, o₁) n₁ ∷ [])) ∷ ‵ (flft κ₁ q₁) ∷ ‵ (MutSlice (named 1) κ₂ (Array u16 35) .own (at-list b₂ o₂ γ₂ ws₂) (sliceVal (b₂, o₂) n₂ ∷ [])) ∷ ‵ (flft κ₂ q₂) ∷ ‵ (MutSlice (named 2) κ₃ Object-t.the-row .own (at-list b₃ o₃ γ₃ ws₃) (sliceVal (b₃, o₃) n₃ ∷ [])) ∷ ‵ (flft κ₃ q₃) ∷ ‵ (MutSlice (named 3) κ₄ u8 .own (at-list b₄ o₄ γ₄ ws₄) (sliceVal (b₄, o₄) n₄ ∷ [])) ∷ ‵ (flft κ₄ q₄) ∷ ‵ (ShrSlice (named 4) κ₅ u8 .own (at-list b₅ o₅ γ₅ d) (sliceVal (b₅, o₅) n₅ ∷ [])) ∷ ‵ (flft κ₅ q₅) ∷ ‵ (ShrSlice (named 5) κ₆ u8 .own (at-list b₆ o₆ γ₆ sample) (sliceVal (b₆, o₆) n₆ ∷ [])) ∷ ‵ (flft κ₆ q₆) ∷ [])) (Post (u64-p .val r))
+  exits r ws₁ ws₂ ws₃ ws₄ said r-is len₁ len₂ len₃ len₄ =
+      qed W (‵ (MutSlice (named 0) κ₁ (Array u64 6) .own (at-list b₁ o₁ γ₁ ws₁) (sliceVal (b₁, o₁) n₁ ∷ [])) ∷ ‵ (flft κ₁ q₁) ∷ ‵ (MutSlice (named 1) κ₂ (Array u16 35) .own (at-list b₂ o₂ γ₂ ws₂) (sliceVal (b₂, o₂) n₂ ∷ [])) ∷ ‵ (flft κ₂ q₂) ∷ ‵ (MutSlice (named 2) κ₃ Object-t.the-row .own (at-list b₃ o₃ γ₃ ws₃) (sliceVal (b₃, o₃) n₃ ∷ [])) ∷ ‵ (flft κ₃ q₃) ∷ ‵ (MutSlice (named 3) κ₄ u8 .own (at-list b₄ o₄ γ₄ ws₄) (sliceVal (b₄, o₄) n₄ ∷ [])) ∷ ‵ (flft κ₄ q₄) ∷ ‵ (ShrSlice (named 4) κ₅ u8 .own (at-list b₅ o₅ γ₅ d) (sliceVal (b₅, o₅) n₅ ∷ [])) ∷ ‵ (flft κ₅ q₅) ∷ ‵ (ShrSlice (named 5) κ₆ u8 .own (at-list b₆ o₆ γ₆ sample) (sliceVal (b₆, o₆) n₆ ∷ [])) ∷ ‵ (flft κ₆ q₆) ∷ []) ∵
+      suffices ! _ (ends-at 𝓤 H A f.ended stayed (f.clauses 𝓤 H A mem run) W (((κ₁, (κ₂, (κ₃, (κ₄, (κ₅, (κ₆, tt)))))), (q₁, (q₂, (q₃, (q₄, (q₅, (q₆, tt)))))), tt, x, at), tt) (u64-p .val r) r (ws₁, (ws₂, (ws₃, (ws₄, (tt, (tt, (tt, (tt, (tt, tt))))))))) (len₁, (len₂, (len₃, (len₄, (tt, (tt, (tt, (tt, (tt, tt)))))))))) $ says ! said $ nothing ! $ move ! (12 ∷ 0 ∷ []) $ join ! $ move ! (10 ∷ 0 ∷ []) $ join ! $ move ! (8 ∷ 0 ∷ []) $ join ! $ move ! (6 ∷ 0 ∷ []) $ join ! $ move ! (4 ∷ 0 ∷ []) $ join ! $ move ! (2 ∷ 0 ∷ []) $ join ! $
       frame ! $ nothing ! $
       owned ! (u64-p .row) (Is (u64-p .row)) (u64-p .makes 𝓤 H A W) room (u64-p .val room ∷ []) room-is $ fjoin ! $
       owned ! (u64-p .row) (Is (u64-p .row)) (u64-p .makes 𝓤 H A W) n′ (u64-p .val n′ ∷ []) n′-is $ fjoin ! $
-      owned ! (Start-p .row) (Is (Start-p .row)) (Start-p .makes 𝓤 H A W) start (Start-p .val start ∷ []) start-is $ fjoin ! $ move ! (5 ∷ 0 ∷ []) $ fjoin ! $ move ! (4 ∷ 0 ∷ []) $ fjoin ! $ move ! (3 ∷ 0 ∷ []) $ fjoin ! $ move ! (2 ∷ 0 ∷ []) $ fjoin ! $ move ! (1 ∷ 0 ∷ []) $ fjoin ! $
+      owned ! (Start-p .row) (Is (Start-p .row)) (Start-p .makes 𝓤 H A W) start (Start-p .val start ∷ []) start-is $ fjoin ! $ move ! (6 ∷ 0 ∷ []) $ fjoin ! $ move ! (5 ∷ 0 ∷ []) $ fjoin ! $ move ! (4 ∷ 0 ∷ []) $ fjoin ! $ move ! (3 ∷ 0 ∷ []) $ fjoin ! $ move ! (2 ∷ 0 ∷ []) $ fjoin ! $ move ! (1 ∷ 0 ∷ []) $ fjoin ! $
       frame ! $
       owned ! (u64-p .row) (Is (u64-p .row)) (u64-p .makes 𝓤 H A W) r _ r-is $ done !
 
-  module _ (𝓣 : Tables 𝓤 H) (known-process-is-roomy : Triple 𝓤 (𝓣 .C #process-is-roomy) (Of-process-is-roomy 𝓤 H A mem run)) (known-dry-dry : Triple 𝓤 (𝓣 .C #dry-dry) (Of-dry-dry 𝓤 H A mem run)) (l₀ l₁ l₂ l₃ l₄ l₅ l₆ l₇ l₈ l₉ l₁₀ l₁₁ l₁₂ l₁₃ l₁₄ l₁₅ l₁₆ l₁₇ l₁₈ : ℕ) where
+  module _ (𝓣 : Tables 𝓤 H) (known-process-is-roomy : Triple 𝓤 (𝓣 .C #process-is-roomy) (Of-process-is-roomy 𝓤 H A mem run)) (known-dry-dry : Triple 𝓤 (𝓣 .C #dry-dry) (Of-dry-dry 𝓤 H A mem run)) (l₀ l₁ l₂ l₃ l₄ l₅ l₆ l₇ l₈ l₉ l₁₀ l₁₁ l₁₂ l₁₃ l₁₄ l₁₅ l₁₆ l₁₇ l₁₈ l₁₉ l₂₀ l₂₁ : ℕ) where
     abbrev C : Calls 𝓤 H
     C = 𝓣 .C
 
@@ -199,94 +205,104 @@ module _ {M : Type 1} (𝓤 : URA M) (H : Heap 𝓤) (A : Atoms 𝓤) (W : Given
     fm = fmOf 𝓤 H (W .laws) 𝓣
 
     abbrev En : Env 𝓤 H
-    En = ((tyInt w64), l₀) ∷ ((sliceTy (tyRef (named 0) mut (pointee ((Array u64 5) .written)))), l₁) ∷ ((sliceTy (tyRef (named 1) mut (pointee ((Array u16 35) .written)))), l₂) ∷ ((sliceTy (tyRef (named 2) mut (pointee (Object-t.the-row .written)))), l₃) ∷ ((sliceTy (tyRef (named 3) imm (pointee (u8 .written)))), l₄) ∷ ((sliceTy (tyRef (named 4) imm (pointee (u8 .written)))), l₅) ∷ (Start-l.mir, l₆) ∷ ((tyInt w64), l₇) ∷ ((tyInt w64), l₈) ∷ ((tyInt w64), l₉) ∷ (tyBool, l₁₀) ∷ (tyBool, l₁₁) ∷ ((tyInt w64), l₁₂) ∷ ((tyRef erased mut (pointee ((Array u64 5) .written))), l₁₃) ∷ ((sliceTy (tyRef erased mut (pointee ((Array u64 5) .written)))), l₁₄) ∷ ((tyRef erased mut (pointee ((Array u16 35) .written))), l₁₅) ∷ ((sliceTy (tyRef erased mut (pointee ((Array u16 35) .written)))), l₁₆) ∷ ((tyRef erased mut (pointee (Object-t.the-row .written))), l₁₇) ∷ ((sliceTy (tyRef erased mut (pointee (Object-t.the-row .written)))), l₁₈) ∷ []
+    En = ((tyInt w64), l₀) ∷ ((sliceTy (tyRef (named 0) mut (pointee ((Array u64 6) .written)))), l₁) ∷ ((sliceTy (tyRef (named 1) mut (pointee ((Array u16 35) .written)))), l₂) ∷ ((sliceTy (tyRef (named 2) mut (pointee (Object-t.the-row .written)))), l₃) ∷ ((sliceTy (tyRef (named 3) mut (pointee (u8 .written)))), l₄) ∷ ((sliceTy (tyRef (named 4) imm (pointee (u8 .written)))), l₅) ∷ ((sliceTy (tyRef (named 5) imm (pointee (u8 .written)))), l₆) ∷ (Start-l.mir, l₇) ∷ ((tyInt w64), l₈) ∷ ((tyInt w64), l₉) ∷ ((tyInt w64), l₁₀) ∷ (tyBool, l₁₁) ∷ (tyBool, l₁₂) ∷ ((tyInt w64), l₁₃) ∷ ((tyRef erased mut (pointee ((Array u64 6) .written))), l₁₄) ∷ ((sliceTy (tyRef erased mut (pointee ((Array u64 6) .written)))), l₁₅) ∷ ((tyRef erased mut (pointee ((Array u16 35) .written))), l₁₆) ∷ ((sliceTy (tyRef erased mut (pointee ((Array u16 35) .written)))), l₁₇) ∷ ((tyRef erased mut (pointee (Object-t.the-row .written))), l₁₈) ∷ ((sliceTy (tyRef erased mut (pointee (Object-t.the-row .written)))), l₁₉) ∷ ((tyRef erased mut (pointee (u8 .written))), l₂₀) ∷ ((sliceTy (tyRef erased mut (pointee (u8 .written)))), l₂₁) ∷ []
 
-    frees-all : (r : ℕ) (ws₁ : List (List ℕ)) (ws₂ : List (List ℕ)) (ws₃ : List Object) → ent 𝓤 (⋆ 𝓤 H A (‵ (MutSlice (named 0) κ₁ (Array u64 5) .own (at-list b₁ o₁ γ₁ ws₁) (sliceVal (b₁, o₁) n₁ ∷ [])) ∷ ‵ (flft κ₁ q₁) ∷ ‵ (MutSlice (named 1) κ₂ (Array u16 35) .own (at-list b₂ o₂ γ₂ ws₂) (sliceVal (b₂, o₂) n₂ ∷ [])) ∷ ‵ (flft κ₂ q₂) ∷ ‵ (MutSlice (named 2) κ₃ Object-t.the-row .own (at-list b₃ o₃ γ₃ ws₃) (sliceVal (b₃, o₃) n₃ ∷ [])) ∷ ‵ (flft κ₃ q₃) ∷ ‵ (ShrSlice (named 3) κ₄ u8 .own (at-list b₄ o₄ γ₄ d) (sliceVal (b₄, o₄) n₄ ∷ [])) ∷ ‵ (flft κ₄ q₄) ∷ ‵ (ShrSlice (named 4) κ₅ u8 .own (at-list b₅ o₅ γ₅ sample) (sliceVal (b₅, o₅) n₅ ∷ [])) ∷ ‵ (flft κ₅ q₅) ∷ [])) (Post (u64-p .val r)) → Sq W (‵ (MutSlice (named 0) κ₁ (Array u64 5) .own (at-list b₁ o₁ γ₁ ws₁) (sliceVal (b₁, o₁) n₁ ∷ [])) ∷ ‵ (flft κ₁ q₁) ∷ ‵ (MutSlice (named 0) κ₂ (Array u16 35) .own (at-list b₂ o₂ γ₂ ws₂) (sliceVal (b₂, o₂) n₂ ∷ [])) ∷ ‵ (flft κ₂ q₂) ∷ ‵ (MutSlice (named 0) κ₃ Object-t.the-row .own (at-list b₃ o₃ γ₃ ws₃) (sliceVal (b₃, o₃) n₃ ∷ [])) ∷ ‵ (flft κ₃ q₃) ∷ ‵ (ShrSlice (named 0) κ₄ u8 .own (at-list b₄ o₄ γ₄ d) (sliceVal (b₄, o₄) n₄ ∷ [])) ∷ ‵ (flft κ₄ q₄) ∷ ‵ (ShrSlice (named 0) κ₅ u8 .own (at-list b₅ o₅ γ₅ sample) (sliceVal (b₅, o₅) n₅ ∷ [])) ∷ ‵ (flft κ₅ q₅) ∷ free 𝓤 (sliceTy (tyRef erased mut (pointee (Object-t.the-row .written)))) l₁₈ (free 𝓤 (tyRef erased mut (pointee (Object-t.the-row .written))) l₁₇ (free 𝓤 (sliceTy (tyRef erased mut (pointee ((Array u16 35) .written)))) l₁₆ (free 𝓤 (tyRef erased mut (pointee ((Array u16 35) .written))) l₁₅ (free 𝓤 (sliceTy (tyRef erased mut (pointee ((Array u64 5) .written)))) l₁₄ (free 𝓤 (tyRef erased mut (pointee ((Array u64 5) .written))) l₁₃ (free 𝓤 (tyInt w64) l₁₂ (free 𝓤 tyBool l₁₁ (free 𝓤 tyBool l₁₀ (free 𝓤 (tyInt w64) l₉ (full 𝓤 (tyInt w64) l₈ (u64-p .val room) (full 𝓤 (tyInt w64) l₇ (u64-p .val n′) (full 𝓤 Start-l.mir l₆ (Start-p .val start) (full 𝓤 (sliceTy (tyRef (named 4) imm (pointee (u8 .written)))) l₅ (sliceVal (b₅, o₅) n₅) (full 𝓤 (sliceTy (tyRef (named 3) imm (pointee (u8 .written)))) l₄ (sliceVal (b₄, o₄) n₄) (full 𝓤 (sliceTy (tyRef (named 2) mut (pointee (Object-t.the-row .written)))) l₃ (sliceVal (b₃, o₃) n₃) (full 𝓤 (sliceTy (tyRef (named 1) mut (pointee ((Array u16 35) .written)))) l₂ (sliceVal (b₂, o₂) n₂) (full 𝓤 (sliceTy (tyRef (named 0) mut (pointee ((Array u64 5) .written)))) l₁ (sliceVal (b₁, o₁) n₁) (full 𝓤 (tyInt w64) l₀ (u64-p .val r) ([])))))))))))))))))))) (frees En (prop (Post (u64-p .val r))))
-    frees-all r ws₁ ws₂ ws₃ ends =
-        forget ! 30 refl $ forget ! 32 refl $ forget ! 34 refl $ forget ! 36 refl $ forget ! 38 refl $ forget ! 40 refl $ forget ! 42 refl $ forget ! 44 refl $ forget ! 46 refl $ move ! (46 ∷ 47 ∷ []) $ free1 ! $ move ! (44 ∷ 45 ∷ []) $ free1 ! $ move ! (42 ∷ 43 ∷ []) $ free1 ! $ move ! (40 ∷ 41 ∷ []) $ free1 ! $ move ! (38 ∷ 39 ∷ []) $ free1 ! $ move ! (36 ∷ 37 ∷ []) $ free1 ! $ move ! (34 ∷ 35 ∷ []) $ free1 ! $ move ! (32 ∷ 33 ∷ []) $ free1 ! $ move ! (30 ∷ 31 ∷ []) $ free1 ! $ move ! (28 ∷ 29 ∷ []) $ free1 ! $ move ! (26 ∷ 27 ∷ []) $ free1 ! $ move ! (24 ∷ 25 ∷ []) $ free1 ! $ move ! (22 ∷ 23 ∷ []) $ free1 ! $ move ! (20 ∷ 21 ∷ []) $ free1 ! $ move ! (18 ∷ 19 ∷ []) $ free1 ! $ move ! (16 ∷ 17 ∷ []) $ free1 ! $ move ! (14 ∷ 15 ∷ []) $ free1 ! $ move ! (12 ∷ 13 ∷ []) $ free1 ! $ move ! (10 ∷ 11 ∷ []) $ free1 ! $ free0 ! $
+    frees-all : (r : ℕ) (ws₁ : List (List ℕ)) (ws₂ : List (List ℕ)) (ws₃ : List Object) (ws₄ : List ℕ) → ent 𝓤 (⋆ 𝓤 H A (‵ (MutSlice (named 0) κ₁ (Array u64 6) .own (at-list b₁ o₁ γ₁ ws₁) (sliceVal (b₁, o₁) n₁ ∷ [])) ∷ ‵ (flft κ₁ q₁) ∷ ‵ (MutSlice (named 1) κ₂ (Array u16 35) .own (at-list b₂ o₂ γ₂ ws₂) (sliceVal (b₂, o₂) n₂ ∷ [])) ∷ ‵ (flft κ₂ q₂) ∷ ‵ (MutSlice (named 2) κ₃ Object-t.the-row .own (at-list b₃ o₃ γ₃ ws₃) (sliceVal (b₃, o₃) n₃ ∷ [])) ∷ ‵ (flft κ₃ q₃) ∷ ‵ (MutSlice (named 3) κ₄ u8 .own (at-list b₄ o₄ γ₄ ws₄) (sliceVal (b₄, o₄) n₄ ∷ [])) ∷ ‵ (flft κ₄ q₄) ∷ ‵ (ShrSlice (named 4) κ₅ u8 .own (at-list b₅ o₅ γ₅ d) (sliceVal (b₅, o₅) n₅ ∷ [])) ∷ ‵ (flft κ₅ q₅) ∷ ‵ (ShrSlice (named 5) κ₆ u8 .own (at-list b₆ o₆ γ₆ sample) (sliceVal (b₆, o₆) n₆ ∷ [])) ∷ ‵ (flft κ₆ q₆) ∷ [])) (Post (u64-p .val r)) → Sq W (‵ (MutSlice (named 0) κ₁ (Array u64 6) .own (at-list b₁ o₁ γ₁ ws₁) (sliceVal (b₁, o₁) n₁ ∷ [])) ∷ ‵ (flft κ₁ q₁) ∷ ‵ (MutSlice (named 0) κ₂ (Array u16 35) .own (at-list b₂ o₂ γ₂ ws₂) (sliceVal (b₂, o₂) n₂ ∷ [])) ∷ ‵ (flft κ₂ q₂) ∷ ‵ (MutSlice (named 0) κ₃ Object-t.the-row .own (at-list b₃ o₃ γ₃ ws₃) (sliceVal (b₃, o₃) n₃ ∷ [])) ∷ ‵ (flft κ₃ q₃) ∷ ‵ (MutSlice (named 0) κ₄ u8 .own (at-list b₄ o₄ γ₄ ws₄) (sliceVal (b₄, o₄) n₄ ∷ [])) ∷ ‵ (flft κ₄ q₄) ∷ ‵ (ShrSlice (named 0) κ₅ u8 .own (at-list b₅ o₅ γ₅ d) (sliceVal (b₅, o₅) n₅ ∷ [])) ∷ ‵ (flft κ₅ q₅) ∷ ‵ (ShrSlice (named 0) κ₆ u8 .own (at-list b₆ o₆ γ₆ sample) (sliceVal (b₆, o₆) n₆ ∷ [])) ∷ ‵ (flft κ₆ q₆) ∷ free 𝓤 (sliceTy (tyRef erased mut (pointee (u8 .written)))) l₂₁ (free 𝓤 (tyRef erased mut (pointee (u8 .written))) l₂₀ (free 𝓤 (sliceTy (tyRef erased mut (pointee (Object-t.the-row .written)))) l₁₉ (free 𝓤 (tyRef erased mut (pointee (Object-t.the-row .written))) l₁₈ (free 𝓤 (sliceTy (tyRef erased mut (pointee ((Array u16 35) .written)))) l₁₇ (free 𝓤 (tyRef erased mut (pointee ((Array u16 35) .written))) l₁₆ (free 𝓤 (sliceTy (tyRef erased mut (pointee ((Array u64 6) .written)))) l₁₅ (free 𝓤 (tyRef erased mut (pointee ((Array u64 6) .written))) l₁₄ (free 𝓤 (tyInt w64) l₁₃ (free 𝓤 tyBool l₁₂ (free 𝓤 tyBool l₁₁ (free 𝓤 (tyInt w64) l₁₀ (full 𝓤 (tyInt w64) l₉ (u64-p .val room) (full 𝓤 (tyInt w64) l₈ (u64-p .val n′) (full 𝓤 Start-l.mir l₇ (Start-p .val start) (full 𝓤 (sliceTy (tyRef (named 5) imm (pointee (u8 .written)))) l₆ (sliceVal (b₆, o₆) n₆) (full 𝓤 (sliceTy (tyRef (named 4) imm (pointee (u8 .written)))) l₅ (sliceVal (b₅, o₅) n₅) (full 𝓤 (sliceTy (tyRef (named 3) mut (pointee (u8 .written)))) l₄ (sliceVal (b₄, o₄) n₄) (full 𝓤 (sliceTy (tyRef (named 2) mut (pointee (Object-t.the-row .written)))) l₃ (sliceVal (b₃, o₃) n₃) (full 𝓤 (sliceTy (tyRef (named 1) mut (pointee ((Array u16 35) .written)))) l₂ (sliceVal (b₂, o₂) n₂) (full 𝓤 (sliceTy (tyRef (named 0) mut (pointee ((Array u64 6) .written)))) l₁ (sliceVal (b₁, o₁) n₁) (full 𝓤 (tyInt w64) l₀ (u64-p .val r) ([]))))))))))))))))))))))) (frees En (prop (Post (u64-p .val r))))
+    frees-all r ws₁ ws₂ ws₃ ws₄ ends =
+        forget ! 36 refl $ forget ! 38 refl $ forget ! 40 refl $ forget ! 42 refl $ forget ! 44 refl $ forget ! 46 refl $ forget ! 48 refl $ forget ! 50 refl $ forget ! 52 refl $ forget ! 54 refl $ move ! (54 ∷ 55 ∷ []) $ free1 ! $ move ! (52 ∷ 53 ∷ []) $ free1 ! $ move ! (50 ∷ 51 ∷ []) $ free1 ! $ move ! (48 ∷ 49 ∷ []) $ free1 ! $ move ! (46 ∷ 47 ∷ []) $ free1 ! $ move ! (44 ∷ 45 ∷ []) $ free1 ! $ move ! (42 ∷ 43 ∷ []) $ free1 ! $ move ! (40 ∷ 41 ∷ []) $ free1 ! $ move ! (38 ∷ 39 ∷ []) $ free1 ! $ move ! (36 ∷ 37 ∷ []) $ free1 ! $ move ! (34 ∷ 35 ∷ []) $ free1 ! $ move ! (32 ∷ 33 ∷ []) $ free1 ! $ move ! (30 ∷ 31 ∷ []) $ free1 ! $ move ! (28 ∷ 29 ∷ []) $ free1 ! $ move ! (26 ∷ 27 ∷ []) $ free1 ! $ move ! (24 ∷ 25 ∷ []) $ free1 ! $ move ! (22 ∷ 23 ∷ []) $ free1 ! $ move ! (20 ∷ 21 ∷ []) $ free1 ! $ move ! (18 ∷ 19 ∷ []) $ free1 ! $ move ! (16 ∷ 17 ∷ []) $ free1 ! $ move ! (14 ∷ 15 ∷ []) $ free1 ! $ move ! (12 ∷ 13 ∷ []) $ free1 ! $ free0 ! $
         by ! ends
 
-    part-5-1 : (is-2 : Is (bool-p .row) (roomy room (start .resumes) n′ n₅) (bool-p .val (roomy room (start .resumes) n′ n₅) ∷ [])) → (c-4 : roomy room (start .resumes) n′ n₅ ≡ false) → (asks-4·no·7 : (resumesFit (start .resumes) (length (sample)) ≡ true) × (256 ≤ length (sessions)) × (2048 ≤ length (streams)) × (8192 ≤ length (objects))) → (len-4·no·7-sessions : length sessions ≡ n₁) → (len-4·no·7-streams : length streams ≡ n₂) → (len-4·no·7-objects : length objects ≡ n₃) → (is-4·no·7 : Is (u64-p .row) (performed start (lent (sessions) (streams) (objects)) (d) (sample) .ran .wrote) (u64-p .val (performed start (lent (sessions) (streams) (objects)) (d) (sample) .ran .wrote) ∷ [])) → Sq W (‵ (MutSlice (named 0) κ₁ (Array u64 5) .own (at-list b₁ o₁ γ₁ sessions) (sliceVal (b₁, o₁) n₁ ∷ [])) ∷ ‵ (flft κ₁ q₁) ∷ ‵ (MutSlice (named 0) κ₂ (Array u16 35) .own (at-list b₂ o₂ γ₂ streams) (sliceVal (b₂, o₂) n₂ ∷ [])) ∷ ‵ (flft κ₂ q₂) ∷ ‵ (MutSlice (named 0) κ₃ Object-t.the-row .own (at-list b₃ o₃ γ₃ objects) (sliceVal (b₃, o₃) n₃ ∷ [])) ∷ ‵ (flft κ₃ q₃) ∷ ‵ (ShrSlice (named 0) κ₄ u8 .own (at-list b₄ o₄ γ₄ d) (sliceVal (b₄, o₄) n₄ ∷ [])) ∷ ‵ (flft κ₄ q₄) ∷ ‵ (ShrSlice (named 0) κ₅ u8 .own (at-list b₅ o₅ γ₅ sample) (sliceVal (b₅, o₅) n₅ ∷ [])) ∷ ‵ (flft κ₅ q₅) ∷ full 𝓤 (sliceTy (tyRef erased mut (pointee (Object-t.the-row .written)))) l₁₈ (sliceVal (b₃, o₃) n₃) (full 𝓤 (tyRef erased mut (pointee (Object-t.the-row .written))) l₁₇ (vptr b₃ o₃) (full 𝓤 (sliceTy (tyRef erased mut (pointee ((Array u16 35) .written)))) l₁₆ (sliceVal (b₂, o₂) n₂) (full 𝓤 (tyRef erased mut (pointee ((Array u16 35) .written))) l₁₅ (vptr b₂ o₂) (full 𝓤 (sliceTy (tyRef erased mut (pointee ((Array u64 5) .written)))) l₁₄ (sliceVal (b₁, o₁) n₁) (full 𝓤 (tyRef erased mut (pointee ((Array u64 5) .written))) l₁₃ (vptr b₁ o₁) (full 𝓤 (tyInt w64) l₁₂ (u64-p .val (performed start (lent (sessions) (streams) (objects)) (d) (sample) .ran .wrote)) (full 𝓤 tyBool l₁₁ (bool-p .val (roomy room (start .resumes) n′ n₅)) (full 𝓤 tyBool l₁₀ (bool-p .val (roomy room (start .resumes) n′ n₅)) (full 𝓤 (tyInt w64) l₉ (u64-p .val n₅) (full 𝓤 (tyInt w64) l₈ (u64-p .val room) (full 𝓤 (tyInt w64) l₇ (u64-p .val n′) (full 𝓤 Start-l.mir l₆ (Start-p .val start) (full 𝓤 (sliceTy (tyRef (named 4) imm (pointee (u8 .written)))) l₅ (sliceVal (b₅, o₅) n₅) (full 𝓤 (sliceTy (tyRef (named 3) imm (pointee (u8 .written)))) l₄ (sliceVal (b₄, o₄) n₄) (full 𝓤 (sliceTy (tyRef (named 2) mut (pointee (Object-t.the-row .written)))) l₃ (sliceVal (b₃, o₃) n₃) (full 𝓤 (sliceTy (tyRef (named 1) mut (pointee ((Array u16 35) .written)))) l₂ (sliceVal (b₂, o₂) n₂) (full 𝓤 (sliceTy (tyRef (named 0) mut (pointee ((Array u64 5) .written)))) l₁ (sliceVal (b₁, o₁) n₁) (free 𝓤 (tyInt w64) l₀ ([])))))))))))))))))))) (runs C Λ En mir.t-5 (atRet En Post))
-    part-5-1 is-2 c-4 asks-4·no·7 len-4·no·7-sessions len-4·no·7-streams len-4·no·7-objects is-4·no·7 =
-        assigns ! (of-opd ! (load ! (from ! (stop !)) (look ! 22 refl))) (from ! (stop !)) (init ! 46 refl (u64-p .typed 𝓤 H A W (performed start (lent (sessions) (streams) (objects)) (d) (sample) .ran .wrote) is-4·no·7)) $
-        returns ! (look ! 46 refl) $ forget ! 10 refl $ forget ! 12 refl $ forget ! 14 refl $ forget ! 16 refl $ forget ! 18 refl $ forget ! 20 refl $ forget ! 22 refl $ forget ! 24 refl $ forget ! 26 refl $ forget ! 28 refl $
-        frees-all (performed start (lent (sessions) (streams) (objects)) (d) (sample) .ran .wrote) sessions streams objects (exits (performed start (lent (sessions) (streams) (objects)) (d) (sample) .ran .wrote) sessions streams objects ((needs-by false c-4, refl, refl, refl)) is-4·no·7 len-4·no·7-sessions len-4·no·7-streams len-4·no·7-objects)
+    part-5-1 : (is-2 : Is (bool-p .row) (roomy room start n′ (d) n₆) (bool-p .val (roomy room start n′ (d) n₆) ∷ [])) → (c-4 : roomy room start n′ (d) n₆ ≡ false) → (asks-4·no·9 : (resumesFit (start .resumes) (start .frame .«stream_id») (length (sample)) ≡ true) × (start .frame .room ≤ 9223372036854775807) × (256 ≤ length (sessions)) × (2048 ≤ length (streams)) × (8192 ≤ length (objects))) → (len-4·no·9-sessions : length sessions ≡ n₁) → (len-4·no·9-streams : length streams ≡ n₂) → (len-4·no·9-objects : length objects ≡ n₃) → (len-4·no·9-held : length held ≡ n₄) → (is-4·no·9 : Is (u64-p .row) (performed start (lent (sessions) (streams) (objects) (held)) (d) (sample) .ran .wrote) (u64-p .val (performed start (lent (sessions) (streams) (objects) (held)) (d) (sample) .ran .wrote) ∷ [])) → Sq W (‵ (MutSlice (named 0) κ₁ (Array u64 6) .own (at-list b₁ o₁ γ₁ sessions) (sliceVal (b₁, o₁) n₁ ∷ [])) ∷ ‵ (flft κ₁ q₁) ∷ ‵ (MutSlice (named 0) κ₂ (Array u16 35) .own (at-list b₂ o₂ γ₂ streams) (sliceVal (b₂, o₂) n₂ ∷ [])) ∷ ‵ (flft κ₂ q₂) ∷ ‵ (MutSlice (named 0) κ₃ Object-t.the-row .own (at-list b₃ o₃ γ₃ objects) (sliceVal (b₃, o₃) n₃ ∷ [])) ∷ ‵ (flft κ₃ q₃) ∷ ‵ (MutSlice (named 0) κ₄ u8 .own (at-list b₄ o₄ γ₄ held) (sliceVal (b₄, o₄) n₄ ∷ [])) ∷ ‵ (flft κ₄ q₄) ∷ ‵ (ShrSlice (named 0) κ₅ u8 .own (at-list b₅ o₅ γ₅ d) (sliceVal (b₅, o₅) n₅ ∷ [])) ∷ ‵ (flft κ₅ q₅) ∷ ‵ (ShrSlice (named 0) κ₆ u8 .own (at-list b₆ o₆ γ₆ sample) (sliceVal (b₆, o₆) n₆ ∷ [])) ∷ ‵ (flft κ₆ q₆) ∷ full 𝓤 (sliceTy (tyRef erased mut (pointee (u8 .written)))) l₂₁ (sliceVal (b₄, o₄) n₄) (full 𝓤 (tyRef erased mut (pointee (u8 .written))) l₂₀ (vptr b₄ o₄) (full 𝓤 (sliceTy (tyRef erased mut (pointee (Object-t.the-row .written)))) l₁₉ (sliceVal (b₃, o₃) n₃) (full 𝓤 (tyRef erased mut (pointee (Object-t.the-row .written))) l₁₈ (vptr b₃ o₃) (full 𝓤 (sliceTy (tyRef erased mut (pointee ((Array u16 35) .written)))) l₁₇ (sliceVal (b₂, o₂) n₂) (full 𝓤 (tyRef erased mut (pointee ((Array u16 35) .written))) l₁₆ (vptr b₂ o₂) (full 𝓤 (sliceTy (tyRef erased mut (pointee ((Array u64 6) .written)))) l₁₅ (sliceVal (b₁, o₁) n₁) (full 𝓤 (tyRef erased mut (pointee ((Array u64 6) .written))) l₁₄ (vptr b₁ o₁) (full 𝓤 (tyInt w64) l₁₃ (u64-p .val (performed start (lent (sessions) (streams) (objects) (held)) (d) (sample) .ran .wrote)) (full 𝓤 tyBool l₁₂ (bool-p .val (roomy room start n′ (d) n₆)) (full 𝓤 tyBool l₁₁ (bool-p .val (roomy room start n′ (d) n₆)) (full 𝓤 (tyInt w64) l₁₀ (u64-p .val n₆) (full 𝓤 (tyInt w64) l₉ (u64-p .val room) (full 𝓤 (tyInt w64) l₈ (u64-p .val n′) (full 𝓤 Start-l.mir l₇ (Start-p .val start) (full 𝓤 (sliceTy (tyRef (named 5) imm (pointee (u8 .written)))) l₆ (sliceVal (b₆, o₆) n₆) (full 𝓤 (sliceTy (tyRef (named 4) imm (pointee (u8 .written)))) l₅ (sliceVal (b₅, o₅) n₅) (full 𝓤 (sliceTy (tyRef (named 3) mut (pointee (u8 .written)))) l₄ (sliceVal (b₄, o₄) n₄) (full 𝓤 (sliceTy (tyRef (named 2) mut (pointee (Object-t.the-row .written)))) l₃ (sliceVal (b₃, o₃) n₃) (full 𝓤 (sliceTy (tyRef (named 1) mut (pointee ((Array u16 35) .written)))) l₂ (sliceVal (b₂, o₂) n₂) (full 𝓤 (sliceTy (tyRef (named 0) mut (pointee ((Array u64 6) .written)))) l₁ (sliceVal (b₁, o₁) n₁) (free 𝓤 (tyInt w64) l₀ ([]))))))))))))))))))))))) (runs C Λ En mir.t-5 (atRet En Post))
+    part-5-1 is-2 c-4 asks-4·no·9 len-4·no·9-sessions len-4·no·9-streams len-4·no·9-objects len-4·no·9-held is-4·no·9 =
+        assigns ! (of-opd ! (load ! (from ! (stop !)) (look ! 28 refl))) (from ! (stop !)) (init ! 54 refl (u64-p .typed 𝓤 H A W (performed start (lent (sessions) (streams) (objects) (held)) (d) (sample) .ran .wrote) is-4·no·9)) $
+        returns ! (look ! 54 refl) $ forget ! 12 refl $ forget ! 14 refl $ forget ! 16 refl $ forget ! 18 refl $ forget ! 20 refl $ forget ! 22 refl $ forget ! 24 refl $ forget ! 26 refl $ forget ! 28 refl $ forget ! 30 refl $ forget ! 32 refl $ forget ! 34 refl $
+        frees-all (performed start (lent (sessions) (streams) (objects) (held)) (d) (sample) .ran .wrote) sessions streams objects held (exits (performed start (lent (sessions) (streams) (objects) (held)) (d) (sample) .ran .wrote) sessions streams objects held ((needs-by false c-4, refl, refl, refl, refl)) is-4·no·9 len-4·no·9-sessions len-4·no·9-streams len-4·no·9-objects len-4·no·9-held)
 
-    begins : Sq W (‵ (MutSlice (named 0) κ₁ (Array u64 5) .own (at-list b₁ o₁ γ₁ sessions) (sliceVal (b₁, o₁) n₁ ∷ [])) ∷ ‵ (flft κ₁ q₁) ∷ ‵ (MutSlice (named 0) κ₂ (Array u16 35) .own (at-list b₂ o₂ γ₂ streams) (sliceVal (b₂, o₂) n₂ ∷ [])) ∷ ‵ (flft κ₂ q₂) ∷ ‵ (MutSlice (named 0) κ₃ Object-t.the-row .own (at-list b₃ o₃ γ₃ objects) (sliceVal (b₃, o₃) n₃ ∷ [])) ∷ ‵ (flft κ₃ q₃) ∷ ‵ (ShrSlice (named 0) κ₄ u8 .own (at-list b₄ o₄ γ₄ d) (sliceVal (b₄, o₄) n₄ ∷ [])) ∷ ‵ (flft κ₄ q₄) ∷ ‵ (ShrSlice (named 0) κ₅ u8 .own (at-list b₅ o₅ γ₅ sample) (sliceVal (b₅, o₅) n₅ ∷ [])) ∷ ‵ (flft κ₅ q₅) ∷ free 𝓤 (sliceTy (tyRef erased mut (pointee (Object-t.the-row .written)))) l₁₈ (free 𝓤 (tyRef erased mut (pointee (Object-t.the-row .written))) l₁₇ (free 𝓤 (sliceTy (tyRef erased mut (pointee ((Array u16 35) .written)))) l₁₆ (free 𝓤 (tyRef erased mut (pointee ((Array u16 35) .written))) l₁₅ (free 𝓤 (sliceTy (tyRef erased mut (pointee ((Array u64 5) .written)))) l₁₄ (free 𝓤 (tyRef erased mut (pointee ((Array u64 5) .written))) l₁₃ (free 𝓤 (tyInt w64) l₁₂ (free 𝓤 tyBool l₁₁ (free 𝓤 tyBool l₁₀ (free 𝓤 (tyInt w64) l₉ (full 𝓤 (tyInt w64) l₈ (u64-p .val room) (full 𝓤 (tyInt w64) l₇ (u64-p .val n′) (full 𝓤 Start-l.mir l₆ (Start-p .val start) (full 𝓤 (sliceTy (tyRef (named 4) imm (pointee (u8 .written)))) l₅ (sliceVal (b₅, o₅) n₅) (full 𝓤 (sliceTy (tyRef (named 3) imm (pointee (u8 .written)))) l₄ (sliceVal (b₄, o₄) n₄) (full 𝓤 (sliceTy (tyRef (named 2) mut (pointee (Object-t.the-row .written)))) l₃ (sliceVal (b₃, o₃) n₃) (full 𝓤 (sliceTy (tyRef (named 1) mut (pointee ((Array u16 35) .written)))) l₂ (sliceVal (b₂, o₂) n₂) (full 𝓤 (sliceTy (tyRef (named 0) mut (pointee ((Array u64 5) .written)))) l₁ (sliceVal (b₁, o₁) n₁) (free 𝓤 (tyInt w64) l₀ ([])))))))))))))))))))) (runs C Λ En mir.t-1 (atRet En Post))
+    begins : Sq W (‵ (MutSlice (named 0) κ₁ (Array u64 6) .own (at-list b₁ o₁ γ₁ sessions) (sliceVal (b₁, o₁) n₁ ∷ [])) ∷ ‵ (flft κ₁ q₁) ∷ ‵ (MutSlice (named 0) κ₂ (Array u16 35) .own (at-list b₂ o₂ γ₂ streams) (sliceVal (b₂, o₂) n₂ ∷ [])) ∷ ‵ (flft κ₂ q₂) ∷ ‵ (MutSlice (named 0) κ₃ Object-t.the-row .own (at-list b₃ o₃ γ₃ objects) (sliceVal (b₃, o₃) n₃ ∷ [])) ∷ ‵ (flft κ₃ q₃) ∷ ‵ (MutSlice (named 0) κ₄ u8 .own (at-list b₄ o₄ γ₄ held) (sliceVal (b₄, o₄) n₄ ∷ [])) ∷ ‵ (flft κ₄ q₄) ∷ ‵ (ShrSlice (named 0) κ₅ u8 .own (at-list b₅ o₅ γ₅ d) (sliceVal (b₅, o₅) n₅ ∷ [])) ∷ ‵ (flft κ₅ q₅) ∷ ‵ (ShrSlice (named 0) κ₆ u8 .own (at-list b₆ o₆ γ₆ sample) (sliceVal (b₆, o₆) n₆ ∷ [])) ∷ ‵ (flft κ₆ q₆) ∷ free 𝓤 (sliceTy (tyRef erased mut (pointee (u8 .written)))) l₂₁ (free 𝓤 (tyRef erased mut (pointee (u8 .written))) l₂₀ (free 𝓤 (sliceTy (tyRef erased mut (pointee (Object-t.the-row .written)))) l₁₉ (free 𝓤 (tyRef erased mut (pointee (Object-t.the-row .written))) l₁₈ (free 𝓤 (sliceTy (tyRef erased mut (pointee ((Array u16 35) .written)))) l₁₇ (free 𝓤 (tyRef erased mut (pointee ((Array u16 35) .written))) l₁₆ (free 𝓤 (sliceTy (tyRef erased mut (pointee ((Array u64 6) .written)))) l₁₅ (free 𝓤 (tyRef erased mut (pointee ((Array u64 6) .written))) l₁₄ (free 𝓤 (tyInt w64) l₁₃ (free 𝓤 tyBool l₁₂ (free 𝓤 tyBool l₁₁ (free 𝓤 (tyInt w64) l₁₀ (full 𝓤 (tyInt w64) l₉ (u64-p .val room) (full 𝓤 (tyInt w64) l₈ (u64-p .val n′) (full 𝓤 Start-l.mir l₇ (Start-p .val start) (full 𝓤 (sliceTy (tyRef (named 5) imm (pointee (u8 .written)))) l₆ (sliceVal (b₆, o₆) n₆) (full 𝓤 (sliceTy (tyRef (named 4) imm (pointee (u8 .written)))) l₅ (sliceVal (b₅, o₅) n₅) (full 𝓤 (sliceTy (tyRef (named 3) mut (pointee (u8 .written)))) l₄ (sliceVal (b₄, o₄) n₄) (full 𝓤 (sliceTy (tyRef (named 2) mut (pointee (Object-t.the-row .written)))) l₃ (sliceVal (b₃, o₃) n₃) (full 𝓤 (sliceTy (tyRef (named 1) mut (pointee ((Array u16 35) .written)))) l₂ (sliceVal (b₂, o₂) n₂) (full 𝓤 (sliceTy (tyRef (named 0) mut (pointee ((Array u64 6) .written)))) l₁ (sliceVal (b₁, o₁) n₁) (free 𝓤 (tyInt w64) l₀ ([]))))))))))))))))))))))) (runs C Λ En mir.t-1 (atRet En Post))
     begins =
-        assigns ! (of-opd ! (load ! (from ! (fld ! refl (stop !))) (look-in ! 36 (sub ! 1 refl (whole !))))) (from ! (stop !)) (init ! 28 refl (u64-p .typed 𝓤 H A W n₅ ((refl, room₅ .0)))) $
+        assigns ! (of-opd ! (load ! (from ! (fld ! refl (stop !))) (look-in ! 42 (sub ! 1 refl (whole !))))) (from ! (stop !)) (init ! 34 refl (u64-p .typed 𝓤 H A W n₆ ((refl, room₆ .0)))) $
         -- 2: agent::process::is_roomy
-        nothing ! $
-        use1 W (raw (toks 𝓤 A 0 (tt) (tt))) (id⊢ 𝓤 _) $ nothing ! $
-        owned ! (u64-p .row) (Is (u64-p .row)) (u64-p .makes 𝓤 H A W) n₅ (u64-p .val n₅ ∷ []) ((refl, room₅ .0)) $ fjoin ! $
+        move ! (8 ∷ 9 ∷ []) $
+        copies-shr ! u8 b₅ o₅ d n₅ $ nothing ! $ move ! (1 ∷ 0 ∷ []) $ join ! $
+        use1 W (raw (toks 𝓤 A 1 ((κ₅, tt)) ((q₅, tt)))) (id⊢ 𝓤 _) $ nothing ! $
+        owned ! (u64-p .row) (Is (u64-p .row)) (u64-p .makes 𝓤 H A W) n₆ (u64-p .val n₆ ∷ []) ((refl, room₆ .0)) $ fjoin ! $
         owned ! (u64-p .row) (Is (u64-p .row)) (u64-p .makes 𝓤 H A W) n′ (u64-p .val n′ ∷ []) n′-is $ fjoin ! $
-        owned ! (Start-p .row) (Is (Start-p .row)) (Start-p .makes 𝓤 H A W) start (Start-p .val start ∷ []) start-is $ fjoin ! $
+        owned ! (Start-p .row) (Is (Start-p .row)) (Start-p .makes 𝓤 H A W) start (Start-p .val start ∷ []) start-is $ fjoin ! $ move ! (2 ∷ 0 ∷ []) $ fjoin ! $
         owned ! (u64-p .row) (Is (u64-p .row)) (u64-p .makes 𝓤 H A W) room (u64-p .val room ∷ []) room-is $ fjoin ! $ move ! (1 ∷ 0 ∷ []) $
-        calls-any ! fm 0 [] (process-is-roomy.signature .params) (process-is-roomy.ended .kept) bool-p (process-is-roomy.clauses 𝓤 H A mem run) known-process-is-roomy tt tt tt (room, (start, (n′, (n₅, tt)))) (u64-p .val room ∷ [], (Start-p .val start ∷ [], (u64-p .val n′ ∷ [], (u64-p .val n₅ ∷ [], tt)))) tt (roomy room (start .resumes) n′ n₅) (λ ws-2. Unit {0}) (id⊢ 𝓤 _) (λ r ws-2. fact-mono 𝓤 (r ≡ roomy room (start .resumes) n′ n₅) ((r ≡ (roomy room (start .resumes) n′ n₅)) × (Unit {0})) (λ e. (e, tt))) (λ _. (and-then ! (load ! (from ! (stop !)) (look ! 31 refl)) (and-then ! (load ! (from ! (stop !)) (look ! 35 refl)) (and-then ! (load ! (from ! (stop !)) (look ! 33 refl)) (and-then ! (load ! (from ! (stop !)) (look ! 29 refl)) (no-more !)))))) (λ ws-2 said-2 is-2.
-        drop ! $ drop ! $
-        land ! (from ! (stop !)) (init ! 26 refl (bool-p .typed 𝓤 H A W (roomy room (start .resumes) n′ n₅) is-2)) $
-        assigns ! (of-opd ! (load ! (from ! (stop !)) (look ! 26 refl))) (from ! (stop !)) (init ! 24 refl (bool-p .typed 𝓤 H A W (roomy room (start .resumes) n′ n₅) is-2)) $
+        calls-any ! fm 1 [] (process-is-roomy.signature .params) (process-is-roomy.ended .kept) bool-p (process-is-roomy.clauses 𝓤 H A mem run) known-process-is-roomy (κ₅, tt) (q₅, tt) tt (room, (at-list b₅ o₅ γ₅ d, (start, (n′, (n₆, tt))))) (u64-p .val room ∷ [], (sliceVal (b₅, o₅) n₅ ∷ [], (Start-p .val start ∷ [], (u64-p .val n′ ∷ [], (u64-p .val n₆ ∷ [], tt))))) tt (roomy room start n′ (d) n₆) (λ ws-2. Unit {0}) (id⊢ 𝓤 _) (λ r ws-2. fact-mono 𝓤 (r ≡ roomy room start n′ (d) n₆) ((r ≡ (roomy room start n′ (d) n₆)) × (Unit {0})) (λ e. (e, tt))) (λ _. (and-then ! (load ! (from ! (stop !)) (look ! 36 refl)) (and-then ! (load ! (from ! (stop !)) (look ! 44 refl)) (and-then ! (load ! (from ! (stop !)) (look ! 40 refl)) (and-then ! (load ! (from ! (stop !)) (look ! 38 refl)) (and-then ! (load ! (from ! (stop !)) (look ! 34 refl)) (no-more !))))))) (λ ws-2 said-2 is-2.
+        use1 W ((‵ (flft κ₅ q₅) ⊛ ‵ ftrue)) (id⊢ 𝓤 _) $ split ! $ move ! (2 ∷ []) $ fsplit ! $ move ! (1 ∷ []) $ fsplit ! $ drop ! $ drop ! $ drop ! $ move ! (1 ∷ []) $ drop ! $
+        land ! (from ! (stop !)) (init ! 32 refl (bool-p .typed 𝓤 H A W (roomy room start n′ (d) n₆) is-2)) $
+        assigns ! (of-opd ! (load ! (from ! (stop !)) (look ! 32 refl))) (from ! (stop !)) (init ! 30 refl (bool-p .typed 𝓤 H A W (roomy room start n′ (d) n₆) is-2)) $
         first ! $
-        branches ! (load ! (from ! (stop !)) (look ! 24 refl))
+        branches ! (load ! (from ! (stop !)) (look ! 30 refl))
         (λ h-4.
-        knows ! (roomy room (start .resumes) n′ n₅ ≡ true) (holds (roomy room (start .resumes) n′ n₅) h-4) (λ c-4.
-        assigns-last ! (of-opd ! (lit ! tt)) (from ! (stop !)) (init ! 22 refl (u64-p .typed 𝓤 H A W 0 ((refl, lit< tt)))) $
+        knows ! (roomy room start n′ (d) n₆ ≡ true) (holds (roomy room start n′ (d) n₆) h-4) (λ c-4.
+        assigns-last ! (of-opd ! (lit ! tt)) (from ! (stop !)) (init ! 28 refl (u64-p .typed 𝓤 H A W 0 ((refl, lit< tt)))) $
         exec ! C Λ En mir.t-5 (atRet En Post) $
-        assigns ! (of-opd ! (load ! (from ! (stop !)) (look ! 22 refl))) (from ! (stop !)) (init ! 46 refl (u64-p .typed 𝓤 H A W 0 ((refl, lit< tt)))) $
-        returns ! (look ! 46 refl) $ forget ! 22 refl $ forget ! 24 refl $ forget ! 26 refl $ forget ! 28 refl $
-        frees-all 0 sessions streams objects (exits 0 sessions streams objects ((needs-by true c-4, refl, refl, refl)) ((refl, lit< tt)) refl refl refl)))
+        assigns ! (of-opd ! (load ! (from ! (stop !)) (look ! 28 refl))) (from ! (stop !)) (init ! 54 refl (u64-p .typed 𝓤 H A W 0 ((refl, lit< tt)))) $
+        returns ! (look ! 54 refl) $ forget ! 28 refl $ forget ! 30 refl $ forget ! 32 refl $ forget ! 34 refl $ move ! (2 ∷ 3 ∷ 4 ∷ 5 ∷ 6 ∷ 7 ∷ 8 ∷ 9 ∷ 1 ∷ 0 ∷ 10 ∷ 11 ∷ 12 ∷ 13 ∷ 14 ∷ 15 ∷ 16 ∷ 17 ∷ 18 ∷ 19 ∷ 20 ∷ 21 ∷ 22 ∷ 23 ∷ 24 ∷ 25 ∷ 26 ∷ 27 ∷ 28 ∷ 29 ∷ 30 ∷ 31 ∷ 32 ∷ 33 ∷ 34 ∷ 35 ∷ 36 ∷ 37 ∷ 38 ∷ 39 ∷ 40 ∷ 41 ∷ 42 ∷ 43 ∷ 44 ∷ 45 ∷ 46 ∷ 47 ∷ 48 ∷ 49 ∷ 50 ∷ 51 ∷ 52 ∷ 53 ∷ 54 ∷ 55 ∷ []) $
+        frees-all 0 sessions streams objects held (exits 0 sessions streams objects held ((needs-by true c-4, refl, refl, refl, refl)) ((refl, lit< tt)) refl refl refl refl)))
         (λ h-4.
-        knows ! (roomy room (start .resumes) n′ n₅ ≡ false) (fails (roomy room (start .resumes) n′ n₅) (T-not (roomy room (start .resumes) n′ n₅) h-4)) (λ c-4.
-        assigns ! (addr ! (from ! (fld ! refl (hop ! (look-in ! 44 (sub ! 0 refl (whole !))) (stop !))))) (from ! (stop !)) (init ! 20 refl (tt, tt)) $
-        assigns ! (agg ! (and-then ! (load ! (from ! (stop !)) (look ! 20 refl)) (and-then ! (load ! (from ! (fld ! refl (stop !))) (look-in ! 44 (sub ! 1 refl (whole !)))) (no-more !)))) (from ! (stop !)) (init ! 18 refl (tt, (tt, (record { fits = room₁ .0 }, tt)))) $
-        assigns ! (addr ! (from ! (fld ! refl (hop ! (look-in ! 42 (sub ! 0 refl (whole !))) (stop !))))) (from ! (stop !)) (init ! 16 refl (tt, tt)) $
-        assigns ! (agg ! (and-then ! (load ! (from ! (stop !)) (look ! 16 refl)) (and-then ! (load ! (from ! (fld ! refl (stop !))) (look-in ! 42 (sub ! 1 refl (whole !)))) (no-more !)))) (from ! (stop !)) (init ! 14 refl (tt, (tt, (record { fits = room₂ .0 }, tt)))) $
-        assigns ! (addr ! (from ! (fld ! refl (hop ! (look-in ! 40 (sub ! 0 refl (whole !))) (stop !))))) (from ! (stop !)) (init ! 12 refl (tt, tt)) $
-        assigns ! (agg ! (and-then ! (load ! (from ! (stop !)) (look ! 12 refl)) (and-then ! (load ! (from ! (fld ! refl (stop !))) (look-in ! 40 (sub ! 1 refl (whole !)))) (no-more !)))) (from ! (stop !)) (init ! 10 refl (tt, (tt, (record { fits = room₃ .0 }, tt)))) $
-        knows ! ((resumesFit (start .resumes) (length (sample)) ≡ true) × (256 ≤ length (sessions)) × (2048 ≤ length (streams)) × (8192 ≤ length (objects))) (within) (λ asks-4·no·7.
-        -- 4.no.7: agent::dry::dry
-        lends-mut ! tt (Array u64 5) b₁ o₁ sessions n₁ (refl) (λ ν-4·no·7-sessions δ-4·no·7-sessions.
-        move ! (3 ∷ 4 ∷ []) $
-        lends-mut ! tt (Array u16 35) b₂ o₂ streams n₂ (refl) (λ ν-4·no·7-streams δ-4·no·7-streams.
-        move ! (6 ∷ 7 ∷ []) $
-        lends-mut ! tt Object-t.the-row b₃ o₃ objects n₃ (refl) (λ ν-4·no·7-objects δ-4·no·7-objects.
-        move ! (9 ∷ 10 ∷ []) $
-        copies-shr ! u8 b₄ o₄ d n₄ $ move ! (12 ∷ 13 ∷ []) $
-        copies-shr ! u8 b₅ o₅ sample n₅ $ nothing ! $ move ! (1 ∷ 0 ∷ []) $ join ! $ move ! (3 ∷ 0 ∷ []) $ join ! $ move ! (5 ∷ 0 ∷ []) $ join ! $ move ! (7 ∷ 0 ∷ []) $ join ! $ move ! (9 ∷ 0 ∷ []) $ join ! $
-        use1 W (raw (toks 𝓤 A 5 (((ν-4·no·7-sessions ∷ []), ((ν-4·no·7-streams ∷ []), ((ν-4·no·7-objects ∷ []), (κ₄, (κ₅, tt)))))) ((fullShare, (fullShare, (fullShare, (q₄, (q₅, tt)))))))) (id⊢ 𝓤 _) $ nothing ! $
-        owned ! (Start-p .row) (Is (Start-p .row)) (Start-p .makes 𝓤 H A W) start (Start-p .val start ∷ []) start-is $ fjoin ! $ move ! (2 ∷ 0 ∷ []) $ fjoin ! $ move ! (3 ∷ 0 ∷ []) $ fjoin ! $ move ! (4 ∷ 0 ∷ []) $ fjoin ! $ move ! (5 ∷ 0 ∷ []) $ fjoin ! $ move ! (6 ∷ 0 ∷ []) $ fjoin ! $ move ! (1 ∷ 0 ∷ []) $
-        calls-any-last ! fm 5 [] (dry-dry.signature .params) (dry-dry.ended .kept) u64-p (dry-dry.clauses 𝓤 H A mem run) known-dry-dry ((ν-4·no·7-sessions ∷ []), ((ν-4·no·7-streams ∷ []), ((ν-4·no·7-objects ∷ []), (κ₄, (κ₅, tt))))) (fullShare, (fullShare, (fullShare, (q₄, (q₅, tt))))) tt (at-list b₁ o₁ δ-4·no·7-sessions sessions, (at-list b₂ o₂ δ-4·no·7-streams streams, (at-list b₃ o₃ δ-4·no·7-objects objects, (at-list b₄ o₄ γ₄ d, (at-list b₅ o₅ γ₅ sample, (start, tt)))))) (sliceVal (b₁, o₁) n₁ ∷ [], (sliceVal (b₂, o₂) n₂ ∷ [], (sliceVal (b₃, o₃) n₃ ∷ [], (sliceVal (b₄, o₄) n₄ ∷ [], (sliceVal (b₅, o₅) n₅ ∷ [], (Start-p .val start ∷ [], tt)))))) tt (performed start (lent (sessions) (streams) (objects)) (d) (sample) .ran .wrote) (λ ws-4·no·7. (ws-4·no·7 .0 ≡ sessions) × (ws-4·no·7 .1 .0 ≡ streams) × (ws-4·no·7 .1 .1 .0 ≡ objects)) (factI 𝓤 ((resumesFit (start .resumes) (length (sample)) ≡ true) × (256 ≤ length (sessions)) × (2048 ≤ length (streams)) × (8192 ≤ length (objects))) _ asks-4·no·7) (λ r ws-4·no·7. fact-mono 𝓤 ((r ≡ performed start (lent (sessions) (streams) (objects)) (d) (sample) .ran .wrote) × ((ws-4·no·7 .0) ≡ sessions) × ((ws-4·no·7 .1 .0) ≡ streams) × ((ws-4·no·7 .1 .1 .0) ≡ objects)) ((r ≡ (performed start (lent (sessions) (streams) (objects)) (d) (sample) .ran .wrote)) × ((ws-4·no·7 .0 ≡ sessions) × (ws-4·no·7 .1 .0 ≡ streams) × (ws-4·no·7 .1 .1 .0 ≡ objects))) (λ e. (e .0, (e .1, e .2, e .3)))) (λ _. (and-then ! (load ! (from ! (stop !)) (look ! 14 refl)) (and-then ! (load ! (from ! (stop !)) (look ! 10 refl)) (and-then ! (load ! (from ! (stop !)) (look ! 6 refl)) (and-then ! (load ! (from ! (stop !)) (look ! 34 refl)) (and-then ! (load ! (from ! (stop !)) (look ! 32 refl)) (and-then ! (load ! (from ! (stop !)) (look ! 30 refl)) (no-more !)))))))) (λ ws-4·no·7 said-4·no·7 is-4·no·7.
-        use1 W ((‵ (flft (ν-4·no·7-sessions ∷ []) fullShare) ⊛ (‵ (flft (ν-4·no·7-streams ∷ []) fullShare) ⊛ (‵ (flft (ν-4·no·7-objects ∷ []) fullShare) ⊛ (‵ (flft κ₄ q₄) ⊛ (‵ (flft κ₅ q₅) ⊛ ‵ ftrue)))))) (id⊢ 𝓤 _) $ split ! $ move ! (1 ∷ []) $ split ! $ move ! (1 ∷ []) $ split ! $ move ! (1 ∷ []) $ split ! $ move ! (1 ∷ []) $ split ! $ move ! (6 ∷ []) $ fsplit ! $ fsplit ! $ move ! (1 ∷ []) $
-        feqL ! (λ wlen-4·no·7-0.
+        knows ! (roomy room start n′ (d) n₆ ≡ false) (fails (roomy room start n′ (d) n₆) (T-not (roomy room start n′ (d) n₆) h-4)) (λ c-4.
+        assigns ! (addr ! (from ! (fld ! refl (hop ! (look-in ! 52 (sub ! 0 refl (whole !))) (stop !))))) (from ! (stop !)) (init ! 26 refl (tt, tt)) $
+        assigns ! (agg ! (and-then ! (load ! (from ! (stop !)) (look ! 26 refl)) (and-then ! (load ! (from ! (fld ! refl (stop !))) (look-in ! 52 (sub ! 1 refl (whole !)))) (no-more !)))) (from ! (stop !)) (init ! 24 refl (tt, (tt, (record { fits = room₁ .0 }, tt)))) $
+        assigns ! (addr ! (from ! (fld ! refl (hop ! (look-in ! 50 (sub ! 0 refl (whole !))) (stop !))))) (from ! (stop !)) (init ! 22 refl (tt, tt)) $
+        assigns ! (agg ! (and-then ! (load ! (from ! (stop !)) (look ! 22 refl)) (and-then ! (load ! (from ! (fld ! refl (stop !))) (look-in ! 50 (sub ! 1 refl (whole !)))) (no-more !)))) (from ! (stop !)) (init ! 20 refl (tt, (tt, (record { fits = room₂ .0 }, tt)))) $
+        assigns ! (addr ! (from ! (fld ! refl (hop ! (look-in ! 48 (sub ! 0 refl (whole !))) (stop !))))) (from ! (stop !)) (init ! 18 refl (tt, tt)) $
+        assigns ! (agg ! (and-then ! (load ! (from ! (stop !)) (look ! 18 refl)) (and-then ! (load ! (from ! (fld ! refl (stop !))) (look-in ! 48 (sub ! 1 refl (whole !)))) (no-more !)))) (from ! (stop !)) (init ! 16 refl (tt, (tt, (record { fits = room₃ .0 }, tt)))) $
+        assigns ! (addr ! (from ! (fld ! refl (hop ! (look-in ! 46 (sub ! 0 refl (whole !))) (stop !))))) (from ! (stop !)) (init ! 14 refl (tt, tt)) $
+        assigns ! (agg ! (and-then ! (load ! (from ! (stop !)) (look ! 14 refl)) (and-then ! (load ! (from ! (fld ! refl (stop !))) (look-in ! 46 (sub ! 1 refl (whole !)))) (no-more !)))) (from ! (stop !)) (init ! 12 refl (tt, (tt, (record { fits = room₄ .0 }, tt)))) $
+        knows ! ((resumesFit (start .resumes) (start .frame .«stream_id») (length (sample)) ≡ true) × (start .frame .room ≤ 9223372036854775807) × (256 ≤ length (sessions)) × (2048 ≤ length (streams)) × (8192 ≤ length (objects))) (within) (λ asks-4·no·9.
+        -- 4.no.9: agent::dry::dry
+        move ! (2 ∷ 3 ∷ []) $
+        lends-mut ! tt (Array u64 6) b₁ o₁ sessions n₁ (refl) (λ ν-4·no·9-sessions δ-4·no·9-sessions.
+        move ! (5 ∷ 6 ∷ []) $
+        lends-mut ! tt (Array u16 35) b₂ o₂ streams n₂ (refl) (λ ν-4·no·9-streams δ-4·no·9-streams.
+        move ! (8 ∷ 9 ∷ []) $
+        lends-mut ! tt Object-t.the-row b₃ o₃ objects n₃ (refl) (λ ν-4·no·9-objects δ-4·no·9-objects.
+        move ! (11 ∷ 12 ∷ []) $
+        lends-mut ! tt u8 b₄ o₄ held n₄ (refl) (λ ν-4·no·9-held δ-4·no·9-held.
+        move ! (13 ∷ 12 ∷ []) $
+        copies-shr ! u8 b₅ o₅ d n₅ $ move ! (15 ∷ 16 ∷ []) $
+        copies-shr ! u8 b₆ o₆ sample n₆ $ nothing ! $ move ! (1 ∷ 0 ∷ []) $ join ! $ move ! (3 ∷ 0 ∷ []) $ join ! $ move ! (5 ∷ 0 ∷ []) $ join ! $ move ! (7 ∷ 0 ∷ []) $ join ! $ move ! (9 ∷ 0 ∷ []) $ join ! $ move ! (11 ∷ 0 ∷ []) $ join ! $
+        use1 W (raw (toks 𝓤 A 6 (((ν-4·no·9-sessions ∷ []), ((ν-4·no·9-streams ∷ []), ((ν-4·no·9-objects ∷ []), ((ν-4·no·9-held ∷ []), (κ₅, (κ₆, tt))))))) ((fullShare, (fullShare, (fullShare, (fullShare, (q₅, (q₆, tt))))))))) (id⊢ 𝓤 _) $ nothing ! $
+        owned ! (Start-p .row) (Is (Start-p .row)) (Start-p .makes 𝓤 H A W) start (Start-p .val start ∷ []) start-is $ fjoin ! $ move ! (2 ∷ 0 ∷ []) $ fjoin ! $ move ! (3 ∷ 0 ∷ []) $ fjoin ! $ move ! (4 ∷ 0 ∷ []) $ fjoin ! $ move ! (5 ∷ 0 ∷ []) $ fjoin ! $ move ! (6 ∷ 0 ∷ []) $ fjoin ! $ move ! (7 ∷ 0 ∷ []) $ fjoin ! $ move ! (1 ∷ 0 ∷ []) $
+        calls-any-last ! fm 6 [] (dry-dry.signature .params) (dry-dry.ended .kept) u64-p (dry-dry.clauses 𝓤 H A mem run) known-dry-dry ((ν-4·no·9-sessions ∷ []), ((ν-4·no·9-streams ∷ []), ((ν-4·no·9-objects ∷ []), ((ν-4·no·9-held ∷ []), (κ₅, (κ₆, tt)))))) (fullShare, (fullShare, (fullShare, (fullShare, (q₅, (q₆, tt)))))) tt (at-list b₁ o₁ δ-4·no·9-sessions sessions, (at-list b₂ o₂ δ-4·no·9-streams streams, (at-list b₃ o₃ δ-4·no·9-objects objects, (at-list b₄ o₄ δ-4·no·9-held held, (at-list b₅ o₅ γ₅ d, (at-list b₆ o₆ γ₆ sample, (start, tt))))))) (sliceVal (b₁, o₁) n₁ ∷ [], (sliceVal (b₂, o₂) n₂ ∷ [], (sliceVal (b₃, o₃) n₃ ∷ [], (sliceVal (b₄, o₄) n₄ ∷ [], (sliceVal (b₅, o₅) n₅ ∷ [], (sliceVal (b₆, o₆) n₆ ∷ [], (Start-p .val start ∷ [], tt))))))) tt (performed start (lent (sessions) (streams) (objects) (held)) (d) (sample) .ran .wrote) (λ ws-4·no·9. (ws-4·no·9 .0 ≡ sessions) × (ws-4·no·9 .1 .0 ≡ streams) × (ws-4·no·9 .1 .1 .0 ≡ objects) × (ws-4·no·9 .1 .1 .1 .0 ≡ held)) (factI 𝓤 ((resumesFit (start .resumes) (start .frame .«stream_id») (length (sample)) ≡ true) × (start .frame .room ≤ 9223372036854775807) × (256 ≤ length (sessions)) × (2048 ≤ length (streams)) × (8192 ≤ length (objects))) _ asks-4·no·9) (λ r ws-4·no·9. fact-mono 𝓤 ((r ≡ performed start (lent (sessions) (streams) (objects) (held)) (d) (sample) .ran .wrote) × ((ws-4·no·9 .0) ≡ sessions) × ((ws-4·no·9 .1 .0) ≡ streams) × ((ws-4·no·9 .1 .1 .0) ≡ objects) × ((ws-4·no·9 .1 .1 .1 .0) ≡ held)) ((r ≡ (performed start (lent (sessions) (streams) (objects) (held)) (d) (sample) .ran .wrote)) × ((ws-4·no·9 .0 ≡ sessions) × (ws-4·no·9 .1 .0 ≡ streams) × (ws-4·no·9 .1 .1 .0 ≡ objects) × (ws-4·no·9 .1 .1 .1 .0 ≡ held))) (λ e. (e .0, (e .1, e .2, e .3, e .4)))) (λ _. (and-then ! (load ! (from ! (stop !)) (look ! 19 refl)) (and-then ! (load ! (from ! (stop !)) (look ! 15 refl)) (and-then ! (load ! (from ! (stop !)) (look ! 11 refl)) (and-then ! (load ! (from ! (stop !)) (look ! 7 refl)) (and-then ! (load ! (from ! (stop !)) (look ! 39 refl)) (and-then ! (load ! (from ! (stop !)) (look ! 37 refl)) (and-then ! (load ! (from ! (stop !)) (look ! 35 refl)) (no-more !))))))))) (λ ws-4·no·9 said-4·no·9 is-4·no·9.
+        use1 W ((‵ (flft (ν-4·no·9-sessions ∷ []) fullShare) ⊛ (‵ (flft (ν-4·no·9-streams ∷ []) fullShare) ⊛ (‵ (flft (ν-4·no·9-objects ∷ []) fullShare) ⊛ (‵ (flft (ν-4·no·9-held ∷ []) fullShare) ⊛ (‵ (flft κ₅ q₅) ⊛ (‵ (flft κ₆ q₆) ⊛ ‵ ftrue))))))) (id⊢ 𝓤 _) $ split ! $ move ! (1 ∷ []) $ split ! $ move ! (1 ∷ []) $ split ! $ move ! (1 ∷ []) $ split ! $ move ! (1 ∷ []) $ split ! $ move ! (1 ∷ []) $ split ! $ move ! (7 ∷ []) $ fsplit ! $ fsplit ! $ move ! (1 ∷ []) $
+        feqL ! (λ wlen-4·no·9-0.
         move ! (1 ∷ []) $ fsplit ! $ fsplit ! $ move ! (1 ∷ []) $
-        feqL ! (λ wlen-4·no·7-1.
+        feqL ! (λ wlen-4·no·9-1.
         move ! (1 ∷ []) $ fsplit ! $ fsplit ! $ move ! (1 ∷ []) $
-        feqL ! (λ wlen-4·no·7-2.
-        move ! (1 ∷ []) $ fsplit ! $ move ! (1 ∷ []) $ fsplit ! $ move ! (11 ∷ 16 ∷ 5 ∷ []) $
-        backs-mut ! tt (Array u64 5) b₁ o₁ sessions n₁ (refl) room₁ ν-4·no·7-sessions δ-4·no·7-sessions (ws-4·no·7 .0) sessions wlen-4·no·7-0 (said-4·no·7 .0) (λ len-4·no·7-sessions.
-        move ! (11 ∷ 15 ∷ 6 ∷ []) $
-        backs-mut ! tt (Array u16 35) b₂ o₂ streams n₂ (refl) room₂ ν-4·no·7-streams δ-4·no·7-streams (ws-4·no·7 .1 .0) streams wlen-4·no·7-1 (said-4·no·7 .1) (λ len-4·no·7-streams.
-        move ! (11 ∷ 14 ∷ 7 ∷ []) $
-        backs-mut ! tt Object-t.the-row b₃ o₃ objects n₃ (refl) room₃ ν-4·no·7-objects δ-4·no·7-objects (ws-4·no·7 .1 .1 .0) objects wlen-4·no·7-2 (said-4·no·7 .2) (λ len-4·no·7-objects.
-        move ! (6 ∷ []) $ drop ! $ move ! (6 ∷ []) $ drop ! $ move ! (6 ∷ []) $ drop ! $ move ! (7 ∷ []) $ drop ! $
-        land-last ! (from ! (stop !)) (init ! 22 refl (u64-p .typed 𝓤 H A W (performed start (lent (sessions) (streams) (objects)) (d) (sample) .ran .wrote) is-4·no·7)) $
-        exec ! C Λ En mir.t-5 (atRet En Post) $ move ! (4 ∷ 5 ∷ 2 ∷ 3 ∷ 0 ∷ 1 ∷ 9 ∷ 7 ∷ 8 ∷ 6 ∷ 10 ∷ 11 ∷ 12 ∷ 13 ∷ 14 ∷ 15 ∷ 16 ∷ 17 ∷ 18 ∷ 19 ∷ 20 ∷ 21 ∷ 22 ∷ 23 ∷ 24 ∷ 25 ∷ 26 ∷ 27 ∷ 28 ∷ 29 ∷ 30 ∷ 31 ∷ 32 ∷ 33 ∷ 34 ∷ 35 ∷ 36 ∷ 37 ∷ 38 ∷ 39 ∷ 40 ∷ 41 ∷ 42 ∷ 43 ∷ 44 ∷ 45 ∷ 46 ∷ 47 ∷ []) $
-        part-5-1 is-2 c-4 asks-4·no·7 len-4·no·7-sessions len-4·no·7-streams len-4·no·7-objects is-4·no·7))))))))))))))
+        feqL ! (λ wlen-4·no·9-2.
+        move ! (1 ∷ []) $ fsplit ! $ fsplit ! $ move ! (1 ∷ []) $
+        feqL ! (λ wlen-4·no·9-3.
+        move ! (1 ∷ []) $ fsplit ! $ move ! (1 ∷ []) $ fsplit ! $ move ! (13 ∷ 19 ∷ 6 ∷ []) $
+        backs-mut ! tt (Array u64 6) b₁ o₁ sessions n₁ (refl) room₁ ν-4·no·9-sessions δ-4·no·9-sessions (ws-4·no·9 .0) sessions wlen-4·no·9-0 (said-4·no·9 .0) (λ len-4·no·9-sessions.
+        move ! (13 ∷ 18 ∷ 7 ∷ []) $
+        backs-mut ! tt (Array u16 35) b₂ o₂ streams n₂ (refl) room₂ ν-4·no·9-streams δ-4·no·9-streams (ws-4·no·9 .1 .0) streams wlen-4·no·9-1 (said-4·no·9 .1) (λ len-4·no·9-streams.
+        move ! (13 ∷ 17 ∷ 8 ∷ []) $
+        backs-mut ! tt Object-t.the-row b₃ o₃ objects n₃ (refl) room₃ ν-4·no·9-objects δ-4·no·9-objects (ws-4·no·9 .1 .1 .0) objects wlen-4·no·9-2 (said-4·no·9 .2) (λ len-4·no·9-objects.
+        move ! (13 ∷ 16 ∷ 9 ∷ []) $
+        backs-mut ! tt u8 b₄ o₄ held n₄ (refl) room₄ ν-4·no·9-held δ-4·no·9-held (ws-4·no·9 .1 .1 .1 .0) held wlen-4·no·9-3 (said-4·no·9 .3) (λ len-4·no·9-held.
+        move ! (8 ∷ []) $ drop ! $ move ! (8 ∷ []) $ drop ! $ move ! (8 ∷ []) $ drop ! $ move ! (9 ∷ []) $ drop ! $
+        land-last ! (from ! (stop !)) (init ! 28 refl (u64-p .typed 𝓤 H A W (performed start (lent (sessions) (streams) (objects) (held)) (d) (sample) .ran .wrote) is-4·no·9)) $
+        exec ! C Λ En mir.t-5 (atRet En Post) $ move ! (6 ∷ 7 ∷ 4 ∷ 5 ∷ 2 ∷ 3 ∷ 0 ∷ 1 ∷ 11 ∷ 9 ∷ 10 ∷ 8 ∷ 12 ∷ 13 ∷ 14 ∷ 15 ∷ 16 ∷ 17 ∷ 18 ∷ 19 ∷ 20 ∷ 21 ∷ 22 ∷ 23 ∷ 24 ∷ 25 ∷ 26 ∷ 27 ∷ 28 ∷ 29 ∷ 30 ∷ 31 ∷ 32 ∷ 33 ∷ 34 ∷ 35 ∷ 36 ∷ 37 ∷ 38 ∷ 39 ∷ 40 ∷ 41 ∷ 42 ∷ 43 ∷ 44 ∷ 45 ∷ 46 ∷ 47 ∷ 48 ∷ 49 ∷ 50 ∷ 51 ∷ 52 ∷ 53 ∷ 54 ∷ 55 ∷ []) $
+        part-5-1 is-2 c-4 asks-4·no·9 len-4·no·9-sessions len-4·no·9-streams len-4·no·9-objects len-4·no·9-held is-4·no·9)))))))))))))))))
 
   module _ (𝓣 : Tables 𝓤 H) (known-process-is-roomy : Triple 𝓤 (𝓣 .C #process-is-roomy) (Of-process-is-roomy 𝓤 H A mem run)) (known-dry-dry : Triple 𝓤 (𝓣 .C #dry-dry) (Of-dry-dry 𝓤 H A mem run)) where
-    walk : ent 𝓤 (onEntry 𝓤 H A f.signature (κ₁, (κ₂, (κ₃, (κ₄, (κ₅, tt))))) (q₁, (q₂, (q₃, (q₄, (q₅, tt))))) x at) (WpFn 𝓤 H (𝓣 .C) (𝓣 .Λ) code.function (sliceVal (b₁, o₁) n₁ ∷ sliceVal (b₂, o₂) n₂ ∷ sliceVal (b₃, o₃) n₃ ∷ sliceVal (b₄, o₄) n₄ ∷ sliceVal (b₅, o₅) n₅ ∷ Start-p .val start ∷ u64-p .val n′ ∷ u64-p .val room ∷ []) Post)
+    walk : ent 𝓤 (onEntry 𝓤 H A f.signature (κ₁, (κ₂, (κ₃, (κ₄, (κ₅, (κ₆, tt)))))) (q₁, (q₂, (q₃, (q₄, (q₅, (q₆, tt)))))) x at) (WpFn 𝓤 H (𝓣 .C) (𝓣 .Λ) code.function (sliceVal (b₁, o₁) n₁ ∷ sliceVal (b₂, o₂) n₂ ∷ sliceVal (b₃, o₃) n₃ ∷ sliceVal (b₄, o₄) n₄ ∷ sliceVal (b₅, o₅) n₅ ∷ sliceVal (b₆, o₆) n₆ ∷ Start-p .val start ∷ u64-p .val n′ ∷ u64-p .val room ∷ []) Post)
     walk =
-        qed W ((‵ (flft κ₁ q₁) ⊛ (‵ (flft κ₂ q₂) ⊛ (‵ (flft κ₃ q₃) ⊛ (‵ (flft κ₄ q₄) ⊛ (‵ (flft κ₅ q₅) ⊛ ‵ ftrue))))) ∷ ‵ (owns (MutSlice (named 0) κ₁ (Array u64 5) ∷ MutSlice (named 1) κ₂ (Array u16 35) ∷ MutSlice (named 2) κ₃ Object-t.the-row ∷ ShrSlice (named 3) κ₄ u8 ∷ ShrSlice (named 4) κ₅ u8 ∷ Start-p .row ∷ u64-p .row ∷ u64-p .row ∷ []) x at) ∷ []) ∵ enter ! (𝓣 .C) (𝓣 .Λ) code.function (sliceVal (b₁, o₁) n₁ ∷ sliceVal (b₂, o₂) n₂ ∷ sliceVal (b₃, o₃) n₃ ∷ sliceVal (b₄, o₄) n₄ ∷ sliceVal (b₅, o₅) n₅ ∷ Start-p .val start ∷ u64-p .val n′ ∷ u64-p .val room ∷ []) _ $
-        alloc1 ! (λ l₀. alloc1 ! (λ l₁. alloc1 ! (λ l₂. alloc1 ! (λ l₃. alloc1 ! (λ l₄. alloc1 ! (λ l₅. alloc1 ! (λ l₆. alloc1 ! (λ l₇. alloc1 ! (λ l₈. alloc1 ! (λ l₉. alloc1 ! (λ l₁₀. alloc1 ! (λ l₁₁. alloc1 ! (λ l₁₂. alloc1 ! (λ l₁₃. alloc1 ! (λ l₁₄. alloc1 ! (λ l₁₅. alloc1 ! (λ l₁₆. alloc1 ! (λ l₁₇. alloc1 ! (λ l₁₈. alloc0 ! $ params1 ! $ pass1 ! (init ! 34 refl (tt, (tt, (record { fits = room₁ .0 }, tt)))) $ pass1 ! (init ! 32 refl (tt, (tt, (record { fits = room₂ .0 }, tt)))) $ pass1 ! (init ! 30 refl (tt, (tt, (record { fits = room₃ .0 }, tt)))) $ pass1 ! (init ! 28 refl (tt, (tt, (record { fits = room₄ .0 }, tt)))) $ pass1 ! (init ! 26 refl (tt, (tt, (record { fits = room₅ .0 }, tt)))) $ pass1 ! (init ! 24 refl (Start-p .typed 𝓤 H A W start start-is)) $ pass1 ! (init ! 22 refl (u64-p .typed 𝓤 H A W n′ n′-is)) $ pass1 ! (init ! 20 refl (u64-p .typed 𝓤 H A W room room-is)) $ pass0 ! $ move ! (39 ∷ []) $ fsplit ! $ move ! (1 ∷ []) $ fsplit ! $ move ! (1 ∷ []) $ fsplit ! $ move ! (1 ∷ []) $ fsplit ! $ move ! (1 ∷ []) $ fsplit ! $ move ! (44 ∷ []) $ split ! $ move ! (1 ∷ []) $ split ! $ move ! (1 ∷ []) $ split ! $ move ! (1 ∷ []) $ split ! $ move ! (1 ∷ []) $ split ! $ move ! (1 ∷ []) $ drop ! $ move ! (6 ∷ []) $ drop ! $ move ! (9 ∷ 4 ∷ 8 ∷ 3 ∷ 7 ∷ 2 ∷ 6 ∷ 1 ∷ 5 ∷ 0 ∷ 10 ∷ 11 ∷ 12 ∷ 13 ∷ 14 ∷ 15 ∷ 16 ∷ 17 ∷ 18 ∷ 19 ∷ 20 ∷ 21 ∷ 22 ∷ 23 ∷ 24 ∷ 25 ∷ 26 ∷ 27 ∷ 28 ∷ 29 ∷ 30 ∷ 31 ∷ 32 ∷ 33 ∷ 34 ∷ 35 ∷ 36 ∷ 37 ∷ 38 ∷ 39 ∷ 40 ∷ 41 ∷ 42 ∷ 43 ∷ 44 ∷ 45 ∷ 46 ∷ 47 ∷ []) $
-        begins 𝓣 known-process-is-roomy known-dry-dry l₀ l₁ l₂ l₃ l₄ l₅ l₆ l₇ l₈ l₉ l₁₀ l₁₁ l₁₂ l₁₃ l₁₄ l₁₅ l₁₆ l₁₇ l₁₈)))))))))))))))))))
+        qed W ((‵ (flft κ₁ q₁) ⊛ (‵ (flft κ₂ q₂) ⊛ (‵ (flft κ₃ q₃) ⊛ (‵ (flft κ₄ q₄) ⊛ (‵ (flft κ₅ q₅) ⊛ (‵ (flft κ₆ q₆) ⊛ ‵ ftrue)))))) ∷ ‵ (owns (MutSlice (named 0) κ₁ (Array u64 6) ∷ MutSlice (named 1) κ₂ (Array u16 35) ∷ MutSlice (named 2) κ₃ Object-t.the-row ∷ MutSlice (named 3) κ₄ u8 ∷ ShrSlice (named 4) κ₅ u8 ∷ ShrSlice (named 5) κ₆ u8 ∷ Start-p .row ∷ u64-p .row ∷ u64-p .row ∷ []) x at) ∷ []) ∵ enter ! (𝓣 .C) (𝓣 .Λ) code.function (sliceVal (b₁, o₁) n₁ ∷ sliceVal (b₂, o₂) n₂ ∷ sliceVal (b₃, o₃) n₃ ∷ sliceVal (b₄, o₄) n₄ ∷ sliceVal (b₅, o₅) n₅ ∷ sliceVal (b₆, o₆) n₆ ∷ Start-p .val start ∷ u64-p .val n′ ∷ u64-p .val room ∷ []) _ $
+        alloc1 ! (λ l₀. alloc1 ! (λ l₁. alloc1 ! (λ l₂. alloc1 ! (λ l₃. alloc1 ! (λ l₄. alloc1 ! (λ l₅. alloc1 ! (λ l₆. alloc1 ! (λ l₇. alloc1 ! (λ l₈. alloc1 ! (λ l₉. alloc1 ! (λ l₁₀. alloc1 ! (λ l₁₁. alloc1 ! (λ l₁₂. alloc1 ! (λ l₁₃. alloc1 ! (λ l₁₄. alloc1 ! (λ l₁₅. alloc1 ! (λ l₁₆. alloc1 ! (λ l₁₇. alloc1 ! (λ l₁₈. alloc1 ! (λ l₁₉. alloc1 ! (λ l₂₀. alloc1 ! (λ l₂₁. alloc0 ! $ params1 ! $ pass1 ! (init ! 40 refl (tt, (tt, (record { fits = room₁ .0 }, tt)))) $ pass1 ! (init ! 38 refl (tt, (tt, (record { fits = room₂ .0 }, tt)))) $ pass1 ! (init ! 36 refl (tt, (tt, (record { fits = room₃ .0 }, tt)))) $ pass1 ! (init ! 34 refl (tt, (tt, (record { fits = room₄ .0 }, tt)))) $ pass1 ! (init ! 32 refl (tt, (tt, (record { fits = room₅ .0 }, tt)))) $ pass1 ! (init ! 30 refl (tt, (tt, (record { fits = room₆ .0 }, tt)))) $ pass1 ! (init ! 28 refl (Start-p .typed 𝓤 H A W start start-is)) $ pass1 ! (init ! 26 refl (u64-p .typed 𝓤 H A W n′ n′-is)) $ pass1 ! (init ! 24 refl (u64-p .typed 𝓤 H A W room room-is)) $ pass0 ! $ move ! (45 ∷ []) $ fsplit ! $ move ! (1 ∷ []) $ fsplit ! $ move ! (1 ∷ []) $ fsplit ! $ move ! (1 ∷ []) $ fsplit ! $ move ! (1 ∷ []) $ fsplit ! $ move ! (1 ∷ []) $ fsplit ! $ move ! (51 ∷ []) $ split ! $ move ! (1 ∷ []) $ split ! $ move ! (1 ∷ []) $ split ! $ move ! (1 ∷ []) $ split ! $ move ! (1 ∷ []) $ split ! $ move ! (1 ∷ []) $ split ! $ move ! (1 ∷ []) $ drop ! $ move ! (7 ∷ []) $ drop ! $ move ! (11 ∷ 5 ∷ 10 ∷ 4 ∷ 9 ∷ 3 ∷ 8 ∷ 2 ∷ 7 ∷ 1 ∷ 6 ∷ 0 ∷ 12 ∷ 13 ∷ 14 ∷ 15 ∷ 16 ∷ 17 ∷ 18 ∷ 19 ∷ 20 ∷ 21 ∷ 22 ∷ 23 ∷ 24 ∷ 25 ∷ 26 ∷ 27 ∷ 28 ∷ 29 ∷ 30 ∷ 31 ∷ 32 ∷ 33 ∷ 34 ∷ 35 ∷ 36 ∷ 37 ∷ 38 ∷ 39 ∷ 40 ∷ 41 ∷ 42 ∷ 43 ∷ 44 ∷ 45 ∷ 46 ∷ 47 ∷ 48 ∷ 49 ∷ 50 ∷ 51 ∷ 52 ∷ 53 ∷ 54 ∷ 55 ∷ []) $
+        begins 𝓣 known-process-is-roomy known-dry-dry l₀ l₁ l₂ l₃ l₄ l₅ l₆ l₇ l₈ l₉ l₁₀ l₁₁ l₁₂ l₁₃ l₁₄ l₁₅ l₁₆ l₁₇ l₁₈ l₁₉ l₂₀ l₂₁))))))))))))))))))))))
 
 module _ {M : Type 1} (𝓤 : URA M) (H : Heap 𝓤) (A : Atoms 𝓤) (W : Given 𝓤 H A) (mem : Memory → SProp 𝓤) (run : Routine → Fun 𝓤) (𝓣 : Tables 𝓤 H) (known-process-is-roomy : Triple 𝓤 (𝓣 .C #process-is-roomy) (Of-process-is-roomy 𝓤 H A mem run)) (known-dry-dry : Triple 𝓤 (𝓣 .C #dry-dry) (Of-dry-dry 𝓤 H A mem run)) where
   walks : Walks 𝓤 H A f.ended stayed (WpFn 𝓤 H (𝓣 .C) (𝓣 .Λ) code.function) (f.clauses 𝓤 H A mem run)
-  walks = walked 𝓤 H A f.ended stayed (f.clauses 𝓤 H A mem run) (WpFn 𝓤 H (𝓣 .C) (𝓣 .Λ) code.function) (λ κs. (slice-vals, (slice-vals, (slice-vals, (slice-vals, (slice-vals, ((λ y. Start-p .val y ∷ []), ((λ y. u64-p .val y ∷ []), ((λ y. u64-p .val y ∷ []), tt))))))))) (λ κs. (mut-slice-tells (named 0) (κs .0) (Array u64 5), (mut-slice-tells (named 1) (κs .1 .0) (Array u16 35), (mut-slice-tells (named 2) (κs .1 .1 .0) Object-t.the-row, (shr-slice-tells (named 3) (κs .1 .1 .1 .0) u8, (shr-slice-tells (named 4) (κs .1 .1 .1 .1 .0) u8, (Start-p .tells, (u64-p .tells, (u64-p .tells, tt)))))))))
-      (λ κs qs bounds a g are. needs 𝓤 _ _ (λ within. walk 𝓤 H A W mem run (κs .0) (qs .0) (a .0 .ptr .0) (a .0 .ptr .1) (a .0 .name) (a .0 .now) (κs .1 .0) (qs .1 .0) (a .1 .0 .ptr .0) (a .1 .0 .ptr .1) (a .1 .0 .name) (a .1 .0 .now) (κs .1 .1 .0) (qs .1 .1 .0) (a .1 .1 .0 .ptr .0) (a .1 .1 .0 .ptr .1) (a .1 .1 .0 .name) (a .1 .1 .0 .now) (κs .1 .1 .1 .0) (qs .1 .1 .1 .0) (a .1 .1 .1 .0 .ptr .0) (a .1 .1 .1 .0 .ptr .1) (a .1 .1 .1 .0 .name) (a .1 .1 .1 .0 .now) (κs .1 .1 .1 .1 .0) (qs .1 .1 .1 .1 .0) (a .1 .1 .1 .1 .0 .ptr .0) (a .1 .1 .1 .1 .0 .ptr .1) (a .1 .1 .1 .1 .0 .name) (a .1 .1 .1 .1 .0 .now) (a .1 .1 .1 .1 .1 .0) (a .1 .1 .1 .1 .1 .1 .0) (a .1 .1 .1 .1 .1 .1 .1 .0) (are .0 .0 .1) (are .1 .0 .0 .1) (are .1 .1 .0 .0 .1) (are .1 .1 .1 .0 .0 .1) (are .1 .1 .1 .1 .0 .0 .1) (are .1 .1 .1 .1 .1 .0) (are .1 .1 .1 .1 .1 .1 .0) (are .1 .1 .1 .1 .1 .1 .1 .0) within 𝓣 known-process-is-roomy known-dry-dry))
+  walks = walked 𝓤 H A f.ended stayed (f.clauses 𝓤 H A mem run) (WpFn 𝓤 H (𝓣 .C) (𝓣 .Λ) code.function) (λ κs. (slice-vals, (slice-vals, (slice-vals, (slice-vals, (slice-vals, (slice-vals, ((λ y. Start-p .val y ∷ []), ((λ y. u64-p .val y ∷ []), ((λ y. u64-p .val y ∷ []), tt)))))))))) (λ κs. (mut-slice-tells (named 0) (κs .0) (Array u64 6), (mut-slice-tells (named 1) (κs .1 .0) (Array u16 35), (mut-slice-tells (named 2) (κs .1 .1 .0) Object-t.the-row, (mut-slice-tells (named 3) (κs .1 .1 .1 .0) u8, (shr-slice-tells (named 4) (κs .1 .1 .1 .1 .0) u8, (shr-slice-tells (named 5) (κs .1 .1 .1 .1 .1 .0) u8, (Start-p .tells, (u64-p .tells, (u64-p .tells, tt))))))))))
+      (λ κs qs bounds a g are. needs 𝓤 _ _ (λ within. walk 𝓤 H A W mem run (κs .0) (qs .0) (a .0 .ptr .0) (a .0 .ptr .1) (a .0 .name) (a .0 .now) (κs .1 .0) (qs .1 .0) (a .1 .0 .ptr .0) (a .1 .0 .ptr .1) (a .1 .0 .name) (a .1 .0 .now) (κs .1 .1 .0) (qs .1 .1 .0) (a .1 .1 .0 .ptr .0) (a .1 .1 .0 .ptr .1) (a .1 .1 .0 .name) (a .1 .1 .0 .now) (κs .1 .1 .1 .0) (qs .1 .1 .1 .0) (a .1 .1 .1 .0 .ptr .0) (a .1 .1 .1 .0 .ptr .1) (a .1 .1 .1 .0 .name) (a .1 .1 .1 .0 .now) (κs .1 .1 .1 .1 .0) (qs .1 .1 .1 .1 .0) (a .1 .1 .1 .1 .0 .ptr .0) (a .1 .1 .1 .1 .0 .ptr .1) (a .1 .1 .1 .1 .0 .name) (a .1 .1 .1 .1 .0 .now) (κs .1 .1 .1 .1 .1 .0) (qs .1 .1 .1 .1 .1 .0) (a .1 .1 .1 .1 .1 .0 .ptr .0) (a .1 .1 .1 .1 .1 .0 .ptr .1) (a .1 .1 .1 .1 .1 .0 .name) (a .1 .1 .1 .1 .1 .0 .now) (a .1 .1 .1 .1 .1 .1 .0) (a .1 .1 .1 .1 .1 .1 .1 .0) (a .1 .1 .1 .1 .1 .1 .1 .1 .0) (are .0 .0 .1) (are .1 .0 .0 .1) (are .1 .1 .0 .0 .1) (are .1 .1 .1 .0 .0 .1) (are .1 .1 .1 .1 .0 .0 .1) (are .1 .1 .1 .1 .1 .0 .0 .1) (are .1 .1 .1 .1 .1 .1 .0) (are .1 .1 .1 .1 .1 .1 .1 .0) (are .1 .1 .1 .1 .1 .1 .1 .1 .0) within 𝓣 known-process-is-roomy known-dry-dry))
 
   meets : Meets 𝓤 H A f.signature (WpFn 𝓤 H (𝓣 .C) (𝓣 .Λ) code.function) (f.spec 𝓤 H A mem run)
-  meets = walk-meets 𝓤 H A f.ended stayed W (goes-slice 𝓤 H A W 5 0 tt (plain (λ _. (Array u64 5))), (goes-slice 𝓤 H A W 5 1 tt (plain (λ _. (Array u16 35))), (goes-slice 𝓤 H A W 5 2 tt (plain (λ _. Object-t.the-row)), (goes-none-slice 𝓤 H A W 5 (3 ∷ []) tt (plain (λ _. u8)) yes, (goes-none-slice 𝓤 H A W 5 (4 ∷ []) tt (plain (λ _. u8)) yes, (goes-none 𝓤 H A W 5 (λ _. Start-p .row) yes (λ κs x f. refl), (goes-none 𝓤 H A W 5 (λ _. u64-p .row) yes (λ κs x f. refl), (goes-none 𝓤 H A W 5 (λ _. u64-p .row) yes (λ κs x f. refl), tt)))))))) (f.clauses 𝓤 H A mem run) (WpFn 𝓤 H (𝓣 .C) (𝓣 .Λ) code.function) (WpFn-mono 𝓤 H (W .laws) 𝓣 code.function) walks
+  meets = walk-meets 𝓤 H A f.ended stayed W (goes-slice 𝓤 H A W 6 0 tt (plain (λ _. (Array u64 6))), (goes-slice 𝓤 H A W 6 1 tt (plain (λ _. (Array u16 35))), (goes-slice 𝓤 H A W 6 2 tt (plain (λ _. Object-t.the-row)), (goes-slice 𝓤 H A W 6 3 tt (plain (λ _. u8)), (goes-none-slice 𝓤 H A W 6 (4 ∷ []) tt (plain (λ _. u8)) yes, (goes-none-slice 𝓤 H A W 6 (5 ∷ []) tt (plain (λ _. u8)) yes, (goes-none 𝓤 H A W 6 (λ _. Start-p .row) yes (λ κs x f. refl), (goes-none 𝓤 H A W 6 (λ _. u64-p .row) yes (λ κs x f. refl), (goes-none 𝓤 H A W 6 (λ _. u64-p .row) yes (λ κs x f. refl), tt))))))))) (f.clauses 𝓤 H A mem run) (WpFn 𝓤 H (𝓣 .C) (𝓣 .Λ) code.function) (WpFn-mono 𝓤 H (W .laws) 𝓣 code.function) walks
 
 pub needed-spec : {M : Type 1} → stated.statement M
 unfolding code.routine tablesOf

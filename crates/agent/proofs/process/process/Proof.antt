@@ -52,10 +52,11 @@ use Rattle.walk.proofs.Steps.{past, one, yes-of, no-of, in-block, arm-of, holds
 use borrow.Rule.Slice.PartMut.{midOf, putMid}
 use Rattle.walk.proofs.Parts.{part-len, lends-part, backs-part, parts-shr}
 use Rattle.walk.proofs.Arrays.{rep-is, lends-array, backs-array}
-use Rattle.moves.specs.Rows.{lent}
-use Rattle.agent.specs.Host.{outcomeOf, waitsOf, finishedOf, refusedOf, answerMost, firstMost, roomy, neededOf, resumesFit, performed, finish, processOf}
+use Rattle.codec.specs.Bytes.{wordAt}
+use Rattle.agent.specs.Lent.{lent}
+use Rattle.agent.specs.Host.{outcomeOf, waitsOf, finishedOf, refusedOf, answerMost, firstMost, roomy, asksAgain, acknacksIn, asksIn, neededOf, resumesFit, performed, finish, processOf}
 use Rattle.sessions.specs.Limits.{limitsOf}
-use Rattle.agent.specs.Judge.{answersOf, idleTurn, busyTurn, turnOf, sessionOf, recordSound, soundOf, tooLong, datagramStart, answerStart, datagramJudged, restJudged, answerJudged, judgedBy, judgeOf, partsOf}
+use Rattle.agent.specs.Judge.{answersOf, idleTurn, busyTurn, turnOf, sessionOf, streamOf, recordSound, soundOf, tooLong, sampleSlot, answerSlot, slotOf, placedJudged, datagramStart, answerStart, datagramJudged, restJudged, answerJudged, judgedBy, judgeOf, partsOf}
 use types.Kit.{frees, prop}
 use Rattle.sessions.specs.View.{Tables as Stores}
 use Rattle.agent.specs.Host.{Leaves, processedBy}
@@ -218,8 +219,8 @@ Start-of x0 x1 x2 x3 = record { frame = x0; next = x1; at = x2; resumes = x3 }
 abbrev Start-p : Plain
 Start-p = record { row = Start-t.the-row; val = LL.val Start-t.the-type Start-l.the-laws; tells = LL.tells Start-t.the-type Start-l.the-laws; makes = λ 𝓤 H A W. LL.makes Start-t.the-type Start-l.the-plain 𝓤 H A; ty = Start-l.mir; typed = λ 𝓤 H A W x is. LL.lawful Start-t.the-type Start-l.the-laws 𝓤 H A W .typed x _ is .0; copies = λ 𝓤 H A W. LL.copy Start-t.the-type Start-l.the-copy 𝓤 H A W }
 
-abbrev Frame-of : ℕ → ℕ → ℕ → ℕ → Frame
-Frame-of x0 x1 x2 x3 = record { «max_clients» = x0; time = x1; «session_id» = x2; «stream_id» = x3 }
+abbrev Frame-of : ℕ → ℕ → ℕ → ℕ → ℕ → Frame
+Frame-of x0 x1 x2 x3 x4 = record { «max_clients» = x0; time = x1; «session_id» = x2; «stream_id» = x3; room = x4 }
 
 abbrev Frame-p : Plain
 Frame-p = record { row = Frame-t.the-row; val = LL.val Frame-t.the-type Frame-l.the-laws; tells = LL.tells Frame-t.the-type Frame-l.the-laws; makes = λ 𝓤 H A W. LL.makes Frame-t.the-type Frame-l.the-plain 𝓤 H A; ty = Frame-l.mir; typed = λ 𝓤 H A W x is. LL.lawful Frame-t.the-type Frame-l.the-laws 𝓤 H A W .typed x _ is .0; copies = λ 𝓤 H A W. LL.copy Frame-t.the-type Frame-l.the-copy 𝓤 H A W }
@@ -237,7 +238,7 @@ abbrev Judged-p : Plain
 Judged-p = record { row = Judged-t.the-row; val = EL.val Judged-t.the-type Judged-l.the-laws; tells = EL.tells Judged-t.the-type Judged-l.the-laws; makes = λ 𝓤 H A W. EL.makes Judged-t.the-type Judged-l.the-plain 𝓤 H A; ty = Judged-l.mir; typed = λ 𝓤 H A W x is. EL.lawful Judged-t.the-type Judged-l.the-laws 𝓤 H A W tt .typed x _ is .0; copies = λ 𝓤 H A W. EL.copy Judged-t.the-type Judged-l.the-copy 𝓤 H A W }
 
 abbrev stayed : Stays (f.ended .signature .params) (f.ended .kept)
-stayed = (stay-slice (0 ∷ []) tt (plain (λ _. (Array u64 5))), (stay-slice (1 ∷ []) tt (plain (λ _. (Array u16 35))), (stay-slice (2 ∷ []) tt (plain (λ _. Object-t.the-row)), (stay-slice (3 ∷ []) tt (plain (λ _. u8)), (stay-none-slice (4 ∷ []) tt (plain (λ _. u8)) yes, (stay-none-slice (5 ∷ []) tt (plain (λ _. u8)) yes, (stay-none (λ _. Agent-p .row) yes, (stay-none (λ _. Input-p .row) yes, tt))))))))
+stayed = (stay-slice (0 ∷ []) tt (plain (λ _. (Array u64 6))), (stay-slice (1 ∷ []) tt (plain (λ _. (Array u16 35))), (stay-slice (2 ∷ []) tt (plain (λ _. Object-t.the-row)), (stay-slice (3 ∷ []) tt (plain (λ _. u8)), (stay-slice (4 ∷ []) tt (plain (λ _. u8)), (stay-none-slice (5 ∷ []) tt (plain (λ _. u8)) yes, (stay-none-slice (6 ∷ []) tt (plain (λ _. u8)) yes, (stay-none (λ _. Agent-p .row) yes, (stay-none (λ _. Input-p .row) yes, tt)))))))))
 
 module _ {M : Type 1} (𝓤 : URA M) (H : Heap 𝓤) (A : Atoms 𝓤) (mem : Memory → SProp 𝓤) (run : Routine → Fun 𝓤) where
   abbrev Of-judge-judge : Contract 𝓤
@@ -252,8 +253,8 @@ module _ {M : Type 1} (𝓤 : URA M) (H : Heap 𝓤) (A : Atoms 𝓤) (mem : Mem
   abbrev Of-process-refused : Contract 𝓤
   Of-process-refused = tripleOf 𝓤 H A process-refused.signature (process-refused.spec 𝓤 H A mem run)
 
-module _ {M : Type 1} (𝓤 : URA M) (H : Heap 𝓤) (A : Atoms 𝓤) (W : Given 𝓤 H A) (mem : Memory → SProp 𝓤) (run : Routine → Fun 𝓤) (κ₁ : Lft) (q₁ : Share) (b₁ o₁ : ℕ) (γ₁ : GName) (sessions : List (List ℕ)) (κ₂ : Lft) (q₂ : Share) (b₂ o₂ : ℕ) (γ₂ : GName) (streams : List (List ℕ)) (κ₃ : Lft) (q₃ : Share) (b₃ o₃ : ℕ) (γ₃ : GName) (objects : List Object) (κ₄ : Lft) (q₄ : Share) (b₄ o₄ : ℕ) (γ₄ : GName) (out : List ℕ) (κ₅ : Lft) (q₅ : Share) (b₅ o₅ : ℕ) (γ₅ : GName) (d : List ℕ) (κ₆ : Lft) (q₆ : Share) (b₆ o₆ : ℕ) (γ₆ : GName) (sample : List ℕ) (agent : Agent) (input : Input)
-    (room₁ : Room (Array u64 5) (length sessions)) (room₂ : Room (Array u16 35) (length streams)) (room₃ : Room Object-t.the-row (length objects)) (room₄ : Room u8 (length out)) (room₅ : Room u8 (length d)) (room₆ : Room u8 (length sample)) (agent-is : Is (Agent-p .row) agent (Agent-p .val agent ∷ [])) (input-is : Is (Input-p .row) input (Input-p .val input ∷ [])) where
+module _ {M : Type 1} (𝓤 : URA M) (H : Heap 𝓤) (A : Atoms 𝓤) (W : Given 𝓤 H A) (mem : Memory → SProp 𝓤) (run : Routine → Fun 𝓤) (κ₁ : Lft) (q₁ : Share) (b₁ o₁ : ℕ) (γ₁ : GName) (sessions : List (List ℕ)) (κ₂ : Lft) (q₂ : Share) (b₂ o₂ : ℕ) (γ₂ : GName) (streams : List (List ℕ)) (κ₃ : Lft) (q₃ : Share) (b₃ o₃ : ℕ) (γ₃ : GName) (objects : List Object) (κ₄ : Lft) (q₄ : Share) (b₄ o₄ : ℕ) (γ₄ : GName) (held : List ℕ) (κ₅ : Lft) (q₅ : Share) (b₅ o₅ : ℕ) (γ₅ : GName) (out : List ℕ) (κ₆ : Lft) (q₆ : Share) (b₆ o₆ : ℕ) (γ₆ : GName) (d : List ℕ) (κ₇ : Lft) (q₇ : Share) (b₇ o₇ : ℕ) (γ₇ : GName) (sample : List ℕ) (agent : Agent) (input : Input)
+    (room₁ : Room (Array u64 6) (length sessions)) (room₂ : Room (Array u16 35) (length streams)) (room₃ : Room Object-t.the-row (length objects)) (room₄ : Room u8 (length held)) (room₅ : Room u8 (length out)) (room₆ : Room u8 (length d)) (room₇ : Room u8 (length sample)) (agent-is : Is (Agent-p .row) agent (Agent-p .val agent ∷ [])) (input-is : Is (Input-p .row) input (Input-p .val input ∷ [])) where
   abbrev n₁ : ℕ
   n₁ = length sessions
 
@@ -264,46 +265,49 @@ module _ {M : Type 1} (𝓤 : URA M) (H : Heap 𝓤) (A : Atoms 𝓤) (W : Given
   n₃ = length objects
 
   abbrev n₄ : ℕ
-  n₄ = length out
+  n₄ = length held
 
   abbrev n₅ : ℕ
-  n₅ = length d
+  n₅ = length out
 
   abbrev n₆ : ℕ
-  n₆ = length sample
+  n₆ = length d
 
-  abbrev x : RefT (List (List ℕ)) × (RefT (List (List ℕ)) × (RefT (List Object) × (RefT (List ℕ) × (RefT (List ℕ) × (RefT (List ℕ) × (Agent-p .row .Denot × (Input-p .row .Denot × (Unit {0}))))))))
-  x = (at-list b₁ o₁ γ₁ sessions, (at-list b₂ o₂ γ₂ streams, (at-list b₃ o₃ γ₃ objects, (at-list b₄ o₄ γ₄ out, (at-list b₅ o₅ γ₅ d, (at-list b₆ o₆ γ₆ sample, (agent, (input, tt))))))))
+  abbrev n₇ : ℕ
+  n₇ = length sample
 
-  abbrev at : Vals f.signature (κ₁, (κ₂, (κ₃, (κ₄, (κ₅, (κ₆, tt))))))
-  at = (sliceVal (b₁, o₁) n₁ ∷ [], (sliceVal (b₂, o₂) n₂ ∷ [], (sliceVal (b₃, o₃) n₃ ∷ [], (sliceVal (b₄, o₄) n₄ ∷ [], (sliceVal (b₅, o₅) n₅ ∷ [], (sliceVal (b₆, o₆) n₆ ∷ [], (Agent-p .val agent ∷ [], (Input-p .val input ∷ [], tt))))))))
+  abbrev x : RefT (List (List ℕ)) × (RefT (List (List ℕ)) × (RefT (List Object) × (RefT (List ℕ) × (RefT (List ℕ) × (RefT (List ℕ) × (RefT (List ℕ) × (Agent-p .row .Denot × (Input-p .row .Denot × (Unit {0})))))))))
+  x = (at-list b₁ o₁ γ₁ sessions, (at-list b₂ o₂ γ₂ streams, (at-list b₃ o₃ γ₃ objects, (at-list b₄ o₄ γ₄ held, (at-list b₅ o₅ γ₅ out, (at-list b₆ o₆ γ₆ d, (at-list b₇ o₇ γ₇ sample, (agent, (input, tt)))))))))
+
+  abbrev at : Vals f.signature (κ₁, (κ₂, (κ₃, (κ₄, (κ₅, (κ₆, (κ₇, tt)))))))
+  at = (sliceVal (b₁, o₁) n₁ ∷ [], (sliceVal (b₂, o₂) n₂ ∷ [], (sliceVal (b₃, o₃) n₃ ∷ [], (sliceVal (b₄, o₄) n₄ ∷ [], (sliceVal (b₅, o₅) n₅ ∷ [], (sliceVal (b₆, o₆) n₆ ∷ [], (sliceVal (b₇, o₇) n₇ ∷ [], (Agent-p .val agent ∷ [], (Input-p .val input ∷ [], tt)))))))))
 
   abbrev Post : Val → SProp 𝓤
-  Post = walkOf 𝓤 H A f.ended stayed (f.clauses 𝓤 H A mem run) .post (((κ₁, (κ₂, (κ₃, (κ₄, (κ₅, (κ₆, tt)))))), (q₁, (q₂, (q₃, (q₄, (q₅, (q₆, tt)))))), tt, x, at), tt)
+  Post = walkOf 𝓤 H A f.ended stayed (f.clauses 𝓤 H A mem run) .post (((κ₁, (κ₂, (κ₃, (κ₄, (κ₅, (κ₆, (κ₇, tt))))))), (q₁, (q₂, (q₃, (q₄, (q₅, (q₆, (q₇, tt))))))), tt, x, at), tt)
 
   abbrev tables-lent : Stores
-  tables-lent = lent sessions streams objects
+  tables-lent = lent sessions streams objects held
 
   abbrev judged : Judged
-  judged = judgeOf tables-lent d agent input (length sample)
+  judged = judgeOf tables-lent d agent input (length sample) (length out)
 
-  let-through : partsOf judged .goes ≡ true → Sound tables-lent d (length sample) (partsOf judged .start) (partsOf judged .count)
-  let-through c = judged-goes tables-lent d agent (length sample) input (partsOf judged .start) (partsOf judged .count) (goes-is judged c)
+  let-through : partsOf judged .goes ≡ true → Sound tables-lent d (length sample) (length out) (partsOf judged .start) (partsOf judged .count)
+  let-through c = judged-goes tables-lent d agent (length sample) (length out) input (partsOf judged .start) (partsOf judged .count) (goes-is judged c)
 
   leaves : (j : Judged) → judged ≡ j → processedBy j agent tables-lent out d sample ≡ processOf agent tables-lent out d sample input
   leaves j e = process-by agent tables-lent out d sample input j e
 
-  exits : (r : Processed) (ws₁ : List (List ℕ)) (ws₂ : List (List ℕ)) (ws₃ : List Object) (ws₄ : List ℕ) → ((r ≡ processOf agent (lent (sessions) (streams) (objects)) (out) (d) (sample) input .processed) × (ws₁ ≡ processOf agent (lent (sessions) (streams) (objects)) (out) (d) (sample) input .tables .sessions) × (ws₂ ≡ processOf agent (lent (sessions) (streams) (objects)) (out) (d) (sample) input .tables .streams) × (ws₃ ≡ processOf agent (lent (sessions) (streams) (objects)) (out) (d) (sample) input .tables .objects) × (ws₄ ≡ processOf agent (lent (sessions) (streams) (objects)) (out) (d) (sample) input .out)) → Is (Processed-p .row) r (Processed-p .val r ∷ []) → length ws₁ ≡ n₁ → length ws₂ ≡ n₂ → length ws₃ ≡ n₃ → length ws₄ ≡ n₄ → ent 𝓤 (⋆ 𝓤 H A (‵ (MutSlice (named 0) κ₁ (Array u64 5) .own (at-list b₁ o₁ γ₁ ws₁) (sliceVal (b₁, o₁) n₁ ∷ [])) ∷ ‵ (flft κ₁ q₁) ∷ ‵ (MutSlice (named 1) κ₂ (Array u16 35) .own (at-list b₂ o₂ γ₂ ws₂) (sliceVal (b₂, o₂) n₂ ∷ [])) ∷ ‵ (flft κ₂ q₂) ∷ ‵ (MutSlice (named 2) κ₃ Object-t.the-row .own (at-list b₃ o₃ γ₃ ws₃) (sliceVal (b₃, o₃) n₃ ∷ [])) ∷ ‵ (flft κ₃ q₃) ∷ ‵ (MutSlice (named 3) κ₄ u8 .own (at-list b₄ o₄ γ₄ ws₄) (sliceVal (b₄, o₄) n₄ ∷ [])) ∷ ‵ (flft κ₄ q₄) ∷ ‵ (ShrSlice (named 4) κ₅ u8 .own (at-list b₅ o₅ γ₅ d) (sliceVal (b₅, o₅) n₅ ∷ [])) ∷ ‵ (flft κ₅ q₅) ∷ ‵ (ShrSlice (named 5) κ₆ u8 .own (at-list b₆ o₆ γ₆ sample) (sliceVal (b₆, o₆) n₆ ∷ [])) ∷ ‵ (flft κ₆ q₆) ∷ [])) (Post (Processed-p .val r))
-  exits r ws₁ ws₂ ws₃ ws₄ said r-is len₁ len₂ len₃ len₄ =
-      qed W (‵ (MutSlice (named 0) κ₁ (Array u64 5) .own (at-list b₁ o₁ γ₁ ws₁) (sliceVal (b₁, o₁) n₁ ∷ [])) ∷ ‵ (flft κ₁ q₁) ∷ ‵ (MutSlice (named 1) κ₂ (Array u16 35) .own (at-list b₂ o₂ γ₂ ws₂) (sliceVal (b₂, o₂) n₂ ∷ [])) ∷ ‵ (flft κ₂ q₂) ∷ ‵ (MutSlice (named 2) κ₃ Object-t.the-row .own (at-list b₃ o₃ γ₃ ws₃) (sliceVal (b₃, o₃) n₃ ∷ [])) ∷ ‵ (flft κ₃ q₃) ∷ ‵ (MutSlice (named 3) κ₄ u8 .own (at-list b₄ o₄ γ₄ ws₄) (sliceVal (b₄, o₄) n₄ ∷ [])) ∷ ‵ (flft κ₄ q₄) ∷ ‵ (ShrSlice (named 4) κ₅ u8 .own (at-list b₅ o₅ γ₅ d) (sliceVal (b₅, o₅) n₅ ∷ [])) ∷ ‵ (flft κ₅ q₅) ∷ ‵ (ShrSlice (named 5) κ₆ u8 .own (at-list b₆ o₆ γ₆ sample) (sliceVal (b₆, o₆) n₆ ∷ [])) ∷ ‵ (flft κ₆ q₆) ∷ []) ∵
-      suffices ! _ (ends-at 𝓤 H A f.ended stayed (f.clauses 𝓤 H A mem run) W (((κ₁, (κ₂, (κ₃, (κ₄, (κ₅, (κ₆, tt)))))), (q₁, (q₂, (q₃, (q₄, (q₅, (q₆, tt)))))), tt, x, at), tt) (Processed-p .val r) r (ws₁, (ws₂, (ws₃, (ws₄, (tt, (tt, (tt, (tt, tt)))))))) (len₁, (len₂, (len₃, (len₄, (tt, (tt, (tt, (tt, tt))))))))) $ says ! said $ nothing ! $ move ! (12 ∷ 0 ∷ []) $ join ! $ move ! (10 ∷ 0 ∷ []) $ join ! $ move ! (8 ∷ 0 ∷ []) $ join ! $ move ! (6 ∷ 0 ∷ []) $ join ! $ move ! (4 ∷ 0 ∷ []) $ join ! $ move ! (2 ∷ 0 ∷ []) $ join ! $
+  exits : (r : Processed) (ws₁ : List (List ℕ)) (ws₂ : List (List ℕ)) (ws₃ : List Object) (ws₄ : List ℕ) (ws₅ : List ℕ) → ((r ≡ processOf agent (lent (sessions) (streams) (objects) (held)) (out) (d) (sample) input .processed) × (ws₁ ≡ processOf agent (lent (sessions) (streams) (objects) (held)) (out) (d) (sample) input .tables .sessions) × (ws₂ ≡ processOf agent (lent (sessions) (streams) (objects) (held)) (out) (d) (sample) input .tables .streams) × (ws₃ ≡ processOf agent (lent (sessions) (streams) (objects) (held)) (out) (d) (sample) input .tables .objects) × (ws₄ ≡ processOf agent (lent (sessions) (streams) (objects) (held)) (out) (d) (sample) input .tables .held) × (ws₅ ≡ processOf agent (lent (sessions) (streams) (objects) (held)) (out) (d) (sample) input .out)) → Is (Processed-p .row) r (Processed-p .val r ∷ []) → length ws₁ ≡ n₁ → length ws₂ ≡ n₂ → length ws₃ ≡ n₃ → length ws₄ ≡ n₄ → length ws₅ ≡ n₅ → ent 𝓤 (⋆ 𝓤 H A (‵ (MutSlice (named 0) κ₁ (Array u64 6) .own (at-list b₁ o₁ γ₁ ws₁) (sliceVal (b₁, o₁) n₁ ∷ [])) ∷ ‵ (flft κ₁ q₁) ∷ ‵ (MutSlice (named 1) κ₂ (Array u16 35) .own (at-list b₂ o₂ γ₂ ws₂) (sliceVal (b₂, o₂) n₂ ∷ [])) ∷ ‵ (flft κ₂ q₂) ∷ ‵ (MutSlice (named 2) κ₃ Object-t.the-row .own (at-list b₃ o₃ γ₃ ws₃) (sliceVal (b₃, o₃) n₃ ∷ [])) ∷ ‵ (flft κ₃ q₃) ∷ ‵ (MutSlice (named 3) κ₄ u8 .own (at-list b₄ o₄ γ₄ ws₄) (sliceVal (b₄, o₄) n₄ ∷ [])) ∷ ‵ (flft κ₄ q₄) ∷ ‵ (MutSlice (named 4) κ₅ u8 .own (at-list b₅ o₅ γ₅ ws₅) (sliceVal (b₅, o₅) n₅ ∷ [])) ∷ ‵ (flft κ₅ q₅) ∷ ‵ (ShrSlice (named 5) κ₆ u8 .own (at-list b₆ o₆ γ₆ d) (sliceVal (b₆, o₆) n₆ ∷ [])) ∷ ‵ (flft κ₆ q₆) ∷ ‵ (ShrSlice (named 6) κ₇ u8 .own (at-list b₇ o₇ γ₇ sample) (sliceVal (b₇, o₇) n₇ ∷ [])) ∷ ‵ (flft κ₇ q₇) ∷ [])) (Post (Processed-p .val r))
+  exits r ws₁ ws₂ ws₃ ws₄ ws₅ said r-is len₁ len₂ len₃ len₄ len₅ =
+      qed W (‵ (MutSlice (named 0) κ₁ (Array u64 6) .own (at-list b₁ o₁ γ₁ ws₁) (sliceVal (b₁, o₁) n₁ ∷ [])) ∷ ‵ (flft κ₁ q₁) ∷ ‵ (MutSlice (named 1) κ₂ (Array u16 35) .own (at-list b₂ o₂ γ₂ ws₂) (sliceVal (b₂, o₂) n₂ ∷ [])) ∷ ‵ (flft κ₂ q₂) ∷ ‵ (MutSlice (named 2) κ₃ Object-t.the-row .own (at-list b₃ o₃ γ₃ ws₃) (sliceVal (b₃, o₃) n₃ ∷ [])) ∷ ‵ (flft κ₃ q₃) ∷ ‵ (MutSlice (named 3) κ₄ u8 .own (at-list b₄ o₄ γ₄ ws₄) (sliceVal (b₄, o₄) n₄ ∷ [])) ∷ ‵ (flft κ₄ q₄) ∷ ‵ (MutSlice (named 4) κ₅ u8 .own (at-list b₅ o₅ γ₅ ws₅) (sliceVal (b₅, o₅) n₅ ∷ [])) ∷ ‵ (flft κ₅ q₅) ∷ ‵ (ShrSlice (named 5) κ₆ u8 .own (at-list b₆ o₆ γ₆ d) (sliceVal (b₆, o₆) n₆ ∷ [])) ∷ ‵ (flft κ₆ q₆) ∷ ‵ (ShrSlice (named 6) κ₇ u8 .own (at-list b₇ o₇ γ₇ sample) (sliceVal (b₇, o₇) n₇ ∷ [])) ∷ ‵ (flft κ₇ q₇) ∷ []) ∵
+      suffices ! _ (ends-at 𝓤 H A f.ended stayed (f.clauses 𝓤 H A mem run) W (((κ₁, (κ₂, (κ₃, (κ₄, (κ₅, (κ₆, (κ₇, tt))))))), (q₁, (q₂, (q₃, (q₄, (q₅, (q₆, (q₇, tt))))))), tt, x, at), tt) (Processed-p .val r) r (ws₁, (ws₂, (ws₃, (ws₄, (ws₅, (tt, (tt, (tt, (tt, tt))))))))) (len₁, (len₂, (len₃, (len₄, (len₅, (tt, (tt, (tt, (tt, tt)))))))))) $ says ! said $ nothing ! $ move ! (14 ∷ 0 ∷ []) $ join ! $ move ! (12 ∷ 0 ∷ []) $ join ! $ move ! (10 ∷ 0 ∷ []) $ join ! $ move ! (8 ∷ 0 ∷ []) $ join ! $ move ! (6 ∷ 0 ∷ []) $ join ! $ move ! (4 ∷ 0 ∷ []) $ join ! $ move ! (2 ∷ 0 ∷ []) $ join ! $
       frame ! $ nothing ! $
       owned ! (Input-p .row) (Is (Input-p .row)) (Input-p .makes 𝓤 H A W) input (Input-p .val input ∷ []) input-is $ fjoin ! $
-      owned ! (Agent-p .row) (Is (Agent-p .row)) (Agent-p .makes 𝓤 H A W) agent (Agent-p .val agent ∷ []) agent-is $ fjoin ! $ move ! (6 ∷ 0 ∷ []) $ fjoin ! $ move ! (5 ∷ 0 ∷ []) $ fjoin ! $ move ! (4 ∷ 0 ∷ []) $ fjoin ! $ move ! (3 ∷ 0 ∷ []) $ fjoin ! $ move ! (2 ∷ 0 ∷ []) $ fjoin ! $ move ! (1 ∷ 0 ∷ []) $ fjoin ! $
+      owned ! (Agent-p .row) (Is (Agent-p .row)) (Agent-p .makes 𝓤 H A W) agent (Agent-p .val agent ∷ []) agent-is $ fjoin ! $ move ! (7 ∷ 0 ∷ []) $ fjoin ! $ move ! (6 ∷ 0 ∷ []) $ fjoin ! $ move ! (5 ∷ 0 ∷ []) $ fjoin ! $ move ! (4 ∷ 0 ∷ []) $ fjoin ! $ move ! (3 ∷ 0 ∷ []) $ fjoin ! $ move ! (2 ∷ 0 ∷ []) $ fjoin ! $ move ! (1 ∷ 0 ∷ []) $ fjoin ! $
       frame ! $
       owned ! (Processed-p .row) (Is (Processed-p .row)) (Processed-p .makes 𝓤 H A W) r _ r-is $ done !
 
-  module _ (𝓣 : Tables 𝓤 H) (known-judge-judge : Triple 𝓤 (𝓣 .C #judge-judge) (Of-judge-judge 𝓤 H A mem run)) (known-judge-parts-of : Triple 𝓤 (𝓣 .C #judge-parts-of) (Of-judge-parts-of 𝓤 H A mem run)) (known-process-go : Triple 𝓤 (𝓣 .C #process-go) (Of-process-go 𝓤 H A mem run)) (known-process-refused : Triple 𝓤 (𝓣 .C #process-refused) (Of-process-refused 𝓤 H A mem run)) (l₀ l₁ l₂ l₃ l₄ l₅ l₆ l₇ l₈ l₉ l₁₀ l₁₁ l₁₂ l₁₃ l₁₄ l₁₅ l₁₆ l₁₇ l₁₈ l₁₉ l₂₀ l₂₁ l₂₂ l₂₃ l₂₄ l₂₅ l₂₆ l₂₇ l₂₈ l₂₉ l₃₀ : ℕ) where
+  module _ (𝓣 : Tables 𝓤 H) (known-judge-judge : Triple 𝓤 (𝓣 .C #judge-judge) (Of-judge-judge 𝓤 H A mem run)) (known-judge-parts-of : Triple 𝓤 (𝓣 .C #judge-parts-of) (Of-judge-parts-of 𝓤 H A mem run)) (known-process-go : Triple 𝓤 (𝓣 .C #process-go) (Of-process-go 𝓤 H A mem run)) (known-process-refused : Triple 𝓤 (𝓣 .C #process-refused) (Of-process-refused 𝓤 H A mem run)) (l₀ l₁ l₂ l₃ l₄ l₅ l₆ l₇ l₈ l₉ l₁₀ l₁₁ l₁₂ l₁₃ l₁₄ l₁₅ l₁₆ l₁₇ l₁₈ l₁₉ l₂₀ l₂₁ l₂₂ l₂₃ l₂₄ l₂₅ l₂₆ l₂₇ l₂₈ l₂₉ l₃₀ l₃₁ l₃₂ l₃₃ l₃₄ l₃₅ l₃₆ : ℕ) where
     abbrev C : Calls 𝓤 H
     C = 𝓣 .C
 
@@ -314,147 +318,162 @@ module _ {M : Type 1} (𝓤 : URA M) (H : Heap 𝓤) (A : Atoms 𝓤) (W : Given
     fm = fmOf 𝓤 H (W .laws) 𝓣
 
     abbrev En : Env 𝓤 H
-    En = (Processed-l.mir, l₀) ∷ ((sliceTy (tyRef (named 0) mut (pointee ((Array u64 5) .written)))), l₁) ∷ ((sliceTy (tyRef (named 1) mut (pointee ((Array u16 35) .written)))), l₂) ∷ ((sliceTy (tyRef (named 2) mut (pointee (Object-t.the-row .written)))), l₃) ∷ ((sliceTy (tyRef (named 3) mut (pointee (u8 .written)))), l₄) ∷ ((sliceTy (tyRef (named 4) imm (pointee (u8 .written)))), l₅) ∷ ((sliceTy (tyRef (named 5) imm (pointee (u8 .written)))), l₆) ∷ (Agent-l.mir, l₇) ∷ (Input-l.mir, l₈) ∷ ((tyInt w64), l₉) ∷ (Judged-l.mir, l₁₀) ∷ (Parts-l.mir, l₁₁) ∷ (Start-l.mir, l₁₂) ∷ ((tyInt w64), l₁₃) ∷ (Refusal-l.mir, l₁₄) ∷ ((tyRef erased imm (pointee ((Array u64 5) .written))), l₁₅) ∷ ((sliceTy (tyRef erased imm (pointee ((Array u64 5) .written)))), l₁₆) ∷ ((tyRef erased imm (pointee ((Array u16 35) .written))), l₁₇) ∷ ((sliceTy (tyRef erased imm (pointee ((Array u16 35) .written)))), l₁₈) ∷ ((tyRef erased imm (pointee (Object-t.the-row .written))), l₁₉) ∷ ((sliceTy (tyRef erased imm (pointee (Object-t.the-row .written)))), l₂₀) ∷ (tyBool, l₂₁) ∷ (Processed-l.mir, l₂₂) ∷ ((tyRef erased mut (pointee ((Array u64 5) .written))), l₂₃) ∷ ((sliceTy (tyRef erased mut (pointee ((Array u64 5) .written)))), l₂₄) ∷ ((tyRef erased mut (pointee ((Array u16 35) .written))), l₂₅) ∷ ((sliceTy (tyRef erased mut (pointee ((Array u16 35) .written)))), l₂₆) ∷ ((tyRef erased mut (pointee (Object-t.the-row .written))), l₂₇) ∷ ((sliceTy (tyRef erased mut (pointee (Object-t.the-row .written)))), l₂₈) ∷ ((tyRef erased mut (pointee (u8 .written))), l₂₉) ∷ ((sliceTy (tyRef erased mut (pointee (u8 .written)))), l₃₀) ∷ []
+    En = (Processed-l.mir, l₀) ∷ ((sliceTy (tyRef (named 0) mut (pointee ((Array u64 6) .written)))), l₁) ∷ ((sliceTy (tyRef (named 1) mut (pointee ((Array u16 35) .written)))), l₂) ∷ ((sliceTy (tyRef (named 2) mut (pointee (Object-t.the-row .written)))), l₃) ∷ ((sliceTy (tyRef (named 3) mut (pointee (u8 .written)))), l₄) ∷ ((sliceTy (tyRef (named 4) mut (pointee (u8 .written)))), l₅) ∷ ((sliceTy (tyRef (named 5) imm (pointee (u8 .written)))), l₆) ∷ ((sliceTy (tyRef (named 6) imm (pointee (u8 .written)))), l₇) ∷ (Agent-l.mir, l₈) ∷ (Input-l.mir, l₉) ∷ ((tyInt w64), l₁₀) ∷ ((tyInt w64), l₁₁) ∷ (Judged-l.mir, l₁₂) ∷ (Parts-l.mir, l₁₃) ∷ (Start-l.mir, l₁₄) ∷ ((tyInt w64), l₁₅) ∷ (Refusal-l.mir, l₁₆) ∷ ((tyRef erased imm (pointee ((Array u64 6) .written))), l₁₇) ∷ ((sliceTy (tyRef erased imm (pointee ((Array u64 6) .written)))), l₁₈) ∷ ((tyRef erased imm (pointee ((Array u16 35) .written))), l₁₉) ∷ ((sliceTy (tyRef erased imm (pointee ((Array u16 35) .written)))), l₂₀) ∷ ((tyRef erased imm (pointee (Object-t.the-row .written))), l₂₁) ∷ ((sliceTy (tyRef erased imm (pointee (Object-t.the-row .written)))), l₂₂) ∷ ((tyRef erased imm (pointee (u8 .written))), l₂₃) ∷ ((sliceTy (tyRef erased imm (pointee (u8 .written)))), l₂₄) ∷ (tyBool, l₂₅) ∷ (Processed-l.mir, l₂₆) ∷ ((tyRef erased mut (pointee ((Array u64 6) .written))), l₂₇) ∷ ((sliceTy (tyRef erased mut (pointee ((Array u64 6) .written)))), l₂₈) ∷ ((tyRef erased mut (pointee ((Array u16 35) .written))), l₂₉) ∷ ((sliceTy (tyRef erased mut (pointee ((Array u16 35) .written)))), l₃₀) ∷ ((tyRef erased mut (pointee (Object-t.the-row .written))), l₃₁) ∷ ((sliceTy (tyRef erased mut (pointee (Object-t.the-row .written)))), l₃₂) ∷ ((tyRef erased mut (pointee (u8 .written))), l₃₃) ∷ ((sliceTy (tyRef erased mut (pointee (u8 .written)))), l₃₄) ∷ ((tyRef erased mut (pointee (u8 .written))), l₃₅) ∷ ((sliceTy (tyRef erased mut (pointee (u8 .written)))), l₃₆) ∷ []
 
-    frees-all : (r : Processed) (ws₁ : List (List ℕ)) (ws₂ : List (List ℕ)) (ws₃ : List Object) (ws₄ : List ℕ) → ent 𝓤 (⋆ 𝓤 H A (‵ (MutSlice (named 0) κ₁ (Array u64 5) .own (at-list b₁ o₁ γ₁ ws₁) (sliceVal (b₁, o₁) n₁ ∷ [])) ∷ ‵ (flft κ₁ q₁) ∷ ‵ (MutSlice (named 1) κ₂ (Array u16 35) .own (at-list b₂ o₂ γ₂ ws₂) (sliceVal (b₂, o₂) n₂ ∷ [])) ∷ ‵ (flft κ₂ q₂) ∷ ‵ (MutSlice (named 2) κ₃ Object-t.the-row .own (at-list b₃ o₃ γ₃ ws₃) (sliceVal (b₃, o₃) n₃ ∷ [])) ∷ ‵ (flft κ₃ q₃) ∷ ‵ (MutSlice (named 3) κ₄ u8 .own (at-list b₄ o₄ γ₄ ws₄) (sliceVal (b₄, o₄) n₄ ∷ [])) ∷ ‵ (flft κ₄ q₄) ∷ ‵ (ShrSlice (named 4) κ₅ u8 .own (at-list b₅ o₅ γ₅ d) (sliceVal (b₅, o₅) n₅ ∷ [])) ∷ ‵ (flft κ₅ q₅) ∷ ‵ (ShrSlice (named 5) κ₆ u8 .own (at-list b₆ o₆ γ₆ sample) (sliceVal (b₆, o₆) n₆ ∷ [])) ∷ ‵ (flft κ₆ q₆) ∷ [])) (Post (Processed-p .val r)) → Sq W (‵ (MutSlice (named 0) κ₁ (Array u64 5) .own (at-list b₁ o₁ γ₁ ws₁) (sliceVal (b₁, o₁) n₁ ∷ [])) ∷ ‵ (flft κ₁ q₁) ∷ ‵ (MutSlice (named 0) κ₂ (Array u16 35) .own (at-list b₂ o₂ γ₂ ws₂) (sliceVal (b₂, o₂) n₂ ∷ [])) ∷ ‵ (flft κ₂ q₂) ∷ ‵ (MutSlice (named 0) κ₃ Object-t.the-row .own (at-list b₃ o₃ γ₃ ws₃) (sliceVal (b₃, o₃) n₃ ∷ [])) ∷ ‵ (flft κ₃ q₃) ∷ ‵ (MutSlice (named 0) κ₄ u8 .own (at-list b₄ o₄ γ₄ ws₄) (sliceVal (b₄, o₄) n₄ ∷ [])) ∷ ‵ (flft κ₄ q₄) ∷ ‵ (ShrSlice (named 0) κ₅ u8 .own (at-list b₅ o₅ γ₅ d) (sliceVal (b₅, o₅) n₅ ∷ [])) ∷ ‵ (flft κ₅ q₅) ∷ ‵ (ShrSlice (named 0) κ₆ u8 .own (at-list b₆ o₆ γ₆ sample) (sliceVal (b₆, o₆) n₆ ∷ [])) ∷ ‵ (flft κ₆ q₆) ∷ free 𝓤 (sliceTy (tyRef erased mut (pointee (u8 .written)))) l₃₀ (free 𝓤 (tyRef erased mut (pointee (u8 .written))) l₂₉ (free 𝓤 (sliceTy (tyRef erased mut (pointee (Object-t.the-row .written)))) l₂₈ (free 𝓤 (tyRef erased mut (pointee (Object-t.the-row .written))) l₂₇ (free 𝓤 (sliceTy (tyRef erased mut (pointee ((Array u16 35) .written)))) l₂₆ (free 𝓤 (tyRef erased mut (pointee ((Array u16 35) .written))) l₂₅ (free 𝓤 (sliceTy (tyRef erased mut (pointee ((Array u64 5) .written)))) l₂₄ (free 𝓤 (tyRef erased mut (pointee ((Array u64 5) .written))) l₂₃ (free 𝓤 Processed-l.mir l₂₂ (free 𝓤 tyBool l₂₁ (free 𝓤 (sliceTy (tyRef erased imm (pointee (Object-t.the-row .written)))) l₂₀ (free 𝓤 (tyRef erased imm (pointee (Object-t.the-row .written))) l₁₉ (free 𝓤 (sliceTy (tyRef erased imm (pointee ((Array u16 35) .written)))) l₁₈ (free 𝓤 (tyRef erased imm (pointee ((Array u16 35) .written))) l₁₇ (free 𝓤 (sliceTy (tyRef erased imm (pointee ((Array u64 5) .written)))) l₁₆ (free 𝓤 (tyRef erased imm (pointee ((Array u64 5) .written))) l₁₅ (free 𝓤 Refusal-l.mir l₁₄ (free 𝓤 (tyInt w64) l₁₃ (free 𝓤 Start-l.mir l₁₂ (free 𝓤 Parts-l.mir l₁₁ (free 𝓤 Judged-l.mir l₁₀ (free 𝓤 (tyInt w64) l₉ (full 𝓤 Input-l.mir l₈ (Input-p .val input) (full 𝓤 Agent-l.mir l₇ (Agent-p .val agent) (full 𝓤 (sliceTy (tyRef (named 5) imm (pointee (u8 .written)))) l₆ (sliceVal (b₆, o₆) n₆) (full 𝓤 (sliceTy (tyRef (named 4) imm (pointee (u8 .written)))) l₅ (sliceVal (b₅, o₅) n₅) (full 𝓤 (sliceTy (tyRef (named 3) mut (pointee (u8 .written)))) l₄ (sliceVal (b₄, o₄) n₄) (full 𝓤 (sliceTy (tyRef (named 2) mut (pointee (Object-t.the-row .written)))) l₃ (sliceVal (b₃, o₃) n₃) (full 𝓤 (sliceTy (tyRef (named 1) mut (pointee ((Array u16 35) .written)))) l₂ (sliceVal (b₂, o₂) n₂) (full 𝓤 (sliceTy (tyRef (named 0) mut (pointee ((Array u64 5) .written)))) l₁ (sliceVal (b₁, o₁) n₁) (full 𝓤 Processed-l.mir l₀ (Processed-p .val r) ([])))))))))))))))))))))))))))))))) (frees En (prop (Post (Processed-p .val r))))
-    frees-all r ws₁ ws₂ ws₃ ws₄ ends =
-        forget ! 56 refl $ forget ! 58 refl $ forget ! 60 refl $ forget ! 62 refl $ forget ! 64 refl $ forget ! 66 refl $ forget ! 68 refl $ forget ! 70 refl $ forget ! 72 refl $ move ! (72 ∷ 73 ∷ []) $ free1 ! $ move ! (70 ∷ 71 ∷ []) $ free1 ! $ move ! (68 ∷ 69 ∷ []) $ free1 ! $ move ! (66 ∷ 67 ∷ []) $ free1 ! $ move ! (64 ∷ 65 ∷ []) $ free1 ! $ move ! (62 ∷ 63 ∷ []) $ free1 ! $ move ! (60 ∷ 61 ∷ []) $ free1 ! $ move ! (58 ∷ 59 ∷ []) $ free1 ! $ move ! (56 ∷ 57 ∷ []) $ free1 ! $ move ! (54 ∷ 55 ∷ []) $ free1 ! $ move ! (52 ∷ 53 ∷ []) $ free1 ! $ move ! (50 ∷ 51 ∷ []) $ free1 ! $ move ! (48 ∷ 49 ∷ []) $ free1 ! $ move ! (46 ∷ 47 ∷ []) $ free1 ! $ move ! (44 ∷ 45 ∷ []) $ free1 ! $ move ! (42 ∷ 43 ∷ []) $ free1 ! $ move ! (40 ∷ 41 ∷ []) $ free1 ! $ move ! (38 ∷ 39 ∷ []) $ free1 ! $ move ! (36 ∷ 37 ∷ []) $ free1 ! $ move ! (34 ∷ 35 ∷ []) $ free1 ! $ move ! (32 ∷ 33 ∷ []) $ free1 ! $ move ! (30 ∷ 31 ∷ []) $ free1 ! $ move ! (28 ∷ 29 ∷ []) $ free1 ! $ move ! (26 ∷ 27 ∷ []) $ free1 ! $ move ! (24 ∷ 25 ∷ []) $ free1 ! $ move ! (22 ∷ 23 ∷ []) $ free1 ! $ move ! (20 ∷ 21 ∷ []) $ free1 ! $ move ! (18 ∷ 19 ∷ []) $ free1 ! $ move ! (16 ∷ 17 ∷ []) $ free1 ! $ move ! (14 ∷ 15 ∷ []) $ free1 ! $ move ! (12 ∷ 13 ∷ []) $ free1 ! $ free0 ! $
+    frees-all : (r : Processed) (ws₁ : List (List ℕ)) (ws₂ : List (List ℕ)) (ws₃ : List Object) (ws₄ : List ℕ) (ws₅ : List ℕ) → ent 𝓤 (⋆ 𝓤 H A (‵ (MutSlice (named 0) κ₁ (Array u64 6) .own (at-list b₁ o₁ γ₁ ws₁) (sliceVal (b₁, o₁) n₁ ∷ [])) ∷ ‵ (flft κ₁ q₁) ∷ ‵ (MutSlice (named 1) κ₂ (Array u16 35) .own (at-list b₂ o₂ γ₂ ws₂) (sliceVal (b₂, o₂) n₂ ∷ [])) ∷ ‵ (flft κ₂ q₂) ∷ ‵ (MutSlice (named 2) κ₃ Object-t.the-row .own (at-list b₃ o₃ γ₃ ws₃) (sliceVal (b₃, o₃) n₃ ∷ [])) ∷ ‵ (flft κ₃ q₃) ∷ ‵ (MutSlice (named 3) κ₄ u8 .own (at-list b₄ o₄ γ₄ ws₄) (sliceVal (b₄, o₄) n₄ ∷ [])) ∷ ‵ (flft κ₄ q₄) ∷ ‵ (MutSlice (named 4) κ₅ u8 .own (at-list b₅ o₅ γ₅ ws₅) (sliceVal (b₅, o₅) n₅ ∷ [])) ∷ ‵ (flft κ₅ q₅) ∷ ‵ (ShrSlice (named 5) κ₆ u8 .own (at-list b₆ o₆ γ₆ d) (sliceVal (b₆, o₆) n₆ ∷ [])) ∷ ‵ (flft κ₆ q₆) ∷ ‵ (ShrSlice (named 6) κ₇ u8 .own (at-list b₇ o₇ γ₇ sample) (sliceVal (b₇, o₇) n₇ ∷ [])) ∷ ‵ (flft κ₇ q₇) ∷ [])) (Post (Processed-p .val r)) → Sq W (‵ (MutSlice (named 0) κ₁ (Array u64 6) .own (at-list b₁ o₁ γ₁ ws₁) (sliceVal (b₁, o₁) n₁ ∷ [])) ∷ ‵ (flft κ₁ q₁) ∷ ‵ (MutSlice (named 0) κ₂ (Array u16 35) .own (at-list b₂ o₂ γ₂ ws₂) (sliceVal (b₂, o₂) n₂ ∷ [])) ∷ ‵ (flft κ₂ q₂) ∷ ‵ (MutSlice (named 0) κ₃ Object-t.the-row .own (at-list b₃ o₃ γ₃ ws₃) (sliceVal (b₃, o₃) n₃ ∷ [])) ∷ ‵ (flft κ₃ q₃) ∷ ‵ (MutSlice (named 0) κ₄ u8 .own (at-list b₄ o₄ γ₄ ws₄) (sliceVal (b₄, o₄) n₄ ∷ [])) ∷ ‵ (flft κ₄ q₄) ∷ ‵ (MutSlice (named 0) κ₅ u8 .own (at-list b₅ o₅ γ₅ ws₅) (sliceVal (b₅, o₅) n₅ ∷ [])) ∷ ‵ (flft κ₅ q₅) ∷ ‵ (ShrSlice (named 0) κ₆ u8 .own (at-list b₆ o₆ γ₆ d) (sliceVal (b₆, o₆) n₆ ∷ [])) ∷ ‵ (flft κ₆ q₆) ∷ ‵ (ShrSlice (named 0) κ₇ u8 .own (at-list b₇ o₇ γ₇ sample) (sliceVal (b₇, o₇) n₇ ∷ [])) ∷ ‵ (flft κ₇ q₇) ∷ free 𝓤 (sliceTy (tyRef erased mut (pointee (u8 .written)))) l₃₆ (free 𝓤 (tyRef erased mut (pointee (u8 .written))) l₃₅ (free 𝓤 (sliceTy (tyRef erased mut (pointee (u8 .written)))) l₃₄ (free 𝓤 (tyRef erased mut (pointee (u8 .written))) l₃₃ (free 𝓤 (sliceTy (tyRef erased mut (pointee (Object-t.the-row .written)))) l₃₂ (free 𝓤 (tyRef erased mut (pointee (Object-t.the-row .written))) l₃₁ (free 𝓤 (sliceTy (tyRef erased mut (pointee ((Array u16 35) .written)))) l₃₀ (free 𝓤 (tyRef erased mut (pointee ((Array u16 35) .written))) l₂₉ (free 𝓤 (sliceTy (tyRef erased mut (pointee ((Array u64 6) .written)))) l₂₈ (free 𝓤 (tyRef erased mut (pointee ((Array u64 6) .written))) l₂₇ (free 𝓤 Processed-l.mir l₂₆ (free 𝓤 tyBool l₂₅ (free 𝓤 (sliceTy (tyRef erased imm (pointee (u8 .written)))) l₂₄ (free 𝓤 (tyRef erased imm (pointee (u8 .written))) l₂₃ (free 𝓤 (sliceTy (tyRef erased imm (pointee (Object-t.the-row .written)))) l₂₂ (free 𝓤 (tyRef erased imm (pointee (Object-t.the-row .written))) l₂₁ (free 𝓤 (sliceTy (tyRef erased imm (pointee ((Array u16 35) .written)))) l₂₀ (free 𝓤 (tyRef erased imm (pointee ((Array u16 35) .written))) l₁₉ (free 𝓤 (sliceTy (tyRef erased imm (pointee ((Array u64 6) .written)))) l₁₈ (free 𝓤 (tyRef erased imm (pointee ((Array u64 6) .written))) l₁₇ (free 𝓤 Refusal-l.mir l₁₆ (free 𝓤 (tyInt w64) l₁₅ (free 𝓤 Start-l.mir l₁₄ (free 𝓤 Parts-l.mir l₁₃ (free 𝓤 Judged-l.mir l₁₂ (free 𝓤 (tyInt w64) l₁₁ (free 𝓤 (tyInt w64) l₁₀ (full 𝓤 Input-l.mir l₉ (Input-p .val input) (full 𝓤 Agent-l.mir l₈ (Agent-p .val agent) (full 𝓤 (sliceTy (tyRef (named 6) imm (pointee (u8 .written)))) l₇ (sliceVal (b₇, o₇) n₇) (full 𝓤 (sliceTy (tyRef (named 5) imm (pointee (u8 .written)))) l₆ (sliceVal (b₆, o₆) n₆) (full 𝓤 (sliceTy (tyRef (named 4) mut (pointee (u8 .written)))) l₅ (sliceVal (b₅, o₅) n₅) (full 𝓤 (sliceTy (tyRef (named 3) mut (pointee (u8 .written)))) l₄ (sliceVal (b₄, o₄) n₄) (full 𝓤 (sliceTy (tyRef (named 2) mut (pointee (Object-t.the-row .written)))) l₃ (sliceVal (b₃, o₃) n₃) (full 𝓤 (sliceTy (tyRef (named 1) mut (pointee ((Array u16 35) .written)))) l₂ (sliceVal (b₂, o₂) n₂) (full 𝓤 (sliceTy (tyRef (named 0) mut (pointee ((Array u64 6) .written)))) l₁ (sliceVal (b₁, o₁) n₁) (full 𝓤 Processed-l.mir l₀ (Processed-p .val r) ([])))))))))))))))))))))))))))))))))))))) (frees En (prop (Post (Processed-p .val r))))
+    frees-all r ws₁ ws₂ ws₃ ws₄ ws₅ ends =
+        forget ! 68 refl $ forget ! 70 refl $ forget ! 72 refl $ forget ! 74 refl $ forget ! 76 refl $ forget ! 78 refl $ forget ! 80 refl $ forget ! 82 refl $ forget ! 84 refl $ forget ! 86 refl $ move ! (86 ∷ 87 ∷ []) $ free1 ! $ move ! (84 ∷ 85 ∷ []) $ free1 ! $ move ! (82 ∷ 83 ∷ []) $ free1 ! $ move ! (80 ∷ 81 ∷ []) $ free1 ! $ move ! (78 ∷ 79 ∷ []) $ free1 ! $ move ! (76 ∷ 77 ∷ []) $ free1 ! $ move ! (74 ∷ 75 ∷ []) $ free1 ! $ move ! (72 ∷ 73 ∷ []) $ free1 ! $ move ! (70 ∷ 71 ∷ []) $ free1 ! $ move ! (68 ∷ 69 ∷ []) $ free1 ! $ move ! (66 ∷ 67 ∷ []) $ free1 ! $ move ! (64 ∷ 65 ∷ []) $ free1 ! $ move ! (62 ∷ 63 ∷ []) $ free1 ! $ move ! (60 ∷ 61 ∷ []) $ free1 ! $ move ! (58 ∷ 59 ∷ []) $ free1 ! $ move ! (56 ∷ 57 ∷ []) $ free1 ! $ move ! (54 ∷ 55 ∷ []) $ free1 ! $ move ! (52 ∷ 53 ∷ []) $ free1 ! $ move ! (50 ∷ 51 ∷ []) $ free1 ! $ move ! (48 ∷ 49 ∷ []) $ free1 ! $ move ! (46 ∷ 47 ∷ []) $ free1 ! $ move ! (44 ∷ 45 ∷ []) $ free1 ! $ move ! (42 ∷ 43 ∷ []) $ free1 ! $ move ! (40 ∷ 41 ∷ []) $ free1 ! $ move ! (38 ∷ 39 ∷ []) $ free1 ! $ move ! (36 ∷ 37 ∷ []) $ free1 ! $ move ! (34 ∷ 35 ∷ []) $ free1 ! $ move ! (32 ∷ 33 ∷ []) $ free1 ! $ move ! (30 ∷ 31 ∷ []) $ free1 ! $ move ! (28 ∷ 29 ∷ []) $ free1 ! $ move ! (26 ∷ 27 ∷ []) $ free1 ! $ move ! (24 ∷ 25 ∷ []) $ free1 ! $ move ! (22 ∷ 23 ∷ []) $ free1 ! $ move ! (20 ∷ 21 ∷ []) $ free1 ! $ move ! (18 ∷ 19 ∷ []) $ free1 ! $ move ! (16 ∷ 17 ∷ []) $ free1 ! $ move ! (14 ∷ 15 ∷ []) $ free1 ! $ free0 ! $
         by ! ends
 
-    part-12-0 : (is-8 : Is (Judged-p .row) (judgeOf (lent (sessions) (streams) (objects)) (d) agent input n₆) (Judged-p .val (judgeOf (lent (sessions) (streams) (objects)) (d) agent input n₆) ∷ [])) → (is-9 : Is (Parts-p .row) (partsOf (judgeOf (lent (sessions) (streams) (objects)) (d) agent input n₆)) (Parts-p .val (partsOf (judgeOf (lent (sessions) (streams) (objects)) (d) agent input n₆)) ∷ [])) → (c-11 : (partsOf (judgeOf (lent (sessions) (streams) (objects)) (d) agent input n₆)) .goes ≡ true) → (asks-11·yes·11 : (resumesFit (((partsOf (judgeOf (lent (sessions) (streams) (objects)) (d) agent input n₆)) .start) .resumes) (length (sample)) ≡ true) × (ltb (length (out)) (neededOf (roomy (length (out)) (((partsOf (judgeOf (lent (sessions) (streams) (objects)) (d) agent input n₆)) .start) .resumes) ((partsOf (judgeOf (lent (sessions) (streams) (objects)) (d) agent input n₆)) .count) (length (sample))) (performed ((partsOf (judgeOf (lent (sessions) (streams) (objects)) (d) agent input n₆)) .start) (lent (sessions) (streams) (objects)) (d) (sample) .ran .wrote)) ≡ ltb (length (out)) (performed ((partsOf (judgeOf (lent (sessions) (streams) (objects)) (d) agent input n₆)) .start) (lent (sessions) (streams) (objects)) (d) (sample) .ran .wrote)) × (256 ≤ length (sessions)) × (2048 ≤ length (streams)) × (8192 ≤ length (objects))) → (len-11·yes·11-sessions : length (finish agent (lent (sessions) (streams) (objects)) (out) ((partsOf (judgeOf (lent (sessions) (streams) (objects)) (d) agent input n₆)) .start) (performed ((partsOf (judgeOf (lent (sessions) (streams) (objects)) (d) agent input n₆)) .start) (lent (sessions) (streams) (objects)) (d) (sample)) .tables .sessions) ≡ n₁) → (len-11·yes·11-streams : length (finish agent (lent (sessions) (streams) (objects)) (out) ((partsOf (judgeOf (lent (sessions) (streams) (objects)) (d) agent input n₆)) .start) (performed ((partsOf (judgeOf (lent (sessions) (streams) (objects)) (d) agent input n₆)) .start) (lent (sessions) (streams) (objects)) (d) (sample)) .tables .streams) ≡ n₂) → (len-11·yes·11-objects : length (finish agent (lent (sessions) (streams) (objects)) (out) ((partsOf (judgeOf (lent (sessions) (streams) (objects)) (d) agent input n₆)) .start) (performed ((partsOf (judgeOf (lent (sessions) (streams) (objects)) (d) agent input n₆)) .start) (lent (sessions) (streams) (objects)) (d) (sample)) .tables .objects) ≡ n₃) → (len-11·yes·11-out : length (finish agent (lent (sessions) (streams) (objects)) (out) ((partsOf (judgeOf (lent (sessions) (streams) (objects)) (d) agent input n₆)) .start) (performed ((partsOf (judgeOf (lent (sessions) (streams) (objects)) (d) agent input n₆)) .start) (lent (sessions) (streams) (objects)) (d) (sample)) .out) ≡ n₄) → (is-11·yes·11 : Is (Processed-p .row) (finish agent (lent (sessions) (streams) (objects)) (out) ((partsOf (judgeOf (lent (sessions) (streams) (objects)) (d) agent input n₆)) .start) (performed ((partsOf (judgeOf (lent (sessions) (streams) (objects)) (d) agent input n₆)) .start) (lent (sessions) (streams) (objects)) (d) (sample)) .processed) (Processed-p .val (finish agent (lent (sessions) (streams) (objects)) (out) ((partsOf (judgeOf (lent (sessions) (streams) (objects)) (d) agent input n₆)) .start) (performed ((partsOf (judgeOf (lent (sessions) (streams) (objects)) (d) agent input n₆)) .start) (lent (sessions) (streams) (objects)) (d) (sample)) .processed) ∷ [])) → Sq W (‵ (MutSlice (named 0) κ₁ (Array u64 5) .own (at-list b₁ o₁ γ₁ (finish agent (lent (sessions) (streams) (objects)) (out) ((partsOf (judgeOf (lent (sessions) (streams) (objects)) (d) agent input n₆)) .start) (performed ((partsOf (judgeOf (lent (sessions) (streams) (objects)) (d) agent input n₆)) .start) (lent (sessions) (streams) (objects)) (d) (sample)) .tables .sessions)) (sliceVal (b₁, o₁) n₁ ∷ [])) ∷ ‵ (flft κ₁ q₁) ∷ ‵ (MutSlice (named 0) κ₂ (Array u16 35) .own (at-list b₂ o₂ γ₂ (finish agent (lent (sessions) (streams) (objects)) (out) ((partsOf (judgeOf (lent (sessions) (streams) (objects)) (d) agent input n₆)) .start) (performed ((partsOf (judgeOf (lent (sessions) (streams) (objects)) (d) agent input n₆)) .start) (lent (sessions) (streams) (objects)) (d) (sample)) .tables .streams)) (sliceVal (b₂, o₂) n₂ ∷ [])) ∷ ‵ (flft κ₂ q₂) ∷ ‵ (MutSlice (named 0) κ₃ Object-t.the-row .own (at-list b₃ o₃ γ₃ (finish agent (lent (sessions) (streams) (objects)) (out) ((partsOf (judgeOf (lent (sessions) (streams) (objects)) (d) agent input n₆)) .start) (performed ((partsOf (judgeOf (lent (sessions) (streams) (objects)) (d) agent input n₆)) .start) (lent (sessions) (streams) (objects)) (d) (sample)) .tables .objects)) (sliceVal (b₃, o₃) n₃ ∷ [])) ∷ ‵ (flft κ₃ q₃) ∷ ‵ (MutSlice (named 0) κ₄ u8 .own (at-list b₄ o₄ γ₄ (finish agent (lent (sessions) (streams) (objects)) (out) ((partsOf (judgeOf (lent (sessions) (streams) (objects)) (d) agent input n₆)) .start) (performed ((partsOf (judgeOf (lent (sessions) (streams) (objects)) (d) agent input n₆)) .start) (lent (sessions) (streams) (objects)) (d) (sample)) .out)) (sliceVal (b₄, o₄) n₄ ∷ [])) ∷ ‵ (flft κ₄ q₄) ∷ ‵ (ShrSlice (named 0) κ₅ u8 .own (at-list b₅ o₅ γ₅ d) (sliceVal (b₅, o₅) n₅ ∷ [])) ∷ ‵ (flft κ₅ q₅) ∷ ‵ (ShrSlice (named 0) κ₆ u8 .own (at-list b₆ o₆ γ₆ sample) (sliceVal (b₆, o₆) n₆ ∷ [])) ∷ ‵ (flft κ₆ q₆) ∷ full 𝓤 (sliceTy (tyRef erased mut (pointee (u8 .written)))) l₃₀ (sliceVal (b₄, o₄) n₄) (full 𝓤 (tyRef erased mut (pointee (u8 .written))) l₂₉ (vptr b₄ o₄) (full 𝓤 (sliceTy (tyRef erased mut (pointee (Object-t.the-row .written)))) l₂₈ (sliceVal (b₃, o₃) n₃) (full 𝓤 (tyRef erased mut (pointee (Object-t.the-row .written))) l₂₇ (vptr b₃ o₃) (full 𝓤 (sliceTy (tyRef erased mut (pointee ((Array u16 35) .written)))) l₂₆ (sliceVal (b₂, o₂) n₂) (full 𝓤 (tyRef erased mut (pointee ((Array u16 35) .written))) l₂₅ (vptr b₂ o₂) (full 𝓤 (sliceTy (tyRef erased mut (pointee ((Array u64 5) .written)))) l₂₄ (sliceVal (b₁, o₁) n₁) (full 𝓤 (tyRef erased mut (pointee ((Array u64 5) .written))) l₂₃ (vptr b₁ o₁) (full 𝓤 Processed-l.mir l₂₂ (Processed-p .val (finish agent (lent (sessions) (streams) (objects)) (out) ((partsOf (judgeOf (lent (sessions) (streams) (objects)) (d) agent input n₆)) .start) (performed ((partsOf (judgeOf (lent (sessions) (streams) (objects)) (d) agent input n₆)) .start) (lent (sessions) (streams) (objects)) (d) (sample)) .processed)) (full 𝓤 tyBool l₂₁ (bool-p .val ((partsOf (judgeOf (lent (sessions) (streams) (objects)) (d) agent input n₆)) .goes)) (full 𝓤 (sliceTy (tyRef erased imm (pointee (Object-t.the-row .written)))) l₂₀ (sliceVal (b₃, o₃) n₃) (full 𝓤 (tyRef erased imm (pointee (Object-t.the-row .written))) l₁₉ (vptr b₃ o₃) (full 𝓤 (sliceTy (tyRef erased imm (pointee ((Array u16 35) .written)))) l₁₈ (sliceVal (b₂, o₂) n₂) (full 𝓤 (tyRef erased imm (pointee ((Array u16 35) .written))) l₁₇ (vptr b₂ o₂) (full 𝓤 (sliceTy (tyRef erased imm (pointee ((Array u64 5) .written)))) l₁₆ (sliceVal (b₁, o₁) n₁) (full 𝓤 (tyRef erased imm (pointee ((Array u64 5) .written))) l₁₅ (vptr b₁ o₁) (free 𝓤 Refusal-l.mir l₁₄ (full 𝓤 (tyInt w64) l₁₃ (u64-p .val ((partsOf (judgeOf (lent (sessions) (streams) (objects)) (d) agent input n₆)) .count)) (full 𝓤 Start-l.mir l₁₂ (Start-p .val ((partsOf (judgeOf (lent (sessions) (streams) (objects)) (d) agent input n₆)) .start)) (full 𝓤 Parts-l.mir l₁₁ (Parts-p .val (partsOf (judgeOf (lent (sessions) (streams) (objects)) (d) agent input n₆))) (full 𝓤 Judged-l.mir l₁₀ (Judged-p .val (judgeOf (lent (sessions) (streams) (objects)) (d) agent input n₆)) (full 𝓤 (tyInt w64) l₉ (u64-p .val n₆) (full 𝓤 Input-l.mir l₈ (Input-p .val input) (full 𝓤 Agent-l.mir l₇ (Agent-p .val agent) (full 𝓤 (sliceTy (tyRef (named 5) imm (pointee (u8 .written)))) l₆ (sliceVal (b₆, o₆) n₆) (full 𝓤 (sliceTy (tyRef (named 4) imm (pointee (u8 .written)))) l₅ (sliceVal (b₅, o₅) n₅) (full 𝓤 (sliceTy (tyRef (named 3) mut (pointee (u8 .written)))) l₄ (sliceVal (b₄, o₄) n₄) (full 𝓤 (sliceTy (tyRef (named 2) mut (pointee (Object-t.the-row .written)))) l₃ (sliceVal (b₃, o₃) n₃) (full 𝓤 (sliceTy (tyRef (named 1) mut (pointee ((Array u16 35) .written)))) l₂ (sliceVal (b₂, o₂) n₂) (full 𝓤 (sliceTy (tyRef (named 0) mut (pointee ((Array u64 5) .written)))) l₁ (sliceVal (b₁, o₁) n₁) (free 𝓤 Processed-l.mir l₀ ([])))))))))))))))))))))))))))))))) (runs C Λ En mir.t-12 (atRet En Post))
-    part-12-0 is-8 is-9 c-11 asks-11·yes·11 len-11·yes·11-sessions len-11·yes·11-streams len-11·yes·11-objects len-11·yes·11-out is-11·yes·11 =
-        assigns ! (of-opd ! (load ! (from ! (stop !)) (look ! 28 refl))) (from ! (stop !)) (init ! 72 refl (Processed-p .typed 𝓤 H A W (finish agent (lent (sessions) (streams) (objects)) (out) ((partsOf (judgeOf (lent (sessions) (streams) (objects)) (d) agent input n₆)) .start) (performed ((partsOf (judgeOf (lent (sessions) (streams) (objects)) (d) agent input n₆)) .start) (lent (sessions) (streams) (objects)) (d) (sample)) .processed) is-11·yes·11)) $
-        returns ! (look ! 72 refl) $ forget ! 12 refl $ forget ! 14 refl $ forget ! 16 refl $ forget ! 18 refl $ forget ! 20 refl $ forget ! 22 refl $ forget ! 24 refl $ forget ! 26 refl $ forget ! 28 refl $ forget ! 30 refl $ forget ! 32 refl $ forget ! 34 refl $ forget ! 36 refl $ forget ! 38 refl $ forget ! 40 refl $ forget ! 42 refl $ forget ! 46 refl $ forget ! 48 refl $ forget ! 50 refl $ forget ! 52 refl $ forget ! 54 refl $
-        frees-all (finish agent (lent (sessions) (streams) (objects)) (out) ((partsOf (judgeOf (lent (sessions) (streams) (objects)) (d) agent input n₆)) .start) (performed ((partsOf (judgeOf (lent (sessions) (streams) (objects)) (d) agent input n₆)) .start) (lent (sessions) (streams) (objects)) (d) (sample)) .processed) (finish agent (lent (sessions) (streams) (objects)) (out) ((partsOf (judgeOf (lent (sessions) (streams) (objects)) (d) agent input n₆)) .start) (performed ((partsOf (judgeOf (lent (sessions) (streams) (objects)) (d) agent input n₆)) .start) (lent (sessions) (streams) (objects)) (d) (sample)) .tables .sessions) (finish agent (lent (sessions) (streams) (objects)) (out) ((partsOf (judgeOf (lent (sessions) (streams) (objects)) (d) agent input n₆)) .start) (performed ((partsOf (judgeOf (lent (sessions) (streams) (objects)) (d) agent input n₆)) .start) (lent (sessions) (streams) (objects)) (d) (sample)) .tables .streams) (finish agent (lent (sessions) (streams) (objects)) (out) ((partsOf (judgeOf (lent (sessions) (streams) (objects)) (d) agent input n₆)) .start) (performed ((partsOf (judgeOf (lent (sessions) (streams) (objects)) (d) agent input n₆)) .start) (lent (sessions) (streams) (objects)) (d) (sample)) .tables .objects) (finish agent (lent (sessions) (streams) (objects)) (out) ((partsOf (judgeOf (lent (sessions) (streams) (objects)) (d) agent input n₆)) .start) (performed ((partsOf (judgeOf (lent (sessions) (streams) (objects)) (d) agent input n₆)) .start) (lent (sessions) (streams) (objects)) (d) (sample)) .out) (exits (finish agent (lent (sessions) (streams) (objects)) (out) ((partsOf (judgeOf (lent (sessions) (streams) (objects)) (d) agent input n₆)) .start) (performed ((partsOf (judgeOf (lent (sessions) (streams) (objects)) (d) agent input n₆)) .start) (lent (sessions) (streams) (objects)) (d) (sample)) .processed) (finish agent (lent (sessions) (streams) (objects)) (out) ((partsOf (judgeOf (lent (sessions) (streams) (objects)) (d) agent input n₆)) .start) (performed ((partsOf (judgeOf (lent (sessions) (streams) (objects)) (d) agent input n₆)) .start) (lent (sessions) (streams) (objects)) (d) (sample)) .tables .sessions) (finish agent (lent (sessions) (streams) (objects)) (out) ((partsOf (judgeOf (lent (sessions) (streams) (objects)) (d) agent input n₆)) .start) (performed ((partsOf (judgeOf (lent (sessions) (streams) (objects)) (d) agent input n₆)) .start) (lent (sessions) (streams) (objects)) (d) (sample)) .tables .streams) (finish agent (lent (sessions) (streams) (objects)) (out) ((partsOf (judgeOf (lent (sessions) (streams) (objects)) (d) agent input n₆)) .start) (performed ((partsOf (judgeOf (lent (sessions) (streams) (objects)) (d) agent input n₆)) .start) (lent (sessions) (streams) (objects)) (d) (sample)) .tables .objects) (finish agent (lent (sessions) (streams) (objects)) (out) ((partsOf (judgeOf (lent (sessions) (streams) (objects)) (d) agent input n₆)) .start) (performed ((partsOf (judgeOf (lent (sessions) (streams) (objects)) (d) agent input n₆)) .start) (lent (sessions) (streams) (objects)) (d) (sample)) .out) (same-leaves _ _ (leaves (Judged-Goes (partsOf judged .start) (partsOf judged .count)) (goes-is judged c-11))) is-11·yes·11 len-11·yes·11-sessions len-11·yes·11-streams len-11·yes·11-objects len-11·yes·11-out)
+    part-15-0 : (is-11 : Is (Judged-p .row) (judgeOf (lent (sessions) (streams) (objects) (held)) (d) agent input n₇ n₅) (Judged-p .val (judgeOf (lent (sessions) (streams) (objects) (held)) (d) agent input n₇ n₅) ∷ [])) → (is-12 : Is (Parts-p .row) (partsOf (judgeOf (lent (sessions) (streams) (objects) (held)) (d) agent input n₇ n₅)) (Parts-p .val (partsOf (judgeOf (lent (sessions) (streams) (objects) (held)) (d) agent input n₇ n₅)) ∷ [])) → (c-14 : (partsOf (judgeOf (lent (sessions) (streams) (objects) (held)) (d) agent input n₇ n₅)) .goes ≡ true) → (asks-14·yes·13 : (resumesFit (((partsOf (judgeOf (lent (sessions) (streams) (objects) (held)) (d) agent input n₇ n₅)) .start) .resumes) (((partsOf (judgeOf (lent (sessions) (streams) (objects) (held)) (d) agent input n₇ n₅)) .start) .frame .«stream_id») (length (sample)) ≡ true) × (((partsOf (judgeOf (lent (sessions) (streams) (objects) (held)) (d) agent input n₇ n₅)) .start) .frame .room ≡ length (out)) × (ltb (length (out)) (neededOf (roomy (length (out)) ((partsOf (judgeOf (lent (sessions) (streams) (objects) (held)) (d) agent input n₇ n₅)) .start) ((partsOf (judgeOf (lent (sessions) (streams) (objects) (held)) (d) agent input n₇ n₅)) .count) (d) (length (sample))) (performed ((partsOf (judgeOf (lent (sessions) (streams) (objects) (held)) (d) agent input n₇ n₅)) .start) (lent (sessions) (streams) (objects) (held)) (d) (sample) .ran .wrote)) ≡ ltb (length (out)) (performed ((partsOf (judgeOf (lent (sessions) (streams) (objects) (held)) (d) agent input n₇ n₅)) .start) (lent (sessions) (streams) (objects) (held)) (d) (sample) .ran .wrote)) × (256 ≤ length (sessions)) × (2048 ≤ length (streams)) × (8192 ≤ length (objects))) → (len-14·yes·13-sessions : length (finish agent (lent (sessions) (streams) (objects) (held)) (out) ((partsOf (judgeOf (lent (sessions) (streams) (objects) (held)) (d) agent input n₇ n₅)) .start) (performed ((partsOf (judgeOf (lent (sessions) (streams) (objects) (held)) (d) agent input n₇ n₅)) .start) (lent (sessions) (streams) (objects) (held)) (d) (sample)) .tables .sessions) ≡ n₁) → (len-14·yes·13-streams : length (finish agent (lent (sessions) (streams) (objects) (held)) (out) ((partsOf (judgeOf (lent (sessions) (streams) (objects) (held)) (d) agent input n₇ n₅)) .start) (performed ((partsOf (judgeOf (lent (sessions) (streams) (objects) (held)) (d) agent input n₇ n₅)) .start) (lent (sessions) (streams) (objects) (held)) (d) (sample)) .tables .streams) ≡ n₂) → (len-14·yes·13-objects : length (finish agent (lent (sessions) (streams) (objects) (held)) (out) ((partsOf (judgeOf (lent (sessions) (streams) (objects) (held)) (d) agent input n₇ n₅)) .start) (performed ((partsOf (judgeOf (lent (sessions) (streams) (objects) (held)) (d) agent input n₇ n₅)) .start) (lent (sessions) (streams) (objects) (held)) (d) (sample)) .tables .objects) ≡ n₃) → (len-14·yes·13-held : length (finish agent (lent (sessions) (streams) (objects) (held)) (out) ((partsOf (judgeOf (lent (sessions) (streams) (objects) (held)) (d) agent input n₇ n₅)) .start) (performed ((partsOf (judgeOf (lent (sessions) (streams) (objects) (held)) (d) agent input n₇ n₅)) .start) (lent (sessions) (streams) (objects) (held)) (d) (sample)) .tables .held) ≡ n₄) → (len-14·yes·13-out : length (finish agent (lent (sessions) (streams) (objects) (held)) (out) ((partsOf (judgeOf (lent (sessions) (streams) (objects) (held)) (d) agent input n₇ n₅)) .start) (performed ((partsOf (judgeOf (lent (sessions) (streams) (objects) (held)) (d) agent input n₇ n₅)) .start) (lent (sessions) (streams) (objects) (held)) (d) (sample)) .out) ≡ n₅) → (is-14·yes·13 : Is (Processed-p .row) (finish agent (lent (sessions) (streams) (objects) (held)) (out) ((partsOf (judgeOf (lent (sessions) (streams) (objects) (held)) (d) agent input n₇ n₅)) .start) (performed ((partsOf (judgeOf (lent (sessions) (streams) (objects) (held)) (d) agent input n₇ n₅)) .start) (lent (sessions) (streams) (objects) (held)) (d) (sample)) .processed) (Processed-p .val (finish agent (lent (sessions) (streams) (objects) (held)) (out) ((partsOf (judgeOf (lent (sessions) (streams) (objects) (held)) (d) agent input n₇ n₅)) .start) (performed ((partsOf (judgeOf (lent (sessions) (streams) (objects) (held)) (d) agent input n₇ n₅)) .start) (lent (sessions) (streams) (objects) (held)) (d) (sample)) .processed) ∷ [])) → Sq W (‵ (MutSlice (named 0) κ₁ (Array u64 6) .own (at-list b₁ o₁ γ₁ (finish agent (lent (sessions) (streams) (objects) (held)) (out) ((partsOf (judgeOf (lent (sessions) (streams) (objects) (held)) (d) agent input n₇ n₅)) .start) (performed ((partsOf (judgeOf (lent (sessions) (streams) (objects) (held)) (d) agent input n₇ n₅)) .start) (lent (sessions) (streams) (objects) (held)) (d) (sample)) .tables .sessions)) (sliceVal (b₁, o₁) n₁ ∷ [])) ∷ ‵ (flft κ₁ q₁) ∷ ‵ (MutSlice (named 0) κ₂ (Array u16 35) .own (at-list b₂ o₂ γ₂ (finish agent (lent (sessions) (streams) (objects) (held)) (out) ((partsOf (judgeOf (lent (sessions) (streams) (objects) (held)) (d) agent input n₇ n₅)) .start) (performed ((partsOf (judgeOf (lent (sessions) (streams) (objects) (held)) (d) agent input n₇ n₅)) .start) (lent (sessions) (streams) (objects) (held)) (d) (sample)) .tables .streams)) (sliceVal (b₂, o₂) n₂ ∷ [])) ∷ ‵ (flft κ₂ q₂) ∷ ‵ (MutSlice (named 0) κ₃ Object-t.the-row .own (at-list b₃ o₃ γ₃ (finish agent (lent (sessions) (streams) (objects) (held)) (out) ((partsOf (judgeOf (lent (sessions) (streams) (objects) (held)) (d) agent input n₇ n₅)) .start) (performed ((partsOf (judgeOf (lent (sessions) (streams) (objects) (held)) (d) agent input n₇ n₅)) .start) (lent (sessions) (streams) (objects) (held)) (d) (sample)) .tables .objects)) (sliceVal (b₃, o₃) n₃ ∷ [])) ∷ ‵ (flft κ₃ q₃) ∷ ‵ (MutSlice (named 0) κ₄ u8 .own (at-list b₄ o₄ γ₄ (finish agent (lent (sessions) (streams) (objects) (held)) (out) ((partsOf (judgeOf (lent (sessions) (streams) (objects) (held)) (d) agent input n₇ n₅)) .start) (performed ((partsOf (judgeOf (lent (sessions) (streams) (objects) (held)) (d) agent input n₇ n₅)) .start) (lent (sessions) (streams) (objects) (held)) (d) (sample)) .tables .held)) (sliceVal (b₄, o₄) n₄ ∷ [])) ∷ ‵ (flft κ₄ q₄) ∷ ‵ (MutSlice (named 0) κ₅ u8 .own (at-list b₅ o₅ γ₅ (finish agent (lent (sessions) (streams) (objects) (held)) (out) ((partsOf (judgeOf (lent (sessions) (streams) (objects) (held)) (d) agent input n₇ n₅)) .start) (performed ((partsOf (judgeOf (lent (sessions) (streams) (objects) (held)) (d) agent input n₇ n₅)) .start) (lent (sessions) (streams) (objects) (held)) (d) (sample)) .out)) (sliceVal (b₅, o₅) n₅ ∷ [])) ∷ ‵ (flft κ₅ q₅) ∷ ‵ (ShrSlice (named 0) κ₆ u8 .own (at-list b₆ o₆ γ₆ d) (sliceVal (b₆, o₆) n₆ ∷ [])) ∷ ‵ (flft κ₆ q₆) ∷ ‵ (ShrSlice (named 0) κ₇ u8 .own (at-list b₇ o₇ γ₇ sample) (sliceVal (b₇, o₇) n₇ ∷ [])) ∷ ‵ (flft κ₇ q₇) ∷ full 𝓤 (sliceTy (tyRef erased mut (pointee (u8 .written)))) l₃₆ (sliceVal (b₅, o₅) n₅) (full 𝓤 (tyRef erased mut (pointee (u8 .written))) l₃₅ (vptr b₅ o₅) (full 𝓤 (sliceTy (tyRef erased mut (pointee (u8 .written)))) l₃₄ (sliceVal (b₄, o₄) n₄) (full 𝓤 (tyRef erased mut (pointee (u8 .written))) l₃₃ (vptr b₄ o₄) (full 𝓤 (sliceTy (tyRef erased mut (pointee (Object-t.the-row .written)))) l₃₂ (sliceVal (b₃, o₃) n₃) (full 𝓤 (tyRef erased mut (pointee (Object-t.the-row .written))) l₃₁ (vptr b₃ o₃) (full 𝓤 (sliceTy (tyRef erased mut (pointee ((Array u16 35) .written)))) l₃₀ (sliceVal (b₂, o₂) n₂) (full 𝓤 (tyRef erased mut (pointee ((Array u16 35) .written))) l₂₉ (vptr b₂ o₂) (full 𝓤 (sliceTy (tyRef erased mut (pointee ((Array u64 6) .written)))) l₂₈ (sliceVal (b₁, o₁) n₁) (full 𝓤 (tyRef erased mut (pointee ((Array u64 6) .written))) l₂₇ (vptr b₁ o₁) (full 𝓤 Processed-l.mir l₂₆ (Processed-p .val (finish agent (lent (sessions) (streams) (objects) (held)) (out) ((partsOf (judgeOf (lent (sessions) (streams) (objects) (held)) (d) agent input n₇ n₅)) .start) (performed ((partsOf (judgeOf (lent (sessions) (streams) (objects) (held)) (d) agent input n₇ n₅)) .start) (lent (sessions) (streams) (objects) (held)) (d) (sample)) .processed)) (full 𝓤 tyBool l₂₅ (bool-p .val ((partsOf (judgeOf (lent (sessions) (streams) (objects) (held)) (d) agent input n₇ n₅)) .goes)) (full 𝓤 (sliceTy (tyRef erased imm (pointee (u8 .written)))) l₂₄ (sliceVal (b₄, o₄) n₄) (full 𝓤 (tyRef erased imm (pointee (u8 .written))) l₂₃ (vptr b₄ o₄) (full 𝓤 (sliceTy (tyRef erased imm (pointee (Object-t.the-row .written)))) l₂₂ (sliceVal (b₃, o₃) n₃) (full 𝓤 (tyRef erased imm (pointee (Object-t.the-row .written))) l₂₁ (vptr b₃ o₃) (full 𝓤 (sliceTy (tyRef erased imm (pointee ((Array u16 35) .written)))) l₂₀ (sliceVal (b₂, o₂) n₂) (full 𝓤 (tyRef erased imm (pointee ((Array u16 35) .written))) l₁₉ (vptr b₂ o₂) (full 𝓤 (sliceTy (tyRef erased imm (pointee ((Array u64 6) .written)))) l₁₈ (sliceVal (b₁, o₁) n₁) (full 𝓤 (tyRef erased imm (pointee ((Array u64 6) .written))) l₁₇ (vptr b₁ o₁) (free 𝓤 Refusal-l.mir l₁₆ (full 𝓤 (tyInt w64) l₁₅ (u64-p .val ((partsOf (judgeOf (lent (sessions) (streams) (objects) (held)) (d) agent input n₇ n₅)) .count)) (full 𝓤 Start-l.mir l₁₄ (Start-p .val ((partsOf (judgeOf (lent (sessions) (streams) (objects) (held)) (d) agent input n₇ n₅)) .start)) (full 𝓤 Parts-l.mir l₁₃ (Parts-p .val (partsOf (judgeOf (lent (sessions) (streams) (objects) (held)) (d) agent input n₇ n₅))) (full 𝓤 Judged-l.mir l₁₂ (Judged-p .val (judgeOf (lent (sessions) (streams) (objects) (held)) (d) agent input n₇ n₅)) (full 𝓤 (tyInt w64) l₁₁ (u64-p .val n₅) (full 𝓤 (tyInt w64) l₁₀ (u64-p .val n₇) (full 𝓤 Input-l.mir l₉ (Input-p .val input) (full 𝓤 Agent-l.mir l₈ (Agent-p .val agent) (full 𝓤 (sliceTy (tyRef (named 6) imm (pointee (u8 .written)))) l₇ (sliceVal (b₇, o₇) n₇) (full 𝓤 (sliceTy (tyRef (named 5) imm (pointee (u8 .written)))) l₆ (sliceVal (b₆, o₆) n₆) (full 𝓤 (sliceTy (tyRef (named 4) mut (pointee (u8 .written)))) l₅ (sliceVal (b₅, o₅) n₅) (full 𝓤 (sliceTy (tyRef (named 3) mut (pointee (u8 .written)))) l₄ (sliceVal (b₄, o₄) n₄) (full 𝓤 (sliceTy (tyRef (named 2) mut (pointee (Object-t.the-row .written)))) l₃ (sliceVal (b₃, o₃) n₃) (full 𝓤 (sliceTy (tyRef (named 1) mut (pointee ((Array u16 35) .written)))) l₂ (sliceVal (b₂, o₂) n₂) (full 𝓤 (sliceTy (tyRef (named 0) mut (pointee ((Array u64 6) .written)))) l₁ (sliceVal (b₁, o₁) n₁) (free 𝓤 Processed-l.mir l₀ ([])))))))))))))))))))))))))))))))))))))) (runs C Λ En mir.t-15 (atRet En Post))
+    part-15-0 is-11 is-12 c-14 asks-14·yes·13 len-14·yes·13-sessions len-14·yes·13-streams len-14·yes·13-objects len-14·yes·13-held len-14·yes·13-out is-14·yes·13 =
+        assigns ! (of-opd ! (load ! (from ! (stop !)) (look ! 34 refl))) (from ! (stop !)) (init ! 86 refl (Processed-p .typed 𝓤 H A W (finish agent (lent (sessions) (streams) (objects) (held)) (out) ((partsOf (judgeOf (lent (sessions) (streams) (objects) (held)) (d) agent input n₇ n₅)) .start) (performed ((partsOf (judgeOf (lent (sessions) (streams) (objects) (held)) (d) agent input n₇ n₅)) .start) (lent (sessions) (streams) (objects) (held)) (d) (sample)) .processed) is-14·yes·13)) $
+        returns ! (look ! 86 refl) $ forget ! 14 refl $ forget ! 16 refl $ forget ! 18 refl $ forget ! 20 refl $ forget ! 22 refl $ forget ! 24 refl $ forget ! 26 refl $ forget ! 28 refl $ forget ! 30 refl $ forget ! 32 refl $ forget ! 34 refl $ forget ! 36 refl $ forget ! 38 refl $ forget ! 40 refl $ forget ! 42 refl $ forget ! 44 refl $ forget ! 46 refl $ forget ! 48 refl $ forget ! 50 refl $ forget ! 52 refl $ forget ! 56 refl $ forget ! 58 refl $ forget ! 60 refl $ forget ! 62 refl $ forget ! 64 refl $ forget ! 66 refl $
+        frees-all (finish agent (lent (sessions) (streams) (objects) (held)) (out) ((partsOf (judgeOf (lent (sessions) (streams) (objects) (held)) (d) agent input n₇ n₅)) .start) (performed ((partsOf (judgeOf (lent (sessions) (streams) (objects) (held)) (d) agent input n₇ n₅)) .start) (lent (sessions) (streams) (objects) (held)) (d) (sample)) .processed) (finish agent (lent (sessions) (streams) (objects) (held)) (out) ((partsOf (judgeOf (lent (sessions) (streams) (objects) (held)) (d) agent input n₇ n₅)) .start) (performed ((partsOf (judgeOf (lent (sessions) (streams) (objects) (held)) (d) agent input n₇ n₅)) .start) (lent (sessions) (streams) (objects) (held)) (d) (sample)) .tables .sessions) (finish agent (lent (sessions) (streams) (objects) (held)) (out) ((partsOf (judgeOf (lent (sessions) (streams) (objects) (held)) (d) agent input n₇ n₅)) .start) (performed ((partsOf (judgeOf (lent (sessions) (streams) (objects) (held)) (d) agent input n₇ n₅)) .start) (lent (sessions) (streams) (objects) (held)) (d) (sample)) .tables .streams) (finish agent (lent (sessions) (streams) (objects) (held)) (out) ((partsOf (judgeOf (lent (sessions) (streams) (objects) (held)) (d) agent input n₇ n₅)) .start) (performed ((partsOf (judgeOf (lent (sessions) (streams) (objects) (held)) (d) agent input n₇ n₅)) .start) (lent (sessions) (streams) (objects) (held)) (d) (sample)) .tables .objects) (finish agent (lent (sessions) (streams) (objects) (held)) (out) ((partsOf (judgeOf (lent (sessions) (streams) (objects) (held)) (d) agent input n₇ n₅)) .start) (performed ((partsOf (judgeOf (lent (sessions) (streams) (objects) (held)) (d) agent input n₇ n₅)) .start) (lent (sessions) (streams) (objects) (held)) (d) (sample)) .tables .held) (finish agent (lent (sessions) (streams) (objects) (held)) (out) ((partsOf (judgeOf (lent (sessions) (streams) (objects) (held)) (d) agent input n₇ n₅)) .start) (performed ((partsOf (judgeOf (lent (sessions) (streams) (objects) (held)) (d) agent input n₇ n₅)) .start) (lent (sessions) (streams) (objects) (held)) (d) (sample)) .out) (exits (finish agent (lent (sessions) (streams) (objects) (held)) (out) ((partsOf (judgeOf (lent (sessions) (streams) (objects) (held)) (d) agent input n₇ n₅)) .start) (performed ((partsOf (judgeOf (lent (sessions) (streams) (objects) (held)) (d) agent input n₇ n₅)) .start) (lent (sessions) (streams) (objects) (held)) (d) (sample)) .processed) (finish agent (lent (sessions) (streams) (objects) (held)) (out) ((partsOf (judgeOf (lent (sessions) (streams) (objects) (held)) (d) agent input n₇ n₅)) .start) (performed ((partsOf (judgeOf (lent (sessions) (streams) (objects) (held)) (d) agent input n₇ n₅)) .start) (lent (sessions) (streams) (objects) (held)) (d) (sample)) .tables .sessions) (finish agent (lent (sessions) (streams) (objects) (held)) (out) ((partsOf (judgeOf (lent (sessions) (streams) (objects) (held)) (d) agent input n₇ n₅)) .start) (performed ((partsOf (judgeOf (lent (sessions) (streams) (objects) (held)) (d) agent input n₇ n₅)) .start) (lent (sessions) (streams) (objects) (held)) (d) (sample)) .tables .streams) (finish agent (lent (sessions) (streams) (objects) (held)) (out) ((partsOf (judgeOf (lent (sessions) (streams) (objects) (held)) (d) agent input n₇ n₅)) .start) (performed ((partsOf (judgeOf (lent (sessions) (streams) (objects) (held)) (d) agent input n₇ n₅)) .start) (lent (sessions) (streams) (objects) (held)) (d) (sample)) .tables .objects) (finish agent (lent (sessions) (streams) (objects) (held)) (out) ((partsOf (judgeOf (lent (sessions) (streams) (objects) (held)) (d) agent input n₇ n₅)) .start) (performed ((partsOf (judgeOf (lent (sessions) (streams) (objects) (held)) (d) agent input n₇ n₅)) .start) (lent (sessions) (streams) (objects) (held)) (d) (sample)) .tables .held) (finish agent (lent (sessions) (streams) (objects) (held)) (out) ((partsOf (judgeOf (lent (sessions) (streams) (objects) (held)) (d) agent input n₇ n₅)) .start) (performed ((partsOf (judgeOf (lent (sessions) (streams) (objects) (held)) (d) agent input n₇ n₅)) .start) (lent (sessions) (streams) (objects) (held)) (d) (sample)) .out) (same-leaves _ _ (leaves (Judged-Goes (partsOf judged .start) (partsOf judged .count)) (goes-is judged c-14))) is-14·yes·13 len-14·yes·13-sessions len-14·yes·13-streams len-14·yes·13-objects len-14·yes·13-held len-14·yes·13-out)
 
-    part-12-2 : (is-8 : Is (Judged-p .row) (judgeOf (lent (sessions) (streams) (objects)) (d) agent input n₆) (Judged-p .val (judgeOf (lent (sessions) (streams) (objects)) (d) agent input n₆) ∷ [])) → (is-9 : Is (Parts-p .row) (partsOf (judgeOf (lent (sessions) (streams) (objects)) (d) agent input n₆)) (Parts-p .val (partsOf (judgeOf (lent (sessions) (streams) (objects)) (d) agent input n₆)) ∷ [])) → (c-11 : (partsOf (judgeOf (lent (sessions) (streams) (objects)) (d) agent input n₆)) .goes ≡ false) → (is-11·no·2 : Is (Processed-p .row) (refusedOf agent ((partsOf (judgeOf (lent (sessions) (streams) (objects)) (d) agent input n₆)) .why)) (Processed-p .val (refusedOf agent ((partsOf (judgeOf (lent (sessions) (streams) (objects)) (d) agent input n₆)) .why)) ∷ [])) → Sq W (‵ (MutSlice (named 0) κ₁ (Array u64 5) .own (at-list b₁ o₁ γ₁ sessions) (sliceVal (b₁, o₁) n₁ ∷ [])) ∷ ‵ (flft κ₁ q₁) ∷ ‵ (MutSlice (named 0) κ₂ (Array u16 35) .own (at-list b₂ o₂ γ₂ streams) (sliceVal (b₂, o₂) n₂ ∷ [])) ∷ ‵ (flft κ₂ q₂) ∷ ‵ (MutSlice (named 0) κ₃ Object-t.the-row .own (at-list b₃ o₃ γ₃ objects) (sliceVal (b₃, o₃) n₃ ∷ [])) ∷ ‵ (flft κ₃ q₃) ∷ ‵ (MutSlice (named 0) κ₄ u8 .own (at-list b₄ o₄ γ₄ out) (sliceVal (b₄, o₄) n₄ ∷ [])) ∷ ‵ (flft κ₄ q₄) ∷ ‵ (ShrSlice (named 0) κ₅ u8 .own (at-list b₅ o₅ γ₅ d) (sliceVal (b₅, o₅) n₅ ∷ [])) ∷ ‵ (flft κ₅ q₅) ∷ ‵ (ShrSlice (named 0) κ₆ u8 .own (at-list b₆ o₆ γ₆ sample) (sliceVal (b₆, o₆) n₆ ∷ [])) ∷ ‵ (flft κ₆ q₆) ∷ free 𝓤 (sliceTy (tyRef erased mut (pointee (u8 .written)))) l₃₀ (free 𝓤 (tyRef erased mut (pointee (u8 .written))) l₂₉ (free 𝓤 (sliceTy (tyRef erased mut (pointee (Object-t.the-row .written)))) l₂₈ (free 𝓤 (tyRef erased mut (pointee (Object-t.the-row .written))) l₂₇ (free 𝓤 (sliceTy (tyRef erased mut (pointee ((Array u16 35) .written)))) l₂₆ (free 𝓤 (tyRef erased mut (pointee ((Array u16 35) .written))) l₂₅ (free 𝓤 (sliceTy (tyRef erased mut (pointee ((Array u64 5) .written)))) l₂₄ (free 𝓤 (tyRef erased mut (pointee ((Array u64 5) .written))) l₂₃ (full 𝓤 Processed-l.mir l₂₂ (Processed-p .val (refusedOf agent ((partsOf (judgeOf (lent (sessions) (streams) (objects)) (d) agent input n₆)) .why))) (full 𝓤 tyBool l₂₁ (bool-p .val ((partsOf (judgeOf (lent (sessions) (streams) (objects)) (d) agent input n₆)) .goes)) (full 𝓤 (sliceTy (tyRef erased imm (pointee (Object-t.the-row .written)))) l₂₀ (sliceVal (b₃, o₃) n₃) (full 𝓤 (tyRef erased imm (pointee (Object-t.the-row .written))) l₁₉ (vptr b₃ o₃) (full 𝓤 (sliceTy (tyRef erased imm (pointee ((Array u16 35) .written)))) l₁₈ (sliceVal (b₂, o₂) n₂) (full 𝓤 (tyRef erased imm (pointee ((Array u16 35) .written))) l₁₇ (vptr b₂ o₂) (full 𝓤 (sliceTy (tyRef erased imm (pointee ((Array u64 5) .written)))) l₁₆ (sliceVal (b₁, o₁) n₁) (full 𝓤 (tyRef erased imm (pointee ((Array u64 5) .written))) l₁₅ (vptr b₁ o₁) (full 𝓤 Refusal-l.mir l₁₄ (Refusal-p .val ((partsOf (judgeOf (lent (sessions) (streams) (objects)) (d) agent input n₆)) .why)) (free 𝓤 (tyInt w64) l₁₃ (free 𝓤 Start-l.mir l₁₂ (full 𝓤 Parts-l.mir l₁₁ (Parts-p .val (partsOf (judgeOf (lent (sessions) (streams) (objects)) (d) agent input n₆))) (full 𝓤 Judged-l.mir l₁₀ (Judged-p .val (judgeOf (lent (sessions) (streams) (objects)) (d) agent input n₆)) (full 𝓤 (tyInt w64) l₉ (u64-p .val n₆) (full 𝓤 Input-l.mir l₈ (Input-p .val input) (full 𝓤 Agent-l.mir l₇ (Agent-p .val agent) (full 𝓤 (sliceTy (tyRef (named 5) imm (pointee (u8 .written)))) l₆ (sliceVal (b₆, o₆) n₆) (full 𝓤 (sliceTy (tyRef (named 4) imm (pointee (u8 .written)))) l₅ (sliceVal (b₅, o₅) n₅) (full 𝓤 (sliceTy (tyRef (named 3) mut (pointee (u8 .written)))) l₄ (sliceVal (b₄, o₄) n₄) (full 𝓤 (sliceTy (tyRef (named 2) mut (pointee (Object-t.the-row .written)))) l₃ (sliceVal (b₃, o₃) n₃) (full 𝓤 (sliceTy (tyRef (named 1) mut (pointee ((Array u16 35) .written)))) l₂ (sliceVal (b₂, o₂) n₂) (full 𝓤 (sliceTy (tyRef (named 0) mut (pointee ((Array u64 5) .written)))) l₁ (sliceVal (b₁, o₁) n₁) (free 𝓤 Processed-l.mir l₀ ([])))))))))))))))))))))))))))))))) (runs C Λ En mir.t-12 (atRet En Post))
-    part-12-2 is-8 is-9 c-11 is-11·no·2 =
-        assigns ! (of-opd ! (load ! (from ! (stop !)) (look ! 28 refl))) (from ! (stop !)) (init ! 72 refl (Processed-p .typed 𝓤 H A W (refusedOf agent ((partsOf (judgeOf (lent (sessions) (streams) (objects)) (d) agent input n₆)) .why)) is-11·no·2)) $
-        returns ! (look ! 72 refl) $ forget ! 28 refl $ forget ! 30 refl $ forget ! 32 refl $ forget ! 34 refl $ forget ! 36 refl $ forget ! 38 refl $ forget ! 40 refl $ forget ! 42 refl $ forget ! 44 refl $ forget ! 50 refl $ forget ! 52 refl $ forget ! 54 refl $
-        frees-all (refusedOf agent ((partsOf (judgeOf (lent (sessions) (streams) (objects)) (d) agent input n₆)) .why)) sessions streams objects out (exits (refusedOf agent ((partsOf (judgeOf (lent (sessions) (streams) (objects)) (d) agent input n₆)) .why)) sessions streams objects out (same-leaves _ _ (leaves (Judged-Refused (partsOf judged .why)) (refused-is judged c-11))) is-11·no·2 refl refl refl refl)
+    part-15-2 : (is-11 : Is (Judged-p .row) (judgeOf (lent (sessions) (streams) (objects) (held)) (d) agent input n₇ n₅) (Judged-p .val (judgeOf (lent (sessions) (streams) (objects) (held)) (d) agent input n₇ n₅) ∷ [])) → (is-12 : Is (Parts-p .row) (partsOf (judgeOf (lent (sessions) (streams) (objects) (held)) (d) agent input n₇ n₅)) (Parts-p .val (partsOf (judgeOf (lent (sessions) (streams) (objects) (held)) (d) agent input n₇ n₅)) ∷ [])) → (c-14 : (partsOf (judgeOf (lent (sessions) (streams) (objects) (held)) (d) agent input n₇ n₅)) .goes ≡ false) → (is-14·no·2 : Is (Processed-p .row) (refusedOf agent ((partsOf (judgeOf (lent (sessions) (streams) (objects) (held)) (d) agent input n₇ n₅)) .why)) (Processed-p .val (refusedOf agent ((partsOf (judgeOf (lent (sessions) (streams) (objects) (held)) (d) agent input n₇ n₅)) .why)) ∷ [])) → Sq W (‵ (MutSlice (named 0) κ₁ (Array u64 6) .own (at-list b₁ o₁ γ₁ sessions) (sliceVal (b₁, o₁) n₁ ∷ [])) ∷ ‵ (flft κ₁ q₁) ∷ ‵ (MutSlice (named 0) κ₂ (Array u16 35) .own (at-list b₂ o₂ γ₂ streams) (sliceVal (b₂, o₂) n₂ ∷ [])) ∷ ‵ (flft κ₂ q₂) ∷ ‵ (MutSlice (named 0) κ₃ Object-t.the-row .own (at-list b₃ o₃ γ₃ objects) (sliceVal (b₃, o₃) n₃ ∷ [])) ∷ ‵ (flft κ₃ q₃) ∷ ‵ (MutSlice (named 0) κ₄ u8 .own (at-list b₄ o₄ γ₄ held) (sliceVal (b₄, o₄) n₄ ∷ [])) ∷ ‵ (flft κ₄ q₄) ∷ ‵ (MutSlice (named 0) κ₅ u8 .own (at-list b₅ o₅ γ₅ out) (sliceVal (b₅, o₅) n₅ ∷ [])) ∷ ‵ (flft κ₅ q₅) ∷ ‵ (ShrSlice (named 0) κ₆ u8 .own (at-list b₆ o₆ γ₆ d) (sliceVal (b₆, o₆) n₆ ∷ [])) ∷ ‵ (flft κ₆ q₆) ∷ ‵ (ShrSlice (named 0) κ₇ u8 .own (at-list b₇ o₇ γ₇ sample) (sliceVal (b₇, o₇) n₇ ∷ [])) ∷ ‵ (flft κ₇ q₇) ∷ free 𝓤 (sliceTy (tyRef erased mut (pointee (u8 .written)))) l₃₆ (free 𝓤 (tyRef erased mut (pointee (u8 .written))) l₃₅ (free 𝓤 (sliceTy (tyRef erased mut (pointee (u8 .written)))) l₃₄ (free 𝓤 (tyRef erased mut (pointee (u8 .written))) l₃₃ (free 𝓤 (sliceTy (tyRef erased mut (pointee (Object-t.the-row .written)))) l₃₂ (free 𝓤 (tyRef erased mut (pointee (Object-t.the-row .written))) l₃₁ (free 𝓤 (sliceTy (tyRef erased mut (pointee ((Array u16 35) .written)))) l₃₀ (free 𝓤 (tyRef erased mut (pointee ((Array u16 35) .written))) l₂₉ (free 𝓤 (sliceTy (tyRef erased mut (pointee ((Array u64 6) .written)))) l₂₈ (free 𝓤 (tyRef erased mut (pointee ((Array u64 6) .written))) l₂₇ (full 𝓤 Processed-l.mir l₂₆ (Processed-p .val (refusedOf agent ((partsOf (judgeOf (lent (sessions) (streams) (objects) (held)) (d) agent input n₇ n₅)) .why))) (full 𝓤 tyBool l₂₅ (bool-p .val ((partsOf (judgeOf (lent (sessions) (streams) (objects) (held)) (d) agent input n₇ n₅)) .goes)) (full 𝓤 (sliceTy (tyRef erased imm (pointee (u8 .written)))) l₂₄ (sliceVal (b₄, o₄) n₄) (full 𝓤 (tyRef erased imm (pointee (u8 .written))) l₂₃ (vptr b₄ o₄) (full 𝓤 (sliceTy (tyRef erased imm (pointee (Object-t.the-row .written)))) l₂₂ (sliceVal (b₃, o₃) n₃) (full 𝓤 (tyRef erased imm (pointee (Object-t.the-row .written))) l₂₁ (vptr b₃ o₃) (full 𝓤 (sliceTy (tyRef erased imm (pointee ((Array u16 35) .written)))) l₂₀ (sliceVal (b₂, o₂) n₂) (full 𝓤 (tyRef erased imm (pointee ((Array u16 35) .written))) l₁₉ (vptr b₂ o₂) (full 𝓤 (sliceTy (tyRef erased imm (pointee ((Array u64 6) .written)))) l₁₈ (sliceVal (b₁, o₁) n₁) (full 𝓤 (tyRef erased imm (pointee ((Array u64 6) .written))) l₁₇ (vptr b₁ o₁) (full 𝓤 Refusal-l.mir l₁₆ (Refusal-p .val ((partsOf (judgeOf (lent (sessions) (streams) (objects) (held)) (d) agent input n₇ n₅)) .why)) (free 𝓤 (tyInt w64) l₁₅ (free 𝓤 Start-l.mir l₁₄ (full 𝓤 Parts-l.mir l₁₃ (Parts-p .val (partsOf (judgeOf (lent (sessions) (streams) (objects) (held)) (d) agent input n₇ n₅))) (full 𝓤 Judged-l.mir l₁₂ (Judged-p .val (judgeOf (lent (sessions) (streams) (objects) (held)) (d) agent input n₇ n₅)) (full 𝓤 (tyInt w64) l₁₁ (u64-p .val n₅) (full 𝓤 (tyInt w64) l₁₀ (u64-p .val n₇) (full 𝓤 Input-l.mir l₉ (Input-p .val input) (full 𝓤 Agent-l.mir l₈ (Agent-p .val agent) (full 𝓤 (sliceTy (tyRef (named 6) imm (pointee (u8 .written)))) l₇ (sliceVal (b₇, o₇) n₇) (full 𝓤 (sliceTy (tyRef (named 5) imm (pointee (u8 .written)))) l₆ (sliceVal (b₆, o₆) n₆) (full 𝓤 (sliceTy (tyRef (named 4) mut (pointee (u8 .written)))) l₅ (sliceVal (b₅, o₅) n₅) (full 𝓤 (sliceTy (tyRef (named 3) mut (pointee (u8 .written)))) l₄ (sliceVal (b₄, o₄) n₄) (full 𝓤 (sliceTy (tyRef (named 2) mut (pointee (Object-t.the-row .written)))) l₃ (sliceVal (b₃, o₃) n₃) (full 𝓤 (sliceTy (tyRef (named 1) mut (pointee ((Array u16 35) .written)))) l₂ (sliceVal (b₂, o₂) n₂) (full 𝓤 (sliceTy (tyRef (named 0) mut (pointee ((Array u64 6) .written)))) l₁ (sliceVal (b₁, o₁) n₁) (free 𝓤 Processed-l.mir l₀ ([])))))))))))))))))))))))))))))))))))))) (runs C Λ En mir.t-15 (atRet En Post))
+    part-15-2 is-11 is-12 c-14 is-14·no·2 =
+        assigns ! (of-opd ! (load ! (from ! (stop !)) (look ! 34 refl))) (from ! (stop !)) (init ! 86 refl (Processed-p .typed 𝓤 H A W (refusedOf agent ((partsOf (judgeOf (lent (sessions) (streams) (objects) (held)) (d) agent input n₇ n₅)) .why)) is-14·no·2)) $
+        returns ! (look ! 86 refl) $ forget ! 34 refl $ forget ! 36 refl $ forget ! 38 refl $ forget ! 40 refl $ forget ! 42 refl $ forget ! 44 refl $ forget ! 46 refl $ forget ! 48 refl $ forget ! 50 refl $ forget ! 52 refl $ forget ! 54 refl $ forget ! 60 refl $ forget ! 62 refl $ forget ! 64 refl $ forget ! 66 refl $
+        frees-all (refusedOf agent ((partsOf (judgeOf (lent (sessions) (streams) (objects) (held)) (d) agent input n₇ n₅)) .why)) sessions streams objects held out (exits (refusedOf agent ((partsOf (judgeOf (lent (sessions) (streams) (objects) (held)) (d) agent input n₇ n₅)) .why)) sessions streams objects held out (same-leaves _ _ (leaves (Judged-Refused (partsOf judged .why)) (refused-is judged c-14))) is-14·no·2 refl refl refl refl refl)
 
-    part-10-0 : (is-8 : Is (Judged-p .row) (judgeOf (lent (sessions) (streams) (objects)) (d) agent input n₆) (Judged-p .val (judgeOf (lent (sessions) (streams) (objects)) (d) agent input n₆) ∷ [])) → (is-9 : Is (Parts-p .row) (partsOf (judgeOf (lent (sessions) (streams) (objects)) (d) agent input n₆)) (Parts-p .val (partsOf (judgeOf (lent (sessions) (streams) (objects)) (d) agent input n₆)) ∷ [])) → Sq W (‵ (MutSlice (named 0) κ₁ (Array u64 5) .own (at-list b₁ o₁ γ₁ sessions) (sliceVal (b₁, o₁) n₁ ∷ [])) ∷ ‵ (flft κ₁ q₁) ∷ ‵ (MutSlice (named 0) κ₂ (Array u16 35) .own (at-list b₂ o₂ γ₂ streams) (sliceVal (b₂, o₂) n₂ ∷ [])) ∷ ‵ (flft κ₂ q₂) ∷ ‵ (MutSlice (named 0) κ₃ Object-t.the-row .own (at-list b₃ o₃ γ₃ objects) (sliceVal (b₃, o₃) n₃ ∷ [])) ∷ ‵ (flft κ₃ q₃) ∷ ‵ (MutSlice (named 0) κ₄ u8 .own (at-list b₄ o₄ γ₄ out) (sliceVal (b₄, o₄) n₄ ∷ [])) ∷ ‵ (flft κ₄ q₄) ∷ ‵ (ShrSlice (named 0) κ₅ u8 .own (at-list b₅ o₅ γ₅ d) (sliceVal (b₅, o₅) n₅ ∷ [])) ∷ ‵ (flft κ₅ q₅) ∷ ‵ (ShrSlice (named 0) κ₆ u8 .own (at-list b₆ o₆ γ₆ sample) (sliceVal (b₆, o₆) n₆ ∷ [])) ∷ ‵ (flft κ₆ q₆) ∷ free 𝓤 (sliceTy (tyRef erased mut (pointee (u8 .written)))) l₃₀ (free 𝓤 (tyRef erased mut (pointee (u8 .written))) l₂₉ (free 𝓤 (sliceTy (tyRef erased mut (pointee (Object-t.the-row .written)))) l₂₈ (free 𝓤 (tyRef erased mut (pointee (Object-t.the-row .written))) l₂₇ (free 𝓤 (sliceTy (tyRef erased mut (pointee ((Array u16 35) .written)))) l₂₆ (free 𝓤 (tyRef erased mut (pointee ((Array u16 35) .written))) l₂₅ (free 𝓤 (sliceTy (tyRef erased mut (pointee ((Array u64 5) .written)))) l₂₄ (free 𝓤 (tyRef erased mut (pointee ((Array u64 5) .written))) l₂₃ (free 𝓤 Processed-l.mir l₂₂ (free 𝓤 tyBool l₂₁ (full 𝓤 (sliceTy (tyRef erased imm (pointee (Object-t.the-row .written)))) l₂₀ (sliceVal (b₃, o₃) n₃) (full 𝓤 (tyRef erased imm (pointee (Object-t.the-row .written))) l₁₉ (vptr b₃ o₃) (full 𝓤 (sliceTy (tyRef erased imm (pointee ((Array u16 35) .written)))) l₁₈ (sliceVal (b₂, o₂) n₂) (full 𝓤 (tyRef erased imm (pointee ((Array u16 35) .written))) l₁₇ (vptr b₂ o₂) (full 𝓤 (sliceTy (tyRef erased imm (pointee ((Array u64 5) .written)))) l₁₆ (sliceVal (b₁, o₁) n₁) (full 𝓤 (tyRef erased imm (pointee ((Array u64 5) .written))) l₁₅ (vptr b₁ o₁) (free 𝓤 Refusal-l.mir l₁₄ (free 𝓤 (tyInt w64) l₁₃ (free 𝓤 Start-l.mir l₁₂ (full 𝓤 Parts-l.mir l₁₁ (Parts-p .val (partsOf (judgeOf (lent (sessions) (streams) (objects)) (d) agent input n₆))) (full 𝓤 Judged-l.mir l₁₀ (Judged-p .val (judgeOf (lent (sessions) (streams) (objects)) (d) agent input n₆)) (full 𝓤 (tyInt w64) l₉ (u64-p .val n₆) (full 𝓤 Input-l.mir l₈ (Input-p .val input) (full 𝓤 Agent-l.mir l₇ (Agent-p .val agent) (full 𝓤 (sliceTy (tyRef (named 5) imm (pointee (u8 .written)))) l₆ (sliceVal (b₆, o₆) n₆) (full 𝓤 (sliceTy (tyRef (named 4) imm (pointee (u8 .written)))) l₅ (sliceVal (b₅, o₅) n₅) (full 𝓤 (sliceTy (tyRef (named 3) mut (pointee (u8 .written)))) l₄ (sliceVal (b₄, o₄) n₄) (full 𝓤 (sliceTy (tyRef (named 2) mut (pointee (Object-t.the-row .written)))) l₃ (sliceVal (b₃, o₃) n₃) (full 𝓤 (sliceTy (tyRef (named 1) mut (pointee ((Array u16 35) .written)))) l₂ (sliceVal (b₂, o₂) n₂) (full 𝓤 (sliceTy (tyRef (named 0) mut (pointee ((Array u64 5) .written)))) l₁ (sliceVal (b₁, o₁) n₁) (free 𝓤 Processed-l.mir l₀ ([])))))))))))))))))))))))))))))))) (runs C Λ En mir.t-10 (atRet En Post))
-    part-10-0 is-8 is-9 =
-        assigns ! (of-opd ! (load ! (from ! (fld ! refl (stop !))) (look-in ! 50 (sub ! 0 refl (whole !))))) (from ! (stop !)) (init ! 30 refl (bool-p .typed 𝓤 H A W ((partsOf (judgeOf (lent (sessions) (streams) (objects)) (d) agent input n₆)) .goes) (LL.owed Parts-t.the-type Parts-l.the-laws (partsOf (judgeOf (lent (sessions) (streams) (objects)) (d) agent input n₆)) _ is-9 .0))) $
+    part-13-0 : (is-11 : Is (Judged-p .row) (judgeOf (lent (sessions) (streams) (objects) (held)) (d) agent input n₇ n₅) (Judged-p .val (judgeOf (lent (sessions) (streams) (objects) (held)) (d) agent input n₇ n₅) ∷ [])) → (is-12 : Is (Parts-p .row) (partsOf (judgeOf (lent (sessions) (streams) (objects) (held)) (d) agent input n₇ n₅)) (Parts-p .val (partsOf (judgeOf (lent (sessions) (streams) (objects) (held)) (d) agent input n₇ n₅)) ∷ [])) → Sq W (‵ (MutSlice (named 0) κ₁ (Array u64 6) .own (at-list b₁ o₁ γ₁ sessions) (sliceVal (b₁, o₁) n₁ ∷ [])) ∷ ‵ (flft κ₁ q₁) ∷ ‵ (MutSlice (named 0) κ₂ (Array u16 35) .own (at-list b₂ o₂ γ₂ streams) (sliceVal (b₂, o₂) n₂ ∷ [])) ∷ ‵ (flft κ₂ q₂) ∷ ‵ (MutSlice (named 0) κ₃ Object-t.the-row .own (at-list b₃ o₃ γ₃ objects) (sliceVal (b₃, o₃) n₃ ∷ [])) ∷ ‵ (flft κ₃ q₃) ∷ ‵ (MutSlice (named 0) κ₄ u8 .own (at-list b₄ o₄ γ₄ held) (sliceVal (b₄, o₄) n₄ ∷ [])) ∷ ‵ (flft κ₄ q₄) ∷ ‵ (MutSlice (named 0) κ₅ u8 .own (at-list b₅ o₅ γ₅ out) (sliceVal (b₅, o₅) n₅ ∷ [])) ∷ ‵ (flft κ₅ q₅) ∷ ‵ (ShrSlice (named 0) κ₆ u8 .own (at-list b₆ o₆ γ₆ d) (sliceVal (b₆, o₆) n₆ ∷ [])) ∷ ‵ (flft κ₆ q₆) ∷ ‵ (ShrSlice (named 0) κ₇ u8 .own (at-list b₇ o₇ γ₇ sample) (sliceVal (b₇, o₇) n₇ ∷ [])) ∷ ‵ (flft κ₇ q₇) ∷ free 𝓤 (sliceTy (tyRef erased mut (pointee (u8 .written)))) l₃₆ (free 𝓤 (tyRef erased mut (pointee (u8 .written))) l₃₅ (free 𝓤 (sliceTy (tyRef erased mut (pointee (u8 .written)))) l₃₄ (free 𝓤 (tyRef erased mut (pointee (u8 .written))) l₃₃ (free 𝓤 (sliceTy (tyRef erased mut (pointee (Object-t.the-row .written)))) l₃₂ (free 𝓤 (tyRef erased mut (pointee (Object-t.the-row .written))) l₃₁ (free 𝓤 (sliceTy (tyRef erased mut (pointee ((Array u16 35) .written)))) l₃₀ (free 𝓤 (tyRef erased mut (pointee ((Array u16 35) .written))) l₂₉ (free 𝓤 (sliceTy (tyRef erased mut (pointee ((Array u64 6) .written)))) l₂₈ (free 𝓤 (tyRef erased mut (pointee ((Array u64 6) .written))) l₂₇ (free 𝓤 Processed-l.mir l₂₆ (free 𝓤 tyBool l₂₅ (full 𝓤 (sliceTy (tyRef erased imm (pointee (u8 .written)))) l₂₄ (sliceVal (b₄, o₄) n₄) (full 𝓤 (tyRef erased imm (pointee (u8 .written))) l₂₃ (vptr b₄ o₄) (full 𝓤 (sliceTy (tyRef erased imm (pointee (Object-t.the-row .written)))) l₂₂ (sliceVal (b₃, o₃) n₃) (full 𝓤 (tyRef erased imm (pointee (Object-t.the-row .written))) l₂₁ (vptr b₃ o₃) (full 𝓤 (sliceTy (tyRef erased imm (pointee ((Array u16 35) .written)))) l₂₀ (sliceVal (b₂, o₂) n₂) (full 𝓤 (tyRef erased imm (pointee ((Array u16 35) .written))) l₁₉ (vptr b₂ o₂) (full 𝓤 (sliceTy (tyRef erased imm (pointee ((Array u64 6) .written)))) l₁₈ (sliceVal (b₁, o₁) n₁) (full 𝓤 (tyRef erased imm (pointee ((Array u64 6) .written))) l₁₇ (vptr b₁ o₁) (free 𝓤 Refusal-l.mir l₁₆ (free 𝓤 (tyInt w64) l₁₅ (free 𝓤 Start-l.mir l₁₄ (full 𝓤 Parts-l.mir l₁₃ (Parts-p .val (partsOf (judgeOf (lent (sessions) (streams) (objects) (held)) (d) agent input n₇ n₅))) (full 𝓤 Judged-l.mir l₁₂ (Judged-p .val (judgeOf (lent (sessions) (streams) (objects) (held)) (d) agent input n₇ n₅)) (full 𝓤 (tyInt w64) l₁₁ (u64-p .val n₅) (full 𝓤 (tyInt w64) l₁₀ (u64-p .val n₇) (full 𝓤 Input-l.mir l₉ (Input-p .val input) (full 𝓤 Agent-l.mir l₈ (Agent-p .val agent) (full 𝓤 (sliceTy (tyRef (named 6) imm (pointee (u8 .written)))) l₇ (sliceVal (b₇, o₇) n₇) (full 𝓤 (sliceTy (tyRef (named 5) imm (pointee (u8 .written)))) l₆ (sliceVal (b₆, o₆) n₆) (full 𝓤 (sliceTy (tyRef (named 4) mut (pointee (u8 .written)))) l₅ (sliceVal (b₅, o₅) n₅) (full 𝓤 (sliceTy (tyRef (named 3) mut (pointee (u8 .written)))) l₄ (sliceVal (b₄, o₄) n₄) (full 𝓤 (sliceTy (tyRef (named 2) mut (pointee (Object-t.the-row .written)))) l₃ (sliceVal (b₃, o₃) n₃) (full 𝓤 (sliceTy (tyRef (named 1) mut (pointee ((Array u16 35) .written)))) l₂ (sliceVal (b₂, o₂) n₂) (full 𝓤 (sliceTy (tyRef (named 0) mut (pointee ((Array u64 6) .written)))) l₁ (sliceVal (b₁, o₁) n₁) (free 𝓤 Processed-l.mir l₀ ([])))))))))))))))))))))))))))))))))))))) (runs C Λ En mir.t-13 (atRet En Post))
+    part-13-0 is-11 is-12 =
+        assigns ! (of-opd ! (load ! (from ! (fld ! refl (stop !))) (look-in ! 60 (sub ! 0 refl (whole !))))) (from ! (stop !)) (init ! 36 refl (bool-p .typed 𝓤 H A W ((partsOf (judgeOf (lent (sessions) (streams) (objects) (held)) (d) agent input n₇ n₅)) .goes) (LL.owed Parts-t.the-type Parts-l.the-laws (partsOf (judgeOf (lent (sessions) (streams) (objects) (held)) (d) agent input n₇ n₅)) _ is-12 .0))) $
         first ! $
-        branches ! (load ! (from ! (stop !)) (look ! 30 refl))
-        (λ h-11.
-        knows ! ((partsOf (judgeOf (lent (sessions) (streams) (objects)) (d) agent input n₆)) .goes ≡ true) (holds ((partsOf (judgeOf (lent (sessions) (streams) (objects)) (d) agent input n₆)) .goes) h-11) (λ c-11.
-        assigns ! (of-opd ! (load ! (from ! (fld ! refl (stop !))) (look-in ! 50 (sub ! 1 refl (whole !))))) (from ! (stop !)) (init ! 48 refl (Start-p .typed 𝓤 H A W ((partsOf (judgeOf (lent (sessions) (streams) (objects)) (d) agent input n₆)) .start) (LL.owed Parts-t.the-type Parts-l.the-laws (partsOf (judgeOf (lent (sessions) (streams) (objects)) (d) agent input n₆)) _ is-9 .1 .0))) $
-        assigns ! (of-opd ! (load ! (from ! (fld ! refl (stop !))) (look-in ! 50 (sub ! 2 refl (whole !))))) (from ! (stop !)) (init ! 46 refl (u64-p .typed 𝓤 H A W ((partsOf (judgeOf (lent (sessions) (streams) (objects)) (d) agent input n₆)) .count) (LL.owed Parts-t.the-type Parts-l.the-laws (partsOf (judgeOf (lent (sessions) (streams) (objects)) (d) agent input n₆)) _ is-9 .1 .1 .0))) $
-        assigns ! (addr ! (from ! (fld ! refl (hop ! (look-in ! 70 (sub ! 0 refl (whole !))) (stop !))))) (from ! (stop !)) (init ! 26 refl (tt, tt)) $
-        assigns ! (agg ! (and-then ! (load ! (from ! (stop !)) (look ! 26 refl)) (and-then ! (load ! (from ! (fld ! refl (stop !))) (look-in ! 70 (sub ! 1 refl (whole !)))) (no-more !)))) (from ! (stop !)) (init ! 24 refl (tt, (tt, (record { fits = room₁ .0 }, tt)))) $
-        assigns ! (addr ! (from ! (fld ! refl (hop ! (look-in ! 68 (sub ! 0 refl (whole !))) (stop !))))) (from ! (stop !)) (init ! 22 refl (tt, tt)) $
-        assigns ! (agg ! (and-then ! (load ! (from ! (stop !)) (look ! 22 refl)) (and-then ! (load ! (from ! (fld ! refl (stop !))) (look-in ! 68 (sub ! 1 refl (whole !)))) (no-more !)))) (from ! (stop !)) (init ! 20 refl (tt, (tt, (record { fits = room₂ .0 }, tt)))) $
-        assigns ! (addr ! (from ! (fld ! refl (hop ! (look-in ! 66 (sub ! 0 refl (whole !))) (stop !))))) (from ! (stop !)) (init ! 18 refl (tt, tt)) $
-        assigns ! (agg ! (and-then ! (load ! (from ! (stop !)) (look ! 18 refl)) (and-then ! (load ! (from ! (fld ! refl (stop !))) (look-in ! 66 (sub ! 1 refl (whole !)))) (no-more !)))) (from ! (stop !)) (init ! 16 refl (tt, (tt, (record { fits = room₃ .0 }, tt)))) $
-        assigns ! (addr ! (from ! (fld ! refl (hop ! (look-in ! 64 (sub ! 0 refl (whole !))) (stop !))))) (from ! (stop !)) (init ! 14 refl (tt, tt)) $
-        assigns ! (agg ! (and-then ! (load ! (from ! (stop !)) (look ! 14 refl)) (and-then ! (load ! (from ! (fld ! refl (stop !))) (look-in ! 64 (sub ! 1 refl (whole !)))) (no-more !)))) (from ! (stop !)) (init ! 12 refl (tt, (tt, (record { fits = room₄ .0 }, tt)))) $
-        knows ! ((resumesFit (((partsOf (judgeOf (lent (sessions) (streams) (objects)) (d) agent input n₆)) .start) .resumes) (length (sample)) ≡ true) × (ltb (length (out)) (neededOf (roomy (length (out)) (((partsOf (judgeOf (lent (sessions) (streams) (objects)) (d) agent input n₆)) .start) .resumes) ((partsOf (judgeOf (lent (sessions) (streams) (objects)) (d) agent input n₆)) .count) (length (sample))) (performed ((partsOf (judgeOf (lent (sessions) (streams) (objects)) (d) agent input n₆)) .start) (lent (sessions) (streams) (objects)) (d) (sample) .ran .wrote)) ≡ ltb (length (out)) (performed ((partsOf (judgeOf (lent (sessions) (streams) (objects)) (d) agent input n₆)) .start) (lent (sessions) (streams) (objects)) (d) (sample) .ran .wrote)) × (256 ≤ length (sessions)) × (2048 ≤ length (streams)) × (8192 ≤ length (objects))) ((let-through c-11 .sample-fits, thirteen tables-lent d sample (partsOf judged .start) (partsOf judged .count) (length out) (let-through c-11), let-through c-11 .sessions-long, let-through c-11 .streams-long, let-through c-11 .objects-long)) (λ asks-11·yes·11.
-        -- 11.yes.11: agent::process::go
-        lends-mut ! tt (Array u64 5) b₁ o₁ sessions n₁ (refl) (λ ν-11·yes·11-sessions δ-11·yes·11-sessions.
+        branches ! (load ! (from ! (stop !)) (look ! 36 refl))
+        (λ h-14.
+        knows ! ((partsOf (judgeOf (lent (sessions) (streams) (objects) (held)) (d) agent input n₇ n₅)) .goes ≡ true) (holds ((partsOf (judgeOf (lent (sessions) (streams) (objects) (held)) (d) agent input n₇ n₅)) .goes) h-14) (λ c-14.
+        assigns ! (of-opd ! (load ! (from ! (fld ! refl (stop !))) (look-in ! 60 (sub ! 1 refl (whole !))))) (from ! (stop !)) (init ! 58 refl (Start-p .typed 𝓤 H A W ((partsOf (judgeOf (lent (sessions) (streams) (objects) (held)) (d) agent input n₇ n₅)) .start) (LL.owed Parts-t.the-type Parts-l.the-laws (partsOf (judgeOf (lent (sessions) (streams) (objects) (held)) (d) agent input n₇ n₅)) _ is-12 .1 .0))) $
+        assigns ! (of-opd ! (load ! (from ! (fld ! refl (stop !))) (look-in ! 60 (sub ! 2 refl (whole !))))) (from ! (stop !)) (init ! 56 refl (u64-p .typed 𝓤 H A W ((partsOf (judgeOf (lent (sessions) (streams) (objects) (held)) (d) agent input n₇ n₅)) .count) (LL.owed Parts-t.the-type Parts-l.the-laws (partsOf (judgeOf (lent (sessions) (streams) (objects) (held)) (d) agent input n₇ n₅)) _ is-12 .1 .1 .0))) $
+        assigns ! (addr ! (from ! (fld ! refl (hop ! (look-in ! 84 (sub ! 0 refl (whole !))) (stop !))))) (from ! (stop !)) (init ! 32 refl (tt, tt)) $
+        assigns ! (agg ! (and-then ! (load ! (from ! (stop !)) (look ! 32 refl)) (and-then ! (load ! (from ! (fld ! refl (stop !))) (look-in ! 84 (sub ! 1 refl (whole !)))) (no-more !)))) (from ! (stop !)) (init ! 30 refl (tt, (tt, (record { fits = room₁ .0 }, tt)))) $
+        assigns ! (addr ! (from ! (fld ! refl (hop ! (look-in ! 82 (sub ! 0 refl (whole !))) (stop !))))) (from ! (stop !)) (init ! 28 refl (tt, tt)) $
+        assigns ! (agg ! (and-then ! (load ! (from ! (stop !)) (look ! 28 refl)) (and-then ! (load ! (from ! (fld ! refl (stop !))) (look-in ! 82 (sub ! 1 refl (whole !)))) (no-more !)))) (from ! (stop !)) (init ! 26 refl (tt, (tt, (record { fits = room₂ .0 }, tt)))) $
+        assigns ! (addr ! (from ! (fld ! refl (hop ! (look-in ! 80 (sub ! 0 refl (whole !))) (stop !))))) (from ! (stop !)) (init ! 24 refl (tt, tt)) $
+        assigns ! (agg ! (and-then ! (load ! (from ! (stop !)) (look ! 24 refl)) (and-then ! (load ! (from ! (fld ! refl (stop !))) (look-in ! 80 (sub ! 1 refl (whole !)))) (no-more !)))) (from ! (stop !)) (init ! 22 refl (tt, (tt, (record { fits = room₃ .0 }, tt)))) $
+        assigns ! (addr ! (from ! (fld ! refl (hop ! (look-in ! 78 (sub ! 0 refl (whole !))) (stop !))))) (from ! (stop !)) (init ! 20 refl (tt, tt)) $
+        assigns ! (agg ! (and-then ! (load ! (from ! (stop !)) (look ! 20 refl)) (and-then ! (load ! (from ! (fld ! refl (stop !))) (look-in ! 78 (sub ! 1 refl (whole !)))) (no-more !)))) (from ! (stop !)) (init ! 18 refl (tt, (tt, (record { fits = room₄ .0 }, tt)))) $
+        assigns ! (addr ! (from ! (fld ! refl (hop ! (look-in ! 76 (sub ! 0 refl (whole !))) (stop !))))) (from ! (stop !)) (init ! 16 refl (tt, tt)) $
+        assigns ! (agg ! (and-then ! (load ! (from ! (stop !)) (look ! 16 refl)) (and-then ! (load ! (from ! (fld ! refl (stop !))) (look-in ! 76 (sub ! 1 refl (whole !)))) (no-more !)))) (from ! (stop !)) (init ! 14 refl (tt, (tt, (record { fits = room₅ .0 }, tt)))) $
+        knows ! ((resumesFit (((partsOf (judgeOf (lent (sessions) (streams) (objects) (held)) (d) agent input n₇ n₅)) .start) .resumes) (((partsOf (judgeOf (lent (sessions) (streams) (objects) (held)) (d) agent input n₇ n₅)) .start) .frame .«stream_id») (length (sample)) ≡ true) × (((partsOf (judgeOf (lent (sessions) (streams) (objects) (held)) (d) agent input n₇ n₅)) .start) .frame .room ≡ length (out)) × (ltb (length (out)) (neededOf (roomy (length (out)) ((partsOf (judgeOf (lent (sessions) (streams) (objects) (held)) (d) agent input n₇ n₅)) .start) ((partsOf (judgeOf (lent (sessions) (streams) (objects) (held)) (d) agent input n₇ n₅)) .count) (d) (length (sample))) (performed ((partsOf (judgeOf (lent (sessions) (streams) (objects) (held)) (d) agent input n₇ n₅)) .start) (lent (sessions) (streams) (objects) (held)) (d) (sample) .ran .wrote)) ≡ ltb (length (out)) (performed ((partsOf (judgeOf (lent (sessions) (streams) (objects) (held)) (d) agent input n₇ n₅)) .start) (lent (sessions) (streams) (objects) (held)) (d) (sample) .ran .wrote)) × (256 ≤ length (sessions)) × (2048 ≤ length (streams)) × (8192 ≤ length (objects))) ((let-through c-14 .sample-fits, let-through c-14 .room-is, thirteen tables-lent d sample (partsOf judged .start) (partsOf judged .count) (length out) (let-through c-14), let-through c-14 .sessions-long, let-through c-14 .streams-long, let-through c-14 .objects-long)) (λ asks-14·yes·13.
+        -- 14.yes.13: agent::process::go
+        lends-mut ! tt (Array u64 6) b₁ o₁ sessions n₁ (refl) (λ ν-14·yes·13-sessions δ-14·yes·13-sessions.
         move ! (3 ∷ 4 ∷ []) $
-        lends-mut ! tt (Array u16 35) b₂ o₂ streams n₂ (refl) (λ ν-11·yes·11-streams δ-11·yes·11-streams.
+        lends-mut ! tt (Array u16 35) b₂ o₂ streams n₂ (refl) (λ ν-14·yes·13-streams δ-14·yes·13-streams.
         move ! (6 ∷ 7 ∷ []) $
-        lends-mut ! tt Object-t.the-row b₃ o₃ objects n₃ (refl) (λ ν-11·yes·11-objects δ-11·yes·11-objects.
+        lends-mut ! tt Object-t.the-row b₃ o₃ objects n₃ (refl) (λ ν-14·yes·13-objects δ-14·yes·13-objects.
         move ! (9 ∷ 10 ∷ []) $
-        lends-mut ! tt u8 b₄ o₄ out n₄ (refl) (λ ν-11·yes·11-out δ-11·yes·11-out.
+        lends-mut ! tt u8 b₄ o₄ held n₄ (refl) (λ ν-14·yes·13-held δ-14·yes·13-held.
         move ! (12 ∷ 13 ∷ []) $
-        copies-shr ! u8 b₅ o₅ d n₅ $ move ! (15 ∷ 16 ∷ []) $
-        copies-shr ! u8 b₆ o₆ sample n₆ $ nothing ! $ move ! (1 ∷ 0 ∷ []) $ join ! $ move ! (3 ∷ 0 ∷ []) $ join ! $ move ! (5 ∷ 0 ∷ []) $ join ! $ move ! (7 ∷ 0 ∷ []) $ join ! $ move ! (9 ∷ 0 ∷ []) $ join ! $ move ! (11 ∷ 0 ∷ []) $ join ! $
-        use1 W (raw (toks 𝓤 A 6 (((ν-11·yes·11-sessions ∷ []), ((ν-11·yes·11-streams ∷ []), ((ν-11·yes·11-objects ∷ []), ((ν-11·yes·11-out ∷ []), (κ₅, (κ₆, tt))))))) ((fullShare, (fullShare, (fullShare, (fullShare, (q₅, (q₆, tt))))))))) (id⊢ 𝓤 _) $ nothing ! $
-        owned ! (u64-p .row) (Is (u64-p .row)) (u64-p .makes 𝓤 H A W) ((partsOf (judgeOf (lent (sessions) (streams) (objects)) (d) agent input n₆)) .count) (u64-p .val ((partsOf (judgeOf (lent (sessions) (streams) (objects)) (d) agent input n₆)) .count) ∷ []) (LL.owed Parts-t.the-type Parts-l.the-laws (partsOf (judgeOf (lent (sessions) (streams) (objects)) (d) agent input n₆)) _ is-9 .1 .1 .0) $ fjoin ! $
-        owned ! (Start-p .row) (Is (Start-p .row)) (Start-p .makes 𝓤 H A W) ((partsOf (judgeOf (lent (sessions) (streams) (objects)) (d) agent input n₆)) .start) (Start-p .val ((partsOf (judgeOf (lent (sessions) (streams) (objects)) (d) agent input n₆)) .start) ∷ []) (LL.owed Parts-t.the-type Parts-l.the-laws (partsOf (judgeOf (lent (sessions) (streams) (objects)) (d) agent input n₆)) _ is-9 .1 .0) $ fjoin ! $
-        owned ! (Agent-p .row) (Is (Agent-p .row)) (Agent-p .makes 𝓤 H A W) agent (Agent-p .val agent ∷ []) agent-is $ fjoin ! $ move ! (2 ∷ 0 ∷ []) $ fjoin ! $ move ! (3 ∷ 0 ∷ []) $ fjoin ! $ move ! (4 ∷ 0 ∷ []) $ fjoin ! $ move ! (5 ∷ 0 ∷ []) $ fjoin ! $ move ! (6 ∷ 0 ∷ []) $ fjoin ! $ move ! (7 ∷ 0 ∷ []) $ fjoin ! $ move ! (1 ∷ 0 ∷ []) $
-        calls-any-last ! fm 6 [] (process-go.signature .params) (process-go.ended .kept) Processed-p (process-go.clauses 𝓤 H A mem run) known-process-go ((ν-11·yes·11-sessions ∷ []), ((ν-11·yes·11-streams ∷ []), ((ν-11·yes·11-objects ∷ []), ((ν-11·yes·11-out ∷ []), (κ₅, (κ₆, tt)))))) (fullShare, (fullShare, (fullShare, (fullShare, (q₅, (q₆, tt)))))) tt (at-list b₁ o₁ δ-11·yes·11-sessions sessions, (at-list b₂ o₂ δ-11·yes·11-streams streams, (at-list b₃ o₃ δ-11·yes·11-objects objects, (at-list b₄ o₄ δ-11·yes·11-out out, (at-list b₅ o₅ γ₅ d, (at-list b₆ o₆ γ₆ sample, (agent, ((partsOf (judgeOf (lent (sessions) (streams) (objects)) (d) agent input n₆)) .start, ((partsOf (judgeOf (lent (sessions) (streams) (objects)) (d) agent input n₆)) .count, tt))))))))) (sliceVal (b₁, o₁) n₁ ∷ [], (sliceVal (b₂, o₂) n₂ ∷ [], (sliceVal (b₃, o₃) n₃ ∷ [], (sliceVal (b₄, o₄) n₄ ∷ [], (sliceVal (b₅, o₅) n₅ ∷ [], (sliceVal (b₆, o₆) n₆ ∷ [], (Agent-p .val agent ∷ [], (Start-p .val ((partsOf (judgeOf (lent (sessions) (streams) (objects)) (d) agent input n₆)) .start) ∷ [], (u64-p .val ((partsOf (judgeOf (lent (sessions) (streams) (objects)) (d) agent input n₆)) .count) ∷ [], tt))))))))) tt (finish agent (lent (sessions) (streams) (objects)) (out) ((partsOf (judgeOf (lent (sessions) (streams) (objects)) (d) agent input n₆)) .start) (performed ((partsOf (judgeOf (lent (sessions) (streams) (objects)) (d) agent input n₆)) .start) (lent (sessions) (streams) (objects)) (d) (sample)) .processed) (λ ws-11·yes·11. (ws-11·yes·11 .0 ≡ finish agent (lent (sessions) (streams) (objects)) (out) ((partsOf (judgeOf (lent (sessions) (streams) (objects)) (d) agent input n₆)) .start) (performed ((partsOf (judgeOf (lent (sessions) (streams) (objects)) (d) agent input n₆)) .start) (lent (sessions) (streams) (objects)) (d) (sample)) .tables .sessions) × (ws-11·yes·11 .1 .0 ≡ finish agent (lent (sessions) (streams) (objects)) (out) ((partsOf (judgeOf (lent (sessions) (streams) (objects)) (d) agent input n₆)) .start) (performed ((partsOf (judgeOf (lent (sessions) (streams) (objects)) (d) agent input n₆)) .start) (lent (sessions) (streams) (objects)) (d) (sample)) .tables .streams) × (ws-11·yes·11 .1 .1 .0 ≡ finish agent (lent (sessions) (streams) (objects)) (out) ((partsOf (judgeOf (lent (sessions) (streams) (objects)) (d) agent input n₆)) .start) (performed ((partsOf (judgeOf (lent (sessions) (streams) (objects)) (d) agent input n₆)) .start) (lent (sessions) (streams) (objects)) (d) (sample)) .tables .objects) × (ws-11·yes·11 .1 .1 .1 .0 ≡ finish agent (lent (sessions) (streams) (objects)) (out) ((partsOf (judgeOf (lent (sessions) (streams) (objects)) (d) agent input n₆)) .start) (performed ((partsOf (judgeOf (lent (sessions) (streams) (objects)) (d) agent input n₆)) .start) (lent (sessions) (streams) (objects)) (d) (sample)) .out)) (factI 𝓤 ((resumesFit (((partsOf (judgeOf (lent (sessions) (streams) (objects)) (d) agent input n₆)) .start) .resumes) (length (sample)) ≡ true) × (ltb (length (out)) (neededOf (roomy (length (out)) (((partsOf (judgeOf (lent (sessions) (streams) (objects)) (d) agent input n₆)) .start) .resumes) ((partsOf (judgeOf (lent (sessions) (streams) (objects)) (d) agent input n₆)) .count) (length (sample))) (performed ((partsOf (judgeOf (lent (sessions) (streams) (objects)) (d) agent input n₆)) .start) (lent (sessions) (streams) (objects)) (d) (sample) .ran .wrote)) ≡ ltb (length (out)) (performed ((partsOf (judgeOf (lent (sessions) (streams) (objects)) (d) agent input n₆)) .start) (lent (sessions) (streams) (objects)) (d) (sample) .ran .wrote)) × (256 ≤ length (sessions)) × (2048 ≤ length (streams)) × (8192 ≤ length (objects))) _ asks-11·yes·11) (λ r ws-11·yes·11. fact-mono 𝓤 ((r ≡ finish agent (lent (sessions) (streams) (objects)) (out) ((partsOf (judgeOf (lent (sessions) (streams) (objects)) (d) agent input n₆)) .start) (performed ((partsOf (judgeOf (lent (sessions) (streams) (objects)) (d) agent input n₆)) .start) (lent (sessions) (streams) (objects)) (d) (sample)) .processed) × ((ws-11·yes·11 .0) ≡ finish agent (lent (sessions) (streams) (objects)) (out) ((partsOf (judgeOf (lent (sessions) (streams) (objects)) (d) agent input n₆)) .start) (performed ((partsOf (judgeOf (lent (sessions) (streams) (objects)) (d) agent input n₆)) .start) (lent (sessions) (streams) (objects)) (d) (sample)) .tables .sessions) × ((ws-11·yes·11 .1 .0) ≡ finish agent (lent (sessions) (streams) (objects)) (out) ((partsOf (judgeOf (lent (sessions) (streams) (objects)) (d) agent input n₆)) .start) (performed ((partsOf (judgeOf (lent (sessions) (streams) (objects)) (d) agent input n₆)) .start) (lent (sessions) (streams) (objects)) (d) (sample)) .tables .streams) × ((ws-11·yes·11 .1 .1 .0) ≡ finish agent (lent (sessions) (streams) (objects)) (out) ((partsOf (judgeOf (lent (sessions) (streams) (objects)) (d) agent input n₆)) .start) (performed ((partsOf (judgeOf (lent (sessions) (streams) (objects)) (d) agent input n₆)) .start) (lent (sessions) (streams) (objects)) (d) (sample)) .tables .objects) × ((ws-11·yes·11 .1 .1 .1 .0) ≡ finish agent (lent (sessions) (streams) (objects)) (out) ((partsOf (judgeOf (lent (sessions) (streams) (objects)) (d) agent input n₆)) .start) (performed ((partsOf (judgeOf (lent (sessions) (streams) (objects)) (d) agent input n₆)) .start) (lent (sessions) (streams) (objects)) (d) (sample)) .out)) ((r ≡ (finish agent (lent (sessions) (streams) (objects)) (out) ((partsOf (judgeOf (lent (sessions) (streams) (objects)) (d) agent input n₆)) .start) (performed ((partsOf (judgeOf (lent (sessions) (streams) (objects)) (d) agent input n₆)) .start) (lent (sessions) (streams) (objects)) (d) (sample)) .processed)) × ((ws-11·yes·11 .0 ≡ finish agent (lent (sessions) (streams) (objects)) (out) ((partsOf (judgeOf (lent (sessions) (streams) (objects)) (d) agent input n₆)) .start) (performed ((partsOf (judgeOf (lent (sessions) (streams) (objects)) (d) agent input n₆)) .start) (lent (sessions) (streams) (objects)) (d) (sample)) .tables .sessions) × (ws-11·yes·11 .1 .0 ≡ finish agent (lent (sessions) (streams) (objects)) (out) ((partsOf (judgeOf (lent (sessions) (streams) (objects)) (d) agent input n₆)) .start) (performed ((partsOf (judgeOf (lent (sessions) (streams) (objects)) (d) agent input n₆)) .start) (lent (sessions) (streams) (objects)) (d) (sample)) .tables .streams) × (ws-11·yes·11 .1 .1 .0 ≡ finish agent (lent (sessions) (streams) (objects)) (out) ((partsOf (judgeOf (lent (sessions) (streams) (objects)) (d) agent input n₆)) .start) (performed ((partsOf (judgeOf (lent (sessions) (streams) (objects)) (d) agent input n₆)) .start) (lent (sessions) (streams) (objects)) (d) (sample)) .tables .objects) × (ws-11·yes·11 .1 .1 .1 .0 ≡ finish agent (lent (sessions) (streams) (objects)) (out) ((partsOf (judgeOf (lent (sessions) (streams) (objects)) (d) agent input n₆)) .start) (performed ((partsOf (judgeOf (lent (sessions) (streams) (objects)) (d) agent input n₆)) .start) (lent (sessions) (streams) (objects)) (d) (sample)) .out))) (λ e. (e .0, (e .1, e .2, e .3, e .4)))) (λ _. (and-then ! (load ! (from ! (stop !)) (look ! 19 refl)) (and-then ! (load ! (from ! (stop !)) (look ! 15 refl)) (and-then ! (load ! (from ! (stop !)) (look ! 11 refl)) (and-then ! (load ! (from ! (stop !)) (look ! 7 refl)) (and-then ! (load ! (from ! (stop !)) (look ! 57 refl)) (and-then ! (load ! (from ! (stop !)) (look ! 55 refl)) (and-then ! (load ! (from ! (stop !)) (look ! 53 refl)) (and-then ! (load ! (from ! (stop !)) (look ! 43 refl)) (and-then ! (load ! (from ! (stop !)) (look ! 41 refl)) (no-more !))))))))))) (λ ws-11·yes·11 said-11·yes·11 is-11·yes·11.
-        use1 W ((‵ (flft (ν-11·yes·11-sessions ∷ []) fullShare) ⊛ (‵ (flft (ν-11·yes·11-streams ∷ []) fullShare) ⊛ (‵ (flft (ν-11·yes·11-objects ∷ []) fullShare) ⊛ (‵ (flft (ν-11·yes·11-out ∷ []) fullShare) ⊛ (‵ (flft κ₅ q₅) ⊛ (‵ (flft κ₆ q₆) ⊛ ‵ ftrue))))))) (id⊢ 𝓤 _) $ split ! $ move ! (1 ∷ []) $ split ! $ move ! (1 ∷ []) $ split ! $ move ! (1 ∷ []) $ split ! $ move ! (1 ∷ []) $ split ! $ move ! (1 ∷ []) $ split ! $ move ! (7 ∷ []) $ fsplit ! $ fsplit ! $ move ! (1 ∷ []) $
-        feqL ! (λ wlen-11·yes·11-0.
+        lends-mut ! tt u8 b₅ o₅ out n₅ (refl) (λ ν-14·yes·13-out δ-14·yes·13-out.
+        move ! (15 ∷ 16 ∷ []) $
+        copies-shr ! u8 b₆ o₆ d n₆ $ move ! (18 ∷ 19 ∷ []) $
+        copies-shr ! u8 b₇ o₇ sample n₇ $ nothing ! $ move ! (1 ∷ 0 ∷ []) $ join ! $ move ! (3 ∷ 0 ∷ []) $ join ! $ move ! (5 ∷ 0 ∷ []) $ join ! $ move ! (7 ∷ 0 ∷ []) $ join ! $ move ! (9 ∷ 0 ∷ []) $ join ! $ move ! (11 ∷ 0 ∷ []) $ join ! $ move ! (13 ∷ 0 ∷ []) $ join ! $
+        use1 W (raw (toks 𝓤 A 7 (((ν-14·yes·13-sessions ∷ []), ((ν-14·yes·13-streams ∷ []), ((ν-14·yes·13-objects ∷ []), ((ν-14·yes·13-held ∷ []), ((ν-14·yes·13-out ∷ []), (κ₆, (κ₇, tt)))))))) ((fullShare, (fullShare, (fullShare, (fullShare, (fullShare, (q₆, (q₇, tt)))))))))) (id⊢ 𝓤 _) $ nothing ! $
+        owned ! (u64-p .row) (Is (u64-p .row)) (u64-p .makes 𝓤 H A W) ((partsOf (judgeOf (lent (sessions) (streams) (objects) (held)) (d) agent input n₇ n₅)) .count) (u64-p .val ((partsOf (judgeOf (lent (sessions) (streams) (objects) (held)) (d) agent input n₇ n₅)) .count) ∷ []) (LL.owed Parts-t.the-type Parts-l.the-laws (partsOf (judgeOf (lent (sessions) (streams) (objects) (held)) (d) agent input n₇ n₅)) _ is-12 .1 .1 .0) $ fjoin ! $
+        owned ! (Start-p .row) (Is (Start-p .row)) (Start-p .makes 𝓤 H A W) ((partsOf (judgeOf (lent (sessions) (streams) (objects) (held)) (d) agent input n₇ n₅)) .start) (Start-p .val ((partsOf (judgeOf (lent (sessions) (streams) (objects) (held)) (d) agent input n₇ n₅)) .start) ∷ []) (LL.owed Parts-t.the-type Parts-l.the-laws (partsOf (judgeOf (lent (sessions) (streams) (objects) (held)) (d) agent input n₇ n₅)) _ is-12 .1 .0) $ fjoin ! $
+        owned ! (Agent-p .row) (Is (Agent-p .row)) (Agent-p .makes 𝓤 H A W) agent (Agent-p .val agent ∷ []) agent-is $ fjoin ! $ move ! (2 ∷ 0 ∷ []) $ fjoin ! $ move ! (3 ∷ 0 ∷ []) $ fjoin ! $ move ! (4 ∷ 0 ∷ []) $ fjoin ! $ move ! (5 ∷ 0 ∷ []) $ fjoin ! $ move ! (6 ∷ 0 ∷ []) $ fjoin ! $ move ! (7 ∷ 0 ∷ []) $ fjoin ! $ move ! (8 ∷ 0 ∷ []) $ fjoin ! $ move ! (1 ∷ 0 ∷ []) $
+        calls-any-last ! fm 7 [] (process-go.signature .params) (process-go.ended .kept) Processed-p (process-go.clauses 𝓤 H A mem run) known-process-go ((ν-14·yes·13-sessions ∷ []), ((ν-14·yes·13-streams ∷ []), ((ν-14·yes·13-objects ∷ []), ((ν-14·yes·13-held ∷ []), ((ν-14·yes·13-out ∷ []), (κ₆, (κ₇, tt))))))) (fullShare, (fullShare, (fullShare, (fullShare, (fullShare, (q₆, (q₇, tt))))))) tt (at-list b₁ o₁ δ-14·yes·13-sessions sessions, (at-list b₂ o₂ δ-14·yes·13-streams streams, (at-list b₃ o₃ δ-14·yes·13-objects objects, (at-list b₄ o₄ δ-14·yes·13-held held, (at-list b₅ o₅ δ-14·yes·13-out out, (at-list b₆ o₆ γ₆ d, (at-list b₇ o₇ γ₇ sample, (agent, ((partsOf (judgeOf (lent (sessions) (streams) (objects) (held)) (d) agent input n₇ n₅)) .start, ((partsOf (judgeOf (lent (sessions) (streams) (objects) (held)) (d) agent input n₇ n₅)) .count, tt)))))))))) (sliceVal (b₁, o₁) n₁ ∷ [], (sliceVal (b₂, o₂) n₂ ∷ [], (sliceVal (b₃, o₃) n₃ ∷ [], (sliceVal (b₄, o₄) n₄ ∷ [], (sliceVal (b₅, o₅) n₅ ∷ [], (sliceVal (b₆, o₆) n₆ ∷ [], (sliceVal (b₇, o₇) n₇ ∷ [], (Agent-p .val agent ∷ [], (Start-p .val ((partsOf (judgeOf (lent (sessions) (streams) (objects) (held)) (d) agent input n₇ n₅)) .start) ∷ [], (u64-p .val ((partsOf (judgeOf (lent (sessions) (streams) (objects) (held)) (d) agent input n₇ n₅)) .count) ∷ [], tt)))))))))) tt (finish agent (lent (sessions) (streams) (objects) (held)) (out) ((partsOf (judgeOf (lent (sessions) (streams) (objects) (held)) (d) agent input n₇ n₅)) .start) (performed ((partsOf (judgeOf (lent (sessions) (streams) (objects) (held)) (d) agent input n₇ n₅)) .start) (lent (sessions) (streams) (objects) (held)) (d) (sample)) .processed) (λ ws-14·yes·13. (ws-14·yes·13 .0 ≡ finish agent (lent (sessions) (streams) (objects) (held)) (out) ((partsOf (judgeOf (lent (sessions) (streams) (objects) (held)) (d) agent input n₇ n₅)) .start) (performed ((partsOf (judgeOf (lent (sessions) (streams) (objects) (held)) (d) agent input n₇ n₅)) .start) (lent (sessions) (streams) (objects) (held)) (d) (sample)) .tables .sessions) × (ws-14·yes·13 .1 .0 ≡ finish agent (lent (sessions) (streams) (objects) (held)) (out) ((partsOf (judgeOf (lent (sessions) (streams) (objects) (held)) (d) agent input n₇ n₅)) .start) (performed ((partsOf (judgeOf (lent (sessions) (streams) (objects) (held)) (d) agent input n₇ n₅)) .start) (lent (sessions) (streams) (objects) (held)) (d) (sample)) .tables .streams) × (ws-14·yes·13 .1 .1 .0 ≡ finish agent (lent (sessions) (streams) (objects) (held)) (out) ((partsOf (judgeOf (lent (sessions) (streams) (objects) (held)) (d) agent input n₇ n₅)) .start) (performed ((partsOf (judgeOf (lent (sessions) (streams) (objects) (held)) (d) agent input n₇ n₅)) .start) (lent (sessions) (streams) (objects) (held)) (d) (sample)) .tables .objects) × (ws-14·yes·13 .1 .1 .1 .0 ≡ finish agent (lent (sessions) (streams) (objects) (held)) (out) ((partsOf (judgeOf (lent (sessions) (streams) (objects) (held)) (d) agent input n₇ n₅)) .start) (performed ((partsOf (judgeOf (lent (sessions) (streams) (objects) (held)) (d) agent input n₇ n₅)) .start) (lent (sessions) (streams) (objects) (held)) (d) (sample)) .tables .held) × (ws-14·yes·13 .1 .1 .1 .1 .0 ≡ finish agent (lent (sessions) (streams) (objects) (held)) (out) ((partsOf (judgeOf (lent (sessions) (streams) (objects) (held)) (d) agent input n₇ n₅)) .start) (performed ((partsOf (judgeOf (lent (sessions) (streams) (objects) (held)) (d) agent input n₇ n₅)) .start) (lent (sessions) (streams) (objects) (held)) (d) (sample)) .out)) (factI 𝓤 ((resumesFit (((partsOf (judgeOf (lent (sessions) (streams) (objects) (held)) (d) agent input n₇ n₅)) .start) .resumes) (((partsOf (judgeOf (lent (sessions) (streams) (objects) (held)) (d) agent input n₇ n₅)) .start) .frame .«stream_id») (length (sample)) ≡ true) × (((partsOf (judgeOf (lent (sessions) (streams) (objects) (held)) (d) agent input n₇ n₅)) .start) .frame .room ≡ length (out)) × (ltb (length (out)) (neededOf (roomy (length (out)) ((partsOf (judgeOf (lent (sessions) (streams) (objects) (held)) (d) agent input n₇ n₅)) .start) ((partsOf (judgeOf (lent (sessions) (streams) (objects) (held)) (d) agent input n₇ n₅)) .count) (d) (length (sample))) (performed ((partsOf (judgeOf (lent (sessions) (streams) (objects) (held)) (d) agent input n₇ n₅)) .start) (lent (sessions) (streams) (objects) (held)) (d) (sample) .ran .wrote)) ≡ ltb (length (out)) (performed ((partsOf (judgeOf (lent (sessions) (streams) (objects) (held)) (d) agent input n₇ n₅)) .start) (lent (sessions) (streams) (objects) (held)) (d) (sample) .ran .wrote)) × (256 ≤ length (sessions)) × (2048 ≤ length (streams)) × (8192 ≤ length (objects))) _ asks-14·yes·13) (λ r ws-14·yes·13. fact-mono 𝓤 ((r ≡ finish agent (lent (sessions) (streams) (objects) (held)) (out) ((partsOf (judgeOf (lent (sessions) (streams) (objects) (held)) (d) agent input n₇ n₅)) .start) (performed ((partsOf (judgeOf (lent (sessions) (streams) (objects) (held)) (d) agent input n₇ n₅)) .start) (lent (sessions) (streams) (objects) (held)) (d) (sample)) .processed) × ((ws-14·yes·13 .0) ≡ finish agent (lent (sessions) (streams) (objects) (held)) (out) ((partsOf (judgeOf (lent (sessions) (streams) (objects) (held)) (d) agent input n₇ n₅)) .start) (performed ((partsOf (judgeOf (lent (sessions) (streams) (objects) (held)) (d) agent input n₇ n₅)) .start) (lent (sessions) (streams) (objects) (held)) (d) (sample)) .tables .sessions) × ((ws-14·yes·13 .1 .0) ≡ finish agent (lent (sessions) (streams) (objects) (held)) (out) ((partsOf (judgeOf (lent (sessions) (streams) (objects) (held)) (d) agent input n₇ n₅)) .start) (performed ((partsOf (judgeOf (lent (sessions) (streams) (objects) (held)) (d) agent input n₇ n₅)) .start) (lent (sessions) (streams) (objects) (held)) (d) (sample)) .tables .streams) × ((ws-14·yes·13 .1 .1 .0) ≡ finish agent (lent (sessions) (streams) (objects) (held)) (out) ((partsOf (judgeOf (lent (sessions) (streams) (objects) (held)) (d) agent input n₇ n₅)) .start) (performed ((partsOf (judgeOf (lent (sessions) (streams) (objects) (held)) (d) agent input n₇ n₅)) .start) (lent (sessions) (streams) (objects) (held)) (d) (sample)) .tables .objects) × ((ws-14·yes·13 .1 .1 .1 .0) ≡ finish agent (lent (sessions) (streams) (objects) (held)) (out) ((partsOf (judgeOf (lent (sessions) (streams) (objects) (held)) (d) agent input n₇ n₅)) .start) (performed ((partsOf (judgeOf (lent (sessions) (streams) (objects) (held)) (d) agent input n₇ n₅)) .start) (lent (sessions) (streams) (objects) (held)) (d) (sample)) .tables .held) × ((ws-14·yes·13 .1 .1 .1 .1 .0) ≡ finish agent (lent (sessions) (streams) (objects) (held)) (out) ((partsOf (judgeOf (lent (sessions) (streams) (objects) (held)) (d) agent input n₇ n₅)) .start) (performed ((partsOf (judgeOf (lent (sessions) (streams) (objects) (held)) (d) agent input n₇ n₅)) .start) (lent (sessions) (streams) (objects) (held)) (d) (sample)) .out)) ((r ≡ (finish agent (lent (sessions) (streams) (objects) (held)) (out) ((partsOf (judgeOf (lent (sessions) (streams) (objects) (held)) (d) agent input n₇ n₅)) .start) (performed ((partsOf (judgeOf (lent (sessions) (streams) (objects) (held)) (d) agent input n₇ n₅)) .start) (lent (sessions) (streams) (objects) (held)) (d) (sample)) .processed)) × ((ws-14·yes·13 .0 ≡ finish agent (lent (sessions) (streams) (objects) (held)) (out) ((partsOf (judgeOf (lent (sessions) (streams) (objects) (held)) (d) agent input n₇ n₅)) .start) (performed ((partsOf (judgeOf (lent (sessions) (streams) (objects) (held)) (d) agent input n₇ n₅)) .start) (lent (sessions) (streams) (objects) (held)) (d) (sample)) .tables .sessions) × (ws-14·yes·13 .1 .0 ≡ finish agent (lent (sessions) (streams) (objects) (held)) (out) ((partsOf (judgeOf (lent (sessions) (streams) (objects) (held)) (d) agent input n₇ n₅)) .start) (performed ((partsOf (judgeOf (lent (sessions) (streams) (objects) (held)) (d) agent input n₇ n₅)) .start) (lent (sessions) (streams) (objects) (held)) (d) (sample)) .tables .streams) × (ws-14·yes·13 .1 .1 .0 ≡ finish agent (lent (sessions) (streams) (objects) (held)) (out) ((partsOf (judgeOf (lent (sessions) (streams) (objects) (held)) (d) agent input n₇ n₅)) .start) (performed ((partsOf (judgeOf (lent (sessions) (streams) (objects) (held)) (d) agent input n₇ n₅)) .start) (lent (sessions) (streams) (objects) (held)) (d) (sample)) .tables .objects) × (ws-14·yes·13 .1 .1 .1 .0 ≡ finish agent (lent (sessions) (streams) (objects) (held)) (out) ((partsOf (judgeOf (lent (sessions) (streams) (objects) (held)) (d) agent input n₇ n₅)) .start) (performed ((partsOf (judgeOf (lent (sessions) (streams) (objects) (held)) (d) agent input n₇ n₅)) .start) (lent (sessions) (streams) (objects) (held)) (d) (sample)) .tables .held) × (ws-14·yes·13 .1 .1 .1 .1 .0 ≡ finish agent (lent (sessions) (streams) (objects) (held)) (out) ((partsOf (judgeOf (lent (sessions) (streams) (objects) (held)) (d) agent input n₇ n₅)) .start) (performed ((partsOf (judgeOf (lent (sessions) (streams) (objects) (held)) (d) agent input n₇ n₅)) .start) (lent (sessions) (streams) (objects) (held)) (d) (sample)) .out))) (λ e. (e .0, (e .1, e .2, e .3, e .4, e .5)))) (λ _. (and-then ! (load ! (from ! (stop !)) (look ! 24 refl)) (and-then ! (load ! (from ! (stop !)) (look ! 20 refl)) (and-then ! (load ! (from ! (stop !)) (look ! 16 refl)) (and-then ! (load ! (from ! (stop !)) (look ! 12 refl)) (and-then ! (load ! (from ! (stop !)) (look ! 8 refl)) (and-then ! (load ! (from ! (stop !)) (look ! 68 refl)) (and-then ! (load ! (from ! (stop !)) (look ! 66 refl)) (and-then ! (load ! (from ! (stop !)) (look ! 64 refl)) (and-then ! (load ! (from ! (stop !)) (look ! 52 refl)) (and-then ! (load ! (from ! (stop !)) (look ! 50 refl)) (no-more !)))))))))))) (λ ws-14·yes·13 said-14·yes·13 is-14·yes·13.
+        use1 W ((‵ (flft (ν-14·yes·13-sessions ∷ []) fullShare) ⊛ (‵ (flft (ν-14·yes·13-streams ∷ []) fullShare) ⊛ (‵ (flft (ν-14·yes·13-objects ∷ []) fullShare) ⊛ (‵ (flft (ν-14·yes·13-held ∷ []) fullShare) ⊛ (‵ (flft (ν-14·yes·13-out ∷ []) fullShare) ⊛ (‵ (flft κ₆ q₆) ⊛ (‵ (flft κ₇ q₇) ⊛ ‵ ftrue)))))))) (id⊢ 𝓤 _) $ split ! $ move ! (1 ∷ []) $ split ! $ move ! (1 ∷ []) $ split ! $ move ! (1 ∷ []) $ split ! $ move ! (1 ∷ []) $ split ! $ move ! (1 ∷ []) $ split ! $ move ! (1 ∷ []) $ split ! $ move ! (8 ∷ []) $ fsplit ! $ fsplit ! $ move ! (1 ∷ []) $
+        feqL ! (λ wlen-14·yes·13-0.
         move ! (1 ∷ []) $ fsplit ! $ fsplit ! $ move ! (1 ∷ []) $
-        feqL ! (λ wlen-11·yes·11-1.
+        feqL ! (λ wlen-14·yes·13-1.
         move ! (1 ∷ []) $ fsplit ! $ fsplit ! $ move ! (1 ∷ []) $
-        feqL ! (λ wlen-11·yes·11-2.
+        feqL ! (λ wlen-14·yes·13-2.
         move ! (1 ∷ []) $ fsplit ! $ fsplit ! $ move ! (1 ∷ []) $
-        feqL ! (λ wlen-11·yes·11-3.
-        move ! (1 ∷ []) $ fsplit ! $ move ! (1 ∷ []) $ fsplit ! $ move ! (13 ∷ 19 ∷ 6 ∷ []) $
-        backs-mut ! tt (Array u64 5) b₁ o₁ sessions n₁ (refl) room₁ ν-11·yes·11-sessions δ-11·yes·11-sessions (ws-11·yes·11 .0) (finish agent (lent (sessions) (streams) (objects)) (out) ((partsOf (judgeOf (lent (sessions) (streams) (objects)) (d) agent input n₆)) .start) (performed ((partsOf (judgeOf (lent (sessions) (streams) (objects)) (d) agent input n₆)) .start) (lent (sessions) (streams) (objects)) (d) (sample)) .tables .sessions) wlen-11·yes·11-0 (said-11·yes·11 .0) (λ len-11·yes·11-sessions.
-        move ! (13 ∷ 18 ∷ 7 ∷ []) $
-        backs-mut ! tt (Array u16 35) b₂ o₂ streams n₂ (refl) room₂ ν-11·yes·11-streams δ-11·yes·11-streams (ws-11·yes·11 .1 .0) (finish agent (lent (sessions) (streams) (objects)) (out) ((partsOf (judgeOf (lent (sessions) (streams) (objects)) (d) agent input n₆)) .start) (performed ((partsOf (judgeOf (lent (sessions) (streams) (objects)) (d) agent input n₆)) .start) (lent (sessions) (streams) (objects)) (d) (sample)) .tables .streams) wlen-11·yes·11-1 (said-11·yes·11 .1) (λ len-11·yes·11-streams.
-        move ! (13 ∷ 17 ∷ 8 ∷ []) $
-        backs-mut ! tt Object-t.the-row b₃ o₃ objects n₃ (refl) room₃ ν-11·yes·11-objects δ-11·yes·11-objects (ws-11·yes·11 .1 .1 .0) (finish agent (lent (sessions) (streams) (objects)) (out) ((partsOf (judgeOf (lent (sessions) (streams) (objects)) (d) agent input n₆)) .start) (performed ((partsOf (judgeOf (lent (sessions) (streams) (objects)) (d) agent input n₆)) .start) (lent (sessions) (streams) (objects)) (d) (sample)) .tables .objects) wlen-11·yes·11-2 (said-11·yes·11 .2) (λ len-11·yes·11-objects.
-        move ! (13 ∷ 16 ∷ 9 ∷ []) $
-        backs-mut ! tt u8 b₄ o₄ out n₄ (refl) room₄ ν-11·yes·11-out δ-11·yes·11-out (ws-11·yes·11 .1 .1 .1 .0) (finish agent (lent (sessions) (streams) (objects)) (out) ((partsOf (judgeOf (lent (sessions) (streams) (objects)) (d) agent input n₆)) .start) (performed ((partsOf (judgeOf (lent (sessions) (streams) (objects)) (d) agent input n₆)) .start) (lent (sessions) (streams) (objects)) (d) (sample)) .out) wlen-11·yes·11-3 (said-11·yes·11 .3) (λ len-11·yes·11-out.
-        move ! (8 ∷ []) $ drop ! $ move ! (8 ∷ []) $ drop ! $ move ! (8 ∷ []) $ drop ! $ move ! (9 ∷ []) $ drop ! $
-        land-last ! (from ! (stop !)) (init ! 28 refl (Processed-p .typed 𝓤 H A W (finish agent (lent (sessions) (streams) (objects)) (out) ((partsOf (judgeOf (lent (sessions) (streams) (objects)) (d) agent input n₆)) .start) (performed ((partsOf (judgeOf (lent (sessions) (streams) (objects)) (d) agent input n₆)) .start) (lent (sessions) (streams) (objects)) (d) (sample)) .processed) is-11·yes·11)) $
-        exec ! C Λ En mir.t-12 (atRet En Post) $ move ! (6 ∷ 7 ∷ 4 ∷ 5 ∷ 2 ∷ 3 ∷ 0 ∷ 1 ∷ 11 ∷ 9 ∷ 10 ∷ 8 ∷ 12 ∷ 13 ∷ 14 ∷ 15 ∷ 16 ∷ 17 ∷ 18 ∷ 19 ∷ 20 ∷ 21 ∷ 22 ∷ 23 ∷ 24 ∷ 25 ∷ 26 ∷ 27 ∷ 28 ∷ 29 ∷ 30 ∷ 31 ∷ 32 ∷ 33 ∷ 34 ∷ 35 ∷ 36 ∷ 37 ∷ 38 ∷ 39 ∷ 40 ∷ 41 ∷ 42 ∷ 43 ∷ 44 ∷ 45 ∷ 46 ∷ 47 ∷ 48 ∷ 49 ∷ 50 ∷ 51 ∷ 52 ∷ 53 ∷ 54 ∷ 55 ∷ 56 ∷ 57 ∷ 58 ∷ 59 ∷ 60 ∷ 61 ∷ 62 ∷ 63 ∷ 64 ∷ 65 ∷ 66 ∷ 67 ∷ 68 ∷ 69 ∷ 70 ∷ 71 ∷ 72 ∷ 73 ∷ []) $
-        part-12-0 is-8 is-9 c-11 asks-11·yes·11 len-11·yes·11-sessions len-11·yes·11-streams len-11·yes·11-objects len-11·yes·11-out is-11·yes·11))))))))))))))))
-        (λ h-11.
-        knows ! ((partsOf (judgeOf (lent (sessions) (streams) (objects)) (d) agent input n₆)) .goes ≡ false) (fails ((partsOf (judgeOf (lent (sessions) (streams) (objects)) (d) agent input n₆)) .goes) (T-not ((partsOf (judgeOf (lent (sessions) (streams) (objects)) (d) agent input n₆)) .goes) h-11)) (λ c-11.
-        assigns ! (of-opd ! (load ! (from ! (fld ! refl (stop !))) (look-in ! 50 (sub ! 3 refl (whole !))))) (from ! (stop !)) (init ! 44 refl (Refusal-p .typed 𝓤 H A W ((partsOf (judgeOf (lent (sessions) (streams) (objects)) (d) agent input n₆)) .why) (LL.owed Parts-t.the-type Parts-l.the-laws (partsOf (judgeOf (lent (sessions) (streams) (objects)) (d) agent input n₆)) _ is-9 .1 .1 .1 .0))) $
-        -- 11.no.2: agent::process::refused
+        feqL ! (λ wlen-14·yes·13-3.
+        move ! (1 ∷ []) $ fsplit ! $ fsplit ! $ move ! (1 ∷ []) $
+        feqL ! (λ wlen-14·yes·13-4.
+        move ! (1 ∷ []) $ fsplit ! $ move ! (1 ∷ []) $ fsplit ! $ move ! (15 ∷ 22 ∷ 7 ∷ []) $
+        backs-mut ! tt (Array u64 6) b₁ o₁ sessions n₁ (refl) room₁ ν-14·yes·13-sessions δ-14·yes·13-sessions (ws-14·yes·13 .0) (finish agent (lent (sessions) (streams) (objects) (held)) (out) ((partsOf (judgeOf (lent (sessions) (streams) (objects) (held)) (d) agent input n₇ n₅)) .start) (performed ((partsOf (judgeOf (lent (sessions) (streams) (objects) (held)) (d) agent input n₇ n₅)) .start) (lent (sessions) (streams) (objects) (held)) (d) (sample)) .tables .sessions) wlen-14·yes·13-0 (said-14·yes·13 .0) (λ len-14·yes·13-sessions.
+        move ! (15 ∷ 21 ∷ 8 ∷ []) $
+        backs-mut ! tt (Array u16 35) b₂ o₂ streams n₂ (refl) room₂ ν-14·yes·13-streams δ-14·yes·13-streams (ws-14·yes·13 .1 .0) (finish agent (lent (sessions) (streams) (objects) (held)) (out) ((partsOf (judgeOf (lent (sessions) (streams) (objects) (held)) (d) agent input n₇ n₅)) .start) (performed ((partsOf (judgeOf (lent (sessions) (streams) (objects) (held)) (d) agent input n₇ n₅)) .start) (lent (sessions) (streams) (objects) (held)) (d) (sample)) .tables .streams) wlen-14·yes·13-1 (said-14·yes·13 .1) (λ len-14·yes·13-streams.
+        move ! (15 ∷ 20 ∷ 9 ∷ []) $
+        backs-mut ! tt Object-t.the-row b₃ o₃ objects n₃ (refl) room₃ ν-14·yes·13-objects δ-14·yes·13-objects (ws-14·yes·13 .1 .1 .0) (finish agent (lent (sessions) (streams) (objects) (held)) (out) ((partsOf (judgeOf (lent (sessions) (streams) (objects) (held)) (d) agent input n₇ n₅)) .start) (performed ((partsOf (judgeOf (lent (sessions) (streams) (objects) (held)) (d) agent input n₇ n₅)) .start) (lent (sessions) (streams) (objects) (held)) (d) (sample)) .tables .objects) wlen-14·yes·13-2 (said-14·yes·13 .2) (λ len-14·yes·13-objects.
+        move ! (15 ∷ 19 ∷ 10 ∷ []) $
+        backs-mut ! tt u8 b₄ o₄ held n₄ (refl) room₄ ν-14·yes·13-held δ-14·yes·13-held (ws-14·yes·13 .1 .1 .1 .0) (finish agent (lent (sessions) (streams) (objects) (held)) (out) ((partsOf (judgeOf (lent (sessions) (streams) (objects) (held)) (d) agent input n₇ n₅)) .start) (performed ((partsOf (judgeOf (lent (sessions) (streams) (objects) (held)) (d) agent input n₇ n₅)) .start) (lent (sessions) (streams) (objects) (held)) (d) (sample)) .tables .held) wlen-14·yes·13-3 (said-14·yes·13 .3) (λ len-14·yes·13-held.
+        move ! (15 ∷ 18 ∷ 11 ∷ []) $
+        backs-mut ! tt u8 b₅ o₅ out n₅ (refl) room₅ ν-14·yes·13-out δ-14·yes·13-out (ws-14·yes·13 .1 .1 .1 .1 .0) (finish agent (lent (sessions) (streams) (objects) (held)) (out) ((partsOf (judgeOf (lent (sessions) (streams) (objects) (held)) (d) agent input n₇ n₅)) .start) (performed ((partsOf (judgeOf (lent (sessions) (streams) (objects) (held)) (d) agent input n₇ n₅)) .start) (lent (sessions) (streams) (objects) (held)) (d) (sample)) .out) wlen-14·yes·13-4 (said-14·yes·13 .4) (λ len-14·yes·13-out.
+        move ! (10 ∷ []) $ drop ! $ move ! (10 ∷ []) $ drop ! $ move ! (10 ∷ []) $ drop ! $ move ! (11 ∷ []) $ drop ! $
+        land-last ! (from ! (stop !)) (init ! 34 refl (Processed-p .typed 𝓤 H A W (finish agent (lent (sessions) (streams) (objects) (held)) (out) ((partsOf (judgeOf (lent (sessions) (streams) (objects) (held)) (d) agent input n₇ n₅)) .start) (performed ((partsOf (judgeOf (lent (sessions) (streams) (objects) (held)) (d) agent input n₇ n₅)) .start) (lent (sessions) (streams) (objects) (held)) (d) (sample)) .processed) is-14·yes·13)) $
+        exec ! C Λ En mir.t-15 (atRet En Post) $ move ! (8 ∷ 9 ∷ 6 ∷ 7 ∷ 4 ∷ 5 ∷ 2 ∷ 3 ∷ 0 ∷ 1 ∷ 13 ∷ 11 ∷ 12 ∷ 10 ∷ 14 ∷ 15 ∷ 16 ∷ 17 ∷ 18 ∷ 19 ∷ 20 ∷ 21 ∷ 22 ∷ 23 ∷ 24 ∷ 25 ∷ 26 ∷ 27 ∷ 28 ∷ 29 ∷ 30 ∷ 31 ∷ 32 ∷ 33 ∷ 34 ∷ 35 ∷ 36 ∷ 37 ∷ 38 ∷ 39 ∷ 40 ∷ 41 ∷ 42 ∷ 43 ∷ 44 ∷ 45 ∷ 46 ∷ 47 ∷ 48 ∷ 49 ∷ 50 ∷ 51 ∷ 52 ∷ 53 ∷ 54 ∷ 55 ∷ 56 ∷ 57 ∷ 58 ∷ 59 ∷ 60 ∷ 61 ∷ 62 ∷ 63 ∷ 64 ∷ 65 ∷ 66 ∷ 67 ∷ 68 ∷ 69 ∷ 70 ∷ 71 ∷ 72 ∷ 73 ∷ 74 ∷ 75 ∷ 76 ∷ 77 ∷ 78 ∷ 79 ∷ 80 ∷ 81 ∷ 82 ∷ 83 ∷ 84 ∷ 85 ∷ 86 ∷ 87 ∷ []) $
+        part-15-0 is-11 is-12 c-14 asks-14·yes·13 len-14·yes·13-sessions len-14·yes·13-streams len-14·yes·13-objects len-14·yes·13-held len-14·yes·13-out is-14·yes·13)))))))))))))))))))
+        (λ h-14.
+        knows ! ((partsOf (judgeOf (lent (sessions) (streams) (objects) (held)) (d) agent input n₇ n₅)) .goes ≡ false) (fails ((partsOf (judgeOf (lent (sessions) (streams) (objects) (held)) (d) agent input n₇ n₅)) .goes) (T-not ((partsOf (judgeOf (lent (sessions) (streams) (objects) (held)) (d) agent input n₇ n₅)) .goes) h-14)) (λ c-14.
+        assigns ! (of-opd ! (load ! (from ! (fld ! refl (stop !))) (look-in ! 60 (sub ! 3 refl (whole !))))) (from ! (stop !)) (init ! 54 refl (Refusal-p .typed 𝓤 H A W ((partsOf (judgeOf (lent (sessions) (streams) (objects) (held)) (d) agent input n₇ n₅)) .why) (LL.owed Parts-t.the-type Parts-l.the-laws (partsOf (judgeOf (lent (sessions) (streams) (objects) (held)) (d) agent input n₇ n₅)) _ is-12 .1 .1 .1 .0))) $
+        -- 14.no.2: agent::process::refused
         nothing ! $
         use1 W (raw (toks 𝓤 A 0 (tt) (tt))) (id⊢ 𝓤 _) $ nothing ! $
-        owned ! (Refusal-p .row) (Is (Refusal-p .row)) (Refusal-p .makes 𝓤 H A W) ((partsOf (judgeOf (lent (sessions) (streams) (objects)) (d) agent input n₆)) .why) (Refusal-p .val ((partsOf (judgeOf (lent (sessions) (streams) (objects)) (d) agent input n₆)) .why) ∷ []) (LL.owed Parts-t.the-type Parts-l.the-laws (partsOf (judgeOf (lent (sessions) (streams) (objects)) (d) agent input n₆)) _ is-9 .1 .1 .1 .0) $ fjoin ! $
+        owned ! (Refusal-p .row) (Is (Refusal-p .row)) (Refusal-p .makes 𝓤 H A W) ((partsOf (judgeOf (lent (sessions) (streams) (objects) (held)) (d) agent input n₇ n₅)) .why) (Refusal-p .val ((partsOf (judgeOf (lent (sessions) (streams) (objects) (held)) (d) agent input n₇ n₅)) .why) ∷ []) (LL.owed Parts-t.the-type Parts-l.the-laws (partsOf (judgeOf (lent (sessions) (streams) (objects) (held)) (d) agent input n₇ n₅)) _ is-12 .1 .1 .1 .0) $ fjoin ! $
         owned ! (Agent-p .row) (Is (Agent-p .row)) (Agent-p .makes 𝓤 H A W) agent (Agent-p .val agent ∷ []) agent-is $ fjoin ! $ move ! (1 ∷ 0 ∷ []) $
-        calls-any-last ! fm 0 [] (process-refused.signature .params) (process-refused.ended .kept) Processed-p (process-refused.clauses 𝓤 H A mem run) known-process-refused tt tt tt (agent, ((partsOf (judgeOf (lent (sessions) (streams) (objects)) (d) agent input n₆)) .why, tt)) (Agent-p .val agent ∷ [], (Refusal-p .val ((partsOf (judgeOf (lent (sessions) (streams) (objects)) (d) agent input n₆)) .why) ∷ [], tt)) tt (refusedOf agent ((partsOf (judgeOf (lent (sessions) (streams) (objects)) (d) agent input n₆)) .why)) (λ ws-11·no·2. Unit {0}) (id⊢ 𝓤 _) (λ r ws-11·no·2. fact-mono 𝓤 (r ≡ refusedOf agent ((partsOf (judgeOf (lent (sessions) (streams) (objects)) (d) agent input n₆)) .why)) ((r ≡ (refusedOf agent ((partsOf (judgeOf (lent (sessions) (streams) (objects)) (d) agent input n₆)) .why))) × (Unit {0})) (λ e. (e, tt))) (λ _. (and-then ! (load ! (from ! (stop !)) (look ! 59 refl)) (and-then ! (load ! (from ! (stop !)) (look ! 45 refl)) (no-more !)))) (λ ws-11·no·2 said-11·no·2 is-11·no·2.
+        calls-any-last ! fm 0 [] (process-refused.signature .params) (process-refused.ended .kept) Processed-p (process-refused.clauses 𝓤 H A mem run) known-process-refused tt tt tt (agent, ((partsOf (judgeOf (lent (sessions) (streams) (objects) (held)) (d) agent input n₇ n₅)) .why, tt)) (Agent-p .val agent ∷ [], (Refusal-p .val ((partsOf (judgeOf (lent (sessions) (streams) (objects) (held)) (d) agent input n₇ n₅)) .why) ∷ [], tt)) tt (refusedOf agent ((partsOf (judgeOf (lent (sessions) (streams) (objects) (held)) (d) agent input n₇ n₅)) .why)) (λ ws-14·no·2. Unit {0}) (id⊢ 𝓤 _) (λ r ws-14·no·2. fact-mono 𝓤 (r ≡ refusedOf agent ((partsOf (judgeOf (lent (sessions) (streams) (objects) (held)) (d) agent input n₇ n₅)) .why)) ((r ≡ (refusedOf agent ((partsOf (judgeOf (lent (sessions) (streams) (objects) (held)) (d) agent input n₇ n₅)) .why))) × (Unit {0})) (λ e. (e, tt))) (λ _. (and-then ! (load ! (from ! (stop !)) (look ! 71 refl)) (and-then ! (load ! (from ! (stop !)) (look ! 55 refl)) (no-more !)))) (λ ws-14·no·2 said-14·no·2 is-14·no·2.
         drop ! $ drop ! $
-        land-last ! (from ! (stop !)) (init ! 28 refl (Processed-p .typed 𝓤 H A W (refusedOf agent ((partsOf (judgeOf (lent (sessions) (streams) (objects)) (d) agent input n₆)) .why)) is-11·no·2)) $
-        exec ! C Λ En mir.t-12 (atRet En Post) $
-        part-12-2 is-8 is-9 c-11 is-11·no·2)))
+        land-last ! (from ! (stop !)) (init ! 34 refl (Processed-p .typed 𝓤 H A W (refusedOf agent ((partsOf (judgeOf (lent (sessions) (streams) (objects) (held)) (d) agent input n₇ n₅)) .why)) is-14·no·2)) $
+        exec ! C Λ En mir.t-15 (atRet En Post) $
+        part-15-2 is-11 is-12 c-14 is-14·no·2)))
 
-    part-9-0 : (is-8 : Is (Judged-p .row) (judgeOf (lent (sessions) (streams) (objects)) (d) agent input n₆) (Judged-p .val (judgeOf (lent (sessions) (streams) (objects)) (d) agent input n₆) ∷ [])) → Sq W (‵ (MutSlice (named 0) κ₁ (Array u64 5) .own (at-list b₁ o₁ γ₁ sessions) (sliceVal (b₁, o₁) n₁ ∷ [])) ∷ ‵ (flft κ₁ q₁) ∷ ‵ (MutSlice (named 0) κ₂ (Array u16 35) .own (at-list b₂ o₂ γ₂ streams) (sliceVal (b₂, o₂) n₂ ∷ [])) ∷ ‵ (flft κ₂ q₂) ∷ ‵ (MutSlice (named 0) κ₃ Object-t.the-row .own (at-list b₃ o₃ γ₃ objects) (sliceVal (b₃, o₃) n₃ ∷ [])) ∷ ‵ (flft κ₃ q₃) ∷ ‵ (MutSlice (named 0) κ₄ u8 .own (at-list b₄ o₄ γ₄ out) (sliceVal (b₄, o₄) n₄ ∷ [])) ∷ ‵ (flft κ₄ q₄) ∷ ‵ (ShrSlice (named 0) κ₅ u8 .own (at-list b₅ o₅ γ₅ d) (sliceVal (b₅, o₅) n₅ ∷ [])) ∷ ‵ (flft κ₅ q₅) ∷ ‵ (ShrSlice (named 0) κ₆ u8 .own (at-list b₆ o₆ γ₆ sample) (sliceVal (b₆, o₆) n₆ ∷ [])) ∷ ‵ (flft κ₆ q₆) ∷ free 𝓤 (sliceTy (tyRef erased mut (pointee (u8 .written)))) l₃₀ (free 𝓤 (tyRef erased mut (pointee (u8 .written))) l₂₉ (free 𝓤 (sliceTy (tyRef erased mut (pointee (Object-t.the-row .written)))) l₂₈ (free 𝓤 (tyRef erased mut (pointee (Object-t.the-row .written))) l₂₇ (free 𝓤 (sliceTy (tyRef erased mut (pointee ((Array u16 35) .written)))) l₂₆ (free 𝓤 (tyRef erased mut (pointee ((Array u16 35) .written))) l₂₅ (free 𝓤 (sliceTy (tyRef erased mut (pointee ((Array u64 5) .written)))) l₂₄ (free 𝓤 (tyRef erased mut (pointee ((Array u64 5) .written))) l₂₃ (free 𝓤 Processed-l.mir l₂₂ (free 𝓤 tyBool l₂₁ (full 𝓤 (sliceTy (tyRef erased imm (pointee (Object-t.the-row .written)))) l₂₀ (sliceVal (b₃, o₃) n₃) (full 𝓤 (tyRef erased imm (pointee (Object-t.the-row .written))) l₁₉ (vptr b₃ o₃) (full 𝓤 (sliceTy (tyRef erased imm (pointee ((Array u16 35) .written)))) l₁₈ (sliceVal (b₂, o₂) n₂) (full 𝓤 (tyRef erased imm (pointee ((Array u16 35) .written))) l₁₇ (vptr b₂ o₂) (full 𝓤 (sliceTy (tyRef erased imm (pointee ((Array u64 5) .written)))) l₁₆ (sliceVal (b₁, o₁) n₁) (full 𝓤 (tyRef erased imm (pointee ((Array u64 5) .written))) l₁₅ (vptr b₁ o₁) (free 𝓤 Refusal-l.mir l₁₄ (free 𝓤 (tyInt w64) l₁₃ (free 𝓤 Start-l.mir l₁₂ (free 𝓤 Parts-l.mir l₁₁ (full 𝓤 Judged-l.mir l₁₀ (Judged-p .val (judgeOf (lent (sessions) (streams) (objects)) (d) agent input n₆)) (full 𝓤 (tyInt w64) l₉ (u64-p .val n₆) (full 𝓤 Input-l.mir l₈ (Input-p .val input) (full 𝓤 Agent-l.mir l₇ (Agent-p .val agent) (full 𝓤 (sliceTy (tyRef (named 5) imm (pointee (u8 .written)))) l₆ (sliceVal (b₆, o₆) n₆) (full 𝓤 (sliceTy (tyRef (named 4) imm (pointee (u8 .written)))) l₅ (sliceVal (b₅, o₅) n₅) (full 𝓤 (sliceTy (tyRef (named 3) mut (pointee (u8 .written)))) l₄ (sliceVal (b₄, o₄) n₄) (full 𝓤 (sliceTy (tyRef (named 2) mut (pointee (Object-t.the-row .written)))) l₃ (sliceVal (b₃, o₃) n₃) (full 𝓤 (sliceTy (tyRef (named 1) mut (pointee ((Array u16 35) .written)))) l₂ (sliceVal (b₂, o₂) n₂) (full 𝓤 (sliceTy (tyRef (named 0) mut (pointee ((Array u64 5) .written)))) l₁ (sliceVal (b₁, o₁) n₁) (free 𝓤 Processed-l.mir l₀ ([])))))))))))))))))))))))))))))))) (runs C Λ En mir.t-9 (atRet En Post))
-    part-9-0 is-8 =
-        -- 9: agent::judge::parts_of
+    part-12-0 : (is-11 : Is (Judged-p .row) (judgeOf (lent (sessions) (streams) (objects) (held)) (d) agent input n₇ n₅) (Judged-p .val (judgeOf (lent (sessions) (streams) (objects) (held)) (d) agent input n₇ n₅) ∷ [])) → Sq W (‵ (MutSlice (named 0) κ₁ (Array u64 6) .own (at-list b₁ o₁ γ₁ sessions) (sliceVal (b₁, o₁) n₁ ∷ [])) ∷ ‵ (flft κ₁ q₁) ∷ ‵ (MutSlice (named 0) κ₂ (Array u16 35) .own (at-list b₂ o₂ γ₂ streams) (sliceVal (b₂, o₂) n₂ ∷ [])) ∷ ‵ (flft κ₂ q₂) ∷ ‵ (MutSlice (named 0) κ₃ Object-t.the-row .own (at-list b₃ o₃ γ₃ objects) (sliceVal (b₃, o₃) n₃ ∷ [])) ∷ ‵ (flft κ₃ q₃) ∷ ‵ (MutSlice (named 0) κ₄ u8 .own (at-list b₄ o₄ γ₄ held) (sliceVal (b₄, o₄) n₄ ∷ [])) ∷ ‵ (flft κ₄ q₄) ∷ ‵ (MutSlice (named 0) κ₅ u8 .own (at-list b₅ o₅ γ₅ out) (sliceVal (b₅, o₅) n₅ ∷ [])) ∷ ‵ (flft κ₅ q₅) ∷ ‵ (ShrSlice (named 0) κ₆ u8 .own (at-list b₆ o₆ γ₆ d) (sliceVal (b₆, o₆) n₆ ∷ [])) ∷ ‵ (flft κ₆ q₆) ∷ ‵ (ShrSlice (named 0) κ₇ u8 .own (at-list b₇ o₇ γ₇ sample) (sliceVal (b₇, o₇) n₇ ∷ [])) ∷ ‵ (flft κ₇ q₇) ∷ free 𝓤 (sliceTy (tyRef erased mut (pointee (u8 .written)))) l₃₆ (free 𝓤 (tyRef erased mut (pointee (u8 .written))) l₃₅ (free 𝓤 (sliceTy (tyRef erased mut (pointee (u8 .written)))) l₃₄ (free 𝓤 (tyRef erased mut (pointee (u8 .written))) l₃₃ (free 𝓤 (sliceTy (tyRef erased mut (pointee (Object-t.the-row .written)))) l₃₂ (free 𝓤 (tyRef erased mut (pointee (Object-t.the-row .written))) l₃₁ (free 𝓤 (sliceTy (tyRef erased mut (pointee ((Array u16 35) .written)))) l₃₀ (free 𝓤 (tyRef erased mut (pointee ((Array u16 35) .written))) l₂₉ (free 𝓤 (sliceTy (tyRef erased mut (pointee ((Array u64 6) .written)))) l₂₈ (free 𝓤 (tyRef erased mut (pointee ((Array u64 6) .written))) l₂₇ (free 𝓤 Processed-l.mir l₂₆ (free 𝓤 tyBool l₂₅ (full 𝓤 (sliceTy (tyRef erased imm (pointee (u8 .written)))) l₂₄ (sliceVal (b₄, o₄) n₄) (full 𝓤 (tyRef erased imm (pointee (u8 .written))) l₂₃ (vptr b₄ o₄) (full 𝓤 (sliceTy (tyRef erased imm (pointee (Object-t.the-row .written)))) l₂₂ (sliceVal (b₃, o₃) n₃) (full 𝓤 (tyRef erased imm (pointee (Object-t.the-row .written))) l₂₁ (vptr b₃ o₃) (full 𝓤 (sliceTy (tyRef erased imm (pointee ((Array u16 35) .written)))) l₂₀ (sliceVal (b₂, o₂) n₂) (full 𝓤 (tyRef erased imm (pointee ((Array u16 35) .written))) l₁₉ (vptr b₂ o₂) (full 𝓤 (sliceTy (tyRef erased imm (pointee ((Array u64 6) .written)))) l₁₈ (sliceVal (b₁, o₁) n₁) (full 𝓤 (tyRef erased imm (pointee ((Array u64 6) .written))) l₁₇ (vptr b₁ o₁) (free 𝓤 Refusal-l.mir l₁₆ (free 𝓤 (tyInt w64) l₁₅ (free 𝓤 Start-l.mir l₁₄ (free 𝓤 Parts-l.mir l₁₃ (full 𝓤 Judged-l.mir l₁₂ (Judged-p .val (judgeOf (lent (sessions) (streams) (objects) (held)) (d) agent input n₇ n₅)) (full 𝓤 (tyInt w64) l₁₁ (u64-p .val n₅) (full 𝓤 (tyInt w64) l₁₀ (u64-p .val n₇) (full 𝓤 Input-l.mir l₉ (Input-p .val input) (full 𝓤 Agent-l.mir l₈ (Agent-p .val agent) (full 𝓤 (sliceTy (tyRef (named 6) imm (pointee (u8 .written)))) l₇ (sliceVal (b₇, o₇) n₇) (full 𝓤 (sliceTy (tyRef (named 5) imm (pointee (u8 .written)))) l₆ (sliceVal (b₆, o₆) n₆) (full 𝓤 (sliceTy (tyRef (named 4) mut (pointee (u8 .written)))) l₅ (sliceVal (b₅, o₅) n₅) (full 𝓤 (sliceTy (tyRef (named 3) mut (pointee (u8 .written)))) l₄ (sliceVal (b₄, o₄) n₄) (full 𝓤 (sliceTy (tyRef (named 2) mut (pointee (Object-t.the-row .written)))) l₃ (sliceVal (b₃, o₃) n₃) (full 𝓤 (sliceTy (tyRef (named 1) mut (pointee ((Array u16 35) .written)))) l₂ (sliceVal (b₂, o₂) n₂) (full 𝓤 (sliceTy (tyRef (named 0) mut (pointee ((Array u64 6) .written)))) l₁ (sliceVal (b₁, o₁) n₁) (free 𝓤 Processed-l.mir l₀ ([])))))))))))))))))))))))))))))))))))))) (runs C Λ En mir.t-12 (atRet En Post))
+    part-12-0 is-11 =
+        -- 12: agent::judge::parts_of
         nothing ! $
         use1 W (raw (toks 𝓤 A 0 (tt) (tt))) (id⊢ 𝓤 _) $ nothing ! $
-        owned ! (Judged-p .row) (Is (Judged-p .row)) (Judged-p .makes 𝓤 H A W) (judgeOf (lent (sessions) (streams) (objects)) (d) agent input n₆) (Judged-p .val (judgeOf (lent (sessions) (streams) (objects)) (d) agent input n₆) ∷ []) is-8 $ fjoin ! $ move ! (1 ∷ 0 ∷ []) $
-        calls-any ! fm 0 [] (judge-parts-of.signature .params) (judge-parts-of.ended .kept) Parts-p (judge-parts-of.clauses 𝓤 H A mem run) known-judge-parts-of tt tt tt (judgeOf (lent (sessions) (streams) (objects)) (d) agent input n₆, tt) (Judged-p .val (judgeOf (lent (sessions) (streams) (objects)) (d) agent input n₆) ∷ [], tt) tt (partsOf (judgeOf (lent (sessions) (streams) (objects)) (d) agent input n₆)) (λ ws-9. Unit {0}) (id⊢ 𝓤 _) (λ r ws-9. fact-mono 𝓤 (r ≡ partsOf (judgeOf (lent (sessions) (streams) (objects)) (d) agent input n₆)) ((r ≡ (partsOf (judgeOf (lent (sessions) (streams) (objects)) (d) agent input n₆))) × (Unit {0})) (λ e. (e, tt))) (λ _. (and-then ! (load ! (from ! (stop !)) (look ! 53 refl)) (no-more !))) (λ ws-9 said-9 is-9.
+        owned ! (Judged-p .row) (Is (Judged-p .row)) (Judged-p .makes 𝓤 H A W) (judgeOf (lent (sessions) (streams) (objects) (held)) (d) agent input n₇ n₅) (Judged-p .val (judgeOf (lent (sessions) (streams) (objects) (held)) (d) agent input n₇ n₅) ∷ []) is-11 $ fjoin ! $ move ! (1 ∷ 0 ∷ []) $
+        calls-any ! fm 0 [] (judge-parts-of.signature .params) (judge-parts-of.ended .kept) Parts-p (judge-parts-of.clauses 𝓤 H A mem run) known-judge-parts-of tt tt tt (judgeOf (lent (sessions) (streams) (objects) (held)) (d) agent input n₇ n₅, tt) (Judged-p .val (judgeOf (lent (sessions) (streams) (objects) (held)) (d) agent input n₇ n₅) ∷ [], tt) tt (partsOf (judgeOf (lent (sessions) (streams) (objects) (held)) (d) agent input n₇ n₅)) (λ ws-12. Unit {0}) (id⊢ 𝓤 _) (λ r ws-12. fact-mono 𝓤 (r ≡ partsOf (judgeOf (lent (sessions) (streams) (objects) (held)) (d) agent input n₇ n₅)) ((r ≡ (partsOf (judgeOf (lent (sessions) (streams) (objects) (held)) (d) agent input n₇ n₅))) × (Unit {0})) (λ e. (e, tt))) (λ _. (and-then ! (load ! (from ! (stop !)) (look ! 63 refl)) (no-more !))) (λ ws-12 said-12 is-12.
         drop ! $ drop ! $
-        land ! (from ! (stop !)) (init ! 50 refl (Parts-p .typed 𝓤 H A W (partsOf (judgeOf (lent (sessions) (streams) (objects)) (d) agent input n₆)) is-9)) $
-        part-10-0 is-8 is-9)
+        land ! (from ! (stop !)) (init ! 60 refl (Parts-p .typed 𝓤 H A W (partsOf (judgeOf (lent (sessions) (streams) (objects) (held)) (d) agent input n₇ n₅)) is-12)) $
+        part-13-0 is-11 is-12)
 
-    begins : Sq W (‵ (MutSlice (named 0) κ₁ (Array u64 5) .own (at-list b₁ o₁ γ₁ sessions) (sliceVal (b₁, o₁) n₁ ∷ [])) ∷ ‵ (flft κ₁ q₁) ∷ ‵ (MutSlice (named 0) κ₂ (Array u16 35) .own (at-list b₂ o₂ γ₂ streams) (sliceVal (b₂, o₂) n₂ ∷ [])) ∷ ‵ (flft κ₂ q₂) ∷ ‵ (MutSlice (named 0) κ₃ Object-t.the-row .own (at-list b₃ o₃ γ₃ objects) (sliceVal (b₃, o₃) n₃ ∷ [])) ∷ ‵ (flft κ₃ q₃) ∷ ‵ (MutSlice (named 0) κ₄ u8 .own (at-list b₄ o₄ γ₄ out) (sliceVal (b₄, o₄) n₄ ∷ [])) ∷ ‵ (flft κ₄ q₄) ∷ ‵ (ShrSlice (named 0) κ₅ u8 .own (at-list b₅ o₅ γ₅ d) (sliceVal (b₅, o₅) n₅ ∷ [])) ∷ ‵ (flft κ₅ q₅) ∷ ‵ (ShrSlice (named 0) κ₆ u8 .own (at-list b₆ o₆ γ₆ sample) (sliceVal (b₆, o₆) n₆ ∷ [])) ∷ ‵ (flft κ₆ q₆) ∷ free 𝓤 (sliceTy (tyRef erased mut (pointee (u8 .written)))) l₃₀ (free 𝓤 (tyRef erased mut (pointee (u8 .written))) l₂₉ (free 𝓤 (sliceTy (tyRef erased mut (pointee (Object-t.the-row .written)))) l₂₈ (free 𝓤 (tyRef erased mut (pointee (Object-t.the-row .written))) l₂₇ (free 𝓤 (sliceTy (tyRef erased mut (pointee ((Array u16 35) .written)))) l₂₆ (free 𝓤 (tyRef erased mut (pointee ((Array u16 35) .written))) l₂₅ (free 𝓤 (sliceTy (tyRef erased mut (pointee ((Array u64 5) .written)))) l₂₄ (free 𝓤 (tyRef erased mut (pointee ((Array u64 5) .written))) l₂₃ (free 𝓤 Processed-l.mir l₂₂ (free 𝓤 tyBool l₂₁ (free 𝓤 (sliceTy (tyRef erased imm (pointee (Object-t.the-row .written)))) l₂₀ (free 𝓤 (tyRef erased imm (pointee (Object-t.the-row .written))) l₁₉ (free 𝓤 (sliceTy (tyRef erased imm (pointee ((Array u16 35) .written)))) l₁₈ (free 𝓤 (tyRef erased imm (pointee ((Array u16 35) .written))) l₁₇ (free 𝓤 (sliceTy (tyRef erased imm (pointee ((Array u64 5) .written)))) l₁₆ (free 𝓤 (tyRef erased imm (pointee ((Array u64 5) .written))) l₁₅ (free 𝓤 Refusal-l.mir l₁₄ (free 𝓤 (tyInt w64) l₁₃ (free 𝓤 Start-l.mir l₁₂ (free 𝓤 Parts-l.mir l₁₁ (free 𝓤 Judged-l.mir l₁₀ (free 𝓤 (tyInt w64) l₉ (full 𝓤 Input-l.mir l₈ (Input-p .val input) (full 𝓤 Agent-l.mir l₇ (Agent-p .val agent) (full 𝓤 (sliceTy (tyRef (named 5) imm (pointee (u8 .written)))) l₆ (sliceVal (b₆, o₆) n₆) (full 𝓤 (sliceTy (tyRef (named 4) imm (pointee (u8 .written)))) l₅ (sliceVal (b₅, o₅) n₅) (full 𝓤 (sliceTy (tyRef (named 3) mut (pointee (u8 .written)))) l₄ (sliceVal (b₄, o₄) n₄) (full 𝓤 (sliceTy (tyRef (named 2) mut (pointee (Object-t.the-row .written)))) l₃ (sliceVal (b₃, o₃) n₃) (full 𝓤 (sliceTy (tyRef (named 1) mut (pointee ((Array u16 35) .written)))) l₂ (sliceVal (b₂, o₂) n₂) (full 𝓤 (sliceTy (tyRef (named 0) mut (pointee ((Array u64 5) .written)))) l₁ (sliceVal (b₁, o₁) n₁) (free 𝓤 Processed-l.mir l₀ ([])))))))))))))))))))))))))))))))) (runs C Λ En mir.t-1 (atRet En Post))
+    begins : Sq W (‵ (MutSlice (named 0) κ₁ (Array u64 6) .own (at-list b₁ o₁ γ₁ sessions) (sliceVal (b₁, o₁) n₁ ∷ [])) ∷ ‵ (flft κ₁ q₁) ∷ ‵ (MutSlice (named 0) κ₂ (Array u16 35) .own (at-list b₂ o₂ γ₂ streams) (sliceVal (b₂, o₂) n₂ ∷ [])) ∷ ‵ (flft κ₂ q₂) ∷ ‵ (MutSlice (named 0) κ₃ Object-t.the-row .own (at-list b₃ o₃ γ₃ objects) (sliceVal (b₃, o₃) n₃ ∷ [])) ∷ ‵ (flft κ₃ q₃) ∷ ‵ (MutSlice (named 0) κ₄ u8 .own (at-list b₄ o₄ γ₄ held) (sliceVal (b₄, o₄) n₄ ∷ [])) ∷ ‵ (flft κ₄ q₄) ∷ ‵ (MutSlice (named 0) κ₅ u8 .own (at-list b₅ o₅ γ₅ out) (sliceVal (b₅, o₅) n₅ ∷ [])) ∷ ‵ (flft κ₅ q₅) ∷ ‵ (ShrSlice (named 0) κ₆ u8 .own (at-list b₆ o₆ γ₆ d) (sliceVal (b₆, o₆) n₆ ∷ [])) ∷ ‵ (flft κ₆ q₆) ∷ ‵ (ShrSlice (named 0) κ₇ u8 .own (at-list b₇ o₇ γ₇ sample) (sliceVal (b₇, o₇) n₇ ∷ [])) ∷ ‵ (flft κ₇ q₇) ∷ free 𝓤 (sliceTy (tyRef erased mut (pointee (u8 .written)))) l₃₆ (free 𝓤 (tyRef erased mut (pointee (u8 .written))) l₃₅ (free 𝓤 (sliceTy (tyRef erased mut (pointee (u8 .written)))) l₃₄ (free 𝓤 (tyRef erased mut (pointee (u8 .written))) l₃₃ (free 𝓤 (sliceTy (tyRef erased mut (pointee (Object-t.the-row .written)))) l₃₂ (free 𝓤 (tyRef erased mut (pointee (Object-t.the-row .written))) l₃₁ (free 𝓤 (sliceTy (tyRef erased mut (pointee ((Array u16 35) .written)))) l₃₀ (free 𝓤 (tyRef erased mut (pointee ((Array u16 35) .written))) l₂₉ (free 𝓤 (sliceTy (tyRef erased mut (pointee ((Array u64 6) .written)))) l₂₈ (free 𝓤 (tyRef erased mut (pointee ((Array u64 6) .written))) l₂₇ (free 𝓤 Processed-l.mir l₂₆ (free 𝓤 tyBool l₂₅ (free 𝓤 (sliceTy (tyRef erased imm (pointee (u8 .written)))) l₂₄ (free 𝓤 (tyRef erased imm (pointee (u8 .written))) l₂₃ (free 𝓤 (sliceTy (tyRef erased imm (pointee (Object-t.the-row .written)))) l₂₂ (free 𝓤 (tyRef erased imm (pointee (Object-t.the-row .written))) l₂₁ (free 𝓤 (sliceTy (tyRef erased imm (pointee ((Array u16 35) .written)))) l₂₀ (free 𝓤 (tyRef erased imm (pointee ((Array u16 35) .written))) l₁₉ (free 𝓤 (sliceTy (tyRef erased imm (pointee ((Array u64 6) .written)))) l₁₈ (free 𝓤 (tyRef erased imm (pointee ((Array u64 6) .written))) l₁₇ (free 𝓤 Refusal-l.mir l₁₆ (free 𝓤 (tyInt w64) l₁₅ (free 𝓤 Start-l.mir l₁₄ (free 𝓤 Parts-l.mir l₁₃ (free 𝓤 Judged-l.mir l₁₂ (free 𝓤 (tyInt w64) l₁₁ (free 𝓤 (tyInt w64) l₁₀ (full 𝓤 Input-l.mir l₉ (Input-p .val input) (full 𝓤 Agent-l.mir l₈ (Agent-p .val agent) (full 𝓤 (sliceTy (tyRef (named 6) imm (pointee (u8 .written)))) l₇ (sliceVal (b₇, o₇) n₇) (full 𝓤 (sliceTy (tyRef (named 5) imm (pointee (u8 .written)))) l₆ (sliceVal (b₆, o₆) n₆) (full 𝓤 (sliceTy (tyRef (named 4) mut (pointee (u8 .written)))) l₅ (sliceVal (b₅, o₅) n₅) (full 𝓤 (sliceTy (tyRef (named 3) mut (pointee (u8 .written)))) l₄ (sliceVal (b₄, o₄) n₄) (full 𝓤 (sliceTy (tyRef (named 2) mut (pointee (Object-t.the-row .written)))) l₃ (sliceVal (b₃, o₃) n₃) (full 𝓤 (sliceTy (tyRef (named 1) mut (pointee ((Array u16 35) .written)))) l₂ (sliceVal (b₂, o₂) n₂) (full 𝓤 (sliceTy (tyRef (named 0) mut (pointee ((Array u64 6) .written)))) l₁ (sliceVal (b₁, o₁) n₁) (free 𝓤 Processed-l.mir l₀ ([])))))))))))))))))))))))))))))))))))))) (runs C Λ En mir.t-1 (atRet En Post))
     begins =
-        assigns ! (of-opd ! (load ! (from ! (fld ! refl (stop !))) (look-in ! 60 (sub ! 1 refl (whole !))))) (from ! (stop !)) (init ! 54 refl (u64-p .typed 𝓤 H A W n₆ ((refl, room₆ .0)))) $
-        assigns ! (addr ! (from ! (fld ! refl (hop ! (look-in ! 70 (sub ! 0 refl (whole !))) (stop !))))) (from ! (stop !)) (init ! 42 refl (tt, tt)) $
-        assigns ! (agg ! (and-then ! (load ! (from ! (stop !)) (look ! 42 refl)) (and-then ! (load ! (from ! (fld ! refl (stop !))) (look-in ! 70 (sub ! 1 refl (whole !)))) (no-more !)))) (from ! (stop !)) (init ! 40 refl (tt, (tt, (record { fits = room₁ .0 }, tt)))) $
-        assigns ! (addr ! (from ! (fld ! refl (hop ! (look-in ! 68 (sub ! 0 refl (whole !))) (stop !))))) (from ! (stop !)) (init ! 38 refl (tt, tt)) $
-        assigns ! (agg ! (and-then ! (load ! (from ! (stop !)) (look ! 38 refl)) (and-then ! (load ! (from ! (fld ! refl (stop !))) (look-in ! 68 (sub ! 1 refl (whole !)))) (no-more !)))) (from ! (stop !)) (init ! 36 refl (tt, (tt, (record { fits = room₂ .0 }, tt)))) $
-        assigns ! (addr ! (from ! (fld ! refl (hop ! (look-in ! 66 (sub ! 0 refl (whole !))) (stop !))))) (from ! (stop !)) (init ! 34 refl (tt, tt)) $
-        assigns ! (agg ! (and-then ! (load ! (from ! (stop !)) (look ! 34 refl)) (and-then ! (load ! (from ! (fld ! refl (stop !))) (look-in ! 66 (sub ! 1 refl (whole !)))) (no-more !)))) (from ! (stop !)) (init ! 32 refl (tt, (tt, (record { fits = room₃ .0 }, tt)))) $
-        -- 8: agent::judge::judge
-        lends-view ! tt (Array u64 5) b₁ o₁ sessions n₁ (refl) (λ ν-8-sessions δ-8-sessions.
+        assigns ! (of-opd ! (load ! (from ! (fld ! refl (stop !))) (look-in ! 72 (sub ! 1 refl (whole !))))) (from ! (stop !)) (init ! 66 refl (u64-p .typed 𝓤 H A W n₇ ((refl, room₇ .0)))) $
+        assigns ! (of-opd ! (load ! (from ! (fld ! refl (stop !))) (look-in ! 76 (sub ! 1 refl (whole !))))) (from ! (stop !)) (init ! 64 refl (u64-p .typed 𝓤 H A W n₅ ((refl, room₅ .0)))) $
+        assigns ! (addr ! (from ! (fld ! refl (hop ! (look-in ! 84 (sub ! 0 refl (whole !))) (stop !))))) (from ! (stop !)) (init ! 52 refl (tt, tt)) $
+        assigns ! (agg ! (and-then ! (load ! (from ! (stop !)) (look ! 52 refl)) (and-then ! (load ! (from ! (fld ! refl (stop !))) (look-in ! 84 (sub ! 1 refl (whole !)))) (no-more !)))) (from ! (stop !)) (init ! 50 refl (tt, (tt, (record { fits = room₁ .0 }, tt)))) $
+        assigns ! (addr ! (from ! (fld ! refl (hop ! (look-in ! 82 (sub ! 0 refl (whole !))) (stop !))))) (from ! (stop !)) (init ! 48 refl (tt, tt)) $
+        assigns ! (agg ! (and-then ! (load ! (from ! (stop !)) (look ! 48 refl)) (and-then ! (load ! (from ! (fld ! refl (stop !))) (look-in ! 82 (sub ! 1 refl (whole !)))) (no-more !)))) (from ! (stop !)) (init ! 46 refl (tt, (tt, (record { fits = room₂ .0 }, tt)))) $
+        assigns ! (addr ! (from ! (fld ! refl (hop ! (look-in ! 80 (sub ! 0 refl (whole !))) (stop !))))) (from ! (stop !)) (init ! 44 refl (tt, tt)) $
+        assigns ! (agg ! (and-then ! (load ! (from ! (stop !)) (look ! 44 refl)) (and-then ! (load ! (from ! (fld ! refl (stop !))) (look-in ! 80 (sub ! 1 refl (whole !)))) (no-more !)))) (from ! (stop !)) (init ! 42 refl (tt, (tt, (record { fits = room₃ .0 }, tt)))) $
+        assigns ! (addr ! (from ! (fld ! refl (hop ! (look-in ! 78 (sub ! 0 refl (whole !))) (stop !))))) (from ! (stop !)) (init ! 40 refl (tt, tt)) $
+        assigns ! (agg ! (and-then ! (load ! (from ! (stop !)) (look ! 40 refl)) (and-then ! (load ! (from ! (fld ! refl (stop !))) (look-in ! 78 (sub ! 1 refl (whole !)))) (no-more !)))) (from ! (stop !)) (init ! 38 refl (tt, (tt, (record { fits = room₄ .0 }, tt)))) $
+        -- 11: agent::judge::judge
+        lends-view ! tt (Array u64 6) b₁ o₁ sessions n₁ (refl) (λ ν-11-sessions δ-11-sessions.
         move ! (3 ∷ 4 ∷ []) $
-        lends-view ! tt (Array u16 35) b₂ o₂ streams n₂ (refl) (λ ν-8-streams δ-8-streams.
+        lends-view ! tt (Array u16 35) b₂ o₂ streams n₂ (refl) (λ ν-11-streams δ-11-streams.
         move ! (6 ∷ 7 ∷ []) $
-        lends-view ! tt Object-t.the-row b₃ o₃ objects n₃ (refl) (λ ν-8-objects δ-8-objects.
-        move ! (11 ∷ 12 ∷ []) $
-        copies-shr ! u8 b₅ o₅ d n₅ $ nothing ! $ move ! (1 ∷ 0 ∷ []) $ join ! $ move ! (3 ∷ 0 ∷ []) $ join ! $ move ! (5 ∷ 0 ∷ []) $ join ! $ move ! (7 ∷ 0 ∷ []) $ join ! $
-        use1 W (raw (toks 𝓤 A 4 (((ν-8-sessions ∷ []), ((ν-8-streams ∷ []), ((ν-8-objects ∷ []), (κ₅, tt))))) ((fullShare, (fullShare, (fullShare, (q₅, tt))))))) (id⊢ 𝓤 _) $ nothing ! $
-        owned ! (u64-p .row) (Is (u64-p .row)) (u64-p .makes 𝓤 H A W) n₆ (u64-p .val n₆ ∷ []) ((refl, room₆ .0)) $ fjoin ! $
+        lends-view ! tt Object-t.the-row b₃ o₃ objects n₃ (refl) (λ ν-11-objects δ-11-objects.
+        move ! (9 ∷ 10 ∷ []) $
+        lends-view ! tt u8 b₄ o₄ held n₄ (refl) (λ ν-11-held δ-11-held.
+        move ! (14 ∷ 15 ∷ []) $
+        copies-shr ! u8 b₆ o₆ d n₆ $ nothing ! $ move ! (1 ∷ 0 ∷ []) $ join ! $ move ! (3 ∷ 0 ∷ []) $ join ! $ move ! (5 ∷ 0 ∷ []) $ join ! $ move ! (7 ∷ 0 ∷ []) $ join ! $ move ! (9 ∷ 0 ∷ []) $ join ! $
+        use1 W (raw (toks 𝓤 A 5 (((ν-11-sessions ∷ []), ((ν-11-streams ∷ []), ((ν-11-objects ∷ []), ((ν-11-held ∷ []), (κ₆, tt)))))) ((fullShare, (fullShare, (fullShare, (fullShare, (q₆, tt)))))))) (id⊢ 𝓤 _) $ nothing ! $
+        owned ! (u64-p .row) (Is (u64-p .row)) (u64-p .makes 𝓤 H A W) n₅ (u64-p .val n₅ ∷ []) ((refl, room₅ .0)) $ fjoin ! $
+        owned ! (u64-p .row) (Is (u64-p .row)) (u64-p .makes 𝓤 H A W) n₇ (u64-p .val n₇ ∷ []) ((refl, room₇ .0)) $ fjoin ! $
         owned ! (Input-p .row) (Is (Input-p .row)) (Input-p .makes 𝓤 H A W) input (Input-p .val input ∷ []) input-is $ fjoin ! $
-        owned ! (Agent-p .row) (Is (Agent-p .row)) (Agent-p .makes 𝓤 H A W) agent (Agent-p .val agent ∷ []) agent-is $ fjoin ! $ move ! (2 ∷ 0 ∷ []) $ fjoin ! $ move ! (3 ∷ 0 ∷ []) $ fjoin ! $ move ! (4 ∷ 0 ∷ []) $ fjoin ! $ move ! (5 ∷ 0 ∷ []) $ fjoin ! $ move ! (1 ∷ 0 ∷ []) $
-        calls-any ! fm 4 [] (judge-judge.signature .params) (judge-judge.ended .kept) Judged-p (judge-judge.clauses 𝓤 H A mem run) known-judge-judge ((ν-8-sessions ∷ []), ((ν-8-streams ∷ []), ((ν-8-objects ∷ []), (κ₅, tt)))) (fullShare, (fullShare, (fullShare, (q₅, tt)))) tt (at-list b₁ o₁ δ-8-sessions sessions, (at-list b₂ o₂ δ-8-streams streams, (at-list b₃ o₃ δ-8-objects objects, (at-list b₅ o₅ γ₅ d, (agent, (input, (n₆, tt))))))) (sliceVal (b₁, o₁) n₁ ∷ [], (sliceVal (b₂, o₂) n₂ ∷ [], (sliceVal (b₃, o₃) n₃ ∷ [], (sliceVal (b₅, o₅) n₅ ∷ [], (Agent-p .val agent ∷ [], (Input-p .val input ∷ [], (u64-p .val n₆ ∷ [], tt))))))) tt (judgeOf (lent (sessions) (streams) (objects)) (d) agent input n₆) (λ ws-8. Unit {0}) (id⊢ 𝓤 _) (λ r ws-8. fact-mono 𝓤 (r ≡ judgeOf (lent (sessions) (streams) (objects)) (d) agent input n₆) ((r ≡ (judgeOf (lent (sessions) (streams) (objects)) (d) agent input n₆)) × (Unit {0})) (λ e. (e, tt))) (λ _. (and-then ! (load ! (from ! (stop !)) (look ! 37 refl)) (and-then ! (load ! (from ! (stop !)) (look ! 33 refl)) (and-then ! (load ! (from ! (stop !)) (look ! 29 refl)) (and-then ! (load ! (from ! (stop !)) (look ! 59 refl)) (and-then ! (load ! (from ! (stop !)) (look ! 55 refl)) (and-then ! (load ! (from ! (stop !)) (look ! 53 refl)) (and-then ! (load ! (from ! (stop !)) (look ! 51 refl)) (no-more !))))))))) (λ ws-8 said-8 is-8.
-        use1 W ((‵ (flft (ν-8-sessions ∷ []) fullShare) ⊛ (‵ (flft (ν-8-streams ∷ []) fullShare) ⊛ (‵ (flft (ν-8-objects ∷ []) fullShare) ⊛ (‵ (flft κ₅ q₅) ⊛ ‵ ftrue))))) (id⊢ 𝓤 _) $ split ! $ move ! (1 ∷ []) $ split ! $ move ! (1 ∷ []) $ split ! $ move ! (1 ∷ []) $ split ! $ move ! (5 ∷ []) $ fsplit ! $ move ! (1 ∷ []) $ fsplit ! $ move ! (1 ∷ []) $ fsplit ! $ move ! (1 ∷ []) $ fsplit ! $ move ! (9 ∷ 13 ∷ []) $
-        backs-view ! tt (Array u64 5) b₁ o₁ sessions n₁ (refl) ν-8-sessions $ move ! (10 ∷ 13 ∷ []) $
-        backs-view ! tt (Array u16 35) b₂ o₂ streams n₂ (refl) ν-8-streams $ move ! (11 ∷ 13 ∷ []) $
-        backs-view ! tt Object-t.the-row b₃ o₃ objects n₃ (refl) ν-8-objects $ move ! (6 ∷ []) $ drop ! $ move ! (6 ∷ []) $ drop ! $ move ! (6 ∷ []) $ drop ! $ move ! (6 ∷ []) $ drop ! $ move ! (6 ∷ []) $ drop ! $ move ! (7 ∷ []) $ drop ! $
-        land ! (from ! (stop !)) (init ! 52 refl (Judged-p .typed 𝓤 H A W (judgeOf (lent (sessions) (streams) (objects)) (d) agent input n₆) is-8)) $ move ! (4 ∷ 5 ∷ 2 ∷ 3 ∷ 0 ∷ 1 ∷ 8 ∷ 9 ∷ 7 ∷ 6 ∷ 10 ∷ 11 ∷ 12 ∷ 13 ∷ 14 ∷ 15 ∷ 16 ∷ 17 ∷ 18 ∷ 19 ∷ 20 ∷ 21 ∷ 22 ∷ 23 ∷ 24 ∷ 25 ∷ 26 ∷ 27 ∷ 28 ∷ 29 ∷ 30 ∷ 31 ∷ 32 ∷ 33 ∷ 34 ∷ 35 ∷ 36 ∷ 37 ∷ 38 ∷ 39 ∷ 40 ∷ 41 ∷ 42 ∷ 43 ∷ 44 ∷ 45 ∷ 46 ∷ 47 ∷ 48 ∷ 49 ∷ 50 ∷ 51 ∷ 52 ∷ 53 ∷ 54 ∷ 55 ∷ 56 ∷ 57 ∷ 58 ∷ 59 ∷ 60 ∷ 61 ∷ 62 ∷ 63 ∷ 64 ∷ 65 ∷ 66 ∷ 67 ∷ 68 ∷ 69 ∷ 70 ∷ 71 ∷ 72 ∷ 73 ∷ []) $
-        part-9-0 is-8))))
+        owned ! (Agent-p .row) (Is (Agent-p .row)) (Agent-p .makes 𝓤 H A W) agent (Agent-p .val agent ∷ []) agent-is $ fjoin ! $ move ! (2 ∷ 0 ∷ []) $ fjoin ! $ move ! (3 ∷ 0 ∷ []) $ fjoin ! $ move ! (4 ∷ 0 ∷ []) $ fjoin ! $ move ! (5 ∷ 0 ∷ []) $ fjoin ! $ move ! (6 ∷ 0 ∷ []) $ fjoin ! $ move ! (1 ∷ 0 ∷ []) $
+        calls-any ! fm 5 [] (judge-judge.signature .params) (judge-judge.ended .kept) Judged-p (judge-judge.clauses 𝓤 H A mem run) known-judge-judge ((ν-11-sessions ∷ []), ((ν-11-streams ∷ []), ((ν-11-objects ∷ []), ((ν-11-held ∷ []), (κ₆, tt))))) (fullShare, (fullShare, (fullShare, (fullShare, (q₆, tt))))) tt (at-list b₁ o₁ δ-11-sessions sessions, (at-list b₂ o₂ δ-11-streams streams, (at-list b₃ o₃ δ-11-objects objects, (at-list b₄ o₄ δ-11-held held, (at-list b₆ o₆ γ₆ d, (agent, (input, (n₇, (n₅, tt))))))))) (sliceVal (b₁, o₁) n₁ ∷ [], (sliceVal (b₂, o₂) n₂ ∷ [], (sliceVal (b₃, o₃) n₃ ∷ [], (sliceVal (b₄, o₄) n₄ ∷ [], (sliceVal (b₆, o₆) n₆ ∷ [], (Agent-p .val agent ∷ [], (Input-p .val input ∷ [], (u64-p .val n₇ ∷ [], (u64-p .val n₅ ∷ [], tt))))))))) tt (judgeOf (lent (sessions) (streams) (objects) (held)) (d) agent input n₇ n₅) (λ ws-11. Unit {0}) (id⊢ 𝓤 _) (λ r ws-11. fact-mono 𝓤 (r ≡ judgeOf (lent (sessions) (streams) (objects) (held)) (d) agent input n₇ n₅) ((r ≡ (judgeOf (lent (sessions) (streams) (objects) (held)) (d) agent input n₇ n₅)) × (Unit {0})) (λ e. (e, tt))) (λ _. (and-then ! (load ! (from ! (stop !)) (look ! 46 refl)) (and-then ! (load ! (from ! (stop !)) (look ! 42 refl)) (and-then ! (load ! (from ! (stop !)) (look ! 38 refl)) (and-then ! (load ! (from ! (stop !)) (look ! 34 refl)) (and-then ! (load ! (from ! (stop !)) (look ! 70 refl)) (and-then ! (load ! (from ! (stop !)) (look ! 66 refl)) (and-then ! (load ! (from ! (stop !)) (look ! 64 refl)) (and-then ! (load ! (from ! (stop !)) (look ! 62 refl)) (and-then ! (load ! (from ! (stop !)) (look ! 60 refl)) (no-more !))))))))))) (λ ws-11 said-11 is-11.
+        use1 W ((‵ (flft (ν-11-sessions ∷ []) fullShare) ⊛ (‵ (flft (ν-11-streams ∷ []) fullShare) ⊛ (‵ (flft (ν-11-objects ∷ []) fullShare) ⊛ (‵ (flft (ν-11-held ∷ []) fullShare) ⊛ (‵ (flft κ₆ q₆) ⊛ ‵ ftrue)))))) (id⊢ 𝓤 _) $ split ! $ move ! (1 ∷ []) $ split ! $ move ! (1 ∷ []) $ split ! $ move ! (1 ∷ []) $ split ! $ move ! (1 ∷ []) $ split ! $ move ! (6 ∷ []) $ fsplit ! $ move ! (1 ∷ []) $ fsplit ! $ move ! (1 ∷ []) $ fsplit ! $ move ! (1 ∷ []) $ fsplit ! $ move ! (1 ∷ []) $ fsplit ! $ move ! (11 ∷ 16 ∷ []) $
+        backs-view ! tt (Array u64 6) b₁ o₁ sessions n₁ (refl) ν-11-sessions $ move ! (12 ∷ 16 ∷ []) $
+        backs-view ! tt (Array u16 35) b₂ o₂ streams n₂ (refl) ν-11-streams $ move ! (13 ∷ 16 ∷ []) $
+        backs-view ! tt Object-t.the-row b₃ o₃ objects n₃ (refl) ν-11-objects $ move ! (14 ∷ 16 ∷ []) $
+        backs-view ! tt u8 b₄ o₄ held n₄ (refl) ν-11-held $ move ! (8 ∷ []) $ drop ! $ move ! (8 ∷ []) $ drop ! $ move ! (8 ∷ []) $ drop ! $ move ! (8 ∷ []) $ drop ! $ move ! (8 ∷ []) $ drop ! $ move ! (8 ∷ []) $ drop ! $ move ! (9 ∷ []) $ drop ! $
+        land ! (from ! (stop !)) (init ! 62 refl (Judged-p .typed 𝓤 H A W (judgeOf (lent (sessions) (streams) (objects) (held)) (d) agent input n₇ n₅) is-11)) $ move ! (6 ∷ 7 ∷ 4 ∷ 5 ∷ 2 ∷ 3 ∷ 0 ∷ 1 ∷ 10 ∷ 11 ∷ 9 ∷ 8 ∷ 12 ∷ 13 ∷ 14 ∷ 15 ∷ 16 ∷ 17 ∷ 18 ∷ 19 ∷ 20 ∷ 21 ∷ 22 ∷ 23 ∷ 24 ∷ 25 ∷ 26 ∷ 27 ∷ 28 ∷ 29 ∷ 30 ∷ 31 ∷ 32 ∷ 33 ∷ 34 ∷ 35 ∷ 36 ∷ 37 ∷ 38 ∷ 39 ∷ 40 ∷ 41 ∷ 42 ∷ 43 ∷ 44 ∷ 45 ∷ 46 ∷ 47 ∷ 48 ∷ 49 ∷ 50 ∷ 51 ∷ 52 ∷ 53 ∷ 54 ∷ 55 ∷ 56 ∷ 57 ∷ 58 ∷ 59 ∷ 60 ∷ 61 ∷ 62 ∷ 63 ∷ 64 ∷ 65 ∷ 66 ∷ 67 ∷ 68 ∷ 69 ∷ 70 ∷ 71 ∷ 72 ∷ 73 ∷ 74 ∷ 75 ∷ 76 ∷ 77 ∷ 78 ∷ 79 ∷ 80 ∷ 81 ∷ 82 ∷ 83 ∷ 84 ∷ 85 ∷ 86 ∷ 87 ∷ []) $
+        part-12-0 is-11)))))
 
   module _ (𝓣 : Tables 𝓤 H) (known-judge-judge : Triple 𝓤 (𝓣 .C #judge-judge) (Of-judge-judge 𝓤 H A mem run)) (known-judge-parts-of : Triple 𝓤 (𝓣 .C #judge-parts-of) (Of-judge-parts-of 𝓤 H A mem run)) (known-process-go : Triple 𝓤 (𝓣 .C #process-go) (Of-process-go 𝓤 H A mem run)) (known-process-refused : Triple 𝓤 (𝓣 .C #process-refused) (Of-process-refused 𝓤 H A mem run)) where
-    walk : ent 𝓤 (onEntry 𝓤 H A f.signature (κ₁, (κ₂, (κ₃, (κ₄, (κ₅, (κ₆, tt)))))) (q₁, (q₂, (q₃, (q₄, (q₅, (q₆, tt)))))) x at) (WpFn 𝓤 H (𝓣 .C) (𝓣 .Λ) code.function (sliceVal (b₁, o₁) n₁ ∷ sliceVal (b₂, o₂) n₂ ∷ sliceVal (b₃, o₃) n₃ ∷ sliceVal (b₄, o₄) n₄ ∷ sliceVal (b₅, o₅) n₅ ∷ sliceVal (b₆, o₆) n₆ ∷ Agent-p .val agent ∷ Input-p .val input ∷ []) Post)
+    walk : ent 𝓤 (onEntry 𝓤 H A f.signature (κ₁, (κ₂, (κ₃, (κ₄, (κ₅, (κ₆, (κ₇, tt))))))) (q₁, (q₂, (q₃, (q₄, (q₅, (q₆, (q₇, tt))))))) x at) (WpFn 𝓤 H (𝓣 .C) (𝓣 .Λ) code.function (sliceVal (b₁, o₁) n₁ ∷ sliceVal (b₂, o₂) n₂ ∷ sliceVal (b₃, o₃) n₃ ∷ sliceVal (b₄, o₄) n₄ ∷ sliceVal (b₅, o₅) n₅ ∷ sliceVal (b₆, o₆) n₆ ∷ sliceVal (b₇, o₇) n₇ ∷ Agent-p .val agent ∷ Input-p .val input ∷ []) Post)
     walk =
-        qed W ((‵ (flft κ₁ q₁) ⊛ (‵ (flft κ₂ q₂) ⊛ (‵ (flft κ₃ q₃) ⊛ (‵ (flft κ₄ q₄) ⊛ (‵ (flft κ₅ q₅) ⊛ (‵ (flft κ₆ q₆) ⊛ ‵ ftrue)))))) ∷ ‵ (owns (MutSlice (named 0) κ₁ (Array u64 5) ∷ MutSlice (named 1) κ₂ (Array u16 35) ∷ MutSlice (named 2) κ₃ Object-t.the-row ∷ MutSlice (named 3) κ₄ u8 ∷ ShrSlice (named 4) κ₅ u8 ∷ ShrSlice (named 5) κ₆ u8 ∷ Agent-p .row ∷ Input-p .row ∷ []) x at) ∷ []) ∵ enter ! (𝓣 .C) (𝓣 .Λ) code.function (sliceVal (b₁, o₁) n₁ ∷ sliceVal (b₂, o₂) n₂ ∷ sliceVal (b₃, o₃) n₃ ∷ sliceVal (b₄, o₄) n₄ ∷ sliceVal (b₅, o₅) n₅ ∷ sliceVal (b₆, o₆) n₆ ∷ Agent-p .val agent ∷ Input-p .val input ∷ []) _ $
-        alloc1 ! (λ l₀. alloc1 ! (λ l₁. alloc1 ! (λ l₂. alloc1 ! (λ l₃. alloc1 ! (λ l₄. alloc1 ! (λ l₅. alloc1 ! (λ l₆. alloc1 ! (λ l₇. alloc1 ! (λ l₈. alloc1 ! (λ l₉. alloc1 ! (λ l₁₀. alloc1 ! (λ l₁₁. alloc1 ! (λ l₁₂. alloc1 ! (λ l₁₃. alloc1 ! (λ l₁₄. alloc1 ! (λ l₁₅. alloc1 ! (λ l₁₆. alloc1 ! (λ l₁₇. alloc1 ! (λ l₁₈. alloc1 ! (λ l₁₉. alloc1 ! (λ l₂₀. alloc1 ! (λ l₂₁. alloc1 ! (λ l₂₂. alloc1 ! (λ l₂₃. alloc1 ! (λ l₂₄. alloc1 ! (λ l₂₅. alloc1 ! (λ l₂₆. alloc1 ! (λ l₂₇. alloc1 ! (λ l₂₈. alloc1 ! (λ l₂₉. alloc1 ! (λ l₃₀. alloc0 ! $ params1 ! $ pass1 ! (init ! 58 refl (tt, (tt, (record { fits = room₁ .0 }, tt)))) $ pass1 ! (init ! 56 refl (tt, (tt, (record { fits = room₂ .0 }, tt)))) $ pass1 ! (init ! 54 refl (tt, (tt, (record { fits = room₃ .0 }, tt)))) $ pass1 ! (init ! 52 refl (tt, (tt, (record { fits = room₄ .0 }, tt)))) $ pass1 ! (init ! 50 refl (tt, (tt, (record { fits = room₅ .0 }, tt)))) $ pass1 ! (init ! 48 refl (tt, (tt, (record { fits = room₆ .0 }, tt)))) $ pass1 ! (init ! 46 refl (Agent-p .typed 𝓤 H A W agent agent-is)) $ pass1 ! (init ! 44 refl (Input-p .typed 𝓤 H A W input input-is)) $ pass0 ! $ move ! (63 ∷ []) $ fsplit ! $ move ! (1 ∷ []) $ fsplit ! $ move ! (1 ∷ []) $ fsplit ! $ move ! (1 ∷ []) $ fsplit ! $ move ! (1 ∷ []) $ fsplit ! $ move ! (1 ∷ []) $ fsplit ! $ move ! (69 ∷ []) $ split ! $ move ! (1 ∷ []) $ split ! $ move ! (1 ∷ []) $ split ! $ move ! (1 ∷ []) $ split ! $ move ! (1 ∷ []) $ split ! $ move ! (1 ∷ []) $ split ! $ move ! (1 ∷ []) $ drop ! $ move ! (7 ∷ []) $ drop ! $ move ! (11 ∷ 5 ∷ 10 ∷ 4 ∷ 9 ∷ 3 ∷ 8 ∷ 2 ∷ 7 ∷ 1 ∷ 6 ∷ 0 ∷ 12 ∷ 13 ∷ 14 ∷ 15 ∷ 16 ∷ 17 ∷ 18 ∷ 19 ∷ 20 ∷ 21 ∷ 22 ∷ 23 ∷ 24 ∷ 25 ∷ 26 ∷ 27 ∷ 28 ∷ 29 ∷ 30 ∷ 31 ∷ 32 ∷ 33 ∷ 34 ∷ 35 ∷ 36 ∷ 37 ∷ 38 ∷ 39 ∷ 40 ∷ 41 ∷ 42 ∷ 43 ∷ 44 ∷ 45 ∷ 46 ∷ 47 ∷ 48 ∷ 49 ∷ 50 ∷ 51 ∷ 52 ∷ 53 ∷ 54 ∷ 55 ∷ 56 ∷ 57 ∷ 58 ∷ 59 ∷ 60 ∷ 61 ∷ 62 ∷ 63 ∷ 64 ∷ 65 ∷ 66 ∷ 67 ∷ 68 ∷ 69 ∷ 70 ∷ 71 ∷ 72 ∷ 73 ∷ []) $
-        begins 𝓣 known-judge-judge known-judge-parts-of known-process-go known-process-refused l₀ l₁ l₂ l₃ l₄ l₅ l₆ l₇ l₈ l₉ l₁₀ l₁₁ l₁₂ l₁₃ l₁₄ l₁₅ l₁₆ l₁₇ l₁₈ l₁₉ l₂₀ l₂₁ l₂₂ l₂₃ l₂₄ l₂₅ l₂₆ l₂₇ l₂₈ l₂₉ l₃₀)))))))))))))))))))))))))))))))
+        qed W ((‵ (flft κ₁ q₁) ⊛ (‵ (flft κ₂ q₂) ⊛ (‵ (flft κ₃ q₃) ⊛ (‵ (flft κ₄ q₄) ⊛ (‵ (flft κ₅ q₅) ⊛ (‵ (flft κ₆ q₆) ⊛ (‵ (flft κ₇ q₇) ⊛ ‵ ftrue))))))) ∷ ‵ (owns (MutSlice (named 0) κ₁ (Array u64 6) ∷ MutSlice (named 1) κ₂ (Array u16 35) ∷ MutSlice (named 2) κ₃ Object-t.the-row ∷ MutSlice (named 3) κ₄ u8 ∷ MutSlice (named 4) κ₅ u8 ∷ ShrSlice (named 5) κ₆ u8 ∷ ShrSlice (named 6) κ₇ u8 ∷ Agent-p .row ∷ Input-p .row ∷ []) x at) ∷ []) ∵ enter ! (𝓣 .C) (𝓣 .Λ) code.function (sliceVal (b₁, o₁) n₁ ∷ sliceVal (b₂, o₂) n₂ ∷ sliceVal (b₃, o₃) n₃ ∷ sliceVal (b₄, o₄) n₄ ∷ sliceVal (b₅, o₅) n₅ ∷ sliceVal (b₆, o₆) n₆ ∷ sliceVal (b₇, o₇) n₇ ∷ Agent-p .val agent ∷ Input-p .val input ∷ []) _ $
+        alloc1 ! (λ l₀. alloc1 ! (λ l₁. alloc1 ! (λ l₂. alloc1 ! (λ l₃. alloc1 ! (λ l₄. alloc1 ! (λ l₅. alloc1 ! (λ l₆. alloc1 ! (λ l₇. alloc1 ! (λ l₈. alloc1 ! (λ l₉. alloc1 ! (λ l₁₀. alloc1 ! (λ l₁₁. alloc1 ! (λ l₁₂. alloc1 ! (λ l₁₃. alloc1 ! (λ l₁₄. alloc1 ! (λ l₁₅. alloc1 ! (λ l₁₆. alloc1 ! (λ l₁₇. alloc1 ! (λ l₁₈. alloc1 ! (λ l₁₉. alloc1 ! (λ l₂₀. alloc1 ! (λ l₂₁. alloc1 ! (λ l₂₂. alloc1 ! (λ l₂₃. alloc1 ! (λ l₂₄. alloc1 ! (λ l₂₅. alloc1 ! (λ l₂₆. alloc1 ! (λ l₂₇. alloc1 ! (λ l₂₈. alloc1 ! (λ l₂₉. alloc1 ! (λ l₃₀. alloc1 ! (λ l₃₁. alloc1 ! (λ l₃₂. alloc1 ! (λ l₃₃. alloc1 ! (λ l₃₄. alloc1 ! (λ l₃₅. alloc1 ! (λ l₃₆. alloc0 ! $ params1 ! $ pass1 ! (init ! 70 refl (tt, (tt, (record { fits = room₁ .0 }, tt)))) $ pass1 ! (init ! 68 refl (tt, (tt, (record { fits = room₂ .0 }, tt)))) $ pass1 ! (init ! 66 refl (tt, (tt, (record { fits = room₃ .0 }, tt)))) $ pass1 ! (init ! 64 refl (tt, (tt, (record { fits = room₄ .0 }, tt)))) $ pass1 ! (init ! 62 refl (tt, (tt, (record { fits = room₅ .0 }, tt)))) $ pass1 ! (init ! 60 refl (tt, (tt, (record { fits = room₆ .0 }, tt)))) $ pass1 ! (init ! 58 refl (tt, (tt, (record { fits = room₇ .0 }, tt)))) $ pass1 ! (init ! 56 refl (Agent-p .typed 𝓤 H A W agent agent-is)) $ pass1 ! (init ! 54 refl (Input-p .typed 𝓤 H A W input input-is)) $ pass0 ! $ move ! (75 ∷ []) $ fsplit ! $ move ! (1 ∷ []) $ fsplit ! $ move ! (1 ∷ []) $ fsplit ! $ move ! (1 ∷ []) $ fsplit ! $ move ! (1 ∷ []) $ fsplit ! $ move ! (1 ∷ []) $ fsplit ! $ move ! (1 ∷ []) $ fsplit ! $ move ! (82 ∷ []) $ split ! $ move ! (1 ∷ []) $ split ! $ move ! (1 ∷ []) $ split ! $ move ! (1 ∷ []) $ split ! $ move ! (1 ∷ []) $ split ! $ move ! (1 ∷ []) $ split ! $ move ! (1 ∷ []) $ split ! $ move ! (1 ∷ []) $ drop ! $ move ! (8 ∷ []) $ drop ! $ move ! (13 ∷ 6 ∷ 12 ∷ 5 ∷ 11 ∷ 4 ∷ 10 ∷ 3 ∷ 9 ∷ 2 ∷ 8 ∷ 1 ∷ 7 ∷ 0 ∷ 14 ∷ 15 ∷ 16 ∷ 17 ∷ 18 ∷ 19 ∷ 20 ∷ 21 ∷ 22 ∷ 23 ∷ 24 ∷ 25 ∷ 26 ∷ 27 ∷ 28 ∷ 29 ∷ 30 ∷ 31 ∷ 32 ∷ 33 ∷ 34 ∷ 35 ∷ 36 ∷ 37 ∷ 38 ∷ 39 ∷ 40 ∷ 41 ∷ 42 ∷ 43 ∷ 44 ∷ 45 ∷ 46 ∷ 47 ∷ 48 ∷ 49 ∷ 50 ∷ 51 ∷ 52 ∷ 53 ∷ 54 ∷ 55 ∷ 56 ∷ 57 ∷ 58 ∷ 59 ∷ 60 ∷ 61 ∷ 62 ∷ 63 ∷ 64 ∷ 65 ∷ 66 ∷ 67 ∷ 68 ∷ 69 ∷ 70 ∷ 71 ∷ 72 ∷ 73 ∷ 74 ∷ 75 ∷ 76 ∷ 77 ∷ 78 ∷ 79 ∷ 80 ∷ 81 ∷ 82 ∷ 83 ∷ 84 ∷ 85 ∷ 86 ∷ 87 ∷ []) $
+        begins 𝓣 known-judge-judge known-judge-parts-of known-process-go known-process-refused l₀ l₁ l₂ l₃ l₄ l₅ l₆ l₇ l₈ l₉ l₁₀ l₁₁ l₁₂ l₁₃ l₁₄ l₁₅ l₁₆ l₁₇ l₁₈ l₁₉ l₂₀ l₂₁ l₂₂ l₂₃ l₂₄ l₂₅ l₂₆ l₂₇ l₂₈ l₂₉ l₃₀ l₃₁ l₃₂ l₃₃ l₃₄ l₃₅ l₃₆)))))))))))))))))))))))))))))))))))))
 
 module _ {M : Type 1} (𝓤 : URA M) (H : Heap 𝓤) (A : Atoms 𝓤) (W : Given 𝓤 H A) (mem : Memory → SProp 𝓤) (run : Routine → Fun 𝓤) (𝓣 : Tables 𝓤 H) (known-judge-judge : Triple 𝓤 (𝓣 .C #judge-judge) (Of-judge-judge 𝓤 H A mem run)) (known-judge-parts-of : Triple 𝓤 (𝓣 .C #judge-parts-of) (Of-judge-parts-of 𝓤 H A mem run)) (known-process-go : Triple 𝓤 (𝓣 .C #process-go) (Of-process-go 𝓤 H A mem run)) (known-process-refused : Triple 𝓤 (𝓣 .C #process-refused) (Of-process-refused 𝓤 H A mem run)) where
   walks : Walks 𝓤 H A f.ended stayed (WpFn 𝓤 H (𝓣 .C) (𝓣 .Λ) code.function) (f.clauses 𝓤 H A mem run)
-  walks = walked 𝓤 H A f.ended stayed (f.clauses 𝓤 H A mem run) (WpFn 𝓤 H (𝓣 .C) (𝓣 .Λ) code.function) (λ κs. (slice-vals, (slice-vals, (slice-vals, (slice-vals, (slice-vals, (slice-vals, ((λ y. Agent-p .val y ∷ []), ((λ y. Input-p .val y ∷ []), tt))))))))) (λ κs. (mut-slice-tells (named 0) (κs .0) (Array u64 5), (mut-slice-tells (named 1) (κs .1 .0) (Array u16 35), (mut-slice-tells (named 2) (κs .1 .1 .0) Object-t.the-row, (mut-slice-tells (named 3) (κs .1 .1 .1 .0) u8, (shr-slice-tells (named 4) (κs .1 .1 .1 .1 .0) u8, (shr-slice-tells (named 5) (κs .1 .1 .1 .1 .1 .0) u8, (Agent-p .tells, (Input-p .tells, tt)))))))))
-      (λ κs qs bounds a g are. via 𝓤 _ (fst∗ 𝓤 _ (emp 𝓤)) (walk 𝓤 H A W mem run (κs .0) (qs .0) (a .0 .ptr .0) (a .0 .ptr .1) (a .0 .name) (a .0 .now) (κs .1 .0) (qs .1 .0) (a .1 .0 .ptr .0) (a .1 .0 .ptr .1) (a .1 .0 .name) (a .1 .0 .now) (κs .1 .1 .0) (qs .1 .1 .0) (a .1 .1 .0 .ptr .0) (a .1 .1 .0 .ptr .1) (a .1 .1 .0 .name) (a .1 .1 .0 .now) (κs .1 .1 .1 .0) (qs .1 .1 .1 .0) (a .1 .1 .1 .0 .ptr .0) (a .1 .1 .1 .0 .ptr .1) (a .1 .1 .1 .0 .name) (a .1 .1 .1 .0 .now) (κs .1 .1 .1 .1 .0) (qs .1 .1 .1 .1 .0) (a .1 .1 .1 .1 .0 .ptr .0) (a .1 .1 .1 .1 .0 .ptr .1) (a .1 .1 .1 .1 .0 .name) (a .1 .1 .1 .1 .0 .now) (κs .1 .1 .1 .1 .1 .0) (qs .1 .1 .1 .1 .1 .0) (a .1 .1 .1 .1 .1 .0 .ptr .0) (a .1 .1 .1 .1 .1 .0 .ptr .1) (a .1 .1 .1 .1 .1 .0 .name) (a .1 .1 .1 .1 .1 .0 .now) (a .1 .1 .1 .1 .1 .1 .0) (a .1 .1 .1 .1 .1 .1 .1 .0) (are .0 .0 .1) (are .1 .0 .0 .1) (are .1 .1 .0 .0 .1) (are .1 .1 .1 .0 .0 .1) (are .1 .1 .1 .1 .0 .0 .1) (are .1 .1 .1 .1 .1 .0 .0 .1) (are .1 .1 .1 .1 .1 .1 .0) (are .1 .1 .1 .1 .1 .1 .1 .0) 𝓣 known-judge-judge known-judge-parts-of known-process-go known-process-refused))
+  walks = walked 𝓤 H A f.ended stayed (f.clauses 𝓤 H A mem run) (WpFn 𝓤 H (𝓣 .C) (𝓣 .Λ) code.function) (λ κs. (slice-vals, (slice-vals, (slice-vals, (slice-vals, (slice-vals, (slice-vals, (slice-vals, ((λ y. Agent-p .val y ∷ []), ((λ y. Input-p .val y ∷ []), tt)))))))))) (λ κs. (mut-slice-tells (named 0) (κs .0) (Array u64 6), (mut-slice-tells (named 1) (κs .1 .0) (Array u16 35), (mut-slice-tells (named 2) (κs .1 .1 .0) Object-t.the-row, (mut-slice-tells (named 3) (κs .1 .1 .1 .0) u8, (mut-slice-tells (named 4) (κs .1 .1 .1 .1 .0) u8, (shr-slice-tells (named 5) (κs .1 .1 .1 .1 .1 .0) u8, (shr-slice-tells (named 6) (κs .1 .1 .1 .1 .1 .1 .0) u8, (Agent-p .tells, (Input-p .tells, tt))))))))))
+      (λ κs qs bounds a g are. via 𝓤 _ (fst∗ 𝓤 _ (emp 𝓤)) (walk 𝓤 H A W mem run (κs .0) (qs .0) (a .0 .ptr .0) (a .0 .ptr .1) (a .0 .name) (a .0 .now) (κs .1 .0) (qs .1 .0) (a .1 .0 .ptr .0) (a .1 .0 .ptr .1) (a .1 .0 .name) (a .1 .0 .now) (κs .1 .1 .0) (qs .1 .1 .0) (a .1 .1 .0 .ptr .0) (a .1 .1 .0 .ptr .1) (a .1 .1 .0 .name) (a .1 .1 .0 .now) (κs .1 .1 .1 .0) (qs .1 .1 .1 .0) (a .1 .1 .1 .0 .ptr .0) (a .1 .1 .1 .0 .ptr .1) (a .1 .1 .1 .0 .name) (a .1 .1 .1 .0 .now) (κs .1 .1 .1 .1 .0) (qs .1 .1 .1 .1 .0) (a .1 .1 .1 .1 .0 .ptr .0) (a .1 .1 .1 .1 .0 .ptr .1) (a .1 .1 .1 .1 .0 .name) (a .1 .1 .1 .1 .0 .now) (κs .1 .1 .1 .1 .1 .0) (qs .1 .1 .1 .1 .1 .0) (a .1 .1 .1 .1 .1 .0 .ptr .0) (a .1 .1 .1 .1 .1 .0 .ptr .1) (a .1 .1 .1 .1 .1 .0 .name) (a .1 .1 .1 .1 .1 .0 .now) (κs .1 .1 .1 .1 .1 .1 .0) (qs .1 .1 .1 .1 .1 .1 .0) (a .1 .1 .1 .1 .1 .1 .0 .ptr .0) (a .1 .1 .1 .1 .1 .1 .0 .ptr .1) (a .1 .1 .1 .1 .1 .1 .0 .name) (a .1 .1 .1 .1 .1 .1 .0 .now) (a .1 .1 .1 .1 .1 .1 .1 .0) (a .1 .1 .1 .1 .1 .1 .1 .1 .0) (are .0 .0 .1) (are .1 .0 .0 .1) (are .1 .1 .0 .0 .1) (are .1 .1 .1 .0 .0 .1) (are .1 .1 .1 .1 .0 .0 .1) (are .1 .1 .1 .1 .1 .0 .0 .1) (are .1 .1 .1 .1 .1 .1 .0 .0 .1) (are .1 .1 .1 .1 .1 .1 .1 .0) (are .1 .1 .1 .1 .1 .1 .1 .1 .0) 𝓣 known-judge-judge known-judge-parts-of known-process-go known-process-refused))
 
   meets : Meets 𝓤 H A f.signature (WpFn 𝓤 H (𝓣 .C) (𝓣 .Λ) code.function) (f.spec 𝓤 H A mem run)
-  meets = walk-meets 𝓤 H A f.ended stayed W (goes-slice 𝓤 H A W 6 0 tt (plain (λ _. (Array u64 5))), (goes-slice 𝓤 H A W 6 1 tt (plain (λ _. (Array u16 35))), (goes-slice 𝓤 H A W 6 2 tt (plain (λ _. Object-t.the-row)), (goes-slice 𝓤 H A W 6 3 tt (plain (λ _. u8)), (goes-none-slice 𝓤 H A W 6 (4 ∷ []) tt (plain (λ _. u8)) yes, (goes-none-slice 𝓤 H A W 6 (5 ∷ []) tt (plain (λ _. u8)) yes, (goes-none 𝓤 H A W 6 (λ _. Agent-p .row) yes (λ κs x f. refl), (goes-none 𝓤 H A W 6 (λ _. Input-p .row) yes (λ κs x f. refl), tt)))))))) (f.clauses 𝓤 H A mem run) (WpFn 𝓤 H (𝓣 .C) (𝓣 .Λ) code.function) (WpFn-mono 𝓤 H (W .laws) 𝓣 code.function) walks
+  meets = walk-meets 𝓤 H A f.ended stayed W (goes-slice 𝓤 H A W 7 0 tt (plain (λ _. (Array u64 6))), (goes-slice 𝓤 H A W 7 1 tt (plain (λ _. (Array u16 35))), (goes-slice 𝓤 H A W 7 2 tt (plain (λ _. Object-t.the-row)), (goes-slice 𝓤 H A W 7 3 tt (plain (λ _. u8)), (goes-slice 𝓤 H A W 7 4 tt (plain (λ _. u8)), (goes-none-slice 𝓤 H A W 7 (5 ∷ []) tt (plain (λ _. u8)) yes, (goes-none-slice 𝓤 H A W 7 (6 ∷ []) tt (plain (λ _. u8)) yes, (goes-none 𝓤 H A W 7 (λ _. Agent-p .row) yes (λ κs x f. refl), (goes-none 𝓤 H A W 7 (λ _. Input-p .row) yes (λ κs x f. refl), tt))))))))) (f.clauses 𝓤 H A mem run) (WpFn 𝓤 H (𝓣 .C) (𝓣 .Λ) code.function) (WpFn-mono 𝓤 H (W .laws) 𝓣 code.function) walks
 
 pub process-spec : {M : Type 1} → stated.statement M
 unfolding code.routine tablesOf

@@ -16,7 +16,7 @@ same-length c = search needs
 
 returns : tie.Need-returns
 returns c = let a = c .before .before .before .before .before .before .args in
-    (sym (data-long (a .session-id) (a .stream-id) (a .number .0) (a .sample .now)), c .before .before .write-message .ensures .1 ∙ write-put _ (a .out .now) 0 _ (data-short (a .number .0) (a .sample .now) (c .before .before .before .before .before .before .pre)))
+    (sym (data-long (a .session-id) (a .stream-id) (a .sequence-nr) (a .number .0) (a .sample .now)), c .before .before .write-message .ensures .1 ∙ write-put _ (a .out .now) 0 _ (data-short (a .number .0) (a .sample .now) (c .before .before .before .before .before .before .pre)))
 
 pub reply-data-spec : {M : Type 1} → statement M
 reply-data-spec = tie.close (tie.spec write-message-requires add-result same-length returns)

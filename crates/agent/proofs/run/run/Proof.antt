@@ -52,14 +52,13 @@ use Rattle.walk.proofs.Steps.{past, one, yes-of, no-of, in-block, arm-of, holds
 use borrow.Rule.Slice.PartMut.{midOf, putMid}
 use Rattle.walk.proofs.Parts.{part-len, lends-part, backs-part, parts-shr}
 use Rattle.walk.proofs.Arrays.{rep-is, lends-array, backs-array}
-use Rattle.moves.specs.Rows.{lent}
+use Rattle.agent.specs.Lent.{lent}
 use Rattle.agent.specs.Run.{putReplies, isCall, goesOn, runAt}
 use Rattle.codec.specs.Bytes.{putBytes}
 use Rattle.sessions.specs.Table.{namedOf}
 use Rattle.sessions.specs.Opening.{createdOf, openedRows, openedStreams}
-use Rattle.moves.specs.Moves.{moveBytes}
 use Rattle.agent.specs.Run.{settled, stopOf, greetingBytes, greeted, passed, isLive, delivered, takenOf, turned}
-use Rattle.agent.proofs.Running.{Left, left-start, left-again, left-less, left-small, left-end}
+use Rattle.agent.proofs.Running.{Left, left-start, left-again, left-less, left-end}
 use Rattle.sessions.specs.declared.objects.Object.{Object}
 use Rattle.sessions.proofs.objects.Object as Object-t
 use Rattle.sessions.proofs.objects.Object.Laws as Object-l
@@ -116,8 +115,8 @@ ObjectNumber-of x0 = record { 0 = x0 }
 abbrev ObjectNumber-p : Plain
 ObjectNumber-p = record { row = ObjectNumber-t.the-row; val = LL.val ObjectNumber-t.the-type ObjectNumber-l.the-laws; tells = LL.tells ObjectNumber-t.the-type ObjectNumber-l.the-laws; makes = λ 𝓤 H A W. LL.makes ObjectNumber-t.the-type ObjectNumber-l.the-plain 𝓤 H A; ty = ObjectNumber-l.mir; typed = λ 𝓤 H A W x is. LL.lawful ObjectNumber-t.the-type ObjectNumber-l.the-laws 𝓤 H A W .typed x _ is .0; copies = λ 𝓤 H A W. LL.copy ObjectNumber-t.the-type ObjectNumber-l.the-copy 𝓤 H A W }
 
-abbrev Frame-of : ℕ → ℕ → ℕ → ℕ → Frame
-Frame-of x0 x1 x2 x3 = record { «max_clients» = x0; time = x1; «session_id» = x2; «stream_id» = x3 }
+abbrev Frame-of : ℕ → ℕ → ℕ → ℕ → ℕ → Frame
+Frame-of x0 x1 x2 x3 x4 = record { «max_clients» = x0; time = x1; «session_id» = x2; «stream_id» = x3; room = x4 }
 
 abbrev Frame-p : Plain
 Frame-p = record { row = Frame-t.the-row; val = LL.val Frame-t.the-type Frame-l.the-laws; tells = LL.tells Frame-t.the-type Frame-l.the-laws; makes = λ 𝓤 H A W. LL.makes Frame-t.the-type Frame-l.the-plain 𝓤 H A; ty = Frame-l.mir; typed = λ 𝓤 H A W x is. LL.lawful Frame-t.the-type Frame-l.the-laws 𝓤 H A W .typed x _ is .0; copies = λ 𝓤 H A W. LL.copy Frame-t.the-type Frame-l.the-copy 𝓤 H A W }
@@ -150,7 +149,7 @@ abbrev Span-p : Plain
 Span-p = record { row = Span-t.the-row; val = LL.val Span-t.the-type Span-l.the-laws; tells = LL.tells Span-t.the-type Span-l.the-laws; makes = λ 𝓤 H A W. LL.makes Span-t.the-type Span-l.the-plain 𝓤 H A; ty = Span-l.mir; typed = λ 𝓤 H A W x is. LL.lawful Span-t.the-type Span-l.the-laws 𝓤 H A W .typed x _ is .0; copies = λ 𝓤 H A W. LL.copy Span-t.the-type Span-l.the-copy 𝓤 H A W }
 
 abbrev stayed : Stays (f.ended .signature .params) (f.ended .kept)
-stayed = (stay-slice (0 ∷ []) tt (plain (λ _. (Array u64 5))), (stay-slice (1 ∷ []) tt (plain (λ _. (Array u16 35))), (stay-slice (2 ∷ []) tt (plain (λ _. Object-t.the-row)), (stay-slice (3 ∷ []) tt (plain (λ _. u8)), (stay-none-slice (4 ∷ []) tt (plain (λ _. u8)) yes, (stay-none (λ _. Frame-p .row) yes, (stay-none (λ _. Ran-p .row) yes, tt)))))))
+stayed = (stay-slice (0 ∷ []) tt (plain (λ _. (Array u64 6))), (stay-slice (1 ∷ []) tt (plain (λ _. (Array u16 35))), (stay-slice (2 ∷ []) tt (plain (λ _. Object-t.the-row)), (stay-none-slice (3 ∷ []) tt (plain (λ _. u8)) yes, (stay-slice (4 ∷ []) tt (plain (λ _. u8)), (stay-none-slice (5 ∷ []) tt (plain (λ _. u8)) yes, (stay-none (λ _. Frame-p .row) yes, (stay-none (λ _. Ran-p .row) yes, tt))))))))
 
 module _ {M : Type 1} (𝓤 : URA M) (H : Heap 𝓤) (A : Atoms 𝓤) (mem : Memory → SProp 𝓤) (run : Routine → Fun 𝓤) where
   abbrev Of-run-goes-on : Contract 𝓤
@@ -159,8 +158,8 @@ module _ {M : Type 1} (𝓤 : URA M) (H : Heap 𝓤) (A : Atoms 𝓤) (mem : Mem
   abbrev Of-turn-turn : Contract 𝓤
   Of-turn-turn = tripleOf 𝓤 H A turn-turn.signature (turn-turn.spec 𝓤 H A mem run)
 
-module _ {M : Type 1} (𝓤 : URA M) (H : Heap 𝓤) (A : Atoms 𝓤) (W : Given 𝓤 H A) (mem : Memory → SProp 𝓤) (run : Routine → Fun 𝓤) (κ₁ : Lft) (q₁ : Share) (b₁ o₁ : ℕ) (γ₁ : GName) (sessions : List (List ℕ)) (κ₂ : Lft) (q₂ : Share) (b₂ o₂ : ℕ) (γ₂ : GName) (streams : List (List ℕ)) (κ₃ : Lft) (q₃ : Share) (b₃ o₃ : ℕ) (γ₃ : GName) (objects : List Object) (κ₄ : Lft) (q₄ : Share) (b₄ o₄ : ℕ) (γ₄ : GName) (out : List ℕ) (κ₅ : Lft) (q₅ : Share) (b₅ o₅ : ℕ) (γ₅ : GName) (d : List ℕ) (f′ : Frame) (start : Ran)
-    (room₁ : Room (Array u64 5) (length sessions)) (room₂ : Room (Array u16 35) (length streams)) (room₃ : Room Object-t.the-row (length objects)) (room₄ : Room u8 (length out)) (room₅ : Room u8 (length d)) (f′-is : Is (Frame-p .row) f′ (Frame-p .val f′ ∷ [])) (start-is : Is (Ran-p .row) start (Ran-p .val start ∷ [])) (within : start .wrote ≤ 65543) where
+module _ {M : Type 1} (𝓤 : URA M) (H : Heap 𝓤) (A : Atoms 𝓤) (W : Given 𝓤 H A) (mem : Memory → SProp 𝓤) (run : Routine → Fun 𝓤) (κ₁ : Lft) (q₁ : Share) (b₁ o₁ : ℕ) (γ₁ : GName) (sessions : List (List ℕ)) (κ₂ : Lft) (q₂ : Share) (b₂ o₂ : ℕ) (γ₂ : GName) (streams : List (List ℕ)) (κ₃ : Lft) (q₃ : Share) (b₃ o₃ : ℕ) (γ₃ : GName) (objects : List Object) (κ₄ : Lft) (q₄ : Share) (b₄ o₄ : ℕ) (γ₄ : GName) (held : List ℕ) (κ₅ : Lft) (q₅ : Share) (b₅ o₅ : ℕ) (γ₅ : GName) (out : List ℕ) (κ₆ : Lft) (q₆ : Share) (b₆ o₆ : ℕ) (γ₆ : GName) (d : List ℕ) (f′ : Frame) (start : Ran)
+    (room₁ : Room (Array u64 6) (length sessions)) (room₂ : Room (Array u16 35) (length streams)) (room₃ : Room Object-t.the-row (length objects)) (room₄ : Room u8 (length held)) (room₅ : Room u8 (length out)) (room₆ : Room u8 (length d)) (f′-is : Is (Frame-p .row) f′ (Frame-p .val f′ ∷ [])) (start-is : Is (Ran-p .row) start (Ran-p .val start ∷ [])) (within : f′ .room ≤ 9223372036854775807) where
   abbrev n₁ : ℕ
   n₁ = length sessions
 
@@ -171,31 +170,34 @@ module _ {M : Type 1} (𝓤 : URA M) (H : Heap 𝓤) (A : Atoms 𝓤) (W : Given
   n₃ = length objects
 
   abbrev n₄ : ℕ
-  n₄ = length out
+  n₄ = length held
 
   abbrev n₅ : ℕ
-  n₅ = length d
+  n₅ = length out
 
-  abbrev x : RefT (List (List ℕ)) × (RefT (List (List ℕ)) × (RefT (List Object) × (RefT (List ℕ) × (RefT (List ℕ) × (Frame-p .row .Denot × (Ran-p .row .Denot × (Unit {0})))))))
-  x = (at-list b₁ o₁ γ₁ sessions, (at-list b₂ o₂ γ₂ streams, (at-list b₃ o₃ γ₃ objects, (at-list b₄ o₄ γ₄ out, (at-list b₅ o₅ γ₅ d, (f′, (start, tt)))))))
+  abbrev n₆ : ℕ
+  n₆ = length d
 
-  abbrev at : Vals f.signature (κ₁, (κ₂, (κ₃, (κ₄, (κ₅, tt)))))
-  at = (sliceVal (b₁, o₁) n₁ ∷ [], (sliceVal (b₂, o₂) n₂ ∷ [], (sliceVal (b₃, o₃) n₃ ∷ [], (sliceVal (b₄, o₄) n₄ ∷ [], (sliceVal (b₅, o₅) n₅ ∷ [], (Frame-p .val f′ ∷ [], (Ran-p .val start ∷ [], tt)))))))
+  abbrev x : RefT (List (List ℕ)) × (RefT (List (List ℕ)) × (RefT (List Object) × (RefT (List ℕ) × (RefT (List ℕ) × (RefT (List ℕ) × (Frame-p .row .Denot × (Ran-p .row .Denot × (Unit {0}))))))))
+  x = (at-list b₁ o₁ γ₁ sessions, (at-list b₂ o₂ γ₂ streams, (at-list b₃ o₃ γ₃ objects, (at-list b₄ o₄ γ₄ held, (at-list b₅ o₅ γ₅ out, (at-list b₆ o₆ γ₆ d, (f′, (start, tt))))))))
+
+  abbrev at : Vals f.signature (κ₁, (κ₂, (κ₃, (κ₄, (κ₅, (κ₆, tt))))))
+  at = (sliceVal (b₁, o₁) n₁ ∷ [], (sliceVal (b₂, o₂) n₂ ∷ [], (sliceVal (b₃, o₃) n₃ ∷ [], (sliceVal (b₄, o₄) n₄ ∷ [], (sliceVal (b₅, o₅) n₅ ∷ [], (sliceVal (b₆, o₆) n₆ ∷ [], (Frame-p .val f′ ∷ [], (Ran-p .val start ∷ [], tt))))))))
 
   abbrev Post : Val → SProp 𝓤
-  Post = walkOf 𝓤 H A f.ended stayed (f.clauses 𝓤 H A mem run) .post (((κ₁, (κ₂, (κ₃, (κ₄, (κ₅, tt))))), (q₁, (q₂, (q₃, (q₄, (q₅, tt))))), tt, x, at), tt)
+  Post = walkOf 𝓤 H A f.ended stayed (f.clauses 𝓤 H A mem run) .post (((κ₁, (κ₂, (κ₃, (κ₄, (κ₅, (κ₆, tt)))))), (q₁, (q₂, (q₃, (q₄, (q₅, (q₆, tt)))))), tt, x, at), tt)
 
-  exits : (r : Ran) (ws₁ : List (List ℕ)) (ws₂ : List (List ℕ)) (ws₃ : List Object) (ws₄ : List ℕ) → ((r ≡ runAt f′ (d) start (lent (sessions) (streams) (objects)) .ran) × (ws₁ ≡ runAt f′ (d) start (lent (sessions) (streams) (objects)) .tables .sessions) × (ws₂ ≡ runAt f′ (d) start (lent (sessions) (streams) (objects)) .tables .streams) × (ws₃ ≡ runAt f′ (d) start (lent (sessions) (streams) (objects)) .tables .objects) × (ws₄ ≡ putReplies (out) (start .wrote) (runAt f′ (d) start (lent (sessions) (streams) (objects)) .replies))) → Is (Ran-p .row) r (Ran-p .val r ∷ []) → length ws₁ ≡ n₁ → length ws₂ ≡ n₂ → length ws₃ ≡ n₃ → length ws₄ ≡ n₄ → ent 𝓤 (⋆ 𝓤 H A (‵ (MutSlice (named 0) κ₁ (Array u64 5) .own (at-list b₁ o₁ γ₁ ws₁) (sliceVal (b₁, o₁) n₁ ∷ [])) ∷ ‵ (flft κ₁ q₁) ∷ ‵ (MutSlice (named 1) κ₂ (Array u16 35) .own (at-list b₂ o₂ γ₂ ws₂) (sliceVal (b₂, o₂) n₂ ∷ [])) ∷ ‵ (flft κ₂ q₂) ∷ ‵ (MutSlice (named 2) κ₃ Object-t.the-row .own (at-list b₃ o₃ γ₃ ws₃) (sliceVal (b₃, o₃) n₃ ∷ [])) ∷ ‵ (flft κ₃ q₃) ∷ ‵ (MutSlice (named 3) κ₄ u8 .own (at-list b₄ o₄ γ₄ ws₄) (sliceVal (b₄, o₄) n₄ ∷ [])) ∷ ‵ (flft κ₄ q₄) ∷ ‵ (ShrSlice (named 4) κ₅ u8 .own (at-list b₅ o₅ γ₅ d) (sliceVal (b₅, o₅) n₅ ∷ [])) ∷ ‵ (flft κ₅ q₅) ∷ [])) (Post (Ran-p .val r))
-  exits r ws₁ ws₂ ws₃ ws₄ said r-is len₁ len₂ len₃ len₄ =
-      qed W (‵ (MutSlice (named 0) κ₁ (Array u64 5) .own (at-list b₁ o₁ γ₁ ws₁) (sliceVal (b₁, o₁) n₁ ∷ [])) ∷ ‵ (flft κ₁ q₁) ∷ ‵ (MutSlice (named 1) κ₂ (Array u16 35) .own (at-list b₂ o₂ γ₂ ws₂) (sliceVal (b₂, o₂) n₂ ∷ [])) ∷ ‵ (flft κ₂ q₂) ∷ ‵ (MutSlice (named 2) κ₃ Object-t.the-row .own (at-list b₃ o₃ γ₃ ws₃) (sliceVal (b₃, o₃) n₃ ∷ [])) ∷ ‵ (flft κ₃ q₃) ∷ ‵ (MutSlice (named 3) κ₄ u8 .own (at-list b₄ o₄ γ₄ ws₄) (sliceVal (b₄, o₄) n₄ ∷ [])) ∷ ‵ (flft κ₄ q₄) ∷ ‵ (ShrSlice (named 4) κ₅ u8 .own (at-list b₅ o₅ γ₅ d) (sliceVal (b₅, o₅) n₅ ∷ [])) ∷ ‵ (flft κ₅ q₅) ∷ []) ∵
-      suffices ! _ (ends-at 𝓤 H A f.ended stayed (f.clauses 𝓤 H A mem run) W (((κ₁, (κ₂, (κ₃, (κ₄, (κ₅, tt))))), (q₁, (q₂, (q₃, (q₄, (q₅, tt))))), tt, x, at), tt) (Ran-p .val r) r (ws₁, (ws₂, (ws₃, (ws₄, (tt, (tt, (tt, tt))))))) (len₁, (len₂, (len₃, (len₄, (tt, (tt, (tt, tt)))))))) $ says ! said $ nothing ! $ move ! (10 ∷ 0 ∷ []) $ join ! $ move ! (8 ∷ 0 ∷ []) $ join ! $ move ! (6 ∷ 0 ∷ []) $ join ! $ move ! (4 ∷ 0 ∷ []) $ join ! $ move ! (2 ∷ 0 ∷ []) $ join ! $
+  exits : (r : Ran) (ws₁ : List (List ℕ)) (ws₂ : List (List ℕ)) (ws₃ : List Object) (ws₅ : List ℕ) → ((r ≡ runAt f′ (d) start (lent (sessions) (streams) (objects) (held)) .ran) × (ws₁ ≡ runAt f′ (d) start (lent (sessions) (streams) (objects) (held)) .tables .sessions) × (ws₂ ≡ runAt f′ (d) start (lent (sessions) (streams) (objects) (held)) .tables .streams) × (ws₃ ≡ runAt f′ (d) start (lent (sessions) (streams) (objects) (held)) .tables .objects) × (ws₅ ≡ putReplies (f′ .room) (out) (start .wrote) (runAt f′ (d) start (lent (sessions) (streams) (objects) (held)) .replies))) → Is (Ran-p .row) r (Ran-p .val r ∷ []) → length ws₁ ≡ n₁ → length ws₂ ≡ n₂ → length ws₃ ≡ n₃ → length ws₅ ≡ n₅ → ent 𝓤 (⋆ 𝓤 H A (‵ (MutSlice (named 0) κ₁ (Array u64 6) .own (at-list b₁ o₁ γ₁ ws₁) (sliceVal (b₁, o₁) n₁ ∷ [])) ∷ ‵ (flft κ₁ q₁) ∷ ‵ (MutSlice (named 1) κ₂ (Array u16 35) .own (at-list b₂ o₂ γ₂ ws₂) (sliceVal (b₂, o₂) n₂ ∷ [])) ∷ ‵ (flft κ₂ q₂) ∷ ‵ (MutSlice (named 2) κ₃ Object-t.the-row .own (at-list b₃ o₃ γ₃ ws₃) (sliceVal (b₃, o₃) n₃ ∷ [])) ∷ ‵ (flft κ₃ q₃) ∷ ‵ (ShrSlice (named 3) κ₄ u8 .own (at-list b₄ o₄ γ₄ held) (sliceVal (b₄, o₄) n₄ ∷ [])) ∷ ‵ (flft κ₄ q₄) ∷ ‵ (MutSlice (named 4) κ₅ u8 .own (at-list b₅ o₅ γ₅ ws₅) (sliceVal (b₅, o₅) n₅ ∷ [])) ∷ ‵ (flft κ₅ q₅) ∷ ‵ (ShrSlice (named 5) κ₆ u8 .own (at-list b₆ o₆ γ₆ d) (sliceVal (b₆, o₆) n₆ ∷ [])) ∷ ‵ (flft κ₆ q₆) ∷ [])) (Post (Ran-p .val r))
+  exits r ws₁ ws₂ ws₃ ws₅ said r-is len₁ len₂ len₃ len₅ =
+      qed W (‵ (MutSlice (named 0) κ₁ (Array u64 6) .own (at-list b₁ o₁ γ₁ ws₁) (sliceVal (b₁, o₁) n₁ ∷ [])) ∷ ‵ (flft κ₁ q₁) ∷ ‵ (MutSlice (named 1) κ₂ (Array u16 35) .own (at-list b₂ o₂ γ₂ ws₂) (sliceVal (b₂, o₂) n₂ ∷ [])) ∷ ‵ (flft κ₂ q₂) ∷ ‵ (MutSlice (named 2) κ₃ Object-t.the-row .own (at-list b₃ o₃ γ₃ ws₃) (sliceVal (b₃, o₃) n₃ ∷ [])) ∷ ‵ (flft κ₃ q₃) ∷ ‵ (ShrSlice (named 3) κ₄ u8 .own (at-list b₄ o₄ γ₄ held) (sliceVal (b₄, o₄) n₄ ∷ [])) ∷ ‵ (flft κ₄ q₄) ∷ ‵ (MutSlice (named 4) κ₅ u8 .own (at-list b₅ o₅ γ₅ ws₅) (sliceVal (b₅, o₅) n₅ ∷ [])) ∷ ‵ (flft κ₅ q₅) ∷ ‵ (ShrSlice (named 5) κ₆ u8 .own (at-list b₆ o₆ γ₆ d) (sliceVal (b₆, o₆) n₆ ∷ [])) ∷ ‵ (flft κ₆ q₆) ∷ []) ∵
+      suffices ! _ (ends-at 𝓤 H A f.ended stayed (f.clauses 𝓤 H A mem run) W (((κ₁, (κ₂, (κ₃, (κ₄, (κ₅, (κ₆, tt)))))), (q₁, (q₂, (q₃, (q₄, (q₅, (q₆, tt)))))), tt, x, at), tt) (Ran-p .val r) r (ws₁, (ws₂, (ws₃, (tt, (ws₅, (tt, (tt, (tt, tt)))))))) (len₁, (len₂, (len₃, (tt, (len₅, (tt, (tt, (tt, tt))))))))) $ says ! said $ nothing ! $ move ! (12 ∷ 0 ∷ []) $ join ! $ move ! (10 ∷ 0 ∷ []) $ join ! $ move ! (8 ∷ 0 ∷ []) $ join ! $ move ! (6 ∷ 0 ∷ []) $ join ! $ move ! (4 ∷ 0 ∷ []) $ join ! $ move ! (2 ∷ 0 ∷ []) $ join ! $
       frame ! $ nothing ! $
       owned ! (Ran-p .row) (Is (Ran-p .row)) (Ran-p .makes 𝓤 H A W) start (Ran-p .val start ∷ []) start-is $ fjoin ! $
-      owned ! (Frame-p .row) (Is (Frame-p .row)) (Frame-p .makes 𝓤 H A W) f′ (Frame-p .val f′ ∷ []) f′-is $ fjoin ! $ move ! (5 ∷ 0 ∷ []) $ fjoin ! $ move ! (4 ∷ 0 ∷ []) $ fjoin ! $ move ! (3 ∷ 0 ∷ []) $ fjoin ! $ move ! (2 ∷ 0 ∷ []) $ fjoin ! $ move ! (1 ∷ 0 ∷ []) $ fjoin ! $
+      owned ! (Frame-p .row) (Is (Frame-p .row)) (Frame-p .makes 𝓤 H A W) f′ (Frame-p .val f′ ∷ []) f′-is $ fjoin ! $ move ! (6 ∷ 0 ∷ []) $ fjoin ! $ move ! (5 ∷ 0 ∷ []) $ fjoin ! $ move ! (4 ∷ 0 ∷ []) $ fjoin ! $ move ! (3 ∷ 0 ∷ []) $ fjoin ! $ move ! (2 ∷ 0 ∷ []) $ fjoin ! $ move ! (1 ∷ 0 ∷ []) $ fjoin ! $
       frame ! $
       owned ! (Ran-p .row) (Is (Ran-p .row)) (Ran-p .makes 𝓤 H A W) r _ r-is $ done !
 
-  module _ (𝓣 : Tables 𝓤 H) (known-run-goes-on : Triple 𝓤 (𝓣 .C #run-goes-on) (Of-run-goes-on 𝓤 H A mem run)) (known-turn-turn : Triple 𝓤 (𝓣 .C #turn-turn) (Of-turn-turn 𝓤 H A mem run)) (l₀ l₁ l₂ l₃ l₄ l₅ l₆ l₇ l₈ l₉ l₁₀ l₁₁ l₁₂ l₁₃ l₁₄ l₁₅ l₁₆ l₁₇ l₁₈ : ℕ) where
+  module _ (𝓣 : Tables 𝓤 H) (known-run-goes-on : Triple 𝓤 (𝓣 .C #run-goes-on) (Of-run-goes-on 𝓤 H A mem run)) (known-turn-turn : Triple 𝓤 (𝓣 .C #turn-turn) (Of-turn-turn 𝓤 H A mem run)) (l₀ l₁ l₂ l₃ l₄ l₅ l₆ l₇ l₈ l₉ l₁₀ l₁₁ l₁₂ l₁₃ l₁₄ l₁₅ l₁₆ l₁₇ l₁₈ l₁₉ : ℕ) where
     abbrev C : Calls 𝓤 H
     C = 𝓣 .C
 
@@ -206,14 +208,14 @@ module _ {M : Type 1} (𝓤 : URA M) (H : Heap 𝓤) (A : Atoms 𝓤) (W : Given
     fm = fmOf 𝓤 H (W .laws) 𝓣
 
     abbrev En : Env 𝓤 H
-    En = (Ran-l.mir, l₀) ∷ ((sliceTy (tyRef (named 0) mut (pointee ((Array u64 5) .written)))), l₁) ∷ ((sliceTy (tyRef (named 1) mut (pointee ((Array u16 35) .written)))), l₂) ∷ ((sliceTy (tyRef (named 2) mut (pointee (Object-t.the-row .written)))), l₃) ∷ ((sliceTy (tyRef (named 3) mut (pointee (u8 .written)))), l₄) ∷ ((sliceTy (tyRef (named 4) imm (pointee (u8 .written)))), l₅) ∷ (Frame-l.mir, l₆) ∷ (Ran-l.mir, l₇) ∷ ((tyInt w64), l₈) ∷ (Ran-l.mir, l₉) ∷ (tyBool, l₁₀) ∷ ((tyRef erased mut (pointee ((Array u64 5) .written))), l₁₁) ∷ ((sliceTy (tyRef erased mut (pointee ((Array u64 5) .written)))), l₁₂) ∷ ((tyRef erased mut (pointee ((Array u16 35) .written))), l₁₃) ∷ ((sliceTy (tyRef erased mut (pointee ((Array u16 35) .written)))), l₁₄) ∷ ((tyRef erased mut (pointee (Object-t.the-row .written))), l₁₅) ∷ ((sliceTy (tyRef erased mut (pointee (Object-t.the-row .written)))), l₁₆) ∷ ((tyRef erased mut (pointee (u8 .written))), l₁₇) ∷ ((sliceTy (tyRef erased mut (pointee (u8 .written)))), l₁₈) ∷ []
+    En = (Ran-l.mir, l₀) ∷ ((sliceTy (tyRef (named 0) mut (pointee ((Array u64 6) .written)))), l₁) ∷ ((sliceTy (tyRef (named 1) mut (pointee ((Array u16 35) .written)))), l₂) ∷ ((sliceTy (tyRef (named 2) mut (pointee (Object-t.the-row .written)))), l₃) ∷ ((sliceTy (tyRef (named 3) imm (pointee (u8 .written)))), l₄) ∷ ((sliceTy (tyRef (named 4) mut (pointee (u8 .written)))), l₅) ∷ ((sliceTy (tyRef (named 5) imm (pointee (u8 .written)))), l₆) ∷ (Frame-l.mir, l₇) ∷ (Ran-l.mir, l₈) ∷ ((tyInt w64), l₉) ∷ (Ran-l.mir, l₁₀) ∷ (tyBool, l₁₁) ∷ ((tyRef erased mut (pointee ((Array u64 6) .written))), l₁₂) ∷ ((sliceTy (tyRef erased mut (pointee ((Array u64 6) .written)))), l₁₃) ∷ ((tyRef erased mut (pointee ((Array u16 35) .written))), l₁₄) ∷ ((sliceTy (tyRef erased mut (pointee ((Array u16 35) .written)))), l₁₅) ∷ ((tyRef erased mut (pointee (Object-t.the-row .written))), l₁₆) ∷ ((sliceTy (tyRef erased mut (pointee (Object-t.the-row .written)))), l₁₇) ∷ ((tyRef erased mut (pointee (u8 .written))), l₁₈) ∷ ((sliceTy (tyRef erased mut (pointee (u8 .written)))), l₁₉) ∷ []
 
     module _ where
       abbrev At-3 : (v : Ran) → (ss : List (List ℕ)) → (xs : List (List ℕ)) → (os : List Object) → (w : List ℕ) → List (Item 𝓤)
-      At-3 v ss xs os w = ‵ (MutSlice (named 0) κ₁ (Array u64 5) .own (at-list b₁ o₁ γ₁ ss) (sliceVal (b₁, o₁) n₁ ∷ [])) ∷ ‵ (flft κ₁ q₁) ∷ ‵ (MutSlice (named 0) κ₂ (Array u16 35) .own (at-list b₂ o₂ γ₂ xs) (sliceVal (b₂, o₂) n₂ ∷ [])) ∷ ‵ (flft κ₂ q₂) ∷ ‵ (MutSlice (named 0) κ₃ Object-t.the-row .own (at-list b₃ o₃ γ₃ os) (sliceVal (b₃, o₃) n₃ ∷ [])) ∷ ‵ (flft κ₃ q₃) ∷ ‵ (MutSlice (named 0) κ₄ u8 .own (at-list b₄ o₄ γ₄ w) (sliceVal (b₄, o₄) n₄ ∷ [])) ∷ ‵ (flft κ₄ q₄) ∷ ‵ (ShrSlice (named 0) κ₅ u8 .own (at-list b₅ o₅ γ₅ d) (sliceVal (b₅, o₅) n₅ ∷ [])) ∷ ‵ (flft κ₅ q₅) ∷ free 𝓤 (sliceTy (tyRef erased mut (pointee (u8 .written)))) l₁₈ (free 𝓤 (tyRef erased mut (pointee (u8 .written))) l₁₇ (free 𝓤 (sliceTy (tyRef erased mut (pointee (Object-t.the-row .written)))) l₁₆ (free 𝓤 (tyRef erased mut (pointee (Object-t.the-row .written))) l₁₅ (free 𝓤 (sliceTy (tyRef erased mut (pointee ((Array u16 35) .written)))) l₁₄ (free 𝓤 (tyRef erased mut (pointee ((Array u16 35) .written))) l₁₃ (free 𝓤 (sliceTy (tyRef erased mut (pointee ((Array u64 5) .written)))) l₁₂ (free 𝓤 (tyRef erased mut (pointee ((Array u64 5) .written))) l₁₁ (free 𝓤 tyBool l₁₀ (full 𝓤 Ran-l.mir l₉ (Ran-p .val v) (full 𝓤 (tyInt w64) l₈ (u64-p .val n₅) (full 𝓤 Ran-l.mir l₇ (Ran-p .val start) (full 𝓤 Frame-l.mir l₆ (Frame-p .val f′) (full 𝓤 (sliceTy (tyRef (named 4) imm (pointee (u8 .written)))) l₅ (sliceVal (b₅, o₅) n₅) (full 𝓤 (sliceTy (tyRef (named 3) mut (pointee (u8 .written)))) l₄ (sliceVal (b₄, o₄) n₄) (full 𝓤 (sliceTy (tyRef (named 2) mut (pointee (Object-t.the-row .written)))) l₃ (sliceVal (b₃, o₃) n₃) (full 𝓤 (sliceTy (tyRef (named 1) mut (pointee ((Array u16 35) .written)))) l₂ (sliceVal (b₂, o₂) n₂) (full 𝓤 (sliceTy (tyRef (named 0) mut (pointee ((Array u64 5) .written)))) l₁ (sliceVal (b₁, o₁) n₁) (free 𝓤 Ran-l.mir l₀ ([])))))))))))))))))))
+      At-3 v ss xs os w = ‵ (MutSlice (named 0) κ₁ (Array u64 6) .own (at-list b₁ o₁ γ₁ ss) (sliceVal (b₁, o₁) n₁ ∷ [])) ∷ ‵ (flft κ₁ q₁) ∷ ‵ (MutSlice (named 0) κ₂ (Array u16 35) .own (at-list b₂ o₂ γ₂ xs) (sliceVal (b₂, o₂) n₂ ∷ [])) ∷ ‵ (flft κ₂ q₂) ∷ ‵ (MutSlice (named 0) κ₃ Object-t.the-row .own (at-list b₃ o₃ γ₃ os) (sliceVal (b₃, o₃) n₃ ∷ [])) ∷ ‵ (flft κ₃ q₃) ∷ ‵ (ShrSlice (named 0) κ₄ u8 .own (at-list b₄ o₄ γ₄ held) (sliceVal (b₄, o₄) n₄ ∷ [])) ∷ ‵ (flft κ₄ q₄) ∷ ‵ (MutSlice (named 0) κ₅ u8 .own (at-list b₅ o₅ γ₅ w) (sliceVal (b₅, o₅) n₅ ∷ [])) ∷ ‵ (flft κ₅ q₅) ∷ ‵ (ShrSlice (named 0) κ₆ u8 .own (at-list b₆ o₆ γ₆ d) (sliceVal (b₆, o₆) n₆ ∷ [])) ∷ ‵ (flft κ₆ q₆) ∷ free 𝓤 (sliceTy (tyRef erased mut (pointee (u8 .written)))) l₁₉ (free 𝓤 (tyRef erased mut (pointee (u8 .written))) l₁₈ (free 𝓤 (sliceTy (tyRef erased mut (pointee (Object-t.the-row .written)))) l₁₇ (free 𝓤 (tyRef erased mut (pointee (Object-t.the-row .written))) l₁₆ (free 𝓤 (sliceTy (tyRef erased mut (pointee ((Array u16 35) .written)))) l₁₅ (free 𝓤 (tyRef erased mut (pointee ((Array u16 35) .written))) l₁₄ (free 𝓤 (sliceTy (tyRef erased mut (pointee ((Array u64 6) .written)))) l₁₃ (free 𝓤 (tyRef erased mut (pointee ((Array u64 6) .written))) l₁₂ (free 𝓤 tyBool l₁₁ (full 𝓤 Ran-l.mir l₁₀ (Ran-p .val v) (full 𝓤 (tyInt w64) l₉ (u64-p .val n₆) (full 𝓤 Ran-l.mir l₈ (Ran-p .val start) (full 𝓤 Frame-l.mir l₇ (Frame-p .val f′) (full 𝓤 (sliceTy (tyRef (named 5) imm (pointee (u8 .written)))) l₆ (sliceVal (b₆, o₆) n₆) (full 𝓤 (sliceTy (tyRef (named 4) mut (pointee (u8 .written)))) l₅ (sliceVal (b₅, o₅) n₅) (full 𝓤 (sliceTy (tyRef (named 3) imm (pointee (u8 .written)))) l₄ (sliceVal (b₄, o₄) n₄) (full 𝓤 (sliceTy (tyRef (named 2) mut (pointee (Object-t.the-row .written)))) l₃ (sliceVal (b₃, o₃) n₃) (full 𝓤 (sliceTy (tyRef (named 1) mut (pointee ((Array u16 35) .written)))) l₂ (sliceVal (b₂, o₂) n₂) (full 𝓤 (sliceTy (tyRef (named 0) mut (pointee ((Array u64 6) .written)))) l₁ (sliceVal (b₁, o₁) n₁) (free 𝓤 Ran-l.mir l₀ ([]))))))))))))))))))))
 
       abbrev Facts-3 : ℕ → (v : Ran) → (ss : List (List ℕ)) → (xs : List (List ℕ)) → (os : List Object) → (w : List ℕ) → Type 0
-      Facts-3 t v ss xs os w = (t ≡ length d - v .at) × (Is (Ran-p .row) v (Ran-p .val v ∷ [])) × (length ss ≡ n₁) × (length xs ≡ n₂) × (length os ≡ n₃) × (length w ≡ n₄) × (Left f′ d start (lent sessions streams objects) out v (lent ss xs os) w)
+      Facts-3 t v ss xs os w = (t ≡ length d - v .at) × (Is (Ran-p .row) v (Ran-p .val v ∷ [])) × (length ss ≡ n₁) × (length xs ≡ n₂) × (length os ≡ n₃) × (length w ≡ n₅) × (Left f′ d start (lent sessions streams objects held) out v (lent ss xs os held) w)
 
       abbrev Inv-3 : ℕ → SProp 𝓤
       Inv-3 t = ex 𝓤 (λ (v : Ran). ex 𝓤 (λ (ss : List (List ℕ)). ex 𝓤 (λ (xs : List (List ℕ)). ex 𝓤 (λ (os : List Object). ex 𝓤 (λ (w : List ℕ). guard 𝓤 (Facts-3 t v ss xs os w) (⋆ 𝓤 H A (At-3 v ss xs os w)))))))
@@ -227,69 +229,70 @@ module _ {M : Type 1} (𝓤 : URA M) (H : Heap 𝓤) (A : Atoms 𝓤) (W : Given
       inv-at-3 : (t : ℕ) → (v : Ran) → (ss : List (List ℕ)) → (xs : List (List ℕ)) → (os : List Object) → (w : List ℕ) → Facts-3 t v ss xs os w → ent 𝓤 (⋆ 𝓤 H A (At-3 v ss xs os w)) (Inv-3 t)
       inv-at-3 t v ss xs os w fs = via 𝓤 (ex 𝓤 (λ (ss : List (List ℕ)). ex 𝓤 (λ (xs : List (List ℕ)). ex 𝓤 (λ (os : List Object). ex 𝓤 (λ (w : List ℕ). guard 𝓤 (Facts-3 t v ss xs os w) (⋆ 𝓤 H A (At-3 v ss xs os w))))))) (via 𝓤 (ex 𝓤 (λ (xs : List (List ℕ)). ex 𝓤 (λ (os : List Object). ex 𝓤 (λ (w : List ℕ). guard 𝓤 (Facts-3 t v ss xs os w) (⋆ 𝓤 H A (At-3 v ss xs os w)))))) (via 𝓤 (ex 𝓤 (λ (os : List Object). ex 𝓤 (λ (w : List ℕ). guard 𝓤 (Facts-3 t v ss xs os w) (⋆ 𝓤 H A (At-3 v ss xs os w))))) (via 𝓤 (ex 𝓤 (λ (w : List ℕ). guard 𝓤 (Facts-3 t v ss xs os w) (⋆ 𝓤 H A (At-3 v ss xs os w)))) (via 𝓤 (guard 𝓤 (Facts-3 t v ss xs os w) (⋆ 𝓤 H A (At-3 v ss xs os w))) (guardI 𝓤 (Facts-3 t v ss xs os w) (⋆ 𝓤 H A (At-3 v ss xs os w)) fs) (exI 𝓤 (λ (w : List ℕ). guard 𝓤 (Facts-3 t v ss xs os w) (⋆ 𝓤 H A (At-3 v ss xs os w))) w)) (exI 𝓤 (λ (os : List Object). ex 𝓤 (λ (w : List ℕ). guard 𝓤 (Facts-3 t v ss xs os w) (⋆ 𝓤 H A (At-3 v ss xs os w)))) os)) (exI 𝓤 (λ (xs : List (List ℕ)). ex 𝓤 (λ (os : List Object). ex 𝓤 (λ (w : List ℕ). guard 𝓤 (Facts-3 t v ss xs os w) (⋆ 𝓤 H A (At-3 v ss xs os w))))) xs)) (exI 𝓤 (λ (ss : List (List ℕ)). ex 𝓤 (λ (xs : List (List ℕ)). ex 𝓤 (λ (os : List Object). ex 𝓤 (λ (w : List ℕ). guard 𝓤 (Facts-3 t v ss xs os w) (⋆ 𝓤 H A (At-3 v ss xs os w)))))) ss)) (exI 𝓤 (λ (v : Ran). ex 𝓤 (λ (ss : List (List ℕ)). ex 𝓤 (λ (xs : List (List ℕ)). ex 𝓤 (λ (os : List Object). ex 𝓤 (λ (w : List ℕ). guard 𝓤 (Facts-3 t v ss xs os w) (⋆ 𝓤 H A (At-3 v ss xs os w))))))) v)
 
-      again-3 : (t : ℕ) → (v : Ran) → (ss : List (List ℕ)) → (xs : List (List ℕ)) → (os : List Object) → (w : List ℕ) → (v-is : Is (Ran-p .row) v (Ran-p .val v ∷ [])) → (ss-len : length ss ≡ n₁) → (xs-len : length xs ≡ n₂) → (os-len : length os ≡ n₃) → (w-len : length w ≡ n₄) → (Left f′ d start (lent sessions streams objects) out v (lent ss xs os) w) → ((length d - v .at) < t) → ent 𝓤 (⋆ 𝓤 H A (At-3 v ss xs os w)) (Below-3 t)
+      again-3 : (t : ℕ) → (v : Ran) → (ss : List (List ℕ)) → (xs : List (List ℕ)) → (os : List Object) → (w : List ℕ) → (v-is : Is (Ran-p .row) v (Ran-p .val v ∷ [])) → (ss-len : length ss ≡ n₁) → (xs-len : length xs ≡ n₂) → (os-len : length os ≡ n₃) → (w-len : length w ≡ n₅) → (Left f′ d start (lent sessions streams objects held) out v (lent ss xs os held) w) → ((length d - v .at) < t) → ent 𝓤 (⋆ 𝓤 H A (At-3 v ss xs os w)) (Below-3 t)
       again-3 t v ss xs os w v-is ss-len xs-len os-len w-len inv less = via 𝓤 (Inv-3 (length d - v .at)) (inv-at-3 (length d - v .at) v ss xs os w (refl, v-is, ss-len, xs-len, os-len, w-len, inv)) (via 𝓤 (guard 𝓤 ((length d - v .at) < t) (Inv-3 (length d - v .at))) (guardI 𝓤 ((length d - v .at) < t) (Inv-3 (length d - v .at)) less) (exI 𝓤 (λ (u : ℕ). guard 𝓤 (u < t) (Inv-3 u)) (length d - v .at)))
 
-      part-3·2-8 : (v : Ran) → (ss : List (List ℕ)) → (xs : List (List ℕ)) → (os : List Object) → (w : List ℕ) → (t-3 : ℕ) → (v-is : Is (Ran-p .row) v (Ran-p .val v ∷ [])) → (ss-len : length ss ≡ n₁) → (xs-len : length xs ≡ n₂) → (os-len : length os ≡ n₃) → (w-len : length w ≡ n₄) → (t-is-3 : t-3 ≡ length d - v .at) → (inv-3 : Left f′ d start (lent sessions streams objects) out v (lent ss xs os) w) → (is-3·1 : Is (bool-p .row) (goesOn n₅ v) (bool-p .val (goesOn n₅ v) ∷ [])) → Sq W (‵ (MutSlice (named 0) κ₁ (Array u64 5) .own (at-list b₁ o₁ γ₁ ss) (sliceVal (b₁, o₁) n₁ ∷ [])) ∷ ‵ (flft κ₁ q₁) ∷ ‵ (MutSlice (named 0) κ₂ (Array u16 35) .own (at-list b₂ o₂ γ₂ xs) (sliceVal (b₂, o₂) n₂ ∷ [])) ∷ ‵ (flft κ₂ q₂) ∷ ‵ (MutSlice (named 0) κ₃ Object-t.the-row .own (at-list b₃ o₃ γ₃ os) (sliceVal (b₃, o₃) n₃ ∷ [])) ∷ ‵ (flft κ₃ q₃) ∷ ‵ (MutSlice (named 0) κ₄ u8 .own (at-list b₄ o₄ γ₄ w) (sliceVal (b₄, o₄) n₄ ∷ [])) ∷ ‵ (flft κ₄ q₄) ∷ ‵ (ShrSlice (named 0) κ₅ u8 .own (at-list b₅ o₅ γ₅ d) (sliceVal (b₅, o₅) n₅ ∷ [])) ∷ ‵ (flft κ₅ q₅) ∷ free 𝓤 (sliceTy (tyRef erased mut (pointee (u8 .written)))) l₁₈ (free 𝓤 (tyRef erased mut (pointee (u8 .written))) l₁₇ (free 𝓤 (sliceTy (tyRef erased mut (pointee (Object-t.the-row .written)))) l₁₆ (free 𝓤 (tyRef erased mut (pointee (Object-t.the-row .written))) l₁₅ (free 𝓤 (sliceTy (tyRef erased mut (pointee ((Array u16 35) .written)))) l₁₄ (free 𝓤 (tyRef erased mut (pointee ((Array u16 35) .written))) l₁₃ (free 𝓤 (sliceTy (tyRef erased mut (pointee ((Array u64 5) .written)))) l₁₂ (free 𝓤 (tyRef erased mut (pointee ((Array u64 5) .written))) l₁₁ (full 𝓤 tyBool l₁₀ (bool-p .val (goesOn n₅ v)) (full 𝓤 Ran-l.mir l₉ (Ran-p .val v) (full 𝓤 (tyInt w64) l₈ (u64-p .val n₅) (full 𝓤 Ran-l.mir l₇ (Ran-p .val start) (full 𝓤 Frame-l.mir l₆ (Frame-p .val f′) (full 𝓤 (sliceTy (tyRef (named 4) imm (pointee (u8 .written)))) l₅ (sliceVal (b₅, o₅) n₅) (full 𝓤 (sliceTy (tyRef (named 3) mut (pointee (u8 .written)))) l₄ (sliceVal (b₄, o₄) n₄) (full 𝓤 (sliceTy (tyRef (named 2) mut (pointee (Object-t.the-row .written)))) l₃ (sliceVal (b₃, o₃) n₃) (full 𝓤 (sliceTy (tyRef (named 1) mut (pointee ((Array u16 35) .written)))) l₂ (sliceVal (b₂, o₂) n₂) (full 𝓤 (sliceTy (tyRef (named 0) mut (pointee ((Array u64 5) .written)))) l₁ (sliceVal (b₁, o₁) n₁) (free 𝓤 Ran-l.mir l₀ ([])))))))))))))))))))) (runs C Λ En (past 1 mir.turn-1) (anyQ (afterTurn 𝓤 H (Below-3 t-3) Left-3)))
+      part-3·2-8 : (v : Ran) → (ss : List (List ℕ)) → (xs : List (List ℕ)) → (os : List Object) → (w : List ℕ) → (t-3 : ℕ) → (v-is : Is (Ran-p .row) v (Ran-p .val v ∷ [])) → (ss-len : length ss ≡ n₁) → (xs-len : length xs ≡ n₂) → (os-len : length os ≡ n₃) → (w-len : length w ≡ n₅) → (t-is-3 : t-3 ≡ length d - v .at) → (inv-3 : Left f′ d start (lent sessions streams objects held) out v (lent ss xs os held) w) → (is-3·1 : Is (bool-p .row) (goesOn n₆ v) (bool-p .val (goesOn n₆ v) ∷ [])) → Sq W (‵ (MutSlice (named 0) κ₁ (Array u64 6) .own (at-list b₁ o₁ γ₁ ss) (sliceVal (b₁, o₁) n₁ ∷ [])) ∷ ‵ (flft κ₁ q₁) ∷ ‵ (MutSlice (named 0) κ₂ (Array u16 35) .own (at-list b₂ o₂ γ₂ xs) (sliceVal (b₂, o₂) n₂ ∷ [])) ∷ ‵ (flft κ₂ q₂) ∷ ‵ (MutSlice (named 0) κ₃ Object-t.the-row .own (at-list b₃ o₃ γ₃ os) (sliceVal (b₃, o₃) n₃ ∷ [])) ∷ ‵ (flft κ₃ q₃) ∷ ‵ (ShrSlice (named 0) κ₄ u8 .own (at-list b₄ o₄ γ₄ held) (sliceVal (b₄, o₄) n₄ ∷ [])) ∷ ‵ (flft κ₄ q₄) ∷ ‵ (MutSlice (named 0) κ₅ u8 .own (at-list b₅ o₅ γ₅ w) (sliceVal (b₅, o₅) n₅ ∷ [])) ∷ ‵ (flft κ₅ q₅) ∷ ‵ (ShrSlice (named 0) κ₆ u8 .own (at-list b₆ o₆ γ₆ d) (sliceVal (b₆, o₆) n₆ ∷ [])) ∷ ‵ (flft κ₆ q₆) ∷ free 𝓤 (sliceTy (tyRef erased mut (pointee (u8 .written)))) l₁₉ (free 𝓤 (tyRef erased mut (pointee (u8 .written))) l₁₈ (free 𝓤 (sliceTy (tyRef erased mut (pointee (Object-t.the-row .written)))) l₁₇ (free 𝓤 (tyRef erased mut (pointee (Object-t.the-row .written))) l₁₆ (free 𝓤 (sliceTy (tyRef erased mut (pointee ((Array u16 35) .written)))) l₁₅ (free 𝓤 (tyRef erased mut (pointee ((Array u16 35) .written))) l₁₄ (free 𝓤 (sliceTy (tyRef erased mut (pointee ((Array u64 6) .written)))) l₁₃ (free 𝓤 (tyRef erased mut (pointee ((Array u64 6) .written))) l₁₂ (full 𝓤 tyBool l₁₁ (bool-p .val (goesOn n₆ v)) (full 𝓤 Ran-l.mir l₁₀ (Ran-p .val v) (full 𝓤 (tyInt w64) l₉ (u64-p .val n₆) (full 𝓤 Ran-l.mir l₈ (Ran-p .val start) (full 𝓤 Frame-l.mir l₇ (Frame-p .val f′) (full 𝓤 (sliceTy (tyRef (named 5) imm (pointee (u8 .written)))) l₆ (sliceVal (b₆, o₆) n₆) (full 𝓤 (sliceTy (tyRef (named 4) mut (pointee (u8 .written)))) l₅ (sliceVal (b₅, o₅) n₅) (full 𝓤 (sliceTy (tyRef (named 3) imm (pointee (u8 .written)))) l₄ (sliceVal (b₄, o₄) n₄) (full 𝓤 (sliceTy (tyRef (named 2) mut (pointee (Object-t.the-row .written)))) l₃ (sliceVal (b₃, o₃) n₃) (full 𝓤 (sliceTy (tyRef (named 1) mut (pointee ((Array u16 35) .written)))) l₂ (sliceVal (b₂, o₂) n₂) (full 𝓤 (sliceTy (tyRef (named 0) mut (pointee ((Array u64 6) .written)))) l₁ (sliceVal (b₁, o₁) n₁) (free 𝓤 Ran-l.mir l₀ ([]))))))))))))))))))))) (runs C Λ En (past 1 mir.turn-1) (anyQ (afterTurn 𝓤 H (Below-3 t-3) Left-3)))
       unfolding afterTurn
       part-3·2-8 v ss xs os w t-3 v-is ss-len xs-len os-len w-len t-is-3 inv-3 is-3·1 =
           first ! $
-          branches ! (load ! (from ! (stop !)) (look ! 26 refl))
+          branches ! (load ! (from ! (stop !)) (look ! 28 refl))
           (λ h-3·2.
-          knows ! (goesOn n₅ v ≡ true) (holds (goesOn n₅ v) h-3·2) (λ c-3·2.
+          knows ! (goesOn n₆ v ≡ true) (holds (goesOn n₆ v) h-3·2) (λ c-3·2.
           skips ! $
           exec ! C Λ En (past 2 mir.turn-1) (anyQ (afterTurn 𝓤 H (Below-3 t-3) Left-3)) $
-          assigns ! (addr ! (from ! (fld ! refl (hop ! (look-in ! 44 (sub ! 0 refl (whole !))) (stop !))))) (from ! (stop !)) (init ! 24 refl (tt, tt)) $
-          assigns ! (agg ! (and-then ! (load ! (from ! (stop !)) (look ! 24 refl)) (and-then ! (load ! (from ! (fld ! refl (stop !))) (look-in ! 44 (sub ! 1 refl (whole !)))) (no-more !)))) (from ! (stop !)) (init ! 22 refl (tt, (tt, (record { fits = room₁ .0 }, tt)))) $
-          assigns ! (addr ! (from ! (fld ! refl (hop ! (look-in ! 42 (sub ! 0 refl (whole !))) (stop !))))) (from ! (stop !)) (init ! 20 refl (tt, tt)) $
-          assigns ! (agg ! (and-then ! (load ! (from ! (stop !)) (look ! 20 refl)) (and-then ! (load ! (from ! (fld ! refl (stop !))) (look-in ! 42 (sub ! 1 refl (whole !)))) (no-more !)))) (from ! (stop !)) (init ! 18 refl (tt, (tt, (record { fits = room₂ .0 }, tt)))) $
-          assigns ! (addr ! (from ! (fld ! refl (hop ! (look-in ! 40 (sub ! 0 refl (whole !))) (stop !))))) (from ! (stop !)) (init ! 16 refl (tt, tt)) $
-          assigns ! (agg ! (and-then ! (load ! (from ! (stop !)) (look ! 16 refl)) (and-then ! (load ! (from ! (fld ! refl (stop !))) (look-in ! 40 (sub ! 1 refl (whole !)))) (no-more !)))) (from ! (stop !)) (init ! 14 refl (tt, (tt, (record { fits = room₃ .0 }, tt)))) $
-          assigns ! (addr ! (from ! (fld ! refl (hop ! (look-in ! 38 (sub ! 0 refl (whole !))) (stop !))))) (from ! (stop !)) (init ! 12 refl (tt, tt)) $
-          assigns ! (agg ! (and-then ! (load ! (from ! (stop !)) (look ! 12 refl)) (and-then ! (load ! (from ! (fld ! refl (stop !))) (look-in ! 38 (sub ! 1 refl (whole !)))) (no-more !)))) (from ! (stop !)) (init ! 10 refl (tt, (tt, (record { fits = room₄ .0 }, tt)))) $
-          knows ! (v .wrote ≤ 18446744073709551600) (left-small f′ d start (lent sessions streams objects) out v (lent ss xs os) w inv-3 c-3·2 (omega (arith, room₅ .1))) (λ asks-3·11.
+          assigns ! (addr ! (from ! (fld ! refl (hop ! (look-in ! 48 (sub ! 0 refl (whole !))) (stop !))))) (from ! (stop !)) (init ! 26 refl (tt, tt)) $
+          assigns ! (agg ! (and-then ! (load ! (from ! (stop !)) (look ! 26 refl)) (and-then ! (load ! (from ! (fld ! refl (stop !))) (look-in ! 48 (sub ! 1 refl (whole !)))) (no-more !)))) (from ! (stop !)) (init ! 24 refl (tt, (tt, (record { fits = room₁ .0 }, tt)))) $
+          assigns ! (addr ! (from ! (fld ! refl (hop ! (look-in ! 46 (sub ! 0 refl (whole !))) (stop !))))) (from ! (stop !)) (init ! 22 refl (tt, tt)) $
+          assigns ! (agg ! (and-then ! (load ! (from ! (stop !)) (look ! 22 refl)) (and-then ! (load ! (from ! (fld ! refl (stop !))) (look-in ! 46 (sub ! 1 refl (whole !)))) (no-more !)))) (from ! (stop !)) (init ! 20 refl (tt, (tt, (record { fits = room₂ .0 }, tt)))) $
+          assigns ! (addr ! (from ! (fld ! refl (hop ! (look-in ! 44 (sub ! 0 refl (whole !))) (stop !))))) (from ! (stop !)) (init ! 18 refl (tt, tt)) $
+          assigns ! (agg ! (and-then ! (load ! (from ! (stop !)) (look ! 18 refl)) (and-then ! (load ! (from ! (fld ! refl (stop !))) (look-in ! 44 (sub ! 1 refl (whole !)))) (no-more !)))) (from ! (stop !)) (init ! 16 refl (tt, (tt, (record { fits = room₃ .0 }, tt)))) $
+          assigns ! (addr ! (from ! (fld ! refl (hop ! (look-in ! 40 (sub ! 0 refl (whole !))) (stop !))))) (from ! (stop !)) (init ! 14 refl (tt, tt)) $
+          assigns ! (agg ! (and-then ! (load ! (from ! (stop !)) (look ! 14 refl)) (and-then ! (load ! (from ! (fld ! refl (stop !))) (look-in ! 40 (sub ! 1 refl (whole !)))) (no-more !)))) (from ! (stop !)) (init ! 12 refl (tt, (tt, (record { fits = room₅ .0 }, tt)))) $
+          knows ! (f′ .room ≤ 9223372036854775807) (omega (arith, ltb-true, ltb-false, leb-true, leb-false, eqb-true, eqb-false)) (λ asks-3·11.
           -- 3.11: agent::turn::turn
-          lends-mut ! tt (Array u64 5) b₁ o₁ ss n₁ (ss-len) (λ ν-3·11-sessions δ-3·11-sessions.
+          lends-mut ! tt (Array u64 6) b₁ o₁ ss n₁ (ss-len) (λ ν-3·11-sessions δ-3·11-sessions.
           move ! (3 ∷ 4 ∷ []) $
           lends-mut ! tt (Array u16 35) b₂ o₂ xs n₂ (xs-len) (λ ν-3·11-streams δ-3·11-streams.
           move ! (6 ∷ 7 ∷ []) $
           lends-mut ! tt Object-t.the-row b₃ o₃ os n₃ (os-len) (λ ν-3·11-objects δ-3·11-objects.
           move ! (9 ∷ 10 ∷ []) $
-          lends-mut ! tt u8 b₄ o₄ w n₄ (w-len) (λ ν-3·11-out δ-3·11-out.
-          move ! (12 ∷ 13 ∷ []) $
-          copies-shr ! u8 b₅ o₅ d n₅ $ nothing ! $ move ! (1 ∷ 0 ∷ []) $ join ! $ move ! (3 ∷ 0 ∷ []) $ join ! $ move ! (5 ∷ 0 ∷ []) $ join ! $ move ! (7 ∷ 0 ∷ []) $ join ! $ move ! (9 ∷ 0 ∷ []) $ join ! $
-          use1 W (raw (toks 𝓤 A 5 (((ν-3·11-sessions ∷ []), ((ν-3·11-streams ∷ []), ((ν-3·11-objects ∷ []), ((ν-3·11-out ∷ []), (κ₅, tt)))))) ((fullShare, (fullShare, (fullShare, (fullShare, (q₅, tt)))))))) (id⊢ 𝓤 _) $ nothing ! $
+          copies-shr ! u8 b₄ o₄ held n₄ $ move ! (12 ∷ 13 ∷ []) $
+          lends-mut ! tt u8 b₅ o₅ w n₅ (w-len) (λ ν-3·11-out δ-3·11-out.
+          move ! (15 ∷ 16 ∷ []) $
+          copies-shr ! u8 b₆ o₆ d n₆ $ nothing ! $ move ! (1 ∷ 0 ∷ []) $ join ! $ move ! (3 ∷ 0 ∷ []) $ join ! $ move ! (5 ∷ 0 ∷ []) $ join ! $ move ! (7 ∷ 0 ∷ []) $ join ! $ move ! (9 ∷ 0 ∷ []) $ join ! $ move ! (11 ∷ 0 ∷ []) $ join ! $
+          use1 W (raw (toks 𝓤 A 6 (((ν-3·11-sessions ∷ []), ((ν-3·11-streams ∷ []), ((ν-3·11-objects ∷ []), (κ₄, ((ν-3·11-out ∷ []), (κ₆, tt))))))) ((fullShare, (fullShare, (fullShare, (q₄, (fullShare, (q₆, tt))))))))) (id⊢ 𝓤 _) $ nothing ! $
           owned ! (Ran-p .row) (Is (Ran-p .row)) (Ran-p .makes 𝓤 H A W) v (Ran-p .val v ∷ []) v-is $ fjoin ! $
-          owned ! (Frame-p .row) (Is (Frame-p .row)) (Frame-p .makes 𝓤 H A W) f′ (Frame-p .val f′ ∷ []) f′-is $ fjoin ! $ move ! (2 ∷ 0 ∷ []) $ fjoin ! $ move ! (3 ∷ 0 ∷ []) $ fjoin ! $ move ! (4 ∷ 0 ∷ []) $ fjoin ! $ move ! (5 ∷ 0 ∷ []) $ fjoin ! $ move ! (6 ∷ 0 ∷ []) $ fjoin ! $ move ! (1 ∷ 0 ∷ []) $
-          calls-any-last ! fm 5 [] (turn-turn.signature .params) (turn-turn.ended .kept) Ran-p (turn-turn.clauses 𝓤 H A mem run) known-turn-turn ((ν-3·11-sessions ∷ []), ((ν-3·11-streams ∷ []), ((ν-3·11-objects ∷ []), ((ν-3·11-out ∷ []), (κ₅, tt))))) (fullShare, (fullShare, (fullShare, (fullShare, (q₅, tt))))) tt (at-list b₁ o₁ δ-3·11-sessions ss, (at-list b₂ o₂ δ-3·11-streams xs, (at-list b₃ o₃ δ-3·11-objects os, (at-list b₄ o₄ δ-3·11-out w, (at-list b₅ o₅ γ₅ d, (f′, (v, tt))))))) (sliceVal (b₁, o₁) n₁ ∷ [], (sliceVal (b₂, o₂) n₂ ∷ [], (sliceVal (b₃, o₃) n₃ ∷ [], (sliceVal (b₄, o₄) n₄ ∷ [], (sliceVal (b₅, o₅) n₅ ∷ [], (Frame-p .val f′ ∷ [], (Ran-p .val v ∷ [], tt))))))) tt (turned f′ (lent (ss) (xs) (os)) (d) v .ran) (λ ws-3·11. (ws-3·11 .0 ≡ turned f′ (lent (ss) (xs) (os)) (d) v .tables .sessions) × (ws-3·11 .1 .0 ≡ turned f′ (lent (ss) (xs) (os)) (d) v .tables .streams) × (ws-3·11 .1 .1 .0 ≡ turned f′ (lent (ss) (xs) (os)) (d) v .tables .objects) × (ws-3·11 .1 .1 .1 .0 ≡ putReplies (w) (v .wrote) (turned f′ (lent (ss) (xs) (os)) (d) v .replies))) (factI 𝓤 (v .wrote ≤ 18446744073709551600) _ asks-3·11) (λ r ws-3·11. fact-mono 𝓤 ((r ≡ turned f′ (lent (ss) (xs) (os)) (d) v .ran) × ((ws-3·11 .0) ≡ turned f′ (lent (ss) (xs) (os)) (d) v .tables .sessions) × ((ws-3·11 .1 .0) ≡ turned f′ (lent (ss) (xs) (os)) (d) v .tables .streams) × ((ws-3·11 .1 .1 .0) ≡ turned f′ (lent (ss) (xs) (os)) (d) v .tables .objects) × ((ws-3·11 .1 .1 .1 .0) ≡ putReplies (w) (v .wrote) (turned f′ (lent (ss) (xs) (os)) (d) v .replies))) ((r ≡ (turned f′ (lent (ss) (xs) (os)) (d) v .ran)) × ((ws-3·11 .0 ≡ turned f′ (lent (ss) (xs) (os)) (d) v .tables .sessions) × (ws-3·11 .1 .0 ≡ turned f′ (lent (ss) (xs) (os)) (d) v .tables .streams) × (ws-3·11 .1 .1 .0 ≡ turned f′ (lent (ss) (xs) (os)) (d) v .tables .objects) × (ws-3·11 .1 .1 .1 .0 ≡ putReplies (w) (v .wrote) (turned f′ (lent (ss) (xs) (os)) (d) v .replies)))) (λ e. (e .0, (e .1, e .2, e .3, e .4)))) (λ _. (and-then ! (load ! (from ! (stop !)) (look ! 18 refl)) (and-then ! (load ! (from ! (stop !)) (look ! 14 refl)) (and-then ! (load ! (from ! (stop !)) (look ! 10 refl)) (and-then ! (load ! (from ! (stop !)) (look ! 6 refl)) (and-then ! (load ! (from ! (stop !)) (look ! 32 refl)) (and-then ! (load ! (from ! (stop !)) (look ! 30 refl)) (and-then ! (load ! (from ! (stop !)) (look ! 24 refl)) (no-more !))))))))) (λ ws-3·11 said-3·11 is-3·11.
-          use1 W ((‵ (flft (ν-3·11-sessions ∷ []) fullShare) ⊛ (‵ (flft (ν-3·11-streams ∷ []) fullShare) ⊛ (‵ (flft (ν-3·11-objects ∷ []) fullShare) ⊛ (‵ (flft (ν-3·11-out ∷ []) fullShare) ⊛ (‵ (flft κ₅ q₅) ⊛ ‵ ftrue)))))) (id⊢ 𝓤 _) $ split ! $ move ! (1 ∷ []) $ split ! $ move ! (1 ∷ []) $ split ! $ move ! (1 ∷ []) $ split ! $ move ! (1 ∷ []) $ split ! $ move ! (6 ∷ []) $ fsplit ! $ fsplit ! $ move ! (1 ∷ []) $
+          owned ! (Frame-p .row) (Is (Frame-p .row)) (Frame-p .makes 𝓤 H A W) f′ (Frame-p .val f′ ∷ []) f′-is $ fjoin ! $ move ! (2 ∷ 0 ∷ []) $ fjoin ! $ move ! (3 ∷ 0 ∷ []) $ fjoin ! $ move ! (4 ∷ 0 ∷ []) $ fjoin ! $ move ! (5 ∷ 0 ∷ []) $ fjoin ! $ move ! (6 ∷ 0 ∷ []) $ fjoin ! $ move ! (7 ∷ 0 ∷ []) $ fjoin ! $ move ! (1 ∷ 0 ∷ []) $
+          calls-any-last ! fm 6 [] (turn-turn.signature .params) (turn-turn.ended .kept) Ran-p (turn-turn.clauses 𝓤 H A mem run) known-turn-turn ((ν-3·11-sessions ∷ []), ((ν-3·11-streams ∷ []), ((ν-3·11-objects ∷ []), (κ₄, ((ν-3·11-out ∷ []), (κ₆, tt)))))) (fullShare, (fullShare, (fullShare, (q₄, (fullShare, (q₆, tt)))))) tt (at-list b₁ o₁ δ-3·11-sessions ss, (at-list b₂ o₂ δ-3·11-streams xs, (at-list b₃ o₃ δ-3·11-objects os, (at-list b₄ o₄ γ₄ held, (at-list b₅ o₅ δ-3·11-out w, (at-list b₆ o₆ γ₆ d, (f′, (v, tt)))))))) (sliceVal (b₁, o₁) n₁ ∷ [], (sliceVal (b₂, o₂) n₂ ∷ [], (sliceVal (b₃, o₃) n₃ ∷ [], (sliceVal (b₄, o₄) n₄ ∷ [], (sliceVal (b₅, o₅) n₅ ∷ [], (sliceVal (b₆, o₆) n₆ ∷ [], (Frame-p .val f′ ∷ [], (Ran-p .val v ∷ [], tt)))))))) tt (turned f′ (lent (ss) (xs) (os) (held)) (d) v .ran) (λ ws-3·11. (ws-3·11 .0 ≡ turned f′ (lent (ss) (xs) (os) (held)) (d) v .tables .sessions) × (ws-3·11 .1 .0 ≡ turned f′ (lent (ss) (xs) (os) (held)) (d) v .tables .streams) × (ws-3·11 .1 .1 .0 ≡ turned f′ (lent (ss) (xs) (os) (held)) (d) v .tables .objects) × (ws-3·11 .1 .1 .1 .1 .0 ≡ putReplies (f′ .room) (w) (v .wrote) (turned f′ (lent (ss) (xs) (os) (held)) (d) v .replies))) (factI 𝓤 (f′ .room ≤ 9223372036854775807) _ asks-3·11) (λ r ws-3·11. fact-mono 𝓤 ((r ≡ turned f′ (lent (ss) (xs) (os) (held)) (d) v .ran) × ((ws-3·11 .0) ≡ turned f′ (lent (ss) (xs) (os) (held)) (d) v .tables .sessions) × ((ws-3·11 .1 .0) ≡ turned f′ (lent (ss) (xs) (os) (held)) (d) v .tables .streams) × ((ws-3·11 .1 .1 .0) ≡ turned f′ (lent (ss) (xs) (os) (held)) (d) v .tables .objects) × ((ws-3·11 .1 .1 .1 .1 .0) ≡ putReplies (f′ .room) (w) (v .wrote) (turned f′ (lent (ss) (xs) (os) (held)) (d) v .replies))) ((r ≡ (turned f′ (lent (ss) (xs) (os) (held)) (d) v .ran)) × ((ws-3·11 .0 ≡ turned f′ (lent (ss) (xs) (os) (held)) (d) v .tables .sessions) × (ws-3·11 .1 .0 ≡ turned f′ (lent (ss) (xs) (os) (held)) (d) v .tables .streams) × (ws-3·11 .1 .1 .0 ≡ turned f′ (lent (ss) (xs) (os) (held)) (d) v .tables .objects) × (ws-3·11 .1 .1 .1 .1 .0 ≡ putReplies (f′ .room) (w) (v .wrote) (turned f′ (lent (ss) (xs) (os) (held)) (d) v .replies)))) (λ e. (e .0, (e .1, e .2, e .3, e .4)))) (λ _. (and-then ! (load ! (from ! (stop !)) (look ! 19 refl)) (and-then ! (load ! (from ! (stop !)) (look ! 15 refl)) (and-then ! (load ! (from ! (stop !)) (look ! 11 refl)) (and-then ! (load ! (from ! (stop !)) (look ! 37 refl)) (and-then ! (load ! (from ! (stop !)) (look ! 7 refl)) (and-then ! (load ! (from ! (stop !)) (look ! 33 refl)) (and-then ! (load ! (from ! (stop !)) (look ! 31 refl)) (and-then ! (load ! (from ! (stop !)) (look ! 25 refl)) (no-more !)))))))))) (λ ws-3·11 said-3·11 is-3·11.
+          use1 W ((‵ (flft (ν-3·11-sessions ∷ []) fullShare) ⊛ (‵ (flft (ν-3·11-streams ∷ []) fullShare) ⊛ (‵ (flft (ν-3·11-objects ∷ []) fullShare) ⊛ (‵ (flft κ₄ q₄) ⊛ (‵ (flft (ν-3·11-out ∷ []) fullShare) ⊛ (‵ (flft κ₆ q₆) ⊛ ‵ ftrue))))))) (id⊢ 𝓤 _) $ split ! $ move ! (1 ∷ []) $ split ! $ move ! (1 ∷ []) $ split ! $ move ! (1 ∷ []) $ split ! $ move ! (1 ∷ []) $ split ! $ move ! (1 ∷ []) $ split ! $ move ! (7 ∷ []) $ fsplit ! $ fsplit ! $ move ! (1 ∷ []) $
           feqL ! (λ wlen-3·11-0.
           move ! (1 ∷ []) $ fsplit ! $ fsplit ! $ move ! (1 ∷ []) $
           feqL ! (λ wlen-3·11-1.
           move ! (1 ∷ []) $ fsplit ! $ fsplit ! $ move ! (1 ∷ []) $
           feqL ! (λ wlen-3·11-2.
-          move ! (1 ∷ []) $ fsplit ! $ fsplit ! $ move ! (1 ∷ []) $
-          feqL ! (λ wlen-3·11-3.
-          move ! (1 ∷ []) $ fsplit ! $ move ! (11 ∷ 16 ∷ 5 ∷ []) $
-          backs-mut ! tt (Array u64 5) b₁ o₁ ss n₁ (ss-len) room₁ ν-3·11-sessions δ-3·11-sessions (ws-3·11 .0) (turned f′ (lent (ss) (xs) (os)) (d) v .tables .sessions) wlen-3·11-0 (said-3·11 .0) (λ len-3·11-sessions.
-          move ! (11 ∷ 15 ∷ 6 ∷ []) $
-          backs-mut ! tt (Array u16 35) b₂ o₂ xs n₂ (xs-len) room₂ ν-3·11-streams δ-3·11-streams (ws-3·11 .1 .0) (turned f′ (lent (ss) (xs) (os)) (d) v .tables .streams) wlen-3·11-1 (said-3·11 .1) (λ len-3·11-streams.
-          move ! (11 ∷ 14 ∷ 7 ∷ []) $
-          backs-mut ! tt Object-t.the-row b₃ o₃ os n₃ (os-len) room₃ ν-3·11-objects δ-3·11-objects (ws-3·11 .1 .1 .0) (turned f′ (lent (ss) (xs) (os)) (d) v .tables .objects) wlen-3·11-2 (said-3·11 .2) (λ len-3·11-objects.
-          move ! (11 ∷ 13 ∷ 8 ∷ []) $
-          backs-mut ! tt u8 b₄ o₄ w n₄ (w-len) room₄ ν-3·11-out δ-3·11-out (ws-3·11 .1 .1 .1 .0) (putReplies (w) (v .wrote) (turned f′ (lent (ss) (xs) (os)) (d) v .replies)) wlen-3·11-3 (said-3·11 .3) (λ len-3·11-out.
-          move ! (8 ∷ []) $ drop ! $ move ! (8 ∷ []) $ drop ! $ move ! (9 ∷ []) $ drop ! $
-          land-last ! (from ! (stop !)) (store ! 28 refl (Ran-p .typed 𝓤 H A W (turned f′ (lent (ss) (xs) (os)) (d) v .ran) is-3·11)) $ forget ! 10 refl $ forget ! 12 refl $ forget ! 14 refl $ forget ! 16 refl $ forget ! 18 refl $ forget ! 20 refl $ forget ! 22 refl $ forget ! 24 refl $ forget ! 26 refl $ move ! (6 ∷ 7 ∷ 4 ∷ 5 ∷ 2 ∷ 3 ∷ 0 ∷ 1 ∷ 9 ∷ 8 ∷ 10 ∷ 11 ∷ 12 ∷ 13 ∷ 14 ∷ 15 ∷ 16 ∷ 17 ∷ 18 ∷ 19 ∷ 20 ∷ 21 ∷ 22 ∷ 23 ∷ 24 ∷ 25 ∷ 26 ∷ 27 ∷ 28 ∷ 29 ∷ 30 ∷ 31 ∷ 32 ∷ 33 ∷ 34 ∷ 35 ∷ 36 ∷ 37 ∷ 38 ∷ 39 ∷ 40 ∷ 41 ∷ 42 ∷ 43 ∷ 44 ∷ 45 ∷ 46 ∷ 47 ∷ []) $
-          by ! (again-3 t-3 (turned f′ (lent (ss) (xs) (os)) (d) v .ran) (turned f′ (lent (ss) (xs) (os)) (d) v .tables .sessions) (turned f′ (lent (ss) (xs) (os)) (d) v .tables .streams) (turned f′ (lent (ss) (xs) (os)) (d) v .tables .objects) (putReplies (w) (v .wrote) (turned f′ (lent (ss) (xs) (os)) (d) v .replies)) is-3·11 len-3·11-sessions len-3·11-streams len-3·11-objects len-3·11-out (left-again f′ d start (lent sessions streams objects) out v (lent ss xs os) w inv-3 c-3·2) ((omega (arith, ltb-true, ltb-false, leb-true, leb-false, eqb-true, eqb-false, left-less f′ d start (lent sessions streams objects) out v (lent ss xs os) w inv-3 c-3·2))))))))))))))))))))
+          move ! (1 ∷ []) $ fsplit ! $ move ! (1 ∷ []) $ fsplit ! $ fsplit ! $ move ! (1 ∷ []) $
+          feqL ! (λ wlen-3·11-4.
+          move ! (1 ∷ []) $ fsplit ! $ move ! (13 ∷ 19 ∷ 6 ∷ []) $
+          backs-mut ! tt (Array u64 6) b₁ o₁ ss n₁ (ss-len) room₁ ν-3·11-sessions δ-3·11-sessions (ws-3·11 .0) (turned f′ (lent (ss) (xs) (os) (held)) (d) v .tables .sessions) wlen-3·11-0 (said-3·11 .0) (λ len-3·11-sessions.
+          move ! (13 ∷ 18 ∷ 7 ∷ []) $
+          backs-mut ! tt (Array u16 35) b₂ o₂ xs n₂ (xs-len) room₂ ν-3·11-streams δ-3·11-streams (ws-3·11 .1 .0) (turned f′ (lent (ss) (xs) (os) (held)) (d) v .tables .streams) wlen-3·11-1 (said-3·11 .1) (λ len-3·11-streams.
+          move ! (13 ∷ 17 ∷ 8 ∷ []) $
+          backs-mut ! tt Object-t.the-row b₃ o₃ os n₃ (os-len) room₃ ν-3·11-objects δ-3·11-objects (ws-3·11 .1 .1 .0) (turned f′ (lent (ss) (xs) (os) (held)) (d) v .tables .objects) wlen-3·11-2 (said-3·11 .2) (λ len-3·11-objects.
+          move ! (12 ∷ 15 ∷ 8 ∷ []) $
+          backs-mut ! tt u8 b₅ o₅ w n₅ (w-len) room₅ ν-3·11-out δ-3·11-out (ws-3·11 .1 .1 .1 .1 .0) (putReplies (f′ .room) (w) (v .wrote) (turned f′ (lent (ss) (xs) (os) (held)) (d) v .replies)) wlen-3·11-4 (said-3·11 .3) (λ len-3·11-out.
+          move ! (8 ∷ []) $ drop ! $ move ! (8 ∷ []) $ drop ! $ move ! (8 ∷ []) $ drop ! $ move ! (9 ∷ []) $ drop ! $
+          land-last ! (from ! (stop !)) (store ! 30 refl (Ran-p .typed 𝓤 H A W (turned f′ (lent (ss) (xs) (os) (held)) (d) v .ran) is-3·11)) $ forget ! 12 refl $ forget ! 14 refl $ forget ! 16 refl $ forget ! 18 refl $ forget ! 20 refl $ forget ! 22 refl $ forget ! 24 refl $ forget ! 26 refl $ forget ! 28 refl $ move ! (6 ∷ 7 ∷ 4 ∷ 5 ∷ 2 ∷ 3 ∷ 11 ∷ 9 ∷ 0 ∷ 1 ∷ 10 ∷ 8 ∷ 12 ∷ 13 ∷ 14 ∷ 15 ∷ 16 ∷ 17 ∷ 18 ∷ 19 ∷ 20 ∷ 21 ∷ 22 ∷ 23 ∷ 24 ∷ 25 ∷ 26 ∷ 27 ∷ 28 ∷ 29 ∷ 30 ∷ 31 ∷ 32 ∷ 33 ∷ 34 ∷ 35 ∷ 36 ∷ 37 ∷ 38 ∷ 39 ∷ 40 ∷ 41 ∷ 42 ∷ 43 ∷ 44 ∷ 45 ∷ 46 ∷ 47 ∷ 48 ∷ 49 ∷ 50 ∷ 51 ∷ []) $
+          by ! (again-3 t-3 (turned f′ (lent (ss) (xs) (os) (held)) (d) v .ran) (turned f′ (lent (ss) (xs) (os) (held)) (d) v .tables .sessions) (turned f′ (lent (ss) (xs) (os) (held)) (d) v .tables .streams) (turned f′ (lent (ss) (xs) (os) (held)) (d) v .tables .objects) (putReplies (f′ .room) (w) (v .wrote) (turned f′ (lent (ss) (xs) (os) (held)) (d) v .replies)) is-3·11 len-3·11-sessions len-3·11-streams len-3·11-objects len-3·11-out (left-again f′ d start (lent sessions streams objects held) out v (lent ss xs os held) w inv-3 c-3·2) ((omega (arith, ltb-true, ltb-false, leb-true, leb-false, eqb-true, eqb-false, left-less f′ d start (lent sessions streams objects held) out v (lent ss xs os held) w inv-3 c-3·2))))))))))))))))))))
           (λ h-3·2.
-          knows ! (goesOn n₅ v ≡ false) (fails (goesOn n₅ v) (T-not (goesOn n₅ v) h-3·2)) (λ c-3·2.
+          knows ! (goesOn n₆ v ≡ false) (fails (goesOn n₆ v) (T-not (goesOn n₆ v) h-3·2)) (λ c-3·2.
           jumps ! $
           exec ! C Λ En mir.t-4 (atRet En Post) $
-          assigns ! (of-opd ! (load ! (from ! (stop !)) (look ! 28 refl))) (from ! (stop !)) (init ! 46 refl (Ran-p .typed 𝓤 H A W v v-is)) $
-          returns ! (look ! 46 refl) $ forget ! 26 refl $ forget ! 28 refl $ forget ! 30 refl $ forget ! 32 refl $ forget ! 34 refl $ forget ! 36 refl $ forget ! 38 refl $ forget ! 40 refl $ forget ! 42 refl $ forget ! 44 refl $ forget ! 46 refl $ move ! (46 ∷ 47 ∷ []) $ free1 ! $ move ! (44 ∷ 45 ∷ []) $ free1 ! $ move ! (42 ∷ 43 ∷ []) $ free1 ! $ move ! (40 ∷ 41 ∷ []) $ free1 ! $ move ! (38 ∷ 39 ∷ []) $ free1 ! $ move ! (36 ∷ 37 ∷ []) $ free1 ! $ move ! (34 ∷ 35 ∷ []) $ free1 ! $ move ! (32 ∷ 33 ∷ []) $ free1 ! $ move ! (30 ∷ 31 ∷ []) $ free1 ! $ move ! (28 ∷ 29 ∷ []) $ free1 ! $ move ! (26 ∷ 27 ∷ []) $ free1 ! $ move ! (24 ∷ 25 ∷ []) $ free1 ! $ move ! (22 ∷ 23 ∷ []) $ free1 ! $ move ! (20 ∷ 21 ∷ []) $ free1 ! $ move ! (18 ∷ 19 ∷ []) $ free1 ! $ move ! (16 ∷ 17 ∷ []) $ free1 ! $ move ! (14 ∷ 15 ∷ []) $ free1 ! $ move ! (12 ∷ 13 ∷ []) $ free1 ! $ move ! (10 ∷ 11 ∷ []) $ free1 ! $ free0 ! $
-          by ! (exits v ss xs os w (left-end f′ d start (lent sessions streams objects) out v (lent ss xs os) w inv-3 c-3·2) v-is ss-len xs-len os-len w-len)))
+          assigns ! (of-opd ! (load ! (from ! (stop !)) (look ! 30 refl))) (from ! (stop !)) (init ! 50 refl (Ran-p .typed 𝓤 H A W v v-is)) $
+          returns ! (look ! 50 refl) $ forget ! 28 refl $ forget ! 30 refl $ forget ! 32 refl $ forget ! 34 refl $ forget ! 36 refl $ forget ! 38 refl $ forget ! 40 refl $ forget ! 42 refl $ forget ! 44 refl $ forget ! 46 refl $ forget ! 48 refl $ forget ! 50 refl $ move ! (50 ∷ 51 ∷ []) $ free1 ! $ move ! (48 ∷ 49 ∷ []) $ free1 ! $ move ! (46 ∷ 47 ∷ []) $ free1 ! $ move ! (44 ∷ 45 ∷ []) $ free1 ! $ move ! (42 ∷ 43 ∷ []) $ free1 ! $ move ! (40 ∷ 41 ∷ []) $ free1 ! $ move ! (38 ∷ 39 ∷ []) $ free1 ! $ move ! (36 ∷ 37 ∷ []) $ free1 ! $ move ! (34 ∷ 35 ∷ []) $ free1 ! $ move ! (32 ∷ 33 ∷ []) $ free1 ! $ move ! (30 ∷ 31 ∷ []) $ free1 ! $ move ! (28 ∷ 29 ∷ []) $ free1 ! $ move ! (26 ∷ 27 ∷ []) $ free1 ! $ move ! (24 ∷ 25 ∷ []) $ free1 ! $ move ! (22 ∷ 23 ∷ []) $ free1 ! $ move ! (20 ∷ 21 ∷ []) $ free1 ! $ move ! (18 ∷ 19 ∷ []) $ free1 ! $ move ! (16 ∷ 17 ∷ []) $ free1 ! $ move ! (14 ∷ 15 ∷ []) $ free1 ! $ move ! (12 ∷ 13 ∷ []) $ free1 ! $ free0 ! $
+          by ! (exits v ss xs os w (left-end f′ d start (lent sessions streams objects held) out v (lent ss xs os held) w inv-3 c-3·2) v-is ss-len xs-len os-len w-len)))
 
-      turn-3 : (v : Ran) → (ss : List (List ℕ)) → (xs : List (List ℕ)) → (os : List Object) → (w : List ℕ) → (t-3 : ℕ) → (v-is : Is (Ran-p .row) v (Ran-p .val v ∷ [])) → (ss-len : length ss ≡ n₁) → (xs-len : length xs ≡ n₂) → (os-len : length os ≡ n₃) → (w-len : length w ≡ n₄) → (t-is-3 : t-3 ≡ length d - v .at) → (inv-3 : Left f′ d start (lent sessions streams objects) out v (lent ss xs os) w) → ent 𝓤 (⋆ 𝓤 H A (At-3 v ss xs os w)) (Wp 𝓤 H C Λ En mir.turn-1 (afterTurn 𝓤 H (Below-3 t-3) Left-3))
+      turn-3 : (v : Ran) → (ss : List (List ℕ)) → (xs : List (List ℕ)) → (os : List Object) → (w : List ℕ) → (t-3 : ℕ) → (v-is : Is (Ran-p .row) v (Ran-p .val v ∷ [])) → (ss-len : length ss ≡ n₁) → (xs-len : length xs ≡ n₂) → (os-len : length os ≡ n₃) → (w-len : length w ≡ n₅) → (t-is-3 : t-3 ≡ length d - v .at) → (inv-3 : Left f′ d start (lent sessions streams objects held) out v (lent ss xs os held) w) → ent 𝓤 (⋆ 𝓤 H A (At-3 v ss xs os w)) (Wp 𝓤 H C Λ En mir.turn-1 (afterTurn 𝓤 H (Below-3 t-3) Left-3))
       unfolding afterTurn
       turn-3 v ss xs os w t-3 v-is ss-len xs-len os-len w-len t-is-3 inv-3 =
           qed W (At-3 v ss xs os w) ∵ exec ! C Λ En mir.turn-1 (anyQ (afterTurn 𝓤 H (Below-3 t-3) Left-3)) $
@@ -297,40 +300,40 @@ module _ {M : Type 1} (𝓤 : URA M) (H : Heap 𝓤) (A : Atoms 𝓤) (W : Given
           nothing ! $
           use1 W (raw (toks 𝓤 A 0 (tt) (tt))) (id⊢ 𝓤 _) $ nothing ! $
           owned ! (Ran-p .row) (Is (Ran-p .row)) (Ran-p .makes 𝓤 H A W) v (Ran-p .val v ∷ []) v-is $ fjoin ! $
-          owned ! (u64-p .row) (Is (u64-p .row)) (u64-p .makes 𝓤 H A W) n₅ (u64-p .val n₅ ∷ []) ((refl, room₅ .0)) $ fjoin ! $ move ! (1 ∷ 0 ∷ []) $
-          calls-any ! fm 0 [] (run-goes-on.signature .params) (run-goes-on.ended .kept) bool-p (run-goes-on.clauses 𝓤 H A mem run) known-run-goes-on tt tt tt (n₅, (v, tt)) (u64-p .val n₅ ∷ [], (Ran-p .val v ∷ [], tt)) tt (goesOn n₅ v) (λ ws-3·1. Unit {0}) (id⊢ 𝓤 _) (λ r ws-3·1. fact-mono 𝓤 (r ≡ goesOn n₅ v) ((r ≡ (goesOn n₅ v)) × (Unit {0})) (λ e. (e, tt))) (λ _. (and-then ! (load ! (from ! (stop !)) (look ! 31 refl)) (and-then ! (load ! (from ! (stop !)) (look ! 29 refl)) (no-more !)))) (λ ws-3·1 said-3·1 is-3·1.
+          owned ! (u64-p .row) (Is (u64-p .row)) (u64-p .makes 𝓤 H A W) n₆ (u64-p .val n₆ ∷ []) ((refl, room₆ .0)) $ fjoin ! $ move ! (1 ∷ 0 ∷ []) $
+          calls-any ! fm 0 [] (run-goes-on.signature .params) (run-goes-on.ended .kept) bool-p (run-goes-on.clauses 𝓤 H A mem run) known-run-goes-on tt tt tt (n₆, (v, tt)) (u64-p .val n₆ ∷ [], (Ran-p .val v ∷ [], tt)) tt (goesOn n₆ v) (λ ws-3·1. Unit {0}) (id⊢ 𝓤 _) (λ r ws-3·1. fact-mono 𝓤 (r ≡ goesOn n₆ v) ((r ≡ (goesOn n₆ v)) × (Unit {0})) (λ e. (e, tt))) (λ _. (and-then ! (load ! (from ! (stop !)) (look ! 33 refl)) (and-then ! (load ! (from ! (stop !)) (look ! 31 refl)) (no-more !)))) (λ ws-3·1 said-3·1 is-3·1.
           drop ! $ drop ! $
-          land ! (from ! (stop !)) (init ! 26 refl (bool-p .typed 𝓤 H A W (goesOn n₅ v) is-3·1)) $
+          land ! (from ! (stop !)) (init ! 28 refl (bool-p .typed 𝓤 H A W (goesOn n₆ v) is-3·1)) $
           part-3·2-8 v ss xs os w t-3 v-is ss-len xs-len os-len w-len t-is-3 inv-3 is-3·1)
 
       turns-3 : (t : ℕ) → ent 𝓤 (Inv-3 t) (Wp 𝓤 H C Λ En mir.turn-1 (afterTurn 𝓤 H (Below-3 t) Left-3))
       turns-3 t = exE 𝓤 (λ (v : Ran). ex 𝓤 (λ (ss : List (List ℕ)). ex 𝓤 (λ (xs : List (List ℕ)). ex 𝓤 (λ (os : List Object). ex 𝓤 (λ (w : List ℕ). guard 𝓤 (Facts-3 t v ss xs os w) (⋆ 𝓤 H A (At-3 v ss xs os w))))))) (λ v. exE 𝓤 (λ (ss : List (List ℕ)). ex 𝓤 (λ (xs : List (List ℕ)). ex 𝓤 (λ (os : List Object). ex 𝓤 (λ (w : List ℕ). guard 𝓤 (Facts-3 t v ss xs os w) (⋆ 𝓤 H A (At-3 v ss xs os w)))))) (λ ss. exE 𝓤 (λ (xs : List (List ℕ)). ex 𝓤 (λ (os : List Object). ex 𝓤 (λ (w : List ℕ). guard 𝓤 (Facts-3 t v ss xs os w) (⋆ 𝓤 H A (At-3 v ss xs os w))))) (λ xs. exE 𝓤 (λ (os : List Object). ex 𝓤 (λ (w : List ℕ). guard 𝓤 (Facts-3 t v ss xs os w) (⋆ 𝓤 H A (At-3 v ss xs os w)))) (λ os. exE 𝓤 (λ (w : List ℕ). guard 𝓤 (Facts-3 t v ss xs os w) (⋆ 𝓤 H A (At-3 v ss xs os w))) (λ w. guardE 𝓤 (Facts-3 t v ss xs os w) (⋆ 𝓤 H A (At-3 v ss xs os w)) (λ fs. turn-3 v ss xs os w t (fs .1) (fs .2) (fs .3) (fs .4) (fs .5) (fs .0) (fs .6)))))))
 
-      loops-3 : (v : Ran) (v-is : Is (Ran-p .row) v (Ran-p .val v ∷ [])) → (ss : List (List ℕ)) (ss-len : length ss ≡ n₁) → (xs : List (List ℕ)) (xs-len : length xs ≡ n₂) → (os : List Object) (os-len : length os ≡ n₃) → (w : List ℕ) (w-len : length w ≡ n₄) → (Left f′ d start (lent sessions streams objects) out v (lent ss xs os) w) → ent 𝓤 (⋆ 𝓤 H A (At-3 v ss xs os w)) (Wp 𝓤 H C Λ En (loop mir.turn-1) Left-3)
+      loops-3 : (v : Ran) (v-is : Is (Ran-p .row) v (Ran-p .val v ∷ [])) → (ss : List (List ℕ)) (ss-len : length ss ≡ n₁) → (xs : List (List ℕ)) (xs-len : length xs ≡ n₂) → (os : List Object) (os-len : length os ≡ n₃) → (w : List ℕ) (w-len : length w ≡ n₅) → (Left f′ d start (lent sessions streams objects held) out v (lent ss xs os held) w) → ent 𝓤 (⋆ 𝓤 H A (At-3 v ss xs os w)) (Wp 𝓤 H C Λ En (loop mir.turn-1) Left-3)
       loops-3 v v-is ss ss-len xs xs-len os os-len w w-len inv = via 𝓤 (Inv-3 (length d - v .at)) (inv-at-3 (length d - v .at) v ss xs os w (refl, v-is, ss-len, xs-len, os-len, w-len, inv)) (loop-rule 𝓤 H (W .laws) 𝓣 _<_ (Nat·lt-wfRel .wf) En mir.turn-1 Left-3 Inv-3 turns-3 (length d - v .at))
 
-    begins : Sq W (‵ (MutSlice (named 0) κ₁ (Array u64 5) .own (at-list b₁ o₁ γ₁ sessions) (sliceVal (b₁, o₁) n₁ ∷ [])) ∷ ‵ (flft κ₁ q₁) ∷ ‵ (MutSlice (named 0) κ₂ (Array u16 35) .own (at-list b₂ o₂ γ₂ streams) (sliceVal (b₂, o₂) n₂ ∷ [])) ∷ ‵ (flft κ₂ q₂) ∷ ‵ (MutSlice (named 0) κ₃ Object-t.the-row .own (at-list b₃ o₃ γ₃ objects) (sliceVal (b₃, o₃) n₃ ∷ [])) ∷ ‵ (flft κ₃ q₃) ∷ ‵ (MutSlice (named 0) κ₄ u8 .own (at-list b₄ o₄ γ₄ out) (sliceVal (b₄, o₄) n₄ ∷ [])) ∷ ‵ (flft κ₄ q₄) ∷ ‵ (ShrSlice (named 0) κ₅ u8 .own (at-list b₅ o₅ γ₅ d) (sliceVal (b₅, o₅) n₅ ∷ [])) ∷ ‵ (flft κ₅ q₅) ∷ free 𝓤 (sliceTy (tyRef erased mut (pointee (u8 .written)))) l₁₈ (free 𝓤 (tyRef erased mut (pointee (u8 .written))) l₁₇ (free 𝓤 (sliceTy (tyRef erased mut (pointee (Object-t.the-row .written)))) l₁₆ (free 𝓤 (tyRef erased mut (pointee (Object-t.the-row .written))) l₁₅ (free 𝓤 (sliceTy (tyRef erased mut (pointee ((Array u16 35) .written)))) l₁₄ (free 𝓤 (tyRef erased mut (pointee ((Array u16 35) .written))) l₁₃ (free 𝓤 (sliceTy (tyRef erased mut (pointee ((Array u64 5) .written)))) l₁₂ (free 𝓤 (tyRef erased mut (pointee ((Array u64 5) .written))) l₁₁ (free 𝓤 tyBool l₁₀ (free 𝓤 Ran-l.mir l₉ (free 𝓤 (tyInt w64) l₈ (full 𝓤 Ran-l.mir l₇ (Ran-p .val start) (full 𝓤 Frame-l.mir l₆ (Frame-p .val f′) (full 𝓤 (sliceTy (tyRef (named 4) imm (pointee (u8 .written)))) l₅ (sliceVal (b₅, o₅) n₅) (full 𝓤 (sliceTy (tyRef (named 3) mut (pointee (u8 .written)))) l₄ (sliceVal (b₄, o₄) n₄) (full 𝓤 (sliceTy (tyRef (named 2) mut (pointee (Object-t.the-row .written)))) l₃ (sliceVal (b₃, o₃) n₃) (full 𝓤 (sliceTy (tyRef (named 1) mut (pointee ((Array u16 35) .written)))) l₂ (sliceVal (b₂, o₂) n₂) (full 𝓤 (sliceTy (tyRef (named 0) mut (pointee ((Array u64 5) .written)))) l₁ (sliceVal (b₁, o₁) n₁) (free 𝓤 Ran-l.mir l₀ ([])))))))))))))))))))) (runs C Λ En mir.t-1 (atRet En Post))
+    begins : Sq W (‵ (MutSlice (named 0) κ₁ (Array u64 6) .own (at-list b₁ o₁ γ₁ sessions) (sliceVal (b₁, o₁) n₁ ∷ [])) ∷ ‵ (flft κ₁ q₁) ∷ ‵ (MutSlice (named 0) κ₂ (Array u16 35) .own (at-list b₂ o₂ γ₂ streams) (sliceVal (b₂, o₂) n₂ ∷ [])) ∷ ‵ (flft κ₂ q₂) ∷ ‵ (MutSlice (named 0) κ₃ Object-t.the-row .own (at-list b₃ o₃ γ₃ objects) (sliceVal (b₃, o₃) n₃ ∷ [])) ∷ ‵ (flft κ₃ q₃) ∷ ‵ (ShrSlice (named 0) κ₄ u8 .own (at-list b₄ o₄ γ₄ held) (sliceVal (b₄, o₄) n₄ ∷ [])) ∷ ‵ (flft κ₄ q₄) ∷ ‵ (MutSlice (named 0) κ₅ u8 .own (at-list b₅ o₅ γ₅ out) (sliceVal (b₅, o₅) n₅ ∷ [])) ∷ ‵ (flft κ₅ q₅) ∷ ‵ (ShrSlice (named 0) κ₆ u8 .own (at-list b₆ o₆ γ₆ d) (sliceVal (b₆, o₆) n₆ ∷ [])) ∷ ‵ (flft κ₆ q₆) ∷ free 𝓤 (sliceTy (tyRef erased mut (pointee (u8 .written)))) l₁₉ (free 𝓤 (tyRef erased mut (pointee (u8 .written))) l₁₈ (free 𝓤 (sliceTy (tyRef erased mut (pointee (Object-t.the-row .written)))) l₁₇ (free 𝓤 (tyRef erased mut (pointee (Object-t.the-row .written))) l₁₆ (free 𝓤 (sliceTy (tyRef erased mut (pointee ((Array u16 35) .written)))) l₁₅ (free 𝓤 (tyRef erased mut (pointee ((Array u16 35) .written))) l₁₄ (free 𝓤 (sliceTy (tyRef erased mut (pointee ((Array u64 6) .written)))) l₁₃ (free 𝓤 (tyRef erased mut (pointee ((Array u64 6) .written))) l₁₂ (free 𝓤 tyBool l₁₁ (free 𝓤 Ran-l.mir l₁₀ (free 𝓤 (tyInt w64) l₉ (full 𝓤 Ran-l.mir l₈ (Ran-p .val start) (full 𝓤 Frame-l.mir l₇ (Frame-p .val f′) (full 𝓤 (sliceTy (tyRef (named 5) imm (pointee (u8 .written)))) l₆ (sliceVal (b₆, o₆) n₆) (full 𝓤 (sliceTy (tyRef (named 4) mut (pointee (u8 .written)))) l₅ (sliceVal (b₅, o₅) n₅) (full 𝓤 (sliceTy (tyRef (named 3) imm (pointee (u8 .written)))) l₄ (sliceVal (b₄, o₄) n₄) (full 𝓤 (sliceTy (tyRef (named 2) mut (pointee (Object-t.the-row .written)))) l₃ (sliceVal (b₃, o₃) n₃) (full 𝓤 (sliceTy (tyRef (named 1) mut (pointee ((Array u16 35) .written)))) l₂ (sliceVal (b₂, o₂) n₂) (full 𝓤 (sliceTy (tyRef (named 0) mut (pointee ((Array u64 6) .written)))) l₁ (sliceVal (b₁, o₁) n₁) (free 𝓤 Ran-l.mir l₀ ([]))))))))))))))))))))) (runs C Λ En mir.t-1 (atRet En Post))
     begins =
-        assigns ! (of-opd ! (load ! (from ! (fld ! refl (stop !))) (look-in ! 36 (sub ! 1 refl (whole !))))) (from ! (stop !)) (init ! 30 refl (u64-p .typed 𝓤 H A W n₅ ((refl, room₅ .0)))) $
-        assigns ! (of-opd ! (load ! (from ! (stop !)) (look ! 32 refl))) (from ! (stop !)) (init ! 28 refl (Ran-p .typed 𝓤 H A W start start-is)) $
+        assigns ! (of-opd ! (load ! (from ! (fld ! refl (stop !))) (look-in ! 38 (sub ! 1 refl (whole !))))) (from ! (stop !)) (init ! 32 refl (u64-p .typed 𝓤 H A W n₆ ((refl, room₆ .0)))) $
+        assigns ! (of-opd ! (load ! (from ! (stop !)) (look ! 34 refl))) (from ! (stop !)) (init ! 30 refl (Ran-p .typed 𝓤 H A W start start-is)) $
         first ! $
         blocks ! $
-        by ! (loops-3 start start-is sessions refl streams refl objects refl out refl (left-start f′ d start (lent sessions streams objects) out within))
+        by ! (loops-3 start start-is sessions refl streams refl objects refl out refl (left-start f′ d start (lent sessions streams objects held) out))
 
   module _ (𝓣 : Tables 𝓤 H) (known-run-goes-on : Triple 𝓤 (𝓣 .C #run-goes-on) (Of-run-goes-on 𝓤 H A mem run)) (known-turn-turn : Triple 𝓤 (𝓣 .C #turn-turn) (Of-turn-turn 𝓤 H A mem run)) where
-    walk : ent 𝓤 (onEntry 𝓤 H A f.signature (κ₁, (κ₂, (κ₃, (κ₄, (κ₅, tt))))) (q₁, (q₂, (q₃, (q₄, (q₅, tt))))) x at) (WpFn 𝓤 H (𝓣 .C) (𝓣 .Λ) code.function (sliceVal (b₁, o₁) n₁ ∷ sliceVal (b₂, o₂) n₂ ∷ sliceVal (b₃, o₃) n₃ ∷ sliceVal (b₄, o₄) n₄ ∷ sliceVal (b₅, o₅) n₅ ∷ Frame-p .val f′ ∷ Ran-p .val start ∷ []) Post)
+    walk : ent 𝓤 (onEntry 𝓤 H A f.signature (κ₁, (κ₂, (κ₃, (κ₄, (κ₅, (κ₆, tt)))))) (q₁, (q₂, (q₃, (q₄, (q₅, (q₆, tt)))))) x at) (WpFn 𝓤 H (𝓣 .C) (𝓣 .Λ) code.function (sliceVal (b₁, o₁) n₁ ∷ sliceVal (b₂, o₂) n₂ ∷ sliceVal (b₃, o₃) n₃ ∷ sliceVal (b₄, o₄) n₄ ∷ sliceVal (b₅, o₅) n₅ ∷ sliceVal (b₆, o₆) n₆ ∷ Frame-p .val f′ ∷ Ran-p .val start ∷ []) Post)
     walk =
-        qed W ((‵ (flft κ₁ q₁) ⊛ (‵ (flft κ₂ q₂) ⊛ (‵ (flft κ₃ q₃) ⊛ (‵ (flft κ₄ q₄) ⊛ (‵ (flft κ₅ q₅) ⊛ ‵ ftrue))))) ∷ ‵ (owns (MutSlice (named 0) κ₁ (Array u64 5) ∷ MutSlice (named 1) κ₂ (Array u16 35) ∷ MutSlice (named 2) κ₃ Object-t.the-row ∷ MutSlice (named 3) κ₄ u8 ∷ ShrSlice (named 4) κ₅ u8 ∷ Frame-p .row ∷ Ran-p .row ∷ []) x at) ∷ []) ∵ enter ! (𝓣 .C) (𝓣 .Λ) code.function (sliceVal (b₁, o₁) n₁ ∷ sliceVal (b₂, o₂) n₂ ∷ sliceVal (b₃, o₃) n₃ ∷ sliceVal (b₄, o₄) n₄ ∷ sliceVal (b₅, o₅) n₅ ∷ Frame-p .val f′ ∷ Ran-p .val start ∷ []) _ $
-        alloc1 ! (λ l₀. alloc1 ! (λ l₁. alloc1 ! (λ l₂. alloc1 ! (λ l₃. alloc1 ! (λ l₄. alloc1 ! (λ l₅. alloc1 ! (λ l₆. alloc1 ! (λ l₇. alloc1 ! (λ l₈. alloc1 ! (λ l₉. alloc1 ! (λ l₁₀. alloc1 ! (λ l₁₁. alloc1 ! (λ l₁₂. alloc1 ! (λ l₁₃. alloc1 ! (λ l₁₄. alloc1 ! (λ l₁₅. alloc1 ! (λ l₁₆. alloc1 ! (λ l₁₇. alloc1 ! (λ l₁₈. alloc0 ! $ params1 ! $ pass1 ! (init ! 34 refl (tt, (tt, (record { fits = room₁ .0 }, tt)))) $ pass1 ! (init ! 32 refl (tt, (tt, (record { fits = room₂ .0 }, tt)))) $ pass1 ! (init ! 30 refl (tt, (tt, (record { fits = room₃ .0 }, tt)))) $ pass1 ! (init ! 28 refl (tt, (tt, (record { fits = room₄ .0 }, tt)))) $ pass1 ! (init ! 26 refl (tt, (tt, (record { fits = room₅ .0 }, tt)))) $ pass1 ! (init ! 24 refl (Frame-p .typed 𝓤 H A W f′ f′-is)) $ pass1 ! (init ! 22 refl (Ran-p .typed 𝓤 H A W start start-is)) $ pass0 ! $ move ! (39 ∷ []) $ fsplit ! $ move ! (1 ∷ []) $ fsplit ! $ move ! (1 ∷ []) $ fsplit ! $ move ! (1 ∷ []) $ fsplit ! $ move ! (1 ∷ []) $ fsplit ! $ move ! (44 ∷ []) $ split ! $ move ! (1 ∷ []) $ split ! $ move ! (1 ∷ []) $ split ! $ move ! (1 ∷ []) $ split ! $ move ! (1 ∷ []) $ split ! $ move ! (1 ∷ []) $ drop ! $ move ! (6 ∷ []) $ drop ! $ move ! (9 ∷ 4 ∷ 8 ∷ 3 ∷ 7 ∷ 2 ∷ 6 ∷ 1 ∷ 5 ∷ 0 ∷ 10 ∷ 11 ∷ 12 ∷ 13 ∷ 14 ∷ 15 ∷ 16 ∷ 17 ∷ 18 ∷ 19 ∷ 20 ∷ 21 ∷ 22 ∷ 23 ∷ 24 ∷ 25 ∷ 26 ∷ 27 ∷ 28 ∷ 29 ∷ 30 ∷ 31 ∷ 32 ∷ 33 ∷ 34 ∷ 35 ∷ 36 ∷ 37 ∷ 38 ∷ 39 ∷ 40 ∷ 41 ∷ 42 ∷ 43 ∷ 44 ∷ 45 ∷ 46 ∷ 47 ∷ []) $
-        begins 𝓣 known-run-goes-on known-turn-turn l₀ l₁ l₂ l₃ l₄ l₅ l₆ l₇ l₈ l₉ l₁₀ l₁₁ l₁₂ l₁₃ l₁₄ l₁₅ l₁₆ l₁₇ l₁₈)))))))))))))))))))
+        qed W ((‵ (flft κ₁ q₁) ⊛ (‵ (flft κ₂ q₂) ⊛ (‵ (flft κ₃ q₃) ⊛ (‵ (flft κ₄ q₄) ⊛ (‵ (flft κ₅ q₅) ⊛ (‵ (flft κ₆ q₆) ⊛ ‵ ftrue)))))) ∷ ‵ (owns (MutSlice (named 0) κ₁ (Array u64 6) ∷ MutSlice (named 1) κ₂ (Array u16 35) ∷ MutSlice (named 2) κ₃ Object-t.the-row ∷ ShrSlice (named 3) κ₄ u8 ∷ MutSlice (named 4) κ₅ u8 ∷ ShrSlice (named 5) κ₆ u8 ∷ Frame-p .row ∷ Ran-p .row ∷ []) x at) ∷ []) ∵ enter ! (𝓣 .C) (𝓣 .Λ) code.function (sliceVal (b₁, o₁) n₁ ∷ sliceVal (b₂, o₂) n₂ ∷ sliceVal (b₃, o₃) n₃ ∷ sliceVal (b₄, o₄) n₄ ∷ sliceVal (b₅, o₅) n₅ ∷ sliceVal (b₆, o₆) n₆ ∷ Frame-p .val f′ ∷ Ran-p .val start ∷ []) _ $
+        alloc1 ! (λ l₀. alloc1 ! (λ l₁. alloc1 ! (λ l₂. alloc1 ! (λ l₃. alloc1 ! (λ l₄. alloc1 ! (λ l₅. alloc1 ! (λ l₆. alloc1 ! (λ l₇. alloc1 ! (λ l₈. alloc1 ! (λ l₉. alloc1 ! (λ l₁₀. alloc1 ! (λ l₁₁. alloc1 ! (λ l₁₂. alloc1 ! (λ l₁₃. alloc1 ! (λ l₁₄. alloc1 ! (λ l₁₅. alloc1 ! (λ l₁₆. alloc1 ! (λ l₁₇. alloc1 ! (λ l₁₈. alloc1 ! (λ l₁₉. alloc0 ! $ params1 ! $ pass1 ! (init ! 36 refl (tt, (tt, (record { fits = room₁ .0 }, tt)))) $ pass1 ! (init ! 34 refl (tt, (tt, (record { fits = room₂ .0 }, tt)))) $ pass1 ! (init ! 32 refl (tt, (tt, (record { fits = room₃ .0 }, tt)))) $ pass1 ! (init ! 30 refl (tt, (tt, (record { fits = room₄ .0 }, tt)))) $ pass1 ! (init ! 28 refl (tt, (tt, (record { fits = room₅ .0 }, tt)))) $ pass1 ! (init ! 26 refl (tt, (tt, (record { fits = room₆ .0 }, tt)))) $ pass1 ! (init ! 24 refl (Frame-p .typed 𝓤 H A W f′ f′-is)) $ pass1 ! (init ! 22 refl (Ran-p .typed 𝓤 H A W start start-is)) $ pass0 ! $ move ! (41 ∷ []) $ fsplit ! $ move ! (1 ∷ []) $ fsplit ! $ move ! (1 ∷ []) $ fsplit ! $ move ! (1 ∷ []) $ fsplit ! $ move ! (1 ∷ []) $ fsplit ! $ move ! (1 ∷ []) $ fsplit ! $ move ! (47 ∷ []) $ split ! $ move ! (1 ∷ []) $ split ! $ move ! (1 ∷ []) $ split ! $ move ! (1 ∷ []) $ split ! $ move ! (1 ∷ []) $ split ! $ move ! (1 ∷ []) $ split ! $ move ! (1 ∷ []) $ drop ! $ move ! (7 ∷ []) $ drop ! $ move ! (11 ∷ 5 ∷ 10 ∷ 4 ∷ 9 ∷ 3 ∷ 8 ∷ 2 ∷ 7 ∷ 1 ∷ 6 ∷ 0 ∷ 12 ∷ 13 ∷ 14 ∷ 15 ∷ 16 ∷ 17 ∷ 18 ∷ 19 ∷ 20 ∷ 21 ∷ 22 ∷ 23 ∷ 24 ∷ 25 ∷ 26 ∷ 27 ∷ 28 ∷ 29 ∷ 30 ∷ 31 ∷ 32 ∷ 33 ∷ 34 ∷ 35 ∷ 36 ∷ 37 ∷ 38 ∷ 39 ∷ 40 ∷ 41 ∷ 42 ∷ 43 ∷ 44 ∷ 45 ∷ 46 ∷ 47 ∷ 48 ∷ 49 ∷ 50 ∷ 51 ∷ []) $
+        begins 𝓣 known-run-goes-on known-turn-turn l₀ l₁ l₂ l₃ l₄ l₅ l₆ l₇ l₈ l₉ l₁₀ l₁₁ l₁₂ l₁₃ l₁₄ l₁₅ l₁₆ l₁₇ l₁₈ l₁₉))))))))))))))))))))
 
 module _ {M : Type 1} (𝓤 : URA M) (H : Heap 𝓤) (A : Atoms 𝓤) (W : Given 𝓤 H A) (mem : Memory → SProp 𝓤) (run : Routine → Fun 𝓤) (𝓣 : Tables 𝓤 H) (known-run-goes-on : Triple 𝓤 (𝓣 .C #run-goes-on) (Of-run-goes-on 𝓤 H A mem run)) (known-turn-turn : Triple 𝓤 (𝓣 .C #turn-turn) (Of-turn-turn 𝓤 H A mem run)) where
   walks : Walks 𝓤 H A f.ended stayed (WpFn 𝓤 H (𝓣 .C) (𝓣 .Λ) code.function) (f.clauses 𝓤 H A mem run)
-  walks = walked 𝓤 H A f.ended stayed (f.clauses 𝓤 H A mem run) (WpFn 𝓤 H (𝓣 .C) (𝓣 .Λ) code.function) (λ κs. (slice-vals, (slice-vals, (slice-vals, (slice-vals, (slice-vals, ((λ y. Frame-p .val y ∷ []), ((λ y. Ran-p .val y ∷ []), tt)))))))) (λ κs. (mut-slice-tells (named 0) (κs .0) (Array u64 5), (mut-slice-tells (named 1) (κs .1 .0) (Array u16 35), (mut-slice-tells (named 2) (κs .1 .1 .0) Object-t.the-row, (mut-slice-tells (named 3) (κs .1 .1 .1 .0) u8, (shr-slice-tells (named 4) (κs .1 .1 .1 .1 .0) u8, (Frame-p .tells, (Ran-p .tells, tt))))))))
-      (λ κs qs bounds a g are. needs 𝓤 _ _ (λ within. walk 𝓤 H A W mem run (κs .0) (qs .0) (a .0 .ptr .0) (a .0 .ptr .1) (a .0 .name) (a .0 .now) (κs .1 .0) (qs .1 .0) (a .1 .0 .ptr .0) (a .1 .0 .ptr .1) (a .1 .0 .name) (a .1 .0 .now) (κs .1 .1 .0) (qs .1 .1 .0) (a .1 .1 .0 .ptr .0) (a .1 .1 .0 .ptr .1) (a .1 .1 .0 .name) (a .1 .1 .0 .now) (κs .1 .1 .1 .0) (qs .1 .1 .1 .0) (a .1 .1 .1 .0 .ptr .0) (a .1 .1 .1 .0 .ptr .1) (a .1 .1 .1 .0 .name) (a .1 .1 .1 .0 .now) (κs .1 .1 .1 .1 .0) (qs .1 .1 .1 .1 .0) (a .1 .1 .1 .1 .0 .ptr .0) (a .1 .1 .1 .1 .0 .ptr .1) (a .1 .1 .1 .1 .0 .name) (a .1 .1 .1 .1 .0 .now) (a .1 .1 .1 .1 .1 .0) (a .1 .1 .1 .1 .1 .1 .0) (are .0 .0 .1) (are .1 .0 .0 .1) (are .1 .1 .0 .0 .1) (are .1 .1 .1 .0 .0 .1) (are .1 .1 .1 .1 .0 .0 .1) (are .1 .1 .1 .1 .1 .0) (are .1 .1 .1 .1 .1 .1 .0) within 𝓣 known-run-goes-on known-turn-turn))
+  walks = walked 𝓤 H A f.ended stayed (f.clauses 𝓤 H A mem run) (WpFn 𝓤 H (𝓣 .C) (𝓣 .Λ) code.function) (λ κs. (slice-vals, (slice-vals, (slice-vals, (slice-vals, (slice-vals, (slice-vals, ((λ y. Frame-p .val y ∷ []), ((λ y. Ran-p .val y ∷ []), tt))))))))) (λ κs. (mut-slice-tells (named 0) (κs .0) (Array u64 6), (mut-slice-tells (named 1) (κs .1 .0) (Array u16 35), (mut-slice-tells (named 2) (κs .1 .1 .0) Object-t.the-row, (shr-slice-tells (named 3) (κs .1 .1 .1 .0) u8, (mut-slice-tells (named 4) (κs .1 .1 .1 .1 .0) u8, (shr-slice-tells (named 5) (κs .1 .1 .1 .1 .1 .0) u8, (Frame-p .tells, (Ran-p .tells, tt)))))))))
+      (λ κs qs bounds a g are. needs 𝓤 _ _ (λ within. walk 𝓤 H A W mem run (κs .0) (qs .0) (a .0 .ptr .0) (a .0 .ptr .1) (a .0 .name) (a .0 .now) (κs .1 .0) (qs .1 .0) (a .1 .0 .ptr .0) (a .1 .0 .ptr .1) (a .1 .0 .name) (a .1 .0 .now) (κs .1 .1 .0) (qs .1 .1 .0) (a .1 .1 .0 .ptr .0) (a .1 .1 .0 .ptr .1) (a .1 .1 .0 .name) (a .1 .1 .0 .now) (κs .1 .1 .1 .0) (qs .1 .1 .1 .0) (a .1 .1 .1 .0 .ptr .0) (a .1 .1 .1 .0 .ptr .1) (a .1 .1 .1 .0 .name) (a .1 .1 .1 .0 .now) (κs .1 .1 .1 .1 .0) (qs .1 .1 .1 .1 .0) (a .1 .1 .1 .1 .0 .ptr .0) (a .1 .1 .1 .1 .0 .ptr .1) (a .1 .1 .1 .1 .0 .name) (a .1 .1 .1 .1 .0 .now) (κs .1 .1 .1 .1 .1 .0) (qs .1 .1 .1 .1 .1 .0) (a .1 .1 .1 .1 .1 .0 .ptr .0) (a .1 .1 .1 .1 .1 .0 .ptr .1) (a .1 .1 .1 .1 .1 .0 .name) (a .1 .1 .1 .1 .1 .0 .now) (a .1 .1 .1 .1 .1 .1 .0) (a .1 .1 .1 .1 .1 .1 .1 .0) (are .0 .0 .1) (are .1 .0 .0 .1) (are .1 .1 .0 .0 .1) (are .1 .1 .1 .0 .0 .1) (are .1 .1 .1 .1 .0 .0 .1) (are .1 .1 .1 .1 .1 .0 .0 .1) (are .1 .1 .1 .1 .1 .1 .0) (are .1 .1 .1 .1 .1 .1 .1 .0) within 𝓣 known-run-goes-on known-turn-turn))
 
   meets : Meets 𝓤 H A f.signature (WpFn 𝓤 H (𝓣 .C) (𝓣 .Λ) code.function) (f.spec 𝓤 H A mem run)
-  meets = walk-meets 𝓤 H A f.ended stayed W (goes-slice 𝓤 H A W 5 0 tt (plain (λ _. (Array u64 5))), (goes-slice 𝓤 H A W 5 1 tt (plain (λ _. (Array u16 35))), (goes-slice 𝓤 H A W 5 2 tt (plain (λ _. Object-t.the-row)), (goes-slice 𝓤 H A W 5 3 tt (plain (λ _. u8)), (goes-none-slice 𝓤 H A W 5 (4 ∷ []) tt (plain (λ _. u8)) yes, (goes-none 𝓤 H A W 5 (λ _. Frame-p .row) yes (λ κs x f. refl), (goes-none 𝓤 H A W 5 (λ _. Ran-p .row) yes (λ κs x f. refl), tt))))))) (f.clauses 𝓤 H A mem run) (WpFn 𝓤 H (𝓣 .C) (𝓣 .Λ) code.function) (WpFn-mono 𝓤 H (W .laws) 𝓣 code.function) walks
+  meets = walk-meets 𝓤 H A f.ended stayed W (goes-slice 𝓤 H A W 6 0 tt (plain (λ _. (Array u64 6))), (goes-slice 𝓤 H A W 6 1 tt (plain (λ _. (Array u16 35))), (goes-slice 𝓤 H A W 6 2 tt (plain (λ _. Object-t.the-row)), (goes-none-slice 𝓤 H A W 6 (3 ∷ []) tt (plain (λ _. u8)) yes, (goes-slice 𝓤 H A W 6 4 tt (plain (λ _. u8)), (goes-none-slice 𝓤 H A W 6 (5 ∷ []) tt (plain (λ _. u8)) yes, (goes-none 𝓤 H A W 6 (λ _. Frame-p .row) yes (λ κs x f. refl), (goes-none 𝓤 H A W 6 (λ _. Ran-p .row) yes (λ κs x f. refl), tt)))))))) (f.clauses 𝓤 H A mem run) (WpFn 𝓤 H (𝓣 .C) (𝓣 .Λ) code.function) (WpFn-mono 𝓤 H (W .laws) 𝓣 code.function) walks
 
 pub run-spec : {M : Type 1} → stated.statement M
 unfolding code.routine tablesOf

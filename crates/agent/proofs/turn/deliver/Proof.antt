@@ -55,16 +55,21 @@ use Rattle.walk.proofs.Arrays.{rep-is, lends-array, backs-array}
 use Rattle.codec.specs.Bytes.{putBytes}
 use Rattle.sessions.specs.Table.{namedOf}
 use Rattle.sessions.specs.Opening.{createdOf, openedRows, openedStreams}
-use Rattle.moves.specs.Moves.{moveBytes}
-use Rattle.moves.specs.Rows.{lent}
+use Rattle.agent.specs.Lent.{lent}
 use Rattle.agent.specs.Run.{putReplies, settled, stopOf, greetingBytes, greeted, passed, isLive, delivered, takenOf, turned}
 use Rattle.sessions.specs.Table.{newSession, endedSession, touchedSession, expiredOf, elapsedOf, sessionAt, keepSession, gotOf, reachedOf, keptRows, touchedRows, endedRows}
-use Rattle.moves.specs.Rows.{blankAsked, opensWith, createsAs, namesOne, onStream, asksOf, handledMove, handledTables}
+use Rattle.moves.specs.Rows.{rows, blankAsked, opensWith, createsAs, namesOne, onStream, asksOf, handledMove, handledRows}
+use mathlib.Core.List.{map}
+use lib.ListN.{take}
+use Rattle.sessions.specs.Sending.{messageOf}
+use Rattle.agent.specs.Step.{replied}
+use Rattle.agent.specs.Run.{counted, countReplies, repeatsIn, repliesBy}
 use types.Kit.{frees, prop}
 use mathlib.Core.Bool.{cond}
 use Rattle.sessions.specs.View.{Tables as Stores}
+use Rattle.agent.specs.Lent.{rowsOf, withRows}
 use Rattle.agent.specs.Run.{Turned, touchedTables, acted}
-use Rattle.agent.proofs.Written.{as-left, handled-written, no-replies}
+use Rattle.agent.proofs.Written.{as-left, no-replies}
 use Rattle.sessions.specs.declared.objects.Object.{Object}
 use Rattle.sessions.proofs.objects.Object as Object-t
 use Rattle.sessions.proofs.objects.Object.Laws as Object-l
@@ -116,7 +121,7 @@ use Rattle.codec.specs.declared.submessages.ObjectKind.the-variants.{Participan
 use Rattle.moves.specs.declared.moves.Move.{Move}
 use Rattle.moves.proofs.moves.Move as Move-t
 use Rattle.moves.proofs.moves.Move.Laws as Move-l
-use Rattle.moves.specs.declared.moves.Move.the-variants.{Greets as Move-Greets, Status as Move-Status, Acknack as Move-Acknack, Calls as Move-Calls, Silent as Move-Silent}
+use Rattle.moves.specs.declared.moves.Move.the-variants.{Greets as Move-Greets, Status as Move-Status, Acknack as Move-Acknack, Repeats as Move-Repeats, Calls as Move-Calls, Silent as Move-Silent}
 use Rattle.codec.specs.declared.submessages.StatusCode.{StatusCode}
 use Rattle.codec.proofs.submessages.StatusCode as StatusCode-t
 use Rattle.codec.proofs.submessages.StatusCode.Laws as StatusCode-l
@@ -144,6 +149,10 @@ use Rattle.moves.proofs.handle.handle as handle-handle
 use Rattle.moves.proofs.handle.handle.Symbol as handle-handle-def
 use Rattle.moves.proofs.handle.handle.Symbol.{name as #handle-handle}
 use Rattle.moves.proofs.handle.handle.Met as handle-handle-thm
+use Rattle.agent.proofs.repeats.answer as repeats-answer
+use Rattle.agent.proofs.repeats.answer.Symbol as repeats-answer-def
+use Rattle.agent.proofs.repeats.answer.Symbol.{name as #repeats-answer}
+use Rattle.agent.proofs.repeats.answer.Met as repeats-answer-thm
 use Rattle.agent.proofs.turn.settle as turn-settle
 use Rattle.agent.proofs.turn.settle.Symbol as turn-settle-def
 use Rattle.agent.proofs.turn.settle.Symbol.{name as #turn-settle}
@@ -170,8 +179,8 @@ ObjectNumber-of x0 = record { 0 = x0 }
 abbrev ObjectNumber-p : Plain
 ObjectNumber-p = record { row = ObjectNumber-t.the-row; val = LL.val ObjectNumber-t.the-type ObjectNumber-l.the-laws; tells = LL.tells ObjectNumber-t.the-type ObjectNumber-l.the-laws; makes = λ 𝓤 H A W. LL.makes ObjectNumber-t.the-type ObjectNumber-l.the-plain 𝓤 H A; ty = ObjectNumber-l.mir; typed = λ 𝓤 H A W x is. LL.lawful ObjectNumber-t.the-type ObjectNumber-l.the-laws 𝓤 H A W .typed x _ is .0; copies = λ 𝓤 H A W. LL.copy ObjectNumber-t.the-type ObjectNumber-l.the-copy 𝓤 H A W }
 
-abbrev Frame-of : ℕ → ℕ → ℕ → ℕ → Frame
-Frame-of x0 x1 x2 x3 = record { «max_clients» = x0; time = x1; «session_id» = x2; «stream_id» = x3 }
+abbrev Frame-of : ℕ → ℕ → ℕ → ℕ → ℕ → Frame
+Frame-of x0 x1 x2 x3 x4 = record { «max_clients» = x0; time = x1; «session_id» = x2; «stream_id» = x3; room = x4 }
 
 abbrev Frame-p : Plain
 Frame-p = record { row = Frame-t.the-row; val = LL.val Frame-t.the-type Frame-l.the-laws; tells = LL.tells Frame-t.the-type Frame-l.the-laws; makes = λ 𝓤 H A W. LL.makes Frame-t.the-type Frame-l.the-plain 𝓤 H A; ty = Frame-l.mir; typed = λ 𝓤 H A W x is. LL.lawful Frame-t.the-type Frame-l.the-laws 𝓤 H A W .typed x _ is .0; copies = λ 𝓤 H A W. LL.copy Frame-t.the-type Frame-l.the-copy 𝓤 H A W }
@@ -243,7 +252,7 @@ abbrev Refusal-p : Plain
 Refusal-p = record { row = Refusal-t.the-row; val = EL.val Refusal-t.the-type Refusal-l.the-laws; tells = EL.tells Refusal-t.the-type Refusal-l.the-laws; makes = λ 𝓤 H A W. EL.makes Refusal-t.the-type Refusal-l.the-plain 𝓤 H A; ty = Refusal-l.mir; typed = λ 𝓤 H A W x is. EL.lawful Refusal-t.the-type Refusal-l.the-laws 𝓤 H A W tt .typed x _ is .0; copies = λ 𝓤 H A W. EL.copy Refusal-t.the-type Refusal-l.the-copy 𝓤 H A W }
 
 abbrev stayed : Stays (f.ended .signature .params) (f.ended .kept)
-stayed = (stay-slice (0 ∷ []) tt (plain (λ _. (Array u64 5))), (stay-slice (1 ∷ []) tt (plain (λ _. (Array u16 35))), (stay-slice (2 ∷ []) tt (plain (λ _. Object-t.the-row)), (stay-slice (3 ∷ []) tt (plain (λ _. u8)), (stay-none-slice (4 ∷ []) tt (plain (λ _. u8)) yes, (stay-none (λ _. Frame-p .row) yes, (stay-none (λ _. Ran-p .row) yes, (stay-none (λ _. Taken-p .row) yes, tt))))))))
+stayed = (stay-slice (0 ∷ []) tt (plain (λ _. (Array u64 6))), (stay-slice (1 ∷ []) tt (plain (λ _. (Array u16 35))), (stay-slice (2 ∷ []) tt (plain (λ _. Object-t.the-row)), (stay-none-slice (3 ∷ []) tt (plain (λ _. u8)) yes, (stay-slice (4 ∷ []) tt (plain (λ _. u8)), (stay-none-slice (5 ∷ []) tt (plain (λ _. u8)) yes, (stay-none (λ _. Frame-p .row) yes, (stay-none (λ _. Ran-p .row) yes, (stay-none (λ _. Taken-p .row) yes, tt)))))))))
 
 module _ {M : Type 1} (𝓤 : URA M) (H : Heap 𝓤) (A : Atoms 𝓤) (mem : Memory → SProp 𝓤) (run : Routine → Fun 𝓤) where
   abbrev Of-table-touch : Contract 𝓤
@@ -255,14 +264,17 @@ module _ {M : Type 1} (𝓤 : URA M) (H : Heap 𝓤) (A : Atoms 𝓤) (mem : Mem
   abbrev Of-handle-handle : Contract 𝓤
   Of-handle-handle = tripleOf 𝓤 H A handle-handle.signature (handle-handle.spec 𝓤 H A mem run)
 
+  abbrev Of-repeats-answer : Contract 𝓤
+  Of-repeats-answer = tripleOf 𝓤 H A repeats-answer.signature (repeats-answer.spec 𝓤 H A mem run)
+
   abbrev Of-turn-settle : Contract 𝓤
   Of-turn-settle = tripleOf 𝓤 H A turn-settle.signature (turn-settle.spec 𝓤 H A mem run)
 
   abbrev Of-turn-passed : Contract 𝓤
   Of-turn-passed = tripleOf 𝓤 H A turn-passed.signature (turn-passed.spec 𝓤 H A mem run)
 
-module _ {M : Type 1} (𝓤 : URA M) (H : Heap 𝓤) (A : Atoms 𝓤) (W : Given 𝓤 H A) (mem : Memory → SProp 𝓤) (run : Routine → Fun 𝓤) (κ₁ : Lft) (q₁ : Share) (b₁ o₁ : ℕ) (γ₁ : GName) (sessions : List (List ℕ)) (κ₂ : Lft) (q₂ : Share) (b₂ o₂ : ℕ) (γ₂ : GName) (streams : List (List ℕ)) (κ₃ : Lft) (q₃ : Share) (b₃ o₃ : ℕ) (γ₃ : GName) (objects : List Object) (κ₄ : Lft) (q₄ : Share) (b₄ o₄ : ℕ) (γ₄ : GName) (out : List ℕ) (κ₅ : Lft) (q₅ : Share) (b₅ o₅ : ℕ) (γ₅ : GName) (d : List ℕ) (f′ : Frame) (r′ : Ran) (took : Taken)
-    (room₁ : Room (Array u64 5) (length sessions)) (room₂ : Room (Array u16 35) (length streams)) (room₃ : Room Object-t.the-row (length objects)) (room₄ : Room u8 (length out)) (room₅ : Room u8 (length d)) (f′-is : Is (Frame-p .row) f′ (Frame-p .val f′ ∷ [])) (r′-is : Is (Ran-p .row) r′ (Ran-p .val r′ ∷ [])) (took-is : Is (Taken-p .row) took (Taken-p .val took ∷ [])) (within : r′ .wrote ≤ 18446744073709551600) where
+module _ {M : Type 1} (𝓤 : URA M) (H : Heap 𝓤) (A : Atoms 𝓤) (W : Given 𝓤 H A) (mem : Memory → SProp 𝓤) (run : Routine → Fun 𝓤) (κ₁ : Lft) (q₁ : Share) (b₁ o₁ : ℕ) (γ₁ : GName) (sessions : List (List ℕ)) (κ₂ : Lft) (q₂ : Share) (b₂ o₂ : ℕ) (γ₂ : GName) (streams : List (List ℕ)) (κ₃ : Lft) (q₃ : Share) (b₃ o₃ : ℕ) (γ₃ : GName) (objects : List Object) (κ₄ : Lft) (q₄ : Share) (b₄ o₄ : ℕ) (γ₄ : GName) (held : List ℕ) (κ₅ : Lft) (q₅ : Share) (b₅ o₅ : ℕ) (γ₅ : GName) (out : List ℕ) (κ₆ : Lft) (q₆ : Share) (b₆ o₆ : ℕ) (γ₆ : GName) (d : List ℕ) (f′ : Frame) (r′ : Ran) (took : Taken)
+    (room₁ : Room (Array u64 6) (length sessions)) (room₂ : Room (Array u16 35) (length streams)) (room₃ : Room Object-t.the-row (length objects)) (room₄ : Room u8 (length held)) (room₅ : Room u8 (length out)) (room₆ : Room u8 (length d)) (f′-is : Is (Frame-p .row) f′ (Frame-p .val f′ ∷ [])) (r′-is : Is (Ran-p .row) r′ (Ran-p .val r′ ∷ [])) (took-is : Is (Taken-p .row) took (Taken-p .val took ∷ [])) (within : f′ .room ≤ 9223372036854775807) where
   abbrev n₁ : ℕ
   n₁ = length sessions
 
@@ -273,44 +285,48 @@ module _ {M : Type 1} (𝓤 : URA M) (H : Heap 𝓤) (A : Atoms 𝓤) (W : Given
   n₃ = length objects
 
   abbrev n₄ : ℕ
-  n₄ = length out
+  n₄ = length held
 
   abbrev n₅ : ℕ
-  n₅ = length d
+  n₅ = length out
 
-  abbrev x : RefT (List (List ℕ)) × (RefT (List (List ℕ)) × (RefT (List Object) × (RefT (List ℕ) × (RefT (List ℕ) × (Frame-p .row .Denot × (Ran-p .row .Denot × (Taken-p .row .Denot × (Unit {0}))))))))
-  x = (at-list b₁ o₁ γ₁ sessions, (at-list b₂ o₂ γ₂ streams, (at-list b₃ o₃ γ₃ objects, (at-list b₄ o₄ γ₄ out, (at-list b₅ o₅ γ₅ d, (f′, (r′, (took, tt))))))))
+  abbrev n₆ : ℕ
+  n₆ = length d
 
-  abbrev at : Vals f.signature (κ₁, (κ₂, (κ₃, (κ₄, (κ₅, tt)))))
-  at = (sliceVal (b₁, o₁) n₁ ∷ [], (sliceVal (b₂, o₂) n₂ ∷ [], (sliceVal (b₃, o₃) n₃ ∷ [], (sliceVal (b₄, o₄) n₄ ∷ [], (sliceVal (b₅, o₅) n₅ ∷ [], (Frame-p .val f′ ∷ [], (Ran-p .val r′ ∷ [], (Taken-p .val took ∷ [], tt))))))))
+  abbrev x : RefT (List (List ℕ)) × (RefT (List (List ℕ)) × (RefT (List Object) × (RefT (List ℕ) × (RefT (List ℕ) × (RefT (List ℕ) × (Frame-p .row .Denot × (Ran-p .row .Denot × (Taken-p .row .Denot × (Unit {0})))))))))
+  x = (at-list b₁ o₁ γ₁ sessions, (at-list b₂ o₂ γ₂ streams, (at-list b₃ o₃ γ₃ objects, (at-list b₄ o₄ γ₄ held, (at-list b₅ o₅ γ₅ out, (at-list b₆ o₆ γ₆ d, (f′, (r′, (took, tt)))))))))
+
+  abbrev at : Vals f.signature (κ₁, (κ₂, (κ₃, (κ₄, (κ₅, (κ₆, tt))))))
+  at = (sliceVal (b₁, o₁) n₁ ∷ [], (sliceVal (b₂, o₂) n₂ ∷ [], (sliceVal (b₃, o₃) n₃ ∷ [], (sliceVal (b₄, o₄) n₄ ∷ [], (sliceVal (b₅, o₅) n₅ ∷ [], (sliceVal (b₆, o₆) n₆ ∷ [], (Frame-p .val f′ ∷ [], (Ran-p .val r′ ∷ [], (Taken-p .val took ∷ [], tt)))))))))
 
   abbrev Post : Val → SProp 𝓤
-  Post = walkOf 𝓤 H A f.ended stayed (f.clauses 𝓤 H A mem run) .post (((κ₁, (κ₂, (κ₃, (κ₄, (κ₅, tt))))), (q₁, (q₂, (q₃, (q₄, (q₅, tt))))), tt, x, at), tt)
+  Post = walkOf 𝓤 H A f.ended stayed (f.clauses 𝓤 H A mem run) .post (((κ₁, (κ₂, (κ₃, (κ₄, (κ₅, (κ₆, tt)))))), (q₁, (q₂, (q₃, (q₄, (q₅, (q₆, tt)))))), tt, x, at), tt)
 
   abbrev touched : Stores
-  touched = touchedTables f′ (lent sessions streams objects)
+  touched = touchedTables f′ (lent sessions streams objects held)
 
   abbrev left : Bool → Turned
   left b =
       cond b
-      (acted f′ r′ (took .at) (handledMove (took .asked) touched d (f′ .«session_id») (f′ .«stream_id») (took .body)) (handledTables (took .asked) touched (f′ .«session_id») (f′ .«stream_id»)))
+      (acted f′ r′ (took .at) (handledMove (took .asked) (rowsOf touched) d (f′ .«session_id») (f′ .«stream_id») (took .body))
+      (withRows touched (handledRows (took .asked) (rowsOf touched) (f′ .«session_id») (f′ .«stream_id»))))
       (record { ran = passed r′ (took .at); tables = touched; replies = [] })
 
   abbrev live : Bool
   live = isLive (namedOf sessions (f′ .«session_id»))
 
-  exits : (r : Ran) (ws₁ : List (List ℕ)) (ws₂ : List (List ℕ)) (ws₃ : List Object) (ws₄ : List ℕ) → ((r ≡ delivered (namedOf (sessions) (f′ .«session_id»)) f′ (lent (sessions) (streams) (objects)) (d) r′ took .ran) × (ws₁ ≡ delivered (namedOf (sessions) (f′ .«session_id»)) f′ (lent (sessions) (streams) (objects)) (d) r′ took .tables .sessions) × (ws₂ ≡ delivered (namedOf (sessions) (f′ .«session_id»)) f′ (lent (sessions) (streams) (objects)) (d) r′ took .tables .streams) × (ws₃ ≡ delivered (namedOf (sessions) (f′ .«session_id»)) f′ (lent (sessions) (streams) (objects)) (d) r′ took .tables .objects) × (ws₄ ≡ putReplies (out) (r′ .wrote) (delivered (namedOf (sessions) (f′ .«session_id»)) f′ (lent (sessions) (streams) (objects)) (d) r′ took .replies))) → Is (Ran-p .row) r (Ran-p .val r ∷ []) → length ws₁ ≡ n₁ → length ws₂ ≡ n₂ → length ws₃ ≡ n₃ → length ws₄ ≡ n₄ → ent 𝓤 (⋆ 𝓤 H A (‵ (MutSlice (named 0) κ₁ (Array u64 5) .own (at-list b₁ o₁ γ₁ ws₁) (sliceVal (b₁, o₁) n₁ ∷ [])) ∷ ‵ (flft κ₁ q₁) ∷ ‵ (MutSlice (named 1) κ₂ (Array u16 35) .own (at-list b₂ o₂ γ₂ ws₂) (sliceVal (b₂, o₂) n₂ ∷ [])) ∷ ‵ (flft κ₂ q₂) ∷ ‵ (MutSlice (named 2) κ₃ Object-t.the-row .own (at-list b₃ o₃ γ₃ ws₃) (sliceVal (b₃, o₃) n₃ ∷ [])) ∷ ‵ (flft κ₃ q₃) ∷ ‵ (MutSlice (named 3) κ₄ u8 .own (at-list b₄ o₄ γ₄ ws₄) (sliceVal (b₄, o₄) n₄ ∷ [])) ∷ ‵ (flft κ₄ q₄) ∷ ‵ (ShrSlice (named 4) κ₅ u8 .own (at-list b₅ o₅ γ₅ d) (sliceVal (b₅, o₅) n₅ ∷ [])) ∷ ‵ (flft κ₅ q₅) ∷ [])) (Post (Ran-p .val r))
-  exits r ws₁ ws₂ ws₃ ws₄ said r-is len₁ len₂ len₃ len₄ =
-      qed W (‵ (MutSlice (named 0) κ₁ (Array u64 5) .own (at-list b₁ o₁ γ₁ ws₁) (sliceVal (b₁, o₁) n₁ ∷ [])) ∷ ‵ (flft κ₁ q₁) ∷ ‵ (MutSlice (named 1) κ₂ (Array u16 35) .own (at-list b₂ o₂ γ₂ ws₂) (sliceVal (b₂, o₂) n₂ ∷ [])) ∷ ‵ (flft κ₂ q₂) ∷ ‵ (MutSlice (named 2) κ₃ Object-t.the-row .own (at-list b₃ o₃ γ₃ ws₃) (sliceVal (b₃, o₃) n₃ ∷ [])) ∷ ‵ (flft κ₃ q₃) ∷ ‵ (MutSlice (named 3) κ₄ u8 .own (at-list b₄ o₄ γ₄ ws₄) (sliceVal (b₄, o₄) n₄ ∷ [])) ∷ ‵ (flft κ₄ q₄) ∷ ‵ (ShrSlice (named 4) κ₅ u8 .own (at-list b₅ o₅ γ₅ d) (sliceVal (b₅, o₅) n₅ ∷ [])) ∷ ‵ (flft κ₅ q₅) ∷ []) ∵
-      suffices ! _ (ends-at 𝓤 H A f.ended stayed (f.clauses 𝓤 H A mem run) W (((κ₁, (κ₂, (κ₃, (κ₄, (κ₅, tt))))), (q₁, (q₂, (q₃, (q₄, (q₅, tt))))), tt, x, at), tt) (Ran-p .val r) r (ws₁, (ws₂, (ws₃, (ws₄, (tt, (tt, (tt, (tt, tt)))))))) (len₁, (len₂, (len₃, (len₄, (tt, (tt, (tt, (tt, tt))))))))) $ says ! said $ nothing ! $ move ! (10 ∷ 0 ∷ []) $ join ! $ move ! (8 ∷ 0 ∷ []) $ join ! $ move ! (6 ∷ 0 ∷ []) $ join ! $ move ! (4 ∷ 0 ∷ []) $ join ! $ move ! (2 ∷ 0 ∷ []) $ join ! $
+  exits : (r : Ran) (ws₁ : List (List ℕ)) (ws₂ : List (List ℕ)) (ws₃ : List Object) (ws₅ : List ℕ) → ((r ≡ delivered (namedOf (sessions) (f′ .«session_id»)) f′ (lent (sessions) (streams) (objects) (held)) (d) r′ took .ran) × (ws₁ ≡ delivered (namedOf (sessions) (f′ .«session_id»)) f′ (lent (sessions) (streams) (objects) (held)) (d) r′ took .tables .sessions) × (ws₂ ≡ delivered (namedOf (sessions) (f′ .«session_id»)) f′ (lent (sessions) (streams) (objects) (held)) (d) r′ took .tables .streams) × (ws₃ ≡ delivered (namedOf (sessions) (f′ .«session_id»)) f′ (lent (sessions) (streams) (objects) (held)) (d) r′ took .tables .objects) × (ws₅ ≡ putReplies (f′ .room) (out) (r′ .wrote) (delivered (namedOf (sessions) (f′ .«session_id»)) f′ (lent (sessions) (streams) (objects) (held)) (d) r′ took .replies))) → Is (Ran-p .row) r (Ran-p .val r ∷ []) → length ws₁ ≡ n₁ → length ws₂ ≡ n₂ → length ws₃ ≡ n₃ → length ws₅ ≡ n₅ → ent 𝓤 (⋆ 𝓤 H A (‵ (MutSlice (named 0) κ₁ (Array u64 6) .own (at-list b₁ o₁ γ₁ ws₁) (sliceVal (b₁, o₁) n₁ ∷ [])) ∷ ‵ (flft κ₁ q₁) ∷ ‵ (MutSlice (named 1) κ₂ (Array u16 35) .own (at-list b₂ o₂ γ₂ ws₂) (sliceVal (b₂, o₂) n₂ ∷ [])) ∷ ‵ (flft κ₂ q₂) ∷ ‵ (MutSlice (named 2) κ₃ Object-t.the-row .own (at-list b₃ o₃ γ₃ ws₃) (sliceVal (b₃, o₃) n₃ ∷ [])) ∷ ‵ (flft κ₃ q₃) ∷ ‵ (ShrSlice (named 3) κ₄ u8 .own (at-list b₄ o₄ γ₄ held) (sliceVal (b₄, o₄) n₄ ∷ [])) ∷ ‵ (flft κ₄ q₄) ∷ ‵ (MutSlice (named 4) κ₅ u8 .own (at-list b₅ o₅ γ₅ ws₅) (sliceVal (b₅, o₅) n₅ ∷ [])) ∷ ‵ (flft κ₅ q₅) ∷ ‵ (ShrSlice (named 5) κ₆ u8 .own (at-list b₆ o₆ γ₆ d) (sliceVal (b₆, o₆) n₆ ∷ [])) ∷ ‵ (flft κ₆ q₆) ∷ [])) (Post (Ran-p .val r))
+  exits r ws₁ ws₂ ws₃ ws₅ said r-is len₁ len₂ len₃ len₅ =
+      qed W (‵ (MutSlice (named 0) κ₁ (Array u64 6) .own (at-list b₁ o₁ γ₁ ws₁) (sliceVal (b₁, o₁) n₁ ∷ [])) ∷ ‵ (flft κ₁ q₁) ∷ ‵ (MutSlice (named 1) κ₂ (Array u16 35) .own (at-list b₂ o₂ γ₂ ws₂) (sliceVal (b₂, o₂) n₂ ∷ [])) ∷ ‵ (flft κ₂ q₂) ∷ ‵ (MutSlice (named 2) κ₃ Object-t.the-row .own (at-list b₃ o₃ γ₃ ws₃) (sliceVal (b₃, o₃) n₃ ∷ [])) ∷ ‵ (flft κ₃ q₃) ∷ ‵ (ShrSlice (named 3) κ₄ u8 .own (at-list b₄ o₄ γ₄ held) (sliceVal (b₄, o₄) n₄ ∷ [])) ∷ ‵ (flft κ₄ q₄) ∷ ‵ (MutSlice (named 4) κ₅ u8 .own (at-list b₅ o₅ γ₅ ws₅) (sliceVal (b₅, o₅) n₅ ∷ [])) ∷ ‵ (flft κ₅ q₅) ∷ ‵ (ShrSlice (named 5) κ₆ u8 .own (at-list b₆ o₆ γ₆ d) (sliceVal (b₆, o₆) n₆ ∷ [])) ∷ ‵ (flft κ₆ q₆) ∷ []) ∵
+      suffices ! _ (ends-at 𝓤 H A f.ended stayed (f.clauses 𝓤 H A mem run) W (((κ₁, (κ₂, (κ₃, (κ₄, (κ₅, (κ₆, tt)))))), (q₁, (q₂, (q₃, (q₄, (q₅, (q₆, tt)))))), tt, x, at), tt) (Ran-p .val r) r (ws₁, (ws₂, (ws₃, (tt, (ws₅, (tt, (tt, (tt, (tt, tt))))))))) (len₁, (len₂, (len₃, (tt, (len₅, (tt, (tt, (tt, (tt, tt)))))))))) $ says ! said $ nothing ! $ move ! (12 ∷ 0 ∷ []) $ join ! $ move ! (10 ∷ 0 ∷ []) $ join ! $ move ! (8 ∷ 0 ∷ []) $ join ! $ move ! (6 ∷ 0 ∷ []) $ join ! $ move ! (4 ∷ 0 ∷ []) $ join ! $ move ! (2 ∷ 0 ∷ []) $ join ! $
       frame ! $ nothing ! $
       owned ! (Taken-p .row) (Is (Taken-p .row)) (Taken-p .makes 𝓤 H A W) took (Taken-p .val took ∷ []) took-is $ fjoin ! $
       owned ! (Ran-p .row) (Is (Ran-p .row)) (Ran-p .makes 𝓤 H A W) r′ (Ran-p .val r′ ∷ []) r′-is $ fjoin ! $
-      owned ! (Frame-p .row) (Is (Frame-p .row)) (Frame-p .makes 𝓤 H A W) f′ (Frame-p .val f′ ∷ []) f′-is $ fjoin ! $ move ! (5 ∷ 0 ∷ []) $ fjoin ! $ move ! (4 ∷ 0 ∷ []) $ fjoin ! $ move ! (3 ∷ 0 ∷ []) $ fjoin ! $ move ! (2 ∷ 0 ∷ []) $ fjoin ! $ move ! (1 ∷ 0 ∷ []) $ fjoin ! $
+      owned ! (Frame-p .row) (Is (Frame-p .row)) (Frame-p .makes 𝓤 H A W) f′ (Frame-p .val f′ ∷ []) f′-is $ fjoin ! $ move ! (6 ∷ 0 ∷ []) $ fjoin ! $ move ! (5 ∷ 0 ∷ []) $ fjoin ! $ move ! (4 ∷ 0 ∷ []) $ fjoin ! $ move ! (3 ∷ 0 ∷ []) $ fjoin ! $ move ! (2 ∷ 0 ∷ []) $ fjoin ! $ move ! (1 ∷ 0 ∷ []) $ fjoin ! $
       frame ! $
       owned ! (Ran-p .row) (Is (Ran-p .row)) (Ran-p .makes 𝓤 H A W) r _ r-is $ done !
 
-  module _ (𝓣 : Tables 𝓤 H) (known-table-touch : Triple 𝓤 (𝓣 .C #table-touch) (Of-table-touch 𝓤 H A mem run)) (known-turn-is-live : Triple 𝓤 (𝓣 .C #turn-is-live) (Of-turn-is-live 𝓤 H A mem run)) (known-handle-handle : Triple 𝓤 (𝓣 .C #handle-handle) (Of-handle-handle 𝓤 H A mem run)) (known-turn-settle : Triple 𝓤 (𝓣 .C #turn-settle) (Of-turn-settle 𝓤 H A mem run)) (known-turn-passed : Triple 𝓤 (𝓣 .C #turn-passed) (Of-turn-passed 𝓤 H A mem run)) (l₀ l₁ l₂ l₃ l₄ l₅ l₆ l₇ l₈ l₉ l₁₀ l₁₁ l₁₂ l₁₃ l₁₄ l₁₅ l₁₆ l₁₇ l₁₈ l₁₉ l₂₀ l₂₁ l₂₂ l₂₃ l₂₄ : ℕ) where
+  module _ (𝓣 : Tables 𝓤 H) (known-table-touch : Triple 𝓤 (𝓣 .C #table-touch) (Of-table-touch 𝓤 H A mem run)) (known-turn-is-live : Triple 𝓤 (𝓣 .C #turn-is-live) (Of-turn-is-live 𝓤 H A mem run)) (known-handle-handle : Triple 𝓤 (𝓣 .C #handle-handle) (Of-handle-handle 𝓤 H A mem run)) (known-repeats-answer : Triple 𝓤 (𝓣 .C #repeats-answer) (Of-repeats-answer 𝓤 H A mem run)) (known-turn-settle : Triple 𝓤 (𝓣 .C #turn-settle) (Of-turn-settle 𝓤 H A mem run)) (known-turn-passed : Triple 𝓤 (𝓣 .C #turn-passed) (Of-turn-passed 𝓤 H A mem run)) (l₀ l₁ l₂ l₃ l₄ l₅ l₆ l₇ l₈ l₉ l₁₀ l₁₁ l₁₂ l₁₃ l₁₄ l₁₅ l₁₆ l₁₇ l₁₈ l₁₉ l₂₀ l₂₁ l₂₂ l₂₃ l₂₄ l₂₅ l₂₆ l₂₇ l₂₈ l₂₉ l₃₀ : ℕ) where
     abbrev C : Calls 𝓤 H
     C = 𝓣 .C
 
@@ -321,90 +337,112 @@ module _ {M : Type 1} (𝓤 : URA M) (H : Heap 𝓤) (A : Atoms 𝓤) (W : Given
     fm = fmOf 𝓤 H (W .laws) 𝓣
 
     abbrev En : Env 𝓤 H
-    En = (Ran-l.mir, l₀) ∷ ((sliceTy (tyRef (named 0) mut (pointee ((Array u64 5) .written)))), l₁) ∷ ((sliceTy (tyRef (named 1) mut (pointee ((Array u16 35) .written)))), l₂) ∷ ((sliceTy (tyRef (named 2) mut (pointee (Object-t.the-row .written)))), l₃) ∷ ((sliceTy (tyRef (named 3) mut (pointee (u8 .written)))), l₄) ∷ ((sliceTy (tyRef (named 4) imm (pointee (u8 .written)))), l₅) ∷ (Frame-l.mir, l₆) ∷ (Ran-l.mir, l₇) ∷ (Taken-l.mir, l₈) ∷ ((tyInt w8), l₉) ∷ ((tyInt w8), l₁₀) ∷ (Named-l.mir, l₁₁) ∷ (Move-l.mir, l₁₂) ∷ ((tyRef erased mut (pointee ((Array u64 5) .written))), l₁₃) ∷ ((sliceTy (tyRef erased mut (pointee ((Array u64 5) .written)))), l₁₄) ∷ (tyBool, l₁₅) ∷ (Ran-l.mir, l₁₆) ∷ ((tyRef erased mut (pointee ((Array u64 5) .written))), l₁₇) ∷ ((sliceTy (tyRef erased mut (pointee ((Array u64 5) .written)))), l₁₈) ∷ ((tyRef erased mut (pointee ((Array u16 35) .written))), l₁₉) ∷ ((sliceTy (tyRef erased mut (pointee ((Array u16 35) .written)))), l₂₀) ∷ ((tyRef erased mut (pointee (Object-t.the-row .written))), l₂₁) ∷ ((sliceTy (tyRef erased mut (pointee (Object-t.the-row .written)))), l₂₂) ∷ ((tyRef erased mut (pointee (u8 .written))), l₂₃) ∷ ((sliceTy (tyRef erased mut (pointee (u8 .written)))), l₂₄) ∷ []
+    En = (Ran-l.mir, l₀) ∷ ((sliceTy (tyRef (named 0) mut (pointee ((Array u64 6) .written)))), l₁) ∷ ((sliceTy (tyRef (named 1) mut (pointee ((Array u16 35) .written)))), l₂) ∷ ((sliceTy (tyRef (named 2) mut (pointee (Object-t.the-row .written)))), l₃) ∷ ((sliceTy (tyRef (named 3) imm (pointee (u8 .written)))), l₄) ∷ ((sliceTy (tyRef (named 4) mut (pointee (u8 .written)))), l₅) ∷ ((sliceTy (tyRef (named 5) imm (pointee (u8 .written)))), l₆) ∷ (Frame-l.mir, l₇) ∷ (Ran-l.mir, l₈) ∷ (Taken-l.mir, l₉) ∷ ((tyInt w8), l₁₀) ∷ ((tyInt w8), l₁₁) ∷ (Named-l.mir, l₁₂) ∷ (Move-l.mir, l₁₃) ∷ ((tyInt w64), l₁₄) ∷ ((tyRef erased mut (pointee ((Array u64 6) .written))), l₁₅) ∷ ((sliceTy (tyRef erased mut (pointee ((Array u64 6) .written)))), l₁₆) ∷ (tyBool, l₁₇) ∷ (Ran-l.mir, l₁₈) ∷ ((tyRef erased mut (pointee ((Array u64 6) .written))), l₁₉) ∷ ((sliceTy (tyRef erased mut (pointee ((Array u64 6) .written)))), l₂₀) ∷ ((tyRef erased mut (pointee ((Array u16 35) .written))), l₂₁) ∷ ((sliceTy (tyRef erased mut (pointee ((Array u16 35) .written)))), l₂₂) ∷ ((tyRef erased mut (pointee (Object-t.the-row .written))), l₂₃) ∷ ((sliceTy (tyRef erased mut (pointee (Object-t.the-row .written)))), l₂₄) ∷ ((tyRef erased imm (pointee ((Array u64 6) .written))), l₂₅) ∷ ((sliceTy (tyRef erased imm (pointee ((Array u64 6) .written)))), l₂₆) ∷ ((tyRef erased imm (pointee ((Array u16 35) .written))), l₂₇) ∷ ((sliceTy (tyRef erased imm (pointee ((Array u16 35) .written)))), l₂₈) ∷ ((tyRef erased mut (pointee (u8 .written))), l₂₉) ∷ ((sliceTy (tyRef erased mut (pointee (u8 .written)))), l₃₀) ∷ []
 
-    frees-all : (r : Ran) (ws₁ : List (List ℕ)) (ws₂ : List (List ℕ)) (ws₃ : List Object) (ws₄ : List ℕ) → ent 𝓤 (⋆ 𝓤 H A (‵ (MutSlice (named 0) κ₁ (Array u64 5) .own (at-list b₁ o₁ γ₁ ws₁) (sliceVal (b₁, o₁) n₁ ∷ [])) ∷ ‵ (flft κ₁ q₁) ∷ ‵ (MutSlice (named 1) κ₂ (Array u16 35) .own (at-list b₂ o₂ γ₂ ws₂) (sliceVal (b₂, o₂) n₂ ∷ [])) ∷ ‵ (flft κ₂ q₂) ∷ ‵ (MutSlice (named 2) κ₃ Object-t.the-row .own (at-list b₃ o₃ γ₃ ws₃) (sliceVal (b₃, o₃) n₃ ∷ [])) ∷ ‵ (flft κ₃ q₃) ∷ ‵ (MutSlice (named 3) κ₄ u8 .own (at-list b₄ o₄ γ₄ ws₄) (sliceVal (b₄, o₄) n₄ ∷ [])) ∷ ‵ (flft κ₄ q₄) ∷ ‵ (ShrSlice (named 4) κ₅ u8 .own (at-list b₅ o₅ γ₅ d) (sliceVal (b₅, o₅) n₅ ∷ [])) ∷ ‵ (flft κ₅ q₅) ∷ [])) (Post (Ran-p .val r)) → Sq W (‵ (MutSlice (named 0) κ₁ (Array u64 5) .own (at-list b₁ o₁ γ₁ ws₁) (sliceVal (b₁, o₁) n₁ ∷ [])) ∷ ‵ (flft κ₁ q₁) ∷ ‵ (MutSlice (named 0) κ₂ (Array u16 35) .own (at-list b₂ o₂ γ₂ ws₂) (sliceVal (b₂, o₂) n₂ ∷ [])) ∷ ‵ (flft κ₂ q₂) ∷ ‵ (MutSlice (named 0) κ₃ Object-t.the-row .own (at-list b₃ o₃ γ₃ ws₃) (sliceVal (b₃, o₃) n₃ ∷ [])) ∷ ‵ (flft κ₃ q₃) ∷ ‵ (MutSlice (named 0) κ₄ u8 .own (at-list b₄ o₄ γ₄ ws₄) (sliceVal (b₄, o₄) n₄ ∷ [])) ∷ ‵ (flft κ₄ q₄) ∷ ‵ (ShrSlice (named 0) κ₅ u8 .own (at-list b₅ o₅ γ₅ d) (sliceVal (b₅, o₅) n₅ ∷ [])) ∷ ‵ (flft κ₅ q₅) ∷ free 𝓤 (sliceTy (tyRef erased mut (pointee (u8 .written)))) l₂₄ (free 𝓤 (tyRef erased mut (pointee (u8 .written))) l₂₃ (free 𝓤 (sliceTy (tyRef erased mut (pointee (Object-t.the-row .written)))) l₂₂ (free 𝓤 (tyRef erased mut (pointee (Object-t.the-row .written))) l₂₁ (free 𝓤 (sliceTy (tyRef erased mut (pointee ((Array u16 35) .written)))) l₂₀ (free 𝓤 (tyRef erased mut (pointee ((Array u16 35) .written))) l₁₉ (free 𝓤 (sliceTy (tyRef erased mut (pointee ((Array u64 5) .written)))) l₁₈ (free 𝓤 (tyRef erased mut (pointee ((Array u64 5) .written))) l₁₇ (free 𝓤 Ran-l.mir l₁₆ (free 𝓤 tyBool l₁₅ (free 𝓤 (sliceTy (tyRef erased mut (pointee ((Array u64 5) .written)))) l₁₄ (free 𝓤 (tyRef erased mut (pointee ((Array u64 5) .written))) l₁₃ (free 𝓤 Move-l.mir l₁₂ (free 𝓤 Named-l.mir l₁₁ (free 𝓤 (tyInt w8) l₁₀ (free 𝓤 (tyInt w8) l₉ (full 𝓤 Taken-l.mir l₈ (Taken-p .val took) (full 𝓤 Ran-l.mir l₇ (Ran-p .val r′) (full 𝓤 Frame-l.mir l₆ (Frame-p .val f′) (full 𝓤 (sliceTy (tyRef (named 4) imm (pointee (u8 .written)))) l₅ (sliceVal (b₅, o₅) n₅) (full 𝓤 (sliceTy (tyRef (named 3) mut (pointee (u8 .written)))) l₄ (sliceVal (b₄, o₄) n₄) (full 𝓤 (sliceTy (tyRef (named 2) mut (pointee (Object-t.the-row .written)))) l₃ (sliceVal (b₃, o₃) n₃) (full 𝓤 (sliceTy (tyRef (named 1) mut (pointee ((Array u16 35) .written)))) l₂ (sliceVal (b₂, o₂) n₂) (full 𝓤 (sliceTy (tyRef (named 0) mut (pointee ((Array u64 5) .written)))) l₁ (sliceVal (b₁, o₁) n₁) (full 𝓤 Ran-l.mir l₀ (Ran-p .val r) ([])))))))))))))))))))))))))) (frees En (prop (Post (Ran-p .val r))))
-    frees-all r ws₁ ws₂ ws₃ ws₄ ends =
-        forget ! 42 refl $ forget ! 44 refl $ forget ! 46 refl $ forget ! 48 refl $ forget ! 50 refl $ forget ! 52 refl $ forget ! 54 refl $ forget ! 56 refl $ forget ! 58 refl $ move ! (58 ∷ 59 ∷ []) $ free1 ! $ move ! (56 ∷ 57 ∷ []) $ free1 ! $ move ! (54 ∷ 55 ∷ []) $ free1 ! $ move ! (52 ∷ 53 ∷ []) $ free1 ! $ move ! (50 ∷ 51 ∷ []) $ free1 ! $ move ! (48 ∷ 49 ∷ []) $ free1 ! $ move ! (46 ∷ 47 ∷ []) $ free1 ! $ move ! (44 ∷ 45 ∷ []) $ free1 ! $ move ! (42 ∷ 43 ∷ []) $ free1 ! $ move ! (40 ∷ 41 ∷ []) $ free1 ! $ move ! (38 ∷ 39 ∷ []) $ free1 ! $ move ! (36 ∷ 37 ∷ []) $ free1 ! $ move ! (34 ∷ 35 ∷ []) $ free1 ! $ move ! (32 ∷ 33 ∷ []) $ free1 ! $ move ! (30 ∷ 31 ∷ []) $ free1 ! $ move ! (28 ∷ 29 ∷ []) $ free1 ! $ move ! (26 ∷ 27 ∷ []) $ free1 ! $ move ! (24 ∷ 25 ∷ []) $ free1 ! $ move ! (22 ∷ 23 ∷ []) $ free1 ! $ move ! (20 ∷ 21 ∷ []) $ free1 ! $ move ! (18 ∷ 19 ∷ []) $ free1 ! $ move ! (16 ∷ 17 ∷ []) $ free1 ! $ move ! (14 ∷ 15 ∷ []) $ free1 ! $ move ! (12 ∷ 13 ∷ []) $ free1 ! $ move ! (10 ∷ 11 ∷ []) $ free1 ! $ free0 ! $
+    frees-all : (r : Ran) (ws₁ : List (List ℕ)) (ws₂ : List (List ℕ)) (ws₃ : List Object) (ws₅ : List ℕ) → ent 𝓤 (⋆ 𝓤 H A (‵ (MutSlice (named 0) κ₁ (Array u64 6) .own (at-list b₁ o₁ γ₁ ws₁) (sliceVal (b₁, o₁) n₁ ∷ [])) ∷ ‵ (flft κ₁ q₁) ∷ ‵ (MutSlice (named 1) κ₂ (Array u16 35) .own (at-list b₂ o₂ γ₂ ws₂) (sliceVal (b₂, o₂) n₂ ∷ [])) ∷ ‵ (flft κ₂ q₂) ∷ ‵ (MutSlice (named 2) κ₃ Object-t.the-row .own (at-list b₃ o₃ γ₃ ws₃) (sliceVal (b₃, o₃) n₃ ∷ [])) ∷ ‵ (flft κ₃ q₃) ∷ ‵ (ShrSlice (named 3) κ₄ u8 .own (at-list b₄ o₄ γ₄ held) (sliceVal (b₄, o₄) n₄ ∷ [])) ∷ ‵ (flft κ₄ q₄) ∷ ‵ (MutSlice (named 4) κ₅ u8 .own (at-list b₅ o₅ γ₅ ws₅) (sliceVal (b₅, o₅) n₅ ∷ [])) ∷ ‵ (flft κ₅ q₅) ∷ ‵ (ShrSlice (named 5) κ₆ u8 .own (at-list b₆ o₆ γ₆ d) (sliceVal (b₆, o₆) n₆ ∷ [])) ∷ ‵ (flft κ₆ q₆) ∷ [])) (Post (Ran-p .val r)) → Sq W (‵ (MutSlice (named 0) κ₁ (Array u64 6) .own (at-list b₁ o₁ γ₁ ws₁) (sliceVal (b₁, o₁) n₁ ∷ [])) ∷ ‵ (flft κ₁ q₁) ∷ ‵ (MutSlice (named 0) κ₂ (Array u16 35) .own (at-list b₂ o₂ γ₂ ws₂) (sliceVal (b₂, o₂) n₂ ∷ [])) ∷ ‵ (flft κ₂ q₂) ∷ ‵ (MutSlice (named 0) κ₃ Object-t.the-row .own (at-list b₃ o₃ γ₃ ws₃) (sliceVal (b₃, o₃) n₃ ∷ [])) ∷ ‵ (flft κ₃ q₃) ∷ ‵ (ShrSlice (named 0) κ₄ u8 .own (at-list b₄ o₄ γ₄ held) (sliceVal (b₄, o₄) n₄ ∷ [])) ∷ ‵ (flft κ₄ q₄) ∷ ‵ (MutSlice (named 0) κ₅ u8 .own (at-list b₅ o₅ γ₅ ws₅) (sliceVal (b₅, o₅) n₅ ∷ [])) ∷ ‵ (flft κ₅ q₅) ∷ ‵ (ShrSlice (named 0) κ₆ u8 .own (at-list b₆ o₆ γ₆ d) (sliceVal (b₆, o₆) n₆ ∷ [])) ∷ ‵ (flft κ₆ q₆) ∷ free 𝓤 (sliceTy (tyRef erased mut (pointee (u8 .written)))) l₃₀ (free 𝓤 (tyRef erased mut (pointee (u8 .written))) l₂₉ (free 𝓤 (sliceTy (tyRef erased imm (pointee ((Array u16 35) .written)))) l₂₈ (free 𝓤 (tyRef erased imm (pointee ((Array u16 35) .written))) l₂₇ (free 𝓤 (sliceTy (tyRef erased imm (pointee ((Array u64 6) .written)))) l₂₆ (free 𝓤 (tyRef erased imm (pointee ((Array u64 6) .written))) l₂₅ (free 𝓤 (sliceTy (tyRef erased mut (pointee (Object-t.the-row .written)))) l₂₄ (free 𝓤 (tyRef erased mut (pointee (Object-t.the-row .written))) l₂₃ (free 𝓤 (sliceTy (tyRef erased mut (pointee ((Array u16 35) .written)))) l₂₂ (free 𝓤 (tyRef erased mut (pointee ((Array u16 35) .written))) l₂₁ (free 𝓤 (sliceTy (tyRef erased mut (pointee ((Array u64 6) .written)))) l₂₀ (free 𝓤 (tyRef erased mut (pointee ((Array u64 6) .written))) l₁₉ (free 𝓤 Ran-l.mir l₁₈ (free 𝓤 tyBool l₁₇ (free 𝓤 (sliceTy (tyRef erased mut (pointee ((Array u64 6) .written)))) l₁₆ (free 𝓤 (tyRef erased mut (pointee ((Array u64 6) .written))) l₁₅ (free 𝓤 (tyInt w64) l₁₄ (free 𝓤 Move-l.mir l₁₃ (free 𝓤 Named-l.mir l₁₂ (free 𝓤 (tyInt w8) l₁₁ (free 𝓤 (tyInt w8) l₁₀ (full 𝓤 Taken-l.mir l₉ (Taken-p .val took) (full 𝓤 Ran-l.mir l₈ (Ran-p .val r′) (full 𝓤 Frame-l.mir l₇ (Frame-p .val f′) (full 𝓤 (sliceTy (tyRef (named 5) imm (pointee (u8 .written)))) l₆ (sliceVal (b₆, o₆) n₆) (full 𝓤 (sliceTy (tyRef (named 4) mut (pointee (u8 .written)))) l₅ (sliceVal (b₅, o₅) n₅) (full 𝓤 (sliceTy (tyRef (named 3) imm (pointee (u8 .written)))) l₄ (sliceVal (b₄, o₄) n₄) (full 𝓤 (sliceTy (tyRef (named 2) mut (pointee (Object-t.the-row .written)))) l₃ (sliceVal (b₃, o₃) n₃) (full 𝓤 (sliceTy (tyRef (named 1) mut (pointee ((Array u16 35) .written)))) l₂ (sliceVal (b₂, o₂) n₂) (full 𝓤 (sliceTy (tyRef (named 0) mut (pointee ((Array u64 6) .written)))) l₁ (sliceVal (b₁, o₁) n₁) (full 𝓤 Ran-l.mir l₀ (Ran-p .val r) ([])))))))))))))))))))))))))))))))) (frees En (prop (Post (Ran-p .val r))))
+    frees-all r ws₁ ws₂ ws₃ ws₅ ends =
+        forget ! 54 refl $ forget ! 56 refl $ forget ! 58 refl $ forget ! 60 refl $ forget ! 62 refl $ forget ! 64 refl $ forget ! 66 refl $ forget ! 68 refl $ forget ! 70 refl $ forget ! 72 refl $ move ! (72 ∷ 73 ∷ []) $ free1 ! $ move ! (70 ∷ 71 ∷ []) $ free1 ! $ move ! (68 ∷ 69 ∷ []) $ free1 ! $ move ! (66 ∷ 67 ∷ []) $ free1 ! $ move ! (64 ∷ 65 ∷ []) $ free1 ! $ move ! (62 ∷ 63 ∷ []) $ free1 ! $ move ! (60 ∷ 61 ∷ []) $ free1 ! $ move ! (58 ∷ 59 ∷ []) $ free1 ! $ move ! (56 ∷ 57 ∷ []) $ free1 ! $ move ! (54 ∷ 55 ∷ []) $ free1 ! $ move ! (52 ∷ 53 ∷ []) $ free1 ! $ move ! (50 ∷ 51 ∷ []) $ free1 ! $ move ! (48 ∷ 49 ∷ []) $ free1 ! $ move ! (46 ∷ 47 ∷ []) $ free1 ! $ move ! (44 ∷ 45 ∷ []) $ free1 ! $ move ! (42 ∷ 43 ∷ []) $ free1 ! $ move ! (40 ∷ 41 ∷ []) $ free1 ! $ move ! (38 ∷ 39 ∷ []) $ free1 ! $ move ! (36 ∷ 37 ∷ []) $ free1 ! $ move ! (34 ∷ 35 ∷ []) $ free1 ! $ move ! (32 ∷ 33 ∷ []) $ free1 ! $ move ! (30 ∷ 31 ∷ []) $ free1 ! $ move ! (28 ∷ 29 ∷ []) $ free1 ! $ move ! (26 ∷ 27 ∷ []) $ free1 ! $ move ! (24 ∷ 25 ∷ []) $ free1 ! $ move ! (22 ∷ 23 ∷ []) $ free1 ! $ move ! (20 ∷ 21 ∷ []) $ free1 ! $ move ! (18 ∷ 19 ∷ []) $ free1 ! $ move ! (16 ∷ 17 ∷ []) $ free1 ! $ move ! (14 ∷ 15 ∷ []) $ free1 ! $ move ! (12 ∷ 13 ∷ []) $ free1 ! $ free0 ! $
         by ! ends
 
-    part-8-0 : (len-5-sessions : length (touchedRows (sessions) (f′ .«session_id») (f′ .time)) ≡ n₁) → (is-5 : Is (Named-p .row) (namedOf (sessions) (f′ .«session_id»)) (Named-p .val (namedOf (sessions) (f′ .«session_id»)) ∷ [])) → (is-6 : Is (bool-p .row) (isLive (namedOf (sessions) (f′ .«session_id»))) (bool-p .val (isLive (namedOf (sessions) (f′ .«session_id»))) ∷ [])) → (c-7 : isLive (namedOf (sessions) (f′ .«session_id»)) ≡ true) → (len-7·yes·7-sessions : length (handledTables (took .asked) (lent ((touchedRows (sessions) (f′ .«session_id») (f′ .time))) (streams) (objects)) (f′ .«session_id») (f′ .«stream_id») .sessions) ≡ n₁) → (len-7·yes·7-streams : length (handledTables (took .asked) (lent ((touchedRows (sessions) (f′ .«session_id») (f′ .time))) (streams) (objects)) (f′ .«session_id») (f′ .«stream_id») .streams) ≡ n₂) → (len-7·yes·7-objects : length (handledTables (took .asked) (lent ((touchedRows (sessions) (f′ .«session_id») (f′ .time))) (streams) (objects)) (f′ .«session_id») (f′ .«stream_id») .objects) ≡ n₃) → (is-7·yes·7 : Is (Move-p .row) (handledMove (took .asked) (lent ((touchedRows (sessions) (f′ .«session_id») (f′ .time))) (streams) (objects)) (d) (f′ .«session_id») (f′ .«stream_id») (took .body)) (Move-p .val (handledMove (took .asked) (lent ((touchedRows (sessions) (f′ .«session_id») (f′ .time))) (streams) (objects)) (d) (f′ .«session_id») (f′ .«stream_id») (took .body)) ∷ [])) → (asks-7·yes·10 : (r′ .wrote) ≤ 18446744073709551600) → (len-7·yes·10-out : length (putBytes (out) (r′ .wrote) (moveBytes (f′ .«session_id») (f′ .«stream_id») (handledMove (took .asked) (lent ((touchedRows (sessions) (f′ .«session_id») (f′ .time))) (streams) (objects)) (d) (f′ .«session_id») (f′ .«stream_id») (took .body)))) ≡ n₄) → (is-7·yes·10 : Is (Ran-p .row) (settled f′ (r′ .next) (r′ .wrote) (handledMove (took .asked) (lent ((touchedRows (sessions) (f′ .«session_id») (f′ .time))) (streams) (objects)) (d) (f′ .«session_id») (f′ .«stream_id») (took .body)) (took .at)) (Ran-p .val (settled f′ (r′ .next) (r′ .wrote) (handledMove (took .asked) (lent ((touchedRows (sessions) (f′ .«session_id») (f′ .time))) (streams) (objects)) (d) (f′ .«session_id») (f′ .«stream_id») (took .body)) (took .at)) ∷ [])) → Sq W (‵ (MutSlice (named 0) κ₁ (Array u64 5) .own (at-list b₁ o₁ γ₁ (handledTables (took .asked) (lent ((touchedRows (sessions) (f′ .«session_id») (f′ .time))) (streams) (objects)) (f′ .«session_id») (f′ .«stream_id») .sessions)) (sliceVal (b₁, o₁) n₁ ∷ [])) ∷ ‵ (flft κ₁ q₁) ∷ ‵ (MutSlice (named 0) κ₂ (Array u16 35) .own (at-list b₂ o₂ γ₂ (handledTables (took .asked) (lent ((touchedRows (sessions) (f′ .«session_id») (f′ .time))) (streams) (objects)) (f′ .«session_id») (f′ .«stream_id») .streams)) (sliceVal (b₂, o₂) n₂ ∷ [])) ∷ ‵ (flft κ₂ q₂) ∷ ‵ (MutSlice (named 0) κ₃ Object-t.the-row .own (at-list b₃ o₃ γ₃ (handledTables (took .asked) (lent ((touchedRows (sessions) (f′ .«session_id») (f′ .time))) (streams) (objects)) (f′ .«session_id») (f′ .«stream_id») .objects)) (sliceVal (b₃, o₃) n₃ ∷ [])) ∷ ‵ (flft κ₃ q₃) ∷ ‵ (MutSlice (named 0) κ₄ u8 .own (at-list b₄ o₄ γ₄ (putBytes (out) (r′ .wrote) (moveBytes (f′ .«session_id») (f′ .«stream_id») (handledMove (took .asked) (lent ((touchedRows (sessions) (f′ .«session_id») (f′ .time))) (streams) (objects)) (d) (f′ .«session_id») (f′ .«stream_id») (took .body))))) (sliceVal (b₄, o₄) n₄ ∷ [])) ∷ ‵ (flft κ₄ q₄) ∷ ‵ (ShrSlice (named 0) κ₅ u8 .own (at-list b₅ o₅ γ₅ d) (sliceVal (b₅, o₅) n₅ ∷ [])) ∷ ‵ (flft κ₅ q₅) ∷ full 𝓤 (sliceTy (tyRef erased mut (pointee (u8 .written)))) l₂₄ (sliceVal (b₄, o₄) n₄) (full 𝓤 (tyRef erased mut (pointee (u8 .written))) l₂₃ (vptr b₄ o₄) (full 𝓤 (sliceTy (tyRef erased mut (pointee (Object-t.the-row .written)))) l₂₂ (sliceVal (b₃, o₃) n₃) (full 𝓤 (tyRef erased mut (pointee (Object-t.the-row .written))) l₂₁ (vptr b₃ o₃) (full 𝓤 (sliceTy (tyRef erased mut (pointee ((Array u16 35) .written)))) l₂₀ (sliceVal (b₂, o₂) n₂) (full 𝓤 (tyRef erased mut (pointee ((Array u16 35) .written))) l₁₉ (vptr b₂ o₂) (full 𝓤 (sliceTy (tyRef erased mut (pointee ((Array u64 5) .written)))) l₁₈ (sliceVal (b₁, o₁) n₁) (full 𝓤 (tyRef erased mut (pointee ((Array u64 5) .written))) l₁₇ (vptr b₁ o₁) (full 𝓤 Ran-l.mir l₁₆ (Ran-p .val (settled f′ (r′ .next) (r′ .wrote) (handledMove (took .asked) (lent ((touchedRows (sessions) (f′ .«session_id») (f′ .time))) (streams) (objects)) (d) (f′ .«session_id») (f′ .«stream_id») (took .body)) (took .at))) (full 𝓤 tyBool l₁₅ (bool-p .val (isLive (namedOf (sessions) (f′ .«session_id»)))) (full 𝓤 (sliceTy (tyRef erased mut (pointee ((Array u64 5) .written)))) l₁₄ (sliceVal (b₁, o₁) n₁) (full 𝓤 (tyRef erased mut (pointee ((Array u64 5) .written))) l₁₃ (vptr b₁ o₁) (full 𝓤 Move-l.mir l₁₂ (Move-p .val (handledMove (took .asked) (lent ((touchedRows (sessions) (f′ .«session_id») (f′ .time))) (streams) (objects)) (d) (f′ .«session_id») (f′ .«stream_id») (took .body))) (full 𝓤 Named-l.mir l₁₁ (Named-p .val (namedOf (sessions) (f′ .«session_id»))) (full 𝓤 (tyInt w8) l₁₀ (u8-p .val (f′ .«stream_id»)) (full 𝓤 (tyInt w8) l₉ (u8-p .val (f′ .«session_id»)) (full 𝓤 Taken-l.mir l₈ (Taken-p .val took) (full 𝓤 Ran-l.mir l₇ (Ran-p .val r′) (full 𝓤 Frame-l.mir l₆ (Frame-p .val f′) (full 𝓤 (sliceTy (tyRef (named 4) imm (pointee (u8 .written)))) l₅ (sliceVal (b₅, o₅) n₅) (full 𝓤 (sliceTy (tyRef (named 3) mut (pointee (u8 .written)))) l₄ (sliceVal (b₄, o₄) n₄) (full 𝓤 (sliceTy (tyRef (named 2) mut (pointee (Object-t.the-row .written)))) l₃ (sliceVal (b₃, o₃) n₃) (full 𝓤 (sliceTy (tyRef (named 1) mut (pointee ((Array u16 35) .written)))) l₂ (sliceVal (b₂, o₂) n₂) (full 𝓤 (sliceTy (tyRef (named 0) mut (pointee ((Array u64 5) .written)))) l₁ (sliceVal (b₁, o₁) n₁) (free 𝓤 Ran-l.mir l₀ ([])))))))))))))))))))))))))) (runs C Λ En mir.t-8 (atRet En Post))
-    part-8-0 len-5-sessions is-5 is-6 c-7 len-7·yes·7-sessions len-7·yes·7-streams len-7·yes·7-objects is-7·yes·7 asks-7·yes·10 len-7·yes·10-out is-7·yes·10 =
-        assigns ! (of-opd ! (load ! (from ! (stop !)) (look ! 26 refl))) (from ! (stop !)) (init ! 58 refl (Ran-p .typed 𝓤 H A W (settled f′ (r′ .next) (r′ .wrote) (handledMove (took .asked) (lent ((touchedRows (sessions) (f′ .«session_id») (f′ .time))) (streams) (objects)) (d) (f′ .«session_id») (f′ .«stream_id») (took .body)) (took .at)) is-7·yes·10)) $
-        returns ! (look ! 58 refl) $ forget ! 10 refl $ forget ! 12 refl $ forget ! 14 refl $ forget ! 16 refl $ forget ! 18 refl $ forget ! 20 refl $ forget ! 22 refl $ forget ! 24 refl $ forget ! 26 refl $ forget ! 28 refl $ forget ! 30 refl $ forget ! 32 refl $ forget ! 34 refl $ forget ! 36 refl $ forget ! 38 refl $ forget ! 40 refl $
-        frees-all (settled f′ (r′ .next) (r′ .wrote) (handledMove (took .asked) (lent ((touchedRows (sessions) (f′ .«session_id») (f′ .time))) (streams) (objects)) (d) (f′ .«session_id») (f′ .«stream_id») (took .body)) (took .at)) (handledTables (took .asked) (lent ((touchedRows (sessions) (f′ .«session_id») (f′ .time))) (streams) (objects)) (f′ .«session_id») (f′ .«stream_id») .sessions) (handledTables (took .asked) (lent ((touchedRows (sessions) (f′ .«session_id») (f′ .time))) (streams) (objects)) (f′ .«session_id») (f′ .«stream_id») .streams) (handledTables (took .asked) (lent ((touchedRows (sessions) (f′ .«session_id») (f′ .time))) (streams) (objects)) (f′ .«session_id») (f′ .«stream_id») .objects) (putBytes (out) (r′ .wrote) (moveBytes (f′ .«session_id») (f′ .«stream_id») (handledMove (took .asked) (lent ((touchedRows (sessions) (f′ .«session_id») (f′ .time))) (streams) (objects)) (d) (f′ .«session_id») (f′ .«stream_id») (took .body)))) (exits (settled f′ (r′ .next) (r′ .wrote) (handledMove (took .asked) (lent ((touchedRows (sessions) (f′ .«session_id») (f′ .time))) (streams) (objects)) (d) (f′ .«session_id») (f′ .«stream_id») (took .body)) (took .at)) (handledTables (took .asked) (lent ((touchedRows (sessions) (f′ .«session_id») (f′ .time))) (streams) (objects)) (f′ .«session_id») (f′ .«stream_id») .sessions) (handledTables (took .asked) (lent ((touchedRows (sessions) (f′ .«session_id») (f′ .time))) (streams) (objects)) (f′ .«session_id») (f′ .«stream_id») .streams) (handledTables (took .asked) (lent ((touchedRows (sessions) (f′ .«session_id») (f′ .time))) (streams) (objects)) (f′ .«session_id») (f′ .«stream_id») .objects) (putBytes (out) (r′ .wrote) (moveBytes (f′ .«session_id») (f′ .«stream_id») (handledMove (took .asked) (lent ((touchedRows (sessions) (f′ .«session_id») (f′ .time))) (streams) (objects)) (d) (f′ .«session_id») (f′ .«stream_id») (took .body)))) (as-left out _ (r′ .wrote) (left true) (left live) (if-true left _ c-7) (handled-written out (r′ .wrote) f′ (took .asked) touched d (took .body))) is-7·yes·10 len-7·yes·7-sessions len-7·yes·7-streams len-7·yes·7-objects len-7·yes·10-out)
+    part-8-0 : (len-5-sessions : length (touchedRows (sessions) (f′ .«session_id») (f′ .time)) ≡ n₁) → (is-5 : Is (Named-p .row) (namedOf (sessions) (f′ .«session_id»)) (Named-p .val (namedOf (sessions) (f′ .«session_id»)) ∷ [])) → (is-6 : Is (bool-p .row) (isLive (namedOf (sessions) (f′ .«session_id»))) (bool-p .val (isLive (namedOf (sessions) (f′ .«session_id»))) ∷ [])) → (c-7 : isLive (namedOf (sessions) (f′ .«session_id»)) ≡ true) → (len-7·yes·7-sessions : length (handledRows (took .asked) (rows ((touchedRows (sessions) (f′ .«session_id») (f′ .time))) (streams) (objects)) (f′ .«session_id») (f′ .«stream_id») .sessions) ≡ n₁) → (len-7·yes·7-streams : length (handledRows (took .asked) (rows ((touchedRows (sessions) (f′ .«session_id») (f′ .time))) (streams) (objects)) (f′ .«session_id») (f′ .«stream_id») .streams) ≡ n₂) → (len-7·yes·7-objects : length (handledRows (took .asked) (rows ((touchedRows (sessions) (f′ .«session_id») (f′ .time))) (streams) (objects)) (f′ .«session_id») (f′ .«stream_id») .objects) ≡ n₃) → (is-7·yes·7 : Is (Move-p .row) (handledMove (took .asked) (rows ((touchedRows (sessions) (f′ .«session_id») (f′ .time))) (streams) (objects)) (d) (f′ .«session_id») (f′ .«stream_id») (took .body)) (Move-p .val (handledMove (took .asked) (rows ((touchedRows (sessions) (f′ .«session_id») (f′ .time))) (streams) (objects)) (d) (f′ .«session_id») (f′ .«stream_id») (took .body)) ∷ [])) → (asks-7·yes·14 : f′ .room ≤ 9223372036854775807) → (len-7·yes·14-out : length (putReplies (f′ .room) (out) (r′ .wrote) (repliesBy f′ ((handledRows (took .asked) (rows ((touchedRows (sessions) (f′ .«session_id») (f′ .time))) (streams) (objects)) (f′ .«session_id») (f′ .«stream_id») .sessions)) ((handledRows (took .asked) (rows ((touchedRows (sessions) (f′ .«session_id») (f′ .time))) (streams) (objects)) (f′ .«session_id») (f′ .«stream_id») .streams)) (held) (handledMove (took .asked) (rows ((touchedRows (sessions) (f′ .«session_id») (f′ .time))) (streams) (objects)) (d) (f′ .«session_id») (f′ .«stream_id») (took .body)))) ≡ n₅) → (is-7·yes·14 : Is (u64-p .row) (countReplies (f′ .room) (r′ .wrote) (repliesBy f′ ((handledRows (took .asked) (rows ((touchedRows (sessions) (f′ .«session_id») (f′ .time))) (streams) (objects)) (f′ .«session_id») (f′ .«stream_id») .sessions)) ((handledRows (took .asked) (rows ((touchedRows (sessions) (f′ .«session_id») (f′ .time))) (streams) (objects)) (f′ .«session_id») (f′ .«stream_id») .streams)) (held) (handledMove (took .asked) (rows ((touchedRows (sessions) (f′ .«session_id») (f′ .time))) (streams) (objects)) (d) (f′ .«session_id») (f′ .«stream_id») (took .body)))) (u64-p .val (countReplies (f′ .room) (r′ .wrote) (repliesBy f′ ((handledRows (took .asked) (rows ((touchedRows (sessions) (f′ .«session_id») (f′ .time))) (streams) (objects)) (f′ .«session_id») (f′ .«stream_id») .sessions)) ((handledRows (took .asked) (rows ((touchedRows (sessions) (f′ .«session_id») (f′ .time))) (streams) (objects)) (f′ .«session_id») (f′ .«stream_id») .streams)) (held) (handledMove (took .asked) (rows ((touchedRows (sessions) (f′ .«session_id») (f′ .time))) (streams) (objects)) (d) (f′ .«session_id») (f′ .«stream_id») (took .body)))) ∷ [])) → (is-7·yes·15 : Is (Ran-p .row) (settled (r′ .next) (took .at) (countReplies (f′ .room) (r′ .wrote) (repliesBy f′ ((handledRows (took .asked) (rows ((touchedRows (sessions) (f′ .«session_id») (f′ .time))) (streams) (objects)) (f′ .«session_id») (f′ .«stream_id») .sessions)) ((handledRows (took .asked) (rows ((touchedRows (sessions) (f′ .«session_id») (f′ .time))) (streams) (objects)) (f′ .«session_id») (f′ .«stream_id») .streams)) (held) (handledMove (took .asked) (rows ((touchedRows (sessions) (f′ .«session_id») (f′ .time))) (streams) (objects)) (d) (f′ .«session_id») (f′ .«stream_id») (took .body)))) (handledMove (took .asked) (rows ((touchedRows (sessions) (f′ .«session_id») (f′ .time))) (streams) (objects)) (d) (f′ .«session_id») (f′ .«stream_id») (took .body))) (Ran-p .val (settled (r′ .next) (took .at) (countReplies (f′ .room) (r′ .wrote) (repliesBy f′ ((handledRows (took .asked) (rows ((touchedRows (sessions) (f′ .«session_id») (f′ .time))) (streams) (objects)) (f′ .«session_id») (f′ .«stream_id») .sessions)) ((handledRows (took .asked) (rows ((touchedRows (sessions) (f′ .«session_id») (f′ .time))) (streams) (objects)) (f′ .«session_id») (f′ .«stream_id») .streams)) (held) (handledMove (took .asked) (rows ((touchedRows (sessions) (f′ .«session_id») (f′ .time))) (streams) (objects)) (d) (f′ .«session_id») (f′ .«stream_id») (took .body)))) (handledMove (took .asked) (rows ((touchedRows (sessions) (f′ .«session_id») (f′ .time))) (streams) (objects)) (d) (f′ .«session_id») (f′ .«stream_id») (took .body))) ∷ [])) → Sq W (‵ (MutSlice (named 0) κ₁ (Array u64 6) .own (at-list b₁ o₁ γ₁ (handledRows (took .asked) (rows ((touchedRows (sessions) (f′ .«session_id») (f′ .time))) (streams) (objects)) (f′ .«session_id») (f′ .«stream_id») .sessions)) (sliceVal (b₁, o₁) n₁ ∷ [])) ∷ ‵ (flft κ₁ q₁) ∷ ‵ (MutSlice (named 0) κ₂ (Array u16 35) .own (at-list b₂ o₂ γ₂ (handledRows (took .asked) (rows ((touchedRows (sessions) (f′ .«session_id») (f′ .time))) (streams) (objects)) (f′ .«session_id») (f′ .«stream_id») .streams)) (sliceVal (b₂, o₂) n₂ ∷ [])) ∷ ‵ (flft κ₂ q₂) ∷ ‵ (MutSlice (named 0) κ₃ Object-t.the-row .own (at-list b₃ o₃ γ₃ (handledRows (took .asked) (rows ((touchedRows (sessions) (f′ .«session_id») (f′ .time))) (streams) (objects)) (f′ .«session_id») (f′ .«stream_id») .objects)) (sliceVal (b₃, o₃) n₃ ∷ [])) ∷ ‵ (flft κ₃ q₃) ∷ ‵ (ShrSlice (named 0) κ₄ u8 .own (at-list b₄ o₄ γ₄ held) (sliceVal (b₄, o₄) n₄ ∷ [])) ∷ ‵ (flft κ₄ q₄) ∷ ‵ (MutSlice (named 0) κ₅ u8 .own (at-list b₅ o₅ γ₅ (putReplies (f′ .room) (out) (r′ .wrote) (repliesBy f′ ((handledRows (took .asked) (rows ((touchedRows (sessions) (f′ .«session_id») (f′ .time))) (streams) (objects)) (f′ .«session_id») (f′ .«stream_id») .sessions)) ((handledRows (took .asked) (rows ((touchedRows (sessions) (f′ .«session_id») (f′ .time))) (streams) (objects)) (f′ .«session_id») (f′ .«stream_id») .streams)) (held) (handledMove (took .asked) (rows ((touchedRows (sessions) (f′ .«session_id») (f′ .time))) (streams) (objects)) (d) (f′ .«session_id») (f′ .«stream_id») (took .body))))) (sliceVal (b₅, o₅) n₅ ∷ [])) ∷ ‵ (flft κ₅ q₅) ∷ ‵ (ShrSlice (named 0) κ₆ u8 .own (at-list b₆ o₆ γ₆ d) (sliceVal (b₆, o₆) n₆ ∷ [])) ∷ ‵ (flft κ₆ q₆) ∷ full 𝓤 (sliceTy (tyRef erased mut (pointee (u8 .written)))) l₃₀ (sliceVal (b₅, o₅) n₅) (full 𝓤 (tyRef erased mut (pointee (u8 .written))) l₂₉ (vptr b₅ o₅) (full 𝓤 (sliceTy (tyRef erased imm (pointee ((Array u16 35) .written)))) l₂₈ (sliceVal (b₂, o₂) n₂) (full 𝓤 (tyRef erased imm (pointee ((Array u16 35) .written))) l₂₇ (vptr b₂ o₂) (full 𝓤 (sliceTy (tyRef erased imm (pointee ((Array u64 6) .written)))) l₂₆ (sliceVal (b₁, o₁) n₁) (full 𝓤 (tyRef erased imm (pointee ((Array u64 6) .written))) l₂₅ (vptr b₁ o₁) (full 𝓤 (sliceTy (tyRef erased mut (pointee (Object-t.the-row .written)))) l₂₄ (sliceVal (b₃, o₃) n₃) (full 𝓤 (tyRef erased mut (pointee (Object-t.the-row .written))) l₂₃ (vptr b₃ o₃) (full 𝓤 (sliceTy (tyRef erased mut (pointee ((Array u16 35) .written)))) l₂₂ (sliceVal (b₂, o₂) n₂) (full 𝓤 (tyRef erased mut (pointee ((Array u16 35) .written))) l₂₁ (vptr b₂ o₂) (full 𝓤 (sliceTy (tyRef erased mut (pointee ((Array u64 6) .written)))) l₂₀ (sliceVal (b₁, o₁) n₁) (full 𝓤 (tyRef erased mut (pointee ((Array u64 6) .written))) l₁₉ (vptr b₁ o₁) (full 𝓤 Ran-l.mir l₁₈ (Ran-p .val (settled (r′ .next) (took .at) (countReplies (f′ .room) (r′ .wrote) (repliesBy f′ ((handledRows (took .asked) (rows ((touchedRows (sessions) (f′ .«session_id») (f′ .time))) (streams) (objects)) (f′ .«session_id») (f′ .«stream_id») .sessions)) ((handledRows (took .asked) (rows ((touchedRows (sessions) (f′ .«session_id») (f′ .time))) (streams) (objects)) (f′ .«session_id») (f′ .«stream_id») .streams)) (held) (handledMove (took .asked) (rows ((touchedRows (sessions) (f′ .«session_id») (f′ .time))) (streams) (objects)) (d) (f′ .«session_id») (f′ .«stream_id») (took .body)))) (handledMove (took .asked) (rows ((touchedRows (sessions) (f′ .«session_id») (f′ .time))) (streams) (objects)) (d) (f′ .«session_id») (f′ .«stream_id») (took .body)))) (full 𝓤 tyBool l₁₇ (bool-p .val (isLive (namedOf (sessions) (f′ .«session_id»)))) (full 𝓤 (sliceTy (tyRef erased mut (pointee ((Array u64 6) .written)))) l₁₆ (sliceVal (b₁, o₁) n₁) (full 𝓤 (tyRef erased mut (pointee ((Array u64 6) .written))) l₁₅ (vptr b₁ o₁) (full 𝓤 (tyInt w64) l₁₄ (u64-p .val (countReplies (f′ .room) (r′ .wrote) (repliesBy f′ ((handledRows (took .asked) (rows ((touchedRows (sessions) (f′ .«session_id») (f′ .time))) (streams) (objects)) (f′ .«session_id») (f′ .«stream_id») .sessions)) ((handledRows (took .asked) (rows ((touchedRows (sessions) (f′ .«session_id») (f′ .time))) (streams) (objects)) (f′ .«session_id») (f′ .«stream_id») .streams)) (held) (handledMove (took .asked) (rows ((touchedRows (sessions) (f′ .«session_id») (f′ .time))) (streams) (objects)) (d) (f′ .«session_id») (f′ .«stream_id») (took .body))))) (full 𝓤 Move-l.mir l₁₃ (Move-p .val (handledMove (took .asked) (rows ((touchedRows (sessions) (f′ .«session_id») (f′ .time))) (streams) (objects)) (d) (f′ .«session_id») (f′ .«stream_id») (took .body))) (full 𝓤 Named-l.mir l₁₂ (Named-p .val (namedOf (sessions) (f′ .«session_id»))) (full 𝓤 (tyInt w8) l₁₁ (u8-p .val (f′ .«stream_id»)) (full 𝓤 (tyInt w8) l₁₀ (u8-p .val (f′ .«session_id»)) (full 𝓤 Taken-l.mir l₉ (Taken-p .val took) (full 𝓤 Ran-l.mir l₈ (Ran-p .val r′) (full 𝓤 Frame-l.mir l₇ (Frame-p .val f′) (full 𝓤 (sliceTy (tyRef (named 5) imm (pointee (u8 .written)))) l₆ (sliceVal (b₆, o₆) n₆) (full 𝓤 (sliceTy (tyRef (named 4) mut (pointee (u8 .written)))) l₅ (sliceVal (b₅, o₅) n₅) (full 𝓤 (sliceTy (tyRef (named 3) imm (pointee (u8 .written)))) l₄ (sliceVal (b₄, o₄) n₄) (full 𝓤 (sliceTy (tyRef (named 2) mut (pointee (Object-t.the-row .written)))) l₃ (sliceVal (b₃, o₃) n₃) (full 𝓤 (sliceTy (tyRef (named 1) mut (pointee ((Array u16 35) .written)))) l₂ (sliceVal (b₂, o₂) n₂) (full 𝓤 (sliceTy (tyRef (named 0) mut (pointee ((Array u64 6) .written)))) l₁ (sliceVal (b₁, o₁) n₁) (free 𝓤 Ran-l.mir l₀ ([])))))))))))))))))))))))))))))))) (runs C Λ En mir.t-8 (atRet En Post))
+    part-8-0 len-5-sessions is-5 is-6 c-7 len-7·yes·7-sessions len-7·yes·7-streams len-7·yes·7-objects is-7·yes·7 asks-7·yes·14 len-7·yes·14-out is-7·yes·14 is-7·yes·15 =
+        assigns ! (of-opd ! (load ! (from ! (stop !)) (look ! 36 refl))) (from ! (stop !)) (init ! 72 refl (Ran-p .typed 𝓤 H A W (settled (r′ .next) (took .at) (countReplies (f′ .room) (r′ .wrote) (repliesBy f′ ((handledRows (took .asked) (rows ((touchedRows (sessions) (f′ .«session_id») (f′ .time))) (streams) (objects)) (f′ .«session_id») (f′ .«stream_id») .sessions)) ((handledRows (took .asked) (rows ((touchedRows (sessions) (f′ .«session_id») (f′ .time))) (streams) (objects)) (f′ .«session_id») (f′ .«stream_id») .streams)) (held) (handledMove (took .asked) (rows ((touchedRows (sessions) (f′ .«session_id») (f′ .time))) (streams) (objects)) (d) (f′ .«session_id») (f′ .«stream_id») (took .body)))) (handledMove (took .asked) (rows ((touchedRows (sessions) (f′ .«session_id») (f′ .time))) (streams) (objects)) (d) (f′ .«session_id») (f′ .«stream_id») (took .body))) is-7·yes·15)) $
+        returns ! (look ! 72 refl) $ forget ! 12 refl $ forget ! 14 refl $ forget ! 16 refl $ forget ! 18 refl $ forget ! 20 refl $ forget ! 22 refl $ forget ! 24 refl $ forget ! 26 refl $ forget ! 28 refl $ forget ! 30 refl $ forget ! 32 refl $ forget ! 34 refl $ forget ! 36 refl $ forget ! 38 refl $ forget ! 40 refl $ forget ! 42 refl $ forget ! 44 refl $ forget ! 46 refl $ forget ! 48 refl $ forget ! 50 refl $ forget ! 52 refl $
+        frees-all (settled (r′ .next) (took .at) (countReplies (f′ .room) (r′ .wrote) (repliesBy f′ ((handledRows (took .asked) (rows ((touchedRows (sessions) (f′ .«session_id») (f′ .time))) (streams) (objects)) (f′ .«session_id») (f′ .«stream_id») .sessions)) ((handledRows (took .asked) (rows ((touchedRows (sessions) (f′ .«session_id») (f′ .time))) (streams) (objects)) (f′ .«session_id») (f′ .«stream_id») .streams)) (held) (handledMove (took .asked) (rows ((touchedRows (sessions) (f′ .«session_id») (f′ .time))) (streams) (objects)) (d) (f′ .«session_id») (f′ .«stream_id») (took .body)))) (handledMove (took .asked) (rows ((touchedRows (sessions) (f′ .«session_id») (f′ .time))) (streams) (objects)) (d) (f′ .«session_id») (f′ .«stream_id») (took .body))) (handledRows (took .asked) (rows ((touchedRows (sessions) (f′ .«session_id») (f′ .time))) (streams) (objects)) (f′ .«session_id») (f′ .«stream_id») .sessions) (handledRows (took .asked) (rows ((touchedRows (sessions) (f′ .«session_id») (f′ .time))) (streams) (objects)) (f′ .«session_id») (f′ .«stream_id») .streams) (handledRows (took .asked) (rows ((touchedRows (sessions) (f′ .«session_id») (f′ .time))) (streams) (objects)) (f′ .«session_id») (f′ .«stream_id») .objects) (putReplies (f′ .room) (out) (r′ .wrote) (repliesBy f′ ((handledRows (took .asked) (rows ((touchedRows (sessions) (f′ .«session_id») (f′ .time))) (streams) (objects)) (f′ .«session_id») (f′ .«stream_id») .sessions)) ((handledRows (took .asked) (rows ((touchedRows (sessions) (f′ .«session_id») (f′ .time))) (streams) (objects)) (f′ .«session_id») (f′ .«stream_id») .streams)) (held) (handledMove (took .asked) (rows ((touchedRows (sessions) (f′ .«session_id») (f′ .time))) (streams) (objects)) (d) (f′ .«session_id») (f′ .«stream_id») (took .body)))) (exits (settled (r′ .next) (took .at) (countReplies (f′ .room) (r′ .wrote) (repliesBy f′ ((handledRows (took .asked) (rows ((touchedRows (sessions) (f′ .«session_id») (f′ .time))) (streams) (objects)) (f′ .«session_id») (f′ .«stream_id») .sessions)) ((handledRows (took .asked) (rows ((touchedRows (sessions) (f′ .«session_id») (f′ .time))) (streams) (objects)) (f′ .«session_id») (f′ .«stream_id») .streams)) (held) (handledMove (took .asked) (rows ((touchedRows (sessions) (f′ .«session_id») (f′ .time))) (streams) (objects)) (d) (f′ .«session_id») (f′ .«stream_id») (took .body)))) (handledMove (took .asked) (rows ((touchedRows (sessions) (f′ .«session_id») (f′ .time))) (streams) (objects)) (d) (f′ .«session_id») (f′ .«stream_id») (took .body))) (handledRows (took .asked) (rows ((touchedRows (sessions) (f′ .«session_id») (f′ .time))) (streams) (objects)) (f′ .«session_id») (f′ .«stream_id») .sessions) (handledRows (took .asked) (rows ((touchedRows (sessions) (f′ .«session_id») (f′ .time))) (streams) (objects)) (f′ .«session_id») (f′ .«stream_id») .streams) (handledRows (took .asked) (rows ((touchedRows (sessions) (f′ .«session_id») (f′ .time))) (streams) (objects)) (f′ .«session_id») (f′ .«stream_id») .objects) (putReplies (f′ .room) (out) (r′ .wrote) (repliesBy f′ ((handledRows (took .asked) (rows ((touchedRows (sessions) (f′ .«session_id») (f′ .time))) (streams) (objects)) (f′ .«session_id») (f′ .«stream_id») .sessions)) ((handledRows (took .asked) (rows ((touchedRows (sessions) (f′ .«session_id») (f′ .time))) (streams) (objects)) (f′ .«session_id») (f′ .«stream_id») .streams)) (held) (handledMove (took .asked) (rows ((touchedRows (sessions) (f′ .«session_id») (f′ .time))) (streams) (objects)) (d) (f′ .«session_id») (f′ .«stream_id») (took .body)))) (as-left (f′ .room) out _ (r′ .wrote) (left true) (left live) (if-true left _ c-7) refl) is-7·yes·15 len-7·yes·7-sessions len-7·yes·7-streams len-7·yes·7-objects len-7·yes·14-out)
 
-    part-7·yes·8-0 : (len-5-sessions : length (touchedRows (sessions) (f′ .«session_id») (f′ .time)) ≡ n₁) → (is-5 : Is (Named-p .row) (namedOf (sessions) (f′ .«session_id»)) (Named-p .val (namedOf (sessions) (f′ .«session_id»)) ∷ [])) → (is-6 : Is (bool-p .row) (isLive (namedOf (sessions) (f′ .«session_id»))) (bool-p .val (isLive (namedOf (sessions) (f′ .«session_id»))) ∷ [])) → (c-7 : isLive (namedOf (sessions) (f′ .«session_id»)) ≡ true) → (len-7·yes·7-sessions : length (handledTables (took .asked) (lent ((touchedRows (sessions) (f′ .«session_id») (f′ .time))) (streams) (objects)) (f′ .«session_id») (f′ .«stream_id») .sessions) ≡ n₁) → (len-7·yes·7-streams : length (handledTables (took .asked) (lent ((touchedRows (sessions) (f′ .«session_id») (f′ .time))) (streams) (objects)) (f′ .«session_id») (f′ .«stream_id») .streams) ≡ n₂) → (len-7·yes·7-objects : length (handledTables (took .asked) (lent ((touchedRows (sessions) (f′ .«session_id») (f′ .time))) (streams) (objects)) (f′ .«session_id») (f′ .«stream_id») .objects) ≡ n₃) → (is-7·yes·7 : Is (Move-p .row) (handledMove (took .asked) (lent ((touchedRows (sessions) (f′ .«session_id») (f′ .time))) (streams) (objects)) (d) (f′ .«session_id») (f′ .«stream_id») (took .body)) (Move-p .val (handledMove (took .asked) (lent ((touchedRows (sessions) (f′ .«session_id») (f′ .time))) (streams) (objects)) (d) (f′ .«session_id») (f′ .«stream_id») (took .body)) ∷ [])) → Sq W (‵ (MutSlice (named 0) κ₁ (Array u64 5) .own (at-list b₁ o₁ γ₁ (handledTables (took .asked) (lent ((touchedRows (sessions) (f′ .«session_id») (f′ .time))) (streams) (objects)) (f′ .«session_id») (f′ .«stream_id») .sessions)) (sliceVal (b₁, o₁) n₁ ∷ [])) ∷ ‵ (flft κ₁ q₁) ∷ ‵ (MutSlice (named 0) κ₂ (Array u16 35) .own (at-list b₂ o₂ γ₂ (handledTables (took .asked) (lent ((touchedRows (sessions) (f′ .«session_id») (f′ .time))) (streams) (objects)) (f′ .«session_id») (f′ .«stream_id») .streams)) (sliceVal (b₂, o₂) n₂ ∷ [])) ∷ ‵ (flft κ₂ q₂) ∷ ‵ (MutSlice (named 0) κ₃ Object-t.the-row .own (at-list b₃ o₃ γ₃ (handledTables (took .asked) (lent ((touchedRows (sessions) (f′ .«session_id») (f′ .time))) (streams) (objects)) (f′ .«session_id») (f′ .«stream_id») .objects)) (sliceVal (b₃, o₃) n₃ ∷ [])) ∷ ‵ (flft κ₃ q₃) ∷ ‵ (MutSlice (named 0) κ₄ u8 .own (at-list b₄ o₄ γ₄ out) (sliceVal (b₄, o₄) n₄ ∷ [])) ∷ ‵ (flft κ₄ q₄) ∷ ‵ (ShrSlice (named 0) κ₅ u8 .own (at-list b₅ o₅ γ₅ d) (sliceVal (b₅, o₅) n₅ ∷ [])) ∷ ‵ (flft κ₅ q₅) ∷ free 𝓤 (sliceTy (tyRef erased mut (pointee (u8 .written)))) l₂₄ (free 𝓤 (tyRef erased mut (pointee (u8 .written))) l₂₃ (full 𝓤 (sliceTy (tyRef erased mut (pointee (Object-t.the-row .written)))) l₂₂ (sliceVal (b₃, o₃) n₃) (full 𝓤 (tyRef erased mut (pointee (Object-t.the-row .written))) l₂₁ (vptr b₃ o₃) (full 𝓤 (sliceTy (tyRef erased mut (pointee ((Array u16 35) .written)))) l₂₀ (sliceVal (b₂, o₂) n₂) (full 𝓤 (tyRef erased mut (pointee ((Array u16 35) .written))) l₁₉ (vptr b₂ o₂) (full 𝓤 (sliceTy (tyRef erased mut (pointee ((Array u64 5) .written)))) l₁₈ (sliceVal (b₁, o₁) n₁) (full 𝓤 (tyRef erased mut (pointee ((Array u64 5) .written))) l₁₇ (vptr b₁ o₁) (free 𝓤 Ran-l.mir l₁₆ (full 𝓤 tyBool l₁₅ (bool-p .val (isLive (namedOf (sessions) (f′ .«session_id»)))) (full 𝓤 (sliceTy (tyRef erased mut (pointee ((Array u64 5) .written)))) l₁₄ (sliceVal (b₁, o₁) n₁) (full 𝓤 (tyRef erased mut (pointee ((Array u64 5) .written))) l₁₃ (vptr b₁ o₁) (full 𝓤 Move-l.mir l₁₂ (Move-p .val (handledMove (took .asked) (lent ((touchedRows (sessions) (f′ .«session_id») (f′ .time))) (streams) (objects)) (d) (f′ .«session_id») (f′ .«stream_id») (took .body))) (full 𝓤 Named-l.mir l₁₁ (Named-p .val (namedOf (sessions) (f′ .«session_id»))) (full 𝓤 (tyInt w8) l₁₀ (u8-p .val (f′ .«stream_id»)) (full 𝓤 (tyInt w8) l₉ (u8-p .val (f′ .«session_id»)) (full 𝓤 Taken-l.mir l₈ (Taken-p .val took) (full 𝓤 Ran-l.mir l₇ (Ran-p .val r′) (full 𝓤 Frame-l.mir l₆ (Frame-p .val f′) (full 𝓤 (sliceTy (tyRef (named 4) imm (pointee (u8 .written)))) l₅ (sliceVal (b₅, o₅) n₅) (full 𝓤 (sliceTy (tyRef (named 3) mut (pointee (u8 .written)))) l₄ (sliceVal (b₄, o₄) n₄) (full 𝓤 (sliceTy (tyRef (named 2) mut (pointee (Object-t.the-row .written)))) l₃ (sliceVal (b₃, o₃) n₃) (full 𝓤 (sliceTy (tyRef (named 1) mut (pointee ((Array u16 35) .written)))) l₂ (sliceVal (b₂, o₂) n₂) (full 𝓤 (sliceTy (tyRef (named 0) mut (pointee ((Array u64 5) .written)))) l₁ (sliceVal (b₁, o₁) n₁) (free 𝓤 Ran-l.mir l₀ ([])))))))))))))))))))))))))) (runs C Λ En (past 7 (yes-of (one mir.t-7))) (anyQ (afterSeq 𝓤 H (Wp 𝓤 H C Λ En mir.t-8 (atReturn 𝓤 H En Post)) (atReturn 𝓤 H En Post))))
-    part-7·yes·8-0 len-5-sessions is-5 is-6 c-7 len-7·yes·7-sessions len-7·yes·7-streams len-7·yes·7-objects is-7·yes·7 =
-        assigns ! (addr ! (from ! (fld ! refl (hop ! (look-in ! 50 (sub ! 0 refl (whole !))) (stop !))))) (from ! (stop !)) (init ! 12 refl (tt, tt)) $
-        assigns ! (agg ! (and-then ! (load ! (from ! (stop !)) (look ! 12 refl)) (and-then ! (load ! (from ! (fld ! refl (stop !))) (look-in ! 50 (sub ! 1 refl (whole !)))) (no-more !)))) (from ! (stop !)) (init ! 10 refl (tt, (tt, (record { fits = room₄ .0 }, tt)))) $
-        knows ! ((r′ .wrote) ≤ 18446744073709551600) (omega (arith, ltb-true, ltb-false, leb-true, leb-false, eqb-true, eqb-false)) (λ asks-7·yes·10.
-        -- 7.yes.10: agent::turn::settle
-        move ! (6 ∷ 7 ∷ []) $
-        lends-mut ! tt u8 b₄ o₄ out n₄ (refl) (λ ν-7·yes·10-out δ-7·yes·10-out.
-        nothing ! $ move ! (1 ∷ 0 ∷ []) $ join ! $
-        use1 W (raw (toks 𝓤 A 1 (((ν-7·yes·10-out ∷ []), tt)) ((fullShare, tt)))) (id⊢ 𝓤 _) $ nothing ! $
+    part-7·yes·15-0 : (len-5-sessions : length (touchedRows (sessions) (f′ .«session_id») (f′ .time)) ≡ n₁) → (is-5 : Is (Named-p .row) (namedOf (sessions) (f′ .«session_id»)) (Named-p .val (namedOf (sessions) (f′ .«session_id»)) ∷ [])) → (is-6 : Is (bool-p .row) (isLive (namedOf (sessions) (f′ .«session_id»))) (bool-p .val (isLive (namedOf (sessions) (f′ .«session_id»))) ∷ [])) → (c-7 : isLive (namedOf (sessions) (f′ .«session_id»)) ≡ true) → (len-7·yes·7-sessions : length (handledRows (took .asked) (rows ((touchedRows (sessions) (f′ .«session_id») (f′ .time))) (streams) (objects)) (f′ .«session_id») (f′ .«stream_id») .sessions) ≡ n₁) → (len-7·yes·7-streams : length (handledRows (took .asked) (rows ((touchedRows (sessions) (f′ .«session_id») (f′ .time))) (streams) (objects)) (f′ .«session_id») (f′ .«stream_id») .streams) ≡ n₂) → (len-7·yes·7-objects : length (handledRows (took .asked) (rows ((touchedRows (sessions) (f′ .«session_id») (f′ .time))) (streams) (objects)) (f′ .«session_id») (f′ .«stream_id») .objects) ≡ n₃) → (is-7·yes·7 : Is (Move-p .row) (handledMove (took .asked) (rows ((touchedRows (sessions) (f′ .«session_id») (f′ .time))) (streams) (objects)) (d) (f′ .«session_id») (f′ .«stream_id») (took .body)) (Move-p .val (handledMove (took .asked) (rows ((touchedRows (sessions) (f′ .«session_id») (f′ .time))) (streams) (objects)) (d) (f′ .«session_id») (f′ .«stream_id») (took .body)) ∷ [])) → (asks-7·yes·14 : f′ .room ≤ 9223372036854775807) → (len-7·yes·14-out : length (putReplies (f′ .room) (out) (r′ .wrote) (repliesBy f′ ((handledRows (took .asked) (rows ((touchedRows (sessions) (f′ .«session_id») (f′ .time))) (streams) (objects)) (f′ .«session_id») (f′ .«stream_id») .sessions)) ((handledRows (took .asked) (rows ((touchedRows (sessions) (f′ .«session_id») (f′ .time))) (streams) (objects)) (f′ .«session_id») (f′ .«stream_id») .streams)) (held) (handledMove (took .asked) (rows ((touchedRows (sessions) (f′ .«session_id») (f′ .time))) (streams) (objects)) (d) (f′ .«session_id») (f′ .«stream_id») (took .body)))) ≡ n₅) → (is-7·yes·14 : Is (u64-p .row) (countReplies (f′ .room) (r′ .wrote) (repliesBy f′ ((handledRows (took .asked) (rows ((touchedRows (sessions) (f′ .«session_id») (f′ .time))) (streams) (objects)) (f′ .«session_id») (f′ .«stream_id») .sessions)) ((handledRows (took .asked) (rows ((touchedRows (sessions) (f′ .«session_id») (f′ .time))) (streams) (objects)) (f′ .«session_id») (f′ .«stream_id») .streams)) (held) (handledMove (took .asked) (rows ((touchedRows (sessions) (f′ .«session_id») (f′ .time))) (streams) (objects)) (d) (f′ .«session_id») (f′ .«stream_id») (took .body)))) (u64-p .val (countReplies (f′ .room) (r′ .wrote) (repliesBy f′ ((handledRows (took .asked) (rows ((touchedRows (sessions) (f′ .«session_id») (f′ .time))) (streams) (objects)) (f′ .«session_id») (f′ .«stream_id») .sessions)) ((handledRows (took .asked) (rows ((touchedRows (sessions) (f′ .«session_id») (f′ .time))) (streams) (objects)) (f′ .«session_id») (f′ .«stream_id») .streams)) (held) (handledMove (took .asked) (rows ((touchedRows (sessions) (f′ .«session_id») (f′ .time))) (streams) (objects)) (d) (f′ .«session_id») (f′ .«stream_id») (took .body)))) ∷ [])) → Sq W (‵ (MutSlice (named 0) κ₁ (Array u64 6) .own (at-list b₁ o₁ γ₁ (handledRows (took .asked) (rows ((touchedRows (sessions) (f′ .«session_id») (f′ .time))) (streams) (objects)) (f′ .«session_id») (f′ .«stream_id») .sessions)) (sliceVal (b₁, o₁) n₁ ∷ [])) ∷ ‵ (flft κ₁ q₁) ∷ ‵ (MutSlice (named 0) κ₂ (Array u16 35) .own (at-list b₂ o₂ γ₂ (handledRows (took .asked) (rows ((touchedRows (sessions) (f′ .«session_id») (f′ .time))) (streams) (objects)) (f′ .«session_id») (f′ .«stream_id») .streams)) (sliceVal (b₂, o₂) n₂ ∷ [])) ∷ ‵ (flft κ₂ q₂) ∷ ‵ (MutSlice (named 0) κ₃ Object-t.the-row .own (at-list b₃ o₃ γ₃ (handledRows (took .asked) (rows ((touchedRows (sessions) (f′ .«session_id») (f′ .time))) (streams) (objects)) (f′ .«session_id») (f′ .«stream_id») .objects)) (sliceVal (b₃, o₃) n₃ ∷ [])) ∷ ‵ (flft κ₃ q₃) ∷ ‵ (ShrSlice (named 0) κ₄ u8 .own (at-list b₄ o₄ γ₄ held) (sliceVal (b₄, o₄) n₄ ∷ [])) ∷ ‵ (flft κ₄ q₄) ∷ ‵ (MutSlice (named 0) κ₅ u8 .own (at-list b₅ o₅ γ₅ (putReplies (f′ .room) (out) (r′ .wrote) (repliesBy f′ ((handledRows (took .asked) (rows ((touchedRows (sessions) (f′ .«session_id») (f′ .time))) (streams) (objects)) (f′ .«session_id») (f′ .«stream_id») .sessions)) ((handledRows (took .asked) (rows ((touchedRows (sessions) (f′ .«session_id») (f′ .time))) (streams) (objects)) (f′ .«session_id») (f′ .«stream_id») .streams)) (held) (handledMove (took .asked) (rows ((touchedRows (sessions) (f′ .«session_id») (f′ .time))) (streams) (objects)) (d) (f′ .«session_id») (f′ .«stream_id») (took .body))))) (sliceVal (b₅, o₅) n₅ ∷ [])) ∷ ‵ (flft κ₅ q₅) ∷ ‵ (ShrSlice (named 0) κ₆ u8 .own (at-list b₆ o₆ γ₆ d) (sliceVal (b₆, o₆) n₆ ∷ [])) ∷ ‵ (flft κ₆ q₆) ∷ full 𝓤 (sliceTy (tyRef erased mut (pointee (u8 .written)))) l₃₀ (sliceVal (b₅, o₅) n₅) (full 𝓤 (tyRef erased mut (pointee (u8 .written))) l₂₉ (vptr b₅ o₅) (full 𝓤 (sliceTy (tyRef erased imm (pointee ((Array u16 35) .written)))) l₂₈ (sliceVal (b₂, o₂) n₂) (full 𝓤 (tyRef erased imm (pointee ((Array u16 35) .written))) l₂₇ (vptr b₂ o₂) (full 𝓤 (sliceTy (tyRef erased imm (pointee ((Array u64 6) .written)))) l₂₆ (sliceVal (b₁, o₁) n₁) (full 𝓤 (tyRef erased imm (pointee ((Array u64 6) .written))) l₂₅ (vptr b₁ o₁) (full 𝓤 (sliceTy (tyRef erased mut (pointee (Object-t.the-row .written)))) l₂₄ (sliceVal (b₃, o₃) n₃) (full 𝓤 (tyRef erased mut (pointee (Object-t.the-row .written))) l₂₃ (vptr b₃ o₃) (full 𝓤 (sliceTy (tyRef erased mut (pointee ((Array u16 35) .written)))) l₂₂ (sliceVal (b₂, o₂) n₂) (full 𝓤 (tyRef erased mut (pointee ((Array u16 35) .written))) l₂₁ (vptr b₂ o₂) (full 𝓤 (sliceTy (tyRef erased mut (pointee ((Array u64 6) .written)))) l₂₀ (sliceVal (b₁, o₁) n₁) (full 𝓤 (tyRef erased mut (pointee ((Array u64 6) .written))) l₁₉ (vptr b₁ o₁) (free 𝓤 Ran-l.mir l₁₈ (full 𝓤 tyBool l₁₇ (bool-p .val (isLive (namedOf (sessions) (f′ .«session_id»)))) (full 𝓤 (sliceTy (tyRef erased mut (pointee ((Array u64 6) .written)))) l₁₆ (sliceVal (b₁, o₁) n₁) (full 𝓤 (tyRef erased mut (pointee ((Array u64 6) .written))) l₁₅ (vptr b₁ o₁) (full 𝓤 (tyInt w64) l₁₄ (u64-p .val (countReplies (f′ .room) (r′ .wrote) (repliesBy f′ ((handledRows (took .asked) (rows ((touchedRows (sessions) (f′ .«session_id») (f′ .time))) (streams) (objects)) (f′ .«session_id») (f′ .«stream_id») .sessions)) ((handledRows (took .asked) (rows ((touchedRows (sessions) (f′ .«session_id») (f′ .time))) (streams) (objects)) (f′ .«session_id») (f′ .«stream_id») .streams)) (held) (handledMove (took .asked) (rows ((touchedRows (sessions) (f′ .«session_id») (f′ .time))) (streams) (objects)) (d) (f′ .«session_id») (f′ .«stream_id») (took .body))))) (full 𝓤 Move-l.mir l₁₃ (Move-p .val (handledMove (took .asked) (rows ((touchedRows (sessions) (f′ .«session_id») (f′ .time))) (streams) (objects)) (d) (f′ .«session_id») (f′ .«stream_id») (took .body))) (full 𝓤 Named-l.mir l₁₂ (Named-p .val (namedOf (sessions) (f′ .«session_id»))) (full 𝓤 (tyInt w8) l₁₁ (u8-p .val (f′ .«stream_id»)) (full 𝓤 (tyInt w8) l₁₀ (u8-p .val (f′ .«session_id»)) (full 𝓤 Taken-l.mir l₉ (Taken-p .val took) (full 𝓤 Ran-l.mir l₈ (Ran-p .val r′) (full 𝓤 Frame-l.mir l₇ (Frame-p .val f′) (full 𝓤 (sliceTy (tyRef (named 5) imm (pointee (u8 .written)))) l₆ (sliceVal (b₆, o₆) n₆) (full 𝓤 (sliceTy (tyRef (named 4) mut (pointee (u8 .written)))) l₅ (sliceVal (b₅, o₅) n₅) (full 𝓤 (sliceTy (tyRef (named 3) imm (pointee (u8 .written)))) l₄ (sliceVal (b₄, o₄) n₄) (full 𝓤 (sliceTy (tyRef (named 2) mut (pointee (Object-t.the-row .written)))) l₃ (sliceVal (b₃, o₃) n₃) (full 𝓤 (sliceTy (tyRef (named 1) mut (pointee ((Array u16 35) .written)))) l₂ (sliceVal (b₂, o₂) n₂) (full 𝓤 (sliceTy (tyRef (named 0) mut (pointee ((Array u64 6) .written)))) l₁ (sliceVal (b₁, o₁) n₁) (free 𝓤 Ran-l.mir l₀ ([])))))))))))))))))))))))))))))))) (runs C Λ En (past 14 (yes-of (one mir.t-7))) (anyQ (afterSeq 𝓤 H (Wp 𝓤 H C Λ En mir.t-8 (atReturn 𝓤 H En Post)) (atReturn 𝓤 H En Post))))
+    part-7·yes·15-0 len-5-sessions is-5 is-6 c-7 len-7·yes·7-sessions len-7·yes·7-streams len-7·yes·7-objects is-7·yes·7 asks-7·yes·14 len-7·yes·14-out is-7·yes·14 =
+        -- 7.yes.15: agent::turn::settle
+        nothing ! $
+        use1 W (raw (toks 𝓤 A 0 (tt) (tt))) (id⊢ 𝓤 _) $ nothing ! $
+        owned ! (Move-p .row) (Is (Move-p .row)) (Move-p .makes 𝓤 H A W) (handledMove (took .asked) (rows ((touchedRows (sessions) (f′ .«session_id») (f′ .time))) (streams) (objects)) (d) (f′ .«session_id») (f′ .«stream_id») (took .body)) (Move-p .val (handledMove (took .asked) (rows ((touchedRows (sessions) (f′ .«session_id») (f′ .time))) (streams) (objects)) (d) (f′ .«session_id») (f′ .«stream_id») (took .body)) ∷ []) is-7·yes·7 $ fjoin ! $
+        owned ! (u64-p .row) (Is (u64-p .row)) (u64-p .makes 𝓤 H A W) (countReplies (f′ .room) (r′ .wrote) (repliesBy f′ ((handledRows (took .asked) (rows ((touchedRows (sessions) (f′ .«session_id») (f′ .time))) (streams) (objects)) (f′ .«session_id») (f′ .«stream_id») .sessions)) ((handledRows (took .asked) (rows ((touchedRows (sessions) (f′ .«session_id») (f′ .time))) (streams) (objects)) (f′ .«session_id») (f′ .«stream_id») .streams)) (held) (handledMove (took .asked) (rows ((touchedRows (sessions) (f′ .«session_id») (f′ .time))) (streams) (objects)) (d) (f′ .«session_id») (f′ .«stream_id») (took .body)))) (u64-p .val (countReplies (f′ .room) (r′ .wrote) (repliesBy f′ ((handledRows (took .asked) (rows ((touchedRows (sessions) (f′ .«session_id») (f′ .time))) (streams) (objects)) (f′ .«session_id») (f′ .«stream_id») .sessions)) ((handledRows (took .asked) (rows ((touchedRows (sessions) (f′ .«session_id») (f′ .time))) (streams) (objects)) (f′ .«session_id») (f′ .«stream_id») .streams)) (held) (handledMove (took .asked) (rows ((touchedRows (sessions) (f′ .«session_id») (f′ .time))) (streams) (objects)) (d) (f′ .«session_id») (f′ .«stream_id») (took .body)))) ∷ []) is-7·yes·14 $ fjoin ! $
         owned ! (u64-p .row) (Is (u64-p .row)) (u64-p .makes 𝓤 H A W) (took .at) (u64-p .val (took .at) ∷ []) (LL.owed Taken-t.the-type Taken-l.the-laws took _ took-is .1 .1 .0) $ fjoin ! $
-        owned ! (Move-p .row) (Is (Move-p .row)) (Move-p .makes 𝓤 H A W) (handledMove (took .asked) (lent ((touchedRows (sessions) (f′ .«session_id») (f′ .time))) (streams) (objects)) (d) (f′ .«session_id») (f′ .«stream_id») (took .body)) (Move-p .val (handledMove (took .asked) (lent ((touchedRows (sessions) (f′ .«session_id») (f′ .time))) (streams) (objects)) (d) (f′ .«session_id») (f′ .«stream_id») (took .body)) ∷ []) is-7·yes·7 $ fjoin ! $
+        owned ! (u8-p .row) (Is (u8-p .row)) (u8-p .makes 𝓤 H A W) (r′ .next) (u8-p .val (r′ .next) ∷ []) (LL.owed Ran-t.the-type Ran-l.the-laws r′ _ r′-is .0) $ fjoin ! $ move ! (1 ∷ 0 ∷ []) $
+        calls-any-last ! fm 0 [] (turn-settle.signature .params) (turn-settle.ended .kept) Ran-p (turn-settle.clauses 𝓤 H A mem run) known-turn-settle tt tt tt (r′ .next, (took .at, (countReplies (f′ .room) (r′ .wrote) (repliesBy f′ ((handledRows (took .asked) (rows ((touchedRows (sessions) (f′ .«session_id») (f′ .time))) (streams) (objects)) (f′ .«session_id») (f′ .«stream_id») .sessions)) ((handledRows (took .asked) (rows ((touchedRows (sessions) (f′ .«session_id») (f′ .time))) (streams) (objects)) (f′ .«session_id») (f′ .«stream_id») .streams)) (held) (handledMove (took .asked) (rows ((touchedRows (sessions) (f′ .«session_id») (f′ .time))) (streams) (objects)) (d) (f′ .«session_id») (f′ .«stream_id») (took .body))), (handledMove (took .asked) (rows ((touchedRows (sessions) (f′ .«session_id») (f′ .time))) (streams) (objects)) (d) (f′ .«session_id») (f′ .«stream_id») (took .body), tt)))) (u8-p .val (r′ .next) ∷ [], (u64-p .val (took .at) ∷ [], (u64-p .val (countReplies (f′ .room) (r′ .wrote) (repliesBy f′ ((handledRows (took .asked) (rows ((touchedRows (sessions) (f′ .«session_id») (f′ .time))) (streams) (objects)) (f′ .«session_id») (f′ .«stream_id») .sessions)) ((handledRows (took .asked) (rows ((touchedRows (sessions) (f′ .«session_id») (f′ .time))) (streams) (objects)) (f′ .«session_id») (f′ .«stream_id») .streams)) (held) (handledMove (took .asked) (rows ((touchedRows (sessions) (f′ .«session_id») (f′ .time))) (streams) (objects)) (d) (f′ .«session_id») (f′ .«stream_id») (took .body)))) ∷ [], (Move-p .val (handledMove (took .asked) (rows ((touchedRows (sessions) (f′ .«session_id») (f′ .time))) (streams) (objects)) (d) (f′ .«session_id») (f′ .«stream_id») (took .body)) ∷ [], tt)))) tt (settled (r′ .next) (took .at) (countReplies (f′ .room) (r′ .wrote) (repliesBy f′ ((handledRows (took .asked) (rows ((touchedRows (sessions) (f′ .«session_id») (f′ .time))) (streams) (objects)) (f′ .«session_id») (f′ .«stream_id») .sessions)) ((handledRows (took .asked) (rows ((touchedRows (sessions) (f′ .«session_id») (f′ .time))) (streams) (objects)) (f′ .«session_id») (f′ .«stream_id») .streams)) (held) (handledMove (took .asked) (rows ((touchedRows (sessions) (f′ .«session_id») (f′ .time))) (streams) (objects)) (d) (f′ .«session_id») (f′ .«stream_id») (took .body)))) (handledMove (took .asked) (rows ((touchedRows (sessions) (f′ .«session_id») (f′ .time))) (streams) (objects)) (d) (f′ .«session_id») (f′ .«stream_id») (took .body))) (λ ws-7·yes·15. Unit {0}) (id⊢ 𝓤 _) (λ r ws-7·yes·15. fact-mono 𝓤 (r ≡ settled (r′ .next) (took .at) (countReplies (f′ .room) (r′ .wrote) (repliesBy f′ ((handledRows (took .asked) (rows ((touchedRows (sessions) (f′ .«session_id») (f′ .time))) (streams) (objects)) (f′ .«session_id») (f′ .«stream_id») .sessions)) ((handledRows (took .asked) (rows ((touchedRows (sessions) (f′ .«session_id») (f′ .time))) (streams) (objects)) (f′ .«session_id») (f′ .«stream_id») .streams)) (held) (handledMove (took .asked) (rows ((touchedRows (sessions) (f′ .«session_id») (f′ .time))) (streams) (objects)) (d) (f′ .«session_id») (f′ .«stream_id») (took .body)))) (handledMove (took .asked) (rows ((touchedRows (sessions) (f′ .«session_id») (f′ .time))) (streams) (objects)) (d) (f′ .«session_id») (f′ .«stream_id») (took .body))) ((r ≡ (settled (r′ .next) (took .at) (countReplies (f′ .room) (r′ .wrote) (repliesBy f′ ((handledRows (took .asked) (rows ((touchedRows (sessions) (f′ .«session_id») (f′ .time))) (streams) (objects)) (f′ .«session_id») (f′ .«stream_id») .sessions)) ((handledRows (took .asked) (rows ((touchedRows (sessions) (f′ .«session_id») (f′ .time))) (streams) (objects)) (f′ .«session_id») (f′ .«stream_id») .streams)) (held) (handledMove (took .asked) (rows ((touchedRows (sessions) (f′ .«session_id») (f′ .time))) (streams) (objects)) (d) (f′ .«session_id») (f′ .«stream_id») (took .body)))) (handledMove (took .asked) (rows ((touchedRows (sessions) (f′ .«session_id») (f′ .time))) (streams) (objects)) (d) (f′ .«session_id») (f′ .«stream_id») (took .body)))) × (Unit {0})) (λ e. (e, tt))) (λ _. (and-then ! (load ! (from ! (fld ! refl (stop !))) (look-in ! 57 (sub ! 0 refl (whole !)))) (and-then ! (load ! (from ! (fld ! refl (stop !))) (look-in ! 55 (sub ! 2 refl (whole !)))) (and-then ! (load ! (from ! (stop !)) (look ! 45 refl)) (and-then ! (load ! (from ! (stop !)) (look ! 47 refl)) (no-more !)))))) (λ ws-7·yes·15 said-7·yes·15 is-7·yes·15.
+        drop ! $ drop ! $
+        land-last ! (from ! (stop !)) (init ! 36 refl (Ran-p .typed 𝓤 H A W (settled (r′ .next) (took .at) (countReplies (f′ .room) (r′ .wrote) (repliesBy f′ ((handledRows (took .asked) (rows ((touchedRows (sessions) (f′ .«session_id») (f′ .time))) (streams) (objects)) (f′ .«session_id») (f′ .«stream_id») .sessions)) ((handledRows (took .asked) (rows ((touchedRows (sessions) (f′ .«session_id») (f′ .time))) (streams) (objects)) (f′ .«session_id») (f′ .«stream_id») .streams)) (held) (handledMove (took .asked) (rows ((touchedRows (sessions) (f′ .«session_id») (f′ .time))) (streams) (objects)) (d) (f′ .«session_id») (f′ .«stream_id») (took .body)))) (handledMove (took .asked) (rows ((touchedRows (sessions) (f′ .«session_id») (f′ .time))) (streams) (objects)) (d) (f′ .«session_id») (f′ .«stream_id») (took .body))) is-7·yes·15)) $
+        exec ! C Λ En mir.t-8 (atRet En Post) $
+        part-8-0 len-5-sessions is-5 is-6 c-7 len-7·yes·7-sessions len-7·yes·7-streams len-7·yes·7-objects is-7·yes·7 asks-7·yes·14 len-7·yes·14-out is-7·yes·14 is-7·yes·15)
+
+    part-7·yes·8-0 : (len-5-sessions : length (touchedRows (sessions) (f′ .«session_id») (f′ .time)) ≡ n₁) → (is-5 : Is (Named-p .row) (namedOf (sessions) (f′ .«session_id»)) (Named-p .val (namedOf (sessions) (f′ .«session_id»)) ∷ [])) → (is-6 : Is (bool-p .row) (isLive (namedOf (sessions) (f′ .«session_id»))) (bool-p .val (isLive (namedOf (sessions) (f′ .«session_id»))) ∷ [])) → (c-7 : isLive (namedOf (sessions) (f′ .«session_id»)) ≡ true) → (len-7·yes·7-sessions : length (handledRows (took .asked) (rows ((touchedRows (sessions) (f′ .«session_id») (f′ .time))) (streams) (objects)) (f′ .«session_id») (f′ .«stream_id») .sessions) ≡ n₁) → (len-7·yes·7-streams : length (handledRows (took .asked) (rows ((touchedRows (sessions) (f′ .«session_id») (f′ .time))) (streams) (objects)) (f′ .«session_id») (f′ .«stream_id») .streams) ≡ n₂) → (len-7·yes·7-objects : length (handledRows (took .asked) (rows ((touchedRows (sessions) (f′ .«session_id») (f′ .time))) (streams) (objects)) (f′ .«session_id») (f′ .«stream_id») .objects) ≡ n₃) → (is-7·yes·7 : Is (Move-p .row) (handledMove (took .asked) (rows ((touchedRows (sessions) (f′ .«session_id») (f′ .time))) (streams) (objects)) (d) (f′ .«session_id») (f′ .«stream_id») (took .body)) (Move-p .val (handledMove (took .asked) (rows ((touchedRows (sessions) (f′ .«session_id») (f′ .time))) (streams) (objects)) (d) (f′ .«session_id») (f′ .«stream_id») (took .body)) ∷ [])) → Sq W (‵ (MutSlice (named 0) κ₁ (Array u64 6) .own (at-list b₁ o₁ γ₁ (handledRows (took .asked) (rows ((touchedRows (sessions) (f′ .«session_id») (f′ .time))) (streams) (objects)) (f′ .«session_id») (f′ .«stream_id») .sessions)) (sliceVal (b₁, o₁) n₁ ∷ [])) ∷ ‵ (flft κ₁ q₁) ∷ ‵ (MutSlice (named 0) κ₂ (Array u16 35) .own (at-list b₂ o₂ γ₂ (handledRows (took .asked) (rows ((touchedRows (sessions) (f′ .«session_id») (f′ .time))) (streams) (objects)) (f′ .«session_id») (f′ .«stream_id») .streams)) (sliceVal (b₂, o₂) n₂ ∷ [])) ∷ ‵ (flft κ₂ q₂) ∷ ‵ (MutSlice (named 0) κ₃ Object-t.the-row .own (at-list b₃ o₃ γ₃ (handledRows (took .asked) (rows ((touchedRows (sessions) (f′ .«session_id») (f′ .time))) (streams) (objects)) (f′ .«session_id») (f′ .«stream_id») .objects)) (sliceVal (b₃, o₃) n₃ ∷ [])) ∷ ‵ (flft κ₃ q₃) ∷ ‵ (ShrSlice (named 0) κ₄ u8 .own (at-list b₄ o₄ γ₄ held) (sliceVal (b₄, o₄) n₄ ∷ [])) ∷ ‵ (flft κ₄ q₄) ∷ ‵ (MutSlice (named 0) κ₅ u8 .own (at-list b₅ o₅ γ₅ out) (sliceVal (b₅, o₅) n₅ ∷ [])) ∷ ‵ (flft κ₅ q₅) ∷ ‵ (ShrSlice (named 0) κ₆ u8 .own (at-list b₆ o₆ γ₆ d) (sliceVal (b₆, o₆) n₆ ∷ [])) ∷ ‵ (flft κ₆ q₆) ∷ free 𝓤 (sliceTy (tyRef erased mut (pointee (u8 .written)))) l₃₀ (free 𝓤 (tyRef erased mut (pointee (u8 .written))) l₂₉ (free 𝓤 (sliceTy (tyRef erased imm (pointee ((Array u16 35) .written)))) l₂₈ (free 𝓤 (tyRef erased imm (pointee ((Array u16 35) .written))) l₂₇ (free 𝓤 (sliceTy (tyRef erased imm (pointee ((Array u64 6) .written)))) l₂₆ (free 𝓤 (tyRef erased imm (pointee ((Array u64 6) .written))) l₂₅ (full 𝓤 (sliceTy (tyRef erased mut (pointee (Object-t.the-row .written)))) l₂₄ (sliceVal (b₃, o₃) n₃) (full 𝓤 (tyRef erased mut (pointee (Object-t.the-row .written))) l₂₃ (vptr b₃ o₃) (full 𝓤 (sliceTy (tyRef erased mut (pointee ((Array u16 35) .written)))) l₂₂ (sliceVal (b₂, o₂) n₂) (full 𝓤 (tyRef erased mut (pointee ((Array u16 35) .written))) l₂₁ (vptr b₂ o₂) (full 𝓤 (sliceTy (tyRef erased mut (pointee ((Array u64 6) .written)))) l₂₀ (sliceVal (b₁, o₁) n₁) (full 𝓤 (tyRef erased mut (pointee ((Array u64 6) .written))) l₁₉ (vptr b₁ o₁) (free 𝓤 Ran-l.mir l₁₈ (full 𝓤 tyBool l₁₇ (bool-p .val (isLive (namedOf (sessions) (f′ .«session_id»)))) (full 𝓤 (sliceTy (tyRef erased mut (pointee ((Array u64 6) .written)))) l₁₆ (sliceVal (b₁, o₁) n₁) (full 𝓤 (tyRef erased mut (pointee ((Array u64 6) .written))) l₁₅ (vptr b₁ o₁) (free 𝓤 (tyInt w64) l₁₄ (full 𝓤 Move-l.mir l₁₃ (Move-p .val (handledMove (took .asked) (rows ((touchedRows (sessions) (f′ .«session_id») (f′ .time))) (streams) (objects)) (d) (f′ .«session_id») (f′ .«stream_id») (took .body))) (full 𝓤 Named-l.mir l₁₂ (Named-p .val (namedOf (sessions) (f′ .«session_id»))) (full 𝓤 (tyInt w8) l₁₁ (u8-p .val (f′ .«stream_id»)) (full 𝓤 (tyInt w8) l₁₀ (u8-p .val (f′ .«session_id»)) (full 𝓤 Taken-l.mir l₉ (Taken-p .val took) (full 𝓤 Ran-l.mir l₈ (Ran-p .val r′) (full 𝓤 Frame-l.mir l₇ (Frame-p .val f′) (full 𝓤 (sliceTy (tyRef (named 5) imm (pointee (u8 .written)))) l₆ (sliceVal (b₆, o₆) n₆) (full 𝓤 (sliceTy (tyRef (named 4) mut (pointee (u8 .written)))) l₅ (sliceVal (b₅, o₅) n₅) (full 𝓤 (sliceTy (tyRef (named 3) imm (pointee (u8 .written)))) l₄ (sliceVal (b₄, o₄) n₄) (full 𝓤 (sliceTy (tyRef (named 2) mut (pointee (Object-t.the-row .written)))) l₃ (sliceVal (b₃, o₃) n₃) (full 𝓤 (sliceTy (tyRef (named 1) mut (pointee ((Array u16 35) .written)))) l₂ (sliceVal (b₂, o₂) n₂) (full 𝓤 (sliceTy (tyRef (named 0) mut (pointee ((Array u64 6) .written)))) l₁ (sliceVal (b₁, o₁) n₁) (free 𝓤 Ran-l.mir l₀ ([])))))))))))))))))))))))))))))))) (runs C Λ En (past 7 (yes-of (one mir.t-7))) (anyQ (afterSeq 𝓤 H (Wp 𝓤 H C Λ En mir.t-8 (atReturn 𝓤 H En Post)) (atReturn 𝓤 H En Post))))
+    part-7·yes·8-0 len-5-sessions is-5 is-6 c-7 len-7·yes·7-sessions len-7·yes·7-streams len-7·yes·7-objects is-7·yes·7 =
+        assigns ! (addr ! (from ! (fld ! refl (hop ! (look-in ! 70 (sub ! 0 refl (whole !))) (stop !))))) (from ! (stop !)) (init ! 22 refl (tt, tt)) $
+        assigns ! (agg ! (and-then ! (load ! (from ! (stop !)) (look ! 22 refl)) (and-then ! (load ! (from ! (fld ! refl (stop !))) (look-in ! 70 (sub ! 1 refl (whole !)))) (no-more !)))) (from ! (stop !)) (init ! 20 refl (tt, (tt, (record { fits = room₁ .0 }, tt)))) $
+        assigns ! (addr ! (from ! (fld ! refl (hop ! (look-in ! 68 (sub ! 0 refl (whole !))) (stop !))))) (from ! (stop !)) (init ! 18 refl (tt, tt)) $
+        assigns ! (agg ! (and-then ! (load ! (from ! (stop !)) (look ! 18 refl)) (and-then ! (load ! (from ! (fld ! refl (stop !))) (look-in ! 68 (sub ! 1 refl (whole !)))) (no-more !)))) (from ! (stop !)) (init ! 16 refl (tt, (tt, (record { fits = room₂ .0 }, tt)))) $
+        assigns ! (addr ! (from ! (fld ! refl (hop ! (look-in ! 62 (sub ! 0 refl (whole !))) (stop !))))) (from ! (stop !)) (init ! 14 refl (tt, tt)) $
+        assigns ! (agg ! (and-then ! (load ! (from ! (stop !)) (look ! 14 refl)) (and-then ! (load ! (from ! (fld ! refl (stop !))) (look-in ! 62 (sub ! 1 refl (whole !)))) (no-more !)))) (from ! (stop !)) (init ! 12 refl (tt, (tt, (record { fits = room₅ .0 }, tt)))) $
+        knows ! (f′ .room ≤ 9223372036854775807) (omega (arith, ltb-true, ltb-false, leb-true, leb-false, eqb-true, eqb-false)) (λ asks-7·yes·14.
+        -- 7.yes.14: agent::repeats::answer
+        lends-view ! tt (Array u64 6) b₁ o₁ (handledRows (took .asked) (rows ((touchedRows (sessions) (f′ .«session_id») (f′ .time))) (streams) (objects)) (f′ .«session_id») (f′ .«stream_id») .sessions) n₁ (len-7·yes·7-sessions) (λ ν-7·yes·14-sessions δ-7·yes·14-sessions.
+        move ! (3 ∷ 4 ∷ []) $
+        lends-view ! tt (Array u16 35) b₂ o₂ (handledRows (took .asked) (rows ((touchedRows (sessions) (f′ .«session_id») (f′ .time))) (streams) (objects)) (f′ .«session_id») (f′ .«stream_id») .streams) n₂ (len-7·yes·7-streams) (λ ν-7·yes·14-streams δ-7·yes·14-streams.
+        move ! (8 ∷ 9 ∷ []) $
+        copies-shr ! u8 b₄ o₄ held n₄ $ move ! (11 ∷ 12 ∷ []) $
+        lends-mut ! tt u8 b₅ o₅ out n₅ (refl) (λ ν-7·yes·14-out δ-7·yes·14-out.
+        nothing ! $ move ! (1 ∷ 0 ∷ []) $ join ! $ move ! (3 ∷ 0 ∷ []) $ join ! $ move ! (5 ∷ 0 ∷ []) $ join ! $ move ! (7 ∷ 0 ∷ []) $ join ! $
+        use1 W (raw (toks 𝓤 A 4 (((ν-7·yes·14-sessions ∷ []), ((ν-7·yes·14-streams ∷ []), (κ₄, ((ν-7·yes·14-out ∷ []), tt))))) ((fullShare, (fullShare, (q₄, (fullShare, tt))))))) (id⊢ 𝓤 _) $ nothing ! $
+        owned ! (Move-p .row) (Is (Move-p .row)) (Move-p .makes 𝓤 H A W) (handledMove (took .asked) (rows ((touchedRows (sessions) (f′ .«session_id») (f′ .time))) (streams) (objects)) (d) (f′ .«session_id») (f′ .«stream_id») (took .body)) (Move-p .val (handledMove (took .asked) (rows ((touchedRows (sessions) (f′ .«session_id») (f′ .time))) (streams) (objects)) (d) (f′ .«session_id») (f′ .«stream_id») (took .body)) ∷ []) is-7·yes·7 $ fjoin ! $
         owned ! (u64-p .row) (Is (u64-p .row)) (u64-p .makes 𝓤 H A W) (r′ .wrote) (u64-p .val (r′ .wrote) ∷ []) (LL.owed Ran-t.the-type Ran-l.the-laws r′ _ r′-is .1 .1 .0) $ fjoin ! $
-        owned ! (u8-p .row) (Is (u8-p .row)) (u8-p .makes 𝓤 H A W) (r′ .next) (u8-p .val (r′ .next) ∷ []) (LL.owed Ran-t.the-type Ran-l.the-laws r′ _ r′-is .0) $ fjoin ! $
-        owned ! (Frame-p .row) (Is (Frame-p .row)) (Frame-p .makes 𝓤 H A W) f′ (Frame-p .val f′ ∷ []) f′-is $ fjoin ! $ move ! (2 ∷ 0 ∷ []) $ fjoin ! $ move ! (1 ∷ 0 ∷ []) $
-        calls-any-last ! fm 1 [] (turn-settle.signature .params) (turn-settle.ended .kept) Ran-p (turn-settle.clauses 𝓤 H A mem run) known-turn-settle ((ν-7·yes·10-out ∷ []), tt) (fullShare, tt) tt (at-list b₄ o₄ δ-7·yes·10-out out, (f′, (r′ .next, (r′ .wrote, (handledMove (took .asked) (lent ((touchedRows (sessions) (f′ .«session_id») (f′ .time))) (streams) (objects)) (d) (f′ .«session_id») (f′ .«stream_id») (took .body), (took .at, tt)))))) (sliceVal (b₄, o₄) n₄ ∷ [], (Frame-p .val f′ ∷ [], (u8-p .val (r′ .next) ∷ [], (u64-p .val (r′ .wrote) ∷ [], (Move-p .val (handledMove (took .asked) (lent ((touchedRows (sessions) (f′ .«session_id») (f′ .time))) (streams) (objects)) (d) (f′ .«session_id») (f′ .«stream_id») (took .body)) ∷ [], (u64-p .val (took .at) ∷ [], tt)))))) tt (settled f′ (r′ .next) (r′ .wrote) (handledMove (took .asked) (lent ((touchedRows (sessions) (f′ .«session_id») (f′ .time))) (streams) (objects)) (d) (f′ .«session_id») (f′ .«stream_id») (took .body)) (took .at)) (λ ws-7·yes·10. (ws-7·yes·10 .0 ≡ putBytes (out) (r′ .wrote) (moveBytes (f′ .«session_id») (f′ .«stream_id») (handledMove (took .asked) (lent ((touchedRows (sessions) (f′ .«session_id») (f′ .time))) (streams) (objects)) (d) (f′ .«session_id») (f′ .«stream_id») (took .body))))) (factI 𝓤 ((r′ .wrote) ≤ 18446744073709551600) _ asks-7·yes·10) (λ r ws-7·yes·10. fact-mono 𝓤 ((r ≡ settled f′ (r′ .next) (r′ .wrote) (handledMove (took .asked) (lent ((touchedRows (sessions) (f′ .«session_id») (f′ .time))) (streams) (objects)) (d) (f′ .«session_id») (f′ .«stream_id») (took .body)) (took .at)) × ((ws-7·yes·10 .0) ≡ putBytes (out) (r′ .wrote) (moveBytes (f′ .«session_id») (f′ .«stream_id») (handledMove (took .asked) (lent ((touchedRows (sessions) (f′ .«session_id») (f′ .time))) (streams) (objects)) (d) (f′ .«session_id») (f′ .«stream_id») (took .body))))) ((r ≡ (settled f′ (r′ .next) (r′ .wrote) (handledMove (took .asked) (lent ((touchedRows (sessions) (f′ .«session_id») (f′ .time))) (streams) (objects)) (d) (f′ .«session_id») (f′ .«stream_id») (took .body)) (took .at))) × ((ws-7·yes·10 .0 ≡ putBytes (out) (r′ .wrote) (moveBytes (f′ .«session_id») (f′ .«stream_id») (handledMove (took .asked) (lent ((touchedRows (sessions) (f′ .«session_id») (f′ .time))) (streams) (objects)) (d) (f′ .«session_id») (f′ .«stream_id») (took .body)))))) (λ e. (e .0, e .1))) (λ _. (and-then ! (load ! (from ! (stop !)) (look ! 10 refl)) (and-then ! (load ! (from ! (stop !)) (look ! 46 refl)) (and-then ! (load ! (from ! (fld ! refl (stop !))) (look-in ! 44 (sub ! 0 refl (whole !)))) (and-then ! (load ! (from ! (fld ! refl (stop !))) (look-in ! 44 (sub ! 2 refl (whole !)))) (and-then ! (load ! (from ! (stop !)) (look ! 34 refl)) (and-then ! (load ! (from ! (fld ! refl (stop !))) (look-in ! 42 (sub ! 2 refl (whole !)))) (no-more !)))))))) (λ ws-7·yes·10 said-7·yes·10 is-7·yes·10.
-        use1 W ((‵ (flft (ν-7·yes·10-out ∷ []) fullShare) ⊛ ‵ ftrue)) (id⊢ 𝓤 _) $ split ! $ move ! (2 ∷ []) $ fsplit ! $ fsplit ! $ move ! (1 ∷ []) $
-        feqL ! (λ wlen-7·yes·10-0.
-        move ! (2 ∷ 4 ∷ 0 ∷ []) $
-        backs-mut ! tt u8 b₄ o₄ out n₄ (refl) room₄ ν-7·yes·10-out δ-7·yes·10-out (ws-7·yes·10 .0) (putBytes (out) (r′ .wrote) (moveBytes (f′ .«session_id») (f′ .«stream_id») (handledMove (took .asked) (lent ((touchedRows (sessions) (f′ .«session_id») (f′ .time))) (streams) (objects)) (d) (f′ .«session_id») (f′ .«stream_id») (took .body)))) wlen-7·yes·10-0 (said-7·yes·10) (λ len-7·yes·10-out.
-        move ! (2 ∷ []) $ drop ! $ move ! (2 ∷ []) $ drop ! $
-        land-last ! (from ! (stop !)) (init ! 26 refl (Ran-p .typed 𝓤 H A W (settled f′ (r′ .next) (r′ .wrote) (handledMove (took .asked) (lent ((touchedRows (sessions) (f′ .«session_id») (f′ .time))) (streams) (objects)) (d) (f′ .«session_id») (f′ .«stream_id») (took .body)) (took .at)) is-7·yes·10)) $
-        exec ! C Λ En mir.t-8 (atRet En Post) $ move ! (2 ∷ 3 ∷ 4 ∷ 5 ∷ 6 ∷ 7 ∷ 0 ∷ 1 ∷ 8 ∷ 9 ∷ 10 ∷ 11 ∷ 12 ∷ 13 ∷ 14 ∷ 15 ∷ 16 ∷ 17 ∷ 18 ∷ 19 ∷ 20 ∷ 21 ∷ 22 ∷ 23 ∷ 24 ∷ 25 ∷ 26 ∷ 27 ∷ 28 ∷ 29 ∷ 30 ∷ 31 ∷ 32 ∷ 33 ∷ 34 ∷ 35 ∷ 36 ∷ 37 ∷ 38 ∷ 39 ∷ 40 ∷ 41 ∷ 42 ∷ 43 ∷ 44 ∷ 45 ∷ 46 ∷ 47 ∷ 48 ∷ 49 ∷ 50 ∷ 51 ∷ 52 ∷ 53 ∷ 54 ∷ 55 ∷ 56 ∷ 57 ∷ 58 ∷ 59 ∷ []) $
-        part-8-0 len-5-sessions is-5 is-6 c-7 len-7·yes·7-sessions len-7·yes·7-streams len-7·yes·7-objects is-7·yes·7 asks-7·yes·10 len-7·yes·10-out is-7·yes·10)))))
+        owned ! (Frame-p .row) (Is (Frame-p .row)) (Frame-p .makes 𝓤 H A W) f′ (Frame-p .val f′ ∷ []) f′-is $ fjoin ! $ move ! (2 ∷ 0 ∷ []) $ fjoin ! $ move ! (3 ∷ 0 ∷ []) $ fjoin ! $ move ! (4 ∷ 0 ∷ []) $ fjoin ! $ move ! (5 ∷ 0 ∷ []) $ fjoin ! $ move ! (1 ∷ 0 ∷ []) $
+        calls-any ! fm 4 [] (repeats-answer.signature .params) (repeats-answer.ended .kept) u64-p (repeats-answer.clauses 𝓤 H A mem run) known-repeats-answer ((ν-7·yes·14-sessions ∷ []), ((ν-7·yes·14-streams ∷ []), (κ₄, ((ν-7·yes·14-out ∷ []), tt)))) (fullShare, (fullShare, (q₄, (fullShare, tt)))) tt (at-list b₁ o₁ δ-7·yes·14-sessions (handledRows (took .asked) (rows ((touchedRows (sessions) (f′ .«session_id») (f′ .time))) (streams) (objects)) (f′ .«session_id») (f′ .«stream_id») .sessions), (at-list b₂ o₂ δ-7·yes·14-streams (handledRows (took .asked) (rows ((touchedRows (sessions) (f′ .«session_id») (f′ .time))) (streams) (objects)) (f′ .«session_id») (f′ .«stream_id») .streams), (at-list b₄ o₄ γ₄ held, (at-list b₅ o₅ δ-7·yes·14-out out, (f′, (r′ .wrote, (handledMove (took .asked) (rows ((touchedRows (sessions) (f′ .«session_id») (f′ .time))) (streams) (objects)) (d) (f′ .«session_id») (f′ .«stream_id») (took .body), tt))))))) (sliceVal (b₁, o₁) n₁ ∷ [], (sliceVal (b₂, o₂) n₂ ∷ [], (sliceVal (b₄, o₄) n₄ ∷ [], (sliceVal (b₅, o₅) n₅ ∷ [], (Frame-p .val f′ ∷ [], (u64-p .val (r′ .wrote) ∷ [], (Move-p .val (handledMove (took .asked) (rows ((touchedRows (sessions) (f′ .«session_id») (f′ .time))) (streams) (objects)) (d) (f′ .«session_id») (f′ .«stream_id») (took .body)) ∷ [], tt))))))) tt (countReplies (f′ .room) (r′ .wrote) (repliesBy f′ ((handledRows (took .asked) (rows ((touchedRows (sessions) (f′ .«session_id») (f′ .time))) (streams) (objects)) (f′ .«session_id») (f′ .«stream_id») .sessions)) ((handledRows (took .asked) (rows ((touchedRows (sessions) (f′ .«session_id») (f′ .time))) (streams) (objects)) (f′ .«session_id») (f′ .«stream_id») .streams)) (held) (handledMove (took .asked) (rows ((touchedRows (sessions) (f′ .«session_id») (f′ .time))) (streams) (objects)) (d) (f′ .«session_id») (f′ .«stream_id») (took .body)))) (λ ws-7·yes·14. (ws-7·yes·14 .1 .1 .1 .0 ≡ putReplies (f′ .room) (out) (r′ .wrote) (repliesBy f′ ((handledRows (took .asked) (rows ((touchedRows (sessions) (f′ .«session_id») (f′ .time))) (streams) (objects)) (f′ .«session_id») (f′ .«stream_id») .sessions)) ((handledRows (took .asked) (rows ((touchedRows (sessions) (f′ .«session_id») (f′ .time))) (streams) (objects)) (f′ .«session_id») (f′ .«stream_id») .streams)) (held) (handledMove (took .asked) (rows ((touchedRows (sessions) (f′ .«session_id») (f′ .time))) (streams) (objects)) (d) (f′ .«session_id») (f′ .«stream_id») (took .body))))) (factI 𝓤 (f′ .room ≤ 9223372036854775807) _ asks-7·yes·14) (λ r ws-7·yes·14. fact-mono 𝓤 ((r ≡ countReplies (f′ .room) (r′ .wrote) (repliesBy f′ ((handledRows (took .asked) (rows ((touchedRows (sessions) (f′ .«session_id») (f′ .time))) (streams) (objects)) (f′ .«session_id») (f′ .«stream_id») .sessions)) ((handledRows (took .asked) (rows ((touchedRows (sessions) (f′ .«session_id») (f′ .time))) (streams) (objects)) (f′ .«session_id») (f′ .«stream_id») .streams)) (held) (handledMove (took .asked) (rows ((touchedRows (sessions) (f′ .«session_id») (f′ .time))) (streams) (objects)) (d) (f′ .«session_id») (f′ .«stream_id») (took .body)))) × ((ws-7·yes·14 .1 .1 .1 .0) ≡ putReplies (f′ .room) (out) (r′ .wrote) (repliesBy f′ ((handledRows (took .asked) (rows ((touchedRows (sessions) (f′ .«session_id») (f′ .time))) (streams) (objects)) (f′ .«session_id») (f′ .«stream_id») .sessions)) ((handledRows (took .asked) (rows ((touchedRows (sessions) (f′ .«session_id») (f′ .time))) (streams) (objects)) (f′ .«session_id») (f′ .«stream_id») .streams)) (held) (handledMove (took .asked) (rows ((touchedRows (sessions) (f′ .«session_id») (f′ .time))) (streams) (objects)) (d) (f′ .«session_id») (f′ .«stream_id») (took .body))))) ((r ≡ (countReplies (f′ .room) (r′ .wrote) (repliesBy f′ ((handledRows (took .asked) (rows ((touchedRows (sessions) (f′ .«session_id») (f′ .time))) (streams) (objects)) (f′ .«session_id») (f′ .«stream_id») .sessions)) ((handledRows (took .asked) (rows ((touchedRows (sessions) (f′ .«session_id») (f′ .time))) (streams) (objects)) (f′ .«session_id») (f′ .«stream_id») .streams)) (held) (handledMove (took .asked) (rows ((touchedRows (sessions) (f′ .«session_id») (f′ .time))) (streams) (objects)) (d) (f′ .«session_id») (f′ .«stream_id») (took .body))))) × ((ws-7·yes·14 .1 .1 .1 .0 ≡ putReplies (f′ .room) (out) (r′ .wrote) (repliesBy f′ ((handledRows (took .asked) (rows ((touchedRows (sessions) (f′ .«session_id») (f′ .time))) (streams) (objects)) (f′ .«session_id») (f′ .«stream_id») .sessions)) ((handledRows (took .asked) (rows ((touchedRows (sessions) (f′ .«session_id») (f′ .time))) (streams) (objects)) (f′ .«session_id») (f′ .«stream_id») .streams)) (held) (handledMove (took .asked) (rows ((touchedRows (sessions) (f′ .«session_id») (f′ .time))) (streams) (objects)) (d) (f′ .«session_id») (f′ .«stream_id») (took .body)))))) (λ e. (e .0, e .1))) (λ _. (and-then ! (load ! (from ! (stop !)) (look ! 17 refl)) (and-then ! (load ! (from ! (stop !)) (look ! 13 refl)) (and-then ! (load ! (from ! (stop !)) (look ! 61 refl)) (and-then ! (load ! (from ! (stop !)) (look ! 9 refl)) (and-then ! (load ! (from ! (stop !)) (look ! 55 refl)) (and-then ! (load ! (from ! (fld ! refl (stop !))) (look-in ! 53 (sub ! 2 refl (whole !)))) (and-then ! (load ! (from ! (stop !)) (look ! 43 refl)) (no-more !))))))))) (λ ws-7·yes·14 said-7·yes·14 is-7·yes·14.
+        use1 W ((‵ (flft (ν-7·yes·14-sessions ∷ []) fullShare) ⊛ (‵ (flft (ν-7·yes·14-streams ∷ []) fullShare) ⊛ (‵ (flft κ₄ q₄) ⊛ (‵ (flft (ν-7·yes·14-out ∷ []) fullShare) ⊛ ‵ ftrue))))) (id⊢ 𝓤 _) $ split ! $ move ! (1 ∷ []) $ split ! $ move ! (1 ∷ []) $ split ! $ move ! (1 ∷ []) $ split ! $ move ! (5 ∷ []) $ fsplit ! $ move ! (1 ∷ []) $ fsplit ! $ move ! (1 ∷ []) $ fsplit ! $ move ! (1 ∷ []) $ fsplit ! $ fsplit ! $ move ! (1 ∷ []) $
+        feqL ! (λ wlen-7·yes·14-3.
+        move ! (9 ∷ 13 ∷ []) $
+        backs-view ! tt (Array u64 6) b₁ o₁ (handledRows (took .asked) (rows ((touchedRows (sessions) (f′ .«session_id») (f′ .time))) (streams) (objects)) (f′ .«session_id») (f′ .«stream_id») .sessions) n₁ (len-7·yes·7-sessions) ν-7·yes·14-sessions $ move ! (10 ∷ 13 ∷ []) $
+        backs-view ! tt (Array u16 35) b₂ o₂ (handledRows (took .asked) (rows ((touchedRows (sessions) (f′ .«session_id») (f′ .time))) (streams) (objects)) (f′ .«session_id») (f′ .«stream_id») .streams) n₂ (len-7·yes·7-streams) ν-7·yes·14-streams $ move ! (9 ∷ 12 ∷ 4 ∷ []) $
+        backs-mut ! tt u8 b₅ o₅ out n₅ (refl) room₅ ν-7·yes·14-out δ-7·yes·14-out (ws-7·yes·14 .1 .1 .1 .0) (putReplies (f′ .room) (out) (r′ .wrote) (repliesBy f′ ((handledRows (took .asked) (rows ((touchedRows (sessions) (f′ .«session_id») (f′ .time))) (streams) (objects)) (f′ .«session_id») (f′ .«stream_id») .sessions)) ((handledRows (took .asked) (rows ((touchedRows (sessions) (f′ .«session_id») (f′ .time))) (streams) (objects)) (f′ .«session_id») (f′ .«stream_id») .streams)) (held) (handledMove (took .asked) (rows ((touchedRows (sessions) (f′ .«session_id») (f′ .time))) (streams) (objects)) (d) (f′ .«session_id») (f′ .«stream_id») (took .body)))) wlen-7·yes·14-3 (said-7·yes·14) (λ len-7·yes·14-out.
+        move ! (6 ∷ []) $ drop ! $ move ! (6 ∷ []) $ drop ! $ move ! (6 ∷ []) $ drop ! $ move ! (6 ∷ []) $ drop ! $ move ! (6 ∷ []) $ drop ! $
+        land ! (from ! (stop !)) (init ! 44 refl (u64-p .typed 𝓤 H A W (countReplies (f′ .room) (r′ .wrote) (repliesBy f′ ((handledRows (took .asked) (rows ((touchedRows (sessions) (f′ .«session_id») (f′ .time))) (streams) (objects)) (f′ .«session_id») (f′ .«stream_id») .sessions)) ((handledRows (took .asked) (rows ((touchedRows (sessions) (f′ .«session_id») (f′ .time))) (streams) (objects)) (f′ .«session_id») (f′ .«stream_id») .streams)) (held) (handledMove (took .asked) (rows ((touchedRows (sessions) (f′ .«session_id») (f′ .time))) (streams) (objects)) (d) (f′ .«session_id») (f′ .«stream_id») (took .body)))) is-7·yes·14)) $ move ! (4 ∷ 5 ∷ 2 ∷ 3 ∷ 8 ∷ 9 ∷ 7 ∷ 6 ∷ 0 ∷ 1 ∷ 10 ∷ 11 ∷ 12 ∷ 13 ∷ 14 ∷ 15 ∷ 16 ∷ 17 ∷ 18 ∷ 19 ∷ 20 ∷ 21 ∷ 22 ∷ 23 ∷ 24 ∷ 25 ∷ 26 ∷ 27 ∷ 28 ∷ 29 ∷ 30 ∷ 31 ∷ 32 ∷ 33 ∷ 34 ∷ 35 ∷ 36 ∷ 37 ∷ 38 ∷ 39 ∷ 40 ∷ 41 ∷ 42 ∷ 43 ∷ 44 ∷ 45 ∷ 46 ∷ 47 ∷ 48 ∷ 49 ∷ 50 ∷ 51 ∷ 52 ∷ 53 ∷ 54 ∷ 55 ∷ 56 ∷ 57 ∷ 58 ∷ 59 ∷ 60 ∷ 61 ∷ 62 ∷ 63 ∷ 64 ∷ 65 ∷ 66 ∷ 67 ∷ 68 ∷ 69 ∷ 70 ∷ 71 ∷ 72 ∷ 73 ∷ []) $
+        part-7·yes·15-0 len-5-sessions is-5 is-6 c-7 len-7·yes·7-sessions len-7·yes·7-streams len-7·yes·7-objects is-7·yes·7 asks-7·yes·14 len-7·yes·14-out is-7·yes·14)))))))
 
-    part-8-3 : (len-5-sessions : length (touchedRows (sessions) (f′ .«session_id») (f′ .time)) ≡ n₁) → (is-5 : Is (Named-p .row) (namedOf (sessions) (f′ .«session_id»)) (Named-p .val (namedOf (sessions) (f′ .«session_id»)) ∷ [])) → (is-6 : Is (bool-p .row) (isLive (namedOf (sessions) (f′ .«session_id»))) (bool-p .val (isLive (namedOf (sessions) (f′ .«session_id»))) ∷ [])) → (c-7 : isLive (namedOf (sessions) (f′ .«session_id»)) ≡ false) → (is-7·no·1 : Is (Ran-p .row) (passed r′ (took .at)) (Ran-p .val (passed r′ (took .at)) ∷ [])) → Sq W (‵ (MutSlice (named 0) κ₁ (Array u64 5) .own (at-list b₁ o₁ γ₁ (touchedRows (sessions) (f′ .«session_id») (f′ .time))) (sliceVal (b₁, o₁) n₁ ∷ [])) ∷ ‵ (flft κ₁ q₁) ∷ ‵ (MutSlice (named 0) κ₂ (Array u16 35) .own (at-list b₂ o₂ γ₂ streams) (sliceVal (b₂, o₂) n₂ ∷ [])) ∷ ‵ (flft κ₂ q₂) ∷ ‵ (MutSlice (named 0) κ₃ Object-t.the-row .own (at-list b₃ o₃ γ₃ objects) (sliceVal (b₃, o₃) n₃ ∷ [])) ∷ ‵ (flft κ₃ q₃) ∷ ‵ (MutSlice (named 0) κ₄ u8 .own (at-list b₄ o₄ γ₄ out) (sliceVal (b₄, o₄) n₄ ∷ [])) ∷ ‵ (flft κ₄ q₄) ∷ ‵ (ShrSlice (named 0) κ₅ u8 .own (at-list b₅ o₅ γ₅ d) (sliceVal (b₅, o₅) n₅ ∷ [])) ∷ ‵ (flft κ₅ q₅) ∷ free 𝓤 (sliceTy (tyRef erased mut (pointee (u8 .written)))) l₂₄ (free 𝓤 (tyRef erased mut (pointee (u8 .written))) l₂₃ (free 𝓤 (sliceTy (tyRef erased mut (pointee (Object-t.the-row .written)))) l₂₂ (free 𝓤 (tyRef erased mut (pointee (Object-t.the-row .written))) l₂₁ (free 𝓤 (sliceTy (tyRef erased mut (pointee ((Array u16 35) .written)))) l₂₀ (free 𝓤 (tyRef erased mut (pointee ((Array u16 35) .written))) l₁₉ (free 𝓤 (sliceTy (tyRef erased mut (pointee ((Array u64 5) .written)))) l₁₈ (free 𝓤 (tyRef erased mut (pointee ((Array u64 5) .written))) l₁₇ (full 𝓤 Ran-l.mir l₁₆ (Ran-p .val (passed r′ (took .at))) (full 𝓤 tyBool l₁₅ (bool-p .val (isLive (namedOf (sessions) (f′ .«session_id»)))) (full 𝓤 (sliceTy (tyRef erased mut (pointee ((Array u64 5) .written)))) l₁₄ (sliceVal (b₁, o₁) n₁) (full 𝓤 (tyRef erased mut (pointee ((Array u64 5) .written))) l₁₃ (vptr b₁ o₁) (free 𝓤 Move-l.mir l₁₂ (full 𝓤 Named-l.mir l₁₁ (Named-p .val (namedOf (sessions) (f′ .«session_id»))) (full 𝓤 (tyInt w8) l₁₀ (u8-p .val (f′ .«stream_id»)) (full 𝓤 (tyInt w8) l₉ (u8-p .val (f′ .«session_id»)) (full 𝓤 Taken-l.mir l₈ (Taken-p .val took) (full 𝓤 Ran-l.mir l₇ (Ran-p .val r′) (full 𝓤 Frame-l.mir l₆ (Frame-p .val f′) (full 𝓤 (sliceTy (tyRef (named 4) imm (pointee (u8 .written)))) l₅ (sliceVal (b₅, o₅) n₅) (full 𝓤 (sliceTy (tyRef (named 3) mut (pointee (u8 .written)))) l₄ (sliceVal (b₄, o₄) n₄) (full 𝓤 (sliceTy (tyRef (named 2) mut (pointee (Object-t.the-row .written)))) l₃ (sliceVal (b₃, o₃) n₃) (full 𝓤 (sliceTy (tyRef (named 1) mut (pointee ((Array u16 35) .written)))) l₂ (sliceVal (b₂, o₂) n₂) (full 𝓤 (sliceTy (tyRef (named 0) mut (pointee ((Array u64 5) .written)))) l₁ (sliceVal (b₁, o₁) n₁) (free 𝓤 Ran-l.mir l₀ ([])))))))))))))))))))))))))) (runs C Λ En mir.t-8 (atRet En Post))
-    part-8-3 len-5-sessions is-5 is-6 c-7 is-7·no·1 =
-        assigns ! (of-opd ! (load ! (from ! (stop !)) (look ! 26 refl))) (from ! (stop !)) (init ! 58 refl (Ran-p .typed 𝓤 H A W (passed r′ (took .at)) is-7·no·1)) $
-        returns ! (look ! 58 refl) $ forget ! 26 refl $ forget ! 28 refl $ forget ! 30 refl $ forget ! 32 refl $ forget ! 36 refl $ forget ! 38 refl $ forget ! 40 refl $
-        frees-all (passed r′ (took .at)) (touchedRows (sessions) (f′ .«session_id») (f′ .time)) streams objects out (exits (passed r′ (took .at)) (touchedRows (sessions) (f′ .«session_id») (f′ .time)) streams objects out (as-left out _ (r′ .wrote) (left false) (left live) (if-false left _ c-7) (no-replies out (r′ .wrote))) is-7·no·1 len-5-sessions refl refl refl)
+    part-8-4 : (len-5-sessions : length (touchedRows (sessions) (f′ .«session_id») (f′ .time)) ≡ n₁) → (is-5 : Is (Named-p .row) (namedOf (sessions) (f′ .«session_id»)) (Named-p .val (namedOf (sessions) (f′ .«session_id»)) ∷ [])) → (is-6 : Is (bool-p .row) (isLive (namedOf (sessions) (f′ .«session_id»))) (bool-p .val (isLive (namedOf (sessions) (f′ .«session_id»))) ∷ [])) → (c-7 : isLive (namedOf (sessions) (f′ .«session_id»)) ≡ false) → (is-7·no·1 : Is (Ran-p .row) (passed r′ (took .at)) (Ran-p .val (passed r′ (took .at)) ∷ [])) → Sq W (‵ (MutSlice (named 0) κ₁ (Array u64 6) .own (at-list b₁ o₁ γ₁ (touchedRows (sessions) (f′ .«session_id») (f′ .time))) (sliceVal (b₁, o₁) n₁ ∷ [])) ∷ ‵ (flft κ₁ q₁) ∷ ‵ (MutSlice (named 0) κ₂ (Array u16 35) .own (at-list b₂ o₂ γ₂ streams) (sliceVal (b₂, o₂) n₂ ∷ [])) ∷ ‵ (flft κ₂ q₂) ∷ ‵ (MutSlice (named 0) κ₃ Object-t.the-row .own (at-list b₃ o₃ γ₃ objects) (sliceVal (b₃, o₃) n₃ ∷ [])) ∷ ‵ (flft κ₃ q₃) ∷ ‵ (ShrSlice (named 0) κ₄ u8 .own (at-list b₄ o₄ γ₄ held) (sliceVal (b₄, o₄) n₄ ∷ [])) ∷ ‵ (flft κ₄ q₄) ∷ ‵ (MutSlice (named 0) κ₅ u8 .own (at-list b₅ o₅ γ₅ out) (sliceVal (b₅, o₅) n₅ ∷ [])) ∷ ‵ (flft κ₅ q₅) ∷ ‵ (ShrSlice (named 0) κ₆ u8 .own (at-list b₆ o₆ γ₆ d) (sliceVal (b₆, o₆) n₆ ∷ [])) ∷ ‵ (flft κ₆ q₆) ∷ free 𝓤 (sliceTy (tyRef erased mut (pointee (u8 .written)))) l₃₀ (free 𝓤 (tyRef erased mut (pointee (u8 .written))) l₂₉ (free 𝓤 (sliceTy (tyRef erased imm (pointee ((Array u16 35) .written)))) l₂₈ (free 𝓤 (tyRef erased imm (pointee ((Array u16 35) .written))) l₂₇ (free 𝓤 (sliceTy (tyRef erased imm (pointee ((Array u64 6) .written)))) l₂₆ (free 𝓤 (tyRef erased imm (pointee ((Array u64 6) .written))) l₂₅ (free 𝓤 (sliceTy (tyRef erased mut (pointee (Object-t.the-row .written)))) l₂₄ (free 𝓤 (tyRef erased mut (pointee (Object-t.the-row .written))) l₂₃ (free 𝓤 (sliceTy (tyRef erased mut (pointee ((Array u16 35) .written)))) l₂₂ (free 𝓤 (tyRef erased mut (pointee ((Array u16 35) .written))) l₂₁ (free 𝓤 (sliceTy (tyRef erased mut (pointee ((Array u64 6) .written)))) l₂₀ (free 𝓤 (tyRef erased mut (pointee ((Array u64 6) .written))) l₁₉ (full 𝓤 Ran-l.mir l₁₈ (Ran-p .val (passed r′ (took .at))) (full 𝓤 tyBool l₁₇ (bool-p .val (isLive (namedOf (sessions) (f′ .«session_id»)))) (full 𝓤 (sliceTy (tyRef erased mut (pointee ((Array u64 6) .written)))) l₁₆ (sliceVal (b₁, o₁) n₁) (full 𝓤 (tyRef erased mut (pointee ((Array u64 6) .written))) l₁₅ (vptr b₁ o₁) (free 𝓤 (tyInt w64) l₁₄ (free 𝓤 Move-l.mir l₁₃ (full 𝓤 Named-l.mir l₁₂ (Named-p .val (namedOf (sessions) (f′ .«session_id»))) (full 𝓤 (tyInt w8) l₁₁ (u8-p .val (f′ .«stream_id»)) (full 𝓤 (tyInt w8) l₁₀ (u8-p .val (f′ .«session_id»)) (full 𝓤 Taken-l.mir l₉ (Taken-p .val took) (full 𝓤 Ran-l.mir l₈ (Ran-p .val r′) (full 𝓤 Frame-l.mir l₇ (Frame-p .val f′) (full 𝓤 (sliceTy (tyRef (named 5) imm (pointee (u8 .written)))) l₆ (sliceVal (b₆, o₆) n₆) (full 𝓤 (sliceTy (tyRef (named 4) mut (pointee (u8 .written)))) l₅ (sliceVal (b₅, o₅) n₅) (full 𝓤 (sliceTy (tyRef (named 3) imm (pointee (u8 .written)))) l₄ (sliceVal (b₄, o₄) n₄) (full 𝓤 (sliceTy (tyRef (named 2) mut (pointee (Object-t.the-row .written)))) l₃ (sliceVal (b₃, o₃) n₃) (full 𝓤 (sliceTy (tyRef (named 1) mut (pointee ((Array u16 35) .written)))) l₂ (sliceVal (b₂, o₂) n₂) (full 𝓤 (sliceTy (tyRef (named 0) mut (pointee ((Array u64 6) .written)))) l₁ (sliceVal (b₁, o₁) n₁) (free 𝓤 Ran-l.mir l₀ ([])))))))))))))))))))))))))))))))) (runs C Λ En mir.t-8 (atRet En Post))
+    part-8-4 len-5-sessions is-5 is-6 c-7 is-7·no·1 =
+        assigns ! (of-opd ! (load ! (from ! (stop !)) (look ! 36 refl))) (from ! (stop !)) (init ! 72 refl (Ran-p .typed 𝓤 H A W (passed r′ (took .at)) is-7·no·1)) $
+        returns ! (look ! 72 refl) $ forget ! 36 refl $ forget ! 38 refl $ forget ! 40 refl $ forget ! 42 refl $ forget ! 48 refl $ forget ! 50 refl $ forget ! 52 refl $
+        frees-all (passed r′ (took .at)) (touchedRows (sessions) (f′ .«session_id») (f′ .time)) streams objects out (exits (passed r′ (took .at)) (touchedRows (sessions) (f′ .«session_id») (f′ .time)) streams objects out (as-left (f′ .room) out _ (r′ .wrote) (left false) (left live) (if-false left _ c-7) (no-replies (f′ .room) out (r′ .wrote))) is-7·no·1 len-5-sessions refl refl refl)
 
-    part-7-0 : (len-5-sessions : length (touchedRows (sessions) (f′ .«session_id») (f′ .time)) ≡ n₁) → (is-5 : Is (Named-p .row) (namedOf (sessions) (f′ .«session_id»)) (Named-p .val (namedOf (sessions) (f′ .«session_id»)) ∷ [])) → (is-6 : Is (bool-p .row) (isLive (namedOf (sessions) (f′ .«session_id»))) (bool-p .val (isLive (namedOf (sessions) (f′ .«session_id»))) ∷ [])) → Sq W (‵ (MutSlice (named 0) κ₁ (Array u64 5) .own (at-list b₁ o₁ γ₁ (touchedRows (sessions) (f′ .«session_id») (f′ .time))) (sliceVal (b₁, o₁) n₁ ∷ [])) ∷ ‵ (flft κ₁ q₁) ∷ ‵ (MutSlice (named 0) κ₂ (Array u16 35) .own (at-list b₂ o₂ γ₂ streams) (sliceVal (b₂, o₂) n₂ ∷ [])) ∷ ‵ (flft κ₂ q₂) ∷ ‵ (MutSlice (named 0) κ₃ Object-t.the-row .own (at-list b₃ o₃ γ₃ objects) (sliceVal (b₃, o₃) n₃ ∷ [])) ∷ ‵ (flft κ₃ q₃) ∷ ‵ (MutSlice (named 0) κ₄ u8 .own (at-list b₄ o₄ γ₄ out) (sliceVal (b₄, o₄) n₄ ∷ [])) ∷ ‵ (flft κ₄ q₄) ∷ ‵ (ShrSlice (named 0) κ₅ u8 .own (at-list b₅ o₅ γ₅ d) (sliceVal (b₅, o₅) n₅ ∷ [])) ∷ ‵ (flft κ₅ q₅) ∷ free 𝓤 (sliceTy (tyRef erased mut (pointee (u8 .written)))) l₂₄ (free 𝓤 (tyRef erased mut (pointee (u8 .written))) l₂₃ (free 𝓤 (sliceTy (tyRef erased mut (pointee (Object-t.the-row .written)))) l₂₂ (free 𝓤 (tyRef erased mut (pointee (Object-t.the-row .written))) l₂₁ (free 𝓤 (sliceTy (tyRef erased mut (pointee ((Array u16 35) .written)))) l₂₀ (free 𝓤 (tyRef erased mut (pointee ((Array u16 35) .written))) l₁₉ (free 𝓤 (sliceTy (tyRef erased mut (pointee ((Array u64 5) .written)))) l₁₈ (free 𝓤 (tyRef erased mut (pointee ((Array u64 5) .written))) l₁₇ (free 𝓤 Ran-l.mir l₁₆ (full 𝓤 tyBool l₁₅ (bool-p .val (isLive (namedOf (sessions) (f′ .«session_id»)))) (full 𝓤 (sliceTy (tyRef erased mut (pointee ((Array u64 5) .written)))) l₁₄ (sliceVal (b₁, o₁) n₁) (full 𝓤 (tyRef erased mut (pointee ((Array u64 5) .written))) l₁₃ (vptr b₁ o₁) (free 𝓤 Move-l.mir l₁₂ (full 𝓤 Named-l.mir l₁₁ (Named-p .val (namedOf (sessions) (f′ .«session_id»))) (full 𝓤 (tyInt w8) l₁₀ (u8-p .val (f′ .«stream_id»)) (full 𝓤 (tyInt w8) l₉ (u8-p .val (f′ .«session_id»)) (full 𝓤 Taken-l.mir l₈ (Taken-p .val took) (full 𝓤 Ran-l.mir l₇ (Ran-p .val r′) (full 𝓤 Frame-l.mir l₆ (Frame-p .val f′) (full 𝓤 (sliceTy (tyRef (named 4) imm (pointee (u8 .written)))) l₅ (sliceVal (b₅, o₅) n₅) (full 𝓤 (sliceTy (tyRef (named 3) mut (pointee (u8 .written)))) l₄ (sliceVal (b₄, o₄) n₄) (full 𝓤 (sliceTy (tyRef (named 2) mut (pointee (Object-t.the-row .written)))) l₃ (sliceVal (b₃, o₃) n₃) (full 𝓤 (sliceTy (tyRef (named 1) mut (pointee ((Array u16 35) .written)))) l₂ (sliceVal (b₂, o₂) n₂) (full 𝓤 (sliceTy (tyRef (named 0) mut (pointee ((Array u64 5) .written)))) l₁ (sliceVal (b₁, o₁) n₁) (free 𝓤 Ran-l.mir l₀ ([])))))))))))))))))))))))))) (runs C Λ En mir.t-7 (atRet En Post))
+    part-7-0 : (len-5-sessions : length (touchedRows (sessions) (f′ .«session_id») (f′ .time)) ≡ n₁) → (is-5 : Is (Named-p .row) (namedOf (sessions) (f′ .«session_id»)) (Named-p .val (namedOf (sessions) (f′ .«session_id»)) ∷ [])) → (is-6 : Is (bool-p .row) (isLive (namedOf (sessions) (f′ .«session_id»))) (bool-p .val (isLive (namedOf (sessions) (f′ .«session_id»))) ∷ [])) → Sq W (‵ (MutSlice (named 0) κ₁ (Array u64 6) .own (at-list b₁ o₁ γ₁ (touchedRows (sessions) (f′ .«session_id») (f′ .time))) (sliceVal (b₁, o₁) n₁ ∷ [])) ∷ ‵ (flft κ₁ q₁) ∷ ‵ (MutSlice (named 0) κ₂ (Array u16 35) .own (at-list b₂ o₂ γ₂ streams) (sliceVal (b₂, o₂) n₂ ∷ [])) ∷ ‵ (flft κ₂ q₂) ∷ ‵ (MutSlice (named 0) κ₃ Object-t.the-row .own (at-list b₃ o₃ γ₃ objects) (sliceVal (b₃, o₃) n₃ ∷ [])) ∷ ‵ (flft κ₃ q₃) ∷ ‵ (ShrSlice (named 0) κ₄ u8 .own (at-list b₄ o₄ γ₄ held) (sliceVal (b₄, o₄) n₄ ∷ [])) ∷ ‵ (flft κ₄ q₄) ∷ ‵ (MutSlice (named 0) κ₅ u8 .own (at-list b₅ o₅ γ₅ out) (sliceVal (b₅, o₅) n₅ ∷ [])) ∷ ‵ (flft κ₅ q₅) ∷ ‵ (ShrSlice (named 0) κ₆ u8 .own (at-list b₆ o₆ γ₆ d) (sliceVal (b₆, o₆) n₆ ∷ [])) ∷ ‵ (flft κ₆ q₆) ∷ free 𝓤 (sliceTy (tyRef erased mut (pointee (u8 .written)))) l₃₀ (free 𝓤 (tyRef erased mut (pointee (u8 .written))) l₂₉ (free 𝓤 (sliceTy (tyRef erased imm (pointee ((Array u16 35) .written)))) l₂₈ (free 𝓤 (tyRef erased imm (pointee ((Array u16 35) .written))) l₂₇ (free 𝓤 (sliceTy (tyRef erased imm (pointee ((Array u64 6) .written)))) l₂₆ (free 𝓤 (tyRef erased imm (pointee ((Array u64 6) .written))) l₂₅ (free 𝓤 (sliceTy (tyRef erased mut (pointee (Object-t.the-row .written)))) l₂₄ (free 𝓤 (tyRef erased mut (pointee (Object-t.the-row .written))) l₂₃ (free 𝓤 (sliceTy (tyRef erased mut (pointee ((Array u16 35) .written)))) l₂₂ (free 𝓤 (tyRef erased mut (pointee ((Array u16 35) .written))) l₂₁ (free 𝓤 (sliceTy (tyRef erased mut (pointee ((Array u64 6) .written)))) l₂₀ (free 𝓤 (tyRef erased mut (pointee ((Array u64 6) .written))) l₁₉ (free 𝓤 Ran-l.mir l₁₈ (full 𝓤 tyBool l₁₇ (bool-p .val (isLive (namedOf (sessions) (f′ .«session_id»)))) (full 𝓤 (sliceTy (tyRef erased mut (pointee ((Array u64 6) .written)))) l₁₆ (sliceVal (b₁, o₁) n₁) (full 𝓤 (tyRef erased mut (pointee ((Array u64 6) .written))) l₁₅ (vptr b₁ o₁) (free 𝓤 (tyInt w64) l₁₄ (free 𝓤 Move-l.mir l₁₃ (full 𝓤 Named-l.mir l₁₂ (Named-p .val (namedOf (sessions) (f′ .«session_id»))) (full 𝓤 (tyInt w8) l₁₁ (u8-p .val (f′ .«stream_id»)) (full 𝓤 (tyInt w8) l₁₀ (u8-p .val (f′ .«session_id»)) (full 𝓤 Taken-l.mir l₉ (Taken-p .val took) (full 𝓤 Ran-l.mir l₈ (Ran-p .val r′) (full 𝓤 Frame-l.mir l₇ (Frame-p .val f′) (full 𝓤 (sliceTy (tyRef (named 5) imm (pointee (u8 .written)))) l₆ (sliceVal (b₆, o₆) n₆) (full 𝓤 (sliceTy (tyRef (named 4) mut (pointee (u8 .written)))) l₅ (sliceVal (b₅, o₅) n₅) (full 𝓤 (sliceTy (tyRef (named 3) imm (pointee (u8 .written)))) l₄ (sliceVal (b₄, o₄) n₄) (full 𝓤 (sliceTy (tyRef (named 2) mut (pointee (Object-t.the-row .written)))) l₃ (sliceVal (b₃, o₃) n₃) (full 𝓤 (sliceTy (tyRef (named 1) mut (pointee ((Array u16 35) .written)))) l₂ (sliceVal (b₂, o₂) n₂) (full 𝓤 (sliceTy (tyRef (named 0) mut (pointee ((Array u64 6) .written)))) l₁ (sliceVal (b₁, o₁) n₁) (free 𝓤 Ran-l.mir l₀ ([])))))))))))))))))))))))))))))))) (runs C Λ En mir.t-7 (atRet En Post))
     part-7-0 len-5-sessions is-5 is-6 =
         first ! $
-        branches ! (load ! (from ! (stop !)) (look ! 28 refl))
+        branches ! (load ! (from ! (stop !)) (look ! 38 refl))
         (λ h-7.
         knows ! (isLive (namedOf (sessions) (f′ .«session_id»)) ≡ true) (holds (isLive (namedOf (sessions) (f′ .«session_id»))) h-7) (λ c-7.
-        assigns ! (addr ! (from ! (fld ! refl (hop ! (look-in ! 56 (sub ! 0 refl (whole !))) (stop !))))) (from ! (stop !)) (init ! 24 refl (tt, tt)) $
-        assigns ! (agg ! (and-then ! (load ! (from ! (stop !)) (look ! 24 refl)) (and-then ! (load ! (from ! (fld ! refl (stop !))) (look-in ! 56 (sub ! 1 refl (whole !)))) (no-more !)))) (from ! (stop !)) (init ! 22 refl (tt, (tt, (record { fits = room₁ .0 }, tt)))) $
-        assigns ! (addr ! (from ! (fld ! refl (hop ! (look-in ! 54 (sub ! 0 refl (whole !))) (stop !))))) (from ! (stop !)) (init ! 20 refl (tt, tt)) $
-        assigns ! (agg ! (and-then ! (load ! (from ! (stop !)) (look ! 20 refl)) (and-then ! (load ! (from ! (fld ! refl (stop !))) (look-in ! 54 (sub ! 1 refl (whole !)))) (no-more !)))) (from ! (stop !)) (init ! 18 refl (tt, (tt, (record { fits = room₂ .0 }, tt)))) $
-        assigns ! (addr ! (from ! (fld ! refl (hop ! (look-in ! 52 (sub ! 0 refl (whole !))) (stop !))))) (from ! (stop !)) (init ! 16 refl (tt, tt)) $
-        assigns ! (agg ! (and-then ! (load ! (from ! (stop !)) (look ! 16 refl)) (and-then ! (load ! (from ! (fld ! refl (stop !))) (look-in ! 52 (sub ! 1 refl (whole !)))) (no-more !)))) (from ! (stop !)) (init ! 14 refl (tt, (tt, (record { fits = room₃ .0 }, tt)))) $
+        assigns ! (addr ! (from ! (fld ! refl (hop ! (look-in ! 70 (sub ! 0 refl (whole !))) (stop !))))) (from ! (stop !)) (init ! 34 refl (tt, tt)) $
+        assigns ! (agg ! (and-then ! (load ! (from ! (stop !)) (look ! 34 refl)) (and-then ! (load ! (from ! (fld ! refl (stop !))) (look-in ! 70 (sub ! 1 refl (whole !)))) (no-more !)))) (from ! (stop !)) (init ! 32 refl (tt, (tt, (record { fits = room₁ .0 }, tt)))) $
+        assigns ! (addr ! (from ! (fld ! refl (hop ! (look-in ! 68 (sub ! 0 refl (whole !))) (stop !))))) (from ! (stop !)) (init ! 30 refl (tt, tt)) $
+        assigns ! (agg ! (and-then ! (load ! (from ! (stop !)) (look ! 30 refl)) (and-then ! (load ! (from ! (fld ! refl (stop !))) (look-in ! 68 (sub ! 1 refl (whole !)))) (no-more !)))) (from ! (stop !)) (init ! 28 refl (tt, (tt, (record { fits = room₂ .0 }, tt)))) $
+        assigns ! (addr ! (from ! (fld ! refl (hop ! (look-in ! 66 (sub ! 0 refl (whole !))) (stop !))))) (from ! (stop !)) (init ! 26 refl (tt, tt)) $
+        assigns ! (agg ! (and-then ! (load ! (from ! (stop !)) (look ! 26 refl)) (and-then ! (load ! (from ! (fld ! refl (stop !))) (look-in ! 66 (sub ! 1 refl (whole !)))) (no-more !)))) (from ! (stop !)) (init ! 24 refl (tt, (tt, (record { fits = room₃ .0 }, tt)))) $
         -- 7.yes.7: moves::handle::handle
-        lends-mut ! tt (Array u64 5) b₁ o₁ (touchedRows (sessions) (f′ .«session_id») (f′ .time)) n₁ (len-5-sessions) (λ ν-7·yes·7-sessions δ-7·yes·7-sessions.
+        lends-mut ! tt (Array u64 6) b₁ o₁ (touchedRows (sessions) (f′ .«session_id») (f′ .time)) n₁ (len-5-sessions) (λ ν-7·yes·7-sessions δ-7·yes·7-sessions.
         move ! (3 ∷ 4 ∷ []) $
         lends-mut ! tt (Array u16 35) b₂ o₂ streams n₂ (refl) (λ ν-7·yes·7-streams δ-7·yes·7-streams.
         move ! (6 ∷ 7 ∷ []) $
         lends-mut ! tt Object-t.the-row b₃ o₃ objects n₃ (refl) (λ ν-7·yes·7-objects δ-7·yes·7-objects.
-        move ! (11 ∷ 12 ∷ []) $
-        copies-shr ! u8 b₅ o₅ d n₅ $ nothing ! $ move ! (1 ∷ 0 ∷ []) $ join ! $ move ! (3 ∷ 0 ∷ []) $ join ! $ move ! (5 ∷ 0 ∷ []) $ join ! $ move ! (7 ∷ 0 ∷ []) $ join ! $
-        use1 W (raw (toks 𝓤 A 4 (((ν-7·yes·7-sessions ∷ []), ((ν-7·yes·7-streams ∷ []), ((ν-7·yes·7-objects ∷ []), (κ₅, tt))))) ((fullShare, (fullShare, (fullShare, (q₅, tt))))))) (id⊢ 𝓤 _) $ nothing ! $
+        move ! (13 ∷ 14 ∷ []) $
+        copies-shr ! u8 b₆ o₆ d n₆ $ nothing ! $ move ! (1 ∷ 0 ∷ []) $ join ! $ move ! (3 ∷ 0 ∷ []) $ join ! $ move ! (5 ∷ 0 ∷ []) $ join ! $ move ! (7 ∷ 0 ∷ []) $ join ! $
+        use1 W (raw (toks 𝓤 A 4 (((ν-7·yes·7-sessions ∷ []), ((ν-7·yes·7-streams ∷ []), ((ν-7·yes·7-objects ∷ []), (κ₆, tt))))) ((fullShare, (fullShare, (fullShare, (q₆, tt))))))) (id⊢ 𝓤 _) $ nothing ! $
         owned ! (Span-p .row) (Is (Span-p .row)) (Span-p .makes 𝓤 H A W) (took .body) (Span-p .val (took .body) ∷ []) (LL.owed Taken-t.the-type Taken-l.the-laws took _ took-is .1 .0) $ fjoin ! $
         owned ! (Asked-p .row) (Is (Asked-p .row)) (Asked-p .makes 𝓤 H A W) (took .asked) (Asked-p .val (took .asked) ∷ []) (LL.owed Taken-t.the-type Taken-l.the-laws took _ took-is .0) $ fjoin ! $
         owned ! (u8-p .row) (Is (u8-p .row)) (u8-p .makes 𝓤 H A W) (f′ .«stream_id») (u8-p .val (f′ .«stream_id») ∷ []) (LL.owed Frame-t.the-type Frame-l.the-laws f′ _ f′-is .1 .1 .1 .0) $ fjoin ! $
         owned ! (u8-p .row) (Is (u8-p .row)) (u8-p .makes 𝓤 H A W) (f′ .«session_id») (u8-p .val (f′ .«session_id») ∷ []) (LL.owed Frame-t.the-type Frame-l.the-laws f′ _ f′-is .1 .1 .0) $ fjoin ! $ move ! (2 ∷ 0 ∷ []) $ fjoin ! $ move ! (3 ∷ 0 ∷ []) $ fjoin ! $ move ! (4 ∷ 0 ∷ []) $ fjoin ! $ move ! (5 ∷ 0 ∷ []) $ fjoin ! $ move ! (1 ∷ 0 ∷ []) $
-        calls-any ! fm 4 [] (handle-handle.signature .params) (handle-handle.ended .kept) Move-p (handle-handle.clauses 𝓤 H A mem run) known-handle-handle ((ν-7·yes·7-sessions ∷ []), ((ν-7·yes·7-streams ∷ []), ((ν-7·yes·7-objects ∷ []), (κ₅, tt)))) (fullShare, (fullShare, (fullShare, (q₅, tt)))) tt (at-list b₁ o₁ δ-7·yes·7-sessions (touchedRows (sessions) (f′ .«session_id») (f′ .time)), (at-list b₂ o₂ δ-7·yes·7-streams streams, (at-list b₃ o₃ δ-7·yes·7-objects objects, (at-list b₅ o₅ γ₅ d, (f′ .«session_id», (f′ .«stream_id», (took .asked, (took .body, tt)))))))) (sliceVal (b₁, o₁) n₁ ∷ [], (sliceVal (b₂, o₂) n₂ ∷ [], (sliceVal (b₃, o₃) n₃ ∷ [], (sliceVal (b₅, o₅) n₅ ∷ [], (u8-p .val (f′ .«session_id») ∷ [], (u8-p .val (f′ .«stream_id») ∷ [], (Asked-p .val (took .asked) ∷ [], (Span-p .val (took .body) ∷ [], tt)))))))) tt (handledMove (took .asked) (lent ((touchedRows (sessions) (f′ .«session_id») (f′ .time))) (streams) (objects)) (d) (f′ .«session_id») (f′ .«stream_id») (took .body)) (λ ws-7·yes·7. (ws-7·yes·7 .0 ≡ handledTables (took .asked) (lent ((touchedRows (sessions) (f′ .«session_id») (f′ .time))) (streams) (objects)) (f′ .«session_id») (f′ .«stream_id») .sessions) × (ws-7·yes·7 .1 .0 ≡ handledTables (took .asked) (lent ((touchedRows (sessions) (f′ .«session_id») (f′ .time))) (streams) (objects)) (f′ .«session_id») (f′ .«stream_id») .streams) × (ws-7·yes·7 .1 .1 .0 ≡ handledTables (took .asked) (lent ((touchedRows (sessions) (f′ .«session_id») (f′ .time))) (streams) (objects)) (f′ .«session_id») (f′ .«stream_id») .objects)) (id⊢ 𝓤 _) (λ r ws-7·yes·7. fact-mono 𝓤 ((r ≡ handledMove (took .asked) (lent ((touchedRows (sessions) (f′ .«session_id») (f′ .time))) (streams) (objects)) (d) (f′ .«session_id») (f′ .«stream_id») (took .body)) × ((ws-7·yes·7 .0) ≡ handledTables (took .asked) (lent ((touchedRows (sessions) (f′ .«session_id») (f′ .time))) (streams) (objects)) (f′ .«session_id») (f′ .«stream_id») .sessions) × ((ws-7·yes·7 .1 .0) ≡ handledTables (took .asked) (lent ((touchedRows (sessions) (f′ .«session_id») (f′ .time))) (streams) (objects)) (f′ .«session_id») (f′ .«stream_id») .streams) × ((ws-7·yes·7 .1 .1 .0) ≡ handledTables (took .asked) (lent ((touchedRows (sessions) (f′ .«session_id») (f′ .time))) (streams) (objects)) (f′ .«session_id») (f′ .«stream_id») .objects)) ((r ≡ (handledMove (took .asked) (lent ((touchedRows (sessions) (f′ .«session_id») (f′ .time))) (streams) (objects)) (d) (f′ .«session_id») (f′ .«stream_id») (took .body))) × ((ws-7·yes·7 .0 ≡ handledTables (took .asked) (lent ((touchedRows (sessions) (f′ .«session_id») (f′ .time))) (streams) (objects)) (f′ .«session_id») (f′ .«stream_id») .sessions) × (ws-7·yes·7 .1 .0 ≡ handledTables (took .asked) (lent ((touchedRows (sessions) (f′ .«session_id») (f′ .time))) (streams) (objects)) (f′ .«session_id») (f′ .«stream_id») .streams) × (ws-7·yes·7 .1 .1 .0 ≡ handledTables (took .asked) (lent ((touchedRows (sessions) (f′ .«session_id») (f′ .time))) (streams) (objects)) (f′ .«session_id») (f′ .«stream_id») .objects))) (λ e. (e .0, (e .1, e .2, e .3)))) (λ _. (and-then ! (load ! (from ! (stop !)) (look ! 19 refl)) (and-then ! (load ! (from ! (stop !)) (look ! 15 refl)) (and-then ! (load ! (from ! (stop !)) (look ! 11 refl)) (and-then ! (load ! (from ! (stop !)) (look ! 45 refl)) (and-then ! (load ! (from ! (stop !)) (look ! 37 refl)) (and-then ! (load ! (from ! (stop !)) (look ! 35 refl)) (and-then ! (load ! (from ! (fld ! refl (stop !))) (look-in ! 39 (sub ! 0 refl (whole !)))) (and-then ! (load ! (from ! (fld ! refl (stop !))) (look-in ! 39 (sub ! 1 refl (whole !)))) (no-more !)))))))))) (λ ws-7·yes·7 said-7·yes·7 is-7·yes·7.
-        use1 W ((‵ (flft (ν-7·yes·7-sessions ∷ []) fullShare) ⊛ (‵ (flft (ν-7·yes·7-streams ∷ []) fullShare) ⊛ (‵ (flft (ν-7·yes·7-objects ∷ []) fullShare) ⊛ (‵ (flft κ₅ q₅) ⊛ ‵ ftrue))))) (id⊢ 𝓤 _) $ split ! $ move ! (1 ∷ []) $ split ! $ move ! (1 ∷ []) $ split ! $ move ! (1 ∷ []) $ split ! $ move ! (5 ∷ []) $ fsplit ! $ fsplit ! $ move ! (1 ∷ []) $
+        calls-any ! fm 4 [] (handle-handle.signature .params) (handle-handle.ended .kept) Move-p (handle-handle.clauses 𝓤 H A mem run) known-handle-handle ((ν-7·yes·7-sessions ∷ []), ((ν-7·yes·7-streams ∷ []), ((ν-7·yes·7-objects ∷ []), (κ₆, tt)))) (fullShare, (fullShare, (fullShare, (q₆, tt)))) tt (at-list b₁ o₁ δ-7·yes·7-sessions (touchedRows (sessions) (f′ .«session_id») (f′ .time)), (at-list b₂ o₂ δ-7·yes·7-streams streams, (at-list b₃ o₃ δ-7·yes·7-objects objects, (at-list b₆ o₆ γ₆ d, (f′ .«session_id», (f′ .«stream_id», (took .asked, (took .body, tt)))))))) (sliceVal (b₁, o₁) n₁ ∷ [], (sliceVal (b₂, o₂) n₂ ∷ [], (sliceVal (b₃, o₃) n₃ ∷ [], (sliceVal (b₆, o₆) n₆ ∷ [], (u8-p .val (f′ .«session_id») ∷ [], (u8-p .val (f′ .«stream_id») ∷ [], (Asked-p .val (took .asked) ∷ [], (Span-p .val (took .body) ∷ [], tt)))))))) tt (handledMove (took .asked) (rows ((touchedRows (sessions) (f′ .«session_id») (f′ .time))) (streams) (objects)) (d) (f′ .«session_id») (f′ .«stream_id») (took .body)) (λ ws-7·yes·7. (ws-7·yes·7 .0 ≡ handledRows (took .asked) (rows ((touchedRows (sessions) (f′ .«session_id») (f′ .time))) (streams) (objects)) (f′ .«session_id») (f′ .«stream_id») .sessions) × (ws-7·yes·7 .1 .0 ≡ handledRows (took .asked) (rows ((touchedRows (sessions) (f′ .«session_id») (f′ .time))) (streams) (objects)) (f′ .«session_id») (f′ .«stream_id») .streams) × (ws-7·yes·7 .1 .1 .0 ≡ handledRows (took .asked) (rows ((touchedRows (sessions) (f′ .«session_id») (f′ .time))) (streams) (objects)) (f′ .«session_id») (f′ .«stream_id») .objects)) (id⊢ 𝓤 _) (λ r ws-7·yes·7. fact-mono 𝓤 ((r ≡ handledMove (took .asked) (rows ((touchedRows (sessions) (f′ .«session_id») (f′ .time))) (streams) (objects)) (d) (f′ .«session_id») (f′ .«stream_id») (took .body)) × ((ws-7·yes·7 .0) ≡ handledRows (took .asked) (rows ((touchedRows (sessions) (f′ .«session_id») (f′ .time))) (streams) (objects)) (f′ .«session_id») (f′ .«stream_id») .sessions) × ((ws-7·yes·7 .1 .0) ≡ handledRows (took .asked) (rows ((touchedRows (sessions) (f′ .«session_id») (f′ .time))) (streams) (objects)) (f′ .«session_id») (f′ .«stream_id») .streams) × ((ws-7·yes·7 .1 .1 .0) ≡ handledRows (took .asked) (rows ((touchedRows (sessions) (f′ .«session_id») (f′ .time))) (streams) (objects)) (f′ .«session_id») (f′ .«stream_id») .objects)) ((r ≡ (handledMove (took .asked) (rows ((touchedRows (sessions) (f′ .«session_id») (f′ .time))) (streams) (objects)) (d) (f′ .«session_id») (f′ .«stream_id») (took .body))) × ((ws-7·yes·7 .0 ≡ handledRows (took .asked) (rows ((touchedRows (sessions) (f′ .«session_id») (f′ .time))) (streams) (objects)) (f′ .«session_id») (f′ .«stream_id») .sessions) × (ws-7·yes·7 .1 .0 ≡ handledRows (took .asked) (rows ((touchedRows (sessions) (f′ .«session_id») (f′ .time))) (streams) (objects)) (f′ .«session_id») (f′ .«stream_id») .streams) × (ws-7·yes·7 .1 .1 .0 ≡ handledRows (took .asked) (rows ((touchedRows (sessions) (f′ .«session_id») (f′ .time))) (streams) (objects)) (f′ .«session_id») (f′ .«stream_id») .objects))) (λ e. (e .0, (e .1, e .2, e .3)))) (λ _. (and-then ! (load ! (from ! (stop !)) (look ! 29 refl)) (and-then ! (load ! (from ! (stop !)) (look ! 25 refl)) (and-then ! (load ! (from ! (stop !)) (look ! 21 refl)) (and-then ! (load ! (from ! (stop !)) (look ! 57 refl)) (and-then ! (load ! (from ! (stop !)) (look ! 49 refl)) (and-then ! (load ! (from ! (stop !)) (look ! 47 refl)) (and-then ! (load ! (from ! (fld ! refl (stop !))) (look-in ! 51 (sub ! 0 refl (whole !)))) (and-then ! (load ! (from ! (fld ! refl (stop !))) (look-in ! 51 (sub ! 1 refl (whole !)))) (no-more !)))))))))) (λ ws-7·yes·7 said-7·yes·7 is-7·yes·7.
+        use1 W ((‵ (flft (ν-7·yes·7-sessions ∷ []) fullShare) ⊛ (‵ (flft (ν-7·yes·7-streams ∷ []) fullShare) ⊛ (‵ (flft (ν-7·yes·7-objects ∷ []) fullShare) ⊛ (‵ (flft κ₆ q₆) ⊛ ‵ ftrue))))) (id⊢ 𝓤 _) $ split ! $ move ! (1 ∷ []) $ split ! $ move ! (1 ∷ []) $ split ! $ move ! (1 ∷ []) $ split ! $ move ! (5 ∷ []) $ fsplit ! $ fsplit ! $ move ! (1 ∷ []) $
         feqL ! (λ wlen-7·yes·7-0.
         move ! (1 ∷ []) $ fsplit ! $ fsplit ! $ move ! (1 ∷ []) $
         feqL ! (λ wlen-7·yes·7-1.
         move ! (1 ∷ []) $ fsplit ! $ fsplit ! $ move ! (1 ∷ []) $
         feqL ! (λ wlen-7·yes·7-2.
         move ! (1 ∷ []) $ fsplit ! $ move ! (9 ∷ 13 ∷ 4 ∷ []) $
-        backs-mut ! tt (Array u64 5) b₁ o₁ (touchedRows (sessions) (f′ .«session_id») (f′ .time)) n₁ (len-5-sessions) room₁ ν-7·yes·7-sessions δ-7·yes·7-sessions (ws-7·yes·7 .0) (handledTables (took .asked) (lent ((touchedRows (sessions) (f′ .«session_id») (f′ .time))) (streams) (objects)) (f′ .«session_id») (f′ .«stream_id») .sessions) wlen-7·yes·7-0 (said-7·yes·7 .0) (λ len-7·yes·7-sessions.
+        backs-mut ! tt (Array u64 6) b₁ o₁ (touchedRows (sessions) (f′ .«session_id») (f′ .time)) n₁ (len-5-sessions) room₁ ν-7·yes·7-sessions δ-7·yes·7-sessions (ws-7·yes·7 .0) (handledRows (took .asked) (rows ((touchedRows (sessions) (f′ .«session_id») (f′ .time))) (streams) (objects)) (f′ .«session_id») (f′ .«stream_id») .sessions) wlen-7·yes·7-0 (said-7·yes·7 .0) (λ len-7·yes·7-sessions.
         move ! (9 ∷ 12 ∷ 5 ∷ []) $
-        backs-mut ! tt (Array u16 35) b₂ o₂ streams n₂ (refl) room₂ ν-7·yes·7-streams δ-7·yes·7-streams (ws-7·yes·7 .1 .0) (handledTables (took .asked) (lent ((touchedRows (sessions) (f′ .«session_id») (f′ .time))) (streams) (objects)) (f′ .«session_id») (f′ .«stream_id») .streams) wlen-7·yes·7-1 (said-7·yes·7 .1) (λ len-7·yes·7-streams.
+        backs-mut ! tt (Array u16 35) b₂ o₂ streams n₂ (refl) room₂ ν-7·yes·7-streams δ-7·yes·7-streams (ws-7·yes·7 .1 .0) (handledRows (took .asked) (rows ((touchedRows (sessions) (f′ .«session_id») (f′ .time))) (streams) (objects)) (f′ .«session_id») (f′ .«stream_id») .streams) wlen-7·yes·7-1 (said-7·yes·7 .1) (λ len-7·yes·7-streams.
         move ! (9 ∷ 11 ∷ 6 ∷ []) $
-        backs-mut ! tt Object-t.the-row b₃ o₃ objects n₃ (refl) room₃ ν-7·yes·7-objects δ-7·yes·7-objects (ws-7·yes·7 .1 .1 .0) (handledTables (took .asked) (lent ((touchedRows (sessions) (f′ .«session_id») (f′ .time))) (streams) (objects)) (f′ .«session_id») (f′ .«stream_id») .objects) wlen-7·yes·7-2 (said-7·yes·7 .2) (λ len-7·yes·7-objects.
+        backs-mut ! tt Object-t.the-row b₃ o₃ objects n₃ (refl) room₃ ν-7·yes·7-objects δ-7·yes·7-objects (ws-7·yes·7 .1 .1 .0) (handledRows (took .asked) (rows ((touchedRows (sessions) (f′ .«session_id») (f′ .time))) (streams) (objects)) (f′ .«session_id») (f′ .«stream_id») .objects) wlen-7·yes·7-2 (said-7·yes·7 .2) (λ len-7·yes·7-objects.
         move ! (6 ∷ []) $ drop ! $ move ! (6 ∷ []) $ drop ! $ move ! (7 ∷ []) $ drop ! $
-        land ! (from ! (stop !)) (init ! 34 refl (Move-p .typed 𝓤 H A W (handledMove (took .asked) (lent ((touchedRows (sessions) (f′ .«session_id») (f′ .time))) (streams) (objects)) (d) (f′ .«session_id») (f′ .«stream_id») (took .body)) is-7·yes·7)) $ move ! (4 ∷ 5 ∷ 2 ∷ 3 ∷ 0 ∷ 1 ∷ 8 ∷ 9 ∷ 7 ∷ 6 ∷ 10 ∷ 11 ∷ 12 ∷ 13 ∷ 14 ∷ 15 ∷ 16 ∷ 17 ∷ 18 ∷ 19 ∷ 20 ∷ 21 ∷ 22 ∷ 23 ∷ 24 ∷ 25 ∷ 26 ∷ 27 ∷ 28 ∷ 29 ∷ 30 ∷ 31 ∷ 32 ∷ 33 ∷ 34 ∷ 35 ∷ 36 ∷ 37 ∷ 38 ∷ 39 ∷ 40 ∷ 41 ∷ 42 ∷ 43 ∷ 44 ∷ 45 ∷ 46 ∷ 47 ∷ 48 ∷ 49 ∷ 50 ∷ 51 ∷ 52 ∷ 53 ∷ 54 ∷ 55 ∷ 56 ∷ 57 ∷ 58 ∷ 59 ∷ []) $
+        land ! (from ! (stop !)) (init ! 46 refl (Move-p .typed 𝓤 H A W (handledMove (took .asked) (rows ((touchedRows (sessions) (f′ .«session_id») (f′ .time))) (streams) (objects)) (d) (f′ .«session_id») (f′ .«stream_id») (took .body)) is-7·yes·7)) $ move ! (4 ∷ 5 ∷ 2 ∷ 3 ∷ 0 ∷ 1 ∷ 8 ∷ 9 ∷ 10 ∷ 11 ∷ 7 ∷ 6 ∷ 12 ∷ 13 ∷ 14 ∷ 15 ∷ 16 ∷ 17 ∷ 18 ∷ 19 ∷ 20 ∷ 21 ∷ 22 ∷ 23 ∷ 24 ∷ 25 ∷ 26 ∷ 27 ∷ 28 ∷ 29 ∷ 30 ∷ 31 ∷ 32 ∷ 33 ∷ 34 ∷ 35 ∷ 36 ∷ 37 ∷ 38 ∷ 39 ∷ 40 ∷ 41 ∷ 42 ∷ 43 ∷ 44 ∷ 45 ∷ 46 ∷ 47 ∷ 48 ∷ 49 ∷ 50 ∷ 51 ∷ 52 ∷ 53 ∷ 54 ∷ 55 ∷ 56 ∷ 57 ∷ 58 ∷ 59 ∷ 60 ∷ 61 ∷ 62 ∷ 63 ∷ 64 ∷ 65 ∷ 66 ∷ 67 ∷ 68 ∷ 69 ∷ 70 ∷ 71 ∷ 72 ∷ 73 ∷ []) $
         part-7·yes·8-0 len-5-sessions is-5 is-6 c-7 len-7·yes·7-sessions len-7·yes·7-streams len-7·yes·7-objects is-7·yes·7))))))))))))
         (λ h-7.
         knows ! (isLive (namedOf (sessions) (f′ .«session_id»)) ≡ false) (fails (isLive (namedOf (sessions) (f′ .«session_id»))) (T-not (isLive (namedOf (sessions) (f′ .«session_id»))) h-7)) (λ c-7.
@@ -413,58 +451,58 @@ module _ {M : Type 1} (𝓤 : URA M) (H : Heap 𝓤) (A : Atoms 𝓤) (W : Given
         use1 W (raw (toks 𝓤 A 0 (tt) (tt))) (id⊢ 𝓤 _) $ nothing ! $
         owned ! (u64-p .row) (Is (u64-p .row)) (u64-p .makes 𝓤 H A W) (took .at) (u64-p .val (took .at) ∷ []) (LL.owed Taken-t.the-type Taken-l.the-laws took _ took-is .1 .1 .0) $ fjoin ! $
         owned ! (Ran-p .row) (Is (Ran-p .row)) (Ran-p .makes 𝓤 H A W) r′ (Ran-p .val r′ ∷ []) r′-is $ fjoin ! $ move ! (1 ∷ 0 ∷ []) $
-        calls-any-last ! fm 0 [] (turn-passed.signature .params) (turn-passed.ended .kept) Ran-p (turn-passed.clauses 𝓤 H A mem run) known-turn-passed tt tt tt (r′, (took .at, tt)) (Ran-p .val r′ ∷ [], (u64-p .val (took .at) ∷ [], tt)) tt (passed r′ (took .at)) (λ ws-7·no·1. Unit {0}) (id⊢ 𝓤 _) (λ r ws-7·no·1. fact-mono 𝓤 (r ≡ passed r′ (took .at)) ((r ≡ (passed r′ (took .at))) × (Unit {0})) (λ e. (e, tt))) (λ _. (and-then ! (load ! (from ! (stop !)) (look ! 45 refl)) (and-then ! (load ! (from ! (fld ! refl (stop !))) (look-in ! 43 (sub ! 2 refl (whole !)))) (no-more !)))) (λ ws-7·no·1 said-7·no·1 is-7·no·1.
+        calls-any-last ! fm 0 [] (turn-passed.signature .params) (turn-passed.ended .kept) Ran-p (turn-passed.clauses 𝓤 H A mem run) known-turn-passed tt tt tt (r′, (took .at, tt)) (Ran-p .val r′ ∷ [], (u64-p .val (took .at) ∷ [], tt)) tt (passed r′ (took .at)) (λ ws-7·no·1. Unit {0}) (id⊢ 𝓤 _) (λ r ws-7·no·1. fact-mono 𝓤 (r ≡ passed r′ (took .at)) ((r ≡ (passed r′ (took .at))) × (Unit {0})) (λ e. (e, tt))) (λ _. (and-then ! (load ! (from ! (stop !)) (look ! 57 refl)) (and-then ! (load ! (from ! (fld ! refl (stop !))) (look-in ! 55 (sub ! 2 refl (whole !)))) (no-more !)))) (λ ws-7·no·1 said-7·no·1 is-7·no·1.
         drop ! $ drop ! $
-        land-last ! (from ! (stop !)) (init ! 26 refl (Ran-p .typed 𝓤 H A W (passed r′ (took .at)) is-7·no·1)) $
+        land-last ! (from ! (stop !)) (init ! 36 refl (Ran-p .typed 𝓤 H A W (passed r′ (took .at)) is-7·no·1)) $
         exec ! C Λ En mir.t-8 (atRet En Post) $
-        part-8-3 len-5-sessions is-5 is-6 c-7 is-7·no·1)))
+        part-8-4 len-5-sessions is-5 is-6 c-7 is-7·no·1)))
 
-    part-6-0 : (len-5-sessions : length (touchedRows (sessions) (f′ .«session_id») (f′ .time)) ≡ n₁) → (is-5 : Is (Named-p .row) (namedOf (sessions) (f′ .«session_id»)) (Named-p .val (namedOf (sessions) (f′ .«session_id»)) ∷ [])) → Sq W (‵ (MutSlice (named 0) κ₁ (Array u64 5) .own (at-list b₁ o₁ γ₁ (touchedRows (sessions) (f′ .«session_id») (f′ .time))) (sliceVal (b₁, o₁) n₁ ∷ [])) ∷ ‵ (flft κ₁ q₁) ∷ ‵ (MutSlice (named 0) κ₂ (Array u16 35) .own (at-list b₂ o₂ γ₂ streams) (sliceVal (b₂, o₂) n₂ ∷ [])) ∷ ‵ (flft κ₂ q₂) ∷ ‵ (MutSlice (named 0) κ₃ Object-t.the-row .own (at-list b₃ o₃ γ₃ objects) (sliceVal (b₃, o₃) n₃ ∷ [])) ∷ ‵ (flft κ₃ q₃) ∷ ‵ (MutSlice (named 0) κ₄ u8 .own (at-list b₄ o₄ γ₄ out) (sliceVal (b₄, o₄) n₄ ∷ [])) ∷ ‵ (flft κ₄ q₄) ∷ ‵ (ShrSlice (named 0) κ₅ u8 .own (at-list b₅ o₅ γ₅ d) (sliceVal (b₅, o₅) n₅ ∷ [])) ∷ ‵ (flft κ₅ q₅) ∷ free 𝓤 (sliceTy (tyRef erased mut (pointee (u8 .written)))) l₂₄ (free 𝓤 (tyRef erased mut (pointee (u8 .written))) l₂₃ (free 𝓤 (sliceTy (tyRef erased mut (pointee (Object-t.the-row .written)))) l₂₂ (free 𝓤 (tyRef erased mut (pointee (Object-t.the-row .written))) l₂₁ (free 𝓤 (sliceTy (tyRef erased mut (pointee ((Array u16 35) .written)))) l₂₀ (free 𝓤 (tyRef erased mut (pointee ((Array u16 35) .written))) l₁₉ (free 𝓤 (sliceTy (tyRef erased mut (pointee ((Array u64 5) .written)))) l₁₈ (free 𝓤 (tyRef erased mut (pointee ((Array u64 5) .written))) l₁₇ (free 𝓤 Ran-l.mir l₁₆ (free 𝓤 tyBool l₁₅ (full 𝓤 (sliceTy (tyRef erased mut (pointee ((Array u64 5) .written)))) l₁₄ (sliceVal (b₁, o₁) n₁) (full 𝓤 (tyRef erased mut (pointee ((Array u64 5) .written))) l₁₃ (vptr b₁ o₁) (free 𝓤 Move-l.mir l₁₂ (full 𝓤 Named-l.mir l₁₁ (Named-p .val (namedOf (sessions) (f′ .«session_id»))) (full 𝓤 (tyInt w8) l₁₀ (u8-p .val (f′ .«stream_id»)) (full 𝓤 (tyInt w8) l₉ (u8-p .val (f′ .«session_id»)) (full 𝓤 Taken-l.mir l₈ (Taken-p .val took) (full 𝓤 Ran-l.mir l₇ (Ran-p .val r′) (full 𝓤 Frame-l.mir l₆ (Frame-p .val f′) (full 𝓤 (sliceTy (tyRef (named 4) imm (pointee (u8 .written)))) l₅ (sliceVal (b₅, o₅) n₅) (full 𝓤 (sliceTy (tyRef (named 3) mut (pointee (u8 .written)))) l₄ (sliceVal (b₄, o₄) n₄) (full 𝓤 (sliceTy (tyRef (named 2) mut (pointee (Object-t.the-row .written)))) l₃ (sliceVal (b₃, o₃) n₃) (full 𝓤 (sliceTy (tyRef (named 1) mut (pointee ((Array u16 35) .written)))) l₂ (sliceVal (b₂, o₂) n₂) (full 𝓤 (sliceTy (tyRef (named 0) mut (pointee ((Array u64 5) .written)))) l₁ (sliceVal (b₁, o₁) n₁) (free 𝓤 Ran-l.mir l₀ ([])))))))))))))))))))))))))) (runs C Λ En mir.t-6 (atRet En Post))
+    part-6-0 : (len-5-sessions : length (touchedRows (sessions) (f′ .«session_id») (f′ .time)) ≡ n₁) → (is-5 : Is (Named-p .row) (namedOf (sessions) (f′ .«session_id»)) (Named-p .val (namedOf (sessions) (f′ .«session_id»)) ∷ [])) → Sq W (‵ (MutSlice (named 0) κ₁ (Array u64 6) .own (at-list b₁ o₁ γ₁ (touchedRows (sessions) (f′ .«session_id») (f′ .time))) (sliceVal (b₁, o₁) n₁ ∷ [])) ∷ ‵ (flft κ₁ q₁) ∷ ‵ (MutSlice (named 0) κ₂ (Array u16 35) .own (at-list b₂ o₂ γ₂ streams) (sliceVal (b₂, o₂) n₂ ∷ [])) ∷ ‵ (flft κ₂ q₂) ∷ ‵ (MutSlice (named 0) κ₃ Object-t.the-row .own (at-list b₃ o₃ γ₃ objects) (sliceVal (b₃, o₃) n₃ ∷ [])) ∷ ‵ (flft κ₃ q₃) ∷ ‵ (ShrSlice (named 0) κ₄ u8 .own (at-list b₄ o₄ γ₄ held) (sliceVal (b₄, o₄) n₄ ∷ [])) ∷ ‵ (flft κ₄ q₄) ∷ ‵ (MutSlice (named 0) κ₅ u8 .own (at-list b₅ o₅ γ₅ out) (sliceVal (b₅, o₅) n₅ ∷ [])) ∷ ‵ (flft κ₅ q₅) ∷ ‵ (ShrSlice (named 0) κ₆ u8 .own (at-list b₆ o₆ γ₆ d) (sliceVal (b₆, o₆) n₆ ∷ [])) ∷ ‵ (flft κ₆ q₆) ∷ free 𝓤 (sliceTy (tyRef erased mut (pointee (u8 .written)))) l₃₀ (free 𝓤 (tyRef erased mut (pointee (u8 .written))) l₂₉ (free 𝓤 (sliceTy (tyRef erased imm (pointee ((Array u16 35) .written)))) l₂₈ (free 𝓤 (tyRef erased imm (pointee ((Array u16 35) .written))) l₂₇ (free 𝓤 (sliceTy (tyRef erased imm (pointee ((Array u64 6) .written)))) l₂₆ (free 𝓤 (tyRef erased imm (pointee ((Array u64 6) .written))) l₂₅ (free 𝓤 (sliceTy (tyRef erased mut (pointee (Object-t.the-row .written)))) l₂₄ (free 𝓤 (tyRef erased mut (pointee (Object-t.the-row .written))) l₂₃ (free 𝓤 (sliceTy (tyRef erased mut (pointee ((Array u16 35) .written)))) l₂₂ (free 𝓤 (tyRef erased mut (pointee ((Array u16 35) .written))) l₂₁ (free 𝓤 (sliceTy (tyRef erased mut (pointee ((Array u64 6) .written)))) l₂₀ (free 𝓤 (tyRef erased mut (pointee ((Array u64 6) .written))) l₁₉ (free 𝓤 Ran-l.mir l₁₈ (free 𝓤 tyBool l₁₇ (full 𝓤 (sliceTy (tyRef erased mut (pointee ((Array u64 6) .written)))) l₁₆ (sliceVal (b₁, o₁) n₁) (full 𝓤 (tyRef erased mut (pointee ((Array u64 6) .written))) l₁₅ (vptr b₁ o₁) (free 𝓤 (tyInt w64) l₁₄ (free 𝓤 Move-l.mir l₁₃ (full 𝓤 Named-l.mir l₁₂ (Named-p .val (namedOf (sessions) (f′ .«session_id»))) (full 𝓤 (tyInt w8) l₁₁ (u8-p .val (f′ .«stream_id»)) (full 𝓤 (tyInt w8) l₁₀ (u8-p .val (f′ .«session_id»)) (full 𝓤 Taken-l.mir l₉ (Taken-p .val took) (full 𝓤 Ran-l.mir l₈ (Ran-p .val r′) (full 𝓤 Frame-l.mir l₇ (Frame-p .val f′) (full 𝓤 (sliceTy (tyRef (named 5) imm (pointee (u8 .written)))) l₆ (sliceVal (b₆, o₆) n₆) (full 𝓤 (sliceTy (tyRef (named 4) mut (pointee (u8 .written)))) l₅ (sliceVal (b₅, o₅) n₅) (full 𝓤 (sliceTy (tyRef (named 3) imm (pointee (u8 .written)))) l₄ (sliceVal (b₄, o₄) n₄) (full 𝓤 (sliceTy (tyRef (named 2) mut (pointee (Object-t.the-row .written)))) l₃ (sliceVal (b₃, o₃) n₃) (full 𝓤 (sliceTy (tyRef (named 1) mut (pointee ((Array u16 35) .written)))) l₂ (sliceVal (b₂, o₂) n₂) (full 𝓤 (sliceTy (tyRef (named 0) mut (pointee ((Array u64 6) .written)))) l₁ (sliceVal (b₁, o₁) n₁) (free 𝓤 Ran-l.mir l₀ ([])))))))))))))))))))))))))))))))) (runs C Λ En mir.t-6 (atRet En Post))
     part-6-0 len-5-sessions is-5 =
         -- 6: agent::turn::is_live
         nothing ! $
         use1 W (raw (toks 𝓤 A 0 (tt) (tt))) (id⊢ 𝓤 _) $ nothing ! $
         owned ! (Named-p .row) (Is (Named-p .row)) (Named-p .makes 𝓤 H A W) (namedOf (sessions) (f′ .«session_id»)) (Named-p .val (namedOf (sessions) (f′ .«session_id»)) ∷ []) is-5 $ fjoin ! $ move ! (1 ∷ 0 ∷ []) $
-        calls-any ! fm 0 [] (turn-is-live.signature .params) (turn-is-live.ended .kept) bool-p (turn-is-live.clauses 𝓤 H A mem run) known-turn-is-live tt tt tt (namedOf (sessions) (f′ .«session_id»), tt) (Named-p .val (namedOf (sessions) (f′ .«session_id»)) ∷ [], tt) tt (isLive (namedOf (sessions) (f′ .«session_id»))) (λ ws-6. Unit {0}) (id⊢ 𝓤 _) (λ r ws-6. fact-mono 𝓤 (r ≡ isLive (namedOf (sessions) (f′ .«session_id»))) ((r ≡ (isLive (namedOf (sessions) (f′ .«session_id»)))) × (Unit {0})) (λ e. (e, tt))) (λ _. (and-then ! (load ! (from ! (stop !)) (look ! 37 refl)) (no-more !))) (λ ws-6 said-6 is-6.
+        calls-any ! fm 0 [] (turn-is-live.signature .params) (turn-is-live.ended .kept) bool-p (turn-is-live.clauses 𝓤 H A mem run) known-turn-is-live tt tt tt (namedOf (sessions) (f′ .«session_id»), tt) (Named-p .val (namedOf (sessions) (f′ .«session_id»)) ∷ [], tt) tt (isLive (namedOf (sessions) (f′ .«session_id»))) (λ ws-6. Unit {0}) (id⊢ 𝓤 _) (λ r ws-6. fact-mono 𝓤 (r ≡ isLive (namedOf (sessions) (f′ .«session_id»))) ((r ≡ (isLive (namedOf (sessions) (f′ .«session_id»)))) × (Unit {0})) (λ e. (e, tt))) (λ _. (and-then ! (load ! (from ! (stop !)) (look ! 49 refl)) (no-more !))) (λ ws-6 said-6 is-6.
         drop ! $ drop ! $
-        land ! (from ! (stop !)) (init ! 28 refl (bool-p .typed 𝓤 H A W (isLive (namedOf (sessions) (f′ .«session_id»))) is-6)) $
+        land ! (from ! (stop !)) (init ! 38 refl (bool-p .typed 𝓤 H A W (isLive (namedOf (sessions) (f′ .«session_id»))) is-6)) $
         part-7-0 len-5-sessions is-5 is-6)
 
-    begins : Sq W (‵ (MutSlice (named 0) κ₁ (Array u64 5) .own (at-list b₁ o₁ γ₁ sessions) (sliceVal (b₁, o₁) n₁ ∷ [])) ∷ ‵ (flft κ₁ q₁) ∷ ‵ (MutSlice (named 0) κ₂ (Array u16 35) .own (at-list b₂ o₂ γ₂ streams) (sliceVal (b₂, o₂) n₂ ∷ [])) ∷ ‵ (flft κ₂ q₂) ∷ ‵ (MutSlice (named 0) κ₃ Object-t.the-row .own (at-list b₃ o₃ γ₃ objects) (sliceVal (b₃, o₃) n₃ ∷ [])) ∷ ‵ (flft κ₃ q₃) ∷ ‵ (MutSlice (named 0) κ₄ u8 .own (at-list b₄ o₄ γ₄ out) (sliceVal (b₄, o₄) n₄ ∷ [])) ∷ ‵ (flft κ₄ q₄) ∷ ‵ (ShrSlice (named 0) κ₅ u8 .own (at-list b₅ o₅ γ₅ d) (sliceVal (b₅, o₅) n₅ ∷ [])) ∷ ‵ (flft κ₅ q₅) ∷ free 𝓤 (sliceTy (tyRef erased mut (pointee (u8 .written)))) l₂₄ (free 𝓤 (tyRef erased mut (pointee (u8 .written))) l₂₃ (free 𝓤 (sliceTy (tyRef erased mut (pointee (Object-t.the-row .written)))) l₂₂ (free 𝓤 (tyRef erased mut (pointee (Object-t.the-row .written))) l₂₁ (free 𝓤 (sliceTy (tyRef erased mut (pointee ((Array u16 35) .written)))) l₂₀ (free 𝓤 (tyRef erased mut (pointee ((Array u16 35) .written))) l₁₉ (free 𝓤 (sliceTy (tyRef erased mut (pointee ((Array u64 5) .written)))) l₁₈ (free 𝓤 (tyRef erased mut (pointee ((Array u64 5) .written))) l₁₇ (free 𝓤 Ran-l.mir l₁₆ (free 𝓤 tyBool l₁₅ (free 𝓤 (sliceTy (tyRef erased mut (pointee ((Array u64 5) .written)))) l₁₄ (free 𝓤 (tyRef erased mut (pointee ((Array u64 5) .written))) l₁₃ (free 𝓤 Move-l.mir l₁₂ (free 𝓤 Named-l.mir l₁₁ (free 𝓤 (tyInt w8) l₁₀ (free 𝓤 (tyInt w8) l₉ (full 𝓤 Taken-l.mir l₈ (Taken-p .val took) (full 𝓤 Ran-l.mir l₇ (Ran-p .val r′) (full 𝓤 Frame-l.mir l₆ (Frame-p .val f′) (full 𝓤 (sliceTy (tyRef (named 4) imm (pointee (u8 .written)))) l₅ (sliceVal (b₅, o₅) n₅) (full 𝓤 (sliceTy (tyRef (named 3) mut (pointee (u8 .written)))) l₄ (sliceVal (b₄, o₄) n₄) (full 𝓤 (sliceTy (tyRef (named 2) mut (pointee (Object-t.the-row .written)))) l₃ (sliceVal (b₃, o₃) n₃) (full 𝓤 (sliceTy (tyRef (named 1) mut (pointee ((Array u16 35) .written)))) l₂ (sliceVal (b₂, o₂) n₂) (full 𝓤 (sliceTy (tyRef (named 0) mut (pointee ((Array u64 5) .written)))) l₁ (sliceVal (b₁, o₁) n₁) (free 𝓤 Ran-l.mir l₀ ([])))))))))))))))))))))))))) (runs C Λ En mir.t-1 (atRet En Post))
+    begins : Sq W (‵ (MutSlice (named 0) κ₁ (Array u64 6) .own (at-list b₁ o₁ γ₁ sessions) (sliceVal (b₁, o₁) n₁ ∷ [])) ∷ ‵ (flft κ₁ q₁) ∷ ‵ (MutSlice (named 0) κ₂ (Array u16 35) .own (at-list b₂ o₂ γ₂ streams) (sliceVal (b₂, o₂) n₂ ∷ [])) ∷ ‵ (flft κ₂ q₂) ∷ ‵ (MutSlice (named 0) κ₃ Object-t.the-row .own (at-list b₃ o₃ γ₃ objects) (sliceVal (b₃, o₃) n₃ ∷ [])) ∷ ‵ (flft κ₃ q₃) ∷ ‵ (ShrSlice (named 0) κ₄ u8 .own (at-list b₄ o₄ γ₄ held) (sliceVal (b₄, o₄) n₄ ∷ [])) ∷ ‵ (flft κ₄ q₄) ∷ ‵ (MutSlice (named 0) κ₅ u8 .own (at-list b₅ o₅ γ₅ out) (sliceVal (b₅, o₅) n₅ ∷ [])) ∷ ‵ (flft κ₅ q₅) ∷ ‵ (ShrSlice (named 0) κ₆ u8 .own (at-list b₆ o₆ γ₆ d) (sliceVal (b₆, o₆) n₆ ∷ [])) ∷ ‵ (flft κ₆ q₆) ∷ free 𝓤 (sliceTy (tyRef erased mut (pointee (u8 .written)))) l₃₀ (free 𝓤 (tyRef erased mut (pointee (u8 .written))) l₂₉ (free 𝓤 (sliceTy (tyRef erased imm (pointee ((Array u16 35) .written)))) l₂₈ (free 𝓤 (tyRef erased imm (pointee ((Array u16 35) .written))) l₂₇ (free 𝓤 (sliceTy (tyRef erased imm (pointee ((Array u64 6) .written)))) l₂₆ (free 𝓤 (tyRef erased imm (pointee ((Array u64 6) .written))) l₂₅ (free 𝓤 (sliceTy (tyRef erased mut (pointee (Object-t.the-row .written)))) l₂₄ (free 𝓤 (tyRef erased mut (pointee (Object-t.the-row .written))) l₂₃ (free 𝓤 (sliceTy (tyRef erased mut (pointee ((Array u16 35) .written)))) l₂₂ (free 𝓤 (tyRef erased mut (pointee ((Array u16 35) .written))) l₂₁ (free 𝓤 (sliceTy (tyRef erased mut (pointee ((Array u64 6) .written)))) l₂₀ (free 𝓤 (tyRef erased mut (pointee ((Array u64 6) .written))) l₁₉ (free 𝓤 Ran-l.mir l₁₈ (free 𝓤 tyBool l₁₇ (free 𝓤 (sliceTy (tyRef erased mut (pointee ((Array u64 6) .written)))) l₁₆ (free 𝓤 (tyRef erased mut (pointee ((Array u64 6) .written))) l₁₅ (free 𝓤 (tyInt w64) l₁₄ (free 𝓤 Move-l.mir l₁₃ (free 𝓤 Named-l.mir l₁₂ (free 𝓤 (tyInt w8) l₁₁ (free 𝓤 (tyInt w8) l₁₀ (full 𝓤 Taken-l.mir l₉ (Taken-p .val took) (full 𝓤 Ran-l.mir l₈ (Ran-p .val r′) (full 𝓤 Frame-l.mir l₇ (Frame-p .val f′) (full 𝓤 (sliceTy (tyRef (named 5) imm (pointee (u8 .written)))) l₆ (sliceVal (b₆, o₆) n₆) (full 𝓤 (sliceTy (tyRef (named 4) mut (pointee (u8 .written)))) l₅ (sliceVal (b₅, o₅) n₅) (full 𝓤 (sliceTy (tyRef (named 3) imm (pointee (u8 .written)))) l₄ (sliceVal (b₄, o₄) n₄) (full 𝓤 (sliceTy (tyRef (named 2) mut (pointee (Object-t.the-row .written)))) l₃ (sliceVal (b₃, o₃) n₃) (full 𝓤 (sliceTy (tyRef (named 1) mut (pointee ((Array u16 35) .written)))) l₂ (sliceVal (b₂, o₂) n₂) (full 𝓤 (sliceTy (tyRef (named 0) mut (pointee ((Array u64 6) .written)))) l₁ (sliceVal (b₁, o₁) n₁) (free 𝓤 Ran-l.mir l₀ ([])))))))))))))))))))))))))))))))) (runs C Λ En mir.t-1 (atRet En Post))
     begins =
-        assigns ! (of-opd ! (load ! (from ! (fld ! refl (stop !))) (look-in ! 46 (sub ! 2 refl (whole !))))) (from ! (stop !)) (init ! 40 refl (u8-p .typed 𝓤 H A W (f′ .«session_id») (LL.owed Frame-t.the-type Frame-l.the-laws f′ _ f′-is .1 .1 .0))) $
-        assigns ! (of-opd ! (load ! (from ! (fld ! refl (stop !))) (look-in ! 46 (sub ! 3 refl (whole !))))) (from ! (stop !)) (init ! 38 refl (u8-p .typed 𝓤 H A W (f′ .«stream_id») (LL.owed Frame-t.the-type Frame-l.the-laws f′ _ f′-is .1 .1 .1 .0))) $
-        assigns ! (addr ! (from ! (fld ! refl (hop ! (look-in ! 56 (sub ! 0 refl (whole !))) (stop !))))) (from ! (stop !)) (init ! 32 refl (tt, tt)) $
-        assigns ! (agg ! (and-then ! (load ! (from ! (stop !)) (look ! 32 refl)) (and-then ! (load ! (from ! (fld ! refl (stop !))) (look-in ! 56 (sub ! 1 refl (whole !)))) (no-more !)))) (from ! (stop !)) (init ! 30 refl (tt, (tt, (record { fits = room₁ .0 }, tt)))) $
+        assigns ! (of-opd ! (load ! (from ! (fld ! refl (stop !))) (look-in ! 58 (sub ! 2 refl (whole !))))) (from ! (stop !)) (init ! 52 refl (u8-p .typed 𝓤 H A W (f′ .«session_id») (LL.owed Frame-t.the-type Frame-l.the-laws f′ _ f′-is .1 .1 .0))) $
+        assigns ! (of-opd ! (load ! (from ! (fld ! refl (stop !))) (look-in ! 58 (sub ! 3 refl (whole !))))) (from ! (stop !)) (init ! 50 refl (u8-p .typed 𝓤 H A W (f′ .«stream_id») (LL.owed Frame-t.the-type Frame-l.the-laws f′ _ f′-is .1 .1 .1 .0))) $
+        assigns ! (addr ! (from ! (fld ! refl (hop ! (look-in ! 70 (sub ! 0 refl (whole !))) (stop !))))) (from ! (stop !)) (init ! 42 refl (tt, tt)) $
+        assigns ! (agg ! (and-then ! (load ! (from ! (stop !)) (look ! 42 refl)) (and-then ! (load ! (from ! (fld ! refl (stop !))) (look-in ! 70 (sub ! 1 refl (whole !)))) (no-more !)))) (from ! (stop !)) (init ! 40 refl (tt, (tt, (record { fits = room₁ .0 }, tt)))) $
         -- 5: sessions::table::touch
-        lends-mut ! tt (Array u64 5) b₁ o₁ sessions n₁ (refl) (λ ν-5-sessions δ-5-sessions.
+        lends-mut ! tt (Array u64 6) b₁ o₁ sessions n₁ (refl) (λ ν-5-sessions δ-5-sessions.
         nothing ! $ move ! (1 ∷ 0 ∷ []) $ join ! $
         use1 W (raw (toks 𝓤 A 1 (((ν-5-sessions ∷ []), tt)) ((fullShare, tt)))) (id⊢ 𝓤 _) $ nothing ! $
         owned ! (u64-p .row) (Is (u64-p .row)) (u64-p .makes 𝓤 H A W) (f′ .time) (u64-p .val (f′ .time) ∷ []) (LL.owed Frame-t.the-type Frame-l.the-laws f′ _ f′-is .1 .0) $ fjoin ! $
         owned ! (u8-p .row) (Is (u8-p .row)) (u8-p .makes 𝓤 H A W) (f′ .«session_id») (u8-p .val (f′ .«session_id») ∷ []) (LL.owed Frame-t.the-type Frame-l.the-laws f′ _ f′-is .1 .1 .0) $ fjoin ! $ move ! (2 ∷ 0 ∷ []) $ fjoin ! $ move ! (1 ∷ 0 ∷ []) $
-        calls-any ! fm 1 [] (table-touch.signature .params) (table-touch.ended .kept) Named-p (table-touch.clauses 𝓤 H A mem run) known-table-touch ((ν-5-sessions ∷ []), tt) (fullShare, tt) tt (at-list b₁ o₁ δ-5-sessions sessions, (f′ .«session_id», (f′ .time, tt))) (sliceVal (b₁, o₁) n₁ ∷ [], (u8-p .val (f′ .«session_id») ∷ [], (u64-p .val (f′ .time) ∷ [], tt))) tt (namedOf (sessions) (f′ .«session_id»)) (λ ws-5. (ws-5 .0 ≡ touchedRows (sessions) (f′ .«session_id») (f′ .time))) (id⊢ 𝓤 _) (λ r ws-5. fact-mono 𝓤 ((r ≡ namedOf (sessions) (f′ .«session_id»)) × ((ws-5 .0) ≡ touchedRows (sessions) (f′ .«session_id») (f′ .time))) ((r ≡ (namedOf (sessions) (f′ .«session_id»))) × ((ws-5 .0 ≡ touchedRows (sessions) (f′ .«session_id») (f′ .time)))) (λ e. (e .0, e .1))) (λ _. (and-then ! (load ! (from ! (stop !)) (look ! 30 refl)) (and-then ! (load ! (from ! (stop !)) (look ! 40 refl)) (and-then ! (load ! (from ! (fld ! refl (stop !))) (look-in ! 46 (sub ! 1 refl (whole !)))) (no-more !))))) (λ ws-5 said-5 is-5.
+        calls-any ! fm 1 [] (table-touch.signature .params) (table-touch.ended .kept) Named-p (table-touch.clauses 𝓤 H A mem run) known-table-touch ((ν-5-sessions ∷ []), tt) (fullShare, tt) tt (at-list b₁ o₁ δ-5-sessions sessions, (f′ .«session_id», (f′ .time, tt))) (sliceVal (b₁, o₁) n₁ ∷ [], (u8-p .val (f′ .«session_id») ∷ [], (u64-p .val (f′ .time) ∷ [], tt))) tt (namedOf (sessions) (f′ .«session_id»)) (λ ws-5. (ws-5 .0 ≡ touchedRows (sessions) (f′ .«session_id») (f′ .time))) (id⊢ 𝓤 _) (λ r ws-5. fact-mono 𝓤 ((r ≡ namedOf (sessions) (f′ .«session_id»)) × ((ws-5 .0) ≡ touchedRows (sessions) (f′ .«session_id») (f′ .time))) ((r ≡ (namedOf (sessions) (f′ .«session_id»))) × ((ws-5 .0 ≡ touchedRows (sessions) (f′ .«session_id») (f′ .time)))) (λ e. (e .0, e .1))) (λ _. (and-then ! (load ! (from ! (stop !)) (look ! 40 refl)) (and-then ! (load ! (from ! (stop !)) (look ! 52 refl)) (and-then ! (load ! (from ! (fld ! refl (stop !))) (look-in ! 58 (sub ! 1 refl (whole !)))) (no-more !))))) (λ ws-5 said-5 is-5.
         use1 W ((‵ (flft (ν-5-sessions ∷ []) fullShare) ⊛ ‵ ftrue)) (id⊢ 𝓤 _) $ split ! $ move ! (2 ∷ []) $ fsplit ! $ fsplit ! $ move ! (1 ∷ []) $
         feqL ! (λ wlen-5-0.
         move ! (2 ∷ 4 ∷ 0 ∷ []) $
-        backs-mut ! tt (Array u64 5) b₁ o₁ sessions n₁ (refl) room₁ ν-5-sessions δ-5-sessions (ws-5 .0) (touchedRows (sessions) (f′ .«session_id») (f′ .time)) wlen-5-0 (said-5) (λ len-5-sessions.
+        backs-mut ! tt (Array u64 6) b₁ o₁ sessions n₁ (refl) room₁ ν-5-sessions δ-5-sessions (ws-5 .0) (touchedRows (sessions) (f′ .«session_id») (f′ .time)) wlen-5-0 (said-5) (λ len-5-sessions.
         move ! (2 ∷ []) $ drop ! $ move ! (2 ∷ []) $ drop ! $
-        land ! (from ! (stop !)) (init ! 36 refl (Named-p .typed 𝓤 H A W (namedOf (sessions) (f′ .«session_id»)) is-5)) $
+        land ! (from ! (stop !)) (init ! 48 refl (Named-p .typed 𝓤 H A W (namedOf (sessions) (f′ .«session_id»)) is-5)) $
         part-6-0 len-5-sessions is-5))))
 
-  module _ (𝓣 : Tables 𝓤 H) (known-table-touch : Triple 𝓤 (𝓣 .C #table-touch) (Of-table-touch 𝓤 H A mem run)) (known-turn-is-live : Triple 𝓤 (𝓣 .C #turn-is-live) (Of-turn-is-live 𝓤 H A mem run)) (known-handle-handle : Triple 𝓤 (𝓣 .C #handle-handle) (Of-handle-handle 𝓤 H A mem run)) (known-turn-settle : Triple 𝓤 (𝓣 .C #turn-settle) (Of-turn-settle 𝓤 H A mem run)) (known-turn-passed : Triple 𝓤 (𝓣 .C #turn-passed) (Of-turn-passed 𝓤 H A mem run)) where
-    walk : ent 𝓤 (onEntry 𝓤 H A f.signature (κ₁, (κ₂, (κ₃, (κ₄, (κ₅, tt))))) (q₁, (q₂, (q₃, (q₄, (q₅, tt))))) x at) (WpFn 𝓤 H (𝓣 .C) (𝓣 .Λ) code.function (sliceVal (b₁, o₁) n₁ ∷ sliceVal (b₂, o₂) n₂ ∷ sliceVal (b₃, o₃) n₃ ∷ sliceVal (b₄, o₄) n₄ ∷ sliceVal (b₅, o₅) n₅ ∷ Frame-p .val f′ ∷ Ran-p .val r′ ∷ Taken-p .val took ∷ []) Post)
+  module _ (𝓣 : Tables 𝓤 H) (known-table-touch : Triple 𝓤 (𝓣 .C #table-touch) (Of-table-touch 𝓤 H A mem run)) (known-turn-is-live : Triple 𝓤 (𝓣 .C #turn-is-live) (Of-turn-is-live 𝓤 H A mem run)) (known-handle-handle : Triple 𝓤 (𝓣 .C #handle-handle) (Of-handle-handle 𝓤 H A mem run)) (known-repeats-answer : Triple 𝓤 (𝓣 .C #repeats-answer) (Of-repeats-answer 𝓤 H A mem run)) (known-turn-settle : Triple 𝓤 (𝓣 .C #turn-settle) (Of-turn-settle 𝓤 H A mem run)) (known-turn-passed : Triple 𝓤 (𝓣 .C #turn-passed) (Of-turn-passed 𝓤 H A mem run)) where
+    walk : ent 𝓤 (onEntry 𝓤 H A f.signature (κ₁, (κ₂, (κ₃, (κ₄, (κ₅, (κ₆, tt)))))) (q₁, (q₂, (q₃, (q₄, (q₅, (q₆, tt)))))) x at) (WpFn 𝓤 H (𝓣 .C) (𝓣 .Λ) code.function (sliceVal (b₁, o₁) n₁ ∷ sliceVal (b₂, o₂) n₂ ∷ sliceVal (b₃, o₃) n₃ ∷ sliceVal (b₄, o₄) n₄ ∷ sliceVal (b₅, o₅) n₅ ∷ sliceVal (b₆, o₆) n₆ ∷ Frame-p .val f′ ∷ Ran-p .val r′ ∷ Taken-p .val took ∷ []) Post)
     walk =
-        qed W ((‵ (flft κ₁ q₁) ⊛ (‵ (flft κ₂ q₂) ⊛ (‵ (flft κ₃ q₃) ⊛ (‵ (flft κ₄ q₄) ⊛ (‵ (flft κ₅ q₅) ⊛ ‵ ftrue))))) ∷ ‵ (owns (MutSlice (named 0) κ₁ (Array u64 5) ∷ MutSlice (named 1) κ₂ (Array u16 35) ∷ MutSlice (named 2) κ₃ Object-t.the-row ∷ MutSlice (named 3) κ₄ u8 ∷ ShrSlice (named 4) κ₅ u8 ∷ Frame-p .row ∷ Ran-p .row ∷ Taken-p .row ∷ []) x at) ∷ []) ∵ enter ! (𝓣 .C) (𝓣 .Λ) code.function (sliceVal (b₁, o₁) n₁ ∷ sliceVal (b₂, o₂) n₂ ∷ sliceVal (b₃, o₃) n₃ ∷ sliceVal (b₄, o₄) n₄ ∷ sliceVal (b₅, o₅) n₅ ∷ Frame-p .val f′ ∷ Ran-p .val r′ ∷ Taken-p .val took ∷ []) _ $
-        alloc1 ! (λ l₀. alloc1 ! (λ l₁. alloc1 ! (λ l₂. alloc1 ! (λ l₃. alloc1 ! (λ l₄. alloc1 ! (λ l₅. alloc1 ! (λ l₆. alloc1 ! (λ l₇. alloc1 ! (λ l₈. alloc1 ! (λ l₉. alloc1 ! (λ l₁₀. alloc1 ! (λ l₁₁. alloc1 ! (λ l₁₂. alloc1 ! (λ l₁₃. alloc1 ! (λ l₁₄. alloc1 ! (λ l₁₅. alloc1 ! (λ l₁₆. alloc1 ! (λ l₁₇. alloc1 ! (λ l₁₈. alloc1 ! (λ l₁₉. alloc1 ! (λ l₂₀. alloc1 ! (λ l₂₁. alloc1 ! (λ l₂₂. alloc1 ! (λ l₂₃. alloc1 ! (λ l₂₄. alloc0 ! $ params1 ! $ pass1 ! (init ! 46 refl (tt, (tt, (record { fits = room₁ .0 }, tt)))) $ pass1 ! (init ! 44 refl (tt, (tt, (record { fits = room₂ .0 }, tt)))) $ pass1 ! (init ! 42 refl (tt, (tt, (record { fits = room₃ .0 }, tt)))) $ pass1 ! (init ! 40 refl (tt, (tt, (record { fits = room₄ .0 }, tt)))) $ pass1 ! (init ! 38 refl (tt, (tt, (record { fits = room₅ .0 }, tt)))) $ pass1 ! (init ! 36 refl (Frame-p .typed 𝓤 H A W f′ f′-is)) $ pass1 ! (init ! 34 refl (Ran-p .typed 𝓤 H A W r′ r′-is)) $ pass1 ! (init ! 32 refl (Taken-p .typed 𝓤 H A W took took-is)) $ pass0 ! $ move ! (51 ∷ []) $ fsplit ! $ move ! (1 ∷ []) $ fsplit ! $ move ! (1 ∷ []) $ fsplit ! $ move ! (1 ∷ []) $ fsplit ! $ move ! (1 ∷ []) $ fsplit ! $ move ! (56 ∷ []) $ split ! $ move ! (1 ∷ []) $ split ! $ move ! (1 ∷ []) $ split ! $ move ! (1 ∷ []) $ split ! $ move ! (1 ∷ []) $ split ! $ move ! (1 ∷ []) $ drop ! $ move ! (6 ∷ []) $ drop ! $ move ! (9 ∷ 4 ∷ 8 ∷ 3 ∷ 7 ∷ 2 ∷ 6 ∷ 1 ∷ 5 ∷ 0 ∷ 10 ∷ 11 ∷ 12 ∷ 13 ∷ 14 ∷ 15 ∷ 16 ∷ 17 ∷ 18 ∷ 19 ∷ 20 ∷ 21 ∷ 22 ∷ 23 ∷ 24 ∷ 25 ∷ 26 ∷ 27 ∷ 28 ∷ 29 ∷ 30 ∷ 31 ∷ 32 ∷ 33 ∷ 34 ∷ 35 ∷ 36 ∷ 37 ∷ 38 ∷ 39 ∷ 40 ∷ 41 ∷ 42 ∷ 43 ∷ 44 ∷ 45 ∷ 46 ∷ 47 ∷ 48 ∷ 49 ∷ 50 ∷ 51 ∷ 52 ∷ 53 ∷ 54 ∷ 55 ∷ 56 ∷ 57 ∷ 58 ∷ 59 ∷ []) $
-        begins 𝓣 known-table-touch known-turn-is-live known-handle-handle known-turn-settle known-turn-passed l₀ l₁ l₂ l₃ l₄ l₅ l₆ l₇ l₈ l₉ l₁₀ l₁₁ l₁₂ l₁₃ l₁₄ l₁₅ l₁₆ l₁₇ l₁₈ l₁₉ l₂₀ l₂₁ l₂₂ l₂₃ l₂₄)))))))))))))))))))))))))
+        qed W ((‵ (flft κ₁ q₁) ⊛ (‵ (flft κ₂ q₂) ⊛ (‵ (flft κ₃ q₃) ⊛ (‵ (flft κ₄ q₄) ⊛ (‵ (flft κ₅ q₅) ⊛ (‵ (flft κ₆ q₆) ⊛ ‵ ftrue)))))) ∷ ‵ (owns (MutSlice (named 0) κ₁ (Array u64 6) ∷ MutSlice (named 1) κ₂ (Array u16 35) ∷ MutSlice (named 2) κ₃ Object-t.the-row ∷ ShrSlice (named 3) κ₄ u8 ∷ MutSlice (named 4) κ₅ u8 ∷ ShrSlice (named 5) κ₆ u8 ∷ Frame-p .row ∷ Ran-p .row ∷ Taken-p .row ∷ []) x at) ∷ []) ∵ enter ! (𝓣 .C) (𝓣 .Λ) code.function (sliceVal (b₁, o₁) n₁ ∷ sliceVal (b₂, o₂) n₂ ∷ sliceVal (b₃, o₃) n₃ ∷ sliceVal (b₄, o₄) n₄ ∷ sliceVal (b₅, o₅) n₅ ∷ sliceVal (b₆, o₆) n₆ ∷ Frame-p .val f′ ∷ Ran-p .val r′ ∷ Taken-p .val took ∷ []) _ $
+        alloc1 ! (λ l₀. alloc1 ! (λ l₁. alloc1 ! (λ l₂. alloc1 ! (λ l₃. alloc1 ! (λ l₄. alloc1 ! (λ l₅. alloc1 ! (λ l₆. alloc1 ! (λ l₇. alloc1 ! (λ l₈. alloc1 ! (λ l₉. alloc1 ! (λ l₁₀. alloc1 ! (λ l₁₁. alloc1 ! (λ l₁₂. alloc1 ! (λ l₁₃. alloc1 ! (λ l₁₄. alloc1 ! (λ l₁₅. alloc1 ! (λ l₁₆. alloc1 ! (λ l₁₇. alloc1 ! (λ l₁₈. alloc1 ! (λ l₁₉. alloc1 ! (λ l₂₀. alloc1 ! (λ l₂₁. alloc1 ! (λ l₂₂. alloc1 ! (λ l₂₃. alloc1 ! (λ l₂₄. alloc1 ! (λ l₂₅. alloc1 ! (λ l₂₆. alloc1 ! (λ l₂₇. alloc1 ! (λ l₂₈. alloc1 ! (λ l₂₉. alloc1 ! (λ l₃₀. alloc0 ! $ params1 ! $ pass1 ! (init ! 58 refl (tt, (tt, (record { fits = room₁ .0 }, tt)))) $ pass1 ! (init ! 56 refl (tt, (tt, (record { fits = room₂ .0 }, tt)))) $ pass1 ! (init ! 54 refl (tt, (tt, (record { fits = room₃ .0 }, tt)))) $ pass1 ! (init ! 52 refl (tt, (tt, (record { fits = room₄ .0 }, tt)))) $ pass1 ! (init ! 50 refl (tt, (tt, (record { fits = room₅ .0 }, tt)))) $ pass1 ! (init ! 48 refl (tt, (tt, (record { fits = room₆ .0 }, tt)))) $ pass1 ! (init ! 46 refl (Frame-p .typed 𝓤 H A W f′ f′-is)) $ pass1 ! (init ! 44 refl (Ran-p .typed 𝓤 H A W r′ r′-is)) $ pass1 ! (init ! 42 refl (Taken-p .typed 𝓤 H A W took took-is)) $ pass0 ! $ move ! (63 ∷ []) $ fsplit ! $ move ! (1 ∷ []) $ fsplit ! $ move ! (1 ∷ []) $ fsplit ! $ move ! (1 ∷ []) $ fsplit ! $ move ! (1 ∷ []) $ fsplit ! $ move ! (1 ∷ []) $ fsplit ! $ move ! (69 ∷ []) $ split ! $ move ! (1 ∷ []) $ split ! $ move ! (1 ∷ []) $ split ! $ move ! (1 ∷ []) $ split ! $ move ! (1 ∷ []) $ split ! $ move ! (1 ∷ []) $ split ! $ move ! (1 ∷ []) $ drop ! $ move ! (7 ∷ []) $ drop ! $ move ! (11 ∷ 5 ∷ 10 ∷ 4 ∷ 9 ∷ 3 ∷ 8 ∷ 2 ∷ 7 ∷ 1 ∷ 6 ∷ 0 ∷ 12 ∷ 13 ∷ 14 ∷ 15 ∷ 16 ∷ 17 ∷ 18 ∷ 19 ∷ 20 ∷ 21 ∷ 22 ∷ 23 ∷ 24 ∷ 25 ∷ 26 ∷ 27 ∷ 28 ∷ 29 ∷ 30 ∷ 31 ∷ 32 ∷ 33 ∷ 34 ∷ 35 ∷ 36 ∷ 37 ∷ 38 ∷ 39 ∷ 40 ∷ 41 ∷ 42 ∷ 43 ∷ 44 ∷ 45 ∷ 46 ∷ 47 ∷ 48 ∷ 49 ∷ 50 ∷ 51 ∷ 52 ∷ 53 ∷ 54 ∷ 55 ∷ 56 ∷ 57 ∷ 58 ∷ 59 ∷ 60 ∷ 61 ∷ 62 ∷ 63 ∷ 64 ∷ 65 ∷ 66 ∷ 67 ∷ 68 ∷ 69 ∷ 70 ∷ 71 ∷ 72 ∷ 73 ∷ []) $
+        begins 𝓣 known-table-touch known-turn-is-live known-handle-handle known-repeats-answer known-turn-settle known-turn-passed l₀ l₁ l₂ l₃ l₄ l₅ l₆ l₇ l₈ l₉ l₁₀ l₁₁ l₁₂ l₁₃ l₁₄ l₁₅ l₁₆ l₁₇ l₁₈ l₁₉ l₂₀ l₂₁ l₂₂ l₂₃ l₂₄ l₂₅ l₂₆ l₂₇ l₂₈ l₂₉ l₃₀)))))))))))))))))))))))))))))))
 
-module _ {M : Type 1} (𝓤 : URA M) (H : Heap 𝓤) (A : Atoms 𝓤) (W : Given 𝓤 H A) (mem : Memory → SProp 𝓤) (run : Routine → Fun 𝓤) (𝓣 : Tables 𝓤 H) (known-table-touch : Triple 𝓤 (𝓣 .C #table-touch) (Of-table-touch 𝓤 H A mem run)) (known-turn-is-live : Triple 𝓤 (𝓣 .C #turn-is-live) (Of-turn-is-live 𝓤 H A mem run)) (known-handle-handle : Triple 𝓤 (𝓣 .C #handle-handle) (Of-handle-handle 𝓤 H A mem run)) (known-turn-settle : Triple 𝓤 (𝓣 .C #turn-settle) (Of-turn-settle 𝓤 H A mem run)) (known-turn-passed : Triple 𝓤 (𝓣 .C #turn-passed) (Of-turn-passed 𝓤 H A mem run)) where
+module _ {M : Type 1} (𝓤 : URA M) (H : Heap 𝓤) (A : Atoms 𝓤) (W : Given 𝓤 H A) (mem : Memory → SProp 𝓤) (run : Routine → Fun 𝓤) (𝓣 : Tables 𝓤 H) (known-table-touch : Triple 𝓤 (𝓣 .C #table-touch) (Of-table-touch 𝓤 H A mem run)) (known-turn-is-live : Triple 𝓤 (𝓣 .C #turn-is-live) (Of-turn-is-live 𝓤 H A mem run)) (known-handle-handle : Triple 𝓤 (𝓣 .C #handle-handle) (Of-handle-handle 𝓤 H A mem run)) (known-repeats-answer : Triple 𝓤 (𝓣 .C #repeats-answer) (Of-repeats-answer 𝓤 H A mem run)) (known-turn-settle : Triple 𝓤 (𝓣 .C #turn-settle) (Of-turn-settle 𝓤 H A mem run)) (known-turn-passed : Triple 𝓤 (𝓣 .C #turn-passed) (Of-turn-passed 𝓤 H A mem run)) where
   walks : Walks 𝓤 H A f.ended stayed (WpFn 𝓤 H (𝓣 .C) (𝓣 .Λ) code.function) (f.clauses 𝓤 H A mem run)
-  walks = walked 𝓤 H A f.ended stayed (f.clauses 𝓤 H A mem run) (WpFn 𝓤 H (𝓣 .C) (𝓣 .Λ) code.function) (λ κs. (slice-vals, (slice-vals, (slice-vals, (slice-vals, (slice-vals, ((λ y. Frame-p .val y ∷ []), ((λ y. Ran-p .val y ∷ []), ((λ y. Taken-p .val y ∷ []), tt))))))))) (λ κs. (mut-slice-tells (named 0) (κs .0) (Array u64 5), (mut-slice-tells (named 1) (κs .1 .0) (Array u16 35), (mut-slice-tells (named 2) (κs .1 .1 .0) Object-t.the-row, (mut-slice-tells (named 3) (κs .1 .1 .1 .0) u8, (shr-slice-tells (named 4) (κs .1 .1 .1 .1 .0) u8, (Frame-p .tells, (Ran-p .tells, (Taken-p .tells, tt)))))))))
-      (λ κs qs bounds a g are. needs 𝓤 _ _ (λ within. walk 𝓤 H A W mem run (κs .0) (qs .0) (a .0 .ptr .0) (a .0 .ptr .1) (a .0 .name) (a .0 .now) (κs .1 .0) (qs .1 .0) (a .1 .0 .ptr .0) (a .1 .0 .ptr .1) (a .1 .0 .name) (a .1 .0 .now) (κs .1 .1 .0) (qs .1 .1 .0) (a .1 .1 .0 .ptr .0) (a .1 .1 .0 .ptr .1) (a .1 .1 .0 .name) (a .1 .1 .0 .now) (κs .1 .1 .1 .0) (qs .1 .1 .1 .0) (a .1 .1 .1 .0 .ptr .0) (a .1 .1 .1 .0 .ptr .1) (a .1 .1 .1 .0 .name) (a .1 .1 .1 .0 .now) (κs .1 .1 .1 .1 .0) (qs .1 .1 .1 .1 .0) (a .1 .1 .1 .1 .0 .ptr .0) (a .1 .1 .1 .1 .0 .ptr .1) (a .1 .1 .1 .1 .0 .name) (a .1 .1 .1 .1 .0 .now) (a .1 .1 .1 .1 .1 .0) (a .1 .1 .1 .1 .1 .1 .0) (a .1 .1 .1 .1 .1 .1 .1 .0) (are .0 .0 .1) (are .1 .0 .0 .1) (are .1 .1 .0 .0 .1) (are .1 .1 .1 .0 .0 .1) (are .1 .1 .1 .1 .0 .0 .1) (are .1 .1 .1 .1 .1 .0) (are .1 .1 .1 .1 .1 .1 .0) (are .1 .1 .1 .1 .1 .1 .1 .0) within 𝓣 known-table-touch known-turn-is-live known-handle-handle known-turn-settle known-turn-passed))
+  walks = walked 𝓤 H A f.ended stayed (f.clauses 𝓤 H A mem run) (WpFn 𝓤 H (𝓣 .C) (𝓣 .Λ) code.function) (λ κs. (slice-vals, (slice-vals, (slice-vals, (slice-vals, (slice-vals, (slice-vals, ((λ y. Frame-p .val y ∷ []), ((λ y. Ran-p .val y ∷ []), ((λ y. Taken-p .val y ∷ []), tt)))))))))) (λ κs. (mut-slice-tells (named 0) (κs .0) (Array u64 6), (mut-slice-tells (named 1) (κs .1 .0) (Array u16 35), (mut-slice-tells (named 2) (κs .1 .1 .0) Object-t.the-row, (shr-slice-tells (named 3) (κs .1 .1 .1 .0) u8, (mut-slice-tells (named 4) (κs .1 .1 .1 .1 .0) u8, (shr-slice-tells (named 5) (κs .1 .1 .1 .1 .1 .0) u8, (Frame-p .tells, (Ran-p .tells, (Taken-p .tells, tt))))))))))
+      (λ κs qs bounds a g are. needs 𝓤 _ _ (λ within. walk 𝓤 H A W mem run (κs .0) (qs .0) (a .0 .ptr .0) (a .0 .ptr .1) (a .0 .name) (a .0 .now) (κs .1 .0) (qs .1 .0) (a .1 .0 .ptr .0) (a .1 .0 .ptr .1) (a .1 .0 .name) (a .1 .0 .now) (κs .1 .1 .0) (qs .1 .1 .0) (a .1 .1 .0 .ptr .0) (a .1 .1 .0 .ptr .1) (a .1 .1 .0 .name) (a .1 .1 .0 .now) (κs .1 .1 .1 .0) (qs .1 .1 .1 .0) (a .1 .1 .1 .0 .ptr .0) (a .1 .1 .1 .0 .ptr .1) (a .1 .1 .1 .0 .name) (a .1 .1 .1 .0 .now) (κs .1 .1 .1 .1 .0) (qs .1 .1 .1 .1 .0) (a .1 .1 .1 .1 .0 .ptr .0) (a .1 .1 .1 .1 .0 .ptr .1) (a .1 .1 .1 .1 .0 .name) (a .1 .1 .1 .1 .0 .now) (κs .1 .1 .1 .1 .1 .0) (qs .1 .1 .1 .1 .1 .0) (a .1 .1 .1 .1 .1 .0 .ptr .0) (a .1 .1 .1 .1 .1 .0 .ptr .1) (a .1 .1 .1 .1 .1 .0 .name) (a .1 .1 .1 .1 .1 .0 .now) (a .1 .1 .1 .1 .1 .1 .0) (a .1 .1 .1 .1 .1 .1 .1 .0) (a .1 .1 .1 .1 .1 .1 .1 .1 .0) (are .0 .0 .1) (are .1 .0 .0 .1) (are .1 .1 .0 .0 .1) (are .1 .1 .1 .0 .0 .1) (are .1 .1 .1 .1 .0 .0 .1) (are .1 .1 .1 .1 .1 .0 .0 .1) (are .1 .1 .1 .1 .1 .1 .0) (are .1 .1 .1 .1 .1 .1 .1 .0) (are .1 .1 .1 .1 .1 .1 .1 .1 .0) within 𝓣 known-table-touch known-turn-is-live known-handle-handle known-repeats-answer known-turn-settle known-turn-passed))
 
   meets : Meets 𝓤 H A f.signature (WpFn 𝓤 H (𝓣 .C) (𝓣 .Λ) code.function) (f.spec 𝓤 H A mem run)
-  meets = walk-meets 𝓤 H A f.ended stayed W (goes-slice 𝓤 H A W 5 0 tt (plain (λ _. (Array u64 5))), (goes-slice 𝓤 H A W 5 1 tt (plain (λ _. (Array u16 35))), (goes-slice 𝓤 H A W 5 2 tt (plain (λ _. Object-t.the-row)), (goes-slice 𝓤 H A W 5 3 tt (plain (λ _. u8)), (goes-none-slice 𝓤 H A W 5 (4 ∷ []) tt (plain (λ _. u8)) yes, (goes-none 𝓤 H A W 5 (λ _. Frame-p .row) yes (λ κs x f. refl), (goes-none 𝓤 H A W 5 (λ _. Ran-p .row) yes (λ κs x f. refl), (goes-none 𝓤 H A W 5 (λ _. Taken-p .row) yes (λ κs x f. refl), tt)))))))) (f.clauses 𝓤 H A mem run) (WpFn 𝓤 H (𝓣 .C) (𝓣 .Λ) code.function) (WpFn-mono 𝓤 H (W .laws) 𝓣 code.function) walks
+  meets = walk-meets 𝓤 H A f.ended stayed W (goes-slice 𝓤 H A W 6 0 tt (plain (λ _. (Array u64 6))), (goes-slice 𝓤 H A W 6 1 tt (plain (λ _. (Array u16 35))), (goes-slice 𝓤 H A W 6 2 tt (plain (λ _. Object-t.the-row)), (goes-none-slice 𝓤 H A W 6 (3 ∷ []) tt (plain (λ _. u8)) yes, (goes-slice 𝓤 H A W 6 4 tt (plain (λ _. u8)), (goes-none-slice 𝓤 H A W 6 (5 ∷ []) tt (plain (λ _. u8)) yes, (goes-none 𝓤 H A W 6 (λ _. Frame-p .row) yes (λ κs x f. refl), (goes-none 𝓤 H A W 6 (λ _. Ran-p .row) yes (λ κs x f. refl), (goes-none 𝓤 H A W 6 (λ _. Taken-p .row) yes (λ κs x f. refl), tt))))))))) (f.clauses 𝓤 H A mem run) (WpFn 𝓤 H (𝓣 .C) (𝓣 .Λ) code.function) (WpFn-mono 𝓤 H (W .laws) 𝓣 code.function) walks
 
 pub deliver-spec : {M : Type 1} → stated.statement M
 unfolding code.routine tablesOf
@@ -475,5 +513,6 @@ deliver-spec 𝓤 H 𝓜 𝓖 𝓡 =
     (cited 𝓤 H (Of-table-touch 𝓤 H (𝓖 .A) (𝓜 .mem) (𝓡 .run)) 𝓜 𝓡 code.env #table-touch table-touch-def.routine code.calls-sessions·table·touch (table-touch-thm.met 𝓤 H 𝓜 𝓖 𝓡))
     (cited 𝓤 H (Of-turn-is-live 𝓤 H (𝓖 .A) (𝓜 .mem) (𝓡 .run)) 𝓜 𝓡 code.env #turn-is-live turn-is-live-def.routine code.calls-agent·turn·is-live (turn-is-live-thm.met 𝓤 H 𝓜 𝓖 𝓡))
     (cited 𝓤 H (Of-handle-handle 𝓤 H (𝓖 .A) (𝓜 .mem) (𝓡 .run)) 𝓜 𝓡 code.env #handle-handle handle-handle-def.routine code.calls-moves·handle·handle (handle-handle-thm.met 𝓤 H 𝓜 𝓖 𝓡))
+    (cited 𝓤 H (Of-repeats-answer 𝓤 H (𝓖 .A) (𝓜 .mem) (𝓡 .run)) 𝓜 𝓡 code.env #repeats-answer repeats-answer-def.routine code.calls-agent·repeats·answer (repeats-answer-thm.met 𝓤 H 𝓜 𝓖 𝓡))
     (cited 𝓤 H (Of-turn-settle 𝓤 H (𝓖 .A) (𝓜 .mem) (𝓡 .run)) 𝓜 𝓡 code.env #turn-settle turn-settle-def.routine code.calls-agent·turn·settle (turn-settle-thm.met 𝓤 H 𝓜 𝓖 𝓡))
     (cited 𝓤 H (Of-turn-passed 𝓤 H (𝓖 .A) (𝓜 .mem) (𝓡 .run)) 𝓜 𝓡 code.env #turn-passed turn-passed-def.routine code.calls-agent·turn·passed (turn-passed-thm.met 𝓤 H 𝓜 𝓖 𝓡)))

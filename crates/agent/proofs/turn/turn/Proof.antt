@@ -55,8 +55,7 @@ use Rattle.walk.proofs.Arrays.{rep-is, lends-array, backs-array}
 use Rattle.codec.specs.Bytes.{putBytes}
 use Rattle.sessions.specs.Table.{namedOf}
 use Rattle.sessions.specs.Opening.{createdOf, openedRows, openedStreams}
-use Rattle.moves.specs.Moves.{moveBytes}
-use Rattle.moves.specs.Rows.{lent}
+use Rattle.agent.specs.Lent.{lent}
 use Rattle.agent.specs.Run.{putReplies, settled, stopOf, greetingBytes, greeted, passed, isLive, delivered, takenOf, turned}
 use Rattle.codec.specs.Reading.{partOf, readAt, countAt, checkOf}
 use types.Kit.{frees, prop}
@@ -194,8 +193,8 @@ ObjectNumber-of x0 = record { 0 = x0 }
 abbrev ObjectNumber-p : Plain
 ObjectNumber-p = record { row = ObjectNumber-t.the-row; val = LL.val ObjectNumber-t.the-type ObjectNumber-l.the-laws; tells = LL.tells ObjectNumber-t.the-type ObjectNumber-l.the-laws; makes = λ 𝓤 H A W. LL.makes ObjectNumber-t.the-type ObjectNumber-l.the-plain 𝓤 H A; ty = ObjectNumber-l.mir; typed = λ 𝓤 H A W x is. LL.lawful ObjectNumber-t.the-type ObjectNumber-l.the-laws 𝓤 H A W .typed x _ is .0; copies = λ 𝓤 H A W. LL.copy ObjectNumber-t.the-type ObjectNumber-l.the-copy 𝓤 H A W }
 
-abbrev Frame-of : ℕ → ℕ → ℕ → ℕ → Frame
-Frame-of x0 x1 x2 x3 = record { «max_clients» = x0; time = x1; «session_id» = x2; «stream_id» = x3 }
+abbrev Frame-of : ℕ → ℕ → ℕ → ℕ → ℕ → Frame
+Frame-of x0 x1 x2 x3 x4 = record { «max_clients» = x0; time = x1; «session_id» = x2; «stream_id» = x3; room = x4 }
 
 abbrev Frame-p : Plain
 Frame-p = record { row = Frame-t.the-row; val = LL.val Frame-t.the-type Frame-l.the-laws; tells = LL.tells Frame-t.the-type Frame-l.the-laws; makes = λ 𝓤 H A W. LL.makes Frame-t.the-type Frame-l.the-plain 𝓤 H A; ty = Frame-l.mir; typed = λ 𝓤 H A W x is. LL.lawful Frame-t.the-type Frame-l.the-laws 𝓤 H A W .typed x _ is .0; copies = λ 𝓤 H A W. LL.copy Frame-t.the-type Frame-l.the-copy 𝓤 H A W }
@@ -321,7 +320,7 @@ abbrev Refusal-p : Plain
 Refusal-p = record { row = Refusal-t.the-row; val = EL.val Refusal-t.the-type Refusal-l.the-laws; tells = EL.tells Refusal-t.the-type Refusal-l.the-laws; makes = λ 𝓤 H A W. EL.makes Refusal-t.the-type Refusal-l.the-plain 𝓤 H A; ty = Refusal-l.mir; typed = λ 𝓤 H A W x is. EL.lawful Refusal-t.the-type Refusal-l.the-laws 𝓤 H A W tt .typed x _ is .0; copies = λ 𝓤 H A W. EL.copy Refusal-t.the-type Refusal-l.the-copy 𝓤 H A W }
 
 abbrev stayed : Stays (f.ended .signature .params) (f.ended .kept)
-stayed = (stay-slice (0 ∷ []) tt (plain (λ _. (Array u64 5))), (stay-slice (1 ∷ []) tt (plain (λ _. (Array u16 35))), (stay-slice (2 ∷ []) tt (plain (λ _. Object-t.the-row)), (stay-slice (3 ∷ []) tt (plain (λ _. u8)), (stay-none-slice (4 ∷ []) tt (plain (λ _. u8)) yes, (stay-none (λ _. Frame-p .row) yes, (stay-none (λ _. Ran-p .row) yes, tt)))))))
+stayed = (stay-slice (0 ∷ []) tt (plain (λ _. (Array u64 6))), (stay-slice (1 ∷ []) tt (plain (λ _. (Array u16 35))), (stay-slice (2 ∷ []) tt (plain (λ _. Object-t.the-row)), (stay-none-slice (3 ∷ []) tt (plain (λ _. u8)) yes, (stay-slice (4 ∷ []) tt (plain (λ _. u8)), (stay-none-slice (5 ∷ []) tt (plain (λ _. u8)) yes, (stay-none (λ _. Frame-p .row) yes, (stay-none (λ _. Ran-p .row) yes, tt))))))))
 
 module _ {M : Type 1} (𝓤 : URA M) (H : Heap 𝓤) (A : Atoms 𝓤) (mem : Memory → SProp 𝓤) (run : Routine → Fun 𝓤) where
   abbrev Of-reading-read : Contract 𝓤
@@ -339,8 +338,8 @@ module _ {M : Type 1} (𝓤 : URA M) (H : Heap 𝓤) (A : Atoms 𝓤) (mem : Mem
   abbrev Of-turn-passed : Contract 𝓤
   Of-turn-passed = tripleOf 𝓤 H A turn-passed.signature (turn-passed.spec 𝓤 H A mem run)
 
-module _ {M : Type 1} (𝓤 : URA M) (H : Heap 𝓤) (A : Atoms 𝓤) (W : Given 𝓤 H A) (mem : Memory → SProp 𝓤) (run : Routine → Fun 𝓤) (κ₁ : Lft) (q₁ : Share) (b₁ o₁ : ℕ) (γ₁ : GName) (sessions : List (List ℕ)) (κ₂ : Lft) (q₂ : Share) (b₂ o₂ : ℕ) (γ₂ : GName) (streams : List (List ℕ)) (κ₃ : Lft) (q₃ : Share) (b₃ o₃ : ℕ) (γ₃ : GName) (objects : List Object) (κ₄ : Lft) (q₄ : Share) (b₄ o₄ : ℕ) (γ₄ : GName) (out : List ℕ) (κ₅ : Lft) (q₅ : Share) (b₅ o₅ : ℕ) (γ₅ : GName) (d : List ℕ) (f′ : Frame) (r′ : Ran)
-    (room₁ : Room (Array u64 5) (length sessions)) (room₂ : Room (Array u16 35) (length streams)) (room₃ : Room Object-t.the-row (length objects)) (room₄ : Room u8 (length out)) (room₅ : Room u8 (length d)) (f′-is : Is (Frame-p .row) f′ (Frame-p .val f′ ∷ [])) (r′-is : Is (Ran-p .row) r′ (Ran-p .val r′ ∷ [])) (within : r′ .wrote ≤ 18446744073709551600) where
+module _ {M : Type 1} (𝓤 : URA M) (H : Heap 𝓤) (A : Atoms 𝓤) (W : Given 𝓤 H A) (mem : Memory → SProp 𝓤) (run : Routine → Fun 𝓤) (κ₁ : Lft) (q₁ : Share) (b₁ o₁ : ℕ) (γ₁ : GName) (sessions : List (List ℕ)) (κ₂ : Lft) (q₂ : Share) (b₂ o₂ : ℕ) (γ₂ : GName) (streams : List (List ℕ)) (κ₃ : Lft) (q₃ : Share) (b₃ o₃ : ℕ) (γ₃ : GName) (objects : List Object) (κ₄ : Lft) (q₄ : Share) (b₄ o₄ : ℕ) (γ₄ : GName) (held : List ℕ) (κ₅ : Lft) (q₅ : Share) (b₅ o₅ : ℕ) (γ₅ : GName) (out : List ℕ) (κ₆ : Lft) (q₆ : Share) (b₆ o₆ : ℕ) (γ₆ : GName) (d : List ℕ) (f′ : Frame) (r′ : Ran)
+    (room₁ : Room (Array u64 6) (length sessions)) (room₂ : Room (Array u16 35) (length streams)) (room₃ : Room Object-t.the-row (length objects)) (room₄ : Room u8 (length held)) (room₅ : Room u8 (length out)) (room₆ : Room u8 (length d)) (f′-is : Is (Frame-p .row) f′ (Frame-p .val f′ ∷ [])) (r′-is : Is (Ran-p .row) r′ (Ran-p .val r′ ∷ [])) (within : f′ .room ≤ 9223372036854775807) where
   abbrev n₁ : ℕ
   n₁ = length sessions
 
@@ -351,43 +350,46 @@ module _ {M : Type 1} (𝓤 : URA M) (H : Heap 𝓤) (A : Atoms 𝓤) (W : Given
   n₃ = length objects
 
   abbrev n₄ : ℕ
-  n₄ = length out
+  n₄ = length held
 
   abbrev n₅ : ℕ
-  n₅ = length d
+  n₅ = length out
 
-  abbrev x : RefT (List (List ℕ)) × (RefT (List (List ℕ)) × (RefT (List Object) × (RefT (List ℕ) × (RefT (List ℕ) × (Frame-p .row .Denot × (Ran-p .row .Denot × (Unit {0})))))))
-  x = (at-list b₁ o₁ γ₁ sessions, (at-list b₂ o₂ γ₂ streams, (at-list b₃ o₃ γ₃ objects, (at-list b₄ o₄ γ₄ out, (at-list b₅ o₅ γ₅ d, (f′, (r′, tt)))))))
+  abbrev n₆ : ℕ
+  n₆ = length d
 
-  abbrev at : Vals f.signature (κ₁, (κ₂, (κ₃, (κ₄, (κ₅, tt)))))
-  at = (sliceVal (b₁, o₁) n₁ ∷ [], (sliceVal (b₂, o₂) n₂ ∷ [], (sliceVal (b₃, o₃) n₃ ∷ [], (sliceVal (b₄, o₄) n₄ ∷ [], (sliceVal (b₅, o₅) n₅ ∷ [], (Frame-p .val f′ ∷ [], (Ran-p .val r′ ∷ [], tt)))))))
+  abbrev x : RefT (List (List ℕ)) × (RefT (List (List ℕ)) × (RefT (List Object) × (RefT (List ℕ) × (RefT (List ℕ) × (RefT (List ℕ) × (Frame-p .row .Denot × (Ran-p .row .Denot × (Unit {0}))))))))
+  x = (at-list b₁ o₁ γ₁ sessions, (at-list b₂ o₂ γ₂ streams, (at-list b₃ o₃ γ₃ objects, (at-list b₄ o₄ γ₄ held, (at-list b₅ o₅ γ₅ out, (at-list b₆ o₆ γ₆ d, (f′, (r′, tt))))))))
+
+  abbrev at : Vals f.signature (κ₁, (κ₂, (κ₃, (κ₄, (κ₅, (κ₆, tt))))))
+  at = (sliceVal (b₁, o₁) n₁ ∷ [], (sliceVal (b₂, o₂) n₂ ∷ [], (sliceVal (b₃, o₃) n₃ ∷ [], (sliceVal (b₄, o₄) n₄ ∷ [], (sliceVal (b₅, o₅) n₅ ∷ [], (sliceVal (b₆, o₆) n₆ ∷ [], (Frame-p .val f′ ∷ [], (Ran-p .val r′ ∷ [], tt))))))))
 
   abbrev Post : Val → SProp 𝓤
-  Post = walkOf 𝓤 H A f.ended stayed (f.clauses 𝓤 H A mem run) .post (((κ₁, (κ₂, (κ₃, (κ₄, (κ₅, tt))))), (q₁, (q₂, (q₃, (q₄, (q₅, tt))))), tt, x, at), tt)
+  Post = walkOf 𝓤 H A f.ended stayed (f.clauses 𝓤 H A mem run) .post (((κ₁, (κ₂, (κ₃, (κ₄, (κ₅, (κ₆, tt)))))), (q₁, (q₂, (q₃, (q₄, (q₅, (q₆, tt)))))), tt, x, at), tt)
 
   abbrev got : Taken
   got = takenOf (readAt d (r′ .at)) (length d)
 
   abbrev left : Opening → Turned
-  left o = subTurned o f′ (lent sessions streams objects) d r′ got
+  left o = subTurned o f′ (lent sessions streams objects held) d r′ got
 
   abbrev leaves : Turned
-  leaves = turned f′ (lent sessions streams objects) d r′
+  leaves = turned f′ (lent sessions streams objects held) d r′
 
   left-is : left (got .asked .opening) ≡ leaves
-  left-is = turned-as f′ (lent sessions streams objects) d r′
+  left-is = turned-as f′ (lent sessions streams objects held) d r′
 
-  exits : (r : Ran) (ws₁ : List (List ℕ)) (ws₂ : List (List ℕ)) (ws₃ : List Object) (ws₄ : List ℕ) → ((r ≡ turned f′ (lent (sessions) (streams) (objects)) (d) r′ .ran) × (ws₁ ≡ turned f′ (lent (sessions) (streams) (objects)) (d) r′ .tables .sessions) × (ws₂ ≡ turned f′ (lent (sessions) (streams) (objects)) (d) r′ .tables .streams) × (ws₃ ≡ turned f′ (lent (sessions) (streams) (objects)) (d) r′ .tables .objects) × (ws₄ ≡ putReplies (out) (r′ .wrote) (turned f′ (lent (sessions) (streams) (objects)) (d) r′ .replies))) → Is (Ran-p .row) r (Ran-p .val r ∷ []) → length ws₁ ≡ n₁ → length ws₂ ≡ n₂ → length ws₃ ≡ n₃ → length ws₄ ≡ n₄ → ent 𝓤 (⋆ 𝓤 H A (‵ (MutSlice (named 0) κ₁ (Array u64 5) .own (at-list b₁ o₁ γ₁ ws₁) (sliceVal (b₁, o₁) n₁ ∷ [])) ∷ ‵ (flft κ₁ q₁) ∷ ‵ (MutSlice (named 1) κ₂ (Array u16 35) .own (at-list b₂ o₂ γ₂ ws₂) (sliceVal (b₂, o₂) n₂ ∷ [])) ∷ ‵ (flft κ₂ q₂) ∷ ‵ (MutSlice (named 2) κ₃ Object-t.the-row .own (at-list b₃ o₃ γ₃ ws₃) (sliceVal (b₃, o₃) n₃ ∷ [])) ∷ ‵ (flft κ₃ q₃) ∷ ‵ (MutSlice (named 3) κ₄ u8 .own (at-list b₄ o₄ γ₄ ws₄) (sliceVal (b₄, o₄) n₄ ∷ [])) ∷ ‵ (flft κ₄ q₄) ∷ ‵ (ShrSlice (named 4) κ₅ u8 .own (at-list b₅ o₅ γ₅ d) (sliceVal (b₅, o₅) n₅ ∷ [])) ∷ ‵ (flft κ₅ q₅) ∷ [])) (Post (Ran-p .val r))
-  exits r ws₁ ws₂ ws₃ ws₄ said r-is len₁ len₂ len₃ len₄ =
-      qed W (‵ (MutSlice (named 0) κ₁ (Array u64 5) .own (at-list b₁ o₁ γ₁ ws₁) (sliceVal (b₁, o₁) n₁ ∷ [])) ∷ ‵ (flft κ₁ q₁) ∷ ‵ (MutSlice (named 1) κ₂ (Array u16 35) .own (at-list b₂ o₂ γ₂ ws₂) (sliceVal (b₂, o₂) n₂ ∷ [])) ∷ ‵ (flft κ₂ q₂) ∷ ‵ (MutSlice (named 2) κ₃ Object-t.the-row .own (at-list b₃ o₃ γ₃ ws₃) (sliceVal (b₃, o₃) n₃ ∷ [])) ∷ ‵ (flft κ₃ q₃) ∷ ‵ (MutSlice (named 3) κ₄ u8 .own (at-list b₄ o₄ γ₄ ws₄) (sliceVal (b₄, o₄) n₄ ∷ [])) ∷ ‵ (flft κ₄ q₄) ∷ ‵ (ShrSlice (named 4) κ₅ u8 .own (at-list b₅ o₅ γ₅ d) (sliceVal (b₅, o₅) n₅ ∷ [])) ∷ ‵ (flft κ₅ q₅) ∷ []) ∵
-      suffices ! _ (ends-at 𝓤 H A f.ended stayed (f.clauses 𝓤 H A mem run) W (((κ₁, (κ₂, (κ₃, (κ₄, (κ₅, tt))))), (q₁, (q₂, (q₃, (q₄, (q₅, tt))))), tt, x, at), tt) (Ran-p .val r) r (ws₁, (ws₂, (ws₃, (ws₄, (tt, (tt, (tt, tt))))))) (len₁, (len₂, (len₃, (len₄, (tt, (tt, (tt, tt)))))))) $ says ! said $ nothing ! $ move ! (10 ∷ 0 ∷ []) $ join ! $ move ! (8 ∷ 0 ∷ []) $ join ! $ move ! (6 ∷ 0 ∷ []) $ join ! $ move ! (4 ∷ 0 ∷ []) $ join ! $ move ! (2 ∷ 0 ∷ []) $ join ! $
+  exits : (r : Ran) (ws₁ : List (List ℕ)) (ws₂ : List (List ℕ)) (ws₃ : List Object) (ws₅ : List ℕ) → ((r ≡ turned f′ (lent (sessions) (streams) (objects) (held)) (d) r′ .ran) × (ws₁ ≡ turned f′ (lent (sessions) (streams) (objects) (held)) (d) r′ .tables .sessions) × (ws₂ ≡ turned f′ (lent (sessions) (streams) (objects) (held)) (d) r′ .tables .streams) × (ws₃ ≡ turned f′ (lent (sessions) (streams) (objects) (held)) (d) r′ .tables .objects) × (ws₅ ≡ putReplies (f′ .room) (out) (r′ .wrote) (turned f′ (lent (sessions) (streams) (objects) (held)) (d) r′ .replies))) → Is (Ran-p .row) r (Ran-p .val r ∷ []) → length ws₁ ≡ n₁ → length ws₂ ≡ n₂ → length ws₃ ≡ n₃ → length ws₅ ≡ n₅ → ent 𝓤 (⋆ 𝓤 H A (‵ (MutSlice (named 0) κ₁ (Array u64 6) .own (at-list b₁ o₁ γ₁ ws₁) (sliceVal (b₁, o₁) n₁ ∷ [])) ∷ ‵ (flft κ₁ q₁) ∷ ‵ (MutSlice (named 1) κ₂ (Array u16 35) .own (at-list b₂ o₂ γ₂ ws₂) (sliceVal (b₂, o₂) n₂ ∷ [])) ∷ ‵ (flft κ₂ q₂) ∷ ‵ (MutSlice (named 2) κ₃ Object-t.the-row .own (at-list b₃ o₃ γ₃ ws₃) (sliceVal (b₃, o₃) n₃ ∷ [])) ∷ ‵ (flft κ₃ q₃) ∷ ‵ (ShrSlice (named 3) κ₄ u8 .own (at-list b₄ o₄ γ₄ held) (sliceVal (b₄, o₄) n₄ ∷ [])) ∷ ‵ (flft κ₄ q₄) ∷ ‵ (MutSlice (named 4) κ₅ u8 .own (at-list b₅ o₅ γ₅ ws₅) (sliceVal (b₅, o₅) n₅ ∷ [])) ∷ ‵ (flft κ₅ q₅) ∷ ‵ (ShrSlice (named 5) κ₆ u8 .own (at-list b₆ o₆ γ₆ d) (sliceVal (b₆, o₆) n₆ ∷ [])) ∷ ‵ (flft κ₆ q₆) ∷ [])) (Post (Ran-p .val r))
+  exits r ws₁ ws₂ ws₃ ws₅ said r-is len₁ len₂ len₃ len₅ =
+      qed W (‵ (MutSlice (named 0) κ₁ (Array u64 6) .own (at-list b₁ o₁ γ₁ ws₁) (sliceVal (b₁, o₁) n₁ ∷ [])) ∷ ‵ (flft κ₁ q₁) ∷ ‵ (MutSlice (named 1) κ₂ (Array u16 35) .own (at-list b₂ o₂ γ₂ ws₂) (sliceVal (b₂, o₂) n₂ ∷ [])) ∷ ‵ (flft κ₂ q₂) ∷ ‵ (MutSlice (named 2) κ₃ Object-t.the-row .own (at-list b₃ o₃ γ₃ ws₃) (sliceVal (b₃, o₃) n₃ ∷ [])) ∷ ‵ (flft κ₃ q₃) ∷ ‵ (ShrSlice (named 3) κ₄ u8 .own (at-list b₄ o₄ γ₄ held) (sliceVal (b₄, o₄) n₄ ∷ [])) ∷ ‵ (flft κ₄ q₄) ∷ ‵ (MutSlice (named 4) κ₅ u8 .own (at-list b₅ o₅ γ₅ ws₅) (sliceVal (b₅, o₅) n₅ ∷ [])) ∷ ‵ (flft κ₅ q₅) ∷ ‵ (ShrSlice (named 5) κ₆ u8 .own (at-list b₆ o₆ γ₆ d) (sliceVal (b₆, o₆) n₆ ∷ [])) ∷ ‵ (flft κ₆ q₆) ∷ []) ∵
+      suffices ! _ (ends-at 𝓤 H A f.ended stayed (f.clauses 𝓤 H A mem run) W (((κ₁, (κ₂, (κ₃, (κ₄, (κ₅, (κ₆, tt)))))), (q₁, (q₂, (q₃, (q₄, (q₅, (q₆, tt)))))), tt, x, at), tt) (Ran-p .val r) r (ws₁, (ws₂, (ws₃, (tt, (ws₅, (tt, (tt, (tt, tt)))))))) (len₁, (len₂, (len₃, (tt, (len₅, (tt, (tt, (tt, tt))))))))) $ says ! said $ nothing ! $ move ! (12 ∷ 0 ∷ []) $ join ! $ move ! (10 ∷ 0 ∷ []) $ join ! $ move ! (8 ∷ 0 ∷ []) $ join ! $ move ! (6 ∷ 0 ∷ []) $ join ! $ move ! (4 ∷ 0 ∷ []) $ join ! $ move ! (2 ∷ 0 ∷ []) $ join ! $
       frame ! $ nothing ! $
       owned ! (Ran-p .row) (Is (Ran-p .row)) (Ran-p .makes 𝓤 H A W) r′ (Ran-p .val r′ ∷ []) r′-is $ fjoin ! $
-      owned ! (Frame-p .row) (Is (Frame-p .row)) (Frame-p .makes 𝓤 H A W) f′ (Frame-p .val f′ ∷ []) f′-is $ fjoin ! $ move ! (5 ∷ 0 ∷ []) $ fjoin ! $ move ! (4 ∷ 0 ∷ []) $ fjoin ! $ move ! (3 ∷ 0 ∷ []) $ fjoin ! $ move ! (2 ∷ 0 ∷ []) $ fjoin ! $ move ! (1 ∷ 0 ∷ []) $ fjoin ! $
+      owned ! (Frame-p .row) (Is (Frame-p .row)) (Frame-p .makes 𝓤 H A W) f′ (Frame-p .val f′ ∷ []) f′-is $ fjoin ! $ move ! (6 ∷ 0 ∷ []) $ fjoin ! $ move ! (5 ∷ 0 ∷ []) $ fjoin ! $ move ! (4 ∷ 0 ∷ []) $ fjoin ! $ move ! (3 ∷ 0 ∷ []) $ fjoin ! $ move ! (2 ∷ 0 ∷ []) $ fjoin ! $ move ! (1 ∷ 0 ∷ []) $ fjoin ! $
       frame ! $
       owned ! (Ran-p .row) (Is (Ran-p .row)) (Ran-p .makes 𝓤 H A W) r _ r-is $ done !
 
-  module _ (𝓣 : Tables 𝓤 H) (known-reading-read : Triple 𝓤 (𝓣 .C #reading-read) (Of-reading-read 𝓤 H A mem run)) (known-turn-take-apart : Triple 𝓤 (𝓣 .C #turn-take-apart) (Of-turn-take-apart 𝓤 H A mem run)) (known-turn-greet : Triple 𝓤 (𝓣 .C #turn-greet) (Of-turn-greet 𝓤 H A mem run)) (known-turn-deliver : Triple 𝓤 (𝓣 .C #turn-deliver) (Of-turn-deliver 𝓤 H A mem run)) (known-turn-passed : Triple 𝓤 (𝓣 .C #turn-passed) (Of-turn-passed 𝓤 H A mem run)) (l₀ l₁ l₂ l₃ l₄ l₅ l₆ l₇ l₈ l₉ l₁₀ l₁₁ l₁₂ l₁₃ l₁₄ l₁₅ l₁₆ l₁₇ l₁₈ l₁₉ l₂₀ l₂₁ l₂₂ l₂₃ l₂₄ l₂₅ l₂₆ l₂₇ l₂₈ : ℕ) where
+  module _ (𝓣 : Tables 𝓤 H) (known-reading-read : Triple 𝓤 (𝓣 .C #reading-read) (Of-reading-read 𝓤 H A mem run)) (known-turn-take-apart : Triple 𝓤 (𝓣 .C #turn-take-apart) (Of-turn-take-apart 𝓤 H A mem run)) (known-turn-greet : Triple 𝓤 (𝓣 .C #turn-greet) (Of-turn-greet 𝓤 H A mem run)) (known-turn-deliver : Triple 𝓤 (𝓣 .C #turn-deliver) (Of-turn-deliver 𝓤 H A mem run)) (known-turn-passed : Triple 𝓤 (𝓣 .C #turn-passed) (Of-turn-passed 𝓤 H A mem run)) (l₀ l₁ l₂ l₃ l₄ l₅ l₆ l₇ l₈ l₉ l₁₀ l₁₁ l₁₂ l₁₃ l₁₄ l₁₅ l₁₆ l₁₇ l₁₈ l₁₉ l₂₀ l₂₁ l₂₂ l₂₃ l₂₄ l₂₅ l₂₆ l₂₇ l₂₈ l₂₉ : ℕ) where
     abbrev C : Calls 𝓤 H
     C = 𝓣 .C
 
@@ -398,42 +400,42 @@ module _ {M : Type 1} (𝓤 : URA M) (H : Heap 𝓤) (A : Atoms 𝓤) (W : Given
     fm = fmOf 𝓤 H (W .laws) 𝓣
 
     abbrev En : Env 𝓤 H
-    En = (Ran-l.mir, l₀) ∷ ((sliceTy (tyRef (named 0) mut (pointee ((Array u64 5) .written)))), l₁) ∷ ((sliceTy (tyRef (named 1) mut (pointee ((Array u16 35) .written)))), l₂) ∷ ((sliceTy (tyRef (named 2) mut (pointee (Object-t.the-row .written)))), l₃) ∷ ((sliceTy (tyRef (named 3) mut (pointee (u8 .written)))), l₄) ∷ ((sliceTy (tyRef (named 4) imm (pointee (u8 .written)))), l₅) ∷ (Frame-l.mir, l₆) ∷ (Ran-l.mir, l₇) ∷ (Cursor-l.mir, l₈) ∷ (Parsed-l.mir, l₉) ∷ (Taken-l.mir, l₁₀) ∷ (Asked-l.mir, l₁₁) ∷ (Opening-l.mir, l₁₂) ∷ ((tyInt w64), l₁₃) ∷ (Ran-l.mir, l₁₄) ∷ ((tyRef erased mut (pointee ((Array u64 5) .written))), l₁₅) ∷ ((sliceTy (tyRef erased mut (pointee ((Array u64 5) .written)))), l₁₆) ∷ ((tyRef erased mut (pointee ((Array u16 35) .written))), l₁₇) ∷ ((sliceTy (tyRef erased mut (pointee ((Array u16 35) .written)))), l₁₈) ∷ ((tyRef erased mut (pointee (u8 .written))), l₁₉) ∷ ((sliceTy (tyRef erased mut (pointee (u8 .written)))), l₂₀) ∷ ((tyRef erased mut (pointee ((Array u64 5) .written))), l₂₁) ∷ ((sliceTy (tyRef erased mut (pointee ((Array u64 5) .written)))), l₂₂) ∷ ((tyRef erased mut (pointee ((Array u16 35) .written))), l₂₃) ∷ ((sliceTy (tyRef erased mut (pointee ((Array u16 35) .written)))), l₂₄) ∷ ((tyRef erased mut (pointee (Object-t.the-row .written))), l₂₅) ∷ ((sliceTy (tyRef erased mut (pointee (Object-t.the-row .written)))), l₂₆) ∷ ((tyRef erased mut (pointee (u8 .written))), l₂₇) ∷ ((sliceTy (tyRef erased mut (pointee (u8 .written)))), l₂₈) ∷ []
+    En = (Ran-l.mir, l₀) ∷ ((sliceTy (tyRef (named 0) mut (pointee ((Array u64 6) .written)))), l₁) ∷ ((sliceTy (tyRef (named 1) mut (pointee ((Array u16 35) .written)))), l₂) ∷ ((sliceTy (tyRef (named 2) mut (pointee (Object-t.the-row .written)))), l₃) ∷ ((sliceTy (tyRef (named 3) imm (pointee (u8 .written)))), l₄) ∷ ((sliceTy (tyRef (named 4) mut (pointee (u8 .written)))), l₅) ∷ ((sliceTy (tyRef (named 5) imm (pointee (u8 .written)))), l₆) ∷ (Frame-l.mir, l₇) ∷ (Ran-l.mir, l₈) ∷ (Cursor-l.mir, l₉) ∷ (Parsed-l.mir, l₁₀) ∷ (Taken-l.mir, l₁₁) ∷ (Asked-l.mir, l₁₂) ∷ (Opening-l.mir, l₁₃) ∷ ((tyInt w64), l₁₄) ∷ (Ran-l.mir, l₁₅) ∷ ((tyRef erased mut (pointee ((Array u64 6) .written))), l₁₆) ∷ ((sliceTy (tyRef erased mut (pointee ((Array u64 6) .written)))), l₁₇) ∷ ((tyRef erased mut (pointee ((Array u16 35) .written))), l₁₈) ∷ ((sliceTy (tyRef erased mut (pointee ((Array u16 35) .written)))), l₁₉) ∷ ((tyRef erased mut (pointee (u8 .written))), l₂₀) ∷ ((sliceTy (tyRef erased mut (pointee (u8 .written)))), l₂₁) ∷ ((tyRef erased mut (pointee ((Array u64 6) .written))), l₂₂) ∷ ((sliceTy (tyRef erased mut (pointee ((Array u64 6) .written)))), l₂₃) ∷ ((tyRef erased mut (pointee ((Array u16 35) .written))), l₂₄) ∷ ((sliceTy (tyRef erased mut (pointee ((Array u16 35) .written)))), l₂₅) ∷ ((tyRef erased mut (pointee (Object-t.the-row .written))), l₂₆) ∷ ((sliceTy (tyRef erased mut (pointee (Object-t.the-row .written)))), l₂₇) ∷ ((tyRef erased mut (pointee (u8 .written))), l₂₈) ∷ ((sliceTy (tyRef erased mut (pointee (u8 .written)))), l₂₉) ∷ []
 
-    frees-all : (r : Ran) (ws₁ : List (List ℕ)) (ws₂ : List (List ℕ)) (ws₃ : List Object) (ws₄ : List ℕ) → ent 𝓤 (⋆ 𝓤 H A (‵ (MutSlice (named 0) κ₁ (Array u64 5) .own (at-list b₁ o₁ γ₁ ws₁) (sliceVal (b₁, o₁) n₁ ∷ [])) ∷ ‵ (flft κ₁ q₁) ∷ ‵ (MutSlice (named 1) κ₂ (Array u16 35) .own (at-list b₂ o₂ γ₂ ws₂) (sliceVal (b₂, o₂) n₂ ∷ [])) ∷ ‵ (flft κ₂ q₂) ∷ ‵ (MutSlice (named 2) κ₃ Object-t.the-row .own (at-list b₃ o₃ γ₃ ws₃) (sliceVal (b₃, o₃) n₃ ∷ [])) ∷ ‵ (flft κ₃ q₃) ∷ ‵ (MutSlice (named 3) κ₄ u8 .own (at-list b₄ o₄ γ₄ ws₄) (sliceVal (b₄, o₄) n₄ ∷ [])) ∷ ‵ (flft κ₄ q₄) ∷ ‵ (ShrSlice (named 4) κ₅ u8 .own (at-list b₅ o₅ γ₅ d) (sliceVal (b₅, o₅) n₅ ∷ [])) ∷ ‵ (flft κ₅ q₅) ∷ [])) (Post (Ran-p .val r)) → Sq W (‵ (MutSlice (named 0) κ₁ (Array u64 5) .own (at-list b₁ o₁ γ₁ ws₁) (sliceVal (b₁, o₁) n₁ ∷ [])) ∷ ‵ (flft κ₁ q₁) ∷ ‵ (MutSlice (named 0) κ₂ (Array u16 35) .own (at-list b₂ o₂ γ₂ ws₂) (sliceVal (b₂, o₂) n₂ ∷ [])) ∷ ‵ (flft κ₂ q₂) ∷ ‵ (MutSlice (named 0) κ₃ Object-t.the-row .own (at-list b₃ o₃ γ₃ ws₃) (sliceVal (b₃, o₃) n₃ ∷ [])) ∷ ‵ (flft κ₃ q₃) ∷ ‵ (MutSlice (named 0) κ₄ u8 .own (at-list b₄ o₄ γ₄ ws₄) (sliceVal (b₄, o₄) n₄ ∷ [])) ∷ ‵ (flft κ₄ q₄) ∷ ‵ (ShrSlice (named 0) κ₅ u8 .own (at-list b₅ o₅ γ₅ d) (sliceVal (b₅, o₅) n₅ ∷ [])) ∷ ‵ (flft κ₅ q₅) ∷ free 𝓤 (sliceTy (tyRef erased mut (pointee (u8 .written)))) l₂₈ (free 𝓤 (tyRef erased mut (pointee (u8 .written))) l₂₇ (free 𝓤 (sliceTy (tyRef erased mut (pointee (Object-t.the-row .written)))) l₂₆ (free 𝓤 (tyRef erased mut (pointee (Object-t.the-row .written))) l₂₅ (free 𝓤 (sliceTy (tyRef erased mut (pointee ((Array u16 35) .written)))) l₂₄ (free 𝓤 (tyRef erased mut (pointee ((Array u16 35) .written))) l₂₃ (free 𝓤 (sliceTy (tyRef erased mut (pointee ((Array u64 5) .written)))) l₂₂ (free 𝓤 (tyRef erased mut (pointee ((Array u64 5) .written))) l₂₁ (free 𝓤 (sliceTy (tyRef erased mut (pointee (u8 .written)))) l₂₀ (free 𝓤 (tyRef erased mut (pointee (u8 .written))) l₁₉ (free 𝓤 (sliceTy (tyRef erased mut (pointee ((Array u16 35) .written)))) l₁₈ (free 𝓤 (tyRef erased mut (pointee ((Array u16 35) .written))) l₁₇ (free 𝓤 (sliceTy (tyRef erased mut (pointee ((Array u64 5) .written)))) l₁₆ (free 𝓤 (tyRef erased mut (pointee ((Array u64 5) .written))) l₁₅ (free 𝓤 Ran-l.mir l₁₄ (free 𝓤 (tyInt w64) l₁₃ (free 𝓤 Opening-l.mir l₁₂ (free 𝓤 Asked-l.mir l₁₁ (free 𝓤 Taken-l.mir l₁₀ (free 𝓤 Parsed-l.mir l₉ (free 𝓤 Cursor-l.mir l₈ (full 𝓤 Ran-l.mir l₇ (Ran-p .val r′) (full 𝓤 Frame-l.mir l₆ (Frame-p .val f′) (full 𝓤 (sliceTy (tyRef (named 4) imm (pointee (u8 .written)))) l₅ (sliceVal (b₅, o₅) n₅) (full 𝓤 (sliceTy (tyRef (named 3) mut (pointee (u8 .written)))) l₄ (sliceVal (b₄, o₄) n₄) (full 𝓤 (sliceTy (tyRef (named 2) mut (pointee (Object-t.the-row .written)))) l₃ (sliceVal (b₃, o₃) n₃) (full 𝓤 (sliceTy (tyRef (named 1) mut (pointee ((Array u16 35) .written)))) l₂ (sliceVal (b₂, o₂) n₂) (full 𝓤 (sliceTy (tyRef (named 0) mut (pointee ((Array u64 5) .written)))) l₁ (sliceVal (b₁, o₁) n₁) (full 𝓤 Ran-l.mir l₀ (Ran-p .val r) ([])))))))))))))))))))))))))))))) (frees En (prop (Post (Ran-p .val r))))
-    frees-all r ws₁ ws₂ ws₃ ws₄ ends =
-        forget ! 52 refl $ forget ! 54 refl $ forget ! 56 refl $ forget ! 58 refl $ forget ! 60 refl $ forget ! 62 refl $ forget ! 64 refl $ forget ! 66 refl $ move ! (66 ∷ 67 ∷ []) $ free1 ! $ move ! (64 ∷ 65 ∷ []) $ free1 ! $ move ! (62 ∷ 63 ∷ []) $ free1 ! $ move ! (60 ∷ 61 ∷ []) $ free1 ! $ move ! (58 ∷ 59 ∷ []) $ free1 ! $ move ! (56 ∷ 57 ∷ []) $ free1 ! $ move ! (54 ∷ 55 ∷ []) $ free1 ! $ move ! (52 ∷ 53 ∷ []) $ free1 ! $ move ! (50 ∷ 51 ∷ []) $ free1 ! $ move ! (48 ∷ 49 ∷ []) $ free1 ! $ move ! (46 ∷ 47 ∷ []) $ free1 ! $ move ! (44 ∷ 45 ∷ []) $ free1 ! $ move ! (42 ∷ 43 ∷ []) $ free1 ! $ move ! (40 ∷ 41 ∷ []) $ free1 ! $ move ! (38 ∷ 39 ∷ []) $ free1 ! $ move ! (36 ∷ 37 ∷ []) $ free1 ! $ move ! (34 ∷ 35 ∷ []) $ free1 ! $ move ! (32 ∷ 33 ∷ []) $ free1 ! $ move ! (30 ∷ 31 ∷ []) $ free1 ! $ move ! (28 ∷ 29 ∷ []) $ free1 ! $ move ! (26 ∷ 27 ∷ []) $ free1 ! $ move ! (24 ∷ 25 ∷ []) $ free1 ! $ move ! (22 ∷ 23 ∷ []) $ free1 ! $ move ! (20 ∷ 21 ∷ []) $ free1 ! $ move ! (18 ∷ 19 ∷ []) $ free1 ! $ move ! (16 ∷ 17 ∷ []) $ free1 ! $ move ! (14 ∷ 15 ∷ []) $ free1 ! $ move ! (12 ∷ 13 ∷ []) $ free1 ! $ move ! (10 ∷ 11 ∷ []) $ free1 ! $ free0 ! $
+    frees-all : (r : Ran) (ws₁ : List (List ℕ)) (ws₂ : List (List ℕ)) (ws₃ : List Object) (ws₅ : List ℕ) → ent 𝓤 (⋆ 𝓤 H A (‵ (MutSlice (named 0) κ₁ (Array u64 6) .own (at-list b₁ o₁ γ₁ ws₁) (sliceVal (b₁, o₁) n₁ ∷ [])) ∷ ‵ (flft κ₁ q₁) ∷ ‵ (MutSlice (named 1) κ₂ (Array u16 35) .own (at-list b₂ o₂ γ₂ ws₂) (sliceVal (b₂, o₂) n₂ ∷ [])) ∷ ‵ (flft κ₂ q₂) ∷ ‵ (MutSlice (named 2) κ₃ Object-t.the-row .own (at-list b₃ o₃ γ₃ ws₃) (sliceVal (b₃, o₃) n₃ ∷ [])) ∷ ‵ (flft κ₃ q₃) ∷ ‵ (ShrSlice (named 3) κ₄ u8 .own (at-list b₄ o₄ γ₄ held) (sliceVal (b₄, o₄) n₄ ∷ [])) ∷ ‵ (flft κ₄ q₄) ∷ ‵ (MutSlice (named 4) κ₅ u8 .own (at-list b₅ o₅ γ₅ ws₅) (sliceVal (b₅, o₅) n₅ ∷ [])) ∷ ‵ (flft κ₅ q₅) ∷ ‵ (ShrSlice (named 5) κ₆ u8 .own (at-list b₆ o₆ γ₆ d) (sliceVal (b₆, o₆) n₆ ∷ [])) ∷ ‵ (flft κ₆ q₆) ∷ [])) (Post (Ran-p .val r)) → Sq W (‵ (MutSlice (named 0) κ₁ (Array u64 6) .own (at-list b₁ o₁ γ₁ ws₁) (sliceVal (b₁, o₁) n₁ ∷ [])) ∷ ‵ (flft κ₁ q₁) ∷ ‵ (MutSlice (named 0) κ₂ (Array u16 35) .own (at-list b₂ o₂ γ₂ ws₂) (sliceVal (b₂, o₂) n₂ ∷ [])) ∷ ‵ (flft κ₂ q₂) ∷ ‵ (MutSlice (named 0) κ₃ Object-t.the-row .own (at-list b₃ o₃ γ₃ ws₃) (sliceVal (b₃, o₃) n₃ ∷ [])) ∷ ‵ (flft κ₃ q₃) ∷ ‵ (ShrSlice (named 0) κ₄ u8 .own (at-list b₄ o₄ γ₄ held) (sliceVal (b₄, o₄) n₄ ∷ [])) ∷ ‵ (flft κ₄ q₄) ∷ ‵ (MutSlice (named 0) κ₅ u8 .own (at-list b₅ o₅ γ₅ ws₅) (sliceVal (b₅, o₅) n₅ ∷ [])) ∷ ‵ (flft κ₅ q₅) ∷ ‵ (ShrSlice (named 0) κ₆ u8 .own (at-list b₆ o₆ γ₆ d) (sliceVal (b₆, o₆) n₆ ∷ [])) ∷ ‵ (flft κ₆ q₆) ∷ free 𝓤 (sliceTy (tyRef erased mut (pointee (u8 .written)))) l₂₉ (free 𝓤 (tyRef erased mut (pointee (u8 .written))) l₂₈ (free 𝓤 (sliceTy (tyRef erased mut (pointee (Object-t.the-row .written)))) l₂₇ (free 𝓤 (tyRef erased mut (pointee (Object-t.the-row .written))) l₂₆ (free 𝓤 (sliceTy (tyRef erased mut (pointee ((Array u16 35) .written)))) l₂₅ (free 𝓤 (tyRef erased mut (pointee ((Array u16 35) .written))) l₂₄ (free 𝓤 (sliceTy (tyRef erased mut (pointee ((Array u64 6) .written)))) l₂₃ (free 𝓤 (tyRef erased mut (pointee ((Array u64 6) .written))) l₂₂ (free 𝓤 (sliceTy (tyRef erased mut (pointee (u8 .written)))) l₂₁ (free 𝓤 (tyRef erased mut (pointee (u8 .written))) l₂₀ (free 𝓤 (sliceTy (tyRef erased mut (pointee ((Array u16 35) .written)))) l₁₉ (free 𝓤 (tyRef erased mut (pointee ((Array u16 35) .written))) l₁₈ (free 𝓤 (sliceTy (tyRef erased mut (pointee ((Array u64 6) .written)))) l₁₇ (free 𝓤 (tyRef erased mut (pointee ((Array u64 6) .written))) l₁₆ (free 𝓤 Ran-l.mir l₁₅ (free 𝓤 (tyInt w64) l₁₄ (free 𝓤 Opening-l.mir l₁₃ (free 𝓤 Asked-l.mir l₁₂ (free 𝓤 Taken-l.mir l₁₁ (free 𝓤 Parsed-l.mir l₁₀ (free 𝓤 Cursor-l.mir l₉ (full 𝓤 Ran-l.mir l₈ (Ran-p .val r′) (full 𝓤 Frame-l.mir l₇ (Frame-p .val f′) (full 𝓤 (sliceTy (tyRef (named 5) imm (pointee (u8 .written)))) l₆ (sliceVal (b₆, o₆) n₆) (full 𝓤 (sliceTy (tyRef (named 4) mut (pointee (u8 .written)))) l₅ (sliceVal (b₅, o₅) n₅) (full 𝓤 (sliceTy (tyRef (named 3) imm (pointee (u8 .written)))) l₄ (sliceVal (b₄, o₄) n₄) (full 𝓤 (sliceTy (tyRef (named 2) mut (pointee (Object-t.the-row .written)))) l₃ (sliceVal (b₃, o₃) n₃) (full 𝓤 (sliceTy (tyRef (named 1) mut (pointee ((Array u16 35) .written)))) l₂ (sliceVal (b₂, o₂) n₂) (full 𝓤 (sliceTy (tyRef (named 0) mut (pointee ((Array u64 6) .written)))) l₁ (sliceVal (b₁, o₁) n₁) (full 𝓤 Ran-l.mir l₀ (Ran-p .val r) ([]))))))))))))))))))))))))))))))) (frees En (prop (Post (Ran-p .val r))))
+    frees-all r ws₁ ws₂ ws₃ ws₅ ends =
+        forget ! 54 refl $ forget ! 56 refl $ forget ! 58 refl $ forget ! 60 refl $ forget ! 62 refl $ forget ! 64 refl $ forget ! 66 refl $ forget ! 68 refl $ forget ! 70 refl $ move ! (70 ∷ 71 ∷ []) $ free1 ! $ move ! (68 ∷ 69 ∷ []) $ free1 ! $ move ! (66 ∷ 67 ∷ []) $ free1 ! $ move ! (64 ∷ 65 ∷ []) $ free1 ! $ move ! (62 ∷ 63 ∷ []) $ free1 ! $ move ! (60 ∷ 61 ∷ []) $ free1 ! $ move ! (58 ∷ 59 ∷ []) $ free1 ! $ move ! (56 ∷ 57 ∷ []) $ free1 ! $ move ! (54 ∷ 55 ∷ []) $ free1 ! $ move ! (52 ∷ 53 ∷ []) $ free1 ! $ move ! (50 ∷ 51 ∷ []) $ free1 ! $ move ! (48 ∷ 49 ∷ []) $ free1 ! $ move ! (46 ∷ 47 ∷ []) $ free1 ! $ move ! (44 ∷ 45 ∷ []) $ free1 ! $ move ! (42 ∷ 43 ∷ []) $ free1 ! $ move ! (40 ∷ 41 ∷ []) $ free1 ! $ move ! (38 ∷ 39 ∷ []) $ free1 ! $ move ! (36 ∷ 37 ∷ []) $ free1 ! $ move ! (34 ∷ 35 ∷ []) $ free1 ! $ move ! (32 ∷ 33 ∷ []) $ free1 ! $ move ! (30 ∷ 31 ∷ []) $ free1 ! $ move ! (28 ∷ 29 ∷ []) $ free1 ! $ move ! (26 ∷ 27 ∷ []) $ free1 ! $ move ! (24 ∷ 25 ∷ []) $ free1 ! $ move ! (22 ∷ 23 ∷ []) $ free1 ! $ move ! (20 ∷ 21 ∷ []) $ free1 ! $ move ! (18 ∷ 19 ∷ []) $ free1 ! $ move ! (16 ∷ 17 ∷ []) $ free1 ! $ move ! (14 ∷ 15 ∷ []) $ free1 ! $ move ! (12 ∷ 13 ∷ []) $ free1 ! $ free0 ! $
         by ! ends
 
-    part-8-0 : (is-2 : Is (Parsed-p .row) (readAt (d) ((Cursor-of (r′ .at)) .at)) (Parsed-p .val (readAt (d) ((Cursor-of (r′ .at)) .at)) ∷ [])) → (is-4 : Is (Taken-p .row) (takenOf (readAt (d) ((Cursor-of (r′ .at)) .at)) n₅) (Taken-p .val (takenOf (readAt (d) ((Cursor-of (r′ .at)) .at)) n₅) ∷ [])) → (e-7 : ((takenOf (readAt (d) ((Cursor-of (r′ .at)) .at)) n₅) .asked) .opening ≡ Opening-Client) → (good-7 : Is (Opening-p .row) Opening-Client (Opening-p .val Opening-Client ∷ [])) → (asks-7·Client·7 : r′ .wrote ≤ 18446744073709551600) → (len-7·Client·7-sessions : length (openedRows (createdOf (sessions) (streams) (f′ .«max_clients») (r′ .next)) (sessions) (((takenOf (readAt (d) ((Cursor-of (r′ .at)) .at)) n₅) .asked) .key) (f′ .time)) ≡ n₁) → (len-7·Client·7-streams : length (openedStreams (createdOf (sessions) (streams) (f′ .«max_clients») (r′ .next)) (streams)) ≡ n₂) → (len-7·Client·7-out : length (putBytes (out) (r′ .wrote) (greetingBytes (createdOf (sessions) (streams) (f′ .«max_clients») (r′ .next)))) ≡ n₄) → (is-7·Client·7 : Is (Ran-p .row) (greeted f′ r′ (((takenOf (readAt (d) ((Cursor-of (r′ .at)) .at)) n₅) .asked) .key) ((takenOf (readAt (d) ((Cursor-of (r′ .at)) .at)) n₅) .at) (createdOf (sessions) (streams) (f′ .«max_clients») (r′ .next))) (Ran-p .val (greeted f′ r′ (((takenOf (readAt (d) ((Cursor-of (r′ .at)) .at)) n₅) .asked) .key) ((takenOf (readAt (d) ((Cursor-of (r′ .at)) .at)) n₅) .at) (createdOf (sessions) (streams) (f′ .«max_clients») (r′ .next))) ∷ [])) → Sq W (‵ (MutSlice (named 0) κ₁ (Array u64 5) .own (at-list b₁ o₁ γ₁ (openedRows (createdOf (sessions) (streams) (f′ .«max_clients») (r′ .next)) (sessions) (((takenOf (readAt (d) ((Cursor-of (r′ .at)) .at)) n₅) .asked) .key) (f′ .time))) (sliceVal (b₁, o₁) n₁ ∷ [])) ∷ ‵ (flft κ₁ q₁) ∷ ‵ (MutSlice (named 0) κ₂ (Array u16 35) .own (at-list b₂ o₂ γ₂ (openedStreams (createdOf (sessions) (streams) (f′ .«max_clients») (r′ .next)) (streams))) (sliceVal (b₂, o₂) n₂ ∷ [])) ∷ ‵ (flft κ₂ q₂) ∷ ‵ (MutSlice (named 0) κ₃ Object-t.the-row .own (at-list b₃ o₃ γ₃ objects) (sliceVal (b₃, o₃) n₃ ∷ [])) ∷ ‵ (flft κ₃ q₃) ∷ ‵ (MutSlice (named 0) κ₄ u8 .own (at-list b₄ o₄ γ₄ (putBytes (out) (r′ .wrote) (greetingBytes (createdOf (sessions) (streams) (f′ .«max_clients») (r′ .next))))) (sliceVal (b₄, o₄) n₄ ∷ [])) ∷ ‵ (flft κ₄ q₄) ∷ ‵ (ShrSlice (named 0) κ₅ u8 .own (at-list b₅ o₅ γ₅ d) (sliceVal (b₅, o₅) n₅ ∷ [])) ∷ ‵ (flft κ₅ q₅) ∷ free 𝓤 (sliceTy (tyRef erased mut (pointee (u8 .written)))) l₂₈ (free 𝓤 (tyRef erased mut (pointee (u8 .written))) l₂₇ (free 𝓤 (sliceTy (tyRef erased mut (pointee (Object-t.the-row .written)))) l₂₆ (free 𝓤 (tyRef erased mut (pointee (Object-t.the-row .written))) l₂₅ (free 𝓤 (sliceTy (tyRef erased mut (pointee ((Array u16 35) .written)))) l₂₄ (free 𝓤 (tyRef erased mut (pointee ((Array u16 35) .written))) l₂₃ (free 𝓤 (sliceTy (tyRef erased mut (pointee ((Array u64 5) .written)))) l₂₂ (free 𝓤 (tyRef erased mut (pointee ((Array u64 5) .written))) l₂₁ (full 𝓤 (sliceTy (tyRef erased mut (pointee (u8 .written)))) l₂₀ (sliceVal (b₄, o₄) n₄) (full 𝓤 (tyRef erased mut (pointee (u8 .written))) l₁₉ (vptr b₄ o₄) (full 𝓤 (sliceTy (tyRef erased mut (pointee ((Array u16 35) .written)))) l₁₈ (sliceVal (b₂, o₂) n₂) (full 𝓤 (tyRef erased mut (pointee ((Array u16 35) .written))) l₁₇ (vptr b₂ o₂) (full 𝓤 (sliceTy (tyRef erased mut (pointee ((Array u64 5) .written)))) l₁₆ (sliceVal (b₁, o₁) n₁) (full 𝓤 (tyRef erased mut (pointee ((Array u64 5) .written))) l₁₅ (vptr b₁ o₁) (full 𝓤 Ran-l.mir l₁₄ (Ran-p .val (greeted f′ r′ (((takenOf (readAt (d) ((Cursor-of (r′ .at)) .at)) n₅) .asked) .key) ((takenOf (readAt (d) ((Cursor-of (r′ .at)) .at)) n₅) .at) (createdOf (sessions) (streams) (f′ .«max_clients») (r′ .next)))) (full 𝓤 (tyInt w64) l₁₃ (u64-p .val n₅) (full 𝓤 Opening-l.mir l₁₂ (Opening-p .val Opening-Client) (full 𝓤 Asked-l.mir l₁₁ (Asked-p .val ((takenOf (readAt (d) ((Cursor-of (r′ .at)) .at)) n₅) .asked)) (full 𝓤 Taken-l.mir l₁₀ (Taken-p .val (takenOf (readAt (d) ((Cursor-of (r′ .at)) .at)) n₅)) (full 𝓤 Parsed-l.mir l₉ (Parsed-p .val (readAt (d) ((Cursor-of (r′ .at)) .at))) (full 𝓤 Cursor-l.mir l₈ (Cursor-p .val (Cursor-of (r′ .at))) (full 𝓤 Ran-l.mir l₇ (Ran-p .val r′) (full 𝓤 Frame-l.mir l₆ (Frame-p .val f′) (full 𝓤 (sliceTy (tyRef (named 4) imm (pointee (u8 .written)))) l₅ (sliceVal (b₅, o₅) n₅) (full 𝓤 (sliceTy (tyRef (named 3) mut (pointee (u8 .written)))) l₄ (sliceVal (b₄, o₄) n₄) (full 𝓤 (sliceTy (tyRef (named 2) mut (pointee (Object-t.the-row .written)))) l₃ (sliceVal (b₃, o₃) n₃) (full 𝓤 (sliceTy (tyRef (named 1) mut (pointee ((Array u16 35) .written)))) l₂ (sliceVal (b₂, o₂) n₂) (full 𝓤 (sliceTy (tyRef (named 0) mut (pointee ((Array u64 5) .written)))) l₁ (sliceVal (b₁, o₁) n₁) (free 𝓤 Ran-l.mir l₀ ([])))))))))))))))))))))))))))))) (runs C Λ En mir.t-8 (atRet En Post))
+    part-8-0 : (is-2 : Is (Parsed-p .row) (readAt (d) ((Cursor-of (r′ .at)) .at)) (Parsed-p .val (readAt (d) ((Cursor-of (r′ .at)) .at)) ∷ [])) → (is-4 : Is (Taken-p .row) (takenOf (readAt (d) ((Cursor-of (r′ .at)) .at)) n₆) (Taken-p .val (takenOf (readAt (d) ((Cursor-of (r′ .at)) .at)) n₆) ∷ [])) → (e-7 : ((takenOf (readAt (d) ((Cursor-of (r′ .at)) .at)) n₆) .asked) .opening ≡ Opening-Client) → (good-7 : Is (Opening-p .row) Opening-Client (Opening-p .val Opening-Client ∷ [])) → (asks-7·Client·7 : f′ .room ≤ 9223372036854775807) → (len-7·Client·7-sessions : length (openedRows (createdOf (sessions) (streams) (f′ .«max_clients») (r′ .next)) (sessions) (((takenOf (readAt (d) ((Cursor-of (r′ .at)) .at)) n₆) .asked) .key) (f′ .time)) ≡ n₁) → (len-7·Client·7-streams : length (openedStreams (createdOf (sessions) (streams) (f′ .«max_clients») (r′ .next)) (streams)) ≡ n₂) → (len-7·Client·7-out : length (putBytes (out) (r′ .wrote) (greetingBytes (createdOf (sessions) (streams) (f′ .«max_clients») (r′ .next)))) ≡ n₅) → (is-7·Client·7 : Is (Ran-p .row) (greeted f′ r′ ((takenOf (readAt (d) ((Cursor-of (r′ .at)) .at)) n₆) .at) (createdOf (sessions) (streams) (f′ .«max_clients») (r′ .next))) (Ran-p .val (greeted f′ r′ ((takenOf (readAt (d) ((Cursor-of (r′ .at)) .at)) n₆) .at) (createdOf (sessions) (streams) (f′ .«max_clients») (r′ .next))) ∷ [])) → Sq W (‵ (MutSlice (named 0) κ₁ (Array u64 6) .own (at-list b₁ o₁ γ₁ (openedRows (createdOf (sessions) (streams) (f′ .«max_clients») (r′ .next)) (sessions) (((takenOf (readAt (d) ((Cursor-of (r′ .at)) .at)) n₆) .asked) .key) (f′ .time))) (sliceVal (b₁, o₁) n₁ ∷ [])) ∷ ‵ (flft κ₁ q₁) ∷ ‵ (MutSlice (named 0) κ₂ (Array u16 35) .own (at-list b₂ o₂ γ₂ (openedStreams (createdOf (sessions) (streams) (f′ .«max_clients») (r′ .next)) (streams))) (sliceVal (b₂, o₂) n₂ ∷ [])) ∷ ‵ (flft κ₂ q₂) ∷ ‵ (MutSlice (named 0) κ₃ Object-t.the-row .own (at-list b₃ o₃ γ₃ objects) (sliceVal (b₃, o₃) n₃ ∷ [])) ∷ ‵ (flft κ₃ q₃) ∷ ‵ (ShrSlice (named 0) κ₄ u8 .own (at-list b₄ o₄ γ₄ held) (sliceVal (b₄, o₄) n₄ ∷ [])) ∷ ‵ (flft κ₄ q₄) ∷ ‵ (MutSlice (named 0) κ₅ u8 .own (at-list b₅ o₅ γ₅ (putBytes (out) (r′ .wrote) (greetingBytes (createdOf (sessions) (streams) (f′ .«max_clients») (r′ .next))))) (sliceVal (b₅, o₅) n₅ ∷ [])) ∷ ‵ (flft κ₅ q₅) ∷ ‵ (ShrSlice (named 0) κ₆ u8 .own (at-list b₆ o₆ γ₆ d) (sliceVal (b₆, o₆) n₆ ∷ [])) ∷ ‵ (flft κ₆ q₆) ∷ free 𝓤 (sliceTy (tyRef erased mut (pointee (u8 .written)))) l₂₉ (free 𝓤 (tyRef erased mut (pointee (u8 .written))) l₂₈ (free 𝓤 (sliceTy (tyRef erased mut (pointee (Object-t.the-row .written)))) l₂₇ (free 𝓤 (tyRef erased mut (pointee (Object-t.the-row .written))) l₂₆ (free 𝓤 (sliceTy (tyRef erased mut (pointee ((Array u16 35) .written)))) l₂₅ (free 𝓤 (tyRef erased mut (pointee ((Array u16 35) .written))) l₂₄ (free 𝓤 (sliceTy (tyRef erased mut (pointee ((Array u64 6) .written)))) l₂₃ (free 𝓤 (tyRef erased mut (pointee ((Array u64 6) .written))) l₂₂ (full 𝓤 (sliceTy (tyRef erased mut (pointee (u8 .written)))) l₂₁ (sliceVal (b₅, o₅) n₅) (full 𝓤 (tyRef erased mut (pointee (u8 .written))) l₂₀ (vptr b₅ o₅) (full 𝓤 (sliceTy (tyRef erased mut (pointee ((Array u16 35) .written)))) l₁₉ (sliceVal (b₂, o₂) n₂) (full 𝓤 (tyRef erased mut (pointee ((Array u16 35) .written))) l₁₈ (vptr b₂ o₂) (full 𝓤 (sliceTy (tyRef erased mut (pointee ((Array u64 6) .written)))) l₁₇ (sliceVal (b₁, o₁) n₁) (full 𝓤 (tyRef erased mut (pointee ((Array u64 6) .written))) l₁₆ (vptr b₁ o₁) (full 𝓤 Ran-l.mir l₁₅ (Ran-p .val (greeted f′ r′ ((takenOf (readAt (d) ((Cursor-of (r′ .at)) .at)) n₆) .at) (createdOf (sessions) (streams) (f′ .«max_clients») (r′ .next)))) (full 𝓤 (tyInt w64) l₁₄ (u64-p .val n₆) (full 𝓤 Opening-l.mir l₁₃ (Opening-p .val Opening-Client) (full 𝓤 Asked-l.mir l₁₂ (Asked-p .val ((takenOf (readAt (d) ((Cursor-of (r′ .at)) .at)) n₆) .asked)) (full 𝓤 Taken-l.mir l₁₁ (Taken-p .val (takenOf (readAt (d) ((Cursor-of (r′ .at)) .at)) n₆)) (full 𝓤 Parsed-l.mir l₁₀ (Parsed-p .val (readAt (d) ((Cursor-of (r′ .at)) .at))) (full 𝓤 Cursor-l.mir l₉ (Cursor-p .val (Cursor-of (r′ .at))) (full 𝓤 Ran-l.mir l₈ (Ran-p .val r′) (full 𝓤 Frame-l.mir l₇ (Frame-p .val f′) (full 𝓤 (sliceTy (tyRef (named 5) imm (pointee (u8 .written)))) l₆ (sliceVal (b₆, o₆) n₆) (full 𝓤 (sliceTy (tyRef (named 4) mut (pointee (u8 .written)))) l₅ (sliceVal (b₅, o₅) n₅) (full 𝓤 (sliceTy (tyRef (named 3) imm (pointee (u8 .written)))) l₄ (sliceVal (b₄, o₄) n₄) (full 𝓤 (sliceTy (tyRef (named 2) mut (pointee (Object-t.the-row .written)))) l₃ (sliceVal (b₃, o₃) n₃) (full 𝓤 (sliceTy (tyRef (named 1) mut (pointee ((Array u16 35) .written)))) l₂ (sliceVal (b₂, o₂) n₂) (full 𝓤 (sliceTy (tyRef (named 0) mut (pointee ((Array u64 6) .written)))) l₁ (sliceVal (b₁, o₁) n₁) (free 𝓤 Ran-l.mir l₀ ([]))))))))))))))))))))))))))))))) (runs C Λ En mir.t-8 (atRet En Post))
     part-8-0 is-2 is-4 e-7 good-7 asks-7·Client·7 len-7·Client·7-sessions len-7·Client·7-streams len-7·Client·7-out is-7·Client·7 =
-        assigns ! (of-opd ! (load ! (from ! (stop !)) (look ! 38 refl))) (from ! (stop !)) (init ! 66 refl (Ran-p .typed 𝓤 H A W (greeted f′ r′ (((takenOf (readAt (d) ((Cursor-of (r′ .at)) .at)) n₅) .asked) .key) ((takenOf (readAt (d) ((Cursor-of (r′ .at)) .at)) n₅) .at) (createdOf (sessions) (streams) (f′ .«max_clients») (r′ .next))) is-7·Client·7)) $
-        returns ! (look ! 66 refl) $ forget ! 26 refl $ forget ! 28 refl $ forget ! 30 refl $ forget ! 32 refl $ forget ! 34 refl $ forget ! 36 refl $ forget ! 38 refl $ forget ! 40 refl $ forget ! 42 refl $ forget ! 44 refl $ forget ! 46 refl $ forget ! 48 refl $ forget ! 50 refl $
-        frees-all (greeted f′ r′ (((takenOf (readAt (d) ((Cursor-of (r′ .at)) .at)) n₅) .asked) .key) ((takenOf (readAt (d) ((Cursor-of (r′ .at)) .at)) n₅) .at) (createdOf (sessions) (streams) (f′ .«max_clients») (r′ .next))) (openedRows (createdOf (sessions) (streams) (f′ .«max_clients») (r′ .next)) (sessions) (((takenOf (readAt (d) ((Cursor-of (r′ .at)) .at)) n₅) .asked) .key) (f′ .time)) (openedStreams (createdOf (sessions) (streams) (f′ .«max_clients») (r′ .next)) (streams)) objects (putBytes (out) (r′ .wrote) (greetingBytes (createdOf (sessions) (streams) (f′ .«max_clients») (r′ .next)))) (exits (greeted f′ r′ (((takenOf (readAt (d) ((Cursor-of (r′ .at)) .at)) n₅) .asked) .key) ((takenOf (readAt (d) ((Cursor-of (r′ .at)) .at)) n₅) .at) (createdOf (sessions) (streams) (f′ .«max_clients») (r′ .next))) (openedRows (createdOf (sessions) (streams) (f′ .«max_clients») (r′ .next)) (sessions) (((takenOf (readAt (d) ((Cursor-of (r′ .at)) .at)) n₅) .asked) .key) (f′ .time)) (openedStreams (createdOf (sessions) (streams) (f′ .«max_clients») (r′ .next)) (streams)) objects (putBytes (out) (r′ .wrote) (greetingBytes (createdOf (sessions) (streams) (f′ .«max_clients») (r′ .next)))) (as-left out _ (r′ .wrote) (left Opening-Client) leaves (ap left (sym e-7) ∙ left-is) (greeting-written out (r′ .wrote) (createdOf sessions streams (f′ .«max_clients») (r′ .next)))) is-7·Client·7 len-7·Client·7-sessions len-7·Client·7-streams refl len-7·Client·7-out)
+        assigns ! (of-opd ! (load ! (from ! (stop !)) (look ! 40 refl))) (from ! (stop !)) (init ! 70 refl (Ran-p .typed 𝓤 H A W (greeted f′ r′ ((takenOf (readAt (d) ((Cursor-of (r′ .at)) .at)) n₆) .at) (createdOf (sessions) (streams) (f′ .«max_clients») (r′ .next))) is-7·Client·7)) $
+        returns ! (look ! 70 refl) $ forget ! 28 refl $ forget ! 30 refl $ forget ! 32 refl $ forget ! 34 refl $ forget ! 36 refl $ forget ! 38 refl $ forget ! 40 refl $ forget ! 42 refl $ forget ! 44 refl $ forget ! 46 refl $ forget ! 48 refl $ forget ! 50 refl $ forget ! 52 refl $
+        frees-all (greeted f′ r′ ((takenOf (readAt (d) ((Cursor-of (r′ .at)) .at)) n₆) .at) (createdOf (sessions) (streams) (f′ .«max_clients») (r′ .next))) (openedRows (createdOf (sessions) (streams) (f′ .«max_clients») (r′ .next)) (sessions) (((takenOf (readAt (d) ((Cursor-of (r′ .at)) .at)) n₆) .asked) .key) (f′ .time)) (openedStreams (createdOf (sessions) (streams) (f′ .«max_clients») (r′ .next)) (streams)) objects (putBytes (out) (r′ .wrote) (greetingBytes (createdOf (sessions) (streams) (f′ .«max_clients») (r′ .next)))) (exits (greeted f′ r′ ((takenOf (readAt (d) ((Cursor-of (r′ .at)) .at)) n₆) .at) (createdOf (sessions) (streams) (f′ .«max_clients») (r′ .next))) (openedRows (createdOf (sessions) (streams) (f′ .«max_clients») (r′ .next)) (sessions) (((takenOf (readAt (d) ((Cursor-of (r′ .at)) .at)) n₆) .asked) .key) (f′ .time)) (openedStreams (createdOf (sessions) (streams) (f′ .«max_clients») (r′ .next)) (streams)) objects (putBytes (out) (r′ .wrote) (greetingBytes (createdOf (sessions) (streams) (f′ .«max_clients») (r′ .next)))) (as-left (f′ .room) out _ (r′ .wrote) (left Opening-Client) leaves (ap left (sym e-7) ∙ left-is) (greeting-written (f′ .room) out (r′ .wrote) (createdOf sessions streams (f′ .«max_clients») (r′ .next)))) is-7·Client·7 len-7·Client·7-sessions len-7·Client·7-streams refl len-7·Client·7-out)
 
-    matched-7-Client-0 : (is-2 : Is (Parsed-p .row) (readAt (d) ((Cursor-of (r′ .at)) .at)) (Parsed-p .val (readAt (d) ((Cursor-of (r′ .at)) .at)) ∷ [])) → (is-4 : Is (Taken-p .row) (takenOf (readAt (d) ((Cursor-of (r′ .at)) .at)) n₅) (Taken-p .val (takenOf (readAt (d) ((Cursor-of (r′ .at)) .at)) n₅) ∷ [])) → (e-7 : ((takenOf (readAt (d) ((Cursor-of (r′ .at)) .at)) n₅) .asked) .opening ≡ Opening-Client) → (good-7 : Is (Opening-p .row) Opening-Client (Opening-p .val Opening-Client ∷ [])) → Sq W (‵ (MutSlice (named 0) κ₁ (Array u64 5) .own (at-list b₁ o₁ γ₁ sessions) (sliceVal (b₁, o₁) n₁ ∷ [])) ∷ ‵ (flft κ₁ q₁) ∷ ‵ (MutSlice (named 0) κ₂ (Array u16 35) .own (at-list b₂ o₂ γ₂ streams) (sliceVal (b₂, o₂) n₂ ∷ [])) ∷ ‵ (flft κ₂ q₂) ∷ ‵ (MutSlice (named 0) κ₃ Object-t.the-row .own (at-list b₃ o₃ γ₃ objects) (sliceVal (b₃, o₃) n₃ ∷ [])) ∷ ‵ (flft κ₃ q₃) ∷ ‵ (MutSlice (named 0) κ₄ u8 .own (at-list b₄ o₄ γ₄ out) (sliceVal (b₄, o₄) n₄ ∷ [])) ∷ ‵ (flft κ₄ q₄) ∷ ‵ (ShrSlice (named 0) κ₅ u8 .own (at-list b₅ o₅ γ₅ d) (sliceVal (b₅, o₅) n₅ ∷ [])) ∷ ‵ (flft κ₅ q₅) ∷ free 𝓤 (sliceTy (tyRef erased mut (pointee (u8 .written)))) l₂₈ (free 𝓤 (tyRef erased mut (pointee (u8 .written))) l₂₇ (free 𝓤 (sliceTy (tyRef erased mut (pointee (Object-t.the-row .written)))) l₂₆ (free 𝓤 (tyRef erased mut (pointee (Object-t.the-row .written))) l₂₅ (free 𝓤 (sliceTy (tyRef erased mut (pointee ((Array u16 35) .written)))) l₂₄ (free 𝓤 (tyRef erased mut (pointee ((Array u16 35) .written))) l₂₃ (free 𝓤 (sliceTy (tyRef erased mut (pointee ((Array u64 5) .written)))) l₂₂ (free 𝓤 (tyRef erased mut (pointee ((Array u64 5) .written))) l₂₁ (free 𝓤 (sliceTy (tyRef erased mut (pointee (u8 .written)))) l₂₀ (free 𝓤 (tyRef erased mut (pointee (u8 .written))) l₁₉ (free 𝓤 (sliceTy (tyRef erased mut (pointee ((Array u16 35) .written)))) l₁₈ (free 𝓤 (tyRef erased mut (pointee ((Array u16 35) .written))) l₁₇ (free 𝓤 (sliceTy (tyRef erased mut (pointee ((Array u64 5) .written)))) l₁₆ (free 𝓤 (tyRef erased mut (pointee ((Array u64 5) .written))) l₁₅ (free 𝓤 Ran-l.mir l₁₄ (full 𝓤 (tyInt w64) l₁₃ (u64-p .val n₅) (full 𝓤 Opening-l.mir l₁₂ (Opening-p .val Opening-Client) (full 𝓤 Asked-l.mir l₁₁ (Asked-p .val ((takenOf (readAt (d) ((Cursor-of (r′ .at)) .at)) n₅) .asked)) (full 𝓤 Taken-l.mir l₁₀ (Taken-p .val (takenOf (readAt (d) ((Cursor-of (r′ .at)) .at)) n₅)) (full 𝓤 Parsed-l.mir l₉ (Parsed-p .val (readAt (d) ((Cursor-of (r′ .at)) .at))) (full 𝓤 Cursor-l.mir l₈ (Cursor-p .val (Cursor-of (r′ .at))) (full 𝓤 Ran-l.mir l₇ (Ran-p .val r′) (full 𝓤 Frame-l.mir l₆ (Frame-p .val f′) (full 𝓤 (sliceTy (tyRef (named 4) imm (pointee (u8 .written)))) l₅ (sliceVal (b₅, o₅) n₅) (full 𝓤 (sliceTy (tyRef (named 3) mut (pointee (u8 .written)))) l₄ (sliceVal (b₄, o₄) n₄) (full 𝓤 (sliceTy (tyRef (named 2) mut (pointee (Object-t.the-row .written)))) l₃ (sliceVal (b₃, o₃) n₃) (full 𝓤 (sliceTy (tyRef (named 1) mut (pointee ((Array u16 35) .written)))) l₂ (sliceVal (b₂, o₂) n₂) (full 𝓤 (sliceTy (tyRef (named 0) mut (pointee ((Array u64 5) .written)))) l₁ (sliceVal (b₁, o₁) n₁) (free 𝓤 Ran-l.mir l₀ ([])))))))))))))))))))))))))))))) (runs C Λ En (one mir.t-7) (anyQ (afterSeq 𝓤 H (Wp 𝓤 H C Λ En mir.t-8 (atReturn 𝓤 H En Post)) (atReturn 𝓤 H En Post))))
+    matched-7-Client-0 : (is-2 : Is (Parsed-p .row) (readAt (d) ((Cursor-of (r′ .at)) .at)) (Parsed-p .val (readAt (d) ((Cursor-of (r′ .at)) .at)) ∷ [])) → (is-4 : Is (Taken-p .row) (takenOf (readAt (d) ((Cursor-of (r′ .at)) .at)) n₆) (Taken-p .val (takenOf (readAt (d) ((Cursor-of (r′ .at)) .at)) n₆) ∷ [])) → (e-7 : ((takenOf (readAt (d) ((Cursor-of (r′ .at)) .at)) n₆) .asked) .opening ≡ Opening-Client) → (good-7 : Is (Opening-p .row) Opening-Client (Opening-p .val Opening-Client ∷ [])) → Sq W (‵ (MutSlice (named 0) κ₁ (Array u64 6) .own (at-list b₁ o₁ γ₁ sessions) (sliceVal (b₁, o₁) n₁ ∷ [])) ∷ ‵ (flft κ₁ q₁) ∷ ‵ (MutSlice (named 0) κ₂ (Array u16 35) .own (at-list b₂ o₂ γ₂ streams) (sliceVal (b₂, o₂) n₂ ∷ [])) ∷ ‵ (flft κ₂ q₂) ∷ ‵ (MutSlice (named 0) κ₃ Object-t.the-row .own (at-list b₃ o₃ γ₃ objects) (sliceVal (b₃, o₃) n₃ ∷ [])) ∷ ‵ (flft κ₃ q₃) ∷ ‵ (ShrSlice (named 0) κ₄ u8 .own (at-list b₄ o₄ γ₄ held) (sliceVal (b₄, o₄) n₄ ∷ [])) ∷ ‵ (flft κ₄ q₄) ∷ ‵ (MutSlice (named 0) κ₅ u8 .own (at-list b₅ o₅ γ₅ out) (sliceVal (b₅, o₅) n₅ ∷ [])) ∷ ‵ (flft κ₅ q₅) ∷ ‵ (ShrSlice (named 0) κ₆ u8 .own (at-list b₆ o₆ γ₆ d) (sliceVal (b₆, o₆) n₆ ∷ [])) ∷ ‵ (flft κ₆ q₆) ∷ free 𝓤 (sliceTy (tyRef erased mut (pointee (u8 .written)))) l₂₉ (free 𝓤 (tyRef erased mut (pointee (u8 .written))) l₂₈ (free 𝓤 (sliceTy (tyRef erased mut (pointee (Object-t.the-row .written)))) l₂₇ (free 𝓤 (tyRef erased mut (pointee (Object-t.the-row .written))) l₂₆ (free 𝓤 (sliceTy (tyRef erased mut (pointee ((Array u16 35) .written)))) l₂₅ (free 𝓤 (tyRef erased mut (pointee ((Array u16 35) .written))) l₂₄ (free 𝓤 (sliceTy (tyRef erased mut (pointee ((Array u64 6) .written)))) l₂₃ (free 𝓤 (tyRef erased mut (pointee ((Array u64 6) .written))) l₂₂ (free 𝓤 (sliceTy (tyRef erased mut (pointee (u8 .written)))) l₂₁ (free 𝓤 (tyRef erased mut (pointee (u8 .written))) l₂₀ (free 𝓤 (sliceTy (tyRef erased mut (pointee ((Array u16 35) .written)))) l₁₉ (free 𝓤 (tyRef erased mut (pointee ((Array u16 35) .written))) l₁₈ (free 𝓤 (sliceTy (tyRef erased mut (pointee ((Array u64 6) .written)))) l₁₇ (free 𝓤 (tyRef erased mut (pointee ((Array u64 6) .written))) l₁₆ (free 𝓤 Ran-l.mir l₁₅ (full 𝓤 (tyInt w64) l₁₄ (u64-p .val n₆) (full 𝓤 Opening-l.mir l₁₃ (Opening-p .val Opening-Client) (full 𝓤 Asked-l.mir l₁₂ (Asked-p .val ((takenOf (readAt (d) ((Cursor-of (r′ .at)) .at)) n₆) .asked)) (full 𝓤 Taken-l.mir l₁₁ (Taken-p .val (takenOf (readAt (d) ((Cursor-of (r′ .at)) .at)) n₆)) (full 𝓤 Parsed-l.mir l₁₀ (Parsed-p .val (readAt (d) ((Cursor-of (r′ .at)) .at))) (full 𝓤 Cursor-l.mir l₉ (Cursor-p .val (Cursor-of (r′ .at))) (full 𝓤 Ran-l.mir l₈ (Ran-p .val r′) (full 𝓤 Frame-l.mir l₇ (Frame-p .val f′) (full 𝓤 (sliceTy (tyRef (named 5) imm (pointee (u8 .written)))) l₆ (sliceVal (b₆, o₆) n₆) (full 𝓤 (sliceTy (tyRef (named 4) mut (pointee (u8 .written)))) l₅ (sliceVal (b₅, o₅) n₅) (full 𝓤 (sliceTy (tyRef (named 3) imm (pointee (u8 .written)))) l₄ (sliceVal (b₄, o₄) n₄) (full 𝓤 (sliceTy (tyRef (named 2) mut (pointee (Object-t.the-row .written)))) l₃ (sliceVal (b₃, o₃) n₃) (full 𝓤 (sliceTy (tyRef (named 1) mut (pointee ((Array u16 35) .written)))) l₂ (sliceVal (b₂, o₂) n₂) (full 𝓤 (sliceTy (tyRef (named 0) mut (pointee ((Array u64 6) .written)))) l₁ (sliceVal (b₁, o₁) n₁) (free 𝓤 Ran-l.mir l₀ ([]))))))))))))))))))))))))))))))) (runs C Λ En (one mir.t-7) (anyQ (afterSeq 𝓤 H (Wp 𝓤 H C Λ En mir.t-8 (atReturn 𝓤 H En Post)) (atReturn 𝓤 H En Post))))
     matched-7-Client-0 is-2 is-4 e-7 good-7 =
-        switches-on ! (load ! (from ! (vrt ! refl (fld ! refl (stop !)))) (look-tag ! 42 (whole !))) $ exec ! C Λ En (arm-of 0 (one mir.t-7)) (anyQ (afterSeq 𝓤 H (Wp 𝓤 H C Λ En mir.t-8 (atReturn 𝓤 H En Post)) (atReturn 𝓤 H En Post))) $
-        assigns ! (addr ! (from ! (fld ! refl (hop ! (look-in ! 64 (sub ! 0 refl (whole !))) (stop !))))) (from ! (stop !)) (init ! 36 refl (tt, tt)) $
-        assigns ! (agg ! (and-then ! (load ! (from ! (stop !)) (look ! 36 refl)) (and-then ! (load ! (from ! (fld ! refl (stop !))) (look-in ! 64 (sub ! 1 refl (whole !)))) (no-more !)))) (from ! (stop !)) (init ! 34 refl (tt, (tt, (record { fits = room₁ .0 }, tt)))) $
-        assigns ! (addr ! (from ! (fld ! refl (hop ! (look-in ! 62 (sub ! 0 refl (whole !))) (stop !))))) (from ! (stop !)) (init ! 32 refl (tt, tt)) $
-        assigns ! (agg ! (and-then ! (load ! (from ! (stop !)) (look ! 32 refl)) (and-then ! (load ! (from ! (fld ! refl (stop !))) (look-in ! 62 (sub ! 1 refl (whole !)))) (no-more !)))) (from ! (stop !)) (init ! 30 refl (tt, (tt, (record { fits = room₂ .0 }, tt)))) $
-        assigns ! (addr ! (from ! (fld ! refl (hop ! (look-in ! 58 (sub ! 0 refl (whole !))) (stop !))))) (from ! (stop !)) (init ! 28 refl (tt, tt)) $
-        assigns ! (agg ! (and-then ! (load ! (from ! (stop !)) (look ! 28 refl)) (and-then ! (load ! (from ! (fld ! refl (stop !))) (look-in ! 58 (sub ! 1 refl (whole !)))) (no-more !)))) (from ! (stop !)) (init ! 26 refl (tt, (tt, (record { fits = room₄ .0 }, tt)))) $
-        knows ! (r′ .wrote ≤ 18446744073709551600) (omega (arith, ltb-true, ltb-false, leb-true, leb-false, eqb-true, eqb-false)) (λ asks-7·Client·7.
+        switches-on ! (load ! (from ! (vrt ! refl (fld ! refl (stop !)))) (look-tag ! 44 (whole !))) $ exec ! C Λ En (arm-of 0 (one mir.t-7)) (anyQ (afterSeq 𝓤 H (Wp 𝓤 H C Λ En mir.t-8 (atReturn 𝓤 H En Post)) (atReturn 𝓤 H En Post))) $
+        assigns ! (addr ! (from ! (fld ! refl (hop ! (look-in ! 68 (sub ! 0 refl (whole !))) (stop !))))) (from ! (stop !)) (init ! 38 refl (tt, tt)) $
+        assigns ! (agg ! (and-then ! (load ! (from ! (stop !)) (look ! 38 refl)) (and-then ! (load ! (from ! (fld ! refl (stop !))) (look-in ! 68 (sub ! 1 refl (whole !)))) (no-more !)))) (from ! (stop !)) (init ! 36 refl (tt, (tt, (record { fits = room₁ .0 }, tt)))) $
+        assigns ! (addr ! (from ! (fld ! refl (hop ! (look-in ! 66 (sub ! 0 refl (whole !))) (stop !))))) (from ! (stop !)) (init ! 34 refl (tt, tt)) $
+        assigns ! (agg ! (and-then ! (load ! (from ! (stop !)) (look ! 34 refl)) (and-then ! (load ! (from ! (fld ! refl (stop !))) (look-in ! 66 (sub ! 1 refl (whole !)))) (no-more !)))) (from ! (stop !)) (init ! 32 refl (tt, (tt, (record { fits = room₂ .0 }, tt)))) $
+        assigns ! (addr ! (from ! (fld ! refl (hop ! (look-in ! 60 (sub ! 0 refl (whole !))) (stop !))))) (from ! (stop !)) (init ! 30 refl (tt, tt)) $
+        assigns ! (agg ! (and-then ! (load ! (from ! (stop !)) (look ! 30 refl)) (and-then ! (load ! (from ! (fld ! refl (stop !))) (look-in ! 60 (sub ! 1 refl (whole !)))) (no-more !)))) (from ! (stop !)) (init ! 28 refl (tt, (tt, (record { fits = room₅ .0 }, tt)))) $
+        knows ! (f′ .room ≤ 9223372036854775807) (omega (arith, ltb-true, ltb-false, leb-true, leb-false, eqb-true, eqb-false)) (λ asks-7·Client·7.
         -- 7.Client.7: agent::turn::greet
-        lends-mut ! tt (Array u64 5) b₁ o₁ sessions n₁ (refl) (λ ν-7·Client·7-sessions δ-7·Client·7-sessions.
+        lends-mut ! tt (Array u64 6) b₁ o₁ sessions n₁ (refl) (λ ν-7·Client·7-sessions δ-7·Client·7-sessions.
         move ! (3 ∷ 4 ∷ []) $
         lends-mut ! tt (Array u16 35) b₂ o₂ streams n₂ (refl) (λ ν-7·Client·7-streams δ-7·Client·7-streams.
-        move ! (8 ∷ 9 ∷ []) $
-        lends-mut ! tt u8 b₄ o₄ out n₄ (refl) (λ ν-7·Client·7-out δ-7·Client·7-out.
+        move ! (10 ∷ 11 ∷ []) $
+        lends-mut ! tt u8 b₅ o₅ out n₅ (refl) (λ ν-7·Client·7-out δ-7·Client·7-out.
         nothing ! $ move ! (1 ∷ 0 ∷ []) $ join ! $ move ! (3 ∷ 0 ∷ []) $ join ! $ move ! (5 ∷ 0 ∷ []) $ join ! $
         use1 W (raw (toks 𝓤 A 3 (((ν-7·Client·7-sessions ∷ []), ((ν-7·Client·7-streams ∷ []), ((ν-7·Client·7-out ∷ []), tt)))) ((fullShare, (fullShare, (fullShare, tt)))))) (id⊢ 𝓤 _) $ nothing ! $
-        owned ! (u64-p .row) (Is (u64-p .row)) (u64-p .makes 𝓤 H A W) ((takenOf (readAt (d) ((Cursor-of (r′ .at)) .at)) n₅) .at) (u64-p .val ((takenOf (readAt (d) ((Cursor-of (r′ .at)) .at)) n₅) .at) ∷ []) (LL.owed Taken-t.the-type Taken-l.the-laws (takenOf (readAt (d) ((Cursor-of (r′ .at)) .at)) n₅) _ is-4 .1 .1 .0) $ fjoin ! $
-        owned ! (u32-p .row) (Is (u32-p .row)) (u32-p .makes 𝓤 H A W) (((takenOf (readAt (d) ((Cursor-of (r′ .at)) .at)) n₅) .asked) .key) (u32-p .val (((takenOf (readAt (d) ((Cursor-of (r′ .at)) .at)) n₅) .asked) .key) ∷ []) (LL.owed Asked-t.the-type Asked-l.the-laws ((takenOf (readAt (d) ((Cursor-of (r′ .at)) .at)) n₅) .asked) _ (LL.owed Taken-t.the-type Taken-l.the-laws (takenOf (readAt (d) ((Cursor-of (r′ .at)) .at)) n₅) _ is-4 .0) .1 .1 .0) $ fjoin ! $
+        owned ! (u64-p .row) (Is (u64-p .row)) (u64-p .makes 𝓤 H A W) ((takenOf (readAt (d) ((Cursor-of (r′ .at)) .at)) n₆) .at) (u64-p .val ((takenOf (readAt (d) ((Cursor-of (r′ .at)) .at)) n₆) .at) ∷ []) (LL.owed Taken-t.the-type Taken-l.the-laws (takenOf (readAt (d) ((Cursor-of (r′ .at)) .at)) n₆) _ is-4 .1 .1 .0) $ fjoin ! $
+        owned ! (u32-p .row) (Is (u32-p .row)) (u32-p .makes 𝓤 H A W) (((takenOf (readAt (d) ((Cursor-of (r′ .at)) .at)) n₆) .asked) .key) (u32-p .val (((takenOf (readAt (d) ((Cursor-of (r′ .at)) .at)) n₆) .asked) .key) ∷ []) (LL.owed Asked-t.the-type Asked-l.the-laws ((takenOf (readAt (d) ((Cursor-of (r′ .at)) .at)) n₆) .asked) _ (LL.owed Taken-t.the-type Taken-l.the-laws (takenOf (readAt (d) ((Cursor-of (r′ .at)) .at)) n₆) _ is-4 .0) .1 .1 .0) $ fjoin ! $
         owned ! (Ran-p .row) (Is (Ran-p .row)) (Ran-p .makes 𝓤 H A W) r′ (Ran-p .val r′ ∷ []) r′-is $ fjoin ! $
         owned ! (Frame-p .row) (Is (Frame-p .row)) (Frame-p .makes 𝓤 H A W) f′ (Frame-p .val f′ ∷ []) f′-is $ fjoin ! $ move ! (2 ∷ 0 ∷ []) $ fjoin ! $ move ! (3 ∷ 0 ∷ []) $ fjoin ! $ move ! (4 ∷ 0 ∷ []) $ fjoin ! $ move ! (1 ∷ 0 ∷ []) $
-        calls-any-last ! fm 3 [] (turn-greet.signature .params) (turn-greet.ended .kept) Ran-p (turn-greet.clauses 𝓤 H A mem run) known-turn-greet ((ν-7·Client·7-sessions ∷ []), ((ν-7·Client·7-streams ∷ []), ((ν-7·Client·7-out ∷ []), tt))) (fullShare, (fullShare, (fullShare, tt))) tt (at-list b₁ o₁ δ-7·Client·7-sessions sessions, (at-list b₂ o₂ δ-7·Client·7-streams streams, (at-list b₄ o₄ δ-7·Client·7-out out, (f′, (r′, (((takenOf (readAt (d) ((Cursor-of (r′ .at)) .at)) n₅) .asked) .key, ((takenOf (readAt (d) ((Cursor-of (r′ .at)) .at)) n₅) .at, tt))))))) (sliceVal (b₁, o₁) n₁ ∷ [], (sliceVal (b₂, o₂) n₂ ∷ [], (sliceVal (b₄, o₄) n₄ ∷ [], (Frame-p .val f′ ∷ [], (Ran-p .val r′ ∷ [], (u32-p .val (((takenOf (readAt (d) ((Cursor-of (r′ .at)) .at)) n₅) .asked) .key) ∷ [], (u64-p .val ((takenOf (readAt (d) ((Cursor-of (r′ .at)) .at)) n₅) .at) ∷ [], tt))))))) tt (greeted f′ r′ (((takenOf (readAt (d) ((Cursor-of (r′ .at)) .at)) n₅) .asked) .key) ((takenOf (readAt (d) ((Cursor-of (r′ .at)) .at)) n₅) .at) (createdOf (sessions) (streams) (f′ .«max_clients») (r′ .next))) (λ ws-7·Client·7. (ws-7·Client·7 .0 ≡ openedRows (createdOf (sessions) (streams) (f′ .«max_clients») (r′ .next)) (sessions) (((takenOf (readAt (d) ((Cursor-of (r′ .at)) .at)) n₅) .asked) .key) (f′ .time)) × (ws-7·Client·7 .1 .0 ≡ openedStreams (createdOf (sessions) (streams) (f′ .«max_clients») (r′ .next)) (streams)) × (ws-7·Client·7 .1 .1 .0 ≡ putBytes (out) (r′ .wrote) (greetingBytes (createdOf (sessions) (streams) (f′ .«max_clients») (r′ .next))))) (factI 𝓤 (r′ .wrote ≤ 18446744073709551600) _ asks-7·Client·7) (λ r ws-7·Client·7. fact-mono 𝓤 ((r ≡ greeted f′ r′ (((takenOf (readAt (d) ((Cursor-of (r′ .at)) .at)) n₅) .asked) .key) ((takenOf (readAt (d) ((Cursor-of (r′ .at)) .at)) n₅) .at) (createdOf (sessions) (streams) (f′ .«max_clients») (r′ .next))) × ((ws-7·Client·7 .0) ≡ openedRows (createdOf (sessions) (streams) (f′ .«max_clients») (r′ .next)) (sessions) (((takenOf (readAt (d) ((Cursor-of (r′ .at)) .at)) n₅) .asked) .key) (f′ .time)) × ((ws-7·Client·7 .1 .0) ≡ openedStreams (createdOf (sessions) (streams) (f′ .«max_clients») (r′ .next)) (streams)) × ((ws-7·Client·7 .1 .1 .0) ≡ putBytes (out) (r′ .wrote) (greetingBytes (createdOf (sessions) (streams) (f′ .«max_clients») (r′ .next))))) ((r ≡ (greeted f′ r′ (((takenOf (readAt (d) ((Cursor-of (r′ .at)) .at)) n₅) .asked) .key) ((takenOf (readAt (d) ((Cursor-of (r′ .at)) .at)) n₅) .at) (createdOf (sessions) (streams) (f′ .«max_clients») (r′ .next)))) × ((ws-7·Client·7 .0 ≡ openedRows (createdOf (sessions) (streams) (f′ .«max_clients») (r′ .next)) (sessions) (((takenOf (readAt (d) ((Cursor-of (r′ .at)) .at)) n₅) .asked) .key) (f′ .time)) × (ws-7·Client·7 .1 .0 ≡ openedStreams (createdOf (sessions) (streams) (f′ .«max_clients») (r′ .next)) (streams)) × (ws-7·Client·7 .1 .1 .0 ≡ putBytes (out) (r′ .wrote) (greetingBytes (createdOf (sessions) (streams) (f′ .«max_clients») (r′ .next)))))) (λ e. (e .0, (e .1, e .2, e .3)))) (λ _. (and-then ! (load ! (from ! (stop !)) (look ! 32 refl)) (and-then ! (load ! (from ! (stop !)) (look ! 28 refl)) (and-then ! (load ! (from ! (stop !)) (look ! 24 refl)) (and-then ! (load ! (from ! (stop !)) (look ! 52 refl)) (and-then ! (load ! (from ! (stop !)) (look ! 50 refl)) (and-then ! (load ! (from ! (fld ! refl (stop !))) (look-in ! 42 (sub ! 2 refl (whole !)))) (and-then ! (load ! (from ! (fld ! refl (stop !))) (look-in ! 44 (sub ! 2 refl (whole !)))) (no-more !))))))))) (λ ws-7·Client·7 said-7·Client·7 is-7·Client·7.
+        calls-any-last ! fm 3 [] (turn-greet.signature .params) (turn-greet.ended .kept) Ran-p (turn-greet.clauses 𝓤 H A mem run) known-turn-greet ((ν-7·Client·7-sessions ∷ []), ((ν-7·Client·7-streams ∷ []), ((ν-7·Client·7-out ∷ []), tt))) (fullShare, (fullShare, (fullShare, tt))) tt (at-list b₁ o₁ δ-7·Client·7-sessions sessions, (at-list b₂ o₂ δ-7·Client·7-streams streams, (at-list b₅ o₅ δ-7·Client·7-out out, (f′, (r′, (((takenOf (readAt (d) ((Cursor-of (r′ .at)) .at)) n₆) .asked) .key, ((takenOf (readAt (d) ((Cursor-of (r′ .at)) .at)) n₆) .at, tt))))))) (sliceVal (b₁, o₁) n₁ ∷ [], (sliceVal (b₂, o₂) n₂ ∷ [], (sliceVal (b₅, o₅) n₅ ∷ [], (Frame-p .val f′ ∷ [], (Ran-p .val r′ ∷ [], (u32-p .val (((takenOf (readAt (d) ((Cursor-of (r′ .at)) .at)) n₆) .asked) .key) ∷ [], (u64-p .val ((takenOf (readAt (d) ((Cursor-of (r′ .at)) .at)) n₆) .at) ∷ [], tt))))))) tt (greeted f′ r′ ((takenOf (readAt (d) ((Cursor-of (r′ .at)) .at)) n₆) .at) (createdOf (sessions) (streams) (f′ .«max_clients») (r′ .next))) (λ ws-7·Client·7. (ws-7·Client·7 .0 ≡ openedRows (createdOf (sessions) (streams) (f′ .«max_clients») (r′ .next)) (sessions) (((takenOf (readAt (d) ((Cursor-of (r′ .at)) .at)) n₆) .asked) .key) (f′ .time)) × (ws-7·Client·7 .1 .0 ≡ openedStreams (createdOf (sessions) (streams) (f′ .«max_clients») (r′ .next)) (streams)) × (ws-7·Client·7 .1 .1 .0 ≡ putBytes (out) (r′ .wrote) (greetingBytes (createdOf (sessions) (streams) (f′ .«max_clients») (r′ .next))))) (factI 𝓤 (f′ .room ≤ 9223372036854775807) _ asks-7·Client·7) (λ r ws-7·Client·7. fact-mono 𝓤 ((r ≡ greeted f′ r′ ((takenOf (readAt (d) ((Cursor-of (r′ .at)) .at)) n₆) .at) (createdOf (sessions) (streams) (f′ .«max_clients») (r′ .next))) × ((ws-7·Client·7 .0) ≡ openedRows (createdOf (sessions) (streams) (f′ .«max_clients») (r′ .next)) (sessions) (((takenOf (readAt (d) ((Cursor-of (r′ .at)) .at)) n₆) .asked) .key) (f′ .time)) × ((ws-7·Client·7 .1 .0) ≡ openedStreams (createdOf (sessions) (streams) (f′ .«max_clients») (r′ .next)) (streams)) × ((ws-7·Client·7 .1 .1 .0) ≡ putBytes (out) (r′ .wrote) (greetingBytes (createdOf (sessions) (streams) (f′ .«max_clients») (r′ .next))))) ((r ≡ (greeted f′ r′ ((takenOf (readAt (d) ((Cursor-of (r′ .at)) .at)) n₆) .at) (createdOf (sessions) (streams) (f′ .«max_clients») (r′ .next)))) × ((ws-7·Client·7 .0 ≡ openedRows (createdOf (sessions) (streams) (f′ .«max_clients») (r′ .next)) (sessions) (((takenOf (readAt (d) ((Cursor-of (r′ .at)) .at)) n₆) .asked) .key) (f′ .time)) × (ws-7·Client·7 .1 .0 ≡ openedStreams (createdOf (sessions) (streams) (f′ .«max_clients») (r′ .next)) (streams)) × (ws-7·Client·7 .1 .1 .0 ≡ putBytes (out) (r′ .wrote) (greetingBytes (createdOf (sessions) (streams) (f′ .«max_clients») (r′ .next)))))) (λ e. (e .0, (e .1, e .2, e .3)))) (λ _. (and-then ! (load ! (from ! (stop !)) (look ! 34 refl)) (and-then ! (load ! (from ! (stop !)) (look ! 30 refl)) (and-then ! (load ! (from ! (stop !)) (look ! 26 refl)) (and-then ! (load ! (from ! (stop !)) (look ! 54 refl)) (and-then ! (load ! (from ! (stop !)) (look ! 52 refl)) (and-then ! (load ! (from ! (fld ! refl (stop !))) (look-in ! 44 (sub ! 2 refl (whole !)))) (and-then ! (load ! (from ! (fld ! refl (stop !))) (look-in ! 46 (sub ! 2 refl (whole !)))) (no-more !))))))))) (λ ws-7·Client·7 said-7·Client·7 is-7·Client·7.
         use1 W ((‵ (flft (ν-7·Client·7-sessions ∷ []) fullShare) ⊛ (‵ (flft (ν-7·Client·7-streams ∷ []) fullShare) ⊛ (‵ (flft (ν-7·Client·7-out ∷ []) fullShare) ⊛ ‵ ftrue)))) (id⊢ 𝓤 _) $ split ! $ move ! (1 ∷ []) $ split ! $ move ! (1 ∷ []) $ split ! $ move ! (4 ∷ []) $ fsplit ! $ fsplit ! $ move ! (1 ∷ []) $
         feqL ! (λ wlen-7·Client·7-0.
         move ! (1 ∷ []) $ fsplit ! $ fsplit ! $ move ! (1 ∷ []) $
@@ -441,91 +443,92 @@ module _ {M : Type 1} (𝓤 : URA M) (H : Heap 𝓤) (A : Atoms 𝓤) (W : Given
         move ! (1 ∷ []) $ fsplit ! $ fsplit ! $ move ! (1 ∷ []) $
         feqL ! (λ wlen-7·Client·7-2.
         move ! (7 ∷ 10 ∷ 3 ∷ []) $
-        backs-mut ! tt (Array u64 5) b₁ o₁ sessions n₁ (refl) room₁ ν-7·Client·7-sessions δ-7·Client·7-sessions (ws-7·Client·7 .0) (openedRows (createdOf (sessions) (streams) (f′ .«max_clients») (r′ .next)) (sessions) (((takenOf (readAt (d) ((Cursor-of (r′ .at)) .at)) n₅) .asked) .key) (f′ .time)) wlen-7·Client·7-0 (said-7·Client·7 .0) (λ len-7·Client·7-sessions.
+        backs-mut ! tt (Array u64 6) b₁ o₁ sessions n₁ (refl) room₁ ν-7·Client·7-sessions δ-7·Client·7-sessions (ws-7·Client·7 .0) (openedRows (createdOf (sessions) (streams) (f′ .«max_clients») (r′ .next)) (sessions) (((takenOf (readAt (d) ((Cursor-of (r′ .at)) .at)) n₆) .asked) .key) (f′ .time)) wlen-7·Client·7-0 (said-7·Client·7 .0) (λ len-7·Client·7-sessions.
         move ! (7 ∷ 9 ∷ 4 ∷ []) $
         backs-mut ! tt (Array u16 35) b₂ o₂ streams n₂ (refl) room₂ ν-7·Client·7-streams δ-7·Client·7-streams (ws-7·Client·7 .1 .0) (openedStreams (createdOf (sessions) (streams) (f′ .«max_clients») (r′ .next)) (streams)) wlen-7·Client·7-1 (said-7·Client·7 .1) (λ len-7·Client·7-streams.
         move ! (6 ∷ 8 ∷ 4 ∷ []) $
-        backs-mut ! tt u8 b₄ o₄ out n₄ (refl) room₄ ν-7·Client·7-out δ-7·Client·7-out (ws-7·Client·7 .1 .1 .0) (putBytes (out) (r′ .wrote) (greetingBytes (createdOf (sessions) (streams) (f′ .«max_clients») (r′ .next)))) wlen-7·Client·7-2 (said-7·Client·7 .2) (λ len-7·Client·7-out.
+        backs-mut ! tt u8 b₅ o₅ out n₅ (refl) room₅ ν-7·Client·7-out δ-7·Client·7-out (ws-7·Client·7 .1 .1 .0) (putBytes (out) (r′ .wrote) (greetingBytes (createdOf (sessions) (streams) (f′ .«max_clients») (r′ .next)))) wlen-7·Client·7-2 (said-7·Client·7 .2) (λ len-7·Client·7-out.
         move ! (6 ∷ []) $ drop ! $ move ! (6 ∷ []) $ drop ! $
-        land-last ! (from ! (stop !)) (init ! 38 refl (Ran-p .typed 𝓤 H A W (greeted f′ r′ (((takenOf (readAt (d) ((Cursor-of (r′ .at)) .at)) n₅) .asked) .key) ((takenOf (readAt (d) ((Cursor-of (r′ .at)) .at)) n₅) .at) (createdOf (sessions) (streams) (f′ .«max_clients») (r′ .next))) is-7·Client·7)) $
-        exec ! C Λ En mir.t-8 (atRet En Post) $ move ! (4 ∷ 5 ∷ 2 ∷ 3 ∷ 6 ∷ 7 ∷ 0 ∷ 1 ∷ 8 ∷ 9 ∷ 10 ∷ 11 ∷ 12 ∷ 13 ∷ 14 ∷ 15 ∷ 16 ∷ 17 ∷ 18 ∷ 19 ∷ 20 ∷ 21 ∷ 22 ∷ 23 ∷ 24 ∷ 25 ∷ 26 ∷ 27 ∷ 28 ∷ 29 ∷ 30 ∷ 31 ∷ 32 ∷ 33 ∷ 34 ∷ 35 ∷ 36 ∷ 37 ∷ 38 ∷ 39 ∷ 40 ∷ 41 ∷ 42 ∷ 43 ∷ 44 ∷ 45 ∷ 46 ∷ 47 ∷ 48 ∷ 49 ∷ 50 ∷ 51 ∷ 52 ∷ 53 ∷ 54 ∷ 55 ∷ 56 ∷ 57 ∷ 58 ∷ 59 ∷ 60 ∷ 61 ∷ 62 ∷ 63 ∷ 64 ∷ 65 ∷ 66 ∷ 67 ∷ []) $
+        land-last ! (from ! (stop !)) (init ! 40 refl (Ran-p .typed 𝓤 H A W (greeted f′ r′ ((takenOf (readAt (d) ((Cursor-of (r′ .at)) .at)) n₆) .at) (createdOf (sessions) (streams) (f′ .«max_clients») (r′ .next))) is-7·Client·7)) $
+        exec ! C Λ En mir.t-8 (atRet En Post) $ move ! (4 ∷ 5 ∷ 2 ∷ 3 ∷ 6 ∷ 7 ∷ 8 ∷ 9 ∷ 0 ∷ 1 ∷ 10 ∷ 11 ∷ 12 ∷ 13 ∷ 14 ∷ 15 ∷ 16 ∷ 17 ∷ 18 ∷ 19 ∷ 20 ∷ 21 ∷ 22 ∷ 23 ∷ 24 ∷ 25 ∷ 26 ∷ 27 ∷ 28 ∷ 29 ∷ 30 ∷ 31 ∷ 32 ∷ 33 ∷ 34 ∷ 35 ∷ 36 ∷ 37 ∷ 38 ∷ 39 ∷ 40 ∷ 41 ∷ 42 ∷ 43 ∷ 44 ∷ 45 ∷ 46 ∷ 47 ∷ 48 ∷ 49 ∷ 50 ∷ 51 ∷ 52 ∷ 53 ∷ 54 ∷ 55 ∷ 56 ∷ 57 ∷ 58 ∷ 59 ∷ 60 ∷ 61 ∷ 62 ∷ 63 ∷ 64 ∷ 65 ∷ 66 ∷ 67 ∷ 68 ∷ 69 ∷ 70 ∷ 71 ∷ []) $
         part-8-0 is-2 is-4 e-7 good-7 asks-7·Client·7 len-7·Client·7-sessions len-7·Client·7-streams len-7·Client·7-out is-7·Client·7)))))))))))
 
-    part-8-3 : (is-2 : Is (Parsed-p .row) (readAt (d) ((Cursor-of (r′ .at)) .at)) (Parsed-p .val (readAt (d) ((Cursor-of (r′ .at)) .at)) ∷ [])) → (is-4 : Is (Taken-p .row) (takenOf (readAt (d) ((Cursor-of (r′ .at)) .at)) n₅) (Taken-p .val (takenOf (readAt (d) ((Cursor-of (r′ .at)) .at)) n₅) ∷ [])) → (e-7 : ((takenOf (readAt (d) ((Cursor-of (r′ .at)) .at)) n₅) .asked) .opening ≡ Opening-Other) → (good-7 : Is (Opening-p .row) Opening-Other (Opening-p .val Opening-Other ∷ [])) → (asks-7·Other·9 : r′ .wrote ≤ 18446744073709551600) → (len-7·Other·9-sessions : length (delivered (namedOf (sessions) (f′ .«session_id»)) f′ (lent (sessions) (streams) (objects)) (d) r′ (takenOf (readAt (d) ((Cursor-of (r′ .at)) .at)) n₅) .tables .sessions) ≡ n₁) → (len-7·Other·9-streams : length (delivered (namedOf (sessions) (f′ .«session_id»)) f′ (lent (sessions) (streams) (objects)) (d) r′ (takenOf (readAt (d) ((Cursor-of (r′ .at)) .at)) n₅) .tables .streams) ≡ n₂) → (len-7·Other·9-objects : length (delivered (namedOf (sessions) (f′ .«session_id»)) f′ (lent (sessions) (streams) (objects)) (d) r′ (takenOf (readAt (d) ((Cursor-of (r′ .at)) .at)) n₅) .tables .objects) ≡ n₃) → (len-7·Other·9-out : length (putReplies (out) (r′ .wrote) (delivered (namedOf (sessions) (f′ .«session_id»)) f′ (lent (sessions) (streams) (objects)) (d) r′ (takenOf (readAt (d) ((Cursor-of (r′ .at)) .at)) n₅) .replies)) ≡ n₄) → (is-7·Other·9 : Is (Ran-p .row) (delivered (namedOf (sessions) (f′ .«session_id»)) f′ (lent (sessions) (streams) (objects)) (d) r′ (takenOf (readAt (d) ((Cursor-of (r′ .at)) .at)) n₅) .ran) (Ran-p .val (delivered (namedOf (sessions) (f′ .«session_id»)) f′ (lent (sessions) (streams) (objects)) (d) r′ (takenOf (readAt (d) ((Cursor-of (r′ .at)) .at)) n₅) .ran) ∷ [])) → Sq W (‵ (MutSlice (named 0) κ₁ (Array u64 5) .own (at-list b₁ o₁ γ₁ (delivered (namedOf (sessions) (f′ .«session_id»)) f′ (lent (sessions) (streams) (objects)) (d) r′ (takenOf (readAt (d) ((Cursor-of (r′ .at)) .at)) n₅) .tables .sessions)) (sliceVal (b₁, o₁) n₁ ∷ [])) ∷ ‵ (flft κ₁ q₁) ∷ ‵ (MutSlice (named 0) κ₂ (Array u16 35) .own (at-list b₂ o₂ γ₂ (delivered (namedOf (sessions) (f′ .«session_id»)) f′ (lent (sessions) (streams) (objects)) (d) r′ (takenOf (readAt (d) ((Cursor-of (r′ .at)) .at)) n₅) .tables .streams)) (sliceVal (b₂, o₂) n₂ ∷ [])) ∷ ‵ (flft κ₂ q₂) ∷ ‵ (MutSlice (named 0) κ₃ Object-t.the-row .own (at-list b₃ o₃ γ₃ (delivered (namedOf (sessions) (f′ .«session_id»)) f′ (lent (sessions) (streams) (objects)) (d) r′ (takenOf (readAt (d) ((Cursor-of (r′ .at)) .at)) n₅) .tables .objects)) (sliceVal (b₃, o₃) n₃ ∷ [])) ∷ ‵ (flft κ₃ q₃) ∷ ‵ (MutSlice (named 0) κ₄ u8 .own (at-list b₄ o₄ γ₄ (putReplies (out) (r′ .wrote) (delivered (namedOf (sessions) (f′ .«session_id»)) f′ (lent (sessions) (streams) (objects)) (d) r′ (takenOf (readAt (d) ((Cursor-of (r′ .at)) .at)) n₅) .replies))) (sliceVal (b₄, o₄) n₄ ∷ [])) ∷ ‵ (flft κ₄ q₄) ∷ ‵ (ShrSlice (named 0) κ₅ u8 .own (at-list b₅ o₅ γ₅ d) (sliceVal (b₅, o₅) n₅ ∷ [])) ∷ ‵ (flft κ₅ q₅) ∷ full 𝓤 (sliceTy (tyRef erased mut (pointee (u8 .written)))) l₂₈ (sliceVal (b₄, o₄) n₄) (full 𝓤 (tyRef erased mut (pointee (u8 .written))) l₂₇ (vptr b₄ o₄) (full 𝓤 (sliceTy (tyRef erased mut (pointee (Object-t.the-row .written)))) l₂₆ (sliceVal (b₃, o₃) n₃) (full 𝓤 (tyRef erased mut (pointee (Object-t.the-row .written))) l₂₅ (vptr b₃ o₃) (full 𝓤 (sliceTy (tyRef erased mut (pointee ((Array u16 35) .written)))) l₂₄ (sliceVal (b₂, o₂) n₂) (full 𝓤 (tyRef erased mut (pointee ((Array u16 35) .written))) l₂₃ (vptr b₂ o₂) (full 𝓤 (sliceTy (tyRef erased mut (pointee ((Array u64 5) .written)))) l₂₂ (sliceVal (b₁, o₁) n₁) (full 𝓤 (tyRef erased mut (pointee ((Array u64 5) .written))) l₂₁ (vptr b₁ o₁) (free 𝓤 (sliceTy (tyRef erased mut (pointee (u8 .written)))) l₂₀ (free 𝓤 (tyRef erased mut (pointee (u8 .written))) l₁₉ (free 𝓤 (sliceTy (tyRef erased mut (pointee ((Array u16 35) .written)))) l₁₈ (free 𝓤 (tyRef erased mut (pointee ((Array u16 35) .written))) l₁₇ (free 𝓤 (sliceTy (tyRef erased mut (pointee ((Array u64 5) .written)))) l₁₆ (free 𝓤 (tyRef erased mut (pointee ((Array u64 5) .written))) l₁₅ (full 𝓤 Ran-l.mir l₁₄ (Ran-p .val (delivered (namedOf (sessions) (f′ .«session_id»)) f′ (lent (sessions) (streams) (objects)) (d) r′ (takenOf (readAt (d) ((Cursor-of (r′ .at)) .at)) n₅) .ran)) (full 𝓤 (tyInt w64) l₁₃ (u64-p .val n₅) (full 𝓤 Opening-l.mir l₁₂ (Opening-p .val Opening-Other) (full 𝓤 Asked-l.mir l₁₁ (Asked-p .val ((takenOf (readAt (d) ((Cursor-of (r′ .at)) .at)) n₅) .asked)) (full 𝓤 Taken-l.mir l₁₀ (Taken-p .val (takenOf (readAt (d) ((Cursor-of (r′ .at)) .at)) n₅)) (full 𝓤 Parsed-l.mir l₉ (Parsed-p .val (readAt (d) ((Cursor-of (r′ .at)) .at))) (full 𝓤 Cursor-l.mir l₈ (Cursor-p .val (Cursor-of (r′ .at))) (full 𝓤 Ran-l.mir l₇ (Ran-p .val r′) (full 𝓤 Frame-l.mir l₆ (Frame-p .val f′) (full 𝓤 (sliceTy (tyRef (named 4) imm (pointee (u8 .written)))) l₅ (sliceVal (b₅, o₅) n₅) (full 𝓤 (sliceTy (tyRef (named 3) mut (pointee (u8 .written)))) l₄ (sliceVal (b₄, o₄) n₄) (full 𝓤 (sliceTy (tyRef (named 2) mut (pointee (Object-t.the-row .written)))) l₃ (sliceVal (b₃, o₃) n₃) (full 𝓤 (sliceTy (tyRef (named 1) mut (pointee ((Array u16 35) .written)))) l₂ (sliceVal (b₂, o₂) n₂) (full 𝓤 (sliceTy (tyRef (named 0) mut (pointee ((Array u64 5) .written)))) l₁ (sliceVal (b₁, o₁) n₁) (free 𝓤 Ran-l.mir l₀ ([])))))))))))))))))))))))))))))) (runs C Λ En mir.t-8 (atRet En Post))
+    part-8-3 : (is-2 : Is (Parsed-p .row) (readAt (d) ((Cursor-of (r′ .at)) .at)) (Parsed-p .val (readAt (d) ((Cursor-of (r′ .at)) .at)) ∷ [])) → (is-4 : Is (Taken-p .row) (takenOf (readAt (d) ((Cursor-of (r′ .at)) .at)) n₆) (Taken-p .val (takenOf (readAt (d) ((Cursor-of (r′ .at)) .at)) n₆) ∷ [])) → (e-7 : ((takenOf (readAt (d) ((Cursor-of (r′ .at)) .at)) n₆) .asked) .opening ≡ Opening-Other) → (good-7 : Is (Opening-p .row) Opening-Other (Opening-p .val Opening-Other ∷ [])) → (asks-7·Other·9 : f′ .room ≤ 9223372036854775807) → (len-7·Other·9-sessions : length (delivered (namedOf (sessions) (f′ .«session_id»)) f′ (lent (sessions) (streams) (objects) (held)) (d) r′ (takenOf (readAt (d) ((Cursor-of (r′ .at)) .at)) n₆) .tables .sessions) ≡ n₁) → (len-7·Other·9-streams : length (delivered (namedOf (sessions) (f′ .«session_id»)) f′ (lent (sessions) (streams) (objects) (held)) (d) r′ (takenOf (readAt (d) ((Cursor-of (r′ .at)) .at)) n₆) .tables .streams) ≡ n₂) → (len-7·Other·9-objects : length (delivered (namedOf (sessions) (f′ .«session_id»)) f′ (lent (sessions) (streams) (objects) (held)) (d) r′ (takenOf (readAt (d) ((Cursor-of (r′ .at)) .at)) n₆) .tables .objects) ≡ n₃) → (len-7·Other·9-out : length (putReplies (f′ .room) (out) (r′ .wrote) (delivered (namedOf (sessions) (f′ .«session_id»)) f′ (lent (sessions) (streams) (objects) (held)) (d) r′ (takenOf (readAt (d) ((Cursor-of (r′ .at)) .at)) n₆) .replies)) ≡ n₅) → (is-7·Other·9 : Is (Ran-p .row) (delivered (namedOf (sessions) (f′ .«session_id»)) f′ (lent (sessions) (streams) (objects) (held)) (d) r′ (takenOf (readAt (d) ((Cursor-of (r′ .at)) .at)) n₆) .ran) (Ran-p .val (delivered (namedOf (sessions) (f′ .«session_id»)) f′ (lent (sessions) (streams) (objects) (held)) (d) r′ (takenOf (readAt (d) ((Cursor-of (r′ .at)) .at)) n₆) .ran) ∷ [])) → Sq W (‵ (MutSlice (named 0) κ₁ (Array u64 6) .own (at-list b₁ o₁ γ₁ (delivered (namedOf (sessions) (f′ .«session_id»)) f′ (lent (sessions) (streams) (objects) (held)) (d) r′ (takenOf (readAt (d) ((Cursor-of (r′ .at)) .at)) n₆) .tables .sessions)) (sliceVal (b₁, o₁) n₁ ∷ [])) ∷ ‵ (flft κ₁ q₁) ∷ ‵ (MutSlice (named 0) κ₂ (Array u16 35) .own (at-list b₂ o₂ γ₂ (delivered (namedOf (sessions) (f′ .«session_id»)) f′ (lent (sessions) (streams) (objects) (held)) (d) r′ (takenOf (readAt (d) ((Cursor-of (r′ .at)) .at)) n₆) .tables .streams)) (sliceVal (b₂, o₂) n₂ ∷ [])) ∷ ‵ (flft κ₂ q₂) ∷ ‵ (MutSlice (named 0) κ₃ Object-t.the-row .own (at-list b₃ o₃ γ₃ (delivered (namedOf (sessions) (f′ .«session_id»)) f′ (lent (sessions) (streams) (objects) (held)) (d) r′ (takenOf (readAt (d) ((Cursor-of (r′ .at)) .at)) n₆) .tables .objects)) (sliceVal (b₃, o₃) n₃ ∷ [])) ∷ ‵ (flft κ₃ q₃) ∷ ‵ (ShrSlice (named 0) κ₄ u8 .own (at-list b₄ o₄ γ₄ held) (sliceVal (b₄, o₄) n₄ ∷ [])) ∷ ‵ (flft κ₄ q₄) ∷ ‵ (MutSlice (named 0) κ₅ u8 .own (at-list b₅ o₅ γ₅ (putReplies (f′ .room) (out) (r′ .wrote) (delivered (namedOf (sessions) (f′ .«session_id»)) f′ (lent (sessions) (streams) (objects) (held)) (d) r′ (takenOf (readAt (d) ((Cursor-of (r′ .at)) .at)) n₆) .replies))) (sliceVal (b₅, o₅) n₅ ∷ [])) ∷ ‵ (flft κ₅ q₅) ∷ ‵ (ShrSlice (named 0) κ₆ u8 .own (at-list b₆ o₆ γ₆ d) (sliceVal (b₆, o₆) n₆ ∷ [])) ∷ ‵ (flft κ₆ q₆) ∷ full 𝓤 (sliceTy (tyRef erased mut (pointee (u8 .written)))) l₂₉ (sliceVal (b₅, o₅) n₅) (full 𝓤 (tyRef erased mut (pointee (u8 .written))) l₂₈ (vptr b₅ o₅) (full 𝓤 (sliceTy (tyRef erased mut (pointee (Object-t.the-row .written)))) l₂₇ (sliceVal (b₃, o₃) n₃) (full 𝓤 (tyRef erased mut (pointee (Object-t.the-row .written))) l₂₆ (vptr b₃ o₃) (full 𝓤 (sliceTy (tyRef erased mut (pointee ((Array u16 35) .written)))) l₂₅ (sliceVal (b₂, o₂) n₂) (full 𝓤 (tyRef erased mut (pointee ((Array u16 35) .written))) l₂₄ (vptr b₂ o₂) (full 𝓤 (sliceTy (tyRef erased mut (pointee ((Array u64 6) .written)))) l₂₃ (sliceVal (b₁, o₁) n₁) (full 𝓤 (tyRef erased mut (pointee ((Array u64 6) .written))) l₂₂ (vptr b₁ o₁) (free 𝓤 (sliceTy (tyRef erased mut (pointee (u8 .written)))) l₂₁ (free 𝓤 (tyRef erased mut (pointee (u8 .written))) l₂₀ (free 𝓤 (sliceTy (tyRef erased mut (pointee ((Array u16 35) .written)))) l₁₉ (free 𝓤 (tyRef erased mut (pointee ((Array u16 35) .written))) l₁₈ (free 𝓤 (sliceTy (tyRef erased mut (pointee ((Array u64 6) .written)))) l₁₇ (free 𝓤 (tyRef erased mut (pointee ((Array u64 6) .written))) l₁₆ (full 𝓤 Ran-l.mir l₁₅ (Ran-p .val (delivered (namedOf (sessions) (f′ .«session_id»)) f′ (lent (sessions) (streams) (objects) (held)) (d) r′ (takenOf (readAt (d) ((Cursor-of (r′ .at)) .at)) n₆) .ran)) (full 𝓤 (tyInt w64) l₁₄ (u64-p .val n₆) (full 𝓤 Opening-l.mir l₁₃ (Opening-p .val Opening-Other) (full 𝓤 Asked-l.mir l₁₂ (Asked-p .val ((takenOf (readAt (d) ((Cursor-of (r′ .at)) .at)) n₆) .asked)) (full 𝓤 Taken-l.mir l₁₁ (Taken-p .val (takenOf (readAt (d) ((Cursor-of (r′ .at)) .at)) n₆)) (full 𝓤 Parsed-l.mir l₁₀ (Parsed-p .val (readAt (d) ((Cursor-of (r′ .at)) .at))) (full 𝓤 Cursor-l.mir l₉ (Cursor-p .val (Cursor-of (r′ .at))) (full 𝓤 Ran-l.mir l₈ (Ran-p .val r′) (full 𝓤 Frame-l.mir l₇ (Frame-p .val f′) (full 𝓤 (sliceTy (tyRef (named 5) imm (pointee (u8 .written)))) l₆ (sliceVal (b₆, o₆) n₆) (full 𝓤 (sliceTy (tyRef (named 4) mut (pointee (u8 .written)))) l₅ (sliceVal (b₅, o₅) n₅) (full 𝓤 (sliceTy (tyRef (named 3) imm (pointee (u8 .written)))) l₄ (sliceVal (b₄, o₄) n₄) (full 𝓤 (sliceTy (tyRef (named 2) mut (pointee (Object-t.the-row .written)))) l₃ (sliceVal (b₃, o₃) n₃) (full 𝓤 (sliceTy (tyRef (named 1) mut (pointee ((Array u16 35) .written)))) l₂ (sliceVal (b₂, o₂) n₂) (full 𝓤 (sliceTy (tyRef (named 0) mut (pointee ((Array u64 6) .written)))) l₁ (sliceVal (b₁, o₁) n₁) (free 𝓤 Ran-l.mir l₀ ([]))))))))))))))))))))))))))))))) (runs C Λ En mir.t-8 (atRet En Post))
     part-8-3 is-2 is-4 e-7 good-7 asks-7·Other·9 len-7·Other·9-sessions len-7·Other·9-streams len-7·Other·9-objects len-7·Other·9-out is-7·Other·9 =
-        assigns ! (of-opd ! (load ! (from ! (stop !)) (look ! 38 refl))) (from ! (stop !)) (init ! 66 refl (Ran-p .typed 𝓤 H A W (delivered (namedOf (sessions) (f′ .«session_id»)) f′ (lent (sessions) (streams) (objects)) (d) r′ (takenOf (readAt (d) ((Cursor-of (r′ .at)) .at)) n₅) .ran) is-7·Other·9)) $
-        returns ! (look ! 66 refl) $ forget ! 10 refl $ forget ! 12 refl $ forget ! 14 refl $ forget ! 16 refl $ forget ! 18 refl $ forget ! 20 refl $ forget ! 22 refl $ forget ! 24 refl $ forget ! 38 refl $ forget ! 40 refl $ forget ! 42 refl $ forget ! 44 refl $ forget ! 46 refl $ forget ! 48 refl $ forget ! 50 refl $
-        frees-all (delivered (namedOf (sessions) (f′ .«session_id»)) f′ (lent (sessions) (streams) (objects)) (d) r′ (takenOf (readAt (d) ((Cursor-of (r′ .at)) .at)) n₅) .ran) (delivered (namedOf (sessions) (f′ .«session_id»)) f′ (lent (sessions) (streams) (objects)) (d) r′ (takenOf (readAt (d) ((Cursor-of (r′ .at)) .at)) n₅) .tables .sessions) (delivered (namedOf (sessions) (f′ .«session_id»)) f′ (lent (sessions) (streams) (objects)) (d) r′ (takenOf (readAt (d) ((Cursor-of (r′ .at)) .at)) n₅) .tables .streams) (delivered (namedOf (sessions) (f′ .«session_id»)) f′ (lent (sessions) (streams) (objects)) (d) r′ (takenOf (readAt (d) ((Cursor-of (r′ .at)) .at)) n₅) .tables .objects) (putReplies (out) (r′ .wrote) (delivered (namedOf (sessions) (f′ .«session_id»)) f′ (lent (sessions) (streams) (objects)) (d) r′ (takenOf (readAt (d) ((Cursor-of (r′ .at)) .at)) n₅) .replies)) (exits (delivered (namedOf (sessions) (f′ .«session_id»)) f′ (lent (sessions) (streams) (objects)) (d) r′ (takenOf (readAt (d) ((Cursor-of (r′ .at)) .at)) n₅) .ran) (delivered (namedOf (sessions) (f′ .«session_id»)) f′ (lent (sessions) (streams) (objects)) (d) r′ (takenOf (readAt (d) ((Cursor-of (r′ .at)) .at)) n₅) .tables .sessions) (delivered (namedOf (sessions) (f′ .«session_id»)) f′ (lent (sessions) (streams) (objects)) (d) r′ (takenOf (readAt (d) ((Cursor-of (r′ .at)) .at)) n₅) .tables .streams) (delivered (namedOf (sessions) (f′ .«session_id»)) f′ (lent (sessions) (streams) (objects)) (d) r′ (takenOf (readAt (d) ((Cursor-of (r′ .at)) .at)) n₅) .tables .objects) (putReplies (out) (r′ .wrote) (delivered (namedOf (sessions) (f′ .«session_id»)) f′ (lent (sessions) (streams) (objects)) (d) r′ (takenOf (readAt (d) ((Cursor-of (r′ .at)) .at)) n₅) .replies)) (as-left out _ (r′ .wrote) (left Opening-Other) leaves (ap left (sym e-7) ∙ left-is) refl) is-7·Other·9 len-7·Other·9-sessions len-7·Other·9-streams len-7·Other·9-objects len-7·Other·9-out)
+        assigns ! (of-opd ! (load ! (from ! (stop !)) (look ! 40 refl))) (from ! (stop !)) (init ! 70 refl (Ran-p .typed 𝓤 H A W (delivered (namedOf (sessions) (f′ .«session_id»)) f′ (lent (sessions) (streams) (objects) (held)) (d) r′ (takenOf (readAt (d) ((Cursor-of (r′ .at)) .at)) n₆) .ran) is-7·Other·9)) $
+        returns ! (look ! 70 refl) $ forget ! 12 refl $ forget ! 14 refl $ forget ! 16 refl $ forget ! 18 refl $ forget ! 20 refl $ forget ! 22 refl $ forget ! 24 refl $ forget ! 26 refl $ forget ! 40 refl $ forget ! 42 refl $ forget ! 44 refl $ forget ! 46 refl $ forget ! 48 refl $ forget ! 50 refl $ forget ! 52 refl $
+        frees-all (delivered (namedOf (sessions) (f′ .«session_id»)) f′ (lent (sessions) (streams) (objects) (held)) (d) r′ (takenOf (readAt (d) ((Cursor-of (r′ .at)) .at)) n₆) .ran) (delivered (namedOf (sessions) (f′ .«session_id»)) f′ (lent (sessions) (streams) (objects) (held)) (d) r′ (takenOf (readAt (d) ((Cursor-of (r′ .at)) .at)) n₆) .tables .sessions) (delivered (namedOf (sessions) (f′ .«session_id»)) f′ (lent (sessions) (streams) (objects) (held)) (d) r′ (takenOf (readAt (d) ((Cursor-of (r′ .at)) .at)) n₆) .tables .streams) (delivered (namedOf (sessions) (f′ .«session_id»)) f′ (lent (sessions) (streams) (objects) (held)) (d) r′ (takenOf (readAt (d) ((Cursor-of (r′ .at)) .at)) n₆) .tables .objects) (putReplies (f′ .room) (out) (r′ .wrote) (delivered (namedOf (sessions) (f′ .«session_id»)) f′ (lent (sessions) (streams) (objects) (held)) (d) r′ (takenOf (readAt (d) ((Cursor-of (r′ .at)) .at)) n₆) .replies)) (exits (delivered (namedOf (sessions) (f′ .«session_id»)) f′ (lent (sessions) (streams) (objects) (held)) (d) r′ (takenOf (readAt (d) ((Cursor-of (r′ .at)) .at)) n₆) .ran) (delivered (namedOf (sessions) (f′ .«session_id»)) f′ (lent (sessions) (streams) (objects) (held)) (d) r′ (takenOf (readAt (d) ((Cursor-of (r′ .at)) .at)) n₆) .tables .sessions) (delivered (namedOf (sessions) (f′ .«session_id»)) f′ (lent (sessions) (streams) (objects) (held)) (d) r′ (takenOf (readAt (d) ((Cursor-of (r′ .at)) .at)) n₆) .tables .streams) (delivered (namedOf (sessions) (f′ .«session_id»)) f′ (lent (sessions) (streams) (objects) (held)) (d) r′ (takenOf (readAt (d) ((Cursor-of (r′ .at)) .at)) n₆) .tables .objects) (putReplies (f′ .room) (out) (r′ .wrote) (delivered (namedOf (sessions) (f′ .«session_id»)) f′ (lent (sessions) (streams) (objects) (held)) (d) r′ (takenOf (readAt (d) ((Cursor-of (r′ .at)) .at)) n₆) .replies)) (as-left (f′ .room) out _ (r′ .wrote) (left Opening-Other) leaves (ap left (sym e-7) ∙ left-is) refl) is-7·Other·9 len-7·Other·9-sessions len-7·Other·9-streams len-7·Other·9-objects len-7·Other·9-out)
 
-    matched-7-Other-3 : (is-2 : Is (Parsed-p .row) (readAt (d) ((Cursor-of (r′ .at)) .at)) (Parsed-p .val (readAt (d) ((Cursor-of (r′ .at)) .at)) ∷ [])) → (is-4 : Is (Taken-p .row) (takenOf (readAt (d) ((Cursor-of (r′ .at)) .at)) n₅) (Taken-p .val (takenOf (readAt (d) ((Cursor-of (r′ .at)) .at)) n₅) ∷ [])) → (e-7 : ((takenOf (readAt (d) ((Cursor-of (r′ .at)) .at)) n₅) .asked) .opening ≡ Opening-Other) → (good-7 : Is (Opening-p .row) Opening-Other (Opening-p .val Opening-Other ∷ [])) → Sq W (‵ (MutSlice (named 0) κ₁ (Array u64 5) .own (at-list b₁ o₁ γ₁ sessions) (sliceVal (b₁, o₁) n₁ ∷ [])) ∷ ‵ (flft κ₁ q₁) ∷ ‵ (MutSlice (named 0) κ₂ (Array u16 35) .own (at-list b₂ o₂ γ₂ streams) (sliceVal (b₂, o₂) n₂ ∷ [])) ∷ ‵ (flft κ₂ q₂) ∷ ‵ (MutSlice (named 0) κ₃ Object-t.the-row .own (at-list b₃ o₃ γ₃ objects) (sliceVal (b₃, o₃) n₃ ∷ [])) ∷ ‵ (flft κ₃ q₃) ∷ ‵ (MutSlice (named 0) κ₄ u8 .own (at-list b₄ o₄ γ₄ out) (sliceVal (b₄, o₄) n₄ ∷ [])) ∷ ‵ (flft κ₄ q₄) ∷ ‵ (ShrSlice (named 0) κ₅ u8 .own (at-list b₅ o₅ γ₅ d) (sliceVal (b₅, o₅) n₅ ∷ [])) ∷ ‵ (flft κ₅ q₅) ∷ free 𝓤 (sliceTy (tyRef erased mut (pointee (u8 .written)))) l₂₈ (free 𝓤 (tyRef erased mut (pointee (u8 .written))) l₂₇ (free 𝓤 (sliceTy (tyRef erased mut (pointee (Object-t.the-row .written)))) l₂₆ (free 𝓤 (tyRef erased mut (pointee (Object-t.the-row .written))) l₂₅ (free 𝓤 (sliceTy (tyRef erased mut (pointee ((Array u16 35) .written)))) l₂₄ (free 𝓤 (tyRef erased mut (pointee ((Array u16 35) .written))) l₂₃ (free 𝓤 (sliceTy (tyRef erased mut (pointee ((Array u64 5) .written)))) l₂₂ (free 𝓤 (tyRef erased mut (pointee ((Array u64 5) .written))) l₂₁ (free 𝓤 (sliceTy (tyRef erased mut (pointee (u8 .written)))) l₂₀ (free 𝓤 (tyRef erased mut (pointee (u8 .written))) l₁₉ (free 𝓤 (sliceTy (tyRef erased mut (pointee ((Array u16 35) .written)))) l₁₈ (free 𝓤 (tyRef erased mut (pointee ((Array u16 35) .written))) l₁₇ (free 𝓤 (sliceTy (tyRef erased mut (pointee ((Array u64 5) .written)))) l₁₆ (free 𝓤 (tyRef erased mut (pointee ((Array u64 5) .written))) l₁₅ (free 𝓤 Ran-l.mir l₁₄ (full 𝓤 (tyInt w64) l₁₃ (u64-p .val n₅) (full 𝓤 Opening-l.mir l₁₂ (Opening-p .val Opening-Other) (full 𝓤 Asked-l.mir l₁₁ (Asked-p .val ((takenOf (readAt (d) ((Cursor-of (r′ .at)) .at)) n₅) .asked)) (full 𝓤 Taken-l.mir l₁₀ (Taken-p .val (takenOf (readAt (d) ((Cursor-of (r′ .at)) .at)) n₅)) (full 𝓤 Parsed-l.mir l₉ (Parsed-p .val (readAt (d) ((Cursor-of (r′ .at)) .at))) (full 𝓤 Cursor-l.mir l₈ (Cursor-p .val (Cursor-of (r′ .at))) (full 𝓤 Ran-l.mir l₇ (Ran-p .val r′) (full 𝓤 Frame-l.mir l₆ (Frame-p .val f′) (full 𝓤 (sliceTy (tyRef (named 4) imm (pointee (u8 .written)))) l₅ (sliceVal (b₅, o₅) n₅) (full 𝓤 (sliceTy (tyRef (named 3) mut (pointee (u8 .written)))) l₄ (sliceVal (b₄, o₄) n₄) (full 𝓤 (sliceTy (tyRef (named 2) mut (pointee (Object-t.the-row .written)))) l₃ (sliceVal (b₃, o₃) n₃) (full 𝓤 (sliceTy (tyRef (named 1) mut (pointee ((Array u16 35) .written)))) l₂ (sliceVal (b₂, o₂) n₂) (full 𝓤 (sliceTy (tyRef (named 0) mut (pointee ((Array u64 5) .written)))) l₁ (sliceVal (b₁, o₁) n₁) (free 𝓤 Ran-l.mir l₀ ([])))))))))))))))))))))))))))))) (runs C Λ En (one mir.t-7) (anyQ (afterSeq 𝓤 H (Wp 𝓤 H C Λ En mir.t-8 (atReturn 𝓤 H En Post)) (atReturn 𝓤 H En Post))))
+    matched-7-Other-3 : (is-2 : Is (Parsed-p .row) (readAt (d) ((Cursor-of (r′ .at)) .at)) (Parsed-p .val (readAt (d) ((Cursor-of (r′ .at)) .at)) ∷ [])) → (is-4 : Is (Taken-p .row) (takenOf (readAt (d) ((Cursor-of (r′ .at)) .at)) n₆) (Taken-p .val (takenOf (readAt (d) ((Cursor-of (r′ .at)) .at)) n₆) ∷ [])) → (e-7 : ((takenOf (readAt (d) ((Cursor-of (r′ .at)) .at)) n₆) .asked) .opening ≡ Opening-Other) → (good-7 : Is (Opening-p .row) Opening-Other (Opening-p .val Opening-Other ∷ [])) → Sq W (‵ (MutSlice (named 0) κ₁ (Array u64 6) .own (at-list b₁ o₁ γ₁ sessions) (sliceVal (b₁, o₁) n₁ ∷ [])) ∷ ‵ (flft κ₁ q₁) ∷ ‵ (MutSlice (named 0) κ₂ (Array u16 35) .own (at-list b₂ o₂ γ₂ streams) (sliceVal (b₂, o₂) n₂ ∷ [])) ∷ ‵ (flft κ₂ q₂) ∷ ‵ (MutSlice (named 0) κ₃ Object-t.the-row .own (at-list b₃ o₃ γ₃ objects) (sliceVal (b₃, o₃) n₃ ∷ [])) ∷ ‵ (flft κ₃ q₃) ∷ ‵ (ShrSlice (named 0) κ₄ u8 .own (at-list b₄ o₄ γ₄ held) (sliceVal (b₄, o₄) n₄ ∷ [])) ∷ ‵ (flft κ₄ q₄) ∷ ‵ (MutSlice (named 0) κ₅ u8 .own (at-list b₅ o₅ γ₅ out) (sliceVal (b₅, o₅) n₅ ∷ [])) ∷ ‵ (flft κ₅ q₅) ∷ ‵ (ShrSlice (named 0) κ₆ u8 .own (at-list b₆ o₆ γ₆ d) (sliceVal (b₆, o₆) n₆ ∷ [])) ∷ ‵ (flft κ₆ q₆) ∷ free 𝓤 (sliceTy (tyRef erased mut (pointee (u8 .written)))) l₂₉ (free 𝓤 (tyRef erased mut (pointee (u8 .written))) l₂₈ (free 𝓤 (sliceTy (tyRef erased mut (pointee (Object-t.the-row .written)))) l₂₇ (free 𝓤 (tyRef erased mut (pointee (Object-t.the-row .written))) l₂₆ (free 𝓤 (sliceTy (tyRef erased mut (pointee ((Array u16 35) .written)))) l₂₅ (free 𝓤 (tyRef erased mut (pointee ((Array u16 35) .written))) l₂₄ (free 𝓤 (sliceTy (tyRef erased mut (pointee ((Array u64 6) .written)))) l₂₃ (free 𝓤 (tyRef erased mut (pointee ((Array u64 6) .written))) l₂₂ (free 𝓤 (sliceTy (tyRef erased mut (pointee (u8 .written)))) l₂₁ (free 𝓤 (tyRef erased mut (pointee (u8 .written))) l₂₀ (free 𝓤 (sliceTy (tyRef erased mut (pointee ((Array u16 35) .written)))) l₁₉ (free 𝓤 (tyRef erased mut (pointee ((Array u16 35) .written))) l₁₈ (free 𝓤 (sliceTy (tyRef erased mut (pointee ((Array u64 6) .written)))) l₁₇ (free 𝓤 (tyRef erased mut (pointee ((Array u64 6) .written))) l₁₆ (free 𝓤 Ran-l.mir l₁₅ (full 𝓤 (tyInt w64) l₁₄ (u64-p .val n₆) (full 𝓤 Opening-l.mir l₁₃ (Opening-p .val Opening-Other) (full 𝓤 Asked-l.mir l₁₂ (Asked-p .val ((takenOf (readAt (d) ((Cursor-of (r′ .at)) .at)) n₆) .asked)) (full 𝓤 Taken-l.mir l₁₁ (Taken-p .val (takenOf (readAt (d) ((Cursor-of (r′ .at)) .at)) n₆)) (full 𝓤 Parsed-l.mir l₁₀ (Parsed-p .val (readAt (d) ((Cursor-of (r′ .at)) .at))) (full 𝓤 Cursor-l.mir l₉ (Cursor-p .val (Cursor-of (r′ .at))) (full 𝓤 Ran-l.mir l₈ (Ran-p .val r′) (full 𝓤 Frame-l.mir l₇ (Frame-p .val f′) (full 𝓤 (sliceTy (tyRef (named 5) imm (pointee (u8 .written)))) l₆ (sliceVal (b₆, o₆) n₆) (full 𝓤 (sliceTy (tyRef (named 4) mut (pointee (u8 .written)))) l₅ (sliceVal (b₅, o₅) n₅) (full 𝓤 (sliceTy (tyRef (named 3) imm (pointee (u8 .written)))) l₄ (sliceVal (b₄, o₄) n₄) (full 𝓤 (sliceTy (tyRef (named 2) mut (pointee (Object-t.the-row .written)))) l₃ (sliceVal (b₃, o₃) n₃) (full 𝓤 (sliceTy (tyRef (named 1) mut (pointee ((Array u16 35) .written)))) l₂ (sliceVal (b₂, o₂) n₂) (full 𝓤 (sliceTy (tyRef (named 0) mut (pointee ((Array u64 6) .written)))) l₁ (sliceVal (b₁, o₁) n₁) (free 𝓤 Ran-l.mir l₀ ([]))))))))))))))))))))))))))))))) (runs C Λ En (one mir.t-7) (anyQ (afterSeq 𝓤 H (Wp 𝓤 H C Λ En mir.t-8 (atReturn 𝓤 H En Post)) (atReturn 𝓤 H En Post))))
     matched-7-Other-3 is-2 is-4 e-7 good-7 =
-        switches-on ! (load ! (from ! (vrt ! refl (fld ! refl (stop !)))) (look-tag ! 42 (whole !))) $ exec ! C Λ En (arm-of 1 (one mir.t-7)) (anyQ (afterSeq 𝓤 H (Wp 𝓤 H C Λ En mir.t-8 (atReturn 𝓤 H En Post)) (atReturn 𝓤 H En Post))) $
-        assigns ! (addr ! (from ! (fld ! refl (hop ! (look-in ! 64 (sub ! 0 refl (whole !))) (stop !))))) (from ! (stop !)) (init ! 24 refl (tt, tt)) $
-        assigns ! (agg ! (and-then ! (load ! (from ! (stop !)) (look ! 24 refl)) (and-then ! (load ! (from ! (fld ! refl (stop !))) (look-in ! 64 (sub ! 1 refl (whole !)))) (no-more !)))) (from ! (stop !)) (init ! 22 refl (tt, (tt, (record { fits = room₁ .0 }, tt)))) $
-        assigns ! (addr ! (from ! (fld ! refl (hop ! (look-in ! 62 (sub ! 0 refl (whole !))) (stop !))))) (from ! (stop !)) (init ! 20 refl (tt, tt)) $
-        assigns ! (agg ! (and-then ! (load ! (from ! (stop !)) (look ! 20 refl)) (and-then ! (load ! (from ! (fld ! refl (stop !))) (look-in ! 62 (sub ! 1 refl (whole !)))) (no-more !)))) (from ! (stop !)) (init ! 18 refl (tt, (tt, (record { fits = room₂ .0 }, tt)))) $
-        assigns ! (addr ! (from ! (fld ! refl (hop ! (look-in ! 60 (sub ! 0 refl (whole !))) (stop !))))) (from ! (stop !)) (init ! 16 refl (tt, tt)) $
-        assigns ! (agg ! (and-then ! (load ! (from ! (stop !)) (look ! 16 refl)) (and-then ! (load ! (from ! (fld ! refl (stop !))) (look-in ! 60 (sub ! 1 refl (whole !)))) (no-more !)))) (from ! (stop !)) (init ! 14 refl (tt, (tt, (record { fits = room₃ .0 }, tt)))) $
-        assigns ! (addr ! (from ! (fld ! refl (hop ! (look-in ! 58 (sub ! 0 refl (whole !))) (stop !))))) (from ! (stop !)) (init ! 12 refl (tt, tt)) $
-        assigns ! (agg ! (and-then ! (load ! (from ! (stop !)) (look ! 12 refl)) (and-then ! (load ! (from ! (fld ! refl (stop !))) (look-in ! 58 (sub ! 1 refl (whole !)))) (no-more !)))) (from ! (stop !)) (init ! 10 refl (tt, (tt, (record { fits = room₄ .0 }, tt)))) $
-        knows ! (r′ .wrote ≤ 18446744073709551600) (omega (arith, ltb-true, ltb-false, leb-true, leb-false, eqb-true, eqb-false)) (λ asks-7·Other·9.
+        switches-on ! (load ! (from ! (vrt ! refl (fld ! refl (stop !)))) (look-tag ! 44 (whole !))) $ exec ! C Λ En (arm-of 1 (one mir.t-7)) (anyQ (afterSeq 𝓤 H (Wp 𝓤 H C Λ En mir.t-8 (atReturn 𝓤 H En Post)) (atReturn 𝓤 H En Post))) $
+        assigns ! (addr ! (from ! (fld ! refl (hop ! (look-in ! 68 (sub ! 0 refl (whole !))) (stop !))))) (from ! (stop !)) (init ! 26 refl (tt, tt)) $
+        assigns ! (agg ! (and-then ! (load ! (from ! (stop !)) (look ! 26 refl)) (and-then ! (load ! (from ! (fld ! refl (stop !))) (look-in ! 68 (sub ! 1 refl (whole !)))) (no-more !)))) (from ! (stop !)) (init ! 24 refl (tt, (tt, (record { fits = room₁ .0 }, tt)))) $
+        assigns ! (addr ! (from ! (fld ! refl (hop ! (look-in ! 66 (sub ! 0 refl (whole !))) (stop !))))) (from ! (stop !)) (init ! 22 refl (tt, tt)) $
+        assigns ! (agg ! (and-then ! (load ! (from ! (stop !)) (look ! 22 refl)) (and-then ! (load ! (from ! (fld ! refl (stop !))) (look-in ! 66 (sub ! 1 refl (whole !)))) (no-more !)))) (from ! (stop !)) (init ! 20 refl (tt, (tt, (record { fits = room₂ .0 }, tt)))) $
+        assigns ! (addr ! (from ! (fld ! refl (hop ! (look-in ! 64 (sub ! 0 refl (whole !))) (stop !))))) (from ! (stop !)) (init ! 18 refl (tt, tt)) $
+        assigns ! (agg ! (and-then ! (load ! (from ! (stop !)) (look ! 18 refl)) (and-then ! (load ! (from ! (fld ! refl (stop !))) (look-in ! 64 (sub ! 1 refl (whole !)))) (no-more !)))) (from ! (stop !)) (init ! 16 refl (tt, (tt, (record { fits = room₃ .0 }, tt)))) $
+        assigns ! (addr ! (from ! (fld ! refl (hop ! (look-in ! 60 (sub ! 0 refl (whole !))) (stop !))))) (from ! (stop !)) (init ! 14 refl (tt, tt)) $
+        assigns ! (agg ! (and-then ! (load ! (from ! (stop !)) (look ! 14 refl)) (and-then ! (load ! (from ! (fld ! refl (stop !))) (look-in ! 60 (sub ! 1 refl (whole !)))) (no-more !)))) (from ! (stop !)) (init ! 12 refl (tt, (tt, (record { fits = room₅ .0 }, tt)))) $
+        knows ! (f′ .room ≤ 9223372036854775807) (omega (arith, ltb-true, ltb-false, leb-true, leb-false, eqb-true, eqb-false)) (λ asks-7·Other·9.
         -- 7.Other.9: agent::turn::deliver
-        lends-mut ! tt (Array u64 5) b₁ o₁ sessions n₁ (refl) (λ ν-7·Other·9-sessions δ-7·Other·9-sessions.
+        lends-mut ! tt (Array u64 6) b₁ o₁ sessions n₁ (refl) (λ ν-7·Other·9-sessions δ-7·Other·9-sessions.
         move ! (3 ∷ 4 ∷ []) $
         lends-mut ! tt (Array u16 35) b₂ o₂ streams n₂ (refl) (λ ν-7·Other·9-streams δ-7·Other·9-streams.
         move ! (6 ∷ 7 ∷ []) $
         lends-mut ! tt Object-t.the-row b₃ o₃ objects n₃ (refl) (λ ν-7·Other·9-objects δ-7·Other·9-objects.
         move ! (9 ∷ 10 ∷ []) $
-        lends-mut ! tt u8 b₄ o₄ out n₄ (refl) (λ ν-7·Other·9-out δ-7·Other·9-out.
-        move ! (12 ∷ 13 ∷ []) $
-        copies-shr ! u8 b₅ o₅ d n₅ $ nothing ! $ move ! (1 ∷ 0 ∷ []) $ join ! $ move ! (3 ∷ 0 ∷ []) $ join ! $ move ! (5 ∷ 0 ∷ []) $ join ! $ move ! (7 ∷ 0 ∷ []) $ join ! $ move ! (9 ∷ 0 ∷ []) $ join ! $
-        use1 W (raw (toks 𝓤 A 5 (((ν-7·Other·9-sessions ∷ []), ((ν-7·Other·9-streams ∷ []), ((ν-7·Other·9-objects ∷ []), ((ν-7·Other·9-out ∷ []), (κ₅, tt)))))) ((fullShare, (fullShare, (fullShare, (fullShare, (q₅, tt)))))))) (id⊢ 𝓤 _) $ nothing ! $
-        owned ! (Taken-p .row) (Is (Taken-p .row)) (Taken-p .makes 𝓤 H A W) (takenOf (readAt (d) ((Cursor-of (r′ .at)) .at)) n₅) (Taken-p .val (takenOf (readAt (d) ((Cursor-of (r′ .at)) .at)) n₅) ∷ []) is-4 $ fjoin ! $
+        copies-shr ! u8 b₄ o₄ held n₄ $ move ! (12 ∷ 13 ∷ []) $
+        lends-mut ! tt u8 b₅ o₅ out n₅ (refl) (λ ν-7·Other·9-out δ-7·Other·9-out.
+        move ! (15 ∷ 16 ∷ []) $
+        copies-shr ! u8 b₆ o₆ d n₆ $ nothing ! $ move ! (1 ∷ 0 ∷ []) $ join ! $ move ! (3 ∷ 0 ∷ []) $ join ! $ move ! (5 ∷ 0 ∷ []) $ join ! $ move ! (7 ∷ 0 ∷ []) $ join ! $ move ! (9 ∷ 0 ∷ []) $ join ! $ move ! (11 ∷ 0 ∷ []) $ join ! $
+        use1 W (raw (toks 𝓤 A 6 (((ν-7·Other·9-sessions ∷ []), ((ν-7·Other·9-streams ∷ []), ((ν-7·Other·9-objects ∷ []), (κ₄, ((ν-7·Other·9-out ∷ []), (κ₆, tt))))))) ((fullShare, (fullShare, (fullShare, (q₄, (fullShare, (q₆, tt))))))))) (id⊢ 𝓤 _) $ nothing ! $
+        owned ! (Taken-p .row) (Is (Taken-p .row)) (Taken-p .makes 𝓤 H A W) (takenOf (readAt (d) ((Cursor-of (r′ .at)) .at)) n₆) (Taken-p .val (takenOf (readAt (d) ((Cursor-of (r′ .at)) .at)) n₆) ∷ []) is-4 $ fjoin ! $
         owned ! (Ran-p .row) (Is (Ran-p .row)) (Ran-p .makes 𝓤 H A W) r′ (Ran-p .val r′ ∷ []) r′-is $ fjoin ! $
-        owned ! (Frame-p .row) (Is (Frame-p .row)) (Frame-p .makes 𝓤 H A W) f′ (Frame-p .val f′ ∷ []) f′-is $ fjoin ! $ move ! (2 ∷ 0 ∷ []) $ fjoin ! $ move ! (3 ∷ 0 ∷ []) $ fjoin ! $ move ! (4 ∷ 0 ∷ []) $ fjoin ! $ move ! (5 ∷ 0 ∷ []) $ fjoin ! $ move ! (6 ∷ 0 ∷ []) $ fjoin ! $ move ! (1 ∷ 0 ∷ []) $
-        calls-any-last ! fm 5 [] (turn-deliver.signature .params) (turn-deliver.ended .kept) Ran-p (turn-deliver.clauses 𝓤 H A mem run) known-turn-deliver ((ν-7·Other·9-sessions ∷ []), ((ν-7·Other·9-streams ∷ []), ((ν-7·Other·9-objects ∷ []), ((ν-7·Other·9-out ∷ []), (κ₅, tt))))) (fullShare, (fullShare, (fullShare, (fullShare, (q₅, tt))))) tt (at-list b₁ o₁ δ-7·Other·9-sessions sessions, (at-list b₂ o₂ δ-7·Other·9-streams streams, (at-list b₃ o₃ δ-7·Other·9-objects objects, (at-list b₄ o₄ δ-7·Other·9-out out, (at-list b₅ o₅ γ₅ d, (f′, (r′, (takenOf (readAt (d) ((Cursor-of (r′ .at)) .at)) n₅, tt)))))))) (sliceVal (b₁, o₁) n₁ ∷ [], (sliceVal (b₂, o₂) n₂ ∷ [], (sliceVal (b₃, o₃) n₃ ∷ [], (sliceVal (b₄, o₄) n₄ ∷ [], (sliceVal (b₅, o₅) n₅ ∷ [], (Frame-p .val f′ ∷ [], (Ran-p .val r′ ∷ [], (Taken-p .val (takenOf (readAt (d) ((Cursor-of (r′ .at)) .at)) n₅) ∷ [], tt)))))))) tt (delivered (namedOf (sessions) (f′ .«session_id»)) f′ (lent (sessions) (streams) (objects)) (d) r′ (takenOf (readAt (d) ((Cursor-of (r′ .at)) .at)) n₅) .ran) (λ ws-7·Other·9. (ws-7·Other·9 .0 ≡ delivered (namedOf (sessions) (f′ .«session_id»)) f′ (lent (sessions) (streams) (objects)) (d) r′ (takenOf (readAt (d) ((Cursor-of (r′ .at)) .at)) n₅) .tables .sessions) × (ws-7·Other·9 .1 .0 ≡ delivered (namedOf (sessions) (f′ .«session_id»)) f′ (lent (sessions) (streams) (objects)) (d) r′ (takenOf (readAt (d) ((Cursor-of (r′ .at)) .at)) n₅) .tables .streams) × (ws-7·Other·9 .1 .1 .0 ≡ delivered (namedOf (sessions) (f′ .«session_id»)) f′ (lent (sessions) (streams) (objects)) (d) r′ (takenOf (readAt (d) ((Cursor-of (r′ .at)) .at)) n₅) .tables .objects) × (ws-7·Other·9 .1 .1 .1 .0 ≡ putReplies (out) (r′ .wrote) (delivered (namedOf (sessions) (f′ .«session_id»)) f′ (lent (sessions) (streams) (objects)) (d) r′ (takenOf (readAt (d) ((Cursor-of (r′ .at)) .at)) n₅) .replies))) (factI 𝓤 (r′ .wrote ≤ 18446744073709551600) _ asks-7·Other·9) (λ r ws-7·Other·9. fact-mono 𝓤 ((r ≡ delivered (namedOf (sessions) (f′ .«session_id»)) f′ (lent (sessions) (streams) (objects)) (d) r′ (takenOf (readAt (d) ((Cursor-of (r′ .at)) .at)) n₅) .ran) × ((ws-7·Other·9 .0) ≡ delivered (namedOf (sessions) (f′ .«session_id»)) f′ (lent (sessions) (streams) (objects)) (d) r′ (takenOf (readAt (d) ((Cursor-of (r′ .at)) .at)) n₅) .tables .sessions) × ((ws-7·Other·9 .1 .0) ≡ delivered (namedOf (sessions) (f′ .«session_id»)) f′ (lent (sessions) (streams) (objects)) (d) r′ (takenOf (readAt (d) ((Cursor-of (r′ .at)) .at)) n₅) .tables .streams) × ((ws-7·Other·9 .1 .1 .0) ≡ delivered (namedOf (sessions) (f′ .«session_id»)) f′ (lent (sessions) (streams) (objects)) (d) r′ (takenOf (readAt (d) ((Cursor-of (r′ .at)) .at)) n₅) .tables .objects) × ((ws-7·Other·9 .1 .1 .1 .0) ≡ putReplies (out) (r′ .wrote) (delivered (namedOf (sessions) (f′ .«session_id»)) f′ (lent (sessions) (streams) (objects)) (d) r′ (takenOf (readAt (d) ((Cursor-of (r′ .at)) .at)) n₅) .replies))) ((r ≡ (delivered (namedOf (sessions) (f′ .«session_id»)) f′ (lent (sessions) (streams) (objects)) (d) r′ (takenOf (readAt (d) ((Cursor-of (r′ .at)) .at)) n₅) .ran)) × ((ws-7·Other·9 .0 ≡ delivered (namedOf (sessions) (f′ .«session_id»)) f′ (lent (sessions) (streams) (objects)) (d) r′ (takenOf (readAt (d) ((Cursor-of (r′ .at)) .at)) n₅) .tables .sessions) × (ws-7·Other·9 .1 .0 ≡ delivered (namedOf (sessions) (f′ .«session_id»)) f′ (lent (sessions) (streams) (objects)) (d) r′ (takenOf (readAt (d) ((Cursor-of (r′ .at)) .at)) n₅) .tables .streams) × (ws-7·Other·9 .1 .1 .0 ≡ delivered (namedOf (sessions) (f′ .«session_id»)) f′ (lent (sessions) (streams) (objects)) (d) r′ (takenOf (readAt (d) ((Cursor-of (r′ .at)) .at)) n₅) .tables .objects) × (ws-7·Other·9 .1 .1 .1 .0 ≡ putReplies (out) (r′ .wrote) (delivered (namedOf (sessions) (f′ .«session_id»)) f′ (lent (sessions) (streams) (objects)) (d) r′ (takenOf (readAt (d) ((Cursor-of (r′ .at)) .at)) n₅) .replies)))) (λ e. (e .0, (e .1, e .2, e .3, e .4)))) (λ _. (and-then ! (load ! (from ! (stop !)) (look ! 18 refl)) (and-then ! (load ! (from ! (stop !)) (look ! 14 refl)) (and-then ! (load ! (from ! (stop !)) (look ! 10 refl)) (and-then ! (load ! (from ! (stop !)) (look ! 6 refl)) (and-then ! (load ! (from ! (stop !)) (look ! 52 refl)) (and-then ! (load ! (from ! (stop !)) (look ! 50 refl)) (and-then ! (load ! (from ! (stop !)) (look ! 48 refl)) (and-then ! (load ! (from ! (stop !)) (look ! 42 refl)) (no-more !)))))))))) (λ ws-7·Other·9 said-7·Other·9 is-7·Other·9.
-        use1 W ((‵ (flft (ν-7·Other·9-sessions ∷ []) fullShare) ⊛ (‵ (flft (ν-7·Other·9-streams ∷ []) fullShare) ⊛ (‵ (flft (ν-7·Other·9-objects ∷ []) fullShare) ⊛ (‵ (flft (ν-7·Other·9-out ∷ []) fullShare) ⊛ (‵ (flft κ₅ q₅) ⊛ ‵ ftrue)))))) (id⊢ 𝓤 _) $ split ! $ move ! (1 ∷ []) $ split ! $ move ! (1 ∷ []) $ split ! $ move ! (1 ∷ []) $ split ! $ move ! (1 ∷ []) $ split ! $ move ! (6 ∷ []) $ fsplit ! $ fsplit ! $ move ! (1 ∷ []) $
+        owned ! (Frame-p .row) (Is (Frame-p .row)) (Frame-p .makes 𝓤 H A W) f′ (Frame-p .val f′ ∷ []) f′-is $ fjoin ! $ move ! (2 ∷ 0 ∷ []) $ fjoin ! $ move ! (3 ∷ 0 ∷ []) $ fjoin ! $ move ! (4 ∷ 0 ∷ []) $ fjoin ! $ move ! (5 ∷ 0 ∷ []) $ fjoin ! $ move ! (6 ∷ 0 ∷ []) $ fjoin ! $ move ! (7 ∷ 0 ∷ []) $ fjoin ! $ move ! (1 ∷ 0 ∷ []) $
+        calls-any-last ! fm 6 [] (turn-deliver.signature .params) (turn-deliver.ended .kept) Ran-p (turn-deliver.clauses 𝓤 H A mem run) known-turn-deliver ((ν-7·Other·9-sessions ∷ []), ((ν-7·Other·9-streams ∷ []), ((ν-7·Other·9-objects ∷ []), (κ₄, ((ν-7·Other·9-out ∷ []), (κ₆, tt)))))) (fullShare, (fullShare, (fullShare, (q₄, (fullShare, (q₆, tt)))))) tt (at-list b₁ o₁ δ-7·Other·9-sessions sessions, (at-list b₂ o₂ δ-7·Other·9-streams streams, (at-list b₃ o₃ δ-7·Other·9-objects objects, (at-list b₄ o₄ γ₄ held, (at-list b₅ o₅ δ-7·Other·9-out out, (at-list b₆ o₆ γ₆ d, (f′, (r′, (takenOf (readAt (d) ((Cursor-of (r′ .at)) .at)) n₆, tt))))))))) (sliceVal (b₁, o₁) n₁ ∷ [], (sliceVal (b₂, o₂) n₂ ∷ [], (sliceVal (b₃, o₃) n₃ ∷ [], (sliceVal (b₄, o₄) n₄ ∷ [], (sliceVal (b₅, o₅) n₅ ∷ [], (sliceVal (b₆, o₆) n₆ ∷ [], (Frame-p .val f′ ∷ [], (Ran-p .val r′ ∷ [], (Taken-p .val (takenOf (readAt (d) ((Cursor-of (r′ .at)) .at)) n₆) ∷ [], tt))))))))) tt (delivered (namedOf (sessions) (f′ .«session_id»)) f′ (lent (sessions) (streams) (objects) (held)) (d) r′ (takenOf (readAt (d) ((Cursor-of (r′ .at)) .at)) n₆) .ran) (λ ws-7·Other·9. (ws-7·Other·9 .0 ≡ delivered (namedOf (sessions) (f′ .«session_id»)) f′ (lent (sessions) (streams) (objects) (held)) (d) r′ (takenOf (readAt (d) ((Cursor-of (r′ .at)) .at)) n₆) .tables .sessions) × (ws-7·Other·9 .1 .0 ≡ delivered (namedOf (sessions) (f′ .«session_id»)) f′ (lent (sessions) (streams) (objects) (held)) (d) r′ (takenOf (readAt (d) ((Cursor-of (r′ .at)) .at)) n₆) .tables .streams) × (ws-7·Other·9 .1 .1 .0 ≡ delivered (namedOf (sessions) (f′ .«session_id»)) f′ (lent (sessions) (streams) (objects) (held)) (d) r′ (takenOf (readAt (d) ((Cursor-of (r′ .at)) .at)) n₆) .tables .objects) × (ws-7·Other·9 .1 .1 .1 .1 .0 ≡ putReplies (f′ .room) (out) (r′ .wrote) (delivered (namedOf (sessions) (f′ .«session_id»)) f′ (lent (sessions) (streams) (objects) (held)) (d) r′ (takenOf (readAt (d) ((Cursor-of (r′ .at)) .at)) n₆) .replies))) (factI 𝓤 (f′ .room ≤ 9223372036854775807) _ asks-7·Other·9) (λ r ws-7·Other·9. fact-mono 𝓤 ((r ≡ delivered (namedOf (sessions) (f′ .«session_id»)) f′ (lent (sessions) (streams) (objects) (held)) (d) r′ (takenOf (readAt (d) ((Cursor-of (r′ .at)) .at)) n₆) .ran) × ((ws-7·Other·9 .0) ≡ delivered (namedOf (sessions) (f′ .«session_id»)) f′ (lent (sessions) (streams) (objects) (held)) (d) r′ (takenOf (readAt (d) ((Cursor-of (r′ .at)) .at)) n₆) .tables .sessions) × ((ws-7·Other·9 .1 .0) ≡ delivered (namedOf (sessions) (f′ .«session_id»)) f′ (lent (sessions) (streams) (objects) (held)) (d) r′ (takenOf (readAt (d) ((Cursor-of (r′ .at)) .at)) n₆) .tables .streams) × ((ws-7·Other·9 .1 .1 .0) ≡ delivered (namedOf (sessions) (f′ .«session_id»)) f′ (lent (sessions) (streams) (objects) (held)) (d) r′ (takenOf (readAt (d) ((Cursor-of (r′ .at)) .at)) n₆) .tables .objects) × ((ws-7·Other·9 .1 .1 .1 .1 .0) ≡ putReplies (f′ .room) (out) (r′ .wrote) (delivered (namedOf (sessions) (f′ .«session_id»)) f′ (lent (sessions) (streams) (objects) (held)) (d) r′ (takenOf (readAt (d) ((Cursor-of (r′ .at)) .at)) n₆) .replies))) ((r ≡ (delivered (namedOf (sessions) (f′ .«session_id»)) f′ (lent (sessions) (streams) (objects) (held)) (d) r′ (takenOf (readAt (d) ((Cursor-of (r′ .at)) .at)) n₆) .ran)) × ((ws-7·Other·9 .0 ≡ delivered (namedOf (sessions) (f′ .«session_id»)) f′ (lent (sessions) (streams) (objects) (held)) (d) r′ (takenOf (readAt (d) ((Cursor-of (r′ .at)) .at)) n₆) .tables .sessions) × (ws-7·Other·9 .1 .0 ≡ delivered (namedOf (sessions) (f′ .«session_id»)) f′ (lent (sessions) (streams) (objects) (held)) (d) r′ (takenOf (readAt (d) ((Cursor-of (r′ .at)) .at)) n₆) .tables .streams) × (ws-7·Other·9 .1 .1 .0 ≡ delivered (namedOf (sessions) (f′ .«session_id»)) f′ (lent (sessions) (streams) (objects) (held)) (d) r′ (takenOf (readAt (d) ((Cursor-of (r′ .at)) .at)) n₆) .tables .objects) × (ws-7·Other·9 .1 .1 .1 .1 .0 ≡ putReplies (f′ .room) (out) (r′ .wrote) (delivered (namedOf (sessions) (f′ .«session_id»)) f′ (lent (sessions) (streams) (objects) (held)) (d) r′ (takenOf (readAt (d) ((Cursor-of (r′ .at)) .at)) n₆) .replies)))) (λ e. (e .0, (e .1, e .2, e .3, e .4)))) (λ _. (and-then ! (load ! (from ! (stop !)) (look ! 19 refl)) (and-then ! (load ! (from ! (stop !)) (look ! 15 refl)) (and-then ! (load ! (from ! (stop !)) (look ! 11 refl)) (and-then ! (load ! (from ! (stop !)) (look ! 57 refl)) (and-then ! (load ! (from ! (stop !)) (look ! 7 refl)) (and-then ! (load ! (from ! (stop !)) (look ! 53 refl)) (and-then ! (load ! (from ! (stop !)) (look ! 51 refl)) (and-then ! (load ! (from ! (stop !)) (look ! 49 refl)) (and-then ! (load ! (from ! (stop !)) (look ! 43 refl)) (no-more !))))))))))) (λ ws-7·Other·9 said-7·Other·9 is-7·Other·9.
+        use1 W ((‵ (flft (ν-7·Other·9-sessions ∷ []) fullShare) ⊛ (‵ (flft (ν-7·Other·9-streams ∷ []) fullShare) ⊛ (‵ (flft (ν-7·Other·9-objects ∷ []) fullShare) ⊛ (‵ (flft κ₄ q₄) ⊛ (‵ (flft (ν-7·Other·9-out ∷ []) fullShare) ⊛ (‵ (flft κ₆ q₆) ⊛ ‵ ftrue))))))) (id⊢ 𝓤 _) $ split ! $ move ! (1 ∷ []) $ split ! $ move ! (1 ∷ []) $ split ! $ move ! (1 ∷ []) $ split ! $ move ! (1 ∷ []) $ split ! $ move ! (1 ∷ []) $ split ! $ move ! (7 ∷ []) $ fsplit ! $ fsplit ! $ move ! (1 ∷ []) $
         feqL ! (λ wlen-7·Other·9-0.
         move ! (1 ∷ []) $ fsplit ! $ fsplit ! $ move ! (1 ∷ []) $
         feqL ! (λ wlen-7·Other·9-1.
         move ! (1 ∷ []) $ fsplit ! $ fsplit ! $ move ! (1 ∷ []) $
         feqL ! (λ wlen-7·Other·9-2.
-        move ! (1 ∷ []) $ fsplit ! $ fsplit ! $ move ! (1 ∷ []) $
-        feqL ! (λ wlen-7·Other·9-3.
-        move ! (1 ∷ []) $ fsplit ! $ move ! (11 ∷ 16 ∷ 5 ∷ []) $
-        backs-mut ! tt (Array u64 5) b₁ o₁ sessions n₁ (refl) room₁ ν-7·Other·9-sessions δ-7·Other·9-sessions (ws-7·Other·9 .0) (delivered (namedOf (sessions) (f′ .«session_id»)) f′ (lent (sessions) (streams) (objects)) (d) r′ (takenOf (readAt (d) ((Cursor-of (r′ .at)) .at)) n₅) .tables .sessions) wlen-7·Other·9-0 (said-7·Other·9 .0) (λ len-7·Other·9-sessions.
-        move ! (11 ∷ 15 ∷ 6 ∷ []) $
-        backs-mut ! tt (Array u16 35) b₂ o₂ streams n₂ (refl) room₂ ν-7·Other·9-streams δ-7·Other·9-streams (ws-7·Other·9 .1 .0) (delivered (namedOf (sessions) (f′ .«session_id»)) f′ (lent (sessions) (streams) (objects)) (d) r′ (takenOf (readAt (d) ((Cursor-of (r′ .at)) .at)) n₅) .tables .streams) wlen-7·Other·9-1 (said-7·Other·9 .1) (λ len-7·Other·9-streams.
-        move ! (11 ∷ 14 ∷ 7 ∷ []) $
-        backs-mut ! tt Object-t.the-row b₃ o₃ objects n₃ (refl) room₃ ν-7·Other·9-objects δ-7·Other·9-objects (ws-7·Other·9 .1 .1 .0) (delivered (namedOf (sessions) (f′ .«session_id»)) f′ (lent (sessions) (streams) (objects)) (d) r′ (takenOf (readAt (d) ((Cursor-of (r′ .at)) .at)) n₅) .tables .objects) wlen-7·Other·9-2 (said-7·Other·9 .2) (λ len-7·Other·9-objects.
-        move ! (11 ∷ 13 ∷ 8 ∷ []) $
-        backs-mut ! tt u8 b₄ o₄ out n₄ (refl) room₄ ν-7·Other·9-out δ-7·Other·9-out (ws-7·Other·9 .1 .1 .1 .0) (putReplies (out) (r′ .wrote) (delivered (namedOf (sessions) (f′ .«session_id»)) f′ (lent (sessions) (streams) (objects)) (d) r′ (takenOf (readAt (d) ((Cursor-of (r′ .at)) .at)) n₅) .replies)) wlen-7·Other·9-3 (said-7·Other·9 .3) (λ len-7·Other·9-out.
-        move ! (8 ∷ []) $ drop ! $ move ! (8 ∷ []) $ drop ! $ move ! (9 ∷ []) $ drop ! $
-        land-last ! (from ! (stop !)) (init ! 38 refl (Ran-p .typed 𝓤 H A W (delivered (namedOf (sessions) (f′ .«session_id»)) f′ (lent (sessions) (streams) (objects)) (d) r′ (takenOf (readAt (d) ((Cursor-of (r′ .at)) .at)) n₅) .ran) is-7·Other·9)) $
-        exec ! C Λ En mir.t-8 (atRet En Post) $ move ! (6 ∷ 7 ∷ 4 ∷ 5 ∷ 2 ∷ 3 ∷ 0 ∷ 1 ∷ 9 ∷ 8 ∷ 10 ∷ 11 ∷ 12 ∷ 13 ∷ 14 ∷ 15 ∷ 16 ∷ 17 ∷ 18 ∷ 19 ∷ 20 ∷ 21 ∷ 22 ∷ 23 ∷ 24 ∷ 25 ∷ 26 ∷ 27 ∷ 28 ∷ 29 ∷ 30 ∷ 31 ∷ 32 ∷ 33 ∷ 34 ∷ 35 ∷ 36 ∷ 37 ∷ 38 ∷ 39 ∷ 40 ∷ 41 ∷ 42 ∷ 43 ∷ 44 ∷ 45 ∷ 46 ∷ 47 ∷ 48 ∷ 49 ∷ 50 ∷ 51 ∷ 52 ∷ 53 ∷ 54 ∷ 55 ∷ 56 ∷ 57 ∷ 58 ∷ 59 ∷ 60 ∷ 61 ∷ 62 ∷ 63 ∷ 64 ∷ 65 ∷ 66 ∷ 67 ∷ []) $
+        move ! (1 ∷ []) $ fsplit ! $ move ! (1 ∷ []) $ fsplit ! $ fsplit ! $ move ! (1 ∷ []) $
+        feqL ! (λ wlen-7·Other·9-4.
+        move ! (1 ∷ []) $ fsplit ! $ move ! (13 ∷ 19 ∷ 6 ∷ []) $
+        backs-mut ! tt (Array u64 6) b₁ o₁ sessions n₁ (refl) room₁ ν-7·Other·9-sessions δ-7·Other·9-sessions (ws-7·Other·9 .0) (delivered (namedOf (sessions) (f′ .«session_id»)) f′ (lent (sessions) (streams) (objects) (held)) (d) r′ (takenOf (readAt (d) ((Cursor-of (r′ .at)) .at)) n₆) .tables .sessions) wlen-7·Other·9-0 (said-7·Other·9 .0) (λ len-7·Other·9-sessions.
+        move ! (13 ∷ 18 ∷ 7 ∷ []) $
+        backs-mut ! tt (Array u16 35) b₂ o₂ streams n₂ (refl) room₂ ν-7·Other·9-streams δ-7·Other·9-streams (ws-7·Other·9 .1 .0) (delivered (namedOf (sessions) (f′ .«session_id»)) f′ (lent (sessions) (streams) (objects) (held)) (d) r′ (takenOf (readAt (d) ((Cursor-of (r′ .at)) .at)) n₆) .tables .streams) wlen-7·Other·9-1 (said-7·Other·9 .1) (λ len-7·Other·9-streams.
+        move ! (13 ∷ 17 ∷ 8 ∷ []) $
+        backs-mut ! tt Object-t.the-row b₃ o₃ objects n₃ (refl) room₃ ν-7·Other·9-objects δ-7·Other·9-objects (ws-7·Other·9 .1 .1 .0) (delivered (namedOf (sessions) (f′ .«session_id»)) f′ (lent (sessions) (streams) (objects) (held)) (d) r′ (takenOf (readAt (d) ((Cursor-of (r′ .at)) .at)) n₆) .tables .objects) wlen-7·Other·9-2 (said-7·Other·9 .2) (λ len-7·Other·9-objects.
+        move ! (12 ∷ 15 ∷ 8 ∷ []) $
+        backs-mut ! tt u8 b₅ o₅ out n₅ (refl) room₅ ν-7·Other·9-out δ-7·Other·9-out (ws-7·Other·9 .1 .1 .1 .1 .0) (putReplies (f′ .room) (out) (r′ .wrote) (delivered (namedOf (sessions) (f′ .«session_id»)) f′ (lent (sessions) (streams) (objects) (held)) (d) r′ (takenOf (readAt (d) ((Cursor-of (r′ .at)) .at)) n₆) .replies)) wlen-7·Other·9-4 (said-7·Other·9 .3) (λ len-7·Other·9-out.
+        move ! (8 ∷ []) $ drop ! $ move ! (8 ∷ []) $ drop ! $ move ! (8 ∷ []) $ drop ! $ move ! (9 ∷ []) $ drop ! $
+        land-last ! (from ! (stop !)) (init ! 40 refl (Ran-p .typed 𝓤 H A W (delivered (namedOf (sessions) (f′ .«session_id»)) f′ (lent (sessions) (streams) (objects) (held)) (d) r′ (takenOf (readAt (d) ((Cursor-of (r′ .at)) .at)) n₆) .ran) is-7·Other·9)) $
+        exec ! C Λ En mir.t-8 (atRet En Post) $ move ! (6 ∷ 7 ∷ 4 ∷ 5 ∷ 2 ∷ 3 ∷ 11 ∷ 9 ∷ 0 ∷ 1 ∷ 10 ∷ 8 ∷ 12 ∷ 13 ∷ 14 ∷ 15 ∷ 16 ∷ 17 ∷ 18 ∷ 19 ∷ 20 ∷ 21 ∷ 22 ∷ 23 ∷ 24 ∷ 25 ∷ 26 ∷ 27 ∷ 28 ∷ 29 ∷ 30 ∷ 31 ∷ 32 ∷ 33 ∷ 34 ∷ 35 ∷ 36 ∷ 37 ∷ 38 ∷ 39 ∷ 40 ∷ 41 ∷ 42 ∷ 43 ∷ 44 ∷ 45 ∷ 46 ∷ 47 ∷ 48 ∷ 49 ∷ 50 ∷ 51 ∷ 52 ∷ 53 ∷ 54 ∷ 55 ∷ 56 ∷ 57 ∷ 58 ∷ 59 ∷ 60 ∷ 61 ∷ 62 ∷ 63 ∷ 64 ∷ 65 ∷ 66 ∷ 67 ∷ 68 ∷ 69 ∷ 70 ∷ 71 ∷ []) $
         part-8-3 is-2 is-4 e-7 good-7 asks-7·Other·9 len-7·Other·9-sessions len-7·Other·9-streams len-7·Other·9-objects len-7·Other·9-out is-7·Other·9))))))))))))))
 
-    part-8-5 : (is-2 : Is (Parsed-p .row) (readAt (d) ((Cursor-of (r′ .at)) .at)) (Parsed-p .val (readAt (d) ((Cursor-of (r′ .at)) .at)) ∷ [])) → (is-4 : Is (Taken-p .row) (takenOf (readAt (d) ((Cursor-of (r′ .at)) .at)) n₅) (Taken-p .val (takenOf (readAt (d) ((Cursor-of (r′ .at)) .at)) n₅) ∷ [])) → (e-7 : ((takenOf (readAt (d) ((Cursor-of (r′ .at)) .at)) n₅) .asked) .opening ≡ Opening-Unread) → (good-7 : Is (Opening-p .row) Opening-Unread (Opening-p .val Opening-Unread ∷ [])) → (is-7·Unread·1 : Is (Ran-p .row) (passed r′ ((takenOf (readAt (d) ((Cursor-of (r′ .at)) .at)) n₅) .at)) (Ran-p .val (passed r′ ((takenOf (readAt (d) ((Cursor-of (r′ .at)) .at)) n₅) .at)) ∷ [])) → Sq W (‵ (MutSlice (named 0) κ₁ (Array u64 5) .own (at-list b₁ o₁ γ₁ sessions) (sliceVal (b₁, o₁) n₁ ∷ [])) ∷ ‵ (flft κ₁ q₁) ∷ ‵ (MutSlice (named 0) κ₂ (Array u16 35) .own (at-list b₂ o₂ γ₂ streams) (sliceVal (b₂, o₂) n₂ ∷ [])) ∷ ‵ (flft κ₂ q₂) ∷ ‵ (MutSlice (named 0) κ₃ Object-t.the-row .own (at-list b₃ o₃ γ₃ objects) (sliceVal (b₃, o₃) n₃ ∷ [])) ∷ ‵ (flft κ₃ q₃) ∷ ‵ (MutSlice (named 0) κ₄ u8 .own (at-list b₄ o₄ γ₄ out) (sliceVal (b₄, o₄) n₄ ∷ [])) ∷ ‵ (flft κ₄ q₄) ∷ ‵ (ShrSlice (named 0) κ₅ u8 .own (at-list b₅ o₅ γ₅ d) (sliceVal (b₅, o₅) n₅ ∷ [])) ∷ ‵ (flft κ₅ q₅) ∷ free 𝓤 (sliceTy (tyRef erased mut (pointee (u8 .written)))) l₂₈ (free 𝓤 (tyRef erased mut (pointee (u8 .written))) l₂₇ (free 𝓤 (sliceTy (tyRef erased mut (pointee (Object-t.the-row .written)))) l₂₆ (free 𝓤 (tyRef erased mut (pointee (Object-t.the-row .written))) l₂₅ (free 𝓤 (sliceTy (tyRef erased mut (pointee ((Array u16 35) .written)))) l₂₄ (free 𝓤 (tyRef erased mut (pointee ((Array u16 35) .written))) l₂₃ (free 𝓤 (sliceTy (tyRef erased mut (pointee ((Array u64 5) .written)))) l₂₂ (free 𝓤 (tyRef erased mut (pointee ((Array u64 5) .written))) l₂₁ (free 𝓤 (sliceTy (tyRef erased mut (pointee (u8 .written)))) l₂₀ (free 𝓤 (tyRef erased mut (pointee (u8 .written))) l₁₉ (free 𝓤 (sliceTy (tyRef erased mut (pointee ((Array u16 35) .written)))) l₁₈ (free 𝓤 (tyRef erased mut (pointee ((Array u16 35) .written))) l₁₇ (free 𝓤 (sliceTy (tyRef erased mut (pointee ((Array u64 5) .written)))) l₁₆ (free 𝓤 (tyRef erased mut (pointee ((Array u64 5) .written))) l₁₅ (full 𝓤 Ran-l.mir l₁₄ (Ran-p .val (passed r′ ((takenOf (readAt (d) ((Cursor-of (r′ .at)) .at)) n₅) .at))) (full 𝓤 (tyInt w64) l₁₃ (u64-p .val n₅) (full 𝓤 Opening-l.mir l₁₂ (Opening-p .val Opening-Unread) (full 𝓤 Asked-l.mir l₁₁ (Asked-p .val ((takenOf (readAt (d) ((Cursor-of (r′ .at)) .at)) n₅) .asked)) (full 𝓤 Taken-l.mir l₁₀ (Taken-p .val (takenOf (readAt (d) ((Cursor-of (r′ .at)) .at)) n₅)) (full 𝓤 Parsed-l.mir l₉ (Parsed-p .val (readAt (d) ((Cursor-of (r′ .at)) .at))) (full 𝓤 Cursor-l.mir l₈ (Cursor-p .val (Cursor-of (r′ .at))) (full 𝓤 Ran-l.mir l₇ (Ran-p .val r′) (full 𝓤 Frame-l.mir l₆ (Frame-p .val f′) (full 𝓤 (sliceTy (tyRef (named 4) imm (pointee (u8 .written)))) l₅ (sliceVal (b₅, o₅) n₅) (full 𝓤 (sliceTy (tyRef (named 3) mut (pointee (u8 .written)))) l₄ (sliceVal (b₄, o₄) n₄) (full 𝓤 (sliceTy (tyRef (named 2) mut (pointee (Object-t.the-row .written)))) l₃ (sliceVal (b₃, o₃) n₃) (full 𝓤 (sliceTy (tyRef (named 1) mut (pointee ((Array u16 35) .written)))) l₂ (sliceVal (b₂, o₂) n₂) (full 𝓤 (sliceTy (tyRef (named 0) mut (pointee ((Array u64 5) .written)))) l₁ (sliceVal (b₁, o₁) n₁) (free 𝓤 Ran-l.mir l₀ ([])))))))))))))))))))))))))))))) (runs C Λ En mir.t-8 (atRet En Post))
+    part-8-5 : (is-2 : Is (Parsed-p .row) (readAt (d) ((Cursor-of (r′ .at)) .at)) (Parsed-p .val (readAt (d) ((Cursor-of (r′ .at)) .at)) ∷ [])) → (is-4 : Is (Taken-p .row) (takenOf (readAt (d) ((Cursor-of (r′ .at)) .at)) n₆) (Taken-p .val (takenOf (readAt (d) ((Cursor-of (r′ .at)) .at)) n₆) ∷ [])) → (e-7 : ((takenOf (readAt (d) ((Cursor-of (r′ .at)) .at)) n₆) .asked) .opening ≡ Opening-Unread) → (good-7 : Is (Opening-p .row) Opening-Unread (Opening-p .val Opening-Unread ∷ [])) → (is-7·Unread·1 : Is (Ran-p .row) (passed r′ ((takenOf (readAt (d) ((Cursor-of (r′ .at)) .at)) n₆) .at)) (Ran-p .val (passed r′ ((takenOf (readAt (d) ((Cursor-of (r′ .at)) .at)) n₆) .at)) ∷ [])) → Sq W (‵ (MutSlice (named 0) κ₁ (Array u64 6) .own (at-list b₁ o₁ γ₁ sessions) (sliceVal (b₁, o₁) n₁ ∷ [])) ∷ ‵ (flft κ₁ q₁) ∷ ‵ (MutSlice (named 0) κ₂ (Array u16 35) .own (at-list b₂ o₂ γ₂ streams) (sliceVal (b₂, o₂) n₂ ∷ [])) ∷ ‵ (flft κ₂ q₂) ∷ ‵ (MutSlice (named 0) κ₃ Object-t.the-row .own (at-list b₃ o₃ γ₃ objects) (sliceVal (b₃, o₃) n₃ ∷ [])) ∷ ‵ (flft κ₃ q₃) ∷ ‵ (ShrSlice (named 0) κ₄ u8 .own (at-list b₄ o₄ γ₄ held) (sliceVal (b₄, o₄) n₄ ∷ [])) ∷ ‵ (flft κ₄ q₄) ∷ ‵ (MutSlice (named 0) κ₅ u8 .own (at-list b₅ o₅ γ₅ out) (sliceVal (b₅, o₅) n₅ ∷ [])) ∷ ‵ (flft κ₅ q₅) ∷ ‵ (ShrSlice (named 0) κ₆ u8 .own (at-list b₆ o₆ γ₆ d) (sliceVal (b₆, o₆) n₆ ∷ [])) ∷ ‵ (flft κ₆ q₆) ∷ free 𝓤 (sliceTy (tyRef erased mut (pointee (u8 .written)))) l₂₉ (free 𝓤 (tyRef erased mut (pointee (u8 .written))) l₂₈ (free 𝓤 (sliceTy (tyRef erased mut (pointee (Object-t.the-row .written)))) l₂₇ (free 𝓤 (tyRef erased mut (pointee (Object-t.the-row .written))) l₂₆ (free 𝓤 (sliceTy (tyRef erased mut (pointee ((Array u16 35) .written)))) l₂₅ (free 𝓤 (tyRef erased mut (pointee ((Array u16 35) .written))) l₂₄ (free 𝓤 (sliceTy (tyRef erased mut (pointee ((Array u64 6) .written)))) l₂₃ (free 𝓤 (tyRef erased mut (pointee ((Array u64 6) .written))) l₂₂ (free 𝓤 (sliceTy (tyRef erased mut (pointee (u8 .written)))) l₂₁ (free 𝓤 (tyRef erased mut (pointee (u8 .written))) l₂₀ (free 𝓤 (sliceTy (tyRef erased mut (pointee ((Array u16 35) .written)))) l₁₉ (free 𝓤 (tyRef erased mut (pointee ((Array u16 35) .written))) l₁₈ (free 𝓤 (sliceTy (tyRef erased mut (pointee ((Array u64 6) .written)))) l₁₇ (free 𝓤 (tyRef erased mut (pointee ((Array u64 6) .written))) l₁₆ (full 𝓤 Ran-l.mir l₁₅ (Ran-p .val (passed r′ ((takenOf (readAt (d) ((Cursor-of (r′ .at)) .at)) n₆) .at))) (full 𝓤 (tyInt w64) l₁₄ (u64-p .val n₆) (full 𝓤 Opening-l.mir l₁₃ (Opening-p .val Opening-Unread) (full 𝓤 Asked-l.mir l₁₂ (Asked-p .val ((takenOf (readAt (d) ((Cursor-of (r′ .at)) .at)) n₆) .asked)) (full 𝓤 Taken-l.mir l₁₁ (Taken-p .val (takenOf (readAt (d) ((Cursor-of (r′ .at)) .at)) n₆)) (full 𝓤 Parsed-l.mir l₁₀ (Parsed-p .val (readAt (d) ((Cursor-of (r′ .at)) .at))) (full 𝓤 Cursor-l.mir l₉ (Cursor-p .val (Cursor-of (r′ .at))) (full 𝓤 Ran-l.mir l₈ (Ran-p .val r′) (full 𝓤 Frame-l.mir l₇ (Frame-p .val f′) (full 𝓤 (sliceTy (tyRef (named 5) imm (pointee (u8 .written)))) l₆ (sliceVal (b₆, o₆) n₆) (full 𝓤 (sliceTy (tyRef (named 4) mut (pointee (u8 .written)))) l₅ (sliceVal (b₅, o₅) n₅) (full 𝓤 (sliceTy (tyRef (named 3) imm (pointee (u8 .written)))) l₄ (sliceVal (b₄, o₄) n₄) (full 𝓤 (sliceTy (tyRef (named 2) mut (pointee (Object-t.the-row .written)))) l₃ (sliceVal (b₃, o₃) n₃) (full 𝓤 (sliceTy (tyRef (named 1) mut (pointee ((Array u16 35) .written)))) l₂ (sliceVal (b₂, o₂) n₂) (full 𝓤 (sliceTy (tyRef (named 0) mut (pointee ((Array u64 6) .written)))) l₁ (sliceVal (b₁, o₁) n₁) (free 𝓤 Ran-l.mir l₀ ([]))))))))))))))))))))))))))))))) (runs C Λ En mir.t-8 (atRet En Post))
     part-8-5 is-2 is-4 e-7 good-7 is-7·Unread·1 =
-        assigns ! (of-opd ! (load ! (from ! (stop !)) (look ! 38 refl))) (from ! (stop !)) (init ! 66 refl (Ran-p .typed 𝓤 H A W (passed r′ ((takenOf (readAt (d) ((Cursor-of (r′ .at)) .at)) n₅) .at)) is-7·Unread·1)) $
-        returns ! (look ! 66 refl) $ forget ! 38 refl $ forget ! 40 refl $ forget ! 42 refl $ forget ! 44 refl $ forget ! 46 refl $ forget ! 48 refl $ forget ! 50 refl $
-        frees-all (passed r′ ((takenOf (readAt (d) ((Cursor-of (r′ .at)) .at)) n₅) .at)) sessions streams objects out (exits (passed r′ ((takenOf (readAt (d) ((Cursor-of (r′ .at)) .at)) n₅) .at)) sessions streams objects out (as-left out _ (r′ .wrote) (left Opening-Unread) leaves (ap left (sym e-7) ∙ left-is) (no-replies out (r′ .wrote))) is-7·Unread·1 refl refl refl refl)
+        assigns ! (of-opd ! (load ! (from ! (stop !)) (look ! 40 refl))) (from ! (stop !)) (init ! 70 refl (Ran-p .typed 𝓤 H A W (passed r′ ((takenOf (readAt (d) ((Cursor-of (r′ .at)) .at)) n₆) .at)) is-7·Unread·1)) $
+        returns ! (look ! 70 refl) $ forget ! 40 refl $ forget ! 42 refl $ forget ! 44 refl $ forget ! 46 refl $ forget ! 48 refl $ forget ! 50 refl $ forget ! 52 refl $
+        frees-all (passed r′ ((takenOf (readAt (d) ((Cursor-of (r′ .at)) .at)) n₆) .at)) sessions streams objects out (exits (passed r′ ((takenOf (readAt (d) ((Cursor-of (r′ .at)) .at)) n₆) .at)) sessions streams objects out (as-left (f′ .room) out _ (r′ .wrote) (left Opening-Unread) leaves (ap left (sym e-7) ∙ left-is) (no-replies (f′ .room) out (r′ .wrote))) is-7·Unread·1 refl refl refl refl)
 
-    matched-7-Unread-5 : (is-2 : Is (Parsed-p .row) (readAt (d) ((Cursor-of (r′ .at)) .at)) (Parsed-p .val (readAt (d) ((Cursor-of (r′ .at)) .at)) ∷ [])) → (is-4 : Is (Taken-p .row) (takenOf (readAt (d) ((Cursor-of (r′ .at)) .at)) n₅) (Taken-p .val (takenOf (readAt (d) ((Cursor-of (r′ .at)) .at)) n₅) ∷ [])) → (e-7 : ((takenOf (readAt (d) ((Cursor-of (r′ .at)) .at)) n₅) .asked) .opening ≡ Opening-Unread) → (good-7 : Is (Opening-p .row) Opening-Unread (Opening-p .val Opening-Unread ∷ [])) → Sq W (‵ (MutSlice (named 0) κ₁ (Array u64 5) .own (at-list b₁ o₁ γ₁ sessions) (sliceVal (b₁, o₁) n₁ ∷ [])) ∷ ‵ (flft κ₁ q₁) ∷ ‵ (MutSlice (named 0) κ₂ (Array u16 35) .own (at-list b₂ o₂ γ₂ streams) (sliceVal (b₂, o₂) n₂ ∷ [])) ∷ ‵ (flft κ₂ q₂) ∷ ‵ (MutSlice (named 0) κ₃ Object-t.the-row .own (at-list b₃ o₃ γ₃ objects) (sliceVal (b₃, o₃) n₃ ∷ [])) ∷ ‵ (flft κ₃ q₃) ∷ ‵ (MutSlice (named 0) κ₄ u8 .own (at-list b₄ o₄ γ₄ out) (sliceVal (b₄, o₄) n₄ ∷ [])) ∷ ‵ (flft κ₄ q₄) ∷ ‵ (ShrSlice (named 0) κ₅ u8 .own (at-list b₅ o₅ γ₅ d) (sliceVal (b₅, o₅) n₅ ∷ [])) ∷ ‵ (flft κ₅ q₅) ∷ free 𝓤 (sliceTy (tyRef erased mut (pointee (u8 .written)))) l₂₈ (free 𝓤 (tyRef erased mut (pointee (u8 .written))) l₂₇ (free 𝓤 (sliceTy (tyRef erased mut (pointee (Object-t.the-row .written)))) l₂₆ (free 𝓤 (tyRef erased mut (pointee (Object-t.the-row .written))) l₂₅ (free 𝓤 (sliceTy (tyRef erased mut (pointee ((Array u16 35) .written)))) l₂₄ (free 𝓤 (tyRef erased mut (pointee ((Array u16 35) .written))) l₂₃ (free 𝓤 (sliceTy (tyRef erased mut (pointee ((Array u64 5) .written)))) l₂₂ (free 𝓤 (tyRef erased mut (pointee ((Array u64 5) .written))) l₂₁ (free 𝓤 (sliceTy (tyRef erased mut (pointee (u8 .written)))) l₂₀ (free 𝓤 (tyRef erased mut (pointee (u8 .written))) l₁₉ (free 𝓤 (sliceTy (tyRef erased mut (pointee ((Array u16 35) .written)))) l₁₈ (free 𝓤 (tyRef erased mut (pointee ((Array u16 35) .written))) l₁₇ (free 𝓤 (sliceTy (tyRef erased mut (pointee ((Array u64 5) .written)))) l₁₆ (free 𝓤 (tyRef erased mut (pointee ((Array u64 5) .written))) l₁₅ (free 𝓤 Ran-l.mir l₁₄ (full 𝓤 (tyInt w64) l₁₃ (u64-p .val n₅) (full 𝓤 Opening-l.mir l₁₂ (Opening-p .val Opening-Unread) (full 𝓤 Asked-l.mir l₁₁ (Asked-p .val ((takenOf (readAt (d) ((Cursor-of (r′ .at)) .at)) n₅) .asked)) (full 𝓤 Taken-l.mir l₁₀ (Taken-p .val (takenOf (readAt (d) ((Cursor-of (r′ .at)) .at)) n₅)) (full 𝓤 Parsed-l.mir l₉ (Parsed-p .val (readAt (d) ((Cursor-of (r′ .at)) .at))) (full 𝓤 Cursor-l.mir l₈ (Cursor-p .val (Cursor-of (r′ .at))) (full 𝓤 Ran-l.mir l₇ (Ran-p .val r′) (full 𝓤 Frame-l.mir l₆ (Frame-p .val f′) (full 𝓤 (sliceTy (tyRef (named 4) imm (pointee (u8 .written)))) l₅ (sliceVal (b₅, o₅) n₅) (full 𝓤 (sliceTy (tyRef (named 3) mut (pointee (u8 .written)))) l₄ (sliceVal (b₄, o₄) n₄) (full 𝓤 (sliceTy (tyRef (named 2) mut (pointee (Object-t.the-row .written)))) l₃ (sliceVal (b₃, o₃) n₃) (full 𝓤 (sliceTy (tyRef (named 1) mut (pointee ((Array u16 35) .written)))) l₂ (sliceVal (b₂, o₂) n₂) (full 𝓤 (sliceTy (tyRef (named 0) mut (pointee ((Array u64 5) .written)))) l₁ (sliceVal (b₁, o₁) n₁) (free 𝓤 Ran-l.mir l₀ ([])))))))))))))))))))))))))))))) (runs C Λ En (one mir.t-7) (anyQ (afterSeq 𝓤 H (Wp 𝓤 H C Λ En mir.t-8 (atReturn 𝓤 H En Post)) (atReturn 𝓤 H En Post))))
+    matched-7-Unread-5 : (is-2 : Is (Parsed-p .row) (readAt (d) ((Cursor-of (r′ .at)) .at)) (Parsed-p .val (readAt (d) ((Cursor-of (r′ .at)) .at)) ∷ [])) → (is-4 : Is (Taken-p .row) (takenOf (readAt (d) ((Cursor-of (r′ .at)) .at)) n₆) (Taken-p .val (takenOf (readAt (d) ((Cursor-of (r′ .at)) .at)) n₆) ∷ [])) → (e-7 : ((takenOf (readAt (d) ((Cursor-of (r′ .at)) .at)) n₆) .asked) .opening ≡ Opening-Unread) → (good-7 : Is (Opening-p .row) Opening-Unread (Opening-p .val Opening-Unread ∷ [])) → Sq W (‵ (MutSlice (named 0) κ₁ (Array u64 6) .own (at-list b₁ o₁ γ₁ sessions) (sliceVal (b₁, o₁) n₁ ∷ [])) ∷ ‵ (flft κ₁ q₁) ∷ ‵ (MutSlice (named 0) κ₂ (Array u16 35) .own (at-list b₂ o₂ γ₂ streams) (sliceVal (b₂, o₂) n₂ ∷ [])) ∷ ‵ (flft κ₂ q₂) ∷ ‵ (MutSlice (named 0) κ₃ Object-t.the-row .own (at-list b₃ o₃ γ₃ objects) (sliceVal (b₃, o₃) n₃ ∷ [])) ∷ ‵ (flft κ₃ q₃) ∷ ‵ (ShrSlice (named 0) κ₄ u8 .own (at-list b₄ o₄ γ₄ held) (sliceVal (b₄, o₄) n₄ ∷ [])) ∷ ‵ (flft κ₄ q₄) ∷ ‵ (MutSlice (named 0) κ₅ u8 .own (at-list b₅ o₅ γ₅ out) (sliceVal (b₅, o₅) n₅ ∷ [])) ∷ ‵ (flft κ₅ q₅) ∷ ‵ (ShrSlice (named 0) κ₆ u8 .own (at-list b₆ o₆ γ₆ d) (sliceVal (b₆, o₆) n₆ ∷ [])) ∷ ‵ (flft κ₆ q₆) ∷ free 𝓤 (sliceTy (tyRef erased mut (pointee (u8 .written)))) l₂₉ (free 𝓤 (tyRef erased mut (pointee (u8 .written))) l₂₈ (free 𝓤 (sliceTy (tyRef erased mut (pointee (Object-t.the-row .written)))) l₂₇ (free 𝓤 (tyRef erased mut (pointee (Object-t.the-row .written))) l₂₆ (free 𝓤 (sliceTy (tyRef erased mut (pointee ((Array u16 35) .written)))) l₂₅ (free 𝓤 (tyRef erased mut (pointee ((Array u16 35) .written))) l₂₄ (free 𝓤 (sliceTy (tyRef erased mut (pointee ((Array u64 6) .written)))) l₂₃ (free 𝓤 (tyRef erased mut (pointee ((Array u64 6) .written))) l₂₂ (free 𝓤 (sliceTy (tyRef erased mut (pointee (u8 .written)))) l₂₁ (free 𝓤 (tyRef erased mut (pointee (u8 .written))) l₂₀ (free 𝓤 (sliceTy (tyRef erased mut (pointee ((Array u16 35) .written)))) l₁₉ (free 𝓤 (tyRef erased mut (pointee ((Array u16 35) .written))) l₁₈ (free 𝓤 (sliceTy (tyRef erased mut (pointee ((Array u64 6) .written)))) l₁₇ (free 𝓤 (tyRef erased mut (pointee ((Array u64 6) .written))) l₁₆ (free 𝓤 Ran-l.mir l₁₅ (full 𝓤 (tyInt w64) l₁₄ (u64-p .val n₆) (full 𝓤 Opening-l.mir l₁₃ (Opening-p .val Opening-Unread) (full 𝓤 Asked-l.mir l₁₂ (Asked-p .val ((takenOf (readAt (d) ((Cursor-of (r′ .at)) .at)) n₆) .asked)) (full 𝓤 Taken-l.mir l₁₁ (Taken-p .val (takenOf (readAt (d) ((Cursor-of (r′ .at)) .at)) n₆)) (full 𝓤 Parsed-l.mir l₁₀ (Parsed-p .val (readAt (d) ((Cursor-of (r′ .at)) .at))) (full 𝓤 Cursor-l.mir l₉ (Cursor-p .val (Cursor-of (r′ .at))) (full 𝓤 Ran-l.mir l₈ (Ran-p .val r′) (full 𝓤 Frame-l.mir l₇ (Frame-p .val f′) (full 𝓤 (sliceTy (tyRef (named 5) imm (pointee (u8 .written)))) l₆ (sliceVal (b₆, o₆) n₆) (full 𝓤 (sliceTy (tyRef (named 4) mut (pointee (u8 .written)))) l₅ (sliceVal (b₅, o₅) n₅) (full 𝓤 (sliceTy (tyRef (named 3) imm (pointee (u8 .written)))) l₄ (sliceVal (b₄, o₄) n₄) (full 𝓤 (sliceTy (tyRef (named 2) mut (pointee (Object-t.the-row .written)))) l₃ (sliceVal (b₃, o₃) n₃) (full 𝓤 (sliceTy (tyRef (named 1) mut (pointee ((Array u16 35) .written)))) l₂ (sliceVal (b₂, o₂) n₂) (full 𝓤 (sliceTy (tyRef (named 0) mut (pointee ((Array u64 6) .written)))) l₁ (sliceVal (b₁, o₁) n₁) (free 𝓤 Ran-l.mir l₀ ([]))))))))))))))))))))))))))))))) (runs C Λ En (one mir.t-7) (anyQ (afterSeq 𝓤 H (Wp 𝓤 H C Λ En mir.t-8 (atReturn 𝓤 H En Post)) (atReturn 𝓤 H En Post))))
     matched-7-Unread-5 is-2 is-4 e-7 good-7 =
-        switches-on ! (load ! (from ! (vrt ! refl (fld ! refl (stop !)))) (look-tag ! 42 (whole !))) $ exec ! C Λ En (arm-of 2 (one mir.t-7)) (anyQ (afterSeq 𝓤 H (Wp 𝓤 H C Λ En mir.t-8 (atReturn 𝓤 H En Post)) (atReturn 𝓤 H En Post))) $
+        switches-on ! (load ! (from ! (vrt ! refl (fld ! refl (stop !)))) (look-tag ! 44 (whole !))) $ exec ! C Λ En (arm-of 2 (one mir.t-7)) (anyQ (afterSeq 𝓤 H (Wp 𝓤 H C Λ En mir.t-8 (atReturn 𝓤 H En Post)) (atReturn 𝓤 H En Post))) $
         -- 7.Unread.1: agent::turn::passed
         nothing ! $
         use1 W (raw (toks 𝓤 A 0 (tt) (tt))) (id⊢ 𝓤 _) $ nothing ! $
-        owned ! (u64-p .row) (Is (u64-p .row)) (u64-p .makes 𝓤 H A W) ((takenOf (readAt (d) ((Cursor-of (r′ .at)) .at)) n₅) .at) (u64-p .val ((takenOf (readAt (d) ((Cursor-of (r′ .at)) .at)) n₅) .at) ∷ []) (LL.owed Taken-t.the-type Taken-l.the-laws (takenOf (readAt (d) ((Cursor-of (r′ .at)) .at)) n₅) _ is-4 .1 .1 .0) $ fjoin ! $
+        owned ! (u64-p .row) (Is (u64-p .row)) (u64-p .makes 𝓤 H A W) ((takenOf (readAt (d) ((Cursor-of (r′ .at)) .at)) n₆) .at) (u64-p .val ((takenOf (readAt (d) ((Cursor-of (r′ .at)) .at)) n₆) .at) ∷ []) (LL.owed Taken-t.the-type Taken-l.the-laws (takenOf (readAt (d) ((Cursor-of (r′ .at)) .at)) n₆) _ is-4 .1 .1 .0) $ fjoin ! $
         owned ! (Ran-p .row) (Is (Ran-p .row)) (Ran-p .makes 𝓤 H A W) r′ (Ran-p .val r′ ∷ []) r′-is $ fjoin ! $ move ! (1 ∷ 0 ∷ []) $
-        calls-any-last ! fm 0 [] (turn-passed.signature .params) (turn-passed.ended .kept) Ran-p (turn-passed.clauses 𝓤 H A mem run) known-turn-passed tt tt tt (r′, ((takenOf (readAt (d) ((Cursor-of (r′ .at)) .at)) n₅) .at, tt)) (Ran-p .val r′ ∷ [], (u64-p .val ((takenOf (readAt (d) ((Cursor-of (r′ .at)) .at)) n₅) .at) ∷ [], tt)) tt (passed r′ ((takenOf (readAt (d) ((Cursor-of (r′ .at)) .at)) n₅) .at)) (λ ws-7·Unread·1. Unit {0}) (id⊢ 𝓤 _) (λ r ws-7·Unread·1. fact-mono 𝓤 (r ≡ passed r′ ((takenOf (readAt (d) ((Cursor-of (r′ .at)) .at)) n₅) .at)) ((r ≡ (passed r′ ((takenOf (readAt (d) ((Cursor-of (r′ .at)) .at)) n₅) .at))) × (Unit {0})) (λ e. (e, tt))) (λ _. (and-then ! (load ! (from ! (stop !)) (look ! 53 refl)) (and-then ! (load ! (from ! (fld ! refl (stop !))) (look-in ! 47 (sub ! 2 refl (whole !)))) (no-more !)))) (λ ws-7·Unread·1 said-7·Unread·1 is-7·Unread·1.
+        calls-any-last ! fm 0 [] (turn-passed.signature .params) (turn-passed.ended .kept) Ran-p (turn-passed.clauses 𝓤 H A mem run) known-turn-passed tt tt tt (r′, ((takenOf (readAt (d) ((Cursor-of (r′ .at)) .at)) n₆) .at, tt)) (Ran-p .val r′ ∷ [], (u64-p .val ((takenOf (readAt (d) ((Cursor-of (r′ .at)) .at)) n₆) .at) ∷ [], tt)) tt (passed r′ ((takenOf (readAt (d) ((Cursor-of (r′ .at)) .at)) n₆) .at)) (λ ws-7·Unread·1. Unit {0}) (id⊢ 𝓤 _) (λ r ws-7·Unread·1. fact-mono 𝓤 (r ≡ passed r′ ((takenOf (readAt (d) ((Cursor-of (r′ .at)) .at)) n₆) .at)) ((r ≡ (passed r′ ((takenOf (readAt (d) ((Cursor-of (r′ .at)) .at)) n₆) .at))) × (Unit {0})) (λ e. (e, tt))) (λ _. (and-then ! (load ! (from ! (stop !)) (look ! 55 refl)) (and-then ! (load ! (from ! (fld ! refl (stop !))) (look-in ! 49 (sub ! 2 refl (whole !)))) (no-more !)))) (λ ws-7·Unread·1 said-7·Unread·1 is-7·Unread·1.
         drop ! $ drop ! $
-        land-last ! (from ! (stop !)) (init ! 38 refl (Ran-p .typed 𝓤 H A W (passed r′ ((takenOf (readAt (d) ((Cursor-of (r′ .at)) .at)) n₅) .at)) is-7·Unread·1)) $
+        land-last ! (from ! (stop !)) (init ! 40 refl (Ran-p .typed 𝓤 H A W (passed r′ ((takenOf (readAt (d) ((Cursor-of (r′ .at)) .at)) n₆) .at)) is-7·Unread·1)) $
         exec ! C Λ En mir.t-8 (atRet En Post) $
         part-8-5 is-2 is-4 e-7 good-7 is-7·Unread·1)
 
-    matched-7-0 : (is-2 : Is (Parsed-p .row) (readAt (d) ((Cursor-of (r′ .at)) .at)) (Parsed-p .val (readAt (d) ((Cursor-of (r′ .at)) .at)) ∷ [])) → (is-4 : Is (Taken-p .row) (takenOf (readAt (d) ((Cursor-of (r′ .at)) .at)) n₅) (Taken-p .val (takenOf (readAt (d) ((Cursor-of (r′ .at)) .at)) n₅) ∷ [])) → (z : Opening) → (((takenOf (readAt (d) ((Cursor-of (r′ .at)) .at)) n₅) .asked) .opening) ≡ z → Is (Opening-p .row) z (Opening-p .val z ∷ []) → Sq W (‵ (MutSlice (named 0) κ₁ (Array u64 5) .own (at-list b₁ o₁ γ₁ sessions) (sliceVal (b₁, o₁) n₁ ∷ [])) ∷ ‵ (flft κ₁ q₁) ∷ ‵ (MutSlice (named 0) κ₂ (Array u16 35) .own (at-list b₂ o₂ γ₂ streams) (sliceVal (b₂, o₂) n₂ ∷ [])) ∷ ‵ (flft κ₂ q₂) ∷ ‵ (MutSlice (named 0) κ₃ Object-t.the-row .own (at-list b₃ o₃ γ₃ objects) (sliceVal (b₃, o₃) n₃ ∷ [])) ∷ ‵ (flft κ₃ q₃) ∷ ‵ (MutSlice (named 0) κ₄ u8 .own (at-list b₄ o₄ γ₄ out) (sliceVal (b₄, o₄) n₄ ∷ [])) ∷ ‵ (flft κ₄ q₄) ∷ ‵ (ShrSlice (named 0) κ₅ u8 .own (at-list b₅ o₅ γ₅ d) (sliceVal (b₅, o₅) n₅ ∷ [])) ∷ ‵ (flft κ₅ q₅) ∷ free 𝓤 (sliceTy (tyRef erased mut (pointee (u8 .written)))) l₂₈ (free 𝓤 (tyRef erased mut (pointee (u8 .written))) l₂₇ (free 𝓤 (sliceTy (tyRef erased mut (pointee (Object-t.the-row .written)))) l₂₆ (free 𝓤 (tyRef erased mut (pointee (Object-t.the-row .written))) l₂₅ (free 𝓤 (sliceTy (tyRef erased mut (pointee ((Array u16 35) .written)))) l₂₄ (free 𝓤 (tyRef erased mut (pointee ((Array u16 35) .written))) l₂₃ (free 𝓤 (sliceTy (tyRef erased mut (pointee ((Array u64 5) .written)))) l₂₂ (free 𝓤 (tyRef erased mut (pointee ((Array u64 5) .written))) l₂₁ (free 𝓤 (sliceTy (tyRef erased mut (pointee (u8 .written)))) l₂₀ (free 𝓤 (tyRef erased mut (pointee (u8 .written))) l₁₉ (free 𝓤 (sliceTy (tyRef erased mut (pointee ((Array u16 35) .written)))) l₁₈ (free 𝓤 (tyRef erased mut (pointee ((Array u16 35) .written))) l₁₇ (free 𝓤 (sliceTy (tyRef erased mut (pointee ((Array u64 5) .written)))) l₁₆ (free 𝓤 (tyRef erased mut (pointee ((Array u64 5) .written))) l₁₅ (free 𝓤 Ran-l.mir l₁₄ (full 𝓤 (tyInt w64) l₁₃ (u64-p .val n₅) (full 𝓤 Opening-l.mir l₁₂ (Opening-p .val z) (full 𝓤 Asked-l.mir l₁₁ (Asked-p .val ((takenOf (readAt (d) ((Cursor-of (r′ .at)) .at)) n₅) .asked)) (full 𝓤 Taken-l.mir l₁₀ (Taken-p .val (takenOf (readAt (d) ((Cursor-of (r′ .at)) .at)) n₅)) (full 𝓤 Parsed-l.mir l₉ (Parsed-p .val (readAt (d) ((Cursor-of (r′ .at)) .at))) (full 𝓤 Cursor-l.mir l₈ (Cursor-p .val (Cursor-of (r′ .at))) (full 𝓤 Ran-l.mir l₇ (Ran-p .val r′) (full 𝓤 Frame-l.mir l₆ (Frame-p .val f′) (full 𝓤 (sliceTy (tyRef (named 4) imm (pointee (u8 .written)))) l₅ (sliceVal (b₅, o₅) n₅) (full 𝓤 (sliceTy (tyRef (named 3) mut (pointee (u8 .written)))) l₄ (sliceVal (b₄, o₄) n₄) (full 𝓤 (sliceTy (tyRef (named 2) mut (pointee (Object-t.the-row .written)))) l₃ (sliceVal (b₃, o₃) n₃) (full 𝓤 (sliceTy (tyRef (named 1) mut (pointee ((Array u16 35) .written)))) l₂ (sliceVal (b₂, o₂) n₂) (full 𝓤 (sliceTy (tyRef (named 0) mut (pointee ((Array u64 5) .written)))) l₁ (sliceVal (b₁, o₁) n₁) (free 𝓤 Ran-l.mir l₀ ([])))))))))))))))))))))))))))))) (runs C Λ En (one mir.t-7) (anyQ (afterSeq 𝓤 H (Wp 𝓤 H C Λ En mir.t-8 (atReturn 𝓤 H En Post)) (atReturn 𝓤 H En Post))))
+    matched-7-0 : (is-2 : Is (Parsed-p .row) (readAt (d) ((Cursor-of (r′ .at)) .at)) (Parsed-p .val (readAt (d) ((Cursor-of (r′ .at)) .at)) ∷ [])) → (is-4 : Is (Taken-p .row) (takenOf (readAt (d) ((Cursor-of (r′ .at)) .at)) n₆) (Taken-p .val (takenOf (readAt (d) ((Cursor-of (r′ .at)) .at)) n₆) ∷ [])) → (z : Opening) → (((takenOf (readAt (d) ((Cursor-of (r′ .at)) .at)) n₆) .asked) .opening) ≡ z → Is (Opening-p .row) z (Opening-p .val z ∷ []) → Sq W (‵ (MutSlice (named 0) κ₁ (Array u64 6) .own (at-list b₁ o₁ γ₁ sessions) (sliceVal (b₁, o₁) n₁ ∷ [])) ∷ ‵ (flft κ₁ q₁) ∷ ‵ (MutSlice (named 0) κ₂ (Array u16 35) .own (at-list b₂ o₂ γ₂ streams) (sliceVal (b₂, o₂) n₂ ∷ [])) ∷ ‵ (flft κ₂ q₂) ∷ ‵ (MutSlice (named 0) κ₃ Object-t.the-row .own (at-list b₃ o₃ γ₃ objects) (sliceVal (b₃, o₃) n₃ ∷ [])) ∷ ‵ (flft κ₃ q₃) ∷ ‵ (ShrSlice (named 0) κ₄ u8 .own (at-list b₄ o₄ γ₄ held) (sliceVal (b₄, o₄) n₄ ∷ [])) ∷ ‵ (flft κ₄ q₄) ∷ ‵ (MutSlice (named 0) κ₅ u8 .own (at-list b₅ o₅ γ₅ out) (sliceVal (b₅, o₅) n₅ ∷ [])) ∷ ‵ (flft κ₅ q₅) ∷ ‵ (ShrSlice (named 0) κ₆ u8 .own (at-list b₆ o₆ γ₆ d) (sliceVal (b₆, o₆) n₆ ∷ [])) ∷ ‵ (flft κ₆ q₆) ∷ free 𝓤 (sliceTy (tyRef erased mut (pointee (u8 .written)))) l₂₉ (free 𝓤 (tyRef erased mut (pointee (u8 .written))) l₂₈ (free 𝓤 (sliceTy (tyRef erased mut (pointee (Object-t.the-row .written)))) l₂₇ (free 𝓤 (tyRef erased mut (pointee (Object-t.the-row .written))) l₂₆ (free 𝓤 (sliceTy (tyRef erased mut (pointee ((Array u16 35) .written)))) l₂₅ (free 𝓤 (tyRef erased mut (pointee ((Array u16 35) .written))) l₂₄ (free 𝓤 (sliceTy (tyRef erased mut (pointee ((Array u64 6) .written)))) l₂₃ (free 𝓤 (tyRef erased mut (pointee ((Array u64 6) .written))) l₂₂ (free 𝓤 (sliceTy (tyRef erased mut (pointee (u8 .written)))) l₂₁ (free 𝓤 (tyRef erased mut (pointee (u8 .written))) l₂₀ (free 𝓤 (sliceTy (tyRef erased mut (pointee ((Array u16 35) .written)))) l₁₉ (free 𝓤 (tyRef erased mut (pointee ((Array u16 35) .written))) l₁₈ (free 𝓤 (sliceTy (tyRef erased mut (pointee ((Array u64 6) .written)))) l₁₇ (free 𝓤 (tyRef erased mut (pointee ((Array u64 6) .written))) l₁₆ (free 𝓤 Ran-l.mir l₁₅ (full 𝓤 (tyInt w64) l₁₄ (u64-p .val n₆) (full 𝓤 Opening-l.mir l₁₃ (Opening-p .val z) (full 𝓤 Asked-l.mir l₁₂ (Asked-p .val ((takenOf (readAt (d) ((Cursor-of (r′ .at)) .at)) n₆) .asked)) (full 𝓤 Taken-l.mir l₁₁ (Taken-p .val (takenOf (readAt (d) ((Cursor-of (r′ .at)) .at)) n₆)) (full 𝓤 Parsed-l.mir l₁₀ (Parsed-p .val (readAt (d) ((Cursor-of (r′ .at)) .at))) (full 𝓤 Cursor-l.mir l₉ (Cursor-p .val (Cursor-of (r′ .at))) (full 𝓤 Ran-l.mir l₈ (Ran-p .val r′) (full 𝓤 Frame-l.mir l₇ (Frame-p .val f′) (full 𝓤 (sliceTy (tyRef (named 5) imm (pointee (u8 .written)))) l₆ (sliceVal (b₆, o₆) n₆) (full 𝓤 (sliceTy (tyRef (named 4) mut (pointee (u8 .written)))) l₅ (sliceVal (b₅, o₅) n₅) (full 𝓤 (sliceTy (tyRef (named 3) imm (pointee (u8 .written)))) l₄ (sliceVal (b₄, o₄) n₄) (full 𝓤 (sliceTy (tyRef (named 2) mut (pointee (Object-t.the-row .written)))) l₃ (sliceVal (b₃, o₃) n₃) (full 𝓤 (sliceTy (tyRef (named 1) mut (pointee ((Array u16 35) .written)))) l₂ (sliceVal (b₂, o₂) n₂) (full 𝓤 (sliceTy (tyRef (named 0) mut (pointee ((Array u64 6) .written)))) l₁ (sliceVal (b₁, o₁) n₁) (free 𝓤 Ran-l.mir l₀ ([]))))))))))))))))))))))))))))))) (runs C Λ En (one mir.t-7) (anyQ (afterSeq 𝓤 H (Wp 𝓤 H C Λ En mir.t-8 (atReturn 𝓤 H En Post)) (atReturn 𝓤 H En Post))))
     matched-7-0 is-2 is-4 (Opening-Client) e-7 good-7 =
         matched-7-Client-0 is-2 is-4 e-7 good-7
     matched-7-0 is-2 is-4 (Opening-Other) e-7 good-7 =
@@ -533,53 +536,53 @@ module _ {M : Type 1} (𝓤 : URA M) (H : Heap 𝓤) (A : Atoms 𝓤) (W : Given
     matched-7-0 is-2 is-4 (Opening-Unread) e-7 good-7 =
         matched-7-Unread-5 is-2 is-4 e-7 good-7
 
-    part-5-0 : (is-2 : Is (Parsed-p .row) (readAt (d) ((Cursor-of (r′ .at)) .at)) (Parsed-p .val (readAt (d) ((Cursor-of (r′ .at)) .at)) ∷ [])) → (is-4 : Is (Taken-p .row) (takenOf (readAt (d) ((Cursor-of (r′ .at)) .at)) n₅) (Taken-p .val (takenOf (readAt (d) ((Cursor-of (r′ .at)) .at)) n₅) ∷ [])) → Sq W (‵ (MutSlice (named 0) κ₁ (Array u64 5) .own (at-list b₁ o₁ γ₁ sessions) (sliceVal (b₁, o₁) n₁ ∷ [])) ∷ ‵ (flft κ₁ q₁) ∷ ‵ (MutSlice (named 0) κ₂ (Array u16 35) .own (at-list b₂ o₂ γ₂ streams) (sliceVal (b₂, o₂) n₂ ∷ [])) ∷ ‵ (flft κ₂ q₂) ∷ ‵ (MutSlice (named 0) κ₃ Object-t.the-row .own (at-list b₃ o₃ γ₃ objects) (sliceVal (b₃, o₃) n₃ ∷ [])) ∷ ‵ (flft κ₃ q₃) ∷ ‵ (MutSlice (named 0) κ₄ u8 .own (at-list b₄ o₄ γ₄ out) (sliceVal (b₄, o₄) n₄ ∷ [])) ∷ ‵ (flft κ₄ q₄) ∷ ‵ (ShrSlice (named 0) κ₅ u8 .own (at-list b₅ o₅ γ₅ d) (sliceVal (b₅, o₅) n₅ ∷ [])) ∷ ‵ (flft κ₅ q₅) ∷ free 𝓤 (sliceTy (tyRef erased mut (pointee (u8 .written)))) l₂₈ (free 𝓤 (tyRef erased mut (pointee (u8 .written))) l₂₇ (free 𝓤 (sliceTy (tyRef erased mut (pointee (Object-t.the-row .written)))) l₂₆ (free 𝓤 (tyRef erased mut (pointee (Object-t.the-row .written))) l₂₅ (free 𝓤 (sliceTy (tyRef erased mut (pointee ((Array u16 35) .written)))) l₂₄ (free 𝓤 (tyRef erased mut (pointee ((Array u16 35) .written))) l₂₃ (free 𝓤 (sliceTy (tyRef erased mut (pointee ((Array u64 5) .written)))) l₂₂ (free 𝓤 (tyRef erased mut (pointee ((Array u64 5) .written))) l₂₁ (free 𝓤 (sliceTy (tyRef erased mut (pointee (u8 .written)))) l₂₀ (free 𝓤 (tyRef erased mut (pointee (u8 .written))) l₁₉ (free 𝓤 (sliceTy (tyRef erased mut (pointee ((Array u16 35) .written)))) l₁₈ (free 𝓤 (tyRef erased mut (pointee ((Array u16 35) .written))) l₁₇ (free 𝓤 (sliceTy (tyRef erased mut (pointee ((Array u64 5) .written)))) l₁₆ (free 𝓤 (tyRef erased mut (pointee ((Array u64 5) .written))) l₁₅ (free 𝓤 Ran-l.mir l₁₄ (full 𝓤 (tyInt w64) l₁₃ (u64-p .val n₅) (free 𝓤 Opening-l.mir l₁₂ (free 𝓤 Asked-l.mir l₁₁ (full 𝓤 Taken-l.mir l₁₀ (Taken-p .val (takenOf (readAt (d) ((Cursor-of (r′ .at)) .at)) n₅)) (full 𝓤 Parsed-l.mir l₉ (Parsed-p .val (readAt (d) ((Cursor-of (r′ .at)) .at))) (full 𝓤 Cursor-l.mir l₈ (Cursor-p .val (Cursor-of (r′ .at))) (full 𝓤 Ran-l.mir l₇ (Ran-p .val r′) (full 𝓤 Frame-l.mir l₆ (Frame-p .val f′) (full 𝓤 (sliceTy (tyRef (named 4) imm (pointee (u8 .written)))) l₅ (sliceVal (b₅, o₅) n₅) (full 𝓤 (sliceTy (tyRef (named 3) mut (pointee (u8 .written)))) l₄ (sliceVal (b₄, o₄) n₄) (full 𝓤 (sliceTy (tyRef (named 2) mut (pointee (Object-t.the-row .written)))) l₃ (sliceVal (b₃, o₃) n₃) (full 𝓤 (sliceTy (tyRef (named 1) mut (pointee ((Array u16 35) .written)))) l₂ (sliceVal (b₂, o₂) n₂) (full 𝓤 (sliceTy (tyRef (named 0) mut (pointee ((Array u64 5) .written)))) l₁ (sliceVal (b₁, o₁) n₁) (free 𝓤 Ran-l.mir l₀ ([])))))))))))))))))))))))))))))) (runs C Λ En mir.t-5 (atRet En Post))
+    part-5-0 : (is-2 : Is (Parsed-p .row) (readAt (d) ((Cursor-of (r′ .at)) .at)) (Parsed-p .val (readAt (d) ((Cursor-of (r′ .at)) .at)) ∷ [])) → (is-4 : Is (Taken-p .row) (takenOf (readAt (d) ((Cursor-of (r′ .at)) .at)) n₆) (Taken-p .val (takenOf (readAt (d) ((Cursor-of (r′ .at)) .at)) n₆) ∷ [])) → Sq W (‵ (MutSlice (named 0) κ₁ (Array u64 6) .own (at-list b₁ o₁ γ₁ sessions) (sliceVal (b₁, o₁) n₁ ∷ [])) ∷ ‵ (flft κ₁ q₁) ∷ ‵ (MutSlice (named 0) κ₂ (Array u16 35) .own (at-list b₂ o₂ γ₂ streams) (sliceVal (b₂, o₂) n₂ ∷ [])) ∷ ‵ (flft κ₂ q₂) ∷ ‵ (MutSlice (named 0) κ₃ Object-t.the-row .own (at-list b₃ o₃ γ₃ objects) (sliceVal (b₃, o₃) n₃ ∷ [])) ∷ ‵ (flft κ₃ q₃) ∷ ‵ (ShrSlice (named 0) κ₄ u8 .own (at-list b₄ o₄ γ₄ held) (sliceVal (b₄, o₄) n₄ ∷ [])) ∷ ‵ (flft κ₄ q₄) ∷ ‵ (MutSlice (named 0) κ₅ u8 .own (at-list b₅ o₅ γ₅ out) (sliceVal (b₅, o₅) n₅ ∷ [])) ∷ ‵ (flft κ₅ q₅) ∷ ‵ (ShrSlice (named 0) κ₆ u8 .own (at-list b₆ o₆ γ₆ d) (sliceVal (b₆, o₆) n₆ ∷ [])) ∷ ‵ (flft κ₆ q₆) ∷ free 𝓤 (sliceTy (tyRef erased mut (pointee (u8 .written)))) l₂₉ (free 𝓤 (tyRef erased mut (pointee (u8 .written))) l₂₈ (free 𝓤 (sliceTy (tyRef erased mut (pointee (Object-t.the-row .written)))) l₂₇ (free 𝓤 (tyRef erased mut (pointee (Object-t.the-row .written))) l₂₆ (free 𝓤 (sliceTy (tyRef erased mut (pointee ((Array u16 35) .written)))) l₂₅ (free 𝓤 (tyRef erased mut (pointee ((Array u16 35) .written))) l₂₄ (free 𝓤 (sliceTy (tyRef erased mut (pointee ((Array u64 6) .written)))) l₂₃ (free 𝓤 (tyRef erased mut (pointee ((Array u64 6) .written))) l₂₂ (free 𝓤 (sliceTy (tyRef erased mut (pointee (u8 .written)))) l₂₁ (free 𝓤 (tyRef erased mut (pointee (u8 .written))) l₂₀ (free 𝓤 (sliceTy (tyRef erased mut (pointee ((Array u16 35) .written)))) l₁₉ (free 𝓤 (tyRef erased mut (pointee ((Array u16 35) .written))) l₁₈ (free 𝓤 (sliceTy (tyRef erased mut (pointee ((Array u64 6) .written)))) l₁₇ (free 𝓤 (tyRef erased mut (pointee ((Array u64 6) .written))) l₁₆ (free 𝓤 Ran-l.mir l₁₅ (full 𝓤 (tyInt w64) l₁₄ (u64-p .val n₆) (free 𝓤 Opening-l.mir l₁₃ (free 𝓤 Asked-l.mir l₁₂ (full 𝓤 Taken-l.mir l₁₁ (Taken-p .val (takenOf (readAt (d) ((Cursor-of (r′ .at)) .at)) n₆)) (full 𝓤 Parsed-l.mir l₁₀ (Parsed-p .val (readAt (d) ((Cursor-of (r′ .at)) .at))) (full 𝓤 Cursor-l.mir l₉ (Cursor-p .val (Cursor-of (r′ .at))) (full 𝓤 Ran-l.mir l₈ (Ran-p .val r′) (full 𝓤 Frame-l.mir l₇ (Frame-p .val f′) (full 𝓤 (sliceTy (tyRef (named 5) imm (pointee (u8 .written)))) l₆ (sliceVal (b₆, o₆) n₆) (full 𝓤 (sliceTy (tyRef (named 4) mut (pointee (u8 .written)))) l₅ (sliceVal (b₅, o₅) n₅) (full 𝓤 (sliceTy (tyRef (named 3) imm (pointee (u8 .written)))) l₄ (sliceVal (b₄, o₄) n₄) (full 𝓤 (sliceTy (tyRef (named 2) mut (pointee (Object-t.the-row .written)))) l₃ (sliceVal (b₃, o₃) n₃) (full 𝓤 (sliceTy (tyRef (named 1) mut (pointee ((Array u16 35) .written)))) l₂ (sliceVal (b₂, o₂) n₂) (full 𝓤 (sliceTy (tyRef (named 0) mut (pointee ((Array u64 6) .written)))) l₁ (sliceVal (b₁, o₁) n₁) (free 𝓤 Ran-l.mir l₀ ([]))))))))))))))))))))))))))))))) (runs C Λ En mir.t-5 (atRet En Post))
     part-5-0 is-2 is-4 =
-        assigns ! (of-opd ! (load ! (from ! (fld ! refl (stop !))) (look-in ! 46 (sub ! 0 refl (whole !))))) (from ! (stop !)) (init ! 44 refl (Asked-p .typed 𝓤 H A W ((takenOf (readAt (d) ((Cursor-of (r′ .at)) .at)) n₅) .asked) (LL.owed Taken-t.the-type Taken-l.the-laws (takenOf (readAt (d) ((Cursor-of (r′ .at)) .at)) n₅) _ is-4 .0))) $
-        assigns ! (of-opd ! (load ! (from ! (fld ! refl (stop !))) (look-in ! 44 (sub ! 0 refl (whole !))))) (from ! (stop !)) (init ! 42 refl (Opening-p .typed 𝓤 H A W (((takenOf (readAt (d) ((Cursor-of (r′ .at)) .at)) n₅) .asked) .opening) (LL.owed Asked-t.the-type Asked-l.the-laws ((takenOf (readAt (d) ((Cursor-of (r′ .at)) .at)) n₅) .asked) _ (LL.owed Taken-t.the-type Taken-l.the-laws (takenOf (readAt (d) ((Cursor-of (r′ .at)) .at)) n₅) _ is-4 .0) .0))) $
+        assigns ! (of-opd ! (load ! (from ! (fld ! refl (stop !))) (look-in ! 48 (sub ! 0 refl (whole !))))) (from ! (stop !)) (init ! 46 refl (Asked-p .typed 𝓤 H A W ((takenOf (readAt (d) ((Cursor-of (r′ .at)) .at)) n₆) .asked) (LL.owed Taken-t.the-type Taken-l.the-laws (takenOf (readAt (d) ((Cursor-of (r′ .at)) .at)) n₆) _ is-4 .0))) $
+        assigns ! (of-opd ! (load ! (from ! (fld ! refl (stop !))) (look-in ! 46 (sub ! 0 refl (whole !))))) (from ! (stop !)) (init ! 44 refl (Opening-p .typed 𝓤 H A W (((takenOf (readAt (d) ((Cursor-of (r′ .at)) .at)) n₆) .asked) .opening) (LL.owed Asked-t.the-type Asked-l.the-laws ((takenOf (readAt (d) ((Cursor-of (r′ .at)) .at)) n₆) .asked) _ (LL.owed Taken-t.the-type Taken-l.the-laws (takenOf (readAt (d) ((Cursor-of (r′ .at)) .at)) n₆) _ is-4 .0) .0))) $
         first ! $
-        matched-7-0 is-2 is-4 (((takenOf (readAt (d) ((Cursor-of (r′ .at)) .at)) n₅) .asked) .opening) refl (LL.owed Asked-t.the-type Asked-l.the-laws ((takenOf (readAt (d) ((Cursor-of (r′ .at)) .at)) n₅) .asked) _ (LL.owed Taken-t.the-type Taken-l.the-laws (takenOf (readAt (d) ((Cursor-of (r′ .at)) .at)) n₅) _ is-4 .0) .0)
+        matched-7-0 is-2 is-4 (((takenOf (readAt (d) ((Cursor-of (r′ .at)) .at)) n₆) .asked) .opening) refl (LL.owed Asked-t.the-type Asked-l.the-laws ((takenOf (readAt (d) ((Cursor-of (r′ .at)) .at)) n₆) .asked) _ (LL.owed Taken-t.the-type Taken-l.the-laws (takenOf (readAt (d) ((Cursor-of (r′ .at)) .at)) n₆) _ is-4 .0) .0)
 
-    part-3-0 : (is-2 : Is (Parsed-p .row) (readAt (d) ((Cursor-of (r′ .at)) .at)) (Parsed-p .val (readAt (d) ((Cursor-of (r′ .at)) .at)) ∷ [])) → Sq W (‵ (MutSlice (named 0) κ₁ (Array u64 5) .own (at-list b₁ o₁ γ₁ sessions) (sliceVal (b₁, o₁) n₁ ∷ [])) ∷ ‵ (flft κ₁ q₁) ∷ ‵ (MutSlice (named 0) κ₂ (Array u16 35) .own (at-list b₂ o₂ γ₂ streams) (sliceVal (b₂, o₂) n₂ ∷ [])) ∷ ‵ (flft κ₂ q₂) ∷ ‵ (MutSlice (named 0) κ₃ Object-t.the-row .own (at-list b₃ o₃ γ₃ objects) (sliceVal (b₃, o₃) n₃ ∷ [])) ∷ ‵ (flft κ₃ q₃) ∷ ‵ (MutSlice (named 0) κ₄ u8 .own (at-list b₄ o₄ γ₄ out) (sliceVal (b₄, o₄) n₄ ∷ [])) ∷ ‵ (flft κ₄ q₄) ∷ ‵ (ShrSlice (named 0) κ₅ u8 .own (at-list b₅ o₅ γ₅ d) (sliceVal (b₅, o₅) n₅ ∷ [])) ∷ ‵ (flft κ₅ q₅) ∷ free 𝓤 (sliceTy (tyRef erased mut (pointee (u8 .written)))) l₂₈ (free 𝓤 (tyRef erased mut (pointee (u8 .written))) l₂₇ (free 𝓤 (sliceTy (tyRef erased mut (pointee (Object-t.the-row .written)))) l₂₆ (free 𝓤 (tyRef erased mut (pointee (Object-t.the-row .written))) l₂₅ (free 𝓤 (sliceTy (tyRef erased mut (pointee ((Array u16 35) .written)))) l₂₄ (free 𝓤 (tyRef erased mut (pointee ((Array u16 35) .written))) l₂₃ (free 𝓤 (sliceTy (tyRef erased mut (pointee ((Array u64 5) .written)))) l₂₂ (free 𝓤 (tyRef erased mut (pointee ((Array u64 5) .written))) l₂₁ (free 𝓤 (sliceTy (tyRef erased mut (pointee (u8 .written)))) l₂₀ (free 𝓤 (tyRef erased mut (pointee (u8 .written))) l₁₉ (free 𝓤 (sliceTy (tyRef erased mut (pointee ((Array u16 35) .written)))) l₁₈ (free 𝓤 (tyRef erased mut (pointee ((Array u16 35) .written))) l₁₇ (free 𝓤 (sliceTy (tyRef erased mut (pointee ((Array u64 5) .written)))) l₁₆ (free 𝓤 (tyRef erased mut (pointee ((Array u64 5) .written))) l₁₅ (free 𝓤 Ran-l.mir l₁₄ (free 𝓤 (tyInt w64) l₁₃ (free 𝓤 Opening-l.mir l₁₂ (free 𝓤 Asked-l.mir l₁₁ (free 𝓤 Taken-l.mir l₁₀ (full 𝓤 Parsed-l.mir l₉ (Parsed-p .val (readAt (d) ((Cursor-of (r′ .at)) .at))) (full 𝓤 Cursor-l.mir l₈ (Cursor-p .val (Cursor-of (r′ .at))) (full 𝓤 Ran-l.mir l₇ (Ran-p .val r′) (full 𝓤 Frame-l.mir l₆ (Frame-p .val f′) (full 𝓤 (sliceTy (tyRef (named 4) imm (pointee (u8 .written)))) l₅ (sliceVal (b₅, o₅) n₅) (full 𝓤 (sliceTy (tyRef (named 3) mut (pointee (u8 .written)))) l₄ (sliceVal (b₄, o₄) n₄) (full 𝓤 (sliceTy (tyRef (named 2) mut (pointee (Object-t.the-row .written)))) l₃ (sliceVal (b₃, o₃) n₃) (full 𝓤 (sliceTy (tyRef (named 1) mut (pointee ((Array u16 35) .written)))) l₂ (sliceVal (b₂, o₂) n₂) (full 𝓤 (sliceTy (tyRef (named 0) mut (pointee ((Array u64 5) .written)))) l₁ (sliceVal (b₁, o₁) n₁) (free 𝓤 Ran-l.mir l₀ ([])))))))))))))))))))))))))))))) (runs C Λ En mir.t-3 (atRet En Post))
+    part-3-0 : (is-2 : Is (Parsed-p .row) (readAt (d) ((Cursor-of (r′ .at)) .at)) (Parsed-p .val (readAt (d) ((Cursor-of (r′ .at)) .at)) ∷ [])) → Sq W (‵ (MutSlice (named 0) κ₁ (Array u64 6) .own (at-list b₁ o₁ γ₁ sessions) (sliceVal (b₁, o₁) n₁ ∷ [])) ∷ ‵ (flft κ₁ q₁) ∷ ‵ (MutSlice (named 0) κ₂ (Array u16 35) .own (at-list b₂ o₂ γ₂ streams) (sliceVal (b₂, o₂) n₂ ∷ [])) ∷ ‵ (flft κ₂ q₂) ∷ ‵ (MutSlice (named 0) κ₃ Object-t.the-row .own (at-list b₃ o₃ γ₃ objects) (sliceVal (b₃, o₃) n₃ ∷ [])) ∷ ‵ (flft κ₃ q₃) ∷ ‵ (ShrSlice (named 0) κ₄ u8 .own (at-list b₄ o₄ γ₄ held) (sliceVal (b₄, o₄) n₄ ∷ [])) ∷ ‵ (flft κ₄ q₄) ∷ ‵ (MutSlice (named 0) κ₅ u8 .own (at-list b₅ o₅ γ₅ out) (sliceVal (b₅, o₅) n₅ ∷ [])) ∷ ‵ (flft κ₅ q₅) ∷ ‵ (ShrSlice (named 0) κ₆ u8 .own (at-list b₆ o₆ γ₆ d) (sliceVal (b₆, o₆) n₆ ∷ [])) ∷ ‵ (flft κ₆ q₆) ∷ free 𝓤 (sliceTy (tyRef erased mut (pointee (u8 .written)))) l₂₉ (free 𝓤 (tyRef erased mut (pointee (u8 .written))) l₂₈ (free 𝓤 (sliceTy (tyRef erased mut (pointee (Object-t.the-row .written)))) l₂₇ (free 𝓤 (tyRef erased mut (pointee (Object-t.the-row .written))) l₂₆ (free 𝓤 (sliceTy (tyRef erased mut (pointee ((Array u16 35) .written)))) l₂₅ (free 𝓤 (tyRef erased mut (pointee ((Array u16 35) .written))) l₂₄ (free 𝓤 (sliceTy (tyRef erased mut (pointee ((Array u64 6) .written)))) l₂₃ (free 𝓤 (tyRef erased mut (pointee ((Array u64 6) .written))) l₂₂ (free 𝓤 (sliceTy (tyRef erased mut (pointee (u8 .written)))) l₂₁ (free 𝓤 (tyRef erased mut (pointee (u8 .written))) l₂₀ (free 𝓤 (sliceTy (tyRef erased mut (pointee ((Array u16 35) .written)))) l₁₉ (free 𝓤 (tyRef erased mut (pointee ((Array u16 35) .written))) l₁₈ (free 𝓤 (sliceTy (tyRef erased mut (pointee ((Array u64 6) .written)))) l₁₇ (free 𝓤 (tyRef erased mut (pointee ((Array u64 6) .written))) l₁₆ (free 𝓤 Ran-l.mir l₁₅ (free 𝓤 (tyInt w64) l₁₄ (free 𝓤 Opening-l.mir l₁₃ (free 𝓤 Asked-l.mir l₁₂ (free 𝓤 Taken-l.mir l₁₁ (full 𝓤 Parsed-l.mir l₁₀ (Parsed-p .val (readAt (d) ((Cursor-of (r′ .at)) .at))) (full 𝓤 Cursor-l.mir l₉ (Cursor-p .val (Cursor-of (r′ .at))) (full 𝓤 Ran-l.mir l₈ (Ran-p .val r′) (full 𝓤 Frame-l.mir l₇ (Frame-p .val f′) (full 𝓤 (sliceTy (tyRef (named 5) imm (pointee (u8 .written)))) l₆ (sliceVal (b₆, o₆) n₆) (full 𝓤 (sliceTy (tyRef (named 4) mut (pointee (u8 .written)))) l₅ (sliceVal (b₅, o₅) n₅) (full 𝓤 (sliceTy (tyRef (named 3) imm (pointee (u8 .written)))) l₄ (sliceVal (b₄, o₄) n₄) (full 𝓤 (sliceTy (tyRef (named 2) mut (pointee (Object-t.the-row .written)))) l₃ (sliceVal (b₃, o₃) n₃) (full 𝓤 (sliceTy (tyRef (named 1) mut (pointee ((Array u16 35) .written)))) l₂ (sliceVal (b₂, o₂) n₂) (full 𝓤 (sliceTy (tyRef (named 0) mut (pointee ((Array u64 6) .written)))) l₁ (sliceVal (b₁, o₁) n₁) (free 𝓤 Ran-l.mir l₀ ([]))))))))))))))))))))))))))))))) (runs C Λ En mir.t-3 (atRet En Post))
     part-3-0 is-2 =
-        assigns ! (of-opd ! (load ! (from ! (fld ! refl (stop !))) (look-in ! 56 (sub ! 1 refl (whole !))))) (from ! (stop !)) (init ! 40 refl (u64-p .typed 𝓤 H A W n₅ ((refl, room₅ .0)))) $
+        assigns ! (of-opd ! (load ! (from ! (fld ! refl (stop !))) (look-in ! 58 (sub ! 1 refl (whole !))))) (from ! (stop !)) (init ! 42 refl (u64-p .typed 𝓤 H A W n₆ ((refl, room₆ .0)))) $
         -- 4: agent::turn::take_apart
         nothing ! $
         use1 W (raw (toks 𝓤 A 0 (tt) (tt))) (id⊢ 𝓤 _) $ nothing ! $
-        owned ! (u64-p .row) (Is (u64-p .row)) (u64-p .makes 𝓤 H A W) n₅ (u64-p .val n₅ ∷ []) ((refl, room₅ .0)) $ fjoin ! $
+        owned ! (u64-p .row) (Is (u64-p .row)) (u64-p .makes 𝓤 H A W) n₆ (u64-p .val n₆ ∷ []) ((refl, room₆ .0)) $ fjoin ! $
         owned ! (Parsed-p .row) (Is (Parsed-p .row)) (Parsed-p .makes 𝓤 H A W) (readAt (d) ((Cursor-of (r′ .at)) .at)) (Parsed-p .val (readAt (d) ((Cursor-of (r′ .at)) .at)) ∷ []) is-2 $ fjoin ! $ move ! (1 ∷ 0 ∷ []) $
-        calls-any ! fm 0 [] (turn-take-apart.signature .params) (turn-take-apart.ended .kept) Taken-p (turn-take-apart.clauses 𝓤 H A mem run) known-turn-take-apart tt tt tt (readAt (d) ((Cursor-of (r′ .at)) .at), (n₅, tt)) (Parsed-p .val (readAt (d) ((Cursor-of (r′ .at)) .at)) ∷ [], (u64-p .val n₅ ∷ [], tt)) tt (takenOf (readAt (d) ((Cursor-of (r′ .at)) .at)) n₅) (λ ws-4. Unit {0}) (id⊢ 𝓤 _) (λ r ws-4. fact-mono 𝓤 (r ≡ takenOf (readAt (d) ((Cursor-of (r′ .at)) .at)) n₅) ((r ≡ (takenOf (readAt (d) ((Cursor-of (r′ .at)) .at)) n₅)) × (Unit {0})) (λ e. (e, tt))) (λ _. (and-then ! (load ! (from ! (stop !)) (look ! 49 refl)) (and-then ! (load ! (from ! (stop !)) (look ! 41 refl)) (no-more !)))) (λ ws-4 said-4 is-4.
+        calls-any ! fm 0 [] (turn-take-apart.signature .params) (turn-take-apart.ended .kept) Taken-p (turn-take-apart.clauses 𝓤 H A mem run) known-turn-take-apart tt tt tt (readAt (d) ((Cursor-of (r′ .at)) .at), (n₆, tt)) (Parsed-p .val (readAt (d) ((Cursor-of (r′ .at)) .at)) ∷ [], (u64-p .val n₆ ∷ [], tt)) tt (takenOf (readAt (d) ((Cursor-of (r′ .at)) .at)) n₆) (λ ws-4. Unit {0}) (id⊢ 𝓤 _) (λ r ws-4. fact-mono 𝓤 (r ≡ takenOf (readAt (d) ((Cursor-of (r′ .at)) .at)) n₆) ((r ≡ (takenOf (readAt (d) ((Cursor-of (r′ .at)) .at)) n₆)) × (Unit {0})) (λ e. (e, tt))) (λ _. (and-then ! (load ! (from ! (stop !)) (look ! 51 refl)) (and-then ! (load ! (from ! (stop !)) (look ! 43 refl)) (no-more !)))) (λ ws-4 said-4 is-4.
         drop ! $ drop ! $
-        land ! (from ! (stop !)) (init ! 46 refl (Taken-p .typed 𝓤 H A W (takenOf (readAt (d) ((Cursor-of (r′ .at)) .at)) n₅) is-4)) $
+        land ! (from ! (stop !)) (init ! 48 refl (Taken-p .typed 𝓤 H A W (takenOf (readAt (d) ((Cursor-of (r′ .at)) .at)) n₆) is-4)) $
         part-5-0 is-2 is-4)
 
-    begins : Sq W (‵ (MutSlice (named 0) κ₁ (Array u64 5) .own (at-list b₁ o₁ γ₁ sessions) (sliceVal (b₁, o₁) n₁ ∷ [])) ∷ ‵ (flft κ₁ q₁) ∷ ‵ (MutSlice (named 0) κ₂ (Array u16 35) .own (at-list b₂ o₂ γ₂ streams) (sliceVal (b₂, o₂) n₂ ∷ [])) ∷ ‵ (flft κ₂ q₂) ∷ ‵ (MutSlice (named 0) κ₃ Object-t.the-row .own (at-list b₃ o₃ γ₃ objects) (sliceVal (b₃, o₃) n₃ ∷ [])) ∷ ‵ (flft κ₃ q₃) ∷ ‵ (MutSlice (named 0) κ₄ u8 .own (at-list b₄ o₄ γ₄ out) (sliceVal (b₄, o₄) n₄ ∷ [])) ∷ ‵ (flft κ₄ q₄) ∷ ‵ (ShrSlice (named 0) κ₅ u8 .own (at-list b₅ o₅ γ₅ d) (sliceVal (b₅, o₅) n₅ ∷ [])) ∷ ‵ (flft κ₅ q₅) ∷ free 𝓤 (sliceTy (tyRef erased mut (pointee (u8 .written)))) l₂₈ (free 𝓤 (tyRef erased mut (pointee (u8 .written))) l₂₇ (free 𝓤 (sliceTy (tyRef erased mut (pointee (Object-t.the-row .written)))) l₂₆ (free 𝓤 (tyRef erased mut (pointee (Object-t.the-row .written))) l₂₅ (free 𝓤 (sliceTy (tyRef erased mut (pointee ((Array u16 35) .written)))) l₂₄ (free 𝓤 (tyRef erased mut (pointee ((Array u16 35) .written))) l₂₃ (free 𝓤 (sliceTy (tyRef erased mut (pointee ((Array u64 5) .written)))) l₂₂ (free 𝓤 (tyRef erased mut (pointee ((Array u64 5) .written))) l₂₁ (free 𝓤 (sliceTy (tyRef erased mut (pointee (u8 .written)))) l₂₀ (free 𝓤 (tyRef erased mut (pointee (u8 .written))) l₁₉ (free 𝓤 (sliceTy (tyRef erased mut (pointee ((Array u16 35) .written)))) l₁₈ (free 𝓤 (tyRef erased mut (pointee ((Array u16 35) .written))) l₁₇ (free 𝓤 (sliceTy (tyRef erased mut (pointee ((Array u64 5) .written)))) l₁₆ (free 𝓤 (tyRef erased mut (pointee ((Array u64 5) .written))) l₁₅ (free 𝓤 Ran-l.mir l₁₄ (free 𝓤 (tyInt w64) l₁₃ (free 𝓤 Opening-l.mir l₁₂ (free 𝓤 Asked-l.mir l₁₁ (free 𝓤 Taken-l.mir l₁₀ (free 𝓤 Parsed-l.mir l₉ (free 𝓤 Cursor-l.mir l₈ (full 𝓤 Ran-l.mir l₇ (Ran-p .val r′) (full 𝓤 Frame-l.mir l₆ (Frame-p .val f′) (full 𝓤 (sliceTy (tyRef (named 4) imm (pointee (u8 .written)))) l₅ (sliceVal (b₅, o₅) n₅) (full 𝓤 (sliceTy (tyRef (named 3) mut (pointee (u8 .written)))) l₄ (sliceVal (b₄, o₄) n₄) (full 𝓤 (sliceTy (tyRef (named 2) mut (pointee (Object-t.the-row .written)))) l₃ (sliceVal (b₃, o₃) n₃) (full 𝓤 (sliceTy (tyRef (named 1) mut (pointee ((Array u16 35) .written)))) l₂ (sliceVal (b₂, o₂) n₂) (full 𝓤 (sliceTy (tyRef (named 0) mut (pointee ((Array u64 5) .written)))) l₁ (sliceVal (b₁, o₁) n₁) (free 𝓤 Ran-l.mir l₀ ([])))))))))))))))))))))))))))))) (runs C Λ En mir.t-1 (atRet En Post))
+    begins : Sq W (‵ (MutSlice (named 0) κ₁ (Array u64 6) .own (at-list b₁ o₁ γ₁ sessions) (sliceVal (b₁, o₁) n₁ ∷ [])) ∷ ‵ (flft κ₁ q₁) ∷ ‵ (MutSlice (named 0) κ₂ (Array u16 35) .own (at-list b₂ o₂ γ₂ streams) (sliceVal (b₂, o₂) n₂ ∷ [])) ∷ ‵ (flft κ₂ q₂) ∷ ‵ (MutSlice (named 0) κ₃ Object-t.the-row .own (at-list b₃ o₃ γ₃ objects) (sliceVal (b₃, o₃) n₃ ∷ [])) ∷ ‵ (flft κ₃ q₃) ∷ ‵ (ShrSlice (named 0) κ₄ u8 .own (at-list b₄ o₄ γ₄ held) (sliceVal (b₄, o₄) n₄ ∷ [])) ∷ ‵ (flft κ₄ q₄) ∷ ‵ (MutSlice (named 0) κ₅ u8 .own (at-list b₅ o₅ γ₅ out) (sliceVal (b₅, o₅) n₅ ∷ [])) ∷ ‵ (flft κ₅ q₅) ∷ ‵ (ShrSlice (named 0) κ₆ u8 .own (at-list b₆ o₆ γ₆ d) (sliceVal (b₆, o₆) n₆ ∷ [])) ∷ ‵ (flft κ₆ q₆) ∷ free 𝓤 (sliceTy (tyRef erased mut (pointee (u8 .written)))) l₂₉ (free 𝓤 (tyRef erased mut (pointee (u8 .written))) l₂₈ (free 𝓤 (sliceTy (tyRef erased mut (pointee (Object-t.the-row .written)))) l₂₇ (free 𝓤 (tyRef erased mut (pointee (Object-t.the-row .written))) l₂₆ (free 𝓤 (sliceTy (tyRef erased mut (pointee ((Array u16 35) .written)))) l₂₅ (free 𝓤 (tyRef erased mut (pointee ((Array u16 35) .written))) l₂₄ (free 𝓤 (sliceTy (tyRef erased mut (pointee ((Array u64 6) .written)))) l₂₃ (free 𝓤 (tyRef erased mut (pointee ((Array u64 6) .written))) l₂₂ (free 𝓤 (sliceTy (tyRef erased mut (pointee (u8 .written)))) l₂₁ (free 𝓤 (tyRef erased mut (pointee (u8 .written))) l₂₀ (free 𝓤 (sliceTy (tyRef erased mut (pointee ((Array u16 35) .written)))) l₁₉ (free 𝓤 (tyRef erased mut (pointee ((Array u16 35) .written))) l₁₈ (free 𝓤 (sliceTy (tyRef erased mut (pointee ((Array u64 6) .written)))) l₁₇ (free 𝓤 (tyRef erased mut (pointee ((Array u64 6) .written))) l₁₆ (free 𝓤 Ran-l.mir l₁₅ (free 𝓤 (tyInt w64) l₁₄ (free 𝓤 Opening-l.mir l₁₃ (free 𝓤 Asked-l.mir l₁₂ (free 𝓤 Taken-l.mir l₁₁ (free 𝓤 Parsed-l.mir l₁₀ (free 𝓤 Cursor-l.mir l₉ (full 𝓤 Ran-l.mir l₈ (Ran-p .val r′) (full 𝓤 Frame-l.mir l₇ (Frame-p .val f′) (full 𝓤 (sliceTy (tyRef (named 5) imm (pointee (u8 .written)))) l₆ (sliceVal (b₆, o₆) n₆) (full 𝓤 (sliceTy (tyRef (named 4) mut (pointee (u8 .written)))) l₅ (sliceVal (b₅, o₅) n₅) (full 𝓤 (sliceTy (tyRef (named 3) imm (pointee (u8 .written)))) l₄ (sliceVal (b₄, o₄) n₄) (full 𝓤 (sliceTy (tyRef (named 2) mut (pointee (Object-t.the-row .written)))) l₃ (sliceVal (b₃, o₃) n₃) (full 𝓤 (sliceTy (tyRef (named 1) mut (pointee ((Array u16 35) .written)))) l₂ (sliceVal (b₂, o₂) n₂) (full 𝓤 (sliceTy (tyRef (named 0) mut (pointee ((Array u64 6) .written)))) l₁ (sliceVal (b₁, o₁) n₁) (free 𝓤 Ran-l.mir l₀ ([]))))))))))))))))))))))))))))))) (runs C Λ En mir.t-1 (atRet En Post))
     begins =
-        assigns ! (agg ! (and-then ! (load ! (from ! (fld ! refl (stop !))) (look-in ! 52 (sub ! 1 refl (whole !)))) (no-more !))) (from ! (stop !)) (init ! 50 refl (Cursor-p .typed 𝓤 H A W (Cursor-of (r′ .at)) (LL.owes Cursor-t.the-type Cursor-l.the-laws (Cursor-of (r′ .at)) (LL.owed Ran-t.the-type Ran-l.the-laws r′ _ r′-is .1 .0, tt)))) $
+        assigns ! (agg ! (and-then ! (load ! (from ! (fld ! refl (stop !))) (look-in ! 54 (sub ! 1 refl (whole !)))) (no-more !))) (from ! (stop !)) (init ! 52 refl (Cursor-p .typed 𝓤 H A W (Cursor-of (r′ .at)) (LL.owes Cursor-t.the-type Cursor-l.the-laws (Cursor-of (r′ .at)) (LL.owed Ran-t.the-type Ran-l.the-laws r′ _ r′-is .1 .0, tt)))) $
         -- 2: codec::reading::read
-        move ! (8 ∷ 9 ∷ []) $
-        copies-shr ! u8 b₅ o₅ d n₅ $ nothing ! $ move ! (1 ∷ 0 ∷ []) $ join ! $
-        use1 W (raw (toks 𝓤 A 1 ((κ₅, tt)) ((q₅, tt)))) (id⊢ 𝓤 _) $ nothing ! $
+        move ! (10 ∷ 11 ∷ []) $
+        copies-shr ! u8 b₆ o₆ d n₆ $ nothing ! $ move ! (1 ∷ 0 ∷ []) $ join ! $
+        use1 W (raw (toks 𝓤 A 1 ((κ₆, tt)) ((q₆, tt)))) (id⊢ 𝓤 _) $ nothing ! $
         owned ! (Cursor-p .row) (Is (Cursor-p .row)) (Cursor-p .makes 𝓤 H A W) (Cursor-of (r′ .at)) (Cursor-p .val (Cursor-of (r′ .at)) ∷ []) (LL.owes Cursor-t.the-type Cursor-l.the-laws (Cursor-of (r′ .at)) (LL.owed Ran-t.the-type Ran-l.the-laws r′ _ r′-is .1 .0, tt)) $ fjoin ! $ move ! (2 ∷ 0 ∷ []) $ fjoin ! $ move ! (1 ∷ 0 ∷ []) $
-        calls-any ! fm 1 [] (reading-read.signature .params) (reading-read.ended .kept) Parsed-p (reading-read.clauses 𝓤 H A mem run) known-reading-read (κ₅, tt) (q₅, tt) tt (at-list b₅ o₅ γ₅ d, (Cursor-of (r′ .at), tt)) (sliceVal (b₅, o₅) n₅ ∷ [], (Cursor-p .val (Cursor-of (r′ .at)) ∷ [], tt)) tt (readAt (d) ((Cursor-of (r′ .at)) .at)) (λ ws-2. Unit {0}) (id⊢ 𝓤 _) (λ r ws-2. fact-mono 𝓤 (r ≡ readAt (d) ((Cursor-of (r′ .at)) .at)) ((r ≡ (readAt (d) ((Cursor-of (r′ .at)) .at))) × (Unit {0})) (λ e. (e, tt))) (λ _. (and-then ! (load ! (from ! (stop !)) (look ! 56 refl)) (and-then ! (load ! (from ! (stop !)) (look ! 50 refl)) (no-more !)))) (λ ws-2 said-2 is-2.
-        use1 W ((‵ (flft κ₅ q₅) ⊛ ‵ ftrue)) (id⊢ 𝓤 _) $ split ! $ move ! (2 ∷ []) $ fsplit ! $ drop ! $ drop ! $ move ! (1 ∷ []) $ drop ! $
-        land ! (from ! (stop !)) (init ! 48 refl (Parsed-p .typed 𝓤 H A W (readAt (d) ((Cursor-of (r′ .at)) .at)) is-2)) $ move ! (2 ∷ 3 ∷ 4 ∷ 5 ∷ 6 ∷ 7 ∷ 8 ∷ 9 ∷ 1 ∷ 0 ∷ 10 ∷ 11 ∷ 12 ∷ 13 ∷ 14 ∷ 15 ∷ 16 ∷ 17 ∷ 18 ∷ 19 ∷ 20 ∷ 21 ∷ 22 ∷ 23 ∷ 24 ∷ 25 ∷ 26 ∷ 27 ∷ 28 ∷ 29 ∷ 30 ∷ 31 ∷ 32 ∷ 33 ∷ 34 ∷ 35 ∷ 36 ∷ 37 ∷ 38 ∷ 39 ∷ 40 ∷ 41 ∷ 42 ∷ 43 ∷ 44 ∷ 45 ∷ 46 ∷ 47 ∷ 48 ∷ 49 ∷ 50 ∷ 51 ∷ 52 ∷ 53 ∷ 54 ∷ 55 ∷ 56 ∷ 57 ∷ 58 ∷ 59 ∷ 60 ∷ 61 ∷ 62 ∷ 63 ∷ 64 ∷ 65 ∷ 66 ∷ 67 ∷ []) $
+        calls-any ! fm 1 [] (reading-read.signature .params) (reading-read.ended .kept) Parsed-p (reading-read.clauses 𝓤 H A mem run) known-reading-read (κ₆, tt) (q₆, tt) tt (at-list b₆ o₆ γ₆ d, (Cursor-of (r′ .at), tt)) (sliceVal (b₆, o₆) n₆ ∷ [], (Cursor-p .val (Cursor-of (r′ .at)) ∷ [], tt)) tt (readAt (d) ((Cursor-of (r′ .at)) .at)) (λ ws-2. Unit {0}) (id⊢ 𝓤 _) (λ r ws-2. fact-mono 𝓤 (r ≡ readAt (d) ((Cursor-of (r′ .at)) .at)) ((r ≡ (readAt (d) ((Cursor-of (r′ .at)) .at))) × (Unit {0})) (λ e. (e, tt))) (λ _. (and-then ! (load ! (from ! (stop !)) (look ! 58 refl)) (and-then ! (load ! (from ! (stop !)) (look ! 52 refl)) (no-more !)))) (λ ws-2 said-2 is-2.
+        use1 W ((‵ (flft κ₆ q₆) ⊛ ‵ ftrue)) (id⊢ 𝓤 _) $ split ! $ move ! (2 ∷ []) $ fsplit ! $ drop ! $ drop ! $ move ! (1 ∷ []) $ drop ! $
+        land ! (from ! (stop !)) (init ! 50 refl (Parsed-p .typed 𝓤 H A W (readAt (d) ((Cursor-of (r′ .at)) .at)) is-2)) $ move ! (2 ∷ 3 ∷ 4 ∷ 5 ∷ 6 ∷ 7 ∷ 8 ∷ 9 ∷ 10 ∷ 11 ∷ 1 ∷ 0 ∷ 12 ∷ 13 ∷ 14 ∷ 15 ∷ 16 ∷ 17 ∷ 18 ∷ 19 ∷ 20 ∷ 21 ∷ 22 ∷ 23 ∷ 24 ∷ 25 ∷ 26 ∷ 27 ∷ 28 ∷ 29 ∷ 30 ∷ 31 ∷ 32 ∷ 33 ∷ 34 ∷ 35 ∷ 36 ∷ 37 ∷ 38 ∷ 39 ∷ 40 ∷ 41 ∷ 42 ∷ 43 ∷ 44 ∷ 45 ∷ 46 ∷ 47 ∷ 48 ∷ 49 ∷ 50 ∷ 51 ∷ 52 ∷ 53 ∷ 54 ∷ 55 ∷ 56 ∷ 57 ∷ 58 ∷ 59 ∷ 60 ∷ 61 ∷ 62 ∷ 63 ∷ 64 ∷ 65 ∷ 66 ∷ 67 ∷ 68 ∷ 69 ∷ 70 ∷ 71 ∷ []) $
         part-3-0 is-2)
 
   module _ (𝓣 : Tables 𝓤 H) (known-reading-read : Triple 𝓤 (𝓣 .C #reading-read) (Of-reading-read 𝓤 H A mem run)) (known-turn-take-apart : Triple 𝓤 (𝓣 .C #turn-take-apart) (Of-turn-take-apart 𝓤 H A mem run)) (known-turn-greet : Triple 𝓤 (𝓣 .C #turn-greet) (Of-turn-greet 𝓤 H A mem run)) (known-turn-deliver : Triple 𝓤 (𝓣 .C #turn-deliver) (Of-turn-deliver 𝓤 H A mem run)) (known-turn-passed : Triple 𝓤 (𝓣 .C #turn-passed) (Of-turn-passed 𝓤 H A mem run)) where
-    walk : ent 𝓤 (onEntry 𝓤 H A f.signature (κ₁, (κ₂, (κ₃, (κ₄, (κ₅, tt))))) (q₁, (q₂, (q₃, (q₄, (q₅, tt))))) x at) (WpFn 𝓤 H (𝓣 .C) (𝓣 .Λ) code.function (sliceVal (b₁, o₁) n₁ ∷ sliceVal (b₂, o₂) n₂ ∷ sliceVal (b₃, o₃) n₃ ∷ sliceVal (b₄, o₄) n₄ ∷ sliceVal (b₅, o₅) n₅ ∷ Frame-p .val f′ ∷ Ran-p .val r′ ∷ []) Post)
+    walk : ent 𝓤 (onEntry 𝓤 H A f.signature (κ₁, (κ₂, (κ₃, (κ₄, (κ₅, (κ₆, tt)))))) (q₁, (q₂, (q₃, (q₄, (q₅, (q₆, tt)))))) x at) (WpFn 𝓤 H (𝓣 .C) (𝓣 .Λ) code.function (sliceVal (b₁, o₁) n₁ ∷ sliceVal (b₂, o₂) n₂ ∷ sliceVal (b₃, o₃) n₃ ∷ sliceVal (b₄, o₄) n₄ ∷ sliceVal (b₅, o₅) n₅ ∷ sliceVal (b₆, o₆) n₆ ∷ Frame-p .val f′ ∷ Ran-p .val r′ ∷ []) Post)
     walk =
-        qed W ((‵ (flft κ₁ q₁) ⊛ (‵ (flft κ₂ q₂) ⊛ (‵ (flft κ₃ q₃) ⊛ (‵ (flft κ₄ q₄) ⊛ (‵ (flft κ₅ q₅) ⊛ ‵ ftrue))))) ∷ ‵ (owns (MutSlice (named 0) κ₁ (Array u64 5) ∷ MutSlice (named 1) κ₂ (Array u16 35) ∷ MutSlice (named 2) κ₃ Object-t.the-row ∷ MutSlice (named 3) κ₄ u8 ∷ ShrSlice (named 4) κ₅ u8 ∷ Frame-p .row ∷ Ran-p .row ∷ []) x at) ∷ []) ∵ enter ! (𝓣 .C) (𝓣 .Λ) code.function (sliceVal (b₁, o₁) n₁ ∷ sliceVal (b₂, o₂) n₂ ∷ sliceVal (b₃, o₃) n₃ ∷ sliceVal (b₄, o₄) n₄ ∷ sliceVal (b₅, o₅) n₅ ∷ Frame-p .val f′ ∷ Ran-p .val r′ ∷ []) _ $
-        alloc1 ! (λ l₀. alloc1 ! (λ l₁. alloc1 ! (λ l₂. alloc1 ! (λ l₃. alloc1 ! (λ l₄. alloc1 ! (λ l₅. alloc1 ! (λ l₆. alloc1 ! (λ l₇. alloc1 ! (λ l₈. alloc1 ! (λ l₉. alloc1 ! (λ l₁₀. alloc1 ! (λ l₁₁. alloc1 ! (λ l₁₂. alloc1 ! (λ l₁₃. alloc1 ! (λ l₁₄. alloc1 ! (λ l₁₅. alloc1 ! (λ l₁₆. alloc1 ! (λ l₁₇. alloc1 ! (λ l₁₈. alloc1 ! (λ l₁₉. alloc1 ! (λ l₂₀. alloc1 ! (λ l₂₁. alloc1 ! (λ l₂₂. alloc1 ! (λ l₂₃. alloc1 ! (λ l₂₄. alloc1 ! (λ l₂₅. alloc1 ! (λ l₂₆. alloc1 ! (λ l₂₇. alloc1 ! (λ l₂₈. alloc0 ! $ params1 ! $ pass1 ! (init ! 54 refl (tt, (tt, (record { fits = room₁ .0 }, tt)))) $ pass1 ! (init ! 52 refl (tt, (tt, (record { fits = room₂ .0 }, tt)))) $ pass1 ! (init ! 50 refl (tt, (tt, (record { fits = room₃ .0 }, tt)))) $ pass1 ! (init ! 48 refl (tt, (tt, (record { fits = room₄ .0 }, tt)))) $ pass1 ! (init ! 46 refl (tt, (tt, (record { fits = room₅ .0 }, tt)))) $ pass1 ! (init ! 44 refl (Frame-p .typed 𝓤 H A W f′ f′-is)) $ pass1 ! (init ! 42 refl (Ran-p .typed 𝓤 H A W r′ r′-is)) $ pass0 ! $ move ! (59 ∷ []) $ fsplit ! $ move ! (1 ∷ []) $ fsplit ! $ move ! (1 ∷ []) $ fsplit ! $ move ! (1 ∷ []) $ fsplit ! $ move ! (1 ∷ []) $ fsplit ! $ move ! (64 ∷ []) $ split ! $ move ! (1 ∷ []) $ split ! $ move ! (1 ∷ []) $ split ! $ move ! (1 ∷ []) $ split ! $ move ! (1 ∷ []) $ split ! $ move ! (1 ∷ []) $ drop ! $ move ! (6 ∷ []) $ drop ! $ move ! (9 ∷ 4 ∷ 8 ∷ 3 ∷ 7 ∷ 2 ∷ 6 ∷ 1 ∷ 5 ∷ 0 ∷ 10 ∷ 11 ∷ 12 ∷ 13 ∷ 14 ∷ 15 ∷ 16 ∷ 17 ∷ 18 ∷ 19 ∷ 20 ∷ 21 ∷ 22 ∷ 23 ∷ 24 ∷ 25 ∷ 26 ∷ 27 ∷ 28 ∷ 29 ∷ 30 ∷ 31 ∷ 32 ∷ 33 ∷ 34 ∷ 35 ∷ 36 ∷ 37 ∷ 38 ∷ 39 ∷ 40 ∷ 41 ∷ 42 ∷ 43 ∷ 44 ∷ 45 ∷ 46 ∷ 47 ∷ 48 ∷ 49 ∷ 50 ∷ 51 ∷ 52 ∷ 53 ∷ 54 ∷ 55 ∷ 56 ∷ 57 ∷ 58 ∷ 59 ∷ 60 ∷ 61 ∷ 62 ∷ 63 ∷ 64 ∷ 65 ∷ 66 ∷ 67 ∷ []) $
-        begins 𝓣 known-reading-read known-turn-take-apart known-turn-greet known-turn-deliver known-turn-passed l₀ l₁ l₂ l₃ l₄ l₅ l₆ l₇ l₈ l₉ l₁₀ l₁₁ l₁₂ l₁₃ l₁₄ l₁₅ l₁₆ l₁₇ l₁₈ l₁₉ l₂₀ l₂₁ l₂₂ l₂₃ l₂₄ l₂₅ l₂₆ l₂₇ l₂₈)))))))))))))))))))))))))))))
+        qed W ((‵ (flft κ₁ q₁) ⊛ (‵ (flft κ₂ q₂) ⊛ (‵ (flft κ₃ q₃) ⊛ (‵ (flft κ₄ q₄) ⊛ (‵ (flft κ₅ q₅) ⊛ (‵ (flft κ₆ q₆) ⊛ ‵ ftrue)))))) ∷ ‵ (owns (MutSlice (named 0) κ₁ (Array u64 6) ∷ MutSlice (named 1) κ₂ (Array u16 35) ∷ MutSlice (named 2) κ₃ Object-t.the-row ∷ ShrSlice (named 3) κ₄ u8 ∷ MutSlice (named 4) κ₅ u8 ∷ ShrSlice (named 5) κ₆ u8 ∷ Frame-p .row ∷ Ran-p .row ∷ []) x at) ∷ []) ∵ enter ! (𝓣 .C) (𝓣 .Λ) code.function (sliceVal (b₁, o₁) n₁ ∷ sliceVal (b₂, o₂) n₂ ∷ sliceVal (b₃, o₃) n₃ ∷ sliceVal (b₄, o₄) n₄ ∷ sliceVal (b₅, o₅) n₅ ∷ sliceVal (b₆, o₆) n₆ ∷ Frame-p .val f′ ∷ Ran-p .val r′ ∷ []) _ $
+        alloc1 ! (λ l₀. alloc1 ! (λ l₁. alloc1 ! (λ l₂. alloc1 ! (λ l₃. alloc1 ! (λ l₄. alloc1 ! (λ l₅. alloc1 ! (λ l₆. alloc1 ! (λ l₇. alloc1 ! (λ l₈. alloc1 ! (λ l₉. alloc1 ! (λ l₁₀. alloc1 ! (λ l₁₁. alloc1 ! (λ l₁₂. alloc1 ! (λ l₁₃. alloc1 ! (λ l₁₄. alloc1 ! (λ l₁₅. alloc1 ! (λ l₁₆. alloc1 ! (λ l₁₇. alloc1 ! (λ l₁₈. alloc1 ! (λ l₁₉. alloc1 ! (λ l₂₀. alloc1 ! (λ l₂₁. alloc1 ! (λ l₂₂. alloc1 ! (λ l₂₃. alloc1 ! (λ l₂₄. alloc1 ! (λ l₂₅. alloc1 ! (λ l₂₆. alloc1 ! (λ l₂₇. alloc1 ! (λ l₂₈. alloc1 ! (λ l₂₉. alloc0 ! $ params1 ! $ pass1 ! (init ! 56 refl (tt, (tt, (record { fits = room₁ .0 }, tt)))) $ pass1 ! (init ! 54 refl (tt, (tt, (record { fits = room₂ .0 }, tt)))) $ pass1 ! (init ! 52 refl (tt, (tt, (record { fits = room₃ .0 }, tt)))) $ pass1 ! (init ! 50 refl (tt, (tt, (record { fits = room₄ .0 }, tt)))) $ pass1 ! (init ! 48 refl (tt, (tt, (record { fits = room₅ .0 }, tt)))) $ pass1 ! (init ! 46 refl (tt, (tt, (record { fits = room₆ .0 }, tt)))) $ pass1 ! (init ! 44 refl (Frame-p .typed 𝓤 H A W f′ f′-is)) $ pass1 ! (init ! 42 refl (Ran-p .typed 𝓤 H A W r′ r′-is)) $ pass0 ! $ move ! (61 ∷ []) $ fsplit ! $ move ! (1 ∷ []) $ fsplit ! $ move ! (1 ∷ []) $ fsplit ! $ move ! (1 ∷ []) $ fsplit ! $ move ! (1 ∷ []) $ fsplit ! $ move ! (1 ∷ []) $ fsplit ! $ move ! (67 ∷ []) $ split ! $ move ! (1 ∷ []) $ split ! $ move ! (1 ∷ []) $ split ! $ move ! (1 ∷ []) $ split ! $ move ! (1 ∷ []) $ split ! $ move ! (1 ∷ []) $ split ! $ move ! (1 ∷ []) $ drop ! $ move ! (7 ∷ []) $ drop ! $ move ! (11 ∷ 5 ∷ 10 ∷ 4 ∷ 9 ∷ 3 ∷ 8 ∷ 2 ∷ 7 ∷ 1 ∷ 6 ∷ 0 ∷ 12 ∷ 13 ∷ 14 ∷ 15 ∷ 16 ∷ 17 ∷ 18 ∷ 19 ∷ 20 ∷ 21 ∷ 22 ∷ 23 ∷ 24 ∷ 25 ∷ 26 ∷ 27 ∷ 28 ∷ 29 ∷ 30 ∷ 31 ∷ 32 ∷ 33 ∷ 34 ∷ 35 ∷ 36 ∷ 37 ∷ 38 ∷ 39 ∷ 40 ∷ 41 ∷ 42 ∷ 43 ∷ 44 ∷ 45 ∷ 46 ∷ 47 ∷ 48 ∷ 49 ∷ 50 ∷ 51 ∷ 52 ∷ 53 ∷ 54 ∷ 55 ∷ 56 ∷ 57 ∷ 58 ∷ 59 ∷ 60 ∷ 61 ∷ 62 ∷ 63 ∷ 64 ∷ 65 ∷ 66 ∷ 67 ∷ 68 ∷ 69 ∷ 70 ∷ 71 ∷ []) $
+        begins 𝓣 known-reading-read known-turn-take-apart known-turn-greet known-turn-deliver known-turn-passed l₀ l₁ l₂ l₃ l₄ l₅ l₆ l₇ l₈ l₉ l₁₀ l₁₁ l₁₂ l₁₃ l₁₄ l₁₅ l₁₆ l₁₇ l₁₈ l₁₉ l₂₀ l₂₁ l₂₂ l₂₃ l₂₄ l₂₅ l₂₆ l₂₇ l₂₈ l₂₉))))))))))))))))))))))))))))))
 
 module _ {M : Type 1} (𝓤 : URA M) (H : Heap 𝓤) (A : Atoms 𝓤) (W : Given 𝓤 H A) (mem : Memory → SProp 𝓤) (run : Routine → Fun 𝓤) (𝓣 : Tables 𝓤 H) (known-reading-read : Triple 𝓤 (𝓣 .C #reading-read) (Of-reading-read 𝓤 H A mem run)) (known-turn-take-apart : Triple 𝓤 (𝓣 .C #turn-take-apart) (Of-turn-take-apart 𝓤 H A mem run)) (known-turn-greet : Triple 𝓤 (𝓣 .C #turn-greet) (Of-turn-greet 𝓤 H A mem run)) (known-turn-deliver : Triple 𝓤 (𝓣 .C #turn-deliver) (Of-turn-deliver 𝓤 H A mem run)) (known-turn-passed : Triple 𝓤 (𝓣 .C #turn-passed) (Of-turn-passed 𝓤 H A mem run)) where
   walks : Walks 𝓤 H A f.ended stayed (WpFn 𝓤 H (𝓣 .C) (𝓣 .Λ) code.function) (f.clauses 𝓤 H A mem run)
-  walks = walked 𝓤 H A f.ended stayed (f.clauses 𝓤 H A mem run) (WpFn 𝓤 H (𝓣 .C) (𝓣 .Λ) code.function) (λ κs. (slice-vals, (slice-vals, (slice-vals, (slice-vals, (slice-vals, ((λ y. Frame-p .val y ∷ []), ((λ y. Ran-p .val y ∷ []), tt)))))))) (λ κs. (mut-slice-tells (named 0) (κs .0) (Array u64 5), (mut-slice-tells (named 1) (κs .1 .0) (Array u16 35), (mut-slice-tells (named 2) (κs .1 .1 .0) Object-t.the-row, (mut-slice-tells (named 3) (κs .1 .1 .1 .0) u8, (shr-slice-tells (named 4) (κs .1 .1 .1 .1 .0) u8, (Frame-p .tells, (Ran-p .tells, tt))))))))
-      (λ κs qs bounds a g are. needs 𝓤 _ _ (λ within. walk 𝓤 H A W mem run (κs .0) (qs .0) (a .0 .ptr .0) (a .0 .ptr .1) (a .0 .name) (a .0 .now) (κs .1 .0) (qs .1 .0) (a .1 .0 .ptr .0) (a .1 .0 .ptr .1) (a .1 .0 .name) (a .1 .0 .now) (κs .1 .1 .0) (qs .1 .1 .0) (a .1 .1 .0 .ptr .0) (a .1 .1 .0 .ptr .1) (a .1 .1 .0 .name) (a .1 .1 .0 .now) (κs .1 .1 .1 .0) (qs .1 .1 .1 .0) (a .1 .1 .1 .0 .ptr .0) (a .1 .1 .1 .0 .ptr .1) (a .1 .1 .1 .0 .name) (a .1 .1 .1 .0 .now) (κs .1 .1 .1 .1 .0) (qs .1 .1 .1 .1 .0) (a .1 .1 .1 .1 .0 .ptr .0) (a .1 .1 .1 .1 .0 .ptr .1) (a .1 .1 .1 .1 .0 .name) (a .1 .1 .1 .1 .0 .now) (a .1 .1 .1 .1 .1 .0) (a .1 .1 .1 .1 .1 .1 .0) (are .0 .0 .1) (are .1 .0 .0 .1) (are .1 .1 .0 .0 .1) (are .1 .1 .1 .0 .0 .1) (are .1 .1 .1 .1 .0 .0 .1) (are .1 .1 .1 .1 .1 .0) (are .1 .1 .1 .1 .1 .1 .0) within 𝓣 known-reading-read known-turn-take-apart known-turn-greet known-turn-deliver known-turn-passed))
+  walks = walked 𝓤 H A f.ended stayed (f.clauses 𝓤 H A mem run) (WpFn 𝓤 H (𝓣 .C) (𝓣 .Λ) code.function) (λ κs. (slice-vals, (slice-vals, (slice-vals, (slice-vals, (slice-vals, (slice-vals, ((λ y. Frame-p .val y ∷ []), ((λ y. Ran-p .val y ∷ []), tt))))))))) (λ κs. (mut-slice-tells (named 0) (κs .0) (Array u64 6), (mut-slice-tells (named 1) (κs .1 .0) (Array u16 35), (mut-slice-tells (named 2) (κs .1 .1 .0) Object-t.the-row, (shr-slice-tells (named 3) (κs .1 .1 .1 .0) u8, (mut-slice-tells (named 4) (κs .1 .1 .1 .1 .0) u8, (shr-slice-tells (named 5) (κs .1 .1 .1 .1 .1 .0) u8, (Frame-p .tells, (Ran-p .tells, tt)))))))))
+      (λ κs qs bounds a g are. needs 𝓤 _ _ (λ within. walk 𝓤 H A W mem run (κs .0) (qs .0) (a .0 .ptr .0) (a .0 .ptr .1) (a .0 .name) (a .0 .now) (κs .1 .0) (qs .1 .0) (a .1 .0 .ptr .0) (a .1 .0 .ptr .1) (a .1 .0 .name) (a .1 .0 .now) (κs .1 .1 .0) (qs .1 .1 .0) (a .1 .1 .0 .ptr .0) (a .1 .1 .0 .ptr .1) (a .1 .1 .0 .name) (a .1 .1 .0 .now) (κs .1 .1 .1 .0) (qs .1 .1 .1 .0) (a .1 .1 .1 .0 .ptr .0) (a .1 .1 .1 .0 .ptr .1) (a .1 .1 .1 .0 .name) (a .1 .1 .1 .0 .now) (κs .1 .1 .1 .1 .0) (qs .1 .1 .1 .1 .0) (a .1 .1 .1 .1 .0 .ptr .0) (a .1 .1 .1 .1 .0 .ptr .1) (a .1 .1 .1 .1 .0 .name) (a .1 .1 .1 .1 .0 .now) (κs .1 .1 .1 .1 .1 .0) (qs .1 .1 .1 .1 .1 .0) (a .1 .1 .1 .1 .1 .0 .ptr .0) (a .1 .1 .1 .1 .1 .0 .ptr .1) (a .1 .1 .1 .1 .1 .0 .name) (a .1 .1 .1 .1 .1 .0 .now) (a .1 .1 .1 .1 .1 .1 .0) (a .1 .1 .1 .1 .1 .1 .1 .0) (are .0 .0 .1) (are .1 .0 .0 .1) (are .1 .1 .0 .0 .1) (are .1 .1 .1 .0 .0 .1) (are .1 .1 .1 .1 .0 .0 .1) (are .1 .1 .1 .1 .1 .0 .0 .1) (are .1 .1 .1 .1 .1 .1 .0) (are .1 .1 .1 .1 .1 .1 .1 .0) within 𝓣 known-reading-read known-turn-take-apart known-turn-greet known-turn-deliver known-turn-passed))
 
   meets : Meets 𝓤 H A f.signature (WpFn 𝓤 H (𝓣 .C) (𝓣 .Λ) code.function) (f.spec 𝓤 H A mem run)
-  meets = walk-meets 𝓤 H A f.ended stayed W (goes-slice 𝓤 H A W 5 0 tt (plain (λ _. (Array u64 5))), (goes-slice 𝓤 H A W 5 1 tt (plain (λ _. (Array u16 35))), (goes-slice 𝓤 H A W 5 2 tt (plain (λ _. Object-t.the-row)), (goes-slice 𝓤 H A W 5 3 tt (plain (λ _. u8)), (goes-none-slice 𝓤 H A W 5 (4 ∷ []) tt (plain (λ _. u8)) yes, (goes-none 𝓤 H A W 5 (λ _. Frame-p .row) yes (λ κs x f. refl), (goes-none 𝓤 H A W 5 (λ _. Ran-p .row) yes (λ κs x f. refl), tt))))))) (f.clauses 𝓤 H A mem run) (WpFn 𝓤 H (𝓣 .C) (𝓣 .Λ) code.function) (WpFn-mono 𝓤 H (W .laws) 𝓣 code.function) walks
+  meets = walk-meets 𝓤 H A f.ended stayed W (goes-slice 𝓤 H A W 6 0 tt (plain (λ _. (Array u64 6))), (goes-slice 𝓤 H A W 6 1 tt (plain (λ _. (Array u16 35))), (goes-slice 𝓤 H A W 6 2 tt (plain (λ _. Object-t.the-row)), (goes-none-slice 𝓤 H A W 6 (3 ∷ []) tt (plain (λ _. u8)) yes, (goes-slice 𝓤 H A W 6 4 tt (plain (λ _. u8)), (goes-none-slice 𝓤 H A W 6 (5 ∷ []) tt (plain (λ _. u8)) yes, (goes-none 𝓤 H A W 6 (λ _. Frame-p .row) yes (λ κs x f. refl), (goes-none 𝓤 H A W 6 (λ _. Ran-p .row) yes (λ κs x f. refl), tt)))))))) (f.clauses 𝓤 H A mem run) (WpFn 𝓤 H (𝓣 .C) (𝓣 .Λ) code.function) (WpFn-mono 𝓤 H (W .laws) 𝓣 code.function) walks
 
 pub turn-spec : {M : Type 1} → stated.statement M
 unfolding code.routine tablesOf

@@ -54,13 +54,14 @@ use Rattle.walk.proofs.Parts.{part-len, lends-part, backs-part, parts-shr}
 use Rattle.walk.proofs.Arrays.{rep-is, lends-array, backs-array}
 use Rattle.sessions.specs.Need.{neededFor}
 use Rattle.sessions.specs.ObjectList.{listOf, listOut}
-use Rattle.moves.specs.Rows.{lent}
+use Rattle.agent.specs.Lent.{lent}
 use Rattle.cabi.specs.Answers.{outcomeAs, listedAs, neededAs}
 use Rattle.cabi.specs.Record.{recordsAfter}
 use Rattle.cabi.specs.Calls.{readyAs, readyRecords, processLeft, setUpLeft, removeAnswer, removeRows, sweepAnswer, sweepRows, sweepOut}
 use Rattle.cabi.specs.Calls.{badCall, answerIn, inputIn}
 use Rattle.cabi.specs.Record.{recordAt, taskIn, pendingIn, waitsIn, inRange, nextIn, agentIn, taskNumber, taskKind, taskParent, idleRecord, openRecord, recordBy, recordFor}
-use Rattle.agent.specs.Host.{outcomeOf, waitsOf, finishedOf, refusedOf, answerMost, firstMost, roomy, neededOf, resumesFit, performed, finish, processOf}
+use Rattle.codec.specs.Bytes.{wordAt}
+use Rattle.agent.specs.Host.{outcomeOf, waitsOf, finishedOf, refusedOf, answerMost, firstMost, roomy, asksAgain, acknacksIn, asksIn, neededOf, resumesFit, performed, finish, processOf}
 use Rattle.cabi.specs.Calls.{Left}
 use Rattle.cabi.proofs.Left.{same-left, processedIf, processed-if}
 use Rattle.sessions.specs.declared.objects.Object.{Object}
@@ -215,7 +216,7 @@ abbrev Record-p : Plain
 Record-p = record { row = Record-t.the-row; val = LL.val Record-t.the-type Record-l.the-laws; tells = LL.tells Record-t.the-type Record-l.the-laws; makes = λ 𝓤 H A W. LL.makes Record-t.the-type Record-l.the-plain 𝓤 H A; ty = Record-l.mir; typed = λ 𝓤 H A W x is. LL.lawful Record-t.the-type Record-l.the-laws 𝓤 H A W .typed x _ is .0; copies = λ 𝓤 H A W. LL.copy Record-t.the-type Record-l.the-copy 𝓤 H A W }
 
 abbrev stayed : Stays (f.ended .signature .params) (f.ended .kept)
-stayed = (stay-slice (0 ∷ []) tt (plain (λ _. (Array u64 19))), (stay-slice (1 ∷ []) tt (plain (λ _. (Array u64 5))), (stay-slice (2 ∷ []) tt (plain (λ _. (Array u16 35))), (stay-slice (3 ∷ []) tt (plain (λ _. Object-t.the-row)), (stay-slice (4 ∷ []) tt (plain (λ _. u8)), (stay-none-slice (5 ∷ []) tt (plain (λ _. u8)) yes, (stay-none-slice (6 ∷ []) tt (plain (λ _. u8)) yes, (stay-none (λ _. u8-p .row) yes, (stay-none (λ _. u64-p .row) yes, (stay-none (λ _. u32-p .row) yes, tt))))))))))
+stayed = (stay-slice (0 ∷ []) tt (plain (λ _. (Array u64 19))), (stay-slice (1 ∷ []) tt (plain (λ _. (Array u64 6))), (stay-slice (2 ∷ []) tt (plain (λ _. (Array u16 35))), (stay-slice (3 ∷ []) tt (plain (λ _. Object-t.the-row)), (stay-slice (4 ∷ []) tt (plain (λ _. u8)), (stay-slice (5 ∷ []) tt (plain (λ _. u8)), (stay-none-slice (6 ∷ []) tt (plain (λ _. u8)) yes, (stay-none-slice (7 ∷ []) tt (plain (λ _. u8)) yes, (stay-none (λ _. u8-p .row) yes, (stay-none (λ _. u64-p .row) yes, (stay-none (λ _. u32-p .row) yes, tt)))))))))))
 
 module _ {M : Type 1} (𝓤 : URA M) (H : Heap 𝓤) (A : Atoms 𝓤) (mem : Memory → SProp 𝓤) (run : Routine → Fun 𝓤) where
   abbrev Of-inputs-bad-call : Contract 𝓤
@@ -236,8 +237,8 @@ module _ {M : Type 1} (𝓤 : URA M) (H : Heap 𝓤) (A : Atoms 𝓤) (mem : Mem
   abbrev Of-calls-told : Contract 𝓤
   Of-calls-told = tripleOf 𝓤 H A calls-told.signature (calls-told.spec 𝓤 H A mem run)
 
-module _ {M : Type 1} (𝓤 : URA M) (H : Heap 𝓤) (A : Atoms 𝓤) (W : Given 𝓤 H A) (mem : Memory → SProp 𝓤) (run : Routine → Fun 𝓤) (κ₁ : Lft) (q₁ : Share) (b₁ o₁ : ℕ) (γ₁ : GName) (agent : List (List ℕ)) (κ₂ : Lft) (q₂ : Share) (b₂ o₂ : ℕ) (γ₂ : GName) (sessions : List (List ℕ)) (κ₃ : Lft) (q₃ : Share) (b₃ o₃ : ℕ) (γ₃ : GName) (streams : List (List ℕ)) (κ₄ : Lft) (q₄ : Share) (b₄ o₄ : ℕ) (γ₄ : GName) (objects : List Object) (κ₅ : Lft) (q₅ : Share) (b₅ o₅ : ℕ) (γ₅ : GName) (out : List ℕ) (κ₆ : Lft) (q₆ : Share) (b₆ o₆ : ℕ) (γ₆ : GName) (datagram : List ℕ) (κ₇ : Lft) (q₇ : Share) (b₇ o₇ : ℕ) (γ₇ : GName) (sample : List ℕ) (input : ℕ) (time : ℕ) (handle : ℕ)
-    (room₁ : Room (Array u64 19) (length agent)) (room₂ : Room (Array u64 5) (length sessions)) (room₃ : Room (Array u16 35) (length streams)) (room₄ : Room Object-t.the-row (length objects)) (room₅ : Room u8 (length out)) (room₆ : Room u8 (length datagram)) (room₇ : Room u8 (length sample)) (input-is : Is (u8-p .row) input (u8-p .val input ∷ [])) (time-is : Is (u64-p .row) time (u64-p .val time ∷ [])) (handle-is : Is (u32-p .row) handle (u32-p .val handle ∷ [])) where
+module _ {M : Type 1} (𝓤 : URA M) (H : Heap 𝓤) (A : Atoms 𝓤) (W : Given 𝓤 H A) (mem : Memory → SProp 𝓤) (run : Routine → Fun 𝓤) (κ₁ : Lft) (q₁ : Share) (b₁ o₁ : ℕ) (γ₁ : GName) (agent : List (List ℕ)) (κ₂ : Lft) (q₂ : Share) (b₂ o₂ : ℕ) (γ₂ : GName) (sessions : List (List ℕ)) (κ₃ : Lft) (q₃ : Share) (b₃ o₃ : ℕ) (γ₃ : GName) (streams : List (List ℕ)) (κ₄ : Lft) (q₄ : Share) (b₄ o₄ : ℕ) (γ₄ : GName) (objects : List Object) (κ₅ : Lft) (q₅ : Share) (b₅ o₅ : ℕ) (γ₅ : GName) (held : List ℕ) (κ₆ : Lft) (q₆ : Share) (b₆ o₆ : ℕ) (γ₆ : GName) (out : List ℕ) (κ₇ : Lft) (q₇ : Share) (b₇ o₇ : ℕ) (γ₇ : GName) (datagram : List ℕ) (κ₈ : Lft) (q₈ : Share) (b₈ o₈ : ℕ) (γ₈ : GName) (sample : List ℕ) (input : ℕ) (time : ℕ) (handle : ℕ)
+    (room₁ : Room (Array u64 19) (length agent)) (room₂ : Room (Array u64 6) (length sessions)) (room₃ : Room (Array u16 35) (length streams)) (room₄ : Room Object-t.the-row (length objects)) (room₅ : Room u8 (length held)) (room₆ : Room u8 (length out)) (room₇ : Room u8 (length datagram)) (room₈ : Room u8 (length sample)) (input-is : Is (u8-p .row) input (u8-p .val input ∷ [])) (time-is : Is (u64-p .row) time (u64-p .val time ∷ [])) (handle-is : Is (u32-p .row) handle (u32-p .val handle ∷ [])) where
   abbrev n₁ : ℕ
   n₁ = length agent
 
@@ -251,41 +252,44 @@ module _ {M : Type 1} (𝓤 : URA M) (H : Heap 𝓤) (A : Atoms 𝓤) (W : Given
   n₄ = length objects
 
   abbrev n₅ : ℕ
-  n₅ = length out
+  n₅ = length held
 
   abbrev n₆ : ℕ
-  n₆ = length datagram
+  n₆ = length out
 
   abbrev n₇ : ℕ
-  n₇ = length sample
+  n₇ = length datagram
 
-  abbrev x : RefT (List (List ℕ)) × (RefT (List (List ℕ)) × (RefT (List (List ℕ)) × (RefT (List Object) × (RefT (List ℕ) × (RefT (List ℕ) × (RefT (List ℕ) × (u8-p .row .Denot × (u64-p .row .Denot × (u32-p .row .Denot × (Unit {0}))))))))))
-  x = (at-list b₁ o₁ γ₁ agent, (at-list b₂ o₂ γ₂ sessions, (at-list b₃ o₃ γ₃ streams, (at-list b₄ o₄ γ₄ objects, (at-list b₅ o₅ γ₅ out, (at-list b₆ o₆ γ₆ datagram, (at-list b₇ o₇ γ₇ sample, (input, (time, (handle, tt))))))))))
+  abbrev n₈ : ℕ
+  n₈ = length sample
 
-  abbrev at : Vals f.signature (κ₁, (κ₂, (κ₃, (κ₄, (κ₅, (κ₆, (κ₇, tt)))))))
-  at = (sliceVal (b₁, o₁) n₁ ∷ [], (sliceVal (b₂, o₂) n₂ ∷ [], (sliceVal (b₃, o₃) n₃ ∷ [], (sliceVal (b₄, o₄) n₄ ∷ [], (sliceVal (b₅, o₅) n₅ ∷ [], (sliceVal (b₆, o₆) n₆ ∷ [], (sliceVal (b₇, o₇) n₇ ∷ [], (u8-p .val input ∷ [], (u64-p .val time ∷ [], (u32-p .val handle ∷ [], tt))))))))))
+  abbrev x : RefT (List (List ℕ)) × (RefT (List (List ℕ)) × (RefT (List (List ℕ)) × (RefT (List Object) × (RefT (List ℕ) × (RefT (List ℕ) × (RefT (List ℕ) × (RefT (List ℕ) × (u8-p .row .Denot × (u64-p .row .Denot × (u32-p .row .Denot × (Unit {0})))))))))))
+  x = (at-list b₁ o₁ γ₁ agent, (at-list b₂ o₂ γ₂ sessions, (at-list b₃ o₃ γ₃ streams, (at-list b₄ o₄ γ₄ objects, (at-list b₅ o₅ γ₅ held, (at-list b₆ o₆ γ₆ out, (at-list b₇ o₇ γ₇ datagram, (at-list b₈ o₈ γ₈ sample, (input, (time, (handle, tt)))))))))))
+
+  abbrev at : Vals f.signature (κ₁, (κ₂, (κ₃, (κ₄, (κ₅, (κ₆, (κ₇, (κ₈, tt))))))))
+  at = (sliceVal (b₁, o₁) n₁ ∷ [], (sliceVal (b₂, o₂) n₂ ∷ [], (sliceVal (b₃, o₃) n₃ ∷ [], (sliceVal (b₄, o₄) n₄ ∷ [], (sliceVal (b₅, o₅) n₅ ∷ [], (sliceVal (b₆, o₆) n₆ ∷ [], (sliceVal (b₇, o₇) n₇ ∷ [], (sliceVal (b₈, o₈) n₈ ∷ [], (u8-p .val input ∷ [], (u64-p .val time ∷ [], (u32-p .val handle ∷ [], tt)))))))))))
 
   abbrev Post : Val → SProp 𝓤
-  Post = walkOf 𝓤 H A f.ended stayed (f.clauses 𝓤 H A mem run) .post (((κ₁, (κ₂, (κ₃, (κ₄, (κ₅, (κ₆, (κ₇, tt))))))), (q₁, (q₂, (q₃, (q₄, (q₅, (q₆, (q₇, tt))))))), tt, x, at), tt)
+  Post = walkOf 𝓤 H A f.ended stayed (f.clauses 𝓤 H A mem run) .post (((κ₁, (κ₂, (κ₃, (κ₄, (κ₅, (κ₆, (κ₇, (κ₈, tt)))))))), (q₁, (q₂, (q₃, (q₄, (q₅, (q₆, (q₇, (q₈, tt)))))))), tt, x, at), tt)
 
   abbrev left : Bool → Left
-  left b = processedIf agent (lent sessions streams objects) out datagram sample input time handle b
+  left b = processedIf agent (lent sessions streams objects held) out datagram sample input time handle b
 
-  left-is : left (eqb (badCall (length agent) input) 0) ≡ processLeft agent (lent sessions streams objects) out datagram sample input time handle
-  left-is = processed-if agent (lent sessions streams objects) out datagram sample input time handle
+  left-is : left (eqb (badCall (length agent) input) 0) ≡ processLeft agent (lent sessions streams objects held) out datagram sample input time handle
+  left-is = processed-if agent (lent sessions streams objects held) out datagram sample input time handle
 
-  exits : (r : ℕ) (ws₁ : List (List ℕ)) (ws₂ : List (List ℕ)) (ws₃ : List (List ℕ)) (ws₄ : List Object) (ws₅ : List ℕ) → ((r ≡ processLeft (agent) (lent (sessions) (streams) (objects)) (out) (datagram) (sample) input time handle .answer) × (ws₁ ≡ processLeft (agent) (lent (sessions) (streams) (objects)) (out) (datagram) (sample) input time handle .records) × (ws₂ ≡ processLeft (agent) (lent (sessions) (streams) (objects)) (out) (datagram) (sample) input time handle .tables .sessions) × (ws₃ ≡ processLeft (agent) (lent (sessions) (streams) (objects)) (out) (datagram) (sample) input time handle .tables .streams) × (ws₄ ≡ processLeft (agent) (lent (sessions) (streams) (objects)) (out) (datagram) (sample) input time handle .tables .objects) × (ws₅ ≡ processLeft (agent) (lent (sessions) (streams) (objects)) (out) (datagram) (sample) input time handle .out)) → Is (u64-p .row) r (u64-p .val r ∷ []) → length ws₁ ≡ n₁ → length ws₂ ≡ n₂ → length ws₃ ≡ n₃ → length ws₄ ≡ n₄ → length ws₅ ≡ n₅ → ent 𝓤 (⋆ 𝓤 H A (‵ (MutSlice (named 0) κ₁ (Array u64 19) .own (at-list b₁ o₁ γ₁ ws₁) (sliceVal (b₁, o₁) n₁ ∷ [])) ∷ ‵ (flft κ₁ q₁) ∷ ‵ (MutSlice (named 1) κ₂ (Array u64 5) .own (at-list b₂ o₂ γ₂ ws₂) (sliceVal (b₂, o₂) n₂ ∷ [])) ∷ ‵ (flft κ₂ q₂) ∷ ‵ (MutSlice (named 2) κ₃ (Array u16 35) .own (at-list b₃ o₃ γ₃ ws₃) (sliceVal (b₃, o₃) n₃ ∷ [])) ∷ ‵ (flft κ₃ q₃) ∷ ‵ (MutSlice (named 3) κ₄ Object-t.the-row .own (at-list b₄ o₄ γ₄ ws₄) (sliceVal (b₄, o₄) n₄ ∷ [])) ∷ ‵ (flft κ₄ q₄) ∷ ‵ (MutSlice (named 4) κ₅ u8 .own (at-list b₅ o₅ γ₅ ws₅) (sliceVal (b₅, o₅) n₅ ∷ [])) ∷ ‵ (flft κ₅ q₅) ∷ ‵ (ShrSlice (named 5) κ₆ u8 .own (at-list b₆ o₆ γ₆ datagram) (sliceVal (b₆, o₆) n₆ ∷ [])) ∷ ‵ (flft κ₆ q₆) ∷ ‵ (ShrSlice (named 6) κ₇ u8 .own (at-list b₇ o₇ γ₇ sample) (sliceVal (b₇, o₇) n₇ ∷ [])) ∷ ‵ (flft κ₇ q₇) ∷ [])) (Post (u64-p .val r))
-  exits r ws₁ ws₂ ws₃ ws₄ ws₅ said r-is len₁ len₂ len₃ len₄ len₅ =
-      qed W (‵ (MutSlice (named 0) κ₁ (Array u64 19) .own (at-list b₁ o₁ γ₁ ws₁) (sliceVal (b₁, o₁) n₁ ∷ [])) ∷ ‵ (flft κ₁ q₁) ∷ ‵ (MutSlice (named 1) κ₂ (Array u64 5) .own (at-list b₂ o₂ γ₂ ws₂) (sliceVal (b₂, o₂) n₂ ∷ [])) ∷ ‵ (flft κ₂ q₂) ∷ ‵ (MutSlice (named 2) κ₃ (Array u16 35) .own (at-list b₃ o₃ γ₃ ws₃) (sliceVal (b₃, o₃) n₃ ∷ [])) ∷ ‵ (flft κ₃ q₃) ∷ ‵ (MutSlice (named 3) κ₄ Object-t.the-row .own (at-list b₄ o₄ γ₄ ws₄) (sliceVal (b₄, o₄) n₄ ∷ [])) ∷ ‵ (flft κ₄ q₄) ∷ ‵ (MutSlice (named 4) κ₅ u8 .own (at-list b₅ o₅ γ₅ ws₅) (sliceVal (b₅, o₅) n₅ ∷ [])) ∷ ‵ (flft κ₅ q₅) ∷ ‵ (ShrSlice (named 5) κ₆ u8 .own (at-list b₆ o₆ γ₆ datagram) (sliceVal (b₆, o₆) n₆ ∷ [])) ∷ ‵ (flft κ₆ q₆) ∷ ‵ (ShrSlice (named 6) κ₇ u8 .own (at-list b₇ o₇ γ₇ sample) (sliceVal (b₇, o₇) n₇ ∷ [])) ∷ ‵ (flft κ₇ q₇) ∷ []) ∵
-      suffices ! _ (ends-at 𝓤 H A f.ended stayed (f.clauses 𝓤 H A mem run) W (((κ₁, (κ₂, (κ₃, (κ₄, (κ₅, (κ₆, (κ₇, tt))))))), (q₁, (q₂, (q₃, (q₄, (q₅, (q₆, (q₇, tt))))))), tt, x, at), tt) (u64-p .val r) r (ws₁, (ws₂, (ws₃, (ws₄, (ws₅, (tt, (tt, (tt, (tt, (tt, tt)))))))))) (len₁, (len₂, (len₃, (len₄, (len₅, (tt, (tt, (tt, (tt, (tt, tt))))))))))) $ says ! said $ nothing ! $ move ! (14 ∷ 0 ∷ []) $ join ! $ move ! (12 ∷ 0 ∷ []) $ join ! $ move ! (10 ∷ 0 ∷ []) $ join ! $ move ! (8 ∷ 0 ∷ []) $ join ! $ move ! (6 ∷ 0 ∷ []) $ join ! $ move ! (4 ∷ 0 ∷ []) $ join ! $ move ! (2 ∷ 0 ∷ []) $ join ! $
+  exits : (r : ℕ) (ws₁ : List (List ℕ)) (ws₂ : List (List ℕ)) (ws₃ : List (List ℕ)) (ws₄ : List Object) (ws₅ : List ℕ) (ws₆ : List ℕ) → ((r ≡ processLeft (agent) (lent (sessions) (streams) (objects) (held)) (out) (datagram) (sample) input time handle .answer) × (ws₁ ≡ processLeft (agent) (lent (sessions) (streams) (objects) (held)) (out) (datagram) (sample) input time handle .records) × (ws₂ ≡ processLeft (agent) (lent (sessions) (streams) (objects) (held)) (out) (datagram) (sample) input time handle .tables .sessions) × (ws₃ ≡ processLeft (agent) (lent (sessions) (streams) (objects) (held)) (out) (datagram) (sample) input time handle .tables .streams) × (ws₄ ≡ processLeft (agent) (lent (sessions) (streams) (objects) (held)) (out) (datagram) (sample) input time handle .tables .objects) × (ws₅ ≡ processLeft (agent) (lent (sessions) (streams) (objects) (held)) (out) (datagram) (sample) input time handle .tables .held) × (ws₆ ≡ processLeft (agent) (lent (sessions) (streams) (objects) (held)) (out) (datagram) (sample) input time handle .out)) → Is (u64-p .row) r (u64-p .val r ∷ []) → length ws₁ ≡ n₁ → length ws₂ ≡ n₂ → length ws₃ ≡ n₃ → length ws₄ ≡ n₄ → length ws₅ ≡ n₅ → length ws₆ ≡ n₆ → ent 𝓤 (⋆ 𝓤 H A (‵ (MutSlice (named 0) κ₁ (Array u64 19) .own (at-list b₁ o₁ γ₁ ws₁) (sliceVal (b₁, o₁) n₁ ∷ [])) ∷ ‵ (flft κ₁ q₁) ∷ ‵ (MutSlice (named 1) κ₂ (Array u64 6) .own (at-list b₂ o₂ γ₂ ws₂) (sliceVal (b₂, o₂) n₂ ∷ [])) ∷ ‵ (flft κ₂ q₂) ∷ ‵ (MutSlice (named 2) κ₃ (Array u16 35) .own (at-list b₃ o₃ γ₃ ws₃) (sliceVal (b₃, o₃) n₃ ∷ [])) ∷ ‵ (flft κ₃ q₃) ∷ ‵ (MutSlice (named 3) κ₄ Object-t.the-row .own (at-list b₄ o₄ γ₄ ws₄) (sliceVal (b₄, o₄) n₄ ∷ [])) ∷ ‵ (flft κ₄ q₄) ∷ ‵ (MutSlice (named 4) κ₅ u8 .own (at-list b₅ o₅ γ₅ ws₅) (sliceVal (b₅, o₅) n₅ ∷ [])) ∷ ‵ (flft κ₅ q₅) ∷ ‵ (MutSlice (named 5) κ₆ u8 .own (at-list b₆ o₆ γ₆ ws₆) (sliceVal (b₆, o₆) n₆ ∷ [])) ∷ ‵ (flft κ₆ q₆) ∷ ‵ (ShrSlice (named 6) κ₇ u8 .own (at-list b₇ o₇ γ₇ datagram) (sliceVal (b₇, o₇) n₇ ∷ [])) ∷ ‵ (flft κ₇ q₇) ∷ ‵ (ShrSlice (named 7) κ₈ u8 .own (at-list b₈ o₈ γ₈ sample) (sliceVal (b₈, o₈) n₈ ∷ [])) ∷ ‵ (flft κ₈ q₈) ∷ [])) (Post (u64-p .val r))
+  exits r ws₁ ws₂ ws₃ ws₄ ws₅ ws₆ said r-is len₁ len₂ len₃ len₄ len₅ len₆ =
+      qed W (‵ (MutSlice (named 0) κ₁ (Array u64 19) .own (at-list b₁ o₁ γ₁ ws₁) (sliceVal (b₁, o₁) n₁ ∷ [])) ∷ ‵ (flft κ₁ q₁) ∷ ‵ (MutSlice (named 1) κ₂ (Array u64 6) .own (at-list b₂ o₂ γ₂ ws₂) (sliceVal (b₂, o₂) n₂ ∷ [])) ∷ ‵ (flft κ₂ q₂) ∷ ‵ (MutSlice (named 2) κ₃ (Array u16 35) .own (at-list b₃ o₃ γ₃ ws₃) (sliceVal (b₃, o₃) n₃ ∷ [])) ∷ ‵ (flft κ₃ q₃) ∷ ‵ (MutSlice (named 3) κ₄ Object-t.the-row .own (at-list b₄ o₄ γ₄ ws₄) (sliceVal (b₄, o₄) n₄ ∷ [])) ∷ ‵ (flft κ₄ q₄) ∷ ‵ (MutSlice (named 4) κ₅ u8 .own (at-list b₅ o₅ γ₅ ws₅) (sliceVal (b₅, o₅) n₅ ∷ [])) ∷ ‵ (flft κ₅ q₅) ∷ ‵ (MutSlice (named 5) κ₆ u8 .own (at-list b₆ o₆ γ₆ ws₆) (sliceVal (b₆, o₆) n₆ ∷ [])) ∷ ‵ (flft κ₆ q₆) ∷ ‵ (ShrSlice (named 6) κ₇ u8 .own (at-list b₇ o₇ γ₇ datagram) (sliceVal (b₇, o₇) n₇ ∷ [])) ∷ ‵ (flft κ₇ q₇) ∷ ‵ (ShrSlice (named 7) κ₈ u8 .own (at-list b₈ o₈ γ₈ sample) (sliceVal (b₈, o₈) n₈ ∷ [])) ∷ ‵ (flft κ₈ q₈) ∷ []) ∵
+      suffices ! _ (ends-at 𝓤 H A f.ended stayed (f.clauses 𝓤 H A mem run) W (((κ₁, (κ₂, (κ₃, (κ₄, (κ₅, (κ₆, (κ₇, (κ₈, tt)))))))), (q₁, (q₂, (q₃, (q₄, (q₅, (q₆, (q₇, (q₈, tt)))))))), tt, x, at), tt) (u64-p .val r) r (ws₁, (ws₂, (ws₃, (ws₄, (ws₅, (ws₆, (tt, (tt, (tt, (tt, (tt, tt))))))))))) (len₁, (len₂, (len₃, (len₄, (len₅, (len₆, (tt, (tt, (tt, (tt, (tt, tt)))))))))))) $ says ! said $ nothing ! $ move ! (16 ∷ 0 ∷ []) $ join ! $ move ! (14 ∷ 0 ∷ []) $ join ! $ move ! (12 ∷ 0 ∷ []) $ join ! $ move ! (10 ∷ 0 ∷ []) $ join ! $ move ! (8 ∷ 0 ∷ []) $ join ! $ move ! (6 ∷ 0 ∷ []) $ join ! $ move ! (4 ∷ 0 ∷ []) $ join ! $ move ! (2 ∷ 0 ∷ []) $ join ! $
       frame ! $ nothing ! $
       owned ! (u32-p .row) (Is (u32-p .row)) (u32-p .makes 𝓤 H A W) handle (u32-p .val handle ∷ []) handle-is $ fjoin ! $
       owned ! (u64-p .row) (Is (u64-p .row)) (u64-p .makes 𝓤 H A W) time (u64-p .val time ∷ []) time-is $ fjoin ! $
-      owned ! (u8-p .row) (Is (u8-p .row)) (u8-p .makes 𝓤 H A W) input (u8-p .val input ∷ []) input-is $ fjoin ! $ move ! (7 ∷ 0 ∷ []) $ fjoin ! $ move ! (6 ∷ 0 ∷ []) $ fjoin ! $ move ! (5 ∷ 0 ∷ []) $ fjoin ! $ move ! (4 ∷ 0 ∷ []) $ fjoin ! $ move ! (3 ∷ 0 ∷ []) $ fjoin ! $ move ! (2 ∷ 0 ∷ []) $ fjoin ! $ move ! (1 ∷ 0 ∷ []) $ fjoin ! $
+      owned ! (u8-p .row) (Is (u8-p .row)) (u8-p .makes 𝓤 H A W) input (u8-p .val input ∷ []) input-is $ fjoin ! $ move ! (8 ∷ 0 ∷ []) $ fjoin ! $ move ! (7 ∷ 0 ∷ []) $ fjoin ! $ move ! (6 ∷ 0 ∷ []) $ fjoin ! $ move ! (5 ∷ 0 ∷ []) $ fjoin ! $ move ! (4 ∷ 0 ∷ []) $ fjoin ! $ move ! (3 ∷ 0 ∷ []) $ fjoin ! $ move ! (2 ∷ 0 ∷ []) $ fjoin ! $ move ! (1 ∷ 0 ∷ []) $ fjoin ! $
       frame ! $
       owned ! (u64-p .row) (Is (u64-p .row)) (u64-p .makes 𝓤 H A W) r _ r-is $ done !
 
-  module _ (𝓣 : Tables 𝓤 H) (known-inputs-bad-call : Triple 𝓤 (𝓣 .C #inputs-bad-call) (Of-inputs-bad-call 𝓤 H A mem run)) (known-record-record-at : Triple 𝓤 (𝓣 .C #record-record-at) (Of-record-record-at 𝓤 H A mem run)) (known-record-agent-in : Triple 𝓤 (𝓣 .C #record-agent-in) (Of-record-agent-in 𝓤 H A mem run)) (known-inputs-input-in : Triple 𝓤 (𝓣 .C #inputs-input-in) (Of-inputs-input-in 𝓤 H A mem run)) (known-process-process : Triple 𝓤 (𝓣 .C #process-process) (Of-process-process 𝓤 H A mem run)) (known-calls-told : Triple 𝓤 (𝓣 .C #calls-told) (Of-calls-told 𝓤 H A mem run)) (l₀ l₁ l₂ l₃ l₄ l₅ l₆ l₇ l₈ l₉ l₁₀ l₁₁ l₁₂ l₁₃ l₁₄ l₁₅ l₁₆ l₁₇ l₁₈ l₁₉ l₂₀ l₂₁ l₂₂ l₂₃ l₂₄ l₂₅ l₂₆ l₂₇ l₂₈ l₂₉ l₃₀ : ℕ) where
+  module _ (𝓣 : Tables 𝓤 H) (known-inputs-bad-call : Triple 𝓤 (𝓣 .C #inputs-bad-call) (Of-inputs-bad-call 𝓤 H A mem run)) (known-record-record-at : Triple 𝓤 (𝓣 .C #record-record-at) (Of-record-record-at 𝓤 H A mem run)) (known-record-agent-in : Triple 𝓤 (𝓣 .C #record-agent-in) (Of-record-agent-in 𝓤 H A mem run)) (known-inputs-input-in : Triple 𝓤 (𝓣 .C #inputs-input-in) (Of-inputs-input-in 𝓤 H A mem run)) (known-process-process : Triple 𝓤 (𝓣 .C #process-process) (Of-process-process 𝓤 H A mem run)) (known-calls-told : Triple 𝓤 (𝓣 .C #calls-told) (Of-calls-told 𝓤 H A mem run)) (l₀ l₁ l₂ l₃ l₄ l₅ l₆ l₇ l₈ l₉ l₁₀ l₁₁ l₁₂ l₁₃ l₁₄ l₁₅ l₁₆ l₁₇ l₁₈ l₁₉ l₂₀ l₂₁ l₂₂ l₂₃ l₂₄ l₂₅ l₂₆ l₂₇ l₂₈ l₂₉ l₃₀ l₃₁ l₃₂ l₃₃ : ℕ) where
     abbrev C : Calls 𝓤 H
     C = 𝓣 .C
 
@@ -296,145 +300,153 @@ module _ {M : Type 1} (𝓤 : URA M) (H : Heap 𝓤) (A : Atoms 𝓤) (W : Given
     fm = fmOf 𝓤 H (W .laws) 𝓣
 
     abbrev En : Env 𝓤 H
-    En = ((tyInt w64), l₀) ∷ ((sliceTy (tyRef (named 0) mut (pointee ((Array u64 19) .written)))), l₁) ∷ ((sliceTy (tyRef (named 1) mut (pointee ((Array u64 5) .written)))), l₂) ∷ ((sliceTy (tyRef (named 2) mut (pointee ((Array u16 35) .written)))), l₃) ∷ ((sliceTy (tyRef (named 3) mut (pointee (Object-t.the-row .written)))), l₄) ∷ ((sliceTy (tyRef (named 4) mut (pointee (u8 .written)))), l₅) ∷ ((sliceTy (tyRef (named 5) imm (pointee (u8 .written)))), l₆) ∷ ((sliceTy (tyRef (named 6) imm (pointee (u8 .written)))), l₇) ∷ ((tyInt w8), l₈) ∷ ((tyInt w64), l₉) ∷ ((tyInt w32), l₁₀) ∷ ((tyInt w64), l₁₁) ∷ (Record-l.mir, l₁₂) ∷ (Agent-l.mir, l₁₃) ∷ (Input-l.mir, l₁₄) ∷ (Processed-l.mir, l₁₅) ∷ ((tyInt w64), l₁₆) ∷ (tyBool, l₁₇) ∷ ((tyInt w64), l₁₈) ∷ ((tyRef erased imm (pointee ((Array u64 19) .written))), l₁₉) ∷ ((sliceTy (tyRef erased imm (pointee ((Array u64 19) .written)))), l₂₀) ∷ ((tyRef erased mut (pointee ((Array u64 5) .written))), l₂₁) ∷ ((sliceTy (tyRef erased mut (pointee ((Array u64 5) .written)))), l₂₂) ∷ ((tyRef erased mut (pointee ((Array u16 35) .written))), l₂₃) ∷ ((sliceTy (tyRef erased mut (pointee ((Array u16 35) .written)))), l₂₄) ∷ ((tyRef erased mut (pointee (Object-t.the-row .written))), l₂₅) ∷ ((sliceTy (tyRef erased mut (pointee (Object-t.the-row .written)))), l₂₆) ∷ ((tyRef erased mut (pointee (u8 .written))), l₂₇) ∷ ((sliceTy (tyRef erased mut (pointee (u8 .written)))), l₂₈) ∷ ((tyRef erased mut (pointee ((Array u64 19) .written))), l₂₉) ∷ ((sliceTy (tyRef erased mut (pointee ((Array u64 19) .written)))), l₃₀) ∷ []
+    En = ((tyInt w64), l₀) ∷ ((sliceTy (tyRef (named 0) mut (pointee ((Array u64 19) .written)))), l₁) ∷ ((sliceTy (tyRef (named 1) mut (pointee ((Array u64 6) .written)))), l₂) ∷ ((sliceTy (tyRef (named 2) mut (pointee ((Array u16 35) .written)))), l₃) ∷ ((sliceTy (tyRef (named 3) mut (pointee (Object-t.the-row .written)))), l₄) ∷ ((sliceTy (tyRef (named 4) mut (pointee (u8 .written)))), l₅) ∷ ((sliceTy (tyRef (named 5) mut (pointee (u8 .written)))), l₆) ∷ ((sliceTy (tyRef (named 6) imm (pointee (u8 .written)))), l₇) ∷ ((sliceTy (tyRef (named 7) imm (pointee (u8 .written)))), l₈) ∷ ((tyInt w8), l₉) ∷ ((tyInt w64), l₁₀) ∷ ((tyInt w32), l₁₁) ∷ ((tyInt w64), l₁₂) ∷ (Record-l.mir, l₁₃) ∷ (Agent-l.mir, l₁₄) ∷ (Input-l.mir, l₁₅) ∷ (Processed-l.mir, l₁₆) ∷ ((tyInt w64), l₁₇) ∷ (tyBool, l₁₈) ∷ ((tyInt w64), l₁₉) ∷ ((tyRef erased imm (pointee ((Array u64 19) .written))), l₂₀) ∷ ((sliceTy (tyRef erased imm (pointee ((Array u64 19) .written)))), l₂₁) ∷ ((tyRef erased mut (pointee ((Array u64 6) .written))), l₂₂) ∷ ((sliceTy (tyRef erased mut (pointee ((Array u64 6) .written)))), l₂₃) ∷ ((tyRef erased mut (pointee ((Array u16 35) .written))), l₂₄) ∷ ((sliceTy (tyRef erased mut (pointee ((Array u16 35) .written)))), l₂₅) ∷ ((tyRef erased mut (pointee (Object-t.the-row .written))), l₂₆) ∷ ((sliceTy (tyRef erased mut (pointee (Object-t.the-row .written)))), l₂₇) ∷ ((tyRef erased mut (pointee (u8 .written))), l₂₈) ∷ ((sliceTy (tyRef erased mut (pointee (u8 .written)))), l₂₉) ∷ ((tyRef erased mut (pointee (u8 .written))), l₃₀) ∷ ((sliceTy (tyRef erased mut (pointee (u8 .written)))), l₃₁) ∷ ((tyRef erased mut (pointee ((Array u64 19) .written))), l₃₂) ∷ ((sliceTy (tyRef erased mut (pointee ((Array u64 19) .written)))), l₃₃) ∷ []
 
-    part-5-0 : (is-2 : Is (u64-p .row) (badCall n₁ input) (u64-p .val (badCall n₁ input) ∷ [])) → (c-4 : eqb (badCall n₁ input) 0 ≡ true) → (is-4·yes·3 : Is (Record-p .row) (recordAt (agent)) (Record-p .val (recordAt (agent)) ∷ [])) → (is-4·yes·4 : Is (Agent-p .row) (agentIn (recordAt (agent))) (Agent-p .val (agentIn (recordAt (agent))) ∷ [])) → (is-4·yes·5 : Is (Input-p .row) (inputIn input time handle) (Input-p .val (inputIn input time handle) ∷ [])) → (len-4·yes·14-sessions : length (processOf (agentIn (recordAt (agent))) (lent (sessions) (streams) (objects)) (out) (datagram) (sample) (inputIn input time handle) .tables .sessions) ≡ n₂) → (len-4·yes·14-streams : length (processOf (agentIn (recordAt (agent))) (lent (sessions) (streams) (objects)) (out) (datagram) (sample) (inputIn input time handle) .tables .streams) ≡ n₃) → (len-4·yes·14-objects : length (processOf (agentIn (recordAt (agent))) (lent (sessions) (streams) (objects)) (out) (datagram) (sample) (inputIn input time handle) .tables .objects) ≡ n₄) → (len-4·yes·14-out : length (processOf (agentIn (recordAt (agent))) (lent (sessions) (streams) (objects)) (out) (datagram) (sample) (inputIn input time handle) .out) ≡ n₅) → (is-4·yes·14 : Is (Processed-p .row) (processOf (agentIn (recordAt (agent))) (lent (sessions) (streams) (objects)) (out) (datagram) (sample) (inputIn input time handle) .processed) (Processed-p .val (processOf (agentIn (recordAt (agent))) (lent (sessions) (streams) (objects)) (out) (datagram) (sample) (inputIn input time handle) .processed) ∷ [])) → (len-4·yes·17-agent : length (recordsAfter (agent) (processOf (agentIn (recordAt (agent))) (lent (sessions) (streams) (objects)) (out) (datagram) (sample) (inputIn input time handle) .processed)) ≡ n₁) → (is-4·yes·17 : Is (u64-p .row) (outcomeAs ((processOf (agentIn (recordAt (agent))) (lent (sessions) (streams) (objects)) (out) (datagram) (sample) (inputIn input time handle) .processed) .outcome)) (u64-p .val (outcomeAs ((processOf (agentIn (recordAt (agent))) (lent (sessions) (streams) (objects)) (out) (datagram) (sample) (inputIn input time handle) .processed) .outcome)) ∷ [])) → Sq W (‵ (MutSlice (named 0) κ₁ (Array u64 19) .own (at-list b₁ o₁ γ₁ (recordsAfter (agent) (processOf (agentIn (recordAt (agent))) (lent (sessions) (streams) (objects)) (out) (datagram) (sample) (inputIn input time handle) .processed))) (sliceVal (b₁, o₁) n₁ ∷ [])) ∷ ‵ (flft κ₁ q₁) ∷ ‵ (MutSlice (named 0) κ₂ (Array u64 5) .own (at-list b₂ o₂ γ₂ (processOf (agentIn (recordAt (agent))) (lent (sessions) (streams) (objects)) (out) (datagram) (sample) (inputIn input time handle) .tables .sessions)) (sliceVal (b₂, o₂) n₂ ∷ [])) ∷ ‵ (flft κ₂ q₂) ∷ ‵ (MutSlice (named 0) κ₃ (Array u16 35) .own (at-list b₃ o₃ γ₃ (processOf (agentIn (recordAt (agent))) (lent (sessions) (streams) (objects)) (out) (datagram) (sample) (inputIn input time handle) .tables .streams)) (sliceVal (b₃, o₃) n₃ ∷ [])) ∷ ‵ (flft κ₃ q₃) ∷ ‵ (MutSlice (named 0) κ₄ Object-t.the-row .own (at-list b₄ o₄ γ₄ (processOf (agentIn (recordAt (agent))) (lent (sessions) (streams) (objects)) (out) (datagram) (sample) (inputIn input time handle) .tables .objects)) (sliceVal (b₄, o₄) n₄ ∷ [])) ∷ ‵ (flft κ₄ q₄) ∷ ‵ (MutSlice (named 0) κ₅ u8 .own (at-list b₅ o₅ γ₅ (processOf (agentIn (recordAt (agent))) (lent (sessions) (streams) (objects)) (out) (datagram) (sample) (inputIn input time handle) .out)) (sliceVal (b₅, o₅) n₅ ∷ [])) ∷ ‵ (flft κ₅ q₅) ∷ ‵ (ShrSlice (named 0) κ₆ u8 .own (at-list b₆ o₆ γ₆ datagram) (sliceVal (b₆, o₆) n₆ ∷ [])) ∷ ‵ (flft κ₆ q₆) ∷ ‵ (ShrSlice (named 0) κ₇ u8 .own (at-list b₇ o₇ γ₇ sample) (sliceVal (b₇, o₇) n₇ ∷ [])) ∷ ‵ (flft κ₇ q₇) ∷ full 𝓤 (sliceTy (tyRef erased mut (pointee ((Array u64 19) .written)))) l₃₀ (sliceVal (b₁, o₁) n₁) (full 𝓤 (tyRef erased mut (pointee ((Array u64 19) .written))) l₂₉ (vptr b₁ o₁) (full 𝓤 (sliceTy (tyRef erased mut (pointee (u8 .written)))) l₂₈ (sliceVal (b₅, o₅) n₅) (full 𝓤 (tyRef erased mut (pointee (u8 .written))) l₂₇ (vptr b₅ o₅) (full 𝓤 (sliceTy (tyRef erased mut (pointee (Object-t.the-row .written)))) l₂₆ (sliceVal (b₄, o₄) n₄) (full 𝓤 (tyRef erased mut (pointee (Object-t.the-row .written))) l₂₅ (vptr b₄ o₄) (full 𝓤 (sliceTy (tyRef erased mut (pointee ((Array u16 35) .written)))) l₂₄ (sliceVal (b₃, o₃) n₃) (full 𝓤 (tyRef erased mut (pointee ((Array u16 35) .written))) l₂₃ (vptr b₃ o₃) (full 𝓤 (sliceTy (tyRef erased mut (pointee ((Array u64 5) .written)))) l₂₂ (sliceVal (b₂, o₂) n₂) (full 𝓤 (tyRef erased mut (pointee ((Array u64 5) .written))) l₂₁ (vptr b₂ o₂) (full 𝓤 (sliceTy (tyRef erased imm (pointee ((Array u64 19) .written)))) l₂₀ (sliceVal (b₁, o₁) n₁) (full 𝓤 (tyRef erased imm (pointee ((Array u64 19) .written))) l₁₉ (vptr b₁ o₁) (full 𝓤 (tyInt w64) l₁₈ (u64-p .val (outcomeAs ((processOf (agentIn (recordAt (agent))) (lent (sessions) (streams) (objects)) (out) (datagram) (sample) (inputIn input time handle) .processed) .outcome))) (full 𝓤 tyBool l₁₇ (bool-p .val (eqb (badCall n₁ input) 0)) (full 𝓤 (tyInt w64) l₁₆ (u64-p .val n₁) (full 𝓤 Processed-l.mir l₁₅ (Processed-p .val (processOf (agentIn (recordAt (agent))) (lent (sessions) (streams) (objects)) (out) (datagram) (sample) (inputIn input time handle) .processed)) (full 𝓤 Input-l.mir l₁₄ (Input-p .val (inputIn input time handle)) (full 𝓤 Agent-l.mir l₁₃ (Agent-p .val (agentIn (recordAt (agent)))) (full 𝓤 Record-l.mir l₁₂ (Record-p .val (recordAt (agent))) (full 𝓤 (tyInt w64) l₁₁ (u64-p .val (badCall n₁ input)) (full 𝓤 (tyInt w32) l₁₀ (u32-p .val handle) (full 𝓤 (tyInt w64) l₉ (u64-p .val time) (full 𝓤 (tyInt w8) l₈ (u8-p .val input) (full 𝓤 (sliceTy (tyRef (named 6) imm (pointee (u8 .written)))) l₇ (sliceVal (b₇, o₇) n₇) (full 𝓤 (sliceTy (tyRef (named 5) imm (pointee (u8 .written)))) l₆ (sliceVal (b₆, o₆) n₆) (full 𝓤 (sliceTy (tyRef (named 4) mut (pointee (u8 .written)))) l₅ (sliceVal (b₅, o₅) n₅) (full 𝓤 (sliceTy (tyRef (named 3) mut (pointee (Object-t.the-row .written)))) l₄ (sliceVal (b₄, o₄) n₄) (full 𝓤 (sliceTy (tyRef (named 2) mut (pointee ((Array u16 35) .written)))) l₃ (sliceVal (b₃, o₃) n₃) (full 𝓤 (sliceTy (tyRef (named 1) mut (pointee ((Array u64 5) .written)))) l₂ (sliceVal (b₂, o₂) n₂) (full 𝓤 (sliceTy (tyRef (named 0) mut (pointee ((Array u64 19) .written)))) l₁ (sliceVal (b₁, o₁) n₁) (free 𝓤 (tyInt w64) l₀ ([])))))))))))))))))))))))))))))))) (runs C Λ En mir.t-5 (atRet En Post))
-    part-5-0 is-2 c-4 is-4·yes·3 is-4·yes·4 is-4·yes·5 len-4·yes·14-sessions len-4·yes·14-streams len-4·yes·14-objects len-4·yes·14-out is-4·yes·14 len-4·yes·17-agent is-4·yes·17 =
-        assigns ! (of-opd ! (load ! (from ! (stop !)) (look ! 38 refl))) (from ! (stop !)) (init ! 74 refl (u64-p .typed 𝓤 H A W (outcomeAs ((processOf (agentIn (recordAt (agent))) (lent (sessions) (streams) (objects)) (out) (datagram) (sample) (inputIn input time handle) .processed) .outcome)) is-4·yes·17)) $
-        returns ! (look ! 74 refl) $ forget ! 14 refl $ forget ! 16 refl $ forget ! 18 refl $ forget ! 20 refl $ forget ! 22 refl $ forget ! 24 refl $ forget ! 26 refl $ forget ! 28 refl $ forget ! 30 refl $ forget ! 32 refl $ forget ! 34 refl $ forget ! 36 refl $ forget ! 38 refl $ forget ! 40 refl $ forget ! 42 refl $ forget ! 44 refl $ forget ! 46 refl $ forget ! 48 refl $ forget ! 50 refl $ forget ! 52 refl $ forget ! 54 refl $ forget ! 56 refl $ forget ! 58 refl $ forget ! 60 refl $ forget ! 62 refl $ forget ! 64 refl $ forget ! 66 refl $ forget ! 68 refl $ forget ! 70 refl $ forget ! 72 refl $ forget ! 74 refl $ move ! (74 ∷ 75 ∷ []) $ free1 ! $ move ! (72 ∷ 73 ∷ []) $ free1 ! $ move ! (70 ∷ 71 ∷ []) $ free1 ! $ move ! (68 ∷ 69 ∷ []) $ free1 ! $ move ! (66 ∷ 67 ∷ []) $ free1 ! $ move ! (64 ∷ 65 ∷ []) $ free1 ! $ move ! (62 ∷ 63 ∷ []) $ free1 ! $ move ! (60 ∷ 61 ∷ []) $ free1 ! $ move ! (58 ∷ 59 ∷ []) $ free1 ! $ move ! (56 ∷ 57 ∷ []) $ free1 ! $ move ! (54 ∷ 55 ∷ []) $ free1 ! $ move ! (52 ∷ 53 ∷ []) $ free1 ! $ move ! (50 ∷ 51 ∷ []) $ free1 ! $ move ! (48 ∷ 49 ∷ []) $ free1 ! $ move ! (46 ∷ 47 ∷ []) $ free1 ! $ move ! (44 ∷ 45 ∷ []) $ free1 ! $ move ! (42 ∷ 43 ∷ []) $ free1 ! $ move ! (40 ∷ 41 ∷ []) $ free1 ! $ move ! (38 ∷ 39 ∷ []) $ free1 ! $ move ! (36 ∷ 37 ∷ []) $ free1 ! $ move ! (34 ∷ 35 ∷ []) $ free1 ! $ move ! (32 ∷ 33 ∷ []) $ free1 ! $ move ! (30 ∷ 31 ∷ []) $ free1 ! $ move ! (28 ∷ 29 ∷ []) $ free1 ! $ move ! (26 ∷ 27 ∷ []) $ free1 ! $ move ! (24 ∷ 25 ∷ []) $ free1 ! $ move ! (22 ∷ 23 ∷ []) $ free1 ! $ move ! (20 ∷ 21 ∷ []) $ free1 ! $ move ! (18 ∷ 19 ∷ []) $ free1 ! $ move ! (16 ∷ 17 ∷ []) $ free1 ! $ move ! (14 ∷ 15 ∷ []) $ free1 ! $ free0 ! $
-        by ! (exits (outcomeAs ((processOf (agentIn (recordAt (agent))) (lent (sessions) (streams) (objects)) (out) (datagram) (sample) (inputIn input time handle) .processed) .outcome)) (recordsAfter (agent) (processOf (agentIn (recordAt (agent))) (lent (sessions) (streams) (objects)) (out) (datagram) (sample) (inputIn input time handle) .processed)) (processOf (agentIn (recordAt (agent))) (lent (sessions) (streams) (objects)) (out) (datagram) (sample) (inputIn input time handle) .tables .sessions) (processOf (agentIn (recordAt (agent))) (lent (sessions) (streams) (objects)) (out) (datagram) (sample) (inputIn input time handle) .tables .streams) (processOf (agentIn (recordAt (agent))) (lent (sessions) (streams) (objects)) (out) (datagram) (sample) (inputIn input time handle) .tables .objects) (processOf (agentIn (recordAt (agent))) (lent (sessions) (streams) (objects)) (out) (datagram) (sample) (inputIn input time handle) .out) (same-left (left true) _ (if-true left _ c-4 ∙ left-is)) is-4·yes·17 len-4·yes·17-agent len-4·yes·14-sessions len-4·yes·14-streams len-4·yes·14-objects len-4·yes·14-out)
+    part-5-0 : (is-2 : Is (u64-p .row) (badCall n₁ input) (u64-p .val (badCall n₁ input) ∷ [])) → (c-4 : eqb (badCall n₁ input) 0 ≡ true) → (is-4·yes·3 : Is (Record-p .row) (recordAt (agent)) (Record-p .val (recordAt (agent)) ∷ [])) → (is-4·yes·4 : Is (Agent-p .row) (agentIn (recordAt (agent))) (Agent-p .val (agentIn (recordAt (agent))) ∷ [])) → (is-4·yes·5 : Is (Input-p .row) (inputIn input time handle) (Input-p .val (inputIn input time handle) ∷ [])) → (len-4·yes·16-sessions : length (processOf (agentIn (recordAt (agent))) (lent (sessions) (streams) (objects) (held)) (out) (datagram) (sample) (inputIn input time handle) .tables .sessions) ≡ n₂) → (len-4·yes·16-streams : length (processOf (agentIn (recordAt (agent))) (lent (sessions) (streams) (objects) (held)) (out) (datagram) (sample) (inputIn input time handle) .tables .streams) ≡ n₃) → (len-4·yes·16-objects : length (processOf (agentIn (recordAt (agent))) (lent (sessions) (streams) (objects) (held)) (out) (datagram) (sample) (inputIn input time handle) .tables .objects) ≡ n₄) → (len-4·yes·16-held : length (processOf (agentIn (recordAt (agent))) (lent (sessions) (streams) (objects) (held)) (out) (datagram) (sample) (inputIn input time handle) .tables .held) ≡ n₅) → (len-4·yes·16-out : length (processOf (agentIn (recordAt (agent))) (lent (sessions) (streams) (objects) (held)) (out) (datagram) (sample) (inputIn input time handle) .out) ≡ n₆) → (is-4·yes·16 : Is (Processed-p .row) (processOf (agentIn (recordAt (agent))) (lent (sessions) (streams) (objects) (held)) (out) (datagram) (sample) (inputIn input time handle) .processed) (Processed-p .val (processOf (agentIn (recordAt (agent))) (lent (sessions) (streams) (objects) (held)) (out) (datagram) (sample) (inputIn input time handle) .processed) ∷ [])) → (len-4·yes·19-agent : length (recordsAfter (agent) (processOf (agentIn (recordAt (agent))) (lent (sessions) (streams) (objects) (held)) (out) (datagram) (sample) (inputIn input time handle) .processed)) ≡ n₁) → (is-4·yes·19 : Is (u64-p .row) (outcomeAs ((processOf (agentIn (recordAt (agent))) (lent (sessions) (streams) (objects) (held)) (out) (datagram) (sample) (inputIn input time handle) .processed) .outcome)) (u64-p .val (outcomeAs ((processOf (agentIn (recordAt (agent))) (lent (sessions) (streams) (objects) (held)) (out) (datagram) (sample) (inputIn input time handle) .processed) .outcome)) ∷ [])) → Sq W (‵ (MutSlice (named 0) κ₁ (Array u64 19) .own (at-list b₁ o₁ γ₁ (recordsAfter (agent) (processOf (agentIn (recordAt (agent))) (lent (sessions) (streams) (objects) (held)) (out) (datagram) (sample) (inputIn input time handle) .processed))) (sliceVal (b₁, o₁) n₁ ∷ [])) ∷ ‵ (flft κ₁ q₁) ∷ ‵ (MutSlice (named 0) κ₂ (Array u64 6) .own (at-list b₂ o₂ γ₂ (processOf (agentIn (recordAt (agent))) (lent (sessions) (streams) (objects) (held)) (out) (datagram) (sample) (inputIn input time handle) .tables .sessions)) (sliceVal (b₂, o₂) n₂ ∷ [])) ∷ ‵ (flft κ₂ q₂) ∷ ‵ (MutSlice (named 0) κ₃ (Array u16 35) .own (at-list b₃ o₃ γ₃ (processOf (agentIn (recordAt (agent))) (lent (sessions) (streams) (objects) (held)) (out) (datagram) (sample) (inputIn input time handle) .tables .streams)) (sliceVal (b₃, o₃) n₃ ∷ [])) ∷ ‵ (flft κ₃ q₃) ∷ ‵ (MutSlice (named 0) κ₄ Object-t.the-row .own (at-list b₄ o₄ γ₄ (processOf (agentIn (recordAt (agent))) (lent (sessions) (streams) (objects) (held)) (out) (datagram) (sample) (inputIn input time handle) .tables .objects)) (sliceVal (b₄, o₄) n₄ ∷ [])) ∷ ‵ (flft κ₄ q₄) ∷ ‵ (MutSlice (named 0) κ₅ u8 .own (at-list b₅ o₅ γ₅ (processOf (agentIn (recordAt (agent))) (lent (sessions) (streams) (objects) (held)) (out) (datagram) (sample) (inputIn input time handle) .tables .held)) (sliceVal (b₅, o₅) n₅ ∷ [])) ∷ ‵ (flft κ₅ q₅) ∷ ‵ (MutSlice (named 0) κ₆ u8 .own (at-list b₆ o₆ γ₆ (processOf (agentIn (recordAt (agent))) (lent (sessions) (streams) (objects) (held)) (out) (datagram) (sample) (inputIn input time handle) .out)) (sliceVal (b₆, o₆) n₆ ∷ [])) ∷ ‵ (flft κ₆ q₆) ∷ ‵ (ShrSlice (named 0) κ₇ u8 .own (at-list b₇ o₇ γ₇ datagram) (sliceVal (b₇, o₇) n₇ ∷ [])) ∷ ‵ (flft κ₇ q₇) ∷ ‵ (ShrSlice (named 0) κ₈ u8 .own (at-list b₈ o₈ γ₈ sample) (sliceVal (b₈, o₈) n₈ ∷ [])) ∷ ‵ (flft κ₈ q₈) ∷ full 𝓤 (sliceTy (tyRef erased mut (pointee ((Array u64 19) .written)))) l₃₃ (sliceVal (b₁, o₁) n₁) (full 𝓤 (tyRef erased mut (pointee ((Array u64 19) .written))) l₃₂ (vptr b₁ o₁) (full 𝓤 (sliceTy (tyRef erased mut (pointee (u8 .written)))) l₃₁ (sliceVal (b₆, o₆) n₆) (full 𝓤 (tyRef erased mut (pointee (u8 .written))) l₃₀ (vptr b₆ o₆) (full 𝓤 (sliceTy (tyRef erased mut (pointee (u8 .written)))) l₂₉ (sliceVal (b₅, o₅) n₅) (full 𝓤 (tyRef erased mut (pointee (u8 .written))) l₂₈ (vptr b₅ o₅) (full 𝓤 (sliceTy (tyRef erased mut (pointee (Object-t.the-row .written)))) l₂₇ (sliceVal (b₄, o₄) n₄) (full 𝓤 (tyRef erased mut (pointee (Object-t.the-row .written))) l₂₆ (vptr b₄ o₄) (full 𝓤 (sliceTy (tyRef erased mut (pointee ((Array u16 35) .written)))) l₂₅ (sliceVal (b₃, o₃) n₃) (full 𝓤 (tyRef erased mut (pointee ((Array u16 35) .written))) l₂₄ (vptr b₃ o₃) (full 𝓤 (sliceTy (tyRef erased mut (pointee ((Array u64 6) .written)))) l₂₃ (sliceVal (b₂, o₂) n₂) (full 𝓤 (tyRef erased mut (pointee ((Array u64 6) .written))) l₂₂ (vptr b₂ o₂) (full 𝓤 (sliceTy (tyRef erased imm (pointee ((Array u64 19) .written)))) l₂₁ (sliceVal (b₁, o₁) n₁) (full 𝓤 (tyRef erased imm (pointee ((Array u64 19) .written))) l₂₀ (vptr b₁ o₁) (full 𝓤 (tyInt w64) l₁₉ (u64-p .val (outcomeAs ((processOf (agentIn (recordAt (agent))) (lent (sessions) (streams) (objects) (held)) (out) (datagram) (sample) (inputIn input time handle) .processed) .outcome))) (full 𝓤 tyBool l₁₈ (bool-p .val (eqb (badCall n₁ input) 0)) (full 𝓤 (tyInt w64) l₁₇ (u64-p .val n₁) (full 𝓤 Processed-l.mir l₁₆ (Processed-p .val (processOf (agentIn (recordAt (agent))) (lent (sessions) (streams) (objects) (held)) (out) (datagram) (sample) (inputIn input time handle) .processed)) (full 𝓤 Input-l.mir l₁₅ (Input-p .val (inputIn input time handle)) (full 𝓤 Agent-l.mir l₁₄ (Agent-p .val (agentIn (recordAt (agent)))) (full 𝓤 Record-l.mir l₁₃ (Record-p .val (recordAt (agent))) (full 𝓤 (tyInt w64) l₁₂ (u64-p .val (badCall n₁ input)) (full 𝓤 (tyInt w32) l₁₁ (u32-p .val handle) (full 𝓤 (tyInt w64) l₁₀ (u64-p .val time) (full 𝓤 (tyInt w8) l₉ (u8-p .val input) (full 𝓤 (sliceTy (tyRef (named 7) imm (pointee (u8 .written)))) l₈ (sliceVal (b₈, o₈) n₈) (full 𝓤 (sliceTy (tyRef (named 6) imm (pointee (u8 .written)))) l₇ (sliceVal (b₇, o₇) n₇) (full 𝓤 (sliceTy (tyRef (named 5) mut (pointee (u8 .written)))) l₆ (sliceVal (b₆, o₆) n₆) (full 𝓤 (sliceTy (tyRef (named 4) mut (pointee (u8 .written)))) l₅ (sliceVal (b₅, o₅) n₅) (full 𝓤 (sliceTy (tyRef (named 3) mut (pointee (Object-t.the-row .written)))) l₄ (sliceVal (b₄, o₄) n₄) (full 𝓤 (sliceTy (tyRef (named 2) mut (pointee ((Array u16 35) .written)))) l₃ (sliceVal (b₃, o₃) n₃) (full 𝓤 (sliceTy (tyRef (named 1) mut (pointee ((Array u64 6) .written)))) l₂ (sliceVal (b₂, o₂) n₂) (full 𝓤 (sliceTy (tyRef (named 0) mut (pointee ((Array u64 19) .written)))) l₁ (sliceVal (b₁, o₁) n₁) (free 𝓤 (tyInt w64) l₀ ([]))))))))))))))))))))))))))))))))))) (runs C Λ En mir.t-5 (atRet En Post))
+    part-5-0 is-2 c-4 is-4·yes·3 is-4·yes·4 is-4·yes·5 len-4·yes·16-sessions len-4·yes·16-streams len-4·yes·16-objects len-4·yes·16-held len-4·yes·16-out is-4·yes·16 len-4·yes·19-agent is-4·yes·19 =
+        assigns ! (of-opd ! (load ! (from ! (stop !)) (look ! 44 refl))) (from ! (stop !)) (init ! 82 refl (u64-p .typed 𝓤 H A W (outcomeAs ((processOf (agentIn (recordAt (agent))) (lent (sessions) (streams) (objects) (held)) (out) (datagram) (sample) (inputIn input time handle) .processed) .outcome)) is-4·yes·19)) $
+        returns ! (look ! 82 refl) $ forget ! 16 refl $ forget ! 18 refl $ forget ! 20 refl $ forget ! 22 refl $ forget ! 24 refl $ forget ! 26 refl $ forget ! 28 refl $ forget ! 30 refl $ forget ! 32 refl $ forget ! 34 refl $ forget ! 36 refl $ forget ! 38 refl $ forget ! 40 refl $ forget ! 42 refl $ forget ! 44 refl $ forget ! 46 refl $ forget ! 48 refl $ forget ! 50 refl $ forget ! 52 refl $ forget ! 54 refl $ forget ! 56 refl $ forget ! 58 refl $ forget ! 60 refl $ forget ! 62 refl $ forget ! 64 refl $ forget ! 66 refl $ forget ! 68 refl $ forget ! 70 refl $ forget ! 72 refl $ forget ! 74 refl $ forget ! 76 refl $ forget ! 78 refl $ forget ! 80 refl $ forget ! 82 refl $ move ! (82 ∷ 83 ∷ []) $ free1 ! $ move ! (80 ∷ 81 ∷ []) $ free1 ! $ move ! (78 ∷ 79 ∷ []) $ free1 ! $ move ! (76 ∷ 77 ∷ []) $ free1 ! $ move ! (74 ∷ 75 ∷ []) $ free1 ! $ move ! (72 ∷ 73 ∷ []) $ free1 ! $ move ! (70 ∷ 71 ∷ []) $ free1 ! $ move ! (68 ∷ 69 ∷ []) $ free1 ! $ move ! (66 ∷ 67 ∷ []) $ free1 ! $ move ! (64 ∷ 65 ∷ []) $ free1 ! $ move ! (62 ∷ 63 ∷ []) $ free1 ! $ move ! (60 ∷ 61 ∷ []) $ free1 ! $ move ! (58 ∷ 59 ∷ []) $ free1 ! $ move ! (56 ∷ 57 ∷ []) $ free1 ! $ move ! (54 ∷ 55 ∷ []) $ free1 ! $ move ! (52 ∷ 53 ∷ []) $ free1 ! $ move ! (50 ∷ 51 ∷ []) $ free1 ! $ move ! (48 ∷ 49 ∷ []) $ free1 ! $ move ! (46 ∷ 47 ∷ []) $ free1 ! $ move ! (44 ∷ 45 ∷ []) $ free1 ! $ move ! (42 ∷ 43 ∷ []) $ free1 ! $ move ! (40 ∷ 41 ∷ []) $ free1 ! $ move ! (38 ∷ 39 ∷ []) $ free1 ! $ move ! (36 ∷ 37 ∷ []) $ free1 ! $ move ! (34 ∷ 35 ∷ []) $ free1 ! $ move ! (32 ∷ 33 ∷ []) $ free1 ! $ move ! (30 ∷ 31 ∷ []) $ free1 ! $ move ! (28 ∷ 29 ∷ []) $ free1 ! $ move ! (26 ∷ 27 ∷ []) $ free1 ! $ move ! (24 ∷ 25 ∷ []) $ free1 ! $ move ! (22 ∷ 23 ∷ []) $ free1 ! $ move ! (20 ∷ 21 ∷ []) $ free1 ! $ move ! (18 ∷ 19 ∷ []) $ free1 ! $ move ! (16 ∷ 17 ∷ []) $ free1 ! $ free0 ! $
+        by ! (exits (outcomeAs ((processOf (agentIn (recordAt (agent))) (lent (sessions) (streams) (objects) (held)) (out) (datagram) (sample) (inputIn input time handle) .processed) .outcome)) (recordsAfter (agent) (processOf (agentIn (recordAt (agent))) (lent (sessions) (streams) (objects) (held)) (out) (datagram) (sample) (inputIn input time handle) .processed)) (processOf (agentIn (recordAt (agent))) (lent (sessions) (streams) (objects) (held)) (out) (datagram) (sample) (inputIn input time handle) .tables .sessions) (processOf (agentIn (recordAt (agent))) (lent (sessions) (streams) (objects) (held)) (out) (datagram) (sample) (inputIn input time handle) .tables .streams) (processOf (agentIn (recordAt (agent))) (lent (sessions) (streams) (objects) (held)) (out) (datagram) (sample) (inputIn input time handle) .tables .objects) (processOf (agentIn (recordAt (agent))) (lent (sessions) (streams) (objects) (held)) (out) (datagram) (sample) (inputIn input time handle) .tables .held) (processOf (agentIn (recordAt (agent))) (lent (sessions) (streams) (objects) (held)) (out) (datagram) (sample) (inputIn input time handle) .out) (same-left (left true) _ (if-true left _ c-4 ∙ left-is)) is-4·yes·19 len-4·yes·19-agent len-4·yes·16-sessions len-4·yes·16-streams len-4·yes·16-objects len-4·yes·16-held len-4·yes·16-out)
 
-    part-4·yes·6-0 : (is-2 : Is (u64-p .row) (badCall n₁ input) (u64-p .val (badCall n₁ input) ∷ [])) → (c-4 : eqb (badCall n₁ input) 0 ≡ true) → (is-4·yes·3 : Is (Record-p .row) (recordAt (agent)) (Record-p .val (recordAt (agent)) ∷ [])) → (is-4·yes·4 : Is (Agent-p .row) (agentIn (recordAt (agent))) (Agent-p .val (agentIn (recordAt (agent))) ∷ [])) → (is-4·yes·5 : Is (Input-p .row) (inputIn input time handle) (Input-p .val (inputIn input time handle) ∷ [])) → Sq W (‵ (MutSlice (named 0) κ₁ (Array u64 19) .own (at-list b₁ o₁ γ₁ agent) (sliceVal (b₁, o₁) n₁ ∷ [])) ∷ ‵ (flft κ₁ q₁) ∷ ‵ (MutSlice (named 0) κ₂ (Array u64 5) .own (at-list b₂ o₂ γ₂ sessions) (sliceVal (b₂, o₂) n₂ ∷ [])) ∷ ‵ (flft κ₂ q₂) ∷ ‵ (MutSlice (named 0) κ₃ (Array u16 35) .own (at-list b₃ o₃ γ₃ streams) (sliceVal (b₃, o₃) n₃ ∷ [])) ∷ ‵ (flft κ₃ q₃) ∷ ‵ (MutSlice (named 0) κ₄ Object-t.the-row .own (at-list b₄ o₄ γ₄ objects) (sliceVal (b₄, o₄) n₄ ∷ [])) ∷ ‵ (flft κ₄ q₄) ∷ ‵ (MutSlice (named 0) κ₅ u8 .own (at-list b₅ o₅ γ₅ out) (sliceVal (b₅, o₅) n₅ ∷ [])) ∷ ‵ (flft κ₅ q₅) ∷ ‵ (ShrSlice (named 0) κ₆ u8 .own (at-list b₆ o₆ γ₆ datagram) (sliceVal (b₆, o₆) n₆ ∷ [])) ∷ ‵ (flft κ₆ q₆) ∷ ‵ (ShrSlice (named 0) κ₇ u8 .own (at-list b₇ o₇ γ₇ sample) (sliceVal (b₇, o₇) n₇ ∷ [])) ∷ ‵ (flft κ₇ q₇) ∷ free 𝓤 (sliceTy (tyRef erased mut (pointee ((Array u64 19) .written)))) l₃₀ (free 𝓤 (tyRef erased mut (pointee ((Array u64 19) .written))) l₂₉ (free 𝓤 (sliceTy (tyRef erased mut (pointee (u8 .written)))) l₂₈ (free 𝓤 (tyRef erased mut (pointee (u8 .written))) l₂₇ (free 𝓤 (sliceTy (tyRef erased mut (pointee (Object-t.the-row .written)))) l₂₆ (free 𝓤 (tyRef erased mut (pointee (Object-t.the-row .written))) l₂₅ (free 𝓤 (sliceTy (tyRef erased mut (pointee ((Array u16 35) .written)))) l₂₄ (free 𝓤 (tyRef erased mut (pointee ((Array u16 35) .written))) l₂₃ (free 𝓤 (sliceTy (tyRef erased mut (pointee ((Array u64 5) .written)))) l₂₂ (free 𝓤 (tyRef erased mut (pointee ((Array u64 5) .written))) l₂₁ (full 𝓤 (sliceTy (tyRef erased imm (pointee ((Array u64 19) .written)))) l₂₀ (sliceVal (b₁, o₁) n₁) (full 𝓤 (tyRef erased imm (pointee ((Array u64 19) .written))) l₁₉ (vptr b₁ o₁) (free 𝓤 (tyInt w64) l₁₈ (full 𝓤 tyBool l₁₇ (bool-p .val (eqb (badCall n₁ input) 0)) (full 𝓤 (tyInt w64) l₁₆ (u64-p .val n₁) (free 𝓤 Processed-l.mir l₁₅ (full 𝓤 Input-l.mir l₁₄ (Input-p .val (inputIn input time handle)) (full 𝓤 Agent-l.mir l₁₃ (Agent-p .val (agentIn (recordAt (agent)))) (full 𝓤 Record-l.mir l₁₂ (Record-p .val (recordAt (agent))) (full 𝓤 (tyInt w64) l₁₁ (u64-p .val (badCall n₁ input)) (full 𝓤 (tyInt w32) l₁₀ (u32-p .val handle) (full 𝓤 (tyInt w64) l₉ (u64-p .val time) (full 𝓤 (tyInt w8) l₈ (u8-p .val input) (full 𝓤 (sliceTy (tyRef (named 6) imm (pointee (u8 .written)))) l₇ (sliceVal (b₇, o₇) n₇) (full 𝓤 (sliceTy (tyRef (named 5) imm (pointee (u8 .written)))) l₆ (sliceVal (b₆, o₆) n₆) (full 𝓤 (sliceTy (tyRef (named 4) mut (pointee (u8 .written)))) l₅ (sliceVal (b₅, o₅) n₅) (full 𝓤 (sliceTy (tyRef (named 3) mut (pointee (Object-t.the-row .written)))) l₄ (sliceVal (b₄, o₄) n₄) (full 𝓤 (sliceTy (tyRef (named 2) mut (pointee ((Array u16 35) .written)))) l₃ (sliceVal (b₃, o₃) n₃) (full 𝓤 (sliceTy (tyRef (named 1) mut (pointee ((Array u64 5) .written)))) l₂ (sliceVal (b₂, o₂) n₂) (full 𝓤 (sliceTy (tyRef (named 0) mut (pointee ((Array u64 19) .written)))) l₁ (sliceVal (b₁, o₁) n₁) (free 𝓤 (tyInt w64) l₀ ([])))))))))))))))))))))))))))))))) (runs C Λ En (past 5 (yes-of (one mir.t-4))) (anyQ (afterSeq 𝓤 H (Wp 𝓤 H C Λ En mir.t-5 (atReturn 𝓤 H En Post)) (atReturn 𝓤 H En Post))))
+    part-4·yes·6-0 : (is-2 : Is (u64-p .row) (badCall n₁ input) (u64-p .val (badCall n₁ input) ∷ [])) → (c-4 : eqb (badCall n₁ input) 0 ≡ true) → (is-4·yes·3 : Is (Record-p .row) (recordAt (agent)) (Record-p .val (recordAt (agent)) ∷ [])) → (is-4·yes·4 : Is (Agent-p .row) (agentIn (recordAt (agent))) (Agent-p .val (agentIn (recordAt (agent))) ∷ [])) → (is-4·yes·5 : Is (Input-p .row) (inputIn input time handle) (Input-p .val (inputIn input time handle) ∷ [])) → Sq W (‵ (MutSlice (named 0) κ₁ (Array u64 19) .own (at-list b₁ o₁ γ₁ agent) (sliceVal (b₁, o₁) n₁ ∷ [])) ∷ ‵ (flft κ₁ q₁) ∷ ‵ (MutSlice (named 0) κ₂ (Array u64 6) .own (at-list b₂ o₂ γ₂ sessions) (sliceVal (b₂, o₂) n₂ ∷ [])) ∷ ‵ (flft κ₂ q₂) ∷ ‵ (MutSlice (named 0) κ₃ (Array u16 35) .own (at-list b₃ o₃ γ₃ streams) (sliceVal (b₃, o₃) n₃ ∷ [])) ∷ ‵ (flft κ₃ q₃) ∷ ‵ (MutSlice (named 0) κ₄ Object-t.the-row .own (at-list b₄ o₄ γ₄ objects) (sliceVal (b₄, o₄) n₄ ∷ [])) ∷ ‵ (flft κ₄ q₄) ∷ ‵ (MutSlice (named 0) κ₅ u8 .own (at-list b₅ o₅ γ₅ held) (sliceVal (b₅, o₅) n₅ ∷ [])) ∷ ‵ (flft κ₅ q₅) ∷ ‵ (MutSlice (named 0) κ₆ u8 .own (at-list b₆ o₆ γ₆ out) (sliceVal (b₆, o₆) n₆ ∷ [])) ∷ ‵ (flft κ₆ q₆) ∷ ‵ (ShrSlice (named 0) κ₇ u8 .own (at-list b₇ o₇ γ₇ datagram) (sliceVal (b₇, o₇) n₇ ∷ [])) ∷ ‵ (flft κ₇ q₇) ∷ ‵ (ShrSlice (named 0) κ₈ u8 .own (at-list b₈ o₈ γ₈ sample) (sliceVal (b₈, o₈) n₈ ∷ [])) ∷ ‵ (flft κ₈ q₈) ∷ free 𝓤 (sliceTy (tyRef erased mut (pointee ((Array u64 19) .written)))) l₃₃ (free 𝓤 (tyRef erased mut (pointee ((Array u64 19) .written))) l₃₂ (free 𝓤 (sliceTy (tyRef erased mut (pointee (u8 .written)))) l₃₁ (free 𝓤 (tyRef erased mut (pointee (u8 .written))) l₃₀ (free 𝓤 (sliceTy (tyRef erased mut (pointee (u8 .written)))) l₂₉ (free 𝓤 (tyRef erased mut (pointee (u8 .written))) l₂₈ (free 𝓤 (sliceTy (tyRef erased mut (pointee (Object-t.the-row .written)))) l₂₇ (free 𝓤 (tyRef erased mut (pointee (Object-t.the-row .written))) l₂₆ (free 𝓤 (sliceTy (tyRef erased mut (pointee ((Array u16 35) .written)))) l₂₅ (free 𝓤 (tyRef erased mut (pointee ((Array u16 35) .written))) l₂₄ (free 𝓤 (sliceTy (tyRef erased mut (pointee ((Array u64 6) .written)))) l₂₃ (free 𝓤 (tyRef erased mut (pointee ((Array u64 6) .written))) l₂₂ (full 𝓤 (sliceTy (tyRef erased imm (pointee ((Array u64 19) .written)))) l₂₁ (sliceVal (b₁, o₁) n₁) (full 𝓤 (tyRef erased imm (pointee ((Array u64 19) .written))) l₂₀ (vptr b₁ o₁) (free 𝓤 (tyInt w64) l₁₉ (full 𝓤 tyBool l₁₈ (bool-p .val (eqb (badCall n₁ input) 0)) (full 𝓤 (tyInt w64) l₁₇ (u64-p .val n₁) (free 𝓤 Processed-l.mir l₁₆ (full 𝓤 Input-l.mir l₁₅ (Input-p .val (inputIn input time handle)) (full 𝓤 Agent-l.mir l₁₄ (Agent-p .val (agentIn (recordAt (agent)))) (full 𝓤 Record-l.mir l₁₃ (Record-p .val (recordAt (agent))) (full 𝓤 (tyInt w64) l₁₂ (u64-p .val (badCall n₁ input)) (full 𝓤 (tyInt w32) l₁₁ (u32-p .val handle) (full 𝓤 (tyInt w64) l₁₀ (u64-p .val time) (full 𝓤 (tyInt w8) l₉ (u8-p .val input) (full 𝓤 (sliceTy (tyRef (named 7) imm (pointee (u8 .written)))) l₈ (sliceVal (b₈, o₈) n₈) (full 𝓤 (sliceTy (tyRef (named 6) imm (pointee (u8 .written)))) l₇ (sliceVal (b₇, o₇) n₇) (full 𝓤 (sliceTy (tyRef (named 5) mut (pointee (u8 .written)))) l₆ (sliceVal (b₆, o₆) n₆) (full 𝓤 (sliceTy (tyRef (named 4) mut (pointee (u8 .written)))) l₅ (sliceVal (b₅, o₅) n₅) (full 𝓤 (sliceTy (tyRef (named 3) mut (pointee (Object-t.the-row .written)))) l₄ (sliceVal (b₄, o₄) n₄) (full 𝓤 (sliceTy (tyRef (named 2) mut (pointee ((Array u16 35) .written)))) l₃ (sliceVal (b₃, o₃) n₃) (full 𝓤 (sliceTy (tyRef (named 1) mut (pointee ((Array u64 6) .written)))) l₂ (sliceVal (b₂, o₂) n₂) (full 𝓤 (sliceTy (tyRef (named 0) mut (pointee ((Array u64 19) .written)))) l₁ (sliceVal (b₁, o₁) n₁) (free 𝓤 (tyInt w64) l₀ ([]))))))))))))))))))))))))))))))))))) (runs C Λ En (past 5 (yes-of (one mir.t-4))) (anyQ (afterSeq 𝓤 H (Wp 𝓤 H C Λ En mir.t-5 (atReturn 𝓤 H En Post)) (atReturn 𝓤 H En Post))))
     part-4·yes·6-0 is-2 c-4 is-4·yes·3 is-4·yes·4 is-4·yes·5 =
-        assigns ! (addr ! (from ! (fld ! refl (hop ! (look-in ! 70 (sub ! 0 refl (whole !))) (stop !))))) (from ! (stop !)) (init ! 32 refl (tt, tt)) $
-        assigns ! (agg ! (and-then ! (load ! (from ! (stop !)) (look ! 32 refl)) (and-then ! (load ! (from ! (fld ! refl (stop !))) (look-in ! 70 (sub ! 1 refl (whole !)))) (no-more !)))) (from ! (stop !)) (init ! 30 refl (tt, (tt, (record { fits = room₂ .0 }, tt)))) $
-        assigns ! (addr ! (from ! (fld ! refl (hop ! (look-in ! 68 (sub ! 0 refl (whole !))) (stop !))))) (from ! (stop !)) (init ! 28 refl (tt, tt)) $
-        assigns ! (agg ! (and-then ! (load ! (from ! (stop !)) (look ! 28 refl)) (and-then ! (load ! (from ! (fld ! refl (stop !))) (look-in ! 68 (sub ! 1 refl (whole !)))) (no-more !)))) (from ! (stop !)) (init ! 26 refl (tt, (tt, (record { fits = room₃ .0 }, tt)))) $
-        assigns ! (addr ! (from ! (fld ! refl (hop ! (look-in ! 66 (sub ! 0 refl (whole !))) (stop !))))) (from ! (stop !)) (init ! 24 refl (tt, tt)) $
-        assigns ! (agg ! (and-then ! (load ! (from ! (stop !)) (look ! 24 refl)) (and-then ! (load ! (from ! (fld ! refl (stop !))) (look-in ! 66 (sub ! 1 refl (whole !)))) (no-more !)))) (from ! (stop !)) (init ! 22 refl (tt, (tt, (record { fits = room₄ .0 }, tt)))) $
-        assigns ! (addr ! (from ! (fld ! refl (hop ! (look-in ! 64 (sub ! 0 refl (whole !))) (stop !))))) (from ! (stop !)) (init ! 20 refl (tt, tt)) $
-        assigns ! (agg ! (and-then ! (load ! (from ! (stop !)) (look ! 20 refl)) (and-then ! (load ! (from ! (fld ! refl (stop !))) (look-in ! 64 (sub ! 1 refl (whole !)))) (no-more !)))) (from ! (stop !)) (init ! 18 refl (tt, (tt, (record { fits = room₅ .0 }, tt)))) $
-        -- 4.yes.14: agent::process::process
+        assigns ! (addr ! (from ! (fld ! refl (hop ! (look-in ! 78 (sub ! 0 refl (whole !))) (stop !))))) (from ! (stop !)) (init ! 38 refl (tt, tt)) $
+        assigns ! (agg ! (and-then ! (load ! (from ! (stop !)) (look ! 38 refl)) (and-then ! (load ! (from ! (fld ! refl (stop !))) (look-in ! 78 (sub ! 1 refl (whole !)))) (no-more !)))) (from ! (stop !)) (init ! 36 refl (tt, (tt, (record { fits = room₂ .0 }, tt)))) $
+        assigns ! (addr ! (from ! (fld ! refl (hop ! (look-in ! 76 (sub ! 0 refl (whole !))) (stop !))))) (from ! (stop !)) (init ! 34 refl (tt, tt)) $
+        assigns ! (agg ! (and-then ! (load ! (from ! (stop !)) (look ! 34 refl)) (and-then ! (load ! (from ! (fld ! refl (stop !))) (look-in ! 76 (sub ! 1 refl (whole !)))) (no-more !)))) (from ! (stop !)) (init ! 32 refl (tt, (tt, (record { fits = room₃ .0 }, tt)))) $
+        assigns ! (addr ! (from ! (fld ! refl (hop ! (look-in ! 74 (sub ! 0 refl (whole !))) (stop !))))) (from ! (stop !)) (init ! 30 refl (tt, tt)) $
+        assigns ! (agg ! (and-then ! (load ! (from ! (stop !)) (look ! 30 refl)) (and-then ! (load ! (from ! (fld ! refl (stop !))) (look-in ! 74 (sub ! 1 refl (whole !)))) (no-more !)))) (from ! (stop !)) (init ! 28 refl (tt, (tt, (record { fits = room₄ .0 }, tt)))) $
+        assigns ! (addr ! (from ! (fld ! refl (hop ! (look-in ! 72 (sub ! 0 refl (whole !))) (stop !))))) (from ! (stop !)) (init ! 26 refl (tt, tt)) $
+        assigns ! (agg ! (and-then ! (load ! (from ! (stop !)) (look ! 26 refl)) (and-then ! (load ! (from ! (fld ! refl (stop !))) (look-in ! 72 (sub ! 1 refl (whole !)))) (no-more !)))) (from ! (stop !)) (init ! 24 refl (tt, (tt, (record { fits = room₅ .0 }, tt)))) $
+        assigns ! (addr ! (from ! (fld ! refl (hop ! (look-in ! 70 (sub ! 0 refl (whole !))) (stop !))))) (from ! (stop !)) (init ! 22 refl (tt, tt)) $
+        assigns ! (agg ! (and-then ! (load ! (from ! (stop !)) (look ! 22 refl)) (and-then ! (load ! (from ! (fld ! refl (stop !))) (look-in ! 70 (sub ! 1 refl (whole !)))) (no-more !)))) (from ! (stop !)) (init ! 20 refl (tt, (tt, (record { fits = room₆ .0 }, tt)))) $
+        -- 4.yes.16: agent::process::process
         move ! (2 ∷ 3 ∷ []) $
-        lends-mut ! tt (Array u64 5) b₂ o₂ sessions n₂ (refl) (λ ν-4·yes·14-sessions δ-4·yes·14-sessions.
+        lends-mut ! tt (Array u64 6) b₂ o₂ sessions n₂ (refl) (λ ν-4·yes·16-sessions δ-4·yes·16-sessions.
         move ! (5 ∷ 6 ∷ []) $
-        lends-mut ! tt (Array u16 35) b₃ o₃ streams n₃ (refl) (λ ν-4·yes·14-streams δ-4·yes·14-streams.
+        lends-mut ! tt (Array u16 35) b₃ o₃ streams n₃ (refl) (λ ν-4·yes·16-streams δ-4·yes·16-streams.
         move ! (8 ∷ 9 ∷ []) $
-        lends-mut ! tt Object-t.the-row b₄ o₄ objects n₄ (refl) (λ ν-4·yes·14-objects δ-4·yes·14-objects.
+        lends-mut ! tt Object-t.the-row b₄ o₄ objects n₄ (refl) (λ ν-4·yes·16-objects δ-4·yes·16-objects.
         move ! (11 ∷ 12 ∷ []) $
-        lends-mut ! tt u8 b₅ o₅ out n₅ (refl) (λ ν-4·yes·14-out δ-4·yes·14-out.
+        lends-mut ! tt u8 b₅ o₅ held n₅ (refl) (λ ν-4·yes·16-held δ-4·yes·16-held.
         move ! (14 ∷ 15 ∷ []) $
-        copies-shr ! u8 b₆ o₆ datagram n₆ $ move ! (17 ∷ 18 ∷ []) $
-        copies-shr ! u8 b₇ o₇ sample n₇ $ nothing ! $ move ! (1 ∷ 0 ∷ []) $ join ! $ move ! (3 ∷ 0 ∷ []) $ join ! $ move ! (5 ∷ 0 ∷ []) $ join ! $ move ! (7 ∷ 0 ∷ []) $ join ! $ move ! (9 ∷ 0 ∷ []) $ join ! $ move ! (11 ∷ 0 ∷ []) $ join ! $
-        use1 W (raw (toks 𝓤 A 6 (((ν-4·yes·14-sessions ∷ []), ((ν-4·yes·14-streams ∷ []), ((ν-4·yes·14-objects ∷ []), ((ν-4·yes·14-out ∷ []), (κ₆, (κ₇, tt))))))) ((fullShare, (fullShare, (fullShare, (fullShare, (q₆, (q₇, tt))))))))) (id⊢ 𝓤 _) $ nothing ! $
+        lends-mut ! tt u8 b₆ o₆ out n₆ (refl) (λ ν-4·yes·16-out δ-4·yes·16-out.
+        move ! (17 ∷ 18 ∷ []) $
+        copies-shr ! u8 b₇ o₇ datagram n₇ $ move ! (20 ∷ 21 ∷ []) $
+        copies-shr ! u8 b₈ o₈ sample n₈ $ nothing ! $ move ! (1 ∷ 0 ∷ []) $ join ! $ move ! (3 ∷ 0 ∷ []) $ join ! $ move ! (5 ∷ 0 ∷ []) $ join ! $ move ! (7 ∷ 0 ∷ []) $ join ! $ move ! (9 ∷ 0 ∷ []) $ join ! $ move ! (11 ∷ 0 ∷ []) $ join ! $ move ! (13 ∷ 0 ∷ []) $ join ! $
+        use1 W (raw (toks 𝓤 A 7 (((ν-4·yes·16-sessions ∷ []), ((ν-4·yes·16-streams ∷ []), ((ν-4·yes·16-objects ∷ []), ((ν-4·yes·16-held ∷ []), ((ν-4·yes·16-out ∷ []), (κ₇, (κ₈, tt)))))))) ((fullShare, (fullShare, (fullShare, (fullShare, (fullShare, (q₇, (q₈, tt)))))))))) (id⊢ 𝓤 _) $ nothing ! $
         owned ! (Input-p .row) (Is (Input-p .row)) (Input-p .makes 𝓤 H A W) (inputIn input time handle) (Input-p .val (inputIn input time handle) ∷ []) is-4·yes·5 $ fjoin ! $
-        owned ! (Agent-p .row) (Is (Agent-p .row)) (Agent-p .makes 𝓤 H A W) (agentIn (recordAt (agent))) (Agent-p .val (agentIn (recordAt (agent))) ∷ []) is-4·yes·4 $ fjoin ! $ move ! (2 ∷ 0 ∷ []) $ fjoin ! $ move ! (3 ∷ 0 ∷ []) $ fjoin ! $ move ! (4 ∷ 0 ∷ []) $ fjoin ! $ move ! (5 ∷ 0 ∷ []) $ fjoin ! $ move ! (6 ∷ 0 ∷ []) $ fjoin ! $ move ! (7 ∷ 0 ∷ []) $ fjoin ! $ move ! (1 ∷ 0 ∷ []) $
-        calls-any ! fm 6 [] (process-process.signature .params) (process-process.ended .kept) Processed-p (process-process.clauses 𝓤 H A mem run) known-process-process ((ν-4·yes·14-sessions ∷ []), ((ν-4·yes·14-streams ∷ []), ((ν-4·yes·14-objects ∷ []), ((ν-4·yes·14-out ∷ []), (κ₆, (κ₇, tt)))))) (fullShare, (fullShare, (fullShare, (fullShare, (q₆, (q₇, tt)))))) tt (at-list b₂ o₂ δ-4·yes·14-sessions sessions, (at-list b₃ o₃ δ-4·yes·14-streams streams, (at-list b₄ o₄ δ-4·yes·14-objects objects, (at-list b₅ o₅ δ-4·yes·14-out out, (at-list b₆ o₆ γ₆ datagram, (at-list b₇ o₇ γ₇ sample, (agentIn (recordAt (agent)), (inputIn input time handle, tt)))))))) (sliceVal (b₂, o₂) n₂ ∷ [], (sliceVal (b₃, o₃) n₃ ∷ [], (sliceVal (b₄, o₄) n₄ ∷ [], (sliceVal (b₅, o₅) n₅ ∷ [], (sliceVal (b₆, o₆) n₆ ∷ [], (sliceVal (b₇, o₇) n₇ ∷ [], (Agent-p .val (agentIn (recordAt (agent))) ∷ [], (Input-p .val (inputIn input time handle) ∷ [], tt)))))))) tt (processOf (agentIn (recordAt (agent))) (lent (sessions) (streams) (objects)) (out) (datagram) (sample) (inputIn input time handle) .processed) (λ ws-4·yes·14. (ws-4·yes·14 .0 ≡ processOf (agentIn (recordAt (agent))) (lent (sessions) (streams) (objects)) (out) (datagram) (sample) (inputIn input time handle) .tables .sessions) × (ws-4·yes·14 .1 .0 ≡ processOf (agentIn (recordAt (agent))) (lent (sessions) (streams) (objects)) (out) (datagram) (sample) (inputIn input time handle) .tables .streams) × (ws-4·yes·14 .1 .1 .0 ≡ processOf (agentIn (recordAt (agent))) (lent (sessions) (streams) (objects)) (out) (datagram) (sample) (inputIn input time handle) .tables .objects) × (ws-4·yes·14 .1 .1 .1 .0 ≡ processOf (agentIn (recordAt (agent))) (lent (sessions) (streams) (objects)) (out) (datagram) (sample) (inputIn input time handle) .out)) (id⊢ 𝓤 _) (λ r ws-4·yes·14. fact-mono 𝓤 ((r ≡ processOf (agentIn (recordAt (agent))) (lent (sessions) (streams) (objects)) (out) (datagram) (sample) (inputIn input time handle) .processed) × ((ws-4·yes·14 .0) ≡ processOf (agentIn (recordAt (agent))) (lent (sessions) (streams) (objects)) (out) (datagram) (sample) (inputIn input time handle) .tables .sessions) × ((ws-4·yes·14 .1 .0) ≡ processOf (agentIn (recordAt (agent))) (lent (sessions) (streams) (objects)) (out) (datagram) (sample) (inputIn input time handle) .tables .streams) × ((ws-4·yes·14 .1 .1 .0) ≡ processOf (agentIn (recordAt (agent))) (lent (sessions) (streams) (objects)) (out) (datagram) (sample) (inputIn input time handle) .tables .objects) × ((ws-4·yes·14 .1 .1 .1 .0) ≡ processOf (agentIn (recordAt (agent))) (lent (sessions) (streams) (objects)) (out) (datagram) (sample) (inputIn input time handle) .out)) ((r ≡ (processOf (agentIn (recordAt (agent))) (lent (sessions) (streams) (objects)) (out) (datagram) (sample) (inputIn input time handle) .processed)) × ((ws-4·yes·14 .0 ≡ processOf (agentIn (recordAt (agent))) (lent (sessions) (streams) (objects)) (out) (datagram) (sample) (inputIn input time handle) .tables .sessions) × (ws-4·yes·14 .1 .0 ≡ processOf (agentIn (recordAt (agent))) (lent (sessions) (streams) (objects)) (out) (datagram) (sample) (inputIn input time handle) .tables .streams) × (ws-4·yes·14 .1 .1 .0 ≡ processOf (agentIn (recordAt (agent))) (lent (sessions) (streams) (objects)) (out) (datagram) (sample) (inputIn input time handle) .tables .objects) × (ws-4·yes·14 .1 .1 .1 .0 ≡ processOf (agentIn (recordAt (agent))) (lent (sessions) (streams) (objects)) (out) (datagram) (sample) (inputIn input time handle) .out))) (λ e. (e .0, (e .1, e .2, e .3, e .4)))) (λ _. (and-then ! (load ! (from ! (stop !)) (look ! 25 refl)) (and-then ! (load ! (from ! (stop !)) (look ! 21 refl)) (and-then ! (load ! (from ! (stop !)) (look ! 17 refl)) (and-then ! (load ! (from ! (stop !)) (look ! 13 refl)) (and-then ! (load ! (from ! (stop !)) (look ! 57 refl)) (and-then ! (load ! (from ! (stop !)) (look ! 55 refl)) (and-then ! (load ! (from ! (stop !)) (look ! 43 refl)) (and-then ! (load ! (from ! (stop !)) (look ! 41 refl)) (no-more !)))))))))) (λ ws-4·yes·14 said-4·yes·14 is-4·yes·14.
-        use1 W ((‵ (flft (ν-4·yes·14-sessions ∷ []) fullShare) ⊛ (‵ (flft (ν-4·yes·14-streams ∷ []) fullShare) ⊛ (‵ (flft (ν-4·yes·14-objects ∷ []) fullShare) ⊛ (‵ (flft (ν-4·yes·14-out ∷ []) fullShare) ⊛ (‵ (flft κ₆ q₆) ⊛ (‵ (flft κ₇ q₇) ⊛ ‵ ftrue))))))) (id⊢ 𝓤 _) $ split ! $ move ! (1 ∷ []) $ split ! $ move ! (1 ∷ []) $ split ! $ move ! (1 ∷ []) $ split ! $ move ! (1 ∷ []) $ split ! $ move ! (1 ∷ []) $ split ! $ move ! (7 ∷ []) $ fsplit ! $ fsplit ! $ move ! (1 ∷ []) $
-        feqL ! (λ wlen-4·yes·14-0.
+        owned ! (Agent-p .row) (Is (Agent-p .row)) (Agent-p .makes 𝓤 H A W) (agentIn (recordAt (agent))) (Agent-p .val (agentIn (recordAt (agent))) ∷ []) is-4·yes·4 $ fjoin ! $ move ! (2 ∷ 0 ∷ []) $ fjoin ! $ move ! (3 ∷ 0 ∷ []) $ fjoin ! $ move ! (4 ∷ 0 ∷ []) $ fjoin ! $ move ! (5 ∷ 0 ∷ []) $ fjoin ! $ move ! (6 ∷ 0 ∷ []) $ fjoin ! $ move ! (7 ∷ 0 ∷ []) $ fjoin ! $ move ! (8 ∷ 0 ∷ []) $ fjoin ! $ move ! (1 ∷ 0 ∷ []) $
+        calls-any ! fm 7 [] (process-process.signature .params) (process-process.ended .kept) Processed-p (process-process.clauses 𝓤 H A mem run) known-process-process ((ν-4·yes·16-sessions ∷ []), ((ν-4·yes·16-streams ∷ []), ((ν-4·yes·16-objects ∷ []), ((ν-4·yes·16-held ∷ []), ((ν-4·yes·16-out ∷ []), (κ₇, (κ₈, tt))))))) (fullShare, (fullShare, (fullShare, (fullShare, (fullShare, (q₇, (q₈, tt))))))) tt (at-list b₂ o₂ δ-4·yes·16-sessions sessions, (at-list b₃ o₃ δ-4·yes·16-streams streams, (at-list b₄ o₄ δ-4·yes·16-objects objects, (at-list b₅ o₅ δ-4·yes·16-held held, (at-list b₆ o₆ δ-4·yes·16-out out, (at-list b₇ o₇ γ₇ datagram, (at-list b₈ o₈ γ₈ sample, (agentIn (recordAt (agent)), (inputIn input time handle, tt))))))))) (sliceVal (b₂, o₂) n₂ ∷ [], (sliceVal (b₃, o₃) n₃ ∷ [], (sliceVal (b₄, o₄) n₄ ∷ [], (sliceVal (b₅, o₅) n₅ ∷ [], (sliceVal (b₆, o₆) n₆ ∷ [], (sliceVal (b₇, o₇) n₇ ∷ [], (sliceVal (b₈, o₈) n₈ ∷ [], (Agent-p .val (agentIn (recordAt (agent))) ∷ [], (Input-p .val (inputIn input time handle) ∷ [], tt))))))))) tt (processOf (agentIn (recordAt (agent))) (lent (sessions) (streams) (objects) (held)) (out) (datagram) (sample) (inputIn input time handle) .processed) (λ ws-4·yes·16. (ws-4·yes·16 .0 ≡ processOf (agentIn (recordAt (agent))) (lent (sessions) (streams) (objects) (held)) (out) (datagram) (sample) (inputIn input time handle) .tables .sessions) × (ws-4·yes·16 .1 .0 ≡ processOf (agentIn (recordAt (agent))) (lent (sessions) (streams) (objects) (held)) (out) (datagram) (sample) (inputIn input time handle) .tables .streams) × (ws-4·yes·16 .1 .1 .0 ≡ processOf (agentIn (recordAt (agent))) (lent (sessions) (streams) (objects) (held)) (out) (datagram) (sample) (inputIn input time handle) .tables .objects) × (ws-4·yes·16 .1 .1 .1 .0 ≡ processOf (agentIn (recordAt (agent))) (lent (sessions) (streams) (objects) (held)) (out) (datagram) (sample) (inputIn input time handle) .tables .held) × (ws-4·yes·16 .1 .1 .1 .1 .0 ≡ processOf (agentIn (recordAt (agent))) (lent (sessions) (streams) (objects) (held)) (out) (datagram) (sample) (inputIn input time handle) .out)) (id⊢ 𝓤 _) (λ r ws-4·yes·16. fact-mono 𝓤 ((r ≡ processOf (agentIn (recordAt (agent))) (lent (sessions) (streams) (objects) (held)) (out) (datagram) (sample) (inputIn input time handle) .processed) × ((ws-4·yes·16 .0) ≡ processOf (agentIn (recordAt (agent))) (lent (sessions) (streams) (objects) (held)) (out) (datagram) (sample) (inputIn input time handle) .tables .sessions) × ((ws-4·yes·16 .1 .0) ≡ processOf (agentIn (recordAt (agent))) (lent (sessions) (streams) (objects) (held)) (out) (datagram) (sample) (inputIn input time handle) .tables .streams) × ((ws-4·yes·16 .1 .1 .0) ≡ processOf (agentIn (recordAt (agent))) (lent (sessions) (streams) (objects) (held)) (out) (datagram) (sample) (inputIn input time handle) .tables .objects) × ((ws-4·yes·16 .1 .1 .1 .0) ≡ processOf (agentIn (recordAt (agent))) (lent (sessions) (streams) (objects) (held)) (out) (datagram) (sample) (inputIn input time handle) .tables .held) × ((ws-4·yes·16 .1 .1 .1 .1 .0) ≡ processOf (agentIn (recordAt (agent))) (lent (sessions) (streams) (objects) (held)) (out) (datagram) (sample) (inputIn input time handle) .out)) ((r ≡ (processOf (agentIn (recordAt (agent))) (lent (sessions) (streams) (objects) (held)) (out) (datagram) (sample) (inputIn input time handle) .processed)) × ((ws-4·yes·16 .0 ≡ processOf (agentIn (recordAt (agent))) (lent (sessions) (streams) (objects) (held)) (out) (datagram) (sample) (inputIn input time handle) .tables .sessions) × (ws-4·yes·16 .1 .0 ≡ processOf (agentIn (recordAt (agent))) (lent (sessions) (streams) (objects) (held)) (out) (datagram) (sample) (inputIn input time handle) .tables .streams) × (ws-4·yes·16 .1 .1 .0 ≡ processOf (agentIn (recordAt (agent))) (lent (sessions) (streams) (objects) (held)) (out) (datagram) (sample) (inputIn input time handle) .tables .objects) × (ws-4·yes·16 .1 .1 .1 .0 ≡ processOf (agentIn (recordAt (agent))) (lent (sessions) (streams) (objects) (held)) (out) (datagram) (sample) (inputIn input time handle) .tables .held) × (ws-4·yes·16 .1 .1 .1 .1 .0 ≡ processOf (agentIn (recordAt (agent))) (lent (sessions) (streams) (objects) (held)) (out) (datagram) (sample) (inputIn input time handle) .out))) (λ e. (e .0, (e .1, e .2, e .3, e .4, e .5)))) (λ _. (and-then ! (load ! (from ! (stop !)) (look ! 30 refl)) (and-then ! (load ! (from ! (stop !)) (look ! 26 refl)) (and-then ! (load ! (from ! (stop !)) (look ! 22 refl)) (and-then ! (load ! (from ! (stop !)) (look ! 18 refl)) (and-then ! (load ! (from ! (stop !)) (look ! 14 refl)) (and-then ! (load ! (from ! (stop !)) (look ! 62 refl)) (and-then ! (load ! (from ! (stop !)) (look ! 60 refl)) (and-then ! (load ! (from ! (stop !)) (look ! 48 refl)) (and-then ! (load ! (from ! (stop !)) (look ! 46 refl)) (no-more !))))))))))) (λ ws-4·yes·16 said-4·yes·16 is-4·yes·16.
+        use1 W ((‵ (flft (ν-4·yes·16-sessions ∷ []) fullShare) ⊛ (‵ (flft (ν-4·yes·16-streams ∷ []) fullShare) ⊛ (‵ (flft (ν-4·yes·16-objects ∷ []) fullShare) ⊛ (‵ (flft (ν-4·yes·16-held ∷ []) fullShare) ⊛ (‵ (flft (ν-4·yes·16-out ∷ []) fullShare) ⊛ (‵ (flft κ₇ q₇) ⊛ (‵ (flft κ₈ q₈) ⊛ ‵ ftrue)))))))) (id⊢ 𝓤 _) $ split ! $ move ! (1 ∷ []) $ split ! $ move ! (1 ∷ []) $ split ! $ move ! (1 ∷ []) $ split ! $ move ! (1 ∷ []) $ split ! $ move ! (1 ∷ []) $ split ! $ move ! (1 ∷ []) $ split ! $ move ! (8 ∷ []) $ fsplit ! $ fsplit ! $ move ! (1 ∷ []) $
+        feqL ! (λ wlen-4·yes·16-0.
         move ! (1 ∷ []) $ fsplit ! $ fsplit ! $ move ! (1 ∷ []) $
-        feqL ! (λ wlen-4·yes·14-1.
+        feqL ! (λ wlen-4·yes·16-1.
         move ! (1 ∷ []) $ fsplit ! $ fsplit ! $ move ! (1 ∷ []) $
-        feqL ! (λ wlen-4·yes·14-2.
+        feqL ! (λ wlen-4·yes·16-2.
         move ! (1 ∷ []) $ fsplit ! $ fsplit ! $ move ! (1 ∷ []) $
-        feqL ! (λ wlen-4·yes·14-3.
-        move ! (1 ∷ []) $ fsplit ! $ move ! (1 ∷ []) $ fsplit ! $ move ! (13 ∷ 19 ∷ 6 ∷ []) $
-        backs-mut ! tt (Array u64 5) b₂ o₂ sessions n₂ (refl) room₂ ν-4·yes·14-sessions δ-4·yes·14-sessions (ws-4·yes·14 .0) (processOf (agentIn (recordAt (agent))) (lent (sessions) (streams) (objects)) (out) (datagram) (sample) (inputIn input time handle) .tables .sessions) wlen-4·yes·14-0 (said-4·yes·14 .0) (λ len-4·yes·14-sessions.
-        move ! (13 ∷ 18 ∷ 7 ∷ []) $
-        backs-mut ! tt (Array u16 35) b₃ o₃ streams n₃ (refl) room₃ ν-4·yes·14-streams δ-4·yes·14-streams (ws-4·yes·14 .1 .0) (processOf (agentIn (recordAt (agent))) (lent (sessions) (streams) (objects)) (out) (datagram) (sample) (inputIn input time handle) .tables .streams) wlen-4·yes·14-1 (said-4·yes·14 .1) (λ len-4·yes·14-streams.
-        move ! (13 ∷ 17 ∷ 8 ∷ []) $
-        backs-mut ! tt Object-t.the-row b₄ o₄ objects n₄ (refl) room₄ ν-4·yes·14-objects δ-4·yes·14-objects (ws-4·yes·14 .1 .1 .0) (processOf (agentIn (recordAt (agent))) (lent (sessions) (streams) (objects)) (out) (datagram) (sample) (inputIn input time handle) .tables .objects) wlen-4·yes·14-2 (said-4·yes·14 .2) (λ len-4·yes·14-objects.
-        move ! (13 ∷ 16 ∷ 9 ∷ []) $
-        backs-mut ! tt u8 b₅ o₅ out n₅ (refl) room₅ ν-4·yes·14-out δ-4·yes·14-out (ws-4·yes·14 .1 .1 .1 .0) (processOf (agentIn (recordAt (agent))) (lent (sessions) (streams) (objects)) (out) (datagram) (sample) (inputIn input time handle) .out) wlen-4·yes·14-3 (said-4·yes·14 .3) (λ len-4·yes·14-out.
-        move ! (8 ∷ []) $ drop ! $ move ! (8 ∷ []) $ drop ! $ move ! (8 ∷ []) $ drop ! $ move ! (9 ∷ []) $ drop ! $
-        land ! (from ! (stop !)) (init ! 44 refl (Processed-p .typed 𝓤 H A W (processOf (agentIn (recordAt (agent))) (lent (sessions) (streams) (objects)) (out) (datagram) (sample) (inputIn input time handle) .processed) is-4·yes·14)) $
-        assigns ! (addr ! (from ! (fld ! refl (hop ! (look-in ! 72 (sub ! 0 refl (whole !))) (stop !))))) (from ! (stop !)) (init ! 16 refl (tt, tt)) $
-        assigns ! (agg ! (and-then ! (load ! (from ! (stop !)) (look ! 16 refl)) (and-then ! (load ! (from ! (fld ! refl (stop !))) (look-in ! 72 (sub ! 1 refl (whole !)))) (no-more !)))) (from ! (stop !)) (init ! 14 refl (tt, (tt, (record { fits = room₁ .0 }, tt)))) $
-        -- 4.yes.17: cabi::calls::told
-        move ! (12 ∷ 13 ∷ []) $
-        lends-mut ! tt (Array u64 19) b₁ o₁ agent n₁ (refl) (λ ν-4·yes·17-agent δ-4·yes·17-agent.
+        feqL ! (λ wlen-4·yes·16-3.
+        move ! (1 ∷ []) $ fsplit ! $ fsplit ! $ move ! (1 ∷ []) $
+        feqL ! (λ wlen-4·yes·16-4.
+        move ! (1 ∷ []) $ fsplit ! $ move ! (1 ∷ []) $ fsplit ! $ move ! (15 ∷ 22 ∷ 7 ∷ []) $
+        backs-mut ! tt (Array u64 6) b₂ o₂ sessions n₂ (refl) room₂ ν-4·yes·16-sessions δ-4·yes·16-sessions (ws-4·yes·16 .0) (processOf (agentIn (recordAt (agent))) (lent (sessions) (streams) (objects) (held)) (out) (datagram) (sample) (inputIn input time handle) .tables .sessions) wlen-4·yes·16-0 (said-4·yes·16 .0) (λ len-4·yes·16-sessions.
+        move ! (15 ∷ 21 ∷ 8 ∷ []) $
+        backs-mut ! tt (Array u16 35) b₃ o₃ streams n₃ (refl) room₃ ν-4·yes·16-streams δ-4·yes·16-streams (ws-4·yes·16 .1 .0) (processOf (agentIn (recordAt (agent))) (lent (sessions) (streams) (objects) (held)) (out) (datagram) (sample) (inputIn input time handle) .tables .streams) wlen-4·yes·16-1 (said-4·yes·16 .1) (λ len-4·yes·16-streams.
+        move ! (15 ∷ 20 ∷ 9 ∷ []) $
+        backs-mut ! tt Object-t.the-row b₄ o₄ objects n₄ (refl) room₄ ν-4·yes·16-objects δ-4·yes·16-objects (ws-4·yes·16 .1 .1 .0) (processOf (agentIn (recordAt (agent))) (lent (sessions) (streams) (objects) (held)) (out) (datagram) (sample) (inputIn input time handle) .tables .objects) wlen-4·yes·16-2 (said-4·yes·16 .2) (λ len-4·yes·16-objects.
+        move ! (15 ∷ 19 ∷ 10 ∷ []) $
+        backs-mut ! tt u8 b₅ o₅ held n₅ (refl) room₅ ν-4·yes·16-held δ-4·yes·16-held (ws-4·yes·16 .1 .1 .1 .0) (processOf (agentIn (recordAt (agent))) (lent (sessions) (streams) (objects) (held)) (out) (datagram) (sample) (inputIn input time handle) .tables .held) wlen-4·yes·16-3 (said-4·yes·16 .3) (λ len-4·yes·16-held.
+        move ! (15 ∷ 18 ∷ 11 ∷ []) $
+        backs-mut ! tt u8 b₆ o₆ out n₆ (refl) room₆ ν-4·yes·16-out δ-4·yes·16-out (ws-4·yes·16 .1 .1 .1 .1 .0) (processOf (agentIn (recordAt (agent))) (lent (sessions) (streams) (objects) (held)) (out) (datagram) (sample) (inputIn input time handle) .out) wlen-4·yes·16-4 (said-4·yes·16 .4) (λ len-4·yes·16-out.
+        move ! (10 ∷ []) $ drop ! $ move ! (10 ∷ []) $ drop ! $ move ! (10 ∷ []) $ drop ! $ move ! (11 ∷ []) $ drop ! $
+        land ! (from ! (stop !)) (init ! 50 refl (Processed-p .typed 𝓤 H A W (processOf (agentIn (recordAt (agent))) (lent (sessions) (streams) (objects) (held)) (out) (datagram) (sample) (inputIn input time handle) .processed) is-4·yes·16)) $
+        assigns ! (addr ! (from ! (fld ! refl (hop ! (look-in ! 80 (sub ! 0 refl (whole !))) (stop !))))) (from ! (stop !)) (init ! 18 refl (tt, tt)) $
+        assigns ! (agg ! (and-then ! (load ! (from ! (stop !)) (look ! 18 refl)) (and-then ! (load ! (from ! (fld ! refl (stop !))) (look-in ! 80 (sub ! 1 refl (whole !)))) (no-more !)))) (from ! (stop !)) (init ! 16 refl (tt, (tt, (record { fits = room₁ .0 }, tt)))) $
+        -- 4.yes.19: cabi::calls::told
+        move ! (14 ∷ 15 ∷ []) $
+        lends-mut ! tt (Array u64 19) b₁ o₁ agent n₁ (refl) (λ ν-4·yes·19-agent δ-4·yes·19-agent.
         nothing ! $ move ! (1 ∷ 0 ∷ []) $ join ! $
-        use1 W (raw (toks 𝓤 A 1 (((ν-4·yes·17-agent ∷ []), tt)) ((fullShare, tt)))) (id⊢ 𝓤 _) $ nothing ! $
-        owned ! (Processed-p .row) (Is (Processed-p .row)) (Processed-p .makes 𝓤 H A W) (processOf (agentIn (recordAt (agent))) (lent (sessions) (streams) (objects)) (out) (datagram) (sample) (inputIn input time handle) .processed) (Processed-p .val (processOf (agentIn (recordAt (agent))) (lent (sessions) (streams) (objects)) (out) (datagram) (sample) (inputIn input time handle) .processed) ∷ []) is-4·yes·14 $ fjoin ! $ move ! (2 ∷ 0 ∷ []) $ fjoin ! $ move ! (1 ∷ 0 ∷ []) $
-        calls-any-last ! fm 1 [] (calls-told.signature .params) (calls-told.ended .kept) u64-p (calls-told.clauses 𝓤 H A mem run) known-calls-told ((ν-4·yes·17-agent ∷ []), tt) (fullShare, tt) tt (at-list b₁ o₁ δ-4·yes·17-agent agent, (processOf (agentIn (recordAt (agent))) (lent (sessions) (streams) (objects)) (out) (datagram) (sample) (inputIn input time handle) .processed, tt)) (sliceVal (b₁, o₁) n₁ ∷ [], (Processed-p .val (processOf (agentIn (recordAt (agent))) (lent (sessions) (streams) (objects)) (out) (datagram) (sample) (inputIn input time handle) .processed) ∷ [], tt)) tt (outcomeAs ((processOf (agentIn (recordAt (agent))) (lent (sessions) (streams) (objects)) (out) (datagram) (sample) (inputIn input time handle) .processed) .outcome)) (λ ws-4·yes·17. (ws-4·yes·17 .0 ≡ recordsAfter (agent) (processOf (agentIn (recordAt (agent))) (lent (sessions) (streams) (objects)) (out) (datagram) (sample) (inputIn input time handle) .processed))) (id⊢ 𝓤 _) (λ r ws-4·yes·17. fact-mono 𝓤 ((r ≡ outcomeAs ((processOf (agentIn (recordAt (agent))) (lent (sessions) (streams) (objects)) (out) (datagram) (sample) (inputIn input time handle) .processed) .outcome)) × ((ws-4·yes·17 .0) ≡ recordsAfter (agent) (processOf (agentIn (recordAt (agent))) (lent (sessions) (streams) (objects)) (out) (datagram) (sample) (inputIn input time handle) .processed))) ((r ≡ (outcomeAs ((processOf (agentIn (recordAt (agent))) (lent (sessions) (streams) (objects)) (out) (datagram) (sample) (inputIn input time handle) .processed) .outcome))) × ((ws-4·yes·17 .0 ≡ recordsAfter (agent) (processOf (agentIn (recordAt (agent))) (lent (sessions) (streams) (objects)) (out) (datagram) (sample) (inputIn input time handle) .processed)))) (λ e. (e .0, e .1))) (λ _. (and-then ! (load ! (from ! (stop !)) (look ! 14 refl)) (and-then ! (load ! (from ! (stop !)) (look ! 44 refl)) (no-more !)))) (λ ws-4·yes·17 said-4·yes·17 is-4·yes·17.
-        use1 W ((‵ (flft (ν-4·yes·17-agent ∷ []) fullShare) ⊛ ‵ ftrue)) (id⊢ 𝓤 _) $ split ! $ move ! (2 ∷ []) $ fsplit ! $ fsplit ! $ move ! (1 ∷ []) $
-        feqL ! (λ wlen-4·yes·17-0.
+        use1 W (raw (toks 𝓤 A 1 (((ν-4·yes·19-agent ∷ []), tt)) ((fullShare, tt)))) (id⊢ 𝓤 _) $ nothing ! $
+        owned ! (Processed-p .row) (Is (Processed-p .row)) (Processed-p .makes 𝓤 H A W) (processOf (agentIn (recordAt (agent))) (lent (sessions) (streams) (objects) (held)) (out) (datagram) (sample) (inputIn input time handle) .processed) (Processed-p .val (processOf (agentIn (recordAt (agent))) (lent (sessions) (streams) (objects) (held)) (out) (datagram) (sample) (inputIn input time handle) .processed) ∷ []) is-4·yes·16 $ fjoin ! $ move ! (2 ∷ 0 ∷ []) $ fjoin ! $ move ! (1 ∷ 0 ∷ []) $
+        calls-any-last ! fm 1 [] (calls-told.signature .params) (calls-told.ended .kept) u64-p (calls-told.clauses 𝓤 H A mem run) known-calls-told ((ν-4·yes·19-agent ∷ []), tt) (fullShare, tt) tt (at-list b₁ o₁ δ-4·yes·19-agent agent, (processOf (agentIn (recordAt (agent))) (lent (sessions) (streams) (objects) (held)) (out) (datagram) (sample) (inputIn input time handle) .processed, tt)) (sliceVal (b₁, o₁) n₁ ∷ [], (Processed-p .val (processOf (agentIn (recordAt (agent))) (lent (sessions) (streams) (objects) (held)) (out) (datagram) (sample) (inputIn input time handle) .processed) ∷ [], tt)) tt (outcomeAs ((processOf (agentIn (recordAt (agent))) (lent (sessions) (streams) (objects) (held)) (out) (datagram) (sample) (inputIn input time handle) .processed) .outcome)) (λ ws-4·yes·19. (ws-4·yes·19 .0 ≡ recordsAfter (agent) (processOf (agentIn (recordAt (agent))) (lent (sessions) (streams) (objects) (held)) (out) (datagram) (sample) (inputIn input time handle) .processed))) (id⊢ 𝓤 _) (λ r ws-4·yes·19. fact-mono 𝓤 ((r ≡ outcomeAs ((processOf (agentIn (recordAt (agent))) (lent (sessions) (streams) (objects) (held)) (out) (datagram) (sample) (inputIn input time handle) .processed) .outcome)) × ((ws-4·yes·19 .0) ≡ recordsAfter (agent) (processOf (agentIn (recordAt (agent))) (lent (sessions) (streams) (objects) (held)) (out) (datagram) (sample) (inputIn input time handle) .processed))) ((r ≡ (outcomeAs ((processOf (agentIn (recordAt (agent))) (lent (sessions) (streams) (objects) (held)) (out) (datagram) (sample) (inputIn input time handle) .processed) .outcome))) × ((ws-4·yes·19 .0 ≡ recordsAfter (agent) (processOf (agentIn (recordAt (agent))) (lent (sessions) (streams) (objects) (held)) (out) (datagram) (sample) (inputIn input time handle) .processed)))) (λ e. (e .0, e .1))) (λ _. (and-then ! (load ! (from ! (stop !)) (look ! 16 refl)) (and-then ! (load ! (from ! (stop !)) (look ! 50 refl)) (no-more !)))) (λ ws-4·yes·19 said-4·yes·19 is-4·yes·19.
+        use1 W ((‵ (flft (ν-4·yes·19-agent ∷ []) fullShare) ⊛ ‵ ftrue)) (id⊢ 𝓤 _) $ split ! $ move ! (2 ∷ []) $ fsplit ! $ fsplit ! $ move ! (1 ∷ []) $
+        feqL ! (λ wlen-4·yes·19-0.
         move ! (2 ∷ 4 ∷ 0 ∷ []) $
-        backs-mut ! tt (Array u64 19) b₁ o₁ agent n₁ (refl) room₁ ν-4·yes·17-agent δ-4·yes·17-agent (ws-4·yes·17 .0) (recordsAfter (agent) (processOf (agentIn (recordAt (agent))) (lent (sessions) (streams) (objects)) (out) (datagram) (sample) (inputIn input time handle) .processed)) wlen-4·yes·17-0 (said-4·yes·17) (λ len-4·yes·17-agent.
+        backs-mut ! tt (Array u64 19) b₁ o₁ agent n₁ (refl) room₁ ν-4·yes·19-agent δ-4·yes·19-agent (ws-4·yes·19 .0) (recordsAfter (agent) (processOf (agentIn (recordAt (agent))) (lent (sessions) (streams) (objects) (held)) (out) (datagram) (sample) (inputIn input time handle) .processed)) wlen-4·yes·19-0 (said-4·yes·19) (λ len-4·yes·19-agent.
         move ! (2 ∷ []) $ drop ! $ move ! (2 ∷ []) $ drop ! $
-        land-last ! (from ! (stop !)) (init ! 38 refl (u64-p .typed 𝓤 H A W (outcomeAs ((processOf (agentIn (recordAt (agent))) (lent (sessions) (streams) (objects)) (out) (datagram) (sample) (inputIn input time handle) .processed) .outcome)) is-4·yes·17)) $
-        exec ! C Λ En mir.t-5 (atRet En Post) $ move ! (0 ∷ 1 ∷ 8 ∷ 9 ∷ 6 ∷ 7 ∷ 4 ∷ 5 ∷ 2 ∷ 3 ∷ 13 ∷ 11 ∷ 12 ∷ 10 ∷ 14 ∷ 15 ∷ 16 ∷ 17 ∷ 18 ∷ 19 ∷ 20 ∷ 21 ∷ 22 ∷ 23 ∷ 24 ∷ 25 ∷ 26 ∷ 27 ∷ 28 ∷ 29 ∷ 30 ∷ 31 ∷ 32 ∷ 33 ∷ 34 ∷ 35 ∷ 36 ∷ 37 ∷ 38 ∷ 39 ∷ 40 ∷ 41 ∷ 42 ∷ 43 ∷ 44 ∷ 45 ∷ 46 ∷ 47 ∷ 48 ∷ 49 ∷ 50 ∷ 51 ∷ 52 ∷ 53 ∷ 54 ∷ 55 ∷ 56 ∷ 57 ∷ 58 ∷ 59 ∷ 60 ∷ 61 ∷ 62 ∷ 63 ∷ 64 ∷ 65 ∷ 66 ∷ 67 ∷ 68 ∷ 69 ∷ 70 ∷ 71 ∷ 72 ∷ 73 ∷ 74 ∷ 75 ∷ []) $
-        part-5-0 is-2 c-4 is-4·yes·3 is-4·yes·4 is-4·yes·5 len-4·yes·14-sessions len-4·yes·14-streams len-4·yes·14-objects len-4·yes·14-out is-4·yes·14 len-4·yes·17-agent is-4·yes·17)))))))))))))))))
+        land-last ! (from ! (stop !)) (init ! 44 refl (u64-p .typed 𝓤 H A W (outcomeAs ((processOf (agentIn (recordAt (agent))) (lent (sessions) (streams) (objects) (held)) (out) (datagram) (sample) (inputIn input time handle) .processed) .outcome)) is-4·yes·19)) $
+        exec ! C Λ En mir.t-5 (atRet En Post) $ move ! (0 ∷ 1 ∷ 10 ∷ 11 ∷ 8 ∷ 9 ∷ 6 ∷ 7 ∷ 4 ∷ 5 ∷ 2 ∷ 3 ∷ 15 ∷ 13 ∷ 14 ∷ 12 ∷ 16 ∷ 17 ∷ 18 ∷ 19 ∷ 20 ∷ 21 ∷ 22 ∷ 23 ∷ 24 ∷ 25 ∷ 26 ∷ 27 ∷ 28 ∷ 29 ∷ 30 ∷ 31 ∷ 32 ∷ 33 ∷ 34 ∷ 35 ∷ 36 ∷ 37 ∷ 38 ∷ 39 ∷ 40 ∷ 41 ∷ 42 ∷ 43 ∷ 44 ∷ 45 ∷ 46 ∷ 47 ∷ 48 ∷ 49 ∷ 50 ∷ 51 ∷ 52 ∷ 53 ∷ 54 ∷ 55 ∷ 56 ∷ 57 ∷ 58 ∷ 59 ∷ 60 ∷ 61 ∷ 62 ∷ 63 ∷ 64 ∷ 65 ∷ 66 ∷ 67 ∷ 68 ∷ 69 ∷ 70 ∷ 71 ∷ 72 ∷ 73 ∷ 74 ∷ 75 ∷ 76 ∷ 77 ∷ 78 ∷ 79 ∷ 80 ∷ 81 ∷ 82 ∷ 83 ∷ []) $
+        part-5-0 is-2 c-4 is-4·yes·3 is-4·yes·4 is-4·yes·5 len-4·yes·16-sessions len-4·yes·16-streams len-4·yes·16-objects len-4·yes·16-held len-4·yes·16-out is-4·yes·16 len-4·yes·19-agent is-4·yes·19))))))))))))))))))))
 
-    part-4·yes·4-0 : (is-2 : Is (u64-p .row) (badCall n₁ input) (u64-p .val (badCall n₁ input) ∷ [])) → (c-4 : eqb (badCall n₁ input) 0 ≡ true) → (is-4·yes·3 : Is (Record-p .row) (recordAt (agent)) (Record-p .val (recordAt (agent)) ∷ [])) → Sq W (‵ (MutSlice (named 0) κ₁ (Array u64 19) .own (at-list b₁ o₁ γ₁ agent) (sliceVal (b₁, o₁) n₁ ∷ [])) ∷ ‵ (flft κ₁ q₁) ∷ ‵ (MutSlice (named 0) κ₂ (Array u64 5) .own (at-list b₂ o₂ γ₂ sessions) (sliceVal (b₂, o₂) n₂ ∷ [])) ∷ ‵ (flft κ₂ q₂) ∷ ‵ (MutSlice (named 0) κ₃ (Array u16 35) .own (at-list b₃ o₃ γ₃ streams) (sliceVal (b₃, o₃) n₃ ∷ [])) ∷ ‵ (flft κ₃ q₃) ∷ ‵ (MutSlice (named 0) κ₄ Object-t.the-row .own (at-list b₄ o₄ γ₄ objects) (sliceVal (b₄, o₄) n₄ ∷ [])) ∷ ‵ (flft κ₄ q₄) ∷ ‵ (MutSlice (named 0) κ₅ u8 .own (at-list b₅ o₅ γ₅ out) (sliceVal (b₅, o₅) n₅ ∷ [])) ∷ ‵ (flft κ₅ q₅) ∷ ‵ (ShrSlice (named 0) κ₆ u8 .own (at-list b₆ o₆ γ₆ datagram) (sliceVal (b₆, o₆) n₆ ∷ [])) ∷ ‵ (flft κ₆ q₆) ∷ ‵ (ShrSlice (named 0) κ₇ u8 .own (at-list b₇ o₇ γ₇ sample) (sliceVal (b₇, o₇) n₇ ∷ [])) ∷ ‵ (flft κ₇ q₇) ∷ free 𝓤 (sliceTy (tyRef erased mut (pointee ((Array u64 19) .written)))) l₃₀ (free 𝓤 (tyRef erased mut (pointee ((Array u64 19) .written))) l₂₉ (free 𝓤 (sliceTy (tyRef erased mut (pointee (u8 .written)))) l₂₈ (free 𝓤 (tyRef erased mut (pointee (u8 .written))) l₂₇ (free 𝓤 (sliceTy (tyRef erased mut (pointee (Object-t.the-row .written)))) l₂₆ (free 𝓤 (tyRef erased mut (pointee (Object-t.the-row .written))) l₂₅ (free 𝓤 (sliceTy (tyRef erased mut (pointee ((Array u16 35) .written)))) l₂₄ (free 𝓤 (tyRef erased mut (pointee ((Array u16 35) .written))) l₂₃ (free 𝓤 (sliceTy (tyRef erased mut (pointee ((Array u64 5) .written)))) l₂₂ (free 𝓤 (tyRef erased mut (pointee ((Array u64 5) .written))) l₂₁ (full 𝓤 (sliceTy (tyRef erased imm (pointee ((Array u64 19) .written)))) l₂₀ (sliceVal (b₁, o₁) n₁) (full 𝓤 (tyRef erased imm (pointee ((Array u64 19) .written))) l₁₉ (vptr b₁ o₁) (free 𝓤 (tyInt w64) l₁₈ (full 𝓤 tyBool l₁₇ (bool-p .val (eqb (badCall n₁ input) 0)) (full 𝓤 (tyInt w64) l₁₆ (u64-p .val n₁) (free 𝓤 Processed-l.mir l₁₅ (free 𝓤 Input-l.mir l₁₄ (free 𝓤 Agent-l.mir l₁₃ (full 𝓤 Record-l.mir l₁₂ (Record-p .val (recordAt (agent))) (full 𝓤 (tyInt w64) l₁₁ (u64-p .val (badCall n₁ input)) (full 𝓤 (tyInt w32) l₁₀ (u32-p .val handle) (full 𝓤 (tyInt w64) l₉ (u64-p .val time) (full 𝓤 (tyInt w8) l₈ (u8-p .val input) (full 𝓤 (sliceTy (tyRef (named 6) imm (pointee (u8 .written)))) l₇ (sliceVal (b₇, o₇) n₇) (full 𝓤 (sliceTy (tyRef (named 5) imm (pointee (u8 .written)))) l₆ (sliceVal (b₆, o₆) n₆) (full 𝓤 (sliceTy (tyRef (named 4) mut (pointee (u8 .written)))) l₅ (sliceVal (b₅, o₅) n₅) (full 𝓤 (sliceTy (tyRef (named 3) mut (pointee (Object-t.the-row .written)))) l₄ (sliceVal (b₄, o₄) n₄) (full 𝓤 (sliceTy (tyRef (named 2) mut (pointee ((Array u16 35) .written)))) l₃ (sliceVal (b₃, o₃) n₃) (full 𝓤 (sliceTy (tyRef (named 1) mut (pointee ((Array u64 5) .written)))) l₂ (sliceVal (b₂, o₂) n₂) (full 𝓤 (sliceTy (tyRef (named 0) mut (pointee ((Array u64 19) .written)))) l₁ (sliceVal (b₁, o₁) n₁) (free 𝓤 (tyInt w64) l₀ ([])))))))))))))))))))))))))))))))) (runs C Λ En (past 3 (yes-of (one mir.t-4))) (anyQ (afterSeq 𝓤 H (Wp 𝓤 H C Λ En mir.t-5 (atReturn 𝓤 H En Post)) (atReturn 𝓤 H En Post))))
+    part-4·yes·4-0 : (is-2 : Is (u64-p .row) (badCall n₁ input) (u64-p .val (badCall n₁ input) ∷ [])) → (c-4 : eqb (badCall n₁ input) 0 ≡ true) → (is-4·yes·3 : Is (Record-p .row) (recordAt (agent)) (Record-p .val (recordAt (agent)) ∷ [])) → Sq W (‵ (MutSlice (named 0) κ₁ (Array u64 19) .own (at-list b₁ o₁ γ₁ agent) (sliceVal (b₁, o₁) n₁ ∷ [])) ∷ ‵ (flft κ₁ q₁) ∷ ‵ (MutSlice (named 0) κ₂ (Array u64 6) .own (at-list b₂ o₂ γ₂ sessions) (sliceVal (b₂, o₂) n₂ ∷ [])) ∷ ‵ (flft κ₂ q₂) ∷ ‵ (MutSlice (named 0) κ₃ (Array u16 35) .own (at-list b₃ o₃ γ₃ streams) (sliceVal (b₃, o₃) n₃ ∷ [])) ∷ ‵ (flft κ₃ q₃) ∷ ‵ (MutSlice (named 0) κ₄ Object-t.the-row .own (at-list b₄ o₄ γ₄ objects) (sliceVal (b₄, o₄) n₄ ∷ [])) ∷ ‵ (flft κ₄ q₄) ∷ ‵ (MutSlice (named 0) κ₅ u8 .own (at-list b₅ o₅ γ₅ held) (sliceVal (b₅, o₅) n₅ ∷ [])) ∷ ‵ (flft κ₅ q₅) ∷ ‵ (MutSlice (named 0) κ₆ u8 .own (at-list b₆ o₆ γ₆ out) (sliceVal (b₆, o₆) n₆ ∷ [])) ∷ ‵ (flft κ₆ q₆) ∷ ‵ (ShrSlice (named 0) κ₇ u8 .own (at-list b₇ o₇ γ₇ datagram) (sliceVal (b₇, o₇) n₇ ∷ [])) ∷ ‵ (flft κ₇ q₇) ∷ ‵ (ShrSlice (named 0) κ₈ u8 .own (at-list b₈ o₈ γ₈ sample) (sliceVal (b₈, o₈) n₈ ∷ [])) ∷ ‵ (flft κ₈ q₈) ∷ free 𝓤 (sliceTy (tyRef erased mut (pointee ((Array u64 19) .written)))) l₃₃ (free 𝓤 (tyRef erased mut (pointee ((Array u64 19) .written))) l₃₂ (free 𝓤 (sliceTy (tyRef erased mut (pointee (u8 .written)))) l₃₁ (free 𝓤 (tyRef erased mut (pointee (u8 .written))) l₃₀ (free 𝓤 (sliceTy (tyRef erased mut (pointee (u8 .written)))) l₂₉ (free 𝓤 (tyRef erased mut (pointee (u8 .written))) l₂₈ (free 𝓤 (sliceTy (tyRef erased mut (pointee (Object-t.the-row .written)))) l₂₇ (free 𝓤 (tyRef erased mut (pointee (Object-t.the-row .written))) l₂₆ (free 𝓤 (sliceTy (tyRef erased mut (pointee ((Array u16 35) .written)))) l₂₅ (free 𝓤 (tyRef erased mut (pointee ((Array u16 35) .written))) l₂₄ (free 𝓤 (sliceTy (tyRef erased mut (pointee ((Array u64 6) .written)))) l₂₃ (free 𝓤 (tyRef erased mut (pointee ((Array u64 6) .written))) l₂₂ (full 𝓤 (sliceTy (tyRef erased imm (pointee ((Array u64 19) .written)))) l₂₁ (sliceVal (b₁, o₁) n₁) (full 𝓤 (tyRef erased imm (pointee ((Array u64 19) .written))) l₂₀ (vptr b₁ o₁) (free 𝓤 (tyInt w64) l₁₉ (full 𝓤 tyBool l₁₈ (bool-p .val (eqb (badCall n₁ input) 0)) (full 𝓤 (tyInt w64) l₁₇ (u64-p .val n₁) (free 𝓤 Processed-l.mir l₁₆ (free 𝓤 Input-l.mir l₁₅ (free 𝓤 Agent-l.mir l₁₄ (full 𝓤 Record-l.mir l₁₃ (Record-p .val (recordAt (agent))) (full 𝓤 (tyInt w64) l₁₂ (u64-p .val (badCall n₁ input)) (full 𝓤 (tyInt w32) l₁₁ (u32-p .val handle) (full 𝓤 (tyInt w64) l₁₀ (u64-p .val time) (full 𝓤 (tyInt w8) l₉ (u8-p .val input) (full 𝓤 (sliceTy (tyRef (named 7) imm (pointee (u8 .written)))) l₈ (sliceVal (b₈, o₈) n₈) (full 𝓤 (sliceTy (tyRef (named 6) imm (pointee (u8 .written)))) l₇ (sliceVal (b₇, o₇) n₇) (full 𝓤 (sliceTy (tyRef (named 5) mut (pointee (u8 .written)))) l₆ (sliceVal (b₆, o₆) n₆) (full 𝓤 (sliceTy (tyRef (named 4) mut (pointee (u8 .written)))) l₅ (sliceVal (b₅, o₅) n₅) (full 𝓤 (sliceTy (tyRef (named 3) mut (pointee (Object-t.the-row .written)))) l₄ (sliceVal (b₄, o₄) n₄) (full 𝓤 (sliceTy (tyRef (named 2) mut (pointee ((Array u16 35) .written)))) l₃ (sliceVal (b₃, o₃) n₃) (full 𝓤 (sliceTy (tyRef (named 1) mut (pointee ((Array u64 6) .written)))) l₂ (sliceVal (b₂, o₂) n₂) (full 𝓤 (sliceTy (tyRef (named 0) mut (pointee ((Array u64 19) .written)))) l₁ (sliceVal (b₁, o₁) n₁) (free 𝓤 (tyInt w64) l₀ ([]))))))))))))))))))))))))))))))))))) (runs C Λ En (past 3 (yes-of (one mir.t-4))) (anyQ (afterSeq 𝓤 H (Wp 𝓤 H C Λ En mir.t-5 (atReturn 𝓤 H En Post)) (atReturn 𝓤 H En Post))))
     part-4·yes·4-0 is-2 c-4 is-4·yes·3 =
         -- 4.yes.4: cabi::record::agent_in
         nothing ! $
         use1 W (raw (toks 𝓤 A 0 (tt) (tt))) (id⊢ 𝓤 _) $ nothing ! $
         owned ! (Record-p .row) (Is (Record-p .row)) (Record-p .makes 𝓤 H A W) (recordAt (agent)) (Record-p .val (recordAt (agent)) ∷ []) is-4·yes·3 $ fjoin ! $ move ! (1 ∷ 0 ∷ []) $
-        calls-any ! fm 0 [] (record-agent-in.signature .params) (record-agent-in.ended .kept) Agent-p (record-agent-in.clauses 𝓤 H A mem run) known-record-agent-in tt tt tt (recordAt (agent), tt) (Record-p .val (recordAt (agent)) ∷ [], tt) tt (agentIn (recordAt (agent))) (λ ws-4·yes·4. Unit {0}) (id⊢ 𝓤 _) (λ r ws-4·yes·4. fact-mono 𝓤 (r ≡ agentIn (recordAt (agent))) ((r ≡ (agentIn (recordAt (agent)))) × (Unit {0})) (λ e. (e, tt))) (λ _. (and-then ! (load ! (from ! (stop !)) (look ! 51 refl)) (no-more !))) (λ ws-4·yes·4 said-4·yes·4 is-4·yes·4.
+        calls-any ! fm 0 [] (record-agent-in.signature .params) (record-agent-in.ended .kept) Agent-p (record-agent-in.clauses 𝓤 H A mem run) known-record-agent-in tt tt tt (recordAt (agent), tt) (Record-p .val (recordAt (agent)) ∷ [], tt) tt (agentIn (recordAt (agent))) (λ ws-4·yes·4. Unit {0}) (id⊢ 𝓤 _) (λ r ws-4·yes·4. fact-mono 𝓤 (r ≡ agentIn (recordAt (agent))) ((r ≡ (agentIn (recordAt (agent)))) × (Unit {0})) (λ e. (e, tt))) (λ _. (and-then ! (load ! (from ! (stop !)) (look ! 57 refl)) (no-more !))) (λ ws-4·yes·4 said-4·yes·4 is-4·yes·4.
         drop ! $ drop ! $
-        land ! (from ! (stop !)) (init ! 48 refl (Agent-p .typed 𝓤 H A W (agentIn (recordAt (agent))) is-4·yes·4)) $
+        land ! (from ! (stop !)) (init ! 54 refl (Agent-p .typed 𝓤 H A W (agentIn (recordAt (agent))) is-4·yes·4)) $
         -- 4.yes.5: cabi::inputs::input_in
         nothing ! $
         use1 W (raw (toks 𝓤 A 0 (tt) (tt))) (id⊢ 𝓤 _) $ nothing ! $
         owned ! (u32-p .row) (Is (u32-p .row)) (u32-p .makes 𝓤 H A W) handle (u32-p .val handle ∷ []) handle-is $ fjoin ! $
         owned ! (u64-p .row) (Is (u64-p .row)) (u64-p .makes 𝓤 H A W) time (u64-p .val time ∷ []) time-is $ fjoin ! $
         owned ! (u8-p .row) (Is (u8-p .row)) (u8-p .makes 𝓤 H A W) input (u8-p .val input ∷ []) input-is $ fjoin ! $ move ! (1 ∷ 0 ∷ []) $
-        calls-any ! fm 0 [] (inputs-input-in.signature .params) (inputs-input-in.ended .kept) Input-p (inputs-input-in.clauses 𝓤 H A mem run) known-inputs-input-in tt tt tt (input, (time, (handle, tt))) (u8-p .val input ∷ [], (u64-p .val time ∷ [], (u32-p .val handle ∷ [], tt))) tt (inputIn input time handle) (λ ws-4·yes·5. Unit {0}) (id⊢ 𝓤 _) (λ r ws-4·yes·5. fact-mono 𝓤 (r ≡ inputIn input time handle) ((r ≡ (inputIn input time handle)) × (Unit {0})) (λ e. (e, tt))) (λ _. (and-then ! (load ! (from ! (stop !)) (look ! 59 refl)) (and-then ! (load ! (from ! (stop !)) (look ! 57 refl)) (and-then ! (load ! (from ! (stop !)) (look ! 55 refl)) (no-more !))))) (λ ws-4·yes·5 said-4·yes·5 is-4·yes·5.
+        calls-any ! fm 0 [] (inputs-input-in.signature .params) (inputs-input-in.ended .kept) Input-p (inputs-input-in.clauses 𝓤 H A mem run) known-inputs-input-in tt tt tt (input, (time, (handle, tt))) (u8-p .val input ∷ [], (u64-p .val time ∷ [], (u32-p .val handle ∷ [], tt))) tt (inputIn input time handle) (λ ws-4·yes·5. Unit {0}) (id⊢ 𝓤 _) (λ r ws-4·yes·5. fact-mono 𝓤 (r ≡ inputIn input time handle) ((r ≡ (inputIn input time handle)) × (Unit {0})) (λ e. (e, tt))) (λ _. (and-then ! (load ! (from ! (stop !)) (look ! 65 refl)) (and-then ! (load ! (from ! (stop !)) (look ! 63 refl)) (and-then ! (load ! (from ! (stop !)) (look ! 61 refl)) (no-more !))))) (λ ws-4·yes·5 said-4·yes·5 is-4·yes·5.
         drop ! $ drop ! $
-        land ! (from ! (stop !)) (init ! 46 refl (Input-p .typed 𝓤 H A W (inputIn input time handle) is-4·yes·5)) $
+        land ! (from ! (stop !)) (init ! 52 refl (Input-p .typed 𝓤 H A W (inputIn input time handle) is-4·yes·5)) $
         part-4·yes·6-0 is-2 c-4 is-4·yes·3 is-4·yes·4 is-4·yes·5))
 
-    begins : Sq W (‵ (MutSlice (named 0) κ₁ (Array u64 19) .own (at-list b₁ o₁ γ₁ agent) (sliceVal (b₁, o₁) n₁ ∷ [])) ∷ ‵ (flft κ₁ q₁) ∷ ‵ (MutSlice (named 0) κ₂ (Array u64 5) .own (at-list b₂ o₂ γ₂ sessions) (sliceVal (b₂, o₂) n₂ ∷ [])) ∷ ‵ (flft κ₂ q₂) ∷ ‵ (MutSlice (named 0) κ₃ (Array u16 35) .own (at-list b₃ o₃ γ₃ streams) (sliceVal (b₃, o₃) n₃ ∷ [])) ∷ ‵ (flft κ₃ q₃) ∷ ‵ (MutSlice (named 0) κ₄ Object-t.the-row .own (at-list b₄ o₄ γ₄ objects) (sliceVal (b₄, o₄) n₄ ∷ [])) ∷ ‵ (flft κ₄ q₄) ∷ ‵ (MutSlice (named 0) κ₅ u8 .own (at-list b₅ o₅ γ₅ out) (sliceVal (b₅, o₅) n₅ ∷ [])) ∷ ‵ (flft κ₅ q₅) ∷ ‵ (ShrSlice (named 0) κ₆ u8 .own (at-list b₆ o₆ γ₆ datagram) (sliceVal (b₆, o₆) n₆ ∷ [])) ∷ ‵ (flft κ₆ q₆) ∷ ‵ (ShrSlice (named 0) κ₇ u8 .own (at-list b₇ o₇ γ₇ sample) (sliceVal (b₇, o₇) n₇ ∷ [])) ∷ ‵ (flft κ₇ q₇) ∷ free 𝓤 (sliceTy (tyRef erased mut (pointee ((Array u64 19) .written)))) l₃₀ (free 𝓤 (tyRef erased mut (pointee ((Array u64 19) .written))) l₂₉ (free 𝓤 (sliceTy (tyRef erased mut (pointee (u8 .written)))) l₂₈ (free 𝓤 (tyRef erased mut (pointee (u8 .written))) l₂₇ (free 𝓤 (sliceTy (tyRef erased mut (pointee (Object-t.the-row .written)))) l₂₆ (free 𝓤 (tyRef erased mut (pointee (Object-t.the-row .written))) l₂₅ (free 𝓤 (sliceTy (tyRef erased mut (pointee ((Array u16 35) .written)))) l₂₄ (free 𝓤 (tyRef erased mut (pointee ((Array u16 35) .written))) l₂₃ (free 𝓤 (sliceTy (tyRef erased mut (pointee ((Array u64 5) .written)))) l₂₂ (free 𝓤 (tyRef erased mut (pointee ((Array u64 5) .written))) l₂₁ (free 𝓤 (sliceTy (tyRef erased imm (pointee ((Array u64 19) .written)))) l₂₀ (free 𝓤 (tyRef erased imm (pointee ((Array u64 19) .written))) l₁₉ (free 𝓤 (tyInt w64) l₁₈ (free 𝓤 tyBool l₁₇ (free 𝓤 (tyInt w64) l₁₆ (free 𝓤 Processed-l.mir l₁₅ (free 𝓤 Input-l.mir l₁₄ (free 𝓤 Agent-l.mir l₁₃ (free 𝓤 Record-l.mir l₁₂ (free 𝓤 (tyInt w64) l₁₁ (full 𝓤 (tyInt w32) l₁₀ (u32-p .val handle) (full 𝓤 (tyInt w64) l₉ (u64-p .val time) (full 𝓤 (tyInt w8) l₈ (u8-p .val input) (full 𝓤 (sliceTy (tyRef (named 6) imm (pointee (u8 .written)))) l₇ (sliceVal (b₇, o₇) n₇) (full 𝓤 (sliceTy (tyRef (named 5) imm (pointee (u8 .written)))) l₆ (sliceVal (b₆, o₆) n₆) (full 𝓤 (sliceTy (tyRef (named 4) mut (pointee (u8 .written)))) l₅ (sliceVal (b₅, o₅) n₅) (full 𝓤 (sliceTy (tyRef (named 3) mut (pointee (Object-t.the-row .written)))) l₄ (sliceVal (b₄, o₄) n₄) (full 𝓤 (sliceTy (tyRef (named 2) mut (pointee ((Array u16 35) .written)))) l₃ (sliceVal (b₃, o₃) n₃) (full 𝓤 (sliceTy (tyRef (named 1) mut (pointee ((Array u64 5) .written)))) l₂ (sliceVal (b₂, o₂) n₂) (full 𝓤 (sliceTy (tyRef (named 0) mut (pointee ((Array u64 19) .written)))) l₁ (sliceVal (b₁, o₁) n₁) (free 𝓤 (tyInt w64) l₀ ([])))))))))))))))))))))))))))))))) (runs C Λ En mir.t-1 (atRet En Post))
+    begins : Sq W (‵ (MutSlice (named 0) κ₁ (Array u64 19) .own (at-list b₁ o₁ γ₁ agent) (sliceVal (b₁, o₁) n₁ ∷ [])) ∷ ‵ (flft κ₁ q₁) ∷ ‵ (MutSlice (named 0) κ₂ (Array u64 6) .own (at-list b₂ o₂ γ₂ sessions) (sliceVal (b₂, o₂) n₂ ∷ [])) ∷ ‵ (flft κ₂ q₂) ∷ ‵ (MutSlice (named 0) κ₃ (Array u16 35) .own (at-list b₃ o₃ γ₃ streams) (sliceVal (b₃, o₃) n₃ ∷ [])) ∷ ‵ (flft κ₃ q₃) ∷ ‵ (MutSlice (named 0) κ₄ Object-t.the-row .own (at-list b₄ o₄ γ₄ objects) (sliceVal (b₄, o₄) n₄ ∷ [])) ∷ ‵ (flft κ₄ q₄) ∷ ‵ (MutSlice (named 0) κ₅ u8 .own (at-list b₅ o₅ γ₅ held) (sliceVal (b₅, o₅) n₅ ∷ [])) ∷ ‵ (flft κ₅ q₅) ∷ ‵ (MutSlice (named 0) κ₆ u8 .own (at-list b₆ o₆ γ₆ out) (sliceVal (b₆, o₆) n₆ ∷ [])) ∷ ‵ (flft κ₆ q₆) ∷ ‵ (ShrSlice (named 0) κ₇ u8 .own (at-list b₇ o₇ γ₇ datagram) (sliceVal (b₇, o₇) n₇ ∷ [])) ∷ ‵ (flft κ₇ q₇) ∷ ‵ (ShrSlice (named 0) κ₈ u8 .own (at-list b₈ o₈ γ₈ sample) (sliceVal (b₈, o₈) n₈ ∷ [])) ∷ ‵ (flft κ₈ q₈) ∷ free 𝓤 (sliceTy (tyRef erased mut (pointee ((Array u64 19) .written)))) l₃₃ (free 𝓤 (tyRef erased mut (pointee ((Array u64 19) .written))) l₃₂ (free 𝓤 (sliceTy (tyRef erased mut (pointee (u8 .written)))) l₃₁ (free 𝓤 (tyRef erased mut (pointee (u8 .written))) l₃₀ (free 𝓤 (sliceTy (tyRef erased mut (pointee (u8 .written)))) l₂₉ (free 𝓤 (tyRef erased mut (pointee (u8 .written))) l₂₈ (free 𝓤 (sliceTy (tyRef erased mut (pointee (Object-t.the-row .written)))) l₂₇ (free 𝓤 (tyRef erased mut (pointee (Object-t.the-row .written))) l₂₆ (free 𝓤 (sliceTy (tyRef erased mut (pointee ((Array u16 35) .written)))) l₂₅ (free 𝓤 (tyRef erased mut (pointee ((Array u16 35) .written))) l₂₄ (free 𝓤 (sliceTy (tyRef erased mut (pointee ((Array u64 6) .written)))) l₂₃ (free 𝓤 (tyRef erased mut (pointee ((Array u64 6) .written))) l₂₂ (free 𝓤 (sliceTy (tyRef erased imm (pointee ((Array u64 19) .written)))) l₂₁ (free 𝓤 (tyRef erased imm (pointee ((Array u64 19) .written))) l₂₀ (free 𝓤 (tyInt w64) l₁₉ (free 𝓤 tyBool l₁₈ (free 𝓤 (tyInt w64) l₁₇ (free 𝓤 Processed-l.mir l₁₆ (free 𝓤 Input-l.mir l₁₅ (free 𝓤 Agent-l.mir l₁₄ (free 𝓤 Record-l.mir l₁₃ (free 𝓤 (tyInt w64) l₁₂ (full 𝓤 (tyInt w32) l₁₁ (u32-p .val handle) (full 𝓤 (tyInt w64) l₁₀ (u64-p .val time) (full 𝓤 (tyInt w8) l₉ (u8-p .val input) (full 𝓤 (sliceTy (tyRef (named 7) imm (pointee (u8 .written)))) l₈ (sliceVal (b₈, o₈) n₈) (full 𝓤 (sliceTy (tyRef (named 6) imm (pointee (u8 .written)))) l₇ (sliceVal (b₇, o₇) n₇) (full 𝓤 (sliceTy (tyRef (named 5) mut (pointee (u8 .written)))) l₆ (sliceVal (b₆, o₆) n₆) (full 𝓤 (sliceTy (tyRef (named 4) mut (pointee (u8 .written)))) l₅ (sliceVal (b₅, o₅) n₅) (full 𝓤 (sliceTy (tyRef (named 3) mut (pointee (Object-t.the-row .written)))) l₄ (sliceVal (b₄, o₄) n₄) (full 𝓤 (sliceTy (tyRef (named 2) mut (pointee ((Array u16 35) .written)))) l₃ (sliceVal (b₃, o₃) n₃) (full 𝓤 (sliceTy (tyRef (named 1) mut (pointee ((Array u64 6) .written)))) l₂ (sliceVal (b₂, o₂) n₂) (full 𝓤 (sliceTy (tyRef (named 0) mut (pointee ((Array u64 19) .written)))) l₁ (sliceVal (b₁, o₁) n₁) (free 𝓤 (tyInt w64) l₀ ([]))))))))))))))))))))))))))))))))))) (runs C Λ En mir.t-1 (atRet En Post))
     begins =
-        assigns ! (of-opd ! (load ! (from ! (fld ! refl (stop !))) (look-in ! 72 (sub ! 1 refl (whole !))))) (from ! (stop !)) (init ! 42 refl (u64-p .typed 𝓤 H A W n₁ ((refl, room₁ .0)))) $
+        assigns ! (of-opd ! (load ! (from ! (fld ! refl (stop !))) (look-in ! 80 (sub ! 1 refl (whole !))))) (from ! (stop !)) (init ! 48 refl (u64-p .typed 𝓤 H A W n₁ ((refl, room₁ .0)))) $
         -- 2: cabi::inputs::bad_call
         nothing ! $
         use1 W (raw (toks 𝓤 A 0 (tt) (tt))) (id⊢ 𝓤 _) $ nothing ! $
         owned ! (u8-p .row) (Is (u8-p .row)) (u8-p .makes 𝓤 H A W) input (u8-p .val input ∷ []) input-is $ fjoin ! $
         owned ! (u64-p .row) (Is (u64-p .row)) (u64-p .makes 𝓤 H A W) n₁ (u64-p .val n₁ ∷ []) ((refl, room₁ .0)) $ fjoin ! $ move ! (1 ∷ 0 ∷ []) $
-        calls-any ! fm 0 [] (inputs-bad-call.signature .params) (inputs-bad-call.ended .kept) u64-p (inputs-bad-call.clauses 𝓤 H A mem run) known-inputs-bad-call tt tt tt (n₁, (input, tt)) (u64-p .val n₁ ∷ [], (u8-p .val input ∷ [], tt)) tt (badCall n₁ input) (λ ws-2. Unit {0}) (id⊢ 𝓤 _) (λ r ws-2. fact-mono 𝓤 (r ≡ badCall n₁ input) ((r ≡ (badCall n₁ input)) × (Unit {0})) (λ e. (e, tt))) (λ _. (and-then ! (load ! (from ! (stop !)) (look ! 43 refl)) (and-then ! (load ! (from ! (stop !)) (look ! 59 refl)) (no-more !)))) (λ ws-2 said-2 is-2.
+        calls-any ! fm 0 [] (inputs-bad-call.signature .params) (inputs-bad-call.ended .kept) u64-p (inputs-bad-call.clauses 𝓤 H A mem run) known-inputs-bad-call tt tt tt (n₁, (input, tt)) (u64-p .val n₁ ∷ [], (u8-p .val input ∷ [], tt)) tt (badCall n₁ input) (λ ws-2. Unit {0}) (id⊢ 𝓤 _) (λ r ws-2. fact-mono 𝓤 (r ≡ badCall n₁ input) ((r ≡ (badCall n₁ input)) × (Unit {0})) (λ e. (e, tt))) (λ _. (and-then ! (load ! (from ! (stop !)) (look ! 49 refl)) (and-then ! (load ! (from ! (stop !)) (look ! 65 refl)) (no-more !)))) (λ ws-2 said-2 is-2.
         drop ! $ drop ! $
-        land ! (from ! (stop !)) (init ! 52 refl (u64-p .typed 𝓤 H A W (badCall n₁ input) is-2)) $
-        assigns ! (bin ! (load ! (from ! (stop !)) (look ! 52 refl)) (lit ! tt) (tt)) (from ! (stop !)) (init ! 40 refl (bool-p .typed 𝓤 H A W (eqb (badCall n₁ input) 0) refl)) $
+        land ! (from ! (stop !)) (init ! 58 refl (u64-p .typed 𝓤 H A W (badCall n₁ input) is-2)) $
+        assigns ! (bin ! (load ! (from ! (stop !)) (look ! 58 refl)) (lit ! tt) (tt)) (from ! (stop !)) (init ! 46 refl (bool-p .typed 𝓤 H A W (eqb (badCall n₁ input) 0) refl)) $
         first ! $
-        branches ! (load ! (from ! (stop !)) (look ! 40 refl))
+        branches ! (load ! (from ! (stop !)) (look ! 46 refl))
         (λ h-4.
         knows ! (eqb (badCall n₁ input) 0 ≡ true) (holds (eqb (badCall n₁ input) 0) h-4) (λ c-4.
-        assigns ! (addr ! (from ! (fld ! refl (hop ! (look-in ! 72 (sub ! 0 refl (whole !))) (stop !))))) (from ! (stop !)) (init ! 36 refl (tt, tt)) $
-        assigns ! (agg ! (and-then ! (load ! (from ! (stop !)) (look ! 36 refl)) (and-then ! (load ! (from ! (fld ! refl (stop !))) (look-in ! 72 (sub ! 1 refl (whole !)))) (no-more !)))) (from ! (stop !)) (init ! 34 refl (tt, (tt, (record { fits = room₁ .0 }, tt)))) $
+        assigns ! (addr ! (from ! (fld ! refl (hop ! (look-in ! 80 (sub ! 0 refl (whole !))) (stop !))))) (from ! (stop !)) (init ! 42 refl (tt, tt)) $
+        assigns ! (agg ! (and-then ! (load ! (from ! (stop !)) (look ! 42 refl)) (and-then ! (load ! (from ! (fld ! refl (stop !))) (look-in ! 80 (sub ! 1 refl (whole !)))) (no-more !)))) (from ! (stop !)) (init ! 40 refl (tt, (tt, (record { fits = room₁ .0 }, tt)))) $
         -- 4.yes.3: cabi::record::record_at
         lends-view ! tt (Array u64 19) b₁ o₁ agent n₁ (refl) (λ ν-4·yes·3-agent δ-4·yes·3-agent.
         nothing ! $ move ! (1 ∷ 0 ∷ []) $ join ! $
         use1 W (raw (toks 𝓤 A 1 (((ν-4·yes·3-agent ∷ []), tt)) ((fullShare, tt)))) (id⊢ 𝓤 _) $ nothing ! $ move ! (2 ∷ 0 ∷ []) $ fjoin ! $ move ! (1 ∷ 0 ∷ []) $
-        calls-any ! fm 1 [] (record-record-at.signature .params) (record-record-at.ended .kept) Record-p (record-record-at.clauses 𝓤 H A mem run) known-record-record-at ((ν-4·yes·3-agent ∷ []), tt) (fullShare, tt) tt (at-list b₁ o₁ δ-4·yes·3-agent agent, tt) (sliceVal (b₁, o₁) n₁ ∷ [], tt) tt (recordAt (agent)) (λ ws-4·yes·3. Unit {0}) (id⊢ 𝓤 _) (λ r ws-4·yes·3. fact-mono 𝓤 (r ≡ recordAt (agent)) ((r ≡ (recordAt (agent))) × (Unit {0})) (λ e. (e, tt))) (λ _. (and-then ! (load ! (from ! (stop !)) (look ! 34 refl)) (no-more !))) (λ ws-4·yes·3 said-4·yes·3 is-4·yes·3.
+        calls-any ! fm 1 [] (record-record-at.signature .params) (record-record-at.ended .kept) Record-p (record-record-at.clauses 𝓤 H A mem run) known-record-record-at ((ν-4·yes·3-agent ∷ []), tt) (fullShare, tt) tt (at-list b₁ o₁ δ-4·yes·3-agent agent, tt) (sliceVal (b₁, o₁) n₁ ∷ [], tt) tt (recordAt (agent)) (λ ws-4·yes·3. Unit {0}) (id⊢ 𝓤 _) (λ r ws-4·yes·3. fact-mono 𝓤 (r ≡ recordAt (agent)) ((r ≡ (recordAt (agent))) × (Unit {0})) (λ e. (e, tt))) (λ _. (and-then ! (load ! (from ! (stop !)) (look ! 40 refl)) (no-more !))) (λ ws-4·yes·3 said-4·yes·3 is-4·yes·3.
         use1 W ((‵ (flft (ν-4·yes·3-agent ∷ []) fullShare) ⊛ ‵ ftrue)) (id⊢ 𝓤 _) $ split ! $ move ! (2 ∷ []) $ fsplit ! $ move ! (2 ∷ 4 ∷ []) $
         backs-view ! tt (Array u64 19) b₁ o₁ agent n₁ (refl) ν-4·yes·3-agent $ move ! (2 ∷ []) $ drop ! $ move ! (2 ∷ []) $ drop ! $ move ! (2 ∷ []) $ drop ! $
-        land ! (from ! (stop !)) (init ! 50 refl (Record-p .typed 𝓤 H A W (recordAt (agent)) is-4·yes·3)) $
+        land ! (from ! (stop !)) (init ! 56 refl (Record-p .typed 𝓤 H A W (recordAt (agent)) is-4·yes·3)) $
         part-4·yes·4-0 is-2 c-4 is-4·yes·3))))
         (λ h-4.
         knows ! (eqb (badCall n₁ input) 0 ≡ false) (fails (eqb (badCall n₁ input) 0) (T-not (eqb (badCall n₁ input) 0) h-4)) (λ c-4.
-        assigns-last ! (of-opd ! (load ! (from ! (stop !)) (look ! 52 refl))) (from ! (stop !)) (init ! 38 refl (u64-p .typed 𝓤 H A W (badCall n₁ input) is-2)) $
+        assigns-last ! (of-opd ! (load ! (from ! (stop !)) (look ! 58 refl))) (from ! (stop !)) (init ! 44 refl (u64-p .typed 𝓤 H A W (badCall n₁ input) is-2)) $
         exec ! C Λ En mir.t-5 (atRet En Post) $
-        assigns ! (of-opd ! (load ! (from ! (stop !)) (look ! 38 refl))) (from ! (stop !)) (init ! 74 refl (u64-p .typed 𝓤 H A W (badCall n₁ input) is-2)) $
-        returns ! (look ! 74 refl) $ forget ! 38 refl $ forget ! 40 refl $ forget ! 42 refl $ forget ! 52 refl $ forget ! 54 refl $ forget ! 56 refl $ forget ! 58 refl $ forget ! 60 refl $ forget ! 62 refl $ forget ! 64 refl $ forget ! 66 refl $ forget ! 68 refl $ forget ! 70 refl $ forget ! 72 refl $ forget ! 74 refl $ move ! (74 ∷ 75 ∷ []) $ free1 ! $ move ! (72 ∷ 73 ∷ []) $ free1 ! $ move ! (70 ∷ 71 ∷ []) $ free1 ! $ move ! (68 ∷ 69 ∷ []) $ free1 ! $ move ! (66 ∷ 67 ∷ []) $ free1 ! $ move ! (64 ∷ 65 ∷ []) $ free1 ! $ move ! (62 ∷ 63 ∷ []) $ free1 ! $ move ! (60 ∷ 61 ∷ []) $ free1 ! $ move ! (58 ∷ 59 ∷ []) $ free1 ! $ move ! (56 ∷ 57 ∷ []) $ free1 ! $ move ! (54 ∷ 55 ∷ []) $ free1 ! $ move ! (52 ∷ 53 ∷ []) $ free1 ! $ move ! (50 ∷ 51 ∷ []) $ free1 ! $ move ! (48 ∷ 49 ∷ []) $ free1 ! $ move ! (46 ∷ 47 ∷ []) $ free1 ! $ move ! (44 ∷ 45 ∷ []) $ free1 ! $ move ! (42 ∷ 43 ∷ []) $ free1 ! $ move ! (40 ∷ 41 ∷ []) $ free1 ! $ move ! (38 ∷ 39 ∷ []) $ free1 ! $ move ! (36 ∷ 37 ∷ []) $ free1 ! $ move ! (34 ∷ 35 ∷ []) $ free1 ! $ move ! (32 ∷ 33 ∷ []) $ free1 ! $ move ! (30 ∷ 31 ∷ []) $ free1 ! $ move ! (28 ∷ 29 ∷ []) $ free1 ! $ move ! (26 ∷ 27 ∷ []) $ free1 ! $ move ! (24 ∷ 25 ∷ []) $ free1 ! $ move ! (22 ∷ 23 ∷ []) $ free1 ! $ move ! (20 ∷ 21 ∷ []) $ free1 ! $ move ! (18 ∷ 19 ∷ []) $ free1 ! $ move ! (16 ∷ 17 ∷ []) $ free1 ! $ move ! (14 ∷ 15 ∷ []) $ free1 ! $ free0 ! $
-        by ! (exits (badCall n₁ input) agent sessions streams objects out (same-left (left false) _ (if-false left _ c-4 ∙ left-is)) is-2 refl refl refl refl refl))))
+        assigns ! (of-opd ! (load ! (from ! (stop !)) (look ! 44 refl))) (from ! (stop !)) (init ! 82 refl (u64-p .typed 𝓤 H A W (badCall n₁ input) is-2)) $
+        returns ! (look ! 82 refl) $ forget ! 44 refl $ forget ! 46 refl $ forget ! 48 refl $ forget ! 58 refl $ forget ! 60 refl $ forget ! 62 refl $ forget ! 64 refl $ forget ! 66 refl $ forget ! 68 refl $ forget ! 70 refl $ forget ! 72 refl $ forget ! 74 refl $ forget ! 76 refl $ forget ! 78 refl $ forget ! 80 refl $ forget ! 82 refl $ move ! (82 ∷ 83 ∷ []) $ free1 ! $ move ! (80 ∷ 81 ∷ []) $ free1 ! $ move ! (78 ∷ 79 ∷ []) $ free1 ! $ move ! (76 ∷ 77 ∷ []) $ free1 ! $ move ! (74 ∷ 75 ∷ []) $ free1 ! $ move ! (72 ∷ 73 ∷ []) $ free1 ! $ move ! (70 ∷ 71 ∷ []) $ free1 ! $ move ! (68 ∷ 69 ∷ []) $ free1 ! $ move ! (66 ∷ 67 ∷ []) $ free1 ! $ move ! (64 ∷ 65 ∷ []) $ free1 ! $ move ! (62 ∷ 63 ∷ []) $ free1 ! $ move ! (60 ∷ 61 ∷ []) $ free1 ! $ move ! (58 ∷ 59 ∷ []) $ free1 ! $ move ! (56 ∷ 57 ∷ []) $ free1 ! $ move ! (54 ∷ 55 ∷ []) $ free1 ! $ move ! (52 ∷ 53 ∷ []) $ free1 ! $ move ! (50 ∷ 51 ∷ []) $ free1 ! $ move ! (48 ∷ 49 ∷ []) $ free1 ! $ move ! (46 ∷ 47 ∷ []) $ free1 ! $ move ! (44 ∷ 45 ∷ []) $ free1 ! $ move ! (42 ∷ 43 ∷ []) $ free1 ! $ move ! (40 ∷ 41 ∷ []) $ free1 ! $ move ! (38 ∷ 39 ∷ []) $ free1 ! $ move ! (36 ∷ 37 ∷ []) $ free1 ! $ move ! (34 ∷ 35 ∷ []) $ free1 ! $ move ! (32 ∷ 33 ∷ []) $ free1 ! $ move ! (30 ∷ 31 ∷ []) $ free1 ! $ move ! (28 ∷ 29 ∷ []) $ free1 ! $ move ! (26 ∷ 27 ∷ []) $ free1 ! $ move ! (24 ∷ 25 ∷ []) $ free1 ! $ move ! (22 ∷ 23 ∷ []) $ free1 ! $ move ! (20 ∷ 21 ∷ []) $ free1 ! $ move ! (18 ∷ 19 ∷ []) $ free1 ! $ move ! (16 ∷ 17 ∷ []) $ free1 ! $ free0 ! $
+        by ! (exits (badCall n₁ input) agent sessions streams objects held out (same-left (left false) _ (if-false left _ c-4 ∙ left-is)) is-2 refl refl refl refl refl refl))))
 
   module _ (𝓣 : Tables 𝓤 H) (known-inputs-bad-call : Triple 𝓤 (𝓣 .C #inputs-bad-call) (Of-inputs-bad-call 𝓤 H A mem run)) (known-record-record-at : Triple 𝓤 (𝓣 .C #record-record-at) (Of-record-record-at 𝓤 H A mem run)) (known-record-agent-in : Triple 𝓤 (𝓣 .C #record-agent-in) (Of-record-agent-in 𝓤 H A mem run)) (known-inputs-input-in : Triple 𝓤 (𝓣 .C #inputs-input-in) (Of-inputs-input-in 𝓤 H A mem run)) (known-process-process : Triple 𝓤 (𝓣 .C #process-process) (Of-process-process 𝓤 H A mem run)) (known-calls-told : Triple 𝓤 (𝓣 .C #calls-told) (Of-calls-told 𝓤 H A mem run)) where
-    walk : ent 𝓤 (onEntry 𝓤 H A f.signature (κ₁, (κ₂, (κ₃, (κ₄, (κ₅, (κ₆, (κ₇, tt))))))) (q₁, (q₂, (q₃, (q₄, (q₅, (q₆, (q₇, tt))))))) x at) (WpFn 𝓤 H (𝓣 .C) (𝓣 .Λ) code.function (sliceVal (b₁, o₁) n₁ ∷ sliceVal (b₂, o₂) n₂ ∷ sliceVal (b₃, o₃) n₃ ∷ sliceVal (b₄, o₄) n₄ ∷ sliceVal (b₅, o₅) n₅ ∷ sliceVal (b₆, o₆) n₆ ∷ sliceVal (b₇, o₇) n₇ ∷ u8-p .val input ∷ u64-p .val time ∷ u32-p .val handle ∷ []) Post)
+    walk : ent 𝓤 (onEntry 𝓤 H A f.signature (κ₁, (κ₂, (κ₃, (κ₄, (κ₅, (κ₆, (κ₇, (κ₈, tt)))))))) (q₁, (q₂, (q₃, (q₄, (q₅, (q₆, (q₇, (q₈, tt)))))))) x at) (WpFn 𝓤 H (𝓣 .C) (𝓣 .Λ) code.function (sliceVal (b₁, o₁) n₁ ∷ sliceVal (b₂, o₂) n₂ ∷ sliceVal (b₃, o₃) n₃ ∷ sliceVal (b₄, o₄) n₄ ∷ sliceVal (b₅, o₅) n₅ ∷ sliceVal (b₆, o₆) n₆ ∷ sliceVal (b₇, o₇) n₇ ∷ sliceVal (b₈, o₈) n₈ ∷ u8-p .val input ∷ u64-p .val time ∷ u32-p .val handle ∷ []) Post)
     walk =
-        qed W ((‵ (flft κ₁ q₁) ⊛ (‵ (flft κ₂ q₂) ⊛ (‵ (flft κ₃ q₃) ⊛ (‵ (flft κ₄ q₄) ⊛ (‵ (flft κ₅ q₅) ⊛ (‵ (flft κ₆ q₆) ⊛ (‵ (flft κ₇ q₇) ⊛ ‵ ftrue))))))) ∷ ‵ (owns (MutSlice (named 0) κ₁ (Array u64 19) ∷ MutSlice (named 1) κ₂ (Array u64 5) ∷ MutSlice (named 2) κ₃ (Array u16 35) ∷ MutSlice (named 3) κ₄ Object-t.the-row ∷ MutSlice (named 4) κ₅ u8 ∷ ShrSlice (named 5) κ₆ u8 ∷ ShrSlice (named 6) κ₇ u8 ∷ u8-p .row ∷ u64-p .row ∷ u32-p .row ∷ []) x at) ∷ []) ∵ enter ! (𝓣 .C) (𝓣 .Λ) code.function (sliceVal (b₁, o₁) n₁ ∷ sliceVal (b₂, o₂) n₂ ∷ sliceVal (b₃, o₃) n₃ ∷ sliceVal (b₄, o₄) n₄ ∷ sliceVal (b₅, o₅) n₅ ∷ sliceVal (b₆, o₆) n₆ ∷ sliceVal (b₇, o₇) n₇ ∷ u8-p .val input ∷ u64-p .val time ∷ u32-p .val handle ∷ []) _ $
-        alloc1 ! (λ l₀. alloc1 ! (λ l₁. alloc1 ! (λ l₂. alloc1 ! (λ l₃. alloc1 ! (λ l₄. alloc1 ! (λ l₅. alloc1 ! (λ l₆. alloc1 ! (λ l₇. alloc1 ! (λ l₈. alloc1 ! (λ l₉. alloc1 ! (λ l₁₀. alloc1 ! (λ l₁₁. alloc1 ! (λ l₁₂. alloc1 ! (λ l₁₃. alloc1 ! (λ l₁₄. alloc1 ! (λ l₁₅. alloc1 ! (λ l₁₆. alloc1 ! (λ l₁₇. alloc1 ! (λ l₁₈. alloc1 ! (λ l₁₉. alloc1 ! (λ l₂₀. alloc1 ! (λ l₂₁. alloc1 ! (λ l₂₂. alloc1 ! (λ l₂₃. alloc1 ! (λ l₂₄. alloc1 ! (λ l₂₅. alloc1 ! (λ l₂₆. alloc1 ! (λ l₂₇. alloc1 ! (λ l₂₈. alloc1 ! (λ l₂₉. alloc1 ! (λ l₃₀. alloc0 ! $ params1 ! $ pass1 ! (init ! 58 refl (tt, (tt, (record { fits = room₁ .0 }, tt)))) $ pass1 ! (init ! 56 refl (tt, (tt, (record { fits = room₂ .0 }, tt)))) $ pass1 ! (init ! 54 refl (tt, (tt, (record { fits = room₃ .0 }, tt)))) $ pass1 ! (init ! 52 refl (tt, (tt, (record { fits = room₄ .0 }, tt)))) $ pass1 ! (init ! 50 refl (tt, (tt, (record { fits = room₅ .0 }, tt)))) $ pass1 ! (init ! 48 refl (tt, (tt, (record { fits = room₆ .0 }, tt)))) $ pass1 ! (init ! 46 refl (tt, (tt, (record { fits = room₇ .0 }, tt)))) $ pass1 ! (init ! 44 refl (u8-p .typed 𝓤 H A W input input-is)) $ pass1 ! (init ! 42 refl (u64-p .typed 𝓤 H A W time time-is)) $ pass1 ! (init ! 40 refl (u32-p .typed 𝓤 H A W handle handle-is)) $ pass0 ! $ move ! (63 ∷ []) $ fsplit ! $ move ! (1 ∷ []) $ fsplit ! $ move ! (1 ∷ []) $ fsplit ! $ move ! (1 ∷ []) $ fsplit ! $ move ! (1 ∷ []) $ fsplit ! $ move ! (1 ∷ []) $ fsplit ! $ move ! (1 ∷ []) $ fsplit ! $ move ! (70 ∷ []) $ split ! $ move ! (1 ∷ []) $ split ! $ move ! (1 ∷ []) $ split ! $ move ! (1 ∷ []) $ split ! $ move ! (1 ∷ []) $ split ! $ move ! (1 ∷ []) $ split ! $ move ! (1 ∷ []) $ split ! $ move ! (1 ∷ []) $ drop ! $ move ! (8 ∷ []) $ drop ! $ move ! (13 ∷ 6 ∷ 12 ∷ 5 ∷ 11 ∷ 4 ∷ 10 ∷ 3 ∷ 9 ∷ 2 ∷ 8 ∷ 1 ∷ 7 ∷ 0 ∷ 14 ∷ 15 ∷ 16 ∷ 17 ∷ 18 ∷ 19 ∷ 20 ∷ 21 ∷ 22 ∷ 23 ∷ 24 ∷ 25 ∷ 26 ∷ 27 ∷ 28 ∷ 29 ∷ 30 ∷ 31 ∷ 32 ∷ 33 ∷ 34 ∷ 35 ∷ 36 ∷ 37 ∷ 38 ∷ 39 ∷ 40 ∷ 41 ∷ 42 ∷ 43 ∷ 44 ∷ 45 ∷ 46 ∷ 47 ∷ 48 ∷ 49 ∷ 50 ∷ 51 ∷ 52 ∷ 53 ∷ 54 ∷ 55 ∷ 56 ∷ 57 ∷ 58 ∷ 59 ∷ 60 ∷ 61 ∷ 62 ∷ 63 ∷ 64 ∷ 65 ∷ 66 ∷ 67 ∷ 68 ∷ 69 ∷ 70 ∷ 71 ∷ 72 ∷ 73 ∷ 74 ∷ 75 ∷ []) $
-        begins 𝓣 known-inputs-bad-call known-record-record-at known-record-agent-in known-inputs-input-in known-process-process known-calls-told l₀ l₁ l₂ l₃ l₄ l₅ l₆ l₇ l₈ l₉ l₁₀ l₁₁ l₁₂ l₁₃ l₁₄ l₁₅ l₁₆ l₁₇ l₁₈ l₁₉ l₂₀ l₂₁ l₂₂ l₂₃ l₂₄ l₂₅ l₂₆ l₂₇ l₂₈ l₂₉ l₃₀)))))))))))))))))))))))))))))))
+        qed W ((‵ (flft κ₁ q₁) ⊛ (‵ (flft κ₂ q₂) ⊛ (‵ (flft κ₃ q₃) ⊛ (‵ (flft κ₄ q₄) ⊛ (‵ (flft κ₅ q₅) ⊛ (‵ (flft κ₆ q₆) ⊛ (‵ (flft κ₇ q₇) ⊛ (‵ (flft κ₈ q₈) ⊛ ‵ ftrue)))))))) ∷ ‵ (owns (MutSlice (named 0) κ₁ (Array u64 19) ∷ MutSlice (named 1) κ₂ (Array u64 6) ∷ MutSlice (named 2) κ₃ (Array u16 35) ∷ MutSlice (named 3) κ₄ Object-t.the-row ∷ MutSlice (named 4) κ₅ u8 ∷ MutSlice (named 5) κ₆ u8 ∷ ShrSlice (named 6) κ₇ u8 ∷ ShrSlice (named 7) κ₈ u8 ∷ u8-p .row ∷ u64-p .row ∷ u32-p .row ∷ []) x at) ∷ []) ∵ enter ! (𝓣 .C) (𝓣 .Λ) code.function (sliceVal (b₁, o₁) n₁ ∷ sliceVal (b₂, o₂) n₂ ∷ sliceVal (b₃, o₃) n₃ ∷ sliceVal (b₄, o₄) n₄ ∷ sliceVal (b₅, o₅) n₅ ∷ sliceVal (b₆, o₆) n₆ ∷ sliceVal (b₇, o₇) n₇ ∷ sliceVal (b₈, o₈) n₈ ∷ u8-p .val input ∷ u64-p .val time ∷ u32-p .val handle ∷ []) _ $
+        alloc1 ! (λ l₀. alloc1 ! (λ l₁. alloc1 ! (λ l₂. alloc1 ! (λ l₃. alloc1 ! (λ l₄. alloc1 ! (λ l₅. alloc1 ! (λ l₆. alloc1 ! (λ l₇. alloc1 ! (λ l₈. alloc1 ! (λ l₉. alloc1 ! (λ l₁₀. alloc1 ! (λ l₁₁. alloc1 ! (λ l₁₂. alloc1 ! (λ l₁₃. alloc1 ! (λ l₁₄. alloc1 ! (λ l₁₅. alloc1 ! (λ l₁₆. alloc1 ! (λ l₁₇. alloc1 ! (λ l₁₈. alloc1 ! (λ l₁₉. alloc1 ! (λ l₂₀. alloc1 ! (λ l₂₁. alloc1 ! (λ l₂₂. alloc1 ! (λ l₂₃. alloc1 ! (λ l₂₄. alloc1 ! (λ l₂₅. alloc1 ! (λ l₂₆. alloc1 ! (λ l₂₇. alloc1 ! (λ l₂₈. alloc1 ! (λ l₂₉. alloc1 ! (λ l₃₀. alloc1 ! (λ l₃₁. alloc1 ! (λ l₃₂. alloc1 ! (λ l₃₃. alloc0 ! $ params1 ! $ pass1 ! (init ! 64 refl (tt, (tt, (record { fits = room₁ .0 }, tt)))) $ pass1 ! (init ! 62 refl (tt, (tt, (record { fits = room₂ .0 }, tt)))) $ pass1 ! (init ! 60 refl (tt, (tt, (record { fits = room₃ .0 }, tt)))) $ pass1 ! (init ! 58 refl (tt, (tt, (record { fits = room₄ .0 }, tt)))) $ pass1 ! (init ! 56 refl (tt, (tt, (record { fits = room₅ .0 }, tt)))) $ pass1 ! (init ! 54 refl (tt, (tt, (record { fits = room₆ .0 }, tt)))) $ pass1 ! (init ! 52 refl (tt, (tt, (record { fits = room₇ .0 }, tt)))) $ pass1 ! (init ! 50 refl (tt, (tt, (record { fits = room₈ .0 }, tt)))) $ pass1 ! (init ! 48 refl (u8-p .typed 𝓤 H A W input input-is)) $ pass1 ! (init ! 46 refl (u64-p .typed 𝓤 H A W time time-is)) $ pass1 ! (init ! 44 refl (u32-p .typed 𝓤 H A W handle handle-is)) $ pass0 ! $ move ! (69 ∷ []) $ fsplit ! $ move ! (1 ∷ []) $ fsplit ! $ move ! (1 ∷ []) $ fsplit ! $ move ! (1 ∷ []) $ fsplit ! $ move ! (1 ∷ []) $ fsplit ! $ move ! (1 ∷ []) $ fsplit ! $ move ! (1 ∷ []) $ fsplit ! $ move ! (1 ∷ []) $ fsplit ! $ move ! (77 ∷ []) $ split ! $ move ! (1 ∷ []) $ split ! $ move ! (1 ∷ []) $ split ! $ move ! (1 ∷ []) $ split ! $ move ! (1 ∷ []) $ split ! $ move ! (1 ∷ []) $ split ! $ move ! (1 ∷ []) $ split ! $ move ! (1 ∷ []) $ split ! $ move ! (1 ∷ []) $ drop ! $ move ! (9 ∷ []) $ drop ! $ move ! (15 ∷ 7 ∷ 14 ∷ 6 ∷ 13 ∷ 5 ∷ 12 ∷ 4 ∷ 11 ∷ 3 ∷ 10 ∷ 2 ∷ 9 ∷ 1 ∷ 8 ∷ 0 ∷ 16 ∷ 17 ∷ 18 ∷ 19 ∷ 20 ∷ 21 ∷ 22 ∷ 23 ∷ 24 ∷ 25 ∷ 26 ∷ 27 ∷ 28 ∷ 29 ∷ 30 ∷ 31 ∷ 32 ∷ 33 ∷ 34 ∷ 35 ∷ 36 ∷ 37 ∷ 38 ∷ 39 ∷ 40 ∷ 41 ∷ 42 ∷ 43 ∷ 44 ∷ 45 ∷ 46 ∷ 47 ∷ 48 ∷ 49 ∷ 50 ∷ 51 ∷ 52 ∷ 53 ∷ 54 ∷ 55 ∷ 56 ∷ 57 ∷ 58 ∷ 59 ∷ 60 ∷ 61 ∷ 62 ∷ 63 ∷ 64 ∷ 65 ∷ 66 ∷ 67 ∷ 68 ∷ 69 ∷ 70 ∷ 71 ∷ 72 ∷ 73 ∷ 74 ∷ 75 ∷ 76 ∷ 77 ∷ 78 ∷ 79 ∷ 80 ∷ 81 ∷ 82 ∷ 83 ∷ []) $
+        begins 𝓣 known-inputs-bad-call known-record-record-at known-record-agent-in known-inputs-input-in known-process-process known-calls-told l₀ l₁ l₂ l₃ l₄ l₅ l₆ l₇ l₈ l₉ l₁₀ l₁₁ l₁₂ l₁₃ l₁₄ l₁₅ l₁₆ l₁₇ l₁₈ l₁₉ l₂₀ l₂₁ l₂₂ l₂₃ l₂₄ l₂₅ l₂₆ l₂₇ l₂₈ l₂₉ l₃₀ l₃₁ l₃₂ l₃₃))))))))))))))))))))))))))))))))))
 
 module _ {M : Type 1} (𝓤 : URA M) (H : Heap 𝓤) (A : Atoms 𝓤) (W : Given 𝓤 H A) (mem : Memory → SProp 𝓤) (run : Routine → Fun 𝓤) (𝓣 : Tables 𝓤 H) (known-inputs-bad-call : Triple 𝓤 (𝓣 .C #inputs-bad-call) (Of-inputs-bad-call 𝓤 H A mem run)) (known-record-record-at : Triple 𝓤 (𝓣 .C #record-record-at) (Of-record-record-at 𝓤 H A mem run)) (known-record-agent-in : Triple 𝓤 (𝓣 .C #record-agent-in) (Of-record-agent-in 𝓤 H A mem run)) (known-inputs-input-in : Triple 𝓤 (𝓣 .C #inputs-input-in) (Of-inputs-input-in 𝓤 H A mem run)) (known-process-process : Triple 𝓤 (𝓣 .C #process-process) (Of-process-process 𝓤 H A mem run)) (known-calls-told : Triple 𝓤 (𝓣 .C #calls-told) (Of-calls-told 𝓤 H A mem run)) where
   walks : Walks 𝓤 H A f.ended stayed (WpFn 𝓤 H (𝓣 .C) (𝓣 .Λ) code.function) (f.clauses 𝓤 H A mem run)
-  walks = walked 𝓤 H A f.ended stayed (f.clauses 𝓤 H A mem run) (WpFn 𝓤 H (𝓣 .C) (𝓣 .Λ) code.function) (λ κs. (slice-vals, (slice-vals, (slice-vals, (slice-vals, (slice-vals, (slice-vals, (slice-vals, ((λ y. u8-p .val y ∷ []), ((λ y. u64-p .val y ∷ []), ((λ y. u32-p .val y ∷ []), tt))))))))))) (λ κs. (mut-slice-tells (named 0) (κs .0) (Array u64 19), (mut-slice-tells (named 1) (κs .1 .0) (Array u64 5), (mut-slice-tells (named 2) (κs .1 .1 .0) (Array u16 35), (mut-slice-tells (named 3) (κs .1 .1 .1 .0) Object-t.the-row, (mut-slice-tells (named 4) (κs .1 .1 .1 .1 .0) u8, (shr-slice-tells (named 5) (κs .1 .1 .1 .1 .1 .0) u8, (shr-slice-tells (named 6) (κs .1 .1 .1 .1 .1 .1 .0) u8, (u8-p .tells, (u64-p .tells, (u32-p .tells, tt)))))))))))
-      (λ κs qs bounds a g are. via 𝓤 _ (fst∗ 𝓤 _ (emp 𝓤)) (walk 𝓤 H A W mem run (κs .0) (qs .0) (a .0 .ptr .0) (a .0 .ptr .1) (a .0 .name) (a .0 .now) (κs .1 .0) (qs .1 .0) (a .1 .0 .ptr .0) (a .1 .0 .ptr .1) (a .1 .0 .name) (a .1 .0 .now) (κs .1 .1 .0) (qs .1 .1 .0) (a .1 .1 .0 .ptr .0) (a .1 .1 .0 .ptr .1) (a .1 .1 .0 .name) (a .1 .1 .0 .now) (κs .1 .1 .1 .0) (qs .1 .1 .1 .0) (a .1 .1 .1 .0 .ptr .0) (a .1 .1 .1 .0 .ptr .1) (a .1 .1 .1 .0 .name) (a .1 .1 .1 .0 .now) (κs .1 .1 .1 .1 .0) (qs .1 .1 .1 .1 .0) (a .1 .1 .1 .1 .0 .ptr .0) (a .1 .1 .1 .1 .0 .ptr .1) (a .1 .1 .1 .1 .0 .name) (a .1 .1 .1 .1 .0 .now) (κs .1 .1 .1 .1 .1 .0) (qs .1 .1 .1 .1 .1 .0) (a .1 .1 .1 .1 .1 .0 .ptr .0) (a .1 .1 .1 .1 .1 .0 .ptr .1) (a .1 .1 .1 .1 .1 .0 .name) (a .1 .1 .1 .1 .1 .0 .now) (κs .1 .1 .1 .1 .1 .1 .0) (qs .1 .1 .1 .1 .1 .1 .0) (a .1 .1 .1 .1 .1 .1 .0 .ptr .0) (a .1 .1 .1 .1 .1 .1 .0 .ptr .1) (a .1 .1 .1 .1 .1 .1 .0 .name) (a .1 .1 .1 .1 .1 .1 .0 .now) (a .1 .1 .1 .1 .1 .1 .1 .0) (a .1 .1 .1 .1 .1 .1 .1 .1 .0) (a .1 .1 .1 .1 .1 .1 .1 .1 .1 .0) (are .0 .0 .1) (are .1 .0 .0 .1) (are .1 .1 .0 .0 .1) (are .1 .1 .1 .0 .0 .1) (are .1 .1 .1 .1 .0 .0 .1) (are .1 .1 .1 .1 .1 .0 .0 .1) (are .1 .1 .1 .1 .1 .1 .0 .0 .1) (are .1 .1 .1 .1 .1 .1 .1 .0) (are .1 .1 .1 .1 .1 .1 .1 .1 .0) (are .1 .1 .1 .1 .1 .1 .1 .1 .1 .0) 𝓣 known-inputs-bad-call known-record-record-at known-record-agent-in known-inputs-input-in known-process-process known-calls-told))
+  walks = walked 𝓤 H A f.ended stayed (f.clauses 𝓤 H A mem run) (WpFn 𝓤 H (𝓣 .C) (𝓣 .Λ) code.function) (λ κs. (slice-vals, (slice-vals, (slice-vals, (slice-vals, (slice-vals, (slice-vals, (slice-vals, (slice-vals, ((λ y. u8-p .val y ∷ []), ((λ y. u64-p .val y ∷ []), ((λ y. u32-p .val y ∷ []), tt)))))))))))) (λ κs. (mut-slice-tells (named 0) (κs .0) (Array u64 19), (mut-slice-tells (named 1) (κs .1 .0) (Array u64 6), (mut-slice-tells (named 2) (κs .1 .1 .0) (Array u16 35), (mut-slice-tells (named 3) (κs .1 .1 .1 .0) Object-t.the-row, (mut-slice-tells (named 4) (κs .1 .1 .1 .1 .0) u8, (mut-slice-tells (named 5) (κs .1 .1 .1 .1 .1 .0) u8, (shr-slice-tells (named 6) (κs .1 .1 .1 .1 .1 .1 .0) u8, (shr-slice-tells (named 7) (κs .1 .1 .1 .1 .1 .1 .1 .0) u8, (u8-p .tells, (u64-p .tells, (u32-p .tells, tt))))))))))))
+      (λ κs qs bounds a g are. via 𝓤 _ (fst∗ 𝓤 _ (emp 𝓤)) (walk 𝓤 H A W mem run (κs .0) (qs .0) (a .0 .ptr .0) (a .0 .ptr .1) (a .0 .name) (a .0 .now) (κs .1 .0) (qs .1 .0) (a .1 .0 .ptr .0) (a .1 .0 .ptr .1) (a .1 .0 .name) (a .1 .0 .now) (κs .1 .1 .0) (qs .1 .1 .0) (a .1 .1 .0 .ptr .0) (a .1 .1 .0 .ptr .1) (a .1 .1 .0 .name) (a .1 .1 .0 .now) (κs .1 .1 .1 .0) (qs .1 .1 .1 .0) (a .1 .1 .1 .0 .ptr .0) (a .1 .1 .1 .0 .ptr .1) (a .1 .1 .1 .0 .name) (a .1 .1 .1 .0 .now) (κs .1 .1 .1 .1 .0) (qs .1 .1 .1 .1 .0) (a .1 .1 .1 .1 .0 .ptr .0) (a .1 .1 .1 .1 .0 .ptr .1) (a .1 .1 .1 .1 .0 .name) (a .1 .1 .1 .1 .0 .now) (κs .1 .1 .1 .1 .1 .0) (qs .1 .1 .1 .1 .1 .0) (a .1 .1 .1 .1 .1 .0 .ptr .0) (a .1 .1 .1 .1 .1 .0 .ptr .1) (a .1 .1 .1 .1 .1 .0 .name) (a .1 .1 .1 .1 .1 .0 .now) (κs .1 .1 .1 .1 .1 .1 .0) (qs .1 .1 .1 .1 .1 .1 .0) (a .1 .1 .1 .1 .1 .1 .0 .ptr .0) (a .1 .1 .1 .1 .1 .1 .0 .ptr .1) (a .1 .1 .1 .1 .1 .1 .0 .name) (a .1 .1 .1 .1 .1 .1 .0 .now) (κs .1 .1 .1 .1 .1 .1 .1 .0) (qs .1 .1 .1 .1 .1 .1 .1 .0) (a .1 .1 .1 .1 .1 .1 .1 .0 .ptr .0) (a .1 .1 .1 .1 .1 .1 .1 .0 .ptr .1) (a .1 .1 .1 .1 .1 .1 .1 .0 .name) (a .1 .1 .1 .1 .1 .1 .1 .0 .now) (a .1 .1 .1 .1 .1 .1 .1 .1 .0) (a .1 .1 .1 .1 .1 .1 .1 .1 .1 .0) (a .1 .1 .1 .1 .1 .1 .1 .1 .1 .1 .0) (are .0 .0 .1) (are .1 .0 .0 .1) (are .1 .1 .0 .0 .1) (are .1 .1 .1 .0 .0 .1) (are .1 .1 .1 .1 .0 .0 .1) (are .1 .1 .1 .1 .1 .0 .0 .1) (are .1 .1 .1 .1 .1 .1 .0 .0 .1) (are .1 .1 .1 .1 .1 .1 .1 .0 .0 .1) (are .1 .1 .1 .1 .1 .1 .1 .1 .0) (are .1 .1 .1 .1 .1 .1 .1 .1 .1 .0) (are .1 .1 .1 .1 .1 .1 .1 .1 .1 .1 .0) 𝓣 known-inputs-bad-call known-record-record-at known-record-agent-in known-inputs-input-in known-process-process known-calls-told))
 
   meets : Meets 𝓤 H A f.signature (WpFn 𝓤 H (𝓣 .C) (𝓣 .Λ) code.function) (f.spec 𝓤 H A mem run)
-  meets = walk-meets 𝓤 H A f.ended stayed W (goes-slice 𝓤 H A W 7 0 tt (plain (λ _. (Array u64 19))), (goes-slice 𝓤 H A W 7 1 tt (plain (λ _. (Array u64 5))), (goes-slice 𝓤 H A W 7 2 tt (plain (λ _. (Array u16 35))), (goes-slice 𝓤 H A W 7 3 tt (plain (λ _. Object-t.the-row)), (goes-slice 𝓤 H A W 7 4 tt (plain (λ _. u8)), (goes-none-slice 𝓤 H A W 7 (5 ∷ []) tt (plain (λ _. u8)) yes, (goes-none-slice 𝓤 H A W 7 (6 ∷ []) tt (plain (λ _. u8)) yes, (goes-none 𝓤 H A W 7 (λ _. u8-p .row) yes (λ κs x f. refl), (goes-none 𝓤 H A W 7 (λ _. u64-p .row) yes (λ κs x f. refl), (goes-none 𝓤 H A W 7 (λ _. u32-p .row) yes (λ κs x f. refl), tt)))))))))) (f.clauses 𝓤 H A mem run) (WpFn 𝓤 H (𝓣 .C) (𝓣 .Λ) code.function) (WpFn-mono 𝓤 H (W .laws) 𝓣 code.function) walks
+  meets = walk-meets 𝓤 H A f.ended stayed W (goes-slice 𝓤 H A W 8 0 tt (plain (λ _. (Array u64 19))), (goes-slice 𝓤 H A W 8 1 tt (plain (λ _. (Array u64 6))), (goes-slice 𝓤 H A W 8 2 tt (plain (λ _. (Array u16 35))), (goes-slice 𝓤 H A W 8 3 tt (plain (λ _. Object-t.the-row)), (goes-slice 𝓤 H A W 8 4 tt (plain (λ _. u8)), (goes-slice 𝓤 H A W 8 5 tt (plain (λ _. u8)), (goes-none-slice 𝓤 H A W 8 (6 ∷ []) tt (plain (λ _. u8)) yes, (goes-none-slice 𝓤 H A W 8 (7 ∷ []) tt (plain (λ _. u8)) yes, (goes-none 𝓤 H A W 8 (λ _. u8-p .row) yes (λ κs x f. refl), (goes-none 𝓤 H A W 8 (λ _. u64-p .row) yes (λ κs x f. refl), (goes-none 𝓤 H A W 8 (λ _. u32-p .row) yes (λ κs x f. refl), tt))))))))))) (f.clauses 𝓤 H A mem run) (WpFn 𝓤 H (𝓣 .C) (𝓣 .Λ) code.function) (WpFn-mono 𝓤 H (W .laws) 𝓣 code.function) walks
 
 pub xrce-agent-process-spec : {M : Type 1} → stated.statement M
 unfolding code.routine tablesOf

@@ -10,9 +10,6 @@ Inv-loop numbers count i₀ i = i ≤ 16
 abbrev μ-loop : tie.MeasureT-loop
 μ-loop numbers count i₀ i = 16 - i
 
-say-requires : tie.Need-say-requires Inv-loop μ-loop
-say-requires c κs = search needs
-
 loop-holds : tie.Need-loop-holds Inv-loop μ-loop
 loop-holds c = search needs
 
@@ -55,7 +52,6 @@ repeats-spec =
     (tie.spec
     Inv-loop
     μ-loop
-    say-requires
     loop-holds
     end-line-requires
     returns

@@ -56,12 +56,16 @@ use Rattle.sessions.specs.Objects.{implicitOf}
 use Rattle.sessions.specs.SessionObjects.{foundObject, storedObject, storedObjects, keepStored}
 use Rattle.sessions.specs.Removal.{takenObject, removedObjects, keepRemoved}
 use Rattle.sessions.specs.Room.{roomOf}
-use Rattle.moves.specs.Moves.{writeMove, readMove, deleteMove, topicMove}
+use Rattle.moves.specs.Moves.{foundHandle, writeMove, deleteMove, topicMove}
+use Rattle.moves.specs.RowsStreams.{readMove, readSessions, readRows}
 use Rattle.moves.specs.Names.{namesIn}
 use Rattle.moves.specs.Rows.{okMove, endpointIn, createMove, createdSessions, createdObjects, isFree, noRoomMove, roomMove, roomSessions, roomObjects}
 use Rattle.sessions.specs.SessionObjects.{objectsNamed, usedOf, firstObject, countedSession, keepUsed}
 use Rattle.sessions.specs.Removal.{dependedObject}
-use Rattle.moves.specs.Moves.{foundHandle, handleOfKind, parentOf, participantMove, endpointCall, endpointBy, endpointMove, droppedMove, heartbeatMove}
+use mathlib.Core.Bool.{cond}
+use Rattle.moves.specs.Moves.{handleOfKind, parentOf, participantMove, endpointCall, endpointBy, endpointMove, readCall, readOn, droppedMove, heartbeatMove, acknackOn}
+use Rattle.sessions.specs.SessionStreams.{streamPlace}
+use Rattle.moves.specs.RowsStreams.{acknowledgedRows, streamMove, streamRows, openedSessions, openedRows, readOf, readFrom}
 use Rattle.sessions.specs.declared.objects.Object.{Object}
 use Rattle.sessions.proofs.objects.Object as Object-t
 use Rattle.sessions.proofs.objects.Object.Laws as Object-l
@@ -71,7 +75,7 @@ use Rattle.codec.proofs.submessages.ObjectNumber.Laws as ObjectNumber-l
 use Rattle.moves.specs.declared.moves.Move.{Move}
 use Rattle.moves.proofs.moves.Move as Move-t
 use Rattle.moves.proofs.moves.Move.Laws as Move-l
-use Rattle.moves.specs.declared.moves.Move.the-variants.{Greets as Move-Greets, Status as Move-Status, Acknack as Move-Acknack, Calls as Move-Calls, Silent as Move-Silent}
+use Rattle.moves.specs.declared.moves.Move.the-variants.{Greets as Move-Greets, Status as Move-Status, Acknack as Move-Acknack, Repeats as Move-Repeats, Calls as Move-Calls, Silent as Move-Silent}
 use Rattle.codec.specs.declared.submessages.StatusCode.{StatusCode}
 use Rattle.codec.proofs.submessages.StatusCode as StatusCode-t
 use Rattle.codec.proofs.submessages.StatusCode.Laws as StatusCode-l
@@ -93,6 +97,10 @@ use Rattle.sessions.proofs.objects.Handle.Laws as Handle-l
 use Rattle.codec.specs.declared.layouts.Span.{Span}
 use Rattle.codec.proofs.layouts.Span as Span-t
 use Rattle.codec.proofs.layouts.Span.Laws as Span-l
+use Rattle.sessions.specs.declared.objects.ObjectHandle.{ObjectHandle}
+use Rattle.sessions.proofs.objects.ObjectHandle as ObjectHandle-t
+use Rattle.sessions.proofs.objects.ObjectHandle.Laws as ObjectHandle-l
+use Rattle.sessions.specs.declared.objects.ObjectHandle.the-variants.{Bridged as ObjectHandle-Bridged, Implicit as ObjectHandle-Implicit}
 use Rattle.sessions.specs.declared.objects.Found.{Found}
 use Rattle.sessions.proofs.objects.Found as Found-t
 use Rattle.sessions.proofs.objects.Found.Laws as Found-l
@@ -105,10 +113,14 @@ use Rattle.sessions.proofs.session_objects.find_object as session-objects-find-
 use Rattle.sessions.proofs.session_objects.find_object.Symbol as session-objects-find-object-def
 use Rattle.sessions.proofs.session_objects.find_object.Symbol.{name as #session-objects-find-object}
 use Rattle.sessions.proofs.session_objects.find_object.Met as session-objects-find-object-thm
-use Rattle.moves.proofs.moves.read_move as moves-read-move
-use Rattle.moves.proofs.moves.read_move.Symbol as moves-read-move-def
-use Rattle.moves.proofs.moves.read_move.Symbol.{name as #moves-read-move}
-use Rattle.moves.proofs.moves.read_move.Met as moves-read-move-thm
+use Rattle.moves.proofs.moves.found_handle as moves-found-handle
+use Rattle.moves.proofs.moves.found_handle.Symbol as moves-found-handle-def
+use Rattle.moves.proofs.moves.found_handle.Symbol.{name as #moves-found-handle}
+use Rattle.moves.proofs.moves.found_handle.Met as moves-found-handle-thm
+use Rattle.moves.proofs.stream_moves.read_by as stream-moves-read-by
+use Rattle.moves.proofs.stream_moves.read_by.Symbol as stream-moves-read-by-def
+use Rattle.moves.proofs.stream_moves.read_by.Symbol.{name as #stream-moves-read-by}
+use Rattle.moves.proofs.stream_moves.read_by.Met as stream-moves-read-by-thm
 use Rattle.moves.proofs.objects.read_data.Key.{name as #f}
 use Rattle.moves.proofs.objects.read_data as f
 use Rattle.moves.proofs.objects.read_data.Statement as stated
@@ -157,6 +169,9 @@ Span-of x0 x1 = record { start = x0; len = x1 }
 abbrev Span-p : Plain
 Span-p = record { row = Span-t.the-row; val = LL.val Span-t.the-type Span-l.the-laws; tells = LL.tells Span-t.the-type Span-l.the-laws; makes = λ 𝓤 H A W. LL.makes Span-t.the-type Span-l.the-plain 𝓤 H A; ty = Span-l.mir; typed = λ 𝓤 H A W x is. LL.lawful Span-t.the-type Span-l.the-laws 𝓤 H A W .typed x _ is .0; copies = λ 𝓤 H A W. LL.copy Span-t.the-type Span-l.the-copy 𝓤 H A W }
 
+abbrev ObjectHandle-p : Plain
+ObjectHandle-p = record { row = ObjectHandle-t.the-row; val = EL.val ObjectHandle-t.the-type ObjectHandle-l.the-laws; tells = EL.tells ObjectHandle-t.the-type ObjectHandle-l.the-laws; makes = λ 𝓤 H A W. EL.makes ObjectHandle-t.the-type ObjectHandle-l.the-plain 𝓤 H A; ty = ObjectHandle-l.mir; typed = λ 𝓤 H A W x is. EL.lawful ObjectHandle-t.the-type ObjectHandle-l.the-laws 𝓤 H A W tt .typed x _ is .0; copies = λ 𝓤 H A W. EL.copy ObjectHandle-t.the-type ObjectHandle-l.the-copy 𝓤 H A W }
+
 abbrev Found-p : Plain
 Found-p = record { row = Found-t.the-row; val = EL.val Found-t.the-type Found-l.the-laws; tells = EL.tells Found-t.the-type Found-l.the-laws; makes = λ 𝓤 H A W. EL.makes Found-t.the-type Found-l.the-plain 𝓤 H A; ty = Found-l.mir; typed = λ 𝓤 H A W x is. EL.lawful Found-t.the-type Found-l.the-laws 𝓤 H A W tt .typed x _ is .0; copies = λ 𝓤 H A W. EL.copy Found-t.the-type Found-l.the-copy 𝓤 H A W }
 
@@ -164,43 +179,50 @@ abbrev Refusal-p : Plain
 Refusal-p = record { row = Refusal-t.the-row; val = EL.val Refusal-t.the-type Refusal-l.the-laws; tells = EL.tells Refusal-t.the-type Refusal-l.the-laws; makes = λ 𝓤 H A W. EL.makes Refusal-t.the-type Refusal-l.the-plain 𝓤 H A; ty = Refusal-l.mir; typed = λ 𝓤 H A W x is. EL.lawful Refusal-t.the-type Refusal-l.the-laws 𝓤 H A W tt .typed x _ is .0; copies = λ 𝓤 H A W. EL.copy Refusal-t.the-type Refusal-l.the-copy 𝓤 H A W }
 
 abbrev stayed : Stays (f.ended .signature .params) (f.ended .kept)
-stayed = (stay-none-slice (0 ∷ []) tt (plain (λ _. (Array u64 5))) yes, (stay-none-slice (1 ∷ []) tt (plain (λ _. Object-t.the-row)) yes, (stay-none (λ _. u8-p .row) yes, (stay-none (λ _. ObjectNumber-p .row) yes, tt))))
+stayed = (stay-slice (0 ∷ []) tt (plain (λ _. (Array u64 6))), (stay-slice (1 ∷ []) tt (plain (λ _. (Array u16 35))), (stay-none-slice (2 ∷ []) tt (plain (λ _. Object-t.the-row)) yes, (stay-none (λ _. u8-p .row) yes, (stay-none (λ _. u8-p .row) yes, (stay-none (λ _. ObjectNumber-p .row) yes, tt))))))
 
 module _ {M : Type 1} (𝓤 : URA M) (H : Heap 𝓤) (A : Atoms 𝓤) (mem : Memory → SProp 𝓤) (run : Routine → Fun 𝓤) where
   abbrev Of-session-objects-find-object : Contract 𝓤
   Of-session-objects-find-object = tripleOf 𝓤 H A session-objects-find-object.signature (session-objects-find-object.spec 𝓤 H A mem run)
 
-  abbrev Of-moves-read-move : Contract 𝓤
-  Of-moves-read-move = tripleOf 𝓤 H A moves-read-move.signature (moves-read-move.spec 𝓤 H A mem run)
+  abbrev Of-moves-found-handle : Contract 𝓤
+  Of-moves-found-handle = tripleOf 𝓤 H A moves-found-handle.signature (moves-found-handle.spec 𝓤 H A mem run)
 
-module _ {M : Type 1} (𝓤 : URA M) (H : Heap 𝓤) (A : Atoms 𝓤) (W : Given 𝓤 H A) (mem : Memory → SProp 𝓤) (run : Routine → Fun 𝓤) (κ₁ : Lft) (q₁ : Share) (b₁ o₁ : ℕ) (γ₁ : GName) (sessions : List (List ℕ)) (κ₂ : Lft) (q₂ : Share) (b₂ o₂ : ℕ) (γ₂ : GName) (objects : List Object) (id : ℕ) (number : ObjectNumber)
-    (room₁ : Room (Array u64 5) (length sessions)) (room₂ : Room Object-t.the-row (length objects)) (id-is : Is (u8-p .row) id (u8-p .val id ∷ [])) (number-is : Is (ObjectNumber-p .row) number (ObjectNumber-p .val number ∷ [])) where
+  abbrev Of-stream-moves-read-by : Contract 𝓤
+  Of-stream-moves-read-by = tripleOf 𝓤 H A stream-moves-read-by.signature (stream-moves-read-by.spec 𝓤 H A mem run)
+
+module _ {M : Type 1} (𝓤 : URA M) (H : Heap 𝓤) (A : Atoms 𝓤) (W : Given 𝓤 H A) (mem : Memory → SProp 𝓤) (run : Routine → Fun 𝓤) (κ₁ : Lft) (q₁ : Share) (b₁ o₁ : ℕ) (γ₁ : GName) (sessions : List (List ℕ)) (κ₂ : Lft) (q₂ : Share) (b₂ o₂ : ℕ) (γ₂ : GName) (streams : List (List ℕ)) (κ₃ : Lft) (q₃ : Share) (b₃ o₃ : ℕ) (γ₃ : GName) (objects : List Object) (id : ℕ) (n′ : ℕ) (number : ObjectNumber)
+    (room₁ : Room (Array u64 6) (length sessions)) (room₂ : Room (Array u16 35) (length streams)) (room₃ : Room Object-t.the-row (length objects)) (id-is : Is (u8-p .row) id (u8-p .val id ∷ [])) (n′-is : Is (u8-p .row) n′ (u8-p .val n′ ∷ [])) (number-is : Is (ObjectNumber-p .row) number (ObjectNumber-p .val number ∷ [])) where
   abbrev n₁ : ℕ
   n₁ = length sessions
 
   abbrev n₂ : ℕ
-  n₂ = length objects
+  n₂ = length streams
 
-  abbrev x : RefT (List (List ℕ)) × (RefT (List Object) × (u8-p .row .Denot × (ObjectNumber-p .row .Denot × (Unit {0}))))
-  x = (at-list b₁ o₁ γ₁ sessions, (at-list b₂ o₂ γ₂ objects, (id, (number, tt))))
+  abbrev n₃ : ℕ
+  n₃ = length objects
 
-  abbrev at : Vals f.signature (κ₁, (κ₂, tt))
-  at = (sliceVal (b₁, o₁) n₁ ∷ [], (sliceVal (b₂, o₂) n₂ ∷ [], (u8-p .val id ∷ [], (ObjectNumber-p .val number ∷ [], tt))))
+  abbrev x : RefT (List (List ℕ)) × (RefT (List (List ℕ)) × (RefT (List Object) × (u8-p .row .Denot × (u8-p .row .Denot × (ObjectNumber-p .row .Denot × (Unit {0}))))))
+  x = (at-list b₁ o₁ γ₁ sessions, (at-list b₂ o₂ γ₂ streams, (at-list b₃ o₃ γ₃ objects, (id, (n′, (number, tt))))))
+
+  abbrev at : Vals f.signature (κ₁, (κ₂, (κ₃, tt)))
+  at = (sliceVal (b₁, o₁) n₁ ∷ [], (sliceVal (b₂, o₂) n₂ ∷ [], (sliceVal (b₃, o₃) n₃ ∷ [], (u8-p .val id ∷ [], (u8-p .val n′ ∷ [], (ObjectNumber-p .val number ∷ [], tt))))))
 
   abbrev Post : Val → SProp 𝓤
-  Post = walkOf 𝓤 H A f.ended stayed (f.clauses 𝓤 H A mem run) .post (((κ₁, (κ₂, tt)), (q₁, (q₂, tt)), tt, x, at), tt)
+  Post = walkOf 𝓤 H A f.ended stayed (f.clauses 𝓤 H A mem run) .post (((κ₁, (κ₂, (κ₃, tt))), (q₁, (q₂, (q₃, tt))), tt, x, at), tt)
 
-  exits : (r : Move) → (r ≡ readMove number (foundObject (sessions) (objects) id number)) → Is (Move-p .row) r (Move-p .val r ∷ []) → ent 𝓤 (⋆ 𝓤 H A (‵ (ShrSlice (named 0) κ₁ (Array u64 5) .own (at-list b₁ o₁ γ₁ sessions) (sliceVal (b₁, o₁) n₁ ∷ [])) ∷ ‵ (flft κ₁ q₁) ∷ ‵ (ShrSlice (named 1) κ₂ Object-t.the-row .own (at-list b₂ o₂ γ₂ objects) (sliceVal (b₂, o₂) n₂ ∷ [])) ∷ ‵ (flft κ₂ q₂) ∷ [])) (Post (Move-p .val r))
-  exits r said r-is =
-      qed W (‵ (ShrSlice (named 0) κ₁ (Array u64 5) .own (at-list b₁ o₁ γ₁ sessions) (sliceVal (b₁, o₁) n₁ ∷ [])) ∷ ‵ (flft κ₁ q₁) ∷ ‵ (ShrSlice (named 1) κ₂ Object-t.the-row .own (at-list b₂ o₂ γ₂ objects) (sliceVal (b₂, o₂) n₂ ∷ [])) ∷ ‵ (flft κ₂ q₂) ∷ []) ∵
-      suffices ! _ (ends-at 𝓤 H A f.ended stayed (f.clauses 𝓤 H A mem run) W (((κ₁, (κ₂, tt)), (q₁, (q₂, tt)), tt, x, at), tt) (Move-p .val r) r (tt, (tt, (tt, (tt, tt)))) (tt, (tt, (tt, (tt, tt))))) $ says ! said $ nothing ! $ move ! (4 ∷ 0 ∷ []) $ join ! $ move ! (2 ∷ 0 ∷ []) $ join ! $
+  exits : (r : Move) (ws₁ : List (List ℕ)) (ws₂ : List (List ℕ)) → ((r ≡ readMove number (foundHandle (foundObject (sessions) (objects) id number)) (sessions) (streams) id n′) × (ws₁ ≡ readSessions (foundHandle (foundObject (sessions) (objects) id number)) (sessions) (streams) id n′) × (ws₂ ≡ readRows (foundHandle (foundObject (sessions) (objects) id number)) (sessions) (streams) id n′)) → Is (Move-p .row) r (Move-p .val r ∷ []) → length ws₁ ≡ n₁ → length ws₂ ≡ n₂ → ent 𝓤 (⋆ 𝓤 H A (‵ (MutSlice (named 0) κ₁ (Array u64 6) .own (at-list b₁ o₁ γ₁ ws₁) (sliceVal (b₁, o₁) n₁ ∷ [])) ∷ ‵ (flft κ₁ q₁) ∷ ‵ (MutSlice (named 1) κ₂ (Array u16 35) .own (at-list b₂ o₂ γ₂ ws₂) (sliceVal (b₂, o₂) n₂ ∷ [])) ∷ ‵ (flft κ₂ q₂) ∷ ‵ (ShrSlice (named 2) κ₃ Object-t.the-row .own (at-list b₃ o₃ γ₃ objects) (sliceVal (b₃, o₃) n₃ ∷ [])) ∷ ‵ (flft κ₃ q₃) ∷ [])) (Post (Move-p .val r))
+  exits r ws₁ ws₂ said r-is len₁ len₂ =
+      qed W (‵ (MutSlice (named 0) κ₁ (Array u64 6) .own (at-list b₁ o₁ γ₁ ws₁) (sliceVal (b₁, o₁) n₁ ∷ [])) ∷ ‵ (flft κ₁ q₁) ∷ ‵ (MutSlice (named 1) κ₂ (Array u16 35) .own (at-list b₂ o₂ γ₂ ws₂) (sliceVal (b₂, o₂) n₂ ∷ [])) ∷ ‵ (flft κ₂ q₂) ∷ ‵ (ShrSlice (named 2) κ₃ Object-t.the-row .own (at-list b₃ o₃ γ₃ objects) (sliceVal (b₃, o₃) n₃ ∷ [])) ∷ ‵ (flft κ₃ q₃) ∷ []) ∵
+      suffices ! _ (ends-at 𝓤 H A f.ended stayed (f.clauses 𝓤 H A mem run) W (((κ₁, (κ₂, (κ₃, tt))), (q₁, (q₂, (q₃, tt))), tt, x, at), tt) (Move-p .val r) r (ws₁, (ws₂, (tt, (tt, (tt, (tt, tt)))))) (len₁, (len₂, (tt, (tt, (tt, (tt, tt))))))) $ says ! said $ nothing ! $ move ! (6 ∷ 0 ∷ []) $ join ! $ move ! (4 ∷ 0 ∷ []) $ join ! $ move ! (2 ∷ 0 ∷ []) $ join ! $
       frame ! $ nothing ! $
       owned ! (ObjectNumber-p .row) (Is (ObjectNumber-p .row)) (ObjectNumber-p .makes 𝓤 H A W) number (ObjectNumber-p .val number ∷ []) number-is $ fjoin ! $
-      owned ! (u8-p .row) (Is (u8-p .row)) (u8-p .makes 𝓤 H A W) id (u8-p .val id ∷ []) id-is $ fjoin ! $ move ! (2 ∷ 0 ∷ []) $ fjoin ! $ move ! (1 ∷ 0 ∷ []) $ fjoin ! $
+      owned ! (u8-p .row) (Is (u8-p .row)) (u8-p .makes 𝓤 H A W) n′ (u8-p .val n′ ∷ []) n′-is $ fjoin ! $
+      owned ! (u8-p .row) (Is (u8-p .row)) (u8-p .makes 𝓤 H A W) id (u8-p .val id ∷ []) id-is $ fjoin ! $ move ! (3 ∷ 0 ∷ []) $ fjoin ! $ move ! (2 ∷ 0 ∷ []) $ fjoin ! $ move ! (1 ∷ 0 ∷ []) $ fjoin ! $
       frame ! $
       owned ! (Move-p .row) (Is (Move-p .row)) (Move-p .makes 𝓤 H A W) r _ r-is $ done !
 
-  module _ (𝓣 : Tables 𝓤 H) (known-session-objects-find-object : Triple 𝓤 (𝓣 .C #session-objects-find-object) (Of-session-objects-find-object 𝓤 H A mem run)) (known-moves-read-move : Triple 𝓤 (𝓣 .C #moves-read-move) (Of-moves-read-move 𝓤 H A mem run)) (l₀ l₁ l₂ l₃ l₄ l₅ : ℕ) where
+  module _ (𝓣 : Tables 𝓤 H) (known-session-objects-find-object : Triple 𝓤 (𝓣 .C #session-objects-find-object) (Of-session-objects-find-object 𝓤 H A mem run)) (known-moves-found-handle : Triple 𝓤 (𝓣 .C #moves-found-handle) (Of-moves-found-handle 𝓤 H A mem run)) (known-stream-moves-read-by : Triple 𝓤 (𝓣 .C #stream-moves-read-by) (Of-stream-moves-read-by 𝓤 H A mem run)) (l₀ l₁ l₂ l₃ l₄ l₅ l₆ l₇ l₈ l₉ l₁₀ l₁₁ l₁₂ l₁₃ l₁₄ : ℕ) where
     abbrev C : Calls 𝓤 H
     C = 𝓣 .C
 
@@ -211,44 +233,72 @@ module _ {M : Type 1} (𝓤 : URA M) (H : Heap 𝓤) (A : Atoms 𝓤) (W : Given
     fm = fmOf 𝓤 H (W .laws) 𝓣
 
     abbrev En : Env 𝓤 H
-    En = (Move-l.mir, l₀) ∷ ((sliceTy (tyRef (named 0) imm (pointee ((Array u64 5) .written)))), l₁) ∷ ((sliceTy (tyRef (named 1) imm (pointee (Object-t.the-row .written)))), l₂) ∷ ((tyInt w8), l₃) ∷ (ObjectNumber-l.mir, l₄) ∷ (Found-l.mir, l₅) ∷ []
+    En = (Move-l.mir, l₀) ∷ ((sliceTy (tyRef (named 0) mut (pointee ((Array u64 6) .written)))), l₁) ∷ ((sliceTy (tyRef (named 1) mut (pointee ((Array u16 35) .written)))), l₂) ∷ ((sliceTy (tyRef (named 2) imm (pointee (Object-t.the-row .written)))), l₃) ∷ ((tyInt w8), l₄) ∷ ((tyInt w8), l₅) ∷ (ObjectNumber-l.mir, l₆) ∷ (Found-l.mir, l₇) ∷ (ObjectHandle-l.mir, l₈) ∷ ((tyRef erased imm (pointee ((Array u64 6) .written))), l₉) ∷ ((sliceTy (tyRef erased imm (pointee ((Array u64 6) .written)))), l₁₀) ∷ ((tyRef erased mut (pointee ((Array u64 6) .written))), l₁₁) ∷ ((sliceTy (tyRef erased mut (pointee ((Array u64 6) .written)))), l₁₂) ∷ ((tyRef erased mut (pointee ((Array u16 35) .written))), l₁₃) ∷ ((sliceTy (tyRef erased mut (pointee ((Array u16 35) .written)))), l₁₄) ∷ []
 
-    begins : Sq W (‵ (ShrSlice (named 0) κ₁ (Array u64 5) .own (at-list b₁ o₁ γ₁ sessions) (sliceVal (b₁, o₁) n₁ ∷ [])) ∷ ‵ (flft κ₁ q₁) ∷ ‵ (ShrSlice (named 0) κ₂ Object-t.the-row .own (at-list b₂ o₂ γ₂ objects) (sliceVal (b₂, o₂) n₂ ∷ [])) ∷ ‵ (flft κ₂ q₂) ∷ free 𝓤 Found-l.mir l₅ (full 𝓤 ObjectNumber-l.mir l₄ (ObjectNumber-p .val number) (full 𝓤 (tyInt w8) l₃ (u8-p .val id) (full 𝓤 (sliceTy (tyRef (named 1) imm (pointee (Object-t.the-row .written)))) l₂ (sliceVal (b₂, o₂) n₂) (full 𝓤 (sliceTy (tyRef (named 0) imm (pointee ((Array u64 5) .written)))) l₁ (sliceVal (b₁, o₁) n₁) (free 𝓤 Move-l.mir l₀ ([]))))))) (runs C Λ En mir.t-1 (atRet En Post))
+    begins : Sq W (‵ (MutSlice (named 0) κ₁ (Array u64 6) .own (at-list b₁ o₁ γ₁ sessions) (sliceVal (b₁, o₁) n₁ ∷ [])) ∷ ‵ (flft κ₁ q₁) ∷ ‵ (MutSlice (named 0) κ₂ (Array u16 35) .own (at-list b₂ o₂ γ₂ streams) (sliceVal (b₂, o₂) n₂ ∷ [])) ∷ ‵ (flft κ₂ q₂) ∷ ‵ (ShrSlice (named 0) κ₃ Object-t.the-row .own (at-list b₃ o₃ γ₃ objects) (sliceVal (b₃, o₃) n₃ ∷ [])) ∷ ‵ (flft κ₃ q₃) ∷ free 𝓤 (sliceTy (tyRef erased mut (pointee ((Array u16 35) .written)))) l₁₄ (free 𝓤 (tyRef erased mut (pointee ((Array u16 35) .written))) l₁₃ (free 𝓤 (sliceTy (tyRef erased mut (pointee ((Array u64 6) .written)))) l₁₂ (free 𝓤 (tyRef erased mut (pointee ((Array u64 6) .written))) l₁₁ (free 𝓤 (sliceTy (tyRef erased imm (pointee ((Array u64 6) .written)))) l₁₀ (free 𝓤 (tyRef erased imm (pointee ((Array u64 6) .written))) l₉ (free 𝓤 ObjectHandle-l.mir l₈ (free 𝓤 Found-l.mir l₇ (full 𝓤 ObjectNumber-l.mir l₆ (ObjectNumber-p .val number) (full 𝓤 (tyInt w8) l₅ (u8-p .val n′) (full 𝓤 (tyInt w8) l₄ (u8-p .val id) (full 𝓤 (sliceTy (tyRef (named 2) imm (pointee (Object-t.the-row .written)))) l₃ (sliceVal (b₃, o₃) n₃) (full 𝓤 (sliceTy (tyRef (named 1) mut (pointee ((Array u16 35) .written)))) l₂ (sliceVal (b₂, o₂) n₂) (full 𝓤 (sliceTy (tyRef (named 0) mut (pointee ((Array u64 6) .written)))) l₁ (sliceVal (b₁, o₁) n₁) (free 𝓤 Move-l.mir l₀ ([])))))))))))))))) (runs C Λ En mir.t-1 (atRet En Post))
     begins =
-        -- 1: sessions::session_objects::find_object
-        copies-shr ! (Array u64 5) b₁ o₁ sessions n₁ $ move ! (3 ∷ 4 ∷ []) $
-        copies-shr ! Object-t.the-row b₂ o₂ objects n₂ $ nothing ! $ move ! (1 ∷ 0 ∷ []) $ join ! $ move ! (3 ∷ 0 ∷ []) $ join ! $
-        use1 W (raw (toks 𝓤 A 2 ((κ₁, (κ₂, tt))) ((q₁, (q₂, tt))))) (id⊢ 𝓤 _) $ nothing ! $
+        assigns ! (addr ! (from ! (fld ! refl (hop ! (look-in ! 32 (sub ! 0 refl (whole !))) (stop !))))) (from ! (stop !)) (init ! 16 refl (tt, tt)) $
+        assigns ! (agg ! (and-then ! (load ! (from ! (stop !)) (look ! 16 refl)) (and-then ! (load ! (from ! (fld ! refl (stop !))) (look-in ! 32 (sub ! 1 refl (whole !)))) (no-more !)))) (from ! (stop !)) (init ! 14 refl (tt, (tt, (record { fits = room₁ .0 }, tt)))) $
+        -- 3: sessions::session_objects::find_object
+        lends-view ! tt (Array u64 6) b₁ o₁ sessions n₁ (refl) (λ ν-3-sessions δ-3-sessions.
+        move ! (5 ∷ 6 ∷ []) $
+        copies-shr ! Object-t.the-row b₃ o₃ objects n₃ $ nothing ! $ move ! (1 ∷ 0 ∷ []) $ join ! $ move ! (3 ∷ 0 ∷ []) $ join ! $
+        use1 W (raw (toks 𝓤 A 2 (((ν-3-sessions ∷ []), (κ₃, tt))) ((fullShare, (q₃, tt))))) (id⊢ 𝓤 _) $ nothing ! $
         owned ! (ObjectNumber-p .row) (Is (ObjectNumber-p .row)) (ObjectNumber-p .makes 𝓤 H A W) number (ObjectNumber-p .val number ∷ []) number-is $ fjoin ! $
         owned ! (u8-p .row) (Is (u8-p .row)) (u8-p .makes 𝓤 H A W) id (u8-p .val id ∷ []) id-is $ fjoin ! $ move ! (2 ∷ 0 ∷ []) $ fjoin ! $ move ! (3 ∷ 0 ∷ []) $ fjoin ! $ move ! (1 ∷ 0 ∷ []) $
-        calls-any ! fm 2 [] (session-objects-find-object.signature .params) (session-objects-find-object.ended .kept) Found-p (session-objects-find-object.clauses 𝓤 H A mem run) known-session-objects-find-object (κ₁, (κ₂, tt)) (q₁, (q₂, tt)) tt (at-list b₁ o₁ γ₁ sessions, (at-list b₂ o₂ γ₂ objects, (id, (number, tt)))) (sliceVal (b₁, o₁) n₁ ∷ [], (sliceVal (b₂, o₂) n₂ ∷ [], (u8-p .val id ∷ [], (ObjectNumber-p .val number ∷ [], tt)))) tt (foundObject (sessions) (objects) id number) (λ ws-1. Unit {0}) (id⊢ 𝓤 _) (λ r ws-1. fact-mono 𝓤 (r ≡ foundObject (sessions) (objects) id number) ((r ≡ (foundObject (sessions) (objects) id number)) × (Unit {0})) (λ e. (e, tt))) (λ _. (and-then ! (load ! (from ! (stop !)) (look ! 11 refl)) (and-then ! (load ! (from ! (stop !)) (look ! 9 refl)) (and-then ! (load ! (from ! (stop !)) (look ! 7 refl)) (and-then ! (load ! (from ! (stop !)) (look ! 5 refl)) (no-more !)))))) (λ ws-1 said-1 is-1.
-        use1 W ((‵ (flft κ₁ q₁) ⊛ (‵ (flft κ₂ q₂) ⊛ ‵ ftrue))) (id⊢ 𝓤 _) $ split ! $ move ! (1 ∷ []) $ split ! $ move ! (3 ∷ []) $ fsplit ! $ move ! (1 ∷ []) $ fsplit ! $ drop ! $ drop ! $ drop ! $ move ! (1 ∷ []) $ drop ! $
-        land ! (from ! (stop !)) (init ! 4 refl (Found-p .typed 𝓤 H A W (foundObject (sessions) (objects) id number) is-1)) $
-        -- 2: moves::moves::read_move
+        calls-any ! fm 2 [] (session-objects-find-object.signature .params) (session-objects-find-object.ended .kept) Found-p (session-objects-find-object.clauses 𝓤 H A mem run) known-session-objects-find-object ((ν-3-sessions ∷ []), (κ₃, tt)) (fullShare, (q₃, tt)) tt (at-list b₁ o₁ δ-3-sessions sessions, (at-list b₃ o₃ γ₃ objects, (id, (number, tt)))) (sliceVal (b₁, o₁) n₁ ∷ [], (sliceVal (b₃, o₃) n₃ ∷ [], (u8-p .val id ∷ [], (ObjectNumber-p .val number ∷ [], tt)))) tt (foundObject (sessions) (objects) id number) (λ ws-3. Unit {0}) (id⊢ 𝓤 _) (λ r ws-3. fact-mono 𝓤 (r ≡ foundObject (sessions) (objects) id number) ((r ≡ (foundObject (sessions) (objects) id number)) × (Unit {0})) (λ e. (e, tt))) (λ _. (and-then ! (load ! (from ! (stop !)) (look ! 13 refl)) (and-then ! (load ! (from ! (stop !)) (look ! 27 refl)) (and-then ! (load ! (from ! (stop !)) (look ! 25 refl)) (and-then ! (load ! (from ! (stop !)) (look ! 21 refl)) (no-more !)))))) (λ ws-3 said-3 is-3.
+        use1 W ((‵ (flft (ν-3-sessions ∷ []) fullShare) ⊛ (‵ (flft κ₃ q₃) ⊛ ‵ ftrue))) (id⊢ 𝓤 _) $ split ! $ move ! (1 ∷ []) $ split ! $ move ! (3 ∷ []) $ fsplit ! $ move ! (1 ∷ []) $ fsplit ! $ move ! (5 ∷ 7 ∷ []) $
+        backs-view ! tt (Array u64 6) b₁ o₁ sessions n₁ (refl) ν-3-sessions $ move ! (2 ∷ []) $ drop ! $ move ! (2 ∷ []) $ drop ! $ move ! (2 ∷ []) $ drop ! $ move ! (3 ∷ []) $ drop ! $
+        land ! (from ! (stop !)) (init ! 20 refl (Found-p .typed 𝓤 H A W (foundObject (sessions) (objects) id number) is-3)) $
+        -- 4: moves::moves::found_handle
         nothing ! $
         use1 W (raw (toks 𝓤 A 0 (tt) (tt))) (id⊢ 𝓤 _) $ nothing ! $
-        owned ! (Found-p .row) (Is (Found-p .row)) (Found-p .makes 𝓤 H A W) (foundObject (sessions) (objects) id number) (Found-p .val (foundObject (sessions) (objects) id number) ∷ []) is-1 $ fjoin ! $
-        owned ! (ObjectNumber-p .row) (Is (ObjectNumber-p .row)) (ObjectNumber-p .makes 𝓤 H A W) number (ObjectNumber-p .val number ∷ []) number-is $ fjoin ! $ move ! (1 ∷ 0 ∷ []) $
-        calls-any ! fm 0 [] (moves-read-move.signature .params) (moves-read-move.ended .kept) Move-p (moves-read-move.clauses 𝓤 H A mem run) known-moves-read-move tt tt tt (number, (foundObject (sessions) (objects) id number, tt)) (ObjectNumber-p .val number ∷ [], (Found-p .val (foundObject (sessions) (objects) id number) ∷ [], tt)) tt (readMove number (foundObject (sessions) (objects) id number)) (λ ws-2. Unit {0}) (id⊢ 𝓤 _) (λ r ws-2. fact-mono 𝓤 (r ≡ readMove number (foundObject (sessions) (objects) id number)) ((r ≡ (readMove number (foundObject (sessions) (objects) id number))) × (Unit {0})) (λ e. (e, tt))) (λ _. (and-then ! (load ! (from ! (stop !)) (look ! 7 refl)) (and-then ! (load ! (from ! (stop !)) (look ! 5 refl)) (no-more !)))) (λ ws-2 said-2 is-2.
+        owned ! (Found-p .row) (Is (Found-p .row)) (Found-p .makes 𝓤 H A W) (foundObject (sessions) (objects) id number) (Found-p .val (foundObject (sessions) (objects) id number) ∷ []) is-3 $ fjoin ! $ move ! (1 ∷ 0 ∷ []) $
+        calls-any ! fm 0 [] (moves-found-handle.signature .params) (moves-found-handle.ended .kept) ObjectHandle-p (moves-found-handle.clauses 𝓤 H A mem run) known-moves-found-handle tt tt tt (foundObject (sessions) (objects) id number, tt) (Found-p .val (foundObject (sessions) (objects) id number) ∷ [], tt) tt (foundHandle (foundObject (sessions) (objects) id number)) (λ ws-4. Unit {0}) (id⊢ 𝓤 _) (λ r ws-4. fact-mono 𝓤 (r ≡ foundHandle (foundObject (sessions) (objects) id number)) ((r ≡ (foundHandle (foundObject (sessions) (objects) id number))) × (Unit {0})) (λ e. (e, tt))) (λ _. (and-then ! (load ! (from ! (stop !)) (look ! 21 refl)) (no-more !))) (λ ws-4 said-4 is-4.
         drop ! $ drop ! $
-        land ! (from ! (stop !)) (init ! 14 refl (Move-p .typed 𝓤 H A W (readMove number (foundObject (sessions) (objects) id number)) is-2)) $
-        returns ! (look ! 14 refl) $ forget ! 4 refl $ forget ! 6 refl $ forget ! 8 refl $ forget ! 10 refl $ forget ! 12 refl $ forget ! 14 refl $ move ! (14 ∷ 15 ∷ []) $ free1 ! $ move ! (12 ∷ 13 ∷ []) $ free1 ! $ move ! (10 ∷ 11 ∷ []) $ free1 ! $ move ! (8 ∷ 9 ∷ []) $ free1 ! $ move ! (6 ∷ 7 ∷ []) $ free1 ! $ move ! (4 ∷ 5 ∷ []) $ free1 ! $ free0 ! $ move ! (3 ∷ 1 ∷ 2 ∷ 0 ∷ []) $
-        by ! (exits (readMove number (foundObject (sessions) (objects) id number)) (refl) is-2)))
+        land ! (from ! (stop !)) (init ! 18 refl (ObjectHandle-p .typed 𝓤 H A W (foundHandle (foundObject (sessions) (objects) id number)) is-4)) $
+        assigns ! (addr ! (from ! (fld ! refl (hop ! (look-in ! 32 (sub ! 0 refl (whole !))) (stop !))))) (from ! (stop !)) (init ! 12 refl (tt, tt)) $
+        assigns ! (agg ! (and-then ! (load ! (from ! (stop !)) (look ! 12 refl)) (and-then ! (load ! (from ! (fld ! refl (stop !))) (look-in ! 32 (sub ! 1 refl (whole !)))) (no-more !)))) (from ! (stop !)) (init ! 10 refl (tt, (tt, (record { fits = room₁ .0 }, tt)))) $
+        assigns ! (addr ! (from ! (fld ! refl (hop ! (look-in ! 30 (sub ! 0 refl (whole !))) (stop !))))) (from ! (stop !)) (init ! 8 refl (tt, tt)) $
+        assigns ! (agg ! (and-then ! (load ! (from ! (stop !)) (look ! 8 refl)) (and-then ! (load ! (from ! (fld ! refl (stop !))) (look-in ! 30 (sub ! 1 refl (whole !)))) (no-more !)))) (from ! (stop !)) (init ! 6 refl (tt, (tt, (record { fits = room₂ .0 }, tt)))) $
+        -- 9: moves::stream_moves::read_by
+        lends-mut ! tt (Array u64 6) b₁ o₁ sessions n₁ (refl) (λ ν-9-sessions δ-9-sessions.
+        move ! (5 ∷ 6 ∷ []) $
+        lends-mut ! tt (Array u16 35) b₂ o₂ streams n₂ (refl) (λ ν-9-streams δ-9-streams.
+        nothing ! $ move ! (1 ∷ 0 ∷ []) $ join ! $ move ! (3 ∷ 0 ∷ []) $ join ! $
+        use1 W (raw (toks 𝓤 A 2 (((ν-9-sessions ∷ []), ((ν-9-streams ∷ []), tt))) ((fullShare, (fullShare, tt))))) (id⊢ 𝓤 _) $ nothing ! $
+        owned ! (ObjectHandle-p .row) (Is (ObjectHandle-p .row)) (ObjectHandle-p .makes 𝓤 H A W) (foundHandle (foundObject (sessions) (objects) id number)) (ObjectHandle-p .val (foundHandle (foundObject (sessions) (objects) id number)) ∷ []) is-4 $ fjoin ! $
+        owned ! (ObjectNumber-p .row) (Is (ObjectNumber-p .row)) (ObjectNumber-p .makes 𝓤 H A W) number (ObjectNumber-p .val number ∷ []) number-is $ fjoin ! $
+        owned ! (u8-p .row) (Is (u8-p .row)) (u8-p .makes 𝓤 H A W) n′ (u8-p .val n′ ∷ []) n′-is $ fjoin ! $
+        owned ! (u8-p .row) (Is (u8-p .row)) (u8-p .makes 𝓤 H A W) id (u8-p .val id ∷ []) id-is $ fjoin ! $ move ! (2 ∷ 0 ∷ []) $ fjoin ! $ move ! (3 ∷ 0 ∷ []) $ fjoin ! $ move ! (1 ∷ 0 ∷ []) $
+        calls-any ! fm 2 [] (stream-moves-read-by.signature .params) (stream-moves-read-by.ended .kept) Move-p (stream-moves-read-by.clauses 𝓤 H A mem run) known-stream-moves-read-by ((ν-9-sessions ∷ []), ((ν-9-streams ∷ []), tt)) (fullShare, (fullShare, tt)) tt (at-list b₁ o₁ δ-9-sessions sessions, (at-list b₂ o₂ δ-9-streams streams, (id, (n′, (number, (foundHandle (foundObject (sessions) (objects) id number), tt)))))) (sliceVal (b₁, o₁) n₁ ∷ [], (sliceVal (b₂, o₂) n₂ ∷ [], (u8-p .val id ∷ [], (u8-p .val n′ ∷ [], (ObjectNumber-p .val number ∷ [], (ObjectHandle-p .val (foundHandle (foundObject (sessions) (objects) id number)) ∷ [], tt)))))) tt (readMove number (foundHandle (foundObject (sessions) (objects) id number)) (sessions) (streams) id n′) (λ ws-9. (ws-9 .0 ≡ readSessions (foundHandle (foundObject (sessions) (objects) id number)) (sessions) (streams) id n′) × (ws-9 .1 .0 ≡ readRows (foundHandle (foundObject (sessions) (objects) id number)) (sessions) (streams) id n′)) (id⊢ 𝓤 _) (λ r ws-9. fact-mono 𝓤 ((r ≡ readMove number (foundHandle (foundObject (sessions) (objects) id number)) (sessions) (streams) id n′) × ((ws-9 .0) ≡ readSessions (foundHandle (foundObject (sessions) (objects) id number)) (sessions) (streams) id n′) × ((ws-9 .1 .0) ≡ readRows (foundHandle (foundObject (sessions) (objects) id number)) (sessions) (streams) id n′)) ((r ≡ (readMove number (foundHandle (foundObject (sessions) (objects) id number)) (sessions) (streams) id n′)) × ((ws-9 .0 ≡ readSessions (foundHandle (foundObject (sessions) (objects) id number)) (sessions) (streams) id n′) × (ws-9 .1 .0 ≡ readRows (foundHandle (foundObject (sessions) (objects) id number)) (sessions) (streams) id n′))) (λ e. (e .0, (e .1, e .2)))) (λ _. (and-then ! (load ! (from ! (stop !)) (look ! 9 refl)) (and-then ! (load ! (from ! (stop !)) (look ! 5 refl)) (and-then ! (load ! (from ! (stop !)) (look ! 25 refl)) (and-then ! (load ! (from ! (stop !)) (look ! 23 refl)) (and-then ! (load ! (from ! (stop !)) (look ! 21 refl)) (and-then ! (load ! (from ! (stop !)) (look ! 17 refl)) (no-more !)))))))) (λ ws-9 said-9 is-9.
+        use1 W ((‵ (flft (ν-9-sessions ∷ []) fullShare) ⊛ (‵ (flft (ν-9-streams ∷ []) fullShare) ⊛ ‵ ftrue))) (id⊢ 𝓤 _) $ split ! $ move ! (1 ∷ []) $ split ! $ move ! (3 ∷ []) $ fsplit ! $ fsplit ! $ move ! (1 ∷ []) $
+        feqL ! (λ wlen-9-0.
+        move ! (1 ∷ []) $ fsplit ! $ fsplit ! $ move ! (1 ∷ []) $
+        feqL ! (λ wlen-9-1.
+        move ! (5 ∷ 7 ∷ 2 ∷ []) $
+        backs-mut ! tt (Array u64 6) b₁ o₁ sessions n₁ (refl) room₁ ν-9-sessions δ-9-sessions (ws-9 .0) (readSessions (foundHandle (foundObject (sessions) (objects) id number)) (sessions) (streams) id n′) wlen-9-0 (said-9 .0) (λ len-9-sessions.
+        move ! (4 ∷ 6 ∷ 2 ∷ []) $
+        backs-mut ! tt (Array u16 35) b₂ o₂ streams n₂ (refl) room₂ ν-9-streams δ-9-streams (ws-9 .1 .0) (readRows (foundHandle (foundObject (sessions) (objects) id number)) (sessions) (streams) id n′) wlen-9-1 (said-9 .1) (λ len-9-streams.
+        move ! (4 ∷ []) $ drop ! $ move ! (4 ∷ []) $ drop ! $
+        land ! (from ! (stop !)) (init ! 34 refl (Move-p .typed 𝓤 H A W (readMove number (foundHandle (foundObject (sessions) (objects) id number)) (sessions) (streams) id n′) is-9)) $
+        returns ! (look ! 34 refl) $ forget ! 6 refl $ forget ! 8 refl $ forget ! 10 refl $ forget ! 12 refl $ forget ! 14 refl $ forget ! 16 refl $ forget ! 18 refl $ forget ! 20 refl $ forget ! 22 refl $ forget ! 24 refl $ forget ! 26 refl $ forget ! 28 refl $ forget ! 30 refl $ forget ! 32 refl $ forget ! 34 refl $ move ! (34 ∷ 35 ∷ []) $ free1 ! $ move ! (32 ∷ 33 ∷ []) $ free1 ! $ move ! (30 ∷ 31 ∷ []) $ free1 ! $ move ! (28 ∷ 29 ∷ []) $ free1 ! $ move ! (26 ∷ 27 ∷ []) $ free1 ! $ move ! (24 ∷ 25 ∷ []) $ free1 ! $ move ! (22 ∷ 23 ∷ []) $ free1 ! $ move ! (20 ∷ 21 ∷ []) $ free1 ! $ move ! (18 ∷ 19 ∷ []) $ free1 ! $ move ! (16 ∷ 17 ∷ []) $ free1 ! $ move ! (14 ∷ 15 ∷ []) $ free1 ! $ move ! (12 ∷ 13 ∷ []) $ free1 ! $ move ! (10 ∷ 11 ∷ []) $ free1 ! $ move ! (8 ∷ 9 ∷ []) $ free1 ! $ move ! (6 ∷ 7 ∷ []) $ free1 ! $ free0 ! $ move ! (2 ∷ 3 ∷ 0 ∷ 1 ∷ 5 ∷ 4 ∷ []) $
+        by ! (exits (readMove number (foundHandle (foundObject (sessions) (objects) id number)) (sessions) (streams) id n′) (readSessions (foundHandle (foundObject (sessions) (objects) id number)) (sessions) (streams) id n′) (readRows (foundHandle (foundObject (sessions) (objects) id number)) (sessions) (streams) id n′) ((refl, refl, refl)) is-9 len-9-sessions len-9-streams)))))))))))
 
-  module _ (𝓣 : Tables 𝓤 H) (known-session-objects-find-object : Triple 𝓤 (𝓣 .C #session-objects-find-object) (Of-session-objects-find-object 𝓤 H A mem run)) (known-moves-read-move : Triple 𝓤 (𝓣 .C #moves-read-move) (Of-moves-read-move 𝓤 H A mem run)) where
-    walk : ent 𝓤 (onEntry 𝓤 H A f.signature (κ₁, (κ₂, tt)) (q₁, (q₂, tt)) x at) (WpFn 𝓤 H (𝓣 .C) (𝓣 .Λ) code.function (sliceVal (b₁, o₁) n₁ ∷ sliceVal (b₂, o₂) n₂ ∷ u8-p .val id ∷ ObjectNumber-p .val number ∷ []) Post)
+  module _ (𝓣 : Tables 𝓤 H) (known-session-objects-find-object : Triple 𝓤 (𝓣 .C #session-objects-find-object) (Of-session-objects-find-object 𝓤 H A mem run)) (known-moves-found-handle : Triple 𝓤 (𝓣 .C #moves-found-handle) (Of-moves-found-handle 𝓤 H A mem run)) (known-stream-moves-read-by : Triple 𝓤 (𝓣 .C #stream-moves-read-by) (Of-stream-moves-read-by 𝓤 H A mem run)) where
+    walk : ent 𝓤 (onEntry 𝓤 H A f.signature (κ₁, (κ₂, (κ₃, tt))) (q₁, (q₂, (q₃, tt))) x at) (WpFn 𝓤 H (𝓣 .C) (𝓣 .Λ) code.function (sliceVal (b₁, o₁) n₁ ∷ sliceVal (b₂, o₂) n₂ ∷ sliceVal (b₃, o₃) n₃ ∷ u8-p .val id ∷ u8-p .val n′ ∷ ObjectNumber-p .val number ∷ []) Post)
     walk =
-        qed W ((‵ (flft κ₁ q₁) ⊛ (‵ (flft κ₂ q₂) ⊛ ‵ ftrue)) ∷ ‵ (owns (ShrSlice (named 0) κ₁ (Array u64 5) ∷ ShrSlice (named 1) κ₂ Object-t.the-row ∷ u8-p .row ∷ ObjectNumber-p .row ∷ []) x at) ∷ []) ∵ enter ! (𝓣 .C) (𝓣 .Λ) code.function (sliceVal (b₁, o₁) n₁ ∷ sliceVal (b₂, o₂) n₂ ∷ u8-p .val id ∷ ObjectNumber-p .val number ∷ []) _ $
-        alloc1 ! (λ l₀. alloc1 ! (λ l₁. alloc1 ! (λ l₂. alloc1 ! (λ l₃. alloc1 ! (λ l₄. alloc1 ! (λ l₅. alloc0 ! $ params1 ! $ pass1 ! (init ! 8 refl (tt, (tt, (record { fits = room₁ .0 }, tt)))) $ pass1 ! (init ! 6 refl (tt, (tt, (record { fits = room₂ .0 }, tt)))) $ pass1 ! (init ! 4 refl (u8-p .typed 𝓤 H A W id id-is)) $ pass1 ! (init ! 2 refl (ObjectNumber-p .typed 𝓤 H A W number number-is)) $ pass0 ! $ move ! (13 ∷ []) $ fsplit ! $ move ! (1 ∷ []) $ fsplit ! $ move ! (15 ∷ []) $ split ! $ move ! (1 ∷ []) $ split ! $ move ! (1 ∷ []) $ drop ! $ move ! (3 ∷ []) $ drop ! $ move ! (3 ∷ 1 ∷ 2 ∷ 0 ∷ 4 ∷ 5 ∷ 6 ∷ 7 ∷ 8 ∷ 9 ∷ 10 ∷ 11 ∷ 12 ∷ 13 ∷ 14 ∷ 15 ∷ []) $
-        begins 𝓣 known-session-objects-find-object known-moves-read-move l₀ l₁ l₂ l₃ l₄ l₅))))))
+        qed W ((‵ (flft κ₁ q₁) ⊛ (‵ (flft κ₂ q₂) ⊛ (‵ (flft κ₃ q₃) ⊛ ‵ ftrue))) ∷ ‵ (owns (MutSlice (named 0) κ₁ (Array u64 6) ∷ MutSlice (named 1) κ₂ (Array u16 35) ∷ ShrSlice (named 2) κ₃ Object-t.the-row ∷ u8-p .row ∷ u8-p .row ∷ ObjectNumber-p .row ∷ []) x at) ∷ []) ∵ enter ! (𝓣 .C) (𝓣 .Λ) code.function (sliceVal (b₁, o₁) n₁ ∷ sliceVal (b₂, o₂) n₂ ∷ sliceVal (b₃, o₃) n₃ ∷ u8-p .val id ∷ u8-p .val n′ ∷ ObjectNumber-p .val number ∷ []) _ $
+        alloc1 ! (λ l₀. alloc1 ! (λ l₁. alloc1 ! (λ l₂. alloc1 ! (λ l₃. alloc1 ! (λ l₄. alloc1 ! (λ l₅. alloc1 ! (λ l₆. alloc1 ! (λ l₇. alloc1 ! (λ l₈. alloc1 ! (λ l₉. alloc1 ! (λ l₁₀. alloc1 ! (λ l₁₁. alloc1 ! (λ l₁₂. alloc1 ! (λ l₁₃. alloc1 ! (λ l₁₄. alloc0 ! $ params1 ! $ pass1 ! (init ! 26 refl (tt, (tt, (record { fits = room₁ .0 }, tt)))) $ pass1 ! (init ! 24 refl (tt, (tt, (record { fits = room₂ .0 }, tt)))) $ pass1 ! (init ! 22 refl (tt, (tt, (record { fits = room₃ .0 }, tt)))) $ pass1 ! (init ! 20 refl (u8-p .typed 𝓤 H A W id id-is)) $ pass1 ! (init ! 18 refl (u8-p .typed 𝓤 H A W n′ n′-is)) $ pass1 ! (init ! 16 refl (ObjectNumber-p .typed 𝓤 H A W number number-is)) $ pass0 ! $ move ! (31 ∷ []) $ fsplit ! $ move ! (1 ∷ []) $ fsplit ! $ move ! (1 ∷ []) $ fsplit ! $ move ! (34 ∷ []) $ split ! $ move ! (1 ∷ []) $ split ! $ move ! (1 ∷ []) $ split ! $ move ! (1 ∷ []) $ drop ! $ move ! (4 ∷ []) $ drop ! $ move ! (5 ∷ 2 ∷ 4 ∷ 1 ∷ 3 ∷ 0 ∷ 6 ∷ 7 ∷ 8 ∷ 9 ∷ 10 ∷ 11 ∷ 12 ∷ 13 ∷ 14 ∷ 15 ∷ 16 ∷ 17 ∷ 18 ∷ 19 ∷ 20 ∷ 21 ∷ 22 ∷ 23 ∷ 24 ∷ 25 ∷ 26 ∷ 27 ∷ 28 ∷ 29 ∷ 30 ∷ 31 ∷ 32 ∷ 33 ∷ 34 ∷ 35 ∷ []) $
+        begins 𝓣 known-session-objects-find-object known-moves-found-handle known-stream-moves-read-by l₀ l₁ l₂ l₃ l₄ l₅ l₆ l₇ l₈ l₉ l₁₀ l₁₁ l₁₂ l₁₃ l₁₄)))))))))))))))
 
-module _ {M : Type 1} (𝓤 : URA M) (H : Heap 𝓤) (A : Atoms 𝓤) (W : Given 𝓤 H A) (mem : Memory → SProp 𝓤) (run : Routine → Fun 𝓤) (𝓣 : Tables 𝓤 H) (known-session-objects-find-object : Triple 𝓤 (𝓣 .C #session-objects-find-object) (Of-session-objects-find-object 𝓤 H A mem run)) (known-moves-read-move : Triple 𝓤 (𝓣 .C #moves-read-move) (Of-moves-read-move 𝓤 H A mem run)) where
+module _ {M : Type 1} (𝓤 : URA M) (H : Heap 𝓤) (A : Atoms 𝓤) (W : Given 𝓤 H A) (mem : Memory → SProp 𝓤) (run : Routine → Fun 𝓤) (𝓣 : Tables 𝓤 H) (known-session-objects-find-object : Triple 𝓤 (𝓣 .C #session-objects-find-object) (Of-session-objects-find-object 𝓤 H A mem run)) (known-moves-found-handle : Triple 𝓤 (𝓣 .C #moves-found-handle) (Of-moves-found-handle 𝓤 H A mem run)) (known-stream-moves-read-by : Triple 𝓤 (𝓣 .C #stream-moves-read-by) (Of-stream-moves-read-by 𝓤 H A mem run)) where
   walks : Walks 𝓤 H A f.ended stayed (WpFn 𝓤 H (𝓣 .C) (𝓣 .Λ) code.function) (f.clauses 𝓤 H A mem run)
-  walks = walked 𝓤 H A f.ended stayed (f.clauses 𝓤 H A mem run) (WpFn 𝓤 H (𝓣 .C) (𝓣 .Λ) code.function) (λ κs. (slice-vals, (slice-vals, ((λ y. u8-p .val y ∷ []), ((λ y. ObjectNumber-p .val y ∷ []), tt))))) (λ κs. (shr-slice-tells (named 0) (κs .0) (Array u64 5), (shr-slice-tells (named 1) (κs .1 .0) Object-t.the-row, (u8-p .tells, (ObjectNumber-p .tells, tt)))))
-      (λ κs qs bounds a g are. via 𝓤 _ (fst∗ 𝓤 _ (emp 𝓤)) (walk 𝓤 H A W mem run (κs .0) (qs .0) (a .0 .ptr .0) (a .0 .ptr .1) (a .0 .name) (a .0 .now) (κs .1 .0) (qs .1 .0) (a .1 .0 .ptr .0) (a .1 .0 .ptr .1) (a .1 .0 .name) (a .1 .0 .now) (a .1 .1 .0) (a .1 .1 .1 .0) (are .0 .0 .1) (are .1 .0 .0 .1) (are .1 .1 .0) (are .1 .1 .1 .0) 𝓣 known-session-objects-find-object known-moves-read-move))
+  walks = walked 𝓤 H A f.ended stayed (f.clauses 𝓤 H A mem run) (WpFn 𝓤 H (𝓣 .C) (𝓣 .Λ) code.function) (λ κs. (slice-vals, (slice-vals, (slice-vals, ((λ y. u8-p .val y ∷ []), ((λ y. u8-p .val y ∷ []), ((λ y. ObjectNumber-p .val y ∷ []), tt))))))) (λ κs. (mut-slice-tells (named 0) (κs .0) (Array u64 6), (mut-slice-tells (named 1) (κs .1 .0) (Array u16 35), (shr-slice-tells (named 2) (κs .1 .1 .0) Object-t.the-row, (u8-p .tells, (u8-p .tells, (ObjectNumber-p .tells, tt)))))))
+      (λ κs qs bounds a g are. via 𝓤 _ (fst∗ 𝓤 _ (emp 𝓤)) (walk 𝓤 H A W mem run (κs .0) (qs .0) (a .0 .ptr .0) (a .0 .ptr .1) (a .0 .name) (a .0 .now) (κs .1 .0) (qs .1 .0) (a .1 .0 .ptr .0) (a .1 .0 .ptr .1) (a .1 .0 .name) (a .1 .0 .now) (κs .1 .1 .0) (qs .1 .1 .0) (a .1 .1 .0 .ptr .0) (a .1 .1 .0 .ptr .1) (a .1 .1 .0 .name) (a .1 .1 .0 .now) (a .1 .1 .1 .0) (a .1 .1 .1 .1 .0) (a .1 .1 .1 .1 .1 .0) (are .0 .0 .1) (are .1 .0 .0 .1) (are .1 .1 .0 .0 .1) (are .1 .1 .1 .0) (are .1 .1 .1 .1 .0) (are .1 .1 .1 .1 .1 .0) 𝓣 known-session-objects-find-object known-moves-found-handle known-stream-moves-read-by))
 
   meets : Meets 𝓤 H A f.signature (WpFn 𝓤 H (𝓣 .C) (𝓣 .Λ) code.function) (f.spec 𝓤 H A mem run)
-  meets = walk-meets 𝓤 H A f.ended stayed W (goes-none-slice 𝓤 H A W 2 (0 ∷ []) tt (plain (λ _. (Array u64 5))) yes, (goes-none-slice 𝓤 H A W 2 (1 ∷ []) tt (plain (λ _. Object-t.the-row)) yes, (goes-none 𝓤 H A W 2 (λ _. u8-p .row) yes (λ κs x f. refl), (goes-none 𝓤 H A W 2 (λ _. ObjectNumber-p .row) yes (λ κs x f. refl), tt)))) (f.clauses 𝓤 H A mem run) (WpFn 𝓤 H (𝓣 .C) (𝓣 .Λ) code.function) (WpFn-mono 𝓤 H (W .laws) 𝓣 code.function) walks
+  meets = walk-meets 𝓤 H A f.ended stayed W (goes-slice 𝓤 H A W 3 0 tt (plain (λ _. (Array u64 6))), (goes-slice 𝓤 H A W 3 1 tt (plain (λ _. (Array u16 35))), (goes-none-slice 𝓤 H A W 3 (2 ∷ []) tt (plain (λ _. Object-t.the-row)) yes, (goes-none 𝓤 H A W 3 (λ _. u8-p .row) yes (λ κs x f. refl), (goes-none 𝓤 H A W 3 (λ _. u8-p .row) yes (λ κs x f. refl), (goes-none 𝓤 H A W 3 (λ _. ObjectNumber-p .row) yes (λ κs x f. refl), tt)))))) (f.clauses 𝓤 H A mem run) (WpFn 𝓤 H (𝓣 .C) (𝓣 .Λ) code.function) (WpFn-mono 𝓤 H (W .laws) 𝓣 code.function) walks
 
 pub read-data-spec : {M : Type 1} → stated.statement M
 unfolding code.routine tablesOf
@@ -257,4 +307,5 @@ read-data-spec 𝓤 H 𝓜 𝓖 𝓡 =
     (tables 𝓤 H 𝓜 𝓡 code.env .C) (tables 𝓤 H 𝓜 𝓡 code.env .Λ) #f code.function (code.unfolded 𝓤 H 𝓜 𝓡)
     (meets 𝓤 H (𝓖 .A) (givenOf 𝓤 H 𝓜 𝓖) (𝓜 .mem) (𝓡 .run) (tablesOf 𝓤 H 𝓜 (tables 𝓤 H 𝓜 𝓡 code.env))
     (cited 𝓤 H (Of-session-objects-find-object 𝓤 H (𝓖 .A) (𝓜 .mem) (𝓡 .run)) 𝓜 𝓡 code.env #session-objects-find-object session-objects-find-object-def.routine code.calls-sessions·session-objects·find-object (session-objects-find-object-thm.met 𝓤 H 𝓜 𝓖 𝓡))
-    (cited 𝓤 H (Of-moves-read-move 𝓤 H (𝓖 .A) (𝓜 .mem) (𝓡 .run)) 𝓜 𝓡 code.env #moves-read-move moves-read-move-def.routine code.calls-moves·moves·read-move (moves-read-move-thm.met 𝓤 H 𝓜 𝓖 𝓡)))
+    (cited 𝓤 H (Of-moves-found-handle 𝓤 H (𝓖 .A) (𝓜 .mem) (𝓡 .run)) 𝓜 𝓡 code.env #moves-found-handle moves-found-handle-def.routine code.calls-moves·moves·found-handle (moves-found-handle-thm.met 𝓤 H 𝓜 𝓖 𝓡))
+    (cited 𝓤 H (Of-stream-moves-read-by 𝓤 H (𝓖 .A) (𝓜 .mem) (𝓡 .run)) 𝓜 𝓡 code.env #stream-moves-read-by stream-moves-read-by-def.routine code.calls-moves·stream-moves·read-by (stream-moves-read-by-thm.met 𝓤 H 𝓜 𝓖 𝓡)))

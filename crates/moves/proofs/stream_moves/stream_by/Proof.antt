@@ -10,6 +10,9 @@ heartbeat-move-requires c κs = search needs
 acknowledge-requires : tie.Need-acknowledge-requires
 acknowledge-requires c κs = search needs
 
+acknack-move-requires : tie.Need-acknack-move-requires
+acknack-move-requires c κs = search needs
+
 returns : tie.Need-returns
 returns c = rw (c .before .if1 .taken) (c .heartbeat-move .ensures, refl)
 
@@ -17,8 +20,8 @@ same-length : tie.Need-same-length
 same-length c = search needs
 
 returns-2 : tie.Need-returns-2
-returns-2 c = rw (c .before .before .before .if1 .left) (refl, c .before .acknowledge .ensures)
+returns-2 c = rw (c .before .before .before .before .if1 .left) (c .acknack-move .ensures, c .before .before .acknowledge .ensures)
 
 pub stream-by-spec : {M : Type 1} → statement M
 stream-by-spec =
-    tie.close (tie.spec heartbeat-move-requires acknowledge-requires returns same-length returns-2)
+    tie.close (tie.spec heartbeat-move-requires acknowledge-requires acknack-move-requires returns same-length returns-2)

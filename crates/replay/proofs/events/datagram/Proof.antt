@@ -55,7 +55,7 @@ use Rattle.walk.proofs.Arrays.{rep-is, lends-array, backs-array}
 use Rattle.sessions.specs.Setup.{setUpOf}
 use Rattle.sessions.specs.Calls.{setUpTables}
 use Rattle.sessions.specs.ObjectList.{listOf, listOut}
-use Rattle.moves.specs.Rows.{lent}
+use Rattle.agent.specs.Lent.{lent}
 use Rattle.agent.specs.Host.{setUpAs, incomingOf, answerOf, idleOf, removedAs, removedBy, removedRows, sweptBy, sweptRows, sweptOut}
 use Rattle.sessions.specs.declared.objects.Object.{Object}
 use Rattle.sessions.proofs.objects.Object as Object-t
@@ -213,7 +213,7 @@ abbrev Given′-p : Plain
 Given′-p = record { row = Given′-t.the-row; val = LL.val Given′-t.the-type Given′-l.the-laws; tells = LL.tells Given′-t.the-type Given′-l.the-laws; makes = λ 𝓤 H A W. LL.makes Given′-t.the-type Given′-l.the-plain 𝓤 H A; ty = Given′-l.mir; typed = λ 𝓤 H A W x is. LL.lawful Given′-t.the-type Given′-l.the-laws 𝓤 H A W .typed x _ is .0; copies = λ 𝓤 H A W. LL.copy Given′-t.the-type Given′-l.the-copy 𝓤 H A W }
 
 abbrev stayed : Stays (f.ended .signature .params) (f.ended .kept)
-stayed = (stay-slice (0 ∷ []) tt (plain (λ _. (Array u64 5))), (stay-slice (1 ∷ []) tt (plain (λ _. (Array u16 35))), (stay-slice (2 ∷ []) tt (plain (λ _. Object-t.the-row)), (stay-slice (3 ∷ []) tt (plain (λ _. u8)), (stay-none-slice (4 ∷ []) tt (plain (λ _. u8)) yes, (stay-slice (5 ∷ []) tt (plain (λ _. u8)), (stay-none (λ _. Host-p .row) yes, (stay-none (λ _. Command-p .row) yes, tt))))))))
+stayed = (stay-slice (0 ∷ []) tt (plain (λ _. (Array u64 6))), (stay-slice (1 ∷ []) tt (plain (λ _. (Array u16 35))), (stay-slice (2 ∷ []) tt (plain (λ _. Object-t.the-row)), (stay-slice (3 ∷ []) tt (plain (λ _. u8)), (stay-slice (4 ∷ []) tt (plain (λ _. u8)), (stay-none-slice (5 ∷ []) tt (plain (λ _. u8)) yes, (stay-slice (6 ∷ []) tt (plain (λ _. u8)), (stay-none (λ _. Host-p .row) yes, (stay-none (λ _. Command-p .row) yes, tt)))))))))
 
 module _ {M : Type 1} (𝓤 : URA M) (H : Heap 𝓤) (A : Atoms 𝓤) (mem : Memory → SProp 𝓤) (run : Routine → Fun 𝓤) where
   abbrev Of-output-cover : Contract 𝓤
@@ -234,8 +234,8 @@ module _ {M : Type 1} (𝓤 : URA M) (H : Heap 𝓤) (A : Atoms 𝓤) (mem : Mem
   abbrev Of-host-after-datagram : Contract 𝓤
   Of-host-after-datagram = tripleOf 𝓤 H A host-after-datagram.signature (host-after-datagram.spec 𝓤 H A mem run)
 
-module _ {M : Type 1} (𝓤 : URA M) (H : Heap 𝓤) (A : Atoms 𝓤) (W : Given 𝓤 H A) (mem : Memory → SProp 𝓤) (run : Routine → Fun 𝓤) (κ₁ : Lft) (q₁ : Share) (b₁ o₁ : ℕ) (γ₁ : GName) (sessions : List (List ℕ)) (κ₂ : Lft) (q₂ : Share) (b₂ o₂ : ℕ) (γ₂ : GName) (streams : List (List ℕ)) (κ₃ : Lft) (q₃ : Share) (b₃ o₃ : ℕ) (γ₃ : GName) (objects : List Object) (κ₄ : Lft) (q₄ : Share) (b₄ o₄ : ℕ) (γ₄ : GName) (out : List ℕ) (κ₅ : Lft) (q₅ : Share) (b₅ o₅ : ℕ) (γ₅ : GName) (line : List ℕ) (κ₆ : Lft) (q₆ : Share) (b₆ o₆ : ℕ) (γ₆ : GName) (kept : List ℕ) (host : Host) (c : Command)
-    (room₁ : Room (Array u64 5) (length sessions)) (room₂ : Room (Array u16 35) (length streams)) (room₃ : Room Object-t.the-row (length objects)) (room₄ : Room u8 (length out)) (room₅ : Room u8 (length line)) (room₆ : Room u8 (length kept)) (host-is : Is (Host-p .row) host (Host-p .val host ∷ [])) (c-is : Is (Command-p .row) c (Command-p .val c ∷ [])) where
+module _ {M : Type 1} (𝓤 : URA M) (H : Heap 𝓤) (A : Atoms 𝓤) (W : Given 𝓤 H A) (mem : Memory → SProp 𝓤) (run : Routine → Fun 𝓤) (κ₁ : Lft) (q₁ : Share) (b₁ o₁ : ℕ) (γ₁ : GName) (sessions : List (List ℕ)) (κ₂ : Lft) (q₂ : Share) (b₂ o₂ : ℕ) (γ₂ : GName) (streams : List (List ℕ)) (κ₃ : Lft) (q₃ : Share) (b₃ o₃ : ℕ) (γ₃ : GName) (objects : List Object) (κ₄ : Lft) (q₄ : Share) (b₄ o₄ : ℕ) (γ₄ : GName) (held : List ℕ) (κ₅ : Lft) (q₅ : Share) (b₅ o₅ : ℕ) (γ₅ : GName) (out : List ℕ) (κ₆ : Lft) (q₆ : Share) (b₆ o₆ : ℕ) (γ₆ : GName) (line : List ℕ) (κ₇ : Lft) (q₇ : Share) (b₇ o₇ : ℕ) (γ₇ : GName) (kept : List ℕ) (host : Host) (c : Command)
+    (room₁ : Room (Array u64 6) (length sessions)) (room₂ : Room (Array u16 35) (length streams)) (room₃ : Room Object-t.the-row (length objects)) (room₄ : Room u8 (length held)) (room₅ : Room u8 (length out)) (room₆ : Room u8 (length line)) (room₇ : Room u8 (length kept)) (host-is : Is (Host-p .row) host (Host-p .val host ∷ [])) (c-is : Is (Command-p .row) c (Command-p .val c ∷ [])) where
   abbrev n₁ : ℕ
   n₁ = length sessions
 
@@ -246,34 +246,37 @@ module _ {M : Type 1} (𝓤 : URA M) (H : Heap 𝓤) (A : Atoms 𝓤) (W : Given
   n₃ = length objects
 
   abbrev n₄ : ℕ
-  n₄ = length out
+  n₄ = length held
 
   abbrev n₅ : ℕ
-  n₅ = length line
+  n₅ = length out
 
   abbrev n₆ : ℕ
-  n₆ = length kept
+  n₆ = length line
 
-  abbrev x : RefT (List (List ℕ)) × (RefT (List (List ℕ)) × (RefT (List Object) × (RefT (List ℕ) × (RefT (List ℕ) × (RefT (List ℕ) × (Host-p .row .Denot × (Command-p .row .Denot × (Unit {0}))))))))
-  x = (at-list b₁ o₁ γ₁ sessions, (at-list b₂ o₂ γ₂ streams, (at-list b₃ o₃ γ₃ objects, (at-list b₄ o₄ γ₄ out, (at-list b₅ o₅ γ₅ line, (at-list b₆ o₆ γ₆ kept, (host, (c, tt))))))))
+  abbrev n₇ : ℕ
+  n₇ = length kept
 
-  abbrev at : Vals f.signature (κ₁, (κ₂, (κ₃, (κ₄, (κ₅, (κ₆, tt))))))
-  at = (sliceVal (b₁, o₁) n₁ ∷ [], (sliceVal (b₂, o₂) n₂ ∷ [], (sliceVal (b₃, o₃) n₃ ∷ [], (sliceVal (b₄, o₄) n₄ ∷ [], (sliceVal (b₅, o₅) n₅ ∷ [], (sliceVal (b₆, o₆) n₆ ∷ [], (Host-p .val host ∷ [], (Command-p .val c ∷ [], tt))))))))
+  abbrev x : RefT (List (List ℕ)) × (RefT (List (List ℕ)) × (RefT (List Object) × (RefT (List ℕ) × (RefT (List ℕ) × (RefT (List ℕ) × (RefT (List ℕ) × (Host-p .row .Denot × (Command-p .row .Denot × (Unit {0})))))))))
+  x = (at-list b₁ o₁ γ₁ sessions, (at-list b₂ o₂ γ₂ streams, (at-list b₃ o₃ γ₃ objects, (at-list b₄ o₄ γ₄ held, (at-list b₅ o₅ γ₅ out, (at-list b₆ o₆ γ₆ line, (at-list b₇ o₇ γ₇ kept, (host, (c, tt)))))))))
+
+  abbrev at : Vals f.signature (κ₁, (κ₂, (κ₃, (κ₄, (κ₅, (κ₆, (κ₇, tt)))))))
+  at = (sliceVal (b₁, o₁) n₁ ∷ [], (sliceVal (b₂, o₂) n₂ ∷ [], (sliceVal (b₃, o₃) n₃ ∷ [], (sliceVal (b₄, o₄) n₄ ∷ [], (sliceVal (b₅, o₅) n₅ ∷ [], (sliceVal (b₆, o₆) n₆ ∷ [], (sliceVal (b₇, o₇) n₇ ∷ [], (Host-p .val host ∷ [], (Command-p .val c ∷ [], tt)))))))))
 
   abbrev Post : Val → SProp 𝓤
-  Post = walkOf 𝓤 H A f.ended stayed (f.clauses 𝓤 H A mem run) .post (((κ₁, (κ₂, (κ₃, (κ₄, (κ₅, (κ₆, tt)))))), (q₁, (q₂, (q₃, (q₄, (q₅, (q₆, tt)))))), tt, x, at), tt)
+  Post = walkOf 𝓤 H A f.ended stayed (f.clauses 𝓤 H A mem run) .post (((κ₁, (κ₂, (κ₃, (κ₄, (κ₅, (κ₆, (κ₇, tt))))))), (q₁, (q₂, (q₃, (q₄, (q₅, (q₆, (q₇, tt))))))), tt, x, at), tt)
 
-  exits : (r : Host) (ws₁ : List (List ℕ)) (ws₂ : List (List ℕ)) (ws₃ : List Object) (ws₄ : List ℕ) (ws₆ : List ℕ) → Is (Host-p .row) r (Host-p .val r ∷ []) → length ws₁ ≡ n₁ → length ws₂ ≡ n₂ → length ws₃ ≡ n₃ → length ws₄ ≡ n₄ → length ws₆ ≡ n₆ → ent 𝓤 (⋆ 𝓤 H A (‵ (MutSlice (named 0) κ₁ (Array u64 5) .own (at-list b₁ o₁ γ₁ ws₁) (sliceVal (b₁, o₁) n₁ ∷ [])) ∷ ‵ (flft κ₁ q₁) ∷ ‵ (MutSlice (named 1) κ₂ (Array u16 35) .own (at-list b₂ o₂ γ₂ ws₂) (sliceVal (b₂, o₂) n₂ ∷ [])) ∷ ‵ (flft κ₂ q₂) ∷ ‵ (MutSlice (named 2) κ₃ Object-t.the-row .own (at-list b₃ o₃ γ₃ ws₃) (sliceVal (b₃, o₃) n₃ ∷ [])) ∷ ‵ (flft κ₃ q₃) ∷ ‵ (MutSlice (named 3) κ₄ u8 .own (at-list b₄ o₄ γ₄ ws₄) (sliceVal (b₄, o₄) n₄ ∷ [])) ∷ ‵ (flft κ₄ q₄) ∷ ‵ (ShrSlice (named 4) κ₅ u8 .own (at-list b₅ o₅ γ₅ line) (sliceVal (b₅, o₅) n₅ ∷ [])) ∷ ‵ (flft κ₅ q₅) ∷ ‵ (MutSlice (named 5) κ₆ u8 .own (at-list b₆ o₆ γ₆ ws₆) (sliceVal (b₆, o₆) n₆ ∷ [])) ∷ ‵ (flft κ₆ q₆) ∷ [])) (Post (Host-p .val r))
-  exits r ws₁ ws₂ ws₃ ws₄ ws₆ r-is len₁ len₂ len₃ len₄ len₆ =
-      qed W (‵ (MutSlice (named 0) κ₁ (Array u64 5) .own (at-list b₁ o₁ γ₁ ws₁) (sliceVal (b₁, o₁) n₁ ∷ [])) ∷ ‵ (flft κ₁ q₁) ∷ ‵ (MutSlice (named 1) κ₂ (Array u16 35) .own (at-list b₂ o₂ γ₂ ws₂) (sliceVal (b₂, o₂) n₂ ∷ [])) ∷ ‵ (flft κ₂ q₂) ∷ ‵ (MutSlice (named 2) κ₃ Object-t.the-row .own (at-list b₃ o₃ γ₃ ws₃) (sliceVal (b₃, o₃) n₃ ∷ [])) ∷ ‵ (flft κ₃ q₃) ∷ ‵ (MutSlice (named 3) κ₄ u8 .own (at-list b₄ o₄ γ₄ ws₄) (sliceVal (b₄, o₄) n₄ ∷ [])) ∷ ‵ (flft κ₄ q₄) ∷ ‵ (ShrSlice (named 4) κ₅ u8 .own (at-list b₅ o₅ γ₅ line) (sliceVal (b₅, o₅) n₅ ∷ [])) ∷ ‵ (flft κ₅ q₅) ∷ ‵ (MutSlice (named 5) κ₆ u8 .own (at-list b₆ o₆ γ₆ ws₆) (sliceVal (b₆, o₆) n₆ ∷ [])) ∷ ‵ (flft κ₆ q₆) ∷ []) ∵
-      suffices ! _ (ends-at 𝓤 H A f.ended stayed (f.clauses 𝓤 H A mem run) W (((κ₁, (κ₂, (κ₃, (κ₄, (κ₅, (κ₆, tt)))))), (q₁, (q₂, (q₃, (q₄, (q₅, (q₆, tt)))))), tt, x, at), tt) (Host-p .val r) r (ws₁, (ws₂, (ws₃, (ws₄, (tt, (ws₆, (tt, (tt, tt)))))))) (len₁, (len₂, (len₃, (len₄, (tt, (len₆, (tt, (tt, tt))))))))) $ says-nothing ! $ nothing ! $ move ! (12 ∷ 0 ∷ []) $ join ! $ move ! (10 ∷ 0 ∷ []) $ join ! $ move ! (8 ∷ 0 ∷ []) $ join ! $ move ! (6 ∷ 0 ∷ []) $ join ! $ move ! (4 ∷ 0 ∷ []) $ join ! $ move ! (2 ∷ 0 ∷ []) $ join ! $
+  exits : (r : Host) (ws₁ : List (List ℕ)) (ws₂ : List (List ℕ)) (ws₃ : List Object) (ws₄ : List ℕ) (ws₅ : List ℕ) (ws₇ : List ℕ) → Is (Host-p .row) r (Host-p .val r ∷ []) → length ws₁ ≡ n₁ → length ws₂ ≡ n₂ → length ws₃ ≡ n₃ → length ws₄ ≡ n₄ → length ws₅ ≡ n₅ → length ws₇ ≡ n₇ → ent 𝓤 (⋆ 𝓤 H A (‵ (MutSlice (named 0) κ₁ (Array u64 6) .own (at-list b₁ o₁ γ₁ ws₁) (sliceVal (b₁, o₁) n₁ ∷ [])) ∷ ‵ (flft κ₁ q₁) ∷ ‵ (MutSlice (named 1) κ₂ (Array u16 35) .own (at-list b₂ o₂ γ₂ ws₂) (sliceVal (b₂, o₂) n₂ ∷ [])) ∷ ‵ (flft κ₂ q₂) ∷ ‵ (MutSlice (named 2) κ₃ Object-t.the-row .own (at-list b₃ o₃ γ₃ ws₃) (sliceVal (b₃, o₃) n₃ ∷ [])) ∷ ‵ (flft κ₃ q₃) ∷ ‵ (MutSlice (named 3) κ₄ u8 .own (at-list b₄ o₄ γ₄ ws₄) (sliceVal (b₄, o₄) n₄ ∷ [])) ∷ ‵ (flft κ₄ q₄) ∷ ‵ (MutSlice (named 4) κ₅ u8 .own (at-list b₅ o₅ γ₅ ws₅) (sliceVal (b₅, o₅) n₅ ∷ [])) ∷ ‵ (flft κ₅ q₅) ∷ ‵ (ShrSlice (named 5) κ₆ u8 .own (at-list b₆ o₆ γ₆ line) (sliceVal (b₆, o₆) n₆ ∷ [])) ∷ ‵ (flft κ₆ q₆) ∷ ‵ (MutSlice (named 6) κ₇ u8 .own (at-list b₇ o₇ γ₇ ws₇) (sliceVal (b₇, o₇) n₇ ∷ [])) ∷ ‵ (flft κ₇ q₇) ∷ [])) (Post (Host-p .val r))
+  exits r ws₁ ws₂ ws₃ ws₄ ws₅ ws₇ r-is len₁ len₂ len₃ len₄ len₅ len₇ =
+      qed W (‵ (MutSlice (named 0) κ₁ (Array u64 6) .own (at-list b₁ o₁ γ₁ ws₁) (sliceVal (b₁, o₁) n₁ ∷ [])) ∷ ‵ (flft κ₁ q₁) ∷ ‵ (MutSlice (named 1) κ₂ (Array u16 35) .own (at-list b₂ o₂ γ₂ ws₂) (sliceVal (b₂, o₂) n₂ ∷ [])) ∷ ‵ (flft κ₂ q₂) ∷ ‵ (MutSlice (named 2) κ₃ Object-t.the-row .own (at-list b₃ o₃ γ₃ ws₃) (sliceVal (b₃, o₃) n₃ ∷ [])) ∷ ‵ (flft κ₃ q₃) ∷ ‵ (MutSlice (named 3) κ₄ u8 .own (at-list b₄ o₄ γ₄ ws₄) (sliceVal (b₄, o₄) n₄ ∷ [])) ∷ ‵ (flft κ₄ q₄) ∷ ‵ (MutSlice (named 4) κ₅ u8 .own (at-list b₅ o₅ γ₅ ws₅) (sliceVal (b₅, o₅) n₅ ∷ [])) ∷ ‵ (flft κ₅ q₅) ∷ ‵ (ShrSlice (named 5) κ₆ u8 .own (at-list b₆ o₆ γ₆ line) (sliceVal (b₆, o₆) n₆ ∷ [])) ∷ ‵ (flft κ₆ q₆) ∷ ‵ (MutSlice (named 6) κ₇ u8 .own (at-list b₇ o₇ γ₇ ws₇) (sliceVal (b₇, o₇) n₇ ∷ [])) ∷ ‵ (flft κ₇ q₇) ∷ []) ∵
+      suffices ! _ (ends-at 𝓤 H A f.ended stayed (f.clauses 𝓤 H A mem run) W (((κ₁, (κ₂, (κ₃, (κ₄, (κ₅, (κ₆, (κ₇, tt))))))), (q₁, (q₂, (q₃, (q₄, (q₅, (q₆, (q₇, tt))))))), tt, x, at), tt) (Host-p .val r) r (ws₁, (ws₂, (ws₃, (ws₄, (ws₅, (tt, (ws₇, (tt, (tt, tt))))))))) (len₁, (len₂, (len₃, (len₄, (len₅, (tt, (len₇, (tt, (tt, tt)))))))))) $ says-nothing ! $ nothing ! $ move ! (14 ∷ 0 ∷ []) $ join ! $ move ! (12 ∷ 0 ∷ []) $ join ! $ move ! (10 ∷ 0 ∷ []) $ join ! $ move ! (8 ∷ 0 ∷ []) $ join ! $ move ! (6 ∷ 0 ∷ []) $ join ! $ move ! (4 ∷ 0 ∷ []) $ join ! $ move ! (2 ∷ 0 ∷ []) $ join ! $
       frame ! $ nothing ! $
       owned ! (Command-p .row) (Is (Command-p .row)) (Command-p .makes 𝓤 H A W) c (Command-p .val c ∷ []) c-is $ fjoin ! $
-      owned ! (Host-p .row) (Is (Host-p .row)) (Host-p .makes 𝓤 H A W) host (Host-p .val host ∷ []) host-is $ fjoin ! $ move ! (6 ∷ 0 ∷ []) $ fjoin ! $ move ! (5 ∷ 0 ∷ []) $ fjoin ! $ move ! (4 ∷ 0 ∷ []) $ fjoin ! $ move ! (3 ∷ 0 ∷ []) $ fjoin ! $ move ! (2 ∷ 0 ∷ []) $ fjoin ! $ move ! (1 ∷ 0 ∷ []) $ fjoin ! $
+      owned ! (Host-p .row) (Is (Host-p .row)) (Host-p .makes 𝓤 H A W) host (Host-p .val host ∷ []) host-is $ fjoin ! $ move ! (7 ∷ 0 ∷ []) $ fjoin ! $ move ! (6 ∷ 0 ∷ []) $ fjoin ! $ move ! (5 ∷ 0 ∷ []) $ fjoin ! $ move ! (4 ∷ 0 ∷ []) $ fjoin ! $ move ! (3 ∷ 0 ∷ []) $ fjoin ! $ move ! (2 ∷ 0 ∷ []) $ fjoin ! $ move ! (1 ∷ 0 ∷ []) $ fjoin ! $
       frame ! $
       owned ! (Host-p .row) (Is (Host-p .row)) (Host-p .makes 𝓤 H A W) r _ r-is $ done !
 
-  module _ (𝓣 : Tables 𝓤 H) (known-output-cover : Triple 𝓤 (𝓣 .C #output-cover) (Of-output-cover 𝓤 H A mem run)) (known-output-within : Triple 𝓤 (𝓣 .C #output-within) (Of-output-within 𝓤 H A mem run)) (known-words-least : Triple 𝓤 (𝓣 .C #words-least) (Of-words-least 𝓤 H A mem run)) (known-agent-process-incoming : Triple 𝓤 (𝓣 .C #agent-process-incoming) (Of-agent-process-incoming 𝓤 H A mem run)) (known-host-say : Triple 𝓤 (𝓣 .C #host-say) (Of-host-say 𝓤 H A mem run)) (known-host-after-datagram : Triple 𝓤 (𝓣 .C #host-after-datagram) (Of-host-after-datagram 𝓤 H A mem run)) (l₀ l₁ l₂ l₃ l₄ l₅ l₆ l₇ l₈ l₉ l₁₀ l₁₁ l₁₂ l₁₃ l₁₄ l₁₅ l₁₆ l₁₇ l₁₈ l₁₉ l₂₀ l₂₁ l₂₂ l₂₃ l₂₄ l₂₅ l₂₆ l₂₇ l₂₈ l₂₉ l₃₀ l₃₁ l₃₂ : ℕ) where
+  module _ (𝓣 : Tables 𝓤 H) (known-output-cover : Triple 𝓤 (𝓣 .C #output-cover) (Of-output-cover 𝓤 H A mem run)) (known-output-within : Triple 𝓤 (𝓣 .C #output-within) (Of-output-within 𝓤 H A mem run)) (known-words-least : Triple 𝓤 (𝓣 .C #words-least) (Of-words-least 𝓤 H A mem run)) (known-agent-process-incoming : Triple 𝓤 (𝓣 .C #agent-process-incoming) (Of-agent-process-incoming 𝓤 H A mem run)) (known-host-say : Triple 𝓤 (𝓣 .C #host-say) (Of-host-say 𝓤 H A mem run)) (known-host-after-datagram : Triple 𝓤 (𝓣 .C #host-after-datagram) (Of-host-after-datagram 𝓤 H A mem run)) (l₀ l₁ l₂ l₃ l₄ l₅ l₆ l₇ l₈ l₉ l₁₀ l₁₁ l₁₂ l₁₃ l₁₄ l₁₅ l₁₆ l₁₇ l₁₈ l₁₉ l₂₀ l₂₁ l₂₂ l₂₃ l₂₄ l₂₅ l₂₆ l₂₇ l₂₈ l₂₉ l₃₀ l₃₁ l₃₂ l₃₃ l₃₄ l₃₅ : ℕ) where
     abbrev C : Calls 𝓤 H
     C = 𝓣 .C
 
@@ -284,145 +287,153 @@ module _ {M : Type 1} (𝓤 : URA M) (H : Heap 𝓤) (A : Atoms 𝓤) (W : Given
     fm = fmOf 𝓤 H (W .laws) 𝓣
 
     abbrev En : Env 𝓤 H
-    En = (Host-l.mir, l₀) ∷ ((sliceTy (tyRef (named 0) mut (pointee ((Array u64 5) .written)))), l₁) ∷ ((sliceTy (tyRef (named 1) mut (pointee ((Array u16 35) .written)))), l₂) ∷ ((sliceTy (tyRef (named 2) mut (pointee (Object-t.the-row .written)))), l₃) ∷ ((sliceTy (tyRef (named 3) mut (pointee (u8 .written)))), l₄) ∷ ((sliceTy (tyRef (named 4) imm (pointee (u8 .written)))), l₅) ∷ ((sliceTy (tyRef (named 5) mut (pointee (u8 .written)))), l₆) ∷ (Host-l.mir, l₇) ∷ (Command-l.mir, l₈) ∷ ((tyInt w64), l₉) ∷ ((tyInt w64), l₁₀) ∷ (Agent-l.mir, l₁₁) ∷ (Given′-l.mir, l₁₂) ∷ (Processed-l.mir, l₁₃) ∷ ((tyInt w64), l₁₄) ∷ (tyUnit, l₁₅) ∷ ((tyRef erased mut (pointee (u8 .written))), l₁₆) ∷ ((sliceTy (tyRef erased mut (pointee (u8 .written)))), l₁₇) ∷ ((tyInt w64), l₁₈) ∷ ((tyRef erased mut (pointee ((Array u64 5) .written))), l₁₉) ∷ ((sliceTy (tyRef erased mut (pointee ((Array u64 5) .written)))), l₂₀) ∷ ((tyRef erased mut (pointee ((Array u16 35) .written))), l₂₁) ∷ ((sliceTy (tyRef erased mut (pointee ((Array u16 35) .written)))), l₂₂) ∷ ((tyRef erased mut (pointee (Object-t.the-row .written))), l₂₃) ∷ ((sliceTy (tyRef erased mut (pointee (Object-t.the-row .written)))), l₂₄) ∷ ((tyRef erased mut (pointee (u8 .written))), l₂₅) ∷ ((sliceTy (tyRef erased mut (pointee (u8 .written)))), l₂₆) ∷ ((tyRef erased imm (pointee (u8 .written))), l₂₇) ∷ ((sliceTy (tyRef erased imm (pointee (u8 .written)))), l₂₈) ∷ ((tyRef erased imm (pointee (u8 .written))), l₂₉) ∷ ((sliceTy (tyRef erased imm (pointee (u8 .written)))), l₃₀) ∷ ((tyRef erased mut (pointee (u8 .written))), l₃₁) ∷ ((sliceTy (tyRef erased mut (pointee (u8 .written)))), l₃₂) ∷ []
+    En = (Host-l.mir, l₀) ∷ ((sliceTy (tyRef (named 0) mut (pointee ((Array u64 6) .written)))), l₁) ∷ ((sliceTy (tyRef (named 1) mut (pointee ((Array u16 35) .written)))), l₂) ∷ ((sliceTy (tyRef (named 2) mut (pointee (Object-t.the-row .written)))), l₃) ∷ ((sliceTy (tyRef (named 3) mut (pointee (u8 .written)))), l₄) ∷ ((sliceTy (tyRef (named 4) mut (pointee (u8 .written)))), l₅) ∷ ((sliceTy (tyRef (named 5) imm (pointee (u8 .written)))), l₆) ∷ ((sliceTy (tyRef (named 6) mut (pointee (u8 .written)))), l₇) ∷ (Host-l.mir, l₈) ∷ (Command-l.mir, l₉) ∷ ((tyInt w64), l₁₀) ∷ ((tyInt w64), l₁₁) ∷ (Agent-l.mir, l₁₂) ∷ (Given′-l.mir, l₁₃) ∷ (Processed-l.mir, l₁₄) ∷ ((tyInt w64), l₁₅) ∷ (tyUnit, l₁₆) ∷ ((tyRef erased mut (pointee (u8 .written))), l₁₇) ∷ ((sliceTy (tyRef erased mut (pointee (u8 .written)))), l₁₈) ∷ ((tyInt w64), l₁₉) ∷ ((tyRef erased mut (pointee ((Array u64 6) .written))), l₂₀) ∷ ((sliceTy (tyRef erased mut (pointee ((Array u64 6) .written)))), l₂₁) ∷ ((tyRef erased mut (pointee ((Array u16 35) .written))), l₂₂) ∷ ((sliceTy (tyRef erased mut (pointee ((Array u16 35) .written)))), l₂₃) ∷ ((tyRef erased mut (pointee (Object-t.the-row .written))), l₂₄) ∷ ((sliceTy (tyRef erased mut (pointee (Object-t.the-row .written)))), l₂₅) ∷ ((tyRef erased mut (pointee (u8 .written))), l₂₆) ∷ ((sliceTy (tyRef erased mut (pointee (u8 .written)))), l₂₇) ∷ ((tyRef erased mut (pointee (u8 .written))), l₂₈) ∷ ((sliceTy (tyRef erased mut (pointee (u8 .written)))), l₂₉) ∷ ((tyRef erased imm (pointee (u8 .written))), l₃₀) ∷ ((sliceTy (tyRef erased imm (pointee (u8 .written)))), l₃₁) ∷ ((tyRef erased imm (pointee (u8 .written))), l₃₂) ∷ ((sliceTy (tyRef erased imm (pointee (u8 .written)))), l₃₃) ∷ ((tyRef erased mut (pointee (u8 .written))), l₃₄) ∷ ((sliceTy (tyRef erased mut (pointee (u8 .written)))), l₃₅) ∷ []
 
-    begins : Sq W (‵ (MutSlice (named 0) κ₁ (Array u64 5) .own (at-list b₁ o₁ γ₁ sessions) (sliceVal (b₁, o₁) n₁ ∷ [])) ∷ ‵ (flft κ₁ q₁) ∷ ‵ (MutSlice (named 0) κ₂ (Array u16 35) .own (at-list b₂ o₂ γ₂ streams) (sliceVal (b₂, o₂) n₂ ∷ [])) ∷ ‵ (flft κ₂ q₂) ∷ ‵ (MutSlice (named 0) κ₃ Object-t.the-row .own (at-list b₃ o₃ γ₃ objects) (sliceVal (b₃, o₃) n₃ ∷ [])) ∷ ‵ (flft κ₃ q₃) ∷ ‵ (MutSlice (named 0) κ₄ u8 .own (at-list b₄ o₄ γ₄ out) (sliceVal (b₄, o₄) n₄ ∷ [])) ∷ ‵ (flft κ₄ q₄) ∷ ‵ (ShrSlice (named 0) κ₅ u8 .own (at-list b₅ o₅ γ₅ line) (sliceVal (b₅, o₅) n₅ ∷ [])) ∷ ‵ (flft κ₅ q₅) ∷ ‵ (MutSlice (named 0) κ₆ u8 .own (at-list b₆ o₆ γ₆ kept) (sliceVal (b₆, o₆) n₆ ∷ [])) ∷ ‵ (flft κ₆ q₆) ∷ free 𝓤 (sliceTy (tyRef erased mut (pointee (u8 .written)))) l₃₂ (free 𝓤 (tyRef erased mut (pointee (u8 .written))) l₃₁ (free 𝓤 (sliceTy (tyRef erased imm (pointee (u8 .written)))) l₃₀ (free 𝓤 (tyRef erased imm (pointee (u8 .written))) l₂₉ (free 𝓤 (sliceTy (tyRef erased imm (pointee (u8 .written)))) l₂₈ (free 𝓤 (tyRef erased imm (pointee (u8 .written))) l₂₇ (free 𝓤 (sliceTy (tyRef erased mut (pointee (u8 .written)))) l₂₆ (free 𝓤 (tyRef erased mut (pointee (u8 .written))) l₂₅ (free 𝓤 (sliceTy (tyRef erased mut (pointee (Object-t.the-row .written)))) l₂₄ (free 𝓤 (tyRef erased mut (pointee (Object-t.the-row .written))) l₂₃ (free 𝓤 (sliceTy (tyRef erased mut (pointee ((Array u16 35) .written)))) l₂₂ (free 𝓤 (tyRef erased mut (pointee ((Array u16 35) .written))) l₂₁ (free 𝓤 (sliceTy (tyRef erased mut (pointee ((Array u64 5) .written)))) l₂₀ (free 𝓤 (tyRef erased mut (pointee ((Array u64 5) .written))) l₁₉ (free 𝓤 (tyInt w64) l₁₈ (free 𝓤 (sliceTy (tyRef erased mut (pointee (u8 .written)))) l₁₇ (free 𝓤 (tyRef erased mut (pointee (u8 .written))) l₁₆ (free 𝓤 tyUnit l₁₅ (free 𝓤 (tyInt w64) l₁₄ (free 𝓤 Processed-l.mir l₁₃ (free 𝓤 Given′-l.mir l₁₂ (free 𝓤 Agent-l.mir l₁₁ (free 𝓤 (tyInt w64) l₁₀ (free 𝓤 (tyInt w64) l₉ (full 𝓤 Command-l.mir l₈ (Command-p .val c) (full 𝓤 Host-l.mir l₇ (Host-p .val host) (full 𝓤 (sliceTy (tyRef (named 5) mut (pointee (u8 .written)))) l₆ (sliceVal (b₆, o₆) n₆) (full 𝓤 (sliceTy (tyRef (named 4) imm (pointee (u8 .written)))) l₅ (sliceVal (b₅, o₅) n₅) (full 𝓤 (sliceTy (tyRef (named 3) mut (pointee (u8 .written)))) l₄ (sliceVal (b₄, o₄) n₄) (full 𝓤 (sliceTy (tyRef (named 2) mut (pointee (Object-t.the-row .written)))) l₃ (sliceVal (b₃, o₃) n₃) (full 𝓤 (sliceTy (tyRef (named 1) mut (pointee ((Array u16 35) .written)))) l₂ (sliceVal (b₂, o₂) n₂) (full 𝓤 (sliceTy (tyRef (named 0) mut (pointee ((Array u64 5) .written)))) l₁ (sliceVal (b₁, o₁) n₁) (free 𝓤 Host-l.mir l₀ ([])))))))))))))))))))))))))))))))))) (runs C Λ En mir.t-1 (atRet En Post))
+    begins : Sq W (‵ (MutSlice (named 0) κ₁ (Array u64 6) .own (at-list b₁ o₁ γ₁ sessions) (sliceVal (b₁, o₁) n₁ ∷ [])) ∷ ‵ (flft κ₁ q₁) ∷ ‵ (MutSlice (named 0) κ₂ (Array u16 35) .own (at-list b₂ o₂ γ₂ streams) (sliceVal (b₂, o₂) n₂ ∷ [])) ∷ ‵ (flft κ₂ q₂) ∷ ‵ (MutSlice (named 0) κ₃ Object-t.the-row .own (at-list b₃ o₃ γ₃ objects) (sliceVal (b₃, o₃) n₃ ∷ [])) ∷ ‵ (flft κ₃ q₃) ∷ ‵ (MutSlice (named 0) κ₄ u8 .own (at-list b₄ o₄ γ₄ held) (sliceVal (b₄, o₄) n₄ ∷ [])) ∷ ‵ (flft κ₄ q₄) ∷ ‵ (MutSlice (named 0) κ₅ u8 .own (at-list b₅ o₅ γ₅ out) (sliceVal (b₅, o₅) n₅ ∷ [])) ∷ ‵ (flft κ₅ q₅) ∷ ‵ (ShrSlice (named 0) κ₆ u8 .own (at-list b₆ o₆ γ₆ line) (sliceVal (b₆, o₆) n₆ ∷ [])) ∷ ‵ (flft κ₆ q₆) ∷ ‵ (MutSlice (named 0) κ₇ u8 .own (at-list b₇ o₇ γ₇ kept) (sliceVal (b₇, o₇) n₇ ∷ [])) ∷ ‵ (flft κ₇ q₇) ∷ free 𝓤 (sliceTy (tyRef erased mut (pointee (u8 .written)))) l₃₅ (free 𝓤 (tyRef erased mut (pointee (u8 .written))) l₃₄ (free 𝓤 (sliceTy (tyRef erased imm (pointee (u8 .written)))) l₃₃ (free 𝓤 (tyRef erased imm (pointee (u8 .written))) l₃₂ (free 𝓤 (sliceTy (tyRef erased imm (pointee (u8 .written)))) l₃₁ (free 𝓤 (tyRef erased imm (pointee (u8 .written))) l₃₀ (free 𝓤 (sliceTy (tyRef erased mut (pointee (u8 .written)))) l₂₉ (free 𝓤 (tyRef erased mut (pointee (u8 .written))) l₂₈ (free 𝓤 (sliceTy (tyRef erased mut (pointee (u8 .written)))) l₂₇ (free 𝓤 (tyRef erased mut (pointee (u8 .written))) l₂₆ (free 𝓤 (sliceTy (tyRef erased mut (pointee (Object-t.the-row .written)))) l₂₅ (free 𝓤 (tyRef erased mut (pointee (Object-t.the-row .written))) l₂₄ (free 𝓤 (sliceTy (tyRef erased mut (pointee ((Array u16 35) .written)))) l₂₃ (free 𝓤 (tyRef erased mut (pointee ((Array u16 35) .written))) l₂₂ (free 𝓤 (sliceTy (tyRef erased mut (pointee ((Array u64 6) .written)))) l₂₁ (free 𝓤 (tyRef erased mut (pointee ((Array u64 6) .written))) l₂₀ (free 𝓤 (tyInt w64) l₁₉ (free 𝓤 (sliceTy (tyRef erased mut (pointee (u8 .written)))) l₁₈ (free 𝓤 (tyRef erased mut (pointee (u8 .written))) l₁₇ (free 𝓤 tyUnit l₁₆ (free 𝓤 (tyInt w64) l₁₅ (free 𝓤 Processed-l.mir l₁₄ (free 𝓤 Given′-l.mir l₁₃ (free 𝓤 Agent-l.mir l₁₂ (free 𝓤 (tyInt w64) l₁₁ (free 𝓤 (tyInt w64) l₁₀ (full 𝓤 Command-l.mir l₉ (Command-p .val c) (full 𝓤 Host-l.mir l₈ (Host-p .val host) (full 𝓤 (sliceTy (tyRef (named 6) mut (pointee (u8 .written)))) l₇ (sliceVal (b₇, o₇) n₇) (full 𝓤 (sliceTy (tyRef (named 5) imm (pointee (u8 .written)))) l₆ (sliceVal (b₆, o₆) n₆) (full 𝓤 (sliceTy (tyRef (named 4) mut (pointee (u8 .written)))) l₅ (sliceVal (b₅, o₅) n₅) (full 𝓤 (sliceTy (tyRef (named 3) mut (pointee (u8 .written)))) l₄ (sliceVal (b₄, o₄) n₄) (full 𝓤 (sliceTy (tyRef (named 2) mut (pointee (Object-t.the-row .written)))) l₃ (sliceVal (b₃, o₃) n₃) (full 𝓤 (sliceTy (tyRef (named 1) mut (pointee ((Array u16 35) .written)))) l₂ (sliceVal (b₂, o₂) n₂) (full 𝓤 (sliceTy (tyRef (named 0) mut (pointee ((Array u64 6) .written)))) l₁ (sliceVal (b₁, o₁) n₁) (free 𝓤 Host-l.mir l₀ ([]))))))))))))))))))))))))))))))))))))) (runs C Λ En mir.t-1 (atRet En Post))
     begins =
-        assigns ! (addr ! (from ! (fld ! refl (hop ! (look-in ! 68 (sub ! 0 refl (whole !))) (stop !))))) (from ! (stop !)) (init ! 44 refl (tt, tt)) $
-        assigns ! (agg ! (and-then ! (load ! (from ! (stop !)) (look ! 44 refl)) (and-then ! (load ! (from ! (fld ! refl (stop !))) (look-in ! 68 (sub ! 1 refl (whole !)))) (no-more !)))) (from ! (stop !)) (init ! 42 refl (tt, (tt, (record { fits = room₄ .0 }, tt)))) $
+        assigns ! (addr ! (from ! (fld ! refl (hop ! (look-in ! 74 (sub ! 0 refl (whole !))) (stop !))))) (from ! (stop !)) (init ! 50 refl (tt, tt)) $
+        assigns ! (agg ! (and-then ! (load ! (from ! (stop !)) (look ! 50 refl)) (and-then ! (load ! (from ! (fld ! refl (stop !))) (look-in ! 74 (sub ! 1 refl (whole !)))) (no-more !)))) (from ! (stop !)) (init ! 48 refl (tt, (tt, (record { fits = room₅ .0 }, tt)))) $
         -- 3: replay::output::cover
-        move ! (6 ∷ 7 ∷ []) $
-        lends-mut ! tt u8 b₄ o₄ out n₄ (refl) (λ ν-3-out δ-3-out.
+        move ! (8 ∷ 9 ∷ []) $
+        lends-mut ! tt u8 b₅ o₅ out n₅ (refl) (λ ν-3-out δ-3-out.
         nothing ! $ move ! (1 ∷ 0 ∷ []) $ join ! $
         use1 W (raw (toks 𝓤 A 1 (((ν-3-out ∷ []), tt)) ((fullShare, tt)))) (id⊢ 𝓤 _) $ nothing ! $
         owned ! (u64-p .row) (Is (u64-p .row)) (u64-p .makes 𝓤 H A W) (c .second) (u64-p .val (c .second) ∷ []) (LL.owed Command-t.the-type Command-l.the-laws c _ c-is .1 .1 .0) $ fjoin ! $ move ! (2 ∷ 0 ∷ []) $ fjoin ! $ move ! (1 ∷ 0 ∷ []) $
-        calls-any ! fm 1 [] (output-cover.signature .params) (output-cover.ended .kept) unit-p (output-cover.clauses 𝓤 H A mem run) known-output-cover ((ν-3-out ∷ []), tt) (fullShare, tt) tt (at-list b₄ o₄ δ-3-out out, (c .second, tt)) (sliceVal (b₄, o₄) n₄ ∷ [], (u64-p .val (c .second) ∷ [], tt)) tt tt (λ ws-3. Unit {0}) (id⊢ 𝓤 _) (λ r ws-3. factI 𝓤 ((r ≡ tt) × (Unit {0})) _ (refl, tt)) (λ _. (and-then ! (load ! (from ! (stop !)) (look ! 42 refl)) (and-then ! (load ! (from ! (fld ! refl (stop !))) (look-in ! 60 (sub ! 2 refl (whole !)))) (no-more !)))) (λ ws-3 said-3 is-3.
+        calls-any ! fm 1 [] (output-cover.signature .params) (output-cover.ended .kept) unit-p (output-cover.clauses 𝓤 H A mem run) known-output-cover ((ν-3-out ∷ []), tt) (fullShare, tt) tt (at-list b₅ o₅ δ-3-out out, (c .second, tt)) (sliceVal (b₅, o₅) n₅ ∷ [], (u64-p .val (c .second) ∷ [], tt)) tt tt (λ ws-3. Unit {0}) (id⊢ 𝓤 _) (λ r ws-3. factI 𝓤 ((r ≡ tt) × (Unit {0})) _ (refl, tt)) (λ _. (and-then ! (load ! (from ! (stop !)) (look ! 48 refl)) (and-then ! (load ! (from ! (fld ! refl (stop !))) (look-in ! 66 (sub ! 2 refl (whole !)))) (no-more !)))) (λ ws-3 said-3 is-3.
         use1 W ((‵ (flft (ν-3-out ∷ []) fullShare) ⊛ ‵ ftrue)) (id⊢ 𝓤 _) $ split ! $ move ! (2 ∷ []) $ fsplit ! $ fsplit ! $ move ! (1 ∷ []) $
         feqL ! (λ wlen-3-0.
         move ! (2 ∷ 4 ∷ 0 ∷ []) $
-        backs-mut ! tt u8 b₄ o₄ out n₄ (refl) room₄ ν-3-out δ-3-out (ws-3 .0) (ws-3 .0) wlen-3-0 (refl) (λ len-3-out.
+        backs-mut ! tt u8 b₅ o₅ out n₅ (refl) room₅ ν-3-out δ-3-out (ws-3 .0) (ws-3 .0) wlen-3-0 (refl) (λ len-3-out.
         move ! (2 ∷ []) $ drop ! $ move ! (2 ∷ []) $ drop ! $
-        land ! (from ! (stop !)) (init ! 46 refl (unit-p .typed 𝓤 H A W tt is-3)) $
-        assigns ! (of-opd ! (load ! (from ! (fld ! refl (stop !))) (look-in ! 68 (sub ! 1 refl (whole !))))) (from ! (stop !)) (init ! 40 refl (u64-p .typed 𝓤 H A W n₄ ((refl, room₄ .0)))) $
+        land ! (from ! (stop !)) (init ! 52 refl (unit-p .typed 𝓤 H A W tt is-3)) $
+        assigns ! (of-opd ! (load ! (from ! (fld ! refl (stop !))) (look-in ! 74 (sub ! 1 refl (whole !))))) (from ! (stop !)) (init ! 46 refl (u64-p .typed 𝓤 H A W n₅ ((refl, room₅ .0)))) $
         -- 5: replay::output::within
         nothing ! $
         use1 W (raw (toks 𝓤 A 0 (tt) (tt))) (id⊢ 𝓤 _) $ nothing ! $
-        owned ! (u64-p .row) (Is (u64-p .row)) (u64-p .makes 𝓤 H A W) n₄ (u64-p .val n₄ ∷ []) ((refl, room₄ .0)) $ fjoin ! $
+        owned ! (u64-p .row) (Is (u64-p .row)) (u64-p .makes 𝓤 H A W) n₅ (u64-p .val n₅ ∷ []) ((refl, room₅ .0)) $ fjoin ! $
         owned ! (u64-p .row) (Is (u64-p .row)) (u64-p .makes 𝓤 H A W) (c .second) (u64-p .val (c .second) ∷ []) (LL.owed Command-t.the-type Command-l.the-laws c _ c-is .1 .1 .0) $ fjoin ! $ move ! (1 ∷ 0 ∷ []) $
-        calls-some ! fm 0 [] (output-within.signature .params) (output-within.ended .kept) u64-p (output-within.clauses 𝓤 H A mem run) known-output-within tt tt tt (c .second, (n₄, tt)) (u64-p .val (c .second) ∷ [], (u64-p .val n₄ ∷ [], tt)) tt (λ r ws-5. (r ≤ n₄)) (id⊢ 𝓤 _) (λ r ws-5. fact-mono 𝓤 (r ≤ n₄) ((r ≤ n₄)) (λ e. e)) (λ _. (and-then ! (load ! (from ! (fld ! refl (stop !))) (look-in ! 61 (sub ! 2 refl (whole !)))) (and-then ! (load ! (from ! (stop !)) (look ! 41 refl)) (no-more !)))) (λ r-5 ws-5 said-5 is-5.
-        knows ! ((r-5 ≤ n₄)) (said-5) (λ fact-5.
+        calls-some ! fm 0 [] (output-within.signature .params) (output-within.ended .kept) u64-p (output-within.clauses 𝓤 H A mem run) known-output-within tt tt tt (c .second, (n₅, tt)) (u64-p .val (c .second) ∷ [], (u64-p .val n₅ ∷ [], tt)) tt (λ r ws-5. (r ≤ n₅)) (id⊢ 𝓤 _) (λ r ws-5. fact-mono 𝓤 (r ≤ n₅) ((r ≤ n₅)) (λ e. e)) (λ _. (and-then ! (load ! (from ! (fld ! refl (stop !))) (look-in ! 67 (sub ! 2 refl (whole !)))) (and-then ! (load ! (from ! (stop !)) (look ! 47 refl)) (no-more !)))) (λ r-5 ws-5 said-5 is-5.
+        knows ! ((r-5 ≤ n₅)) (said-5) (λ fact-5.
         drop ! $ drop ! $
-        land ! (from ! (stop !)) (init ! 58 refl (u64-p .typed 𝓤 H A W r-5 is-5)) $
-        assigns ! (of-opd ! (load ! (from ! (fld ! refl (stop !))) (look-in ! 66 (sub ! 1 refl (whole !))))) (from ! (stop !)) (store ! 40 refl (u64-p .typed 𝓤 H A W n₅ ((refl, room₅ .0)))) $
+        land ! (from ! (stop !)) (init ! 64 refl (u64-p .typed 𝓤 H A W r-5 is-5)) $
+        assigns ! (of-opd ! (load ! (from ! (fld ! refl (stop !))) (look-in ! 72 (sub ! 1 refl (whole !))))) (from ! (stop !)) (store ! 46 refl (u64-p .typed 𝓤 H A W n₆ ((refl, room₆ .0)))) $
         -- 7: replay::words::least
         nothing ! $
         use1 W (raw (toks 𝓤 A 0 (tt) (tt))) (id⊢ 𝓤 _) $ nothing ! $
-        owned ! (u64-p .row) (Is (u64-p .row)) (u64-p .makes 𝓤 H A W) n₅ (u64-p .val n₅ ∷ []) ((refl, room₅ .0)) $ fjoin ! $
+        owned ! (u64-p .row) (Is (u64-p .row)) (u64-p .makes 𝓤 H A W) n₆ (u64-p .val n₆ ∷ []) ((refl, room₆ .0)) $ fjoin ! $
         owned ! (u64-p .row) (Is (u64-p .row)) (u64-p .makes 𝓤 H A W) (c .count) (u64-p .val (c .count) ∷ []) (LL.owed Command-t.the-type Command-l.the-laws c _ c-is .1 .1 .1 .0) $ fjoin ! $ move ! (1 ∷ 0 ∷ []) $
-        calls-some ! fm 0 [] (words-least.signature .params) (words-least.ended .kept) u64-p (words-least.clauses 𝓤 H A mem run) known-words-least tt tt tt (c .count, (n₅, tt)) (u64-p .val (c .count) ∷ [], (u64-p .val n₅ ∷ [], tt)) tt (λ r ws-7. (r ≤ (c .count)) × (r ≤ n₅)) (id⊢ 𝓤 _) (λ r ws-7. fact-mono 𝓤 ((r ≤ (c .count)) × (r ≤ n₅)) ((r ≤ (c .count)) × (r ≤ n₅)) (λ e. (e .0, e .1))) (λ _. (and-then ! (load ! (from ! (fld ! refl (stop !))) (look-in ! 61 (sub ! 3 refl (whole !)))) (and-then ! (load ! (from ! (stop !)) (look ! 41 refl)) (no-more !)))) (λ r-7 ws-7 said-7 is-7.
-        knows ! ((r-7 ≤ (c .count)) × (r-7 ≤ n₅)) ((said-7 .0, said-7 .1)) (λ fact-7.
+        calls-some ! fm 0 [] (words-least.signature .params) (words-least.ended .kept) u64-p (words-least.clauses 𝓤 H A mem run) known-words-least tt tt tt (c .count, (n₆, tt)) (u64-p .val (c .count) ∷ [], (u64-p .val n₆ ∷ [], tt)) tt (λ r ws-7. (r ≤ (c .count)) × (r ≤ n₆)) (id⊢ 𝓤 _) (λ r ws-7. fact-mono 𝓤 ((r ≤ (c .count)) × (r ≤ n₆)) ((r ≤ (c .count)) × (r ≤ n₆)) (λ e. (e .0, e .1))) (λ _. (and-then ! (load ! (from ! (fld ! refl (stop !))) (look-in ! 67 (sub ! 3 refl (whole !)))) (and-then ! (load ! (from ! (stop !)) (look ! 47 refl)) (no-more !)))) (λ r-7 ws-7 said-7 is-7.
+        knows ! ((r-7 ≤ (c .count)) × (r-7 ≤ n₆)) ((said-7 .0, said-7 .1)) (λ fact-7.
         drop ! $ drop ! $
-        land ! (from ! (stop !)) (init ! 56 refl (u64-p .typed 𝓤 H A W r-7 is-7)) $
-        assigns ! (of-opd ! (load ! (from ! (fld ! refl (stop !))) (look-in ! 62 (sub ! 1 refl (whole !))))) (from ! (stop !)) (init ! 54 refl (Agent-p .typed 𝓤 H A W (host .agent) (LL.owed Host-t.the-type Host-l.the-laws host _ host-is .1 .0))) $
-        assigns ! (agg ! (and-then ! (load ! (from ! (fld ! refl (stop !))) (look-in ! 60 (sub ! 1 refl (whole !)))) (no-more !))) (from ! (stop !)) (init ! 52 refl (Given′-p .typed 𝓤 H A W (Given′-of (c .first)) (LL.owes Given′-t.the-type Given′-l.the-laws (Given′-of (c .first)) (LL.owed Command-t.the-type Command-l.the-laws c _ c-is .1 .0, tt)))) $
-        assigns ! (addr ! (from ! (fld ! refl (hop ! (look-in ! 74 (sub ! 0 refl (whole !))) (stop !))))) (from ! (stop !)) (init ! 38 refl (tt, tt)) $
-        assigns ! (agg ! (and-then ! (load ! (from ! (stop !)) (look ! 38 refl)) (and-then ! (load ! (from ! (fld ! refl (stop !))) (look-in ! 74 (sub ! 1 refl (whole !)))) (no-more !)))) (from ! (stop !)) (init ! 36 refl (tt, (tt, (record { fits = room₁ .0 }, tt)))) $
-        assigns ! (addr ! (from ! (fld ! refl (hop ! (look-in ! 72 (sub ! 0 refl (whole !))) (stop !))))) (from ! (stop !)) (init ! 34 refl (tt, tt)) $
-        assigns ! (agg ! (and-then ! (load ! (from ! (stop !)) (look ! 34 refl)) (and-then ! (load ! (from ! (fld ! refl (stop !))) (look-in ! 72 (sub ! 1 refl (whole !)))) (no-more !)))) (from ! (stop !)) (init ! 32 refl (tt, (tt, (record { fits = room₂ .0 }, tt)))) $
-        assigns ! (addr ! (from ! (fld ! refl (hop ! (look-in ! 70 (sub ! 0 refl (whole !))) (stop !))))) (from ! (stop !)) (init ! 30 refl (tt, tt)) $
-        assigns ! (agg ! (and-then ! (load ! (from ! (stop !)) (look ! 30 refl)) (and-then ! (load ! (from ! (fld ! refl (stop !))) (look-in ! 70 (sub ! 1 refl (whole !)))) (no-more !)))) (from ! (stop !)) (init ! 28 refl (tt, (tt, (record { fits = room₃ .0 }, tt)))) $
-        assigns ! (addr ! (from ! (fld ! refl (hop ! (look-in ! 68 (sub ! 0 refl (whole !))) (stop !))))) (from ! (stop !)) (init ! 26 refl (tt, tt)) $
-        assigns ! (agg ! (and-then ! (load ! (from ! (stop !)) (look ! 26 refl)) (and-then ! (load ! (from ! (stop !)) (look ! 58 refl)) (no-more !)))) (from ! (stop !)) (init ! 24 refl (tt, (tt, (record { fits = is-5 .1 }, tt)))) $
-        assigns ! (addr ! (from ! (fld ! refl (hop ! (look-in ! 66 (sub ! 0 refl (whole !))) (stop !))))) (from ! (stop !)) (init ! 22 refl (tt, tt)) $
-        assigns ! (agg ! (and-then ! (load ! (from ! (stop !)) (look ! 22 refl)) (and-then ! (load ! (from ! (stop !)) (look ! 56 refl)) (no-more !)))) (from ! (stop !)) (init ! 20 refl (tt, (tt, (record { fits = is-7 .1 }, tt)))) $
-        knows ! (0 + r-5 ≤ length (ws-3 .0)) ((omega (arith, ltb-true, ltb-false, leb-true, leb-false, eqb-true, eqb-false, fact-5, fact-7 .1, len-3-out))) (λ part-20-out.
-        knows ! (length (midOf 0 r-5 (ws-3 .0)) ≡ r-5) (part-len 0 r-5 (ws-3 .0) part-20-out) (λ ppart-20-out.
-        knows ! (0 + r-7 ≤ length line) ((omega (arith, ltb-true, ltb-false, leb-true, leb-false, eqb-true, eqb-false, fact-5, fact-7 .1, len-3-out))) (λ part-20-line.
-        knows ! (length (midOf 0 r-7 line) ≡ r-7) (part-len 0 r-7 line part-20-line) (λ ppart-20-line.
-        -- 20: agent::agent::process_incoming
+        land ! (from ! (stop !)) (init ! 62 refl (u64-p .typed 𝓤 H A W r-7 is-7)) $
+        assigns ! (of-opd ! (load ! (from ! (fld ! refl (stop !))) (look-in ! 68 (sub ! 1 refl (whole !))))) (from ! (stop !)) (init ! 60 refl (Agent-p .typed 𝓤 H A W (host .agent) (LL.owed Host-t.the-type Host-l.the-laws host _ host-is .1 .0))) $
+        assigns ! (agg ! (and-then ! (load ! (from ! (fld ! refl (stop !))) (look-in ! 66 (sub ! 1 refl (whole !)))) (no-more !))) (from ! (stop !)) (init ! 58 refl (Given′-p .typed 𝓤 H A W (Given′-of (c .first)) (LL.owes Given′-t.the-type Given′-l.the-laws (Given′-of (c .first)) (LL.owed Command-t.the-type Command-l.the-laws c _ c-is .1 .0, tt)))) $
+        assigns ! (addr ! (from ! (fld ! refl (hop ! (look-in ! 82 (sub ! 0 refl (whole !))) (stop !))))) (from ! (stop !)) (init ! 44 refl (tt, tt)) $
+        assigns ! (agg ! (and-then ! (load ! (from ! (stop !)) (look ! 44 refl)) (and-then ! (load ! (from ! (fld ! refl (stop !))) (look-in ! 82 (sub ! 1 refl (whole !)))) (no-more !)))) (from ! (stop !)) (init ! 42 refl (tt, (tt, (record { fits = room₁ .0 }, tt)))) $
+        assigns ! (addr ! (from ! (fld ! refl (hop ! (look-in ! 80 (sub ! 0 refl (whole !))) (stop !))))) (from ! (stop !)) (init ! 40 refl (tt, tt)) $
+        assigns ! (agg ! (and-then ! (load ! (from ! (stop !)) (look ! 40 refl)) (and-then ! (load ! (from ! (fld ! refl (stop !))) (look-in ! 80 (sub ! 1 refl (whole !)))) (no-more !)))) (from ! (stop !)) (init ! 38 refl (tt, (tt, (record { fits = room₂ .0 }, tt)))) $
+        assigns ! (addr ! (from ! (fld ! refl (hop ! (look-in ! 78 (sub ! 0 refl (whole !))) (stop !))))) (from ! (stop !)) (init ! 36 refl (tt, tt)) $
+        assigns ! (agg ! (and-then ! (load ! (from ! (stop !)) (look ! 36 refl)) (and-then ! (load ! (from ! (fld ! refl (stop !))) (look-in ! 78 (sub ! 1 refl (whole !)))) (no-more !)))) (from ! (stop !)) (init ! 34 refl (tt, (tt, (record { fits = room₃ .0 }, tt)))) $
+        assigns ! (addr ! (from ! (fld ! refl (hop ! (look-in ! 76 (sub ! 0 refl (whole !))) (stop !))))) (from ! (stop !)) (init ! 32 refl (tt, tt)) $
+        assigns ! (agg ! (and-then ! (load ! (from ! (stop !)) (look ! 32 refl)) (and-then ! (load ! (from ! (fld ! refl (stop !))) (look-in ! 76 (sub ! 1 refl (whole !)))) (no-more !)))) (from ! (stop !)) (init ! 30 refl (tt, (tt, (record { fits = room₄ .0 }, tt)))) $
+        assigns ! (addr ! (from ! (fld ! refl (hop ! (look-in ! 74 (sub ! 0 refl (whole !))) (stop !))))) (from ! (stop !)) (init ! 28 refl (tt, tt)) $
+        assigns ! (agg ! (and-then ! (load ! (from ! (stop !)) (look ! 28 refl)) (and-then ! (load ! (from ! (stop !)) (look ! 64 refl)) (no-more !)))) (from ! (stop !)) (init ! 26 refl (tt, (tt, (record { fits = is-5 .1 }, tt)))) $
+        assigns ! (addr ! (from ! (fld ! refl (hop ! (look-in ! 72 (sub ! 0 refl (whole !))) (stop !))))) (from ! (stop !)) (init ! 24 refl (tt, tt)) $
+        assigns ! (agg ! (and-then ! (load ! (from ! (stop !)) (look ! 24 refl)) (and-then ! (load ! (from ! (stop !)) (look ! 62 refl)) (no-more !)))) (from ! (stop !)) (init ! 22 refl (tt, (tt, (record { fits = is-7 .1 }, tt)))) $
+        knows ! (0 + r-5 ≤ length (ws-3 .0)) ((omega (arith, ltb-true, ltb-false, leb-true, leb-false, eqb-true, eqb-false, fact-5, fact-7 .1, len-3-out))) (λ part-22-out.
+        knows ! (length (midOf 0 r-5 (ws-3 .0)) ≡ r-5) (part-len 0 r-5 (ws-3 .0) part-22-out) (λ ppart-22-out.
+        knows ! (0 + r-7 ≤ length line) ((omega (arith, ltb-true, ltb-false, leb-true, leb-false, eqb-true, eqb-false, fact-5, fact-7 .1, len-3-out))) (λ part-22-line.
+        knows ! (length (midOf 0 r-7 line) ≡ r-7) (part-len 0 r-7 line part-22-line) (λ ppart-22-line.
+        -- 22: agent::agent::process_incoming
         move ! (2 ∷ 3 ∷ []) $
-        lends-mut ! tt (Array u64 5) b₁ o₁ sessions n₁ (refl) (λ ν-20-sessions δ-20-sessions.
+        lends-mut ! tt (Array u64 6) b₁ o₁ sessions n₁ (refl) (λ ν-22-sessions δ-22-sessions.
         move ! (5 ∷ 6 ∷ []) $
-        lends-mut ! tt (Array u16 35) b₂ o₂ streams n₂ (refl) (λ ν-20-streams δ-20-streams.
+        lends-mut ! tt (Array u16 35) b₂ o₂ streams n₂ (refl) (λ ν-22-streams δ-22-streams.
         move ! (8 ∷ 9 ∷ []) $
-        lends-mut ! tt Object-t.the-row b₃ o₃ objects n₃ (refl) (λ ν-20-objects δ-20-objects.
-        move ! (9 ∷ 10 ∷ []) $
-        lends-part ! tt u8 b₄ o₄ (ws-3 .0) n₄ (len-3-out) 0 r-5 part-20-out (λ ν-20-out δ-20-out.
+        lends-mut ! tt Object-t.the-row b₃ o₃ objects n₃ (refl) (λ ν-22-objects δ-22-objects.
+        move ! (11 ∷ 12 ∷ []) $
+        lends-mut ! tt u8 b₄ o₄ held n₄ (refl) (λ ν-22-held δ-22-held.
         move ! (12 ∷ 13 ∷ []) $
-        copies-shr ! u8 b₅ o₅ line n₅ $ move ! (1 ∷ 0 ∷ []) $
-        parts-shr ! tt u8-p b₅ o₅ line n₅ (refl) 0 r-7 part-20-line (λ δp-20-line.
-        nothing ! $ move ! (2 ∷ 0 ∷ []) $ join ! $ move ! (3 ∷ 0 ∷ []) $ join ! $ move ! (5 ∷ 0 ∷ []) $ join ! $ move ! (7 ∷ 0 ∷ []) $ join ! $ move ! (9 ∷ 0 ∷ []) $ join ! $
-        use1 W (raw (toks 𝓤 A 5 (((ν-20-sessions ∷ []), ((ν-20-streams ∷ []), ((ν-20-objects ∷ []), ((ν-20-out ∷ []), (κ₅, tt)))))) ((fullShare, (fullShare, (fullShare, (fullShare, (q₅, tt)))))))) (id⊢ 𝓤 _) $ nothing ! $
+        lends-part ! tt u8 b₅ o₅ (ws-3 .0) n₅ (len-3-out) 0 r-5 part-22-out (λ ν-22-out δ-22-out.
+        move ! (15 ∷ 16 ∷ []) $
+        copies-shr ! u8 b₆ o₆ line n₆ $ move ! (1 ∷ 0 ∷ []) $
+        parts-shr ! tt u8-p b₆ o₆ line n₆ (refl) 0 r-7 part-22-line (λ δp-22-line.
+        nothing ! $ move ! (2 ∷ 0 ∷ []) $ join ! $ move ! (3 ∷ 0 ∷ []) $ join ! $ move ! (5 ∷ 0 ∷ []) $ join ! $ move ! (7 ∷ 0 ∷ []) $ join ! $ move ! (9 ∷ 0 ∷ []) $ join ! $ move ! (11 ∷ 0 ∷ []) $ join ! $
+        use1 W (raw (toks 𝓤 A 6 (((ν-22-sessions ∷ []), ((ν-22-streams ∷ []), ((ν-22-objects ∷ []), ((ν-22-held ∷ []), ((ν-22-out ∷ []), (κ₆, tt))))))) ((fullShare, (fullShare, (fullShare, (fullShare, (fullShare, (q₆, tt))))))))) (id⊢ 𝓤 _) $ nothing ! $
         owned ! (Given′-p .row) (Is (Given′-p .row)) (Given′-p .makes 𝓤 H A W) (Given′-of (c .first)) (Given′-p .val (Given′-of (c .first)) ∷ []) (LL.owes Given′-t.the-type Given′-l.the-laws (Given′-of (c .first)) (LL.owed Command-t.the-type Command-l.the-laws c _ c-is .1 .0, tt)) $ fjoin ! $
-        owned ! (Agent-p .row) (Is (Agent-p .row)) (Agent-p .makes 𝓤 H A W) (host .agent) (Agent-p .val (host .agent) ∷ []) (LL.owed Host-t.the-type Host-l.the-laws host _ host-is .1 .0) $ fjoin ! $ move ! (2 ∷ 0 ∷ []) $ fjoin ! $ move ! (3 ∷ 0 ∷ []) $ fjoin ! $ move ! (4 ∷ 0 ∷ []) $ fjoin ! $ move ! (5 ∷ 0 ∷ []) $ fjoin ! $ move ! (6 ∷ 0 ∷ []) $ fjoin ! $ move ! (1 ∷ 0 ∷ []) $
-        calls-any ! fm 5 [] (agent-process-incoming.signature .params) (agent-process-incoming.ended .kept) Processed-p (agent-process-incoming.clauses 𝓤 H A mem run) known-agent-process-incoming ((ν-20-sessions ∷ []), ((ν-20-streams ∷ []), ((ν-20-objects ∷ []), ((ν-20-out ∷ []), (κ₅, tt))))) (fullShare, (fullShare, (fullShare, (fullShare, (q₅, tt))))) tt (at-list b₁ o₁ δ-20-sessions sessions, (at-list b₂ o₂ δ-20-streams streams, (at-list b₃ o₃ δ-20-objects objects, (at-list b₄ (place 1 o₄ 0) δ-20-out (midOf 0 r-5 (ws-3 .0)), (at-list b₅ (place 1 o₅ 0) δp-20-line (midOf 0 r-7 line), (host .agent, (Given′-of (c .first), tt))))))) (sliceVal (b₁, o₁) n₁ ∷ [], (sliceVal (b₂, o₂) n₂ ∷ [], (sliceVal (b₃, o₃) n₃ ∷ [], (sliceVal (b₄, (place 1 o₄ 0)) r-5 ∷ [], (sliceVal (b₅, (place 1 o₅ 0)) r-7 ∷ [], (Agent-p .val (host .agent) ∷ [], (Given′-p .val (Given′-of (c .first)) ∷ [], tt))))))) tt (incomingOf (host .agent) (lent (sessions) (streams) (objects)) ((midOf 0 r-5 (ws-3 .0))) ((midOf 0 r-7 line)) ((Given′-of (c .first)) .time) .processed) (λ ws-20. (ws-20 .0 ≡ incomingOf (host .agent) (lent (sessions) (streams) (objects)) ((midOf 0 r-5 (ws-3 .0))) ((midOf 0 r-7 line)) ((Given′-of (c .first)) .time) .tables .sessions) × (ws-20 .1 .0 ≡ incomingOf (host .agent) (lent (sessions) (streams) (objects)) ((midOf 0 r-5 (ws-3 .0))) ((midOf 0 r-7 line)) ((Given′-of (c .first)) .time) .tables .streams) × (ws-20 .1 .1 .0 ≡ incomingOf (host .agent) (lent (sessions) (streams) (objects)) ((midOf 0 r-5 (ws-3 .0))) ((midOf 0 r-7 line)) ((Given′-of (c .first)) .time) .tables .objects) × (ws-20 .1 .1 .1 .0 ≡ incomingOf (host .agent) (lent (sessions) (streams) (objects)) ((midOf 0 r-5 (ws-3 .0))) ((midOf 0 r-7 line)) ((Given′-of (c .first)) .time) .out)) (id⊢ 𝓤 _) (λ r ws-20. fact-mono 𝓤 ((r ≡ incomingOf (host .agent) (lent (sessions) (streams) (objects)) ((midOf 0 r-5 (ws-3 .0))) ((midOf 0 r-7 line)) ((Given′-of (c .first)) .time) .processed) × ((ws-20 .0) ≡ incomingOf (host .agent) (lent (sessions) (streams) (objects)) ((midOf 0 r-5 (ws-3 .0))) ((midOf 0 r-7 line)) ((Given′-of (c .first)) .time) .tables .sessions) × ((ws-20 .1 .0) ≡ incomingOf (host .agent) (lent (sessions) (streams) (objects)) ((midOf 0 r-5 (ws-3 .0))) ((midOf 0 r-7 line)) ((Given′-of (c .first)) .time) .tables .streams) × ((ws-20 .1 .1 .0) ≡ incomingOf (host .agent) (lent (sessions) (streams) (objects)) ((midOf 0 r-5 (ws-3 .0))) ((midOf 0 r-7 line)) ((Given′-of (c .first)) .time) .tables .objects) × ((ws-20 .1 .1 .1 .0) ≡ incomingOf (host .agent) (lent (sessions) (streams) (objects)) ((midOf 0 r-5 (ws-3 .0))) ((midOf 0 r-7 line)) ((Given′-of (c .first)) .time) .out)) ((r ≡ (incomingOf (host .agent) (lent (sessions) (streams) (objects)) ((midOf 0 r-5 (ws-3 .0))) ((midOf 0 r-7 line)) ((Given′-of (c .first)) .time) .processed)) × ((ws-20 .0 ≡ incomingOf (host .agent) (lent (sessions) (streams) (objects)) ((midOf 0 r-5 (ws-3 .0))) ((midOf 0 r-7 line)) ((Given′-of (c .first)) .time) .tables .sessions) × (ws-20 .1 .0 ≡ incomingOf (host .agent) (lent (sessions) (streams) (objects)) ((midOf 0 r-5 (ws-3 .0))) ((midOf 0 r-7 line)) ((Given′-of (c .first)) .time) .tables .streams) × (ws-20 .1 .1 .0 ≡ incomingOf (host .agent) (lent (sessions) (streams) (objects)) ((midOf 0 r-5 (ws-3 .0))) ((midOf 0 r-7 line)) ((Given′-of (c .first)) .time) .tables .objects) × (ws-20 .1 .1 .1 .0 ≡ incomingOf (host .agent) (lent (sessions) (streams) (objects)) ((midOf 0 r-5 (ws-3 .0))) ((midOf 0 r-7 line)) ((Given′-of (c .first)) .time) .out))) (λ e. (e .0, (e .1, e .2, e .3, e .4)))) (λ _. (and-then ! (load ! (from ! (stop !)) (look ! 32 refl)) (and-then ! (load ! (from ! (stop !)) (look ! 28 refl)) (and-then ! (load ! (from ! (stop !)) (look ! 24 refl)) (and-then ! (load ! (from ! (stop !)) (look ! 20 refl)) (and-then ! (load ! (from ! (stop !)) (look ! 16 refl)) (and-then ! (load ! (from ! (stop !)) (look ! 50 refl)) (and-then ! (load ! (from ! (stop !)) (look ! 48 refl)) (no-more !))))))))) (λ ws-20 said-20 is-20.
-        use1 W ((‵ (flft (ν-20-sessions ∷ []) fullShare) ⊛ (‵ (flft (ν-20-streams ∷ []) fullShare) ⊛ (‵ (flft (ν-20-objects ∷ []) fullShare) ⊛ (‵ (flft (ν-20-out ∷ []) fullShare) ⊛ (‵ (flft κ₅ q₅) ⊛ ‵ ftrue)))))) (id⊢ 𝓤 _) $ split ! $ move ! (1 ∷ []) $ split ! $ move ! (1 ∷ []) $ split ! $ move ! (1 ∷ []) $ split ! $ move ! (1 ∷ []) $ split ! $ move ! (6 ∷ []) $ fsplit ! $ fsplit ! $ move ! (1 ∷ []) $
-        feqL ! (λ wlen-20-0.
+        owned ! (Agent-p .row) (Is (Agent-p .row)) (Agent-p .makes 𝓤 H A W) (host .agent) (Agent-p .val (host .agent) ∷ []) (LL.owed Host-t.the-type Host-l.the-laws host _ host-is .1 .0) $ fjoin ! $ move ! (2 ∷ 0 ∷ []) $ fjoin ! $ move ! (3 ∷ 0 ∷ []) $ fjoin ! $ move ! (4 ∷ 0 ∷ []) $ fjoin ! $ move ! (5 ∷ 0 ∷ []) $ fjoin ! $ move ! (6 ∷ 0 ∷ []) $ fjoin ! $ move ! (7 ∷ 0 ∷ []) $ fjoin ! $ move ! (1 ∷ 0 ∷ []) $
+        calls-any ! fm 6 [] (agent-process-incoming.signature .params) (agent-process-incoming.ended .kept) Processed-p (agent-process-incoming.clauses 𝓤 H A mem run) known-agent-process-incoming ((ν-22-sessions ∷ []), ((ν-22-streams ∷ []), ((ν-22-objects ∷ []), ((ν-22-held ∷ []), ((ν-22-out ∷ []), (κ₆, tt)))))) (fullShare, (fullShare, (fullShare, (fullShare, (fullShare, (q₆, tt)))))) tt (at-list b₁ o₁ δ-22-sessions sessions, (at-list b₂ o₂ δ-22-streams streams, (at-list b₃ o₃ δ-22-objects objects, (at-list b₄ o₄ δ-22-held held, (at-list b₅ (place 1 o₅ 0) δ-22-out (midOf 0 r-5 (ws-3 .0)), (at-list b₆ (place 1 o₆ 0) δp-22-line (midOf 0 r-7 line), (host .agent, (Given′-of (c .first), tt)))))))) (sliceVal (b₁, o₁) n₁ ∷ [], (sliceVal (b₂, o₂) n₂ ∷ [], (sliceVal (b₃, o₃) n₃ ∷ [], (sliceVal (b₄, o₄) n₄ ∷ [], (sliceVal (b₅, (place 1 o₅ 0)) r-5 ∷ [], (sliceVal (b₆, (place 1 o₆ 0)) r-7 ∷ [], (Agent-p .val (host .agent) ∷ [], (Given′-p .val (Given′-of (c .first)) ∷ [], tt)))))))) tt (incomingOf (host .agent) (lent (sessions) (streams) (objects) (held)) ((midOf 0 r-5 (ws-3 .0))) ((midOf 0 r-7 line)) ((Given′-of (c .first)) .time) .processed) (λ ws-22. (ws-22 .0 ≡ incomingOf (host .agent) (lent (sessions) (streams) (objects) (held)) ((midOf 0 r-5 (ws-3 .0))) ((midOf 0 r-7 line)) ((Given′-of (c .first)) .time) .tables .sessions) × (ws-22 .1 .0 ≡ incomingOf (host .agent) (lent (sessions) (streams) (objects) (held)) ((midOf 0 r-5 (ws-3 .0))) ((midOf 0 r-7 line)) ((Given′-of (c .first)) .time) .tables .streams) × (ws-22 .1 .1 .0 ≡ incomingOf (host .agent) (lent (sessions) (streams) (objects) (held)) ((midOf 0 r-5 (ws-3 .0))) ((midOf 0 r-7 line)) ((Given′-of (c .first)) .time) .tables .objects) × (ws-22 .1 .1 .1 .0 ≡ incomingOf (host .agent) (lent (sessions) (streams) (objects) (held)) ((midOf 0 r-5 (ws-3 .0))) ((midOf 0 r-7 line)) ((Given′-of (c .first)) .time) .tables .held) × (ws-22 .1 .1 .1 .1 .0 ≡ incomingOf (host .agent) (lent (sessions) (streams) (objects) (held)) ((midOf 0 r-5 (ws-3 .0))) ((midOf 0 r-7 line)) ((Given′-of (c .first)) .time) .out)) (id⊢ 𝓤 _) (λ r ws-22. fact-mono 𝓤 ((r ≡ incomingOf (host .agent) (lent (sessions) (streams) (objects) (held)) ((midOf 0 r-5 (ws-3 .0))) ((midOf 0 r-7 line)) ((Given′-of (c .first)) .time) .processed) × ((ws-22 .0) ≡ incomingOf (host .agent) (lent (sessions) (streams) (objects) (held)) ((midOf 0 r-5 (ws-3 .0))) ((midOf 0 r-7 line)) ((Given′-of (c .first)) .time) .tables .sessions) × ((ws-22 .1 .0) ≡ incomingOf (host .agent) (lent (sessions) (streams) (objects) (held)) ((midOf 0 r-5 (ws-3 .0))) ((midOf 0 r-7 line)) ((Given′-of (c .first)) .time) .tables .streams) × ((ws-22 .1 .1 .0) ≡ incomingOf (host .agent) (lent (sessions) (streams) (objects) (held)) ((midOf 0 r-5 (ws-3 .0))) ((midOf 0 r-7 line)) ((Given′-of (c .first)) .time) .tables .objects) × ((ws-22 .1 .1 .1 .0) ≡ incomingOf (host .agent) (lent (sessions) (streams) (objects) (held)) ((midOf 0 r-5 (ws-3 .0))) ((midOf 0 r-7 line)) ((Given′-of (c .first)) .time) .tables .held) × ((ws-22 .1 .1 .1 .1 .0) ≡ incomingOf (host .agent) (lent (sessions) (streams) (objects) (held)) ((midOf 0 r-5 (ws-3 .0))) ((midOf 0 r-7 line)) ((Given′-of (c .first)) .time) .out)) ((r ≡ (incomingOf (host .agent) (lent (sessions) (streams) (objects) (held)) ((midOf 0 r-5 (ws-3 .0))) ((midOf 0 r-7 line)) ((Given′-of (c .first)) .time) .processed)) × ((ws-22 .0 ≡ incomingOf (host .agent) (lent (sessions) (streams) (objects) (held)) ((midOf 0 r-5 (ws-3 .0))) ((midOf 0 r-7 line)) ((Given′-of (c .first)) .time) .tables .sessions) × (ws-22 .1 .0 ≡ incomingOf (host .agent) (lent (sessions) (streams) (objects) (held)) ((midOf 0 r-5 (ws-3 .0))) ((midOf 0 r-7 line)) ((Given′-of (c .first)) .time) .tables .streams) × (ws-22 .1 .1 .0 ≡ incomingOf (host .agent) (lent (sessions) (streams) (objects) (held)) ((midOf 0 r-5 (ws-3 .0))) ((midOf 0 r-7 line)) ((Given′-of (c .first)) .time) .tables .objects) × (ws-22 .1 .1 .1 .0 ≡ incomingOf (host .agent) (lent (sessions) (streams) (objects) (held)) ((midOf 0 r-5 (ws-3 .0))) ((midOf 0 r-7 line)) ((Given′-of (c .first)) .time) .tables .held) × (ws-22 .1 .1 .1 .1 .0 ≡ incomingOf (host .agent) (lent (sessions) (streams) (objects) (held)) ((midOf 0 r-5 (ws-3 .0))) ((midOf 0 r-7 line)) ((Given′-of (c .first)) .time) .out))) (λ e. (e .0, (e .1, e .2, e .3, e .4, e .5)))) (λ _. (and-then ! (load ! (from ! (stop !)) (look ! 37 refl)) (and-then ! (load ! (from ! (stop !)) (look ! 33 refl)) (and-then ! (load ! (from ! (stop !)) (look ! 29 refl)) (and-then ! (load ! (from ! (stop !)) (look ! 25 refl)) (and-then ! (load ! (from ! (stop !)) (look ! 21 refl)) (and-then ! (load ! (from ! (stop !)) (look ! 17 refl)) (and-then ! (load ! (from ! (stop !)) (look ! 55 refl)) (and-then ! (load ! (from ! (stop !)) (look ! 53 refl)) (no-more !)))))))))) (λ ws-22 said-22 is-22.
+        use1 W ((‵ (flft (ν-22-sessions ∷ []) fullShare) ⊛ (‵ (flft (ν-22-streams ∷ []) fullShare) ⊛ (‵ (flft (ν-22-objects ∷ []) fullShare) ⊛ (‵ (flft (ν-22-held ∷ []) fullShare) ⊛ (‵ (flft (ν-22-out ∷ []) fullShare) ⊛ (‵ (flft κ₆ q₆) ⊛ ‵ ftrue))))))) (id⊢ 𝓤 _) $ split ! $ move ! (1 ∷ []) $ split ! $ move ! (1 ∷ []) $ split ! $ move ! (1 ∷ []) $ split ! $ move ! (1 ∷ []) $ split ! $ move ! (1 ∷ []) $ split ! $ move ! (7 ∷ []) $ fsplit ! $ fsplit ! $ move ! (1 ∷ []) $
+        feqL ! (λ wlen-22-0.
         move ! (1 ∷ []) $ fsplit ! $ fsplit ! $ move ! (1 ∷ []) $
-        feqL ! (λ wlen-20-1.
+        feqL ! (λ wlen-22-1.
         move ! (1 ∷ []) $ fsplit ! $ fsplit ! $ move ! (1 ∷ []) $
-        feqL ! (λ wlen-20-2.
+        feqL ! (λ wlen-22-2.
         move ! (1 ∷ []) $ fsplit ! $ fsplit ! $ move ! (1 ∷ []) $
-        feqL ! (λ wlen-20-3.
-        move ! (1 ∷ []) $ fsplit ! $ move ! (11 ∷ 16 ∷ 5 ∷ []) $
-        backs-mut ! tt (Array u64 5) b₁ o₁ sessions n₁ (refl) room₁ ν-20-sessions δ-20-sessions (ws-20 .0) (incomingOf (host .agent) (lent (sessions) (streams) (objects)) ((midOf 0 r-5 (ws-3 .0))) ((midOf 0 r-7 line)) ((Given′-of (c .first)) .time) .tables .sessions) wlen-20-0 (said-20 .0) (λ len-20-sessions.
-        move ! (11 ∷ 15 ∷ 6 ∷ []) $
-        backs-mut ! tt (Array u16 35) b₂ o₂ streams n₂ (refl) room₂ ν-20-streams δ-20-streams (ws-20 .1 .0) (incomingOf (host .agent) (lent (sessions) (streams) (objects)) ((midOf 0 r-5 (ws-3 .0))) ((midOf 0 r-7 line)) ((Given′-of (c .first)) .time) .tables .streams) wlen-20-1 (said-20 .1) (λ len-20-streams.
-        move ! (11 ∷ 14 ∷ 7 ∷ []) $
-        backs-mut ! tt Object-t.the-row b₃ o₃ objects n₃ (refl) room₃ ν-20-objects δ-20-objects (ws-20 .1 .1 .0) (incomingOf (host .agent) (lent (sessions) (streams) (objects)) ((midOf 0 r-5 (ws-3 .0))) ((midOf 0 r-7 line)) ((Given′-of (c .first)) .time) .tables .objects) wlen-20-2 (said-20 .2) (λ len-20-objects.
-        move ! (11 ∷ 13 ∷ 8 ∷ []) $
-        backs-part ! tt u8 b₄ o₄ (ws-3 .0) n₄ (len-3-out) 0 r-5 ν-20-out δ-20-out (ws-20 .1 .1 .1 .0) (incomingOf (host .agent) (lent (sessions) (streams) (objects)) ((midOf 0 r-5 (ws-3 .0))) ((midOf 0 r-7 line)) ((Given′-of (c .first)) .time) .out) (said-20 .3) (λ len-20-out.
-        move ! (8 ∷ []) $ drop ! $ move ! (8 ∷ []) $ drop ! $ move ! (9 ∷ []) $ drop ! $
-        land ! (from ! (stop !)) (init ! 50 refl (Processed-p .typed 𝓤 H A W (incomingOf (host .agent) (lent (sessions) (streams) (objects)) ((midOf 0 r-5 (ws-3 .0))) ((midOf 0 r-7 line)) ((Given′-of (c .first)) .time) .processed) is-20)) $
-        assigns ! (addr ! (from ! (fld ! refl (hop ! (look-in ! 68 (sub ! 0 refl (whole !))) (stop !))))) (from ! (stop !)) (init ! 18 refl (tt, tt)) $
-        assigns ! (agg ! (and-then ! (load ! (from ! (stop !)) (look ! 18 refl)) (and-then ! (load ! (from ! (fld ! refl (stop !))) (look-in ! 68 (sub ! 1 refl (whole !)))) (no-more !)))) (from ! (stop !)) (init ! 16 refl (tt, (tt, (record { fits = room₄ .0 }, tt)))) $
-        -- 23: replay::host::say
-        lends-view ! tt u8 b₄ o₄ (putMid 0 r-5 (ws-3 .0) (incomingOf (host .agent) (lent (sessions) (streams) (objects)) ((midOf 0 r-5 (ws-3 .0))) ((midOf 0 r-7 line)) ((Given′-of (c .first)) .time) .out)) n₄ (len-20-out) (λ ν-23-out δ-23-out.
-        move ! (10 ∷ 9 ∷ []) $
-        copies-shr ! u8 b₅ o₅ line n₅ $ nothing ! $ move ! (1 ∷ 0 ∷ []) $ join ! $ move ! (3 ∷ 0 ∷ []) $ join ! $
-        use1 W (raw (toks 𝓤 A 2 (((ν-23-out ∷ []), (κ₅, tt))) ((fullShare, (q₅, tt))))) (id⊢ 𝓤 _) $ nothing ! $
-        owned ! (Processed-p .row) (Is (Processed-p .row)) (Processed-p .makes 𝓤 H A W) (incomingOf (host .agent) (lent (sessions) (streams) (objects)) ((midOf 0 r-5 (ws-3 .0))) ((midOf 0 r-7 line)) ((Given′-of (c .first)) .time) .processed) (Processed-p .val (incomingOf (host .agent) (lent (sessions) (streams) (objects)) ((midOf 0 r-5 (ws-3 .0))) ((midOf 0 r-7 line)) ((Given′-of (c .first)) .time) .processed) ∷ []) is-20 $ fjoin ! $ move ! (2 ∷ 0 ∷ []) $ fjoin ! $
+        feqL ! (λ wlen-22-3.
+        move ! (1 ∷ []) $ fsplit ! $ fsplit ! $ move ! (1 ∷ []) $
+        feqL ! (λ wlen-22-4.
+        move ! (1 ∷ []) $ fsplit ! $ move ! (13 ∷ 19 ∷ 6 ∷ []) $
+        backs-mut ! tt (Array u64 6) b₁ o₁ sessions n₁ (refl) room₁ ν-22-sessions δ-22-sessions (ws-22 .0) (incomingOf (host .agent) (lent (sessions) (streams) (objects) (held)) ((midOf 0 r-5 (ws-3 .0))) ((midOf 0 r-7 line)) ((Given′-of (c .first)) .time) .tables .sessions) wlen-22-0 (said-22 .0) (λ len-22-sessions.
+        move ! (13 ∷ 18 ∷ 7 ∷ []) $
+        backs-mut ! tt (Array u16 35) b₂ o₂ streams n₂ (refl) room₂ ν-22-streams δ-22-streams (ws-22 .1 .0) (incomingOf (host .agent) (lent (sessions) (streams) (objects) (held)) ((midOf 0 r-5 (ws-3 .0))) ((midOf 0 r-7 line)) ((Given′-of (c .first)) .time) .tables .streams) wlen-22-1 (said-22 .1) (λ len-22-streams.
+        move ! (13 ∷ 17 ∷ 8 ∷ []) $
+        backs-mut ! tt Object-t.the-row b₃ o₃ objects n₃ (refl) room₃ ν-22-objects δ-22-objects (ws-22 .1 .1 .0) (incomingOf (host .agent) (lent (sessions) (streams) (objects) (held)) ((midOf 0 r-5 (ws-3 .0))) ((midOf 0 r-7 line)) ((Given′-of (c .first)) .time) .tables .objects) wlen-22-2 (said-22 .2) (λ len-22-objects.
+        move ! (13 ∷ 16 ∷ 9 ∷ []) $
+        backs-mut ! tt u8 b₄ o₄ held n₄ (refl) room₄ ν-22-held δ-22-held (ws-22 .1 .1 .1 .0) (incomingOf (host .agent) (lent (sessions) (streams) (objects) (held)) ((midOf 0 r-5 (ws-3 .0))) ((midOf 0 r-7 line)) ((Given′-of (c .first)) .time) .tables .held) wlen-22-3 (said-22 .3) (λ len-22-held.
+        move ! (13 ∷ 15 ∷ 10 ∷ []) $
+        backs-part ! tt u8 b₅ o₅ (ws-3 .0) n₅ (len-3-out) 0 r-5 ν-22-out δ-22-out (ws-22 .1 .1 .1 .1 .0) (incomingOf (host .agent) (lent (sessions) (streams) (objects) (held)) ((midOf 0 r-5 (ws-3 .0))) ((midOf 0 r-7 line)) ((Given′-of (c .first)) .time) .out) (said-22 .4) (λ len-22-out.
+        move ! (10 ∷ []) $ drop ! $ move ! (10 ∷ []) $ drop ! $ move ! (11 ∷ []) $ drop ! $
+        land ! (from ! (stop !)) (init ! 56 refl (Processed-p .typed 𝓤 H A W (incomingOf (host .agent) (lent (sessions) (streams) (objects) (held)) ((midOf 0 r-5 (ws-3 .0))) ((midOf 0 r-7 line)) ((Given′-of (c .first)) .time) .processed) is-22)) $
+        assigns ! (addr ! (from ! (fld ! refl (hop ! (look-in ! 74 (sub ! 0 refl (whole !))) (stop !))))) (from ! (stop !)) (init ! 20 refl (tt, tt)) $
+        assigns ! (agg ! (and-then ! (load ! (from ! (stop !)) (look ! 20 refl)) (and-then ! (load ! (from ! (fld ! refl (stop !))) (look-in ! 74 (sub ! 1 refl (whole !)))) (no-more !)))) (from ! (stop !)) (init ! 18 refl (tt, (tt, (record { fits = room₅ .0 }, tt)))) $
+        -- 25: replay::host::say
+        lends-view ! tt u8 b₅ o₅ (putMid 0 r-5 (ws-3 .0) (incomingOf (host .agent) (lent (sessions) (streams) (objects) (held)) ((midOf 0 r-5 (ws-3 .0))) ((midOf 0 r-7 line)) ((Given′-of (c .first)) .time) .out)) n₅ (len-22-out) (λ ν-25-out δ-25-out.
+        move ! (12 ∷ 11 ∷ []) $
+        copies-shr ! u8 b₆ o₆ line n₆ $ nothing ! $ move ! (1 ∷ 0 ∷ []) $ join ! $ move ! (3 ∷ 0 ∷ []) $ join ! $
+        use1 W (raw (toks 𝓤 A 2 (((ν-25-out ∷ []), (κ₆, tt))) ((fullShare, (q₆, tt))))) (id⊢ 𝓤 _) $ nothing ! $
+        owned ! (Processed-p .row) (Is (Processed-p .row)) (Processed-p .makes 𝓤 H A W) (incomingOf (host .agent) (lent (sessions) (streams) (objects) (held)) ((midOf 0 r-5 (ws-3 .0))) ((midOf 0 r-7 line)) ((Given′-of (c .first)) .time) .processed) (Processed-p .val (incomingOf (host .agent) (lent (sessions) (streams) (objects) (held)) ((midOf 0 r-5 (ws-3 .0))) ((midOf 0 r-7 line)) ((Given′-of (c .first)) .time) .processed) ∷ []) is-22 $ fjoin ! $ move ! (2 ∷ 0 ∷ []) $ fjoin ! $
         owned ! (u64-p .row) (Is (u64-p .row)) (u64-p .makes 𝓤 H A W) r-5 (u64-p .val r-5 ∷ []) is-5 $ fjoin ! $ move ! (3 ∷ 0 ∷ []) $ fjoin ! $ move ! (1 ∷ 0 ∷ []) $
-        calls-any ! fm 2 [] (host-say.signature .params) (host-say.ended .kept) unit-p (host-say.clauses 𝓤 H A mem run) known-host-say ((ν-23-out ∷ []), (κ₅, tt)) (fullShare, (q₅, tt)) tt (at-list b₄ o₄ δ-23-out (putMid 0 r-5 (ws-3 .0) (incomingOf (host .agent) (lent (sessions) (streams) (objects)) ((midOf 0 r-5 (ws-3 .0))) ((midOf 0 r-7 line)) ((Given′-of (c .first)) .time) .out)), (r-5, (at-list b₅ o₅ γ₅ line, (incomingOf (host .agent) (lent (sessions) (streams) (objects)) ((midOf 0 r-5 (ws-3 .0))) ((midOf 0 r-7 line)) ((Given′-of (c .first)) .time) .processed, tt)))) (sliceVal (b₄, o₄) n₄ ∷ [], (u64-p .val r-5 ∷ [], (sliceVal (b₅, o₅) n₅ ∷ [], (Processed-p .val (incomingOf (host .agent) (lent (sessions) (streams) (objects)) ((midOf 0 r-5 (ws-3 .0))) ((midOf 0 r-7 line)) ((Given′-of (c .first)) .time) .processed) ∷ [], tt)))) tt tt (λ ws-23. Unit {0}) (id⊢ 𝓤 _) (λ r ws-23. factI 𝓤 ((r ≡ tt) × (Unit {0})) _ (refl, tt)) (λ _. (and-then ! (load ! (from ! (stop !)) (look ! 15 refl)) (and-then ! (load ! (from ! (stop !)) (look ! 57 refl)) (and-then ! (load ! (from ! (stop !)) (look ! 65 refl)) (and-then ! (load ! (from ! (stop !)) (look ! 49 refl)) (no-more !)))))) (λ ws-23 said-23 is-23.
-        use1 W ((‵ (flft (ν-23-out ∷ []) fullShare) ⊛ (‵ (flft κ₅ q₅) ⊛ ‵ ftrue))) (id⊢ 𝓤 _) $ split ! $ move ! (1 ∷ []) $ split ! $ move ! (3 ∷ []) $ fsplit ! $ move ! (1 ∷ []) $ fsplit ! $ move ! (1 ∷ []) $ fsplit ! $ move ! (6 ∷ 8 ∷ []) $
-        backs-view ! tt u8 b₄ o₄ (putMid 0 r-5 (ws-3 .0) (incomingOf (host .agent) (lent (sessions) (streams) (objects)) ((midOf 0 r-5 (ws-3 .0))) ((midOf 0 r-7 line)) ((Given′-of (c .first)) .time) .out)) n₄ (len-20-out) ν-23-out $ move ! (2 ∷ []) $ drop ! $ move ! (2 ∷ []) $ drop ! $ move ! (2 ∷ []) $ drop ! $ move ! (2 ∷ []) $ drop ! $ move ! (3 ∷ []) $ drop ! $
-        land ! (from ! (stop !)) (store ! 46 refl (unit-p .typed 𝓤 H A W tt is-23)) $
-        assigns ! (of-opd ! (load ! (from ! (fld ! refl (stop !))) (look-in ! 62 (sub ! 2 refl (whole !))))) (from ! (stop !)) (init ! 48 refl (u64-p .typed 𝓤 H A W (host .kept) (LL.owed Host-t.the-type Host-l.the-laws host _ host-is .1 .1 .0))) $
-        assigns ! (addr ! (from ! (fld ! refl (hop ! (look-in ! 64 (sub ! 0 refl (whole !))) (stop !))))) (from ! (stop !)) (init ! 14 refl (tt, tt)) $
-        assigns ! (agg ! (and-then ! (load ! (from ! (stop !)) (look ! 14 refl)) (and-then ! (load ! (from ! (fld ! refl (stop !))) (look-in ! 64 (sub ! 1 refl (whole !)))) (no-more !)))) (from ! (stop !)) (init ! 12 refl (tt, (tt, (record { fits = room₆ .0 }, tt)))) $
-        -- 27: replay::host::after_datagram
-        move ! (10 ∷ 11 ∷ []) $
-        lends-mut ! tt u8 b₆ o₆ kept n₆ (refl) (λ ν-27-kept δ-27-kept.
+        calls-any ! fm 2 [] (host-say.signature .params) (host-say.ended .kept) unit-p (host-say.clauses 𝓤 H A mem run) known-host-say ((ν-25-out ∷ []), (κ₆, tt)) (fullShare, (q₆, tt)) tt (at-list b₅ o₅ δ-25-out (putMid 0 r-5 (ws-3 .0) (incomingOf (host .agent) (lent (sessions) (streams) (objects) (held)) ((midOf 0 r-5 (ws-3 .0))) ((midOf 0 r-7 line)) ((Given′-of (c .first)) .time) .out)), (r-5, (at-list b₆ o₆ γ₆ line, (incomingOf (host .agent) (lent (sessions) (streams) (objects) (held)) ((midOf 0 r-5 (ws-3 .0))) ((midOf 0 r-7 line)) ((Given′-of (c .first)) .time) .processed, tt)))) (sliceVal (b₅, o₅) n₅ ∷ [], (u64-p .val r-5 ∷ [], (sliceVal (b₆, o₆) n₆ ∷ [], (Processed-p .val (incomingOf (host .agent) (lent (sessions) (streams) (objects) (held)) ((midOf 0 r-5 (ws-3 .0))) ((midOf 0 r-7 line)) ((Given′-of (c .first)) .time) .processed) ∷ [], tt)))) tt tt (λ ws-25. Unit {0}) (id⊢ 𝓤 _) (λ r ws-25. factI 𝓤 ((r ≡ tt) × (Unit {0})) _ (refl, tt)) (λ _. (and-then ! (load ! (from ! (stop !)) (look ! 17 refl)) (and-then ! (load ! (from ! (stop !)) (look ! 63 refl)) (and-then ! (load ! (from ! (stop !)) (look ! 71 refl)) (and-then ! (load ! (from ! (stop !)) (look ! 55 refl)) (no-more !)))))) (λ ws-25 said-25 is-25.
+        use1 W ((‵ (flft (ν-25-out ∷ []) fullShare) ⊛ (‵ (flft κ₆ q₆) ⊛ ‵ ftrue))) (id⊢ 𝓤 _) $ split ! $ move ! (1 ∷ []) $ split ! $ move ! (3 ∷ []) $ fsplit ! $ move ! (1 ∷ []) $ fsplit ! $ move ! (1 ∷ []) $ fsplit ! $ move ! (6 ∷ 8 ∷ []) $
+        backs-view ! tt u8 b₅ o₅ (putMid 0 r-5 (ws-3 .0) (incomingOf (host .agent) (lent (sessions) (streams) (objects) (held)) ((midOf 0 r-5 (ws-3 .0))) ((midOf 0 r-7 line)) ((Given′-of (c .first)) .time) .out)) n₅ (len-22-out) ν-25-out $ move ! (2 ∷ []) $ drop ! $ move ! (2 ∷ []) $ drop ! $ move ! (2 ∷ []) $ drop ! $ move ! (2 ∷ []) $ drop ! $ move ! (3 ∷ []) $ drop ! $
+        land ! (from ! (stop !)) (store ! 52 refl (unit-p .typed 𝓤 H A W tt is-25)) $
+        assigns ! (of-opd ! (load ! (from ! (fld ! refl (stop !))) (look-in ! 68 (sub ! 2 refl (whole !))))) (from ! (stop !)) (init ! 54 refl (u64-p .typed 𝓤 H A W (host .kept) (LL.owed Host-t.the-type Host-l.the-laws host _ host-is .1 .1 .0))) $
+        assigns ! (addr ! (from ! (fld ! refl (hop ! (look-in ! 70 (sub ! 0 refl (whole !))) (stop !))))) (from ! (stop !)) (init ! 16 refl (tt, tt)) $
+        assigns ! (agg ! (and-then ! (load ! (from ! (stop !)) (look ! 16 refl)) (and-then ! (load ! (from ! (fld ! refl (stop !))) (look-in ! 70 (sub ! 1 refl (whole !)))) (no-more !)))) (from ! (stop !)) (init ! 14 refl (tt, (tt, (record { fits = room₇ .0 }, tt)))) $
+        -- 29: replay::host::after_datagram
+        move ! (12 ∷ 13 ∷ []) $
+        lends-mut ! tt u8 b₇ o₇ kept n₇ (refl) (λ ν-29-kept δ-29-kept.
         move ! (6 ∷ 5 ∷ []) $
-        copies-shr ! u8 b₅ o₅ line n₅ $ nothing ! $ move ! (1 ∷ 0 ∷ []) $ join ! $ move ! (3 ∷ 0 ∷ []) $ join ! $
-        use1 W (raw (toks 𝓤 A 2 (((ν-27-kept ∷ []), (κ₅, tt))) ((fullShare, (q₅, tt))))) (id⊢ 𝓤 _) $ nothing ! $
+        copies-shr ! u8 b₆ o₆ line n₆ $ nothing ! $ move ! (1 ∷ 0 ∷ []) $ join ! $ move ! (3 ∷ 0 ∷ []) $ join ! $
+        use1 W (raw (toks 𝓤 A 2 (((ν-29-kept ∷ []), (κ₆, tt))) ((fullShare, (q₆, tt))))) (id⊢ 𝓤 _) $ nothing ! $
         owned ! (u64-p .row) (Is (u64-p .row)) (u64-p .makes 𝓤 H A W) (host .kept) (u64-p .val (host .kept) ∷ []) (LL.owed Host-t.the-type Host-l.the-laws host _ host-is .1 .1 .0) $ fjoin ! $
-        owned ! (Processed-p .row) (Is (Processed-p .row)) (Processed-p .makes 𝓤 H A W) (incomingOf (host .agent) (lent (sessions) (streams) (objects)) ((midOf 0 r-5 (ws-3 .0))) ((midOf 0 r-7 line)) ((Given′-of (c .first)) .time) .processed) (Processed-p .val (incomingOf (host .agent) (lent (sessions) (streams) (objects)) ((midOf 0 r-5 (ws-3 .0))) ((midOf 0 r-7 line)) ((Given′-of (c .first)) .time) .processed) ∷ []) is-20 $ fjoin ! $
+        owned ! (Processed-p .row) (Is (Processed-p .row)) (Processed-p .makes 𝓤 H A W) (incomingOf (host .agent) (lent (sessions) (streams) (objects) (held)) ((midOf 0 r-5 (ws-3 .0))) ((midOf 0 r-7 line)) ((Given′-of (c .first)) .time) .processed) (Processed-p .val (incomingOf (host .agent) (lent (sessions) (streams) (objects) (held)) ((midOf 0 r-5 (ws-3 .0))) ((midOf 0 r-7 line)) ((Given′-of (c .first)) .time) .processed) ∷ []) is-22 $ fjoin ! $
         owned ! (u64-p .row) (Is (u64-p .row)) (u64-p .makes 𝓤 H A W) r-7 (u64-p .val r-7 ∷ []) is-7 $ fjoin ! $ move ! (2 ∷ 0 ∷ []) $ fjoin ! $ move ! (3 ∷ 0 ∷ []) $ fjoin ! $ move ! (1 ∷ 0 ∷ []) $
-        calls-some ! fm 2 [] (host-after-datagram.signature .params) (host-after-datagram.ended .kept) Host-p (host-after-datagram.clauses 𝓤 H A mem run) known-host-after-datagram ((ν-27-kept ∷ []), (κ₅, tt)) (fullShare, (q₅, tt)) tt (at-list b₆ o₆ δ-27-kept kept, (at-list b₅ o₅ γ₅ line, (r-7, (incomingOf (host .agent) (lent (sessions) (streams) (objects)) ((midOf 0 r-5 (ws-3 .0))) ((midOf 0 r-7 line)) ((Given′-of (c .first)) .time) .processed, (host .kept, tt))))) (sliceVal (b₆, o₆) n₆ ∷ [], (sliceVal (b₅, o₅) n₅ ∷ [], (u64-p .val r-7 ∷ [], (Processed-p .val (incomingOf (host .agent) (lent (sessions) (streams) (objects)) ((midOf 0 r-5 (ws-3 .0))) ((midOf 0 r-7 line)) ((Given′-of (c .first)) .time) .processed) ∷ [], (u64-p .val (host .kept) ∷ [], tt))))) tt (λ r ws-27. Unit {0}) (id⊢ 𝓤 _) (λ r ws-27. factI 𝓤 (Unit {0}) _ tt) (λ _. (and-then ! (load ! (from ! (stop !)) (look ! 11 refl)) (and-then ! (load ! (from ! (stop !)) (look ! 65 refl)) (and-then ! (load ! (from ! (stop !)) (look ! 55 refl)) (and-then ! (load ! (from ! (stop !)) (look ! 49 refl)) (and-then ! (load ! (from ! (stop !)) (look ! 47 refl)) (no-more !))))))) (λ r-27 ws-27 said-27 is-27.
-        use1 W ((‵ (flft (ν-27-kept ∷ []) fullShare) ⊛ (‵ (flft κ₅ q₅) ⊛ ‵ ftrue))) (id⊢ 𝓤 _) $ split ! $ move ! (1 ∷ []) $ split ! $ move ! (3 ∷ []) $ fsplit ! $ fsplit ! $ move ! (1 ∷ []) $
-        feqL ! (λ wlen-27-0.
+        calls-some ! fm 2 [] (host-after-datagram.signature .params) (host-after-datagram.ended .kept) Host-p (host-after-datagram.clauses 𝓤 H A mem run) known-host-after-datagram ((ν-29-kept ∷ []), (κ₆, tt)) (fullShare, (q₆, tt)) tt (at-list b₇ o₇ δ-29-kept kept, (at-list b₆ o₆ γ₆ line, (r-7, (incomingOf (host .agent) (lent (sessions) (streams) (objects) (held)) ((midOf 0 r-5 (ws-3 .0))) ((midOf 0 r-7 line)) ((Given′-of (c .first)) .time) .processed, (host .kept, tt))))) (sliceVal (b₇, o₇) n₇ ∷ [], (sliceVal (b₆, o₆) n₆ ∷ [], (u64-p .val r-7 ∷ [], (Processed-p .val (incomingOf (host .agent) (lent (sessions) (streams) (objects) (held)) ((midOf 0 r-5 (ws-3 .0))) ((midOf 0 r-7 line)) ((Given′-of (c .first)) .time) .processed) ∷ [], (u64-p .val (host .kept) ∷ [], tt))))) tt (λ r ws-29. Unit {0}) (id⊢ 𝓤 _) (λ r ws-29. factI 𝓤 (Unit {0}) _ tt) (λ _. (and-then ! (load ! (from ! (stop !)) (look ! 13 refl)) (and-then ! (load ! (from ! (stop !)) (look ! 71 refl)) (and-then ! (load ! (from ! (stop !)) (look ! 61 refl)) (and-then ! (load ! (from ! (stop !)) (look ! 55 refl)) (and-then ! (load ! (from ! (stop !)) (look ! 53 refl)) (no-more !))))))) (λ r-29 ws-29 said-29 is-29.
+        use1 W ((‵ (flft (ν-29-kept ∷ []) fullShare) ⊛ (‵ (flft κ₆ q₆) ⊛ ‵ ftrue))) (id⊢ 𝓤 _) $ split ! $ move ! (1 ∷ []) $ split ! $ move ! (3 ∷ []) $ fsplit ! $ fsplit ! $ move ! (1 ∷ []) $
+        feqL ! (λ wlen-29-0.
         move ! (1 ∷ []) $ fsplit ! $ move ! (5 ∷ 7 ∷ 2 ∷ []) $
-        backs-mut ! tt u8 b₆ o₆ kept n₆ (refl) room₆ ν-27-kept δ-27-kept (ws-27 .0) (ws-27 .0) wlen-27-0 (refl) (λ len-27-kept.
+        backs-mut ! tt u8 b₇ o₇ kept n₇ (refl) room₇ ν-29-kept δ-29-kept (ws-29 .0) (ws-29 .0) wlen-29-0 (refl) (λ len-29-kept.
         move ! (2 ∷ []) $ drop ! $ move ! (2 ∷ []) $ drop ! $ move ! (3 ∷ []) $ drop ! $
-        land ! (from ! (stop !)) (init ! 76 refl (Host-p .typed 𝓤 H A W r-27 is-27)) $
-        returns ! (look ! 76 refl) $ forget ! 12 refl $ forget ! 14 refl $ forget ! 16 refl $ forget ! 18 refl $ forget ! 20 refl $ forget ! 22 refl $ forget ! 24 refl $ forget ! 26 refl $ forget ! 28 refl $ forget ! 30 refl $ forget ! 32 refl $ forget ! 34 refl $ forget ! 36 refl $ forget ! 38 refl $ forget ! 40 refl $ forget ! 42 refl $ forget ! 44 refl $ forget ! 46 refl $ forget ! 48 refl $ forget ! 50 refl $ forget ! 52 refl $ forget ! 54 refl $ forget ! 56 refl $ forget ! 58 refl $ forget ! 60 refl $ forget ! 62 refl $ forget ! 64 refl $ forget ! 66 refl $ forget ! 68 refl $ forget ! 70 refl $ forget ! 72 refl $ forget ! 74 refl $ forget ! 76 refl $ move ! (76 ∷ 77 ∷ []) $ free1 ! $ move ! (74 ∷ 75 ∷ []) $ free1 ! $ move ! (72 ∷ 73 ∷ []) $ free1 ! $ move ! (70 ∷ 71 ∷ []) $ free1 ! $ move ! (68 ∷ 69 ∷ []) $ free1 ! $ move ! (66 ∷ 67 ∷ []) $ free1 ! $ move ! (64 ∷ 65 ∷ []) $ free1 ! $ move ! (62 ∷ 63 ∷ []) $ free1 ! $ move ! (60 ∷ 61 ∷ []) $ free1 ! $ move ! (58 ∷ 59 ∷ []) $ free1 ! $ move ! (56 ∷ 57 ∷ []) $ free1 ! $ move ! (54 ∷ 55 ∷ []) $ free1 ! $ move ! (52 ∷ 53 ∷ []) $ free1 ! $ move ! (50 ∷ 51 ∷ []) $ free1 ! $ move ! (48 ∷ 49 ∷ []) $ free1 ! $ move ! (46 ∷ 47 ∷ []) $ free1 ! $ move ! (44 ∷ 45 ∷ []) $ free1 ! $ move ! (42 ∷ 43 ∷ []) $ free1 ! $ move ! (40 ∷ 41 ∷ []) $ free1 ! $ move ! (38 ∷ 39 ∷ []) $ free1 ! $ move ! (36 ∷ 37 ∷ []) $ free1 ! $ move ! (34 ∷ 35 ∷ []) $ free1 ! $ move ! (32 ∷ 33 ∷ []) $ free1 ! $ move ! (30 ∷ 31 ∷ []) $ free1 ! $ move ! (28 ∷ 29 ∷ []) $ free1 ! $ move ! (26 ∷ 27 ∷ []) $ free1 ! $ move ! (24 ∷ 25 ∷ []) $ free1 ! $ move ! (22 ∷ 23 ∷ []) $ free1 ! $ move ! (20 ∷ 21 ∷ []) $ free1 ! $ move ! (18 ∷ 19 ∷ []) $ free1 ! $ move ! (16 ∷ 17 ∷ []) $ free1 ! $ move ! (14 ∷ 15 ∷ []) $ free1 ! $ move ! (12 ∷ 13 ∷ []) $ free1 ! $ free0 ! $ move ! (10 ∷ 11 ∷ 8 ∷ 9 ∷ 6 ∷ 7 ∷ 4 ∷ 5 ∷ 3 ∷ 2 ∷ 0 ∷ 1 ∷ []) $
-        by ! (exits r-27 (incomingOf (host .agent) (lent (sessions) (streams) (objects)) ((midOf 0 r-5 (ws-3 .0))) ((midOf 0 r-7 line)) ((Given′-of (c .first)) .time) .tables .sessions) (incomingOf (host .agent) (lent (sessions) (streams) (objects)) ((midOf 0 r-5 (ws-3 .0))) ((midOf 0 r-7 line)) ((Given′-of (c .first)) .time) .tables .streams) (incomingOf (host .agent) (lent (sessions) (streams) (objects)) ((midOf 0 r-5 (ws-3 .0))) ((midOf 0 r-7 line)) ((Given′-of (c .first)) .time) .tables .objects) (putMid 0 r-5 (ws-3 .0) (incomingOf (host .agent) (lent (sessions) (streams) (objects)) ((midOf 0 r-5 (ws-3 .0))) ((midOf 0 r-7 line)) ((Given′-of (c .first)) .time) .out)) (ws-27 .0) is-27 len-20-sessions len-20-streams len-20-objects len-20-out len-27-kept)))))))))))))))))))))))))))))))))
+        land ! (from ! (stop !)) (init ! 84 refl (Host-p .typed 𝓤 H A W r-29 is-29)) $
+        returns ! (look ! 84 refl) $ forget ! 14 refl $ forget ! 16 refl $ forget ! 18 refl $ forget ! 20 refl $ forget ! 22 refl $ forget ! 24 refl $ forget ! 26 refl $ forget ! 28 refl $ forget ! 30 refl $ forget ! 32 refl $ forget ! 34 refl $ forget ! 36 refl $ forget ! 38 refl $ forget ! 40 refl $ forget ! 42 refl $ forget ! 44 refl $ forget ! 46 refl $ forget ! 48 refl $ forget ! 50 refl $ forget ! 52 refl $ forget ! 54 refl $ forget ! 56 refl $ forget ! 58 refl $ forget ! 60 refl $ forget ! 62 refl $ forget ! 64 refl $ forget ! 66 refl $ forget ! 68 refl $ forget ! 70 refl $ forget ! 72 refl $ forget ! 74 refl $ forget ! 76 refl $ forget ! 78 refl $ forget ! 80 refl $ forget ! 82 refl $ forget ! 84 refl $ move ! (84 ∷ 85 ∷ []) $ free1 ! $ move ! (82 ∷ 83 ∷ []) $ free1 ! $ move ! (80 ∷ 81 ∷ []) $ free1 ! $ move ! (78 ∷ 79 ∷ []) $ free1 ! $ move ! (76 ∷ 77 ∷ []) $ free1 ! $ move ! (74 ∷ 75 ∷ []) $ free1 ! $ move ! (72 ∷ 73 ∷ []) $ free1 ! $ move ! (70 ∷ 71 ∷ []) $ free1 ! $ move ! (68 ∷ 69 ∷ []) $ free1 ! $ move ! (66 ∷ 67 ∷ []) $ free1 ! $ move ! (64 ∷ 65 ∷ []) $ free1 ! $ move ! (62 ∷ 63 ∷ []) $ free1 ! $ move ! (60 ∷ 61 ∷ []) $ free1 ! $ move ! (58 ∷ 59 ∷ []) $ free1 ! $ move ! (56 ∷ 57 ∷ []) $ free1 ! $ move ! (54 ∷ 55 ∷ []) $ free1 ! $ move ! (52 ∷ 53 ∷ []) $ free1 ! $ move ! (50 ∷ 51 ∷ []) $ free1 ! $ move ! (48 ∷ 49 ∷ []) $ free1 ! $ move ! (46 ∷ 47 ∷ []) $ free1 ! $ move ! (44 ∷ 45 ∷ []) $ free1 ! $ move ! (42 ∷ 43 ∷ []) $ free1 ! $ move ! (40 ∷ 41 ∷ []) $ free1 ! $ move ! (38 ∷ 39 ∷ []) $ free1 ! $ move ! (36 ∷ 37 ∷ []) $ free1 ! $ move ! (34 ∷ 35 ∷ []) $ free1 ! $ move ! (32 ∷ 33 ∷ []) $ free1 ! $ move ! (30 ∷ 31 ∷ []) $ free1 ! $ move ! (28 ∷ 29 ∷ []) $ free1 ! $ move ! (26 ∷ 27 ∷ []) $ free1 ! $ move ! (24 ∷ 25 ∷ []) $ free1 ! $ move ! (22 ∷ 23 ∷ []) $ free1 ! $ move ! (20 ∷ 21 ∷ []) $ free1 ! $ move ! (18 ∷ 19 ∷ []) $ free1 ! $ move ! (16 ∷ 17 ∷ []) $ free1 ! $ move ! (14 ∷ 15 ∷ []) $ free1 ! $ free0 ! $ move ! (12 ∷ 13 ∷ 10 ∷ 11 ∷ 8 ∷ 9 ∷ 6 ∷ 7 ∷ 4 ∷ 5 ∷ 3 ∷ 2 ∷ 0 ∷ 1 ∷ []) $
+        by ! (exits r-29 (incomingOf (host .agent) (lent (sessions) (streams) (objects) (held)) ((midOf 0 r-5 (ws-3 .0))) ((midOf 0 r-7 line)) ((Given′-of (c .first)) .time) .tables .sessions) (incomingOf (host .agent) (lent (sessions) (streams) (objects) (held)) ((midOf 0 r-5 (ws-3 .0))) ((midOf 0 r-7 line)) ((Given′-of (c .first)) .time) .tables .streams) (incomingOf (host .agent) (lent (sessions) (streams) (objects) (held)) ((midOf 0 r-5 (ws-3 .0))) ((midOf 0 r-7 line)) ((Given′-of (c .first)) .time) .tables .objects) (incomingOf (host .agent) (lent (sessions) (streams) (objects) (held)) ((midOf 0 r-5 (ws-3 .0))) ((midOf 0 r-7 line)) ((Given′-of (c .first)) .time) .tables .held) (putMid 0 r-5 (ws-3 .0) (incomingOf (host .agent) (lent (sessions) (streams) (objects) (held)) ((midOf 0 r-5 (ws-3 .0))) ((midOf 0 r-7 line)) ((Given′-of (c .first)) .time) .out)) (ws-29 .0) is-29 len-22-sessions len-22-streams len-22-objects len-22-held len-22-out len-29-kept))))))))))))))))))))))))))))))))))))
 
   module _ (𝓣 : Tables 𝓤 H) (known-output-cover : Triple 𝓤 (𝓣 .C #output-cover) (Of-output-cover 𝓤 H A mem run)) (known-output-within : Triple 𝓤 (𝓣 .C #output-within) (Of-output-within 𝓤 H A mem run)) (known-words-least : Triple 𝓤 (𝓣 .C #words-least) (Of-words-least 𝓤 H A mem run)) (known-agent-process-incoming : Triple 𝓤 (𝓣 .C #agent-process-incoming) (Of-agent-process-incoming 𝓤 H A mem run)) (known-host-say : Triple 𝓤 (𝓣 .C #host-say) (Of-host-say 𝓤 H A mem run)) (known-host-after-datagram : Triple 𝓤 (𝓣 .C #host-after-datagram) (Of-host-after-datagram 𝓤 H A mem run)) where
-    walk : ent 𝓤 (onEntry 𝓤 H A f.signature (κ₁, (κ₂, (κ₃, (κ₄, (κ₅, (κ₆, tt)))))) (q₁, (q₂, (q₃, (q₄, (q₅, (q₆, tt)))))) x at) (WpFn 𝓤 H (𝓣 .C) (𝓣 .Λ) code.function (sliceVal (b₁, o₁) n₁ ∷ sliceVal (b₂, o₂) n₂ ∷ sliceVal (b₃, o₃) n₃ ∷ sliceVal (b₄, o₄) n₄ ∷ sliceVal (b₅, o₅) n₅ ∷ sliceVal (b₆, o₆) n₆ ∷ Host-p .val host ∷ Command-p .val c ∷ []) Post)
+    walk : ent 𝓤 (onEntry 𝓤 H A f.signature (κ₁, (κ₂, (κ₃, (κ₄, (κ₅, (κ₆, (κ₇, tt))))))) (q₁, (q₂, (q₃, (q₄, (q₅, (q₆, (q₇, tt))))))) x at) (WpFn 𝓤 H (𝓣 .C) (𝓣 .Λ) code.function (sliceVal (b₁, o₁) n₁ ∷ sliceVal (b₂, o₂) n₂ ∷ sliceVal (b₃, o₃) n₃ ∷ sliceVal (b₄, o₄) n₄ ∷ sliceVal (b₅, o₅) n₅ ∷ sliceVal (b₆, o₆) n₆ ∷ sliceVal (b₇, o₇) n₇ ∷ Host-p .val host ∷ Command-p .val c ∷ []) Post)
     walk =
-        qed W ((‵ (flft κ₁ q₁) ⊛ (‵ (flft κ₂ q₂) ⊛ (‵ (flft κ₃ q₃) ⊛ (‵ (flft κ₄ q₄) ⊛ (‵ (flft κ₅ q₅) ⊛ (‵ (flft κ₆ q₆) ⊛ ‵ ftrue)))))) ∷ ‵ (owns (MutSlice (named 0) κ₁ (Array u64 5) ∷ MutSlice (named 1) κ₂ (Array u16 35) ∷ MutSlice (named 2) κ₃ Object-t.the-row ∷ MutSlice (named 3) κ₄ u8 ∷ ShrSlice (named 4) κ₅ u8 ∷ MutSlice (named 5) κ₆ u8 ∷ Host-p .row ∷ Command-p .row ∷ []) x at) ∷ []) ∵ enter ! (𝓣 .C) (𝓣 .Λ) code.function (sliceVal (b₁, o₁) n₁ ∷ sliceVal (b₂, o₂) n₂ ∷ sliceVal (b₃, o₃) n₃ ∷ sliceVal (b₄, o₄) n₄ ∷ sliceVal (b₅, o₅) n₅ ∷ sliceVal (b₆, o₆) n₆ ∷ Host-p .val host ∷ Command-p .val c ∷ []) _ $
-        alloc1 ! (λ l₀. alloc1 ! (λ l₁. alloc1 ! (λ l₂. alloc1 ! (λ l₃. alloc1 ! (λ l₄. alloc1 ! (λ l₅. alloc1 ! (λ l₆. alloc1 ! (λ l₇. alloc1 ! (λ l₈. alloc1 ! (λ l₉. alloc1 ! (λ l₁₀. alloc1 ! (λ l₁₁. alloc1 ! (λ l₁₂. alloc1 ! (λ l₁₃. alloc1 ! (λ l₁₄. alloc1 ! (λ l₁₅. alloc1 ! (λ l₁₆. alloc1 ! (λ l₁₇. alloc1 ! (λ l₁₈. alloc1 ! (λ l₁₉. alloc1 ! (λ l₂₀. alloc1 ! (λ l₂₁. alloc1 ! (λ l₂₂. alloc1 ! (λ l₂₃. alloc1 ! (λ l₂₄. alloc1 ! (λ l₂₅. alloc1 ! (λ l₂₆. alloc1 ! (λ l₂₇. alloc1 ! (λ l₂₈. alloc1 ! (λ l₂₉. alloc1 ! (λ l₃₀. alloc1 ! (λ l₃₁. alloc1 ! (λ l₃₂. alloc0 ! $ params1 ! $ pass1 ! (init ! 62 refl (tt, (tt, (record { fits = room₁ .0 }, tt)))) $ pass1 ! (init ! 60 refl (tt, (tt, (record { fits = room₂ .0 }, tt)))) $ pass1 ! (init ! 58 refl (tt, (tt, (record { fits = room₃ .0 }, tt)))) $ pass1 ! (init ! 56 refl (tt, (tt, (record { fits = room₄ .0 }, tt)))) $ pass1 ! (init ! 54 refl (tt, (tt, (record { fits = room₅ .0 }, tt)))) $ pass1 ! (init ! 52 refl (tt, (tt, (record { fits = room₆ .0 }, tt)))) $ pass1 ! (init ! 50 refl (Host-p .typed 𝓤 H A W host host-is)) $ pass1 ! (init ! 48 refl (Command-p .typed 𝓤 H A W c c-is)) $ pass0 ! $ move ! (67 ∷ []) $ fsplit ! $ move ! (1 ∷ []) $ fsplit ! $ move ! (1 ∷ []) $ fsplit ! $ move ! (1 ∷ []) $ fsplit ! $ move ! (1 ∷ []) $ fsplit ! $ move ! (1 ∷ []) $ fsplit ! $ move ! (73 ∷ []) $ split ! $ move ! (1 ∷ []) $ split ! $ move ! (1 ∷ []) $ split ! $ move ! (1 ∷ []) $ split ! $ move ! (1 ∷ []) $ split ! $ move ! (1 ∷ []) $ split ! $ move ! (1 ∷ []) $ drop ! $ move ! (7 ∷ []) $ drop ! $ move ! (11 ∷ 5 ∷ 10 ∷ 4 ∷ 9 ∷ 3 ∷ 8 ∷ 2 ∷ 7 ∷ 1 ∷ 6 ∷ 0 ∷ 12 ∷ 13 ∷ 14 ∷ 15 ∷ 16 ∷ 17 ∷ 18 ∷ 19 ∷ 20 ∷ 21 ∷ 22 ∷ 23 ∷ 24 ∷ 25 ∷ 26 ∷ 27 ∷ 28 ∷ 29 ∷ 30 ∷ 31 ∷ 32 ∷ 33 ∷ 34 ∷ 35 ∷ 36 ∷ 37 ∷ 38 ∷ 39 ∷ 40 ∷ 41 ∷ 42 ∷ 43 ∷ 44 ∷ 45 ∷ 46 ∷ 47 ∷ 48 ∷ 49 ∷ 50 ∷ 51 ∷ 52 ∷ 53 ∷ 54 ∷ 55 ∷ 56 ∷ 57 ∷ 58 ∷ 59 ∷ 60 ∷ 61 ∷ 62 ∷ 63 ∷ 64 ∷ 65 ∷ 66 ∷ 67 ∷ 68 ∷ 69 ∷ 70 ∷ 71 ∷ 72 ∷ 73 ∷ 74 ∷ 75 ∷ 76 ∷ 77 ∷ []) $
-        begins 𝓣 known-output-cover known-output-within known-words-least known-agent-process-incoming known-host-say known-host-after-datagram l₀ l₁ l₂ l₃ l₄ l₅ l₆ l₇ l₈ l₉ l₁₀ l₁₁ l₁₂ l₁₃ l₁₄ l₁₅ l₁₆ l₁₇ l₁₈ l₁₉ l₂₀ l₂₁ l₂₂ l₂₃ l₂₄ l₂₅ l₂₆ l₂₇ l₂₈ l₂₉ l₃₀ l₃₁ l₃₂)))))))))))))))))))))))))))))))))
+        qed W ((‵ (flft κ₁ q₁) ⊛ (‵ (flft κ₂ q₂) ⊛ (‵ (flft κ₃ q₃) ⊛ (‵ (flft κ₄ q₄) ⊛ (‵ (flft κ₅ q₅) ⊛ (‵ (flft κ₆ q₆) ⊛ (‵ (flft κ₇ q₇) ⊛ ‵ ftrue))))))) ∷ ‵ (owns (MutSlice (named 0) κ₁ (Array u64 6) ∷ MutSlice (named 1) κ₂ (Array u16 35) ∷ MutSlice (named 2) κ₃ Object-t.the-row ∷ MutSlice (named 3) κ₄ u8 ∷ MutSlice (named 4) κ₅ u8 ∷ ShrSlice (named 5) κ₆ u8 ∷ MutSlice (named 6) κ₇ u8 ∷ Host-p .row ∷ Command-p .row ∷ []) x at) ∷ []) ∵ enter ! (𝓣 .C) (𝓣 .Λ) code.function (sliceVal (b₁, o₁) n₁ ∷ sliceVal (b₂, o₂) n₂ ∷ sliceVal (b₃, o₃) n₃ ∷ sliceVal (b₄, o₄) n₄ ∷ sliceVal (b₅, o₅) n₅ ∷ sliceVal (b₆, o₆) n₆ ∷ sliceVal (b₇, o₇) n₇ ∷ Host-p .val host ∷ Command-p .val c ∷ []) _ $
+        alloc1 ! (λ l₀. alloc1 ! (λ l₁. alloc1 ! (λ l₂. alloc1 ! (λ l₃. alloc1 ! (λ l₄. alloc1 ! (λ l₅. alloc1 ! (λ l₆. alloc1 ! (λ l₇. alloc1 ! (λ l₈. alloc1 ! (λ l₉. alloc1 ! (λ l₁₀. alloc1 ! (λ l₁₁. alloc1 ! (λ l₁₂. alloc1 ! (λ l₁₃. alloc1 ! (λ l₁₄. alloc1 ! (λ l₁₅. alloc1 ! (λ l₁₆. alloc1 ! (λ l₁₇. alloc1 ! (λ l₁₈. alloc1 ! (λ l₁₉. alloc1 ! (λ l₂₀. alloc1 ! (λ l₂₁. alloc1 ! (λ l₂₂. alloc1 ! (λ l₂₃. alloc1 ! (λ l₂₄. alloc1 ! (λ l₂₅. alloc1 ! (λ l₂₆. alloc1 ! (λ l₂₇. alloc1 ! (λ l₂₈. alloc1 ! (λ l₂₉. alloc1 ! (λ l₃₀. alloc1 ! (λ l₃₁. alloc1 ! (λ l₃₂. alloc1 ! (λ l₃₃. alloc1 ! (λ l₃₄. alloc1 ! (λ l₃₅. alloc0 ! $ params1 ! $ pass1 ! (init ! 68 refl (tt, (tt, (record { fits = room₁ .0 }, tt)))) $ pass1 ! (init ! 66 refl (tt, (tt, (record { fits = room₂ .0 }, tt)))) $ pass1 ! (init ! 64 refl (tt, (tt, (record { fits = room₃ .0 }, tt)))) $ pass1 ! (init ! 62 refl (tt, (tt, (record { fits = room₄ .0 }, tt)))) $ pass1 ! (init ! 60 refl (tt, (tt, (record { fits = room₅ .0 }, tt)))) $ pass1 ! (init ! 58 refl (tt, (tt, (record { fits = room₆ .0 }, tt)))) $ pass1 ! (init ! 56 refl (tt, (tt, (record { fits = room₇ .0 }, tt)))) $ pass1 ! (init ! 54 refl (Host-p .typed 𝓤 H A W host host-is)) $ pass1 ! (init ! 52 refl (Command-p .typed 𝓤 H A W c c-is)) $ pass0 ! $ move ! (73 ∷ []) $ fsplit ! $ move ! (1 ∷ []) $ fsplit ! $ move ! (1 ∷ []) $ fsplit ! $ move ! (1 ∷ []) $ fsplit ! $ move ! (1 ∷ []) $ fsplit ! $ move ! (1 ∷ []) $ fsplit ! $ move ! (1 ∷ []) $ fsplit ! $ move ! (80 ∷ []) $ split ! $ move ! (1 ∷ []) $ split ! $ move ! (1 ∷ []) $ split ! $ move ! (1 ∷ []) $ split ! $ move ! (1 ∷ []) $ split ! $ move ! (1 ∷ []) $ split ! $ move ! (1 ∷ []) $ split ! $ move ! (1 ∷ []) $ drop ! $ move ! (8 ∷ []) $ drop ! $ move ! (13 ∷ 6 ∷ 12 ∷ 5 ∷ 11 ∷ 4 ∷ 10 ∷ 3 ∷ 9 ∷ 2 ∷ 8 ∷ 1 ∷ 7 ∷ 0 ∷ 14 ∷ 15 ∷ 16 ∷ 17 ∷ 18 ∷ 19 ∷ 20 ∷ 21 ∷ 22 ∷ 23 ∷ 24 ∷ 25 ∷ 26 ∷ 27 ∷ 28 ∷ 29 ∷ 30 ∷ 31 ∷ 32 ∷ 33 ∷ 34 ∷ 35 ∷ 36 ∷ 37 ∷ 38 ∷ 39 ∷ 40 ∷ 41 ∷ 42 ∷ 43 ∷ 44 ∷ 45 ∷ 46 ∷ 47 ∷ 48 ∷ 49 ∷ 50 ∷ 51 ∷ 52 ∷ 53 ∷ 54 ∷ 55 ∷ 56 ∷ 57 ∷ 58 ∷ 59 ∷ 60 ∷ 61 ∷ 62 ∷ 63 ∷ 64 ∷ 65 ∷ 66 ∷ 67 ∷ 68 ∷ 69 ∷ 70 ∷ 71 ∷ 72 ∷ 73 ∷ 74 ∷ 75 ∷ 76 ∷ 77 ∷ 78 ∷ 79 ∷ 80 ∷ 81 ∷ 82 ∷ 83 ∷ 84 ∷ 85 ∷ []) $
+        begins 𝓣 known-output-cover known-output-within known-words-least known-agent-process-incoming known-host-say known-host-after-datagram l₀ l₁ l₂ l₃ l₄ l₅ l₆ l₇ l₈ l₉ l₁₀ l₁₁ l₁₂ l₁₃ l₁₄ l₁₅ l₁₆ l₁₇ l₁₈ l₁₉ l₂₀ l₂₁ l₂₂ l₂₃ l₂₄ l₂₅ l₂₆ l₂₇ l₂₈ l₂₉ l₃₀ l₃₁ l₃₂ l₃₃ l₃₄ l₃₅))))))))))))))))))))))))))))))))))))
 
 module _ {M : Type 1} (𝓤 : URA M) (H : Heap 𝓤) (A : Atoms 𝓤) (W : Given 𝓤 H A) (mem : Memory → SProp 𝓤) (run : Routine → Fun 𝓤) (𝓣 : Tables 𝓤 H) (known-output-cover : Triple 𝓤 (𝓣 .C #output-cover) (Of-output-cover 𝓤 H A mem run)) (known-output-within : Triple 𝓤 (𝓣 .C #output-within) (Of-output-within 𝓤 H A mem run)) (known-words-least : Triple 𝓤 (𝓣 .C #words-least) (Of-words-least 𝓤 H A mem run)) (known-agent-process-incoming : Triple 𝓤 (𝓣 .C #agent-process-incoming) (Of-agent-process-incoming 𝓤 H A mem run)) (known-host-say : Triple 𝓤 (𝓣 .C #host-say) (Of-host-say 𝓤 H A mem run)) (known-host-after-datagram : Triple 𝓤 (𝓣 .C #host-after-datagram) (Of-host-after-datagram 𝓤 H A mem run)) where
   walks : Walks 𝓤 H A f.ended stayed (WpFn 𝓤 H (𝓣 .C) (𝓣 .Λ) code.function) (f.clauses 𝓤 H A mem run)
-  walks = walked 𝓤 H A f.ended stayed (f.clauses 𝓤 H A mem run) (WpFn 𝓤 H (𝓣 .C) (𝓣 .Λ) code.function) (λ κs. (slice-vals, (slice-vals, (slice-vals, (slice-vals, (slice-vals, (slice-vals, ((λ y. Host-p .val y ∷ []), ((λ y. Command-p .val y ∷ []), tt))))))))) (λ κs. (mut-slice-tells (named 0) (κs .0) (Array u64 5), (mut-slice-tells (named 1) (κs .1 .0) (Array u16 35), (mut-slice-tells (named 2) (κs .1 .1 .0) Object-t.the-row, (mut-slice-tells (named 3) (κs .1 .1 .1 .0) u8, (shr-slice-tells (named 4) (κs .1 .1 .1 .1 .0) u8, (mut-slice-tells (named 5) (κs .1 .1 .1 .1 .1 .0) u8, (Host-p .tells, (Command-p .tells, tt)))))))))
-      (λ κs qs bounds a g are. via 𝓤 _ (fst∗ 𝓤 _ (emp 𝓤)) (walk 𝓤 H A W mem run (κs .0) (qs .0) (a .0 .ptr .0) (a .0 .ptr .1) (a .0 .name) (a .0 .now) (κs .1 .0) (qs .1 .0) (a .1 .0 .ptr .0) (a .1 .0 .ptr .1) (a .1 .0 .name) (a .1 .0 .now) (κs .1 .1 .0) (qs .1 .1 .0) (a .1 .1 .0 .ptr .0) (a .1 .1 .0 .ptr .1) (a .1 .1 .0 .name) (a .1 .1 .0 .now) (κs .1 .1 .1 .0) (qs .1 .1 .1 .0) (a .1 .1 .1 .0 .ptr .0) (a .1 .1 .1 .0 .ptr .1) (a .1 .1 .1 .0 .name) (a .1 .1 .1 .0 .now) (κs .1 .1 .1 .1 .0) (qs .1 .1 .1 .1 .0) (a .1 .1 .1 .1 .0 .ptr .0) (a .1 .1 .1 .1 .0 .ptr .1) (a .1 .1 .1 .1 .0 .name) (a .1 .1 .1 .1 .0 .now) (κs .1 .1 .1 .1 .1 .0) (qs .1 .1 .1 .1 .1 .0) (a .1 .1 .1 .1 .1 .0 .ptr .0) (a .1 .1 .1 .1 .1 .0 .ptr .1) (a .1 .1 .1 .1 .1 .0 .name) (a .1 .1 .1 .1 .1 .0 .now) (a .1 .1 .1 .1 .1 .1 .0) (a .1 .1 .1 .1 .1 .1 .1 .0) (are .0 .0 .1) (are .1 .0 .0 .1) (are .1 .1 .0 .0 .1) (are .1 .1 .1 .0 .0 .1) (are .1 .1 .1 .1 .0 .0 .1) (are .1 .1 .1 .1 .1 .0 .0 .1) (are .1 .1 .1 .1 .1 .1 .0) (are .1 .1 .1 .1 .1 .1 .1 .0) 𝓣 known-output-cover known-output-within known-words-least known-agent-process-incoming known-host-say known-host-after-datagram))
+  walks = walked 𝓤 H A f.ended stayed (f.clauses 𝓤 H A mem run) (WpFn 𝓤 H (𝓣 .C) (𝓣 .Λ) code.function) (λ κs. (slice-vals, (slice-vals, (slice-vals, (slice-vals, (slice-vals, (slice-vals, (slice-vals, ((λ y. Host-p .val y ∷ []), ((λ y. Command-p .val y ∷ []), tt)))))))))) (λ κs. (mut-slice-tells (named 0) (κs .0) (Array u64 6), (mut-slice-tells (named 1) (κs .1 .0) (Array u16 35), (mut-slice-tells (named 2) (κs .1 .1 .0) Object-t.the-row, (mut-slice-tells (named 3) (κs .1 .1 .1 .0) u8, (mut-slice-tells (named 4) (κs .1 .1 .1 .1 .0) u8, (shr-slice-tells (named 5) (κs .1 .1 .1 .1 .1 .0) u8, (mut-slice-tells (named 6) (κs .1 .1 .1 .1 .1 .1 .0) u8, (Host-p .tells, (Command-p .tells, tt))))))))))
+      (λ κs qs bounds a g are. via 𝓤 _ (fst∗ 𝓤 _ (emp 𝓤)) (walk 𝓤 H A W mem run (κs .0) (qs .0) (a .0 .ptr .0) (a .0 .ptr .1) (a .0 .name) (a .0 .now) (κs .1 .0) (qs .1 .0) (a .1 .0 .ptr .0) (a .1 .0 .ptr .1) (a .1 .0 .name) (a .1 .0 .now) (κs .1 .1 .0) (qs .1 .1 .0) (a .1 .1 .0 .ptr .0) (a .1 .1 .0 .ptr .1) (a .1 .1 .0 .name) (a .1 .1 .0 .now) (κs .1 .1 .1 .0) (qs .1 .1 .1 .0) (a .1 .1 .1 .0 .ptr .0) (a .1 .1 .1 .0 .ptr .1) (a .1 .1 .1 .0 .name) (a .1 .1 .1 .0 .now) (κs .1 .1 .1 .1 .0) (qs .1 .1 .1 .1 .0) (a .1 .1 .1 .1 .0 .ptr .0) (a .1 .1 .1 .1 .0 .ptr .1) (a .1 .1 .1 .1 .0 .name) (a .1 .1 .1 .1 .0 .now) (κs .1 .1 .1 .1 .1 .0) (qs .1 .1 .1 .1 .1 .0) (a .1 .1 .1 .1 .1 .0 .ptr .0) (a .1 .1 .1 .1 .1 .0 .ptr .1) (a .1 .1 .1 .1 .1 .0 .name) (a .1 .1 .1 .1 .1 .0 .now) (κs .1 .1 .1 .1 .1 .1 .0) (qs .1 .1 .1 .1 .1 .1 .0) (a .1 .1 .1 .1 .1 .1 .0 .ptr .0) (a .1 .1 .1 .1 .1 .1 .0 .ptr .1) (a .1 .1 .1 .1 .1 .1 .0 .name) (a .1 .1 .1 .1 .1 .1 .0 .now) (a .1 .1 .1 .1 .1 .1 .1 .0) (a .1 .1 .1 .1 .1 .1 .1 .1 .0) (are .0 .0 .1) (are .1 .0 .0 .1) (are .1 .1 .0 .0 .1) (are .1 .1 .1 .0 .0 .1) (are .1 .1 .1 .1 .0 .0 .1) (are .1 .1 .1 .1 .1 .0 .0 .1) (are .1 .1 .1 .1 .1 .1 .0 .0 .1) (are .1 .1 .1 .1 .1 .1 .1 .0) (are .1 .1 .1 .1 .1 .1 .1 .1 .0) 𝓣 known-output-cover known-output-within known-words-least known-agent-process-incoming known-host-say known-host-after-datagram))
 
   meets : Meets 𝓤 H A f.signature (WpFn 𝓤 H (𝓣 .C) (𝓣 .Λ) code.function) (f.spec 𝓤 H A mem run)
-  meets = walk-meets 𝓤 H A f.ended stayed W (goes-slice 𝓤 H A W 6 0 tt (plain (λ _. (Array u64 5))), (goes-slice 𝓤 H A W 6 1 tt (plain (λ _. (Array u16 35))), (goes-slice 𝓤 H A W 6 2 tt (plain (λ _. Object-t.the-row)), (goes-slice 𝓤 H A W 6 3 tt (plain (λ _. u8)), (goes-none-slice 𝓤 H A W 6 (4 ∷ []) tt (plain (λ _. u8)) yes, (goes-slice 𝓤 H A W 6 5 tt (plain (λ _. u8)), (goes-none 𝓤 H A W 6 (λ _. Host-p .row) yes (λ κs x f. refl), (goes-none 𝓤 H A W 6 (λ _. Command-p .row) yes (λ κs x f. refl), tt)))))))) (f.clauses 𝓤 H A mem run) (WpFn 𝓤 H (𝓣 .C) (𝓣 .Λ) code.function) (WpFn-mono 𝓤 H (W .laws) 𝓣 code.function) walks
+  meets = walk-meets 𝓤 H A f.ended stayed W (goes-slice 𝓤 H A W 7 0 tt (plain (λ _. (Array u64 6))), (goes-slice 𝓤 H A W 7 1 tt (plain (λ _. (Array u16 35))), (goes-slice 𝓤 H A W 7 2 tt (plain (λ _. Object-t.the-row)), (goes-slice 𝓤 H A W 7 3 tt (plain (λ _. u8)), (goes-slice 𝓤 H A W 7 4 tt (plain (λ _. u8)), (goes-none-slice 𝓤 H A W 7 (5 ∷ []) tt (plain (λ _. u8)) yes, (goes-slice 𝓤 H A W 7 6 tt (plain (λ _. u8)), (goes-none 𝓤 H A W 7 (λ _. Host-p .row) yes (λ κs x f. refl), (goes-none 𝓤 H A W 7 (λ _. Command-p .row) yes (λ κs x f. refl), tt))))))))) (f.clauses 𝓤 H A mem run) (WpFn 𝓤 H (𝓣 .C) (𝓣 .Λ) code.function) (WpFn-mono 𝓤 H (W .laws) 𝓣 code.function) walks
 
 pub datagram-spec : {M : Type 1} → stated.statement M
 unfolding code.routine tablesOf

@@ -55,7 +55,7 @@ use Rattle.walk.proofs.Arrays.{rep-is, lends-array, backs-array}
 use Rattle.sessions.specs.Setup.{setUpOf}
 use Rattle.sessions.specs.Calls.{setUpTables}
 use Rattle.sessions.specs.ObjectList.{listOf, listOut}
-use Rattle.moves.specs.Rows.{lent}
+use Rattle.agent.specs.Lent.{lent}
 use Rattle.agent.specs.Host.{setUpAs, incomingOf, answerOf, idleOf, removedAs, removedBy, removedRows, sweptBy, sweptRows, sweptOut}
 use Rattle.sessions.specs.declared.objects.Object.{Object}
 use Rattle.sessions.proofs.objects.Object as Object-t
@@ -158,7 +158,7 @@ abbrev Refusal-p : Plain
 Refusal-p = record { row = Refusal-t.the-row; val = EL.val Refusal-t.the-type Refusal-l.the-laws; tells = EL.tells Refusal-t.the-type Refusal-l.the-laws; makes = λ 𝓤 H A W. EL.makes Refusal-t.the-type Refusal-l.the-plain 𝓤 H A; ty = Refusal-l.mir; typed = λ 𝓤 H A W x is. EL.lawful Refusal-t.the-type Refusal-l.the-laws 𝓤 H A W tt .typed x _ is .0; copies = λ 𝓤 H A W. EL.copy Refusal-t.the-type Refusal-l.the-copy 𝓤 H A W }
 
 abbrev stayed : Stays (f.ended .signature .params) (f.ended .kept)
-stayed = (stay-slice (0 ∷ []) tt (plain (λ _. (Array u64 5))), (stay-slice (1 ∷ []) tt (plain (λ _. (Array u16 35))), (stay-slice (2 ∷ []) tt (plain (λ _. Object-t.the-row)), (stay-none (λ _. Host-p .row) yes, (stay-none (λ _. Command-p .row) yes, tt)))))
+stayed = (stay-slice (0 ∷ []) tt (plain (λ _. (Array u64 6))), (stay-slice (1 ∷ []) tt (plain (λ _. (Array u16 35))), (stay-slice (2 ∷ []) tt (plain (λ _. Object-t.the-row)), (stay-none-slice (3 ∷ []) tt (plain (λ _. u8)) yes, (stay-none (λ _. Host-p .row) yes, (stay-none (λ _. Command-p .row) yes, tt))))))
 
 module _ {M : Type 1} (𝓤 : URA M) (H : Heap 𝓤) (A : Atoms 𝓤) (mem : Memory → SProp 𝓤) (run : Routine → Fun 𝓤) where
   abbrev Of-host-max-clients : Contract 𝓤
@@ -170,8 +170,8 @@ module _ {M : Type 1} (𝓤 : URA M) (H : Heap 𝓤) (A : Atoms 𝓤) (mem : Mem
   abbrev Of-host-set-up-said : Contract 𝓤
   Of-host-set-up-said = tripleOf 𝓤 H A host-set-up-said.signature (host-set-up-said.spec 𝓤 H A mem run)
 
-module _ {M : Type 1} (𝓤 : URA M) (H : Heap 𝓤) (A : Atoms 𝓤) (W : Given 𝓤 H A) (mem : Memory → SProp 𝓤) (run : Routine → Fun 𝓤) (κ₁ : Lft) (q₁ : Share) (b₁ o₁ : ℕ) (γ₁ : GName) (sessions : List (List ℕ)) (κ₂ : Lft) (q₂ : Share) (b₂ o₂ : ℕ) (γ₂ : GName) (streams : List (List ℕ)) (κ₃ : Lft) (q₃ : Share) (b₃ o₃ : ℕ) (γ₃ : GName) (objects : List Object) (host : Host) (c : Command)
-    (room₁ : Room (Array u64 5) (length sessions)) (room₂ : Room (Array u16 35) (length streams)) (room₃ : Room Object-t.the-row (length objects)) (host-is : Is (Host-p .row) host (Host-p .val host ∷ [])) (c-is : Is (Command-p .row) c (Command-p .val c ∷ [])) where
+module _ {M : Type 1} (𝓤 : URA M) (H : Heap 𝓤) (A : Atoms 𝓤) (W : Given 𝓤 H A) (mem : Memory → SProp 𝓤) (run : Routine → Fun 𝓤) (κ₁ : Lft) (q₁ : Share) (b₁ o₁ : ℕ) (γ₁ : GName) (sessions : List (List ℕ)) (κ₂ : Lft) (q₂ : Share) (b₂ o₂ : ℕ) (γ₂ : GName) (streams : List (List ℕ)) (κ₃ : Lft) (q₃ : Share) (b₃ o₃ : ℕ) (γ₃ : GName) (objects : List Object) (κ₄ : Lft) (q₄ : Share) (b₄ o₄ : ℕ) (γ₄ : GName) (held : List ℕ) (host : Host) (c : Command)
+    (room₁ : Room (Array u64 6) (length sessions)) (room₂ : Room (Array u16 35) (length streams)) (room₃ : Room Object-t.the-row (length objects)) (room₄ : Room u8 (length held)) (host-is : Is (Host-p .row) host (Host-p .val host ∷ [])) (c-is : Is (Command-p .row) c (Command-p .val c ∷ [])) where
   abbrev n₁ : ℕ
   n₁ = length sessions
 
@@ -181,26 +181,29 @@ module _ {M : Type 1} (𝓤 : URA M) (H : Heap 𝓤) (A : Atoms 𝓤) (W : Given
   abbrev n₃ : ℕ
   n₃ = length objects
 
-  abbrev x : RefT (List (List ℕ)) × (RefT (List (List ℕ)) × (RefT (List Object) × (Host-p .row .Denot × (Command-p .row .Denot × (Unit {0})))))
-  x = (at-list b₁ o₁ γ₁ sessions, (at-list b₂ o₂ γ₂ streams, (at-list b₃ o₃ γ₃ objects, (host, (c, tt)))))
+  abbrev n₄ : ℕ
+  n₄ = length held
 
-  abbrev at : Vals f.signature (κ₁, (κ₂, (κ₃, tt)))
-  at = (sliceVal (b₁, o₁) n₁ ∷ [], (sliceVal (b₂, o₂) n₂ ∷ [], (sliceVal (b₃, o₃) n₃ ∷ [], (Host-p .val host ∷ [], (Command-p .val c ∷ [], tt)))))
+  abbrev x : RefT (List (List ℕ)) × (RefT (List (List ℕ)) × (RefT (List Object) × (RefT (List ℕ) × (Host-p .row .Denot × (Command-p .row .Denot × (Unit {0}))))))
+  x = (at-list b₁ o₁ γ₁ sessions, (at-list b₂ o₂ γ₂ streams, (at-list b₃ o₃ γ₃ objects, (at-list b₄ o₄ γ₄ held, (host, (c, tt))))))
+
+  abbrev at : Vals f.signature (κ₁, (κ₂, (κ₃, (κ₄, tt))))
+  at = (sliceVal (b₁, o₁) n₁ ∷ [], (sliceVal (b₂, o₂) n₂ ∷ [], (sliceVal (b₃, o₃) n₃ ∷ [], (sliceVal (b₄, o₄) n₄ ∷ [], (Host-p .val host ∷ [], (Command-p .val c ∷ [], tt))))))
 
   abbrev Post : Val → SProp 𝓤
-  Post = walkOf 𝓤 H A f.ended stayed (f.clauses 𝓤 H A mem run) .post (((κ₁, (κ₂, (κ₃, tt))), (q₁, (q₂, (q₃, tt))), tt, x, at), tt)
+  Post = walkOf 𝓤 H A f.ended stayed (f.clauses 𝓤 H A mem run) .post (((κ₁, (κ₂, (κ₃, (κ₄, tt)))), (q₁, (q₂, (q₃, (q₄, tt)))), tt, x, at), tt)
 
-  exits : (r : Host) (ws₁ : List (List ℕ)) (ws₂ : List (List ℕ)) (ws₃ : List Object) → Is (Host-p .row) r (Host-p .val r ∷ []) → length ws₁ ≡ n₁ → length ws₂ ≡ n₂ → length ws₃ ≡ n₃ → ent 𝓤 (⋆ 𝓤 H A (‵ (MutSlice (named 0) κ₁ (Array u64 5) .own (at-list b₁ o₁ γ₁ ws₁) (sliceVal (b₁, o₁) n₁ ∷ [])) ∷ ‵ (flft κ₁ q₁) ∷ ‵ (MutSlice (named 1) κ₂ (Array u16 35) .own (at-list b₂ o₂ γ₂ ws₂) (sliceVal (b₂, o₂) n₂ ∷ [])) ∷ ‵ (flft κ₂ q₂) ∷ ‵ (MutSlice (named 2) κ₃ Object-t.the-row .own (at-list b₃ o₃ γ₃ ws₃) (sliceVal (b₃, o₃) n₃ ∷ [])) ∷ ‵ (flft κ₃ q₃) ∷ [])) (Post (Host-p .val r))
+  exits : (r : Host) (ws₁ : List (List ℕ)) (ws₂ : List (List ℕ)) (ws₃ : List Object) → Is (Host-p .row) r (Host-p .val r ∷ []) → length ws₁ ≡ n₁ → length ws₂ ≡ n₂ → length ws₃ ≡ n₃ → ent 𝓤 (⋆ 𝓤 H A (‵ (MutSlice (named 0) κ₁ (Array u64 6) .own (at-list b₁ o₁ γ₁ ws₁) (sliceVal (b₁, o₁) n₁ ∷ [])) ∷ ‵ (flft κ₁ q₁) ∷ ‵ (MutSlice (named 1) κ₂ (Array u16 35) .own (at-list b₂ o₂ γ₂ ws₂) (sliceVal (b₂, o₂) n₂ ∷ [])) ∷ ‵ (flft κ₂ q₂) ∷ ‵ (MutSlice (named 2) κ₃ Object-t.the-row .own (at-list b₃ o₃ γ₃ ws₃) (sliceVal (b₃, o₃) n₃ ∷ [])) ∷ ‵ (flft κ₃ q₃) ∷ ‵ (ShrSlice (named 3) κ₄ u8 .own (at-list b₄ o₄ γ₄ held) (sliceVal (b₄, o₄) n₄ ∷ [])) ∷ ‵ (flft κ₄ q₄) ∷ [])) (Post (Host-p .val r))
   exits r ws₁ ws₂ ws₃ r-is len₁ len₂ len₃ =
-      qed W (‵ (MutSlice (named 0) κ₁ (Array u64 5) .own (at-list b₁ o₁ γ₁ ws₁) (sliceVal (b₁, o₁) n₁ ∷ [])) ∷ ‵ (flft κ₁ q₁) ∷ ‵ (MutSlice (named 1) κ₂ (Array u16 35) .own (at-list b₂ o₂ γ₂ ws₂) (sliceVal (b₂, o₂) n₂ ∷ [])) ∷ ‵ (flft κ₂ q₂) ∷ ‵ (MutSlice (named 2) κ₃ Object-t.the-row .own (at-list b₃ o₃ γ₃ ws₃) (sliceVal (b₃, o₃) n₃ ∷ [])) ∷ ‵ (flft κ₃ q₃) ∷ []) ∵
-      suffices ! _ (ends-at 𝓤 H A f.ended stayed (f.clauses 𝓤 H A mem run) W (((κ₁, (κ₂, (κ₃, tt))), (q₁, (q₂, (q₃, tt))), tt, x, at), tt) (Host-p .val r) r (ws₁, (ws₂, (ws₃, (tt, (tt, tt))))) (len₁, (len₂, (len₃, (tt, (tt, tt)))))) $ says-nothing ! $ nothing ! $ move ! (6 ∷ 0 ∷ []) $ join ! $ move ! (4 ∷ 0 ∷ []) $ join ! $ move ! (2 ∷ 0 ∷ []) $ join ! $
+      qed W (‵ (MutSlice (named 0) κ₁ (Array u64 6) .own (at-list b₁ o₁ γ₁ ws₁) (sliceVal (b₁, o₁) n₁ ∷ [])) ∷ ‵ (flft κ₁ q₁) ∷ ‵ (MutSlice (named 1) κ₂ (Array u16 35) .own (at-list b₂ o₂ γ₂ ws₂) (sliceVal (b₂, o₂) n₂ ∷ [])) ∷ ‵ (flft κ₂ q₂) ∷ ‵ (MutSlice (named 2) κ₃ Object-t.the-row .own (at-list b₃ o₃ γ₃ ws₃) (sliceVal (b₃, o₃) n₃ ∷ [])) ∷ ‵ (flft κ₃ q₃) ∷ ‵ (ShrSlice (named 3) κ₄ u8 .own (at-list b₄ o₄ γ₄ held) (sliceVal (b₄, o₄) n₄ ∷ [])) ∷ ‵ (flft κ₄ q₄) ∷ []) ∵
+      suffices ! _ (ends-at 𝓤 H A f.ended stayed (f.clauses 𝓤 H A mem run) W (((κ₁, (κ₂, (κ₃, (κ₄, tt)))), (q₁, (q₂, (q₃, (q₄, tt)))), tt, x, at), tt) (Host-p .val r) r (ws₁, (ws₂, (ws₃, (tt, (tt, (tt, tt)))))) (len₁, (len₂, (len₃, (tt, (tt, (tt, tt))))))) $ says-nothing ! $ nothing ! $ move ! (8 ∷ 0 ∷ []) $ join ! $ move ! (6 ∷ 0 ∷ []) $ join ! $ move ! (4 ∷ 0 ∷ []) $ join ! $ move ! (2 ∷ 0 ∷ []) $ join ! $
       frame ! $ nothing ! $
       owned ! (Command-p .row) (Is (Command-p .row)) (Command-p .makes 𝓤 H A W) c (Command-p .val c ∷ []) c-is $ fjoin ! $
-      owned ! (Host-p .row) (Is (Host-p .row)) (Host-p .makes 𝓤 H A W) host (Host-p .val host ∷ []) host-is $ fjoin ! $ move ! (3 ∷ 0 ∷ []) $ fjoin ! $ move ! (2 ∷ 0 ∷ []) $ fjoin ! $ move ! (1 ∷ 0 ∷ []) $ fjoin ! $
+      owned ! (Host-p .row) (Is (Host-p .row)) (Host-p .makes 𝓤 H A W) host (Host-p .val host ∷ []) host-is $ fjoin ! $ move ! (4 ∷ 0 ∷ []) $ fjoin ! $ move ! (3 ∷ 0 ∷ []) $ fjoin ! $ move ! (2 ∷ 0 ∷ []) $ fjoin ! $ move ! (1 ∷ 0 ∷ []) $ fjoin ! $
       frame ! $
       owned ! (Host-p .row) (Is (Host-p .row)) (Host-p .makes 𝓤 H A W) r _ r-is $ done !
 
-  module _ (𝓣 : Tables 𝓤 H) (known-host-max-clients : Triple 𝓤 (𝓣 .C #host-max-clients) (Of-host-max-clients 𝓤 H A mem run)) (known-agent-setup : Triple 𝓤 (𝓣 .C #agent-setup) (Of-agent-setup 𝓤 H A mem run)) (known-host-set-up-said : Triple 𝓤 (𝓣 .C #host-set-up-said) (Of-host-set-up-said 𝓤 H A mem run)) (l₀ l₁ l₂ l₃ l₄ l₅ l₆ l₇ l₈ l₉ l₁₀ l₁₁ l₁₂ l₁₃ : ℕ) where
+  module _ (𝓣 : Tables 𝓤 H) (known-host-max-clients : Triple 𝓤 (𝓣 .C #host-max-clients) (Of-host-max-clients 𝓤 H A mem run)) (known-agent-setup : Triple 𝓤 (𝓣 .C #agent-setup) (Of-agent-setup 𝓤 H A mem run)) (known-host-set-up-said : Triple 𝓤 (𝓣 .C #host-set-up-said) (Of-host-set-up-said 𝓤 H A mem run)) (l₀ l₁ l₂ l₃ l₄ l₅ l₆ l₇ l₈ l₉ l₁₀ l₁₁ l₁₂ l₁₃ l₁₄ : ℕ) where
     abbrev C : Calls 𝓤 H
     C = 𝓣 .C
 
@@ -211,73 +214,74 @@ module _ {M : Type 1} (𝓤 : URA M) (H : Heap 𝓤) (A : Atoms 𝓤) (W : Given
     fm = fmOf 𝓤 H (W .laws) 𝓣
 
     abbrev En : Env 𝓤 H
-    En = (Host-l.mir, l₀) ∷ ((sliceTy (tyRef (named 0) mut (pointee ((Array u64 5) .written)))), l₁) ∷ ((sliceTy (tyRef (named 1) mut (pointee ((Array u16 35) .written)))), l₂) ∷ ((sliceTy (tyRef (named 2) mut (pointee (Object-t.the-row .written)))), l₃) ∷ (Host-l.mir, l₄) ∷ (Command-l.mir, l₅) ∷ ((tyInt w64), l₆) ∷ (AgentSetUp-l.mir, l₇) ∷ ((tyRef erased mut (pointee ((Array u64 5) .written))), l₈) ∷ ((sliceTy (tyRef erased mut (pointee ((Array u64 5) .written)))), l₉) ∷ ((tyRef erased mut (pointee ((Array u16 35) .written))), l₁₀) ∷ ((sliceTy (tyRef erased mut (pointee ((Array u16 35) .written)))), l₁₁) ∷ ((tyRef erased mut (pointee (Object-t.the-row .written))), l₁₂) ∷ ((sliceTy (tyRef erased mut (pointee (Object-t.the-row .written)))), l₁₃) ∷ []
+    En = (Host-l.mir, l₀) ∷ ((sliceTy (tyRef (named 0) mut (pointee ((Array u64 6) .written)))), l₁) ∷ ((sliceTy (tyRef (named 1) mut (pointee ((Array u16 35) .written)))), l₂) ∷ ((sliceTy (tyRef (named 2) mut (pointee (Object-t.the-row .written)))), l₃) ∷ ((sliceTy (tyRef (named 3) imm (pointee (u8 .written)))), l₄) ∷ (Host-l.mir, l₅) ∷ (Command-l.mir, l₆) ∷ ((tyInt w64), l₇) ∷ (AgentSetUp-l.mir, l₈) ∷ ((tyRef erased mut (pointee ((Array u64 6) .written))), l₉) ∷ ((sliceTy (tyRef erased mut (pointee ((Array u64 6) .written)))), l₁₀) ∷ ((tyRef erased mut (pointee ((Array u16 35) .written))), l₁₁) ∷ ((sliceTy (tyRef erased mut (pointee ((Array u16 35) .written)))), l₁₂) ∷ ((tyRef erased mut (pointee (Object-t.the-row .written))), l₁₃) ∷ ((sliceTy (tyRef erased mut (pointee (Object-t.the-row .written)))), l₁₄) ∷ []
 
-    begins : Sq W (‵ (MutSlice (named 0) κ₁ (Array u64 5) .own (at-list b₁ o₁ γ₁ sessions) (sliceVal (b₁, o₁) n₁ ∷ [])) ∷ ‵ (flft κ₁ q₁) ∷ ‵ (MutSlice (named 0) κ₂ (Array u16 35) .own (at-list b₂ o₂ γ₂ streams) (sliceVal (b₂, o₂) n₂ ∷ [])) ∷ ‵ (flft κ₂ q₂) ∷ ‵ (MutSlice (named 0) κ₃ Object-t.the-row .own (at-list b₃ o₃ γ₃ objects) (sliceVal (b₃, o₃) n₃ ∷ [])) ∷ ‵ (flft κ₃ q₃) ∷ free 𝓤 (sliceTy (tyRef erased mut (pointee (Object-t.the-row .written)))) l₁₃ (free 𝓤 (tyRef erased mut (pointee (Object-t.the-row .written))) l₁₂ (free 𝓤 (sliceTy (tyRef erased mut (pointee ((Array u16 35) .written)))) l₁₁ (free 𝓤 (tyRef erased mut (pointee ((Array u16 35) .written))) l₁₀ (free 𝓤 (sliceTy (tyRef erased mut (pointee ((Array u64 5) .written)))) l₉ (free 𝓤 (tyRef erased mut (pointee ((Array u64 5) .written))) l₈ (free 𝓤 AgentSetUp-l.mir l₇ (free 𝓤 (tyInt w64) l₆ (full 𝓤 Command-l.mir l₅ (Command-p .val c) (full 𝓤 Host-l.mir l₄ (Host-p .val host) (full 𝓤 (sliceTy (tyRef (named 2) mut (pointee (Object-t.the-row .written)))) l₃ (sliceVal (b₃, o₃) n₃) (full 𝓤 (sliceTy (tyRef (named 1) mut (pointee ((Array u16 35) .written)))) l₂ (sliceVal (b₂, o₂) n₂) (full 𝓤 (sliceTy (tyRef (named 0) mut (pointee ((Array u64 5) .written)))) l₁ (sliceVal (b₁, o₁) n₁) (free 𝓤 Host-l.mir l₀ ([]))))))))))))))) (runs C Λ En mir.t-1 (atRet En Post))
+    begins : Sq W (‵ (MutSlice (named 0) κ₁ (Array u64 6) .own (at-list b₁ o₁ γ₁ sessions) (sliceVal (b₁, o₁) n₁ ∷ [])) ∷ ‵ (flft κ₁ q₁) ∷ ‵ (MutSlice (named 0) κ₂ (Array u16 35) .own (at-list b₂ o₂ γ₂ streams) (sliceVal (b₂, o₂) n₂ ∷ [])) ∷ ‵ (flft κ₂ q₂) ∷ ‵ (MutSlice (named 0) κ₃ Object-t.the-row .own (at-list b₃ o₃ γ₃ objects) (sliceVal (b₃, o₃) n₃ ∷ [])) ∷ ‵ (flft κ₃ q₃) ∷ ‵ (ShrSlice (named 0) κ₄ u8 .own (at-list b₄ o₄ γ₄ held) (sliceVal (b₄, o₄) n₄ ∷ [])) ∷ ‵ (flft κ₄ q₄) ∷ free 𝓤 (sliceTy (tyRef erased mut (pointee (Object-t.the-row .written)))) l₁₄ (free 𝓤 (tyRef erased mut (pointee (Object-t.the-row .written))) l₁₃ (free 𝓤 (sliceTy (tyRef erased mut (pointee ((Array u16 35) .written)))) l₁₂ (free 𝓤 (tyRef erased mut (pointee ((Array u16 35) .written))) l₁₁ (free 𝓤 (sliceTy (tyRef erased mut (pointee ((Array u64 6) .written)))) l₁₀ (free 𝓤 (tyRef erased mut (pointee ((Array u64 6) .written))) l₉ (free 𝓤 AgentSetUp-l.mir l₈ (free 𝓤 (tyInt w64) l₇ (full 𝓤 Command-l.mir l₆ (Command-p .val c) (full 𝓤 Host-l.mir l₅ (Host-p .val host) (full 𝓤 (sliceTy (tyRef (named 3) imm (pointee (u8 .written)))) l₄ (sliceVal (b₄, o₄) n₄) (full 𝓤 (sliceTy (tyRef (named 2) mut (pointee (Object-t.the-row .written)))) l₃ (sliceVal (b₃, o₃) n₃) (full 𝓤 (sliceTy (tyRef (named 1) mut (pointee ((Array u16 35) .written)))) l₂ (sliceVal (b₂, o₂) n₂) (full 𝓤 (sliceTy (tyRef (named 0) mut (pointee ((Array u64 6) .written)))) l₁ (sliceVal (b₁, o₁) n₁) (free 𝓤 Host-l.mir l₀ ([])))))))))))))))) (runs C Λ En mir.t-1 (atRet En Post))
     begins =
         -- 1: replay::host::max_clients
         nothing ! $
         use1 W (raw (toks 𝓤 A 0 (tt) (tt))) (id⊢ 𝓤 _) $ nothing ! $
         owned ! (Command-p .row) (Is (Command-p .row)) (Command-p .makes 𝓤 H A W) c (Command-p .val c ∷ []) c-is $ fjoin ! $ move ! (1 ∷ 0 ∷ []) $
-        calls-some ! fm 0 [] (host-max-clients.signature .params) (host-max-clients.ended .kept) u64-p (host-max-clients.clauses 𝓤 H A mem run) known-host-max-clients tt tt tt (c, tt) (Command-p .val c ∷ [], tt) tt (λ r ws-1. Unit {0}) (id⊢ 𝓤 _) (λ r ws-1. factI 𝓤 (Unit {0}) _ tt) (λ _. (and-then ! (load ! (from ! (stop !)) (look ! 23 refl)) (no-more !))) (λ r-1 ws-1 said-1 is-1.
+        calls-some ! fm 0 [] (host-max-clients.signature .params) (host-max-clients.ended .kept) u64-p (host-max-clients.clauses 𝓤 H A mem run) known-host-max-clients tt tt tt (c, tt) (Command-p .val c ∷ [], tt) tt (λ r ws-1. Unit {0}) (id⊢ 𝓤 _) (λ r ws-1. factI 𝓤 (Unit {0}) _ tt) (λ _. (and-then ! (load ! (from ! (stop !)) (look ! 25 refl)) (no-more !))) (λ r-1 ws-1 said-1 is-1.
         drop ! $ drop ! $
-        land ! (from ! (stop !)) (init ! 20 refl (u64-p .typed 𝓤 H A W r-1 is-1)) $
-        assigns ! (addr ! (from ! (fld ! refl (hop ! (look-in ! 30 (sub ! 0 refl (whole !))) (stop !))))) (from ! (stop !)) (init ! 16 refl (tt, tt)) $
-        assigns ! (agg ! (and-then ! (load ! (from ! (stop !)) (look ! 16 refl)) (and-then ! (load ! (from ! (fld ! refl (stop !))) (look-in ! 30 (sub ! 1 refl (whole !)))) (no-more !)))) (from ! (stop !)) (init ! 14 refl (tt, (tt, (record { fits = room₁ .0 }, tt)))) $
-        assigns ! (addr ! (from ! (fld ! refl (hop ! (look-in ! 28 (sub ! 0 refl (whole !))) (stop !))))) (from ! (stop !)) (init ! 12 refl (tt, tt)) $
-        assigns ! (agg ! (and-then ! (load ! (from ! (stop !)) (look ! 12 refl)) (and-then ! (load ! (from ! (fld ! refl (stop !))) (look-in ! 28 (sub ! 1 refl (whole !)))) (no-more !)))) (from ! (stop !)) (init ! 10 refl (tt, (tt, (record { fits = room₂ .0 }, tt)))) $
-        assigns ! (addr ! (from ! (fld ! refl (hop ! (look-in ! 26 (sub ! 0 refl (whole !))) (stop !))))) (from ! (stop !)) (init ! 8 refl (tt, tt)) $
-        assigns ! (agg ! (and-then ! (load ! (from ! (stop !)) (look ! 8 refl)) (and-then ! (load ! (from ! (fld ! refl (stop !))) (look-in ! 26 (sub ! 1 refl (whole !)))) (no-more !)))) (from ! (stop !)) (init ! 6 refl (tt, (tt, (record { fits = room₃ .0 }, tt)))) $
+        land ! (from ! (stop !)) (init ! 22 refl (u64-p .typed 𝓤 H A W r-1 is-1)) $
+        assigns ! (addr ! (from ! (fld ! refl (hop ! (look-in ! 34 (sub ! 0 refl (whole !))) (stop !))))) (from ! (stop !)) (init ! 18 refl (tt, tt)) $
+        assigns ! (agg ! (and-then ! (load ! (from ! (stop !)) (look ! 18 refl)) (and-then ! (load ! (from ! (fld ! refl (stop !))) (look-in ! 34 (sub ! 1 refl (whole !)))) (no-more !)))) (from ! (stop !)) (init ! 16 refl (tt, (tt, (record { fits = room₁ .0 }, tt)))) $
+        assigns ! (addr ! (from ! (fld ! refl (hop ! (look-in ! 32 (sub ! 0 refl (whole !))) (stop !))))) (from ! (stop !)) (init ! 14 refl (tt, tt)) $
+        assigns ! (agg ! (and-then ! (load ! (from ! (stop !)) (look ! 14 refl)) (and-then ! (load ! (from ! (fld ! refl (stop !))) (look-in ! 32 (sub ! 1 refl (whole !)))) (no-more !)))) (from ! (stop !)) (init ! 12 refl (tt, (tt, (record { fits = room₂ .0 }, tt)))) $
+        assigns ! (addr ! (from ! (fld ! refl (hop ! (look-in ! 30 (sub ! 0 refl (whole !))) (stop !))))) (from ! (stop !)) (init ! 10 refl (tt, tt)) $
+        assigns ! (agg ! (and-then ! (load ! (from ! (stop !)) (look ! 10 refl)) (and-then ! (load ! (from ! (fld ! refl (stop !))) (look-in ! 30 (sub ! 1 refl (whole !)))) (no-more !)))) (from ! (stop !)) (init ! 8 refl (tt, (tt, (record { fits = room₃ .0 }, tt)))) $
         -- 8: agent::agent::setup
-        lends-mut ! tt (Array u64 5) b₁ o₁ sessions n₁ (refl) (λ ν-8-sessions δ-8-sessions.
+        lends-mut ! tt (Array u64 6) b₁ o₁ sessions n₁ (refl) (λ ν-8-sessions δ-8-sessions.
         move ! (3 ∷ 4 ∷ []) $
         lends-mut ! tt (Array u16 35) b₂ o₂ streams n₂ (refl) (λ ν-8-streams δ-8-streams.
         move ! (6 ∷ 7 ∷ []) $
         lends-mut ! tt Object-t.the-row b₃ o₃ objects n₃ (refl) (λ ν-8-objects δ-8-objects.
-        nothing ! $ move ! (1 ∷ 0 ∷ []) $ join ! $ move ! (3 ∷ 0 ∷ []) $ join ! $ move ! (5 ∷ 0 ∷ []) $ join ! $
-        use1 W (raw (toks 𝓤 A 3 (((ν-8-sessions ∷ []), ((ν-8-streams ∷ []), ((ν-8-objects ∷ []), tt)))) ((fullShare, (fullShare, (fullShare, tt)))))) (id⊢ 𝓤 _) $ nothing ! $
+        move ! (9 ∷ 10 ∷ []) $
+        copies-shr ! u8 b₄ o₄ held n₄ $ nothing ! $ move ! (1 ∷ 0 ∷ []) $ join ! $ move ! (3 ∷ 0 ∷ []) $ join ! $ move ! (5 ∷ 0 ∷ []) $ join ! $ move ! (7 ∷ 0 ∷ []) $ join ! $
+        use1 W (raw (toks 𝓤 A 4 (((ν-8-sessions ∷ []), ((ν-8-streams ∷ []), ((ν-8-objects ∷ []), (κ₄, tt))))) ((fullShare, (fullShare, (fullShare, (q₄, tt))))))) (id⊢ 𝓤 _) $ nothing ! $
         owned ! (u64-p .row) (Is (u64-p .row)) (u64-p .makes 𝓤 H A W) (c .second) (u64-p .val (c .second) ∷ []) (LL.owed Command-t.the-type Command-l.the-laws c _ c-is .1 .1 .0) $ fjoin ! $
-        owned ! (u64-p .row) (Is (u64-p .row)) (u64-p .makes 𝓤 H A W) r-1 (u64-p .val r-1 ∷ []) is-1 $ fjoin ! $ move ! (2 ∷ 0 ∷ []) $ fjoin ! $ move ! (3 ∷ 0 ∷ []) $ fjoin ! $ move ! (4 ∷ 0 ∷ []) $ fjoin ! $ move ! (1 ∷ 0 ∷ []) $
-        calls-any ! fm 3 [] (agent-setup.signature .params) (agent-setup.ended .kept) AgentSetUp-p (agent-setup.clauses 𝓤 H A mem run) known-agent-setup ((ν-8-sessions ∷ []), ((ν-8-streams ∷ []), ((ν-8-objects ∷ []), tt))) (fullShare, (fullShare, (fullShare, tt))) tt (at-list b₁ o₁ δ-8-sessions sessions, (at-list b₂ o₂ δ-8-streams streams, (at-list b₃ o₃ δ-8-objects objects, (r-1, (c .second, tt))))) (sliceVal (b₁, o₁) n₁ ∷ [], (sliceVal (b₂, o₂) n₂ ∷ [], (sliceVal (b₃, o₃) n₃ ∷ [], (u64-p .val r-1 ∷ [], (u64-p .val (c .second) ∷ [], tt))))) tt (setUpAs (setUpOf (length (sessions)) (length (streams)) (length (objects)) r-1) r-1 (c .second)) (λ ws-8. (ws-8 .0 ≡ setUpTables (setUpOf (length (sessions)) (length (streams)) (length (objects)) r-1) (lent (sessions) (streams) (objects)) .sessions) × (ws-8 .1 .0 ≡ setUpTables (setUpOf (length (sessions)) (length (streams)) (length (objects)) r-1) (lent (sessions) (streams) (objects)) .streams) × (ws-8 .1 .1 .0 ≡ setUpTables (setUpOf (length (sessions)) (length (streams)) (length (objects)) r-1) (lent (sessions) (streams) (objects)) .objects)) (id⊢ 𝓤 _) (λ r ws-8. fact-mono 𝓤 ((r ≡ setUpAs (setUpOf (length (sessions)) (length (streams)) (length (objects)) r-1) r-1 (c .second)) × ((ws-8 .0) ≡ setUpTables (setUpOf (length (sessions)) (length (streams)) (length (objects)) r-1) (lent (sessions) (streams) (objects)) .sessions) × ((ws-8 .1 .0) ≡ setUpTables (setUpOf (length (sessions)) (length (streams)) (length (objects)) r-1) (lent (sessions) (streams) (objects)) .streams) × ((ws-8 .1 .1 .0) ≡ setUpTables (setUpOf (length (sessions)) (length (streams)) (length (objects)) r-1) (lent (sessions) (streams) (objects)) .objects)) ((r ≡ (setUpAs (setUpOf (length (sessions)) (length (streams)) (length (objects)) r-1) r-1 (c .second))) × ((ws-8 .0 ≡ setUpTables (setUpOf (length (sessions)) (length (streams)) (length (objects)) r-1) (lent (sessions) (streams) (objects)) .sessions) × (ws-8 .1 .0 ≡ setUpTables (setUpOf (length (sessions)) (length (streams)) (length (objects)) r-1) (lent (sessions) (streams) (objects)) .streams) × (ws-8 .1 .1 .0 ≡ setUpTables (setUpOf (length (sessions)) (length (streams)) (length (objects)) r-1) (lent (sessions) (streams) (objects)) .objects))) (λ e. (e .0, (e .1, e .2, e .3)))) (λ _. (and-then ! (load ! (from ! (stop !)) (look ! 12 refl)) (and-then ! (load ! (from ! (stop !)) (look ! 8 refl)) (and-then ! (load ! (from ! (stop !)) (look ! 4 refl)) (and-then ! (load ! (from ! (stop !)) (look ! 18 refl)) (and-then ! (load ! (from ! (fld ! refl (stop !))) (look-in ! 20 (sub ! 2 refl (whole !)))) (no-more !))))))) (λ ws-8 said-8 is-8.
-        use1 W ((‵ (flft (ν-8-sessions ∷ []) fullShare) ⊛ (‵ (flft (ν-8-streams ∷ []) fullShare) ⊛ (‵ (flft (ν-8-objects ∷ []) fullShare) ⊛ ‵ ftrue)))) (id⊢ 𝓤 _) $ split ! $ move ! (1 ∷ []) $ split ! $ move ! (1 ∷ []) $ split ! $ move ! (4 ∷ []) $ fsplit ! $ fsplit ! $ move ! (1 ∷ []) $
+        owned ! (u64-p .row) (Is (u64-p .row)) (u64-p .makes 𝓤 H A W) r-1 (u64-p .val r-1 ∷ []) is-1 $ fjoin ! $ move ! (2 ∷ 0 ∷ []) $ fjoin ! $ move ! (3 ∷ 0 ∷ []) $ fjoin ! $ move ! (4 ∷ 0 ∷ []) $ fjoin ! $ move ! (5 ∷ 0 ∷ []) $ fjoin ! $ move ! (1 ∷ 0 ∷ []) $
+        calls-any ! fm 4 [] (agent-setup.signature .params) (agent-setup.ended .kept) AgentSetUp-p (agent-setup.clauses 𝓤 H A mem run) known-agent-setup ((ν-8-sessions ∷ []), ((ν-8-streams ∷ []), ((ν-8-objects ∷ []), (κ₄, tt)))) (fullShare, (fullShare, (fullShare, (q₄, tt)))) tt (at-list b₁ o₁ δ-8-sessions sessions, (at-list b₂ o₂ δ-8-streams streams, (at-list b₃ o₃ δ-8-objects objects, (at-list b₄ o₄ γ₄ held, (r-1, (c .second, tt)))))) (sliceVal (b₁, o₁) n₁ ∷ [], (sliceVal (b₂, o₂) n₂ ∷ [], (sliceVal (b₃, o₃) n₃ ∷ [], (sliceVal (b₄, o₄) n₄ ∷ [], (u64-p .val r-1 ∷ [], (u64-p .val (c .second) ∷ [], tt)))))) tt (setUpAs (setUpOf (length (sessions)) (length (streams)) (length (objects)) (length (held)) r-1) r-1 (c .second)) (λ ws-8. (ws-8 .0 ≡ setUpTables (setUpOf (length (sessions)) (length (streams)) (length (objects)) (length (held)) r-1) (lent (sessions) (streams) (objects) (held)) .sessions) × (ws-8 .1 .0 ≡ setUpTables (setUpOf (length (sessions)) (length (streams)) (length (objects)) (length (held)) r-1) (lent (sessions) (streams) (objects) (held)) .streams) × (ws-8 .1 .1 .0 ≡ setUpTables (setUpOf (length (sessions)) (length (streams)) (length (objects)) (length (held)) r-1) (lent (sessions) (streams) (objects) (held)) .objects)) (id⊢ 𝓤 _) (λ r ws-8. fact-mono 𝓤 ((r ≡ setUpAs (setUpOf (length (sessions)) (length (streams)) (length (objects)) (length (held)) r-1) r-1 (c .second)) × ((ws-8 .0) ≡ setUpTables (setUpOf (length (sessions)) (length (streams)) (length (objects)) (length (held)) r-1) (lent (sessions) (streams) (objects) (held)) .sessions) × ((ws-8 .1 .0) ≡ setUpTables (setUpOf (length (sessions)) (length (streams)) (length (objects)) (length (held)) r-1) (lent (sessions) (streams) (objects) (held)) .streams) × ((ws-8 .1 .1 .0) ≡ setUpTables (setUpOf (length (sessions)) (length (streams)) (length (objects)) (length (held)) r-1) (lent (sessions) (streams) (objects) (held)) .objects)) ((r ≡ (setUpAs (setUpOf (length (sessions)) (length (streams)) (length (objects)) (length (held)) r-1) r-1 (c .second))) × ((ws-8 .0 ≡ setUpTables (setUpOf (length (sessions)) (length (streams)) (length (objects)) (length (held)) r-1) (lent (sessions) (streams) (objects) (held)) .sessions) × (ws-8 .1 .0 ≡ setUpTables (setUpOf (length (sessions)) (length (streams)) (length (objects)) (length (held)) r-1) (lent (sessions) (streams) (objects) (held)) .streams) × (ws-8 .1 .1 .0 ≡ setUpTables (setUpOf (length (sessions)) (length (streams)) (length (objects)) (length (held)) r-1) (lent (sessions) (streams) (objects) (held)) .objects))) (λ e. (e .0, (e .1, e .2, e .3)))) (λ _. (and-then ! (load ! (from ! (stop !)) (look ! 13 refl)) (and-then ! (load ! (from ! (stop !)) (look ! 9 refl)) (and-then ! (load ! (from ! (stop !)) (look ! 5 refl)) (and-then ! (load ! (from ! (stop !)) (look ! 25 refl)) (and-then ! (load ! (from ! (stop !)) (look ! 19 refl)) (and-then ! (load ! (from ! (fld ! refl (stop !))) (look-in ! 21 (sub ! 2 refl (whole !)))) (no-more !)))))))) (λ ws-8 said-8 is-8.
+        use1 W ((‵ (flft (ν-8-sessions ∷ []) fullShare) ⊛ (‵ (flft (ν-8-streams ∷ []) fullShare) ⊛ (‵ (flft (ν-8-objects ∷ []) fullShare) ⊛ (‵ (flft κ₄ q₄) ⊛ ‵ ftrue))))) (id⊢ 𝓤 _) $ split ! $ move ! (1 ∷ []) $ split ! $ move ! (1 ∷ []) $ split ! $ move ! (1 ∷ []) $ split ! $ move ! (5 ∷ []) $ fsplit ! $ fsplit ! $ move ! (1 ∷ []) $
         feqL ! (λ wlen-8-0.
         move ! (1 ∷ []) $ fsplit ! $ fsplit ! $ move ! (1 ∷ []) $
         feqL ! (λ wlen-8-1.
         move ! (1 ∷ []) $ fsplit ! $ fsplit ! $ move ! (1 ∷ []) $
         feqL ! (λ wlen-8-2.
-        move ! (7 ∷ 10 ∷ 3 ∷ []) $
-        backs-mut ! tt (Array u64 5) b₁ o₁ sessions n₁ (refl) room₁ ν-8-sessions δ-8-sessions (ws-8 .0) (setUpTables (setUpOf (length (sessions)) (length (streams)) (length (objects)) r-1) (lent (sessions) (streams) (objects)) .sessions) wlen-8-0 (said-8 .0) (λ len-8-sessions.
-        move ! (7 ∷ 9 ∷ 4 ∷ []) $
-        backs-mut ! tt (Array u16 35) b₂ o₂ streams n₂ (refl) room₂ ν-8-streams δ-8-streams (ws-8 .1 .0) (setUpTables (setUpOf (length (sessions)) (length (streams)) (length (objects)) r-1) (lent (sessions) (streams) (objects)) .streams) wlen-8-1 (said-8 .1) (λ len-8-streams.
-        move ! (6 ∷ 8 ∷ 4 ∷ []) $
-        backs-mut ! tt Object-t.the-row b₃ o₃ objects n₃ (refl) room₃ ν-8-objects δ-8-objects (ws-8 .1 .1 .0) (setUpTables (setUpOf (length (sessions)) (length (streams)) (length (objects)) r-1) (lent (sessions) (streams) (objects)) .objects) wlen-8-2 (said-8 .2) (λ len-8-objects.
-        move ! (6 ∷ []) $ drop ! $ move ! (6 ∷ []) $ drop ! $
-        land ! (from ! (stop !)) (init ! 18 refl (AgentSetUp-p .typed 𝓤 H A W (setUpAs (setUpOf (length (sessions)) (length (streams)) (length (objects)) r-1) r-1 (c .second)) is-8)) $
+        move ! (1 ∷ []) $ fsplit ! $ move ! (9 ∷ 13 ∷ 4 ∷ []) $
+        backs-mut ! tt (Array u64 6) b₁ o₁ sessions n₁ (refl) room₁ ν-8-sessions δ-8-sessions (ws-8 .0) (setUpTables (setUpOf (length (sessions)) (length (streams)) (length (objects)) (length (held)) r-1) (lent (sessions) (streams) (objects) (held)) .sessions) wlen-8-0 (said-8 .0) (λ len-8-sessions.
+        move ! (9 ∷ 12 ∷ 5 ∷ []) $
+        backs-mut ! tt (Array u16 35) b₂ o₂ streams n₂ (refl) room₂ ν-8-streams δ-8-streams (ws-8 .1 .0) (setUpTables (setUpOf (length (sessions)) (length (streams)) (length (objects)) (length (held)) r-1) (lent (sessions) (streams) (objects) (held)) .streams) wlen-8-1 (said-8 .1) (λ len-8-streams.
+        move ! (9 ∷ 11 ∷ 6 ∷ []) $
+        backs-mut ! tt Object-t.the-row b₃ o₃ objects n₃ (refl) room₃ ν-8-objects δ-8-objects (ws-8 .1 .1 .0) (setUpTables (setUpOf (length (sessions)) (length (streams)) (length (objects)) (length (held)) r-1) (lent (sessions) (streams) (objects) (held)) .objects) wlen-8-2 (said-8 .2) (λ len-8-objects.
+        move ! (6 ∷ []) $ drop ! $ move ! (6 ∷ []) $ drop ! $ move ! (7 ∷ []) $ drop ! $
+        land ! (from ! (stop !)) (init ! 20 refl (AgentSetUp-p .typed 𝓤 H A W (setUpAs (setUpOf (length (sessions)) (length (streams)) (length (objects)) (length (held)) r-1) r-1 (c .second)) is-8)) $
         -- 9: replay::host::set_up_said
         nothing ! $
         use1 W (raw (toks 𝓤 A 0 (tt) (tt))) (id⊢ 𝓤 _) $ nothing ! $
         owned ! (Host-p .row) (Is (Host-p .row)) (Host-p .makes 𝓤 H A W) host (Host-p .val host ∷ []) host-is $ fjoin ! $
-        owned ! (AgentSetUp-p .row) (Is (AgentSetUp-p .row)) (AgentSetUp-p .makes 𝓤 H A W) (setUpAs (setUpOf (length (sessions)) (length (streams)) (length (objects)) r-1) r-1 (c .second)) (AgentSetUp-p .val (setUpAs (setUpOf (length (sessions)) (length (streams)) (length (objects)) r-1) r-1 (c .second)) ∷ []) is-8 $ fjoin ! $ move ! (1 ∷ 0 ∷ []) $
-        calls-some ! fm 0 [] (host-set-up-said.signature .params) (host-set-up-said.ended .kept) Host-p (host-set-up-said.clauses 𝓤 H A mem run) known-host-set-up-said tt tt tt (setUpAs (setUpOf (length (sessions)) (length (streams)) (length (objects)) r-1) r-1 (c .second), (host, tt)) (AgentSetUp-p .val (setUpAs (setUpOf (length (sessions)) (length (streams)) (length (objects)) r-1) r-1 (c .second)) ∷ [], (Host-p .val host ∷ [], tt)) tt (λ r ws-9. Unit {0}) (id⊢ 𝓤 _) (λ r ws-9. factI 𝓤 (Unit {0}) _ tt) (λ _. (and-then ! (load ! (from ! (stop !)) (look ! 19 refl)) (and-then ! (load ! (from ! (stop !)) (look ! 25 refl)) (no-more !)))) (λ r-9 ws-9 said-9 is-9.
+        owned ! (AgentSetUp-p .row) (Is (AgentSetUp-p .row)) (AgentSetUp-p .makes 𝓤 H A W) (setUpAs (setUpOf (length (sessions)) (length (streams)) (length (objects)) (length (held)) r-1) r-1 (c .second)) (AgentSetUp-p .val (setUpAs (setUpOf (length (sessions)) (length (streams)) (length (objects)) (length (held)) r-1) r-1 (c .second)) ∷ []) is-8 $ fjoin ! $ move ! (1 ∷ 0 ∷ []) $
+        calls-some ! fm 0 [] (host-set-up-said.signature .params) (host-set-up-said.ended .kept) Host-p (host-set-up-said.clauses 𝓤 H A mem run) known-host-set-up-said tt tt tt (setUpAs (setUpOf (length (sessions)) (length (streams)) (length (objects)) (length (held)) r-1) r-1 (c .second), (host, tt)) (AgentSetUp-p .val (setUpAs (setUpOf (length (sessions)) (length (streams)) (length (objects)) (length (held)) r-1) r-1 (c .second)) ∷ [], (Host-p .val host ∷ [], tt)) tt (λ r ws-9. Unit {0}) (id⊢ 𝓤 _) (λ r ws-9. factI 𝓤 (Unit {0}) _ tt) (λ _. (and-then ! (load ! (from ! (stop !)) (look ! 21 refl)) (and-then ! (load ! (from ! (stop !)) (look ! 27 refl)) (no-more !)))) (λ r-9 ws-9 said-9 is-9.
         drop ! $ drop ! $
-        land ! (from ! (stop !)) (init ! 32 refl (Host-p .typed 𝓤 H A W r-9 is-9)) $
-        returns ! (look ! 32 refl) $ forget ! 6 refl $ forget ! 8 refl $ forget ! 10 refl $ forget ! 12 refl $ forget ! 14 refl $ forget ! 16 refl $ forget ! 18 refl $ forget ! 20 refl $ forget ! 22 refl $ forget ! 24 refl $ forget ! 26 refl $ forget ! 28 refl $ forget ! 30 refl $ forget ! 32 refl $ move ! (32 ∷ 33 ∷ []) $ free1 ! $ move ! (30 ∷ 31 ∷ []) $ free1 ! $ move ! (28 ∷ 29 ∷ []) $ free1 ! $ move ! (26 ∷ 27 ∷ []) $ free1 ! $ move ! (24 ∷ 25 ∷ []) $ free1 ! $ move ! (22 ∷ 23 ∷ []) $ free1 ! $ move ! (20 ∷ 21 ∷ []) $ free1 ! $ move ! (18 ∷ 19 ∷ []) $ free1 ! $ move ! (16 ∷ 17 ∷ []) $ free1 ! $ move ! (14 ∷ 15 ∷ []) $ free1 ! $ move ! (12 ∷ 13 ∷ []) $ free1 ! $ move ! (10 ∷ 11 ∷ []) $ free1 ! $ move ! (8 ∷ 9 ∷ []) $ free1 ! $ move ! (6 ∷ 7 ∷ []) $ free1 ! $ free0 ! $ move ! (4 ∷ 5 ∷ 2 ∷ 3 ∷ 0 ∷ 1 ∷ []) $
-        by ! (exits r-9 (setUpTables (setUpOf (length (sessions)) (length (streams)) (length (objects)) r-1) (lent (sessions) (streams) (objects)) .sessions) (setUpTables (setUpOf (length (sessions)) (length (streams)) (length (objects)) r-1) (lent (sessions) (streams) (objects)) .streams) (setUpTables (setUpOf (length (sessions)) (length (streams)) (length (objects)) r-1) (lent (sessions) (streams) (objects)) .objects) is-9 len-8-sessions len-8-streams len-8-objects)))))))))))))
+        land ! (from ! (stop !)) (init ! 36 refl (Host-p .typed 𝓤 H A W r-9 is-9)) $
+        returns ! (look ! 36 refl) $ forget ! 8 refl $ forget ! 10 refl $ forget ! 12 refl $ forget ! 14 refl $ forget ! 16 refl $ forget ! 18 refl $ forget ! 20 refl $ forget ! 22 refl $ forget ! 24 refl $ forget ! 26 refl $ forget ! 28 refl $ forget ! 30 refl $ forget ! 32 refl $ forget ! 34 refl $ forget ! 36 refl $ move ! (36 ∷ 37 ∷ []) $ free1 ! $ move ! (34 ∷ 35 ∷ []) $ free1 ! $ move ! (32 ∷ 33 ∷ []) $ free1 ! $ move ! (30 ∷ 31 ∷ []) $ free1 ! $ move ! (28 ∷ 29 ∷ []) $ free1 ! $ move ! (26 ∷ 27 ∷ []) $ free1 ! $ move ! (24 ∷ 25 ∷ []) $ free1 ! $ move ! (22 ∷ 23 ∷ []) $ free1 ! $ move ! (20 ∷ 21 ∷ []) $ free1 ! $ move ! (18 ∷ 19 ∷ []) $ free1 ! $ move ! (16 ∷ 17 ∷ []) $ free1 ! $ move ! (14 ∷ 15 ∷ []) $ free1 ! $ move ! (12 ∷ 13 ∷ []) $ free1 ! $ move ! (10 ∷ 11 ∷ []) $ free1 ! $ move ! (8 ∷ 9 ∷ []) $ free1 ! $ free0 ! $ move ! (4 ∷ 5 ∷ 2 ∷ 3 ∷ 0 ∷ 1 ∷ 7 ∷ 6 ∷ []) $
+        by ! (exits r-9 (setUpTables (setUpOf (length (sessions)) (length (streams)) (length (objects)) (length (held)) r-1) (lent (sessions) (streams) (objects) (held)) .sessions) (setUpTables (setUpOf (length (sessions)) (length (streams)) (length (objects)) (length (held)) r-1) (lent (sessions) (streams) (objects) (held)) .streams) (setUpTables (setUpOf (length (sessions)) (length (streams)) (length (objects)) (length (held)) r-1) (lent (sessions) (streams) (objects) (held)) .objects) is-9 len-8-sessions len-8-streams len-8-objects)))))))))))))
 
   module _ (𝓣 : Tables 𝓤 H) (known-host-max-clients : Triple 𝓤 (𝓣 .C #host-max-clients) (Of-host-max-clients 𝓤 H A mem run)) (known-agent-setup : Triple 𝓤 (𝓣 .C #agent-setup) (Of-agent-setup 𝓤 H A mem run)) (known-host-set-up-said : Triple 𝓤 (𝓣 .C #host-set-up-said) (Of-host-set-up-said 𝓤 H A mem run)) where
-    walk : ent 𝓤 (onEntry 𝓤 H A f.signature (κ₁, (κ₂, (κ₃, tt))) (q₁, (q₂, (q₃, tt))) x at) (WpFn 𝓤 H (𝓣 .C) (𝓣 .Λ) code.function (sliceVal (b₁, o₁) n₁ ∷ sliceVal (b₂, o₂) n₂ ∷ sliceVal (b₃, o₃) n₃ ∷ Host-p .val host ∷ Command-p .val c ∷ []) Post)
+    walk : ent 𝓤 (onEntry 𝓤 H A f.signature (κ₁, (κ₂, (κ₃, (κ₄, tt)))) (q₁, (q₂, (q₃, (q₄, tt)))) x at) (WpFn 𝓤 H (𝓣 .C) (𝓣 .Λ) code.function (sliceVal (b₁, o₁) n₁ ∷ sliceVal (b₂, o₂) n₂ ∷ sliceVal (b₃, o₃) n₃ ∷ sliceVal (b₄, o₄) n₄ ∷ Host-p .val host ∷ Command-p .val c ∷ []) Post)
     walk =
-        qed W ((‵ (flft κ₁ q₁) ⊛ (‵ (flft κ₂ q₂) ⊛ (‵ (flft κ₃ q₃) ⊛ ‵ ftrue))) ∷ ‵ (owns (MutSlice (named 0) κ₁ (Array u64 5) ∷ MutSlice (named 1) κ₂ (Array u16 35) ∷ MutSlice (named 2) κ₃ Object-t.the-row ∷ Host-p .row ∷ Command-p .row ∷ []) x at) ∷ []) ∵ enter ! (𝓣 .C) (𝓣 .Λ) code.function (sliceVal (b₁, o₁) n₁ ∷ sliceVal (b₂, o₂) n₂ ∷ sliceVal (b₃, o₃) n₃ ∷ Host-p .val host ∷ Command-p .val c ∷ []) _ $
-        alloc1 ! (λ l₀. alloc1 ! (λ l₁. alloc1 ! (λ l₂. alloc1 ! (λ l₃. alloc1 ! (λ l₄. alloc1 ! (λ l₅. alloc1 ! (λ l₆. alloc1 ! (λ l₇. alloc1 ! (λ l₈. alloc1 ! (λ l₉. alloc1 ! (λ l₁₀. alloc1 ! (λ l₁₁. alloc1 ! (λ l₁₂. alloc1 ! (λ l₁₃. alloc0 ! $ params1 ! $ pass1 ! (init ! 24 refl (tt, (tt, (record { fits = room₁ .0 }, tt)))) $ pass1 ! (init ! 22 refl (tt, (tt, (record { fits = room₂ .0 }, tt)))) $ pass1 ! (init ! 20 refl (tt, (tt, (record { fits = room₃ .0 }, tt)))) $ pass1 ! (init ! 18 refl (Host-p .typed 𝓤 H A W host host-is)) $ pass1 ! (init ! 16 refl (Command-p .typed 𝓤 H A W c c-is)) $ pass0 ! $ move ! (29 ∷ []) $ fsplit ! $ move ! (1 ∷ []) $ fsplit ! $ move ! (1 ∷ []) $ fsplit ! $ move ! (32 ∷ []) $ split ! $ move ! (1 ∷ []) $ split ! $ move ! (1 ∷ []) $ split ! $ move ! (1 ∷ []) $ drop ! $ move ! (4 ∷ []) $ drop ! $ move ! (5 ∷ 2 ∷ 4 ∷ 1 ∷ 3 ∷ 0 ∷ 6 ∷ 7 ∷ 8 ∷ 9 ∷ 10 ∷ 11 ∷ 12 ∷ 13 ∷ 14 ∷ 15 ∷ 16 ∷ 17 ∷ 18 ∷ 19 ∷ 20 ∷ 21 ∷ 22 ∷ 23 ∷ 24 ∷ 25 ∷ 26 ∷ 27 ∷ 28 ∷ 29 ∷ 30 ∷ 31 ∷ 32 ∷ 33 ∷ []) $
-        begins 𝓣 known-host-max-clients known-agent-setup known-host-set-up-said l₀ l₁ l₂ l₃ l₄ l₅ l₆ l₇ l₈ l₉ l₁₀ l₁₁ l₁₂ l₁₃))))))))))))))
+        qed W ((‵ (flft κ₁ q₁) ⊛ (‵ (flft κ₂ q₂) ⊛ (‵ (flft κ₃ q₃) ⊛ (‵ (flft κ₄ q₄) ⊛ ‵ ftrue)))) ∷ ‵ (owns (MutSlice (named 0) κ₁ (Array u64 6) ∷ MutSlice (named 1) κ₂ (Array u16 35) ∷ MutSlice (named 2) κ₃ Object-t.the-row ∷ ShrSlice (named 3) κ₄ u8 ∷ Host-p .row ∷ Command-p .row ∷ []) x at) ∷ []) ∵ enter ! (𝓣 .C) (𝓣 .Λ) code.function (sliceVal (b₁, o₁) n₁ ∷ sliceVal (b₂, o₂) n₂ ∷ sliceVal (b₃, o₃) n₃ ∷ sliceVal (b₄, o₄) n₄ ∷ Host-p .val host ∷ Command-p .val c ∷ []) _ $
+        alloc1 ! (λ l₀. alloc1 ! (λ l₁. alloc1 ! (λ l₂. alloc1 ! (λ l₃. alloc1 ! (λ l₄. alloc1 ! (λ l₅. alloc1 ! (λ l₆. alloc1 ! (λ l₇. alloc1 ! (λ l₈. alloc1 ! (λ l₉. alloc1 ! (λ l₁₀. alloc1 ! (λ l₁₁. alloc1 ! (λ l₁₂. alloc1 ! (λ l₁₃. alloc1 ! (λ l₁₄. alloc0 ! $ params1 ! $ pass1 ! (init ! 26 refl (tt, (tt, (record { fits = room₁ .0 }, tt)))) $ pass1 ! (init ! 24 refl (tt, (tt, (record { fits = room₂ .0 }, tt)))) $ pass1 ! (init ! 22 refl (tt, (tt, (record { fits = room₃ .0 }, tt)))) $ pass1 ! (init ! 20 refl (tt, (tt, (record { fits = room₄ .0 }, tt)))) $ pass1 ! (init ! 18 refl (Host-p .typed 𝓤 H A W host host-is)) $ pass1 ! (init ! 16 refl (Command-p .typed 𝓤 H A W c c-is)) $ pass0 ! $ move ! (31 ∷ []) $ fsplit ! $ move ! (1 ∷ []) $ fsplit ! $ move ! (1 ∷ []) $ fsplit ! $ move ! (1 ∷ []) $ fsplit ! $ move ! (35 ∷ []) $ split ! $ move ! (1 ∷ []) $ split ! $ move ! (1 ∷ []) $ split ! $ move ! (1 ∷ []) $ split ! $ move ! (1 ∷ []) $ drop ! $ move ! (5 ∷ []) $ drop ! $ move ! (7 ∷ 3 ∷ 6 ∷ 2 ∷ 5 ∷ 1 ∷ 4 ∷ 0 ∷ 8 ∷ 9 ∷ 10 ∷ 11 ∷ 12 ∷ 13 ∷ 14 ∷ 15 ∷ 16 ∷ 17 ∷ 18 ∷ 19 ∷ 20 ∷ 21 ∷ 22 ∷ 23 ∷ 24 ∷ 25 ∷ 26 ∷ 27 ∷ 28 ∷ 29 ∷ 30 ∷ 31 ∷ 32 ∷ 33 ∷ 34 ∷ 35 ∷ 36 ∷ 37 ∷ []) $
+        begins 𝓣 known-host-max-clients known-agent-setup known-host-set-up-said l₀ l₁ l₂ l₃ l₄ l₅ l₆ l₇ l₈ l₉ l₁₀ l₁₁ l₁₂ l₁₃ l₁₄)))))))))))))))
 
 module _ {M : Type 1} (𝓤 : URA M) (H : Heap 𝓤) (A : Atoms 𝓤) (W : Given 𝓤 H A) (mem : Memory → SProp 𝓤) (run : Routine → Fun 𝓤) (𝓣 : Tables 𝓤 H) (known-host-max-clients : Triple 𝓤 (𝓣 .C #host-max-clients) (Of-host-max-clients 𝓤 H A mem run)) (known-agent-setup : Triple 𝓤 (𝓣 .C #agent-setup) (Of-agent-setup 𝓤 H A mem run)) (known-host-set-up-said : Triple 𝓤 (𝓣 .C #host-set-up-said) (Of-host-set-up-said 𝓤 H A mem run)) where
   walks : Walks 𝓤 H A f.ended stayed (WpFn 𝓤 H (𝓣 .C) (𝓣 .Λ) code.function) (f.clauses 𝓤 H A mem run)
-  walks = walked 𝓤 H A f.ended stayed (f.clauses 𝓤 H A mem run) (WpFn 𝓤 H (𝓣 .C) (𝓣 .Λ) code.function) (λ κs. (slice-vals, (slice-vals, (slice-vals, ((λ y. Host-p .val y ∷ []), ((λ y. Command-p .val y ∷ []), tt)))))) (λ κs. (mut-slice-tells (named 0) (κs .0) (Array u64 5), (mut-slice-tells (named 1) (κs .1 .0) (Array u16 35), (mut-slice-tells (named 2) (κs .1 .1 .0) Object-t.the-row, (Host-p .tells, (Command-p .tells, tt))))))
-      (λ κs qs bounds a g are. via 𝓤 _ (fst∗ 𝓤 _ (emp 𝓤)) (walk 𝓤 H A W mem run (κs .0) (qs .0) (a .0 .ptr .0) (a .0 .ptr .1) (a .0 .name) (a .0 .now) (κs .1 .0) (qs .1 .0) (a .1 .0 .ptr .0) (a .1 .0 .ptr .1) (a .1 .0 .name) (a .1 .0 .now) (κs .1 .1 .0) (qs .1 .1 .0) (a .1 .1 .0 .ptr .0) (a .1 .1 .0 .ptr .1) (a .1 .1 .0 .name) (a .1 .1 .0 .now) (a .1 .1 .1 .0) (a .1 .1 .1 .1 .0) (are .0 .0 .1) (are .1 .0 .0 .1) (are .1 .1 .0 .0 .1) (are .1 .1 .1 .0) (are .1 .1 .1 .1 .0) 𝓣 known-host-max-clients known-agent-setup known-host-set-up-said))
+  walks = walked 𝓤 H A f.ended stayed (f.clauses 𝓤 H A mem run) (WpFn 𝓤 H (𝓣 .C) (𝓣 .Λ) code.function) (λ κs. (slice-vals, (slice-vals, (slice-vals, (slice-vals, ((λ y. Host-p .val y ∷ []), ((λ y. Command-p .val y ∷ []), tt))))))) (λ κs. (mut-slice-tells (named 0) (κs .0) (Array u64 6), (mut-slice-tells (named 1) (κs .1 .0) (Array u16 35), (mut-slice-tells (named 2) (κs .1 .1 .0) Object-t.the-row, (shr-slice-tells (named 3) (κs .1 .1 .1 .0) u8, (Host-p .tells, (Command-p .tells, tt)))))))
+      (λ κs qs bounds a g are. via 𝓤 _ (fst∗ 𝓤 _ (emp 𝓤)) (walk 𝓤 H A W mem run (κs .0) (qs .0) (a .0 .ptr .0) (a .0 .ptr .1) (a .0 .name) (a .0 .now) (κs .1 .0) (qs .1 .0) (a .1 .0 .ptr .0) (a .1 .0 .ptr .1) (a .1 .0 .name) (a .1 .0 .now) (κs .1 .1 .0) (qs .1 .1 .0) (a .1 .1 .0 .ptr .0) (a .1 .1 .0 .ptr .1) (a .1 .1 .0 .name) (a .1 .1 .0 .now) (κs .1 .1 .1 .0) (qs .1 .1 .1 .0) (a .1 .1 .1 .0 .ptr .0) (a .1 .1 .1 .0 .ptr .1) (a .1 .1 .1 .0 .name) (a .1 .1 .1 .0 .now) (a .1 .1 .1 .1 .0) (a .1 .1 .1 .1 .1 .0) (are .0 .0 .1) (are .1 .0 .0 .1) (are .1 .1 .0 .0 .1) (are .1 .1 .1 .0 .0 .1) (are .1 .1 .1 .1 .0) (are .1 .1 .1 .1 .1 .0) 𝓣 known-host-max-clients known-agent-setup known-host-set-up-said))
 
   meets : Meets 𝓤 H A f.signature (WpFn 𝓤 H (𝓣 .C) (𝓣 .Λ) code.function) (f.spec 𝓤 H A mem run)
-  meets = walk-meets 𝓤 H A f.ended stayed W (goes-slice 𝓤 H A W 3 0 tt (plain (λ _. (Array u64 5))), (goes-slice 𝓤 H A W 3 1 tt (plain (λ _. (Array u16 35))), (goes-slice 𝓤 H A W 3 2 tt (plain (λ _. Object-t.the-row)), (goes-none 𝓤 H A W 3 (λ _. Host-p .row) yes (λ κs x f. refl), (goes-none 𝓤 H A W 3 (λ _. Command-p .row) yes (λ κs x f. refl), tt))))) (f.clauses 𝓤 H A mem run) (WpFn 𝓤 H (𝓣 .C) (𝓣 .Λ) code.function) (WpFn-mono 𝓤 H (W .laws) 𝓣 code.function) walks
+  meets = walk-meets 𝓤 H A f.ended stayed W (goes-slice 𝓤 H A W 4 0 tt (plain (λ _. (Array u64 6))), (goes-slice 𝓤 H A W 4 1 tt (plain (λ _. (Array u16 35))), (goes-slice 𝓤 H A W 4 2 tt (plain (λ _. Object-t.the-row)), (goes-none-slice 𝓤 H A W 4 (3 ∷ []) tt (plain (λ _. u8)) yes, (goes-none 𝓤 H A W 4 (λ _. Host-p .row) yes (λ κs x f. refl), (goes-none 𝓤 H A W 4 (λ _. Command-p .row) yes (λ κs x f. refl), tt)))))) (f.clauses 𝓤 H A mem run) (WpFn 𝓤 H (𝓣 .C) (𝓣 .Λ) code.function) (WpFn-mono 𝓤 H (W .laws) 𝓣 code.function) walks
 
 pub set-up-spec : {M : Type 1} → stated.statement M
 unfolding code.routine tablesOf

@@ -54,7 +54,7 @@ use Rattle.walk.proofs.Parts.{part-len, lends-part, backs-part, parts-shr}
 use Rattle.walk.proofs.Arrays.{rep-is, lends-array, backs-array}
 use Rattle.sessions.specs.Table.{rowOf, endedSession}
 use Rattle.sessions.specs.Objects.{blank}
-use Rattle.sessions.specs.Setup.{setUpFits, cleared, noStream, emptySessions, emptyStreams, emptyObjects, setUpOf, leaves}
+use Rattle.sessions.specs.Setup.{cleared, noStream, emptySessions, emptyStreams, emptyObjects, setUpOf, leaves}
 use Rattle.sessions.specs.Objects.{bridgedOf, implicitOf, handleOf, isNumbered, slotOf, usedAfter}
 use Rattle.sessions.specs.View.{entryOf}
 use Rattle.sessions.specs.Dependants.{kindsDepend, dependsOn}

@@ -3,7 +3,7 @@ use borrow.Author.Needs.{needs}
 use native.Mathlib.Omega.{arith}
 use mathlib.Core.Path.{refl}
 use Prim.Native.Nat.{_+_}
-use Rattle.sessions.proofs.sweep.Laws.{count-more, count-none}
+use Rattle.sessions.proofs.sweep.Laws.{count-more, count-none, free-stay}
 use Rattle.sessions.specs.Sweep.{goes}
 use Rattle.sessions.proofs.sweep.count_five.Statement.{statement}
 use Rattle.sessions.proofs.sweep.count_five.Tie as tie
@@ -13,7 +13,7 @@ marks-requires c κs = search needs
 
 returns : tie.Need-returns
 returns c = let a = c .before .before .args in
-    (omega (arith, c .before .marks .ensures (a .time) (a .timeout-ms) (c .if1 .taken)), omega arith)
+    (omega (arith, free-stay (a .sessions .now) (a .time) (a .timeout-ms) (a .id) 5 (c .before .marks .ensures (c .if1 .taken))), omega arith)
 
 one-requires : tie.Need-one-requires
 one-requires c κs = search needs

@@ -50,6 +50,15 @@ index-1-t31 c = search needs
 index-2-t31 : tie.Need-index-2-t31
 index-2-t31 c = search needs
 
+mul-t32 : tie.Need-mul-t32
+mul-t32 c = search needs
+
+index-1-t36 : tie.Need-index-1-t36
+index-1-t36 c = search needs
+
+index-2-t36 : tie.Need-index-2-t36
+index-2-t36 c = search needs
+
 ended-requires : tie.Need-ended-requires
 ended-requires c κs = search needs
 
@@ -78,6 +87,9 @@ session-at-spec =
     mul-t27
     index-1-t31
     index-2-t31
+    mul-t32
+    index-1-t36
+    index-2-t36
     ended-requires
     returns
     returns-2)

@@ -1,0 +1,2 @@
+-- Laws of held messages over the tables.
+pub mod Laws
