@@ -1,8 +1,8 @@
 /*
  * The C interface of the agent.
  *
- * The host owns everything: it lends the agent's record, the three tables, the store of held messages and an output with each call, and
- * keeps the record, the tables and the store between calls as the last call left them. Every function answers for every argument. What
+ * The host owns everything: it lends the agent's record, the three tables, the stores of held messages and of fragments, the place of
+ * rebuilt bytes and an output with each call, and keeps all but the output between calls as the last call left them. Every function answers for every argument. What
  * can't be done is refused with a number of enum xrce_refusal, and a refused call changes no byte of what was lent to it.
  *
  * A slice is a pointer and a number of elements. A pointer is never null, not even with 0 elements, and two slices that a function may
@@ -35,7 +35,8 @@ enum xrce_refusal {
     XRCE_OUTPUT_TOO_SHORT = 13,       /* lent output shorter than the result */
     XRCE_STORE_FULL = 14,             /* body over its slot; 17th held number; message over 1,024 */
     XRCE_OUT_OF_TURN = 15,            /* agent call out of turn, or answer of another kind */
-    XRCE_OVER_LIMIT = 16              /* max_clients over 255, lent store under its documented need, or tables altered past a limit */
+    XRCE_OVER_LIMIT = 16,             /* max_clients over 255, lent store under its documented need, or tables altered past a limit */
+    XRCE_NOT_IN_FRAGMENTS = 17        /* a FRAGMENT or CREATE_CLIENT among rebuilt submessages: no call here is refused so */
 };
 
 /* What xrce_process is given. */
@@ -60,7 +61,7 @@ enum xrce_call {
     XRCE_DELETE_ENTITY = 7       /* entity: handle */
 };
 
-/* The agent's record. The first eleven numbers are the agent between two calls; the others are what the last xrce_agent_process told.
+/* The agent's record. The first thirteen numbers are the agent between two calls; the others are what the last xrce_agent_process told.
  * The functions take a slice of records, and look at the first. */
 struct xrce_agent {
     uint64_t max_clients;
@@ -73,12 +74,14 @@ struct xrce_agent {
     uint64_t stream;
     uint64_t number;
     uint64_t at;       /* the place behind its submessage in the datagram, */
-    uint64_t time;     /* and that datagram's time */
+    uint64_t time;     /* and that datagram's time; */
+    uint64_t left_at;  /* if it was rebuilt from fragments, the place behind it in the rebuilt bytes, */
+    uint64_t left_end; /* and how many these are, else 0 */
     uint64_t wrote;    /* the bytes replied, at the start of the output */
     uint64_t call;     /* enum xrce_call; what it doesn't name below is 0 */
     uint64_t handle;
     uint64_t topic;
-    uint64_t start;    /* parts of the datagram: where they start, and their length */
+    uint64_t start;    /* parts of the datagram, or if left_end isn't 0 of the rebuilt bytes: where they start, and their length */
     uint64_t len;
     uint64_t type_start;
     uint64_t type_len;
@@ -94,10 +97,10 @@ struct xrce_object {
     uint16_t parent;
 };
 
-/* A row of the table of sessions: whether it is live, key, last activity, objects in use, streams in use, and the session's slot, a number
- * below max_clients that no other live session has: its part of the store of held messages (0 in a row that isn't live). A row of the
- * table of streams. */
-typedef uint64_t xrce_session_row[6];
+/* A row of the table of sessions: whether it is live, key, last activity, objects in use, streams in use, the session's slot, a number
+ * below max_clients that no other live session has: its part of the stores of held messages and of fragments (0 in a row that isn't
+ * live); and of its fragments their total (0: it has none) and how many there are. A row of the table of streams. */
+typedef uint64_t xrce_session_row[8];
 typedef uint16_t xrce_stream_row[35];
 
 /* The documented need: how many rows and records each table must have, whatever max_clients is (at most 255). */
@@ -108,19 +111,28 @@ enum { XRCE_SESSIONS = 256, XRCE_STREAMS = 2048, XRCE_OBJECTS = 8192 };
  * store may be empty. */
 enum { XRCE_HELD = 114688 };
 
+/* The store of fragments: for each of max_clients 64 bodies of up to 512 bytes, so many bytes, and so many lengths. A length is 0 while its
+ * place is free, and 1 more than its body's length while it holds one. With max_clients 0 both may be empty. */
+enum { XRCE_PARTS = 32768, XRCE_LENGTHS = 64 };
+
+/* The place of rebuilt bytes, one for all clients: a call that a rebuilt submessage hands out shows parts of it. */
+enum { XRCE_REBUILT = 32768 };
+
 /* Of an answer: the refusal (0: none), its byte (with 2, 3 and 4), and the number that comes with "none". */
 static inline unsigned xrce_refused(uint64_t answer) { return (unsigned)(answer % 256); }
 static inline unsigned xrce_byte(uint64_t answer) { return (unsigned)(answer / 256 % 256); }
 static inline uint64_t xrce_number(uint64_t answer) { return answer / 65536; }
 
-/* The documented need for max_clients in bytes, all tables and the store together; refused: 16. The need is the answer's number. */
+/* The documented need for max_clients in bytes, all tables and stores together; refused: 16. The need is the answer's number. */
 uint64_t xrce_need(uint64_t max_clients);
 
-/* Sets the agent up over the tables, whatever stood in them: no session, and every limit as given. The store of held messages is measured,
- * and no byte of it is looked at or written. Refused: 16, also if the store has fewer than XRCE_HELD * max_clients bytes. */
+/* Sets the agent up over the tables, whatever stood in them: no session, and every limit as given. The stores and the
+ * place of rebuilt bytes are measured, and none of them is looked at or written. Refused: 16, also if they have fewer than
+ * XRCE_HELD * max_clients and XRCE_PARTS * max_clients bytes, XRCE_LENGTHS * max_clients lengths and XRCE_REBUILT bytes. */
 uint64_t xrce_agent_setup(struct xrce_agent *agent, size_t agents, xrce_session_row *sessions, size_t session_rows, xrce_stream_row *streams,
                           size_t stream_rows, struct xrce_object *objects, size_t object_records, const uint8_t *held, size_t held_bytes,
-                          uint64_t max_clients, uint64_t timeout_ms);
+                          const uint8_t *parts, size_t part_bytes, const uint32_t *lengths, size_t length_count, const uint8_t *rebuilt,
+                          size_t rebuilt_bytes, uint64_t max_clients, uint64_t timeout_ms);
 
 /*
  * A datagram (input XRCE_DATAGRAM, with its time), or the bridge's answer to the open call (any other input), with the call's datagram lent again,
@@ -131,10 +143,16 @@ uint64_t xrce_agent_setup(struct xrce_agent *agent, size_t agents, xrce_session_
  * On a stream other than 0, DATA has the stream's next number as its sequence and is held: a sample of more than 1,014 bytes is refused as 14 there, and
  * the call stays open. An ACKNACK there is answered by the held messages that it lists. So an output of 2 * the datagram + the sample + 12 bytes is
  * enough for all other replies, and each bit that is set in the bitmap of an ACKNACK may ask for 1,024 bytes more.
+ *
+ * A FRAGMENT gets no reply of its own. The one that completes a message brings the replies and calls of the rebuilt submessages, up to 32,768 bytes of
+ * them, under its datagram's header: so an output for a datagram that holds a FRAGMENT takes 65,536 bytes more, and so do the outputs for the answers to
+ * its calls. While agent->left_end isn't 0 the host keeps the rebuilt bytes as it does tables: an answer over others, which don't read from
+ * agent->left_at to agent->left_end, is refused as 16.
  */
 uint64_t xrce_agent_process(struct xrce_agent *agent, size_t agents, xrce_session_row *sessions, size_t session_rows, xrce_stream_row *streams,
                             size_t stream_rows, struct xrce_object *objects, size_t object_records, uint8_t *held, size_t held_bytes,
-                            uint8_t *out, size_t room, const uint8_t *datagram, size_t datagram_len, const uint8_t *sample,
+                            uint8_t *parts, size_t part_bytes, uint32_t *lengths, size_t length_count, uint8_t *rebuilt,
+                            size_t rebuilt_bytes, uint8_t *out, size_t room, const uint8_t *datagram, size_t datagram_len, const uint8_t *sample,
                             size_t sample_len, uint8_t input, uint64_t time, uint32_t handle);
 
 /* Ends a session; the answer's number is 1 if it was live, else 0. No bridge call is made for its objects. Refused: 15, 16. */
@@ -152,36 +170,42 @@ uint64_t xrce_agent_sweep(const struct xrce_agent *agent, size_t agents, xrce_se
 uint64_t xrce_agent_list(const xrce_session_row *sessions, size_t session_rows, const struct xrce_object *objects, size_t object_records,
                          uint16_t *out, size_t room, uint8_t id);
 
-/* For how many clients struct xrce_tables has a store of held messages, 1 to 255. A program that needs fewer defines it before it includes
+/* For how many clients struct xrce_tables has stores of held messages and of fragments, 1 to 255. A program that needs fewer defines it before it includes
  * this header; xrce_setup refuses a greater max_clients as 16. */
 #ifndef XRCE_MAX_CLIENTS
 #define XRCE_MAX_CLIENTS 255
 #endif
 
-/* Tables of the documented need, and the store: 253,952 bytes, and 114,688 for each of XRCE_MAX_CLIENTS. */
+/* Tables of the documented need, the stores and the place of rebuilt bytes: 290,816 bytes, and 147,712 for each of XRCE_MAX_CLIENTS. */
 struct xrce_tables {
     xrce_session_row sessions[XRCE_SESSIONS];
     xrce_stream_row streams[XRCE_STREAMS];
     struct xrce_object objects[XRCE_OBJECTS];
     uint8_t held[XRCE_HELD * XRCE_MAX_CLIENTS];
+    uint8_t parts[XRCE_PARTS * XRCE_MAX_CLIENTS];
+    uint32_t lengths[XRCE_LENGTHS * XRCE_MAX_CLIENTS];
+    uint8_t rebuilt[XRCE_REBUILT];
 };
 
 /* The calls over such tables. */
 static inline uint64_t xrce_setup(struct xrce_agent *a, struct xrce_tables *t, uint64_t max_clients, uint64_t timeout_ms) {
     return xrce_agent_setup(a, 1, t->sessions, XRCE_SESSIONS, t->streams, XRCE_STREAMS, t->objects, XRCE_OBJECTS,
-                            t->held, sizeof t->held, max_clients, timeout_ms);
+                            t->held, sizeof t->held, t->parts, sizeof t->parts, t->lengths, XRCE_LENGTHS * XRCE_MAX_CLIENTS,
+                            t->rebuilt, sizeof t->rebuilt, max_clients, timeout_ms);
 }
 
 static inline uint64_t xrce_incoming(struct xrce_agent *a, struct xrce_tables *t, uint8_t *out, size_t room, const uint8_t *datagram,
                                      size_t datagram_len, uint64_t time) {
     return xrce_agent_process(a, 1, t->sessions, XRCE_SESSIONS, t->streams, XRCE_STREAMS, t->objects, XRCE_OBJECTS,
-                              t->held, sizeof t->held, out, room, datagram, datagram_len, datagram, 0, XRCE_DATAGRAM, time, 0);
+                              t->held, sizeof t->held, t->parts, sizeof t->parts, t->lengths, XRCE_LENGTHS * XRCE_MAX_CLIENTS,
+                              t->rebuilt, sizeof t->rebuilt, out, room, datagram, datagram_len, datagram, 0, XRCE_DATAGRAM, time, 0);
 }
 
 static inline uint64_t xrce_answer(struct xrce_agent *a, struct xrce_tables *t, uint8_t *out, size_t room, const uint8_t *datagram,
                                    size_t datagram_len, enum xrce_input told, uint32_t handle, const uint8_t *sample, size_t sample_len) {
     return xrce_agent_process(a, 1, t->sessions, XRCE_SESSIONS, t->streams, XRCE_STREAMS, t->objects, XRCE_OBJECTS,
-                              t->held, sizeof t->held, out, room, datagram, datagram_len, sample, sample_len,
+                              t->held, sizeof t->held, t->parts, sizeof t->parts, t->lengths, XRCE_LENGTHS * XRCE_MAX_CLIENTS,
+                              t->rebuilt, sizeof t->rebuilt, out, room, datagram, datagram_len, sample, sample_len,
                               (uint8_t)(told == XRCE_DATAGRAM ? 255 : told), 0, handle);
 }
 
@@ -191,6 +215,11 @@ static inline uint64_t xrce_remove(const struct xrce_agent *a, struct xrce_table
 
 static inline uint64_t xrce_sweep(const struct xrce_agent *a, struct xrce_tables *t, uint8_t *out, size_t room, uint64_t time) {
     return xrce_agent_sweep(a, 1, t->sessions, XRCE_SESSIONS, out, room, time);
+}
+
+/* The bytes that an open call's parts are of: those of its datagram, or the rebuilt ones. */
+static inline const uint8_t *xrce_shown(const struct xrce_agent *a, const struct xrce_tables *t, const uint8_t *datagram) {
+    return a->left_end == 0 ? datagram : t->rebuilt;
 }
 
 static inline uint64_t xrce_list(const struct xrce_tables *t, uint16_t *out, size_t room, uint8_t id) {

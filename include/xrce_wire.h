@@ -44,6 +44,7 @@ static inline uint64_t xrce_wire_number(uint64_t answer) { return answer / 65536
  *   DATA           0x09  reader                      the data
  *   HEARTBEAT      0x0D          first       last    none
  *   ACKNACK        0x0E          first       bitmap  none
+ *   FRAGMENT       0x0F          number      total   the body
  *
  * [6] is the place of the submessage's header in the datagram, and [7] is 0. The submessage ends at [4] + [5]. The key is one number of
  * four bytes, low byte first.

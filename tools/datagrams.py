@@ -9,9 +9,9 @@ table of kinds alone, and a case whose hand-written lines differ from it stops t
 """
 import os
 
-# "least payload lengths stand in one fixed list by id"
-LEAST = {0x00: 5, 0x01: 5, 0x02: 2, 0x05: 3, 0x07: 2, 0x08: 4, 0x09: 2, 0x0D: 4, 0x0E: 4}
-UNLISTED = (3, 4, 6, 10, 11, 12, 15, 16, 254, 255)
+# "least payload lengths stand in one fixed list by id", and document 02's FRAGMENT, 0x0F
+LEAST = {0x00: 5, 0x01: 5, 0x02: 2, 0x05: 3, 0x07: 2, 0x08: 4, 0x09: 2, 0x0D: 4, 0x0E: 4, 0x0F: 4}
+UNLISTED = (3, 4, 6, 10, 11, 12, 16, 17, 254, 255)
 
 
 def expected(d):
@@ -118,11 +118,13 @@ case(bytes((255, 128, 255, 255)) + DELETE, "header 255 128 65535", "sub 2 4 2", 
 case(bytes((9, 10, 1, 2)) + DELETE, "header 9 10 513", "sub 2 4 2", "end 1")
 case(bytes((99, 100, 0xE7, 3)) + DELETE, "header 99 100 999", "sub 2 4 2", "end 1")
 
-# several submessages, each of the nine kinds once
+# several submessages, each of the ten kinds once
 case(HEAD + b"".join(sub(sid, least(sid)) for sid in LEAST), FIVE, "sub 0 4 5", "sub 1 13 5", "sub 2 22 2", "sub 5 28 3",
-     "sub 7 35 2", "sub 8 41 4", "sub 9 49 2", "sub 13 55 4", "sub 14 63 4", "end 9")
+     "sub 7 35 2", "sub 8 41 4", "sub 9 49 2", "sub 13 55 4", "sub 14 63 4", "sub 15 71 4", "end 10")
 case(HEAD + DELETE + DELETE, FIVE, "sub 2 4 2", "sub 2 10 2", "end 2")
 case(HEAD + sub(9, bytes(90)) + DELETE, FIVE, "sub 9 4 90", "sub 2 98 2", "end 2")
+# a FRAGMENT with a body behind its number and total, and a DELETE behind it
+case(HEAD + sub(15, (0, 0, 2, 0, 7, 8, 9)) + DELETE, FIVE, "sub 15 4 7", "sub 2 15 2", "end 2")
 # a bad one second, or third: the first failure refuses the whole
 case(HEAD + DELETE + sub(3, ()), "refused 2")
 case(HEAD + DELETE + sub(2, (3,)), "refused 5")

@@ -1,7 +1,7 @@
 //! The port's C interface as its headers state it (include/xrce_agent.h, include/xrce_wire.h). No compiler checks these
 //! lines against them; that every row's bytes are compared does.
 
-pub type SessionRow = [u64; 6];
+pub type SessionRow = [u64; 8];
 pub type StreamRow = [u16; 35];
 
 /// The agent's record.
@@ -19,6 +19,8 @@ pub struct AgentRecord {
     pub number: u64,
     pub at: u64,
     pub time: u64,
+    pub left_at: u64,
+    pub left_end: u64,
     pub wrote: u64,
     pub call: u64,
     pub handle: u64,
@@ -45,6 +47,10 @@ pub const STREAMS: usize = 2048;
 pub const OBJECTS: usize = 8192;
 /// Bytes of the store of held messages for each client.
 pub const HELD: usize = 114_688;
+/// Bytes and lengths of the store of fragments for each client, and the bytes of the place of rebuilt messages.
+pub const PARTS: usize = 32_768;
+pub const LENGTHS: usize = 64;
+pub const REBUILT: usize = 32_768;
 
 /// What `xrce_agent_process` is given.
 pub const DATAGRAM: u8 = 0;
@@ -76,6 +82,12 @@ extern "C" {
         object_records: usize,
         held: *const u8,
         held_bytes: usize,
+        parts: *const u8,
+        part_bytes: usize,
+        lengths: *const u32,
+        length_count: usize,
+        rebuilt: *const u8,
+        rebuilt_bytes: usize,
         max_clients: u64,
         timeout_ms: u64,
     ) -> u64;
@@ -91,6 +103,12 @@ extern "C" {
         object_records: usize,
         held: *mut u8,
         held_bytes: usize,
+        parts: *mut u8,
+        part_bytes: usize,
+        lengths: *mut u32,
+        length_count: usize,
+        rebuilt: *mut u8,
+        rebuilt_bytes: usize,
         out: *mut u8,
         room: usize,
         datagram: *const u8,

@@ -4,6 +4,7 @@ mod agent_rows;
 mod agents;
 mod clock;
 mod datagrams;
+mod fragments;
 mod goals;
 mod interface;
 mod machine;
@@ -45,7 +46,8 @@ fn main() -> Result<()> {
     rows.extend(wire_rows::rows());
     measure::measure(&mut rows, plan);
     let yard = yardsticks::yardsticks(plan);
-    print!("{}\n{}{}\n{}\n{}\n", table::text(&rows), lines(&rows), yard.search(), yard.listing(), yard.repeats());
+    print!("{}\n{}", table::text(&rows), lines(&rows));
+    yard.alone().iter().for_each(|line| println!("{line}"));
     std::fs::create_dir_all("../target/bench")?;
     std::fs::write(FIGURES, table::tsv(&rows))?;
     // A quick run's figures are rough, and the document keeps those of the last full one.

@@ -28,8 +28,12 @@ pub fn shortest_call(max_clients: u64) -> u64 {
 pub struct Port {
     agent: AgentRecord,
     tables: Box<Tables>,
-    /// The store of held messages. No row holds one, so its pages stay untouched, and no time is spent on them.
+    /// The stores of held messages and of fragments. No row of both sides holds one, so their pages stay untouched there, and no time
+    /// is spent on them.
     held: Box<[u8]>,
+    parts: Box<[u8]>,
+    lengths: Box<[u32]>,
+    rebuilt: Box<[u8]>,
     out: Box<[u8; ROOM]>,
     time: u64,
     /// Where the host reads the machine's clock for each datagram: since when.
@@ -53,6 +57,12 @@ impl Port {
                 OBJECTS,
                 self.held.as_mut_ptr(),
                 self.held.len(),
+                self.parts.as_mut_ptr(),
+                self.parts.len(),
+                self.lengths.as_mut_ptr(),
+                self.lengths.len(),
+                self.rebuilt.as_mut_ptr(),
+                self.rebuilt.len(),
                 self.out.as_mut_ptr(),
                 ROOM,
                 datagram.as_ptr(),
@@ -72,8 +82,9 @@ impl Port {
     fn bridge(&mut self, datagram: &[u8]) -> (u8, u32, &'static [u8]) {
         match self.agent.call {
             WRITE_DATA => {
+                let shown = if self.agent.left_end == 0 { datagram } else { &self.rebuilt };
                 let start = self.agent.start as usize;
-                black_box(&datagram[start..start + self.agent.len as usize]);
+                black_box(&shown[start..start + self.agent.len as usize]);
                 (DONE, 0, &[])
             }
             DELETE_ENTITY => (DONE, 0, &[]),
@@ -111,6 +122,12 @@ impl Port {
                 OBJECTS,
                 self.held.as_ptr(),
                 self.held.len(),
+                self.parts.as_ptr(),
+                self.parts.len(),
+                self.lengths.as_ptr(),
+                self.lengths.len(),
+                self.rebuilt.as_ptr(),
+                self.rebuilt.len(),
                 CLIENTS as u64,
                 TIMEOUT,
             )
@@ -124,11 +141,14 @@ impl Agent for Port {
         let mut port = Self {
             agent: AgentRecord::default(),
             tables: Box::new(Tables {
-                sessions: [[0; 6]; SESSIONS],
+                sessions: [[0; 8]; SESSIONS],
                 streams: [[0; 35]; STREAMS],
                 objects: [Object::default(); OBJECTS],
             }),
             held: vec![0; HELD * CLIENTS].into_boxed_slice(),
+            parts: vec![0; PARTS * CLIENTS].into_boxed_slice(),
+            lengths: vec![0; LENGTHS * CLIENTS].into_boxed_slice(),
+            rebuilt: vec![0; REBUILT].into_boxed_slice(),
             out: Box::new([0; ROOM]),
             time: 0,
             reads_clock: None,

@@ -59,9 +59,9 @@ fn steps(yard: &Yardsticks) -> String {
     )
 }
 
-/// What the port has alone: how a search differs by place, the listing, and repeats.
+/// What the port has alone: how a search differs by place, the listing, repeats, and messages in parts.
 fn alone(yard: &Yardsticks) -> String {
-    format!("{}.\n\n{}.\n\n{}.\n", yard.search(), yard.listing(), yard.repeats())
+    yard.alone().join(".\n\n") + ".\n"
 }
 
 /// The machine, and how far the batches lie apart.

@@ -4,6 +4,7 @@
 use crate::agent_rows::{standing, Objects, FEW, MANY};
 use crate::clock;
 use crate::datagrams::{datagram, status_ok, write_data, PUBLISHER, READER, SUBSCRIBER, WRITER};
+use crate::fragments::{all_of_many, one_of_many, BODY, TOTAL};
 use crate::measure::{batch, turns, Plan};
 use crate::port::{shortest_call, Port};
 use crate::repeats::{read_and_acknowledge, repeat_all};
@@ -32,19 +33,38 @@ pub struct Yardsticks {
     /// The port's READ_DATA where its DATA is held, with the acknowledgement of the one before; and the repeat of 16.
     pub held: f64,
     pub repeated: f64,
+    /// The port's FRAGMENT that is held, and a whole message of many.
+    pub fragment: f64,
+    pub message: f64,
     /// The port's WRITE_DATA to the object made last of one, to the last of many, and to the first of many.
     pub found: [f64; 3],
 }
 
 impl Yardsticks {
+    /// What the port has alone, a line each.
+    pub fn alone(&self) -> [String; 4] {
+        [self.search(), self.listing(), self.repeats(), self.parts()]
+    }
+
+    /// Messages in parts in a line. The last FRAGMENT is what the whole takes beyond the others.
+    fn parts(&self) -> String {
+        let last = self.message - f64::from(TOTAL - 1) * self.fragment;
+        format!(
+            "A FRAGMENT of {BODY} bytes that is held: {} ns; the last of {TOTAL}, with which the message is put together, read and its \
+             WRITE_DATA made: {} ns",
+            nanoseconds(self.fragment),
+            nanoseconds(last)
+        )
+    }
+
     /// The listing in a line.
-    pub fn listing(&self) -> String {
+    fn listing(&self) -> String {
         let (few, many) = (nanoseconds(self.few_listed), nanoseconds(self.many_listed));
         format!("The listing of a session, which the original doesn't have: {few} ns with {FEW} objects, {many} ns with {MANY}")
     }
 
     /// Holding and repeating in a line.
-    pub fn repeats(&self) -> String {
+    fn repeats(&self) -> String {
         let (held, repeated) = (nanoseconds(self.held), nanoseconds(self.repeated));
         format!(
             "On a stream other than 0, READ_DATA of a sample of 16 bytes, whose DATA is held, with the ACKNACK of the one before: \
@@ -53,7 +73,7 @@ impl Yardsticks {
     }
 
     /// What a search for an object number costs, in a line.
-    pub fn search(&self) -> String {
+    fn search(&self) -> String {
         let [alone, last, first] = self.found.map(nanoseconds);
         format!(
             "The search for an object number, seen in WRITE_DATA of 16 bytes: to the object made last {alone} ns where it is \
@@ -145,6 +165,8 @@ pub fn yardsticks(plan: &Plan) -> Yardsticks {
         many_listed: listing_cost(plan, MANY),
         held: cost(plan, read_and_acknowledge()),
         repeated: cost(plan, repeat_all()),
+        fragment: cost(plan, one_of_many()),
+        message: cost(plan, all_of_many()),
         found: found_costs(plan),
     }
 }

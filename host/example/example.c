@@ -8,11 +8,11 @@
  */
 #include <stdio.h>
 
-/* At most 4 clients: so many have a part in the store of held messages, 112 KiB each. */
+/* At most 4 clients: so many have a part in the stores of held messages and of fragments, 144.25 KiB each. */
 #define XRCE_MAX_CLIENTS 4
 #include "xrce_agent.h"
 
-/* What the host owns: the record, the tables (248 KiB) with the store, and an output. Static, so that nothing large stands on the stack. */
+/* What the host owns: the record, the tables (284 KiB) with the stores, and an output. Static, so that nothing large stands on the stack. */
 static struct xrce_agent agent;
 static struct xrce_tables tables;
 static uint8_t out[512];

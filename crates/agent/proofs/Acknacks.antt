@@ -1,4 +1,4 @@
--- The ACKNACKs of a datagram from a place on: what the header of a submessage that is read says; counted one header at a time, and no more of them than submessages.
+-- The submessages of an id in a datagram from a place on, ACKNACKs or FRAGMENTs: what the header of one that is read says; counted one header at a time, and no more of them than submessages.
 use Prim.Native.Nat.{ℕ, zero, suc, _+_, _-_, _≤_, _<_}
 use mathlib.Core.Path.{_≡_, refl, sym, ap, _∙_}
 use mathlib.Core.Bool.{Bool, true, false, cond}
@@ -24,7 +24,7 @@ use Rattle.codec.specs.declared.submessages.KindRead.the-variants as kind-read
 use Rattle.codec.specs.declared.submessages.Submessage.{Submessage}
 use Rattle.codec.proofs.Either.{either}
 use Rattle.codec.proofs.reading.Laws.{payload-placed, read-payload, read-short, items-more}
-use Rattle.agent.specs.Host.{asksAgain, acknacksIn, asksIn}
+use Rattle.agent.specs.Host.{oneOf, idsIn, idsAt, asksIn, unbound}
 use Rattle.agent.specs.declared.judge.Start.{Start}
 
 -- ---- what the header of a submessage that is read says: its id is the submessage's own, and the next one begins behind its length
@@ -54,7 +54,8 @@ module _ (s : List ℕ) (id p len : ℕ) where
       either E (eqb id 8) _ _ (λ e. eqb-true id 8 e) (λ _.
       either E (eqb id 9) _ _ (λ e. eqb-true id 9 e) (λ _.
       either E (eqb id 13) _ _ (λ e. eqb-true id 13 e) (λ _.
-      either E (eqb id 14) _ _ (λ e. eqb-true id 14 e) (λ _. tt)))))))))
+      either E (eqb id 14) _ _ (λ e. eqb-true id 14 e) (λ _.
+      either E (eqb id 15) _ _ (λ e. eqb-true id 15 e) (λ _. tt))))))))))
 
   own-payload : Own id (payloadAt s id p len)
   unfolding payloadAt
@@ -90,87 +91,84 @@ pub item-first : (x : Item) (i : Items) (ys : List Item) → before x i ≡ item
 item-first x (items zs) ys e = let p : x ∷ zs ≡ ys = cc in (zs, refl, sym (ap length p))
 item-first x (stopped r) ys e = let z : _≡_ {A = ℕ} 0 1 = cc in absurd (omega arith)
 
-again-few : (id : ℕ) → asksAgain id ≤ 1
-again-few id = go (eqb id 14)
+one-few : (id b : ℕ) → oneOf id b ≤ 1
+one-few id b = go (eqb b id)
   where
-    go : (b : Bool) → cond b 1 0 ≤ 1
+    go : (c : Bool) → cond c 1 0 ≤ 1
     go true = omega arith
     go false = omega arith
 
 -- the code's answer for one
-pub again-yes : (id : ℕ) → id ≡ 14 → (1 ≡ asksAgain id) × (1 ≤ 1)
-again-yes id e = (sym (ap (λ (b : Bool). cond b 1 0) (eq-eqb id 14 e)), omega arith)
+pub one-yes : (id b : ℕ) → b ≡ id → (1 ≡ oneOf id b) × (1 ≤ 1)
+one-yes id b e = (sym (ap (λ (c : Bool). cond c 1 0) (eq-eqb b id e)), omega arith)
 
-pub again-no : (id : ℕ) → (id ≡ 14 → ⊥) → (0 ≡ asksAgain id) × (0 ≤ 1)
-again-no id other = (sym (ap (λ (b : Bool). cond b 1 0) (ne-eqb id 14 other)), omega arith)
+pub one-no : (id b : ℕ) → (b ≡ id → ⊥) → (0 ≡ oneOf id b) × (0 ≤ 1)
+one-no id b other = (sym (ap (λ (c : Bool). cond c 1 0) (ne-eqb b id other)), omega arith)
 
-module _ (d : List ℕ) where
+module _ (id : ℕ) (d : List ℕ) where
   -- whether one stands at a place, and where the next submessage begins
-  abbrev pub asksAt : ℕ → ℕ
-  asksAt at = asksAgain (getD d at 0)
+  abbrev pub oneAt : ℕ → ℕ
+  oneAt at = oneOf id (getD d at 0)
 
   abbrev next : ℕ → ℕ
   next at = at + 4 + wordAt d (at + 2)
 
-  in-end : (n at : ℕ) → length d < at + 4 → acknacksIn n d at ≡ 0
-  unfolding acknacksIn
+  in-end : (n at : ℕ) → length d < at + 4 → idsIn id n d at ≡ 0
+  unfolding idsIn
   in-end zero at h = refl
   in-end (suc n) at h = rw (lt-ltb (length d) (at + 4) h)
 
-  in-more : (n at : ℕ) → at + 4 ≤ length d → acknacksIn (suc n) d at ≡ asksAt at + acknacksIn n d (next at)
-  unfolding acknacksIn
+  in-more : (n at : ℕ) → at + 4 ≤ length d → idsIn id (suc n) d at ≡ oneAt at + idsIn id n d (next at)
+  unfolding idsIn
   in-more n at h = rw (le-ltb (length d) (at + 4) h)
 
   -- any count that is large enough gives the same
-  fuel : (k j at : ℕ) → length d - at ≤ k → length d - at ≤ j → acknacksIn k d at ≡ acknacksIn j d at
+  fuel : (k j at : ℕ) → length d - at ≤ k → length d - at ≤ j → idsIn id k d at ≡ idsIn id j d at
   fuel zero j at hk hj = let h : length d < at + 4 = omega arith in in-end zero at h ∙ sym (in-end j at h)
   fuel (suc k) zero at hk hj = let h : length d < at + 4 = omega arith in in-end (suc k) at h ∙ sym (in-end zero at h)
   fuel (suc k) (suc j) at hk hj = go (ltb (length d) (at + 4)) refl (λ p a b. fuel k j p a b)
     where
-      go : (b : Bool) → ltb (length d) (at + 4) ≡ b → ((p : ℕ) → length d - p ≤ k → length d - p ≤ j → acknacksIn k d p ≡ acknacksIn j d p)
-          → acknacksIn (suc k) d at ≡ acknacksIn (suc j) d at
+      go : (b : Bool) → ltb (length d) (at + 4) ≡ b → ((p : ℕ) → length d - p ≤ k → length d - p ≤ j → idsIn id k d p ≡ idsIn id j d p)
+          → idsIn id (suc k) d at ≡ idsIn id (suc j) d at
       go true e same = let h = ltb-true (length d) (at + 4) e in in-end (suc k) at h ∙ sym (in-end (suc j) at h)
       go false e same =
           let h = ltb-false (length d) (at + 4) e in
-          in-more k at h ∙ (ap (λ (n : ℕ). asksAt at + n) (same (next at) (omega (arith, h, hk)) (omega (arith, h, hj))) ∙ sym (in-more j at h))
+          in-more k at h ∙ (ap (λ (n : ℕ). oneAt at + n) (same (next at) (omega (arith, h, hk)) (omega (arith, h, hj))) ∙ sym (in-more j at h))
 
-  abbrev pub acknacksFrom : ℕ → ℕ
-  acknacksFrom at = acknacksIn (length d - at) d at
-
-  acknacks-more : (at : ℕ) → at + 4 ≤ length d → acknacksFrom at ≡ asksAt at + acknacksFrom (next at)
-  acknacks-more at h =
+  ids-more : (at : ℕ) → at + 4 ≤ length d → idsAt id d at ≡ oneAt at + idsAt id d (next at)
+  ids-more at h =
       let n = length d - (at + 1) in
       let s : length d - at ≡ suc n = omega (arith, h) in
-      ap (λ (m : ℕ). acknacksIn m d at) s
-      ∙ (in-more n at h ∙ ap (λ (m : ℕ). asksAt at + m) (fuel n (length d - next at) (next at) (omega arith) (omega arith)))
+      ap (λ (m : ℕ). idsIn id m d at) s
+      ∙ (in-more n at h ∙ ap (λ (m : ℕ). oneAt at + m) (fuel n (length d - next at) (next at) (omega arith) (omega arith)))
 
   -- where a submessage is read, those from it on are it and those behind it
-  pub acknacks-read : (at : ℕ) (m : Submessage) (x : Span) (c : Cursor) → readAt d at ≡ parsed.Sub m x c → acknacksFrom at ≡ asksAt at + acknacksFrom (c .at)
-  acknacks-read at m x c e =
+  pub ids-read : (at : ℕ) (m : Submessage) (x : Span) (c : Cursor) → readAt d at ≡ parsed.Sub m x c → idsAt id d at ≡ oneAt at + idsAt id d (c .at)
+  ids-read at m x c e =
       let k = read-says d at m x c e in
       let n = k .next in
       let w = k .within in
-      acknacks-more at (omega (arith, n, w)) ∙ ap (λ (p : ℕ). asksAt at + acknacksFrom p) (sym n)
+      ids-more at (omega (arith, n, w)) ∙ ap (λ (p : ℕ). oneAt at + idsAt id d p) (sym n)
 
   -- no more than submessages
-  in-few : (n at : ℕ) (ys : List Item) → itemsAt d at ≡ items ys → acknacksIn n d at ≤ length ys
-  unfolding acknacksIn
+  in-few : (n at : ℕ) (ys : List Item) → itemsAt d at ≡ items ys → idsIn id n d at ≤ length ys
+  unfolding idsIn
   in-few zero at ys i = omega arith
   in-few (suc n) at ys i = go (ltb (length d) (at + 4)) refl (λ p zs j. in-few n p zs j)
     where
       Rest : Type 0
-      Rest = (p : ℕ) (zs : List Item) → itemsAt d p ≡ items zs → acknacksIn n d p ≤ length zs
+      Rest = (p : ℕ) (zs : List Item) → itemsAt d p ≡ items zs → idsIn id n d p ≤ length zs
 
-      by : (q : Parsed) → readAt d at ≡ q → onward q (itemsAt d) ≡ items ys → Rest → asksAt at + acknacksIn n d (next at) ≤ length ys
+      by : (q : Parsed) → readAt d at ≡ q → onward q (itemsAt d) ≡ items ys → Rest → oneAt at + idsIn id n d (next at) ≤ length ys
       by (parsed.Sub m x c) e j rest =
           let k = item-first _ (itemsAt d (c .at)) ys j in
           let a = rest (next at) (k .0) (ap (itemsAt d) (sym (read-says d at m x c e .next)) ∙ k .1) in
-          let b = again-few (getD d at 0) in
+          let b = one-few id (getD d at 0) in
           let l = k .2 in
           omega (arith, a, b, l)
       by (parsed.Refused x) e j rest = let z : _≡_ {A = ℕ} 0 1 = cc in absurd (omega arith)
 
-      go : (b : Bool) → ltb (length d) (at + 4) ≡ b → Rest → acknacksIn (suc n) d at ≤ length ys
+      go : (b : Bool) → ltb (length d) (at + 4) ≡ b → Rest → idsIn id (suc n) d at ≤ length ys
       go true e rest = let s = in-end (suc n) at (ltb-true (length d) (at + 4) e) in omega (arith, s)
       go false e rest =
           let h = ltb-false (length d) (at + 4) e in
@@ -178,25 +176,44 @@ module _ (d : List ℕ) where
           let a = by (readAt d at) refl (sym (items-more d at (omega (arith, h))) ∙ i) rest in
           omega (arith, s, a)
 
-  pub acknacks-few : (at : ℕ) (ys : List Item) → itemsAt d at ≡ items ys → acknacksFrom at ≤ length ys
-  acknacks-few at ys i = in-few (length d - at) at ys i
+  pub ids-few : (at : ℕ) (ys : List Item) → itemsAt d at ≡ items ys → idsAt id d at ≤ length ys
+  ids-few at ys i = in-few (length d - at) at ys i
 
   -- the loop: those counted so far and those from here on are all
-  module _ (from at n : ℕ) (all : n + acknacksFrom at ≡ acknacksFrom from) where
-    pub acknacks-again : at + 4 ≤ length d → n ≤ at → (k : ℕ) → k ≡ asksAt at → k ≤ 1 → (l : ℕ) → l ≡ wordAt d (at + 2)
-        → (n + k + acknacksFrom (at + 4 + l) ≡ acknacksFrom from) × (n + k ≤ at + 4 + l)
-    acknacks-again h low k q few l e =
-        let m = acknacks-more at h in
-        let s = ap (λ (j : ℕ). acknacksFrom (at + 4 + j)) e in
+  module _ (from at n : ℕ) (all : n + idsAt id d at ≡ idsAt id d from) where
+    pub ids-again : at + 4 ≤ length d → n ≤ at → (k : ℕ) → k ≡ oneAt at → k ≤ 1 → (l : ℕ) → l ≡ wordAt d (at + 2)
+        → (n + k + idsAt id d (at + 4 + l) ≡ idsAt id d from) × (n + k ≤ at + 4 + l)
+    ids-again h low k q few l e =
+        let m = ids-more at h in
+        let s = ap (λ (j : ℕ). idsAt id d (at + 4 + j)) e in
         (omega (arith, all, m, q, s), omega (arith, low, few))
 
-    pub acknacks-done : length d < at + 4 → n ≡ acknacksFrom from
-    acknacks-done h = let e = in-end (length d - at) at h in omega (arith, all, e)
+    pub ids-done : length d < at + 4 → n ≡ idsAt id d from
+    ids-done h = let e = in-end (length d - at) at h in omega (arith, all, e)
+
+-- whether an ACKNACK, 0x0E, stands at a place
+abbrev pub asksAt : List ℕ → ℕ → ℕ
+asksAt d at = oneAt 0x0E d at
 
 -- on stream 0 none is answered by held messages
 module _ (x : Start) (d : List ℕ) where
   pub asks-none : x .frame .«stream_id» ≡ 0 → 0 ≡ asksIn x d
-  asks-none e = sym (ap (λ (b : Bool). cond b 0 (acknacksFrom d (x .at))) (eq-eqb (x .frame .«stream_id») 0 e))
+  asks-none e = sym (ap (λ (b : Bool). cond b 0 (idsAt 0x0E d (x .at))) (eq-eqb (x .frame .«stream_id») 0 e))
 
-  pub asks-all : (x .frame .«stream_id» ≡ 0 → ⊥) → acknacksFrom d (x .at) ≡ asksIn x d
-  asks-all other = sym (ap (λ (b : Bool). cond b 0 (acknacksFrom d (x .at))) (ne-eqb (x .frame .«stream_id») 0 other))
+  pub asks-all : (x .frame .«stream_id» ≡ 0 → ⊥) → idsAt 0x0E d (x .at) ≡ asksIn x d
+  asks-all other = sym (ap (λ (b : Bool). cond b 0 (idsAt 0x0E d (x .at))) (ne-eqb (x .frame .«stream_id») 0 other))
+
+-- what has a bound: no rebuilt submessage waits, and no FRAGMENT, 0x0F, stands from the place on
+module _ (x : Start) (d : List ℕ) where
+  pub waits-unbound : (x .«left_at» ≡ x .«left_end» → ⊥) → true ≡ unbound x d
+  waits-unbound other = sym (ap (λ (b : Bool). cond b (ltb 0 (idsAt 0x0F d (x .at))) true) (ne-eqb (x .«left_at») (x .«left_end») other))
+
+  pub brings-unbound : x .«left_at» ≡ x .«left_end» → ltb 0 (idsAt 0x0F d (x .at)) ≡ unbound x d
+  brings-unbound e = sym (ap (λ (b : Bool). cond b (ltb 0 (idsAt 0x0F d (x .at))) true) (eq-eqb (x .«left_at») (x .«left_end») e))
+
+  pub is-bound : unbound x d ≡ false → (x .«left_at» ≡ x .«left_end») × (idsAt 0x0F d (x .at) ≡ 0)
+  is-bound e = go (eqb (x .«left_at») (x .«left_end»)) refl e
+    where
+      go : (b : Bool) → eqb (x .«left_at») (x .«left_end») ≡ b → cond b (ltb 0 (idsAt 0x0F d (x .at))) true ≡ false → (x .«left_at» ≡ x .«left_end») × (idsAt 0x0F d (x .at) ≡ 0)
+      go true q z = let h = ltb-false 0 (idsAt 0x0F d (x .at)) z in (eqb-true (x .«left_at») (x .«left_end») q, omega (arith, h))
+      go false q z = let n : _≡_ {A = ℕ} 0 1 = cc in absurd (omega (arith, n))

@@ -26,7 +26,9 @@ use Rattle.isolation.proofs.Theorem.{term3-of}
 use Rattle.sessions.specs.Opening.{liveFrom}
 use Rattle.sessions.specs.View.{Local}
 use Rattle.moves.specs.Calls.{created}
-use Rattle.agent.specs.Rules.{Opening, In, rules, handlesOf}
+use Rattle.agent.specs.Brings.{Opening, In}
+use Rattle.agent.specs.RulesFragments.{onto}
+use Rattle.agent.specs.Rules.{rules, handlesOf}
 use Rattle.agent.specs.Step.{Open, Agent, emptyAgent, nextFree, chosen, opened, run, Event, datagram, answer, removal, sweep, Did, ran, joinedReplies, withTables, begin, step}
 use Rattle.agent.specs.Claim.{Hosted, resultOf, agent}
 use Rattle.agent.proofs.Honest.{honest}
@@ -169,7 +171,7 @@ first-code [] = 0
 first-code (r ∷ rs) = getD r 10 0
 
 pub frauds : ShutOut
-unfolding reading messageOf itemsAt itemsIn readAt subHeaderRead subHeaderOf payloadAt leastOf layoutAt createAt kindOf headerOf wordAt quadAt partOf step run chosen nextFree liveFrom joinedReplies messageBytes headerBytes subBytes payloadBytes fixedBytes le16
+unfolding reading messageOf itemsAt itemsIn readAt subHeaderRead subHeaderOf payloadAt leastOf layoutAt createAt kindOf headerOf wordAt quadAt partOf step run onto chosen nextFree liveFrom joinedReplies messageBytes headerBytes subBytes payloadBytes fixedBytes le16
 frauds = record {
   idle-stopped = λ v. none-some (sym (v .greets client));
   untouched-stopped = λ v. let e : _≡_ {A = ℕ} 0 1 = ap (λ (t : Trace R). liveness (t .table)) (v .alone (session untouched [] refl refl)) in omega arith;

@@ -8,27 +8,41 @@ use lib.Dec.{eqb}
 use Rattle.codec.specs.declared.submessages.ObjectKind.{ObjectKind}
 use Rattle.codec.specs.declared.submessages.ObjectKind.the-variants.{Participant, Topic, Publisher, Subscriber, DataWriter, DataReader}
 use Rattle.codec.specs.declared.submessages.Submessage.{Submessage}
-use Rattle.codec.specs.declared.submessages.Submessage.the-variants.{CreateClient, Create, Delete, Status, WriteData, ReadData, Data, Heartbeat, Acknack}
-use Rattle.isolation.proofs.Provenance.{Fair, Honest}
+use Rattle.codec.specs.declared.submessages.Submessage.the-variants.{CreateClient, Create, Delete, Status, WriteData, ReadData, Data, Heartbeat, Acknack, Fragment}
+use Rattle.isolation.specs.Rules.{Bytes, done, calls}
+use Rattle.isolation.proofs.Provenance.{Within, Fair, Honest}
 use Rattle.sessions.specs.View.{Entry, KeptStream, Local, findIn, streamIn}
 use Rattle.sessions.specs.Dependants.{dependantIn, hasDependant}
 use Rattle.agent.specs.Local.{touched, full, entryHandle, handleAt}
 use Rattle.agent.specs.Parents.{handlesNamed}
 use Rattle.moves.specs.Calls.{Call, createWriter, createReader, readData, Answer, created, succeeded, sample, noSample, failed, Task, creating, deleting, writing, reading}
 use Rattle.agent.specs.RulesObjects.{Move, ifHandle, ifHandles, createWith, createFor, deleteFound}
-use Rattle.agent.specs.RulesAnswers.{sampleOn, answerOf}
-use Rattle.agent.specs.Rules.{onSubmessage, rules, handlesIn, handlesHeld, grantedBy, handlesOf}
+use Rattle.agent.specs.RulesAnswers.{sampleOn, answerOf, onAnswer}
+use Rattle.agent.specs.Brings.{In}
+use Rattle.agent.specs.RulesFragments.{Pending, Working, onSubmessage, plain, behind, onto, beganOnto, brought, gathering, handleBy, beganBy, resumed, beganBehind}
+use Rattle.agent.specs.Rules.{rules, handlesIn, handlesHeld, grantedBy, handlesOf}
 use Rattle.agent.proofs.Held.{put-held, drop-held, Holds, find-held}
 use Rattle.agent.proofs.Parents.{follows}
 use Rattle.agent.proofs.MoveCases.{either, read-cases}
 
 module _ (timeout : ℕ) where
-  -- a rule at work on tables that hold what b holds
-  abbrev Good : Local → Move → Type 0
-  Good b m = Fair (rules timeout) (handlesOf timeout) b (handlesHeld (b .objects)) m
+  abbrev Inside : Local → List (ℕ × ℕ) → Type 0
+  Inside l g = Within (rules timeout) (handlesOf timeout) l g
 
   abbrev Uses : Local → Call → Type 0
   Uses b c = (x : ℕ) → List·Memᴰ x (handlesIn c) → Holds (b .objects) x
+
+  -- a rule at work, where g is all that may be held, on one submessage as it stands, or with the rebuilt ones behind it
+  abbrev FairOne : Local → List (ℕ × ℕ) → Move → Type 0
+  FairOne b g (done l rs) = Inside l g
+  FairOne b g (calls l rs c p) = Inside l g × Inside b g × Uses b c
+
+  abbrev FairAll : Local → List (ℕ × ℕ) → Working → Type 0
+  FairAll b g m = Fair (rules timeout) (handlesOf timeout) b g m
+
+  -- on tables that hold what b holds
+  abbrev Good : Local → Move → Type 0
+  Good b m = FairOne b (handlesHeld (b .objects)) m
 
   no-handle : (b : Local) (x : ℕ) → List·Memᴰ x [] → Holds (b .objects) x
   no-handle b x m = absurd (List·Memᴰ·not-nil m)
@@ -98,6 +112,7 @@ module _ (timeout : ℕ) where
     submessage-fair (Data p) body stream = kept
     submessage-fair (Heartbeat p) body stream = kept
     submessage-fair (Acknack p) body stream = kept
+    submessage-fair (Fragment p) body stream = kept
 
   -- a DATA reply that is held changes the streams alone
   sample-fair : (l : Local) (stream number : ℕ) (d : List ℕ) (x : Option KeptStream) → Good l (sampleOn stream number d x l)
@@ -105,7 +120,7 @@ module _ (timeout : ℕ) where
   sample-fair l stream number d (some k) = λ y m. m
 
   answer-fair : (l : Local) (stream number : ℕ) (t : Task) (a : Answer)
-      → Fair (rules timeout) (handlesOf timeout) l (grantedBy t number a ++ handlesHeld (l .objects)) (answerOf t stream number a l)
+      → FairOne l (grantedBy t number a ++ handlesHeld (l .objects)) (answerOf t stream number a l)
   answer-fair l stream number (creating kind parent) (created h) = λ y m. put-held (l .objects) (record { number = number; kind = kind; handle = some h; parent = parent }) y m
   answer-fair l stream number (creating kind parent) succeeded = λ y m. m
   answer-fair l stream number (creating kind parent) (sample d) = λ y m. m
@@ -127,9 +142,53 @@ module _ (timeout : ℕ) where
   answer-fair l stream number reading noSample = λ y m. m
   answer-fair l stream number reading failed = λ y m. m
 
+  -- ---- rebuilt submessages behind it
+
+  plain-fair : (l : Local) (i : In) → Good l (plain l i)
+  plain-fair l i = submessage-fair l (i .time) (i .fields) (i .body) (i .stream)
+
+  -- what may be held may be more
+  widened : (l : Local) (g : List (ℕ × ℕ)) → Inside l g → (m : Move) → Good l m → FairOne l g m
+  widened l g w (done l′ rs) f = λ y m. w y (f y m)
+  widened l g w (calls l′ rs c p) f = ((λ y m. w y (f .0 y m)), w, f .2)
+
+  behind-fair : (b : Local) (g : List (ℕ × ℕ)) (rs : List Bytes) (m : Working) → FairAll b g m → FairAll b g (behind rs m)
+  behind-fair b g rs (done l more) f = f
+  behind-fair b g rs (calls l more c p) f = f
+
+  onto-fair : (is : List In) (b : Local) (g : List (ℕ × ℕ)) (m : Move) → FairOne b g m → FairAll (beganOnto is b m) g (onto is m)
+  unfolding onto beganOnto
+  onto-fair [] b g (done l rs) f = f
+  onto-fair [] b g (calls l rs c p) f = f
+  onto-fair (i ∷ is) b g (calls l rs c p) f = f
+  onto-fair (i ∷ is) b g (done l rs) f = behind-fair (beganOnto is l (plain l i)) g rs (onto is (plain l i)) (onto-fair is l g (plain l i) (widened l g f (plain l i) (plain-fair l i)))
+
+  alone-fair : (b : Local) (g : List (ℕ × ℕ)) (m : Move) → FairOne b g m → FairAll b g (onto [] m)
+  unfolding onto
+  alone-fair b g (done l rs) f = f
+  alone-fair b g (calls l rs c p) f = f
+
+  -- a FRAGMENT keeps the objects
+  handle-all : (l : Local) (i : In) (m : Submessage) → FairAll (beganBy m i l) (handlesHeld (l .objects)) (handleBy m i l)
+  handle-all l i (Fragment p) = onto-fair (brought p i l) l (handlesHeld (l .objects)) (done (gathering p i l) []) (λ y m. m)
+  handle-all l i (CreateClient p) = alone-fair l (handlesHeld (l .objects)) (plain l i) (plain-fair l i)
+  handle-all l i (Create p) = alone-fair l (handlesHeld (l .objects)) (plain l i) (plain-fair l i)
+  handle-all l i (Delete p) = alone-fair l (handlesHeld (l .objects)) (plain l i) (plain-fair l i)
+  handle-all l i (Status p) = alone-fair l (handlesHeld (l .objects)) (plain l i) (plain-fair l i)
+  handle-all l i (WriteData p) = alone-fair l (handlesHeld (l .objects)) (plain l i) (plain-fair l i)
+  handle-all l i (ReadData p) = alone-fair l (handlesHeld (l .objects)) (plain l i) (plain-fair l i)
+  handle-all l i (Data p) = alone-fair l (handlesHeld (l .objects)) (plain l i) (plain-fair l i)
+  handle-all l i (Heartbeat p) = alone-fair l (handlesHeld (l .objects)) (plain l i) (plain-fair l i)
+  handle-all l i (Acknack p) = alone-fair l (handlesHeld (l .objects)) (plain l i) (plain-fair l i)
+
+  resumed-fair : (l : Local) (p : Pending) (a : Answer) → FairAll (beganBehind l p a) (grantedBy (p .asked .task) (p .asked .number) a ++ handlesHeld (l .objects)) (resumed l p a)
+  resumed-fair l p a =
+      onto-fair (p .left) l (grantedBy (p .asked .task) (p .asked .number) a ++ handlesHeld (l .objects)) (onAnswer l (p .asked) a)
+      (answer-fair l (p .asked .stream) (p .asked .number) (p .asked .task) a)
+
   pub honest : Honest (rules timeout) (handlesOf timeout)
   honest = record {
     starts = λ i o y m. m;
-    on-submessages = λ l i. submessage-fair l (i .time) (i .fields) (i .body) (i .stream);
-    on-answers = λ l p a. answer-fair l (p .stream) (p .number) (p .task) a;
+    on-submessages = λ l i. handle-all l i (i .fields);
+    on-answers = resumed-fair;
   }

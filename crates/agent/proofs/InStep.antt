@@ -20,9 +20,9 @@ use Rattle.sessions.specs.Opening.{after, liveFrom}
 use Rattle.sessions.specs.View.{Local, absent}
 use Rattle.moves.specs.Calls.{Call, Answer, fits}
 use Rattle.moves.specs.Replies.{clientBytes}
-use Rattle.agent.specs.RulesObjects.{Move}
-use Rattle.agent.specs.RulesAnswers.{onAnswer}
-use Rattle.agent.specs.Rules.{Opening, In, parsedAs, messageFrom, handle, rules}
+use Rattle.agent.specs.Brings.{Opening, In, parsedAs, messageFrom}
+use Rattle.agent.specs.RulesFragments.{Working, handle, resumed}
+use Rattle.agent.specs.Rules.{rules}
 use Rattle.agent.specs.Step.{Tables, Open, Agent, nextFree, chosen, openAs, Reply, opened, replied, Ran, behind, keep, act, deliver, run, continued, Event, datagram, answer, removal, sweep, Result, refused, ran, removed, swept, Did, refuse, finish, joinedReplies, callOf, openOf, withTables, settle, begin, tooLong, overHeld, withId, isLive, stays, lapsedIds, withLocals, stepped, step}
 use Rattle.agent.specs.Claim.{Hosted, hostCall, outOf, askedOf, resultOf, agent}
 
@@ -93,12 +93,12 @@ module _ (max timeout : ℕ) where
   map-all id [] = refl
   map-all id (b ∷ bs) = ap (λ (os : List (iso.Out R)). iso.reply id b ∷ os) (map-all id bs)
 
-  deliver-same : (id : ℕ) (rest : List (iso.Sub Opening In)) (t : Tables) (x : Option Local) (rule : Local → Move) (f : Tables → Ran) (g : ref.Tables R D → ref.Ran R D)
+  deliver-same : (id : ℕ) (rest : List (iso.Sub Opening In)) (t : Tables) (x : Option Local) (rule : Local → Working) (f : Tables → Ran) (g : ref.Tables R D → ref.Ran R D)
       → ((t : Tables) → ranOf (f t) ≡ g (tablesOf t)) → ranOf (deliver id rest t x rule f) ≡ ref.deliver R D id rest (tablesOf t) x rule g
   deliver-same id rest t none rule f g e = e t
   deliver-same id rest t (some l) rule f g e = go (rule l)
     where
-      go : (m : Move) → ranOf (act id rest t m f) ≡ ref.act R D id rest (tablesOf t) m g
+      go : (m : Working) → ranOf (act id rest t m f) ≡ ref.act R D id rest (tablesOf t) m g
       go (iso.done l′ bs) =
           let r = ranOf (f (keep id l′ t)) in
           ap (λ (os : List (iso.Out R)). record { tables = r .tables; wait = r .wait; outs = os; call = r .call }) (map-replies id bs (f (keep id l′ t) .replies))
@@ -122,7 +122,7 @@ module _ (max timeout : ℕ) where
   run-same id (iso.names i ∷ ss) t = deliver-same id ss t (t .at id) (λ l. handle l i) (λ t′. run max id ss t′) (λ t′. ref.run R D id ss t′) (λ t′. run-same id ss t′)
 
   continued-same : (w : Open) (a : Answer) (t : Tables) → ranOf (continued max w a t) ≡ ref.continue R D (waitOf w) a (tablesOf t)
-  continued-same w a t = deliver-same (w .session) (w .rest) t (t .at (w .session)) (λ l. onAnswer l (w .pending) a) (λ t′. run max (w .session) (w .rest) t′) (λ t′. ref.run R D (w .session) (w .rest) t′) (run-same (w .session) (w .rest))
+  continued-same w a t = deliver-same (w .session) (w .rest) t (t .at (w .session)) (λ l. resumed l (w .pending) a) (λ t′. run max (w .session) (w .rest) t′) (λ t′. ref.run R D (w .session) (w .rest) t′) (run-same (w .session) (w .rest))
 
   -- ---- one call
 
@@ -176,7 +176,7 @@ module _ (max timeout : ℕ) where
       finish-goes (made t none) out (withLocals (made t none) (λ i. stays timeout now (t .at i))) ids (swept ids)
       (ref.stepped R D none (stateOf (made t none)) (iso.sweep now)) (λ j. record { tables = record { next = t .next; at = λ i. stays-same now (t .at i) j }; wait = none }) refl (refl, refl)
   stepped-goes t (some w) (datagram time bytes) out = refuse-goes (made t (some w)) out 15 0 _
-  stepped-goes t (some w) (answer a) out = go (fits (w .pending .task) a) (tooLong (w .pending) a) (overHeld w a t)
+  stepped-goes t (some w) (answer a) out = go (fits (w .pending .asked .task) a) (tooLong (w .pending .asked) a) (overHeld w a t)
     where
       st : Agent
       st = made t (some w)

@@ -1,13 +1,21 @@
--- What the judge lets through: the stores are long enough, the answer fits its call, and the submessages to run are counted.
+-- What the judge lets through: the stores are long enough, the answer fits its call, and the submessages to run are counted; the
+-- rebuilt submessages that wait (document 02, W6) stand in their place as they were read.
 use Prim.Native.Nat.{ℕ, _+_, _≤_}
-use mathlib.Core.Path.{_≡_, refl, sym, subst}
+use mathlib.Core.Path.{_≡_, refl, sym, subst, ap, _∙_}
 use mathlib.Core.Bool.{Bool, true, false, cond, true≢false}
 use mathlib.Core.List.{List, []}
+use native.Mathlib.Omega.{arith}
 use borrow.Author.Tests.{ltb-false, le-leb}
 use lib.Dec.{eqb, leb, ltb}
 use lib.ListN.{length}
-use Rattle.codec.specs.Reading.{Item, Items, items, stopped, itemsAt, Message, refused, under, messageOf, checkedOf, countAt, checkOf}
+use lib.Seq.{length-take-le}
+use Rattle.codec.specs.Reading.{partOf, Item, Items, items, stopped, itemsAt, Message, refused, under, messageOf, checkedOf, countAt, checkOf}
 use Rattle.codec.specs.Header.{headerOf as headerIn}
+use Rattle.codec.specs.Rebuilt.{anyBarred, rebuiltAt}
+use Rattle.codec.specs.declared.rebuilt.Rebuilt.{Rebuilt}
+use Rattle.codec.specs.declared.rebuilt.Rebuilt.the-variants as rebuilt
+use Rattle.codec.proofs.reading.Laws.{items-end}
+use Rattle.codec.proofs.rebuilt.Laws.{rebuilt-reads}
 use Rattle.codec.specs.declared.header.MessageHeader.{MessageHeader}
 use Rattle.codec.specs.declared.reading.Checked.{Checked}
 use Rattle.codec.specs.declared.reading.Checked.the-variants as checked
@@ -15,16 +23,19 @@ use Rattle.codec.specs.declared.refusals.Refusal.the-variants.{BufferTooShort, 
 use Rattle.streams.specs.declared.sent.Slot.{Slot}
 use Rattle.streams.specs.declared.sent.Slot.the-variants as slot
 use Rattle.sessions.specs.Limits.{limitsOf}
+use Rattle.sessions.specs.Need.{heldNeed, partsNeed, lengthsNeed}
 use Rattle.sessions.specs.Sending.{dataSlot}
 use Rattle.sessions.specs.View.{Tables}
 use Rattle.sessions.specs.declared.limits.Limits.{Limits}
 use Rattle.sessions.specs.declared.limits.Limits.the-variants as limits
 use Rattle.sessions.proofs.limits.Laws.{kept-limits}
+use Rattle.sessions.proofs.setup.Laws as stores
 use Rattle.moves.specs.Calls.{fits}
 use Rattle.moves.specs.Proxy.{answerAs, taskAs}
 use Rattle.moves.specs.Answers.{saysOf}
 use Rattle.agent.specs.Answered.{saysFits}
-use Rattle.agent.specs.Judge.{answersOf, turnOf, sessionOf, streamOf, recordSound, checkedJudged, datagramJudged, tooLong, answerSlot, slotOf, answerStart, placedJudged, restJudged, headerOf, answerJudged, judgedBy, judgeOf, partsOf}
+use Rattle.agent.specs.Lent.{rebuiltPart}
+use Rattle.agent.specs.Judge.{answersOf, turnOf, sessionOf, streamOf, recordSound, datagramStart, checkedJudged, datagramJudged, tooLong, answerSlot, slotOf, answerStart, placedJudged, restJudged, headerOf, isRead, leftKept, answerJudged, judgedBy, judgeOf, partsOf}
 use Rattle.agent.specs.Host.{resumesFit}
 use Rattle.agent.specs.declared.judge.Input.{Input}
 use Rattle.agent.specs.declared.judge.Input.the-variants as input
@@ -70,6 +81,45 @@ counted-whole d = go (leb (length d) 4) (itemsAt d 4) refl
     go false (items ys) e = (ys, e, refl)
     go false (stopped r) e = tt
 
+-- ---- the rebuilt submessages that wait: their bytes read from the place to the end, and none of them is barred
+
+pub record Waits (place : List ℕ) (at end : ℕ) : Type 0 where
+  pub end-most : end ≤ 32768
+  pub within : at ≤ length (rebuiltPart place end)
+  pub subs : List Item
+  pub reads : itemsAt (rebuiltPart place end) at ≡ items subs
+  pub none-of : anyBarred subs ≡ false
+
+-- the bytes are as many as they were, in a place that is long enough
+pub left-length : (place : List ℕ) (end : ℕ) → end ≤ length place → length (rebuiltPart place end) ≡ end
+unfolding partOf
+left-length place end h = rw (le-leb (0 + end) (length place) (omega (arith, h))) (length-take-le end place h)
+
+-- none wait behind a datagram's header
+none-wait : (place : List ℕ) → Waits place 0 0
+none-wait place =
+    let none = left-length place 0 (omega arith) in
+    record { end-most = omega arith; within = omega arith; subs = []; reads = items-end (rebuiltPart place 0) 0 (omega (arith, none)); none-of = refl }
+
+is-passed : (r : Rebuilt) → isRead r ≡ true → (n : ℕ) × (r ≡ rebuilt.Subs n)
+is-passed (rebuilt.Subs n) e = (n, refl)
+is-passed (rebuilt.Refused r) e = absurd (true≢false (sym e))
+
+left-waits : (place : List ℕ) (p : Pending) → leftKept (rebuiltPart place (p .«left_end»)) p ≡ true → Waits place (p .«left_at») (p .«left_end»)
+left-waits place p = go (ltb 32768 (p .«left_end»)) (ltb (length left) (p .«left_at»)) refl refl
+  where
+    left : List ℕ
+    left = rebuiltPart place (p .«left_end»)
+
+    go : (b c : Bool) → ltb 32768 (p .«left_end») ≡ b → ltb (length left) (p .«left_at») ≡ c
+        → cond b false (cond c false (isRead (rebuiltAt left (p .«left_at»)))) ≡ true → Waits place (p .«left_at») (p .«left_end»)
+    go true c e f k = absurd (true≢false (sym k))
+    go false true e f k = absurd (true≢false (sym k))
+    go false false e f k =
+        let n = is-passed (rebuiltAt left (p .«left_at»)) k in
+        let y = rebuilt-reads left (p .«left_at») (n .0) (n .1) in
+        record { end-most = ltb-false 32768 (p .«left_end») e; within = ltb-false (length left) (p .«left_at») f; subs = y .0; reads = y .1; none-of = y .2 }
+
 -- ---- what goes
 
 abbrev pub AnswerFits : Resumes → Type 0
@@ -80,6 +130,12 @@ pub record Sound (t : Tables) (d : List ℕ) (sample room : ℕ) (x : Start) (n 
   pub sessions-long : 256 ≤ length (t .sessions)
   pub streams-long : 2048 ≤ length (t .streams)
   pub objects-long : 8192 ≤ length (t .objects)
+  pub clients : x .frame .«max_clients» ≤ 255
+  pub held-long : heldNeed (x .frame .«max_clients») ≤ length (t .held)
+  pub parts-long : partsNeed (x .frame .«max_clients») ≤ length (t .parts)
+  pub lengths-long : lengthsNeed (x .frame .«max_clients») ≤ length (t .lengths)
+  pub rebuilt-long : 32768 ≤ length (t .rebuilt)
+  pub waits : Waits (t .rebuilt) (x .«left_at») (x .«left_end»)
   pub sample-fits : resumesFit (x .resumes) (x .frame .«stream_id») sample ≡ true
   pub answer-fits : AnswerFits (x .resumes)
   pub counted : CountedAs d (x .at) n
@@ -140,25 +196,40 @@ module _ (t : Tables) (p : Pending) (n : ℕ) where
   says-fits Deleting Failed e k = refl
 
 module _ (t : Tables) (d : List ℕ) (a : Agent) (sample room : ℕ) where
-  record Long : Type 0 where
-    sessions : 256 ≤ length (t .sessions)
-    streams : 2048 ≤ length (t .streams)
-    objects : 8192 ≤ length (t .objects)
+  abbrev Long : Type 0
+  Long = stores.Long (length (t .sessions)) (length (t .streams)) (length (t .objects)) (length (t .held)) (length (t .parts)) (length (t .lengths)) (length (t .rebuilt)) (a .«max_clients»)
 
   abbrev within-at : ℕ → ℕ → Limits
-  within-at id n = limitsOf (t .sessions) (t .streams) (t .objects) (length (t .held)) (a .«max_clients») id n
+  within-at id n = limitsOf (t .sessions) (t .streams) (t .objects) (length (t .held)) (length (t .parts)) (t .lengths) (length (t .rebuilt)) (a .«max_clients») id n
 
   long-of : (id n : ℕ) → within-at id n ≡ limits.Within → Long
-  long-of id n e =
-      let k = kept-limits (t .sessions) (t .streams) (t .objects) (length (t .held)) (a .«max_clients») id n e .stores in
-      record { sessions = k .sessions-long; streams = k .streams-long; objects = k .objects-long }
+  long-of id n e = kept-limits (t .sessions) (t .streams) (t .objects) (length (t .held)) (length (t .parts)) (t .lengths) (length (t .rebuilt)) (a .«max_clients») id n e .stores
 
   abbrev Lets : Judged → Type 0
   Lets j = JudgedSound t d sample room j
 
+  -- of a start that has the agent's clients
+  sound-start : Long → (x : Start) (n : ℕ) → x .frame .«max_clients» ≡ a .«max_clients» → Waits (t .rebuilt) (x .«left_at») (x .«left_end») → resumesFit (x .resumes) (x .frame .«stream_id») sample ≡ true
+      → AnswerFits (x .resumes) → CountedAs d (x .at) n → x .frame .room ≡ room → Sound t d sample room x n
+  sound-start k x n m w fit f e r =
+      record {
+        sessions-long = k .sessions-long;
+        streams-long = k .streams-long;
+        objects-long = k .objects-long;
+        clients = rw m (k .clients);
+        held-long = rw m (k .held-long);
+        parts-long = rw m (k .parts-long);
+        lengths-long = rw m (k .lengths-long);
+        rebuilt-long = k .rebuilt-long;
+        waits = w;
+        sample-fits = fit;
+        answer-fits = f;
+        counted = e;
+        room-is = r;
+      }
+
   checked-sound : Long → (time : ℕ) (c : Checked) → Counts d 4 c → Lets (checkedJudged a time room c)
-  checked-sound k time (checked.Message h n) e =
-      record { sessions-long = k .sessions; streams-long = k .streams; objects-long = k .objects; sample-fits = refl; answer-fits = tt; counted = e; room-is = refl }
+  checked-sound k time (checked.Message h n) e = sound-start k (datagramStart a time h room) n refl (none-wait (t .rebuilt)) refl tt e refl
   checked-sound k time (checked.Refused r) e = tt
 
   datagram-sound : (time id n : ℕ) → Lets (datagramJudged d a (within-at id n) time room)
@@ -176,34 +247,38 @@ module _ (t : Tables) (d : List ℕ) (a : Agent) (sample room : ℕ) where
     abbrev place : Slot
     place = its-slot t p sample b
 
-    rest-sound : Long → (c : Checked) → Counts d (p .at) c → Lets (restJudged a p b sample place room c)
-    rest-sound k (checked.Message h n) e = go (tooLong b sample) refl place refl
+    abbrev kept : Bool
+    kept = leftKept (rebuiltPart (t .rebuilt) (p .«left_end»)) p
+
+    rest-sound : Long → kept ≡ true → (c : Checked) → Counts d (p .at) c → Lets (restJudged a p b sample place room c)
+    rest-sound k w (checked.Message h n) e = go (tooLong b sample) refl place refl
       where
         goes : tooLong b sample ≡ false → Placed place → Sound t d sample room (answerStart a p b room) n
-        goes q s =
-            record { sessions-long = k .sessions; streams-long = k .streams; objects-long = k .objects; sample-fits = says-fits t p sample (p .task) b q s; answer-fits = f; counted = e; room-is = refl }
+        goes q s = sound-start k (answerStart a p b room) n refl (left-waits (t .rebuilt) p w) (says-fits t p sample (p .task) b q s) f e refl
 
         go : (w : Bool) → tooLong b sample ≡ w → (s : Slot) → place ≡ s → Lets (cond w (judged.Refused TooLong) (placedJudged s (judged.Goes (answerStart a p b room) n)))
         go true q s g = tt
         go false q (slot.At i) g = goes q (subst Placed (sym g) tt)
         go false q slot.Nowhere g = goes q (subst Placed (sym g) tt)
         go false q (slot.Refused r) g = tt
-    rest-sound k (checked.Refused r) e = tt
+    rest-sound k w (checked.Refused r) e = tt
 
-    answer-sound : (id n : ℕ) → Lets (answerJudged d a (within-at id n) p b sample place room)
+    answer-sound : (id n : ℕ) → Lets (answerJudged d (t .rebuilt) a (within-at id n) p b sample place room)
     answer-sound id n = go (within-at id n) refl
       where
-        within : Long → (v w : Bool) → Lets (cond v (cond w (judged.Refused OverLimit) (restJudged a p b sample place room (countAt (headerOf p) d (p .at)))) (judged.Refused OverLimit))
-        within k true true = tt
-        within k true false = rest-sound k (countAt (headerOf p) d (p .at)) (counted-at (headerOf p) d (p .at))
-        within k false w = tt
+        within : Long → (u v w : Bool) → kept ≡ v
+            → Lets (cond u (cond v (cond w (judged.Refused OverLimit) (restJudged a p b sample place room (countAt (headerOf p) d (p .at)))) (judged.Refused OverLimit)) (judged.Refused OverLimit))
+        within k true true true e = tt
+        within k true true false e = rest-sound k e (countAt (headerOf p) d (p .at)) (counted-at (headerOf p) d (p .at))
+        within k true false w e = tt
+        within k false v w e = tt
 
-        go : (l : Limits) → within-at id n ≡ l → Lets (answerJudged d a l p b sample place room)
-        go limits.Within e = within (long-of id n e) (recordSound a) (ltb (length d) (p .at))
+        go : (l : Limits) → within-at id n ≡ l → Lets (answerJudged d (t .rebuilt) a l p b sample place room)
+        go limits.Within e = within (long-of id n e) (recordSound a) kept (ltb (length d) (p .at)) refl
         go (limits.Refused r) e = tt
 
   abbrev TurnSound : Turn → Type 0
-  TurnSound x = Lets (judgedBy d a (within-at (sessionOf d x) (streamOf d x)) x sample (slotOf x (t .sessions) (t .streams) (length (t .held)) sample) room)
+  TurnSound x = Lets (judgedBy d (t .rebuilt) a (within-at (sessionOf d x) (streamOf d x)) x sample (slotOf x (t .sessions) (t .streams) (length (t .held)) sample) room)
 
   answers-sound : (p : Pending) (b : BridgeAnswer) → TurnSound (answersOf p b)
   answers-sound p b = go (fits (taskAs (p .task)) (answerAs b [])) refl

@@ -17,7 +17,7 @@ use Rattle.codec.specs.declared.header.MessageHeader.{MessageHeader}
 use Rattle.codec.specs.declared.submessages.StatusCode.{StatusCode}
 use Rattle.moves.specs.Calls.{fits}
 use Rattle.moves.specs.Replies.{statusBytes, acknackBytes}
-use Rattle.agent.specs.Rules.{messageFrom}
+use Rattle.agent.specs.Brings.{messageFrom}
 use Rattle.agent.specs.Step.{Open, Agent, withId, Ran, run, continued, Event, datagram, answer, removal, sweep, Result, refused, ran, removed, swept, Did, refuse, finish, joinedReplies, callOf, openOf, withTables, settle, begin, tooLong, overHeld, isLive, stays, lapsedIds, withLocals, stepped, step}
 
 -- ---- a refused call changes nothing; the output keeps its length
@@ -72,7 +72,7 @@ stepped-keeps none st (sweep now) out =
     let ids = lapsedIds (st .timeout) now (st .tables .at) in
     finish-keeps st out (withLocals st (λ i. stays (st .timeout) now (st .tables .at i))) ids (swept ids) refl
 stepped-keeps (some w) st (datagram time bytes) out = refuse-keeps st out 15 0
-stepped-keeps (some w) st (answer a) out = go (fits (w .pending .task) a) (tooLong (w .pending) a) (overHeld w a (st .tables))
+stepped-keeps (some w) st (answer a) out = go (fits (w .pending .asked .task) a) (tooLong (w .pending .asked) a) (overHeld w a (st .tables))
   where
     go : (b c d : Bool) → Kept st out (cond b (cond c (refuse st out 12 0) (cond d (refuse st out 14 0) (settle st out (continued (st .max) w a (st .tables))))) (refuse st out 15 0))
     go true true d = refuse-keeps st out 12 0

@@ -1,5 +1,5 @@
 -- What is proved of the agent's definitions: the rules are honest about handles, the agent goes in step with `isolation`'s, and so has term 3; no reply is hidden; document 01's frauds are
--- shut out; an ACKNACK repeats what was sent (W5); and the definitions over the lent tables do what the rules and the step over lists do.
+-- shut out; an ACKNACK repeats what was sent (W5); fragments rebuild their payload (W6); and the definitions over the lent tables do what the rules and the step over lists do.
 pub mod Held
 pub mod Parents
 pub mod MoveCases
@@ -11,6 +11,7 @@ pub mod Shown
 pub mod Laws
 pub mod StreamLists
 pub mod RepeatLaws
+pub mod FragmentLaws
 pub mod Place
 pub mod MoveBytes
 pub mod NameParts
@@ -20,13 +21,18 @@ pub mod SquareObjects
 pub mod SquareStreams
 pub mod SquareReads
 pub mod SquareHandled
+pub mod SquareRebuilt
+pub mod SquareFragments
 pub mod SquareOpen
 pub mod SquareRun
 pub mod SquareHost
 pub mod Written
+pub mod Counted
+pub mod Loops
 pub mod Turns
 pub mod Acknacks
 pub mod Running
+pub mod Performed
 pub mod Rooms
 pub mod CallRoom
 pub mod SquareHeld
@@ -42,4 +48,7 @@ pub mod TakeDown
 pub mod Back
 pub mod Frame
 pub mod Judged
+pub mod Most
+pub mod Entering
+pub mod Resumed
 pub mod Thirteen

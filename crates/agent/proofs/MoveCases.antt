@@ -1,10 +1,10 @@
--- What a submessage comes to: what holds of each outcome of its rule holds of it.
+-- What a submessage and an answer come to: what holds of each outcome of the rule holds of it.
 use Prim.Native.Nat.{ℕ}
 use mathlib.Core.Path.{_≡_, refl}
 use mathlib.Core.Bool.{Bool, true, false, cond}
 use mathlib.Core.Logic.{_⊎_, inl, inr}
 use mathlib.Core.Option.{Option, none, some}
-use mathlib.Core.List.{List, []}
+use mathlib.Core.List.{List, [], _∷_}
 use lib.Dec.{eqb, leb}
 use Rattle.codec.specs.Submessages.{kindByte}
 use Rattle.codec.specs.declared.submessages.ObjectKind.{ObjectKind}
@@ -15,15 +15,20 @@ use Rattle.codec.specs.declared.submessages.AcknackPayload.{AcknackPayload}
 use Rattle.codec.specs.declared.submessages.Submessage.{Submessage}
 use Rattle.codec.specs.declared.submessages.Submessage.the-variants as sub
 use Rattle.streams.specs.View.{manyHeld}
-use Rattle.isolation.specs.Rules.{done}
+use Rattle.codec.specs.declared.submessages.FragmentPayload.{FragmentPayload}
+use Rattle.isolation.specs.Rules.{Bytes, done, calls}
 use Rattle.sessions.specs.View.{Entry, KeptStream, Local, findIn, dropIn, streamIn}
 use Rattle.sessions.specs.Dependants.{dependantIn, hasDependant}
-use Rattle.moves.specs.Calls.{Call, createParticipant, readData, Task, creating, writing, reading, deleting}
-use Rattle.agent.specs.Local.{withObjects, listing, dropping, full, handleAt, opening}
+use Rattle.moves.specs.Calls as moves
+use Rattle.moves.specs.Calls.{Call, createParticipant, readData, Answer, created, succeeded, sample, noSample, failed, Task, creating, writing, reading, deleting}
+use Rattle.agent.specs.Local.{withObjects, withStreams, listing, dropping, full, handleAt, opening}
 use Rattle.agent.specs.Parents.{handlesNamed}
 use Rattle.agent.specs.RulesObjects.{Move, says, asks, ifHandle, ifHandles, createFor, createUnless, deleteFound, readOn, readFrom, onRead}
 use Rattle.agent.specs.RulesStreams.{onHeartbeat, onAcknack}
-use Rattle.agent.specs.Rules.{onSubmessage}
+use Rattle.agent.specs.RulesAnswers.{sampleOn, answerOf}
+use Rattle.agent.specs.Brings.{In}
+use Rattle.agent.specs.RulesFragments as fragments
+use Rattle.agent.specs.RulesFragments.{Working, onSubmessage, plain, behind, onto, brought, gathering, handleBy}
 
 -- what a rule has seen to before it hands out a call: a CREATE's object finds a place; the stream of a read is 0 or open
 abbrev pub Ready : Task → ℕ → ℕ → Local → Type 0
@@ -119,3 +124,77 @@ module _ (P : Move → Type 0) (Q : Local → Type 0) (m : Submessage) (stream :
       by (sub.Data p) e = silent l same
       by (sub.Heartbeat p) e = hearing (p .«first_unacked_seq») (p .«last_seq»)
       by (sub.Acknack p) e = repeating p e
+      by (sub.Fragment p) e = silent l same
+
+-- an answer ends its submessage: it replies, and the tables are as they were, with other objects or with other streams
+module _ (P : Move → Type 0) (stream number : ℕ) (l : Local)
+    (same : (rs : List Bytes) → P (done l rs))
+    (listed : (es : List Entry) (rs : List Bytes) → P (done (withObjects l es) rs))
+    (streamed : (ks : List KeptStream) (rs : List Bytes) → P (done (withStreams l ks) rs)) where
+  sampled : (d : List ℕ) (x : Option KeptStream) → P (sampleOn stream number d x l)
+  sampled d none = same _
+  sampled d (some k) = streamed _ _
+
+  pub answer-cases : (t : Task) (a : Answer) → P (answerOf t stream number a l)
+  answer-cases (creating kind parent) (created h) = listed _ _
+  answer-cases (creating kind parent) succeeded = same _
+  answer-cases (creating kind parent) (sample d) = same _
+  answer-cases (creating kind parent) noSample = same _
+  answer-cases (creating kind parent) failed = same _
+  answer-cases writing (created h) = same _
+  answer-cases writing succeeded = same _
+  answer-cases writing (sample d) = same _
+  answer-cases writing noSample = same _
+  answer-cases writing failed = same _
+  answer-cases reading (created h) = same _
+  answer-cases reading succeeded = same _
+  answer-cases reading (sample d) = either P (eqb stream 0) _ _ (same _) (sampled d (streamIn (l .streams) stream))
+  answer-cases reading noSample = same _
+  answer-cases reading failed = same _
+  answer-cases deleting (created h) = same _
+  answer-cases deleting succeeded = same _
+  answer-cases deleting (sample d) = same _
+  answer-cases deleting noSample = same _
+  answer-cases deleting failed = same _
+
+-- ---- rebuilt submessages behind a move
+
+-- Q of the tables that a rule leaves, and C of what is kept of an open call
+module _ (Q : Local → Type 0) (C : moves.Pending → Local → Type 0) where
+  abbrev pub Leaves : Move → Type 0
+  Leaves (done l rs) = Q l
+  Leaves (calls l rs c p) = Q l × C p l
+
+  abbrev pub LeavesAll : Working → Type 0
+  LeavesAll (done l rs) = Q l
+  LeavesAll (calls l rs c p) = Q l × C (p .asked) l
+
+  behind-leaves : (rs : List Bytes) (m : Working) → LeavesAll m → LeavesAll (behind rs m)
+  behind-leaves rs (done l more) e = e
+  behind-leaves rs (calls l more c p) e = e
+
+  module _ (one : (l : Local) (i : In) → Q l → Leaves (plain l i)) where
+    pub onto-leaves : (is : List In) (m : Move) → Leaves m → LeavesAll (onto is m)
+    unfolding onto
+    onto-leaves [] (done l rs) e = e
+    onto-leaves [] (calls l rs c p) e = e
+    onto-leaves (i ∷ is) (calls l rs c p) e = e
+    onto-leaves (i ∷ is) (done l rs) e = behind-leaves rs (onto is (plain l i)) (onto-leaves is (plain l i) (one l i e))
+
+    pub handle-leaves : ((p : FragmentPayload) (i : In) (l : Local) → Q l → Q (gathering p i l)) → (l : Local) (i : In) → Q l → LeavesAll (fragments.handle l i)
+    handle-leaves kept l i e = by (i .fields)
+      where
+        alone : LeavesAll (onto [] (plain l i))
+        alone = onto-leaves [] (plain l i) (one l i e)
+
+        by : (m : Submessage) → LeavesAll (handleBy m i l)
+        by (sub.Fragment p) = onto-leaves (brought p i l) (done (gathering p i l) []) (kept p i l e)
+        by (sub.CreateClient p) = alone
+        by (sub.Create p) = alone
+        by (sub.Delete p) = alone
+        by (sub.Status p) = alone
+        by (sub.WriteData p) = alone
+        by (sub.ReadData p) = alone
+        by (sub.Data p) = alone
+        by (sub.Heartbeat p) = alone
+        by (sub.Acknack p) = alone

@@ -24,19 +24,22 @@ use Rattle.sessions.specs.ObjectList.{rankOf}
 use Rattle.sessions.specs.declared.objects.Place.{Place}
 use Rattle.sessions.specs.declared.objects.Place.the-variants.{At, Nowhere}
 use Rattle.sessions.proofs.FoundAgain.{found-among}
+use Rattle.moves.specs.Calls as moves
 use Rattle.moves.specs.Calls.{Answer, created, succeeded, sample, noSample, failed, Task, creating, writing, reading as readingTask, deleting, fits}
 use Rattle.agent.specs.Local.{full, touched, handleAt}
 use Rattle.agent.specs.Parents.{handlesNamed}
 use Rattle.agent.specs.RulesObjects.{Move, ifHandle, ifHandles, createFor, deleteFound}
-use Rattle.agent.specs.RulesAnswers.{sampleOn, answerOf}
-use Rattle.agent.specs.Rules.{rules, Opening, In, messageFrom, onSubmessage, handle}
+use Rattle.agent.specs.RulesAnswers.{sampleOn, answerOf, onAnswer}
+use Rattle.agent.specs.Brings.{Opening, In, messageFrom}
+use Rattle.agent.specs.RulesFragments.{Pending, Working, onSubmessage, plain, handle, resumed}
+use Rattle.agent.specs.Rules.{rules}
 use Rattle.agent.specs.Step as step
 use Rattle.agent.specs.Step.{Tables, Open, Ran, chosen, openAs, run, deliver, act, keep, continued, settle, begin, stays}
 use Rattle.agent.specs.Whole as whole
 use Rattle.agent.specs.Whole.{Hosted, agentOf, eventOf, sessionIn, setUpWith}
 use Rattle.agent.specs.declared.agent.AgentSetUp.the-variants.{Ready}
 use Rattle.agent.specs.declared.state.Agent.{Agent}
-use Rattle.agent.proofs.MoveCases.{either, read-cases}
+use Rattle.agent.proofs.MoveCases.{either, read-cases, Leaves, LeavesAll, onto-leaves, handle-leaves}
 use Rattle.agent.proofs.SquareStep.{empty-square, step-square}
 use Rattle.agent.proofs.WholeInStep.{Holds, holds-empty, holds-step}
 use Rattle.agent.proofs.Promised.{stateAfter}
@@ -97,9 +100,14 @@ TaskOwn deleting = Unit {0}
 abbrev Good : Local → Type 0
 Good l = Each (l .objects)
 
+abbrev Owns : moves.Pending → Local → Type 0
+Owns p l = TaskOwn (p .task)
+
 abbrev MoveGood : Move → Type 0
-MoveGood (done l rs) = Good l
-MoveGood (calls l rs c p) = Good l × TaskOwn (p .task)
+MoveGood m = Leaves Good Owns m
+
+abbrev WorkGood : Working → Type 0
+WorkGood m = LeavesAll Good Owns m
 
 kind-own : (k : ObjectKind) → rankOf (kindByte k) ≡ kindByte k
 kind-own Participant = refl
@@ -168,6 +176,13 @@ submessage-good (sub.Acknack p) body stream l g = g
 submessage-good (sub.Data p) body stream l g = g
 submessage-good (sub.Status p) body stream l g = g
 submessage-good (sub.CreateClient p) body stream l g = g
+submessage-good (sub.Fragment p) body stream l g = g
+
+plain-good : (l : Local) (i : In) → Good l → MoveGood (plain l i)
+plain-good l i g = submessage-good (i .fields) (i .body) (i .stream) (touched (i .time) l) g
+
+resumed-good : (l : Local) (p : Pending) (a : Answer) → Good l → TaskOwn (p .asked .task) → WorkGood (resumed l p a)
+resumed-good l p a g o = onto-leaves Good Owns plain-good (p .left) (onAnswer l (p .asked) a) (answer-good l g (p .asked .stream) (p .asked .number) (p .asked .task) o a)
 
 -- ---- a run, and a step
 
@@ -180,7 +195,7 @@ TablesGood t = (id : ℕ) → OptGood (t .at id)
 
 abbrev WaitGood : Option Open → Type 0
 WaitGood none = Unit {0}
-WaitGood (some w) = TaskOwn (w .pending .task)
+WaitGood (some w) = TaskOwn (w .pending .asked .task)
 
 abbrev RanGood : Ran → Type 0
 RanGood r = TablesGood (r .tables) × WaitGood (step.openOf (r .stop))
@@ -196,12 +211,12 @@ open-good : (o : Opening) (t : Tables) (x : Option ℕ) → TablesGood t → Tab
 open-good o t none g = g
 open-good o t (some id) g = with-good id _ (t .at) tt g
 
-acts-good : (id : ℕ) (rest : List (Sub Opening In)) (t : Tables) (m : Move) (go : Tables → Ran) → TablesGood t → MoveGood m → ((u : Tables) → TablesGood u → RanGood (go u)) → RanGood (act id rest t m go)
+acts-good : (id : ℕ) (rest : List (Sub Opening In)) (t : Tables) (m : Working) (go : Tables → Ran) → TablesGood t → WorkGood m → ((u : Tables) → TablesGood u → RanGood (go u)) → RanGood (act id rest t m go)
 acts-good id rest t (done l rs) go g p f = f (keep id l t) (with-good id (some l) (t .at) p g)
 acts-good id rest t (calls l rs c q) go g p f = (with-good id (some l) (t .at) (p .0) g, p .1)
 
-deliver-good : (id : ℕ) (rest : List (Sub Opening In)) (t : Tables) (x : Option Local) (rule : Local → Move) (go : Tables → Ran) → TablesGood t → OptGood x
-    → ((l : Local) → Good l → MoveGood (rule l)) → ((u : Tables) → TablesGood u → RanGood (go u)) → RanGood (deliver id rest t x rule go)
+deliver-good : (id : ℕ) (rest : List (Sub Opening In)) (t : Tables) (x : Option Local) (rule : Local → Working) (go : Tables → Ran) → TablesGood t → OptGood x
+    → ((l : Local) → Good l → WorkGood (rule l)) → ((u : Tables) → TablesGood u → RanGood (go u)) → RanGood (deliver id rest t x rule go)
 deliver-good id rest t none rule go g p r f = f t g
 deliver-good id rest t (some l) rule go g p r f = acts-good id rest t (rule l) go g (r l p) f
 
@@ -210,12 +225,12 @@ unfolding run
 run-good max id [] t g = (g, tt)
 run-good max id (opens o ∷ ss) t g = run-good max id ss (openAs o t (chosen max t)) (open-good o t (chosen max t) g)
 run-good max id (names i ∷ ss) t g =
-    deliver-good id ss t (t .at id) (λ l. handle l i) (λ u. run max id ss u) g (g id) (λ l p. submessage-good (i .fields) (i .body) (i .stream) (touched (i .time) l) p) (λ u h. run-good max id ss u h)
+    deliver-good id ss t (t .at id) (λ l. handle l i) (λ u. run max id ss u) g (g id) (λ l p. handle-leaves Good Owns plain-good (λ f j m q. q) l i p) (λ u h. run-good max id ss u h)
 
-continued-good : (max : ℕ) (w : Open) (a : Answer) (t : Tables) → TablesGood t → TaskOwn (w .pending .task) → RanGood (continued max w a t)
+continued-good : (max : ℕ) (w : Open) (a : Answer) (t : Tables) → TablesGood t → TaskOwn (w .pending .asked .task) → RanGood (continued max w a t)
 continued-good max w a t g o =
     deliver-good (w .session) (w .rest) t (t .at (w .session)) _ (λ u. run max (w .session) (w .rest) u) g (g (w .session))
-    (λ l p. answer-good l p (w .pending .stream) (w .pending .number) (w .pending .task) o a) (λ u h. run-good max (w .session) (w .rest) u h)
+    (λ l p. resumed-good l (w .pending) a p o) (λ u h. run-good max (w .session) (w .rest) u h)
 
 abbrev AgentGood : step.Agent → Type 0
 AgentGood st = TablesGood (st .tables) × WaitGood (st .waits)
@@ -253,7 +268,7 @@ stepped-good none st (step.sweep now) out g o =
     let is = step.lapsedIds (st .timeout) now (st .tables .at) in
     finish-good st out (step.withLocals st (λ i. stays (st .timeout) now (st .tables .at i))) is (step.swept is) g ((λ i. stays-good (st .timeout) now (st .tables .at i) (g .0 i)), tt)
 stepped-good (some w) st (step.datagram time bytes) out g o = g
-stepped-good (some w) st (step.answer a) out g o = by (fits (w .pending .task) a) (step.tooLong (w .pending) a) (step.overHeld w a (st .tables))
+stepped-good (some w) st (step.answer a) out g o = by (fits (w .pending .asked .task) a) (step.tooLong (w .pending .asked) a) (step.overHeld w a (st .tables))
   where
     by : (b c d : Bool)
         → AgentGood ((cond b (cond c (step.refuse st out 12 0) (cond d (step.refuse st out 14 0) (settle st out (continued (st .max) w a (st .tables))))) (step.refuse st out 15 0)) .agent)

@@ -26,10 +26,10 @@ use Rattle.isolation.specs.Rules.{done, calls, Sub, opens, names}
 use Rattle.isolation.proofs.Simulation.{none-some}
 use Rattle.sessions.specs.View.{Local}
 use Rattle.moves.specs.Calls.{Call}
-use Rattle.agent.specs.RulesObjects.{Move}
-use Rattle.agent.specs.Rules.{Opening, In, subFrom, subOf, messageFrom, handle}
+use Rattle.agent.specs.Brings.{Opening, In, inOf, subFrom, subOf, messageFrom}
+use Rattle.agent.specs.RulesFragments.{Working, handle}
 use Rattle.agent.specs.Step.{Tables, Open, chosen, openAs, keep, act, deliver, run}
-use Rattle.agent.specs.Place.{subsFrom, subsAt}
+use Rattle.agent.specs.Place.{subsFrom, subsAt, insFrom, insAt}
 
 pub items-not : (xs : List Item) (r : Refusal) → stopped r ≡ items xs → ⊥
 items-not xs r e = let z : _≡_ {A = ℕ} 0 1 = cc in omega arith
@@ -49,6 +49,16 @@ module _ (time stream : ℕ) (s : List ℕ) where
   subs-more at m x c ys h e f =
       ap (λ (i : Items). subsFrom time stream s i) (items-more s at h ∙ ap (λ (q : Parsed). onward q (itemsAt s)) e ∙ ap (λ (i : Items). before (record { says = m; span = x }) i) f)
       ∙ ap (λ (i : Items). subFrom time stream m (partOf s x) ∷ subsFrom time stream s i) (sym f)
+
+  -- W6: rebuilt submessages alike
+  pub ins-end : (at : ℕ) → length s ≤ at → insAt time stream s at ≡ []
+  ins-end at h = ap (λ (i : Items). insFrom time stream s i) (items-end s at h)
+
+  pub ins-more : (at : ℕ) (m : Submessage) (x : Span) (c : Cursor) (ys : List Item) → at < length s → readAt s at ≡ parsed.Sub m x c → itemsAt s (c .at) ≡ items ys
+      → insAt time stream s at ≡ inOf time stream m (partOf s x) ∷ insAt time stream s (c .at)
+  ins-more at m x c ys h e f =
+      ap (λ (i : Items). insFrom time stream s i) (items-more s at h ∙ ap (λ (q : Parsed). onward q (itemsAt s)) e ∙ ap (λ (i : Items). before (record { says = m; span = x }) i) f)
+      ∙ ap (λ (i : Items). inOf time stream m (partOf s x) ∷ insFrom time stream s i) (sym f)
 
 -- a whole datagram stands behind its header's four bytes
 pub whole-as : (time : ℕ) (s : List ℕ) (h : MessageHeader) (xs : List Said) → reading s ≡ says h xs → messageFrom time h xs .subs ≡ subsAt time (h .«stream_id») s 4
@@ -90,7 +100,7 @@ module _ (max id time stream : ℕ) (s : List ℕ) where
   one-place from at (opens o) t c w ys h k f more e = later from at w h (more (openAs o t (chosen max t)) e)
   one-place from at (names i) t c w ys h k f more e = go (t .at id) e
     where
-      acts : (m : Move) → act id (subsAt time stream s at) t m (λ t′. run max id (subsAt time stream s at) t′) .stop ≡ some (c, w) → Place time stream s from w
+      acts : (m : Working) → act id (subsAt time stream s at) t m (λ t′. run max id (subsAt time stream s at) t′) .stop ≡ some (c, w) → Place time stream s from w
       acts (done l bs) e = later from at w h (more (keep id l t) e)
       acts (calls l bs c′ p) e =
           record { at = at; ahead = h; within = k; reads = (ys, f); rest = sym (ap restIn e) }

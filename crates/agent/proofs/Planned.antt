@@ -38,10 +38,11 @@ use Rattle.moves.specs.declared.proxy.BridgeAnswer.the-variants.{Created, Done,
 use Rattle.agent.specs.Step as step
 use Rattle.agent.specs.Step.{Reply, joinedReplies}
 use Rattle.agent.specs.Run.{Turned}
-use Rattle.agent.specs.Judge.{recordSound, soundOf, turnOf, sessionOf, streamOf, headerOf, tooLong, slotOf, answerStart, placedJudged, checkedJudged, restJudged, judgedBy, judgeOf}
+use Rattle.agent.specs.Judge.{recordSound, soundOf, turnOf, sessionOf, streamOf, headerOf, tooLong, slotOf, answerStart, placedJudged, checkedJudged, leftKept, restJudged, judgedBy, judgeOf}
+use Rattle.agent.specs.Lent.{rebuiltPart}
 use Rattle.agent.specs.Host as host
 use Rattle.agent.specs.Host.{performed, finishedOf, finish, processedBy, processOf, idleOf, removedAs, removedBy, removedRows, sweptBy}
-use Rattle.agent.specs.Whole.{State, Event, datagram, answer, removal, sweep, Did, didBy, removedResult, sweptResult, withRows, stepOf}
+use Rattle.agent.specs.Whole.{State, Event, datagram, answer, removal, sweep, Did, callBytes, didBy, removedResult, sweptResult, withRows, stepOf}
 use Rattle.agent.specs.declared.agent.Idle.{Idle}
 use Rattle.agent.specs.declared.agent.Idle.the-variants as idle
 use Rattle.agent.specs.declared.judge.Input.{Input}
@@ -59,7 +60,7 @@ use Rattle.agent.specs.declared.turn.Stop.the-variants as stop
 use Rattle.agent.proofs.Laws.{went}
 use Rattle.agent.proofs.WireNumbers.{InMessage, message-wire}
 use Rattle.agent.proofs.Rooms.{startAt, performed-alike}
-use Rattle.agent.proofs.Running.{performed-told}
+use Rattle.agent.proofs.Performed.{performed-told}
 
 -- what a result says into the lent output: the replies in order, or the ids of a sweep
 abbrev pub saidBy : step.Result → List ℕ
@@ -188,14 +189,14 @@ slot-not (turn.Answer p NoSample) s y held n = tt
 slot-not (turn.Answer p Failed) s y held n = tt
 slot-not (turn.Refused r) s y held n = tt
 
-turn-not : (d : List ℕ) (a : Agent) (l : Limits) (x : Turn) (n : ℕ) (y : Slot) (room : ℕ) → TurnNot x → SlotNot y → Not13 (judgedBy d a l x n y room)
+turn-not : (d rebuilt : List ℕ) (a : Agent) (l : Limits) (x : Turn) (n : ℕ) (y : Slot) (room : ℕ) → TurnNot x → SlotNot y → Not13 (judgedBy d rebuilt a l x n y room)
 unfolding checkOf
-turn-not d a l (turn.Datagram time) n y room h k = by (soundOf a l)
+turn-not d rebuilt a l (turn.Datagram time) n y room h k = by (soundOf a l)
   where
     by : (b : Bool) → Not13 (cond b (checkedJudged a time room (checkOf d)) (judged.Refused OverLimit))
     by true = checked-not a time room d (messageOf d) (message-wire d)
     by false = not-limit
-turn-not d a l (turn.Answer p b) n y room h k = by (soundOf a l) (ltb (length d) (p .at)) (countAt (headerOf p) d (p .at))
+turn-not d rebuilt a l (turn.Answer p b) n y room h k = by (soundOf a l) (leftKept (rebuiltPart rebuilt (p .«left_end»)) p) (ltb (length d) (p .at)) (countAt (headerOf p) d (p .at))
   where
     placed : (y : Slot) → SlotNot y → (m : ℕ) → Not13 (placedJudged y (judged.Goes (answerStart a p b room) m))
     placed (slot.At i) k m = tt
@@ -210,25 +211,27 @@ turn-not d a l (turn.Answer p b) n y room h k = by (soundOf a l) (ltb (length d)
     rest (checked.Message h m) = long (tooLong b n) m
     rest (checked.Refused r) = not-limit
 
-    by : (s e : Bool) (c : Checked) → Not13 (cond s (cond e (judged.Refused OverLimit) (restJudged a p b n y room c)) (judged.Refused OverLimit))
-    by true true c = not-limit
-    by true false c = rest c
-    by false e c = not-limit
-turn-not d a l (turn.Refused r) n y room h k = h
+    by : (s w e : Bool) (c : Checked)
+        → Not13 (cond s (cond w (cond e (judged.Refused OverLimit) (restJudged a p b n y room c)) (judged.Refused OverLimit)) (judged.Refused OverLimit))
+    by true true true c = not-limit
+    by true true false c = rest c
+    by true false e c = not-limit
+    by false w e c = not-limit
+turn-not d rebuilt a l (turn.Refused r) n y room h k = h
 
 -- and it does not look at the room
 abbrev atRoom : Judged → ℕ → Judged
 atRoom (judged.Goes x n) room = judged.Goes (startAt x room) n
 atRoom (judged.Refused r) room = judged.Refused r
 
-turn-room : (d : List ℕ) (a : Agent) (l : Limits) (x : Turn) (n : ℕ) (y : Slot) (room : ℕ) → judgedBy d a l x n y room ≡ atRoom (judgedBy d a l x n y 0) room
-turn-room d a l (turn.Datagram time) n y room = by (soundOf a l) (checkOf d)
+turn-room : (d rebuilt : List ℕ) (a : Agent) (l : Limits) (x : Turn) (n : ℕ) (y : Slot) (room : ℕ) → judgedBy d rebuilt a l x n y room ≡ atRoom (judgedBy d rebuilt a l x n y 0) room
+turn-room d rebuilt a l (turn.Datagram time) n y room = by (soundOf a l) (checkOf d)
   where
     by : (b : Bool) (c : Checked) → cond b (checkedJudged a time room c) (judged.Refused OverLimit) ≡ atRoom (cond b (checkedJudged a time 0 c) (judged.Refused OverLimit)) room
     by true (checked.Message h m) = refl
     by true (checked.Refused r) = refl
     by false c = refl
-turn-room d a l (turn.Answer p b) n y room = by (soundOf a l) (ltb (length d) (p .at)) (countAt (headerOf p) d (p .at))
+turn-room d rebuilt a l (turn.Answer p b) n y room = by (soundOf a l) (leftKept (rebuiltPart rebuilt (p .«left_end»)) p) (ltb (length d) (p .at)) (countAt (headerOf p) d (p .at))
   where
     placed : (y : Slot) (m : ℕ) → placedJudged y (judged.Goes (answerStart a p b room) m) ≡ atRoom (placedJudged y (judged.Goes (answerStart a p b 0) m)) room
     placed (slot.At i) m = refl
@@ -244,31 +247,33 @@ turn-room d a l (turn.Answer p b) n y room = by (soundOf a l) (ltb (length d) (p
     rest (checked.Message h m) = long (tooLong b n) m
     rest (checked.Refused r) = refl
 
-    by : (s e : Bool) (c : Checked)
-        → cond s (cond e (judged.Refused OverLimit) (restJudged a p b n y room c)) (judged.Refused OverLimit)
-        ≡ atRoom (cond s (cond e (judged.Refused OverLimit) (restJudged a p b n y 0 c)) (judged.Refused OverLimit)) room
-    by true true c = refl
-    by true false c = rest c
-    by false e c = refl
-turn-room d a l (turn.Refused r) n y room = refl
+    by : (s w e : Bool) (c : Checked)
+        → cond s (cond w (cond e (judged.Refused OverLimit) (restJudged a p b n y room c)) (judged.Refused OverLimit)) (judged.Refused OverLimit)
+        ≡ atRoom (cond s (cond w (cond e (judged.Refused OverLimit) (restJudged a p b n y 0 c)) (judged.Refused OverLimit)) (judged.Refused OverLimit)) room
+    by true true true c = refl
+    by true true false c = rest c
+    by true false e c = refl
+    by false w e c = refl
+turn-room d rebuilt a l (turn.Refused r) n y room = refl
 
 module _ (t : Tables) (d : List ℕ) (a : Agent) (i : Input) (n : ℕ) where
   abbrev inTurn : Turn
   inTurn = turnOf (a .waits) i
 
   abbrev within : Limits
-  within = limitsOf (t .sessions) (t .streams) (t .objects) (length (t .held)) (a .«max_clients») (sessionOf d inTurn) (streamOf d inTurn)
+  within =
+      limitsOf (t .sessions) (t .streams) (t .objects) (length (t .held)) (length (t .parts)) (t .lengths) (length (t .rebuilt)) (a .«max_clients») (sessionOf d inTurn) (streamOf d inTurn)
 
   abbrev holds : Slot
   holds = slotOf inTurn (t .sessions) (t .streams) (length (t .held)) n
 
   judge-not : Not13 (judgeOf t d a i n 0)
   unfolding judgeOf
-  judge-not = turn-not d a within inTurn n holds 0 (in-turn (a .waits) i) (slot-not inTurn (t .sessions) (t .streams) (length (t .held)) n)
+  judge-not = turn-not d (t .rebuilt) a within inTurn n holds 0 (in-turn (a .waits) i) (slot-not inTurn (t .sessions) (t .streams) (length (t .held)) n)
 
   judge-room : (room : ℕ) → judgeOf t d a i n room ≡ atRoom (judgeOf t d a i n 0) room
   unfolding judgeOf
-  judge-room room = turn-room d a within inTurn n holds room
+  judge-room room = turn-room d (t .rebuilt) a within inTurn n holds room
 
 module _ (st : State) (d sample : List ℕ) where
   module _ (x : Start) (next at : ℕ) (t : Tables) (rs : List Reply) where
@@ -307,6 +312,11 @@ module _ (st : State) (d sample : List ℕ) where
         let s = stop.Call number task call in
         let st′ = didBy d (st .lent) (full s 0 []) .state in
         let q = step.ran rs (some (callAs d call)) in
+        record { plan = goes st′ q; good = refl; carries = λ out. carried-as s (wrote out) out st′ q refl refl (w out) }
+    finish-planned wrote w (stop.Inside number task call a e) =
+        let s = stop.Inside number task call a e in
+        let st′ = didBy d (st .lent) (full s 0 []) .state in
+        let q = step.ran rs (some (callAs (callBytes (st′ .agent .waits) d (t .rebuilt)) call)) in
         record { plan = goes st′ q; good = refl; carries = λ out. carried-as s (wrote out) out st′ q refl refl (w out) }
 
   -- the same of any room, since that is told by the count alone

@@ -21,7 +21,8 @@ use Rattle.sessions.specs.Setup.{setUpOf}
 use Rattle.sessions.specs.View.{Tables}
 use Rattle.sessions.specs.declared.setup.SetUp.the-variants as setup
 use Rattle.moves.specs.Calls.{fits}
-use Rattle.agent.specs.Rules.{rules, messageFrom}
+use Rattle.agent.specs.Brings.{messageFrom}
+use Rattle.agent.specs.Rules.{rules}
 use Rattle.agent.specs.Step as step
 use Rattle.agent.specs.Step.{Open, joinedReplies, run, continued, settle, begin}
 use Rattle.agent.specs.Judge.{tooLong}
@@ -140,7 +141,7 @@ module _ (t : Tables) (max timeout : ℕ) (a : Agent) where
   pub shown : (st : State) (e : Hosted) → (length (writtenBy st e) ≤ length (e .out)) × (stepOf st (e .event) (e .out) .out ≡ putAt (e .out) 0 (writtenBy st e))
   shown st e =
       let d = stepOf st (e .event) (e .out) in
-      subst (λ (bs : List ℕ). (length bs ≤ length (e .out)) × (d .out ≡ putAt (e .out) 0 bs)) (said-same (opensAs (d .state .lent) (d .state .agent .waits)) (d .result)) (shows (e .event) (e .out))
+      subst (λ (bs : List ℕ). (length bs ≤ length (e .out)) × (d .out ≡ putAt (e .out) 0 bs)) (said-same (opensAs (d .state .lent) (d .state .tables .rebuilt) (d .state .agent .waits)) (d .result)) (shows (e .event) (e .out))
     where
       carried : (p : Plan) (out : List ℕ) → (length (saidBy (carry st p out .result)) ≤ length out) × (carry st p out .out ≡ putAt out 0 (saidBy (carry st p out .result)))
       carried (stops n b) out = nothing out
@@ -192,7 +193,7 @@ stepped-listed none st (step.sweep now) out =
     let is = step.lapsedIds (st .timeout) now (st .tables .at) in
     finish-listed st out (step.withLocals st (λ i. step.stays (st .timeout) now (st .tables .at i))) is (step.swept is) tt
 stepped-listed (some w) st (step.datagram time bytes) out = out-of-turn
-stepped-listed (some w) st (step.answer a) out = by (fits (w .pending .task) a) (step.tooLong (w .pending) a) (step.overHeld w a (st .tables))
+stepped-listed (some w) st (step.answer a) out = by (fits (w .pending .asked .task) a) (step.tooLong (w .pending .asked) a) (step.overHeld w a (st .tables))
   where
     by : (b c d : Bool)
         → ListedIn ((cond b (cond c (step.refuse st out 12 0) (cond d (step.refuse st out 14 0) (settle st out (continued (st .max) w a (st .tables))))) (step.refuse st out 15 0)) .result)
@@ -240,9 +241,9 @@ module _ (t : Tables) (max timeout : ℕ) (a : Agent) (made : setUpWith t max ti
 -- 16, "`max_clients` over 255, lent store under its documented need": set-up is refused exactly so, and else the agent is empty
 pub set-up-answers : (t : Tables) (max timeout : ℕ)
     → setUpAnswer (setUpWith t max timeout)
-    ≡ cond (storesFit (length (t .sessions)) (length (t .streams)) (length (t .objects)) (length (t .held)) max) (gives (record { «max_clients» = max; «timeout_ms» = timeout; next = 1; waits = waiting.Nothing })) (refusedAs 16 0)
+    ≡ cond (storesFit (length (t .sessions)) (length (t .streams)) (length (t .objects)) (length (t .held)) (length (t .parts)) (length (t .lengths)) (length (t .rebuilt)) max) (gives (record { «max_clients» = max; «timeout_ms» = timeout; next = 1; waits = waiting.Nothing })) (refusedAs 16 0)
 unfolding setUpOf
-set-up-answers t max timeout = by (storesFit (length (t .sessions)) (length (t .streams)) (length (t .objects)) (length (t .held)) max)
+set-up-answers t max timeout = by (storesFit (length (t .sessions)) (length (t .streams)) (length (t .objects)) (length (t .held)) (length (t .parts)) (length (t .lengths)) (length (t .rebuilt)) max)
   where
     by : (b : Bool)
         → setUpAnswer (setUpAs (cond b (setup.Ready 1) (setup.Refused OverLimit)) max timeout)

@@ -10,24 +10,27 @@ use borrow.Author.Tests.{eqb-true, eqb-false, ne-eqb}
 use lib.Dec.{eqb}
 use lib.ListN.{length}
 use Rattle.codec.specs.declared.submessages.Submessage.{Submessage}
-use Rattle.codec.specs.declared.submessages.Submessage.the-variants.{CreateClient, Create, Delete, Status, WriteData, ReadData, Data, Heartbeat, Acknack}
+use Rattle.codec.specs.declared.submessages.Submessage.the-variants.{CreateClient, Create, Delete, Status, WriteData, ReadData, Data, Heartbeat, Acknack, Fragment}
 use Rattle.streams.specs.View.{freshOf, acknackIn, sentIn, repeatedIn}
 use Rattle.streams.specs.Repeats.{Event, sent, acknacked, onEvent, onEvents, streamAfter, dataOf, numberOf}
 use Rattle.streams.proofs.LastSent.{repeats-as-sent}
 use Rattle.isolation.specs.Rules as iso
 use Rattle.isolation.specs.Rules.{Bytes, done, calls}
-use Rattle.isolation.specs.Machine.{Machine, ended, idle, waiting, Feed, submessages, answered, swept-at, removal-of-it, handles, resumes, on, work, take, takes, Trace, Handles}
+use Rattle.isolation.specs.Machine.{Machine, ended, idle, waiting, Feed, submessages, answered, swept-at, removal-of-it, Action, handles, resumes, on, work, take, takes, Trace, Handles}
 use Rattle.isolation.specs.Claim as claim
 use Rattle.isolation.proofs.Simulation.{none-some}
 use Rattle.sessions.specs.View.{KeptStream, Local, streamIn, openIn, writeIn, expired}
-use Rattle.moves.specs.Calls.{Answer, created, succeeded, sample, noSample, failed, Task, creating, deleting, writing, reading, Pending}
+use Rattle.moves.specs.Calls.{Answer, created, succeeded, sample, noSample, failed, Task, creating, deleting, writing, reading}
 use Rattle.moves.specs.Replies.{dataBytes}
 use Rattle.agent.specs.Local.{touched, opening, acknowledging}
 use Rattle.agent.specs.RulesObjects.{Move}
 use Rattle.agent.specs.RulesStreams.{repeatsFrom}
 use Rattle.agent.specs.RulesAnswers.{sampleOn, answerOf, onAnswer}
-use Rattle.agent.specs.Rules.{Opening, In, start, onSubmessage, handle, rules}
-use Rattle.agent.specs.Repeats.{repliesOf, acknackOf, sampleOf, Came, nothingYet, adding, asksAgain, sends, Repeated, Sent, Tabled, Act, moveOf, behind, Right, AllRepeated, allReplies, RepeatsRight}
+use Rattle.agent.specs.Brings.{Opening, In, inOf}
+use Rattle.agent.specs.RulesFragments as fragments
+use Rattle.agent.specs.RulesFragments.{Working, onSubmessage, plain, onto, brought, gathering, handleBy, handle, resumed}
+use Rattle.agent.specs.Rules.{start, rules}
+use Rattle.agent.specs.Repeats.{Work, does, hears, moveOf, worksOnto, rebuiltBy, worksOf, worksIn, repliesOf, acknackOf, sampleOf, Came, nothingYet, adding, asksAgain, sends, Repeated, Sent, Tabled, behind, Right, AllRepeated, allReplies, RepeatsRight}
 use Rattle.agent.proofs.MoveCases.{Ready, submessage-cases}
 use Rattle.agent.proofs.StreamLists.{orFresh, open-now, write-here, write-elsewhere, acknack-here, acknack-elsewhere, repeats-now}
 
@@ -111,6 +114,7 @@ module _ (id : ℕ) where
     submessage-fair (ReadData p) body = (quiet (ReadData p) body refl, λ h. tt)
     submessage-fair (Data p) body = (quiet (Data p) body refl, λ h. tt)
     submessage-fair (Heartbeat p) body = (quiet (Heartbeat p) body refl, λ h. tt)
+    submessage-fair (Fragment p) body = (quiet (Fragment p) body refl, λ h. tt)
     submessage-fair (Acknack p) body = (acknowledged (p .«first_unacked_seq») (p .«nack_bitmap»), repeated (p .«first_unacked_seq») (p .«nack_bitmap»))
 
   -- ---- an answer
@@ -166,64 +170,118 @@ module _ (id : ℕ) where
     answer-fair deleting noSample r = (v, λ h. tt)
     answer-fair deleting failed r = (v, λ h. tt)
 
+  -- ---- works one behind the other
+
+  abbrev grown : Came → List Work → Came
+  grown g [] = g
+  grown g (w ∷ ws) = grown (behind w g) ws
+
+  tabled : (g : Came) (l : Local) → Inv g l → Tabled g l
+  tabled g l v n h k e = ap (orFresh n) (sym e) ∙ v .1 n h
+
+  abbrev NextAll : Came → Working → Type 0
+  NextAll g (done l rs) = Inv g l
+  NextAll g (calls l rs c p) = Inv g l × Ready (p .asked .task) (p .asked .stream) (p .asked .number) l
+
+  behind-next : (g : Came) (rs : List Bytes) (x : Working) → NextAll g x → NextAll g (fragments.behind rs x)
+  behind-next g rs (done l more) v = v
+  behind-next g rs (calls l more c p) v = v
+
+  record Worked (g : Came) (ws : List Work) (x : Working) : Type 0 where
+    said : AllRepeated id g ws
+    next : NextAll (grown g ws) x
+
+  plain-fair : (g : Came) (l : Local) (i : In) → Inv g l → Next (behind (does l i) g) (plain l i) × Right id g (does l i)
+  plain-fair g l i v = submessage-fair g (i .stream) (touched (i .time) l) v (i .fields) (i .body)
+
+  onto-worked : (is : List In) (m : Move) (g : Came) → Next g m → Worked g (worksOnto is m) (onto is m)
+  unfolding onto worksOnto
+  onto-worked [] (done l rs) g v = record { said = tt; next = v }
+  onto-worked [] (calls l rs c p) g v = record { said = tt; next = v }
+  onto-worked (i ∷ is) (calls l rs c p) g v = record { said = tt; next = v }
+  onto-worked (i ∷ is) (done l rs) g v =
+      let f = plain-fair g l i v in
+      let r = onto-worked is (plain l i) (behind (does l i) g) (f .0) in
+      record { said = (tabled g l v, f .1, r .said); next = behind-next (grown (behind (does l i) g) (worksOnto is (plain l i))) rs (onto is (plain l i)) (r .next) }
+
+  alone-worked : (g : Came) (l : Local) (i : In) → Inv g l → Worked g (does l i ∷ []) (onto [] (plain l i))
+  unfolding onto
+  alone-worked g l i v = let f = plain-fair g l i v in record { said = (tabled g l v, f .1, tt); next = by (plain l i) (f .0) }
+    where
+      by : (m : Move) → Next (behind (does l i) g) m → NextAll (behind (does l i) g) (onto [] m)
+      by (done l′ rs) w = w
+      by (calls l′ rs c p) w = w
+
+  handle-worked : (g : Came) (l : Local) (i : In) → Inv g l → Worked g (does l i ∷ rebuiltBy (i .fields) i l) (handle l i)
+  handle-worked g l i v = by (i .fields)
+    where
+      by : (m : Submessage) → let j = inOf (i .time) (i .stream) m (i .body) in Worked g (does l j ∷ rebuiltBy m j l) (handleBy m j l)
+      by (Fragment p) =
+          let j = inOf (i .time) (i .stream) (Fragment p) (i .body) in
+          let r = onto-worked (brought p j l) (done (gathering p j l) []) g v in
+          record { said = (tabled g l v, λ h. tt, r .said); next = r .next }
+      by (CreateClient p) = alone-worked g l (inOf (i .time) (i .stream) (CreateClient p) (i .body)) v
+      by (Create p) = alone-worked g l (inOf (i .time) (i .stream) (Create p) (i .body)) v
+      by (Delete p) = alone-worked g l (inOf (i .time) (i .stream) (Delete p) (i .body)) v
+      by (Status p) = alone-worked g l (inOf (i .time) (i .stream) (Status p) (i .body)) v
+      by (WriteData p) = alone-worked g l (inOf (i .time) (i .stream) (WriteData p) (i .body)) v
+      by (ReadData p) = alone-worked g l (inOf (i .time) (i .stream) (ReadData p) (i .body)) v
+      by (Data p) = alone-worked g l (inOf (i .time) (i .stream) (Data p) (i .body)) v
+      by (Heartbeat p) = alone-worked g l (inOf (i .time) (i .stream) (Heartbeat p) (i .body)) v
+      by (Acknack p) = alone-worked g l (inOf (i .time) (i .stream) (Acknack p) (i .body)) v
+
+  resume-worked : (g : Came) (l : Local) (p : fragments.Pending) (a : Answer) → Inv g l → Ready (p .asked .task) (p .asked .stream) (p .asked .number) l
+      → Worked g (hears l (p .asked) a ∷ worksOnto (p .left) (onAnswer l (p .asked) a)) (resumed l p a)
+  resume-worked g l p a v ready =
+      let f = answer-fair g (p .asked .stream) (p .asked .number) l v (p .asked .task) a ready in
+      let r = onto-worked (p .left) (onAnswer l (p .asked) a) (behind (hears l (p .asked) a) g) (f .0) in
+      record { said = (tabled g l v, f .1, r .said); next = r .next }
+
 module _ (timeout : ℕ) where
   abbrev R : iso.Rules
   R = rules timeout
 
+  abbrev works : List (Action R) → List Work
+  works ds = worksIn timeout ds
+
+  works-both : (xs ys : List (Action R)) → works (xs ++ ys) ≡ works xs ++ works ys
+  works-both [] ys = refl
+  works-both (d ∷ xs) ys = ap (λ (ws : List Work). worksOf timeout d ++ ws) (works-both xs ys) ∙ sym (append-assoc (worksOf timeout d) (works xs) (works ys))
+
   -- ---- the machine
 
   module _ (id : ℕ) where
-    abbrev grown : Came → List (Act timeout) → Came
-    grown g [] = g
-    grown g (d ∷ ds) = grown (behind timeout d g) ds
-
     abbrev Clean : Machine R → Came → Type 0
     Clean ended g = Unit {0}
     Clean (idle l) g = Inv id g l
-    Clean (waiting l p is) g = Inv id g l × Ready (p .task) (p .stream) (p .number) l
+    Clean (waiting l p is) g = Inv id g l × Ready (p .asked .task) (p .asked .stream) (p .asked .number) l
 
-    record Good (g : Came) (ds : List (Act timeout)) (m : Machine R) : Type 0 where
-      said : AllRepeated timeout id g ds
-      clean : Clean m (grown g ds)
+    record Good (g : Came) (ws : List Work) (m : Machine R) : Type 0 where
+      said : AllRepeated id g ws
+      clean : Clean m (grown id g ws)
 
-    both : (g : Came) (xs ys : List (Act timeout)) → AllRepeated timeout id g xs → AllRepeated timeout id (grown g xs) ys → AllRepeated timeout id g (xs ++ ys)
-    both g [] ys p q = q
-    both g (d ∷ xs) ys p q = (p .0, p .1, both (behind timeout d g) xs ys (p .2) q)
+    both : (g : Came) (xs ys : List Work) (m : Machine R) → AllRepeated id g xs → Good (grown id g xs) ys m → Good g (xs ++ ys) m
+    both g [] ys m p q = q
+    both g (w ∷ xs) ys m p q = let r = both (behind w g) xs ys m (p .2) q in record { said = (p .0, p .1, r .said); clean = r .clean }
 
-    tabled : (g : Came) (l : Local) → Inv id g l → Tabled g l
-    tabled g l v n h k e = ap (orFresh n) (sym e) ∙ v .1 n h
+    -- behind a rule at work
+    on-good : (g : Came) (d : Action R) (is : List In) (x : Working) → Worked id g (worksOf timeout d) x
+        → ((g′ : Came) (l : Local) → Inv id g′ l → Good g′ (works (work R l is .actions)) (work R l is .machine))
+        → let m = on R d x is (λ l. work R l is) in Good g (works (m .actions)) (m .machine)
+    on-good g d is (done l rs) r k =
+        both g (worksOf timeout d) (works (work R l is .actions)) (work R l is .machine) (r .said) (k (grown id g (worksOf timeout d)) l (r .next))
+    on-good g d is (calls l rs c p) r k = both g (worksOf timeout d) [] (waiting l p is) (r .said) (record { said = tt; clean = r .next })
 
-    work-good : (g : Came) (l : Local) (is : List In) → Inv id g l → Good g (work R l is .actions) (work R l is .machine)
-    work-good g l [] v = record { said = tt; clean = v }
-    work-good g l (i ∷ is) v =
-        let f = submessage-fair id g (i .stream) (touched (i .time) l) v (i .fields) (i .body) in
-        go (handle l i) (f .0) (f .1) (λ l′ w. work-good (behind timeout (handles l i) g) l′ is w)
-      where
-        g′ : Came
-        g′ = behind timeout (handles l i) g
-
-        go : (x : Move) → Next id g′ x → Right timeout id g (handles l i) → ((l′ : Local) → Inv id g′ l′ → Good g′ (work R l′ is .actions) (work R l′ is .machine))
-            → let m = on R (handles l i) x is (λ l′. work R l′ is) in Good g (m .actions) (m .machine)
-        go (done l′ rs) w f k = let r = k l′ w in record { said = (tabled g l v, f, r .said); clean = r .clean }
-        go (calls l′ rs c p) w f k = record { said = (tabled g l v, f, tt); clean = w }
-
-    answer-good : (g : Came) (l : Local) (p : Pending) (a : Answer) (is : List In) → Inv id g l → Ready (p .task) (p .stream) (p .number) l
-        → let m = on R (resumes l p a) (onAnswer l p a) is (λ l′. work R l′ is) in Good g (m .actions) (m .machine)
-    answer-good g l p a is v ready = let f = answer-fair id g (p .stream) (p .number) l v (p .task) a ready in go (onAnswer l p a) (f .0) (f .1)
-      where
-        g′ : Came
-        g′ = behind timeout (resumes l p a) g
-
-        go : (x : Move) → Next id g′ x → Right timeout id g (resumes l p a) → let m = on R (resumes l p a) x is (λ l′. work R l′ is) in Good g (m .actions) (m .machine)
-        go (done l′ rs) w f = let r = work-good g′ l′ is w in record { said = (tabled g l v, f, r .said); clean = r .clean }
-        go (calls l′ rs c q) w f = record { said = (tabled g l v, f, tt); clean = w }
+    work-good : (is : List In) (g : Came) (l : Local) → Inv id g l → Good g (works (work R l is .actions)) (work R l is .machine)
+    work-good [] g l v = record { said = tt; clean = v }
+    work-good (i ∷ is) g l v = on-good g (handles l i) is (handle l i) (handle-worked id g l i v) (λ g′ l′ w. work-good is g′ l′ w)
 
     still-good : (g : Came) (m : Machine R) → Clean m g → Good g [] m
     still-good g m c = record { said = tt; clean = c }
 
-    take-good : (g : Came) (m : Machine R) (f : Feed R) → Clean m g → Good g (take R m f .actions) (take R m f .machine)
+    take-good : (g : Came) (m : Machine R) (f : Feed R) → Clean m g → Good g (works (take R m f .actions)) (take R m f .machine)
     take-good g ended f c = still-good g ended c
-    take-good g (idle l) (submessages is) c = work-good g l is c
+    take-good g (idle l) (submessages is) c = work-good is g l c
     take-good g (idle l) (answered a) c = still-good g (idle l) c
     take-good g (idle l) (swept-at now) c = go (expired l now timeout)
       where
@@ -233,38 +291,77 @@ module _ (timeout : ℕ) where
     take-good g (idle l) removal-of-it c = still-good g ended tt
     take-good g (waiting l p is) (submessages []) c = still-good g (waiting l p is) c
     take-good g (waiting l p is) (submessages (j ∷ js)) c = still-good g (waiting l p is) c
-    take-good g (waiting l p is) (answered a) c = answer-good g l p a is (c .0) (c .1)
+    take-good g (waiting l p is) (answered a) c = on-good g (resumes l p a) is (resumed l p a) (resume-worked id g l p a (c .0) (c .1)) (work-good is)
     take-good g (waiting l p is) (swept-at now) c = still-good g (waiting l p is) c
     take-good g (waiting l p is) removal-of-it c = still-good g (waiting l p is) c
 
-    life : (g : Came) (m : Machine R) (fs : List (Feed R)) → Clean m g → AllRepeated timeout id g (takes R m fs .actions)
-    life g m [] c = tt
-    life g m (f ∷ fs) c =
+    life : (fs : List (Feed R)) (g : Came) (m : Machine R) → Clean m g → Good g (works (takes R m fs .actions)) (takes R m fs .machine)
+    life [] g m c = record { said = tt; clean = c }
+    life (f ∷ fs) g m c =
         let r = take-good g m f c in
-        both g (take R m f .actions) (takes R (take R m f .machine) fs .actions) (r .said) (life (grown g (take R m f .actions)) (take R m f .machine) fs (r .clean))
+        let q = take R m f in
+        subst (λ (ws : List Work). Good g ws (takes R (q .machine) fs .machine)) (sym (works-both (q .actions) (takes R (q .machine) fs .actions)))
+        (both g (works (q .actions)) (works (takes R (q .machine) fs .actions)) (takes R (q .machine) fs .machine) (r .said) (life fs (grown id g (works (q .actions))) (q .machine) (r .clean)))
 
     -- of a machine just started, whatever it is fed
-    pub machine-repeats : (o : Opening) (fs : List (Feed R)) → AllRepeated timeout id nothingYet (takes R (idle (start id o)) fs .actions)
+    pub machine-repeats : (o : Opening) (fs : List (Feed R)) → AllRepeated id nothingYet (works (takes R (idle (start id o)) fs .actions))
     unfolding streamIn onEvents
-    machine-repeats o fs = life nothingYet (idle (start id o)) fs (refl, λ n h. ap (λ (b : Bool). orFresh n (cond b (some (freshOf 0)) none)) (ne-eqb 0 n (λ z. h (sym z))))
+    machine-repeats o fs =
+        life fs nothingYet (idle (start id o)) (refl, λ n h. ap (λ (b : Bool). orFresh n (cond b (some (freshOf 0)) none)) (ne-eqb 0 n (λ z. h (sym z)))) .said
 
   -- ---- a machine's replies are those of its rules at work
 
-  abbrev told : List (Act timeout) → List Bytes
-  told ds = allReplies timeout ds
+  abbrev told : List (Action R) → List Bytes
+  told ds = allReplies (works ds)
 
-  told-both : (xs ys : List (Act timeout)) → told xs ++ told ys ≡ told (xs ++ ys)
-  told-both [] ys = refl
-  told-both (d ∷ xs) ys = append-assoc (repliesOf (moveOf timeout d)) (told xs) (told ys) ∙ ap (λ (rs : List Bytes). repliesOf (moveOf timeout d) ++ rs) (told-both xs ys)
+  replies-both : (xs ys : List Work) → allReplies (xs ++ ys) ≡ allReplies xs ++ allReplies ys
+  replies-both [] ys = refl
+  replies-both (w ∷ xs) ys =
+      ap (λ (rs : List Bytes). repliesOf (moveOf w) ++ rs) (replies-both xs ys) ∙ sym (append-assoc (repliesOf (moveOf w)) (allReplies xs) (allReplies ys))
 
-  on-told : (d : Act timeout) (x : Move) (is : List In) → moveOf timeout d ≡ x → ((l : Local) → work R l is .replies ≡ told (work R l is .actions))
+  abbrev repliesAll : Working → List Bytes
+  repliesAll (done l rs) = rs
+  repliesAll (calls l rs c p) = rs
+
+  behind-told : (rs : List Bytes) (x : Working) → repliesAll (fragments.behind rs x) ≡ rs ++ repliesAll x
+  behind-told rs (done l more) = refl
+  behind-told rs (calls l more c p) = refl
+
+  onto-told : (is : List In) (m : Move) → repliesAll (onto is m) ≡ repliesOf m ++ allReplies (worksOnto is m)
+  unfolding onto worksOnto
+  onto-told [] (done l rs) = sym (append-nil rs)
+  onto-told [] (calls l rs c p) = sym (append-nil rs)
+  onto-told (i ∷ is) (calls l rs c p) = sym (append-nil rs)
+  onto-told (i ∷ is) (done l rs) = behind-told rs (onto is (plain l i)) ∙ ap (λ (os : List Bytes). rs ++ os) (onto-told is (plain l i))
+
+  alone-told : (m : Move) → repliesAll (onto [] m) ≡ repliesOf m ++ []
+  unfolding worksOnto
+  alone-told m = onto-told [] m
+
+  handle-told : (l : Local) (i : In) → repliesAll (handle l i) ≡ allReplies (worksOf timeout (handles l i))
+  handle-told l i = by (i .fields)
+    where
+      by : (m : Submessage) → let j = inOf (i .time) (i .stream) m (i .body) in repliesAll (handleBy m j l) ≡ allReplies (does l j ∷ rebuiltBy m j l)
+      by (Fragment p) = let j = inOf (i .time) (i .stream) (Fragment p) (i .body) in onto-told (brought p j l) (done (gathering p j l) [])
+      by (CreateClient p) = alone-told (plain l (inOf (i .time) (i .stream) (CreateClient p) (i .body)))
+      by (Create p) = alone-told (plain l (inOf (i .time) (i .stream) (Create p) (i .body)))
+      by (Delete p) = alone-told (plain l (inOf (i .time) (i .stream) (Delete p) (i .body)))
+      by (Status p) = alone-told (plain l (inOf (i .time) (i .stream) (Status p) (i .body)))
+      by (WriteData p) = alone-told (plain l (inOf (i .time) (i .stream) (WriteData p) (i .body)))
+      by (ReadData p) = alone-told (plain l (inOf (i .time) (i .stream) (ReadData p) (i .body)))
+      by (Data p) = alone-told (plain l (inOf (i .time) (i .stream) (Data p) (i .body)))
+      by (Heartbeat p) = alone-told (plain l (inOf (i .time) (i .stream) (Heartbeat p) (i .body)))
+      by (Acknack p) = alone-told (plain l (inOf (i .time) (i .stream) (Acknack p) (i .body)))
+
+  on-told : (d : Action R) (x : Working) (is : List In) → repliesAll x ≡ allReplies (worksOf timeout d) → ((l : Local) → work R l is .replies ≡ told (work R l is .actions))
       → let m = on R d x is (λ l. work R l is) in m .replies ≡ told (m .actions)
-  on-told d (done l rs) is e k = ap (λ (os : List Bytes). rs ++ os) (k l) ∙ ap (λ (x : Move). repliesOf x ++ told (work R l is .actions)) (sym e)
-  on-told d (calls l rs c p) is e k = sym (append-nil rs) ∙ ap (λ (x : Move). repliesOf x ++ []) (sym e)
+  on-told d (done l rs) is e k =
+      ap (λ (os : List Bytes). rs ++ os) (k l) ∙ ap (λ (os : List Bytes). os ++ told (work R l is .actions)) e ∙ sym (replies-both (worksOf timeout d) (works (work R l is .actions)))
+  on-told d (calls l rs c p) is e k = e ∙ ap allReplies (sym (append-nil (worksOf timeout d)))
 
   work-told : (is : List In) (l : Local) → work R l is .replies ≡ told (work R l is .actions)
   work-told [] l = refl
-  work-told (i ∷ is) l = on-told (handles l i) (handle l i) is refl (work-told is)
+  work-told (i ∷ is) l = on-told (handles l i) (handle l i) is (handle-told l i) (work-told is)
 
   take-told : (m : Machine R) (f : Feed R) → take R m f .replies ≡ told (take R m f .actions)
   take-told ended f = refl
@@ -274,7 +371,7 @@ module _ (timeout : ℕ) where
   take-told (idle l) removal-of-it = refl
   take-told (waiting l p is) (submessages []) = refl
   take-told (waiting l p is) (submessages (j ∷ js)) = refl
-  take-told (waiting l p is) (answered a) = on-told (resumes l p a) (onAnswer l p a) is refl (work-told is)
+  take-told (waiting l p is) (answered a) = on-told (resumes l p a) (resumed l p a) is (onto-told (p .left) (onAnswer l (p .asked) a)) (work-told is)
   take-told (waiting l p is) (swept-at now) = refl
   take-told (waiting l p is) removal-of-it = refl
 
@@ -283,7 +380,8 @@ module _ (timeout : ℕ) where
   takes-told m (f ∷ fs) =
       let r = take R m f in
       let q = takes R (r .machine) fs in
-      ap (λ (rs : List Bytes). rs ++ q .replies) (take-told m f) ∙ ap (λ (rs : List Bytes). told (r .actions) ++ rs) (takes-told (r .machine) fs) ∙ told-both (r .actions) (q .actions)
+      ap (λ (rs : List Bytes). rs ++ q .replies) (take-told m f) ∙ ap (λ (rs : List Bytes). told (r .actions) ++ rs) (takes-told (r .machine) fs)
+      ∙ sym (replies-both (works (r .actions)) (works (q .actions))) ∙ ap allReplies (sym (works-both (r .actions) (q .actions)))
 
   -- ---- any agent with term 3
 

@@ -15,7 +15,8 @@ use Rattle.codec.specs.declared.header.MessageHeader.{MessageHeader}
 use Rattle.isolation.specs.Claim.{outs-of}
 use Rattle.moves.specs.Calls.{fits}
 use Rattle.moves.specs.Replies.{clientBytes}
-use Rattle.agent.specs.Rules.{messageFrom, rules}
+use Rattle.agent.specs.Brings.{messageFrom}
+use Rattle.agent.specs.Rules.{rules}
 use Rattle.agent.specs.Step.{Open, Agent, Reply, opened, replied, Ran, run, continued, Event, datagram, answer, removal, sweep, Result, ran, removed, swept, Did, refuse, finish, joinedReplies, callOf, openOf, withTables, settle, begin, tooLong, overHeld, withId, isLive, stays, lapsedIds, withLocals, stepped, step}
 use Rattle.agent.specs.Claim.{outOf, resultOf, outBytes, idsIn, Shown}
 
@@ -62,7 +63,7 @@ module _ (max timeout : ℕ) where
       let ids = lapsedIds (st .timeout) now (st .tables .at) in
       finish-shows st out (withLocals st (λ i. stays (st .timeout) now (st .tables .at i))) ids (swept ids) refl
   stepped-shows (some w) st (datagram time bytes) out = refuse-shows st out 15 0
-  stepped-shows (some w) st (answer a) out = go (fits (w .pending .task) a) (tooLong (w .pending) a) (overHeld w a (st .tables))
+  stepped-shows (some w) st (answer a) out = go (fits (w .pending .asked .task) a) (tooLong (w .pending .asked) a) (overHeld w a (st .tables))
     where
       go : (b c d : Bool) → Shows out (cond b (cond c (refuse st out 12 0) (cond d (refuse st out 14 0) (settle st out (continued (st .max) w a (st .tables))))) (refuse st out 15 0))
       go true true d = refuse-shows st out 12 0

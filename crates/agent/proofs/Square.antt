@@ -20,7 +20,7 @@ use Rattle.sessions.proofs.Reached.{free-view, objects-live, streams-live}
 use Rattle.moves.specs.Replies.{statusBytes, acknackBytes}
 use Rattle.moves.specs.Proxy.{callAs, taskAs}
 use Rattle.agent.specs.RulesObjects.{Move}
-use Rattle.agent.specs.Rules.{onSubmessage}
+use Rattle.agent.specs.RulesFragments.{onSubmessage}
 use Rattle.agent.specs.Lent.{rowsOf, withRows}
 use Rattle.agent.specs.Run.{repeatsIn}
 use Rattle.moves.specs.Rows.{asksOf, handledMove, handledRows}
@@ -88,4 +88,7 @@ led-on a b = record {
   streams-length = b .streams-length ∙ a .streams-length;
   objects-length = b .objects-length ∙ a .objects-length;
   held-length = b .held-length ∙ a .held-length;
+  parts-length = b .parts-length ∙ a .parts-length;
+  lengths-length = b .lengths-length ∙ a .lengths-length;
+  rebuilt-length = b .rebuilt-length ∙ a .rebuilt-length;
 }

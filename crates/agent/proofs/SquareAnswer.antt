@@ -4,7 +4,7 @@ use mathlib.Core.Path.{_≡_, refl, sym, ap, _∙_, subst}
 use mathlib.Core.Logic.{_≢_}
 use mathlib.Core.Bool.{Bool, true, false, cond}
 use mathlib.Core.Option.{Option, none, some}
-use mathlib.Core.List.{List, [], _∷_}
+use mathlib.Core.List.{List, [], _∷_, _++_}
 use native.Mathlib.Omega.{arith}
 use borrow.Author.Tests.{eqb-false, ltb-false}
 use lib.Dec.{eqb, ltb}
@@ -13,7 +13,7 @@ use Rattle.codec.specs.declared.submessages.ObjectNumber.{ObjectNumber}
 use Rattle.isolation.specs.Rules.{done, Sub}
 use Rattle.streams.specs.View.{sentIn}
 use Rattle.streams.proofs.places.Laws.{never}
-use Rattle.sessions.specs.Table.{isFree, sessionAt, namedOf, gotBy, gotOf}
+use Rattle.sessions.specs.Table.{isFree, sessionAt, gotBy, gotOf}
 use Rattle.sessions.specs.Objects.{bridgedOf}
 use Rattle.sessions.specs.Sending.{sentStreams, sentHeld}
 use Rattle.sessions.specs.View.{Tables, KeptStream, Local, localOf, entryOf, putIn, streamIn, writeIn}
@@ -31,30 +31,40 @@ use Rattle.sessions.proofs.ViewSending.{next-view, next-none, send-here, send-u
 use Rattle.sessions.proofs.ViewStores as stores
 use Rattle.sessions.proofs.ViewStores.{put-here, put-elsewhere}
 use Rattle.sessions.proofs.ViewStreams as streams
-use Rattle.moves.specs.Calls.{Pending}
+use Rattle.moves.specs.Calls.{Pending as Asked}
 use Rattle.agent.specs.Local.{full, listing, sending}
-use Rattle.agent.specs.Lent.{lent}
+use Rattle.agent.specs.Lent.{lent, rowsOf, withRows, rebuiltPart}
 use Rattle.moves.specs.Proxy.{answerAs, taskAs}
 use Rattle.moves.specs.Replies.{dataBytes}
 use Rattle.moves.specs.RowsStreams.{readOf}
 use Rattle.agent.specs.RulesObjects.{Move}
 use Rattle.agent.specs.RulesAnswers.{sampleOn, onAnswer}
-use Rattle.agent.specs.Rules.{Opening, In}
-use Rattle.agent.specs.Step as agent
-use Rattle.agent.specs.Step.{behind, act, deliver, crowded, crowdedIn, overHeld}
+use Rattle.agent.specs.Brings.{Opening, In}
+use Rattle.agent.specs.Host as host
+use Rattle.agent.specs.Host.{firstRan}
+use Rattle.agent.specs.Place.{insAt}
+use Rattle.agent.specs.RulesFragments.{onto, resumed, Pending}
+use Rattle.agent.specs.Run.{Turned, Acted, workAt, insideStop, leftRan}
+use Rattle.agent.specs.Step.{Reply, joinedReplies, crowded, crowdedIn, overHeld}
 use Rattle.moves.specs.Answers.{keepsOf, saysOf, keptSessions, keptObjects}
 use Rattle.agent.specs.Answered.{sequenceOf, saysBytes, saysStreams, saysHeld, answeredBy, answeredSessions, answeredObjects, answeredStreams, answeredHeld}
 use Rattle.moves.specs.declared.proxy.BridgeAnswer.{BridgeAnswer}
 use Rattle.moves.specs.declared.proxy.BridgeAnswer.the-variants.{Created, Done, Sample, NoSample, Failed}
 use Rattle.moves.specs.declared.proxy.Task.{Task}
 use Rattle.moves.specs.declared.proxy.Task.the-variants.{Creating, Writing, Reading, Deleting}
+use Rattle.agent.specs.declared.judge.Resumes.the-variants as resumes
+use Rattle.agent.specs.declared.judge.Start.{Start}
 use Rattle.agent.specs.declared.turn.Frame.{Frame}
+use Rattle.agent.specs.declared.turn.Ran.{Ran}
+use Rattle.agent.specs.declared.turn.Stop.{Stop}
 use Rattle.agent.specs.Whole.{sessionIn}
-use Rattle.agent.proofs.CallRoom.{RoomFor, RoomAt}
+use Rattle.agent.proofs.CallRoom.{RoomFor}
 use Rattle.agent.proofs.MoveBytes.{data-long}
-use Rattle.agent.proofs.Square.{shownAt, shown-live, reach-objects}
+use Rattle.agent.proofs.Square.{led-on, shownAt, shown-live, reach-objects}
+use Rattle.agent.proofs.SquareFragments.{Left, Moved, Acts, Quiet, left-acts}
 use Rattle.agent.proofs.SquareObjects.{slot-in}
-use Rattle.agent.proofs.SquareOpen.{viewOf, at-in, keep-view}
+use Rattle.agent.proofs.SquareOpen.{viewOf, at-in}
+use Rattle.agent.proofs.SquareRebuilt.{work-square, still-square}
 
 module _ {most : ℕ} (t : Tables) (sound : SoundTables SoundStream most t) (few : most ≤ 255) (f : Frame) (id< : f .«session_id» < 256) (number : ObjectNumber) (sample : List ℕ) where
   abbrev id : ℕ
@@ -66,33 +76,33 @@ module _ {most : ℕ} (t : Tables) (sound : SoundTables SoundStream most t) (few
   abbrev l : Local
   l = shownAt t id
 
-  abbrev pending : Task → Pending
+  abbrev pub pending : Task → Asked
   pending task = record { stream = n; number = number .0; task = taskAs task }
 
   abbrev rule : Task → BridgeAnswer → Local → Move
   rule task b x = onAnswer x (pending task) (answerAs b sample)
 
   -- its reply, and the tables behind it
-  abbrev said : Task → BridgeAnswer → List ℕ
+  abbrev pub said : Task → BridgeAnswer → List ℕ
   said task b = saysBytes (saysOf task b) f (sequenceOf (t .sessions) (t .streams) f) number sample
 
   abbrev kept : Task → BridgeAnswer → Tables
   kept task b =
       lent (keptSessions (keepsOf number task b) (t .sessions) (t .objects) id) (saysStreams (saysOf task b) f (t .sessions) (t .streams) (t .held) (said task b))
-      (keptObjects (keepsOf number task b) (t .sessions) (t .objects) id) (saysHeld (saysOf task b) f (t .sessions) (t .streams) (t .held) (said task b))
+      (keptObjects (keepsOf number task b) (t .sessions) (t .objects) id) (saysHeld (saysOf task b) f (t .sessions) (t .streams) (t .held) (said task b)) (t .parts) (t .lengths) (t .rebuilt)
 
   -- 14 has refused what its stream cannot hold
-  abbrev pub Held : Task → BridgeAnswer → List (Sub Opening In) → ℕ → Type 0
-  Held task b rest next = overHeld (record { session = id; pending = pending task; rest = rest }) (answerAs b sample) (viewOf next t) ≡ false
+  abbrev pub Held : Task → BridgeAnswer → List In → List (Sub Opening In) → ℕ → Type 0
+  Held task b left rest next = overHeld (record { session = id; pending = record { asked = pending task; left = left }; rest = rest }) (answerAs b sample) (viewOf next t) ≡ false
 
   -- ---- a live session
 
-  record Answers (m : Move) (bytes : List ℕ) (t′ : Tables) : Type 0 where
-    after : Local
-    moves : m ≡ done after (bytes ∷ [])
-    shows : localOf t′ id ≡ some after
-    elsewhere : (j : ℕ) → j < 256 → j ≢ id → localOf t′ j ≡ localOf t j
-    led : LeadsTo SoundStream most t t′
+  pub record Answers (m : Move) (bytes : List ℕ) (t′ : Tables) : Type 0 where
+    pub after : Local
+    pub moves : m ≡ done after (bytes ∷ [])
+    pub shows : localOf t′ id ≡ some after
+    pub elsewhere : (j : ℕ) → j < 256 → j ≢ id → localOf t′ j ≡ localOf t j
+    pub led : LeadsTo SoundStream most t t′
 
   module _ (live : isFree (t .sessions) id ≡ false) where
     -- the lists stay
@@ -124,7 +134,7 @@ module _ {most : ℕ} (t : Tables) (sound : SoundTables SoundStream most t) (few
     abbrev sentIf : Bool → Tables
     sentIf b =
         lent (t .sessions) (cond b (t .streams) (sentStreams (t .sessions) (t .streams) (t .held) id n (dataIf b)))
-        (t .objects) (cond b (t .held) (sentHeld (t .sessions) (t .streams) (t .held) id n (dataIf b)))
+        (t .objects) (cond b (t .held) (sentHeld (t .sessions) (t .streams) (t .held) id n (dataIf b))) (t .parts) (t .lengths) (t .rebuilt)
 
     sampled : n ≢ 0 → length (dataIf false) ≤ 1024 → (x : Option KeptStream) → streamIn (l .streams) n ≡ x → crowded x ≡ false
         → Answers (sampleOn n (number .0) sample x l) (dataIf false) (sentIf false)
@@ -155,70 +165,94 @@ module _ {most : ℕ} (t : Tables) (sound : SoundTables SoundStream most t) (few
             let y = data-long id n next-seq (number .0) sample in
             sampled (eqb-false n 0 e) (omega (arith, a, x, y)) (streamIn (l .streams) n) refl (sym (ap (crowdedIn n) (at-in t id id< ∙ shown-live t id live)) ∙ h)
 
-    answers : (task : Task) (b : BridgeAnswer) (rest : List (Sub Opening In)) (next : ℕ) → RoomFor (taskAs task) (number .0) l → Held task b rest next → Answers (rule task b l) (said task b) (kept task b)
-    answers (Creating kind parent) (Created h) rest next e w = lists kind parent h e
-    answers (Creating kind parent) Done rest next e w = plain (said (Creating kind parent) Done)
-    answers (Creating kind parent) Sample rest next e w = plain (said (Creating kind parent) Sample)
-    answers (Creating kind parent) NoSample rest next e w = plain (said (Creating kind parent) NoSample)
-    answers (Creating kind parent) Failed rest next e w = plain (said (Creating kind parent) Failed)
-    answers Writing (Created h) rest next e w = plain (said Writing (Created h))
-    answers Writing Done rest next e w = plain (said Writing Done)
-    answers Writing Sample rest next e w = plain (said Writing Sample)
-    answers Writing NoSample rest next e w = plain (said Writing NoSample)
-    answers Writing Failed rest next e w = plain (said Writing Failed)
-    answers Reading (Created h) rest next e w = plain (said Reading (Created h))
-    answers Reading Done rest next e w = plain (said Reading Done)
-    answers Reading Sample rest next e w = sample-if (eqb n 0) refl w
-    answers Reading NoSample rest next e w = plain (said Reading NoSample)
-    answers Reading Failed rest next e w = plain (said Reading Failed)
-    answers Deleting (Created h) rest next e w = plain (said Deleting (Created h))
-    answers Deleting Done rest next e w = plain (said Deleting Done)
-    answers Deleting Sample rest next e w = plain (said Deleting Sample)
-    answers Deleting NoSample rest next e w = plain (said Deleting NoSample)
-    answers Deleting Failed rest next e w = plain (said Deleting Failed)
+    pub answers : (task : Task) (b : BridgeAnswer) (left : List In) (rest : List (Sub Opening In)) (next : ℕ) → RoomFor (taskAs task) (number .0) l → Held task b left rest next → Answers (rule task b l) (said task b) (kept task b)
+    answers (Creating kind parent) (Created h) left rest next e w = lists kind parent h e
+    answers (Creating kind parent) Done left rest next e w = plain (said (Creating kind parent) Done)
+    answers (Creating kind parent) Sample left rest next e w = plain (said (Creating kind parent) Sample)
+    answers (Creating kind parent) NoSample left rest next e w = plain (said (Creating kind parent) NoSample)
+    answers (Creating kind parent) Failed left rest next e w = plain (said (Creating kind parent) Failed)
+    answers Writing (Created h) left rest next e w = plain (said Writing (Created h))
+    answers Writing Done left rest next e w = plain (said Writing Done)
+    answers Writing Sample left rest next e w = plain (said Writing Sample)
+    answers Writing NoSample left rest next e w = plain (said Writing NoSample)
+    answers Writing Failed left rest next e w = plain (said Writing Failed)
+    answers Reading (Created h) left rest next e w = plain (said Reading (Created h))
+    answers Reading Done left rest next e w = plain (said Reading Done)
+    answers Reading Sample left rest next e w = sample-if (eqb n 0) refl w
+    answers Reading NoSample left rest next e w = plain (said Reading NoSample)
+    answers Reading Failed left rest next e w = plain (said Reading Failed)
+    answers Deleting (Created h) left rest next e w = plain (said Deleting (Created h))
+    answers Deleting Done left rest next e w = plain (said Deleting Done)
+    answers Deleting Sample left rest next e w = plain (said Deleting Sample)
+    answers Deleting NoSample left rest next e w = plain (said Deleting NoSample)
+    answers Deleting Failed left rest next e w = plain (said Deleting Failed)
 
-  -- ---- any
+-- ---- with the rebuilt submessages that waited behind its call (W6)
 
-  module _ (task : Task) (b : BridgeAnswer) (rest : List (Sub Opening In)) (next : ℕ) where
-    abbrev sequence : ℕ
-    sequence = sequenceOf (t .sessions) (t .streams) f
+module _ (t : Tables) (f : Frame) (sound : SoundTables SoundStream (f .«max_clients») t) (few : f .«max_clients» ≤ 255) (id< : f .«session_id» < 256) (n< : f .«stream_id» < 256)
+    (number : ObjectNumber) (task : Task) (b : BridgeAnswer) (sample d : List ℕ) (next at left-at left-end : ℕ) (left : Left (t .rebuilt) left-at left-end) where
+  abbrev start : Start
+  start = record { frame = f; next = next; at = at; «left_at» = left-at; «left_end» = left-end; resumes = resumes.Answer number task b }
 
-    abbrev begun : Got → Tables
-    begun g =
-        lent (answeredSessions g (keepsOf number task b) (t .sessions) (t .objects) id) (answeredStreams g (saysOf task b) f (t .sessions) (t .streams) (t .held) (said task b))
-        (answeredObjects g (keepsOf number task b) (t .sessions) (t .objects) id) (answeredHeld g (saysOf task b) f (t .sessions) (t .streams) (t .held) (said task b))
+  abbrev session : ℕ
+  session = f .«session_id»
 
-    -- its reply, then what follows
-    pub record Begins (g : Got) : Type 0 where
-      pub goes : (go : agent.Tables → agent.Ran)
-          → deliver id rest (viewOf next t) (sessionIn t id) (rule task b) go ≡ behind (answeredBy g f sequence sample number task b) (go (viewOf next (begun g)))
-      pub led : LeadsTo SoundStream most t (begun g)
+  abbrev waits : List In
+  waits = insAt (f .time) (f .«stream_id») (rebuiltPart (t .rebuilt) left-end) left-at
 
-    live-begins : isFree (t .sessions) id ≡ false → RoomFor (taskAs task) (number .0) l → Held task b rest next → Begins (got.Session (sessionAt (t .sessions) id))
-    live-begins live e w =
-        let a = answers live task b rest next e w in
-        record {
-          goes = λ go.
-              ap (λ (x : Option Local). deliver id rest (viewOf next t) x (rule task b) go) (at-in t id id< ∙ shown-live t id live)
-              ∙ ap (λ (m : Move). act id rest (viewOf next t) m go) (a .moves)
-              ∙ ap (λ (v : agent.Tables). behind (answeredBy (got.Session (sessionAt (t .sessions) id)) f sequence sample number task b) (go v))
-              (keep-view next t (kept task b) id (a .after) id< (a .shows) (a .elsewhere));
-          led = a .led;
-        }
+  abbrev kept-open : Pending
+  kept-open = record { asked = pending t sound few f id< number sample task; left = waits }
 
-    gone-begins : localOf t id ≡ none → Begins got.NotLive
-    gone-begins e = record {
-      goes = λ go. ap (λ (x : Option Local). deliver id rest (viewOf next t) x (rule task b) go) (at-in t id id< ∙ e);
-      led = same-led SoundStream stream-lasts most t sound;
-    }
+  -- behind the answer, by whether its session is live
+  abbrev begun : Got → Tables
+  begun g =
+      let bytes = said t sound few f id< number sample task b in
+      lent (answeredSessions g (keepsOf number task b) (t .sessions) (t .objects) session) (answeredStreams g (saysOf task b) f (t .sessions) (t .streams) (t .held) bytes)
+      (answeredObjects g (keepsOf number task b) (t .sessions) (t .objects) session) (answeredHeld g (saysOf task b) f (t .sessions) (t .streams) (t .held) bytes) (t .parts) (t .lengths) (t .rebuilt)
 
-    pub begins : RoomAt (taskAs task) (number .0) (sessionIn t id) → Held task b rest next → Begins (gotOf (t .sessions) id)
-    unfolding gotOf
-    begins e w = by (isFree (t .sessions) id) refl
-      where
-        named : (c : Bool) → isFree (t .sessions) id ≡ c → namedOf (t .sessions) id ≡ cond c NotLive Live
-        named c z = named-when (t .sessions) id (sound .sessions-need) ∙ ap (λ (c : Bool). cond c NotLive Live) z
+  abbrev replies : Got → List Reply
+  replies g = answeredBy g f (sequenceOf (t .sessions) (t .streams) f) sample number task b
 
-        by : (c : Bool) → isFree (t .sessions) id ≡ c → Begins (gotBy (namedOf (t .sessions) id) (t .sessions) id)
-        by true z = subst (λ (w : Named). Begins (gotBy w (t .sessions) id)) (sym (named true z)) (gone-begins (rw z refl))
-        by false z = subst (λ (w : Named). Begins (gotBy w (t .sessions) id)) (sym (named false z)) (live-begins z (subst (RoomAt (taskAs task) (number .0)) (at-in t id id< ∙ shown-live t id z) e) w)
+  abbrev first : Got → Ran
+  first g = firstRan start (length (joinedReplies (replies g)))
+
+  abbrev work : Got → Acted
+  work g = workAt f (begun g .held) (rebuiltPart (t .rebuilt) left-end) (first g) (rowsOf (begun g))
+
+  abbrev turnedBy : Got → Turned
+  turnedBy g = record { ran = leftRan (work g .ran) left-end at; tables = withRows (begun g) (work g .rows); replies = replies g ++ work g .replies }
+
+  resumed-by : host.resumed start t sample ≡ turnedBy (gotOf (t .sessions) session)
+  unfolding host.resumedActed
+  resumed-by = refl
+
+  got-is : (c : Bool) → isFree (t .sessions) session ≡ c → gotOf (t .sessions) session ≡ gotBy (cond c NotLive Live) (t .sessions) session
+  unfolding gotOf
+  got-is c z = ap (λ (w : Named). gotBy w (t .sessions) session) (named-when (t .sessions) session (sound .sessions-need) ∙ ap (λ (c : Bool). cond c NotLive Live) z)
+
+  pub resumes-acts : (rest : List (Sub Opening In)) → isFree (t .sessions) session ≡ false → RoomFor (taskAs task) (number .0) (shownAt t session) → Held t sound few f id< number sample task b waits rest next
+      → Acts f d t next at (resumed (shownAt t session) kept-open (answerAs b sample)) (host.resumed start t sample)
+  resumes-acts rest live e w =
+      let g = got.Session (sessionAt (t .sessions) session) in
+      let a = answers t sound few f id< number sample live task b waits rest next e w in
+      let k = work-square f (rebuiltPart (t .rebuilt) left-end) (begun g) few id< n< (first g) (rowsOf (begun g)) (a .after) (left .said) (a .led .sound) (a .shows) refl (left .within) (left .reads) (left .none-barred) in
+      let q = left-acts f d (begun g) (first g) (rowsOf (begun g)) (a .after) (work g) left-end at (left .few) k (said t sound few f id< number sample task b ∷ []) in
+      subst (Acts f d t next at (resumed (shownAt t session) kept-open (answerAs b sample))) (sym (resumed-by ∙ ap turnedBy (got-is false live)))
+      record {
+        after = q .after;
+        bytes = q .bytes;
+        replies = q .replies;
+        shows = q .shows;
+        moves = subst (Moved f d (t .rebuilt) (turnedBy g .ran .stop) (q .after) (q .bytes)) (sym (ap (onto waits) (a .moves))) (q .moves);
+        elsewhere = λ j h n. q .elsewhere j h n ∙ a .elsewhere j h n;
+        led = led-on (a .led) (q .led);
+        pointer = q .pointer;
+        place = q .place;
+      }
+
+  pub resumes-quiet : isFree (t .sessions) session ≡ true → Quiet t next at (host.resumed start t sample)
+  resumes-quiet free =
+      let gone = named-when (t .sessions) session (sound .sessions-need) ∙ ap (λ (c : Bool). cond c NotLive Live) free in
+      let o = still-square f (rebuiltPart (t .rebuilt) left-end) t (rowsOf t) gone (first got.NotLive) in
+      subst (Quiet t next at) (sym (resumed-by ∙ ap turnedBy (got-is true free)))
+      record { tables = ap (withRows t) (o .rows); replies = o .replies; stop = ap (λ (x : Stop). insideStop x (work got.NotLive .ran .at) left-end) (o .stop); pointer = o .next; place = refl }

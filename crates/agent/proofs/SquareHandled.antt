@@ -23,11 +23,11 @@ use Rattle.sessions.specs.declared.room.Room.the-variants as room
 use Rattle.sessions.proofs.SoundStreams.{stream-lasts}
 use Rattle.sessions.proofs.Steps.{same-led, touch-led, put-led, drop-led}
 use Rattle.sessions.proofs.ViewTable.{touchedLocal, touch-here, touch-elsewhere}
-use Rattle.agent.specs.Lent.{rowsOf}
+use Rattle.agent.specs.Lent.{rowsOf, withRows}
 use Rattle.agent.specs.Local.{touched}
-use Rattle.agent.specs.Rules.{onSubmessage, handle}
+use Rattle.agent.specs.RulesFragments.{onSubmessage, plain}
 use Rattle.moves.specs.Moves.{foundHandle}
-use Rattle.moves.specs.Rows.{asksOf, createdSessions, createdObjects, roomSessions, roomObjects, handledMove}
+use Rattle.moves.specs.Rows.{rows, asksOf, createdSessions, createdObjects, roomSessions, roomObjects, handledMove}
 use Rattle.moves.specs.declared.moves.Move.the-variants.{Silent}
 use Rattle.agent.proofs.Square.{led-on, shownAt, handledIn, Meets, Squares, shown-live, live-shown, same-local}
 use Rattle.agent.proofs.SquareObjects.{create-square, delete-square, write-square}
@@ -39,11 +39,11 @@ module _ {most : ℕ} (t : Tables) (sound : SoundTables SoundStream most t) (few
   stays-led = same-led SoundStream stream-lasts most t sound
 
   create-led : (p : CreatePayload) (r : Room)
-      → LeadsTo SoundStream most t (record { sessions = roomSessions r (t .sessions) (t .objects) id (p .«object_id») (p .kind) (p .«parent_id»); streams = t .streams; objects = roomObjects r (t .sessions) (t .objects) id (p .«object_id») (p .kind) (p .«parent_id»); held = t .held })
+      → LeadsTo SoundStream most t (withRows t (rows (roomSessions r (t .sessions) (t .objects) id (p .«object_id») (p .kind) (p .«parent_id»)) (t .streams) (roomObjects r (t .sessions) (t .objects) id (p .«object_id») (p .kind) (p .«parent_id»))))
   create-led p room.Free = by (p .kind)
     where
       by : (k : ObjectKind)
-          → LeadsTo SoundStream most t (record { sessions = createdSessions k (t .sessions) (t .objects) id (p .«object_id») (p .«parent_id»); streams = t .streams; objects = createdObjects k (t .sessions) (t .objects) id (p .«object_id») (p .«parent_id»); held = t .held })
+          → LeadsTo SoundStream most t (withRows t (rows (createdSessions k (t .sessions) (t .objects) id (p .«object_id») (p .«parent_id»)) (t .streams) (createdObjects k (t .sessions) (t .objects) id (p .«object_id») (p .«parent_id»))))
       by Participant = stays-led
       by Topic = stays-led
       by Publisher = put-led SoundStream stream-lasts most t sound id id< (implicitOf (p .«object_id») 3 (p .«parent_id»))
@@ -66,6 +66,7 @@ module _ {most : ℕ} (t : Tables) (sound : SoundTables SoundStream most t) (few
     handled-led (sub.Data p) = stays-led
     handled-led (sub.Heartbeat p) = opens-led t sound few id id< live n n<
     handled-led (sub.Acknack p) = acks-led t sound few id id< live n n< p
+    handled-led (sub.Fragment p) = stays-led
 
     module _ (d : List ℕ) (body : Span) where
       -- "DATA and STATUS get no reply"
@@ -82,6 +83,7 @@ module _ {most : ℕ} (t : Tables) (sound : SoundTables SoundStream most t) (few
       handled-square (sub.Data p) = nothing
       handled-square (sub.Heartbeat p) = heartbeat-square t sound few id id< live n n< d p body
       handled-square (sub.Acknack p) = acknack-square t sound few id id< live n n< p d body
+      handled-square (sub.Fragment p) = nothing
 
 -- ---- with the touch: "The time becomes the last activity; then the rules above work on its lists alone."
 
@@ -95,23 +97,24 @@ module _ {most : ℕ} (t : Tables) (sound : SoundTables SoundStream most t) (few
   pub touches-led : LeadsTo SoundStream most t u
   touches-led = touch-led SoundStream stream-lasts most t sound id time id<
 
-  module _ (l : Local) (is : localOf t id ≡ some l) (n : ℕ) (n< : n < 256) (m : Submessage) where
-    touch-shown : localOf u id ≡ some (touched time l)
+  module _ (l : Local) (is : localOf t id ≡ some l) where
+    pub touch-shown : localOf u id ≡ some (touched time l)
     touch-shown = touch-here t id (sound .sessions-need) id< time ∙ ap (touchedLocal t id (sound .sessions-need) id< time) is
 
-    touch-live : isFree (u .sessions) id ≡ false
+    pub touch-live : isFree (u .sessions) id ≡ false
     touch-live = live-shown u id (touched time l) touch-shown
 
+  module _ (l : Local) (is : localOf t id ≡ some l) (n : ℕ) (n< : n < 256) (m : Submessage) where
     pub turn-led : LeadsTo SoundStream most t (handledIn m u id n)
-    turn-led = led-on touches-led (handled-led u (touches-led .sound) few id id< touch-live n n< m)
+    turn-led = led-on touches-led (handled-led u (touches-led .sound) few id id< (touch-live l is) n n< m)
 
     pub turn-square : (d : List ℕ) (body : Span)
-        → Meets t d id n (handle l (record { time = time; stream = n; fields = m; body = partOf d body })) (handledIn m u id n) (handledMove (asksOf m) (rowsOf u) d id n body)
+        → Meets t d id n (plain l (record { time = time; stream = n; fields = m; body = partOf d body })) (handledIn m u id n) (handledMove (asksOf m) (rowsOf u) d id n body)
     turn-square d body =
-        let q = handled-square u (touches-led .sound) few id id< touch-live n n< d body m in
+        let q = handled-square u (touches-led .sound) few id id< (touch-live l is) n n< d body m in
         record {
           after = q .after;
           shows = q .shows;
-          moves = ap (onSubmessage m (partOf d body) n) (sym (same-local u id (touched time l) touch-shown)) ∙ q .moves;
+          moves = ap (onSubmessage m (partOf d body) n) (sym (same-local u id (touched time l) (touch-shown l is))) ∙ q .moves;
           elsewhere = λ j h. q .elsewhere j h ∙ touch-elsewhere t id (sound .sessions-need) id< time j h;
         }

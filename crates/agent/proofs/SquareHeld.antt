@@ -26,7 +26,7 @@ use Rattle.moves.specs.Proxy.{answerAs, taskAs}
 use Rattle.moves.specs.Replies.{dataBytes}
 use Rattle.moves.specs.declared.proxy.BridgeAnswer.{BridgeAnswer}
 use Rattle.moves.specs.declared.proxy.BridgeAnswer.the-variants.{Created, Done, Sample, NoSample, Failed}
-use Rattle.agent.specs.Rules.{Opening, In}
+use Rattle.agent.specs.Brings.{Opening, In}
 use Rattle.agent.specs.Step.{crowded, crowdedIn, overHeld}
 use Rattle.agent.specs.Judge.{answerSlot, placedJudged}
 use Rattle.agent.specs.Whole.{sessionIn}
@@ -98,11 +98,11 @@ module _ (most : ℕ) (t : Tables) (sound : SoundTables SoundStream most t) (few
       by false e true q = refl
       by false e false q = let h = ltb-false 1014 (length sample) q in in-session (eqb-false n 0 e) (10 + length sample) (omega (arith, h))
 
-  pub held-same : (b : BridgeAnswer) (rest : List (Sub Opening In)) (next : ℕ)
+  pub held-same : (b : BridgeAnswer) (left : List In) (rest : List (Sub Opening In)) (next : ℕ)
       → placedJudged (answerSlot p b (t .sessions) (t .streams) (length (t .held)) (length sample)) j
-      ≡ refusedIf (overHeld (record { session = id; pending = record { stream = n; number = p .number .0; task = taskAs (p .task) }; rest = rest }) (answerAs b sample) (viewOf next t))
-  held-same Sample rest next = sample-same
-  held-same (Created h) rest next = refl
-  held-same Done rest next = refl
-  held-same NoSample rest next = refl
-  held-same Failed rest next = refl
+      ≡ refusedIf (overHeld (record { session = id; pending = record { asked = record { stream = n; number = p .number .0; task = taskAs (p .task) }; left = left }; rest = rest }) (answerAs b sample) (viewOf next t))
+  held-same Sample left rest next = sample-same
+  held-same (Created h) left rest next = refl
+  held-same Done left rest next = refl
+  held-same NoSample left rest next = refl
+  held-same Failed left rest next = refl

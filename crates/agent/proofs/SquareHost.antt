@@ -56,7 +56,7 @@ module _ {most : ℕ} (t : Tables) (sound : SoundTables SoundStream most t) wher
     -- id 0 is not live, and is not swept
     zero-stays : localOf swept 0 ≡ localOf t 0
     unfolding sweptRows
-    zero-stays = ap (λ (s : ClientSession). localShown 0 (withSession (t .held) s (tablePart t 0))) (swept-outside time timeout (t .sessions) 1 255 0 (λ a b. omega arith))
+    zero-stays = ap (λ (s : ClientSession). localShown 0 (withSession t s (tablePart t 0))) (swept-outside time timeout (t .sessions) 1 255 0 (λ a b. omega arith))
 
     swept-local : (j : ℕ) → j < 256 → localOf swept j ≡ stays timeout time (localOf t j)
     swept-local zero h = let z = free-none t 0 (sound .zero-free) in zero-stays ∙ z ∙ sym (ap (stays timeout time) z)

@@ -304,6 +304,9 @@ module _ {most : ℕ} (t : Tables) (sound : SoundTables SoundStream most t) (id 
           streams = t .streams;
           objects = createdObjects k (t .sessions) (t .objects) id number (p .«parent_id»);
           held = t .held;
+          parts = t .parts;
+          lengths = t .lengths;
+          rebuilt = t .rebuilt;
         }
 
     -- each kind, where there is room
@@ -327,6 +330,9 @@ module _ {most : ℕ} (t : Tables) (sound : SoundTables SoundStream most t) (id 
           streams = t .streams;
           objects = roomObjects r (t .sessions) (t .objects) id number (p .kind) (p .«parent_id»);
           held = t .held;
+          parts = t .parts;
+          lengths = t .lengths;
+          rebuilt = t .rebuilt;
         }
 
     pub create-square : Squares (sub.Create p) t d id n body

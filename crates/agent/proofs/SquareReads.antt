@@ -50,10 +50,10 @@ module _ {most : ℕ} (t : Tables) (sound : SoundTables SoundStream most t) (few
 
   -- the tables behind it, by its reader's handle; stream 0 is not opened
   abbrev pub readIn : ObjectHandle → Tables
-  readIn h = lent (readSessions h (t .sessions) (t .streams) id n) (readRows h (t .sessions) (t .streams) id n) (t .objects) (t .held)
+  readIn h = lent (readSessions h (t .sessions) (t .streams) id n) (readRows h (t .sessions) (t .streams) id n) (t .objects) (t .held) (t .parts) (t .lengths) (t .rebuilt)
 
   abbrev openUnless : Bool → Tables
-  openUnless b = lent (cond b (t .sessions) (u .sessions)) (cond b (t .streams) (u .streams)) (t .objects) (t .held)
+  openUnless b = lent (cond b (t .sessions) (u .sessions)) (cond b (t .streams) (u .streams)) (t .objects) (t .held) (t .parts) (t .lengths) (t .rebuilt)
 
   pub reads-led : (h : ObjectHandle) → LeadsTo SoundStream most t (readIn h)
   reads-led (Bridged h) = by (eqb n 0)

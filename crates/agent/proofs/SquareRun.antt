@@ -13,12 +13,12 @@ use Rattle.codec.specs.declared.layouts.Cursor.{Cursor}
 use Rattle.codec.specs.declared.layouts.Parsed.{Parsed}
 use Rattle.codec.specs.declared.layouts.Parsed.the-variants as parsed
 use Rattle.codec.specs.declared.layouts.Span.{Span}
-use Rattle.codec.specs.declared.submessages.ObjectNumber.{ObjectNumber}
+use Rattle.codec.specs.declared.submessages.FragmentPayload.{FragmentPayload}
 use Rattle.codec.specs.declared.submessages.Submessage.{Submessage}
 use Rattle.codec.specs.declared.submessages.Submessage.the-variants as sub
 use Rattle.codec.proofs.reading.Laws.{items-more, read-placed}
-use Rattle.isolation.specs.Rules.{Sub, opens, names}
-use Rattle.sessions.specs.Table.{isFree, namedOf, touchedRows}
+use Rattle.isolation.specs.Rules.{done, Sub, opens}
+use Rattle.sessions.specs.Table.{isFree, namedOf}
 use Rattle.sessions.specs.Opening.{createdOf}
 use Rattle.sessions.specs.View.{Tables, Local, localOf, absent}
 use Rattle.sessions.specs.Calls.{SoundStream, SoundTables, LeadsTo, createTables}
@@ -30,53 +30,68 @@ use Rattle.sessions.proofs.Reached.{free-view, named-when}
 use Rattle.sessions.proofs.SoundStreams.{stream-lasts}
 use Rattle.sessions.proofs.Steps.{same-led}
 use Rattle.moves.specs.Calls.{Call}
-use Rattle.moves.specs.Proxy.{callAs, taskAs}
-use Rattle.agent.specs.RulesObjects.{Move}
-use Rattle.agent.specs.Rules.{Opening, In, subFrom, handle}
-use Rattle.moves.specs.Rows.{asksOf, handledMove}
-use Rattle.agent.specs.Lent.{rowsOf}
-use Rattle.agent.specs.Place.{subsAt}
-use Rattle.agent.specs.Run.{Turned, stopOf, greeting, idOpened, opening, repliesOf, touchedTables, acted, delivered, turnedBy, turned, isCall, goesOn, before, runIn, runAt}
+use Rattle.moves.specs.Proxy.{callAs}
+use Rattle.agent.specs.Brings.{Opening, In, inOf, subFrom}
+use Rattle.agent.specs.RulesFragments.{Working, plain, onto, brought, gathering}
+use Rattle.moves.specs.Rows.{asksOf}
+use Rattle.agent.specs.Lent.{rowsOf, withRows, rebuiltPart}
+use Rattle.agent.specs.Place.{subsAt, insAt}
+use Rattle.agent.specs.Run.{Turned, stopOf, greeting, idOpened, opening, delivered, withActed, fragmentTurned, turnedBy, turned, isCall, goesOn, before, runIn, runAt}
 use Rattle.agent.specs.Step as agent
 use Rattle.agent.specs.Step.{Open, Reply, opened, behind, keep, act, deliver, run, openAs}
-use Rattle.moves.specs.declared.moves.Move as code
-use Rattle.moves.specs.declared.moves.Move.the-variants.{Greets, Status, Acknack, Repeats, Calls, Silent}
-use Rattle.moves.specs.declared.proxy.BridgeCall.{BridgeCall}
-use Rattle.moves.specs.declared.proxy.Task.{Task}
+use Rattle.agent.specs.Whole.{sessionIn}
 use Rattle.agent.specs.declared.turn.Frame.{Frame}
 use Rattle.agent.specs.declared.turn.Ran.{Ran}
 use Rattle.agent.specs.declared.turn.Stop.{Stop}
 use Rattle.agent.specs.declared.turn.Stop.the-variants as stop
 use Rattle.agent.proofs.Place.{items-not, subs-end, subs-more}
-use Rattle.agent.proofs.Square.{outcome, handledIn, led-on}
-use Rattle.agent.proofs.SquareHandled.{turn-led, turn-square}
+use Rattle.agent.proofs.Square.{led-on}
+use Rattle.agent.proofs.SquareFragments.{Kept, Moved, Acts, Quiet, plain-acts, fragment-acts, fragment-quiet}
 use Rattle.agent.proofs.SquareOpen.{viewOf, at-in, keep-view, chosen-view, pointer-in, creates-led, open-view}
+use Rattle.agent.proofs.SquareRebuilt.{askedAs, untouched}
 
 -- ---- what a run stops at
 
--- the call handed out, and what is open then: its place is the one behind its submessage
-abbrev pub stopAs : Frame → List ℕ → Stop → ℕ → Option (Call × Open)
-stopAs f d stop.Nothing at = none
-stopAs f d (stop.Call number task call) at =
+-- the call handed out, and what is open then: its place is the one behind its submessage; it shows parts of its datagram, or (W6) of the rebuilt bytes, and then the
+-- other rebuilt submessages wait
+abbrev pub stopAs : Frame → List ℕ → List ℕ → Stop → ℕ → Option (Call × Open)
+stopAs f d rebuilt stop.Nothing at = none
+stopAs f d rebuilt (stop.Call number task call) at =
     some (
       callAs d call,
       record {
         session = f .«session_id»;
-        pending = record { stream = f .«stream_id»; number = number .0; task = taskAs task };
+        pending = record { asked = askedAs f number task; left = [] };
         rest = subsAt (f .time) (f .«stream_id») d at;
       },
     )
+stopAs f d rebuilt (stop.Inside number task call a e) at =
+    some (
+      callAs (rebuiltPart rebuilt e) call,
+      record {
+        session = f .«session_id»;
+        pending = record { asked = askedAs f number task; left = insAt (f .time) (f .«stream_id») (rebuiltPart rebuilt e) a };
+        rest = subsAt (f .time) (f .«stream_id») d at;
+      },
+    )
+
+-- what waits reads
+abbrev pub StopKept : List ℕ → Stop → Type 0
+StopKept rebuilt stop.Nothing = Unit {0}
+StopKept rebuilt (stop.Call number task call) = Unit {0}
+StopKept rebuilt (stop.Inside number task call a e) = Kept rebuilt a e
 
 -- a run of the definitions from t on, against what the code's run leaves
 pub record RunSquare (f : Frame) (d : List ℕ) (t : Tables) (y : agent.Ran) (x : Turned) : Type 0 where
   pub tables : y .tables ≡ viewOf (x .ran .next) (x .tables)
   pub replies : y .replies ≡ x .replies
-  pub stop : y .stop ≡ stopAs f d (x .ran .stop) (x .ran .at)
+  pub stop : y .stop ≡ stopAs f d (x .tables .rebuilt) (x .ran .stop) (x .ran .at)
   pub led : LeadsTo SoundStream (f .«max_clients») t (x .tables)
   pub low : 1 ≤ x .ran .next
   pub high : x .ran .next ≤ 255
   pub within : x .ran .at ≤ length d
   pub reads : (ys : List Item) × (itemsAt d (x .ran .at) ≡ items ys)
+  pub kept : StopKept (x .tables .rebuilt) (x .ran .stop)
 
 module _ (f : Frame) (d : List ℕ) (max≤ : f .«max_clients» ≤ 255) (id< : f .«session_id» < 256) (n< : f .«stream_id» < 256) where
   abbrev max : ℕ
@@ -100,14 +115,69 @@ module _ (f : Frame) (d : List ℕ) (max≤ : f .«max_clients» ≤ 255) (id< :
   abbrev onward-from : Stop → Turned → agent.Ran
   onward-from stop.Nothing x = behind (x .replies) (runs (restAt (x .ran .at)) (viewOf (x .ran .next) (x .tables)))
   onward-from (stop.Call number task call) x =
-      record { tables = viewOf (x .ran .next) (x .tables); replies = x .replies; stop = stopAs f d (stop.Call number task call) (x .ran .at) }
+      record { tables = viewOf (x .ran .next) (x .tables); replies = x .replies; stop = stopAs f d (x .tables .rebuilt) (stop.Call number task call) (x .ran .at) }
+  onward-from (stop.Inside number task call a e) x =
+      record { tables = viewOf (x .ran .next) (x .tables); replies = x .replies; stop = stopAs f d (x .tables .rebuilt) (stop.Inside number task call a e) (x .ran .at) }
 
-  record Turns (t : Tables) (next : ℕ) (s : Sub Opening In) (at : ℕ) (x : Turned) : Type 0 where
-    goes : runs (s ∷ restAt at) (viewOf next t) ≡ onward-from (x .ran .stop) x
-    led : LeadsTo SoundStream max t (x .tables)
-    low : 1 ≤ x .ran .next
-    high : x .ran .next ≤ 255
-    place : x .ran .at ≡ at
+  pub record Turns (t : Tables) (y : agent.Ran) (at : ℕ) (x : Turned) : Type 0 where
+    pub goes : y ≡ onward-from (x .ran .stop) x
+    pub led : LeadsTo SoundStream max t (x .tables)
+    pub low : 1 ≤ x .ran .next
+    pub high : x .ran .next ≤ 255
+    pub place : x .ran .at ≡ at
+    pub kept : StopKept (x .tables .rebuilt) (x .ran .stop)
+
+  -- one that the header's session is to handle: it acts, or there is no such session
+  module _ (t : Tables) (sound : SoundTables SoundStream max t) (next : ℕ) (low : 1 ≤ next) (high : next ≤ 255) (at : ℕ) (rule : Local → Working) (x : Turned) where
+    abbrev delivers : Option Local → agent.Ran
+    delivers l = deliver id (restAt at) (viewOf next t) l rule (λ t′. runs (restAt at) t′)
+
+    live-turns : (l : Local) → localOf t id ≡ some l → Acts f d t next at (rule l) x → Turns t (delivers (sessionIn t id)) at x
+    live-turns l e q = record {
+      goes = ap delivers (at-in t id id< ∙ e) ∙ acts (x .ran .stop) (q .moves);
+      led = q .led;
+      low = rw (q .pointer) low;
+      high = rw (q .pointer) high;
+      place = q .place;
+      kept = waits (x .ran .stop) (q .moves);
+    }
+      where
+        view : keep id (q .after) (viewOf next t) ≡ viewOf (x .ran .next) (x .tables)
+        view = keep-view next t (x .tables) id (q .after) id< (q .shows) (q .elsewhere) ∙ ap (λ (k : ℕ). viewOf k (x .tables)) (sym (q .pointer))
+
+        acts : (s : Stop) → Moved f d (x .tables .rebuilt) s (q .after) (q .bytes) (rule l) → delivers (some l) ≡ onward-from s x
+        acts stop.Nothing m =
+            ap (λ (w : Working). act id (restAt at) (viewOf next t) w (λ t′. runs (restAt at) t′)) m
+            ∙ (λ i. behind (sym (q .replies) i) (runs (restAt (sym (q .place) i)) (view i)))
+        acts (stop.Call number task call) m =
+            ap (λ (w : Working). act id (restAt at) (viewOf next t) w (λ t′. runs (restAt at) t′)) m
+            ∙ (λ i. record { tables = view i; replies = sym (q .replies) i; stop = stopAs f d (x .tables .rebuilt) (stop.Call number task call) (sym (q .place) i) })
+        acts (stop.Inside number task call a e) m =
+            ap (λ (w : Working). act id (restAt at) (viewOf next t) w (λ t′. runs (restAt at) t′)) (m .1)
+            ∙ (λ i. record { tables = view i; replies = sym (q .replies) i; stop = stopAs f d (x .tables .rebuilt) (stop.Inside number task call a e) (sym (q .place) i) })
+
+        waits : (s : Stop) → Moved f d (x .tables .rebuilt) s (q .after) (q .bytes) (rule l) → StopKept (x .tables .rebuilt) s
+        waits stop.Nothing m = tt
+        waits (stop.Call number task call) m = tt
+        waits (stop.Inside number task call a e) m = m .0
+
+    gone-turns : localOf t id ≡ none → Quiet t next at x → Turns t (delivers (sessionIn t id)) at x
+    gone-turns e q = record {
+      goes = ap delivers (at-in t id id< ∙ e) ∙ (λ i. behind (sym (q .replies) i) (runs (restAt (sym (q .place) i)) (viewOf (sym (q .pointer) i) (sym (q .tables) i)))) ∙ ap (λ (s : Stop). onward-from s x) (sym (q .stop));
+      led = subst (LeadsTo SoundStream max t) (sym (q .tables)) (same-led SoundStream stream-lasts max t sound);
+      low = rw (q .pointer) low;
+      high = rw (q .pointer) high;
+      place = q .place;
+      kept = subst (StopKept (x .tables .rebuilt)) (sym (q .stop)) tt;
+    }
+
+    pub session-turns : ((l : Local) → localOf t id ≡ some l → Acts f d t next at (rule l) x) → (localOf t id ≡ none → Quiet t next at x)
+        → Turns t (deliver id (restAt at) (viewOf next t) (sessionIn t id) rule (λ t′. runs (restAt at) t′)) at x
+    session-turns acts quiet = by (localOf t id) refl
+      where
+        by : (l : Option Local) → localOf t id ≡ l → Turns t (delivers (sessionIn t id)) at x
+        by none e = gone-turns e (quiet e)
+        by (some l) e = live-turns l e (acts l e)
 
   module _ (t : Tables) (sound : SoundTables SoundStream max t) (r : Ran) (idle : r .stop ≡ stop.Nothing) (low : 1 ≤ r .next) (high : r .next ≤ 255) (at : ℕ) where
     abbrev v : agent.Tables
@@ -131,7 +201,7 @@ module _ (f : Frame) (d : List ℕ) (max≤ : f .«max_clients» ≤ 255) (id< :
           ap (λ (x : Option ℕ). behind (opened x ∷ []) (runs (restAt at) (openAs o v x))) (sym (chosen-view t max sound (r .next) max≤ low high))
           ∙ ap (λ (u : agent.Tables). behind (opened (idOpened c) ∷ []) (runs (restAt at) u)) (open-view t max sound (r .next) max≤ low high key (f .time))
 
-      client-turns : Turns t (r .next) (opens o) at (opening f t r key at)
+      client-turns : Turns t (runs (opens o ∷ restAt at) v) at (opening f t r key at)
       client-turns =
           let p = pointer-in t max sound (r .next) max≤ low high in
           record {
@@ -140,93 +210,52 @@ module _ (f : Frame) (d : List ℕ) (max≤ : f .«max_clients» ≤ 255) (id< :
             low = p .0;
             high = p .1;
             place = refl;
+            kept = subst (StopKept (t .rebuilt)) (sym (greets-on c)) tt;
           }
 
-    -- any other submessage
-    module _ (m : Submessage) (body : Span) where
-      abbrev i : In
-      i = record { time = f .time; stream = n; fields = m; body = partOf d body }
+    named-free : (b : Bool) → isFree (t .sessions) id ≡ b → namedOf (t .sessions) id ≡ cond b NotLive Live
+    named-free b e = named-when (t .sessions) id (sound .sessions-need) ∙ ap (λ (b : Bool). cond b NotLive Live) e
 
-      abbrev u : Tables
-      u = touchedTables f t
+    -- a submessage as it stands
+    plain-turns : (m : Submessage) (body : Span)
+        → Turns t (deliver id (restAt at) v (sessionIn t id) (λ l. onto [] (plain l (inOf (f .time) n m (partOf d body)))) (λ t′. runs (restAt at) t′)) at
+        (withActed t (delivered (namedOf (t .sessions) id) f (rowsOf t) (t .held) d r (record { asked = asksOf m; body = body; at = at })))
+    plain-turns m body =
+        session-turns t sound (r .next) low high at (λ l. onto [] (plain l (inOf (f .time) n m (partOf d body)))) (X (namedOf (t .sessions) id))
+        (λ l e. subst (λ (w : Named). Acts f d t (r .next) at (onto [] (plain l (inOf (f .time) n m (partOf d body)))) (X w)) (sym (named-free false (free-view t id ∙ ap absent e))) (plain-acts f d max≤ id< n< t sound r at l e m body))
+        (λ e. let z = named-free true (free-view t id ∙ ap absent e) in
+        subst (λ (w : Named). Quiet t (r .next) at (X w)) (sym z) (record { tables = ap (withRows t) (untouched f d t (rowsOf t) z); replies = refl; stop = idle; pointer = refl; place = refl }))
+      where
+        X : Named → Turned
+        X w = withActed t (delivered w f (rowsOf t) (t .held) d r (record { asked = asksOf m; body = body; at = at }))
 
-      abbrev go : agent.Tables → agent.Ran
-      go = λ t′. runs (restAt at) t′
-
-      -- a session's move
-      acts-goes : (t′ : Tables) (l : Local) (w : code.Move) → keep id l v ≡ viewOf (r .next) t′
-          → act id (restAt at) v (outcome d t′ id n l w) go ≡ onward-from (stopOf w) (acted f r at w t′)
-      acts-goes t′ l (Greets other code) e = ap (λ (x : agent.Tables). behind [] (go x)) e
-      acts-goes t′ l (Status number code) e = ap (λ (x : agent.Tables). behind (repliesOf f t′ (Status number code)) (go x)) e
-      acts-goes t′ l (Acknack p) e = ap (λ (x : agent.Tables). behind (repliesOf f t′ (Acknack p)) (go x)) e
-      acts-goes t′ l (Repeats p) e = ap (λ (x : agent.Tables). behind (repliesOf f t′ (Repeats p)) (go x)) e
-      acts-goes t′ l (Calls number task call) e =
-          ap (λ (x : agent.Tables). record { tables = x; replies = []; stop = stopAs f d (stop.Call number task call) at }) e
-      acts-goes t′ l Silent e = ap (λ (x : agent.Tables). behind [] (go x)) e
-
-      abbrev X : Named → Turned
-      X w = delivered w f t d r (record { asked = asksOf m; body = body; at = at })
-
-      live-turns : (l : Local) → localOf t id ≡ some l → Turns t (r .next) (names i) at (X Live)
-      unfolding run
-      live-turns l e =
-          let q = turn-square t sound max≤ id id< (f .time) l e n n< m d body in
-          let w = handledMove (asksOf m) (rowsOf u) d id n body in
-          record {
-            goes =
-                ap (λ (x : Option Local). deliver id (restAt at) v x (λ l. handle l i) go) (at-in t id id< ∙ e)
-                ∙ ap (λ (x : Move). act id (restAt at) v x go) (q .moves)
-                ∙ acts-goes (handledIn m u id n) (q .after) w (keep-view (r .next) t (handledIn m u id n) id (q .after) id< (q .shows) (λ j h. q .elsewhere j));
-            led = turn-led t sound max≤ id id< (f .time) l e n n< m;
-            low = low;
-            high = high;
-            place = refl;
-          }
-
-      untouched : namedOf (t .sessions) id ≡ NotLive → u ≡ t
-      unfolding touchedRows
-      untouched e = rw e refl
-
-      gone-turns : localOf t id ≡ none → namedOf (t .sessions) id ≡ NotLive → Turns t (r .next) (names i) at (X NotLive)
-      unfolding run
-      gone-turns e z =
-          record {
-            goes =
-                ap (λ (x : Option Local). deliver id (restAt at) v x (λ l. handle l i) go) (at-in t id id< ∙ e)
-                ∙ ap (λ (t′ : Tables). go (viewOf (r .next) t′)) (sym (untouched z))
-                ∙ ap (λ (s : Stop). onward-from s (X NotLive)) (sym idle);
-            led = subst (LeadsTo SoundStream max t) (sym (untouched z)) (same-led SoundStream stream-lasts max t sound);
-            low = low;
-            high = high;
-            place = refl;
-          }
-
-      other-turns : Turns t (r .next) (names i) at (X (namedOf (t .sessions) id))
-      other-turns = by (localOf t id) refl
-        where
-          named : (b : Bool) → isFree (t .sessions) id ≡ b → namedOf (t .sessions) id ≡ cond b NotLive Live
-          named b e = named-when (t .sessions) id (sound .sessions-need) ∙ ap (λ (b : Bool). cond b NotLive Live) e
-
-          by : (x : Option Local) → localOf t id ≡ x → Turns t (r .next) (names i) at (X (namedOf (t .sessions) id))
-          by none e =
-              let z = named true (free-view t id ∙ ap absent e) in
-              subst (λ (w : Named). Turns t (r .next) (names i) at (X w)) (sym z) (gone-turns e z)
-          by (some l) e = subst (λ (w : Named). Turns t (r .next) (names i) at (X w)) (sym (named false (free-view t id ∙ ap absent e))) (live-turns l e)
+    fragment-turns : (p : FragmentPayload) (body : Span)
+        → Turns t (deliver id (restAt at) v (sessionIn t id) (λ l. let i = inOf (f .time) n (sub.Fragment p) (partOf d body) in onto (brought p i l) (done (gathering p i l) [])) (λ t′. runs (restAt at) t′)) at
+        (fragmentTurned f t d r (record { asked = asksOf (sub.Fragment p); body = body; at = at }))
+    fragment-turns p body =
+        session-turns t sound (r .next) low high at (λ l. let i = inOf (f .time) n (sub.Fragment p) (partOf d body) in onto (brought p i l) (done (gathering p i l) []))
+        (fragmentTurned f t d r (record { asked = asksOf (sub.Fragment p); body = body; at = at }))
+        (λ l e. fragment-acts f d max≤ id< n< t sound r at idle p body l e)
+        (λ e. let b = free-view t id ∙ ap absent e in fragment-quiet f d max≤ id< n< t sound r at idle p body b (named-free true b))
 
   module _ (t : Tables) (sound : SoundTables SoundStream max t) (r : Ran) (idle : r .stop ≡ stop.Nothing) (low : 1 ≤ r .next) (high : r .next ≤ 255) where
     -- each kind
-    sub-turns : (m : Submessage) (body : Span) (k : Cursor) → Turns t (r .next) (subFrom (f .time) n m (partOf d body)) (k .at) (turnedBy (parsed.Sub m body k) f t d r)
+    sub-turns : (m : Submessage) (body : Span) (k : Cursor)
+        → Turns t (runs (subFrom (f .time) n m (partOf d body) ∷ restAt (k .at)) (viewOf (r .next) t)) (k .at) (turnedBy (parsed.Sub m body k) f t d r)
+    unfolding run
     sub-turns (sub.CreateClient p) body k = client-turns t sound r idle low high (k .at) (p .«client_key»)
-    sub-turns (sub.Create p) body k = other-turns t sound r idle low high (k .at) (sub.Create p) body
-    sub-turns (sub.Delete p) body k = other-turns t sound r idle low high (k .at) (sub.Delete p) body
-    sub-turns (sub.Status p) body k = other-turns t sound r idle low high (k .at) (sub.Status p) body
-    sub-turns (sub.WriteData p) body k = other-turns t sound r idle low high (k .at) (sub.WriteData p) body
-    sub-turns (sub.ReadData p) body k = other-turns t sound r idle low high (k .at) (sub.ReadData p) body
-    sub-turns (sub.Data p) body k = other-turns t sound r idle low high (k .at) (sub.Data p) body
-    sub-turns (sub.Heartbeat p) body k = other-turns t sound r idle low high (k .at) (sub.Heartbeat p) body
-    sub-turns (sub.Acknack p) body k = other-turns t sound r idle low high (k .at) (sub.Acknack p) body
+    sub-turns (sub.Create p) body k = plain-turns t sound r idle low high (k .at) (sub.Create p) body
+    sub-turns (sub.Delete p) body k = plain-turns t sound r idle low high (k .at) (sub.Delete p) body
+    sub-turns (sub.Status p) body k = plain-turns t sound r idle low high (k .at) (sub.Status p) body
+    sub-turns (sub.WriteData p) body k = plain-turns t sound r idle low high (k .at) (sub.WriteData p) body
+    sub-turns (sub.ReadData p) body k = plain-turns t sound r idle low high (k .at) (sub.ReadData p) body
+    sub-turns (sub.Data p) body k = plain-turns t sound r idle low high (k .at) (sub.Data p) body
+    sub-turns (sub.Heartbeat p) body k = plain-turns t sound r idle low high (k .at) (sub.Heartbeat p) body
+    sub-turns (sub.Acknack p) body k = plain-turns t sound r idle low high (k .at) (sub.Acknack p) body
+    sub-turns (sub.Fragment p) body k = fragment-turns t sound r idle low high (k .at) p body
 
-    read-turns : (m : Submessage) (body : Span) (k : Cursor) → readAt d (r .at) ≡ parsed.Sub m body k → Turns t (r .next) (subFrom (f .time) n m (partOf d body)) (k .at) (turned f t d r)
+    read-turns : (m : Submessage) (body : Span) (k : Cursor) → readAt d (r .at) ≡ parsed.Sub m body k
+        → Turns t (runs (subFrom (f .time) n m (partOf d body) ∷ restAt (k .at)) (viewOf (r .next) t)) (k .at) (turned f t d r)
     unfolding turned
     read-turns m body k e = rw e (sub-turns m body k)
 
@@ -257,12 +286,13 @@ module _ (f : Frame) (d : List ℕ) (max≤ : f .«max_clients» ≤ 255) (id< :
       record {
         tables = ap (λ (y : agent.Ran). y .tables) z;
         replies = ap (λ (y : agent.Ran). y .replies) z;
-        stop = ap (λ (y : agent.Ran). y .stop) z ∙ ap (λ (s : Stop). stopAs f d s (r .at)) (sym idle);
+        stop = ap (λ (y : agent.Ran). y .stop) z ∙ ap (λ (s : Stop). stopAs f d (t .rebuilt) s (r .at)) (sym idle);
         led = same-led SoundStream stream-lasts max t sound;
         low = low;
         high = high;
         within = within;
         reads = (ys, e);
+        kept = subst (StopKept (t .rebuilt)) (sym idle) tt;
       }
 
   abbrev Goes : ℕ → Type 0
@@ -270,39 +300,47 @@ module _ (f : Frame) (d : List ℕ) (max≤ : f .«max_clients» ≤ 255) (id< :
       → itemsAt d (r .at) ≡ items ys → length d - r .at ≤ left → RunSquare f d t (runs (restAt (r .at)) (viewOf (r .next) t)) (runIn left f d r t)
 
   -- behind one submessage
-  behind-one : (left : ℕ) → Goes left → (t : Tables) (x : Turned) (ys : List Item) → LeadsTo SoundStream max t (x .tables) → 1 ≤ x .ran .next → x .ran .next ≤ 255 → x .ran .at ≤ length d
-      → itemsAt d (x .ran .at) ≡ items ys → length d - x .ran .at ≤ left
-      → RunSquare f d t (onward-from (x .ran .stop) x) (before x (λ r′ t′. runIn left f d r′ t′))
-  behind-one left go t x ys led low high within e h = by (x .ran .stop) refl
+  behind-one : (left : ℕ) → Goes left → (t : Tables) (y : agent.Ran) (at : ℕ) (x : Turned) (ys : List Item) → Turns t y at x → at ≤ length d → itemsAt d at ≡ items ys → length d - at ≤ left
+      → RunSquare f d t y (before x (λ r′ t′. runIn left f d r′ t′))
+  behind-one left go t y at x ys q in-it reads h = subst (λ (z : agent.Ran). RunSquare f d t z (before x (λ r′ t′. runIn left f d r′ t′))) (sym (q .goes)) (by (x .ran .stop) refl)
     where
-      stops : (number : ObjectNumber) (task : Task) (call : BridgeCall) → x .ran .stop ≡ stop.Call number task call → runIn left f d (x .ran) (x .tables) ≡ idleRun (x .ran) (x .tables)
-      stops number task call q = run-ends left (x .ran) (x .tables) (ap (λ (s : Stop). cond (isCall s) false (ltb (x .ran .at) (length d))) q)
+      within : x .ran .at ≤ length d
+      within = let b = q .place in omega (arith, b, in-it)
+
+      e : itemsAt d (x .ran .at) ≡ items ys
+      e = ap (itemsAt d) (q .place) ∙ reads
+
+      stops : isCall (x .ran .stop) ≡ true → runIn left f d (x .ran) (x .tables) ≡ idleRun (x .ran) (x .tables)
+      stops z = run-ends left (x .ran) (x .tables) (ap (λ (b : Bool). cond b false (ltb (x .ran .at) (length d))) z)
+
+      -- a call ends the run
+      called : isCall (x .ran .stop) ≡ true
+          → RunSquare f d t (record { tables = viewOf (x .ran .next) (x .tables); replies = x .replies; stop = stopAs f d (x .tables .rebuilt) (x .ran .stop) (x .ran .at) }) (before x (λ r′ t′. runIn left f d r′ t′))
+      called z =
+          rw (stops z)
+          record { tables = refl; replies = sym (append-nil (x .replies)); stop = refl; led = q .led; low = q .low; high = q .high; within = within; reads = (ys, e); kept = q .kept }
 
       by : (s : Stop) → x .ran .stop ≡ s → RunSquare f d t (onward-from s x) (before x (λ r′ t′. runIn left f d r′ t′))
-      by stop.Nothing q =
-          let y = go (x .ran) (x .tables) ys (led .sound) q low high within e h in
+      by stop.Nothing z =
+          let b = q .place in
+          let y = go (x .ran) (x .tables) ys (q .led .sound) z (q .low) (q .high) within e (omega (arith, b, h)) in
           record {
             tables = y .tables;
             replies = ap (λ (rs : List Reply). x .replies ++ rs) (y .replies);
             stop = y .stop;
-            led = led-on led (y .led);
+            led = led-on (q .led) (y .led);
             low = y .low;
             high = y .high;
             within = y .within;
             reads = y .reads;
+            kept = y .kept;
           }
-      by (stop.Call number task call) q =
-          rw (stops number task call q)
-          record {
-            tables = refl;
-            replies = sym (append-nil (x .replies));
-            stop = ap (λ (s : Stop). stopAs f d s (x .ran .at)) (sym q);
-            led = led;
-            low = low;
-            high = high;
-            within = within;
-            reads = (ys, e);
-          }
+      by (stop.Call number task call) z =
+          subst (λ (s : Stop). RunSquare f d t (record { tables = viewOf (x .ran .next) (x .tables); replies = x .replies; stop = stopAs f d (x .tables .rebuilt) s (x .ran .at) }) (before x (λ r′ t′. runIn left f d r′ t′))) z
+          (called (ap isCall z))
+      by (stop.Inside number task call a c) z =
+          subst (λ (s : Stop). RunSquare f d t (record { tables = viewOf (x .ran .next) (x .tables); replies = x .replies; stop = stopAs f d (x .tables .rebuilt) s (x .ran .at) }) (before x (λ r′ t′. runIn left f d r′ t′))) z
+          (called (ap isCall z))
 
   goes-on : (left : ℕ) → Goes left
   goes-on zero r t ys sound idle low high within e h =
@@ -320,12 +358,9 @@ module _ (f : Frame) (d : List ℕ) (max≤ : f .«max_clients» ≤ 255) (id< :
           on (items zs) j =
               let p = read-placed d (r .at) m x c g in
               let a = p .ahead in
-              let w = p .within in
               let q = read-turns t sound r idle low high m x c g in
-              let b = q .place in
-              subst (λ (y : agent.Ran). RunSquare f d t y (before (turned f t d r) (λ r′ t′. runIn left f d r′ t′)))
-              (sym (ap (λ (ss : List (Sub Opening In)). runs ss (viewOf (r .next) t)) (subs-more (f .time) n d (r .at) m x c zs k g j) ∙ q .goes))
-              (behind-one left go t (turned f t d r) zs (q .led) (q .low) (q .high) (omega (arith, b, w)) (ap (itemsAt d) b ∙ j) (omega (arith, a, b, h)))
+              subst (λ (ss : List (Sub Opening In)). RunSquare f d t (runs ss (viewOf (r .next) t)) (before (turned f t d r) (λ r′ t′. runIn left f d r′ t′))) (sym (subs-more (f .time) n d (r .at) m x c zs k g j))
+              (behind-one left go t (runs (subFrom (f .time) n m (partOf d x) ∷ restAt (c .at)) (viewOf (r .next) t)) (c .at) (turned f t d r) zs q (p .within) j (omega (arith, a, h)))
 
       by : (b : Bool) → ltb (r .at) (length d) ≡ b → Goes left → RunSquare f d t (runs (restAt (r .at)) (viewOf (r .next) t)) (runIn (suc left) f d r t)
       by true q go = subst (λ (x : Turned). RunSquare f d t (runs (restAt (r .at)) (viewOf (r .next) t)) x) (sym (run-more left r t (idle-goes r idle ∙ q))) (inside (ltb-true (r .at) (length d) q) go (readAt d (r .at)) refl)
@@ -336,3 +371,9 @@ module _ (f : Frame) (d : List ℕ) (max≤ : f .«max_clients» ≤ 255) (id< :
       → RunSquare f d t (run max (f .«session_id») (subsAt (f .time) (f .«stream_id») d (r .at)) (viewOf (r .next) t)) (runAt f d r t)
   unfolding runAt
   run-square r t ys sound idle low high within e = goes-on (length d - r .at) r t ys sound idle low high within e (omega arith)
+
+  -- and behind what begins it
+  pub turns-on : (t : Tables) (y : agent.Ran) (at : ℕ) (x : Turned) (ys : List Item) → Turns t y at x → at ≤ length d → itemsAt d at ≡ items ys → RunSquare f d t y (before x (λ r′ t′. runAt f d r′ t′))
+  unfolding runAt
+  turns-on t y at x ys q within e =
+      let b = q .place in behind-one (length d - x .ran .at) (goes-on (length d - x .ran .at)) t y at x ys q within e (omega (arith, b))

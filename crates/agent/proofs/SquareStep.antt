@@ -2,8 +2,8 @@
 use Prim.Native.Nat.{ℕ, _+_, _<_, _≤_}
 use mathlib.Core.Path.{_≡_, refl, sym, ap, _∙_, subst}
 use mathlib.Core.Bool.{Bool, true, false, cond}
-use mathlib.Core.Option.{Option, none}
-use mathlib.Core.List.{List, [], _++_, map}
+use mathlib.Core.Option.{Option, none, some}
+use mathlib.Core.List.{List, [], map}
 use native.Mathlib.Omega.{arith}
 use borrow.Author.Tests.{ltb-true, ltb-false, lt-ltb, le-ltb, le-leb, leb-false, ne-eqb}
 use lib.Dec.{leb, ltb}
@@ -12,17 +12,20 @@ use Rattle.codec.specs.Bytes.{AllBytes, putAt}
 use Rattle.codec.specs.Header.{headerOf}
 use Rattle.codec.specs.Reading.{Item, Items, items, stopped, Message, message, refused, under, messageOf, checkedOf, countAt, checkOf, itemsAt}
 use Rattle.codec.specs.Grammar.{saidIn, readingOf, reading}
+use Rattle.codec.specs.Rebuilt.{rebuiltAt}
 use Rattle.codec.specs.Refusals.{numberOf, byteOf}
 use Rattle.codec.specs.declared.refusals.Refusal.{Refusal}
 use Rattle.codec.specs.declared.reading.Checked.{Checked}
 use Rattle.codec.specs.declared.refusals.Refusal.the-variants.{BufferTooShort, OutOfTurn, OverLimit, TooLong, StoreFull, OutputTooShort}
+use Rattle.codec.proofs.reading.Laws.{items-end}
+use Rattle.codec.proofs.rebuilt.Laws.{rebuilt-is}
 use Rattle.isolation.specs.Rules.{Sub}
 use Rattle.streams.specs.declared.sent.Slot.{Slot}
 use Rattle.sessions.specs.Limits.{limitsOf}
 use Rattle.sessions.specs.Setup.{setUpOf}
 use Rattle.sessions.specs.Sweep.{expiredIds, evictedRows, sweptRows}
-use Rattle.sessions.specs.Table.{isFree, gotOf, endedRows}
-use Rattle.sessions.specs.View.{Tables, Local, localOf}
+use Rattle.sessions.specs.Table.{isFree, endedRows}
+use Rattle.sessions.specs.View.{Tables, Local, localOf, absent}
 use Rattle.sessions.specs.Calls.{SoundTables, SoundStream, withSessions, setUpTables}
 use Rattle.sessions.specs.declared.limits.Limits.{Limits}
 use Rattle.sessions.specs.declared.limits.Limits.the-variants.{Within}
@@ -33,22 +36,23 @@ use Rattle.sessions.specs.declared.table.Named.the-variants as named
 use Rattle.streams.proofs.Soundness.{sound-limits}
 use Rattle.sessions.proofs.Calls.{within-limits}
 use Rattle.sessions.proofs.Empty.{long, first-is}
-use Rattle.sessions.proofs.Reached.{named-when}
+use Rattle.sessions.proofs.Reached.{free-view, named-when}
 use Rattle.sessions.proofs.SoundStreams.{stream-lasts}
 use Rattle.sessions.proofs.Steps.{remove-led, sweep-led, ready-led}
 use Rattle.moves.specs.Calls as calls
 use Rattle.moves.specs.Calls.{fits}
-use Rattle.moves.specs.Proxy.{answerAs, taskAs}
-use Rattle.agent.specs.Rules.{Opening, In}
-use Rattle.agent.specs.Place.{subsAt}
+use Rattle.moves.specs.Proxy.{callAs, answerAs, taskAs}
+use Rattle.agent.specs.Brings.{Opening, In}
+use Rattle.agent.specs.Lent.{rebuiltPart}
+use Rattle.agent.specs.Place.{subsAt, insAt}
+use Rattle.agent.specs.RulesFragments.{resumed}
 use Rattle.agent.specs.Step as step
 use Rattle.agent.specs.Step.{Reply, joinedReplies, withId, run, continued, settle, begin, stays, lapsedIds, isLive, emptyAgent, callOf, openOf, withTables, withLocals}
-use Rattle.agent.specs.Run.{Turned, runAt}
+use Rattle.agent.specs.Run.{Turned, workIn, workAt, runAt}
 use Rattle.agent.specs.Judge as judge
-use Rattle.agent.specs.Judge.{recordSound, datagramStart, answerStart, answerSlot, placedJudged, checkedJudged, datagramJudged, restJudged, answerJudged, sessionOf, streamOf, slotOf, judgedBy, judgeOf}
-use Rattle.agent.specs.Answered.{sequenceOf, answeredBy}
+use Rattle.agent.specs.Judge.{recordSound, datagramStart, answerStart, answerSlot, placedJudged, checkedJudged, datagramJudged, restJudged, answerJudged, sessionOf, streamOf, slotOf, leftKept, isRead, judgedBy, judgeOf}
 use Rattle.agent.specs.Host as host
-use Rattle.agent.specs.Host.{Leaves, performed, begunTables, firstRan, finishedOf, finish, processedBy, processOf, idleOf, removedAs, removedBy, removedRows, setUpAs}
+use Rattle.agent.specs.Host.{Leaves, performed, finishedOf, finish, processedBy, processOf, idleOf, removedAs, removedBy, removedRows, setUpAs}
 use Rattle.agent.specs.Whole.{State, Event, datagram, answer, removal, sweep, Did, didBy, removedResult, withRows, stepOf, sessionIn, agentOf, eventOf, setUpWith, emptyOf}
 use Rattle.agent.specs.declared.agent.AgentSetUp.the-variants as ready
 use Rattle.agent.specs.declared.agent.Idle.{Idle}
@@ -56,6 +60,7 @@ use Rattle.agent.specs.declared.agent.Idle.the-variants as idle
 use Rattle.agent.specs.declared.judge.Input.the-variants as input
 use Rattle.agent.specs.declared.judge.Judged.{Judged}
 use Rattle.agent.specs.declared.judge.Judged.the-variants as judged
+use Rattle.agent.specs.declared.judge.Resumes.the-variants as resumes
 use Rattle.agent.specs.declared.judge.Start.{Start}
 use Rattle.agent.specs.declared.judge.Turn.the-variants as turn
 use Rattle.moves.specs.declared.proxy.BridgeAnswer.{BridgeAnswer}
@@ -67,28 +72,32 @@ use Rattle.agent.specs.declared.state.Pending.{Pending}
 use Rattle.agent.specs.declared.state.Waiting.{Waiting}
 use Rattle.agent.specs.declared.state.Waiting.the-variants as waiting
 use Rattle.agent.specs.declared.turn.Frame.{Frame}
+use Rattle.agent.specs.declared.turn.Ran.{Ran}
 use Rattle.agent.specs.declared.turn.Stop.{Stop}
 use Rattle.agent.specs.declared.turn.Stop.the-variants as stop
-use Rattle.agent.proofs.CallRoom.{RoomAt, StopRoom, stop-room}
+use Rattle.agent.proofs.CallRoom.{RoomAt, StopRoom, stop-room, continued-room}
 use Rattle.agent.proofs.MoveBytes.{data-payload-long}
-use Rattle.agent.proofs.Place.{whole-as}
+use Rattle.agent.proofs.Place.{ins-end, whole-as}
 use Rattle.agent.proofs.Planned.{sweepTo, swept-as}
-use Rattle.agent.proofs.Running.{performed-told}
-use Rattle.agent.proofs.Square.{led-on, shown-live}
-use Rattle.agent.proofs.SquareAnswer.{begins}
+use Rattle.agent.proofs.Performed.{performed-told}
+use Rattle.agent.proofs.Square.{shown-live, live-shown, same-local}
+use Rattle.agent.proofs.SquareAnswer.{resumes-acts, resumes-quiet}
+use Rattle.agent.proofs.SquareFragments.{none-part, Left, Acts}
 use Rattle.agent.proofs.SquareHeld.{held-same}
 use Rattle.agent.proofs.SquareHost.{empty-view, remove-view, swept-view, swept-ids}
 use Rattle.agent.proofs.SquareOpen.{viewOf, at-in}
-use Rattle.agent.proofs.SquareRun.{stopAs, RunSquare, run-square}
+use Rattle.agent.proofs.SquareRebuilt.{askedAs}
+use Rattle.agent.proofs.SquareRun.{stopAs, StopKept, RunSquare, Turns, session-turns, turns-on, run-square}
 
 -- ---- what holds of all states that calls lead to
 
--- the open call: its datagram reads from its place on, and what its answer may list has room
+-- the open call: its datagram reads from its place on, and so do rebuilt bytes (W6); and what its answer may list has room
 pub record WaitsFor (t : Tables) (d : List ℕ) (p : Pending) : Type 0 where
   pub session-in : p .«session_id» < 256
   pub stream-in : p .«stream_id» < 256
   pub within : p .at ≤ length d
   pub reads : (ys : List Item) × (itemsAt d (p .at) ≡ items ys)
+  pub left : Left (t .rebuilt) (p .«left_at») (p .«left_end»)
   pub room : RoomAt (taskAs (p .task)) (p .number .0) (sessionIn t (p .«session_id»))
 
 abbrev pub Waits : Tables → List ℕ → Waiting → Type 0
@@ -128,7 +137,7 @@ module _ (st : State) (v : Inv st) (out d : List ℕ) (x : Start) (session-in : 
       (record { processed = finishedOf (st .agent) x (y .ran); tables = y .tables; out = putAt out 0 (joinedReplies (y .replies)); replies = y .replies })
 
   abbrev ranAs : ℕ → ℕ → Stop → Tables → List Reply → step.Ran
-  ranAs next at s t rs = record { tables = viewOf next t; replies = rs; stop = stopAs f d s at }
+  ranAs next at s t rs = record { tables = viewOf next t; replies = rs; stop = stopAs f d (t .rebuilt) s at }
 
   abbrev settledAs : Bool → step.Ran → step.Did
   settledAs b r =
@@ -137,16 +146,30 @@ module _ (st : State) (v : Inv st) (out d : List ℕ) (x : Start) (session-in : 
 
   module _ (next at wrote : ℕ) (t : Tables) (rs : List Reply) (low : 1 ≤ next) (high : next ≤ 255) (within : at ≤ length d) (reads : (ys : List Item) × (itemsAt d at ≡ items ys))
       (sound : SoundTables SoundStream (st .agent .«max_clients») t) where
-    finishes : (s : Stop) (b : Bool) → StopRoom (stopAs f d s at) (viewOf next t) → Same (didBy d (st .lent) (leavesAs b (turnedAs next at wrote s t rs))) (settledAs b (ranAs next at s t rs))
-    finishes s true e = refuses st d out OutputTooShort v
-    finishes stop.Nothing false e =
+    -- where no rebuilt submessage waits there is none
+    none-left : insAt (f .time) (f .«stream_id») (rebuiltPart (t .rebuilt) 0) 0 ≡ []
+    none-left = ins-end (f .time) (f .«stream_id») (rebuiltPart (t .rebuilt) 0) 0 (let z = ap length (none-part (t .rebuilt)) in omega (arith, z))
+
+    none-reads : Left (t .rebuilt) 0 0
+    none-reads = record { few = omega arith; within = omega arith; said = []; reads = items-end (rebuiltPart (t .rebuilt) 0) 0 (let z = ap length (none-part (t .rebuilt)) in omega (arith, z)); none-barred = refl }
+
+    finishes : (s : Stop) (b : Bool) → StopKept (t .rebuilt) s → StopRoom (stopAs f d (t .rebuilt) s at) (viewOf next t) → Same (didBy d (st .lent) (leavesAs b (turnedAs next at wrote s t rs))) (settledAs b (ranAs next at s t rs))
+    finishes s true k e = refuses st d out OutputTooShort v
+    finishes stop.Nothing false k e =
         record { agent = refl; out = refl; result = refl; inv = record { few = v .few; low = low; high = high; sound = sound; waits = tt } }
-    finishes (stop.Call number task call) false e =
+    finishes (stop.Call number task call) false k e =
+        record {
+          agent = ap (λ (left : List In). withTables (agentOf st) (viewOf next t) (some (record { session = f .«session_id»; pending = record { asked = askedAs f number task; left = left }; rest = subsAt (f .time) (f .«stream_id») d at }))) none-left;
+          out = refl;
+          result = refl;
+          inv = record { few = v .few; low = low; high = high; sound = sound; waits = record { session-in = session-in; stream-in = stream-in; within = within; reads = reads; left = none-reads; room = e } };
+        }
+    finishes (stop.Inside number task call a c) false k e =
         record {
           agent = refl;
           out = refl;
-          result = refl;
-          inv = record { few = v .few; low = low; high = high; sound = sound; waits = record { session-in = session-in; stream-in = stream-in; within = within; reads = reads; room = e } };
+          result = let h = k .0 in ap (λ (b : Bool). step.ran rs (some (callAs (cond b d (rebuiltPart (t .rebuilt) c)) call))) (ne-eqb c 0 (λ z. omega (arith, z, h)));
+          inv = record { few = v .few; low = low; high = high; sound = sound; waits = record { session-in = session-in; stream-in = stream-in; within = within; reads = reads; left = k .1; room = e } };
         }
 
   settles : (t : Tables) (y : Turned) (r : step.Ran) → ltb (length out) (y .ran .wrote) ≡ ltb (length out) (length (joinedReplies (y .replies))) → RunSquare f d t r y → StopRoom (r .stop) (r .tables)
@@ -156,7 +179,7 @@ module _ (st : State) (v : Inv st) (out d : List ℕ) (x : Start) (session-in : 
       subst (λ (r : step.Ran). Same (didBy d (st .lent) (finish (st .agent) (st .tables) out x y)) (settle (agentOf st) out r)) (sym z)
       (subst (λ (b : Bool). Same (didBy d (st .lent) (leavesAs b y)) (settle (agentOf st) out (ranAs (y .ran .next) (y .ran .at) (y .ran .stop) (y .tables) (y .replies)))) (sym w)
       (finishes (y .ran .next) (y .ran .at) (y .ran .wrote) (y .tables) (y .replies) (q .low) (q .high) (q .within) (q .reads) (subst (λ (m : ℕ). SoundTables SoundStream m (y .tables)) most-is (q .led .sound))
-      (y .ran .stop) (ltb (length out) (length (joinedReplies (y .replies)))) (subst (λ (r : step.Ran). StopRoom (r .stop) (r .tables)) z e)))
+      (y .ran .stop) (ltb (length out) (length (joinedReplies (y .replies)))) (q .kept) (subst (λ (r : step.Ran). StopRoom (r .stop) (r .tables)) z e)))
 
 -- ---- an answer in its turn, and 12
 
@@ -193,7 +216,7 @@ module _ (t : Tables) (max : ℕ) (sound : SoundTables SoundStream max t) (timeo
   record-sound : (w : Waiting) → recordSound (agentWith w) ≡ true
   record-sound w = rw (le-ltb 255 max few, ne-eqb next 0 (λ e. omega arith)) refl
 
-  limits : (id n : ℕ) → id < 256 → limitsOf (t .sessions) (t .streams) (t .objects) (length (t .held)) max id n ≡ Within
+  limits : (id n : ℕ) → id < 256 → limitsOf (t .sessions) (t .streams) (t .objects) (length (t .held)) (length (t .parts)) (t .lengths) (length (t .rebuilt)) max id n ≡ Within
   limits id n h = within-limits SoundStream stream-lasts max (λ s w. sound-limits s (w .sound)) t sound few id n h
 
   free : idleOf waiting.Nothing (agentWith waiting.Nothing) ≡ idle.Free
@@ -231,17 +254,25 @@ module _ (t : Tables) (max : ℕ) (sound : SoundTables SoundStream max t) (timeo
     abbrev Goes : Message → Type 0
     Goes m = Same (didBy d lent (processedBy (checkedJudged a time room (checkedOf m)) a t out d [])) (begin (agentOf st) out time (readingOf d m))
 
+    -- where no answer comes first and no rebuilt submessage waits, all of it is the run
+    performed-is : (x : Start) → x .resumes ≡ resumes.Nothing → x .«left_at» ≡ 0 → x .«left_end» ≡ 0
+        → performed x t d [] ≡ runAt (x .frame) d (record { next = x .next; at = x .at; wrote = 0; stop = stop.Nothing }) t
+    unfolding performed host.resumedActed workAt workIn joinedReplies
+    performed-is x a b c = rw (a, b, c, none-part (t .rebuilt)) refl
+
     message-goes : (xs : List Item) → 4 < length d → itemsAt d 4 ≡ items xs → messageOf d ≡ message (headerOf d) xs → Goes (message (headerOf d) xs)
-    unfolding performed joinedReplies headerOf reading
+    unfolding headerOf reading
     message-goes xs h e m =
         let head = headerOf d in
         let x = datagramStart a time head room in
-        let r = firstRan x 0 in
+        let r : Ran = record { next = next; at = 4; wrote = 0; stop = stop.Nothing } in
+        let p = performed-is x refl refl refl in
         let q = run-square (x .frame) d few first-in second-in r t xs sound refl low high (omega arith) e in
-        subst (λ (ss : List (Sub Opening In)). Same (didBy d lent (finish a t out x (runAt (x .frame) d r t))) (settle (agentOf st) out (run max (head .«session_id») ss (viewOf next t))))
+        subst (λ (ss : List (Sub Opening In)). Same (didBy d lent (finish a t out x (performed x t d []))) (settle (agentOf st) out (run max (head .«session_id») ss (viewOf next t))))
         (sym (whole-as time d head (map (saidIn d) xs) (ap (readingOf d) m)))
-        (settles st v out d x first-in second-in refl t (runAt (x .frame) d r t) (run max (head .«session_id») (subsAt time (head .«stream_id») d 4) (viewOf next t))
-        (performed-told x t d []) q (stop-room max (head .«session_id») (subsAt time (head .«stream_id») d 4) (viewOf next t)))
+        (settles st v out d x first-in second-in refl t (performed x t d []) (run max (head .«session_id») (subsAt time (head .«stream_id») d 4) (viewOf next t))
+        (performed-told x t d []) (subst (RunSquare (x .frame) d t (run max (head .«session_id») (subsAt time (head .«stream_id») d 4) (viewOf next t))) (sym p) q)
+        (stop-room max (head .«session_id») (subsAt time (head .«stream_id») d 4) (viewOf next t)))
 
     message-is : (b : Bool) → leb (length d) 4 ≡ b → (i : Items) → itemsAt d 4 ≡ i → messageOf d ≡ cond b (refused BufferTooShort) (under (headerOf d) i)
     unfolding messageOf
@@ -352,8 +383,11 @@ module _ (t : Tables) (max : ℕ) (sound : SoundTables SoundStream max t) (timeo
       abbrev rest : List (Sub Opening In)
       rest = subsAt (p .time) (p .«stream_id») lent (p .at)
 
+      abbrev left : List In
+      left = insAt (p .time) (p .«stream_id») (rebuiltPart (t .rebuilt) (p .«left_end»)) (p .«left_at»)
+
       abbrev waits : step.Open
-      waits = record { session = session; pending = record { stream = p .«stream_id»; number = p .number .0; task = taskAs (p .task) }; rest = rest }
+      waits = record { session = session; pending = record { asked = record { stream = p .«stream_id»; number = p .number .0; task = taskAs (p .task) }; left = left }; rest = rest }
 
       abbrev goesOn : Judged
       goesOn = judged.Goes x (length (w .reads .0))
@@ -364,15 +398,28 @@ module _ (t : Tables) (max : ℕ) (sound : SoundTables SoundStream max t) (timeo
       abbrev restAs : Judged
       restAs = cond (judge.tooLong b n) (judged.Refused TooLong) (placedJudged place goesOn)
 
-      rest-judged : answerJudged lent c Within p b n place (length out) ≡ restAs
+      -- rebuilt bytes are as they were when the call was handed out
+      left-kept : leftKept (rebuiltPart (t .rebuilt) (p .«left_end»)) p ≡ true
+      left-kept =
+          let s = rebuiltPart (t .rebuilt) (p .«left_end») in
+          let q = w .left in
+          ap (λ (e : Bool). cond e false (cond (ltb (length s) (p .«left_at»)) false (isRead (rebuiltAt s (p .«left_at»))))) (le-ltb 32768 (p .«left_end») (q .few))
+          ∙ ap (λ (e : Bool). cond e false (isRead (rebuiltAt s (p .«left_at»)))) (le-ltb (length s) (p .«left_at») (q .within))
+          ∙ ap isRead (rebuilt-is s (p .«left_at») (q .said) (q .reads) (q .none-barred))
+
+      rest-judged : answerJudged lent (t .rebuilt) c Within p b n place (length out) ≡ restAs
       unfolding countAt
       rest-judged =
-          ap (λ (e : Bool). cond e (cond (ltb (length lent) (p .at)) (judged.Refused OverLimit) (judges (countAt (judge.headerOf p) lent (p .at)))) (judged.Refused OverLimit)) (record-sound (waiting.Call p))
+          ap (λ (e : Bool). cond e (cond (leftKept (rebuiltPart (t .rebuilt) (p .«left_end»)) p) judgesRest (judged.Refused OverLimit)) (judged.Refused OverLimit)) (record-sound (waiting.Call p))
+          ∙ ap (λ (e : Bool). cond e judgesRest (judged.Refused OverLimit)) left-kept
           ∙ ap (λ (e : Bool). cond e (judged.Refused OverLimit) (judges (countAt (judge.headerOf p) lent (p .at)))) (le-ltb (length lent) (p .at) (w .within))
           ∙ ap (λ (i : Items). judges (checkedOf (under (judge.headerOf p) i))) (w .reads .1)
         where
           judges : Checked → Judged
           judges k = restJudged c p b n place (length out) k
+
+          judgesRest : Judged
+          judgesRest = cond (ltb (length lent) (p .at)) (judged.Refused OverLimit) (judges (countAt (judge.headerOf p) lent (p .at)))
 
       judge-answer : judgeOf t lent c (input.Answer b) n (length out) ≡ cond (fits (taskAs (p .task)) (answerAs b [])) restAs (judged.Refused OutOfTurn)
       unfolding judgeOf
@@ -380,9 +427,9 @@ module _ (t : Tables) (max : ℕ) (sound : SoundTables SoundStream max t) (timeo
         where
           by : (e : Bool)
               → (let x = cond e (turn.Answer p b) (turn.Refused OutOfTurn) in
-              judgedBy lent c (limitsOf (t .sessions) (t .streams) (t .objects) (length (t .held)) max (sessionOf lent x) (streamOf lent x)) x n (slotOf x (t .sessions) (t .streams) (length (t .held)) n) (length out))
+              judgedBy lent (t .rebuilt) c (limitsOf (t .sessions) (t .streams) (t .objects) (length (t .held)) (length (t .parts)) (t .lengths) (length (t .rebuilt)) max (sessionOf lent x) (streamOf lent x)) x n (slotOf x (t .sessions) (t .streams) (length (t .held)) n) (length out))
               ≡ cond e restAs (judged.Refused OutOfTurn)
-          by true = ap (λ (l : Limits). answerJudged lent c l p b n place (length out)) (limits session (p .«stream_id») (w .session-in)) ∙ rest-judged
+          by true = ap (λ (l : Limits). answerJudged lent (t .rebuilt) c l p b n place (length out)) (limits session (p .«stream_id») (w .session-in)) ∙ rest-judged
           by false = refl
 
       -- 14
@@ -392,36 +439,30 @@ module _ (t : Tables) (max : ℕ) (sound : SoundTables SoundStream max t) (timeo
       answer-goes : over ≡ false → Same (didBy lent lent (finish c t out x (performed x t lent sample))) (settle (agentOf busy) out (continued max waits (answerAs b sample) (viewOf next t)))
       unfolding performed
       answer-goes held =
-          let f = x .frame in
-          let rs = answeredBy (gotOf (t .sessions) session) f (sequenceOf (t .sessions) (t .streams) f) sample (p .number) (p .task) b in
-          let a = begins t sound few f (w .session-in) (p .number) sample (p .task) b rest next (w .room) held in
-          let u = begunTables x t sample in
-          let r = firstRan x (length (joinedReplies rs)) in
-          let y = runAt f lent r u in
-          let q = run-square f lent few (w .session-in) (w .stream-in) r u (w .reads .0) (a .led .sound) refl low high (w .within) (w .reads .1) in
-          let s : RunSquare f lent t (step.behind rs (run max session rest (viewOf next u))) (host.behind rs y) =
-          record {
-            tables = q .tables;
-            replies = ap (λ (xs : List Reply). rs ++ xs) (q .replies);
-            stop = q .stop;
-            led = led-on (a .led) (q .led);
-            low = q .low;
-            high = q .high;
-            within = q .within;
-            reads = q .reads;
-          } in
-          subst (λ (r : step.Ran). Same (didBy lent lent (finish c t out x (host.behind rs y))) (settle (agentOf busy) out r)) (sym (a .goes (λ v. run max session rest v)))
-          (settles busy busy-inv out lent x (w .session-in) (w .stream-in) refl t (host.behind rs y) (step.behind rs (run max session rest (viewOf next u)))
-          (performed-told x t lent sample) s (stop-room max session rest (viewOf next u)))
+          settles busy busy-inv out lent x (w .session-in) (w .stream-in) refl t (performed x t lent sample) (continued max waits (answerAs b sample) (viewOf next t)) (performed-told x t lent sample)
+          (turns-on f lent few (w .session-in) (w .stream-in) t (continued max waits (answerAs b sample) (viewOf next t)) (p .at) (host.resumed x t sample) (w .reads .0) begins (w .within) (w .reads .1))
+          (continued-room max waits (answerAs b sample) (viewOf next t))
+        where
+          f : Frame
+          f = x .frame
+
+          begins : Turns f lent few (w .session-in) (w .stream-in) t (continued max waits (answerAs b sample) (viewOf next t)) (p .at) (host.resumed x t sample)
+          begins =
+              session-turns f lent few (w .session-in) (w .stream-in) t sound next low high (p .at) (λ l. resumed l (waits .pending) (answerAs b sample)) (host.resumed x t sample)
+              (λ l e. let live = live-shown t session l e in let same = same-local t session l e in
+              subst (λ (l : Local). Acts f lent t next (p .at) (resumed l (waits .pending) (answerAs b sample)) (host.resumed x t sample)) same
+              (resumes-acts t f sound few (w .session-in) (w .stream-in) (p .number) (p .task) b sample lent next (p .at) (p .«left_at») (p .«left_end») (w .left) rest live
+              (subst (RoomAt (taskAs (p .task)) (p .number .0)) (at-in t session (w .session-in) ∙ shown-live t session live) (w .room)) held))
+              (λ e. resumes-quiet t f sound few (w .session-in) (w .stream-in) (p .number) (p .task) b sample lent next (p .at) (p .«left_at») (p .«left_end») (w .left) (free-view t session ∙ ap absent e))
 
       answer-same : Same (stepOf busy (answer b sample) out) (step.step (agentOf busy) (step.answer (answerAs b sample)) out)
       unfolding stepOf processOf step.step
       answer-same =
           subst (λ (j : Judged). Same (judges j) (steps fitting long over)) (sym judge-answer)
           (subst (λ (e : Bool). Same (judges (cond fitted restAs (judged.Refused OutOfTurn))) (steps e long over)) (sym (fits-same (p .task) b sample))
-          (subst (λ (e : Bool). Same (judges (cond fitted restAs (judged.Refused OutOfTurn))) (steps fitted e over)) (sym (long-same (waits .pending) b sample))
+          (subst (λ (e : Bool). Same (judges (cond fitted restAs (judged.Refused OutOfTurn))) (steps fitted e over)) (sym (long-same (waits .pending .asked) b sample))
           (subst (λ (j : Judged). Same (judges (cond fitted (cond (judge.tooLong b n) (judged.Refused TooLong) j) (judged.Refused OutOfTurn))) (steps fitted (judge.tooLong b n) over))
-          (sym (held-same max t sound few p (w .session-in) sample goesOn b rest next))
+          (sym (held-same max t sound few p (w .session-in) sample goesOn b left rest next))
           (by fitted (judge.tooLong b n) over refl))))
         where
           fitted : Bool
@@ -431,7 +472,7 @@ module _ (t : Tables) (max : ℕ) (sound : SoundTables SoundStream max t) (timeo
           fitting = fits (taskAs (p .task)) (answerAs b sample)
 
           long : Bool
-          long = step.tooLong (waits .pending) (answerAs b sample)
+          long = step.tooLong (waits .pending .asked) (answerAs b sample)
 
           judges : Judged → Did
           judges j = didBy lent lent (processedBy j c t out lent sample)
@@ -478,20 +519,20 @@ pub record Empty (t : Tables) (max timeout : ℕ) (a : Agent) : Type 0 where
   pub inv : Inv (emptyOf t max a)
 
 pub empty-square : (t : Tables) (max timeout : ℕ) (a : Agent) → setUpWith t max timeout ≡ ready.Ready a → Empty t max timeout a
-empty-square t max timeout a e = by (setUpOf (length (t .sessions)) (length (t .streams)) (length (t .objects)) (length (t .held)) max) refl e
+empty-square t max timeout a e = by (setUpOf (length (t .sessions)) (length (t .streams)) (length (t .objects)) (length (t .held)) (length (t .parts)) (length (t .lengths)) (length (t .rebuilt)) max) refl e
   where
     states : SetUp → Agent → State
     states r a = record { agent = a; tables = setUpTables r t; lent = [] }
 
-    by : (r : SetUp) → setUpOf (length (t .sessions)) (length (t .streams)) (length (t .objects)) (length (t .held)) max ≡ r → setUpAs r max timeout ≡ ready.Ready a → Empty t max timeout a
+    by : (r : SetUp) → setUpOf (length (t .sessions)) (length (t .streams)) (length (t .objects)) (length (t .held)) (length (t .parts)) (length (t .lengths)) (length (t .rebuilt)) max ≡ r → setUpAs r max timeout ≡ ready.Ready a → Empty t max timeout a
     by (setup.Refused r) q z = let k : _≡_ {A = ℕ} 0 1 = cc in let n : ⊥ = omega arith in absurd n
     by (setup.Ready next) q z =
         let fresh : Agent = record { «max_clients» = max; «timeout_ms» = timeout; next = next; waits = waiting.Nothing } in
         let same : fresh ≡ a = cc in
-        let first = first-is (t .sessions) (t .streams) (t .objects) (length (t .held)) max next q in
-        let kept = long (t .sessions) (t .streams) (t .objects) (length (t .held)) max next q in
+        let first = first-is (t .sessions) (t .streams) (t .objects) (length (t .held)) (length (t .parts)) (length (t .lengths)) (length (t .rebuilt)) max next q in
+        let kept = long (t .sessions) (t .streams) (t .objects) (length (t .held)) (length (t .parts)) (length (t .lengths)) (length (t .rebuilt)) max next q in
         let st : states (setup.Ready next) fresh ≡ emptyOf t max a = λ i. states (sym q i) (same i) in
         record {
           agent = sym (ap agentOf st) ∙ ap (λ (u : step.Tables). record { max = max; timeout = timeout; tables = u; waits = none }) (empty-view t max timeout next first);
-          inv = subst Inv st (record { few = kept .clients; low = omega (arith, first); high = omega (arith, first); sound = ready-led SoundStream stream-lasts max t max next kept (kept .held-long) .sound; waits = tt });
+          inv = subst Inv st (record { few = kept .clients; low = omega (arith, first); high = omega (arith, first); sound = ready-led SoundStream stream-lasts max t max next kept (kept .held-long) (kept .parts-long) (kept .lengths-long) .sound; waits = tt });
         }

@@ -35,6 +35,7 @@ use Rattle.sessions.proofs.Steps.{open-led, write-led, same-led, read-lasts}
 use Rattle.sessions.proofs.ViewSending.{repeats-view}
 use Rattle.sessions.proofs.ViewStreams as streams
 use Rattle.sessions.proofs.ViewStreams.{found-number, readShown, bufferBy, read-view, write-here, write-elsewhere, open-here, open-elsewhere}
+use Rattle.agent.specs.Lent.{lent}
 use Rattle.agent.specs.Local.{withStreams, opening, acknowledgedBy, acknowledging}
 use Rattle.moves.specs.Replies.{acknackBytes}
 use Rattle.agent.specs.RulesStreams.{acknackFrom, onHeartbeat, repeatsFrom}
@@ -147,7 +148,7 @@ module _ {most : ℕ} (t : Tables) (sound : SoundTables SoundStream most t) (few
     bitmap = p .«nack_bitmap»
 
     abbrev ackTables : StreamNamed → StreamState → Tables
-    ackTables a s = record { sessions = u .sessions; streams = acknowledgedRows (u .sessions) (u .streams) id a s p; objects = u .objects; held = u .held }
+    ackTables a s = lent (u .sessions) (acknowledgedRows (u .sessions) (u .streams) id a s p) (u .objects) (u .held) (u .parts) (u .lengths) (u .rebuilt)
 
     abbrev left : StreamState → StreamState
     left s = acknowledge s first bitmap .state

@@ -20,7 +20,7 @@ use Rattle.moves.specs.Proxy.{answerAs, taskAs}
 use Rattle.moves.specs.Answers.{saysOf}
 use Rattle.agent.specs.Answered.{saysFits, sequenceOf, saysBytes, answeredBy}
 use Rattle.agent.specs.Judge.{judgeOf}
-use Rattle.agent.specs.Host.{begunBy, performed, resumesFit, answerMost, firstMost, asksIn, roomy, neededOf, Leaves, finishedOf, refuse, finish, processedBy, processOf}
+use Rattle.agent.specs.Host.{begunBy, performed, resumesFit, answerMost, firstMost, idsAt, asksIn, unbound, bounded, roomy, neededOf, Leaves, finishedOf, refuse, finish, processedBy, processOf}
 use Rattle.moves.specs.declared.answers.Says.the-variants as says
 use Rattle.agent.specs.declared.judge.Input.{Input}
 use Rattle.agent.specs.declared.judge.Judged.{Judged}
@@ -35,9 +35,11 @@ use Rattle.agent.specs.declared.state.Agent.{Agent}
 use Rattle.agent.specs.declared.turn.Frame.{Frame}
 use Rattle.agent.proofs.Laws.{status-long}
 use Rattle.agent.proofs.MoveBytes.{data-long}
-use Rattle.agent.proofs.Running.{fits-whole, performed-told, performed-most}
+use Rattle.agent.proofs.Counted.{fits-whole}
+use Rattle.agent.proofs.Performed.{performed-told}
+use Rattle.agent.proofs.Most.{performed-most}
 use Rattle.agent.proofs.answers.Laws.{sample-fits}
-use Rattle.agent.proofs.Acknacks.{acknacksFrom, acknacks-few}
+use Rattle.agent.proofs.Acknacks.{ids-few, is-bound}
 use Rattle.codec.specs.Bytes.{putAt}
 use Rattle.agent.specs.Run.{putReplies, Turned}
 use Rattle.agent.proofs.Judged.{AnswerFits, Sound}
@@ -57,23 +59,23 @@ module _ (room : ℕ) (x : Start) (n : ℕ) (d : List ℕ) (sample first : ℕ) 
   abbrev spare : ℕ
   spare = (room - first - 12 * n) / 16384
 
-  roomy-by : (a b c w : Bool) → ltb room first ≡ a → ltb ((room - first) / 12) n ≡ b → leb n spare ≡ c → leb (asksIn x d) spare ≡ w
-      → cond a false (cond b false (cond c true w)) ≡ roomy room x n d sample
-  roomy-by a b c w p q r s =
+  bounded-by : (a b c w : Bool) → ltb room first ≡ a → ltb ((room - first) / 12) n ≡ b → leb n spare ≡ c → leb (asksIn x d) spare ≡ w
+      → cond a false (cond b false (cond c true w)) ≡ bounded room x n d sample
+  bounded-by a b c w p q r s =
       (λ i. cond (sym p i) false (cond (sym q i) false (cond (sym r i) true (sym s i))))
       ∙ ap (λ (k : ℕ). cond (ltb room k) false (cond (ltb ((room - k) / 12) n) false (cond (leb n ((room - k - 12 * n) / 16384)) true (leb (asksIn x d) ((room - k - 12 * n) / 16384))))) e
 
-  pub no-room : room < first → false ≡ roomy room x n d sample
-  no-room h = roomy-by true _ _ _ (lt-ltb room first h) refl refl refl
+  pub no-room : room < first → false ≡ bounded room x n d sample
+  no-room h = bounded-by true _ _ _ (lt-ltb room first h) refl refl refl
 
-  pub few-bytes : first ≤ room → (room - first) / 12 < n → false ≡ roomy room x n d sample
-  few-bytes h k = roomy-by false true _ _ (le-ltb room first h) (lt-ltb ((room - first) / 12) n k) refl refl
+  pub few-bytes : first ≤ room → (room - first) / 12 < n → false ≡ bounded room x n d sample
+  few-bytes h k = bounded-by false true _ _ (le-ltb room first h) (lt-ltb ((room - first) / 12) n k) refl refl
 
-  pub for-all : first ≤ room → n ≤ (room - first) / 12 → n ≤ spare → true ≡ roomy room x n d sample
-  for-all h k l = roomy-by false false true _ (le-ltb room first h) (le-ltb ((room - first) / 12) n k) (le-leb n spare l) refl
+  pub for-all : first ≤ room → n ≤ (room - first) / 12 → n ≤ spare → true ≡ bounded room x n d sample
+  for-all h k l = bounded-by false false true _ (le-ltb room first h) (le-ltb ((room - first) / 12) n k) (le-leb n spare l) refl
 
-  pub for-acknacks : first ≤ room → n ≤ (room - first) / 12 → spare < n → leb (asksIn x d) spare ≡ roomy room x n d sample
-  for-acknacks h k l = roomy-by false false false _ (le-ltb room first h) (le-ltb ((room - first) / 12) n k) (lt-leb n spare l) refl
+  pub for-acknacks : first ≤ room → n ≤ (room - first) / 12 → spare < n → leb (asksIn x d) spare ≡ bounded room x n d sample
+  for-acknacks h k l = bounded-by false false false _ (le-ltb room first h) (le-ltb ((room - first) / 12) n k) (lt-leb n spare l) refl
 
 -- ---- how much a call can reply
 
@@ -128,9 +130,10 @@ module _ (t : Tables) (d sample : List ℕ) (x : Start) (n room : ℕ) (k : Soun
   abbrev first : ℕ
   first = firstMost (x .resumes) (length sample)
 
-  most : performed x t d sample .ran .wrote ≤ first + 12 * n + 16384 * asksIn x d
-  most =
-      let p = performed-most x t d sample (k .counted .0) (k .counted .1) in
+  most : unbound x d ≡ false → performed x t d sample .ran .wrote ≤ first + 12 * n + 16384 * asksIn x d
+  most e =
+      let z = is-bound x d e in
+      let p = performed-most x t d sample (z .0) (k .counted .0) (k .counted .1) (z .1) in
       let q = begun-most (x .resumes) (t .sessions) (t .streams) (x .frame) sample (k .sample-fits) (k .answer-fits) in
       let c = k .counted .2 in
       omega (arith, p, q, c)
@@ -139,15 +142,15 @@ module _ (t : Tables) (d sample : List ℕ) (x : Start) (n room : ℕ) (k : Soun
   asks-few : asksIn x d ≤ n
   asks-few = go (eqb (x .frame .«stream_id») 0)
     where
-      go : (b : Bool) → cond b 0 (acknacksFrom d (x .at)) ≤ n
+      go : (b : Bool) → cond b 0 (idsAt 0x0E d (x .at)) ≤ n
       go true = omega arith
       go false =
-          let a = acknacks-few d (x .at) (k .counted .0) (k .counted .1) in
+          let a = ids-few 0x0E d (x .at) (k .counted .0) (k .counted .1) in
           let c = k .counted .2 in
           omega (arith, a, c)
 
-  roomy-most : roomy room x n d (length sample) ≡ true → performed x t d sample .ran .wrote ≤ room
-  roomy-most e = go (ltb room first) (ltb ((room - first) / 12) n) (leb n spare) refl refl refl e
+  bounded-most : unbound x d ≡ false → bounded room x n d (length sample) ≡ true → performed x t d sample .ran .wrote ≤ room
+  bounded-most plain e = go (ltb room first) (ltb ((room - first) / 12) n) (leb n spare) refl refl refl e
     where
       spare : ℕ
       spare = (room - first - 12 * n) / 16384
@@ -161,12 +164,21 @@ module _ (t : Tables) (d sample : List ℕ) (x : Start) (n room : ℕ) (k : Soun
           let m = ltb-false ((room - first) / 12) n q in
           let a = leb-true n spare r in
           let b = asks-few in
-          omega (arith, l, m, a, b, most)
+          let w = most plain in
+          omega (arith, l, m, a, b, w)
       go false false false p q r s =
           let l = ltb-false room first p in
           let m = ltb-false ((room - first) / 12) n q in
           let a = leb-true (asksIn x d) spare s in
-          omega (arith, l, m, a, most)
+          let w = most plain in
+          omega (arith, l, m, a, w)
+
+  roomy-most : roomy room x n d (length sample) ≡ true → performed x t d sample .ran .wrote ≤ room
+  roomy-most e = go (unbound x d) refl e
+    where
+      go : (b : Bool) → unbound x d ≡ b → cond b false (bounded room x n d (length sample)) ≡ true → performed x t d sample .ran .wrote ≤ room
+      go true q z = absurd (no-fit z)
+      go false q z = bounded-most q z
 
   pub thirteen : ltb room (neededOf (roomy room x n d (length sample)) (performed x t d sample .ran .wrote)) ≡ ltb room (performed x t d sample .ran .wrote)
   thirteen = go (roomy room x n d (length sample)) refl
@@ -178,30 +190,39 @@ module _ (t : Tables) (d sample : List ℕ) (x : Start) (n room : ℕ) (k : Soun
       go true e = le-ltb room 0 (omega arith) ∙ sym (le-ltb room w (roomy-most e))
       go false e = refl
 
+-- what has a bound is roomy by it
+pub by-bound : (room : ℕ) (x : Start) (n : ℕ) (d : List ℕ) (sample wrote : ℕ) → unbound x d ≡ false → ltb room (neededOf (roomy room x n d sample) wrote) ≡ ltb room wrote
+    → ltb room wrote ≡ ltb room (neededOf (bounded room x n d sample) wrote)
+by-bound room x n d sample wrote u e = sym e ∙ ap (λ (b : Bool). ltb room (neededOf (cond b false (bounded room x n d sample)) wrote)) u
+
 -- ---- what the call leaves
 
 module _ (a : Agent) (t : Tables) (out d sample : List ℕ) (x : Start) where
-  abbrev pub y : Turned
+  abbrev y : Turned
   y = performed x t d sample
 
-  abbrev pub went : Leaves
-  went = record { processed = finishedOf a x (y .ran); tables = y .tables; out = putAt out 0 (joinedReplies (y .replies)); replies = y .replies }
+  abbrev went : List ℕ → Leaves
+  went o = record { processed = finishedOf a x (y .ran); tables = y .tables; out = o; replies = y .replies }
 
-  finish-by : (b : Bool) → ltb (length out) (y .ran .wrote) ≡ b → cond b (refuse a t out OutputTooShort) went ≡ finish a t out x y
-  finish-by b e = ap (λ (c : Bool). cond c (refuse a t out OutputTooShort) went) (sym e)
+  abbrev whole : Leaves
+  whole = went (putAt out 0 (joinedReplies (y .replies)))
+
+  finish-by : (b : Bool) → ltb (length out) (y .ran .wrote) ≡ b → cond b (refuse a t out OutputTooShort) whole ≡ finish a t out x y
+  finish-by b e = ap (λ (c : Bool). cond c (refuse a t out OutputTooShort) whole) (sym e)
 
   pub finish-short : ltb (length out) (y .ran .wrote) ≡ true → refuse a t out OutputTooShort ≡ finish a t out x y
   finish-short e = finish-by true e
 
-  pub finish-went : ltb (length out) (y .ran .wrote) ≡ false → went ≡ finish a t out x y
-  finish-went e = finish-by false e
-
   -- the output's room is what the run counts by
-  pub finish-out : x .frame .room ≡ length out → ltb (length out) (y .ran .wrote) ≡ false → putReplies (x .frame .room) out 0 (y .replies) ≡ putAt out 0 (joinedReplies (y .replies))
-  finish-out long e =
+  sent-out : x .frame .room ≡ length out → ltb (length out) (y .ran .wrote) ≡ false → putReplies (x .frame .room) out 0 (y .replies) ≡ putAt out 0 (joinedReplies (y .replies))
+  sent-out long e =
       let r = x .frame .room in
       let short = sym (performed-told x t d sample) ∙ (ap (λ (n : ℕ). ltb n (y .ran .wrote)) long ∙ e) in
       fits-whole r out (y .replies) (omega (arith, long)) (ltb-false r (length (joinedReplies (y .replies))) short)
+
+  -- what is left where the replies are written one by one
+  pub finish-sent : x .frame .room ≡ length out → ltb (length out) (y .ran .wrote) ≡ false → went (putReplies (x .frame .room) out 0 (y .replies)) ≡ finish a t out x y
+  finish-sent long e = ap went (sent-out long e) ∙ finish-by false e
 
 pub process-by : (a : Agent) (t : Tables) (out d sample : List ℕ) (i : Input) (j : Judged) → judgeOf t d a i (length sample) (length out) ≡ j → processedBy j a t out d sample ≡ processOf a t out d sample i
 unfolding processOf
@@ -210,12 +231,15 @@ process-by a t out d sample i j e = ap (λ (k : Judged). processedBy k a t out d
 -- all that a call leaves, the replies apart
 pub same-leaves : (x y : Leaves) → x ≡ y
     → (x .processed ≡ y .processed) × (x .tables .sessions ≡ y .tables .sessions) × (x .tables .streams ≡ y .tables .streams) × (x .tables .objects ≡ y .tables .objects)
-    × (x .tables .held ≡ y .tables .held) × (x .out ≡ y .out)
+    × (x .tables .held ≡ y .tables .held) × (x .tables .parts ≡ y .tables .parts) × (x .tables .lengths ≡ y .tables .lengths) × (x .tables .rebuilt ≡ y .tables .rebuilt) × (x .out ≡ y .out)
 same-leaves x y e = (
   ap (λ (l : Leaves). l .processed) e,
   ap (λ (l : Leaves). l .tables .sessions) e,
   ap (λ (l : Leaves). l .tables .streams) e,
   ap (λ (l : Leaves). l .tables .objects) e,
   ap (λ (l : Leaves). l .tables .held) e,
+  ap (λ (l : Leaves). l .tables .parts) e,
+  ap (λ (l : Leaves). l .tables .lengths) e,
+  ap (λ (l : Leaves). l .tables .rebuilt) e,
   ap (λ (l : Leaves). l .out) e,
 )

@@ -1,14 +1,17 @@
--- One submessage of a run: how far it takes the place on, and how much is replied to it at most.
-use Prim.Native.Nat.{ℕ, _+_, _*_, _≤_, _<_}
+-- One submessage of a run: how far it takes the place on, and how much is replied to it at most; and all rebuilt submessages (W6) behind a FRAGMENT.
+use Prim.Native.Nat.{ℕ, zero, suc, _+_, _-_, _*_, _≤_, _<_}
 use mathlib.Core.Path.{_≡_, refl, sym, ap, _∙_, subst}
 use mathlib.Core.Bool.{Bool, true, false, cond, not}
-use mathlib.Core.List.{List, [], _∷_, append-nil}
+use mathlib.Core.List.{List, [], _∷_, _++_, append-nil}
 use native.Mathlib.Omega.{arith}
-use borrow.Author.Tests.{eq-eqb}
-use lib.Dec.{eqb}
-use lib.ListN.{length}
+use borrow.Author.Tests.{eq-eqb, ltb-true}
+use lib.Dec.{eqb, ltb}
+use lib.ListN.{getD, length}
 use Rattle.codec.specs.Submessages.{idOf}
-use Rattle.codec.specs.Reading.{readAt}
+use Rattle.codec.specs.Reading.{readAt, partOf}
+use Rattle.codec.specs.Rebuilt.{rebuiltOf}
+use Rattle.codec.specs.declared.rebuilt.Rebuilt.{Rebuilt}
+use Rattle.codec.specs.declared.rebuilt.Rebuilt.the-variants as rebuilt
 use Rattle.codec.specs.declared.layouts.Cursor.{Cursor}
 use Rattle.codec.specs.declared.layouts.Parsed.{Parsed}
 use Rattle.codec.specs.declared.layouts.Parsed.the-variants as parsed
@@ -27,6 +30,8 @@ use Rattle.sessions.specs.SessionObjects.{foundObject}
 use Rattle.sessions.specs.Removal.{takenObject}
 use Rattle.sessions.specs.Objects.{handleOf}
 use Rattle.sessions.specs.Table.{namedOf}
+use Rattle.sessions.specs.Fragments.{gathered}
+use Rattle.sessions.specs.Calls.{gatherTables}
 use Rattle.sessions.specs.View.{Tables}
 use Rattle.sessions.specs.declared.objects.Taken.{Taken as Removed}
 use Rattle.sessions.specs.declared.objects.Taken.the-variants as removed
@@ -50,24 +55,25 @@ use Rattle.moves.specs.Moves.{foundHandle, handleOfKind, parentOf, topicBy, end
 use Rattle.moves.specs.Names.{namesIn}
 use Rattle.moves.specs.Rows.{Rows, asksOf, endpointIn, createMove, roomMove, handledBy, handledMove}
 use Rattle.moves.specs.RowsStreams.{openedSessions, openedRows, readOf, streamMove, readMove}
-use Rattle.agent.specs.Host.{asksAgain}
-use Rattle.agent.specs.Lent.{rowsOf}
-use Rattle.agent.specs.Run.{Turned, counted, countReplies, greeting, greetingBytes, idOpened, opening, passed, repliesOf, touchedTables, acted, takenOf, delivered, subTurned, turnedBy, turned}
+use Rattle.agent.specs.Host.{oneOf}
+use Rattle.agent.specs.Lent.{rowsOf, rebuiltPart}
+use Rattle.agent.specs.Run.{Turned, Acted, counted, countReplies, putReplies, greeting, greetingBytes, idOpened, opening, passed, repliesBy, touchedIn, touchedTables, acted, takenOf, delivered, insideBy, insideTurned, isCall, goesOn, workIn, workAt, enteredRan, leftBy, wholeLen, wholeTurned, fragmentTurned, subTurned, turnedBy, turned}
 use Rattle.agent.specs.Step.{Reply, opened, replied, bytesOf, joinedReplies}
 use Rattle.moves.specs.declared.handle.Asked.{Asked}
 use Rattle.moves.specs.declared.handle.Group.{Group}
 use Rattle.moves.specs.declared.handle.Group.the-variants.{Creates, Deletes, Writes, Reads, Streams, Neither}
 use Rattle.moves.specs.declared.handle.Opening.{Opening}
-use Rattle.moves.specs.declared.handle.Opening.the-variants.{Client, Other, Unread}
+use Rattle.moves.specs.declared.handle.Opening.the-variants.{Client, Fragment, Other, Unread}
 use Rattle.moves.specs.declared.moves.Move.{Move}
 use Rattle.moves.specs.declared.moves.Move.the-variants.{Greets, Status, Acknack, Repeats, Calls, Silent}
 use Rattle.moves.specs.declared.names.Names.{Names}
 use Rattle.agent.specs.declared.turn.Frame.{Frame}
 use Rattle.agent.specs.declared.turn.Ran.{Ran}
 use Rattle.agent.specs.declared.turn.Taken.{Taken}
-use Rattle.agent.proofs.Acknacks.{asksAt, read-says}
+use Rattle.agent.proofs.Acknacks.{read-says}
 use Rattle.agent.proofs.MoveBytes.{move-long}
 use Rattle.agent.proofs.Repeated.{repeats-long}
+use Rattle.agent.proofs.Loops.{Loop, whole-end, whole-more, whole-told, Left, left-end}
 
 -- ---- only an ACKNACK on a stream other than 0 is answered by held messages
 
@@ -183,7 +189,7 @@ lists Neither hears = 0
 abbrev listsOf : Asked → ℕ
 listsOf q = lists (q .group) (q .hears)
 
-lists-own : (m : Submessage) → listsOf (asksOf m) ≡ asksAgain (idOf m)
+lists-own : (m : Submessage) → listsOf (asksOf m) ≡ oneOf 0x0E (idOf m)
 lists-own (sub.CreateClient p) = refl
 lists-own (sub.Create p) = refl
 lists-own (sub.Delete p) = refl
@@ -193,6 +199,7 @@ lists-own (sub.ReadData p) = refl
 lists-own (sub.Data p) = refl
 lists-own (sub.Heartbeat p) = refl
 lists-own (sub.Acknack p) = refl
+lists-own (sub.Fragment p) = refl
 
 handled-few : (g : Group) (q : Asked) (t : Rows) (d : List ℕ) (id n : ℕ) (body : Span) → Few n (lists g (q .hears)) (handledBy g q t d id n body)
 handled-few Creates q t d id n body =
@@ -220,19 +227,19 @@ pub none-long : length (joinedReplies []) ≡ 0
 unfolding joinedReplies
 none-long = refl
 
-replies-most : (f : Frame) (t : Tables) (m : Move) → length (joinedReplies (repliesOf f t m)) ≤ 12 + 16384 * repeating m
-replies-most f t (Greets id code) = let a = none-long in omega (arith, a)
-replies-most f t (Status number code) =
+replies-most : (f : Frame) (s x : List (List ℕ)) (h : List ℕ) (m : Move) → length (joinedReplies (repliesBy f s x h m)) ≤ 12 + 16384 * repeating m
+replies-most f s x h (Greets id code) = let a = none-long in omega (arith, a)
+replies-most f s x h (Status number code) =
     let a = one-long (replied (f .«session_id») (moveBytes (f .«session_id») (f .«stream_id») (Status number code))) in
     let b = move-long (f .«session_id») (f .«stream_id») (Status number code) in
     omega (arith, a, b)
-replies-most f t (Acknack p) =
+replies-most f s x h (Acknack p) =
     let a = one-long (replied (f .«session_id») (moveBytes (f .«session_id») (f .«stream_id») (Acknack p))) in
     let b = move-long (f .«session_id») (f .«stream_id») (Acknack p) in
     omega (arith, a, b)
-replies-most f t (Repeats p) = let a = repeats-long (t .sessions) (t .streams) (t .held) (f .«session_id») (f .«stream_id») p in omega (arith, a)
-replies-most f t (Calls number task call) = let a = none-long in omega (arith, a)
-replies-most f t Silent = let a = none-long in omega (arith, a)
+replies-most f s x h (Repeats p) = let a = repeats-long s x h (f .«session_id») (f .«stream_id») p in omega (arith, a)
+replies-most f s x h (Calls number task call) = let a = none-long in omega (arith, a)
+replies-most f s x h Silent = let a = none-long in omega (arith, a)
 
 -- CREATE_CLIENT's STATUS
 pub greeting-replied : (c : Created) → bytesOf (opened (idOpened c)) ≡ greetingBytes c
@@ -243,55 +250,222 @@ greeting-long : (c : Created) → length (greetingBytes c) ≡ 11
 greeting-long (created.Opened id next) = move-long 0 0 (greeting (created.Opened id next))
 greeting-long (created.Refused r) = move-long 0 0 (greeting (created.Refused r))
 
--- what a submessage leaves: the place behind it, its replies counted, and at most so many lists among them
-record Leaves (f : Frame) (r : Ran) (at most : ℕ) (x : Turned) : Type 0 where
-  place : x .ran .at ≡ at
-  told : x .ran .wrote ≡ countReplies (f .room) (r .wrote) (x .replies)
-  short : length (joinedReplies (x .replies)) ≤ 12 + 16384 * most
-  zeroth : f .«stream_id» ≡ 0 → length (joinedReplies (x .replies)) ≤ 12
+-- what a submessage leaves: the place behind it, and its replies counted
+pub record Leaves (f : Frame) (r : Ran) (at : ℕ) (x : Ran) (rs : List Reply) : Type 0 where
+  pub place : x .at ≡ at
+  pub told : x .wrote ≡ countReplies (f .room) (r .wrote) rs
 
-opening-leaves : (f : Frame) (t : Tables) (r : Ran) (key at most : ℕ) → Leaves f r at most (opening f t r key at)
+-- and at most so many lists among them
+record Short (f : Frame) (most : ℕ) (rs : List Reply) : Type 0 where
+  short : length (joinedReplies rs) ≤ 12 + 16384 * most
+  zeroth : f .«stream_id» ≡ 0 → length (joinedReplies rs) ≤ 12
+
+none-short : (f : Frame) (most : ℕ) → Short f most []
+none-short f most = let a = none-long in record { short = omega (arith, a); zeroth = λ _. omega (arith, a) }
+
+passed-leaves : (f : Frame) (r : Ran) (at : ℕ) → Leaves f r at (passed r at) []
 unfolding countReplies
-opening-leaves f t r key at most =
+passed-leaves f r at = record { place = refl; told = refl }
+
+opening-leaves : (f : Frame) (t : Tables) (r : Ran) (key at : ℕ) → Leaves f r at (opening f t r key at .ran) (opening f t r key at .replies)
+unfolding countReplies
+opening-leaves f t r key at =
+    let c = createdOf (t .sessions) (t .streams) (f .«max_clients») (r .next) in
+    record { place = refl; told = ap (λ (bytes : List ℕ). counted (f .room) (r .wrote) (length bytes)) (sym (greeting-replied c)) }
+
+opening-short : (f : Frame) (t : Tables) (r : Ran) (key at most : ℕ) → Short f most (opening f t r key at .replies)
+opening-short f t r key at most =
     let c = createdOf (t .sessions) (t .streams) (f .«max_clients») (r .next) in
     let a = one-long (opened (idOpened c)) in
     let b = ap length (greeting-replied c) in
     let n = greeting-long c in
-    record { place = refl; told = ap (λ (bytes : List ℕ). counted (f .room) (r .wrote) (length bytes)) (sym (greeting-replied c)); short = omega (arith, a, b, n); zeroth = λ _. omega (arith, a, b, n) }
+    record { short = omega (arith, a, b, n); zeroth = λ _. omega (arith, a, b, n) }
 
-acted-leaves : (f : Frame) (t : Tables) (r : Ran) (at most : ℕ) (m : Move) → Few (f .«stream_id») most m → Leaves f r at most (acted f r at m t)
-acted-leaves f t r at most m few =
-    let a = replies-most f t m in
-    let b = few .0 in
-    record { place = refl; told = refl; short = omega (arith, a, b); zeroth = λ z. let c = few .1 z in omega (arith, a, c) }
+module _ (f : Frame) (t : Rows) (h d : List ℕ) (r : Ran) (took : Taken) where
+  abbrev left : Named → Acted
+  left n = delivered n f t h d r took
 
-passed-leaves : (f : Frame) (t : Tables) (r : Ran) (at most : ℕ) → Leaves f r at most (record { ran = passed r at; tables = t; replies = [] })
-unfolding countReplies
-passed-leaves f t r at most = let a = none-long in record { place = refl; told = refl; short = omega (arith, a); zeroth = λ _. omega (arith, a) }
+  delivered-leaves : (n : Named) → Leaves f r (took .at) (left n .ran) (left n .replies)
+  delivered-leaves named.Live = record { place = refl; told = refl }
+  delivered-leaves named.NotLive = passed-leaves f r (took .at)
+  delivered-leaves (named.Refused x) = passed-leaves f r (took .at)
+
+  delivered-short : (n : Named) → Short f (listsOf (took .asked)) (left n .replies)
+  delivered-short named.Live =
+      let u = touchedIn f t in
+      let q = took .asked in
+      let m = handledMove q u d (f .«session_id») (f .«stream_id») (took .body) in
+      let a = replies-most f (left named.Live .rows .sessions) (left named.Live .rows .streams) h m in
+      let few = handled-few (q .group) q u d (f .«session_id») (f .«stream_id») (took .body) in
+      let b = few .0 in
+      record { short = omega (arith, a, b); zeroth = λ z. let c = few .1 z in omega (arith, a, c) }
+  delivered-short named.NotLive = none-short f _
+  delivered-short (named.Refused x) = none-short f _
+
+  inside-leaves : (o : Opening) → Leaves f r (took .at) (insideBy o f t h d r took .ran) (insideBy o f t h d r took .replies)
+  inside-leaves Other = delivered-leaves (namedOf (t .sessions) (f .«session_id»))
+  inside-leaves Client = passed-leaves f r (took .at)
+  inside-leaves Fragment = passed-leaves f r (took .at)
+  inside-leaves Unread = passed-leaves f r (took .at)
+
+-- ---- a rebuilt submessage (W6), where their bytes aren't at their end
+
+-- where the run is then, and its replies counted
+pub record Inside (f : Frame) (s : List ℕ) (r : Ran) (x : Acted) : Type 0 where
+  pub ahead : r .at < x .ran .at
+  pub within : x .ran .at ≤ length s
+  pub told : x .ran .wrote ≡ countReplies (f .room) (r .wrote) (x .replies)
+
+pub insides : (f : Frame) (t : Rows) (h s : List ℕ) (r : Ran) → r .at < length s → Inside f s r (insideTurned f t h s r)
+unfolding insideTurned
+insides f t h s r l = go (readAt s (r .at)) refl
+  where
+    go : (q : Parsed) → readAt s (r .at) ≡ q → Inside f s r (insideBy (takenOf q (length s) .asked .opening) f t h s r (takenOf q (length s)))
+    go (parsed.Sub m x c) e =
+        let k = inside-leaves f t h s r (takenOf (parsed.Sub m x c) (length s)) (asksOf m .opening) in
+        let said = read-says s (r .at) m x c e in
+        let p = k .place in
+        let n = said .next in
+        let w = said .within in
+        record { ahead = omega (arith, n, p); within = omega (arith, w, p); told = k .told }
+    go (parsed.Refused x) e =
+        let k = passed-leaves f r (length s) in
+        record { ahead = l; within = omega arith; told = k .told }
+
+-- where one is read, the run goes on behind it
+pub inside-at : (f : Frame) (t : Rows) (h s : List ℕ) (r : Ran) (m : Submessage) (x : Span) (c : Cursor) → readAt s (r .at) ≡ parsed.Sub m x c
+    → insideTurned f t h s r .ran .at ≡ c .at
+unfolding insideTurned
+inside-at f t h s r m x c e = rw e (inside-leaves f t h s r (takenOf (parsed.Sub m x c) (length s)) (asksOf m .opening) .place)
+
+-- ---- all rebuilt submessages
+
+goes-by : (b : Bool) (at len : ℕ) → cond b false (ltb at len) ≡ true → at < len
+goes-by true at len e = let z : _≡_ {A = ℕ} 0 1 = cc in absurd (omega arith)
+goes-by false at len e = ltb-true at len e
+
+pub goes-within : (len : ℕ) (r : Ran) → goesOn len r ≡ true → r .at < len
+goes-within len r e = goes-by (isCall (r .stop)) (r .at) len e
+
+module _ (f : Frame) (h s : List ℕ) where
+  abbrev pub finished : Ran → Rows → Acted
+  finished r t = record { ran = r; rows = t; replies = [] }
+
+  abbrev pub followed : Acted → Acted → Acted
+  followed x y = record { ran = y .ran; rows = y .rows; replies = x .replies ++ y .replies }
+
+  pub work-none : (r : Ran) (t : Rows) → workIn zero f h s r t ≡ finished r t
+  unfolding workIn
+  work-none r t = refl
+
+  pub work-one : (n : ℕ) (r : Ran) (t : Rows)
+      → workIn (suc n) f h s r t ≡ cond (goesOn (length s) r) (followed (insideTurned f t h s r) (workIn n f h s (insideTurned f t h s r .ran) (insideTurned f t h s r .rows))) (finished r t)
+  unfolding workIn
+  work-one n r t = refl
+
+  pub work-whole : (r : Ran) (t : Rows) → workAt f h s r t ≡ workIn (length s - r .at) f h s r t
+  unfolding workAt
+  work-whole r t = refl
+
+  abbrev pub workLoop : Loop Rows Acted
+  workLoop =
+      record {
+        len = length s;
+        room = f .room;
+        goes = λ r t. goesOn (length s) r;
+        turn = λ r t. insideTurned f t h s r;
+        ran = λ x. x .ran;
+        state = λ x. x .rows;
+        replies = λ x. x .replies;
+        still = finished;
+        join = followed;
+        all = λ n r t. workIn n f h s r t;
+        whole = λ r t. workAt f h s r t;
+        still-is = λ r t. (refl, refl, refl);
+        join-is = λ x y. (refl, refl, refl);
+        none-left = work-none;
+        one-more = work-one;
+        whole-is = work-whole;
+        within = λ r t e. goes-within (length s) r e;
+        ahead = λ r t e. insides f t h s r (goes-within (length s) r e) .ahead;
+        told = λ r t e. insides f t h s r (goes-within (length s) r e) .told;
+      }
+
+  pub work-end : (r : Ran) (t : Rows) → goesOn (length s) r ≡ false → workAt f h s r t ≡ finished r t
+  work-end r t e = whole-end workLoop r t e
+
+  pub work-more : (r : Ran) (t : Rows) → goesOn (length s) r ≡ true
+      → workAt f h s r t ≡ followed (insideTurned f t h s r) (workAt f h s (insideTurned f t h s r .ran) (insideTurned f t h s r .rows))
+  work-more r t e = whole-more workLoop r t e
+
+  pub work-told : (r : Ran) (t : Rows) → workAt f h s r t .ran .wrote ≡ countReplies (f .room) (r .wrote) (workAt f h s r t .replies)
+  work-told r t = whole-told workLoop r t
+
+-- what the loop of `work` keeps
+module _ (f : Frame) (h s : List ℕ) (start : Ran) (t : Rows) (out : List ℕ) (r : Ran) (t′ : Rows) (w : List ℕ) where
+  pub work-done : Left (workLoop f h s) start t out r t′ w → goesOn (length s) r ≡ false
+      → (r ≡ workAt f h s start t .ran) × (t′ .sessions ≡ workAt f h s start t .rows .sessions) × (t′ .streams ≡ workAt f h s start t .rows .streams)
+      × (t′ .objects ≡ workAt f h s start t .rows .objects) × (w ≡ putReplies (f .room) out (start .wrote) (workAt f h s start t .replies))
+  work-done left e =
+      let (a, u, b) = left-end (workLoop f h s) start t out r t′ w left e in
+      (a, ap (λ (z : Rows). z .sessions) u, ap (λ (z : Rows). z .streams) u, ap (λ (z : Rows). z .objects) u, b)
+
+-- ---- a FRAGMENT
+
+pub left-leaves : (o : Rebuilt) (f : Frame) (h s : List ℕ) (n : ℕ) (r : Ran) (at : ℕ) (t : Rows) → Leaves f r at (leftBy o f h s n r at t .ran) (leftBy o f h s n r at t .replies)
+left-leaves (rebuilt.Subs k) f h s n r at t = record { place = refl; told = work-told f h s (enteredRan r) t }
+left-leaves (rebuilt.Refused x) f h s n r at t = passed-leaves f r at
 
 module _ (f : Frame) (t : Tables) (d : List ℕ) (r : Ran) (took : Taken) where
-  delivered-leaves : (n : Named) → Leaves f r (took .at) (listsOf (took .asked)) (delivered n f t d r took)
-  delivered-leaves named.Live =
-      let u = rowsOf (touchedTables f t) in
-      let q = took .asked in
-      acted-leaves f _ r (took .at) (listsOf q) (handledMove q u d (f .«session_id») (f .«stream_id») (took .body)) (handled-few (q .group) q u d (f .«session_id») (f .«stream_id») (took .body))
-  delivered-leaves named.NotLive = passed-leaves f _ r (took .at) _
-  delivered-leaves (named.Refused x) = passed-leaves f _ r (took .at) _
+  fragment-leaves : Leaves f r (took .at) (fragmentTurned f t d r took .ran) (fragmentTurned f t d r took .replies)
+  unfolding fragmentTurned
+  fragment-leaves =
+      let id = f .«session_id» in
+      let u = touchedTables f t in
+      let body = partOf d (took .body) in
+      let v = gatherTables u id (took .asked .first) (took .asked .second) body in
+      let n = wholeLen (gathered (u .sessions) (u .parts) (u .lengths) (u .rebuilt) id (took .asked .first) (took .asked .second) body) in
+      let s = rebuiltPart (v .rebuilt) n in
+      left-leaves (rebuiltOf s) f (v .held) s n r (took .at) (rowsOf v)
 
-  sub-leaves : (o : Opening) → Leaves f r (took .at) (listsOf (took .asked)) (subTurned o f t d r took)
-  sub-leaves Client = opening-leaves f t r (took .asked .key) (took .at) (listsOf (took .asked))
-  sub-leaves Other = delivered-leaves (namedOf (t .sessions) (f .«session_id»))
-  sub-leaves Unread = passed-leaves f t r (took .at) _
+  sub-leaves : (o : Opening) → Leaves f r (took .at) (subTurned o f t d r took .ran) (subTurned o f t d r took .replies)
+  sub-leaves Client = opening-leaves f t r (took .asked .key) (took .at)
+  sub-leaves Fragment = fragment-leaves
+  sub-leaves Other = delivered-leaves f (rowsOf t) (t .held) d r took (namedOf (t .sessions) (f .«session_id»))
+  sub-leaves Unread = passed-leaves f r (took .at)
+
+  -- but for a FRAGMENT, whose rebuilt submessages are not bound
+  abbrev Bounded : Opening → Type 0
+  Bounded o = Short f (listsOf (took .asked)) (subTurned o f t d r took .replies)
+
+  opening-bound : Bounded Client
+  opening-bound = opening-short f t r (took .asked .key) (took .at) (listsOf (took .asked))
+
+  other-bound : Bounded Other
+  other-bound = delivered-short f (rowsOf t) (t .held) d r took (namedOf (t .sessions) (f .«session_id»))
+
+sub-short : (f : Frame) (t : Tables) (d : List ℕ) (r : Ran) (m : Submessage) (x : Span) (c : Cursor) → oneOf 0x0F (idOf m) ≡ 0
+    → let took = takenOf (parsed.Sub m x c) (length d) in Short f (listsOf (asksOf m)) (subTurned (asksOf m .opening) f t d r took .replies)
+sub-short f t d r (sub.CreateClient p) x c e = opening-bound f t d r (takenOf (parsed.Sub (sub.CreateClient p) x c) (length d))
+sub-short f t d r (sub.Create p) x c e = other-bound f t d r (takenOf (parsed.Sub (sub.Create p) x c) (length d))
+sub-short f t d r (sub.Delete p) x c e = other-bound f t d r (takenOf (parsed.Sub (sub.Delete p) x c) (length d))
+sub-short f t d r (sub.Status p) x c e = other-bound f t d r (takenOf (parsed.Sub (sub.Status p) x c) (length d))
+sub-short f t d r (sub.WriteData p) x c e = other-bound f t d r (takenOf (parsed.Sub (sub.WriteData p) x c) (length d))
+sub-short f t d r (sub.ReadData p) x c e = other-bound f t d r (takenOf (parsed.Sub (sub.ReadData p) x c) (length d))
+sub-short f t d r (sub.Data p) x c e = other-bound f t d r (takenOf (parsed.Sub (sub.Data p) x c) (length d))
+sub-short f t d r (sub.Heartbeat p) x c e = other-bound f t d r (takenOf (parsed.Sub (sub.Heartbeat p) x c) (length d))
+sub-short f t d r (sub.Acknack p) x c e = other-bound f t d r (takenOf (parsed.Sub (sub.Acknack p) x c) (length d))
+sub-short f t d r (sub.Fragment p) x c e = absurd (omega (arith, e))
 
 -- ---- a turn, where the datagram isn't at its end
 
--- where the run is then; its replies, which are short on stream 0 whatever was read
+-- where the run is then; its replies, which are short on stream 0 whatever was read but a FRAGMENT
 pub record Turns (f : Frame) (d : List ℕ) (r : Ran) (x : Turned) : Type 0 where
   pub ahead : r .at < x .ran .at
   pub within : x .ran .at ≤ length d
   pub told : x .ran .wrote ≡ countReplies (f .room) (r .wrote) (x .replies)
-  pub short : length (joinedReplies (x .replies)) ≤ 12 + 16384 * asksAt d (r .at)
-  pub zeroth : f .«stream_id» ≡ 0 → length (joinedReplies (x .replies)) ≤ 12
+  pub short : oneOf 0x0F (getD d (r .at) 0) ≡ 0 → length (joinedReplies (x .replies)) ≤ 12 + 16384 * oneOf 0x0E (getD d (r .at) 0)
+  pub zeroth : oneOf 0x0F (getD d (r .at) 0) ≡ 0 → f .«stream_id» ≡ 0 → length (joinedReplies (x .replies)) ≤ 12
 
 pub turns : (f : Frame) (t : Tables) (d : List ℕ) (r : Ran) → r .at < length d → Turns f d r (turned f t d r)
 unfolding turned
@@ -304,16 +478,18 @@ turns f t d r h = go (readAt d (r .at)) refl
         let p = l .place in
         let n = k .next in
         let w = k .within in
+        let b : oneOf 0x0F (getD d (r .at) 0) ≡ 0 → Short f (listsOf (asksOf m)) (turnedBy (parsed.Sub m x c) f t d r .replies) = λ z. sub-short f t d r m x c (ap (oneOf 0x0F) (sym (k .own)) ∙ z) in
         record {
           ahead = omega (arith, n, p);
           within = omega (arith, w, p);
           told = l .told;
-          short = subst (λ (most : ℕ). length (joinedReplies (turnedBy (parsed.Sub m x c) f t d r .replies)) ≤ 12 + 16384 * most) (lists-own m ∙ ap asksAgain (sym (k .own))) (l .short);
-          zeroth = l .zeroth;
+          short = λ z. subst (λ (most : ℕ). length (joinedReplies (turnedBy (parsed.Sub m x c) f t d r .replies)) ≤ 12 + 16384 * most) (lists-own m ∙ ap (oneOf 0x0E) (sym (k .own))) (b z .short);
+          zeroth = λ z. b z .zeroth;
         }
     go (parsed.Refused x) e =
-        let l = passed-leaves f t r (length d) (asksAt d (r .at)) in
-        record { ahead = h; within = omega arith; told = l .told; short = l .short; zeroth = l .zeroth }
+        let l = passed-leaves f r (length d) in
+        let b = none-short f (oneOf 0x0E (getD d (r .at) 0)) in
+        record { ahead = h; within = omega arith; told = l .told; short = λ _. b .short; zeroth = λ _. b .zeroth }
 
 -- where a submessage is read, the run goes on behind it
 pub turned-at : (f : Frame) (t : Tables) (d : List ℕ) (r : Ran) (m : Submessage) (x : Span) (c : Cursor) → readAt d (r .at) ≡ parsed.Sub m x c

@@ -78,7 +78,8 @@ module _ (s : List ℕ) where
       (either InParsed (eqb id 0x09) _ _ tt
       (either InParsed (eqb id 0x0D) _ _ tt
       (either InParsed (eqb id 0x0E) _ _ tt
-      (record { least = omega arith; most = omega arith })))))))))
+      (either InParsed (eqb id 0x0F) _ _ tt
+      (record { least = omega arith; most = omega arith }))))))))))
 
   payload-wire : (id p len : ℕ) → InParsed (payloadAt s id p len)
   unfolding payloadAt

@@ -5,6 +5,7 @@ use mathlib.Core.List.{List}
 use lib.Dec.{ltb}
 use lib.ListN.{getD, set, take, replicate}
 use Rattle.codec.specs.Bytes.{putBytes}
+use Rattle.sessions.specs.declared.sending.Stretch.{Stretch}
 use Rattle.agent.specs.declared.dry.SessionCopy.{SessionCopy}
 use Rattle.agent.specs.declared.dry.StreamCopy.{StreamCopy}
 use Rattle.agent.specs.declared.dry.BufferCopy.{BufferCopy}
@@ -17,7 +18,7 @@ abbrev pub sessionBack : SessionCopy → List ℕ
 sessionBack c = c .0
 
 abbrev pub noSession : SessionCopy
-noSession = sessionCopy (replicate 6 0)
+noSession = sessionCopy (replicate 8 0)
 
 abbrev pub streamCopy : List ℕ → StreamCopy
 streamCopy row = record { 0 = row }
@@ -52,9 +53,14 @@ unfoldable pub restored : {A B : Type 0} → (B → A) → B → (ℕ → ℕ) �
 restored back none spot zero from to = to
 restored back none spot (suc k) from to = set (restored back none spot k from to) (spot k) (back (getD from k none))
 
--- the buffer of a stream is at most 16,384 bytes: it is copied to the start of so many, and the first n of them go back
+-- a part of a store of bytes is at most 32,768 of them: it is copied to the start of so many, and the first n of them go back; so are the lengths of
+-- fragments, at most 64
 abbrev pub bufferCopy : List ℕ → BufferCopy
-bufferCopy bytes = record { 0 = putBytes (replicate 16384 0) 0 bytes }
+bufferCopy bytes = record { 0 = putBytes (replicate 32768 0) 0 bytes }
 
 abbrev pub bufferBack : BufferCopy → ℕ → List ℕ
 bufferBack c n = take n (c .0)
+
+-- where rebuilt bytes stand in what is lent for them
+abbrev pub rebuiltPlace : Stretch
+rebuiltPlace = record { start = 0; end = 32768 }

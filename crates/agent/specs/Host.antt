@@ -22,10 +22,10 @@ use Rattle.sessions.specs.declared.table.Got.the-variants as got
 use Rattle.sessions.specs.declared.table.Named.{Named}
 use Rattle.sessions.specs.declared.table.Named.the-variants as named
 use Rattle.agent.specs.Step.{Reply, joinedReplies}
-use Rattle.moves.specs.Rows.{noObject}
-use Rattle.agent.specs.Run.{Turned, runAt}
+use Rattle.moves.specs.Rows.{Rows, rows, noObject}
+use Rattle.agent.specs.Run.{Turned, Acted, before, runAt, workAt, leftActed, withActed}
 use Rattle.moves.specs.Answers.{keepsOf, saysOf}
-use Rattle.agent.specs.Lent.{lent}
+use Rattle.agent.specs.Lent.{lent, rowsOf, rebuiltPart}
 use Rattle.agent.specs.Answered.{saysFits, sequenceOf, saysBytes, answeredBy, answeredSessions, answeredObjects, answeredStreams, answeredHeld}
 use Rattle.agent.specs.Judge.{judgeOf, recordSound}
 use Rattle.agent.specs.declared.agent.AgentSetUp.{AgentSetUp}
@@ -95,21 +95,34 @@ abbrev pub toldBy : Resumes → Told
 toldBy resumes.Nothing = record { keeps = keeps.Nothing; says = says.Status Ok; number = noObject }
 toldBy (resumes.Answer number task a) = record { keeps = keepsOf number task a; says = saysOf task a; number = number }
 
-abbrev pub begunTables : Start → Tables → List ℕ → Tables
-begunTables x t sample =
-    lent (begunSessions (x .resumes) (t .sessions) (t .objects) (x .frame)) (begunStreams (x .resumes) (t .sessions) (t .streams) (t .held) (x .frame) sample)
-    (begunObjects (x .resumes) (t .sessions) (t .objects) (x .frame)) (begunHeld (x .resumes) (t .sessions) (t .streams) (t .held) (x .frame) sample)
+abbrev pub rowsBegun : Start → Rows → List ℕ → List ℕ → Rows
+rowsBegun x t h sample =
+    rows (begunSessions (x .resumes) (t .sessions) (t .objects) (x .frame)) (begunStreams (x .resumes) (t .sessions) (t .streams) h (x .frame) sample) (begunObjects (x .resumes) (t .sessions) (t .objects) (x .frame))
+
+abbrev pub heldBegun : Start → Rows → List ℕ → List ℕ → List ℕ
+heldBegun x t h sample = begunHeld (x .resumes) (t .sessions) (t .streams) h (x .frame) sample
 
 abbrev pub firstRan : Start → ℕ → Ran
-firstRan x wrote = record { next = x .next; at = x .at; wrote = wrote; stop = stop.Nothing }
+firstRan x wrote = record { next = x .next; at = x .«left_at»; wrote = wrote; stop = stop.Nothing }
 
-abbrev pub behind : List Reply → Turned → Turned
-behind rs y = record { ran = y .ran; tables = y .tables; replies = rs ++ y .replies }
+abbrev pub behind : List Reply → Acted → Acted
+behind rs y = record { ran = y .ran; rows = y .rows; replies = rs ++ y .replies }
+
+-- the answer's part, and the rebuilt submessages that waited for it (W6)
+unfoldable pub resumedActed : Start → Rows → List ℕ → List ℕ → List ℕ → Acted
+resumedActed x t h rebuilt sample =
+    let rs = begunBy (x .resumes) (t .sessions) (t .streams) (x .frame) sample in
+    behind rs
+    (leftActed (workAt (x .frame) (heldBegun x t h sample) (rebuiltPart rebuilt (x .«left_end»)) (firstRan x (length (joinedReplies rs))) (rowsBegun x t h sample)) (x .«left_end») (x .at))
+
+abbrev pub withHeld : Tables → List ℕ → Tables
+withHeld t h = lent (t .sessions) (t .streams) (t .objects) h (t .parts) (t .lengths) (t .rebuilt)
+
+abbrev pub resumed : Start → Tables → List ℕ → Turned
+resumed x t sample = withActed (withHeld t (heldBegun x (rowsOf t) (t .held) sample)) (resumedActed x (rowsOf t) (t .held) (t .rebuilt) sample)
 
 unfoldable pub performed : Start → Tables → List ℕ → List ℕ → Turned
-performed x t d sample =
-    let rs = begunBy (x .resumes) (t .sessions) (t .streams) (x .frame) sample in
-    behind rs (runAt (x .frame) d (firstRan x (length (joinedReplies rs))) (begunTables x t sample))
+performed x t d sample = before (resumed x t sample) (λ r t′. runAt (x .frame) d r t′)
 
 -- 12 and 14 have refused a longer sample
 abbrev pub resumesFit : Resumes → ℕ → ℕ → Bool
@@ -131,24 +144,34 @@ abbrev pub firstMost : Resumes → ℕ → ℕ
 firstMost resumes.Nothing n = 0
 firstMost (resumes.Answer number task a) n = answerMost a n
 
+abbrev pub oneOf : ℕ → ℕ → ℕ
+oneOf id b = cond (eqb b id) 1 0
+
+-- how many of an id there are from a place of the datagram on. "Submessage: id, flags (a byte each), length (2), payload": the next begins behind the payload.
+unfoldable pub idsIn : ℕ → ℕ → List ℕ → ℕ → ℕ
+idsIn id zero d at = 0
+idsIn id (suc left) d at = cond (ltb (length d) (at + 4)) 0 (oneOf id (getD d at 0) + idsIn id left d (at + 4 + wordAt d (at + 2)))
+
+abbrev pub idsAt : ℕ → List ℕ → ℕ → ℕ
+idsAt id d at = idsIn id (length d - at) d at
+
 -- 0x0E ACKNACK
-abbrev pub asksAgain : ℕ → ℕ
-asksAgain id = cond (eqb id 0x0E) 1 0
-
--- how many there are from a place of the datagram on. "Submessage: id, flags (a byte each), length (2), payload": the next begins behind the payload.
-unfoldable pub acknacksIn : ℕ → List ℕ → ℕ → ℕ
-acknacksIn zero d at = 0
-acknacksIn (suc left) d at = cond (ltb (length d) (at + 4)) 0 (asksAgain (getD d at 0) + acknacksIn left d (at + 4 + wordAt d (at + 2)))
-
 abbrev pub asksIn : Start → List ℕ → ℕ
-asksIn x d = cond (eqb (x .frame .«stream_id») 0) 0 (acknacksIn (length d - x .at) d (x .at))
+asksIn x d = cond (eqb (x .frame .«stream_id») 0) 0 (idsAt 0x0E d (x .at))
 
-abbrev pub roomy : ℕ → Start → ℕ → List ℕ → ℕ → Bool
-roomy room x n d sample =
+-- W6: rebuilt submessages are not bound: neither those that wait, nor what a FRAGMENT, 0x0F, may bring
+abbrev pub unbound : Start → List ℕ → Bool
+unbound x d = cond (eqb (x .«left_at») (x .«left_end»)) (ltb 0 (idsAt 0x0F d (x .at))) true
+
+abbrev pub bounded : ℕ → Start → ℕ → List ℕ → ℕ → Bool
+bounded room x n d sample =
     let first = firstMost (x .resumes) sample in
     let left = room - first in
     let most = (left - 12 * n) / 16384 in
     cond (ltb room first) false (cond (ltb (left / 12) n) false (cond (leb n most) true (leb (asksIn x d) most)))
+
+abbrev pub roomy : ℕ → Start → ℕ → List ℕ → ℕ → Bool
+roomy room x n d sample = cond (unbound x d) false (bounded room x n d sample)
 
 abbrev pub neededOf : Bool → ℕ → ℕ
 neededOf true n = 0
@@ -157,11 +180,14 @@ neededOf false n = n
 abbrev pub outcomeOf : Stop → ℕ → Outcome
 outcomeOf stop.Nothing wrote = Replied wrote
 outcomeOf (stop.Call number task call) wrote = Called call wrote
+outcomeOf (stop.Inside number task call a e) wrote = Called call wrote
 
 abbrev pub waitsOf : Frame → Stop → ℕ → Waiting
 waitsOf f stop.Nothing at = waiting.Nothing
 waitsOf f (stop.Call number task call) at =
-    waiting.Call (record { «session_id» = f .«session_id»; «stream_id» = f .«stream_id»; number = number; task = task; at = at; time = f .time })
+    waiting.Call (record { «session_id» = f .«session_id»; «stream_id» = f .«stream_id»; number = number; task = task; at = at; time = f .time; «left_at» = 0; «left_end» = 0 })
+waitsOf f (stop.Inside number task call a e) at =
+    waiting.Call (record { «session_id» = f .«session_id»; «stream_id» = f .«stream_id»; number = number; task = task; at = at; time = f .time; «left_at» = a; «left_end» = e })
 
 abbrev pub finishedOf : Agent → Start → Ran → Processed
 finishedOf a x r =

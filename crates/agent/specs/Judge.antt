@@ -5,6 +5,9 @@ use mathlib.Core.List.{List, []}
 use lib.Dec.{eqb, ltb}
 use lib.ListN.{length, getD}
 use Rattle.codec.specs.Reading.{countAt, checkOf}
+use Rattle.codec.specs.Rebuilt.{rebuiltAt}
+use Rattle.codec.specs.declared.rebuilt.Rebuilt.{Rebuilt}
+use Rattle.codec.specs.declared.rebuilt.Rebuilt.the-variants as rebuilt
 use Rattle.codec.specs.declared.header.MessageHeader.{MessageHeader}
 use Rattle.codec.specs.declared.reading.Checked.{Checked}
 use Rattle.codec.specs.declared.reading.Checked.the-variants as checked
@@ -16,6 +19,7 @@ use Rattle.sessions.specs.Sending.{dataSlot}
 use Rattle.sessions.specs.View.{Tables}
 use Rattle.sessions.specs.declared.limits.Limits.{Limits}
 use Rattle.sessions.specs.declared.limits.Limits.the-variants as limits
+use Rattle.agent.specs.Lent.{rebuiltPart}
 use Rattle.moves.specs.Calls.{fits}
 use Rattle.moves.specs.Proxy.{answerAs, taskAs}
 use Rattle.agent.specs.declared.state.Agent.{Agent}
@@ -75,7 +79,7 @@ soundOf a (limits.Refused r) = false
 
 abbrev pub datagramStart : Agent → ℕ → MessageHeader → ℕ → Start
 datagramStart a time h room =
-    record { frame = record { «max_clients» = a .«max_clients»; time = time; «session_id» = h .«session_id»; «stream_id» = h .«stream_id»; room = room }; next = a .next; at = 4; resumes = resumes.Nothing }
+    record { frame = record { «max_clients» = a .«max_clients»; time = time; «session_id» = h .«session_id»; «stream_id» = h .«stream_id»; room = room }; next = a .next; at = 4; «left_at» = 0; «left_end» = 0; resumes = resumes.Nothing }
 
 abbrev pub checkedJudged : Agent → ℕ → ℕ → Checked → Judged
 checkedJudged a time room (checked.Message h n) = Goes (datagramStart a time h room) n
@@ -115,7 +119,7 @@ slotOf (turn.Refused r) s x held n = slot.Nowhere
 -- the submessages behind the call's own, in the datagram lent again, with the time and the header that it had
 abbrev pub answerStart : Agent → Pending → BridgeAnswer → ℕ → Start
 answerStart a p b room =
-    record { frame = record { «max_clients» = a .«max_clients»; time = p .time; «session_id» = p .«session_id»; «stream_id» = p .«stream_id»; room = room }; next = a .next; at = p .at; resumes = resumes.Answer (p .number) (p .task) b }
+    record { frame = record { «max_clients» = a .«max_clients»; time = p .time; «session_id» = p .«session_id»; «stream_id» = p .«stream_id»; room = room }; next = a .next; at = p .at; «left_at» = p .«left_at»; «left_end» = p .«left_end»; resumes = resumes.Answer (p .number) (p .task) b }
 
 abbrev pub placedJudged : Slot → Judged → Judged
 placedJudged (slot.At i) j = j
@@ -129,27 +133,37 @@ restJudged a p b sample place room (checked.Refused r) = Refused OverLimit
 abbrev pub headerOf : Pending → MessageHeader
 headerOf p = record { «session_id» = p .«session_id»; «stream_id» = p .«stream_id»; «sequence_nr» = 0 }
 
+-- W6: rebuilt bytes, at most 32,768, read from the call's place to their end too, and none of them was barred
+abbrev pub isRead : Rebuilt → Bool
+isRead (rebuilt.Subs n) = true
+isRead (rebuilt.Refused r) = false
+
+abbrev pub leftKept : List ℕ → Pending → Bool
+leftKept left p = cond (ltb 32768 (p .«left_end»)) false (cond (ltb (length left) (p .«left_at»)) false (isRead (rebuiltAt left (p .«left_at»))))
+
 -- "A datagram whose bridge call is open may be lent again with the answer": it reads from the call's place to its end, else 16
-abbrev pub answerJudged : List ℕ → Agent → Limits → Pending → BridgeAnswer → ℕ → Slot → ℕ → Judged
-answerJudged d a l p b sample place room =
+abbrev pub answerJudged : List ℕ → List ℕ → Agent → Limits → Pending → BridgeAnswer → ℕ → Slot → ℕ → Judged
+answerJudged d rebuilt a l p b sample place room =
     cond (soundOf a l)
+    (cond (leftKept (rebuiltPart rebuilt (p .«left_end»)) p)
     (cond (ltb (length d) (p .at)) (Refused OverLimit) (restJudged a p b sample place room (countAt (headerOf p) d (p .at))))
+    (Refused OverLimit))
     (Refused OverLimit)
 
-abbrev pub judgedBy : List ℕ → Agent → Limits → Turn → ℕ → Slot → ℕ → Judged
-judgedBy d a l (turn.Datagram time) sample place room = datagramJudged d a l time room
-judgedBy d a l (turn.Answer p b) sample place room = answerJudged d a l p b sample place room
-judgedBy d a l (turn.Refused r) sample place room = Refused r
+abbrev pub judgedBy : List ℕ → List ℕ → Agent → Limits → Turn → ℕ → Slot → ℕ → Judged
+judgedBy d rebuilt a l (turn.Datagram time) sample place room = datagramJudged d a l time room
+judgedBy d rebuilt a l (turn.Answer p b) sample place room = answerJudged d rebuilt a l p b sample place room
+judgedBy d rebuilt a l (turn.Refused r) sample place room = Refused r
 
 -- with the length of a sample, and the output's
 unfoldable pub judgeOf : Tables → List ℕ → Agent → Input → ℕ → ℕ → Judged
 judgeOf t d a i sample room =
     let x = turnOf (a .waits) i in
-    judgedBy d a (limitsOf (t .sessions) (t .streams) (t .objects) (length (t .held)) (a .«max_clients») (sessionOf d x) (streamOf d x)) x sample (slotOf x (t .sessions) (t .streams) (length (t .held)) sample) room
+    judgedBy d (t .rebuilt) a (limitsOf (t .sessions) (t .streams) (t .objects) (length (t .held)) (length (t .parts)) (t .lengths) (length (t .rebuilt)) (a .«max_clients») (sessionOf d x) (streamOf d x)) x sample (slotOf x (t .sessions) (t .streams) (length (t .held)) sample) room
 
 -- a start or a refusal, as the code takes them apart
 abbrev pub noStart : Start
-noStart = record { frame = record { «max_clients» = 0; time = 0; «session_id» = 0; «stream_id» = 0; room = 0 }; next = 0; at = 0; resumes = resumes.Nothing }
+noStart = record { frame = record { «max_clients» = 0; time = 0; «session_id» = 0; «stream_id» = 0; room = 0 }; next = 0; at = 0; «left_at» = 0; «left_end» = 0; resumes = resumes.Nothing }
 
 abbrev pub partsOf : Judged → Parts
 partsOf (Goes x n) = record { goes = true; start = x; count = n; why = OverLimit }

@@ -6,10 +6,13 @@ pub mod Follows
 pub mod TakeDown
 pub mod RulesStreams
 pub mod RulesAnswers
+pub mod Brings
+pub mod RulesFragments
 pub mod Rules
 pub mod Step
 pub mod Claim
 pub mod Repeats
+pub mod Fragments
 pub mod Place
 pub mod Lent
 pub mod Whole

@@ -1,4 +1,4 @@
--- What the rules do to the tables of the one-session machine: its id, key, last activity, objects and streams (sessions' `Local`).
+-- What the rules do to the tables of the one-session machine: its id, key, last activity, objects, streams and fragments (sessions' `Local`).
 use Prim.Native.Nat.{ℕ}
 use mathlib.Core.Bool.{Bool, false}
 use mathlib.Core.Option.{Option, none, some}
@@ -6,16 +6,17 @@ use mathlib.Core.List.{List}
 use lib.Dec.{leb}
 use lib.ListN.{length}
 use Rattle.streams.specs.View.{acknackIn, sentIn}
+use Rattle.sessions.specs.FragmentStore.{FragmentStore}
 use Rattle.sessions.specs.View.{Entry, KeptStream, Local, findIn, putIn, dropIn, streamIn, openIn, writeIn}
 
 -- "The time becomes the last activity"
 abbrev pub touched : ℕ → Local → Local
-touched time l = record { id = l .id; key = l .key; last = time; objects = l .objects; streams = l .streams }
+touched time l = record { id = l .id; key = l .key; last = time; objects = l .objects; streams = l .streams; store = l .store }
 
 -- ---- objects
 
 abbrev pub withObjects : Local → List Entry → Local
-withObjects l es = record { id = l .id; key = l .key; last = l .last; objects = es; streams = l .streams }
+withObjects l es = record { id = l .id; key = l .key; last = l .last; objects = es; streams = l .streams; store = l .store }
 
 -- "lists its object with the handle returned or none, in place of one of that number", and (W1) with its CREATE's parent number
 abbrev pub listing : ℕ → ℕ → Option ℕ → ℕ → Local → Local
@@ -44,7 +45,7 @@ handleAt number l = entryHandle (findIn (l .objects) number)
 -- ---- streams
 
 abbrev pub withStreams : Local → List KeptStream → Local
-withStreams l ss = record { id = l .id; key = l .key; last = l .last; objects = l .objects; streams = ss }
+withStreams l ss = record { id = l .id; key = l .key; last = l .last; objects = l .objects; streams = ss; store = l .store }
 
 -- "both HEARTBEAT and ACKNACK open their stream"; "A session holds .. 8 streams, stream 0 included": a ninth isn't opened
 abbrev pub opening : ℕ → Local → Local
@@ -61,3 +62,8 @@ acknowledging n first l = withStreams l (acknowledgedBy first (streamIn (l .stre
 -- W5: a message "takes the next send sequence .. and is held", on its stream
 abbrev pub sending : List ℕ → KeptStream → Local → Local
 sending bytes k l = withStreams l (writeIn (l .streams) (sentIn bytes k))
+
+-- ---- fragments
+
+abbrev pub withStore : Local → FragmentStore → Local
+withStore l st = record { id = l .id; key = l .key; last = l .last; objects = l .objects; streams = l .streams; store = st }

@@ -8,20 +8,66 @@ use mathlib.Core.List.{List, [], _∷_, _++_, map, List·Memᴰ}
 use lib.Dec.{eqb}
 use lib.ListN.{length}
 use Rattle.codec.specs.declared.submessages.Submessage.{Submessage}
-use Rattle.codec.specs.declared.submessages.Submessage.the-variants.{CreateClient, Create, Delete, Status, WriteData, ReadData, Data, Heartbeat, Acknack}
+use Rattle.codec.specs.declared.submessages.Submessage.the-variants.{CreateClient, Create, Delete, Status, WriteData, ReadData, Data, Heartbeat, Acknack, Fragment}
 use Rattle.streams.specs.View.{acknackIn, repeatedIn}
 use Rattle.streams.specs.Repeats.{Event, sent, acknacked, streamAfter, dataOf, numberOf, AskedLast, RepeatsAsSent}
 use Rattle.isolation.specs.Rules.{Bytes, done, calls}
 use Rattle.isolation.specs.Machine.{Action, handles, resumes}
 use Rattle.isolation.specs.Claim as claim
 use Rattle.sessions.specs.View.{KeptStream, Local, streamIn}
-use Rattle.moves.specs.Calls.{Answer, created, succeeded, sample, noSample, failed, Task, creating, deleting, writing, reading}
+use Rattle.moves.specs.Calls.{Pending, Answer, created, succeeded, sample, noSample, failed, Task, creating, deleting, writing, reading}
 use Rattle.moves.specs.Replies.{dataBytes}
+use Rattle.agent.specs.Brings.{In}
 use Rattle.agent.specs.RulesObjects.{Move}
 use Rattle.agent.specs.RulesAnswers.{onAnswer}
-use Rattle.agent.specs.Rules.{handle, rules, began}
+use Rattle.agent.specs.RulesFragments.{plain, brought, gathering}
+use Rattle.agent.specs.Rules.{rules}
 
--- the replies of a rule at work
+-- ---- what a rule at work works off
+
+-- one submessage as it stands, or an answer to one, with the tables before it
+pub data Work : Type 0 where
+  does : Local → In → Work
+  hears : Local → Pending → Answer → Work
+
+abbrev pub tablesOf : Work → Local
+tablesOf (does l i) = l
+tablesOf (hears l p a) = l
+
+abbrev pub moveOf : Work → Move
+moveOf (does l i) = plain l i
+moveOf (hears l p a) = onAnswer l p a
+
+-- W6: the rebuilt submessages behind a move, one behind the other, until one hands out a call
+unfoldable pub worksOnto : List In → Move → List Work
+worksOnto [] m = []
+worksOnto (i ∷ is) (done l rs) = does l i ∷ worksOnto is (plain l i)
+worksOnto (i ∷ is) (calls l rs c p) = []
+
+-- those that a FRAGMENT brings; any other submessage brings none
+abbrev pub rebuiltBy : Submessage → In → Local → List Work
+rebuiltBy (Fragment p) i l = worksOnto (brought p i l) (done (gathering p i l) [])
+rebuiltBy (CreateClient p) i l = []
+rebuiltBy (Create p) i l = []
+rebuiltBy (Delete p) i l = []
+rebuiltBy (Status p) i l = []
+rebuiltBy (WriteData p) i l = []
+rebuiltBy (ReadData p) i l = []
+rebuiltBy (Data p) i l = []
+rebuiltBy (Heartbeat p) i l = []
+rebuiltBy (Acknack p) i l = []
+
+module _ (timeout : ℕ) where
+  -- the submessage or the answer, then the rebuilt ones behind it
+  abbrev pub worksOf : Action (rules timeout) → List Work
+  worksOf (handles l i) = does l i ∷ rebuiltBy (i .fields) i l
+  worksOf (resumes l p a) = hears l (p .asked) a ∷ worksOnto (p .left) (onAnswer l (p .asked) a)
+
+  abbrev pub worksIn : List (Action (rules timeout)) → List Work
+  worksIn [] = []
+  worksIn (d ∷ ds) = worksOf d ++ worksIn ds
+
+-- the replies of a move
 abbrev pub repliesOf : Move → List Bytes
 repliesOf (done l rs) = rs
 repliesOf (calls l rs c p) = rs
@@ -37,6 +83,7 @@ acknackOf (ReadData p) = none
 acknackOf (Data p) = none
 acknackOf (Heartbeat p) = none
 acknackOf (Acknack p) = some (p .«first_unacked_seq», p .«nack_bitmap»)
+acknackOf (Fragment p) = none
 
 -- the sample that answers a READ_DATA: its reply is DATA
 abbrev pub sampleOf : Task → Answer → Option (List ℕ)
@@ -69,7 +116,7 @@ abbrev pub sends : Option (List ℕ) → List Bytes → List (Event Bytes)
 sends none rs = []
 sends (some d) rs = map sent rs
 
--- ---- what is right of a rule at work, on a stream n other than 0 to which es came before
+-- ---- what is right of a work, on a stream n other than 0 to which es came before
 
 -- "An ACKNACK is answered by the listed messages, byte for byte, in bit order": its replies are what the stream then holds of them, and each is
 -- the last DATA reply, of all that were sent on the stream, under a number that the bitmap asks for
@@ -89,40 +136,32 @@ Sent (some d) id n number es rs = rs ≡ dataBytes id n (numberOf (length (dataO
 abbrev pub Tabled : Came → Local → Type 0
 Tabled g l = (n : ℕ) → n ≢ 0 → (k : KeptStream) → streamIn (l .streams) n ≡ some k → k ≡ streamAfter n (g n)
 
+-- what has come behind a work
+abbrev pub behind : Work → Came → Came
+behind (does l i) g = adding (i .stream) (asksAgain (acknackOf (i .fields))) g
+behind (hears l p a) g = adding (p .stream) (sends (sampleOf (p .task) a) (repliesOf (onAnswer l p a))) g
+
+abbrev pub Right : ℕ → Came → Work → Type 0
+Right id g (does l i) = i .stream ≢ 0 → Repeated (acknackOf (i .fields)) (i .stream) (g (i .stream)) (repliesOf (plain l i))
+Right id g (hears l p a) = p .stream ≢ 0 → Sent (sampleOf (p .task) a) id (p .stream) (p .number) (g (p .stream)) (repliesOf (onAnswer l p a))
+
+-- so it is of all, one behind the other; g is what came so far to the streams of session id
+abbrev pub AllRepeated : ℕ → Came → List Work → Type 0
+AllRepeated id g [] = Unit {0}
+AllRepeated id g (w ∷ ws) = Tabled g (tablesOf w) × Right id g w × AllRepeated id (behind w g) ws
+
+abbrev pub allReplies : List Work → List Bytes
+allReplies [] = []
+allReplies (w ∷ ws) = repliesOf (moveOf w) ++ allReplies ws
+
 module _ (timeout : ℕ) where
-  -- a rule at work with the tables before it
-  abbrev pub Act : Type 0
-  Act = Action (rules timeout)
-
-  abbrev pub moveOf : Act → Move
-  moveOf (handles l i) = handle l i
-  moveOf (resumes l p a) = onAnswer l p a
-
-  -- what has come behind it
-  abbrev pub behind : Act → Came → Came
-  behind (handles l i) g = adding (i .stream) (asksAgain (acknackOf (i .fields))) g
-  behind (resumes l p a) g = adding (p .stream) (sends (sampleOf (p .task) a) (repliesOf (onAnswer l p a))) g
-
-  abbrev pub Right : ℕ → Came → Act → Type 0
-  Right id g (handles l i) = i .stream ≢ 0 → Repeated (acknackOf (i .fields)) (i .stream) (g (i .stream)) (repliesOf (handle l i))
-  Right id g (resumes l p a) = p .stream ≢ 0 → Sent (sampleOf (p .task) a) id (p .stream) (p .number) (g (p .stream)) (repliesOf (onAnswer l p a))
-
-  -- so it is of all, one behind the other; g is what came so far to the streams of session id
-  abbrev pub AllRepeated : ℕ → Came → List Act → Type 0
-  AllRepeated id g [] = Unit {0}
-  AllRepeated id g (d ∷ ds) = Tabled g (began timeout d) × Right id g d × AllRepeated id (behind d g) ds
-
-  abbrev pub allReplies : List Act → List Bytes
-  allReplies [] = []
-  allReplies (d ∷ ds) = repliesOf (moveOf d) ++ allReplies ds
-
   -- W5 of an agent, for every list H of the host's calls and every session opened in H
   pub record RepeatsRight (A : claim.Agent (rules timeout)) : Type 0 where
-    -- the agent's replies to the session are those of its rules at work, one behind the other
+    -- the agent's replies to the session are those of its rules at work, one behind the other, those of rebuilt submessages too
     pub replies : (H : List (A .Event)) (S : claim.Session (rules timeout) A H)
-        → claim.of-agent (rules timeout) A S .replies ≡ allReplies (claim.of-machine (rules timeout) A S .actions)
+        → claim.of-agent (rules timeout) A S .replies ≡ allReplies (worksIn timeout (claim.of-machine (rules timeout) A S .actions))
     -- of these each DATA reply and each answer to an ACKNACK is right
-    pub repeated : (H : List (A .Event)) (S : claim.Session (rules timeout) A H) → AllRepeated (S .id) nothingYet (claim.of-machine (rules timeout) A S .actions)
+    pub repeated : (H : List (A .Event)) (S : claim.Session (rules timeout) A H) → AllRepeated (S .id) nothingYet (worksIn timeout (claim.of-machine (rules timeout) A S .actions))
     -- `repeated` has a stream's tables as what came to it leaves; this, of any list es of what may come, says what that is: a message is held, and
     -- so repeated when it is asked for, as it was sent, until an ACKNACK acknowledges it or its number is taken again.
     pub as-sent : (n : ℕ) (es : List (Event Bytes)) → RepeatsAsSent n es

@@ -1,12 +1,15 @@
 -- A run over the lent tables: the submessages from a place of the datagram on, until a bridge call is handed out or the end.
 use Prim.Native.Nat.{ℕ, zero, suc, _+_, _-_}
-use mathlib.Core.Bool.{Bool, true, false, cond}
+use mathlib.Core.Bool.{Bool, true, false, cond, not}
 use mathlib.Core.Option.{Option, none, some}
 use mathlib.Core.List.{List, [], _∷_, _++_, map}
 use lib.Dec.{ltb}
 use lib.ListN.{length}
 use Rattle.codec.specs.Bytes.{putBytes}
-use Rattle.codec.specs.Reading.{readAt}
+use Rattle.codec.specs.Reading.{readAt, partOf}
+use Rattle.codec.specs.Rebuilt.{rebuiltOf}
+use Rattle.codec.specs.declared.rebuilt.Rebuilt.{Rebuilt}
+use Rattle.codec.specs.declared.rebuilt.Rebuilt.the-variants as rebuilt
 use Rattle.codec.specs.declared.layouts.Parsed.{Parsed}
 use Rattle.codec.specs.declared.layouts.Parsed.the-variants as parsed
 use Rattle.codec.specs.declared.submessages.AcknackPayload.{AcknackPayload}
@@ -15,19 +18,22 @@ use Rattle.streams.specs.Acknowledged.{repeats}
 use Rattle.sessions.specs.Table.{namedOf, touchedRows}
 use Rattle.sessions.specs.Opening.{createdOf}
 use Rattle.sessions.specs.Sending.{messageOf}
-use Rattle.sessions.specs.Calls.{withSessions, createTables}
+use Rattle.sessions.specs.Fragments.{gathered}
+use Rattle.sessions.specs.Calls.{withSessions, createTables, gatherTables}
+use Rattle.sessions.specs.declared.fragments.Gathered.{Gathered}
+use Rattle.sessions.specs.declared.fragments.Gathered.the-variants as gathered
 use Rattle.sessions.specs.View.{Tables}
 use Rattle.sessions.specs.declared.opening.Created.{Created}
 use Rattle.sessions.specs.declared.opening.Created.the-variants as created
 use Rattle.sessions.specs.declared.table.Named.{Named}
 use Rattle.sessions.specs.declared.table.Named.the-variants.{Live, NotLive, Refused}
 use Rattle.moves.specs.Moves.{moveBytes}
-use Rattle.moves.specs.Rows.{asksOf, blankAsked, handledMove, handledRows}
+use Rattle.moves.specs.Rows.{Rows, rows, asksOf, blankAsked, handledMove, handledRows}
 use Rattle.moves.specs.RowsStreams.{readOf}
-use Rattle.agent.specs.Lent.{rowsOf, withRows}
+use Rattle.agent.specs.Lent.{rowsOf, withRows, rebuiltPart}
 use Rattle.agent.specs.Step.{Reply, opened, replied, bytesOf}
 use Rattle.moves.specs.declared.handle.Opening.{Opening}
-use Rattle.moves.specs.declared.handle.Opening.the-variants.{Client, Other, Unread}
+use Rattle.moves.specs.declared.handle.Opening.the-variants.{Client, Fragment, Other, Unread}
 use Rattle.moves.specs.declared.moves.Move.{Move}
 use Rattle.moves.specs.declared.moves.Move.the-variants.{Greets, Status, Acknack, Repeats, Calls, Silent}
 use Rattle.agent.specs.declared.turn.Frame.{Frame}
@@ -110,15 +116,20 @@ repliesBy f s x h (Repeats p) = map (replied (f .«session_id»)) (repeatsIn s x
 repliesBy f s x h (Calls number task call) = []
 repliesBy f s x h Silent = []
 
-abbrev pub repliesOf : Frame → Tables → Move → List Reply
-repliesOf f t m = repliesBy f (t .sessions) (t .streams) (t .held) m
+-- what a submessage leaves of the rows that it is handled over: the run so far, the rows, and its replies
+pub record Acted : Type 0 where
+  pub ran : Ran
+  pub rows : Rows
+  pub replies : List Reply
 
-abbrev pub touchedTables : Frame → Tables → Tables
-touchedTables f t = withSessions t (touchedRows (t .sessions) (f .«session_id») (f .time))
+abbrev pub touchedIn : Frame → Rows → Rows
+touchedIn f t = rows (touchedRows (t .sessions) (f .«session_id») (f .time)) (t .streams) (t .objects)
 
-abbrev pub acted : Frame → Ran → ℕ → Move → Tables → Turned
-acted f r at m t =
-    record { ran = settled (r .next) at (countReplies (f .room) (r .wrote) (repliesOf f t m)) m; tables = t; replies = repliesOf f t m }
+-- h: what is held of the messages sent
+abbrev pub acted : Frame → Ran → ℕ → Move → Rows → List ℕ → Acted
+acted f r at m t h =
+    let rs = repliesBy f (t .sessions) (t .streams) h m in
+    record { ran = settled (r .next) at (countReplies (f .room) (r .wrote) rs) m; rows = t; replies = rs }
 
 abbrev pub isLive : Named → Bool
 isLive Live = true
@@ -130,17 +141,95 @@ abbrev pub takenOf : Parsed → ℕ → Taken
 takenOf (parsed.Sub m body next) len = record { asked = asksOf m; body = body; at = next .at }
 takenOf (parsed.Refused x) len = record { asked = blankAsked Unread; body = record { start = 0; len = 0 }; at = len }
 
-abbrev pub delivered : Named → Frame → Tables → List ℕ → Ran → Taken → Turned
-delivered w f t d r x =
-    let u = touchedTables f t in
+abbrev pub delivered : Named → Frame → Rows → List ℕ → List ℕ → Ran → Taken → Acted
+delivered w f t h d r x =
+    let u = touchedIn f t in
     cond (isLive w)
-    (acted f r (x .at) (handledMove (x .asked) (rowsOf u) d (f .«session_id») (f .«stream_id») (x .body))
-    (withRows u (handledRows (x .asked) (rowsOf u) (f .«session_id») (f .«stream_id»))))
-    (record { ran = passed r (x .at); tables = u; replies = [] })
+    (acted f r (x .at) (handledMove (x .asked) u d (f .«session_id») (f .«stream_id») (x .body)) (handledRows (x .asked) u (f .«session_id») (f .«stream_id»)) h)
+    (record { ran = passed r (x .at); rows = u; replies = [] })
+
+-- ---- rebuilt submessages (W6), in bytes that the check of rebuilt bytes let through: none of them opens a session or is a FRAGMENT
+
+abbrev pub insideBy : Opening → Frame → Rows → List ℕ → List ℕ → Ran → Taken → Acted
+insideBy Other f t h s r x = delivered (namedOf (t .sessions) (f .«session_id»)) f t h s r x
+insideBy Client f t h s r x = record { ran = passed r (x .at); rows = t; replies = [] }
+insideBy Fragment f t h s r x = record { ran = passed r (x .at); rows = t; replies = [] }
+insideBy Unread f t h s r x = record { ran = passed r (x .at); rows = t; replies = [] }
+
+unfoldable pub insideTurned : Frame → Rows → List ℕ → List ℕ → Ran → Acted
+insideTurned f t h s r = let x = takenOf (readAt s (r .at)) (length s) in insideBy (x .asked .opening) f t h s r x
+
+abbrev pub isCall : Stop → Bool
+isCall stop.Nothing = false
+isCall (stop.Call number task call) = true
+isCall (stop.Inside number task call at end) = true
+
+abbrev pub goesOn : ℕ → Ran → Bool
+goesOn len r = cond (isCall (r .stop)) false (ltb (r .at) len)
+
+unfoldable pub workIn : ℕ → Frame → List ℕ → List ℕ → Ran → Rows → Acted
+workIn zero f h s r t = record { ran = r; rows = t; replies = [] }
+workIn (suc left) f h s r t =
+    cond (goesOn (length s) r)
+    (let x = insideTurned f t h s r in let y = workIn left f h s (x .ran) (x .rows) in record { ran = y .ran; rows = y .rows; replies = x .replies ++ y .replies })
+    (record { ran = r; rows = t; replies = [] })
+
+-- all from the run's place on
+unfoldable pub workAt : Frame → List ℕ → List ℕ → Ran → Rows → Acted
+workAt f h s r t = workIn (length s - r .at) f h s r t
+
+-- before the first of them, in their own bytes; and behind them, on in the datagram: a call that one of them handed out keeps the place behind it
+abbrev pub enteredRan : Ran → Ran
+enteredRan r = record { next = r .next; at = 0; wrote = r .wrote; stop = stop.Nothing }
+
+abbrev pub insideStop : Stop → ℕ → ℕ → Stop
+insideStop stop.Nothing at end = stop.Nothing
+insideStop (stop.Call number task call) at end = stop.Inside number task call at end
+insideStop (stop.Inside number task call a e) at end = stop.Inside number task call a e
+
+abbrev pub leftRan : Ran → ℕ → ℕ → Ran
+leftRan y end at = record { next = y .next; at = at; wrote = y .wrote; stop = insideStop (y .stop) (y .at) end }
+
+abbrev pub leftActed : Acted → ℕ → ℕ → Acted
+leftActed y end at = record { ran = leftRan (y .ran) end at; rows = y .rows; replies = y .replies }
+
+-- ---- a FRAGMENT: "When the last missing number comes, the store is emptied and the rebuilt bytes are read as submessages"; "On any of these no rebuilt
+-- submessage takes effect, none is answered, and the datagram's later submessages are handled."
+
+abbrev pub wholeLen : Gathered → ℕ
+wholeLen gathered.Nothing = 0
+wholeLen (gathered.Held b) = 0
+wholeLen (gathered.Whole n) = n
+
+-- s: the rebuilt bytes, n of them; at: the place behind the FRAGMENT in its datagram
+abbrev pub leftBy : Rebuilt → Frame → List ℕ → List ℕ → ℕ → Ran → ℕ → Rows → Acted
+leftBy (rebuilt.Subs k) f h s n r at t = leftActed (workAt f h s (enteredRan r) t) n at
+leftBy (rebuilt.Refused x) f h s n r at t = record { ran = passed r at; rows = t; replies = [] }
+
+abbrev pub withActed : Tables → Acted → Turned
+withActed t a = record { ran = a .ran; tables = withRows t (a .rows); replies = a .replies }
+
+abbrev pub wholeTurned : Frame → Tables → ℕ → Ran → ℕ → Turned
+wholeTurned f t n r at = let s = rebuiltPart (t .rebuilt) n in withActed t (leftBy (rebuiltOf s) f (t .held) s n r at (rowsOf t))
+
+abbrev pub touchedTables : Frame → Tables → Tables
+touchedTables f t = withSessions t (touchedRows (t .sessions) (f .«session_id») (f .time))
+
+unfoldable pub fragmentTurned : Frame → Tables → List ℕ → Ran → Taken → Turned
+fragmentTurned f t d r x =
+    let u = touchedTables f t in
+    let id = f .«session_id» in
+    let nr = x .asked .first in
+    let total = x .asked .second in
+    let body = partOf d (x .body) in
+    wholeTurned f (gatherTables u id nr total body) (wholeLen (gathered (u .sessions) (u .parts) (u .lengths) (u .rebuilt) id nr total body)) r (x .at)
+
+-- ---- any submessage of a datagram
 
 abbrev pub subTurned : Opening → Frame → Tables → List ℕ → Ran → Taken → Turned
 subTurned Client f t d r x = opening f t r (x .asked .key) (x .at)
-subTurned Other f t d r x = delivered (namedOf (t .sessions) (f .«session_id»)) f t d r x
+subTurned Fragment f t d r x = fragmentTurned f t d r x
+subTurned Other f t d r x = withActed t (delivered (namedOf (t .sessions) (f .«session_id»)) f (rowsOf t) (t .held) d r x)
 subTurned Unread f t d r x = record { ran = passed r (x .at); tables = t; replies = [] }
 
 -- the datagram was checked before, so that a submessage is always read
@@ -151,13 +240,6 @@ unfoldable pub turned : Frame → Tables → List ℕ → Ran → Turned
 turned f t d r = turnedBy (readAt d (r .at)) f t d r
 
 -- ---- all of them
-
-abbrev pub isCall : Stop → Bool
-isCall stop.Nothing = false
-isCall (stop.Call number task call) = true
-
-abbrev pub goesOn : ℕ → Ran → Bool
-goesOn len r = cond (isCall (r .stop)) false (ltb (r .at) len)
 
 abbrev pub before : Turned → (Ran → Tables → Turned) → Turned
 before x go = let y = go (x .ran) (x .tables) in record { ran = y .ran; tables = y .tables; replies = x .replies ++ y .replies }
@@ -170,3 +252,20 @@ runIn (suc left) f d r t =
 -- each submessage takes bytes, so there are no more turns than bytes left
 unfoldable pub runAt : Frame → List ℕ → Ran → Tables → Turned
 runAt f d r t = runIn (length d - r .at) f d r t
+
+-- ---- the beginning of a run, until the session that the header names is live: before that only CREATE_CLIENT does anything
+
+abbrev pub named : Frame → Tables → Bool
+named f t = isLive (namedOf (t .sessions) (f .«session_id»))
+
+unfoldable pub enterIn : ℕ → Frame → List ℕ → Ran → Tables → Turned
+enterIn zero f d r t = record { ran = r; tables = t; replies = [] }
+enterIn (suc left) f d r t =
+    cond (cond (named f t) false (goesOn (length d) r)) (before (turned f t d r) (λ r′ t′. enterIn left f d r′ t′)) (record { ran = r; tables = t; replies = [] })
+
+unfoldable pub enterAt : Frame → List ℕ → Ran → Tables → Turned
+enterAt f d r t = enterIn (length d - r .at) f d r t
+
+-- a run that has entered: its session is live, or there is nothing more to do
+abbrev pub entered : Frame → ℕ → Ran → List (List ℕ) → Bool
+entered f len r sessions = cond (isLive (namedOf sessions (f .«session_id»))) true (not (goesOn len r))

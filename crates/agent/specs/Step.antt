@@ -14,11 +14,12 @@ use Rattle.sessions.specs.Opening.{after, liveFrom}
 use Rattle.sessions.specs.Sweep.{expiredFrom}
 use Rattle.streams.specs.View.{present, manyHeld}
 use Rattle.sessions.specs.View.{KeptStream, Local, absent, expired, lapsed, streamIn}
-use Rattle.moves.specs.Calls.{Call, Answer, created, succeeded, sample, noSample, failed, Pending, fits}
+use Rattle.moves.specs.Calls as calls
+use Rattle.moves.specs.Calls.{Call, Answer, created, succeeded, sample, noSample, failed, fits}
 use Rattle.moves.specs.Replies.{clientBytes, dataBytes, dataPayload}
-use Rattle.agent.specs.RulesObjects.{Move}
-use Rattle.agent.specs.RulesAnswers.{onAnswer}
-use Rattle.agent.specs.Rules.{Opening, In, messageFrom, start, handle}
+use Rattle.agent.specs.Brings.{Opening, In, messageFrom}
+use Rattle.agent.specs.RulesFragments.{Pending, Working, handle, resumed}
+use Rattle.agent.specs.Rules.{start}
 
 -- ---- the state
 
@@ -89,13 +90,13 @@ abbrev pub keep : ℕ → Local → Tables → Tables
 keep id l t = record { next = t .next; at = withId id (some l) (t .at) }
 
 -- a session's move: its replies and on with the rest, or its call, and the rest waits
-abbrev pub act : ℕ → List (Sub Opening In) → Tables → Move → (Tables → Ran) → Ran
+abbrev pub act : ℕ → List (Sub Opening In) → Tables → Working → (Tables → Ran) → Ran
 act id rest t (done l rs) go = behind (map (replied id) rs) (go (keep id l t))
 act id rest t (calls l rs c p) go =
     record { tables = keep id l t; replies = map (replied id) rs; stop = some (c, record { session = id; pending = p; rest = rest }) }
 
 -- "No such session: no reply."
-abbrev pub deliver : ℕ → List (Sub Opening In) → Tables → Option Local → (Local → Move) → (Tables → Ran) → Ran
+abbrev pub deliver : ℕ → List (Sub Opening In) → Tables → Option Local → (Local → Working) → (Tables → Ran) → Ran
 deliver id rest t none rule go = go t
 deliver id rest t (some l) rule go = act id rest t (rule l) go
 
@@ -108,7 +109,7 @@ run max id (names i ∷ rest) t = deliver id rest t (t .at id) (λ l. handle l i
 
 -- the answer to the open call, then the submessages behind it
 abbrev pub continued : ℕ → Open → Answer → Tables → Ran
-continued max w a t = deliver (w .session) (w .rest) t (t .at (w .session)) (λ l. onAnswer l (w .pending) a) (λ t′. run max (w .session) (w .rest) t′)
+continued max w a t = deliver (w .session) (w .rest) t (t .at (w .session)) (λ l. resumed l (w .pending) a) (λ t′. run max (w .session) (w .rest) t′)
 
 -- ---- one call of the host
 
@@ -165,7 +166,7 @@ begin st out time (refusedAs number byte) = refuse st out number byte
 begin st out time (gives x) = let m = messageFrom time (x .0) (x .1) in settle st out (run (st .max) (m .header) (m .subs) (st .tables))
 
 -- 12, "payload or string over 65,535 bytes": the DATA that a sample would need
-abbrev pub tooLong : Pending → Answer → Bool
+abbrev pub tooLong : calls.Pending → Answer → Bool
 tooLong p (sample d) = ltb 65535 (length (dataPayload (p .number) d))
 tooLong p (created h) = false
 tooLong p succeeded = false
@@ -184,9 +185,9 @@ crowdedIn stream (some l) = crowded (streamIn (l .streams) stream)
 
 abbrev pub overHeld : Open → Answer → Tables → Bool
 overHeld w (sample d) t =
-    let stream = w .pending .stream in
+    let stream = w .pending .asked .stream in
     cond (eqb stream 0) false
-    (cond (ltb 1024 (length (dataBytes (w .session) stream 0 (w .pending .number) d))) true (crowdedIn stream (t .at (w .session))))
+    (cond (ltb 1024 (length (dataBytes (w .session) stream 0 (w .pending .asked .number) d))) true (crowdedIn stream (t .at (w .session))))
 overHeld w (created h) t = false
 overHeld w succeeded t = false
 overHeld w noSample t = false
@@ -218,8 +219,8 @@ stepped none st (sweep now) out =
     finish st out (withLocals st (λ i. stays (st .timeout) now (st .tables .at i))) ids (swept ids)
 stepped (some w) st (datagram time bytes) out = refuse st out 15 0
 stepped (some w) st (answer a) out =
-    cond (fits (w .pending .task) a)
-    (cond (tooLong (w .pending) a) (refuse st out 12 0)
+    cond (fits (w .pending .asked .task) a)
+    (cond (tooLong (w .pending .asked) a) (refuse st out 12 0)
     (cond (overHeld w a (st .tables)) (refuse st out 14 0) (settle st out (continued (st .max) w a (st .tables)))))
     (refuse st out 15 0)
 stepped (some w) st (removal id) out = refuse st out 15 0

@@ -4,7 +4,7 @@ use Prim.Native.Nat.{ℕ, _<_}
 use mathlib.Core.Bool.{true, false}
 use mathlib.Core.Option.{Option, none, some}
 use mathlib.Core.List.{List, []}
-use lib.Dec.{ltb}
+use lib.Dec.{eqb, ltb}
 use mathlib.Core.Bool.{cond}
 use lib.ListN.{length, take}
 use Rattle.codec.specs.Bytes.{AllBytes}
@@ -16,12 +16,14 @@ use Rattle.isolation.specs.Claim as claim
 use Rattle.sessions.specs.Setup.{setUpOf}
 use Rattle.sessions.specs.Calls.{withSessions, setUpTables}
 use Rattle.sessions.specs.View.{Tables, Local, localOf}
+use Rattle.moves.specs.Calls.{Pending as Asked}
 use Rattle.moves.specs.Proxy.{callAs, answerAs, taskAs}
 use Rattle.agent.specs.Rules.{rules}
 use Rattle.agent.specs.Step as step
 use Rattle.agent.specs.Step.{Reply}
 use Rattle.agent.specs.Claim.{hostCall, resultOf}
-use Rattle.agent.specs.Place.{subsAt}
+use Rattle.agent.specs.Lent.{rebuiltPart}
+use Rattle.agent.specs.Place.{subsAt, insAt}
 use Rattle.agent.specs.Host.{Leaves, setUpAs, incomingOf, answerOf, idleOf, removedBy, removedRows, sweptBy, sweptRows, sweptOut}
 use Rattle.agent.specs.declared.agent.AgentSetUp.{AgentSetUp}
 use Rattle.agent.specs.declared.agent.AgentSetUp.the-variants as set-up
@@ -68,9 +70,15 @@ resultBy d rs (Replied n) = step.ran rs none
 resultBy d rs (Called c n) = step.ran rs (some (callAs d c))
 resultBy d rs (Refused r) = step.refused (numberOf r) (byteOf r)
 
+-- the bytes that an open call shows parts of: the datagram's, or (W6) the rebuilt ones, in their place
+abbrev pub callBytes : Waiting → List ℕ → List ℕ → List ℕ
+callBytes waiting.Nothing d rebuilt = d
+callBytes (waiting.Call p) d rebuilt = cond (eqb (p .«left_end») 0) d (rebuiltPart rebuilt (p .«left_end»))
+
 abbrev pub didBy : List ℕ → List ℕ → Leaves → Did
 didBy d old x =
-    record { state = record { agent = x .processed .agent; tables = x .tables; lent = lentAfter (x .processed .outcome) d old }; out = x .out; result = resultBy d (x .replies) (x .processed .outcome) }
+    let shown = callBytes (x .processed .agent .waits) d (x .tables .rebuilt) in
+    record { state = record { agent = x .processed .agent; tables = x .tables; lent = lentAfter (x .processed .outcome) d old }; out = x .out; result = resultBy shown (x .replies) (x .processed .outcome) }
 
 abbrev pub removedResult : Removed → step.Result
 removedResult removed.Session = step.removed true
@@ -102,15 +110,17 @@ stepOf st (sweep time) out =
 abbrev pub sessionIn : Tables → ℕ → Option Local
 sessionIn t id = cond (ltb id 256) (localOf t id) none
 
-abbrev pub opensAs : List ℕ → Waiting → Option step.Open
-opensAs d waiting.Nothing = none
-opensAs d (waiting.Call p) =
-    some (record { session = p .«session_id»; pending = record { stream = p .«stream_id»; number = p .number .0; task = taskAs (p .task) }; rest = subsAt (p .time) (p .«stream_id») d (p .at) })
+abbrev pub opensAs : List ℕ → List ℕ → Waiting → Option step.Open
+opensAs d rebuilt waiting.Nothing = none
+opensAs d rebuilt (waiting.Call p) =
+    let asked : Asked = record { stream = p .«stream_id»; number = p .number .0; task = taskAs (p .task) } in
+    let left = insAt (p .time) (p .«stream_id») (rebuiltPart rebuilt (p .«left_end»)) (p .«left_at») in
+    some (record { session = p .«session_id»; pending = record { asked = asked; left = left }; rest = subsAt (p .time) (p .«stream_id») d (p .at) })
 
 -- the same state as the step over lists has it
 abbrev pub agentOf : State → step.Agent
 agentOf st =
-    record { max = st .agent .«max_clients»; timeout = st .agent .«timeout_ms»; tables = record { next = st .agent .next; at = sessionIn (st .tables) }; waits = opensAs (st .lent) (st .agent .waits) }
+    record { max = st .agent .«max_clients»; timeout = st .agent .«timeout_ms»; tables = record { next = st .agent .next; at = sessionIn (st .tables) }; waits = opensAs (st .lent) (st .tables .rebuilt) (st .agent .waits) }
 
 abbrev pub eventOf : Event → step.Event
 eventOf (datagram time bytes small) = step.datagram time bytes
@@ -124,7 +134,7 @@ pub record Hosted : Type 0 where
 
 -- what `setup` answers of tables, and what it leaves: "An empty agent is one just set up."
 abbrev pub setUpWith : Tables → ℕ → ℕ → AgentSetUp
-setUpWith t max timeout = setUpAs (setUpOf (length (t .sessions)) (length (t .streams)) (length (t .objects)) (length (t .held)) max) max timeout
+setUpWith t max timeout = setUpAs (setUpOf (length (t .sessions)) (length (t .streams)) (length (t .objects)) (length (t .held)) (length (t .parts)) (length (t .lengths)) (length (t .rebuilt)) max) max timeout
 
 -- its answer in document 01's numbers
 abbrev pub setUpAnswer : AgentSetUp → Answer Agent
@@ -132,7 +142,7 @@ setUpAnswer (set-up.Ready a) = gives a
 setUpAnswer (set-up.Refused r) = refusal r
 
 abbrev pub emptyOf : Tables → ℕ → Agent → State
-emptyOf t max a = record { agent = a; tables = setUpTables (setUpOf (length (t .sessions)) (length (t .streams)) (length (t .objects)) (length (t .held)) max) t; lent = [] }
+emptyOf t max a = record { agent = a; tables = setUpTables (setUpOf (length (t .sessions)) (length (t .streams)) (length (t .objects)) (length (t .held)) (length (t .parts)) (length (t .lengths)) (length (t .rebuilt)) max) t; lent = [] }
 
 module _ (t : Tables) (max timeout : ℕ) (a : Agent) where
   abbrev pub agent : claim.Agent (rules timeout)
@@ -141,6 +151,6 @@ module _ (t : Tables) (max timeout : ℕ) (a : Agent) where
     Event = Hosted;
     empty = emptyOf t max a;
     table = λ st. sessionIn (st .tables);
-    step = λ st e. let d = stepOf st (e .event) (e .out) in (d .state, resultOf max timeout (opensAs (d .state .lent) (d .state .agent .waits)) (d .result));
+    step = λ st e. let d = stepOf st (e .event) (e .out) in (d .state, resultOf max timeout (opensAs (d .state .lent) (d .state .tables .rebuilt) (d .state .agent .waits)) (d .result));
     host-call = λ e. hostCall max timeout (eventOf (e .event));
   }

@@ -57,21 +57,34 @@ fn ready(s: SetUp, max_clients: usize, timeout_ms: u64) -> AgentSetUp
     }
 }
 
-// An empty agent over the lent tables, whatever stood in them; of the store of held messages only its length is asked.
+// An empty agent over the lent tables, whatever stood in them; of the stores of held messages and
+// fragments and of the place of rebuilt bytes only their lengths are asked.
 pub fn setup(
     sessions: &mut [SessionRow],
     streams: &mut [StreamRow],
     objects: &mut [Object],
     held: &[u8],
+    parts: &[u8],
+    lengths: &[u32],
+    rebuilt: &[u8],
     max_clients: usize,
     timeout_ms: u64,
 ) -> AgentSetUp
-    ensures { λ a. ⌜ (a ≡ setUpAs (setUpOf (length (now (sessions .entry))) (length (now (streams .entry))) (length (now (objects .entry))) (length (now (held .entry))) «max_clients») «max_clients» «timeout_ms»)
-        × (now (sessions .exit) ≡ setUpTables (setUpOf (length (now (sessions .entry))) (length (now (streams .entry))) (length (now (objects .entry))) (length (now (held .entry))) «max_clients») (lent (now (sessions .entry)) (now (streams .entry)) (now (objects .entry)) (now (held .entry))) .sessions)
-        × (now (streams .exit) ≡ setUpTables (setUpOf (length (now (sessions .entry))) (length (now (streams .entry))) (length (now (objects .entry))) (length (now (held .entry))) «max_clients») (lent (now (sessions .entry)) (now (streams .entry)) (now (objects .entry)) (now (held .entry))) .streams)
-        × (now (objects .exit) ≡ setUpTables (setUpOf (length (now (sessions .entry))) (length (now (streams .entry))) (length (now (objects .entry))) (length (now (held .entry))) «max_clients») (lent (now (sessions .entry)) (now (streams .entry)) (now (objects .entry)) (now (held .entry))) .objects) ⌝ }
+    ensures { λ a. ⌜ (a ≡ setUpAs (setUpOf (length (now (sessions .entry))) (length (now (streams .entry))) (length (now (objects .entry))) (length (now (held .entry))) (length (now (parts .entry))) (length (now (lengths .entry))) (length (now (rebuilt .entry))) «max_clients») «max_clients» «timeout_ms»)
+        × (now (sessions .exit) ≡ setUpTables (setUpOf (length (now (sessions .entry))) (length (now (streams .entry))) (length (now (objects .entry))) (length (now (held .entry))) (length (now (parts .entry))) (length (now (lengths .entry))) (length (now (rebuilt .entry))) «max_clients») (lent (now (sessions .entry)) (now (streams .entry)) (now (objects .entry)) (now (held .entry)) (now (parts .entry)) (now (lengths .entry)) (now (rebuilt .entry))) .sessions)
+        × (now (streams .exit) ≡ setUpTables (setUpOf (length (now (sessions .entry))) (length (now (streams .entry))) (length (now (objects .entry))) (length (now (held .entry))) (length (now (parts .entry))) (length (now (lengths .entry))) (length (now (rebuilt .entry))) «max_clients») (lent (now (sessions .entry)) (now (streams .entry)) (now (objects .entry)) (now (held .entry)) (now (parts .entry)) (now (lengths .entry)) (now (rebuilt .entry))) .streams)
+        × (now (objects .exit) ≡ setUpTables (setUpOf (length (now (sessions .entry))) (length (now (streams .entry))) (length (now (objects .entry))) (length (now (held .entry))) (length (now (parts .entry))) (length (now (lengths .entry))) (length (now (rebuilt .entry))) «max_clients») (lent (now (sessions .entry)) (now (streams .entry)) (now (objects .entry)) (now (held .entry)) (now (parts .entry)) (now (lengths .entry)) (now (rebuilt .entry))) .objects) ⌝ }
 {
-    let s = set_up(sessions, streams, objects, held.len(), max_clients);
+    let s = set_up(
+        sessions,
+        streams,
+        objects,
+        held.len(),
+        parts.len(),
+        lengths.len(),
+        rebuilt.len(),
+        max_clients,
+    );
     ready(s, max_clients, timeout_ms)
 }
 
@@ -81,17 +94,23 @@ pub fn process_incoming(
     streams: &mut [StreamRow],
     objects: &mut [Object],
     held: &mut [u8],
+    parts: &mut [u8],
+    lengths: &mut [u32],
+    rebuilt: &mut [u8],
     out: &mut [u8],
     datagram: &[u8],
     agent: Agent,
     given: Given,
 ) -> Processed
-    ensures { λ p. ⌜ (p ≡ incomingOf agent (lent (now (sessions .entry)) (now (streams .entry)) (now (objects .entry)) (now (held .entry))) (now (out .entry)) (now (datagram .entry)) (given .time) .processed)
-        × (now (sessions .exit) ≡ incomingOf agent (lent (now (sessions .entry)) (now (streams .entry)) (now (objects .entry)) (now (held .entry))) (now (out .entry)) (now (datagram .entry)) (given .time) .tables .sessions)
-        × (now (streams .exit) ≡ incomingOf agent (lent (now (sessions .entry)) (now (streams .entry)) (now (objects .entry)) (now (held .entry))) (now (out .entry)) (now (datagram .entry)) (given .time) .tables .streams)
-        × (now (objects .exit) ≡ incomingOf agent (lent (now (sessions .entry)) (now (streams .entry)) (now (objects .entry)) (now (held .entry))) (now (out .entry)) (now (datagram .entry)) (given .time) .tables .objects)
-        × (now (held .exit) ≡ incomingOf agent (lent (now (sessions .entry)) (now (streams .entry)) (now (objects .entry)) (now (held .entry))) (now (out .entry)) (now (datagram .entry)) (given .time) .tables .held)
-        × (now (out .exit) ≡ incomingOf agent (lent (now (sessions .entry)) (now (streams .entry)) (now (objects .entry)) (now (held .entry))) (now (out .entry)) (now (datagram .entry)) (given .time) .out) ⌝ }
+    ensures { λ p. ⌜ (p ≡ incomingOf agent (lent (now (sessions .entry)) (now (streams .entry)) (now (objects .entry)) (now (held .entry)) (now (parts .entry)) (now (lengths .entry)) (now (rebuilt .entry))) (now (out .entry)) (now (datagram .entry)) (given .time) .processed)
+        × (now (sessions .exit) ≡ incomingOf agent (lent (now (sessions .entry)) (now (streams .entry)) (now (objects .entry)) (now (held .entry)) (now (parts .entry)) (now (lengths .entry)) (now (rebuilt .entry))) (now (out .entry)) (now (datagram .entry)) (given .time) .tables .sessions)
+        × (now (streams .exit) ≡ incomingOf agent (lent (now (sessions .entry)) (now (streams .entry)) (now (objects .entry)) (now (held .entry)) (now (parts .entry)) (now (lengths .entry)) (now (rebuilt .entry))) (now (out .entry)) (now (datagram .entry)) (given .time) .tables .streams)
+        × (now (objects .exit) ≡ incomingOf agent (lent (now (sessions .entry)) (now (streams .entry)) (now (objects .entry)) (now (held .entry)) (now (parts .entry)) (now (lengths .entry)) (now (rebuilt .entry))) (now (out .entry)) (now (datagram .entry)) (given .time) .tables .objects)
+        × (now (held .exit) ≡ incomingOf agent (lent (now (sessions .entry)) (now (streams .entry)) (now (objects .entry)) (now (held .entry)) (now (parts .entry)) (now (lengths .entry)) (now (rebuilt .entry))) (now (out .entry)) (now (datagram .entry)) (given .time) .tables .held)
+        × (now (parts .exit) ≡ incomingOf agent (lent (now (sessions .entry)) (now (streams .entry)) (now (objects .entry)) (now (held .entry)) (now (parts .entry)) (now (lengths .entry)) (now (rebuilt .entry))) (now (out .entry)) (now (datagram .entry)) (given .time) .tables .parts)
+        × (now (lengths .exit) ≡ incomingOf agent (lent (now (sessions .entry)) (now (streams .entry)) (now (objects .entry)) (now (held .entry)) (now (parts .entry)) (now (lengths .entry)) (now (rebuilt .entry))) (now (out .entry)) (now (datagram .entry)) (given .time) .tables .lengths)
+        × (now (rebuilt .exit) ≡ incomingOf agent (lent (now (sessions .entry)) (now (streams .entry)) (now (objects .entry)) (now (held .entry)) (now (parts .entry)) (now (lengths .entry)) (now (rebuilt .entry))) (now (out .entry)) (now (datagram .entry)) (given .time) .tables .rebuilt)
+        × (now (out .exit) ≡ incomingOf agent (lent (now (sessions .entry)) (now (streams .entry)) (now (objects .entry)) (now (held .entry)) (now (parts .entry)) (now (lengths .entry)) (now (rebuilt .entry))) (now (out .entry)) (now (datagram .entry)) (given .time) .out) ⌝ }
 {
     // A datagram is processed without a look at a sample.
     let none = [0u8; 2];
@@ -100,6 +119,9 @@ pub fn process_incoming(
         streams,
         objects,
         held,
+        parts,
+        lengths,
+        rebuilt,
         out,
         datagram,
         &none,
@@ -114,24 +136,33 @@ pub fn process_answer(
     streams: &mut [StreamRow],
     objects: &mut [Object],
     held: &mut [u8],
+    parts: &mut [u8],
+    lengths: &mut [u32],
+    rebuilt: &mut [u8],
     out: &mut [u8],
     datagram: &[u8],
     sample: &[u8],
     agent: Agent,
     answer: BridgeAnswer,
 ) -> Processed
-    ensures { λ p. ⌜ (p ≡ answerOf agent (lent (now (sessions .entry)) (now (streams .entry)) (now (objects .entry)) (now (held .entry))) (now (out .entry)) (now (datagram .entry)) (now (sample .entry)) answer .processed)
-        × (now (sessions .exit) ≡ answerOf agent (lent (now (sessions .entry)) (now (streams .entry)) (now (objects .entry)) (now (held .entry))) (now (out .entry)) (now (datagram .entry)) (now (sample .entry)) answer .tables .sessions)
-        × (now (streams .exit) ≡ answerOf agent (lent (now (sessions .entry)) (now (streams .entry)) (now (objects .entry)) (now (held .entry))) (now (out .entry)) (now (datagram .entry)) (now (sample .entry)) answer .tables .streams)
-        × (now (objects .exit) ≡ answerOf agent (lent (now (sessions .entry)) (now (streams .entry)) (now (objects .entry)) (now (held .entry))) (now (out .entry)) (now (datagram .entry)) (now (sample .entry)) answer .tables .objects)
-        × (now (held .exit) ≡ answerOf agent (lent (now (sessions .entry)) (now (streams .entry)) (now (objects .entry)) (now (held .entry))) (now (out .entry)) (now (datagram .entry)) (now (sample .entry)) answer .tables .held)
-        × (now (out .exit) ≡ answerOf agent (lent (now (sessions .entry)) (now (streams .entry)) (now (objects .entry)) (now (held .entry))) (now (out .entry)) (now (datagram .entry)) (now (sample .entry)) answer .out) ⌝ }
+    ensures { λ p. ⌜ (p ≡ answerOf agent (lent (now (sessions .entry)) (now (streams .entry)) (now (objects .entry)) (now (held .entry)) (now (parts .entry)) (now (lengths .entry)) (now (rebuilt .entry))) (now (out .entry)) (now (datagram .entry)) (now (sample .entry)) answer .processed)
+        × (now (sessions .exit) ≡ answerOf agent (lent (now (sessions .entry)) (now (streams .entry)) (now (objects .entry)) (now (held .entry)) (now (parts .entry)) (now (lengths .entry)) (now (rebuilt .entry))) (now (out .entry)) (now (datagram .entry)) (now (sample .entry)) answer .tables .sessions)
+        × (now (streams .exit) ≡ answerOf agent (lent (now (sessions .entry)) (now (streams .entry)) (now (objects .entry)) (now (held .entry)) (now (parts .entry)) (now (lengths .entry)) (now (rebuilt .entry))) (now (out .entry)) (now (datagram .entry)) (now (sample .entry)) answer .tables .streams)
+        × (now (objects .exit) ≡ answerOf agent (lent (now (sessions .entry)) (now (streams .entry)) (now (objects .entry)) (now (held .entry)) (now (parts .entry)) (now (lengths .entry)) (now (rebuilt .entry))) (now (out .entry)) (now (datagram .entry)) (now (sample .entry)) answer .tables .objects)
+        × (now (held .exit) ≡ answerOf agent (lent (now (sessions .entry)) (now (streams .entry)) (now (objects .entry)) (now (held .entry)) (now (parts .entry)) (now (lengths .entry)) (now (rebuilt .entry))) (now (out .entry)) (now (datagram .entry)) (now (sample .entry)) answer .tables .held)
+        × (now (parts .exit) ≡ answerOf agent (lent (now (sessions .entry)) (now (streams .entry)) (now (objects .entry)) (now (held .entry)) (now (parts .entry)) (now (lengths .entry)) (now (rebuilt .entry))) (now (out .entry)) (now (datagram .entry)) (now (sample .entry)) answer .tables .parts)
+        × (now (lengths .exit) ≡ answerOf agent (lent (now (sessions .entry)) (now (streams .entry)) (now (objects .entry)) (now (held .entry)) (now (parts .entry)) (now (lengths .entry)) (now (rebuilt .entry))) (now (out .entry)) (now (datagram .entry)) (now (sample .entry)) answer .tables .lengths)
+        × (now (rebuilt .exit) ≡ answerOf agent (lent (now (sessions .entry)) (now (streams .entry)) (now (objects .entry)) (now (held .entry)) (now (parts .entry)) (now (lengths .entry)) (now (rebuilt .entry))) (now (out .entry)) (now (datagram .entry)) (now (sample .entry)) answer .tables .rebuilt)
+        × (now (out .exit) ≡ answerOf agent (lent (now (sessions .entry)) (now (streams .entry)) (now (objects .entry)) (now (held .entry)) (now (parts .entry)) (now (lengths .entry)) (now (rebuilt .entry))) (now (out .entry)) (now (datagram .entry)) (now (sample .entry)) answer .out) ⌝ }
 {
     process(
         sessions,
         streams,
         objects,
         held,
+        parts,
+        lengths,
+        rebuilt,
         out,
         datagram,
         sample,

@@ -1,4 +1,6 @@
 // What refuses a call before it runs, in document 01's order: 15, 16, 1 to 5, 12, 14.
+use crate::fragments::is_read;
+use crate::fragments::rebuilt_part;
 use crate::state::Agent;
 use crate::state::Pending;
 use crate::state::Waiting;
@@ -7,6 +9,7 @@ use codec::header::MessageHeader;
 use codec::reading::Checked;
 use codec::reading::check;
 use codec::reading::count_at;
+use codec::rebuilt::count_rebuilt;
 use codec::refusals::Refusal;
 use codec::submessages::ObjectNumber;
 use moves::proxy::BridgeAnswer;
@@ -23,7 +26,7 @@ ghost use mathlib.Core.Path.{_≡_};
 ghost use lib.ListN.{getD, length};
 ghost use Rattle.sessions.specs.Limits.{limitsOf};
 ghost use Rattle.agent.specs.Lent.{lent};
-ghost use Rattle.agent.specs.Judge.{answersOf, idleTurn, busyTurn, turnOf, sessionOf, streamOf, recordSound, soundOf, tooLong, sampleSlot, answerSlot, slotOf, placedJudged, datagramStart, answerStart, datagramJudged, restJudged, answerJudged, judgedBy, judgeOf, partsOf};
+ghost use Rattle.agent.specs.Judge.{answersOf, idleTurn, busyTurn, turnOf, sessionOf, streamOf, recordSound, soundOf, tooLong, sampleSlot, answerSlot, slotOf, placedJudged, datagramStart, answerStart, leftKept, datagramJudged, restJudged, answerJudged, judgedBy, judgeOf, partsOf};
 
 // A call of the host: a datagram with its time, or the bridge's answer.
 pub enum Input {
@@ -44,11 +47,13 @@ pub(crate) enum Resumes {
     Answer(ObjectNumber, Task, BridgeAnswer),
 }
 
-// Where a run starts.
+// Where a run starts: in its datagram, and before that in the rebuilt bytes whose submessages wait (document 02, W6).
 pub(crate) struct Start {
     pub frame: Frame,
     pub next: u8,
     pub at: usize,
+    pub left_at: usize,
+    pub left_end: usize,
     pub resumes: Resumes,
 }
 
@@ -160,6 +165,8 @@ fn start_datagram(a: Agent, time: u64, header: MessageHeader, room: usize) -> St
         frame,
         next: a.next,
         at: 4,
+        left_at: 0,
+        left_end: 0,
         resumes: Resumes::Nothing,
     }
 }
@@ -194,6 +201,8 @@ fn start_answer(a: Agent, p: Pending, told: BridgeAnswer, room: usize) -> Start
         frame,
         next: a.next,
         at: p.at,
+        left_at: p.left_at,
+        left_end: p.left_end,
         resumes: Resumes::Answer(number, task, told),
     }
 }
@@ -291,11 +300,25 @@ fn judge_rest(
     }
 }
 
-// The datagram lent again must read from the open call's place to its end, else 16.
+// The rebuilt bytes must read from the open call's place to their end, with none that is barred there (document 02, W6).
+fn left_kept(left: &[u8], p: Pending) -> bool
+    ensures { λ r. ⌜ r ≡ leftKept (now (left .entry)) p ⌝ }
+{
+    if 32768 < p.left_end {
+        return false;
+    }
+    if left.len() < p.left_at {
+        return false;
+    }
+    is_read(count_rebuilt(left, p.left_at))
+}
+
+// The datagram lent again must read from the open call's place to its end, and so must the rebuilt bytes, else 16.
 fn judge_answer(
     sessions: &[SessionRow],
     streams: &[StreamRow],
     held: &[u8],
+    rebuilt: &[u8],
     d: &[u8],
     a: Agent,
     limits: Limits,
@@ -304,9 +327,13 @@ fn judge_answer(
     sample: usize,
     room: usize,
 ) -> Judged
-    ensures { λ r. ⌜ r ≡ answerJudged (now (d .entry)) a limits p told sample (answerSlot p told (now (sessions .entry)) (now (streams .entry)) (length (now (held .entry))) sample) room ⌝ }
+    ensures { λ r. ⌜ r ≡ answerJudged (now (d .entry)) (now (rebuilt .entry)) a limits p told sample (answerSlot p told (now (sessions .entry)) (now (streams .entry)) (length (now (held .entry))) sample) room ⌝ }
 {
     if sound(a, limits) {
+        let left = rebuilt_part(rebuilt, p.left_end);
+        if !left_kept(left, p) {
+            return Judged::Refused(Refusal::OverLimit);
+        }
         if d.len() < p.at {
             return Judged::Refused(Refusal::OverLimit);
         }
@@ -326,6 +353,7 @@ fn judged_by(
     sessions: &[SessionRow],
     streams: &[StreamRow],
     held: &[u8],
+    rebuilt: &[u8],
     d: &[u8],
     a: Agent,
     limits: Limits,
@@ -333,7 +361,7 @@ fn judged_by(
     sample: usize,
     room: usize,
 ) -> Judged
-    ensures { λ r. ⌜ r ≡ judgedBy (now (d .entry)) a limits t sample (slotOf t (now (sessions .entry)) (now (streams .entry)) (length (now (held .entry))) sample) room ⌝ }
+    ensures { λ r. ⌜ r ≡ judgedBy (now (d .entry)) (now (rebuilt .entry)) a limits t sample (slotOf t (now (sessions .entry)) (now (streams .entry)) (length (now (held .entry))) sample) room ⌝ }
 {
     match t {
         Turn::Datagram(time) => judge_datagram(d, a, limits, time, room),
@@ -341,6 +369,7 @@ fn judged_by(
             sessions,
             streams,
             held,
+            rebuilt,
             d,
             a,
             limits,
@@ -358,20 +387,47 @@ pub(crate) fn judge(
     streams: &[StreamRow],
     objects: &[Object],
     held: &[u8],
+    parts: &[u8],
+    lengths: &[u32],
+    rebuilt: &[u8],
     d: &[u8],
     a: Agent,
     input: Input,
     sample: usize,
     room: usize,
 ) -> Judged
-    ensures { λ j. ⌜ j ≡ judgeOf (lent (now (sessions .entry)) (now (streams .entry)) (now (objects .entry)) (now (held .entry))) (now (d .entry)) a input sample room ⌝ }
+    ensures { λ j. ⌜ j ≡ judgeOf (lent (now (sessions .entry)) (now (streams .entry)) (now (objects .entry)) (now (held .entry)) (now (parts .entry)) (now (lengths .entry)) (now (rebuilt .entry))) (now (d .entry)) a input sample room ⌝ }
 {
     let turn = whose_turn(a, input);
     let id = session_of(d, turn);
     let n = stream_of(d, turn);
     let bytes = held.len();
-    let limits = within_limits(sessions, streams, objects, bytes, a.max_clients, id, n);
-    judged_by(sessions, streams, held, d, a, limits, turn, sample, room)
+    let bodies = parts.len();
+    let place = rebuilt.len();
+    let limits = within_limits(
+        sessions,
+        streams,
+        objects,
+        bytes,
+        bodies,
+        lengths,
+        place,
+        a.max_clients,
+        id,
+        n,
+    );
+    judged_by(
+        sessions,
+        streams,
+        held,
+        rebuilt,
+        d,
+        a,
+        limits,
+        turn,
+        sample,
+        room,
+    )
 }
 
 // What was judged, taken apart: whether the call goes on, where it starts, how many submessages there are to run, and why
@@ -405,6 +461,8 @@ pub(crate) fn parts_of(j: Judged) -> Parts
                 },
                 next: 0,
                 at: 0,
+                left_at: 0,
+                left_end: 0,
                 resumes: Resumes::Nothing,
             },
             count: 0,

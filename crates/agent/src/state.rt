@@ -3,7 +3,8 @@ use codec::submessages::ObjectNumber;
 use moves::proxy::Task;
 
 // The submessage of the open call: its header's session and stream, its object, what the call is for, the place behind it
-// in its datagram, and that datagram's time.
+// in its datagram, and that datagram's time. If it was rebuilt from fragments (document 02, W6), the call shows parts of the first
+// `left_end` rebuilt bytes, and the submessages from `left_at` on wait behind it; else both are 0.
 pub struct Pending {
     pub session_id: u8,
     pub stream_id: u8,
@@ -11,6 +12,8 @@ pub struct Pending {
     pub task: Task,
     pub at: usize,
     pub time: u64,
+    pub left_at: usize,
+    pub left_end: usize,
 }
 
 pub enum Waiting {

@@ -1,12 +1,10 @@
-// One submessage of a datagram: read, opened or touched, handled, replied to.
+// One submessage, in the bytes that it stands in: opened or touched, handled, replied to.
 use crate::clients::pointer;
 use crate::clients::put_greeting;
 use crate::repeats::answer;
 use crate::replies::count;
-use codec::layouts::Cursor;
 use codec::layouts::Parsed;
 use codec::layouts::Span;
-use codec::reading::read;
 use codec::submessages::ObjectNumber;
 use moves::handle::Asked;
 use moves::handle::Opening;
@@ -27,8 +25,8 @@ ghost use Prim.Native.Nat.{_≤_};
 ghost use Rattle.codec.specs.Bytes.{putBytes};
 ghost use Rattle.sessions.specs.Table.{namedOf};
 ghost use Rattle.sessions.specs.Opening.{createdOf, openedRows, openedStreams};
-ghost use Rattle.agent.specs.Lent.{lent};
-ghost use Rattle.agent.specs.Run.{putReplies, settled, stopOf, greetingBytes, greeted, passed, isLive, delivered, takenOf, turned};
+ghost use Rattle.moves.specs.Rows.{rows};
+ghost use Rattle.agent.specs.Run.{putReplies, settled, stopOf, greetingBytes, greeted, passed, isLive, delivered, takenOf};
 
 // What a datagram's submessages have in common: the limit, the time, the header's session and stream, and the output's room.
 pub(crate) struct Frame {
@@ -39,9 +37,12 @@ pub(crate) struct Frame {
     pub room: usize,
 }
 
+// A call ends the run: of a submessage as it stands in its bytes; or of a rebuilt one, with the place behind it in the rebuilt
+// bytes, and how many these are.
 pub(crate) enum Stop {
     Nothing,
     Call(ObjectNumber, Task, BridgeCall),
+    Inside(ObjectNumber, Task, BridgeCall, usize, usize),
 }
 
 // A run so far: the id pointer, the place in the datagram, the bytes replied, and the call that ends it, if any.
@@ -79,7 +80,7 @@ fn settle(next: u8, at: usize, wrote: usize, m: Move) -> Ran
 }
 
 // CREATE_CLIENT
-fn greet(
+pub(crate) fn greet(
     sessions: &mut [SessionRow],
     streams: &mut [StreamRow],
     out: &mut [u8],
@@ -106,7 +107,7 @@ fn greet(
 }
 
 // "No such session: no reply."
-fn passed(r: Ran, at: usize) -> Ran
+pub(crate) fn passed(r: Ran, at: usize) -> Ran
     ensures { λ x. ⌜ x ≡ passed r at ⌝ }
 {
     let stop = r.stop;
@@ -118,7 +119,7 @@ fn passed(r: Ran, at: usize) -> Ran
     }
 }
 
-fn is_live(named: Named) -> bool
+pub(crate) fn is_live(named: Named) -> bool
     ensures { λ r. ⌜ r ≡ isLive named ⌝ }
 {
     match named {
@@ -130,13 +131,13 @@ fn is_live(named: Named) -> bool
 
 // What was read at a place of the datagram, taken apart: what it asks for, its body, and where the next one begins. Where
 // no submessage was read, the next place is the end.
-struct Taken {
+pub(crate) struct Taken {
     pub asked: Asked,
     pub body: Span,
     pub at: usize,
 }
 
-fn take_apart(p: Parsed, len: usize) -> Taken
+pub(crate) fn take_apart(p: Parsed, len: usize) -> Taken
     ensures { λ r. ⌜ r ≡ takenOf p len ⌝ }
 {
     match p {
@@ -153,8 +154,8 @@ fn take_apart(p: Parsed, len: usize) -> Taken
     }
 }
 
-// Any other submessage: "the session is touched first with the datagram's time."
-fn deliver(
+// Any other submessage, over the bytes that it stands in: "the session is touched first with the datagram's time."
+pub(crate) fn deliver(
     sessions: &mut [SessionRow],
     streams: &mut [StreamRow],
     objects: &mut [Object],
@@ -166,11 +167,11 @@ fn deliver(
     took: Taken,
 ) -> Ran
     requires { ⌜ f .room ≤ 9223372036854775807 ⌝ }
-    ensures { λ x. ⌜ (x ≡ delivered (namedOf (now (sessions .entry)) (f .«session_id»)) f (lent (now (sessions .entry)) (now (streams .entry)) (now (objects .entry)) (now (held .entry))) (now (d .entry)) r took .ran)
-        × (now (sessions .exit) ≡ delivered (namedOf (now (sessions .entry)) (f .«session_id»)) f (lent (now (sessions .entry)) (now (streams .entry)) (now (objects .entry)) (now (held .entry))) (now (d .entry)) r took .tables .sessions)
-        × (now (streams .exit) ≡ delivered (namedOf (now (sessions .entry)) (f .«session_id»)) f (lent (now (sessions .entry)) (now (streams .entry)) (now (objects .entry)) (now (held .entry))) (now (d .entry)) r took .tables .streams)
-        × (now (objects .exit) ≡ delivered (namedOf (now (sessions .entry)) (f .«session_id»)) f (lent (now (sessions .entry)) (now (streams .entry)) (now (objects .entry)) (now (held .entry))) (now (d .entry)) r took .tables .objects)
-        × (now (out .exit) ≡ putReplies (f .room) (now (out .entry)) (r .wrote) (delivered (namedOf (now (sessions .entry)) (f .«session_id»)) f (lent (now (sessions .entry)) (now (streams .entry)) (now (objects .entry)) (now (held .entry))) (now (d .entry)) r took .replies)) ⌝ }
+    ensures { λ x. ⌜ (x ≡ delivered (namedOf (now (sessions .entry)) (f .«session_id»)) f (rows (now (sessions .entry)) (now (streams .entry)) (now (objects .entry))) (now (held .entry)) (now (d .entry)) r took .ran)
+        × (now (sessions .exit) ≡ delivered (namedOf (now (sessions .entry)) (f .«session_id»)) f (rows (now (sessions .entry)) (now (streams .entry)) (now (objects .entry))) (now (held .entry)) (now (d .entry)) r took .rows .sessions)
+        × (now (streams .exit) ≡ delivered (namedOf (now (sessions .entry)) (f .«session_id»)) f (rows (now (sessions .entry)) (now (streams .entry)) (now (objects .entry))) (now (held .entry)) (now (d .entry)) r took .rows .streams)
+        × (now (objects .exit) ≡ delivered (namedOf (now (sessions .entry)) (f .«session_id»)) f (rows (now (sessions .entry)) (now (streams .entry)) (now (objects .entry))) (now (held .entry)) (now (d .entry)) r took .rows .objects)
+        × (now (out .exit) ≡ putReplies (f .room) (now (out .entry)) (r .wrote) (delivered (namedOf (now (sessions .entry)) (f .«session_id»)) f (rows (now (sessions .entry)) (now (streams .entry)) (now (objects .entry))) (now (held .entry)) (now (d .entry)) r took .replies)) ⌝ }
 {
     let id = f.session_id;
     let n = f.stream_id;
@@ -181,35 +182,5 @@ fn deliver(
         settle(r.next, took.at, w, v)
     } else {
         passed(r, took.at)
-    }
-}
-
-// The submessage at the run's place. The datagram was checked before, so that one is always read there.
-pub(crate) fn turn(
-    sessions: &mut [SessionRow],
-    streams: &mut [StreamRow],
-    objects: &mut [Object],
-    held: &[u8],
-    out: &mut [u8],
-    d: &[u8],
-    f: Frame,
-    r: Ran,
-) -> Ran
-    requires { ⌜ f .room ≤ 9223372036854775807 ⌝ }
-    ensures { λ x. ⌜ (x ≡ turned f (lent (now (sessions .entry)) (now (streams .entry)) (now (objects .entry)) (now (held .entry))) (now (d .entry)) r .ran)
-        × (now (sessions .exit) ≡ turned f (lent (now (sessions .entry)) (now (streams .entry)) (now (objects .entry)) (now (held .entry))) (now (d .entry)) r .tables .sessions)
-        × (now (streams .exit) ≡ turned f (lent (now (sessions .entry)) (now (streams .entry)) (now (objects .entry)) (now (held .entry))) (now (d .entry)) r .tables .streams)
-        × (now (objects .exit) ≡ turned f (lent (now (sessions .entry)) (now (streams .entry)) (now (objects .entry)) (now (held .entry))) (now (d .entry)) r .tables .objects)
-        × (now (out .exit) ≡ putReplies (f .room) (now (out .entry)) (r .wrote) (turned f (lent (now (sessions .entry)) (now (streams .entry)) (now (objects .entry)) (now (held .entry))) (now (d .entry)) r .replies)) ⌝ }
-{
-    let c = Cursor { at: r.at };
-    let p = read(d, c);
-    let x = take_apart(p, d.len());
-    let q = x.asked;
-    let o = q.opening;
-    match o {
-        Opening::Client => greet(sessions, streams, out, f, r, q.key, x.at),
-        Opening::Other => deliver(sessions, streams, objects, held, out, d, f, r, x),
-        Opening::Unread => passed(r, x.at),
     }
 }

@@ -37,7 +37,7 @@ abbrev pub listedAs : Listed → ℕ
 listedAs (listed.Numbers n) = 65536 * (n % 65536)
 listedAs (listed.Refused r) = refusedAs r
 
--- the bytes of all tables and of the store together, 1,048,576 × 256 at most
+-- the bytes of all tables and stores together, 1,048,576 × 256 at most
 abbrev pub neededAs : Needed → ℕ
 neededAs (needed.Stores n) = 65536 * (n .bytes % 4294967296)
 neededAs (needed.Refused r) = refusedAs r

@@ -17,7 +17,7 @@ use Rattle.moves.specs.declared.proxy.BridgeAnswer.the-variants.{Created, Done,
 use Rattle.cabi.specs.Answers.{refusedAs, outcomeAs, removedAs, sweptAs}
 use Rattle.cabi.specs.Record.{recordAt, agentIn, recordFor, nothingTold, keptIn, recordsAfter}
 
--- what a call leaves: its answer, the agent's record, the tables with the store of held messages, the lent output
+-- what a call leaves: its answer, the agent's record, the tables with the stores, the lent output
 pub record Left : Type 0 where
   pub answer : ℕ
   pub records : List (List ℕ)
@@ -62,7 +62,7 @@ readyAs (ready.Refused r) = refusedAs r
 
 unfoldable pub setUpLeft : List (List ℕ) → Tables → ℕ → ℕ → Left
 setUpLeft w t max timeout =
-    let s = setUpOf (length (t .sessions)) (length (t .streams)) (length (t .objects)) (length (t .held)) max in
+    let s = setUpOf (length (t .sessions)) (length (t .streams)) (length (t .objects)) (length (t .held)) (length (t .parts)) (length (t .lengths)) (length (t .rebuilt)) max in
     cond (eqb (length w) 0) (refusedLeft 16 w t [])
     (record { answer = readyAs (setUpAs s max timeout); records = readyRecords w (setUpAs s max timeout); tables = setUpTables s t; out = [] })
 

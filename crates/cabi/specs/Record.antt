@@ -1,4 +1,4 @@
--- The agent's record as a C host keeps it: a row of nineteen numbers, each in the place of its field of `struct xrce_agent`.
+-- The agent's record as a C host keeps it: a row of twenty-one numbers, each in the place of its field of `struct xrce_agent`.
 use Prim.Native.Nat.{ℕ, _%_}
 use mathlib.Core.Bool.{Bool, true, false, cond}
 use mathlib.Core.List.{List, [], _∷_}
@@ -18,7 +18,7 @@ use Rattle.agent.specs.declared.state.Waiting.the-variants as waiting
 use Rattle.cabi.specs.declared.record.Record.{Record}
 use Rattle.cabi.specs.declared.told.Told.{Told}
 
--- ---- the first eleven numbers: the agent between two calls
+-- ---- the first thirteen numbers: the agent between two calls
 
 abbrev pub recordOf : List ℕ → Record
 recordOf w =
@@ -34,6 +34,8 @@ recordOf w =
       number = getD w 8 0;
       at = getD w 9 0;
       time = getD w 10 0;
+      «left_at» = getD w 11 0;
+      «left_end» = getD w 12 0;
     }
 
 -- the host lends one record; past the end of the slice all is 0
@@ -53,6 +55,8 @@ pendingIn r =
       task = taskIn (r .task) (r .kind) (r .parent);
       at = r .at;
       time = r .time;
+      «left_at» = r .«left_at»;
+      «left_end» = r .«left_end»;
     }
 
 abbrev pub waitsIn : Record → Waiting
@@ -94,7 +98,7 @@ taskParent Deleting = 0
 
 abbrev pub idleRecord : ℕ → ℕ → ℕ → Record
 idleRecord max timeout next =
-    record { «max_clients» = max; «timeout_ms» = timeout; next = next; task = 0; kind = 0; parent = 0; session = 0; stream = 0; number = 0; at = 0; time = 0 }
+    record { «max_clients» = max; «timeout_ms» = timeout; next = next; task = 0; kind = 0; parent = 0; session = 0; stream = 0; number = 0; at = 0; time = 0; «left_at» = 0; «left_end» = 0 }
 
 abbrev pub openRecord : ℕ → ℕ → ℕ → Pending → Record
 openRecord max timeout next p =
@@ -110,6 +114,8 @@ openRecord max timeout next p =
       number = p .number .0;
       at = p .at;
       time = p .time;
+      «left_at» = p .«left_at»;
+      «left_end» = p .«left_end»;
     }
 
 abbrev pub recordBy : Waiting → ℕ → ℕ → ℕ → Record
@@ -148,6 +154,7 @@ toldOf (Refused r) = nothingTold 0
 abbrev pub rowOf : Record → Told → List ℕ
 rowOf r t =
     r .«max_clients» ∷ r .«timeout_ms» ∷ r .next ∷ r .task ∷ r .kind ∷ r .parent ∷ r .session ∷ r .stream ∷ r .number ∷ r .at ∷ r .time
+    ∷ r .«left_at» ∷ r .«left_end»
     ∷ t .wrote ∷ t .call ∷ t .handle ∷ t .topic ∷ t .start ∷ t .len ∷ t .«type_start» ∷ t .«type_len» ∷ []
 
 abbrev pub keptIn : List (List ℕ) → Record → Told → List (List ℕ)

@@ -32,7 +32,7 @@ ghost use Rattle.cabi.specs.Answers.{outcomeAs, listedAs, neededAs};
 ghost use Rattle.cabi.specs.Record.{recordsAfter};
 ghost use Rattle.cabi.specs.Calls.{readyAs, readyRecords, processLeft, setUpLeft, removeAnswer, removeRows, sweepAnswer, sweepRows, sweepOut};
 
-// The documented need for `max_clients`, all tables and the store of held messages together.
+// The documented need for `max_clients`, all tables and stores together.
 #[no_mangle]
 pub extern "C" fn xrce_need(max_clients: u64) -> u64
     ensures { λ r. ⌜ r ≡ neededAs (neededFor «max_clients») ⌝ }
@@ -51,11 +51,14 @@ fn told(agent: &mut [RecordRow], p: Processed) -> u64
 
 #[no_mangle]
 pub extern "C" fn xrce_agent_process(
-    agent: &mut [[u64; 19]],
-    sessions: &mut [[u64; 6]],
+    agent: &mut [[u64; 21]],
+    sessions: &mut [[u64; 8]],
     streams: &mut [[u16; 35]],
     objects: &mut [Object],
     held: &mut [u8],
+    parts: &mut [u8],
+    lengths: &mut [u32],
+    rebuilt: &mut [u8],
     out: &mut [u8],
     datagram: &[u8],
     sample: &[u8],
@@ -63,13 +66,16 @@ pub extern "C" fn xrce_agent_process(
     time: u64,
     handle: u32,
 ) -> u64
-    ensures { λ r. ⌜ (r ≡ processLeft (now (agent .entry)) (lent (now (sessions .entry)) (now (streams .entry)) (now (objects .entry)) (now (held .entry))) (now (out .entry)) (now (datagram .entry)) (now (sample .entry)) input time handle .answer)
-        × (now (agent .exit) ≡ processLeft (now (agent .entry)) (lent (now (sessions .entry)) (now (streams .entry)) (now (objects .entry)) (now (held .entry))) (now (out .entry)) (now (datagram .entry)) (now (sample .entry)) input time handle .records)
-        × (now (sessions .exit) ≡ processLeft (now (agent .entry)) (lent (now (sessions .entry)) (now (streams .entry)) (now (objects .entry)) (now (held .entry))) (now (out .entry)) (now (datagram .entry)) (now (sample .entry)) input time handle .tables .sessions)
-        × (now (streams .exit) ≡ processLeft (now (agent .entry)) (lent (now (sessions .entry)) (now (streams .entry)) (now (objects .entry)) (now (held .entry))) (now (out .entry)) (now (datagram .entry)) (now (sample .entry)) input time handle .tables .streams)
-        × (now (objects .exit) ≡ processLeft (now (agent .entry)) (lent (now (sessions .entry)) (now (streams .entry)) (now (objects .entry)) (now (held .entry))) (now (out .entry)) (now (datagram .entry)) (now (sample .entry)) input time handle .tables .objects)
-        × (now (held .exit) ≡ processLeft (now (agent .entry)) (lent (now (sessions .entry)) (now (streams .entry)) (now (objects .entry)) (now (held .entry))) (now (out .entry)) (now (datagram .entry)) (now (sample .entry)) input time handle .tables .held)
-        × (now (out .exit) ≡ processLeft (now (agent .entry)) (lent (now (sessions .entry)) (now (streams .entry)) (now (objects .entry)) (now (held .entry))) (now (out .entry)) (now (datagram .entry)) (now (sample .entry)) input time handle .out) ⌝ }
+    ensures { λ r. ⌜ (r ≡ processLeft (now (agent .entry)) (lent (now (sessions .entry)) (now (streams .entry)) (now (objects .entry)) (now (held .entry)) (now (parts .entry)) (now (lengths .entry)) (now (rebuilt .entry))) (now (out .entry)) (now (datagram .entry)) (now (sample .entry)) input time handle .answer)
+        × (now (agent .exit) ≡ processLeft (now (agent .entry)) (lent (now (sessions .entry)) (now (streams .entry)) (now (objects .entry)) (now (held .entry)) (now (parts .entry)) (now (lengths .entry)) (now (rebuilt .entry))) (now (out .entry)) (now (datagram .entry)) (now (sample .entry)) input time handle .records)
+        × (now (sessions .exit) ≡ processLeft (now (agent .entry)) (lent (now (sessions .entry)) (now (streams .entry)) (now (objects .entry)) (now (held .entry)) (now (parts .entry)) (now (lengths .entry)) (now (rebuilt .entry))) (now (out .entry)) (now (datagram .entry)) (now (sample .entry)) input time handle .tables .sessions)
+        × (now (streams .exit) ≡ processLeft (now (agent .entry)) (lent (now (sessions .entry)) (now (streams .entry)) (now (objects .entry)) (now (held .entry)) (now (parts .entry)) (now (lengths .entry)) (now (rebuilt .entry))) (now (out .entry)) (now (datagram .entry)) (now (sample .entry)) input time handle .tables .streams)
+        × (now (objects .exit) ≡ processLeft (now (agent .entry)) (lent (now (sessions .entry)) (now (streams .entry)) (now (objects .entry)) (now (held .entry)) (now (parts .entry)) (now (lengths .entry)) (now (rebuilt .entry))) (now (out .entry)) (now (datagram .entry)) (now (sample .entry)) input time handle .tables .objects)
+        × (now (held .exit) ≡ processLeft (now (agent .entry)) (lent (now (sessions .entry)) (now (streams .entry)) (now (objects .entry)) (now (held .entry)) (now (parts .entry)) (now (lengths .entry)) (now (rebuilt .entry))) (now (out .entry)) (now (datagram .entry)) (now (sample .entry)) input time handle .tables .held)
+        × (now (parts .exit) ≡ processLeft (now (agent .entry)) (lent (now (sessions .entry)) (now (streams .entry)) (now (objects .entry)) (now (held .entry)) (now (parts .entry)) (now (lengths .entry)) (now (rebuilt .entry))) (now (out .entry)) (now (datagram .entry)) (now (sample .entry)) input time handle .tables .parts)
+        × (now (lengths .exit) ≡ processLeft (now (agent .entry)) (lent (now (sessions .entry)) (now (streams .entry)) (now (objects .entry)) (now (held .entry)) (now (parts .entry)) (now (lengths .entry)) (now (rebuilt .entry))) (now (out .entry)) (now (datagram .entry)) (now (sample .entry)) input time handle .tables .lengths)
+        × (now (rebuilt .exit) ≡ processLeft (now (agent .entry)) (lent (now (sessions .entry)) (now (streams .entry)) (now (objects .entry)) (now (held .entry)) (now (parts .entry)) (now (lengths .entry)) (now (rebuilt .entry))) (now (out .entry)) (now (datagram .entry)) (now (sample .entry)) input time handle .tables .rebuilt)
+        × (now (out .exit) ≡ processLeft (now (agent .entry)) (lent (now (sessions .entry)) (now (streams .entry)) (now (objects .entry)) (now (held .entry)) (now (parts .entry)) (now (lengths .entry)) (now (rebuilt .entry))) (now (out .entry)) (now (datagram .entry)) (now (sample .entry)) input time handle .out) ⌝ }
 {
     let why = bad_call(agent.len(), input);
     if why == 0 {
@@ -81,6 +87,9 @@ pub extern "C" fn xrce_agent_process(
             streams,
             objects,
             held,
+            parts,
+            lengths,
+            rebuilt,
             out,
             datagram,
             sample,
@@ -110,19 +119,22 @@ fn told_ready(agent: &mut [RecordRow], s: AgentSetUp) -> u64
 
 #[no_mangle]
 pub extern "C" fn xrce_agent_setup(
-    agent: &mut [[u64; 19]],
-    sessions: &mut [[u64; 6]],
+    agent: &mut [[u64; 21]],
+    sessions: &mut [[u64; 8]],
     streams: &mut [[u16; 35]],
     objects: &mut [Object],
     held: &[u8],
+    parts: &[u8],
+    lengths: &[u32],
+    rebuilt: &[u8],
     max_clients: u64,
     timeout_ms: u64,
 ) -> u64
-    ensures { λ r. ⌜ (r ≡ setUpLeft (now (agent .entry)) (lent (now (sessions .entry)) (now (streams .entry)) (now (objects .entry)) (now (held .entry))) «max_clients» «timeout_ms» .answer)
-        × (now (agent .exit) ≡ setUpLeft (now (agent .entry)) (lent (now (sessions .entry)) (now (streams .entry)) (now (objects .entry)) (now (held .entry))) «max_clients» «timeout_ms» .records)
-        × (now (sessions .exit) ≡ setUpLeft (now (agent .entry)) (lent (now (sessions .entry)) (now (streams .entry)) (now (objects .entry)) (now (held .entry))) «max_clients» «timeout_ms» .tables .sessions)
-        × (now (streams .exit) ≡ setUpLeft (now (agent .entry)) (lent (now (sessions .entry)) (now (streams .entry)) (now (objects .entry)) (now (held .entry))) «max_clients» «timeout_ms» .tables .streams)
-        × (now (objects .exit) ≡ setUpLeft (now (agent .entry)) (lent (now (sessions .entry)) (now (streams .entry)) (now (objects .entry)) (now (held .entry))) «max_clients» «timeout_ms» .tables .objects) ⌝ }
+    ensures { λ r. ⌜ (r ≡ setUpLeft (now (agent .entry)) (lent (now (sessions .entry)) (now (streams .entry)) (now (objects .entry)) (now (held .entry)) (now (parts .entry)) (now (lengths .entry)) (now (rebuilt .entry))) «max_clients» «timeout_ms» .answer)
+        × (now (agent .exit) ≡ setUpLeft (now (agent .entry)) (lent (now (sessions .entry)) (now (streams .entry)) (now (objects .entry)) (now (held .entry)) (now (parts .entry)) (now (lengths .entry)) (now (rebuilt .entry))) «max_clients» «timeout_ms» .records)
+        × (now (sessions .exit) ≡ setUpLeft (now (agent .entry)) (lent (now (sessions .entry)) (now (streams .entry)) (now (objects .entry)) (now (held .entry)) (now (parts .entry)) (now (lengths .entry)) (now (rebuilt .entry))) «max_clients» «timeout_ms» .tables .sessions)
+        × (now (streams .exit) ≡ setUpLeft (now (agent .entry)) (lent (now (sessions .entry)) (now (streams .entry)) (now (objects .entry)) (now (held .entry)) (now (parts .entry)) (now (lengths .entry)) (now (rebuilt .entry))) «max_clients» «timeout_ms» .tables .streams)
+        × (now (objects .exit) ≡ setUpLeft (now (agent .entry)) (lent (now (sessions .entry)) (now (streams .entry)) (now (objects .entry)) (now (held .entry)) (now (parts .entry)) (now (lengths .entry)) (now (rebuilt .entry))) «max_clients» «timeout_ms» .tables .objects) ⌝ }
 {
     let records = agent.len();
     if records == 0 {
@@ -133,6 +145,9 @@ pub extern "C" fn xrce_agent_setup(
             streams,
             objects,
             held,
+            parts,
+            lengths,
+            rebuilt,
             max_clients as usize,
             timeout_ms,
         );
@@ -141,7 +156,7 @@ pub extern "C" fn xrce_agent_setup(
 }
 
 #[no_mangle]
-pub extern "C" fn xrce_agent_remove(agent: &[[u64; 19]], sessions: &mut [[u64; 6]], id: u8) -> u64
+pub extern "C" fn xrce_agent_remove(agent: &[[u64; 21]], sessions: &mut [[u64; 8]], id: u8) -> u64
     ensures { λ r. ⌜ (r ≡ removeAnswer (now (agent .entry)) (now (sessions .entry)) id)
         × (now (sessions .exit) ≡ removeRows (now (agent .entry)) (now (sessions .entry)) id) ⌝ }
 {
@@ -154,8 +169,8 @@ pub extern "C" fn xrce_agent_remove(agent: &[[u64; 19]], sessions: &mut [[u64; 6
 
 #[no_mangle]
 pub extern "C" fn xrce_agent_sweep(
-    agent: &[[u64; 19]],
-    sessions: &mut [[u64; 6]],
+    agent: &[[u64; 21]],
+    sessions: &mut [[u64; 8]],
     out: &mut [u8],
     time: u64,
 ) -> u64
@@ -173,7 +188,7 @@ pub extern "C" fn xrce_agent_sweep(
 // The listing takes no record: it reads the tables alone, whether a call is open or not.
 #[no_mangle]
 pub extern "C" fn xrce_agent_list(
-    sessions: &[[u64; 6]],
+    sessions: &[[u64; 8]],
     objects: &[Object],
     out: &mut [u16],
     id: u8,

@@ -1,4 +1,4 @@
-// The agent's record as a C host keeps it: the first eleven of its nineteen numbers are the agent between two calls.
+// The agent's record as a C host keeps it: the first thirteen of its twenty-one numbers are the agent between two calls.
 use agent::state::Agent;
 use agent::state::Pending;
 use agent::state::Waiting;
@@ -7,10 +7,11 @@ use moves::proxy::Task;
 ghost use mathlib.Core.Path.{_≡_};
 ghost use Rattle.cabi.specs.Record.{recordAt, taskIn, pendingIn, waitsIn, inRange, nextIn, agentIn, taskNumber, taskKind, taskParent, idleRecord, openRecord, recordBy, recordFor};
 
-pub(crate) type RecordRow = [u64; 19];
+pub(crate) type RecordRow = [u64; 21];
 
-// The eleven numbers; of the open call its task (0: none), the object kind and the parent number of a CREATE's, its
-// session, stream, object number, place and time.
+// The thirteen numbers; of the open call its task (0: none), the object kind and the parent number of a CREATE's, its
+// session, stream, object number, place and time, and, if its submessage was rebuilt from fragments, the place behind it in
+// the rebuilt bytes and how many these are.
 pub(crate) struct Record {
     pub max_clients: u64,
     pub timeout_ms: u64,
@@ -23,6 +24,8 @@ pub(crate) struct Record {
     pub number: u64,
     pub at: u64,
     pub time: u64,
+    pub left_at: u64,
+    pub left_end: u64,
 }
 
 fn no_record() -> Record
@@ -48,6 +51,8 @@ pub(crate) fn record_at(rows: &[RecordRow]) -> Record
             number: rows[0][8],
             at: rows[0][9],
             time: rows[0][10],
+            left_at: rows[0][11],
+            left_end: rows[0][12],
         }
     } else {
         no_record()
@@ -81,6 +86,8 @@ fn pending_in(r: Record) -> Pending
         task: task_in(r.task, r.kind, r.parent),
         at: r.at as usize,
         time: r.time,
+        left_at: r.left_at as usize,
+        left_end: r.left_end as usize,
     }
 }
 
@@ -191,6 +198,8 @@ fn idle_record(max_clients: u64, timeout_ms: u64, next: u64) -> Record
         number: 0,
         at: 0,
         time: 0,
+        left_at: 0,
+        left_end: 0,
     }
 }
 
@@ -214,6 +223,8 @@ fn open_record(max_clients: u64, timeout_ms: u64, next: u64, p: Pending) -> Reco
         number: number.0 as u64,
         at: p.at as u64,
         time: p.time,
+        left_at: p.left_at as u64,
+        left_end: p.left_end as u64,
     }
 }
 

@@ -21,7 +21,7 @@ pub(crate) struct Told {
     pub type_len: u64,
 }
 
-// A call with handles and no parts of the datagram.
+// A call with handles and no parts of the bytes that its submessage stands in.
 fn told_handles(wrote: u64, call: u64, handle: u64, topic: u64) -> Told
     ensures { λ r. ⌜ r ≡ told wrote call handle topic 0 0 0 0 ⌝ }
 {
@@ -113,6 +113,8 @@ pub(crate) fn keep_record(rows: &mut [RecordRow], r: Record, t: Told)
         r.number,
         r.at,
         r.time,
+        r.left_at,
+        r.left_end,
         t.wrote,
         t.call,
         t.handle,

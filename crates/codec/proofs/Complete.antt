@@ -23,7 +23,7 @@ use Rattle.codec.specs.declared.submessages.StatusCode.the-variants.{Ok,
 use Rattle.codec.specs.declared.submessages.KindRead.the-variants.{Kind}
 use Rattle.codec.specs.declared.submessages.CodeRead.the-variants.{Code}
 use Rattle.codec.specs.declared.submessages.Submessage.{Submessage}
-use Rattle.codec.specs.declared.submessages.Submessage.the-variants.{CreateClient, Create, Delete, Status, WriteData, ReadData, Data, Heartbeat, Acknack}
+use Rattle.codec.specs.declared.submessages.Submessage.the-variants.{CreateClient, Create, Delete, Status, WriteData, ReadData, Data, Heartbeat, Acknack, Fragment}
 use Rattle.codec.proofs.Pieces.{drop-behind, byte-back, word-back, quad-back}
 use Rattle.codec.proofs.reading.Laws.{read-payload, payload-laid, items-end, items-more}
 use Rattle.codec.proofs.writing.Laws.{length-fixed, least-small}
@@ -51,6 +51,7 @@ abbrev spanOf : Submessage → ℕ → ℕ → Span
 spanOf (Create q) p len = record { start = p + 5; len = len - 5 }
 spanOf (WriteData q) p len = record { start = p + 2; len = len - 2 }
 spanOf (Data q) p len = record { start = p + 2; len = len - 2 }
+spanOf (Fragment q) p len = record { start = p + 4; len = len - 4 }
 spanOf (CreateClient q) p len = record { start = p + len; len = 0 }
 spanOf (Delete q) p len = record { start = p + len; len = 0 }
 spanOf (Status q) p len = record { start = p + len; len = 0 }
@@ -86,6 +87,9 @@ laid (Heartbeat q) s p len l e h =
 laid (Acknack q) s p len l e h =
     let second = le16 (q .«nack_bitmap») ++ l in
     rw (word-back s p (q .«first_unacked_seq») second e (h .0), word-back s (p + 2) (q .«nack_bitmap») l (drop-behind s p (le16 (q .«first_unacked_seq»)) second 2 e refl) (h .1))
+laid (Fragment q) s p len l e h =
+    let second = le16 (q .«total_fragments») ++ l in
+    rw (word-back s p (q .«fragment_nr») second e (h .0), word-back s (p + 2) (q .«total_fragments») l (drop-behind s p (le16 (q .«fragment_nr»)) second 2 e refl) (h .1))
 
 -- the span is behind the fixed bytes, or empty at the end
 span-bodied : (m : Submessage) (p len : ℕ) → Bodied m → spanOf m p len ≡ record { start = p + leastOf (idOf m); len = len - leastOf (idOf m) }
@@ -93,6 +97,7 @@ unfolding leastOf
 span-bodied (Create q) p len h = refl
 span-bodied (WriteData q) p len h = refl
 span-bodied (Data q) p len h = refl
+span-bodied (Fragment q) p len h = refl
 span-bodied (CreateClient q) p len h = absurd h
 span-bodied (Delete q) p len h = absurd h
 span-bodied (Status q) p len h = absurd h
@@ -104,6 +109,7 @@ span-plain : (m : Submessage) (p len : ℕ) → (Bodied m → ⊥) → spanOf m 
 span-plain (Create q) p len h = absurd (h tt)
 span-plain (WriteData q) p len h = absurd (h tt)
 span-plain (Data q) p len h = absurd (h tt)
+span-plain (Fragment q) p len h = absurd (h tt)
 span-plain (CreateClient q) p len h = refl
 span-plain (Delete q) p len h = refl
 span-plain (Status q) p len h = refl
@@ -175,10 +181,10 @@ one-back s at l (one m body payload flags r k small) e h =
     }
 
 -- the submessages of the grammar are those that are read
-record Read (s : List ℕ) (at : ℕ) (xs : List Said) : Type 0 where
-  found : List Item
-  read : itemsAt s at ≡ items found
-  said : map (saidIn s) found ≡ xs
+pub record Read (s : List ℕ) (at : ℕ) (xs : List Said) : Type 0 where
+  pub found : List Item
+  pub read : itemsAt s at ≡ items found
+  pub said : map (saidIn s) found ≡ xs
 
 read-next : (s : List ℕ) (at : ℕ) (x : Said) (xs : List Said) (a : List ℕ) → Back s at x a → Read s (at + length a) xs → Read s at (x ∷ xs)
 read-next s at x xs a o r =
@@ -188,7 +194,7 @@ read-next s at x xs a o r =
       said = rw (o .part, r .said);
     }
 
-subs-back : {xs : List Said} {bytes : List ℕ} (s : List ℕ) (at : ℕ) → Subs xs bytes → drop at s ≡ bytes → at ≤ length s → Read s at xs
+pub subs-back : {xs : List Said} {bytes : List ℕ} (s : List ℕ) (at : ℕ) → Subs xs bytes → drop at s ≡ bytes → at ≤ length s → Read s at xs
 subs-back s at none e h =
     let n : length s - at ≡ 0 = sym (length-drop at s) ∙ ap length e in
     record { found = []; read = items-end s at (omega arith); said = refl }
@@ -204,7 +210,7 @@ one-long : {x : Said} {a : List ℕ} → OneSub x a → 4 ≤ length a
 unfolding le16
 one-long (one m body payload flags r k small) = omega (arith, length-append (idOf m ∷ flags ∷ le16 (length payload)) payload)
 
-subs-long : {x : Said} {xs : List Said} {bytes : List ℕ} → Subs (x ∷ xs) bytes → 4 ≤ length bytes
+pub subs-long : {x : Said} {xs : List Said} {bytes : List ℕ} → Subs (x ∷ xs) bytes → 4 ≤ length bytes
 subs-long (next {x} {xs} {a} {b} o r) = omega (arith, one-long o, length-append a b)
 
 -- what the grammar allows is read so

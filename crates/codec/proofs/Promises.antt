@@ -17,7 +17,7 @@ use Rattle.codec.specs.Grammar.{Said, Ranged, HeaderRanged, Bodied, Payl
 use Rattle.codec.specs.Promises.{ReadsExactly, ChecksWhole, subsBytes, written, HeaderAlone, Writable, kept, ReadsBack, SaysTheSame, StringsReadBack}
 use Rattle.codec.specs.declared.header.MessageHeader.{MessageHeader}
 use Rattle.codec.specs.declared.submessages.Submessage.{Submessage}
-use Rattle.codec.specs.declared.submessages.Submessage.the-variants.{CreateClient, Create, Delete, Status, WriteData, ReadData, Data, Heartbeat, Acknack}
+use Rattle.codec.specs.declared.submessages.Submessage.the-variants.{CreateClient, Create, Delete, Status, WriteData, ReadData, Data, Heartbeat, Acknack, Fragment}
 use Rattle.codec.proofs.Complete.{complete, part-is}
 use Rattle.codec.proofs.Sound.{says-same, sound}
 use Rattle.codec.proofs.Pieces.{word-back, drop-behind}
@@ -55,6 +55,7 @@ payload-written : (m : Submessage) (body : List ℕ) → Payload m (carried m bo
 payload-written (Create p) body = bodied (Create p) (take (length body) body) tt
 payload-written (WriteData p) body = bodied (WriteData p) (take (length body) body) tt
 payload-written (Data p) body = bodied (Data p) (take (length body) body) tt
+payload-written (Fragment p) body = bodied (Fragment p) (take (length body) body) tt
 payload-written (CreateClient p) body = plain (CreateClient p) [] (λ z. z)
 payload-written (Delete p) body = plain (Delete p) [] (λ z. z)
 payload-written (Status p) body = plain (Status p) [] (λ z. z)
@@ -80,6 +81,7 @@ carried-bodied : (m : Submessage) (body : List ℕ) → Bodied m → carried m b
 carried-bodied (Create p) body h = take-length body
 carried-bodied (WriteData p) body h = take-length body
 carried-bodied (Data p) body h = take-length body
+carried-bodied (Fragment p) body h = take-length body
 carried-bodied (CreateClient p) body h = absurd h
 carried-bodied (Delete p) body h = absurd h
 carried-bodied (Status p) body h = absurd h

@@ -115,6 +115,10 @@ module _ (s : List ℕ) (small : AllBytes s) (p len : ℕ) (fits : p + len ≤ l
   unfolding layoutAt Ranged fixedBytes leastOf
   right-acknack h = record { own = refl; ranged = (word-small s small p, word-small s small (p + 2)); fixed = two-words h; body = inr ((λ z. z), refl) }
 
+  right-fragment : 4 ≤ len → RightIf s 15 p len (layoutAt s 15 p len)
+  unfolding layoutAt Ranged fixedBytes leastOf
+  right-fragment h = record { own = refl; ranged = (word-small s small p, word-small s small (p + 2)); fixed = two-words h; body = inl (tt, refl) }
+
   -- whichever layout the id decides
   right-layout : (id : ℕ) → leastOf id ≤ len → RightIf s id p len (layoutAt s id p len)
   unfolding layoutAt leastOf createAt statusAt
@@ -130,7 +134,8 @@ module _ (s : List ℕ) (small : AllBytes s) (p len : ℕ) (fits : p + len ≤ l
       either P (eqb id 8) _ _ (λ e. at 8 (layoutAt s 8 p len) e (right-read (long 8 e))) (λ _.
       either P (eqb id 9) _ _ (λ e. at 9 (layoutAt s 9 p len) e (right-data (long 9 e))) (λ _.
       either P (eqb id 13) _ _ (λ e. at 13 (layoutAt s 13 p len) e (right-heartbeat (long 13 e))) (λ _.
-      either P (eqb id 14) _ _ (λ e. at 14 (layoutAt s 14 p len) e (right-acknack (long 14 e))) (λ _. tt)))))))))
+      either P (eqb id 14) _ _ (λ e. at 14 (layoutAt s 14 p len) e (right-acknack (long 14 e))) (λ _.
+      either P (eqb id 15) _ _ (λ e. at 15 (layoutAt s 15 p len) e (right-fragment (long 15 e))) (λ _. tt))))))))))
 
 -- the part that a span marks off, where it is within the datagram
 part-taken : (s : List ℕ) (start len : ℕ) → start + len ≤ length s → partOf s (record { start = start; len = len }) ≡ take len (drop start s)
@@ -244,6 +249,11 @@ module _ (s : List ℕ) (small : AllBytes s) where
             let k′ = lt-of-not-le k in
             laid-onward at xs (readAt s at) refl (λ n ys j. laid-items left n ys (omega arith)) (onward (readAt s at) (itemsAt s)) refl (sym (items-more s at k′) ∙ e)
       ]
+
+  -- what is read from a place to the end is what the grammar allows there
+  pub subs-sound : (at : ℕ) (xs : List Item) → itemsAt s at ≡ items xs → Subs (map (saidIn s) xs) (drop at s)
+  unfolding Laid
+  subs-sound at xs e = laid-items (length s - at) at xs (omega arith) e
 
   -- ---- the whole datagram
 

@@ -3,5 +3,6 @@ pub mod Laws
 pub mod View
 pub mod Inserts
 pub mod Held
+pub mod Left
 pub mod Numbers
 pub mod Theorems

@@ -28,6 +28,8 @@ use Rattle.codec.specs.declared.reassembly.Inserted.the-variants as inse
 use Rattle.codec.specs.declared.reassembly.ReassemblyBuffer.{ReassemblyBuffer}
 use Rattle.codec.specs.declared.reassembly.StoreMade.{StoreMade}
 use Rattle.codec.specs.declared.reassembly.StoreMade.the-variants as made
+use Rattle.codec.specs.declared.rebuilt.Rebuilt.{Rebuilt}
+use Rattle.codec.specs.declared.rebuilt.Rebuilt.the-variants as rebuilt
 use Rattle.codec.specs.declared.refusals.Refusal.{Refusal}
 use Rattle.codec.specs.declared.strings.StringRead.{StringRead}
 use Rattle.codec.specs.declared.strings.StringRead.the-variants as text
@@ -81,6 +83,11 @@ parsedAnswer (parsed.Refused r) = refusal r
 abbrev pub checkedAnswer : Checked → Answer (MessageHeader × ℕ)
 checkedAnswer (checked.Message h n) = gives (h, n)
 checkedAnswer (checked.Refused r) = refusal r
+
+-- how many submessages rebuilt bytes hold
+abbrev pub rebuiltAnswer : Rebuilt → Answer ℕ
+rebuiltAnswer (rebuilt.Subs n) = gives n
+rebuiltAnswer (rebuilt.Refused r) = refusal r
 
 -- where the bytes of a string stand
 abbrev pub stringAnswer : StringRead → Answer Span

@@ -10,7 +10,7 @@ use Rattle.codec.specs.Writing.{fixedBytes}
 use Rattle.codec.specs.Reading.{Item, Message, message, refused, messageOf, partOf}
 use Rattle.codec.specs.declared.header.MessageHeader.{MessageHeader}
 use Rattle.codec.specs.declared.submessages.Submessage.{Submessage}
-use Rattle.codec.specs.declared.submessages.Submessage.the-variants.{CreateClient, Create, Delete, Status, WriteData, ReadData, Data, Heartbeat, Acknack}
+use Rattle.codec.specs.declared.submessages.Submessage.the-variants.{CreateClient, Create, Delete, Status, WriteData, ReadData, Data, Heartbeat, Acknack, Fragment}
 
 -- what a submessage says: its fixed fields, and the bytes of its variable part
 pub record Said : Type 0 where
@@ -28,15 +28,17 @@ Ranged (ReadData p) = (p .«reader_id» .0 < 2 ^ 16) × (p .«max_samples» < 2 
 Ranged (Data p) = p .«reader_id» .0 < 2 ^ 16
 Ranged (Heartbeat p) = (p .«first_unacked_seq» < 2 ^ 16) × (p .«last_seq» < 2 ^ 16)
 Ranged (Acknack p) = (p .«first_unacked_seq» < 2 ^ 16) × (p .«nack_bitmap» < 2 ^ 16)
+Ranged (Fragment p) = (p .«fragment_nr» < 2 ^ 16) × (p .«total_fragments» < 2 ^ 16)
 
 unfoldable pub HeaderRanged : MessageHeader → Type 0
 HeaderRanged h = (h .«session_id» < 2 ^ 8) × (h .«stream_id» < 2 ^ 8) × (h .«sequence_nr» < 2 ^ 16)
 
--- the kinds whose payload ends in strings or data
+-- the kinds whose payload ends in strings, data or a fragment's body
 abbrev pub Bodied : Submessage → Type 0
 Bodied (Create p) = Unit
 Bodied (WriteData p) = Unit
 Bodied (Data p) = Unit
+Bodied (Fragment p) = Unit
 Bodied (CreateClient p) = ⊥
 Bodied (Delete p) = ⊥
 Bodied (Status p) = ⊥
@@ -44,7 +46,7 @@ Bodied (ReadData p) = ⊥
 Bodied (Heartbeat p) = ⊥
 Bodied (Acknack p) = ⊥
 
--- the payload of a kind: its fixed bytes, then strings or data; "Payload bytes beyond a fixed layout are ignored"
+-- the payload of a kind: its fixed bytes, then strings, data or a body; "Payload bytes beyond a fixed layout are ignored"
 pub data Payload : Submessage → List ℕ → List ℕ → Type 0 where
   bodied : (m : Submessage) (body : List ℕ) → Bodied m → Payload m body (fixedBytes m ++ body)
   plain : (m : Submessage) (ignored : List ℕ) → (Bodied m → ⊥) → Payload m [] (fixedBytes m ++ ignored)

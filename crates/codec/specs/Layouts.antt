@@ -14,11 +14,12 @@ use Rattle.codec.specs.declared.submessages.KindRead.the-variants as kin
 use Rattle.codec.specs.declared.submessages.CodeRead.{CodeRead}
 use Rattle.codec.specs.declared.submessages.CodeRead.the-variants as code-read
 use Rattle.codec.specs.declared.submessages.Submessage.{Submessage}
-use Rattle.codec.specs.declared.submessages.Submessage.the-variants.{CreateClient, Create, Delete, Status, WriteData, ReadData, Data, Heartbeat, Acknack}
+use Rattle.codec.specs.declared.submessages.Submessage.the-variants.{CreateClient, Create, Delete, Status, WriteData, ReadData, Data, Heartbeat, Acknack, Fragment}
 
--- "least payload lengths stand in one fixed list by id": the column "least", with 255 as the mark for unlisted ids
+-- "least payload lengths stand in one fixed list by id": the column "least", then FRAGMENT's 4 (document 02, W6),
+-- with 255 as the mark for unlisted ids
 abbrev pub leastTable : List ℕ
-leastTable = 5 ∷ 5 ∷ 2 ∷ 255 ∷ 255 ∷ 3 ∷ 255 ∷ 2 ∷ 4 ∷ 2 ∷ 255 ∷ 255 ∷ 255 ∷ 4 ∷ 4 ∷ []
+leastTable = 5 ∷ 5 ∷ 2 ∷ 255 ∷ 255 ∷ 3 ∷ 255 ∷ 2 ∷ 4 ∷ 2 ∷ 255 ∷ 255 ∷ 255 ∷ 4 ∷ 4 ∷ 4 ∷ []
 
 unfoldable pub leastOf : ℕ → ℕ
 leastOf id = getD leastTable id 255
@@ -76,6 +77,10 @@ heartbeatAt s p = Heartbeat (record { «first_unacked_seq» = wordAt s p; «last
 abbrev pub acknackAt : List ℕ → ℕ → Submessage
 acknackAt s p = Acknack (record { «first_unacked_seq» = wordAt s p; «nack_bitmap» = wordAt s (p + 2) })
 
+-- 0x0F FRAGMENT (document 02, W6): number 2, total 2, body
+abbrev pub fragmentAt : List ℕ → ℕ → Submessage
+fragmentAt s p = Fragment (record { «fragment_nr» = wordAt s p; «total_fragments» = wordAt s (p + 2) })
+
 -- "The submessage id alone decides which layout is read"
 unfoldable pub layoutAt : List ℕ → ℕ → ℕ → ℕ → Parsed
 layoutAt s id p len =
@@ -88,4 +93,5 @@ layoutAt s id p len =
     (cond (eqb id 0x09) (bodiedAt (dataAt s p) 2 p len)
     (cond (eqb id 0x0D) (plainAt (heartbeatAt s p) p len)
     (cond (eqb id 0x0E) (plainAt (acknackAt s p) p len)
-    (Refused (UnknownSubmessageId id))))))))))
+    (cond (eqb id 0x0F) (bodiedAt (fragmentAt s p) 4 p len)
+    (Refused (UnknownSubmessageId id)))))))))))

@@ -12,5 +12,6 @@ pub mod Cutting
 pub mod Reassembly
 pub mod Inserts
 pub mod Grammar
+pub mod Rebuilt
 pub mod Promises
 pub mod Writes

@@ -1,15 +1,17 @@
 -- What is promised of the wire, as statements; `proofs/Promises.antt` proves each.
-use Prim.Native.Nat.{ℕ, _≤_, _+_}
+use Prim.Native.Nat.{ℕ, _≤_, _<_, _+_}
 use mathlib.Core.Path.{_≡_}
+use mathlib.Core.Bool.{Bool, true, false, _||_}
 use mathlib.Core.List.{List, [], _∷_, _++_, map}
 use lib.ListN.{length}
-use Rattle.codec.specs.Answers.{gives, refusedAs, checkedAnswer, stringAnswer}
+use Rattle.codec.specs.Answers.{gives, refusedAs, checkedAnswer, rebuiltAnswer, stringAnswer}
 use Rattle.codec.specs.Bytes.{AllBytes}
 use Rattle.codec.specs.Header.{headerBytes}
 use Rattle.codec.specs.Reading.{partOf, checkOf}
 use Rattle.codec.specs.Writing.{carried, payloadBytes, subBytes}
 use Rattle.codec.specs.Strings.{stringBytes, stringAt}
-use Rattle.codec.specs.Grammar.{Said, Ranged, HeaderRanged, IsMessage, reading, says}
+use Rattle.codec.specs.Grammar.{Said, Ranged, HeaderRanged, Subs, IsMessage, reading, says}
+use Rattle.codec.specs.Rebuilt.{barred, rebuiltOf, rebuiltReading}
 use Rattle.codec.specs.declared.header.MessageHeader.{MessageHeader}
 use Rattle.codec.specs.declared.layouts.Span.{Span}
 
@@ -25,6 +27,26 @@ ChecksWhole =
     (s : List ℕ)
     → ((h : MessageHeader) (xs : List Said) → reading s ≡ says h xs → checkedAnswer (checkOf s) ≡ gives (h, length xs))
     × ((number byte : ℕ) → reading s ≡ refusedAs number byte → checkedAnswer (checkOf s) ≡ refusedAs number byte)
+
+-- one of them is "a FRAGMENT or CREATE_CLIENT"
+abbrev pub oneBarred : List Said → Bool
+oneBarred [] = false
+oneBarred (x ∷ xs) = barred (x .fields) || oneBarred xs
+
+-- document 02, W6, the check of rebuilt bytes: it gives a number exactly if the bytes are, by the grammar, that many submessages, one at
+-- least, none of them a FRAGMENT or CREATE_CLIENT, and then they are what is read
+pub record RebuiltExactly (s : List ℕ) : Type 0 where
+  pub accepts : (x : Said) (xs : List Said) → Subs (x ∷ xs) s → oneBarred (x ∷ xs) ≡ false
+      → (rebuiltAnswer (rebuiltOf s) ≡ gives (length (x ∷ xs))) × (rebuiltReading s ≡ x ∷ xs)
+  pub only : (n : ℕ) → rebuiltAnswer (rebuiltOf s) ≡ gives n
+      → Subs (rebuiltReading s) s × (oneBarred (rebuiltReading s) ≡ false) × (length (rebuiltReading s) ≡ n) × (0 < n)
+  -- "then 17, a FRAGMENT or CREATE_CLIENT among them"
+  pub bars : (xs : List Said) → Subs xs s → oneBarred xs ≡ true → rebuiltAnswer (rebuiltOf s) ≡ refusedAs 17 0
+  -- "On any of these no rebuilt submessage takes effect"
+  pub nothing : (number byte : ℕ) → rebuiltAnswer (rebuiltOf s) ≡ refusedAs number byte → rebuiltReading s ≡ []
+
+abbrev pub ChecksRebuilt : Type 0
+ChecksRebuilt = (s : List ℕ) → AllBytes s → RebuiltExactly s
 
 -- the bytes of a message: its header, then each submessage as `write_submessage` writes it
 abbrev pub subsBytes : List Said → List ℕ
@@ -43,7 +65,7 @@ abbrev pub Writable : List Said → Type 0
 Writable [] = Unit
 Writable (x ∷ xs) = (Ranged (x .fields) × (length (payloadBytes (x .fields) (x .body)) ≤ 65535)) × Writable xs
 
--- what of it is written: the whole body of CREATE, WRITE_DATA and DATA; the other layouts carry none
+-- what of it is written: the whole body of CREATE, WRITE_DATA, DATA and FRAGMENT; the other layouts carry none
 abbrev pub kept : Said → Said
 kept x = record { fields = x .fields; body = carried (x .fields) (x .body) }
 

@@ -112,10 +112,14 @@ unfoldable pub bodiesHeld : ℕ → List ℕ → List ℕ → List (List ℕ)
 bodiesHeld width slots [] = []
 bodiesHeld width slots (held ∷ more) = take (held - 1) slots ∷ bodiesHeld width (drop width slots) more
 
+-- 16 of a store as a whole: its need, its count, and each of its lengths
+unfoldable pub overLimit : ReassemblyBuffer → ℕ → List ℕ → Bool
+overLimit b slots lengths = storeOver b slots (length lengths) || anyOf (isPast (b .width)) (take (b .«total_fragments») lengths)
+
 -- 16, then 11, "fragments missing"
 unfoldable pub assembleCheck : ReassemblyBuffer → ℕ → List ℕ → Check
 assembleCheck b slots lengths =
-    cond (storeOver b slots (length lengths) || anyOf (isPast (b .width)) (take (b .«total_fragments») lengths)) (check.Refused OverLimit)
+    cond (overLimit b slots lengths) (check.Refused OverLimit)
     (cond (ltb (b .«received_count») (b .«total_fragments») || anyOf isFree (take (b .«total_fragments») lengths)) (check.Refused MissingFragments)
     check.Passes)
 

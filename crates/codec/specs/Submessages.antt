@@ -12,7 +12,7 @@ use Rattle.codec.specs.declared.submessages.KindRead.the-variants as kin
 use Rattle.codec.specs.declared.submessages.CodeRead.{CodeRead}
 use Rattle.codec.specs.declared.submessages.CodeRead.the-variants as code-read
 use Rattle.codec.specs.declared.submessages.Submessage.{Submessage}
-use Rattle.codec.specs.declared.submessages.Submessage.the-variants.{CreateClient, Create, Delete, Status, WriteData, ReadData, Data, Heartbeat, Acknack}
+use Rattle.codec.specs.declared.submessages.Submessage.the-variants.{CreateClient, Create, Delete, Status, WriteData, ReadData, Data, Heartbeat, Acknack, Fragment}
 
 -- "Kinds 1 to 6: Participant, Topic, Publisher, Subscriber, DataWriter, DataReader."
 abbrev pub kindByte : ObjectKind → ℕ
@@ -52,7 +52,7 @@ codeOf b =
     (cond (eqb b 4) (code-read.Code ErrResources)
     (code-read.Refused (UnknownStatusCode b))))))
 
--- the column "id" of the table of kinds
+-- the column "id" of the table of kinds, and document 02's "A FRAGMENT submessage, id 0x0F" (W6)
 abbrev pub idOf : Submessage → ℕ
 idOf (CreateClient p) = 0x00
 idOf (Create p) = 0x01
@@ -63,3 +63,4 @@ idOf (ReadData p) = 0x08
 idOf (Data p) = 0x09
 idOf (Heartbeat p) = 0x0D
 idOf (Acknack p) = 0x0E
+idOf (Fragment p) = 0x0F

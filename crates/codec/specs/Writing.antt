@@ -7,7 +7,7 @@ use Rattle.codec.specs.Header.{headerBytes}
 use Rattle.codec.specs.Submessages.{idOf, kindByte, codeByte}
 use Rattle.codec.specs.declared.header.MessageHeader.{MessageHeader}
 use Rattle.codec.specs.declared.submessages.Submessage.{Submessage}
-use Rattle.codec.specs.declared.submessages.Submessage.the-variants.{CreateClient, Create, Delete, Status, WriteData, ReadData, Data, Heartbeat, Acknack}
+use Rattle.codec.specs.declared.submessages.Submessage.the-variants.{CreateClient, Create, Delete, Status, WriteData, ReadData, Data, Heartbeat, Acknack, Fragment}
 
 -- the fixed bytes of each layout, in the order of the table's column "payload"
 unfoldable pub fixedBytes : Submessage → List ℕ
@@ -20,8 +20,9 @@ fixedBytes (ReadData p) = le16 (p .«reader_id» .0) ++ le16 (p .«max_samples»
 fixedBytes (Data p) = le16 (p .«reader_id» .0)
 fixedBytes (Heartbeat p) = le16 (p .«first_unacked_seq») ++ le16 (p .«last_seq»)
 fixedBytes (Acknack p) = le16 (p .«first_unacked_seq») ++ le16 (p .«nack_bitmap»)
+fixedBytes (Fragment p) = le16 (p .«fragment_nr») ++ le16 (p .«total_fragments»)
 
--- strings and data follow the fixed bytes; a layout that has neither carries nothing of a body
+-- strings, data and a fragment's body follow the fixed bytes; a layout that has none of them carries nothing of a body
 abbrev pub bodyLen : Submessage → ℕ → ℕ
 bodyLen (CreateClient p) n = 0
 bodyLen (Create p) n = n
@@ -32,6 +33,7 @@ bodyLen (ReadData p) n = 0
 bodyLen (Data p) n = n
 bodyLen (Heartbeat p) n = 0
 bodyLen (Acknack p) n = 0
+bodyLen (Fragment p) n = n
 
 abbrev pub carried : Submessage → List ℕ → List ℕ
 carried m body = take (bodyLen m (length body)) body

@@ -1,4 +1,4 @@
-// The nine payload layouts: what the bytes at a place say, once the id and the length are known to allow it.
+// The ten payload layouts: what the bytes at a place say, once the id and the length are known to allow it.
 use crate::bytes::word_at;
 use crate::refusals::Refusal;
 use crate::submessages::AcknackPayload;
@@ -7,6 +7,7 @@ use crate::submessages::CreateClientPayload;
 use crate::submessages::CreatePayload;
 use crate::submessages::DataPayload;
 use crate::submessages::DeletePayload;
+use crate::submessages::FragmentPayload;
 use crate::submessages::HeartbeatPayload;
 use crate::submessages::KindRead;
 use crate::submessages::ObjectKind;
@@ -21,7 +22,7 @@ ghost use Prim.Native.Nat.{_+_, _≤_, _<_, _^_};
 ghost use lib.ListN.{length};
 ghost use Rattle.codec.specs.Bytes.{wordAt, quadAt};
 ghost use Rattle.codec.specs.Layouts.{leastOf, plainAt, bodiedAt, createAt, statusAt, layoutAt};
-ghost use Rattle.codec.specs.Layouts.{createClientAt, deleteAt, writeDataAt, readDataAt, dataAt, heartbeatAt, acknackAt};
+ghost use Rattle.codec.specs.Layouts.{createClientAt, deleteAt, writeDataAt, readDataAt, dataAt, heartbeatAt, acknackAt, fragmentAt};
 
 // A part of a datagram: `len` bytes from `start` on.
 pub struct Span {
@@ -44,13 +45,13 @@ pub enum Parsed {
 pub const UNLISTED: u8 = 255;
 
 // The least payload lengths by submessage id.
-const LEAST: [u8; 15] = [5, 5, 2, 255, 255, 3, 255, 2, 4, 2, 255, 255, 255, 4, 4];
+const LEAST: [u8; 16] = [5, 5, 2, 255, 255, 3, 255, 2, 4, 2, 255, 255, 255, 4, 4, 4];
 
 // The least payload length of an id, or the mark UNLISTED.
 pub fn least_len(id: u8) -> u8
     ensures { λ r. ⌜ r ≡ leastOf id ⌝ }
 {
-    if id < 15 {
+    if id < 16 {
         LEAST[id as usize]
     } else {
         UNLISTED
@@ -189,6 +190,16 @@ fn acknack_at(s: &[u8], p: usize) -> Submessage
     })
 }
 
+fn fragment_at(s: &[u8], p: usize) -> Submessage
+    requires { ⌜ p + 4 ≤ length (now s) ⌝ }
+    ensures { λ r. ⌜ r ≡ fragmentAt (now (s .entry)) p ⌝ }
+{
+    Submessage::Fragment(FragmentPayload {
+        fragment_nr: word_at(s, p),
+        total_fragments: word_at(s, p + 2),
+    })
+}
+
 // The payload of `len` bytes at `p`: the id alone decides which layout is read.
 pub(crate) fn layout_at(s: &[u8], id: u8, p: usize, len: usize) -> Parsed
     requires { ⌜ (p + len ≤ length (now s)) × (leastOf id ≤ len) ⌝ }
@@ -207,6 +218,7 @@ pub(crate) fn layout_at(s: &[u8], id: u8, p: usize, len: usize) -> Parsed
         0x0A..=0x0C => Parsed::Refused(Refusal::UnknownSubmessageId(id)),
         0x0D => plain_at(heartbeat_at(s, p), p, len),
         0x0E => plain_at(acknack_at(s, p), p, len),
-        0x0F..=0xFF => Parsed::Refused(Refusal::UnknownSubmessageId(id)),
+        0x0F => bodied_at(fragment_at(s, p), 4, p, len),
+        0x10..=0xFF => Parsed::Refused(Refusal::UnknownSubmessageId(id)),
     }
 }

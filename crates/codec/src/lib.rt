@@ -6,6 +6,7 @@ pub mod header;
 pub mod layouts;
 pub mod reading;
 pub mod reassembly;
+pub mod rebuilt;
 pub mod refusals;
 pub mod strings;
 pub mod submessages;

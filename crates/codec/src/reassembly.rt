@@ -11,7 +11,7 @@ ghost use Prim.Native.Nat.{_+_, _*_, _-_, _≤_, _<_};
 ghost use lib.ListN.{length, take, drop, getD, replicate};
 ghost use Rattle.codec.specs.Bytes.{putAt};
 ghost use Rattle.codec.specs.Cutting.{joined};
-ghost use Rattle.codec.specs.Reassembly.{underNeed, newOf, newLengths, grown, insertCheck, insertOf, insertSlots, insertLengths, hasFragment, isFree, isPast, anyOf, bytesHeld, bodiesHeld, assembleCheck, assembleOf, assembleOut};
+ghost use Rattle.codec.specs.Reassembly.{underNeed, newOf, newLengths, grown, insertCheck, insertOf, insertSlots, insertLengths, hasFragment, isFree, isPast, anyOf, bytesHeld, bodiesHeld, overLimit, assembleCheck, assembleOf, assembleOut};
 
 pub struct ReassemblyBuffer {
     pub total_fragments: u16,
@@ -117,6 +117,19 @@ impl ReassemblyBuffer {
             return Check::Refused(Refusal::StoreFull);
         }
         Check::Passes
+    }
+
+    // 16 of a store, as one check: under its need, more fragments received than there are, or a length past the width.
+    pub fn is_over(self, slots: usize, lengths: &[u32]) -> bool
+        ensures { λ r. ⌜ r ≡ overLimit self slots (now (lengths .entry)) ⌝ }
+    {
+        if under_need(self.total_fragments, self.width, slots, lengths.len()) {
+            return true;
+        }
+        if self.total_fragments < self.received_count {
+            return true;
+        }
+        any_past(lengths, self.total_fragments, self.width)
     }
 
     // Whether the fragment of that number is held.

@@ -1,4 +1,4 @@
-// Why a call is refused: document 01's table "Refused", one variant a number, for the whole project.
+// Why a call is refused: document 01's table "Refused" and document 02's 17, one variant a number, for the whole project.
 ghost use mathlib.Core.Path.{_≡_};
 ghost use Rattle.codec.specs.Refusals.{numberOf, byteOf};
 
@@ -19,10 +19,11 @@ pub enum Refusal {
     StoreFull,
     OutOfTurn,
     OverLimit,
+    NotInFragments,
 }
 
 impl Refusal {
-    // The number that document 01 gives the refusal.
+    // The number that the documents give the refusal.
     pub fn number(self) -> u8
         ensures { λ r. ⌜ r ≡ numberOf self ⌝ }
     {
@@ -43,6 +44,7 @@ impl Refusal {
             Refusal::StoreFull => 14,
             Refusal::OutOfTurn => 15,
             Refusal::OverLimit => 16,
+            Refusal::NotInFragments => 17,
         }
     }
 
@@ -67,6 +69,7 @@ impl Refusal {
             Refusal::StoreFull => 0,
             Refusal::OutOfTurn => 0,
             Refusal::OverLimit => 0,
+            Refusal::NotInFragments => 0,
         }
     }
 }

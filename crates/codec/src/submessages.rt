@@ -1,4 +1,4 @@
-// What a submessage says: the nine kinds with their fixed fields, object kinds and status codes.
+// What a submessage says: the ten kinds with their fixed fields, object kinds and status codes.
 // The variable part (strings, data) stands beside a submessage, as a span of the datagram.
 use crate::refusals::Refusal;
 ghost use mathlib.Core.Path.{_≡_};
@@ -136,6 +136,12 @@ pub struct AcknackPayload {
     pub nack_bitmap: u16,
 }
 
+// Which of a cut's fragments a submessage holds, and how many there are.
+pub struct FragmentPayload {
+    pub fragment_nr: u16,
+    pub total_fragments: u16,
+}
+
 pub enum Submessage {
     CreateClient(CreateClientPayload),
     Create(CreatePayload),
@@ -146,6 +152,7 @@ pub enum Submessage {
     Data(DataPayload),
     Heartbeat(HeartbeatPayload),
     Acknack(AcknackPayload),
+    Fragment(FragmentPayload),
 }
 
 impl Submessage {
@@ -163,6 +170,7 @@ impl Submessage {
             Submessage::Data(_) => 0x09,
             Submessage::Heartbeat(_) => 0x0D,
             Submessage::Acknack(_) => 0x0E,
+            Submessage::Fragment(_) => 0x0F,
         }
     }
 }

@@ -39,6 +39,7 @@ fn body_len(m: Submessage, n: usize) -> usize
         Submessage::Data(_) => n,
         Submessage::Heartbeat(_) => 0,
         Submessage::Acknack(_) => 0,
+        Submessage::Fragment(_) => n,
     }
 }
 
@@ -90,6 +91,7 @@ fn put_fixed(out: &mut [u8], at: usize, m: Submessage)
         Submessage::Data(p) => put_word(out, at, p.reader_id.0),
         Submessage::Heartbeat(p) => put_two(out, at, p.first_unacked_seq, p.last_seq),
         Submessage::Acknack(p) => put_two(out, at, p.first_unacked_seq, p.nack_bitmap),
+        Submessage::Fragment(p) => put_two(out, at, p.fragment_nr, p.total_fragments),
     }
 }
 

@@ -11,7 +11,7 @@ use Rattle.codec.specs.declared.header.HeaderRead.{HeaderRead}
 use Rattle.codec.specs.declared.header.HeaderRead.the-variants as header
 use Rattle.codec.specs.declared.layouts.Span.{Span}
 use Rattle.codec.specs.declared.submessages.Submessage.{Submessage}
-use Rattle.codec.specs.declared.submessages.Submessage.the-variants.{CreateClient, Create, Delete, Status, WriteData, ReadData, Data, Heartbeat, Acknack}
+use Rattle.codec.specs.declared.submessages.Submessage.the-variants.{CreateClient, Create, Delete, Status, WriteData, ReadData, Data, Heartbeat, Acknack, Fragment}
 use Rattle.cwire.specs.Answer.{packed}
 
 -- "Header: session, stream (a byte each), sequence (2)", in one number
@@ -31,8 +31,9 @@ fieldsOf (ReadData p) = p .«reader_id» .0 ∷ p .«max_samples» ∷ 0 ∷ []
 fieldsOf (Data p) = p .«reader_id» .0 ∷ 0 ∷ 0 ∷ []
 fieldsOf (Heartbeat p) = 0 ∷ p .«first_unacked_seq» ∷ p .«last_seq» ∷ []
 fieldsOf (Acknack p) = 0 ∷ p .«first_unacked_seq» ∷ p .«nack_bitmap» ∷ []
+fieldsOf (Fragment p) = 0 ∷ p .«fragment_nr» ∷ p .«total_fragments» ∷ []
 
--- a row: the id, the fields, "that part of the datagram" which holds strings or data (start and length), the place of the submessage's
+-- a row: the id, the fields, "that part of the datagram" which holds strings, data or a fragment's body (start and length), the place of the submessage's
 -- header in the datagram, 0
 abbrev pub rowOf : ℕ → Submessage → Span → List ℕ
 rowOf at m x = idOf m ∷ (fieldsOf m ++ (x .start ∷ x .len ∷ at ∷ 0 ∷ []))

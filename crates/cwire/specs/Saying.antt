@@ -15,7 +15,7 @@ use Rattle.codec.specs.declared.submessages.CodeRead.{CodeRead}
 use Rattle.codec.specs.declared.submessages.CodeRead.the-variants as code
 use Rattle.codec.specs.declared.submessages.KindRead.{KindRead}
 use Rattle.codec.specs.declared.submessages.KindRead.the-variants as kind
-use Rattle.codec.specs.declared.submessages.Submessage.the-variants.{CreateClient, Create, Delete, Status, WriteData, ReadData, Data, Heartbeat, Acknack}
+use Rattle.codec.specs.declared.submessages.Submessage.the-variants.{CreateClient, Create, Delete, Status, WriteData, ReadData, Data, Heartbeat, Acknack, Fragment}
 use Rattle.cwire.specs.declared.saying.Said.{Said}
 use Rattle.cwire.specs.declared.saying.Said.the-variants.{Sub, Refused}
 
@@ -72,6 +72,11 @@ unfoldable pub acknackSaid : ℕ → ℕ → Said
 acknackSaid first bitmap =
     cond (ltb 65535 first || ltb 65535 bitmap) (Refused OverLimit) (Sub (Acknack (record { «first_unacked_seq» = first; «nack_bitmap» = bitmap })))
 
+-- 0x0F FRAGMENT (document 02, W6): number 2, total 2
+unfoldable pub fragmentSaid : ℕ → ℕ → Said
+fragmentSaid number total =
+    cond (ltb 65535 number || ltb 65535 total) (Refused OverLimit) (Sub (Fragment (record { «fragment_nr» = number; «total_fragments» = total })))
+
 -- the id alone decides which fields a row has; 2, "id not listed (byte given)"
 unfoldable pub saidBy : ℕ → ℕ → ℕ → ℕ → Said
 saidBy id a b c =
@@ -84,7 +89,8 @@ saidBy id a b c =
     (cond (eqb id 0x09) (dataSaid a)
     (cond (eqb id 0x0D) (heartbeatSaid b c)
     (cond (eqb id 0x0E) (acknackSaid b c)
-    (Refused (UnknownSubmessageId id))))))))))
+    (cond (eqb id 0x0F) (fragmentSaid b c)
+    (Refused (UnknownSubmessageId id)))))))))))
 
 -- the submessage that a row says: a row has eight numbers, and an id is a byte
 unfoldable pub rowSays : List ℕ → Said

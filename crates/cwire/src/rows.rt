@@ -56,5 +56,15 @@ pub(crate) fn row_of(m: Submessage, x: Span, at: usize) -> [u64; 8]
                 at,
             )
         }
+        Submessage::Fragment(p) => {
+            row(
+                0x0F,
+                0,
+                p.fragment_nr as u64,
+                p.total_fragments as u64,
+                x,
+                at,
+            )
+        }
     }
 }

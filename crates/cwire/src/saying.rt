@@ -6,6 +6,7 @@ use codec::submessages::CreateClientPayload;
 use codec::submessages::CreatePayload;
 use codec::submessages::DataPayload;
 use codec::submessages::DeletePayload;
+use codec::submessages::FragmentPayload;
 use codec::submessages::HeartbeatPayload;
 use codec::submessages::KindRead;
 use codec::submessages::ObjectKind;
@@ -16,7 +17,7 @@ use codec::submessages::StatusPayload;
 use codec::submessages::Submessage;
 use codec::submessages::WriteDataPayload;
 ghost use mathlib.Core.Path.{_≡_};
-ghost use Rattle.cwire.specs.Saying.{clientSaid, createSaid, statusSaid, deleteSaid, writeSaid, readSaid, dataSaid, heartbeatSaid, acknackSaid, saidBy, rowSays};
+ghost use Rattle.cwire.specs.Saying.{clientSaid, createSaid, statusSaid, deleteSaid, writeSaid, readSaid, dataSaid, heartbeatSaid, acknackSaid, fragmentSaid, saidBy, rowSays};
 
 // What a row says, or why it says nothing.
 pub enum Said {
@@ -164,6 +165,21 @@ fn acknack(first: u64, bitmap: u64) -> Said
     }))
 }
 
+fn fragment(number: u64, total: u64) -> Said
+    ensures { λ r. ⌜ r ≡ fragmentSaid number total ⌝ }
+{
+    if WORD < number {
+        return Said::Refused(Refusal::OverLimit);
+    }
+    if WORD < total {
+        return Said::Refused(Refusal::OverLimit);
+    }
+    Said::Sub(Submessage::Fragment(FragmentPayload {
+        fragment_nr: number as u16,
+        total_fragments: total as u16,
+    }))
+}
+
 // The id alone decides which fields a row has.
 fn said_by(id: u8, a: u64, b: u64, c: u64) -> Said
     ensures { λ r. ⌜ r ≡ saidBy id a b c ⌝ }
@@ -178,6 +194,7 @@ fn said_by(id: u8, a: u64, b: u64, c: u64) -> Said
         0x09 => data_of(a),
         0x0D => heartbeat(b, c),
         0x0E => acknack(b, c),
+        0x0F => fragment(b, c),
         _ => Said::Refused(Refusal::UnknownSubmessageId(id)),
     }
 }

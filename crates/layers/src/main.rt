@@ -105,7 +105,7 @@ fn main() {
     let mut messages = [0u8; 16384];
     let mut slots = io::large_buffer();
     let mut lengths = [0u32; 65536];
-    let mut sessions = [[0u64; 6]; 256];
+    let mut sessions = [[0u64; 8]; 256];
     let mut streams = [[0u16; 35]; 2048];
     run(
         &mut input,

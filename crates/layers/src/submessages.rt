@@ -10,6 +10,7 @@ use crate::print::line_2;
 use crate::print::number;
 use codec::submessages::CreateClientPayload;
 use codec::submessages::CreatePayload;
+use codec::submessages::FragmentPayload;
 use codec::submessages::StatusPayload;
 use codec::submessages::Submessage;
 
@@ -39,6 +40,14 @@ fn status(p: StatusPayload) {
     );
 }
 
+fn fragment(p: FragmentPayload, body: &[u8]) {
+    say(names::FRAGMENT);
+    number(p.fragment_nr as u64);
+    number(p.total_fragments as u64);
+    bytes(body);
+    end_line();
+}
+
 // What a submessage says; `body` is its variable part.
 pub fn submessage(m: Submessage, body: &[u8]) {
     match m {
@@ -63,5 +72,6 @@ pub fn submessage(m: Submessage, body: &[u8]) {
             p.first_unacked_seq as u64,
             p.nack_bitmap as u64,
         ),
+        Submessage::Fragment(p) => fragment(p, body),
     }
 }

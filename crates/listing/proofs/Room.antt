@@ -17,9 +17,9 @@ use Rattle.codec.specs.Submessages.{idOf}
 use Rattle.codec.specs.Reading.{Item, Items, items, stopped, Message, message, refused, under, itemsAt, messageOf}
 use Rattle.codec.specs.declared.header.MessageHeader.{MessageHeader}
 use Rattle.codec.specs.declared.refusals.Refusal.{Refusal}
-use Rattle.codec.specs.declared.refusals.Refusal.the-variants.{BufferTooShort, UnknownSubmessageId, UnknownObjectKind, UnknownStatusCode, PayloadLengthMismatch, SessionFull, FragmentSizeZero, EmptyPayload, TooManyFragments, FragmentNumber, MissingFragments, TooLong, OutputTooShort, StoreFull, OutOfTurn, OverLimit}
+use Rattle.codec.specs.declared.refusals.Refusal.the-variants.{BufferTooShort, UnknownSubmessageId, UnknownObjectKind, UnknownStatusCode, PayloadLengthMismatch, SessionFull, FragmentSizeZero, EmptyPayload, TooManyFragments, FragmentNumber, MissingFragments, TooLong, OutputTooShort, StoreFull, OutOfTurn, OverLimit, NotInFragments}
 use Rattle.codec.specs.declared.submessages.Submessage.{Submessage}
-use Rattle.codec.specs.declared.submessages.Submessage.the-variants.{CreateClient, Create, Delete, Status, WriteData, ReadData, Data, Heartbeat, Acknack}
+use Rattle.codec.specs.declared.submessages.Submessage.the-variants.{CreateClient, Create, Delete, Status, WriteData, ReadData, Data, Heartbeat, Acknack, Fragment}
 use Rattle.codec.proofs.Pieces.{byte-small, word-small}
 use Rattle.codec.proofs.bytes.Laws.{put-fits}
 use Rattle.codec.proofs.reading.Laws.{read-placed}
@@ -74,6 +74,7 @@ id-small (ReadData p) = omega arith
 id-small (Data p) = omega arith
 id-small (Heartbeat p) = omega arith
 id-small (Acknack p) = omega arith
+id-small (Fragment p) = omega arith
 
 number-small : (r : Refusal) → numberOf r < 100000
 number-small BufferTooShort = omega arith
@@ -92,6 +93,7 @@ number-small OutputTooShort = omega arith
 number-small StoreFull = omega arith
 number-small OutOfTurn = omega arith
 number-small OverLimit = omega arith
+number-small NotInFragments = omega arith
 
 -- a submessage has 4 bytes at least, and its line 22 at most
 subs-room : (s : List ℕ) → length s < 100000 → (at : ℕ) (xs : List Item) → at ≤ length s → InOrder s at xs

@@ -23,7 +23,7 @@ use Rattle.moves.specs.declared.moves.Move.{Move}
 use Rattle.moves.specs.declared.moves.Move.the-variants.{Status, Silent}
 use Rattle.moves.specs.declared.handle.Asked.{Asked}
 use Rattle.moves.specs.declared.handle.Opening.{Opening}
-use Rattle.moves.specs.declared.handle.Opening.the-variants.{Client, Other}
+use Rattle.moves.specs.declared.handle.Opening.the-variants.{Client, Fragment, Other}
 use Rattle.moves.specs.declared.handle.Group.{Group}
 use Rattle.moves.specs.declared.handle.Group.the-variants.{Creates, Deletes, Writes, Reads, Streams, Neither}
 
@@ -116,6 +116,10 @@ namesOne group number = record { opening = Other; group = group; key = 0; number
 abbrev pub onStream : Bool → ℕ → ℕ → Asked
 onStream hears first second = record { opening = Other; group = Streams; key = 0; number = noObject; kind = Participant; parent = 0; hears = hears; first = first; second = second }
 
+-- a FRAGMENT's number and total
+abbrev pub fragmentOf : ℕ → ℕ → Asked
+fragmentOf number total = record { opening = Fragment; group = Neither; key = 0; number = noObject; kind = Participant; parent = 0; hears = false; first = number; second = total }
+
 abbrev pub asksOf : Submessage → Asked
 asksOf (sub.CreateClient p) = opensWith (p .«client_key»)
 asksOf (sub.Create p) = createsAs (p .«object_id») (p .kind) (p .«parent_id»)
@@ -126,6 +130,7 @@ asksOf (sub.Heartbeat p) = onStream true (p .«first_unacked_seq») (p .«last_s
 asksOf (sub.Acknack p) = onStream false (p .«first_unacked_seq») (p .«nack_bitmap»)
 asksOf (sub.Status p) = blankAsked Other
 asksOf (sub.Data p) = blankAsked Other
+asksOf (sub.Fragment p) = fragmentOf (p .«fragment_nr») (p .«total_fragments»)
 
 -- ---- all submessages but CREATE_CLIENT, by what they are about
 

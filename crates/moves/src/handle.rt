@@ -13,11 +13,12 @@ use sessions::objects::Object;
 use sessions::stream_rows::StreamRow;
 use sessions::table::SessionRow;
 ghost use mathlib.Core.Path.{_≡_};
-ghost use Rattle.moves.specs.Rows.{rows, blankAsked, opensWith, createsAs, namesOne, onStream, asksOf, handledMove, handledRows};
+ghost use Rattle.moves.specs.Rows.{rows, blankAsked, opensWith, createsAs, namesOne, onStream, fragmentOf, asksOf, handledMove, handledRows};
 
-// Whether a submessage opens a session; `Unread` where none was read.
+// Whether a submessage opens a session, is a FRAGMENT, or goes to the session as it stands; `Unread` where none was read.
 pub enum Opening {
     Client,
+    Fragment,
     Other,
     Unread,
 }
@@ -33,7 +34,8 @@ pub enum Group {
 }
 
 // A submessage, taken apart: the key of a CREATE_CLIENT; the object that a CREATE, DELETE, WRITE_DATA or READ_DATA names, and
-// a CREATE's kind and parent; the two numbers of a HEARTBEAT, which hears, or of an ACKNACK. What it doesn't have is zero.
+// a CREATE's kind and parent; the two numbers of a HEARTBEAT, which hears, of an ACKNACK, or of a FRAGMENT. What it doesn't
+// have is zero.
 pub struct Asked {
     pub opening: Opening,
     pub group: Group,
@@ -127,6 +129,22 @@ fn on_stream(hears: bool, first: u16, second: u16) -> Asked
     }
 }
 
+fn fragments(number: u16, total: u16) -> Asked
+    ensures { λ r. ⌜ r ≡ fragmentOf number total ⌝ }
+{
+    Asked {
+        opening: Opening::Fragment,
+        group: Group::Neither,
+        key: 0,
+        number: ObjectNumber(0),
+        kind: ObjectKind::Participant,
+        parent: 0,
+        hears: false,
+        first: number,
+        second: total,
+    }
+}
+
 // Each kind, taken apart.
 pub fn asks(m: Submessage) -> Asked
     ensures { λ r. ⌜ r ≡ asksOf m ⌝ }
@@ -144,10 +162,12 @@ pub fn asks(m: Submessage) -> Asked
         Submessage::Acknack(p) => on_stream(false, p.first_unacked_seq, p.nack_bitmap),
         Submessage::Status(_) => blank(Opening::Other),
         Submessage::Data(_) => blank(Opening::Other),
+        Submessage::Fragment(p) => fragments(p.fragment_nr, p.total_fragments),
     }
 }
 
-// By what it is about: its handler, over the session's rows. The session is live, and CREATE_CLIENT is not for it.
+// By what it is about: its handler, over the session's rows. The session is live; CREATE_CLIENT is not for it, and a FRAGMENT
+// is handled before.
 pub fn handle(
     sessions: &mut [SessionRow],
     streams: &mut [StreamRow],

@@ -1,4 +1,4 @@
-// The line of a bridge call. Names and data are parts of the datagram.
+// The line of a bridge call. Names and data are parts of the bytes that its submessage stands in.
 use crate::print::bytes;
 use crate::print::end_line;
 use crate::print::number;

@@ -98,11 +98,24 @@ fn set_up(
     streams: &mut [StreamRow],
     objects: &mut [Object],
     held: &[u8],
+    parts: &[u8],
+    lengths: &[u32],
+    rebuilt: &[u8],
     host: Host,
     c: Command,
 ) -> Host {
     let max = max_clients(c);
-    let made = setup(sessions, streams, objects, held, max, c.second);
+    let made = setup(
+        sessions,
+        streams,
+        objects,
+        held,
+        parts,
+        lengths,
+        rebuilt,
+        max,
+        c.second,
+    );
     set_up_said(made, host)
 }
 
@@ -111,6 +124,9 @@ fn datagram(
     streams: &mut [StreamRow],
     objects: &mut [Object],
     held: &mut [u8],
+    parts: &mut [u8],
+    lengths: &mut [u32],
+    rebuilt: &mut [u8],
     out: &mut [u8],
     line: &[u8],
     kept: &mut [u8],
@@ -127,12 +143,15 @@ fn datagram(
         streams,
         objects,
         held,
+        parts,
+        lengths,
+        rebuilt,
         &mut out[..room],
         &line[..count],
         agent,
         given,
     );
-    say(out, room, line, p);
+    say(out, room, line, rebuilt, p);
     let older = host.kept;
     after_datagram(kept, line, count, p, older)
 }
@@ -142,6 +161,9 @@ fn answer(
     streams: &mut [StreamRow],
     objects: &mut [Object],
     held: &mut [u8],
+    parts: &mut [u8],
+    lengths: &mut [u32],
+    rebuilt: &mut [u8],
     out: &mut [u8],
     line: &[u8],
     kept: &[u8],
@@ -159,13 +181,16 @@ fn answer(
         streams,
         objects,
         held,
+        parts,
+        lengths,
+        rebuilt,
         &mut out[..room],
         &kept[..length],
         &line[..count],
         agent,
         told,
     );
-    say(out, room, kept, p);
+    say(out, room, kept, rebuilt, p);
     after(p, length)
 }
 
@@ -204,6 +229,9 @@ pub fn event(
     streams: &mut [StreamRow],
     objects: &mut [Object],
     held: &mut [u8],
+    parts: &mut [u8],
+    lengths: &mut [u32],
+    rebuilt: &mut [u8],
     out: &mut [u8],
     line: &[u8],
     kept: &mut [u8],
@@ -213,12 +241,48 @@ pub fn event(
 ) -> Host {
     let g = group_of(c);
     match g {
-        Group::SetUp => set_up(sessions, streams, objects, held, host, c),
-        Group::Datagram => datagram(sessions, streams, objects, held, out, line, kept, host, c),
-        Group::Answer => answer(sessions, streams, objects, held, out, line, kept, host, c),
+        Group::SetUp => set_up(
+            sessions,
+            streams,
+            objects,
+            held,
+            parts,
+            lengths,
+            rebuilt,
+            host,
+            c,
+        ),
+        Group::Datagram => datagram(
+            sessions,
+            streams,
+            objects,
+            held,
+            parts,
+            lengths,
+            rebuilt,
+            out,
+            line,
+            kept,
+            host,
+            c,
+        ),
+        Group::Answer => answer(
+            sessions,
+            streams,
+            objects,
+            held,
+            parts,
+            lengths,
+            rebuilt,
+            out,
+            line,
+            kept,
+            host,
+            c,
+        ),
         Group::Dump => {
             pack_all(objects, packed);
-            dump(sessions, streams, held, packed);
+            dump(sessions, streams, held, parts, lengths, packed);
             host
         }
         Group::List => {

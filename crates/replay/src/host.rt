@@ -12,6 +12,7 @@ use agent::process::Processed;
 use agent::state::Agent;
 use agent::state::Waiting;
 use moves::proxy::BridgeAnswer;
+use moves::proxy::BridgeCall;
 use sessions::objects::Handle;
 
 // The agent, whether it was ever set up, and the length of the datagram that is kept for its open call.
@@ -86,9 +87,23 @@ fn copy(kept: &mut [u8], d: &[u8], count: usize) {
     }
 }
 
+// A call shows parts of the datagram, or of the rebuilt bytes that its submessage stands in (document 02, W6).
+fn say_shown(d: &[u8], rebuilt: &[u8], waits: Waiting, call: BridgeCall) {
+    match waits {
+        Waiting::Nothing => say_call(d, call),
+        Waiting::Call(p) => if p.left_end == 0 {
+            say_call(d, call)
+        } else {
+            say_call(between(rebuilt, 0, p.left_end), call)
+        },
+    }
+}
+
 // The replies, then the call or the end; or the refusal. `d` begins with the datagram.
-pub fn say(out: &[u8], room: usize, d: &[u8], p: Processed) {
+pub fn say(out: &[u8], room: usize, d: &[u8], rebuilt: &[u8], p: Processed) {
     let outcome = p.outcome;
+    let agent = p.agent;
+    let waits = agent.waits;
     match outcome {
         Outcome::Replied(n) => {
             moved(out, n, room);
@@ -98,7 +113,7 @@ pub fn say(out: &[u8], room: usize, d: &[u8], p: Processed) {
         Outcome::Called(call, n) => {
             moved(out, n, room);
             replies(between(out, 0, n));
-            say_call(d, call)
+            say_shown(d, rebuilt, waits, call)
         }
         Outcome::Refused(x) => {
             moved(out, 0, room);

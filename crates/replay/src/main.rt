@@ -4,6 +4,7 @@ mod calls;
 mod command;
 mod dump;
 mod events;
+mod fragments;
 mod host;
 mod listing;
 mod names;

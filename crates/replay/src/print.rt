@@ -93,7 +93,7 @@ fn digits(bytes: &[u8]) {
     }
 }
 
-// A held message: its number and its bytes.
+// A held message or a fragment: its number and its bytes.
 pub fn message(n: u16, bytes: &[u8]) {
     number(n as u64);
     text(b":");

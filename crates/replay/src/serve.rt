@@ -25,6 +25,9 @@ fn serve(
     streams: &mut [StreamRow],
     objects: &mut [Object],
     held: &mut [u8],
+    parts: &mut [u8],
+    lengths: &mut [u32],
+    rebuilt: &mut [u8],
     packed: &mut [Packed],
 ) {
     let mut reading = first_reading();
@@ -43,6 +46,9 @@ fn serve(
             streams,
             objects,
             held,
+            parts,
+            lengths,
+            rebuilt,
             out,
             line,
             kept,
@@ -63,6 +69,9 @@ pub fn own(
     sessions: &mut [SessionRow],
     streams: &mut [StreamRow],
     held: &mut [u8],
+    parts: &mut [u8],
+    lengths: &mut [u32],
+    rebuilt: &mut [u8],
     packed: &mut [Packed],
 ) {
     let number = ObjectNumber(0);
@@ -77,6 +86,9 @@ pub fn own(
         streams,
         &mut objects,
         held,
+        parts,
+        lengths,
+        rebuilt,
         packed,
     );
 }

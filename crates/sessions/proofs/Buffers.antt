@@ -27,7 +27,7 @@ cut (suc i) (suc n) m (x ∷ l) h = cut i n m l (omega arith)
 
 -- a buffer of the length of its stretch is put in its place
 module _ (held buffer : List ℕ) (b : Stretch) (long : length buffer ≡ roomOf b) where
-  with-put : withBuffer held b buffer ≡ putAt held (b .start) buffer
+  pub with-put : withBuffer held b buffer ≡ putAt held (b .start) buffer
   unfolding withBuffer putAt
   with-put =
       ap (λ (rest : List ℕ). take (b .start) held ++ (buffer ++ rest)) (drop-drop (roomOf b) (b .start) held ∙ ap (λ (m : ℕ). drop (b .start + m) held) (sym long))

@@ -70,8 +70,8 @@ pub record Table : Type 0 where
   -- a to k
   pub streams : Below
   -- l, on what set-up leaves of any stores that it accepts
-  pub l : (sessions streams : List (List ℕ)) (objects : List Object) (held next : ℕ)
-      → setUpAnswer (setUpOf (length sessions) (length streams) (length objects) held 8) ≡ gives next → CaseL (empty sessions streams) next
+  pub l : (sessions streams : List (List ℕ)) (objects : List Object) (held parts lengths rebuilt next : ℕ)
+      → setUpAnswer (setUpOf (length sessions) (length streams) (length objects) held parts lengths rebuilt 8) ≡ gives next → CaseL (empty sessions streams) next
 
 -- ---- k sessions are live, and the ids from n on are free
 
@@ -124,12 +124,12 @@ module _ (t : Stores) (k n id : ℕ) (u : Upto t k n) (low : 1 ≤ id) (below : 
 
 -- ---- the case
 
-module _ (sessions streams : List (List ℕ)) (objects : List Object) (held next : ℕ) (ok : setUpOf (length sessions) (length streams) (length objects) held 8 ≡ Ready next) where
+module _ (sessions streams : List (List ℕ)) (objects : List Object) (held parts lengths rebuilt next : ℕ) (ok : setUpOf (length sessions) (length streams) (length objects) held parts lengths rebuilt 8 ≡ Ready next) where
   from-none : Upto (empty sessions streams) 0 1
   from-none =
       record {
-        sessions-long = rows-long sessions streams objects held 8 next ok;
-        streams-long = streams-long sessions streams objects held 8 next ok;
+        sessions-long = rows-long sessions streams objects held parts lengths rebuilt 8 next ok;
+        streams-long = streams-long sessions streams objects held parts lengths rebuilt 8 next ok;
         live = live-none sessions;
         free = λ j a b. none-live sessions j b;
       }
@@ -143,7 +143,7 @@ module _ (sessions streams : List (List ℕ)) (objects : List Object) (held next
       let second = is-live (one t key time) 1 2 u (omega arith) (omega arith) (key 2) (time 2) in
       let still : isFree (three t key time .sessions) 2 ≡ false =
       free-elsewhere (two t key time .sessions) 3 (rowOf (newSession (key 3) (time 3) (freeSlot (two t key time .sessions)))) 2 (λ e. omega arith) ∙ second in (
-        first-opened sessions streams objects held 8 next ok (omega arith),
+        first-opened sessions streams objects held parts lengths rebuilt 8 next ok (omega arith),
         opens-next (one t key time) 1 2 u (omega arith) (omega arith) (omega arith),
         opens-next (two t key time) 2 3 v (omega arith) (omega arith) (omega arith),
         ap namedAnswer (removes (three t key time) 3 4 2 w (omega arith) (omega arith) (omega arith) still),
@@ -158,5 +158,5 @@ pub cases : Table
 cases =
     record {
       streams = below;
-      l = λ sessions streams objects held next e. case-l sessions streams objects held next (ready (setUpOf (length sessions) (length streams) (length objects) held 8) next e);
+      l = λ sessions streams objects held parts lengths rebuilt next e. case-l sessions streams objects held parts lengths rebuilt next (ready (setUpOf (length sessions) (length streams) (length objects) held parts lengths rebuilt 8) next e);
     }

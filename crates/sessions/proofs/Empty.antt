@@ -28,18 +28,18 @@ pub live-none : (sessions : List (List ℕ)) → liveOf (emptySessions sessions)
 unfolding liveOf
 live-none sessions = none-counted (emptySessions sessions) 255 1 (λ j h. none-live sessions j (omega arith))
 
-module _ (sessions streams : List (List ℕ)) (objects : List Object) (held max next : ℕ)
-    (ok : setUpOf (length sessions) (length streams) (length objects) held max ≡ Ready next) where
+module _ (sessions streams : List (List ℕ)) (objects : List Object) (held parts lengths rebuilt max next : ℕ)
+    (ok : setUpOf (length sessions) (length streams) (length objects) held parts lengths rebuilt max ≡ Ready next) where
   by-fits : (b : Bool) → cond b (Ready firstId) (Refused OverLimit) ≡ Ready next → (b ≡ true) × (next ≡ firstId)
   by-fits true e = (refl, cc)
   by-fits false e = let z : _≡_ {A = ℕ} 0 1 = cc in absurd (omega arith)
 
-  accepted : (storesFit (length sessions) (length streams) (length objects) held max ≡ true) × (next ≡ firstId)
+  accepted : (storesFit (length sessions) (length streams) (length objects) held parts lengths rebuilt max ≡ true) × (next ≡ firstId)
   unfolding setUpOf
-  accepted = by-fits (storesFit (length sessions) (length streams) (length objects) held max) ok
+  accepted = by-fits (storesFit (length sessions) (length streams) (length objects) held parts lengths rebuilt max) ok
 
-  pub long : Long (length sessions) (length streams) (length objects) held max
-  long = accepts (length sessions) (length streams) (length objects) held max (accepted .0)
+  pub long : Long (length sessions) (length streams) (length objects) held parts lengths rebuilt max
+  long = accepts (length sessions) (length streams) (length objects) held parts lengths rebuilt max (accepted .0)
 
   pub first-is : next ≡ firstId
   first-is = accepted .1

@@ -62,7 +62,7 @@ module _ (sessions streams : List (List ℕ)) (objects : List Object) (id : ℕ)
   abbrev byFree : Bool → Named
   byFree free = cond free named.NotLive named.Live
 
-  module _ (room max stream : ℕ) (k : Kept sessions streams objects room max id stream) where
+  module _ (room parts : ℕ) (lengths : List ℕ) (rebuilt max stream : ℕ) (k : Kept sessions streams objects room parts lengths rebuilt max id stream) where
     names : namedOf sessions id ≡ byFree (isFree sessions id)
     names = named-when sessions id (k .stores .sessions-long)
 
@@ -165,18 +165,18 @@ module _ (sessions streams : List (List ℕ)) (objects : List Object) (id : ℕ)
             placed (ltb k used) (leb 8 used) k used
 
   -- "right after 15", with one check for all of them
-  pub within-none : (held max stream : ℕ) → limitsAnswer (limitsOf sessions streams objects held max id stream) ≡ gives tt → NoneRefused
-  within-none held max stream e =
-      let k = kept-limits sessions streams objects held max id stream (by (limitsOf sessions streams objects held max id stream) e) in
+  pub within-none : (held parts : ℕ) (lengths : List ℕ) (rebuilt max stream : ℕ) → limitsAnswer (limitsOf sessions streams objects held parts lengths rebuilt max id stream) ≡ gives tt → NoneRefused
+  within-none held parts lengths rebuilt max stream e =
+      let k = kept-limits sessions streams objects held parts lengths rebuilt max id stream (by (limitsOf sessions streams objects held parts lengths rebuilt max id stream) e) in
       record {
-        get = got-none held max stream k;
-        named = named-none held max stream k;
-        find = find-none held max stream k;
-        take = take-none held max stream k;
-        put = put-none held max stream k;
-        room = room-none held max stream k;
-        open-stream = λ n. stream-none held max stream k n .0;
-        stream = λ n. stream-none held max stream k n .1;
+        get = got-none held parts lengths rebuilt max stream k;
+        named = named-none held parts lengths rebuilt max stream k;
+        find = find-none held parts lengths rebuilt max stream k;
+        take = take-none held parts lengths rebuilt max stream k;
+        put = put-none held parts lengths rebuilt max stream k;
+        room = room-none held parts lengths rebuilt max stream k;
+        open-stream = λ n. stream-none held parts lengths rebuilt max stream k n .0;
+        stream = λ n. stream-none held parts lengths rebuilt max stream k n .1;
       }
     where
       by : (r : Limits) → limitsAnswer r ≡ gives tt → r ≡ limits.Within

@@ -26,5 +26,7 @@ pub mod TakeDown
 pub mod Reached
 pub mod Steps
 pub mod ViewSending
+pub mod ViewFragments
 pub mod StepsSending
+pub mod StepsFragments
 pub mod Calls

@@ -10,14 +10,18 @@ use borrow.Author.Tests.{eqb-true, eqb-false, ltb-true, leb-true, leb-false}
 use lib.Dec.{eqb, leb, ltb}
 use lib.ListN.{length, getD, set, length-set}
 use lib.Seq.{getD-set-same, getD-set-other}
+use Rattle.codec.specs.Reassembly.{anyOf}
+use Rattle.codec.specs.Inserts.{slotsOf, heldIn}
+use Rattle.codec.specs.Inserts as codec
 use Rattle.codec.specs.declared.refusals.Refusal.the-variants.{SessionFull, OverLimit}
 use Rattle.codec.specs.declared.submessages.ObjectNumber.{ObjectNumber}
 use Rattle.streams.specs.State.{newStream}
 use Rattle.streams.specs.declared.state.StreamState.{StreamState}
 use Rattle.sessions.specs.Table.{rowOf, sessionOf, sessionAt, keepSession, tableFits, isFree, namedOf, keptRows, touchedSession, touchedRows, endedSession, endedRows, newSession}
-use Rattle.sessions.specs.Need.{heldNeed, storesFit}
+use Rattle.sessions.specs.Need.{heldNeed, partsNeed, lengthsNeed, rebuiltNeed, storesFit}
 use Rattle.sessions.specs.Opening.{after, liveOf, freeOf, openFits, chosenOf, createdOf, freeSlot}
 use Rattle.sessions.specs.Held.{heldPart}
+use Rattle.sessions.specs.Fragments.{bufferWith}
 use Rattle.sessions.specs.Setup.{noStream, emptySessions, emptyStreams, emptyObjects, firstId, setUpOf}
 use Rattle.sessions.specs.Sweep.{goes, expiredIds, sweptRows, evictedRows}
 use Rattle.sessions.specs.Streams.{streamRow, streamOf, streamsFit, firstStream}
@@ -65,6 +69,11 @@ kept-length named.Live rows id s = length-set rows id (rowOf s)
 kept-length named.NotLive rows id s = refl
 kept-length (named.Refused r) rows id s = refl
 
+-- a store of no fragments
+pub no-fragments : (parts lengths : List ℕ) → codec.Sound (record { buffer = bufferWith 0 0; slots = parts; lengths = lengths })
+unfolding anyOf slotsOf heldIn
+no-fragments parts lengths = record { there = omega arith; entries = omega arith; within = refl; counted = refl }
+
 -- no pointer past the last id leads to one past it
 module _ (sessions streams : List (List ℕ)) (max next : ℕ) (next< : next < 256) where
   fits-next : openFits sessions streams max next ≡ true → 1 ≤ next
@@ -87,14 +96,17 @@ module _ (sessions streams : List (List ℕ)) (max next : ℕ) (next< : next < 2
 module _ (P : StreamState → Type 0) (lasting : Lasting P) (most : ℕ) where
   -- ---- a part of which nothing is in use
 
-  ended-sound : (held : List ℕ) (p : Part) → SoundPart P (table.withSession held endedSession p)
+  ended-sound : (t : Tables) (p : Part) → SoundPart P (table.withSession t endedSession p)
   unfolding listed opened shownFrom
-  ended-sound held p = record {
+  ended-sound t p = record {
     few-objects = omega arith;
     few-streams = omega arith;
     objects-differ = none-distinct;
     streams-differ = none-distinct;
     written = λ k h. let z : ⊥ = omega arith in absurd z;
+    few-fragments = omega arith;
+    fragments = no-fragments (table.partsOf t endedSession) (table.lengthsOf t endedSession);
+    fragments-gone = λ e. refl;
     stream-zero = λ e. absurd (never refl e);
   }
 
@@ -105,6 +117,9 @@ module _ (P : StreamState → Type 0) (lasting : Lasting P) (most : ℕ) where
     pub streams-length : length (t′ .streams) ≡ length (t .streams)
     pub objects-length : length (t′ .objects) ≡ length (t .objects)
     pub held-length : length (t′ .held) ≡ length (t .held)
+    pub parts-length : length (t′ .parts) ≡ length (t .parts)
+    pub lengths-length : length (t′ .lengths) ≡ length (t .lengths)
+    pub rebuilt-length : length (t′ .rebuilt) ≡ length (t .rebuilt)
     pub elsewhere : (j : ℕ) → j ≢ id → tablePart t′ j ≡ tablePart t j
     pub here : SoundPart P (tablePart t′ id)
 
@@ -114,13 +129,13 @@ module _ (P : StreamState → Type 0) (lasting : Lasting P) (most : ℕ) where
 
   module _ (t : Tables) (d : SoundTables P most t) where
     pub same-led : LeadsTo P most t t
-    same-led = record { sound = d; sessions-length = refl; streams-length = refl; objects-length = refl; held-length = refl }
+    same-led = record { sound = d; sessions-length = refl; streams-length = refl; objects-length = refl; held-length = refl; parts-length = refl; lengths-length = refl; rebuilt-length = refl }
 
     same-changed : (id : ℕ) → id < 256 → Changed t t id
-    same-changed id h = record { sessions-length = refl; streams-length = refl; objects-length = refl; held-length = refl; elsewhere = λ j n. refl; here = d .each id h }
+    same-changed id h = record { sessions-length = refl; streams-length = refl; objects-length = refl; held-length = refl; parts-length = refl; lengths-length = refl; rebuilt-length = refl; elsewhere = λ j n. refl; here = d .each id h }
 
     -- the slots stay sound where those of live sessions stay
-    same-slots : (rows : List (List ℕ)) → ((j : ℕ) → j < 256 → isFree rows j ≡ false → (isFree (t .sessions) j ≡ false) × (sessionAt rows j .slot ≡ sessionAt (t .sessions) j .slot)) → SoundSlots most rows
+    pub same-slots : (rows : List (List ℕ)) → ((j : ℕ) → j < 256 → isFree rows j ≡ false → (isFree (t .sessions) j ≡ false) × (sessionAt rows j .slot ≡ sessionAt (t .sessions) j .slot)) → SoundSlots most rows
     same-slots rows f = record {
       under = λ j h e. let g = f j h e in rw (g .1) (d .slots .under j h (g .0));
       differ = λ i j a b x y e. let p = f i a x in let q = f j b y in d .slots .differ i j a b (p .0) (q .0) (sym (p .1) ∙ e ∙ q .1);
@@ -145,6 +160,9 @@ module _ (P : StreamState → Type 0) (lasting : Lasting P) (most : ℕ) where
         streams-need = rw (c .streams-length) (d .streams-need);
         objects-need = rw (c .objects-length) (d .objects-need);
         held-need = rw (c .held-length) (d .held-need);
+        parts-need = rw (c .parts-length) (d .parts-need);
+        lengths-need = rw (c .lengths-length) (d .lengths-need);
+        rebuilt-need = rw (c .rebuilt-length) (d .rebuilt-need);
         zero-free = ap (λ (p : Part). eqb (p .session .live) 0) (c .elsewhere 0 (λ e. omega arith)) ∙ d .zero-free;
         slots = slots;
         each = λ j h. by j h (eqb j id) refl;
@@ -153,6 +171,9 @@ module _ (P : StreamState → Type 0) (lasting : Lasting P) (most : ℕ) where
       streams-length = c .streams-length;
       objects-length = c .objects-length;
       held-length = c .held-length;
+      parts-length = c .parts-length;
+      lengths-length = c .lengths-length;
+      rebuilt-length = c .rebuilt-length;
     }
       where
         by : (j : ℕ) → j < 256 → (b : Bool) → eqb j id ≡ b → SoundPart P (tablePart t′ j)
@@ -192,17 +213,20 @@ module _ (P : StreamState → Type 0) (lasting : Lasting P) (most : ℕ) where
     -- ---- a session that changes
 
     module _ (id : ℕ) (id< : id < 256) (s : ClientSession) where
-      session-changed : SoundPart P (table.withSession (t .held) s (tablePart t id)) → isFree (t .sessions) id ≡ false → Changed t (table.changed t id (d .sessions-need) id< s) id
+      session-changed : SoundPart P (table.withSession t s (tablePart t id)) → isFree (t .sessions) id ≡ false → Changed t (table.changed t id (d .sessions-need) id< s) id
       session-changed g live = record {
         sessions-length = kept-length (namedOf (t .sessions) id) (t .sessions) id s;
         streams-length = refl;
         objects-length = refl;
         held-length = refl;
+        parts-length = refl;
+        lengths-length = refl;
+        rebuilt-length = refl;
         elsewhere = table.changed-elsewhere t id (d .sessions-need) id< s;
         here = subst (SoundPart P) (sym (table.changed-here t id (d .sessions-need) id< s live)) g;
       }
 
-      session-led : SoundPart P (table.withSession (t .held) s (tablePart t id)) → (eqb (s .live) 0 ≡ false → s .slot ≡ sessionAt (t .sessions) id .slot) → LeadsTo P most t (table.changed t id (d .sessions-need) id< s)
+      session-led : SoundPart P (table.withSession t s (tablePart t id)) → (eqb (s .live) 0 ≡ false → s .slot ≡ sessionAt (t .sessions) id .slot) → LeadsTo P most t (table.changed t id (d .sessions-need) id< s)
       session-led g same = call-led (table.changed t id (d .sessions-need) id< s) id (table.changed-free t id (d .sessions-need) id< s) (λ e. (session-changed g e, slot-same e))
         where
           slot-same : isFree (t .sessions) id ≡ false → SameSlot t (table.changed t id (d .sessions-need) id< s) id
@@ -215,12 +239,12 @@ module _ (P : StreamState → Type 0) (lasting : Lasting P) (most : ℕ) where
     touch-led id time h =
         let g = d .each id h in
         session-led id h (touchedSession (sessionAt (t .sessions) id) time)
-        (record { few-objects = g .few-objects; few-streams = g .few-streams; objects-differ = g .objects-differ; streams-differ = g .streams-differ; written = g .written; stream-zero = g .stream-zero })
+        (record { few-objects = g .few-objects; few-streams = g .few-streams; objects-differ = g .objects-differ; streams-differ = g .streams-differ; written = g .written; few-fragments = g .few-fragments; fragments = g .fragments; fragments-gone = g .fragments-gone; stream-zero = g .stream-zero })
         (λ e. refl)
 
     pub remove-led : (id : ℕ) → id < 256 → LeadsTo P most t (withSessions t (endedRows (t .sessions) id))
     unfolding endedRows
-    remove-led id h = session-led id h endedSession (ended-sound (t .held) (tablePart t id)) (λ e. absurd (never refl e))
+    remove-led id h = session-led id h endedSession (ended-sound t (tablePart t id)) (λ e. absurd (never refl e))
 
     -- ---- a sweep
 
@@ -232,6 +256,9 @@ module _ (P : StreamState → Type 0) (lasting : Lasting P) (most : ℕ) where
         streams-need = d .streams-need;
         objects-need = d .objects-need;
         held-need = d .held-need;
+        parts-need = d .parts-need;
+        lengths-need = d .lengths-need;
+        rebuilt-need = d .rebuilt-need;
         zero-free = ap (λ (s : ClientSession). eqb (s .live) 0) first ∙ d .zero-free;
         slots = same-slots (sweptRows (t .sessions) time timeout) (λ j h e. still j h e (eqb j 0) refl);
         each = λ j h. by j h (eqb j 0) refl;
@@ -240,6 +267,9 @@ module _ (P : StreamState → Type 0) (lasting : Lasting P) (most : ℕ) where
       streams-length = refl;
       objects-length = refl;
       held-length = refl;
+      parts-length = refl;
+      lengths-length = refl;
+      rebuilt-length = refl;
     }
       where
         long : length (sweptRows (t .sessions) time timeout) ≡ length (t .sessions)
@@ -266,14 +296,14 @@ module _ (P : StreamState → Type 0) (lasting : Lasting P) (most : ℕ) where
             let g = stayed j (goes (t .sessions) time timeout j) (sym (ap (λ (s : ClientSession). eqb (s .live) 0) w) ∙ e) in
             (g .0, ap (λ (s : ClientSession). s .slot) w ∙ g .1)
 
-        either : (j : ℕ) → j < 256 → (g : Bool) → SoundPart P (table.withSession (t .held) (cond g endedSession (sessionAt (t .sessions) j)) (tablePart t j))
-        either j h true = ended-sound (t .held) (tablePart t j)
+        either : (j : ℕ) → j < 256 → (g : Bool) → SoundPart P (table.withSession t (cond g endedSession (sessionAt (t .sessions) j)) (tablePart t j))
+        either j h true = ended-sound t (tablePart t j)
         either j h false = d .each j h
 
         by : (j : ℕ) → j < 256 → (b : Bool) → eqb j 0 ≡ b → SoundPart P (tablePart (withSessions t (sweptRows (t .sessions) time timeout)) j)
         by j h true e =
             subst (λ (k : ℕ). SoundPart P (tablePart (withSessions t (sweptRows (t .sessions) time timeout)) k)) (sym (eqb-true j 0 e))
-            (subst (SoundPart P) (sym (ap (λ (s : ClientSession). table.withSession (t .held) s (tablePart t 0)) first)) (d .each 0 (omega arith)))
+            (subst (SoundPart P) (sym (ap (λ (s : ClientSession). table.withSession t s (tablePart t 0)) first)) (d .each 0 (omega arith)))
         by j h false e =
             let n : j ≢ 0 = eqb-false j 0 e in
             subst (SoundPart P) (sym (table.swept-part time timeout t j (d .sessions-need) (omega (arith, n)) h)) (either j h (goes (t .sessions) time timeout j))
@@ -300,6 +330,9 @@ module _ (P : StreamState → Type 0) (lasting : Lasting P) (most : ℕ) where
           streams = t .streams;
           objects = sym (kept-is (t .sessions) (t .objects) id o named.NotLive no-objects) i;
           held = t .held;
+          parts = t .parts;
+          lengths = t .lengths;
+          rebuilt = t .rebuilt;
         }
 
         drop-free : (n : ObjectNumber) → dropTables t id n ≡ t
@@ -308,6 +341,9 @@ module _ (P : StreamState → Type 0) (lasting : Lasting P) (most : ℕ) where
           streams = t .streams;
           objects = sym (removed-is (t .sessions) (t .objects) id n named.NotLive no-objects) i;
           held = t .held;
+          parts = t .parts;
+          lengths = t .lengths;
+          rebuilt = t .rebuilt;
         }
 
         no-streams : streamsNamed (t .sessions) (length (t .streams)) id ≡ named.NotLive
@@ -352,6 +388,9 @@ module _ (P : StreamState → Type 0) (lasting : Lasting P) (most : ℕ) where
                   streams-length = refl;
                   objects-length = ap length (stores.put-set t id id< its-objects o room) ∙ length-set (t .objects) _ o;
                   held-length = refl;
+                  parts-length = refl;
+                  lengths-length = refl;
+                  rebuilt-length = refl;
                   elsewhere = stores.put-part-elsewhere t id id< its-objects o room;
                   here =
                       subst (SoundPart P) (sym (stores.put-part t id id< its-objects o room))
@@ -363,6 +402,9 @@ module _ (P : StreamState → Type 0) (lasting : Lasting P) (most : ℕ) where
                             (put-distinct (listed used row) (g .objects-differ) (entryOf o));
                         streams-differ = g .streams-differ;
                         written = g .written;
+                        few-fragments = g .few-fragments;
+                        fragments = g .fragments;
+                        fragments-gone = g .fragments-gone;
                         stream-zero = g .stream-zero;
                       });
                 }
@@ -376,37 +418,14 @@ module _ (P : StreamState → Type 0) (lasting : Lasting P) (most : ℕ) where
             under : Under used p
             under = place-under row n used
 
-            sessions-same : (q : Place) → length (stores.dropped t id id< its-objects q .sessions) ≡ length (t .sessions)
-            sessions-same (At k) = by (dependedAt row used fits (At k))
+            -- a length that stays where the record goes
+            same : (long : Tables → ℕ) (q : Place) → Under used q → ((k : ℕ) → k < used → long (stores.gone t id id< its-objects k) ≡ long t) → long (stores.dropped t id id< its-objects q) ≡ long t
+            same long (At k) h f = by (dependedAt row used fits (At k))
               where
-                by : (b : Bool) → length (cond b t (stores.gone t id id< its-objects k) .sessions) ≡ length (t .sessions)
+                by : (b : Bool) → long (cond b t (stores.gone t id id< its-objects k)) ≡ long t
                 by true = refl
-                by false = length-set (t .sessions) id (rowOf (countedSession (sessionAt (t .sessions) id) (used - 1)))
-            sessions-same Nowhere = refl
-
-            streams-same : (q : Place) → length (stores.dropped t id id< its-objects q .streams) ≡ length (t .streams)
-            streams-same (At k) = by (dependedAt row used fits (At k))
-              where
-                by : (b : Bool) → length (cond b t (stores.gone t id id< its-objects k) .streams) ≡ length (t .streams)
-                by true = refl
-                by false = refl
-            streams-same Nowhere = refl
-
-            objects-same : (q : Place) → Under used q → length (stores.dropped t id id< its-objects q .objects) ≡ length (t .objects)
-            objects-same (At k) h = by (dependedAt row used fits (At k))
-              where
-                by : (b : Bool) → length (cond b t (stores.gone t id id< its-objects k) .objects) ≡ length (t .objects)
-                by true = refl
-                by false = ap length (stores.gone-set t id id< its-objects k h) ∙ length-set (t .objects) _ _
-            objects-same Nowhere h = refl
-
-            held-same : (q : Place) → length (stores.dropped t id id< its-objects q .held) ≡ length (t .held)
-            held-same (At k) = by (dependedAt row used fits (At k))
-              where
-                by : (b : Bool) → length (cond b t (stores.gone t id id< its-objects k) .held) ≡ length (t .held)
-                by true = refl
-                by false = refl
-            held-same Nowhere = refl
+                by false = f k h
+            same long Nowhere h f = refl
 
             few : (q : Place) → left row used fits q ≤ 32
             few (At k) = by (dependedAt row used fits (At k))
@@ -418,10 +437,13 @@ module _ (P : StreamState → Type 0) (lasting : Lasting P) (most : ℕ) where
 
             changed : Changed t (stores.dropped t id id< its-objects p) id
             changed = record {
-              sessions-length = sessions-same p;
-              streams-length = streams-same p;
-              objects-length = objects-same p under;
-              held-length = held-same p;
+              sessions-length = same (λ (u : Tables). length (u .sessions)) p under (λ k h. length-set (t .sessions) id (rowOf (countedSession (sessionAt (t .sessions) id) (used - 1))));
+              streams-length = same (λ (u : Tables). length (u .streams)) p under (λ k h. refl);
+              objects-length = same (λ (u : Tables). length (u .objects)) p under (λ k h. ap length (stores.gone-set t id id< its-objects k h) ∙ length-set (t .objects) _ _);
+              held-length = same (λ (u : Tables). length (u .held)) p under (λ k h. refl);
+              parts-length = same (λ (u : Tables). length (u .parts)) p under (λ k h. refl);
+              lengths-length = same (λ (u : Tables). length (u .lengths)) p under (λ k h. refl);
+              rebuilt-length = same (λ (u : Tables). length (u .rebuilt)) p under (λ k h. refl);
               elsewhere = λ j h. stores.dropped-part-elsewhere t id id< its-objects j h p under;
               here =
                   subst (SoundPart P) (sym (stores.dropped-part t id id< its-objects p under))
@@ -431,6 +453,9 @@ module _ (P : StreamState → Type 0) (lasting : Lasting P) (most : ℕ) where
                     objects-differ = subst (λ (es : List Entry). Distinct (objectNumbers es)) (sym (drop-shown row used fits (g .objects-differ) n)) (remove-distinct (listed used row) (g .objects-differ) (n .0));
                     streams-differ = g .streams-differ;
                     written = g .written;
+                    few-fragments = g .few-fragments;
+                    fragments = g .fragments;
+                    fragments-gone = g .fragments-gone;
                     stream-zero = g .stream-zero;
                   });
             }
@@ -463,6 +488,9 @@ module _ (P : StreamState → Type 0) (lasting : Lasting P) (most : ℕ) where
           streams-length = length-set (t .streams) (firstStream id + open-now) (streamRow (newStream n));
           objects-length = refl;
           held-length = refl;
+          parts-length = refl;
+          lengths-length = refl;
+          rebuilt-length = refl;
           elsewhere = streams.added-elsewhere t id id< its-streams n n< room;
           here =
               subst (SoundPart P) (sym (streams.added-part t id id< its-streams n n< room))
@@ -474,6 +502,9 @@ module _ (P : StreamState → Type 0) (lasting : Lasting P) (most : ℕ) where
                     subst (λ (ks : List KeptStream). Distinct (streamNumbers ks)) (sym (streams.added-shown t id id< its-streams n n< room absent))
                     (open-distinct (streams.shown t id id< its-streams) n (g .streams-differ));
                 written = λ i h. set-written (newStream n) (lasting .opens n) open-now room i (λ e. g .written i (omega (arith, e)));
+                few-fragments = g .few-fragments;
+                fragments = g .fragments;
+                fragments-gone = g .fragments-gone;
                 stream-zero = λ e. let z = g .stream-zero e in (omega (arith, z .0), ap (λ (l : List ℕ). streamOf l .«stream_id») (getD-set-other rows open-now 0 (streamRow (newStream n)) [] (λ q. omega (arith, z .0, q))) ∙ z .1);
               });
         }
@@ -511,6 +542,9 @@ module _ (P : StreamState → Type 0) (lasting : Lasting P) (most : ℕ) where
               streams-length = length-set (t .streams) (firstStream id + k) (streamRow s);
               objects-length = refl;
               held-length = refl;
+              parts-length = refl;
+              lengths-length = refl;
+              rebuilt-length = refl;
               elsewhere = streams.written-elsewhere t id id< its-streams s s< k (e .0);
               here =
                   subst (SoundPart P) (sym (streams.written-part t id id< its-streams s s< k (e .0)))
@@ -523,6 +557,9 @@ module _ (P : StreamState → Type 0) (lasting : Lasting P) (most : ℕ) where
                         (sym (ap streamNumbers (streams.written-shown t id id< its-streams s s< k e) ∙ write-numbers (streams.shown t id id< its-streams) (streams.withBuffer t id id< its-streams s s< (Have k))))
                         (g .streams-differ);
                     written = λ i h. set-written s w k (let f : open-now ≤ 8 = g .few-streams in let l : k < open-now = e .0 in omega arith) i (λ q. g .written i h);
+                    few-fragments = g .few-fragments;
+                    fragments = g .fragments;
+                    fragments-gone = g .fragments-gone;
                     stream-zero = λ q. let z = g .stream-zero q in (z .0, first-number k e z (eqb 0 k) refl);
                   });
             }
@@ -602,7 +639,7 @@ module _ (P : StreamState → Type 0) (lasting : Lasting P) (most : ℕ) where
       abbrev made : ClientSession
       made = table.made t id next key time (d .sessions-need) (d .streams-need) id<
 
-      new-part : SoundPart P (record { session = made; objects = objectRow (t .objects) id; streams = set (streamRows (t .streams) id) 0 (streamRow (newStream 0)); held = heldPart (t .held) made })
+      new-part : SoundPart P (record { session = made; objects = objectRow (t .objects) id; streams = set (streamRows (t .streams) id) 0 (streamRow (newStream 0)); held = heldPart (t .held) made; parts = table.partsOf t made; lengths = table.lengthsOf t made })
       unfolding listed
       new-part = record {
         few-objects = omega arith;
@@ -610,6 +647,9 @@ module _ (P : StreamState → Type 0) (lasting : Lasting P) (most : ℕ) where
         objects-differ = none-distinct;
         streams-differ = subst (λ (ks : List KeptStream). Distinct (streamNumbers ks)) (sym (table.one-open t id next key time (d .sessions-need) (d .streams-need) id< (heldPart (t .held) made))) (one-distinct 0);
         written = λ k h. subst (λ (m : ℕ). P (streamOf (getD (set (streamRows (t .streams) id) 0 (streamRow (newStream 0))) m []))) (let z : 0 ≡ k = omega arith in z) first-written;
+        few-fragments = omega arith;
+        fragments = no-fragments (table.partsOf t made) (table.lengthsOf t made);
+        fragments-gone = λ e. refl;
         stream-zero = λ e. (omega arith, ap (λ (l : List ℕ). streamOf l .«stream_id») first-row ∙ ap (λ (x : KeptStream). x .number) (new-shown [] 0 (omega arith)));
       }
         where
@@ -628,6 +668,9 @@ module _ (P : StreamState → Type 0) (lasting : Lasting P) (most : ℕ) where
         streams-length = length-set (t .streams) (firstStream id) (streamRow (newStream 0));
         objects-length = refl;
         held-length = refl;
+        parts-length = refl;
+        lengths-length = refl;
+        rebuilt-length = refl;
         elsewhere = table.opened-elsewhere t id next key time (d .sessions-need) (d .streams-need) id<;
         here = subst (SoundPart P) (sym (table.opened-here t id next key time (d .sessions-need) (d .streams-need) id<)) new-part;
       }
@@ -705,30 +748,38 @@ module _ (P : StreamState → Type 0) (lasting : Lasting P) (most : ℕ) where
   -- ---- set-up
 
   -- stores in which no id is live and no record in use
-  empty-sound : (t : Tables) → 256 ≤ length (t .sessions) → 2048 ≤ length (t .streams) → 8192 ≤ length (t .objects) → heldNeed most ≤ length (t .held)
+  empty-sound : (t : Tables) → 256 ≤ length (t .sessions) → 2048 ≤ length (t .streams) → 8192 ≤ length (t .objects)
+      → heldNeed most ≤ length (t .held) → partsNeed most ≤ length (t .parts) → lengthsNeed most ≤ length (t .lengths) → rebuiltNeed ≤ length (t .rebuilt)
       → ((id : ℕ) → id < 256 → sessionAt (t .sessions) id ≡ endedSession) → SoundTables P most t
-  empty-sound t a b c l e = record {
+  empty-sound t a b c l p q r e = record {
     sessions-need = a;
     streams-need = b;
     objects-need = c;
     held-need = l;
+    parts-need = p;
+    lengths-need = q;
+    rebuilt-need = r;
     slots = record { under = λ id h f. absurd (never (free id h) f); differ = λ i j h k f g q. absurd (never (free i h) f) };
     zero-free = ap (λ (s : ClientSession). eqb (s .live) 0) (e 0 (omega arith));
-    each = λ id h. subst (SoundPart P) (sym (ap (λ (s : ClientSession). table.withSession (t .held) s (tablePart t id)) (e id h))) (ended-sound (t .held) (tablePart t id));
+    each = λ id h. subst (SoundPart P) (sym (ap (λ (s : ClientSession). table.withSession t s (tablePart t id)) (e id h))) (ended-sound t (tablePart t id));
   }
     where
       free : (id : ℕ) → id < 256 → isFree (t .sessions) id ≡ true
       free id h = ap (λ (s : ClientSession). eqb (s .live) 0) (e id h)
 
   -- whatever stood in the stores, if set-up accepts them
-  pub ready-led : (t : Tables) (max next : ℕ) → Long (length (t .sessions)) (length (t .streams)) (length (t .objects)) (length (t .held)) max → heldNeed most ≤ length (t .held) → LeadsTo P most t (setUpTables (setup.Ready next) t)
-  ready-led t max next long room = record {
-    sound = empty-sound (setUpTables (setup.Ready next) t) (rw sessions-same (long .sessions-long)) (rw streams-same (long .streams-long)) (rw objects-same (long .objects-long)) room
+  pub ready-led : (t : Tables) (max next : ℕ) → Long (length (t .sessions)) (length (t .streams)) (length (t .objects)) (length (t .held)) (length (t .parts)) (length (t .lengths)) (length (t .rebuilt)) max
+      → heldNeed most ≤ length (t .held) → partsNeed most ≤ length (t .parts) → lengthsNeed most ≤ length (t .lengths) → LeadsTo P most t (setUpTables (setup.Ready next) t)
+  ready-led t max next long held-room parts-room lengths-room = record {
+    sound = empty-sound (setUpTables (setup.Ready next) t) (rw sessions-same (long .sessions-long)) (rw streams-same (long .streams-long)) (rw objects-same (long .objects-long)) held-room parts-room lengths-room (long .rebuilt-long)
         (λ id h. ap sessionOf (cleared-at (rowOf endedSession) 256 (t .sessions) id [] h));
     sessions-length = sessions-same;
     streams-length = streams-same;
     objects-length = objects-same;
     held-length = refl;
+    parts-length = refl;
+    lengths-length = refl;
+    rebuilt-length = refl;
   }
     where
       sessions-same : length (emptySessions (t .sessions)) ≡ length (t .sessions)
@@ -740,10 +791,10 @@ module _ (P : StreamState → Type 0) (lasting : Lasting P) (most : ℕ) where
       objects-same : length (emptyObjects (t .objects)) ≡ length (t .objects)
       objects-same = cleared-length blank 8192 (t .objects) (long .objects-long)
 
-  pub set-up-led : (max : ℕ) (t : Tables) → SoundTables P most t → LeadsTo P most t (setUpTables (setUpOf (length (t .sessions)) (length (t .streams)) (length (t .objects)) (length (t .held)) max) t)
+  pub set-up-led : (max : ℕ) (t : Tables) → SoundTables P most t → LeadsTo P most t (setUpTables (setUpOf (length (t .sessions)) (length (t .streams)) (length (t .objects)) (length (t .held)) (length (t .parts)) (length (t .lengths)) (length (t .rebuilt)) max) t)
   unfolding setUpOf
-  set-up-led max t d = by (storesFit (length (t .sessions)) (length (t .streams)) (length (t .objects)) (length (t .held)) max) refl
+  set-up-led max t d = by (storesFit (length (t .sessions)) (length (t .streams)) (length (t .objects)) (length (t .held)) (length (t .parts)) (length (t .lengths)) (length (t .rebuilt)) max) refl
     where
-      by : (b : Bool) → storesFit (length (t .sessions)) (length (t .streams)) (length (t .objects)) (length (t .held)) max ≡ b → LeadsTo P most t (setUpTables (cond b (setup.Ready firstId) (setup.Refused OverLimit)) t)
-      by true e = ready-led t max firstId (accepts (length (t .sessions)) (length (t .streams)) (length (t .objects)) (length (t .held)) max e) (d .held-need)
+      by : (b : Bool) → storesFit (length (t .sessions)) (length (t .streams)) (length (t .objects)) (length (t .held)) (length (t .parts)) (length (t .lengths)) (length (t .rebuilt)) max ≡ b → LeadsTo P most t (setUpTables (cond b (setup.Ready firstId) (setup.Refused OverLimit)) t)
+      by true e = ready-led t max firstId (accepts (length (t .sessions)) (length (t .streams)) (length (t .objects)) (length (t .held)) (length (t .parts)) (length (t .lengths)) (length (t .rebuilt)) max e) (d .held-need) (d .parts-need) (d .lengths-need)
       by false e = same-led t d

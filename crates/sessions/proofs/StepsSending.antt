@@ -27,10 +27,10 @@ module _ (P : StreamState → Type 0) (lasting : Lasting P) (most : ℕ) where
   -- ---- tables with other held messages
 
   abbrev withHeld : List ℕ → Tables → Tables
-  withHeld held t = record { sessions = t .sessions; streams = t .streams; objects = t .objects; held = held }
+  withHeld held t = record { sessions = t .sessions; streams = t .streams; objects = t .objects; held = held; parts = t .parts; lengths = t .lengths; rebuilt = t .rebuilt }
 
   -- a part's streams have their numbers whatever is held
-  held-part : (p : Part) (held : List ℕ) → SoundPart P p → SoundPart P (record { session = p .session; objects = p .objects; streams = p .streams; held = held })
+  held-part : (p : Part) (held : List ℕ) → SoundPart P p → SoundPart P (record { session = p .session; objects = p .objects; streams = p .streams; held = held; parts = p .parts; lengths = p .lengths })
   unfolding opened
   held-part p held g = record {
     few-objects = g .few-objects;
@@ -38,6 +38,9 @@ module _ (P : StreamState → Type 0) (lasting : Lasting P) (most : ℕ) where
     objects-differ = g .objects-differ;
     streams-differ = subst Distinct (shown-numbers (p .held) held 0 (take (p .session .streams) (p .streams))) (g .streams-differ);
     written = g .written;
+    few-fragments = g .few-fragments;
+    fragments = g .fragments;
+    fragments-gone = g .fragments-gone;
     stream-zero = g .stream-zero;
   }
 
@@ -48,6 +51,9 @@ module _ (P : StreamState → Type 0) (lasting : Lasting P) (most : ℕ) where
       streams-need = d .sound .streams-need;
       objects-need = d .sound .objects-need;
       held-need = rw e (d .sound .held-need);
+      parts-need = d .sound .parts-need;
+      lengths-need = d .sound .lengths-need;
+      rebuilt-need = d .sound .rebuilt-need;
       zero-free = d .sound .zero-free;
       slots = d .sound .slots;
       each = λ id h. held-part (tablePart u id) (tablePart (withHeld held u) id .held) (d .sound .each id h);
@@ -56,6 +62,9 @@ module _ (P : StreamState → Type 0) (lasting : Lasting P) (most : ℕ) where
     streams-length = d .streams-length;
     objects-length = d .objects-length;
     held-length = e ∙ d .held-length;
+    parts-length = d .parts-length;
+    lengths-length = d .lengths-length;
+    rebuilt-length = d .rebuilt-length;
   }
 
   module _ (t : Tables) (d : SoundTables P most t) (id : ℕ) (id< : id < 256) (n : ℕ) (message : List ℕ) where
@@ -63,7 +72,7 @@ module _ (P : StreamState → Type 0) (lasting : Lasting P) (most : ℕ) where
     place = streamPlace (t .sessions) (t .streams) id n
 
     abbrev withRows : List (List ℕ) → Tables
-    withRows rows = record { sessions = t .sessions; streams = rows; objects = t .objects; held = t .held }
+    withRows rows = record { sessions = t .sessions; streams = rows; objects = t .objects; held = t .held; parts = t .parts; lengths = t .lengths; rebuilt = t .rebuilt }
 
     -- the stream of place k, and what it is behind the message
     module _ (k : ℕ) (found : place ≡ Have k) (number : streamAt (t .streams) (firstStream id + k) .«stream_id» ≡ n) where

@@ -33,7 +33,7 @@ use Rattle.sessions.specs.SessionObjects.{objectRow}
 use Rattle.sessions.specs.SessionStreams.{streamsUsed, streamsNamed, streamPlace, readAs}
 use Rattle.sessions.specs.Held.{slotPart, heldPart, bufferAt}
 use Rattle.sessions.specs.Sending.{roomOf, bufferIn, withBuffer, nextSlot, stretchAt, stretchBy, bufferStretch, dataSlotAt, dataSlot, sentRow, sentStreamsAt, sentStreams, sentHeldAt, sentHeld, messageAt, messageOf}
-use Rattle.sessions.specs.View.{Tables, KeptStream, opened, streamRows, tablePart, sessionShown, localShown, objectsOf, streamsOf, localOf, streamIn, writeIn}
+use Rattle.sessions.specs.View.{Tables, KeptStream, opened, streamRows, tablePart, storeShown, sessionShown, localShown, objectsOf, streamsOf, localOf, streamIn, writeIn}
 use Rattle.sessions.specs.Calls.{sendTables, SoundStream, SoundTables}
 use Rattle.sessions.specs.declared.sending.Stretch.{Stretch}
 use Rattle.sessions.specs.declared.session_streams.StreamPlace.{StreamPlace}
@@ -44,7 +44,7 @@ use Rattle.sessions.proofs.SoundStreams.{stream-lasts}
 use Rattle.sessions.proofs.Steps as steps
 use Rattle.sessions.proofs.StreamBack.{row-small, row-shown}
 use Rattle.sessions.proofs.ViewStreams as streams
-use Rattle.sessions.proofs.ViewTable.{streams-here, streams-elsewhere}
+use Rattle.sessions.proofs.ViewTable.{partsOf, lengthsOf, streams-here, streams-elsewhere}
 use Rattle.sessions.proofs.sending.Laws.{buffer-length}
 
 -- ---- any tables
@@ -164,7 +164,7 @@ module _ (sessions streams : List (List ℕ)) (held : List ℕ) (id n : ℕ) whe
 pub send-still : (t : Tables) (id n : ℕ) (message : List ℕ) → placed (dataSlot (t .sessions) (t .streams) (length (t .held)) id n (length message)) ≡ false → sendTables t id n message ≡ t
 send-still t id n message e =
     let u = unsent (t .sessions) (t .streams) (t .held) id n message e in
-    λ i. record { sessions = t .sessions; streams = u .0 i; objects = t .objects; held = u .1 i }
+    λ i. record { sessions = t .sessions; streams = u .0 i; objects = t .objects; held = u .1 i; parts = t .parts; lengths = t .lengths; rebuilt = t .rebuilt }
 
 -- ---- one stream
 
@@ -247,7 +247,7 @@ module _ (most : ℕ) (t : Tables) (d : SoundTables SoundStream most t) (few : m
     filled = recordBytes (state k) next message (buffer k)
 
     abbrev sent : Tables
-    sent = record { sessions = t .sessions; streams = keepStream (t .streams) (firstStream id + k) behind; objects = t .objects; held = withBuffer (t .held) (stretch k) filled }
+    sent = record { sessions = t .sessions; streams = keepStream (t .streams) (firstStream id + k) behind; objects = t .objects; held = withBuffer (t .held) (stretch k) filled; parts = t .parts; lengths = t .lengths; rebuilt = t .rebuilt }
 
     filled-long : length filled ≡ streamBytes
     filled-long = recorded-length (state k) next message (buffer k) ∙ buffer-full own k low high (t .held) own-few own-room
@@ -255,8 +255,8 @@ module _ (most : ℕ) (t : Tables) (d : SoundTables SoundStream most t) (few : m
     sent-is : (n p : ℕ) → streamPlace (t .sessions) (t .streams) id n ≡ Have k → nextSlot (state k) (length message) (roomOf (stretch k)) ≡ slot.At p → sendTables t id n message ≡ sent
     unfolding sentStreams sentHeld recordOf
     sent-is n p found e =
-        ap (λ (q : StreamPlace). record { sessions = t .sessions; streams = sentStreamsAt q (t .sessions) (t .streams) (t .held) id message; objects = t .objects; held = sentHeldAt q (t .sessions) (t .streams) (t .held) id message }) found
-        ∙ ap (λ (a : Slot). record { sessions = t .sessions; streams = sentRow a (t .streams) (firstStream id + k) (recordOf (state k) next (length message) (roomOf (stretch k)) .state); objects = t .objects; held = withBuffer (t .held) (stretch k) filled }) e
+        ap (λ (q : StreamPlace). record { sessions = t .sessions; streams = sentStreamsAt q (t .sessions) (t .streams) (t .held) id message; objects = t .objects; held = sentHeldAt q (t .sessions) (t .streams) (t .held) id message; parts = t .parts; lengths = t .lengths; rebuilt = t .rebuilt }) found
+        ∙ ap (λ (a : Slot). record { sessions = t .sessions; streams = sentRow a (t .streams) (firstStream id + k) (recordOf (state k) next (length message) (roomOf (stretch k)) .state); objects = t .objects; held = withBuffer (t .held) (stretch k) filled; parts = t .parts; lengths = t .lengths; rebuilt = t .rebuilt }) e
 
     -- the part of another id
     sent-elsewhere : (j : ℕ) → j < 256 → j ≢ id → tablePart sent j ≡ tablePart t j
@@ -265,6 +265,8 @@ module _ (most : ℕ) (t : Tables) (d : SoundTables SoundStream most t) (few : m
       objects = objectRow (t .objects) j;
       streams = streams-elsewhere (t .streams) id k j (streamRow behind) (omega arith) h i;
       held = by (isFree (t .sessions) j) refl i;
+      parts = partsOf t (sessionAt (t .sessions) j);
+      lengths = lengthsOf t (sessionAt (t .sessions) j);
     }
       where
         its-slot : ℕ
@@ -304,7 +306,7 @@ module _ (most : ℕ) (t : Tables) (d : SoundTables SoundStream most t) (few : m
             ≡ streams.withStreams (set (streamsOf t id) k (keptOf (bytesIn filled) behind)) (cond b none (some (sessionShown id (tablePart t id))))
         by true = refl
         by false =
-            ap (λ (ks : List KeptStream). some (record { id = id; key = sessionAt (t .sessions) id .«client_key»; last = sessionAt (t .sessions) id .«last_activity»; objects = objectsOf t id; streams = ks })) (sent-shown h)
+            ap (λ (ks : List KeptStream). some (record { id = id; key = sessionAt (t .sessions) id .«client_key»; last = sessionAt (t .sessions) id .«last_activity»; objects = objectsOf t id; streams = ks; store = storeShown (tablePart t id) })) (sent-shown h)
 
     -- document 02, W5: "takes the next send sequence in its header and is held"
     sent-kept : Sound (state k) → (p : ℕ) → nextSlot (state k) (length message) (roomOf (stretch k)) ≡ slot.At p → keptOf (bytesIn filled) behind ≡ sentIn message (keptOf (bytesIn (buffer k)) (state k))

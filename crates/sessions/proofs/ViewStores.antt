@@ -28,7 +28,7 @@ use Rattle.sessions.specs.declared.table.Named.the-variants.{Live}
 use Rattle.sessions.proofs.ObjectSearch.{Under, place-under}
 use Rattle.sessions.proofs.Parts.{part-below, part-above}
 use Rattle.sessions.proofs.ViewObjects.{entryFound, find-shown, put-shown, dependedAt, left, drop-shown}
-use Rattle.sessions.proofs.ViewTable.{kept-here, kept-elsewhere}
+use Rattle.sessions.proofs.ViewTable.{partsOf, lengthsOf, kept-here, kept-elsewhere}
 use Rattle.sessions.proofs.session_objects.Laws.{lent-row, found-is, stored-is, kept-is, taken-is, removed-is}
 use Rattle.sessions.proofs.table.Laws.{live-fits}
 
@@ -72,11 +72,11 @@ row-elsewhere objects id k j x h n = by (leb j id) refl
 -- a session with other objects
 abbrev pub withObjects : List Entry → Option Local → Option Local
 withObjects es none = none
-withObjects es (some l) = some (record { id = l .id; key = l .key; last = l .last; objects = es; streams = l .streams })
+withObjects es (some l) = some (record { id = l .id; key = l .key; last = l .last; objects = es; streams = l .streams; store = l .store })
 
 -- a part with n objects in another row
 abbrev pub withCounted : ℕ → List Object → Part → Part
-withCounted n row p = record { session = countedSession (p .session) n; objects = row; streams = p .streams; held = p .held }
+withCounted n row p = record { session = countedSession (p .session) n; objects = row; streams = p .streams; held = p .held; parts = p .parts; lengths = p .lengths }
 
 counted-shown : (id n : ℕ) (row : List Object) (p : Part) → localShown id (withCounted n row p) ≡ withObjects (listed n row) (localShown id p)
 counted-shown id n row p = by (eqb (p .session .live) 0)
@@ -137,6 +137,8 @@ module _ (t : Tables) (id : ℕ) (id< : id < 256) (live : objectsNamed (t .sessi
         λ i. record {
           session = e i;
           held = heldPart (t .held) (e i);
+          parts = partsOf t (e i);
+          lengths = lengthsOf t (e i);
           objects = (ap (λ (l : List Object). objectRow l id) put-store ∙ row-seen (t .objects) id inside (storedRow row used o) (length-set row (slotOf (place (o .number)) used) o ∙ row-length (t .objects) id inside)) i;
           streams = streamRows (t .streams) id;
         }
@@ -147,6 +149,8 @@ module _ (t : Tables) (id : ℕ) (id< : id < 256) (live : objectsNamed (t .sessi
         λ i. record {
           session = e i;
           held = heldPart (t .held) (e i);
+          parts = partsOf t (e i);
+          lengths = lengthsOf t (e i);
           objects = (ap (λ (l : List Object). objectRow l j) put-set ∙ row-elsewhere (t .objects) id (slotOf (place (o .number)) used) j o room h) i;
           streams = streamRows (t .streams) j;
         }
@@ -171,7 +175,7 @@ module _ (t : Tables) (id : ℕ) (id< : id < 256) (live : objectsNamed (t .sessi
         ∙ ap (λ (b : Bool). cond b (Count (usedAfter (place (o .number)) used)) Full) (le-ltb (slotOf (place (o .number)) used) (length row) past-row)
 
     pub put-nothing : putTables t id o ≡ t
-    put-nothing = λ i. record { sessions = ap (keepStored (t .sessions) id) put-full i; streams = t .streams; objects = kept i; held = t .held }
+    put-nothing = λ i. record { sessions = ap (keepStored (t .sessions) id) put-full i; streams = t .streams; objects = kept i; held = t .held; parts = t .parts; lengths = t .lengths; rebuilt = t .rebuilt }
       where
         kept : storedObjects (t .sessions) (t .objects) id o ≡ t .objects
         kept = sym (kept-is (t .sessions) (t .objects) id o Live live) ∙ ap (withObjectRow (t .objects) id) (set-out row (slotOf (place (o .number)) used) o past-row) ∙ row-same (t .objects) id inside
@@ -183,7 +187,7 @@ module _ (t : Tables) (id : ℕ) (id< : id < 256) (live : objectsNamed (t .sessi
 
   -- the tables without the record at place k
   abbrev pub gone : ℕ → Tables
-  gone k = record { sessions = keepUsed (t .sessions) id (used - 1); streams = t .streams; objects = withObjectRow (t .objects) id (set row k last); held = t .held }
+  gone k = record { sessions = keepUsed (t .sessions) id (used - 1); streams = t .streams; objects = withObjectRow (t .objects) id (set row k last); held = t .held; parts = t .parts; lengths = t .lengths; rebuilt = t .rebuilt }
 
   -- the tables after a removal, by the place of what is removed: what has a dependant stays
   abbrev pub dropped : Place → Tables
@@ -197,22 +201,25 @@ module _ (t : Tables) (id : ℕ) (id< : id < 256) (live : objectsNamed (t .sessi
         streams = t .streams;
         objects = sym (removed-is (t .sessions) (t .objects) id n Live live) i;
         held = t .held;
+        parts = t .parts;
+        lengths = t .lengths;
+        rebuilt = t .rebuilt;
       })
       ∙ by (place n)
     where
       at : (k : ℕ) (b : Bool)
           → _≡_ {A = Tables}
-          (record { sessions = keepRemoved (t .sessions) id (cond b Depended (Gone (getD row k blank))); streams = t .streams; objects = withObjectRow (t .objects) id (cond b row (set row k last)); held = t .held })
+          (record { sessions = keepRemoved (t .sessions) id (cond b Depended (Gone (getD row k blank))); streams = t .streams; objects = withObjectRow (t .objects) id (cond b row (set row k last)); held = t .held; parts = t .parts; lengths = t .lengths; rebuilt = t .rebuilt })
           (cond b t (gone k))
-      at k true = λ i. record { sessions = t .sessions; streams = t .streams; objects = row-same (t .objects) id inside i; held = t .held }
+      at k true = λ i. record { sessions = t .sessions; streams = t .streams; objects = row-same (t .objects) id inside i; held = t .held; parts = t .parts; lengths = t .lengths; rebuilt = t .rebuilt }
       at k false = refl
 
       by : (p : Place)
           → _≡_ {A = Tables}
-          (record { sessions = keepRemoved (t .sessions) id (takenOf row used p); streams = t .streams; objects = withObjectRow (t .objects) id (removedRow row used p); held = t .held })
+          (record { sessions = keepRemoved (t .sessions) id (takenOf row used p); streams = t .streams; objects = withObjectRow (t .objects) id (removedRow row used p); held = t .held; parts = t .parts; lengths = t .lengths; rebuilt = t .rebuilt })
           (dropped p)
       by (At k) = at k (dependedAt row used fits (At k))
-      by Nowhere = λ i. record { sessions = t .sessions; streams = t .streams; objects = row-same (t .objects) id inside i; held = t .held }
+      by Nowhere = λ i. record { sessions = t .sessions; streams = t .streams; objects = row-same (t .objects) id inside i; held = t .held; parts = t .parts; lengths = t .lengths; rebuilt = t .rebuilt }
 
   pub dropped-part : (p : Place) → Under used p → tablePart (dropped p) id ≡ withCounted (left row used fits p) (removedRow row used p) (tablePart t id)
   dropped-part (At k) h = by (dependedAt row used fits (At k))
@@ -224,6 +231,8 @@ module _ (t : Tables) (id : ℕ) (id< : id < 256) (live : objectsNamed (t .sessi
           λ i. record {
             session = e i;
             held = heldPart (t .held) (e i);
+            parts = partsOf t (e i);
+            lengths = lengthsOf t (e i);
             objects = row-seen (t .objects) id inside (set row k last) (length-set row k last ∙ row-length (t .objects) id inside) i;
             streams = streamRows (t .streams) id;
           }
@@ -243,6 +252,8 @@ module _ (t : Tables) (id : ℕ) (id< : id < 256) (live : objectsNamed (t .sessi
           λ i. record {
             session = e i;
             held = heldPart (t .held) (e i);
+            parts = partsOf t (e i);
+            lengths = lengthsOf t (e i);
             objects = (ap (λ (l : List Object). objectRow l j) (gone-set k u) ∙ row-elsewhere (t .objects) id k j last (omega (arith, row-length (t .objects) id inside, fits)) h) i;
             streams = streamRows (t .streams) j;
           }

@@ -32,7 +32,7 @@ use Rattle.sessions.specs.declared.session_streams.StreamNamed.the-varia
 use Rattle.sessions.specs.declared.table.Named.the-variants as named
 use Rattle.sessions.proofs.ShownStreams.{shown-length, shown-at, shown-set, shown-append}
 use Rattle.sessions.proofs.StreamBack.{new-shown, row-shown}
-use Rattle.sessions.proofs.ViewTable.{kept-here, kept-elsewhere, streams-here, streams-elsewhere, streams-length}
+use Rattle.sessions.proofs.ViewTable.{partsOf, lengthsOf, kept-here, kept-elsewhere, streams-here, streams-elsewhere, streams-length}
 use Rattle.sessions.proofs.session_streams.Laws.{place-is}
 use Rattle.sessions.proofs.table.Laws.{live-fits}
 
@@ -80,11 +80,11 @@ found-number (k ∷ ks) n x e = by (eqb (k .number) n) refl e (found-number ks n
 
 abbrev pub withStreams : List KeptStream → Option Local → Option Local
 withStreams ks none = none
-withStreams ks (some l) = some (record { id = l .id; key = l .key; last = l .last; objects = l .objects; streams = ks })
+withStreams ks (some l) = some (record { id = l .id; key = l .key; last = l .last; objects = l .objects; streams = ks; store = l .store })
 
 -- a part with n streams in other rows
 abbrev pub withStreamed : ℕ → List (List ℕ) → Part → Part
-withStreamed n rows p = record { session = streamedSession (p .session) n; objects = p .objects; streams = rows; held = p .held }
+withStreamed n rows p = record { session = streamedSession (p .session) n; objects = p .objects; streams = rows; held = p .held; parts = p .parts; lengths = p .lengths }
 
 streamed-shown : (id n : ℕ) (rows : List (List ℕ)) (p : Part) → localShown id (withStreamed n rows p) ≡ withStreams (opened n (p .held) rows) (localShown id p)
 streamed-shown id n rows p = by (eqb (p .session .live) 0)
@@ -115,13 +115,13 @@ module _ (t : Tables) (id : ℕ) (gone : streamsNamed (t .sessions) (length (t .
 
   pub open-gone : (n : ℕ) → (openedAnswer (openedAs (streamPlace (t .sessions) (t .streams) id n)) ≡ gives none) × (openTables t id n ≡ t)
   open-gone n =
-      (ap (λ (p : StreamPlace). openedAnswer (openedAs p)) (no-place n), λ i. record { sessions = openedCount (no-place n i) (t .sessions) id; streams = openedIn (no-place n i) (t .streams) id n; objects = t .objects; held = t .held })
+      (ap (λ (p : StreamPlace). openedAnswer (openedAs p)) (no-place n), λ i. record { sessions = openedCount (no-place n i) (t .sessions) id; streams = openedIn (no-place n i) (t .streams) id n; objects = t .objects; held = t .held; parts = t .parts; lengths = t .lengths; rebuilt = t .rebuilt })
 
   pub read-gone : (n : ℕ) → readAs (streamPlace (t .sessions) (t .streams) id n) (t .streams) id ≡ record { answer = stream.NotLive; state = newStream 0 }
   read-gone n = ap (λ (p : StreamPlace). readAs p (t .streams) id) (no-place n)
 
   pub write-gone : (s : StreamState) → (streamAnswer (namedAs (streamPlace (t .sessions) (t .streams) id (s .«stream_id»))) ≡ gives none) × (writeTables t id s ≡ t)
-  write-gone s = (ap (λ (p : StreamPlace). streamAnswer (namedAs p)) (no-place (s .«stream_id»)), λ i. record { sessions = t .sessions; streams = writtenIn (no-place (s .«stream_id») i) (t .streams) id s; objects = t .objects; held = t .held })
+  write-gone s = (ap (λ (p : StreamPlace). streamAnswer (namedAs p)) (no-place (s .«stream_id»)), λ i. record { sessions = t .sessions; streams = writtenIn (no-place (s .«stream_id») i) (t .streams) id s; objects = t .objects; held = t .held; parts = t .parts; lengths = t .lengths; rebuilt = t .rebuilt })
 
 module _ (t : Tables) (id : ℕ) (id< : id < 256) (live : streamsNamed (t .sessions) (length (t .streams)) id ≡ named.Live) where
   abbrev pub rows : List (List ℕ)
@@ -279,13 +279,13 @@ module _ (t : Tables) (id : ℕ) (id< : id < 256) (live : streamsNamed (t .sessi
   module _ (s : StreamState) (s< : s .«stream_id» < 256) where
     -- the tables, by the place of the stream
     abbrev pub writing : StreamPlace → Tables
-    writing p = record { sessions = t .sessions; streams = writtenIn p (t .streams) id s; objects = t .objects; held = t .held }
+    writing p = record { sessions = t .sessions; streams = writtenIn p (t .streams) id s; objects = t .objects; held = t .held; parts = t .parts; lengths = t .lengths; rebuilt = t .rebuilt }
 
     pub written-part : (k : ℕ) → k < used → tablePart (writing (Have k)) id ≡ withStreamed used (set rows k (streamRow s)) (tablePart t id)
-    written-part k h = λ i. record { session = sessionAt (t .sessions) id; objects = objectRow (t .objects) id; streams = streams-here (t .streams) id k (streamRow s) (omega (arith, few)) i; held = part }
+    written-part k h = λ i. record { session = sessionAt (t .sessions) id; objects = objectRow (t .objects) id; streams = streams-here (t .streams) id k (streamRow s) (omega (arith, few)) i; held = part; parts = partsOf t (sessionAt (t .sessions) id); lengths = lengthsOf t (sessionAt (t .sessions) id) }
 
     pub written-elsewhere : (k : ℕ) → k < used → (j : ℕ) → j ≢ id → tablePart (writing (Have k)) j ≡ tablePart t j
-    written-elsewhere k h j l = λ i. record { session = sessionAt (t .sessions) j; objects = objectRow (t .objects) j; streams = streams-elsewhere (t .streams) id k j (streamRow s) (omega (arith, few)) l i; held = heldPart (t .held) (sessionAt (t .sessions) j) }
+    written-elsewhere k h j l = λ i. record { session = sessionAt (t .sessions) j; objects = objectRow (t .objects) j; streams = streams-elsewhere (t .streams) id k j (streamRow s) (omega (arith, few)) l i; held = heldPart (t .held) (sessionAt (t .sessions) j); parts = partsOf t (sessionAt (t .sessions) j); lengths = lengthsOf t (sessionAt (t .sessions) j) }
 
     -- the state as it is shown with the buffer of its place
     abbrev pub withBuffer : StreamPlace → KeptStream
@@ -334,7 +334,7 @@ module _ (t : Tables) (id : ℕ) (id< : id < 256) (live : streamsNamed (t .sessi
   module _ (n : ℕ) (n< : n < 256) where
     -- the tables, by the place of the stream
     abbrev pub joined : StreamPlace → Tables
-    joined p = record { sessions = openedCount p (t .sessions) id; streams = openedIn p (t .streams) id n; objects = t .objects; held = t .held }
+    joined p = record { sessions = openedCount p (t .sessions) id; streams = openedIn p (t .streams) id n; objects = t .objects; held = t .held; parts = t .parts; lengths = t .lengths; rebuilt = t .rebuilt }
 
     opened-more : used < 8 → opened (used + 1) part (set rows used (streamRow (newStream n))) ≡ shown ++ (freshOf n ∷ [])
     unfolding opened
@@ -350,6 +350,8 @@ module _ (t : Tables) (id : ℕ) (id< : id < 256) (live : streamsNamed (t .sessi
         λ i. record {
           session = e i;
           held = heldPart (t .held) (e i);
+          parts = partsOf t (e i);
+          lengths = lengthsOf t (e i);
           objects = objectRow (t .objects) id;
           streams = streams-here (t .streams) id used (streamRow (newStream n)) room i;
         }
@@ -360,6 +362,8 @@ module _ (t : Tables) (id : ℕ) (id< : id < 256) (live : streamsNamed (t .sessi
         λ i. record {
           session = e i;
           held = heldPart (t .held) (e i);
+          parts = partsOf t (e i);
+          lengths = lengthsOf t (e i);
           objects = objectRow (t .objects) j;
           streams = streams-elsewhere (t .streams) id used j (streamRow (newStream n)) room h i;
         }

@@ -10,6 +10,7 @@ use borrow.Author.Tests.{le-leb, eqb-true, eqb-false, leb-true, leb-false}
 use lib.Dec.{eqb, leb, ltb}
 use lib.ListN.{length, take, drop, set, length-set, length-drop}
 use lib.Seq.{getD-set-same, getD-set-other, length-take-le}
+use Rattle.codec.specs.Inserts.{slotsOf}
 use Rattle.streams.specs.State.{newStream}
 use Rattle.streams.specs.View.{freshOf}
 use Rattle.sessions.specs.Table.{sessionAt, sessionOf, rowOf, keepSession, isFree, namedOf, keptRows, touchedSession, touchedRows, endedSession, endedRows, newSession}
@@ -18,6 +19,9 @@ use Rattle.sessions.specs.SessionObjects.{objectRow}
 use Rattle.sessions.specs.Streams.{streamRow, firstStream}
 use Rattle.sessions.specs.Opening.{freeSlot}
 use Rattle.sessions.specs.Held.{heldPart, bufferAt}
+use Rattle.sessions.specs.Sending.{bufferIn}
+use Rattle.sessions.specs.Fragments.{partsStretch, lengthsStretch}
+use Rattle.sessions.specs.FragmentStore.{emptyStore}
 use Rattle.sessions.specs.View.{Tables, KeptStream, Local, Part, startOf, shownFrom, streamRows, listed, opened, tablePart, sessionShown, localShown, localOf, lapsed, expiredAt}
 use Rattle.sessions.specs.Calls.{withSessions, createTables}
 use Rattle.sessions.specs.declared.table.ClientSession.{ClientSession}
@@ -61,9 +65,16 @@ module _ (rows : List (List ℕ)) (id : ℕ) (s : ClientSession) where
 
 -- ---- the tables with other sessions in them
 
--- a part with another session, and what is then its part of the held messages
-abbrev pub withSession : List ℕ → ClientSession → Part → Part
-withSession held s p = record { session = s; objects = p .objects; streams = p .streams; held = heldPart held s }
+-- what a session has of the stores of fragments
+abbrev pub partsOf : Tables → ClientSession → List ℕ
+partsOf t s = bufferIn (t .parts) (partsStretch s (length (t .parts)))
+
+abbrev pub lengthsOf : Tables → ClientSession → List ℕ
+lengthsOf t s = bufferIn (t .lengths) (lengthsStretch s (length (t .lengths)))
+
+-- a part with another session, and what is then its part of the stores by slot
+abbrev pub withSession : Tables → ClientSession → Part → Part
+withSession t s p = record { session = s; objects = p .objects; streams = p .streams; held = heldPart (t .held) s; parts = partsOf t s; lengths = lengthsOf t s }
 
 module _ (t : Tables) (id : ℕ) (long : 256 ≤ length (t .sessions)) (id< : id < 256) where
   -- a live session that becomes s, and the others
@@ -71,11 +82,11 @@ module _ (t : Tables) (id : ℕ) (long : 256 ≤ length (t .sessions)) (id< : id
     abbrev pub changed : Tables
     changed = withSessions t (keptRows (namedOf (t .sessions) id) (t .sessions) id s)
 
-    pub changed-here : isFree (t .sessions) id ≡ false → tablePart changed id ≡ withSession (t .held) s (tablePart t id)
-    changed-here e = ap (λ (x : ClientSession). withSession (t .held) x (tablePart t id)) (live-here (t .sessions) id s long id< e)
+    pub changed-here : isFree (t .sessions) id ≡ false → tablePart changed id ≡ withSession t s (tablePart t id)
+    changed-here e = ap (λ (x : ClientSession). withSession t x (tablePart t id)) (live-here (t .sessions) id s long id< e)
 
     pub changed-elsewhere : (j : ℕ) → j ≢ id → tablePart changed j ≡ tablePart t j
-    changed-elsewhere j h = ap (λ (x : ClientSession). withSession (t .held) x (tablePart t j)) (live-elsewhere (t .sessions) id s j h)
+    changed-elsewhere j h = ap (λ (x : ClientSession). withSession t x (tablePart t j)) (live-elsewhere (t .sessions) id s j h)
 
     -- an id that is not live stays so
     pub changed-free : isFree (t .sessions) id ≡ true → changed ≡ t
@@ -88,7 +99,7 @@ module _ (t : Tables) (id : ℕ) (long : 256 ≤ length (t .sessions)) (id< : id
 
   abbrev pub touchedLocal : ℕ → Option Local → Option Local
   touchedLocal time none = none
-  touchedLocal time (some l) = some (record { id = l .id; key = l .key; last = time; objects = l .objects; streams = l .streams })
+  touchedLocal time (some l) = some (record { id = l .id; key = l .key; last = time; objects = l .objects; streams = l .streams; store = l .store })
 
   pub touch-here : (time : ℕ) → localOf (withSessions t (touchedRows (t .sessions) id time)) id ≡ touchedLocal time (localOf t id)
   unfolding touchedRows
@@ -97,7 +108,7 @@ module _ (t : Tables) (id : ℕ) (long : 256 ≤ length (t .sessions)) (id< : id
       s : ClientSession
       s = touchedSession (sessionAt (t .sessions) id) time
 
-      shown : eqb (sessionAt (t .sessions) id .live) 0 ≡ false → localShown id (withSession (t .held) s (tablePart t id)) ≡ touchedLocal time (localOf t id)
+      shown : eqb (sessionAt (t .sessions) id .live) 0 ≡ false → localShown id (withSession t s (tablePart t id)) ≡ touchedLocal time (localOf t id)
       shown e = rw e refl
 
       by : (b : Bool) → isFree (t .sessions) id ≡ b → localOf (changed s) id ≡ touchedLocal time (localOf t id)
@@ -161,15 +172,15 @@ module _ (t : Tables) (id next key time : ℕ) (long : 256 ≤ length (t .sessio
 
   -- the part of the new session: nothing of the last holder of its rows is in use
   pub opened-here : tablePart (openedTables t id next key time) id
-      ≡ record { session = made; objects = objectRow (t .objects) id; streams = set (streamRows (t .streams) id) 0 (streamRow (newStream 0)); held = heldPart (t .held) made }
+      ≡ record { session = made; objects = objectRow (t .objects) id; streams = set (streamRows (t .streams) id) 0 (streamRow (newStream 0)); held = heldPart (t .held) made; parts = partsOf t made; lengths = lengthsOf t made }
   opened-here =
       let e = kept-here (t .sessions) id made (omega arith) in
-      λ i. record { session = e i; objects = objectRow (t .objects) id; streams = streams-first (t .streams) id (streamRow (newStream 0)) i; held = heldPart (t .held) (e i) }
+      λ i. record { session = e i; objects = objectRow (t .objects) id; streams = streams-first (t .streams) id (streamRow (newStream 0)) i; held = heldPart (t .held) (e i); parts = partsOf t (e i); lengths = lengthsOf t (e i) }
 
   pub opened-elsewhere : (j : ℕ) → j ≢ id → tablePart (openedTables t id next key time) j ≡ tablePart t j
   opened-elsewhere j h =
       let e = kept-elsewhere (t .sessions) id made j h in
-      λ i. record { session = e i; objects = objectRow (t .objects) j; streams = first-elsewhere (t .streams) id j (streamRow (newStream 0)) h i; held = heldPart (t .held) (e i) }
+      λ i. record { session = e i; objects = objectRow (t .objects) j; streams = first-elsewhere (t .streams) id j (streamRow (newStream 0)) h i; held = heldPart (t .held) (e i); parts = partsOf t (e i); lengths = lengthsOf t (e i) }
 
   pub one-open : (held : List ℕ) → opened 1 held (set (streamRows (t .streams) id) 0 (streamRow (newStream 0))) ≡ freshOf 0 ∷ []
   unfolding opened shownFrom
@@ -180,10 +191,10 @@ module _ (t : Tables) (id next key time : ℕ) (long : 256 ≤ length (t .sessio
       by (x ∷ l) e = ap (λ (k : KeptStream). k ∷ []) (new-shown (bufferAt held 0) 0 (omega arith))
 
   pub open-here : localOf (openedTables t id next key time) id ≡ some (startOf id key time)
-  unfolding listed
+  unfolding listed slotsOf
   open-here =
       ap (localShown id) opened-here
-      ∙ ap (λ (ks : List KeptStream). some (record { id = id; key = key; last = time; objects = []; streams = ks })) (one-open (heldPart (t .held) made))
+      ∙ ap (λ (ks : List KeptStream). some (record { id = id; key = key; last = time; objects = []; streams = ks; store = emptyStore })) (one-open (heldPart (t .held) made))
 
   pub open-elsewhere : (j : ℕ) → j ≢ id → localOf (openedTables t id next key time) j ≡ localOf t j
   open-elsewhere j h = ap (localShown j) (opened-elsewhere j h)
@@ -262,16 +273,16 @@ module _ (time timeout : ℕ) where
 
   -- what is left of a session's part
   pub swept-part : (t : Tables) (j : ℕ) → 256 ≤ length (t .sessions) → 1 ≤ j → j < 256
-      → tablePart (withSessions t (sweptRows (t .sessions) time timeout)) j ≡ withSession (t .held) (cond (goes (t .sessions) time timeout j) endedSession (sessionAt (t .sessions) j)) (tablePart t j)
+      → tablePart (withSessions t (sweptRows (t .sessions) time timeout)) j ≡ withSession t (cond (goes (t .sessions) time timeout j) endedSession (sessionAt (t .sessions) j)) (tablePart t j)
   unfolding sweptRows
-  swept-part t j long a b = ap (λ (s : ClientSession). withSession (t .held) s (tablePart t j)) (swept-inside (t .sessions) 1 255 j (omega arith) a (omega arith))
+  swept-part t j long a b = ap (λ (s : ClientSession). withSession t s (tablePart t j)) (swept-inside (t .sessions) 1 255 j (omega arith) a (omega arith))
 
   -- "a sweep when it is expired, ends it"; every other session stays
   pub sweep-view : (t : Tables) (j : ℕ) → 256 ≤ length (t .sessions) → 1 ≤ j → j < 256
       → localOf (withSessions t (sweptRows (t .sessions) time timeout)) j ≡ cond (lapsed time timeout (localOf t j)) none (localOf t j)
   sweep-view t j long a b = ap (localShown j) (swept-part t j long a b) ∙ by (goes (t .sessions) time timeout j) ∙ ap (λ (g : Bool). cond g none (localOf t j)) (goes-view t j)
     where
-      by : (g : Bool) → localShown j (withSession (t .held) (cond g endedSession (sessionAt (t .sessions) j)) (tablePart t j)) ≡ cond g none (localOf t j)
+      by : (g : Bool) → localShown j (withSession t (cond g endedSession (sessionAt (t .sessions) j)) (tablePart t j)) ≡ cond g none (localOf t j)
       by true = refl
       by false = refl
 

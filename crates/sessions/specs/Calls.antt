@@ -11,7 +11,10 @@ use Rattle.streams.specs.Sent.{allocOf, recordOf}
 use Rattle.streams.specs.Oldest.{SixteenBits}
 use Rattle.streams.specs.View.{Sound}
 use Rattle.streams.specs.declared.state.StreamState.{StreamState}
-use Rattle.sessions.specs.Need.{heldNeed}
+use Rattle.codec.specs.Inserts.{Store}
+use Rattle.codec.specs.Inserts as codec
+use Rattle.sessions.specs.Need.{heldNeed, mostFragments, partsNeed, lengthsNeed, rebuiltNeed}
+use Rattle.sessions.specs.Fragments.{bufferWith, gatheredRows, gatheredParts, gatheredLengths, gatheredRebuilt}
 use Rattle.sessions.specs.Table.{sessionAt, isFree, touchedRows, endedRows}
 use Rattle.sessions.specs.Setup.{emptySessions, emptyStreams, emptyObjects, setUpOf, leaves}
 use Rattle.sessions.specs.Opening.{createdOf, openedRows, openedStreams}
@@ -29,34 +32,38 @@ use Rattle.sessions.specs.declared.setup.SetUp.{SetUp}
 -- ---- the tables behind each call, by the definitions that its contract cites; the other calls change none
 
 abbrev pub withSessions : Tables → List (List ℕ) → Tables
-withSessions t rows = record { sessions = rows; streams = t .streams; objects = t .objects; held = t .held }
+withSessions t rows = record { sessions = rows; streams = t .streams; objects = t .objects; held = t .held; parts = t .parts; lengths = t .lengths; rebuilt = t .rebuilt }
 
 abbrev pub setUpTables : SetUp → Tables → Tables
 setUpTables r t =
-    record { sessions = leaves r (emptySessions (t .sessions)) (t .sessions); streams = leaves r (emptyStreams (t .streams)) (t .streams); objects = leaves r (emptyObjects (t .objects)) (t .objects); held = t .held }
+    record { sessions = leaves r (emptySessions (t .sessions)) (t .sessions); streams = leaves r (emptyStreams (t .streams)) (t .streams); objects = leaves r (emptyObjects (t .objects)) (t .objects); held = t .held; parts = t .parts; lengths = t .lengths; rebuilt = t .rebuilt }
 
 abbrev pub createTables : Created → Tables → ℕ → ℕ → Tables
-createTables c t key time = record { sessions = openedRows c (t .sessions) key time; streams = openedStreams c (t .streams); objects = t .objects; held = t .held }
+createTables c t key time = record { sessions = openedRows c (t .sessions) key time; streams = openedStreams c (t .streams); objects = t .objects; held = t .held; parts = t .parts; lengths = t .lengths; rebuilt = t .rebuilt }
 
 abbrev pub putTables : Tables → ℕ → Object → Tables
 putTables t id o =
-    record { sessions = keepStored (t .sessions) id (storedObject (t .sessions) (t .objects) id o); streams = t .streams; objects = storedObjects (t .sessions) (t .objects) id o; held = t .held }
+    record { sessions = keepStored (t .sessions) id (storedObject (t .sessions) (t .objects) id o); streams = t .streams; objects = storedObjects (t .sessions) (t .objects) id o; held = t .held; parts = t .parts; lengths = t .lengths; rebuilt = t .rebuilt }
 
 abbrev pub dropTables : Tables → ℕ → ObjectNumber → Tables
 dropTables t id n =
-    record { sessions = keepRemoved (t .sessions) id (takenObject (t .sessions) (t .objects) id n); streams = t .streams; objects = removedObjects (t .sessions) (t .objects) id n; held = t .held }
+    record { sessions = keepRemoved (t .sessions) id (takenObject (t .sessions) (t .objects) id n); streams = t .streams; objects = removedObjects (t .sessions) (t .objects) id n; held = t .held; parts = t .parts; lengths = t .lengths; rebuilt = t .rebuilt }
 
 abbrev pub openTables : Tables → ℕ → ℕ → Tables
 openTables t id n =
-    record { sessions = openedCount (streamPlace (t .sessions) (t .streams) id n) (t .sessions) id; streams = openedIn (streamPlace (t .sessions) (t .streams) id n) (t .streams) id n; objects = t .objects; held = t .held }
+    record { sessions = openedCount (streamPlace (t .sessions) (t .streams) id n) (t .sessions) id; streams = openedIn (streamPlace (t .sessions) (t .streams) id n) (t .streams) id n; objects = t .objects; held = t .held; parts = t .parts; lengths = t .lengths; rebuilt = t .rebuilt }
 
 abbrev pub writeTables : Tables → ℕ → StreamState → Tables
 writeTables t id s =
-    record { sessions = t .sessions; streams = writtenIn (streamPlace (t .sessions) (t .streams) id (s .«stream_id»)) (t .streams) id s; objects = t .objects; held = t .held }
+    record { sessions = t .sessions; streams = writtenIn (streamPlace (t .sessions) (t .streams) id (s .«stream_id»)) (t .streams) id s; objects = t .objects; held = t .held; parts = t .parts; lengths = t .lengths; rebuilt = t .rebuilt }
 
 abbrev pub sendTables : Tables → ℕ → ℕ → List ℕ → Tables
 sendTables t id n message =
-    record { sessions = t .sessions; streams = sentStreams (t .sessions) (t .streams) (t .held) id n message; objects = t .objects; held = sentHeld (t .sessions) (t .streams) (t .held) id n message }
+    record { sessions = t .sessions; streams = sentStreams (t .sessions) (t .streams) (t .held) id n message; objects = t .objects; held = sentHeld (t .sessions) (t .streams) (t .held) id n message; parts = t .parts; lengths = t .lengths; rebuilt = t .rebuilt }
+
+abbrev pub gatherTables : Tables → ℕ → ℕ → ℕ → List ℕ → Tables
+gatherTables t id nr total body =
+    record { sessions = gatheredRows (t .sessions) (t .parts) (t .lengths) (t .rebuilt) id nr total body; streams = t .streams; objects = t .objects; held = t .held; parts = gatheredParts (t .sessions) (t .parts) (t .lengths) id nr total body; lengths = gatheredLengths (t .sessions) (t .parts) (t .lengths) id nr total body; rebuilt = gatheredRebuilt (t .sessions) (t .parts) (t .lengths) (t .rebuilt) id nr total body }
 
 -- ---- calls one behind the other
 
@@ -78,9 +85,11 @@ pub data Call : Type 0 where
   writeStream : ℕ → StreamState → Call
   -- an id, a stream's number, and a message
   send : ℕ → ℕ → List ℕ → Call
+  -- an id, and a fragment: its number, its total and its body
+  gather : ℕ → ℕ → ℕ → List ℕ → Call
 
 unfoldable pub afterCall : Call → Tables → Tables
-afterCall (setUp max) t = setUpTables (setUpOf (length (t .sessions)) (length (t .streams)) (length (t .objects)) (length (t .held)) max) t
+afterCall (setUp max) t = setUpTables (setUpOf (length (t .sessions)) (length (t .streams)) (length (t .objects)) (length (t .held)) (length (t .parts)) (length (t .lengths)) (length (t .rebuilt)) max) t
 afterCall (create max next key time) t = createTables (createdOf (t .sessions) (t .streams) max next) t key time
 afterCall (touch id time) t = withSessions t (touchedRows (t .sessions) id time)
 afterCall (remove id) t = withSessions t (endedRows (t .sessions) id)
@@ -90,6 +99,7 @@ afterCall (delete id n) t = dropTables t id n
 afterCall (openStream id n) t = openTables t id n
 afterCall (writeStream id s) t = writeTables t id s
 afterCall (send id n message) t = sendTables t id n message
+afterCall (gather id nr total body) t = gatherTables t id nr total body
 
 unfoldable pub afterCalls : List Call → Tables → Tables
 afterCalls [] t = t
@@ -108,6 +118,7 @@ Given P most (delete id n) = id < 256
 Given P most (openStream id n) = (id < 256) × (n < 256)
 Given P most (writeStream id s) = (id < 256) × (s .«stream_id» < 256) × P s
 Given P most (send id n message) = (id < 256) × (n < 256)
+Given P most (gather id nr total body) = id < 256
 
 unfoldable pub AllGiven : (StreamState → Type 0) → ℕ → List Call → Type 0
 AllGiven P most [] = Unit {0}
@@ -128,14 +139,21 @@ pub record SoundStream (s : StreamState) : Type 0 where
   pub sound : Sound s
   pub bits : SixteenBits s
 
+-- the fragments of an id, live or not, as codec has a store
+abbrev pub fragmentsIn : Part → Store
+fragmentsIn p = record { buffer = bufferWith (p .session .total) (p .session .received); slots = p .parts; lengths = p .lengths }
+
 -- the part of an id, live or not: "A session holds 32 objects and 8 streams, stream 0 included", and no two have one number; a live one has
--- stream 0 at its first place, since `create_session` opens it
+-- stream 0 at its first place, since `create_session` opens it; of its fragments codec's soundness holds, and one that is not live has none
 pub record SoundPart (P : StreamState → Type 0) (p : Part) : Type 0 where
   pub few-objects : p .session .objects ≤ 32
   pub few-streams : p .session .streams ≤ 8
   pub objects-differ : Distinct (objectNumbers (objectsShown p))
   pub streams-differ : Distinct (streamNumbers (streamsShown p))
   pub written : (k : ℕ) → k < p .session .streams → P (streamOf (getD (p .streams) k []))
+  pub few-fragments : p .session .total ≤ mostFragments
+  pub fragments : codec.Sound (fragmentsIn p)
+  pub fragments-gone : eqb (p .session .live) 0 ≡ true → p .session .total ≡ 0
   pub stream-zero : eqb (p .session .live) 0 ≡ false → (1 ≤ p .session .streams) × (streamOf (getD (p .streams) 0 []) .«stream_id» ≡ 0)
 
 -- the slots of live sessions: each is below the most, and no two have one
@@ -149,6 +167,9 @@ pub record SoundTables (P : StreamState → Type 0) (most : ℕ) (t : Tables) : 
   pub streams-need : 2048 ≤ length (t .streams)
   pub objects-need : 8192 ≤ length (t .objects)
   pub held-need : heldNeed most ≤ length (t .held)
+  pub parts-need : partsNeed most ≤ length (t .parts)
+  pub lengths-need : lengthsNeed most ≤ length (t .lengths)
+  pub rebuilt-need : rebuiltNeed ≤ length (t .rebuilt)
   pub zero-free : isFree (t .sessions) 0 ≡ true
   pub slots : SoundSlots most (t .sessions)
   pub each : (id : ℕ) → id < 256 → SoundPart P (tablePart t id)
@@ -160,3 +181,6 @@ pub record LeadsTo (P : StreamState → Type 0) (most : ℕ) (t t′ : Tables) :
   pub streams-length : length (t′ .streams) ≡ length (t .streams)
   pub objects-length : length (t′ .objects) ≡ length (t .objects)
   pub held-length : length (t′ .held) ≡ length (t .held)
+  pub parts-length : length (t′ .parts) ≡ length (t .parts)
+  pub lengths-length : length (t′ .lengths) ≡ length (t .lengths)
+  pub rebuilt-length : length (t′ .rebuilt) ≡ length (t .rebuilt)

@@ -9,6 +9,8 @@ pub mod SessionObjects
 pub mod SessionStreams
 pub mod Sending
 pub mod Held
+pub mod FragmentStore
+pub mod Fragments
 pub mod View
 pub mod Dependants
 pub mod Removal

@@ -1,11 +1,13 @@
 -- 16 of one session: "Given others, a call still answers, or refuses as 16, right after 15, where a count, length or place in them exceeds its limit."
 use Prim.Native.Nat.{ℕ}
-use mathlib.Core.Bool.{Bool, true, false, cond}
+use mathlib.Core.Bool.{Bool, true, false, cond, not}
 use mathlib.Core.List.{List}
 use lib.Dec.{eqb, leb, ltb}
 use lib.ListN.{getD, length}
 use Rattle.codec.specs.declared.refusals.Refusal.the-variants.{OverLimit}
-use Rattle.sessions.specs.Need.{mostObjects, mostStreams, storesFit}
+use Rattle.sessions.specs.Need.{mostObjects, mostStreams, mostFragments, storesFit}
+use Rattle.sessions.specs.Sending.{roomOf}
+use Rattle.sessions.specs.Fragments.{partsStretch, fragmentsOver, ownLengths}
 use Rattle.streams.specs.Places.{firstPlace, within, inLimits}
 use Rattle.sessions.specs.Table.{sessionAt}
 use Rattle.sessions.specs.SessionStreams.{streamPlace, stateAt}
@@ -33,14 +35,26 @@ lengthsShort lengths = leb 16 (firstPlace (λ i. overLong (getD lengths i 0)))
 abbrev pub lengthsKept : List (List ℕ) → List (List ℕ) → ℕ → ℕ → Bool
 lengthsKept sessions streams id n = cond (eqb n 0) true (inLimits (stateAt (streamPlace sessions streams id n) streams id))
 
-abbrev pub rowsKept : List (List ℕ) → List (List ℕ) → ℕ → ℕ → ℕ → Bool
-rowsKept sessions streams max id n =
-    let s = sessionAt sessions id in cond (countsKept s) (cond (slotKept s max) (lengthsKept sessions streams id n) false) false
+-- W6: "A session has one store of 64 fragments with bodies up to 512 bytes"
+abbrev pub fragmentsKept : ClientSession → ℕ → List ℕ → Bool
+fragmentsKept s parts lengths =
+    cond (eqb (s .total) 0) (eqb (s .received) 0)
+    (cond (leb (s .total) mostFragments) (cond (leb (s .received) (s .total)) (not (fragmentsOver s parts lengths)) false) false)
 
-abbrev pub limitsFrom : List (List ℕ) → List (List ℕ) → ℕ → ℕ → ℕ → Limits
-limitsFrom sessions streams max id n = cond (rowsKept sessions streams max id n) Within (Refused OverLimit)
+abbrev pub storeKept : List (List ℕ) → ℕ → List ℕ → ℕ → Bool
+storeKept sessions parts lengths id =
+    let s = sessionAt sessions id in fragmentsKept s (roomOf (partsStretch s parts)) (ownLengths sessions lengths id)
 
--- the stores; of the session that a call names, live or not, the counts; and the stream that it names
-unfoldable pub limitsOf : List (List ℕ) → List (List ℕ) → List Object → ℕ → ℕ → ℕ → ℕ → Limits
-limitsOf sessions streams objects held max id n =
-    cond (storesFit (length sessions) (length streams) (length objects) held max) (limitsFrom sessions streams max id n) (Refused OverLimit)
+abbrev pub rowsKept : List (List ℕ) → List (List ℕ) → ℕ → List ℕ → ℕ → ℕ → ℕ → Bool
+rowsKept sessions streams parts lengths max id n =
+    let s = sessionAt sessions id in
+    cond (countsKept s) (cond (slotKept s max) (cond (storeKept sessions parts lengths id) (lengthsKept sessions streams id n) false) false) false
+
+abbrev pub limitsFrom : List (List ℕ) → List (List ℕ) → ℕ → List ℕ → ℕ → ℕ → ℕ → Limits
+limitsFrom sessions streams parts lengths max id n = cond (rowsKept sessions streams parts lengths max id n) Within (Refused OverLimit)
+
+-- the stores; of the session that a call names, live or not, the counts and the fragments; and the stream that it names
+unfoldable pub limitsOf : List (List ℕ) → List (List ℕ) → List Object → ℕ → ℕ → List ℕ → ℕ → ℕ → ℕ → ℕ → Limits
+limitsOf sessions streams objects held parts lengths rebuilt max id n =
+    cond (storesFit (length sessions) (length streams) (length objects) held parts (length lengths) rebuilt max)
+    (limitsFrom sessions streams parts lengths max id n) (Refused OverLimit)

@@ -34,18 +34,40 @@ slotBytes = (mostStreams - 1) * streamBytes
 abbrev pub heldNeed : ℕ → ℕ
 heldNeed max = slotBytes * max
 
--- a session is six numbers of 8 bytes, a stream 35 numbers of 2 bytes, an object 2 + 1 + 1 + 4 + 2 bytes
+-- W6: "A session has one store of 64 fragments with bodies up to 512 bytes": its slots, a length of 4 bytes for each, and one place for rebuilt bytes
+abbrev pub mostFragments : ℕ
+mostFragments = 64
+
+abbrev pub mostBody : ℕ
+mostBody = 512
+
+abbrev pub storeBytes : ℕ
+storeBytes = mostFragments * mostBody
+
+abbrev pub partsNeed : ℕ → ℕ
+partsNeed max = storeBytes * max
+
+abbrev pub lengthsNeed : ℕ → ℕ
+lengthsNeed max = mostFragments * max
+
+abbrev pub rebuiltNeed : ℕ
+rebuiltNeed = storeBytes
+
+-- a session is eight numbers of 8 bytes, a stream 35 numbers of 2 bytes, an object 2 + 1 + 1 + 4 + 2 bytes
 abbrev pub needOf : ℕ → Need
 needOf max =
-    record { sessions = sessionsNeed; streams = streamsNeed; objects = objectsNeed; held = heldNeed max; bytes = sessionsNeed * (6 * 8) + streamsNeed * (35 * 2) + objectsNeed * (2 + 1 + 1 + 4 + 2) + heldNeed max }
+    record { sessions = sessionsNeed; streams = streamsNeed; objects = objectsNeed; held = heldNeed max; parts = partsNeed max; lengths = lengthsNeed max; rebuilt = rebuiltNeed; bytes = sessionsNeed * (8 * 8) + streamsNeed * (35 * 2) + objectsNeed * (2 + 1 + 1 + 4 + 2) + rebuiltNeed + heldNeed max + partsNeed max + 4 * lengthsNeed max }
 
 -- 16: "`max_clients` over 255"
 unfoldable pub neededFor : ℕ → Needed
 neededFor max = cond (leb max 255) (Stores (needOf max)) (Refused OverLimit)
 
--- 16, "`max_clients` over 255, lent store under its documented need", of all four stores
-unfoldable pub storesFit : ℕ → ℕ → ℕ → ℕ → ℕ → Bool
-storesFit sessions streams objects held max =
+abbrev pub fragmentsFit : ℕ → ℕ → ℕ → ℕ → Bool
+fragmentsFit parts lengths rebuilt max = cond (leb (partsNeed max) parts) (cond (leb (lengthsNeed max) lengths) (leb rebuiltNeed rebuilt) false) false
+
+-- 16, "`max_clients` over 255, lent store under its documented need", of all seven stores
+unfoldable pub storesFit : ℕ → ℕ → ℕ → ℕ → ℕ → ℕ → ℕ → ℕ → Bool
+storesFit sessions streams objects held parts lengths rebuilt max =
     cond (leb max 255)
-    (cond (leb sessionsNeed sessions) (cond (leb streamsNeed streams) (cond (leb objectsNeed objects) (leb (heldNeed max) held) false) false) false)
+    (cond (leb sessionsNeed sessions) (cond (leb streamsNeed streams) (cond (leb objectsNeed objects) (cond (leb (heldNeed max) held) (fragmentsFit parts lengths rebuilt max) false) false) false) false)
     false

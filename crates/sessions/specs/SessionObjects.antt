@@ -32,7 +32,7 @@ abbrev pub usedOf : List (List ℕ) → ℕ → ℕ
 usedOf sessions id = sessionAt sessions id .objects
 
 abbrev pub countedSession : ClientSession → ℕ → ClientSession
-countedSession s n = record { live = s .live; «client_key» = s .«client_key»; «last_activity» = s .«last_activity»; objects = n; streams = s .streams; slot = s .slot }
+countedSession s n = record { live = s .live; «client_key» = s .«client_key»; «last_activity» = s .«last_activity»; objects = n; streams = s .streams; slot = s .slot; total = s .total; received = s .received }
 
 abbrev pub keepUsed : List (List ℕ) → ℕ → ℕ → List (List ℕ)
 keepUsed sessions id n = keepSession sessions id (countedSession (sessionAt sessions id) n)

@@ -25,7 +25,7 @@ abbrev pub streamsUsed : List (List ℕ) → ℕ → ℕ
 streamsUsed sessions id = sessionAt sessions id .streams
 
 abbrev pub streamedSession : ClientSession → ℕ → ClientSession
-streamedSession s n = record { live = s .live; «client_key» = s .«client_key»; «last_activity» = s .«last_activity»; objects = s .objects; streams = n; slot = s .slot }
+streamedSession s n = record { live = s .live; «client_key» = s .«client_key»; «last_activity» = s .«last_activity»; objects = s .objects; streams = n; slot = s .slot; total = s .total; received = s .received }
 
 unfoldable pub streamsNamed : List (List ℕ) → ℕ → ℕ → Named
 streamsNamed sessions streams id = reachedOf sessions id (streamsUsed sessions id) mostStreams streams streamsNeed

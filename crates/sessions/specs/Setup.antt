@@ -34,8 +34,8 @@ abbrev pub firstId : ℕ
 firstId = 1
 
 -- 16: "`max_clients` over 255, lent store under its documented need"
-unfoldable pub setUpOf : ℕ → ℕ → ℕ → ℕ → ℕ → SetUp
-setUpOf sessions streams objects held max = cond (storesFit sessions streams objects held max) (Ready firstId) (Refused OverLimit)
+unfoldable pub setUpOf : ℕ → ℕ → ℕ → ℕ → ℕ → ℕ → ℕ → ℕ → SetUp
+setUpOf sessions streams objects held parts lengths rebuilt max = cond (storesFit sessions streams objects held parts lengths rebuilt max) (Ready firstId) (Refused OverLimit)
 
 -- what a store is left as; a refusal changes nothing
 abbrev pub leaves : {A : Type 0} → SetUp → A → A → A

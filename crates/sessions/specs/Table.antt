@@ -16,10 +16,10 @@ use Rattle.sessions.specs.declared.table.Got.the-variants as got
 -- ---- a session and its row
 
 abbrev pub sessionOf : List ℕ → ClientSession
-sessionOf w = record { live = getD w 0 0; «client_key» = getD w 1 0; «last_activity» = getD w 2 0; objects = getD w 3 0; streams = getD w 4 0; slot = getD w 5 0 }
+sessionOf w = record { live = getD w 0 0; «client_key» = getD w 1 0; «last_activity» = getD w 2 0; objects = getD w 3 0; streams = getD w 4 0; slot = getD w 5 0; total = getD w 6 0; received = getD w 7 0 }
 
 abbrev pub rowOf : ClientSession → List ℕ
-rowOf s = s .live ∷ s .«client_key» ∷ s .«last_activity» ∷ s .objects ∷ s .streams ∷ s .slot ∷ []
+rowOf s = s .live ∷ s .«client_key» ∷ s .«last_activity» ∷ s .objects ∷ s .streams ∷ s .slot ∷ s .total ∷ s .received ∷ []
 
 abbrev pub sessionAt : List (List ℕ) → ℕ → ClientSession
 sessionAt rows id = sessionOf (getD rows id [])
@@ -29,15 +29,15 @@ keepSession rows id s = set rows id (rowOf s)
 
 -- "It starts with the id given, the opening datagram's time as last activity, no objects, and the streams that `create_session` opens."
 abbrev pub newSession : ℕ → ℕ → ℕ → ClientSession
-newSession key time slot = record { live = 1; «client_key» = key; «last_activity» = time; objects = 0; streams = 1; slot = slot }
+newSession key time slot = record { live = 1; «client_key» = key; «last_activity» = time; objects = 0; streams = 1; slot = slot; total = 0; received = 0 }
 
 -- "its lists are gone"
 abbrev pub endedSession : ClientSession
-endedSession = record { live = 0; «client_key» = 0; «last_activity» = 0; objects = 0; streams = 0; slot = 0 }
+endedSession = record { live = 0; «client_key» = 0; «last_activity» = 0; objects = 0; streams = 0; slot = 0; total = 0; received = 0 }
 
 -- "The time becomes the last activity"
 abbrev pub touchedSession : ClientSession → ℕ → ClientSession
-touchedSession s time = record { live = s .live; «client_key» = s .«client_key»; «last_activity» = time; objects = s .objects; streams = s .streams; slot = s .slot }
+touchedSession s time = record { live = s .live; «client_key» = s .«client_key»; «last_activity» = time; objects = s .objects; streams = s .streams; slot = s .slot; total = s .total; received = s .received }
 
 -- "Expired: now minus last activity (0 if the clock went back) exceeds the timeout."
 abbrev pub elapsedOf : ℕ → ℕ → ℕ

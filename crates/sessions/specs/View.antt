@@ -12,6 +12,10 @@ use Rattle.sessions.specs.Table.{sessionAt, elapsedOf}
 use Rattle.sessions.specs.SessionObjects.{objectRow}
 use Rattle.sessions.specs.Streams.{streamOf, firstStream}
 use Rattle.sessions.specs.Held.{heldPart, bufferAt}
+use Rattle.sessions.specs.Need.{mostBody}
+use Rattle.codec.specs.Inserts.{slotsOf}
+use Rattle.sessions.specs.FragmentStore.{FragmentStore, emptyStore}
+use Rattle.sessions.specs.Fragments.{ownParts, ownLengths}
 use Rattle.sessions.specs.declared.objects.Object.{Object}
 use Rattle.sessions.specs.declared.objects.Place.{Place}
 use Rattle.sessions.specs.declared.objects.Place.the-variants.{At, Nowhere}
@@ -24,6 +28,9 @@ pub record Tables : Type 0 where
   pub streams : List (List ℕ)
   pub objects : List Object
   pub held : List ℕ
+  pub parts : List ℕ
+  pub lengths : List ℕ
+  pub rebuilt : List ℕ
 
 -- ---- one session
 
@@ -45,17 +52,18 @@ KeptStream = Kept (List ℕ)
 abbrev pub streamShown : List ℕ → List ℕ → KeptStream
 streamShown buffer w = keptOf (bytesIn buffer) (streamOf w)
 
--- "an id and what else the tables keep of its opening, a last activity, a list of objects .., a list of streams"
+-- "an id and what else the tables keep of its opening, a last activity, a list of objects .., a list of streams"; W6: "The machine for one session gains this store"
 pub record Local : Type 0 where
   pub id : ℕ
   pub key : ℕ
   pub last : ℕ
   pub objects : List Entry
   pub streams : List KeptStream
+  pub store : FragmentStore
 
 -- "It starts with the id given, the opening datagram's time as last activity, no objects, and the streams that `create_session` opens."
 abbrev pub startOf : ℕ → ℕ → ℕ → Local
-startOf id key time = record { id = id; key = key; last = time; objects = []; streams = freshOf 0 ∷ [] }
+startOf id key time = record { id = id; key = key; last = time; objects = []; streams = freshOf 0 ∷ []; store = emptyStore }
 
 -- "Expired: now minus last activity (0 if the clock went back) exceeds the timeout."
 abbrev pub expired : Local → ℕ → ℕ → Bool
@@ -68,6 +76,8 @@ pub record Part : Type 0 where
   pub objects : List Object
   pub streams : List (List ℕ)
   pub held : List ℕ
+  pub parts : List ℕ
+  pub lengths : List ℕ
 
 unfoldable pub streamRows : List (List ℕ) → ℕ → List (List ℕ)
 streamRows streams id = take 8 (drop (firstStream id) streams)
@@ -85,17 +95,20 @@ opened used held rows = shownFrom held 0 (take used rows)
 
 abbrev pub tablePart : Tables → ℕ → Part
 tablePart t id =
-    record { session = sessionAt (t .sessions) id; objects = objectRow (t .objects) id; streams = streamRows (t .streams) id; held = heldPart (t .held) (sessionAt (t .sessions) id) }
+    record { session = sessionAt (t .sessions) id; objects = objectRow (t .objects) id; streams = streamRows (t .streams) id; held = heldPart (t .held) (sessionAt (t .sessions) id); parts = ownParts (t .sessions) (t .parts) id; lengths = ownLengths (t .sessions) (t .lengths) id }
 
--- a session's objects, its streams, and the session, or none where the id is not live
+-- a session's objects, its streams, its fragments, and the session, or none where the id is not live
 abbrev pub objectsShown : Part → List Entry
 objectsShown p = listed (p .session .objects) (p .objects)
 
 abbrev pub streamsShown : Part → List KeptStream
 streamsShown p = opened (p .session .streams) (p .held) (p .streams)
 
+abbrev pub storeShown : Part → FragmentStore
+storeShown p = record { total = p .session .total; slots = slotsOf mostBody (p .parts) (take (p .session .total) (p .lengths)) }
+
 abbrev pub sessionShown : ℕ → Part → Local
-sessionShown id p = record { id = id; key = p .session .«client_key»; last = p .session .«last_activity»; objects = objectsShown p; streams = streamsShown p }
+sessionShown id p = record { id = id; key = p .session .«client_key»; last = p .session .«last_activity»; objects = objectsShown p; streams = streamsShown p; store = storeShown p }
 
 abbrev pub localShown : ℕ → Part → Option Local
 localShown id p = cond (eqb (p .session .live) 0) none (some (sessionShown id p))

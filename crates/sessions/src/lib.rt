@@ -1,4 +1,5 @@
 // The sessions of session.rs: the table of sessions by id, and the objects and streams of each.
+pub mod fragments;
 pub mod limits;
 pub mod need;
 pub mod object_list;

@@ -1,4 +1,6 @@
 // 16 as one check of what a call on a session uses, so that it can be judged right after 15, before anything is touched.
+use crate::fragments::lengths_stretch;
+use crate::fragments::parts_stretch;
 use crate::need::MOST_OBJECTS;
 use crate::need::MOST_STREAMS;
 use crate::need::stores_fit;
@@ -11,10 +13,11 @@ use crate::stream_rows::stream_at;
 use crate::table::ClientSession;
 use crate::table::SessionRow;
 use crate::table::session_at;
+use codec::reassembly::ReassemblyBuffer;
 use codec::refusals::Refusal;
 ghost use mathlib.Core.Path.{_≡_};
 ghost use mathlib.Core.Bool.{cond};
-ghost use Rattle.sessions.specs.Limits.{overLong, countsKept, slotKept, lengthsShort, lengthsKept, limitsFrom, limitsOf};
+ghost use Rattle.sessions.specs.Limits.{overLong, countsKept, slotKept, lengthsShort, lengthsKept, fragmentsKept, storeKept, limitsFrom, limitsOf};
 
 pub enum Limits {
     Within,
@@ -83,20 +86,58 @@ fn lengths_kept(sessions: &[SessionRow], streams: &[StreamRow], id: u8, n: u8) -
     }
 }
 
+// The fragments of a session: as many as 64, and none of their lengths past 512 bytes (document 02, W6).
+fn fragments_kept(s: ClientSession, parts: usize, lengths: &[u32]) -> bool
+    ensures { λ r. ⌜ r ≡ fragmentsKept s parts (now (lengths .entry)) ⌝ }
+{
+    if s.total == 0 {
+        return s.received == 0;
+    }
+    if 64 < s.total {
+        return false;
+    }
+    if s.total < s.received {
+        return false;
+    }
+    let b = ReassemblyBuffer {
+        total_fragments: s.total as u16,
+        received_count: s.received as u16,
+        width: 512,
+    };
+    !b.is_over(parts, lengths)
+}
+
+// The same, by its part of the stores.
+fn store_kept(sessions: &[SessionRow], parts: usize, lengths: &[u32], id: u8) -> bool
+    ensures { λ r. ⌜ r ≡ storeKept (now (sessions .entry)) parts (now (lengths .entry)) id ⌝ }
+{
+    let s = session_at(sessions, id);
+    let a = parts_stretch(sessions, parts, id);
+    let b = lengths_stretch(sessions, lengths.len(), id);
+    let start = b.start;
+    let end = b.end;
+    fragments_kept(s, a.end - a.start, &lengths[start..end])
+}
+
 fn rows_within(
     sessions: &[SessionRow],
     streams: &[StreamRow],
+    parts: usize,
+    lengths: &[u32],
     max_clients: usize,
     id: u8,
     n: u8,
 ) -> Limits
-    ensures { λ r. ⌜ r ≡ limitsFrom (now (sessions .entry)) (now (streams .entry)) «max_clients» id n ⌝ }
+    ensures { λ r. ⌜ r ≡ limitsFrom (now (sessions .entry)) (now (streams .entry)) parts (now (lengths .entry)) «max_clients» id n ⌝ }
 {
     let s = session_at(sessions, id);
     if !counts_kept(s) {
         return Limits::Refused(Refusal::OverLimit);
     }
     if !slot_kept(s, max_clients) {
+        return Limits::Refused(Refusal::OverLimit);
+    }
+    if !store_kept(sessions, parts, lengths, id) {
         return Limits::Refused(Refusal::OverLimit);
     }
     if lengths_kept(sessions, streams, id, n) {
@@ -107,24 +148,38 @@ fn rows_within(
 }
 
 // Whether the stores are as long as they must be, the counts of that id within 32 objects and 8 streams, its slot within
-// `max_clients`, and the lengths of what its stream of that number holds within 1,024 bytes.
+// `max_clients`, its fragments within 64 of 512 bytes, and the lengths of what its stream of that number holds within 1,024
+// bytes.
 pub fn within_limits(
     sessions: &[SessionRow],
     streams: &[StreamRow],
     objects: &[Object],
     held: usize,
+    parts: usize,
+    lengths: &[u32],
+    rebuilt: usize,
     max_clients: usize,
     id: u8,
     n: u8,
 ) -> Limits
-    ensures { λ r. ⌜ r ≡ limitsOf (now (sessions .entry)) (now (streams .entry)) (now (objects .entry)) held «max_clients» id n ⌝ }
+    ensures { λ r. ⌜ r ≡ limitsOf (now (sessions .entry)) (now (streams .entry)) (now (objects .entry)) held parts (now (lengths .entry)) rebuilt «max_clients» id n ⌝ }
 {
     let session_rows = sessions.len();
     let stream_rows = streams.len();
     let records = objects.len();
-    let ok = stores_fit(session_rows, stream_rows, records, held, max_clients);
+    let entries = lengths.len();
+    let ok = stores_fit(
+        session_rows,
+        stream_rows,
+        records,
+        held,
+        parts,
+        entries,
+        rebuilt,
+        max_clients,
+    );
     if ok {
-        rows_within(sessions, streams, max_clients, id, n)
+        rows_within(sessions, streams, parts, lengths, max_clients, id, n)
     } else {
         Limits::Refused(Refusal::OverLimit)
     }

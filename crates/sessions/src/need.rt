@@ -19,11 +19,22 @@ pub(crate) const OBJECTS: usize = 8192;
 // The bytes of held messages of a client: 16 messages of 1,024 bytes for each of its streams but stream 0 (document 02, W5).
 pub(crate) const HELD: usize = 114688;
 
+// Of a client's fragments (document 02, W6): 64 bodies of up to 512 bytes, and a length for each.
+pub(crate) const PARTS: usize = 32768;
+
+pub(crate) const LENGTHS: usize = 64;
+
+// The place of rebuilt bytes: as many as a client's fragments may have.
+pub(crate) const REBUILT: usize = 32768;
+
 pub struct Need {
     pub sessions: usize,
     pub streams: usize,
     pub objects: usize,
     pub held: usize,
+    pub parts: usize,
+    pub lengths: usize,
+    pub rebuilt: usize,
     pub bytes: usize,
 }
 
@@ -32,18 +43,23 @@ pub enum Needed {
     Refused(Refusal),
 }
 
-// Rows and records are by id, whatever `max_clients` is; the bytes of held messages are by slot.
+// Rows and records are by id, whatever `max_clients` is; held messages and fragments are by slot; rebuilt bytes have one place.
 pub(crate) fn stores_need(max_clients: usize) -> Need
     requires { ⌜ «max_clients» ≤ 255 ⌝ }
     ensures { λ r. ⌜ r ≡ needOf «max_clients» ⌝ }
 {
     let held = HELD * max_clients;
+    let parts = PARTS * max_clients;
+    let lengths = LENGTHS * max_clients;
     Need {
         sessions: SESSIONS,
         streams: STREAMS,
         objects: OBJECTS,
         held,
-        bytes: 237568 + held,
+        parts,
+        lengths,
+        rebuilt: REBUILT,
+        bytes: 274432 + held + parts + 4 * lengths,
     }
 }
 
@@ -58,15 +74,18 @@ pub fn documented_need(max_clients: usize) -> Needed
     Needed::Stores(need)
 }
 
-// Whether each of the four lent stores has at least as many rows, records or bytes as it needs.
+// Whether each of the seven lent stores has at least as many rows, records or bytes as it needs.
 pub(crate) fn stores_fit(
     sessions: usize,
     streams: usize,
     objects: usize,
     held: usize,
+    parts: usize,
+    lengths: usize,
+    rebuilt: usize,
     max_clients: usize,
 ) -> bool
-    ensures { λ r. ⌜ r ≡ storesFit sessions streams objects held «max_clients» ⌝ }
+    ensures { λ r. ⌜ r ≡ storesFit sessions streams objects held parts lengths rebuilt «max_clients» ⌝ }
 {
     if 255 < max_clients {
         return false;
@@ -80,5 +99,14 @@ pub(crate) fn stores_fit(
     if objects < OBJECTS {
         return false;
     }
-    HELD * max_clients <= held
+    if held < HELD * max_clients {
+        return false;
+    }
+    if parts < PARTS * max_clients {
+        return false;
+    }
+    if lengths < LENGTHS * max_clients {
+        return false;
+    }
+    REBUILT <= rebuilt
 }

@@ -56,6 +56,8 @@ fn counted(s: ClientSession, objects: u64) -> ClientSession
         objects,
         streams: s.streams,
         slot: s.slot,
+        total: s.total,
+        received: s.received,
     }
 }
 

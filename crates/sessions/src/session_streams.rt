@@ -124,6 +124,8 @@ fn streamed(s: ClientSession, streams: u64) -> ClientSession
         objects: s.objects,
         streams,
         slot: s.slot,
+        total: s.total,
+        received: s.received,
     }
 }
 

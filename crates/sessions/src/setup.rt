@@ -26,7 +26,7 @@ fn clear_sessions(sessions: &mut [SessionRow], n: usize)
 {
     let mut id: usize = 0;
     while id < n {
-        sessions[id] = [0u64; 6];
+        sessions[id] = [0u64; 8];
         id += 1;
     }
 }
@@ -56,16 +56,19 @@ fn clear_objects(objects: &mut [Object], n: usize)
     }
 }
 
-// Clears every table within its need, whatever stood there; what a table has beyond it stays. Of the held messages only the
-// number of bytes is asked: what no stream holds is never read. A refusal changes nothing.
+// Clears every table within its need, whatever stood there; what a table has beyond it stays. Of the held messages and the fragments only the
+// number of bytes is asked: what no session holds is never read. A refusal changes nothing.
 pub fn set_up(
     sessions: &mut [SessionRow],
     streams: &mut [StreamRow],
     objects: &mut [Object],
     held: usize,
+    parts: usize,
+    lengths: usize,
+    rebuilt: usize,
     max_clients: usize,
 ) -> SetUp
-    ensures { λ r. ⌜ (r ≡ setUpOf (length (now (sessions .entry))) (length (now (streams .entry))) (length (now (objects .entry))) held «max_clients»)
+    ensures { λ r. ⌜ (r ≡ setUpOf (length (now (sessions .entry))) (length (now (streams .entry))) (length (now (objects .entry))) held parts lengths rebuilt «max_clients»)
         × (now (sessions .exit) ≡ leaves r (emptySessions (now (sessions .entry))) (now (sessions .entry)))
         × (now (streams .exit) ≡ leaves r (emptyStreams (now (streams .entry))) (now (streams .entry)))
         × (now (objects .exit) ≡ leaves r (emptyObjects (now (objects .entry))) (now (objects .entry))) ⌝ }
@@ -73,7 +76,16 @@ pub fn set_up(
     let session_rows = sessions.len();
     let stream_rows = streams.len();
     let records = objects.len();
-    let ok = stores_fit(session_rows, stream_rows, records, held, max_clients);
+    let ok = stores_fit(
+        session_rows,
+        stream_rows,
+        records,
+        held,
+        parts,
+        lengths,
+        rebuilt,
+        max_clients,
+    );
     if ok {
         let need = stores_need(max_clients);
         let ids = need.sessions;

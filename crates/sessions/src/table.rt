@@ -5,10 +5,11 @@ ghost use mathlib.Core.Path.{_≡_};
 ghost use Rattle.sessions.specs.Table.{newSession, endedSession, touchedSession, expiredOf, elapsedOf, sessionAt, keepSession, namedOf, gotOf, reachedOf, keptRows, touchedRows, endedRows};
 
 // The row of an id: the numbers of `ClientSession`, in its order.
-pub type SessionRow = [u64; 6];
+pub type SessionRow = [u64; 8];
 
 // What the table keeps of a session. `live` is 0 where the id is free; the counts say how many of the session's
-// object records and stream records are in use; the slot says which part of the stores by slot is the session's (document 02, W5).
+// object records and stream records are in use; the slot says which part of the stores by slot is the session's (document 02, W5);
+// `total` and `received` are those of its fragments, 0 while it has none (document 02, W6).
 pub struct ClientSession {
     pub live: u64,
     pub client_key: u64,
@@ -16,6 +17,8 @@ pub struct ClientSession {
     pub objects: u64,
     pub streams: u64,
     pub slot: u64,
+    pub total: u64,
+    pub received: u64,
 }
 
 // What an id names.
@@ -51,6 +54,8 @@ impl ClientSession {
             objects: 0,
             streams: 1,
             slot: slot as u64,
+            total: 0,
+            received: 0,
         }
     }
 
@@ -65,6 +70,8 @@ impl ClientSession {
             objects: 0,
             streams: 0,
             slot: 0,
+            total: 0,
+            received: 0,
         }
     }
 
@@ -78,6 +85,8 @@ impl ClientSession {
             objects: self.objects,
             streams: self.streams,
             slot: self.slot,
+            total: self.total,
+            received: self.received,
         }
     }
 
@@ -103,6 +112,8 @@ pub(crate) fn session_at(sessions: &[SessionRow], id: u8) -> ClientSession
             objects: sessions[i][3],
             streams: sessions[i][4],
             slot: sessions[i][5],
+            total: sessions[i][6],
+            received: sessions[i][7],
         }
     } else {
         ClientSession::ended()
@@ -121,6 +132,8 @@ pub(crate) fn keep_session(sessions: &mut [SessionRow], id: u8, s: ClientSession
         s.objects,
         s.streams,
         s.slot,
+        s.total,
+        s.received,
     ];
     if i < sessions.len() {
         sessions[i] = row;
@@ -128,7 +141,7 @@ pub(crate) fn keep_session(sessions: &mut [SessionRow], id: u8, s: ClientSession
 }
 
 // Whether a session is live under that id.
-fn live_at(sessions: &[SessionRow], id: u8) -> Named
+pub fn live_at(sessions: &[SessionRow], id: u8) -> Named
     ensures { λ r. ⌜ r ≡ namedOf (now (sessions .entry)) id ⌝ }
 {
     if sessions.len() < SESSIONS {

@@ -1,11 +1,11 @@
-//! The agent with everything it needs: its record, its tables with the store of held messages, and the datagram of an open call.
+//! The agent with everything it needs: its record, its tables with their stores, and the datagram of an open call.
 
 use crate::call::{Answer, Call};
 use crate::ffi;
 use crate::records::{AgentRecord, Tables, Told};
 use crate::refusal::{read, Refusal};
 
-/// An agent. It holds 248 KiB of tables on the heap, and 112 KiB for each of `max_clients`.
+/// An agent. It holds 284 KiB of tables on the heap, and 144.25 KiB for each of `max_clients`.
 ///
 /// While a bridge call is open, [`Agent::answer`] is the only call in its turn: datagrams, removals and sweeps are
 /// refused as 15 (document 01, "Refused"). [`Agent::list`] only reads, and answers then too.
@@ -60,7 +60,9 @@ impl Agent {
 
     /// The call that is open, if one is.
     pub fn open_call(&self) -> Option<Call<'_>> {
-        Call::standing(&self.record, &self.kept)
+        // A call of a rebuilt submessage shows parts of the rebuilt bytes, which stand in the tables.
+        let shown = if self.record.left_end == 0 { &self.kept[..] } else { &self.tables.rebuilt[..] };
+        Call::standing(&self.record, shown)
     }
 
     /// The session that the open call belongs to.

@@ -90,11 +90,15 @@ impl Agent {
     ) -> Result<(), Refusal> {
         out.clear();
         out.resize(room(datagram, 0), 0);
-        let mut wrote = match self.incoming(datagram, time_ms, out) {
-            Ok(outcome) => outcome.wrote,
-            Err(refusal) => {
-                out.clear();
-                return Err(refusal);
+        let mut wrote = loop {
+            match self.incoming(datagram, time_ms, out) {
+                Ok(outcome) => break outcome.wrote,
+                // Rebuilt ACKNACKs ask for more than could be counted.
+                Err(Refusal::OutputTooShort) => out.resize(2 * out.len(), 0),
+                Err(refusal) => {
+                    out.clear();
+                    return Err(refusal);
+                }
             }
         };
         while let Some(call) = self.open_call() {
@@ -109,9 +113,13 @@ impl Agent {
     fn served(&mut self, datagram: &[u8], answered: &Answered, at: usize, out: &mut Vec<u8>) -> Result<usize, Refusal> {
         let sample = if let Answered::Sample(sample) = answered { sample.len() } else { 0 };
         out.resize(at + room(datagram, sample), 0);
-        match self.answer(answered.lend(), &mut out[at..]) {
-            Err(Refusal::TooLong | Refusal::StoreFull) => Ok(self.answer(Answer::Failed, &mut out[at..])?.wrote),
-            told => Ok(told?.wrote),
+        let mut answer = answered.lend();
+        loop {
+            match self.answer(answer, &mut out[at..]) {
+                Err(Refusal::TooLong | Refusal::StoreFull) => answer = Answer::Failed,
+                Err(Refusal::OutputTooShort) => out.resize(2 * out.len(), 0),
+                told => return Ok(told?.wrote),
+            }
         }
     }
 }

@@ -13,7 +13,8 @@ impl fmt::Display for Handle {
     }
 }
 
-/// A call that the host has to make now, and answer before anything else. Names and data are parts of the datagram.
+/// A call that the host has to make now, and answer before anything else. Names and data are parts of the datagram, or of
+/// the message that its last fragment completed.
 #[derive(Clone, Copy, Debug, PartialEq, Eq)]
 #[allow(missing_docs)]
 pub enum Call<'a> {
@@ -42,9 +43,9 @@ pub enum Answer<'a> {
 }
 
 impl<'a> Call<'a> {
-    /// The call that stands in the record, its names and data being parts of `datagram`.
-    pub(crate) fn standing(record: &AgentRecord, datagram: &'a [u8]) -> Option<Call<'a>> {
-        let part = |start: u64, len: u64| &datagram[start as usize..][..len as usize];
+    /// The call that stands in the record, its names and data being parts of `shown`.
+    pub(crate) fn standing(record: &AgentRecord, shown: &'a [u8]) -> Option<Call<'a>> {
+        let part = |start: u64, len: u64| &shown[start as usize..][..len as usize];
         let (handle, topic) = (Handle(record.handle as u32), Handle(record.topic as u32));
         Some(match record.call {
             1 => Call::CreateParticipant { domain: record.handle as u16 },

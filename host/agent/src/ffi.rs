@@ -18,6 +18,12 @@ unsafe extern "C" {
         object_records: usize,
         held: *const u8,
         held_bytes: usize,
+        parts: *const u8,
+        part_bytes: usize,
+        lengths: *const u32,
+        length_count: usize,
+        rebuilt: *const u8,
+        rebuilt_bytes: usize,
         max_clients: u64,
         timeout_ms: u64,
     ) -> u64;
@@ -33,6 +39,12 @@ unsafe extern "C" {
         object_records: usize,
         held: *mut u8,
         held_bytes: usize,
+        parts: *mut u8,
+        part_bytes: usize,
+        lengths: *mut u32,
+        length_count: usize,
+        rebuilt: *mut u8,
+        rebuilt_bytes: usize,
         out: *mut u8,
         room: usize,
         datagram: *const u8,
@@ -79,9 +91,9 @@ pub fn need(max_clients: u64) -> u64 {
     unsafe { xrce_need(max_clients) }
 }
 
-/// Sets an agent up over lent tables and a lent store, of which no byte is looked at. Refused: 16.
+/// Sets an agent up over lent tables and lent stores, of which nothing is looked at. Refused: 16.
 pub fn setup(agent: &mut [AgentRecord], tables: Lent<'_>, max_clients: u64, timeout_ms: u64) -> u64 {
-    let Lent { sessions, streams, objects, held } = tables;
+    let Lent { sessions, streams, objects, held, parts, lengths, rebuilt } = tables;
     // SAFETY: each pointer comes from a slice with its length, so it isn't null and all its elements may be written;
     // mutable slices share no byte; every bit pattern is a value of the numbers in them; no pointer is kept.
     unsafe {
@@ -96,6 +108,12 @@ pub fn setup(agent: &mut [AgentRecord], tables: Lent<'_>, max_clients: u64, time
             objects.len(),
             held.as_ptr(),
             held.len(),
+            parts.as_ptr(),
+            parts.len(),
+            lengths.as_ptr(),
+            lengths.len(),
+            rebuilt.as_ptr(),
+            rebuilt.len(),
             max_clients,
             timeout_ms,
         )
@@ -104,7 +122,7 @@ pub fn setup(agent: &mut [AgentRecord], tables: Lent<'_>, max_clients: u64, time
 
 /// A datagram, or the bridge's answer. Refused, in this order: 15, 16, 1 to 5, 12, 14, 13.
 pub fn process(agent: &mut [AgentRecord], tables: Lent<'_>, out: &mut [u8], told: Told<'_>) -> u64 {
-    let Lent { sessions, streams, objects, held } = tables;
+    let Lent { sessions, streams, objects, held, parts, lengths, rebuilt } = tables;
     // SAFETY: as in `setup`; the datagram and the sample are read alone, and shared slices share no byte with mutable ones.
     unsafe {
         xrce_agent_process(
@@ -118,6 +136,12 @@ pub fn process(agent: &mut [AgentRecord], tables: Lent<'_>, out: &mut [u8], told
             objects.len(),
             held.as_mut_ptr(),
             held.len(),
+            parts.as_mut_ptr(),
+            parts.len(),
+            lengths.as_mut_ptr(),
+            lengths.len(),
+            rebuilt.as_mut_ptr(),
+            rebuilt.len(),
             out.as_mut_ptr(),
             out.len(),
             told.datagram.as_ptr(),

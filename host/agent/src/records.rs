@@ -10,9 +10,16 @@ pub const STREAMS: usize = 2048;
 pub const OBJECTS: usize = 8192;
 /// Bytes of the store of held messages for each client: 16 messages of 1,024 bytes on each of 7 streams.
 pub const HELD: usize = 114_688;
+/// Bytes of the store of fragments for each client: 64 bodies of up to 512 bytes.
+pub const PARTS: usize = 32_768;
+/// Lengths of the store of fragments for each client.
+pub const LENGTHS: usize = 64;
+/// Bytes of the place of rebuilt messages, one for all clients.
+pub const REBUILT: usize = 32_768;
 
-/// A row of the table of sessions: live, key, last activity, objects in use, streams in use, and the session's slot.
-pub type SessionRow = [u64; 6];
+/// A row of the table of sessions: live, key, last activity, objects in use, streams in use, the session's slot, and the total of
+/// its fragments with how many there are.
+pub type SessionRow = [u64; 8];
 /// A row of the table of streams.
 pub type StreamRow = [u16; 35];
 
@@ -32,6 +39,8 @@ pub struct AgentRecord {
     pub number: u64,
     pub at: u64,
     pub time: u64,
+    pub left_at: u64,
+    pub left_end: u64,
     pub wrote: u64,
     pub call: u64,
     pub handle: u64,
@@ -44,7 +53,7 @@ pub struct AgentRecord {
 
 impl AgentRecord {
     /// How many numbers it has.
-    pub const NUMBERS: usize = 19;
+    pub const NUMBERS: usize = 21;
 
     /// The record as the functions take it: a slice of one.
     pub fn lend(&self) -> &[AgentRecord] {
@@ -60,7 +69,21 @@ impl AgentRecord {
     pub fn numbers_mut(&mut self) -> [&mut u64; Self::NUMBERS] {
         let AgentRecord { max_clients, timeout_ms, next, open, kind, parent, session, .. } = self;
         let AgentRecord {
-            stream, number, at, time, wrote, call, handle, topic, start, len, type_start, type_len, ..
+            stream,
+            number,
+            at,
+            time,
+            left_at,
+            left_end,
+            wrote,
+            call,
+            handle,
+            topic,
+            start,
+            len,
+            type_start,
+            type_len,
+            ..
         } = self;
         [
             max_clients,
@@ -74,6 +97,8 @@ impl AgentRecord {
             number,
             at,
             time,
+            left_at,
+            left_end,
             wrote,
             call,
             handle,
@@ -98,7 +123,7 @@ pub struct ObjectRecord {
     pub parent: u16,
 }
 
-/// The three tables and the store of held messages, lent for one call.
+/// The three tables, the stores of held messages and of fragments, and the place of rebuilt messages, lent for one call.
 pub struct Lent<'a> {
     /// At least [`SESSIONS`] rows, else the call is refused as 16.
     pub sessions: &'a mut [SessionRow],
@@ -108,6 +133,12 @@ pub struct Lent<'a> {
     pub objects: &'a mut [ObjectRecord],
     /// At least [`HELD`] bytes for each of `max_clients`. A set-up measures it and writes none of them.
     pub held: &'a mut [u8],
+    /// At least [`PARTS`] bytes for each of `max_clients`; as with all below, a set-up writes none of them.
+    pub parts: &'a mut [u8],
+    /// At least [`LENGTHS`] numbers for each of `max_clients`.
+    pub lengths: &'a mut [u32],
+    /// At least [`REBUILT`] bytes. An open call may show parts of them.
+    pub rebuilt: &'a mut [u8],
 }
 
 /// What `process` is told: `enum xrce_input` with what belongs to it.
@@ -125,7 +156,7 @@ pub struct Told<'a> {
     pub sample: &'a [u8],
 }
 
-/// The tables and the store of the documented need, on the heap. Zeroed there: nothing of their size stands on the stack.
+/// The tables and the stores of the documented need, on the heap. Zeroed there: nothing of their size stands on the stack.
 #[derive(Clone, Debug, PartialEq, Eq)]
 pub struct Tables {
     /// The table of sessions.
@@ -136,27 +167,40 @@ pub struct Tables {
     pub objects: Box<[ObjectRecord]>,
     /// The store of held messages.
     pub held: Box<[u8]>,
+    /// The bodies of fragments.
+    pub parts: Box<[u8]>,
+    /// And their lengths.
+    pub lengths: Box<[u32]>,
+    /// The place of rebuilt messages.
+    pub rebuilt: Box<[u8]>,
 }
 
 impl Tables {
-    /// Tables of the documented need for that many clients, all zero. For more than the 255 that there may be, the store is
-    /// that of 255: the set-up refuses them.
+    /// Tables of the documented need for that many clients, all zero. For more than the 255 that there may be, the stores
+    /// are those of 255: the set-up refuses them.
     pub fn new(max_clients: u64) -> Self {
+        let clients = max_clients.min(255) as usize;
         Tables {
-            sessions: vec![[0; 6]; SESSIONS].into_boxed_slice(),
+            sessions: vec![[0; 8]; SESSIONS].into_boxed_slice(),
             streams: vec![[0; 35]; STREAMS].into_boxed_slice(),
             objects: vec![ObjectRecord::default(); OBJECTS].into_boxed_slice(),
-            held: vec![0; HELD * max_clients.min(255) as usize].into_boxed_slice(),
+            held: vec![0; HELD * clients].into_boxed_slice(),
+            parts: vec![0; PARTS * clients].into_boxed_slice(),
+            lengths: vec![0; LENGTHS * clients].into_boxed_slice(),
+            rebuilt: vec![0; REBUILT].into_boxed_slice(),
         }
     }
 
-    /// The tables and the store, lent for one call.
+    /// The tables and the stores, lent for one call.
     pub fn lend(&mut self) -> Lent<'_> {
         Lent {
             sessions: &mut self.sessions,
             streams: &mut self.streams,
             objects: &mut self.objects,
             held: &mut self.held,
+            parts: &mut self.parts,
+            lengths: &mut self.lengths,
+            rebuilt: &mut self.rebuilt,
         }
     }
 }
@@ -171,7 +215,7 @@ macro_rules! words_in_order {
 }
 
 const _: () = {
-    words_in_order!(0; max_clients timeout_ms next open kind parent session stream number at time
+    words_in_order!(0; max_clients timeout_ms next open kind parent session stream number at time left_at left_end
         wrote call handle topic start len type_start type_len);
     assert!(align_of::<AgentRecord>() == 8);
 };
@@ -183,5 +227,5 @@ const _: () = {
     assert!(offset_of!(ObjectRecord, handle) == 4);
     assert!(offset_of!(ObjectRecord, parent) == 8);
     assert!(size_of::<ObjectRecord>() == 12 && align_of::<ObjectRecord>() == 4);
-    assert!(size_of::<SessionRow>() == 48 && size_of::<StreamRow>() == 70);
+    assert!(size_of::<SessionRow>() == 64 && size_of::<StreamRow>() == 70);
 };

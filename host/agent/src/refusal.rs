@@ -1,4 +1,4 @@
-//! Why a call is refused: the numbers and words of document 01's table "Refused".
+//! Why a call is refused: the numbers and words of document 01's table "Refused", and document 02's 17.
 
 use std::error::Error;
 use std::fmt;
@@ -23,10 +23,11 @@ pub enum Refusal {
     StoreFull,
     OutOfTurn,
     OverLimit,
+    NotInFragments,
 }
 
 impl Refusal {
-    /// The refusal with that number, and that byte where it has one. There are 16.
+    /// The refusal with that number, and that byte where it has one. There are 17.
     pub fn numbered(number: u8, byte: u8) -> Option<Refusal> {
         Some(match number {
             1 => Refusal::BufferTooShort,
@@ -45,11 +46,12 @@ impl Refusal {
             14 => Refusal::StoreFull,
             15 => Refusal::OutOfTurn,
             16 => Refusal::OverLimit,
+            17 => Refusal::NotInFragments,
             _ => return None,
         })
     }
 
-    /// Its number in document 01's table.
+    /// Its number in the documents.
     pub fn number(self) -> u8 {
         match self {
             Refusal::BufferTooShort => 1,
@@ -68,6 +70,7 @@ impl Refusal {
             Refusal::StoreFull => 14,
             Refusal::OutOfTurn => 15,
             Refusal::OverLimit => 16,
+            Refusal::NotInFragments => 17,
         }
     }
 
@@ -81,7 +84,7 @@ impl Refusal {
         }
     }
 
-    /// Its words in document 01's table.
+    /// Its words in the documents.
     pub fn words(self) -> &'static str {
         match self {
             Refusal::BufferTooShort => "bytes missing, no submessage",
@@ -102,6 +105,7 @@ impl Refusal {
             Refusal::OverLimit => {
                 "max_clients over 255, lent store under its documented need, or tables altered past a limit"
             }
+            Refusal::NotInFragments => "a FRAGMENT or CREATE_CLIENT among rebuilt submessages",
         }
     }
 }
@@ -122,6 +126,6 @@ pub fn read(answer: u64) -> Result<u64, Refusal> {
     let [number, byte, ..] = answer.to_le_bytes();
     match number {
         0 => Ok(answer / 65536),
-        _ => Err(Refusal::numbered(number, byte).expect("the agent's refusals are numbered 1 to 16")),
+        _ => Err(Refusal::numbered(number, byte).expect("the agent's refusals are numbered 1 to 17")),
     }
 }

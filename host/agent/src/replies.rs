@@ -1,5 +1,7 @@
 //! Replies that stand one behind the other, cut apart.
 
+use crate::records::REBUILT;
+
 /// The replies in the first bytes of an output: `replies(&out[..wrote])`. Each is one submessage behind a header, 8
 /// bytes and its payload; the payload's length stands at bytes 6 and 7, low byte first.
 pub fn replies(wrote: &[u8]) -> Replies<'_> {
@@ -27,23 +29,32 @@ impl<'a> Iterator for Replies<'a> {
 /// has at least 6 bytes, and its reply at most 12, or 10 and the sample; but an ACKNACK on a stream other than 0 is answered by
 /// a message of up to 1,024 bytes for each bit of its bitmap. So 8 bytes can ask for 16,384: a host may want to look at this
 /// number before it hands the datagram in.
+///
+/// A FRAGMENT may complete a message of up to 32,768 bytes, whose submessages are answered too. The ACKNACKs among them are the
+/// one thing that nobody can count beforehand: a call that is refused as 13 for their sake changed nothing, and may be made
+/// again with a longer output.
 pub fn room(datagram: &[u8], sample_len: usize) -> usize {
-    2 * datagram.len() + sample_len + 12 + 1024 * asked_for(datagram)
+    let (asked, fragments) = asked_for(datagram);
+    let rebuilt = if fragments { 2 * REBUILT } else { 0 };
+    2 * datagram.len() + sample_len + 12 + rebuilt + 1024 * asked
 }
 
-/// How many messages the datagram's ACKNACKs ask for at most. What doesn't read asks for nothing: its datagram is refused.
-fn asked_for(datagram: &[u8]) -> usize {
-    let Some(([_, stream, _, _], mut rest)) = datagram.split_first_chunk() else { return 0 };
-    let mut asked = 0;
+/// How many messages the datagram's ACKNACKs ask for at most, and whether it holds a FRAGMENT. What doesn't read asks for
+/// nothing: its datagram is refused.
+fn asked_for(datagram: &[u8]) -> (usize, bool) {
+    let (mut asked, mut fragments) = (0, false);
+    let Some(([_, stream, _, _], mut rest)) = datagram.split_first_chunk() else { return (asked, fragments) };
     while let Some(([id, _, low, high], behind)) = rest.split_first_chunk() {
         let length = usize::from(u16::from_le_bytes([*low, *high]));
-        let Some((payload, next)) = behind.split_at_checked(length) else { return asked };
-        if let (0x0E, [_, _, low, high, ..], 1..) = (*id, payload, *stream) {
-            asked += u16::from_le_bytes([*low, *high]).count_ones() as usize;
+        let Some((payload, next)) = behind.split_at_checked(length) else { break };
+        match (*id, payload, *stream) {
+            (0x0E, [_, _, low, high, ..], 1..) => asked += u16::from_le_bytes([*low, *high]).count_ones() as usize,
+            (0x0F, ..) => fragments = true,
+            _ => {}
         }
         rest = next;
     }
-    asked
+    (asked, fragments)
 }
 
 #[cfg(test)]
@@ -63,5 +74,13 @@ mod tests {
             }
         }
         assert_eq!((room(&[], 0), room(&[1, 1, 0, 0, 0x0E, 0, 255, 255, 0], 0)), (12, 30));
+    }
+
+    #[test]
+    fn a_fragment_may_bring_the_replies_of_a_whole_message() {
+        let plain = Datagram::new(1, 1).delete(4).acknack(0, 1).bytes();
+        let fragments = Datagram::new(1, 1).fragment(0, 2, b"a").acknack(0, 1).fragment(1, 2, b"b").bytes();
+        assert_eq!(room(&plain, 5), 2 * plain.len() + 5 + 12 + 1024);
+        assert_eq!(room(&fragments, 5), 2 * fragments.len() + 5 + 12 + 65_536 + 1024);
     }
 }

@@ -7,7 +7,7 @@ mod c;
 fn the_example_runs() {
     let Some(printed) = c::output(&c::root().join("host/example/example.c"), "example") else { return };
     let wanted = "\
-set up; 696320 bytes of tables
+set up; 865280 bytes of tables
 CREATE_CLIENT at 0 ms
 reply 01 00 00 00 05 00 03 00 00 00 00
 CREATE of participant 7 at 5 ms

@@ -4,7 +4,7 @@ mod common;
 
 use common::*;
 use wire::Datagram;
-use xrce_agent::lent::{self, AgentRecord, Tables, Told, HELD, OBJECTS, SESSIONS, STREAMS};
+use xrce_agent::lent::{self, AgentRecord, Tables, Told, OBJECTS, REBUILT, SESSIONS, STREAMS};
 use xrce_agent::Refusal;
 
 #[test]
@@ -108,6 +108,12 @@ fn stores_under_their_need() {
         Short { objects: 0, ..WHOLE },
         Short { held: WHOLE.held - 1, ..WHOLE },
         Short { held: 0, ..WHOLE },
+        Short { parts: WHOLE.parts - 1, ..WHOLE },
+        Short { parts: 0, ..WHOLE },
+        Short { lengths: WHOLE.lengths - 1, ..WHOLE },
+        Short { lengths: 0, ..WHOLE },
+        Short { rebuilt: REBUILT - 1, ..WHOLE },
+        Short { rebuilt: 0, ..WHOLE },
     ];
     let mut fixture = Fixture::with_objects();
     let datagram = Datagram::new(1, 0).delete(4).bytes();
@@ -119,9 +125,10 @@ fn stores_under_their_need() {
         assert_eq!(fixture.remove(*short, 1), 16);
         assert_eq!(fixture.sweep(*short, 255, 0), 16);
     }
-    // A removal and a sweep take no store of held messages.
-    assert_eq!(fixture.remove(Short { held: 0, ..WHOLE }, 9), 0);
-    assert_eq!(fixture.sweep(Short { held: 0, ..WHOLE }, 255, 0), 0);
+    // A removal and a sweep take no store.
+    let none = Short { rebuilt: 0, ..for_clients(0) };
+    assert_eq!(fixture.remove(none, 9), 0);
+    assert_eq!(fixture.sweep(none, 255, 0), 0);
     // A listing looks at the sessions and the objects, and at no stream and no held message; 16 comes before 13.
     for (at, short) in shorts.iter().enumerate() {
         let answer = [1, 2, 5, 6].contains(&at).then_some(16);
@@ -145,26 +152,30 @@ fn limits_of_the_set_up() {
     }
     for max in [0, 1, CLIENTS, 255] {
         fixture.tables = Tables::new(max);
-        let held = HELD * max as usize;
-        assert_eq!(fixture.setup(Short { held, ..WHOLE }, max, 0), 0);
+        assert_eq!(fixture.setup(for_clients(max), max, 0), 0);
         let need = lent::read(lent::need(max)).unwrap();
-        assert_eq!(need, 256 * 48 + 2048 * 70 + 8192 * 10 + 114_688 * max);
+        let store = 7 * 16 * 1024 + 64 * (512 + 4);
+        assert_eq!(need, 256 * 64 + 2048 * 70 + 8192 * 10 + 32_768 + store * max);
         // Document 01: "at most 1,048,576 × (max_clients + 1) bytes in all".
         assert!(need <= 1_048_576 * (max + 1));
     }
 }
 
-// A set-up measures the store of held messages and leaves every byte of it, whatever stood there.
+// A set-up measures the stores and the place of rebuilt bytes and leaves all of them, whatever stood there.
 #[test]
-fn a_set_up_leaves_the_store_of_held_messages() {
+fn a_set_up_leaves_the_stores() {
     let mut fixture = Fixture::with_objects();
     fixture.tables.held.fill(FILL);
+    fixture.tables.parts.fill(FILL);
+    fixture.tables.lengths.fill(0xA5A5_A5A5);
+    fixture.tables.rebuilt.fill(FILL);
+    let before = fixture.tables.clone();
     assert_eq!(fixture.setup(WHOLE, CLIENTS + 1, 1000), 16);
     for max in [0, 1, CLIENTS] {
         assert_eq!(fixture.setup(WHOLE, max, 1000), 0);
-        assert!(fixture.tables.held.iter().all(|byte| *byte == FILL), "{max} clients");
-        let held = HELD * max as usize;
-        assert_eq!(fixture.setup(Short { held, ..WHOLE }, max, 1000), 0, "{max} clients");
+        assert!(fixture.tables.held == before.held && fixture.tables.parts == before.parts, "{max} clients");
+        assert!(fixture.tables.lengths == before.lengths && fixture.tables.rebuilt == before.rebuilt, "{max} clients");
+        assert_eq!(fixture.setup(for_clients(max), max, 1000), 0, "{max} clients");
     }
 }
 
@@ -312,13 +323,13 @@ fn a_full_table_is_a_status() {
 
 #[test]
 fn refusals_have_numbers_words_and_bytes() {
-    for number in 1..=16 {
+    for number in 1..=17 {
         let refusal = Refusal::numbered(number, 0xAB).unwrap();
         assert_eq!(refusal.number(), number);
         assert_eq!(refusal.byte(), (2..=4).contains(&number).then_some(0xAB));
         assert_eq!(lent::read(u64::from(number) + 256 * 0xAB), Err(refusal));
     }
-    assert_eq!((Refusal::numbered(0, 0), Refusal::numbered(17, 0)), (None, None));
+    assert_eq!((Refusal::numbered(0, 0), Refusal::numbered(18, 0)), (None, None));
     assert_eq!(Refusal::UnknownSubmessageId(3).to_string(), "id not listed (0x03)");
     assert_eq!(Refusal::OutputTooShort.to_string(), "lent output shorter than the result");
     assert_eq!(lent::read(5 * 65_536), Ok(5));

@@ -12,6 +12,9 @@ driver [FLAG VALUE ..]   plays a client: opens a session, creates a participant,
   --rate N         a second; 0 for as fast as it goes                      (0)
   --topic NAME     the topic's name; it should be no other client's        (driver- and a number)
   --size N         bytes of each message, 8 to 65497                       (24)
+  --datagram N     the longest datagram that it sends, 128 to 65507: a
+                   message that needs a longer one goes in parts, and has
+                   at most 32762 bytes                                     (65507)
   --stream N       of the reads: on one other than 0 DATA that gets lost
                    is asked for again, and has at most 1014 bytes          (1; 0 if the size is greater)
   --help           this text
@@ -19,8 +22,11 @@ driver [FLAG VALUE ..]   plays a client: opens a session, creates a participant,
 Up to 10 messages are shown one by one, more as a summary. A missing or wrong reply ends it with exit code 1.
 ";
 
-/// The most that fits a datagram of UDP behind the headers of document 01.
-pub const MOST_BYTES: usize = 65_507 - 10;
+/// The longest datagram of UDP, and the most that fits it behind the headers of document 01.
+pub const LONGEST: usize = 65_507;
+pub const MOST_BYTES: usize = LONGEST - HEADERS;
+/// The headers of a message and of a submessage, and the writer's number.
+const HEADERS: usize = 4 + 4 + 2;
 /// A message begins with its number, 8 digits.
 pub const LEAST_BYTES: usize = 8;
 /// The most that a DATA reply carries where the agent holds it: 1,024 bytes with its headers (document 02, W5).
@@ -35,6 +41,7 @@ pub struct Options {
     pub rate: u64,
     pub topic: String,
     pub size: usize,
+    pub datagram: usize,
     stream: Option<u8>,
 }
 
@@ -53,6 +60,7 @@ impl Default for Options {
             // A name of its own: samples of another client would reach this reader too.
             topic: format!("driver-{}", std::process::id()),
             size: 24,
+            datagram: LONGEST,
             stream: None,
         }
     }
@@ -63,6 +71,17 @@ impl Options {
     pub fn stream(&self) -> u8 {
         self.stream.unwrap_or(if self.size > MOST_HELD { 0 } else { 1 })
     }
+
+    /// Whether a message and its headers fit the longest datagram, or 64 parts (document 02, W6).
+    fn fits(&self) -> bool {
+        let submessage = self.size + HEADERS - 4;
+        self.size + HEADERS <= self.datagram || submessage <= 64 * part_size(self.datagram)
+    }
+}
+
+/// The body of a FRAGMENT in a datagram of at most that many bytes.
+pub fn part_size(datagram: usize) -> usize {
+    (datagram - 12).min(512)
 }
 
 fn within<T: FromStr + PartialOrd>(flag: &str, word: &str, least: T, most: T, wants: &str) -> Result<T, String> {
@@ -85,6 +104,7 @@ fn set(options: &mut Options, flag: &str, word: &str) -> Result<(), String> {
         "--topic" if word.len() > 1024 => return Err("--topic wants at most 1024 bytes".into()),
         "--topic" => options.topic = word.into(),
         "--size" => options.size = within(flag, word, LEAST_BYTES, MOST_BYTES, "8 to 65497")?,
+        "--datagram" => options.datagram = within(flag, word, 128, LONGEST, "128 to 65507")?,
         "--stream" => options.stream = Some(within(flag, word, 0, 255, "0 to 255")?),
         _ => return Err(format!("there is no flag '{flag}'")),
     }
@@ -108,6 +128,9 @@ pub fn parse(words: &[String]) -> Result<Parsed, String> {
     if options.stream() != 0 && options.size > MOST_HELD {
         return Err(format!("--size {} wants --stream 0: the agent holds no longer ones than 1014", options.size));
     }
+    if !options.fits() {
+        return Err(format!("--size {} is too long for 64 parts in datagrams of {}", options.size, options.datagram));
+    }
     Ok(Parsed::Run(options))
 }
 
@@ -125,6 +148,9 @@ mod tests {
         let some = Options { messages: 7, size: 65_497, topic: "a=b".into(), ..Options::default() };
         assert_eq!(parsed("--messages 7 --size=65497 --topic=a=b"), Ok(Parsed::Run(some)));
         assert_eq!(parsed("--help"), Ok(Parsed::Help));
+        for line in ["--size 32763 --datagram 32773", "--size 32762 --datagram 600", "--size 7418 --datagram 128"] {
+            assert!(matches!(parsed(line), Ok(Parsed::Run(_))), "{line}");
+        }
         for (line, stream) in
             [("", 1), ("--size 1014", 1), ("--size 1015", 0), ("--stream 0", 0), ("--stream 255", 255)]
         {
@@ -141,6 +167,9 @@ mod tests {
             ("--size 65498", "--size wants 8 to 65497, not '65498'"),
             ("--stream 256", "--stream wants 0 to 255, not '256'"),
             ("--stream 2 --size 1015", "--size 1015 wants --stream 0: the agent holds no longer ones than 1014"),
+            ("--datagram 127", "--datagram wants 128 to 65507, not '127'"),
+            ("--size 32763 --datagram 32772", "--size 32763 is too long for 64 parts in datagrams of 32772"),
+            ("--size 7419 --datagram 128", "--size 7419 is too long for 64 parts in datagrams of 128"),
             ("--rate fast", "--rate wants 0 to 1000000, not 'fast'"),
             ("--host here", "--host wants an address and a port such as 127.0.0.1:2019, not 'here'"),
             ("--host", "--host wants a value"),

@@ -1,5 +1,6 @@
 //! One session of a client over UDP: requests with re-sends, and what is wrong with a reply.
 
+use crate::args::part_size;
 use std::fmt;
 use std::io;
 use std::net::{SocketAddr, UdpSocket};
@@ -64,6 +65,8 @@ pub struct Client {
     pub(crate) session: u8,
     /// The stream of its reads, and what has come on it if it isn't 0. All else goes on stream 0.
     pub(crate) stream: u8,
+    /// The longest datagram that it sends: what is longer goes in parts.
+    longest: usize,
     pub(crate) received: Received,
     pub(crate) inbox: Vec<u8>,
     pub resent: u64,
@@ -73,19 +76,19 @@ pub struct Client {
 
 impl Client {
     /// Opens a session. A CREATE_CLIENT that is sent again opens another; the first is then left to expire.
-    pub fn connect(host: SocketAddr, stream: u8) -> Result<Client, Wrong> {
+    pub fn connect(host: SocketAddr, stream: u8, longest: usize) -> Result<Client, Wrong> {
         let any = if host.is_ipv4() { "0.0.0.0:0" } else { "[::]:0" };
         let socket = UdpSocket::bind(any)?;
         socket.connect(host)?;
         let (received, inbox) = (Received::default(), vec![0; 65_536]);
-        let mut client = Client { socket, session: 0, stream, received, inbox, resent: 0, asked: 0 };
+        let mut client = Client { socket, session: 0, stream, longest, received, inbox, resent: 0, asked: 0 };
         let key = std::process::id().to_le_bytes();
         let open = Datagram::new(0, 0).create_client(key).bytes();
         let wanted = |reply: &Reply<'_>| match reply.body {
             Body::Status { object: 0, code } => Some((reply.session, code)),
             _ => None,
         };
-        let (session, code) = client.request(&open, "CREATE_CLIENT", wanted)?;
+        let (session, code) = client.request(&[open], "CREATE_CLIENT", wanted)?;
         if code != wire::OK {
             return Err(Wrong::Status("CREATE_CLIENT".into(), code));
         }
@@ -99,13 +102,13 @@ impl Client {
 
     pub fn create(&mut self, object: u16, kind: u8, parent: u16, strings: &[u8], what: &str) -> Result<(), Wrong> {
         let datagram = Datagram::new(self.session, 0).create(object, kind, parent, strings).bytes();
-        self.expect_ok(&datagram, object, &format!("CREATE of the {what}"))
+        self.expect_ok(&[datagram], object, &format!("CREATE of the {what}"))
     }
 
     pub fn delete(&mut self, object: u16, what: &str) -> Result<(), Wrong> {
         let before = self.resent;
         let what = format!("DELETE of the {what}");
-        match self.about(&Datagram::new(self.session, 0).delete(object).bytes(), object, &what)? {
+        match self.about(&[Datagram::new(self.session, 0).delete(object).bytes()], object, &what)? {
             Told::Status(wire::OK) => Ok(()),
             // The first may have been done, and its reply lost.
             Told::Status(wire::ERR_UNKNOWN_REF) if self.resent > before => Ok(()),
@@ -115,8 +118,11 @@ impl Client {
     }
 
     pub fn write(&mut self, writer: u16, data: &[u8]) -> Result<(), Wrong> {
-        let datagram = Datagram::new(self.session, 0).write_data(writer, data).bytes();
-        self.expect_ok(&datagram, writer, "WRITE_DATA")
+        let datagram = Datagram::new(self.session, 0).write_data(writer, data);
+        if datagram.clone().bytes().len() > self.longest {
+            return self.write_in_parts(writer, &datagram.submessages(), part_size(self.longest));
+        }
+        self.expect_ok(&[datagram.bytes()], writer, "WRITE_DATA")
     }
 
     /// One sample, or `None` if the reader has none.
@@ -124,15 +130,15 @@ impl Client {
         if self.stream != 0 {
             return self.read_numbered(reader);
         }
-        match self.about(&Datagram::new(self.session, 0).read_data(reader).bytes(), reader, "READ_DATA")? {
+        match self.about(&[Datagram::new(self.session, 0).read_data(reader).bytes()], reader, "READ_DATA")? {
             Told::Data(data) => Ok(Some(data)),
             Told::Status(wire::OK) => Ok(None),
             Told::Status(code) => Err(Wrong::Status("READ_DATA".into(), code)),
         }
     }
 
-    fn expect_ok(&mut self, datagram: &[u8], object: u16, what: &str) -> Result<(), Wrong> {
-        match self.about(datagram, object, what)? {
+    pub(crate) fn expect_ok(&mut self, datagrams: &[Vec<u8>], object: u16, what: &str) -> Result<(), Wrong> {
+        match self.about(datagrams, object, what)? {
             Told::Status(wire::OK) => Ok(()),
             Told::Status(code) => Err(Wrong::Status(what.into(), code)),
             Told::Data(data) => Err(Wrong::Unread(what.into(), data)),
@@ -140,9 +146,9 @@ impl Client {
     }
 
     // The reply about that object of this session; later ones to requests that were sent again are passed over.
-    fn about(&mut self, datagram: &[u8], wanted: u16, what: &str) -> Result<Told, Wrong> {
+    fn about(&mut self, datagrams: &[Vec<u8>], wanted: u16, what: &str) -> Result<Told, Wrong> {
         let session = self.session;
-        self.request(datagram, what, |reply| match reply.body {
+        self.request(datagrams, what, |reply| match reply.body {
             Body::Status { object, code } if (reply.session, object) == (session, wanted) => Some(Told::Status(code)),
             Body::Data { reader, data } if (reply.session, reader) == (session, wanted) => {
                 Some(Told::Data(data.to_vec()))
@@ -151,16 +157,16 @@ impl Client {
         })
     }
 
-    // Sends, and sends again, until a reply comes that is wanted.
-    fn request<T>(
+    // Sends them all, and sends all again, until a reply comes that is wanted.
+    pub(crate) fn request<T>(
         &mut self,
-        datagram: &[u8],
+        datagrams: &[Vec<u8>],
         what: &str,
         wanted: impl Fn(&Reply<'_>) -> Option<T>,
     ) -> Result<T, Wrong> {
         let start = Instant::now();
         while start.elapsed() < LIMIT {
-            self.send(datagram)?;
+            datagrams.iter().try_for_each(|datagram| self.send(datagram))?;
             let until = Instant::now() + AGAIN;
             while let Some(len) = self.receive(until)? {
                 let bytes = &self.inbox[..len];

@@ -3,6 +3,7 @@
 mod args;
 mod client;
 mod messages;
+mod parts;
 mod progress;
 mod reading;
 mod summary;
@@ -36,7 +37,7 @@ fn main() -> ExitCode {
 
 // Objects 1 to 4 of the session that is opened here.
 fn run(options: &Options) -> Result<(), Wrong> {
-    let mut client = Client::connect(options.host, options.stream())?;
+    let mut client = Client::connect(options.host, options.stream(), options.datagram)?;
     println!("session {} opened by {}, reads on stream {}", client.session(), options.host, options.stream());
     let names = wire::strings(options.topic.as_bytes(), b"driver::Message");
     for (object, kind, parent, strings, what) in [

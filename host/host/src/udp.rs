@@ -9,7 +9,8 @@ use std::net::{SocketAddr, UdpSocket};
 use std::time::{Duration, Instant};
 use xrce_agent::{replies, room, Agent, Answer, Answered, Refusal};
 
-/// A datagram whose replies may take more isn't served: 8 bytes of ACKNACK can ask for 16 messages of 1,024 bytes.
+/// A datagram whose replies may take more isn't served: 8 bytes of ACKNACK can ask for 16 messages of 1,024 bytes. What ACKNACKs
+/// among rebuilt submessages ask for shows only in a refusal, 13: so a datagram with a FRAGMENT gets that much room at once.
 const MOST_REPLIED: usize = 1 << 20;
 
 /// How long a signal may wait for the loop to look.
@@ -88,7 +89,8 @@ impl Host {
             log!(Warn, "{from}: not served: its replies may take {room} bytes");
             return Ok(());
         }
-        self.out.resize(self.out.len().max(room), 0);
+        self.out.resize(MOST_REPLIED, 0);
+        self.out.shrink_to_fit();
         match self.agent.incoming(&self.inbox[..len], time, &mut self.out) {
             Ok(outcome) => send(&self.socket, from, &self.out[..outcome.wrote]),
             Err(refusal) => {
@@ -99,7 +101,8 @@ impl Host {
         self.calls(len, from)
     }
 
-    // Makes the calls of one datagram. Replies leave with each, so an output for one call is enough.
+    // Makes the calls of one datagram. Replies leave with each, so an output for one call is enough. It was long enough for the
+    // datagram, but behind a call there may be more rebuilt ACKNACKs.
     fn calls(&mut self, len: usize, from: SocketAddr) -> io::Result<()> {
         while let (Some(session), Some(call)) = (self.agent.open_session(), self.agent.open_call()) {
             log!(Debug, "session {session}: {call}");
@@ -113,13 +116,19 @@ impl Host {
         Ok(())
     }
 
-    // A sample that no DATA can carry (12), or that can't be held (14), is told as a failed read: the call must not stay open.
+    // The call must not stay open: where the output is too short (13) it is lengthened, and a sample that no DATA can carry (12), or
+    // that can't be held (14), is told as a failed read.
     fn answer(&mut self, answered: &Answered) -> Result<usize, Refusal> {
-        match self.agent.answer(answered.lend(), &mut self.out) {
-            Ok(outcome) => Ok(outcome.wrote),
-            Err(refusal) => {
-                log!(Error, "an answer was refused {}: {refusal}", refusal.number());
-                Ok(self.agent.answer(Answer::Failed, &mut self.out)?.wrote)
+        let mut answer = answered.lend();
+        loop {
+            match self.agent.answer(answer, &mut self.out) {
+                Ok(outcome) => return Ok(outcome.wrote),
+                Err(Refusal::OutputTooShort) => self.out.resize(2 * self.out.len(), 0),
+                Err(refusal) if answer != Answer::Failed => {
+                    log!(Error, "an answer was refused {}: {refusal}", refusal.number());
+                    answer = Answer::Failed;
+                }
+                Err(refusal) => return Err(refusal),
             }
         }
     }

@@ -62,10 +62,14 @@ pub fn run(seed: u64) -> Result<String, String> {
     if stores.listed < CALLS / 200 {
         return Err(format!("the listings had only {} objects", stores.listed));
     }
+    if stores.inside < CALLS / 1000 {
+        return Err(format!("only {} calls came from rebuilt submessages", stores.inside));
+    }
     Ok(format!(
-        "{}; {checked} compared whole, {} objects in listings, {} ms",
+        "{}; {checked} compared whole, {} objects in listings, {} calls of rebuilt submessages, {} ms",
         counts.shown(),
         stores.listed,
+        stores.inside,
         start.elapsed().as_millis()
     ))
 }
@@ -105,11 +109,11 @@ fn call(chance: &mut Chance, stores: &mut Stores, whole: bool) -> Result<u64, St
         }
     };
     match before {
-        Some(before) if which > LIST && went(answer) && !stores.others_held(&before) => {
-            Err("a datagram or an answer changed held messages of another session".into())
+        Some(before) if which > LIST && went(answer) && !stores.others_kept(&before) => {
+            Err("a datagram or an answer changed held messages or fragments of another session".into())
         }
         Some(before) if (which == LIST || !went(answer)) && !stores.equals(&before) => {
-            Err(format!("a listing, or a call refused as {}, changed its record, tables or store", answer % 256))
+            Err(format!("a listing, or a call refused as {}, changed its record, tables or stores", answer % 256))
         }
         _ => Ok(answer),
     }

@@ -12,8 +12,34 @@ fn number(chance: &mut Chance, usual: &[u16]) -> u16 {
     }
 }
 
-// A submessage of any of the nine kinds, its numbers small so that they meet again.
+// A FRAGMENT, its body one of two halves of a few submessages, so that messages come to be whole: mostly ones that read.
+fn fragment(chance: &mut Chance, datagram: Datagram) -> Datagram {
+    let total = chance.of(&[1, 1, 2, 2, 2, 3, 64, 65, 0]);
+    let number = chance.below(usize::from(total).min(3) + 1) as u16;
+    let mut inner = Datagram::new(0, 0);
+    for _ in 0..=chance.below(3) {
+        inner = plain(chance, inner);
+    }
+    let mut body = inner.submessages();
+    if chance.once_in(8) {
+        body.truncate(chance.below(body.len() + 1));
+    }
+    // Only the first part has bytes, mostly: the others would seldom go on where it ends.
+    if number != 0 && !chance.once_in(4) {
+        body.clear();
+    }
+    datagram.fragment(number, total, &body)
+}
+
+// A submessage of any of the ten kinds, its numbers small so that they meet again.
 fn add(chance: &mut Chance, datagram: Datagram) -> Datagram {
+    if chance.once_in(5) {
+        return fragment(chance, datagram);
+    }
+    plain(chance, datagram)
+}
+
+fn plain(chance: &mut Chance, datagram: Datagram) -> Datagram {
     let object = chance.below(8) as u16;
     match chance.below(16) {
         0 => datagram.create_client([1, 2, 3, chance.byte()]),

@@ -3,11 +3,13 @@
 use crate::chance::Chance;
 use crate::listing::{listing, Kept};
 use crate::sys::{Guarded, Side};
+use std::ops::Range;
 use xrce_agent::lent::{
-    self, AgentRecord, Lent, ObjectRecord, SessionRow, StreamRow, Told, HELD, OBJECTS, SESSIONS, STREAMS,
+    self, AgentRecord, Lent, ObjectRecord, SessionRow, StreamRow, Told, HELD, LENGTHS, OBJECTS, PARTS, REBUILT,
+    SESSIONS, STREAMS,
 };
 
-/// For so many clients there is a store of held messages; a set-up for more is refused.
+/// For so many clients there are stores of held messages and of fragments; a set-up for more is refused.
 const CLIENTS: usize = 6;
 const OUT: usize = 8192;
 const NUMBERS: usize = 64;
@@ -21,22 +23,37 @@ pub struct Stores {
     streams: Guarded<StreamRow>,
     objects: Guarded<ObjectRecord>,
     held: Guarded<u8>,
+    parts: Guarded<u8>,
+    lengths: Guarded<u32>,
+    rebuilt: Guarded<u8>,
     out: Guarded<u8>,
     numbers: Guarded<u16>,
     datagram: Guarded<u8>,
     sample: Guarded<u8>,
     side: Side,
-    // Of the last datagram or answer: the session that it named, and where the store began that was lent with it.
+    // Of the last datagram or answer: the session that it named, and where the stores of held messages, of fragments and of their
+    // lengths began that were lent with it.
     named: u8,
-    held_from: usize,
+    lent_from: [usize; 3],
     // The datagram of the open call, as a host keeps it.
     kept: Vec<u8>,
     /// Objects in listings that were checked whole.
     pub listed: u64,
+    /// Calls that rebuilt submessages handed out.
+    pub inside: u64,
 }
 
-/// A copy of record, tables and store.
-pub struct Copied(AgentRecord, Vec<SessionRow>, Vec<StreamRow>, Vec<ObjectRecord>, Vec<u8>);
+/// A copy of record, tables and stores.
+pub struct Copied {
+    record: AgentRecord,
+    sessions: Vec<SessionRow>,
+    streams: Vec<StreamRow>,
+    objects: Vec<ObjectRecord>,
+    held: Vec<u8>,
+    parts: Vec<u8>,
+    lengths: Vec<u32>,
+    rebuilt: Vec<u8>,
+}
 
 // Mostly the whole need, at times less.
 fn length(chance: &mut Chance, need: usize) -> usize {
@@ -48,14 +65,19 @@ fn length(chance: &mut Chance, need: usize) -> usize {
     }
 }
 
-// Mostly the whole store of held messages, at times what some number of clients needs, or a byte less.
-fn held_length(chance: &mut Chance) -> usize {
-    let some = HELD * chance.below(CLIENTS + 1);
-    match chance.below(100) {
+// Mostly the whole store, `each` for a client; at times what some number of clients needs, or one less.
+fn store_length(chance: &mut Chance, each: usize) -> usize {
+    let some = each * chance.below(CLIENTS + 1);
+    match chance.below(200) {
         0 => some,
         1 => some.saturating_sub(1),
-        _ => HELD * CLIENTS,
+        _ => each * CLIENTS,
     }
+}
+
+// Whether nothing changed but in one part.
+fn kept_outside<T: PartialEq>(now: &[T], before: &[T], own: Range<usize>) -> bool {
+    now[..own.start] == before[..own.start] && now[own.end..] == before[own.end..]
 }
 
 fn put<'a>(store: &'a mut Guarded<u8>, side: Side, bytes: &[u8]) -> &'a [u8] {
@@ -88,15 +110,19 @@ impl Stores {
             streams: Guarded::new(STREAMS),
             objects: Guarded::new(OBJECTS),
             held: Guarded::new(HELD * CLIENTS),
+            parts: Guarded::new(PARTS * CLIENTS),
+            lengths: Guarded::new(LENGTHS * CLIENTS),
+            rebuilt: Guarded::new(REBUILT),
             out: Guarded::new(OUT),
             numbers: Guarded::new(NUMBERS),
             datagram: Guarded::new(BYTES),
             sample: Guarded::new(BYTES),
             side: Side::End,
             named: 0,
-            held_from: 0,
+            lent_from: [0; 3],
             kept: Vec::new(),
             listed: 0,
+            inside: 0,
         }
     }
 
@@ -111,33 +137,44 @@ impl Stores {
 
     pub fn copy(&mut self) -> Copied {
         let side = self.side;
-        Copied(
-            self.record().clone(),
-            self.sessions.slice(side, SESSIONS).to_vec(),
-            self.streams.slice(side, STREAMS).to_vec(),
-            self.objects.slice(side, OBJECTS).to_vec(),
-            self.held.slice(side, HELD * CLIENTS).to_vec(),
-        )
+        Copied {
+            record: self.record().clone(),
+            sessions: self.sessions.slice(side, SESSIONS).to_vec(),
+            streams: self.streams.slice(side, STREAMS).to_vec(),
+            objects: self.objects.slice(side, OBJECTS).to_vec(),
+            held: self.held.slice(side, HELD * CLIENTS).to_vec(),
+            parts: self.parts.slice(side, PARTS * CLIENTS).to_vec(),
+            lengths: self.lengths.slice(side, LENGTHS * CLIENTS).to_vec(),
+            rebuilt: self.rebuilt.slice(side, REBUILT).to_vec(),
+        }
     }
 
     /// Whether all is as it was when it was copied.
     pub fn equals(&mut self, copied: &Copied) -> bool {
         let side = self.side;
-        *self.record() == copied.0
-            && *self.sessions.slice(side, SESSIONS) == copied.1
-            && *self.streams.slice(side, STREAMS) == copied.2
-            && *self.objects.slice(side, OBJECTS) == copied.3
-            && *self.held.slice(side, HELD * CLIENTS) == copied.4
+        *self.record() == copied.record
+            && *self.sessions.slice(side, SESSIONS) == copied.sessions
+            && *self.streams.slice(side, STREAMS) == copied.streams
+            && *self.objects.slice(side, OBJECTS) == copied.objects
+            && *self.held.slice(side, HELD * CLIENTS) == copied.held
+            && *self.parts.slice(side, PARTS * CLIENTS) == copied.parts
+            && *self.lengths.slice(side, LENGTHS * CLIENTS) == copied.lengths
+            && *self.rebuilt.slice(side, REBUILT) == copied.rebuilt
     }
 
-    /// Whether the last datagram or answer left the messages of every other session: only the part of the named session's slot may
-    /// have changed since the copy.
-    pub fn others_held(&mut self, copied: &Copied) -> bool {
-        let (side, from) = (self.side, self.held_from);
-        let [live, .., slot] = self.sessions.slice(side, SESSIONS)[usize::from(self.named)];
-        let held = self.held.slice(side, HELD * CLIENTS);
-        let own = if live == 0 { from..from } else { from + HELD * slot as usize..from + HELD * (slot as usize + 1) };
-        held[..own.start] == copied.4[..own.start] && held[own.end..] == copied.4[own.end..]
+    /// Whether the last datagram or answer left the messages and fragments of every other session: only the parts of the named
+    /// session's slot may have changed since the copy.
+    pub fn others_kept(&mut self, copied: &Copied) -> bool {
+        let side = self.side;
+        let [live, .., slot, _, _] = self.sessions.slice(side, SESSIONS)[usize::from(self.named)];
+        let own = |from: usize, each: usize| match live {
+            0 => from..from,
+            _ => from + each * slot as usize..from + each * (slot as usize + 1),
+        };
+        let [held, parts, lengths] = self.lent_from;
+        kept_outside(self.held.slice(side, HELD * CLIENTS), &copied.held, own(held, HELD))
+            && kept_outside(self.parts.slice(side, PARTS * CLIENTS), &copied.parts, own(parts, PARTS))
+            && kept_outside(self.lengths.slice(side, LENGTHS * CLIENTS), &copied.lengths, own(lengths, LENGTHS))
     }
 
     pub fn setup(&mut self, chance: &mut Chance) -> u64 {
@@ -147,7 +184,10 @@ impl Stores {
             sessions: self.sessions.slice(side, length(chance, SESSIONS)),
             streams: self.streams.slice(side, length(chance, STREAMS)),
             objects: self.objects.slice(side, length(chance, OBJECTS)),
-            held: self.held.slice(side, held_length(chance)),
+            held: self.held.slice(side, store_length(chance, HELD)),
+            parts: self.parts.slice(side, store_length(chance, PARTS)),
+            lengths: self.lengths.slice(side, store_length(chance, LENGTHS)),
+            rebuilt: self.rebuilt.slice(side, length(chance, REBUILT)),
         };
         let max = if chance.once_in(8) { chance.extreme() } else { 1 + chance.below(CLIENTS) as u64 };
         lent::setup(self.record.slice(side, records), tables, max, chance.of(&[0, 10, 1000, u64::MAX]))
@@ -169,23 +209,32 @@ impl Stores {
         };
         let out = self.out.slice(side, room(chance));
         out.fill(FILL);
-        let (records, held) = (length(chance, 1), held_length(chance));
+        let records = length(chance, 1);
+        let [held, parts, lengths] = [HELD, PARTS, LENGTHS].map(|each| store_length(chance, each));
         let tables = Lent {
             sessions: self.sessions.slice(side, length(chance, SESSIONS)),
             streams: self.streams.slice(side, length(chance, STREAMS)),
             objects: self.objects.slice(side, length(chance, OBJECTS)),
             held: self.held.slice(side, held),
+            parts: self.parts.slice(side, parts),
+            lengths: self.lengths.slice(side, lengths),
+            rebuilt: self.rebuilt.slice(side, length(chance, REBUILT)),
         };
         let records = self.record.slice(side, records);
         self.named = match records.first() {
             Some(record) if open != 0 => record.session as u8,
             _ => bytes.first().copied().unwrap_or(0),
         };
-        self.held_from = if matches!(side, Side::End) { HELD * CLIENTS - held } else { 0 };
+        self.lent_from = match side {
+            Side::End => [HELD * CLIENTS - held, PARTS * CLIENTS - parts, LENGTHS * CLIENTS - lengths],
+            Side::Start => [0; 3],
+        };
         let answer = lent::process(records, tables, out, told);
         output_kept(out, FILL, answer, records.first().map_or(0, |record| record.wrote))?;
         if went(answer) {
-            told_whole(records.first().ok_or("a call without a record was answered")?, bytes.len())?;
+            let record = records.first().ok_or("a call without a record was answered")?;
+            told_whole(record, bytes.len())?;
+            self.inside += u64::from(record.left_end != 0);
             self.kept = bytes;
         }
         Ok(answer)
@@ -235,21 +284,27 @@ impl Stores {
         Ok(answer)
     }
 
-    /// Sets some numbers of the record, of a table or of the store to others; the record as it was.
+    /// Sets some numbers of the record, of a table or of a store to others; the record as it was.
     pub fn alter(&mut self, chance: &mut Chance) -> AgentRecord {
         let (side, kept) = (self.side, self.record().clone());
         for _ in 0..=chance.below(4) {
             let row = 1 + chance.below(5);
-            match chance.below(7) {
+            match chance.below(10) {
                 0 | 1 => *self.record().numbers_mut()[chance.below(AgentRecord::NUMBERS)] = chance.extreme(),
-                2 => self.sessions.slice(side, SESSIONS)[row][chance.below(6)] = chance.extreme(),
+                2 => self.sessions.slice(side, SESSIONS)[row][chance.below(8)] = chance.extreme(),
                 3 => {
                     self.streams.slice(side, STREAMS)[8 * row + chance.below(9)][chance.below(35)] =
                         chance.extreme() as u16
                 }
                 4 => self.objects.slice(side, OBJECTS)[32 * row + chance.below(33)] = object(chance),
                 5 => self.held.slice(side, HELD * CLIENTS)[chance.below(HELD * CLIENTS)] = chance.byte(),
-                _ => self.sessions.slice(side, SESSIONS)[chance.below(SESSIONS)][chance.below(6)] = chance.extreme(),
+                6 => {
+                    let length = if chance.once_in(2) { chance.extreme() as u32 } else { 1 + chance.below(514) as u32 };
+                    self.lengths.slice(side, LENGTHS * CLIENTS)[chance.below(LENGTHS * CLIENTS)] = length
+                }
+                7 => self.parts.slice(side, PARTS * CLIENTS)[chance.below(PARTS * CLIENTS)] = chance.byte(),
+                8 => self.rebuilt.slice(side, REBUILT)[chance.below(64)] = chance.below(18) as u8,
+                _ => self.sessions.slice(side, SESSIONS)[chance.below(SESSIONS)][chance.below(8)] = chance.extreme(),
             }
         }
         kept
@@ -261,11 +316,15 @@ impl Stores {
 }
 
 // A record after a call that was answered: numbers of an open call where one is open, and zeroes else. Names and data of a
-// call are parts of its datagram.
+// call are parts of its datagram, or of the rebuilt bytes.
 fn told_whole(record: &AgentRecord, len: usize) -> Result<(), String> {
+    let len = if record.left_end == 0 { len as u64 } else { record.left_end };
+    if record.left_at > record.left_end || record.left_end > REBUILT as u64 {
+        return Err(format!("rebuilt bytes wait from {} to {}", record.left_at, record.left_end));
+    }
     for (start, part) in [(record.start, record.len), (record.type_start, record.type_len)] {
-        if start.checked_add(part).is_none_or(|end| end > len as u64) {
-            return Err(format!("a part at {start} of {part} bytes in a datagram of {len}"));
+        if start.checked_add(part).is_none_or(|end| end > len) {
+            return Err(format!("a part at {start} of {part} bytes in {len}"));
         }
     }
     let AgentRecord { max_clients, timeout_ms, next, wrote, .. } = *record;

@@ -18,8 +18,9 @@ const PAGE: usize = 65_536;
 pub trait Plain {}
 impl Plain for u8 {}
 impl Plain for u16 {}
+impl Plain for u32 {}
 impl Plain for u64 {}
-impl Plain for [u64; 6] {}
+impl Plain for [u64; 8] {}
 impl Plain for [u16; 35] {}
 impl Plain for xrce_agent::lent::AgentRecord {}
 impl Plain for xrce_agent::lent::ObjectRecord {}

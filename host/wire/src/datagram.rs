@@ -66,9 +66,28 @@ impl Datagram {
         self.submessage(0x0E, &[a, b, c, d])
     }
 
+    pub fn fragment(self, number: u16, total: u16, body: &[u8]) -> Self {
+        let ([a, b], [c, d]) = (number.to_le_bytes(), total.to_le_bytes());
+        self.submessage(0x0F, &[&[a, b, c, d], body].concat())
+    }
+
     pub fn bytes(self) -> Vec<u8> {
         self.0
     }
+
+    /// The submessages without their header: what a client cuts where they are too long for one datagram.
+    pub fn submessages(self) -> Vec<u8> {
+        self.0[4..].to_vec()
+    }
+}
+
+/// The datagrams that carry a message's submessages in parts of `size` bytes, 1 to 512 (document 02, W6). There are at most 64 parts,
+/// else none is given.
+pub fn in_parts(session: u8, stream: u8, submessages: &[u8], size: usize) -> Option<Vec<Datagram>> {
+    let bodies: Vec<&[u8]> = submessages.chunks(size.clamp(1, 512)).collect();
+    let total = u16::try_from(bodies.len()).ok().filter(|total| (1..=64).contains(total))?;
+    let part = |(number, body): (usize, &&[u8])| Datagram::new(session, stream).fragment(number as u16, total, body);
+    Some(bodies.iter().enumerate().map(part).collect())
 }
 
 /// A Topic's two strings, each its length and its bytes.

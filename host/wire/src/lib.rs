@@ -4,7 +4,7 @@ mod datagram;
 mod received;
 mod reply;
 
-pub use datagram::{strings, Datagram};
+pub use datagram::{in_parts, strings, Datagram};
 pub use received::Received;
 pub use reply::{Body, Reply};
 

@@ -1,10 +1,16 @@
 //! Datagrams by chance: whole ones of every kind, and damaged copies.
 
 use crate::chance::Chance;
+use hdds_xrce::protocol::{parse_message, XrceError};
 
 /// Each listed submessage id with its least payload length, from document 01's table.
 pub const KINDS: [(u8, usize); 9] =
     [(0x00, 5), (0x01, 5), (0x02, 2), (0x05, 3), (0x07, 2), (0x08, 4), (0x09, 2), (0x0D, 4), (0x0E, 4)];
+
+/// Whether both sides read the datagram with one list of ids: document 02 adds FRAGMENT, 0x0F, which the original refuses (W6).
+pub fn without_fragment(datagram: &[u8]) -> bool {
+    !matches!(parse_message(datagram), Err(XrceError::UnknownSubmessageId(0x0F)))
+}
 
 pub fn header(session: u8, stream: u8, sequence: u16) -> Vec<u8> {
     vec![session, stream, sequence as u8, (sequence >> 8) as u8]
@@ -155,7 +161,7 @@ pub fn pairs() -> Vec<Vec<u8>> {
             parts.push(submessage(id, 0, &vec![1; length]));
         }
     }
-    for id in [0x03, 0x04, 0x06, 0x0A, 0x0C, 0x0F, 0xFF] {
+    for id in [0x03, 0x04, 0x06, 0x0A, 0x0B, 0x0C, 0xFF] {
         parts.push(submessage(id, 0, &[]));
     }
     parts.push(submessage(0x01, 0, &[1, 0, 7, 0, 0]));

@@ -169,6 +169,9 @@ impl Making {
 
     /// What the session of a datagram may hold behind it, if it stays inside.
     fn behind(&self, datagram: &[u8]) -> Option<Domain> {
+        if !datagrams::without_fragment(datagram) {
+            return None;
+        }
         let mut domain = self.domain(datagram.first().copied().unwrap_or(0));
         let Ok(message) = parse_message(datagram) else { return Some(domain) };
         let stream = message.header.stream_id;

@@ -37,8 +37,11 @@ impl Making {
         self.lines.push(line);
     }
 
+    // A datagram inside the domain.
     fn message(&mut self, datagram: &[u8]) {
-        self.say(format!("message {}", hex(datagram)));
+        if datagrams::without_fragment(datagram) {
+            self.say(format!("message {}", hex(datagram)));
+        }
     }
 
     fn short(&mut self) {

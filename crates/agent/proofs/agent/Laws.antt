@@ -12,7 +12,7 @@ use Rattle.codec.specs.declared.refusals.Refusal.the-variants.{OverLimit}
 use Rattle.sessions.specs.Limits.{limitsOf}
 use Rattle.sessions.specs.View.{Tables}
 use Rattle.sessions.specs.declared.limits.Limits.{Limits}
-use Rattle.agent.specs.Host.{performed, finish, processedBy, processOf}
+use Rattle.agent.specs.Host.{performed, resumedActed, finish, processedBy, processOf}
 use Rattle.agent.specs.Judge.{turnOf, sessionOf, streamOf, slotOf, soundOf, datagramStart, checkedJudged, judgedBy, judgeOf}
 use Rattle.agent.specs.Run.{Turned}
 use Rattle.agent.specs.declared.judge.Input.the-variants.{Datagram}
@@ -25,7 +25,7 @@ use Rattle.agent.specs.declared.state.Waiting.the-variants as waiting
 
 module _ (a : Agent) (t : Tables) (out d s u : List ℕ) (time : ℕ) where
   performed-any : (h : MessageHeader) → performed (datagramStart a time h (length out)) t d s ≡ performed (datagramStart a time h (length out)) t d u
-  unfolding performed
+  unfolding performed resumedActed
   performed-any h = refl
 
   checked-any : (c : Checked) → processedBy (checkedJudged a time (length out) c) a t out d s ≡ processedBy (checkedJudged a time (length out) c) a t out d u
@@ -38,10 +38,10 @@ module _ (a : Agent) (t : Tables) (out d s u : List ℕ) (time : ℕ) where
   sound-any false c = refl
 
   abbrev within-at : Turn → Limits
-  within-at x = limitsOf (t .sessions) (t .streams) (t .objects) (length (t .held)) (a .«max_clients») (sessionOf d x) (streamOf d x)
+  within-at x = limitsOf (t .sessions) (t .streams) (t .objects) (length (t .held)) (length (t .parts)) (t .lengths) (length (t .rebuilt)) (a .«max_clients») (sessionOf d x) (streamOf d x)
 
   abbrev judged-at : Turn → List ℕ → Judged
-  judged-at x y = judgedBy d a (within-at x) x (length y) (slotOf x (t .sessions) (t .streams) (length (t .held)) (length y)) (length out)
+  judged-at x y = judgedBy d (t .rebuilt) a (within-at x) x (length y) (slotOf x (t .sessions) (t .streams) (length (t .held)) (length y)) (length out)
 
   turn-any : (w : Waiting)
       → processedBy (judged-at (turnOf w (Datagram time)) s) a t out d s ≡ processedBy (judged-at (turnOf w (Datagram time)) u) a t out d u

@@ -73,7 +73,8 @@ module _ (s : List ℕ) (p len : ℕ) (room : p + len ≤ length s) where
       either P (eqb id 9) _ _ (λ _. tt) (λ g.
       either P (eqb id 13) _ _ (λ _. tt) (λ h.
       either P (eqb id 14) _ _ (λ _. tt) (λ i.
-      unknown room (least-rest id (not 0 a) (not 1 b) (not 2 c) (not 5 d) (not 7 e) (not 8 f) (not 9 g) (not 13 h) (not 14 i)))))))))))
+      either P (eqb id 15) _ _ (λ _. tt) (λ j.
+      unknown room (least-rest id (not 0 a) (not 1 b) (not 2 c) (not 5 d) (not 7 e) (not 8 f) (not 9 g) (not 13 h) (not 14 i) (not 15 j))))))))))))
 
 pub payload-failure : (s : List ℕ) (id p len : ℕ) → FailureIf s id p len (payloadAt s id p len)
 unfolding payloadAt
@@ -93,7 +94,7 @@ read-failure s at =
 
 -- ---- a number is not 0, and names its refusal
 
-failure-some : {s : List ℕ} {id p len : ℕ} {r : Refusal} → Failure s id p len r → 0 < numberOf r
+pub failure-some : {s : List ℕ} {id p len : ℕ} {r : Refusal} → Failure s id p len r → 0 < numberOf r
 failure-some (cut h) = omega arith
 failure-some (unknown h e) = omega arith
 failure-some (short h k) = omega arith

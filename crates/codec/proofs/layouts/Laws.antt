@@ -15,14 +15,14 @@ use Rattle.codec.specs.declared.refusals.Refusal.the-variants.{UnknownSu
 pub enough : (id k len : ℕ) → id ≡ k → leastOf id ≤ len → leastOf k ≤ len
 enough id k len e h = rw e at h
 
--- an id that is none of the nine is refused
+-- an id that is none of the ten is refused
 pub unlisted : (s : List ℕ) (id p len : ℕ) → (id ≡ 0 → ⊥) → (id ≡ 1 → ⊥) → (id ≡ 2 → ⊥) → (id ≡ 5 → ⊥) → (id ≡ 7 → ⊥)
-    → (id ≡ 8 → ⊥) → (id ≡ 9 → ⊥) → (id ≡ 13 → ⊥) → (id ≡ 14 → ⊥) → Refused (UnknownSubmessageId id) ≡ layoutAt s id p len
+    → (id ≡ 8 → ⊥) → (id ≡ 9 → ⊥) → (id ≡ 13 → ⊥) → (id ≡ 14 → ⊥) → (id ≡ 15 → ⊥) → Refused (UnknownSubmessageId id) ≡ layoutAt s id p len
 unfolding layoutAt
-unlisted s id p len a b c d e f g h i =
-    rw (ne-eqb id 0 a, ne-eqb id 1 b, ne-eqb id 2 c, ne-eqb id 5 d, ne-eqb id 7 e, ne-eqb id 8 f, ne-eqb id 9 g, ne-eqb id 13 h, ne-eqb id 14 i)
+unlisted s id p len a b c d e f g h i j =
+    rw (ne-eqb id 0 a, ne-eqb id 1 b, ne-eqb id 2 c, ne-eqb id 5 d, ne-eqb id 7 e, ne-eqb id 8 f, ne-eqb id 9 g, ne-eqb id 13 h, ne-eqb id 14 i, ne-eqb id 15 j)
 
--- an id that is none of the nine has the mark: below 6, below 13, and behind the list
+-- an id that is none of the ten has the mark: below 6, below 13, and behind the list
 least-low : (id : ℕ) → id < 6 → (id ≡ 0 → ⊥) → (id ≡ 1 → ⊥) → (id ≡ 2 → ⊥) → (id ≡ 5 → ⊥) → leastOf id ≡ 255
 unfolding leastOf
 least-low id h a b c d = elim (ℕ-discrete id 3) [ yes k ↦ rw k | no k ↦ let e : id ≡ 4 = omega arith in rw e ]
@@ -39,18 +39,18 @@ least-middle id low high a b c =
           ]
     ]
 
-past-list : (id : ℕ) → 13 ≤ id → (id ≡ 13 → ⊥) → (id ≡ 14 → ⊥) → 15 ≤ id
-past-list id h a b = omega arith
+past-list : (id : ℕ) → 13 ≤ id → (id ≡ 13 → ⊥) → (id ≡ 14 → ⊥) → (id ≡ 15 → ⊥) → 16 ≤ id
+past-list id h a b c = omega arith
 
 pub least-rest : (id : ℕ) → (id ≡ 0 → ⊥) → (id ≡ 1 → ⊥) → (id ≡ 2 → ⊥) → (id ≡ 5 → ⊥) → (id ≡ 7 → ⊥)
-    → (id ≡ 8 → ⊥) → (id ≡ 9 → ⊥) → (id ≡ 13 → ⊥) → (id ≡ 14 → ⊥) → leastOf id ≡ 255
+    → (id ≡ 8 → ⊥) → (id ≡ 9 → ⊥) → (id ≡ 13 → ⊥) → (id ≡ 14 → ⊥) → (id ≡ 15 → ⊥) → leastOf id ≡ 255
 unfolding leastOf
-least-rest id a b c d e f g h i =
+least-rest id a b c d e f g h i j =
     elim (decLe 6 id) [
       | no low ↦ least-low id (lt-of-not-le low) a b c d
       | yes low ↦
           elim (decLe 13 id) [
             | no middle ↦ least-middle id low (lt-of-not-le middle) e f g
-            | yes middle ↦ List·getD-eq-default leastTable 255 (past-list id middle h i)
+            | yes middle ↦ List·getD-eq-default leastTable 255 (past-list id middle h i j)
           ]
     ]

@@ -82,7 +82,8 @@ module _ (s : List ℕ) (p len : ℕ) where
       either E (eqb id 8) _ _ (λ e. (refl, omega arith)) (λ _.
       either E (eqb id 9) _ _ (λ e. (refl, omega (arith, long 9 e))) (λ _.
       either E (eqb id 13) _ _ (λ e. (refl, omega arith)) (λ _.
-      either E (eqb id 14) _ _ (λ e. (refl, omega arith)) (λ _. tt)))))))))
+      either E (eqb id 14) _ _ (λ e. (refl, omega arith)) (λ _.
+      either E (eqb id 15) _ _ (λ e. (refl, omega (arith, long 15 e))) (λ _. tt))))))))))
 
 -- where a submessage that was read ends, and where its variable part stands
 pub record Placed (s : List ℕ) (at : ℕ) (x : Span) (c : Cursor) : Type 0 where

@@ -10,7 +10,7 @@ use lib.ListN.{getD, length, take}
 use lib.Seq.{length-take-le}
 use Rattle.codec.specs.Answers.{gives, refusedAs, writtenAnswer, madeAnswer, insertedAnswer}
 use Rattle.codec.specs.Bytes.{putOf, putBytes}
-use Rattle.codec.specs.Reassembly.{underNeed, newOf, insertCheckOf, insertOf, insertedIf, hasFragment, isFree, anyOf, payloadOf, assembleCheck, assembleOf, assembleOut}
+use Rattle.codec.specs.Reassembly.{underNeed, newOf, insertCheckOf, insertOf, insertedIf, hasFragment, isFree, anyOf, payloadOf, assembleCheck, assembleOf, assembleOut, overLimit}
 use Rattle.codec.specs.Inserts.{Store, Piece, insertInto, inserts, Sound, NewSound, InsertsSound, holdsNumber, AllHeld, SoundTells}
 use Rattle.codec.specs.declared.bytes.Written.the-variants as written
 use Rattle.codec.specs.declared.reassembly.ReassemblyBuffer.{ReassemblyBuffer}
@@ -102,7 +102,7 @@ module _ (st : Store) (sound : Sound st) where
   -- ---- what an assembly is checked for
 
   judged : (t : Bool) → lacking ≡ t → assembleCheck (st .buffer) (length (st .slots)) (st .lengths) ≡ cond t (check.Refused MissingFragments) check.Passes
-  unfolding assembleCheck
+  unfolding assembleCheck overLimit
   judged true e =
       rw (store-good (st .buffer .«total_fragments») (st .buffer .width) sound, sound .within, e, or-true (ltb (st .buffer .«received_count») (st .buffer .«total_fragments»)))
   judged false e =

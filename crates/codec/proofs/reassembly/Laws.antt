@@ -12,7 +12,7 @@ use lib.ListN.{getD, length, take, drop, set, replicate, length-append, length-t
 use lib.Seq.{drop-cons, drop-drop, getD-take, length-take-le}
 use Rattle.codec.specs.Bytes.{putAt}
 use Rattle.codec.specs.Cutting.{joined}
-use Rattle.codec.specs.Reassembly.{underNeed, newOf, newLengths, storeOver, grown, recounted, slotOver, insertCheck, insertCheckOf, insertOf, insertSlots, insertLengths, isFree, isPast, anyOf, bytesHeld, bodiesHeld, payloadOf, assembleCheck, assembleOf, assembleOut}
+use Rattle.codec.specs.Reassembly.{underNeed, newOf, newLengths, storeOver, grown, recounted, slotOver, insertCheck, insertCheckOf, insertOf, insertSlots, insertLengths, isFree, isPast, anyOf, bytesHeld, bodiesHeld, payloadOf, overLimit, assembleCheck, assembleOf, assembleOut}
 use Rattle.codec.specs.declared.bytes.Written.the-variants as written
 use Rattle.codec.specs.declared.reassembly.ReassemblyBuffer.{ReassemblyBuffer}
 use Rattle.codec.specs.declared.reassembly.StoreMade.the-variants as made
@@ -206,34 +206,49 @@ module _ (b : ReassemblyBuffer) (slots lengths held nr len : ℕ) where
             unfolding insertCheck storeOver slotOver
             insert-passes h = rw (enough, le-ltb _ _ counted, lt-ltb _ _ below, le-ltb _ _ entry, le-ltb _ _ more, le-ltb _ _ h)
 
+-- each answer of the check of 16 alone
+module _ (b : ReassemblyBuffer) (slots : ℕ) (lengths : List ℕ) where
+  pub over-need : underNeed (b .«total_fragments») (b .width) slots (length lengths) ≡ true → true ≡ overLimit b slots lengths
+  unfolding overLimit storeOver
+  over-need e = rw e
+
+  module _ (enough : underNeed (b .«total_fragments») (b .width) slots (length lengths) ≡ false) where
+    pub over-count : b .«total_fragments» < b .«received_count» → true ≡ overLimit b slots lengths
+    unfolding overLimit storeOver
+    over-count h = rw (enough, lt-ltb _ _ h)
+
+    pub over-past : b .«received_count» ≤ b .«total_fragments» → anyOf (isPast (b .width)) (take (b .«total_fragments») lengths) ≡ overLimit b slots lengths
+    unfolding overLimit storeOver
+    over-past h = rw (enough, le-ltb _ _ h)
+
 -- each answer of an assembly's check
 module _ (b : ReassemblyBuffer) (slots : ℕ) (lengths : List ℕ) where
   pub assemble-need : underNeed (b .«total_fragments») (b .width) slots (length lengths) ≡ true → check.Refused OverLimit ≡ assembleCheck b slots lengths
-  unfolding assembleCheck storeOver
+  unfolding assembleCheck overLimit storeOver
   assemble-need e = rw e
 
   module _ (enough : underNeed (b .«total_fragments») (b .width) slots (length lengths) ≡ false) where
     pub assemble-count : b .«total_fragments» < b .«received_count» → check.Refused OverLimit ≡ assembleCheck b slots lengths
-    unfolding assembleCheck storeOver
+    unfolding assembleCheck overLimit storeOver
     assemble-count h = rw (enough, lt-ltb _ _ h)
 
     module _ (counted : b .«received_count» ≤ b .«total_fragments») where
       pub assemble-past : anyOf (isPast (b .width)) (take (b .«total_fragments») lengths) ≡ true → check.Refused OverLimit ≡ assembleCheck b slots lengths
-      unfolding assembleCheck storeOver
+      unfolding assembleCheck overLimit storeOver
       assemble-past e = rw (enough, le-ltb _ _ counted, e)
 
       module _ (within : anyOf (isPast (b .width)) (take (b .«total_fragments») lengths) ≡ false) where
         pub assemble-few : b .«received_count» < b .«total_fragments» → check.Refused MissingFragments ≡ assembleCheck b slots lengths
-        unfolding assembleCheck storeOver
+        unfolding assembleCheck overLimit storeOver
         assemble-few h = rw (enough, le-ltb _ _ counted, within, lt-ltb _ _ h)
 
         module _ (full : b .«total_fragments» ≤ b .«received_count») where
           pub assemble-free : anyOf isFree (take (b .«total_fragments») lengths) ≡ true → check.Refused MissingFragments ≡ assembleCheck b slots lengths
-          unfolding assembleCheck storeOver
+          unfolding assembleCheck overLimit storeOver
           assemble-free e = rw (enough, le-ltb _ _ counted, within, le-ltb _ _ full, e)
 
           pub assemble-passes : anyOf isFree (take (b .«total_fragments») lengths) ≡ false → check.Passes ≡ assembleCheck b slots lengths
-          unfolding assembleCheck storeOver
+          unfolding assembleCheck overLimit storeOver
           assemble-passes e = rw (enough, le-ltb _ _ counted, within, le-ltb _ _ full, e)
 
 -- what is known where an insert's check passes
@@ -311,7 +326,7 @@ assemble-picks true y p q e = let i : _≡_ {A = ℕ} 0 1 = cc in absurd (omega 
 assemble-picks false true p q e = let i : _≡_ {A = ℕ} 0 1 = cc in absurd (omega arith)
 
 pub assemble-whole : (b : ReassemblyBuffer) (slots : ℕ) (lengths : List ℕ) → assembleCheck b slots lengths ≡ check.Passes → Whole b slots lengths
-unfolding assembleCheck
+unfolding assembleCheck overLimit
 assemble-whole b slots lengths e =
     let es = take (b .«total_fragments») lengths in
     let t = assemble-picks (storeOver b slots (length lengths) || anyOf (isPast (b .width)) es) (ltb (b .«received_count») (b .«total_fragments») || anyOf isFree es) _ _ e in

@@ -13,7 +13,7 @@ use lib.Seq.{ext-getD, length-take-le, getD-take, getD-set-same, getD-set-other}
 use Rattle.codec.specs.Answers.{gives, refusedAs, madeAnswer, insertedAnswer}
 use Rattle.codec.specs.Bytes.{putOf, putBytes}
 use Rattle.codec.specs.Cutting.{bodies, joined}
-use Rattle.codec.specs.Reassembly.{newOf, newLengths, storeOver, underNeed, grown, insertCheckOf, insertOf, insertedIf, anyOf, hasFragment, bodiesHeld, payloadOf, assembleCheck, assembleOf, assembleOut}
+use Rattle.codec.specs.Reassembly.{newOf, newLengths, storeOver, underNeed, grown, insertCheckOf, insertOf, insertedIf, anyOf, hasFragment, bodiesHeld, payloadOf, assembleCheck, assembleOf, assembleOut, overLimit}
 use Rattle.codec.specs.Inserts.{Store, Piece, insertInto, inserts, free, holds, slotsIn, lastOf, came, different, pieces, storeAfter, AllCame, Rebuilds, Tells, Rebuild}
 use Rattle.codec.specs.declared.reassembly.ReassemblyBuffer.{ReassemblyBuffer}
 use Rattle.codec.specs.declared.reassembly.Inserted.the-variants as inserted
@@ -58,7 +58,7 @@ none-asked width slots lengths = rw (zero-mul width, le-ltb (length slots) 0 (om
 pub none-joined : (width : ℕ) (slots lengths out : List ℕ)
     → (assembleOf (made 0 width 0 slots lengths .buffer) slots lengths out ≡ putOf out 0 [])
     × (assembleOut (made 0 width 0 slots lengths .buffer) slots lengths out ≡ putBytes out 0 [])
-unfolding assembleOf assembleOut assembleCheck storeOver underNeed anyOf payloadOf bodiesHeld joined
+unfolding assembleOf assembleOut assembleCheck overLimit storeOver underNeed anyOf payloadOf bodiesHeld joined
 none-joined width slots lengths out = rw (zero-mul width, le-ltb (length slots) 0 (omega arith), le-ltb (length lengths) 0 (omega arith)) (refl, refl)
 
 -- Fragments of one cut: a store within its limits whose slot k holds body k where that number has come, and is free where it hasn't.

@@ -16,11 +16,11 @@ use Rattle.codec.proofs.reassembly.Laws.{neither, slot-ends}
 
 -- parts of an output before, at and behind a write
 module _ (out : List ℕ) (x : List ℕ) where
-  take-put : take (length x) (putAt out 0 x) ≡ x
+  pub take-put : take (length x) (putAt out 0 x) ≡ x
   unfolding putAt
   take-put = take-append-seam x (drop (0 + length x) out)
 
-  drop-put : (n : ℕ) → length x ≤ n → drop n (putAt out 0 x) ≡ drop n out
+  pub drop-put : (n : ℕ) → length x ≤ n → drop n (putAt out 0 x) ≡ drop n out
   unfolding putAt
   drop-put n h =
       let e : n ≡ length x + (n - length x) = omega arith in

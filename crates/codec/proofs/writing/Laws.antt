@@ -13,7 +13,7 @@ use Rattle.codec.specs.Header.{headerBytes}
 use Rattle.codec.specs.declared.header.MessageHeader.{MessageHeader}
 use Rattle.codec.proofs.bytes.Laws.{put-behind}
 use Rattle.codec.specs.declared.submessages.Submessage.{Submessage}
-use Rattle.codec.specs.declared.submessages.Submessage.the-variants.{CreateClient, Create, Delete, Status, WriteData, ReadData, Data, Heartbeat, Acknack}
+use Rattle.codec.specs.declared.submessages.Submessage.the-variants.{CreateClient, Create, Delete, Status, WriteData, ReadData, Data, Heartbeat, Acknack, Fragment}
 
 -- a layout's fixed bytes are as many as its least length
 pub length-fixed : (m : Submessage) → length (fixedBytes m) ≡ leastOf (idOf m)
@@ -27,6 +27,7 @@ length-fixed (ReadData p) = refl
 length-fixed (Data p) = refl
 length-fixed (Heartbeat p) = refl
 length-fixed (Acknack p) = refl
+length-fixed (Fragment p) = refl
 
 pub least-small : (m : Submessage) → leastOf (idOf m) ≤ 5
 unfolding leastOf
@@ -39,6 +40,7 @@ least-small (ReadData p) = omega arith
 least-small (Data p) = omega arith
 least-small (Heartbeat p) = omega arith
 least-small (Acknack p) = omega arith
+least-small (Fragment p) = omega arith
 
 pub body-within : (m : Submessage) (n : ℕ) → bodyLen m n ≤ n
 body-within (CreateClient p) n = omega arith
@@ -50,6 +52,7 @@ body-within (ReadData p) n = omega arith
 body-within (Data p) n = omega arith
 body-within (Heartbeat p) n = omega arith
 body-within (Acknack p) n = omega arith
+body-within (Fragment p) n = omega arith
 
 module _ (m : Submessage) (body : List ℕ) where
   pub length-payload : length (payloadBytes m body) ≡ leastOf (idOf m) + bodyLen m (length body)

@@ -23,10 +23,11 @@ pub const WRITE_DATA: u64 = 5;
 pub const READ_DATA: u64 = 6;
 pub const DELETE_ENTITY: u64 = 7;
 
-/// For how many clients a fixture has a store of held messages.
+/// For how many clients a fixture has stores of held messages and of fragments.
 pub const CLIENTS: u64 = 4;
 
-/// How many records of the agent, rows and records of each table, and bytes of the store of held messages are lent.
+/// How many records of the agent, rows and records of each table, bytes and lengths of the stores, and rebuilt bytes
+/// are lent.
 #[derive(Clone, Copy)]
 pub struct Short {
     pub agents: usize,
@@ -34,6 +35,9 @@ pub struct Short {
     pub streams: usize,
     pub objects: usize,
     pub held: usize,
+    pub parts: usize,
+    pub lengths: usize,
+    pub rebuilt: usize,
 }
 
 pub const WHOLE: Short = Short {
@@ -42,7 +46,16 @@ pub const WHOLE: Short = Short {
     streams: lent::STREAMS,
     objects: lent::OBJECTS,
     held: lent::HELD * CLIENTS as usize,
+    parts: lent::PARTS * CLIENTS as usize,
+    lengths: lent::LENGTHS * CLIENTS as usize,
+    rebuilt: lent::REBUILT,
 };
+
+/// The stores for that many clients.
+pub fn for_clients(max: u64) -> Short {
+    let max = max as usize;
+    Short { held: lent::HELD * max, parts: lent::PARTS * max, lengths: lent::LENGTHS * max, ..WHOLE }
+}
 
 #[derive(Clone, Debug, PartialEq, Eq)]
 pub struct Fixture {
@@ -104,6 +117,9 @@ impl Fixture {
             streams: &mut self.tables.streams[..short.streams],
             objects: &mut self.tables.objects[..short.objects],
             held: &mut self.tables.held[..short.held],
+            parts: &mut self.tables.parts[..short.parts],
+            lengths: &mut self.tables.lengths[..short.lengths],
+            rebuilt: &mut self.tables.rebuilt[..short.rebuilt],
         };
         (&mut self.record.lend_mut()[..short.agents], tables, &mut self.out)
     }

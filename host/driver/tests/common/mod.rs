@@ -50,6 +50,14 @@ impl Bridge for Queue {
 
 /// A host in a thread of this test, which does with the nth reply what it is told. It ends with the test.
 pub fn host(change: impl Fn(usize, &[u8]) -> Option<Vec<u8>> + Send + 'static) -> String {
+    behind(|request| vec![request.to_vec()], change)
+}
+
+/// The same, and of a datagram that comes it sees those that `way` lets through, now and in that order.
+pub fn behind(
+    mut way: impl FnMut(&[u8]) -> Vec<Vec<u8>> + Send + 'static,
+    change: impl Fn(usize, &[u8]) -> Option<Vec<u8>> + Send + 'static,
+) -> String {
     let socket = UdpSocket::bind("127.0.0.1:0").unwrap();
     let address = socket.local_addr().unwrap().to_string();
     std::thread::spawn(move || {
@@ -57,11 +65,13 @@ pub fn host(change: impl Fn(usize, &[u8]) -> Option<Vec<u8>> + Send + 'static) -
         let (mut inbox, mut out, mut count) = (vec![0; 65_536], Vec::new(), 0);
         loop {
             let (len, from) = socket.recv_from(&mut inbox).unwrap();
-            agent.serve(&inbox[..len], 0, &mut out, &mut bridge).unwrap();
-            for reply in replies(&out) {
-                count += 1;
-                if let Some(reply) = change(count, reply) {
-                    socket.send_to(&reply, from).unwrap();
+            for datagram in way(&inbox[..len]) {
+                agent.serve(&datagram, 0, &mut out, &mut bridge).unwrap();
+                for reply in replies(&out) {
+                    count += 1;
+                    if let Some(reply) = change(count, reply) {
+                        socket.send_to(&reply, from).unwrap();
+                    }
                 }
             }
         }

@@ -58,7 +58,7 @@ use Rattle.sessions.specs.ObjectList.{listOf, listOut}
 use Rattle.agent.specs.Lent.{lent}
 use Rattle.agent.specs.Host.{setUpAs, incomingOf, answerOf, idleOf, removedAs, removedBy, removedRows, sweptBy, sweptRows, sweptOut}
 use Rattle.codec.specs.Bytes.{wordAt}
-use Rattle.agent.specs.Host.{outcomeOf, waitsOf, finishedOf, refusedOf, answerMost, firstMost, roomy, asksAgain, acknacksIn, asksIn, neededOf, resumesFit, performed, finish, processOf}
+use Rattle.agent.specs.Host.{outcomeOf, waitsOf, finishedOf, refusedOf, answerMost, firstMost, bounded, roomy, oneOf, idsAt, asksIn, unbound, neededOf, resumesFit, performed, finish, processOf}
 use Rattle.sessions.specs.declared.objects.Object.{Object}
 use Rattle.sessions.proofs.objects.Object as Object-t
 use Rattle.sessions.proofs.objects.Object.Laws as Object-l
@@ -103,7 +103,7 @@ use Rattle.codec.proofs.layouts.Span.Laws as Span-l
 use Rattle.codec.specs.declared.refusals.Refusal.{Refusal}
 use Rattle.codec.proofs.refusals.Refusal as Refusal-t
 use Rattle.codec.proofs.refusals.Refusal.Laws as Refusal-l
-use Rattle.codec.specs.declared.refusals.Refusal.the-variants.{BufferTooShort as Refusal-BufferTooShort, UnknownSubmessageId as Refusal-UnknownSubmessageId, UnknownObjectKind as Refusal-UnknownObjectKind, UnknownStatusCode as Refusal-UnknownStatusCode, PayloadLengthMismatch as Refusal-PayloadLengthMismatch, SessionFull as Refusal-SessionFull, FragmentSizeZero as Refusal-FragmentSizeZero, EmptyPayload as Refusal-EmptyPayload, TooManyFragments as Refusal-TooManyFragments, FragmentNumber as Refusal-FragmentNumber, MissingFragments as Refusal-MissingFragments, TooLong as Refusal-TooLong, OutputTooShort as Refusal-OutputTooShort, StoreFull as Refusal-StoreFull, OutOfTurn as Refusal-OutOfTurn, OverLimit as Refusal-OverLimit}
+use Rattle.codec.specs.declared.refusals.Refusal.the-variants.{BufferTooShort as Refusal-BufferTooShort, UnknownSubmessageId as Refusal-UnknownSubmessageId, UnknownObjectKind as Refusal-UnknownObjectKind, UnknownStatusCode as Refusal-UnknownStatusCode, PayloadLengthMismatch as Refusal-PayloadLengthMismatch, SessionFull as Refusal-SessionFull, FragmentSizeZero as Refusal-FragmentSizeZero, EmptyPayload as Refusal-EmptyPayload, TooManyFragments as Refusal-TooManyFragments, FragmentNumber as Refusal-FragmentNumber, MissingFragments as Refusal-MissingFragments, TooLong as Refusal-TooLong, OutputTooShort as Refusal-OutputTooShort, StoreFull as Refusal-StoreFull, OutOfTurn as Refusal-OutOfTurn, OverLimit as Refusal-OverLimit, NotInFragments as Refusal-NotInFragments}
 use Rattle.agent.specs.declared.judge.Input.{Input}
 use Rattle.agent.proofs.judge.Input as Input-t
 use Rattle.agent.proofs.judge.Input.Laws as Input-l
@@ -139,8 +139,8 @@ Agent-p = record { row = Agent-t.the-row; val = LL.val Agent-t.the-type Agent-l.
 abbrev Waiting-p : Plain
 Waiting-p = record { row = Waiting-t.the-row; val = EL.val Waiting-t.the-type Waiting-l.the-laws; tells = EL.tells Waiting-t.the-type Waiting-l.the-laws; makes = λ 𝓤 H A W. EL.makes Waiting-t.the-type Waiting-l.the-plain 𝓤 H A; ty = Waiting-l.mir; typed = λ 𝓤 H A W x is. EL.lawful Waiting-t.the-type Waiting-l.the-laws 𝓤 H A W tt .typed x _ is .0; copies = λ 𝓤 H A W. EL.copy Waiting-t.the-type Waiting-l.the-copy 𝓤 H A W }
 
-abbrev Pending-of : ℕ → ℕ → ObjectNumber → Task → ℕ → ℕ → Pending
-Pending-of x0 x1 x2 x3 x4 x5 = record { «session_id» = x0; «stream_id» = x1; number = x2; task = x3; at = x4; time = x5 }
+abbrev Pending-of : ℕ → ℕ → ObjectNumber → Task → ℕ → ℕ → ℕ → ℕ → Pending
+Pending-of x0 x1 x2 x3 x4 x5 x6 x7 = record { «session_id» = x0; «stream_id» = x1; number = x2; task = x3; at = x4; time = x5; «left_at» = x6; «left_end» = x7 }
 
 abbrev Pending-p : Plain
 Pending-p = record { row = Pending-t.the-row; val = LL.val Pending-t.the-type Pending-l.the-laws; tells = LL.tells Pending-t.the-type Pending-l.the-laws; makes = λ 𝓤 H A W. LL.makes Pending-t.the-type Pending-l.the-plain 𝓤 H A; ty = Pending-l.mir; typed = λ 𝓤 H A W x is. LL.lawful Pending-t.the-type Pending-l.the-laws 𝓤 H A W .typed x _ is .0; copies = λ 𝓤 H A W. LL.copy Pending-t.the-type Pending-l.the-copy 𝓤 H A W }
@@ -182,14 +182,14 @@ abbrev Input-p : Plain
 Input-p = record { row = Input-t.the-row; val = EL.val Input-t.the-type Input-l.the-laws; tells = EL.tells Input-t.the-type Input-l.the-laws; makes = λ 𝓤 H A W. EL.makes Input-t.the-type Input-l.the-plain 𝓤 H A; ty = Input-l.mir; typed = λ 𝓤 H A W x is. EL.lawful Input-t.the-type Input-l.the-laws 𝓤 H A W tt .typed x _ is .0; copies = λ 𝓤 H A W. EL.copy Input-t.the-type Input-l.the-copy 𝓤 H A W }
 
 abbrev stayed : Stays (f.ended .signature .params) (f.ended .kept)
-stayed = (stay-slice (0 ∷ []) tt (plain (λ _. (Array u64 6))), (stay-slice (1 ∷ []) tt (plain (λ _. (Array u16 35))), (stay-slice (2 ∷ []) tt (plain (λ _. Object-t.the-row)), (stay-slice (3 ∷ []) tt (plain (λ _. u8)), (stay-slice (4 ∷ []) tt (plain (λ _. u8)), (stay-none-slice (5 ∷ []) tt (plain (λ _. u8)) yes, (stay-none-slice (6 ∷ []) tt (plain (λ _. u8)) yes, (stay-none (λ _. Agent-p .row) yes, (stay-none (λ _. BridgeAnswer-p .row) yes, tt)))))))))
+stayed = (stay-slice (0 ∷ []) tt (plain (λ _. (Array u64 8))), (stay-slice (1 ∷ []) tt (plain (λ _. (Array u16 35))), (stay-slice (2 ∷ []) tt (plain (λ _. Object-t.the-row)), (stay-slice (3 ∷ []) tt (plain (λ _. u8)), (stay-slice (4 ∷ []) tt (plain (λ _. u8)), (stay-slice (5 ∷ []) tt (plain (λ _. u32)), (stay-slice (6 ∷ []) tt (plain (λ _. u8)), (stay-slice (7 ∷ []) tt (plain (λ _. u8)), (stay-none-slice (8 ∷ []) tt (plain (λ _. u8)) yes, (stay-none-slice (9 ∷ []) tt (plain (λ _. u8)) yes, (stay-none (λ _. Agent-p .row) yes, (stay-none (λ _. BridgeAnswer-p .row) yes, tt))))))))))))
 
 module _ {M : Type 1} (𝓤 : URA M) (H : Heap 𝓤) (A : Atoms 𝓤) (mem : Memory → SProp 𝓤) (run : Routine → Fun 𝓤) where
   abbrev Of-process-process : Contract 𝓤
   Of-process-process = tripleOf 𝓤 H A process-process.signature (process-process.spec 𝓤 H A mem run)
 
-module _ {M : Type 1} (𝓤 : URA M) (H : Heap 𝓤) (A : Atoms 𝓤) (W : Given 𝓤 H A) (mem : Memory → SProp 𝓤) (run : Routine → Fun 𝓤) (κ₁ : Lft) (q₁ : Share) (b₁ o₁ : ℕ) (γ₁ : GName) (sessions : List (List ℕ)) (κ₂ : Lft) (q₂ : Share) (b₂ o₂ : ℕ) (γ₂ : GName) (streams : List (List ℕ)) (κ₃ : Lft) (q₃ : Share) (b₃ o₃ : ℕ) (γ₃ : GName) (objects : List Object) (κ₄ : Lft) (q₄ : Share) (b₄ o₄ : ℕ) (γ₄ : GName) (held : List ℕ) (κ₅ : Lft) (q₅ : Share) (b₅ o₅ : ℕ) (γ₅ : GName) (out : List ℕ) (κ₆ : Lft) (q₆ : Share) (b₆ o₆ : ℕ) (γ₆ : GName) (datagram : List ℕ) (κ₇ : Lft) (q₇ : Share) (b₇ o₇ : ℕ) (γ₇ : GName) (sample : List ℕ) (agent : Agent) (answer : BridgeAnswer)
-    (room₁ : Room (Array u64 6) (length sessions)) (room₂ : Room (Array u16 35) (length streams)) (room₃ : Room Object-t.the-row (length objects)) (room₄ : Room u8 (length held)) (room₅ : Room u8 (length out)) (room₆ : Room u8 (length datagram)) (room₇ : Room u8 (length sample)) (agent-is : Is (Agent-p .row) agent (Agent-p .val agent ∷ [])) (answer-is : Is (BridgeAnswer-p .row) answer (BridgeAnswer-p .val answer ∷ [])) where
+module _ {M : Type 1} (𝓤 : URA M) (H : Heap 𝓤) (A : Atoms 𝓤) (W : Given 𝓤 H A) (mem : Memory → SProp 𝓤) (run : Routine → Fun 𝓤) (κ₁ : Lft) (q₁ : Share) (b₁ o₁ : ℕ) (γ₁ : GName) (sessions : List (List ℕ)) (κ₂ : Lft) (q₂ : Share) (b₂ o₂ : ℕ) (γ₂ : GName) (streams : List (List ℕ)) (κ₃ : Lft) (q₃ : Share) (b₃ o₃ : ℕ) (γ₃ : GName) (objects : List Object) (κ₄ : Lft) (q₄ : Share) (b₄ o₄ : ℕ) (γ₄ : GName) (held : List ℕ) (κ₅ : Lft) (q₅ : Share) (b₅ o₅ : ℕ) (γ₅ : GName) (parts : List ℕ) (κ₆ : Lft) (q₆ : Share) (b₆ o₆ : ℕ) (γ₆ : GName) (lengths : List ℕ) (κ₇ : Lft) (q₇ : Share) (b₇ o₇ : ℕ) (γ₇ : GName) (rebuilt : List ℕ) (κ₈ : Lft) (q₈ : Share) (b₈ o₈ : ℕ) (γ₈ : GName) (out : List ℕ) (κ₉ : Lft) (q₉ : Share) (b₉ o₉ : ℕ) (γ₉ : GName) (datagram : List ℕ) (κ₁₀ : Lft) (q₁₀ : Share) (b₁₀ o₁₀ : ℕ) (γ₁₀ : GName) (sample : List ℕ) (agent : Agent) (answer : BridgeAnswer)
+    (room₁ : Room (Array u64 8) (length sessions)) (room₂ : Room (Array u16 35) (length streams)) (room₃ : Room Object-t.the-row (length objects)) (room₄ : Room u8 (length held)) (room₅ : Room u8 (length parts)) (room₆ : Room u32 (length lengths)) (room₇ : Room u8 (length rebuilt)) (room₈ : Room u8 (length out)) (room₉ : Room u8 (length datagram)) (room₁₀ : Room u8 (length sample)) (agent-is : Is (Agent-p .row) agent (Agent-p .val agent ∷ [])) (answer-is : Is (BridgeAnswer-p .row) answer (BridgeAnswer-p .val answer ∷ [])) where
   abbrev n₁ : ℕ
   n₁ = length sessions
 
@@ -203,34 +203,43 @@ module _ {M : Type 1} (𝓤 : URA M) (H : Heap 𝓤) (A : Atoms 𝓤) (W : Given
   n₄ = length held
 
   abbrev n₅ : ℕ
-  n₅ = length out
+  n₅ = length parts
 
   abbrev n₆ : ℕ
-  n₆ = length datagram
+  n₆ = length lengths
 
   abbrev n₇ : ℕ
-  n₇ = length sample
+  n₇ = length rebuilt
 
-  abbrev x : RefT (List (List ℕ)) × (RefT (List (List ℕ)) × (RefT (List Object) × (RefT (List ℕ) × (RefT (List ℕ) × (RefT (List ℕ) × (RefT (List ℕ) × (Agent-p .row .Denot × (BridgeAnswer-p .row .Denot × (Unit {0})))))))))
-  x = (at-list b₁ o₁ γ₁ sessions, (at-list b₂ o₂ γ₂ streams, (at-list b₃ o₃ γ₃ objects, (at-list b₄ o₄ γ₄ held, (at-list b₅ o₅ γ₅ out, (at-list b₆ o₆ γ₆ datagram, (at-list b₇ o₇ γ₇ sample, (agent, (answer, tt)))))))))
+  abbrev n₈ : ℕ
+  n₈ = length out
 
-  abbrev at : Vals f.signature (κ₁, (κ₂, (κ₃, (κ₄, (κ₅, (κ₆, (κ₇, tt)))))))
-  at = (sliceVal (b₁, o₁) n₁ ∷ [], (sliceVal (b₂, o₂) n₂ ∷ [], (sliceVal (b₃, o₃) n₃ ∷ [], (sliceVal (b₄, o₄) n₄ ∷ [], (sliceVal (b₅, o₅) n₅ ∷ [], (sliceVal (b₆, o₆) n₆ ∷ [], (sliceVal (b₇, o₇) n₇ ∷ [], (Agent-p .val agent ∷ [], (BridgeAnswer-p .val answer ∷ [], tt)))))))))
+  abbrev n₉ : ℕ
+  n₉ = length datagram
+
+  abbrev n₁₀ : ℕ
+  n₁₀ = length sample
+
+  abbrev x : RefT (List (List ℕ)) × (RefT (List (List ℕ)) × (RefT (List Object) × (RefT (List ℕ) × (RefT (List ℕ) × (RefT (List ℕ) × (RefT (List ℕ) × (RefT (List ℕ) × (RefT (List ℕ) × (RefT (List ℕ) × (Agent-p .row .Denot × (BridgeAnswer-p .row .Denot × (Unit {0}))))))))))))
+  x = (at-list b₁ o₁ γ₁ sessions, (at-list b₂ o₂ γ₂ streams, (at-list b₃ o₃ γ₃ objects, (at-list b₄ o₄ γ₄ held, (at-list b₅ o₅ γ₅ parts, (at-list b₆ o₆ γ₆ lengths, (at-list b₇ o₇ γ₇ rebuilt, (at-list b₈ o₈ γ₈ out, (at-list b₉ o₉ γ₉ datagram, (at-list b₁₀ o₁₀ γ₁₀ sample, (agent, (answer, tt))))))))))))
+
+  abbrev at : Vals f.signature (κ₁, (κ₂, (κ₃, (κ₄, (κ₅, (κ₆, (κ₇, (κ₈, (κ₉, (κ₁₀, tt))))))))))
+  at = (sliceVal (b₁, o₁) n₁ ∷ [], (sliceVal (b₂, o₂) n₂ ∷ [], (sliceVal (b₃, o₃) n₃ ∷ [], (sliceVal (b₄, o₄) n₄ ∷ [], (sliceVal (b₅, o₅) n₅ ∷ [], (sliceVal (b₆, o₆) n₆ ∷ [], (sliceVal (b₇, o₇) n₇ ∷ [], (sliceVal (b₈, o₈) n₈ ∷ [], (sliceVal (b₉, o₉) n₉ ∷ [], (sliceVal (b₁₀, o₁₀) n₁₀ ∷ [], (Agent-p .val agent ∷ [], (BridgeAnswer-p .val answer ∷ [], tt))))))))))))
 
   abbrev Post : Val → SProp 𝓤
-  Post = walkOf 𝓤 H A f.ended stayed (f.clauses 𝓤 H A mem run) .post (((κ₁, (κ₂, (κ₃, (κ₄, (κ₅, (κ₆, (κ₇, tt))))))), (q₁, (q₂, (q₃, (q₄, (q₅, (q₆, (q₇, tt))))))), tt, x, at), tt)
+  Post = walkOf 𝓤 H A f.ended stayed (f.clauses 𝓤 H A mem run) .post (((κ₁, (κ₂, (κ₃, (κ₄, (κ₅, (κ₆, (κ₇, (κ₈, (κ₉, (κ₁₀, tt)))))))))), (q₁, (q₂, (q₃, (q₄, (q₅, (q₆, (q₇, (q₈, (q₉, (q₁₀, tt)))))))))), tt, x, at), tt)
 
-  exits : (r : Processed) (ws₁ : List (List ℕ)) (ws₂ : List (List ℕ)) (ws₃ : List Object) (ws₄ : List ℕ) (ws₅ : List ℕ) → ((r ≡ answerOf agent (lent (sessions) (streams) (objects) (held)) (out) (datagram) (sample) answer .processed) × (ws₁ ≡ answerOf agent (lent (sessions) (streams) (objects) (held)) (out) (datagram) (sample) answer .tables .sessions) × (ws₂ ≡ answerOf agent (lent (sessions) (streams) (objects) (held)) (out) (datagram) (sample) answer .tables .streams) × (ws₃ ≡ answerOf agent (lent (sessions) (streams) (objects) (held)) (out) (datagram) (sample) answer .tables .objects) × (ws₄ ≡ answerOf agent (lent (sessions) (streams) (objects) (held)) (out) (datagram) (sample) answer .tables .held) × (ws₅ ≡ answerOf agent (lent (sessions) (streams) (objects) (held)) (out) (datagram) (sample) answer .out)) → Is (Processed-p .row) r (Processed-p .val r ∷ []) → length ws₁ ≡ n₁ → length ws₂ ≡ n₂ → length ws₃ ≡ n₃ → length ws₄ ≡ n₄ → length ws₅ ≡ n₅ → ent 𝓤 (⋆ 𝓤 H A (‵ (MutSlice (named 0) κ₁ (Array u64 6) .own (at-list b₁ o₁ γ₁ ws₁) (sliceVal (b₁, o₁) n₁ ∷ [])) ∷ ‵ (flft κ₁ q₁) ∷ ‵ (MutSlice (named 1) κ₂ (Array u16 35) .own (at-list b₂ o₂ γ₂ ws₂) (sliceVal (b₂, o₂) n₂ ∷ [])) ∷ ‵ (flft κ₂ q₂) ∷ ‵ (MutSlice (named 2) κ₃ Object-t.the-row .own (at-list b₃ o₃ γ₃ ws₃) (sliceVal (b₃, o₃) n₃ ∷ [])) ∷ ‵ (flft κ₃ q₃) ∷ ‵ (MutSlice (named 3) κ₄ u8 .own (at-list b₄ o₄ γ₄ ws₄) (sliceVal (b₄, o₄) n₄ ∷ [])) ∷ ‵ (flft κ₄ q₄) ∷ ‵ (MutSlice (named 4) κ₅ u8 .own (at-list b₅ o₅ γ₅ ws₅) (sliceVal (b₅, o₅) n₅ ∷ [])) ∷ ‵ (flft κ₅ q₅) ∷ ‵ (ShrSlice (named 5) κ₆ u8 .own (at-list b₆ o₆ γ₆ datagram) (sliceVal (b₆, o₆) n₆ ∷ [])) ∷ ‵ (flft κ₆ q₆) ∷ ‵ (ShrSlice (named 6) κ₇ u8 .own (at-list b₇ o₇ γ₇ sample) (sliceVal (b₇, o₇) n₇ ∷ [])) ∷ ‵ (flft κ₇ q₇) ∷ [])) (Post (Processed-p .val r))
-  exits r ws₁ ws₂ ws₃ ws₄ ws₅ said r-is len₁ len₂ len₃ len₄ len₅ =
-      qed W (‵ (MutSlice (named 0) κ₁ (Array u64 6) .own (at-list b₁ o₁ γ₁ ws₁) (sliceVal (b₁, o₁) n₁ ∷ [])) ∷ ‵ (flft κ₁ q₁) ∷ ‵ (MutSlice (named 1) κ₂ (Array u16 35) .own (at-list b₂ o₂ γ₂ ws₂) (sliceVal (b₂, o₂) n₂ ∷ [])) ∷ ‵ (flft κ₂ q₂) ∷ ‵ (MutSlice (named 2) κ₃ Object-t.the-row .own (at-list b₃ o₃ γ₃ ws₃) (sliceVal (b₃, o₃) n₃ ∷ [])) ∷ ‵ (flft κ₃ q₃) ∷ ‵ (MutSlice (named 3) κ₄ u8 .own (at-list b₄ o₄ γ₄ ws₄) (sliceVal (b₄, o₄) n₄ ∷ [])) ∷ ‵ (flft κ₄ q₄) ∷ ‵ (MutSlice (named 4) κ₅ u8 .own (at-list b₅ o₅ γ₅ ws₅) (sliceVal (b₅, o₅) n₅ ∷ [])) ∷ ‵ (flft κ₅ q₅) ∷ ‵ (ShrSlice (named 5) κ₆ u8 .own (at-list b₆ o₆ γ₆ datagram) (sliceVal (b₆, o₆) n₆ ∷ [])) ∷ ‵ (flft κ₆ q₆) ∷ ‵ (ShrSlice (named 6) κ₇ u8 .own (at-list b₇ o₇ γ₇ sample) (sliceVal (b₇, o₇) n₇ ∷ [])) ∷ ‵ (flft κ₇ q₇) ∷ []) ∵
-      suffices ! _ (ends-at 𝓤 H A f.ended stayed (f.clauses 𝓤 H A mem run) W (((κ₁, (κ₂, (κ₃, (κ₄, (κ₅, (κ₆, (κ₇, tt))))))), (q₁, (q₂, (q₃, (q₄, (q₅, (q₆, (q₇, tt))))))), tt, x, at), tt) (Processed-p .val r) r (ws₁, (ws₂, (ws₃, (ws₄, (ws₅, (tt, (tt, (tt, (tt, tt))))))))) (len₁, (len₂, (len₃, (len₄, (len₅, (tt, (tt, (tt, (tt, tt)))))))))) $ says ! said $ nothing ! $ move ! (14 ∷ 0 ∷ []) $ join ! $ move ! (12 ∷ 0 ∷ []) $ join ! $ move ! (10 ∷ 0 ∷ []) $ join ! $ move ! (8 ∷ 0 ∷ []) $ join ! $ move ! (6 ∷ 0 ∷ []) $ join ! $ move ! (4 ∷ 0 ∷ []) $ join ! $ move ! (2 ∷ 0 ∷ []) $ join ! $
+  exits : (r : Processed) (ws₁ : List (List ℕ)) (ws₂ : List (List ℕ)) (ws₃ : List Object) (ws₄ : List ℕ) (ws₅ : List ℕ) (ws₆ : List ℕ) (ws₇ : List ℕ) (ws₈ : List ℕ) → ((r ≡ answerOf agent (lent (sessions) (streams) (objects) (held) (parts) (lengths) (rebuilt)) (out) (datagram) (sample) answer .processed) × (ws₁ ≡ answerOf agent (lent (sessions) (streams) (objects) (held) (parts) (lengths) (rebuilt)) (out) (datagram) (sample) answer .tables .sessions) × (ws₂ ≡ answerOf agent (lent (sessions) (streams) (objects) (held) (parts) (lengths) (rebuilt)) (out) (datagram) (sample) answer .tables .streams) × (ws₃ ≡ answerOf agent (lent (sessions) (streams) (objects) (held) (parts) (lengths) (rebuilt)) (out) (datagram) (sample) answer .tables .objects) × (ws₄ ≡ answerOf agent (lent (sessions) (streams) (objects) (held) (parts) (lengths) (rebuilt)) (out) (datagram) (sample) answer .tables .held) × (ws₅ ≡ answerOf agent (lent (sessions) (streams) (objects) (held) (parts) (lengths) (rebuilt)) (out) (datagram) (sample) answer .tables .parts) × (ws₆ ≡ answerOf agent (lent (sessions) (streams) (objects) (held) (parts) (lengths) (rebuilt)) (out) (datagram) (sample) answer .tables .lengths) × (ws₇ ≡ answerOf agent (lent (sessions) (streams) (objects) (held) (parts) (lengths) (rebuilt)) (out) (datagram) (sample) answer .tables .rebuilt) × (ws₈ ≡ answerOf agent (lent (sessions) (streams) (objects) (held) (parts) (lengths) (rebuilt)) (out) (datagram) (sample) answer .out)) → Is (Processed-p .row) r (Processed-p .val r ∷ []) → length ws₁ ≡ n₁ → length ws₂ ≡ n₂ → length ws₃ ≡ n₃ → length ws₄ ≡ n₄ → length ws₅ ≡ n₅ → length ws₆ ≡ n₆ → length ws₇ ≡ n₇ → length ws₈ ≡ n₈ → ent 𝓤 (⋆ 𝓤 H A (‵ (MutSlice (named 0) κ₁ (Array u64 8) .own (at-list b₁ o₁ γ₁ ws₁) (sliceVal (b₁, o₁) n₁ ∷ [])) ∷ ‵ (flft κ₁ q₁) ∷ ‵ (MutSlice (named 1) κ₂ (Array u16 35) .own (at-list b₂ o₂ γ₂ ws₂) (sliceVal (b₂, o₂) n₂ ∷ [])) ∷ ‵ (flft κ₂ q₂) ∷ ‵ (MutSlice (named 2) κ₃ Object-t.the-row .own (at-list b₃ o₃ γ₃ ws₃) (sliceVal (b₃, o₃) n₃ ∷ [])) ∷ ‵ (flft κ₃ q₃) ∷ ‵ (MutSlice (named 3) κ₄ u8 .own (at-list b₄ o₄ γ₄ ws₄) (sliceVal (b₄, o₄) n₄ ∷ [])) ∷ ‵ (flft κ₄ q₄) ∷ ‵ (MutSlice (named 4) κ₅ u8 .own (at-list b₅ o₅ γ₅ ws₅) (sliceVal (b₅, o₅) n₅ ∷ [])) ∷ ‵ (flft κ₅ q₅) ∷ ‵ (MutSlice (named 5) κ₆ u32 .own (at-list b₆ o₆ γ₆ ws₆) (sliceVal (b₆, o₆) n₆ ∷ [])) ∷ ‵ (flft κ₆ q₆) ∷ ‵ (MutSlice (named 6) κ₇ u8 .own (at-list b₇ o₇ γ₇ ws₇) (sliceVal (b₇, o₇) n₇ ∷ [])) ∷ ‵ (flft κ₇ q₇) ∷ ‵ (MutSlice (named 7) κ₈ u8 .own (at-list b₈ o₈ γ₈ ws₈) (sliceVal (b₈, o₈) n₈ ∷ [])) ∷ ‵ (flft κ₈ q₈) ∷ ‵ (ShrSlice (named 8) κ₉ u8 .own (at-list b₉ o₉ γ₉ datagram) (sliceVal (b₉, o₉) n₉ ∷ [])) ∷ ‵ (flft κ₉ q₉) ∷ ‵ (ShrSlice (named 9) κ₁₀ u8 .own (at-list b₁₀ o₁₀ γ₁₀ sample) (sliceVal (b₁₀, o₁₀) n₁₀ ∷ [])) ∷ ‵ (flft κ₁₀ q₁₀) ∷ [])) (Post (Processed-p .val r))
+  exits r ws₁ ws₂ ws₃ ws₄ ws₅ ws₆ ws₇ ws₈ said r-is len₁ len₂ len₃ len₄ len₅ len₆ len₇ len₈ =
+      qed W (‵ (MutSlice (named 0) κ₁ (Array u64 8) .own (at-list b₁ o₁ γ₁ ws₁) (sliceVal (b₁, o₁) n₁ ∷ [])) ∷ ‵ (flft κ₁ q₁) ∷ ‵ (MutSlice (named 1) κ₂ (Array u16 35) .own (at-list b₂ o₂ γ₂ ws₂) (sliceVal (b₂, o₂) n₂ ∷ [])) ∷ ‵ (flft κ₂ q₂) ∷ ‵ (MutSlice (named 2) κ₃ Object-t.the-row .own (at-list b₃ o₃ γ₃ ws₃) (sliceVal (b₃, o₃) n₃ ∷ [])) ∷ ‵ (flft κ₃ q₃) ∷ ‵ (MutSlice (named 3) κ₄ u8 .own (at-list b₄ o₄ γ₄ ws₄) (sliceVal (b₄, o₄) n₄ ∷ [])) ∷ ‵ (flft κ₄ q₄) ∷ ‵ (MutSlice (named 4) κ₅ u8 .own (at-list b₅ o₅ γ₅ ws₅) (sliceVal (b₅, o₅) n₅ ∷ [])) ∷ ‵ (flft κ₅ q₅) ∷ ‵ (MutSlice (named 5) κ₆ u32 .own (at-list b₆ o₆ γ₆ ws₆) (sliceVal (b₆, o₆) n₆ ∷ [])) ∷ ‵ (flft κ₆ q₆) ∷ ‵ (MutSlice (named 6) κ₇ u8 .own (at-list b₇ o₇ γ₇ ws₇) (sliceVal (b₇, o₇) n₇ ∷ [])) ∷ ‵ (flft κ₇ q₇) ∷ ‵ (MutSlice (named 7) κ₈ u8 .own (at-list b₈ o₈ γ₈ ws₈) (sliceVal (b₈, o₈) n₈ ∷ [])) ∷ ‵ (flft κ₈ q₈) ∷ ‵ (ShrSlice (named 8) κ₉ u8 .own (at-list b₉ o₉ γ₉ datagram) (sliceVal (b₉, o₉) n₉ ∷ [])) ∷ ‵ (flft κ₉ q₉) ∷ ‵ (ShrSlice (named 9) κ₁₀ u8 .own (at-list b₁₀ o₁₀ γ₁₀ sample) (sliceVal (b₁₀, o₁₀) n₁₀ ∷ [])) ∷ ‵ (flft κ₁₀ q₁₀) ∷ []) ∵
+      suffices ! _ (ends-at 𝓤 H A f.ended stayed (f.clauses 𝓤 H A mem run) W (((κ₁, (κ₂, (κ₃, (κ₄, (κ₅, (κ₆, (κ₇, (κ₈, (κ₉, (κ₁₀, tt)))))))))), (q₁, (q₂, (q₃, (q₄, (q₅, (q₆, (q₇, (q₈, (q₉, (q₁₀, tt)))))))))), tt, x, at), tt) (Processed-p .val r) r (ws₁, (ws₂, (ws₃, (ws₄, (ws₅, (ws₆, (ws₇, (ws₈, (tt, (tt, (tt, (tt, tt)))))))))))) (len₁, (len₂, (len₃, (len₄, (len₅, (len₆, (len₇, (len₈, (tt, (tt, (tt, (tt, tt))))))))))))) $ says ! said $ nothing ! $ move ! (20 ∷ 0 ∷ []) $ join ! $ move ! (18 ∷ 0 ∷ []) $ join ! $ move ! (16 ∷ 0 ∷ []) $ join ! $ move ! (14 ∷ 0 ∷ []) $ join ! $ move ! (12 ∷ 0 ∷ []) $ join ! $ move ! (10 ∷ 0 ∷ []) $ join ! $ move ! (8 ∷ 0 ∷ []) $ join ! $ move ! (6 ∷ 0 ∷ []) $ join ! $ move ! (4 ∷ 0 ∷ []) $ join ! $ move ! (2 ∷ 0 ∷ []) $ join ! $
       frame ! $ nothing ! $
       owned ! (BridgeAnswer-p .row) (Is (BridgeAnswer-p .row)) (BridgeAnswer-p .makes 𝓤 H A W) answer (BridgeAnswer-p .val answer ∷ []) answer-is $ fjoin ! $
-      owned ! (Agent-p .row) (Is (Agent-p .row)) (Agent-p .makes 𝓤 H A W) agent (Agent-p .val agent ∷ []) agent-is $ fjoin ! $ move ! (7 ∷ 0 ∷ []) $ fjoin ! $ move ! (6 ∷ 0 ∷ []) $ fjoin ! $ move ! (5 ∷ 0 ∷ []) $ fjoin ! $ move ! (4 ∷ 0 ∷ []) $ fjoin ! $ move ! (3 ∷ 0 ∷ []) $ fjoin ! $ move ! (2 ∷ 0 ∷ []) $ fjoin ! $ move ! (1 ∷ 0 ∷ []) $ fjoin ! $
+      owned ! (Agent-p .row) (Is (Agent-p .row)) (Agent-p .makes 𝓤 H A W) agent (Agent-p .val agent ∷ []) agent-is $ fjoin ! $ move ! (10 ∷ 0 ∷ []) $ fjoin ! $ move ! (9 ∷ 0 ∷ []) $ fjoin ! $ move ! (8 ∷ 0 ∷ []) $ fjoin ! $ move ! (7 ∷ 0 ∷ []) $ fjoin ! $ move ! (6 ∷ 0 ∷ []) $ fjoin ! $ move ! (5 ∷ 0 ∷ []) $ fjoin ! $ move ! (4 ∷ 0 ∷ []) $ fjoin ! $ move ! (3 ∷ 0 ∷ []) $ fjoin ! $ move ! (2 ∷ 0 ∷ []) $ fjoin ! $ move ! (1 ∷ 0 ∷ []) $ fjoin ! $
       frame ! $
       owned ! (Processed-p .row) (Is (Processed-p .row)) (Processed-p .makes 𝓤 H A W) r _ r-is $ done !
 
-  module _ (𝓣 : Tables 𝓤 H) (known-process-process : Triple 𝓤 (𝓣 .C #process-process) (Of-process-process 𝓤 H A mem run)) (l₀ l₁ l₂ l₃ l₄ l₅ l₆ l₇ l₈ l₉ l₁₀ l₁₁ l₁₂ l₁₃ l₁₄ l₁₅ l₁₆ l₁₇ l₁₈ l₁₉ l₂₀ : ℕ) where
+  module _ (𝓣 : Tables 𝓤 H) (known-process-process : Triple 𝓤 (𝓣 .C #process-process) (Of-process-process 𝓤 H A mem run)) (l₀ l₁ l₂ l₃ l₄ l₅ l₆ l₇ l₈ l₉ l₁₀ l₁₁ l₁₂ l₁₃ l₁₄ l₁₅ l₁₆ l₁₇ l₁₈ l₁₉ l₂₀ l₂₁ l₂₂ l₂₃ l₂₄ l₂₅ l₂₆ l₂₇ l₂₈ l₂₉ : ℕ) where
     abbrev C : Calls 𝓤 H
     C = 𝓣 .C
 
@@ -241,77 +250,101 @@ module _ {M : Type 1} (𝓤 : URA M) (H : Heap 𝓤) (A : Atoms 𝓤) (W : Given
     fm = fmOf 𝓤 H (W .laws) 𝓣
 
     abbrev En : Env 𝓤 H
-    En = (Processed-l.mir, l₀) ∷ ((sliceTy (tyRef (named 0) mut (pointee ((Array u64 6) .written)))), l₁) ∷ ((sliceTy (tyRef (named 1) mut (pointee ((Array u16 35) .written)))), l₂) ∷ ((sliceTy (tyRef (named 2) mut (pointee (Object-t.the-row .written)))), l₃) ∷ ((sliceTy (tyRef (named 3) mut (pointee (u8 .written)))), l₄) ∷ ((sliceTy (tyRef (named 4) mut (pointee (u8 .written)))), l₅) ∷ ((sliceTy (tyRef (named 5) imm (pointee (u8 .written)))), l₆) ∷ ((sliceTy (tyRef (named 6) imm (pointee (u8 .written)))), l₇) ∷ (Agent-l.mir, l₈) ∷ (BridgeAnswer-l.mir, l₉) ∷ ((tyRef erased mut (pointee ((Array u64 6) .written))), l₁₀) ∷ ((sliceTy (tyRef erased mut (pointee ((Array u64 6) .written)))), l₁₁) ∷ ((tyRef erased mut (pointee ((Array u16 35) .written))), l₁₂) ∷ ((sliceTy (tyRef erased mut (pointee ((Array u16 35) .written)))), l₁₃) ∷ ((tyRef erased mut (pointee (Object-t.the-row .written))), l₁₄) ∷ ((sliceTy (tyRef erased mut (pointee (Object-t.the-row .written)))), l₁₅) ∷ ((tyRef erased mut (pointee (u8 .written))), l₁₆) ∷ ((sliceTy (tyRef erased mut (pointee (u8 .written)))), l₁₇) ∷ ((tyRef erased mut (pointee (u8 .written))), l₁₈) ∷ ((sliceTy (tyRef erased mut (pointee (u8 .written)))), l₁₉) ∷ (Input-l.mir, l₂₀) ∷ []
+    En = (Processed-l.mir, l₀) ∷ ((sliceTy (tyRef (named 0) mut (pointee ((Array u64 8) .written)))), l₁) ∷ ((sliceTy (tyRef (named 1) mut (pointee ((Array u16 35) .written)))), l₂) ∷ ((sliceTy (tyRef (named 2) mut (pointee (Object-t.the-row .written)))), l₃) ∷ ((sliceTy (tyRef (named 3) mut (pointee (u8 .written)))), l₄) ∷ ((sliceTy (tyRef (named 4) mut (pointee (u8 .written)))), l₅) ∷ ((sliceTy (tyRef (named 5) mut (pointee (u32 .written)))), l₆) ∷ ((sliceTy (tyRef (named 6) mut (pointee (u8 .written)))), l₇) ∷ ((sliceTy (tyRef (named 7) mut (pointee (u8 .written)))), l₈) ∷ ((sliceTy (tyRef (named 8) imm (pointee (u8 .written)))), l₉) ∷ ((sliceTy (tyRef (named 9) imm (pointee (u8 .written)))), l₁₀) ∷ (Agent-l.mir, l₁₁) ∷ (BridgeAnswer-l.mir, l₁₂) ∷ ((tyRef erased mut (pointee ((Array u64 8) .written))), l₁₃) ∷ ((sliceTy (tyRef erased mut (pointee ((Array u64 8) .written)))), l₁₄) ∷ ((tyRef erased mut (pointee ((Array u16 35) .written))), l₁₅) ∷ ((sliceTy (tyRef erased mut (pointee ((Array u16 35) .written)))), l₁₆) ∷ ((tyRef erased mut (pointee (Object-t.the-row .written))), l₁₇) ∷ ((sliceTy (tyRef erased mut (pointee (Object-t.the-row .written)))), l₁₈) ∷ ((tyRef erased mut (pointee (u8 .written))), l₁₉) ∷ ((sliceTy (tyRef erased mut (pointee (u8 .written)))), l₂₀) ∷ ((tyRef erased mut (pointee (u8 .written))), l₂₁) ∷ ((sliceTy (tyRef erased mut (pointee (u8 .written)))), l₂₂) ∷ ((tyRef erased mut (pointee (u32 .written))), l₂₃) ∷ ((sliceTy (tyRef erased mut (pointee (u32 .written)))), l₂₄) ∷ ((tyRef erased mut (pointee (u8 .written))), l₂₅) ∷ ((sliceTy (tyRef erased mut (pointee (u8 .written)))), l₂₆) ∷ ((tyRef erased mut (pointee (u8 .written))), l₂₇) ∷ ((sliceTy (tyRef erased mut (pointee (u8 .written)))), l₂₈) ∷ (Input-l.mir, l₂₉) ∷ []
 
-    begins : Sq W (‵ (MutSlice (named 0) κ₁ (Array u64 6) .own (at-list b₁ o₁ γ₁ sessions) (sliceVal (b₁, o₁) n₁ ∷ [])) ∷ ‵ (flft κ₁ q₁) ∷ ‵ (MutSlice (named 0) κ₂ (Array u16 35) .own (at-list b₂ o₂ γ₂ streams) (sliceVal (b₂, o₂) n₂ ∷ [])) ∷ ‵ (flft κ₂ q₂) ∷ ‵ (MutSlice (named 0) κ₃ Object-t.the-row .own (at-list b₃ o₃ γ₃ objects) (sliceVal (b₃, o₃) n₃ ∷ [])) ∷ ‵ (flft κ₃ q₃) ∷ ‵ (MutSlice (named 0) κ₄ u8 .own (at-list b₄ o₄ γ₄ held) (sliceVal (b₄, o₄) n₄ ∷ [])) ∷ ‵ (flft κ₄ q₄) ∷ ‵ (MutSlice (named 0) κ₅ u8 .own (at-list b₅ o₅ γ₅ out) (sliceVal (b₅, o₅) n₅ ∷ [])) ∷ ‵ (flft κ₅ q₅) ∷ ‵ (ShrSlice (named 0) κ₆ u8 .own (at-list b₆ o₆ γ₆ datagram) (sliceVal (b₆, o₆) n₆ ∷ [])) ∷ ‵ (flft κ₆ q₆) ∷ ‵ (ShrSlice (named 0) κ₇ u8 .own (at-list b₇ o₇ γ₇ sample) (sliceVal (b₇, o₇) n₇ ∷ [])) ∷ ‵ (flft κ₇ q₇) ∷ free 𝓤 Input-l.mir l₂₀ (free 𝓤 (sliceTy (tyRef erased mut (pointee (u8 .written)))) l₁₉ (free 𝓤 (tyRef erased mut (pointee (u8 .written))) l₁₈ (free 𝓤 (sliceTy (tyRef erased mut (pointee (u8 .written)))) l₁₇ (free 𝓤 (tyRef erased mut (pointee (u8 .written))) l₁₆ (free 𝓤 (sliceTy (tyRef erased mut (pointee (Object-t.the-row .written)))) l₁₅ (free 𝓤 (tyRef erased mut (pointee (Object-t.the-row .written))) l₁₄ (free 𝓤 (sliceTy (tyRef erased mut (pointee ((Array u16 35) .written)))) l₁₃ (free 𝓤 (tyRef erased mut (pointee ((Array u16 35) .written))) l₁₂ (free 𝓤 (sliceTy (tyRef erased mut (pointee ((Array u64 6) .written)))) l₁₁ (free 𝓤 (tyRef erased mut (pointee ((Array u64 6) .written))) l₁₀ (full 𝓤 BridgeAnswer-l.mir l₉ (BridgeAnswer-p .val answer) (full 𝓤 Agent-l.mir l₈ (Agent-p .val agent) (full 𝓤 (sliceTy (tyRef (named 6) imm (pointee (u8 .written)))) l₇ (sliceVal (b₇, o₇) n₇) (full 𝓤 (sliceTy (tyRef (named 5) imm (pointee (u8 .written)))) l₆ (sliceVal (b₆, o₆) n₆) (full 𝓤 (sliceTy (tyRef (named 4) mut (pointee (u8 .written)))) l₅ (sliceVal (b₅, o₅) n₅) (full 𝓤 (sliceTy (tyRef (named 3) mut (pointee (u8 .written)))) l₄ (sliceVal (b₄, o₄) n₄) (full 𝓤 (sliceTy (tyRef (named 2) mut (pointee (Object-t.the-row .written)))) l₃ (sliceVal (b₃, o₃) n₃) (full 𝓤 (sliceTy (tyRef (named 1) mut (pointee ((Array u16 35) .written)))) l₂ (sliceVal (b₂, o₂) n₂) (full 𝓤 (sliceTy (tyRef (named 0) mut (pointee ((Array u64 6) .written)))) l₁ (sliceVal (b₁, o₁) n₁) (free 𝓤 Processed-l.mir l₀ ([])))))))))))))))))))))) (runs C Λ En mir.t-1 (atRet En Post))
+    begins : Sq W (‵ (MutSlice (named 0) κ₁ (Array u64 8) .own (at-list b₁ o₁ γ₁ sessions) (sliceVal (b₁, o₁) n₁ ∷ [])) ∷ ‵ (flft κ₁ q₁) ∷ ‵ (MutSlice (named 0) κ₂ (Array u16 35) .own (at-list b₂ o₂ γ₂ streams) (sliceVal (b₂, o₂) n₂ ∷ [])) ∷ ‵ (flft κ₂ q₂) ∷ ‵ (MutSlice (named 0) κ₃ Object-t.the-row .own (at-list b₃ o₃ γ₃ objects) (sliceVal (b₃, o₃) n₃ ∷ [])) ∷ ‵ (flft κ₃ q₃) ∷ ‵ (MutSlice (named 0) κ₄ u8 .own (at-list b₄ o₄ γ₄ held) (sliceVal (b₄, o₄) n₄ ∷ [])) ∷ ‵ (flft κ₄ q₄) ∷ ‵ (MutSlice (named 0) κ₅ u8 .own (at-list b₅ o₅ γ₅ parts) (sliceVal (b₅, o₅) n₅ ∷ [])) ∷ ‵ (flft κ₅ q₅) ∷ ‵ (MutSlice (named 0) κ₆ u32 .own (at-list b₆ o₆ γ₆ lengths) (sliceVal (b₆, o₆) n₆ ∷ [])) ∷ ‵ (flft κ₆ q₆) ∷ ‵ (MutSlice (named 0) κ₇ u8 .own (at-list b₇ o₇ γ₇ rebuilt) (sliceVal (b₇, o₇) n₇ ∷ [])) ∷ ‵ (flft κ₇ q₇) ∷ ‵ (MutSlice (named 0) κ₈ u8 .own (at-list b₈ o₈ γ₈ out) (sliceVal (b₈, o₈) n₈ ∷ [])) ∷ ‵ (flft κ₈ q₈) ∷ ‵ (ShrSlice (named 0) κ₉ u8 .own (at-list b₉ o₉ γ₉ datagram) (sliceVal (b₉, o₉) n₉ ∷ [])) ∷ ‵ (flft κ₉ q₉) ∷ ‵ (ShrSlice (named 0) κ₁₀ u8 .own (at-list b₁₀ o₁₀ γ₁₀ sample) (sliceVal (b₁₀, o₁₀) n₁₀ ∷ [])) ∷ ‵ (flft κ₁₀ q₁₀) ∷ free 𝓤 Input-l.mir l₂₉ (free 𝓤 (sliceTy (tyRef erased mut (pointee (u8 .written)))) l₂₈ (free 𝓤 (tyRef erased mut (pointee (u8 .written))) l₂₇ (free 𝓤 (sliceTy (tyRef erased mut (pointee (u8 .written)))) l₂₆ (free 𝓤 (tyRef erased mut (pointee (u8 .written))) l₂₅ (free 𝓤 (sliceTy (tyRef erased mut (pointee (u32 .written)))) l₂₄ (free 𝓤 (tyRef erased mut (pointee (u32 .written))) l₂₃ (free 𝓤 (sliceTy (tyRef erased mut (pointee (u8 .written)))) l₂₂ (free 𝓤 (tyRef erased mut (pointee (u8 .written))) l₂₁ (free 𝓤 (sliceTy (tyRef erased mut (pointee (u8 .written)))) l₂₀ (free 𝓤 (tyRef erased mut (pointee (u8 .written))) l₁₉ (free 𝓤 (sliceTy (tyRef erased mut (pointee (Object-t.the-row .written)))) l₁₈ (free 𝓤 (tyRef erased mut (pointee (Object-t.the-row .written))) l₁₇ (free 𝓤 (sliceTy (tyRef erased mut (pointee ((Array u16 35) .written)))) l₁₆ (free 𝓤 (tyRef erased mut (pointee ((Array u16 35) .written))) l₁₅ (free 𝓤 (sliceTy (tyRef erased mut (pointee ((Array u64 8) .written)))) l₁₄ (free 𝓤 (tyRef erased mut (pointee ((Array u64 8) .written))) l₁₃ (full 𝓤 BridgeAnswer-l.mir l₁₂ (BridgeAnswer-p .val answer) (full 𝓤 Agent-l.mir l₁₁ (Agent-p .val agent) (full 𝓤 (sliceTy (tyRef (named 9) imm (pointee (u8 .written)))) l₁₀ (sliceVal (b₁₀, o₁₀) n₁₀) (full 𝓤 (sliceTy (tyRef (named 8) imm (pointee (u8 .written)))) l₉ (sliceVal (b₉, o₉) n₉) (full 𝓤 (sliceTy (tyRef (named 7) mut (pointee (u8 .written)))) l₈ (sliceVal (b₈, o₈) n₈) (full 𝓤 (sliceTy (tyRef (named 6) mut (pointee (u8 .written)))) l₇ (sliceVal (b₇, o₇) n₇) (full 𝓤 (sliceTy (tyRef (named 5) mut (pointee (u32 .written)))) l₆ (sliceVal (b₆, o₆) n₆) (full 𝓤 (sliceTy (tyRef (named 4) mut (pointee (u8 .written)))) l₅ (sliceVal (b₅, o₅) n₅) (full 𝓤 (sliceTy (tyRef (named 3) mut (pointee (u8 .written)))) l₄ (sliceVal (b₄, o₄) n₄) (full 𝓤 (sliceTy (tyRef (named 2) mut (pointee (Object-t.the-row .written)))) l₃ (sliceVal (b₃, o₃) n₃) (full 𝓤 (sliceTy (tyRef (named 1) mut (pointee ((Array u16 35) .written)))) l₂ (sliceVal (b₂, o₂) n₂) (full 𝓤 (sliceTy (tyRef (named 0) mut (pointee ((Array u64 8) .written)))) l₁ (sliceVal (b₁, o₁) n₁) (free 𝓤 Processed-l.mir l₀ ([]))))))))))))))))))))))))))))))) (runs C Λ En mir.t-1 (atRet En Post))
     begins =
-        assigns ! (addr ! (from ! (fld ! refl (hop ! (look-in ! 52 (sub ! 0 refl (whole !))) (stop !))))) (from ! (stop !)) (init ! 34 refl (tt, tt)) $
-        assigns ! (agg ! (and-then ! (load ! (from ! (stop !)) (look ! 34 refl)) (and-then ! (load ! (from ! (fld ! refl (stop !))) (look-in ! 52 (sub ! 1 refl (whole !)))) (no-more !)))) (from ! (stop !)) (init ! 32 refl (tt, (tt, (record { fits = room₁ .0 }, tt)))) $
-        assigns ! (addr ! (from ! (fld ! refl (hop ! (look-in ! 50 (sub ! 0 refl (whole !))) (stop !))))) (from ! (stop !)) (init ! 30 refl (tt, tt)) $
-        assigns ! (agg ! (and-then ! (load ! (from ! (stop !)) (look ! 30 refl)) (and-then ! (load ! (from ! (fld ! refl (stop !))) (look-in ! 50 (sub ! 1 refl (whole !)))) (no-more !)))) (from ! (stop !)) (init ! 28 refl (tt, (tt, (record { fits = room₂ .0 }, tt)))) $
-        assigns ! (addr ! (from ! (fld ! refl (hop ! (look-in ! 48 (sub ! 0 refl (whole !))) (stop !))))) (from ! (stop !)) (init ! 26 refl (tt, tt)) $
-        assigns ! (agg ! (and-then ! (load ! (from ! (stop !)) (look ! 26 refl)) (and-then ! (load ! (from ! (fld ! refl (stop !))) (look-in ! 48 (sub ! 1 refl (whole !)))) (no-more !)))) (from ! (stop !)) (init ! 24 refl (tt, (tt, (record { fits = room₃ .0 }, tt)))) $
-        assigns ! (addr ! (from ! (fld ! refl (hop ! (look-in ! 46 (sub ! 0 refl (whole !))) (stop !))))) (from ! (stop !)) (init ! 22 refl (tt, tt)) $
-        assigns ! (agg ! (and-then ! (load ! (from ! (stop !)) (look ! 22 refl)) (and-then ! (load ! (from ! (fld ! refl (stop !))) (look-in ! 46 (sub ! 1 refl (whole !)))) (no-more !)))) (from ! (stop !)) (init ! 20 refl (tt, (tt, (record { fits = room₄ .0 }, tt)))) $
-        assigns ! (addr ! (from ! (fld ! refl (hop ! (look-in ! 44 (sub ! 0 refl (whole !))) (stop !))))) (from ! (stop !)) (init ! 18 refl (tt, tt)) $
-        assigns ! (agg ! (and-then ! (load ! (from ! (stop !)) (look ! 18 refl)) (and-then ! (load ! (from ! (fld ! refl (stop !))) (look-in ! 44 (sub ! 1 refl (whole !)))) (no-more !)))) (from ! (stop !)) (init ! 16 refl (tt, (tt, (record { fits = room₅ .0 }, tt)))) $
-        assigns ! (agg ! (and-then ! (lit ! tt) (and-then ! (load ! (from ! (stop !)) (look ! 36 refl)) (no-more !)))) (from ! (stop !)) (init ! 14 refl (Input-p .typed 𝓤 H A W (Input-Answer answer) (EL.owes Input-t.the-type Input-l.the-laws (Input-Answer answer) (answer-is, tt)))) $
-        -- 12: agent::process::process
-        lends-mut ! tt (Array u64 6) b₁ o₁ sessions n₁ (refl) (λ ν-12-sessions δ-12-sessions.
+        assigns ! (addr ! (from ! (fld ! refl (hop ! (look-in ! 76 (sub ! 0 refl (whole !))) (stop !))))) (from ! (stop !)) (init ! 52 refl (tt, tt)) $
+        assigns ! (agg ! (and-then ! (load ! (from ! (stop !)) (look ! 52 refl)) (and-then ! (load ! (from ! (fld ! refl (stop !))) (look-in ! 76 (sub ! 1 refl (whole !)))) (no-more !)))) (from ! (stop !)) (init ! 50 refl (tt, (tt, (record { fits = room₁ .0 }, tt)))) $
+        assigns ! (addr ! (from ! (fld ! refl (hop ! (look-in ! 74 (sub ! 0 refl (whole !))) (stop !))))) (from ! (stop !)) (init ! 48 refl (tt, tt)) $
+        assigns ! (agg ! (and-then ! (load ! (from ! (stop !)) (look ! 48 refl)) (and-then ! (load ! (from ! (fld ! refl (stop !))) (look-in ! 74 (sub ! 1 refl (whole !)))) (no-more !)))) (from ! (stop !)) (init ! 46 refl (tt, (tt, (record { fits = room₂ .0 }, tt)))) $
+        assigns ! (addr ! (from ! (fld ! refl (hop ! (look-in ! 72 (sub ! 0 refl (whole !))) (stop !))))) (from ! (stop !)) (init ! 44 refl (tt, tt)) $
+        assigns ! (agg ! (and-then ! (load ! (from ! (stop !)) (look ! 44 refl)) (and-then ! (load ! (from ! (fld ! refl (stop !))) (look-in ! 72 (sub ! 1 refl (whole !)))) (no-more !)))) (from ! (stop !)) (init ! 42 refl (tt, (tt, (record { fits = room₃ .0 }, tt)))) $
+        assigns ! (addr ! (from ! (fld ! refl (hop ! (look-in ! 70 (sub ! 0 refl (whole !))) (stop !))))) (from ! (stop !)) (init ! 40 refl (tt, tt)) $
+        assigns ! (agg ! (and-then ! (load ! (from ! (stop !)) (look ! 40 refl)) (and-then ! (load ! (from ! (fld ! refl (stop !))) (look-in ! 70 (sub ! 1 refl (whole !)))) (no-more !)))) (from ! (stop !)) (init ! 38 refl (tt, (tt, (record { fits = room₄ .0 }, tt)))) $
+        assigns ! (addr ! (from ! (fld ! refl (hop ! (look-in ! 68 (sub ! 0 refl (whole !))) (stop !))))) (from ! (stop !)) (init ! 36 refl (tt, tt)) $
+        assigns ! (agg ! (and-then ! (load ! (from ! (stop !)) (look ! 36 refl)) (and-then ! (load ! (from ! (fld ! refl (stop !))) (look-in ! 68 (sub ! 1 refl (whole !)))) (no-more !)))) (from ! (stop !)) (init ! 34 refl (tt, (tt, (record { fits = room₅ .0 }, tt)))) $
+        assigns ! (addr ! (from ! (fld ! refl (hop ! (look-in ! 66 (sub ! 0 refl (whole !))) (stop !))))) (from ! (stop !)) (init ! 32 refl (tt, tt)) $
+        assigns ! (agg ! (and-then ! (load ! (from ! (stop !)) (look ! 32 refl)) (and-then ! (load ! (from ! (fld ! refl (stop !))) (look-in ! 66 (sub ! 1 refl (whole !)))) (no-more !)))) (from ! (stop !)) (init ! 30 refl (tt, (tt, (record { fits = room₆ .0 }, tt)))) $
+        assigns ! (addr ! (from ! (fld ! refl (hop ! (look-in ! 64 (sub ! 0 refl (whole !))) (stop !))))) (from ! (stop !)) (init ! 28 refl (tt, tt)) $
+        assigns ! (agg ! (and-then ! (load ! (from ! (stop !)) (look ! 28 refl)) (and-then ! (load ! (from ! (fld ! refl (stop !))) (look-in ! 64 (sub ! 1 refl (whole !)))) (no-more !)))) (from ! (stop !)) (init ! 26 refl (tt, (tt, (record { fits = room₇ .0 }, tt)))) $
+        assigns ! (addr ! (from ! (fld ! refl (hop ! (look-in ! 62 (sub ! 0 refl (whole !))) (stop !))))) (from ! (stop !)) (init ! 24 refl (tt, tt)) $
+        assigns ! (agg ! (and-then ! (load ! (from ! (stop !)) (look ! 24 refl)) (and-then ! (load ! (from ! (fld ! refl (stop !))) (look-in ! 62 (sub ! 1 refl (whole !)))) (no-more !)))) (from ! (stop !)) (init ! 22 refl (tt, (tt, (record { fits = room₈ .0 }, tt)))) $
+        assigns ! (agg ! (and-then ! (lit ! tt) (and-then ! (load ! (from ! (stop !)) (look ! 54 refl)) (no-more !)))) (from ! (stop !)) (init ! 20 refl (Input-p .typed 𝓤 H A W (Input-Answer answer) (EL.owes Input-t.the-type Input-l.the-laws (Input-Answer answer) (answer-is, tt)))) $
+        -- 18: agent::process::process
+        lends-mut ! tt (Array u64 8) b₁ o₁ sessions n₁ (refl) (λ ν-18-sessions δ-18-sessions.
         move ! (3 ∷ 4 ∷ []) $
-        lends-mut ! tt (Array u16 35) b₂ o₂ streams n₂ (refl) (λ ν-12-streams δ-12-streams.
+        lends-mut ! tt (Array u16 35) b₂ o₂ streams n₂ (refl) (λ ν-18-streams δ-18-streams.
         move ! (6 ∷ 7 ∷ []) $
-        lends-mut ! tt Object-t.the-row b₃ o₃ objects n₃ (refl) (λ ν-12-objects δ-12-objects.
+        lends-mut ! tt Object-t.the-row b₃ o₃ objects n₃ (refl) (λ ν-18-objects δ-18-objects.
         move ! (9 ∷ 10 ∷ []) $
-        lends-mut ! tt u8 b₄ o₄ held n₄ (refl) (λ ν-12-held δ-12-held.
+        lends-mut ! tt u8 b₄ o₄ held n₄ (refl) (λ ν-18-held δ-18-held.
         move ! (12 ∷ 13 ∷ []) $
-        lends-mut ! tt u8 b₅ o₅ out n₅ (refl) (λ ν-12-out δ-12-out.
+        lends-mut ! tt u8 b₅ o₅ parts n₅ (refl) (λ ν-18-parts δ-18-parts.
         move ! (15 ∷ 16 ∷ []) $
-        copies-shr ! u8 b₆ o₆ datagram n₆ $ move ! (18 ∷ 19 ∷ []) $
-        copies-shr ! u8 b₇ o₇ sample n₇ $ nothing ! $ move ! (1 ∷ 0 ∷ []) $ join ! $ move ! (3 ∷ 0 ∷ []) $ join ! $ move ! (5 ∷ 0 ∷ []) $ join ! $ move ! (7 ∷ 0 ∷ []) $ join ! $ move ! (9 ∷ 0 ∷ []) $ join ! $ move ! (11 ∷ 0 ∷ []) $ join ! $ move ! (13 ∷ 0 ∷ []) $ join ! $
-        use1 W (raw (toks 𝓤 A 7 (((ν-12-sessions ∷ []), ((ν-12-streams ∷ []), ((ν-12-objects ∷ []), ((ν-12-held ∷ []), ((ν-12-out ∷ []), (κ₆, (κ₇, tt)))))))) ((fullShare, (fullShare, (fullShare, (fullShare, (fullShare, (q₆, (q₇, tt)))))))))) (id⊢ 𝓤 _) $ nothing ! $
+        lends-mut ! tt u32 b₆ o₆ lengths n₆ (refl) (λ ν-18-lengths δ-18-lengths.
+        move ! (18 ∷ 19 ∷ []) $
+        lends-mut ! tt u8 b₇ o₇ rebuilt n₇ (refl) (λ ν-18-rebuilt δ-18-rebuilt.
+        move ! (21 ∷ 22 ∷ []) $
+        lends-mut ! tt u8 b₈ o₈ out n₈ (refl) (λ ν-18-out δ-18-out.
+        move ! (24 ∷ 25 ∷ []) $
+        copies-shr ! u8 b₉ o₉ datagram n₉ $ move ! (27 ∷ 28 ∷ []) $
+        copies-shr ! u8 b₁₀ o₁₀ sample n₁₀ $ nothing ! $ move ! (1 ∷ 0 ∷ []) $ join ! $ move ! (3 ∷ 0 ∷ []) $ join ! $ move ! (5 ∷ 0 ∷ []) $ join ! $ move ! (7 ∷ 0 ∷ []) $ join ! $ move ! (9 ∷ 0 ∷ []) $ join ! $ move ! (11 ∷ 0 ∷ []) $ join ! $ move ! (13 ∷ 0 ∷ []) $ join ! $ move ! (15 ∷ 0 ∷ []) $ join ! $ move ! (17 ∷ 0 ∷ []) $ join ! $ move ! (19 ∷ 0 ∷ []) $ join ! $
+        use1 W (raw (toks 𝓤 A 10 (((ν-18-sessions ∷ []), ((ν-18-streams ∷ []), ((ν-18-objects ∷ []), ((ν-18-held ∷ []), ((ν-18-parts ∷ []), ((ν-18-lengths ∷ []), ((ν-18-rebuilt ∷ []), ((ν-18-out ∷ []), (κ₉, (κ₁₀, tt))))))))))) ((fullShare, (fullShare, (fullShare, (fullShare, (fullShare, (fullShare, (fullShare, (fullShare, (q₉, (q₁₀, tt))))))))))))) (id⊢ 𝓤 _) $ nothing ! $
         owned ! (Input-p .row) (Is (Input-p .row)) (Input-p .makes 𝓤 H A W) (Input-Answer answer) (Input-p .val (Input-Answer answer) ∷ []) (EL.owes Input-t.the-type Input-l.the-laws (Input-Answer answer) (answer-is, tt)) $ fjoin ! $
-        owned ! (Agent-p .row) (Is (Agent-p .row)) (Agent-p .makes 𝓤 H A W) agent (Agent-p .val agent ∷ []) agent-is $ fjoin ! $ move ! (2 ∷ 0 ∷ []) $ fjoin ! $ move ! (3 ∷ 0 ∷ []) $ fjoin ! $ move ! (4 ∷ 0 ∷ []) $ fjoin ! $ move ! (5 ∷ 0 ∷ []) $ fjoin ! $ move ! (6 ∷ 0 ∷ []) $ fjoin ! $ move ! (7 ∷ 0 ∷ []) $ fjoin ! $ move ! (8 ∷ 0 ∷ []) $ fjoin ! $ move ! (1 ∷ 0 ∷ []) $
-        calls-any ! fm 7 [] (process-process.signature .params) (process-process.ended .kept) Processed-p (process-process.clauses 𝓤 H A mem run) known-process-process ((ν-12-sessions ∷ []), ((ν-12-streams ∷ []), ((ν-12-objects ∷ []), ((ν-12-held ∷ []), ((ν-12-out ∷ []), (κ₆, (κ₇, tt))))))) (fullShare, (fullShare, (fullShare, (fullShare, (fullShare, (q₆, (q₇, tt))))))) tt (at-list b₁ o₁ δ-12-sessions sessions, (at-list b₂ o₂ δ-12-streams streams, (at-list b₃ o₃ δ-12-objects objects, (at-list b₄ o₄ δ-12-held held, (at-list b₅ o₅ δ-12-out out, (at-list b₆ o₆ γ₆ datagram, (at-list b₇ o₇ γ₇ sample, (agent, (Input-Answer answer, tt))))))))) (sliceVal (b₁, o₁) n₁ ∷ [], (sliceVal (b₂, o₂) n₂ ∷ [], (sliceVal (b₃, o₃) n₃ ∷ [], (sliceVal (b₄, o₄) n₄ ∷ [], (sliceVal (b₅, o₅) n₅ ∷ [], (sliceVal (b₆, o₆) n₆ ∷ [], (sliceVal (b₇, o₇) n₇ ∷ [], (Agent-p .val agent ∷ [], (Input-p .val (Input-Answer answer) ∷ [], tt))))))))) tt (processOf agent (lent (sessions) (streams) (objects) (held)) (out) (datagram) (sample) (Input-Answer answer) .processed) (λ ws-12. (ws-12 .0 ≡ processOf agent (lent (sessions) (streams) (objects) (held)) (out) (datagram) (sample) (Input-Answer answer) .tables .sessions) × (ws-12 .1 .0 ≡ processOf agent (lent (sessions) (streams) (objects) (held)) (out) (datagram) (sample) (Input-Answer answer) .tables .streams) × (ws-12 .1 .1 .0 ≡ processOf agent (lent (sessions) (streams) (objects) (held)) (out) (datagram) (sample) (Input-Answer answer) .tables .objects) × (ws-12 .1 .1 .1 .0 ≡ processOf agent (lent (sessions) (streams) (objects) (held)) (out) (datagram) (sample) (Input-Answer answer) .tables .held) × (ws-12 .1 .1 .1 .1 .0 ≡ processOf agent (lent (sessions) (streams) (objects) (held)) (out) (datagram) (sample) (Input-Answer answer) .out)) (id⊢ 𝓤 _) (λ r ws-12. fact-mono 𝓤 ((r ≡ processOf agent (lent (sessions) (streams) (objects) (held)) (out) (datagram) (sample) (Input-Answer answer) .processed) × ((ws-12 .0) ≡ processOf agent (lent (sessions) (streams) (objects) (held)) (out) (datagram) (sample) (Input-Answer answer) .tables .sessions) × ((ws-12 .1 .0) ≡ processOf agent (lent (sessions) (streams) (objects) (held)) (out) (datagram) (sample) (Input-Answer answer) .tables .streams) × ((ws-12 .1 .1 .0) ≡ processOf agent (lent (sessions) (streams) (objects) (held)) (out) (datagram) (sample) (Input-Answer answer) .tables .objects) × ((ws-12 .1 .1 .1 .0) ≡ processOf agent (lent (sessions) (streams) (objects) (held)) (out) (datagram) (sample) (Input-Answer answer) .tables .held) × ((ws-12 .1 .1 .1 .1 .0) ≡ processOf agent (lent (sessions) (streams) (objects) (held)) (out) (datagram) (sample) (Input-Answer answer) .out)) ((r ≡ (processOf agent (lent (sessions) (streams) (objects) (held)) (out) (datagram) (sample) (Input-Answer answer) .processed)) × ((ws-12 .0 ≡ processOf agent (lent (sessions) (streams) (objects) (held)) (out) (datagram) (sample) (Input-Answer answer) .tables .sessions) × (ws-12 .1 .0 ≡ processOf agent (lent (sessions) (streams) (objects) (held)) (out) (datagram) (sample) (Input-Answer answer) .tables .streams) × (ws-12 .1 .1 .0 ≡ processOf agent (lent (sessions) (streams) (objects) (held)) (out) (datagram) (sample) (Input-Answer answer) .tables .objects) × (ws-12 .1 .1 .1 .0 ≡ processOf agent (lent (sessions) (streams) (objects) (held)) (out) (datagram) (sample) (Input-Answer answer) .tables .held) × (ws-12 .1 .1 .1 .1 .0 ≡ processOf agent (lent (sessions) (streams) (objects) (held)) (out) (datagram) (sample) (Input-Answer answer) .out))) (λ e. (e .0, (e .1, e .2, e .3, e .4, e .5)))) (λ _. (and-then ! (load ! (from ! (stop !)) (look ! 26 refl)) (and-then ! (load ! (from ! (stop !)) (look ! 22 refl)) (and-then ! (load ! (from ! (stop !)) (look ! 18 refl)) (and-then ! (load ! (from ! (stop !)) (look ! 14 refl)) (and-then ! (load ! (from ! (stop !)) (look ! 10 refl)) (and-then ! (load ! (from ! (stop !)) (look ! 36 refl)) (and-then ! (load ! (from ! (stop !)) (look ! 34 refl)) (and-then ! (load ! (from ! (stop !)) (look ! 32 refl)) (and-then ! (load ! (from ! (stop !)) (look ! 8 refl)) (no-more !))))))))))) (λ ws-12 said-12 is-12.
-        use1 W ((‵ (flft (ν-12-sessions ∷ []) fullShare) ⊛ (‵ (flft (ν-12-streams ∷ []) fullShare) ⊛ (‵ (flft (ν-12-objects ∷ []) fullShare) ⊛ (‵ (flft (ν-12-held ∷ []) fullShare) ⊛ (‵ (flft (ν-12-out ∷ []) fullShare) ⊛ (‵ (flft κ₆ q₆) ⊛ (‵ (flft κ₇ q₇) ⊛ ‵ ftrue)))))))) (id⊢ 𝓤 _) $ split ! $ move ! (1 ∷ []) $ split ! $ move ! (1 ∷ []) $ split ! $ move ! (1 ∷ []) $ split ! $ move ! (1 ∷ []) $ split ! $ move ! (1 ∷ []) $ split ! $ move ! (1 ∷ []) $ split ! $ move ! (8 ∷ []) $ fsplit ! $ fsplit ! $ move ! (1 ∷ []) $
-        feqL ! (λ wlen-12-0.
+        owned ! (Agent-p .row) (Is (Agent-p .row)) (Agent-p .makes 𝓤 H A W) agent (Agent-p .val agent ∷ []) agent-is $ fjoin ! $ move ! (2 ∷ 0 ∷ []) $ fjoin ! $ move ! (3 ∷ 0 ∷ []) $ fjoin ! $ move ! (4 ∷ 0 ∷ []) $ fjoin ! $ move ! (5 ∷ 0 ∷ []) $ fjoin ! $ move ! (6 ∷ 0 ∷ []) $ fjoin ! $ move ! (7 ∷ 0 ∷ []) $ fjoin ! $ move ! (8 ∷ 0 ∷ []) $ fjoin ! $ move ! (9 ∷ 0 ∷ []) $ fjoin ! $ move ! (10 ∷ 0 ∷ []) $ fjoin ! $ move ! (11 ∷ 0 ∷ []) $ fjoin ! $ move ! (1 ∷ 0 ∷ []) $
+        calls-any ! fm 10 [] (process-process.signature .params) (process-process.ended .kept) Processed-p (process-process.clauses 𝓤 H A mem run) known-process-process ((ν-18-sessions ∷ []), ((ν-18-streams ∷ []), ((ν-18-objects ∷ []), ((ν-18-held ∷ []), ((ν-18-parts ∷ []), ((ν-18-lengths ∷ []), ((ν-18-rebuilt ∷ []), ((ν-18-out ∷ []), (κ₉, (κ₁₀, tt)))))))))) (fullShare, (fullShare, (fullShare, (fullShare, (fullShare, (fullShare, (fullShare, (fullShare, (q₉, (q₁₀, tt)))))))))) tt (at-list b₁ o₁ δ-18-sessions sessions, (at-list b₂ o₂ δ-18-streams streams, (at-list b₃ o₃ δ-18-objects objects, (at-list b₄ o₄ δ-18-held held, (at-list b₅ o₅ δ-18-parts parts, (at-list b₆ o₆ δ-18-lengths lengths, (at-list b₇ o₇ δ-18-rebuilt rebuilt, (at-list b₈ o₈ δ-18-out out, (at-list b₉ o₉ γ₉ datagram, (at-list b₁₀ o₁₀ γ₁₀ sample, (agent, (Input-Answer answer, tt)))))))))))) (sliceVal (b₁, o₁) n₁ ∷ [], (sliceVal (b₂, o₂) n₂ ∷ [], (sliceVal (b₃, o₃) n₃ ∷ [], (sliceVal (b₄, o₄) n₄ ∷ [], (sliceVal (b₅, o₅) n₅ ∷ [], (sliceVal (b₆, o₆) n₆ ∷ [], (sliceVal (b₇, o₇) n₇ ∷ [], (sliceVal (b₈, o₈) n₈ ∷ [], (sliceVal (b₉, o₉) n₉ ∷ [], (sliceVal (b₁₀, o₁₀) n₁₀ ∷ [], (Agent-p .val agent ∷ [], (Input-p .val (Input-Answer answer) ∷ [], tt)))))))))))) tt (processOf agent (lent (sessions) (streams) (objects) (held) (parts) (lengths) (rebuilt)) (out) (datagram) (sample) (Input-Answer answer) .processed) (λ ws-18. (ws-18 .0 ≡ processOf agent (lent (sessions) (streams) (objects) (held) (parts) (lengths) (rebuilt)) (out) (datagram) (sample) (Input-Answer answer) .tables .sessions) × (ws-18 .1 .0 ≡ processOf agent (lent (sessions) (streams) (objects) (held) (parts) (lengths) (rebuilt)) (out) (datagram) (sample) (Input-Answer answer) .tables .streams) × (ws-18 .1 .1 .0 ≡ processOf agent (lent (sessions) (streams) (objects) (held) (parts) (lengths) (rebuilt)) (out) (datagram) (sample) (Input-Answer answer) .tables .objects) × (ws-18 .1 .1 .1 .0 ≡ processOf agent (lent (sessions) (streams) (objects) (held) (parts) (lengths) (rebuilt)) (out) (datagram) (sample) (Input-Answer answer) .tables .held) × (ws-18 .1 .1 .1 .1 .0 ≡ processOf agent (lent (sessions) (streams) (objects) (held) (parts) (lengths) (rebuilt)) (out) (datagram) (sample) (Input-Answer answer) .tables .parts) × (ws-18 .1 .1 .1 .1 .1 .0 ≡ processOf agent (lent (sessions) (streams) (objects) (held) (parts) (lengths) (rebuilt)) (out) (datagram) (sample) (Input-Answer answer) .tables .lengths) × (ws-18 .1 .1 .1 .1 .1 .1 .0 ≡ processOf agent (lent (sessions) (streams) (objects) (held) (parts) (lengths) (rebuilt)) (out) (datagram) (sample) (Input-Answer answer) .tables .rebuilt) × (ws-18 .1 .1 .1 .1 .1 .1 .1 .0 ≡ processOf agent (lent (sessions) (streams) (objects) (held) (parts) (lengths) (rebuilt)) (out) (datagram) (sample) (Input-Answer answer) .out)) (id⊢ 𝓤 _) (λ r ws-18. fact-mono 𝓤 ((r ≡ processOf agent (lent (sessions) (streams) (objects) (held) (parts) (lengths) (rebuilt)) (out) (datagram) (sample) (Input-Answer answer) .processed) × ((ws-18 .0) ≡ processOf agent (lent (sessions) (streams) (objects) (held) (parts) (lengths) (rebuilt)) (out) (datagram) (sample) (Input-Answer answer) .tables .sessions) × ((ws-18 .1 .0) ≡ processOf agent (lent (sessions) (streams) (objects) (held) (parts) (lengths) (rebuilt)) (out) (datagram) (sample) (Input-Answer answer) .tables .streams) × ((ws-18 .1 .1 .0) ≡ processOf agent (lent (sessions) (streams) (objects) (held) (parts) (lengths) (rebuilt)) (out) (datagram) (sample) (Input-Answer answer) .tables .objects) × ((ws-18 .1 .1 .1 .0) ≡ processOf agent (lent (sessions) (streams) (objects) (held) (parts) (lengths) (rebuilt)) (out) (datagram) (sample) (Input-Answer answer) .tables .held) × ((ws-18 .1 .1 .1 .1 .0) ≡ processOf agent (lent (sessions) (streams) (objects) (held) (parts) (lengths) (rebuilt)) (out) (datagram) (sample) (Input-Answer answer) .tables .parts) × ((ws-18 .1 .1 .1 .1 .1 .0) ≡ processOf agent (lent (sessions) (streams) (objects) (held) (parts) (lengths) (rebuilt)) (out) (datagram) (sample) (Input-Answer answer) .tables .lengths) × ((ws-18 .1 .1 .1 .1 .1 .1 .0) ≡ processOf agent (lent (sessions) (streams) (objects) (held) (parts) (lengths) (rebuilt)) (out) (datagram) (sample) (Input-Answer answer) .tables .rebuilt) × ((ws-18 .1 .1 .1 .1 .1 .1 .1 .0) ≡ processOf agent (lent (sessions) (streams) (objects) (held) (parts) (lengths) (rebuilt)) (out) (datagram) (sample) (Input-Answer answer) .out)) ((r ≡ (processOf agent (lent (sessions) (streams) (objects) (held) (parts) (lengths) (rebuilt)) (out) (datagram) (sample) (Input-Answer answer) .processed)) × ((ws-18 .0 ≡ processOf agent (lent (sessions) (streams) (objects) (held) (parts) (lengths) (rebuilt)) (out) (datagram) (sample) (Input-Answer answer) .tables .sessions) × (ws-18 .1 .0 ≡ processOf agent (lent (sessions) (streams) (objects) (held) (parts) (lengths) (rebuilt)) (out) (datagram) (sample) (Input-Answer answer) .tables .streams) × (ws-18 .1 .1 .0 ≡ processOf agent (lent (sessions) (streams) (objects) (held) (parts) (lengths) (rebuilt)) (out) (datagram) (sample) (Input-Answer answer) .tables .objects) × (ws-18 .1 .1 .1 .0 ≡ processOf agent (lent (sessions) (streams) (objects) (held) (parts) (lengths) (rebuilt)) (out) (datagram) (sample) (Input-Answer answer) .tables .held) × (ws-18 .1 .1 .1 .1 .0 ≡ processOf agent (lent (sessions) (streams) (objects) (held) (parts) (lengths) (rebuilt)) (out) (datagram) (sample) (Input-Answer answer) .tables .parts) × (ws-18 .1 .1 .1 .1 .1 .0 ≡ processOf agent (lent (sessions) (streams) (objects) (held) (parts) (lengths) (rebuilt)) (out) (datagram) (sample) (Input-Answer answer) .tables .lengths) × (ws-18 .1 .1 .1 .1 .1 .1 .0 ≡ processOf agent (lent (sessions) (streams) (objects) (held) (parts) (lengths) (rebuilt)) (out) (datagram) (sample) (Input-Answer answer) .tables .rebuilt) × (ws-18 .1 .1 .1 .1 .1 .1 .1 .0 ≡ processOf agent (lent (sessions) (streams) (objects) (held) (parts) (lengths) (rebuilt)) (out) (datagram) (sample) (Input-Answer answer) .out))) (λ e. (e .0, (e .1, e .2, e .3, e .4, e .5, e .6, e .7, e .8)))) (λ _. (and-then ! (load ! (from ! (stop !)) (look ! 41 refl)) (and-then ! (load ! (from ! (stop !)) (look ! 37 refl)) (and-then ! (load ! (from ! (stop !)) (look ! 33 refl)) (and-then ! (load ! (from ! (stop !)) (look ! 29 refl)) (and-then ! (load ! (from ! (stop !)) (look ! 25 refl)) (and-then ! (load ! (from ! (stop !)) (look ! 21 refl)) (and-then ! (load ! (from ! (stop !)) (look ! 17 refl)) (and-then ! (load ! (from ! (stop !)) (look ! 13 refl)) (and-then ! (load ! (from ! (stop !)) (look ! 51 refl)) (and-then ! (load ! (from ! (stop !)) (look ! 49 refl)) (and-then ! (load ! (from ! (stop !)) (look ! 47 refl)) (and-then ! (load ! (from ! (stop !)) (look ! 11 refl)) (no-more !)))))))))))))) (λ ws-18 said-18 is-18.
+        use1 W ((‵ (flft (ν-18-sessions ∷ []) fullShare) ⊛ (‵ (flft (ν-18-streams ∷ []) fullShare) ⊛ (‵ (flft (ν-18-objects ∷ []) fullShare) ⊛ (‵ (flft (ν-18-held ∷ []) fullShare) ⊛ (‵ (flft (ν-18-parts ∷ []) fullShare) ⊛ (‵ (flft (ν-18-lengths ∷ []) fullShare) ⊛ (‵ (flft (ν-18-rebuilt ∷ []) fullShare) ⊛ (‵ (flft (ν-18-out ∷ []) fullShare) ⊛ (‵ (flft κ₉ q₉) ⊛ (‵ (flft κ₁₀ q₁₀) ⊛ ‵ ftrue))))))))))) (id⊢ 𝓤 _) $ split ! $ move ! (1 ∷ []) $ split ! $ move ! (1 ∷ []) $ split ! $ move ! (1 ∷ []) $ split ! $ move ! (1 ∷ []) $ split ! $ move ! (1 ∷ []) $ split ! $ move ! (1 ∷ []) $ split ! $ move ! (1 ∷ []) $ split ! $ move ! (1 ∷ []) $ split ! $ move ! (1 ∷ []) $ split ! $ move ! (11 ∷ []) $ fsplit ! $ fsplit ! $ move ! (1 ∷ []) $
+        feqL ! (λ wlen-18-0.
         move ! (1 ∷ []) $ fsplit ! $ fsplit ! $ move ! (1 ∷ []) $
-        feqL ! (λ wlen-12-1.
+        feqL ! (λ wlen-18-1.
         move ! (1 ∷ []) $ fsplit ! $ fsplit ! $ move ! (1 ∷ []) $
-        feqL ! (λ wlen-12-2.
+        feqL ! (λ wlen-18-2.
         move ! (1 ∷ []) $ fsplit ! $ fsplit ! $ move ! (1 ∷ []) $
-        feqL ! (λ wlen-12-3.
+        feqL ! (λ wlen-18-3.
         move ! (1 ∷ []) $ fsplit ! $ fsplit ! $ move ! (1 ∷ []) $
-        feqL ! (λ wlen-12-4.
-        move ! (1 ∷ []) $ fsplit ! $ move ! (1 ∷ []) $ fsplit ! $ move ! (15 ∷ 22 ∷ 7 ∷ []) $
-        backs-mut ! tt (Array u64 6) b₁ o₁ sessions n₁ (refl) room₁ ν-12-sessions δ-12-sessions (ws-12 .0) (processOf agent (lent (sessions) (streams) (objects) (held)) (out) (datagram) (sample) (Input-Answer answer) .tables .sessions) wlen-12-0 (said-12 .0) (λ len-12-sessions.
-        move ! (15 ∷ 21 ∷ 8 ∷ []) $
-        backs-mut ! tt (Array u16 35) b₂ o₂ streams n₂ (refl) room₂ ν-12-streams δ-12-streams (ws-12 .1 .0) (processOf agent (lent (sessions) (streams) (objects) (held)) (out) (datagram) (sample) (Input-Answer answer) .tables .streams) wlen-12-1 (said-12 .1) (λ len-12-streams.
-        move ! (15 ∷ 20 ∷ 9 ∷ []) $
-        backs-mut ! tt Object-t.the-row b₃ o₃ objects n₃ (refl) room₃ ν-12-objects δ-12-objects (ws-12 .1 .1 .0) (processOf agent (lent (sessions) (streams) (objects) (held)) (out) (datagram) (sample) (Input-Answer answer) .tables .objects) wlen-12-2 (said-12 .2) (λ len-12-objects.
-        move ! (15 ∷ 19 ∷ 10 ∷ []) $
-        backs-mut ! tt u8 b₄ o₄ held n₄ (refl) room₄ ν-12-held δ-12-held (ws-12 .1 .1 .1 .0) (processOf agent (lent (sessions) (streams) (objects) (held)) (out) (datagram) (sample) (Input-Answer answer) .tables .held) wlen-12-3 (said-12 .3) (λ len-12-held.
-        move ! (15 ∷ 18 ∷ 11 ∷ []) $
-        backs-mut ! tt u8 b₅ o₅ out n₅ (refl) room₅ ν-12-out δ-12-out (ws-12 .1 .1 .1 .1 .0) (processOf agent (lent (sessions) (streams) (objects) (held)) (out) (datagram) (sample) (Input-Answer answer) .out) wlen-12-4 (said-12 .4) (λ len-12-out.
-        move ! (10 ∷ []) $ drop ! $ move ! (10 ∷ []) $ drop ! $ move ! (10 ∷ []) $ drop ! $ move ! (11 ∷ []) $ drop ! $
-        land ! (from ! (stop !)) (init ! 54 refl (Processed-p .typed 𝓤 H A W (processOf agent (lent (sessions) (streams) (objects) (held)) (out) (datagram) (sample) (Input-Answer answer) .processed) is-12)) $
-        returns ! (look ! 54 refl) $ forget ! 14 refl $ forget ! 16 refl $ forget ! 18 refl $ forget ! 20 refl $ forget ! 22 refl $ forget ! 24 refl $ forget ! 26 refl $ forget ! 28 refl $ forget ! 30 refl $ forget ! 32 refl $ forget ! 34 refl $ forget ! 36 refl $ forget ! 38 refl $ forget ! 40 refl $ forget ! 42 refl $ forget ! 44 refl $ forget ! 46 refl $ forget ! 48 refl $ forget ! 50 refl $ forget ! 52 refl $ forget ! 54 refl $ move ! (54 ∷ 55 ∷ []) $ free1 ! $ move ! (52 ∷ 53 ∷ []) $ free1 ! $ move ! (50 ∷ 51 ∷ []) $ free1 ! $ move ! (48 ∷ 49 ∷ []) $ free1 ! $ move ! (46 ∷ 47 ∷ []) $ free1 ! $ move ! (44 ∷ 45 ∷ []) $ free1 ! $ move ! (42 ∷ 43 ∷ []) $ free1 ! $ move ! (40 ∷ 41 ∷ []) $ free1 ! $ move ! (38 ∷ 39 ∷ []) $ free1 ! $ move ! (36 ∷ 37 ∷ []) $ free1 ! $ move ! (34 ∷ 35 ∷ []) $ free1 ! $ move ! (32 ∷ 33 ∷ []) $ free1 ! $ move ! (30 ∷ 31 ∷ []) $ free1 ! $ move ! (28 ∷ 29 ∷ []) $ free1 ! $ move ! (26 ∷ 27 ∷ []) $ free1 ! $ move ! (24 ∷ 25 ∷ []) $ free1 ! $ move ! (22 ∷ 23 ∷ []) $ free1 ! $ move ! (20 ∷ 21 ∷ []) $ free1 ! $ move ! (18 ∷ 19 ∷ []) $ free1 ! $ move ! (16 ∷ 17 ∷ []) $ free1 ! $ move ! (14 ∷ 15 ∷ []) $ free1 ! $ free0 ! $ move ! (8 ∷ 9 ∷ 6 ∷ 7 ∷ 4 ∷ 5 ∷ 2 ∷ 3 ∷ 0 ∷ 1 ∷ 13 ∷ 11 ∷ 12 ∷ 10 ∷ []) $
-        by ! (exits (processOf agent (lent (sessions) (streams) (objects) (held)) (out) (datagram) (sample) (Input-Answer answer) .processed) (processOf agent (lent (sessions) (streams) (objects) (held)) (out) (datagram) (sample) (Input-Answer answer) .tables .sessions) (processOf agent (lent (sessions) (streams) (objects) (held)) (out) (datagram) (sample) (Input-Answer answer) .tables .streams) (processOf agent (lent (sessions) (streams) (objects) (held)) (out) (datagram) (sample) (Input-Answer answer) .tables .objects) (processOf agent (lent (sessions) (streams) (objects) (held)) (out) (datagram) (sample) (Input-Answer answer) .tables .held) (processOf agent (lent (sessions) (streams) (objects) (held)) (out) (datagram) (sample) (Input-Answer answer) .out) ((refl, refl, refl, refl, refl, refl)) is-12 len-12-sessions len-12-streams len-12-objects len-12-held len-12-out)))))))))))))))))
+        feqL ! (λ wlen-18-4.
+        move ! (1 ∷ []) $ fsplit ! $ fsplit ! $ move ! (1 ∷ []) $
+        feqL ! (λ wlen-18-5.
+        move ! (1 ∷ []) $ fsplit ! $ fsplit ! $ move ! (1 ∷ []) $
+        feqL ! (λ wlen-18-6.
+        move ! (1 ∷ []) $ fsplit ! $ fsplit ! $ move ! (1 ∷ []) $
+        feqL ! (λ wlen-18-7.
+        move ! (1 ∷ []) $ fsplit ! $ move ! (1 ∷ []) $ fsplit ! $ move ! (21 ∷ 31 ∷ 10 ∷ []) $
+        backs-mut ! tt (Array u64 8) b₁ o₁ sessions n₁ (refl) room₁ ν-18-sessions δ-18-sessions (ws-18 .0) (processOf agent (lent (sessions) (streams) (objects) (held) (parts) (lengths) (rebuilt)) (out) (datagram) (sample) (Input-Answer answer) .tables .sessions) wlen-18-0 (said-18 .0) (λ len-18-sessions.
+        move ! (21 ∷ 30 ∷ 11 ∷ []) $
+        backs-mut ! tt (Array u16 35) b₂ o₂ streams n₂ (refl) room₂ ν-18-streams δ-18-streams (ws-18 .1 .0) (processOf agent (lent (sessions) (streams) (objects) (held) (parts) (lengths) (rebuilt)) (out) (datagram) (sample) (Input-Answer answer) .tables .streams) wlen-18-1 (said-18 .1) (λ len-18-streams.
+        move ! (21 ∷ 29 ∷ 12 ∷ []) $
+        backs-mut ! tt Object-t.the-row b₃ o₃ objects n₃ (refl) room₃ ν-18-objects δ-18-objects (ws-18 .1 .1 .0) (processOf agent (lent (sessions) (streams) (objects) (held) (parts) (lengths) (rebuilt)) (out) (datagram) (sample) (Input-Answer answer) .tables .objects) wlen-18-2 (said-18 .2) (λ len-18-objects.
+        move ! (21 ∷ 28 ∷ 13 ∷ []) $
+        backs-mut ! tt u8 b₄ o₄ held n₄ (refl) room₄ ν-18-held δ-18-held (ws-18 .1 .1 .1 .0) (processOf agent (lent (sessions) (streams) (objects) (held) (parts) (lengths) (rebuilt)) (out) (datagram) (sample) (Input-Answer answer) .tables .held) wlen-18-3 (said-18 .3) (λ len-18-held.
+        move ! (21 ∷ 27 ∷ 14 ∷ []) $
+        backs-mut ! tt u8 b₅ o₅ parts n₅ (refl) room₅ ν-18-parts δ-18-parts (ws-18 .1 .1 .1 .1 .0) (processOf agent (lent (sessions) (streams) (objects) (held) (parts) (lengths) (rebuilt)) (out) (datagram) (sample) (Input-Answer answer) .tables .parts) wlen-18-4 (said-18 .4) (λ len-18-parts.
+        move ! (21 ∷ 26 ∷ 15 ∷ []) $
+        backs-mut ! tt u32 b₆ o₆ lengths n₆ (refl) room₆ ν-18-lengths δ-18-lengths (ws-18 .1 .1 .1 .1 .1 .0) (processOf agent (lent (sessions) (streams) (objects) (held) (parts) (lengths) (rebuilt)) (out) (datagram) (sample) (Input-Answer answer) .tables .lengths) wlen-18-5 (said-18 .5) (λ len-18-lengths.
+        move ! (21 ∷ 25 ∷ 16 ∷ []) $
+        backs-mut ! tt u8 b₇ o₇ rebuilt n₇ (refl) room₇ ν-18-rebuilt δ-18-rebuilt (ws-18 .1 .1 .1 .1 .1 .1 .0) (processOf agent (lent (sessions) (streams) (objects) (held) (parts) (lengths) (rebuilt)) (out) (datagram) (sample) (Input-Answer answer) .tables .rebuilt) wlen-18-6 (said-18 .6) (λ len-18-rebuilt.
+        move ! (21 ∷ 24 ∷ 17 ∷ []) $
+        backs-mut ! tt u8 b₈ o₈ out n₈ (refl) room₈ ν-18-out δ-18-out (ws-18 .1 .1 .1 .1 .1 .1 .1 .0) (processOf agent (lent (sessions) (streams) (objects) (held) (parts) (lengths) (rebuilt)) (out) (datagram) (sample) (Input-Answer answer) .out) wlen-18-7 (said-18 .7) (λ len-18-out.
+        move ! (16 ∷ []) $ drop ! $ move ! (16 ∷ []) $ drop ! $ move ! (16 ∷ []) $ drop ! $ move ! (17 ∷ []) $ drop ! $
+        land ! (from ! (stop !)) (init ! 78 refl (Processed-p .typed 𝓤 H A W (processOf agent (lent (sessions) (streams) (objects) (held) (parts) (lengths) (rebuilt)) (out) (datagram) (sample) (Input-Answer answer) .processed) is-18)) $
+        returns ! (look ! 78 refl) $ forget ! 20 refl $ forget ! 22 refl $ forget ! 24 refl $ forget ! 26 refl $ forget ! 28 refl $ forget ! 30 refl $ forget ! 32 refl $ forget ! 34 refl $ forget ! 36 refl $ forget ! 38 refl $ forget ! 40 refl $ forget ! 42 refl $ forget ! 44 refl $ forget ! 46 refl $ forget ! 48 refl $ forget ! 50 refl $ forget ! 52 refl $ forget ! 54 refl $ forget ! 56 refl $ forget ! 58 refl $ forget ! 60 refl $ forget ! 62 refl $ forget ! 64 refl $ forget ! 66 refl $ forget ! 68 refl $ forget ! 70 refl $ forget ! 72 refl $ forget ! 74 refl $ forget ! 76 refl $ forget ! 78 refl $ move ! (78 ∷ 79 ∷ []) $ free1 ! $ move ! (76 ∷ 77 ∷ []) $ free1 ! $ move ! (74 ∷ 75 ∷ []) $ free1 ! $ move ! (72 ∷ 73 ∷ []) $ free1 ! $ move ! (70 ∷ 71 ∷ []) $ free1 ! $ move ! (68 ∷ 69 ∷ []) $ free1 ! $ move ! (66 ∷ 67 ∷ []) $ free1 ! $ move ! (64 ∷ 65 ∷ []) $ free1 ! $ move ! (62 ∷ 63 ∷ []) $ free1 ! $ move ! (60 ∷ 61 ∷ []) $ free1 ! $ move ! (58 ∷ 59 ∷ []) $ free1 ! $ move ! (56 ∷ 57 ∷ []) $ free1 ! $ move ! (54 ∷ 55 ∷ []) $ free1 ! $ move ! (52 ∷ 53 ∷ []) $ free1 ! $ move ! (50 ∷ 51 ∷ []) $ free1 ! $ move ! (48 ∷ 49 ∷ []) $ free1 ! $ move ! (46 ∷ 47 ∷ []) $ free1 ! $ move ! (44 ∷ 45 ∷ []) $ free1 ! $ move ! (42 ∷ 43 ∷ []) $ free1 ! $ move ! (40 ∷ 41 ∷ []) $ free1 ! $ move ! (38 ∷ 39 ∷ []) $ free1 ! $ move ! (36 ∷ 37 ∷ []) $ free1 ! $ move ! (34 ∷ 35 ∷ []) $ free1 ! $ move ! (32 ∷ 33 ∷ []) $ free1 ! $ move ! (30 ∷ 31 ∷ []) $ free1 ! $ move ! (28 ∷ 29 ∷ []) $ free1 ! $ move ! (26 ∷ 27 ∷ []) $ free1 ! $ move ! (24 ∷ 25 ∷ []) $ free1 ! $ move ! (22 ∷ 23 ∷ []) $ free1 ! $ move ! (20 ∷ 21 ∷ []) $ free1 ! $ free0 ! $ move ! (14 ∷ 15 ∷ 12 ∷ 13 ∷ 10 ∷ 11 ∷ 8 ∷ 9 ∷ 6 ∷ 7 ∷ 4 ∷ 5 ∷ 2 ∷ 3 ∷ 0 ∷ 1 ∷ 19 ∷ 17 ∷ 18 ∷ 16 ∷ []) $
+        by ! (exits (processOf agent (lent (sessions) (streams) (objects) (held) (parts) (lengths) (rebuilt)) (out) (datagram) (sample) (Input-Answer answer) .processed) (processOf agent (lent (sessions) (streams) (objects) (held) (parts) (lengths) (rebuilt)) (out) (datagram) (sample) (Input-Answer answer) .tables .sessions) (processOf agent (lent (sessions) (streams) (objects) (held) (parts) (lengths) (rebuilt)) (out) (datagram) (sample) (Input-Answer answer) .tables .streams) (processOf agent (lent (sessions) (streams) (objects) (held) (parts) (lengths) (rebuilt)) (out) (datagram) (sample) (Input-Answer answer) .tables .objects) (processOf agent (lent (sessions) (streams) (objects) (held) (parts) (lengths) (rebuilt)) (out) (datagram) (sample) (Input-Answer answer) .tables .held) (processOf agent (lent (sessions) (streams) (objects) (held) (parts) (lengths) (rebuilt)) (out) (datagram) (sample) (Input-Answer answer) .tables .parts) (processOf agent (lent (sessions) (streams) (objects) (held) (parts) (lengths) (rebuilt)) (out) (datagram) (sample) (Input-Answer answer) .tables .lengths) (processOf agent (lent (sessions) (streams) (objects) (held) (parts) (lengths) (rebuilt)) (out) (datagram) (sample) (Input-Answer answer) .tables .rebuilt) (processOf agent (lent (sessions) (streams) (objects) (held) (parts) (lengths) (rebuilt)) (out) (datagram) (sample) (Input-Answer answer) .out) ((refl, refl, refl, refl, refl, refl, refl, refl, refl)) is-18 len-18-sessions len-18-streams len-18-objects len-18-held len-18-parts len-18-lengths len-18-rebuilt len-18-out))))))))))))))))))))))))))
 
   module _ (𝓣 : Tables 𝓤 H) (known-process-process : Triple 𝓤 (𝓣 .C #process-process) (Of-process-process 𝓤 H A mem run)) where
-    walk : ent 𝓤 (onEntry 𝓤 H A f.signature (κ₁, (κ₂, (κ₃, (κ₄, (κ₅, (κ₆, (κ₇, tt))))))) (q₁, (q₂, (q₃, (q₄, (q₅, (q₆, (q₇, tt))))))) x at) (WpFn 𝓤 H (𝓣 .C) (𝓣 .Λ) code.function (sliceVal (b₁, o₁) n₁ ∷ sliceVal (b₂, o₂) n₂ ∷ sliceVal (b₃, o₃) n₃ ∷ sliceVal (b₄, o₄) n₄ ∷ sliceVal (b₅, o₅) n₅ ∷ sliceVal (b₆, o₆) n₆ ∷ sliceVal (b₇, o₇) n₇ ∷ Agent-p .val agent ∷ BridgeAnswer-p .val answer ∷ []) Post)
+    walk : ent 𝓤 (onEntry 𝓤 H A f.signature (κ₁, (κ₂, (κ₃, (κ₄, (κ₅, (κ₆, (κ₇, (κ₈, (κ₉, (κ₁₀, tt)))))))))) (q₁, (q₂, (q₃, (q₄, (q₅, (q₆, (q₇, (q₈, (q₉, (q₁₀, tt)))))))))) x at) (WpFn 𝓤 H (𝓣 .C) (𝓣 .Λ) code.function (sliceVal (b₁, o₁) n₁ ∷ sliceVal (b₂, o₂) n₂ ∷ sliceVal (b₃, o₃) n₃ ∷ sliceVal (b₄, o₄) n₄ ∷ sliceVal (b₅, o₅) n₅ ∷ sliceVal (b₆, o₆) n₆ ∷ sliceVal (b₇, o₇) n₇ ∷ sliceVal (b₈, o₈) n₈ ∷ sliceVal (b₉, o₉) n₉ ∷ sliceVal (b₁₀, o₁₀) n₁₀ ∷ Agent-p .val agent ∷ BridgeAnswer-p .val answer ∷ []) Post)
     walk =
-        qed W ((‵ (flft κ₁ q₁) ⊛ (‵ (flft κ₂ q₂) ⊛ (‵ (flft κ₃ q₃) ⊛ (‵ (flft κ₄ q₄) ⊛ (‵ (flft κ₅ q₅) ⊛ (‵ (flft κ₆ q₆) ⊛ (‵ (flft κ₇ q₇) ⊛ ‵ ftrue))))))) ∷ ‵ (owns (MutSlice (named 0) κ₁ (Array u64 6) ∷ MutSlice (named 1) κ₂ (Array u16 35) ∷ MutSlice (named 2) κ₃ Object-t.the-row ∷ MutSlice (named 3) κ₄ u8 ∷ MutSlice (named 4) κ₅ u8 ∷ ShrSlice (named 5) κ₆ u8 ∷ ShrSlice (named 6) κ₇ u8 ∷ Agent-p .row ∷ BridgeAnswer-p .row ∷ []) x at) ∷ []) ∵ enter ! (𝓣 .C) (𝓣 .Λ) code.function (sliceVal (b₁, o₁) n₁ ∷ sliceVal (b₂, o₂) n₂ ∷ sliceVal (b₃, o₃) n₃ ∷ sliceVal (b₄, o₄) n₄ ∷ sliceVal (b₅, o₅) n₅ ∷ sliceVal (b₆, o₆) n₆ ∷ sliceVal (b₇, o₇) n₇ ∷ Agent-p .val agent ∷ BridgeAnswer-p .val answer ∷ []) _ $
-        alloc1 ! (λ l₀. alloc1 ! (λ l₁. alloc1 ! (λ l₂. alloc1 ! (λ l₃. alloc1 ! (λ l₄. alloc1 ! (λ l₅. alloc1 ! (λ l₆. alloc1 ! (λ l₇. alloc1 ! (λ l₈. alloc1 ! (λ l₉. alloc1 ! (λ l₁₀. alloc1 ! (λ l₁₁. alloc1 ! (λ l₁₂. alloc1 ! (λ l₁₃. alloc1 ! (λ l₁₄. alloc1 ! (λ l₁₅. alloc1 ! (λ l₁₆. alloc1 ! (λ l₁₇. alloc1 ! (λ l₁₈. alloc1 ! (λ l₁₉. alloc1 ! (λ l₂₀. alloc0 ! $ params1 ! $ pass1 ! (init ! 38 refl (tt, (tt, (record { fits = room₁ .0 }, tt)))) $ pass1 ! (init ! 36 refl (tt, (tt, (record { fits = room₂ .0 }, tt)))) $ pass1 ! (init ! 34 refl (tt, (tt, (record { fits = room₃ .0 }, tt)))) $ pass1 ! (init ! 32 refl (tt, (tt, (record { fits = room₄ .0 }, tt)))) $ pass1 ! (init ! 30 refl (tt, (tt, (record { fits = room₅ .0 }, tt)))) $ pass1 ! (init ! 28 refl (tt, (tt, (record { fits = room₆ .0 }, tt)))) $ pass1 ! (init ! 26 refl (tt, (tt, (record { fits = room₇ .0 }, tt)))) $ pass1 ! (init ! 24 refl (Agent-p .typed 𝓤 H A W agent agent-is)) $ pass1 ! (init ! 22 refl (BridgeAnswer-p .typed 𝓤 H A W answer answer-is)) $ pass0 ! $ move ! (43 ∷ []) $ fsplit ! $ move ! (1 ∷ []) $ fsplit ! $ move ! (1 ∷ []) $ fsplit ! $ move ! (1 ∷ []) $ fsplit ! $ move ! (1 ∷ []) $ fsplit ! $ move ! (1 ∷ []) $ fsplit ! $ move ! (1 ∷ []) $ fsplit ! $ move ! (50 ∷ []) $ split ! $ move ! (1 ∷ []) $ split ! $ move ! (1 ∷ []) $ split ! $ move ! (1 ∷ []) $ split ! $ move ! (1 ∷ []) $ split ! $ move ! (1 ∷ []) $ split ! $ move ! (1 ∷ []) $ split ! $ move ! (1 ∷ []) $ drop ! $ move ! (8 ∷ []) $ drop ! $ move ! (13 ∷ 6 ∷ 12 ∷ 5 ∷ 11 ∷ 4 ∷ 10 ∷ 3 ∷ 9 ∷ 2 ∷ 8 ∷ 1 ∷ 7 ∷ 0 ∷ 14 ∷ 15 ∷ 16 ∷ 17 ∷ 18 ∷ 19 ∷ 20 ∷ 21 ∷ 22 ∷ 23 ∷ 24 ∷ 25 ∷ 26 ∷ 27 ∷ 28 ∷ 29 ∷ 30 ∷ 31 ∷ 32 ∷ 33 ∷ 34 ∷ 35 ∷ 36 ∷ 37 ∷ 38 ∷ 39 ∷ 40 ∷ 41 ∷ 42 ∷ 43 ∷ 44 ∷ 45 ∷ 46 ∷ 47 ∷ 48 ∷ 49 ∷ 50 ∷ 51 ∷ 52 ∷ 53 ∷ 54 ∷ 55 ∷ []) $
-        begins 𝓣 known-process-process l₀ l₁ l₂ l₃ l₄ l₅ l₆ l₇ l₈ l₉ l₁₀ l₁₁ l₁₂ l₁₃ l₁₄ l₁₅ l₁₆ l₁₇ l₁₈ l₁₉ l₂₀)))))))))))))))))))))
+        qed W ((‵ (flft κ₁ q₁) ⊛ (‵ (flft κ₂ q₂) ⊛ (‵ (flft κ₃ q₃) ⊛ (‵ (flft κ₄ q₄) ⊛ (‵ (flft κ₅ q₅) ⊛ (‵ (flft κ₆ q₆) ⊛ (‵ (flft κ₇ q₇) ⊛ (‵ (flft κ₈ q₈) ⊛ (‵ (flft κ₉ q₉) ⊛ (‵ (flft κ₁₀ q₁₀) ⊛ ‵ ftrue)))))))))) ∷ ‵ (owns (MutSlice (named 0) κ₁ (Array u64 8) ∷ MutSlice (named 1) κ₂ (Array u16 35) ∷ MutSlice (named 2) κ₃ Object-t.the-row ∷ MutSlice (named 3) κ₄ u8 ∷ MutSlice (named 4) κ₅ u8 ∷ MutSlice (named 5) κ₆ u32 ∷ MutSlice (named 6) κ₇ u8 ∷ MutSlice (named 7) κ₈ u8 ∷ ShrSlice (named 8) κ₉ u8 ∷ ShrSlice (named 9) κ₁₀ u8 ∷ Agent-p .row ∷ BridgeAnswer-p .row ∷ []) x at) ∷ []) ∵ enter ! (𝓣 .C) (𝓣 .Λ) code.function (sliceVal (b₁, o₁) n₁ ∷ sliceVal (b₂, o₂) n₂ ∷ sliceVal (b₃, o₃) n₃ ∷ sliceVal (b₄, o₄) n₄ ∷ sliceVal (b₅, o₅) n₅ ∷ sliceVal (b₆, o₆) n₆ ∷ sliceVal (b₇, o₇) n₇ ∷ sliceVal (b₈, o₈) n₈ ∷ sliceVal (b₉, o₉) n₉ ∷ sliceVal (b₁₀, o₁₀) n₁₀ ∷ Agent-p .val agent ∷ BridgeAnswer-p .val answer ∷ []) _ $
+        alloc1 ! (λ l₀. alloc1 ! (λ l₁. alloc1 ! (λ l₂. alloc1 ! (λ l₃. alloc1 ! (λ l₄. alloc1 ! (λ l₅. alloc1 ! (λ l₆. alloc1 ! (λ l₇. alloc1 ! (λ l₈. alloc1 ! (λ l₉. alloc1 ! (λ l₁₀. alloc1 ! (λ l₁₁. alloc1 ! (λ l₁₂. alloc1 ! (λ l₁₃. alloc1 ! (λ l₁₄. alloc1 ! (λ l₁₅. alloc1 ! (λ l₁₆. alloc1 ! (λ l₁₇. alloc1 ! (λ l₁₈. alloc1 ! (λ l₁₉. alloc1 ! (λ l₂₀. alloc1 ! (λ l₂₁. alloc1 ! (λ l₂₂. alloc1 ! (λ l₂₃. alloc1 ! (λ l₂₄. alloc1 ! (λ l₂₅. alloc1 ! (λ l₂₆. alloc1 ! (λ l₂₇. alloc1 ! (λ l₂₈. alloc1 ! (λ l₂₉. alloc0 ! $ params1 ! $ pass1 ! (init ! 56 refl (tt, (tt, (record { fits = room₁ .0 }, tt)))) $ pass1 ! (init ! 54 refl (tt, (tt, (record { fits = room₂ .0 }, tt)))) $ pass1 ! (init ! 52 refl (tt, (tt, (record { fits = room₃ .0 }, tt)))) $ pass1 ! (init ! 50 refl (tt, (tt, (record { fits = room₄ .0 }, tt)))) $ pass1 ! (init ! 48 refl (tt, (tt, (record { fits = room₅ .0 }, tt)))) $ pass1 ! (init ! 46 refl (tt, (tt, (record { fits = room₆ .0 }, tt)))) $ pass1 ! (init ! 44 refl (tt, (tt, (record { fits = room₇ .0 }, tt)))) $ pass1 ! (init ! 42 refl (tt, (tt, (record { fits = room₈ .0 }, tt)))) $ pass1 ! (init ! 40 refl (tt, (tt, (record { fits = room₉ .0 }, tt)))) $ pass1 ! (init ! 38 refl (tt, (tt, (record { fits = room₁₀ .0 }, tt)))) $ pass1 ! (init ! 36 refl (Agent-p .typed 𝓤 H A W agent agent-is)) $ pass1 ! (init ! 34 refl (BridgeAnswer-p .typed 𝓤 H A W answer answer-is)) $ pass0 ! $ move ! (61 ∷ []) $ fsplit ! $ move ! (1 ∷ []) $ fsplit ! $ move ! (1 ∷ []) $ fsplit ! $ move ! (1 ∷ []) $ fsplit ! $ move ! (1 ∷ []) $ fsplit ! $ move ! (1 ∷ []) $ fsplit ! $ move ! (1 ∷ []) $ fsplit ! $ move ! (1 ∷ []) $ fsplit ! $ move ! (1 ∷ []) $ fsplit ! $ move ! (1 ∷ []) $ fsplit ! $ move ! (71 ∷ []) $ split ! $ move ! (1 ∷ []) $ split ! $ move ! (1 ∷ []) $ split ! $ move ! (1 ∷ []) $ split ! $ move ! (1 ∷ []) $ split ! $ move ! (1 ∷ []) $ split ! $ move ! (1 ∷ []) $ split ! $ move ! (1 ∷ []) $ split ! $ move ! (1 ∷ []) $ split ! $ move ! (1 ∷ []) $ split ! $ move ! (1 ∷ []) $ drop ! $ move ! (11 ∷ []) $ drop ! $ move ! (19 ∷ 9 ∷ 18 ∷ 8 ∷ 17 ∷ 7 ∷ 16 ∷ 6 ∷ 15 ∷ 5 ∷ 14 ∷ 4 ∷ 13 ∷ 3 ∷ 12 ∷ 2 ∷ 11 ∷ 1 ∷ 10 ∷ 0 ∷ 20 ∷ 21 ∷ 22 ∷ 23 ∷ 24 ∷ 25 ∷ 26 ∷ 27 ∷ 28 ∷ 29 ∷ 30 ∷ 31 ∷ 32 ∷ 33 ∷ 34 ∷ 35 ∷ 36 ∷ 37 ∷ 38 ∷ 39 ∷ 40 ∷ 41 ∷ 42 ∷ 43 ∷ 44 ∷ 45 ∷ 46 ∷ 47 ∷ 48 ∷ 49 ∷ 50 ∷ 51 ∷ 52 ∷ 53 ∷ 54 ∷ 55 ∷ 56 ∷ 57 ∷ 58 ∷ 59 ∷ 60 ∷ 61 ∷ 62 ∷ 63 ∷ 64 ∷ 65 ∷ 66 ∷ 67 ∷ 68 ∷ 69 ∷ 70 ∷ 71 ∷ 72 ∷ 73 ∷ 74 ∷ 75 ∷ 76 ∷ 77 ∷ 78 ∷ 79 ∷ []) $
+        begins 𝓣 known-process-process l₀ l₁ l₂ l₃ l₄ l₅ l₆ l₇ l₈ l₉ l₁₀ l₁₁ l₁₂ l₁₃ l₁₄ l₁₅ l₁₆ l₁₇ l₁₈ l₁₉ l₂₀ l₂₁ l₂₂ l₂₃ l₂₄ l₂₅ l₂₆ l₂₇ l₂₈ l₂₉))))))))))))))))))))))))))))))
 
 module _ {M : Type 1} (𝓤 : URA M) (H : Heap 𝓤) (A : Atoms 𝓤) (W : Given 𝓤 H A) (mem : Memory → SProp 𝓤) (run : Routine → Fun 𝓤) (𝓣 : Tables 𝓤 H) (known-process-process : Triple 𝓤 (𝓣 .C #process-process) (Of-process-process 𝓤 H A mem run)) where
   walks : Walks 𝓤 H A f.ended stayed (WpFn 𝓤 H (𝓣 .C) (𝓣 .Λ) code.function) (f.clauses 𝓤 H A mem run)
-  walks = walked 𝓤 H A f.ended stayed (f.clauses 𝓤 H A mem run) (WpFn 𝓤 H (𝓣 .C) (𝓣 .Λ) code.function) (λ κs. (slice-vals, (slice-vals, (slice-vals, (slice-vals, (slice-vals, (slice-vals, (slice-vals, ((λ y. Agent-p .val y ∷ []), ((λ y. BridgeAnswer-p .val y ∷ []), tt)))))))))) (λ κs. (mut-slice-tells (named 0) (κs .0) (Array u64 6), (mut-slice-tells (named 1) (κs .1 .0) (Array u16 35), (mut-slice-tells (named 2) (κs .1 .1 .0) Object-t.the-row, (mut-slice-tells (named 3) (κs .1 .1 .1 .0) u8, (mut-slice-tells (named 4) (κs .1 .1 .1 .1 .0) u8, (shr-slice-tells (named 5) (κs .1 .1 .1 .1 .1 .0) u8, (shr-slice-tells (named 6) (κs .1 .1 .1 .1 .1 .1 .0) u8, (Agent-p .tells, (BridgeAnswer-p .tells, tt))))))))))
-      (λ κs qs bounds a g are. via 𝓤 _ (fst∗ 𝓤 _ (emp 𝓤)) (walk 𝓤 H A W mem run (κs .0) (qs .0) (a .0 .ptr .0) (a .0 .ptr .1) (a .0 .name) (a .0 .now) (κs .1 .0) (qs .1 .0) (a .1 .0 .ptr .0) (a .1 .0 .ptr .1) (a .1 .0 .name) (a .1 .0 .now) (κs .1 .1 .0) (qs .1 .1 .0) (a .1 .1 .0 .ptr .0) (a .1 .1 .0 .ptr .1) (a .1 .1 .0 .name) (a .1 .1 .0 .now) (κs .1 .1 .1 .0) (qs .1 .1 .1 .0) (a .1 .1 .1 .0 .ptr .0) (a .1 .1 .1 .0 .ptr .1) (a .1 .1 .1 .0 .name) (a .1 .1 .1 .0 .now) (κs .1 .1 .1 .1 .0) (qs .1 .1 .1 .1 .0) (a .1 .1 .1 .1 .0 .ptr .0) (a .1 .1 .1 .1 .0 .ptr .1) (a .1 .1 .1 .1 .0 .name) (a .1 .1 .1 .1 .0 .now) (κs .1 .1 .1 .1 .1 .0) (qs .1 .1 .1 .1 .1 .0) (a .1 .1 .1 .1 .1 .0 .ptr .0) (a .1 .1 .1 .1 .1 .0 .ptr .1) (a .1 .1 .1 .1 .1 .0 .name) (a .1 .1 .1 .1 .1 .0 .now) (κs .1 .1 .1 .1 .1 .1 .0) (qs .1 .1 .1 .1 .1 .1 .0) (a .1 .1 .1 .1 .1 .1 .0 .ptr .0) (a .1 .1 .1 .1 .1 .1 .0 .ptr .1) (a .1 .1 .1 .1 .1 .1 .0 .name) (a .1 .1 .1 .1 .1 .1 .0 .now) (a .1 .1 .1 .1 .1 .1 .1 .0) (a .1 .1 .1 .1 .1 .1 .1 .1 .0) (are .0 .0 .1) (are .1 .0 .0 .1) (are .1 .1 .0 .0 .1) (are .1 .1 .1 .0 .0 .1) (are .1 .1 .1 .1 .0 .0 .1) (are .1 .1 .1 .1 .1 .0 .0 .1) (are .1 .1 .1 .1 .1 .1 .0 .0 .1) (are .1 .1 .1 .1 .1 .1 .1 .0) (are .1 .1 .1 .1 .1 .1 .1 .1 .0) 𝓣 known-process-process))
+  walks = walked 𝓤 H A f.ended stayed (f.clauses 𝓤 H A mem run) (WpFn 𝓤 H (𝓣 .C) (𝓣 .Λ) code.function) (λ κs. (slice-vals, (slice-vals, (slice-vals, (slice-vals, (slice-vals, (slice-vals, (slice-vals, (slice-vals, (slice-vals, (slice-vals, ((λ y. Agent-p .val y ∷ []), ((λ y. BridgeAnswer-p .val y ∷ []), tt))))))))))))) (λ κs. (mut-slice-tells (named 0) (κs .0) (Array u64 8), (mut-slice-tells (named 1) (κs .1 .0) (Array u16 35), (mut-slice-tells (named 2) (κs .1 .1 .0) Object-t.the-row, (mut-slice-tells (named 3) (κs .1 .1 .1 .0) u8, (mut-slice-tells (named 4) (κs .1 .1 .1 .1 .0) u8, (mut-slice-tells (named 5) (κs .1 .1 .1 .1 .1 .0) u32, (mut-slice-tells (named 6) (κs .1 .1 .1 .1 .1 .1 .0) u8, (mut-slice-tells (named 7) (κs .1 .1 .1 .1 .1 .1 .1 .0) u8, (shr-slice-tells (named 8) (κs .1 .1 .1 .1 .1 .1 .1 .1 .0) u8, (shr-slice-tells (named 9) (κs .1 .1 .1 .1 .1 .1 .1 .1 .1 .0) u8, (Agent-p .tells, (BridgeAnswer-p .tells, tt)))))))))))))
+      (λ κs qs bounds a g are. via 𝓤 _ (fst∗ 𝓤 _ (emp 𝓤)) (walk 𝓤 H A W mem run (κs .0) (qs .0) (a .0 .ptr .0) (a .0 .ptr .1) (a .0 .name) (a .0 .now) (κs .1 .0) (qs .1 .0) (a .1 .0 .ptr .0) (a .1 .0 .ptr .1) (a .1 .0 .name) (a .1 .0 .now) (κs .1 .1 .0) (qs .1 .1 .0) (a .1 .1 .0 .ptr .0) (a .1 .1 .0 .ptr .1) (a .1 .1 .0 .name) (a .1 .1 .0 .now) (κs .1 .1 .1 .0) (qs .1 .1 .1 .0) (a .1 .1 .1 .0 .ptr .0) (a .1 .1 .1 .0 .ptr .1) (a .1 .1 .1 .0 .name) (a .1 .1 .1 .0 .now) (κs .1 .1 .1 .1 .0) (qs .1 .1 .1 .1 .0) (a .1 .1 .1 .1 .0 .ptr .0) (a .1 .1 .1 .1 .0 .ptr .1) (a .1 .1 .1 .1 .0 .name) (a .1 .1 .1 .1 .0 .now) (κs .1 .1 .1 .1 .1 .0) (qs .1 .1 .1 .1 .1 .0) (a .1 .1 .1 .1 .1 .0 .ptr .0) (a .1 .1 .1 .1 .1 .0 .ptr .1) (a .1 .1 .1 .1 .1 .0 .name) (a .1 .1 .1 .1 .1 .0 .now) (κs .1 .1 .1 .1 .1 .1 .0) (qs .1 .1 .1 .1 .1 .1 .0) (a .1 .1 .1 .1 .1 .1 .0 .ptr .0) (a .1 .1 .1 .1 .1 .1 .0 .ptr .1) (a .1 .1 .1 .1 .1 .1 .0 .name) (a .1 .1 .1 .1 .1 .1 .0 .now) (κs .1 .1 .1 .1 .1 .1 .1 .0) (qs .1 .1 .1 .1 .1 .1 .1 .0) (a .1 .1 .1 .1 .1 .1 .1 .0 .ptr .0) (a .1 .1 .1 .1 .1 .1 .1 .0 .ptr .1) (a .1 .1 .1 .1 .1 .1 .1 .0 .name) (a .1 .1 .1 .1 .1 .1 .1 .0 .now) (κs .1 .1 .1 .1 .1 .1 .1 .1 .0) (qs .1 .1 .1 .1 .1 .1 .1 .1 .0) (a .1 .1 .1 .1 .1 .1 .1 .1 .0 .ptr .0) (a .1 .1 .1 .1 .1 .1 .1 .1 .0 .ptr .1) (a .1 .1 .1 .1 .1 .1 .1 .1 .0 .name) (a .1 .1 .1 .1 .1 .1 .1 .1 .0 .now) (κs .1 .1 .1 .1 .1 .1 .1 .1 .1 .0) (qs .1 .1 .1 .1 .1 .1 .1 .1 .1 .0) (a .1 .1 .1 .1 .1 .1 .1 .1 .1 .0 .ptr .0) (a .1 .1 .1 .1 .1 .1 .1 .1 .1 .0 .ptr .1) (a .1 .1 .1 .1 .1 .1 .1 .1 .1 .0 .name) (a .1 .1 .1 .1 .1 .1 .1 .1 .1 .0 .now) (a .1 .1 .1 .1 .1 .1 .1 .1 .1 .1 .0) (a .1 .1 .1 .1 .1 .1 .1 .1 .1 .1 .1 .0) (are .0 .0 .1) (are .1 .0 .0 .1) (are .1 .1 .0 .0 .1) (are .1 .1 .1 .0 .0 .1) (are .1 .1 .1 .1 .0 .0 .1) (are .1 .1 .1 .1 .1 .0 .0 .1) (are .1 .1 .1 .1 .1 .1 .0 .0 .1) (are .1 .1 .1 .1 .1 .1 .1 .0 .0 .1) (are .1 .1 .1 .1 .1 .1 .1 .1 .0 .0 .1) (are .1 .1 .1 .1 .1 .1 .1 .1 .1 .0 .0 .1) (are .1 .1 .1 .1 .1 .1 .1 .1 .1 .1 .0) (are .1 .1 .1 .1 .1 .1 .1 .1 .1 .1 .1 .0) 𝓣 known-process-process))
 
   meets : Meets 𝓤 H A f.signature (WpFn 𝓤 H (𝓣 .C) (𝓣 .Λ) code.function) (f.spec 𝓤 H A mem run)
-  meets = walk-meets 𝓤 H A f.ended stayed W (goes-slice 𝓤 H A W 7 0 tt (plain (λ _. (Array u64 6))), (goes-slice 𝓤 H A W 7 1 tt (plain (λ _. (Array u16 35))), (goes-slice 𝓤 H A W 7 2 tt (plain (λ _. Object-t.the-row)), (goes-slice 𝓤 H A W 7 3 tt (plain (λ _. u8)), (goes-slice 𝓤 H A W 7 4 tt (plain (λ _. u8)), (goes-none-slice 𝓤 H A W 7 (5 ∷ []) tt (plain (λ _. u8)) yes, (goes-none-slice 𝓤 H A W 7 (6 ∷ []) tt (plain (λ _. u8)) yes, (goes-none 𝓤 H A W 7 (λ _. Agent-p .row) yes (λ κs x f. refl), (goes-none 𝓤 H A W 7 (λ _. BridgeAnswer-p .row) yes (λ κs x f. refl), tt))))))))) (f.clauses 𝓤 H A mem run) (WpFn 𝓤 H (𝓣 .C) (𝓣 .Λ) code.function) (WpFn-mono 𝓤 H (W .laws) 𝓣 code.function) walks
+  meets = walk-meets 𝓤 H A f.ended stayed W (goes-slice 𝓤 H A W 10 0 tt (plain (λ _. (Array u64 8))), (goes-slice 𝓤 H A W 10 1 tt (plain (λ _. (Array u16 35))), (goes-slice 𝓤 H A W 10 2 tt (plain (λ _. Object-t.the-row)), (goes-slice 𝓤 H A W 10 3 tt (plain (λ _. u8)), (goes-slice 𝓤 H A W 10 4 tt (plain (λ _. u8)), (goes-slice 𝓤 H A W 10 5 tt (plain (λ _. u32)), (goes-slice 𝓤 H A W 10 6 tt (plain (λ _. u8)), (goes-slice 𝓤 H A W 10 7 tt (plain (λ _. u8)), (goes-none-slice 𝓤 H A W 10 (8 ∷ []) tt (plain (λ _. u8)) yes, (goes-none-slice 𝓤 H A W 10 (9 ∷ []) tt (plain (λ _. u8)) yes, (goes-none 𝓤 H A W 10 (λ _. Agent-p .row) yes (λ κs x f. refl), (goes-none 𝓤 H A W 10 (λ _. BridgeAnswer-p .row) yes (λ κs x f. refl), tt)))))))))))) (f.clauses 𝓤 H A mem run) (WpFn 𝓤 H (𝓣 .C) (𝓣 .Λ) code.function) (WpFn-mono 𝓤 H (W .laws) 𝓣 code.function) walks
 
 pub process-answer-spec : {M : Type 1} → stated.statement M
 unfolding code.routine tablesOf

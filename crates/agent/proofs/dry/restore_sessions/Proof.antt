@@ -54,10 +54,12 @@ use Rattle.walk.proofs.Parts.{part-len, lends-part, backs-part, parts-shr}
 use Rattle.walk.proofs.Arrays.{rep-is, lends-array, backs-array}
 use Rattle.sessions.specs.Objects.{blank}
 use Rattle.agent.specs.Lent.{lent}
+use Rattle.agent.specs.Run.{runAt, entered as entered′}
 use Rattle.agent.specs.Host.{resumesFit, performed}
-use Rattle.agent.specs.Dry.{sessionCopy, sessionBack, noSession, streamCopy, streamBack, noStream, same, sessionSpot, streamSpot, objectSpot, copied, restored, bufferCopy, bufferBack}
+use Rattle.agent.specs.Dry.{sessionCopy, sessionBack, noSession, streamCopy, streamBack, noStream, same, sessionSpot, streamSpot, objectSpot, copied, restored, bufferCopy, bufferBack, rebuiltPlace}
 use Rattle.codec.specs.Bytes.{putBytes}
 use Rattle.sessions.specs.Sending.{bufferIn}
+use Rattle.agent.specs.Run.{entered as entered-of-dry-session-back}
 use Rattle.agent.proofs.Back.{restored-none, restored-more}
 use Rattle.agent.specs.declared.dry.SessionCopy.{SessionCopy}
 use Rattle.agent.proofs.dry.SessionCopy as SessionCopy-t
@@ -79,14 +81,14 @@ abbrev SessionCopy-p : Plain
 SessionCopy-p = record { row = SessionCopy-t.the-row; val = LL.val SessionCopy-t.the-type SessionCopy-l.the-laws; tells = LL.tells SessionCopy-t.the-type SessionCopy-l.the-laws; makes = λ 𝓤 H A W. LL.makes SessionCopy-t.the-type SessionCopy-l.the-plain 𝓤 H A; ty = SessionCopy-l.mir; typed = λ 𝓤 H A W x is. LL.lawful SessionCopy-t.the-type SessionCopy-l.the-laws 𝓤 H A W .typed x _ is .0; copies = λ 𝓤 H A W. LL.copy SessionCopy-t.the-type SessionCopy-l.the-copy 𝓤 H A W }
 
 abbrev stayed : Stays (f.ended .signature .params) (f.ended .kept)
-stayed = (stay-none-slice (0 ∷ []) tt (plain (λ _. SessionCopy-t.the-row)) yes, (stay-slice (1 ∷ []) tt (plain (λ _. (Array u64 6))), (stay-none (λ _. u64-p .row) yes, tt)))
+stayed = (stay-none-slice (0 ∷ []) tt (plain (λ _. SessionCopy-t.the-row)) yes, (stay-slice (1 ∷ []) tt (plain (λ _. (Array u64 8))), (stay-none (λ _. u64-p .row) yes, tt)))
 
 module _ {M : Type 1} (𝓤 : URA M) (H : Heap 𝓤) (A : Atoms 𝓤) (mem : Memory → SProp 𝓤) (run : Routine → Fun 𝓤) where
   abbrev Of-dry-session-back : Contract 𝓤
   Of-dry-session-back = tripleOf 𝓤 H A dry-session-back.signature (dry-session-back.spec 𝓤 H A mem run)
 
 module _ {M : Type 1} (𝓤 : URA M) (H : Heap 𝓤) (A : Atoms 𝓤) (W : Given 𝓤 H A) (mem : Memory → SProp 𝓤) (run : Routine → Fun 𝓤) (κ₁ : Lft) (q₁ : Share) (b₁ o₁ : ℕ) (γ₁ : GName) (from′ : List SessionCopy) (κ₂ : Lft) (q₂ : Share) (b₂ o₂ : ℕ) (γ₂ : GName) (to : List (List ℕ)) (n′ : ℕ)
-    (room₁ : Room SessionCopy-t.the-row (length from′)) (room₂ : Room (Array u64 6) (length to)) (n′-is : Is (u64-p .row) n′ (u64-p .val n′ ∷ [])) (within : (n′ ≤ length (from′)) × (n′ ≤ length (to))) where
+    (room₁ : Room SessionCopy-t.the-row (length from′)) (room₂ : Room (Array u64 8) (length to)) (n′-is : Is (u64-p .row) n′ (u64-p .val n′ ∷ [])) (within : (n′ ≤ length (from′)) × (n′ ≤ length (to))) where
   abbrev n₁ : ℕ
   n₁ = length from′
 
@@ -102,9 +104,9 @@ module _ {M : Type 1} (𝓤 : URA M) (H : Heap 𝓤) (A : Atoms 𝓤) (W : Given
   abbrev Post : Val → SProp 𝓤
   Post = walkOf 𝓤 H A f.ended stayed (f.clauses 𝓤 H A mem run) .post (((κ₁, (κ₂, tt)), (q₁, (q₂, tt)), tt, x, at), tt)
 
-  exits : (r : Unit {0}) (ws₂ : List (List ℕ)) → (ws₂ ≡ restored sessionBack noSession sessionSpot n′ (from′) (to)) → Is (unit-p .row) r (unit-p .val r ∷ []) → length ws₂ ≡ n₂ → ent 𝓤 (⋆ 𝓤 H A (‵ (ShrSlice (named 0) κ₁ SessionCopy-t.the-row .own (at-list b₁ o₁ γ₁ from′) (sliceVal (b₁, o₁) n₁ ∷ [])) ∷ ‵ (flft κ₁ q₁) ∷ ‵ (MutSlice (named 1) κ₂ (Array u64 6) .own (at-list b₂ o₂ γ₂ ws₂) (sliceVal (b₂, o₂) n₂ ∷ [])) ∷ ‵ (flft κ₂ q₂) ∷ [])) (Post (unit-p .val r))
+  exits : (r : Unit {0}) (ws₂ : List (List ℕ)) → (ws₂ ≡ restored sessionBack noSession sessionSpot n′ (from′) (to)) → Is (unit-p .row) r (unit-p .val r ∷ []) → length ws₂ ≡ n₂ → ent 𝓤 (⋆ 𝓤 H A (‵ (ShrSlice (named 0) κ₁ SessionCopy-t.the-row .own (at-list b₁ o₁ γ₁ from′) (sliceVal (b₁, o₁) n₁ ∷ [])) ∷ ‵ (flft κ₁ q₁) ∷ ‵ (MutSlice (named 1) κ₂ (Array u64 8) .own (at-list b₂ o₂ γ₂ ws₂) (sliceVal (b₂, o₂) n₂ ∷ [])) ∷ ‵ (flft κ₂ q₂) ∷ [])) (Post (unit-p .val r))
   exits r ws₂ said r-is len₂ =
-      qed W (‵ (ShrSlice (named 0) κ₁ SessionCopy-t.the-row .own (at-list b₁ o₁ γ₁ from′) (sliceVal (b₁, o₁) n₁ ∷ [])) ∷ ‵ (flft κ₁ q₁) ∷ ‵ (MutSlice (named 1) κ₂ (Array u64 6) .own (at-list b₂ o₂ γ₂ ws₂) (sliceVal (b₂, o₂) n₂ ∷ [])) ∷ ‵ (flft κ₂ q₂) ∷ []) ∵
+      qed W (‵ (ShrSlice (named 0) κ₁ SessionCopy-t.the-row .own (at-list b₁ o₁ γ₁ from′) (sliceVal (b₁, o₁) n₁ ∷ [])) ∷ ‵ (flft κ₁ q₁) ∷ ‵ (MutSlice (named 1) κ₂ (Array u64 8) .own (at-list b₂ o₂ γ₂ ws₂) (sliceVal (b₂, o₂) n₂ ∷ [])) ∷ ‵ (flft κ₂ q₂) ∷ []) ∵
       suffices ! _ (ends-at 𝓤 H A f.ended stayed (f.clauses 𝓤 H A mem run) W (((κ₁, (κ₂, tt)), (q₁, (q₂, tt)), tt, x, at), tt) (unit-p .val r) r (tt, (ws₂, (tt, tt))) (tt, (len₂, (tt, tt)))) $ says ! said $ nothing ! $ move ! (4 ∷ 0 ∷ []) $ join ! $ move ! (2 ∷ 0 ∷ []) $ join ! $
       frame ! $ nothing ! $
       owned ! (u64-p .row) (Is (u64-p .row)) (u64-p .makes 𝓤 H A W) n′ (u64-p .val n′ ∷ []) n′-is $ fjoin ! $ move ! (2 ∷ 0 ∷ []) $ fjoin ! $ move ! (1 ∷ 0 ∷ []) $ fjoin ! $
@@ -122,11 +124,11 @@ module _ {M : Type 1} (𝓤 : URA M) (H : Heap 𝓤) (A : Atoms 𝓤) (W : Given
     fm = fmOf 𝓤 H (W .laws) 𝓣
 
     abbrev En : Env 𝓤 H
-    En = (tyUnit, l₀) ∷ ((sliceTy (tyRef (named 0) imm (pointee (SessionCopy-t.the-row .written)))), l₁) ∷ ((sliceTy (tyRef (named 1) mut (pointee ((Array u64 6) .written)))), l₂) ∷ ((tyInt w64), l₃) ∷ ((tyInt w64), l₄) ∷ (SessionCopy-l.mir, l₅) ∷ (tyBool, l₆) ∷ ((tyInt w64), l₇) ∷ (tyPtr, l₈) ∷ (SessionCopy-l.mir, l₉) ∷ (tyUnit, l₁₀) ∷ ((tyRef erased mut (pointee ((Array u64 6) .written))), l₁₁) ∷ ((sliceTy (tyRef erased mut (pointee ((Array u64 6) .written)))), l₁₂) ∷ []
+    En = (tyUnit, l₀) ∷ ((sliceTy (tyRef (named 0) imm (pointee (SessionCopy-t.the-row .written)))), l₁) ∷ ((sliceTy (tyRef (named 1) mut (pointee ((Array u64 8) .written)))), l₂) ∷ ((tyInt w64), l₃) ∷ ((tyInt w64), l₄) ∷ (SessionCopy-l.mir, l₅) ∷ (tyBool, l₆) ∷ ((tyInt w64), l₇) ∷ (tyPtr, l₈) ∷ (SessionCopy-l.mir, l₉) ∷ (tyUnit, l₁₀) ∷ ((tyRef erased mut (pointee ((Array u64 8) .written))), l₁₁) ∷ ((sliceTy (tyRef erased mut (pointee ((Array u64 8) .written)))), l₁₂) ∷ []
 
     module _ where
       abbrev At-2 : (i : ℕ) → (ys : List (List ℕ)) → List (Item 𝓤)
-      At-2 i ys = ‵ (ShrSlice (named 0) κ₁ SessionCopy-t.the-row .own (at-list b₁ o₁ γ₁ from′) (sliceVal (b₁, o₁) n₁ ∷ [])) ∷ ‵ (flft κ₁ q₁) ∷ ‵ (MutSlice (named 0) κ₂ (Array u64 6) .own (at-list b₂ o₂ γ₂ ys) (sliceVal (b₂, o₂) n₂ ∷ [])) ∷ ‵ (flft κ₂ q₂) ∷ free 𝓤 (sliceTy (tyRef erased mut (pointee ((Array u64 6) .written)))) l₁₂ (free 𝓤 (tyRef erased mut (pointee ((Array u64 6) .written))) l₁₁ (free 𝓤 tyUnit l₁₀ (free 𝓤 SessionCopy-l.mir l₉ (free 𝓤 tyPtr l₈ (free 𝓤 (tyInt w64) l₇ (free 𝓤 tyBool l₆ (free 𝓤 SessionCopy-l.mir l₅ (full 𝓤 (tyInt w64) l₄ (u64-p .val i) (full 𝓤 (tyInt w64) l₃ (u64-p .val n′) (full 𝓤 (sliceTy (tyRef (named 1) mut (pointee ((Array u64 6) .written)))) l₂ (sliceVal (b₂, o₂) n₂) (full 𝓤 (sliceTy (tyRef (named 0) imm (pointee (SessionCopy-t.the-row .written)))) l₁ (sliceVal (b₁, o₁) n₁) (free 𝓤 tyUnit l₀ ([])))))))))))))
+      At-2 i ys = ‵ (ShrSlice (named 0) κ₁ SessionCopy-t.the-row .own (at-list b₁ o₁ γ₁ from′) (sliceVal (b₁, o₁) n₁ ∷ [])) ∷ ‵ (flft κ₁ q₁) ∷ ‵ (MutSlice (named 0) κ₂ (Array u64 8) .own (at-list b₂ o₂ γ₂ ys) (sliceVal (b₂, o₂) n₂ ∷ [])) ∷ ‵ (flft κ₂ q₂) ∷ free 𝓤 (sliceTy (tyRef erased mut (pointee ((Array u64 8) .written)))) l₁₂ (free 𝓤 (tyRef erased mut (pointee ((Array u64 8) .written))) l₁₁ (free 𝓤 tyUnit l₁₀ (free 𝓤 SessionCopy-l.mir l₉ (free 𝓤 tyPtr l₈ (free 𝓤 (tyInt w64) l₇ (free 𝓤 tyBool l₆ (free 𝓤 SessionCopy-l.mir l₅ (full 𝓤 (tyInt w64) l₄ (u64-p .val i) (full 𝓤 (tyInt w64) l₃ (u64-p .val n′) (full 𝓤 (sliceTy (tyRef (named 1) mut (pointee ((Array u64 8) .written)))) l₂ (sliceVal (b₂, o₂) n₂) (full 𝓤 (sliceTy (tyRef (named 0) imm (pointee (SessionCopy-t.the-row .written)))) l₁ (sliceVal (b₁, o₁) n₁) (free 𝓤 tyUnit l₀ ([])))))))))))))
 
       abbrev Facts-2 : ℕ → (i : ℕ) → (ys : List (List ℕ)) → Type 0
       Facts-2 t i ys = (t ≡ n′ - i) × (Is (u64-p .row) i (u64-p .val i ∷ [])) × (length ys ≡ n₂) × ((i ≤ n′) × (ys ≡ restored sessionBack noSession sessionSpot i from′ to))
@@ -157,35 +159,35 @@ module _ {M : Type 1} (𝓤 : URA M) (H : Heap 𝓤) (A : Atoms 𝓤) (W : Given
           knows ! (ltb i n′ ≡ true) (holds (ltb i n′) h-2·2) (λ c-2·2.
           skips ! $
           exec ! C Λ En (past 2 mir.turn-1) (anyQ (afterTurn 𝓤 H (Below-2 t-2) Left-2)) $
-          knows ! (i * 48 < 2 ^ 64) (omega (arith, ltb-true, ltb-false, leb-true, leb-false, eqb-true, eqb-false)) (λ fits-2·3.
-          assigns ! (bin ! (load ! (from ! (stop !)) (look ! 20 refl)) (lit ! tt) (record { fits = fits-2·3 })) (from ! (stop !)) (init ! 14 refl (u64-p .typed 𝓤 H A W (i * 48) ((refl, fits-2·3)))) $
+          knows ! (i * 64 < 2 ^ 64) (omega (arith, ltb-true, ltb-false, leb-true, leb-false, eqb-true, eqb-false)) (λ fits-2·3.
+          assigns ! (bin ! (load ! (from ! (stop !)) (look ! 20 refl)) (lit ! tt) (record { fits = fits-2·3 })) (from ! (stop !)) (init ! 14 refl (u64-p .typed 𝓤 H A W (i * 64) ((refl, fits-2·3)))) $
           assigns ! (bin ! (load ! (from ! (fld ! refl (stop !))) (look-in ! 26 (sub ! 0 refl (whole !)))) (load ! (from ! (stop !)) (look ! 14 refl)) tt) (from ! (stop !)) (init ! 12 refl (tt, tt)) $
-          rewrite ! 12 (λ (p : ℕ). ‵ (fat fullShare tyPtr l₈ 0 (vptr b₁ p))) (sym (place-is 48 o₁ i)) refl $
+          rewrite ! 12 (λ (p : ℕ). ‵ (fat fullShare tyPtr l₈ 0 (vptr b₁ p))) (sym (place-is 64 o₁ i)) refl $
           knows ! (i < length from′) (omega (arith, ltb-true, ltb-false, leb-true, leb-false, eqb-true, eqb-false)) (λ index-2·5.
-          views-elem ! tt SessionCopy-p b₁ o₁ from′ n₁ (refl) i ((SessionCopy-of (replicate 6 0))) index-2·5 (λ s-2·5 is-2·5.
-          assigns ! (of-opd ! (load ! (from ! (hop ! (look ! 16 refl) (stop !))) (look-raw ! 0 refl))) (from ! (stop !)) (init ! 14 refl (SessionCopy-p .typed 𝓤 H A W (getD from′ i ((SessionCopy-of (replicate 6 0)))) is-2·5)) $
-          unviews-elem ! tt SessionCopy-p b₁ o₁ from′ n₁ (refl) room₁ i ((SessionCopy-of (replicate 6 0))) index-2·5 s-2·5 $
-          assigns ! (of-opd ! (load ! (from ! (stop !)) (look ! 10 refl))) (from ! (stop !)) (init ! 18 refl (SessionCopy-p .typed 𝓤 H A W (getD from′ i ((SessionCopy-of (replicate 6 0)))) is-2·5)) $
+          views-elem ! tt SessionCopy-p b₁ o₁ from′ n₁ (refl) i ((SessionCopy-of (replicate 8 0))) index-2·5 (λ s-2·5 is-2·5.
+          assigns ! (of-opd ! (load ! (from ! (hop ! (look ! 16 refl) (stop !))) (look-raw ! 0 refl))) (from ! (stop !)) (init ! 14 refl (SessionCopy-p .typed 𝓤 H A W (getD from′ i ((SessionCopy-of (replicate 8 0)))) is-2·5)) $
+          unviews-elem ! tt SessionCopy-p b₁ o₁ from′ n₁ (refl) room₁ i ((SessionCopy-of (replicate 8 0))) index-2·5 s-2·5 $
+          assigns ! (of-opd ! (load ! (from ! (stop !)) (look ! 10 refl))) (from ! (stop !)) (init ! 18 refl (SessionCopy-p .typed 𝓤 H A W (getD from′ i ((SessionCopy-of (replicate 8 0)))) is-2·5)) $
           assigns ! (addr ! (from ! (fld ! refl (hop ! (look-in ! 24 (sub ! 0 refl (whole !))) (stop !))))) (from ! (stop !)) (init ! 6 refl (tt, tt)) $
           assigns ! (agg ! (and-then ! (load ! (from ! (stop !)) (look ! 6 refl)) (and-then ! (load ! (from ! (fld ! refl (stop !))) (look-in ! 24 (sub ! 1 refl (whole !)))) (no-more !)))) (from ! (stop !)) (init ! 4 refl (tt, (tt, (record { fits = room₂ .0 }, tt)))) $
           knows ! (i < length (ys)) (omega (arith, ltb-true, ltb-false, leb-true, leb-false, eqb-true, eqb-false)) (λ asks-2·9.
           -- 2.9: agent::dry::session_back
           move ! (2 ∷ 3 ∷ []) $
-          lends-mut ! tt (Array u64 6) b₂ o₂ ys n₂ (ys-len) (λ ν-2·9-to δ-2·9-to.
+          lends-mut ! tt (Array u64 8) b₂ o₂ ys n₂ (ys-len) (λ ν-2·9-to δ-2·9-to.
           nothing ! $ move ! (1 ∷ 0 ∷ []) $ join ! $
           use1 W (raw (toks 𝓤 A 1 (((ν-2·9-to ∷ []), tt)) ((fullShare, tt)))) (id⊢ 𝓤 _) $ nothing ! $
-          owned ! (SessionCopy-p .row) (Is (SessionCopy-p .row)) (SessionCopy-p .makes 𝓤 H A W) (getD from′ i ((SessionCopy-of (replicate 6 0)))) (SessionCopy-p .val (getD from′ i ((SessionCopy-of (replicate 6 0)))) ∷ []) is-2·5 $ fjoin ! $
+          owned ! (SessionCopy-p .row) (Is (SessionCopy-p .row)) (SessionCopy-p .makes 𝓤 H A W) (getD from′ i ((SessionCopy-of (replicate 8 0)))) (SessionCopy-p .val (getD from′ i ((SessionCopy-of (replicate 8 0)))) ∷ []) is-2·5 $ fjoin ! $
           owned ! (u64-p .row) (Is (u64-p .row)) (u64-p .makes 𝓤 H A W) i (u64-p .val i ∷ []) i-is $ fjoin ! $ move ! (2 ∷ 0 ∷ []) $ fjoin ! $ move ! (1 ∷ 0 ∷ []) $
-          calls-any ! fm 1 [] (dry-session-back.signature .params) (dry-session-back.ended .kept) unit-p (dry-session-back.clauses 𝓤 H A mem run) known-dry-session-back ((ν-2·9-to ∷ []), tt) (fullShare, tt) tt (at-list b₂ o₂ δ-2·9-to ys, (i, (getD from′ i ((SessionCopy-of (replicate 6 0))), tt))) (sliceVal (b₂, o₂) n₂ ∷ [], (u64-p .val i ∷ [], (SessionCopy-p .val (getD from′ i ((SessionCopy-of (replicate 6 0)))) ∷ [], tt))) tt tt (λ ws-2·9. (ws-2·9 .0 ≡ set (ys) i (sessionBack (getD from′ i ((SessionCopy-of (replicate 6 0))))))) (factI 𝓤 (i < length (ys)) _ asks-2·9) (λ r ws-2·9. fact-mono 𝓤 ((ws-2·9 .0) ≡ set (ys) i (sessionBack (getD from′ i ((SessionCopy-of (replicate 6 0)))))) ((r ≡ tt) × ((ws-2·9 .0 ≡ set (ys) i (sessionBack (getD from′ i ((SessionCopy-of (replicate 6 0)))))))) (λ e. (refl, e))) (λ _. (and-then ! (load ! (from ! (stop !)) (look ! 4 refl)) (and-then ! (load ! (from ! (stop !)) (look ! 20 refl)) (and-then ! (load ! (from ! (stop !)) (look ! 18 refl)) (no-more !))))) (λ ws-2·9 said-2·9 is-2·9.
+          calls-any ! fm 1 [] (dry-session-back.signature .params) (dry-session-back.ended .kept) unit-p (dry-session-back.clauses 𝓤 H A mem run) known-dry-session-back ((ν-2·9-to ∷ []), tt) (fullShare, tt) tt (at-list b₂ o₂ δ-2·9-to ys, (i, (getD from′ i ((SessionCopy-of (replicate 8 0))), tt))) (sliceVal (b₂, o₂) n₂ ∷ [], (u64-p .val i ∷ [], (SessionCopy-p .val (getD from′ i ((SessionCopy-of (replicate 8 0)))) ∷ [], tt))) tt tt (λ ws-2·9. (ws-2·9 .0 ≡ set (ys) i (sessionBack (getD from′ i ((SessionCopy-of (replicate 8 0))))))) (factI 𝓤 (i < length (ys)) _ asks-2·9) (λ r ws-2·9. fact-mono 𝓤 ((ws-2·9 .0) ≡ set (ys) i (sessionBack (getD from′ i ((SessionCopy-of (replicate 8 0)))))) ((r ≡ tt) × ((ws-2·9 .0 ≡ set (ys) i (sessionBack (getD from′ i ((SessionCopy-of (replicate 8 0)))))))) (λ e. (refl, e))) (λ _. (and-then ! (load ! (from ! (stop !)) (look ! 4 refl)) (and-then ! (load ! (from ! (stop !)) (look ! 20 refl)) (and-then ! (load ! (from ! (stop !)) (look ! 18 refl)) (no-more !))))) (λ ws-2·9 said-2·9 is-2·9.
           use1 W ((‵ (flft (ν-2·9-to ∷ []) fullShare) ⊛ ‵ ftrue)) (id⊢ 𝓤 _) $ split ! $ move ! (2 ∷ []) $ fsplit ! $ fsplit ! $ move ! (1 ∷ []) $
           feqL ! (λ wlen-2·9-0.
           move ! (2 ∷ 4 ∷ 0 ∷ []) $
-          backs-mut ! tt (Array u64 6) b₂ o₂ ys n₂ (ys-len) room₂ ν-2·9-to δ-2·9-to (ws-2·9 .0) (set (ys) i (sessionBack (getD from′ i ((SessionCopy-of (replicate 6 0)))))) wlen-2·9-0 (said-2·9) (λ len-2·9-to.
+          backs-mut ! tt (Array u64 8) b₂ o₂ ys n₂ (ys-len) room₂ ν-2·9-to δ-2·9-to (ws-2·9 .0) (set (ys) i (sessionBack (getD from′ i ((SessionCopy-of (replicate 8 0)))))) wlen-2·9-0 (said-2·9) (λ len-2·9-to.
           move ! (2 ∷ []) $ drop ! $ move ! (2 ∷ []) $ drop ! $
           land ! (from ! (stop !)) (init ! 8 refl (unit-p .typed 𝓤 H A W tt is-2·9)) $
           knows ! (i + 1 < 2 ^ 64) (omega (arith, ltb-true, ltb-false, leb-true, leb-false, eqb-true, eqb-false)) (λ fits-2·10.
           assigns-last ! (bin ! (load ! (from ! (stop !)) (look ! 20 refl)) (lit ! tt) (record { fits = fits-2·10 })) (from ! (stop !)) (store ! 20 refl (u64-p .typed 𝓤 H A W (i + 1) ((refl, fits-2·10)))) $ forget ! 4 refl $ forget ! 6 refl $ forget ! 8 refl $ forget ! 10 refl $ forget ! 12 refl $ forget ! 14 refl $ forget ! 16 refl $ forget ! 18 refl $ move ! (2 ∷ 3 ∷ 0 ∷ 1 ∷ 4 ∷ 5 ∷ 6 ∷ 7 ∷ 8 ∷ 9 ∷ 10 ∷ 11 ∷ 12 ∷ 13 ∷ 14 ∷ 15 ∷ 16 ∷ 17 ∷ 18 ∷ 19 ∷ 20 ∷ 21 ∷ 22 ∷ 23 ∷ 24 ∷ 25 ∷ 26 ∷ 27 ∷ 28 ∷ 29 ∷ []) $
-          by ! (again-2 t-2 (i + 1) (set (ys) i (sessionBack (getD from′ i ((SessionCopy-of (replicate 6 0)))))) ((refl, fits-2·10)) len-2·9-to (((omega (arith, ltb-true, ltb-false, leb-true, leb-false, eqb-true, eqb-false)), ap (λ (zs : List (List ℕ)). set zs (i) (sessionBack (getD from′ i noSession))) (inv-2 .1) ∙ restored-more sessionBack noSession sessionSpot from′ to i)) (omega (arith, ltb-true, ltb-false, leb-true, leb-false, eqb-true, eqb-false))))))))))))))
+          by ! (again-2 t-2 (i + 1) (set (ys) i (sessionBack (getD from′ i ((SessionCopy-of (replicate 8 0)))))) ((refl, fits-2·10)) len-2·9-to (((omega (arith, ltb-true, ltb-false, leb-true, leb-false, eqb-true, eqb-false)), ap (λ (zs : List (List ℕ)). set zs (i) (sessionBack (getD from′ i noSession))) (inv-2 .1) ∙ restored-more sessionBack noSession sessionSpot from′ to i)) (omega (arith, ltb-true, ltb-false, leb-true, leb-false, eqb-true, eqb-false))))))))))))))
           (λ h-2·2.
           knows ! (ltb i n′ ≡ false) (fails (ltb i n′) (T-not (ltb i n′) h-2·2)) (λ c-2·2.
           jumps ! $
@@ -200,7 +202,7 @@ module _ {M : Type 1} (𝓤 : URA M) (H : Heap 𝓤) (A : Atoms 𝓤) (W : Given
       loops-2 : (i : ℕ) (i-is : Is (u64-p .row) i (u64-p .val i ∷ [])) → (ys : List (List ℕ)) (ys-len : length ys ≡ n₂) → ((i ≤ n′) × (ys ≡ restored sessionBack noSession sessionSpot i from′ to)) → ent 𝓤 (⋆ 𝓤 H A (At-2 i ys)) (Wp 𝓤 H C Λ En (loop mir.turn-1) Left-2)
       loops-2 i i-is ys ys-len inv = via 𝓤 (Inv-2 (n′ - i)) (inv-at-2 (n′ - i) i ys (refl, i-is, ys-len, inv)) (loop-rule 𝓤 H (W .laws) 𝓣 _<_ (Nat·lt-wfRel .wf) En mir.turn-1 Left-2 Inv-2 turns-2 (n′ - i))
 
-    begins : Sq W (‵ (ShrSlice (named 0) κ₁ SessionCopy-t.the-row .own (at-list b₁ o₁ γ₁ from′) (sliceVal (b₁, o₁) n₁ ∷ [])) ∷ ‵ (flft κ₁ q₁) ∷ ‵ (MutSlice (named 0) κ₂ (Array u64 6) .own (at-list b₂ o₂ γ₂ to) (sliceVal (b₂, o₂) n₂ ∷ [])) ∷ ‵ (flft κ₂ q₂) ∷ free 𝓤 (sliceTy (tyRef erased mut (pointee ((Array u64 6) .written)))) l₁₂ (free 𝓤 (tyRef erased mut (pointee ((Array u64 6) .written))) l₁₁ (free 𝓤 tyUnit l₁₀ (free 𝓤 SessionCopy-l.mir l₉ (free 𝓤 tyPtr l₈ (free 𝓤 (tyInt w64) l₇ (free 𝓤 tyBool l₆ (free 𝓤 SessionCopy-l.mir l₅ (free 𝓤 (tyInt w64) l₄ (full 𝓤 (tyInt w64) l₃ (u64-p .val n′) (full 𝓤 (sliceTy (tyRef (named 1) mut (pointee ((Array u64 6) .written)))) l₂ (sliceVal (b₂, o₂) n₂) (full 𝓤 (sliceTy (tyRef (named 0) imm (pointee (SessionCopy-t.the-row .written)))) l₁ (sliceVal (b₁, o₁) n₁) (free 𝓤 tyUnit l₀ ([])))))))))))))) (runs C Λ En mir.t-1 (atRet En Post))
+    begins : Sq W (‵ (ShrSlice (named 0) κ₁ SessionCopy-t.the-row .own (at-list b₁ o₁ γ₁ from′) (sliceVal (b₁, o₁) n₁ ∷ [])) ∷ ‵ (flft κ₁ q₁) ∷ ‵ (MutSlice (named 0) κ₂ (Array u64 8) .own (at-list b₂ o₂ γ₂ to) (sliceVal (b₂, o₂) n₂ ∷ [])) ∷ ‵ (flft κ₂ q₂) ∷ free 𝓤 (sliceTy (tyRef erased mut (pointee ((Array u64 8) .written)))) l₁₂ (free 𝓤 (tyRef erased mut (pointee ((Array u64 8) .written))) l₁₁ (free 𝓤 tyUnit l₁₀ (free 𝓤 SessionCopy-l.mir l₉ (free 𝓤 tyPtr l₈ (free 𝓤 (tyInt w64) l₇ (free 𝓤 tyBool l₆ (free 𝓤 SessionCopy-l.mir l₅ (free 𝓤 (tyInt w64) l₄ (full 𝓤 (tyInt w64) l₃ (u64-p .val n′) (full 𝓤 (sliceTy (tyRef (named 1) mut (pointee ((Array u64 8) .written)))) l₂ (sliceVal (b₂, o₂) n₂) (full 𝓤 (sliceTy (tyRef (named 0) imm (pointee (SessionCopy-t.the-row .written)))) l₁ (sliceVal (b₁, o₁) n₁) (free 𝓤 tyUnit l₀ ([])))))))))))))) (runs C Λ En mir.t-1 (atRet En Post))
     begins =
         assigns ! (of-opd ! (lit ! tt)) (from ! (stop !)) (init ! 20 refl (u64-p .typed 𝓤 H A W 0 ((refl, lit< tt)))) $
         first ! $
@@ -210,17 +212,17 @@ module _ {M : Type 1} (𝓤 : URA M) (H : Heap 𝓤) (A : Atoms 𝓤) (W : Given
   module _ (𝓣 : Tables 𝓤 H) (known-dry-session-back : Triple 𝓤 (𝓣 .C #dry-session-back) (Of-dry-session-back 𝓤 H A mem run)) where
     walk : ent 𝓤 (onEntry 𝓤 H A f.signature (κ₁, (κ₂, tt)) (q₁, (q₂, tt)) x at) (WpFn 𝓤 H (𝓣 .C) (𝓣 .Λ) code.function (sliceVal (b₁, o₁) n₁ ∷ sliceVal (b₂, o₂) n₂ ∷ u64-p .val n′ ∷ []) Post)
     walk =
-        qed W ((‵ (flft κ₁ q₁) ⊛ (‵ (flft κ₂ q₂) ⊛ ‵ ftrue)) ∷ ‵ (owns (ShrSlice (named 0) κ₁ SessionCopy-t.the-row ∷ MutSlice (named 1) κ₂ (Array u64 6) ∷ u64-p .row ∷ []) x at) ∷ []) ∵ enter ! (𝓣 .C) (𝓣 .Λ) code.function (sliceVal (b₁, o₁) n₁ ∷ sliceVal (b₂, o₂) n₂ ∷ u64-p .val n′ ∷ []) _ $
+        qed W ((‵ (flft κ₁ q₁) ⊛ (‵ (flft κ₂ q₂) ⊛ ‵ ftrue)) ∷ ‵ (owns (ShrSlice (named 0) κ₁ SessionCopy-t.the-row ∷ MutSlice (named 1) κ₂ (Array u64 8) ∷ u64-p .row ∷ []) x at) ∷ []) ∵ enter ! (𝓣 .C) (𝓣 .Λ) code.function (sliceVal (b₁, o₁) n₁ ∷ sliceVal (b₂, o₂) n₂ ∷ u64-p .val n′ ∷ []) _ $
         alloc1 ! (λ l₀. alloc1 ! (λ l₁. alloc1 ! (λ l₂. alloc1 ! (λ l₃. alloc1 ! (λ l₄. alloc1 ! (λ l₅. alloc1 ! (λ l₆. alloc1 ! (λ l₇. alloc1 ! (λ l₈. alloc1 ! (λ l₉. alloc1 ! (λ l₁₀. alloc1 ! (λ l₁₁. alloc1 ! (λ l₁₂. alloc0 ! $ params1 ! $ pass1 ! (init ! 22 refl (tt, (tt, (record { fits = room₁ .0 }, tt)))) $ pass1 ! (init ! 20 refl (tt, (tt, (record { fits = room₂ .0 }, tt)))) $ pass1 ! (init ! 18 refl (u64-p .typed 𝓤 H A W n′ n′-is)) $ pass0 ! $ move ! (27 ∷ []) $ fsplit ! $ move ! (1 ∷ []) $ fsplit ! $ move ! (29 ∷ []) $ split ! $ move ! (1 ∷ []) $ split ! $ move ! (1 ∷ []) $ drop ! $ move ! (3 ∷ []) $ drop ! $ move ! (3 ∷ 1 ∷ 2 ∷ 0 ∷ 4 ∷ 5 ∷ 6 ∷ 7 ∷ 8 ∷ 9 ∷ 10 ∷ 11 ∷ 12 ∷ 13 ∷ 14 ∷ 15 ∷ 16 ∷ 17 ∷ 18 ∷ 19 ∷ 20 ∷ 21 ∷ 22 ∷ 23 ∷ 24 ∷ 25 ∷ 26 ∷ 27 ∷ 28 ∷ 29 ∷ []) $
         begins 𝓣 known-dry-session-back l₀ l₁ l₂ l₃ l₄ l₅ l₆ l₇ l₈ l₉ l₁₀ l₁₁ l₁₂)))))))))))))
 
 module _ {M : Type 1} (𝓤 : URA M) (H : Heap 𝓤) (A : Atoms 𝓤) (W : Given 𝓤 H A) (mem : Memory → SProp 𝓤) (run : Routine → Fun 𝓤) (𝓣 : Tables 𝓤 H) (known-dry-session-back : Triple 𝓤 (𝓣 .C #dry-session-back) (Of-dry-session-back 𝓤 H A mem run)) where
   walks : Walks 𝓤 H A f.ended stayed (WpFn 𝓤 H (𝓣 .C) (𝓣 .Λ) code.function) (f.clauses 𝓤 H A mem run)
-  walks = walked 𝓤 H A f.ended stayed (f.clauses 𝓤 H A mem run) (WpFn 𝓤 H (𝓣 .C) (𝓣 .Λ) code.function) (λ κs. (slice-vals, (slice-vals, ((λ y. u64-p .val y ∷ []), tt)))) (λ κs. (shr-slice-tells (named 0) (κs .0) SessionCopy-t.the-row, (mut-slice-tells (named 1) (κs .1 .0) (Array u64 6), (u64-p .tells, tt))))
+  walks = walked 𝓤 H A f.ended stayed (f.clauses 𝓤 H A mem run) (WpFn 𝓤 H (𝓣 .C) (𝓣 .Λ) code.function) (λ κs. (slice-vals, (slice-vals, ((λ y. u64-p .val y ∷ []), tt)))) (λ κs. (shr-slice-tells (named 0) (κs .0) SessionCopy-t.the-row, (mut-slice-tells (named 1) (κs .1 .0) (Array u64 8), (u64-p .tells, tt))))
       (λ κs qs bounds a g are. needs 𝓤 _ _ (λ within. walk 𝓤 H A W mem run (κs .0) (qs .0) (a .0 .ptr .0) (a .0 .ptr .1) (a .0 .name) (a .0 .now) (κs .1 .0) (qs .1 .0) (a .1 .0 .ptr .0) (a .1 .0 .ptr .1) (a .1 .0 .name) (a .1 .0 .now) (a .1 .1 .0) (are .0 .0 .1) (are .1 .0 .0 .1) (are .1 .1 .0) within 𝓣 known-dry-session-back))
 
   meets : Meets 𝓤 H A f.signature (WpFn 𝓤 H (𝓣 .C) (𝓣 .Λ) code.function) (f.spec 𝓤 H A mem run)
-  meets = walk-meets 𝓤 H A f.ended stayed W (goes-none-slice 𝓤 H A W 2 (0 ∷ []) tt (plain (λ _. SessionCopy-t.the-row)) yes, (goes-slice 𝓤 H A W 2 1 tt (plain (λ _. (Array u64 6))), (goes-none 𝓤 H A W 2 (λ _. u64-p .row) yes (λ κs x f. refl), tt))) (f.clauses 𝓤 H A mem run) (WpFn 𝓤 H (𝓣 .C) (𝓣 .Λ) code.function) (WpFn-mono 𝓤 H (W .laws) 𝓣 code.function) walks
+  meets = walk-meets 𝓤 H A f.ended stayed W (goes-none-slice 𝓤 H A W 2 (0 ∷ []) tt (plain (λ _. SessionCopy-t.the-row)) yes, (goes-slice 𝓤 H A W 2 1 tt (plain (λ _. (Array u64 8))), (goes-none 𝓤 H A W 2 (λ _. u64-p .row) yes (λ κs x f. refl), tt))) (f.clauses 𝓤 H A mem run) (WpFn 𝓤 H (𝓣 .C) (𝓣 .Λ) code.function) (WpFn-mono 𝓤 H (W .laws) 𝓣 code.function) walks
 
 pub restore-sessions-spec : {M : Type 1} → stated.statement M
 unfolding code.routine tablesOf

@@ -8,11 +8,11 @@ use Rattle.agent.proofs.process.asks_in.Tie as tie
 returns : tie.Need-returns
 returns c = let a = c .before .before .before .before .args in asks-none (a .s) (a .d .now) (c .if1 .taken)
 
-acknacks-requires : tie.Need-acknacks-requires
-acknacks-requires c κs = search needs
+count-ids-requires : tie.Need-count-ids-requires
+count-ids-requires c κs = search needs
 
 returns-2 : tie.Need-returns-2
-returns-2 c = let a = c .before .before .before .before .before .args in c .acknacks .ensures ∙ asks-all (a .s) (a .d .now) (c .before .if1 .left)
+returns-2 c = let a = c .before .before .before .before .before .args in c .count-ids .ensures ∙ asks-all (a .s) (a .d .now) (c .before .if1 .left)
 
 pub asks-in-spec : {M : Type 1} → statement M
-asks-in-spec = tie.close (tie.spec returns acknacks-requires returns-2)
+asks-in-spec = tie.close (tie.spec returns count-ids-requires returns-2)

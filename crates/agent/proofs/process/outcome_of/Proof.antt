@@ -9,11 +9,17 @@ enum-told c = search needs
 enum-known-stop : tie.Need-enum-known-stop
 enum-known-stop c = search needs
 
+enum-known-stop-2 : tie.Need-enum-known-stop-2
+enum-known-stop-2 c = search needs
+
 returns : tie.Need-returns
 returns c = rw (c .enum-told .given .1)
 
 returns-2 : tie.Need-returns-2
 returns-2 c = rw (c .before .stop .given .1)
 
+returns-3 : tie.Need-returns-3
+returns-3 c = rw (c .before .stop2 .given .1)
+
 pub outcome-of-spec : {M : Type 1} → statement M
-outcome-of-spec = tie.close (tie.spec enum-told enum-known-stop returns returns-2)
+outcome-of-spec = tie.close (tie.spec enum-told enum-known-stop enum-known-stop-2 returns returns-2 returns-3)

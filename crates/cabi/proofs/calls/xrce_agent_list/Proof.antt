@@ -75,7 +75,7 @@ use Rattle.sessions.specs.declared.object_list.Listed.the-variants.{Numbers as 
 use Rattle.codec.specs.declared.refusals.Refusal.{Refusal}
 use Rattle.codec.proofs.refusals.Refusal as Refusal-t
 use Rattle.codec.proofs.refusals.Refusal.Laws as Refusal-l
-use Rattle.codec.specs.declared.refusals.Refusal.the-variants.{BufferTooShort as Refusal-BufferTooShort, UnknownSubmessageId as Refusal-UnknownSubmessageId, UnknownObjectKind as Refusal-UnknownObjectKind, UnknownStatusCode as Refusal-UnknownStatusCode, PayloadLengthMismatch as Refusal-PayloadLengthMismatch, SessionFull as Refusal-SessionFull, FragmentSizeZero as Refusal-FragmentSizeZero, EmptyPayload as Refusal-EmptyPayload, TooManyFragments as Refusal-TooManyFragments, FragmentNumber as Refusal-FragmentNumber, MissingFragments as Refusal-MissingFragments, TooLong as Refusal-TooLong, OutputTooShort as Refusal-OutputTooShort, StoreFull as Refusal-StoreFull, OutOfTurn as Refusal-OutOfTurn, OverLimit as Refusal-OverLimit}
+use Rattle.codec.specs.declared.refusals.Refusal.the-variants.{BufferTooShort as Refusal-BufferTooShort, UnknownSubmessageId as Refusal-UnknownSubmessageId, UnknownObjectKind as Refusal-UnknownObjectKind, UnknownStatusCode as Refusal-UnknownStatusCode, PayloadLengthMismatch as Refusal-PayloadLengthMismatch, SessionFull as Refusal-SessionFull, FragmentSizeZero as Refusal-FragmentSizeZero, EmptyPayload as Refusal-EmptyPayload, TooManyFragments as Refusal-TooManyFragments, FragmentNumber as Refusal-FragmentNumber, MissingFragments as Refusal-MissingFragments, TooLong as Refusal-TooLong, OutputTooShort as Refusal-OutputTooShort, StoreFull as Refusal-StoreFull, OutOfTurn as Refusal-OutOfTurn, OverLimit as Refusal-OverLimit, NotInFragments as Refusal-NotInFragments}
 use Rattle.agent.proofs.agent.list_objects as agent-list-objects
 use Rattle.agent.proofs.agent.list_objects.Symbol as agent-list-objects-def
 use Rattle.agent.proofs.agent.list_objects.Symbol.{name as #agent-list-objects}
@@ -109,7 +109,7 @@ abbrev Refusal-p : Plain
 Refusal-p = record { row = Refusal-t.the-row; val = EL.val Refusal-t.the-type Refusal-l.the-laws; tells = EL.tells Refusal-t.the-type Refusal-l.the-laws; makes = λ 𝓤 H A W. EL.makes Refusal-t.the-type Refusal-l.the-plain 𝓤 H A; ty = Refusal-l.mir; typed = λ 𝓤 H A W x is. EL.lawful Refusal-t.the-type Refusal-l.the-laws 𝓤 H A W tt .typed x _ is .0; copies = λ 𝓤 H A W. EL.copy Refusal-t.the-type Refusal-l.the-copy 𝓤 H A W }
 
 abbrev stayed : Stays (f.ended .signature .params) (f.ended .kept)
-stayed = (stay-none-slice (0 ∷ []) tt (plain (λ _. (Array u64 6))) yes, (stay-none-slice (1 ∷ []) tt (plain (λ _. Object-t.the-row)) yes, (stay-slice (2 ∷ []) tt (plain (λ _. u16)), (stay-none (λ _. u8-p .row) yes, tt))))
+stayed = (stay-none-slice (0 ∷ []) tt (plain (λ _. (Array u64 8))) yes, (stay-none-slice (1 ∷ []) tt (plain (λ _. Object-t.the-row)) yes, (stay-slice (2 ∷ []) tt (plain (λ _. u16)), (stay-none (λ _. u8-p .row) yes, tt))))
 
 module _ {M : Type 1} (𝓤 : URA M) (H : Heap 𝓤) (A : Atoms 𝓤) (mem : Memory → SProp 𝓤) (run : Routine → Fun 𝓤) where
   abbrev Of-agent-list-objects : Contract 𝓤
@@ -119,7 +119,7 @@ module _ {M : Type 1} (𝓤 : URA M) (H : Heap 𝓤) (A : Atoms 𝓤) (mem : Mem
   Of-answers-listed-as = tripleOf 𝓤 H A answers-listed-as.signature (answers-listed-as.spec 𝓤 H A mem run)
 
 module _ {M : Type 1} (𝓤 : URA M) (H : Heap 𝓤) (A : Atoms 𝓤) (W : Given 𝓤 H A) (mem : Memory → SProp 𝓤) (run : Routine → Fun 𝓤) (κ₁ : Lft) (q₁ : Share) (b₁ o₁ : ℕ) (γ₁ : GName) (sessions : List (List ℕ)) (κ₂ : Lft) (q₂ : Share) (b₂ o₂ : ℕ) (γ₂ : GName) (objects : List Object) (κ₃ : Lft) (q₃ : Share) (b₃ o₃ : ℕ) (γ₃ : GName) (out : List ℕ) (id : ℕ)
-    (room₁ : Room (Array u64 6) (length sessions)) (room₂ : Room Object-t.the-row (length objects)) (room₃ : Room u16 (length out)) (id-is : Is (u8-p .row) id (u8-p .val id ∷ [])) where
+    (room₁ : Room (Array u64 8) (length sessions)) (room₂ : Room Object-t.the-row (length objects)) (room₃ : Room u16 (length out)) (id-is : Is (u8-p .row) id (u8-p .val id ∷ [])) where
   abbrev n₁ : ℕ
   n₁ = length sessions
 
@@ -138,9 +138,9 @@ module _ {M : Type 1} (𝓤 : URA M) (H : Heap 𝓤) (A : Atoms 𝓤) (W : Given
   abbrev Post : Val → SProp 𝓤
   Post = walkOf 𝓤 H A f.ended stayed (f.clauses 𝓤 H A mem run) .post (((κ₁, (κ₂, (κ₃, tt))), (q₁, (q₂, (q₃, tt))), tt, x, at), tt)
 
-  exits : (r : ℕ) (ws₃ : List ℕ) → ((r ≡ listedAs (listOf (sessions) (objects) id (out))) × (ws₃ ≡ listOut (sessions) (objects) id (out))) → Is (u64-p .row) r (u64-p .val r ∷ []) → length ws₃ ≡ n₃ → ent 𝓤 (⋆ 𝓤 H A (‵ (ShrSlice (named 0) κ₁ (Array u64 6) .own (at-list b₁ o₁ γ₁ sessions) (sliceVal (b₁, o₁) n₁ ∷ [])) ∷ ‵ (flft κ₁ q₁) ∷ ‵ (ShrSlice (named 1) κ₂ Object-t.the-row .own (at-list b₂ o₂ γ₂ objects) (sliceVal (b₂, o₂) n₂ ∷ [])) ∷ ‵ (flft κ₂ q₂) ∷ ‵ (MutSlice (named 2) κ₃ u16 .own (at-list b₃ o₃ γ₃ ws₃) (sliceVal (b₃, o₃) n₃ ∷ [])) ∷ ‵ (flft κ₃ q₃) ∷ [])) (Post (u64-p .val r))
+  exits : (r : ℕ) (ws₃ : List ℕ) → ((r ≡ listedAs (listOf (sessions) (objects) id (out))) × (ws₃ ≡ listOut (sessions) (objects) id (out))) → Is (u64-p .row) r (u64-p .val r ∷ []) → length ws₃ ≡ n₃ → ent 𝓤 (⋆ 𝓤 H A (‵ (ShrSlice (named 0) κ₁ (Array u64 8) .own (at-list b₁ o₁ γ₁ sessions) (sliceVal (b₁, o₁) n₁ ∷ [])) ∷ ‵ (flft κ₁ q₁) ∷ ‵ (ShrSlice (named 1) κ₂ Object-t.the-row .own (at-list b₂ o₂ γ₂ objects) (sliceVal (b₂, o₂) n₂ ∷ [])) ∷ ‵ (flft κ₂ q₂) ∷ ‵ (MutSlice (named 2) κ₃ u16 .own (at-list b₃ o₃ γ₃ ws₃) (sliceVal (b₃, o₃) n₃ ∷ [])) ∷ ‵ (flft κ₃ q₃) ∷ [])) (Post (u64-p .val r))
   exits r ws₃ said r-is len₃ =
-      qed W (‵ (ShrSlice (named 0) κ₁ (Array u64 6) .own (at-list b₁ o₁ γ₁ sessions) (sliceVal (b₁, o₁) n₁ ∷ [])) ∷ ‵ (flft κ₁ q₁) ∷ ‵ (ShrSlice (named 1) κ₂ Object-t.the-row .own (at-list b₂ o₂ γ₂ objects) (sliceVal (b₂, o₂) n₂ ∷ [])) ∷ ‵ (flft κ₂ q₂) ∷ ‵ (MutSlice (named 2) κ₃ u16 .own (at-list b₃ o₃ γ₃ ws₃) (sliceVal (b₃, o₃) n₃ ∷ [])) ∷ ‵ (flft κ₃ q₃) ∷ []) ∵
+      qed W (‵ (ShrSlice (named 0) κ₁ (Array u64 8) .own (at-list b₁ o₁ γ₁ sessions) (sliceVal (b₁, o₁) n₁ ∷ [])) ∷ ‵ (flft κ₁ q₁) ∷ ‵ (ShrSlice (named 1) κ₂ Object-t.the-row .own (at-list b₂ o₂ γ₂ objects) (sliceVal (b₂, o₂) n₂ ∷ [])) ∷ ‵ (flft κ₂ q₂) ∷ ‵ (MutSlice (named 2) κ₃ u16 .own (at-list b₃ o₃ γ₃ ws₃) (sliceVal (b₃, o₃) n₃ ∷ [])) ∷ ‵ (flft κ₃ q₃) ∷ []) ∵
       suffices ! _ (ends-at 𝓤 H A f.ended stayed (f.clauses 𝓤 H A mem run) W (((κ₁, (κ₂, (κ₃, tt))), (q₁, (q₂, (q₃, tt))), tt, x, at), tt) (u64-p .val r) r (tt, (tt, (ws₃, (tt, tt)))) (tt, (tt, (len₃, (tt, tt))))) $ says ! said $ nothing ! $ move ! (6 ∷ 0 ∷ []) $ join ! $ move ! (4 ∷ 0 ∷ []) $ join ! $ move ! (2 ∷ 0 ∷ []) $ join ! $
       frame ! $ nothing ! $
       owned ! (u8-p .row) (Is (u8-p .row)) (u8-p .makes 𝓤 H A W) id (u8-p .val id ∷ []) id-is $ fjoin ! $ move ! (3 ∷ 0 ∷ []) $ fjoin ! $ move ! (2 ∷ 0 ∷ []) $ fjoin ! $ move ! (1 ∷ 0 ∷ []) $ fjoin ! $
@@ -158,14 +158,14 @@ module _ {M : Type 1} (𝓤 : URA M) (H : Heap 𝓤) (A : Atoms 𝓤) (W : Given
     fm = fmOf 𝓤 H (W .laws) 𝓣
 
     abbrev En : Env 𝓤 H
-    En = ((tyInt w64), l₀) ∷ ((sliceTy (tyRef (named 0) imm (pointee ((Array u64 6) .written)))), l₁) ∷ ((sliceTy (tyRef (named 1) imm (pointee (Object-t.the-row .written)))), l₂) ∷ ((sliceTy (tyRef (named 2) mut (pointee (u16 .written)))), l₃) ∷ ((tyInt w8), l₄) ∷ (Listed-l.mir, l₅) ∷ ((tyRef erased mut (pointee (u16 .written))), l₆) ∷ ((sliceTy (tyRef erased mut (pointee (u16 .written)))), l₇) ∷ []
+    En = ((tyInt w64), l₀) ∷ ((sliceTy (tyRef (named 0) imm (pointee ((Array u64 8) .written)))), l₁) ∷ ((sliceTy (tyRef (named 1) imm (pointee (Object-t.the-row .written)))), l₂) ∷ ((sliceTy (tyRef (named 2) mut (pointee (u16 .written)))), l₃) ∷ ((tyInt w8), l₄) ∷ (Listed-l.mir, l₅) ∷ ((tyRef erased mut (pointee (u16 .written))), l₆) ∷ ((sliceTy (tyRef erased mut (pointee (u16 .written)))), l₇) ∷ []
 
-    begins : Sq W (‵ (ShrSlice (named 0) κ₁ (Array u64 6) .own (at-list b₁ o₁ γ₁ sessions) (sliceVal (b₁, o₁) n₁ ∷ [])) ∷ ‵ (flft κ₁ q₁) ∷ ‵ (ShrSlice (named 0) κ₂ Object-t.the-row .own (at-list b₂ o₂ γ₂ objects) (sliceVal (b₂, o₂) n₂ ∷ [])) ∷ ‵ (flft κ₂ q₂) ∷ ‵ (MutSlice (named 0) κ₃ u16 .own (at-list b₃ o₃ γ₃ out) (sliceVal (b₃, o₃) n₃ ∷ [])) ∷ ‵ (flft κ₃ q₃) ∷ free 𝓤 (sliceTy (tyRef erased mut (pointee (u16 .written)))) l₇ (free 𝓤 (tyRef erased mut (pointee (u16 .written))) l₆ (free 𝓤 Listed-l.mir l₅ (full 𝓤 (tyInt w8) l₄ (u8-p .val id) (full 𝓤 (sliceTy (tyRef (named 2) mut (pointee (u16 .written)))) l₃ (sliceVal (b₃, o₃) n₃) (full 𝓤 (sliceTy (tyRef (named 1) imm (pointee (Object-t.the-row .written)))) l₂ (sliceVal (b₂, o₂) n₂) (full 𝓤 (sliceTy (tyRef (named 0) imm (pointee ((Array u64 6) .written)))) l₁ (sliceVal (b₁, o₁) n₁) (free 𝓤 (tyInt w64) l₀ ([]))))))))) (runs C Λ En mir.t-1 (atRet En Post))
+    begins : Sq W (‵ (ShrSlice (named 0) κ₁ (Array u64 8) .own (at-list b₁ o₁ γ₁ sessions) (sliceVal (b₁, o₁) n₁ ∷ [])) ∷ ‵ (flft κ₁ q₁) ∷ ‵ (ShrSlice (named 0) κ₂ Object-t.the-row .own (at-list b₂ o₂ γ₂ objects) (sliceVal (b₂, o₂) n₂ ∷ [])) ∷ ‵ (flft κ₂ q₂) ∷ ‵ (MutSlice (named 0) κ₃ u16 .own (at-list b₃ o₃ γ₃ out) (sliceVal (b₃, o₃) n₃ ∷ [])) ∷ ‵ (flft κ₃ q₃) ∷ free 𝓤 (sliceTy (tyRef erased mut (pointee (u16 .written)))) l₇ (free 𝓤 (tyRef erased mut (pointee (u16 .written))) l₆ (free 𝓤 Listed-l.mir l₅ (full 𝓤 (tyInt w8) l₄ (u8-p .val id) (full 𝓤 (sliceTy (tyRef (named 2) mut (pointee (u16 .written)))) l₃ (sliceVal (b₃, o₃) n₃) (full 𝓤 (sliceTy (tyRef (named 1) imm (pointee (Object-t.the-row .written)))) l₂ (sliceVal (b₂, o₂) n₂) (full 𝓤 (sliceTy (tyRef (named 0) imm (pointee ((Array u64 8) .written)))) l₁ (sliceVal (b₁, o₁) n₁) (free 𝓤 (tyInt w64) l₀ ([]))))))))) (runs C Λ En mir.t-1 (atRet En Post))
     begins =
         assigns ! (addr ! (from ! (fld ! refl (hop ! (look-in ! 14 (sub ! 0 refl (whole !))) (stop !))))) (from ! (stop !)) (init ! 8 refl (tt, tt)) $
         assigns ! (agg ! (and-then ! (load ! (from ! (stop !)) (look ! 8 refl)) (and-then ! (load ! (from ! (fld ! refl (stop !))) (look-in ! 14 (sub ! 1 refl (whole !)))) (no-more !)))) (from ! (stop !)) (init ! 6 refl (tt, (tt, (record { fits = room₃ .0 }, tt)))) $
         -- 3: agent::agent::list_objects
-        copies-shr ! (Array u64 6) b₁ o₁ sessions n₁ $ move ! (3 ∷ 4 ∷ []) $
+        copies-shr ! (Array u64 8) b₁ o₁ sessions n₁ $ move ! (3 ∷ 4 ∷ []) $
         copies-shr ! Object-t.the-row b₂ o₂ objects n₂ $ move ! (6 ∷ 7 ∷ []) $
         lends-mut ! tt u16 b₃ o₃ out n₃ (refl) (λ ν-3-out δ-3-out.
         nothing ! $ move ! (1 ∷ 0 ∷ []) $ join ! $ move ! (3 ∷ 0 ∷ []) $ join ! $ move ! (5 ∷ 0 ∷ []) $ join ! $
@@ -191,17 +191,17 @@ module _ {M : Type 1} (𝓤 : URA M) (H : Heap 𝓤) (A : Atoms 𝓤) (W : Given
   module _ (𝓣 : Tables 𝓤 H) (known-agent-list-objects : Triple 𝓤 (𝓣 .C #agent-list-objects) (Of-agent-list-objects 𝓤 H A mem run)) (known-answers-listed-as : Triple 𝓤 (𝓣 .C #answers-listed-as) (Of-answers-listed-as 𝓤 H A mem run)) where
     walk : ent 𝓤 (onEntry 𝓤 H A f.signature (κ₁, (κ₂, (κ₃, tt))) (q₁, (q₂, (q₃, tt))) x at) (WpFn 𝓤 H (𝓣 .C) (𝓣 .Λ) code.function (sliceVal (b₁, o₁) n₁ ∷ sliceVal (b₂, o₂) n₂ ∷ sliceVal (b₃, o₃) n₃ ∷ u8-p .val id ∷ []) Post)
     walk =
-        qed W ((‵ (flft κ₁ q₁) ⊛ (‵ (flft κ₂ q₂) ⊛ (‵ (flft κ₃ q₃) ⊛ ‵ ftrue))) ∷ ‵ (owns (ShrSlice (named 0) κ₁ (Array u64 6) ∷ ShrSlice (named 1) κ₂ Object-t.the-row ∷ MutSlice (named 2) κ₃ u16 ∷ u8-p .row ∷ []) x at) ∷ []) ∵ enter ! (𝓣 .C) (𝓣 .Λ) code.function (sliceVal (b₁, o₁) n₁ ∷ sliceVal (b₂, o₂) n₂ ∷ sliceVal (b₃, o₃) n₃ ∷ u8-p .val id ∷ []) _ $
+        qed W ((‵ (flft κ₁ q₁) ⊛ (‵ (flft κ₂ q₂) ⊛ (‵ (flft κ₃ q₃) ⊛ ‵ ftrue))) ∷ ‵ (owns (ShrSlice (named 0) κ₁ (Array u64 8) ∷ ShrSlice (named 1) κ₂ Object-t.the-row ∷ MutSlice (named 2) κ₃ u16 ∷ u8-p .row ∷ []) x at) ∷ []) ∵ enter ! (𝓣 .C) (𝓣 .Λ) code.function (sliceVal (b₁, o₁) n₁ ∷ sliceVal (b₂, o₂) n₂ ∷ sliceVal (b₃, o₃) n₃ ∷ u8-p .val id ∷ []) _ $
         alloc1 ! (λ l₀. alloc1 ! (λ l₁. alloc1 ! (λ l₂. alloc1 ! (λ l₃. alloc1 ! (λ l₄. alloc1 ! (λ l₅. alloc1 ! (λ l₆. alloc1 ! (λ l₇. alloc0 ! $ params1 ! $ pass1 ! (init ! 12 refl (tt, (tt, (record { fits = room₁ .0 }, tt)))) $ pass1 ! (init ! 10 refl (tt, (tt, (record { fits = room₂ .0 }, tt)))) $ pass1 ! (init ! 8 refl (tt, (tt, (record { fits = room₃ .0 }, tt)))) $ pass1 ! (init ! 6 refl (u8-p .typed 𝓤 H A W id id-is)) $ pass0 ! $ move ! (17 ∷ []) $ fsplit ! $ move ! (1 ∷ []) $ fsplit ! $ move ! (1 ∷ []) $ fsplit ! $ move ! (20 ∷ []) $ split ! $ move ! (1 ∷ []) $ split ! $ move ! (1 ∷ []) $ split ! $ move ! (1 ∷ []) $ drop ! $ move ! (4 ∷ []) $ drop ! $ move ! (5 ∷ 2 ∷ 4 ∷ 1 ∷ 3 ∷ 0 ∷ 6 ∷ 7 ∷ 8 ∷ 9 ∷ 10 ∷ 11 ∷ 12 ∷ 13 ∷ 14 ∷ 15 ∷ 16 ∷ 17 ∷ 18 ∷ 19 ∷ 20 ∷ 21 ∷ []) $
         begins 𝓣 known-agent-list-objects known-answers-listed-as l₀ l₁ l₂ l₃ l₄ l₅ l₆ l₇))))))))
 
 module _ {M : Type 1} (𝓤 : URA M) (H : Heap 𝓤) (A : Atoms 𝓤) (W : Given 𝓤 H A) (mem : Memory → SProp 𝓤) (run : Routine → Fun 𝓤) (𝓣 : Tables 𝓤 H) (known-agent-list-objects : Triple 𝓤 (𝓣 .C #agent-list-objects) (Of-agent-list-objects 𝓤 H A mem run)) (known-answers-listed-as : Triple 𝓤 (𝓣 .C #answers-listed-as) (Of-answers-listed-as 𝓤 H A mem run)) where
   walks : Walks 𝓤 H A f.ended stayed (WpFn 𝓤 H (𝓣 .C) (𝓣 .Λ) code.function) (f.clauses 𝓤 H A mem run)
-  walks = walked 𝓤 H A f.ended stayed (f.clauses 𝓤 H A mem run) (WpFn 𝓤 H (𝓣 .C) (𝓣 .Λ) code.function) (λ κs. (slice-vals, (slice-vals, (slice-vals, ((λ y. u8-p .val y ∷ []), tt))))) (λ κs. (shr-slice-tells (named 0) (κs .0) (Array u64 6), (shr-slice-tells (named 1) (κs .1 .0) Object-t.the-row, (mut-slice-tells (named 2) (κs .1 .1 .0) u16, (u8-p .tells, tt)))))
+  walks = walked 𝓤 H A f.ended stayed (f.clauses 𝓤 H A mem run) (WpFn 𝓤 H (𝓣 .C) (𝓣 .Λ) code.function) (λ κs. (slice-vals, (slice-vals, (slice-vals, ((λ y. u8-p .val y ∷ []), tt))))) (λ κs. (shr-slice-tells (named 0) (κs .0) (Array u64 8), (shr-slice-tells (named 1) (κs .1 .0) Object-t.the-row, (mut-slice-tells (named 2) (κs .1 .1 .0) u16, (u8-p .tells, tt)))))
       (λ κs qs bounds a g are. via 𝓤 _ (fst∗ 𝓤 _ (emp 𝓤)) (walk 𝓤 H A W mem run (κs .0) (qs .0) (a .0 .ptr .0) (a .0 .ptr .1) (a .0 .name) (a .0 .now) (κs .1 .0) (qs .1 .0) (a .1 .0 .ptr .0) (a .1 .0 .ptr .1) (a .1 .0 .name) (a .1 .0 .now) (κs .1 .1 .0) (qs .1 .1 .0) (a .1 .1 .0 .ptr .0) (a .1 .1 .0 .ptr .1) (a .1 .1 .0 .name) (a .1 .1 .0 .now) (a .1 .1 .1 .0) (are .0 .0 .1) (are .1 .0 .0 .1) (are .1 .1 .0 .0 .1) (are .1 .1 .1 .0) 𝓣 known-agent-list-objects known-answers-listed-as))
 
   meets : Meets 𝓤 H A f.signature (WpFn 𝓤 H (𝓣 .C) (𝓣 .Λ) code.function) (f.spec 𝓤 H A mem run)
-  meets = walk-meets 𝓤 H A f.ended stayed W (goes-none-slice 𝓤 H A W 3 (0 ∷ []) tt (plain (λ _. (Array u64 6))) yes, (goes-none-slice 𝓤 H A W 3 (1 ∷ []) tt (plain (λ _. Object-t.the-row)) yes, (goes-slice 𝓤 H A W 3 2 tt (plain (λ _. u16)), (goes-none 𝓤 H A W 3 (λ _. u8-p .row) yes (λ κs x f. refl), tt)))) (f.clauses 𝓤 H A mem run) (WpFn 𝓤 H (𝓣 .C) (𝓣 .Λ) code.function) (WpFn-mono 𝓤 H (W .laws) 𝓣 code.function) walks
+  meets = walk-meets 𝓤 H A f.ended stayed W (goes-none-slice 𝓤 H A W 3 (0 ∷ []) tt (plain (λ _. (Array u64 8))) yes, (goes-none-slice 𝓤 H A W 3 (1 ∷ []) tt (plain (λ _. Object-t.the-row)) yes, (goes-slice 𝓤 H A W 3 2 tt (plain (λ _. u16)), (goes-none 𝓤 H A W 3 (λ _. u8-p .row) yes (λ κs x f. refl), tt)))) (f.clauses 𝓤 H A mem run) (WpFn 𝓤 H (𝓣 .C) (𝓣 .Λ) code.function) (WpFn-mono 𝓤 H (W .laws) 𝓣 code.function) walks
 
 pub xrce-agent-list-spec : {M : Type 1} → stated.statement M
 unfolding code.routine tablesOf

@@ -71,6 +71,18 @@ index-1-t48 c = search needs
 index-2-t48 : tie.Need-index-2-t48
 index-2-t48 c = search needs
 
+index-1-t52 : tie.Need-index-1-t52
+index-1-t52 c = search needs
+
+index-2-t52 : tie.Need-index-2-t52
+index-2-t52 c = search needs
+
+index-1-t56 : tie.Need-index-1-t56
+index-1-t56 c = search needs
+
+index-2-t56 : tie.Need-index-2-t56
+index-2-t56 c = search needs
+
 no-record-requires : tie.Need-no-record-requires
 no-record-requires c κs = search needs
 
@@ -106,6 +118,10 @@ record-at-spec =
     index-2-t44
     index-1-t48
     index-2-t48
+    index-1-t52
+    index-2-t52
+    index-1-t56
+    index-2-t56
     no-record-requires
     returns
     returns-2)

@@ -90,6 +90,18 @@ acknack-at-requires c κs =
 plain-at-requires-5 : tie.Need-plain-at-requires-5
 plain-at-requires-5 c κs = search needs
 
+fragment-at-requires : tie.Need-fragment-at-requires
+unfolding leastOf
+fragment-at-requires c κs =
+    let a = c .before .before .args in
+    omega (arith, enough (a .id) 15 (a .len) (c .match .keys11) (c .before .before .pre .1))
+
+bodied-at-requires-3 : tie.Need-bodied-at-requires-3
+unfolding leastOf
+bodied-at-requires-3 c κs =
+    let a = c .before .before .before .args in
+    omega (arith, enough (a .id) 15 (a .len) (c .before .match .keys11) (c .before .before .before .pre .1))
+
 returns : tie.Need-returns
 unfolding layoutAt
 returns c = rw (c .plain-at .ensures, c .before .create-client-at .ensures, c .before .before .match .keys1)
@@ -130,19 +142,23 @@ returns-10 : tie.Need-returns-10
 unfolding layoutAt
 returns-10 c = rw (c .plain-at5 .ensures, c .before .acknack-at .ensures, c .before .before .match .keys10)
 
+returns-11 : tie.Need-returns-11
+unfolding layoutAt
+returns-11 c = rw (c .bodied-at3 .ensures, c .before .fragment-at .ensures, c .before .before .match .keys11)
+
 -- no arm with a number of its own: an id that is not listed
 rest : (c : tie.At-match-rest) → Refused (UnknownSubmessageId (c .before .before .args .id)) ≡ layoutAt (c .before .before .args .s .now) (c .before .before .args .id) (c .before .before .args .p) (c .before .before .args .len)
 rest c =
-    unlisted _ _ _ _ (c .match .rest .0 .0 .0 .0 .0 .0 .0 .0 .0 .1) (c .match .rest .0 .0 .0 .0 .0 .0 .0 .0 .1) (c .match .rest .0 .0 .0 .0 .0 .0 .0 .1) (c .match .rest .0 .0 .0 .0 .0 .0 .1) (c .match .rest .0 .0 .0 .0 .1) (c .match .rest .0 .0 .0 .1) (c .match .rest .0 .0 .1) (c .match .rest .0 .1) (c .match .rest .1)
-
-returns-11 : tie.Need-returns-11
-returns-11 c = rest (c .before)
+    unlisted _ _ _ _ (c .match .rest .0 .0 .0 .0 .0 .0 .0 .0 .0 .0 .1) (c .match .rest .0 .0 .0 .0 .0 .0 .0 .0 .0 .1) (c .match .rest .0 .0 .0 .0 .0 .0 .0 .0 .1) (c .match .rest .0 .0 .0 .0 .0 .0 .0 .1) (c .match .rest .0 .0 .0 .0 .0 .1) (c .match .rest .0 .0 .0 .0 .1) (c .match .rest .0 .0 .0 .1) (c .match .rest .0 .0 .1) (c .match .rest .0 .1) (c .match .rest .1)
 
 returns-12 : tie.Need-returns-12
-returns-12 c = rest (c .before .before)
+returns-12 c = rest (c .before)
 
 returns-13 : tie.Need-returns-13
 returns-13 c = rest (c .before .before)
+
+returns-14 : tie.Need-returns-14
+returns-14 c = rest (c .before .before)
 
 pub layout-at-spec : {M : Type 1} → statement M
 layout-at-spec =
@@ -164,6 +180,8 @@ layout-at-spec =
     plain-at-requires-4
     acknack-at-requires
     plain-at-requires-5
+    fragment-at-requires
+    bodied-at-requires-3
     returns
     returns-2
     returns-3
@@ -176,4 +194,5 @@ layout-at-spec =
     returns-10
     returns-11
     returns-12
-    returns-13)
+    returns-13
+    returns-14)

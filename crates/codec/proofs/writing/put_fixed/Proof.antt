@@ -86,6 +86,13 @@ put-two-requires-3 : tie.Need-put-two-requires-3
 unfolding fixedBytes le16 le32
 put-two-requires-3 c κs = omega (arith, rw (c .before .before .m9 .given .1) at (c .before .before .before .before .before .pre))
 
+enum-known-m-10 : tie.Need-enum-known-m-10
+enum-known-m-10 c = search needs
+
+put-two-requires-4 : tie.Need-put-two-requires-4
+unfolding fixedBytes le16 le32
+put-two-requires-4 c κs = omega (arith, rw (c .before .before .m10 .given .1) at (c .before .before .before .before .before .pre))
+
 same-length : tie.Need-same-length
 same-length c = search needs
 
@@ -155,6 +162,13 @@ returns-9 : tie.Need-returns-9
 unfolding fixedBytes
 returns-9 c = rw (c .before .before .before .before .before .m9 .given .1) (c .before .before .put-two3 .ensures)
 
+same-length-10 : tie.Need-same-length-10
+same-length-10 c = search needs
+
+returns-10 : tie.Need-returns-10
+unfolding fixedBytes
+returns-10 c = rw (c .before .before .before .before .before .m10 .given .1) (c .before .before .put-two4 .ensures)
+
 pub put-fixed-spec : {M : Type 1} → statement M
 put-fixed-spec =
     tie.close
@@ -181,6 +195,8 @@ put-fixed-spec =
     put-two-requires-2
     enum-known-m-9
     put-two-requires-3
+    enum-known-m-10
+    put-two-requires-4
     same-length
     returns
     same-length-2
@@ -198,4 +214,6 @@ put-fixed-spec =
     same-length-8
     returns-8
     same-length-9
-    returns-9)
+    returns-9
+    same-length-10
+    returns-10)

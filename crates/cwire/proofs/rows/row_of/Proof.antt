@@ -111,6 +111,18 @@ cast-row-14 c = search needs
 row-requires-9 : tie.Need-row-requires-9
 row-requires-9 c κs = search needs
 
+enum-known-m-10 : tie.Need-enum-known-m-10
+enum-known-m-10 c = search needs
+
+cast-row-15 : tie.Need-cast-row-15
+cast-row-15 c = search needs
+
+cast-row-16 : tie.Need-cast-row-16
+cast-row-16 c = search needs
+
+row-requires-10 : tie.Need-row-requires-10
+row-requires-10 c κs = search needs
+
 returns : tie.Need-returns
 returns c = rw (c .before .before .before .before .m .given .1) (c .row .ensures)
 
@@ -137,6 +149,9 @@ returns-8 c = rw (c .before .before .before .before .m8 .given .1) (c .row8 .ens
 
 returns-9 : tie.Need-returns-9
 returns-9 c = rw (c .before .before .before .before .m9 .given .1) (c .row9 .ensures)
+
+returns-10 : tie.Need-returns-10
+returns-10 c = rw (c .before .before .before .before .m10 .given .1) (c .row10 .ensures)
 
 pub row-of-spec : {M : Type 1} → statement M
 row-of-spec =
@@ -178,6 +193,10 @@ row-of-spec =
     cast-row-13
     cast-row-14
     row-requires-9
+    enum-known-m-10
+    cast-row-15
+    cast-row-16
+    row-requires-10
     returns
     returns-2
     returns-3
@@ -186,4 +205,5 @@ row-of-spec =
     returns-6
     returns-7
     returns-8
-    returns-9)
+    returns-9
+    returns-10)

@@ -32,6 +32,9 @@ heartbeat-requires c κs = search needs
 acknack-requires : tie.Need-acknack-requires
 acknack-requires c κs = search needs
 
+fragment-requires : tie.Need-fragment-requires
+fragment-requires c κs = search needs
+
 returns : tie.Need-returns
 unfolding saidBy
 returns c = rw (c .client .ensures, c .before .match .keys1)
@@ -70,7 +73,11 @@ returns-9 c = rw (c .acknack .ensures, c .before .match .keys9)
 
 returns-10 : tie.Need-returns-10
 unfolding saidBy
-returns-10 c = rw (ne-eqb _ 0 (c .match .rest .0 .0 .0 .0 .0 .0 .0 .0 .1), ne-eqb _ 1 (c .match .rest .0 .0 .0 .0 .0 .0 .0 .1), ne-eqb _ 2 (c .match .rest .0 .0 .0 .0 .0 .0 .1), ne-eqb _ 5 (c .match .rest .0 .0 .0 .0 .0 .1), ne-eqb _ 7 (c .match .rest .0 .0 .0 .0 .1), ne-eqb _ 8 (c .match .rest .0 .0 .0 .1), ne-eqb _ 9 (c .match .rest .0 .0 .1), ne-eqb _ 13 (c .match .rest .0 .1), ne-eqb _ 14 (c .match .rest .1))
+returns-10 c = rw (c .fragment .ensures, c .before .match .keys10)
+
+returns-11 : tie.Need-returns-11
+unfolding saidBy
+returns-11 c = rw (ne-eqb _ 0 (c .match .rest .0 .0 .0 .0 .0 .0 .0 .0 .0 .1), ne-eqb _ 1 (c .match .rest .0 .0 .0 .0 .0 .0 .0 .0 .1), ne-eqb _ 2 (c .match .rest .0 .0 .0 .0 .0 .0 .0 .1), ne-eqb _ 5 (c .match .rest .0 .0 .0 .0 .0 .0 .1), ne-eqb _ 7 (c .match .rest .0 .0 .0 .0 .0 .1), ne-eqb _ 8 (c .match .rest .0 .0 .0 .0 .1), ne-eqb _ 9 (c .match .rest .0 .0 .0 .1), ne-eqb _ 13 (c .match .rest .0 .0 .1), ne-eqb _ 14 (c .match .rest .0 .1), ne-eqb _ 15 (c .match .rest .1))
 
 pub said-by-spec : {M : Type 1} → statement M
 said-by-spec =
@@ -85,6 +92,7 @@ said-by-spec =
     data-of-requires
     heartbeat-requires
     acknack-requires
+    fragment-requires
     returns
     returns-2
     returns-3
@@ -94,4 +102,5 @@ said-by-spec =
     returns-7
     returns-8
     returns-9
-    returns-10)
+    returns-10
+    returns-11)

@@ -84,6 +84,15 @@ returns-8 c = rw (c .before .enum-told .given .1) (c .blank .ensures)
 returns-9 : tie.Need-returns-9
 returns-9 c = rw (c .before .enum-told2 .given .1) (c .blank2 .ensures)
 
+enum-known-m-8 : tie.Need-enum-known-m-8
+enum-known-m-8 c = search needs
+
+fragments-requires : tie.Need-fragments-requires
+fragments-requires c κs = search needs
+
+returns-10 : tie.Need-returns-10
+returns-10 c = rw (c .before .before .m8 .given .1) (c .fragments .ensures)
+
 pub asks-spec : {M : Type 1} → statement M
 asks-spec =
     tie.close
@@ -106,6 +115,8 @@ asks-spec =
     blank-requires
     enum-told-2
     blank-requires-2
+    enum-known-m-8
+    fragments-requires
     returns
     returns-2
     returns-3
@@ -114,4 +125,5 @@ asks-spec =
     returns-6
     returns-7
     returns-8
-    returns-9)
+    returns-9
+    returns-10)

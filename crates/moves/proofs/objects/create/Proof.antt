@@ -107,7 +107,7 @@ use Rattle.sessions.specs.declared.room.Room.the-variants.{Free as Room′-Free
 use Rattle.codec.specs.declared.refusals.Refusal.{Refusal}
 use Rattle.codec.proofs.refusals.Refusal as Refusal-t
 use Rattle.codec.proofs.refusals.Refusal.Laws as Refusal-l
-use Rattle.codec.specs.declared.refusals.Refusal.the-variants.{BufferTooShort as Refusal-BufferTooShort, UnknownSubmessageId as Refusal-UnknownSubmessageId, UnknownObjectKind as Refusal-UnknownObjectKind, UnknownStatusCode as Refusal-UnknownStatusCode, PayloadLengthMismatch as Refusal-PayloadLengthMismatch, SessionFull as Refusal-SessionFull, FragmentSizeZero as Refusal-FragmentSizeZero, EmptyPayload as Refusal-EmptyPayload, TooManyFragments as Refusal-TooManyFragments, FragmentNumber as Refusal-FragmentNumber, MissingFragments as Refusal-MissingFragments, TooLong as Refusal-TooLong, OutputTooShort as Refusal-OutputTooShort, StoreFull as Refusal-StoreFull, OutOfTurn as Refusal-OutOfTurn, OverLimit as Refusal-OverLimit}
+use Rattle.codec.specs.declared.refusals.Refusal.the-variants.{BufferTooShort as Refusal-BufferTooShort, UnknownSubmessageId as Refusal-UnknownSubmessageId, UnknownObjectKind as Refusal-UnknownObjectKind, UnknownStatusCode as Refusal-UnknownStatusCode, PayloadLengthMismatch as Refusal-PayloadLengthMismatch, SessionFull as Refusal-SessionFull, FragmentSizeZero as Refusal-FragmentSizeZero, EmptyPayload as Refusal-EmptyPayload, TooManyFragments as Refusal-TooManyFragments, FragmentNumber as Refusal-FragmentNumber, MissingFragments as Refusal-MissingFragments, TooLong as Refusal-TooLong, OutputTooShort as Refusal-OutputTooShort, StoreFull as Refusal-StoreFull, OutOfTurn as Refusal-OutOfTurn, OverLimit as Refusal-OverLimit, NotInFragments as Refusal-NotInFragments}
 use Rattle.sessions.proofs.room.has_room as room-has-room
 use Rattle.sessions.proofs.room.has_room.Symbol as room-has-room-def
 use Rattle.sessions.proofs.room.has_room.Symbol.{name as #room-has-room}
@@ -182,7 +182,7 @@ abbrev Refusal-p : Plain
 Refusal-p = record { row = Refusal-t.the-row; val = EL.val Refusal-t.the-type Refusal-l.the-laws; tells = EL.tells Refusal-t.the-type Refusal-l.the-laws; makes = λ 𝓤 H A W. EL.makes Refusal-t.the-type Refusal-l.the-plain 𝓤 H A; ty = Refusal-l.mir; typed = λ 𝓤 H A W x is. EL.lawful Refusal-t.the-type Refusal-l.the-laws 𝓤 H A W tt .typed x _ is .0; copies = λ 𝓤 H A W. EL.copy Refusal-t.the-type Refusal-l.the-copy 𝓤 H A W }
 
 abbrev stayed : Stays (f.ended .signature .params) (f.ended .kept)
-stayed = (stay-slice (0 ∷ []) tt (plain (λ _. (Array u64 6))), (stay-slice (1 ∷ []) tt (plain (λ _. Object-t.the-row)), (stay-none-slice (2 ∷ []) tt (plain (λ _. u8)) yes, (stay-none (λ _. u8-p .row) yes, (stay-none (λ _. ObjectNumber-p .row) yes, (stay-none (λ _. ObjectKind-p .row) yes, (stay-none (λ _. u16-p .row) yes, (stay-none (λ _. Span-p .row) yes, tt))))))))
+stayed = (stay-slice (0 ∷ []) tt (plain (λ _. (Array u64 8))), (stay-slice (1 ∷ []) tt (plain (λ _. Object-t.the-row)), (stay-none-slice (2 ∷ []) tt (plain (λ _. u8)) yes, (stay-none (λ _. u8-p .row) yes, (stay-none (λ _. ObjectNumber-p .row) yes, (stay-none (λ _. ObjectKind-p .row) yes, (stay-none (λ _. u16-p .row) yes, (stay-none (λ _. Span-p .row) yes, tt))))))))
 
 module _ {M : Type 1} (𝓤 : URA M) (H : Heap 𝓤) (A : Atoms 𝓤) (mem : Memory → SProp 𝓤) (run : Routine → Fun 𝓤) where
   abbrev Of-room-has-room : Contract 𝓤
@@ -198,7 +198,7 @@ module _ {M : Type 1} (𝓤 : URA M) (H : Heap 𝓤) (A : Atoms 𝓤) (mem : Mem
   Of-objects-no-room-move = tripleOf 𝓤 H A objects-no-room-move.signature (objects-no-room-move.spec 𝓤 H A mem run)
 
 module _ {M : Type 1} (𝓤 : URA M) (H : Heap 𝓤) (A : Atoms 𝓤) (W : Given 𝓤 H A) (mem : Memory → SProp 𝓤) (run : Routine → Fun 𝓤) (κ₁ : Lft) (q₁ : Share) (b₁ o₁ : ℕ) (γ₁ : GName) (sessions : List (List ℕ)) (κ₂ : Lft) (q₂ : Share) (b₂ o₂ : ℕ) (γ₂ : GName) (objects : List Object) (κ₃ : Lft) (q₃ : Share) (b₃ o₃ : ℕ) (γ₃ : GName) (d : List ℕ) (id : ℕ) (number : ObjectNumber) (kind : ObjectKind) (parent : ℕ) (body : Span)
-    (room₁ : Room (Array u64 6) (length sessions)) (room₂ : Room Object-t.the-row (length objects)) (room₃ : Room u8 (length d)) (id-is : Is (u8-p .row) id (u8-p .val id ∷ [])) (number-is : Is (ObjectNumber-p .row) number (ObjectNumber-p .val number ∷ [])) (kind-is : Is (ObjectKind-p .row) kind (ObjectKind-p .val kind ∷ [])) (parent-is : Is (u16-p .row) parent (u16-p .val parent ∷ [])) (body-is : Is (Span-p .row) body (Span-p .val body ∷ [])) where
+    (room₁ : Room (Array u64 8) (length sessions)) (room₂ : Room Object-t.the-row (length objects)) (room₃ : Room u8 (length d)) (id-is : Is (u8-p .row) id (u8-p .val id ∷ [])) (number-is : Is (ObjectNumber-p .row) number (ObjectNumber-p .val number ∷ [])) (kind-is : Is (ObjectKind-p .row) kind (ObjectKind-p .val kind ∷ [])) (parent-is : Is (u16-p .row) parent (u16-p .val parent ∷ [])) (body-is : Is (Span-p .row) body (Span-p .val body ∷ [])) where
   abbrev n₁ : ℕ
   n₁ = length sessions
 
@@ -229,9 +229,9 @@ module _ {M : Type 1} (𝓤 : URA M) (H : Heap 𝓤) (A : Atoms 𝓤) (W : Given
   abbrev objects-left : Bool → List Object
   objects-left b = cond b (createdObjects kind sessions objects id number parent) objects
 
-  exits : (r : Move) (ws₁ : List (List ℕ)) (ws₂ : List Object) → ((r ≡ roomMove (roomOf (sessions) (objects) id number) (sessions) (objects) (d) id number kind parent body) × (ws₁ ≡ roomSessions (roomOf (sessions) (objects) id number) (sessions) (objects) id number kind parent) × (ws₂ ≡ roomObjects (roomOf (sessions) (objects) id number) (sessions) (objects) id number kind parent)) → Is (Move-p .row) r (Move-p .val r ∷ []) → length ws₁ ≡ n₁ → length ws₂ ≡ n₂ → ent 𝓤 (⋆ 𝓤 H A (‵ (MutSlice (named 0) κ₁ (Array u64 6) .own (at-list b₁ o₁ γ₁ ws₁) (sliceVal (b₁, o₁) n₁ ∷ [])) ∷ ‵ (flft κ₁ q₁) ∷ ‵ (MutSlice (named 1) κ₂ Object-t.the-row .own (at-list b₂ o₂ γ₂ ws₂) (sliceVal (b₂, o₂) n₂ ∷ [])) ∷ ‵ (flft κ₂ q₂) ∷ ‵ (ShrSlice (named 2) κ₃ u8 .own (at-list b₃ o₃ γ₃ d) (sliceVal (b₃, o₃) n₃ ∷ [])) ∷ ‵ (flft κ₃ q₃) ∷ [])) (Post (Move-p .val r))
+  exits : (r : Move) (ws₁ : List (List ℕ)) (ws₂ : List Object) → ((r ≡ roomMove (roomOf (sessions) (objects) id number) (sessions) (objects) (d) id number kind parent body) × (ws₁ ≡ roomSessions (roomOf (sessions) (objects) id number) (sessions) (objects) id number kind parent) × (ws₂ ≡ roomObjects (roomOf (sessions) (objects) id number) (sessions) (objects) id number kind parent)) → Is (Move-p .row) r (Move-p .val r ∷ []) → length ws₁ ≡ n₁ → length ws₂ ≡ n₂ → ent 𝓤 (⋆ 𝓤 H A (‵ (MutSlice (named 0) κ₁ (Array u64 8) .own (at-list b₁ o₁ γ₁ ws₁) (sliceVal (b₁, o₁) n₁ ∷ [])) ∷ ‵ (flft κ₁ q₁) ∷ ‵ (MutSlice (named 1) κ₂ Object-t.the-row .own (at-list b₂ o₂ γ₂ ws₂) (sliceVal (b₂, o₂) n₂ ∷ [])) ∷ ‵ (flft κ₂ q₂) ∷ ‵ (ShrSlice (named 2) κ₃ u8 .own (at-list b₃ o₃ γ₃ d) (sliceVal (b₃, o₃) n₃ ∷ [])) ∷ ‵ (flft κ₃ q₃) ∷ [])) (Post (Move-p .val r))
   exits r ws₁ ws₂ said r-is len₁ len₂ =
-      qed W (‵ (MutSlice (named 0) κ₁ (Array u64 6) .own (at-list b₁ o₁ γ₁ ws₁) (sliceVal (b₁, o₁) n₁ ∷ [])) ∷ ‵ (flft κ₁ q₁) ∷ ‵ (MutSlice (named 1) κ₂ Object-t.the-row .own (at-list b₂ o₂ γ₂ ws₂) (sliceVal (b₂, o₂) n₂ ∷ [])) ∷ ‵ (flft κ₂ q₂) ∷ ‵ (ShrSlice (named 2) κ₃ u8 .own (at-list b₃ o₃ γ₃ d) (sliceVal (b₃, o₃) n₃ ∷ [])) ∷ ‵ (flft κ₃ q₃) ∷ []) ∵
+      qed W (‵ (MutSlice (named 0) κ₁ (Array u64 8) .own (at-list b₁ o₁ γ₁ ws₁) (sliceVal (b₁, o₁) n₁ ∷ [])) ∷ ‵ (flft κ₁ q₁) ∷ ‵ (MutSlice (named 1) κ₂ Object-t.the-row .own (at-list b₂ o₂ γ₂ ws₂) (sliceVal (b₂, o₂) n₂ ∷ [])) ∷ ‵ (flft κ₂ q₂) ∷ ‵ (ShrSlice (named 2) κ₃ u8 .own (at-list b₃ o₃ γ₃ d) (sliceVal (b₃, o₃) n₃ ∷ [])) ∷ ‵ (flft κ₃ q₃) ∷ []) ∵
       suffices ! _ (ends-at 𝓤 H A f.ended stayed (f.clauses 𝓤 H A mem run) W (((κ₁, (κ₂, (κ₃, tt))), (q₁, (q₂, (q₃, tt))), tt, x, at), tt) (Move-p .val r) r (ws₁, (ws₂, (tt, (tt, (tt, (tt, (tt, (tt, tt)))))))) (len₁, (len₂, (tt, (tt, (tt, (tt, (tt, (tt, tt))))))))) $ says ! said $ nothing ! $ move ! (6 ∷ 0 ∷ []) $ join ! $ move ! (4 ∷ 0 ∷ []) $ join ! $ move ! (2 ∷ 0 ∷ []) $ join ! $
       frame ! $ nothing ! $
       owned ! (Span-p .row) (Is (Span-p .row)) (Span-p .makes 𝓤 H A W) body (Span-p .val body ∷ []) body-is $ fjoin ! $
@@ -253,26 +253,26 @@ module _ {M : Type 1} (𝓤 : URA M) (H : Heap 𝓤) (A : Atoms 𝓤) (W : Given
     fm = fmOf 𝓤 H (W .laws) 𝓣
 
     abbrev En : Env 𝓤 H
-    En = (Move-l.mir, l₀) ∷ ((sliceTy (tyRef (named 0) mut (pointee ((Array u64 6) .written)))), l₁) ∷ ((sliceTy (tyRef (named 1) mut (pointee (Object-t.the-row .written)))), l₂) ∷ ((sliceTy (tyRef (named 2) imm (pointee (u8 .written)))), l₃) ∷ ((tyInt w8), l₄) ∷ (ObjectNumber-l.mir, l₅) ∷ (ObjectKind-l.mir, l₆) ∷ ((tyInt w16), l₇) ∷ (Span-l.mir, l₈) ∷ (Room′-l.mir, l₉) ∷ ((tyRef erased imm (pointee ((Array u64 6) .written))), l₁₀) ∷ ((sliceTy (tyRef erased imm (pointee ((Array u64 6) .written)))), l₁₁) ∷ ((tyRef erased imm (pointee (Object-t.the-row .written))), l₁₂) ∷ ((sliceTy (tyRef erased imm (pointee (Object-t.the-row .written)))), l₁₃) ∷ (tyBool, l₁₄) ∷ (Move-l.mir, l₁₅) ∷ ((tyRef erased mut (pointee ((Array u64 6) .written))), l₁₆) ∷ ((sliceTy (tyRef erased mut (pointee ((Array u64 6) .written)))), l₁₇) ∷ ((tyRef erased mut (pointee (Object-t.the-row .written))), l₁₈) ∷ ((sliceTy (tyRef erased mut (pointee (Object-t.the-row .written)))), l₁₉) ∷ []
+    En = (Move-l.mir, l₀) ∷ ((sliceTy (tyRef (named 0) mut (pointee ((Array u64 8) .written)))), l₁) ∷ ((sliceTy (tyRef (named 1) mut (pointee (Object-t.the-row .written)))), l₂) ∷ ((sliceTy (tyRef (named 2) imm (pointee (u8 .written)))), l₃) ∷ ((tyInt w8), l₄) ∷ (ObjectNumber-l.mir, l₅) ∷ (ObjectKind-l.mir, l₆) ∷ ((tyInt w16), l₇) ∷ (Span-l.mir, l₈) ∷ (Room′-l.mir, l₉) ∷ ((tyRef erased imm (pointee ((Array u64 8) .written))), l₁₀) ∷ ((sliceTy (tyRef erased imm (pointee ((Array u64 8) .written)))), l₁₁) ∷ ((tyRef erased imm (pointee (Object-t.the-row .written))), l₁₂) ∷ ((sliceTy (tyRef erased imm (pointee (Object-t.the-row .written)))), l₁₃) ∷ (tyBool, l₁₄) ∷ (Move-l.mir, l₁₅) ∷ ((tyRef erased mut (pointee ((Array u64 8) .written))), l₁₆) ∷ ((sliceTy (tyRef erased mut (pointee ((Array u64 8) .written)))), l₁₇) ∷ ((tyRef erased mut (pointee (Object-t.the-row .written))), l₁₈) ∷ ((sliceTy (tyRef erased mut (pointee (Object-t.the-row .written)))), l₁₉) ∷ []
 
-    frees-all : (r : Move) (ws₁ : List (List ℕ)) (ws₂ : List Object) → ent 𝓤 (⋆ 𝓤 H A (‵ (MutSlice (named 0) κ₁ (Array u64 6) .own (at-list b₁ o₁ γ₁ ws₁) (sliceVal (b₁, o₁) n₁ ∷ [])) ∷ ‵ (flft κ₁ q₁) ∷ ‵ (MutSlice (named 1) κ₂ Object-t.the-row .own (at-list b₂ o₂ γ₂ ws₂) (sliceVal (b₂, o₂) n₂ ∷ [])) ∷ ‵ (flft κ₂ q₂) ∷ ‵ (ShrSlice (named 2) κ₃ u8 .own (at-list b₃ o₃ γ₃ d) (sliceVal (b₃, o₃) n₃ ∷ [])) ∷ ‵ (flft κ₃ q₃) ∷ [])) (Post (Move-p .val r)) → Sq W (‵ (MutSlice (named 0) κ₁ (Array u64 6) .own (at-list b₁ o₁ γ₁ ws₁) (sliceVal (b₁, o₁) n₁ ∷ [])) ∷ ‵ (flft κ₁ q₁) ∷ ‵ (MutSlice (named 0) κ₂ Object-t.the-row .own (at-list b₂ o₂ γ₂ ws₂) (sliceVal (b₂, o₂) n₂ ∷ [])) ∷ ‵ (flft κ₂ q₂) ∷ ‵ (ShrSlice (named 0) κ₃ u8 .own (at-list b₃ o₃ γ₃ d) (sliceVal (b₃, o₃) n₃ ∷ [])) ∷ ‵ (flft κ₃ q₃) ∷ free 𝓤 (sliceTy (tyRef erased mut (pointee (Object-t.the-row .written)))) l₁₉ (free 𝓤 (tyRef erased mut (pointee (Object-t.the-row .written))) l₁₈ (free 𝓤 (sliceTy (tyRef erased mut (pointee ((Array u64 6) .written)))) l₁₇ (free 𝓤 (tyRef erased mut (pointee ((Array u64 6) .written))) l₁₆ (free 𝓤 Move-l.mir l₁₅ (free 𝓤 tyBool l₁₄ (free 𝓤 (sliceTy (tyRef erased imm (pointee (Object-t.the-row .written)))) l₁₃ (free 𝓤 (tyRef erased imm (pointee (Object-t.the-row .written))) l₁₂ (free 𝓤 (sliceTy (tyRef erased imm (pointee ((Array u64 6) .written)))) l₁₁ (free 𝓤 (tyRef erased imm (pointee ((Array u64 6) .written))) l₁₀ (free 𝓤 Room′-l.mir l₉ (full 𝓤 Span-l.mir l₈ (Span-p .val body) (full 𝓤 (tyInt w16) l₇ (u16-p .val parent) (full 𝓤 ObjectKind-l.mir l₆ (ObjectKind-p .val kind) (full 𝓤 ObjectNumber-l.mir l₅ (ObjectNumber-p .val number) (full 𝓤 (tyInt w8) l₄ (u8-p .val id) (full 𝓤 (sliceTy (tyRef (named 2) imm (pointee (u8 .written)))) l₃ (sliceVal (b₃, o₃) n₃) (full 𝓤 (sliceTy (tyRef (named 1) mut (pointee (Object-t.the-row .written)))) l₂ (sliceVal (b₂, o₂) n₂) (full 𝓤 (sliceTy (tyRef (named 0) mut (pointee ((Array u64 6) .written)))) l₁ (sliceVal (b₁, o₁) n₁) (full 𝓤 Move-l.mir l₀ (Move-p .val r) ([]))))))))))))))))))))) (frees En (prop (Post (Move-p .val r))))
+    frees-all : (r : Move) (ws₁ : List (List ℕ)) (ws₂ : List Object) → ent 𝓤 (⋆ 𝓤 H A (‵ (MutSlice (named 0) κ₁ (Array u64 8) .own (at-list b₁ o₁ γ₁ ws₁) (sliceVal (b₁, o₁) n₁ ∷ [])) ∷ ‵ (flft κ₁ q₁) ∷ ‵ (MutSlice (named 1) κ₂ Object-t.the-row .own (at-list b₂ o₂ γ₂ ws₂) (sliceVal (b₂, o₂) n₂ ∷ [])) ∷ ‵ (flft κ₂ q₂) ∷ ‵ (ShrSlice (named 2) κ₃ u8 .own (at-list b₃ o₃ γ₃ d) (sliceVal (b₃, o₃) n₃ ∷ [])) ∷ ‵ (flft κ₃ q₃) ∷ [])) (Post (Move-p .val r)) → Sq W (‵ (MutSlice (named 0) κ₁ (Array u64 8) .own (at-list b₁ o₁ γ₁ ws₁) (sliceVal (b₁, o₁) n₁ ∷ [])) ∷ ‵ (flft κ₁ q₁) ∷ ‵ (MutSlice (named 0) κ₂ Object-t.the-row .own (at-list b₂ o₂ γ₂ ws₂) (sliceVal (b₂, o₂) n₂ ∷ [])) ∷ ‵ (flft κ₂ q₂) ∷ ‵ (ShrSlice (named 0) κ₃ u8 .own (at-list b₃ o₃ γ₃ d) (sliceVal (b₃, o₃) n₃ ∷ [])) ∷ ‵ (flft κ₃ q₃) ∷ free 𝓤 (sliceTy (tyRef erased mut (pointee (Object-t.the-row .written)))) l₁₉ (free 𝓤 (tyRef erased mut (pointee (Object-t.the-row .written))) l₁₈ (free 𝓤 (sliceTy (tyRef erased mut (pointee ((Array u64 8) .written)))) l₁₇ (free 𝓤 (tyRef erased mut (pointee ((Array u64 8) .written))) l₁₆ (free 𝓤 Move-l.mir l₁₅ (free 𝓤 tyBool l₁₄ (free 𝓤 (sliceTy (tyRef erased imm (pointee (Object-t.the-row .written)))) l₁₃ (free 𝓤 (tyRef erased imm (pointee (Object-t.the-row .written))) l₁₂ (free 𝓤 (sliceTy (tyRef erased imm (pointee ((Array u64 8) .written)))) l₁₁ (free 𝓤 (tyRef erased imm (pointee ((Array u64 8) .written))) l₁₀ (free 𝓤 Room′-l.mir l₉ (full 𝓤 Span-l.mir l₈ (Span-p .val body) (full 𝓤 (tyInt w16) l₇ (u16-p .val parent) (full 𝓤 ObjectKind-l.mir l₆ (ObjectKind-p .val kind) (full 𝓤 ObjectNumber-l.mir l₅ (ObjectNumber-p .val number) (full 𝓤 (tyInt w8) l₄ (u8-p .val id) (full 𝓤 (sliceTy (tyRef (named 2) imm (pointee (u8 .written)))) l₃ (sliceVal (b₃, o₃) n₃) (full 𝓤 (sliceTy (tyRef (named 1) mut (pointee (Object-t.the-row .written)))) l₂ (sliceVal (b₂, o₂) n₂) (full 𝓤 (sliceTy (tyRef (named 0) mut (pointee ((Array u64 8) .written)))) l₁ (sliceVal (b₁, o₁) n₁) (full 𝓤 Move-l.mir l₀ (Move-p .val r) ([]))))))))))))))))))))) (frees En (prop (Post (Move-p .val r))))
     frees-all r ws₁ ws₂ ends =
         forget ! 28 refl $ forget ! 30 refl $ forget ! 32 refl $ forget ! 34 refl $ forget ! 36 refl $ forget ! 38 refl $ forget ! 40 refl $ forget ! 42 refl $ forget ! 44 refl $ move ! (44 ∷ 45 ∷ []) $ free1 ! $ move ! (42 ∷ 43 ∷ []) $ free1 ! $ move ! (40 ∷ 41 ∷ []) $ free1 ! $ move ! (38 ∷ 39 ∷ []) $ free1 ! $ move ! (36 ∷ 37 ∷ []) $ free1 ! $ move ! (34 ∷ 35 ∷ []) $ free1 ! $ move ! (32 ∷ 33 ∷ []) $ free1 ! $ move ! (30 ∷ 31 ∷ []) $ free1 ! $ move ! (28 ∷ 29 ∷ []) $ free1 ! $ move ! (26 ∷ 27 ∷ []) $ free1 ! $ move ! (24 ∷ 25 ∷ []) $ free1 ! $ move ! (22 ∷ 23 ∷ []) $ free1 ! $ move ! (20 ∷ 21 ∷ []) $ free1 ! $ move ! (18 ∷ 19 ∷ []) $ free1 ! $ move ! (16 ∷ 17 ∷ []) $ free1 ! $ move ! (14 ∷ 15 ∷ []) $ free1 ! $ move ! (12 ∷ 13 ∷ []) $ free1 ! $ move ! (10 ∷ 11 ∷ []) $ free1 ! $ move ! (8 ∷ 9 ∷ []) $ free1 ! $ move ! (6 ∷ 7 ∷ []) $ free1 ! $ free0 ! $
         by ! ends
 
-    part-8-0 : (is-5 : Is (Room′-p .row) (roomOf (sessions) (objects) id number) (Room′-p .val (roomOf (sessions) (objects) id number) ∷ [])) → (is-6 : Is (bool-p .row) (isFree (roomOf (sessions) (objects) id number)) (bool-p .val (isFree (roomOf (sessions) (objects) id number)) ∷ [])) → (c-7 : isFree (roomOf (sessions) (objects) id number) ≡ true) → (len-7·yes·5-sessions : length (createdSessions kind (sessions) (objects) id number parent) ≡ n₁) → (len-7·yes·5-objects : length (createdObjects kind (sessions) (objects) id number parent) ≡ n₂) → (is-7·yes·5 : Is (Move-p .row) (createMove kind (sessions) (objects) (d) id number parent body) (Move-p .val (createMove kind (sessions) (objects) (d) id number parent body) ∷ [])) → Sq W (‵ (MutSlice (named 0) κ₁ (Array u64 6) .own (at-list b₁ o₁ γ₁ (createdSessions kind (sessions) (objects) id number parent)) (sliceVal (b₁, o₁) n₁ ∷ [])) ∷ ‵ (flft κ₁ q₁) ∷ ‵ (MutSlice (named 0) κ₂ Object-t.the-row .own (at-list b₂ o₂ γ₂ (createdObjects kind (sessions) (objects) id number parent)) (sliceVal (b₂, o₂) n₂ ∷ [])) ∷ ‵ (flft κ₂ q₂) ∷ ‵ (ShrSlice (named 0) κ₃ u8 .own (at-list b₃ o₃ γ₃ d) (sliceVal (b₃, o₃) n₃ ∷ [])) ∷ ‵ (flft κ₃ q₃) ∷ full 𝓤 (sliceTy (tyRef erased mut (pointee (Object-t.the-row .written)))) l₁₉ (sliceVal (b₂, o₂) n₂) (full 𝓤 (tyRef erased mut (pointee (Object-t.the-row .written))) l₁₈ (vptr b₂ o₂) (full 𝓤 (sliceTy (tyRef erased mut (pointee ((Array u64 6) .written)))) l₁₇ (sliceVal (b₁, o₁) n₁) (full 𝓤 (tyRef erased mut (pointee ((Array u64 6) .written))) l₁₆ (vptr b₁ o₁) (full 𝓤 Move-l.mir l₁₅ (Move-p .val (createMove kind (sessions) (objects) (d) id number parent body)) (full 𝓤 tyBool l₁₄ (bool-p .val (isFree (roomOf (sessions) (objects) id number))) (full 𝓤 (sliceTy (tyRef erased imm (pointee (Object-t.the-row .written)))) l₁₃ (sliceVal (b₂, o₂) n₂) (full 𝓤 (tyRef erased imm (pointee (Object-t.the-row .written))) l₁₂ (vptr b₂ o₂) (full 𝓤 (sliceTy (tyRef erased imm (pointee ((Array u64 6) .written)))) l₁₁ (sliceVal (b₁, o₁) n₁) (full 𝓤 (tyRef erased imm (pointee ((Array u64 6) .written))) l₁₀ (vptr b₁ o₁) (full 𝓤 Room′-l.mir l₉ (Room′-p .val (roomOf (sessions) (objects) id number)) (full 𝓤 Span-l.mir l₈ (Span-p .val body) (full 𝓤 (tyInt w16) l₇ (u16-p .val parent) (full 𝓤 ObjectKind-l.mir l₆ (ObjectKind-p .val kind) (full 𝓤 ObjectNumber-l.mir l₅ (ObjectNumber-p .val number) (full 𝓤 (tyInt w8) l₄ (u8-p .val id) (full 𝓤 (sliceTy (tyRef (named 2) imm (pointee (u8 .written)))) l₃ (sliceVal (b₃, o₃) n₃) (full 𝓤 (sliceTy (tyRef (named 1) mut (pointee (Object-t.the-row .written)))) l₂ (sliceVal (b₂, o₂) n₂) (full 𝓤 (sliceTy (tyRef (named 0) mut (pointee ((Array u64 6) .written)))) l₁ (sliceVal (b₁, o₁) n₁) (free 𝓤 Move-l.mir l₀ ([]))))))))))))))))))))) (runs C Λ En mir.t-8 (atRet En Post))
+    part-8-0 : (is-5 : Is (Room′-p .row) (roomOf (sessions) (objects) id number) (Room′-p .val (roomOf (sessions) (objects) id number) ∷ [])) → (is-6 : Is (bool-p .row) (isFree (roomOf (sessions) (objects) id number)) (bool-p .val (isFree (roomOf (sessions) (objects) id number)) ∷ [])) → (c-7 : isFree (roomOf (sessions) (objects) id number) ≡ true) → (len-7·yes·5-sessions : length (createdSessions kind (sessions) (objects) id number parent) ≡ n₁) → (len-7·yes·5-objects : length (createdObjects kind (sessions) (objects) id number parent) ≡ n₂) → (is-7·yes·5 : Is (Move-p .row) (createMove kind (sessions) (objects) (d) id number parent body) (Move-p .val (createMove kind (sessions) (objects) (d) id number parent body) ∷ [])) → Sq W (‵ (MutSlice (named 0) κ₁ (Array u64 8) .own (at-list b₁ o₁ γ₁ (createdSessions kind (sessions) (objects) id number parent)) (sliceVal (b₁, o₁) n₁ ∷ [])) ∷ ‵ (flft κ₁ q₁) ∷ ‵ (MutSlice (named 0) κ₂ Object-t.the-row .own (at-list b₂ o₂ γ₂ (createdObjects kind (sessions) (objects) id number parent)) (sliceVal (b₂, o₂) n₂ ∷ [])) ∷ ‵ (flft κ₂ q₂) ∷ ‵ (ShrSlice (named 0) κ₃ u8 .own (at-list b₃ o₃ γ₃ d) (sliceVal (b₃, o₃) n₃ ∷ [])) ∷ ‵ (flft κ₃ q₃) ∷ full 𝓤 (sliceTy (tyRef erased mut (pointee (Object-t.the-row .written)))) l₁₉ (sliceVal (b₂, o₂) n₂) (full 𝓤 (tyRef erased mut (pointee (Object-t.the-row .written))) l₁₈ (vptr b₂ o₂) (full 𝓤 (sliceTy (tyRef erased mut (pointee ((Array u64 8) .written)))) l₁₇ (sliceVal (b₁, o₁) n₁) (full 𝓤 (tyRef erased mut (pointee ((Array u64 8) .written))) l₁₆ (vptr b₁ o₁) (full 𝓤 Move-l.mir l₁₅ (Move-p .val (createMove kind (sessions) (objects) (d) id number parent body)) (full 𝓤 tyBool l₁₄ (bool-p .val (isFree (roomOf (sessions) (objects) id number))) (full 𝓤 (sliceTy (tyRef erased imm (pointee (Object-t.the-row .written)))) l₁₃ (sliceVal (b₂, o₂) n₂) (full 𝓤 (tyRef erased imm (pointee (Object-t.the-row .written))) l₁₂ (vptr b₂ o₂) (full 𝓤 (sliceTy (tyRef erased imm (pointee ((Array u64 8) .written)))) l₁₁ (sliceVal (b₁, o₁) n₁) (full 𝓤 (tyRef erased imm (pointee ((Array u64 8) .written))) l₁₀ (vptr b₁ o₁) (full 𝓤 Room′-l.mir l₉ (Room′-p .val (roomOf (sessions) (objects) id number)) (full 𝓤 Span-l.mir l₈ (Span-p .val body) (full 𝓤 (tyInt w16) l₇ (u16-p .val parent) (full 𝓤 ObjectKind-l.mir l₆ (ObjectKind-p .val kind) (full 𝓤 ObjectNumber-l.mir l₅ (ObjectNumber-p .val number) (full 𝓤 (tyInt w8) l₄ (u8-p .val id) (full 𝓤 (sliceTy (tyRef (named 2) imm (pointee (u8 .written)))) l₃ (sliceVal (b₃, o₃) n₃) (full 𝓤 (sliceTy (tyRef (named 1) mut (pointee (Object-t.the-row .written)))) l₂ (sliceVal (b₂, o₂) n₂) (full 𝓤 (sliceTy (tyRef (named 0) mut (pointee ((Array u64 8) .written)))) l₁ (sliceVal (b₁, o₁) n₁) (free 𝓤 Move-l.mir l₀ ([]))))))))))))))))))))) (runs C Λ En mir.t-8 (atRet En Post))
     part-8-0 is-5 is-6 c-7 len-7·yes·5-sessions len-7·yes·5-objects is-7·yes·5 =
         assigns ! (of-opd ! (load ! (from ! (stop !)) (look ! 14 refl))) (from ! (stop !)) (init ! 44 refl (Move-p .typed 𝓤 H A W (createMove kind (sessions) (objects) (d) id number parent body) is-7·yes·5)) $
         returns ! (look ! 44 refl) $ forget ! 6 refl $ forget ! 8 refl $ forget ! 10 refl $ forget ! 12 refl $ forget ! 14 refl $ forget ! 16 refl $ forget ! 18 refl $ forget ! 20 refl $ forget ! 22 refl $ forget ! 24 refl $ forget ! 26 refl $
         frees-all (createMove kind (sessions) (objects) (d) id number parent body) (createdSessions kind (sessions) (objects) id number parent) (createdObjects kind (sessions) (objects) id number parent) (exits (createMove kind (sessions) (objects) (d) id number parent body) (createdSessions kind (sessions) (objects) id number parent) (createdObjects kind (sessions) (objects) id number parent) ((if-true moved _ c-7, if-true sessions-left _ c-7, if-true objects-left _ c-7)) is-7·yes·5 len-7·yes·5-sessions len-7·yes·5-objects)
 
-    part-8-2 : (is-5 : Is (Room′-p .row) (roomOf (sessions) (objects) id number) (Room′-p .val (roomOf (sessions) (objects) id number) ∷ [])) → (is-6 : Is (bool-p .row) (isFree (roomOf (sessions) (objects) id number)) (bool-p .val (isFree (roomOf (sessions) (objects) id number)) ∷ [])) → (c-7 : isFree (roomOf (sessions) (objects) id number) ≡ false) → (is-7·no·1 : Is (Move-p .row) (noRoomMove number (roomOf (sessions) (objects) id number)) (Move-p .val (noRoomMove number (roomOf (sessions) (objects) id number)) ∷ [])) → Sq W (‵ (MutSlice (named 0) κ₁ (Array u64 6) .own (at-list b₁ o₁ γ₁ sessions) (sliceVal (b₁, o₁) n₁ ∷ [])) ∷ ‵ (flft κ₁ q₁) ∷ ‵ (MutSlice (named 0) κ₂ Object-t.the-row .own (at-list b₂ o₂ γ₂ objects) (sliceVal (b₂, o₂) n₂ ∷ [])) ∷ ‵ (flft κ₂ q₂) ∷ ‵ (ShrSlice (named 0) κ₃ u8 .own (at-list b₃ o₃ γ₃ d) (sliceVal (b₃, o₃) n₃ ∷ [])) ∷ ‵ (flft κ₃ q₃) ∷ free 𝓤 (sliceTy (tyRef erased mut (pointee (Object-t.the-row .written)))) l₁₉ (free 𝓤 (tyRef erased mut (pointee (Object-t.the-row .written))) l₁₈ (free 𝓤 (sliceTy (tyRef erased mut (pointee ((Array u64 6) .written)))) l₁₇ (free 𝓤 (tyRef erased mut (pointee ((Array u64 6) .written))) l₁₆ (full 𝓤 Move-l.mir l₁₅ (Move-p .val (noRoomMove number (roomOf (sessions) (objects) id number))) (full 𝓤 tyBool l₁₄ (bool-p .val (isFree (roomOf (sessions) (objects) id number))) (full 𝓤 (sliceTy (tyRef erased imm (pointee (Object-t.the-row .written)))) l₁₃ (sliceVal (b₂, o₂) n₂) (full 𝓤 (tyRef erased imm (pointee (Object-t.the-row .written))) l₁₂ (vptr b₂ o₂) (full 𝓤 (sliceTy (tyRef erased imm (pointee ((Array u64 6) .written)))) l₁₁ (sliceVal (b₁, o₁) n₁) (full 𝓤 (tyRef erased imm (pointee ((Array u64 6) .written))) l₁₀ (vptr b₁ o₁) (full 𝓤 Room′-l.mir l₉ (Room′-p .val (roomOf (sessions) (objects) id number)) (full 𝓤 Span-l.mir l₈ (Span-p .val body) (full 𝓤 (tyInt w16) l₇ (u16-p .val parent) (full 𝓤 ObjectKind-l.mir l₆ (ObjectKind-p .val kind) (full 𝓤 ObjectNumber-l.mir l₅ (ObjectNumber-p .val number) (full 𝓤 (tyInt w8) l₄ (u8-p .val id) (full 𝓤 (sliceTy (tyRef (named 2) imm (pointee (u8 .written)))) l₃ (sliceVal (b₃, o₃) n₃) (full 𝓤 (sliceTy (tyRef (named 1) mut (pointee (Object-t.the-row .written)))) l₂ (sliceVal (b₂, o₂) n₂) (full 𝓤 (sliceTy (tyRef (named 0) mut (pointee ((Array u64 6) .written)))) l₁ (sliceVal (b₁, o₁) n₁) (free 𝓤 Move-l.mir l₀ ([]))))))))))))))))))))) (runs C Λ En mir.t-8 (atRet En Post))
+    part-8-2 : (is-5 : Is (Room′-p .row) (roomOf (sessions) (objects) id number) (Room′-p .val (roomOf (sessions) (objects) id number) ∷ [])) → (is-6 : Is (bool-p .row) (isFree (roomOf (sessions) (objects) id number)) (bool-p .val (isFree (roomOf (sessions) (objects) id number)) ∷ [])) → (c-7 : isFree (roomOf (sessions) (objects) id number) ≡ false) → (is-7·no·1 : Is (Move-p .row) (noRoomMove number (roomOf (sessions) (objects) id number)) (Move-p .val (noRoomMove number (roomOf (sessions) (objects) id number)) ∷ [])) → Sq W (‵ (MutSlice (named 0) κ₁ (Array u64 8) .own (at-list b₁ o₁ γ₁ sessions) (sliceVal (b₁, o₁) n₁ ∷ [])) ∷ ‵ (flft κ₁ q₁) ∷ ‵ (MutSlice (named 0) κ₂ Object-t.the-row .own (at-list b₂ o₂ γ₂ objects) (sliceVal (b₂, o₂) n₂ ∷ [])) ∷ ‵ (flft κ₂ q₂) ∷ ‵ (ShrSlice (named 0) κ₃ u8 .own (at-list b₃ o₃ γ₃ d) (sliceVal (b₃, o₃) n₃ ∷ [])) ∷ ‵ (flft κ₃ q₃) ∷ free 𝓤 (sliceTy (tyRef erased mut (pointee (Object-t.the-row .written)))) l₁₉ (free 𝓤 (tyRef erased mut (pointee (Object-t.the-row .written))) l₁₈ (free 𝓤 (sliceTy (tyRef erased mut (pointee ((Array u64 8) .written)))) l₁₇ (free 𝓤 (tyRef erased mut (pointee ((Array u64 8) .written))) l₁₆ (full 𝓤 Move-l.mir l₁₅ (Move-p .val (noRoomMove number (roomOf (sessions) (objects) id number))) (full 𝓤 tyBool l₁₄ (bool-p .val (isFree (roomOf (sessions) (objects) id number))) (full 𝓤 (sliceTy (tyRef erased imm (pointee (Object-t.the-row .written)))) l₁₃ (sliceVal (b₂, o₂) n₂) (full 𝓤 (tyRef erased imm (pointee (Object-t.the-row .written))) l₁₂ (vptr b₂ o₂) (full 𝓤 (sliceTy (tyRef erased imm (pointee ((Array u64 8) .written)))) l₁₁ (sliceVal (b₁, o₁) n₁) (full 𝓤 (tyRef erased imm (pointee ((Array u64 8) .written))) l₁₀ (vptr b₁ o₁) (full 𝓤 Room′-l.mir l₉ (Room′-p .val (roomOf (sessions) (objects) id number)) (full 𝓤 Span-l.mir l₈ (Span-p .val body) (full 𝓤 (tyInt w16) l₇ (u16-p .val parent) (full 𝓤 ObjectKind-l.mir l₆ (ObjectKind-p .val kind) (full 𝓤 ObjectNumber-l.mir l₅ (ObjectNumber-p .val number) (full 𝓤 (tyInt w8) l₄ (u8-p .val id) (full 𝓤 (sliceTy (tyRef (named 2) imm (pointee (u8 .written)))) l₃ (sliceVal (b₃, o₃) n₃) (full 𝓤 (sliceTy (tyRef (named 1) mut (pointee (Object-t.the-row .written)))) l₂ (sliceVal (b₂, o₂) n₂) (full 𝓤 (sliceTy (tyRef (named 0) mut (pointee ((Array u64 8) .written)))) l₁ (sliceVal (b₁, o₁) n₁) (free 𝓤 Move-l.mir l₀ ([]))))))))))))))))))))) (runs C Λ En mir.t-8 (atRet En Post))
     part-8-2 is-5 is-6 c-7 is-7·no·1 =
         assigns ! (of-opd ! (load ! (from ! (stop !)) (look ! 14 refl))) (from ! (stop !)) (init ! 44 refl (Move-p .typed 𝓤 H A W (noRoomMove number (roomOf (sessions) (objects) id number)) is-7·no·1)) $
         returns ! (look ! 44 refl) $ forget ! 14 refl $ forget ! 16 refl $ forget ! 18 refl $ forget ! 20 refl $ forget ! 22 refl $ forget ! 24 refl $ forget ! 26 refl $
         frees-all (noRoomMove number (roomOf (sessions) (objects) id number)) sessions objects (exits (noRoomMove number (roomOf (sessions) (objects) id number)) sessions objects ((if-false moved _ c-7, if-false sessions-left _ c-7, if-false objects-left _ c-7)) is-7·no·1 refl refl)
 
-    part-7-0 : (is-5 : Is (Room′-p .row) (roomOf (sessions) (objects) id number) (Room′-p .val (roomOf (sessions) (objects) id number) ∷ [])) → (is-6 : Is (bool-p .row) (isFree (roomOf (sessions) (objects) id number)) (bool-p .val (isFree (roomOf (sessions) (objects) id number)) ∷ [])) → Sq W (‵ (MutSlice (named 0) κ₁ (Array u64 6) .own (at-list b₁ o₁ γ₁ sessions) (sliceVal (b₁, o₁) n₁ ∷ [])) ∷ ‵ (flft κ₁ q₁) ∷ ‵ (MutSlice (named 0) κ₂ Object-t.the-row .own (at-list b₂ o₂ γ₂ objects) (sliceVal (b₂, o₂) n₂ ∷ [])) ∷ ‵ (flft κ₂ q₂) ∷ ‵ (ShrSlice (named 0) κ₃ u8 .own (at-list b₃ o₃ γ₃ d) (sliceVal (b₃, o₃) n₃ ∷ [])) ∷ ‵ (flft κ₃ q₃) ∷ free 𝓤 (sliceTy (tyRef erased mut (pointee (Object-t.the-row .written)))) l₁₉ (free 𝓤 (tyRef erased mut (pointee (Object-t.the-row .written))) l₁₈ (free 𝓤 (sliceTy (tyRef erased mut (pointee ((Array u64 6) .written)))) l₁₇ (free 𝓤 (tyRef erased mut (pointee ((Array u64 6) .written))) l₁₆ (free 𝓤 Move-l.mir l₁₅ (full 𝓤 tyBool l₁₄ (bool-p .val (isFree (roomOf (sessions) (objects) id number))) (full 𝓤 (sliceTy (tyRef erased imm (pointee (Object-t.the-row .written)))) l₁₃ (sliceVal (b₂, o₂) n₂) (full 𝓤 (tyRef erased imm (pointee (Object-t.the-row .written))) l₁₂ (vptr b₂ o₂) (full 𝓤 (sliceTy (tyRef erased imm (pointee ((Array u64 6) .written)))) l₁₁ (sliceVal (b₁, o₁) n₁) (full 𝓤 (tyRef erased imm (pointee ((Array u64 6) .written))) l₁₀ (vptr b₁ o₁) (full 𝓤 Room′-l.mir l₉ (Room′-p .val (roomOf (sessions) (objects) id number)) (full 𝓤 Span-l.mir l₈ (Span-p .val body) (full 𝓤 (tyInt w16) l₇ (u16-p .val parent) (full 𝓤 ObjectKind-l.mir l₆ (ObjectKind-p .val kind) (full 𝓤 ObjectNumber-l.mir l₅ (ObjectNumber-p .val number) (full 𝓤 (tyInt w8) l₄ (u8-p .val id) (full 𝓤 (sliceTy (tyRef (named 2) imm (pointee (u8 .written)))) l₃ (sliceVal (b₃, o₃) n₃) (full 𝓤 (sliceTy (tyRef (named 1) mut (pointee (Object-t.the-row .written)))) l₂ (sliceVal (b₂, o₂) n₂) (full 𝓤 (sliceTy (tyRef (named 0) mut (pointee ((Array u64 6) .written)))) l₁ (sliceVal (b₁, o₁) n₁) (free 𝓤 Move-l.mir l₀ ([]))))))))))))))))))))) (runs C Λ En mir.t-7 (atRet En Post))
+    part-7-0 : (is-5 : Is (Room′-p .row) (roomOf (sessions) (objects) id number) (Room′-p .val (roomOf (sessions) (objects) id number) ∷ [])) → (is-6 : Is (bool-p .row) (isFree (roomOf (sessions) (objects) id number)) (bool-p .val (isFree (roomOf (sessions) (objects) id number)) ∷ [])) → Sq W (‵ (MutSlice (named 0) κ₁ (Array u64 8) .own (at-list b₁ o₁ γ₁ sessions) (sliceVal (b₁, o₁) n₁ ∷ [])) ∷ ‵ (flft κ₁ q₁) ∷ ‵ (MutSlice (named 0) κ₂ Object-t.the-row .own (at-list b₂ o₂ γ₂ objects) (sliceVal (b₂, o₂) n₂ ∷ [])) ∷ ‵ (flft κ₂ q₂) ∷ ‵ (ShrSlice (named 0) κ₃ u8 .own (at-list b₃ o₃ γ₃ d) (sliceVal (b₃, o₃) n₃ ∷ [])) ∷ ‵ (flft κ₃ q₃) ∷ free 𝓤 (sliceTy (tyRef erased mut (pointee (Object-t.the-row .written)))) l₁₉ (free 𝓤 (tyRef erased mut (pointee (Object-t.the-row .written))) l₁₈ (free 𝓤 (sliceTy (tyRef erased mut (pointee ((Array u64 8) .written)))) l₁₇ (free 𝓤 (tyRef erased mut (pointee ((Array u64 8) .written))) l₁₆ (free 𝓤 Move-l.mir l₁₅ (full 𝓤 tyBool l₁₄ (bool-p .val (isFree (roomOf (sessions) (objects) id number))) (full 𝓤 (sliceTy (tyRef erased imm (pointee (Object-t.the-row .written)))) l₁₃ (sliceVal (b₂, o₂) n₂) (full 𝓤 (tyRef erased imm (pointee (Object-t.the-row .written))) l₁₂ (vptr b₂ o₂) (full 𝓤 (sliceTy (tyRef erased imm (pointee ((Array u64 8) .written)))) l₁₁ (sliceVal (b₁, o₁) n₁) (full 𝓤 (tyRef erased imm (pointee ((Array u64 8) .written))) l₁₀ (vptr b₁ o₁) (full 𝓤 Room′-l.mir l₉ (Room′-p .val (roomOf (sessions) (objects) id number)) (full 𝓤 Span-l.mir l₈ (Span-p .val body) (full 𝓤 (tyInt w16) l₇ (u16-p .val parent) (full 𝓤 ObjectKind-l.mir l₆ (ObjectKind-p .val kind) (full 𝓤 ObjectNumber-l.mir l₅ (ObjectNumber-p .val number) (full 𝓤 (tyInt w8) l₄ (u8-p .val id) (full 𝓤 (sliceTy (tyRef (named 2) imm (pointee (u8 .written)))) l₃ (sliceVal (b₃, o₃) n₃) (full 𝓤 (sliceTy (tyRef (named 1) mut (pointee (Object-t.the-row .written)))) l₂ (sliceVal (b₂, o₂) n₂) (full 𝓤 (sliceTy (tyRef (named 0) mut (pointee ((Array u64 8) .written)))) l₁ (sliceVal (b₁, o₁) n₁) (free 𝓤 Move-l.mir l₀ ([]))))))))))))))))))))) (runs C Λ En mir.t-7 (atRet En Post))
     part-7-0 is-5 is-6 =
         first ! $
         branches ! (load ! (from ! (stop !)) (look ! 16 refl))
@@ -283,7 +283,7 @@ module _ {M : Type 1} (𝓤 : URA M) (H : Heap 𝓤) (A : Atoms 𝓤) (W : Given
         assigns ! (addr ! (from ! (fld ! refl (hop ! (look-in ! 40 (sub ! 0 refl (whole !))) (stop !))))) (from ! (stop !)) (init ! 8 refl (tt, tt)) $
         assigns ! (agg ! (and-then ! (load ! (from ! (stop !)) (look ! 8 refl)) (and-then ! (load ! (from ! (fld ! refl (stop !))) (look-in ! 40 (sub ! 1 refl (whole !)))) (no-more !)))) (from ! (stop !)) (init ! 6 refl (tt, (tt, (record { fits = room₂ .0 }, tt)))) $
         -- 7.yes.5: moves::objects::create_kind
-        lends-mut ! tt (Array u64 6) b₁ o₁ sessions n₁ (refl) (λ ν-7·yes·5-sessions δ-7·yes·5-sessions.
+        lends-mut ! tt (Array u64 8) b₁ o₁ sessions n₁ (refl) (λ ν-7·yes·5-sessions δ-7·yes·5-sessions.
         move ! (3 ∷ 4 ∷ []) $
         lends-mut ! tt Object-t.the-row b₂ o₂ objects n₂ (refl) (λ ν-7·yes·5-objects δ-7·yes·5-objects.
         move ! (6 ∷ 7 ∷ []) $
@@ -300,7 +300,7 @@ module _ {M : Type 1} (𝓤 : URA M) (H : Heap 𝓤) (A : Atoms 𝓤) (W : Given
         move ! (1 ∷ []) $ fsplit ! $ fsplit ! $ move ! (1 ∷ []) $
         feqL ! (λ wlen-7·yes·5-1.
         move ! (1 ∷ []) $ fsplit ! $ move ! (7 ∷ 10 ∷ 3 ∷ []) $
-        backs-mut ! tt (Array u64 6) b₁ o₁ sessions n₁ (refl) room₁ ν-7·yes·5-sessions δ-7·yes·5-sessions (ws-7·yes·5 .0) (createdSessions kind (sessions) (objects) id number parent) wlen-7·yes·5-0 (said-7·yes·5 .0) (λ len-7·yes·5-sessions.
+        backs-mut ! tt (Array u64 8) b₁ o₁ sessions n₁ (refl) room₁ ν-7·yes·5-sessions δ-7·yes·5-sessions (ws-7·yes·5 .0) (createdSessions kind (sessions) (objects) id number parent) wlen-7·yes·5-0 (said-7·yes·5 .0) (λ len-7·yes·5-sessions.
         move ! (7 ∷ 9 ∷ 4 ∷ []) $
         backs-mut ! tt Object-t.the-row b₂ o₂ objects n₂ (refl) room₂ ν-7·yes·5-objects δ-7·yes·5-objects (ws-7·yes·5 .1 .0) (createdObjects kind (sessions) (objects) id number parent) wlen-7·yes·5-1 (said-7·yes·5 .1) (λ len-7·yes·5-objects.
         move ! (4 ∷ []) $ drop ! $ move ! (4 ∷ []) $ drop ! $ move ! (5 ∷ []) $ drop ! $
@@ -320,7 +320,7 @@ module _ {M : Type 1} (𝓤 : URA M) (H : Heap 𝓤) (A : Atoms 𝓤) (W : Given
         exec ! C Λ En mir.t-8 (atRet En Post) $
         part-8-2 is-5 is-6 c-7 is-7·no·1)))
 
-    part-6-0 : (is-5 : Is (Room′-p .row) (roomOf (sessions) (objects) id number) (Room′-p .val (roomOf (sessions) (objects) id number) ∷ [])) → Sq W (‵ (MutSlice (named 0) κ₁ (Array u64 6) .own (at-list b₁ o₁ γ₁ sessions) (sliceVal (b₁, o₁) n₁ ∷ [])) ∷ ‵ (flft κ₁ q₁) ∷ ‵ (MutSlice (named 0) κ₂ Object-t.the-row .own (at-list b₂ o₂ γ₂ objects) (sliceVal (b₂, o₂) n₂ ∷ [])) ∷ ‵ (flft κ₂ q₂) ∷ ‵ (ShrSlice (named 0) κ₃ u8 .own (at-list b₃ o₃ γ₃ d) (sliceVal (b₃, o₃) n₃ ∷ [])) ∷ ‵ (flft κ₃ q₃) ∷ free 𝓤 (sliceTy (tyRef erased mut (pointee (Object-t.the-row .written)))) l₁₉ (free 𝓤 (tyRef erased mut (pointee (Object-t.the-row .written))) l₁₈ (free 𝓤 (sliceTy (tyRef erased mut (pointee ((Array u64 6) .written)))) l₁₇ (free 𝓤 (tyRef erased mut (pointee ((Array u64 6) .written))) l₁₆ (free 𝓤 Move-l.mir l₁₅ (free 𝓤 tyBool l₁₄ (full 𝓤 (sliceTy (tyRef erased imm (pointee (Object-t.the-row .written)))) l₁₃ (sliceVal (b₂, o₂) n₂) (full 𝓤 (tyRef erased imm (pointee (Object-t.the-row .written))) l₁₂ (vptr b₂ o₂) (full 𝓤 (sliceTy (tyRef erased imm (pointee ((Array u64 6) .written)))) l₁₁ (sliceVal (b₁, o₁) n₁) (full 𝓤 (tyRef erased imm (pointee ((Array u64 6) .written))) l₁₀ (vptr b₁ o₁) (full 𝓤 Room′-l.mir l₉ (Room′-p .val (roomOf (sessions) (objects) id number)) (full 𝓤 Span-l.mir l₈ (Span-p .val body) (full 𝓤 (tyInt w16) l₇ (u16-p .val parent) (full 𝓤 ObjectKind-l.mir l₆ (ObjectKind-p .val kind) (full 𝓤 ObjectNumber-l.mir l₅ (ObjectNumber-p .val number) (full 𝓤 (tyInt w8) l₄ (u8-p .val id) (full 𝓤 (sliceTy (tyRef (named 2) imm (pointee (u8 .written)))) l₃ (sliceVal (b₃, o₃) n₃) (full 𝓤 (sliceTy (tyRef (named 1) mut (pointee (Object-t.the-row .written)))) l₂ (sliceVal (b₂, o₂) n₂) (full 𝓤 (sliceTy (tyRef (named 0) mut (pointee ((Array u64 6) .written)))) l₁ (sliceVal (b₁, o₁) n₁) (free 𝓤 Move-l.mir l₀ ([]))))))))))))))))))))) (runs C Λ En mir.t-6 (atRet En Post))
+    part-6-0 : (is-5 : Is (Room′-p .row) (roomOf (sessions) (objects) id number) (Room′-p .val (roomOf (sessions) (objects) id number) ∷ [])) → Sq W (‵ (MutSlice (named 0) κ₁ (Array u64 8) .own (at-list b₁ o₁ γ₁ sessions) (sliceVal (b₁, o₁) n₁ ∷ [])) ∷ ‵ (flft κ₁ q₁) ∷ ‵ (MutSlice (named 0) κ₂ Object-t.the-row .own (at-list b₂ o₂ γ₂ objects) (sliceVal (b₂, o₂) n₂ ∷ [])) ∷ ‵ (flft κ₂ q₂) ∷ ‵ (ShrSlice (named 0) κ₃ u8 .own (at-list b₃ o₃ γ₃ d) (sliceVal (b₃, o₃) n₃ ∷ [])) ∷ ‵ (flft κ₃ q₃) ∷ free 𝓤 (sliceTy (tyRef erased mut (pointee (Object-t.the-row .written)))) l₁₉ (free 𝓤 (tyRef erased mut (pointee (Object-t.the-row .written))) l₁₈ (free 𝓤 (sliceTy (tyRef erased mut (pointee ((Array u64 8) .written)))) l₁₇ (free 𝓤 (tyRef erased mut (pointee ((Array u64 8) .written))) l₁₆ (free 𝓤 Move-l.mir l₁₅ (free 𝓤 tyBool l₁₄ (full 𝓤 (sliceTy (tyRef erased imm (pointee (Object-t.the-row .written)))) l₁₃ (sliceVal (b₂, o₂) n₂) (full 𝓤 (tyRef erased imm (pointee (Object-t.the-row .written))) l₁₂ (vptr b₂ o₂) (full 𝓤 (sliceTy (tyRef erased imm (pointee ((Array u64 8) .written)))) l₁₁ (sliceVal (b₁, o₁) n₁) (full 𝓤 (tyRef erased imm (pointee ((Array u64 8) .written))) l₁₀ (vptr b₁ o₁) (full 𝓤 Room′-l.mir l₉ (Room′-p .val (roomOf (sessions) (objects) id number)) (full 𝓤 Span-l.mir l₈ (Span-p .val body) (full 𝓤 (tyInt w16) l₇ (u16-p .val parent) (full 𝓤 ObjectKind-l.mir l₆ (ObjectKind-p .val kind) (full 𝓤 ObjectNumber-l.mir l₅ (ObjectNumber-p .val number) (full 𝓤 (tyInt w8) l₄ (u8-p .val id) (full 𝓤 (sliceTy (tyRef (named 2) imm (pointee (u8 .written)))) l₃ (sliceVal (b₃, o₃) n₃) (full 𝓤 (sliceTy (tyRef (named 1) mut (pointee (Object-t.the-row .written)))) l₂ (sliceVal (b₂, o₂) n₂) (full 𝓤 (sliceTy (tyRef (named 0) mut (pointee ((Array u64 8) .written)))) l₁ (sliceVal (b₁, o₁) n₁) (free 𝓤 Move-l.mir l₀ ([]))))))))))))))))))))) (runs C Λ En mir.t-6 (atRet En Post))
     part-6-0 is-5 =
         -- 6: moves::objects::is_free
         nothing ! $
@@ -331,14 +331,14 @@ module _ {M : Type 1} (𝓤 : URA M) (H : Heap 𝓤) (A : Atoms 𝓤) (W : Given
         land ! (from ! (stop !)) (init ! 16 refl (bool-p .typed 𝓤 H A W (isFree (roomOf (sessions) (objects) id number)) is-6)) $
         part-7-0 is-5 is-6)
 
-    begins : Sq W (‵ (MutSlice (named 0) κ₁ (Array u64 6) .own (at-list b₁ o₁ γ₁ sessions) (sliceVal (b₁, o₁) n₁ ∷ [])) ∷ ‵ (flft κ₁ q₁) ∷ ‵ (MutSlice (named 0) κ₂ Object-t.the-row .own (at-list b₂ o₂ γ₂ objects) (sliceVal (b₂, o₂) n₂ ∷ [])) ∷ ‵ (flft κ₂ q₂) ∷ ‵ (ShrSlice (named 0) κ₃ u8 .own (at-list b₃ o₃ γ₃ d) (sliceVal (b₃, o₃) n₃ ∷ [])) ∷ ‵ (flft κ₃ q₃) ∷ free 𝓤 (sliceTy (tyRef erased mut (pointee (Object-t.the-row .written)))) l₁₉ (free 𝓤 (tyRef erased mut (pointee (Object-t.the-row .written))) l₁₈ (free 𝓤 (sliceTy (tyRef erased mut (pointee ((Array u64 6) .written)))) l₁₇ (free 𝓤 (tyRef erased mut (pointee ((Array u64 6) .written))) l₁₆ (free 𝓤 Move-l.mir l₁₅ (free 𝓤 tyBool l₁₄ (free 𝓤 (sliceTy (tyRef erased imm (pointee (Object-t.the-row .written)))) l₁₃ (free 𝓤 (tyRef erased imm (pointee (Object-t.the-row .written))) l₁₂ (free 𝓤 (sliceTy (tyRef erased imm (pointee ((Array u64 6) .written)))) l₁₁ (free 𝓤 (tyRef erased imm (pointee ((Array u64 6) .written))) l₁₀ (free 𝓤 Room′-l.mir l₉ (full 𝓤 Span-l.mir l₈ (Span-p .val body) (full 𝓤 (tyInt w16) l₇ (u16-p .val parent) (full 𝓤 ObjectKind-l.mir l₆ (ObjectKind-p .val kind) (full 𝓤 ObjectNumber-l.mir l₅ (ObjectNumber-p .val number) (full 𝓤 (tyInt w8) l₄ (u8-p .val id) (full 𝓤 (sliceTy (tyRef (named 2) imm (pointee (u8 .written)))) l₃ (sliceVal (b₃, o₃) n₃) (full 𝓤 (sliceTy (tyRef (named 1) mut (pointee (Object-t.the-row .written)))) l₂ (sliceVal (b₂, o₂) n₂) (full 𝓤 (sliceTy (tyRef (named 0) mut (pointee ((Array u64 6) .written)))) l₁ (sliceVal (b₁, o₁) n₁) (free 𝓤 Move-l.mir l₀ ([]))))))))))))))))))))) (runs C Λ En mir.t-1 (atRet En Post))
+    begins : Sq W (‵ (MutSlice (named 0) κ₁ (Array u64 8) .own (at-list b₁ o₁ γ₁ sessions) (sliceVal (b₁, o₁) n₁ ∷ [])) ∷ ‵ (flft κ₁ q₁) ∷ ‵ (MutSlice (named 0) κ₂ Object-t.the-row .own (at-list b₂ o₂ γ₂ objects) (sliceVal (b₂, o₂) n₂ ∷ [])) ∷ ‵ (flft κ₂ q₂) ∷ ‵ (ShrSlice (named 0) κ₃ u8 .own (at-list b₃ o₃ γ₃ d) (sliceVal (b₃, o₃) n₃ ∷ [])) ∷ ‵ (flft κ₃ q₃) ∷ free 𝓤 (sliceTy (tyRef erased mut (pointee (Object-t.the-row .written)))) l₁₉ (free 𝓤 (tyRef erased mut (pointee (Object-t.the-row .written))) l₁₈ (free 𝓤 (sliceTy (tyRef erased mut (pointee ((Array u64 8) .written)))) l₁₇ (free 𝓤 (tyRef erased mut (pointee ((Array u64 8) .written))) l₁₆ (free 𝓤 Move-l.mir l₁₅ (free 𝓤 tyBool l₁₄ (free 𝓤 (sliceTy (tyRef erased imm (pointee (Object-t.the-row .written)))) l₁₃ (free 𝓤 (tyRef erased imm (pointee (Object-t.the-row .written))) l₁₂ (free 𝓤 (sliceTy (tyRef erased imm (pointee ((Array u64 8) .written)))) l₁₁ (free 𝓤 (tyRef erased imm (pointee ((Array u64 8) .written))) l₁₀ (free 𝓤 Room′-l.mir l₉ (full 𝓤 Span-l.mir l₈ (Span-p .val body) (full 𝓤 (tyInt w16) l₇ (u16-p .val parent) (full 𝓤 ObjectKind-l.mir l₆ (ObjectKind-p .val kind) (full 𝓤 ObjectNumber-l.mir l₅ (ObjectNumber-p .val number) (full 𝓤 (tyInt w8) l₄ (u8-p .val id) (full 𝓤 (sliceTy (tyRef (named 2) imm (pointee (u8 .written)))) l₃ (sliceVal (b₃, o₃) n₃) (full 𝓤 (sliceTy (tyRef (named 1) mut (pointee (Object-t.the-row .written)))) l₂ (sliceVal (b₂, o₂) n₂) (full 𝓤 (sliceTy (tyRef (named 0) mut (pointee ((Array u64 8) .written)))) l₁ (sliceVal (b₁, o₁) n₁) (free 𝓤 Move-l.mir l₀ ([]))))))))))))))))))))) (runs C Λ En mir.t-1 (atRet En Post))
     begins =
         assigns ! (addr ! (from ! (fld ! refl (hop ! (look-in ! 42 (sub ! 0 refl (whole !))) (stop !))))) (from ! (stop !)) (init ! 24 refl (tt, tt)) $
         assigns ! (agg ! (and-then ! (load ! (from ! (stop !)) (look ! 24 refl)) (and-then ! (load ! (from ! (fld ! refl (stop !))) (look-in ! 42 (sub ! 1 refl (whole !)))) (no-more !)))) (from ! (stop !)) (init ! 22 refl (tt, (tt, (record { fits = room₁ .0 }, tt)))) $
         assigns ! (addr ! (from ! (fld ! refl (hop ! (look-in ! 40 (sub ! 0 refl (whole !))) (stop !))))) (from ! (stop !)) (init ! 20 refl (tt, tt)) $
         assigns ! (agg ! (and-then ! (load ! (from ! (stop !)) (look ! 20 refl)) (and-then ! (load ! (from ! (fld ! refl (stop !))) (look-in ! 40 (sub ! 1 refl (whole !)))) (no-more !)))) (from ! (stop !)) (init ! 18 refl (tt, (tt, (record { fits = room₂ .0 }, tt)))) $
         -- 5: sessions::room::has_room
-        lends-view ! tt (Array u64 6) b₁ o₁ sessions n₁ (refl) (λ ν-5-sessions δ-5-sessions.
+        lends-view ! tt (Array u64 8) b₁ o₁ sessions n₁ (refl) (λ ν-5-sessions δ-5-sessions.
         move ! (3 ∷ 4 ∷ []) $
         lends-view ! tt Object-t.the-row b₂ o₂ objects n₂ (refl) (λ ν-5-objects δ-5-objects.
         nothing ! $ move ! (1 ∷ 0 ∷ []) $ join ! $ move ! (3 ∷ 0 ∷ []) $ join ! $
@@ -347,7 +347,7 @@ module _ {M : Type 1} (𝓤 : URA M) (H : Heap 𝓤) (A : Atoms 𝓤) (W : Given
         owned ! (u8-p .row) (Is (u8-p .row)) (u8-p .makes 𝓤 H A W) id (u8-p .val id ∷ []) id-is $ fjoin ! $ move ! (2 ∷ 0 ∷ []) $ fjoin ! $ move ! (3 ∷ 0 ∷ []) $ fjoin ! $ move ! (1 ∷ 0 ∷ []) $
         calls-any ! fm 2 [] (room-has-room.signature .params) (room-has-room.ended .kept) Room′-p (room-has-room.clauses 𝓤 H A mem run) known-room-has-room ((ν-5-sessions ∷ []), ((ν-5-objects ∷ []), tt)) (fullShare, (fullShare, tt)) tt (at-list b₁ o₁ δ-5-sessions sessions, (at-list b₂ o₂ δ-5-objects objects, (id, (number, tt)))) (sliceVal (b₁, o₁) n₁ ∷ [], (sliceVal (b₂, o₂) n₂ ∷ [], (u8-p .val id ∷ [], (ObjectNumber-p .val number ∷ [], tt)))) tt (roomOf (sessions) (objects) id number) (λ ws-5. Unit {0}) (id⊢ 𝓤 _) (λ r ws-5. fact-mono 𝓤 (r ≡ roomOf (sessions) (objects) id number) ((r ≡ (roomOf (sessions) (objects) id number)) × (Unit {0})) (λ e. (e, tt))) (λ _. (and-then ! (load ! (from ! (stop !)) (look ! 21 refl)) (and-then ! (load ! (from ! (stop !)) (look ! 17 refl)) (and-then ! (load ! (from ! (stop !)) (look ! 35 refl)) (and-then ! (load ! (from ! (stop !)) (look ! 33 refl)) (no-more !)))))) (λ ws-5 said-5 is-5.
         use1 W ((‵ (flft (ν-5-sessions ∷ []) fullShare) ⊛ (‵ (flft (ν-5-objects ∷ []) fullShare) ⊛ ‵ ftrue))) (id⊢ 𝓤 _) $ split ! $ move ! (1 ∷ []) $ split ! $ move ! (3 ∷ []) $ fsplit ! $ move ! (1 ∷ []) $ fsplit ! $ move ! (5 ∷ 7 ∷ []) $
-        backs-view ! tt (Array u64 6) b₁ o₁ sessions n₁ (refl) ν-5-sessions $ move ! (5 ∷ 7 ∷ []) $
+        backs-view ! tt (Array u64 8) b₁ o₁ sessions n₁ (refl) ν-5-sessions $ move ! (5 ∷ 7 ∷ []) $
         backs-view ! tt Object-t.the-row b₂ o₂ objects n₂ (refl) ν-5-objects $ move ! (4 ∷ []) $ drop ! $ move ! (4 ∷ []) $ drop ! $ move ! (4 ∷ []) $ drop ! $ move ! (4 ∷ []) $ drop ! $
         land ! (from ! (stop !)) (init ! 26 refl (Room′-p .typed 𝓤 H A W (roomOf (sessions) (objects) id number) is-5)) $ move ! (2 ∷ 3 ∷ 0 ∷ 1 ∷ 4 ∷ 5 ∷ 6 ∷ 7 ∷ 8 ∷ 9 ∷ 10 ∷ 11 ∷ 12 ∷ 13 ∷ 14 ∷ 15 ∷ 16 ∷ 17 ∷ 18 ∷ 19 ∷ 20 ∷ 21 ∷ 22 ∷ 23 ∷ 24 ∷ 25 ∷ 26 ∷ 27 ∷ 28 ∷ 29 ∷ 30 ∷ 31 ∷ 32 ∷ 33 ∷ 34 ∷ 35 ∷ 36 ∷ 37 ∷ 38 ∷ 39 ∷ 40 ∷ 41 ∷ 42 ∷ 43 ∷ 44 ∷ 45 ∷ []) $
         part-6-0 is-5)))
@@ -355,17 +355,17 @@ module _ {M : Type 1} (𝓤 : URA M) (H : Heap 𝓤) (A : Atoms 𝓤) (W : Given
   module _ (𝓣 : Tables 𝓤 H) (known-room-has-room : Triple 𝓤 (𝓣 .C #room-has-room) (Of-room-has-room 𝓤 H A mem run)) (known-objects-is-free : Triple 𝓤 (𝓣 .C #objects-is-free) (Of-objects-is-free 𝓤 H A mem run)) (known-objects-create-kind : Triple 𝓤 (𝓣 .C #objects-create-kind) (Of-objects-create-kind 𝓤 H A mem run)) (known-objects-no-room-move : Triple 𝓤 (𝓣 .C #objects-no-room-move) (Of-objects-no-room-move 𝓤 H A mem run)) where
     walk : ent 𝓤 (onEntry 𝓤 H A f.signature (κ₁, (κ₂, (κ₃, tt))) (q₁, (q₂, (q₃, tt))) x at) (WpFn 𝓤 H (𝓣 .C) (𝓣 .Λ) code.function (sliceVal (b₁, o₁) n₁ ∷ sliceVal (b₂, o₂) n₂ ∷ sliceVal (b₃, o₃) n₃ ∷ u8-p .val id ∷ ObjectNumber-p .val number ∷ ObjectKind-p .val kind ∷ u16-p .val parent ∷ Span-p .val body ∷ []) Post)
     walk =
-        qed W ((‵ (flft κ₁ q₁) ⊛ (‵ (flft κ₂ q₂) ⊛ (‵ (flft κ₃ q₃) ⊛ ‵ ftrue))) ∷ ‵ (owns (MutSlice (named 0) κ₁ (Array u64 6) ∷ MutSlice (named 1) κ₂ Object-t.the-row ∷ ShrSlice (named 2) κ₃ u8 ∷ u8-p .row ∷ ObjectNumber-p .row ∷ ObjectKind-p .row ∷ u16-p .row ∷ Span-p .row ∷ []) x at) ∷ []) ∵ enter ! (𝓣 .C) (𝓣 .Λ) code.function (sliceVal (b₁, o₁) n₁ ∷ sliceVal (b₂, o₂) n₂ ∷ sliceVal (b₃, o₃) n₃ ∷ u8-p .val id ∷ ObjectNumber-p .val number ∷ ObjectKind-p .val kind ∷ u16-p .val parent ∷ Span-p .val body ∷ []) _ $
+        qed W ((‵ (flft κ₁ q₁) ⊛ (‵ (flft κ₂ q₂) ⊛ (‵ (flft κ₃ q₃) ⊛ ‵ ftrue))) ∷ ‵ (owns (MutSlice (named 0) κ₁ (Array u64 8) ∷ MutSlice (named 1) κ₂ Object-t.the-row ∷ ShrSlice (named 2) κ₃ u8 ∷ u8-p .row ∷ ObjectNumber-p .row ∷ ObjectKind-p .row ∷ u16-p .row ∷ Span-p .row ∷ []) x at) ∷ []) ∵ enter ! (𝓣 .C) (𝓣 .Λ) code.function (sliceVal (b₁, o₁) n₁ ∷ sliceVal (b₂, o₂) n₂ ∷ sliceVal (b₃, o₃) n₃ ∷ u8-p .val id ∷ ObjectNumber-p .val number ∷ ObjectKind-p .val kind ∷ u16-p .val parent ∷ Span-p .val body ∷ []) _ $
         alloc1 ! (λ l₀. alloc1 ! (λ l₁. alloc1 ! (λ l₂. alloc1 ! (λ l₃. alloc1 ! (λ l₄. alloc1 ! (λ l₅. alloc1 ! (λ l₆. alloc1 ! (λ l₇. alloc1 ! (λ l₈. alloc1 ! (λ l₉. alloc1 ! (λ l₁₀. alloc1 ! (λ l₁₁. alloc1 ! (λ l₁₂. alloc1 ! (λ l₁₃. alloc1 ! (λ l₁₄. alloc1 ! (λ l₁₅. alloc1 ! (λ l₁₆. alloc1 ! (λ l₁₇. alloc1 ! (λ l₁₈. alloc1 ! (λ l₁₉. alloc0 ! $ params1 ! $ pass1 ! (init ! 36 refl (tt, (tt, (record { fits = room₁ .0 }, tt)))) $ pass1 ! (init ! 34 refl (tt, (tt, (record { fits = room₂ .0 }, tt)))) $ pass1 ! (init ! 32 refl (tt, (tt, (record { fits = room₃ .0 }, tt)))) $ pass1 ! (init ! 30 refl (u8-p .typed 𝓤 H A W id id-is)) $ pass1 ! (init ! 28 refl (ObjectNumber-p .typed 𝓤 H A W number number-is)) $ pass1 ! (init ! 26 refl (ObjectKind-p .typed 𝓤 H A W kind kind-is)) $ pass1 ! (init ! 24 refl (u16-p .typed 𝓤 H A W parent parent-is)) $ pass1 ! (init ! 22 refl (Span-p .typed 𝓤 H A W body body-is)) $ pass0 ! $ move ! (41 ∷ []) $ fsplit ! $ move ! (1 ∷ []) $ fsplit ! $ move ! (1 ∷ []) $ fsplit ! $ move ! (44 ∷ []) $ split ! $ move ! (1 ∷ []) $ split ! $ move ! (1 ∷ []) $ split ! $ move ! (1 ∷ []) $ drop ! $ move ! (4 ∷ []) $ drop ! $ move ! (5 ∷ 2 ∷ 4 ∷ 1 ∷ 3 ∷ 0 ∷ 6 ∷ 7 ∷ 8 ∷ 9 ∷ 10 ∷ 11 ∷ 12 ∷ 13 ∷ 14 ∷ 15 ∷ 16 ∷ 17 ∷ 18 ∷ 19 ∷ 20 ∷ 21 ∷ 22 ∷ 23 ∷ 24 ∷ 25 ∷ 26 ∷ 27 ∷ 28 ∷ 29 ∷ 30 ∷ 31 ∷ 32 ∷ 33 ∷ 34 ∷ 35 ∷ 36 ∷ 37 ∷ 38 ∷ 39 ∷ 40 ∷ 41 ∷ 42 ∷ 43 ∷ 44 ∷ 45 ∷ []) $
         begins 𝓣 known-room-has-room known-objects-is-free known-objects-create-kind known-objects-no-room-move l₀ l₁ l₂ l₃ l₄ l₅ l₆ l₇ l₈ l₉ l₁₀ l₁₁ l₁₂ l₁₃ l₁₄ l₁₅ l₁₆ l₁₇ l₁₈ l₁₉))))))))))))))))))))
 
 module _ {M : Type 1} (𝓤 : URA M) (H : Heap 𝓤) (A : Atoms 𝓤) (W : Given 𝓤 H A) (mem : Memory → SProp 𝓤) (run : Routine → Fun 𝓤) (𝓣 : Tables 𝓤 H) (known-room-has-room : Triple 𝓤 (𝓣 .C #room-has-room) (Of-room-has-room 𝓤 H A mem run)) (known-objects-is-free : Triple 𝓤 (𝓣 .C #objects-is-free) (Of-objects-is-free 𝓤 H A mem run)) (known-objects-create-kind : Triple 𝓤 (𝓣 .C #objects-create-kind) (Of-objects-create-kind 𝓤 H A mem run)) (known-objects-no-room-move : Triple 𝓤 (𝓣 .C #objects-no-room-move) (Of-objects-no-room-move 𝓤 H A mem run)) where
   walks : Walks 𝓤 H A f.ended stayed (WpFn 𝓤 H (𝓣 .C) (𝓣 .Λ) code.function) (f.clauses 𝓤 H A mem run)
-  walks = walked 𝓤 H A f.ended stayed (f.clauses 𝓤 H A mem run) (WpFn 𝓤 H (𝓣 .C) (𝓣 .Λ) code.function) (λ κs. (slice-vals, (slice-vals, (slice-vals, ((λ y. u8-p .val y ∷ []), ((λ y. ObjectNumber-p .val y ∷ []), ((λ y. ObjectKind-p .val y ∷ []), ((λ y. u16-p .val y ∷ []), ((λ y. Span-p .val y ∷ []), tt))))))))) (λ κs. (mut-slice-tells (named 0) (κs .0) (Array u64 6), (mut-slice-tells (named 1) (κs .1 .0) Object-t.the-row, (shr-slice-tells (named 2) (κs .1 .1 .0) u8, (u8-p .tells, (ObjectNumber-p .tells, (ObjectKind-p .tells, (u16-p .tells, (Span-p .tells, tt)))))))))
+  walks = walked 𝓤 H A f.ended stayed (f.clauses 𝓤 H A mem run) (WpFn 𝓤 H (𝓣 .C) (𝓣 .Λ) code.function) (λ κs. (slice-vals, (slice-vals, (slice-vals, ((λ y. u8-p .val y ∷ []), ((λ y. ObjectNumber-p .val y ∷ []), ((λ y. ObjectKind-p .val y ∷ []), ((λ y. u16-p .val y ∷ []), ((λ y. Span-p .val y ∷ []), tt))))))))) (λ κs. (mut-slice-tells (named 0) (κs .0) (Array u64 8), (mut-slice-tells (named 1) (κs .1 .0) Object-t.the-row, (shr-slice-tells (named 2) (κs .1 .1 .0) u8, (u8-p .tells, (ObjectNumber-p .tells, (ObjectKind-p .tells, (u16-p .tells, (Span-p .tells, tt)))))))))
       (λ κs qs bounds a g are. via 𝓤 _ (fst∗ 𝓤 _ (emp 𝓤)) (walk 𝓤 H A W mem run (κs .0) (qs .0) (a .0 .ptr .0) (a .0 .ptr .1) (a .0 .name) (a .0 .now) (κs .1 .0) (qs .1 .0) (a .1 .0 .ptr .0) (a .1 .0 .ptr .1) (a .1 .0 .name) (a .1 .0 .now) (κs .1 .1 .0) (qs .1 .1 .0) (a .1 .1 .0 .ptr .0) (a .1 .1 .0 .ptr .1) (a .1 .1 .0 .name) (a .1 .1 .0 .now) (a .1 .1 .1 .0) (a .1 .1 .1 .1 .0) (a .1 .1 .1 .1 .1 .0) (a .1 .1 .1 .1 .1 .1 .0) (a .1 .1 .1 .1 .1 .1 .1 .0) (are .0 .0 .1) (are .1 .0 .0 .1) (are .1 .1 .0 .0 .1) (are .1 .1 .1 .0) (are .1 .1 .1 .1 .0) (are .1 .1 .1 .1 .1 .0) (are .1 .1 .1 .1 .1 .1 .0) (are .1 .1 .1 .1 .1 .1 .1 .0) 𝓣 known-room-has-room known-objects-is-free known-objects-create-kind known-objects-no-room-move))
 
   meets : Meets 𝓤 H A f.signature (WpFn 𝓤 H (𝓣 .C) (𝓣 .Λ) code.function) (f.spec 𝓤 H A mem run)
-  meets = walk-meets 𝓤 H A f.ended stayed W (goes-slice 𝓤 H A W 3 0 tt (plain (λ _. (Array u64 6))), (goes-slice 𝓤 H A W 3 1 tt (plain (λ _. Object-t.the-row)), (goes-none-slice 𝓤 H A W 3 (2 ∷ []) tt (plain (λ _. u8)) yes, (goes-none 𝓤 H A W 3 (λ _. u8-p .row) yes (λ κs x f. refl), (goes-none 𝓤 H A W 3 (λ _. ObjectNumber-p .row) yes (λ κs x f. refl), (goes-none 𝓤 H A W 3 (λ _. ObjectKind-p .row) yes (λ κs x f. refl), (goes-none 𝓤 H A W 3 (λ _. u16-p .row) yes (λ κs x f. refl), (goes-none 𝓤 H A W 3 (λ _. Span-p .row) yes (λ κs x f. refl), tt)))))))) (f.clauses 𝓤 H A mem run) (WpFn 𝓤 H (𝓣 .C) (𝓣 .Λ) code.function) (WpFn-mono 𝓤 H (W .laws) 𝓣 code.function) walks
+  meets = walk-meets 𝓤 H A f.ended stayed W (goes-slice 𝓤 H A W 3 0 tt (plain (λ _. (Array u64 8))), (goes-slice 𝓤 H A W 3 1 tt (plain (λ _. Object-t.the-row)), (goes-none-slice 𝓤 H A W 3 (2 ∷ []) tt (plain (λ _. u8)) yes, (goes-none 𝓤 H A W 3 (λ _. u8-p .row) yes (λ κs x f. refl), (goes-none 𝓤 H A W 3 (λ _. ObjectNumber-p .row) yes (λ κs x f. refl), (goes-none 𝓤 H A W 3 (λ _. ObjectKind-p .row) yes (λ κs x f. refl), (goes-none 𝓤 H A W 3 (λ _. u16-p .row) yes (λ κs x f. refl), (goes-none 𝓤 H A W 3 (λ _. Span-p .row) yes (λ κs x f. refl), tt)))))))) (f.clauses 𝓤 H A mem run) (WpFn 𝓤 H (𝓣 .C) (𝓣 .Λ) code.function) (WpFn-mono 𝓤 H (W .laws) 𝓣 code.function) walks
 
 pub create-spec : {M : Type 1} → stated.statement M
 unfolding code.routine tablesOf

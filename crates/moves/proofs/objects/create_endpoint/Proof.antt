@@ -102,7 +102,7 @@ use Rattle.sessions.specs.declared.objects.Found.the-variants.{Held as Found-He
 use Rattle.codec.specs.declared.refusals.Refusal.{Refusal}
 use Rattle.codec.proofs.refusals.Refusal as Refusal-t
 use Rattle.codec.proofs.refusals.Refusal.Laws as Refusal-l
-use Rattle.codec.specs.declared.refusals.Refusal.the-variants.{BufferTooShort as Refusal-BufferTooShort, UnknownSubmessageId as Refusal-UnknownSubmessageId, UnknownObjectKind as Refusal-UnknownObjectKind, UnknownStatusCode as Refusal-UnknownStatusCode, PayloadLengthMismatch as Refusal-PayloadLengthMismatch, SessionFull as Refusal-SessionFull, FragmentSizeZero as Refusal-FragmentSizeZero, EmptyPayload as Refusal-EmptyPayload, TooManyFragments as Refusal-TooManyFragments, FragmentNumber as Refusal-FragmentNumber, MissingFragments as Refusal-MissingFragments, TooLong as Refusal-TooLong, OutputTooShort as Refusal-OutputTooShort, StoreFull as Refusal-StoreFull, OutOfTurn as Refusal-OutOfTurn, OverLimit as Refusal-OverLimit}
+use Rattle.codec.specs.declared.refusals.Refusal.the-variants.{BufferTooShort as Refusal-BufferTooShort, UnknownSubmessageId as Refusal-UnknownSubmessageId, UnknownObjectKind as Refusal-UnknownObjectKind, UnknownStatusCode as Refusal-UnknownStatusCode, PayloadLengthMismatch as Refusal-PayloadLengthMismatch, SessionFull as Refusal-SessionFull, FragmentSizeZero as Refusal-FragmentSizeZero, EmptyPayload as Refusal-EmptyPayload, TooManyFragments as Refusal-TooManyFragments, FragmentNumber as Refusal-FragmentNumber, MissingFragments as Refusal-MissingFragments, TooLong as Refusal-TooLong, OutputTooShort as Refusal-OutputTooShort, StoreFull as Refusal-StoreFull, OutOfTurn as Refusal-OutOfTurn, OverLimit as Refusal-OverLimit, NotInFragments as Refusal-NotInFragments}
 use Rattle.sessions.proofs.session_objects.find_object as session-objects-find-object
 use Rattle.sessions.proofs.session_objects.find_object.Symbol as session-objects-find-object-def
 use Rattle.sessions.proofs.session_objects.find_object.Symbol.{name as #session-objects-find-object}
@@ -170,7 +170,7 @@ abbrev Refusal-p : Plain
 Refusal-p = record { row = Refusal-t.the-row; val = EL.val Refusal-t.the-type Refusal-l.the-laws; tells = EL.tells Refusal-t.the-type Refusal-l.the-laws; makes = λ 𝓤 H A W. EL.makes Refusal-t.the-type Refusal-l.the-plain 𝓤 H A; ty = Refusal-l.mir; typed = λ 𝓤 H A W x is. EL.lawful Refusal-t.the-type Refusal-l.the-laws 𝓤 H A W tt .typed x _ is .0; copies = λ 𝓤 H A W. EL.copy Refusal-t.the-type Refusal-l.the-copy 𝓤 H A W }
 
 abbrev stayed : Stays (f.ended .signature .params) (f.ended .kept)
-stayed = (stay-none-slice (0 ∷ []) tt (plain (λ _. (Array u64 6))) yes, (stay-none-slice (1 ∷ []) tt (plain (λ _. Object-t.the-row)) yes, (stay-none (λ _. u8-p .row) yes, (stay-none (λ _. ObjectNumber-p .row) yes, (stay-none (λ _. u8-p .row) yes, (stay-none (λ _. u16-p .row) yes, tt))))))
+stayed = (stay-none-slice (0 ∷ []) tt (plain (λ _. (Array u64 8))) yes, (stay-none-slice (1 ∷ []) tt (plain (λ _. Object-t.the-row)) yes, (stay-none (λ _. u8-p .row) yes, (stay-none (λ _. ObjectNumber-p .row) yes, (stay-none (λ _. u8-p .row) yes, (stay-none (λ _. u16-p .row) yes, tt))))))
 
 module _ {M : Type 1} (𝓤 : URA M) (H : Heap 𝓤) (A : Atoms 𝓤) (mem : Memory → SProp 𝓤) (run : Routine → Fun 𝓤) where
   abbrev Of-session-objects-find-object : Contract 𝓤
@@ -183,7 +183,7 @@ module _ {M : Type 1} (𝓤 : URA M) (H : Heap 𝓤) (A : Atoms 𝓤) (mem : Mem
   Of-moves-endpoint-move = tripleOf 𝓤 H A moves-endpoint-move.signature (moves-endpoint-move.spec 𝓤 H A mem run)
 
 module _ {M : Type 1} (𝓤 : URA M) (H : Heap 𝓤) (A : Atoms 𝓤) (W : Given 𝓤 H A) (mem : Memory → SProp 𝓤) (run : Routine → Fun 𝓤) (κ₁ : Lft) (q₁ : Share) (b₁ o₁ : ℕ) (γ₁ : GName) (sessions : List (List ℕ)) (κ₂ : Lft) (q₂ : Share) (b₂ o₂ : ℕ) (γ₂ : GName) (objects : List Object) (id : ℕ) (number : ObjectNumber) (kind : ℕ) (parent : ℕ)
-    (room₁ : Room (Array u64 6) (length sessions)) (room₂ : Room Object-t.the-row (length objects)) (id-is : Is (u8-p .row) id (u8-p .val id ∷ [])) (number-is : Is (ObjectNumber-p .row) number (ObjectNumber-p .val number ∷ [])) (kind-is : Is (u8-p .row) kind (u8-p .val kind ∷ [])) (parent-is : Is (u16-p .row) parent (u16-p .val parent ∷ [])) where
+    (room₁ : Room (Array u64 8) (length sessions)) (room₂ : Room Object-t.the-row (length objects)) (id-is : Is (u8-p .row) id (u8-p .val id ∷ [])) (number-is : Is (ObjectNumber-p .row) number (ObjectNumber-p .val number ∷ [])) (kind-is : Is (u8-p .row) kind (u8-p .val kind ∷ [])) (parent-is : Is (u16-p .row) parent (u16-p .val parent ∷ [])) where
   abbrev n₁ : ℕ
   n₁ = length sessions
 
@@ -199,9 +199,9 @@ module _ {M : Type 1} (𝓤 : URA M) (H : Heap 𝓤) (A : Atoms 𝓤) (W : Given
   abbrev Post : Val → SProp 𝓤
   Post = walkOf 𝓤 H A f.ended stayed (f.clauses 𝓤 H A mem run) .post (((κ₁, (κ₂, tt)), (q₁, (q₂, tt)), tt, x, at), tt)
 
-  exits : (r : Move) → (r ≡ endpointIn (sessions) (objects) id number kind parent) → Is (Move-p .row) r (Move-p .val r ∷ []) → ent 𝓤 (⋆ 𝓤 H A (‵ (ShrSlice (named 0) κ₁ (Array u64 6) .own (at-list b₁ o₁ γ₁ sessions) (sliceVal (b₁, o₁) n₁ ∷ [])) ∷ ‵ (flft κ₁ q₁) ∷ ‵ (ShrSlice (named 1) κ₂ Object-t.the-row .own (at-list b₂ o₂ γ₂ objects) (sliceVal (b₂, o₂) n₂ ∷ [])) ∷ ‵ (flft κ₂ q₂) ∷ [])) (Post (Move-p .val r))
+  exits : (r : Move) → (r ≡ endpointIn (sessions) (objects) id number kind parent) → Is (Move-p .row) r (Move-p .val r ∷ []) → ent 𝓤 (⋆ 𝓤 H A (‵ (ShrSlice (named 0) κ₁ (Array u64 8) .own (at-list b₁ o₁ γ₁ sessions) (sliceVal (b₁, o₁) n₁ ∷ [])) ∷ ‵ (flft κ₁ q₁) ∷ ‵ (ShrSlice (named 1) κ₂ Object-t.the-row .own (at-list b₂ o₂ γ₂ objects) (sliceVal (b₂, o₂) n₂ ∷ [])) ∷ ‵ (flft κ₂ q₂) ∷ [])) (Post (Move-p .val r))
   exits r said r-is =
-      qed W (‵ (ShrSlice (named 0) κ₁ (Array u64 6) .own (at-list b₁ o₁ γ₁ sessions) (sliceVal (b₁, o₁) n₁ ∷ [])) ∷ ‵ (flft κ₁ q₁) ∷ ‵ (ShrSlice (named 1) κ₂ Object-t.the-row .own (at-list b₂ o₂ γ₂ objects) (sliceVal (b₂, o₂) n₂ ∷ [])) ∷ ‵ (flft κ₂ q₂) ∷ []) ∵
+      qed W (‵ (ShrSlice (named 0) κ₁ (Array u64 8) .own (at-list b₁ o₁ γ₁ sessions) (sliceVal (b₁, o₁) n₁ ∷ [])) ∷ ‵ (flft κ₁ q₁) ∷ ‵ (ShrSlice (named 1) κ₂ Object-t.the-row .own (at-list b₂ o₂ γ₂ objects) (sliceVal (b₂, o₂) n₂ ∷ [])) ∷ ‵ (flft κ₂ q₂) ∷ []) ∵
       suffices ! _ (ends-at 𝓤 H A f.ended stayed (f.clauses 𝓤 H A mem run) W (((κ₁, (κ₂, tt)), (q₁, (q₂, tt)), tt, x, at), tt) (Move-p .val r) r (tt, (tt, (tt, (tt, (tt, (tt, tt)))))) (tt, (tt, (tt, (tt, (tt, (tt, tt))))))) $ says ! said $ nothing ! $ move ! (4 ∷ 0 ∷ []) $ join ! $ move ! (2 ∷ 0 ∷ []) $ join ! $
       frame ! $ nothing ! $
       owned ! (u16-p .row) (Is (u16-p .row)) (u16-p .makes 𝓤 H A W) parent (u16-p .val parent ∷ []) parent-is $ fjoin ! $
@@ -222,13 +222,13 @@ module _ {M : Type 1} (𝓤 : URA M) (H : Heap 𝓤) (A : Atoms 𝓤) (W : Given
     fm = fmOf 𝓤 H (W .laws) 𝓣
 
     abbrev En : Env 𝓤 H
-    En = (Move-l.mir, l₀) ∷ ((sliceTy (tyRef (named 0) imm (pointee ((Array u64 6) .written)))), l₁) ∷ ((sliceTy (tyRef (named 1) imm (pointee (Object-t.the-row .written)))), l₂) ∷ ((tyInt w8), l₃) ∷ (ObjectNumber-l.mir, l₄) ∷ ((tyInt w8), l₅) ∷ ((tyInt w16), l₆) ∷ (ObjectNumber-l.mir, l₇) ∷ (Found-l.mir, l₈) ∷ (ObjectNumber-l.mir, l₉) ∷ (Found-l.mir, l₁₀) ∷ []
+    En = (Move-l.mir, l₀) ∷ ((sliceTy (tyRef (named 0) imm (pointee ((Array u64 8) .written)))), l₁) ∷ ((sliceTy (tyRef (named 1) imm (pointee (Object-t.the-row .written)))), l₂) ∷ ((tyInt w8), l₃) ∷ (ObjectNumber-l.mir, l₄) ∷ ((tyInt w8), l₅) ∷ ((tyInt w16), l₆) ∷ (ObjectNumber-l.mir, l₇) ∷ (Found-l.mir, l₈) ∷ (ObjectNumber-l.mir, l₉) ∷ (Found-l.mir, l₁₀) ∷ []
 
-    begins : Sq W (‵ (ShrSlice (named 0) κ₁ (Array u64 6) .own (at-list b₁ o₁ γ₁ sessions) (sliceVal (b₁, o₁) n₁ ∷ [])) ∷ ‵ (flft κ₁ q₁) ∷ ‵ (ShrSlice (named 0) κ₂ Object-t.the-row .own (at-list b₂ o₂ γ₂ objects) (sliceVal (b₂, o₂) n₂ ∷ [])) ∷ ‵ (flft κ₂ q₂) ∷ free 𝓤 Found-l.mir l₁₀ (free 𝓤 ObjectNumber-l.mir l₉ (free 𝓤 Found-l.mir l₈ (free 𝓤 ObjectNumber-l.mir l₇ (full 𝓤 (tyInt w16) l₆ (u16-p .val parent) (full 𝓤 (tyInt w8) l₅ (u8-p .val kind) (full 𝓤 ObjectNumber-l.mir l₄ (ObjectNumber-p .val number) (full 𝓤 (tyInt w8) l₃ (u8-p .val id) (full 𝓤 (sliceTy (tyRef (named 1) imm (pointee (Object-t.the-row .written)))) l₂ (sliceVal (b₂, o₂) n₂) (full 𝓤 (sliceTy (tyRef (named 0) imm (pointee ((Array u64 6) .written)))) l₁ (sliceVal (b₁, o₁) n₁) (free 𝓤 Move-l.mir l₀ ([])))))))))))) (runs C Λ En mir.t-1 (atRet En Post))
+    begins : Sq W (‵ (ShrSlice (named 0) κ₁ (Array u64 8) .own (at-list b₁ o₁ γ₁ sessions) (sliceVal (b₁, o₁) n₁ ∷ [])) ∷ ‵ (flft κ₁ q₁) ∷ ‵ (ShrSlice (named 0) κ₂ Object-t.the-row .own (at-list b₂ o₂ γ₂ objects) (sliceVal (b₂, o₂) n₂ ∷ [])) ∷ ‵ (flft κ₂ q₂) ∷ free 𝓤 Found-l.mir l₁₀ (free 𝓤 ObjectNumber-l.mir l₉ (free 𝓤 Found-l.mir l₈ (free 𝓤 ObjectNumber-l.mir l₇ (full 𝓤 (tyInt w16) l₆ (u16-p .val parent) (full 𝓤 (tyInt w8) l₅ (u8-p .val kind) (full 𝓤 ObjectNumber-l.mir l₄ (ObjectNumber-p .val number) (full 𝓤 (tyInt w8) l₃ (u8-p .val id) (full 𝓤 (sliceTy (tyRef (named 1) imm (pointee (Object-t.the-row .written)))) l₂ (sliceVal (b₂, o₂) n₂) (full 𝓤 (sliceTy (tyRef (named 0) imm (pointee ((Array u64 8) .written)))) l₁ (sliceVal (b₁, o₁) n₁) (free 𝓤 Move-l.mir l₀ ([])))))))))))) (runs C Λ En mir.t-1 (atRet En Post))
     begins =
         assigns ! (agg ! (and-then ! (load ! (from ! (stop !)) (look ! 12 refl)) (no-more !))) (from ! (stop !)) (init ! 10 refl (ObjectNumber-p .typed 𝓤 H A W (ObjectNumber-of parent) (LL.owes ObjectNumber-t.the-type ObjectNumber-l.the-laws (ObjectNumber-of parent) (parent-is, tt)))) $
         -- 2: sessions::session_objects::find_object
-        copies-shr ! (Array u64 6) b₁ o₁ sessions n₁ $ move ! (3 ∷ 4 ∷ []) $
+        copies-shr ! (Array u64 8) b₁ o₁ sessions n₁ $ move ! (3 ∷ 4 ∷ []) $
         copies-shr ! Object-t.the-row b₂ o₂ objects n₂ $ nothing ! $ move ! (1 ∷ 0 ∷ []) $ join ! $ move ! (3 ∷ 0 ∷ []) $ join ! $
         use1 W (raw (toks 𝓤 A 2 ((κ₁, (κ₂, tt))) ((q₁, (q₂, tt))))) (id⊢ 𝓤 _) $ nothing ! $
         owned ! (ObjectNumber-p .row) (Is (ObjectNumber-p .row)) (ObjectNumber-p .makes 𝓤 H A W) (ObjectNumber-of parent) (ObjectNumber-p .val (ObjectNumber-of parent) ∷ []) (LL.owes ObjectNumber-t.the-type ObjectNumber-l.the-laws (ObjectNumber-of parent) (parent-is, tt)) $ fjoin ! $
@@ -245,7 +245,7 @@ module _ {M : Type 1} (𝓤 : URA M) (H : Heap 𝓤) (A : Atoms 𝓤) (W : Given
         land ! (from ! (stop !)) (init ! 6 refl (ObjectNumber-p .typed 𝓤 H A W (parentOf (foundObject (sessions) (objects) id (ObjectNumber-of parent))) is-3)) $
         -- 4: sessions::session_objects::find_object
         move ! (3 ∷ 1 ∷ []) $
-        copies-shr ! (Array u64 6) b₁ o₁ sessions n₁ $ move ! (4 ∷ 3 ∷ []) $
+        copies-shr ! (Array u64 8) b₁ o₁ sessions n₁ $ move ! (4 ∷ 3 ∷ []) $
         copies-shr ! Object-t.the-row b₂ o₂ objects n₂ $ nothing ! $ move ! (1 ∷ 0 ∷ []) $ join ! $ move ! (3 ∷ 0 ∷ []) $ join ! $
         use1 W (raw (toks 𝓤 A 2 ((κ₁, (κ₂, tt))) ((q₁, (q₂, tt))))) (id⊢ 𝓤 _) $ nothing ! $
         owned ! (ObjectNumber-p .row) (Is (ObjectNumber-p .row)) (ObjectNumber-p .makes 𝓤 H A W) (parentOf (foundObject (sessions) (objects) id (ObjectNumber-of parent))) (ObjectNumber-p .val (parentOf (foundObject (sessions) (objects) id (ObjectNumber-of parent))) ∷ []) is-3 $ fjoin ! $
@@ -270,17 +270,17 @@ module _ {M : Type 1} (𝓤 : URA M) (H : Heap 𝓤) (A : Atoms 𝓤) (W : Given
   module _ (𝓣 : Tables 𝓤 H) (known-session-objects-find-object : Triple 𝓤 (𝓣 .C #session-objects-find-object) (Of-session-objects-find-object 𝓤 H A mem run)) (known-moves-parent-of : Triple 𝓤 (𝓣 .C #moves-parent-of) (Of-moves-parent-of 𝓤 H A mem run)) (known-moves-endpoint-move : Triple 𝓤 (𝓣 .C #moves-endpoint-move) (Of-moves-endpoint-move 𝓤 H A mem run)) where
     walk : ent 𝓤 (onEntry 𝓤 H A f.signature (κ₁, (κ₂, tt)) (q₁, (q₂, tt)) x at) (WpFn 𝓤 H (𝓣 .C) (𝓣 .Λ) code.function (sliceVal (b₁, o₁) n₁ ∷ sliceVal (b₂, o₂) n₂ ∷ u8-p .val id ∷ ObjectNumber-p .val number ∷ u8-p .val kind ∷ u16-p .val parent ∷ []) Post)
     walk =
-        qed W ((‵ (flft κ₁ q₁) ⊛ (‵ (flft κ₂ q₂) ⊛ ‵ ftrue)) ∷ ‵ (owns (ShrSlice (named 0) κ₁ (Array u64 6) ∷ ShrSlice (named 1) κ₂ Object-t.the-row ∷ u8-p .row ∷ ObjectNumber-p .row ∷ u8-p .row ∷ u16-p .row ∷ []) x at) ∷ []) ∵ enter ! (𝓣 .C) (𝓣 .Λ) code.function (sliceVal (b₁, o₁) n₁ ∷ sliceVal (b₂, o₂) n₂ ∷ u8-p .val id ∷ ObjectNumber-p .val number ∷ u8-p .val kind ∷ u16-p .val parent ∷ []) _ $
+        qed W ((‵ (flft κ₁ q₁) ⊛ (‵ (flft κ₂ q₂) ⊛ ‵ ftrue)) ∷ ‵ (owns (ShrSlice (named 0) κ₁ (Array u64 8) ∷ ShrSlice (named 1) κ₂ Object-t.the-row ∷ u8-p .row ∷ ObjectNumber-p .row ∷ u8-p .row ∷ u16-p .row ∷ []) x at) ∷ []) ∵ enter ! (𝓣 .C) (𝓣 .Λ) code.function (sliceVal (b₁, o₁) n₁ ∷ sliceVal (b₂, o₂) n₂ ∷ u8-p .val id ∷ ObjectNumber-p .val number ∷ u8-p .val kind ∷ u16-p .val parent ∷ []) _ $
         alloc1 ! (λ l₀. alloc1 ! (λ l₁. alloc1 ! (λ l₂. alloc1 ! (λ l₃. alloc1 ! (λ l₄. alloc1 ! (λ l₅. alloc1 ! (λ l₆. alloc1 ! (λ l₇. alloc1 ! (λ l₈. alloc1 ! (λ l₉. alloc1 ! (λ l₁₀. alloc0 ! $ params1 ! $ pass1 ! (init ! 18 refl (tt, (tt, (record { fits = room₁ .0 }, tt)))) $ pass1 ! (init ! 16 refl (tt, (tt, (record { fits = room₂ .0 }, tt)))) $ pass1 ! (init ! 14 refl (u8-p .typed 𝓤 H A W id id-is)) $ pass1 ! (init ! 12 refl (ObjectNumber-p .typed 𝓤 H A W number number-is)) $ pass1 ! (init ! 10 refl (u8-p .typed 𝓤 H A W kind kind-is)) $ pass1 ! (init ! 8 refl (u16-p .typed 𝓤 H A W parent parent-is)) $ pass0 ! $ move ! (23 ∷ []) $ fsplit ! $ move ! (1 ∷ []) $ fsplit ! $ move ! (25 ∷ []) $ split ! $ move ! (1 ∷ []) $ split ! $ move ! (1 ∷ []) $ drop ! $ move ! (3 ∷ []) $ drop ! $ move ! (3 ∷ 1 ∷ 2 ∷ 0 ∷ 4 ∷ 5 ∷ 6 ∷ 7 ∷ 8 ∷ 9 ∷ 10 ∷ 11 ∷ 12 ∷ 13 ∷ 14 ∷ 15 ∷ 16 ∷ 17 ∷ 18 ∷ 19 ∷ 20 ∷ 21 ∷ 22 ∷ 23 ∷ 24 ∷ 25 ∷ []) $
         begins 𝓣 known-session-objects-find-object known-moves-parent-of known-moves-endpoint-move l₀ l₁ l₂ l₃ l₄ l₅ l₆ l₇ l₈ l₉ l₁₀)))))))))))
 
 module _ {M : Type 1} (𝓤 : URA M) (H : Heap 𝓤) (A : Atoms 𝓤) (W : Given 𝓤 H A) (mem : Memory → SProp 𝓤) (run : Routine → Fun 𝓤) (𝓣 : Tables 𝓤 H) (known-session-objects-find-object : Triple 𝓤 (𝓣 .C #session-objects-find-object) (Of-session-objects-find-object 𝓤 H A mem run)) (known-moves-parent-of : Triple 𝓤 (𝓣 .C #moves-parent-of) (Of-moves-parent-of 𝓤 H A mem run)) (known-moves-endpoint-move : Triple 𝓤 (𝓣 .C #moves-endpoint-move) (Of-moves-endpoint-move 𝓤 H A mem run)) where
   walks : Walks 𝓤 H A f.ended stayed (WpFn 𝓤 H (𝓣 .C) (𝓣 .Λ) code.function) (f.clauses 𝓤 H A mem run)
-  walks = walked 𝓤 H A f.ended stayed (f.clauses 𝓤 H A mem run) (WpFn 𝓤 H (𝓣 .C) (𝓣 .Λ) code.function) (λ κs. (slice-vals, (slice-vals, ((λ y. u8-p .val y ∷ []), ((λ y. ObjectNumber-p .val y ∷ []), ((λ y. u8-p .val y ∷ []), ((λ y. u16-p .val y ∷ []), tt))))))) (λ κs. (shr-slice-tells (named 0) (κs .0) (Array u64 6), (shr-slice-tells (named 1) (κs .1 .0) Object-t.the-row, (u8-p .tells, (ObjectNumber-p .tells, (u8-p .tells, (u16-p .tells, tt)))))))
+  walks = walked 𝓤 H A f.ended stayed (f.clauses 𝓤 H A mem run) (WpFn 𝓤 H (𝓣 .C) (𝓣 .Λ) code.function) (λ κs. (slice-vals, (slice-vals, ((λ y. u8-p .val y ∷ []), ((λ y. ObjectNumber-p .val y ∷ []), ((λ y. u8-p .val y ∷ []), ((λ y. u16-p .val y ∷ []), tt))))))) (λ κs. (shr-slice-tells (named 0) (κs .0) (Array u64 8), (shr-slice-tells (named 1) (κs .1 .0) Object-t.the-row, (u8-p .tells, (ObjectNumber-p .tells, (u8-p .tells, (u16-p .tells, tt)))))))
       (λ κs qs bounds a g are. via 𝓤 _ (fst∗ 𝓤 _ (emp 𝓤)) (walk 𝓤 H A W mem run (κs .0) (qs .0) (a .0 .ptr .0) (a .0 .ptr .1) (a .0 .name) (a .0 .now) (κs .1 .0) (qs .1 .0) (a .1 .0 .ptr .0) (a .1 .0 .ptr .1) (a .1 .0 .name) (a .1 .0 .now) (a .1 .1 .0) (a .1 .1 .1 .0) (a .1 .1 .1 .1 .0) (a .1 .1 .1 .1 .1 .0) (are .0 .0 .1) (are .1 .0 .0 .1) (are .1 .1 .0) (are .1 .1 .1 .0) (are .1 .1 .1 .1 .0) (are .1 .1 .1 .1 .1 .0) 𝓣 known-session-objects-find-object known-moves-parent-of known-moves-endpoint-move))
 
   meets : Meets 𝓤 H A f.signature (WpFn 𝓤 H (𝓣 .C) (𝓣 .Λ) code.function) (f.spec 𝓤 H A mem run)
-  meets = walk-meets 𝓤 H A f.ended stayed W (goes-none-slice 𝓤 H A W 2 (0 ∷ []) tt (plain (λ _. (Array u64 6))) yes, (goes-none-slice 𝓤 H A W 2 (1 ∷ []) tt (plain (λ _. Object-t.the-row)) yes, (goes-none 𝓤 H A W 2 (λ _. u8-p .row) yes (λ κs x f. refl), (goes-none 𝓤 H A W 2 (λ _. ObjectNumber-p .row) yes (λ κs x f. refl), (goes-none 𝓤 H A W 2 (λ _. u8-p .row) yes (λ κs x f. refl), (goes-none 𝓤 H A W 2 (λ _. u16-p .row) yes (λ κs x f. refl), tt)))))) (f.clauses 𝓤 H A mem run) (WpFn 𝓤 H (𝓣 .C) (𝓣 .Λ) code.function) (WpFn-mono 𝓤 H (W .laws) 𝓣 code.function) walks
+  meets = walk-meets 𝓤 H A f.ended stayed W (goes-none-slice 𝓤 H A W 2 (0 ∷ []) tt (plain (λ _. (Array u64 8))) yes, (goes-none-slice 𝓤 H A W 2 (1 ∷ []) tt (plain (λ _. Object-t.the-row)) yes, (goes-none 𝓤 H A W 2 (λ _. u8-p .row) yes (λ κs x f. refl), (goes-none 𝓤 H A W 2 (λ _. ObjectNumber-p .row) yes (λ κs x f. refl), (goes-none 𝓤 H A W 2 (λ _. u8-p .row) yes (λ κs x f. refl), (goes-none 𝓤 H A W 2 (λ _. u16-p .row) yes (λ κs x f. refl), tt)))))) (f.clauses 𝓤 H A mem run) (WpFn 𝓤 H (𝓣 .C) (𝓣 .Λ) code.function) (WpFn-mono 𝓤 H (W .laws) 𝓣 code.function) walks
 
 pub create-endpoint-spec : {M : Type 1} → stated.statement M
 unfolding code.routine tablesOf

@@ -166,7 +166,7 @@ abbrev Handle-p : Plain
 Handle-p = record { row = Handle-t.the-row; val = LL.val Handle-t.the-type Handle-l.the-laws; tells = LL.tells Handle-t.the-type Handle-l.the-laws; makes = λ 𝓤 H A W. LL.makes Handle-t.the-type Handle-l.the-plain 𝓤 H A; ty = Handle-l.mir; typed = λ 𝓤 H A W x is. LL.lawful Handle-t.the-type Handle-l.the-laws 𝓤 H A W .typed x _ is .0; copies = λ 𝓤 H A W. LL.copy Handle-t.the-type Handle-l.the-copy 𝓤 H A W }
 
 abbrev stayed : Stays (f.ended .signature .params) (f.ended .kept)
-stayed = (stay-slice (0 ∷ []) tt (plain (λ _. (Array u64 6))), (stay-slice (1 ∷ []) tt (plain (λ _. Object-t.the-row)), (stay-none-slice (2 ∷ []) tt (plain (λ _. u8)) yes, (stay-none (λ _. u8-p .row) yes, (stay-none (λ _. ObjectNumber-p .row) yes, (stay-none (λ _. ObjectKind-p .row) yes, (stay-none (λ _. u16-p .row) yes, (stay-none (λ _. Span-p .row) yes, tt))))))))
+stayed = (stay-slice (0 ∷ []) tt (plain (λ _. (Array u64 8))), (stay-slice (1 ∷ []) tt (plain (λ _. Object-t.the-row)), (stay-none-slice (2 ∷ []) tt (plain (λ _. u8)) yes, (stay-none (λ _. u8-p .row) yes, (stay-none (λ _. ObjectNumber-p .row) yes, (stay-none (λ _. ObjectKind-p .row) yes, (stay-none (λ _. u16-p .row) yes, (stay-none (λ _. Span-p .row) yes, tt))))))))
 
 module _ {M : Type 1} (𝓤 : URA M) (H : Heap 𝓤) (A : Atoms 𝓤) (mem : Memory → SProp 𝓤) (run : Routine → Fun 𝓤) where
   abbrev Of-moves-participant-move : Contract 𝓤
@@ -182,7 +182,7 @@ module _ {M : Type 1} (𝓤 : URA M) (H : Heap 𝓤) (A : Atoms 𝓤) (mem : Mem
   Of-objects-create-endpoint = tripleOf 𝓤 H A objects-create-endpoint.signature (objects-create-endpoint.spec 𝓤 H A mem run)
 
 module _ {M : Type 1} (𝓤 : URA M) (H : Heap 𝓤) (A : Atoms 𝓤) (W : Given 𝓤 H A) (mem : Memory → SProp 𝓤) (run : Routine → Fun 𝓤) (κ₁ : Lft) (q₁ : Share) (b₁ o₁ : ℕ) (γ₁ : GName) (sessions : List (List ℕ)) (κ₂ : Lft) (q₂ : Share) (b₂ o₂ : ℕ) (γ₂ : GName) (objects : List Object) (κ₃ : Lft) (q₃ : Share) (b₃ o₃ : ℕ) (γ₃ : GName) (d : List ℕ) (id : ℕ) (number : ObjectNumber) (kind : ObjectKind) (parent : ℕ) (body : Span)
-    (room₁ : Room (Array u64 6) (length sessions)) (room₂ : Room Object-t.the-row (length objects)) (room₃ : Room u8 (length d)) (id-is : Is (u8-p .row) id (u8-p .val id ∷ [])) (number-is : Is (ObjectNumber-p .row) number (ObjectNumber-p .val number ∷ [])) (kind-is : Is (ObjectKind-p .row) kind (ObjectKind-p .val kind ∷ [])) (parent-is : Is (u16-p .row) parent (u16-p .val parent ∷ [])) (body-is : Is (Span-p .row) body (Span-p .val body ∷ [])) where
+    (room₁ : Room (Array u64 8) (length sessions)) (room₂ : Room Object-t.the-row (length objects)) (room₃ : Room u8 (length d)) (id-is : Is (u8-p .row) id (u8-p .val id ∷ [])) (number-is : Is (ObjectNumber-p .row) number (ObjectNumber-p .val number ∷ [])) (kind-is : Is (ObjectKind-p .row) kind (ObjectKind-p .val kind ∷ [])) (parent-is : Is (u16-p .row) parent (u16-p .val parent ∷ [])) (body-is : Is (Span-p .row) body (Span-p .val body ∷ [])) where
   abbrev n₁ : ℕ
   n₁ = length sessions
 
@@ -201,9 +201,9 @@ module _ {M : Type 1} (𝓤 : URA M) (H : Heap 𝓤) (A : Atoms 𝓤) (W : Given
   abbrev Post : Val → SProp 𝓤
   Post = walkOf 𝓤 H A f.ended stayed (f.clauses 𝓤 H A mem run) .post (((κ₁, (κ₂, (κ₃, tt))), (q₁, (q₂, (q₃, tt))), tt, x, at), tt)
 
-  exits : (r : Move) (ws₁ : List (List ℕ)) (ws₂ : List Object) → ((r ≡ createMove kind (sessions) (objects) (d) id number parent body) × (ws₁ ≡ createdSessions kind (sessions) (objects) id number parent) × (ws₂ ≡ createdObjects kind (sessions) (objects) id number parent)) → Is (Move-p .row) r (Move-p .val r ∷ []) → length ws₁ ≡ n₁ → length ws₂ ≡ n₂ → ent 𝓤 (⋆ 𝓤 H A (‵ (MutSlice (named 0) κ₁ (Array u64 6) .own (at-list b₁ o₁ γ₁ ws₁) (sliceVal (b₁, o₁) n₁ ∷ [])) ∷ ‵ (flft κ₁ q₁) ∷ ‵ (MutSlice (named 1) κ₂ Object-t.the-row .own (at-list b₂ o₂ γ₂ ws₂) (sliceVal (b₂, o₂) n₂ ∷ [])) ∷ ‵ (flft κ₂ q₂) ∷ ‵ (ShrSlice (named 2) κ₃ u8 .own (at-list b₃ o₃ γ₃ d) (sliceVal (b₃, o₃) n₃ ∷ [])) ∷ ‵ (flft κ₃ q₃) ∷ [])) (Post (Move-p .val r))
+  exits : (r : Move) (ws₁ : List (List ℕ)) (ws₂ : List Object) → ((r ≡ createMove kind (sessions) (objects) (d) id number parent body) × (ws₁ ≡ createdSessions kind (sessions) (objects) id number parent) × (ws₂ ≡ createdObjects kind (sessions) (objects) id number parent)) → Is (Move-p .row) r (Move-p .val r ∷ []) → length ws₁ ≡ n₁ → length ws₂ ≡ n₂ → ent 𝓤 (⋆ 𝓤 H A (‵ (MutSlice (named 0) κ₁ (Array u64 8) .own (at-list b₁ o₁ γ₁ ws₁) (sliceVal (b₁, o₁) n₁ ∷ [])) ∷ ‵ (flft κ₁ q₁) ∷ ‵ (MutSlice (named 1) κ₂ Object-t.the-row .own (at-list b₂ o₂ γ₂ ws₂) (sliceVal (b₂, o₂) n₂ ∷ [])) ∷ ‵ (flft κ₂ q₂) ∷ ‵ (ShrSlice (named 2) κ₃ u8 .own (at-list b₃ o₃ γ₃ d) (sliceVal (b₃, o₃) n₃ ∷ [])) ∷ ‵ (flft κ₃ q₃) ∷ [])) (Post (Move-p .val r))
   exits r ws₁ ws₂ said r-is len₁ len₂ =
-      qed W (‵ (MutSlice (named 0) κ₁ (Array u64 6) .own (at-list b₁ o₁ γ₁ ws₁) (sliceVal (b₁, o₁) n₁ ∷ [])) ∷ ‵ (flft κ₁ q₁) ∷ ‵ (MutSlice (named 1) κ₂ Object-t.the-row .own (at-list b₂ o₂ γ₂ ws₂) (sliceVal (b₂, o₂) n₂ ∷ [])) ∷ ‵ (flft κ₂ q₂) ∷ ‵ (ShrSlice (named 2) κ₃ u8 .own (at-list b₃ o₃ γ₃ d) (sliceVal (b₃, o₃) n₃ ∷ [])) ∷ ‵ (flft κ₃ q₃) ∷ []) ∵
+      qed W (‵ (MutSlice (named 0) κ₁ (Array u64 8) .own (at-list b₁ o₁ γ₁ ws₁) (sliceVal (b₁, o₁) n₁ ∷ [])) ∷ ‵ (flft κ₁ q₁) ∷ ‵ (MutSlice (named 1) κ₂ Object-t.the-row .own (at-list b₂ o₂ γ₂ ws₂) (sliceVal (b₂, o₂) n₂ ∷ [])) ∷ ‵ (flft κ₂ q₂) ∷ ‵ (ShrSlice (named 2) κ₃ u8 .own (at-list b₃ o₃ γ₃ d) (sliceVal (b₃, o₃) n₃ ∷ [])) ∷ ‵ (flft κ₃ q₃) ∷ []) ∵
       suffices ! _ (ends-at 𝓤 H A f.ended stayed (f.clauses 𝓤 H A mem run) W (((κ₁, (κ₂, (κ₃, tt))), (q₁, (q₂, (q₃, tt))), tt, x, at), tt) (Move-p .val r) r (ws₁, (ws₂, (tt, (tt, (tt, (tt, (tt, (tt, tt)))))))) (len₁, (len₂, (tt, (tt, (tt, (tt, (tt, (tt, tt))))))))) $ says ! said $ nothing ! $ move ! (6 ∷ 0 ∷ []) $ join ! $ move ! (4 ∷ 0 ∷ []) $ join ! $ move ! (2 ∷ 0 ∷ []) $ join ! $
       frame ! $ nothing ! $
       owned ! (Span-p .row) (Is (Span-p .row)) (Span-p .makes 𝓤 H A W) body (Span-p .val body ∷ []) body-is $ fjoin ! $
@@ -225,14 +225,14 @@ module _ {M : Type 1} (𝓤 : URA M) (H : Heap 𝓤) (A : Atoms 𝓤) (W : Given
     fm = fmOf 𝓤 H (W .laws) 𝓣
 
     abbrev En : Env 𝓤 H
-    En = (Move-l.mir, l₀) ∷ ((sliceTy (tyRef (named 0) mut (pointee ((Array u64 6) .written)))), l₁) ∷ ((sliceTy (tyRef (named 1) mut (pointee (Object-t.the-row .written)))), l₂) ∷ ((sliceTy (tyRef (named 2) imm (pointee (u8 .written)))), l₃) ∷ ((tyInt w8), l₄) ∷ (ObjectNumber-l.mir, l₅) ∷ (ObjectKind-l.mir, l₆) ∷ ((tyInt w16), l₇) ∷ (Span-l.mir, l₈) ∷ (Move-l.mir, l₉) ∷ ((tyRef erased imm (pointee ((Array u64 6) .written))), l₁₀) ∷ ((sliceTy (tyRef erased imm (pointee ((Array u64 6) .written)))), l₁₁) ∷ ((tyRef erased imm (pointee (Object-t.the-row .written))), l₁₂) ∷ ((sliceTy (tyRef erased imm (pointee (Object-t.the-row .written)))), l₁₃) ∷ ((tyRef erased mut (pointee ((Array u64 6) .written))), l₁₄) ∷ ((sliceTy (tyRef erased mut (pointee ((Array u64 6) .written)))), l₁₅) ∷ ((tyRef erased mut (pointee (Object-t.the-row .written))), l₁₆) ∷ ((sliceTy (tyRef erased mut (pointee (Object-t.the-row .written)))), l₁₇) ∷ ((tyRef erased mut (pointee ((Array u64 6) .written))), l₁₈) ∷ ((sliceTy (tyRef erased mut (pointee ((Array u64 6) .written)))), l₁₉) ∷ ((tyRef erased mut (pointee (Object-t.the-row .written))), l₂₀) ∷ ((sliceTy (tyRef erased mut (pointee (Object-t.the-row .written)))), l₂₁) ∷ ((tyRef erased imm (pointee ((Array u64 6) .written))), l₂₂) ∷ ((sliceTy (tyRef erased imm (pointee ((Array u64 6) .written)))), l₂₃) ∷ ((tyRef erased imm (pointee (Object-t.the-row .written))), l₂₄) ∷ ((sliceTy (tyRef erased imm (pointee (Object-t.the-row .written)))), l₂₅) ∷ ((tyRef erased imm (pointee ((Array u64 6) .written))), l₂₆) ∷ ((sliceTy (tyRef erased imm (pointee ((Array u64 6) .written)))), l₂₇) ∷ ((tyRef erased imm (pointee (Object-t.the-row .written))), l₂₈) ∷ ((sliceTy (tyRef erased imm (pointee (Object-t.the-row .written)))), l₂₉) ∷ []
+    En = (Move-l.mir, l₀) ∷ ((sliceTy (tyRef (named 0) mut (pointee ((Array u64 8) .written)))), l₁) ∷ ((sliceTy (tyRef (named 1) mut (pointee (Object-t.the-row .written)))), l₂) ∷ ((sliceTy (tyRef (named 2) imm (pointee (u8 .written)))), l₃) ∷ ((tyInt w8), l₄) ∷ (ObjectNumber-l.mir, l₅) ∷ (ObjectKind-l.mir, l₆) ∷ ((tyInt w16), l₇) ∷ (Span-l.mir, l₈) ∷ (Move-l.mir, l₉) ∷ ((tyRef erased imm (pointee ((Array u64 8) .written))), l₁₀) ∷ ((sliceTy (tyRef erased imm (pointee ((Array u64 8) .written)))), l₁₁) ∷ ((tyRef erased imm (pointee (Object-t.the-row .written))), l₁₂) ∷ ((sliceTy (tyRef erased imm (pointee (Object-t.the-row .written)))), l₁₃) ∷ ((tyRef erased mut (pointee ((Array u64 8) .written))), l₁₄) ∷ ((sliceTy (tyRef erased mut (pointee ((Array u64 8) .written)))), l₁₅) ∷ ((tyRef erased mut (pointee (Object-t.the-row .written))), l₁₆) ∷ ((sliceTy (tyRef erased mut (pointee (Object-t.the-row .written)))), l₁₇) ∷ ((tyRef erased mut (pointee ((Array u64 8) .written))), l₁₈) ∷ ((sliceTy (tyRef erased mut (pointee ((Array u64 8) .written)))), l₁₉) ∷ ((tyRef erased mut (pointee (Object-t.the-row .written))), l₂₀) ∷ ((sliceTy (tyRef erased mut (pointee (Object-t.the-row .written)))), l₂₁) ∷ ((tyRef erased imm (pointee ((Array u64 8) .written))), l₂₂) ∷ ((sliceTy (tyRef erased imm (pointee ((Array u64 8) .written)))), l₂₃) ∷ ((tyRef erased imm (pointee (Object-t.the-row .written))), l₂₄) ∷ ((sliceTy (tyRef erased imm (pointee (Object-t.the-row .written)))), l₂₅) ∷ ((tyRef erased imm (pointee ((Array u64 8) .written))), l₂₆) ∷ ((sliceTy (tyRef erased imm (pointee ((Array u64 8) .written)))), l₂₇) ∷ ((tyRef erased imm (pointee (Object-t.the-row .written))), l₂₈) ∷ ((sliceTy (tyRef erased imm (pointee (Object-t.the-row .written)))), l₂₉) ∷ []
 
-    frees-all : (r : Move) (ws₁ : List (List ℕ)) (ws₂ : List Object) → ent 𝓤 (⋆ 𝓤 H A (‵ (MutSlice (named 0) κ₁ (Array u64 6) .own (at-list b₁ o₁ γ₁ ws₁) (sliceVal (b₁, o₁) n₁ ∷ [])) ∷ ‵ (flft κ₁ q₁) ∷ ‵ (MutSlice (named 1) κ₂ Object-t.the-row .own (at-list b₂ o₂ γ₂ ws₂) (sliceVal (b₂, o₂) n₂ ∷ [])) ∷ ‵ (flft κ₂ q₂) ∷ ‵ (ShrSlice (named 2) κ₃ u8 .own (at-list b₃ o₃ γ₃ d) (sliceVal (b₃, o₃) n₃ ∷ [])) ∷ ‵ (flft κ₃ q₃) ∷ [])) (Post (Move-p .val r)) → Sq W (‵ (MutSlice (named 0) κ₁ (Array u64 6) .own (at-list b₁ o₁ γ₁ ws₁) (sliceVal (b₁, o₁) n₁ ∷ [])) ∷ ‵ (flft κ₁ q₁) ∷ ‵ (MutSlice (named 0) κ₂ Object-t.the-row .own (at-list b₂ o₂ γ₂ ws₂) (sliceVal (b₂, o₂) n₂ ∷ [])) ∷ ‵ (flft κ₂ q₂) ∷ ‵ (ShrSlice (named 0) κ₃ u8 .own (at-list b₃ o₃ γ₃ d) (sliceVal (b₃, o₃) n₃ ∷ [])) ∷ ‵ (flft κ₃ q₃) ∷ free 𝓤 (sliceTy (tyRef erased imm (pointee (Object-t.the-row .written)))) l₂₉ (free 𝓤 (tyRef erased imm (pointee (Object-t.the-row .written))) l₂₈ (free 𝓤 (sliceTy (tyRef erased imm (pointee ((Array u64 6) .written)))) l₂₇ (free 𝓤 (tyRef erased imm (pointee ((Array u64 6) .written))) l₂₆ (free 𝓤 (sliceTy (tyRef erased imm (pointee (Object-t.the-row .written)))) l₂₅ (free 𝓤 (tyRef erased imm (pointee (Object-t.the-row .written))) l₂₄ (free 𝓤 (sliceTy (tyRef erased imm (pointee ((Array u64 6) .written)))) l₂₃ (free 𝓤 (tyRef erased imm (pointee ((Array u64 6) .written))) l₂₂ (free 𝓤 (sliceTy (tyRef erased mut (pointee (Object-t.the-row .written)))) l₂₁ (free 𝓤 (tyRef erased mut (pointee (Object-t.the-row .written))) l₂₀ (free 𝓤 (sliceTy (tyRef erased mut (pointee ((Array u64 6) .written)))) l₁₉ (free 𝓤 (tyRef erased mut (pointee ((Array u64 6) .written))) l₁₈ (free 𝓤 (sliceTy (tyRef erased mut (pointee (Object-t.the-row .written)))) l₁₇ (free 𝓤 (tyRef erased mut (pointee (Object-t.the-row .written))) l₁₆ (free 𝓤 (sliceTy (tyRef erased mut (pointee ((Array u64 6) .written)))) l₁₅ (free 𝓤 (tyRef erased mut (pointee ((Array u64 6) .written))) l₁₄ (free 𝓤 (sliceTy (tyRef erased imm (pointee (Object-t.the-row .written)))) l₁₃ (free 𝓤 (tyRef erased imm (pointee (Object-t.the-row .written))) l₁₂ (free 𝓤 (sliceTy (tyRef erased imm (pointee ((Array u64 6) .written)))) l₁₁ (free 𝓤 (tyRef erased imm (pointee ((Array u64 6) .written))) l₁₀ (free 𝓤 Move-l.mir l₉ (full 𝓤 Span-l.mir l₈ (Span-p .val body) (full 𝓤 (tyInt w16) l₇ (u16-p .val parent) (free 𝓤 ObjectKind-l.mir l₆ (full 𝓤 ObjectNumber-l.mir l₅ (ObjectNumber-p .val number) (full 𝓤 (tyInt w8) l₄ (u8-p .val id) (full 𝓤 (sliceTy (tyRef (named 2) imm (pointee (u8 .written)))) l₃ (sliceVal (b₃, o₃) n₃) (full 𝓤 (sliceTy (tyRef (named 1) mut (pointee (Object-t.the-row .written)))) l₂ (sliceVal (b₂, o₂) n₂) (full 𝓤 (sliceTy (tyRef (named 0) mut (pointee ((Array u64 6) .written)))) l₁ (sliceVal (b₁, o₁) n₁) (full 𝓤 Move-l.mir l₀ (Move-p .val r) ([]))))))))))))))))))))))))))))))) (frees En (prop (Post (Move-p .val r))))
+    frees-all : (r : Move) (ws₁ : List (List ℕ)) (ws₂ : List Object) → ent 𝓤 (⋆ 𝓤 H A (‵ (MutSlice (named 0) κ₁ (Array u64 8) .own (at-list b₁ o₁ γ₁ ws₁) (sliceVal (b₁, o₁) n₁ ∷ [])) ∷ ‵ (flft κ₁ q₁) ∷ ‵ (MutSlice (named 1) κ₂ Object-t.the-row .own (at-list b₂ o₂ γ₂ ws₂) (sliceVal (b₂, o₂) n₂ ∷ [])) ∷ ‵ (flft κ₂ q₂) ∷ ‵ (ShrSlice (named 2) κ₃ u8 .own (at-list b₃ o₃ γ₃ d) (sliceVal (b₃, o₃) n₃ ∷ [])) ∷ ‵ (flft κ₃ q₃) ∷ [])) (Post (Move-p .val r)) → Sq W (‵ (MutSlice (named 0) κ₁ (Array u64 8) .own (at-list b₁ o₁ γ₁ ws₁) (sliceVal (b₁, o₁) n₁ ∷ [])) ∷ ‵ (flft κ₁ q₁) ∷ ‵ (MutSlice (named 0) κ₂ Object-t.the-row .own (at-list b₂ o₂ γ₂ ws₂) (sliceVal (b₂, o₂) n₂ ∷ [])) ∷ ‵ (flft κ₂ q₂) ∷ ‵ (ShrSlice (named 0) κ₃ u8 .own (at-list b₃ o₃ γ₃ d) (sliceVal (b₃, o₃) n₃ ∷ [])) ∷ ‵ (flft κ₃ q₃) ∷ free 𝓤 (sliceTy (tyRef erased imm (pointee (Object-t.the-row .written)))) l₂₉ (free 𝓤 (tyRef erased imm (pointee (Object-t.the-row .written))) l₂₈ (free 𝓤 (sliceTy (tyRef erased imm (pointee ((Array u64 8) .written)))) l₂₇ (free 𝓤 (tyRef erased imm (pointee ((Array u64 8) .written))) l₂₆ (free 𝓤 (sliceTy (tyRef erased imm (pointee (Object-t.the-row .written)))) l₂₅ (free 𝓤 (tyRef erased imm (pointee (Object-t.the-row .written))) l₂₄ (free 𝓤 (sliceTy (tyRef erased imm (pointee ((Array u64 8) .written)))) l₂₃ (free 𝓤 (tyRef erased imm (pointee ((Array u64 8) .written))) l₂₂ (free 𝓤 (sliceTy (tyRef erased mut (pointee (Object-t.the-row .written)))) l₂₁ (free 𝓤 (tyRef erased mut (pointee (Object-t.the-row .written))) l₂₀ (free 𝓤 (sliceTy (tyRef erased mut (pointee ((Array u64 8) .written)))) l₁₉ (free 𝓤 (tyRef erased mut (pointee ((Array u64 8) .written))) l₁₈ (free 𝓤 (sliceTy (tyRef erased mut (pointee (Object-t.the-row .written)))) l₁₇ (free 𝓤 (tyRef erased mut (pointee (Object-t.the-row .written))) l₁₆ (free 𝓤 (sliceTy (tyRef erased mut (pointee ((Array u64 8) .written)))) l₁₅ (free 𝓤 (tyRef erased mut (pointee ((Array u64 8) .written))) l₁₄ (free 𝓤 (sliceTy (tyRef erased imm (pointee (Object-t.the-row .written)))) l₁₃ (free 𝓤 (tyRef erased imm (pointee (Object-t.the-row .written))) l₁₂ (free 𝓤 (sliceTy (tyRef erased imm (pointee ((Array u64 8) .written)))) l₁₁ (free 𝓤 (tyRef erased imm (pointee ((Array u64 8) .written))) l₁₀ (free 𝓤 Move-l.mir l₉ (full 𝓤 Span-l.mir l₈ (Span-p .val body) (full 𝓤 (tyInt w16) l₇ (u16-p .val parent) (free 𝓤 ObjectKind-l.mir l₆ (full 𝓤 ObjectNumber-l.mir l₅ (ObjectNumber-p .val number) (full 𝓤 (tyInt w8) l₄ (u8-p .val id) (full 𝓤 (sliceTy (tyRef (named 2) imm (pointee (u8 .written)))) l₃ (sliceVal (b₃, o₃) n₃) (full 𝓤 (sliceTy (tyRef (named 1) mut (pointee (Object-t.the-row .written)))) l₂ (sliceVal (b₂, o₂) n₂) (full 𝓤 (sliceTy (tyRef (named 0) mut (pointee ((Array u64 8) .written)))) l₁ (sliceVal (b₁, o₁) n₁) (full 𝓤 Move-l.mir l₀ (Move-p .val r) ([]))))))))))))))))))))))))))))))) (frees En (prop (Post (Move-p .val r))))
     frees-all r ws₁ ws₂ ends =
         forget ! 48 refl $ forget ! 50 refl $ forget ! 54 refl $ forget ! 56 refl $ forget ! 58 refl $ forget ! 60 refl $ forget ! 62 refl $ forget ! 64 refl $ move ! (64 ∷ 65 ∷ []) $ free1 ! $ move ! (62 ∷ 63 ∷ []) $ free1 ! $ move ! (60 ∷ 61 ∷ []) $ free1 ! $ move ! (58 ∷ 59 ∷ []) $ free1 ! $ move ! (56 ∷ 57 ∷ []) $ free1 ! $ move ! (54 ∷ 55 ∷ []) $ free1 ! $ move ! (52 ∷ 53 ∷ []) $ free1 ! $ move ! (50 ∷ 51 ∷ []) $ free1 ! $ move ! (48 ∷ 49 ∷ []) $ free1 ! $ move ! (46 ∷ 47 ∷ []) $ free1 ! $ move ! (44 ∷ 45 ∷ []) $ free1 ! $ move ! (42 ∷ 43 ∷ []) $ free1 ! $ move ! (40 ∷ 41 ∷ []) $ free1 ! $ move ! (38 ∷ 39 ∷ []) $ free1 ! $ move ! (36 ∷ 37 ∷ []) $ free1 ! $ move ! (34 ∷ 35 ∷ []) $ free1 ! $ move ! (32 ∷ 33 ∷ []) $ free1 ! $ move ! (30 ∷ 31 ∷ []) $ free1 ! $ move ! (28 ∷ 29 ∷ []) $ free1 ! $ move ! (26 ∷ 27 ∷ []) $ free1 ! $ move ! (24 ∷ 25 ∷ []) $ free1 ! $ move ! (22 ∷ 23 ∷ []) $ free1 ! $ move ! (20 ∷ 21 ∷ []) $ free1 ! $ move ! (18 ∷ 19 ∷ []) $ free1 ! $ move ! (16 ∷ 17 ∷ []) $ free1 ! $ move ! (14 ∷ 15 ∷ []) $ free1 ! $ move ! (12 ∷ 13 ∷ []) $ free1 ! $ move ! (10 ∷ 11 ∷ []) $ free1 ! $ move ! (8 ∷ 9 ∷ []) $ free1 ! $ move ! (6 ∷ 7 ∷ []) $ free1 ! $ free0 ! $
         by ! ends
 
-    matched-1-Participant-0 : (e-1 : kind ≡ ObjectKind-Participant) → (good-1 : Is (ObjectKind-p .row) ObjectKind-Participant (ObjectKind-p .val ObjectKind-Participant ∷ [])) → Sq W (‵ (MutSlice (named 0) κ₁ (Array u64 6) .own (at-list b₁ o₁ γ₁ sessions) (sliceVal (b₁, o₁) n₁ ∷ [])) ∷ ‵ (flft κ₁ q₁) ∷ ‵ (MutSlice (named 0) κ₂ Object-t.the-row .own (at-list b₂ o₂ γ₂ objects) (sliceVal (b₂, o₂) n₂ ∷ [])) ∷ ‵ (flft κ₂ q₂) ∷ ‵ (ShrSlice (named 0) κ₃ u8 .own (at-list b₃ o₃ γ₃ d) (sliceVal (b₃, o₃) n₃ ∷ [])) ∷ ‵ (flft κ₃ q₃) ∷ free 𝓤 (sliceTy (tyRef erased imm (pointee (Object-t.the-row .written)))) l₂₉ (free 𝓤 (tyRef erased imm (pointee (Object-t.the-row .written))) l₂₈ (free 𝓤 (sliceTy (tyRef erased imm (pointee ((Array u64 6) .written)))) l₂₇ (free 𝓤 (tyRef erased imm (pointee ((Array u64 6) .written))) l₂₆ (free 𝓤 (sliceTy (tyRef erased imm (pointee (Object-t.the-row .written)))) l₂₅ (free 𝓤 (tyRef erased imm (pointee (Object-t.the-row .written))) l₂₄ (free 𝓤 (sliceTy (tyRef erased imm (pointee ((Array u64 6) .written)))) l₂₃ (free 𝓤 (tyRef erased imm (pointee ((Array u64 6) .written))) l₂₂ (free 𝓤 (sliceTy (tyRef erased mut (pointee (Object-t.the-row .written)))) l₂₁ (free 𝓤 (tyRef erased mut (pointee (Object-t.the-row .written))) l₂₀ (free 𝓤 (sliceTy (tyRef erased mut (pointee ((Array u64 6) .written)))) l₁₉ (free 𝓤 (tyRef erased mut (pointee ((Array u64 6) .written))) l₁₈ (free 𝓤 (sliceTy (tyRef erased mut (pointee (Object-t.the-row .written)))) l₁₇ (free 𝓤 (tyRef erased mut (pointee (Object-t.the-row .written))) l₁₆ (free 𝓤 (sliceTy (tyRef erased mut (pointee ((Array u64 6) .written)))) l₁₅ (free 𝓤 (tyRef erased mut (pointee ((Array u64 6) .written))) l₁₄ (free 𝓤 (sliceTy (tyRef erased imm (pointee (Object-t.the-row .written)))) l₁₃ (free 𝓤 (tyRef erased imm (pointee (Object-t.the-row .written))) l₁₂ (free 𝓤 (sliceTy (tyRef erased imm (pointee ((Array u64 6) .written)))) l₁₁ (free 𝓤 (tyRef erased imm (pointee ((Array u64 6) .written))) l₁₀ (free 𝓤 Move-l.mir l₉ (full 𝓤 Span-l.mir l₈ (Span-p .val body) (full 𝓤 (tyInt w16) l₇ (u16-p .val parent) (full 𝓤 ObjectKind-l.mir l₆ (ObjectKind-p .val ObjectKind-Participant) (full 𝓤 ObjectNumber-l.mir l₅ (ObjectNumber-p .val number) (full 𝓤 (tyInt w8) l₄ (u8-p .val id) (full 𝓤 (sliceTy (tyRef (named 2) imm (pointee (u8 .written)))) l₃ (sliceVal (b₃, o₃) n₃) (full 𝓤 (sliceTy (tyRef (named 1) mut (pointee (Object-t.the-row .written)))) l₂ (sliceVal (b₂, o₂) n₂) (full 𝓤 (sliceTy (tyRef (named 0) mut (pointee ((Array u64 6) .written)))) l₁ (sliceVal (b₁, o₁) n₁) (free 𝓤 Move-l.mir l₀ ([]))))))))))))))))))))))))))))))) (runs C Λ En (one mir.t-1) (anyQ (afterSeq 𝓤 H (Wp 𝓤 H C Λ En mir.t-2 (atReturn 𝓤 H En Post)) (atReturn 𝓤 H En Post))))
+    matched-1-Participant-0 : (e-1 : kind ≡ ObjectKind-Participant) → (good-1 : Is (ObjectKind-p .row) ObjectKind-Participant (ObjectKind-p .val ObjectKind-Participant ∷ [])) → Sq W (‵ (MutSlice (named 0) κ₁ (Array u64 8) .own (at-list b₁ o₁ γ₁ sessions) (sliceVal (b₁, o₁) n₁ ∷ [])) ∷ ‵ (flft κ₁ q₁) ∷ ‵ (MutSlice (named 0) κ₂ Object-t.the-row .own (at-list b₂ o₂ γ₂ objects) (sliceVal (b₂, o₂) n₂ ∷ [])) ∷ ‵ (flft κ₂ q₂) ∷ ‵ (ShrSlice (named 0) κ₃ u8 .own (at-list b₃ o₃ γ₃ d) (sliceVal (b₃, o₃) n₃ ∷ [])) ∷ ‵ (flft κ₃ q₃) ∷ free 𝓤 (sliceTy (tyRef erased imm (pointee (Object-t.the-row .written)))) l₂₉ (free 𝓤 (tyRef erased imm (pointee (Object-t.the-row .written))) l₂₈ (free 𝓤 (sliceTy (tyRef erased imm (pointee ((Array u64 8) .written)))) l₂₇ (free 𝓤 (tyRef erased imm (pointee ((Array u64 8) .written))) l₂₆ (free 𝓤 (sliceTy (tyRef erased imm (pointee (Object-t.the-row .written)))) l₂₅ (free 𝓤 (tyRef erased imm (pointee (Object-t.the-row .written))) l₂₄ (free 𝓤 (sliceTy (tyRef erased imm (pointee ((Array u64 8) .written)))) l₂₃ (free 𝓤 (tyRef erased imm (pointee ((Array u64 8) .written))) l₂₂ (free 𝓤 (sliceTy (tyRef erased mut (pointee (Object-t.the-row .written)))) l₂₁ (free 𝓤 (tyRef erased mut (pointee (Object-t.the-row .written))) l₂₀ (free 𝓤 (sliceTy (tyRef erased mut (pointee ((Array u64 8) .written)))) l₁₉ (free 𝓤 (tyRef erased mut (pointee ((Array u64 8) .written))) l₁₈ (free 𝓤 (sliceTy (tyRef erased mut (pointee (Object-t.the-row .written)))) l₁₇ (free 𝓤 (tyRef erased mut (pointee (Object-t.the-row .written))) l₁₆ (free 𝓤 (sliceTy (tyRef erased mut (pointee ((Array u64 8) .written)))) l₁₅ (free 𝓤 (tyRef erased mut (pointee ((Array u64 8) .written))) l₁₄ (free 𝓤 (sliceTy (tyRef erased imm (pointee (Object-t.the-row .written)))) l₁₃ (free 𝓤 (tyRef erased imm (pointee (Object-t.the-row .written))) l₁₂ (free 𝓤 (sliceTy (tyRef erased imm (pointee ((Array u64 8) .written)))) l₁₁ (free 𝓤 (tyRef erased imm (pointee ((Array u64 8) .written))) l₁₀ (free 𝓤 Move-l.mir l₉ (full 𝓤 Span-l.mir l₈ (Span-p .val body) (full 𝓤 (tyInt w16) l₇ (u16-p .val parent) (full 𝓤 ObjectKind-l.mir l₆ (ObjectKind-p .val ObjectKind-Participant) (full 𝓤 ObjectNumber-l.mir l₅ (ObjectNumber-p .val number) (full 𝓤 (tyInt w8) l₄ (u8-p .val id) (full 𝓤 (sliceTy (tyRef (named 2) imm (pointee (u8 .written)))) l₃ (sliceVal (b₃, o₃) n₃) (full 𝓤 (sliceTy (tyRef (named 1) mut (pointee (Object-t.the-row .written)))) l₂ (sliceVal (b₂, o₂) n₂) (full 𝓤 (sliceTy (tyRef (named 0) mut (pointee ((Array u64 8) .written)))) l₁ (sliceVal (b₁, o₁) n₁) (free 𝓤 Move-l.mir l₀ ([]))))))))))))))))))))))))))))))) (runs C Λ En (one mir.t-1) (anyQ (afterSeq 𝓤 H (Wp 𝓤 H C Λ En mir.t-2 (atReturn 𝓤 H En Post)) (atReturn 𝓤 H En Post))))
     matched-1-Participant-0 e-1 good-1 =
         switches-on ! (load ! (from ! (vrt ! refl (fld ! refl (stop !)))) (look-tag ! 52 (whole !))) $ exec ! C Λ En (arm-of 0 (one mir.t-1)) (anyQ (afterSeq 𝓤 H (Wp 𝓤 H C Λ En mir.t-2 (atReturn 𝓤 H En Post)) (atReturn 𝓤 H En Post))) $
         -- 1.Participant.1: moves::moves::participant_move
@@ -248,7 +248,7 @@ module _ {M : Type 1} (𝓤 : URA M) (H : Heap 𝓤) (A : Atoms 𝓤) (W : Given
         returns ! (look ! 64 refl) $ forget ! 46 refl $ forget ! 52 refl $
         frees-all (participantMove number parent) sessions objects (exits (participantMove number parent) sessions objects ((ap (λ (k : ObjectKind). createMove k sessions objects d id number parent body) (sym e-1), ap (λ (k : ObjectKind). createdSessions k sessions objects id number parent) (sym e-1), ap (λ (k : ObjectKind). createdObjects k sessions objects id number parent) (sym e-1))) is-1·Participant·1 refl refl))
 
-    matched-1-Topic-2 : (e-1 : kind ≡ ObjectKind-Topic) → (good-1 : Is (ObjectKind-p .row) ObjectKind-Topic (ObjectKind-p .val ObjectKind-Topic ∷ [])) → Sq W (‵ (MutSlice (named 0) κ₁ (Array u64 6) .own (at-list b₁ o₁ γ₁ sessions) (sliceVal (b₁, o₁) n₁ ∷ [])) ∷ ‵ (flft κ₁ q₁) ∷ ‵ (MutSlice (named 0) κ₂ Object-t.the-row .own (at-list b₂ o₂ γ₂ objects) (sliceVal (b₂, o₂) n₂ ∷ [])) ∷ ‵ (flft κ₂ q₂) ∷ ‵ (ShrSlice (named 0) κ₃ u8 .own (at-list b₃ o₃ γ₃ d) (sliceVal (b₃, o₃) n₃ ∷ [])) ∷ ‵ (flft κ₃ q₃) ∷ free 𝓤 (sliceTy (tyRef erased imm (pointee (Object-t.the-row .written)))) l₂₉ (free 𝓤 (tyRef erased imm (pointee (Object-t.the-row .written))) l₂₈ (free 𝓤 (sliceTy (tyRef erased imm (pointee ((Array u64 6) .written)))) l₂₇ (free 𝓤 (tyRef erased imm (pointee ((Array u64 6) .written))) l₂₆ (free 𝓤 (sliceTy (tyRef erased imm (pointee (Object-t.the-row .written)))) l₂₅ (free 𝓤 (tyRef erased imm (pointee (Object-t.the-row .written))) l₂₄ (free 𝓤 (sliceTy (tyRef erased imm (pointee ((Array u64 6) .written)))) l₂₃ (free 𝓤 (tyRef erased imm (pointee ((Array u64 6) .written))) l₂₂ (free 𝓤 (sliceTy (tyRef erased mut (pointee (Object-t.the-row .written)))) l₂₁ (free 𝓤 (tyRef erased mut (pointee (Object-t.the-row .written))) l₂₀ (free 𝓤 (sliceTy (tyRef erased mut (pointee ((Array u64 6) .written)))) l₁₉ (free 𝓤 (tyRef erased mut (pointee ((Array u64 6) .written))) l₁₈ (free 𝓤 (sliceTy (tyRef erased mut (pointee (Object-t.the-row .written)))) l₁₇ (free 𝓤 (tyRef erased mut (pointee (Object-t.the-row .written))) l₁₆ (free 𝓤 (sliceTy (tyRef erased mut (pointee ((Array u64 6) .written)))) l₁₅ (free 𝓤 (tyRef erased mut (pointee ((Array u64 6) .written))) l₁₄ (free 𝓤 (sliceTy (tyRef erased imm (pointee (Object-t.the-row .written)))) l₁₃ (free 𝓤 (tyRef erased imm (pointee (Object-t.the-row .written))) l₁₂ (free 𝓤 (sliceTy (tyRef erased imm (pointee ((Array u64 6) .written)))) l₁₁ (free 𝓤 (tyRef erased imm (pointee ((Array u64 6) .written))) l₁₀ (free 𝓤 Move-l.mir l₉ (full 𝓤 Span-l.mir l₈ (Span-p .val body) (full 𝓤 (tyInt w16) l₇ (u16-p .val parent) (full 𝓤 ObjectKind-l.mir l₆ (ObjectKind-p .val ObjectKind-Topic) (full 𝓤 ObjectNumber-l.mir l₅ (ObjectNumber-p .val number) (full 𝓤 (tyInt w8) l₄ (u8-p .val id) (full 𝓤 (sliceTy (tyRef (named 2) imm (pointee (u8 .written)))) l₃ (sliceVal (b₃, o₃) n₃) (full 𝓤 (sliceTy (tyRef (named 1) mut (pointee (Object-t.the-row .written)))) l₂ (sliceVal (b₂, o₂) n₂) (full 𝓤 (sliceTy (tyRef (named 0) mut (pointee ((Array u64 6) .written)))) l₁ (sliceVal (b₁, o₁) n₁) (free 𝓤 Move-l.mir l₀ ([]))))))))))))))))))))))))))))))) (runs C Λ En (one mir.t-1) (anyQ (afterSeq 𝓤 H (Wp 𝓤 H C Λ En mir.t-2 (atReturn 𝓤 H En Post)) (atReturn 𝓤 H En Post))))
+    matched-1-Topic-2 : (e-1 : kind ≡ ObjectKind-Topic) → (good-1 : Is (ObjectKind-p .row) ObjectKind-Topic (ObjectKind-p .val ObjectKind-Topic ∷ [])) → Sq W (‵ (MutSlice (named 0) κ₁ (Array u64 8) .own (at-list b₁ o₁ γ₁ sessions) (sliceVal (b₁, o₁) n₁ ∷ [])) ∷ ‵ (flft κ₁ q₁) ∷ ‵ (MutSlice (named 0) κ₂ Object-t.the-row .own (at-list b₂ o₂ γ₂ objects) (sliceVal (b₂, o₂) n₂ ∷ [])) ∷ ‵ (flft κ₂ q₂) ∷ ‵ (ShrSlice (named 0) κ₃ u8 .own (at-list b₃ o₃ γ₃ d) (sliceVal (b₃, o₃) n₃ ∷ [])) ∷ ‵ (flft κ₃ q₃) ∷ free 𝓤 (sliceTy (tyRef erased imm (pointee (Object-t.the-row .written)))) l₂₉ (free 𝓤 (tyRef erased imm (pointee (Object-t.the-row .written))) l₂₈ (free 𝓤 (sliceTy (tyRef erased imm (pointee ((Array u64 8) .written)))) l₂₇ (free 𝓤 (tyRef erased imm (pointee ((Array u64 8) .written))) l₂₆ (free 𝓤 (sliceTy (tyRef erased imm (pointee (Object-t.the-row .written)))) l₂₅ (free 𝓤 (tyRef erased imm (pointee (Object-t.the-row .written))) l₂₄ (free 𝓤 (sliceTy (tyRef erased imm (pointee ((Array u64 8) .written)))) l₂₃ (free 𝓤 (tyRef erased imm (pointee ((Array u64 8) .written))) l₂₂ (free 𝓤 (sliceTy (tyRef erased mut (pointee (Object-t.the-row .written)))) l₂₁ (free 𝓤 (tyRef erased mut (pointee (Object-t.the-row .written))) l₂₀ (free 𝓤 (sliceTy (tyRef erased mut (pointee ((Array u64 8) .written)))) l₁₉ (free 𝓤 (tyRef erased mut (pointee ((Array u64 8) .written))) l₁₈ (free 𝓤 (sliceTy (tyRef erased mut (pointee (Object-t.the-row .written)))) l₁₇ (free 𝓤 (tyRef erased mut (pointee (Object-t.the-row .written))) l₁₆ (free 𝓤 (sliceTy (tyRef erased mut (pointee ((Array u64 8) .written)))) l₁₅ (free 𝓤 (tyRef erased mut (pointee ((Array u64 8) .written))) l₁₄ (free 𝓤 (sliceTy (tyRef erased imm (pointee (Object-t.the-row .written)))) l₁₃ (free 𝓤 (tyRef erased imm (pointee (Object-t.the-row .written))) l₁₂ (free 𝓤 (sliceTy (tyRef erased imm (pointee ((Array u64 8) .written)))) l₁₁ (free 𝓤 (tyRef erased imm (pointee ((Array u64 8) .written))) l₁₀ (free 𝓤 Move-l.mir l₉ (full 𝓤 Span-l.mir l₈ (Span-p .val body) (full 𝓤 (tyInt w16) l₇ (u16-p .val parent) (full 𝓤 ObjectKind-l.mir l₆ (ObjectKind-p .val ObjectKind-Topic) (full 𝓤 ObjectNumber-l.mir l₅ (ObjectNumber-p .val number) (full 𝓤 (tyInt w8) l₄ (u8-p .val id) (full 𝓤 (sliceTy (tyRef (named 2) imm (pointee (u8 .written)))) l₃ (sliceVal (b₃, o₃) n₃) (full 𝓤 (sliceTy (tyRef (named 1) mut (pointee (Object-t.the-row .written)))) l₂ (sliceVal (b₂, o₂) n₂) (full 𝓤 (sliceTy (tyRef (named 0) mut (pointee ((Array u64 8) .written)))) l₁ (sliceVal (b₁, o₁) n₁) (free 𝓤 Move-l.mir l₀ ([]))))))))))))))))))))))))))))))) (runs C Λ En (one mir.t-1) (anyQ (afterSeq 𝓤 H (Wp 𝓤 H C Λ En mir.t-2 (atReturn 𝓤 H En Post)) (atReturn 𝓤 H En Post))))
     matched-1-Topic-2 e-1 good-1 =
         switches-on ! (load ! (from ! (vrt ! refl (fld ! refl (stop !)))) (look-tag ! 52 (whole !))) $ exec ! C Λ En (arm-of 1 (one mir.t-1)) (anyQ (afterSeq 𝓤 H (Wp 𝓤 H C Λ En mir.t-2 (atReturn 𝓤 H En Post)) (atReturn 𝓤 H En Post))) $
         assigns ! (addr ! (from ! (fld ! refl (hop ! (look-in ! 62 (sub ! 0 refl (whole !))) (stop !))))) (from ! (stop !)) (init ! 44 refl (tt, tt)) $
@@ -256,7 +256,7 @@ module _ {M : Type 1} (𝓤 : URA M) (H : Heap 𝓤) (A : Atoms 𝓤) (W : Given
         assigns ! (addr ! (from ! (fld ! refl (hop ! (look-in ! 60 (sub ! 0 refl (whole !))) (stop !))))) (from ! (stop !)) (init ! 40 refl (tt, tt)) $
         assigns ! (agg ! (and-then ! (load ! (from ! (stop !)) (look ! 40 refl)) (and-then ! (load ! (from ! (fld ! refl (stop !))) (look-in ! 60 (sub ! 1 refl (whole !)))) (no-more !)))) (from ! (stop !)) (init ! 38 refl (tt, (tt, (record { fits = room₂ .0 }, tt)))) $
         -- 1.Topic.5: moves::objects::create_topic
-        lends-view ! tt (Array u64 6) b₁ o₁ sessions n₁ (refl) (λ ν-1·Topic·5-sessions δ-1·Topic·5-sessions.
+        lends-view ! tt (Array u64 8) b₁ o₁ sessions n₁ (refl) (λ ν-1·Topic·5-sessions δ-1·Topic·5-sessions.
         move ! (3 ∷ 4 ∷ []) $
         lends-view ! tt Object-t.the-row b₂ o₂ objects n₂ (refl) (λ ν-1·Topic·5-objects δ-1·Topic·5-objects.
         move ! (6 ∷ 7 ∷ []) $
@@ -268,7 +268,7 @@ module _ {M : Type 1} (𝓤 : URA M) (H : Heap 𝓤) (A : Atoms 𝓤) (W : Given
         owned ! (u8-p .row) (Is (u8-p .row)) (u8-p .makes 𝓤 H A W) id (u8-p .val id ∷ []) id-is $ fjoin ! $ move ! (2 ∷ 0 ∷ []) $ fjoin ! $ move ! (3 ∷ 0 ∷ []) $ fjoin ! $ move ! (4 ∷ 0 ∷ []) $ fjoin ! $ move ! (1 ∷ 0 ∷ []) $
         calls-any-last ! fm 3 [] (objects-create-topic.signature .params) (objects-create-topic.ended .kept) Move-p (objects-create-topic.clauses 𝓤 H A mem run) known-objects-create-topic ((ν-1·Topic·5-sessions ∷ []), ((ν-1·Topic·5-objects ∷ []), (κ₃, tt))) (fullShare, (fullShare, (q₃, tt))) tt (at-list b₁ o₁ δ-1·Topic·5-sessions sessions, (at-list b₂ o₂ δ-1·Topic·5-objects objects, (at-list b₃ o₃ γ₃ d, (id, (number, (parent, (body, tt))))))) (sliceVal (b₁, o₁) n₁ ∷ [], (sliceVal (b₂, o₂) n₂ ∷ [], (sliceVal (b₃, o₃) n₃ ∷ [], (u8-p .val id ∷ [], (ObjectNumber-p .val number ∷ [], (u16-p .val parent ∷ [], (Span-p .val body ∷ [], tt))))))) tt (topicMove number parent (namesIn (d) body) (foundObject (sessions) (objects) id (record { 0 = parent }))) (λ ws-1·Topic·5. Unit {0}) (id⊢ 𝓤 _) (λ r ws-1·Topic·5. fact-mono 𝓤 (r ≡ topicMove number parent (namesIn (d) body) (foundObject (sessions) (objects) id (record { 0 = parent }))) ((r ≡ (topicMove number parent (namesIn (d) body) (foundObject (sessions) (objects) id (record { 0 = parent })))) × (Unit {0})) (λ e. (e, tt))) (λ _. (and-then ! (load ! (from ! (stop !)) (look ! 40 refl)) (and-then ! (load ! (from ! (stop !)) (look ! 36 refl)) (and-then ! (load ! (from ! (stop !)) (look ! 56 refl)) (and-then ! (load ! (from ! (stop !)) (look ! 54 refl)) (and-then ! (load ! (from ! (stop !)) (look ! 52 refl)) (and-then ! (load ! (from ! (stop !)) (look ! 48 refl)) (and-then ! (load ! (from ! (stop !)) (look ! 46 refl)) (no-more !))))))))) (λ ws-1·Topic·5 said-1·Topic·5 is-1·Topic·5.
         use1 W ((‵ (flft (ν-1·Topic·5-sessions ∷ []) fullShare) ⊛ (‵ (flft (ν-1·Topic·5-objects ∷ []) fullShare) ⊛ (‵ (flft κ₃ q₃) ⊛ ‵ ftrue)))) (id⊢ 𝓤 _) $ split ! $ move ! (1 ∷ []) $ split ! $ move ! (1 ∷ []) $ split ! $ move ! (4 ∷ []) $ fsplit ! $ move ! (1 ∷ []) $ fsplit ! $ move ! (1 ∷ []) $ fsplit ! $ move ! (7 ∷ 10 ∷ []) $
-        backs-view ! tt (Array u64 6) b₁ o₁ sessions n₁ (refl) ν-1·Topic·5-sessions $ move ! (8 ∷ 10 ∷ []) $
+        backs-view ! tt (Array u64 8) b₁ o₁ sessions n₁ (refl) ν-1·Topic·5-sessions $ move ! (8 ∷ 10 ∷ []) $
         backs-view ! tt Object-t.the-row b₂ o₂ objects n₂ (refl) ν-1·Topic·5-objects $ move ! (4 ∷ []) $ drop ! $ move ! (4 ∷ []) $ drop ! $ move ! (4 ∷ []) $ drop ! $ move ! (4 ∷ []) $ drop ! $ move ! (5 ∷ []) $ drop ! $
         land-last ! (from ! (stop !)) (init ! 46 refl (Move-p .typed 𝓤 H A W (topicMove number parent (namesIn (d) body) (foundObject (sessions) (objects) id (record { 0 = parent }))) is-1·Topic·5)) $
         exec ! C Λ En mir.t-2 (atRet En Post) $
@@ -276,7 +276,7 @@ module _ {M : Type 1} (𝓤 : URA M) (H : Heap 𝓤) (A : Atoms 𝓤) (W : Given
         returns ! (look ! 64 refl) $ forget ! 38 refl $ forget ! 40 refl $ forget ! 42 refl $ forget ! 44 refl $ forget ! 46 refl $ forget ! 52 refl $ move ! (2 ∷ 3 ∷ 0 ∷ 1 ∷ 5 ∷ 4 ∷ 6 ∷ 7 ∷ 8 ∷ 9 ∷ 10 ∷ 11 ∷ 12 ∷ 13 ∷ 14 ∷ 15 ∷ 16 ∷ 17 ∷ 18 ∷ 19 ∷ 20 ∷ 21 ∷ 22 ∷ 23 ∷ 24 ∷ 25 ∷ 26 ∷ 27 ∷ 28 ∷ 29 ∷ 30 ∷ 31 ∷ 32 ∷ 33 ∷ 34 ∷ 35 ∷ 36 ∷ 37 ∷ 38 ∷ 39 ∷ 40 ∷ 41 ∷ 42 ∷ 43 ∷ 44 ∷ 45 ∷ 46 ∷ 47 ∷ 48 ∷ 49 ∷ 50 ∷ 51 ∷ 52 ∷ 53 ∷ 54 ∷ 55 ∷ 56 ∷ 57 ∷ 58 ∷ 59 ∷ 60 ∷ 61 ∷ 62 ∷ 63 ∷ 64 ∷ 65 ∷ []) $
         frees-all (topicMove number parent (namesIn (d) body) (foundObject (sessions) (objects) id (record { 0 = parent }))) sessions objects (exits (topicMove number parent (namesIn (d) body) (foundObject (sessions) (objects) id (record { 0 = parent }))) sessions objects ((ap (λ (k : ObjectKind). createMove k sessions objects d id number parent body) (sym e-1), ap (λ (k : ObjectKind). createdSessions k sessions objects id number parent) (sym e-1), ap (λ (k : ObjectKind). createdObjects k sessions objects id number parent) (sym e-1))) is-1·Topic·5 refl refl))))
 
-    matched-1-Publisher-3 : (e-1 : kind ≡ ObjectKind-Publisher) → (good-1 : Is (ObjectKind-p .row) ObjectKind-Publisher (ObjectKind-p .val ObjectKind-Publisher ∷ [])) → Sq W (‵ (MutSlice (named 0) κ₁ (Array u64 6) .own (at-list b₁ o₁ γ₁ sessions) (sliceVal (b₁, o₁) n₁ ∷ [])) ∷ ‵ (flft κ₁ q₁) ∷ ‵ (MutSlice (named 0) κ₂ Object-t.the-row .own (at-list b₂ o₂ γ₂ objects) (sliceVal (b₂, o₂) n₂ ∷ [])) ∷ ‵ (flft κ₂ q₂) ∷ ‵ (ShrSlice (named 0) κ₃ u8 .own (at-list b₃ o₃ γ₃ d) (sliceVal (b₃, o₃) n₃ ∷ [])) ∷ ‵ (flft κ₃ q₃) ∷ free 𝓤 (sliceTy (tyRef erased imm (pointee (Object-t.the-row .written)))) l₂₉ (free 𝓤 (tyRef erased imm (pointee (Object-t.the-row .written))) l₂₈ (free 𝓤 (sliceTy (tyRef erased imm (pointee ((Array u64 6) .written)))) l₂₇ (free 𝓤 (tyRef erased imm (pointee ((Array u64 6) .written))) l₂₆ (free 𝓤 (sliceTy (tyRef erased imm (pointee (Object-t.the-row .written)))) l₂₅ (free 𝓤 (tyRef erased imm (pointee (Object-t.the-row .written))) l₂₄ (free 𝓤 (sliceTy (tyRef erased imm (pointee ((Array u64 6) .written)))) l₂₃ (free 𝓤 (tyRef erased imm (pointee ((Array u64 6) .written))) l₂₂ (free 𝓤 (sliceTy (tyRef erased mut (pointee (Object-t.the-row .written)))) l₂₁ (free 𝓤 (tyRef erased mut (pointee (Object-t.the-row .written))) l₂₀ (free 𝓤 (sliceTy (tyRef erased mut (pointee ((Array u64 6) .written)))) l₁₉ (free 𝓤 (tyRef erased mut (pointee ((Array u64 6) .written))) l₁₈ (free 𝓤 (sliceTy (tyRef erased mut (pointee (Object-t.the-row .written)))) l₁₇ (free 𝓤 (tyRef erased mut (pointee (Object-t.the-row .written))) l₁₆ (free 𝓤 (sliceTy (tyRef erased mut (pointee ((Array u64 6) .written)))) l₁₅ (free 𝓤 (tyRef erased mut (pointee ((Array u64 6) .written))) l₁₄ (free 𝓤 (sliceTy (tyRef erased imm (pointee (Object-t.the-row .written)))) l₁₃ (free 𝓤 (tyRef erased imm (pointee (Object-t.the-row .written))) l₁₂ (free 𝓤 (sliceTy (tyRef erased imm (pointee ((Array u64 6) .written)))) l₁₁ (free 𝓤 (tyRef erased imm (pointee ((Array u64 6) .written))) l₁₀ (free 𝓤 Move-l.mir l₉ (full 𝓤 Span-l.mir l₈ (Span-p .val body) (full 𝓤 (tyInt w16) l₇ (u16-p .val parent) (full 𝓤 ObjectKind-l.mir l₆ (ObjectKind-p .val ObjectKind-Publisher) (full 𝓤 ObjectNumber-l.mir l₅ (ObjectNumber-p .val number) (full 𝓤 (tyInt w8) l₄ (u8-p .val id) (full 𝓤 (sliceTy (tyRef (named 2) imm (pointee (u8 .written)))) l₃ (sliceVal (b₃, o₃) n₃) (full 𝓤 (sliceTy (tyRef (named 1) mut (pointee (Object-t.the-row .written)))) l₂ (sliceVal (b₂, o₂) n₂) (full 𝓤 (sliceTy (tyRef (named 0) mut (pointee ((Array u64 6) .written)))) l₁ (sliceVal (b₁, o₁) n₁) (free 𝓤 Move-l.mir l₀ ([]))))))))))))))))))))))))))))))) (runs C Λ En (one mir.t-1) (anyQ (afterSeq 𝓤 H (Wp 𝓤 H C Λ En mir.t-2 (atReturn 𝓤 H En Post)) (atReturn 𝓤 H En Post))))
+    matched-1-Publisher-3 : (e-1 : kind ≡ ObjectKind-Publisher) → (good-1 : Is (ObjectKind-p .row) ObjectKind-Publisher (ObjectKind-p .val ObjectKind-Publisher ∷ [])) → Sq W (‵ (MutSlice (named 0) κ₁ (Array u64 8) .own (at-list b₁ o₁ γ₁ sessions) (sliceVal (b₁, o₁) n₁ ∷ [])) ∷ ‵ (flft κ₁ q₁) ∷ ‵ (MutSlice (named 0) κ₂ Object-t.the-row .own (at-list b₂ o₂ γ₂ objects) (sliceVal (b₂, o₂) n₂ ∷ [])) ∷ ‵ (flft κ₂ q₂) ∷ ‵ (ShrSlice (named 0) κ₃ u8 .own (at-list b₃ o₃ γ₃ d) (sliceVal (b₃, o₃) n₃ ∷ [])) ∷ ‵ (flft κ₃ q₃) ∷ free 𝓤 (sliceTy (tyRef erased imm (pointee (Object-t.the-row .written)))) l₂₉ (free 𝓤 (tyRef erased imm (pointee (Object-t.the-row .written))) l₂₈ (free 𝓤 (sliceTy (tyRef erased imm (pointee ((Array u64 8) .written)))) l₂₇ (free 𝓤 (tyRef erased imm (pointee ((Array u64 8) .written))) l₂₆ (free 𝓤 (sliceTy (tyRef erased imm (pointee (Object-t.the-row .written)))) l₂₅ (free 𝓤 (tyRef erased imm (pointee (Object-t.the-row .written))) l₂₄ (free 𝓤 (sliceTy (tyRef erased imm (pointee ((Array u64 8) .written)))) l₂₃ (free 𝓤 (tyRef erased imm (pointee ((Array u64 8) .written))) l₂₂ (free 𝓤 (sliceTy (tyRef erased mut (pointee (Object-t.the-row .written)))) l₂₁ (free 𝓤 (tyRef erased mut (pointee (Object-t.the-row .written))) l₂₀ (free 𝓤 (sliceTy (tyRef erased mut (pointee ((Array u64 8) .written)))) l₁₉ (free 𝓤 (tyRef erased mut (pointee ((Array u64 8) .written))) l₁₈ (free 𝓤 (sliceTy (tyRef erased mut (pointee (Object-t.the-row .written)))) l₁₇ (free 𝓤 (tyRef erased mut (pointee (Object-t.the-row .written))) l₁₆ (free 𝓤 (sliceTy (tyRef erased mut (pointee ((Array u64 8) .written)))) l₁₅ (free 𝓤 (tyRef erased mut (pointee ((Array u64 8) .written))) l₁₄ (free 𝓤 (sliceTy (tyRef erased imm (pointee (Object-t.the-row .written)))) l₁₃ (free 𝓤 (tyRef erased imm (pointee (Object-t.the-row .written))) l₁₂ (free 𝓤 (sliceTy (tyRef erased imm (pointee ((Array u64 8) .written)))) l₁₁ (free 𝓤 (tyRef erased imm (pointee ((Array u64 8) .written))) l₁₀ (free 𝓤 Move-l.mir l₉ (full 𝓤 Span-l.mir l₈ (Span-p .val body) (full 𝓤 (tyInt w16) l₇ (u16-p .val parent) (full 𝓤 ObjectKind-l.mir l₆ (ObjectKind-p .val ObjectKind-Publisher) (full 𝓤 ObjectNumber-l.mir l₅ (ObjectNumber-p .val number) (full 𝓤 (tyInt w8) l₄ (u8-p .val id) (full 𝓤 (sliceTy (tyRef (named 2) imm (pointee (u8 .written)))) l₃ (sliceVal (b₃, o₃) n₃) (full 𝓤 (sliceTy (tyRef (named 1) mut (pointee (Object-t.the-row .written)))) l₂ (sliceVal (b₂, o₂) n₂) (full 𝓤 (sliceTy (tyRef (named 0) mut (pointee ((Array u64 8) .written)))) l₁ (sliceVal (b₁, o₁) n₁) (free 𝓤 Move-l.mir l₀ ([]))))))))))))))))))))))))))))))) (runs C Λ En (one mir.t-1) (anyQ (afterSeq 𝓤 H (Wp 𝓤 H C Λ En mir.t-2 (atReturn 𝓤 H En Post)) (atReturn 𝓤 H En Post))))
     matched-1-Publisher-3 e-1 good-1 =
         switches-on ! (load ! (from ! (vrt ! refl (fld ! refl (stop !)))) (look-tag ! 52 (whole !))) $ exec ! C Λ En (arm-of 2 (one mir.t-1)) (anyQ (afterSeq 𝓤 H (Wp 𝓤 H C Λ En mir.t-2 (atReturn 𝓤 H En Post)) (atReturn 𝓤 H En Post))) $
         assigns ! (addr ! (from ! (fld ! refl (hop ! (look-in ! 62 (sub ! 0 refl (whole !))) (stop !))))) (from ! (stop !)) (init ! 36 refl (tt, tt)) $
@@ -284,7 +284,7 @@ module _ {M : Type 1} (𝓤 : URA M) (H : Heap 𝓤) (A : Atoms 𝓤) (W : Given
         assigns ! (addr ! (from ! (fld ! refl (hop ! (look-in ! 60 (sub ! 0 refl (whole !))) (stop !))))) (from ! (stop !)) (init ! 32 refl (tt, tt)) $
         assigns ! (agg ! (and-then ! (load ! (from ! (stop !)) (look ! 32 refl)) (and-then ! (load ! (from ! (fld ! refl (stop !))) (look-in ! 60 (sub ! 1 refl (whole !)))) (no-more !)))) (from ! (stop !)) (init ! 30 refl (tt, (tt, (record { fits = room₂ .0 }, tt)))) $
         -- 1.Publisher.5: moves::objects::create_implicit
-        lends-mut ! tt (Array u64 6) b₁ o₁ sessions n₁ (refl) (λ ν-1·Publisher·5-sessions δ-1·Publisher·5-sessions.
+        lends-mut ! tt (Array u64 8) b₁ o₁ sessions n₁ (refl) (λ ν-1·Publisher·5-sessions δ-1·Publisher·5-sessions.
         move ! (3 ∷ 4 ∷ []) $
         lends-mut ! tt Object-t.the-row b₂ o₂ objects n₂ (refl) (λ ν-1·Publisher·5-objects δ-1·Publisher·5-objects.
         nothing ! $ move ! (1 ∷ 0 ∷ []) $ join ! $ move ! (3 ∷ 0 ∷ []) $ join ! $
@@ -299,7 +299,7 @@ module _ {M : Type 1} (𝓤 : URA M) (H : Heap 𝓤) (A : Atoms 𝓤) (W : Given
         move ! (1 ∷ []) $ fsplit ! $ fsplit ! $ move ! (1 ∷ []) $
         feqL ! (λ wlen-1·Publisher·5-1.
         move ! (5 ∷ 7 ∷ 2 ∷ []) $
-        backs-mut ! tt (Array u64 6) b₁ o₁ sessions n₁ (refl) room₁ ν-1·Publisher·5-sessions δ-1·Publisher·5-sessions (ws-1·Publisher·5 .0) (keepStored (sessions) id (storedObject (sessions) (objects) id (implicitOf number 3 parent))) wlen-1·Publisher·5-0 (said-1·Publisher·5 .0) (λ len-1·Publisher·5-sessions.
+        backs-mut ! tt (Array u64 8) b₁ o₁ sessions n₁ (refl) room₁ ν-1·Publisher·5-sessions δ-1·Publisher·5-sessions (ws-1·Publisher·5 .0) (keepStored (sessions) id (storedObject (sessions) (objects) id (implicitOf number 3 parent))) wlen-1·Publisher·5-0 (said-1·Publisher·5 .0) (λ len-1·Publisher·5-sessions.
         move ! (4 ∷ 6 ∷ 2 ∷ []) $
         backs-mut ! tt Object-t.the-row b₂ o₂ objects n₂ (refl) room₂ ν-1·Publisher·5-objects δ-1·Publisher·5-objects (ws-1·Publisher·5 .1 .0) (storedObjects (sessions) (objects) id (implicitOf number 3 parent)) wlen-1·Publisher·5-1 (said-1·Publisher·5 .1) (λ len-1·Publisher·5-objects.
         move ! (4 ∷ []) $ drop ! $ move ! (4 ∷ []) $ drop ! $
@@ -309,7 +309,7 @@ module _ {M : Type 1} (𝓤 : URA M) (H : Heap 𝓤) (A : Atoms 𝓤) (W : Given
         returns ! (look ! 64 refl) $ forget ! 30 refl $ forget ! 32 refl $ forget ! 34 refl $ forget ! 36 refl $ forget ! 46 refl $ forget ! 52 refl $ move ! (2 ∷ 3 ∷ 0 ∷ 1 ∷ 4 ∷ 5 ∷ 6 ∷ 7 ∷ 8 ∷ 9 ∷ 10 ∷ 11 ∷ 12 ∷ 13 ∷ 14 ∷ 15 ∷ 16 ∷ 17 ∷ 18 ∷ 19 ∷ 20 ∷ 21 ∷ 22 ∷ 23 ∷ 24 ∷ 25 ∷ 26 ∷ 27 ∷ 28 ∷ 29 ∷ 30 ∷ 31 ∷ 32 ∷ 33 ∷ 34 ∷ 35 ∷ 36 ∷ 37 ∷ 38 ∷ 39 ∷ 40 ∷ 41 ∷ 42 ∷ 43 ∷ 44 ∷ 45 ∷ 46 ∷ 47 ∷ 48 ∷ 49 ∷ 50 ∷ 51 ∷ 52 ∷ 53 ∷ 54 ∷ 55 ∷ 56 ∷ 57 ∷ 58 ∷ 59 ∷ 60 ∷ 61 ∷ 62 ∷ 63 ∷ 64 ∷ 65 ∷ []) $
         frees-all (okMove number) (keepStored (sessions) id (storedObject (sessions) (objects) id (implicitOf number 3 parent))) (storedObjects (sessions) (objects) id (implicitOf number 3 parent)) (exits (okMove number) (keepStored (sessions) id (storedObject (sessions) (objects) id (implicitOf number 3 parent))) (storedObjects (sessions) (objects) id (implicitOf number 3 parent)) ((ap (λ (k : ObjectKind). createMove k sessions objects d id number parent body) (sym e-1), ap (λ (k : ObjectKind). createdSessions k sessions objects id number parent) (sym e-1), ap (λ (k : ObjectKind). createdObjects k sessions objects id number parent) (sym e-1))) is-1·Publisher·5 len-1·Publisher·5-sessions len-1·Publisher·5-objects))))))))
 
-    matched-1-Subscriber-4 : (e-1 : kind ≡ ObjectKind-Subscriber) → (good-1 : Is (ObjectKind-p .row) ObjectKind-Subscriber (ObjectKind-p .val ObjectKind-Subscriber ∷ [])) → Sq W (‵ (MutSlice (named 0) κ₁ (Array u64 6) .own (at-list b₁ o₁ γ₁ sessions) (sliceVal (b₁, o₁) n₁ ∷ [])) ∷ ‵ (flft κ₁ q₁) ∷ ‵ (MutSlice (named 0) κ₂ Object-t.the-row .own (at-list b₂ o₂ γ₂ objects) (sliceVal (b₂, o₂) n₂ ∷ [])) ∷ ‵ (flft κ₂ q₂) ∷ ‵ (ShrSlice (named 0) κ₃ u8 .own (at-list b₃ o₃ γ₃ d) (sliceVal (b₃, o₃) n₃ ∷ [])) ∷ ‵ (flft κ₃ q₃) ∷ free 𝓤 (sliceTy (tyRef erased imm (pointee (Object-t.the-row .written)))) l₂₉ (free 𝓤 (tyRef erased imm (pointee (Object-t.the-row .written))) l₂₈ (free 𝓤 (sliceTy (tyRef erased imm (pointee ((Array u64 6) .written)))) l₂₇ (free 𝓤 (tyRef erased imm (pointee ((Array u64 6) .written))) l₂₆ (free 𝓤 (sliceTy (tyRef erased imm (pointee (Object-t.the-row .written)))) l₂₅ (free 𝓤 (tyRef erased imm (pointee (Object-t.the-row .written))) l₂₄ (free 𝓤 (sliceTy (tyRef erased imm (pointee ((Array u64 6) .written)))) l₂₃ (free 𝓤 (tyRef erased imm (pointee ((Array u64 6) .written))) l₂₂ (free 𝓤 (sliceTy (tyRef erased mut (pointee (Object-t.the-row .written)))) l₂₁ (free 𝓤 (tyRef erased mut (pointee (Object-t.the-row .written))) l₂₀ (free 𝓤 (sliceTy (tyRef erased mut (pointee ((Array u64 6) .written)))) l₁₉ (free 𝓤 (tyRef erased mut (pointee ((Array u64 6) .written))) l₁₈ (free 𝓤 (sliceTy (tyRef erased mut (pointee (Object-t.the-row .written)))) l₁₇ (free 𝓤 (tyRef erased mut (pointee (Object-t.the-row .written))) l₁₆ (free 𝓤 (sliceTy (tyRef erased mut (pointee ((Array u64 6) .written)))) l₁₅ (free 𝓤 (tyRef erased mut (pointee ((Array u64 6) .written))) l₁₄ (free 𝓤 (sliceTy (tyRef erased imm (pointee (Object-t.the-row .written)))) l₁₃ (free 𝓤 (tyRef erased imm (pointee (Object-t.the-row .written))) l₁₂ (free 𝓤 (sliceTy (tyRef erased imm (pointee ((Array u64 6) .written)))) l₁₁ (free 𝓤 (tyRef erased imm (pointee ((Array u64 6) .written))) l₁₀ (free 𝓤 Move-l.mir l₉ (full 𝓤 Span-l.mir l₈ (Span-p .val body) (full 𝓤 (tyInt w16) l₇ (u16-p .val parent) (full 𝓤 ObjectKind-l.mir l₆ (ObjectKind-p .val ObjectKind-Subscriber) (full 𝓤 ObjectNumber-l.mir l₅ (ObjectNumber-p .val number) (full 𝓤 (tyInt w8) l₄ (u8-p .val id) (full 𝓤 (sliceTy (tyRef (named 2) imm (pointee (u8 .written)))) l₃ (sliceVal (b₃, o₃) n₃) (full 𝓤 (sliceTy (tyRef (named 1) mut (pointee (Object-t.the-row .written)))) l₂ (sliceVal (b₂, o₂) n₂) (full 𝓤 (sliceTy (tyRef (named 0) mut (pointee ((Array u64 6) .written)))) l₁ (sliceVal (b₁, o₁) n₁) (free 𝓤 Move-l.mir l₀ ([]))))))))))))))))))))))))))))))) (runs C Λ En (one mir.t-1) (anyQ (afterSeq 𝓤 H (Wp 𝓤 H C Λ En mir.t-2 (atReturn 𝓤 H En Post)) (atReturn 𝓤 H En Post))))
+    matched-1-Subscriber-4 : (e-1 : kind ≡ ObjectKind-Subscriber) → (good-1 : Is (ObjectKind-p .row) ObjectKind-Subscriber (ObjectKind-p .val ObjectKind-Subscriber ∷ [])) → Sq W (‵ (MutSlice (named 0) κ₁ (Array u64 8) .own (at-list b₁ o₁ γ₁ sessions) (sliceVal (b₁, o₁) n₁ ∷ [])) ∷ ‵ (flft κ₁ q₁) ∷ ‵ (MutSlice (named 0) κ₂ Object-t.the-row .own (at-list b₂ o₂ γ₂ objects) (sliceVal (b₂, o₂) n₂ ∷ [])) ∷ ‵ (flft κ₂ q₂) ∷ ‵ (ShrSlice (named 0) κ₃ u8 .own (at-list b₃ o₃ γ₃ d) (sliceVal (b₃, o₃) n₃ ∷ [])) ∷ ‵ (flft κ₃ q₃) ∷ free 𝓤 (sliceTy (tyRef erased imm (pointee (Object-t.the-row .written)))) l₂₉ (free 𝓤 (tyRef erased imm (pointee (Object-t.the-row .written))) l₂₈ (free 𝓤 (sliceTy (tyRef erased imm (pointee ((Array u64 8) .written)))) l₂₇ (free 𝓤 (tyRef erased imm (pointee ((Array u64 8) .written))) l₂₆ (free 𝓤 (sliceTy (tyRef erased imm (pointee (Object-t.the-row .written)))) l₂₅ (free 𝓤 (tyRef erased imm (pointee (Object-t.the-row .written))) l₂₄ (free 𝓤 (sliceTy (tyRef erased imm (pointee ((Array u64 8) .written)))) l₂₃ (free 𝓤 (tyRef erased imm (pointee ((Array u64 8) .written))) l₂₂ (free 𝓤 (sliceTy (tyRef erased mut (pointee (Object-t.the-row .written)))) l₂₁ (free 𝓤 (tyRef erased mut (pointee (Object-t.the-row .written))) l₂₀ (free 𝓤 (sliceTy (tyRef erased mut (pointee ((Array u64 8) .written)))) l₁₉ (free 𝓤 (tyRef erased mut (pointee ((Array u64 8) .written))) l₁₈ (free 𝓤 (sliceTy (tyRef erased mut (pointee (Object-t.the-row .written)))) l₁₇ (free 𝓤 (tyRef erased mut (pointee (Object-t.the-row .written))) l₁₆ (free 𝓤 (sliceTy (tyRef erased mut (pointee ((Array u64 8) .written)))) l₁₅ (free 𝓤 (tyRef erased mut (pointee ((Array u64 8) .written))) l₁₄ (free 𝓤 (sliceTy (tyRef erased imm (pointee (Object-t.the-row .written)))) l₁₃ (free 𝓤 (tyRef erased imm (pointee (Object-t.the-row .written))) l₁₂ (free 𝓤 (sliceTy (tyRef erased imm (pointee ((Array u64 8) .written)))) l₁₁ (free 𝓤 (tyRef erased imm (pointee ((Array u64 8) .written))) l₁₀ (free 𝓤 Move-l.mir l₉ (full 𝓤 Span-l.mir l₈ (Span-p .val body) (full 𝓤 (tyInt w16) l₇ (u16-p .val parent) (full 𝓤 ObjectKind-l.mir l₆ (ObjectKind-p .val ObjectKind-Subscriber) (full 𝓤 ObjectNumber-l.mir l₅ (ObjectNumber-p .val number) (full 𝓤 (tyInt w8) l₄ (u8-p .val id) (full 𝓤 (sliceTy (tyRef (named 2) imm (pointee (u8 .written)))) l₃ (sliceVal (b₃, o₃) n₃) (full 𝓤 (sliceTy (tyRef (named 1) mut (pointee (Object-t.the-row .written)))) l₂ (sliceVal (b₂, o₂) n₂) (full 𝓤 (sliceTy (tyRef (named 0) mut (pointee ((Array u64 8) .written)))) l₁ (sliceVal (b₁, o₁) n₁) (free 𝓤 Move-l.mir l₀ ([]))))))))))))))))))))))))))))))) (runs C Λ En (one mir.t-1) (anyQ (afterSeq 𝓤 H (Wp 𝓤 H C Λ En mir.t-2 (atReturn 𝓤 H En Post)) (atReturn 𝓤 H En Post))))
     matched-1-Subscriber-4 e-1 good-1 =
         switches-on ! (load ! (from ! (vrt ! refl (fld ! refl (stop !)))) (look-tag ! 52 (whole !))) $ exec ! C Λ En (arm-of 3 (one mir.t-1)) (anyQ (afterSeq 𝓤 H (Wp 𝓤 H C Λ En mir.t-2 (atReturn 𝓤 H En Post)) (atReturn 𝓤 H En Post))) $
         assigns ! (addr ! (from ! (fld ! refl (hop ! (look-in ! 62 (sub ! 0 refl (whole !))) (stop !))))) (from ! (stop !)) (init ! 28 refl (tt, tt)) $
@@ -317,7 +317,7 @@ module _ {M : Type 1} (𝓤 : URA M) (H : Heap 𝓤) (A : Atoms 𝓤) (W : Given
         assigns ! (addr ! (from ! (fld ! refl (hop ! (look-in ! 60 (sub ! 0 refl (whole !))) (stop !))))) (from ! (stop !)) (init ! 24 refl (tt, tt)) $
         assigns ! (agg ! (and-then ! (load ! (from ! (stop !)) (look ! 24 refl)) (and-then ! (load ! (from ! (fld ! refl (stop !))) (look-in ! 60 (sub ! 1 refl (whole !)))) (no-more !)))) (from ! (stop !)) (init ! 22 refl (tt, (tt, (record { fits = room₂ .0 }, tt)))) $
         -- 1.Subscriber.5: moves::objects::create_implicit
-        lends-mut ! tt (Array u64 6) b₁ o₁ sessions n₁ (refl) (λ ν-1·Subscriber·5-sessions δ-1·Subscriber·5-sessions.
+        lends-mut ! tt (Array u64 8) b₁ o₁ sessions n₁ (refl) (λ ν-1·Subscriber·5-sessions δ-1·Subscriber·5-sessions.
         move ! (3 ∷ 4 ∷ []) $
         lends-mut ! tt Object-t.the-row b₂ o₂ objects n₂ (refl) (λ ν-1·Subscriber·5-objects δ-1·Subscriber·5-objects.
         nothing ! $ move ! (1 ∷ 0 ∷ []) $ join ! $ move ! (3 ∷ 0 ∷ []) $ join ! $
@@ -332,7 +332,7 @@ module _ {M : Type 1} (𝓤 : URA M) (H : Heap 𝓤) (A : Atoms 𝓤) (W : Given
         move ! (1 ∷ []) $ fsplit ! $ fsplit ! $ move ! (1 ∷ []) $
         feqL ! (λ wlen-1·Subscriber·5-1.
         move ! (5 ∷ 7 ∷ 2 ∷ []) $
-        backs-mut ! tt (Array u64 6) b₁ o₁ sessions n₁ (refl) room₁ ν-1·Subscriber·5-sessions δ-1·Subscriber·5-sessions (ws-1·Subscriber·5 .0) (keepStored (sessions) id (storedObject (sessions) (objects) id (implicitOf number 4 parent))) wlen-1·Subscriber·5-0 (said-1·Subscriber·5 .0) (λ len-1·Subscriber·5-sessions.
+        backs-mut ! tt (Array u64 8) b₁ o₁ sessions n₁ (refl) room₁ ν-1·Subscriber·5-sessions δ-1·Subscriber·5-sessions (ws-1·Subscriber·5 .0) (keepStored (sessions) id (storedObject (sessions) (objects) id (implicitOf number 4 parent))) wlen-1·Subscriber·5-0 (said-1·Subscriber·5 .0) (λ len-1·Subscriber·5-sessions.
         move ! (4 ∷ 6 ∷ 2 ∷ []) $
         backs-mut ! tt Object-t.the-row b₂ o₂ objects n₂ (refl) room₂ ν-1·Subscriber·5-objects δ-1·Subscriber·5-objects (ws-1·Subscriber·5 .1 .0) (storedObjects (sessions) (objects) id (implicitOf number 4 parent)) wlen-1·Subscriber·5-1 (said-1·Subscriber·5 .1) (λ len-1·Subscriber·5-objects.
         move ! (4 ∷ []) $ drop ! $ move ! (4 ∷ []) $ drop ! $
@@ -342,7 +342,7 @@ module _ {M : Type 1} (𝓤 : URA M) (H : Heap 𝓤) (A : Atoms 𝓤) (W : Given
         returns ! (look ! 64 refl) $ forget ! 22 refl $ forget ! 24 refl $ forget ! 26 refl $ forget ! 28 refl $ forget ! 46 refl $ forget ! 52 refl $ move ! (2 ∷ 3 ∷ 0 ∷ 1 ∷ 4 ∷ 5 ∷ 6 ∷ 7 ∷ 8 ∷ 9 ∷ 10 ∷ 11 ∷ 12 ∷ 13 ∷ 14 ∷ 15 ∷ 16 ∷ 17 ∷ 18 ∷ 19 ∷ 20 ∷ 21 ∷ 22 ∷ 23 ∷ 24 ∷ 25 ∷ 26 ∷ 27 ∷ 28 ∷ 29 ∷ 30 ∷ 31 ∷ 32 ∷ 33 ∷ 34 ∷ 35 ∷ 36 ∷ 37 ∷ 38 ∷ 39 ∷ 40 ∷ 41 ∷ 42 ∷ 43 ∷ 44 ∷ 45 ∷ 46 ∷ 47 ∷ 48 ∷ 49 ∷ 50 ∷ 51 ∷ 52 ∷ 53 ∷ 54 ∷ 55 ∷ 56 ∷ 57 ∷ 58 ∷ 59 ∷ 60 ∷ 61 ∷ 62 ∷ 63 ∷ 64 ∷ 65 ∷ []) $
         frees-all (okMove number) (keepStored (sessions) id (storedObject (sessions) (objects) id (implicitOf number 4 parent))) (storedObjects (sessions) (objects) id (implicitOf number 4 parent)) (exits (okMove number) (keepStored (sessions) id (storedObject (sessions) (objects) id (implicitOf number 4 parent))) (storedObjects (sessions) (objects) id (implicitOf number 4 parent)) ((ap (λ (k : ObjectKind). createMove k sessions objects d id number parent body) (sym e-1), ap (λ (k : ObjectKind). createdSessions k sessions objects id number parent) (sym e-1), ap (λ (k : ObjectKind). createdObjects k sessions objects id number parent) (sym e-1))) is-1·Subscriber·5 len-1·Subscriber·5-sessions len-1·Subscriber·5-objects))))))))
 
-    matched-1-DataWriter-5 : (e-1 : kind ≡ ObjectKind-DataWriter) → (good-1 : Is (ObjectKind-p .row) ObjectKind-DataWriter (ObjectKind-p .val ObjectKind-DataWriter ∷ [])) → Sq W (‵ (MutSlice (named 0) κ₁ (Array u64 6) .own (at-list b₁ o₁ γ₁ sessions) (sliceVal (b₁, o₁) n₁ ∷ [])) ∷ ‵ (flft κ₁ q₁) ∷ ‵ (MutSlice (named 0) κ₂ Object-t.the-row .own (at-list b₂ o₂ γ₂ objects) (sliceVal (b₂, o₂) n₂ ∷ [])) ∷ ‵ (flft κ₂ q₂) ∷ ‵ (ShrSlice (named 0) κ₃ u8 .own (at-list b₃ o₃ γ₃ d) (sliceVal (b₃, o₃) n₃ ∷ [])) ∷ ‵ (flft κ₃ q₃) ∷ free 𝓤 (sliceTy (tyRef erased imm (pointee (Object-t.the-row .written)))) l₂₉ (free 𝓤 (tyRef erased imm (pointee (Object-t.the-row .written))) l₂₈ (free 𝓤 (sliceTy (tyRef erased imm (pointee ((Array u64 6) .written)))) l₂₇ (free 𝓤 (tyRef erased imm (pointee ((Array u64 6) .written))) l₂₆ (free 𝓤 (sliceTy (tyRef erased imm (pointee (Object-t.the-row .written)))) l₂₅ (free 𝓤 (tyRef erased imm (pointee (Object-t.the-row .written))) l₂₄ (free 𝓤 (sliceTy (tyRef erased imm (pointee ((Array u64 6) .written)))) l₂₃ (free 𝓤 (tyRef erased imm (pointee ((Array u64 6) .written))) l₂₂ (free 𝓤 (sliceTy (tyRef erased mut (pointee (Object-t.the-row .written)))) l₂₁ (free 𝓤 (tyRef erased mut (pointee (Object-t.the-row .written))) l₂₀ (free 𝓤 (sliceTy (tyRef erased mut (pointee ((Array u64 6) .written)))) l₁₉ (free 𝓤 (tyRef erased mut (pointee ((Array u64 6) .written))) l₁₈ (free 𝓤 (sliceTy (tyRef erased mut (pointee (Object-t.the-row .written)))) l₁₇ (free 𝓤 (tyRef erased mut (pointee (Object-t.the-row .written))) l₁₆ (free 𝓤 (sliceTy (tyRef erased mut (pointee ((Array u64 6) .written)))) l₁₅ (free 𝓤 (tyRef erased mut (pointee ((Array u64 6) .written))) l₁₄ (free 𝓤 (sliceTy (tyRef erased imm (pointee (Object-t.the-row .written)))) l₁₃ (free 𝓤 (tyRef erased imm (pointee (Object-t.the-row .written))) l₁₂ (free 𝓤 (sliceTy (tyRef erased imm (pointee ((Array u64 6) .written)))) l₁₁ (free 𝓤 (tyRef erased imm (pointee ((Array u64 6) .written))) l₁₀ (free 𝓤 Move-l.mir l₉ (full 𝓤 Span-l.mir l₈ (Span-p .val body) (full 𝓤 (tyInt w16) l₇ (u16-p .val parent) (full 𝓤 ObjectKind-l.mir l₆ (ObjectKind-p .val ObjectKind-DataWriter) (full 𝓤 ObjectNumber-l.mir l₅ (ObjectNumber-p .val number) (full 𝓤 (tyInt w8) l₄ (u8-p .val id) (full 𝓤 (sliceTy (tyRef (named 2) imm (pointee (u8 .written)))) l₃ (sliceVal (b₃, o₃) n₃) (full 𝓤 (sliceTy (tyRef (named 1) mut (pointee (Object-t.the-row .written)))) l₂ (sliceVal (b₂, o₂) n₂) (full 𝓤 (sliceTy (tyRef (named 0) mut (pointee ((Array u64 6) .written)))) l₁ (sliceVal (b₁, o₁) n₁) (free 𝓤 Move-l.mir l₀ ([]))))))))))))))))))))))))))))))) (runs C Λ En (one mir.t-1) (anyQ (afterSeq 𝓤 H (Wp 𝓤 H C Λ En mir.t-2 (atReturn 𝓤 H En Post)) (atReturn 𝓤 H En Post))))
+    matched-1-DataWriter-5 : (e-1 : kind ≡ ObjectKind-DataWriter) → (good-1 : Is (ObjectKind-p .row) ObjectKind-DataWriter (ObjectKind-p .val ObjectKind-DataWriter ∷ [])) → Sq W (‵ (MutSlice (named 0) κ₁ (Array u64 8) .own (at-list b₁ o₁ γ₁ sessions) (sliceVal (b₁, o₁) n₁ ∷ [])) ∷ ‵ (flft κ₁ q₁) ∷ ‵ (MutSlice (named 0) κ₂ Object-t.the-row .own (at-list b₂ o₂ γ₂ objects) (sliceVal (b₂, o₂) n₂ ∷ [])) ∷ ‵ (flft κ₂ q₂) ∷ ‵ (ShrSlice (named 0) κ₃ u8 .own (at-list b₃ o₃ γ₃ d) (sliceVal (b₃, o₃) n₃ ∷ [])) ∷ ‵ (flft κ₃ q₃) ∷ free 𝓤 (sliceTy (tyRef erased imm (pointee (Object-t.the-row .written)))) l₂₉ (free 𝓤 (tyRef erased imm (pointee (Object-t.the-row .written))) l₂₈ (free 𝓤 (sliceTy (tyRef erased imm (pointee ((Array u64 8) .written)))) l₂₇ (free 𝓤 (tyRef erased imm (pointee ((Array u64 8) .written))) l₂₆ (free 𝓤 (sliceTy (tyRef erased imm (pointee (Object-t.the-row .written)))) l₂₅ (free 𝓤 (tyRef erased imm (pointee (Object-t.the-row .written))) l₂₄ (free 𝓤 (sliceTy (tyRef erased imm (pointee ((Array u64 8) .written)))) l₂₃ (free 𝓤 (tyRef erased imm (pointee ((Array u64 8) .written))) l₂₂ (free 𝓤 (sliceTy (tyRef erased mut (pointee (Object-t.the-row .written)))) l₂₁ (free 𝓤 (tyRef erased mut (pointee (Object-t.the-row .written))) l₂₀ (free 𝓤 (sliceTy (tyRef erased mut (pointee ((Array u64 8) .written)))) l₁₉ (free 𝓤 (tyRef erased mut (pointee ((Array u64 8) .written))) l₁₈ (free 𝓤 (sliceTy (tyRef erased mut (pointee (Object-t.the-row .written)))) l₁₇ (free 𝓤 (tyRef erased mut (pointee (Object-t.the-row .written))) l₁₆ (free 𝓤 (sliceTy (tyRef erased mut (pointee ((Array u64 8) .written)))) l₁₅ (free 𝓤 (tyRef erased mut (pointee ((Array u64 8) .written))) l₁₄ (free 𝓤 (sliceTy (tyRef erased imm (pointee (Object-t.the-row .written)))) l₁₃ (free 𝓤 (tyRef erased imm (pointee (Object-t.the-row .written))) l₁₂ (free 𝓤 (sliceTy (tyRef erased imm (pointee ((Array u64 8) .written)))) l₁₁ (free 𝓤 (tyRef erased imm (pointee ((Array u64 8) .written))) l₁₀ (free 𝓤 Move-l.mir l₉ (full 𝓤 Span-l.mir l₈ (Span-p .val body) (full 𝓤 (tyInt w16) l₇ (u16-p .val parent) (full 𝓤 ObjectKind-l.mir l₆ (ObjectKind-p .val ObjectKind-DataWriter) (full 𝓤 ObjectNumber-l.mir l₅ (ObjectNumber-p .val number) (full 𝓤 (tyInt w8) l₄ (u8-p .val id) (full 𝓤 (sliceTy (tyRef (named 2) imm (pointee (u8 .written)))) l₃ (sliceVal (b₃, o₃) n₃) (full 𝓤 (sliceTy (tyRef (named 1) mut (pointee (Object-t.the-row .written)))) l₂ (sliceVal (b₂, o₂) n₂) (full 𝓤 (sliceTy (tyRef (named 0) mut (pointee ((Array u64 8) .written)))) l₁ (sliceVal (b₁, o₁) n₁) (free 𝓤 Move-l.mir l₀ ([]))))))))))))))))))))))))))))))) (runs C Λ En (one mir.t-1) (anyQ (afterSeq 𝓤 H (Wp 𝓤 H C Λ En mir.t-2 (atReturn 𝓤 H En Post)) (atReturn 𝓤 H En Post))))
     matched-1-DataWriter-5 e-1 good-1 =
         switches-on ! (load ! (from ! (vrt ! refl (fld ! refl (stop !)))) (look-tag ! 52 (whole !))) $ exec ! C Λ En (arm-of 4 (one mir.t-1)) (anyQ (afterSeq 𝓤 H (Wp 𝓤 H C Λ En mir.t-2 (atReturn 𝓤 H En Post)) (atReturn 𝓤 H En Post))) $
         assigns ! (addr ! (from ! (fld ! refl (hop ! (look-in ! 62 (sub ! 0 refl (whole !))) (stop !))))) (from ! (stop !)) (init ! 20 refl (tt, tt)) $
@@ -350,7 +350,7 @@ module _ {M : Type 1} (𝓤 : URA M) (H : Heap 𝓤) (A : Atoms 𝓤) (W : Given
         assigns ! (addr ! (from ! (fld ! refl (hop ! (look-in ! 60 (sub ! 0 refl (whole !))) (stop !))))) (from ! (stop !)) (init ! 16 refl (tt, tt)) $
         assigns ! (agg ! (and-then ! (load ! (from ! (stop !)) (look ! 16 refl)) (and-then ! (load ! (from ! (fld ! refl (stop !))) (look-in ! 60 (sub ! 1 refl (whole !)))) (no-more !)))) (from ! (stop !)) (init ! 14 refl (tt, (tt, (record { fits = room₂ .0 }, tt)))) $
         -- 1.DataWriter.5: moves::objects::create_endpoint
-        lends-view ! tt (Array u64 6) b₁ o₁ sessions n₁ (refl) (λ ν-1·DataWriter·5-sessions δ-1·DataWriter·5-sessions.
+        lends-view ! tt (Array u64 8) b₁ o₁ sessions n₁ (refl) (λ ν-1·DataWriter·5-sessions δ-1·DataWriter·5-sessions.
         move ! (3 ∷ 4 ∷ []) $
         lends-view ! tt Object-t.the-row b₂ o₂ objects n₂ (refl) (λ ν-1·DataWriter·5-objects δ-1·DataWriter·5-objects.
         nothing ! $ move ! (1 ∷ 0 ∷ []) $ join ! $ move ! (3 ∷ 0 ∷ []) $ join ! $
@@ -361,7 +361,7 @@ module _ {M : Type 1} (𝓤 : URA M) (H : Heap 𝓤) (A : Atoms 𝓤) (W : Given
         owned ! (u8-p .row) (Is (u8-p .row)) (u8-p .makes 𝓤 H A W) id (u8-p .val id ∷ []) id-is $ fjoin ! $ move ! (2 ∷ 0 ∷ []) $ fjoin ! $ move ! (3 ∷ 0 ∷ []) $ fjoin ! $ move ! (1 ∷ 0 ∷ []) $
         calls-any-last ! fm 2 [] (objects-create-endpoint.signature .params) (objects-create-endpoint.ended .kept) Move-p (objects-create-endpoint.clauses 𝓤 H A mem run) known-objects-create-endpoint ((ν-1·DataWriter·5-sessions ∷ []), ((ν-1·DataWriter·5-objects ∷ []), tt)) (fullShare, (fullShare, tt)) tt (at-list b₁ o₁ δ-1·DataWriter·5-sessions sessions, (at-list b₂ o₂ δ-1·DataWriter·5-objects objects, (id, (number, (5, (parent, tt)))))) (sliceVal (b₁, o₁) n₁ ∷ [], (sliceVal (b₂, o₂) n₂ ∷ [], (u8-p .val id ∷ [], (ObjectNumber-p .val number ∷ [], (u8-p .val 5 ∷ [], (u16-p .val parent ∷ [], tt)))))) tt (endpointIn (sessions) (objects) id number 5 parent) (λ ws-1·DataWriter·5. Unit {0}) (id⊢ 𝓤 _) (λ r ws-1·DataWriter·5. fact-mono 𝓤 (r ≡ endpointIn (sessions) (objects) id number 5 parent) ((r ≡ (endpointIn (sessions) (objects) id number 5 parent)) × (Unit {0})) (λ e. (e, tt))) (λ _. (and-then ! (load ! (from ! (stop !)) (look ! 17 refl)) (and-then ! (load ! (from ! (stop !)) (look ! 13 refl)) (and-then ! (load ! (from ! (stop !)) (look ! 55 refl)) (and-then ! (load ! (from ! (stop !)) (look ! 53 refl)) (and-then ! (lit ! tt) (and-then ! (load ! (from ! (stop !)) (look ! 49 refl)) (no-more !)))))))) (λ ws-1·DataWriter·5 said-1·DataWriter·5 is-1·DataWriter·5.
         use1 W ((‵ (flft (ν-1·DataWriter·5-sessions ∷ []) fullShare) ⊛ (‵ (flft (ν-1·DataWriter·5-objects ∷ []) fullShare) ⊛ ‵ ftrue))) (id⊢ 𝓤 _) $ split ! $ move ! (1 ∷ []) $ split ! $ move ! (3 ∷ []) $ fsplit ! $ move ! (1 ∷ []) $ fsplit ! $ move ! (5 ∷ 7 ∷ []) $
-        backs-view ! tt (Array u64 6) b₁ o₁ sessions n₁ (refl) ν-1·DataWriter·5-sessions $ move ! (5 ∷ 7 ∷ []) $
+        backs-view ! tt (Array u64 8) b₁ o₁ sessions n₁ (refl) ν-1·DataWriter·5-sessions $ move ! (5 ∷ 7 ∷ []) $
         backs-view ! tt Object-t.the-row b₂ o₂ objects n₂ (refl) ν-1·DataWriter·5-objects $ move ! (4 ∷ []) $ drop ! $ move ! (4 ∷ []) $ drop ! $ move ! (4 ∷ []) $ drop ! $ move ! (4 ∷ []) $ drop ! $
         land-last ! (from ! (stop !)) (init ! 46 refl (Move-p .typed 𝓤 H A W (endpointIn (sessions) (objects) id number 5 parent) is-1·DataWriter·5)) $
         exec ! C Λ En mir.t-2 (atRet En Post) $
@@ -369,7 +369,7 @@ module _ {M : Type 1} (𝓤 : URA M) (H : Heap 𝓤) (A : Atoms 𝓤) (W : Given
         returns ! (look ! 64 refl) $ forget ! 14 refl $ forget ! 16 refl $ forget ! 18 refl $ forget ! 20 refl $ forget ! 46 refl $ forget ! 52 refl $ move ! (2 ∷ 3 ∷ 0 ∷ 1 ∷ 4 ∷ 5 ∷ 6 ∷ 7 ∷ 8 ∷ 9 ∷ 10 ∷ 11 ∷ 12 ∷ 13 ∷ 14 ∷ 15 ∷ 16 ∷ 17 ∷ 18 ∷ 19 ∷ 20 ∷ 21 ∷ 22 ∷ 23 ∷ 24 ∷ 25 ∷ 26 ∷ 27 ∷ 28 ∷ 29 ∷ 30 ∷ 31 ∷ 32 ∷ 33 ∷ 34 ∷ 35 ∷ 36 ∷ 37 ∷ 38 ∷ 39 ∷ 40 ∷ 41 ∷ 42 ∷ 43 ∷ 44 ∷ 45 ∷ 46 ∷ 47 ∷ 48 ∷ 49 ∷ 50 ∷ 51 ∷ 52 ∷ 53 ∷ 54 ∷ 55 ∷ 56 ∷ 57 ∷ 58 ∷ 59 ∷ 60 ∷ 61 ∷ 62 ∷ 63 ∷ 64 ∷ 65 ∷ []) $
         frees-all (endpointIn (sessions) (objects) id number 5 parent) sessions objects (exits (endpointIn (sessions) (objects) id number 5 parent) sessions objects ((ap (λ (k : ObjectKind). createMove k sessions objects d id number parent body) (sym e-1), ap (λ (k : ObjectKind). createdSessions k sessions objects id number parent) (sym e-1), ap (λ (k : ObjectKind). createdObjects k sessions objects id number parent) (sym e-1))) is-1·DataWriter·5 refl refl))))
 
-    matched-1-DataReader-6 : (e-1 : kind ≡ ObjectKind-DataReader) → (good-1 : Is (ObjectKind-p .row) ObjectKind-DataReader (ObjectKind-p .val ObjectKind-DataReader ∷ [])) → Sq W (‵ (MutSlice (named 0) κ₁ (Array u64 6) .own (at-list b₁ o₁ γ₁ sessions) (sliceVal (b₁, o₁) n₁ ∷ [])) ∷ ‵ (flft κ₁ q₁) ∷ ‵ (MutSlice (named 0) κ₂ Object-t.the-row .own (at-list b₂ o₂ γ₂ objects) (sliceVal (b₂, o₂) n₂ ∷ [])) ∷ ‵ (flft κ₂ q₂) ∷ ‵ (ShrSlice (named 0) κ₃ u8 .own (at-list b₃ o₃ γ₃ d) (sliceVal (b₃, o₃) n₃ ∷ [])) ∷ ‵ (flft κ₃ q₃) ∷ free 𝓤 (sliceTy (tyRef erased imm (pointee (Object-t.the-row .written)))) l₂₉ (free 𝓤 (tyRef erased imm (pointee (Object-t.the-row .written))) l₂₈ (free 𝓤 (sliceTy (tyRef erased imm (pointee ((Array u64 6) .written)))) l₂₇ (free 𝓤 (tyRef erased imm (pointee ((Array u64 6) .written))) l₂₆ (free 𝓤 (sliceTy (tyRef erased imm (pointee (Object-t.the-row .written)))) l₂₅ (free 𝓤 (tyRef erased imm (pointee (Object-t.the-row .written))) l₂₄ (free 𝓤 (sliceTy (tyRef erased imm (pointee ((Array u64 6) .written)))) l₂₃ (free 𝓤 (tyRef erased imm (pointee ((Array u64 6) .written))) l₂₂ (free 𝓤 (sliceTy (tyRef erased mut (pointee (Object-t.the-row .written)))) l₂₁ (free 𝓤 (tyRef erased mut (pointee (Object-t.the-row .written))) l₂₀ (free 𝓤 (sliceTy (tyRef erased mut (pointee ((Array u64 6) .written)))) l₁₉ (free 𝓤 (tyRef erased mut (pointee ((Array u64 6) .written))) l₁₈ (free 𝓤 (sliceTy (tyRef erased mut (pointee (Object-t.the-row .written)))) l₁₇ (free 𝓤 (tyRef erased mut (pointee (Object-t.the-row .written))) l₁₆ (free 𝓤 (sliceTy (tyRef erased mut (pointee ((Array u64 6) .written)))) l₁₅ (free 𝓤 (tyRef erased mut (pointee ((Array u64 6) .written))) l₁₄ (free 𝓤 (sliceTy (tyRef erased imm (pointee (Object-t.the-row .written)))) l₁₃ (free 𝓤 (tyRef erased imm (pointee (Object-t.the-row .written))) l₁₂ (free 𝓤 (sliceTy (tyRef erased imm (pointee ((Array u64 6) .written)))) l₁₁ (free 𝓤 (tyRef erased imm (pointee ((Array u64 6) .written))) l₁₀ (free 𝓤 Move-l.mir l₉ (full 𝓤 Span-l.mir l₈ (Span-p .val body) (full 𝓤 (tyInt w16) l₇ (u16-p .val parent) (full 𝓤 ObjectKind-l.mir l₆ (ObjectKind-p .val ObjectKind-DataReader) (full 𝓤 ObjectNumber-l.mir l₅ (ObjectNumber-p .val number) (full 𝓤 (tyInt w8) l₄ (u8-p .val id) (full 𝓤 (sliceTy (tyRef (named 2) imm (pointee (u8 .written)))) l₃ (sliceVal (b₃, o₃) n₃) (full 𝓤 (sliceTy (tyRef (named 1) mut (pointee (Object-t.the-row .written)))) l₂ (sliceVal (b₂, o₂) n₂) (full 𝓤 (sliceTy (tyRef (named 0) mut (pointee ((Array u64 6) .written)))) l₁ (sliceVal (b₁, o₁) n₁) (free 𝓤 Move-l.mir l₀ ([]))))))))))))))))))))))))))))))) (runs C Λ En (one mir.t-1) (anyQ (afterSeq 𝓤 H (Wp 𝓤 H C Λ En mir.t-2 (atReturn 𝓤 H En Post)) (atReturn 𝓤 H En Post))))
+    matched-1-DataReader-6 : (e-1 : kind ≡ ObjectKind-DataReader) → (good-1 : Is (ObjectKind-p .row) ObjectKind-DataReader (ObjectKind-p .val ObjectKind-DataReader ∷ [])) → Sq W (‵ (MutSlice (named 0) κ₁ (Array u64 8) .own (at-list b₁ o₁ γ₁ sessions) (sliceVal (b₁, o₁) n₁ ∷ [])) ∷ ‵ (flft κ₁ q₁) ∷ ‵ (MutSlice (named 0) κ₂ Object-t.the-row .own (at-list b₂ o₂ γ₂ objects) (sliceVal (b₂, o₂) n₂ ∷ [])) ∷ ‵ (flft κ₂ q₂) ∷ ‵ (ShrSlice (named 0) κ₃ u8 .own (at-list b₃ o₃ γ₃ d) (sliceVal (b₃, o₃) n₃ ∷ [])) ∷ ‵ (flft κ₃ q₃) ∷ free 𝓤 (sliceTy (tyRef erased imm (pointee (Object-t.the-row .written)))) l₂₉ (free 𝓤 (tyRef erased imm (pointee (Object-t.the-row .written))) l₂₈ (free 𝓤 (sliceTy (tyRef erased imm (pointee ((Array u64 8) .written)))) l₂₇ (free 𝓤 (tyRef erased imm (pointee ((Array u64 8) .written))) l₂₆ (free 𝓤 (sliceTy (tyRef erased imm (pointee (Object-t.the-row .written)))) l₂₅ (free 𝓤 (tyRef erased imm (pointee (Object-t.the-row .written))) l₂₄ (free 𝓤 (sliceTy (tyRef erased imm (pointee ((Array u64 8) .written)))) l₂₃ (free 𝓤 (tyRef erased imm (pointee ((Array u64 8) .written))) l₂₂ (free 𝓤 (sliceTy (tyRef erased mut (pointee (Object-t.the-row .written)))) l₂₁ (free 𝓤 (tyRef erased mut (pointee (Object-t.the-row .written))) l₂₀ (free 𝓤 (sliceTy (tyRef erased mut (pointee ((Array u64 8) .written)))) l₁₉ (free 𝓤 (tyRef erased mut (pointee ((Array u64 8) .written))) l₁₈ (free 𝓤 (sliceTy (tyRef erased mut (pointee (Object-t.the-row .written)))) l₁₇ (free 𝓤 (tyRef erased mut (pointee (Object-t.the-row .written))) l₁₆ (free 𝓤 (sliceTy (tyRef erased mut (pointee ((Array u64 8) .written)))) l₁₅ (free 𝓤 (tyRef erased mut (pointee ((Array u64 8) .written))) l₁₄ (free 𝓤 (sliceTy (tyRef erased imm (pointee (Object-t.the-row .written)))) l₁₃ (free 𝓤 (tyRef erased imm (pointee (Object-t.the-row .written))) l₁₂ (free 𝓤 (sliceTy (tyRef erased imm (pointee ((Array u64 8) .written)))) l₁₁ (free 𝓤 (tyRef erased imm (pointee ((Array u64 8) .written))) l₁₀ (free 𝓤 Move-l.mir l₉ (full 𝓤 Span-l.mir l₈ (Span-p .val body) (full 𝓤 (tyInt w16) l₇ (u16-p .val parent) (full 𝓤 ObjectKind-l.mir l₆ (ObjectKind-p .val ObjectKind-DataReader) (full 𝓤 ObjectNumber-l.mir l₅ (ObjectNumber-p .val number) (full 𝓤 (tyInt w8) l₄ (u8-p .val id) (full 𝓤 (sliceTy (tyRef (named 2) imm (pointee (u8 .written)))) l₃ (sliceVal (b₃, o₃) n₃) (full 𝓤 (sliceTy (tyRef (named 1) mut (pointee (Object-t.the-row .written)))) l₂ (sliceVal (b₂, o₂) n₂) (full 𝓤 (sliceTy (tyRef (named 0) mut (pointee ((Array u64 8) .written)))) l₁ (sliceVal (b₁, o₁) n₁) (free 𝓤 Move-l.mir l₀ ([]))))))))))))))))))))))))))))))) (runs C Λ En (one mir.t-1) (anyQ (afterSeq 𝓤 H (Wp 𝓤 H C Λ En mir.t-2 (atReturn 𝓤 H En Post)) (atReturn 𝓤 H En Post))))
     matched-1-DataReader-6 e-1 good-1 =
         switches-on ! (load ! (from ! (vrt ! refl (fld ! refl (stop !)))) (look-tag ! 52 (whole !))) $ exec ! C Λ En (arm-of 5 (one mir.t-1)) (anyQ (afterSeq 𝓤 H (Wp 𝓤 H C Λ En mir.t-2 (atReturn 𝓤 H En Post)) (atReturn 𝓤 H En Post))) $
         assigns ! (addr ! (from ! (fld ! refl (hop ! (look-in ! 62 (sub ! 0 refl (whole !))) (stop !))))) (from ! (stop !)) (init ! 12 refl (tt, tt)) $
@@ -377,7 +377,7 @@ module _ {M : Type 1} (𝓤 : URA M) (H : Heap 𝓤) (A : Atoms 𝓤) (W : Given
         assigns ! (addr ! (from ! (fld ! refl (hop ! (look-in ! 60 (sub ! 0 refl (whole !))) (stop !))))) (from ! (stop !)) (init ! 8 refl (tt, tt)) $
         assigns ! (agg ! (and-then ! (load ! (from ! (stop !)) (look ! 8 refl)) (and-then ! (load ! (from ! (fld ! refl (stop !))) (look-in ! 60 (sub ! 1 refl (whole !)))) (no-more !)))) (from ! (stop !)) (init ! 6 refl (tt, (tt, (record { fits = room₂ .0 }, tt)))) $
         -- 1.DataReader.5: moves::objects::create_endpoint
-        lends-view ! tt (Array u64 6) b₁ o₁ sessions n₁ (refl) (λ ν-1·DataReader·5-sessions δ-1·DataReader·5-sessions.
+        lends-view ! tt (Array u64 8) b₁ o₁ sessions n₁ (refl) (λ ν-1·DataReader·5-sessions δ-1·DataReader·5-sessions.
         move ! (3 ∷ 4 ∷ []) $
         lends-view ! tt Object-t.the-row b₂ o₂ objects n₂ (refl) (λ ν-1·DataReader·5-objects δ-1·DataReader·5-objects.
         nothing ! $ move ! (1 ∷ 0 ∷ []) $ join ! $ move ! (3 ∷ 0 ∷ []) $ join ! $
@@ -388,7 +388,7 @@ module _ {M : Type 1} (𝓤 : URA M) (H : Heap 𝓤) (A : Atoms 𝓤) (W : Given
         owned ! (u8-p .row) (Is (u8-p .row)) (u8-p .makes 𝓤 H A W) id (u8-p .val id ∷ []) id-is $ fjoin ! $ move ! (2 ∷ 0 ∷ []) $ fjoin ! $ move ! (3 ∷ 0 ∷ []) $ fjoin ! $ move ! (1 ∷ 0 ∷ []) $
         calls-any-last ! fm 2 [] (objects-create-endpoint.signature .params) (objects-create-endpoint.ended .kept) Move-p (objects-create-endpoint.clauses 𝓤 H A mem run) known-objects-create-endpoint ((ν-1·DataReader·5-sessions ∷ []), ((ν-1·DataReader·5-objects ∷ []), tt)) (fullShare, (fullShare, tt)) tt (at-list b₁ o₁ δ-1·DataReader·5-sessions sessions, (at-list b₂ o₂ δ-1·DataReader·5-objects objects, (id, (number, (6, (parent, tt)))))) (sliceVal (b₁, o₁) n₁ ∷ [], (sliceVal (b₂, o₂) n₂ ∷ [], (u8-p .val id ∷ [], (ObjectNumber-p .val number ∷ [], (u8-p .val 6 ∷ [], (u16-p .val parent ∷ [], tt)))))) tt (endpointIn (sessions) (objects) id number 6 parent) (λ ws-1·DataReader·5. Unit {0}) (id⊢ 𝓤 _) (λ r ws-1·DataReader·5. fact-mono 𝓤 (r ≡ endpointIn (sessions) (objects) id number 6 parent) ((r ≡ (endpointIn (sessions) (objects) id number 6 parent)) × (Unit {0})) (λ e. (e, tt))) (λ _. (and-then ! (load ! (from ! (stop !)) (look ! 9 refl)) (and-then ! (load ! (from ! (stop !)) (look ! 5 refl)) (and-then ! (load ! (from ! (stop !)) (look ! 55 refl)) (and-then ! (load ! (from ! (stop !)) (look ! 53 refl)) (and-then ! (lit ! tt) (and-then ! (load ! (from ! (stop !)) (look ! 49 refl)) (no-more !)))))))) (λ ws-1·DataReader·5 said-1·DataReader·5 is-1·DataReader·5.
         use1 W ((‵ (flft (ν-1·DataReader·5-sessions ∷ []) fullShare) ⊛ (‵ (flft (ν-1·DataReader·5-objects ∷ []) fullShare) ⊛ ‵ ftrue))) (id⊢ 𝓤 _) $ split ! $ move ! (1 ∷ []) $ split ! $ move ! (3 ∷ []) $ fsplit ! $ move ! (1 ∷ []) $ fsplit ! $ move ! (5 ∷ 7 ∷ []) $
-        backs-view ! tt (Array u64 6) b₁ o₁ sessions n₁ (refl) ν-1·DataReader·5-sessions $ move ! (5 ∷ 7 ∷ []) $
+        backs-view ! tt (Array u64 8) b₁ o₁ sessions n₁ (refl) ν-1·DataReader·5-sessions $ move ! (5 ∷ 7 ∷ []) $
         backs-view ! tt Object-t.the-row b₂ o₂ objects n₂ (refl) ν-1·DataReader·5-objects $ move ! (4 ∷ []) $ drop ! $ move ! (4 ∷ []) $ drop ! $ move ! (4 ∷ []) $ drop ! $ move ! (4 ∷ []) $ drop ! $
         land-last ! (from ! (stop !)) (init ! 46 refl (Move-p .typed 𝓤 H A W (endpointIn (sessions) (objects) id number 6 parent) is-1·DataReader·5)) $
         exec ! C Λ En mir.t-2 (atRet En Post) $
@@ -396,7 +396,7 @@ module _ {M : Type 1} (𝓤 : URA M) (H : Heap 𝓤) (A : Atoms 𝓤) (W : Given
         returns ! (look ! 64 refl) $ forget ! 6 refl $ forget ! 8 refl $ forget ! 10 refl $ forget ! 12 refl $ forget ! 46 refl $ forget ! 52 refl $ move ! (2 ∷ 3 ∷ 0 ∷ 1 ∷ 4 ∷ 5 ∷ 6 ∷ 7 ∷ 8 ∷ 9 ∷ 10 ∷ 11 ∷ 12 ∷ 13 ∷ 14 ∷ 15 ∷ 16 ∷ 17 ∷ 18 ∷ 19 ∷ 20 ∷ 21 ∷ 22 ∷ 23 ∷ 24 ∷ 25 ∷ 26 ∷ 27 ∷ 28 ∷ 29 ∷ 30 ∷ 31 ∷ 32 ∷ 33 ∷ 34 ∷ 35 ∷ 36 ∷ 37 ∷ 38 ∷ 39 ∷ 40 ∷ 41 ∷ 42 ∷ 43 ∷ 44 ∷ 45 ∷ 46 ∷ 47 ∷ 48 ∷ 49 ∷ 50 ∷ 51 ∷ 52 ∷ 53 ∷ 54 ∷ 55 ∷ 56 ∷ 57 ∷ 58 ∷ 59 ∷ 60 ∷ 61 ∷ 62 ∷ 63 ∷ 64 ∷ 65 ∷ []) $
         frees-all (endpointIn (sessions) (objects) id number 6 parent) sessions objects (exits (endpointIn (sessions) (objects) id number 6 parent) sessions objects ((ap (λ (k : ObjectKind). createMove k sessions objects d id number parent body) (sym e-1), ap (λ (k : ObjectKind). createdSessions k sessions objects id number parent) (sym e-1), ap (λ (k : ObjectKind). createdObjects k sessions objects id number parent) (sym e-1))) is-1·DataReader·5 refl refl))))
 
-    matched-1-0 : (z : ObjectKind) → kind ≡ z → Is (ObjectKind-p .row) z (ObjectKind-p .val z ∷ []) → Sq W (‵ (MutSlice (named 0) κ₁ (Array u64 6) .own (at-list b₁ o₁ γ₁ sessions) (sliceVal (b₁, o₁) n₁ ∷ [])) ∷ ‵ (flft κ₁ q₁) ∷ ‵ (MutSlice (named 0) κ₂ Object-t.the-row .own (at-list b₂ o₂ γ₂ objects) (sliceVal (b₂, o₂) n₂ ∷ [])) ∷ ‵ (flft κ₂ q₂) ∷ ‵ (ShrSlice (named 0) κ₃ u8 .own (at-list b₃ o₃ γ₃ d) (sliceVal (b₃, o₃) n₃ ∷ [])) ∷ ‵ (flft κ₃ q₃) ∷ free 𝓤 (sliceTy (tyRef erased imm (pointee (Object-t.the-row .written)))) l₂₉ (free 𝓤 (tyRef erased imm (pointee (Object-t.the-row .written))) l₂₈ (free 𝓤 (sliceTy (tyRef erased imm (pointee ((Array u64 6) .written)))) l₂₇ (free 𝓤 (tyRef erased imm (pointee ((Array u64 6) .written))) l₂₆ (free 𝓤 (sliceTy (tyRef erased imm (pointee (Object-t.the-row .written)))) l₂₅ (free 𝓤 (tyRef erased imm (pointee (Object-t.the-row .written))) l₂₄ (free 𝓤 (sliceTy (tyRef erased imm (pointee ((Array u64 6) .written)))) l₂₃ (free 𝓤 (tyRef erased imm (pointee ((Array u64 6) .written))) l₂₂ (free 𝓤 (sliceTy (tyRef erased mut (pointee (Object-t.the-row .written)))) l₂₁ (free 𝓤 (tyRef erased mut (pointee (Object-t.the-row .written))) l₂₀ (free 𝓤 (sliceTy (tyRef erased mut (pointee ((Array u64 6) .written)))) l₁₉ (free 𝓤 (tyRef erased mut (pointee ((Array u64 6) .written))) l₁₈ (free 𝓤 (sliceTy (tyRef erased mut (pointee (Object-t.the-row .written)))) l₁₇ (free 𝓤 (tyRef erased mut (pointee (Object-t.the-row .written))) l₁₆ (free 𝓤 (sliceTy (tyRef erased mut (pointee ((Array u64 6) .written)))) l₁₅ (free 𝓤 (tyRef erased mut (pointee ((Array u64 6) .written))) l₁₄ (free 𝓤 (sliceTy (tyRef erased imm (pointee (Object-t.the-row .written)))) l₁₃ (free 𝓤 (tyRef erased imm (pointee (Object-t.the-row .written))) l₁₂ (free 𝓤 (sliceTy (tyRef erased imm (pointee ((Array u64 6) .written)))) l₁₁ (free 𝓤 (tyRef erased imm (pointee ((Array u64 6) .written))) l₁₀ (free 𝓤 Move-l.mir l₉ (full 𝓤 Span-l.mir l₈ (Span-p .val body) (full 𝓤 (tyInt w16) l₇ (u16-p .val parent) (full 𝓤 ObjectKind-l.mir l₆ (ObjectKind-p .val z) (full 𝓤 ObjectNumber-l.mir l₅ (ObjectNumber-p .val number) (full 𝓤 (tyInt w8) l₄ (u8-p .val id) (full 𝓤 (sliceTy (tyRef (named 2) imm (pointee (u8 .written)))) l₃ (sliceVal (b₃, o₃) n₃) (full 𝓤 (sliceTy (tyRef (named 1) mut (pointee (Object-t.the-row .written)))) l₂ (sliceVal (b₂, o₂) n₂) (full 𝓤 (sliceTy (tyRef (named 0) mut (pointee ((Array u64 6) .written)))) l₁ (sliceVal (b₁, o₁) n₁) (free 𝓤 Move-l.mir l₀ ([]))))))))))))))))))))))))))))))) (runs C Λ En (one mir.t-1) (anyQ (afterSeq 𝓤 H (Wp 𝓤 H C Λ En mir.t-2 (atReturn 𝓤 H En Post)) (atReturn 𝓤 H En Post))))
+    matched-1-0 : (z : ObjectKind) → kind ≡ z → Is (ObjectKind-p .row) z (ObjectKind-p .val z ∷ []) → Sq W (‵ (MutSlice (named 0) κ₁ (Array u64 8) .own (at-list b₁ o₁ γ₁ sessions) (sliceVal (b₁, o₁) n₁ ∷ [])) ∷ ‵ (flft κ₁ q₁) ∷ ‵ (MutSlice (named 0) κ₂ Object-t.the-row .own (at-list b₂ o₂ γ₂ objects) (sliceVal (b₂, o₂) n₂ ∷ [])) ∷ ‵ (flft κ₂ q₂) ∷ ‵ (ShrSlice (named 0) κ₃ u8 .own (at-list b₃ o₃ γ₃ d) (sliceVal (b₃, o₃) n₃ ∷ [])) ∷ ‵ (flft κ₃ q₃) ∷ free 𝓤 (sliceTy (tyRef erased imm (pointee (Object-t.the-row .written)))) l₂₉ (free 𝓤 (tyRef erased imm (pointee (Object-t.the-row .written))) l₂₈ (free 𝓤 (sliceTy (tyRef erased imm (pointee ((Array u64 8) .written)))) l₂₇ (free 𝓤 (tyRef erased imm (pointee ((Array u64 8) .written))) l₂₆ (free 𝓤 (sliceTy (tyRef erased imm (pointee (Object-t.the-row .written)))) l₂₅ (free 𝓤 (tyRef erased imm (pointee (Object-t.the-row .written))) l₂₄ (free 𝓤 (sliceTy (tyRef erased imm (pointee ((Array u64 8) .written)))) l₂₃ (free 𝓤 (tyRef erased imm (pointee ((Array u64 8) .written))) l₂₂ (free 𝓤 (sliceTy (tyRef erased mut (pointee (Object-t.the-row .written)))) l₂₁ (free 𝓤 (tyRef erased mut (pointee (Object-t.the-row .written))) l₂₀ (free 𝓤 (sliceTy (tyRef erased mut (pointee ((Array u64 8) .written)))) l₁₉ (free 𝓤 (tyRef erased mut (pointee ((Array u64 8) .written))) l₁₈ (free 𝓤 (sliceTy (tyRef erased mut (pointee (Object-t.the-row .written)))) l₁₇ (free 𝓤 (tyRef erased mut (pointee (Object-t.the-row .written))) l₁₆ (free 𝓤 (sliceTy (tyRef erased mut (pointee ((Array u64 8) .written)))) l₁₅ (free 𝓤 (tyRef erased mut (pointee ((Array u64 8) .written))) l₁₄ (free 𝓤 (sliceTy (tyRef erased imm (pointee (Object-t.the-row .written)))) l₁₃ (free 𝓤 (tyRef erased imm (pointee (Object-t.the-row .written))) l₁₂ (free 𝓤 (sliceTy (tyRef erased imm (pointee ((Array u64 8) .written)))) l₁₁ (free 𝓤 (tyRef erased imm (pointee ((Array u64 8) .written))) l₁₀ (free 𝓤 Move-l.mir l₉ (full 𝓤 Span-l.mir l₈ (Span-p .val body) (full 𝓤 (tyInt w16) l₇ (u16-p .val parent) (full 𝓤 ObjectKind-l.mir l₆ (ObjectKind-p .val z) (full 𝓤 ObjectNumber-l.mir l₅ (ObjectNumber-p .val number) (full 𝓤 (tyInt w8) l₄ (u8-p .val id) (full 𝓤 (sliceTy (tyRef (named 2) imm (pointee (u8 .written)))) l₃ (sliceVal (b₃, o₃) n₃) (full 𝓤 (sliceTy (tyRef (named 1) mut (pointee (Object-t.the-row .written)))) l₂ (sliceVal (b₂, o₂) n₂) (full 𝓤 (sliceTy (tyRef (named 0) mut (pointee ((Array u64 8) .written)))) l₁ (sliceVal (b₁, o₁) n₁) (free 𝓤 Move-l.mir l₀ ([]))))))))))))))))))))))))))))))) (runs C Λ En (one mir.t-1) (anyQ (afterSeq 𝓤 H (Wp 𝓤 H C Λ En mir.t-2 (atReturn 𝓤 H En Post)) (atReturn 𝓤 H En Post))))
     matched-1-0 (ObjectKind-Participant) e-1 good-1 =
         matched-1-Participant-0 e-1 good-1
     matched-1-0 (ObjectKind-Topic) e-1 good-1 =
@@ -410,7 +410,7 @@ module _ {M : Type 1} (𝓤 : URA M) (H : Heap 𝓤) (A : Atoms 𝓤) (W : Given
     matched-1-0 (ObjectKind-DataReader) e-1 good-1 =
         matched-1-DataReader-6 e-1 good-1
 
-    begins : Sq W (‵ (MutSlice (named 0) κ₁ (Array u64 6) .own (at-list b₁ o₁ γ₁ sessions) (sliceVal (b₁, o₁) n₁ ∷ [])) ∷ ‵ (flft κ₁ q₁) ∷ ‵ (MutSlice (named 0) κ₂ Object-t.the-row .own (at-list b₂ o₂ γ₂ objects) (sliceVal (b₂, o₂) n₂ ∷ [])) ∷ ‵ (flft κ₂ q₂) ∷ ‵ (ShrSlice (named 0) κ₃ u8 .own (at-list b₃ o₃ γ₃ d) (sliceVal (b₃, o₃) n₃ ∷ [])) ∷ ‵ (flft κ₃ q₃) ∷ free 𝓤 (sliceTy (tyRef erased imm (pointee (Object-t.the-row .written)))) l₂₉ (free 𝓤 (tyRef erased imm (pointee (Object-t.the-row .written))) l₂₈ (free 𝓤 (sliceTy (tyRef erased imm (pointee ((Array u64 6) .written)))) l₂₇ (free 𝓤 (tyRef erased imm (pointee ((Array u64 6) .written))) l₂₆ (free 𝓤 (sliceTy (tyRef erased imm (pointee (Object-t.the-row .written)))) l₂₅ (free 𝓤 (tyRef erased imm (pointee (Object-t.the-row .written))) l₂₄ (free 𝓤 (sliceTy (tyRef erased imm (pointee ((Array u64 6) .written)))) l₂₃ (free 𝓤 (tyRef erased imm (pointee ((Array u64 6) .written))) l₂₂ (free 𝓤 (sliceTy (tyRef erased mut (pointee (Object-t.the-row .written)))) l₂₁ (free 𝓤 (tyRef erased mut (pointee (Object-t.the-row .written))) l₂₀ (free 𝓤 (sliceTy (tyRef erased mut (pointee ((Array u64 6) .written)))) l₁₉ (free 𝓤 (tyRef erased mut (pointee ((Array u64 6) .written))) l₁₈ (free 𝓤 (sliceTy (tyRef erased mut (pointee (Object-t.the-row .written)))) l₁₇ (free 𝓤 (tyRef erased mut (pointee (Object-t.the-row .written))) l₁₆ (free 𝓤 (sliceTy (tyRef erased mut (pointee ((Array u64 6) .written)))) l₁₅ (free 𝓤 (tyRef erased mut (pointee ((Array u64 6) .written))) l₁₄ (free 𝓤 (sliceTy (tyRef erased imm (pointee (Object-t.the-row .written)))) l₁₃ (free 𝓤 (tyRef erased imm (pointee (Object-t.the-row .written))) l₁₂ (free 𝓤 (sliceTy (tyRef erased imm (pointee ((Array u64 6) .written)))) l₁₁ (free 𝓤 (tyRef erased imm (pointee ((Array u64 6) .written))) l₁₀ (free 𝓤 Move-l.mir l₉ (full 𝓤 Span-l.mir l₈ (Span-p .val body) (full 𝓤 (tyInt w16) l₇ (u16-p .val parent) (full 𝓤 ObjectKind-l.mir l₆ (ObjectKind-p .val kind) (full 𝓤 ObjectNumber-l.mir l₅ (ObjectNumber-p .val number) (full 𝓤 (tyInt w8) l₄ (u8-p .val id) (full 𝓤 (sliceTy (tyRef (named 2) imm (pointee (u8 .written)))) l₃ (sliceVal (b₃, o₃) n₃) (full 𝓤 (sliceTy (tyRef (named 1) mut (pointee (Object-t.the-row .written)))) l₂ (sliceVal (b₂, o₂) n₂) (full 𝓤 (sliceTy (tyRef (named 0) mut (pointee ((Array u64 6) .written)))) l₁ (sliceVal (b₁, o₁) n₁) (free 𝓤 Move-l.mir l₀ ([]))))))))))))))))))))))))))))))) (runs C Λ En mir.t-1 (atRet En Post))
+    begins : Sq W (‵ (MutSlice (named 0) κ₁ (Array u64 8) .own (at-list b₁ o₁ γ₁ sessions) (sliceVal (b₁, o₁) n₁ ∷ [])) ∷ ‵ (flft κ₁ q₁) ∷ ‵ (MutSlice (named 0) κ₂ Object-t.the-row .own (at-list b₂ o₂ γ₂ objects) (sliceVal (b₂, o₂) n₂ ∷ [])) ∷ ‵ (flft κ₂ q₂) ∷ ‵ (ShrSlice (named 0) κ₃ u8 .own (at-list b₃ o₃ γ₃ d) (sliceVal (b₃, o₃) n₃ ∷ [])) ∷ ‵ (flft κ₃ q₃) ∷ free 𝓤 (sliceTy (tyRef erased imm (pointee (Object-t.the-row .written)))) l₂₉ (free 𝓤 (tyRef erased imm (pointee (Object-t.the-row .written))) l₂₈ (free 𝓤 (sliceTy (tyRef erased imm (pointee ((Array u64 8) .written)))) l₂₇ (free 𝓤 (tyRef erased imm (pointee ((Array u64 8) .written))) l₂₆ (free 𝓤 (sliceTy (tyRef erased imm (pointee (Object-t.the-row .written)))) l₂₅ (free 𝓤 (tyRef erased imm (pointee (Object-t.the-row .written))) l₂₄ (free 𝓤 (sliceTy (tyRef erased imm (pointee ((Array u64 8) .written)))) l₂₃ (free 𝓤 (tyRef erased imm (pointee ((Array u64 8) .written))) l₂₂ (free 𝓤 (sliceTy (tyRef erased mut (pointee (Object-t.the-row .written)))) l₂₁ (free 𝓤 (tyRef erased mut (pointee (Object-t.the-row .written))) l₂₀ (free 𝓤 (sliceTy (tyRef erased mut (pointee ((Array u64 8) .written)))) l₁₉ (free 𝓤 (tyRef erased mut (pointee ((Array u64 8) .written))) l₁₈ (free 𝓤 (sliceTy (tyRef erased mut (pointee (Object-t.the-row .written)))) l₁₇ (free 𝓤 (tyRef erased mut (pointee (Object-t.the-row .written))) l₁₆ (free 𝓤 (sliceTy (tyRef erased mut (pointee ((Array u64 8) .written)))) l₁₅ (free 𝓤 (tyRef erased mut (pointee ((Array u64 8) .written))) l₁₄ (free 𝓤 (sliceTy (tyRef erased imm (pointee (Object-t.the-row .written)))) l₁₃ (free 𝓤 (tyRef erased imm (pointee (Object-t.the-row .written))) l₁₂ (free 𝓤 (sliceTy (tyRef erased imm (pointee ((Array u64 8) .written)))) l₁₁ (free 𝓤 (tyRef erased imm (pointee ((Array u64 8) .written))) l₁₀ (free 𝓤 Move-l.mir l₉ (full 𝓤 Span-l.mir l₈ (Span-p .val body) (full 𝓤 (tyInt w16) l₇ (u16-p .val parent) (full 𝓤 ObjectKind-l.mir l₆ (ObjectKind-p .val kind) (full 𝓤 ObjectNumber-l.mir l₅ (ObjectNumber-p .val number) (full 𝓤 (tyInt w8) l₄ (u8-p .val id) (full 𝓤 (sliceTy (tyRef (named 2) imm (pointee (u8 .written)))) l₃ (sliceVal (b₃, o₃) n₃) (full 𝓤 (sliceTy (tyRef (named 1) mut (pointee (Object-t.the-row .written)))) l₂ (sliceVal (b₂, o₂) n₂) (full 𝓤 (sliceTy (tyRef (named 0) mut (pointee ((Array u64 8) .written)))) l₁ (sliceVal (b₁, o₁) n₁) (free 𝓤 Move-l.mir l₀ ([]))))))))))))))))))))))))))))))) (runs C Λ En mir.t-1 (atRet En Post))
     begins =
         first ! $
         matched-1-0 kind refl kind-is
@@ -418,17 +418,17 @@ module _ {M : Type 1} (𝓤 : URA M) (H : Heap 𝓤) (A : Atoms 𝓤) (W : Given
   module _ (𝓣 : Tables 𝓤 H) (known-moves-participant-move : Triple 𝓤 (𝓣 .C #moves-participant-move) (Of-moves-participant-move 𝓤 H A mem run)) (known-objects-create-topic : Triple 𝓤 (𝓣 .C #objects-create-topic) (Of-objects-create-topic 𝓤 H A mem run)) (known-objects-create-implicit : Triple 𝓤 (𝓣 .C #objects-create-implicit) (Of-objects-create-implicit 𝓤 H A mem run)) (known-objects-create-endpoint : Triple 𝓤 (𝓣 .C #objects-create-endpoint) (Of-objects-create-endpoint 𝓤 H A mem run)) where
     walk : ent 𝓤 (onEntry 𝓤 H A f.signature (κ₁, (κ₂, (κ₃, tt))) (q₁, (q₂, (q₃, tt))) x at) (WpFn 𝓤 H (𝓣 .C) (𝓣 .Λ) code.function (sliceVal (b₁, o₁) n₁ ∷ sliceVal (b₂, o₂) n₂ ∷ sliceVal (b₃, o₃) n₃ ∷ u8-p .val id ∷ ObjectNumber-p .val number ∷ ObjectKind-p .val kind ∷ u16-p .val parent ∷ Span-p .val body ∷ []) Post)
     walk =
-        qed W ((‵ (flft κ₁ q₁) ⊛ (‵ (flft κ₂ q₂) ⊛ (‵ (flft κ₃ q₃) ⊛ ‵ ftrue))) ∷ ‵ (owns (MutSlice (named 0) κ₁ (Array u64 6) ∷ MutSlice (named 1) κ₂ Object-t.the-row ∷ ShrSlice (named 2) κ₃ u8 ∷ u8-p .row ∷ ObjectNumber-p .row ∷ ObjectKind-p .row ∷ u16-p .row ∷ Span-p .row ∷ []) x at) ∷ []) ∵ enter ! (𝓣 .C) (𝓣 .Λ) code.function (sliceVal (b₁, o₁) n₁ ∷ sliceVal (b₂, o₂) n₂ ∷ sliceVal (b₃, o₃) n₃ ∷ u8-p .val id ∷ ObjectNumber-p .val number ∷ ObjectKind-p .val kind ∷ u16-p .val parent ∷ Span-p .val body ∷ []) _ $
+        qed W ((‵ (flft κ₁ q₁) ⊛ (‵ (flft κ₂ q₂) ⊛ (‵ (flft κ₃ q₃) ⊛ ‵ ftrue))) ∷ ‵ (owns (MutSlice (named 0) κ₁ (Array u64 8) ∷ MutSlice (named 1) κ₂ Object-t.the-row ∷ ShrSlice (named 2) κ₃ u8 ∷ u8-p .row ∷ ObjectNumber-p .row ∷ ObjectKind-p .row ∷ u16-p .row ∷ Span-p .row ∷ []) x at) ∷ []) ∵ enter ! (𝓣 .C) (𝓣 .Λ) code.function (sliceVal (b₁, o₁) n₁ ∷ sliceVal (b₂, o₂) n₂ ∷ sliceVal (b₃, o₃) n₃ ∷ u8-p .val id ∷ ObjectNumber-p .val number ∷ ObjectKind-p .val kind ∷ u16-p .val parent ∷ Span-p .val body ∷ []) _ $
         alloc1 ! (λ l₀. alloc1 ! (λ l₁. alloc1 ! (λ l₂. alloc1 ! (λ l₃. alloc1 ! (λ l₄. alloc1 ! (λ l₅. alloc1 ! (λ l₆. alloc1 ! (λ l₇. alloc1 ! (λ l₈. alloc1 ! (λ l₉. alloc1 ! (λ l₁₀. alloc1 ! (λ l₁₁. alloc1 ! (λ l₁₂. alloc1 ! (λ l₁₃. alloc1 ! (λ l₁₄. alloc1 ! (λ l₁₅. alloc1 ! (λ l₁₆. alloc1 ! (λ l₁₇. alloc1 ! (λ l₁₈. alloc1 ! (λ l₁₉. alloc1 ! (λ l₂₀. alloc1 ! (λ l₂₁. alloc1 ! (λ l₂₂. alloc1 ! (λ l₂₃. alloc1 ! (λ l₂₄. alloc1 ! (λ l₂₅. alloc1 ! (λ l₂₆. alloc1 ! (λ l₂₇. alloc1 ! (λ l₂₈. alloc1 ! (λ l₂₉. alloc0 ! $ params1 ! $ pass1 ! (init ! 56 refl (tt, (tt, (record { fits = room₁ .0 }, tt)))) $ pass1 ! (init ! 54 refl (tt, (tt, (record { fits = room₂ .0 }, tt)))) $ pass1 ! (init ! 52 refl (tt, (tt, (record { fits = room₃ .0 }, tt)))) $ pass1 ! (init ! 50 refl (u8-p .typed 𝓤 H A W id id-is)) $ pass1 ! (init ! 48 refl (ObjectNumber-p .typed 𝓤 H A W number number-is)) $ pass1 ! (init ! 46 refl (ObjectKind-p .typed 𝓤 H A W kind kind-is)) $ pass1 ! (init ! 44 refl (u16-p .typed 𝓤 H A W parent parent-is)) $ pass1 ! (init ! 42 refl (Span-p .typed 𝓤 H A W body body-is)) $ pass0 ! $ move ! (61 ∷ []) $ fsplit ! $ move ! (1 ∷ []) $ fsplit ! $ move ! (1 ∷ []) $ fsplit ! $ move ! (64 ∷ []) $ split ! $ move ! (1 ∷ []) $ split ! $ move ! (1 ∷ []) $ split ! $ move ! (1 ∷ []) $ drop ! $ move ! (4 ∷ []) $ drop ! $ move ! (5 ∷ 2 ∷ 4 ∷ 1 ∷ 3 ∷ 0 ∷ 6 ∷ 7 ∷ 8 ∷ 9 ∷ 10 ∷ 11 ∷ 12 ∷ 13 ∷ 14 ∷ 15 ∷ 16 ∷ 17 ∷ 18 ∷ 19 ∷ 20 ∷ 21 ∷ 22 ∷ 23 ∷ 24 ∷ 25 ∷ 26 ∷ 27 ∷ 28 ∷ 29 ∷ 30 ∷ 31 ∷ 32 ∷ 33 ∷ 34 ∷ 35 ∷ 36 ∷ 37 ∷ 38 ∷ 39 ∷ 40 ∷ 41 ∷ 42 ∷ 43 ∷ 44 ∷ 45 ∷ 46 ∷ 47 ∷ 48 ∷ 49 ∷ 50 ∷ 51 ∷ 52 ∷ 53 ∷ 54 ∷ 55 ∷ 56 ∷ 57 ∷ 58 ∷ 59 ∷ 60 ∷ 61 ∷ 62 ∷ 63 ∷ 64 ∷ 65 ∷ []) $
         begins 𝓣 known-moves-participant-move known-objects-create-topic known-objects-create-implicit known-objects-create-endpoint l₀ l₁ l₂ l₃ l₄ l₅ l₆ l₇ l₈ l₉ l₁₀ l₁₁ l₁₂ l₁₃ l₁₄ l₁₅ l₁₆ l₁₇ l₁₈ l₁₉ l₂₀ l₂₁ l₂₂ l₂₃ l₂₄ l₂₅ l₂₆ l₂₇ l₂₈ l₂₉))))))))))))))))))))))))))))))
 
 module _ {M : Type 1} (𝓤 : URA M) (H : Heap 𝓤) (A : Atoms 𝓤) (W : Given 𝓤 H A) (mem : Memory → SProp 𝓤) (run : Routine → Fun 𝓤) (𝓣 : Tables 𝓤 H) (known-moves-participant-move : Triple 𝓤 (𝓣 .C #moves-participant-move) (Of-moves-participant-move 𝓤 H A mem run)) (known-objects-create-topic : Triple 𝓤 (𝓣 .C #objects-create-topic) (Of-objects-create-topic 𝓤 H A mem run)) (known-objects-create-implicit : Triple 𝓤 (𝓣 .C #objects-create-implicit) (Of-objects-create-implicit 𝓤 H A mem run)) (known-objects-create-endpoint : Triple 𝓤 (𝓣 .C #objects-create-endpoint) (Of-objects-create-endpoint 𝓤 H A mem run)) where
   walks : Walks 𝓤 H A f.ended stayed (WpFn 𝓤 H (𝓣 .C) (𝓣 .Λ) code.function) (f.clauses 𝓤 H A mem run)
-  walks = walked 𝓤 H A f.ended stayed (f.clauses 𝓤 H A mem run) (WpFn 𝓤 H (𝓣 .C) (𝓣 .Λ) code.function) (λ κs. (slice-vals, (slice-vals, (slice-vals, ((λ y. u8-p .val y ∷ []), ((λ y. ObjectNumber-p .val y ∷ []), ((λ y. ObjectKind-p .val y ∷ []), ((λ y. u16-p .val y ∷ []), ((λ y. Span-p .val y ∷ []), tt))))))))) (λ κs. (mut-slice-tells (named 0) (κs .0) (Array u64 6), (mut-slice-tells (named 1) (κs .1 .0) Object-t.the-row, (shr-slice-tells (named 2) (κs .1 .1 .0) u8, (u8-p .tells, (ObjectNumber-p .tells, (ObjectKind-p .tells, (u16-p .tells, (Span-p .tells, tt)))))))))
+  walks = walked 𝓤 H A f.ended stayed (f.clauses 𝓤 H A mem run) (WpFn 𝓤 H (𝓣 .C) (𝓣 .Λ) code.function) (λ κs. (slice-vals, (slice-vals, (slice-vals, ((λ y. u8-p .val y ∷ []), ((λ y. ObjectNumber-p .val y ∷ []), ((λ y. ObjectKind-p .val y ∷ []), ((λ y. u16-p .val y ∷ []), ((λ y. Span-p .val y ∷ []), tt))))))))) (λ κs. (mut-slice-tells (named 0) (κs .0) (Array u64 8), (mut-slice-tells (named 1) (κs .1 .0) Object-t.the-row, (shr-slice-tells (named 2) (κs .1 .1 .0) u8, (u8-p .tells, (ObjectNumber-p .tells, (ObjectKind-p .tells, (u16-p .tells, (Span-p .tells, tt)))))))))
       (λ κs qs bounds a g are. via 𝓤 _ (fst∗ 𝓤 _ (emp 𝓤)) (walk 𝓤 H A W mem run (κs .0) (qs .0) (a .0 .ptr .0) (a .0 .ptr .1) (a .0 .name) (a .0 .now) (κs .1 .0) (qs .1 .0) (a .1 .0 .ptr .0) (a .1 .0 .ptr .1) (a .1 .0 .name) (a .1 .0 .now) (κs .1 .1 .0) (qs .1 .1 .0) (a .1 .1 .0 .ptr .0) (a .1 .1 .0 .ptr .1) (a .1 .1 .0 .name) (a .1 .1 .0 .now) (a .1 .1 .1 .0) (a .1 .1 .1 .1 .0) (a .1 .1 .1 .1 .1 .0) (a .1 .1 .1 .1 .1 .1 .0) (a .1 .1 .1 .1 .1 .1 .1 .0) (are .0 .0 .1) (are .1 .0 .0 .1) (are .1 .1 .0 .0 .1) (are .1 .1 .1 .0) (are .1 .1 .1 .1 .0) (are .1 .1 .1 .1 .1 .0) (are .1 .1 .1 .1 .1 .1 .0) (are .1 .1 .1 .1 .1 .1 .1 .0) 𝓣 known-moves-participant-move known-objects-create-topic known-objects-create-implicit known-objects-create-endpoint))
 
   meets : Meets 𝓤 H A f.signature (WpFn 𝓤 H (𝓣 .C) (𝓣 .Λ) code.function) (f.spec 𝓤 H A mem run)
-  meets = walk-meets 𝓤 H A f.ended stayed W (goes-slice 𝓤 H A W 3 0 tt (plain (λ _. (Array u64 6))), (goes-slice 𝓤 H A W 3 1 tt (plain (λ _. Object-t.the-row)), (goes-none-slice 𝓤 H A W 3 (2 ∷ []) tt (plain (λ _. u8)) yes, (goes-none 𝓤 H A W 3 (λ _. u8-p .row) yes (λ κs x f. refl), (goes-none 𝓤 H A W 3 (λ _. ObjectNumber-p .row) yes (λ κs x f. refl), (goes-none 𝓤 H A W 3 (λ _. ObjectKind-p .row) yes (λ κs x f. refl), (goes-none 𝓤 H A W 3 (λ _. u16-p .row) yes (λ κs x f. refl), (goes-none 𝓤 H A W 3 (λ _. Span-p .row) yes (λ κs x f. refl), tt)))))))) (f.clauses 𝓤 H A mem run) (WpFn 𝓤 H (𝓣 .C) (𝓣 .Λ) code.function) (WpFn-mono 𝓤 H (W .laws) 𝓣 code.function) walks
+  meets = walk-meets 𝓤 H A f.ended stayed W (goes-slice 𝓤 H A W 3 0 tt (plain (λ _. (Array u64 8))), (goes-slice 𝓤 H A W 3 1 tt (plain (λ _. Object-t.the-row)), (goes-none-slice 𝓤 H A W 3 (2 ∷ []) tt (plain (λ _. u8)) yes, (goes-none 𝓤 H A W 3 (λ _. u8-p .row) yes (λ κs x f. refl), (goes-none 𝓤 H A W 3 (λ _. ObjectNumber-p .row) yes (λ κs x f. refl), (goes-none 𝓤 H A W 3 (λ _. ObjectKind-p .row) yes (λ κs x f. refl), (goes-none 𝓤 H A W 3 (λ _. u16-p .row) yes (λ κs x f. refl), (goes-none 𝓤 H A W 3 (λ _. Span-p .row) yes (λ κs x f. refl), tt)))))))) (f.clauses 𝓤 H A mem run) (WpFn 𝓤 H (𝓣 .C) (𝓣 .Λ) code.function) (WpFn-mono 𝓤 H (W .laws) 𝓣 code.function) walks
 
 pub create-kind-spec : {M : Type 1} → stated.statement M
 unfolding code.routine tablesOf

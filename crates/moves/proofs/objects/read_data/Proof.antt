@@ -108,7 +108,7 @@ use Rattle.sessions.specs.declared.objects.Found.the-variants.{Held as Found-He
 use Rattle.codec.specs.declared.refusals.Refusal.{Refusal}
 use Rattle.codec.proofs.refusals.Refusal as Refusal-t
 use Rattle.codec.proofs.refusals.Refusal.Laws as Refusal-l
-use Rattle.codec.specs.declared.refusals.Refusal.the-variants.{BufferTooShort as Refusal-BufferTooShort, UnknownSubmessageId as Refusal-UnknownSubmessageId, UnknownObjectKind as Refusal-UnknownObjectKind, UnknownStatusCode as Refusal-UnknownStatusCode, PayloadLengthMismatch as Refusal-PayloadLengthMismatch, SessionFull as Refusal-SessionFull, FragmentSizeZero as Refusal-FragmentSizeZero, EmptyPayload as Refusal-EmptyPayload, TooManyFragments as Refusal-TooManyFragments, FragmentNumber as Refusal-FragmentNumber, MissingFragments as Refusal-MissingFragments, TooLong as Refusal-TooLong, OutputTooShort as Refusal-OutputTooShort, StoreFull as Refusal-StoreFull, OutOfTurn as Refusal-OutOfTurn, OverLimit as Refusal-OverLimit}
+use Rattle.codec.specs.declared.refusals.Refusal.the-variants.{BufferTooShort as Refusal-BufferTooShort, UnknownSubmessageId as Refusal-UnknownSubmessageId, UnknownObjectKind as Refusal-UnknownObjectKind, UnknownStatusCode as Refusal-UnknownStatusCode, PayloadLengthMismatch as Refusal-PayloadLengthMismatch, SessionFull as Refusal-SessionFull, FragmentSizeZero as Refusal-FragmentSizeZero, EmptyPayload as Refusal-EmptyPayload, TooManyFragments as Refusal-TooManyFragments, FragmentNumber as Refusal-FragmentNumber, MissingFragments as Refusal-MissingFragments, TooLong as Refusal-TooLong, OutputTooShort as Refusal-OutputTooShort, StoreFull as Refusal-StoreFull, OutOfTurn as Refusal-OutOfTurn, OverLimit as Refusal-OverLimit, NotInFragments as Refusal-NotInFragments}
 use Rattle.sessions.proofs.session_objects.find_object as session-objects-find-object
 use Rattle.sessions.proofs.session_objects.find_object.Symbol as session-objects-find-object-def
 use Rattle.sessions.proofs.session_objects.find_object.Symbol.{name as #session-objects-find-object}
@@ -179,7 +179,7 @@ abbrev Refusal-p : Plain
 Refusal-p = record { row = Refusal-t.the-row; val = EL.val Refusal-t.the-type Refusal-l.the-laws; tells = EL.tells Refusal-t.the-type Refusal-l.the-laws; makes = λ 𝓤 H A W. EL.makes Refusal-t.the-type Refusal-l.the-plain 𝓤 H A; ty = Refusal-l.mir; typed = λ 𝓤 H A W x is. EL.lawful Refusal-t.the-type Refusal-l.the-laws 𝓤 H A W tt .typed x _ is .0; copies = λ 𝓤 H A W. EL.copy Refusal-t.the-type Refusal-l.the-copy 𝓤 H A W }
 
 abbrev stayed : Stays (f.ended .signature .params) (f.ended .kept)
-stayed = (stay-slice (0 ∷ []) tt (plain (λ _. (Array u64 6))), (stay-slice (1 ∷ []) tt (plain (λ _. (Array u16 35))), (stay-none-slice (2 ∷ []) tt (plain (λ _. Object-t.the-row)) yes, (stay-none (λ _. u8-p .row) yes, (stay-none (λ _. u8-p .row) yes, (stay-none (λ _. ObjectNumber-p .row) yes, tt))))))
+stayed = (stay-slice (0 ∷ []) tt (plain (λ _. (Array u64 8))), (stay-slice (1 ∷ []) tt (plain (λ _. (Array u16 35))), (stay-none-slice (2 ∷ []) tt (plain (λ _. Object-t.the-row)) yes, (stay-none (λ _. u8-p .row) yes, (stay-none (λ _. u8-p .row) yes, (stay-none (λ _. ObjectNumber-p .row) yes, tt))))))
 
 module _ {M : Type 1} (𝓤 : URA M) (H : Heap 𝓤) (A : Atoms 𝓤) (mem : Memory → SProp 𝓤) (run : Routine → Fun 𝓤) where
   abbrev Of-session-objects-find-object : Contract 𝓤
@@ -192,7 +192,7 @@ module _ {M : Type 1} (𝓤 : URA M) (H : Heap 𝓤) (A : Atoms 𝓤) (mem : Mem
   Of-stream-moves-read-by = tripleOf 𝓤 H A stream-moves-read-by.signature (stream-moves-read-by.spec 𝓤 H A mem run)
 
 module _ {M : Type 1} (𝓤 : URA M) (H : Heap 𝓤) (A : Atoms 𝓤) (W : Given 𝓤 H A) (mem : Memory → SProp 𝓤) (run : Routine → Fun 𝓤) (κ₁ : Lft) (q₁ : Share) (b₁ o₁ : ℕ) (γ₁ : GName) (sessions : List (List ℕ)) (κ₂ : Lft) (q₂ : Share) (b₂ o₂ : ℕ) (γ₂ : GName) (streams : List (List ℕ)) (κ₃ : Lft) (q₃ : Share) (b₃ o₃ : ℕ) (γ₃ : GName) (objects : List Object) (id : ℕ) (n′ : ℕ) (number : ObjectNumber)
-    (room₁ : Room (Array u64 6) (length sessions)) (room₂ : Room (Array u16 35) (length streams)) (room₃ : Room Object-t.the-row (length objects)) (id-is : Is (u8-p .row) id (u8-p .val id ∷ [])) (n′-is : Is (u8-p .row) n′ (u8-p .val n′ ∷ [])) (number-is : Is (ObjectNumber-p .row) number (ObjectNumber-p .val number ∷ [])) where
+    (room₁ : Room (Array u64 8) (length sessions)) (room₂ : Room (Array u16 35) (length streams)) (room₃ : Room Object-t.the-row (length objects)) (id-is : Is (u8-p .row) id (u8-p .val id ∷ [])) (n′-is : Is (u8-p .row) n′ (u8-p .val n′ ∷ [])) (number-is : Is (ObjectNumber-p .row) number (ObjectNumber-p .val number ∷ [])) where
   abbrev n₁ : ℕ
   n₁ = length sessions
 
@@ -211,9 +211,9 @@ module _ {M : Type 1} (𝓤 : URA M) (H : Heap 𝓤) (A : Atoms 𝓤) (W : Given
   abbrev Post : Val → SProp 𝓤
   Post = walkOf 𝓤 H A f.ended stayed (f.clauses 𝓤 H A mem run) .post (((κ₁, (κ₂, (κ₃, tt))), (q₁, (q₂, (q₃, tt))), tt, x, at), tt)
 
-  exits : (r : Move) (ws₁ : List (List ℕ)) (ws₂ : List (List ℕ)) → ((r ≡ readMove number (foundHandle (foundObject (sessions) (objects) id number)) (sessions) (streams) id n′) × (ws₁ ≡ readSessions (foundHandle (foundObject (sessions) (objects) id number)) (sessions) (streams) id n′) × (ws₂ ≡ readRows (foundHandle (foundObject (sessions) (objects) id number)) (sessions) (streams) id n′)) → Is (Move-p .row) r (Move-p .val r ∷ []) → length ws₁ ≡ n₁ → length ws₂ ≡ n₂ → ent 𝓤 (⋆ 𝓤 H A (‵ (MutSlice (named 0) κ₁ (Array u64 6) .own (at-list b₁ o₁ γ₁ ws₁) (sliceVal (b₁, o₁) n₁ ∷ [])) ∷ ‵ (flft κ₁ q₁) ∷ ‵ (MutSlice (named 1) κ₂ (Array u16 35) .own (at-list b₂ o₂ γ₂ ws₂) (sliceVal (b₂, o₂) n₂ ∷ [])) ∷ ‵ (flft κ₂ q₂) ∷ ‵ (ShrSlice (named 2) κ₃ Object-t.the-row .own (at-list b₃ o₃ γ₃ objects) (sliceVal (b₃, o₃) n₃ ∷ [])) ∷ ‵ (flft κ₃ q₃) ∷ [])) (Post (Move-p .val r))
+  exits : (r : Move) (ws₁ : List (List ℕ)) (ws₂ : List (List ℕ)) → ((r ≡ readMove number (foundHandle (foundObject (sessions) (objects) id number)) (sessions) (streams) id n′) × (ws₁ ≡ readSessions (foundHandle (foundObject (sessions) (objects) id number)) (sessions) (streams) id n′) × (ws₂ ≡ readRows (foundHandle (foundObject (sessions) (objects) id number)) (sessions) (streams) id n′)) → Is (Move-p .row) r (Move-p .val r ∷ []) → length ws₁ ≡ n₁ → length ws₂ ≡ n₂ → ent 𝓤 (⋆ 𝓤 H A (‵ (MutSlice (named 0) κ₁ (Array u64 8) .own (at-list b₁ o₁ γ₁ ws₁) (sliceVal (b₁, o₁) n₁ ∷ [])) ∷ ‵ (flft κ₁ q₁) ∷ ‵ (MutSlice (named 1) κ₂ (Array u16 35) .own (at-list b₂ o₂ γ₂ ws₂) (sliceVal (b₂, o₂) n₂ ∷ [])) ∷ ‵ (flft κ₂ q₂) ∷ ‵ (ShrSlice (named 2) κ₃ Object-t.the-row .own (at-list b₃ o₃ γ₃ objects) (sliceVal (b₃, o₃) n₃ ∷ [])) ∷ ‵ (flft κ₃ q₃) ∷ [])) (Post (Move-p .val r))
   exits r ws₁ ws₂ said r-is len₁ len₂ =
-      qed W (‵ (MutSlice (named 0) κ₁ (Array u64 6) .own (at-list b₁ o₁ γ₁ ws₁) (sliceVal (b₁, o₁) n₁ ∷ [])) ∷ ‵ (flft κ₁ q₁) ∷ ‵ (MutSlice (named 1) κ₂ (Array u16 35) .own (at-list b₂ o₂ γ₂ ws₂) (sliceVal (b₂, o₂) n₂ ∷ [])) ∷ ‵ (flft κ₂ q₂) ∷ ‵ (ShrSlice (named 2) κ₃ Object-t.the-row .own (at-list b₃ o₃ γ₃ objects) (sliceVal (b₃, o₃) n₃ ∷ [])) ∷ ‵ (flft κ₃ q₃) ∷ []) ∵
+      qed W (‵ (MutSlice (named 0) κ₁ (Array u64 8) .own (at-list b₁ o₁ γ₁ ws₁) (sliceVal (b₁, o₁) n₁ ∷ [])) ∷ ‵ (flft κ₁ q₁) ∷ ‵ (MutSlice (named 1) κ₂ (Array u16 35) .own (at-list b₂ o₂ γ₂ ws₂) (sliceVal (b₂, o₂) n₂ ∷ [])) ∷ ‵ (flft κ₂ q₂) ∷ ‵ (ShrSlice (named 2) κ₃ Object-t.the-row .own (at-list b₃ o₃ γ₃ objects) (sliceVal (b₃, o₃) n₃ ∷ [])) ∷ ‵ (flft κ₃ q₃) ∷ []) ∵
       suffices ! _ (ends-at 𝓤 H A f.ended stayed (f.clauses 𝓤 H A mem run) W (((κ₁, (κ₂, (κ₃, tt))), (q₁, (q₂, (q₃, tt))), tt, x, at), tt) (Move-p .val r) r (ws₁, (ws₂, (tt, (tt, (tt, (tt, tt)))))) (len₁, (len₂, (tt, (tt, (tt, (tt, tt))))))) $ says ! said $ nothing ! $ move ! (6 ∷ 0 ∷ []) $ join ! $ move ! (4 ∷ 0 ∷ []) $ join ! $ move ! (2 ∷ 0 ∷ []) $ join ! $
       frame ! $ nothing ! $
       owned ! (ObjectNumber-p .row) (Is (ObjectNumber-p .row)) (ObjectNumber-p .makes 𝓤 H A W) number (ObjectNumber-p .val number ∷ []) number-is $ fjoin ! $
@@ -233,14 +233,14 @@ module _ {M : Type 1} (𝓤 : URA M) (H : Heap 𝓤) (A : Atoms 𝓤) (W : Given
     fm = fmOf 𝓤 H (W .laws) 𝓣
 
     abbrev En : Env 𝓤 H
-    En = (Move-l.mir, l₀) ∷ ((sliceTy (tyRef (named 0) mut (pointee ((Array u64 6) .written)))), l₁) ∷ ((sliceTy (tyRef (named 1) mut (pointee ((Array u16 35) .written)))), l₂) ∷ ((sliceTy (tyRef (named 2) imm (pointee (Object-t.the-row .written)))), l₃) ∷ ((tyInt w8), l₄) ∷ ((tyInt w8), l₅) ∷ (ObjectNumber-l.mir, l₆) ∷ (Found-l.mir, l₇) ∷ (ObjectHandle-l.mir, l₈) ∷ ((tyRef erased imm (pointee ((Array u64 6) .written))), l₉) ∷ ((sliceTy (tyRef erased imm (pointee ((Array u64 6) .written)))), l₁₀) ∷ ((tyRef erased mut (pointee ((Array u64 6) .written))), l₁₁) ∷ ((sliceTy (tyRef erased mut (pointee ((Array u64 6) .written)))), l₁₂) ∷ ((tyRef erased mut (pointee ((Array u16 35) .written))), l₁₃) ∷ ((sliceTy (tyRef erased mut (pointee ((Array u16 35) .written)))), l₁₄) ∷ []
+    En = (Move-l.mir, l₀) ∷ ((sliceTy (tyRef (named 0) mut (pointee ((Array u64 8) .written)))), l₁) ∷ ((sliceTy (tyRef (named 1) mut (pointee ((Array u16 35) .written)))), l₂) ∷ ((sliceTy (tyRef (named 2) imm (pointee (Object-t.the-row .written)))), l₃) ∷ ((tyInt w8), l₄) ∷ ((tyInt w8), l₅) ∷ (ObjectNumber-l.mir, l₆) ∷ (Found-l.mir, l₇) ∷ (ObjectHandle-l.mir, l₈) ∷ ((tyRef erased imm (pointee ((Array u64 8) .written))), l₉) ∷ ((sliceTy (tyRef erased imm (pointee ((Array u64 8) .written)))), l₁₀) ∷ ((tyRef erased mut (pointee ((Array u64 8) .written))), l₁₁) ∷ ((sliceTy (tyRef erased mut (pointee ((Array u64 8) .written)))), l₁₂) ∷ ((tyRef erased mut (pointee ((Array u16 35) .written))), l₁₃) ∷ ((sliceTy (tyRef erased mut (pointee ((Array u16 35) .written)))), l₁₄) ∷ []
 
-    begins : Sq W (‵ (MutSlice (named 0) κ₁ (Array u64 6) .own (at-list b₁ o₁ γ₁ sessions) (sliceVal (b₁, o₁) n₁ ∷ [])) ∷ ‵ (flft κ₁ q₁) ∷ ‵ (MutSlice (named 0) κ₂ (Array u16 35) .own (at-list b₂ o₂ γ₂ streams) (sliceVal (b₂, o₂) n₂ ∷ [])) ∷ ‵ (flft κ₂ q₂) ∷ ‵ (ShrSlice (named 0) κ₃ Object-t.the-row .own (at-list b₃ o₃ γ₃ objects) (sliceVal (b₃, o₃) n₃ ∷ [])) ∷ ‵ (flft κ₃ q₃) ∷ free 𝓤 (sliceTy (tyRef erased mut (pointee ((Array u16 35) .written)))) l₁₄ (free 𝓤 (tyRef erased mut (pointee ((Array u16 35) .written))) l₁₃ (free 𝓤 (sliceTy (tyRef erased mut (pointee ((Array u64 6) .written)))) l₁₂ (free 𝓤 (tyRef erased mut (pointee ((Array u64 6) .written))) l₁₁ (free 𝓤 (sliceTy (tyRef erased imm (pointee ((Array u64 6) .written)))) l₁₀ (free 𝓤 (tyRef erased imm (pointee ((Array u64 6) .written))) l₉ (free 𝓤 ObjectHandle-l.mir l₈ (free 𝓤 Found-l.mir l₇ (full 𝓤 ObjectNumber-l.mir l₆ (ObjectNumber-p .val number) (full 𝓤 (tyInt w8) l₅ (u8-p .val n′) (full 𝓤 (tyInt w8) l₄ (u8-p .val id) (full 𝓤 (sliceTy (tyRef (named 2) imm (pointee (Object-t.the-row .written)))) l₃ (sliceVal (b₃, o₃) n₃) (full 𝓤 (sliceTy (tyRef (named 1) mut (pointee ((Array u16 35) .written)))) l₂ (sliceVal (b₂, o₂) n₂) (full 𝓤 (sliceTy (tyRef (named 0) mut (pointee ((Array u64 6) .written)))) l₁ (sliceVal (b₁, o₁) n₁) (free 𝓤 Move-l.mir l₀ ([])))))))))))))))) (runs C Λ En mir.t-1 (atRet En Post))
+    begins : Sq W (‵ (MutSlice (named 0) κ₁ (Array u64 8) .own (at-list b₁ o₁ γ₁ sessions) (sliceVal (b₁, o₁) n₁ ∷ [])) ∷ ‵ (flft κ₁ q₁) ∷ ‵ (MutSlice (named 0) κ₂ (Array u16 35) .own (at-list b₂ o₂ γ₂ streams) (sliceVal (b₂, o₂) n₂ ∷ [])) ∷ ‵ (flft κ₂ q₂) ∷ ‵ (ShrSlice (named 0) κ₃ Object-t.the-row .own (at-list b₃ o₃ γ₃ objects) (sliceVal (b₃, o₃) n₃ ∷ [])) ∷ ‵ (flft κ₃ q₃) ∷ free 𝓤 (sliceTy (tyRef erased mut (pointee ((Array u16 35) .written)))) l₁₄ (free 𝓤 (tyRef erased mut (pointee ((Array u16 35) .written))) l₁₃ (free 𝓤 (sliceTy (tyRef erased mut (pointee ((Array u64 8) .written)))) l₁₂ (free 𝓤 (tyRef erased mut (pointee ((Array u64 8) .written))) l₁₁ (free 𝓤 (sliceTy (tyRef erased imm (pointee ((Array u64 8) .written)))) l₁₀ (free 𝓤 (tyRef erased imm (pointee ((Array u64 8) .written))) l₉ (free 𝓤 ObjectHandle-l.mir l₈ (free 𝓤 Found-l.mir l₇ (full 𝓤 ObjectNumber-l.mir l₆ (ObjectNumber-p .val number) (full 𝓤 (tyInt w8) l₅ (u8-p .val n′) (full 𝓤 (tyInt w8) l₄ (u8-p .val id) (full 𝓤 (sliceTy (tyRef (named 2) imm (pointee (Object-t.the-row .written)))) l₃ (sliceVal (b₃, o₃) n₃) (full 𝓤 (sliceTy (tyRef (named 1) mut (pointee ((Array u16 35) .written)))) l₂ (sliceVal (b₂, o₂) n₂) (full 𝓤 (sliceTy (tyRef (named 0) mut (pointee ((Array u64 8) .written)))) l₁ (sliceVal (b₁, o₁) n₁) (free 𝓤 Move-l.mir l₀ ([])))))))))))))))) (runs C Λ En mir.t-1 (atRet En Post))
     begins =
         assigns ! (addr ! (from ! (fld ! refl (hop ! (look-in ! 32 (sub ! 0 refl (whole !))) (stop !))))) (from ! (stop !)) (init ! 16 refl (tt, tt)) $
         assigns ! (agg ! (and-then ! (load ! (from ! (stop !)) (look ! 16 refl)) (and-then ! (load ! (from ! (fld ! refl (stop !))) (look-in ! 32 (sub ! 1 refl (whole !)))) (no-more !)))) (from ! (stop !)) (init ! 14 refl (tt, (tt, (record { fits = room₁ .0 }, tt)))) $
         -- 3: sessions::session_objects::find_object
-        lends-view ! tt (Array u64 6) b₁ o₁ sessions n₁ (refl) (λ ν-3-sessions δ-3-sessions.
+        lends-view ! tt (Array u64 8) b₁ o₁ sessions n₁ (refl) (λ ν-3-sessions δ-3-sessions.
         move ! (5 ∷ 6 ∷ []) $
         copies-shr ! Object-t.the-row b₃ o₃ objects n₃ $ nothing ! $ move ! (1 ∷ 0 ∷ []) $ join ! $ move ! (3 ∷ 0 ∷ []) $ join ! $
         use1 W (raw (toks 𝓤 A 2 (((ν-3-sessions ∷ []), (κ₃, tt))) ((fullShare, (q₃, tt))))) (id⊢ 𝓤 _) $ nothing ! $
@@ -248,7 +248,7 @@ module _ {M : Type 1} (𝓤 : URA M) (H : Heap 𝓤) (A : Atoms 𝓤) (W : Given
         owned ! (u8-p .row) (Is (u8-p .row)) (u8-p .makes 𝓤 H A W) id (u8-p .val id ∷ []) id-is $ fjoin ! $ move ! (2 ∷ 0 ∷ []) $ fjoin ! $ move ! (3 ∷ 0 ∷ []) $ fjoin ! $ move ! (1 ∷ 0 ∷ []) $
         calls-any ! fm 2 [] (session-objects-find-object.signature .params) (session-objects-find-object.ended .kept) Found-p (session-objects-find-object.clauses 𝓤 H A mem run) known-session-objects-find-object ((ν-3-sessions ∷ []), (κ₃, tt)) (fullShare, (q₃, tt)) tt (at-list b₁ o₁ δ-3-sessions sessions, (at-list b₃ o₃ γ₃ objects, (id, (number, tt)))) (sliceVal (b₁, o₁) n₁ ∷ [], (sliceVal (b₃, o₃) n₃ ∷ [], (u8-p .val id ∷ [], (ObjectNumber-p .val number ∷ [], tt)))) tt (foundObject (sessions) (objects) id number) (λ ws-3. Unit {0}) (id⊢ 𝓤 _) (λ r ws-3. fact-mono 𝓤 (r ≡ foundObject (sessions) (objects) id number) ((r ≡ (foundObject (sessions) (objects) id number)) × (Unit {0})) (λ e. (e, tt))) (λ _. (and-then ! (load ! (from ! (stop !)) (look ! 13 refl)) (and-then ! (load ! (from ! (stop !)) (look ! 27 refl)) (and-then ! (load ! (from ! (stop !)) (look ! 25 refl)) (and-then ! (load ! (from ! (stop !)) (look ! 21 refl)) (no-more !)))))) (λ ws-3 said-3 is-3.
         use1 W ((‵ (flft (ν-3-sessions ∷ []) fullShare) ⊛ (‵ (flft κ₃ q₃) ⊛ ‵ ftrue))) (id⊢ 𝓤 _) $ split ! $ move ! (1 ∷ []) $ split ! $ move ! (3 ∷ []) $ fsplit ! $ move ! (1 ∷ []) $ fsplit ! $ move ! (5 ∷ 7 ∷ []) $
-        backs-view ! tt (Array u64 6) b₁ o₁ sessions n₁ (refl) ν-3-sessions $ move ! (2 ∷ []) $ drop ! $ move ! (2 ∷ []) $ drop ! $ move ! (2 ∷ []) $ drop ! $ move ! (3 ∷ []) $ drop ! $
+        backs-view ! tt (Array u64 8) b₁ o₁ sessions n₁ (refl) ν-3-sessions $ move ! (2 ∷ []) $ drop ! $ move ! (2 ∷ []) $ drop ! $ move ! (2 ∷ []) $ drop ! $ move ! (3 ∷ []) $ drop ! $
         land ! (from ! (stop !)) (init ! 20 refl (Found-p .typed 𝓤 H A W (foundObject (sessions) (objects) id number) is-3)) $
         -- 4: moves::moves::found_handle
         nothing ! $
@@ -262,7 +262,7 @@ module _ {M : Type 1} (𝓤 : URA M) (H : Heap 𝓤) (A : Atoms 𝓤) (W : Given
         assigns ! (addr ! (from ! (fld ! refl (hop ! (look-in ! 30 (sub ! 0 refl (whole !))) (stop !))))) (from ! (stop !)) (init ! 8 refl (tt, tt)) $
         assigns ! (agg ! (and-then ! (load ! (from ! (stop !)) (look ! 8 refl)) (and-then ! (load ! (from ! (fld ! refl (stop !))) (look-in ! 30 (sub ! 1 refl (whole !)))) (no-more !)))) (from ! (stop !)) (init ! 6 refl (tt, (tt, (record { fits = room₂ .0 }, tt)))) $
         -- 9: moves::stream_moves::read_by
-        lends-mut ! tt (Array u64 6) b₁ o₁ sessions n₁ (refl) (λ ν-9-sessions δ-9-sessions.
+        lends-mut ! tt (Array u64 8) b₁ o₁ sessions n₁ (refl) (λ ν-9-sessions δ-9-sessions.
         move ! (5 ∷ 6 ∷ []) $
         lends-mut ! tt (Array u16 35) b₂ o₂ streams n₂ (refl) (λ ν-9-streams δ-9-streams.
         nothing ! $ move ! (1 ∷ 0 ∷ []) $ join ! $ move ! (3 ∷ 0 ∷ []) $ join ! $
@@ -277,7 +277,7 @@ module _ {M : Type 1} (𝓤 : URA M) (H : Heap 𝓤) (A : Atoms 𝓤) (W : Given
         move ! (1 ∷ []) $ fsplit ! $ fsplit ! $ move ! (1 ∷ []) $
         feqL ! (λ wlen-9-1.
         move ! (5 ∷ 7 ∷ 2 ∷ []) $
-        backs-mut ! tt (Array u64 6) b₁ o₁ sessions n₁ (refl) room₁ ν-9-sessions δ-9-sessions (ws-9 .0) (readSessions (foundHandle (foundObject (sessions) (objects) id number)) (sessions) (streams) id n′) wlen-9-0 (said-9 .0) (λ len-9-sessions.
+        backs-mut ! tt (Array u64 8) b₁ o₁ sessions n₁ (refl) room₁ ν-9-sessions δ-9-sessions (ws-9 .0) (readSessions (foundHandle (foundObject (sessions) (objects) id number)) (sessions) (streams) id n′) wlen-9-0 (said-9 .0) (λ len-9-sessions.
         move ! (4 ∷ 6 ∷ 2 ∷ []) $
         backs-mut ! tt (Array u16 35) b₂ o₂ streams n₂ (refl) room₂ ν-9-streams δ-9-streams (ws-9 .1 .0) (readRows (foundHandle (foundObject (sessions) (objects) id number)) (sessions) (streams) id n′) wlen-9-1 (said-9 .1) (λ len-9-streams.
         move ! (4 ∷ []) $ drop ! $ move ! (4 ∷ []) $ drop ! $
@@ -288,17 +288,17 @@ module _ {M : Type 1} (𝓤 : URA M) (H : Heap 𝓤) (A : Atoms 𝓤) (W : Given
   module _ (𝓣 : Tables 𝓤 H) (known-session-objects-find-object : Triple 𝓤 (𝓣 .C #session-objects-find-object) (Of-session-objects-find-object 𝓤 H A mem run)) (known-moves-found-handle : Triple 𝓤 (𝓣 .C #moves-found-handle) (Of-moves-found-handle 𝓤 H A mem run)) (known-stream-moves-read-by : Triple 𝓤 (𝓣 .C #stream-moves-read-by) (Of-stream-moves-read-by 𝓤 H A mem run)) where
     walk : ent 𝓤 (onEntry 𝓤 H A f.signature (κ₁, (κ₂, (κ₃, tt))) (q₁, (q₂, (q₃, tt))) x at) (WpFn 𝓤 H (𝓣 .C) (𝓣 .Λ) code.function (sliceVal (b₁, o₁) n₁ ∷ sliceVal (b₂, o₂) n₂ ∷ sliceVal (b₃, o₃) n₃ ∷ u8-p .val id ∷ u8-p .val n′ ∷ ObjectNumber-p .val number ∷ []) Post)
     walk =
-        qed W ((‵ (flft κ₁ q₁) ⊛ (‵ (flft κ₂ q₂) ⊛ (‵ (flft κ₃ q₃) ⊛ ‵ ftrue))) ∷ ‵ (owns (MutSlice (named 0) κ₁ (Array u64 6) ∷ MutSlice (named 1) κ₂ (Array u16 35) ∷ ShrSlice (named 2) κ₃ Object-t.the-row ∷ u8-p .row ∷ u8-p .row ∷ ObjectNumber-p .row ∷ []) x at) ∷ []) ∵ enter ! (𝓣 .C) (𝓣 .Λ) code.function (sliceVal (b₁, o₁) n₁ ∷ sliceVal (b₂, o₂) n₂ ∷ sliceVal (b₃, o₃) n₃ ∷ u8-p .val id ∷ u8-p .val n′ ∷ ObjectNumber-p .val number ∷ []) _ $
+        qed W ((‵ (flft κ₁ q₁) ⊛ (‵ (flft κ₂ q₂) ⊛ (‵ (flft κ₃ q₃) ⊛ ‵ ftrue))) ∷ ‵ (owns (MutSlice (named 0) κ₁ (Array u64 8) ∷ MutSlice (named 1) κ₂ (Array u16 35) ∷ ShrSlice (named 2) κ₃ Object-t.the-row ∷ u8-p .row ∷ u8-p .row ∷ ObjectNumber-p .row ∷ []) x at) ∷ []) ∵ enter ! (𝓣 .C) (𝓣 .Λ) code.function (sliceVal (b₁, o₁) n₁ ∷ sliceVal (b₂, o₂) n₂ ∷ sliceVal (b₃, o₃) n₃ ∷ u8-p .val id ∷ u8-p .val n′ ∷ ObjectNumber-p .val number ∷ []) _ $
         alloc1 ! (λ l₀. alloc1 ! (λ l₁. alloc1 ! (λ l₂. alloc1 ! (λ l₃. alloc1 ! (λ l₄. alloc1 ! (λ l₅. alloc1 ! (λ l₆. alloc1 ! (λ l₇. alloc1 ! (λ l₈. alloc1 ! (λ l₉. alloc1 ! (λ l₁₀. alloc1 ! (λ l₁₁. alloc1 ! (λ l₁₂. alloc1 ! (λ l₁₃. alloc1 ! (λ l₁₄. alloc0 ! $ params1 ! $ pass1 ! (init ! 26 refl (tt, (tt, (record { fits = room₁ .0 }, tt)))) $ pass1 ! (init ! 24 refl (tt, (tt, (record { fits = room₂ .0 }, tt)))) $ pass1 ! (init ! 22 refl (tt, (tt, (record { fits = room₃ .0 }, tt)))) $ pass1 ! (init ! 20 refl (u8-p .typed 𝓤 H A W id id-is)) $ pass1 ! (init ! 18 refl (u8-p .typed 𝓤 H A W n′ n′-is)) $ pass1 ! (init ! 16 refl (ObjectNumber-p .typed 𝓤 H A W number number-is)) $ pass0 ! $ move ! (31 ∷ []) $ fsplit ! $ move ! (1 ∷ []) $ fsplit ! $ move ! (1 ∷ []) $ fsplit ! $ move ! (34 ∷ []) $ split ! $ move ! (1 ∷ []) $ split ! $ move ! (1 ∷ []) $ split ! $ move ! (1 ∷ []) $ drop ! $ move ! (4 ∷ []) $ drop ! $ move ! (5 ∷ 2 ∷ 4 ∷ 1 ∷ 3 ∷ 0 ∷ 6 ∷ 7 ∷ 8 ∷ 9 ∷ 10 ∷ 11 ∷ 12 ∷ 13 ∷ 14 ∷ 15 ∷ 16 ∷ 17 ∷ 18 ∷ 19 ∷ 20 ∷ 21 ∷ 22 ∷ 23 ∷ 24 ∷ 25 ∷ 26 ∷ 27 ∷ 28 ∷ 29 ∷ 30 ∷ 31 ∷ 32 ∷ 33 ∷ 34 ∷ 35 ∷ []) $
         begins 𝓣 known-session-objects-find-object known-moves-found-handle known-stream-moves-read-by l₀ l₁ l₂ l₃ l₄ l₅ l₆ l₇ l₈ l₉ l₁₀ l₁₁ l₁₂ l₁₃ l₁₄)))))))))))))))
 
 module _ {M : Type 1} (𝓤 : URA M) (H : Heap 𝓤) (A : Atoms 𝓤) (W : Given 𝓤 H A) (mem : Memory → SProp 𝓤) (run : Routine → Fun 𝓤) (𝓣 : Tables 𝓤 H) (known-session-objects-find-object : Triple 𝓤 (𝓣 .C #session-objects-find-object) (Of-session-objects-find-object 𝓤 H A mem run)) (known-moves-found-handle : Triple 𝓤 (𝓣 .C #moves-found-handle) (Of-moves-found-handle 𝓤 H A mem run)) (known-stream-moves-read-by : Triple 𝓤 (𝓣 .C #stream-moves-read-by) (Of-stream-moves-read-by 𝓤 H A mem run)) where
   walks : Walks 𝓤 H A f.ended stayed (WpFn 𝓤 H (𝓣 .C) (𝓣 .Λ) code.function) (f.clauses 𝓤 H A mem run)
-  walks = walked 𝓤 H A f.ended stayed (f.clauses 𝓤 H A mem run) (WpFn 𝓤 H (𝓣 .C) (𝓣 .Λ) code.function) (λ κs. (slice-vals, (slice-vals, (slice-vals, ((λ y. u8-p .val y ∷ []), ((λ y. u8-p .val y ∷ []), ((λ y. ObjectNumber-p .val y ∷ []), tt))))))) (λ κs. (mut-slice-tells (named 0) (κs .0) (Array u64 6), (mut-slice-tells (named 1) (κs .1 .0) (Array u16 35), (shr-slice-tells (named 2) (κs .1 .1 .0) Object-t.the-row, (u8-p .tells, (u8-p .tells, (ObjectNumber-p .tells, tt)))))))
+  walks = walked 𝓤 H A f.ended stayed (f.clauses 𝓤 H A mem run) (WpFn 𝓤 H (𝓣 .C) (𝓣 .Λ) code.function) (λ κs. (slice-vals, (slice-vals, (slice-vals, ((λ y. u8-p .val y ∷ []), ((λ y. u8-p .val y ∷ []), ((λ y. ObjectNumber-p .val y ∷ []), tt))))))) (λ κs. (mut-slice-tells (named 0) (κs .0) (Array u64 8), (mut-slice-tells (named 1) (κs .1 .0) (Array u16 35), (shr-slice-tells (named 2) (κs .1 .1 .0) Object-t.the-row, (u8-p .tells, (u8-p .tells, (ObjectNumber-p .tells, tt)))))))
       (λ κs qs bounds a g are. via 𝓤 _ (fst∗ 𝓤 _ (emp 𝓤)) (walk 𝓤 H A W mem run (κs .0) (qs .0) (a .0 .ptr .0) (a .0 .ptr .1) (a .0 .name) (a .0 .now) (κs .1 .0) (qs .1 .0) (a .1 .0 .ptr .0) (a .1 .0 .ptr .1) (a .1 .0 .name) (a .1 .0 .now) (κs .1 .1 .0) (qs .1 .1 .0) (a .1 .1 .0 .ptr .0) (a .1 .1 .0 .ptr .1) (a .1 .1 .0 .name) (a .1 .1 .0 .now) (a .1 .1 .1 .0) (a .1 .1 .1 .1 .0) (a .1 .1 .1 .1 .1 .0) (are .0 .0 .1) (are .1 .0 .0 .1) (are .1 .1 .0 .0 .1) (are .1 .1 .1 .0) (are .1 .1 .1 .1 .0) (are .1 .1 .1 .1 .1 .0) 𝓣 known-session-objects-find-object known-moves-found-handle known-stream-moves-read-by))
 
   meets : Meets 𝓤 H A f.signature (WpFn 𝓤 H (𝓣 .C) (𝓣 .Λ) code.function) (f.spec 𝓤 H A mem run)
-  meets = walk-meets 𝓤 H A f.ended stayed W (goes-slice 𝓤 H A W 3 0 tt (plain (λ _. (Array u64 6))), (goes-slice 𝓤 H A W 3 1 tt (plain (λ _. (Array u16 35))), (goes-none-slice 𝓤 H A W 3 (2 ∷ []) tt (plain (λ _. Object-t.the-row)) yes, (goes-none 𝓤 H A W 3 (λ _. u8-p .row) yes (λ κs x f. refl), (goes-none 𝓤 H A W 3 (λ _. u8-p .row) yes (λ κs x f. refl), (goes-none 𝓤 H A W 3 (λ _. ObjectNumber-p .row) yes (λ κs x f. refl), tt)))))) (f.clauses 𝓤 H A mem run) (WpFn 𝓤 H (𝓣 .C) (𝓣 .Λ) code.function) (WpFn-mono 𝓤 H (W .laws) 𝓣 code.function) walks
+  meets = walk-meets 𝓤 H A f.ended stayed W (goes-slice 𝓤 H A W 3 0 tt (plain (λ _. (Array u64 8))), (goes-slice 𝓤 H A W 3 1 tt (plain (λ _. (Array u16 35))), (goes-none-slice 𝓤 H A W 3 (2 ∷ []) tt (plain (λ _. Object-t.the-row)) yes, (goes-none 𝓤 H A W 3 (λ _. u8-p .row) yes (λ κs x f. refl), (goes-none 𝓤 H A W 3 (λ _. u8-p .row) yes (λ κs x f. refl), (goes-none 𝓤 H A W 3 (λ _. ObjectNumber-p .row) yes (λ κs x f. refl), tt)))))) (f.clauses 𝓤 H A mem run) (WpFn 𝓤 H (𝓣 .C) (𝓣 .Λ) code.function) (WpFn-mono 𝓤 H (W .laws) 𝓣 code.function) walks
 
 pub read-data-spec : {M : Type 1} → stated.statement M
 unfolding code.routine tablesOf

@@ -10,7 +10,7 @@ use borrow.Fn.PlainCycle.{Measures, is, falls, and}
 use Rattle.replay.proofs.stores.all.Reads as all
 use Rattle.replay.proofs.stores.all.Kinds as all-kinds
 use Rattle.replay.proofs.stores.+all.Lts-all as all-lts
-use Rattle.replay.proofs.stores.lend.Reads as lend-reads
+use Rattle.replay.proofs.stores.all_parts.Reads as all-parts-reads
 use Rattle.replay.proofs.stores.+all.{statement}
 use Rattle.replay.proofs.stores.+all.Tie.{close}
 
@@ -27,32 +27,32 @@ all-at t = and 0 all-kinds.ps (is 0 all-kinds.ps μ-all t) all.Pre
 abbrev all-below : ℕ → In 0 all-kinds.ps
 all-below t = and 0 all-kinds.ps (falls 0 all-kinds.ps _<_ μ-all t) all.Pre
 
-all-slice-aggregate-lend : (t : ℕ) → all-lts.Need-slice-aggregate-lend (lend-reads.Asked, lend-reads.Learnt, all-below t, all.Post) (all-at t) all.Post
-all-slice-aggregate-lend t c = sym (length-replicate {0} {A = ℕ} 29245440 0)
+all-slice-aggregate-all-parts : (t : ℕ) → all-lts.Need-slice-aggregate-all-parts (all-parts-reads.Asked, all-parts-reads.Learnt, all-below t, all.Post) (all-at t) all.Post
+all-slice-aggregate-all-parts t c = sym (length-replicate {0} {A = ℕ} 29245440 0)
 
-all-lend-requires : (t : ℕ) → all-lts.Need-lend-requires (lend-reads.Asked, lend-reads.Learnt, all-below t, all.Post) (all-at t) all.Post
-all-lend-requires t c κs = search needs
+all-all-parts-requires : (t : ℕ) → all-lts.Need-all-parts-requires (all-parts-reads.Asked, all-parts-reads.Learnt, all-below t, all.Post) (all-at t) all.Post
+all-all-parts-requires t c κs = search needs
 
-all-returns : (t : ℕ) → all-lts.Need-returns (lend-reads.Asked, lend-reads.Learnt, all-below t, all.Post) (all-at t) all.Post
+all-returns : (t : ℕ) → all-lts.Need-returns (all-parts-reads.Asked, all-parts-reads.Learnt, all-below t, all.Post) (all-at t) all.Post
 all-returns t c = search needs
 
-all-sub-all : (t : ℕ) → all-lts.Need-sub-all (lend-reads.Asked, lend-reads.Learnt, all-below t, all.Post) (all-at t) all.Post
+all-sub-all : (t : ℕ) → all-lts.Need-sub-all (all-parts-reads.Asked, all-parts-reads.Learnt, all-below t, all.Post) (all-at t) all.Post
 all-sub-all t c = pos-of-ne-zero (c .if1 .left)
 
-all-all-requires : (t : ℕ) → all-lts.Need-all-requires (lend-reads.Asked, lend-reads.Learnt, all-below t, all.Post) (all-at t) all.Post
+all-all-requires : (t : ℕ) → all-lts.Need-all-requires (all-parts-reads.Asked, all-parts-reads.Learnt, all-below t, all.Post) (all-at t) all.Post
 all-all-requires t c κs = (subst (λ (j : ℕ). c .before .args .left - 1 < j) (c .before .pre .0) (one-less (c .before .args .left) (pos-of-ne-zero (c .if1 .left))), tt)
 
-all-slice-aggregate-lend-2 : (t : ℕ) → all-lts.Need-slice-aggregate-lend-2 (lend-reads.Asked, lend-reads.Learnt, all-below t, all.Post) (all-at t) all.Post
-all-slice-aggregate-lend-2 t c = sym (length-replicate {0} {A = ℕ} 29245440 0)
+all-slice-aggregate-all-parts-2 : (t : ℕ) → all-lts.Need-slice-aggregate-all-parts-2 (all-parts-reads.Asked, all-parts-reads.Learnt, all-below t, all.Post) (all-at t) all.Post
+all-slice-aggregate-all-parts-2 t c = sym (length-replicate {0} {A = ℕ} 29245440 0)
 
-all-lend-requires-2 : (t : ℕ) → all-lts.Need-lend-requires-2 (lend-reads.Asked, lend-reads.Learnt, all-below t, all.Post) (all-at t) all.Post
-all-lend-requires-2 t c κs = search needs
+all-all-parts-requires-2 : (t : ℕ) → all-lts.Need-all-parts-requires-2 (all-parts-reads.Asked, all-parts-reads.Learnt, all-below t, all.Post) (all-at t) all.Post
+all-all-parts-requires-2 t c κs = search needs
 
-all-returns-2 : (t : ℕ) → all-lts.Need-returns-2 (lend-reads.Asked, lend-reads.Learnt, all-below t, all.Post) (all-at t) all.Post
+all-returns-2 : (t : ℕ) → all-lts.Need-returns-2 (all-parts-reads.Asked, all-parts-reads.Learnt, all-below t, all.Post) (all-at t) all.Post
 all-returns-2 t c = search needs
 
 pub +all-spec : {M : Type 1} → statement M
 +all-spec =
     close μ-all
-    (λ t. all-lts.spec (lend-reads.Asked, lend-reads.Learnt, all-below t, all.Post) (all-at t) all.Post
-    (all-slice-aggregate-lend t) (all-lend-requires t) (all-returns t) (all-sub-all t) (all-all-requires t) (all-slice-aggregate-lend-2 t) (all-lend-requires-2 t) (all-returns-2 t))
+    (λ t. all-lts.spec (all-parts-reads.Asked, all-parts-reads.Learnt, all-below t, all.Post) (all-at t) all.Post
+    (all-slice-aggregate-all-parts t) (all-all-parts-requires t) (all-returns t) (all-sub-all t) (all-all-requires t) (all-slice-aggregate-all-parts-2 t) (all-all-parts-requires-2 t) (all-returns-2 t))

@@ -6,14 +6,14 @@ use mathlib.Core.Path.{sym}
 use Rattle.replay.proofs.stores.few.Statement.{statement}
 use Rattle.replay.proofs.stores.few.Tie as tie
 
-slice-aggregate-lend : tie.Need-slice-aggregate-lend
-slice-aggregate-lend c = sym (length-replicate {0} {A = ℕ} 3670016 0)
+slice-aggregate-few-parts : tie.Need-slice-aggregate-few-parts
+slice-aggregate-few-parts c = sym (length-replicate {0} {A = ℕ} 3670016 0)
 
-lend-requires : tie.Need-lend-requires
-lend-requires c κs = search needs
+few-parts-requires : tie.Need-few-parts-requires
+few-parts-requires c κs = search needs
 
 returns : tie.Need-returns
 returns c = search needs
 
 pub few-spec : {M : Type 1} → statement M
-few-spec = tie.close (tie.spec slice-aggregate-lend lend-requires returns)
+few-spec = tie.close (tie.spec slice-aggregate-few-parts few-parts-requires returns)

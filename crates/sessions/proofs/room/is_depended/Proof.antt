@@ -70,7 +70,7 @@ use Rattle.sessions.specs.declared.objects.Found.the-variants.{Held as F
 use Rattle.codec.specs.declared.refusals.Refusal.{Refusal}
 use Rattle.codec.proofs.refusals.Refusal as Refusal-t
 use Rattle.codec.proofs.refusals.Refusal.Laws as Refusal-l
-use Rattle.codec.specs.declared.refusals.Refusal.the-variants.{BufferTooShort as Refusal-BufferTooShort, UnknownSubmessageId as Refusal-UnknownSubmessageId, UnknownObjectKind as Refusal-UnknownObjectKind, UnknownStatusCode as Refusal-UnknownStatusCode, PayloadLengthMismatch as Refusal-PayloadLengthMismatch, SessionFull as Refusal-SessionFull, FragmentSizeZero as Refusal-FragmentSizeZero, EmptyPayload as Refusal-EmptyPayload, TooManyFragments as Refusal-TooManyFragments, FragmentNumber as Refusal-FragmentNumber, MissingFragments as Refusal-MissingFragments, TooLong as Refusal-TooLong, OutputTooShort as Refusal-OutputTooShort, StoreFull as Refusal-StoreFull, OutOfTurn as Refusal-OutOfTurn, OverLimit as Refusal-OverLimit}
+use Rattle.codec.specs.declared.refusals.Refusal.the-variants.{BufferTooShort as Refusal-BufferTooShort, UnknownSubmessageId as Refusal-UnknownSubmessageId, UnknownObjectKind as Refusal-UnknownObjectKind, UnknownStatusCode as Refusal-UnknownStatusCode, PayloadLengthMismatch as Refusal-PayloadLengthMismatch, SessionFull as Refusal-SessionFull, FragmentSizeZero as Refusal-FragmentSizeZero, EmptyPayload as Refusal-EmptyPayload, TooManyFragments as Refusal-TooManyFragments, FragmentNumber as Refusal-FragmentNumber, MissingFragments as Refusal-MissingFragments, TooLong as Refusal-TooLong, OutputTooShort as Refusal-OutputTooShort, StoreFull as Refusal-StoreFull, OutOfTurn as Refusal-OutOfTurn, OverLimit as Refusal-OverLimit, NotInFragments as Refusal-NotInFragments}
 use Rattle.sessions.proofs.session_objects.has_dependant as session-objects-has-dependant
 use Rattle.sessions.proofs.session_objects.has_dependant.Symbol as session-objects-has-dependant-def
 use Rattle.sessions.proofs.session_objects.has_dependant.Symbol.{name as #session-objects-has-dependant}
@@ -100,14 +100,14 @@ abbrev Refusal-p : Plain
 Refusal-p = record { row = Refusal-t.the-row; val = EL.val Refusal-t.the-type Refusal-l.the-laws; tells = EL.tells Refusal-t.the-type Refusal-l.the-laws; makes = λ 𝓤 H A W. EL.makes Refusal-t.the-type Refusal-l.the-plain 𝓤 H A; ty = Refusal-l.mir; typed = λ 𝓤 H A W x is. EL.lawful Refusal-t.the-type Refusal-l.the-laws 𝓤 H A W tt .typed x _ is .0; copies = λ 𝓤 H A W. EL.copy Refusal-t.the-type Refusal-l.the-copy 𝓤 H A W }
 
 abbrev stayed : Stays (f.ended .signature .params) (f.ended .kept)
-stayed = (stay-none-slice (0 ∷ []) tt (plain (λ _. (Array u64 6))) yes, (stay-none-slice (1 ∷ []) tt (plain (λ _. Object-t.the-row)) yes, (stay-none (λ _. u8-p .row) yes, (stay-none (λ _. Found-p .row) yes, tt))))
+stayed = (stay-none-slice (0 ∷ []) tt (plain (λ _. (Array u64 8))) yes, (stay-none-slice (1 ∷ []) tt (plain (λ _. Object-t.the-row)) yes, (stay-none (λ _. u8-p .row) yes, (stay-none (λ _. Found-p .row) yes, tt))))
 
 module _ {M : Type 1} (𝓤 : URA M) (H : Heap 𝓤) (A : Atoms 𝓤) (mem : Memory → SProp 𝓤) (run : Routine → Fun 𝓤) where
   abbrev Of-session-objects-has-dependant : Contract 𝓤
   Of-session-objects-has-dependant = tripleOf 𝓤 H A session-objects-has-dependant.signature (session-objects-has-dependant.spec 𝓤 H A mem run)
 
 module _ {M : Type 1} (𝓤 : URA M) (H : Heap 𝓤) (A : Atoms 𝓤) (W : Given 𝓤 H A) (mem : Memory → SProp 𝓤) (run : Routine → Fun 𝓤) (κ₁ : Lft) (q₁ : Share) (b₁ o₁ : ℕ) (γ₁ : GName) (sessions : List (List ℕ)) (κ₂ : Lft) (q₂ : Share) (b₂ o₂ : ℕ) (γ₂ : GName) (objects : List Object) (id : ℕ) (found : Found)
-    (room₁ : Room (Array u64 6) (length sessions)) (room₂ : Room Object-t.the-row (length objects)) (id-is : Is (u8-p .row) id (u8-p .val id ∷ [])) (found-is : Is (Found-p .row) found (Found-p .val found ∷ [])) where
+    (room₁ : Room (Array u64 8) (length sessions)) (room₂ : Room Object-t.the-row (length objects)) (id-is : Is (u8-p .row) id (u8-p .val id ∷ [])) (found-is : Is (Found-p .row) found (Found-p .val found ∷ [])) where
   abbrev n₁ : ℕ
   n₁ = length sessions
 
@@ -123,9 +123,9 @@ module _ {M : Type 1} (𝓤 : URA M) (H : Heap 𝓤) (A : Atoms 𝓤) (W : Given
   abbrev Post : Val → SProp 𝓤
   Post = walkOf 𝓤 H A f.ended stayed (f.clauses 𝓤 H A mem run) .post (((κ₁, (κ₂, tt)), (q₁, (q₂, tt)), tt, x, at), tt)
 
-  exits : (r : Bool) → (r ≡ dependedFound (sessions) (objects) id found) → Is (bool-p .row) r (bool-p .val r ∷ []) → ent 𝓤 (⋆ 𝓤 H A (‵ (ShrSlice (named 0) κ₁ (Array u64 6) .own (at-list b₁ o₁ γ₁ sessions) (sliceVal (b₁, o₁) n₁ ∷ [])) ∷ ‵ (flft κ₁ q₁) ∷ ‵ (ShrSlice (named 1) κ₂ Object-t.the-row .own (at-list b₂ o₂ γ₂ objects) (sliceVal (b₂, o₂) n₂ ∷ [])) ∷ ‵ (flft κ₂ q₂) ∷ [])) (Post (bool-p .val r))
+  exits : (r : Bool) → (r ≡ dependedFound (sessions) (objects) id found) → Is (bool-p .row) r (bool-p .val r ∷ []) → ent 𝓤 (⋆ 𝓤 H A (‵ (ShrSlice (named 0) κ₁ (Array u64 8) .own (at-list b₁ o₁ γ₁ sessions) (sliceVal (b₁, o₁) n₁ ∷ [])) ∷ ‵ (flft κ₁ q₁) ∷ ‵ (ShrSlice (named 1) κ₂ Object-t.the-row .own (at-list b₂ o₂ γ₂ objects) (sliceVal (b₂, o₂) n₂ ∷ [])) ∷ ‵ (flft κ₂ q₂) ∷ [])) (Post (bool-p .val r))
   exits r said r-is =
-      qed W (‵ (ShrSlice (named 0) κ₁ (Array u64 6) .own (at-list b₁ o₁ γ₁ sessions) (sliceVal (b₁, o₁) n₁ ∷ [])) ∷ ‵ (flft κ₁ q₁) ∷ ‵ (ShrSlice (named 1) κ₂ Object-t.the-row .own (at-list b₂ o₂ γ₂ objects) (sliceVal (b₂, o₂) n₂ ∷ [])) ∷ ‵ (flft κ₂ q₂) ∷ []) ∵
+      qed W (‵ (ShrSlice (named 0) κ₁ (Array u64 8) .own (at-list b₁ o₁ γ₁ sessions) (sliceVal (b₁, o₁) n₁ ∷ [])) ∷ ‵ (flft κ₁ q₁) ∷ ‵ (ShrSlice (named 1) κ₂ Object-t.the-row .own (at-list b₂ o₂ γ₂ objects) (sliceVal (b₂, o₂) n₂ ∷ [])) ∷ ‵ (flft κ₂ q₂) ∷ []) ∵
       suffices ! _ (ends-at 𝓤 H A f.ended stayed (f.clauses 𝓤 H A mem run) W (((κ₁, (κ₂, tt)), (q₁, (q₂, tt)), tt, x, at), tt) (bool-p .val r) r (tt, (tt, (tt, (tt, tt)))) (tt, (tt, (tt, (tt, tt))))) $ says ! said $ nothing ! $ move ! (4 ∷ 0 ∷ []) $ join ! $ move ! (2 ∷ 0 ∷ []) $ join ! $
       frame ! $ nothing ! $
       owned ! (Found-p .row) (Is (Found-p .row)) (Found-p .makes 𝓤 H A W) found (Found-p .val found ∷ []) found-is $ fjoin ! $
@@ -144,15 +144,15 @@ module _ {M : Type 1} (𝓤 : URA M) (H : Heap 𝓤) (A : Atoms 𝓤) (W : Given
     fm = fmOf 𝓤 H (W .laws) 𝓣
 
     abbrev En : Env 𝓤 H
-    En = (tyBool, l₀) ∷ ((sliceTy (tyRef (named 0) imm (pointee ((Array u64 6) .written)))), l₁) ∷ ((sliceTy (tyRef (named 1) imm (pointee (Object-t.the-row .written)))), l₂) ∷ ((tyInt w8), l₃) ∷ (Found-l.mir, l₄) ∷ (Object-l.mir, l₅) ∷ (tyBool, l₆) ∷ []
+    En = (tyBool, l₀) ∷ ((sliceTy (tyRef (named 0) imm (pointee ((Array u64 8) .written)))), l₁) ∷ ((sliceTy (tyRef (named 1) imm (pointee (Object-t.the-row .written)))), l₂) ∷ ((tyInt w8), l₃) ∷ (Found-l.mir, l₄) ∷ (Object-l.mir, l₅) ∷ (tyBool, l₆) ∷ []
 
-    matched-1-0 : (z : Found) → found ≡ z → Is (Found-p .row) z (Found-p .val z ∷ []) → Sq W (‵ (ShrSlice (named 0) κ₁ (Array u64 6) .own (at-list b₁ o₁ γ₁ sessions) (sliceVal (b₁, o₁) n₁ ∷ [])) ∷ ‵ (flft κ₁ q₁) ∷ ‵ (ShrSlice (named 0) κ₂ Object-t.the-row .own (at-list b₂ o₂ γ₂ objects) (sliceVal (b₂, o₂) n₂ ∷ [])) ∷ ‵ (flft κ₂ q₂) ∷ free 𝓤 tyBool l₆ (free 𝓤 Object-l.mir l₅ (full 𝓤 Found-l.mir l₄ (Found-p .val z) (full 𝓤 (tyInt w8) l₃ (u8-p .val id) (full 𝓤 (sliceTy (tyRef (named 1) imm (pointee (Object-t.the-row .written)))) l₂ (sliceVal (b₂, o₂) n₂) (full 𝓤 (sliceTy (tyRef (named 0) imm (pointee ((Array u64 6) .written)))) l₁ (sliceVal (b₁, o₁) n₁) (free 𝓤 tyBool l₀ ([])))))))) (runs C Λ En (one mir.t-1) (anyQ (afterSeq 𝓤 H (Wp 𝓤 H C Λ En mir.t-2 (atReturn 𝓤 H En Post)) (atReturn 𝓤 H En Post))))
+    matched-1-0 : (z : Found) → found ≡ z → Is (Found-p .row) z (Found-p .val z ∷ []) → Sq W (‵ (ShrSlice (named 0) κ₁ (Array u64 8) .own (at-list b₁ o₁ γ₁ sessions) (sliceVal (b₁, o₁) n₁ ∷ [])) ∷ ‵ (flft κ₁ q₁) ∷ ‵ (ShrSlice (named 0) κ₂ Object-t.the-row .own (at-list b₂ o₂ γ₂ objects) (sliceVal (b₂, o₂) n₂ ∷ [])) ∷ ‵ (flft κ₂ q₂) ∷ free 𝓤 tyBool l₆ (free 𝓤 Object-l.mir l₅ (full 𝓤 Found-l.mir l₄ (Found-p .val z) (full 𝓤 (tyInt w8) l₃ (u8-p .val id) (full 𝓤 (sliceTy (tyRef (named 1) imm (pointee (Object-t.the-row .written)))) l₂ (sliceVal (b₂, o₂) n₂) (full 𝓤 (sliceTy (tyRef (named 0) imm (pointee ((Array u64 8) .written)))) l₁ (sliceVal (b₁, o₁) n₁) (free 𝓤 tyBool l₀ ([])))))))) (runs C Λ En (one mir.t-1) (anyQ (afterSeq 𝓤 H (Wp 𝓤 H C Λ En mir.t-2 (atReturn 𝓤 H En Post)) (atReturn 𝓤 H En Post))))
     matched-1-0 (Found-Held o) e-1 good-1 =
         knows ! (Is (Object-p .row) o (Object-p .val o ∷ [])) (EL.owed Found-t.the-type Found-l.the-laws (Found-Held o) _ good-1 .0) (λ o-is.
         switches-on ! (load ! (from ! (vrt ! refl (fld ! refl (stop !)))) (look-tag ! 8 (whole !))) $ exec ! C Λ En (arm-of 0 (one mir.t-1)) (anyQ (afterSeq 𝓤 H (Wp 𝓤 H C Λ En mir.t-2 (atReturn 𝓤 H En Post)) (atReturn 𝓤 H En Post))) $
         assigns ! (of-opd ! (load ! (from ! (vrt ! refl (fld ! refl (stop !)))) (look-in ! 8 (in-variant ! 0 0 refl refl (whole !))))) (from ! (stop !)) (init ! 6 refl (Object-p .typed 𝓤 H A W o o-is)) $
         -- 1.Held.2: sessions::session_objects::has_dependant
-        copies-shr ! (Array u64 6) b₁ o₁ sessions n₁ $ move ! (3 ∷ 4 ∷ []) $
+        copies-shr ! (Array u64 8) b₁ o₁ sessions n₁ $ move ! (3 ∷ 4 ∷ []) $
         copies-shr ! Object-t.the-row b₂ o₂ objects n₂ $ nothing ! $ move ! (1 ∷ 0 ∷ []) $ join ! $ move ! (3 ∷ 0 ∷ []) $ join ! $
         use1 W (raw (toks 𝓤 A 2 ((κ₁, (κ₂, tt))) ((q₁, (q₂, tt))))) (id⊢ 𝓤 _) $ nothing ! $
         owned ! (Object-p .row) (Is (Object-p .row)) (Object-p .makes 𝓤 H A W) o (Object-p .val o ∷ []) o-is $ fjoin ! $
@@ -180,7 +180,7 @@ module _ {M : Type 1} (𝓤 : URA M) (H : Heap 𝓤) (A : Atoms 𝓤) (W : Given
         returns ! (look ! 16 refl) $ forget ! 4 refl $ forget ! 8 refl $ forget ! 10 refl $ forget ! 12 refl $ forget ! 14 refl $ forget ! 16 refl $ move ! (16 ∷ 17 ∷ []) $ free1 ! $ move ! (14 ∷ 15 ∷ []) $ free1 ! $ move ! (12 ∷ 13 ∷ []) $ free1 ! $ move ! (10 ∷ 11 ∷ []) $ free1 ! $ move ! (8 ∷ 9 ∷ []) $ free1 ! $ move ! (6 ∷ 7 ∷ []) $ free1 ! $ move ! (4 ∷ 5 ∷ []) $ free1 ! $ free0 ! $
         by ! (exits false (ap (dependedFound sessions objects id) (sym e-1)) refl))
 
-    begins : Sq W (‵ (ShrSlice (named 0) κ₁ (Array u64 6) .own (at-list b₁ o₁ γ₁ sessions) (sliceVal (b₁, o₁) n₁ ∷ [])) ∷ ‵ (flft κ₁ q₁) ∷ ‵ (ShrSlice (named 0) κ₂ Object-t.the-row .own (at-list b₂ o₂ γ₂ objects) (sliceVal (b₂, o₂) n₂ ∷ [])) ∷ ‵ (flft κ₂ q₂) ∷ free 𝓤 tyBool l₆ (free 𝓤 Object-l.mir l₅ (full 𝓤 Found-l.mir l₄ (Found-p .val found) (full 𝓤 (tyInt w8) l₃ (u8-p .val id) (full 𝓤 (sliceTy (tyRef (named 1) imm (pointee (Object-t.the-row .written)))) l₂ (sliceVal (b₂, o₂) n₂) (full 𝓤 (sliceTy (tyRef (named 0) imm (pointee ((Array u64 6) .written)))) l₁ (sliceVal (b₁, o₁) n₁) (free 𝓤 tyBool l₀ ([])))))))) (runs C Λ En mir.t-1 (atRet En Post))
+    begins : Sq W (‵ (ShrSlice (named 0) κ₁ (Array u64 8) .own (at-list b₁ o₁ γ₁ sessions) (sliceVal (b₁, o₁) n₁ ∷ [])) ∷ ‵ (flft κ₁ q₁) ∷ ‵ (ShrSlice (named 0) κ₂ Object-t.the-row .own (at-list b₂ o₂ γ₂ objects) (sliceVal (b₂, o₂) n₂ ∷ [])) ∷ ‵ (flft κ₂ q₂) ∷ free 𝓤 tyBool l₆ (free 𝓤 Object-l.mir l₅ (full 𝓤 Found-l.mir l₄ (Found-p .val found) (full 𝓤 (tyInt w8) l₃ (u8-p .val id) (full 𝓤 (sliceTy (tyRef (named 1) imm (pointee (Object-t.the-row .written)))) l₂ (sliceVal (b₂, o₂) n₂) (full 𝓤 (sliceTy (tyRef (named 0) imm (pointee ((Array u64 8) .written)))) l₁ (sliceVal (b₁, o₁) n₁) (free 𝓤 tyBool l₀ ([])))))))) (runs C Λ En mir.t-1 (atRet En Post))
     begins =
         first ! $
         matched-1-0 found refl found-is
@@ -188,17 +188,17 @@ module _ {M : Type 1} (𝓤 : URA M) (H : Heap 𝓤) (A : Atoms 𝓤) (W : Given
   module _ (𝓣 : Tables 𝓤 H) (known-session-objects-has-dependant : Triple 𝓤 (𝓣 .C #session-objects-has-dependant) (Of-session-objects-has-dependant 𝓤 H A mem run)) where
     walk : ent 𝓤 (onEntry 𝓤 H A f.signature (κ₁, (κ₂, tt)) (q₁, (q₂, tt)) x at) (WpFn 𝓤 H (𝓣 .C) (𝓣 .Λ) code.function (sliceVal (b₁, o₁) n₁ ∷ sliceVal (b₂, o₂) n₂ ∷ u8-p .val id ∷ Found-p .val found ∷ []) Post)
     walk =
-        qed W ((‵ (flft κ₁ q₁) ⊛ (‵ (flft κ₂ q₂) ⊛ ‵ ftrue)) ∷ ‵ (owns (ShrSlice (named 0) κ₁ (Array u64 6) ∷ ShrSlice (named 1) κ₂ Object-t.the-row ∷ u8-p .row ∷ Found-p .row ∷ []) x at) ∷ []) ∵ enter ! (𝓣 .C) (𝓣 .Λ) code.function (sliceVal (b₁, o₁) n₁ ∷ sliceVal (b₂, o₂) n₂ ∷ u8-p .val id ∷ Found-p .val found ∷ []) _ $
+        qed W ((‵ (flft κ₁ q₁) ⊛ (‵ (flft κ₂ q₂) ⊛ ‵ ftrue)) ∷ ‵ (owns (ShrSlice (named 0) κ₁ (Array u64 8) ∷ ShrSlice (named 1) κ₂ Object-t.the-row ∷ u8-p .row ∷ Found-p .row ∷ []) x at) ∷ []) ∵ enter ! (𝓣 .C) (𝓣 .Λ) code.function (sliceVal (b₁, o₁) n₁ ∷ sliceVal (b₂, o₂) n₂ ∷ u8-p .val id ∷ Found-p .val found ∷ []) _ $
         alloc1 ! (λ l₀. alloc1 ! (λ l₁. alloc1 ! (λ l₂. alloc1 ! (λ l₃. alloc1 ! (λ l₄. alloc1 ! (λ l₅. alloc1 ! (λ l₆. alloc0 ! $ params1 ! $ pass1 ! (init ! 10 refl (tt, (tt, (record { fits = room₁ .0 }, tt)))) $ pass1 ! (init ! 8 refl (tt, (tt, (record { fits = room₂ .0 }, tt)))) $ pass1 ! (init ! 6 refl (u8-p .typed 𝓤 H A W id id-is)) $ pass1 ! (init ! 4 refl (Found-p .typed 𝓤 H A W found found-is)) $ pass0 ! $ move ! (15 ∷ []) $ fsplit ! $ move ! (1 ∷ []) $ fsplit ! $ move ! (17 ∷ []) $ split ! $ move ! (1 ∷ []) $ split ! $ move ! (1 ∷ []) $ drop ! $ move ! (3 ∷ []) $ drop ! $ move ! (3 ∷ 1 ∷ 2 ∷ 0 ∷ 4 ∷ 5 ∷ 6 ∷ 7 ∷ 8 ∷ 9 ∷ 10 ∷ 11 ∷ 12 ∷ 13 ∷ 14 ∷ 15 ∷ 16 ∷ 17 ∷ []) $
         begins 𝓣 known-session-objects-has-dependant l₀ l₁ l₂ l₃ l₄ l₅ l₆)))))))
 
 module _ {M : Type 1} (𝓤 : URA M) (H : Heap 𝓤) (A : Atoms 𝓤) (W : Given 𝓤 H A) (mem : Memory → SProp 𝓤) (run : Routine → Fun 𝓤) (𝓣 : Tables 𝓤 H) (known-session-objects-has-dependant : Triple 𝓤 (𝓣 .C #session-objects-has-dependant) (Of-session-objects-has-dependant 𝓤 H A mem run)) where
   walks : Walks 𝓤 H A f.ended stayed (WpFn 𝓤 H (𝓣 .C) (𝓣 .Λ) code.function) (f.clauses 𝓤 H A mem run)
-  walks = walked 𝓤 H A f.ended stayed (f.clauses 𝓤 H A mem run) (WpFn 𝓤 H (𝓣 .C) (𝓣 .Λ) code.function) (λ κs. (slice-vals, (slice-vals, ((λ y. u8-p .val y ∷ []), ((λ y. Found-p .val y ∷ []), tt))))) (λ κs. (shr-slice-tells (named 0) (κs .0) (Array u64 6), (shr-slice-tells (named 1) (κs .1 .0) Object-t.the-row, (u8-p .tells, (Found-p .tells, tt)))))
+  walks = walked 𝓤 H A f.ended stayed (f.clauses 𝓤 H A mem run) (WpFn 𝓤 H (𝓣 .C) (𝓣 .Λ) code.function) (λ κs. (slice-vals, (slice-vals, ((λ y. u8-p .val y ∷ []), ((λ y. Found-p .val y ∷ []), tt))))) (λ κs. (shr-slice-tells (named 0) (κs .0) (Array u64 8), (shr-slice-tells (named 1) (κs .1 .0) Object-t.the-row, (u8-p .tells, (Found-p .tells, tt)))))
       (λ κs qs bounds a g are. via 𝓤 _ (fst∗ 𝓤 _ (emp 𝓤)) (walk 𝓤 H A W mem run (κs .0) (qs .0) (a .0 .ptr .0) (a .0 .ptr .1) (a .0 .name) (a .0 .now) (κs .1 .0) (qs .1 .0) (a .1 .0 .ptr .0) (a .1 .0 .ptr .1) (a .1 .0 .name) (a .1 .0 .now) (a .1 .1 .0) (a .1 .1 .1 .0) (are .0 .0 .1) (are .1 .0 .0 .1) (are .1 .1 .0) (are .1 .1 .1 .0) 𝓣 known-session-objects-has-dependant))
 
   meets : Meets 𝓤 H A f.signature (WpFn 𝓤 H (𝓣 .C) (𝓣 .Λ) code.function) (f.spec 𝓤 H A mem run)
-  meets = walk-meets 𝓤 H A f.ended stayed W (goes-none-slice 𝓤 H A W 2 (0 ∷ []) tt (plain (λ _. (Array u64 6))) yes, (goes-none-slice 𝓤 H A W 2 (1 ∷ []) tt (plain (λ _. Object-t.the-row)) yes, (goes-none 𝓤 H A W 2 (λ _. u8-p .row) yes (λ κs x f. refl), (goes-none 𝓤 H A W 2 (λ _. Found-p .row) yes (λ κs x f. refl), tt)))) (f.clauses 𝓤 H A mem run) (WpFn 𝓤 H (𝓣 .C) (𝓣 .Λ) code.function) (WpFn-mono 𝓤 H (W .laws) 𝓣 code.function) walks
+  meets = walk-meets 𝓤 H A f.ended stayed W (goes-none-slice 𝓤 H A W 2 (0 ∷ []) tt (plain (λ _. (Array u64 8))) yes, (goes-none-slice 𝓤 H A W 2 (1 ∷ []) tt (plain (λ _. Object-t.the-row)) yes, (goes-none 𝓤 H A W 2 (λ _. u8-p .row) yes (λ κs x f. refl), (goes-none 𝓤 H A W 2 (λ _. Found-p .row) yes (λ κs x f. refl), tt)))) (f.clauses 𝓤 H A mem run) (WpFn 𝓤 H (𝓣 .C) (𝓣 .Λ) code.function) (WpFn-mono 𝓤 H (W .laws) 𝓣 code.function) walks
 
 pub is-depended-spec : {M : Type 1} → stated.statement M
 unfolding code.routine tablesOf

@@ -70,7 +70,7 @@ use Rattle.sessions.specs.declared.objects.Stored.the-variants.{Count as
 use Rattle.codec.specs.declared.refusals.Refusal.{Refusal}
 use Rattle.codec.proofs.refusals.Refusal as Refusal-t
 use Rattle.codec.proofs.refusals.Refusal.Laws as Refusal-l
-use Rattle.codec.specs.declared.refusals.Refusal.the-variants.{BufferTooShort as Refusal-BufferTooShort, UnknownSubmessageId as Refusal-UnknownSubmessageId, UnknownObjectKind as Refusal-UnknownObjectKind, UnknownStatusCode as Refusal-UnknownStatusCode, PayloadLengthMismatch as Refusal-PayloadLengthMismatch, SessionFull as Refusal-SessionFull, FragmentSizeZero as Refusal-FragmentSizeZero, EmptyPayload as Refusal-EmptyPayload, TooManyFragments as Refusal-TooManyFragments, FragmentNumber as Refusal-FragmentNumber, MissingFragments as Refusal-MissingFragments, TooLong as Refusal-TooLong, OutputTooShort as Refusal-OutputTooShort, StoreFull as Refusal-StoreFull, OutOfTurn as Refusal-OutOfTurn, OverLimit as Refusal-OverLimit}
+use Rattle.codec.specs.declared.refusals.Refusal.the-variants.{BufferTooShort as Refusal-BufferTooShort, UnknownSubmessageId as Refusal-UnknownSubmessageId, UnknownObjectKind as Refusal-UnknownObjectKind, UnknownStatusCode as Refusal-UnknownStatusCode, PayloadLengthMismatch as Refusal-PayloadLengthMismatch, SessionFull as Refusal-SessionFull, FragmentSizeZero as Refusal-FragmentSizeZero, EmptyPayload as Refusal-EmptyPayload, TooManyFragments as Refusal-TooManyFragments, FragmentNumber as Refusal-FragmentNumber, MissingFragments as Refusal-MissingFragments, TooLong as Refusal-TooLong, OutputTooShort as Refusal-OutputTooShort, StoreFull as Refusal-StoreFull, OutOfTurn as Refusal-OutOfTurn, OverLimit as Refusal-OverLimit, NotInFragments as Refusal-NotInFragments}
 use Rattle.sessions.specs.declared.table.Named.{Named}
 use Rattle.sessions.proofs.table.Named as Named-t
 use Rattle.sessions.proofs.table.Named.Laws as Named-l
@@ -127,7 +127,7 @@ abbrev Named-p : Plain
 Named-p = record { row = Named-t.the-row; val = EL.val Named-t.the-type Named-l.the-laws; tells = EL.tells Named-t.the-type Named-l.the-laws; makes = λ 𝓤 H A W. EL.makes Named-t.the-type Named-l.the-plain 𝓤 H A; ty = Named-l.mir; typed = λ 𝓤 H A W x is. EL.lawful Named-t.the-type Named-l.the-laws 𝓤 H A W tt .typed x _ is .0; copies = λ 𝓤 H A W. EL.copy Named-t.the-type Named-l.the-copy 𝓤 H A W }
 
 abbrev stayed : Stays (f.ended .signature .params) (f.ended .kept)
-stayed = (stay-slice (0 ∷ []) tt (plain (λ _. (Array u64 6))), (stay-slice (1 ∷ []) tt (plain (λ _. Object-t.the-row)), (stay-none (λ _. u8-p .row) yes, (stay-none (λ _. Object-p .row) yes, tt))))
+stayed = (stay-slice (0 ∷ []) tt (plain (λ _. (Array u64 8))), (stay-slice (1 ∷ []) tt (plain (λ _. Object-t.the-row)), (stay-none (λ _. u8-p .row) yes, (stay-none (λ _. Object-p .row) yes, tt))))
 
 module _ {M : Type 1} (𝓤 : URA M) (H : Heap 𝓤) (A : Atoms 𝓤) (mem : Memory → SProp 𝓤) (run : Routine → Fun 𝓤) where
   abbrev Of-session-objects-reach : Contract 𝓤
@@ -149,7 +149,7 @@ module _ {M : Type 1} (𝓤 : URA M) (H : Heap 𝓤) (A : Atoms 𝓤) (mem : Mem
   Of-session-objects-keep-stored = tripleOf 𝓤 H A session-objects-keep-stored.signature (session-objects-keep-stored.spec 𝓤 H A mem run)
 
 module _ {M : Type 1} (𝓤 : URA M) (H : Heap 𝓤) (A : Atoms 𝓤) (W : Given 𝓤 H A) (mem : Memory → SProp 𝓤) (run : Routine → Fun 𝓤) (κ₁ : Lft) (q₁ : Share) (b₁ o₁ : ℕ) (γ₁ : GName) (sessions : List (List ℕ)) (κ₂ : Lft) (q₂ : Share) (b₂ o₂ : ℕ) (γ₂ : GName) (objects : List Object) (id : ℕ) (o : Object)
-    (room₁ : Room (Array u64 6) (length sessions)) (room₂ : Room Object-t.the-row (length objects)) (id-is : Is (u8-p .row) id (u8-p .val id ∷ [])) (o-is : Is (Object-p .row) o (Object-p .val o ∷ [])) where
+    (room₁ : Room (Array u64 8) (length sessions)) (room₂ : Room Object-t.the-row (length objects)) (id-is : Is (u8-p .row) id (u8-p .val id ∷ [])) (o-is : Is (Object-p .row) o (Object-p .val o ∷ [])) where
   abbrev n₁ : ℕ
   n₁ = length sessions
 
@@ -165,9 +165,9 @@ module _ {M : Type 1} (𝓤 : URA M) (H : Heap 𝓤) (A : Atoms 𝓤) (W : Given
   abbrev Post : Val → SProp 𝓤
   Post = walkOf 𝓤 H A f.ended stayed (f.clauses 𝓤 H A mem run) .post (((κ₁, (κ₂, tt)), (q₁, (q₂, tt)), tt, x, at), tt)
 
-  exits : (r : Stored) (ws₁ : List (List ℕ)) (ws₂ : List Object) → ((r ≡ storedObject (sessions) (objects) id o) × (ws₁ ≡ keepStored (sessions) id r) × (ws₂ ≡ storedObjects (sessions) (objects) id o)) → Is (Stored-p .row) r (Stored-p .val r ∷ []) → length ws₁ ≡ n₁ → length ws₂ ≡ n₂ → ent 𝓤 (⋆ 𝓤 H A (‵ (MutSlice (named 0) κ₁ (Array u64 6) .own (at-list b₁ o₁ γ₁ ws₁) (sliceVal (b₁, o₁) n₁ ∷ [])) ∷ ‵ (flft κ₁ q₁) ∷ ‵ (MutSlice (named 1) κ₂ Object-t.the-row .own (at-list b₂ o₂ γ₂ ws₂) (sliceVal (b₂, o₂) n₂ ∷ [])) ∷ ‵ (flft κ₂ q₂) ∷ [])) (Post (Stored-p .val r))
+  exits : (r : Stored) (ws₁ : List (List ℕ)) (ws₂ : List Object) → ((r ≡ storedObject (sessions) (objects) id o) × (ws₁ ≡ keepStored (sessions) id r) × (ws₂ ≡ storedObjects (sessions) (objects) id o)) → Is (Stored-p .row) r (Stored-p .val r ∷ []) → length ws₁ ≡ n₁ → length ws₂ ≡ n₂ → ent 𝓤 (⋆ 𝓤 H A (‵ (MutSlice (named 0) κ₁ (Array u64 8) .own (at-list b₁ o₁ γ₁ ws₁) (sliceVal (b₁, o₁) n₁ ∷ [])) ∷ ‵ (flft κ₁ q₁) ∷ ‵ (MutSlice (named 1) κ₂ Object-t.the-row .own (at-list b₂ o₂ γ₂ ws₂) (sliceVal (b₂, o₂) n₂ ∷ [])) ∷ ‵ (flft κ₂ q₂) ∷ [])) (Post (Stored-p .val r))
   exits r ws₁ ws₂ said r-is len₁ len₂ =
-      qed W (‵ (MutSlice (named 0) κ₁ (Array u64 6) .own (at-list b₁ o₁ γ₁ ws₁) (sliceVal (b₁, o₁) n₁ ∷ [])) ∷ ‵ (flft κ₁ q₁) ∷ ‵ (MutSlice (named 1) κ₂ Object-t.the-row .own (at-list b₂ o₂ γ₂ ws₂) (sliceVal (b₂, o₂) n₂ ∷ [])) ∷ ‵ (flft κ₂ q₂) ∷ []) ∵
+      qed W (‵ (MutSlice (named 0) κ₁ (Array u64 8) .own (at-list b₁ o₁ γ₁ ws₁) (sliceVal (b₁, o₁) n₁ ∷ [])) ∷ ‵ (flft κ₁ q₁) ∷ ‵ (MutSlice (named 1) κ₂ Object-t.the-row .own (at-list b₂ o₂ γ₂ ws₂) (sliceVal (b₂, o₂) n₂ ∷ [])) ∷ ‵ (flft κ₂ q₂) ∷ []) ∵
       suffices ! _ (ends-at 𝓤 H A f.ended stayed (f.clauses 𝓤 H A mem run) W (((κ₁, (κ₂, tt)), (q₁, (q₂, tt)), tt, x, at), tt) (Stored-p .val r) r (ws₁, (ws₂, (tt, (tt, tt)))) (len₁, (len₂, (tt, (tt, tt))))) $ says ! said $ nothing ! $ move ! (4 ∷ 0 ∷ []) $ join ! $ move ! (2 ∷ 0 ∷ []) $ join ! $
       frame ! $ nothing ! $
       owned ! (Object-p .row) (Is (Object-p .row)) (Object-p .makes 𝓤 H A W) o (Object-p .val o ∷ []) o-is $ fjoin ! $
@@ -186,14 +186,14 @@ module _ {M : Type 1} (𝓤 : URA M) (H : Heap 𝓤) (A : Atoms 𝓤) (W : Given
     fm = fmOf 𝓤 H (W .laws) 𝓣
 
     abbrev En : Env 𝓤 H
-    En = (Stored-l.mir, l₀) ∷ ((sliceTy (tyRef (named 0) mut (pointee ((Array u64 6) .written)))), l₁) ∷ ((sliceTy (tyRef (named 1) mut (pointee (Object-t.the-row .written)))), l₂) ∷ ((tyInt w8), l₃) ∷ (Object-l.mir, l₄) ∷ ((tyInt w64), l₅) ∷ (Named-l.mir, l₆) ∷ ((tyInt w64), l₇) ∷ ((tyInt w64), l₈) ∷ ((tyInt w64), l₉) ∷ (Stored-l.mir, l₁₀) ∷ (Refusal-l.mir, l₁₁) ∷ ((tyRef erased imm (pointee ((Array u64 6) .written))), l₁₂) ∷ ((sliceTy (tyRef erased imm (pointee ((Array u64 6) .written)))), l₁₃) ∷ (Stored-l.mir, l₁₄) ∷ ((tyRef erased imm (pointee ((Array u64 6) .written))), l₁₅) ∷ ((sliceTy (tyRef erased imm (pointee ((Array u64 6) .written)))), l₁₆) ∷ ((tyInt w64), l₁₇) ∷ (tyPtr, l₁₈) ∷ ((tyInt w64), l₁₉) ∷ ((tyRef erased mut (pointee (Object-t.the-row .written))), l₂₀) ∷ ((sliceTy (tyRef erased mut (pointee (Object-t.the-row .written)))), l₂₁) ∷ (tyUnit, l₂₂) ∷ ((tyRef erased mut (pointee ((Array u64 6) .written))), l₂₃) ∷ ((sliceTy (tyRef erased mut (pointee ((Array u64 6) .written)))), l₂₄) ∷ []
+    En = (Stored-l.mir, l₀) ∷ ((sliceTy (tyRef (named 0) mut (pointee ((Array u64 8) .written)))), l₁) ∷ ((sliceTy (tyRef (named 1) mut (pointee (Object-t.the-row .written)))), l₂) ∷ ((tyInt w8), l₃) ∷ (Object-l.mir, l₄) ∷ ((tyInt w64), l₅) ∷ (Named-l.mir, l₆) ∷ ((tyInt w64), l₇) ∷ ((tyInt w64), l₈) ∷ ((tyInt w64), l₉) ∷ (Stored-l.mir, l₁₀) ∷ (Refusal-l.mir, l₁₁) ∷ ((tyRef erased imm (pointee ((Array u64 8) .written))), l₁₂) ∷ ((sliceTy (tyRef erased imm (pointee ((Array u64 8) .written)))), l₁₃) ∷ (Stored-l.mir, l₁₄) ∷ ((tyRef erased imm (pointee ((Array u64 8) .written))), l₁₅) ∷ ((sliceTy (tyRef erased imm (pointee ((Array u64 8) .written)))), l₁₆) ∷ ((tyInt w64), l₁₇) ∷ (tyPtr, l₁₈) ∷ ((tyInt w64), l₁₉) ∷ ((tyRef erased mut (pointee (Object-t.the-row .written))), l₂₀) ∷ ((sliceTy (tyRef erased mut (pointee (Object-t.the-row .written)))), l₂₁) ∷ (tyUnit, l₂₂) ∷ ((tyRef erased mut (pointee ((Array u64 8) .written))), l₂₃) ∷ ((sliceTy (tyRef erased mut (pointee ((Array u64 8) .written)))), l₂₄) ∷ []
 
-    part-5·Live·12-0 : (is-4 : Is (Named-p .row) (objectsNamed (sessions) n₂ id) (Named-p .val (objectsNamed (sessions) n₂ id) ∷ [])) → (e-5 : objectsNamed (sessions) n₂ id ≡ Named-Live) → (good-5 : Is (Named-p .row) Named-Live (Named-p .val Named-Live ∷ [])) → (is-5·Live·1 : Is (u64-p .row) (firstObject id) (u64-p .val (firstObject id) ∷ [])) → (is-5·Live·2 : Is (u64-p .row) (firstObject id + 32) (u64-p .val (firstObject id + 32) ∷ [])) → (is-5·Live·5 : Is (u64-p .row) (usedOf (sessions) id) (u64-p .val (usedOf (sessions) id) ∷ [])) → (fits-5·Live·6 : (firstObject id) * 12 < 2 ^ 64) → (le-5·Live·8 : (firstObject id) ≤ (firstObject id + 32)) → (fits-5·Live·8 : (firstObject id + 32) - (firstObject id) < 2 ^ 64) → (part-5·Live·11-objects : (firstObject id) + ((firstObject id + 32) - (firstObject id)) ≤ length objects) → (ppart-5·Live·11-objects : length (midOf (firstObject id) ((firstObject id + 32) - (firstObject id)) objects) ≡ ((firstObject id + 32) - (firstObject id))) → (asks-5·Live·11 : ((usedOf (sessions) id) ≤ length ((midOf (firstObject id) ((firstObject id + 32) - (firstObject id)) objects))) × (length ((midOf (firstObject id) ((firstObject id + 32) - (firstObject id)) objects)) ≤ 32)) → (len-5·Live·11-objects : length (putMid (firstObject id) ((firstObject id + 32) - (firstObject id)) objects (storedRow ((midOf (firstObject id) ((firstObject id + 32) - (firstObject id)) objects)) (usedOf (sessions) id) o)) ≡ n₂) → (is-5·Live·11 : Is (Stored-p .row) (storedOf ((midOf (firstObject id) ((firstObject id + 32) - (firstObject id)) objects)) (usedOf (sessions) id) o) (Stored-p .val (storedOf ((midOf (firstObject id) ((firstObject id + 32) - (firstObject id)) objects)) (usedOf (sessions) id) o) ∷ [])) → Sq W (‵ (MutSlice (named 0) κ₁ (Array u64 6) .own (at-list b₁ o₁ γ₁ sessions) (sliceVal (b₁, o₁) n₁ ∷ [])) ∷ ‵ (flft κ₁ q₁) ∷ ‵ (MutSlice (named 0) κ₂ Object-t.the-row .own (at-list b₂ o₂ γ₂ (putMid (firstObject id) ((firstObject id + 32) - (firstObject id)) objects (storedRow ((midOf (firstObject id) ((firstObject id + 32) - (firstObject id)) objects)) (usedOf (sessions) id) o))) (sliceVal (b₂, o₂) n₂ ∷ [])) ∷ ‵ (flft κ₂ q₂) ∷ free 𝓤 (sliceTy (tyRef erased mut (pointee ((Array u64 6) .written)))) l₂₄ (free 𝓤 (tyRef erased mut (pointee ((Array u64 6) .written))) l₂₃ (free 𝓤 tyUnit l₂₂ (full 𝓤 (sliceTy (tyRef erased mut (pointee (Object-t.the-row .written)))) l₂₁ (sliceVal (b₂, place 12 o₂ (firstObject id)) ((firstObject id + 32) - (firstObject id))) (full 𝓤 (tyRef erased mut (pointee (Object-t.the-row .written))) l₂₀ (vptr b₂ (place 12 o₂ (firstObject id))) (full 𝓤 (tyInt w64) l₁₉ (u64-p .val ((firstObject id + 32) - (firstObject id))) (full 𝓤 tyPtr l₁₈ (vptr b₂ (place 12 o₂ (firstObject id))) (full 𝓤 (tyInt w64) l₁₇ (u64-p .val ((firstObject id) * 12)) (full 𝓤 (sliceTy (tyRef erased imm (pointee ((Array u64 6) .written)))) l₁₆ (sliceVal (b₁, o₁) n₁) (full 𝓤 (tyRef erased imm (pointee ((Array u64 6) .written))) l₁₅ (vptr b₁ o₁) (free 𝓤 Stored-l.mir l₁₄ (full 𝓤 (sliceTy (tyRef erased imm (pointee ((Array u64 6) .written)))) l₁₃ (sliceVal (b₁, o₁) n₁) (full 𝓤 (tyRef erased imm (pointee ((Array u64 6) .written))) l₁₂ (vptr b₁ o₁) (free 𝓤 Refusal-l.mir l₁₁ (full 𝓤 Stored-l.mir l₁₀ (Stored-p .val (storedOf ((midOf (firstObject id) ((firstObject id + 32) - (firstObject id)) objects)) (usedOf (sessions) id) o)) (full 𝓤 (tyInt w64) l₉ (u64-p .val (usedOf (sessions) id)) (full 𝓤 (tyInt w64) l₈ (u64-p .val (firstObject id + 32)) (full 𝓤 (tyInt w64) l₇ (u64-p .val (firstObject id)) (full 𝓤 Named-l.mir l₆ (Named-p .val Named-Live) (full 𝓤 (tyInt w64) l₅ (u64-p .val n₂) (full 𝓤 Object-l.mir l₄ (Object-p .val o) (full 𝓤 (tyInt w8) l₃ (u8-p .val id) (full 𝓤 (sliceTy (tyRef (named 1) mut (pointee (Object-t.the-row .written)))) l₂ (sliceVal (b₂, o₂) n₂) (full 𝓤 (sliceTy (tyRef (named 0) mut (pointee ((Array u64 6) .written)))) l₁ (sliceVal (b₁, o₁) n₁) (free 𝓤 Stored-l.mir l₀ ([])))))))))))))))))))))))))) (runs C Λ En (past 11 (arm-of 0 (one mir.t-5))) (anyQ (afterSeq 𝓤 H (Wp 𝓤 H C Λ En mir.t-6 (atReturn 𝓤 H En Post)) (atReturn 𝓤 H En Post))))
+    part-5·Live·12-0 : (is-4 : Is (Named-p .row) (objectsNamed (sessions) n₂ id) (Named-p .val (objectsNamed (sessions) n₂ id) ∷ [])) → (e-5 : objectsNamed (sessions) n₂ id ≡ Named-Live) → (good-5 : Is (Named-p .row) Named-Live (Named-p .val Named-Live ∷ [])) → (is-5·Live·1 : Is (u64-p .row) (firstObject id) (u64-p .val (firstObject id) ∷ [])) → (is-5·Live·2 : Is (u64-p .row) (firstObject id + 32) (u64-p .val (firstObject id + 32) ∷ [])) → (is-5·Live·5 : Is (u64-p .row) (usedOf (sessions) id) (u64-p .val (usedOf (sessions) id) ∷ [])) → (fits-5·Live·6 : (firstObject id) * 12 < 2 ^ 64) → (le-5·Live·8 : (firstObject id) ≤ (firstObject id + 32)) → (fits-5·Live·8 : (firstObject id + 32) - (firstObject id) < 2 ^ 64) → (part-5·Live·11-objects : (firstObject id) + ((firstObject id + 32) - (firstObject id)) ≤ length objects) → (ppart-5·Live·11-objects : length (midOf (firstObject id) ((firstObject id + 32) - (firstObject id)) objects) ≡ ((firstObject id + 32) - (firstObject id))) → (asks-5·Live·11 : ((usedOf (sessions) id) ≤ length ((midOf (firstObject id) ((firstObject id + 32) - (firstObject id)) objects))) × (length ((midOf (firstObject id) ((firstObject id + 32) - (firstObject id)) objects)) ≤ 32)) → (len-5·Live·11-objects : length (putMid (firstObject id) ((firstObject id + 32) - (firstObject id)) objects (storedRow ((midOf (firstObject id) ((firstObject id + 32) - (firstObject id)) objects)) (usedOf (sessions) id) o)) ≡ n₂) → (is-5·Live·11 : Is (Stored-p .row) (storedOf ((midOf (firstObject id) ((firstObject id + 32) - (firstObject id)) objects)) (usedOf (sessions) id) o) (Stored-p .val (storedOf ((midOf (firstObject id) ((firstObject id + 32) - (firstObject id)) objects)) (usedOf (sessions) id) o) ∷ [])) → Sq W (‵ (MutSlice (named 0) κ₁ (Array u64 8) .own (at-list b₁ o₁ γ₁ sessions) (sliceVal (b₁, o₁) n₁ ∷ [])) ∷ ‵ (flft κ₁ q₁) ∷ ‵ (MutSlice (named 0) κ₂ Object-t.the-row .own (at-list b₂ o₂ γ₂ (putMid (firstObject id) ((firstObject id + 32) - (firstObject id)) objects (storedRow ((midOf (firstObject id) ((firstObject id + 32) - (firstObject id)) objects)) (usedOf (sessions) id) o))) (sliceVal (b₂, o₂) n₂ ∷ [])) ∷ ‵ (flft κ₂ q₂) ∷ free 𝓤 (sliceTy (tyRef erased mut (pointee ((Array u64 8) .written)))) l₂₄ (free 𝓤 (tyRef erased mut (pointee ((Array u64 8) .written))) l₂₃ (free 𝓤 tyUnit l₂₂ (full 𝓤 (sliceTy (tyRef erased mut (pointee (Object-t.the-row .written)))) l₂₁ (sliceVal (b₂, place 12 o₂ (firstObject id)) ((firstObject id + 32) - (firstObject id))) (full 𝓤 (tyRef erased mut (pointee (Object-t.the-row .written))) l₂₀ (vptr b₂ (place 12 o₂ (firstObject id))) (full 𝓤 (tyInt w64) l₁₉ (u64-p .val ((firstObject id + 32) - (firstObject id))) (full 𝓤 tyPtr l₁₈ (vptr b₂ (place 12 o₂ (firstObject id))) (full 𝓤 (tyInt w64) l₁₇ (u64-p .val ((firstObject id) * 12)) (full 𝓤 (sliceTy (tyRef erased imm (pointee ((Array u64 8) .written)))) l₁₆ (sliceVal (b₁, o₁) n₁) (full 𝓤 (tyRef erased imm (pointee ((Array u64 8) .written))) l₁₅ (vptr b₁ o₁) (free 𝓤 Stored-l.mir l₁₄ (full 𝓤 (sliceTy (tyRef erased imm (pointee ((Array u64 8) .written)))) l₁₃ (sliceVal (b₁, o₁) n₁) (full 𝓤 (tyRef erased imm (pointee ((Array u64 8) .written))) l₁₂ (vptr b₁ o₁) (free 𝓤 Refusal-l.mir l₁₁ (full 𝓤 Stored-l.mir l₁₀ (Stored-p .val (storedOf ((midOf (firstObject id) ((firstObject id + 32) - (firstObject id)) objects)) (usedOf (sessions) id) o)) (full 𝓤 (tyInt w64) l₉ (u64-p .val (usedOf (sessions) id)) (full 𝓤 (tyInt w64) l₈ (u64-p .val (firstObject id + 32)) (full 𝓤 (tyInt w64) l₇ (u64-p .val (firstObject id)) (full 𝓤 Named-l.mir l₆ (Named-p .val Named-Live) (full 𝓤 (tyInt w64) l₅ (u64-p .val n₂) (full 𝓤 Object-l.mir l₄ (Object-p .val o) (full 𝓤 (tyInt w8) l₃ (u8-p .val id) (full 𝓤 (sliceTy (tyRef (named 1) mut (pointee (Object-t.the-row .written)))) l₂ (sliceVal (b₂, o₂) n₂) (full 𝓤 (sliceTy (tyRef (named 0) mut (pointee ((Array u64 8) .written)))) l₁ (sliceVal (b₁, o₁) n₁) (free 𝓤 Stored-l.mir l₀ ([])))))))))))))))))))))))))) (runs C Λ En (past 11 (arm-of 0 (one mir.t-5))) (anyQ (afterSeq 𝓤 H (Wp 𝓤 H C Λ En mir.t-6 (atReturn 𝓤 H En Post)) (atReturn 𝓤 H En Post))))
     part-5·Live·12-0 is-4 e-5 good-5 is-5·Live·1 is-5·Live·2 is-5·Live·5 fits-5·Live·6 le-5·Live·8 fits-5·Live·8 part-5·Live·11-objects ppart-5·Live·11-objects asks-5·Live·11 len-5·Live·11-objects is-5·Live·11 =
         assigns ! (addr ! (from ! (fld ! refl (hop ! (look-in ! 50 (sub ! 0 refl (whole !))) (stop !))))) (from ! (stop !)) (init ! 6 refl (tt, tt)) $
         assigns ! (agg ! (and-then ! (load ! (from ! (stop !)) (look ! 6 refl)) (and-then ! (load ! (from ! (fld ! refl (stop !))) (look-in ! 50 (sub ! 1 refl (whole !)))) (no-more !)))) (from ! (stop !)) (init ! 4 refl (tt, (tt, (record { fits = room₁ .0 }, tt)))) $
         -- 5.Live.14: sessions::session_objects::keep_stored
-        lends-mut ! tt (Array u64 6) b₁ o₁ sessions n₁ (refl) (λ ν-5·Live·14-sessions δ-5·Live·14-sessions.
+        lends-mut ! tt (Array u64 8) b₁ o₁ sessions n₁ (refl) (λ ν-5·Live·14-sessions δ-5·Live·14-sessions.
         nothing ! $ move ! (1 ∷ 0 ∷ []) $ join ! $
         use1 W (raw (toks 𝓤 A 1 (((ν-5·Live·14-sessions ∷ []), tt)) ((fullShare, tt)))) (id⊢ 𝓤 _) $ nothing ! $
         owned ! (Stored-p .row) (Is (Stored-p .row)) (Stored-p .makes 𝓤 H A W) (storedOf ((midOf (firstObject id) ((firstObject id + 32) - (firstObject id)) objects)) (usedOf (sessions) id) o) (Stored-p .val (storedOf ((midOf (firstObject id) ((firstObject id + 32) - (firstObject id)) objects)) (usedOf (sessions) id) o) ∷ []) is-5·Live·11 $ fjoin ! $
@@ -202,7 +202,7 @@ module _ {M : Type 1} (𝓤 : URA M) (H : Heap 𝓤) (A : Atoms 𝓤) (W : Given
         use1 W ((‵ (flft (ν-5·Live·14-sessions ∷ []) fullShare) ⊛ ‵ ftrue)) (id⊢ 𝓤 _) $ split ! $ move ! (2 ∷ []) $ fsplit ! $ fsplit ! $ move ! (1 ∷ []) $
         feqL ! (λ wlen-5·Live·14-0.
         move ! (2 ∷ 4 ∷ 0 ∷ []) $
-        backs-mut ! tt (Array u64 6) b₁ o₁ sessions n₁ (refl) room₁ ν-5·Live·14-sessions δ-5·Live·14-sessions (ws-5·Live·14 .0) (keepStored (sessions) id (storedOf ((midOf (firstObject id) ((firstObject id + 32) - (firstObject id)) objects)) (usedOf (sessions) id) o)) wlen-5·Live·14-0 (said-5·Live·14) (λ len-5·Live·14-sessions.
+        backs-mut ! tt (Array u64 8) b₁ o₁ sessions n₁ (refl) room₁ ν-5·Live·14-sessions δ-5·Live·14-sessions (ws-5·Live·14 .0) (keepStored (sessions) id (storedOf ((midOf (firstObject id) ((firstObject id + 32) - (firstObject id)) objects)) (usedOf (sessions) id) o)) wlen-5·Live·14-0 (said-5·Live·14) (λ len-5·Live·14-sessions.
         move ! (2 ∷ []) $ drop ! $ move ! (2 ∷ []) $ drop ! $
         land ! (from ! (stop !)) (init ! 8 refl (unit-p .typed 𝓤 H A W tt is-5·Live·14)) $
         assigns-last ! (of-opd ! (load ! (from ! (stop !)) (look ! 32 refl))) (from ! (stop !)) (init ! 24 refl (Stored-p .typed 𝓤 H A W (storedOf ((midOf (firstObject id) ((firstObject id + 32) - (firstObject id)) objects)) (usedOf (sessions) id) o) is-5·Live·11)) $
@@ -211,7 +211,7 @@ module _ {M : Type 1} (𝓤 : URA M) (H : Heap 𝓤) (A : Atoms 𝓤) (W : Given
         returns ! (look ! 52 refl) $ forget ! 4 refl $ forget ! 6 refl $ forget ! 8 refl $ forget ! 10 refl $ forget ! 12 refl $ forget ! 14 refl $ forget ! 16 refl $ forget ! 18 refl $ forget ! 20 refl $ forget ! 22 refl $ forget ! 24 refl $ forget ! 26 refl $ forget ! 28 refl $ forget ! 32 refl $ forget ! 34 refl $ forget ! 36 refl $ forget ! 38 refl $ forget ! 40 refl $ forget ! 42 refl $ forget ! 44 refl $ forget ! 46 refl $ forget ! 48 refl $ forget ! 50 refl $ forget ! 52 refl $ move ! (52 ∷ 53 ∷ []) $ free1 ! $ move ! (50 ∷ 51 ∷ []) $ free1 ! $ move ! (48 ∷ 49 ∷ []) $ free1 ! $ move ! (46 ∷ 47 ∷ []) $ free1 ! $ move ! (44 ∷ 45 ∷ []) $ free1 ! $ move ! (42 ∷ 43 ∷ []) $ free1 ! $ move ! (40 ∷ 41 ∷ []) $ free1 ! $ move ! (38 ∷ 39 ∷ []) $ free1 ! $ move ! (36 ∷ 37 ∷ []) $ free1 ! $ move ! (34 ∷ 35 ∷ []) $ free1 ! $ move ! (32 ∷ 33 ∷ []) $ free1 ! $ move ! (30 ∷ 31 ∷ []) $ free1 ! $ move ! (28 ∷ 29 ∷ []) $ free1 ! $ move ! (26 ∷ 27 ∷ []) $ free1 ! $ move ! (24 ∷ 25 ∷ []) $ free1 ! $ move ! (22 ∷ 23 ∷ []) $ free1 ! $ move ! (20 ∷ 21 ∷ []) $ free1 ! $ move ! (18 ∷ 19 ∷ []) $ free1 ! $ move ! (16 ∷ 17 ∷ []) $ free1 ! $ move ! (14 ∷ 15 ∷ []) $ free1 ! $ move ! (12 ∷ 13 ∷ []) $ free1 ! $ move ! (10 ∷ 11 ∷ []) $ free1 ! $ move ! (8 ∷ 9 ∷ []) $ free1 ! $ move ! (6 ∷ 7 ∷ []) $ free1 ! $ move ! (4 ∷ 5 ∷ []) $ free1 ! $ free0 ! $
         by ! (exits (storedOf ((midOf (firstObject id) ((firstObject id + 32) - (firstObject id)) objects)) (usedOf (sessions) id) o) (keepStored (sessions) id (storedOf ((midOf (firstObject id) ((firstObject id + 32) - (firstObject id)) objects)) (usedOf (sessions) id) o)) (putMid (firstObject id) ((firstObject id + 32) - (firstObject id)) objects (storedRow ((midOf (firstObject id) ((firstObject id + 32) - (firstObject id)) objects)) (usedOf (sessions) id) o)) ((stored-lent sessions objects id o e-5, refl, kept-lent sessions objects id o e-5)) is-5·Live·11 len-5·Live·14-sessions len-5·Live·11-objects)))))
 
-    matched-5-0 : (is-4 : Is (Named-p .row) (objectsNamed (sessions) n₂ id) (Named-p .val (objectsNamed (sessions) n₂ id) ∷ [])) → (z : Named) → (objectsNamed (sessions) n₂ id) ≡ z → Is (Named-p .row) z (Named-p .val z ∷ []) → Sq W (‵ (MutSlice (named 0) κ₁ (Array u64 6) .own (at-list b₁ o₁ γ₁ sessions) (sliceVal (b₁, o₁) n₁ ∷ [])) ∷ ‵ (flft κ₁ q₁) ∷ ‵ (MutSlice (named 0) κ₂ Object-t.the-row .own (at-list b₂ o₂ γ₂ objects) (sliceVal (b₂, o₂) n₂ ∷ [])) ∷ ‵ (flft κ₂ q₂) ∷ free 𝓤 (sliceTy (tyRef erased mut (pointee ((Array u64 6) .written)))) l₂₄ (free 𝓤 (tyRef erased mut (pointee ((Array u64 6) .written))) l₂₃ (free 𝓤 tyUnit l₂₂ (free 𝓤 (sliceTy (tyRef erased mut (pointee (Object-t.the-row .written)))) l₂₁ (free 𝓤 (tyRef erased mut (pointee (Object-t.the-row .written))) l₂₀ (free 𝓤 (tyInt w64) l₁₉ (free 𝓤 tyPtr l₁₈ (free 𝓤 (tyInt w64) l₁₇ (free 𝓤 (sliceTy (tyRef erased imm (pointee ((Array u64 6) .written)))) l₁₆ (free 𝓤 (tyRef erased imm (pointee ((Array u64 6) .written))) l₁₅ (free 𝓤 Stored-l.mir l₁₄ (full 𝓤 (sliceTy (tyRef erased imm (pointee ((Array u64 6) .written)))) l₁₃ (sliceVal (b₁, o₁) n₁) (full 𝓤 (tyRef erased imm (pointee ((Array u64 6) .written))) l₁₂ (vptr b₁ o₁) (free 𝓤 Refusal-l.mir l₁₁ (free 𝓤 Stored-l.mir l₁₀ (free 𝓤 (tyInt w64) l₉ (free 𝓤 (tyInt w64) l₈ (free 𝓤 (tyInt w64) l₇ (full 𝓤 Named-l.mir l₆ (Named-p .val z) (full 𝓤 (tyInt w64) l₅ (u64-p .val n₂) (full 𝓤 Object-l.mir l₄ (Object-p .val o) (full 𝓤 (tyInt w8) l₃ (u8-p .val id) (full 𝓤 (sliceTy (tyRef (named 1) mut (pointee (Object-t.the-row .written)))) l₂ (sliceVal (b₂, o₂) n₂) (full 𝓤 (sliceTy (tyRef (named 0) mut (pointee ((Array u64 6) .written)))) l₁ (sliceVal (b₁, o₁) n₁) (free 𝓤 Stored-l.mir l₀ ([])))))))))))))))))))))))))) (runs C Λ En (one mir.t-5) (anyQ (afterSeq 𝓤 H (Wp 𝓤 H C Λ En mir.t-6 (atReturn 𝓤 H En Post)) (atReturn 𝓤 H En Post))))
+    matched-5-0 : (is-4 : Is (Named-p .row) (objectsNamed (sessions) n₂ id) (Named-p .val (objectsNamed (sessions) n₂ id) ∷ [])) → (z : Named) → (objectsNamed (sessions) n₂ id) ≡ z → Is (Named-p .row) z (Named-p .val z ∷ []) → Sq W (‵ (MutSlice (named 0) κ₁ (Array u64 8) .own (at-list b₁ o₁ γ₁ sessions) (sliceVal (b₁, o₁) n₁ ∷ [])) ∷ ‵ (flft κ₁ q₁) ∷ ‵ (MutSlice (named 0) κ₂ Object-t.the-row .own (at-list b₂ o₂ γ₂ objects) (sliceVal (b₂, o₂) n₂ ∷ [])) ∷ ‵ (flft κ₂ q₂) ∷ free 𝓤 (sliceTy (tyRef erased mut (pointee ((Array u64 8) .written)))) l₂₄ (free 𝓤 (tyRef erased mut (pointee ((Array u64 8) .written))) l₂₃ (free 𝓤 tyUnit l₂₂ (free 𝓤 (sliceTy (tyRef erased mut (pointee (Object-t.the-row .written)))) l₂₁ (free 𝓤 (tyRef erased mut (pointee (Object-t.the-row .written))) l₂₀ (free 𝓤 (tyInt w64) l₁₉ (free 𝓤 tyPtr l₁₈ (free 𝓤 (tyInt w64) l₁₇ (free 𝓤 (sliceTy (tyRef erased imm (pointee ((Array u64 8) .written)))) l₁₆ (free 𝓤 (tyRef erased imm (pointee ((Array u64 8) .written))) l₁₅ (free 𝓤 Stored-l.mir l₁₄ (full 𝓤 (sliceTy (tyRef erased imm (pointee ((Array u64 8) .written)))) l₁₃ (sliceVal (b₁, o₁) n₁) (full 𝓤 (tyRef erased imm (pointee ((Array u64 8) .written))) l₁₂ (vptr b₁ o₁) (free 𝓤 Refusal-l.mir l₁₁ (free 𝓤 Stored-l.mir l₁₀ (free 𝓤 (tyInt w64) l₉ (free 𝓤 (tyInt w64) l₈ (free 𝓤 (tyInt w64) l₇ (full 𝓤 Named-l.mir l₆ (Named-p .val z) (full 𝓤 (tyInt w64) l₅ (u64-p .val n₂) (full 𝓤 Object-l.mir l₄ (Object-p .val o) (full 𝓤 (tyInt w8) l₃ (u8-p .val id) (full 𝓤 (sliceTy (tyRef (named 1) mut (pointee (Object-t.the-row .written)))) l₂ (sliceVal (b₂, o₂) n₂) (full 𝓤 (sliceTy (tyRef (named 0) mut (pointee ((Array u64 8) .written)))) l₁ (sliceVal (b₁, o₁) n₁) (free 𝓤 Stored-l.mir l₀ ([])))))))))))))))))))))))))) (runs C Λ En (one mir.t-5) (anyQ (afterSeq 𝓤 H (Wp 𝓤 H C Λ En mir.t-6 (atReturn 𝓤 H En Post)) (atReturn 𝓤 H En Post))))
     matched-5-0 is-4 (Named-Live) e-5 good-5 =
         switches-on ! (load ! (from ! (vrt ! refl (fld ! refl (stop !)))) (look-tag ! 40 (whole !))) $ exec ! C Λ En (arm-of 0 (one mir.t-5)) (anyQ (afterSeq 𝓤 H (Wp 𝓤 H C Λ En mir.t-6 (atReturn 𝓤 H En Post)) (atReturn 𝓤 H En Post))) $
         -- 5.Live.1: sessions::session_objects::first
@@ -231,13 +231,13 @@ module _ {M : Type 1} (𝓤 : URA M) (H : Heap 𝓤) (A : Atoms 𝓤) (W : Given
         assigns ! (addr ! (from ! (fld ! refl (hop ! (look-in ! 50 (sub ! 0 refl (whole !))) (stop !))))) (from ! (stop !)) (init ! 22 refl (tt, tt)) $
         assigns ! (agg ! (and-then ! (load ! (from ! (stop !)) (look ! 22 refl)) (and-then ! (load ! (from ! (fld ! refl (stop !))) (look-in ! 50 (sub ! 1 refl (whole !)))) (no-more !)))) (from ! (stop !)) (init ! 20 refl (tt, (tt, (record { fits = room₁ .0 }, tt)))) $
         -- 5.Live.5: sessions::session_objects::used
-        lends-view ! tt (Array u64 6) b₁ o₁ sessions n₁ (refl) (λ ν-5·Live·5-sessions δ-5·Live·5-sessions.
+        lends-view ! tt (Array u64 8) b₁ o₁ sessions n₁ (refl) (λ ν-5·Live·5-sessions δ-5·Live·5-sessions.
         nothing ! $ move ! (1 ∷ 0 ∷ []) $ join ! $
         use1 W (raw (toks 𝓤 A 1 (((ν-5·Live·5-sessions ∷ []), tt)) ((fullShare, tt)))) (id⊢ 𝓤 _) $ nothing ! $
         owned ! (u8-p .row) (Is (u8-p .row)) (u8-p .makes 𝓤 H A W) id (u8-p .val id ∷ []) id-is $ fjoin ! $ move ! (2 ∷ 0 ∷ []) $ fjoin ! $ move ! (1 ∷ 0 ∷ []) $
         calls-any ! fm 1 [] (session-objects-used.signature .params) (session-objects-used.ended .kept) u64-p (session-objects-used.clauses 𝓤 H A mem run) known-session-objects-used ((ν-5·Live·5-sessions ∷ []), tt) (fullShare, tt) tt (at-list b₁ o₁ δ-5·Live·5-sessions sessions, (id, tt)) (sliceVal (b₁, o₁) n₁ ∷ [], (u8-p .val id ∷ [], tt)) tt (usedOf (sessions) id) (λ ws-5·Live·5. Unit {0}) (id⊢ 𝓤 _) (λ r ws-5·Live·5. fact-mono 𝓤 (r ≡ usedOf (sessions) id) ((r ≡ (usedOf (sessions) id)) × (Unit {0})) (λ e. (e, tt))) (λ _. (and-then ! (load ! (from ! (stop !)) (look ! 20 refl)) (and-then ! (load ! (from ! (stop !)) (look ! 46 refl)) (no-more !)))) (λ ws-5·Live·5 said-5·Live·5 is-5·Live·5.
         use1 W ((‵ (flft (ν-5·Live·5-sessions ∷ []) fullShare) ⊛ ‵ ftrue)) (id⊢ 𝓤 _) $ split ! $ move ! (2 ∷ []) $ fsplit ! $ move ! (2 ∷ 4 ∷ []) $
-        backs-view ! tt (Array u64 6) b₁ o₁ sessions n₁ (refl) ν-5·Live·5-sessions $ move ! (2 ∷ []) $ drop ! $ move ! (2 ∷ []) $ drop ! $ move ! (2 ∷ []) $ drop ! $
+        backs-view ! tt (Array u64 8) b₁ o₁ sessions n₁ (refl) ν-5·Live·5-sessions $ move ! (2 ∷ []) $ drop ! $ move ! (2 ∷ []) $ drop ! $ move ! (2 ∷ []) $ drop ! $
         land ! (from ! (stop !)) (init ! 34 refl (u64-p .typed 𝓤 H A W (usedOf (sessions) id) is-5·Live·5)) $
         knows ! ((firstObject id) * 12 < 2 ^ 64) ((omega (arith, ltb-true, ltb-false, leb-true, leb-false, eqb-true, eqb-false, lent-row sessions objects id e-5 (id-is .1) .inside))) (λ fits-5·Live·6.
         assigns ! (bin ! (load ! (from ! (stop !)) (look ! 38 refl)) (lit ! tt) (record { fits = fits-5·Live·6 })) (from ! (stop !)) (init ! 18 refl (u64-p .typed 𝓤 H A W ((firstObject id) * 12) ((refl, fits-5·Live·6)))) $
@@ -283,20 +283,20 @@ module _ {M : Type 1} (𝓤 : URA M) (H : Heap 𝓤) (A : Atoms 𝓤) (W : Given
         returns ! (look ! 52 refl) $ forget ! 24 refl $ forget ! 26 refl $ forget ! 28 refl $ forget ! 30 refl $ forget ! 40 refl $ forget ! 42 refl $ forget ! 44 refl $ forget ! 46 refl $ forget ! 48 refl $ forget ! 50 refl $ forget ! 52 refl $ move ! (52 ∷ 53 ∷ []) $ free1 ! $ move ! (50 ∷ 51 ∷ []) $ free1 ! $ move ! (48 ∷ 49 ∷ []) $ free1 ! $ move ! (46 ∷ 47 ∷ []) $ free1 ! $ move ! (44 ∷ 45 ∷ []) $ free1 ! $ move ! (42 ∷ 43 ∷ []) $ free1 ! $ move ! (40 ∷ 41 ∷ []) $ free1 ! $ move ! (38 ∷ 39 ∷ []) $ free1 ! $ move ! (36 ∷ 37 ∷ []) $ free1 ! $ move ! (34 ∷ 35 ∷ []) $ free1 ! $ move ! (32 ∷ 33 ∷ []) $ free1 ! $ move ! (30 ∷ 31 ∷ []) $ free1 ! $ move ! (28 ∷ 29 ∷ []) $ free1 ! $ move ! (26 ∷ 27 ∷ []) $ free1 ! $ move ! (24 ∷ 25 ∷ []) $ free1 ! $ move ! (22 ∷ 23 ∷ []) $ free1 ! $ move ! (20 ∷ 21 ∷ []) $ free1 ! $ move ! (18 ∷ 19 ∷ []) $ free1 ! $ move ! (16 ∷ 17 ∷ []) $ free1 ! $ move ! (14 ∷ 15 ∷ []) $ free1 ! $ move ! (12 ∷ 13 ∷ []) $ free1 ! $ move ! (10 ∷ 11 ∷ []) $ free1 ! $ move ! (8 ∷ 9 ∷ []) $ free1 ! $ move ! (6 ∷ 7 ∷ []) $ free1 ! $ move ! (4 ∷ 5 ∷ []) $ free1 ! $ free0 ! $
         by ! (exits (Stored-Refused x) sessions objects ((stored-is sessions objects id o (Named-Refused x) e-5, refl, kept-is sessions objects id o (Named-Refused x) e-5)) (EL.owes Stored-t.the-type Stored-l.the-laws (Stored-Refused x) (x-is, tt)) refl refl))
 
-    begins : Sq W (‵ (MutSlice (named 0) κ₁ (Array u64 6) .own (at-list b₁ o₁ γ₁ sessions) (sliceVal (b₁, o₁) n₁ ∷ [])) ∷ ‵ (flft κ₁ q₁) ∷ ‵ (MutSlice (named 0) κ₂ Object-t.the-row .own (at-list b₂ o₂ γ₂ objects) (sliceVal (b₂, o₂) n₂ ∷ [])) ∷ ‵ (flft κ₂ q₂) ∷ free 𝓤 (sliceTy (tyRef erased mut (pointee ((Array u64 6) .written)))) l₂₄ (free 𝓤 (tyRef erased mut (pointee ((Array u64 6) .written))) l₂₃ (free 𝓤 tyUnit l₂₂ (free 𝓤 (sliceTy (tyRef erased mut (pointee (Object-t.the-row .written)))) l₂₁ (free 𝓤 (tyRef erased mut (pointee (Object-t.the-row .written))) l₂₀ (free 𝓤 (tyInt w64) l₁₉ (free 𝓤 tyPtr l₁₈ (free 𝓤 (tyInt w64) l₁₇ (free 𝓤 (sliceTy (tyRef erased imm (pointee ((Array u64 6) .written)))) l₁₆ (free 𝓤 (tyRef erased imm (pointee ((Array u64 6) .written))) l₁₅ (free 𝓤 Stored-l.mir l₁₄ (free 𝓤 (sliceTy (tyRef erased imm (pointee ((Array u64 6) .written)))) l₁₃ (free 𝓤 (tyRef erased imm (pointee ((Array u64 6) .written))) l₁₂ (free 𝓤 Refusal-l.mir l₁₁ (free 𝓤 Stored-l.mir l₁₀ (free 𝓤 (tyInt w64) l₉ (free 𝓤 (tyInt w64) l₈ (free 𝓤 (tyInt w64) l₇ (free 𝓤 Named-l.mir l₆ (free 𝓤 (tyInt w64) l₅ (full 𝓤 Object-l.mir l₄ (Object-p .val o) (full 𝓤 (tyInt w8) l₃ (u8-p .val id) (full 𝓤 (sliceTy (tyRef (named 1) mut (pointee (Object-t.the-row .written)))) l₂ (sliceVal (b₂, o₂) n₂) (full 𝓤 (sliceTy (tyRef (named 0) mut (pointee ((Array u64 6) .written)))) l₁ (sliceVal (b₁, o₁) n₁) (free 𝓤 Stored-l.mir l₀ ([])))))))))))))))))))))))))) (runs C Λ En mir.t-1 (atRet En Post))
+    begins : Sq W (‵ (MutSlice (named 0) κ₁ (Array u64 8) .own (at-list b₁ o₁ γ₁ sessions) (sliceVal (b₁, o₁) n₁ ∷ [])) ∷ ‵ (flft κ₁ q₁) ∷ ‵ (MutSlice (named 0) κ₂ Object-t.the-row .own (at-list b₂ o₂ γ₂ objects) (sliceVal (b₂, o₂) n₂ ∷ [])) ∷ ‵ (flft κ₂ q₂) ∷ free 𝓤 (sliceTy (tyRef erased mut (pointee ((Array u64 8) .written)))) l₂₄ (free 𝓤 (tyRef erased mut (pointee ((Array u64 8) .written))) l₂₃ (free 𝓤 tyUnit l₂₂ (free 𝓤 (sliceTy (tyRef erased mut (pointee (Object-t.the-row .written)))) l₂₁ (free 𝓤 (tyRef erased mut (pointee (Object-t.the-row .written))) l₂₀ (free 𝓤 (tyInt w64) l₁₉ (free 𝓤 tyPtr l₁₈ (free 𝓤 (tyInt w64) l₁₇ (free 𝓤 (sliceTy (tyRef erased imm (pointee ((Array u64 8) .written)))) l₁₆ (free 𝓤 (tyRef erased imm (pointee ((Array u64 8) .written))) l₁₅ (free 𝓤 Stored-l.mir l₁₄ (free 𝓤 (sliceTy (tyRef erased imm (pointee ((Array u64 8) .written)))) l₁₃ (free 𝓤 (tyRef erased imm (pointee ((Array u64 8) .written))) l₁₂ (free 𝓤 Refusal-l.mir l₁₁ (free 𝓤 Stored-l.mir l₁₀ (free 𝓤 (tyInt w64) l₉ (free 𝓤 (tyInt w64) l₈ (free 𝓤 (tyInt w64) l₇ (free 𝓤 Named-l.mir l₆ (free 𝓤 (tyInt w64) l₅ (full 𝓤 Object-l.mir l₄ (Object-p .val o) (full 𝓤 (tyInt w8) l₃ (u8-p .val id) (full 𝓤 (sliceTy (tyRef (named 1) mut (pointee (Object-t.the-row .written)))) l₂ (sliceVal (b₂, o₂) n₂) (full 𝓤 (sliceTy (tyRef (named 0) mut (pointee ((Array u64 8) .written)))) l₁ (sliceVal (b₁, o₁) n₁) (free 𝓤 Stored-l.mir l₀ ([])))))))))))))))))))))))))) (runs C Λ En mir.t-1 (atRet En Post))
     begins =
         assigns ! (of-opd ! (load ! (from ! (fld ! refl (stop !))) (look-in ! 48 (sub ! 1 refl (whole !))))) (from ! (stop !)) (init ! 42 refl (u64-p .typed 𝓤 H A W n₂ ((refl, room₂ .0)))) $
         assigns ! (addr ! (from ! (fld ! refl (hop ! (look-in ! 50 (sub ! 0 refl (whole !))) (stop !))))) (from ! (stop !)) (init ! 28 refl (tt, tt)) $
         assigns ! (agg ! (and-then ! (load ! (from ! (stop !)) (look ! 28 refl)) (and-then ! (load ! (from ! (fld ! refl (stop !))) (look-in ! 50 (sub ! 1 refl (whole !)))) (no-more !)))) (from ! (stop !)) (init ! 26 refl (tt, (tt, (record { fits = room₁ .0 }, tt)))) $
         -- 4: sessions::session_objects::reach
-        lends-view ! tt (Array u64 6) b₁ o₁ sessions n₁ (refl) (λ ν-4-sessions δ-4-sessions.
+        lends-view ! tt (Array u64 8) b₁ o₁ sessions n₁ (refl) (λ ν-4-sessions δ-4-sessions.
         nothing ! $ move ! (1 ∷ 0 ∷ []) $ join ! $
         use1 W (raw (toks 𝓤 A 1 (((ν-4-sessions ∷ []), tt)) ((fullShare, tt)))) (id⊢ 𝓤 _) $ nothing ! $
         owned ! (u8-p .row) (Is (u8-p .row)) (u8-p .makes 𝓤 H A W) id (u8-p .val id ∷ []) id-is $ fjoin ! $
         owned ! (u64-p .row) (Is (u64-p .row)) (u64-p .makes 𝓤 H A W) n₂ (u64-p .val n₂ ∷ []) ((refl, room₂ .0)) $ fjoin ! $ move ! (2 ∷ 0 ∷ []) $ fjoin ! $ move ! (1 ∷ 0 ∷ []) $
         calls-any ! fm 1 [] (session-objects-reach.signature .params) (session-objects-reach.ended .kept) Named-p (session-objects-reach.clauses 𝓤 H A mem run) known-session-objects-reach ((ν-4-sessions ∷ []), tt) (fullShare, tt) tt (at-list b₁ o₁ δ-4-sessions sessions, (n₂, (id, tt))) (sliceVal (b₁, o₁) n₁ ∷ [], (u64-p .val n₂ ∷ [], (u8-p .val id ∷ [], tt))) tt (objectsNamed (sessions) n₂ id) (λ ws-4. Unit {0}) (id⊢ 𝓤 _) (λ r ws-4. fact-mono 𝓤 (r ≡ objectsNamed (sessions) n₂ id) ((r ≡ (objectsNamed (sessions) n₂ id)) × (Unit {0})) (λ e. (e, tt))) (λ _. (and-then ! (load ! (from ! (stop !)) (look ! 26 refl)) (and-then ! (load ! (from ! (stop !)) (look ! 42 refl)) (and-then ! (load ! (from ! (stop !)) (look ! 46 refl)) (no-more !))))) (λ ws-4 said-4 is-4.
         use1 W ((‵ (flft (ν-4-sessions ∷ []) fullShare) ⊛ ‵ ftrue)) (id⊢ 𝓤 _) $ split ! $ move ! (2 ∷ []) $ fsplit ! $ move ! (2 ∷ 4 ∷ []) $
-        backs-view ! tt (Array u64 6) b₁ o₁ sessions n₁ (refl) ν-4-sessions $ move ! (2 ∷ []) $ drop ! $ move ! (2 ∷ []) $ drop ! $ move ! (2 ∷ []) $ drop ! $
+        backs-view ! tt (Array u64 8) b₁ o₁ sessions n₁ (refl) ν-4-sessions $ move ! (2 ∷ []) $ drop ! $ move ! (2 ∷ []) $ drop ! $ move ! (2 ∷ []) $ drop ! $
         land ! (from ! (stop !)) (init ! 40 refl (Named-p .typed 𝓤 H A W (objectsNamed (sessions) n₂ id) is-4)) $
         first ! $
         matched-5-0 is-4 (objectsNamed (sessions) n₂ id) refl is-4))
@@ -304,17 +304,17 @@ module _ {M : Type 1} (𝓤 : URA M) (H : Heap 𝓤) (A : Atoms 𝓤) (W : Given
   module _ (𝓣 : Tables 𝓤 H) (known-session-objects-reach : Triple 𝓤 (𝓣 .C #session-objects-reach) (Of-session-objects-reach 𝓤 H A mem run)) (known-session-objects-first : Triple 𝓤 (𝓣 .C #session-objects-first) (Of-session-objects-first 𝓤 H A mem run)) (known-session-objects-behind : Triple 𝓤 (𝓣 .C #session-objects-behind) (Of-session-objects-behind 𝓤 H A mem run)) (known-session-objects-used : Triple 𝓤 (𝓣 .C #session-objects-used) (Of-session-objects-used 𝓤 H A mem run)) (known-object-rows-put : Triple 𝓤 (𝓣 .C #object-rows-put) (Of-object-rows-put 𝓤 H A mem run)) (known-session-objects-keep-stored : Triple 𝓤 (𝓣 .C #session-objects-keep-stored) (Of-session-objects-keep-stored 𝓤 H A mem run)) where
     walk : ent 𝓤 (onEntry 𝓤 H A f.signature (κ₁, (κ₂, tt)) (q₁, (q₂, tt)) x at) (WpFn 𝓤 H (𝓣 .C) (𝓣 .Λ) code.function (sliceVal (b₁, o₁) n₁ ∷ sliceVal (b₂, o₂) n₂ ∷ u8-p .val id ∷ Object-p .val o ∷ []) Post)
     walk =
-        qed W ((‵ (flft κ₁ q₁) ⊛ (‵ (flft κ₂ q₂) ⊛ ‵ ftrue)) ∷ ‵ (owns (MutSlice (named 0) κ₁ (Array u64 6) ∷ MutSlice (named 1) κ₂ Object-t.the-row ∷ u8-p .row ∷ Object-p .row ∷ []) x at) ∷ []) ∵ enter ! (𝓣 .C) (𝓣 .Λ) code.function (sliceVal (b₁, o₁) n₁ ∷ sliceVal (b₂, o₂) n₂ ∷ u8-p .val id ∷ Object-p .val o ∷ []) _ $
+        qed W ((‵ (flft κ₁ q₁) ⊛ (‵ (flft κ₂ q₂) ⊛ ‵ ftrue)) ∷ ‵ (owns (MutSlice (named 0) κ₁ (Array u64 8) ∷ MutSlice (named 1) κ₂ Object-t.the-row ∷ u8-p .row ∷ Object-p .row ∷ []) x at) ∷ []) ∵ enter ! (𝓣 .C) (𝓣 .Λ) code.function (sliceVal (b₁, o₁) n₁ ∷ sliceVal (b₂, o₂) n₂ ∷ u8-p .val id ∷ Object-p .val o ∷ []) _ $
         alloc1 ! (λ l₀. alloc1 ! (λ l₁. alloc1 ! (λ l₂. alloc1 ! (λ l₃. alloc1 ! (λ l₄. alloc1 ! (λ l₅. alloc1 ! (λ l₆. alloc1 ! (λ l₇. alloc1 ! (λ l₈. alloc1 ! (λ l₉. alloc1 ! (λ l₁₀. alloc1 ! (λ l₁₁. alloc1 ! (λ l₁₂. alloc1 ! (λ l₁₃. alloc1 ! (λ l₁₄. alloc1 ! (λ l₁₅. alloc1 ! (λ l₁₆. alloc1 ! (λ l₁₇. alloc1 ! (λ l₁₈. alloc1 ! (λ l₁₉. alloc1 ! (λ l₂₀. alloc1 ! (λ l₂₁. alloc1 ! (λ l₂₂. alloc1 ! (λ l₂₃. alloc1 ! (λ l₂₄. alloc0 ! $ params1 ! $ pass1 ! (init ! 46 refl (tt, (tt, (record { fits = room₁ .0 }, tt)))) $ pass1 ! (init ! 44 refl (tt, (tt, (record { fits = room₂ .0 }, tt)))) $ pass1 ! (init ! 42 refl (u8-p .typed 𝓤 H A W id id-is)) $ pass1 ! (init ! 40 refl (Object-p .typed 𝓤 H A W o o-is)) $ pass0 ! $ move ! (51 ∷ []) $ fsplit ! $ move ! (1 ∷ []) $ fsplit ! $ move ! (53 ∷ []) $ split ! $ move ! (1 ∷ []) $ split ! $ move ! (1 ∷ []) $ drop ! $ move ! (3 ∷ []) $ drop ! $ move ! (3 ∷ 1 ∷ 2 ∷ 0 ∷ 4 ∷ 5 ∷ 6 ∷ 7 ∷ 8 ∷ 9 ∷ 10 ∷ 11 ∷ 12 ∷ 13 ∷ 14 ∷ 15 ∷ 16 ∷ 17 ∷ 18 ∷ 19 ∷ 20 ∷ 21 ∷ 22 ∷ 23 ∷ 24 ∷ 25 ∷ 26 ∷ 27 ∷ 28 ∷ 29 ∷ 30 ∷ 31 ∷ 32 ∷ 33 ∷ 34 ∷ 35 ∷ 36 ∷ 37 ∷ 38 ∷ 39 ∷ 40 ∷ 41 ∷ 42 ∷ 43 ∷ 44 ∷ 45 ∷ 46 ∷ 47 ∷ 48 ∷ 49 ∷ 50 ∷ 51 ∷ 52 ∷ 53 ∷ []) $
         begins 𝓣 known-session-objects-reach known-session-objects-first known-session-objects-behind known-session-objects-used known-object-rows-put known-session-objects-keep-stored l₀ l₁ l₂ l₃ l₄ l₅ l₆ l₇ l₈ l₉ l₁₀ l₁₁ l₁₂ l₁₃ l₁₄ l₁₅ l₁₆ l₁₇ l₁₈ l₁₉ l₂₀ l₂₁ l₂₂ l₂₃ l₂₄)))))))))))))))))))))))))
 
 module _ {M : Type 1} (𝓤 : URA M) (H : Heap 𝓤) (A : Atoms 𝓤) (W : Given 𝓤 H A) (mem : Memory → SProp 𝓤) (run : Routine → Fun 𝓤) (𝓣 : Tables 𝓤 H) (known-session-objects-reach : Triple 𝓤 (𝓣 .C #session-objects-reach) (Of-session-objects-reach 𝓤 H A mem run)) (known-session-objects-first : Triple 𝓤 (𝓣 .C #session-objects-first) (Of-session-objects-first 𝓤 H A mem run)) (known-session-objects-behind : Triple 𝓤 (𝓣 .C #session-objects-behind) (Of-session-objects-behind 𝓤 H A mem run)) (known-session-objects-used : Triple 𝓤 (𝓣 .C #session-objects-used) (Of-session-objects-used 𝓤 H A mem run)) (known-object-rows-put : Triple 𝓤 (𝓣 .C #object-rows-put) (Of-object-rows-put 𝓤 H A mem run)) (known-session-objects-keep-stored : Triple 𝓤 (𝓣 .C #session-objects-keep-stored) (Of-session-objects-keep-stored 𝓤 H A mem run)) where
   walks : Walks 𝓤 H A f.ended stayed (WpFn 𝓤 H (𝓣 .C) (𝓣 .Λ) code.function) (f.clauses 𝓤 H A mem run)
-  walks = walked 𝓤 H A f.ended stayed (f.clauses 𝓤 H A mem run) (WpFn 𝓤 H (𝓣 .C) (𝓣 .Λ) code.function) (λ κs. (slice-vals, (slice-vals, ((λ y. u8-p .val y ∷ []), ((λ y. Object-p .val y ∷ []), tt))))) (λ κs. (mut-slice-tells (named 0) (κs .0) (Array u64 6), (mut-slice-tells (named 1) (κs .1 .0) Object-t.the-row, (u8-p .tells, (Object-p .tells, tt)))))
+  walks = walked 𝓤 H A f.ended stayed (f.clauses 𝓤 H A mem run) (WpFn 𝓤 H (𝓣 .C) (𝓣 .Λ) code.function) (λ κs. (slice-vals, (slice-vals, ((λ y. u8-p .val y ∷ []), ((λ y. Object-p .val y ∷ []), tt))))) (λ κs. (mut-slice-tells (named 0) (κs .0) (Array u64 8), (mut-slice-tells (named 1) (κs .1 .0) Object-t.the-row, (u8-p .tells, (Object-p .tells, tt)))))
       (λ κs qs bounds a g are. via 𝓤 _ (fst∗ 𝓤 _ (emp 𝓤)) (walk 𝓤 H A W mem run (κs .0) (qs .0) (a .0 .ptr .0) (a .0 .ptr .1) (a .0 .name) (a .0 .now) (κs .1 .0) (qs .1 .0) (a .1 .0 .ptr .0) (a .1 .0 .ptr .1) (a .1 .0 .name) (a .1 .0 .now) (a .1 .1 .0) (a .1 .1 .1 .0) (are .0 .0 .1) (are .1 .0 .0 .1) (are .1 .1 .0) (are .1 .1 .1 .0) 𝓣 known-session-objects-reach known-session-objects-first known-session-objects-behind known-session-objects-used known-object-rows-put known-session-objects-keep-stored))
 
   meets : Meets 𝓤 H A f.signature (WpFn 𝓤 H (𝓣 .C) (𝓣 .Λ) code.function) (f.spec 𝓤 H A mem run)
-  meets = walk-meets 𝓤 H A f.ended stayed W (goes-slice 𝓤 H A W 2 0 tt (plain (λ _. (Array u64 6))), (goes-slice 𝓤 H A W 2 1 tt (plain (λ _. Object-t.the-row)), (goes-none 𝓤 H A W 2 (λ _. u8-p .row) yes (λ κs x f. refl), (goes-none 𝓤 H A W 2 (λ _. Object-p .row) yes (λ κs x f. refl), tt)))) (f.clauses 𝓤 H A mem run) (WpFn 𝓤 H (𝓣 .C) (𝓣 .Λ) code.function) (WpFn-mono 𝓤 H (W .laws) 𝓣 code.function) walks
+  meets = walk-meets 𝓤 H A f.ended stayed W (goes-slice 𝓤 H A W 2 0 tt (plain (λ _. (Array u64 8))), (goes-slice 𝓤 H A W 2 1 tt (plain (λ _. Object-t.the-row)), (goes-none 𝓤 H A W 2 (λ _. u8-p .row) yes (λ κs x f. refl), (goes-none 𝓤 H A W 2 (λ _. Object-p .row) yes (λ κs x f. refl), tt)))) (f.clauses 𝓤 H A mem run) (WpFn 𝓤 H (𝓣 .C) (𝓣 .Λ) code.function) (WpFn-mono 𝓤 H (W .laws) 𝓣 code.function) walks
 
 pub put-object-spec : {M : Type 1} → stated.statement M
 unfolding code.routine tablesOf

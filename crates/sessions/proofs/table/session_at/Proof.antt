@@ -59,6 +59,24 @@ index-1-t36 c = search needs
 index-2-t36 : tie.Need-index-2-t36
 index-2-t36 c = search needs
 
+mul-t37 : tie.Need-mul-t37
+mul-t37 c = search needs
+
+index-1-t41 : tie.Need-index-1-t41
+index-1-t41 c = search needs
+
+index-2-t41 : tie.Need-index-2-t41
+index-2-t41 c = search needs
+
+mul-t42 : tie.Need-mul-t42
+mul-t42 c = search needs
+
+index-1-t46 : tie.Need-index-1-t46
+index-1-t46 c = search needs
+
+index-2-t46 : tie.Need-index-2-t46
+index-2-t46 c = search needs
+
 ended-requires : tie.Need-ended-requires
 ended-requires c κs = search needs
 
@@ -90,6 +108,12 @@ session-at-spec =
     mul-t32
     index-1-t36
     index-2-t36
+    mul-t37
+    index-1-t41
+    index-2-t41
+    mul-t42
+    index-1-t46
+    index-2-t46
     ended-requires
     returns
     returns-2)

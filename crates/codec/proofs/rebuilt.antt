@@ -1,0 +1,3 @@
+-- Laws and theorems of rebuilt bytes.
+pub mod Laws
+pub mod Theorems
