@@ -1,4 +1,5 @@
--- The submessages of an id in a datagram from a place on, ACKNACKs or FRAGMENTs: what the header of one that is read says; counted one header at a time, and no more of them than submessages.
+-- The submessages of a datagram from a place on: what the header of one that is read says; those of an id, ACKNACKs or FRAGMENTs, counted one header at a time, and no more of them than
+-- submessages.
 use Prim.Native.Nat.{ℕ, zero, suc, _+_, _-_, _≤_, _<_}
 use mathlib.Core.Path.{_≡_, refl, sym, ap, _∙_}
 use mathlib.Core.Bool.{Bool, true, false, cond}
@@ -24,7 +25,7 @@ use Rattle.codec.specs.declared.submessages.KindRead.the-variants as kind-read
 use Rattle.codec.specs.declared.submessages.Submessage.{Submessage}
 use Rattle.codec.proofs.Either.{either}
 use Rattle.codec.proofs.reading.Laws.{payload-placed, read-payload, read-short, items-more}
-use Rattle.agent.specs.Host.{oneOf, idsIn, idsAt, asksIn, unbound}
+use Rattle.agent.specs.Host.{oneOf, headersIn, headersAt, idsAt, asksIn, unbound}
 use Rattle.agent.specs.declared.judge.Start.{Start}
 
 -- ---- what the header of a submessage that is read says: its id is the submessage's own, and the next one begins behind its length
@@ -105,74 +106,87 @@ one-yes id b e = (sym (ap (λ (c : Bool). cond c 1 0) (eq-eqb b id e)), omega ar
 pub one-no : (id b : ℕ) → (b ≡ id → ⊥) → (0 ≡ oneOf id b) × (0 ≤ 1)
 one-no id b other = (sym (ap (λ (c : Bool). cond c 1 0) (ne-eqb b id other)), omega arith)
 
-module _ (id : ℕ) (d : List ℕ) where
-  -- whether one stands at a place, and where the next submessage begins
-  abbrev pub oneAt : ℕ → ℕ
-  oneAt at = oneOf id (getD d at 0)
+-- where the next submessage begins
+abbrev pub next : List ℕ → ℕ → ℕ
+next d at = at + 4 + wordAt d (at + 2)
 
-  abbrev next : ℕ → ℕ
-  next at = at + 4 + wordAt d (at + 2)
-
-  in-end : (n at : ℕ) → length d < at + 4 → idsIn id n d at ≡ 0
-  unfolding idsIn
+-- over the headers, one after the other
+module _ (one : ℕ → ℕ → ℕ) (none : ℕ) (d : List ℕ) where
+  in-end : (n at : ℕ) → length d < at + 4 → headersIn one none n d at ≡ none
+  unfolding headersIn
   in-end zero at h = refl
   in-end (suc n) at h = rw (lt-ltb (length d) (at + 4) h)
 
-  in-more : (n at : ℕ) → at + 4 ≤ length d → idsIn id (suc n) d at ≡ oneAt at + idsIn id n d (next at)
-  unfolding idsIn
+  in-more : (n at : ℕ) → at + 4 ≤ length d → headersIn one none (suc n) d at ≡ one at (headersIn one none n d (next d at))
+  unfolding headersIn
   in-more n at h = rw (le-ltb (length d) (at + 4) h)
 
   -- any count that is large enough gives the same
-  fuel : (k j at : ℕ) → length d - at ≤ k → length d - at ≤ j → idsIn id k d at ≡ idsIn id j d at
+  fuel : (k j at : ℕ) → length d - at ≤ k → length d - at ≤ j → headersIn one none k d at ≡ headersIn one none j d at
   fuel zero j at hk hj = let h : length d < at + 4 = omega arith in in-end zero at h ∙ sym (in-end j at h)
   fuel (suc k) zero at hk hj = let h : length d < at + 4 = omega arith in in-end (suc k) at h ∙ sym (in-end zero at h)
   fuel (suc k) (suc j) at hk hj = go (ltb (length d) (at + 4)) refl (λ p a b. fuel k j p a b)
     where
-      go : (b : Bool) → ltb (length d) (at + 4) ≡ b → ((p : ℕ) → length d - p ≤ k → length d - p ≤ j → idsIn id k d p ≡ idsIn id j d p)
-          → idsIn id (suc k) d at ≡ idsIn id (suc j) d at
+      go : (b : Bool) → ltb (length d) (at + 4) ≡ b → ((p : ℕ) → length d - p ≤ k → length d - p ≤ j → headersIn one none k d p ≡ headersIn one none j d p)
+          → headersIn one none (suc k) d at ≡ headersIn one none (suc j) d at
       go true e same = let h = ltb-true (length d) (at + 4) e in in-end (suc k) at h ∙ sym (in-end (suc j) at h)
       go false e same =
           let h = ltb-false (length d) (at + 4) e in
-          in-more k at h ∙ (ap (λ (n : ℕ). oneAt at + n) (same (next at) (omega (arith, h, hk)) (omega (arith, h, hj))) ∙ sym (in-more j at h))
+          in-more k at h ∙ (ap (one at) (same (next d at) (omega (arith, h, hk)) (omega (arith, h, hj))) ∙ sym (in-more j at h))
 
-  ids-more : (at : ℕ) → at + 4 ≤ length d → idsAt id d at ≡ oneAt at + idsAt id d (next at)
-  ids-more at h =
+  pub headers-end : (at : ℕ) → length d < at + 4 → headersAt one none d at ≡ none
+  headers-end at h = in-end (length d - at) at h
+
+  pub headers-more : (at : ℕ) → at + 4 ≤ length d → headersAt one none d at ≡ one at (headersAt one none d (next d at))
+  headers-more at h =
       let n = length d - (at + 1) in
       let s : length d - at ≡ suc n = omega (arith, h) in
-      ap (λ (m : ℕ). idsIn id m d at) s
-      ∙ (in-more n at h ∙ ap (λ (m : ℕ). oneAt at + m) (fuel n (length d - next at) (next at) (omega arith) (omega arith)))
+      ap (λ (m : ℕ). headersIn one none m d at) s
+      ∙ (in-more n at h ∙ ap (one at) (fuel n (length d - next d at) (next d at) (omega arith) (omega arith)))
 
   -- where a submessage is read, those from it on are it and those behind it
-  pub ids-read : (at : ℕ) (m : Submessage) (x : Span) (c : Cursor) → readAt d at ≡ parsed.Sub m x c → idsAt id d at ≡ oneAt at + idsAt id d (c .at)
-  ids-read at m x c e =
+  pub headers-read : (at : ℕ) (m : Submessage) (x : Span) (c : Cursor) → readAt d at ≡ parsed.Sub m x c → headersAt one none d at ≡ one at (headersAt one none d (c .at))
+  headers-read at m x c e =
       let k = read-says d at m x c e in
       let n = k .next in
       let w = k .within in
-      ids-more at (omega (arith, n, w)) ∙ ap (λ (p : ℕ). oneAt at + idsAt id d p) (sym n)
+      headers-more at (omega (arith, n, w)) ∙ ap (λ (p : ℕ). one at (headersAt one none d p)) (sym n)
+
+module _ (id : ℕ) (d : List ℕ) where
+  -- whether one stands at a place
+  abbrev pub oneAt : ℕ → ℕ
+  oneAt at = oneOf id (getD d at 0)
+
+  -- it, and those behind it
+  abbrev more : ℕ → ℕ → ℕ
+  more at n = oneAt at + n
+
+  pub ids-read : (at : ℕ) (m : Submessage) (x : Span) (c : Cursor) → readAt d at ≡ parsed.Sub m x c → idsAt id d at ≡ oneAt at + idsAt id d (c .at)
+  ids-read at m x c e = headers-read more 0 d at m x c e
 
   -- no more than submessages
-  in-few : (n at : ℕ) (ys : List Item) → itemsAt d at ≡ items ys → idsIn id n d at ≤ length ys
-  unfolding idsIn
+  in-few : (n at : ℕ) (ys : List Item) → itemsAt d at ≡ items ys → headersIn more 0 n d at ≤ length ys
+  unfolding headersIn
   in-few zero at ys i = omega arith
   in-few (suc n) at ys i = go (ltb (length d) (at + 4)) refl (λ p zs j. in-few n p zs j)
     where
       Rest : Type 0
-      Rest = (p : ℕ) (zs : List Item) → itemsAt d p ≡ items zs → idsIn id n d p ≤ length zs
+      Rest = (p : ℕ) (zs : List Item) → itemsAt d p ≡ items zs → headersIn more 0 n d p ≤ length zs
 
-      by : (q : Parsed) → readAt d at ≡ q → onward q (itemsAt d) ≡ items ys → Rest → oneAt at + idsIn id n d (next at) ≤ length ys
+      by : (q : Parsed) → readAt d at ≡ q → onward q (itemsAt d) ≡ items ys → Rest → oneAt at + headersIn more 0 n d (next d at) ≤ length ys
       by (parsed.Sub m x c) e j rest =
           let k = item-first _ (itemsAt d (c .at)) ys j in
-          let a = rest (next at) (k .0) (ap (itemsAt d) (sym (read-says d at m x c e .next)) ∙ k .1) in
+          let a = rest (next d at) (k .0) (ap (itemsAt d) (sym (read-says d at m x c e .next)) ∙ k .1) in
           let b = one-few id (getD d at 0) in
           let l = k .2 in
           omega (arith, a, b, l)
       by (parsed.Refused x) e j rest = let z : _≡_ {A = ℕ} 0 1 = cc in absurd (omega arith)
 
-      go : (b : Bool) → ltb (length d) (at + 4) ≡ b → Rest → idsIn id (suc n) d at ≤ length ys
-      go true e rest = let s = in-end (suc n) at (ltb-true (length d) (at + 4) e) in omega (arith, s)
+      go : (b : Bool) → ltb (length d) (at + 4) ≡ b → Rest → headersIn more 0 (suc n) d at ≤ length ys
+      go true e rest = let s = in-end more 0 d (suc n) at (ltb-true (length d) (at + 4) e) in omega (arith, s)
       go false e rest =
           let h = ltb-false (length d) (at + 4) e in
-          let s = in-more n at h in
+          let s = in-more more 0 d n at h in
           let a = by (readAt d at) refl (sym (items-more d at (omega (arith, h))) ∙ i) rest in
           omega (arith, s, a)
 
@@ -184,12 +198,12 @@ module _ (id : ℕ) (d : List ℕ) where
     pub ids-again : at + 4 ≤ length d → n ≤ at → (k : ℕ) → k ≡ oneAt at → k ≤ 1 → (l : ℕ) → l ≡ wordAt d (at + 2)
         → (n + k + idsAt id d (at + 4 + l) ≡ idsAt id d from) × (n + k ≤ at + 4 + l)
     ids-again h low k q few l e =
-        let m = ids-more at h in
+        let m = headers-more more 0 d at h in
         let s = ap (λ (j : ℕ). idsAt id d (at + 4 + j)) e in
         (omega (arith, all, m, q, s), omega (arith, low, few))
 
     pub ids-done : length d < at + 4 → n ≡ idsAt id d from
-    ids-done h = let e = in-end (length d - at) at h in omega (arith, all, e)
+    ids-done h = let e = headers-end more 0 d at h in omega (arith, all, e)
 
 -- whether an ACKNACK, 0x0E, stands at a place
 abbrev pub asksAt : List ℕ → ℕ → ℕ

@@ -77,7 +77,8 @@ use Rattle.moves.specs.Rows.{Rows as Stores, createdSessions, createdObjects, r
 use Rattle.moves.specs.RowsStreams.{openedSessions, openedRows, readOf, acknowledgedRows, streamRows, readSessions, readRows}
 use Rattle.agent.specs.Lent.{rowsOf, rebuiltPart}
 use Rattle.agent.specs.Step.{opened, joinedReplies}
-use Rattle.agent.specs.Run.{Turned, Acted, isLive, pointerOf, greeted, idOpened, opening, touchedIn, touchedTables, delivered, takenOf, insideBy, insideTurned, workIn, workAt, enteredRan, leftActed, leftBy, wholeLen, wholeTurned, fragmentTurned, subTurned, turned, goesOn, before, runIn, runAt, entered}
+use Rattle.agent.specs.Run.{Turned, Acted, isLive, pointerOf, greeted, idOpened, opening, touchedIn, touchedTables, delivered, takenOf, insideBy, insideTurned, workIn, workAt, enteredRan, leftActed, leftBy, wholeLen, wholeTurned, fragmentTurned, subTurned, turned, goesOn, before, runIn, runAt}
+use Rattle.agent.specs.Legs.{entered}
 use Rattle.moves.specs.Answers.{keepsOf, saysOf}
 use Rattle.agent.specs.Answered.{answeredSessions, answeredStreams, answeredObjects, answeredHeld}
 use Rattle.agent.specs.Host.{begunBy, begunBytes, begunSessions, begunStreams, begunObjects, begunHeld, rowsBegun, heldBegun, firstRan, resumedActed, resumed, performed}

@@ -28,7 +28,9 @@ pub mod SquareRun
 pub mod SquareHost
 pub mod Written
 pub mod Counted
-pub mod Loops
+pub mod Legs
+mod Plain
+mod Loops
 pub mod Turns
 pub mod Acknacks
 pub mod Running
@@ -48,6 +50,7 @@ pub mod TakeDown
 pub mod Back
 pub mod Frame
 pub mod Judged
+pub mod Sparse
 pub mod Most
 pub mod Entering
 pub mod Resumed

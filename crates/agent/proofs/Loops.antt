@@ -1,4 +1,4 @@
--- A loop over submessages, one turn at a time: of a datagram, of rebuilt bytes (W6), and of the beginning of a run.
+-- A loop over submessages, one turn at a time: of a datagram, of rebuilt bytes (W6), of a leg; and what a loop of the code keeps, whatever its turns are.
 use Prim.Native.Nat.{ℕ, zero, suc, _+_, _-_, _≤_, _<_}
 use mathlib.Core.Path.{_≡_, refl, sym, ap, _∙_, subst}
 use mathlib.Core.Bool.{Bool, true, false, cond}
@@ -108,14 +108,108 @@ module _ {S X : Type 0} (l : Loop S X) where
   pub whole-told : (r : Ran) (s : S) → l .ran (l .whole r s) .wrote ≡ countReplies (l .room) (r .wrote) (l .replies (l .whole r s))
   whole-told r s = subst (Told r) (sym (l .whole-is r s)) (in-told (l .len - r .at) r s)
 
+  -- it goes no way back, and on where it goes on at all
+  in-further : (n : ℕ) (r : Ran) (s : S) → r .at ≤ l .ran (l .all n r s) .at
+  in-further zero r s = let e = ap (λ (x : X). l .ran x .at) (l .none-left r s) ∙ ap (λ (v : Ran). v .at) (l .still-is r s .0) in omega (arith, e)
+  in-further (suc n) r s = go (l .goes r s) refl (in-further n (l .ran (l .turn r s)) (l .state (l .turn r s)))
+    where
+      go : (b : Bool) → l .goes r s ≡ b → l .ran (l .turn r s) .at ≤ l .ran (behind n r s) .at → r .at ≤ l .ran (l .all (suc n) r s) .at
+      go true e rest =
+          let a = l .ahead r s e in
+          let m = ap (λ (x : X). l .ran x .at) (in-more n r s e) ∙ ap (λ (v : Ran). v .at) (l .join-is (l .turn r s) (behind n r s) .0) in
+          omega (arith, a, m, rest)
+      go false e rest = let m = ap (λ (x : X). l .ran x .at) (in-end (suc n) r s e) ∙ ap (λ (v : Ran). v .at) (l .still-is r s .0) in omega (arith, m)
+
+  pub whole-further : (r : Ran) (s : S) → l .goes r s ≡ true → r .at < l .ran (l .whole r s) .at
+  whole-further r s e =
+      let x = l .turn r s in
+      let a = l .ahead r s e in
+      let y = l .whole (l .ran x) (l .state x) in
+      let m = ap (λ (z : X). l .ran z .at) (whole-more r s e) ∙ ap (λ (v : Ran). v .at) (l .join-is x y .0) in
+      let w = ap (λ (z : X). l .ran z .at) (l .whole-is (l .ran x) (l .state x)) in
+      let b = in-further (l .len - l .ran x .at) (l .ran x) (l .state x) in
+      omega (arith, a, m, w, b)
+
+  -- where it ends it doesn't go on
+  still-ended : (n : ℕ) (r : Ran) (s : S) → l .goes r s ≡ false → l .goes (l .ran (l .all n r s)) (l .state (l .all n r s)) ≡ false
+  still-ended n r s e =
+      let k = l .still-is r s in
+      ap (λ (x : X). l .goes (l .ran x) (l .state x)) (in-end n r s e) ∙ (ap (λ (v : Ran). l .goes v (l .state (l .still r s))) (k .0) ∙ (ap (l .goes r) (k .1) ∙ e))
+
+  in-ended : (n : ℕ) (r : Ran) (s : S) → l .len - r .at ≤ n → l .goes (l .ran (l .all n r s)) (l .state (l .all n r s)) ≡ false
+  in-ended zero r s h = still-ended zero r s (ends-past r s (omega (arith, h)))
+  in-ended (suc n) r s h = go (l .goes r s) refl (λ k. in-ended n (l .ran (l .turn r s)) (l .state (l .turn r s)) k)
+    where
+      go : (b : Bool) → l .goes r s ≡ b → (l .len - l .ran (l .turn r s) .at ≤ n → l .goes (l .ran (behind n r s)) (l .state (behind n r s)) ≡ false)
+          → l .goes (l .ran (l .all (suc n) r s)) (l .state (l .all (suc n) r s)) ≡ false
+      go true e rest =
+          let w = l .within r s e in
+          let a = l .ahead r s e in
+          let j = l .join-is (l .turn r s) (behind n r s) in
+          let k = rest (omega (arith, a, w, h)) in
+          ap (λ (x : X). l .goes (l .ran x) (l .state x)) (in-more n r s e) ∙ (ap (λ (v : Ran). l .goes v (l .state (further r s (behind n r s)))) (j .0) ∙ (ap (l .goes (l .ran (behind n r s))) (j .1) ∙ k))
+      go false e rest = still-ended (suc n) r s e
+
+  pub whole-ended : (r : Ran) (s : S) → l .goes (l .ran (l .whole r s)) (l .state (l .whole r s)) ≡ false
+  whole-ended r s = ap (λ (x : X). l .goes (l .ran x) (l .state x)) (l .whole-is r s) ∙ in-ended (l .len - r .at) r s (omega arith)
+
 -- ---- the loop: what is left from here is what was to be done from the start
 
-pub record Left {S X : Type 0} (l : Loop S X) (start : Ran) (t : S) (out : List ℕ) (r : Ran) (t′ : S) (w : List ℕ) : Type 0 where
+-- a loop as far as its code goes: what it does is its first turn and what it does from there
+pub record Steps (S X : Type 0) : Type 0 where
+  pub len : ℕ
+  pub room : ℕ
+  pub goes : Ran → S → Bool
+  pub turn : Ran → S → X
+  pub ran : X → Ran
+  pub state : X → S
+  pub replies : X → List Reply
+  pub whole : Ran → S → X
+  pub ends : (r : Ran) (s : S) → goes r s ≡ false → (ran (whole r s) ≡ r) × (state (whole r s) ≡ s) × (replies (whole r s) ≡ [])
+  pub goes-on : (r : Ran) (s : S) → goes r s ≡ true
+      → let x = turn r s in let y = whole (ran x) (state x) in (ran (whole r s) ≡ ran y) × (state (whole r s) ≡ state y) × (replies (whole r s) ≡ replies x ++ replies y)
+  pub within : (r : Ran) (s : S) → goes r s ≡ true → r .at < len
+  pub ahead : (r : Ran) (s : S) → goes r s ≡ true → r .at < ran (turn r s) .at
+  pub told : (r : Ran) (s : S) → goes r s ≡ true → ran (turn r s) .wrote ≡ countReplies room (r .wrote) (replies (turn r s))
+
+module _ {S X : Type 0} (l : Loop S X) where
+  pub its-ends : (r : Ran) (s : S) → l .goes r s ≡ false → (l .ran (l .whole r s) ≡ r) × (l .state (l .whole r s) ≡ s) × (l .replies (l .whole r s) ≡ [])
+  its-ends r s e =
+      let m = whole-end l r s e in
+      let k = l .still-is r s in
+      (ap (l .ran) m ∙ k .0, ap (l .state) m ∙ k .1, ap (l .replies) m ∙ k .2)
+
+  pub its-more : (r : Ran) (s : S) → l .goes r s ≡ true
+      → let x = l .turn r s in let y = l .whole (l .ran x) (l .state x) in (l .ran (l .whole r s) ≡ l .ran y) × (l .state (l .whole r s) ≡ l .state y) × (l .replies (l .whole r s) ≡ l .replies x ++ l .replies y)
+  its-more r s e =
+      let m = whole-more l r s e in
+      let j = l .join-is (l .turn r s) (l .whole (l .ran (l .turn r s)) (l .state (l .turn r s))) in
+      (ap (l .ran) m ∙ j .0, ap (l .state) m ∙ j .1, ap (l .replies) m ∙ j .2)
+
+  abbrev pub stepsOf : Steps S X
+  stepsOf =
+      record {
+        len = l .len;
+        room = l .room;
+        goes = l .goes;
+        turn = l .turn;
+        ran = l .ran;
+        state = l .state;
+        replies = l .replies;
+        whole = l .whole;
+        ends = its-ends;
+        goes-on = its-more;
+        within = l .within;
+        ahead = l .ahead;
+        told = l .told;
+      }
+
+pub record Left {S X : Type 0} (l : Steps S X) (start : Ran) (t : S) (out : List ℕ) (r : Ran) (t′ : S) (w : List ℕ) : Type 0 where
   pub ran : l .ran (l .whole r t′) ≡ l .ran (l .whole start t)
   pub state : l .state (l .whole r t′) ≡ l .state (l .whole start t)
   pub written : putReplies (l .room) w (r .wrote) (l .replies (l .whole r t′)) ≡ putReplies (l .room) out (start .wrote) (l .replies (l .whole start t))
 
-module _ {S X : Type 0} (l : Loop S X) (start : Ran) (t : S) (out : List ℕ) where
+module _ {S X : Type 0} (l : Steps S X) (start : Ran) (t : S) (out : List ℕ) where
   pub left-start : Left l start t out start t out
   left-start = record { ran = refl; state = refl; written = refl }
 
@@ -128,14 +222,12 @@ module _ {S X : Type 0} (l : Loop S X) (start : Ran) (t : S) (out : List ℕ) wh
 
     pub left-again : l .goes r t′ ≡ true → Left l start t out (l .ran next) (l .state next) (putReplies (l .room) w (r .wrote) (l .replies next))
     left-again e =
-        let m = whole-more l r t′ e in
-        let j = l .join-is next rest in
+        let m = l .goes-on r t′ e in
         record {
-          ran = sym (j .0) ∙ (sym (ap (l .ran) m) ∙ left .ran);
-          state = sym (j .1) ∙ (sym (ap (l .state) m) ∙ left .state);
+          ran = sym (m .0) ∙ left .ran;
+          state = sym (m .1) ∙ left .state;
           written = ap (λ (n : ℕ). putReplies (l .room) (putReplies (l .room) w (r .wrote) (l .replies next)) n (l .replies rest)) (l .told r t′ e)
-              ∙ (sym (put-replies-behind (l .room) w (r .wrote) (l .replies next) (l .replies rest))
-              ∙ (ap (putReplies (l .room) w (r .wrote)) (sym (ap (l .replies) m ∙ j .2)) ∙ left .written));
+              ∙ (sym (put-replies-behind (l .room) w (r .wrote) (l .replies next) (l .replies rest)) ∙ (ap (putReplies (l .room) w (r .wrote)) (sym (m .2)) ∙ left .written));
         }
 
     pub left-less : l .goes r t′ ≡ true → l .len - l .ran next .at < l .len - r .at
@@ -148,9 +240,5 @@ module _ {S X : Type 0} (l : Loop S X) (start : Ran) (t : S) (out : List ℕ) wh
         → (r ≡ l .ran (l .whole start t)) × (t′ ≡ l .state (l .whole start t)) × (w ≡ putReplies (l .room) out (start .wrote) (l .replies (l .whole start t)))
     unfolding putReplies
     left-end e =
-        let m = whole-end l r t′ e in
-        let k = l .still-is r t′ in (
-          sym (ap (l .ran) m ∙ k .0) ∙ left .ran,
-          sym (ap (l .state) m ∙ k .1) ∙ left .state,
-          ap (putReplies (l .room) w (r .wrote)) (sym (ap (l .replies) m ∙ k .2)) ∙ left .written,
-        )
+        let k = l .ends r t′ e in
+        (sym (k .0) ∙ left .ran, sym (k .1) ∙ left .state, ap (putReplies (l .room) w (r .wrote)) (sym (k .2)) ∙ left .written)

@@ -1,6 +1,6 @@
 -- A call as the code goes: the answer's part, the rebuilt submessages that waited for it, then the run; and the same with the run in two, its beginning and the rest.
 use Prim.Native.Nat.{ℕ}
-use mathlib.Core.Path.{_≡_, refl, sym, ap, _∙_}
+use mathlib.Core.Path.{_≡_, refl, sym, ap, _∙_, subst}
 use mathlib.Core.Bool.{true}
 use mathlib.Core.List.{List}
 use borrow.Rule.Slice.PartMut.{midOf}
@@ -9,7 +9,9 @@ use Rattle.sessions.specs.View.{Tables}
 use Rattle.moves.specs.Rows.{Rows}
 use Rattle.agent.specs.Step.{Reply, joinedReplies}
 use Rattle.agent.specs.Lent.{lent, rowsOf, rebuiltEnd}
-use Rattle.agent.specs.Run.{Turned, Acted, putReplies, before, runAt, enterAt, entered, workAt, leftRan, leftActed}
+use Rattle.agent.specs.Run.{Turned, Acted, putReplies, before, runAt, workAt, leftRan, leftActed}
+use Rattle.agent.specs.Legs.{Led, legAt, enterAt, entered}
+use Rattle.agent.specs.declared.leg.Mode.the-variants.{Rebuilt}
 use Rattle.agent.specs.Host.{begunBy, rowsBegun, heldBegun, firstRan, behind, resumedActed, resumed, performed}
 use Rattle.agent.specs.declared.judge.Start.{Start}
 use Rattle.agent.specs.declared.turn.Ran.{Ran}
@@ -18,7 +20,8 @@ use Rattle.agent.proofs.Written.{rebuilt-cut}
 use Rattle.agent.proofs.Running.{run-held}
 use Rattle.agent.proofs.Performed.{begun-counted, resumed-told}
 use Rattle.agent.proofs.Most.{none-waits}
-use Rattle.agent.proofs.Entering.{Same, enter-still, enter-held, run-enters, enter-entered}
+use Rattle.agent.proofs.Legs.{leg-work}
+use Rattle.agent.proofs.Entering.{run-enters, enter-entered}
 
 -- ---- the answer's part, and what waited for it
 
@@ -71,12 +74,22 @@ module _ (x : Start) (t : Rows) (h rebuilt sample out : List ℕ) where
     unfolding resumedActed
     worked-cut = ap workedOn (rebuilt-cut rebuilt (x .«left_end») len is)
 
-    pub left-worked : Left (leftRan (done .ran) (x .«left_end») (x .at)) (done .rows) (heldBegun x t h sample)
+    left-worked : Left (leftRan (done .ran) (x .«left_end») (x .at)) (done .rows) (heldBegun x t h sample)
         (putReplies room (putReplies room out 0 begun) (length (joinedReplies begun)) (done .replies))
     left-worked =
         left-by (workedOn (waited len)) _ worked-cut
         (ap (λ (n : ℕ). putReplies room (putReplies room out 0 begun) n (done .replies)) (sym (begun-counted room (x .resumes) (t .sessions) (t .streams) (x .frame) sample))
         ∙ sym (put-replies-behind room out 0 begun (done .replies)))
+
+    -- as the code goes, a leg
+    abbrev led-on : Led
+    led-on = legAt Rebuilt (x .frame) (heldBegun x t h sample) (waited len) first (rowsBegun x t h sample)
+
+    pub left-led : Left (leftRan (led-on .leg .ran) (x .«left_end») (x .at)) (led-on .rows) (heldBegun x t h sample)
+        (putReplies room (putReplies room out 0 begun) (length (joinedReplies begun)) (led-on .replies))
+    left-led =
+        subst (λ (y : Led). Left (leftRan (y .leg .ran) (x .«left_end») (x .at)) (y .rows) (heldBegun x t h sample) (putReplies room (putReplies room out 0 begun) (length (joinedReplies begun)) (y .replies)))
+        (sym (leg-work (x .frame) (heldBegun x t h sample) (waited len) first (rowsBegun x t h sample))) left-worked
 
 -- ---- the whole call
 
@@ -119,40 +132,27 @@ module _ (x : Start) (t : Tables) (d sample : List ℕ) where
   abbrev pub began : Turned
   began = enterAt (x .frame) d (before-run .ran) (before-run .tables)
 
-  abbrev pub withHeld : Tables
-  withHeld =
-      lent (began .tables .sessions) (began .tables .streams) (began .tables .objects) (heldBegun x (rowsOf t) (t .held) sample) (began .tables .parts) (began .tables .lengths) (began .tables .rebuilt)
-
   abbrev pub rest : Turned
-  rest = runAt (x .frame) d (began .ran) withHeld
-
-  began-held : withHeld ≡ began .tables
-  began-held = ap (λ (h : List ℕ). lent (began .tables .sessions) (began .tables .streams) (began .tables .objects) h (began .tables .parts) (began .tables .lengths) (began .tables .rebuilt)) (sym (enter-held (x .frame) d (before-run .ran) (before-run .tables)))
+  rest = runAt (x .frame) d (began .ran) (began .tables)
 
   rest-is : its-run ≡ before began (λ r u. runAt (x .frame) d r u)
   rest-is = run-enters (x .frame) d (before-run .ran) (before-run .tables)
 
-  rest-run : runAt (x .frame) d (began .ran) withHeld ≡ runAt (x .frame) d (began .ran) (began .tables)
-  rest-run = ap (runAt (x .frame) d (began .ran)) began-held
-
   pub rest-wrote : rest .ran .wrote ≡ performed x t d sample .ran .wrote
   unfolding performed
-  rest-wrote = ap (λ (y : Turned). y .ran .wrote) rest-run ∙ sym (ap (λ (y : Turned). y .ran .wrote) rest-is)
+  rest-wrote = sym (ap (λ (y : Turned). y .ran .wrote) rest-is)
 
   pub rest-sessions : rest .tables .sessions ≡ performed x t d sample .tables .sessions
   unfolding performed
-  rest-sessions = ap (λ (y : Turned). y .tables .sessions) rest-run ∙ sym (ap (λ (y : Turned). y .tables .sessions) rest-is)
+  rest-sessions = sym (ap (λ (y : Turned). y .tables .sessions) rest-is)
 
   pub rest-streams : rest .tables .streams ≡ performed x t d sample .tables .streams
   unfolding performed
-  rest-streams = ap (λ (y : Turned). y .tables .streams) rest-run ∙ sym (ap (λ (y : Turned). y .tables .streams) rest-is)
+  rest-streams = sym (ap (λ (y : Turned). y .tables .streams) rest-is)
 
   pub rest-objects : rest .tables .objects ≡ performed x t d sample .tables .objects
   unfolding performed
-  rest-objects = ap (λ (y : Turned). y .tables .objects) rest-run ∙ sym (ap (λ (y : Turned). y .tables .objects) rest-is)
-
-  pub began-still : Same t (began .tables)
-  began-still = enter-still (x .frame) d (before-run .ran) (before-run .tables)
+  rest-objects = sym (ap (λ (y : Turned). y .tables .objects) rest-is)
 
   pub began-entered : entered (x .frame) (length d) (began .ran) (began .tables .sessions) ≡ true
   began-entered = enter-entered (x .frame) d (before-run .ran) (before-run .tables)

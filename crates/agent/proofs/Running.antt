@@ -24,7 +24,7 @@ use Rattle.sessions.specs.declared.table.Named.{Named}
 use Rattle.sessions.specs.declared.table.Named.the-variants as named
 use Rattle.agent.specs.Step.{Reply, bytesOf, joinedReplies}
 use Rattle.agent.specs.Lent.{lent}
-use Rattle.agent.specs.Run.{Turned, countReplies, putReplies, takenOf, fragmentTurned, subTurned, turned, goesOn, before, runIn, runAt, named, enterIn, enterAt}
+use Rattle.agent.specs.Run.{Turned, countReplies, putReplies, takenOf, fragmentTurned, subTurned, turned, goesOn, before, runIn, runAt}
 use Rattle.agent.specs.Answered.{sequenceOf, answeredBy}
 use Rattle.agent.specs.Host.{begunBy, firstRan, performed, asksIn}
 use Rattle.moves.specs.declared.handle.Opening.{Opening}
@@ -36,7 +36,7 @@ use Rattle.agent.specs.declared.turn.Frame.{Frame}
 use Rattle.agent.specs.declared.turn.Ran.{Ran}
 use Rattle.agent.specs.declared.turn.Taken.{Taken}
 use Rattle.agent.proofs.Counted.{joined-long, put-replies-behind, count-most, count-exact, count-told}
-use Rattle.agent.proofs.Loops.{Loop, whole-end, whole-more, whole-told, Left, left-again, left-end}
+use Rattle.agent.proofs.Loops.{Loop, whole-end, whole-more, whole-told}
 use Rattle.agent.proofs.Turns.{one-long, none-long, goes-within, turns, turned-at}
 
 -- ---- one turn at a time
@@ -90,64 +90,9 @@ module _ (f : Frame) (d : List ℕ) where
   pub run-more : (r : Ran) (t : Tables) → goesOn (length d) r ≡ true → runAt f d r t ≡ before (turned f t d r) (λ r′ t′. runAt f d r′ t′)
   run-more r t e = whole-more runLoop r t e
 
-  -- ---- the beginning of a run
-
-  pub enter-none : (r : Ran) (t : Tables) → enterIn zero f d r t ≡ idle r t
-  unfolding enterIn
-  enter-none r t = refl
-
-  pub enter-one : (n : ℕ) (r : Ran) (t : Tables)
-      → enterIn (suc n) f d r t ≡ cond (cond (named f t) false (goesOn (length d) r)) (before (turned f t d r) (λ r′ t′. enterIn n f d r′ t′)) (idle r t)
-  unfolding enterIn
-  enter-one n r t = refl
-
-  pub enter-whole : (r : Ran) (t : Tables) → enterAt f d r t ≡ enterIn (length d - r .at) f d r t
-  unfolding enterAt
-  enter-whole r t = refl
-
-  abbrev pub enterGoes : Ran → Tables → Bool
-  enterGoes r t = cond (named f t) false (goesOn (length d) r)
-
-  second-by : (b c : Bool) → cond b false c ≡ true → c ≡ true
-  second-by true c e = absurd (true≢false (sym e))
-  second-by false c e = e
-
-  pub enter-within : (r : Ran) (t : Tables) → enterGoes r t ≡ true → r .at < length d
-  enter-within r t e = goes-within (length d) r (second-by (named f t) (goesOn (length d) r) e)
-
-  abbrev pub enterLoop : Loop Tables Turned
-  enterLoop =
-      record {
-        len = length d;
-        room = f .room;
-        goes = enterGoes;
-        turn = λ r t. turned f t d r;
-        ran = λ x. x .ran;
-        state = λ x. x .tables;
-        replies = λ x. x .replies;
-        still = idle;
-        join = joined;
-        all = λ n r t. enterIn n f d r t;
-        whole = λ r t. enterAt f d r t;
-        still-is = λ r t. (refl, refl, refl);
-        join-is = λ x y. (refl, refl, refl);
-        none-left = enter-none;
-        one-more = enter-one;
-        whole-is = enter-whole;
-        within = enter-within;
-        ahead = λ r t e. turns f t d r (enter-within r t e) .ahead;
-        told = λ r t e. turns f t d r (enter-within r t e) .told;
-      }
-
-  pub enter-end : (r : Ran) (t : Tables) → enterGoes r t ≡ false → enterAt f d r t ≡ idle r t
-  enter-end r t e = whole-end enterLoop r t e
-
-  pub enter-more : (r : Ran) (t : Tables) → enterGoes r t ≡ true → enterAt f d r t ≡ before (turned f t d r) (λ r′ t′. enterAt f d r′ t′)
-  enter-more r t e = whole-more enterLoop r t e
-
   -- ---- the store of held messages stays
 
-  fragment-held : (t : Tables) (r : Ran) (x : Taken) → fragmentTurned f t d r x .tables .held ≡ t .held
+  pub fragment-held : (t : Tables) (r : Ran) (x : Taken) → fragmentTurned f t d r x .tables .held ≡ t .held
   unfolding fragmentTurned
   fragment-held t r x = refl
 
@@ -179,49 +124,3 @@ module _ (f : Frame) (d : List ℕ) where
 
   pub run-told : (r : Ran) (t : Tables) → runAt f d r t .ran .wrote ≡ countReplies (f .room) (r .wrote) (runAt f d r t .replies)
   run-told r t = whole-told runLoop r t
-
--- ---- what the loops of `run` and `enter` keep: the store of held messages is no part of what they change
-
-abbrev heldAs : Tables → List ℕ → Tables
-heldAs t h = lent (t .sessions) (t .streams) (t .objects) h (t .parts) (t .lengths) (t .rebuilt)
-
-abbrev pub Done : Turned → Ran → Tables → List ℕ → List ℕ → Type 0
-Done y r t w out =
-    (r ≡ y .ran) × (t .sessions ≡ y .tables .sessions) × (t .streams ≡ y .tables .streams) × (t .objects ≡ y .tables .objects)
-    × (t .parts ≡ y .tables .parts) × (t .lengths ≡ y .tables .lengths) × (t .rebuilt ≡ y .tables .rebuilt) × (w ≡ out)
-
-done-by : (y : Turned) (r : Ran) (t : Tables) (w out : List ℕ) → (r ≡ y .ran) × (t ≡ y .tables) × (w ≡ out) → Done y r t w out
-done-by y r t w out (a, u, b) = (
-  a,
-  ap (λ (z : Tables). z .sessions) u,
-  ap (λ (z : Tables). z .streams) u,
-  ap (λ (z : Tables). z .objects) u,
-  ap (λ (z : Tables). z .parts) u,
-  ap (λ (z : Tables). z .lengths) u,
-  ap (λ (z : Tables). z .rebuilt) u,
-  b,
-)
-
-module _ (f : Frame) (d : List ℕ) (start : Ran) (t : Tables) (out : List ℕ) (r : Ran) (t′ : Tables) (w : List ℕ) where
-  abbrev next : Turned
-  next = turned f t′ d r
-
-  pub run-again : Left (runLoop f d) start t out r t′ w → goesOn (length d) r ≡ true
-      → Left (runLoop f d) start t out (next .ran) (heldAs (next .tables) (t′ .held)) (putReplies (f .room) w (r .wrote) (next .replies))
-  run-again left e =
-      subst (λ (h : List ℕ). Left (runLoop f d) start t out (next .ran) (heldAs (next .tables) h) (putReplies (f .room) w (r .wrote) (next .replies))) (turned-held f d t′ r)
-      (left-again (runLoop f d) start t out r t′ w left e)
-
-  pub enter-again : Left (enterLoop f d) start t out r t′ w → enterGoes f d r t′ ≡ true
-      → Left (enterLoop f d) start t out (next .ran) (heldAs (next .tables) (t′ .held)) (putReplies (f .room) w (r .wrote) (next .replies))
-  enter-again left e =
-      subst (λ (h : List ℕ). Left (enterLoop f d) start t out (next .ran) (heldAs (next .tables) h) (putReplies (f .room) w (r .wrote) (next .replies))) (turned-held f d t′ r)
-      (left-again (enterLoop f d) start t out r t′ w left e)
-
-  pub run-done : Left (runLoop f d) start t out r t′ w → goesOn (length d) r ≡ false
-      → Done (runAt f d start t) r t′ w (putReplies (f .room) out (start .wrote) (runAt f d start t .replies))
-  run-done left e = done-by (runAt f d start t) r t′ w _ (left-end (runLoop f d) start t out r t′ w left e)
-
-  pub enter-done : Left (enterLoop f d) start t out r t′ w → enterGoes f d r t′ ≡ false
-      → Done (enterAt f d start t) r t′ w (putReplies (f .room) out (start .wrote) (enterAt f d start t .replies))
-  enter-done left e = done-by (enterAt f d start t) r t′ w _ (left-end (enterLoop f d) start t out r t′ w left e)

@@ -20,7 +20,7 @@ use Rattle.codec.specs.declared.refusals.Refusal.the-variants.{BufferTooShort}
 use Rattle.codec.specs.declared.submessages.FragmentPayload.{FragmentPayload}
 use Rattle.codec.specs.declared.submessages.Submessage.{Submessage}
 use Rattle.codec.specs.declared.submessages.Submessage.the-variants as sub
-use Rattle.codec.proofs.rebuilt.Laws.{whole-none, whole-reads, rebuilt-reads, reading-passed, reading-refused}
+use Rattle.codec.proofs.rebuilt.Laws.{whole-reads, rebuilt-reads, reading-passed, reading-refused}
 use Rattle.isolation.specs.Rules.{Bytes, done, calls}
 use Rattle.sessions.specs.Table.{isFree, namedOf, touchedRows}
 use Rattle.sessions.specs.FragmentStore.{FragmentStore, gatheredStore, gatheredBytes}
@@ -52,21 +52,14 @@ use Rattle.agent.specs.declared.turn.Ran.{Ran}
 use Rattle.agent.specs.declared.turn.Stop.{Stop}
 use Rattle.agent.specs.declared.turn.Stop.the-variants as stop
 use Rattle.agent.specs.declared.turn.Taken.{Taken}
+use Rattle.agent.proofs.Written.{none-part, no-bytes}
 use Rattle.agent.proofs.Square.{outcome, Meets, led-on, same-local}
 use Rattle.agent.proofs.SquareHandled.{touches-led, touch-shown, touch-live, turn-led, turn-square}
 use Rattle.agent.proofs.SquareRebuilt.{askedAs, map-behind, Worked, Works, untouched, work-square}
 
 -- ---- rebuilt bytes in their place
 
-pub none-part : (s : List ℕ) → rebuiltPart s 0 ≡ []
-unfolding partOf
-none-part s = by (leb (0 + 0) (length s))
-  where
-    by : (b : Bool) → cond b (take 0 (drop 0 s)) [] ≡ []
-    by true = refl
-    by false = refl
-
--- so where there are bytes, their number isn't 0
+-- where there are bytes, their number isn't 0
 some-end : (s : List ℕ) (e : ℕ) → 0 < length (rebuiltPart s e) → 0 < e
 some-end s zero h = let z = ap length (none-part s) in omega (arith, z, h)
 some-end s (suc e) h = omega arith
@@ -211,9 +204,6 @@ module _ (f : Frame) (d : List ℕ) (max≤ : f .«max_clients» ≤ 255) (id< :
   whole-missing gathered.Nothing e = refl
   whole-missing (gathered.Held b) e = refl
   whole-missing (gathered.Whole k) e = let z : _≡_ {A = ℕ} 0 1 = cc in absurd (omega arith)
-
-  no-bytes : (s : List ℕ) → rebuiltOf (rebuiltPart s 0) ≡ rebuilt.Refused BufferTooShort
-  no-bytes s = sym (whole-none (rebuiltPart s 0) (ap length (none-part s)))
 
   module _ (idle : r .stop ≡ stop.Nothing) (p : FragmentPayload) (body : Span) where
     abbrev bytes : List ℕ

@@ -82,7 +82,8 @@ use Rattle.agent.proofs.Planned.{sweepTo, swept-as}
 use Rattle.agent.proofs.Performed.{performed-told}
 use Rattle.agent.proofs.Square.{shown-live, live-shown, same-local}
 use Rattle.agent.proofs.SquareAnswer.{resumes-acts, resumes-quiet}
-use Rattle.agent.proofs.SquareFragments.{none-part, Left, Acts}
+use Rattle.agent.proofs.Written.{none-part}
+use Rattle.agent.proofs.SquareFragments.{Left, Acts}
 use Rattle.agent.proofs.SquareHeld.{held-same}
 use Rattle.agent.proofs.SquareHost.{empty-view, remove-view, swept-view, swept-ids}
 use Rattle.agent.proofs.SquareOpen.{viewOf, at-in}

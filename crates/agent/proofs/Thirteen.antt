@@ -20,7 +20,7 @@ use Rattle.moves.specs.Proxy.{answerAs, taskAs}
 use Rattle.moves.specs.Answers.{saysOf}
 use Rattle.agent.specs.Answered.{saysFits, sequenceOf, saysBytes, answeredBy}
 use Rattle.agent.specs.Judge.{judgeOf}
-use Rattle.agent.specs.Host.{begunBy, performed, resumesFit, answerMost, firstMost, idsAt, asksIn, unbound, bounded, roomy, neededOf, Leaves, finishedOf, refuse, finish, processedBy, processOf}
+use Rattle.agent.specs.Host.{begunBy, performed, resumesFit, answerMost, firstMost, idsAt, asksIn, unbound, brings, bounded, roomy, neededOf, Leaves, finishedOf, refuse, finish, processedBy, processOf}
 use Rattle.moves.specs.declared.answers.Says.the-variants as says
 use Rattle.agent.specs.declared.judge.Input.{Input}
 use Rattle.agent.specs.declared.judge.Judged.{Judged}
@@ -39,7 +39,8 @@ use Rattle.agent.proofs.Counted.{fits-whole}
 use Rattle.agent.proofs.Performed.{performed-told}
 use Rattle.agent.proofs.Most.{performed-most}
 use Rattle.agent.proofs.answers.Laws.{sample-fits}
-use Rattle.agent.proofs.Acknacks.{ids-few, is-bound}
+use Rattle.agent.proofs.Acknacks.{ids-few}
+use Rattle.agent.proofs.Sparse.{brings-none, bound-brings}
 use Rattle.codec.specs.Bytes.{putAt}
 use Rattle.agent.specs.Run.{putReplies, Turned}
 use Rattle.agent.proofs.Judged.{AnswerFits, Sound}
@@ -130,9 +131,9 @@ module _ (t : Tables) (d sample : List ℕ) (x : Start) (n room : ℕ) (k : Soun
   abbrev first : ℕ
   first = firstMost (x .resumes) (length sample)
 
-  most : unbound x d ≡ false → performed x t d sample .ran .wrote ≤ first + 12 * n + 16384 * asksIn x d
+  most : brings x (t .sessions) d ≡ false → performed x t d sample .ran .wrote ≤ first + 12 * n + 16384 * asksIn x d
   most e =
-      let z = is-bound x d e in
+      let z = brings-none x (t .sessions) d e in
       let p = performed-most x t d sample (z .0) (k .counted .0) (k .counted .1) (z .1) in
       let q = begun-most (x .resumes) (t .sessions) (t .streams) (x .frame) sample (k .sample-fits) (k .answer-fits) in
       let c = k .counted .2 in
@@ -149,7 +150,7 @@ module _ (t : Tables) (d sample : List ℕ) (x : Start) (n room : ℕ) (k : Soun
           let c = k .counted .2 in
           omega (arith, a, c)
 
-  bounded-most : unbound x d ≡ false → bounded room x n d (length sample) ≡ true → performed x t d sample .ran .wrote ≤ room
+  bounded-most : brings x (t .sessions) d ≡ false → bounded room x n d (length sample) ≡ true → performed x t d sample .ran .wrote ≤ room
   bounded-most plain e = go (ltb room first) (ltb ((room - first) / 12) n) (leb n spare) refl refl refl e
     where
       spare : ℕ
@@ -173,27 +174,27 @@ module _ (t : Tables) (d sample : List ℕ) (x : Start) (n room : ℕ) (k : Soun
           let w = most plain in
           omega (arith, l, m, a, w)
 
-  roomy-most : roomy room x n d (length sample) ≡ true → performed x t d sample .ran .wrote ≤ room
-  roomy-most e = go (unbound x d) refl e
+  roomy-most : roomy room x (t .sessions) n d (length sample) ≡ true → performed x t d sample .ran .wrote ≤ room
+  roomy-most e = go (brings x (t .sessions) d) refl e
     where
-      go : (b : Bool) → unbound x d ≡ b → cond b false (bounded room x n d (length sample)) ≡ true → performed x t d sample .ran .wrote ≤ room
+      go : (b : Bool) → brings x (t .sessions) d ≡ b → cond b false (bounded room x n d (length sample)) ≡ true → performed x t d sample .ran .wrote ≤ room
       go true q z = absurd (no-fit z)
       go false q z = bounded-most q z
 
-  pub thirteen : ltb room (neededOf (roomy room x n d (length sample)) (performed x t d sample .ran .wrote)) ≡ ltb room (performed x t d sample .ran .wrote)
-  thirteen = go (roomy room x n d (length sample)) refl
+  pub thirteen : ltb room (neededOf (roomy room x (t .sessions) n d (length sample)) (performed x t d sample .ran .wrote)) ≡ ltb room (performed x t d sample .ran .wrote)
+  thirteen = go (roomy room x (t .sessions) n d (length sample)) refl
     where
       w : ℕ
       w = performed x t d sample .ran .wrote
 
-      go : (b : Bool) → roomy room x n d (length sample) ≡ b → ltb room (neededOf b w) ≡ ltb room w
+      go : (b : Bool) → roomy room x (t .sessions) n d (length sample) ≡ b → ltb room (neededOf b w) ≡ ltb room w
       go true e = le-ltb room 0 (omega arith) ∙ sym (le-ltb room w (roomy-most e))
       go false e = refl
 
 -- what has a bound is roomy by it
-pub by-bound : (room : ℕ) (x : Start) (n : ℕ) (d : List ℕ) (sample wrote : ℕ) → unbound x d ≡ false → ltb room (neededOf (roomy room x n d sample) wrote) ≡ ltb room wrote
-    → ltb room wrote ≡ ltb room (neededOf (bounded room x n d sample) wrote)
-by-bound room x n d sample wrote u e = sym e ∙ ap (λ (b : Bool). ltb room (neededOf (cond b false (bounded room x n d sample)) wrote)) u
+pub by-bound : (room : ℕ) (x : Start) (s : List (List ℕ)) (n : ℕ) (d : List ℕ) (sample wrote : ℕ) → unbound x d ≡ false
+    → ltb room (neededOf (roomy room x s n d sample) wrote) ≡ ltb room wrote → ltb room wrote ≡ ltb room (neededOf (bounded room x n d sample) wrote)
+by-bound room x s n d sample wrote u e = sym e ∙ ap (λ (b : Bool). ltb room (neededOf (cond b false (bounded room x n d sample)) wrote)) (bound-brings x s d u)
 
 -- ---- what the call leaves
 

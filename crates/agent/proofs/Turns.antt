@@ -73,7 +73,7 @@ use Rattle.agent.specs.declared.turn.Taken.{Taken}
 use Rattle.agent.proofs.Acknacks.{read-says}
 use Rattle.agent.proofs.MoveBytes.{move-long}
 use Rattle.agent.proofs.Repeated.{repeats-long}
-use Rattle.agent.proofs.Loops.{Loop, whole-end, whole-more, whole-told, Left, left-end}
+use Rattle.agent.proofs.Loops.{Loop, whole-end, whole-more, whole-told}
 
 -- ---- only an ACKNACK on a stream other than 0 is answered by held messages
 
@@ -263,11 +263,11 @@ record Short (f : Frame) (most : ℕ) (rs : List Reply) : Type 0 where
 none-short : (f : Frame) (most : ℕ) → Short f most []
 none-short f most = let a = none-long in record { short = omega (arith, a); zeroth = λ _. omega (arith, a) }
 
-passed-leaves : (f : Frame) (r : Ran) (at : ℕ) → Leaves f r at (passed r at) []
+pub passed-leaves : (f : Frame) (r : Ran) (at : ℕ) → Leaves f r at (passed r at) []
 unfolding countReplies
 passed-leaves f r at = record { place = refl; told = refl }
 
-opening-leaves : (f : Frame) (t : Tables) (r : Ran) (key at : ℕ) → Leaves f r at (opening f t r key at .ran) (opening f t r key at .replies)
+pub opening-leaves : (f : Frame) (t : Tables) (r : Ran) (key at : ℕ) → Leaves f r at (opening f t r key at .ran) (opening f t r key at .replies)
 unfolding countReplies
 opening-leaves f t r key at =
     let c = createdOf (t .sessions) (t .streams) (f .«max_clients») (r .next) in
@@ -285,7 +285,7 @@ module _ (f : Frame) (t : Rows) (h d : List ℕ) (r : Ran) (took : Taken) where
   abbrev left : Named → Acted
   left n = delivered n f t h d r took
 
-  delivered-leaves : (n : Named) → Leaves f r (took .at) (left n .ran) (left n .replies)
+  pub delivered-leaves : (n : Named) → Leaves f r (took .at) (left n .ran) (left n .replies)
   delivered-leaves named.Live = record { place = refl; told = refl }
   delivered-leaves named.NotLive = passed-leaves f r (took .at)
   delivered-leaves (named.Refused x) = passed-leaves f r (took .at)
@@ -401,15 +401,6 @@ module _ (f : Frame) (h s : List ℕ) where
   pub work-told : (r : Ran) (t : Rows) → workAt f h s r t .ran .wrote ≡ countReplies (f .room) (r .wrote) (workAt f h s r t .replies)
   work-told r t = whole-told workLoop r t
 
--- what the loop of `work` keeps
-module _ (f : Frame) (h s : List ℕ) (start : Ran) (t : Rows) (out : List ℕ) (r : Ran) (t′ : Rows) (w : List ℕ) where
-  pub work-done : Left (workLoop f h s) start t out r t′ w → goesOn (length s) r ≡ false
-      → (r ≡ workAt f h s start t .ran) × (t′ .sessions ≡ workAt f h s start t .rows .sessions) × (t′ .streams ≡ workAt f h s start t .rows .streams)
-      × (t′ .objects ≡ workAt f h s start t .rows .objects) × (w ≡ putReplies (f .room) out (start .wrote) (workAt f h s start t .replies))
-  work-done left e =
-      let (a, u, b) = left-end (workLoop f h s) start t out r t′ w left e in
-      (a, ap (λ (z : Rows). z .sessions) u, ap (λ (z : Rows). z .streams) u, ap (λ (z : Rows). z .objects) u, b)
-
 -- ---- a FRAGMENT
 
 pub left-leaves : (o : Rebuilt) (f : Frame) (h s : List ℕ) (n : ℕ) (r : Ran) (at : ℕ) (t : Rows) → Leaves f r at (leftBy o f h s n r at t .ran) (leftBy o f h s n r at t .replies)
@@ -417,7 +408,7 @@ left-leaves (rebuilt.Subs k) f h s n r at t = record { place = refl; told = work
 left-leaves (rebuilt.Refused x) f h s n r at t = passed-leaves f r at
 
 module _ (f : Frame) (t : Tables) (d : List ℕ) (r : Ran) (took : Taken) where
-  fragment-leaves : Leaves f r (took .at) (fragmentTurned f t d r took .ran) (fragmentTurned f t d r took .replies)
+  pub fragment-leaves : Leaves f r (took .at) (fragmentTurned f t d r took .ran) (fragmentTurned f t d r took .replies)
   unfolding fragmentTurned
   fragment-leaves =
       let id = f .«session_id» in

@@ -7,10 +7,11 @@ use native.Mathlib.Omega.{arith}
 use borrow.Author.Tests.{leb-true}
 use borrow.Rule.Slice.PartMut.{midOf}
 use lib.Dec.{leb}
-use lib.ListN.{length, take}
+use lib.ListN.{length, take, drop}
 use Rattle.codec.specs.Bytes.{putBytes}
 use Rattle.codec.specs.Reading.{readAt, partOf}
 use Rattle.codec.specs.Rebuilt.{rebuiltOf}
+use Rattle.codec.specs.declared.refusals.Refusal.the-variants.{BufferTooShort}
 use Rattle.codec.specs.declared.rebuilt.Rebuilt.{Rebuilt}
 use Rattle.codec.specs.declared.rebuilt.Rebuilt.the-variants as rebuilt
 use Rattle.codec.specs.declared.submessages.AcknackPayload.{AcknackPayload}
@@ -31,6 +32,7 @@ use Rattle.agent.specs.Judge.{isRead}
 use Rattle.agent.specs.declared.turn.Frame.{Frame}
 use Rattle.agent.specs.declared.turn.Ran.{Ran}
 use Rattle.agent.specs.declared.turn.Taken.{Taken}
+use Rattle.codec.proofs.rebuilt.Laws.{whole-none}
 use Rattle.agent.proofs.Laws.{status-long, acknack-long}
 use Rattle.agent.proofs.Turns.{greeting-replied}
 
@@ -96,6 +98,18 @@ module _ (s : List ℕ) (n len : ℕ) (is : length s ≡ len) where
       go : (b : Bool) → midOf 0 (cond b n 0) s ≡ cond b (midOf 0 n s) []
       go true = refl
       go false = refl
+
+-- none of them: these are refused
+pub none-part : (s : List ℕ) → rebuiltPart s 0 ≡ []
+unfolding partOf
+none-part s = by (leb (0 + 0) (length s))
+  where
+    by : (b : Bool) → cond b (take 0 (drop 0 s)) [] ≡ []
+    by true = refl
+    by false = refl
+
+pub no-bytes : (s : List ℕ) → rebuiltOf (rebuiltPart s 0) ≡ rebuilt.Refused BufferTooShort
+no-bytes s = sym (whole-none (rebuiltPart s 0) (ap length (none-part s)))
 
 -- a FRAGMENT: the stores behind it, and how many bytes it makes whole
 module _ (f : Frame) (t : Tables) (d : List ℕ) where

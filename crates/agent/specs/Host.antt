@@ -1,6 +1,6 @@
 -- The host's calls over the lent tables: what the contracts of the entry points are equal to. That of the listing cites sessions' `listOf` and `listOut`.
 use Prim.Native.Nat.{ℕ, zero, suc, _+_, _-_, _*_, _/_}
-use mathlib.Core.Bool.{Bool, true, false, cond}
+use mathlib.Core.Bool.{Bool, true, false, cond, not}
 use mathlib.Core.List.{List, [], _++_}
 use lib.Dec.{eqb, leb, ltb}
 use lib.ListN.{getD, length}
@@ -10,7 +10,7 @@ use Rattle.codec.specs.declared.bytes.Written.the-variants as written
 use Rattle.codec.specs.declared.refusals.Refusal.{Refusal}
 use Rattle.codec.specs.declared.refusals.Refusal.the-variants.{OutOfTurn, OverLimit, OutputTooShort}
 use Rattle.codec.specs.declared.submessages.StatusCode.the-variants.{Ok}
-use Rattle.sessions.specs.Table.{gotOf, namedOf, endedRows}
+use Rattle.sessions.specs.Table.{sessionAt, gotOf, namedOf, endedRows}
 use Rattle.sessions.specs.Sweep.{evictedOf, evictedOut, evictedRows}
 use Rattle.sessions.specs.View.{Tables}
 use Rattle.codec.specs.declared.submessages.ObjectNumber.{ObjectNumber}
@@ -147,13 +147,18 @@ firstMost (resumes.Answer number task a) n = answerMost a n
 abbrev pub oneOf : ℕ → ℕ → ℕ
 oneOf id b = cond (eqb b id) 1 0
 
--- how many of an id there are from a place of the datagram on. "Submessage: id, flags (a byte each), length (2), payload": the next begins behind the payload.
-unfoldable pub idsIn : ℕ → ℕ → List ℕ → ℕ → ℕ
-idsIn id zero d at = 0
-idsIn id (suc left) d at = cond (ltb (length d) (at + 4)) 0 (oneOf id (getD d at 0) + idsIn id left d (at + 4 + wordAt d (at + 2)))
+-- over the submessages from a place of the datagram on, by their headers: `one` takes the place of one and what those behind it come to, which is `none` at the end. "Submessage: id,
+-- flags (a byte each), length (2), payload": the next begins behind the payload.
+unfoldable pub headersIn : (ℕ → ℕ → ℕ) → ℕ → ℕ → List ℕ → ℕ → ℕ
+headersIn one none zero d at = none
+headersIn one none (suc left) d at = cond (ltb (length d) (at + 4)) none (one at (headersIn one none left d (at + 4 + wordAt d (at + 2))))
 
+abbrev pub headersAt : (ℕ → ℕ → ℕ) → ℕ → List ℕ → ℕ → ℕ
+headersAt one none d at = headersIn one none (length d - at) d at
+
+-- how many of an id there are from a place of the datagram on
 abbrev pub idsAt : ℕ → List ℕ → ℕ → ℕ
-idsAt id d at = idsIn id (length d - at) d at
+idsAt id d at = headersAt (λ p n. oneOf id (getD d p 0) + n) 0 d at
 
 -- 0x0E ACKNACK
 abbrev pub asksIn : Start → List ℕ → ℕ
@@ -163,6 +168,29 @@ asksIn x d = cond (eqb (x .frame .«stream_id») 0) 0 (idsAt 0x0E d (x .at))
 abbrev pub unbound : Start → List ℕ → Bool
 unbound x d = cond (eqb (x .«left_at») (x .«left_end»)) (ltb 0 (idsAt 0x0F d (x .at))) true
 
+-- the total of the FRAGMENT at a place, "number (2), total (2), body" behind its header; more than any where another submessage stands, and 0 where the datagram ends before it
+abbrev pub totalAt : List ℕ → ℕ → ℕ
+totalAt d at = cond (eqb (getD d at 0) 0x0F) (cond (ltb (length d) (at + 8)) 0 (wordAt d (at + 6))) 65536
+
+abbrev pub lesser : ℕ → ℕ → ℕ
+lesser a b = cond (ltb b a) b a
+
+-- the least total of the FRAGMENTs from a place of the datagram on, 65,536 if there are none
+abbrev pub leastAt : List ℕ → ℕ → ℕ
+leastAt d at = headersAt (λ p n. lesser (totalAt d p) n) 65536 d at
+
+-- how many fragments the header's session has received at most, once all FRAGMENTs of the datagram have come
+abbrev pub receivedMost : Start → List (List ℕ) → List ℕ → ℕ
+receivedMost x s d = sessionAt s (x .frame .«session_id») .received + idsAt 0x0F d (x .at)
+
+-- none of them completes its message: even then these are fewer than the least of their totals
+abbrev pub sparse : Start → List (List ℕ) → List ℕ → Bool
+sparse x s d = cond (eqb (idsAt 0x0F d (x .at)) 0) true (ltb (receivedMost x s d) (leastAt d (x .at)))
+
+-- whether the call may handle rebuilt submessages
+abbrev pub brings : Start → List (List ℕ) → List ℕ → Bool
+brings x s d = cond (eqb (x .«left_at») (x .«left_end»)) (not (sparse x s d)) true
+
 abbrev pub bounded : ℕ → Start → ℕ → List ℕ → ℕ → Bool
 bounded room x n d sample =
     let first = firstMost (x .resumes) sample in
@@ -170,8 +198,8 @@ bounded room x n d sample =
     let most = (left - 12 * n) / 16384 in
     cond (ltb room first) false (cond (ltb (left / 12) n) false (cond (leb n most) true (leb (asksIn x d) most)))
 
-abbrev pub roomy : ℕ → Start → ℕ → List ℕ → ℕ → Bool
-roomy room x n d sample = cond (unbound x d) false (bounded room x n d sample)
+abbrev pub roomy : ℕ → Start → List (List ℕ) → ℕ → List ℕ → ℕ → Bool
+roomy room x s n d sample = cond (brings x s d) false (bounded room x n d sample)
 
 abbrev pub neededOf : Bool → ℕ → ℕ
 neededOf true n = 0

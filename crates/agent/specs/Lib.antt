@@ -21,4 +21,5 @@ pub mod Run
 pub mod Answered
 pub mod Judge
 pub mod Host
+pub mod Legs
 pub mod Dry

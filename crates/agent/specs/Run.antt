@@ -252,20 +252,3 @@ runIn (suc left) f d r t =
 -- each submessage takes bytes, so there are no more turns than bytes left
 unfoldable pub runAt : Frame → List ℕ → Ran → Tables → Turned
 runAt f d r t = runIn (length d - r .at) f d r t
-
--- ---- the beginning of a run, until the session that the header names is live: before that only CREATE_CLIENT does anything
-
-abbrev pub named : Frame → Tables → Bool
-named f t = isLive (namedOf (t .sessions) (f .«session_id»))
-
-unfoldable pub enterIn : ℕ → Frame → List ℕ → Ran → Tables → Turned
-enterIn zero f d r t = record { ran = r; tables = t; replies = [] }
-enterIn (suc left) f d r t =
-    cond (cond (named f t) false (goesOn (length d) r)) (before (turned f t d r) (λ r′ t′. enterIn left f d r′ t′)) (record { ran = r; tables = t; replies = [] })
-
-unfoldable pub enterAt : Frame → List ℕ → Ran → Tables → Turned
-enterAt f d r t = enterIn (length d - r .at) f d r t
-
--- a run that has entered: its session is live, or there is nothing more to do
-abbrev pub entered : Frame → ℕ → Ran → List (List ℕ) → Bool
-entered f len r sessions = cond (isLive (namedOf sessions (f .«session_id»))) true (not (goesOn len r))

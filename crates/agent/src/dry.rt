@@ -2,8 +2,9 @@
 // write, and the records that it may have changed are put back: all sessions', the first stream's of each, the named
 // session's streams and objects, the buffer of its stream, its fragments, and the place of rebuilt bytes.
 use crate::judge::Start;
+use crate::leg::Mode;
+use crate::leg::lead;
 use crate::perform::resume;
-use crate::run::enter;
 use crate::run::run;
 use crate::turn::Frame;
 use crate::turn::Ran;
@@ -23,7 +24,8 @@ ghost use Prim.Native.Nat.{_+_, _-_, _*_, _<_, _≤_};
 ghost use lib.ListN.{length, getD, set};
 ghost use Rattle.sessions.specs.Objects.{blank};
 ghost use Rattle.agent.specs.Lent.{lent};
-ghost use Rattle.agent.specs.Run.{runAt, entered};
+ghost use Rattle.agent.specs.Run.{runAt};
+ghost use Rattle.agent.specs.Legs.{entered};
 ghost use Rattle.agent.specs.Host.{resumesFit, performed};
 ghost use Rattle.agent.specs.Dry.{sessionCopy, sessionBack, noSession, streamCopy, streamBack, noStream, same, sessionSpot, streamSpot, objectSpot, copied, restored, bufferCopy, bufferBack, rebuiltPlace};
 ghost use Rattle.codec.specs.Bytes.{putBytes};
@@ -394,17 +396,15 @@ fn dry_sessions(
         sample,
         start,
     );
-    let e = enter(
+    let l = lead(
         sessions,
         streams,
         objects,
         held,
-        parts,
-        lengths,
-        rebuilt,
         &mut none,
         d,
         frame,
+        Mode::Entering,
         r,
     );
     let n = dry_parts(
@@ -417,7 +417,7 @@ fn dry_sessions(
         rebuilt,
         d,
         frame,
-        e,
+        l.ran,
     );
     restore_sessions(&rows, sessions, 256);
     n

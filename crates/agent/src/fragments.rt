@@ -1,11 +1,12 @@
 // A FRAGMENT (document 02, W6): it gets no reply of its own; where it is the last one missing, the rebuilt bytes are read as
 // submessages under the header of its datagram.
+use crate::leg::Mode;
+use crate::leg::lead;
 use crate::turn::Frame;
 use crate::turn::Ran;
 use crate::turn::Stop;
 use crate::turn::Taken;
 use crate::turn::passed;
-use crate::work::work;
 use codec::layouts::Span;
 use codec::reading::part;
 use codec::rebuilt::Rebuilt;
@@ -120,8 +121,18 @@ fn work_off(
 {
     if is_read(check_rebuilt(s)) {
         let first = entered(r);
-        let y = work(sessions, streams, objects, held, out, s, f, first);
-        left(y, n, at)
+        let y = lead(
+            sessions,
+            streams,
+            objects,
+            held,
+            out,
+            s,
+            f,
+            Mode::Rebuilt,
+            first,
+        );
+        left(y.ran, n, at)
     } else {
         passed(r, at)
     }

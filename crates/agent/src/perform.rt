@@ -3,11 +3,13 @@
 use crate::answers::begin;
 use crate::fragments::left;
 use crate::fragments::rebuilt_end;
+use crate::judge::Resumes;
 use crate::judge::Start;
+use crate::leg::Mode;
+use crate::leg::lead;
 use crate::run::run;
 use crate::turn::Ran;
 use crate::turn::Stop;
-use crate::work::work;
 use sessions::objects::Object;
 use sessions::stream_rows::StreamRow;
 use sessions::table::SessionRow;
@@ -19,6 +21,7 @@ ghost use Rattle.moves.specs.Rows.{rows};
 ghost use Rattle.agent.specs.Lent.{lent};
 ghost use Rattle.agent.specs.Run.{putReplies, leftRan};
 ghost use Rattle.agent.specs.Host.{resumesFit, heldBegun, resumedActed, performed, firstRan};
+ghost use Rattle.agent.specs.Legs.{isAnswer, plainly};
 
 fn first_ran(start: Start, wrote: usize) -> Ran
     ensures { λ r. ⌜ r ≡ firstRan start wrote ⌝ }
@@ -41,6 +44,66 @@ fn behind(start: Start, wrote: usize) -> Ran
         wrote,
         stop: Stop::Nothing,
     }
+}
+
+fn is_answer(r: Resumes) -> bool
+    ensures { λ b. ⌜ b ≡ isAnswer r ⌝ }
+{
+    match r {
+        Resumes::Nothing => false,
+        Resumes::Answer(_, _, _) => true,
+    }
+}
+
+// A call without rebuilt submessages: the answer's part, if it is one, and one leg. Nearly every call is such a one, so it goes no other way round.
+pub(crate) fn perform_plain(
+    sessions: &mut [SessionRow],
+    streams: &mut [StreamRow],
+    objects: &mut [Object],
+    held: &mut [u8],
+    out: &mut [u8],
+    d: &[u8],
+    sample: &[u8],
+    start: Start,
+) -> Ran
+    requires { ⌜ (resumesFit (start .resumes) (start .frame .«stream_id») (length (now sample)) ≡ true)
+        × (start .frame .room ≤ 9223372036854775807) ⌝ }
+    ensures { λ x. ⌜ (x ≡ plainly start (rows (now (sessions .entry)) (now (streams .entry)) (now (objects .entry))) (now (held .entry)) (now (d .entry)) (now (sample .entry)) .leg .ran)
+        × (now (sessions .exit) ≡ plainly start (rows (now (sessions .entry)) (now (streams .entry)) (now (objects .entry))) (now (held .entry)) (now (d .entry)) (now (sample .entry)) .rows .sessions)
+        × (now (streams .exit) ≡ plainly start (rows (now (sessions .entry)) (now (streams .entry)) (now (objects .entry))) (now (held .entry)) (now (d .entry)) (now (sample .entry)) .rows .streams)
+        × (now (objects .exit) ≡ plainly start (rows (now (sessions .entry)) (now (streams .entry)) (now (objects .entry))) (now (held .entry)) (now (d .entry)) (now (sample .entry)) .rows .objects)
+        × (now (held .exit) ≡ heldBegun start (rows (now (sessions .entry)) (now (streams .entry)) (now (objects .entry))) (now (held .entry)) (now (sample .entry)))
+        × (now (out .exit) ≡ putReplies (start .frame .room) (now (out .entry)) 0 (plainly start (rows (now (sessions .entry)) (now (streams .entry)) (now (objects .entry))) (now (held .entry)) (now (d .entry)) (now (sample .entry)) .replies)) ⌝ }
+{
+    let frame = start.frame;
+    let resumes = start.resumes;
+    let wrote = if is_answer(resumes) {
+        begin(
+            sessions,
+            streams,
+            objects,
+            held,
+            out,
+            sample,
+            frame,
+            resumes,
+        )
+    } else {
+        0
+    };
+    let first = behind(start, wrote);
+    let l = lead(
+        sessions,
+        streams,
+        objects,
+        held,
+        out,
+        d,
+        frame,
+        Mode::Datagram,
+        first,
+    );
+    l.ran
 }
 
 // The answer's part, and the rebuilt submessages that waited for it; then on in the datagram.
@@ -81,7 +144,7 @@ pub(crate) fn resume(
     }
     let first = first_ran(start, wrote);
     let n = rebuilt_end(rebuilt.len(), end);
-    let y = work(
+    let y = lead(
         sessions,
         streams,
         objects,
@@ -89,9 +152,10 @@ pub(crate) fn resume(
         out,
         &rebuilt[..n],
         frame,
+        Mode::Rebuilt,
         first,
     );
-    left(y, end, start.at)
+    left(y.ran, end, start.at)
 }
 
 pub(crate) fn perform(

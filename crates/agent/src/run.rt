@@ -1,38 +1,92 @@
-// The submessages of a datagram in order, until a bridge call is handed out or the end.
-use crate::submessages::turn;
+// The submessages of a datagram in order, until a bridge call is handed out or the end: leg for leg, with the FRAGMENT behind each.
+use crate::fragments::fragment;
+use crate::leg::Found;
+use crate::leg::Leg;
+use crate::leg::Mode;
+use crate::leg::goes_on;
+use crate::leg::lead;
 use crate::turn::Frame;
 use crate::turn::Ran;
-use crate::turn::Stop;
-use crate::turn::is_live;
+use crate::turn::Taken;
+use codec::layouts::Span;
+use moves::handle::Opening;
+use moves::handle::blank;
 use sessions::objects::Object;
 use sessions::stream_rows::StreamRow;
 use sessions::table::SessionRow;
-use sessions::table::live_at;
 ghost use mathlib.Core.Path.{_≡_};
-ghost use mathlib.Core.Bool.{false, cond};
 ghost use Prim.Native.Nat.{_≤_};
 ghost use Rattle.agent.specs.Lent.{lent};
-ghost use Rattle.sessions.specs.Table.{namedOf};
-ghost use Rattle.agent.specs.Run.{putReplies, isCall, goesOn, isLive, runAt, enterAt};
+ghost use Rattle.agent.specs.Run.{putReplies, runAt};
+ghost use Rattle.agent.specs.Legs.{keptIn, keptBy};
 
-fn is_call(s: Stop) -> bool
-    ensures { λ r. ⌜ r ≡ isCall s ⌝ }
+// Whether a FRAGMENT ended a leg, and which.
+pub(crate) struct Kept {
+    pub kept: bool,
+    pub took: Taken,
+}
+
+fn kept_in(l: Leg) -> Kept
+    ensures { λ r. ⌜ r ≡ keptIn (l .found) ⌝ }
 {
-    match s {
-        Stop::Nothing => false,
-        Stop::Call(_, _, _) => true,
-        Stop::Inside(_, _, _, _, _) => true,
+    let found = l.found;
+    match found {
+        Found::Nothing => Kept {
+            kept: false,
+            took: Taken {
+                asked: blank(Opening::Unread),
+                body: Span { start: 0, len: 0 },
+                at: 0,
+            },
+        },
+        Found::Fragment(took) => Kept { kept: true, took },
     }
 }
 
-pub(crate) fn goes_on(len: usize, r: Ran) -> bool
-    ensures { λ b. ⌜ b ≡ goesOn len r ⌝ }
+// Behind a leg: the FRAGMENT that ended it, if one did.
+fn keep(
+    sessions: &mut [SessionRow],
+    streams: &mut [StreamRow],
+    objects: &mut [Object],
+    held: &[u8],
+    parts: &mut [u8],
+    lengths: &mut [u32],
+    rebuilt: &mut [u8],
+    out: &mut [u8],
+    d: &[u8],
+    f: Frame,
+    l: Leg,
+) -> Ran
+    requires { ⌜ f .room ≤ 9223372036854775807 ⌝ }
+    ensures { λ x. ⌜ (x ≡ keptBy (l .found) f (now (d .entry)) (l .ran) (lent (now (sessions .entry)) (now (streams .entry)) (now (objects .entry)) (now (held .entry)) (now (parts .entry)) (now (lengths .entry)) (now (rebuilt .entry))) .ran)
+        × (now (sessions .exit) ≡ keptBy (l .found) f (now (d .entry)) (l .ran) (lent (now (sessions .entry)) (now (streams .entry)) (now (objects .entry)) (now (held .entry)) (now (parts .entry)) (now (lengths .entry)) (now (rebuilt .entry))) .tables .sessions)
+        × (now (streams .exit) ≡ keptBy (l .found) f (now (d .entry)) (l .ran) (lent (now (sessions .entry)) (now (streams .entry)) (now (objects .entry)) (now (held .entry)) (now (parts .entry)) (now (lengths .entry)) (now (rebuilt .entry))) .tables .streams)
+        × (now (objects .exit) ≡ keptBy (l .found) f (now (d .entry)) (l .ran) (lent (now (sessions .entry)) (now (streams .entry)) (now (objects .entry)) (now (held .entry)) (now (parts .entry)) (now (lengths .entry)) (now (rebuilt .entry))) .tables .objects)
+        × (now (parts .exit) ≡ keptBy (l .found) f (now (d .entry)) (l .ran) (lent (now (sessions .entry)) (now (streams .entry)) (now (objects .entry)) (now (held .entry)) (now (parts .entry)) (now (lengths .entry)) (now (rebuilt .entry))) .tables .parts)
+        × (now (lengths .exit) ≡ keptBy (l .found) f (now (d .entry)) (l .ran) (lent (now (sessions .entry)) (now (streams .entry)) (now (objects .entry)) (now (held .entry)) (now (parts .entry)) (now (lengths .entry)) (now (rebuilt .entry))) .tables .lengths)
+        × (now (rebuilt .exit) ≡ keptBy (l .found) f (now (d .entry)) (l .ran) (lent (now (sessions .entry)) (now (streams .entry)) (now (objects .entry)) (now (held .entry)) (now (parts .entry)) (now (lengths .entry)) (now (rebuilt .entry))) .tables .rebuilt)
+        × (now (out .exit) ≡ putReplies (f .room) (now (out .entry)) (l .ran .wrote) (keptBy (l .found) f (now (d .entry)) (l .ran) (lent (now (sessions .entry)) (now (streams .entry)) (now (objects .entry)) (now (held .entry)) (now (parts .entry)) (now (lengths .entry)) (now (rebuilt .entry))) .replies)) ⌝ }
 {
-    let stop = r.stop;
-    if is_call(stop) {
-        return false;
+    let k = kept_in(l);
+    let r = l.ran;
+    if k.kept {
+        fragment(
+            sessions,
+            streams,
+            objects,
+            held,
+            parts,
+            lengths,
+            rebuilt,
+            out,
+            d,
+            f,
+            r,
+            k.took,
+        )
+    } else {
+        r
     }
-    r.at < len
 }
 
 pub(crate) fn run(
@@ -61,61 +115,18 @@ pub(crate) fn run(
     let len = d.len();
     let mut r = start;
     while goes_on(len, r) {
-        r = turn(
+        let l = lead(
             sessions,
             streams,
             objects,
             held,
-            parts,
-            lengths,
-            rebuilt,
             out,
             d,
             f,
+            Mode::Datagram,
             r,
         );
-    }
-    r
-}
-
-// Whether the run goes on, and the session that the header names isn't live yet.
-fn enters(sessions: &[SessionRow], id: u8, len: usize, r: Ran) -> bool
-    ensures { λ b. ⌜ b ≡ cond (isLive (namedOf (now (sessions .entry)) id)) false (goesOn len r) ⌝ }
-{
-    if is_live(live_at(sessions, id)) {
-        return false;
-    }
-    goes_on(len, r)
-}
-
-// The beginning of a run, until the session that the header names is live: from there on its slot is known.
-pub(crate) fn enter(
-    sessions: &mut [SessionRow],
-    streams: &mut [StreamRow],
-    objects: &mut [Object],
-    held: &[u8],
-    parts: &mut [u8],
-    lengths: &mut [u32],
-    rebuilt: &mut [u8],
-    out: &mut [u8],
-    d: &[u8],
-    f: Frame,
-    start: Ran,
-) -> Ran
-    requires { ⌜ f .room ≤ 9223372036854775807 ⌝ }
-    ensures { λ x. ⌜ (x ≡ enterAt f (now (d .entry)) start (lent (now (sessions .entry)) (now (streams .entry)) (now (objects .entry)) (now (held .entry)) (now (parts .entry)) (now (lengths .entry)) (now (rebuilt .entry))) .ran)
-        × (now (sessions .exit) ≡ enterAt f (now (d .entry)) start (lent (now (sessions .entry)) (now (streams .entry)) (now (objects .entry)) (now (held .entry)) (now (parts .entry)) (now (lengths .entry)) (now (rebuilt .entry))) .tables .sessions)
-        × (now (streams .exit) ≡ enterAt f (now (d .entry)) start (lent (now (sessions .entry)) (now (streams .entry)) (now (objects .entry)) (now (held .entry)) (now (parts .entry)) (now (lengths .entry)) (now (rebuilt .entry))) .tables .streams)
-        × (now (objects .exit) ≡ enterAt f (now (d .entry)) start (lent (now (sessions .entry)) (now (streams .entry)) (now (objects .entry)) (now (held .entry)) (now (parts .entry)) (now (lengths .entry)) (now (rebuilt .entry))) .tables .objects)
-        × (now (parts .exit) ≡ enterAt f (now (d .entry)) start (lent (now (sessions .entry)) (now (streams .entry)) (now (objects .entry)) (now (held .entry)) (now (parts .entry)) (now (lengths .entry)) (now (rebuilt .entry))) .tables .parts)
-        × (now (lengths .exit) ≡ enterAt f (now (d .entry)) start (lent (now (sessions .entry)) (now (streams .entry)) (now (objects .entry)) (now (held .entry)) (now (parts .entry)) (now (lengths .entry)) (now (rebuilt .entry))) .tables .lengths)
-        × (now (rebuilt .exit) ≡ enterAt f (now (d .entry)) start (lent (now (sessions .entry)) (now (streams .entry)) (now (objects .entry)) (now (held .entry)) (now (parts .entry)) (now (lengths .entry)) (now (rebuilt .entry))) .tables .rebuilt)
-        × (now (out .exit) ≡ putReplies (f .room) (now (out .entry)) (start .wrote) (enterAt f (now (d .entry)) start (lent (now (sessions .entry)) (now (streams .entry)) (now (objects .entry)) (now (held .entry)) (now (parts .entry)) (now (lengths .entry)) (now (rebuilt .entry))) .replies)) ⌝ }
-{
-    let len = d.len();
-    let mut r = start;
-    while enters(sessions, f.session_id, len, r) {
-        r = turn(
+        r = keep(
             sessions,
             streams,
             objects,
@@ -126,7 +137,7 @@ pub(crate) fn enter(
             out,
             d,
             f,
-            r,
+            l,
         );
     }
     r

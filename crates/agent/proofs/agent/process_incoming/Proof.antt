@@ -57,8 +57,7 @@ use Rattle.sessions.specs.Calls.{setUpTables}
 use Rattle.sessions.specs.ObjectList.{listOf, listOut}
 use Rattle.agent.specs.Lent.{lent}
 use Rattle.agent.specs.Host.{setUpAs, incomingOf, answerOf, idleOf, removedAs, removedBy, removedRows, sweptBy, sweptRows, sweptOut}
-use Rattle.codec.specs.Bytes.{wordAt}
-use Rattle.agent.specs.Host.{outcomeOf, waitsOf, finishedOf, refusedOf, answerMost, firstMost, bounded, roomy, oneOf, idsAt, asksIn, unbound, neededOf, resumesFit, performed, finish, processOf}
+use Rattle.agent.specs.Host.{outcomeOf, waitsOf, finishedOf, refusedOf, bounded, roomy, unbound, neededOf, resumesFit, performed, finish, processOf}
 use denote.Plain.{uint-lawful}
 use Rattle.agent.proofs.agent.Laws.{any-sample}
 use Rattle.agent.proofs.Thirteen.{same-leaves}

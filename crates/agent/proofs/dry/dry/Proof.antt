@@ -54,7 +54,8 @@ use Rattle.walk.proofs.Parts.{part-len, lends-part, backs-part, parts-shr}
 use Rattle.walk.proofs.Arrays.{rep-is, lends-array, backs-array}
 use Rattle.sessions.specs.Objects.{blank}
 use Rattle.agent.specs.Lent.{lent}
-use Rattle.agent.specs.Run.{runAt, entered as entered′}
+use Rattle.agent.specs.Run.{runAt}
+use Rattle.agent.specs.Legs.{entered as entered′}
 use Rattle.agent.specs.Host.{resumesFit, performed}
 use Rattle.agent.specs.Dry.{sessionCopy, sessionBack, noSession, streamCopy, streamBack, noStream, same, sessionSpot, streamSpot, objectSpot, copied, restored, bufferCopy, bufferBack, rebuiltPlace}
 use Rattle.codec.specs.Bytes.{putBytes}
@@ -62,9 +63,9 @@ use Rattle.sessions.specs.Sending.{bufferIn}
 use Rattle.sessions.specs.Streams.{streamAt}
 use Rattle.sessions.specs.SessionStreams.{streamPlace, readAs}
 use Rattle.sessions.specs.Sending.{stretchOf, roomOf, bufferStretch, nextSlot, dataSlot, keptSent, sentRows, sentBytes, sentStreams, sentHeld, messageOf}
-use Rattle.agent.specs.Run.{entered as entered-of-dry-copy-buffer}
-use Rattle.agent.specs.Run.{entered as entered-of-dry-dry-objects}
-use Rattle.agent.specs.Run.{entered as entered-of-dry-restore-buffer}
+use Rattle.agent.specs.Legs.{entered as entered-of-dry-copy-buffer}
+use Rattle.agent.specs.Legs.{entered as entered-of-dry-dry-objects}
+use Rattle.agent.specs.Legs.{entered as entered-of-dry-restore-buffer}
 use Rattle.agent.proofs.Frame.{copy-long, buffer-back}
 use Rattle.sessions.specs.declared.objects.Object.{Object}
 use Rattle.sessions.proofs.objects.Object as Object-t

@@ -54,7 +54,8 @@ use Rattle.walk.proofs.Parts.{part-len, lends-part, backs-part, parts-shr}
 use Rattle.walk.proofs.Arrays.{rep-is, lends-array, backs-array}
 use Rattle.sessions.specs.Objects.{blank}
 use Rattle.agent.specs.Lent.{lent}
-use Rattle.agent.specs.Run.{runAt, entered as entered′}
+use Rattle.agent.specs.Run.{runAt}
+use Rattle.agent.specs.Legs.{entered as entered′}
 use Rattle.agent.specs.Host.{resumesFit, performed}
 use Rattle.agent.specs.Dry.{sessionCopy, sessionBack, noSession, streamCopy, streamBack, noStream, same, sessionSpot, streamSpot, objectSpot, copied, restored, bufferCopy, bufferBack, rebuiltPlace}
 use Rattle.codec.specs.Bytes.{putBytes}
@@ -63,9 +64,9 @@ use Rattle.sessions.specs.Table.{sessionAt}
 use Rattle.sessions.specs.FragmentStore.{allowed}
 use Rattle.codec.specs.declared.reassembly.Inserted.the-variants as Inserted
 use Rattle.sessions.specs.Fragments.{slotStretch, partsStretch, lengthsStretch, storeFor, lengthsFor, gatheredBy, rebuiltBy, gatheredWith, partsWith, lengthsWith, rebuiltWith, gatheredIn, partsAfter, lengthsAfter, rebuiltAfter, storedSession, gatheredSession, takes, gathered, gatheredRows, gatheredParts, gatheredLengths, gatheredRebuilt}
-use Rattle.agent.specs.Run.{entered as entered-of-dry-copy-lengths}
-use Rattle.agent.specs.Run.{entered as entered-of-dry-dry-rebuilt}
-use Rattle.agent.specs.Run.{entered as entered-of-dry-restore-lengths}
+use Rattle.agent.specs.Legs.{entered as entered-of-dry-copy-lengths}
+use Rattle.agent.specs.Legs.{entered as entered-of-dry-dry-rebuilt}
+use Rattle.agent.specs.Legs.{entered as entered-of-dry-restore-lengths}
 use denote.Plain.{uint-lawful}
 use lib.ListN.{length-replicate}
 use Rattle.agent.proofs.Back.{copied-length}

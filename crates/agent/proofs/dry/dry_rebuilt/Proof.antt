@@ -54,17 +54,17 @@ use Rattle.walk.proofs.Parts.{part-len, lends-part, backs-part, parts-shr}
 use Rattle.walk.proofs.Arrays.{rep-is, lends-array, backs-array}
 use Rattle.sessions.specs.Objects.{blank}
 use Rattle.agent.specs.Lent.{lent}
-use Rattle.agent.specs.Run.{runAt, entered as entered′}
+use Rattle.agent.specs.Run.{runAt}
+use Rattle.agent.specs.Legs.{entered as entered′}
 use Rattle.agent.specs.Host.{resumesFit, performed}
 use Rattle.agent.specs.Dry.{sessionCopy, sessionBack, noSession, streamCopy, streamBack, noStream, same, sessionSpot, streamSpot, objectSpot, copied, restored, bufferCopy, bufferBack, rebuiltPlace}
 use Rattle.codec.specs.Bytes.{putBytes}
 use Rattle.sessions.specs.Sending.{bufferIn}
-use Rattle.agent.specs.Run.{entered as entered-of-dry-rebuilt-place}
-use Rattle.agent.specs.Run.{entered as entered-of-dry-copy-buffer}
-use mathlib.Core.Bool.{cond}
-use Rattle.sessions.specs.Table.{namedOf}
-use Rattle.agent.specs.Run.{putReplies, isCall, goesOn, isLive, enterAt}
-use Rattle.agent.specs.Run.{entered as entered-of-dry-restore-buffer}
+use Rattle.agent.specs.Legs.{entered as entered-of-dry-rebuilt-place}
+use Rattle.agent.specs.Legs.{entered as entered-of-dry-copy-buffer}
+use Rattle.agent.specs.Run.{putReplies}
+use Rattle.agent.specs.Legs.{keptIn, keptBy}
+use Rattle.agent.specs.Legs.{entered as entered-of-dry-restore-buffer}
 use denote.Plain.{uint-lawful}
 use Rattle.agent.proofs.Frame.{copy-long, rebuilt-back}
 use Rattle.sessions.specs.declared.objects.Object.{Object}

@@ -54,15 +54,16 @@ use Rattle.walk.proofs.Parts.{part-len, lends-part, backs-part, parts-shr}
 use Rattle.walk.proofs.Arrays.{rep-is, lends-array, backs-array}
 use Rattle.sessions.specs.Objects.{blank}
 use Rattle.agent.specs.Lent.{lent}
-use Rattle.agent.specs.Run.{runAt, entered as entered′}
+use Rattle.agent.specs.Run.{runAt}
+use Rattle.agent.specs.Legs.{entered as entered′}
 use Rattle.agent.specs.Host.{resumesFit, performed}
 use Rattle.agent.specs.Dry.{sessionCopy, sessionBack, noSession, streamCopy, streamBack, noStream, same, sessionSpot, streamSpot, objectSpot, copied, restored, bufferCopy, bufferBack, rebuiltPlace}
 use Rattle.codec.specs.Bytes.{putBytes}
 use Rattle.sessions.specs.Sending.{bufferIn}
-use Rattle.agent.specs.Run.{entered as entered-of-dry-no-stream}
-use Rattle.agent.specs.Run.{entered as entered-of-dry-copy-streams}
-use Rattle.agent.specs.Run.{entered as entered-of-dry-dry-sessions}
-use Rattle.agent.specs.Run.{entered as entered-of-dry-restore-streams}
+use Rattle.agent.specs.Legs.{entered as entered-of-dry-no-stream}
+use Rattle.agent.specs.Legs.{entered as entered-of-dry-copy-streams}
+use Rattle.agent.specs.Legs.{entered as entered-of-dry-dry-sessions}
+use Rattle.agent.specs.Legs.{entered as entered-of-dry-restore-streams}
 use Rattle.agent.proofs.Back.{copies-long, copied-long}
 use Rattle.agent.proofs.Frame.{streams-long, streams-back}
 use Rattle.sessions.specs.declared.objects.Object.{Object}

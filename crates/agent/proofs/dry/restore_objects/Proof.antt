@@ -54,7 +54,8 @@ use Rattle.walk.proofs.Parts.{part-len, lends-part, backs-part, parts-shr}
 use Rattle.walk.proofs.Arrays.{rep-is, lends-array, backs-array}
 use Rattle.sessions.specs.Objects.{blank}
 use Rattle.agent.specs.Lent.{lent}
-use Rattle.agent.specs.Run.{runAt, entered as entered′}
+use Rattle.agent.specs.Run.{runAt}
+use Rattle.agent.specs.Legs.{entered as entered′}
 use Rattle.agent.specs.Host.{resumesFit, performed}
 use Rattle.agent.specs.Dry.{sessionCopy, sessionBack, noSession, streamCopy, streamBack, noStream, same, sessionSpot, streamSpot, objectSpot, copied, restored, bufferCopy, bufferBack, rebuiltPlace}
 use Rattle.codec.specs.Bytes.{putBytes}

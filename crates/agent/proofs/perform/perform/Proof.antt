@@ -56,9 +56,9 @@ use Rattle.moves.specs.Rows.{rows}
 use Rattle.agent.specs.Lent.{lent}
 use Rattle.agent.specs.Run.{putReplies, leftRan}
 use Rattle.agent.specs.Host.{resumesFit, heldBegun, resumedActed, performed, firstRan}
-use mathlib.Core.Bool.{cond}
-use Rattle.sessions.specs.Table.{namedOf}
-use Rattle.agent.specs.Run.{isCall, goesOn, isLive, runAt, enterAt}
+use Rattle.agent.specs.Legs.{isAnswer, plainly}
+use Rattle.agent.specs.Run.{runAt}
+use Rattle.agent.specs.Legs.{keptIn, keptBy}
 use Rattle.agent.proofs.Resumed.{performed-by}
 use Rattle.sessions.specs.declared.objects.Object.{Object}
 use Rattle.sessions.proofs.objects.Object as Object-t

@@ -52,14 +52,20 @@ use Rattle.walk.proofs.Steps.{past, one, yes-of, no-of, in-block, arm-of, holds
 use borrow.Rule.Slice.PartMut.{midOf, putMid}
 use Rattle.walk.proofs.Parts.{part-len, lends-part, backs-part, parts-shr}
 use Rattle.walk.proofs.Arrays.{rep-is, lends-array, backs-array}
-use Rattle.codec.specs.Bytes.{wordAt}
 use Rattle.agent.specs.Lent.{lent}
-use Rattle.agent.specs.Host.{outcomeOf, waitsOf, finishedOf, refusedOf, answerMost, firstMost, bounded, roomy, oneOf, idsAt, asksIn, unbound, neededOf, resumesFit, performed, finish, processOf}
+use Rattle.agent.specs.Host.{outcomeOf, waitsOf, finishedOf, refusedOf, bounded, roomy, unbound, neededOf, resumesFit, performed, finish, processOf}
+use Rattle.codec.specs.Bytes.{wordAt}
+use Rattle.sessions.specs.Table.{sessionAt}
+use Rattle.agent.specs.Host.{answerMost, firstMost, oneOf, idsAt, asksIn, totalAt, lesser, leastAt, sparse}
 use Rattle.moves.specs.Rows.{rows}
 use Rattle.agent.specs.Run.{putReplies, leftRan}
 use Rattle.agent.specs.Host.{heldBegun, resumedActed, firstRan}
+use Rattle.agent.specs.Legs.{isAnswer, plainly}
 use types.Kit.{frees, prop}
 use Rattle.sessions.specs.View.{Tables as Stores}
+use Rattle.agent.specs.Run.{Turned}
+use Rattle.agent.specs.Host.{Leaves}
+use Rattle.agent.proofs.Plain.{performed-plain}
 use Rattle.agent.proofs.Thirteen.{by-bound, finish-short, finish-sent, same-leaves}
 use Rattle.sessions.specs.declared.objects.Object.{Object}
 use Rattle.sessions.proofs.objects.Object as Object-t
@@ -123,10 +129,10 @@ use Rattle.agent.specs.declared.turn.Stop.{Stop}
 use Rattle.agent.proofs.turn.Stop as Stop-t
 use Rattle.agent.proofs.turn.Stop.Laws as Stop-l
 use Rattle.agent.specs.declared.turn.Stop.the-variants.{Nothing as Stop-Nothing, Call as Stop-Call, Inside as Stop-Inside}
-use Rattle.agent.proofs.process.is_unbound as process-is-unbound
-use Rattle.agent.proofs.process.is_unbound.Symbol as process-is-unbound-def
-use Rattle.agent.proofs.process.is_unbound.Symbol.{name as #process-is-unbound}
-use Rattle.agent.proofs.process.is_unbound.Met as process-is-unbound-thm
+use Rattle.agent.proofs.bound.is_unbound as bound-is-unbound
+use Rattle.agent.proofs.bound.is_unbound.Symbol as bound-is-unbound-def
+use Rattle.agent.proofs.bound.is_unbound.Symbol.{name as #bound-is-unbound}
+use Rattle.agent.proofs.bound.is_unbound.Met as bound-is-unbound-thm
 use Rattle.agent.proofs.process.go_unbound as process-go-unbound
 use Rattle.agent.proofs.process.go_unbound.Symbol as process-go-unbound-def
 use Rattle.agent.proofs.process.go_unbound.Symbol.{name as #process-go-unbound}
@@ -139,10 +145,10 @@ use Rattle.agent.proofs.process.refused as process-refused
 use Rattle.agent.proofs.process.refused.Symbol as process-refused-def
 use Rattle.agent.proofs.process.refused.Symbol.{name as #process-refused}
 use Rattle.agent.proofs.process.refused.Met as process-refused-thm
-use Rattle.agent.proofs.perform.perform as perform-perform
-use Rattle.agent.proofs.perform.perform.Symbol as perform-perform-def
-use Rattle.agent.proofs.perform.perform.Symbol.{name as #perform-perform}
-use Rattle.agent.proofs.perform.perform.Met as perform-perform-thm
+use Rattle.agent.proofs.perform.perform_plain as perform-perform-plain
+use Rattle.agent.proofs.perform.perform_plain.Symbol as perform-perform-plain-def
+use Rattle.agent.proofs.perform.perform_plain.Symbol.{name as #perform-perform-plain}
+use Rattle.agent.proofs.perform.perform_plain.Met as perform-perform-plain-thm
 use Rattle.agent.proofs.process.finished as process-finished
 use Rattle.agent.proofs.process.finished.Symbol as process-finished-def
 use Rattle.agent.proofs.process.finished.Symbol.{name as #process-finished}
@@ -241,8 +247,8 @@ abbrev stayed : Stays (f.ended .signature .params) (f.ended .kept)
 stayed = (stay-slice (0 ∷ []) tt (plain (λ _. (Array u64 8))), (stay-slice (1 ∷ []) tt (plain (λ _. (Array u16 35))), (stay-slice (2 ∷ []) tt (plain (λ _. Object-t.the-row)), (stay-slice (3 ∷ []) tt (plain (λ _. u8)), (stay-slice (4 ∷ []) tt (plain (λ _. u8)), (stay-slice (5 ∷ []) tt (plain (λ _. u32)), (stay-slice (6 ∷ []) tt (plain (λ _. u8)), (stay-slice (7 ∷ []) tt (plain (λ _. u8)), (stay-none-slice (8 ∷ []) tt (plain (λ _. u8)) yes, (stay-none-slice (9 ∷ []) tt (plain (λ _. u8)) yes, (stay-none (λ _. Agent-p .row) yes, (stay-none (λ _. Start-p .row) yes, (stay-none (λ _. u64-p .row) yes, tt)))))))))))))
 
 module _ {M : Type 1} (𝓤 : URA M) (H : Heap 𝓤) (A : Atoms 𝓤) (mem : Memory → SProp 𝓤) (run : Routine → Fun 𝓤) where
-  abbrev Of-process-is-unbound : Contract 𝓤
-  Of-process-is-unbound = tripleOf 𝓤 H A process-is-unbound.signature (process-is-unbound.spec 𝓤 H A mem run)
+  abbrev Of-bound-is-unbound : Contract 𝓤
+  Of-bound-is-unbound = tripleOf 𝓤 H A bound-is-unbound.signature (bound-is-unbound.spec 𝓤 H A mem run)
 
   abbrev Of-process-go-unbound : Contract 𝓤
   Of-process-go-unbound = tripleOf 𝓤 H A process-go-unbound.signature (process-go-unbound.spec 𝓤 H A mem run)
@@ -253,14 +259,14 @@ module _ {M : Type 1} (𝓤 : URA M) (H : Heap 𝓤) (A : Atoms 𝓤) (mem : Mem
   abbrev Of-process-refused : Contract 𝓤
   Of-process-refused = tripleOf 𝓤 H A process-refused.signature (process-refused.spec 𝓤 H A mem run)
 
-  abbrev Of-perform-perform : Contract 𝓤
-  Of-perform-perform = tripleOf 𝓤 H A perform-perform.signature (perform-perform.spec 𝓤 H A mem run)
+  abbrev Of-perform-perform-plain : Contract 𝓤
+  Of-perform-perform-plain = tripleOf 𝓤 H A perform-perform-plain.signature (perform-perform-plain.spec 𝓤 H A mem run)
 
   abbrev Of-process-finished : Contract 𝓤
   Of-process-finished = tripleOf 𝓤 H A process-finished.signature (process-finished.spec 𝓤 H A mem run)
 
 module _ {M : Type 1} (𝓤 : URA M) (H : Heap 𝓤) (A : Atoms 𝓤) (W : Given 𝓤 H A) (mem : Memory → SProp 𝓤) (run : Routine → Fun 𝓤) (κ₁ : Lft) (q₁ : Share) (b₁ o₁ : ℕ) (γ₁ : GName) (sessions : List (List ℕ)) (κ₂ : Lft) (q₂ : Share) (b₂ o₂ : ℕ) (γ₂ : GName) (streams : List (List ℕ)) (κ₃ : Lft) (q₃ : Share) (b₃ o₃ : ℕ) (γ₃ : GName) (objects : List Object) (κ₄ : Lft) (q₄ : Share) (b₄ o₄ : ℕ) (γ₄ : GName) (held : List ℕ) (κ₅ : Lft) (q₅ : Share) (b₅ o₅ : ℕ) (γ₅ : GName) (parts : List ℕ) (κ₆ : Lft) (q₆ : Share) (b₆ o₆ : ℕ) (γ₆ : GName) (lengths : List ℕ) (κ₇ : Lft) (q₇ : Share) (b₇ o₇ : ℕ) (γ₇ : GName) (rebuilt : List ℕ) (κ₈ : Lft) (q₈ : Share) (b₈ o₈ : ℕ) (γ₈ : GName) (out : List ℕ) (κ₉ : Lft) (q₉ : Share) (b₉ o₉ : ℕ) (γ₉ : GName) (d : List ℕ) (κ₁₀ : Lft) (q₁₀ : Share) (b₁₀ o₁₀ : ℕ) (γ₁₀ : GName) (sample : List ℕ) (agent : Agent) (start : Start) (n′ : ℕ)
-    (room₁ : Room (Array u64 8) (length sessions)) (room₂ : Room (Array u16 35) (length streams)) (room₃ : Room Object-t.the-row (length objects)) (room₄ : Room u8 (length held)) (room₅ : Room u8 (length parts)) (room₆ : Room u32 (length lengths)) (room₇ : Room u8 (length rebuilt)) (room₈ : Room u8 (length out)) (room₉ : Room u8 (length d)) (room₁₀ : Room u8 (length sample)) (agent-is : Is (Agent-p .row) agent (Agent-p .val agent ∷ [])) (start-is : Is (Start-p .row) start (Start-p .val start ∷ [])) (n′-is : Is (u64-p .row) n′ (u64-p .val n′ ∷ [])) (within : (resumesFit (start .resumes) (start .frame .«stream_id») (length (sample)) ≡ true) × (start .frame .room ≡ length (out)) × (ltb (length (out)) (neededOf (roomy (length (out)) start n′ (d) (length (sample))) (performed start (lent (sessions) (streams) (objects) (held) (parts) (lengths) (rebuilt)) (d) (sample) .ran .wrote)) ≡ ltb (length (out)) (performed start (lent (sessions) (streams) (objects) (held) (parts) (lengths) (rebuilt)) (d) (sample) .ran .wrote)) × (256 ≤ length (sessions)) × (2048 ≤ length (streams)) × (8192 ≤ length (objects)) × (32768 ≤ length (rebuilt))) where
+    (room₁ : Room (Array u64 8) (length sessions)) (room₂ : Room (Array u16 35) (length streams)) (room₃ : Room Object-t.the-row (length objects)) (room₄ : Room u8 (length held)) (room₅ : Room u8 (length parts)) (room₆ : Room u32 (length lengths)) (room₇ : Room u8 (length rebuilt)) (room₈ : Room u8 (length out)) (room₉ : Room u8 (length d)) (room₁₀ : Room u8 (length sample)) (agent-is : Is (Agent-p .row) agent (Agent-p .val agent ∷ [])) (start-is : Is (Start-p .row) start (Start-p .val start ∷ [])) (n′-is : Is (u64-p .row) n′ (u64-p .val n′ ∷ [])) (within : (resumesFit (start .resumes) (start .frame .«stream_id») (length (sample)) ≡ true) × (start .frame .room ≡ length (out)) × (ltb (length (out)) (neededOf (roomy (length (out)) start (sessions) n′ (d) (length (sample))) (performed start (lent (sessions) (streams) (objects) (held) (parts) (lengths) (rebuilt)) (d) (sample) .ran .wrote)) ≡ ltb (length (out)) (performed start (lent (sessions) (streams) (objects) (held) (parts) (lengths) (rebuilt)) (d) (sample) .ran .wrote)) × (256 ≤ length (sessions)) × (2048 ≤ length (streams)) × (8192 ≤ length (objects)) × (32768 ≤ length (rebuilt))) where
   abbrev n₁ : ℕ
   n₁ = length sessions
 
@@ -309,7 +315,10 @@ module _ {M : Type 1} (𝓤 : URA M) (H : Heap 𝓤) (A : Atoms 𝓤) (W : Given
 
   tells : unbound start d ≡ false
       → ltb (length out) (performed start tables-lent d sample .ran .wrote) ≡ ltb (length out) (neededOf (bounded (length out) start n′ d (length sample)) (performed start tables-lent d sample .ran .wrote))
-  tells u = by-bound (length out) start n′ d (length sample) (performed start tables-lent d sample .ran .wrote) u (within .2)
+  tells u = by-bound (length out) start sessions n′ d (length sample) (performed start tables-lent d sample .ran .wrote) u (within .2)
+
+  abbrev sent : Turned → Leaves
+  sent y = record { processed = finishedOf agent start (y .ran); tables = y .tables; out = putReplies (start .frame .room) out 0 (y .replies); replies = y .replies }
 
   exits : (r : Processed) (ws₁ : List (List ℕ)) (ws₂ : List (List ℕ)) (ws₃ : List Object) (ws₄ : List ℕ) (ws₅ : List ℕ) (ws₆ : List ℕ) (ws₇ : List ℕ) (ws₈ : List ℕ) → ((r ≡ finish agent (lent (sessions) (streams) (objects) (held) (parts) (lengths) (rebuilt)) (out) start (performed start (lent (sessions) (streams) (objects) (held) (parts) (lengths) (rebuilt)) (d) (sample)) .processed) × (ws₁ ≡ finish agent (lent (sessions) (streams) (objects) (held) (parts) (lengths) (rebuilt)) (out) start (performed start (lent (sessions) (streams) (objects) (held) (parts) (lengths) (rebuilt)) (d) (sample)) .tables .sessions) × (ws₂ ≡ finish agent (lent (sessions) (streams) (objects) (held) (parts) (lengths) (rebuilt)) (out) start (performed start (lent (sessions) (streams) (objects) (held) (parts) (lengths) (rebuilt)) (d) (sample)) .tables .streams) × (ws₃ ≡ finish agent (lent (sessions) (streams) (objects) (held) (parts) (lengths) (rebuilt)) (out) start (performed start (lent (sessions) (streams) (objects) (held) (parts) (lengths) (rebuilt)) (d) (sample)) .tables .objects) × (ws₄ ≡ finish agent (lent (sessions) (streams) (objects) (held) (parts) (lengths) (rebuilt)) (out) start (performed start (lent (sessions) (streams) (objects) (held) (parts) (lengths) (rebuilt)) (d) (sample)) .tables .held) × (ws₅ ≡ finish agent (lent (sessions) (streams) (objects) (held) (parts) (lengths) (rebuilt)) (out) start (performed start (lent (sessions) (streams) (objects) (held) (parts) (lengths) (rebuilt)) (d) (sample)) .tables .parts) × (ws₆ ≡ finish agent (lent (sessions) (streams) (objects) (held) (parts) (lengths) (rebuilt)) (out) start (performed start (lent (sessions) (streams) (objects) (held) (parts) (lengths) (rebuilt)) (d) (sample)) .tables .lengths) × (ws₇ ≡ finish agent (lent (sessions) (streams) (objects) (held) (parts) (lengths) (rebuilt)) (out) start (performed start (lent (sessions) (streams) (objects) (held) (parts) (lengths) (rebuilt)) (d) (sample)) .tables .rebuilt) × (ws₈ ≡ finish agent (lent (sessions) (streams) (objects) (held) (parts) (lengths) (rebuilt)) (out) start (performed start (lent (sessions) (streams) (objects) (held) (parts) (lengths) (rebuilt)) (d) (sample)) .out)) → Is (Processed-p .row) r (Processed-p .val r ∷ []) → length ws₁ ≡ n₁ → length ws₂ ≡ n₂ → length ws₃ ≡ n₃ → length ws₄ ≡ n₄ → length ws₅ ≡ n₅ → length ws₆ ≡ n₆ → length ws₇ ≡ n₇ → length ws₈ ≡ n₈ → ent 𝓤 (⋆ 𝓤 H A (‵ (MutSlice (named 0) κ₁ (Array u64 8) .own (at-list b₁ o₁ γ₁ ws₁) (sliceVal (b₁, o₁) n₁ ∷ [])) ∷ ‵ (flft κ₁ q₁) ∷ ‵ (MutSlice (named 1) κ₂ (Array u16 35) .own (at-list b₂ o₂ γ₂ ws₂) (sliceVal (b₂, o₂) n₂ ∷ [])) ∷ ‵ (flft κ₂ q₂) ∷ ‵ (MutSlice (named 2) κ₃ Object-t.the-row .own (at-list b₃ o₃ γ₃ ws₃) (sliceVal (b₃, o₃) n₃ ∷ [])) ∷ ‵ (flft κ₃ q₃) ∷ ‵ (MutSlice (named 3) κ₄ u8 .own (at-list b₄ o₄ γ₄ ws₄) (sliceVal (b₄, o₄) n₄ ∷ [])) ∷ ‵ (flft κ₄ q₄) ∷ ‵ (MutSlice (named 4) κ₅ u8 .own (at-list b₅ o₅ γ₅ ws₅) (sliceVal (b₅, o₅) n₅ ∷ [])) ∷ ‵ (flft κ₅ q₅) ∷ ‵ (MutSlice (named 5) κ₆ u32 .own (at-list b₆ o₆ γ₆ ws₆) (sliceVal (b₆, o₆) n₆ ∷ [])) ∷ ‵ (flft κ₆ q₆) ∷ ‵ (MutSlice (named 6) κ₇ u8 .own (at-list b₇ o₇ γ₇ ws₇) (sliceVal (b₇, o₇) n₇ ∷ [])) ∷ ‵ (flft κ₇ q₇) ∷ ‵ (MutSlice (named 7) κ₈ u8 .own (at-list b₈ o₈ γ₈ ws₈) (sliceVal (b₈, o₈) n₈ ∷ [])) ∷ ‵ (flft κ₈ q₈) ∷ ‵ (ShrSlice (named 8) κ₉ u8 .own (at-list b₉ o₉ γ₉ d) (sliceVal (b₉, o₉) n₉ ∷ [])) ∷ ‵ (flft κ₉ q₉) ∷ ‵ (ShrSlice (named 9) κ₁₀ u8 .own (at-list b₁₀ o₁₀ γ₁₀ sample) (sliceVal (b₁₀, o₁₀) n₁₀ ∷ [])) ∷ ‵ (flft κ₁₀ q₁₀) ∷ [])) (Post (Processed-p .val r))
   exits r ws₁ ws₂ ws₃ ws₄ ws₅ ws₆ ws₇ ws₈ said r-is len₁ len₂ len₃ len₄ len₅ len₆ len₇ len₈ =
@@ -322,7 +331,7 @@ module _ {M : Type 1} (𝓤 : URA M) (H : Heap 𝓤) (A : Atoms 𝓤) (W : Given
       frame ! $
       owned ! (Processed-p .row) (Is (Processed-p .row)) (Processed-p .makes 𝓤 H A W) r _ r-is $ done !
 
-  module _ (𝓣 : Tables 𝓤 H) (known-process-is-unbound : Triple 𝓤 (𝓣 .C #process-is-unbound) (Of-process-is-unbound 𝓤 H A mem run)) (known-process-go-unbound : Triple 𝓤 (𝓣 .C #process-go-unbound) (Of-process-go-unbound 𝓤 H A mem run)) (known-process-needed : Triple 𝓤 (𝓣 .C #process-needed) (Of-process-needed 𝓤 H A mem run)) (known-process-refused : Triple 𝓤 (𝓣 .C #process-refused) (Of-process-refused 𝓤 H A mem run)) (known-perform-perform : Triple 𝓤 (𝓣 .C #perform-perform) (Of-perform-perform 𝓤 H A mem run)) (known-process-finished : Triple 𝓤 (𝓣 .C #process-finished) (Of-process-finished 𝓤 H A mem run)) (l₀ l₁ l₂ l₃ l₄ l₅ l₆ l₇ l₈ l₉ l₁₀ l₁₁ l₁₂ l₁₃ l₁₄ l₁₅ l₁₆ l₁₇ l₁₈ l₁₉ l₂₀ l₂₁ l₂₂ l₂₃ l₂₄ l₂₅ l₂₆ l₂₇ l₂₈ l₂₉ l₃₀ l₃₁ l₃₂ l₃₃ l₃₄ l₃₅ l₃₆ l₃₇ l₃₈ l₃₉ l₄₀ l₄₁ l₄₂ l₄₃ l₄₄ l₄₅ l₄₆ l₄₇ l₄₈ l₄₉ l₅₀ l₅₁ l₅₂ l₅₃ l₅₄ l₅₅ l₅₆ l₅₇ l₅₈ l₅₉ l₆₀ l₆₁ l₆₂ l₆₃ l₆₄ l₆₅ l₆₆ : ℕ) where
+  module _ (𝓣 : Tables 𝓤 H) (known-bound-is-unbound : Triple 𝓤 (𝓣 .C #bound-is-unbound) (Of-bound-is-unbound 𝓤 H A mem run)) (known-process-go-unbound : Triple 𝓤 (𝓣 .C #process-go-unbound) (Of-process-go-unbound 𝓤 H A mem run)) (known-process-needed : Triple 𝓤 (𝓣 .C #process-needed) (Of-process-needed 𝓤 H A mem run)) (known-process-refused : Triple 𝓤 (𝓣 .C #process-refused) (Of-process-refused 𝓤 H A mem run)) (known-perform-perform-plain : Triple 𝓤 (𝓣 .C #perform-perform-plain) (Of-perform-perform-plain 𝓤 H A mem run)) (known-process-finished : Triple 𝓤 (𝓣 .C #process-finished) (Of-process-finished 𝓤 H A mem run)) (l₀ l₁ l₂ l₃ l₄ l₅ l₆ l₇ l₈ l₉ l₁₀ l₁₁ l₁₂ l₁₃ l₁₄ l₁₅ l₁₆ l₁₇ l₁₈ l₁₉ l₂₀ l₂₁ l₂₂ l₂₃ l₂₄ l₂₅ l₂₆ l₂₇ l₂₈ l₂₉ l₃₀ l₃₁ l₃₂ l₃₃ l₃₄ l₃₅ l₃₆ l₃₇ l₃₈ l₃₉ l₄₀ l₄₁ l₄₂ l₄₃ l₄₄ l₄₅ l₄₆ l₄₇ l₄₈ l₄₉ l₅₀ l₅₁ l₅₂ l₅₃ l₅₄ l₅₅ l₅₆ l₅₇ l₅₈ l₅₉ l₆₀ : ℕ) where
     abbrev C : Calls 𝓤 H
     C = 𝓣 .C
 
@@ -333,162 +342,138 @@ module _ {M : Type 1} (𝓤 : URA M) (H : Heap 𝓤) (A : Atoms 𝓤) (W : Given
     fm = fmOf 𝓤 H (W .laws) 𝓣
 
     abbrev En : Env 𝓤 H
-    En = (Processed-l.mir, l₀) ∷ ((sliceTy (tyRef (named 0) mut (pointee ((Array u64 8) .written)))), l₁) ∷ ((sliceTy (tyRef (named 1) mut (pointee ((Array u16 35) .written)))), l₂) ∷ ((sliceTy (tyRef (named 2) mut (pointee (Object-t.the-row .written)))), l₃) ∷ ((sliceTy (tyRef (named 3) mut (pointee (u8 .written)))), l₄) ∷ ((sliceTy (tyRef (named 4) mut (pointee (u8 .written)))), l₅) ∷ ((sliceTy (tyRef (named 5) mut (pointee (u32 .written)))), l₆) ∷ ((sliceTy (tyRef (named 6) mut (pointee (u8 .written)))), l₇) ∷ ((sliceTy (tyRef (named 7) mut (pointee (u8 .written)))), l₈) ∷ ((sliceTy (tyRef (named 8) imm (pointee (u8 .written)))), l₉) ∷ ((sliceTy (tyRef (named 9) imm (pointee (u8 .written)))), l₁₀) ∷ (Agent-l.mir, l₁₁) ∷ (Start-l.mir, l₁₂) ∷ ((tyInt w64), l₁₃) ∷ ((tyInt w64), l₁₄) ∷ ((tyInt w64), l₁₅) ∷ (Ran-l.mir, l₁₆) ∷ (tyBool, l₁₇) ∷ ((tyRef erased mut (pointee ((Array u64 8) .written))), l₁₈) ∷ ((sliceTy (tyRef erased mut (pointee ((Array u64 8) .written)))), l₁₉) ∷ ((tyRef erased mut (pointee ((Array u16 35) .written))), l₂₀) ∷ ((sliceTy (tyRef erased mut (pointee ((Array u16 35) .written)))), l₂₁) ∷ ((tyRef erased mut (pointee (Object-t.the-row .written))), l₂₂) ∷ ((sliceTy (tyRef erased mut (pointee (Object-t.the-row .written)))), l₂₃) ∷ ((tyRef erased mut (pointee (u8 .written))), l₂₄) ∷ ((sliceTy (tyRef erased mut (pointee (u8 .written)))), l₂₅) ∷ ((tyRef erased mut (pointee (u8 .written))), l₂₆) ∷ ((sliceTy (tyRef erased mut (pointee (u8 .written)))), l₂₇) ∷ ((tyRef erased mut (pointee (u32 .written))), l₂₈) ∷ ((sliceTy (tyRef erased mut (pointee (u32 .written)))), l₂₉) ∷ ((tyRef erased mut (pointee (u8 .written))), l₃₀) ∷ ((sliceTy (tyRef erased mut (pointee (u8 .written)))), l₃₁) ∷ ((tyRef erased mut (pointee (u8 .written))), l₃₂) ∷ ((sliceTy (tyRef erased mut (pointee (u8 .written)))), l₃₃) ∷ ((tyRef erased mut (pointee ((Array u64 8) .written))), l₃₄) ∷ ((sliceTy (tyRef erased mut (pointee ((Array u64 8) .written)))), l₃₅) ∷ ((tyRef erased mut (pointee ((Array u16 35) .written))), l₃₆) ∷ ((sliceTy (tyRef erased mut (pointee ((Array u16 35) .written)))), l₃₇) ∷ ((tyRef erased mut (pointee (Object-t.the-row .written))), l₃₈) ∷ ((sliceTy (tyRef erased mut (pointee (Object-t.the-row .written)))), l₃₉) ∷ ((tyRef erased mut (pointee (u8 .written))), l₄₀) ∷ ((sliceTy (tyRef erased mut (pointee (u8 .written)))), l₄₁) ∷ ((tyRef erased mut (pointee (u8 .written))), l₄₂) ∷ ((sliceTy (tyRef erased mut (pointee (u8 .written)))), l₄₃) ∷ ((tyRef erased mut (pointee (u32 .written))), l₄₄) ∷ ((sliceTy (tyRef erased mut (pointee (u32 .written)))), l₄₅) ∷ ((tyRef erased mut (pointee (u8 .written))), l₄₆) ∷ ((sliceTy (tyRef erased mut (pointee (u8 .written)))), l₄₇) ∷ (tyBool, l₄₈) ∷ (Processed-l.mir, l₄₉) ∷ (Refusal-l.mir, l₅₀) ∷ ((tyRef erased mut (pointee ((Array u64 8) .written))), l₅₁) ∷ ((sliceTy (tyRef erased mut (pointee ((Array u64 8) .written)))), l₅₂) ∷ ((tyRef erased mut (pointee ((Array u16 35) .written))), l₅₃) ∷ ((sliceTy (tyRef erased mut (pointee ((Array u16 35) .written)))), l₅₄) ∷ ((tyRef erased mut (pointee (Object-t.the-row .written))), l₅₅) ∷ ((sliceTy (tyRef erased mut (pointee (Object-t.the-row .written)))), l₅₆) ∷ ((tyRef erased mut (pointee (u8 .written))), l₅₇) ∷ ((sliceTy (tyRef erased mut (pointee (u8 .written)))), l₅₈) ∷ ((tyRef erased mut (pointee (u8 .written))), l₅₉) ∷ ((sliceTy (tyRef erased mut (pointee (u8 .written)))), l₆₀) ∷ ((tyRef erased mut (pointee (u32 .written))), l₆₁) ∷ ((sliceTy (tyRef erased mut (pointee (u32 .written)))), l₆₂) ∷ ((tyRef erased mut (pointee (u8 .written))), l₆₃) ∷ ((sliceTy (tyRef erased mut (pointee (u8 .written)))), l₆₄) ∷ ((tyRef erased mut (pointee (u8 .written))), l₆₅) ∷ ((sliceTy (tyRef erased mut (pointee (u8 .written)))), l₆₆) ∷ []
+    En = (Processed-l.mir, l₀) ∷ ((sliceTy (tyRef (named 0) mut (pointee ((Array u64 8) .written)))), l₁) ∷ ((sliceTy (tyRef (named 1) mut (pointee ((Array u16 35) .written)))), l₂) ∷ ((sliceTy (tyRef (named 2) mut (pointee (Object-t.the-row .written)))), l₃) ∷ ((sliceTy (tyRef (named 3) mut (pointee (u8 .written)))), l₄) ∷ ((sliceTy (tyRef (named 4) mut (pointee (u8 .written)))), l₅) ∷ ((sliceTy (tyRef (named 5) mut (pointee (u32 .written)))), l₆) ∷ ((sliceTy (tyRef (named 6) mut (pointee (u8 .written)))), l₇) ∷ ((sliceTy (tyRef (named 7) mut (pointee (u8 .written)))), l₈) ∷ ((sliceTy (tyRef (named 8) imm (pointee (u8 .written)))), l₉) ∷ ((sliceTy (tyRef (named 9) imm (pointee (u8 .written)))), l₁₀) ∷ (Agent-l.mir, l₁₁) ∷ (Start-l.mir, l₁₂) ∷ ((tyInt w64), l₁₃) ∷ ((tyInt w64), l₁₄) ∷ ((tyInt w64), l₁₅) ∷ (Ran-l.mir, l₁₆) ∷ (tyBool, l₁₇) ∷ ((tyRef erased mut (pointee ((Array u64 8) .written))), l₁₈) ∷ ((sliceTy (tyRef erased mut (pointee ((Array u64 8) .written)))), l₁₉) ∷ ((tyRef erased mut (pointee ((Array u16 35) .written))), l₂₀) ∷ ((sliceTy (tyRef erased mut (pointee ((Array u16 35) .written)))), l₂₁) ∷ ((tyRef erased mut (pointee (Object-t.the-row .written))), l₂₂) ∷ ((sliceTy (tyRef erased mut (pointee (Object-t.the-row .written)))), l₂₃) ∷ ((tyRef erased mut (pointee (u8 .written))), l₂₄) ∷ ((sliceTy (tyRef erased mut (pointee (u8 .written)))), l₂₅) ∷ ((tyRef erased mut (pointee (u8 .written))), l₂₆) ∷ ((sliceTy (tyRef erased mut (pointee (u8 .written)))), l₂₇) ∷ ((tyRef erased mut (pointee (u32 .written))), l₂₈) ∷ ((sliceTy (tyRef erased mut (pointee (u32 .written)))), l₂₉) ∷ ((tyRef erased mut (pointee (u8 .written))), l₃₀) ∷ ((sliceTy (tyRef erased mut (pointee (u8 .written)))), l₃₁) ∷ ((tyRef erased mut (pointee (u8 .written))), l₃₂) ∷ ((sliceTy (tyRef erased mut (pointee (u8 .written)))), l₃₃) ∷ ((tyRef erased mut (pointee ((Array u64 8) .written))), l₃₄) ∷ ((sliceTy (tyRef erased mut (pointee ((Array u64 8) .written)))), l₃₅) ∷ ((tyRef erased mut (pointee ((Array u16 35) .written))), l₃₆) ∷ ((sliceTy (tyRef erased mut (pointee ((Array u16 35) .written)))), l₃₇) ∷ ((tyRef erased mut (pointee (Object-t.the-row .written))), l₃₈) ∷ ((sliceTy (tyRef erased mut (pointee (Object-t.the-row .written)))), l₃₉) ∷ ((tyRef erased mut (pointee (u8 .written))), l₄₀) ∷ ((sliceTy (tyRef erased mut (pointee (u8 .written)))), l₄₁) ∷ ((tyRef erased mut (pointee (u8 .written))), l₄₂) ∷ ((sliceTy (tyRef erased mut (pointee (u8 .written)))), l₄₃) ∷ ((tyRef erased mut (pointee (u32 .written))), l₄₄) ∷ ((sliceTy (tyRef erased mut (pointee (u32 .written)))), l₄₅) ∷ ((tyRef erased mut (pointee (u8 .written))), l₄₆) ∷ ((sliceTy (tyRef erased mut (pointee (u8 .written)))), l₄₇) ∷ (tyBool, l₄₈) ∷ (Processed-l.mir, l₄₉) ∷ (Refusal-l.mir, l₅₀) ∷ ((tyRef erased mut (pointee ((Array u64 8) .written))), l₅₁) ∷ ((sliceTy (tyRef erased mut (pointee ((Array u64 8) .written)))), l₅₂) ∷ ((tyRef erased mut (pointee ((Array u16 35) .written))), l₅₃) ∷ ((sliceTy (tyRef erased mut (pointee ((Array u16 35) .written)))), l₅₄) ∷ ((tyRef erased mut (pointee (Object-t.the-row .written))), l₅₅) ∷ ((sliceTy (tyRef erased mut (pointee (Object-t.the-row .written)))), l₅₆) ∷ ((tyRef erased mut (pointee (u8 .written))), l₅₇) ∷ ((sliceTy (tyRef erased mut (pointee (u8 .written)))), l₅₈) ∷ ((tyRef erased mut (pointee (u8 .written))), l₅₉) ∷ ((sliceTy (tyRef erased mut (pointee (u8 .written)))), l₆₀) ∷ []
 
-    frees-all : (r : Processed) (ws₁ : List (List ℕ)) (ws₂ : List (List ℕ)) (ws₃ : List Object) (ws₄ : List ℕ) (ws₅ : List ℕ) (ws₆ : List ℕ) (ws₇ : List ℕ) (ws₈ : List ℕ) → ent 𝓤 (⋆ 𝓤 H A (‵ (MutSlice (named 0) κ₁ (Array u64 8) .own (at-list b₁ o₁ γ₁ ws₁) (sliceVal (b₁, o₁) n₁ ∷ [])) ∷ ‵ (flft κ₁ q₁) ∷ ‵ (MutSlice (named 1) κ₂ (Array u16 35) .own (at-list b₂ o₂ γ₂ ws₂) (sliceVal (b₂, o₂) n₂ ∷ [])) ∷ ‵ (flft κ₂ q₂) ∷ ‵ (MutSlice (named 2) κ₃ Object-t.the-row .own (at-list b₃ o₃ γ₃ ws₃) (sliceVal (b₃, o₃) n₃ ∷ [])) ∷ ‵ (flft κ₃ q₃) ∷ ‵ (MutSlice (named 3) κ₄ u8 .own (at-list b₄ o₄ γ₄ ws₄) (sliceVal (b₄, o₄) n₄ ∷ [])) ∷ ‵ (flft κ₄ q₄) ∷ ‵ (MutSlice (named 4) κ₅ u8 .own (at-list b₅ o₅ γ₅ ws₅) (sliceVal (b₅, o₅) n₅ ∷ [])) ∷ ‵ (flft κ₅ q₅) ∷ ‵ (MutSlice (named 5) κ₆ u32 .own (at-list b₆ o₆ γ₆ ws₆) (sliceVal (b₆, o₆) n₆ ∷ [])) ∷ ‵ (flft κ₆ q₆) ∷ ‵ (MutSlice (named 6) κ₇ u8 .own (at-list b₇ o₇ γ₇ ws₇) (sliceVal (b₇, o₇) n₇ ∷ [])) ∷ ‵ (flft κ₇ q₇) ∷ ‵ (MutSlice (named 7) κ₈ u8 .own (at-list b₈ o₈ γ₈ ws₈) (sliceVal (b₈, o₈) n₈ ∷ [])) ∷ ‵ (flft κ₈ q₈) ∷ ‵ (ShrSlice (named 8) κ₉ u8 .own (at-list b₉ o₉ γ₉ d) (sliceVal (b₉, o₉) n₉ ∷ [])) ∷ ‵ (flft κ₉ q₉) ∷ ‵ (ShrSlice (named 9) κ₁₀ u8 .own (at-list b₁₀ o₁₀ γ₁₀ sample) (sliceVal (b₁₀, o₁₀) n₁₀ ∷ [])) ∷ ‵ (flft κ₁₀ q₁₀) ∷ [])) (Post (Processed-p .val r)) → Sq W (‵ (MutSlice (named 0) κ₁ (Array u64 8) .own (at-list b₁ o₁ γ₁ ws₁) (sliceVal (b₁, o₁) n₁ ∷ [])) ∷ ‵ (flft κ₁ q₁) ∷ ‵ (MutSlice (named 0) κ₂ (Array u16 35) .own (at-list b₂ o₂ γ₂ ws₂) (sliceVal (b₂, o₂) n₂ ∷ [])) ∷ ‵ (flft κ₂ q₂) ∷ ‵ (MutSlice (named 0) κ₃ Object-t.the-row .own (at-list b₃ o₃ γ₃ ws₃) (sliceVal (b₃, o₃) n₃ ∷ [])) ∷ ‵ (flft κ₃ q₃) ∷ ‵ (MutSlice (named 0) κ₄ u8 .own (at-list b₄ o₄ γ₄ ws₄) (sliceVal (b₄, o₄) n₄ ∷ [])) ∷ ‵ (flft κ₄ q₄) ∷ ‵ (MutSlice (named 0) κ₅ u8 .own (at-list b₅ o₅ γ₅ ws₅) (sliceVal (b₅, o₅) n₅ ∷ [])) ∷ ‵ (flft κ₅ q₅) ∷ ‵ (MutSlice (named 0) κ₆ u32 .own (at-list b₆ o₆ γ₆ ws₆) (sliceVal (b₆, o₆) n₆ ∷ [])) ∷ ‵ (flft κ₆ q₆) ∷ ‵ (MutSlice (named 0) κ₇ u8 .own (at-list b₇ o₇ γ₇ ws₇) (sliceVal (b₇, o₇) n₇ ∷ [])) ∷ ‵ (flft κ₇ q₇) ∷ ‵ (MutSlice (named 0) κ₈ u8 .own (at-list b₈ o₈ γ₈ ws₈) (sliceVal (b₈, o₈) n₈ ∷ [])) ∷ ‵ (flft κ₈ q₈) ∷ ‵ (ShrSlice (named 0) κ₉ u8 .own (at-list b₉ o₉ γ₉ d) (sliceVal (b₉, o₉) n₉ ∷ [])) ∷ ‵ (flft κ₉ q₉) ∷ ‵ (ShrSlice (named 0) κ₁₀ u8 .own (at-list b₁₀ o₁₀ γ₁₀ sample) (sliceVal (b₁₀, o₁₀) n₁₀ ∷ [])) ∷ ‵ (flft κ₁₀ q₁₀) ∷ free 𝓤 (sliceTy (tyRef erased mut (pointee (u8 .written)))) l₆₆ (free 𝓤 (tyRef erased mut (pointee (u8 .written))) l₆₅ (free 𝓤 (sliceTy (tyRef erased mut (pointee (u8 .written)))) l₆₄ (free 𝓤 (tyRef erased mut (pointee (u8 .written))) l₆₃ (free 𝓤 (sliceTy (tyRef erased mut (pointee (u32 .written)))) l₆₂ (free 𝓤 (tyRef erased mut (pointee (u32 .written))) l₆₁ (free 𝓤 (sliceTy (tyRef erased mut (pointee (u8 .written)))) l₆₀ (free 𝓤 (tyRef erased mut (pointee (u8 .written))) l₅₉ (free 𝓤 (sliceTy (tyRef erased mut (pointee (u8 .written)))) l₅₈ (free 𝓤 (tyRef erased mut (pointee (u8 .written))) l₅₇ (free 𝓤 (sliceTy (tyRef erased mut (pointee (Object-t.the-row .written)))) l₅₆ (free 𝓤 (tyRef erased mut (pointee (Object-t.the-row .written))) l₅₅ (free 𝓤 (sliceTy (tyRef erased mut (pointee ((Array u16 35) .written)))) l₅₄ (free 𝓤 (tyRef erased mut (pointee ((Array u16 35) .written))) l₅₃ (free 𝓤 (sliceTy (tyRef erased mut (pointee ((Array u64 8) .written)))) l₅₂ (free 𝓤 (tyRef erased mut (pointee ((Array u64 8) .written))) l₅₁ (free 𝓤 Refusal-l.mir l₅₀ (free 𝓤 Processed-l.mir l₄₉ (free 𝓤 tyBool l₄₈ (free 𝓤 (sliceTy (tyRef erased mut (pointee (u8 .written)))) l₄₇ (free 𝓤 (tyRef erased mut (pointee (u8 .written))) l₄₆ (free 𝓤 (sliceTy (tyRef erased mut (pointee (u32 .written)))) l₄₅ (free 𝓤 (tyRef erased mut (pointee (u32 .written))) l₄₄ (free 𝓤 (sliceTy (tyRef erased mut (pointee (u8 .written)))) l₄₃ (free 𝓤 (tyRef erased mut (pointee (u8 .written))) l₄₂ (free 𝓤 (sliceTy (tyRef erased mut (pointee (u8 .written)))) l₄₁ (free 𝓤 (tyRef erased mut (pointee (u8 .written))) l₄₀ (free 𝓤 (sliceTy (tyRef erased mut (pointee (Object-t.the-row .written)))) l₃₉ (free 𝓤 (tyRef erased mut (pointee (Object-t.the-row .written))) l₃₈ (free 𝓤 (sliceTy (tyRef erased mut (pointee ((Array u16 35) .written)))) l₃₇ (free 𝓤 (tyRef erased mut (pointee ((Array u16 35) .written))) l₃₆ (free 𝓤 (sliceTy (tyRef erased mut (pointee ((Array u64 8) .written)))) l₃₅ (free 𝓤 (tyRef erased mut (pointee ((Array u64 8) .written))) l₃₄ (free 𝓤 (sliceTy (tyRef erased mut (pointee (u8 .written)))) l₃₃ (free 𝓤 (tyRef erased mut (pointee (u8 .written))) l₃₂ (free 𝓤 (sliceTy (tyRef erased mut (pointee (u8 .written)))) l₃₁ (free 𝓤 (tyRef erased mut (pointee (u8 .written))) l₃₀ (free 𝓤 (sliceTy (tyRef erased mut (pointee (u32 .written)))) l₂₉ (free 𝓤 (tyRef erased mut (pointee (u32 .written))) l₂₈ (free 𝓤 (sliceTy (tyRef erased mut (pointee (u8 .written)))) l₂₇ (free 𝓤 (tyRef erased mut (pointee (u8 .written))) l₂₆ (free 𝓤 (sliceTy (tyRef erased mut (pointee (u8 .written)))) l₂₅ (free 𝓤 (tyRef erased mut (pointee (u8 .written))) l₂₄ (free 𝓤 (sliceTy (tyRef erased mut (pointee (Object-t.the-row .written)))) l₂₃ (free 𝓤 (tyRef erased mut (pointee (Object-t.the-row .written))) l₂₂ (free 𝓤 (sliceTy (tyRef erased mut (pointee ((Array u16 35) .written)))) l₂₁ (free 𝓤 (tyRef erased mut (pointee ((Array u16 35) .written))) l₂₀ (free 𝓤 (sliceTy (tyRef erased mut (pointee ((Array u64 8) .written)))) l₁₉ (free 𝓤 (tyRef erased mut (pointee ((Array u64 8) .written))) l₁₈ (free 𝓤 tyBool l₁₇ (free 𝓤 Ran-l.mir l₁₆ (free 𝓤 (tyInt w64) l₁₅ (free 𝓤 (tyInt w64) l₁₄ (full 𝓤 (tyInt w64) l₁₃ (u64-p .val n′) (full 𝓤 Start-l.mir l₁₂ (Start-p .val start) (full 𝓤 Agent-l.mir l₁₁ (Agent-p .val agent) (full 𝓤 (sliceTy (tyRef (named 9) imm (pointee (u8 .written)))) l₁₀ (sliceVal (b₁₀, o₁₀) n₁₀) (full 𝓤 (sliceTy (tyRef (named 8) imm (pointee (u8 .written)))) l₉ (sliceVal (b₉, o₉) n₉) (full 𝓤 (sliceTy (tyRef (named 7) mut (pointee (u8 .written)))) l₈ (sliceVal (b₈, o₈) n₈) (full 𝓤 (sliceTy (tyRef (named 6) mut (pointee (u8 .written)))) l₇ (sliceVal (b₇, o₇) n₇) (full 𝓤 (sliceTy (tyRef (named 5) mut (pointee (u32 .written)))) l₆ (sliceVal (b₆, o₆) n₆) (full 𝓤 (sliceTy (tyRef (named 4) mut (pointee (u8 .written)))) l₅ (sliceVal (b₅, o₅) n₅) (full 𝓤 (sliceTy (tyRef (named 3) mut (pointee (u8 .written)))) l₄ (sliceVal (b₄, o₄) n₄) (full 𝓤 (sliceTy (tyRef (named 2) mut (pointee (Object-t.the-row .written)))) l₃ (sliceVal (b₃, o₃) n₃) (full 𝓤 (sliceTy (tyRef (named 1) mut (pointee ((Array u16 35) .written)))) l₂ (sliceVal (b₂, o₂) n₂) (full 𝓤 (sliceTy (tyRef (named 0) mut (pointee ((Array u64 8) .written)))) l₁ (sliceVal (b₁, o₁) n₁) (full 𝓤 Processed-l.mir l₀ (Processed-p .val r) ([])))))))))))))))))))))))))))))))))))))))))))))))))))))))))))))))))))) (frees En (prop (Post (Processed-p .val r))))
+    frees-all : (r : Processed) (ws₁ : List (List ℕ)) (ws₂ : List (List ℕ)) (ws₃ : List Object) (ws₄ : List ℕ) (ws₅ : List ℕ) (ws₆ : List ℕ) (ws₇ : List ℕ) (ws₈ : List ℕ) → ent 𝓤 (⋆ 𝓤 H A (‵ (MutSlice (named 0) κ₁ (Array u64 8) .own (at-list b₁ o₁ γ₁ ws₁) (sliceVal (b₁, o₁) n₁ ∷ [])) ∷ ‵ (flft κ₁ q₁) ∷ ‵ (MutSlice (named 1) κ₂ (Array u16 35) .own (at-list b₂ o₂ γ₂ ws₂) (sliceVal (b₂, o₂) n₂ ∷ [])) ∷ ‵ (flft κ₂ q₂) ∷ ‵ (MutSlice (named 2) κ₃ Object-t.the-row .own (at-list b₃ o₃ γ₃ ws₃) (sliceVal (b₃, o₃) n₃ ∷ [])) ∷ ‵ (flft κ₃ q₃) ∷ ‵ (MutSlice (named 3) κ₄ u8 .own (at-list b₄ o₄ γ₄ ws₄) (sliceVal (b₄, o₄) n₄ ∷ [])) ∷ ‵ (flft κ₄ q₄) ∷ ‵ (MutSlice (named 4) κ₅ u8 .own (at-list b₅ o₅ γ₅ ws₅) (sliceVal (b₅, o₅) n₅ ∷ [])) ∷ ‵ (flft κ₅ q₅) ∷ ‵ (MutSlice (named 5) κ₆ u32 .own (at-list b₆ o₆ γ₆ ws₆) (sliceVal (b₆, o₆) n₆ ∷ [])) ∷ ‵ (flft κ₆ q₆) ∷ ‵ (MutSlice (named 6) κ₇ u8 .own (at-list b₇ o₇ γ₇ ws₇) (sliceVal (b₇, o₇) n₇ ∷ [])) ∷ ‵ (flft κ₇ q₇) ∷ ‵ (MutSlice (named 7) κ₈ u8 .own (at-list b₈ o₈ γ₈ ws₈) (sliceVal (b₈, o₈) n₈ ∷ [])) ∷ ‵ (flft κ₈ q₈) ∷ ‵ (ShrSlice (named 8) κ₉ u8 .own (at-list b₉ o₉ γ₉ d) (sliceVal (b₉, o₉) n₉ ∷ [])) ∷ ‵ (flft κ₉ q₉) ∷ ‵ (ShrSlice (named 9) κ₁₀ u8 .own (at-list b₁₀ o₁₀ γ₁₀ sample) (sliceVal (b₁₀, o₁₀) n₁₀ ∷ [])) ∷ ‵ (flft κ₁₀ q₁₀) ∷ [])) (Post (Processed-p .val r)) → Sq W (‵ (MutSlice (named 0) κ₁ (Array u64 8) .own (at-list b₁ o₁ γ₁ ws₁) (sliceVal (b₁, o₁) n₁ ∷ [])) ∷ ‵ (flft κ₁ q₁) ∷ ‵ (MutSlice (named 0) κ₂ (Array u16 35) .own (at-list b₂ o₂ γ₂ ws₂) (sliceVal (b₂, o₂) n₂ ∷ [])) ∷ ‵ (flft κ₂ q₂) ∷ ‵ (MutSlice (named 0) κ₃ Object-t.the-row .own (at-list b₃ o₃ γ₃ ws₃) (sliceVal (b₃, o₃) n₃ ∷ [])) ∷ ‵ (flft κ₃ q₃) ∷ ‵ (MutSlice (named 0) κ₄ u8 .own (at-list b₄ o₄ γ₄ ws₄) (sliceVal (b₄, o₄) n₄ ∷ [])) ∷ ‵ (flft κ₄ q₄) ∷ ‵ (MutSlice (named 0) κ₅ u8 .own (at-list b₅ o₅ γ₅ ws₅) (sliceVal (b₅, o₅) n₅ ∷ [])) ∷ ‵ (flft κ₅ q₅) ∷ ‵ (MutSlice (named 0) κ₆ u32 .own (at-list b₆ o₆ γ₆ ws₆) (sliceVal (b₆, o₆) n₆ ∷ [])) ∷ ‵ (flft κ₆ q₆) ∷ ‵ (MutSlice (named 0) κ₇ u8 .own (at-list b₇ o₇ γ₇ ws₇) (sliceVal (b₇, o₇) n₇ ∷ [])) ∷ ‵ (flft κ₇ q₇) ∷ ‵ (MutSlice (named 0) κ₈ u8 .own (at-list b₈ o₈ γ₈ ws₈) (sliceVal (b₈, o₈) n₈ ∷ [])) ∷ ‵ (flft κ₈ q₈) ∷ ‵ (ShrSlice (named 0) κ₉ u8 .own (at-list b₉ o₉ γ₉ d) (sliceVal (b₉, o₉) n₉ ∷ [])) ∷ ‵ (flft κ₉ q₉) ∷ ‵ (ShrSlice (named 0) κ₁₀ u8 .own (at-list b₁₀ o₁₀ γ₁₀ sample) (sliceVal (b₁₀, o₁₀) n₁₀ ∷ [])) ∷ ‵ (flft κ₁₀ q₁₀) ∷ free 𝓤 (sliceTy (tyRef erased mut (pointee (u8 .written)))) l₆₀ (free 𝓤 (tyRef erased mut (pointee (u8 .written))) l₅₉ (free 𝓤 (sliceTy (tyRef erased mut (pointee (u8 .written)))) l₅₈ (free 𝓤 (tyRef erased mut (pointee (u8 .written))) l₅₇ (free 𝓤 (sliceTy (tyRef erased mut (pointee (Object-t.the-row .written)))) l₅₆ (free 𝓤 (tyRef erased mut (pointee (Object-t.the-row .written))) l₅₅ (free 𝓤 (sliceTy (tyRef erased mut (pointee ((Array u16 35) .written)))) l₅₄ (free 𝓤 (tyRef erased mut (pointee ((Array u16 35) .written))) l₅₃ (free 𝓤 (sliceTy (tyRef erased mut (pointee ((Array u64 8) .written)))) l₅₂ (free 𝓤 (tyRef erased mut (pointee ((Array u64 8) .written))) l₅₁ (free 𝓤 Refusal-l.mir l₅₀ (free 𝓤 Processed-l.mir l₄₉ (free 𝓤 tyBool l₄₈ (free 𝓤 (sliceTy (tyRef erased mut (pointee (u8 .written)))) l₄₇ (free 𝓤 (tyRef erased mut (pointee (u8 .written))) l₄₆ (free 𝓤 (sliceTy (tyRef erased mut (pointee (u32 .written)))) l₄₅ (free 𝓤 (tyRef erased mut (pointee (u32 .written))) l₄₄ (free 𝓤 (sliceTy (tyRef erased mut (pointee (u8 .written)))) l₄₃ (free 𝓤 (tyRef erased mut (pointee (u8 .written))) l₄₂ (free 𝓤 (sliceTy (tyRef erased mut (pointee (u8 .written)))) l₄₁ (free 𝓤 (tyRef erased mut (pointee (u8 .written))) l₄₀ (free 𝓤 (sliceTy (tyRef erased mut (pointee (Object-t.the-row .written)))) l₃₉ (free 𝓤 (tyRef erased mut (pointee (Object-t.the-row .written))) l₃₈ (free 𝓤 (sliceTy (tyRef erased mut (pointee ((Array u16 35) .written)))) l₃₇ (free 𝓤 (tyRef erased mut (pointee ((Array u16 35) .written))) l₃₆ (free 𝓤 (sliceTy (tyRef erased mut (pointee ((Array u64 8) .written)))) l₃₅ (free 𝓤 (tyRef erased mut (pointee ((Array u64 8) .written))) l₃₄ (free 𝓤 (sliceTy (tyRef erased mut (pointee (u8 .written)))) l₃₃ (free 𝓤 (tyRef erased mut (pointee (u8 .written))) l₃₂ (free 𝓤 (sliceTy (tyRef erased mut (pointee (u8 .written)))) l₃₁ (free 𝓤 (tyRef erased mut (pointee (u8 .written))) l₃₀ (free 𝓤 (sliceTy (tyRef erased mut (pointee (u32 .written)))) l₂₉ (free 𝓤 (tyRef erased mut (pointee (u32 .written))) l₂₈ (free 𝓤 (sliceTy (tyRef erased mut (pointee (u8 .written)))) l₂₇ (free 𝓤 (tyRef erased mut (pointee (u8 .written))) l₂₆ (free 𝓤 (sliceTy (tyRef erased mut (pointee (u8 .written)))) l₂₅ (free 𝓤 (tyRef erased mut (pointee (u8 .written))) l₂₄ (free 𝓤 (sliceTy (tyRef erased mut (pointee (Object-t.the-row .written)))) l₂₃ (free 𝓤 (tyRef erased mut (pointee (Object-t.the-row .written))) l₂₂ (free 𝓤 (sliceTy (tyRef erased mut (pointee ((Array u16 35) .written)))) l₂₁ (free 𝓤 (tyRef erased mut (pointee ((Array u16 35) .written))) l₂₀ (free 𝓤 (sliceTy (tyRef erased mut (pointee ((Array u64 8) .written)))) l₁₉ (free 𝓤 (tyRef erased mut (pointee ((Array u64 8) .written))) l₁₈ (free 𝓤 tyBool l₁₇ (free 𝓤 Ran-l.mir l₁₆ (free 𝓤 (tyInt w64) l₁₅ (free 𝓤 (tyInt w64) l₁₄ (full 𝓤 (tyInt w64) l₁₃ (u64-p .val n′) (full 𝓤 Start-l.mir l₁₂ (Start-p .val start) (full 𝓤 Agent-l.mir l₁₁ (Agent-p .val agent) (full 𝓤 (sliceTy (tyRef (named 9) imm (pointee (u8 .written)))) l₁₀ (sliceVal (b₁₀, o₁₀) n₁₀) (full 𝓤 (sliceTy (tyRef (named 8) imm (pointee (u8 .written)))) l₉ (sliceVal (b₉, o₉) n₉) (full 𝓤 (sliceTy (tyRef (named 7) mut (pointee (u8 .written)))) l₈ (sliceVal (b₈, o₈) n₈) (full 𝓤 (sliceTy (tyRef (named 6) mut (pointee (u8 .written)))) l₇ (sliceVal (b₇, o₇) n₇) (full 𝓤 (sliceTy (tyRef (named 5) mut (pointee (u32 .written)))) l₆ (sliceVal (b₆, o₆) n₆) (full 𝓤 (sliceTy (tyRef (named 4) mut (pointee (u8 .written)))) l₅ (sliceVal (b₅, o₅) n₅) (full 𝓤 (sliceTy (tyRef (named 3) mut (pointee (u8 .written)))) l₄ (sliceVal (b₄, o₄) n₄) (full 𝓤 (sliceTy (tyRef (named 2) mut (pointee (Object-t.the-row .written)))) l₃ (sliceVal (b₃, o₃) n₃) (full 𝓤 (sliceTy (tyRef (named 1) mut (pointee ((Array u16 35) .written)))) l₂ (sliceVal (b₂, o₂) n₂) (full 𝓤 (sliceTy (tyRef (named 0) mut (pointee ((Array u64 8) .written)))) l₁ (sliceVal (b₁, o₁) n₁) (full 𝓤 Processed-l.mir l₀ (Processed-p .val r) ([])))))))))))))))))))))))))))))))))))))))))))))))))))))))))))))) (frees En (prop (Post (Processed-p .val r))))
     frees-all r ws₁ ws₂ ws₃ ws₄ ws₅ ws₆ ws₇ ws₈ ends =
-        forget ! 126 refl $ forget ! 128 refl $ forget ! 130 refl $ forget ! 132 refl $ forget ! 134 refl $ forget ! 136 refl $ forget ! 138 refl $ forget ! 140 refl $ forget ! 142 refl $ forget ! 144 refl $ forget ! 146 refl $ forget ! 148 refl $ forget ! 150 refl $ forget ! 152 refl $ move ! (152 ∷ 153 ∷ []) $ free1 ! $ move ! (150 ∷ 151 ∷ []) $ free1 ! $ move ! (148 ∷ 149 ∷ []) $ free1 ! $ move ! (146 ∷ 147 ∷ []) $ free1 ! $ move ! (144 ∷ 145 ∷ []) $ free1 ! $ move ! (142 ∷ 143 ∷ []) $ free1 ! $ move ! (140 ∷ 141 ∷ []) $ free1 ! $ move ! (138 ∷ 139 ∷ []) $ free1 ! $ move ! (136 ∷ 137 ∷ []) $ free1 ! $ move ! (134 ∷ 135 ∷ []) $ free1 ! $ move ! (132 ∷ 133 ∷ []) $ free1 ! $ move ! (130 ∷ 131 ∷ []) $ free1 ! $ move ! (128 ∷ 129 ∷ []) $ free1 ! $ move ! (126 ∷ 127 ∷ []) $ free1 ! $ move ! (124 ∷ 125 ∷ []) $ free1 ! $ move ! (122 ∷ 123 ∷ []) $ free1 ! $ move ! (120 ∷ 121 ∷ []) $ free1 ! $ move ! (118 ∷ 119 ∷ []) $ free1 ! $ move ! (116 ∷ 117 ∷ []) $ free1 ! $ move ! (114 ∷ 115 ∷ []) $ free1 ! $ move ! (112 ∷ 113 ∷ []) $ free1 ! $ move ! (110 ∷ 111 ∷ []) $ free1 ! $ move ! (108 ∷ 109 ∷ []) $ free1 ! $ move ! (106 ∷ 107 ∷ []) $ free1 ! $ move ! (104 ∷ 105 ∷ []) $ free1 ! $ move ! (102 ∷ 103 ∷ []) $ free1 ! $ move ! (100 ∷ 101 ∷ []) $ free1 ! $ move ! (98 ∷ 99 ∷ []) $ free1 ! $ move ! (96 ∷ 97 ∷ []) $ free1 ! $ move ! (94 ∷ 95 ∷ []) $ free1 ! $ move ! (92 ∷ 93 ∷ []) $ free1 ! $ move ! (90 ∷ 91 ∷ []) $ free1 ! $ move ! (88 ∷ 89 ∷ []) $ free1 ! $ move ! (86 ∷ 87 ∷ []) $ free1 ! $ move ! (84 ∷ 85 ∷ []) $ free1 ! $ move ! (82 ∷ 83 ∷ []) $ free1 ! $ move ! (80 ∷ 81 ∷ []) $ free1 ! $ move ! (78 ∷ 79 ∷ []) $ free1 ! $ move ! (76 ∷ 77 ∷ []) $ free1 ! $ move ! (74 ∷ 75 ∷ []) $ free1 ! $ move ! (72 ∷ 73 ∷ []) $ free1 ! $ move ! (70 ∷ 71 ∷ []) $ free1 ! $ move ! (68 ∷ 69 ∷ []) $ free1 ! $ move ! (66 ∷ 67 ∷ []) $ free1 ! $ move ! (64 ∷ 65 ∷ []) $ free1 ! $ move ! (62 ∷ 63 ∷ []) $ free1 ! $ move ! (60 ∷ 61 ∷ []) $ free1 ! $ move ! (58 ∷ 59 ∷ []) $ free1 ! $ move ! (56 ∷ 57 ∷ []) $ free1 ! $ move ! (54 ∷ 55 ∷ []) $ free1 ! $ move ! (52 ∷ 53 ∷ []) $ free1 ! $ move ! (50 ∷ 51 ∷ []) $ free1 ! $ move ! (48 ∷ 49 ∷ []) $ free1 ! $ move ! (46 ∷ 47 ∷ []) $ free1 ! $ move ! (44 ∷ 45 ∷ []) $ free1 ! $ move ! (42 ∷ 43 ∷ []) $ free1 ! $ move ! (40 ∷ 41 ∷ []) $ free1 ! $ move ! (38 ∷ 39 ∷ []) $ free1 ! $ move ! (36 ∷ 37 ∷ []) $ free1 ! $ move ! (34 ∷ 35 ∷ []) $ free1 ! $ move ! (32 ∷ 33 ∷ []) $ free1 ! $ move ! (30 ∷ 31 ∷ []) $ free1 ! $ move ! (28 ∷ 29 ∷ []) $ free1 ! $ move ! (26 ∷ 27 ∷ []) $ free1 ! $ move ! (24 ∷ 25 ∷ []) $ free1 ! $ move ! (22 ∷ 23 ∷ []) $ free1 ! $ move ! (20 ∷ 21 ∷ []) $ free1 ! $ free0 ! $
+        forget ! 114 refl $ forget ! 116 refl $ forget ! 118 refl $ forget ! 120 refl $ forget ! 122 refl $ forget ! 124 refl $ forget ! 126 refl $ forget ! 128 refl $ forget ! 130 refl $ forget ! 132 refl $ forget ! 134 refl $ forget ! 136 refl $ forget ! 138 refl $ forget ! 140 refl $ move ! (140 ∷ 141 ∷ []) $ free1 ! $ move ! (138 ∷ 139 ∷ []) $ free1 ! $ move ! (136 ∷ 137 ∷ []) $ free1 ! $ move ! (134 ∷ 135 ∷ []) $ free1 ! $ move ! (132 ∷ 133 ∷ []) $ free1 ! $ move ! (130 ∷ 131 ∷ []) $ free1 ! $ move ! (128 ∷ 129 ∷ []) $ free1 ! $ move ! (126 ∷ 127 ∷ []) $ free1 ! $ move ! (124 ∷ 125 ∷ []) $ free1 ! $ move ! (122 ∷ 123 ∷ []) $ free1 ! $ move ! (120 ∷ 121 ∷ []) $ free1 ! $ move ! (118 ∷ 119 ∷ []) $ free1 ! $ move ! (116 ∷ 117 ∷ []) $ free1 ! $ move ! (114 ∷ 115 ∷ []) $ free1 ! $ move ! (112 ∷ 113 ∷ []) $ free1 ! $ move ! (110 ∷ 111 ∷ []) $ free1 ! $ move ! (108 ∷ 109 ∷ []) $ free1 ! $ move ! (106 ∷ 107 ∷ []) $ free1 ! $ move ! (104 ∷ 105 ∷ []) $ free1 ! $ move ! (102 ∷ 103 ∷ []) $ free1 ! $ move ! (100 ∷ 101 ∷ []) $ free1 ! $ move ! (98 ∷ 99 ∷ []) $ free1 ! $ move ! (96 ∷ 97 ∷ []) $ free1 ! $ move ! (94 ∷ 95 ∷ []) $ free1 ! $ move ! (92 ∷ 93 ∷ []) $ free1 ! $ move ! (90 ∷ 91 ∷ []) $ free1 ! $ move ! (88 ∷ 89 ∷ []) $ free1 ! $ move ! (86 ∷ 87 ∷ []) $ free1 ! $ move ! (84 ∷ 85 ∷ []) $ free1 ! $ move ! (82 ∷ 83 ∷ []) $ free1 ! $ move ! (80 ∷ 81 ∷ []) $ free1 ! $ move ! (78 ∷ 79 ∷ []) $ free1 ! $ move ! (76 ∷ 77 ∷ []) $ free1 ! $ move ! (74 ∷ 75 ∷ []) $ free1 ! $ move ! (72 ∷ 73 ∷ []) $ free1 ! $ move ! (70 ∷ 71 ∷ []) $ free1 ! $ move ! (68 ∷ 69 ∷ []) $ free1 ! $ move ! (66 ∷ 67 ∷ []) $ free1 ! $ move ! (64 ∷ 65 ∷ []) $ free1 ! $ move ! (62 ∷ 63 ∷ []) $ free1 ! $ move ! (60 ∷ 61 ∷ []) $ free1 ! $ move ! (58 ∷ 59 ∷ []) $ free1 ! $ move ! (56 ∷ 57 ∷ []) $ free1 ! $ move ! (54 ∷ 55 ∷ []) $ free1 ! $ move ! (52 ∷ 53 ∷ []) $ free1 ! $ move ! (50 ∷ 51 ∷ []) $ free1 ! $ move ! (48 ∷ 49 ∷ []) $ free1 ! $ move ! (46 ∷ 47 ∷ []) $ free1 ! $ move ! (44 ∷ 45 ∷ []) $ free1 ! $ move ! (42 ∷ 43 ∷ []) $ free1 ! $ move ! (40 ∷ 41 ∷ []) $ free1 ! $ move ! (38 ∷ 39 ∷ []) $ free1 ! $ move ! (36 ∷ 37 ∷ []) $ free1 ! $ move ! (34 ∷ 35 ∷ []) $ free1 ! $ move ! (32 ∷ 33 ∷ []) $ free1 ! $ move ! (30 ∷ 31 ∷ []) $ free1 ! $ move ! (28 ∷ 29 ∷ []) $ free1 ! $ move ! (26 ∷ 27 ∷ []) $ free1 ! $ move ! (24 ∷ 25 ∷ []) $ free1 ! $ move ! (22 ∷ 23 ∷ []) $ free1 ! $ move ! (20 ∷ 21 ∷ []) $ free1 ! $ free0 ! $
         by ! ends
 
-    part-2·yes·18-0 : (is-1 : Is (bool-p .row) (unbound start (d)) (bool-p .val (unbound start (d)) ∷ [])) → (c-2 : unbound start (d) ≡ true) → (asks-2·yes·17 : (resumesFit (start .resumes) (start .frame .«stream_id») (length (sample)) ≡ true) × (start .frame .room ≡ length (out)) × (256 ≤ length (sessions)) × (2048 ≤ length (streams)) × (8192 ≤ length (objects)) × (32768 ≤ length (rebuilt))) → (len-2·yes·17-sessions : length (finish agent (lent (sessions) (streams) (objects) (held) (parts) (lengths) (rebuilt)) (out) start (performed start (lent (sessions) (streams) (objects) (held) (parts) (lengths) (rebuilt)) (d) (sample)) .tables .sessions) ≡ n₁) → (len-2·yes·17-streams : length (finish agent (lent (sessions) (streams) (objects) (held) (parts) (lengths) (rebuilt)) (out) start (performed start (lent (sessions) (streams) (objects) (held) (parts) (lengths) (rebuilt)) (d) (sample)) .tables .streams) ≡ n₂) → (len-2·yes·17-objects : length (finish agent (lent (sessions) (streams) (objects) (held) (parts) (lengths) (rebuilt)) (out) start (performed start (lent (sessions) (streams) (objects) (held) (parts) (lengths) (rebuilt)) (d) (sample)) .tables .objects) ≡ n₃) → (len-2·yes·17-held : length (finish agent (lent (sessions) (streams) (objects) (held) (parts) (lengths) (rebuilt)) (out) start (performed start (lent (sessions) (streams) (objects) (held) (parts) (lengths) (rebuilt)) (d) (sample)) .tables .held) ≡ n₄) → (len-2·yes·17-parts : length (finish agent (lent (sessions) (streams) (objects) (held) (parts) (lengths) (rebuilt)) (out) start (performed start (lent (sessions) (streams) (objects) (held) (parts) (lengths) (rebuilt)) (d) (sample)) .tables .parts) ≡ n₅) → (len-2·yes·17-lengths : length (finish agent (lent (sessions) (streams) (objects) (held) (parts) (lengths) (rebuilt)) (out) start (performed start (lent (sessions) (streams) (objects) (held) (parts) (lengths) (rebuilt)) (d) (sample)) .tables .lengths) ≡ n₆) → (len-2·yes·17-rebuilt : length (finish agent (lent (sessions) (streams) (objects) (held) (parts) (lengths) (rebuilt)) (out) start (performed start (lent (sessions) (streams) (objects) (held) (parts) (lengths) (rebuilt)) (d) (sample)) .tables .rebuilt) ≡ n₇) → (len-2·yes·17-out : length (finish agent (lent (sessions) (streams) (objects) (held) (parts) (lengths) (rebuilt)) (out) start (performed start (lent (sessions) (streams) (objects) (held) (parts) (lengths) (rebuilt)) (d) (sample)) .out) ≡ n₈) → (is-2·yes·17 : Is (Processed-p .row) (finish agent (lent (sessions) (streams) (objects) (held) (parts) (lengths) (rebuilt)) (out) start (performed start (lent (sessions) (streams) (objects) (held) (parts) (lengths) (rebuilt)) (d) (sample)) .processed) (Processed-p .val (finish agent (lent (sessions) (streams) (objects) (held) (parts) (lengths) (rebuilt)) (out) start (performed start (lent (sessions) (streams) (objects) (held) (parts) (lengths) (rebuilt)) (d) (sample)) .processed) ∷ [])) → Sq W (‵ (MutSlice (named 0) κ₁ (Array u64 8) .own (at-list b₁ o₁ γ₁ (finish agent (lent (sessions) (streams) (objects) (held) (parts) (lengths) (rebuilt)) (out) start (performed start (lent (sessions) (streams) (objects) (held) (parts) (lengths) (rebuilt)) (d) (sample)) .tables .sessions)) (sliceVal (b₁, o₁) n₁ ∷ [])) ∷ ‵ (flft κ₁ q₁) ∷ ‵ (MutSlice (named 0) κ₂ (Array u16 35) .own (at-list b₂ o₂ γ₂ (finish agent (lent (sessions) (streams) (objects) (held) (parts) (lengths) (rebuilt)) (out) start (performed start (lent (sessions) (streams) (objects) (held) (parts) (lengths) (rebuilt)) (d) (sample)) .tables .streams)) (sliceVal (b₂, o₂) n₂ ∷ [])) ∷ ‵ (flft κ₂ q₂) ∷ ‵ (MutSlice (named 0) κ₃ Object-t.the-row .own (at-list b₃ o₃ γ₃ (finish agent (lent (sessions) (streams) (objects) (held) (parts) (lengths) (rebuilt)) (out) start (performed start (lent (sessions) (streams) (objects) (held) (parts) (lengths) (rebuilt)) (d) (sample)) .tables .objects)) (sliceVal (b₃, o₃) n₃ ∷ [])) ∷ ‵ (flft κ₃ q₃) ∷ ‵ (MutSlice (named 0) κ₄ u8 .own (at-list b₄ o₄ γ₄ (finish agent (lent (sessions) (streams) (objects) (held) (parts) (lengths) (rebuilt)) (out) start (performed start (lent (sessions) (streams) (objects) (held) (parts) (lengths) (rebuilt)) (d) (sample)) .tables .held)) (sliceVal (b₄, o₄) n₄ ∷ [])) ∷ ‵ (flft κ₄ q₄) ∷ ‵ (MutSlice (named 0) κ₅ u8 .own (at-list b₅ o₅ γ₅ (finish agent (lent (sessions) (streams) (objects) (held) (parts) (lengths) (rebuilt)) (out) start (performed start (lent (sessions) (streams) (objects) (held) (parts) (lengths) (rebuilt)) (d) (sample)) .tables .parts)) (sliceVal (b₅, o₅) n₅ ∷ [])) ∷ ‵ (flft κ₅ q₅) ∷ ‵ (MutSlice (named 0) κ₆ u32 .own (at-list b₆ o₆ γ₆ (finish agent (lent (sessions) (streams) (objects) (held) (parts) (lengths) (rebuilt)) (out) start (performed start (lent (sessions) (streams) (objects) (held) (parts) (lengths) (rebuilt)) (d) (sample)) .tables .lengths)) (sliceVal (b₆, o₆) n₆ ∷ [])) ∷ ‵ (flft κ₆ q₆) ∷ ‵ (MutSlice (named 0) κ₇ u8 .own (at-list b₇ o₇ γ₇ (finish agent (lent (sessions) (streams) (objects) (held) (parts) (lengths) (rebuilt)) (out) start (performed start (lent (sessions) (streams) (objects) (held) (parts) (lengths) (rebuilt)) (d) (sample)) .tables .rebuilt)) (sliceVal (b₇, o₇) n₇ ∷ [])) ∷ ‵ (flft κ₇ q₇) ∷ ‵ (MutSlice (named 0) κ₈ u8 .own (at-list b₈ o₈ γ₈ (finish agent (lent (sessions) (streams) (objects) (held) (parts) (lengths) (rebuilt)) (out) start (performed start (lent (sessions) (streams) (objects) (held) (parts) (lengths) (rebuilt)) (d) (sample)) .out)) (sliceVal (b₈, o₈) n₈ ∷ [])) ∷ ‵ (flft κ₈ q₈) ∷ ‵ (ShrSlice (named 0) κ₉ u8 .own (at-list b₉ o₉ γ₉ d) (sliceVal (b₉, o₉) n₉ ∷ [])) ∷ ‵ (flft κ₉ q₉) ∷ ‵ (ShrSlice (named 0) κ₁₀ u8 .own (at-list b₁₀ o₁₀ γ₁₀ sample) (sliceVal (b₁₀, o₁₀) n₁₀ ∷ [])) ∷ ‵ (flft κ₁₀ q₁₀) ∷ free 𝓤 (sliceTy (tyRef erased mut (pointee (u8 .written)))) l₆₆ (free 𝓤 (tyRef erased mut (pointee (u8 .written))) l₆₅ (free 𝓤 (sliceTy (tyRef erased mut (pointee (u8 .written)))) l₆₄ (free 𝓤 (tyRef erased mut (pointee (u8 .written))) l₆₃ (free 𝓤 (sliceTy (tyRef erased mut (pointee (u32 .written)))) l₆₂ (free 𝓤 (tyRef erased mut (pointee (u32 .written))) l₆₁ (free 𝓤 (sliceTy (tyRef erased mut (pointee (u8 .written)))) l₆₀ (free 𝓤 (tyRef erased mut (pointee (u8 .written))) l₅₉ (free 𝓤 (sliceTy (tyRef erased mut (pointee (u8 .written)))) l₅₈ (free 𝓤 (tyRef erased mut (pointee (u8 .written))) l₅₇ (free 𝓤 (sliceTy (tyRef erased mut (pointee (Object-t.the-row .written)))) l₅₆ (free 𝓤 (tyRef erased mut (pointee (Object-t.the-row .written))) l₅₅ (free 𝓤 (sliceTy (tyRef erased mut (pointee ((Array u16 35) .written)))) l₅₄ (free 𝓤 (tyRef erased mut (pointee ((Array u16 35) .written))) l₅₃ (free 𝓤 (sliceTy (tyRef erased mut (pointee ((Array u64 8) .written)))) l₅₂ (free 𝓤 (tyRef erased mut (pointee ((Array u64 8) .written))) l₅₁ (free 𝓤 Refusal-l.mir l₅₀ (free 𝓤 Processed-l.mir l₄₉ (free 𝓤 tyBool l₄₈ (free 𝓤 (sliceTy (tyRef erased mut (pointee (u8 .written)))) l₄₇ (free 𝓤 (tyRef erased mut (pointee (u8 .written))) l₄₆ (free 𝓤 (sliceTy (tyRef erased mut (pointee (u32 .written)))) l₄₅ (free 𝓤 (tyRef erased mut (pointee (u32 .written))) l₄₄ (free 𝓤 (sliceTy (tyRef erased mut (pointee (u8 .written)))) l₄₃ (free 𝓤 (tyRef erased mut (pointee (u8 .written))) l₄₂ (free 𝓤 (sliceTy (tyRef erased mut (pointee (u8 .written)))) l₄₁ (free 𝓤 (tyRef erased mut (pointee (u8 .written))) l₄₀ (free 𝓤 (sliceTy (tyRef erased mut (pointee (Object-t.the-row .written)))) l₃₉ (free 𝓤 (tyRef erased mut (pointee (Object-t.the-row .written))) l₃₈ (free 𝓤 (sliceTy (tyRef erased mut (pointee ((Array u16 35) .written)))) l₃₇ (free 𝓤 (tyRef erased mut (pointee ((Array u16 35) .written))) l₃₆ (free 𝓤 (sliceTy (tyRef erased mut (pointee ((Array u64 8) .written)))) l₃₅ (free 𝓤 (tyRef erased mut (pointee ((Array u64 8) .written))) l₃₄ (full 𝓤 (sliceTy (tyRef erased mut (pointee (u8 .written)))) l₃₃ (sliceVal (b₈, o₈) n₈) (full 𝓤 (tyRef erased mut (pointee (u8 .written))) l₃₂ (vptr b₈ o₈) (full 𝓤 (sliceTy (tyRef erased mut (pointee (u8 .written)))) l₃₁ (sliceVal (b₇, o₇) n₇) (full 𝓤 (tyRef erased mut (pointee (u8 .written))) l₃₀ (vptr b₇ o₇) (full 𝓤 (sliceTy (tyRef erased mut (pointee (u32 .written)))) l₂₉ (sliceVal (b₆, o₆) n₆) (full 𝓤 (tyRef erased mut (pointee (u32 .written))) l₂₈ (vptr b₆ o₆) (full 𝓤 (sliceTy (tyRef erased mut (pointee (u8 .written)))) l₂₇ (sliceVal (b₅, o₅) n₅) (full 𝓤 (tyRef erased mut (pointee (u8 .written))) l₂₆ (vptr b₅ o₅) (full 𝓤 (sliceTy (tyRef erased mut (pointee (u8 .written)))) l₂₅ (sliceVal (b₄, o₄) n₄) (full 𝓤 (tyRef erased mut (pointee (u8 .written))) l₂₄ (vptr b₄ o₄) (full 𝓤 (sliceTy (tyRef erased mut (pointee (Object-t.the-row .written)))) l₂₃ (sliceVal (b₃, o₃) n₃) (full 𝓤 (tyRef erased mut (pointee (Object-t.the-row .written))) l₂₂ (vptr b₃ o₃) (full 𝓤 (sliceTy (tyRef erased mut (pointee ((Array u16 35) .written)))) l₂₁ (sliceVal (b₂, o₂) n₂) (full 𝓤 (tyRef erased mut (pointee ((Array u16 35) .written))) l₂₀ (vptr b₂ o₂) (full 𝓤 (sliceTy (tyRef erased mut (pointee ((Array u64 8) .written)))) l₁₉ (sliceVal (b₁, o₁) n₁) (full 𝓤 (tyRef erased mut (pointee ((Array u64 8) .written))) l₁₈ (vptr b₁ o₁) (full 𝓤 tyBool l₁₇ (bool-p .val (unbound start (d))) (free 𝓤 Ran-l.mir l₁₆ (free 𝓤 (tyInt w64) l₁₅ (free 𝓤 (tyInt w64) l₁₄ (full 𝓤 (tyInt w64) l₁₃ (u64-p .val n′) (full 𝓤 Start-l.mir l₁₂ (Start-p .val start) (full 𝓤 Agent-l.mir l₁₁ (Agent-p .val agent) (full 𝓤 (sliceTy (tyRef (named 9) imm (pointee (u8 .written)))) l₁₀ (sliceVal (b₁₀, o₁₀) n₁₀) (full 𝓤 (sliceTy (tyRef (named 8) imm (pointee (u8 .written)))) l₉ (sliceVal (b₉, o₉) n₉) (full 𝓤 (sliceTy (tyRef (named 7) mut (pointee (u8 .written)))) l₈ (sliceVal (b₈, o₈) n₈) (full 𝓤 (sliceTy (tyRef (named 6) mut (pointee (u8 .written)))) l₇ (sliceVal (b₇, o₇) n₇) (full 𝓤 (sliceTy (tyRef (named 5) mut (pointee (u32 .written)))) l₆ (sliceVal (b₆, o₆) n₆) (full 𝓤 (sliceTy (tyRef (named 4) mut (pointee (u8 .written)))) l₅ (sliceVal (b₅, o₅) n₅) (full 𝓤 (sliceTy (tyRef (named 3) mut (pointee (u8 .written)))) l₄ (sliceVal (b₄, o₄) n₄) (full 𝓤 (sliceTy (tyRef (named 2) mut (pointee (Object-t.the-row .written)))) l₃ (sliceVal (b₃, o₃) n₃) (full 𝓤 (sliceTy (tyRef (named 1) mut (pointee ((Array u16 35) .written)))) l₂ (sliceVal (b₂, o₂) n₂) (full 𝓤 (sliceTy (tyRef (named 0) mut (pointee ((Array u64 8) .written)))) l₁ (sliceVal (b₁, o₁) n₁) (full 𝓤 Processed-l.mir l₀ (Processed-p .val (finish agent (lent (sessions) (streams) (objects) (held) (parts) (lengths) (rebuilt)) (out) start (performed start (lent (sessions) (streams) (objects) (held) (parts) (lengths) (rebuilt)) (d) (sample)) .processed)) ([])))))))))))))))))))))))))))))))))))))))))))))))))))))))))))))))))))) (runs C Λ En (past 17 (yes-of (one mir.t-2))) (anyQ (afterSeq 𝓤 H (Wp 𝓤 H C Λ En mir.t-3 (atReturn 𝓤 H En Post)) (atReturn 𝓤 H En Post))))
+    part-2·yes·18-0 : (is-1 : Is (bool-p .row) (unbound start (d)) (bool-p .val (unbound start (d)) ∷ [])) → (c-2 : unbound start (d) ≡ true) → (asks-2·yes·17 : (resumesFit (start .resumes) (start .frame .«stream_id») (length (sample)) ≡ true) × (start .frame .room ≡ length (out)) × (ltb (length (out)) (neededOf (roomy (length (out)) start (sessions) n′ (d) (length (sample))) (performed start (lent (sessions) (streams) (objects) (held) (parts) (lengths) (rebuilt)) (d) (sample) .ran .wrote)) ≡ ltb (length (out)) (performed start (lent (sessions) (streams) (objects) (held) (parts) (lengths) (rebuilt)) (d) (sample) .ran .wrote)) × (256 ≤ length (sessions)) × (2048 ≤ length (streams)) × (8192 ≤ length (objects)) × (32768 ≤ length (rebuilt))) → (len-2·yes·17-sessions : length (finish agent (lent (sessions) (streams) (objects) (held) (parts) (lengths) (rebuilt)) (out) start (performed start (lent (sessions) (streams) (objects) (held) (parts) (lengths) (rebuilt)) (d) (sample)) .tables .sessions) ≡ n₁) → (len-2·yes·17-streams : length (finish agent (lent (sessions) (streams) (objects) (held) (parts) (lengths) (rebuilt)) (out) start (performed start (lent (sessions) (streams) (objects) (held) (parts) (lengths) (rebuilt)) (d) (sample)) .tables .streams) ≡ n₂) → (len-2·yes·17-objects : length (finish agent (lent (sessions) (streams) (objects) (held) (parts) (lengths) (rebuilt)) (out) start (performed start (lent (sessions) (streams) (objects) (held) (parts) (lengths) (rebuilt)) (d) (sample)) .tables .objects) ≡ n₃) → (len-2·yes·17-held : length (finish agent (lent (sessions) (streams) (objects) (held) (parts) (lengths) (rebuilt)) (out) start (performed start (lent (sessions) (streams) (objects) (held) (parts) (lengths) (rebuilt)) (d) (sample)) .tables .held) ≡ n₄) → (len-2·yes·17-parts : length (finish agent (lent (sessions) (streams) (objects) (held) (parts) (lengths) (rebuilt)) (out) start (performed start (lent (sessions) (streams) (objects) (held) (parts) (lengths) (rebuilt)) (d) (sample)) .tables .parts) ≡ n₅) → (len-2·yes·17-lengths : length (finish agent (lent (sessions) (streams) (objects) (held) (parts) (lengths) (rebuilt)) (out) start (performed start (lent (sessions) (streams) (objects) (held) (parts) (lengths) (rebuilt)) (d) (sample)) .tables .lengths) ≡ n₆) → (len-2·yes·17-rebuilt : length (finish agent (lent (sessions) (streams) (objects) (held) (parts) (lengths) (rebuilt)) (out) start (performed start (lent (sessions) (streams) (objects) (held) (parts) (lengths) (rebuilt)) (d) (sample)) .tables .rebuilt) ≡ n₇) → (len-2·yes·17-out : length (finish agent (lent (sessions) (streams) (objects) (held) (parts) (lengths) (rebuilt)) (out) start (performed start (lent (sessions) (streams) (objects) (held) (parts) (lengths) (rebuilt)) (d) (sample)) .out) ≡ n₈) → (is-2·yes·17 : Is (Processed-p .row) (finish agent (lent (sessions) (streams) (objects) (held) (parts) (lengths) (rebuilt)) (out) start (performed start (lent (sessions) (streams) (objects) (held) (parts) (lengths) (rebuilt)) (d) (sample)) .processed) (Processed-p .val (finish agent (lent (sessions) (streams) (objects) (held) (parts) (lengths) (rebuilt)) (out) start (performed start (lent (sessions) (streams) (objects) (held) (parts) (lengths) (rebuilt)) (d) (sample)) .processed) ∷ [])) → Sq W (‵ (MutSlice (named 0) κ₁ (Array u64 8) .own (at-list b₁ o₁ γ₁ (finish agent (lent (sessions) (streams) (objects) (held) (parts) (lengths) (rebuilt)) (out) start (performed start (lent (sessions) (streams) (objects) (held) (parts) (lengths) (rebuilt)) (d) (sample)) .tables .sessions)) (sliceVal (b₁, o₁) n₁ ∷ [])) ∷ ‵ (flft κ₁ q₁) ∷ ‵ (MutSlice (named 0) κ₂ (Array u16 35) .own (at-list b₂ o₂ γ₂ (finish agent (lent (sessions) (streams) (objects) (held) (parts) (lengths) (rebuilt)) (out) start (performed start (lent (sessions) (streams) (objects) (held) (parts) (lengths) (rebuilt)) (d) (sample)) .tables .streams)) (sliceVal (b₂, o₂) n₂ ∷ [])) ∷ ‵ (flft κ₂ q₂) ∷ ‵ (MutSlice (named 0) κ₃ Object-t.the-row .own (at-list b₃ o₃ γ₃ (finish agent (lent (sessions) (streams) (objects) (held) (parts) (lengths) (rebuilt)) (out) start (performed start (lent (sessions) (streams) (objects) (held) (parts) (lengths) (rebuilt)) (d) (sample)) .tables .objects)) (sliceVal (b₃, o₃) n₃ ∷ [])) ∷ ‵ (flft κ₃ q₃) ∷ ‵ (MutSlice (named 0) κ₄ u8 .own (at-list b₄ o₄ γ₄ (finish agent (lent (sessions) (streams) (objects) (held) (parts) (lengths) (rebuilt)) (out) start (performed start (lent (sessions) (streams) (objects) (held) (parts) (lengths) (rebuilt)) (d) (sample)) .tables .held)) (sliceVal (b₄, o₄) n₄ ∷ [])) ∷ ‵ (flft κ₄ q₄) ∷ ‵ (MutSlice (named 0) κ₅ u8 .own (at-list b₅ o₅ γ₅ (finish agent (lent (sessions) (streams) (objects) (held) (parts) (lengths) (rebuilt)) (out) start (performed start (lent (sessions) (streams) (objects) (held) (parts) (lengths) (rebuilt)) (d) (sample)) .tables .parts)) (sliceVal (b₅, o₅) n₅ ∷ [])) ∷ ‵ (flft κ₅ q₅) ∷ ‵ (MutSlice (named 0) κ₆ u32 .own (at-list b₆ o₆ γ₆ (finish agent (lent (sessions) (streams) (objects) (held) (parts) (lengths) (rebuilt)) (out) start (performed start (lent (sessions) (streams) (objects) (held) (parts) (lengths) (rebuilt)) (d) (sample)) .tables .lengths)) (sliceVal (b₆, o₆) n₆ ∷ [])) ∷ ‵ (flft κ₆ q₆) ∷ ‵ (MutSlice (named 0) κ₇ u8 .own (at-list b₇ o₇ γ₇ (finish agent (lent (sessions) (streams) (objects) (held) (parts) (lengths) (rebuilt)) (out) start (performed start (lent (sessions) (streams) (objects) (held) (parts) (lengths) (rebuilt)) (d) (sample)) .tables .rebuilt)) (sliceVal (b₇, o₇) n₇ ∷ [])) ∷ ‵ (flft κ₇ q₇) ∷ ‵ (MutSlice (named 0) κ₈ u8 .own (at-list b₈ o₈ γ₈ (finish agent (lent (sessions) (streams) (objects) (held) (parts) (lengths) (rebuilt)) (out) start (performed start (lent (sessions) (streams) (objects) (held) (parts) (lengths) (rebuilt)) (d) (sample)) .out)) (sliceVal (b₈, o₈) n₈ ∷ [])) ∷ ‵ (flft κ₈ q₈) ∷ ‵ (ShrSlice (named 0) κ₉ u8 .own (at-list b₉ o₉ γ₉ d) (sliceVal (b₉, o₉) n₉ ∷ [])) ∷ ‵ (flft κ₉ q₉) ∷ ‵ (ShrSlice (named 0) κ₁₀ u8 .own (at-list b₁₀ o₁₀ γ₁₀ sample) (sliceVal (b₁₀, o₁₀) n₁₀ ∷ [])) ∷ ‵ (flft κ₁₀ q₁₀) ∷ free 𝓤 (sliceTy (tyRef erased mut (pointee (u8 .written)))) l₆₀ (free 𝓤 (tyRef erased mut (pointee (u8 .written))) l₅₉ (free 𝓤 (sliceTy (tyRef erased mut (pointee (u8 .written)))) l₅₈ (free 𝓤 (tyRef erased mut (pointee (u8 .written))) l₅₇ (free 𝓤 (sliceTy (tyRef erased mut (pointee (Object-t.the-row .written)))) l₅₆ (free 𝓤 (tyRef erased mut (pointee (Object-t.the-row .written))) l₅₅ (free 𝓤 (sliceTy (tyRef erased mut (pointee ((Array u16 35) .written)))) l₅₄ (free 𝓤 (tyRef erased mut (pointee ((Array u16 35) .written))) l₅₃ (free 𝓤 (sliceTy (tyRef erased mut (pointee ((Array u64 8) .written)))) l₅₂ (free 𝓤 (tyRef erased mut (pointee ((Array u64 8) .written))) l₅₁ (free 𝓤 Refusal-l.mir l₅₀ (free 𝓤 Processed-l.mir l₄₉ (free 𝓤 tyBool l₄₈ (free 𝓤 (sliceTy (tyRef erased mut (pointee (u8 .written)))) l₄₇ (free 𝓤 (tyRef erased mut (pointee (u8 .written))) l₄₆ (free 𝓤 (sliceTy (tyRef erased mut (pointee (u32 .written)))) l₄₅ (free 𝓤 (tyRef erased mut (pointee (u32 .written))) l₄₄ (free 𝓤 (sliceTy (tyRef erased mut (pointee (u8 .written)))) l₄₃ (free 𝓤 (tyRef erased mut (pointee (u8 .written))) l₄₂ (free 𝓤 (sliceTy (tyRef erased mut (pointee (u8 .written)))) l₄₁ (free 𝓤 (tyRef erased mut (pointee (u8 .written))) l₄₀ (free 𝓤 (sliceTy (tyRef erased mut (pointee (Object-t.the-row .written)))) l₃₉ (free 𝓤 (tyRef erased mut (pointee (Object-t.the-row .written))) l₃₈ (free 𝓤 (sliceTy (tyRef erased mut (pointee ((Array u16 35) .written)))) l₃₇ (free 𝓤 (tyRef erased mut (pointee ((Array u16 35) .written))) l₃₆ (free 𝓤 (sliceTy (tyRef erased mut (pointee ((Array u64 8) .written)))) l₃₅ (free 𝓤 (tyRef erased mut (pointee ((Array u64 8) .written))) l₃₄ (full 𝓤 (sliceTy (tyRef erased mut (pointee (u8 .written)))) l₃₃ (sliceVal (b₈, o₈) n₈) (full 𝓤 (tyRef erased mut (pointee (u8 .written))) l₃₂ (vptr b₈ o₈) (full 𝓤 (sliceTy (tyRef erased mut (pointee (u8 .written)))) l₃₁ (sliceVal (b₇, o₇) n₇) (full 𝓤 (tyRef erased mut (pointee (u8 .written))) l₃₀ (vptr b₇ o₇) (full 𝓤 (sliceTy (tyRef erased mut (pointee (u32 .written)))) l₂₉ (sliceVal (b₆, o₆) n₆) (full 𝓤 (tyRef erased mut (pointee (u32 .written))) l₂₈ (vptr b₆ o₆) (full 𝓤 (sliceTy (tyRef erased mut (pointee (u8 .written)))) l₂₇ (sliceVal (b₅, o₅) n₅) (full 𝓤 (tyRef erased mut (pointee (u8 .written))) l₂₆ (vptr b₅ o₅) (full 𝓤 (sliceTy (tyRef erased mut (pointee (u8 .written)))) l₂₅ (sliceVal (b₄, o₄) n₄) (full 𝓤 (tyRef erased mut (pointee (u8 .written))) l₂₄ (vptr b₄ o₄) (full 𝓤 (sliceTy (tyRef erased mut (pointee (Object-t.the-row .written)))) l₂₃ (sliceVal (b₃, o₃) n₃) (full 𝓤 (tyRef erased mut (pointee (Object-t.the-row .written))) l₂₂ (vptr b₃ o₃) (full 𝓤 (sliceTy (tyRef erased mut (pointee ((Array u16 35) .written)))) l₂₁ (sliceVal (b₂, o₂) n₂) (full 𝓤 (tyRef erased mut (pointee ((Array u16 35) .written))) l₂₀ (vptr b₂ o₂) (full 𝓤 (sliceTy (tyRef erased mut (pointee ((Array u64 8) .written)))) l₁₉ (sliceVal (b₁, o₁) n₁) (full 𝓤 (tyRef erased mut (pointee ((Array u64 8) .written))) l₁₈ (vptr b₁ o₁) (full 𝓤 tyBool l₁₇ (bool-p .val (unbound start (d))) (free 𝓤 Ran-l.mir l₁₆ (free 𝓤 (tyInt w64) l₁₅ (free 𝓤 (tyInt w64) l₁₄ (full 𝓤 (tyInt w64) l₁₃ (u64-p .val n′) (full 𝓤 Start-l.mir l₁₂ (Start-p .val start) (full 𝓤 Agent-l.mir l₁₁ (Agent-p .val agent) (full 𝓤 (sliceTy (tyRef (named 9) imm (pointee (u8 .written)))) l₁₀ (sliceVal (b₁₀, o₁₀) n₁₀) (full 𝓤 (sliceTy (tyRef (named 8) imm (pointee (u8 .written)))) l₉ (sliceVal (b₉, o₉) n₉) (full 𝓤 (sliceTy (tyRef (named 7) mut (pointee (u8 .written)))) l₈ (sliceVal (b₈, o₈) n₈) (full 𝓤 (sliceTy (tyRef (named 6) mut (pointee (u8 .written)))) l₇ (sliceVal (b₇, o₇) n₇) (full 𝓤 (sliceTy (tyRef (named 5) mut (pointee (u32 .written)))) l₆ (sliceVal (b₆, o₆) n₆) (full 𝓤 (sliceTy (tyRef (named 4) mut (pointee (u8 .written)))) l₅ (sliceVal (b₅, o₅) n₅) (full 𝓤 (sliceTy (tyRef (named 3) mut (pointee (u8 .written)))) l₄ (sliceVal (b₄, o₄) n₄) (full 𝓤 (sliceTy (tyRef (named 2) mut (pointee (Object-t.the-row .written)))) l₃ (sliceVal (b₃, o₃) n₃) (full 𝓤 (sliceTy (tyRef (named 1) mut (pointee ((Array u16 35) .written)))) l₂ (sliceVal (b₂, o₂) n₂) (full 𝓤 (sliceTy (tyRef (named 0) mut (pointee ((Array u64 8) .written)))) l₁ (sliceVal (b₁, o₁) n₁) (full 𝓤 Processed-l.mir l₀ (Processed-p .val (finish agent (lent (sessions) (streams) (objects) (held) (parts) (lengths) (rebuilt)) (out) start (performed start (lent (sessions) (streams) (objects) (held) (parts) (lengths) (rebuilt)) (d) (sample)) .processed)) ([])))))))))))))))))))))))))))))))))))))))))))))))))))))))))))))) (runs C Λ En (past 17 (yes-of (one mir.t-2))) (anyQ (afterSeq 𝓤 H (Wp 𝓤 H C Λ En mir.t-3 (atReturn 𝓤 H En Post)) (atReturn 𝓤 H En Post))))
     part-2·yes·18-0 is-1 c-2 asks-2·yes·17 len-2·yes·17-sessions len-2·yes·17-streams len-2·yes·17-objects len-2·yes·17-held len-2·yes·17-parts len-2·yes·17-lengths len-2·yes·17-rebuilt len-2·yes·17-out is-2·yes·17 =
-        returns-within ! Post refl (look ! 152 refl) $ forget ! 86 refl $ forget ! 88 refl $ forget ! 90 refl $ forget ! 92 refl $ forget ! 94 refl $ forget ! 96 refl $ forget ! 98 refl $ forget ! 100 refl $ forget ! 102 refl $ forget ! 104 refl $ forget ! 106 refl $ forget ! 108 refl $ forget ! 110 refl $ forget ! 112 refl $ forget ! 114 refl $ forget ! 116 refl $ forget ! 118 refl $
+        returns-within ! Post refl (look ! 140 refl) $ forget ! 74 refl $ forget ! 76 refl $ forget ! 78 refl $ forget ! 80 refl $ forget ! 82 refl $ forget ! 84 refl $ forget ! 86 refl $ forget ! 88 refl $ forget ! 90 refl $ forget ! 92 refl $ forget ! 94 refl $ forget ! 96 refl $ forget ! 98 refl $ forget ! 100 refl $ forget ! 102 refl $ forget ! 104 refl $ forget ! 106 refl $
         frees-all (finish agent (lent (sessions) (streams) (objects) (held) (parts) (lengths) (rebuilt)) (out) start (performed start (lent (sessions) (streams) (objects) (held) (parts) (lengths) (rebuilt)) (d) (sample)) .processed) (finish agent (lent (sessions) (streams) (objects) (held) (parts) (lengths) (rebuilt)) (out) start (performed start (lent (sessions) (streams) (objects) (held) (parts) (lengths) (rebuilt)) (d) (sample)) .tables .sessions) (finish agent (lent (sessions) (streams) (objects) (held) (parts) (lengths) (rebuilt)) (out) start (performed start (lent (sessions) (streams) (objects) (held) (parts) (lengths) (rebuilt)) (d) (sample)) .tables .streams) (finish agent (lent (sessions) (streams) (objects) (held) (parts) (lengths) (rebuilt)) (out) start (performed start (lent (sessions) (streams) (objects) (held) (parts) (lengths) (rebuilt)) (d) (sample)) .tables .objects) (finish agent (lent (sessions) (streams) (objects) (held) (parts) (lengths) (rebuilt)) (out) start (performed start (lent (sessions) (streams) (objects) (held) (parts) (lengths) (rebuilt)) (d) (sample)) .tables .held) (finish agent (lent (sessions) (streams) (objects) (held) (parts) (lengths) (rebuilt)) (out) start (performed start (lent (sessions) (streams) (objects) (held) (parts) (lengths) (rebuilt)) (d) (sample)) .tables .parts) (finish agent (lent (sessions) (streams) (objects) (held) (parts) (lengths) (rebuilt)) (out) start (performed start (lent (sessions) (streams) (objects) (held) (parts) (lengths) (rebuilt)) (d) (sample)) .tables .lengths) (finish agent (lent (sessions) (streams) (objects) (held) (parts) (lengths) (rebuilt)) (out) start (performed start (lent (sessions) (streams) (objects) (held) (parts) (lengths) (rebuilt)) (d) (sample)) .tables .rebuilt) (finish agent (lent (sessions) (streams) (objects) (held) (parts) (lengths) (rebuilt)) (out) start (performed start (lent (sessions) (streams) (objects) (held) (parts) (lengths) (rebuilt)) (d) (sample)) .out) (exits (finish agent (lent (sessions) (streams) (objects) (held) (parts) (lengths) (rebuilt)) (out) start (performed start (lent (sessions) (streams) (objects) (held) (parts) (lengths) (rebuilt)) (d) (sample)) .processed) (finish agent (lent (sessions) (streams) (objects) (held) (parts) (lengths) (rebuilt)) (out) start (performed start (lent (sessions) (streams) (objects) (held) (parts) (lengths) (rebuilt)) (d) (sample)) .tables .sessions) (finish agent (lent (sessions) (streams) (objects) (held) (parts) (lengths) (rebuilt)) (out) start (performed start (lent (sessions) (streams) (objects) (held) (parts) (lengths) (rebuilt)) (d) (sample)) .tables .streams) (finish agent (lent (sessions) (streams) (objects) (held) (parts) (lengths) (rebuilt)) (out) start (performed start (lent (sessions) (streams) (objects) (held) (parts) (lengths) (rebuilt)) (d) (sample)) .tables .objects) (finish agent (lent (sessions) (streams) (objects) (held) (parts) (lengths) (rebuilt)) (out) start (performed start (lent (sessions) (streams) (objects) (held) (parts) (lengths) (rebuilt)) (d) (sample)) .tables .held) (finish agent (lent (sessions) (streams) (objects) (held) (parts) (lengths) (rebuilt)) (out) start (performed start (lent (sessions) (streams) (objects) (held) (parts) (lengths) (rebuilt)) (d) (sample)) .tables .parts) (finish agent (lent (sessions) (streams) (objects) (held) (parts) (lengths) (rebuilt)) (out) start (performed start (lent (sessions) (streams) (objects) (held) (parts) (lengths) (rebuilt)) (d) (sample)) .tables .lengths) (finish agent (lent (sessions) (streams) (objects) (held) (parts) (lengths) (rebuilt)) (out) start (performed start (lent (sessions) (streams) (objects) (held) (parts) (lengths) (rebuilt)) (d) (sample)) .tables .rebuilt) (finish agent (lent (sessions) (streams) (objects) (held) (parts) (lengths) (rebuilt)) (out) start (performed start (lent (sessions) (streams) (objects) (held) (parts) (lengths) (rebuilt)) (d) (sample)) .out) ((refl, refl, refl, refl, refl, refl, refl, refl, refl)) is-2·yes·17 len-2·yes·17-sessions len-2·yes·17-streams len-2·yes·17-objects len-2·yes·17-held len-2·yes·17-parts len-2·yes·17-lengths len-2·yes·17-rebuilt len-2·yes·17-out)
 
-    part-21-2 : (is-1 : Is (bool-p .row) (unbound start (d)) (bool-p .val (unbound start (d)) ∷ [])) → (c-2 : unbound start (d) ≡ false) → (asks-18 : (resumesFit (start .resumes) (start .frame .«stream_id») (length (sample)) ≡ true) × (start .frame .room ≤ 9223372036854775807) × (256 ≤ length (sessions)) × (2048 ≤ length (streams)) × (8192 ≤ length (objects)) × (32768 ≤ length (rebuilt))) → (len-18-sessions : length sessions ≡ n₁) → (len-18-streams : length streams ≡ n₂) → (len-18-objects : length objects ≡ n₃) → (len-18-held : length held ≡ n₄) → (len-18-parts : length parts ≡ n₅) → (len-18-lengths : length lengths ≡ n₆) → (len-18-rebuilt : length rebuilt ≡ n₇) → (is-18 : Is (u64-p .row) (neededOf (bounded n₈ start n′ (d) (length (sample))) (performed start (lent (sessions) (streams) (objects) (held) (parts) (lengths) (rebuilt)) (d) (sample) .ran .wrote)) (u64-p .val (neededOf (bounded n₈ start n′ (d) (length (sample))) (performed start (lent (sessions) (streams) (objects) (held) (parts) (lengths) (rebuilt)) (d) (sample) .ran .wrote)) ∷ [])) → (c-20 : ltb n₈ (neededOf (bounded n₈ start n′ (d) (length (sample))) (performed start (lent (sessions) (streams) (objects) (held) (parts) (lengths) (rebuilt)) (d) (sample) .ran .wrote)) ≡ true) → (is-20·yes·2 : Is (Processed-p .row) (refusedOf agent Refusal-OutputTooShort) (Processed-p .val (refusedOf agent Refusal-OutputTooShort) ∷ [])) → Sq W (‵ (MutSlice (named 0) κ₁ (Array u64 8) .own (at-list b₁ o₁ γ₁ sessions) (sliceVal (b₁, o₁) n₁ ∷ [])) ∷ ‵ (flft κ₁ q₁) ∷ ‵ (MutSlice (named 0) κ₂ (Array u16 35) .own (at-list b₂ o₂ γ₂ streams) (sliceVal (b₂, o₂) n₂ ∷ [])) ∷ ‵ (flft κ₂ q₂) ∷ ‵ (MutSlice (named 0) κ₃ Object-t.the-row .own (at-list b₃ o₃ γ₃ objects) (sliceVal (b₃, o₃) n₃ ∷ [])) ∷ ‵ (flft κ₃ q₃) ∷ ‵ (MutSlice (named 0) κ₄ u8 .own (at-list b₄ o₄ γ₄ held) (sliceVal (b₄, o₄) n₄ ∷ [])) ∷ ‵ (flft κ₄ q₄) ∷ ‵ (MutSlice (named 0) κ₅ u8 .own (at-list b₅ o₅ γ₅ parts) (sliceVal (b₅, o₅) n₅ ∷ [])) ∷ ‵ (flft κ₅ q₅) ∷ ‵ (MutSlice (named 0) κ₆ u32 .own (at-list b₆ o₆ γ₆ lengths) (sliceVal (b₆, o₆) n₆ ∷ [])) ∷ ‵ (flft κ₆ q₆) ∷ ‵ (MutSlice (named 0) κ₇ u8 .own (at-list b₇ o₇ γ₇ rebuilt) (sliceVal (b₇, o₇) n₇ ∷ [])) ∷ ‵ (flft κ₇ q₇) ∷ ‵ (MutSlice (named 0) κ₈ u8 .own (at-list b₈ o₈ γ₈ out) (sliceVal (b₈, o₈) n₈ ∷ [])) ∷ ‵ (flft κ₈ q₈) ∷ ‵ (ShrSlice (named 0) κ₉ u8 .own (at-list b₉ o₉ γ₉ d) (sliceVal (b₉, o₉) n₉ ∷ [])) ∷ ‵ (flft κ₉ q₉) ∷ ‵ (ShrSlice (named 0) κ₁₀ u8 .own (at-list b₁₀ o₁₀ γ₁₀ sample) (sliceVal (b₁₀, o₁₀) n₁₀ ∷ [])) ∷ ‵ (flft κ₁₀ q₁₀) ∷ free 𝓤 (sliceTy (tyRef erased mut (pointee (u8 .written)))) l₆₆ (free 𝓤 (tyRef erased mut (pointee (u8 .written))) l₆₅ (free 𝓤 (sliceTy (tyRef erased mut (pointee (u8 .written)))) l₆₄ (free 𝓤 (tyRef erased mut (pointee (u8 .written))) l₆₃ (free 𝓤 (sliceTy (tyRef erased mut (pointee (u32 .written)))) l₆₂ (free 𝓤 (tyRef erased mut (pointee (u32 .written))) l₆₁ (free 𝓤 (sliceTy (tyRef erased mut (pointee (u8 .written)))) l₆₀ (free 𝓤 (tyRef erased mut (pointee (u8 .written))) l₅₉ (free 𝓤 (sliceTy (tyRef erased mut (pointee (u8 .written)))) l₅₈ (free 𝓤 (tyRef erased mut (pointee (u8 .written))) l₅₇ (free 𝓤 (sliceTy (tyRef erased mut (pointee (Object-t.the-row .written)))) l₅₆ (free 𝓤 (tyRef erased mut (pointee (Object-t.the-row .written))) l₅₅ (free 𝓤 (sliceTy (tyRef erased mut (pointee ((Array u16 35) .written)))) l₅₄ (free 𝓤 (tyRef erased mut (pointee ((Array u16 35) .written))) l₅₃ (free 𝓤 (sliceTy (tyRef erased mut (pointee ((Array u64 8) .written)))) l₅₂ (free 𝓤 (tyRef erased mut (pointee ((Array u64 8) .written))) l₅₁ (full 𝓤 Refusal-l.mir l₅₀ (Refusal-p .val Refusal-OutputTooShort) (full 𝓤 Processed-l.mir l₄₉ (Processed-p .val (refusedOf agent Refusal-OutputTooShort)) (full 𝓤 tyBool l₄₈ (bool-p .val (ltb n₈ (neededOf (bounded n₈ start n′ (d) (length (sample))) (performed start (lent (sessions) (streams) (objects) (held) (parts) (lengths) (rebuilt)) (d) (sample) .ran .wrote)))) (full 𝓤 (sliceTy (tyRef erased mut (pointee (u8 .written)))) l₄₇ (sliceVal (b₇, o₇) n₇) (full 𝓤 (tyRef erased mut (pointee (u8 .written))) l₄₆ (vptr b₇ o₇) (full 𝓤 (sliceTy (tyRef erased mut (pointee (u32 .written)))) l₄₅ (sliceVal (b₆, o₆) n₆) (full 𝓤 (tyRef erased mut (pointee (u32 .written))) l₄₄ (vptr b₆ o₆) (full 𝓤 (sliceTy (tyRef erased mut (pointee (u8 .written)))) l₄₃ (sliceVal (b₅, o₅) n₅) (full 𝓤 (tyRef erased mut (pointee (u8 .written))) l₄₂ (vptr b₅ o₅) (full 𝓤 (sliceTy (tyRef erased mut (pointee (u8 .written)))) l₄₁ (sliceVal (b₄, o₄) n₄) (full 𝓤 (tyRef erased mut (pointee (u8 .written))) l₄₀ (vptr b₄ o₄) (full 𝓤 (sliceTy (tyRef erased mut (pointee (Object-t.the-row .written)))) l₃₉ (sliceVal (b₃, o₃) n₃) (full 𝓤 (tyRef erased mut (pointee (Object-t.the-row .written))) l₃₈ (vptr b₃ o₃) (full 𝓤 (sliceTy (tyRef erased mut (pointee ((Array u16 35) .written)))) l₃₇ (sliceVal (b₂, o₂) n₂) (full 𝓤 (tyRef erased mut (pointee ((Array u16 35) .written))) l₃₆ (vptr b₂ o₂) (full 𝓤 (sliceTy (tyRef erased mut (pointee ((Array u64 8) .written)))) l₃₅ (sliceVal (b₁, o₁) n₁) (full 𝓤 (tyRef erased mut (pointee ((Array u64 8) .written))) l₃₄ (vptr b₁ o₁) (free 𝓤 (sliceTy (tyRef erased mut (pointee (u8 .written)))) l₃₃ (free 𝓤 (tyRef erased mut (pointee (u8 .written))) l₃₂ (free 𝓤 (sliceTy (tyRef erased mut (pointee (u8 .written)))) l₃₁ (free 𝓤 (tyRef erased mut (pointee (u8 .written))) l₃₀ (free 𝓤 (sliceTy (tyRef erased mut (pointee (u32 .written)))) l₂₉ (free 𝓤 (tyRef erased mut (pointee (u32 .written))) l₂₈ (free 𝓤 (sliceTy (tyRef erased mut (pointee (u8 .written)))) l₂₇ (free 𝓤 (tyRef erased mut (pointee (u8 .written))) l₂₆ (free 𝓤 (sliceTy (tyRef erased mut (pointee (u8 .written)))) l₂₅ (free 𝓤 (tyRef erased mut (pointee (u8 .written))) l₂₄ (free 𝓤 (sliceTy (tyRef erased mut (pointee (Object-t.the-row .written)))) l₂₃ (free 𝓤 (tyRef erased mut (pointee (Object-t.the-row .written))) l₂₂ (free 𝓤 (sliceTy (tyRef erased mut (pointee ((Array u16 35) .written)))) l₂₁ (free 𝓤 (tyRef erased mut (pointee ((Array u16 35) .written))) l₂₀ (free 𝓤 (sliceTy (tyRef erased mut (pointee ((Array u64 8) .written)))) l₁₉ (free 𝓤 (tyRef erased mut (pointee ((Array u64 8) .written))) l₁₈ (full 𝓤 tyBool l₁₇ (bool-p .val (unbound start (d))) (free 𝓤 Ran-l.mir l₁₆ (full 𝓤 (tyInt w64) l₁₅ (u64-p .val (neededOf (bounded n₈ start n′ (d) (length (sample))) (performed start (lent (sessions) (streams) (objects) (held) (parts) (lengths) (rebuilt)) (d) (sample) .ran .wrote))) (full 𝓤 (tyInt w64) l₁₄ (u64-p .val n₈) (full 𝓤 (tyInt w64) l₁₃ (u64-p .val n′) (full 𝓤 Start-l.mir l₁₂ (Start-p .val start) (full 𝓤 Agent-l.mir l₁₁ (Agent-p .val agent) (full 𝓤 (sliceTy (tyRef (named 9) imm (pointee (u8 .written)))) l₁₀ (sliceVal (b₁₀, o₁₀) n₁₀) (full 𝓤 (sliceTy (tyRef (named 8) imm (pointee (u8 .written)))) l₉ (sliceVal (b₉, o₉) n₉) (full 𝓤 (sliceTy (tyRef (named 7) mut (pointee (u8 .written)))) l₈ (sliceVal (b₈, o₈) n₈) (full 𝓤 (sliceTy (tyRef (named 6) mut (pointee (u8 .written)))) l₇ (sliceVal (b₇, o₇) n₇) (full 𝓤 (sliceTy (tyRef (named 5) mut (pointee (u32 .written)))) l₆ (sliceVal (b₆, o₆) n₆) (full 𝓤 (sliceTy (tyRef (named 4) mut (pointee (u8 .written)))) l₅ (sliceVal (b₅, o₅) n₅) (full 𝓤 (sliceTy (tyRef (named 3) mut (pointee (u8 .written)))) l₄ (sliceVal (b₄, o₄) n₄) (full 𝓤 (sliceTy (tyRef (named 2) mut (pointee (Object-t.the-row .written)))) l₃ (sliceVal (b₃, o₃) n₃) (full 𝓤 (sliceTy (tyRef (named 1) mut (pointee ((Array u16 35) .written)))) l₂ (sliceVal (b₂, o₂) n₂) (full 𝓤 (sliceTy (tyRef (named 0) mut (pointee ((Array u64 8) .written)))) l₁ (sliceVal (b₁, o₁) n₁) (free 𝓤 Processed-l.mir l₀ ([])))))))))))))))))))))))))))))))))))))))))))))))))))))))))))))))))))) (runs C Λ En mir.t-21 (atRet En Post))
+    part-21-2 : (is-1 : Is (bool-p .row) (unbound start (d)) (bool-p .val (unbound start (d)) ∷ [])) → (c-2 : unbound start (d) ≡ false) → (asks-18 : (resumesFit (start .resumes) (start .frame .«stream_id») (length (sample)) ≡ true) × (start .frame .room ≤ 9223372036854775807) × (256 ≤ length (sessions)) × (2048 ≤ length (streams)) × (8192 ≤ length (objects)) × (32768 ≤ length (rebuilt))) → (len-18-sessions : length sessions ≡ n₁) → (len-18-streams : length streams ≡ n₂) → (len-18-objects : length objects ≡ n₃) → (len-18-held : length held ≡ n₄) → (len-18-parts : length parts ≡ n₅) → (len-18-lengths : length lengths ≡ n₆) → (len-18-rebuilt : length rebuilt ≡ n₇) → (is-18 : Is (u64-p .row) (neededOf (bounded n₈ start n′ (d) (length (sample))) (performed start (lent (sessions) (streams) (objects) (held) (parts) (lengths) (rebuilt)) (d) (sample) .ran .wrote)) (u64-p .val (neededOf (bounded n₈ start n′ (d) (length (sample))) (performed start (lent (sessions) (streams) (objects) (held) (parts) (lengths) (rebuilt)) (d) (sample) .ran .wrote)) ∷ [])) → (c-20 : ltb n₈ (neededOf (bounded n₈ start n′ (d) (length (sample))) (performed start (lent (sessions) (streams) (objects) (held) (parts) (lengths) (rebuilt)) (d) (sample) .ran .wrote)) ≡ true) → (is-20·yes·2 : Is (Processed-p .row) (refusedOf agent Refusal-OutputTooShort) (Processed-p .val (refusedOf agent Refusal-OutputTooShort) ∷ [])) → Sq W (‵ (MutSlice (named 0) κ₁ (Array u64 8) .own (at-list b₁ o₁ γ₁ sessions) (sliceVal (b₁, o₁) n₁ ∷ [])) ∷ ‵ (flft κ₁ q₁) ∷ ‵ (MutSlice (named 0) κ₂ (Array u16 35) .own (at-list b₂ o₂ γ₂ streams) (sliceVal (b₂, o₂) n₂ ∷ [])) ∷ ‵ (flft κ₂ q₂) ∷ ‵ (MutSlice (named 0) κ₃ Object-t.the-row .own (at-list b₃ o₃ γ₃ objects) (sliceVal (b₃, o₃) n₃ ∷ [])) ∷ ‵ (flft κ₃ q₃) ∷ ‵ (MutSlice (named 0) κ₄ u8 .own (at-list b₄ o₄ γ₄ held) (sliceVal (b₄, o₄) n₄ ∷ [])) ∷ ‵ (flft κ₄ q₄) ∷ ‵ (MutSlice (named 0) κ₅ u8 .own (at-list b₅ o₅ γ₅ parts) (sliceVal (b₅, o₅) n₅ ∷ [])) ∷ ‵ (flft κ₅ q₅) ∷ ‵ (MutSlice (named 0) κ₆ u32 .own (at-list b₆ o₆ γ₆ lengths) (sliceVal (b₆, o₆) n₆ ∷ [])) ∷ ‵ (flft κ₆ q₆) ∷ ‵ (MutSlice (named 0) κ₇ u8 .own (at-list b₇ o₇ γ₇ rebuilt) (sliceVal (b₇, o₇) n₇ ∷ [])) ∷ ‵ (flft κ₇ q₇) ∷ ‵ (MutSlice (named 0) κ₈ u8 .own (at-list b₈ o₈ γ₈ out) (sliceVal (b₈, o₈) n₈ ∷ [])) ∷ ‵ (flft κ₈ q₈) ∷ ‵ (ShrSlice (named 0) κ₉ u8 .own (at-list b₉ o₉ γ₉ d) (sliceVal (b₉, o₉) n₉ ∷ [])) ∷ ‵ (flft κ₉ q₉) ∷ ‵ (ShrSlice (named 0) κ₁₀ u8 .own (at-list b₁₀ o₁₀ γ₁₀ sample) (sliceVal (b₁₀, o₁₀) n₁₀ ∷ [])) ∷ ‵ (flft κ₁₀ q₁₀) ∷ free 𝓤 (sliceTy (tyRef erased mut (pointee (u8 .written)))) l₆₀ (free 𝓤 (tyRef erased mut (pointee (u8 .written))) l₅₉ (free 𝓤 (sliceTy (tyRef erased mut (pointee (u8 .written)))) l₅₈ (free 𝓤 (tyRef erased mut (pointee (u8 .written))) l₅₇ (free 𝓤 (sliceTy (tyRef erased mut (pointee (Object-t.the-row .written)))) l₅₆ (free 𝓤 (tyRef erased mut (pointee (Object-t.the-row .written))) l₅₅ (free 𝓤 (sliceTy (tyRef erased mut (pointee ((Array u16 35) .written)))) l₅₄ (free 𝓤 (tyRef erased mut (pointee ((Array u16 35) .written))) l₅₃ (free 𝓤 (sliceTy (tyRef erased mut (pointee ((Array u64 8) .written)))) l₅₂ (free 𝓤 (tyRef erased mut (pointee ((Array u64 8) .written))) l₅₁ (full 𝓤 Refusal-l.mir l₅₀ (Refusal-p .val Refusal-OutputTooShort) (full 𝓤 Processed-l.mir l₄₉ (Processed-p .val (refusedOf agent Refusal-OutputTooShort)) (full 𝓤 tyBool l₄₈ (bool-p .val (ltb n₈ (neededOf (bounded n₈ start n′ (d) (length (sample))) (performed start (lent (sessions) (streams) (objects) (held) (parts) (lengths) (rebuilt)) (d) (sample) .ran .wrote)))) (full 𝓤 (sliceTy (tyRef erased mut (pointee (u8 .written)))) l₄₇ (sliceVal (b₇, o₇) n₇) (full 𝓤 (tyRef erased mut (pointee (u8 .written))) l₄₆ (vptr b₇ o₇) (full 𝓤 (sliceTy (tyRef erased mut (pointee (u32 .written)))) l₄₅ (sliceVal (b₆, o₆) n₆) (full 𝓤 (tyRef erased mut (pointee (u32 .written))) l₄₄ (vptr b₆ o₆) (full 𝓤 (sliceTy (tyRef erased mut (pointee (u8 .written)))) l₄₃ (sliceVal (b₅, o₅) n₅) (full 𝓤 (tyRef erased mut (pointee (u8 .written))) l₄₂ (vptr b₅ o₅) (full 𝓤 (sliceTy (tyRef erased mut (pointee (u8 .written)))) l₄₁ (sliceVal (b₄, o₄) n₄) (full 𝓤 (tyRef erased mut (pointee (u8 .written))) l₄₀ (vptr b₄ o₄) (full 𝓤 (sliceTy (tyRef erased mut (pointee (Object-t.the-row .written)))) l₃₉ (sliceVal (b₃, o₃) n₃) (full 𝓤 (tyRef erased mut (pointee (Object-t.the-row .written))) l₃₈ (vptr b₃ o₃) (full 𝓤 (sliceTy (tyRef erased mut (pointee ((Array u16 35) .written)))) l₃₇ (sliceVal (b₂, o₂) n₂) (full 𝓤 (tyRef erased mut (pointee ((Array u16 35) .written))) l₃₆ (vptr b₂ o₂) (full 𝓤 (sliceTy (tyRef erased mut (pointee ((Array u64 8) .written)))) l₃₅ (sliceVal (b₁, o₁) n₁) (full 𝓤 (tyRef erased mut (pointee ((Array u64 8) .written))) l₃₄ (vptr b₁ o₁) (free 𝓤 (sliceTy (tyRef erased mut (pointee (u8 .written)))) l₃₃ (free 𝓤 (tyRef erased mut (pointee (u8 .written))) l₃₂ (free 𝓤 (sliceTy (tyRef erased mut (pointee (u8 .written)))) l₃₁ (free 𝓤 (tyRef erased mut (pointee (u8 .written))) l₃₀ (free 𝓤 (sliceTy (tyRef erased mut (pointee (u32 .written)))) l₂₉ (free 𝓤 (tyRef erased mut (pointee (u32 .written))) l₂₈ (free 𝓤 (sliceTy (tyRef erased mut (pointee (u8 .written)))) l₂₇ (free 𝓤 (tyRef erased mut (pointee (u8 .written))) l₂₆ (free 𝓤 (sliceTy (tyRef erased mut (pointee (u8 .written)))) l₂₅ (free 𝓤 (tyRef erased mut (pointee (u8 .written))) l₂₄ (free 𝓤 (sliceTy (tyRef erased mut (pointee (Object-t.the-row .written)))) l₂₃ (free 𝓤 (tyRef erased mut (pointee (Object-t.the-row .written))) l₂₂ (free 𝓤 (sliceTy (tyRef erased mut (pointee ((Array u16 35) .written)))) l₂₁ (free 𝓤 (tyRef erased mut (pointee ((Array u16 35) .written))) l₂₀ (free 𝓤 (sliceTy (tyRef erased mut (pointee ((Array u64 8) .written)))) l₁₉ (free 𝓤 (tyRef erased mut (pointee ((Array u64 8) .written))) l₁₈ (full 𝓤 tyBool l₁₇ (bool-p .val (unbound start (d))) (free 𝓤 Ran-l.mir l₁₆ (full 𝓤 (tyInt w64) l₁₅ (u64-p .val (neededOf (bounded n₈ start n′ (d) (length (sample))) (performed start (lent (sessions) (streams) (objects) (held) (parts) (lengths) (rebuilt)) (d) (sample) .ran .wrote))) (full 𝓤 (tyInt w64) l₁₄ (u64-p .val n₈) (full 𝓤 (tyInt w64) l₁₃ (u64-p .val n′) (full 𝓤 Start-l.mir l₁₂ (Start-p .val start) (full 𝓤 Agent-l.mir l₁₁ (Agent-p .val agent) (full 𝓤 (sliceTy (tyRef (named 9) imm (pointee (u8 .written)))) l₁₀ (sliceVal (b₁₀, o₁₀) n₁₀) (full 𝓤 (sliceTy (tyRef (named 8) imm (pointee (u8 .written)))) l₉ (sliceVal (b₉, o₉) n₉) (full 𝓤 (sliceTy (tyRef (named 7) mut (pointee (u8 .written)))) l₈ (sliceVal (b₈, o₈) n₈) (full 𝓤 (sliceTy (tyRef (named 6) mut (pointee (u8 .written)))) l₇ (sliceVal (b₇, o₇) n₇) (full 𝓤 (sliceTy (tyRef (named 5) mut (pointee (u32 .written)))) l₆ (sliceVal (b₆, o₆) n₆) (full 𝓤 (sliceTy (tyRef (named 4) mut (pointee (u8 .written)))) l₅ (sliceVal (b₅, o₅) n₅) (full 𝓤 (sliceTy (tyRef (named 3) mut (pointee (u8 .written)))) l₄ (sliceVal (b₄, o₄) n₄) (full 𝓤 (sliceTy (tyRef (named 2) mut (pointee (Object-t.the-row .written)))) l₃ (sliceVal (b₃, o₃) n₃) (full 𝓤 (sliceTy (tyRef (named 1) mut (pointee ((Array u16 35) .written)))) l₂ (sliceVal (b₂, o₂) n₂) (full 𝓤 (sliceTy (tyRef (named 0) mut (pointee ((Array u64 8) .written)))) l₁ (sliceVal (b₁, o₁) n₁) (free 𝓤 Processed-l.mir l₀ ([])))))))))))))))))))))))))))))))))))))))))))))))))))))))))))))) (runs C Λ En mir.t-21 (atRet En Post))
     part-21-2 is-1 c-2 asks-18 len-18-sessions len-18-streams len-18-objects len-18-held len-18-parts len-18-lengths len-18-rebuilt is-18 c-20 is-20·yes·2 =
-        assigns ! (of-opd ! (load ! (from ! (stop !)) (look ! 54 refl))) (from ! (stop !)) (init ! 152 refl (Processed-p .typed 𝓤 H A W (refusedOf agent Refusal-OutputTooShort) is-20·yes·2)) $
-        returns ! (look ! 152 refl) $ forget ! 52 refl $ forget ! 54 refl $ forget ! 56 refl $ forget ! 58 refl $ forget ! 60 refl $ forget ! 62 refl $ forget ! 64 refl $ forget ! 66 refl $ forget ! 68 refl $ forget ! 70 refl $ forget ! 72 refl $ forget ! 74 refl $ forget ! 76 refl $ forget ! 78 refl $ forget ! 80 refl $ forget ! 82 refl $ forget ! 84 refl $ forget ! 118 refl $ forget ! 122 refl $ forget ! 124 refl $
+        assigns ! (of-opd ! (load ! (from ! (stop !)) (look ! 42 refl))) (from ! (stop !)) (init ! 140 refl (Processed-p .typed 𝓤 H A W (refusedOf agent Refusal-OutputTooShort) is-20·yes·2)) $
+        returns ! (look ! 140 refl) $ forget ! 40 refl $ forget ! 42 refl $ forget ! 44 refl $ forget ! 46 refl $ forget ! 48 refl $ forget ! 50 refl $ forget ! 52 refl $ forget ! 54 refl $ forget ! 56 refl $ forget ! 58 refl $ forget ! 60 refl $ forget ! 62 refl $ forget ! 64 refl $ forget ! 66 refl $ forget ! 68 refl $ forget ! 70 refl $ forget ! 72 refl $ forget ! 106 refl $ forget ! 110 refl $ forget ! 112 refl $
         frees-all (refusedOf agent Refusal-OutputTooShort) sessions streams objects held parts lengths rebuilt out (exits (refusedOf agent Refusal-OutputTooShort) sessions streams objects held parts lengths rebuilt out (same-leaves _ _ (finish-short agent tables-lent out d sample start (tells c-2 ∙ c-20))) is-20·yes·2 len-18-sessions len-18-streams len-18-objects len-18-held len-18-parts len-18-lengths len-18-rebuilt refl)
 
-    part-21-3 : (is-1 : Is (bool-p .row) (unbound start (d)) (bool-p .val (unbound start (d)) ∷ [])) → (c-2 : unbound start (d) ≡ false) → (asks-18 : (resumesFit (start .resumes) (start .frame .«stream_id») (length (sample)) ≡ true) × (start .frame .room ≤ 9223372036854775807) × (256 ≤ length (sessions)) × (2048 ≤ length (streams)) × (8192 ≤ length (objects)) × (32768 ≤ length (rebuilt))) → (len-18-sessions : length sessions ≡ n₁) → (len-18-streams : length streams ≡ n₂) → (len-18-objects : length objects ≡ n₃) → (len-18-held : length held ≡ n₄) → (len-18-parts : length parts ≡ n₅) → (len-18-lengths : length lengths ≡ n₆) → (len-18-rebuilt : length rebuilt ≡ n₇) → (is-18 : Is (u64-p .row) (neededOf (bounded n₈ start n′ (d) (length (sample))) (performed start (lent (sessions) (streams) (objects) (held) (parts) (lengths) (rebuilt)) (d) (sample) .ran .wrote)) (u64-p .val (neededOf (bounded n₈ start n′ (d) (length (sample))) (performed start (lent (sessions) (streams) (objects) (held) (parts) (lengths) (rebuilt)) (d) (sample) .ran .wrote)) ∷ [])) → (c-20 : ltb n₈ (neededOf (bounded n₈ start n′ (d) (length (sample))) (performed start (lent (sessions) (streams) (objects) (held) (parts) (lengths) (rebuilt)) (d) (sample) .ran .wrote)) ≡ false) → (asks-20·no·17 : (resumesFit (start .resumes) (start .frame .«stream_id») (length (sample)) ≡ true) × (start .frame .room ≤ 9223372036854775807)) → (len-20·no·17-sessions : length (performed start (lent (sessions) (streams) (objects) (held) (parts) (lengths) (rebuilt)) (d) (sample) .tables .sessions) ≡ n₁) → (len-20·no·17-streams : length (performed start (lent (sessions) (streams) (objects) (held) (parts) (lengths) (rebuilt)) (d) (sample) .tables .streams) ≡ n₂) → (len-20·no·17-objects : length (performed start (lent (sessions) (streams) (objects) (held) (parts) (lengths) (rebuilt)) (d) (sample) .tables .objects) ≡ n₃) → (len-20·no·17-held : length (performed start (lent (sessions) (streams) (objects) (held) (parts) (lengths) (rebuilt)) (d) (sample) .tables .held) ≡ n₄) → (len-20·no·17-parts : length (performed start (lent (sessions) (streams) (objects) (held) (parts) (lengths) (rebuilt)) (d) (sample) .tables .parts) ≡ n₅) → (len-20·no·17-lengths : length (performed start (lent (sessions) (streams) (objects) (held) (parts) (lengths) (rebuilt)) (d) (sample) .tables .lengths) ≡ n₆) → (len-20·no·17-rebuilt : length (performed start (lent (sessions) (streams) (objects) (held) (parts) (lengths) (rebuilt)) (d) (sample) .tables .rebuilt) ≡ n₇) → (len-20·no·17-out : length (putReplies (start .frame .room) (out) 0 (performed start (lent (sessions) (streams) (objects) (held) (parts) (lengths) (rebuilt)) (d) (sample) .replies)) ≡ n₈) → (is-20·no·17 : Is (Ran-p .row) (performed start (lent (sessions) (streams) (objects) (held) (parts) (lengths) (rebuilt)) (d) (sample) .ran) (Ran-p .val (performed start (lent (sessions) (streams) (objects) (held) (parts) (lengths) (rebuilt)) (d) (sample) .ran) ∷ [])) → (is-20·no·18 : Is (Processed-p .row) (finishedOf agent start (performed start (lent (sessions) (streams) (objects) (held) (parts) (lengths) (rebuilt)) (d) (sample) .ran)) (Processed-p .val (finishedOf agent start (performed start (lent (sessions) (streams) (objects) (held) (parts) (lengths) (rebuilt)) (d) (sample) .ran)) ∷ [])) → Sq W (‵ (MutSlice (named 0) κ₁ (Array u64 8) .own (at-list b₁ o₁ γ₁ (performed start (lent (sessions) (streams) (objects) (held) (parts) (lengths) (rebuilt)) (d) (sample) .tables .sessions)) (sliceVal (b₁, o₁) n₁ ∷ [])) ∷ ‵ (flft κ₁ q₁) ∷ ‵ (MutSlice (named 0) κ₂ (Array u16 35) .own (at-list b₂ o₂ γ₂ (performed start (lent (sessions) (streams) (objects) (held) (parts) (lengths) (rebuilt)) (d) (sample) .tables .streams)) (sliceVal (b₂, o₂) n₂ ∷ [])) ∷ ‵ (flft κ₂ q₂) ∷ ‵ (MutSlice (named 0) κ₃ Object-t.the-row .own (at-list b₃ o₃ γ₃ (performed start (lent (sessions) (streams) (objects) (held) (parts) (lengths) (rebuilt)) (d) (sample) .tables .objects)) (sliceVal (b₃, o₃) n₃ ∷ [])) ∷ ‵ (flft κ₃ q₃) ∷ ‵ (MutSlice (named 0) κ₄ u8 .own (at-list b₄ o₄ γ₄ (performed start (lent (sessions) (streams) (objects) (held) (parts) (lengths) (rebuilt)) (d) (sample) .tables .held)) (sliceVal (b₄, o₄) n₄ ∷ [])) ∷ ‵ (flft κ₄ q₄) ∷ ‵ (MutSlice (named 0) κ₅ u8 .own (at-list b₅ o₅ γ₅ (performed start (lent (sessions) (streams) (objects) (held) (parts) (lengths) (rebuilt)) (d) (sample) .tables .parts)) (sliceVal (b₅, o₅) n₅ ∷ [])) ∷ ‵ (flft κ₅ q₅) ∷ ‵ (MutSlice (named 0) κ₆ u32 .own (at-list b₆ o₆ γ₆ (performed start (lent (sessions) (streams) (objects) (held) (parts) (lengths) (rebuilt)) (d) (sample) .tables .lengths)) (sliceVal (b₆, o₆) n₆ ∷ [])) ∷ ‵ (flft κ₆ q₆) ∷ ‵ (MutSlice (named 0) κ₇ u8 .own (at-list b₇ o₇ γ₇ (performed start (lent (sessions) (streams) (objects) (held) (parts) (lengths) (rebuilt)) (d) (sample) .tables .rebuilt)) (sliceVal (b₇, o₇) n₇ ∷ [])) ∷ ‵ (flft κ₇ q₇) ∷ ‵ (MutSlice (named 0) κ₈ u8 .own (at-list b₈ o₈ γ₈ (putReplies (start .frame .room) (out) 0 (performed start (lent (sessions) (streams) (objects) (held) (parts) (lengths) (rebuilt)) (d) (sample) .replies))) (sliceVal (b₈, o₈) n₈ ∷ [])) ∷ ‵ (flft κ₈ q₈) ∷ ‵ (ShrSlice (named 0) κ₉ u8 .own (at-list b₉ o₉ γ₉ d) (sliceVal (b₉, o₉) n₉ ∷ [])) ∷ ‵ (flft κ₉ q₉) ∷ ‵ (ShrSlice (named 0) κ₁₀ u8 .own (at-list b₁₀ o₁₀ γ₁₀ sample) (sliceVal (b₁₀, o₁₀) n₁₀ ∷ [])) ∷ ‵ (flft κ₁₀ q₁₀) ∷ full 𝓤 (sliceTy (tyRef erased mut (pointee (u8 .written)))) l₆₆ (sliceVal (b₈, o₈) n₈) (full 𝓤 (tyRef erased mut (pointee (u8 .written))) l₆₅ (vptr b₈ o₈) (full 𝓤 (sliceTy (tyRef erased mut (pointee (u8 .written)))) l₆₄ (sliceVal (b₇, o₇) n₇) (full 𝓤 (tyRef erased mut (pointee (u8 .written))) l₆₃ (vptr b₇ o₇) (full 𝓤 (sliceTy (tyRef erased mut (pointee (u32 .written)))) l₆₂ (sliceVal (b₆, o₆) n₆) (full 𝓤 (tyRef erased mut (pointee (u32 .written))) l₆₁ (vptr b₆ o₆) (full 𝓤 (sliceTy (tyRef erased mut (pointee (u8 .written)))) l₆₀ (sliceVal (b₅, o₅) n₅) (full 𝓤 (tyRef erased mut (pointee (u8 .written))) l₅₉ (vptr b₅ o₅) (full 𝓤 (sliceTy (tyRef erased mut (pointee (u8 .written)))) l₅₈ (sliceVal (b₄, o₄) n₄) (full 𝓤 (tyRef erased mut (pointee (u8 .written))) l₅₇ (vptr b₄ o₄) (full 𝓤 (sliceTy (tyRef erased mut (pointee (Object-t.the-row .written)))) l₅₆ (sliceVal (b₃, o₃) n₃) (full 𝓤 (tyRef erased mut (pointee (Object-t.the-row .written))) l₅₅ (vptr b₃ o₃) (full 𝓤 (sliceTy (tyRef erased mut (pointee ((Array u16 35) .written)))) l₅₄ (sliceVal (b₂, o₂) n₂) (full 𝓤 (tyRef erased mut (pointee ((Array u16 35) .written))) l₅₃ (vptr b₂ o₂) (full 𝓤 (sliceTy (tyRef erased mut (pointee ((Array u64 8) .written)))) l₅₂ (sliceVal (b₁, o₁) n₁) (full 𝓤 (tyRef erased mut (pointee ((Array u64 8) .written))) l₅₁ (vptr b₁ o₁) (free 𝓤 Refusal-l.mir l₅₀ (full 𝓤 Processed-l.mir l₄₉ (Processed-p .val (finishedOf agent start (performed start (lent (sessions) (streams) (objects) (held) (parts) (lengths) (rebuilt)) (d) (sample) .ran))) (full 𝓤 tyBool l₄₈ (bool-p .val (ltb n₈ (neededOf (bounded n₈ start n′ (d) (length (sample))) (performed start (lent (sessions) (streams) (objects) (held) (parts) (lengths) (rebuilt)) (d) (sample) .ran .wrote)))) (full 𝓤 (sliceTy (tyRef erased mut (pointee (u8 .written)))) l₄₇ (sliceVal (b₇, o₇) n₇) (full 𝓤 (tyRef erased mut (pointee (u8 .written))) l₄₆ (vptr b₇ o₇) (full 𝓤 (sliceTy (tyRef erased mut (pointee (u32 .written)))) l₄₅ (sliceVal (b₆, o₆) n₆) (full 𝓤 (tyRef erased mut (pointee (u32 .written))) l₄₄ (vptr b₆ o₆) (full 𝓤 (sliceTy (tyRef erased mut (pointee (u8 .written)))) l₄₃ (sliceVal (b₅, o₅) n₅) (full 𝓤 (tyRef erased mut (pointee (u8 .written))) l₄₂ (vptr b₅ o₅) (full 𝓤 (sliceTy (tyRef erased mut (pointee (u8 .written)))) l₄₁ (sliceVal (b₄, o₄) n₄) (full 𝓤 (tyRef erased mut (pointee (u8 .written))) l₄₀ (vptr b₄ o₄) (full 𝓤 (sliceTy (tyRef erased mut (pointee (Object-t.the-row .written)))) l₃₉ (sliceVal (b₃, o₃) n₃) (full 𝓤 (tyRef erased mut (pointee (Object-t.the-row .written))) l₃₈ (vptr b₃ o₃) (full 𝓤 (sliceTy (tyRef erased mut (pointee ((Array u16 35) .written)))) l₃₇ (sliceVal (b₂, o₂) n₂) (full 𝓤 (tyRef erased mut (pointee ((Array u16 35) .written))) l₃₆ (vptr b₂ o₂) (full 𝓤 (sliceTy (tyRef erased mut (pointee ((Array u64 8) .written)))) l₃₅ (sliceVal (b₁, o₁) n₁) (full 𝓤 (tyRef erased mut (pointee ((Array u64 8) .written))) l₃₄ (vptr b₁ o₁) (free 𝓤 (sliceTy (tyRef erased mut (pointee (u8 .written)))) l₃₃ (free 𝓤 (tyRef erased mut (pointee (u8 .written))) l₃₂ (free 𝓤 (sliceTy (tyRef erased mut (pointee (u8 .written)))) l₃₁ (free 𝓤 (tyRef erased mut (pointee (u8 .written))) l₃₀ (free 𝓤 (sliceTy (tyRef erased mut (pointee (u32 .written)))) l₂₉ (free 𝓤 (tyRef erased mut (pointee (u32 .written))) l₂₈ (free 𝓤 (sliceTy (tyRef erased mut (pointee (u8 .written)))) l₂₇ (free 𝓤 (tyRef erased mut (pointee (u8 .written))) l₂₆ (free 𝓤 (sliceTy (tyRef erased mut (pointee (u8 .written)))) l₂₅ (free 𝓤 (tyRef erased mut (pointee (u8 .written))) l₂₄ (free 𝓤 (sliceTy (tyRef erased mut (pointee (Object-t.the-row .written)))) l₂₃ (free 𝓤 (tyRef erased mut (pointee (Object-t.the-row .written))) l₂₂ (free 𝓤 (sliceTy (tyRef erased mut (pointee ((Array u16 35) .written)))) l₂₁ (free 𝓤 (tyRef erased mut (pointee ((Array u16 35) .written))) l₂₀ (free 𝓤 (sliceTy (tyRef erased mut (pointee ((Array u64 8) .written)))) l₁₉ (free 𝓤 (tyRef erased mut (pointee ((Array u64 8) .written))) l₁₈ (full 𝓤 tyBool l₁₇ (bool-p .val (unbound start (d))) (full 𝓤 Ran-l.mir l₁₆ (Ran-p .val (performed start (lent (sessions) (streams) (objects) (held) (parts) (lengths) (rebuilt)) (d) (sample) .ran)) (full 𝓤 (tyInt w64) l₁₅ (u64-p .val (neededOf (bounded n₈ start n′ (d) (length (sample))) (performed start (lent (sessions) (streams) (objects) (held) (parts) (lengths) (rebuilt)) (d) (sample) .ran .wrote))) (full 𝓤 (tyInt w64) l₁₄ (u64-p .val n₈) (full 𝓤 (tyInt w64) l₁₃ (u64-p .val n′) (full 𝓤 Start-l.mir l₁₂ (Start-p .val start) (full 𝓤 Agent-l.mir l₁₁ (Agent-p .val agent) (full 𝓤 (sliceTy (tyRef (named 9) imm (pointee (u8 .written)))) l₁₀ (sliceVal (b₁₀, o₁₀) n₁₀) (full 𝓤 (sliceTy (tyRef (named 8) imm (pointee (u8 .written)))) l₉ (sliceVal (b₉, o₉) n₉) (full 𝓤 (sliceTy (tyRef (named 7) mut (pointee (u8 .written)))) l₈ (sliceVal (b₈, o₈) n₈) (full 𝓤 (sliceTy (tyRef (named 6) mut (pointee (u8 .written)))) l₇ (sliceVal (b₇, o₇) n₇) (full 𝓤 (sliceTy (tyRef (named 5) mut (pointee (u32 .written)))) l₆ (sliceVal (b₆, o₆) n₆) (full 𝓤 (sliceTy (tyRef (named 4) mut (pointee (u8 .written)))) l₅ (sliceVal (b₅, o₅) n₅) (full 𝓤 (sliceTy (tyRef (named 3) mut (pointee (u8 .written)))) l₄ (sliceVal (b₄, o₄) n₄) (full 𝓤 (sliceTy (tyRef (named 2) mut (pointee (Object-t.the-row .written)))) l₃ (sliceVal (b₃, o₃) n₃) (full 𝓤 (sliceTy (tyRef (named 1) mut (pointee ((Array u16 35) .written)))) l₂ (sliceVal (b₂, o₂) n₂) (full 𝓤 (sliceTy (tyRef (named 0) mut (pointee ((Array u64 8) .written)))) l₁ (sliceVal (b₁, o₁) n₁) (free 𝓤 Processed-l.mir l₀ ([])))))))))))))))))))))))))))))))))))))))))))))))))))))))))))))))))))) (runs C Λ En mir.t-21 (atRet En Post))
-    part-21-3 is-1 c-2 asks-18 len-18-sessions len-18-streams len-18-objects len-18-held len-18-parts len-18-lengths len-18-rebuilt is-18 c-20 asks-20·no·17 len-20·no·17-sessions len-20·no·17-streams len-20·no·17-objects len-20·no·17-held len-20·no·17-parts len-20·no·17-lengths len-20·no·17-rebuilt len-20·no·17-out is-20·no·17 is-20·no·18 =
-        assigns ! (of-opd ! (load ! (from ! (stop !)) (look ! 54 refl))) (from ! (stop !)) (init ! 152 refl (Processed-p .typed 𝓤 H A W (finishedOf agent start (performed start (lent (sessions) (streams) (objects) (held) (parts) (lengths) (rebuilt)) (d) (sample) .ran)) is-20·no·18)) $
-        returns ! (look ! 152 refl) $ forget ! 20 refl $ forget ! 22 refl $ forget ! 24 refl $ forget ! 26 refl $ forget ! 28 refl $ forget ! 30 refl $ forget ! 32 refl $ forget ! 34 refl $ forget ! 36 refl $ forget ! 38 refl $ forget ! 40 refl $ forget ! 42 refl $ forget ! 44 refl $ forget ! 46 refl $ forget ! 48 refl $ forget ! 50 refl $ forget ! 54 refl $ forget ! 56 refl $ forget ! 58 refl $ forget ! 60 refl $ forget ! 62 refl $ forget ! 64 refl $ forget ! 66 refl $ forget ! 68 refl $ forget ! 70 refl $ forget ! 72 refl $ forget ! 74 refl $ forget ! 76 refl $ forget ! 78 refl $ forget ! 80 refl $ forget ! 82 refl $ forget ! 84 refl $ forget ! 118 refl $ forget ! 120 refl $ forget ! 122 refl $ forget ! 124 refl $
-        frees-all (finishedOf agent start (performed start (lent (sessions) (streams) (objects) (held) (parts) (lengths) (rebuilt)) (d) (sample) .ran)) (performed start (lent (sessions) (streams) (objects) (held) (parts) (lengths) (rebuilt)) (d) (sample) .tables .sessions) (performed start (lent (sessions) (streams) (objects) (held) (parts) (lengths) (rebuilt)) (d) (sample) .tables .streams) (performed start (lent (sessions) (streams) (objects) (held) (parts) (lengths) (rebuilt)) (d) (sample) .tables .objects) (performed start (lent (sessions) (streams) (objects) (held) (parts) (lengths) (rebuilt)) (d) (sample) .tables .held) (performed start (lent (sessions) (streams) (objects) (held) (parts) (lengths) (rebuilt)) (d) (sample) .tables .parts) (performed start (lent (sessions) (streams) (objects) (held) (parts) (lengths) (rebuilt)) (d) (sample) .tables .lengths) (performed start (lent (sessions) (streams) (objects) (held) (parts) (lengths) (rebuilt)) (d) (sample) .tables .rebuilt) (putReplies (start .frame .room) (out) 0 (performed start (lent (sessions) (streams) (objects) (held) (parts) (lengths) (rebuilt)) (d) (sample) .replies)) (exits (finishedOf agent start (performed start (lent (sessions) (streams) (objects) (held) (parts) (lengths) (rebuilt)) (d) (sample) .ran)) (performed start (lent (sessions) (streams) (objects) (held) (parts) (lengths) (rebuilt)) (d) (sample) .tables .sessions) (performed start (lent (sessions) (streams) (objects) (held) (parts) (lengths) (rebuilt)) (d) (sample) .tables .streams) (performed start (lent (sessions) (streams) (objects) (held) (parts) (lengths) (rebuilt)) (d) (sample) .tables .objects) (performed start (lent (sessions) (streams) (objects) (held) (parts) (lengths) (rebuilt)) (d) (sample) .tables .held) (performed start (lent (sessions) (streams) (objects) (held) (parts) (lengths) (rebuilt)) (d) (sample) .tables .parts) (performed start (lent (sessions) (streams) (objects) (held) (parts) (lengths) (rebuilt)) (d) (sample) .tables .lengths) (performed start (lent (sessions) (streams) (objects) (held) (parts) (lengths) (rebuilt)) (d) (sample) .tables .rebuilt) (putReplies (start .frame .room) (out) 0 (performed start (lent (sessions) (streams) (objects) (held) (parts) (lengths) (rebuilt)) (d) (sample) .replies)) (same-leaves _ _ (finish-sent agent tables-lent out d sample start (within .1) (tells c-2 ∙ c-20))) is-20·no·18 len-20·no·17-sessions len-20·no·17-streams len-20·no·17-objects len-20·no·17-held len-20·no·17-parts len-20·no·17-lengths len-20·no·17-rebuilt len-20·no·17-out)
+    part-21-3 : (is-1 : Is (bool-p .row) (unbound start (d)) (bool-p .val (unbound start (d)) ∷ [])) → (c-2 : unbound start (d) ≡ false) → (asks-18 : (resumesFit (start .resumes) (start .frame .«stream_id») (length (sample)) ≡ true) × (start .frame .room ≤ 9223372036854775807) × (256 ≤ length (sessions)) × (2048 ≤ length (streams)) × (8192 ≤ length (objects)) × (32768 ≤ length (rebuilt))) → (len-18-sessions : length sessions ≡ n₁) → (len-18-streams : length streams ≡ n₂) → (len-18-objects : length objects ≡ n₃) → (len-18-held : length held ≡ n₄) → (len-18-parts : length parts ≡ n₅) → (len-18-lengths : length lengths ≡ n₆) → (len-18-rebuilt : length rebuilt ≡ n₇) → (is-18 : Is (u64-p .row) (neededOf (bounded n₈ start n′ (d) (length (sample))) (performed start (lent (sessions) (streams) (objects) (held) (parts) (lengths) (rebuilt)) (d) (sample) .ran .wrote)) (u64-p .val (neededOf (bounded n₈ start n′ (d) (length (sample))) (performed start (lent (sessions) (streams) (objects) (held) (parts) (lengths) (rebuilt)) (d) (sample) .ran .wrote)) ∷ [])) → (c-20 : ltb n₈ (neededOf (bounded n₈ start n′ (d) (length (sample))) (performed start (lent (sessions) (streams) (objects) (held) (parts) (lengths) (rebuilt)) (d) (sample) .ran .wrote)) ≡ false) → (asks-20·no·11 : (resumesFit (start .resumes) (start .frame .«stream_id») (length (sample)) ≡ true) × (start .frame .room ≤ 9223372036854775807)) → (len-20·no·11-sessions : length (plainly start (rows (sessions) (streams) (objects)) (held) (d) (sample) .rows .sessions) ≡ n₁) → (len-20·no·11-streams : length (plainly start (rows (sessions) (streams) (objects)) (held) (d) (sample) .rows .streams) ≡ n₂) → (len-20·no·11-objects : length (plainly start (rows (sessions) (streams) (objects)) (held) (d) (sample) .rows .objects) ≡ n₃) → (len-20·no·11-held : length (heldBegun start (rows (sessions) (streams) (objects)) (held) (sample)) ≡ n₄) → (len-20·no·11-out : length (putReplies (start .frame .room) (out) 0 (plainly start (rows (sessions) (streams) (objects)) (held) (d) (sample) .replies)) ≡ n₈) → (is-20·no·11 : Is (Ran-p .row) (plainly start (rows (sessions) (streams) (objects)) (held) (d) (sample) .leg .ran) (Ran-p .val (plainly start (rows (sessions) (streams) (objects)) (held) (d) (sample) .leg .ran) ∷ [])) → (is-20·no·12 : Is (Processed-p .row) (finishedOf agent start (plainly start (rows (sessions) (streams) (objects)) (held) (d) (sample) .leg .ran)) (Processed-p .val (finishedOf agent start (plainly start (rows (sessions) (streams) (objects)) (held) (d) (sample) .leg .ran)) ∷ [])) → Sq W (‵ (MutSlice (named 0) κ₁ (Array u64 8) .own (at-list b₁ o₁ γ₁ (plainly start (rows (sessions) (streams) (objects)) (held) (d) (sample) .rows .sessions)) (sliceVal (b₁, o₁) n₁ ∷ [])) ∷ ‵ (flft κ₁ q₁) ∷ ‵ (MutSlice (named 0) κ₂ (Array u16 35) .own (at-list b₂ o₂ γ₂ (plainly start (rows (sessions) (streams) (objects)) (held) (d) (sample) .rows .streams)) (sliceVal (b₂, o₂) n₂ ∷ [])) ∷ ‵ (flft κ₂ q₂) ∷ ‵ (MutSlice (named 0) κ₃ Object-t.the-row .own (at-list b₃ o₃ γ₃ (plainly start (rows (sessions) (streams) (objects)) (held) (d) (sample) .rows .objects)) (sliceVal (b₃, o₃) n₃ ∷ [])) ∷ ‵ (flft κ₃ q₃) ∷ ‵ (MutSlice (named 0) κ₄ u8 .own (at-list b₄ o₄ γ₄ (heldBegun start (rows (sessions) (streams) (objects)) (held) (sample))) (sliceVal (b₄, o₄) n₄ ∷ [])) ∷ ‵ (flft κ₄ q₄) ∷ ‵ (MutSlice (named 0) κ₅ u8 .own (at-list b₅ o₅ γ₅ parts) (sliceVal (b₅, o₅) n₅ ∷ [])) ∷ ‵ (flft κ₅ q₅) ∷ ‵ (MutSlice (named 0) κ₆ u32 .own (at-list b₆ o₆ γ₆ lengths) (sliceVal (b₆, o₆) n₆ ∷ [])) ∷ ‵ (flft κ₆ q₆) ∷ ‵ (MutSlice (named 0) κ₇ u8 .own (at-list b₇ o₇ γ₇ rebuilt) (sliceVal (b₇, o₇) n₇ ∷ [])) ∷ ‵ (flft κ₇ q₇) ∷ ‵ (MutSlice (named 0) κ₈ u8 .own (at-list b₈ o₈ γ₈ (putReplies (start .frame .room) (out) 0 (plainly start (rows (sessions) (streams) (objects)) (held) (d) (sample) .replies))) (sliceVal (b₈, o₈) n₈ ∷ [])) ∷ ‵ (flft κ₈ q₈) ∷ ‵ (ShrSlice (named 0) κ₉ u8 .own (at-list b₉ o₉ γ₉ d) (sliceVal (b₉, o₉) n₉ ∷ [])) ∷ ‵ (flft κ₉ q₉) ∷ ‵ (ShrSlice (named 0) κ₁₀ u8 .own (at-list b₁₀ o₁₀ γ₁₀ sample) (sliceVal (b₁₀, o₁₀) n₁₀ ∷ [])) ∷ ‵ (flft κ₁₀ q₁₀) ∷ full 𝓤 (sliceTy (tyRef erased mut (pointee (u8 .written)))) l₆₀ (sliceVal (b₈, o₈) n₈) (full 𝓤 (tyRef erased mut (pointee (u8 .written))) l₅₉ (vptr b₈ o₈) (full 𝓤 (sliceTy (tyRef erased mut (pointee (u8 .written)))) l₅₈ (sliceVal (b₄, o₄) n₄) (full 𝓤 (tyRef erased mut (pointee (u8 .written))) l₅₇ (vptr b₄ o₄) (full 𝓤 (sliceTy (tyRef erased mut (pointee (Object-t.the-row .written)))) l₅₆ (sliceVal (b₃, o₃) n₃) (full 𝓤 (tyRef erased mut (pointee (Object-t.the-row .written))) l₅₅ (vptr b₃ o₃) (full 𝓤 (sliceTy (tyRef erased mut (pointee ((Array u16 35) .written)))) l₅₄ (sliceVal (b₂, o₂) n₂) (full 𝓤 (tyRef erased mut (pointee ((Array u16 35) .written))) l₅₃ (vptr b₂ o₂) (full 𝓤 (sliceTy (tyRef erased mut (pointee ((Array u64 8) .written)))) l₅₂ (sliceVal (b₁, o₁) n₁) (full 𝓤 (tyRef erased mut (pointee ((Array u64 8) .written))) l₅₁ (vptr b₁ o₁) (free 𝓤 Refusal-l.mir l₅₀ (full 𝓤 Processed-l.mir l₄₉ (Processed-p .val (finishedOf agent start (plainly start (rows (sessions) (streams) (objects)) (held) (d) (sample) .leg .ran))) (full 𝓤 tyBool l₄₈ (bool-p .val (ltb n₈ (neededOf (bounded n₈ start n′ (d) (length (sample))) (performed start (lent (sessions) (streams) (objects) (held) (parts) (lengths) (rebuilt)) (d) (sample) .ran .wrote)))) (full 𝓤 (sliceTy (tyRef erased mut (pointee (u8 .written)))) l₄₇ (sliceVal (b₇, o₇) n₇) (full 𝓤 (tyRef erased mut (pointee (u8 .written))) l₄₆ (vptr b₇ o₇) (full 𝓤 (sliceTy (tyRef erased mut (pointee (u32 .written)))) l₄₅ (sliceVal (b₆, o₆) n₆) (full 𝓤 (tyRef erased mut (pointee (u32 .written))) l₄₄ (vptr b₆ o₆) (full 𝓤 (sliceTy (tyRef erased mut (pointee (u8 .written)))) l₄₃ (sliceVal (b₅, o₅) n₅) (full 𝓤 (tyRef erased mut (pointee (u8 .written))) l₄₂ (vptr b₅ o₅) (full 𝓤 (sliceTy (tyRef erased mut (pointee (u8 .written)))) l₄₁ (sliceVal (b₄, o₄) n₄) (full 𝓤 (tyRef erased mut (pointee (u8 .written))) l₄₀ (vptr b₄ o₄) (full 𝓤 (sliceTy (tyRef erased mut (pointee (Object-t.the-row .written)))) l₃₉ (sliceVal (b₃, o₃) n₃) (full 𝓤 (tyRef erased mut (pointee (Object-t.the-row .written))) l₃₈ (vptr b₃ o₃) (full 𝓤 (sliceTy (tyRef erased mut (pointee ((Array u16 35) .written)))) l₃₇ (sliceVal (b₂, o₂) n₂) (full 𝓤 (tyRef erased mut (pointee ((Array u16 35) .written))) l₃₆ (vptr b₂ o₂) (full 𝓤 (sliceTy (tyRef erased mut (pointee ((Array u64 8) .written)))) l₃₅ (sliceVal (b₁, o₁) n₁) (full 𝓤 (tyRef erased mut (pointee ((Array u64 8) .written))) l₃₄ (vptr b₁ o₁) (free 𝓤 (sliceTy (tyRef erased mut (pointee (u8 .written)))) l₃₃ (free 𝓤 (tyRef erased mut (pointee (u8 .written))) l₃₂ (free 𝓤 (sliceTy (tyRef erased mut (pointee (u8 .written)))) l₃₁ (free 𝓤 (tyRef erased mut (pointee (u8 .written))) l₃₀ (free 𝓤 (sliceTy (tyRef erased mut (pointee (u32 .written)))) l₂₉ (free 𝓤 (tyRef erased mut (pointee (u32 .written))) l₂₈ (free 𝓤 (sliceTy (tyRef erased mut (pointee (u8 .written)))) l₂₇ (free 𝓤 (tyRef erased mut (pointee (u8 .written))) l₂₆ (free 𝓤 (sliceTy (tyRef erased mut (pointee (u8 .written)))) l₂₅ (free 𝓤 (tyRef erased mut (pointee (u8 .written))) l₂₄ (free 𝓤 (sliceTy (tyRef erased mut (pointee (Object-t.the-row .written)))) l₂₃ (free 𝓤 (tyRef erased mut (pointee (Object-t.the-row .written))) l₂₂ (free 𝓤 (sliceTy (tyRef erased mut (pointee ((Array u16 35) .written)))) l₂₁ (free 𝓤 (tyRef erased mut (pointee ((Array u16 35) .written))) l₂₀ (free 𝓤 (sliceTy (tyRef erased mut (pointee ((Array u64 8) .written)))) l₁₉ (free 𝓤 (tyRef erased mut (pointee ((Array u64 8) .written))) l₁₈ (full 𝓤 tyBool l₁₇ (bool-p .val (unbound start (d))) (full 𝓤 Ran-l.mir l₁₆ (Ran-p .val (plainly start (rows (sessions) (streams) (objects)) (held) (d) (sample) .leg .ran)) (full 𝓤 (tyInt w64) l₁₅ (u64-p .val (neededOf (bounded n₈ start n′ (d) (length (sample))) (performed start (lent (sessions) (streams) (objects) (held) (parts) (lengths) (rebuilt)) (d) (sample) .ran .wrote))) (full 𝓤 (tyInt w64) l₁₄ (u64-p .val n₈) (full 𝓤 (tyInt w64) l₁₃ (u64-p .val n′) (full 𝓤 Start-l.mir l₁₂ (Start-p .val start) (full 𝓤 Agent-l.mir l₁₁ (Agent-p .val agent) (full 𝓤 (sliceTy (tyRef (named 9) imm (pointee (u8 .written)))) l₁₀ (sliceVal (b₁₀, o₁₀) n₁₀) (full 𝓤 (sliceTy (tyRef (named 8) imm (pointee (u8 .written)))) l₉ (sliceVal (b₉, o₉) n₉) (full 𝓤 (sliceTy (tyRef (named 7) mut (pointee (u8 .written)))) l₈ (sliceVal (b₈, o₈) n₈) (full 𝓤 (sliceTy (tyRef (named 6) mut (pointee (u8 .written)))) l₇ (sliceVal (b₇, o₇) n₇) (full 𝓤 (sliceTy (tyRef (named 5) mut (pointee (u32 .written)))) l₆ (sliceVal (b₆, o₆) n₆) (full 𝓤 (sliceTy (tyRef (named 4) mut (pointee (u8 .written)))) l₅ (sliceVal (b₅, o₅) n₅) (full 𝓤 (sliceTy (tyRef (named 3) mut (pointee (u8 .written)))) l₄ (sliceVal (b₄, o₄) n₄) (full 𝓤 (sliceTy (tyRef (named 2) mut (pointee (Object-t.the-row .written)))) l₃ (sliceVal (b₃, o₃) n₃) (full 𝓤 (sliceTy (tyRef (named 1) mut (pointee ((Array u16 35) .written)))) l₂ (sliceVal (b₂, o₂) n₂) (full 𝓤 (sliceTy (tyRef (named 0) mut (pointee ((Array u64 8) .written)))) l₁ (sliceVal (b₁, o₁) n₁) (free 𝓤 Processed-l.mir l₀ ([])))))))))))))))))))))))))))))))))))))))))))))))))))))))))))))) (runs C Λ En mir.t-21 (atRet En Post))
+    part-21-3 is-1 c-2 asks-18 len-18-sessions len-18-streams len-18-objects len-18-held len-18-parts len-18-lengths len-18-rebuilt is-18 c-20 asks-20·no·11 len-20·no·11-sessions len-20·no·11-streams len-20·no·11-objects len-20·no·11-held len-20·no·11-out is-20·no·11 is-20·no·12 =
+        assigns ! (of-opd ! (load ! (from ! (stop !)) (look ! 42 refl))) (from ! (stop !)) (init ! 140 refl (Processed-p .typed 𝓤 H A W (finishedOf agent start (plainly start (rows (sessions) (streams) (objects)) (held) (d) (sample) .leg .ran)) is-20·no·12)) $
+        returns ! (look ! 140 refl) $ forget ! 20 refl $ forget ! 22 refl $ forget ! 24 refl $ forget ! 26 refl $ forget ! 28 refl $ forget ! 30 refl $ forget ! 32 refl $ forget ! 34 refl $ forget ! 36 refl $ forget ! 38 refl $ forget ! 42 refl $ forget ! 44 refl $ forget ! 46 refl $ forget ! 48 refl $ forget ! 50 refl $ forget ! 52 refl $ forget ! 54 refl $ forget ! 56 refl $ forget ! 58 refl $ forget ! 60 refl $ forget ! 62 refl $ forget ! 64 refl $ forget ! 66 refl $ forget ! 68 refl $ forget ! 70 refl $ forget ! 72 refl $ forget ! 106 refl $ forget ! 108 refl $ forget ! 110 refl $ forget ! 112 refl $
+        frees-all (finishedOf agent start (plainly start (rows (sessions) (streams) (objects)) (held) (d) (sample) .leg .ran)) (plainly start (rows (sessions) (streams) (objects)) (held) (d) (sample) .rows .sessions) (plainly start (rows (sessions) (streams) (objects)) (held) (d) (sample) .rows .streams) (plainly start (rows (sessions) (streams) (objects)) (held) (d) (sample) .rows .objects) (heldBegun start (rows (sessions) (streams) (objects)) (held) (sample)) parts lengths rebuilt (putReplies (start .frame .room) (out) 0 (plainly start (rows (sessions) (streams) (objects)) (held) (d) (sample) .replies)) (exits (finishedOf agent start (plainly start (rows (sessions) (streams) (objects)) (held) (d) (sample) .leg .ran)) (plainly start (rows (sessions) (streams) (objects)) (held) (d) (sample) .rows .sessions) (plainly start (rows (sessions) (streams) (objects)) (held) (d) (sample) .rows .streams) (plainly start (rows (sessions) (streams) (objects)) (held) (d) (sample) .rows .objects) (heldBegun start (rows (sessions) (streams) (objects)) (held) (sample)) parts lengths rebuilt (putReplies (start .frame .room) (out) 0 (plainly start (rows (sessions) (streams) (objects)) (held) (d) (sample) .replies)) (same-leaves _ _ (ap sent (sym (performed-plain start tables-lent d sample c-2)) ∙ finish-sent agent tables-lent out d sample start (within .1) (tells c-2 ∙ c-20))) is-20·no·12 len-20·no·11-sessions len-20·no·11-streams len-20·no·11-objects len-20·no·11-held len-18-parts len-18-lengths len-18-rebuilt len-20·no·11-out)
 
-    part-20·no·18-3 : (is-1 : Is (bool-p .row) (unbound start (d)) (bool-p .val (unbound start (d)) ∷ [])) → (c-2 : unbound start (d) ≡ false) → (asks-18 : (resumesFit (start .resumes) (start .frame .«stream_id») (length (sample)) ≡ true) × (start .frame .room ≤ 9223372036854775807) × (256 ≤ length (sessions)) × (2048 ≤ length (streams)) × (8192 ≤ length (objects)) × (32768 ≤ length (rebuilt))) → (len-18-sessions : length sessions ≡ n₁) → (len-18-streams : length streams ≡ n₂) → (len-18-objects : length objects ≡ n₃) → (len-18-held : length held ≡ n₄) → (len-18-parts : length parts ≡ n₅) → (len-18-lengths : length lengths ≡ n₆) → (len-18-rebuilt : length rebuilt ≡ n₇) → (is-18 : Is (u64-p .row) (neededOf (bounded n₈ start n′ (d) (length (sample))) (performed start (lent (sessions) (streams) (objects) (held) (parts) (lengths) (rebuilt)) (d) (sample) .ran .wrote)) (u64-p .val (neededOf (bounded n₈ start n′ (d) (length (sample))) (performed start (lent (sessions) (streams) (objects) (held) (parts) (lengths) (rebuilt)) (d) (sample) .ran .wrote)) ∷ [])) → (c-20 : ltb n₈ (neededOf (bounded n₈ start n′ (d) (length (sample))) (performed start (lent (sessions) (streams) (objects) (held) (parts) (lengths) (rebuilt)) (d) (sample) .ran .wrote)) ≡ false) → (asks-20·no·17 : (resumesFit (start .resumes) (start .frame .«stream_id») (length (sample)) ≡ true) × (start .frame .room ≤ 9223372036854775807)) → (len-20·no·17-sessions : length (performed start (lent (sessions) (streams) (objects) (held) (parts) (lengths) (rebuilt)) (d) (sample) .tables .sessions) ≡ n₁) → (len-20·no·17-streams : length (performed start (lent (sessions) (streams) (objects) (held) (parts) (lengths) (rebuilt)) (d) (sample) .tables .streams) ≡ n₂) → (len-20·no·17-objects : length (performed start (lent (sessions) (streams) (objects) (held) (parts) (lengths) (rebuilt)) (d) (sample) .tables .objects) ≡ n₃) → (len-20·no·17-held : length (performed start (lent (sessions) (streams) (objects) (held) (parts) (lengths) (rebuilt)) (d) (sample) .tables .held) ≡ n₄) → (len-20·no·17-parts : length (performed start (lent (sessions) (streams) (objects) (held) (parts) (lengths) (rebuilt)) (d) (sample) .tables .parts) ≡ n₅) → (len-20·no·17-lengths : length (performed start (lent (sessions) (streams) (objects) (held) (parts) (lengths) (rebuilt)) (d) (sample) .tables .lengths) ≡ n₆) → (len-20·no·17-rebuilt : length (performed start (lent (sessions) (streams) (objects) (held) (parts) (lengths) (rebuilt)) (d) (sample) .tables .rebuilt) ≡ n₇) → (len-20·no·17-out : length (putReplies (start .frame .room) (out) 0 (performed start (lent (sessions) (streams) (objects) (held) (parts) (lengths) (rebuilt)) (d) (sample) .replies)) ≡ n₈) → (is-20·no·17 : Is (Ran-p .row) (performed start (lent (sessions) (streams) (objects) (held) (parts) (lengths) (rebuilt)) (d) (sample) .ran) (Ran-p .val (performed start (lent (sessions) (streams) (objects) (held) (parts) (lengths) (rebuilt)) (d) (sample) .ran) ∷ [])) → Sq W (‵ (MutSlice (named 0) κ₁ (Array u64 8) .own (at-list b₁ o₁ γ₁ (performed start (lent (sessions) (streams) (objects) (held) (parts) (lengths) (rebuilt)) (d) (sample) .tables .sessions)) (sliceVal (b₁, o₁) n₁ ∷ [])) ∷ ‵ (flft κ₁ q₁) ∷ ‵ (MutSlice (named 0) κ₂ (Array u16 35) .own (at-list b₂ o₂ γ₂ (performed start (lent (sessions) (streams) (objects) (held) (parts) (lengths) (rebuilt)) (d) (sample) .tables .streams)) (sliceVal (b₂, o₂) n₂ ∷ [])) ∷ ‵ (flft κ₂ q₂) ∷ ‵ (MutSlice (named 0) κ₃ Object-t.the-row .own (at-list b₃ o₃ γ₃ (performed start (lent (sessions) (streams) (objects) (held) (parts) (lengths) (rebuilt)) (d) (sample) .tables .objects)) (sliceVal (b₃, o₃) n₃ ∷ [])) ∷ ‵ (flft κ₃ q₃) ∷ ‵ (MutSlice (named 0) κ₄ u8 .own (at-list b₄ o₄ γ₄ (performed start (lent (sessions) (streams) (objects) (held) (parts) (lengths) (rebuilt)) (d) (sample) .tables .held)) (sliceVal (b₄, o₄) n₄ ∷ [])) ∷ ‵ (flft κ₄ q₄) ∷ ‵ (MutSlice (named 0) κ₅ u8 .own (at-list b₅ o₅ γ₅ (performed start (lent (sessions) (streams) (objects) (held) (parts) (lengths) (rebuilt)) (d) (sample) .tables .parts)) (sliceVal (b₅, o₅) n₅ ∷ [])) ∷ ‵ (flft κ₅ q₅) ∷ ‵ (MutSlice (named 0) κ₆ u32 .own (at-list b₆ o₆ γ₆ (performed start (lent (sessions) (streams) (objects) (held) (parts) (lengths) (rebuilt)) (d) (sample) .tables .lengths)) (sliceVal (b₆, o₆) n₆ ∷ [])) ∷ ‵ (flft κ₆ q₆) ∷ ‵ (MutSlice (named 0) κ₇ u8 .own (at-list b₇ o₇ γ₇ (performed start (lent (sessions) (streams) (objects) (held) (parts) (lengths) (rebuilt)) (d) (sample) .tables .rebuilt)) (sliceVal (b₇, o₇) n₇ ∷ [])) ∷ ‵ (flft κ₇ q₇) ∷ ‵ (MutSlice (named 0) κ₈ u8 .own (at-list b₈ o₈ γ₈ (putReplies (start .frame .room) (out) 0 (performed start (lent (sessions) (streams) (objects) (held) (parts) (lengths) (rebuilt)) (d) (sample) .replies))) (sliceVal (b₈, o₈) n₈ ∷ [])) ∷ ‵ (flft κ₈ q₈) ∷ ‵ (ShrSlice (named 0) κ₉ u8 .own (at-list b₉ o₉ γ₉ d) (sliceVal (b₉, o₉) n₉ ∷ [])) ∷ ‵ (flft κ₉ q₉) ∷ ‵ (ShrSlice (named 0) κ₁₀ u8 .own (at-list b₁₀ o₁₀ γ₁₀ sample) (sliceVal (b₁₀, o₁₀) n₁₀ ∷ [])) ∷ ‵ (flft κ₁₀ q₁₀) ∷ full 𝓤 (sliceTy (tyRef erased mut (pointee (u8 .written)))) l₆₆ (sliceVal (b₈, o₈) n₈) (full 𝓤 (tyRef erased mut (pointee (u8 .written))) l₆₅ (vptr b₈ o₈) (full 𝓤 (sliceTy (tyRef erased mut (pointee (u8 .written)))) l₆₄ (sliceVal (b₇, o₇) n₇) (full 𝓤 (tyRef erased mut (pointee (u8 .written))) l₆₃ (vptr b₇ o₇) (full 𝓤 (sliceTy (tyRef erased mut (pointee (u32 .written)))) l₆₂ (sliceVal (b₆, o₆) n₆) (full 𝓤 (tyRef erased mut (pointee (u32 .written))) l₆₁ (vptr b₆ o₆) (full 𝓤 (sliceTy (tyRef erased mut (pointee (u8 .written)))) l₆₀ (sliceVal (b₅, o₅) n₅) (full 𝓤 (tyRef erased mut (pointee (u8 .written))) l₅₉ (vptr b₅ o₅) (full 𝓤 (sliceTy (tyRef erased mut (pointee (u8 .written)))) l₅₈ (sliceVal (b₄, o₄) n₄) (full 𝓤 (tyRef erased mut (pointee (u8 .written))) l₅₇ (vptr b₄ o₄) (full 𝓤 (sliceTy (tyRef erased mut (pointee (Object-t.the-row .written)))) l₅₆ (sliceVal (b₃, o₃) n₃) (full 𝓤 (tyRef erased mut (pointee (Object-t.the-row .written))) l₅₅ (vptr b₃ o₃) (full 𝓤 (sliceTy (tyRef erased mut (pointee ((Array u16 35) .written)))) l₅₄ (sliceVal (b₂, o₂) n₂) (full 𝓤 (tyRef erased mut (pointee ((Array u16 35) .written))) l₅₃ (vptr b₂ o₂) (full 𝓤 (sliceTy (tyRef erased mut (pointee ((Array u64 8) .written)))) l₅₂ (sliceVal (b₁, o₁) n₁) (full 𝓤 (tyRef erased mut (pointee ((Array u64 8) .written))) l₅₁ (vptr b₁ o₁) (free 𝓤 Refusal-l.mir l₅₀ (free 𝓤 Processed-l.mir l₄₉ (full 𝓤 tyBool l₄₈ (bool-p .val (ltb n₈ (neededOf (bounded n₈ start n′ (d) (length (sample))) (performed start (lent (sessions) (streams) (objects) (held) (parts) (lengths) (rebuilt)) (d) (sample) .ran .wrote)))) (full 𝓤 (sliceTy (tyRef erased mut (pointee (u8 .written)))) l₄₇ (sliceVal (b₇, o₇) n₇) (full 𝓤 (tyRef erased mut (pointee (u8 .written))) l₄₆ (vptr b₇ o₇) (full 𝓤 (sliceTy (tyRef erased mut (pointee (u32 .written)))) l₄₅ (sliceVal (b₆, o₆) n₆) (full 𝓤 (tyRef erased mut (pointee (u32 .written))) l₄₄ (vptr b₆ o₆) (full 𝓤 (sliceTy (tyRef erased mut (pointee (u8 .written)))) l₄₃ (sliceVal (b₅, o₅) n₅) (full 𝓤 (tyRef erased mut (pointee (u8 .written))) l₄₂ (vptr b₅ o₅) (full 𝓤 (sliceTy (tyRef erased mut (pointee (u8 .written)))) l₄₁ (sliceVal (b₄, o₄) n₄) (full 𝓤 (tyRef erased mut (pointee (u8 .written))) l₄₀ (vptr b₄ o₄) (full 𝓤 (sliceTy (tyRef erased mut (pointee (Object-t.the-row .written)))) l₃₉ (sliceVal (b₃, o₃) n₃) (full 𝓤 (tyRef erased mut (pointee (Object-t.the-row .written))) l₃₈ (vptr b₃ o₃) (full 𝓤 (sliceTy (tyRef erased mut (pointee ((Array u16 35) .written)))) l₃₇ (sliceVal (b₂, o₂) n₂) (full 𝓤 (tyRef erased mut (pointee ((Array u16 35) .written))) l₃₆ (vptr b₂ o₂) (full 𝓤 (sliceTy (tyRef erased mut (pointee ((Array u64 8) .written)))) l₃₅ (sliceVal (b₁, o₁) n₁) (full 𝓤 (tyRef erased mut (pointee ((Array u64 8) .written))) l₃₄ (vptr b₁ o₁) (free 𝓤 (sliceTy (tyRef erased mut (pointee (u8 .written)))) l₃₃ (free 𝓤 (tyRef erased mut (pointee (u8 .written))) l₃₂ (free 𝓤 (sliceTy (tyRef erased mut (pointee (u8 .written)))) l₃₁ (free 𝓤 (tyRef erased mut (pointee (u8 .written))) l₃₀ (free 𝓤 (sliceTy (tyRef erased mut (pointee (u32 .written)))) l₂₉ (free 𝓤 (tyRef erased mut (pointee (u32 .written))) l₂₈ (free 𝓤 (sliceTy (tyRef erased mut (pointee (u8 .written)))) l₂₇ (free 𝓤 (tyRef erased mut (pointee (u8 .written))) l₂₆ (free 𝓤 (sliceTy (tyRef erased mut (pointee (u8 .written)))) l₂₅ (free 𝓤 (tyRef erased mut (pointee (u8 .written))) l₂₄ (free 𝓤 (sliceTy (tyRef erased mut (pointee (Object-t.the-row .written)))) l₂₃ (free 𝓤 (tyRef erased mut (pointee (Object-t.the-row .written))) l₂₂ (free 𝓤 (sliceTy (tyRef erased mut (pointee ((Array u16 35) .written)))) l₂₁ (free 𝓤 (tyRef erased mut (pointee ((Array u16 35) .written))) l₂₀ (free 𝓤 (sliceTy (tyRef erased mut (pointee ((Array u64 8) .written)))) l₁₉ (free 𝓤 (tyRef erased mut (pointee ((Array u64 8) .written))) l₁₈ (full 𝓤 tyBool l₁₇ (bool-p .val (unbound start (d))) (full 𝓤 Ran-l.mir l₁₆ (Ran-p .val (performed start (lent (sessions) (streams) (objects) (held) (parts) (lengths) (rebuilt)) (d) (sample) .ran)) (full 𝓤 (tyInt w64) l₁₅ (u64-p .val (neededOf (bounded n₈ start n′ (d) (length (sample))) (performed start (lent (sessions) (streams) (objects) (held) (parts) (lengths) (rebuilt)) (d) (sample) .ran .wrote))) (full 𝓤 (tyInt w64) l₁₄ (u64-p .val n₈) (full 𝓤 (tyInt w64) l₁₃ (u64-p .val n′) (full 𝓤 Start-l.mir l₁₂ (Start-p .val start) (full 𝓤 Agent-l.mir l₁₁ (Agent-p .val agent) (full 𝓤 (sliceTy (tyRef (named 9) imm (pointee (u8 .written)))) l₁₀ (sliceVal (b₁₀, o₁₀) n₁₀) (full 𝓤 (sliceTy (tyRef (named 8) imm (pointee (u8 .written)))) l₉ (sliceVal (b₉, o₉) n₉) (full 𝓤 (sliceTy (tyRef (named 7) mut (pointee (u8 .written)))) l₈ (sliceVal (b₈, o₈) n₈) (full 𝓤 (sliceTy (tyRef (named 6) mut (pointee (u8 .written)))) l₇ (sliceVal (b₇, o₇) n₇) (full 𝓤 (sliceTy (tyRef (named 5) mut (pointee (u32 .written)))) l₆ (sliceVal (b₆, o₆) n₆) (full 𝓤 (sliceTy (tyRef (named 4) mut (pointee (u8 .written)))) l₅ (sliceVal (b₅, o₅) n₅) (full 𝓤 (sliceTy (tyRef (named 3) mut (pointee (u8 .written)))) l₄ (sliceVal (b₄, o₄) n₄) (full 𝓤 (sliceTy (tyRef (named 2) mut (pointee (Object-t.the-row .written)))) l₃ (sliceVal (b₃, o₃) n₃) (full 𝓤 (sliceTy (tyRef (named 1) mut (pointee ((Array u16 35) .written)))) l₂ (sliceVal (b₂, o₂) n₂) (full 𝓤 (sliceTy (tyRef (named 0) mut (pointee ((Array u64 8) .written)))) l₁ (sliceVal (b₁, o₁) n₁) (free 𝓤 Processed-l.mir l₀ ([])))))))))))))))))))))))))))))))))))))))))))))))))))))))))))))))))))) (runs C Λ En (past 17 (no-of (one mir.t-20))) (anyQ (afterSeq 𝓤 H (Wp 𝓤 H C Λ En mir.t-21 (atReturn 𝓤 H En Post)) (atReturn 𝓤 H En Post))))
-    part-20·no·18-3 is-1 c-2 asks-18 len-18-sessions len-18-streams len-18-objects len-18-held len-18-parts len-18-lengths len-18-rebuilt is-18 c-20 asks-20·no·17 len-20·no·17-sessions len-20·no·17-streams len-20·no·17-objects len-20·no·17-held len-20·no·17-parts len-20·no·17-lengths len-20·no·17-rebuilt len-20·no·17-out is-20·no·17 =
-        -- 20.no.18: agent::process::finished
+    part-20·no·12-3 : (is-1 : Is (bool-p .row) (unbound start (d)) (bool-p .val (unbound start (d)) ∷ [])) → (c-2 : unbound start (d) ≡ false) → (asks-18 : (resumesFit (start .resumes) (start .frame .«stream_id») (length (sample)) ≡ true) × (start .frame .room ≤ 9223372036854775807) × (256 ≤ length (sessions)) × (2048 ≤ length (streams)) × (8192 ≤ length (objects)) × (32768 ≤ length (rebuilt))) → (len-18-sessions : length sessions ≡ n₁) → (len-18-streams : length streams ≡ n₂) → (len-18-objects : length objects ≡ n₃) → (len-18-held : length held ≡ n₄) → (len-18-parts : length parts ≡ n₅) → (len-18-lengths : length lengths ≡ n₆) → (len-18-rebuilt : length rebuilt ≡ n₇) → (is-18 : Is (u64-p .row) (neededOf (bounded n₈ start n′ (d) (length (sample))) (performed start (lent (sessions) (streams) (objects) (held) (parts) (lengths) (rebuilt)) (d) (sample) .ran .wrote)) (u64-p .val (neededOf (bounded n₈ start n′ (d) (length (sample))) (performed start (lent (sessions) (streams) (objects) (held) (parts) (lengths) (rebuilt)) (d) (sample) .ran .wrote)) ∷ [])) → (c-20 : ltb n₈ (neededOf (bounded n₈ start n′ (d) (length (sample))) (performed start (lent (sessions) (streams) (objects) (held) (parts) (lengths) (rebuilt)) (d) (sample) .ran .wrote)) ≡ false) → (asks-20·no·11 : (resumesFit (start .resumes) (start .frame .«stream_id») (length (sample)) ≡ true) × (start .frame .room ≤ 9223372036854775807)) → (len-20·no·11-sessions : length (plainly start (rows (sessions) (streams) (objects)) (held) (d) (sample) .rows .sessions) ≡ n₁) → (len-20·no·11-streams : length (plainly start (rows (sessions) (streams) (objects)) (held) (d) (sample) .rows .streams) ≡ n₂) → (len-20·no·11-objects : length (plainly start (rows (sessions) (streams) (objects)) (held) (d) (sample) .rows .objects) ≡ n₃) → (len-20·no·11-held : length (heldBegun start (rows (sessions) (streams) (objects)) (held) (sample)) ≡ n₄) → (len-20·no·11-out : length (putReplies (start .frame .room) (out) 0 (plainly start (rows (sessions) (streams) (objects)) (held) (d) (sample) .replies)) ≡ n₈) → (is-20·no·11 : Is (Ran-p .row) (plainly start (rows (sessions) (streams) (objects)) (held) (d) (sample) .leg .ran) (Ran-p .val (plainly start (rows (sessions) (streams) (objects)) (held) (d) (sample) .leg .ran) ∷ [])) → Sq W (‵ (MutSlice (named 0) κ₁ (Array u64 8) .own (at-list b₁ o₁ γ₁ (plainly start (rows (sessions) (streams) (objects)) (held) (d) (sample) .rows .sessions)) (sliceVal (b₁, o₁) n₁ ∷ [])) ∷ ‵ (flft κ₁ q₁) ∷ ‵ (MutSlice (named 0) κ₂ (Array u16 35) .own (at-list b₂ o₂ γ₂ (plainly start (rows (sessions) (streams) (objects)) (held) (d) (sample) .rows .streams)) (sliceVal (b₂, o₂) n₂ ∷ [])) ∷ ‵ (flft κ₂ q₂) ∷ ‵ (MutSlice (named 0) κ₃ Object-t.the-row .own (at-list b₃ o₃ γ₃ (plainly start (rows (sessions) (streams) (objects)) (held) (d) (sample) .rows .objects)) (sliceVal (b₃, o₃) n₃ ∷ [])) ∷ ‵ (flft κ₃ q₃) ∷ ‵ (MutSlice (named 0) κ₄ u8 .own (at-list b₄ o₄ γ₄ (heldBegun start (rows (sessions) (streams) (objects)) (held) (sample))) (sliceVal (b₄, o₄) n₄ ∷ [])) ∷ ‵ (flft κ₄ q₄) ∷ ‵ (MutSlice (named 0) κ₅ u8 .own (at-list b₅ o₅ γ₅ parts) (sliceVal (b₅, o₅) n₅ ∷ [])) ∷ ‵ (flft κ₅ q₅) ∷ ‵ (MutSlice (named 0) κ₆ u32 .own (at-list b₆ o₆ γ₆ lengths) (sliceVal (b₆, o₆) n₆ ∷ [])) ∷ ‵ (flft κ₆ q₆) ∷ ‵ (MutSlice (named 0) κ₇ u8 .own (at-list b₇ o₇ γ₇ rebuilt) (sliceVal (b₇, o₇) n₇ ∷ [])) ∷ ‵ (flft κ₇ q₇) ∷ ‵ (MutSlice (named 0) κ₈ u8 .own (at-list b₈ o₈ γ₈ (putReplies (start .frame .room) (out) 0 (plainly start (rows (sessions) (streams) (objects)) (held) (d) (sample) .replies))) (sliceVal (b₈, o₈) n₈ ∷ [])) ∷ ‵ (flft κ₈ q₈) ∷ ‵ (ShrSlice (named 0) κ₉ u8 .own (at-list b₉ o₉ γ₉ d) (sliceVal (b₉, o₉) n₉ ∷ [])) ∷ ‵ (flft κ₉ q₉) ∷ ‵ (ShrSlice (named 0) κ₁₀ u8 .own (at-list b₁₀ o₁₀ γ₁₀ sample) (sliceVal (b₁₀, o₁₀) n₁₀ ∷ [])) ∷ ‵ (flft κ₁₀ q₁₀) ∷ full 𝓤 (sliceTy (tyRef erased mut (pointee (u8 .written)))) l₆₀ (sliceVal (b₈, o₈) n₈) (full 𝓤 (tyRef erased mut (pointee (u8 .written))) l₅₉ (vptr b₈ o₈) (full 𝓤 (sliceTy (tyRef erased mut (pointee (u8 .written)))) l₅₈ (sliceVal (b₄, o₄) n₄) (full 𝓤 (tyRef erased mut (pointee (u8 .written))) l₅₇ (vptr b₄ o₄) (full 𝓤 (sliceTy (tyRef erased mut (pointee (Object-t.the-row .written)))) l₅₆ (sliceVal (b₃, o₃) n₃) (full 𝓤 (tyRef erased mut (pointee (Object-t.the-row .written))) l₅₅ (vptr b₃ o₃) (full 𝓤 (sliceTy (tyRef erased mut (pointee ((Array u16 35) .written)))) l₅₄ (sliceVal (b₂, o₂) n₂) (full 𝓤 (tyRef erased mut (pointee ((Array u16 35) .written))) l₅₃ (vptr b₂ o₂) (full 𝓤 (sliceTy (tyRef erased mut (pointee ((Array u64 8) .written)))) l₅₂ (sliceVal (b₁, o₁) n₁) (full 𝓤 (tyRef erased mut (pointee ((Array u64 8) .written))) l₅₁ (vptr b₁ o₁) (free 𝓤 Refusal-l.mir l₅₀ (free 𝓤 Processed-l.mir l₄₉ (full 𝓤 tyBool l₄₈ (bool-p .val (ltb n₈ (neededOf (bounded n₈ start n′ (d) (length (sample))) (performed start (lent (sessions) (streams) (objects) (held) (parts) (lengths) (rebuilt)) (d) (sample) .ran .wrote)))) (full 𝓤 (sliceTy (tyRef erased mut (pointee (u8 .written)))) l₄₇ (sliceVal (b₇, o₇) n₇) (full 𝓤 (tyRef erased mut (pointee (u8 .written))) l₄₆ (vptr b₇ o₇) (full 𝓤 (sliceTy (tyRef erased mut (pointee (u32 .written)))) l₄₅ (sliceVal (b₆, o₆) n₆) (full 𝓤 (tyRef erased mut (pointee (u32 .written))) l₄₄ (vptr b₆ o₆) (full 𝓤 (sliceTy (tyRef erased mut (pointee (u8 .written)))) l₄₃ (sliceVal (b₅, o₅) n₅) (full 𝓤 (tyRef erased mut (pointee (u8 .written))) l₄₂ (vptr b₅ o₅) (full 𝓤 (sliceTy (tyRef erased mut (pointee (u8 .written)))) l₄₁ (sliceVal (b₄, o₄) n₄) (full 𝓤 (tyRef erased mut (pointee (u8 .written))) l₄₀ (vptr b₄ o₄) (full 𝓤 (sliceTy (tyRef erased mut (pointee (Object-t.the-row .written)))) l₃₉ (sliceVal (b₃, o₃) n₃) (full 𝓤 (tyRef erased mut (pointee (Object-t.the-row .written))) l₃₈ (vptr b₃ o₃) (full 𝓤 (sliceTy (tyRef erased mut (pointee ((Array u16 35) .written)))) l₃₇ (sliceVal (b₂, o₂) n₂) (full 𝓤 (tyRef erased mut (pointee ((Array u16 35) .written))) l₃₆ (vptr b₂ o₂) (full 𝓤 (sliceTy (tyRef erased mut (pointee ((Array u64 8) .written)))) l₃₅ (sliceVal (b₁, o₁) n₁) (full 𝓤 (tyRef erased mut (pointee ((Array u64 8) .written))) l₃₄ (vptr b₁ o₁) (free 𝓤 (sliceTy (tyRef erased mut (pointee (u8 .written)))) l₃₃ (free 𝓤 (tyRef erased mut (pointee (u8 .written))) l₃₂ (free 𝓤 (sliceTy (tyRef erased mut (pointee (u8 .written)))) l₃₁ (free 𝓤 (tyRef erased mut (pointee (u8 .written))) l₃₀ (free 𝓤 (sliceTy (tyRef erased mut (pointee (u32 .written)))) l₂₉ (free 𝓤 (tyRef erased mut (pointee (u32 .written))) l₂₈ (free 𝓤 (sliceTy (tyRef erased mut (pointee (u8 .written)))) l₂₇ (free 𝓤 (tyRef erased mut (pointee (u8 .written))) l₂₆ (free 𝓤 (sliceTy (tyRef erased mut (pointee (u8 .written)))) l₂₅ (free 𝓤 (tyRef erased mut (pointee (u8 .written))) l₂₄ (free 𝓤 (sliceTy (tyRef erased mut (pointee (Object-t.the-row .written)))) l₂₃ (free 𝓤 (tyRef erased mut (pointee (Object-t.the-row .written))) l₂₂ (free 𝓤 (sliceTy (tyRef erased mut (pointee ((Array u16 35) .written)))) l₂₁ (free 𝓤 (tyRef erased mut (pointee ((Array u16 35) .written))) l₂₀ (free 𝓤 (sliceTy (tyRef erased mut (pointee ((Array u64 8) .written)))) l₁₉ (free 𝓤 (tyRef erased mut (pointee ((Array u64 8) .written))) l₁₈ (full 𝓤 tyBool l₁₇ (bool-p .val (unbound start (d))) (full 𝓤 Ran-l.mir l₁₆ (Ran-p .val (plainly start (rows (sessions) (streams) (objects)) (held) (d) (sample) .leg .ran)) (full 𝓤 (tyInt w64) l₁₅ (u64-p .val (neededOf (bounded n₈ start n′ (d) (length (sample))) (performed start (lent (sessions) (streams) (objects) (held) (parts) (lengths) (rebuilt)) (d) (sample) .ran .wrote))) (full 𝓤 (tyInt w64) l₁₄ (u64-p .val n₈) (full 𝓤 (tyInt w64) l₁₃ (u64-p .val n′) (full 𝓤 Start-l.mir l₁₂ (Start-p .val start) (full 𝓤 Agent-l.mir l₁₁ (Agent-p .val agent) (full 𝓤 (sliceTy (tyRef (named 9) imm (pointee (u8 .written)))) l₁₀ (sliceVal (b₁₀, o₁₀) n₁₀) (full 𝓤 (sliceTy (tyRef (named 8) imm (pointee (u8 .written)))) l₉ (sliceVal (b₉, o₉) n₉) (full 𝓤 (sliceTy (tyRef (named 7) mut (pointee (u8 .written)))) l₈ (sliceVal (b₈, o₈) n₈) (full 𝓤 (sliceTy (tyRef (named 6) mut (pointee (u8 .written)))) l₇ (sliceVal (b₇, o₇) n₇) (full 𝓤 (sliceTy (tyRef (named 5) mut (pointee (u32 .written)))) l₆ (sliceVal (b₆, o₆) n₆) (full 𝓤 (sliceTy (tyRef (named 4) mut (pointee (u8 .written)))) l₅ (sliceVal (b₅, o₅) n₅) (full 𝓤 (sliceTy (tyRef (named 3) mut (pointee (u8 .written)))) l₄ (sliceVal (b₄, o₄) n₄) (full 𝓤 (sliceTy (tyRef (named 2) mut (pointee (Object-t.the-row .written)))) l₃ (sliceVal (b₃, o₃) n₃) (full 𝓤 (sliceTy (tyRef (named 1) mut (pointee ((Array u16 35) .written)))) l₂ (sliceVal (b₂, o₂) n₂) (full 𝓤 (sliceTy (tyRef (named 0) mut (pointee ((Array u64 8) .written)))) l₁ (sliceVal (b₁, o₁) n₁) (free 𝓤 Processed-l.mir l₀ ([])))))))))))))))))))))))))))))))))))))))))))))))))))))))))))))) (runs C Λ En (past 11 (no-of (one mir.t-20))) (anyQ (afterSeq 𝓤 H (Wp 𝓤 H C Λ En mir.t-21 (atReturn 𝓤 H En Post)) (atReturn 𝓤 H En Post))))
+    part-20·no·12-3 is-1 c-2 asks-18 len-18-sessions len-18-streams len-18-objects len-18-held len-18-parts len-18-lengths len-18-rebuilt is-18 c-20 asks-20·no·11 len-20·no·11-sessions len-20·no·11-streams len-20·no·11-objects len-20·no·11-held len-20·no·11-out is-20·no·11 =
+        -- 20.no.12: agent::process::finished
         nothing ! $
         use1 W (raw (toks 𝓤 A 0 (tt) (tt))) (id⊢ 𝓤 _) $ nothing ! $
-        owned ! (Ran-p .row) (Is (Ran-p .row)) (Ran-p .makes 𝓤 H A W) (performed start (lent (sessions) (streams) (objects) (held) (parts) (lengths) (rebuilt)) (d) (sample) .ran) (Ran-p .val (performed start (lent (sessions) (streams) (objects) (held) (parts) (lengths) (rebuilt)) (d) (sample) .ran) ∷ []) is-20·no·17 $ fjoin ! $
+        owned ! (Ran-p .row) (Is (Ran-p .row)) (Ran-p .makes 𝓤 H A W) (plainly start (rows (sessions) (streams) (objects)) (held) (d) (sample) .leg .ran) (Ran-p .val (plainly start (rows (sessions) (streams) (objects)) (held) (d) (sample) .leg .ran) ∷ []) is-20·no·11 $ fjoin ! $
         owned ! (Start-p .row) (Is (Start-p .row)) (Start-p .makes 𝓤 H A W) start (Start-p .val start ∷ []) start-is $ fjoin ! $
         owned ! (Agent-p .row) (Is (Agent-p .row)) (Agent-p .makes 𝓤 H A W) agent (Agent-p .val agent ∷ []) agent-is $ fjoin ! $ move ! (1 ∷ 0 ∷ []) $
-        calls-any-last ! fm 0 [] (process-finished.signature .params) (process-finished.ended .kept) Processed-p (process-finished.clauses 𝓤 H A mem run) known-process-finished tt tt tt (agent, (start, (performed start (lent (sessions) (streams) (objects) (held) (parts) (lengths) (rebuilt)) (d) (sample) .ran, tt))) (Agent-p .val agent ∷ [], (Start-p .val start ∷ [], (Ran-p .val (performed start (lent (sessions) (streams) (objects) (held) (parts) (lengths) (rebuilt)) (d) (sample) .ran) ∷ [], tt))) tt (finishedOf agent start (performed start (lent (sessions) (streams) (objects) (held) (parts) (lengths) (rebuilt)) (d) (sample) .ran)) (λ ws-20·no·18. Unit {0}) (id⊢ 𝓤 _) (λ r ws-20·no·18. fact-mono 𝓤 (r ≡ finishedOf agent start (performed start (lent (sessions) (streams) (objects) (held) (parts) (lengths) (rebuilt)) (d) (sample) .ran)) ((r ≡ (finishedOf agent start (performed start (lent (sessions) (streams) (objects) (held) (parts) (lengths) (rebuilt)) (d) (sample) .ran))) × (Unit {0})) (λ e. (e, tt))) (λ _. (and-then ! (load ! (from ! (stop !)) (look ! 131 refl)) (and-then ! (load ! (from ! (stop !)) (look ! 129 refl)) (and-then ! (load ! (from ! (stop !)) (look ! 121 refl)) (no-more !))))) (λ ws-20·no·18 said-20·no·18 is-20·no·18.
+        calls-any-last ! fm 0 [] (process-finished.signature .params) (process-finished.ended .kept) Processed-p (process-finished.clauses 𝓤 H A mem run) known-process-finished tt tt tt (agent, (start, (plainly start (rows (sessions) (streams) (objects)) (held) (d) (sample) .leg .ran, tt))) (Agent-p .val agent ∷ [], (Start-p .val start ∷ [], (Ran-p .val (plainly start (rows (sessions) (streams) (objects)) (held) (d) (sample) .leg .ran) ∷ [], tt))) tt (finishedOf agent start (plainly start (rows (sessions) (streams) (objects)) (held) (d) (sample) .leg .ran)) (λ ws-20·no·12. Unit {0}) (id⊢ 𝓤 _) (λ r ws-20·no·12. fact-mono 𝓤 (r ≡ finishedOf agent start (plainly start (rows (sessions) (streams) (objects)) (held) (d) (sample) .leg .ran)) ((r ≡ (finishedOf agent start (plainly start (rows (sessions) (streams) (objects)) (held) (d) (sample) .leg .ran))) × (Unit {0})) (λ e. (e, tt))) (λ _. (and-then ! (load ! (from ! (stop !)) (look ! 119 refl)) (and-then ! (load ! (from ! (stop !)) (look ! 117 refl)) (and-then ! (load ! (from ! (stop !)) (look ! 109 refl)) (no-more !))))) (λ ws-20·no·12 said-20·no·12 is-20·no·12.
         drop ! $ drop ! $
-        land-last ! (from ! (stop !)) (init ! 54 refl (Processed-p .typed 𝓤 H A W (finishedOf agent start (performed start (lent (sessions) (streams) (objects) (held) (parts) (lengths) (rebuilt)) (d) (sample) .ran)) is-20·no·18)) $
+        land-last ! (from ! (stop !)) (init ! 42 refl (Processed-p .typed 𝓤 H A W (finishedOf agent start (plainly start (rows (sessions) (streams) (objects)) (held) (d) (sample) .leg .ran)) is-20·no·12)) $
         exec ! C Λ En mir.t-21 (atRet En Post) $
-        part-21-3 is-1 c-2 asks-18 len-18-sessions len-18-streams len-18-objects len-18-held len-18-parts len-18-lengths len-18-rebuilt is-18 c-20 asks-20·no·17 len-20·no·17-sessions len-20·no·17-streams len-20·no·17-objects len-20·no·17-held len-20·no·17-parts len-20·no·17-lengths len-20·no·17-rebuilt len-20·no·17-out is-20·no·17 is-20·no·18)
+        part-21-3 is-1 c-2 asks-18 len-18-sessions len-18-streams len-18-objects len-18-held len-18-parts len-18-lengths len-18-rebuilt is-18 c-20 asks-20·no·11 len-20·no·11-sessions len-20·no·11-streams len-20·no·11-objects len-20·no·11-held len-20·no·11-out is-20·no·11 is-20·no·12)
 
-    part-19-2 : (is-1 : Is (bool-p .row) (unbound start (d)) (bool-p .val (unbound start (d)) ∷ [])) → (c-2 : unbound start (d) ≡ false) → (asks-18 : (resumesFit (start .resumes) (start .frame .«stream_id») (length (sample)) ≡ true) × (start .frame .room ≤ 9223372036854775807) × (256 ≤ length (sessions)) × (2048 ≤ length (streams)) × (8192 ≤ length (objects)) × (32768 ≤ length (rebuilt))) → (len-18-sessions : length sessions ≡ n₁) → (len-18-streams : length streams ≡ n₂) → (len-18-objects : length objects ≡ n₃) → (len-18-held : length held ≡ n₄) → (len-18-parts : length parts ≡ n₅) → (len-18-lengths : length lengths ≡ n₆) → (len-18-rebuilt : length rebuilt ≡ n₇) → (is-18 : Is (u64-p .row) (neededOf (bounded n₈ start n′ (d) (length (sample))) (performed start (lent (sessions) (streams) (objects) (held) (parts) (lengths) (rebuilt)) (d) (sample) .ran .wrote)) (u64-p .val (neededOf (bounded n₈ start n′ (d) (length (sample))) (performed start (lent (sessions) (streams) (objects) (held) (parts) (lengths) (rebuilt)) (d) (sample) .ran .wrote)) ∷ [])) → Sq W (‵ (MutSlice (named 0) κ₁ (Array u64 8) .own (at-list b₁ o₁ γ₁ sessions) (sliceVal (b₁, o₁) n₁ ∷ [])) ∷ ‵ (flft κ₁ q₁) ∷ ‵ (MutSlice (named 0) κ₂ (Array u16 35) .own (at-list b₂ o₂ γ₂ streams) (sliceVal (b₂, o₂) n₂ ∷ [])) ∷ ‵ (flft κ₂ q₂) ∷ ‵ (MutSlice (named 0) κ₃ Object-t.the-row .own (at-list b₃ o₃ γ₃ objects) (sliceVal (b₃, o₃) n₃ ∷ [])) ∷ ‵ (flft κ₃ q₃) ∷ ‵ (MutSlice (named 0) κ₄ u8 .own (at-list b₄ o₄ γ₄ held) (sliceVal (b₄, o₄) n₄ ∷ [])) ∷ ‵ (flft κ₄ q₄) ∷ ‵ (MutSlice (named 0) κ₅ u8 .own (at-list b₅ o₅ γ₅ parts) (sliceVal (b₅, o₅) n₅ ∷ [])) ∷ ‵ (flft κ₅ q₅) ∷ ‵ (MutSlice (named 0) κ₆ u32 .own (at-list b₆ o₆ γ₆ lengths) (sliceVal (b₆, o₆) n₆ ∷ [])) ∷ ‵ (flft κ₆ q₆) ∷ ‵ (MutSlice (named 0) κ₇ u8 .own (at-list b₇ o₇ γ₇ rebuilt) (sliceVal (b₇, o₇) n₇ ∷ [])) ∷ ‵ (flft κ₇ q₇) ∷ ‵ (MutSlice (named 0) κ₈ u8 .own (at-list b₈ o₈ γ₈ out) (sliceVal (b₈, o₈) n₈ ∷ [])) ∷ ‵ (flft κ₈ q₈) ∷ ‵ (ShrSlice (named 0) κ₉ u8 .own (at-list b₉ o₉ γ₉ d) (sliceVal (b₉, o₉) n₉ ∷ [])) ∷ ‵ (flft κ₉ q₉) ∷ ‵ (ShrSlice (named 0) κ₁₀ u8 .own (at-list b₁₀ o₁₀ γ₁₀ sample) (sliceVal (b₁₀, o₁₀) n₁₀ ∷ [])) ∷ ‵ (flft κ₁₀ q₁₀) ∷ free 𝓤 (sliceTy (tyRef erased mut (pointee (u8 .written)))) l₆₆ (free 𝓤 (tyRef erased mut (pointee (u8 .written))) l₆₅ (free 𝓤 (sliceTy (tyRef erased mut (pointee (u8 .written)))) l₆₄ (free 𝓤 (tyRef erased mut (pointee (u8 .written))) l₆₃ (free 𝓤 (sliceTy (tyRef erased mut (pointee (u32 .written)))) l₆₂ (free 𝓤 (tyRef erased mut (pointee (u32 .written))) l₆₁ (free 𝓤 (sliceTy (tyRef erased mut (pointee (u8 .written)))) l₆₀ (free 𝓤 (tyRef erased mut (pointee (u8 .written))) l₅₉ (free 𝓤 (sliceTy (tyRef erased mut (pointee (u8 .written)))) l₅₈ (free 𝓤 (tyRef erased mut (pointee (u8 .written))) l₅₇ (free 𝓤 (sliceTy (tyRef erased mut (pointee (Object-t.the-row .written)))) l₅₆ (free 𝓤 (tyRef erased mut (pointee (Object-t.the-row .written))) l₅₅ (free 𝓤 (sliceTy (tyRef erased mut (pointee ((Array u16 35) .written)))) l₅₄ (free 𝓤 (tyRef erased mut (pointee ((Array u16 35) .written))) l₅₃ (free 𝓤 (sliceTy (tyRef erased mut (pointee ((Array u64 8) .written)))) l₅₂ (free 𝓤 (tyRef erased mut (pointee ((Array u64 8) .written))) l₅₁ (free 𝓤 Refusal-l.mir l₅₀ (free 𝓤 Processed-l.mir l₄₉ (free 𝓤 tyBool l₄₈ (full 𝓤 (sliceTy (tyRef erased mut (pointee (u8 .written)))) l₄₇ (sliceVal (b₇, o₇) n₇) (full 𝓤 (tyRef erased mut (pointee (u8 .written))) l₄₆ (vptr b₇ o₇) (full 𝓤 (sliceTy (tyRef erased mut (pointee (u32 .written)))) l₄₅ (sliceVal (b₆, o₆) n₆) (full 𝓤 (tyRef erased mut (pointee (u32 .written))) l₄₄ (vptr b₆ o₆) (full 𝓤 (sliceTy (tyRef erased mut (pointee (u8 .written)))) l₄₃ (sliceVal (b₅, o₅) n₅) (full 𝓤 (tyRef erased mut (pointee (u8 .written))) l₄₂ (vptr b₅ o₅) (full 𝓤 (sliceTy (tyRef erased mut (pointee (u8 .written)))) l₄₁ (sliceVal (b₄, o₄) n₄) (full 𝓤 (tyRef erased mut (pointee (u8 .written))) l₄₀ (vptr b₄ o₄) (full 𝓤 (sliceTy (tyRef erased mut (pointee (Object-t.the-row .written)))) l₃₉ (sliceVal (b₃, o₃) n₃) (full 𝓤 (tyRef erased mut (pointee (Object-t.the-row .written))) l₃₈ (vptr b₃ o₃) (full 𝓤 (sliceTy (tyRef erased mut (pointee ((Array u16 35) .written)))) l₃₇ (sliceVal (b₂, o₂) n₂) (full 𝓤 (tyRef erased mut (pointee ((Array u16 35) .written))) l₃₆ (vptr b₂ o₂) (full 𝓤 (sliceTy (tyRef erased mut (pointee ((Array u64 8) .written)))) l₃₅ (sliceVal (b₁, o₁) n₁) (full 𝓤 (tyRef erased mut (pointee ((Array u64 8) .written))) l₃₄ (vptr b₁ o₁) (free 𝓤 (sliceTy (tyRef erased mut (pointee (u8 .written)))) l₃₃ (free 𝓤 (tyRef erased mut (pointee (u8 .written))) l₃₂ (free 𝓤 (sliceTy (tyRef erased mut (pointee (u8 .written)))) l₃₁ (free 𝓤 (tyRef erased mut (pointee (u8 .written))) l₃₀ (free 𝓤 (sliceTy (tyRef erased mut (pointee (u32 .written)))) l₂₉ (free 𝓤 (tyRef erased mut (pointee (u32 .written))) l₂₈ (free 𝓤 (sliceTy (tyRef erased mut (pointee (u8 .written)))) l₂₇ (free 𝓤 (tyRef erased mut (pointee (u8 .written))) l₂₆ (free 𝓤 (sliceTy (tyRef erased mut (pointee (u8 .written)))) l₂₅ (free 𝓤 (tyRef erased mut (pointee (u8 .written))) l₂₄ (free 𝓤 (sliceTy (tyRef erased mut (pointee (Object-t.the-row .written)))) l₂₃ (free 𝓤 (tyRef erased mut (pointee (Object-t.the-row .written))) l₂₂ (free 𝓤 (sliceTy (tyRef erased mut (pointee ((Array u16 35) .written)))) l₂₁ (free 𝓤 (tyRef erased mut (pointee ((Array u16 35) .written))) l₂₀ (free 𝓤 (sliceTy (tyRef erased mut (pointee ((Array u64 8) .written)))) l₁₉ (free 𝓤 (tyRef erased mut (pointee ((Array u64 8) .written))) l₁₈ (full 𝓤 tyBool l₁₇ (bool-p .val (unbound start (d))) (free 𝓤 Ran-l.mir l₁₆ (full 𝓤 (tyInt w64) l₁₅ (u64-p .val (neededOf (bounded n₈ start n′ (d) (length (sample))) (performed start (lent (sessions) (streams) (objects) (held) (parts) (lengths) (rebuilt)) (d) (sample) .ran .wrote))) (full 𝓤 (tyInt w64) l₁₄ (u64-p .val n₈) (full 𝓤 (tyInt w64) l₁₃ (u64-p .val n′) (full 𝓤 Start-l.mir l₁₂ (Start-p .val start) (full 𝓤 Agent-l.mir l₁₁ (Agent-p .val agent) (full 𝓤 (sliceTy (tyRef (named 9) imm (pointee (u8 .written)))) l₁₀ (sliceVal (b₁₀, o₁₀) n₁₀) (full 𝓤 (sliceTy (tyRef (named 8) imm (pointee (u8 .written)))) l₉ (sliceVal (b₉, o₉) n₉) (full 𝓤 (sliceTy (tyRef (named 7) mut (pointee (u8 .written)))) l₈ (sliceVal (b₈, o₈) n₈) (full 𝓤 (sliceTy (tyRef (named 6) mut (pointee (u8 .written)))) l₇ (sliceVal (b₇, o₇) n₇) (full 𝓤 (sliceTy (tyRef (named 5) mut (pointee (u32 .written)))) l₆ (sliceVal (b₆, o₆) n₆) (full 𝓤 (sliceTy (tyRef (named 4) mut (pointee (u8 .written)))) l₅ (sliceVal (b₅, o₅) n₅) (full 𝓤 (sliceTy (tyRef (named 3) mut (pointee (u8 .written)))) l₄ (sliceVal (b₄, o₄) n₄) (full 𝓤 (sliceTy (tyRef (named 2) mut (pointee (Object-t.the-row .written)))) l₃ (sliceVal (b₃, o₃) n₃) (full 𝓤 (sliceTy (tyRef (named 1) mut (pointee ((Array u16 35) .written)))) l₂ (sliceVal (b₂, o₂) n₂) (full 𝓤 (sliceTy (tyRef (named 0) mut (pointee ((Array u64 8) .written)))) l₁ (sliceVal (b₁, o₁) n₁) (free 𝓤 Processed-l.mir l₀ ([])))))))))))))))))))))))))))))))))))))))))))))))))))))))))))))))))))) (runs C Λ En mir.t-19 (atRet En Post))
+    part-19-2 : (is-1 : Is (bool-p .row) (unbound start (d)) (bool-p .val (unbound start (d)) ∷ [])) → (c-2 : unbound start (d) ≡ false) → (asks-18 : (resumesFit (start .resumes) (start .frame .«stream_id») (length (sample)) ≡ true) × (start .frame .room ≤ 9223372036854775807) × (256 ≤ length (sessions)) × (2048 ≤ length (streams)) × (8192 ≤ length (objects)) × (32768 ≤ length (rebuilt))) → (len-18-sessions : length sessions ≡ n₁) → (len-18-streams : length streams ≡ n₂) → (len-18-objects : length objects ≡ n₃) → (len-18-held : length held ≡ n₄) → (len-18-parts : length parts ≡ n₅) → (len-18-lengths : length lengths ≡ n₆) → (len-18-rebuilt : length rebuilt ≡ n₇) → (is-18 : Is (u64-p .row) (neededOf (bounded n₈ start n′ (d) (length (sample))) (performed start (lent (sessions) (streams) (objects) (held) (parts) (lengths) (rebuilt)) (d) (sample) .ran .wrote)) (u64-p .val (neededOf (bounded n₈ start n′ (d) (length (sample))) (performed start (lent (sessions) (streams) (objects) (held) (parts) (lengths) (rebuilt)) (d) (sample) .ran .wrote)) ∷ [])) → Sq W (‵ (MutSlice (named 0) κ₁ (Array u64 8) .own (at-list b₁ o₁ γ₁ sessions) (sliceVal (b₁, o₁) n₁ ∷ [])) ∷ ‵ (flft κ₁ q₁) ∷ ‵ (MutSlice (named 0) κ₂ (Array u16 35) .own (at-list b₂ o₂ γ₂ streams) (sliceVal (b₂, o₂) n₂ ∷ [])) ∷ ‵ (flft κ₂ q₂) ∷ ‵ (MutSlice (named 0) κ₃ Object-t.the-row .own (at-list b₃ o₃ γ₃ objects) (sliceVal (b₃, o₃) n₃ ∷ [])) ∷ ‵ (flft κ₃ q₃) ∷ ‵ (MutSlice (named 0) κ₄ u8 .own (at-list b₄ o₄ γ₄ held) (sliceVal (b₄, o₄) n₄ ∷ [])) ∷ ‵ (flft κ₄ q₄) ∷ ‵ (MutSlice (named 0) κ₅ u8 .own (at-list b₅ o₅ γ₅ parts) (sliceVal (b₅, o₅) n₅ ∷ [])) ∷ ‵ (flft κ₅ q₅) ∷ ‵ (MutSlice (named 0) κ₆ u32 .own (at-list b₆ o₆ γ₆ lengths) (sliceVal (b₆, o₆) n₆ ∷ [])) ∷ ‵ (flft κ₆ q₆) ∷ ‵ (MutSlice (named 0) κ₇ u8 .own (at-list b₇ o₇ γ₇ rebuilt) (sliceVal (b₇, o₇) n₇ ∷ [])) ∷ ‵ (flft κ₇ q₇) ∷ ‵ (MutSlice (named 0) κ₈ u8 .own (at-list b₈ o₈ γ₈ out) (sliceVal (b₈, o₈) n₈ ∷ [])) ∷ ‵ (flft κ₈ q₈) ∷ ‵ (ShrSlice (named 0) κ₉ u8 .own (at-list b₉ o₉ γ₉ d) (sliceVal (b₉, o₉) n₉ ∷ [])) ∷ ‵ (flft κ₉ q₉) ∷ ‵ (ShrSlice (named 0) κ₁₀ u8 .own (at-list b₁₀ o₁₀ γ₁₀ sample) (sliceVal (b₁₀, o₁₀) n₁₀ ∷ [])) ∷ ‵ (flft κ₁₀ q₁₀) ∷ free 𝓤 (sliceTy (tyRef erased mut (pointee (u8 .written)))) l₆₀ (free 𝓤 (tyRef erased mut (pointee (u8 .written))) l₅₉ (free 𝓤 (sliceTy (tyRef erased mut (pointee (u8 .written)))) l₅₈ (free 𝓤 (tyRef erased mut (pointee (u8 .written))) l₅₇ (free 𝓤 (sliceTy (tyRef erased mut (pointee (Object-t.the-row .written)))) l₅₆ (free 𝓤 (tyRef erased mut (pointee (Object-t.the-row .written))) l₅₅ (free 𝓤 (sliceTy (tyRef erased mut (pointee ((Array u16 35) .written)))) l₅₄ (free 𝓤 (tyRef erased mut (pointee ((Array u16 35) .written))) l₅₃ (free 𝓤 (sliceTy (tyRef erased mut (pointee ((Array u64 8) .written)))) l₅₂ (free 𝓤 (tyRef erased mut (pointee ((Array u64 8) .written))) l₅₁ (free 𝓤 Refusal-l.mir l₅₀ (free 𝓤 Processed-l.mir l₄₉ (free 𝓤 tyBool l₄₈ (full 𝓤 (sliceTy (tyRef erased mut (pointee (u8 .written)))) l₄₇ (sliceVal (b₇, o₇) n₇) (full 𝓤 (tyRef erased mut (pointee (u8 .written))) l₄₆ (vptr b₇ o₇) (full 𝓤 (sliceTy (tyRef erased mut (pointee (u32 .written)))) l₄₅ (sliceVal (b₆, o₆) n₆) (full 𝓤 (tyRef erased mut (pointee (u32 .written))) l₄₄ (vptr b₆ o₆) (full 𝓤 (sliceTy (tyRef erased mut (pointee (u8 .written)))) l₄₃ (sliceVal (b₅, o₅) n₅) (full 𝓤 (tyRef erased mut (pointee (u8 .written))) l₄₂ (vptr b₅ o₅) (full 𝓤 (sliceTy (tyRef erased mut (pointee (u8 .written)))) l₄₁ (sliceVal (b₄, o₄) n₄) (full 𝓤 (tyRef erased mut (pointee (u8 .written))) l₄₀ (vptr b₄ o₄) (full 𝓤 (sliceTy (tyRef erased mut (pointee (Object-t.the-row .written)))) l₃₉ (sliceVal (b₃, o₃) n₃) (full 𝓤 (tyRef erased mut (pointee (Object-t.the-row .written))) l₃₈ (vptr b₃ o₃) (full 𝓤 (sliceTy (tyRef erased mut (pointee ((Array u16 35) .written)))) l₃₇ (sliceVal (b₂, o₂) n₂) (full 𝓤 (tyRef erased mut (pointee ((Array u16 35) .written))) l₃₆ (vptr b₂ o₂) (full 𝓤 (sliceTy (tyRef erased mut (pointee ((Array u64 8) .written)))) l₃₅ (sliceVal (b₁, o₁) n₁) (full 𝓤 (tyRef erased mut (pointee ((Array u64 8) .written))) l₃₄ (vptr b₁ o₁) (free 𝓤 (sliceTy (tyRef erased mut (pointee (u8 .written)))) l₃₃ (free 𝓤 (tyRef erased mut (pointee (u8 .written))) l₃₂ (free 𝓤 (sliceTy (tyRef erased mut (pointee (u8 .written)))) l₃₁ (free 𝓤 (tyRef erased mut (pointee (u8 .written))) l₃₀ (free 𝓤 (sliceTy (tyRef erased mut (pointee (u32 .written)))) l₂₉ (free 𝓤 (tyRef erased mut (pointee (u32 .written))) l₂₈ (free 𝓤 (sliceTy (tyRef erased mut (pointee (u8 .written)))) l₂₇ (free 𝓤 (tyRef erased mut (pointee (u8 .written))) l₂₆ (free 𝓤 (sliceTy (tyRef erased mut (pointee (u8 .written)))) l₂₅ (free 𝓤 (tyRef erased mut (pointee (u8 .written))) l₂₄ (free 𝓤 (sliceTy (tyRef erased mut (pointee (Object-t.the-row .written)))) l₂₃ (free 𝓤 (tyRef erased mut (pointee (Object-t.the-row .written))) l₂₂ (free 𝓤 (sliceTy (tyRef erased mut (pointee ((Array u16 35) .written)))) l₂₁ (free 𝓤 (tyRef erased mut (pointee ((Array u16 35) .written))) l₂₀ (free 𝓤 (sliceTy (tyRef erased mut (pointee ((Array u64 8) .written)))) l₁₉ (free 𝓤 (tyRef erased mut (pointee ((Array u64 8) .written))) l₁₈ (full 𝓤 tyBool l₁₇ (bool-p .val (unbound start (d))) (free 𝓤 Ran-l.mir l₁₆ (full 𝓤 (tyInt w64) l₁₅ (u64-p .val (neededOf (bounded n₈ start n′ (d) (length (sample))) (performed start (lent (sessions) (streams) (objects) (held) (parts) (lengths) (rebuilt)) (d) (sample) .ran .wrote))) (full 𝓤 (tyInt w64) l₁₄ (u64-p .val n₈) (full 𝓤 (tyInt w64) l₁₃ (u64-p .val n′) (full 𝓤 Start-l.mir l₁₂ (Start-p .val start) (full 𝓤 Agent-l.mir l₁₁ (Agent-p .val agent) (full 𝓤 (sliceTy (tyRef (named 9) imm (pointee (u8 .written)))) l₁₀ (sliceVal (b₁₀, o₁₀) n₁₀) (full 𝓤 (sliceTy (tyRef (named 8) imm (pointee (u8 .written)))) l₉ (sliceVal (b₉, o₉) n₉) (full 𝓤 (sliceTy (tyRef (named 7) mut (pointee (u8 .written)))) l₈ (sliceVal (b₈, o₈) n₈) (full 𝓤 (sliceTy (tyRef (named 6) mut (pointee (u8 .written)))) l₇ (sliceVal (b₇, o₇) n₇) (full 𝓤 (sliceTy (tyRef (named 5) mut (pointee (u32 .written)))) l₆ (sliceVal (b₆, o₆) n₆) (full 𝓤 (sliceTy (tyRef (named 4) mut (pointee (u8 .written)))) l₅ (sliceVal (b₅, o₅) n₅) (full 𝓤 (sliceTy (tyRef (named 3) mut (pointee (u8 .written)))) l₄ (sliceVal (b₄, o₄) n₄) (full 𝓤 (sliceTy (tyRef (named 2) mut (pointee (Object-t.the-row .written)))) l₃ (sliceVal (b₃, o₃) n₃) (full 𝓤 (sliceTy (tyRef (named 1) mut (pointee ((Array u16 35) .written)))) l₂ (sliceVal (b₂, o₂) n₂) (full 𝓤 (sliceTy (tyRef (named 0) mut (pointee ((Array u64 8) .written)))) l₁ (sliceVal (b₁, o₁) n₁) (free 𝓤 Processed-l.mir l₀ ([])))))))))))))))))))))))))))))))))))))))))))))))))))))))))))))) (runs C Λ En mir.t-19 (atRet En Post))
     part-19-2 is-1 c-2 asks-18 len-18-sessions len-18-streams len-18-objects len-18-held len-18-parts len-18-lengths len-18-rebuilt is-18 =
-        assigns ! (bin ! (load ! (from ! (stop !)) (look ! 124 refl)) (load ! (from ! (stop !)) (look ! 122 refl)) (tt)) (from ! (stop !)) (init ! 56 refl (bool-p .typed 𝓤 H A W (ltb n₈ (neededOf (bounded n₈ start n′ (d) (length (sample))) (performed start (lent (sessions) (streams) (objects) (held) (parts) (lengths) (rebuilt)) (d) (sample) .ran .wrote))) refl)) $
+        assigns ! (bin ! (load ! (from ! (stop !)) (look ! 112 refl)) (load ! (from ! (stop !)) (look ! 110 refl)) (tt)) (from ! (stop !)) (init ! 44 refl (bool-p .typed 𝓤 H A W (ltb n₈ (neededOf (bounded n₈ start n′ (d) (length (sample))) (performed start (lent (sessions) (streams) (objects) (held) (parts) (lengths) (rebuilt)) (d) (sample) .ran .wrote))) refl)) $
         first ! $
-        branches ! (load ! (from ! (stop !)) (look ! 56 refl))
+        branches ! (load ! (from ! (stop !)) (look ! 44 refl))
         (λ h-20.
         knows ! (ltb n₈ (neededOf (bounded n₈ start n′ (d) (length (sample))) (performed start (lent (sessions) (streams) (objects) (held) (parts) (lengths) (rebuilt)) (d) (sample) .ran .wrote)) ≡ true) (holds (ltb n₈ (neededOf (bounded n₈ start n′ (d) (length (sample))) (performed start (lent (sessions) (streams) (objects) (held) (parts) (lengths) (rebuilt)) (d) (sample) .ran .wrote))) h-20) (λ c-20.
-        assigns ! (agg ! (and-then ! (lit ! tt) (no-more !))) (from ! (stop !)) (init ! 52 refl (Refusal-p .typed 𝓤 H A W Refusal-OutputTooShort (EL.owes Refusal-t.the-type Refusal-l.the-laws Refusal-OutputTooShort tt))) $
+        assigns ! (agg ! (and-then ! (lit ! tt) (no-more !))) (from ! (stop !)) (init ! 40 refl (Refusal-p .typed 𝓤 H A W Refusal-OutputTooShort (EL.owes Refusal-t.the-type Refusal-l.the-laws Refusal-OutputTooShort tt))) $
         -- 20.yes.2: agent::process::refused
         nothing ! $
         use1 W (raw (toks 𝓤 A 0 (tt) (tt))) (id⊢ 𝓤 _) $ nothing ! $
         owned ! (Refusal-p .row) (Is (Refusal-p .row)) (Refusal-p .makes 𝓤 H A W) Refusal-OutputTooShort (Refusal-p .val Refusal-OutputTooShort ∷ []) (EL.owes Refusal-t.the-type Refusal-l.the-laws Refusal-OutputTooShort tt) $ fjoin ! $
         owned ! (Agent-p .row) (Is (Agent-p .row)) (Agent-p .makes 𝓤 H A W) agent (Agent-p .val agent ∷ []) agent-is $ fjoin ! $ move ! (1 ∷ 0 ∷ []) $
-        calls-any-last ! fm 0 [] (process-refused.signature .params) (process-refused.ended .kept) Processed-p (process-refused.clauses 𝓤 H A mem run) known-process-refused tt tt tt (agent, (Refusal-OutputTooShort, tt)) (Agent-p .val agent ∷ [], (Refusal-p .val Refusal-OutputTooShort ∷ [], tt)) tt (refusedOf agent Refusal-OutputTooShort) (λ ws-20·yes·2. Unit {0}) (id⊢ 𝓤 _) (λ r ws-20·yes·2. fact-mono 𝓤 (r ≡ refusedOf agent Refusal-OutputTooShort) ((r ≡ (refusedOf agent Refusal-OutputTooShort)) × (Unit {0})) (λ e. (e, tt))) (λ _. (and-then ! (load ! (from ! (stop !)) (look ! 131 refl)) (and-then ! (load ! (from ! (stop !)) (look ! 53 refl)) (no-more !)))) (λ ws-20·yes·2 said-20·yes·2 is-20·yes·2.
+        calls-any-last ! fm 0 [] (process-refused.signature .params) (process-refused.ended .kept) Processed-p (process-refused.clauses 𝓤 H A mem run) known-process-refused tt tt tt (agent, (Refusal-OutputTooShort, tt)) (Agent-p .val agent ∷ [], (Refusal-p .val Refusal-OutputTooShort ∷ [], tt)) tt (refusedOf agent Refusal-OutputTooShort) (λ ws-20·yes·2. Unit {0}) (id⊢ 𝓤 _) (λ r ws-20·yes·2. fact-mono 𝓤 (r ≡ refusedOf agent Refusal-OutputTooShort) ((r ≡ (refusedOf agent Refusal-OutputTooShort)) × (Unit {0})) (λ e. (e, tt))) (λ _. (and-then ! (load ! (from ! (stop !)) (look ! 119 refl)) (and-then ! (load ! (from ! (stop !)) (look ! 41 refl)) (no-more !)))) (λ ws-20·yes·2 said-20·yes·2 is-20·yes·2.
         drop ! $ drop ! $
-        land-last ! (from ! (stop !)) (init ! 54 refl (Processed-p .typed 𝓤 H A W (refusedOf agent Refusal-OutputTooShort) is-20·yes·2)) $
+        land-last ! (from ! (stop !)) (init ! 42 refl (Processed-p .typed 𝓤 H A W (refusedOf agent Refusal-OutputTooShort) is-20·yes·2)) $
         exec ! C Λ En mir.t-21 (atRet En Post) $
         part-21-2 is-1 c-2 asks-18 len-18-sessions len-18-streams len-18-objects len-18-held len-18-parts len-18-lengths len-18-rebuilt is-18 c-20 is-20·yes·2)))
         (λ h-20.
         knows ! (ltb n₈ (neededOf (bounded n₈ start n′ (d) (length (sample))) (performed start (lent (sessions) (streams) (objects) (held) (parts) (lengths) (rebuilt)) (d) (sample) .ran .wrote)) ≡ false) (fails (ltb n₈ (neededOf (bounded n₈ start n′ (d) (length (sample))) (performed start (lent (sessions) (streams) (objects) (held) (parts) (lengths) (rebuilt)) (d) (sample) .ran .wrote))) (T-not (ltb n₈ (neededOf (bounded n₈ start n′ (d) (length (sample))) (performed start (lent (sessions) (streams) (objects) (held) (parts) (lengths) (rebuilt)) (d) (sample) .ran .wrote))) h-20)) (λ c-20.
-        assigns ! (addr ! (from ! (fld ! refl (hop ! (look-in ! 150 (sub ! 0 refl (whole !))) (stop !))))) (from ! (stop !)) (init ! 50 refl (tt, tt)) $
-        assigns ! (agg ! (and-then ! (load ! (from ! (stop !)) (look ! 50 refl)) (and-then ! (load ! (from ! (fld ! refl (stop !))) (look-in ! 150 (sub ! 1 refl (whole !)))) (no-more !)))) (from ! (stop !)) (init ! 48 refl (tt, (tt, (record { fits = room₁ .0 }, tt)))) $
-        assigns ! (addr ! (from ! (fld ! refl (hop ! (look-in ! 148 (sub ! 0 refl (whole !))) (stop !))))) (from ! (stop !)) (init ! 46 refl (tt, tt)) $
-        assigns ! (agg ! (and-then ! (load ! (from ! (stop !)) (look ! 46 refl)) (and-then ! (load ! (from ! (fld ! refl (stop !))) (look-in ! 148 (sub ! 1 refl (whole !)))) (no-more !)))) (from ! (stop !)) (init ! 44 refl (tt, (tt, (record { fits = room₂ .0 }, tt)))) $
-        assigns ! (addr ! (from ! (fld ! refl (hop ! (look-in ! 146 (sub ! 0 refl (whole !))) (stop !))))) (from ! (stop !)) (init ! 42 refl (tt, tt)) $
-        assigns ! (agg ! (and-then ! (load ! (from ! (stop !)) (look ! 42 refl)) (and-then ! (load ! (from ! (fld ! refl (stop !))) (look-in ! 146 (sub ! 1 refl (whole !)))) (no-more !)))) (from ! (stop !)) (init ! 40 refl (tt, (tt, (record { fits = room₃ .0 }, tt)))) $
-        assigns ! (addr ! (from ! (fld ! refl (hop ! (look-in ! 144 (sub ! 0 refl (whole !))) (stop !))))) (from ! (stop !)) (init ! 38 refl (tt, tt)) $
-        assigns ! (agg ! (and-then ! (load ! (from ! (stop !)) (look ! 38 refl)) (and-then ! (load ! (from ! (fld ! refl (stop !))) (look-in ! 144 (sub ! 1 refl (whole !)))) (no-more !)))) (from ! (stop !)) (init ! 36 refl (tt, (tt, (record { fits = room₄ .0 }, tt)))) $
-        assigns ! (addr ! (from ! (fld ! refl (hop ! (look-in ! 142 (sub ! 0 refl (whole !))) (stop !))))) (from ! (stop !)) (init ! 34 refl (tt, tt)) $
-        assigns ! (agg ! (and-then ! (load ! (from ! (stop !)) (look ! 34 refl)) (and-then ! (load ! (from ! (fld ! refl (stop !))) (look-in ! 142 (sub ! 1 refl (whole !)))) (no-more !)))) (from ! (stop !)) (init ! 32 refl (tt, (tt, (record { fits = room₅ .0 }, tt)))) $
-        assigns ! (addr ! (from ! (fld ! refl (hop ! (look-in ! 140 (sub ! 0 refl (whole !))) (stop !))))) (from ! (stop !)) (init ! 30 refl (tt, tt)) $
-        assigns ! (agg ! (and-then ! (load ! (from ! (stop !)) (look ! 30 refl)) (and-then ! (load ! (from ! (fld ! refl (stop !))) (look-in ! 140 (sub ! 1 refl (whole !)))) (no-more !)))) (from ! (stop !)) (init ! 28 refl (tt, (tt, (record { fits = room₆ .0 }, tt)))) $
-        assigns ! (addr ! (from ! (fld ! refl (hop ! (look-in ! 138 (sub ! 0 refl (whole !))) (stop !))))) (from ! (stop !)) (init ! 26 refl (tt, tt)) $
-        assigns ! (agg ! (and-then ! (load ! (from ! (stop !)) (look ! 26 refl)) (and-then ! (load ! (from ! (fld ! refl (stop !))) (look-in ! 138 (sub ! 1 refl (whole !)))) (no-more !)))) (from ! (stop !)) (init ! 24 refl (tt, (tt, (record { fits = room₇ .0 }, tt)))) $
-        assigns ! (addr ! (from ! (fld ! refl (hop ! (look-in ! 136 (sub ! 0 refl (whole !))) (stop !))))) (from ! (stop !)) (init ! 22 refl (tt, tt)) $
-        assigns ! (agg ! (and-then ! (load ! (from ! (stop !)) (look ! 22 refl)) (and-then ! (load ! (from ! (fld ! refl (stop !))) (look-in ! 136 (sub ! 1 refl (whole !)))) (no-more !)))) (from ! (stop !)) (init ! 20 refl (tt, (tt, (record { fits = room₈ .0 }, tt)))) $
-        knows ! ((resumesFit (start .resumes) (start .frame .«stream_id») (length (sample)) ≡ true) × (start .frame .room ≤ 9223372036854775807)) ((within .0, room-low)) (λ asks-20·no·17.
-        -- 20.no.17: agent::perform::perform
-        lends-mut ! tt (Array u64 8) b₁ o₁ sessions n₁ (len-18-sessions) (λ ν-20·no·17-sessions δ-20·no·17-sessions.
+        assigns ! (addr ! (from ! (fld ! refl (hop ! (look-in ! 138 (sub ! 0 refl (whole !))) (stop !))))) (from ! (stop !)) (init ! 38 refl (tt, tt)) $
+        assigns ! (agg ! (and-then ! (load ! (from ! (stop !)) (look ! 38 refl)) (and-then ! (load ! (from ! (fld ! refl (stop !))) (look-in ! 138 (sub ! 1 refl (whole !)))) (no-more !)))) (from ! (stop !)) (init ! 36 refl (tt, (tt, (record { fits = room₁ .0 }, tt)))) $
+        assigns ! (addr ! (from ! (fld ! refl (hop ! (look-in ! 136 (sub ! 0 refl (whole !))) (stop !))))) (from ! (stop !)) (init ! 34 refl (tt, tt)) $
+        assigns ! (agg ! (and-then ! (load ! (from ! (stop !)) (look ! 34 refl)) (and-then ! (load ! (from ! (fld ! refl (stop !))) (look-in ! 136 (sub ! 1 refl (whole !)))) (no-more !)))) (from ! (stop !)) (init ! 32 refl (tt, (tt, (record { fits = room₂ .0 }, tt)))) $
+        assigns ! (addr ! (from ! (fld ! refl (hop ! (look-in ! 134 (sub ! 0 refl (whole !))) (stop !))))) (from ! (stop !)) (init ! 30 refl (tt, tt)) $
+        assigns ! (agg ! (and-then ! (load ! (from ! (stop !)) (look ! 30 refl)) (and-then ! (load ! (from ! (fld ! refl (stop !))) (look-in ! 134 (sub ! 1 refl (whole !)))) (no-more !)))) (from ! (stop !)) (init ! 28 refl (tt, (tt, (record { fits = room₃ .0 }, tt)))) $
+        assigns ! (addr ! (from ! (fld ! refl (hop ! (look-in ! 132 (sub ! 0 refl (whole !))) (stop !))))) (from ! (stop !)) (init ! 26 refl (tt, tt)) $
+        assigns ! (agg ! (and-then ! (load ! (from ! (stop !)) (look ! 26 refl)) (and-then ! (load ! (from ! (fld ! refl (stop !))) (look-in ! 132 (sub ! 1 refl (whole !)))) (no-more !)))) (from ! (stop !)) (init ! 24 refl (tt, (tt, (record { fits = room₄ .0 }, tt)))) $
+        assigns ! (addr ! (from ! (fld ! refl (hop ! (look-in ! 124 (sub ! 0 refl (whole !))) (stop !))))) (from ! (stop !)) (init ! 22 refl (tt, tt)) $
+        assigns ! (agg ! (and-then ! (load ! (from ! (stop !)) (look ! 22 refl)) (and-then ! (load ! (from ! (fld ! refl (stop !))) (look-in ! 124 (sub ! 1 refl (whole !)))) (no-more !)))) (from ! (stop !)) (init ! 20 refl (tt, (tt, (record { fits = room₈ .0 }, tt)))) $
+        knows ! ((resumesFit (start .resumes) (start .frame .«stream_id») (length (sample)) ≡ true) × (start .frame .room ≤ 9223372036854775807)) ((within .0, room-low)) (λ asks-20·no·11.
+        -- 20.no.11: agent::perform::perform_plain
+        lends-mut ! tt (Array u64 8) b₁ o₁ sessions n₁ (len-18-sessions) (λ ν-20·no·11-sessions δ-20·no·11-sessions.
         move ! (3 ∷ 4 ∷ []) $
-        lends-mut ! tt (Array u16 35) b₂ o₂ streams n₂ (len-18-streams) (λ ν-20·no·17-streams δ-20·no·17-streams.
+        lends-mut ! tt (Array u16 35) b₂ o₂ streams n₂ (len-18-streams) (λ ν-20·no·11-streams δ-20·no·11-streams.
         move ! (6 ∷ 7 ∷ []) $
-        lends-mut ! tt Object-t.the-row b₃ o₃ objects n₃ (len-18-objects) (λ ν-20·no·17-objects δ-20·no·17-objects.
+        lends-mut ! tt Object-t.the-row b₃ o₃ objects n₃ (len-18-objects) (λ ν-20·no·11-objects δ-20·no·11-objects.
         move ! (9 ∷ 10 ∷ []) $
-        lends-mut ! tt u8 b₄ o₄ held n₄ (len-18-held) (λ ν-20·no·17-held δ-20·no·17-held.
-        move ! (12 ∷ 13 ∷ []) $
-        lends-mut ! tt u8 b₅ o₅ parts n₅ (len-18-parts) (λ ν-20·no·17-parts δ-20·no·17-parts.
-        move ! (15 ∷ 16 ∷ []) $
-        lends-mut ! tt u32 b₆ o₆ lengths n₆ (len-18-lengths) (λ ν-20·no·17-lengths δ-20·no·17-lengths.
+        lends-mut ! tt u8 b₄ o₄ held n₄ (len-18-held) (λ ν-20·no·11-held δ-20·no·11-held.
         move ! (18 ∷ 19 ∷ []) $
-        lends-mut ! tt u8 b₇ o₇ rebuilt n₇ (len-18-rebuilt) (λ ν-20·no·17-rebuilt δ-20·no·17-rebuilt.
+        lends-mut ! tt u8 b₈ o₈ out n₈ (refl) (λ ν-20·no·11-out δ-20·no·11-out.
         move ! (21 ∷ 22 ∷ []) $
-        lends-mut ! tt u8 b₈ o₈ out n₈ (refl) (λ ν-20·no·17-out δ-20·no·17-out.
-        move ! (24 ∷ 25 ∷ []) $
-        copies-shr ! u8 b₉ o₉ d n₉ $ move ! (27 ∷ 28 ∷ []) $
-        copies-shr ! u8 b₁₀ o₁₀ sample n₁₀ $ nothing ! $ move ! (1 ∷ 0 ∷ []) $ join ! $ move ! (3 ∷ 0 ∷ []) $ join ! $ move ! (5 ∷ 0 ∷ []) $ join ! $ move ! (7 ∷ 0 ∷ []) $ join ! $ move ! (9 ∷ 0 ∷ []) $ join ! $ move ! (11 ∷ 0 ∷ []) $ join ! $ move ! (13 ∷ 0 ∷ []) $ join ! $ move ! (15 ∷ 0 ∷ []) $ join ! $ move ! (17 ∷ 0 ∷ []) $ join ! $ move ! (19 ∷ 0 ∷ []) $ join ! $
-        use1 W (raw (toks 𝓤 A 10 (((ν-20·no·17-sessions ∷ []), ((ν-20·no·17-streams ∷ []), ((ν-20·no·17-objects ∷ []), ((ν-20·no·17-held ∷ []), ((ν-20·no·17-parts ∷ []), ((ν-20·no·17-lengths ∷ []), ((ν-20·no·17-rebuilt ∷ []), ((ν-20·no·17-out ∷ []), (κ₉, (κ₁₀, tt))))))))))) ((fullShare, (fullShare, (fullShare, (fullShare, (fullShare, (fullShare, (fullShare, (fullShare, (q₉, (q₁₀, tt))))))))))))) (id⊢ 𝓤 _) $ nothing ! $
-        owned ! (Start-p .row) (Is (Start-p .row)) (Start-p .makes 𝓤 H A W) start (Start-p .val start ∷ []) start-is $ fjoin ! $ move ! (2 ∷ 0 ∷ []) $ fjoin ! $ move ! (3 ∷ 0 ∷ []) $ fjoin ! $ move ! (4 ∷ 0 ∷ []) $ fjoin ! $ move ! (5 ∷ 0 ∷ []) $ fjoin ! $ move ! (6 ∷ 0 ∷ []) $ fjoin ! $ move ! (7 ∷ 0 ∷ []) $ fjoin ! $ move ! (8 ∷ 0 ∷ []) $ fjoin ! $ move ! (9 ∷ 0 ∷ []) $ fjoin ! $ move ! (10 ∷ 0 ∷ []) $ fjoin ! $ move ! (11 ∷ 0 ∷ []) $ fjoin ! $ move ! (1 ∷ 0 ∷ []) $
-        calls-any ! fm 10 [] (perform-perform.signature .params) (perform-perform.ended .kept) Ran-p (perform-perform.clauses 𝓤 H A mem run) known-perform-perform ((ν-20·no·17-sessions ∷ []), ((ν-20·no·17-streams ∷ []), ((ν-20·no·17-objects ∷ []), ((ν-20·no·17-held ∷ []), ((ν-20·no·17-parts ∷ []), ((ν-20·no·17-lengths ∷ []), ((ν-20·no·17-rebuilt ∷ []), ((ν-20·no·17-out ∷ []), (κ₉, (κ₁₀, tt)))))))))) (fullShare, (fullShare, (fullShare, (fullShare, (fullShare, (fullShare, (fullShare, (fullShare, (q₉, (q₁₀, tt)))))))))) tt (at-list b₁ o₁ δ-20·no·17-sessions sessions, (at-list b₂ o₂ δ-20·no·17-streams streams, (at-list b₃ o₃ δ-20·no·17-objects objects, (at-list b₄ o₄ δ-20·no·17-held held, (at-list b₅ o₅ δ-20·no·17-parts parts, (at-list b₆ o₆ δ-20·no·17-lengths lengths, (at-list b₇ o₇ δ-20·no·17-rebuilt rebuilt, (at-list b₈ o₈ δ-20·no·17-out out, (at-list b₉ o₉ γ₉ d, (at-list b₁₀ o₁₀ γ₁₀ sample, (start, tt))))))))))) (sliceVal (b₁, o₁) n₁ ∷ [], (sliceVal (b₂, o₂) n₂ ∷ [], (sliceVal (b₃, o₃) n₃ ∷ [], (sliceVal (b₄, o₄) n₄ ∷ [], (sliceVal (b₅, o₅) n₅ ∷ [], (sliceVal (b₆, o₆) n₆ ∷ [], (sliceVal (b₇, o₇) n₇ ∷ [], (sliceVal (b₈, o₈) n₈ ∷ [], (sliceVal (b₉, o₉) n₉ ∷ [], (sliceVal (b₁₀, o₁₀) n₁₀ ∷ [], (Start-p .val start ∷ [], tt))))))))))) tt (performed start (lent (sessions) (streams) (objects) (held) (parts) (lengths) (rebuilt)) (d) (sample) .ran) (λ ws-20·no·17. (ws-20·no·17 .0 ≡ performed start (lent (sessions) (streams) (objects) (held) (parts) (lengths) (rebuilt)) (d) (sample) .tables .sessions) × (ws-20·no·17 .1 .0 ≡ performed start (lent (sessions) (streams) (objects) (held) (parts) (lengths) (rebuilt)) (d) (sample) .tables .streams) × (ws-20·no·17 .1 .1 .0 ≡ performed start (lent (sessions) (streams) (objects) (held) (parts) (lengths) (rebuilt)) (d) (sample) .tables .objects) × (ws-20·no·17 .1 .1 .1 .0 ≡ performed start (lent (sessions) (streams) (objects) (held) (parts) (lengths) (rebuilt)) (d) (sample) .tables .held) × (ws-20·no·17 .1 .1 .1 .1 .0 ≡ performed start (lent (sessions) (streams) (objects) (held) (parts) (lengths) (rebuilt)) (d) (sample) .tables .parts) × (ws-20·no·17 .1 .1 .1 .1 .1 .0 ≡ performed start (lent (sessions) (streams) (objects) (held) (parts) (lengths) (rebuilt)) (d) (sample) .tables .lengths) × (ws-20·no·17 .1 .1 .1 .1 .1 .1 .0 ≡ performed start (lent (sessions) (streams) (objects) (held) (parts) (lengths) (rebuilt)) (d) (sample) .tables .rebuilt) × (ws-20·no·17 .1 .1 .1 .1 .1 .1 .1 .0 ≡ putReplies (start .frame .room) (out) 0 (performed start (lent (sessions) (streams) (objects) (held) (parts) (lengths) (rebuilt)) (d) (sample) .replies))) (factI 𝓤 ((resumesFit (start .resumes) (start .frame .«stream_id») (length (sample)) ≡ true) × (start .frame .room ≤ 9223372036854775807)) _ asks-20·no·17) (λ r ws-20·no·17. fact-mono 𝓤 ((r ≡ performed start (lent (sessions) (streams) (objects) (held) (parts) (lengths) (rebuilt)) (d) (sample) .ran) × ((ws-20·no·17 .0) ≡ performed start (lent (sessions) (streams) (objects) (held) (parts) (lengths) (rebuilt)) (d) (sample) .tables .sessions) × ((ws-20·no·17 .1 .0) ≡ performed start (lent (sessions) (streams) (objects) (held) (parts) (lengths) (rebuilt)) (d) (sample) .tables .streams) × ((ws-20·no·17 .1 .1 .0) ≡ performed start (lent (sessions) (streams) (objects) (held) (parts) (lengths) (rebuilt)) (d) (sample) .tables .objects) × ((ws-20·no·17 .1 .1 .1 .0) ≡ performed start (lent (sessions) (streams) (objects) (held) (parts) (lengths) (rebuilt)) (d) (sample) .tables .held) × ((ws-20·no·17 .1 .1 .1 .1 .0) ≡ performed start (lent (sessions) (streams) (objects) (held) (parts) (lengths) (rebuilt)) (d) (sample) .tables .parts) × ((ws-20·no·17 .1 .1 .1 .1 .1 .0) ≡ performed start (lent (sessions) (streams) (objects) (held) (parts) (lengths) (rebuilt)) (d) (sample) .tables .lengths) × ((ws-20·no·17 .1 .1 .1 .1 .1 .1 .0) ≡ performed start (lent (sessions) (streams) (objects) (held) (parts) (lengths) (rebuilt)) (d) (sample) .tables .rebuilt) × ((ws-20·no·17 .1 .1 .1 .1 .1 .1 .1 .0) ≡ putReplies (start .frame .room) (out) 0 (performed start (lent (sessions) (streams) (objects) (held) (parts) (lengths) (rebuilt)) (d) (sample) .replies))) ((r ≡ (performed start (lent (sessions) (streams) (objects) (held) (parts) (lengths) (rebuilt)) (d) (sample) .ran)) × ((ws-20·no·17 .0 ≡ performed start (lent (sessions) (streams) (objects) (held) (parts) (lengths) (rebuilt)) (d) (sample) .tables .sessions) × (ws-20·no·17 .1 .0 ≡ performed start (lent (sessions) (streams) (objects) (held) (parts) (lengths) (rebuilt)) (d) (sample) .tables .streams) × (ws-20·no·17 .1 .1 .0 ≡ performed start (lent (sessions) (streams) (objects) (held) (parts) (lengths) (rebuilt)) (d) (sample) .tables .objects) × (ws-20·no·17 .1 .1 .1 .0 ≡ performed start (lent (sessions) (streams) (objects) (held) (parts) (lengths) (rebuilt)) (d) (sample) .tables .held) × (ws-20·no·17 .1 .1 .1 .1 .0 ≡ performed start (lent (sessions) (streams) (objects) (held) (parts) (lengths) (rebuilt)) (d) (sample) .tables .parts) × (ws-20·no·17 .1 .1 .1 .1 .1 .0 ≡ performed start (lent (sessions) (streams) (objects) (held) (parts) (lengths) (rebuilt)) (d) (sample) .tables .lengths) × (ws-20·no·17 .1 .1 .1 .1 .1 .1 .0 ≡ performed start (lent (sessions) (streams) (objects) (held) (parts) (lengths) (rebuilt)) (d) (sample) .tables .rebuilt) × (ws-20·no·17 .1 .1 .1 .1 .1 .1 .1 .0 ≡ putReplies (start .frame .room) (out) 0 (performed start (lent (sessions) (streams) (objects) (held) (parts) (lengths) (rebuilt)) (d) (sample) .replies)))) (λ e. (e .0, (e .1, e .2, e .3, e .4, e .5, e .6, e .7, e .8)))) (λ _. (and-then ! (load ! (from ! (stop !)) (look ! 39 refl)) (and-then ! (load ! (from ! (stop !)) (look ! 35 refl)) (and-then ! (load ! (from ! (stop !)) (look ! 31 refl)) (and-then ! (load ! (from ! (stop !)) (look ! 27 refl)) (and-then ! (load ! (from ! (stop !)) (look ! 23 refl)) (and-then ! (load ! (from ! (stop !)) (look ! 19 refl)) (and-then ! (load ! (from ! (stop !)) (look ! 15 refl)) (and-then ! (load ! (from ! (stop !)) (look ! 11 refl)) (and-then ! (load ! (from ! (stop !)) (look ! 125 refl)) (and-then ! (load ! (from ! (stop !)) (look ! 123 refl)) (and-then ! (load ! (from ! (stop !)) (look ! 119 refl)) (no-more !))))))))))))) (λ ws-20·no·17 said-20·no·17 is-20·no·17.
-        use1 W ((‵ (flft (ν-20·no·17-sessions ∷ []) fullShare) ⊛ (‵ (flft (ν-20·no·17-streams ∷ []) fullShare) ⊛ (‵ (flft (ν-20·no·17-objects ∷ []) fullShare) ⊛ (‵ (flft (ν-20·no·17-held ∷ []) fullShare) ⊛ (‵ (flft (ν-20·no·17-parts ∷ []) fullShare) ⊛ (‵ (flft (ν-20·no·17-lengths ∷ []) fullShare) ⊛ (‵ (flft (ν-20·no·17-rebuilt ∷ []) fullShare) ⊛ (‵ (flft (ν-20·no·17-out ∷ []) fullShare) ⊛ (‵ (flft κ₉ q₉) ⊛ (‵ (flft κ₁₀ q₁₀) ⊛ ‵ ftrue))))))))))) (id⊢ 𝓤 _) $ split ! $ move ! (1 ∷ []) $ split ! $ move ! (1 ∷ []) $ split ! $ move ! (1 ∷ []) $ split ! $ move ! (1 ∷ []) $ split ! $ move ! (1 ∷ []) $ split ! $ move ! (1 ∷ []) $ split ! $ move ! (1 ∷ []) $ split ! $ move ! (1 ∷ []) $ split ! $ move ! (1 ∷ []) $ split ! $ move ! (11 ∷ []) $ fsplit ! $ fsplit ! $ move ! (1 ∷ []) $
-        feqL ! (λ wlen-20·no·17-0.
+        copies-shr ! u8 b₉ o₉ d n₉ $ move ! (24 ∷ 25 ∷ []) $
+        copies-shr ! u8 b₁₀ o₁₀ sample n₁₀ $ nothing ! $ move ! (1 ∷ 0 ∷ []) $ join ! $ move ! (3 ∷ 0 ∷ []) $ join ! $ move ! (5 ∷ 0 ∷ []) $ join ! $ move ! (7 ∷ 0 ∷ []) $ join ! $ move ! (9 ∷ 0 ∷ []) $ join ! $ move ! (11 ∷ 0 ∷ []) $ join ! $ move ! (13 ∷ 0 ∷ []) $ join ! $
+        use1 W (raw (toks 𝓤 A 7 (((ν-20·no·11-sessions ∷ []), ((ν-20·no·11-streams ∷ []), ((ν-20·no·11-objects ∷ []), ((ν-20·no·11-held ∷ []), ((ν-20·no·11-out ∷ []), (κ₉, (κ₁₀, tt)))))))) ((fullShare, (fullShare, (fullShare, (fullShare, (fullShare, (q₉, (q₁₀, tt)))))))))) (id⊢ 𝓤 _) $ nothing ! $
+        owned ! (Start-p .row) (Is (Start-p .row)) (Start-p .makes 𝓤 H A W) start (Start-p .val start ∷ []) start-is $ fjoin ! $ move ! (2 ∷ 0 ∷ []) $ fjoin ! $ move ! (3 ∷ 0 ∷ []) $ fjoin ! $ move ! (4 ∷ 0 ∷ []) $ fjoin ! $ move ! (5 ∷ 0 ∷ []) $ fjoin ! $ move ! (6 ∷ 0 ∷ []) $ fjoin ! $ move ! (7 ∷ 0 ∷ []) $ fjoin ! $ move ! (8 ∷ 0 ∷ []) $ fjoin ! $ move ! (1 ∷ 0 ∷ []) $
+        calls-any ! fm 7 [] (perform-perform-plain.signature .params) (perform-perform-plain.ended .kept) Ran-p (perform-perform-plain.clauses 𝓤 H A mem run) known-perform-perform-plain ((ν-20·no·11-sessions ∷ []), ((ν-20·no·11-streams ∷ []), ((ν-20·no·11-objects ∷ []), ((ν-20·no·11-held ∷ []), ((ν-20·no·11-out ∷ []), (κ₉, (κ₁₀, tt))))))) (fullShare, (fullShare, (fullShare, (fullShare, (fullShare, (q₉, (q₁₀, tt))))))) tt (at-list b₁ o₁ δ-20·no·11-sessions sessions, (at-list b₂ o₂ δ-20·no·11-streams streams, (at-list b₃ o₃ δ-20·no·11-objects objects, (at-list b₄ o₄ δ-20·no·11-held held, (at-list b₈ o₈ δ-20·no·11-out out, (at-list b₉ o₉ γ₉ d, (at-list b₁₀ o₁₀ γ₁₀ sample, (start, tt)))))))) (sliceVal (b₁, o₁) n₁ ∷ [], (sliceVal (b₂, o₂) n₂ ∷ [], (sliceVal (b₃, o₃) n₃ ∷ [], (sliceVal (b₄, o₄) n₄ ∷ [], (sliceVal (b₈, o₈) n₈ ∷ [], (sliceVal (b₉, o₉) n₉ ∷ [], (sliceVal (b₁₀, o₁₀) n₁₀ ∷ [], (Start-p .val start ∷ [], tt)))))))) tt (plainly start (rows (sessions) (streams) (objects)) (held) (d) (sample) .leg .ran) (λ ws-20·no·11. (ws-20·no·11 .0 ≡ plainly start (rows (sessions) (streams) (objects)) (held) (d) (sample) .rows .sessions) × (ws-20·no·11 .1 .0 ≡ plainly start (rows (sessions) (streams) (objects)) (held) (d) (sample) .rows .streams) × (ws-20·no·11 .1 .1 .0 ≡ plainly start (rows (sessions) (streams) (objects)) (held) (d) (sample) .rows .objects) × (ws-20·no·11 .1 .1 .1 .0 ≡ heldBegun start (rows (sessions) (streams) (objects)) (held) (sample)) × (ws-20·no·11 .1 .1 .1 .1 .0 ≡ putReplies (start .frame .room) (out) 0 (plainly start (rows (sessions) (streams) (objects)) (held) (d) (sample) .replies))) (factI 𝓤 ((resumesFit (start .resumes) (start .frame .«stream_id») (length (sample)) ≡ true) × (start .frame .room ≤ 9223372036854775807)) _ asks-20·no·11) (λ r ws-20·no·11. fact-mono 𝓤 ((r ≡ plainly start (rows (sessions) (streams) (objects)) (held) (d) (sample) .leg .ran) × ((ws-20·no·11 .0) ≡ plainly start (rows (sessions) (streams) (objects)) (held) (d) (sample) .rows .sessions) × ((ws-20·no·11 .1 .0) ≡ plainly start (rows (sessions) (streams) (objects)) (held) (d) (sample) .rows .streams) × ((ws-20·no·11 .1 .1 .0) ≡ plainly start (rows (sessions) (streams) (objects)) (held) (d) (sample) .rows .objects) × ((ws-20·no·11 .1 .1 .1 .0) ≡ heldBegun start (rows (sessions) (streams) (objects)) (held) (sample)) × ((ws-20·no·11 .1 .1 .1 .1 .0) ≡ putReplies (start .frame .room) (out) 0 (plainly start (rows (sessions) (streams) (objects)) (held) (d) (sample) .replies))) ((r ≡ (plainly start (rows (sessions) (streams) (objects)) (held) (d) (sample) .leg .ran)) × ((ws-20·no·11 .0 ≡ plainly start (rows (sessions) (streams) (objects)) (held) (d) (sample) .rows .sessions) × (ws-20·no·11 .1 .0 ≡ plainly start (rows (sessions) (streams) (objects)) (held) (d) (sample) .rows .streams) × (ws-20·no·11 .1 .1 .0 ≡ plainly start (rows (sessions) (streams) (objects)) (held) (d) (sample) .rows .objects) × (ws-20·no·11 .1 .1 .1 .0 ≡ heldBegun start (rows (sessions) (streams) (objects)) (held) (sample)) × (ws-20·no·11 .1 .1 .1 .1 .0 ≡ putReplies (start .frame .room) (out) 0 (plainly start (rows (sessions) (streams) (objects)) (held) (d) (sample) .replies)))) (λ e. (e .0, (e .1, e .2, e .3, e .4, e .5)))) (λ _. (and-then ! (load ! (from ! (stop !)) (look ! 30 refl)) (and-then ! (load ! (from ! (stop !)) (look ! 26 refl)) (and-then ! (load ! (from ! (stop !)) (look ! 22 refl)) (and-then ! (load ! (from ! (stop !)) (look ! 18 refl)) (and-then ! (load ! (from ! (stop !)) (look ! 14 refl)) (and-then ! (load ! (from ! (stop !)) (look ! 116 refl)) (and-then ! (load ! (from ! (stop !)) (look ! 114 refl)) (and-then ! (load ! (from ! (stop !)) (look ! 110 refl)) (no-more !)))))))))) (λ ws-20·no·11 said-20·no·11 is-20·no·11.
+        use1 W ((‵ (flft (ν-20·no·11-sessions ∷ []) fullShare) ⊛ (‵ (flft (ν-20·no·11-streams ∷ []) fullShare) ⊛ (‵ (flft (ν-20·no·11-objects ∷ []) fullShare) ⊛ (‵ (flft (ν-20·no·11-held ∷ []) fullShare) ⊛ (‵ (flft (ν-20·no·11-out ∷ []) fullShare) ⊛ (‵ (flft κ₉ q₉) ⊛ (‵ (flft κ₁₀ q₁₀) ⊛ ‵ ftrue)))))))) (id⊢ 𝓤 _) $ split ! $ move ! (1 ∷ []) $ split ! $ move ! (1 ∷ []) $ split ! $ move ! (1 ∷ []) $ split ! $ move ! (1 ∷ []) $ split ! $ move ! (1 ∷ []) $ split ! $ move ! (1 ∷ []) $ split ! $ move ! (8 ∷ []) $ fsplit ! $ fsplit ! $ move ! (1 ∷ []) $
+        feqL ! (λ wlen-20·no·11-0.
         move ! (1 ∷ []) $ fsplit ! $ fsplit ! $ move ! (1 ∷ []) $
-        feqL ! (λ wlen-20·no·17-1.
+        feqL ! (λ wlen-20·no·11-1.
         move ! (1 ∷ []) $ fsplit ! $ fsplit ! $ move ! (1 ∷ []) $
-        feqL ! (λ wlen-20·no·17-2.
+        feqL ! (λ wlen-20·no·11-2.
         move ! (1 ∷ []) $ fsplit ! $ fsplit ! $ move ! (1 ∷ []) $
-        feqL ! (λ wlen-20·no·17-3.
+        feqL ! (λ wlen-20·no·11-3.
         move ! (1 ∷ []) $ fsplit ! $ fsplit ! $ move ! (1 ∷ []) $
-        feqL ! (λ wlen-20·no·17-4.
-        move ! (1 ∷ []) $ fsplit ! $ fsplit ! $ move ! (1 ∷ []) $
-        feqL ! (λ wlen-20·no·17-5.
-        move ! (1 ∷ []) $ fsplit ! $ fsplit ! $ move ! (1 ∷ []) $
-        feqL ! (λ wlen-20·no·17-6.
-        move ! (1 ∷ []) $ fsplit ! $ fsplit ! $ move ! (1 ∷ []) $
-        feqL ! (λ wlen-20·no·17-7.
-        move ! (1 ∷ []) $ fsplit ! $ move ! (1 ∷ []) $ fsplit ! $ move ! (21 ∷ 31 ∷ 10 ∷ []) $
-        backs-mut ! tt (Array u64 8) b₁ o₁ sessions n₁ (len-18-sessions) room₁ ν-20·no·17-sessions δ-20·no·17-sessions (ws-20·no·17 .0) (performed start (lent (sessions) (streams) (objects) (held) (parts) (lengths) (rebuilt)) (d) (sample) .tables .sessions) wlen-20·no·17-0 (said-20·no·17 .0) (λ len-20·no·17-sessions.
-        move ! (21 ∷ 30 ∷ 11 ∷ []) $
-        backs-mut ! tt (Array u16 35) b₂ o₂ streams n₂ (len-18-streams) room₂ ν-20·no·17-streams δ-20·no·17-streams (ws-20·no·17 .1 .0) (performed start (lent (sessions) (streams) (objects) (held) (parts) (lengths) (rebuilt)) (d) (sample) .tables .streams) wlen-20·no·17-1 (said-20·no·17 .1) (λ len-20·no·17-streams.
-        move ! (21 ∷ 29 ∷ 12 ∷ []) $
-        backs-mut ! tt Object-t.the-row b₃ o₃ objects n₃ (len-18-objects) room₃ ν-20·no·17-objects δ-20·no·17-objects (ws-20·no·17 .1 .1 .0) (performed start (lent (sessions) (streams) (objects) (held) (parts) (lengths) (rebuilt)) (d) (sample) .tables .objects) wlen-20·no·17-2 (said-20·no·17 .2) (λ len-20·no·17-objects.
-        move ! (21 ∷ 28 ∷ 13 ∷ []) $
-        backs-mut ! tt u8 b₄ o₄ held n₄ (len-18-held) room₄ ν-20·no·17-held δ-20·no·17-held (ws-20·no·17 .1 .1 .1 .0) (performed start (lent (sessions) (streams) (objects) (held) (parts) (lengths) (rebuilt)) (d) (sample) .tables .held) wlen-20·no·17-3 (said-20·no·17 .3) (λ len-20·no·17-held.
-        move ! (21 ∷ 27 ∷ 14 ∷ []) $
-        backs-mut ! tt u8 b₅ o₅ parts n₅ (len-18-parts) room₅ ν-20·no·17-parts δ-20·no·17-parts (ws-20·no·17 .1 .1 .1 .1 .0) (performed start (lent (sessions) (streams) (objects) (held) (parts) (lengths) (rebuilt)) (d) (sample) .tables .parts) wlen-20·no·17-4 (said-20·no·17 .4) (λ len-20·no·17-parts.
-        move ! (21 ∷ 26 ∷ 15 ∷ []) $
-        backs-mut ! tt u32 b₆ o₆ lengths n₆ (len-18-lengths) room₆ ν-20·no·17-lengths δ-20·no·17-lengths (ws-20·no·17 .1 .1 .1 .1 .1 .0) (performed start (lent (sessions) (streams) (objects) (held) (parts) (lengths) (rebuilt)) (d) (sample) .tables .lengths) wlen-20·no·17-5 (said-20·no·17 .5) (λ len-20·no·17-lengths.
-        move ! (21 ∷ 25 ∷ 16 ∷ []) $
-        backs-mut ! tt u8 b₇ o₇ rebuilt n₇ (len-18-rebuilt) room₇ ν-20·no·17-rebuilt δ-20·no·17-rebuilt (ws-20·no·17 .1 .1 .1 .1 .1 .1 .0) (performed start (lent (sessions) (streams) (objects) (held) (parts) (lengths) (rebuilt)) (d) (sample) .tables .rebuilt) wlen-20·no·17-6 (said-20·no·17 .6) (λ len-20·no·17-rebuilt.
-        move ! (21 ∷ 24 ∷ 17 ∷ []) $
-        backs-mut ! tt u8 b₈ o₈ out n₈ (refl) room₈ ν-20·no·17-out δ-20·no·17-out (ws-20·no·17 .1 .1 .1 .1 .1 .1 .1 .0) (putReplies (start .frame .room) (out) 0 (performed start (lent (sessions) (streams) (objects) (held) (parts) (lengths) (rebuilt)) (d) (sample) .replies)) wlen-20·no·17-7 (said-20·no·17 .7) (λ len-20·no·17-out.
-        move ! (16 ∷ []) $ drop ! $ move ! (16 ∷ []) $ drop ! $ move ! (16 ∷ []) $ drop ! $ move ! (17 ∷ []) $ drop ! $
-        land ! (from ! (stop !)) (init ! 120 refl (Ran-p .typed 𝓤 H A W (performed start (lent (sessions) (streams) (objects) (held) (parts) (lengths) (rebuilt)) (d) (sample) .ran) is-20·no·17)) $ move ! (14 ∷ 15 ∷ 12 ∷ 13 ∷ 10 ∷ 11 ∷ 8 ∷ 9 ∷ 6 ∷ 7 ∷ 4 ∷ 5 ∷ 2 ∷ 3 ∷ 0 ∷ 1 ∷ 19 ∷ 17 ∷ 18 ∷ 16 ∷ 20 ∷ 21 ∷ 22 ∷ 23 ∷ 24 ∷ 25 ∷ 26 ∷ 27 ∷ 28 ∷ 29 ∷ 30 ∷ 31 ∷ 32 ∷ 33 ∷ 34 ∷ 35 ∷ 36 ∷ 37 ∷ 38 ∷ 39 ∷ 40 ∷ 41 ∷ 42 ∷ 43 ∷ 44 ∷ 45 ∷ 46 ∷ 47 ∷ 48 ∷ 49 ∷ 50 ∷ 51 ∷ 52 ∷ 53 ∷ 54 ∷ 55 ∷ 56 ∷ 57 ∷ 58 ∷ 59 ∷ 60 ∷ 61 ∷ 62 ∷ 63 ∷ 64 ∷ 65 ∷ 66 ∷ 67 ∷ 68 ∷ 69 ∷ 70 ∷ 71 ∷ 72 ∷ 73 ∷ 74 ∷ 75 ∷ 76 ∷ 77 ∷ 78 ∷ 79 ∷ 80 ∷ 81 ∷ 82 ∷ 83 ∷ 84 ∷ 85 ∷ 86 ∷ 87 ∷ 88 ∷ 89 ∷ 90 ∷ 91 ∷ 92 ∷ 93 ∷ 94 ∷ 95 ∷ 96 ∷ 97 ∷ 98 ∷ 99 ∷ 100 ∷ 101 ∷ 102 ∷ 103 ∷ 104 ∷ 105 ∷ 106 ∷ 107 ∷ 108 ∷ 109 ∷ 110 ∷ 111 ∷ 112 ∷ 113 ∷ 114 ∷ 115 ∷ 116 ∷ 117 ∷ 118 ∷ 119 ∷ 120 ∷ 121 ∷ 122 ∷ 123 ∷ 124 ∷ 125 ∷ 126 ∷ 127 ∷ 128 ∷ 129 ∷ 130 ∷ 131 ∷ 132 ∷ 133 ∷ 134 ∷ 135 ∷ 136 ∷ 137 ∷ 138 ∷ 139 ∷ 140 ∷ 141 ∷ 142 ∷ 143 ∷ 144 ∷ 145 ∷ 146 ∷ 147 ∷ 148 ∷ 149 ∷ 150 ∷ 151 ∷ 152 ∷ 153 ∷ []) $
-        part-20·no·18-3 is-1 c-2 asks-18 len-18-sessions len-18-streams len-18-objects len-18-held len-18-parts len-18-lengths len-18-rebuilt is-18 c-20 asks-20·no·17 len-20·no·17-sessions len-20·no·17-streams len-20·no·17-objects len-20·no·17-held len-20·no·17-parts len-20·no·17-lengths len-20·no·17-rebuilt len-20·no·17-out is-20·no·17))))))))))))))))))))))))))))
+        feqL ! (λ wlen-20·no·11-4.
+        move ! (1 ∷ []) $ fsplit ! $ move ! (1 ∷ []) $ fsplit ! $ move ! (15 ∷ 22 ∷ 7 ∷ []) $
+        backs-mut ! tt (Array u64 8) b₁ o₁ sessions n₁ (len-18-sessions) room₁ ν-20·no·11-sessions δ-20·no·11-sessions (ws-20·no·11 .0) (plainly start (rows (sessions) (streams) (objects)) (held) (d) (sample) .rows .sessions) wlen-20·no·11-0 (said-20·no·11 .0) (λ len-20·no·11-sessions.
+        move ! (15 ∷ 21 ∷ 8 ∷ []) $
+        backs-mut ! tt (Array u16 35) b₂ o₂ streams n₂ (len-18-streams) room₂ ν-20·no·11-streams δ-20·no·11-streams (ws-20·no·11 .1 .0) (plainly start (rows (sessions) (streams) (objects)) (held) (d) (sample) .rows .streams) wlen-20·no·11-1 (said-20·no·11 .1) (λ len-20·no·11-streams.
+        move ! (15 ∷ 20 ∷ 9 ∷ []) $
+        backs-mut ! tt Object-t.the-row b₃ o₃ objects n₃ (len-18-objects) room₃ ν-20·no·11-objects δ-20·no·11-objects (ws-20·no·11 .1 .1 .0) (plainly start (rows (sessions) (streams) (objects)) (held) (d) (sample) .rows .objects) wlen-20·no·11-2 (said-20·no·11 .2) (λ len-20·no·11-objects.
+        move ! (15 ∷ 19 ∷ 10 ∷ []) $
+        backs-mut ! tt u8 b₄ o₄ held n₄ (len-18-held) room₄ ν-20·no·11-held δ-20·no·11-held (ws-20·no·11 .1 .1 .1 .0) (heldBegun start (rows (sessions) (streams) (objects)) (held) (sample)) wlen-20·no·11-3 (said-20·no·11 .3) (λ len-20·no·11-held.
+        move ! (15 ∷ 18 ∷ 11 ∷ []) $
+        backs-mut ! tt u8 b₈ o₈ out n₈ (refl) room₈ ν-20·no·11-out δ-20·no·11-out (ws-20·no·11 .1 .1 .1 .1 .0) (putReplies (start .frame .room) (out) 0 (plainly start (rows (sessions) (streams) (objects)) (held) (d) (sample) .replies)) wlen-20·no·11-4 (said-20·no·11 .4) (λ len-20·no·11-out.
+        move ! (10 ∷ []) $ drop ! $ move ! (10 ∷ []) $ drop ! $ move ! (10 ∷ []) $ drop ! $ move ! (11 ∷ []) $ drop ! $
+        land ! (from ! (stop !)) (init ! 108 refl (Ran-p .typed 𝓤 H A W (plainly start (rows (sessions) (streams) (objects)) (held) (d) (sample) .leg .ran) is-20·no·11)) $ move ! (8 ∷ 9 ∷ 6 ∷ 7 ∷ 4 ∷ 5 ∷ 2 ∷ 3 ∷ 14 ∷ 15 ∷ 16 ∷ 17 ∷ 18 ∷ 19 ∷ 0 ∷ 1 ∷ 13 ∷ 11 ∷ 12 ∷ 10 ∷ 20 ∷ 21 ∷ 22 ∷ 23 ∷ 24 ∷ 25 ∷ 26 ∷ 27 ∷ 28 ∷ 29 ∷ 30 ∷ 31 ∷ 32 ∷ 33 ∷ 34 ∷ 35 ∷ 36 ∷ 37 ∷ 38 ∷ 39 ∷ 40 ∷ 41 ∷ 42 ∷ 43 ∷ 44 ∷ 45 ∷ 46 ∷ 47 ∷ 48 ∷ 49 ∷ 50 ∷ 51 ∷ 52 ∷ 53 ∷ 54 ∷ 55 ∷ 56 ∷ 57 ∷ 58 ∷ 59 ∷ 60 ∷ 61 ∷ 62 ∷ 63 ∷ 64 ∷ 65 ∷ 66 ∷ 67 ∷ 68 ∷ 69 ∷ 70 ∷ 71 ∷ 72 ∷ 73 ∷ 74 ∷ 75 ∷ 76 ∷ 77 ∷ 78 ∷ 79 ∷ 80 ∷ 81 ∷ 82 ∷ 83 ∷ 84 ∷ 85 ∷ 86 ∷ 87 ∷ 88 ∷ 89 ∷ 90 ∷ 91 ∷ 92 ∷ 93 ∷ 94 ∷ 95 ∷ 96 ∷ 97 ∷ 98 ∷ 99 ∷ 100 ∷ 101 ∷ 102 ∷ 103 ∷ 104 ∷ 105 ∷ 106 ∷ 107 ∷ 108 ∷ 109 ∷ 110 ∷ 111 ∷ 112 ∷ 113 ∷ 114 ∷ 115 ∷ 116 ∷ 117 ∷ 118 ∷ 119 ∷ 120 ∷ 121 ∷ 122 ∷ 123 ∷ 124 ∷ 125 ∷ 126 ∷ 127 ∷ 128 ∷ 129 ∷ 130 ∷ 131 ∷ 132 ∷ 133 ∷ 134 ∷ 135 ∷ 136 ∷ 137 ∷ 138 ∷ 139 ∷ 140 ∷ 141 ∷ []) $
+        part-20·no·12-3 is-1 c-2 asks-18 len-18-sessions len-18-streams len-18-objects len-18-held len-18-parts len-18-lengths len-18-rebuilt is-18 c-20 asks-20·no·11 len-20·no·11-sessions len-20·no·11-streams len-20·no·11-objects len-20·no·11-held len-20·no·11-out is-20·no·11)))))))))))))))))))
 
-    part-2-0 : (is-1 : Is (bool-p .row) (unbound start (d)) (bool-p .val (unbound start (d)) ∷ [])) → Sq W (‵ (MutSlice (named 0) κ₁ (Array u64 8) .own (at-list b₁ o₁ γ₁ sessions) (sliceVal (b₁, o₁) n₁ ∷ [])) ∷ ‵ (flft κ₁ q₁) ∷ ‵ (MutSlice (named 0) κ₂ (Array u16 35) .own (at-list b₂ o₂ γ₂ streams) (sliceVal (b₂, o₂) n₂ ∷ [])) ∷ ‵ (flft κ₂ q₂) ∷ ‵ (MutSlice (named 0) κ₃ Object-t.the-row .own (at-list b₃ o₃ γ₃ objects) (sliceVal (b₃, o₃) n₃ ∷ [])) ∷ ‵ (flft κ₃ q₃) ∷ ‵ (MutSlice (named 0) κ₄ u8 .own (at-list b₄ o₄ γ₄ held) (sliceVal (b₄, o₄) n₄ ∷ [])) ∷ ‵ (flft κ₄ q₄) ∷ ‵ (MutSlice (named 0) κ₅ u8 .own (at-list b₅ o₅ γ₅ parts) (sliceVal (b₅, o₅) n₅ ∷ [])) ∷ ‵ (flft κ₅ q₅) ∷ ‵ (MutSlice (named 0) κ₆ u32 .own (at-list b₆ o₆ γ₆ lengths) (sliceVal (b₆, o₆) n₆ ∷ [])) ∷ ‵ (flft κ₆ q₆) ∷ ‵ (MutSlice (named 0) κ₇ u8 .own (at-list b₇ o₇ γ₇ rebuilt) (sliceVal (b₇, o₇) n₇ ∷ [])) ∷ ‵ (flft κ₇ q₇) ∷ ‵ (MutSlice (named 0) κ₈ u8 .own (at-list b₈ o₈ γ₈ out) (sliceVal (b₈, o₈) n₈ ∷ [])) ∷ ‵ (flft κ₈ q₈) ∷ ‵ (ShrSlice (named 0) κ₉ u8 .own (at-list b₉ o₉ γ₉ d) (sliceVal (b₉, o₉) n₉ ∷ [])) ∷ ‵ (flft κ₉ q₉) ∷ ‵ (ShrSlice (named 0) κ₁₀ u8 .own (at-list b₁₀ o₁₀ γ₁₀ sample) (sliceVal (b₁₀, o₁₀) n₁₀ ∷ [])) ∷ ‵ (flft κ₁₀ q₁₀) ∷ free 𝓤 (sliceTy (tyRef erased mut (pointee (u8 .written)))) l₆₆ (free 𝓤 (tyRef erased mut (pointee (u8 .written))) l₆₅ (free 𝓤 (sliceTy (tyRef erased mut (pointee (u8 .written)))) l₆₄ (free 𝓤 (tyRef erased mut (pointee (u8 .written))) l₆₃ (free 𝓤 (sliceTy (tyRef erased mut (pointee (u32 .written)))) l₆₂ (free 𝓤 (tyRef erased mut (pointee (u32 .written))) l₆₁ (free 𝓤 (sliceTy (tyRef erased mut (pointee (u8 .written)))) l₆₀ (free 𝓤 (tyRef erased mut (pointee (u8 .written))) l₅₉ (free 𝓤 (sliceTy (tyRef erased mut (pointee (u8 .written)))) l₅₈ (free 𝓤 (tyRef erased mut (pointee (u8 .written))) l₅₇ (free 𝓤 (sliceTy (tyRef erased mut (pointee (Object-t.the-row .written)))) l₅₆ (free 𝓤 (tyRef erased mut (pointee (Object-t.the-row .written))) l₅₅ (free 𝓤 (sliceTy (tyRef erased mut (pointee ((Array u16 35) .written)))) l₅₄ (free 𝓤 (tyRef erased mut (pointee ((Array u16 35) .written))) l₅₃ (free 𝓤 (sliceTy (tyRef erased mut (pointee ((Array u64 8) .written)))) l₅₂ (free 𝓤 (tyRef erased mut (pointee ((Array u64 8) .written))) l₅₁ (free 𝓤 Refusal-l.mir l₅₀ (free 𝓤 Processed-l.mir l₄₉ (free 𝓤 tyBool l₄₈ (free 𝓤 (sliceTy (tyRef erased mut (pointee (u8 .written)))) l₄₇ (free 𝓤 (tyRef erased mut (pointee (u8 .written))) l₄₆ (free 𝓤 (sliceTy (tyRef erased mut (pointee (u32 .written)))) l₄₅ (free 𝓤 (tyRef erased mut (pointee (u32 .written))) l₄₄ (free 𝓤 (sliceTy (tyRef erased mut (pointee (u8 .written)))) l₄₃ (free 𝓤 (tyRef erased mut (pointee (u8 .written))) l₄₂ (free 𝓤 (sliceTy (tyRef erased mut (pointee (u8 .written)))) l₄₁ (free 𝓤 (tyRef erased mut (pointee (u8 .written))) l₄₀ (free 𝓤 (sliceTy (tyRef erased mut (pointee (Object-t.the-row .written)))) l₃₉ (free 𝓤 (tyRef erased mut (pointee (Object-t.the-row .written))) l₃₈ (free 𝓤 (sliceTy (tyRef erased mut (pointee ((Array u16 35) .written)))) l₃₇ (free 𝓤 (tyRef erased mut (pointee ((Array u16 35) .written))) l₃₆ (free 𝓤 (sliceTy (tyRef erased mut (pointee ((Array u64 8) .written)))) l₃₅ (free 𝓤 (tyRef erased mut (pointee ((Array u64 8) .written))) l₃₄ (free 𝓤 (sliceTy (tyRef erased mut (pointee (u8 .written)))) l₃₃ (free 𝓤 (tyRef erased mut (pointee (u8 .written))) l₃₂ (free 𝓤 (sliceTy (tyRef erased mut (pointee (u8 .written)))) l₃₁ (free 𝓤 (tyRef erased mut (pointee (u8 .written))) l₃₀ (free 𝓤 (sliceTy (tyRef erased mut (pointee (u32 .written)))) l₂₉ (free 𝓤 (tyRef erased mut (pointee (u32 .written))) l₂₈ (free 𝓤 (sliceTy (tyRef erased mut (pointee (u8 .written)))) l₂₇ (free 𝓤 (tyRef erased mut (pointee (u8 .written))) l₂₆ (free 𝓤 (sliceTy (tyRef erased mut (pointee (u8 .written)))) l₂₅ (free 𝓤 (tyRef erased mut (pointee (u8 .written))) l₂₄ (free 𝓤 (sliceTy (tyRef erased mut (pointee (Object-t.the-row .written)))) l₂₃ (free 𝓤 (tyRef erased mut (pointee (Object-t.the-row .written))) l₂₂ (free 𝓤 (sliceTy (tyRef erased mut (pointee ((Array u16 35) .written)))) l₂₁ (free 𝓤 (tyRef erased mut (pointee ((Array u16 35) .written))) l₂₀ (free 𝓤 (sliceTy (tyRef erased mut (pointee ((Array u64 8) .written)))) l₁₉ (free 𝓤 (tyRef erased mut (pointee ((Array u64 8) .written))) l₁₈ (full 𝓤 tyBool l₁₇ (bool-p .val (unbound start (d))) (free 𝓤 Ran-l.mir l₁₆ (free 𝓤 (tyInt w64) l₁₅ (free 𝓤 (tyInt w64) l₁₄ (full 𝓤 (tyInt w64) l₁₃ (u64-p .val n′) (full 𝓤 Start-l.mir l₁₂ (Start-p .val start) (full 𝓤 Agent-l.mir l₁₁ (Agent-p .val agent) (full 𝓤 (sliceTy (tyRef (named 9) imm (pointee (u8 .written)))) l₁₀ (sliceVal (b₁₀, o₁₀) n₁₀) (full 𝓤 (sliceTy (tyRef (named 8) imm (pointee (u8 .written)))) l₉ (sliceVal (b₉, o₉) n₉) (full 𝓤 (sliceTy (tyRef (named 7) mut (pointee (u8 .written)))) l₈ (sliceVal (b₈, o₈) n₈) (full 𝓤 (sliceTy (tyRef (named 6) mut (pointee (u8 .written)))) l₇ (sliceVal (b₇, o₇) n₇) (full 𝓤 (sliceTy (tyRef (named 5) mut (pointee (u32 .written)))) l₆ (sliceVal (b₆, o₆) n₆) (full 𝓤 (sliceTy (tyRef (named 4) mut (pointee (u8 .written)))) l₅ (sliceVal (b₅, o₅) n₅) (full 𝓤 (sliceTy (tyRef (named 3) mut (pointee (u8 .written)))) l₄ (sliceVal (b₄, o₄) n₄) (full 𝓤 (sliceTy (tyRef (named 2) mut (pointee (Object-t.the-row .written)))) l₃ (sliceVal (b₃, o₃) n₃) (full 𝓤 (sliceTy (tyRef (named 1) mut (pointee ((Array u16 35) .written)))) l₂ (sliceVal (b₂, o₂) n₂) (full 𝓤 (sliceTy (tyRef (named 0) mut (pointee ((Array u64 8) .written)))) l₁ (sliceVal (b₁, o₁) n₁) (free 𝓤 Processed-l.mir l₀ ([])))))))))))))))))))))))))))))))))))))))))))))))))))))))))))))))))))) (runs C Λ En mir.t-2 (atRet En Post))
+    part-2-0 : (is-1 : Is (bool-p .row) (unbound start (d)) (bool-p .val (unbound start (d)) ∷ [])) → Sq W (‵ (MutSlice (named 0) κ₁ (Array u64 8) .own (at-list b₁ o₁ γ₁ sessions) (sliceVal (b₁, o₁) n₁ ∷ [])) ∷ ‵ (flft κ₁ q₁) ∷ ‵ (MutSlice (named 0) κ₂ (Array u16 35) .own (at-list b₂ o₂ γ₂ streams) (sliceVal (b₂, o₂) n₂ ∷ [])) ∷ ‵ (flft κ₂ q₂) ∷ ‵ (MutSlice (named 0) κ₃ Object-t.the-row .own (at-list b₃ o₃ γ₃ objects) (sliceVal (b₃, o₃) n₃ ∷ [])) ∷ ‵ (flft κ₃ q₃) ∷ ‵ (MutSlice (named 0) κ₄ u8 .own (at-list b₄ o₄ γ₄ held) (sliceVal (b₄, o₄) n₄ ∷ [])) ∷ ‵ (flft κ₄ q₄) ∷ ‵ (MutSlice (named 0) κ₅ u8 .own (at-list b₅ o₅ γ₅ parts) (sliceVal (b₅, o₅) n₅ ∷ [])) ∷ ‵ (flft κ₅ q₅) ∷ ‵ (MutSlice (named 0) κ₆ u32 .own (at-list b₆ o₆ γ₆ lengths) (sliceVal (b₆, o₆) n₆ ∷ [])) ∷ ‵ (flft κ₆ q₆) ∷ ‵ (MutSlice (named 0) κ₇ u8 .own (at-list b₇ o₇ γ₇ rebuilt) (sliceVal (b₇, o₇) n₇ ∷ [])) ∷ ‵ (flft κ₇ q₇) ∷ ‵ (MutSlice (named 0) κ₈ u8 .own (at-list b₈ o₈ γ₈ out) (sliceVal (b₈, o₈) n₈ ∷ [])) ∷ ‵ (flft κ₈ q₈) ∷ ‵ (ShrSlice (named 0) κ₉ u8 .own (at-list b₉ o₉ γ₉ d) (sliceVal (b₉, o₉) n₉ ∷ [])) ∷ ‵ (flft κ₉ q₉) ∷ ‵ (ShrSlice (named 0) κ₁₀ u8 .own (at-list b₁₀ o₁₀ γ₁₀ sample) (sliceVal (b₁₀, o₁₀) n₁₀ ∷ [])) ∷ ‵ (flft κ₁₀ q₁₀) ∷ free 𝓤 (sliceTy (tyRef erased mut (pointee (u8 .written)))) l₆₀ (free 𝓤 (tyRef erased mut (pointee (u8 .written))) l₅₉ (free 𝓤 (sliceTy (tyRef erased mut (pointee (u8 .written)))) l₅₈ (free 𝓤 (tyRef erased mut (pointee (u8 .written))) l₅₇ (free 𝓤 (sliceTy (tyRef erased mut (pointee (Object-t.the-row .written)))) l₅₆ (free 𝓤 (tyRef erased mut (pointee (Object-t.the-row .written))) l₅₅ (free 𝓤 (sliceTy (tyRef erased mut (pointee ((Array u16 35) .written)))) l₅₄ (free 𝓤 (tyRef erased mut (pointee ((Array u16 35) .written))) l₅₃ (free 𝓤 (sliceTy (tyRef erased mut (pointee ((Array u64 8) .written)))) l₅₂ (free 𝓤 (tyRef erased mut (pointee ((Array u64 8) .written))) l₅₁ (free 𝓤 Refusal-l.mir l₅₀ (free 𝓤 Processed-l.mir l₄₉ (free 𝓤 tyBool l₄₈ (free 𝓤 (sliceTy (tyRef erased mut (pointee (u8 .written)))) l₄₇ (free 𝓤 (tyRef erased mut (pointee (u8 .written))) l₄₆ (free 𝓤 (sliceTy (tyRef erased mut (pointee (u32 .written)))) l₄₅ (free 𝓤 (tyRef erased mut (pointee (u32 .written))) l₄₄ (free 𝓤 (sliceTy (tyRef erased mut (pointee (u8 .written)))) l₄₃ (free 𝓤 (tyRef erased mut (pointee (u8 .written))) l₄₂ (free 𝓤 (sliceTy (tyRef erased mut (pointee (u8 .written)))) l₄₁ (free 𝓤 (tyRef erased mut (pointee (u8 .written))) l₄₀ (free 𝓤 (sliceTy (tyRef erased mut (pointee (Object-t.the-row .written)))) l₃₉ (free 𝓤 (tyRef erased mut (pointee (Object-t.the-row .written))) l₃₈ (free 𝓤 (sliceTy (tyRef erased mut (pointee ((Array u16 35) .written)))) l₃₇ (free 𝓤 (tyRef erased mut (pointee ((Array u16 35) .written))) l₃₆ (free 𝓤 (sliceTy (tyRef erased mut (pointee ((Array u64 8) .written)))) l₃₅ (free 𝓤 (tyRef erased mut (pointee ((Array u64 8) .written))) l₃₄ (free 𝓤 (sliceTy (tyRef erased mut (pointee (u8 .written)))) l₃₃ (free 𝓤 (tyRef erased mut (pointee (u8 .written))) l₃₂ (free 𝓤 (sliceTy (tyRef erased mut (pointee (u8 .written)))) l₃₁ (free 𝓤 (tyRef erased mut (pointee (u8 .written))) l₃₀ (free 𝓤 (sliceTy (tyRef erased mut (pointee (u32 .written)))) l₂₉ (free 𝓤 (tyRef erased mut (pointee (u32 .written))) l₂₈ (free 𝓤 (sliceTy (tyRef erased mut (pointee (u8 .written)))) l₂₇ (free 𝓤 (tyRef erased mut (pointee (u8 .written))) l₂₆ (free 𝓤 (sliceTy (tyRef erased mut (pointee (u8 .written)))) l₂₅ (free 𝓤 (tyRef erased mut (pointee (u8 .written))) l₂₄ (free 𝓤 (sliceTy (tyRef erased mut (pointee (Object-t.the-row .written)))) l₂₃ (free 𝓤 (tyRef erased mut (pointee (Object-t.the-row .written))) l₂₂ (free 𝓤 (sliceTy (tyRef erased mut (pointee ((Array u16 35) .written)))) l₂₁ (free 𝓤 (tyRef erased mut (pointee ((Array u16 35) .written))) l₂₀ (free 𝓤 (sliceTy (tyRef erased mut (pointee ((Array u64 8) .written)))) l₁₉ (free 𝓤 (tyRef erased mut (pointee ((Array u64 8) .written))) l₁₈ (full 𝓤 tyBool l₁₇ (bool-p .val (unbound start (d))) (free 𝓤 Ran-l.mir l₁₆ (free 𝓤 (tyInt w64) l₁₅ (free 𝓤 (tyInt w64) l₁₄ (full 𝓤 (tyInt w64) l₁₃ (u64-p .val n′) (full 𝓤 Start-l.mir l₁₂ (Start-p .val start) (full 𝓤 Agent-l.mir l₁₁ (Agent-p .val agent) (full 𝓤 (sliceTy (tyRef (named 9) imm (pointee (u8 .written)))) l₁₀ (sliceVal (b₁₀, o₁₀) n₁₀) (full 𝓤 (sliceTy (tyRef (named 8) imm (pointee (u8 .written)))) l₉ (sliceVal (b₉, o₉) n₉) (full 𝓤 (sliceTy (tyRef (named 7) mut (pointee (u8 .written)))) l₈ (sliceVal (b₈, o₈) n₈) (full 𝓤 (sliceTy (tyRef (named 6) mut (pointee (u8 .written)))) l₇ (sliceVal (b₇, o₇) n₇) (full 𝓤 (sliceTy (tyRef (named 5) mut (pointee (u32 .written)))) l₆ (sliceVal (b₆, o₆) n₆) (full 𝓤 (sliceTy (tyRef (named 4) mut (pointee (u8 .written)))) l₅ (sliceVal (b₅, o₅) n₅) (full 𝓤 (sliceTy (tyRef (named 3) mut (pointee (u8 .written)))) l₄ (sliceVal (b₄, o₄) n₄) (full 𝓤 (sliceTy (tyRef (named 2) mut (pointee (Object-t.the-row .written)))) l₃ (sliceVal (b₃, o₃) n₃) (full 𝓤 (sliceTy (tyRef (named 1) mut (pointee ((Array u16 35) .written)))) l₂ (sliceVal (b₂, o₂) n₂) (full 𝓤 (sliceTy (tyRef (named 0) mut (pointee ((Array u64 8) .written)))) l₁ (sliceVal (b₁, o₁) n₁) (free 𝓤 Processed-l.mir l₀ ([])))))))))))))))))))))))))))))))))))))))))))))))))))))))))))))) (runs C Λ En mir.t-2 (atRet En Post))
     part-2-0 is-1 =
         first ! $
-        branches ! (load ! (from ! (stop !)) (look ! 118 refl))
+        branches ! (load ! (from ! (stop !)) (look ! 106 refl))
         (λ h-2.
         knows ! (unbound start (d) ≡ true) (holds (unbound start (d)) h-2) (λ c-2.
-        assigns ! (addr ! (from ! (fld ! refl (hop ! (look-in ! 150 (sub ! 0 refl (whole !))) (stop !))))) (from ! (stop !)) (init ! 116 refl (tt, tt)) $
-        assigns ! (agg ! (and-then ! (load ! (from ! (stop !)) (look ! 116 refl)) (and-then ! (load ! (from ! (fld ! refl (stop !))) (look-in ! 150 (sub ! 1 refl (whole !)))) (no-more !)))) (from ! (stop !)) (init ! 114 refl (tt, (tt, (record { fits = room₁ .0 }, tt)))) $
-        assigns ! (addr ! (from ! (fld ! refl (hop ! (look-in ! 148 (sub ! 0 refl (whole !))) (stop !))))) (from ! (stop !)) (init ! 112 refl (tt, tt)) $
-        assigns ! (agg ! (and-then ! (load ! (from ! (stop !)) (look ! 112 refl)) (and-then ! (load ! (from ! (fld ! refl (stop !))) (look-in ! 148 (sub ! 1 refl (whole !)))) (no-more !)))) (from ! (stop !)) (init ! 110 refl (tt, (tt, (record { fits = room₂ .0 }, tt)))) $
-        assigns ! (addr ! (from ! (fld ! refl (hop ! (look-in ! 146 (sub ! 0 refl (whole !))) (stop !))))) (from ! (stop !)) (init ! 108 refl (tt, tt)) $
-        assigns ! (agg ! (and-then ! (load ! (from ! (stop !)) (look ! 108 refl)) (and-then ! (load ! (from ! (fld ! refl (stop !))) (look-in ! 146 (sub ! 1 refl (whole !)))) (no-more !)))) (from ! (stop !)) (init ! 106 refl (tt, (tt, (record { fits = room₃ .0 }, tt)))) $
-        assigns ! (addr ! (from ! (fld ! refl (hop ! (look-in ! 144 (sub ! 0 refl (whole !))) (stop !))))) (from ! (stop !)) (init ! 104 refl (tt, tt)) $
-        assigns ! (agg ! (and-then ! (load ! (from ! (stop !)) (look ! 104 refl)) (and-then ! (load ! (from ! (fld ! refl (stop !))) (look-in ! 144 (sub ! 1 refl (whole !)))) (no-more !)))) (from ! (stop !)) (init ! 102 refl (tt, (tt, (record { fits = room₄ .0 }, tt)))) $
-        assigns ! (addr ! (from ! (fld ! refl (hop ! (look-in ! 142 (sub ! 0 refl (whole !))) (stop !))))) (from ! (stop !)) (init ! 100 refl (tt, tt)) $
-        assigns ! (agg ! (and-then ! (load ! (from ! (stop !)) (look ! 100 refl)) (and-then ! (load ! (from ! (fld ! refl (stop !))) (look-in ! 142 (sub ! 1 refl (whole !)))) (no-more !)))) (from ! (stop !)) (init ! 98 refl (tt, (tt, (record { fits = room₅ .0 }, tt)))) $
-        assigns ! (addr ! (from ! (fld ! refl (hop ! (look-in ! 140 (sub ! 0 refl (whole !))) (stop !))))) (from ! (stop !)) (init ! 96 refl (tt, tt)) $
-        assigns ! (agg ! (and-then ! (load ! (from ! (stop !)) (look ! 96 refl)) (and-then ! (load ! (from ! (fld ! refl (stop !))) (look-in ! 140 (sub ! 1 refl (whole !)))) (no-more !)))) (from ! (stop !)) (init ! 94 refl (tt, (tt, (record { fits = room₆ .0 }, tt)))) $
-        assigns ! (addr ! (from ! (fld ! refl (hop ! (look-in ! 138 (sub ! 0 refl (whole !))) (stop !))))) (from ! (stop !)) (init ! 92 refl (tt, tt)) $
-        assigns ! (agg ! (and-then ! (load ! (from ! (stop !)) (look ! 92 refl)) (and-then ! (load ! (from ! (fld ! refl (stop !))) (look-in ! 138 (sub ! 1 refl (whole !)))) (no-more !)))) (from ! (stop !)) (init ! 90 refl (tt, (tt, (record { fits = room₇ .0 }, tt)))) $
-        assigns ! (addr ! (from ! (fld ! refl (hop ! (look-in ! 136 (sub ! 0 refl (whole !))) (stop !))))) (from ! (stop !)) (init ! 88 refl (tt, tt)) $
-        assigns ! (agg ! (and-then ! (load ! (from ! (stop !)) (look ! 88 refl)) (and-then ! (load ! (from ! (fld ! refl (stop !))) (look-in ! 136 (sub ! 1 refl (whole !)))) (no-more !)))) (from ! (stop !)) (init ! 86 refl (tt, (tt, (record { fits = room₈ .0 }, tt)))) $
-        knows ! ((resumesFit (start .resumes) (start .frame .«stream_id») (length (sample)) ≡ true) × (start .frame .room ≡ length (out)) × (256 ≤ length (sessions)) × (2048 ≤ length (streams)) × (8192 ≤ length (objects)) × (32768 ≤ length (rebuilt))) ((within .0, within .1, within .3, within .4, within .5, within .6)) (λ asks-2·yes·17.
+        assigns ! (addr ! (from ! (fld ! refl (hop ! (look-in ! 138 (sub ! 0 refl (whole !))) (stop !))))) (from ! (stop !)) (init ! 104 refl (tt, tt)) $
+        assigns ! (agg ! (and-then ! (load ! (from ! (stop !)) (look ! 104 refl)) (and-then ! (load ! (from ! (fld ! refl (stop !))) (look-in ! 138 (sub ! 1 refl (whole !)))) (no-more !)))) (from ! (stop !)) (init ! 102 refl (tt, (tt, (record { fits = room₁ .0 }, tt)))) $
+        assigns ! (addr ! (from ! (fld ! refl (hop ! (look-in ! 136 (sub ! 0 refl (whole !))) (stop !))))) (from ! (stop !)) (init ! 100 refl (tt, tt)) $
+        assigns ! (agg ! (and-then ! (load ! (from ! (stop !)) (look ! 100 refl)) (and-then ! (load ! (from ! (fld ! refl (stop !))) (look-in ! 136 (sub ! 1 refl (whole !)))) (no-more !)))) (from ! (stop !)) (init ! 98 refl (tt, (tt, (record { fits = room₂ .0 }, tt)))) $
+        assigns ! (addr ! (from ! (fld ! refl (hop ! (look-in ! 134 (sub ! 0 refl (whole !))) (stop !))))) (from ! (stop !)) (init ! 96 refl (tt, tt)) $
+        assigns ! (agg ! (and-then ! (load ! (from ! (stop !)) (look ! 96 refl)) (and-then ! (load ! (from ! (fld ! refl (stop !))) (look-in ! 134 (sub ! 1 refl (whole !)))) (no-more !)))) (from ! (stop !)) (init ! 94 refl (tt, (tt, (record { fits = room₃ .0 }, tt)))) $
+        assigns ! (addr ! (from ! (fld ! refl (hop ! (look-in ! 132 (sub ! 0 refl (whole !))) (stop !))))) (from ! (stop !)) (init ! 92 refl (tt, tt)) $
+        assigns ! (agg ! (and-then ! (load ! (from ! (stop !)) (look ! 92 refl)) (and-then ! (load ! (from ! (fld ! refl (stop !))) (look-in ! 132 (sub ! 1 refl (whole !)))) (no-more !)))) (from ! (stop !)) (init ! 90 refl (tt, (tt, (record { fits = room₄ .0 }, tt)))) $
+        assigns ! (addr ! (from ! (fld ! refl (hop ! (look-in ! 130 (sub ! 0 refl (whole !))) (stop !))))) (from ! (stop !)) (init ! 88 refl (tt, tt)) $
+        assigns ! (agg ! (and-then ! (load ! (from ! (stop !)) (look ! 88 refl)) (and-then ! (load ! (from ! (fld ! refl (stop !))) (look-in ! 130 (sub ! 1 refl (whole !)))) (no-more !)))) (from ! (stop !)) (init ! 86 refl (tt, (tt, (record { fits = room₅ .0 }, tt)))) $
+        assigns ! (addr ! (from ! (fld ! refl (hop ! (look-in ! 128 (sub ! 0 refl (whole !))) (stop !))))) (from ! (stop !)) (init ! 84 refl (tt, tt)) $
+        assigns ! (agg ! (and-then ! (load ! (from ! (stop !)) (look ! 84 refl)) (and-then ! (load ! (from ! (fld ! refl (stop !))) (look-in ! 128 (sub ! 1 refl (whole !)))) (no-more !)))) (from ! (stop !)) (init ! 82 refl (tt, (tt, (record { fits = room₆ .0 }, tt)))) $
+        assigns ! (addr ! (from ! (fld ! refl (hop ! (look-in ! 126 (sub ! 0 refl (whole !))) (stop !))))) (from ! (stop !)) (init ! 80 refl (tt, tt)) $
+        assigns ! (agg ! (and-then ! (load ! (from ! (stop !)) (look ! 80 refl)) (and-then ! (load ! (from ! (fld ! refl (stop !))) (look-in ! 126 (sub ! 1 refl (whole !)))) (no-more !)))) (from ! (stop !)) (init ! 78 refl (tt, (tt, (record { fits = room₇ .0 }, tt)))) $
+        assigns ! (addr ! (from ! (fld ! refl (hop ! (look-in ! 124 (sub ! 0 refl (whole !))) (stop !))))) (from ! (stop !)) (init ! 76 refl (tt, tt)) $
+        assigns ! (agg ! (and-then ! (load ! (from ! (stop !)) (look ! 76 refl)) (and-then ! (load ! (from ! (fld ! refl (stop !))) (look-in ! 124 (sub ! 1 refl (whole !)))) (no-more !)))) (from ! (stop !)) (init ! 74 refl (tt, (tt, (record { fits = room₈ .0 }, tt)))) $
+        knows ! ((resumesFit (start .resumes) (start .frame .«stream_id») (length (sample)) ≡ true) × (start .frame .room ≡ length (out)) × (ltb (length (out)) (neededOf (roomy (length (out)) start (sessions) n′ (d) (length (sample))) (performed start (lent (sessions) (streams) (objects) (held) (parts) (lengths) (rebuilt)) (d) (sample) .ran .wrote)) ≡ ltb (length (out)) (performed start (lent (sessions) (streams) (objects) (held) (parts) (lengths) (rebuilt)) (d) (sample) .ran .wrote)) × (256 ≤ length (sessions)) × (2048 ≤ length (streams)) × (8192 ≤ length (objects)) × (32768 ≤ length (rebuilt))) (within) (λ asks-2·yes·17.
         -- 2.yes.17: agent::process::go_unbound
         lends-mut ! tt (Array u64 8) b₁ o₁ sessions n₁ (refl) (λ ν-2·yes·17-sessions δ-2·yes·17-sessions.
         move ! (3 ∷ 4 ∷ []) $
@@ -509,9 +494,10 @@ module _ {M : Type 1} (𝓤 : URA M) (H : Heap 𝓤) (A : Atoms 𝓤) (W : Given
         copies-shr ! u8 b₉ o₉ d n₉ $ move ! (27 ∷ 28 ∷ []) $
         copies-shr ! u8 b₁₀ o₁₀ sample n₁₀ $ nothing ! $ move ! (1 ∷ 0 ∷ []) $ join ! $ move ! (3 ∷ 0 ∷ []) $ join ! $ move ! (5 ∷ 0 ∷ []) $ join ! $ move ! (7 ∷ 0 ∷ []) $ join ! $ move ! (9 ∷ 0 ∷ []) $ join ! $ move ! (11 ∷ 0 ∷ []) $ join ! $ move ! (13 ∷ 0 ∷ []) $ join ! $ move ! (15 ∷ 0 ∷ []) $ join ! $ move ! (17 ∷ 0 ∷ []) $ join ! $ move ! (19 ∷ 0 ∷ []) $ join ! $
         use1 W (raw (toks 𝓤 A 10 (((ν-2·yes·17-sessions ∷ []), ((ν-2·yes·17-streams ∷ []), ((ν-2·yes·17-objects ∷ []), ((ν-2·yes·17-held ∷ []), ((ν-2·yes·17-parts ∷ []), ((ν-2·yes·17-lengths ∷ []), ((ν-2·yes·17-rebuilt ∷ []), ((ν-2·yes·17-out ∷ []), (κ₉, (κ₁₀, tt))))))))))) ((fullShare, (fullShare, (fullShare, (fullShare, (fullShare, (fullShare, (fullShare, (fullShare, (q₉, (q₁₀, tt))))))))))))) (id⊢ 𝓤 _) $ nothing ! $
+        owned ! (u64-p .row) (Is (u64-p .row)) (u64-p .makes 𝓤 H A W) n′ (u64-p .val n′ ∷ []) n′-is $ fjoin ! $
         owned ! (Start-p .row) (Is (Start-p .row)) (Start-p .makes 𝓤 H A W) start (Start-p .val start ∷ []) start-is $ fjoin ! $
         owned ! (Agent-p .row) (Is (Agent-p .row)) (Agent-p .makes 𝓤 H A W) agent (Agent-p .val agent ∷ []) agent-is $ fjoin ! $ move ! (2 ∷ 0 ∷ []) $ fjoin ! $ move ! (3 ∷ 0 ∷ []) $ fjoin ! $ move ! (4 ∷ 0 ∷ []) $ fjoin ! $ move ! (5 ∷ 0 ∷ []) $ fjoin ! $ move ! (6 ∷ 0 ∷ []) $ fjoin ! $ move ! (7 ∷ 0 ∷ []) $ fjoin ! $ move ! (8 ∷ 0 ∷ []) $ fjoin ! $ move ! (9 ∷ 0 ∷ []) $ fjoin ! $ move ! (10 ∷ 0 ∷ []) $ fjoin ! $ move ! (11 ∷ 0 ∷ []) $ fjoin ! $ move ! (1 ∷ 0 ∷ []) $
-        calls-any ! fm 10 [] (process-go-unbound.signature .params) (process-go-unbound.ended .kept) Processed-p (process-go-unbound.clauses 𝓤 H A mem run) known-process-go-unbound ((ν-2·yes·17-sessions ∷ []), ((ν-2·yes·17-streams ∷ []), ((ν-2·yes·17-objects ∷ []), ((ν-2·yes·17-held ∷ []), ((ν-2·yes·17-parts ∷ []), ((ν-2·yes·17-lengths ∷ []), ((ν-2·yes·17-rebuilt ∷ []), ((ν-2·yes·17-out ∷ []), (κ₉, (κ₁₀, tt)))))))))) (fullShare, (fullShare, (fullShare, (fullShare, (fullShare, (fullShare, (fullShare, (fullShare, (q₉, (q₁₀, tt)))))))))) tt (at-list b₁ o₁ δ-2·yes·17-sessions sessions, (at-list b₂ o₂ δ-2·yes·17-streams streams, (at-list b₃ o₃ δ-2·yes·17-objects objects, (at-list b₄ o₄ δ-2·yes·17-held held, (at-list b₅ o₅ δ-2·yes·17-parts parts, (at-list b₆ o₆ δ-2·yes·17-lengths lengths, (at-list b₇ o₇ δ-2·yes·17-rebuilt rebuilt, (at-list b₈ o₈ δ-2·yes·17-out out, (at-list b₉ o₉ γ₉ d, (at-list b₁₀ o₁₀ γ₁₀ sample, (agent, (start, tt)))))))))))) (sliceVal (b₁, o₁) n₁ ∷ [], (sliceVal (b₂, o₂) n₂ ∷ [], (sliceVal (b₃, o₃) n₃ ∷ [], (sliceVal (b₄, o₄) n₄ ∷ [], (sliceVal (b₅, o₅) n₅ ∷ [], (sliceVal (b₆, o₆) n₆ ∷ [], (sliceVal (b₇, o₇) n₇ ∷ [], (sliceVal (b₈, o₈) n₈ ∷ [], (sliceVal (b₉, o₉) n₉ ∷ [], (sliceVal (b₁₀, o₁₀) n₁₀ ∷ [], (Agent-p .val agent ∷ [], (Start-p .val start ∷ [], tt)))))))))))) tt (finish agent (lent (sessions) (streams) (objects) (held) (parts) (lengths) (rebuilt)) (out) start (performed start (lent (sessions) (streams) (objects) (held) (parts) (lengths) (rebuilt)) (d) (sample)) .processed) (λ ws-2·yes·17. (ws-2·yes·17 .0 ≡ finish agent (lent (sessions) (streams) (objects) (held) (parts) (lengths) (rebuilt)) (out) start (performed start (lent (sessions) (streams) (objects) (held) (parts) (lengths) (rebuilt)) (d) (sample)) .tables .sessions) × (ws-2·yes·17 .1 .0 ≡ finish agent (lent (sessions) (streams) (objects) (held) (parts) (lengths) (rebuilt)) (out) start (performed start (lent (sessions) (streams) (objects) (held) (parts) (lengths) (rebuilt)) (d) (sample)) .tables .streams) × (ws-2·yes·17 .1 .1 .0 ≡ finish agent (lent (sessions) (streams) (objects) (held) (parts) (lengths) (rebuilt)) (out) start (performed start (lent (sessions) (streams) (objects) (held) (parts) (lengths) (rebuilt)) (d) (sample)) .tables .objects) × (ws-2·yes·17 .1 .1 .1 .0 ≡ finish agent (lent (sessions) (streams) (objects) (held) (parts) (lengths) (rebuilt)) (out) start (performed start (lent (sessions) (streams) (objects) (held) (parts) (lengths) (rebuilt)) (d) (sample)) .tables .held) × (ws-2·yes·17 .1 .1 .1 .1 .0 ≡ finish agent (lent (sessions) (streams) (objects) (held) (parts) (lengths) (rebuilt)) (out) start (performed start (lent (sessions) (streams) (objects) (held) (parts) (lengths) (rebuilt)) (d) (sample)) .tables .parts) × (ws-2·yes·17 .1 .1 .1 .1 .1 .0 ≡ finish agent (lent (sessions) (streams) (objects) (held) (parts) (lengths) (rebuilt)) (out) start (performed start (lent (sessions) (streams) (objects) (held) (parts) (lengths) (rebuilt)) (d) (sample)) .tables .lengths) × (ws-2·yes·17 .1 .1 .1 .1 .1 .1 .0 ≡ finish agent (lent (sessions) (streams) (objects) (held) (parts) (lengths) (rebuilt)) (out) start (performed start (lent (sessions) (streams) (objects) (held) (parts) (lengths) (rebuilt)) (d) (sample)) .tables .rebuilt) × (ws-2·yes·17 .1 .1 .1 .1 .1 .1 .1 .0 ≡ finish agent (lent (sessions) (streams) (objects) (held) (parts) (lengths) (rebuilt)) (out) start (performed start (lent (sessions) (streams) (objects) (held) (parts) (lengths) (rebuilt)) (d) (sample)) .out)) (factI 𝓤 ((resumesFit (start .resumes) (start .frame .«stream_id») (length (sample)) ≡ true) × (start .frame .room ≡ length (out)) × (256 ≤ length (sessions)) × (2048 ≤ length (streams)) × (8192 ≤ length (objects)) × (32768 ≤ length (rebuilt))) _ asks-2·yes·17) (λ r ws-2·yes·17. fact-mono 𝓤 ((r ≡ finish agent (lent (sessions) (streams) (objects) (held) (parts) (lengths) (rebuilt)) (out) start (performed start (lent (sessions) (streams) (objects) (held) (parts) (lengths) (rebuilt)) (d) (sample)) .processed) × ((ws-2·yes·17 .0) ≡ finish agent (lent (sessions) (streams) (objects) (held) (parts) (lengths) (rebuilt)) (out) start (performed start (lent (sessions) (streams) (objects) (held) (parts) (lengths) (rebuilt)) (d) (sample)) .tables .sessions) × ((ws-2·yes·17 .1 .0) ≡ finish agent (lent (sessions) (streams) (objects) (held) (parts) (lengths) (rebuilt)) (out) start (performed start (lent (sessions) (streams) (objects) (held) (parts) (lengths) (rebuilt)) (d) (sample)) .tables .streams) × ((ws-2·yes·17 .1 .1 .0) ≡ finish agent (lent (sessions) (streams) (objects) (held) (parts) (lengths) (rebuilt)) (out) start (performed start (lent (sessions) (streams) (objects) (held) (parts) (lengths) (rebuilt)) (d) (sample)) .tables .objects) × ((ws-2·yes·17 .1 .1 .1 .0) ≡ finish agent (lent (sessions) (streams) (objects) (held) (parts) (lengths) (rebuilt)) (out) start (performed start (lent (sessions) (streams) (objects) (held) (parts) (lengths) (rebuilt)) (d) (sample)) .tables .held) × ((ws-2·yes·17 .1 .1 .1 .1 .0) ≡ finish agent (lent (sessions) (streams) (objects) (held) (parts) (lengths) (rebuilt)) (out) start (performed start (lent (sessions) (streams) (objects) (held) (parts) (lengths) (rebuilt)) (d) (sample)) .tables .parts) × ((ws-2·yes·17 .1 .1 .1 .1 .1 .0) ≡ finish agent (lent (sessions) (streams) (objects) (held) (parts) (lengths) (rebuilt)) (out) start (performed start (lent (sessions) (streams) (objects) (held) (parts) (lengths) (rebuilt)) (d) (sample)) .tables .lengths) × ((ws-2·yes·17 .1 .1 .1 .1 .1 .1 .0) ≡ finish agent (lent (sessions) (streams) (objects) (held) (parts) (lengths) (rebuilt)) (out) start (performed start (lent (sessions) (streams) (objects) (held) (parts) (lengths) (rebuilt)) (d) (sample)) .tables .rebuilt) × ((ws-2·yes·17 .1 .1 .1 .1 .1 .1 .1 .0) ≡ finish agent (lent (sessions) (streams) (objects) (held) (parts) (lengths) (rebuilt)) (out) start (performed start (lent (sessions) (streams) (objects) (held) (parts) (lengths) (rebuilt)) (d) (sample)) .out)) ((r ≡ (finish agent (lent (sessions) (streams) (objects) (held) (parts) (lengths) (rebuilt)) (out) start (performed start (lent (sessions) (streams) (objects) (held) (parts) (lengths) (rebuilt)) (d) (sample)) .processed)) × ((ws-2·yes·17 .0 ≡ finish agent (lent (sessions) (streams) (objects) (held) (parts) (lengths) (rebuilt)) (out) start (performed start (lent (sessions) (streams) (objects) (held) (parts) (lengths) (rebuilt)) (d) (sample)) .tables .sessions) × (ws-2·yes·17 .1 .0 ≡ finish agent (lent (sessions) (streams) (objects) (held) (parts) (lengths) (rebuilt)) (out) start (performed start (lent (sessions) (streams) (objects) (held) (parts) (lengths) (rebuilt)) (d) (sample)) .tables .streams) × (ws-2·yes·17 .1 .1 .0 ≡ finish agent (lent (sessions) (streams) (objects) (held) (parts) (lengths) (rebuilt)) (out) start (performed start (lent (sessions) (streams) (objects) (held) (parts) (lengths) (rebuilt)) (d) (sample)) .tables .objects) × (ws-2·yes·17 .1 .1 .1 .0 ≡ finish agent (lent (sessions) (streams) (objects) (held) (parts) (lengths) (rebuilt)) (out) start (performed start (lent (sessions) (streams) (objects) (held) (parts) (lengths) (rebuilt)) (d) (sample)) .tables .held) × (ws-2·yes·17 .1 .1 .1 .1 .0 ≡ finish agent (lent (sessions) (streams) (objects) (held) (parts) (lengths) (rebuilt)) (out) start (performed start (lent (sessions) (streams) (objects) (held) (parts) (lengths) (rebuilt)) (d) (sample)) .tables .parts) × (ws-2·yes·17 .1 .1 .1 .1 .1 .0 ≡ finish agent (lent (sessions) (streams) (objects) (held) (parts) (lengths) (rebuilt)) (out) start (performed start (lent (sessions) (streams) (objects) (held) (parts) (lengths) (rebuilt)) (d) (sample)) .tables .lengths) × (ws-2·yes·17 .1 .1 .1 .1 .1 .1 .0 ≡ finish agent (lent (sessions) (streams) (objects) (held) (parts) (lengths) (rebuilt)) (out) start (performed start (lent (sessions) (streams) (objects) (held) (parts) (lengths) (rebuilt)) (d) (sample)) .tables .rebuilt) × (ws-2·yes·17 .1 .1 .1 .1 .1 .1 .1 .0 ≡ finish agent (lent (sessions) (streams) (objects) (held) (parts) (lengths) (rebuilt)) (out) start (performed start (lent (sessions) (streams) (objects) (held) (parts) (lengths) (rebuilt)) (d) (sample)) .out))) (λ e. (e .0, (e .1, e .2, e .3, e .4, e .5, e .6, e .7, e .8)))) (λ _. (and-then ! (load ! (from ! (stop !)) (look ! 105 refl)) (and-then ! (load ! (from ! (stop !)) (look ! 101 refl)) (and-then ! (load ! (from ! (stop !)) (look ! 97 refl)) (and-then ! (load ! (from ! (stop !)) (look ! 93 refl)) (and-then ! (load ! (from ! (stop !)) (look ! 89 refl)) (and-then ! (load ! (from ! (stop !)) (look ! 85 refl)) (and-then ! (load ! (from ! (stop !)) (look ! 81 refl)) (and-then ! (load ! (from ! (stop !)) (look ! 77 refl)) (and-then ! (load ! (from ! (stop !)) (look ! 125 refl)) (and-then ! (load ! (from ! (stop !)) (look ! 123 refl)) (and-then ! (load ! (from ! (stop !)) (look ! 121 refl)) (and-then ! (load ! (from ! (stop !)) (look ! 119 refl)) (no-more !)))))))))))))) (λ ws-2·yes·17 said-2·yes·17 is-2·yes·17.
+        calls-any ! fm 10 [] (process-go-unbound.signature .params) (process-go-unbound.ended .kept) Processed-p (process-go-unbound.clauses 𝓤 H A mem run) known-process-go-unbound ((ν-2·yes·17-sessions ∷ []), ((ν-2·yes·17-streams ∷ []), ((ν-2·yes·17-objects ∷ []), ((ν-2·yes·17-held ∷ []), ((ν-2·yes·17-parts ∷ []), ((ν-2·yes·17-lengths ∷ []), ((ν-2·yes·17-rebuilt ∷ []), ((ν-2·yes·17-out ∷ []), (κ₉, (κ₁₀, tt)))))))))) (fullShare, (fullShare, (fullShare, (fullShare, (fullShare, (fullShare, (fullShare, (fullShare, (q₉, (q₁₀, tt)))))))))) tt (at-list b₁ o₁ δ-2·yes·17-sessions sessions, (at-list b₂ o₂ δ-2·yes·17-streams streams, (at-list b₃ o₃ δ-2·yes·17-objects objects, (at-list b₄ o₄ δ-2·yes·17-held held, (at-list b₅ o₅ δ-2·yes·17-parts parts, (at-list b₆ o₆ δ-2·yes·17-lengths lengths, (at-list b₇ o₇ δ-2·yes·17-rebuilt rebuilt, (at-list b₈ o₈ δ-2·yes·17-out out, (at-list b₉ o₉ γ₉ d, (at-list b₁₀ o₁₀ γ₁₀ sample, (agent, (start, (n′, tt))))))))))))) (sliceVal (b₁, o₁) n₁ ∷ [], (sliceVal (b₂, o₂) n₂ ∷ [], (sliceVal (b₃, o₃) n₃ ∷ [], (sliceVal (b₄, o₄) n₄ ∷ [], (sliceVal (b₅, o₅) n₅ ∷ [], (sliceVal (b₆, o₆) n₆ ∷ [], (sliceVal (b₇, o₇) n₇ ∷ [], (sliceVal (b₈, o₈) n₈ ∷ [], (sliceVal (b₉, o₉) n₉ ∷ [], (sliceVal (b₁₀, o₁₀) n₁₀ ∷ [], (Agent-p .val agent ∷ [], (Start-p .val start ∷ [], (u64-p .val n′ ∷ [], tt))))))))))))) tt (finish agent (lent (sessions) (streams) (objects) (held) (parts) (lengths) (rebuilt)) (out) start (performed start (lent (sessions) (streams) (objects) (held) (parts) (lengths) (rebuilt)) (d) (sample)) .processed) (λ ws-2·yes·17. (ws-2·yes·17 .0 ≡ finish agent (lent (sessions) (streams) (objects) (held) (parts) (lengths) (rebuilt)) (out) start (performed start (lent (sessions) (streams) (objects) (held) (parts) (lengths) (rebuilt)) (d) (sample)) .tables .sessions) × (ws-2·yes·17 .1 .0 ≡ finish agent (lent (sessions) (streams) (objects) (held) (parts) (lengths) (rebuilt)) (out) start (performed start (lent (sessions) (streams) (objects) (held) (parts) (lengths) (rebuilt)) (d) (sample)) .tables .streams) × (ws-2·yes·17 .1 .1 .0 ≡ finish agent (lent (sessions) (streams) (objects) (held) (parts) (lengths) (rebuilt)) (out) start (performed start (lent (sessions) (streams) (objects) (held) (parts) (lengths) (rebuilt)) (d) (sample)) .tables .objects) × (ws-2·yes·17 .1 .1 .1 .0 ≡ finish agent (lent (sessions) (streams) (objects) (held) (parts) (lengths) (rebuilt)) (out) start (performed start (lent (sessions) (streams) (objects) (held) (parts) (lengths) (rebuilt)) (d) (sample)) .tables .held) × (ws-2·yes·17 .1 .1 .1 .1 .0 ≡ finish agent (lent (sessions) (streams) (objects) (held) (parts) (lengths) (rebuilt)) (out) start (performed start (lent (sessions) (streams) (objects) (held) (parts) (lengths) (rebuilt)) (d) (sample)) .tables .parts) × (ws-2·yes·17 .1 .1 .1 .1 .1 .0 ≡ finish agent (lent (sessions) (streams) (objects) (held) (parts) (lengths) (rebuilt)) (out) start (performed start (lent (sessions) (streams) (objects) (held) (parts) (lengths) (rebuilt)) (d) (sample)) .tables .lengths) × (ws-2·yes·17 .1 .1 .1 .1 .1 .1 .0 ≡ finish agent (lent (sessions) (streams) (objects) (held) (parts) (lengths) (rebuilt)) (out) start (performed start (lent (sessions) (streams) (objects) (held) (parts) (lengths) (rebuilt)) (d) (sample)) .tables .rebuilt) × (ws-2·yes·17 .1 .1 .1 .1 .1 .1 .1 .0 ≡ finish agent (lent (sessions) (streams) (objects) (held) (parts) (lengths) (rebuilt)) (out) start (performed start (lent (sessions) (streams) (objects) (held) (parts) (lengths) (rebuilt)) (d) (sample)) .out)) (factI 𝓤 ((resumesFit (start .resumes) (start .frame .«stream_id») (length (sample)) ≡ true) × (start .frame .room ≡ length (out)) × (ltb (length (out)) (neededOf (roomy (length (out)) start (sessions) n′ (d) (length (sample))) (performed start (lent (sessions) (streams) (objects) (held) (parts) (lengths) (rebuilt)) (d) (sample) .ran .wrote)) ≡ ltb (length (out)) (performed start (lent (sessions) (streams) (objects) (held) (parts) (lengths) (rebuilt)) (d) (sample) .ran .wrote)) × (256 ≤ length (sessions)) × (2048 ≤ length (streams)) × (8192 ≤ length (objects)) × (32768 ≤ length (rebuilt))) _ asks-2·yes·17) (λ r ws-2·yes·17. fact-mono 𝓤 ((r ≡ finish agent (lent (sessions) (streams) (objects) (held) (parts) (lengths) (rebuilt)) (out) start (performed start (lent (sessions) (streams) (objects) (held) (parts) (lengths) (rebuilt)) (d) (sample)) .processed) × ((ws-2·yes·17 .0) ≡ finish agent (lent (sessions) (streams) (objects) (held) (parts) (lengths) (rebuilt)) (out) start (performed start (lent (sessions) (streams) (objects) (held) (parts) (lengths) (rebuilt)) (d) (sample)) .tables .sessions) × ((ws-2·yes·17 .1 .0) ≡ finish agent (lent (sessions) (streams) (objects) (held) (parts) (lengths) (rebuilt)) (out) start (performed start (lent (sessions) (streams) (objects) (held) (parts) (lengths) (rebuilt)) (d) (sample)) .tables .streams) × ((ws-2·yes·17 .1 .1 .0) ≡ finish agent (lent (sessions) (streams) (objects) (held) (parts) (lengths) (rebuilt)) (out) start (performed start (lent (sessions) (streams) (objects) (held) (parts) (lengths) (rebuilt)) (d) (sample)) .tables .objects) × ((ws-2·yes·17 .1 .1 .1 .0) ≡ finish agent (lent (sessions) (streams) (objects) (held) (parts) (lengths) (rebuilt)) (out) start (performed start (lent (sessions) (streams) (objects) (held) (parts) (lengths) (rebuilt)) (d) (sample)) .tables .held) × ((ws-2·yes·17 .1 .1 .1 .1 .0) ≡ finish agent (lent (sessions) (streams) (objects) (held) (parts) (lengths) (rebuilt)) (out) start (performed start (lent (sessions) (streams) (objects) (held) (parts) (lengths) (rebuilt)) (d) (sample)) .tables .parts) × ((ws-2·yes·17 .1 .1 .1 .1 .1 .0) ≡ finish agent (lent (sessions) (streams) (objects) (held) (parts) (lengths) (rebuilt)) (out) start (performed start (lent (sessions) (streams) (objects) (held) (parts) (lengths) (rebuilt)) (d) (sample)) .tables .lengths) × ((ws-2·yes·17 .1 .1 .1 .1 .1 .1 .0) ≡ finish agent (lent (sessions) (streams) (objects) (held) (parts) (lengths) (rebuilt)) (out) start (performed start (lent (sessions) (streams) (objects) (held) (parts) (lengths) (rebuilt)) (d) (sample)) .tables .rebuilt) × ((ws-2·yes·17 .1 .1 .1 .1 .1 .1 .1 .0) ≡ finish agent (lent (sessions) (streams) (objects) (held) (parts) (lengths) (rebuilt)) (out) start (performed start (lent (sessions) (streams) (objects) (held) (parts) (lengths) (rebuilt)) (d) (sample)) .out)) ((r ≡ (finish agent (lent (sessions) (streams) (objects) (held) (parts) (lengths) (rebuilt)) (out) start (performed start (lent (sessions) (streams) (objects) (held) (parts) (lengths) (rebuilt)) (d) (sample)) .processed)) × ((ws-2·yes·17 .0 ≡ finish agent (lent (sessions) (streams) (objects) (held) (parts) (lengths) (rebuilt)) (out) start (performed start (lent (sessions) (streams) (objects) (held) (parts) (lengths) (rebuilt)) (d) (sample)) .tables .sessions) × (ws-2·yes·17 .1 .0 ≡ finish agent (lent (sessions) (streams) (objects) (held) (parts) (lengths) (rebuilt)) (out) start (performed start (lent (sessions) (streams) (objects) (held) (parts) (lengths) (rebuilt)) (d) (sample)) .tables .streams) × (ws-2·yes·17 .1 .1 .0 ≡ finish agent (lent (sessions) (streams) (objects) (held) (parts) (lengths) (rebuilt)) (out) start (performed start (lent (sessions) (streams) (objects) (held) (parts) (lengths) (rebuilt)) (d) (sample)) .tables .objects) × (ws-2·yes·17 .1 .1 .1 .0 ≡ finish agent (lent (sessions) (streams) (objects) (held) (parts) (lengths) (rebuilt)) (out) start (performed start (lent (sessions) (streams) (objects) (held) (parts) (lengths) (rebuilt)) (d) (sample)) .tables .held) × (ws-2·yes·17 .1 .1 .1 .1 .0 ≡ finish agent (lent (sessions) (streams) (objects) (held) (parts) (lengths) (rebuilt)) (out) start (performed start (lent (sessions) (streams) (objects) (held) (parts) (lengths) (rebuilt)) (d) (sample)) .tables .parts) × (ws-2·yes·17 .1 .1 .1 .1 .1 .0 ≡ finish agent (lent (sessions) (streams) (objects) (held) (parts) (lengths) (rebuilt)) (out) start (performed start (lent (sessions) (streams) (objects) (held) (parts) (lengths) (rebuilt)) (d) (sample)) .tables .lengths) × (ws-2·yes·17 .1 .1 .1 .1 .1 .1 .0 ≡ finish agent (lent (sessions) (streams) (objects) (held) (parts) (lengths) (rebuilt)) (out) start (performed start (lent (sessions) (streams) (objects) (held) (parts) (lengths) (rebuilt)) (d) (sample)) .tables .rebuilt) × (ws-2·yes·17 .1 .1 .1 .1 .1 .1 .1 .0 ≡ finish agent (lent (sessions) (streams) (objects) (held) (parts) (lengths) (rebuilt)) (out) start (performed start (lent (sessions) (streams) (objects) (held) (parts) (lengths) (rebuilt)) (d) (sample)) .out))) (λ e. (e .0, (e .1, e .2, e .3, e .4, e .5, e .6, e .7, e .8)))) (λ _. (and-then ! (load ! (from ! (stop !)) (look ! 93 refl)) (and-then ! (load ! (from ! (stop !)) (look ! 89 refl)) (and-then ! (load ! (from ! (stop !)) (look ! 85 refl)) (and-then ! (load ! (from ! (stop !)) (look ! 81 refl)) (and-then ! (load ! (from ! (stop !)) (look ! 77 refl)) (and-then ! (load ! (from ! (stop !)) (look ! 73 refl)) (and-then ! (load ! (from ! (stop !)) (look ! 69 refl)) (and-then ! (load ! (from ! (stop !)) (look ! 65 refl)) (and-then ! (load ! (from ! (stop !)) (look ! 113 refl)) (and-then ! (load ! (from ! (stop !)) (look ! 111 refl)) (and-then ! (load ! (from ! (stop !)) (look ! 109 refl)) (and-then ! (load ! (from ! (stop !)) (look ! 107 refl)) (and-then ! (load ! (from ! (stop !)) (look ! 105 refl)) (no-more !))))))))))))))) (λ ws-2·yes·17 said-2·yes·17 is-2·yes·17.
         use1 W ((‵ (flft (ν-2·yes·17-sessions ∷ []) fullShare) ⊛ (‵ (flft (ν-2·yes·17-streams ∷ []) fullShare) ⊛ (‵ (flft (ν-2·yes·17-objects ∷ []) fullShare) ⊛ (‵ (flft (ν-2·yes·17-held ∷ []) fullShare) ⊛ (‵ (flft (ν-2·yes·17-parts ∷ []) fullShare) ⊛ (‵ (flft (ν-2·yes·17-lengths ∷ []) fullShare) ⊛ (‵ (flft (ν-2·yes·17-rebuilt ∷ []) fullShare) ⊛ (‵ (flft (ν-2·yes·17-out ∷ []) fullShare) ⊛ (‵ (flft κ₉ q₉) ⊛ (‵ (flft κ₁₀ q₁₀) ⊛ ‵ ftrue))))))))))) (id⊢ 𝓤 _) $ split ! $ move ! (1 ∷ []) $ split ! $ move ! (1 ∷ []) $ split ! $ move ! (1 ∷ []) $ split ! $ move ! (1 ∷ []) $ split ! $ move ! (1 ∷ []) $ split ! $ move ! (1 ∷ []) $ split ! $ move ! (1 ∷ []) $ split ! $ move ! (1 ∷ []) $ split ! $ move ! (1 ∷ []) $ split ! $ move ! (11 ∷ []) $ fsplit ! $ fsplit ! $ move ! (1 ∷ []) $
         feqL ! (λ wlen-2·yes·17-0.
         move ! (1 ∷ []) $ fsplit ! $ fsplit ! $ move ! (1 ∷ []) $
@@ -545,27 +531,27 @@ module _ {M : Type 1} (𝓤 : URA M) (H : Heap 𝓤) (A : Atoms 𝓤) (W : Given
         move ! (21 ∷ 24 ∷ 17 ∷ []) $
         backs-mut ! tt u8 b₈ o₈ out n₈ (refl) room₈ ν-2·yes·17-out δ-2·yes·17-out (ws-2·yes·17 .1 .1 .1 .1 .1 .1 .1 .0) (finish agent (lent (sessions) (streams) (objects) (held) (parts) (lengths) (rebuilt)) (out) start (performed start (lent (sessions) (streams) (objects) (held) (parts) (lengths) (rebuilt)) (d) (sample)) .out) wlen-2·yes·17-7 (said-2·yes·17 .7) (λ len-2·yes·17-out.
         move ! (16 ∷ []) $ drop ! $ move ! (16 ∷ []) $ drop ! $ move ! (16 ∷ []) $ drop ! $ move ! (17 ∷ []) $ drop ! $
-        land ! (from ! (stop !)) (init ! 152 refl (Processed-p .typed 𝓤 H A W (finish agent (lent (sessions) (streams) (objects) (held) (parts) (lengths) (rebuilt)) (out) start (performed start (lent (sessions) (streams) (objects) (held) (parts) (lengths) (rebuilt)) (d) (sample)) .processed) is-2·yes·17)) $ move ! (14 ∷ 15 ∷ 12 ∷ 13 ∷ 10 ∷ 11 ∷ 8 ∷ 9 ∷ 6 ∷ 7 ∷ 4 ∷ 5 ∷ 2 ∷ 3 ∷ 0 ∷ 1 ∷ 19 ∷ 17 ∷ 18 ∷ 16 ∷ 20 ∷ 21 ∷ 22 ∷ 23 ∷ 24 ∷ 25 ∷ 26 ∷ 27 ∷ 28 ∷ 29 ∷ 30 ∷ 31 ∷ 32 ∷ 33 ∷ 34 ∷ 35 ∷ 36 ∷ 37 ∷ 38 ∷ 39 ∷ 40 ∷ 41 ∷ 42 ∷ 43 ∷ 44 ∷ 45 ∷ 46 ∷ 47 ∷ 48 ∷ 49 ∷ 50 ∷ 51 ∷ 52 ∷ 53 ∷ 54 ∷ 55 ∷ 56 ∷ 57 ∷ 58 ∷ 59 ∷ 60 ∷ 61 ∷ 62 ∷ 63 ∷ 64 ∷ 65 ∷ 66 ∷ 67 ∷ 68 ∷ 69 ∷ 70 ∷ 71 ∷ 72 ∷ 73 ∷ 74 ∷ 75 ∷ 76 ∷ 77 ∷ 78 ∷ 79 ∷ 80 ∷ 81 ∷ 82 ∷ 83 ∷ 84 ∷ 85 ∷ 86 ∷ 87 ∷ 88 ∷ 89 ∷ 90 ∷ 91 ∷ 92 ∷ 93 ∷ 94 ∷ 95 ∷ 96 ∷ 97 ∷ 98 ∷ 99 ∷ 100 ∷ 101 ∷ 102 ∷ 103 ∷ 104 ∷ 105 ∷ 106 ∷ 107 ∷ 108 ∷ 109 ∷ 110 ∷ 111 ∷ 112 ∷ 113 ∷ 114 ∷ 115 ∷ 116 ∷ 117 ∷ 118 ∷ 119 ∷ 120 ∷ 121 ∷ 122 ∷ 123 ∷ 124 ∷ 125 ∷ 126 ∷ 127 ∷ 128 ∷ 129 ∷ 130 ∷ 131 ∷ 132 ∷ 133 ∷ 134 ∷ 135 ∷ 136 ∷ 137 ∷ 138 ∷ 139 ∷ 140 ∷ 141 ∷ 142 ∷ 143 ∷ 144 ∷ 145 ∷ 146 ∷ 147 ∷ 148 ∷ 149 ∷ 150 ∷ 151 ∷ 152 ∷ 153 ∷ []) $
+        land ! (from ! (stop !)) (init ! 140 refl (Processed-p .typed 𝓤 H A W (finish agent (lent (sessions) (streams) (objects) (held) (parts) (lengths) (rebuilt)) (out) start (performed start (lent (sessions) (streams) (objects) (held) (parts) (lengths) (rebuilt)) (d) (sample)) .processed) is-2·yes·17)) $ move ! (14 ∷ 15 ∷ 12 ∷ 13 ∷ 10 ∷ 11 ∷ 8 ∷ 9 ∷ 6 ∷ 7 ∷ 4 ∷ 5 ∷ 2 ∷ 3 ∷ 0 ∷ 1 ∷ 19 ∷ 17 ∷ 18 ∷ 16 ∷ 20 ∷ 21 ∷ 22 ∷ 23 ∷ 24 ∷ 25 ∷ 26 ∷ 27 ∷ 28 ∷ 29 ∷ 30 ∷ 31 ∷ 32 ∷ 33 ∷ 34 ∷ 35 ∷ 36 ∷ 37 ∷ 38 ∷ 39 ∷ 40 ∷ 41 ∷ 42 ∷ 43 ∷ 44 ∷ 45 ∷ 46 ∷ 47 ∷ 48 ∷ 49 ∷ 50 ∷ 51 ∷ 52 ∷ 53 ∷ 54 ∷ 55 ∷ 56 ∷ 57 ∷ 58 ∷ 59 ∷ 60 ∷ 61 ∷ 62 ∷ 63 ∷ 64 ∷ 65 ∷ 66 ∷ 67 ∷ 68 ∷ 69 ∷ 70 ∷ 71 ∷ 72 ∷ 73 ∷ 74 ∷ 75 ∷ 76 ∷ 77 ∷ 78 ∷ 79 ∷ 80 ∷ 81 ∷ 82 ∷ 83 ∷ 84 ∷ 85 ∷ 86 ∷ 87 ∷ 88 ∷ 89 ∷ 90 ∷ 91 ∷ 92 ∷ 93 ∷ 94 ∷ 95 ∷ 96 ∷ 97 ∷ 98 ∷ 99 ∷ 100 ∷ 101 ∷ 102 ∷ 103 ∷ 104 ∷ 105 ∷ 106 ∷ 107 ∷ 108 ∷ 109 ∷ 110 ∷ 111 ∷ 112 ∷ 113 ∷ 114 ∷ 115 ∷ 116 ∷ 117 ∷ 118 ∷ 119 ∷ 120 ∷ 121 ∷ 122 ∷ 123 ∷ 124 ∷ 125 ∷ 126 ∷ 127 ∷ 128 ∷ 129 ∷ 130 ∷ 131 ∷ 132 ∷ 133 ∷ 134 ∷ 135 ∷ 136 ∷ 137 ∷ 138 ∷ 139 ∷ 140 ∷ 141 ∷ []) $
         part-2·yes·18-0 is-1 c-2 asks-2·yes·17 len-2·yes·17-sessions len-2·yes·17-streams len-2·yes·17-objects len-2·yes·17-held len-2·yes·17-parts len-2·yes·17-lengths len-2·yes·17-rebuilt len-2·yes·17-out is-2·yes·17))))))))))))))))))))))))))))
         (λ h-2.
         knows ! (unbound start (d) ≡ false) (fails (unbound start (d)) (T-not (unbound start (d)) h-2)) (λ c-2.
         skips ! $
         exec ! C Λ En mir.t-3 (atRet En Post) $
-        assigns ! (of-opd ! (load ! (from ! (fld ! refl (stop !))) (look-in ! 136 (sub ! 1 refl (whole !))))) (from ! (stop !)) (init ! 124 refl (u64-p .typed 𝓤 H A W n₈ ((refl, room₈ .0)))) $
-        assigns ! (addr ! (from ! (fld ! refl (hop ! (look-in ! 150 (sub ! 0 refl (whole !))) (stop !))))) (from ! (stop !)) (init ! 84 refl (tt, tt)) $
-        assigns ! (agg ! (and-then ! (load ! (from ! (stop !)) (look ! 84 refl)) (and-then ! (load ! (from ! (fld ! refl (stop !))) (look-in ! 150 (sub ! 1 refl (whole !)))) (no-more !)))) (from ! (stop !)) (init ! 82 refl (tt, (tt, (record { fits = room₁ .0 }, tt)))) $
-        assigns ! (addr ! (from ! (fld ! refl (hop ! (look-in ! 148 (sub ! 0 refl (whole !))) (stop !))))) (from ! (stop !)) (init ! 80 refl (tt, tt)) $
-        assigns ! (agg ! (and-then ! (load ! (from ! (stop !)) (look ! 80 refl)) (and-then ! (load ! (from ! (fld ! refl (stop !))) (look-in ! 148 (sub ! 1 refl (whole !)))) (no-more !)))) (from ! (stop !)) (init ! 78 refl (tt, (tt, (record { fits = room₂ .0 }, tt)))) $
-        assigns ! (addr ! (from ! (fld ! refl (hop ! (look-in ! 146 (sub ! 0 refl (whole !))) (stop !))))) (from ! (stop !)) (init ! 76 refl (tt, tt)) $
-        assigns ! (agg ! (and-then ! (load ! (from ! (stop !)) (look ! 76 refl)) (and-then ! (load ! (from ! (fld ! refl (stop !))) (look-in ! 146 (sub ! 1 refl (whole !)))) (no-more !)))) (from ! (stop !)) (init ! 74 refl (tt, (tt, (record { fits = room₃ .0 }, tt)))) $
-        assigns ! (addr ! (from ! (fld ! refl (hop ! (look-in ! 144 (sub ! 0 refl (whole !))) (stop !))))) (from ! (stop !)) (init ! 72 refl (tt, tt)) $
-        assigns ! (agg ! (and-then ! (load ! (from ! (stop !)) (look ! 72 refl)) (and-then ! (load ! (from ! (fld ! refl (stop !))) (look-in ! 144 (sub ! 1 refl (whole !)))) (no-more !)))) (from ! (stop !)) (init ! 70 refl (tt, (tt, (record { fits = room₄ .0 }, tt)))) $
-        assigns ! (addr ! (from ! (fld ! refl (hop ! (look-in ! 142 (sub ! 0 refl (whole !))) (stop !))))) (from ! (stop !)) (init ! 68 refl (tt, tt)) $
-        assigns ! (agg ! (and-then ! (load ! (from ! (stop !)) (look ! 68 refl)) (and-then ! (load ! (from ! (fld ! refl (stop !))) (look-in ! 142 (sub ! 1 refl (whole !)))) (no-more !)))) (from ! (stop !)) (init ! 66 refl (tt, (tt, (record { fits = room₅ .0 }, tt)))) $
-        assigns ! (addr ! (from ! (fld ! refl (hop ! (look-in ! 140 (sub ! 0 refl (whole !))) (stop !))))) (from ! (stop !)) (init ! 64 refl (tt, tt)) $
-        assigns ! (agg ! (and-then ! (load ! (from ! (stop !)) (look ! 64 refl)) (and-then ! (load ! (from ! (fld ! refl (stop !))) (look-in ! 140 (sub ! 1 refl (whole !)))) (no-more !)))) (from ! (stop !)) (init ! 62 refl (tt, (tt, (record { fits = room₆ .0 }, tt)))) $
-        assigns ! (addr ! (from ! (fld ! refl (hop ! (look-in ! 138 (sub ! 0 refl (whole !))) (stop !))))) (from ! (stop !)) (init ! 60 refl (tt, tt)) $
-        assigns ! (agg ! (and-then ! (load ! (from ! (stop !)) (look ! 60 refl)) (and-then ! (load ! (from ! (fld ! refl (stop !))) (look-in ! 138 (sub ! 1 refl (whole !)))) (no-more !)))) (from ! (stop !)) (init ! 58 refl (tt, (tt, (record { fits = room₇ .0 }, tt)))) $
+        assigns ! (of-opd ! (load ! (from ! (fld ! refl (stop !))) (look-in ! 124 (sub ! 1 refl (whole !))))) (from ! (stop !)) (init ! 112 refl (u64-p .typed 𝓤 H A W n₈ ((refl, room₈ .0)))) $
+        assigns ! (addr ! (from ! (fld ! refl (hop ! (look-in ! 138 (sub ! 0 refl (whole !))) (stop !))))) (from ! (stop !)) (init ! 72 refl (tt, tt)) $
+        assigns ! (agg ! (and-then ! (load ! (from ! (stop !)) (look ! 72 refl)) (and-then ! (load ! (from ! (fld ! refl (stop !))) (look-in ! 138 (sub ! 1 refl (whole !)))) (no-more !)))) (from ! (stop !)) (init ! 70 refl (tt, (tt, (record { fits = room₁ .0 }, tt)))) $
+        assigns ! (addr ! (from ! (fld ! refl (hop ! (look-in ! 136 (sub ! 0 refl (whole !))) (stop !))))) (from ! (stop !)) (init ! 68 refl (tt, tt)) $
+        assigns ! (agg ! (and-then ! (load ! (from ! (stop !)) (look ! 68 refl)) (and-then ! (load ! (from ! (fld ! refl (stop !))) (look-in ! 136 (sub ! 1 refl (whole !)))) (no-more !)))) (from ! (stop !)) (init ! 66 refl (tt, (tt, (record { fits = room₂ .0 }, tt)))) $
+        assigns ! (addr ! (from ! (fld ! refl (hop ! (look-in ! 134 (sub ! 0 refl (whole !))) (stop !))))) (from ! (stop !)) (init ! 64 refl (tt, tt)) $
+        assigns ! (agg ! (and-then ! (load ! (from ! (stop !)) (look ! 64 refl)) (and-then ! (load ! (from ! (fld ! refl (stop !))) (look-in ! 134 (sub ! 1 refl (whole !)))) (no-more !)))) (from ! (stop !)) (init ! 62 refl (tt, (tt, (record { fits = room₃ .0 }, tt)))) $
+        assigns ! (addr ! (from ! (fld ! refl (hop ! (look-in ! 132 (sub ! 0 refl (whole !))) (stop !))))) (from ! (stop !)) (init ! 60 refl (tt, tt)) $
+        assigns ! (agg ! (and-then ! (load ! (from ! (stop !)) (look ! 60 refl)) (and-then ! (load ! (from ! (fld ! refl (stop !))) (look-in ! 132 (sub ! 1 refl (whole !)))) (no-more !)))) (from ! (stop !)) (init ! 58 refl (tt, (tt, (record { fits = room₄ .0 }, tt)))) $
+        assigns ! (addr ! (from ! (fld ! refl (hop ! (look-in ! 130 (sub ! 0 refl (whole !))) (stop !))))) (from ! (stop !)) (init ! 56 refl (tt, tt)) $
+        assigns ! (agg ! (and-then ! (load ! (from ! (stop !)) (look ! 56 refl)) (and-then ! (load ! (from ! (fld ! refl (stop !))) (look-in ! 130 (sub ! 1 refl (whole !)))) (no-more !)))) (from ! (stop !)) (init ! 54 refl (tt, (tt, (record { fits = room₅ .0 }, tt)))) $
+        assigns ! (addr ! (from ! (fld ! refl (hop ! (look-in ! 128 (sub ! 0 refl (whole !))) (stop !))))) (from ! (stop !)) (init ! 52 refl (tt, tt)) $
+        assigns ! (agg ! (and-then ! (load ! (from ! (stop !)) (look ! 52 refl)) (and-then ! (load ! (from ! (fld ! refl (stop !))) (look-in ! 128 (sub ! 1 refl (whole !)))) (no-more !)))) (from ! (stop !)) (init ! 50 refl (tt, (tt, (record { fits = room₆ .0 }, tt)))) $
+        assigns ! (addr ! (from ! (fld ! refl (hop ! (look-in ! 126 (sub ! 0 refl (whole !))) (stop !))))) (from ! (stop !)) (init ! 48 refl (tt, tt)) $
+        assigns ! (agg ! (and-then ! (load ! (from ! (stop !)) (look ! 48 refl)) (and-then ! (load ! (from ! (fld ! refl (stop !))) (look-in ! 126 (sub ! 1 refl (whole !)))) (no-more !)))) (from ! (stop !)) (init ! 46 refl (tt, (tt, (record { fits = room₇ .0 }, tt)))) $
         knows ! ((resumesFit (start .resumes) (start .frame .«stream_id») (length (sample)) ≡ true) × (start .frame .room ≤ 9223372036854775807) × (256 ≤ length (sessions)) × (2048 ≤ length (streams)) × (8192 ≤ length (objects)) × (32768 ≤ length (rebuilt))) ((within .0, room-low, within .3, within .4, within .5, within .6)) (λ asks-18.
         -- 18: agent::process::needed
         lends-mut ! tt (Array u64 8) b₁ o₁ sessions n₁ (refl) (λ ν-18-sessions δ-18-sessions.
@@ -588,7 +574,7 @@ module _ {M : Type 1} (𝓤 : URA M) (H : Heap 𝓤) (A : Atoms 𝓤) (W : Given
         owned ! (u64-p .row) (Is (u64-p .row)) (u64-p .makes 𝓤 H A W) n₈ (u64-p .val n₈ ∷ []) ((refl, room₈ .0)) $ fjoin ! $
         owned ! (u64-p .row) (Is (u64-p .row)) (u64-p .makes 𝓤 H A W) n′ (u64-p .val n′ ∷ []) n′-is $ fjoin ! $
         owned ! (Start-p .row) (Is (Start-p .row)) (Start-p .makes 𝓤 H A W) start (Start-p .val start ∷ []) start-is $ fjoin ! $ move ! (2 ∷ 0 ∷ []) $ fjoin ! $ move ! (3 ∷ 0 ∷ []) $ fjoin ! $ move ! (4 ∷ 0 ∷ []) $ fjoin ! $ move ! (5 ∷ 0 ∷ []) $ fjoin ! $ move ! (6 ∷ 0 ∷ []) $ fjoin ! $ move ! (7 ∷ 0 ∷ []) $ fjoin ! $ move ! (8 ∷ 0 ∷ []) $ fjoin ! $ move ! (9 ∷ 0 ∷ []) $ fjoin ! $ move ! (10 ∷ 0 ∷ []) $ fjoin ! $ move ! (1 ∷ 0 ∷ []) $
-        calls-any ! fm 9 [] (process-needed.signature .params) (process-needed.ended .kept) u64-p (process-needed.clauses 𝓤 H A mem run) known-process-needed ((ν-18-sessions ∷ []), ((ν-18-streams ∷ []), ((ν-18-objects ∷ []), ((ν-18-held ∷ []), ((ν-18-parts ∷ []), ((ν-18-lengths ∷ []), ((ν-18-rebuilt ∷ []), (κ₉, (κ₁₀, tt))))))))) (fullShare, (fullShare, (fullShare, (fullShare, (fullShare, (fullShare, (fullShare, (q₉, (q₁₀, tt))))))))) tt (at-list b₁ o₁ δ-18-sessions sessions, (at-list b₂ o₂ δ-18-streams streams, (at-list b₃ o₃ δ-18-objects objects, (at-list b₄ o₄ δ-18-held held, (at-list b₅ o₅ δ-18-parts parts, (at-list b₆ o₆ δ-18-lengths lengths, (at-list b₇ o₇ δ-18-rebuilt rebuilt, (at-list b₉ o₉ γ₉ d, (at-list b₁₀ o₁₀ γ₁₀ sample, (start, (n′, (n₈, tt)))))))))))) (sliceVal (b₁, o₁) n₁ ∷ [], (sliceVal (b₂, o₂) n₂ ∷ [], (sliceVal (b₃, o₃) n₃ ∷ [], (sliceVal (b₄, o₄) n₄ ∷ [], (sliceVal (b₅, o₅) n₅ ∷ [], (sliceVal (b₆, o₆) n₆ ∷ [], (sliceVal (b₇, o₇) n₇ ∷ [], (sliceVal (b₉, o₉) n₉ ∷ [], (sliceVal (b₁₀, o₁₀) n₁₀ ∷ [], (Start-p .val start ∷ [], (u64-p .val n′ ∷ [], (u64-p .val n₈ ∷ [], tt)))))))))))) tt (neededOf (bounded n₈ start n′ (d) (length (sample))) (performed start (lent (sessions) (streams) (objects) (held) (parts) (lengths) (rebuilt)) (d) (sample) .ran .wrote)) (λ ws-18. (ws-18 .0 ≡ sessions) × (ws-18 .1 .0 ≡ streams) × (ws-18 .1 .1 .0 ≡ objects) × (ws-18 .1 .1 .1 .0 ≡ held) × (ws-18 .1 .1 .1 .1 .0 ≡ parts) × (ws-18 .1 .1 .1 .1 .1 .0 ≡ lengths) × (ws-18 .1 .1 .1 .1 .1 .1 .0 ≡ rebuilt)) (factI 𝓤 ((resumesFit (start .resumes) (start .frame .«stream_id») (length (sample)) ≡ true) × (start .frame .room ≤ 9223372036854775807) × (256 ≤ length (sessions)) × (2048 ≤ length (streams)) × (8192 ≤ length (objects)) × (32768 ≤ length (rebuilt))) _ asks-18) (λ r ws-18. fact-mono 𝓤 ((r ≡ neededOf (bounded n₈ start n′ (d) (length (sample))) (performed start (lent (sessions) (streams) (objects) (held) (parts) (lengths) (rebuilt)) (d) (sample) .ran .wrote)) × ((ws-18 .0) ≡ sessions) × ((ws-18 .1 .0) ≡ streams) × ((ws-18 .1 .1 .0) ≡ objects) × ((ws-18 .1 .1 .1 .0) ≡ held) × ((ws-18 .1 .1 .1 .1 .0) ≡ parts) × ((ws-18 .1 .1 .1 .1 .1 .0) ≡ lengths) × ((ws-18 .1 .1 .1 .1 .1 .1 .0) ≡ rebuilt)) ((r ≡ (neededOf (bounded n₈ start n′ (d) (length (sample))) (performed start (lent (sessions) (streams) (objects) (held) (parts) (lengths) (rebuilt)) (d) (sample) .ran .wrote))) × ((ws-18 .0 ≡ sessions) × (ws-18 .1 .0 ≡ streams) × (ws-18 .1 .1 .0 ≡ objects) × (ws-18 .1 .1 .1 .0 ≡ held) × (ws-18 .1 .1 .1 .1 .0 ≡ parts) × (ws-18 .1 .1 .1 .1 .1 .0 ≡ lengths) × (ws-18 .1 .1 .1 .1 .1 .1 .0 ≡ rebuilt))) (λ e. (e .0, (e .1, e .2, e .3, e .4, e .5, e .6, e .7)))) (λ _. (and-then ! (load ! (from ! (stop !)) (look ! 74 refl)) (and-then ! (load ! (from ! (stop !)) (look ! 70 refl)) (and-then ! (load ! (from ! (stop !)) (look ! 66 refl)) (and-then ! (load ! (from ! (stop !)) (look ! 62 refl)) (and-then ! (load ! (from ! (stop !)) (look ! 58 refl)) (and-then ! (load ! (from ! (stop !)) (look ! 54 refl)) (and-then ! (load ! (from ! (stop !)) (look ! 50 refl)) (and-then ! (load ! (from ! (stop !)) (look ! 126 refl)) (and-then ! (load ! (from ! (stop !)) (look ! 124 refl)) (and-then ! (load ! (from ! (stop !)) (look ! 120 refl)) (and-then ! (load ! (from ! (stop !)) (look ! 118 refl)) (and-then ! (load ! (from ! (stop !)) (look ! 116 refl)) (no-more !)))))))))))))) (λ ws-18 said-18 is-18.
+        calls-any ! fm 9 [] (process-needed.signature .params) (process-needed.ended .kept) u64-p (process-needed.clauses 𝓤 H A mem run) known-process-needed ((ν-18-sessions ∷ []), ((ν-18-streams ∷ []), ((ν-18-objects ∷ []), ((ν-18-held ∷ []), ((ν-18-parts ∷ []), ((ν-18-lengths ∷ []), ((ν-18-rebuilt ∷ []), (κ₉, (κ₁₀, tt))))))))) (fullShare, (fullShare, (fullShare, (fullShare, (fullShare, (fullShare, (fullShare, (q₉, (q₁₀, tt))))))))) tt (at-list b₁ o₁ δ-18-sessions sessions, (at-list b₂ o₂ δ-18-streams streams, (at-list b₃ o₃ δ-18-objects objects, (at-list b₄ o₄ δ-18-held held, (at-list b₅ o₅ δ-18-parts parts, (at-list b₆ o₆ δ-18-lengths lengths, (at-list b₇ o₇ δ-18-rebuilt rebuilt, (at-list b₉ o₉ γ₉ d, (at-list b₁₀ o₁₀ γ₁₀ sample, (start, (n′, (n₈, tt)))))))))))) (sliceVal (b₁, o₁) n₁ ∷ [], (sliceVal (b₂, o₂) n₂ ∷ [], (sliceVal (b₃, o₃) n₃ ∷ [], (sliceVal (b₄, o₄) n₄ ∷ [], (sliceVal (b₅, o₅) n₅ ∷ [], (sliceVal (b₆, o₆) n₆ ∷ [], (sliceVal (b₇, o₇) n₇ ∷ [], (sliceVal (b₉, o₉) n₉ ∷ [], (sliceVal (b₁₀, o₁₀) n₁₀ ∷ [], (Start-p .val start ∷ [], (u64-p .val n′ ∷ [], (u64-p .val n₈ ∷ [], tt)))))))))))) tt (neededOf (bounded n₈ start n′ (d) (length (sample))) (performed start (lent (sessions) (streams) (objects) (held) (parts) (lengths) (rebuilt)) (d) (sample) .ran .wrote)) (λ ws-18. (ws-18 .0 ≡ sessions) × (ws-18 .1 .0 ≡ streams) × (ws-18 .1 .1 .0 ≡ objects) × (ws-18 .1 .1 .1 .0 ≡ held) × (ws-18 .1 .1 .1 .1 .0 ≡ parts) × (ws-18 .1 .1 .1 .1 .1 .0 ≡ lengths) × (ws-18 .1 .1 .1 .1 .1 .1 .0 ≡ rebuilt)) (factI 𝓤 ((resumesFit (start .resumes) (start .frame .«stream_id») (length (sample)) ≡ true) × (start .frame .room ≤ 9223372036854775807) × (256 ≤ length (sessions)) × (2048 ≤ length (streams)) × (8192 ≤ length (objects)) × (32768 ≤ length (rebuilt))) _ asks-18) (λ r ws-18. fact-mono 𝓤 ((r ≡ neededOf (bounded n₈ start n′ (d) (length (sample))) (performed start (lent (sessions) (streams) (objects) (held) (parts) (lengths) (rebuilt)) (d) (sample) .ran .wrote)) × ((ws-18 .0) ≡ sessions) × ((ws-18 .1 .0) ≡ streams) × ((ws-18 .1 .1 .0) ≡ objects) × ((ws-18 .1 .1 .1 .0) ≡ held) × ((ws-18 .1 .1 .1 .1 .0) ≡ parts) × ((ws-18 .1 .1 .1 .1 .1 .0) ≡ lengths) × ((ws-18 .1 .1 .1 .1 .1 .1 .0) ≡ rebuilt)) ((r ≡ (neededOf (bounded n₈ start n′ (d) (length (sample))) (performed start (lent (sessions) (streams) (objects) (held) (parts) (lengths) (rebuilt)) (d) (sample) .ran .wrote))) × ((ws-18 .0 ≡ sessions) × (ws-18 .1 .0 ≡ streams) × (ws-18 .1 .1 .0 ≡ objects) × (ws-18 .1 .1 .1 .0 ≡ held) × (ws-18 .1 .1 .1 .1 .0 ≡ parts) × (ws-18 .1 .1 .1 .1 .1 .0 ≡ lengths) × (ws-18 .1 .1 .1 .1 .1 .1 .0 ≡ rebuilt))) (λ e. (e .0, (e .1, e .2, e .3, e .4, e .5, e .6, e .7)))) (λ _. (and-then ! (load ! (from ! (stop !)) (look ! 62 refl)) (and-then ! (load ! (from ! (stop !)) (look ! 58 refl)) (and-then ! (load ! (from ! (stop !)) (look ! 54 refl)) (and-then ! (load ! (from ! (stop !)) (look ! 50 refl)) (and-then ! (load ! (from ! (stop !)) (look ! 46 refl)) (and-then ! (load ! (from ! (stop !)) (look ! 42 refl)) (and-then ! (load ! (from ! (stop !)) (look ! 38 refl)) (and-then ! (load ! (from ! (stop !)) (look ! 114 refl)) (and-then ! (load ! (from ! (stop !)) (look ! 112 refl)) (and-then ! (load ! (from ! (stop !)) (look ! 108 refl)) (and-then ! (load ! (from ! (stop !)) (look ! 106 refl)) (and-then ! (load ! (from ! (stop !)) (look ! 104 refl)) (no-more !)))))))))))))) (λ ws-18 said-18 is-18.
         use1 W ((‵ (flft (ν-18-sessions ∷ []) fullShare) ⊛ (‵ (flft (ν-18-streams ∷ []) fullShare) ⊛ (‵ (flft (ν-18-objects ∷ []) fullShare) ⊛ (‵ (flft (ν-18-held ∷ []) fullShare) ⊛ (‵ (flft (ν-18-parts ∷ []) fullShare) ⊛ (‵ (flft (ν-18-lengths ∷ []) fullShare) ⊛ (‵ (flft (ν-18-rebuilt ∷ []) fullShare) ⊛ (‵ (flft κ₉ q₉) ⊛ (‵ (flft κ₁₀ q₁₀) ⊛ ‵ ftrue)))))))))) (id⊢ 𝓤 _) $ split ! $ move ! (1 ∷ []) $ split ! $ move ! (1 ∷ []) $ split ! $ move ! (1 ∷ []) $ split ! $ move ! (1 ∷ []) $ split ! $ move ! (1 ∷ []) $ split ! $ move ! (1 ∷ []) $ split ! $ move ! (1 ∷ []) $ split ! $ move ! (1 ∷ []) $ split ! $ move ! (10 ∷ []) $ fsplit ! $ fsplit ! $ move ! (1 ∷ []) $
         feqL ! (λ wlen-18-0.
         move ! (1 ∷ []) $ fsplit ! $ fsplit ! $ move ! (1 ∷ []) $
@@ -618,32 +604,32 @@ module _ {M : Type 1} (𝓤 : URA M) (H : Heap 𝓤) (A : Atoms 𝓤) (W : Given
         move ! (19 ∷ 22 ∷ 15 ∷ []) $
         backs-mut ! tt u8 b₇ o₇ rebuilt n₇ (refl) room₇ ν-18-rebuilt δ-18-rebuilt (ws-18 .1 .1 .1 .1 .1 .1 .0) rebuilt wlen-18-6 (said-18 .6) (λ len-18-rebuilt.
         move ! (14 ∷ []) $ drop ! $ move ! (14 ∷ []) $ drop ! $ move ! (14 ∷ []) $ drop ! $ move ! (15 ∷ []) $ drop ! $
-        land ! (from ! (stop !)) (init ! 122 refl (u64-p .typed 𝓤 H A W (neededOf (bounded n₈ start n′ (d) (length (sample))) (performed start (lent (sessions) (streams) (objects) (held) (parts) (lengths) (rebuilt)) (d) (sample) .ran .wrote)) is-18)) $ move ! (12 ∷ 13 ∷ 10 ∷ 11 ∷ 8 ∷ 9 ∷ 6 ∷ 7 ∷ 4 ∷ 5 ∷ 2 ∷ 3 ∷ 0 ∷ 1 ∷ 18 ∷ 19 ∷ 17 ∷ 15 ∷ 16 ∷ 14 ∷ 20 ∷ 21 ∷ 22 ∷ 23 ∷ 24 ∷ 25 ∷ 26 ∷ 27 ∷ 28 ∷ 29 ∷ 30 ∷ 31 ∷ 32 ∷ 33 ∷ 34 ∷ 35 ∷ 36 ∷ 37 ∷ 38 ∷ 39 ∷ 40 ∷ 41 ∷ 42 ∷ 43 ∷ 44 ∷ 45 ∷ 46 ∷ 47 ∷ 48 ∷ 49 ∷ 50 ∷ 51 ∷ 52 ∷ 53 ∷ 54 ∷ 55 ∷ 56 ∷ 57 ∷ 58 ∷ 59 ∷ 60 ∷ 61 ∷ 62 ∷ 63 ∷ 64 ∷ 65 ∷ 66 ∷ 67 ∷ 68 ∷ 69 ∷ 70 ∷ 71 ∷ 72 ∷ 73 ∷ 74 ∷ 75 ∷ 76 ∷ 77 ∷ 78 ∷ 79 ∷ 80 ∷ 81 ∷ 82 ∷ 83 ∷ 84 ∷ 85 ∷ 86 ∷ 87 ∷ 88 ∷ 89 ∷ 90 ∷ 91 ∷ 92 ∷ 93 ∷ 94 ∷ 95 ∷ 96 ∷ 97 ∷ 98 ∷ 99 ∷ 100 ∷ 101 ∷ 102 ∷ 103 ∷ 104 ∷ 105 ∷ 106 ∷ 107 ∷ 108 ∷ 109 ∷ 110 ∷ 111 ∷ 112 ∷ 113 ∷ 114 ∷ 115 ∷ 116 ∷ 117 ∷ 118 ∷ 119 ∷ 120 ∷ 121 ∷ 122 ∷ 123 ∷ 124 ∷ 125 ∷ 126 ∷ 127 ∷ 128 ∷ 129 ∷ 130 ∷ 131 ∷ 132 ∷ 133 ∷ 134 ∷ 135 ∷ 136 ∷ 137 ∷ 138 ∷ 139 ∷ 140 ∷ 141 ∷ 142 ∷ 143 ∷ 144 ∷ 145 ∷ 146 ∷ 147 ∷ 148 ∷ 149 ∷ 150 ∷ 151 ∷ 152 ∷ 153 ∷ []) $
+        land ! (from ! (stop !)) (init ! 110 refl (u64-p .typed 𝓤 H A W (neededOf (bounded n₈ start n′ (d) (length (sample))) (performed start (lent (sessions) (streams) (objects) (held) (parts) (lengths) (rebuilt)) (d) (sample) .ran .wrote)) is-18)) $ move ! (12 ∷ 13 ∷ 10 ∷ 11 ∷ 8 ∷ 9 ∷ 6 ∷ 7 ∷ 4 ∷ 5 ∷ 2 ∷ 3 ∷ 0 ∷ 1 ∷ 18 ∷ 19 ∷ 17 ∷ 15 ∷ 16 ∷ 14 ∷ 20 ∷ 21 ∷ 22 ∷ 23 ∷ 24 ∷ 25 ∷ 26 ∷ 27 ∷ 28 ∷ 29 ∷ 30 ∷ 31 ∷ 32 ∷ 33 ∷ 34 ∷ 35 ∷ 36 ∷ 37 ∷ 38 ∷ 39 ∷ 40 ∷ 41 ∷ 42 ∷ 43 ∷ 44 ∷ 45 ∷ 46 ∷ 47 ∷ 48 ∷ 49 ∷ 50 ∷ 51 ∷ 52 ∷ 53 ∷ 54 ∷ 55 ∷ 56 ∷ 57 ∷ 58 ∷ 59 ∷ 60 ∷ 61 ∷ 62 ∷ 63 ∷ 64 ∷ 65 ∷ 66 ∷ 67 ∷ 68 ∷ 69 ∷ 70 ∷ 71 ∷ 72 ∷ 73 ∷ 74 ∷ 75 ∷ 76 ∷ 77 ∷ 78 ∷ 79 ∷ 80 ∷ 81 ∷ 82 ∷ 83 ∷ 84 ∷ 85 ∷ 86 ∷ 87 ∷ 88 ∷ 89 ∷ 90 ∷ 91 ∷ 92 ∷ 93 ∷ 94 ∷ 95 ∷ 96 ∷ 97 ∷ 98 ∷ 99 ∷ 100 ∷ 101 ∷ 102 ∷ 103 ∷ 104 ∷ 105 ∷ 106 ∷ 107 ∷ 108 ∷ 109 ∷ 110 ∷ 111 ∷ 112 ∷ 113 ∷ 114 ∷ 115 ∷ 116 ∷ 117 ∷ 118 ∷ 119 ∷ 120 ∷ 121 ∷ 122 ∷ 123 ∷ 124 ∷ 125 ∷ 126 ∷ 127 ∷ 128 ∷ 129 ∷ 130 ∷ 131 ∷ 132 ∷ 133 ∷ 134 ∷ 135 ∷ 136 ∷ 137 ∷ 138 ∷ 139 ∷ 140 ∷ 141 ∷ []) $
         part-19-2 is-1 c-2 asks-18 len-18-sessions len-18-streams len-18-objects len-18-held len-18-parts len-18-lengths len-18-rebuilt is-18)))))))))))))))))))))))))
 
-    begins : Sq W (‵ (MutSlice (named 0) κ₁ (Array u64 8) .own (at-list b₁ o₁ γ₁ sessions) (sliceVal (b₁, o₁) n₁ ∷ [])) ∷ ‵ (flft κ₁ q₁) ∷ ‵ (MutSlice (named 0) κ₂ (Array u16 35) .own (at-list b₂ o₂ γ₂ streams) (sliceVal (b₂, o₂) n₂ ∷ [])) ∷ ‵ (flft κ₂ q₂) ∷ ‵ (MutSlice (named 0) κ₃ Object-t.the-row .own (at-list b₃ o₃ γ₃ objects) (sliceVal (b₃, o₃) n₃ ∷ [])) ∷ ‵ (flft κ₃ q₃) ∷ ‵ (MutSlice (named 0) κ₄ u8 .own (at-list b₄ o₄ γ₄ held) (sliceVal (b₄, o₄) n₄ ∷ [])) ∷ ‵ (flft κ₄ q₄) ∷ ‵ (MutSlice (named 0) κ₅ u8 .own (at-list b₅ o₅ γ₅ parts) (sliceVal (b₅, o₅) n₅ ∷ [])) ∷ ‵ (flft κ₅ q₅) ∷ ‵ (MutSlice (named 0) κ₆ u32 .own (at-list b₆ o₆ γ₆ lengths) (sliceVal (b₆, o₆) n₆ ∷ [])) ∷ ‵ (flft κ₆ q₆) ∷ ‵ (MutSlice (named 0) κ₇ u8 .own (at-list b₇ o₇ γ₇ rebuilt) (sliceVal (b₇, o₇) n₇ ∷ [])) ∷ ‵ (flft κ₇ q₇) ∷ ‵ (MutSlice (named 0) κ₈ u8 .own (at-list b₈ o₈ γ₈ out) (sliceVal (b₈, o₈) n₈ ∷ [])) ∷ ‵ (flft κ₈ q₈) ∷ ‵ (ShrSlice (named 0) κ₉ u8 .own (at-list b₉ o₉ γ₉ d) (sliceVal (b₉, o₉) n₉ ∷ [])) ∷ ‵ (flft κ₉ q₉) ∷ ‵ (ShrSlice (named 0) κ₁₀ u8 .own (at-list b₁₀ o₁₀ γ₁₀ sample) (sliceVal (b₁₀, o₁₀) n₁₀ ∷ [])) ∷ ‵ (flft κ₁₀ q₁₀) ∷ free 𝓤 (sliceTy (tyRef erased mut (pointee (u8 .written)))) l₆₆ (free 𝓤 (tyRef erased mut (pointee (u8 .written))) l₆₅ (free 𝓤 (sliceTy (tyRef erased mut (pointee (u8 .written)))) l₆₄ (free 𝓤 (tyRef erased mut (pointee (u8 .written))) l₆₃ (free 𝓤 (sliceTy (tyRef erased mut (pointee (u32 .written)))) l₆₂ (free 𝓤 (tyRef erased mut (pointee (u32 .written))) l₆₁ (free 𝓤 (sliceTy (tyRef erased mut (pointee (u8 .written)))) l₆₀ (free 𝓤 (tyRef erased mut (pointee (u8 .written))) l₅₉ (free 𝓤 (sliceTy (tyRef erased mut (pointee (u8 .written)))) l₅₈ (free 𝓤 (tyRef erased mut (pointee (u8 .written))) l₅₇ (free 𝓤 (sliceTy (tyRef erased mut (pointee (Object-t.the-row .written)))) l₅₆ (free 𝓤 (tyRef erased mut (pointee (Object-t.the-row .written))) l₅₅ (free 𝓤 (sliceTy (tyRef erased mut (pointee ((Array u16 35) .written)))) l₅₄ (free 𝓤 (tyRef erased mut (pointee ((Array u16 35) .written))) l₅₃ (free 𝓤 (sliceTy (tyRef erased mut (pointee ((Array u64 8) .written)))) l₅₂ (free 𝓤 (tyRef erased mut (pointee ((Array u64 8) .written))) l₅₁ (free 𝓤 Refusal-l.mir l₅₀ (free 𝓤 Processed-l.mir l₄₉ (free 𝓤 tyBool l₄₈ (free 𝓤 (sliceTy (tyRef erased mut (pointee (u8 .written)))) l₄₇ (free 𝓤 (tyRef erased mut (pointee (u8 .written))) l₄₆ (free 𝓤 (sliceTy (tyRef erased mut (pointee (u32 .written)))) l₄₅ (free 𝓤 (tyRef erased mut (pointee (u32 .written))) l₄₄ (free 𝓤 (sliceTy (tyRef erased mut (pointee (u8 .written)))) l₄₃ (free 𝓤 (tyRef erased mut (pointee (u8 .written))) l₄₂ (free 𝓤 (sliceTy (tyRef erased mut (pointee (u8 .written)))) l₄₁ (free 𝓤 (tyRef erased mut (pointee (u8 .written))) l₄₀ (free 𝓤 (sliceTy (tyRef erased mut (pointee (Object-t.the-row .written)))) l₃₉ (free 𝓤 (tyRef erased mut (pointee (Object-t.the-row .written))) l₃₈ (free 𝓤 (sliceTy (tyRef erased mut (pointee ((Array u16 35) .written)))) l₃₇ (free 𝓤 (tyRef erased mut (pointee ((Array u16 35) .written))) l₃₆ (free 𝓤 (sliceTy (tyRef erased mut (pointee ((Array u64 8) .written)))) l₃₅ (free 𝓤 (tyRef erased mut (pointee ((Array u64 8) .written))) l₃₄ (free 𝓤 (sliceTy (tyRef erased mut (pointee (u8 .written)))) l₃₃ (free 𝓤 (tyRef erased mut (pointee (u8 .written))) l₃₂ (free 𝓤 (sliceTy (tyRef erased mut (pointee (u8 .written)))) l₃₁ (free 𝓤 (tyRef erased mut (pointee (u8 .written))) l₃₀ (free 𝓤 (sliceTy (tyRef erased mut (pointee (u32 .written)))) l₂₉ (free 𝓤 (tyRef erased mut (pointee (u32 .written))) l₂₈ (free 𝓤 (sliceTy (tyRef erased mut (pointee (u8 .written)))) l₂₇ (free 𝓤 (tyRef erased mut (pointee (u8 .written))) l₂₆ (free 𝓤 (sliceTy (tyRef erased mut (pointee (u8 .written)))) l₂₅ (free 𝓤 (tyRef erased mut (pointee (u8 .written))) l₂₄ (free 𝓤 (sliceTy (tyRef erased mut (pointee (Object-t.the-row .written)))) l₂₃ (free 𝓤 (tyRef erased mut (pointee (Object-t.the-row .written))) l₂₂ (free 𝓤 (sliceTy (tyRef erased mut (pointee ((Array u16 35) .written)))) l₂₁ (free 𝓤 (tyRef erased mut (pointee ((Array u16 35) .written))) l₂₀ (free 𝓤 (sliceTy (tyRef erased mut (pointee ((Array u64 8) .written)))) l₁₉ (free 𝓤 (tyRef erased mut (pointee ((Array u64 8) .written))) l₁₈ (free 𝓤 tyBool l₁₇ (free 𝓤 Ran-l.mir l₁₆ (free 𝓤 (tyInt w64) l₁₅ (free 𝓤 (tyInt w64) l₁₄ (full 𝓤 (tyInt w64) l₁₃ (u64-p .val n′) (full 𝓤 Start-l.mir l₁₂ (Start-p .val start) (full 𝓤 Agent-l.mir l₁₁ (Agent-p .val agent) (full 𝓤 (sliceTy (tyRef (named 9) imm (pointee (u8 .written)))) l₁₀ (sliceVal (b₁₀, o₁₀) n₁₀) (full 𝓤 (sliceTy (tyRef (named 8) imm (pointee (u8 .written)))) l₉ (sliceVal (b₉, o₉) n₉) (full 𝓤 (sliceTy (tyRef (named 7) mut (pointee (u8 .written)))) l₈ (sliceVal (b₈, o₈) n₈) (full 𝓤 (sliceTy (tyRef (named 6) mut (pointee (u8 .written)))) l₇ (sliceVal (b₇, o₇) n₇) (full 𝓤 (sliceTy (tyRef (named 5) mut (pointee (u32 .written)))) l₆ (sliceVal (b₆, o₆) n₆) (full 𝓤 (sliceTy (tyRef (named 4) mut (pointee (u8 .written)))) l₅ (sliceVal (b₅, o₅) n₅) (full 𝓤 (sliceTy (tyRef (named 3) mut (pointee (u8 .written)))) l₄ (sliceVal (b₄, o₄) n₄) (full 𝓤 (sliceTy (tyRef (named 2) mut (pointee (Object-t.the-row .written)))) l₃ (sliceVal (b₃, o₃) n₃) (full 𝓤 (sliceTy (tyRef (named 1) mut (pointee ((Array u16 35) .written)))) l₂ (sliceVal (b₂, o₂) n₂) (full 𝓤 (sliceTy (tyRef (named 0) mut (pointee ((Array u64 8) .written)))) l₁ (sliceVal (b₁, o₁) n₁) (free 𝓤 Processed-l.mir l₀ ([])))))))))))))))))))))))))))))))))))))))))))))))))))))))))))))))))))) (runs C Λ En mir.t-1 (atRet En Post))
+    begins : Sq W (‵ (MutSlice (named 0) κ₁ (Array u64 8) .own (at-list b₁ o₁ γ₁ sessions) (sliceVal (b₁, o₁) n₁ ∷ [])) ∷ ‵ (flft κ₁ q₁) ∷ ‵ (MutSlice (named 0) κ₂ (Array u16 35) .own (at-list b₂ o₂ γ₂ streams) (sliceVal (b₂, o₂) n₂ ∷ [])) ∷ ‵ (flft κ₂ q₂) ∷ ‵ (MutSlice (named 0) κ₃ Object-t.the-row .own (at-list b₃ o₃ γ₃ objects) (sliceVal (b₃, o₃) n₃ ∷ [])) ∷ ‵ (flft κ₃ q₃) ∷ ‵ (MutSlice (named 0) κ₄ u8 .own (at-list b₄ o₄ γ₄ held) (sliceVal (b₄, o₄) n₄ ∷ [])) ∷ ‵ (flft κ₄ q₄) ∷ ‵ (MutSlice (named 0) κ₅ u8 .own (at-list b₅ o₅ γ₅ parts) (sliceVal (b₅, o₅) n₅ ∷ [])) ∷ ‵ (flft κ₅ q₅) ∷ ‵ (MutSlice (named 0) κ₆ u32 .own (at-list b₆ o₆ γ₆ lengths) (sliceVal (b₆, o₆) n₆ ∷ [])) ∷ ‵ (flft κ₆ q₆) ∷ ‵ (MutSlice (named 0) κ₇ u8 .own (at-list b₇ o₇ γ₇ rebuilt) (sliceVal (b₇, o₇) n₇ ∷ [])) ∷ ‵ (flft κ₇ q₇) ∷ ‵ (MutSlice (named 0) κ₈ u8 .own (at-list b₈ o₈ γ₈ out) (sliceVal (b₈, o₈) n₈ ∷ [])) ∷ ‵ (flft κ₈ q₈) ∷ ‵ (ShrSlice (named 0) κ₉ u8 .own (at-list b₉ o₉ γ₉ d) (sliceVal (b₉, o₉) n₉ ∷ [])) ∷ ‵ (flft κ₉ q₉) ∷ ‵ (ShrSlice (named 0) κ₁₀ u8 .own (at-list b₁₀ o₁₀ γ₁₀ sample) (sliceVal (b₁₀, o₁₀) n₁₀ ∷ [])) ∷ ‵ (flft κ₁₀ q₁₀) ∷ free 𝓤 (sliceTy (tyRef erased mut (pointee (u8 .written)))) l₆₀ (free 𝓤 (tyRef erased mut (pointee (u8 .written))) l₅₉ (free 𝓤 (sliceTy (tyRef erased mut (pointee (u8 .written)))) l₅₈ (free 𝓤 (tyRef erased mut (pointee (u8 .written))) l₅₇ (free 𝓤 (sliceTy (tyRef erased mut (pointee (Object-t.the-row .written)))) l₅₆ (free 𝓤 (tyRef erased mut (pointee (Object-t.the-row .written))) l₅₅ (free 𝓤 (sliceTy (tyRef erased mut (pointee ((Array u16 35) .written)))) l₅₄ (free 𝓤 (tyRef erased mut (pointee ((Array u16 35) .written))) l₅₃ (free 𝓤 (sliceTy (tyRef erased mut (pointee ((Array u64 8) .written)))) l₅₂ (free 𝓤 (tyRef erased mut (pointee ((Array u64 8) .written))) l₅₁ (free 𝓤 Refusal-l.mir l₅₀ (free 𝓤 Processed-l.mir l₄₉ (free 𝓤 tyBool l₄₈ (free 𝓤 (sliceTy (tyRef erased mut (pointee (u8 .written)))) l₄₇ (free 𝓤 (tyRef erased mut (pointee (u8 .written))) l₄₆ (free 𝓤 (sliceTy (tyRef erased mut (pointee (u32 .written)))) l₄₅ (free 𝓤 (tyRef erased mut (pointee (u32 .written))) l₄₄ (free 𝓤 (sliceTy (tyRef erased mut (pointee (u8 .written)))) l₄₃ (free 𝓤 (tyRef erased mut (pointee (u8 .written))) l₄₂ (free 𝓤 (sliceTy (tyRef erased mut (pointee (u8 .written)))) l₄₁ (free 𝓤 (tyRef erased mut (pointee (u8 .written))) l₄₀ (free 𝓤 (sliceTy (tyRef erased mut (pointee (Object-t.the-row .written)))) l₃₉ (free 𝓤 (tyRef erased mut (pointee (Object-t.the-row .written))) l₃₈ (free 𝓤 (sliceTy (tyRef erased mut (pointee ((Array u16 35) .written)))) l₃₇ (free 𝓤 (tyRef erased mut (pointee ((Array u16 35) .written))) l₃₆ (free 𝓤 (sliceTy (tyRef erased mut (pointee ((Array u64 8) .written)))) l₃₅ (free 𝓤 (tyRef erased mut (pointee ((Array u64 8) .written))) l₃₄ (free 𝓤 (sliceTy (tyRef erased mut (pointee (u8 .written)))) l₃₃ (free 𝓤 (tyRef erased mut (pointee (u8 .written))) l₃₂ (free 𝓤 (sliceTy (tyRef erased mut (pointee (u8 .written)))) l₃₁ (free 𝓤 (tyRef erased mut (pointee (u8 .written))) l₃₀ (free 𝓤 (sliceTy (tyRef erased mut (pointee (u32 .written)))) l₂₉ (free 𝓤 (tyRef erased mut (pointee (u32 .written))) l₂₈ (free 𝓤 (sliceTy (tyRef erased mut (pointee (u8 .written)))) l₂₇ (free 𝓤 (tyRef erased mut (pointee (u8 .written))) l₂₆ (free 𝓤 (sliceTy (tyRef erased mut (pointee (u8 .written)))) l₂₅ (free 𝓤 (tyRef erased mut (pointee (u8 .written))) l₂₄ (free 𝓤 (sliceTy (tyRef erased mut (pointee (Object-t.the-row .written)))) l₂₃ (free 𝓤 (tyRef erased mut (pointee (Object-t.the-row .written))) l₂₂ (free 𝓤 (sliceTy (tyRef erased mut (pointee ((Array u16 35) .written)))) l₂₁ (free 𝓤 (tyRef erased mut (pointee ((Array u16 35) .written))) l₂₀ (free 𝓤 (sliceTy (tyRef erased mut (pointee ((Array u64 8) .written)))) l₁₉ (free 𝓤 (tyRef erased mut (pointee ((Array u64 8) .written))) l₁₈ (free 𝓤 tyBool l₁₇ (free 𝓤 Ran-l.mir l₁₆ (free 𝓤 (tyInt w64) l₁₅ (free 𝓤 (tyInt w64) l₁₄ (full 𝓤 (tyInt w64) l₁₃ (u64-p .val n′) (full 𝓤 Start-l.mir l₁₂ (Start-p .val start) (full 𝓤 Agent-l.mir l₁₁ (Agent-p .val agent) (full 𝓤 (sliceTy (tyRef (named 9) imm (pointee (u8 .written)))) l₁₀ (sliceVal (b₁₀, o₁₀) n₁₀) (full 𝓤 (sliceTy (tyRef (named 8) imm (pointee (u8 .written)))) l₉ (sliceVal (b₉, o₉) n₉) (full 𝓤 (sliceTy (tyRef (named 7) mut (pointee (u8 .written)))) l₈ (sliceVal (b₈, o₈) n₈) (full 𝓤 (sliceTy (tyRef (named 6) mut (pointee (u8 .written)))) l₇ (sliceVal (b₇, o₇) n₇) (full 𝓤 (sliceTy (tyRef (named 5) mut (pointee (u32 .written)))) l₆ (sliceVal (b₆, o₆) n₆) (full 𝓤 (sliceTy (tyRef (named 4) mut (pointee (u8 .written)))) l₅ (sliceVal (b₅, o₅) n₅) (full 𝓤 (sliceTy (tyRef (named 3) mut (pointee (u8 .written)))) l₄ (sliceVal (b₄, o₄) n₄) (full 𝓤 (sliceTy (tyRef (named 2) mut (pointee (Object-t.the-row .written)))) l₃ (sliceVal (b₃, o₃) n₃) (full 𝓤 (sliceTy (tyRef (named 1) mut (pointee ((Array u16 35) .written)))) l₂ (sliceVal (b₂, o₂) n₂) (full 𝓤 (sliceTy (tyRef (named 0) mut (pointee ((Array u64 8) .written)))) l₁ (sliceVal (b₁, o₁) n₁) (free 𝓤 Processed-l.mir l₀ ([])))))))))))))))))))))))))))))))))))))))))))))))))))))))))))))) (runs C Λ En mir.t-1 (atRet En Post))
     begins =
-        -- 1: agent::process::is_unbound
+        -- 1: agent::bound::is_unbound
         move ! (16 ∷ 17 ∷ []) $
         copies-shr ! u8 b₉ o₉ d n₉ $ nothing ! $ move ! (1 ∷ 0 ∷ []) $ join ! $
         use1 W (raw (toks 𝓤 A 1 ((κ₉, tt)) ((q₉, tt)))) (id⊢ 𝓤 _) $ nothing ! $
         owned ! (Start-p .row) (Is (Start-p .row)) (Start-p .makes 𝓤 H A W) start (Start-p .val start ∷ []) start-is $ fjoin ! $ move ! (2 ∷ 0 ∷ []) $ fjoin ! $ move ! (1 ∷ 0 ∷ []) $
-        calls-any ! fm 1 [] (process-is-unbound.signature .params) (process-is-unbound.ended .kept) bool-p (process-is-unbound.clauses 𝓤 H A mem run) known-process-is-unbound (κ₉, tt) (q₉, tt) tt (at-list b₉ o₉ γ₉ d, (start, tt)) (sliceVal (b₉, o₉) n₉ ∷ [], (Start-p .val start ∷ [], tt)) tt (unbound start (d)) (λ ws-1. Unit {0}) (id⊢ 𝓤 _) (λ r ws-1. fact-mono 𝓤 (r ≡ unbound start (d)) ((r ≡ (unbound start (d))) × (Unit {0})) (λ e. (e, tt))) (λ _. (and-then ! (load ! (from ! (stop !)) (look ! 134 refl)) (and-then ! (load ! (from ! (stop !)) (look ! 128 refl)) (no-more !)))) (λ ws-1 said-1 is-1.
+        calls-any ! fm 1 [] (bound-is-unbound.signature .params) (bound-is-unbound.ended .kept) bool-p (bound-is-unbound.clauses 𝓤 H A mem run) known-bound-is-unbound (κ₉, tt) (q₉, tt) tt (at-list b₉ o₉ γ₉ d, (start, tt)) (sliceVal (b₉, o₉) n₉ ∷ [], (Start-p .val start ∷ [], tt)) tt (unbound start (d)) (λ ws-1. Unit {0}) (id⊢ 𝓤 _) (λ r ws-1. fact-mono 𝓤 (r ≡ unbound start (d)) ((r ≡ (unbound start (d))) × (Unit {0})) (λ e. (e, tt))) (λ _. (and-then ! (load ! (from ! (stop !)) (look ! 122 refl)) (and-then ! (load ! (from ! (stop !)) (look ! 116 refl)) (no-more !)))) (λ ws-1 said-1 is-1.
         use1 W ((‵ (flft κ₉ q₉) ⊛ ‵ ftrue)) (id⊢ 𝓤 _) $ split ! $ move ! (2 ∷ []) $ fsplit ! $ drop ! $ drop ! $ move ! (1 ∷ []) $ drop ! $
-        land ! (from ! (stop !)) (init ! 118 refl (bool-p .typed 𝓤 H A W (unbound start (d)) is-1)) $ move ! (2 ∷ 3 ∷ 4 ∷ 5 ∷ 6 ∷ 7 ∷ 8 ∷ 9 ∷ 10 ∷ 11 ∷ 12 ∷ 13 ∷ 14 ∷ 15 ∷ 16 ∷ 17 ∷ 1 ∷ 0 ∷ 18 ∷ 19 ∷ 20 ∷ 21 ∷ 22 ∷ 23 ∷ 24 ∷ 25 ∷ 26 ∷ 27 ∷ 28 ∷ 29 ∷ 30 ∷ 31 ∷ 32 ∷ 33 ∷ 34 ∷ 35 ∷ 36 ∷ 37 ∷ 38 ∷ 39 ∷ 40 ∷ 41 ∷ 42 ∷ 43 ∷ 44 ∷ 45 ∷ 46 ∷ 47 ∷ 48 ∷ 49 ∷ 50 ∷ 51 ∷ 52 ∷ 53 ∷ 54 ∷ 55 ∷ 56 ∷ 57 ∷ 58 ∷ 59 ∷ 60 ∷ 61 ∷ 62 ∷ 63 ∷ 64 ∷ 65 ∷ 66 ∷ 67 ∷ 68 ∷ 69 ∷ 70 ∷ 71 ∷ 72 ∷ 73 ∷ 74 ∷ 75 ∷ 76 ∷ 77 ∷ 78 ∷ 79 ∷ 80 ∷ 81 ∷ 82 ∷ 83 ∷ 84 ∷ 85 ∷ 86 ∷ 87 ∷ 88 ∷ 89 ∷ 90 ∷ 91 ∷ 92 ∷ 93 ∷ 94 ∷ 95 ∷ 96 ∷ 97 ∷ 98 ∷ 99 ∷ 100 ∷ 101 ∷ 102 ∷ 103 ∷ 104 ∷ 105 ∷ 106 ∷ 107 ∷ 108 ∷ 109 ∷ 110 ∷ 111 ∷ 112 ∷ 113 ∷ 114 ∷ 115 ∷ 116 ∷ 117 ∷ 118 ∷ 119 ∷ 120 ∷ 121 ∷ 122 ∷ 123 ∷ 124 ∷ 125 ∷ 126 ∷ 127 ∷ 128 ∷ 129 ∷ 130 ∷ 131 ∷ 132 ∷ 133 ∷ 134 ∷ 135 ∷ 136 ∷ 137 ∷ 138 ∷ 139 ∷ 140 ∷ 141 ∷ 142 ∷ 143 ∷ 144 ∷ 145 ∷ 146 ∷ 147 ∷ 148 ∷ 149 ∷ 150 ∷ 151 ∷ 152 ∷ 153 ∷ []) $
+        land ! (from ! (stop !)) (init ! 106 refl (bool-p .typed 𝓤 H A W (unbound start (d)) is-1)) $ move ! (2 ∷ 3 ∷ 4 ∷ 5 ∷ 6 ∷ 7 ∷ 8 ∷ 9 ∷ 10 ∷ 11 ∷ 12 ∷ 13 ∷ 14 ∷ 15 ∷ 16 ∷ 17 ∷ 1 ∷ 0 ∷ 18 ∷ 19 ∷ 20 ∷ 21 ∷ 22 ∷ 23 ∷ 24 ∷ 25 ∷ 26 ∷ 27 ∷ 28 ∷ 29 ∷ 30 ∷ 31 ∷ 32 ∷ 33 ∷ 34 ∷ 35 ∷ 36 ∷ 37 ∷ 38 ∷ 39 ∷ 40 ∷ 41 ∷ 42 ∷ 43 ∷ 44 ∷ 45 ∷ 46 ∷ 47 ∷ 48 ∷ 49 ∷ 50 ∷ 51 ∷ 52 ∷ 53 ∷ 54 ∷ 55 ∷ 56 ∷ 57 ∷ 58 ∷ 59 ∷ 60 ∷ 61 ∷ 62 ∷ 63 ∷ 64 ∷ 65 ∷ 66 ∷ 67 ∷ 68 ∷ 69 ∷ 70 ∷ 71 ∷ 72 ∷ 73 ∷ 74 ∷ 75 ∷ 76 ∷ 77 ∷ 78 ∷ 79 ∷ 80 ∷ 81 ∷ 82 ∷ 83 ∷ 84 ∷ 85 ∷ 86 ∷ 87 ∷ 88 ∷ 89 ∷ 90 ∷ 91 ∷ 92 ∷ 93 ∷ 94 ∷ 95 ∷ 96 ∷ 97 ∷ 98 ∷ 99 ∷ 100 ∷ 101 ∷ 102 ∷ 103 ∷ 104 ∷ 105 ∷ 106 ∷ 107 ∷ 108 ∷ 109 ∷ 110 ∷ 111 ∷ 112 ∷ 113 ∷ 114 ∷ 115 ∷ 116 ∷ 117 ∷ 118 ∷ 119 ∷ 120 ∷ 121 ∷ 122 ∷ 123 ∷ 124 ∷ 125 ∷ 126 ∷ 127 ∷ 128 ∷ 129 ∷ 130 ∷ 131 ∷ 132 ∷ 133 ∷ 134 ∷ 135 ∷ 136 ∷ 137 ∷ 138 ∷ 139 ∷ 140 ∷ 141 ∷ []) $
         part-2-0 is-1)
 
-  module _ (𝓣 : Tables 𝓤 H) (known-process-is-unbound : Triple 𝓤 (𝓣 .C #process-is-unbound) (Of-process-is-unbound 𝓤 H A mem run)) (known-process-go-unbound : Triple 𝓤 (𝓣 .C #process-go-unbound) (Of-process-go-unbound 𝓤 H A mem run)) (known-process-needed : Triple 𝓤 (𝓣 .C #process-needed) (Of-process-needed 𝓤 H A mem run)) (known-process-refused : Triple 𝓤 (𝓣 .C #process-refused) (Of-process-refused 𝓤 H A mem run)) (known-perform-perform : Triple 𝓤 (𝓣 .C #perform-perform) (Of-perform-perform 𝓤 H A mem run)) (known-process-finished : Triple 𝓤 (𝓣 .C #process-finished) (Of-process-finished 𝓤 H A mem run)) where
+  module _ (𝓣 : Tables 𝓤 H) (known-bound-is-unbound : Triple 𝓤 (𝓣 .C #bound-is-unbound) (Of-bound-is-unbound 𝓤 H A mem run)) (known-process-go-unbound : Triple 𝓤 (𝓣 .C #process-go-unbound) (Of-process-go-unbound 𝓤 H A mem run)) (known-process-needed : Triple 𝓤 (𝓣 .C #process-needed) (Of-process-needed 𝓤 H A mem run)) (known-process-refused : Triple 𝓤 (𝓣 .C #process-refused) (Of-process-refused 𝓤 H A mem run)) (known-perform-perform-plain : Triple 𝓤 (𝓣 .C #perform-perform-plain) (Of-perform-perform-plain 𝓤 H A mem run)) (known-process-finished : Triple 𝓤 (𝓣 .C #process-finished) (Of-process-finished 𝓤 H A mem run)) where
     walk : ent 𝓤 (onEntry 𝓤 H A f.signature (κ₁, (κ₂, (κ₃, (κ₄, (κ₅, (κ₆, (κ₇, (κ₈, (κ₉, (κ₁₀, tt)))))))))) (q₁, (q₂, (q₃, (q₄, (q₅, (q₆, (q₇, (q₈, (q₉, (q₁₀, tt)))))))))) x at) (WpFn 𝓤 H (𝓣 .C) (𝓣 .Λ) code.function (sliceVal (b₁, o₁) n₁ ∷ sliceVal (b₂, o₂) n₂ ∷ sliceVal (b₃, o₃) n₃ ∷ sliceVal (b₄, o₄) n₄ ∷ sliceVal (b₅, o₅) n₅ ∷ sliceVal (b₆, o₆) n₆ ∷ sliceVal (b₇, o₇) n₇ ∷ sliceVal (b₈, o₈) n₈ ∷ sliceVal (b₉, o₉) n₉ ∷ sliceVal (b₁₀, o₁₀) n₁₀ ∷ Agent-p .val agent ∷ Start-p .val start ∷ u64-p .val n′ ∷ []) Post)
     walk =
         qed W ((‵ (flft κ₁ q₁) ⊛ (‵ (flft κ₂ q₂) ⊛ (‵ (flft κ₃ q₃) ⊛ (‵ (flft κ₄ q₄) ⊛ (‵ (flft κ₅ q₅) ⊛ (‵ (flft κ₆ q₆) ⊛ (‵ (flft κ₇ q₇) ⊛ (‵ (flft κ₈ q₈) ⊛ (‵ (flft κ₉ q₉) ⊛ (‵ (flft κ₁₀ q₁₀) ⊛ ‵ ftrue)))))))))) ∷ ‵ (owns (MutSlice (named 0) κ₁ (Array u64 8) ∷ MutSlice (named 1) κ₂ (Array u16 35) ∷ MutSlice (named 2) κ₃ Object-t.the-row ∷ MutSlice (named 3) κ₄ u8 ∷ MutSlice (named 4) κ₅ u8 ∷ MutSlice (named 5) κ₆ u32 ∷ MutSlice (named 6) κ₇ u8 ∷ MutSlice (named 7) κ₈ u8 ∷ ShrSlice (named 8) κ₉ u8 ∷ ShrSlice (named 9) κ₁₀ u8 ∷ Agent-p .row ∷ Start-p .row ∷ u64-p .row ∷ []) x at) ∷ []) ∵ enter ! (𝓣 .C) (𝓣 .Λ) code.function (sliceVal (b₁, o₁) n₁ ∷ sliceVal (b₂, o₂) n₂ ∷ sliceVal (b₃, o₃) n₃ ∷ sliceVal (b₄, o₄) n₄ ∷ sliceVal (b₅, o₅) n₅ ∷ sliceVal (b₆, o₆) n₆ ∷ sliceVal (b₇, o₇) n₇ ∷ sliceVal (b₈, o₈) n₈ ∷ sliceVal (b₉, o₉) n₉ ∷ sliceVal (b₁₀, o₁₀) n₁₀ ∷ Agent-p .val agent ∷ Start-p .val start ∷ u64-p .val n′ ∷ []) _ $
-        alloc1 ! (λ l₀. alloc1 ! (λ l₁. alloc1 ! (λ l₂. alloc1 ! (λ l₃. alloc1 ! (λ l₄. alloc1 ! (λ l₅. alloc1 ! (λ l₆. alloc1 ! (λ l₇. alloc1 ! (λ l₈. alloc1 ! (λ l₉. alloc1 ! (λ l₁₀. alloc1 ! (λ l₁₁. alloc1 ! (λ l₁₂. alloc1 ! (λ l₁₃. alloc1 ! (λ l₁₄. alloc1 ! (λ l₁₅. alloc1 ! (λ l₁₆. alloc1 ! (λ l₁₇. alloc1 ! (λ l₁₈. alloc1 ! (λ l₁₉. alloc1 ! (λ l₂₀. alloc1 ! (λ l₂₁. alloc1 ! (λ l₂₂. alloc1 ! (λ l₂₃. alloc1 ! (λ l₂₄. alloc1 ! (λ l₂₅. alloc1 ! (λ l₂₆. alloc1 ! (λ l₂₇. alloc1 ! (λ l₂₈. alloc1 ! (λ l₂₉. alloc1 ! (λ l₃₀. alloc1 ! (λ l₃₁. alloc1 ! (λ l₃₂. alloc1 ! (λ l₃₃. alloc1 ! (λ l₃₄. alloc1 ! (λ l₃₅. alloc1 ! (λ l₃₆. alloc1 ! (λ l₃₇. alloc1 ! (λ l₃₈. alloc1 ! (λ l₃₉. alloc1 ! (λ l₄₀. alloc1 ! (λ l₄₁. alloc1 ! (λ l₄₂. alloc1 ! (λ l₄₃. alloc1 ! (λ l₄₄. alloc1 ! (λ l₄₅. alloc1 ! (λ l₄₆. alloc1 ! (λ l₄₇. alloc1 ! (λ l₄₈. alloc1 ! (λ l₄₉. alloc1 ! (λ l₅₀. alloc1 ! (λ l₅₁. alloc1 ! (λ l₅₂. alloc1 ! (λ l₅₃. alloc1 ! (λ l₅₄. alloc1 ! (λ l₅₅. alloc1 ! (λ l₅₆. alloc1 ! (λ l₅₇. alloc1 ! (λ l₅₈. alloc1 ! (λ l₅₉. alloc1 ! (λ l₆₀. alloc1 ! (λ l₆₁. alloc1 ! (λ l₆₂. alloc1 ! (λ l₆₃. alloc1 ! (λ l₆₄. alloc1 ! (λ l₆₅. alloc1 ! (λ l₆₆. alloc0 ! $ params1 ! $ pass1 ! (init ! 130 refl (tt, (tt, (record { fits = room₁ .0 }, tt)))) $ pass1 ! (init ! 128 refl (tt, (tt, (record { fits = room₂ .0 }, tt)))) $ pass1 ! (init ! 126 refl (tt, (tt, (record { fits = room₃ .0 }, tt)))) $ pass1 ! (init ! 124 refl (tt, (tt, (record { fits = room₄ .0 }, tt)))) $ pass1 ! (init ! 122 refl (tt, (tt, (record { fits = room₅ .0 }, tt)))) $ pass1 ! (init ! 120 refl (tt, (tt, (record { fits = room₆ .0 }, tt)))) $ pass1 ! (init ! 118 refl (tt, (tt, (record { fits = room₇ .0 }, tt)))) $ pass1 ! (init ! 116 refl (tt, (tt, (record { fits = room₈ .0 }, tt)))) $ pass1 ! (init ! 114 refl (tt, (tt, (record { fits = room₉ .0 }, tt)))) $ pass1 ! (init ! 112 refl (tt, (tt, (record { fits = room₁₀ .0 }, tt)))) $ pass1 ! (init ! 110 refl (Agent-p .typed 𝓤 H A W agent agent-is)) $ pass1 ! (init ! 108 refl (Start-p .typed 𝓤 H A W start start-is)) $ pass1 ! (init ! 106 refl (u64-p .typed 𝓤 H A W n′ n′-is)) $ pass0 ! $ move ! (135 ∷ []) $ fsplit ! $ move ! (1 ∷ []) $ fsplit ! $ move ! (1 ∷ []) $ fsplit ! $ move ! (1 ∷ []) $ fsplit ! $ move ! (1 ∷ []) $ fsplit ! $ move ! (1 ∷ []) $ fsplit ! $ move ! (1 ∷ []) $ fsplit ! $ move ! (1 ∷ []) $ fsplit ! $ move ! (1 ∷ []) $ fsplit ! $ move ! (1 ∷ []) $ fsplit ! $ move ! (145 ∷ []) $ split ! $ move ! (1 ∷ []) $ split ! $ move ! (1 ∷ []) $ split ! $ move ! (1 ∷ []) $ split ! $ move ! (1 ∷ []) $ split ! $ move ! (1 ∷ []) $ split ! $ move ! (1 ∷ []) $ split ! $ move ! (1 ∷ []) $ split ! $ move ! (1 ∷ []) $ split ! $ move ! (1 ∷ []) $ split ! $ move ! (1 ∷ []) $ drop ! $ move ! (11 ∷ []) $ drop ! $ move ! (19 ∷ 9 ∷ 18 ∷ 8 ∷ 17 ∷ 7 ∷ 16 ∷ 6 ∷ 15 ∷ 5 ∷ 14 ∷ 4 ∷ 13 ∷ 3 ∷ 12 ∷ 2 ∷ 11 ∷ 1 ∷ 10 ∷ 0 ∷ 20 ∷ 21 ∷ 22 ∷ 23 ∷ 24 ∷ 25 ∷ 26 ∷ 27 ∷ 28 ∷ 29 ∷ 30 ∷ 31 ∷ 32 ∷ 33 ∷ 34 ∷ 35 ∷ 36 ∷ 37 ∷ 38 ∷ 39 ∷ 40 ∷ 41 ∷ 42 ∷ 43 ∷ 44 ∷ 45 ∷ 46 ∷ 47 ∷ 48 ∷ 49 ∷ 50 ∷ 51 ∷ 52 ∷ 53 ∷ 54 ∷ 55 ∷ 56 ∷ 57 ∷ 58 ∷ 59 ∷ 60 ∷ 61 ∷ 62 ∷ 63 ∷ 64 ∷ 65 ∷ 66 ∷ 67 ∷ 68 ∷ 69 ∷ 70 ∷ 71 ∷ 72 ∷ 73 ∷ 74 ∷ 75 ∷ 76 ∷ 77 ∷ 78 ∷ 79 ∷ 80 ∷ 81 ∷ 82 ∷ 83 ∷ 84 ∷ 85 ∷ 86 ∷ 87 ∷ 88 ∷ 89 ∷ 90 ∷ 91 ∷ 92 ∷ 93 ∷ 94 ∷ 95 ∷ 96 ∷ 97 ∷ 98 ∷ 99 ∷ 100 ∷ 101 ∷ 102 ∷ 103 ∷ 104 ∷ 105 ∷ 106 ∷ 107 ∷ 108 ∷ 109 ∷ 110 ∷ 111 ∷ 112 ∷ 113 ∷ 114 ∷ 115 ∷ 116 ∷ 117 ∷ 118 ∷ 119 ∷ 120 ∷ 121 ∷ 122 ∷ 123 ∷ 124 ∷ 125 ∷ 126 ∷ 127 ∷ 128 ∷ 129 ∷ 130 ∷ 131 ∷ 132 ∷ 133 ∷ 134 ∷ 135 ∷ 136 ∷ 137 ∷ 138 ∷ 139 ∷ 140 ∷ 141 ∷ 142 ∷ 143 ∷ 144 ∷ 145 ∷ 146 ∷ 147 ∷ 148 ∷ 149 ∷ 150 ∷ 151 ∷ 152 ∷ 153 ∷ []) $
-        begins 𝓣 known-process-is-unbound known-process-go-unbound known-process-needed known-process-refused known-perform-perform known-process-finished l₀ l₁ l₂ l₃ l₄ l₅ l₆ l₇ l₈ l₉ l₁₀ l₁₁ l₁₂ l₁₃ l₁₄ l₁₅ l₁₆ l₁₇ l₁₈ l₁₉ l₂₀ l₂₁ l₂₂ l₂₃ l₂₄ l₂₅ l₂₆ l₂₇ l₂₈ l₂₉ l₃₀ l₃₁ l₃₂ l₃₃ l₃₄ l₃₅ l₃₆ l₃₇ l₃₈ l₃₉ l₄₀ l₄₁ l₄₂ l₄₃ l₄₄ l₄₅ l₄₆ l₄₇ l₄₈ l₄₉ l₅₀ l₅₁ l₅₂ l₅₃ l₅₄ l₅₅ l₅₆ l₅₇ l₅₈ l₅₉ l₆₀ l₆₁ l₆₂ l₆₃ l₆₄ l₆₅ l₆₆)))))))))))))))))))))))))))))))))))))))))))))))))))))))))))))))))))
+        alloc1 ! (λ l₀. alloc1 ! (λ l₁. alloc1 ! (λ l₂. alloc1 ! (λ l₃. alloc1 ! (λ l₄. alloc1 ! (λ l₅. alloc1 ! (λ l₆. alloc1 ! (λ l₇. alloc1 ! (λ l₈. alloc1 ! (λ l₉. alloc1 ! (λ l₁₀. alloc1 ! (λ l₁₁. alloc1 ! (λ l₁₂. alloc1 ! (λ l₁₃. alloc1 ! (λ l₁₄. alloc1 ! (λ l₁₅. alloc1 ! (λ l₁₆. alloc1 ! (λ l₁₇. alloc1 ! (λ l₁₈. alloc1 ! (λ l₁₉. alloc1 ! (λ l₂₀. alloc1 ! (λ l₂₁. alloc1 ! (λ l₂₂. alloc1 ! (λ l₂₃. alloc1 ! (λ l₂₄. alloc1 ! (λ l₂₅. alloc1 ! (λ l₂₆. alloc1 ! (λ l₂₇. alloc1 ! (λ l₂₈. alloc1 ! (λ l₂₉. alloc1 ! (λ l₃₀. alloc1 ! (λ l₃₁. alloc1 ! (λ l₃₂. alloc1 ! (λ l₃₃. alloc1 ! (λ l₃₄. alloc1 ! (λ l₃₅. alloc1 ! (λ l₃₆. alloc1 ! (λ l₃₇. alloc1 ! (λ l₃₈. alloc1 ! (λ l₃₉. alloc1 ! (λ l₄₀. alloc1 ! (λ l₄₁. alloc1 ! (λ l₄₂. alloc1 ! (λ l₄₃. alloc1 ! (λ l₄₄. alloc1 ! (λ l₄₅. alloc1 ! (λ l₄₆. alloc1 ! (λ l₄₇. alloc1 ! (λ l₄₈. alloc1 ! (λ l₄₉. alloc1 ! (λ l₅₀. alloc1 ! (λ l₅₁. alloc1 ! (λ l₅₂. alloc1 ! (λ l₅₃. alloc1 ! (λ l₅₄. alloc1 ! (λ l₅₅. alloc1 ! (λ l₅₆. alloc1 ! (λ l₅₇. alloc1 ! (λ l₅₈. alloc1 ! (λ l₅₉. alloc1 ! (λ l₆₀. alloc0 ! $ params1 ! $ pass1 ! (init ! 118 refl (tt, (tt, (record { fits = room₁ .0 }, tt)))) $ pass1 ! (init ! 116 refl (tt, (tt, (record { fits = room₂ .0 }, tt)))) $ pass1 ! (init ! 114 refl (tt, (tt, (record { fits = room₃ .0 }, tt)))) $ pass1 ! (init ! 112 refl (tt, (tt, (record { fits = room₄ .0 }, tt)))) $ pass1 ! (init ! 110 refl (tt, (tt, (record { fits = room₅ .0 }, tt)))) $ pass1 ! (init ! 108 refl (tt, (tt, (record { fits = room₆ .0 }, tt)))) $ pass1 ! (init ! 106 refl (tt, (tt, (record { fits = room₇ .0 }, tt)))) $ pass1 ! (init ! 104 refl (tt, (tt, (record { fits = room₈ .0 }, tt)))) $ pass1 ! (init ! 102 refl (tt, (tt, (record { fits = room₉ .0 }, tt)))) $ pass1 ! (init ! 100 refl (tt, (tt, (record { fits = room₁₀ .0 }, tt)))) $ pass1 ! (init ! 98 refl (Agent-p .typed 𝓤 H A W agent agent-is)) $ pass1 ! (init ! 96 refl (Start-p .typed 𝓤 H A W start start-is)) $ pass1 ! (init ! 94 refl (u64-p .typed 𝓤 H A W n′ n′-is)) $ pass0 ! $ move ! (123 ∷ []) $ fsplit ! $ move ! (1 ∷ []) $ fsplit ! $ move ! (1 ∷ []) $ fsplit ! $ move ! (1 ∷ []) $ fsplit ! $ move ! (1 ∷ []) $ fsplit ! $ move ! (1 ∷ []) $ fsplit ! $ move ! (1 ∷ []) $ fsplit ! $ move ! (1 ∷ []) $ fsplit ! $ move ! (1 ∷ []) $ fsplit ! $ move ! (1 ∷ []) $ fsplit ! $ move ! (133 ∷ []) $ split ! $ move ! (1 ∷ []) $ split ! $ move ! (1 ∷ []) $ split ! $ move ! (1 ∷ []) $ split ! $ move ! (1 ∷ []) $ split ! $ move ! (1 ∷ []) $ split ! $ move ! (1 ∷ []) $ split ! $ move ! (1 ∷ []) $ split ! $ move ! (1 ∷ []) $ split ! $ move ! (1 ∷ []) $ split ! $ move ! (1 ∷ []) $ drop ! $ move ! (11 ∷ []) $ drop ! $ move ! (19 ∷ 9 ∷ 18 ∷ 8 ∷ 17 ∷ 7 ∷ 16 ∷ 6 ∷ 15 ∷ 5 ∷ 14 ∷ 4 ∷ 13 ∷ 3 ∷ 12 ∷ 2 ∷ 11 ∷ 1 ∷ 10 ∷ 0 ∷ 20 ∷ 21 ∷ 22 ∷ 23 ∷ 24 ∷ 25 ∷ 26 ∷ 27 ∷ 28 ∷ 29 ∷ 30 ∷ 31 ∷ 32 ∷ 33 ∷ 34 ∷ 35 ∷ 36 ∷ 37 ∷ 38 ∷ 39 ∷ 40 ∷ 41 ∷ 42 ∷ 43 ∷ 44 ∷ 45 ∷ 46 ∷ 47 ∷ 48 ∷ 49 ∷ 50 ∷ 51 ∷ 52 ∷ 53 ∷ 54 ∷ 55 ∷ 56 ∷ 57 ∷ 58 ∷ 59 ∷ 60 ∷ 61 ∷ 62 ∷ 63 ∷ 64 ∷ 65 ∷ 66 ∷ 67 ∷ 68 ∷ 69 ∷ 70 ∷ 71 ∷ 72 ∷ 73 ∷ 74 ∷ 75 ∷ 76 ∷ 77 ∷ 78 ∷ 79 ∷ 80 ∷ 81 ∷ 82 ∷ 83 ∷ 84 ∷ 85 ∷ 86 ∷ 87 ∷ 88 ∷ 89 ∷ 90 ∷ 91 ∷ 92 ∷ 93 ∷ 94 ∷ 95 ∷ 96 ∷ 97 ∷ 98 ∷ 99 ∷ 100 ∷ 101 ∷ 102 ∷ 103 ∷ 104 ∷ 105 ∷ 106 ∷ 107 ∷ 108 ∷ 109 ∷ 110 ∷ 111 ∷ 112 ∷ 113 ∷ 114 ∷ 115 ∷ 116 ∷ 117 ∷ 118 ∷ 119 ∷ 120 ∷ 121 ∷ 122 ∷ 123 ∷ 124 ∷ 125 ∷ 126 ∷ 127 ∷ 128 ∷ 129 ∷ 130 ∷ 131 ∷ 132 ∷ 133 ∷ 134 ∷ 135 ∷ 136 ∷ 137 ∷ 138 ∷ 139 ∷ 140 ∷ 141 ∷ []) $
+        begins 𝓣 known-bound-is-unbound known-process-go-unbound known-process-needed known-process-refused known-perform-perform-plain known-process-finished l₀ l₁ l₂ l₃ l₄ l₅ l₆ l₇ l₈ l₉ l₁₀ l₁₁ l₁₂ l₁₃ l₁₄ l₁₅ l₁₆ l₁₇ l₁₈ l₁₉ l₂₀ l₂₁ l₂₂ l₂₃ l₂₄ l₂₅ l₂₆ l₂₇ l₂₈ l₂₉ l₃₀ l₃₁ l₃₂ l₃₃ l₃₄ l₃₅ l₃₆ l₃₇ l₃₈ l₃₉ l₄₀ l₄₁ l₄₂ l₄₃ l₄₄ l₄₅ l₄₆ l₄₇ l₄₈ l₄₉ l₅₀ l₅₁ l₅₂ l₅₃ l₅₄ l₅₅ l₅₆ l₅₇ l₅₈ l₅₉ l₆₀)))))))))))))))))))))))))))))))))))))))))))))))))))))))))))))
 
-module _ {M : Type 1} (𝓤 : URA M) (H : Heap 𝓤) (A : Atoms 𝓤) (W : Given 𝓤 H A) (mem : Memory → SProp 𝓤) (run : Routine → Fun 𝓤) (𝓣 : Tables 𝓤 H) (known-process-is-unbound : Triple 𝓤 (𝓣 .C #process-is-unbound) (Of-process-is-unbound 𝓤 H A mem run)) (known-process-go-unbound : Triple 𝓤 (𝓣 .C #process-go-unbound) (Of-process-go-unbound 𝓤 H A mem run)) (known-process-needed : Triple 𝓤 (𝓣 .C #process-needed) (Of-process-needed 𝓤 H A mem run)) (known-process-refused : Triple 𝓤 (𝓣 .C #process-refused) (Of-process-refused 𝓤 H A mem run)) (known-perform-perform : Triple 𝓤 (𝓣 .C #perform-perform) (Of-perform-perform 𝓤 H A mem run)) (known-process-finished : Triple 𝓤 (𝓣 .C #process-finished) (Of-process-finished 𝓤 H A mem run)) where
+module _ {M : Type 1} (𝓤 : URA M) (H : Heap 𝓤) (A : Atoms 𝓤) (W : Given 𝓤 H A) (mem : Memory → SProp 𝓤) (run : Routine → Fun 𝓤) (𝓣 : Tables 𝓤 H) (known-bound-is-unbound : Triple 𝓤 (𝓣 .C #bound-is-unbound) (Of-bound-is-unbound 𝓤 H A mem run)) (known-process-go-unbound : Triple 𝓤 (𝓣 .C #process-go-unbound) (Of-process-go-unbound 𝓤 H A mem run)) (known-process-needed : Triple 𝓤 (𝓣 .C #process-needed) (Of-process-needed 𝓤 H A mem run)) (known-process-refused : Triple 𝓤 (𝓣 .C #process-refused) (Of-process-refused 𝓤 H A mem run)) (known-perform-perform-plain : Triple 𝓤 (𝓣 .C #perform-perform-plain) (Of-perform-perform-plain 𝓤 H A mem run)) (known-process-finished : Triple 𝓤 (𝓣 .C #process-finished) (Of-process-finished 𝓤 H A mem run)) where
   walks : Walks 𝓤 H A f.ended stayed (WpFn 𝓤 H (𝓣 .C) (𝓣 .Λ) code.function) (f.clauses 𝓤 H A mem run)
   walks = walked 𝓤 H A f.ended stayed (f.clauses 𝓤 H A mem run) (WpFn 𝓤 H (𝓣 .C) (𝓣 .Λ) code.function) (λ κs. (slice-vals, (slice-vals, (slice-vals, (slice-vals, (slice-vals, (slice-vals, (slice-vals, (slice-vals, (slice-vals, (slice-vals, ((λ y. Agent-p .val y ∷ []), ((λ y. Start-p .val y ∷ []), ((λ y. u64-p .val y ∷ []), tt)))))))))))))) (λ κs. (mut-slice-tells (named 0) (κs .0) (Array u64 8), (mut-slice-tells (named 1) (κs .1 .0) (Array u16 35), (mut-slice-tells (named 2) (κs .1 .1 .0) Object-t.the-row, (mut-slice-tells (named 3) (κs .1 .1 .1 .0) u8, (mut-slice-tells (named 4) (κs .1 .1 .1 .1 .0) u8, (mut-slice-tells (named 5) (κs .1 .1 .1 .1 .1 .0) u32, (mut-slice-tells (named 6) (κs .1 .1 .1 .1 .1 .1 .0) u8, (mut-slice-tells (named 7) (κs .1 .1 .1 .1 .1 .1 .1 .0) u8, (shr-slice-tells (named 8) (κs .1 .1 .1 .1 .1 .1 .1 .1 .0) u8, (shr-slice-tells (named 9) (κs .1 .1 .1 .1 .1 .1 .1 .1 .1 .0) u8, (Agent-p .tells, (Start-p .tells, (u64-p .tells, tt))))))))))))))
-      (λ κs qs bounds a g are. needs 𝓤 _ _ (λ within. walk 𝓤 H A W mem run (κs .0) (qs .0) (a .0 .ptr .0) (a .0 .ptr .1) (a .0 .name) (a .0 .now) (κs .1 .0) (qs .1 .0) (a .1 .0 .ptr .0) (a .1 .0 .ptr .1) (a .1 .0 .name) (a .1 .0 .now) (κs .1 .1 .0) (qs .1 .1 .0) (a .1 .1 .0 .ptr .0) (a .1 .1 .0 .ptr .1) (a .1 .1 .0 .name) (a .1 .1 .0 .now) (κs .1 .1 .1 .0) (qs .1 .1 .1 .0) (a .1 .1 .1 .0 .ptr .0) (a .1 .1 .1 .0 .ptr .1) (a .1 .1 .1 .0 .name) (a .1 .1 .1 .0 .now) (κs .1 .1 .1 .1 .0) (qs .1 .1 .1 .1 .0) (a .1 .1 .1 .1 .0 .ptr .0) (a .1 .1 .1 .1 .0 .ptr .1) (a .1 .1 .1 .1 .0 .name) (a .1 .1 .1 .1 .0 .now) (κs .1 .1 .1 .1 .1 .0) (qs .1 .1 .1 .1 .1 .0) (a .1 .1 .1 .1 .1 .0 .ptr .0) (a .1 .1 .1 .1 .1 .0 .ptr .1) (a .1 .1 .1 .1 .1 .0 .name) (a .1 .1 .1 .1 .1 .0 .now) (κs .1 .1 .1 .1 .1 .1 .0) (qs .1 .1 .1 .1 .1 .1 .0) (a .1 .1 .1 .1 .1 .1 .0 .ptr .0) (a .1 .1 .1 .1 .1 .1 .0 .ptr .1) (a .1 .1 .1 .1 .1 .1 .0 .name) (a .1 .1 .1 .1 .1 .1 .0 .now) (κs .1 .1 .1 .1 .1 .1 .1 .0) (qs .1 .1 .1 .1 .1 .1 .1 .0) (a .1 .1 .1 .1 .1 .1 .1 .0 .ptr .0) (a .1 .1 .1 .1 .1 .1 .1 .0 .ptr .1) (a .1 .1 .1 .1 .1 .1 .1 .0 .name) (a .1 .1 .1 .1 .1 .1 .1 .0 .now) (κs .1 .1 .1 .1 .1 .1 .1 .1 .0) (qs .1 .1 .1 .1 .1 .1 .1 .1 .0) (a .1 .1 .1 .1 .1 .1 .1 .1 .0 .ptr .0) (a .1 .1 .1 .1 .1 .1 .1 .1 .0 .ptr .1) (a .1 .1 .1 .1 .1 .1 .1 .1 .0 .name) (a .1 .1 .1 .1 .1 .1 .1 .1 .0 .now) (κs .1 .1 .1 .1 .1 .1 .1 .1 .1 .0) (qs .1 .1 .1 .1 .1 .1 .1 .1 .1 .0) (a .1 .1 .1 .1 .1 .1 .1 .1 .1 .0 .ptr .0) (a .1 .1 .1 .1 .1 .1 .1 .1 .1 .0 .ptr .1) (a .1 .1 .1 .1 .1 .1 .1 .1 .1 .0 .name) (a .1 .1 .1 .1 .1 .1 .1 .1 .1 .0 .now) (a .1 .1 .1 .1 .1 .1 .1 .1 .1 .1 .0) (a .1 .1 .1 .1 .1 .1 .1 .1 .1 .1 .1 .0) (a .1 .1 .1 .1 .1 .1 .1 .1 .1 .1 .1 .1 .0) (are .0 .0 .1) (are .1 .0 .0 .1) (are .1 .1 .0 .0 .1) (are .1 .1 .1 .0 .0 .1) (are .1 .1 .1 .1 .0 .0 .1) (are .1 .1 .1 .1 .1 .0 .0 .1) (are .1 .1 .1 .1 .1 .1 .0 .0 .1) (are .1 .1 .1 .1 .1 .1 .1 .0 .0 .1) (are .1 .1 .1 .1 .1 .1 .1 .1 .0 .0 .1) (are .1 .1 .1 .1 .1 .1 .1 .1 .1 .0 .0 .1) (are .1 .1 .1 .1 .1 .1 .1 .1 .1 .1 .0) (are .1 .1 .1 .1 .1 .1 .1 .1 .1 .1 .1 .0) (are .1 .1 .1 .1 .1 .1 .1 .1 .1 .1 .1 .1 .0) within 𝓣 known-process-is-unbound known-process-go-unbound known-process-needed known-process-refused known-perform-perform known-process-finished))
+      (λ κs qs bounds a g are. needs 𝓤 _ _ (λ within. walk 𝓤 H A W mem run (κs .0) (qs .0) (a .0 .ptr .0) (a .0 .ptr .1) (a .0 .name) (a .0 .now) (κs .1 .0) (qs .1 .0) (a .1 .0 .ptr .0) (a .1 .0 .ptr .1) (a .1 .0 .name) (a .1 .0 .now) (κs .1 .1 .0) (qs .1 .1 .0) (a .1 .1 .0 .ptr .0) (a .1 .1 .0 .ptr .1) (a .1 .1 .0 .name) (a .1 .1 .0 .now) (κs .1 .1 .1 .0) (qs .1 .1 .1 .0) (a .1 .1 .1 .0 .ptr .0) (a .1 .1 .1 .0 .ptr .1) (a .1 .1 .1 .0 .name) (a .1 .1 .1 .0 .now) (κs .1 .1 .1 .1 .0) (qs .1 .1 .1 .1 .0) (a .1 .1 .1 .1 .0 .ptr .0) (a .1 .1 .1 .1 .0 .ptr .1) (a .1 .1 .1 .1 .0 .name) (a .1 .1 .1 .1 .0 .now) (κs .1 .1 .1 .1 .1 .0) (qs .1 .1 .1 .1 .1 .0) (a .1 .1 .1 .1 .1 .0 .ptr .0) (a .1 .1 .1 .1 .1 .0 .ptr .1) (a .1 .1 .1 .1 .1 .0 .name) (a .1 .1 .1 .1 .1 .0 .now) (κs .1 .1 .1 .1 .1 .1 .0) (qs .1 .1 .1 .1 .1 .1 .0) (a .1 .1 .1 .1 .1 .1 .0 .ptr .0) (a .1 .1 .1 .1 .1 .1 .0 .ptr .1) (a .1 .1 .1 .1 .1 .1 .0 .name) (a .1 .1 .1 .1 .1 .1 .0 .now) (κs .1 .1 .1 .1 .1 .1 .1 .0) (qs .1 .1 .1 .1 .1 .1 .1 .0) (a .1 .1 .1 .1 .1 .1 .1 .0 .ptr .0) (a .1 .1 .1 .1 .1 .1 .1 .0 .ptr .1) (a .1 .1 .1 .1 .1 .1 .1 .0 .name) (a .1 .1 .1 .1 .1 .1 .1 .0 .now) (κs .1 .1 .1 .1 .1 .1 .1 .1 .0) (qs .1 .1 .1 .1 .1 .1 .1 .1 .0) (a .1 .1 .1 .1 .1 .1 .1 .1 .0 .ptr .0) (a .1 .1 .1 .1 .1 .1 .1 .1 .0 .ptr .1) (a .1 .1 .1 .1 .1 .1 .1 .1 .0 .name) (a .1 .1 .1 .1 .1 .1 .1 .1 .0 .now) (κs .1 .1 .1 .1 .1 .1 .1 .1 .1 .0) (qs .1 .1 .1 .1 .1 .1 .1 .1 .1 .0) (a .1 .1 .1 .1 .1 .1 .1 .1 .1 .0 .ptr .0) (a .1 .1 .1 .1 .1 .1 .1 .1 .1 .0 .ptr .1) (a .1 .1 .1 .1 .1 .1 .1 .1 .1 .0 .name) (a .1 .1 .1 .1 .1 .1 .1 .1 .1 .0 .now) (a .1 .1 .1 .1 .1 .1 .1 .1 .1 .1 .0) (a .1 .1 .1 .1 .1 .1 .1 .1 .1 .1 .1 .0) (a .1 .1 .1 .1 .1 .1 .1 .1 .1 .1 .1 .1 .0) (are .0 .0 .1) (are .1 .0 .0 .1) (are .1 .1 .0 .0 .1) (are .1 .1 .1 .0 .0 .1) (are .1 .1 .1 .1 .0 .0 .1) (are .1 .1 .1 .1 .1 .0 .0 .1) (are .1 .1 .1 .1 .1 .1 .0 .0 .1) (are .1 .1 .1 .1 .1 .1 .1 .0 .0 .1) (are .1 .1 .1 .1 .1 .1 .1 .1 .0 .0 .1) (are .1 .1 .1 .1 .1 .1 .1 .1 .1 .0 .0 .1) (are .1 .1 .1 .1 .1 .1 .1 .1 .1 .1 .0) (are .1 .1 .1 .1 .1 .1 .1 .1 .1 .1 .1 .0) (are .1 .1 .1 .1 .1 .1 .1 .1 .1 .1 .1 .1 .0) within 𝓣 known-bound-is-unbound known-process-go-unbound known-process-needed known-process-refused known-perform-perform-plain known-process-finished))
 
   meets : Meets 𝓤 H A f.signature (WpFn 𝓤 H (𝓣 .C) (𝓣 .Λ) code.function) (f.spec 𝓤 H A mem run)
   meets = walk-meets 𝓤 H A f.ended stayed W (goes-slice 𝓤 H A W 10 0 tt (plain (λ _. (Array u64 8))), (goes-slice 𝓤 H A W 10 1 tt (plain (λ _. (Array u16 35))), (goes-slice 𝓤 H A W 10 2 tt (plain (λ _. Object-t.the-row)), (goes-slice 𝓤 H A W 10 3 tt (plain (λ _. u8)), (goes-slice 𝓤 H A W 10 4 tt (plain (λ _. u8)), (goes-slice 𝓤 H A W 10 5 tt (plain (λ _. u32)), (goes-slice 𝓤 H A W 10 6 tt (plain (λ _. u8)), (goes-slice 𝓤 H A W 10 7 tt (plain (λ _. u8)), (goes-none-slice 𝓤 H A W 10 (8 ∷ []) tt (plain (λ _. u8)) yes, (goes-none-slice 𝓤 H A W 10 (9 ∷ []) tt (plain (λ _. u8)) yes, (goes-none 𝓤 H A W 10 (λ _. Agent-p .row) yes (λ κs x f. refl), (goes-none 𝓤 H A W 10 (λ _. Start-p .row) yes (λ κs x f. refl), (goes-none 𝓤 H A W 10 (λ _. u64-p .row) yes (λ κs x f. refl), tt))))))))))))) (f.clauses 𝓤 H A mem run) (WpFn 𝓤 H (𝓣 .C) (𝓣 .Λ) code.function) (WpFn-mono 𝓤 H (W .laws) 𝓣 code.function) walks
@@ -654,9 +640,9 @@ go-spec 𝓤 H 𝓜 𝓖 𝓡 =
     entered 𝓤 H (tripleOf 𝓤 H (𝓖 .A) f.signature (f.spec 𝓤 H (𝓖 .A) (𝓜 .mem) (𝓡 .run)))
     (tables 𝓤 H 𝓜 𝓡 code.env .C) (tables 𝓤 H 𝓜 𝓡 code.env .Λ) #f code.function (code.unfolded 𝓤 H 𝓜 𝓡)
     (meets 𝓤 H (𝓖 .A) (givenOf 𝓤 H 𝓜 𝓖) (𝓜 .mem) (𝓡 .run) (tablesOf 𝓤 H 𝓜 (tables 𝓤 H 𝓜 𝓡 code.env))
-    (cited 𝓤 H (Of-process-is-unbound 𝓤 H (𝓖 .A) (𝓜 .mem) (𝓡 .run)) 𝓜 𝓡 code.env #process-is-unbound process-is-unbound-def.routine code.calls-agent·process·is-unbound (process-is-unbound-thm.met 𝓤 H 𝓜 𝓖 𝓡))
+    (cited 𝓤 H (Of-bound-is-unbound 𝓤 H (𝓖 .A) (𝓜 .mem) (𝓡 .run)) 𝓜 𝓡 code.env #bound-is-unbound bound-is-unbound-def.routine code.calls-agent·bound·is-unbound (bound-is-unbound-thm.met 𝓤 H 𝓜 𝓖 𝓡))
     (cited 𝓤 H (Of-process-go-unbound 𝓤 H (𝓖 .A) (𝓜 .mem) (𝓡 .run)) 𝓜 𝓡 code.env #process-go-unbound process-go-unbound-def.routine code.calls-agent·process·go-unbound (process-go-unbound-thm.met 𝓤 H 𝓜 𝓖 𝓡))
     (cited 𝓤 H (Of-process-needed 𝓤 H (𝓖 .A) (𝓜 .mem) (𝓡 .run)) 𝓜 𝓡 code.env #process-needed process-needed-def.routine code.calls-agent·process·needed (process-needed-thm.met 𝓤 H 𝓜 𝓖 𝓡))
     (cited 𝓤 H (Of-process-refused 𝓤 H (𝓖 .A) (𝓜 .mem) (𝓡 .run)) 𝓜 𝓡 code.env #process-refused process-refused-def.routine code.calls-agent·process·refused (process-refused-thm.met 𝓤 H 𝓜 𝓖 𝓡))
-    (cited 𝓤 H (Of-perform-perform 𝓤 H (𝓖 .A) (𝓜 .mem) (𝓡 .run)) 𝓜 𝓡 code.env #perform-perform perform-perform-def.routine code.calls-agent·perform·perform (perform-perform-thm.met 𝓤 H 𝓜 𝓖 𝓡))
+    (cited 𝓤 H (Of-perform-perform-plain 𝓤 H (𝓖 .A) (𝓜 .mem) (𝓡 .run)) 𝓜 𝓡 code.env #perform-perform-plain perform-perform-plain-def.routine code.calls-agent·perform·perform-plain (perform-perform-plain-thm.met 𝓤 H 𝓜 𝓖 𝓡))
     (cited 𝓤 H (Of-process-finished 𝓤 H (𝓖 .A) (𝓜 .mem) (𝓡 .run)) 𝓜 𝓡 code.env #process-finished process-finished-def.routine code.calls-agent·process·finished (process-finished-thm.met 𝓤 H 𝓜 𝓖 𝓡)))

@@ -52,9 +52,8 @@ use Rattle.walk.proofs.Steps.{past, one, yes-of, no-of, in-block, arm-of, holds
 use borrow.Rule.Slice.PartMut.{midOf, putMid}
 use Rattle.walk.proofs.Parts.{part-len, lends-part, backs-part, parts-shr}
 use Rattle.walk.proofs.Arrays.{rep-is, lends-array, backs-array}
-use Rattle.codec.specs.Bytes.{wordAt}
 use Rattle.agent.specs.Lent.{lent}
-use Rattle.agent.specs.Host.{outcomeOf, waitsOf, finishedOf, refusedOf, answerMost, firstMost, bounded, roomy, oneOf, idsAt, asksIn, unbound, neededOf, resumesFit, performed, finish, processOf}
+use Rattle.agent.specs.Host.{outcomeOf, waitsOf, finishedOf, refusedOf, bounded, roomy, unbound, neededOf, resumesFit, performed, finish, processOf}
 use Rattle.sessions.specs.Limits.{limitsOf}
 use Rattle.agent.specs.Judge.{answersOf, idleTurn, busyTurn, turnOf, sessionOf, streamOf, recordSound, soundOf, tooLong, sampleSlot, answerSlot, slotOf, placedJudged, datagramStart, answerStart, leftKept, datagramJudged, restJudged, answerJudged, judgedBy, judgeOf, partsOf}
 use types.Kit.{frees, prop}
@@ -334,7 +333,7 @@ module _ {M : Type 1} (𝓤 : URA M) (H : Heap 𝓤) (A : Atoms 𝓤) (W : Given
         forget ! 98 refl $ forget ! 100 refl $ forget ! 102 refl $ forget ! 104 refl $ forget ! 106 refl $ forget ! 108 refl $ forget ! 110 refl $ forget ! 112 refl $ forget ! 114 refl $ forget ! 116 refl $ forget ! 118 refl $ forget ! 120 refl $ forget ! 122 refl $ move ! (122 ∷ 123 ∷ []) $ free1 ! $ move ! (120 ∷ 121 ∷ []) $ free1 ! $ move ! (118 ∷ 119 ∷ []) $ free1 ! $ move ! (116 ∷ 117 ∷ []) $ free1 ! $ move ! (114 ∷ 115 ∷ []) $ free1 ! $ move ! (112 ∷ 113 ∷ []) $ free1 ! $ move ! (110 ∷ 111 ∷ []) $ free1 ! $ move ! (108 ∷ 109 ∷ []) $ free1 ! $ move ! (106 ∷ 107 ∷ []) $ free1 ! $ move ! (104 ∷ 105 ∷ []) $ free1 ! $ move ! (102 ∷ 103 ∷ []) $ free1 ! $ move ! (100 ∷ 101 ∷ []) $ free1 ! $ move ! (98 ∷ 99 ∷ []) $ free1 ! $ move ! (96 ∷ 97 ∷ []) $ free1 ! $ move ! (94 ∷ 95 ∷ []) $ free1 ! $ move ! (92 ∷ 93 ∷ []) $ free1 ! $ move ! (90 ∷ 91 ∷ []) $ free1 ! $ move ! (88 ∷ 89 ∷ []) $ free1 ! $ move ! (86 ∷ 87 ∷ []) $ free1 ! $ move ! (84 ∷ 85 ∷ []) $ free1 ! $ move ! (82 ∷ 83 ∷ []) $ free1 ! $ move ! (80 ∷ 81 ∷ []) $ free1 ! $ move ! (78 ∷ 79 ∷ []) $ free1 ! $ move ! (76 ∷ 77 ∷ []) $ free1 ! $ move ! (74 ∷ 75 ∷ []) $ free1 ! $ move ! (72 ∷ 73 ∷ []) $ free1 ! $ move ! (70 ∷ 71 ∷ []) $ free1 ! $ move ! (68 ∷ 69 ∷ []) $ free1 ! $ move ! (66 ∷ 67 ∷ []) $ free1 ! $ move ! (64 ∷ 65 ∷ []) $ free1 ! $ move ! (62 ∷ 63 ∷ []) $ free1 ! $ move ! (60 ∷ 61 ∷ []) $ free1 ! $ move ! (58 ∷ 59 ∷ []) $ free1 ! $ move ! (56 ∷ 57 ∷ []) $ free1 ! $ move ! (54 ∷ 55 ∷ []) $ free1 ! $ move ! (52 ∷ 53 ∷ []) $ free1 ! $ move ! (50 ∷ 51 ∷ []) $ free1 ! $ move ! (48 ∷ 49 ∷ []) $ free1 ! $ move ! (46 ∷ 47 ∷ []) $ free1 ! $ move ! (44 ∷ 45 ∷ []) $ free1 ! $ move ! (42 ∷ 43 ∷ []) $ free1 ! $ move ! (40 ∷ 41 ∷ []) $ free1 ! $ move ! (38 ∷ 39 ∷ []) $ free1 ! $ move ! (36 ∷ 37 ∷ []) $ free1 ! $ move ! (34 ∷ 35 ∷ []) $ free1 ! $ move ! (32 ∷ 33 ∷ []) $ free1 ! $ move ! (30 ∷ 31 ∷ []) $ free1 ! $ move ! (28 ∷ 29 ∷ []) $ free1 ! $ move ! (26 ∷ 27 ∷ []) $ free1 ! $ move ! (24 ∷ 25 ∷ []) $ free1 ! $ move ! (22 ∷ 23 ∷ []) $ free1 ! $ move ! (20 ∷ 21 ∷ []) $ free1 ! $ free0 ! $
         by ! ends
 
-    part-21-0 : (is-17 : Is (Judged-p .row) (judgeOf (lent (sessions) (streams) (objects) (held) (parts) (lengths) (rebuilt)) (d) agent input n₁₀ n₈) (Judged-p .val (judgeOf (lent (sessions) (streams) (objects) (held) (parts) (lengths) (rebuilt)) (d) agent input n₁₀ n₈) ∷ [])) → (is-18 : Is (Parts-p .row) (partsOf (judgeOf (lent (sessions) (streams) (objects) (held) (parts) (lengths) (rebuilt)) (d) agent input n₁₀ n₈)) (Parts-p .val (partsOf (judgeOf (lent (sessions) (streams) (objects) (held) (parts) (lengths) (rebuilt)) (d) agent input n₁₀ n₈)) ∷ [])) → (c-20 : (partsOf (judgeOf (lent (sessions) (streams) (objects) (held) (parts) (lengths) (rebuilt)) (d) agent input n₁₀ n₈)) .goes ≡ true) → (asks-20·yes·19 : (resumesFit (((partsOf (judgeOf (lent (sessions) (streams) (objects) (held) (parts) (lengths) (rebuilt)) (d) agent input n₁₀ n₈)) .start) .resumes) (((partsOf (judgeOf (lent (sessions) (streams) (objects) (held) (parts) (lengths) (rebuilt)) (d) agent input n₁₀ n₈)) .start) .frame .«stream_id») (length (sample)) ≡ true) × (((partsOf (judgeOf (lent (sessions) (streams) (objects) (held) (parts) (lengths) (rebuilt)) (d) agent input n₁₀ n₈)) .start) .frame .room ≡ length (out)) × (ltb (length (out)) (neededOf (roomy (length (out)) ((partsOf (judgeOf (lent (sessions) (streams) (objects) (held) (parts) (lengths) (rebuilt)) (d) agent input n₁₀ n₈)) .start) ((partsOf (judgeOf (lent (sessions) (streams) (objects) (held) (parts) (lengths) (rebuilt)) (d) agent input n₁₀ n₈)) .count) (d) (length (sample))) (performed ((partsOf (judgeOf (lent (sessions) (streams) (objects) (held) (parts) (lengths) (rebuilt)) (d) agent input n₁₀ n₈)) .start) (lent (sessions) (streams) (objects) (held) (parts) (lengths) (rebuilt)) (d) (sample) .ran .wrote)) ≡ ltb (length (out)) (performed ((partsOf (judgeOf (lent (sessions) (streams) (objects) (held) (parts) (lengths) (rebuilt)) (d) agent input n₁₀ n₈)) .start) (lent (sessions) (streams) (objects) (held) (parts) (lengths) (rebuilt)) (d) (sample) .ran .wrote)) × (256 ≤ length (sessions)) × (2048 ≤ length (streams)) × (8192 ≤ length (objects)) × (32768 ≤ length (rebuilt))) → (len-20·yes·19-sessions : length (finish agent (lent (sessions) (streams) (objects) (held) (parts) (lengths) (rebuilt)) (out) ((partsOf (judgeOf (lent (sessions) (streams) (objects) (held) (parts) (lengths) (rebuilt)) (d) agent input n₁₀ n₈)) .start) (performed ((partsOf (judgeOf (lent (sessions) (streams) (objects) (held) (parts) (lengths) (rebuilt)) (d) agent input n₁₀ n₈)) .start) (lent (sessions) (streams) (objects) (held) (parts) (lengths) (rebuilt)) (d) (sample)) .tables .sessions) ≡ n₁) → (len-20·yes·19-streams : length (finish agent (lent (sessions) (streams) (objects) (held) (parts) (lengths) (rebuilt)) (out) ((partsOf (judgeOf (lent (sessions) (streams) (objects) (held) (parts) (lengths) (rebuilt)) (d) agent input n₁₀ n₈)) .start) (performed ((partsOf (judgeOf (lent (sessions) (streams) (objects) (held) (parts) (lengths) (rebuilt)) (d) agent input n₁₀ n₈)) .start) (lent (sessions) (streams) (objects) (held) (parts) (lengths) (rebuilt)) (d) (sample)) .tables .streams) ≡ n₂) → (len-20·yes·19-objects : length (finish agent (lent (sessions) (streams) (objects) (held) (parts) (lengths) (rebuilt)) (out) ((partsOf (judgeOf (lent (sessions) (streams) (objects) (held) (parts) (lengths) (rebuilt)) (d) agent input n₁₀ n₈)) .start) (performed ((partsOf (judgeOf (lent (sessions) (streams) (objects) (held) (parts) (lengths) (rebuilt)) (d) agent input n₁₀ n₈)) .start) (lent (sessions) (streams) (objects) (held) (parts) (lengths) (rebuilt)) (d) (sample)) .tables .objects) ≡ n₃) → (len-20·yes·19-held : length (finish agent (lent (sessions) (streams) (objects) (held) (parts) (lengths) (rebuilt)) (out) ((partsOf (judgeOf (lent (sessions) (streams) (objects) (held) (parts) (lengths) (rebuilt)) (d) agent input n₁₀ n₈)) .start) (performed ((partsOf (judgeOf (lent (sessions) (streams) (objects) (held) (parts) (lengths) (rebuilt)) (d) agent input n₁₀ n₈)) .start) (lent (sessions) (streams) (objects) (held) (parts) (lengths) (rebuilt)) (d) (sample)) .tables .held) ≡ n₄) → (len-20·yes·19-parts : length (finish agent (lent (sessions) (streams) (objects) (held) (parts) (lengths) (rebuilt)) (out) ((partsOf (judgeOf (lent (sessions) (streams) (objects) (held) (parts) (lengths) (rebuilt)) (d) agent input n₁₀ n₈)) .start) (performed ((partsOf (judgeOf (lent (sessions) (streams) (objects) (held) (parts) (lengths) (rebuilt)) (d) agent input n₁₀ n₈)) .start) (lent (sessions) (streams) (objects) (held) (parts) (lengths) (rebuilt)) (d) (sample)) .tables .parts) ≡ n₅) → (len-20·yes·19-lengths : length (finish agent (lent (sessions) (streams) (objects) (held) (parts) (lengths) (rebuilt)) (out) ((partsOf (judgeOf (lent (sessions) (streams) (objects) (held) (parts) (lengths) (rebuilt)) (d) agent input n₁₀ n₈)) .start) (performed ((partsOf (judgeOf (lent (sessions) (streams) (objects) (held) (parts) (lengths) (rebuilt)) (d) agent input n₁₀ n₈)) .start) (lent (sessions) (streams) (objects) (held) (parts) (lengths) (rebuilt)) (d) (sample)) .tables .lengths) ≡ n₆) → (len-20·yes·19-rebuilt : length (finish agent (lent (sessions) (streams) (objects) (held) (parts) (lengths) (rebuilt)) (out) ((partsOf (judgeOf (lent (sessions) (streams) (objects) (held) (parts) (lengths) (rebuilt)) (d) agent input n₁₀ n₈)) .start) (performed ((partsOf (judgeOf (lent (sessions) (streams) (objects) (held) (parts) (lengths) (rebuilt)) (d) agent input n₁₀ n₈)) .start) (lent (sessions) (streams) (objects) (held) (parts) (lengths) (rebuilt)) (d) (sample)) .tables .rebuilt) ≡ n₇) → (len-20·yes·19-out : length (finish agent (lent (sessions) (streams) (objects) (held) (parts) (lengths) (rebuilt)) (out) ((partsOf (judgeOf (lent (sessions) (streams) (objects) (held) (parts) (lengths) (rebuilt)) (d) agent input n₁₀ n₈)) .start) (performed ((partsOf (judgeOf (lent (sessions) (streams) (objects) (held) (parts) (lengths) (rebuilt)) (d) agent input n₁₀ n₈)) .start) (lent (sessions) (streams) (objects) (held) (parts) (lengths) (rebuilt)) (d) (sample)) .out) ≡ n₈) → (is-20·yes·19 : Is (Processed-p .row) (finish agent (lent (sessions) (streams) (objects) (held) (parts) (lengths) (rebuilt)) (out) ((partsOf (judgeOf (lent (sessions) (streams) (objects) (held) (parts) (lengths) (rebuilt)) (d) agent input n₁₀ n₈)) .start) (performed ((partsOf (judgeOf (lent (sessions) (streams) (objects) (held) (parts) (lengths) (rebuilt)) (d) agent input n₁₀ n₈)) .start) (lent (sessions) (streams) (objects) (held) (parts) (lengths) (rebuilt)) (d) (sample)) .processed) (Processed-p .val (finish agent (lent (sessions) (streams) (objects) (held) (parts) (lengths) (rebuilt)) (out) ((partsOf (judgeOf (lent (sessions) (streams) (objects) (held) (parts) (lengths) (rebuilt)) (d) agent input n₁₀ n₈)) .start) (performed ((partsOf (judgeOf (lent (sessions) (streams) (objects) (held) (parts) (lengths) (rebuilt)) (d) agent input n₁₀ n₈)) .start) (lent (sessions) (streams) (objects) (held) (parts) (lengths) (rebuilt)) (d) (sample)) .processed) ∷ [])) → Sq W (‵ (MutSlice (named 0) κ₁ (Array u64 8) .own (at-list b₁ o₁ γ₁ (finish agent (lent (sessions) (streams) (objects) (held) (parts) (lengths) (rebuilt)) (out) ((partsOf (judgeOf (lent (sessions) (streams) (objects) (held) (parts) (lengths) (rebuilt)) (d) agent input n₁₀ n₈)) .start) (performed ((partsOf (judgeOf (lent (sessions) (streams) (objects) (held) (parts) (lengths) (rebuilt)) (d) agent input n₁₀ n₈)) .start) (lent (sessions) (streams) (objects) (held) (parts) (lengths) (rebuilt)) (d) (sample)) .tables .sessions)) (sliceVal (b₁, o₁) n₁ ∷ [])) ∷ ‵ (flft κ₁ q₁) ∷ ‵ (MutSlice (named 0) κ₂ (Array u16 35) .own (at-list b₂ o₂ γ₂ (finish agent (lent (sessions) (streams) (objects) (held) (parts) (lengths) (rebuilt)) (out) ((partsOf (judgeOf (lent (sessions) (streams) (objects) (held) (parts) (lengths) (rebuilt)) (d) agent input n₁₀ n₈)) .start) (performed ((partsOf (judgeOf (lent (sessions) (streams) (objects) (held) (parts) (lengths) (rebuilt)) (d) agent input n₁₀ n₈)) .start) (lent (sessions) (streams) (objects) (held) (parts) (lengths) (rebuilt)) (d) (sample)) .tables .streams)) (sliceVal (b₂, o₂) n₂ ∷ [])) ∷ ‵ (flft κ₂ q₂) ∷ ‵ (MutSlice (named 0) κ₃ Object-t.the-row .own (at-list b₃ o₃ γ₃ (finish agent (lent (sessions) (streams) (objects) (held) (parts) (lengths) (rebuilt)) (out) ((partsOf (judgeOf (lent (sessions) (streams) (objects) (held) (parts) (lengths) (rebuilt)) (d) agent input n₁₀ n₈)) .start) (performed ((partsOf (judgeOf (lent (sessions) (streams) (objects) (held) (parts) (lengths) (rebuilt)) (d) agent input n₁₀ n₈)) .start) (lent (sessions) (streams) (objects) (held) (parts) (lengths) (rebuilt)) (d) (sample)) .tables .objects)) (sliceVal (b₃, o₃) n₃ ∷ [])) ∷ ‵ (flft κ₃ q₃) ∷ ‵ (MutSlice (named 0) κ₄ u8 .own (at-list b₄ o₄ γ₄ (finish agent (lent (sessions) (streams) (objects) (held) (parts) (lengths) (rebuilt)) (out) ((partsOf (judgeOf (lent (sessions) (streams) (objects) (held) (parts) (lengths) (rebuilt)) (d) agent input n₁₀ n₈)) .start) (performed ((partsOf (judgeOf (lent (sessions) (streams) (objects) (held) (parts) (lengths) (rebuilt)) (d) agent input n₁₀ n₈)) .start) (lent (sessions) (streams) (objects) (held) (parts) (lengths) (rebuilt)) (d) (sample)) .tables .held)) (sliceVal (b₄, o₄) n₄ ∷ [])) ∷ ‵ (flft κ₄ q₄) ∷ ‵ (MutSlice (named 0) κ₅ u8 .own (at-list b₅ o₅ γ₅ (finish agent (lent (sessions) (streams) (objects) (held) (parts) (lengths) (rebuilt)) (out) ((partsOf (judgeOf (lent (sessions) (streams) (objects) (held) (parts) (lengths) (rebuilt)) (d) agent input n₁₀ n₈)) .start) (performed ((partsOf (judgeOf (lent (sessions) (streams) (objects) (held) (parts) (lengths) (rebuilt)) (d) agent input n₁₀ n₈)) .start) (lent (sessions) (streams) (objects) (held) (parts) (lengths) (rebuilt)) (d) (sample)) .tables .parts)) (sliceVal (b₅, o₅) n₅ ∷ [])) ∷ ‵ (flft κ₅ q₅) ∷ ‵ (MutSlice (named 0) κ₆ u32 .own (at-list b₆ o₆ γ₆ (finish agent (lent (sessions) (streams) (objects) (held) (parts) (lengths) (rebuilt)) (out) ((partsOf (judgeOf (lent (sessions) (streams) (objects) (held) (parts) (lengths) (rebuilt)) (d) agent input n₁₀ n₈)) .start) (performed ((partsOf (judgeOf (lent (sessions) (streams) (objects) (held) (parts) (lengths) (rebuilt)) (d) agent input n₁₀ n₈)) .start) (lent (sessions) (streams) (objects) (held) (parts) (lengths) (rebuilt)) (d) (sample)) .tables .lengths)) (sliceVal (b₆, o₆) n₆ ∷ [])) ∷ ‵ (flft κ₆ q₆) ∷ ‵ (MutSlice (named 0) κ₇ u8 .own (at-list b₇ o₇ γ₇ (finish agent (lent (sessions) (streams) (objects) (held) (parts) (lengths) (rebuilt)) (out) ((partsOf (judgeOf (lent (sessions) (streams) (objects) (held) (parts) (lengths) (rebuilt)) (d) agent input n₁₀ n₈)) .start) (performed ((partsOf (judgeOf (lent (sessions) (streams) (objects) (held) (parts) (lengths) (rebuilt)) (d) agent input n₁₀ n₈)) .start) (lent (sessions) (streams) (objects) (held) (parts) (lengths) (rebuilt)) (d) (sample)) .tables .rebuilt)) (sliceVal (b₇, o₇) n₇ ∷ [])) ∷ ‵ (flft κ₇ q₇) ∷ ‵ (MutSlice (named 0) κ₈ u8 .own (at-list b₈ o₈ γ₈ (finish agent (lent (sessions) (streams) (objects) (held) (parts) (lengths) (rebuilt)) (out) ((partsOf (judgeOf (lent (sessions) (streams) (objects) (held) (parts) (lengths) (rebuilt)) (d) agent input n₁₀ n₈)) .start) (performed ((partsOf (judgeOf (lent (sessions) (streams) (objects) (held) (parts) (lengths) (rebuilt)) (d) agent input n₁₀ n₈)) .start) (lent (sessions) (streams) (objects) (held) (parts) (lengths) (rebuilt)) (d) (sample)) .out)) (sliceVal (b₈, o₈) n₈ ∷ [])) ∷ ‵ (flft κ₈ q₈) ∷ ‵ (ShrSlice (named 0) κ₉ u8 .own (at-list b₉ o₉ γ₉ d) (sliceVal (b₉, o₉) n₉ ∷ [])) ∷ ‵ (flft κ₉ q₉) ∷ ‵ (ShrSlice (named 0) κ₁₀ u8 .own (at-list b₁₀ o₁₀ γ₁₀ sample) (sliceVal (b₁₀, o₁₀) n₁₀ ∷ [])) ∷ ‵ (flft κ₁₀ q₁₀) ∷ full 𝓤 (sliceTy (tyRef erased mut (pointee (u8 .written)))) l₅₁ (sliceVal (b₈, o₈) n₈) (full 𝓤 (tyRef erased mut (pointee (u8 .written))) l₅₀ (vptr b₈ o₈) (full 𝓤 (sliceTy (tyRef erased mut (pointee (u8 .written)))) l₄₉ (sliceVal (b₇, o₇) n₇) (full 𝓤 (tyRef erased mut (pointee (u8 .written))) l₄₈ (vptr b₇ o₇) (full 𝓤 (sliceTy (tyRef erased mut (pointee (u32 .written)))) l₄₇ (sliceVal (b₆, o₆) n₆) (full 𝓤 (tyRef erased mut (pointee (u32 .written))) l₄₆ (vptr b₆ o₆) (full 𝓤 (sliceTy (tyRef erased mut (pointee (u8 .written)))) l₄₅ (sliceVal (b₅, o₅) n₅) (full 𝓤 (tyRef erased mut (pointee (u8 .written))) l₄₄ (vptr b₅ o₅) (full 𝓤 (sliceTy (tyRef erased mut (pointee (u8 .written)))) l₄₃ (sliceVal (b₄, o₄) n₄) (full 𝓤 (tyRef erased mut (pointee (u8 .written))) l₄₂ (vptr b₄ o₄) (full 𝓤 (sliceTy (tyRef erased mut (pointee (Object-t.the-row .written)))) l₄₁ (sliceVal (b₃, o₃) n₃) (full 𝓤 (tyRef erased mut (pointee (Object-t.the-row .written))) l₄₀ (vptr b₃ o₃) (full 𝓤 (sliceTy (tyRef erased mut (pointee ((Array u16 35) .written)))) l₃₉ (sliceVal (b₂, o₂) n₂) (full 𝓤 (tyRef erased mut (pointee ((Array u16 35) .written))) l₃₈ (vptr b₂ o₂) (full 𝓤 (sliceTy (tyRef erased mut (pointee ((Array u64 8) .written)))) l₃₇ (sliceVal (b₁, o₁) n₁) (full 𝓤 (tyRef erased mut (pointee ((Array u64 8) .written))) l₃₆ (vptr b₁ o₁) (full 𝓤 Processed-l.mir l₃₅ (Processed-p .val (finish agent (lent (sessions) (streams) (objects) (held) (parts) (lengths) (rebuilt)) (out) ((partsOf (judgeOf (lent (sessions) (streams) (objects) (held) (parts) (lengths) (rebuilt)) (d) agent input n₁₀ n₈)) .start) (performed ((partsOf (judgeOf (lent (sessions) (streams) (objects) (held) (parts) (lengths) (rebuilt)) (d) agent input n₁₀ n₈)) .start) (lent (sessions) (streams) (objects) (held) (parts) (lengths) (rebuilt)) (d) (sample)) .processed)) (full 𝓤 tyBool l₃₄ (bool-p .val ((partsOf (judgeOf (lent (sessions) (streams) (objects) (held) (parts) (lengths) (rebuilt)) (d) agent input n₁₀ n₈)) .goes)) (full 𝓤 (sliceTy (tyRef erased imm (pointee (u8 .written)))) l₃₃ (sliceVal (b₇, o₇) n₇) (full 𝓤 (tyRef erased imm (pointee (u8 .written))) l₃₂ (vptr b₇ o₇) (full 𝓤 (sliceTy (tyRef erased imm (pointee (u32 .written)))) l₃₁ (sliceVal (b₆, o₆) n₆) (full 𝓤 (tyRef erased imm (pointee (u32 .written))) l₃₀ (vptr b₆ o₆) (full 𝓤 (sliceTy (tyRef erased imm (pointee (u8 .written)))) l₂₉ (sliceVal (b₅, o₅) n₅) (full 𝓤 (tyRef erased imm (pointee (u8 .written))) l₂₈ (vptr b₅ o₅) (full 𝓤 (sliceTy (tyRef erased imm (pointee (u8 .written)))) l₂₇ (sliceVal (b₄, o₄) n₄) (full 𝓤 (tyRef erased imm (pointee (u8 .written))) l₂₆ (vptr b₄ o₄) (full 𝓤 (sliceTy (tyRef erased imm (pointee (Object-t.the-row .written)))) l₂₅ (sliceVal (b₃, o₃) n₃) (full 𝓤 (tyRef erased imm (pointee (Object-t.the-row .written))) l₂₄ (vptr b₃ o₃) (full 𝓤 (sliceTy (tyRef erased imm (pointee ((Array u16 35) .written)))) l₂₃ (sliceVal (b₂, o₂) n₂) (full 𝓤 (tyRef erased imm (pointee ((Array u16 35) .written))) l₂₂ (vptr b₂ o₂) (full 𝓤 (sliceTy (tyRef erased imm (pointee ((Array u64 8) .written)))) l₂₁ (sliceVal (b₁, o₁) n₁) (full 𝓤 (tyRef erased imm (pointee ((Array u64 8) .written))) l₂₀ (vptr b₁ o₁) (free 𝓤 Refusal-l.mir l₁₉ (full 𝓤 (tyInt w64) l₁₈ (u64-p .val ((partsOf (judgeOf (lent (sessions) (streams) (objects) (held) (parts) (lengths) (rebuilt)) (d) agent input n₁₀ n₈)) .count)) (full 𝓤 Start-l.mir l₁₇ (Start-p .val ((partsOf (judgeOf (lent (sessions) (streams) (objects) (held) (parts) (lengths) (rebuilt)) (d) agent input n₁₀ n₈)) .start)) (full 𝓤 Parts-l.mir l₁₆ (Parts-p .val (partsOf (judgeOf (lent (sessions) (streams) (objects) (held) (parts) (lengths) (rebuilt)) (d) agent input n₁₀ n₈))) (full 𝓤 Judged-l.mir l₁₅ (Judged-p .val (judgeOf (lent (sessions) (streams) (objects) (held) (parts) (lengths) (rebuilt)) (d) agent input n₁₀ n₈)) (full 𝓤 (tyInt w64) l₁₄ (u64-p .val n₈) (full 𝓤 (tyInt w64) l₁₃ (u64-p .val n₁₀) (full 𝓤 Input-l.mir l₁₂ (Input-p .val input) (full 𝓤 Agent-l.mir l₁₁ (Agent-p .val agent) (full 𝓤 (sliceTy (tyRef (named 9) imm (pointee (u8 .written)))) l₁₀ (sliceVal (b₁₀, o₁₀) n₁₀) (full 𝓤 (sliceTy (tyRef (named 8) imm (pointee (u8 .written)))) l₉ (sliceVal (b₉, o₉) n₉) (full 𝓤 (sliceTy (tyRef (named 7) mut (pointee (u8 .written)))) l₈ (sliceVal (b₈, o₈) n₈) (full 𝓤 (sliceTy (tyRef (named 6) mut (pointee (u8 .written)))) l₇ (sliceVal (b₇, o₇) n₇) (full 𝓤 (sliceTy (tyRef (named 5) mut (pointee (u32 .written)))) l₆ (sliceVal (b₆, o₆) n₆) (full 𝓤 (sliceTy (tyRef (named 4) mut (pointee (u8 .written)))) l₅ (sliceVal (b₅, o₅) n₅) (full 𝓤 (sliceTy (tyRef (named 3) mut (pointee (u8 .written)))) l₄ (sliceVal (b₄, o₄) n₄) (full 𝓤 (sliceTy (tyRef (named 2) mut (pointee (Object-t.the-row .written)))) l₃ (sliceVal (b₃, o₃) n₃) (full 𝓤 (sliceTy (tyRef (named 1) mut (pointee ((Array u16 35) .written)))) l₂ (sliceVal (b₂, o₂) n₂) (full 𝓤 (sliceTy (tyRef (named 0) mut (pointee ((Array u64 8) .written)))) l₁ (sliceVal (b₁, o₁) n₁) (free 𝓤 Processed-l.mir l₀ ([]))))))))))))))))))))))))))))))))))))))))))))))))))))) (runs C Λ En mir.t-21 (atRet En Post))
+    part-21-0 : (is-17 : Is (Judged-p .row) (judgeOf (lent (sessions) (streams) (objects) (held) (parts) (lengths) (rebuilt)) (d) agent input n₁₀ n₈) (Judged-p .val (judgeOf (lent (sessions) (streams) (objects) (held) (parts) (lengths) (rebuilt)) (d) agent input n₁₀ n₈) ∷ [])) → (is-18 : Is (Parts-p .row) (partsOf (judgeOf (lent (sessions) (streams) (objects) (held) (parts) (lengths) (rebuilt)) (d) agent input n₁₀ n₈)) (Parts-p .val (partsOf (judgeOf (lent (sessions) (streams) (objects) (held) (parts) (lengths) (rebuilt)) (d) agent input n₁₀ n₈)) ∷ [])) → (c-20 : (partsOf (judgeOf (lent (sessions) (streams) (objects) (held) (parts) (lengths) (rebuilt)) (d) agent input n₁₀ n₈)) .goes ≡ true) → (asks-20·yes·19 : (resumesFit (((partsOf (judgeOf (lent (sessions) (streams) (objects) (held) (parts) (lengths) (rebuilt)) (d) agent input n₁₀ n₈)) .start) .resumes) (((partsOf (judgeOf (lent (sessions) (streams) (objects) (held) (parts) (lengths) (rebuilt)) (d) agent input n₁₀ n₈)) .start) .frame .«stream_id») (length (sample)) ≡ true) × (((partsOf (judgeOf (lent (sessions) (streams) (objects) (held) (parts) (lengths) (rebuilt)) (d) agent input n₁₀ n₈)) .start) .frame .room ≡ length (out)) × (ltb (length (out)) (neededOf (roomy (length (out)) ((partsOf (judgeOf (lent (sessions) (streams) (objects) (held) (parts) (lengths) (rebuilt)) (d) agent input n₁₀ n₈)) .start) (sessions) ((partsOf (judgeOf (lent (sessions) (streams) (objects) (held) (parts) (lengths) (rebuilt)) (d) agent input n₁₀ n₈)) .count) (d) (length (sample))) (performed ((partsOf (judgeOf (lent (sessions) (streams) (objects) (held) (parts) (lengths) (rebuilt)) (d) agent input n₁₀ n₈)) .start) (lent (sessions) (streams) (objects) (held) (parts) (lengths) (rebuilt)) (d) (sample) .ran .wrote)) ≡ ltb (length (out)) (performed ((partsOf (judgeOf (lent (sessions) (streams) (objects) (held) (parts) (lengths) (rebuilt)) (d) agent input n₁₀ n₈)) .start) (lent (sessions) (streams) (objects) (held) (parts) (lengths) (rebuilt)) (d) (sample) .ran .wrote)) × (256 ≤ length (sessions)) × (2048 ≤ length (streams)) × (8192 ≤ length (objects)) × (32768 ≤ length (rebuilt))) → (len-20·yes·19-sessions : length (finish agent (lent (sessions) (streams) (objects) (held) (parts) (lengths) (rebuilt)) (out) ((partsOf (judgeOf (lent (sessions) (streams) (objects) (held) (parts) (lengths) (rebuilt)) (d) agent input n₁₀ n₈)) .start) (performed ((partsOf (judgeOf (lent (sessions) (streams) (objects) (held) (parts) (lengths) (rebuilt)) (d) agent input n₁₀ n₈)) .start) (lent (sessions) (streams) (objects) (held) (parts) (lengths) (rebuilt)) (d) (sample)) .tables .sessions) ≡ n₁) → (len-20·yes·19-streams : length (finish agent (lent (sessions) (streams) (objects) (held) (parts) (lengths) (rebuilt)) (out) ((partsOf (judgeOf (lent (sessions) (streams) (objects) (held) (parts) (lengths) (rebuilt)) (d) agent input n₁₀ n₈)) .start) (performed ((partsOf (judgeOf (lent (sessions) (streams) (objects) (held) (parts) (lengths) (rebuilt)) (d) agent input n₁₀ n₈)) .start) (lent (sessions) (streams) (objects) (held) (parts) (lengths) (rebuilt)) (d) (sample)) .tables .streams) ≡ n₂) → (len-20·yes·19-objects : length (finish agent (lent (sessions) (streams) (objects) (held) (parts) (lengths) (rebuilt)) (out) ((partsOf (judgeOf (lent (sessions) (streams) (objects) (held) (parts) (lengths) (rebuilt)) (d) agent input n₁₀ n₈)) .start) (performed ((partsOf (judgeOf (lent (sessions) (streams) (objects) (held) (parts) (lengths) (rebuilt)) (d) agent input n₁₀ n₈)) .start) (lent (sessions) (streams) (objects) (held) (parts) (lengths) (rebuilt)) (d) (sample)) .tables .objects) ≡ n₃) → (len-20·yes·19-held : length (finish agent (lent (sessions) (streams) (objects) (held) (parts) (lengths) (rebuilt)) (out) ((partsOf (judgeOf (lent (sessions) (streams) (objects) (held) (parts) (lengths) (rebuilt)) (d) agent input n₁₀ n₈)) .start) (performed ((partsOf (judgeOf (lent (sessions) (streams) (objects) (held) (parts) (lengths) (rebuilt)) (d) agent input n₁₀ n₈)) .start) (lent (sessions) (streams) (objects) (held) (parts) (lengths) (rebuilt)) (d) (sample)) .tables .held) ≡ n₄) → (len-20·yes·19-parts : length (finish agent (lent (sessions) (streams) (objects) (held) (parts) (lengths) (rebuilt)) (out) ((partsOf (judgeOf (lent (sessions) (streams) (objects) (held) (parts) (lengths) (rebuilt)) (d) agent input n₁₀ n₈)) .start) (performed ((partsOf (judgeOf (lent (sessions) (streams) (objects) (held) (parts) (lengths) (rebuilt)) (d) agent input n₁₀ n₈)) .start) (lent (sessions) (streams) (objects) (held) (parts) (lengths) (rebuilt)) (d) (sample)) .tables .parts) ≡ n₅) → (len-20·yes·19-lengths : length (finish agent (lent (sessions) (streams) (objects) (held) (parts) (lengths) (rebuilt)) (out) ((partsOf (judgeOf (lent (sessions) (streams) (objects) (held) (parts) (lengths) (rebuilt)) (d) agent input n₁₀ n₈)) .start) (performed ((partsOf (judgeOf (lent (sessions) (streams) (objects) (held) (parts) (lengths) (rebuilt)) (d) agent input n₁₀ n₈)) .start) (lent (sessions) (streams) (objects) (held) (parts) (lengths) (rebuilt)) (d) (sample)) .tables .lengths) ≡ n₆) → (len-20·yes·19-rebuilt : length (finish agent (lent (sessions) (streams) (objects) (held) (parts) (lengths) (rebuilt)) (out) ((partsOf (judgeOf (lent (sessions) (streams) (objects) (held) (parts) (lengths) (rebuilt)) (d) agent input n₁₀ n₈)) .start) (performed ((partsOf (judgeOf (lent (sessions) (streams) (objects) (held) (parts) (lengths) (rebuilt)) (d) agent input n₁₀ n₈)) .start) (lent (sessions) (streams) (objects) (held) (parts) (lengths) (rebuilt)) (d) (sample)) .tables .rebuilt) ≡ n₇) → (len-20·yes·19-out : length (finish agent (lent (sessions) (streams) (objects) (held) (parts) (lengths) (rebuilt)) (out) ((partsOf (judgeOf (lent (sessions) (streams) (objects) (held) (parts) (lengths) (rebuilt)) (d) agent input n₁₀ n₈)) .start) (performed ((partsOf (judgeOf (lent (sessions) (streams) (objects) (held) (parts) (lengths) (rebuilt)) (d) agent input n₁₀ n₈)) .start) (lent (sessions) (streams) (objects) (held) (parts) (lengths) (rebuilt)) (d) (sample)) .out) ≡ n₈) → (is-20·yes·19 : Is (Processed-p .row) (finish agent (lent (sessions) (streams) (objects) (held) (parts) (lengths) (rebuilt)) (out) ((partsOf (judgeOf (lent (sessions) (streams) (objects) (held) (parts) (lengths) (rebuilt)) (d) agent input n₁₀ n₈)) .start) (performed ((partsOf (judgeOf (lent (sessions) (streams) (objects) (held) (parts) (lengths) (rebuilt)) (d) agent input n₁₀ n₈)) .start) (lent (sessions) (streams) (objects) (held) (parts) (lengths) (rebuilt)) (d) (sample)) .processed) (Processed-p .val (finish agent (lent (sessions) (streams) (objects) (held) (parts) (lengths) (rebuilt)) (out) ((partsOf (judgeOf (lent (sessions) (streams) (objects) (held) (parts) (lengths) (rebuilt)) (d) agent input n₁₀ n₈)) .start) (performed ((partsOf (judgeOf (lent (sessions) (streams) (objects) (held) (parts) (lengths) (rebuilt)) (d) agent input n₁₀ n₈)) .start) (lent (sessions) (streams) (objects) (held) (parts) (lengths) (rebuilt)) (d) (sample)) .processed) ∷ [])) → Sq W (‵ (MutSlice (named 0) κ₁ (Array u64 8) .own (at-list b₁ o₁ γ₁ (finish agent (lent (sessions) (streams) (objects) (held) (parts) (lengths) (rebuilt)) (out) ((partsOf (judgeOf (lent (sessions) (streams) (objects) (held) (parts) (lengths) (rebuilt)) (d) agent input n₁₀ n₈)) .start) (performed ((partsOf (judgeOf (lent (sessions) (streams) (objects) (held) (parts) (lengths) (rebuilt)) (d) agent input n₁₀ n₈)) .start) (lent (sessions) (streams) (objects) (held) (parts) (lengths) (rebuilt)) (d) (sample)) .tables .sessions)) (sliceVal (b₁, o₁) n₁ ∷ [])) ∷ ‵ (flft κ₁ q₁) ∷ ‵ (MutSlice (named 0) κ₂ (Array u16 35) .own (at-list b₂ o₂ γ₂ (finish agent (lent (sessions) (streams) (objects) (held) (parts) (lengths) (rebuilt)) (out) ((partsOf (judgeOf (lent (sessions) (streams) (objects) (held) (parts) (lengths) (rebuilt)) (d) agent input n₁₀ n₈)) .start) (performed ((partsOf (judgeOf (lent (sessions) (streams) (objects) (held) (parts) (lengths) (rebuilt)) (d) agent input n₁₀ n₈)) .start) (lent (sessions) (streams) (objects) (held) (parts) (lengths) (rebuilt)) (d) (sample)) .tables .streams)) (sliceVal (b₂, o₂) n₂ ∷ [])) ∷ ‵ (flft κ₂ q₂) ∷ ‵ (MutSlice (named 0) κ₃ Object-t.the-row .own (at-list b₃ o₃ γ₃ (finish agent (lent (sessions) (streams) (objects) (held) (parts) (lengths) (rebuilt)) (out) ((partsOf (judgeOf (lent (sessions) (streams) (objects) (held) (parts) (lengths) (rebuilt)) (d) agent input n₁₀ n₈)) .start) (performed ((partsOf (judgeOf (lent (sessions) (streams) (objects) (held) (parts) (lengths) (rebuilt)) (d) agent input n₁₀ n₈)) .start) (lent (sessions) (streams) (objects) (held) (parts) (lengths) (rebuilt)) (d) (sample)) .tables .objects)) (sliceVal (b₃, o₃) n₃ ∷ [])) ∷ ‵ (flft κ₃ q₃) ∷ ‵ (MutSlice (named 0) κ₄ u8 .own (at-list b₄ o₄ γ₄ (finish agent (lent (sessions) (streams) (objects) (held) (parts) (lengths) (rebuilt)) (out) ((partsOf (judgeOf (lent (sessions) (streams) (objects) (held) (parts) (lengths) (rebuilt)) (d) agent input n₁₀ n₈)) .start) (performed ((partsOf (judgeOf (lent (sessions) (streams) (objects) (held) (parts) (lengths) (rebuilt)) (d) agent input n₁₀ n₈)) .start) (lent (sessions) (streams) (objects) (held) (parts) (lengths) (rebuilt)) (d) (sample)) .tables .held)) (sliceVal (b₄, o₄) n₄ ∷ [])) ∷ ‵ (flft κ₄ q₄) ∷ ‵ (MutSlice (named 0) κ₅ u8 .own (at-list b₅ o₅ γ₅ (finish agent (lent (sessions) (streams) (objects) (held) (parts) (lengths) (rebuilt)) (out) ((partsOf (judgeOf (lent (sessions) (streams) (objects) (held) (parts) (lengths) (rebuilt)) (d) agent input n₁₀ n₈)) .start) (performed ((partsOf (judgeOf (lent (sessions) (streams) (objects) (held) (parts) (lengths) (rebuilt)) (d) agent input n₁₀ n₈)) .start) (lent (sessions) (streams) (objects) (held) (parts) (lengths) (rebuilt)) (d) (sample)) .tables .parts)) (sliceVal (b₅, o₅) n₅ ∷ [])) ∷ ‵ (flft κ₅ q₅) ∷ ‵ (MutSlice (named 0) κ₆ u32 .own (at-list b₆ o₆ γ₆ (finish agent (lent (sessions) (streams) (objects) (held) (parts) (lengths) (rebuilt)) (out) ((partsOf (judgeOf (lent (sessions) (streams) (objects) (held) (parts) (lengths) (rebuilt)) (d) agent input n₁₀ n₈)) .start) (performed ((partsOf (judgeOf (lent (sessions) (streams) (objects) (held) (parts) (lengths) (rebuilt)) (d) agent input n₁₀ n₈)) .start) (lent (sessions) (streams) (objects) (held) (parts) (lengths) (rebuilt)) (d) (sample)) .tables .lengths)) (sliceVal (b₆, o₆) n₆ ∷ [])) ∷ ‵ (flft κ₆ q₆) ∷ ‵ (MutSlice (named 0) κ₇ u8 .own (at-list b₇ o₇ γ₇ (finish agent (lent (sessions) (streams) (objects) (held) (parts) (lengths) (rebuilt)) (out) ((partsOf (judgeOf (lent (sessions) (streams) (objects) (held) (parts) (lengths) (rebuilt)) (d) agent input n₁₀ n₈)) .start) (performed ((partsOf (judgeOf (lent (sessions) (streams) (objects) (held) (parts) (lengths) (rebuilt)) (d) agent input n₁₀ n₈)) .start) (lent (sessions) (streams) (objects) (held) (parts) (lengths) (rebuilt)) (d) (sample)) .tables .rebuilt)) (sliceVal (b₇, o₇) n₇ ∷ [])) ∷ ‵ (flft κ₇ q₇) ∷ ‵ (MutSlice (named 0) κ₈ u8 .own (at-list b₈ o₈ γ₈ (finish agent (lent (sessions) (streams) (objects) (held) (parts) (lengths) (rebuilt)) (out) ((partsOf (judgeOf (lent (sessions) (streams) (objects) (held) (parts) (lengths) (rebuilt)) (d) agent input n₁₀ n₈)) .start) (performed ((partsOf (judgeOf (lent (sessions) (streams) (objects) (held) (parts) (lengths) (rebuilt)) (d) agent input n₁₀ n₈)) .start) (lent (sessions) (streams) (objects) (held) (parts) (lengths) (rebuilt)) (d) (sample)) .out)) (sliceVal (b₈, o₈) n₈ ∷ [])) ∷ ‵ (flft κ₈ q₈) ∷ ‵ (ShrSlice (named 0) κ₉ u8 .own (at-list b₉ o₉ γ₉ d) (sliceVal (b₉, o₉) n₉ ∷ [])) ∷ ‵ (flft κ₉ q₉) ∷ ‵ (ShrSlice (named 0) κ₁₀ u8 .own (at-list b₁₀ o₁₀ γ₁₀ sample) (sliceVal (b₁₀, o₁₀) n₁₀ ∷ [])) ∷ ‵ (flft κ₁₀ q₁₀) ∷ full 𝓤 (sliceTy (tyRef erased mut (pointee (u8 .written)))) l₅₁ (sliceVal (b₈, o₈) n₈) (full 𝓤 (tyRef erased mut (pointee (u8 .written))) l₅₀ (vptr b₈ o₈) (full 𝓤 (sliceTy (tyRef erased mut (pointee (u8 .written)))) l₄₉ (sliceVal (b₇, o₇) n₇) (full 𝓤 (tyRef erased mut (pointee (u8 .written))) l₄₈ (vptr b₇ o₇) (full 𝓤 (sliceTy (tyRef erased mut (pointee (u32 .written)))) l₄₇ (sliceVal (b₆, o₆) n₆) (full 𝓤 (tyRef erased mut (pointee (u32 .written))) l₄₆ (vptr b₆ o₆) (full 𝓤 (sliceTy (tyRef erased mut (pointee (u8 .written)))) l₄₅ (sliceVal (b₅, o₅) n₅) (full 𝓤 (tyRef erased mut (pointee (u8 .written))) l₄₄ (vptr b₅ o₅) (full 𝓤 (sliceTy (tyRef erased mut (pointee (u8 .written)))) l₄₃ (sliceVal (b₄, o₄) n₄) (full 𝓤 (tyRef erased mut (pointee (u8 .written))) l₄₂ (vptr b₄ o₄) (full 𝓤 (sliceTy (tyRef erased mut (pointee (Object-t.the-row .written)))) l₄₁ (sliceVal (b₃, o₃) n₃) (full 𝓤 (tyRef erased mut (pointee (Object-t.the-row .written))) l₄₀ (vptr b₃ o₃) (full 𝓤 (sliceTy (tyRef erased mut (pointee ((Array u16 35) .written)))) l₃₉ (sliceVal (b₂, o₂) n₂) (full 𝓤 (tyRef erased mut (pointee ((Array u16 35) .written))) l₃₈ (vptr b₂ o₂) (full 𝓤 (sliceTy (tyRef erased mut (pointee ((Array u64 8) .written)))) l₃₇ (sliceVal (b₁, o₁) n₁) (full 𝓤 (tyRef erased mut (pointee ((Array u64 8) .written))) l₃₆ (vptr b₁ o₁) (full 𝓤 Processed-l.mir l₃₅ (Processed-p .val (finish agent (lent (sessions) (streams) (objects) (held) (parts) (lengths) (rebuilt)) (out) ((partsOf (judgeOf (lent (sessions) (streams) (objects) (held) (parts) (lengths) (rebuilt)) (d) agent input n₁₀ n₈)) .start) (performed ((partsOf (judgeOf (lent (sessions) (streams) (objects) (held) (parts) (lengths) (rebuilt)) (d) agent input n₁₀ n₈)) .start) (lent (sessions) (streams) (objects) (held) (parts) (lengths) (rebuilt)) (d) (sample)) .processed)) (full 𝓤 tyBool l₃₄ (bool-p .val ((partsOf (judgeOf (lent (sessions) (streams) (objects) (held) (parts) (lengths) (rebuilt)) (d) agent input n₁₀ n₈)) .goes)) (full 𝓤 (sliceTy (tyRef erased imm (pointee (u8 .written)))) l₃₃ (sliceVal (b₇, o₇) n₇) (full 𝓤 (tyRef erased imm (pointee (u8 .written))) l₃₂ (vptr b₇ o₇) (full 𝓤 (sliceTy (tyRef erased imm (pointee (u32 .written)))) l₃₁ (sliceVal (b₆, o₆) n₆) (full 𝓤 (tyRef erased imm (pointee (u32 .written))) l₃₀ (vptr b₆ o₆) (full 𝓤 (sliceTy (tyRef erased imm (pointee (u8 .written)))) l₂₉ (sliceVal (b₅, o₅) n₅) (full 𝓤 (tyRef erased imm (pointee (u8 .written))) l₂₈ (vptr b₅ o₅) (full 𝓤 (sliceTy (tyRef erased imm (pointee (u8 .written)))) l₂₇ (sliceVal (b₄, o₄) n₄) (full 𝓤 (tyRef erased imm (pointee (u8 .written))) l₂₆ (vptr b₄ o₄) (full 𝓤 (sliceTy (tyRef erased imm (pointee (Object-t.the-row .written)))) l₂₅ (sliceVal (b₃, o₃) n₃) (full 𝓤 (tyRef erased imm (pointee (Object-t.the-row .written))) l₂₄ (vptr b₃ o₃) (full 𝓤 (sliceTy (tyRef erased imm (pointee ((Array u16 35) .written)))) l₂₃ (sliceVal (b₂, o₂) n₂) (full 𝓤 (tyRef erased imm (pointee ((Array u16 35) .written))) l₂₂ (vptr b₂ o₂) (full 𝓤 (sliceTy (tyRef erased imm (pointee ((Array u64 8) .written)))) l₂₁ (sliceVal (b₁, o₁) n₁) (full 𝓤 (tyRef erased imm (pointee ((Array u64 8) .written))) l₂₀ (vptr b₁ o₁) (free 𝓤 Refusal-l.mir l₁₉ (full 𝓤 (tyInt w64) l₁₈ (u64-p .val ((partsOf (judgeOf (lent (sessions) (streams) (objects) (held) (parts) (lengths) (rebuilt)) (d) agent input n₁₀ n₈)) .count)) (full 𝓤 Start-l.mir l₁₇ (Start-p .val ((partsOf (judgeOf (lent (sessions) (streams) (objects) (held) (parts) (lengths) (rebuilt)) (d) agent input n₁₀ n₈)) .start)) (full 𝓤 Parts-l.mir l₁₆ (Parts-p .val (partsOf (judgeOf (lent (sessions) (streams) (objects) (held) (parts) (lengths) (rebuilt)) (d) agent input n₁₀ n₈))) (full 𝓤 Judged-l.mir l₁₅ (Judged-p .val (judgeOf (lent (sessions) (streams) (objects) (held) (parts) (lengths) (rebuilt)) (d) agent input n₁₀ n₈)) (full 𝓤 (tyInt w64) l₁₄ (u64-p .val n₈) (full 𝓤 (tyInt w64) l₁₃ (u64-p .val n₁₀) (full 𝓤 Input-l.mir l₁₂ (Input-p .val input) (full 𝓤 Agent-l.mir l₁₁ (Agent-p .val agent) (full 𝓤 (sliceTy (tyRef (named 9) imm (pointee (u8 .written)))) l₁₀ (sliceVal (b₁₀, o₁₀) n₁₀) (full 𝓤 (sliceTy (tyRef (named 8) imm (pointee (u8 .written)))) l₉ (sliceVal (b₉, o₉) n₉) (full 𝓤 (sliceTy (tyRef (named 7) mut (pointee (u8 .written)))) l₈ (sliceVal (b₈, o₈) n₈) (full 𝓤 (sliceTy (tyRef (named 6) mut (pointee (u8 .written)))) l₇ (sliceVal (b₇, o₇) n₇) (full 𝓤 (sliceTy (tyRef (named 5) mut (pointee (u32 .written)))) l₆ (sliceVal (b₆, o₆) n₆) (full 𝓤 (sliceTy (tyRef (named 4) mut (pointee (u8 .written)))) l₅ (sliceVal (b₅, o₅) n₅) (full 𝓤 (sliceTy (tyRef (named 3) mut (pointee (u8 .written)))) l₄ (sliceVal (b₄, o₄) n₄) (full 𝓤 (sliceTy (tyRef (named 2) mut (pointee (Object-t.the-row .written)))) l₃ (sliceVal (b₃, o₃) n₃) (full 𝓤 (sliceTy (tyRef (named 1) mut (pointee ((Array u16 35) .written)))) l₂ (sliceVal (b₂, o₂) n₂) (full 𝓤 (sliceTy (tyRef (named 0) mut (pointee ((Array u64 8) .written)))) l₁ (sliceVal (b₁, o₁) n₁) (free 𝓤 Processed-l.mir l₀ ([]))))))))))))))))))))))))))))))))))))))))))))))))))))) (runs C Λ En mir.t-21 (atRet En Post))
     part-21-0 is-17 is-18 c-20 asks-20·yes·19 len-20·yes·19-sessions len-20·yes·19-streams len-20·yes·19-objects len-20·yes·19-held len-20·yes·19-parts len-20·yes·19-lengths len-20·yes·19-rebuilt len-20·yes·19-out is-20·yes·19 =
         assigns ! (of-opd ! (load ! (from ! (stop !)) (look ! 52 refl))) (from ! (stop !)) (init ! 122 refl (Processed-p .typed 𝓤 H A W (finish agent (lent (sessions) (streams) (objects) (held) (parts) (lengths) (rebuilt)) (out) ((partsOf (judgeOf (lent (sessions) (streams) (objects) (held) (parts) (lengths) (rebuilt)) (d) agent input n₁₀ n₈)) .start) (performed ((partsOf (judgeOf (lent (sessions) (streams) (objects) (held) (parts) (lengths) (rebuilt)) (d) agent input n₁₀ n₈)) .start) (lent (sessions) (streams) (objects) (held) (parts) (lengths) (rebuilt)) (d) (sample)) .processed) is-20·yes·19)) $
         returns ! (look ! 122 refl) $ forget ! 20 refl $ forget ! 22 refl $ forget ! 24 refl $ forget ! 26 refl $ forget ! 28 refl $ forget ! 30 refl $ forget ! 32 refl $ forget ! 34 refl $ forget ! 36 refl $ forget ! 38 refl $ forget ! 40 refl $ forget ! 42 refl $ forget ! 44 refl $ forget ! 46 refl $ forget ! 48 refl $ forget ! 50 refl $ forget ! 52 refl $ forget ! 54 refl $ forget ! 56 refl $ forget ! 58 refl $ forget ! 60 refl $ forget ! 62 refl $ forget ! 64 refl $ forget ! 66 refl $ forget ! 68 refl $ forget ! 70 refl $ forget ! 72 refl $ forget ! 74 refl $ forget ! 76 refl $ forget ! 78 refl $ forget ! 80 refl $ forget ! 82 refl $ forget ! 86 refl $ forget ! 88 refl $ forget ! 90 refl $ forget ! 92 refl $ forget ! 94 refl $ forget ! 96 refl $
@@ -371,7 +370,7 @@ module _ {M : Type 1} (𝓤 : URA M) (H : Heap 𝓤) (A : Atoms 𝓤) (W : Given
         assigns ! (agg ! (and-then ! (load ! (from ! (stop !)) (look ! 26 refl)) (and-then ! (load ! (from ! (fld ! refl (stop !))) (look-in ! 108 (sub ! 1 refl (whole !)))) (no-more !)))) (from ! (stop !)) (init ! 24 refl (tt, (tt, (record { fits = room₇ .0 }, tt)))) $
         assigns ! (addr ! (from ! (fld ! refl (hop ! (look-in ! 106 (sub ! 0 refl (whole !))) (stop !))))) (from ! (stop !)) (init ! 22 refl (tt, tt)) $
         assigns ! (agg ! (and-then ! (load ! (from ! (stop !)) (look ! 22 refl)) (and-then ! (load ! (from ! (fld ! refl (stop !))) (look-in ! 106 (sub ! 1 refl (whole !)))) (no-more !)))) (from ! (stop !)) (init ! 20 refl (tt, (tt, (record { fits = room₈ .0 }, tt)))) $
-        knows ! ((resumesFit (((partsOf (judgeOf (lent (sessions) (streams) (objects) (held) (parts) (lengths) (rebuilt)) (d) agent input n₁₀ n₈)) .start) .resumes) (((partsOf (judgeOf (lent (sessions) (streams) (objects) (held) (parts) (lengths) (rebuilt)) (d) agent input n₁₀ n₈)) .start) .frame .«stream_id») (length (sample)) ≡ true) × (((partsOf (judgeOf (lent (sessions) (streams) (objects) (held) (parts) (lengths) (rebuilt)) (d) agent input n₁₀ n₈)) .start) .frame .room ≡ length (out)) × (ltb (length (out)) (neededOf (roomy (length (out)) ((partsOf (judgeOf (lent (sessions) (streams) (objects) (held) (parts) (lengths) (rebuilt)) (d) agent input n₁₀ n₈)) .start) ((partsOf (judgeOf (lent (sessions) (streams) (objects) (held) (parts) (lengths) (rebuilt)) (d) agent input n₁₀ n₈)) .count) (d) (length (sample))) (performed ((partsOf (judgeOf (lent (sessions) (streams) (objects) (held) (parts) (lengths) (rebuilt)) (d) agent input n₁₀ n₈)) .start) (lent (sessions) (streams) (objects) (held) (parts) (lengths) (rebuilt)) (d) (sample) .ran .wrote)) ≡ ltb (length (out)) (performed ((partsOf (judgeOf (lent (sessions) (streams) (objects) (held) (parts) (lengths) (rebuilt)) (d) agent input n₁₀ n₈)) .start) (lent (sessions) (streams) (objects) (held) (parts) (lengths) (rebuilt)) (d) (sample) .ran .wrote)) × (256 ≤ length (sessions)) × (2048 ≤ length (streams)) × (8192 ≤ length (objects)) × (32768 ≤ length (rebuilt))) ((let-through c-20 .sample-fits, let-through c-20 .room-is, thirteen tables-lent d sample (partsOf judged .start) (partsOf judged .count) (length out) (let-through c-20), let-through c-20 .sessions-long, let-through c-20 .streams-long, let-through c-20 .objects-long, let-through c-20 .rebuilt-long)) (λ asks-20·yes·19.
+        knows ! ((resumesFit (((partsOf (judgeOf (lent (sessions) (streams) (objects) (held) (parts) (lengths) (rebuilt)) (d) agent input n₁₀ n₈)) .start) .resumes) (((partsOf (judgeOf (lent (sessions) (streams) (objects) (held) (parts) (lengths) (rebuilt)) (d) agent input n₁₀ n₈)) .start) .frame .«stream_id») (length (sample)) ≡ true) × (((partsOf (judgeOf (lent (sessions) (streams) (objects) (held) (parts) (lengths) (rebuilt)) (d) agent input n₁₀ n₈)) .start) .frame .room ≡ length (out)) × (ltb (length (out)) (neededOf (roomy (length (out)) ((partsOf (judgeOf (lent (sessions) (streams) (objects) (held) (parts) (lengths) (rebuilt)) (d) agent input n₁₀ n₈)) .start) (sessions) ((partsOf (judgeOf (lent (sessions) (streams) (objects) (held) (parts) (lengths) (rebuilt)) (d) agent input n₁₀ n₈)) .count) (d) (length (sample))) (performed ((partsOf (judgeOf (lent (sessions) (streams) (objects) (held) (parts) (lengths) (rebuilt)) (d) agent input n₁₀ n₈)) .start) (lent (sessions) (streams) (objects) (held) (parts) (lengths) (rebuilt)) (d) (sample) .ran .wrote)) ≡ ltb (length (out)) (performed ((partsOf (judgeOf (lent (sessions) (streams) (objects) (held) (parts) (lengths) (rebuilt)) (d) agent input n₁₀ n₈)) .start) (lent (sessions) (streams) (objects) (held) (parts) (lengths) (rebuilt)) (d) (sample) .ran .wrote)) × (256 ≤ length (sessions)) × (2048 ≤ length (streams)) × (8192 ≤ length (objects)) × (32768 ≤ length (rebuilt))) ((let-through c-20 .sample-fits, let-through c-20 .room-is, thirteen tables-lent d sample (partsOf judged .start) (partsOf judged .count) (length out) (let-through c-20), let-through c-20 .sessions-long, let-through c-20 .streams-long, let-through c-20 .objects-long, let-through c-20 .rebuilt-long)) (λ asks-20·yes·19.
         -- 20.yes.19: agent::process::go
         lends-mut ! tt (Array u64 8) b₁ o₁ sessions n₁ (refl) (λ ν-20·yes·19-sessions δ-20·yes·19-sessions.
         move ! (3 ∷ 4 ∷ []) $
@@ -395,7 +394,7 @@ module _ {M : Type 1} (𝓤 : URA M) (H : Heap 𝓤) (A : Atoms 𝓤) (W : Given
         owned ! (u64-p .row) (Is (u64-p .row)) (u64-p .makes 𝓤 H A W) ((partsOf (judgeOf (lent (sessions) (streams) (objects) (held) (parts) (lengths) (rebuilt)) (d) agent input n₁₀ n₈)) .count) (u64-p .val ((partsOf (judgeOf (lent (sessions) (streams) (objects) (held) (parts) (lengths) (rebuilt)) (d) agent input n₁₀ n₈)) .count) ∷ []) (LL.owed Parts-t.the-type Parts-l.the-laws (partsOf (judgeOf (lent (sessions) (streams) (objects) (held) (parts) (lengths) (rebuilt)) (d) agent input n₁₀ n₈)) _ is-18 .1 .1 .0) $ fjoin ! $
         owned ! (Start-p .row) (Is (Start-p .row)) (Start-p .makes 𝓤 H A W) ((partsOf (judgeOf (lent (sessions) (streams) (objects) (held) (parts) (lengths) (rebuilt)) (d) agent input n₁₀ n₈)) .start) (Start-p .val ((partsOf (judgeOf (lent (sessions) (streams) (objects) (held) (parts) (lengths) (rebuilt)) (d) agent input n₁₀ n₈)) .start) ∷ []) (LL.owed Parts-t.the-type Parts-l.the-laws (partsOf (judgeOf (lent (sessions) (streams) (objects) (held) (parts) (lengths) (rebuilt)) (d) agent input n₁₀ n₈)) _ is-18 .1 .0) $ fjoin ! $
         owned ! (Agent-p .row) (Is (Agent-p .row)) (Agent-p .makes 𝓤 H A W) agent (Agent-p .val agent ∷ []) agent-is $ fjoin ! $ move ! (2 ∷ 0 ∷ []) $ fjoin ! $ move ! (3 ∷ 0 ∷ []) $ fjoin ! $ move ! (4 ∷ 0 ∷ []) $ fjoin ! $ move ! (5 ∷ 0 ∷ []) $ fjoin ! $ move ! (6 ∷ 0 ∷ []) $ fjoin ! $ move ! (7 ∷ 0 ∷ []) $ fjoin ! $ move ! (8 ∷ 0 ∷ []) $ fjoin ! $ move ! (9 ∷ 0 ∷ []) $ fjoin ! $ move ! (10 ∷ 0 ∷ []) $ fjoin ! $ move ! (11 ∷ 0 ∷ []) $ fjoin ! $ move ! (1 ∷ 0 ∷ []) $
-        calls-any-last ! fm 10 [] (process-go.signature .params) (process-go.ended .kept) Processed-p (process-go.clauses 𝓤 H A mem run) known-process-go ((ν-20·yes·19-sessions ∷ []), ((ν-20·yes·19-streams ∷ []), ((ν-20·yes·19-objects ∷ []), ((ν-20·yes·19-held ∷ []), ((ν-20·yes·19-parts ∷ []), ((ν-20·yes·19-lengths ∷ []), ((ν-20·yes·19-rebuilt ∷ []), ((ν-20·yes·19-out ∷ []), (κ₉, (κ₁₀, tt)))))))))) (fullShare, (fullShare, (fullShare, (fullShare, (fullShare, (fullShare, (fullShare, (fullShare, (q₉, (q₁₀, tt)))))))))) tt (at-list b₁ o₁ δ-20·yes·19-sessions sessions, (at-list b₂ o₂ δ-20·yes·19-streams streams, (at-list b₃ o₃ δ-20·yes·19-objects objects, (at-list b₄ o₄ δ-20·yes·19-held held, (at-list b₅ o₅ δ-20·yes·19-parts parts, (at-list b₆ o₆ δ-20·yes·19-lengths lengths, (at-list b₇ o₇ δ-20·yes·19-rebuilt rebuilt, (at-list b₈ o₈ δ-20·yes·19-out out, (at-list b₉ o₉ γ₉ d, (at-list b₁₀ o₁₀ γ₁₀ sample, (agent, ((partsOf (judgeOf (lent (sessions) (streams) (objects) (held) (parts) (lengths) (rebuilt)) (d) agent input n₁₀ n₈)) .start, ((partsOf (judgeOf (lent (sessions) (streams) (objects) (held) (parts) (lengths) (rebuilt)) (d) agent input n₁₀ n₈)) .count, tt))))))))))))) (sliceVal (b₁, o₁) n₁ ∷ [], (sliceVal (b₂, o₂) n₂ ∷ [], (sliceVal (b₃, o₃) n₃ ∷ [], (sliceVal (b₄, o₄) n₄ ∷ [], (sliceVal (b₅, o₅) n₅ ∷ [], (sliceVal (b₆, o₆) n₆ ∷ [], (sliceVal (b₇, o₇) n₇ ∷ [], (sliceVal (b₈, o₈) n₈ ∷ [], (sliceVal (b₉, o₉) n₉ ∷ [], (sliceVal (b₁₀, o₁₀) n₁₀ ∷ [], (Agent-p .val agent ∷ [], (Start-p .val ((partsOf (judgeOf (lent (sessions) (streams) (objects) (held) (parts) (lengths) (rebuilt)) (d) agent input n₁₀ n₈)) .start) ∷ [], (u64-p .val ((partsOf (judgeOf (lent (sessions) (streams) (objects) (held) (parts) (lengths) (rebuilt)) (d) agent input n₁₀ n₈)) .count) ∷ [], tt))))))))))))) tt (finish agent (lent (sessions) (streams) (objects) (held) (parts) (lengths) (rebuilt)) (out) ((partsOf (judgeOf (lent (sessions) (streams) (objects) (held) (parts) (lengths) (rebuilt)) (d) agent input n₁₀ n₈)) .start) (performed ((partsOf (judgeOf (lent (sessions) (streams) (objects) (held) (parts) (lengths) (rebuilt)) (d) agent input n₁₀ n₈)) .start) (lent (sessions) (streams) (objects) (held) (parts) (lengths) (rebuilt)) (d) (sample)) .processed) (λ ws-20·yes·19. (ws-20·yes·19 .0 ≡ finish agent (lent (sessions) (streams) (objects) (held) (parts) (lengths) (rebuilt)) (out) ((partsOf (judgeOf (lent (sessions) (streams) (objects) (held) (parts) (lengths) (rebuilt)) (d) agent input n₁₀ n₈)) .start) (performed ((partsOf (judgeOf (lent (sessions) (streams) (objects) (held) (parts) (lengths) (rebuilt)) (d) agent input n₁₀ n₈)) .start) (lent (sessions) (streams) (objects) (held) (parts) (lengths) (rebuilt)) (d) (sample)) .tables .sessions) × (ws-20·yes·19 .1 .0 ≡ finish agent (lent (sessions) (streams) (objects) (held) (parts) (lengths) (rebuilt)) (out) ((partsOf (judgeOf (lent (sessions) (streams) (objects) (held) (parts) (lengths) (rebuilt)) (d) agent input n₁₀ n₈)) .start) (performed ((partsOf (judgeOf (lent (sessions) (streams) (objects) (held) (parts) (lengths) (rebuilt)) (d) agent input n₁₀ n₈)) .start) (lent (sessions) (streams) (objects) (held) (parts) (lengths) (rebuilt)) (d) (sample)) .tables .streams) × (ws-20·yes·19 .1 .1 .0 ≡ finish agent (lent (sessions) (streams) (objects) (held) (parts) (lengths) (rebuilt)) (out) ((partsOf (judgeOf (lent (sessions) (streams) (objects) (held) (parts) (lengths) (rebuilt)) (d) agent input n₁₀ n₈)) .start) (performed ((partsOf (judgeOf (lent (sessions) (streams) (objects) (held) (parts) (lengths) (rebuilt)) (d) agent input n₁₀ n₈)) .start) (lent (sessions) (streams) (objects) (held) (parts) (lengths) (rebuilt)) (d) (sample)) .tables .objects) × (ws-20·yes·19 .1 .1 .1 .0 ≡ finish agent (lent (sessions) (streams) (objects) (held) (parts) (lengths) (rebuilt)) (out) ((partsOf (judgeOf (lent (sessions) (streams) (objects) (held) (parts) (lengths) (rebuilt)) (d) agent input n₁₀ n₈)) .start) (performed ((partsOf (judgeOf (lent (sessions) (streams) (objects) (held) (parts) (lengths) (rebuilt)) (d) agent input n₁₀ n₈)) .start) (lent (sessions) (streams) (objects) (held) (parts) (lengths) (rebuilt)) (d) (sample)) .tables .held) × (ws-20·yes·19 .1 .1 .1 .1 .0 ≡ finish agent (lent (sessions) (streams) (objects) (held) (parts) (lengths) (rebuilt)) (out) ((partsOf (judgeOf (lent (sessions) (streams) (objects) (held) (parts) (lengths) (rebuilt)) (d) agent input n₁₀ n₈)) .start) (performed ((partsOf (judgeOf (lent (sessions) (streams) (objects) (held) (parts) (lengths) (rebuilt)) (d) agent input n₁₀ n₈)) .start) (lent (sessions) (streams) (objects) (held) (parts) (lengths) (rebuilt)) (d) (sample)) .tables .parts) × (ws-20·yes·19 .1 .1 .1 .1 .1 .0 ≡ finish agent (lent (sessions) (streams) (objects) (held) (parts) (lengths) (rebuilt)) (out) ((partsOf (judgeOf (lent (sessions) (streams) (objects) (held) (parts) (lengths) (rebuilt)) (d) agent input n₁₀ n₈)) .start) (performed ((partsOf (judgeOf (lent (sessions) (streams) (objects) (held) (parts) (lengths) (rebuilt)) (d) agent input n₁₀ n₈)) .start) (lent (sessions) (streams) (objects) (held) (parts) (lengths) (rebuilt)) (d) (sample)) .tables .lengths) × (ws-20·yes·19 .1 .1 .1 .1 .1 .1 .0 ≡ finish agent (lent (sessions) (streams) (objects) (held) (parts) (lengths) (rebuilt)) (out) ((partsOf (judgeOf (lent (sessions) (streams) (objects) (held) (parts) (lengths) (rebuilt)) (d) agent input n₁₀ n₈)) .start) (performed ((partsOf (judgeOf (lent (sessions) (streams) (objects) (held) (parts) (lengths) (rebuilt)) (d) agent input n₁₀ n₈)) .start) (lent (sessions) (streams) (objects) (held) (parts) (lengths) (rebuilt)) (d) (sample)) .tables .rebuilt) × (ws-20·yes·19 .1 .1 .1 .1 .1 .1 .1 .0 ≡ finish agent (lent (sessions) (streams) (objects) (held) (parts) (lengths) (rebuilt)) (out) ((partsOf (judgeOf (lent (sessions) (streams) (objects) (held) (parts) (lengths) (rebuilt)) (d) agent input n₁₀ n₈)) .start) (performed ((partsOf (judgeOf (lent (sessions) (streams) (objects) (held) (parts) (lengths) (rebuilt)) (d) agent input n₁₀ n₈)) .start) (lent (sessions) (streams) (objects) (held) (parts) (lengths) (rebuilt)) (d) (sample)) .out)) (factI 𝓤 ((resumesFit (((partsOf (judgeOf (lent (sessions) (streams) (objects) (held) (parts) (lengths) (rebuilt)) (d) agent input n₁₀ n₈)) .start) .resumes) (((partsOf (judgeOf (lent (sessions) (streams) (objects) (held) (parts) (lengths) (rebuilt)) (d) agent input n₁₀ n₈)) .start) .frame .«stream_id») (length (sample)) ≡ true) × (((partsOf (judgeOf (lent (sessions) (streams) (objects) (held) (parts) (lengths) (rebuilt)) (d) agent input n₁₀ n₈)) .start) .frame .room ≡ length (out)) × (ltb (length (out)) (neededOf (roomy (length (out)) ((partsOf (judgeOf (lent (sessions) (streams) (objects) (held) (parts) (lengths) (rebuilt)) (d) agent input n₁₀ n₈)) .start) ((partsOf (judgeOf (lent (sessions) (streams) (objects) (held) (parts) (lengths) (rebuilt)) (d) agent input n₁₀ n₈)) .count) (d) (length (sample))) (performed ((partsOf (judgeOf (lent (sessions) (streams) (objects) (held) (parts) (lengths) (rebuilt)) (d) agent input n₁₀ n₈)) .start) (lent (sessions) (streams) (objects) (held) (parts) (lengths) (rebuilt)) (d) (sample) .ran .wrote)) ≡ ltb (length (out)) (performed ((partsOf (judgeOf (lent (sessions) (streams) (objects) (held) (parts) (lengths) (rebuilt)) (d) agent input n₁₀ n₈)) .start) (lent (sessions) (streams) (objects) (held) (parts) (lengths) (rebuilt)) (d) (sample) .ran .wrote)) × (256 ≤ length (sessions)) × (2048 ≤ length (streams)) × (8192 ≤ length (objects)) × (32768 ≤ length (rebuilt))) _ asks-20·yes·19) (λ r ws-20·yes·19. fact-mono 𝓤 ((r ≡ finish agent (lent (sessions) (streams) (objects) (held) (parts) (lengths) (rebuilt)) (out) ((partsOf (judgeOf (lent (sessions) (streams) (objects) (held) (parts) (lengths) (rebuilt)) (d) agent input n₁₀ n₈)) .start) (performed ((partsOf (judgeOf (lent (sessions) (streams) (objects) (held) (parts) (lengths) (rebuilt)) (d) agent input n₁₀ n₈)) .start) (lent (sessions) (streams) (objects) (held) (parts) (lengths) (rebuilt)) (d) (sample)) .processed) × ((ws-20·yes·19 .0) ≡ finish agent (lent (sessions) (streams) (objects) (held) (parts) (lengths) (rebuilt)) (out) ((partsOf (judgeOf (lent (sessions) (streams) (objects) (held) (parts) (lengths) (rebuilt)) (d) agent input n₁₀ n₈)) .start) (performed ((partsOf (judgeOf (lent (sessions) (streams) (objects) (held) (parts) (lengths) (rebuilt)) (d) agent input n₁₀ n₈)) .start) (lent (sessions) (streams) (objects) (held) (parts) (lengths) (rebuilt)) (d) (sample)) .tables .sessions) × ((ws-20·yes·19 .1 .0) ≡ finish agent (lent (sessions) (streams) (objects) (held) (parts) (lengths) (rebuilt)) (out) ((partsOf (judgeOf (lent (sessions) (streams) (objects) (held) (parts) (lengths) (rebuilt)) (d) agent input n₁₀ n₈)) .start) (performed ((partsOf (judgeOf (lent (sessions) (streams) (objects) (held) (parts) (lengths) (rebuilt)) (d) agent input n₁₀ n₈)) .start) (lent (sessions) (streams) (objects) (held) (parts) (lengths) (rebuilt)) (d) (sample)) .tables .streams) × ((ws-20·yes·19 .1 .1 .0) ≡ finish agent (lent (sessions) (streams) (objects) (held) (parts) (lengths) (rebuilt)) (out) ((partsOf (judgeOf (lent (sessions) (streams) (objects) (held) (parts) (lengths) (rebuilt)) (d) agent input n₁₀ n₈)) .start) (performed ((partsOf (judgeOf (lent (sessions) (streams) (objects) (held) (parts) (lengths) (rebuilt)) (d) agent input n₁₀ n₈)) .start) (lent (sessions) (streams) (objects) (held) (parts) (lengths) (rebuilt)) (d) (sample)) .tables .objects) × ((ws-20·yes·19 .1 .1 .1 .0) ≡ finish agent (lent (sessions) (streams) (objects) (held) (parts) (lengths) (rebuilt)) (out) ((partsOf (judgeOf (lent (sessions) (streams) (objects) (held) (parts) (lengths) (rebuilt)) (d) agent input n₁₀ n₈)) .start) (performed ((partsOf (judgeOf (lent (sessions) (streams) (objects) (held) (parts) (lengths) (rebuilt)) (d) agent input n₁₀ n₈)) .start) (lent (sessions) (streams) (objects) (held) (parts) (lengths) (rebuilt)) (d) (sample)) .tables .held) × ((ws-20·yes·19 .1 .1 .1 .1 .0) ≡ finish agent (lent (sessions) (streams) (objects) (held) (parts) (lengths) (rebuilt)) (out) ((partsOf (judgeOf (lent (sessions) (streams) (objects) (held) (parts) (lengths) (rebuilt)) (d) agent input n₁₀ n₈)) .start) (performed ((partsOf (judgeOf (lent (sessions) (streams) (objects) (held) (parts) (lengths) (rebuilt)) (d) agent input n₁₀ n₈)) .start) (lent (sessions) (streams) (objects) (held) (parts) (lengths) (rebuilt)) (d) (sample)) .tables .parts) × ((ws-20·yes·19 .1 .1 .1 .1 .1 .0) ≡ finish agent (lent (sessions) (streams) (objects) (held) (parts) (lengths) (rebuilt)) (out) ((partsOf (judgeOf (lent (sessions) (streams) (objects) (held) (parts) (lengths) (rebuilt)) (d) agent input n₁₀ n₈)) .start) (performed ((partsOf (judgeOf (lent (sessions) (streams) (objects) (held) (parts) (lengths) (rebuilt)) (d) agent input n₁₀ n₈)) .start) (lent (sessions) (streams) (objects) (held) (parts) (lengths) (rebuilt)) (d) (sample)) .tables .lengths) × ((ws-20·yes·19 .1 .1 .1 .1 .1 .1 .0) ≡ finish agent (lent (sessions) (streams) (objects) (held) (parts) (lengths) (rebuilt)) (out) ((partsOf (judgeOf (lent (sessions) (streams) (objects) (held) (parts) (lengths) (rebuilt)) (d) agent input n₁₀ n₈)) .start) (performed ((partsOf (judgeOf (lent (sessions) (streams) (objects) (held) (parts) (lengths) (rebuilt)) (d) agent input n₁₀ n₈)) .start) (lent (sessions) (streams) (objects) (held) (parts) (lengths) (rebuilt)) (d) (sample)) .tables .rebuilt) × ((ws-20·yes·19 .1 .1 .1 .1 .1 .1 .1 .0) ≡ finish agent (lent (sessions) (streams) (objects) (held) (parts) (lengths) (rebuilt)) (out) ((partsOf (judgeOf (lent (sessions) (streams) (objects) (held) (parts) (lengths) (rebuilt)) (d) agent input n₁₀ n₈)) .start) (performed ((partsOf (judgeOf (lent (sessions) (streams) (objects) (held) (parts) (lengths) (rebuilt)) (d) agent input n₁₀ n₈)) .start) (lent (sessions) (streams) (objects) (held) (parts) (lengths) (rebuilt)) (d) (sample)) .out)) ((r ≡ (finish agent (lent (sessions) (streams) (objects) (held) (parts) (lengths) (rebuilt)) (out) ((partsOf (judgeOf (lent (sessions) (streams) (objects) (held) (parts) (lengths) (rebuilt)) (d) agent input n₁₀ n₈)) .start) (performed ((partsOf (judgeOf (lent (sessions) (streams) (objects) (held) (parts) (lengths) (rebuilt)) (d) agent input n₁₀ n₈)) .start) (lent (sessions) (streams) (objects) (held) (parts) (lengths) (rebuilt)) (d) (sample)) .processed)) × ((ws-20·yes·19 .0 ≡ finish agent (lent (sessions) (streams) (objects) (held) (parts) (lengths) (rebuilt)) (out) ((partsOf (judgeOf (lent (sessions) (streams) (objects) (held) (parts) (lengths) (rebuilt)) (d) agent input n₁₀ n₈)) .start) (performed ((partsOf (judgeOf (lent (sessions) (streams) (objects) (held) (parts) (lengths) (rebuilt)) (d) agent input n₁₀ n₈)) .start) (lent (sessions) (streams) (objects) (held) (parts) (lengths) (rebuilt)) (d) (sample)) .tables .sessions) × (ws-20·yes·19 .1 .0 ≡ finish agent (lent (sessions) (streams) (objects) (held) (parts) (lengths) (rebuilt)) (out) ((partsOf (judgeOf (lent (sessions) (streams) (objects) (held) (parts) (lengths) (rebuilt)) (d) agent input n₁₀ n₈)) .start) (performed ((partsOf (judgeOf (lent (sessions) (streams) (objects) (held) (parts) (lengths) (rebuilt)) (d) agent input n₁₀ n₈)) .start) (lent (sessions) (streams) (objects) (held) (parts) (lengths) (rebuilt)) (d) (sample)) .tables .streams) × (ws-20·yes·19 .1 .1 .0 ≡ finish agent (lent (sessions) (streams) (objects) (held) (parts) (lengths) (rebuilt)) (out) ((partsOf (judgeOf (lent (sessions) (streams) (objects) (held) (parts) (lengths) (rebuilt)) (d) agent input n₁₀ n₈)) .start) (performed ((partsOf (judgeOf (lent (sessions) (streams) (objects) (held) (parts) (lengths) (rebuilt)) (d) agent input n₁₀ n₈)) .start) (lent (sessions) (streams) (objects) (held) (parts) (lengths) (rebuilt)) (d) (sample)) .tables .objects) × (ws-20·yes·19 .1 .1 .1 .0 ≡ finish agent (lent (sessions) (streams) (objects) (held) (parts) (lengths) (rebuilt)) (out) ((partsOf (judgeOf (lent (sessions) (streams) (objects) (held) (parts) (lengths) (rebuilt)) (d) agent input n₁₀ n₈)) .start) (performed ((partsOf (judgeOf (lent (sessions) (streams) (objects) (held) (parts) (lengths) (rebuilt)) (d) agent input n₁₀ n₈)) .start) (lent (sessions) (streams) (objects) (held) (parts) (lengths) (rebuilt)) (d) (sample)) .tables .held) × (ws-20·yes·19 .1 .1 .1 .1 .0 ≡ finish agent (lent (sessions) (streams) (objects) (held) (parts) (lengths) (rebuilt)) (out) ((partsOf (judgeOf (lent (sessions) (streams) (objects) (held) (parts) (lengths) (rebuilt)) (d) agent input n₁₀ n₈)) .start) (performed ((partsOf (judgeOf (lent (sessions) (streams) (objects) (held) (parts) (lengths) (rebuilt)) (d) agent input n₁₀ n₈)) .start) (lent (sessions) (streams) (objects) (held) (parts) (lengths) (rebuilt)) (d) (sample)) .tables .parts) × (ws-20·yes·19 .1 .1 .1 .1 .1 .0 ≡ finish agent (lent (sessions) (streams) (objects) (held) (parts) (lengths) (rebuilt)) (out) ((partsOf (judgeOf (lent (sessions) (streams) (objects) (held) (parts) (lengths) (rebuilt)) (d) agent input n₁₀ n₈)) .start) (performed ((partsOf (judgeOf (lent (sessions) (streams) (objects) (held) (parts) (lengths) (rebuilt)) (d) agent input n₁₀ n₈)) .start) (lent (sessions) (streams) (objects) (held) (parts) (lengths) (rebuilt)) (d) (sample)) .tables .lengths) × (ws-20·yes·19 .1 .1 .1 .1 .1 .1 .0 ≡ finish agent (lent (sessions) (streams) (objects) (held) (parts) (lengths) (rebuilt)) (out) ((partsOf (judgeOf (lent (sessions) (streams) (objects) (held) (parts) (lengths) (rebuilt)) (d) agent input n₁₀ n₈)) .start) (performed ((partsOf (judgeOf (lent (sessions) (streams) (objects) (held) (parts) (lengths) (rebuilt)) (d) agent input n₁₀ n₈)) .start) (lent (sessions) (streams) (objects) (held) (parts) (lengths) (rebuilt)) (d) (sample)) .tables .rebuilt) × (ws-20·yes·19 .1 .1 .1 .1 .1 .1 .1 .0 ≡ finish agent (lent (sessions) (streams) (objects) (held) (parts) (lengths) (rebuilt)) (out) ((partsOf (judgeOf (lent (sessions) (streams) (objects) (held) (parts) (lengths) (rebuilt)) (d) agent input n₁₀ n₈)) .start) (performed ((partsOf (judgeOf (lent (sessions) (streams) (objects) (held) (parts) (lengths) (rebuilt)) (d) agent input n₁₀ n₈)) .start) (lent (sessions) (streams) (objects) (held) (parts) (lengths) (rebuilt)) (d) (sample)) .out))) (λ e. (e .0, (e .1, e .2, e .3, e .4, e .5, e .6, e .7, e .8)))) (λ _. (and-then ! (load ! (from ! (stop !)) (look ! 39 refl)) (and-then ! (load ! (from ! (stop !)) (look ! 35 refl)) (and-then ! (load ! (from ! (stop !)) (look ! 31 refl)) (and-then ! (load ! (from ! (stop !)) (look ! 27 refl)) (and-then ! (load ! (from ! (stop !)) (look ! 23 refl)) (and-then ! (load ! (from ! (stop !)) (look ! 19 refl)) (and-then ! (load ! (from ! (stop !)) (look ! 15 refl)) (and-then ! (load ! (from ! (stop !)) (look ! 11 refl)) (and-then ! (load ! (from ! (stop !)) (look ! 95 refl)) (and-then ! (load ! (from ! (stop !)) (look ! 93 refl)) (and-then ! (load ! (from ! (stop !)) (look ! 91 refl)) (and-then ! (load ! (from ! (stop !)) (look ! 79 refl)) (and-then ! (load ! (from ! (stop !)) (look ! 77 refl)) (no-more !))))))))))))))) (λ ws-20·yes·19 said-20·yes·19 is-20·yes·19.
+        calls-any-last ! fm 10 [] (process-go.signature .params) (process-go.ended .kept) Processed-p (process-go.clauses 𝓤 H A mem run) known-process-go ((ν-20·yes·19-sessions ∷ []), ((ν-20·yes·19-streams ∷ []), ((ν-20·yes·19-objects ∷ []), ((ν-20·yes·19-held ∷ []), ((ν-20·yes·19-parts ∷ []), ((ν-20·yes·19-lengths ∷ []), ((ν-20·yes·19-rebuilt ∷ []), ((ν-20·yes·19-out ∷ []), (κ₉, (κ₁₀, tt)))))))))) (fullShare, (fullShare, (fullShare, (fullShare, (fullShare, (fullShare, (fullShare, (fullShare, (q₉, (q₁₀, tt)))))))))) tt (at-list b₁ o₁ δ-20·yes·19-sessions sessions, (at-list b₂ o₂ δ-20·yes·19-streams streams, (at-list b₃ o₃ δ-20·yes·19-objects objects, (at-list b₄ o₄ δ-20·yes·19-held held, (at-list b₅ o₅ δ-20·yes·19-parts parts, (at-list b₆ o₆ δ-20·yes·19-lengths lengths, (at-list b₇ o₇ δ-20·yes·19-rebuilt rebuilt, (at-list b₈ o₈ δ-20·yes·19-out out, (at-list b₉ o₉ γ₉ d, (at-list b₁₀ o₁₀ γ₁₀ sample, (agent, ((partsOf (judgeOf (lent (sessions) (streams) (objects) (held) (parts) (lengths) (rebuilt)) (d) agent input n₁₀ n₈)) .start, ((partsOf (judgeOf (lent (sessions) (streams) (objects) (held) (parts) (lengths) (rebuilt)) (d) agent input n₁₀ n₈)) .count, tt))))))))))))) (sliceVal (b₁, o₁) n₁ ∷ [], (sliceVal (b₂, o₂) n₂ ∷ [], (sliceVal (b₃, o₃) n₃ ∷ [], (sliceVal (b₄, o₄) n₄ ∷ [], (sliceVal (b₅, o₅) n₅ ∷ [], (sliceVal (b₆, o₆) n₆ ∷ [], (sliceVal (b₇, o₇) n₇ ∷ [], (sliceVal (b₈, o₈) n₈ ∷ [], (sliceVal (b₉, o₉) n₉ ∷ [], (sliceVal (b₁₀, o₁₀) n₁₀ ∷ [], (Agent-p .val agent ∷ [], (Start-p .val ((partsOf (judgeOf (lent (sessions) (streams) (objects) (held) (parts) (lengths) (rebuilt)) (d) agent input n₁₀ n₈)) .start) ∷ [], (u64-p .val ((partsOf (judgeOf (lent (sessions) (streams) (objects) (held) (parts) (lengths) (rebuilt)) (d) agent input n₁₀ n₈)) .count) ∷ [], tt))))))))))))) tt (finish agent (lent (sessions) (streams) (objects) (held) (parts) (lengths) (rebuilt)) (out) ((partsOf (judgeOf (lent (sessions) (streams) (objects) (held) (parts) (lengths) (rebuilt)) (d) agent input n₁₀ n₈)) .start) (performed ((partsOf (judgeOf (lent (sessions) (streams) (objects) (held) (parts) (lengths) (rebuilt)) (d) agent input n₁₀ n₈)) .start) (lent (sessions) (streams) (objects) (held) (parts) (lengths) (rebuilt)) (d) (sample)) .processed) (λ ws-20·yes·19. (ws-20·yes·19 .0 ≡ finish agent (lent (sessions) (streams) (objects) (held) (parts) (lengths) (rebuilt)) (out) ((partsOf (judgeOf (lent (sessions) (streams) (objects) (held) (parts) (lengths) (rebuilt)) (d) agent input n₁₀ n₈)) .start) (performed ((partsOf (judgeOf (lent (sessions) (streams) (objects) (held) (parts) (lengths) (rebuilt)) (d) agent input n₁₀ n₈)) .start) (lent (sessions) (streams) (objects) (held) (parts) (lengths) (rebuilt)) (d) (sample)) .tables .sessions) × (ws-20·yes·19 .1 .0 ≡ finish agent (lent (sessions) (streams) (objects) (held) (parts) (lengths) (rebuilt)) (out) ((partsOf (judgeOf (lent (sessions) (streams) (objects) (held) (parts) (lengths) (rebuilt)) (d) agent input n₁₀ n₈)) .start) (performed ((partsOf (judgeOf (lent (sessions) (streams) (objects) (held) (parts) (lengths) (rebuilt)) (d) agent input n₁₀ n₈)) .start) (lent (sessions) (streams) (objects) (held) (parts) (lengths) (rebuilt)) (d) (sample)) .tables .streams) × (ws-20·yes·19 .1 .1 .0 ≡ finish agent (lent (sessions) (streams) (objects) (held) (parts) (lengths) (rebuilt)) (out) ((partsOf (judgeOf (lent (sessions) (streams) (objects) (held) (parts) (lengths) (rebuilt)) (d) agent input n₁₀ n₈)) .start) (performed ((partsOf (judgeOf (lent (sessions) (streams) (objects) (held) (parts) (lengths) (rebuilt)) (d) agent input n₁₀ n₈)) .start) (lent (sessions) (streams) (objects) (held) (parts) (lengths) (rebuilt)) (d) (sample)) .tables .objects) × (ws-20·yes·19 .1 .1 .1 .0 ≡ finish agent (lent (sessions) (streams) (objects) (held) (parts) (lengths) (rebuilt)) (out) ((partsOf (judgeOf (lent (sessions) (streams) (objects) (held) (parts) (lengths) (rebuilt)) (d) agent input n₁₀ n₈)) .start) (performed ((partsOf (judgeOf (lent (sessions) (streams) (objects) (held) (parts) (lengths) (rebuilt)) (d) agent input n₁₀ n₈)) .start) (lent (sessions) (streams) (objects) (held) (parts) (lengths) (rebuilt)) (d) (sample)) .tables .held) × (ws-20·yes·19 .1 .1 .1 .1 .0 ≡ finish agent (lent (sessions) (streams) (objects) (held) (parts) (lengths) (rebuilt)) (out) ((partsOf (judgeOf (lent (sessions) (streams) (objects) (held) (parts) (lengths) (rebuilt)) (d) agent input n₁₀ n₈)) .start) (performed ((partsOf (judgeOf (lent (sessions) (streams) (objects) (held) (parts) (lengths) (rebuilt)) (d) agent input n₁₀ n₈)) .start) (lent (sessions) (streams) (objects) (held) (parts) (lengths) (rebuilt)) (d) (sample)) .tables .parts) × (ws-20·yes·19 .1 .1 .1 .1 .1 .0 ≡ finish agent (lent (sessions) (streams) (objects) (held) (parts) (lengths) (rebuilt)) (out) ((partsOf (judgeOf (lent (sessions) (streams) (objects) (held) (parts) (lengths) (rebuilt)) (d) agent input n₁₀ n₈)) .start) (performed ((partsOf (judgeOf (lent (sessions) (streams) (objects) (held) (parts) (lengths) (rebuilt)) (d) agent input n₁₀ n₈)) .start) (lent (sessions) (streams) (objects) (held) (parts) (lengths) (rebuilt)) (d) (sample)) .tables .lengths) × (ws-20·yes·19 .1 .1 .1 .1 .1 .1 .0 ≡ finish agent (lent (sessions) (streams) (objects) (held) (parts) (lengths) (rebuilt)) (out) ((partsOf (judgeOf (lent (sessions) (streams) (objects) (held) (parts) (lengths) (rebuilt)) (d) agent input n₁₀ n₈)) .start) (performed ((partsOf (judgeOf (lent (sessions) (streams) (objects) (held) (parts) (lengths) (rebuilt)) (d) agent input n₁₀ n₈)) .start) (lent (sessions) (streams) (objects) (held) (parts) (lengths) (rebuilt)) (d) (sample)) .tables .rebuilt) × (ws-20·yes·19 .1 .1 .1 .1 .1 .1 .1 .0 ≡ finish agent (lent (sessions) (streams) (objects) (held) (parts) (lengths) (rebuilt)) (out) ((partsOf (judgeOf (lent (sessions) (streams) (objects) (held) (parts) (lengths) (rebuilt)) (d) agent input n₁₀ n₈)) .start) (performed ((partsOf (judgeOf (lent (sessions) (streams) (objects) (held) (parts) (lengths) (rebuilt)) (d) agent input n₁₀ n₈)) .start) (lent (sessions) (streams) (objects) (held) (parts) (lengths) (rebuilt)) (d) (sample)) .out)) (factI 𝓤 ((resumesFit (((partsOf (judgeOf (lent (sessions) (streams) (objects) (held) (parts) (lengths) (rebuilt)) (d) agent input n₁₀ n₈)) .start) .resumes) (((partsOf (judgeOf (lent (sessions) (streams) (objects) (held) (parts) (lengths) (rebuilt)) (d) agent input n₁₀ n₈)) .start) .frame .«stream_id») (length (sample)) ≡ true) × (((partsOf (judgeOf (lent (sessions) (streams) (objects) (held) (parts) (lengths) (rebuilt)) (d) agent input n₁₀ n₈)) .start) .frame .room ≡ length (out)) × (ltb (length (out)) (neededOf (roomy (length (out)) ((partsOf (judgeOf (lent (sessions) (streams) (objects) (held) (parts) (lengths) (rebuilt)) (d) agent input n₁₀ n₈)) .start) (sessions) ((partsOf (judgeOf (lent (sessions) (streams) (objects) (held) (parts) (lengths) (rebuilt)) (d) agent input n₁₀ n₈)) .count) (d) (length (sample))) (performed ((partsOf (judgeOf (lent (sessions) (streams) (objects) (held) (parts) (lengths) (rebuilt)) (d) agent input n₁₀ n₈)) .start) (lent (sessions) (streams) (objects) (held) (parts) (lengths) (rebuilt)) (d) (sample) .ran .wrote)) ≡ ltb (length (out)) (performed ((partsOf (judgeOf (lent (sessions) (streams) (objects) (held) (parts) (lengths) (rebuilt)) (d) agent input n₁₀ n₈)) .start) (lent (sessions) (streams) (objects) (held) (parts) (lengths) (rebuilt)) (d) (sample) .ran .wrote)) × (256 ≤ length (sessions)) × (2048 ≤ length (streams)) × (8192 ≤ length (objects)) × (32768 ≤ length (rebuilt))) _ asks-20·yes·19) (λ r ws-20·yes·19. fact-mono 𝓤 ((r ≡ finish agent (lent (sessions) (streams) (objects) (held) (parts) (lengths) (rebuilt)) (out) ((partsOf (judgeOf (lent (sessions) (streams) (objects) (held) (parts) (lengths) (rebuilt)) (d) agent input n₁₀ n₈)) .start) (performed ((partsOf (judgeOf (lent (sessions) (streams) (objects) (held) (parts) (lengths) (rebuilt)) (d) agent input n₁₀ n₈)) .start) (lent (sessions) (streams) (objects) (held) (parts) (lengths) (rebuilt)) (d) (sample)) .processed) × ((ws-20·yes·19 .0) ≡ finish agent (lent (sessions) (streams) (objects) (held) (parts) (lengths) (rebuilt)) (out) ((partsOf (judgeOf (lent (sessions) (streams) (objects) (held) (parts) (lengths) (rebuilt)) (d) agent input n₁₀ n₈)) .start) (performed ((partsOf (judgeOf (lent (sessions) (streams) (objects) (held) (parts) (lengths) (rebuilt)) (d) agent input n₁₀ n₈)) .start) (lent (sessions) (streams) (objects) (held) (parts) (lengths) (rebuilt)) (d) (sample)) .tables .sessions) × ((ws-20·yes·19 .1 .0) ≡ finish agent (lent (sessions) (streams) (objects) (held) (parts) (lengths) (rebuilt)) (out) ((partsOf (judgeOf (lent (sessions) (streams) (objects) (held) (parts) (lengths) (rebuilt)) (d) agent input n₁₀ n₈)) .start) (performed ((partsOf (judgeOf (lent (sessions) (streams) (objects) (held) (parts) (lengths) (rebuilt)) (d) agent input n₁₀ n₈)) .start) (lent (sessions) (streams) (objects) (held) (parts) (lengths) (rebuilt)) (d) (sample)) .tables .streams) × ((ws-20·yes·19 .1 .1 .0) ≡ finish agent (lent (sessions) (streams) (objects) (held) (parts) (lengths) (rebuilt)) (out) ((partsOf (judgeOf (lent (sessions) (streams) (objects) (held) (parts) (lengths) (rebuilt)) (d) agent input n₁₀ n₈)) .start) (performed ((partsOf (judgeOf (lent (sessions) (streams) (objects) (held) (parts) (lengths) (rebuilt)) (d) agent input n₁₀ n₈)) .start) (lent (sessions) (streams) (objects) (held) (parts) (lengths) (rebuilt)) (d) (sample)) .tables .objects) × ((ws-20·yes·19 .1 .1 .1 .0) ≡ finish agent (lent (sessions) (streams) (objects) (held) (parts) (lengths) (rebuilt)) (out) ((partsOf (judgeOf (lent (sessions) (streams) (objects) (held) (parts) (lengths) (rebuilt)) (d) agent input n₁₀ n₈)) .start) (performed ((partsOf (judgeOf (lent (sessions) (streams) (objects) (held) (parts) (lengths) (rebuilt)) (d) agent input n₁₀ n₈)) .start) (lent (sessions) (streams) (objects) (held) (parts) (lengths) (rebuilt)) (d) (sample)) .tables .held) × ((ws-20·yes·19 .1 .1 .1 .1 .0) ≡ finish agent (lent (sessions) (streams) (objects) (held) (parts) (lengths) (rebuilt)) (out) ((partsOf (judgeOf (lent (sessions) (streams) (objects) (held) (parts) (lengths) (rebuilt)) (d) agent input n₁₀ n₈)) .start) (performed ((partsOf (judgeOf (lent (sessions) (streams) (objects) (held) (parts) (lengths) (rebuilt)) (d) agent input n₁₀ n₈)) .start) (lent (sessions) (streams) (objects) (held) (parts) (lengths) (rebuilt)) (d) (sample)) .tables .parts) × ((ws-20·yes·19 .1 .1 .1 .1 .1 .0) ≡ finish agent (lent (sessions) (streams) (objects) (held) (parts) (lengths) (rebuilt)) (out) ((partsOf (judgeOf (lent (sessions) (streams) (objects) (held) (parts) (lengths) (rebuilt)) (d) agent input n₁₀ n₈)) .start) (performed ((partsOf (judgeOf (lent (sessions) (streams) (objects) (held) (parts) (lengths) (rebuilt)) (d) agent input n₁₀ n₈)) .start) (lent (sessions) (streams) (objects) (held) (parts) (lengths) (rebuilt)) (d) (sample)) .tables .lengths) × ((ws-20·yes·19 .1 .1 .1 .1 .1 .1 .0) ≡ finish agent (lent (sessions) (streams) (objects) (held) (parts) (lengths) (rebuilt)) (out) ((partsOf (judgeOf (lent (sessions) (streams) (objects) (held) (parts) (lengths) (rebuilt)) (d) agent input n₁₀ n₈)) .start) (performed ((partsOf (judgeOf (lent (sessions) (streams) (objects) (held) (parts) (lengths) (rebuilt)) (d) agent input n₁₀ n₈)) .start) (lent (sessions) (streams) (objects) (held) (parts) (lengths) (rebuilt)) (d) (sample)) .tables .rebuilt) × ((ws-20·yes·19 .1 .1 .1 .1 .1 .1 .1 .0) ≡ finish agent (lent (sessions) (streams) (objects) (held) (parts) (lengths) (rebuilt)) (out) ((partsOf (judgeOf (lent (sessions) (streams) (objects) (held) (parts) (lengths) (rebuilt)) (d) agent input n₁₀ n₈)) .start) (performed ((partsOf (judgeOf (lent (sessions) (streams) (objects) (held) (parts) (lengths) (rebuilt)) (d) agent input n₁₀ n₈)) .start) (lent (sessions) (streams) (objects) (held) (parts) (lengths) (rebuilt)) (d) (sample)) .out)) ((r ≡ (finish agent (lent (sessions) (streams) (objects) (held) (parts) (lengths) (rebuilt)) (out) ((partsOf (judgeOf (lent (sessions) (streams) (objects) (held) (parts) (lengths) (rebuilt)) (d) agent input n₁₀ n₈)) .start) (performed ((partsOf (judgeOf (lent (sessions) (streams) (objects) (held) (parts) (lengths) (rebuilt)) (d) agent input n₁₀ n₈)) .start) (lent (sessions) (streams) (objects) (held) (parts) (lengths) (rebuilt)) (d) (sample)) .processed)) × ((ws-20·yes·19 .0 ≡ finish agent (lent (sessions) (streams) (objects) (held) (parts) (lengths) (rebuilt)) (out) ((partsOf (judgeOf (lent (sessions) (streams) (objects) (held) (parts) (lengths) (rebuilt)) (d) agent input n₁₀ n₈)) .start) (performed ((partsOf (judgeOf (lent (sessions) (streams) (objects) (held) (parts) (lengths) (rebuilt)) (d) agent input n₁₀ n₈)) .start) (lent (sessions) (streams) (objects) (held) (parts) (lengths) (rebuilt)) (d) (sample)) .tables .sessions) × (ws-20·yes·19 .1 .0 ≡ finish agent (lent (sessions) (streams) (objects) (held) (parts) (lengths) (rebuilt)) (out) ((partsOf (judgeOf (lent (sessions) (streams) (objects) (held) (parts) (lengths) (rebuilt)) (d) agent input n₁₀ n₈)) .start) (performed ((partsOf (judgeOf (lent (sessions) (streams) (objects) (held) (parts) (lengths) (rebuilt)) (d) agent input n₁₀ n₈)) .start) (lent (sessions) (streams) (objects) (held) (parts) (lengths) (rebuilt)) (d) (sample)) .tables .streams) × (ws-20·yes·19 .1 .1 .0 ≡ finish agent (lent (sessions) (streams) (objects) (held) (parts) (lengths) (rebuilt)) (out) ((partsOf (judgeOf (lent (sessions) (streams) (objects) (held) (parts) (lengths) (rebuilt)) (d) agent input n₁₀ n₈)) .start) (performed ((partsOf (judgeOf (lent (sessions) (streams) (objects) (held) (parts) (lengths) (rebuilt)) (d) agent input n₁₀ n₈)) .start) (lent (sessions) (streams) (objects) (held) (parts) (lengths) (rebuilt)) (d) (sample)) .tables .objects) × (ws-20·yes·19 .1 .1 .1 .0 ≡ finish agent (lent (sessions) (streams) (objects) (held) (parts) (lengths) (rebuilt)) (out) ((partsOf (judgeOf (lent (sessions) (streams) (objects) (held) (parts) (lengths) (rebuilt)) (d) agent input n₁₀ n₈)) .start) (performed ((partsOf (judgeOf (lent (sessions) (streams) (objects) (held) (parts) (lengths) (rebuilt)) (d) agent input n₁₀ n₈)) .start) (lent (sessions) (streams) (objects) (held) (parts) (lengths) (rebuilt)) (d) (sample)) .tables .held) × (ws-20·yes·19 .1 .1 .1 .1 .0 ≡ finish agent (lent (sessions) (streams) (objects) (held) (parts) (lengths) (rebuilt)) (out) ((partsOf (judgeOf (lent (sessions) (streams) (objects) (held) (parts) (lengths) (rebuilt)) (d) agent input n₁₀ n₈)) .start) (performed ((partsOf (judgeOf (lent (sessions) (streams) (objects) (held) (parts) (lengths) (rebuilt)) (d) agent input n₁₀ n₈)) .start) (lent (sessions) (streams) (objects) (held) (parts) (lengths) (rebuilt)) (d) (sample)) .tables .parts) × (ws-20·yes·19 .1 .1 .1 .1 .1 .0 ≡ finish agent (lent (sessions) (streams) (objects) (held) (parts) (lengths) (rebuilt)) (out) ((partsOf (judgeOf (lent (sessions) (streams) (objects) (held) (parts) (lengths) (rebuilt)) (d) agent input n₁₀ n₈)) .start) (performed ((partsOf (judgeOf (lent (sessions) (streams) (objects) (held) (parts) (lengths) (rebuilt)) (d) agent input n₁₀ n₈)) .start) (lent (sessions) (streams) (objects) (held) (parts) (lengths) (rebuilt)) (d) (sample)) .tables .lengths) × (ws-20·yes·19 .1 .1 .1 .1 .1 .1 .0 ≡ finish agent (lent (sessions) (streams) (objects) (held) (parts) (lengths) (rebuilt)) (out) ((partsOf (judgeOf (lent (sessions) (streams) (objects) (held) (parts) (lengths) (rebuilt)) (d) agent input n₁₀ n₈)) .start) (performed ((partsOf (judgeOf (lent (sessions) (streams) (objects) (held) (parts) (lengths) (rebuilt)) (d) agent input n₁₀ n₈)) .start) (lent (sessions) (streams) (objects) (held) (parts) (lengths) (rebuilt)) (d) (sample)) .tables .rebuilt) × (ws-20·yes·19 .1 .1 .1 .1 .1 .1 .1 .0 ≡ finish agent (lent (sessions) (streams) (objects) (held) (parts) (lengths) (rebuilt)) (out) ((partsOf (judgeOf (lent (sessions) (streams) (objects) (held) (parts) (lengths) (rebuilt)) (d) agent input n₁₀ n₈)) .start) (performed ((partsOf (judgeOf (lent (sessions) (streams) (objects) (held) (parts) (lengths) (rebuilt)) (d) agent input n₁₀ n₈)) .start) (lent (sessions) (streams) (objects) (held) (parts) (lengths) (rebuilt)) (d) (sample)) .out))) (λ e. (e .0, (e .1, e .2, e .3, e .4, e .5, e .6, e .7, e .8)))) (λ _. (and-then ! (load ! (from ! (stop !)) (look ! 39 refl)) (and-then ! (load ! (from ! (stop !)) (look ! 35 refl)) (and-then ! (load ! (from ! (stop !)) (look ! 31 refl)) (and-then ! (load ! (from ! (stop !)) (look ! 27 refl)) (and-then ! (load ! (from ! (stop !)) (look ! 23 refl)) (and-then ! (load ! (from ! (stop !)) (look ! 19 refl)) (and-then ! (load ! (from ! (stop !)) (look ! 15 refl)) (and-then ! (load ! (from ! (stop !)) (look ! 11 refl)) (and-then ! (load ! (from ! (stop !)) (look ! 95 refl)) (and-then ! (load ! (from ! (stop !)) (look ! 93 refl)) (and-then ! (load ! (from ! (stop !)) (look ! 91 refl)) (and-then ! (load ! (from ! (stop !)) (look ! 79 refl)) (and-then ! (load ! (from ! (stop !)) (look ! 77 refl)) (no-more !))))))))))))))) (λ ws-20·yes·19 said-20·yes·19 is-20·yes·19.
         use1 W ((‵ (flft (ν-20·yes·19-sessions ∷ []) fullShare) ⊛ (‵ (flft (ν-20·yes·19-streams ∷ []) fullShare) ⊛ (‵ (flft (ν-20·yes·19-objects ∷ []) fullShare) ⊛ (‵ (flft (ν-20·yes·19-held ∷ []) fullShare) ⊛ (‵ (flft (ν-20·yes·19-parts ∷ []) fullShare) ⊛ (‵ (flft (ν-20·yes·19-lengths ∷ []) fullShare) ⊛ (‵ (flft (ν-20·yes·19-rebuilt ∷ []) fullShare) ⊛ (‵ (flft (ν-20·yes·19-out ∷ []) fullShare) ⊛ (‵ (flft κ₉ q₉) ⊛ (‵ (flft κ₁₀ q₁₀) ⊛ ‵ ftrue))))))))))) (id⊢ 𝓤 _) $ split ! $ move ! (1 ∷ []) $ split ! $ move ! (1 ∷ []) $ split ! $ move ! (1 ∷ []) $ split ! $ move ! (1 ∷ []) $ split ! $ move ! (1 ∷ []) $ split ! $ move ! (1 ∷ []) $ split ! $ move ! (1 ∷ []) $ split ! $ move ! (1 ∷ []) $ split ! $ move ! (1 ∷ []) $ split ! $ move ! (11 ∷ []) $ fsplit ! $ fsplit ! $ move ! (1 ∷ []) $
         feqL ! (λ wlen-20·yes·19-0.
         move ! (1 ∷ []) $ fsplit ! $ fsplit ! $ move ! (1 ∷ []) $

@@ -60,8 +60,7 @@ use Rattle.cabi.specs.Record.{recordsAfter}
 use Rattle.cabi.specs.Calls.{readyAs, readyRecords, processLeft, setUpLeft, removeAnswer, removeRows, sweepAnswer, sweepRows, sweepOut}
 use Rattle.cabi.specs.Calls.{badCall, answerIn, inputIn}
 use Rattle.cabi.specs.Record.{recordAt, taskIn, pendingIn, waitsIn, inRange, nextIn, agentIn, taskNumber, taskKind, taskParent, idleRecord, openRecord, recordBy, recordFor}
-use Rattle.codec.specs.Bytes.{wordAt}
-use Rattle.agent.specs.Host.{outcomeOf, waitsOf, finishedOf, refusedOf, answerMost, firstMost, bounded, roomy, oneOf, idsAt, asksIn, unbound, neededOf, resumesFit, performed, finish, processOf}
+use Rattle.agent.specs.Host.{outcomeOf, waitsOf, finishedOf, refusedOf, bounded, roomy, unbound, neededOf, resumesFit, performed, finish, processOf}
 use Rattle.cabi.specs.Calls.{Left}
 use Rattle.cabi.proofs.Left.{same-left, processedIf, processed-if}
 use Rattle.sessions.specs.declared.objects.Object.{Object}
