@@ -36,7 +36,8 @@ enum xrce_refusal {
     XRCE_STORE_FULL = 14,             /* body over its slot; 17th held number; message over 1,024 */
     XRCE_OUT_OF_TURN = 15,            /* agent call out of turn, or answer of another kind */
     XRCE_OVER_LIMIT = 16,             /* max_clients over 255, lent store under its documented need, or tables altered past a limit */
-    XRCE_NOT_IN_FRAGMENTS = 17        /* a FRAGMENT or CREATE_CLIENT among rebuilt submessages: no call here is refused so */
+    XRCE_NOT_IN_FRAGMENTS = 17,       /* a FRAGMENT or CREATE_CLIENT among rebuilt submessages: no call here is refused so */
+    XRCE_ILL_FORMED = 18              /* ill-formed UTF-8: no call here is refused so; a Topic with such names is answered ERR_INVALID_DATA */
 };
 
 /* What xrce_process is given. */
@@ -49,7 +50,8 @@ enum xrce_input {
     XRCE_FAILED = 5     /* the bridge failed */
 };
 
-/* The bridge call that the host has to make now. */
+/* The bridge call that the host has to make now. A Topic's name and type are well-formed UTF-8 (RFC 3629), with no zero behind them, and U+0000 may
+ * stand in them: the length counts. Of a Topic whose strings are ill-formed or cut short there is no call: it is answered ERR_INVALID_DATA. */
 enum xrce_call {
     XRCE_NO_CALL = 0,
     XRCE_CREATE_PARTICIPANT = 1, /* domain: in `handle` */

@@ -1,5 +1,5 @@
 /*
- * The C interface of the wire: a datagram read and a message written, fragments cut and put together.
+ * The C interface of the wire: a datagram and its strings read, a message written, fragments cut and put together.
  *
  * Every function answers for every argument, and keeps nothing between calls. What can't be done is refused with a number, and a refused
  * call changes nothing of what was lent to it:
@@ -11,6 +11,7 @@
  *    5  payload under least length          13  lent output shorter than the result
  *    7  fragment size 0                     14  body over its slot
  *    8  payload to cut is empty             16  lent store or row under its need, or a number in it over its range
+ *                                           18  ill-formed UTF-8
  *
  * A slice is a pointer and a number of elements. A pointer is never null, not even with 0 elements, and a slice that a function may
  * write shares no byte with another of the same call.
@@ -58,6 +59,11 @@ uint64_t xrce_wire_header(const uint8_t *datagram, size_t datagram_len);
 /* Checks the whole datagram and writes a row for each submessage, in order; the answer's number is how many. Rows behind them stay.
  * Refused: 1 to 5, then 13 if there are fewer rows than submessages. */
 uint64_t xrce_wire_parse(const uint8_t *datagram, size_t datagram_len, xrce_wire_row *rows, size_t row_count);
+
+/* The string at `at`, a length of two bytes and its bytes, which begin at `at` + 2: the answer's number is how many. So the name of a Topic is read
+ * at the start of the variable part of its CREATE, and the type behind the name's bytes.
+ * Refused: 1 where length or bytes are cut short, then 18 where the bytes are not well-formed UTF-8 (RFC 3629). */
+uint64_t xrce_wire_string(const uint8_t *bytes, size_t bytes_len, size_t at);
 
 /* Writes a message of a header and one submessage at the start of the output; the answer's number is its bytes. Of the row the first
  * four numbers are looked at; the body is the variable part, and a kind that has none carries nothing of it.

@@ -100,20 +100,31 @@ fn with_objects(sessions: usize, count: u16) -> Vec<Row> {
     ]
 }
 
-/// The object made is the last of `count`. Nothing depends on it, so it can be deleted, and made in place of itself.
+/// The object made is the last of `count`. Nothing depends on it, so it can be deleted, and the session stays as it was.
+fn created_and_deleted(name: &'static str, sessions: usize, count: u16, created: Vec<u8>) -> Row {
+    let before = Objects { kinds: &[WRITER], count: count - 1 };
+    let work = move || Datagrams::new(sessions, 0, &[created.clone(), delete(count)]);
+    row(name, Goal::Datagrams(2), (sessions, usize::from(count)), (sessions, Some(before)), work)
+}
+
 fn creating(sessions: usize, count: u16) -> Vec<Row> {
     let objects = Objects { kinds: &[WRITER], count };
-    let fresh = Objects { count: count - 1, ..objects };
-    let pair = |name, created: Vec<u8>| {
-        let work = move || Datagrams::new(sessions, 0, &[created.clone(), delete(count)]);
-        row(name, Goal::Datagrams(2), (sessions, usize::from(count)), (sessions, Some(fresh)), work)
-    };
     let writer = create(count, WRITER, 2);
+    let pair = |name, created| created_and_deleted(name, sessions, count, created);
     vec![
         datagrams("CREATE of a DataWriter in place of one", sessions, objects, 0, vec![writer.clone()]),
         pair("CREATE of a DataWriter, and DELETE", writer),
         pair("CREATE of a Topic, and DELETE", create(count, TOPIC, 1)),
     ]
+}
+
+/// Topics whose name and type are that long each: every byte of them is looked at.
+fn naming(sessions: usize) -> Vec<Row> {
+    let topic = |name, len| {
+        let text = letters(len);
+        created_and_deleted(name, sessions, FEW, create_topic(FEW, 1, &text, &text))
+    };
+    vec![topic("CREATE of a Topic, 16-byte names, DELETE", 16), topic("CREATE of a Topic, 255-byte names, DELETE", 255)]
 }
 
 fn streams(sessions: usize) -> Vec<Row> {
@@ -154,6 +165,7 @@ pub fn rows() -> Vec<Row> {
             rows.extend(with_objects(live, count));
             rows.extend(creating(live, count));
         }
+        rows.extend(naming(live));
         rows.extend(streams(live));
         rows.extend(sessions(live));
     }

@@ -31,13 +31,32 @@ pub fn create_client() -> Vec<u8> {
 }
 
 pub fn create(object: u16, kind: u8, parent: u16) -> Vec<u8> {
+    if kind == TOPIC {
+        return create_topic(object, parent, b"square", b"ShapeType");
+    }
+    create_with(object, kind, parent, &[])
+}
+
+pub fn create_topic(object: u16, parent: u16, name: &[u8], type_name: &[u8]) -> Vec<u8> {
+    create_with(object, TOPIC, parent, &[string(name), string(type_name)].concat())
+}
+
+fn create_with(object: u16, kind: u8, parent: u16, strings: &[u8]) -> Vec<u8> {
     let mut payload = object.to_le_bytes().to_vec();
     payload.push(kind);
     payload.extend(parent.to_le_bytes());
-    if kind == TOPIC {
-        payload.extend(b"\x06\x00square\x09\x00ShapeType");
-    }
+    payload.extend(strings);
     submessage(0x01, &payload)
+}
+
+/// A string: its length and its bytes.
+pub fn string(text: &[u8]) -> Vec<u8> {
+    [&(text.len() as u16).to_le_bytes()[..], text].concat()
+}
+
+/// So many letters.
+pub fn letters(len: usize) -> Vec<u8> {
+    (0..len).map(|place| b'a' + (place % 26) as u8).collect()
 }
 
 pub fn delete(object: u16) -> Vec<u8> {
@@ -79,6 +98,8 @@ mod tests {
     #[test]
     fn they_are_laid_out_as_the_wire_asks() {
         assert_eq!(datagram(1, 0, &delete(3)), [1, 0, 0, 0, 2, 0, 2, 0, 3, 0]);
+        assert_eq!(create(7, TOPIC, 1)[..15], *b"\x01\x00\x18\x00\x07\x00\x02\x01\x00\x06\x00squa");
+        assert_eq!((create(7, PARTICIPANT, 1).len(), string(&letters(255))[..3].to_vec()), (9, vec![255, 0, b'a']));
         assert_eq!(status_ok(3), [5, 0, 3, 0, 3, 0, 0]);
         assert_eq!(write_data(3, 2), [7, 0, 4, 0, 3, 0, 0, 7]);
         assert_eq!(heartbeat(0, 5), [13, 0, 4, 0, 0, 0, 5, 0]);

@@ -152,6 +152,8 @@ extern "C" {
 
     pub fn xrce_wire_parse(datagram: *const u8, datagram_len: usize, rows: *mut [u64; ROW], row_count: usize) -> u64;
 
+    pub fn xrce_wire_string(bytes: *const u8, bytes_len: usize, at: usize) -> u64;
+
     pub fn xrce_wire_write(
         out: *mut u8,
         room: usize,

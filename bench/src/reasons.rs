@@ -46,6 +46,22 @@ fn of_copies(row: &Row, yard: &Yardsticks) -> String {
     )
 }
 
+/// A string's bytes are looked at one by one.
+fn of_strings(rows: &[Row]) -> Option<String> {
+    let read = |what| find(rows, what, 0, 0);
+    let (short, long) = (read("read a string of 16 bytes")?, read("read a string of 255 bytes")?);
+    let pairs = read("read a string of 127 two-byte characters")?;
+    let letter = |of: fn(&Row) -> &Vec<f64>| (median(of(long)) - median(of(short))) / 239.0;
+    Some(format!(
+        "the port takes a string's bytes one by one through the rows of RFC 3629's table, {:.2} ns for a letter and {:.2} ns for a byte of \
+         a two-byte character; the original, which copies them too, takes {:.2} ns and {:.2} ns",
+        letter(|row| &row.port),
+        median(&pairs.port) / 254.0,
+        letter(|row| &row.original),
+        median(&pairs.original) / 254.0
+    ))
+}
+
 fn of_parsing(rows: &[Row], row: &Row, yard: &Yardsticks) -> Option<String> {
     if row.name.starts_with("parse 1 ") {
         return Some(format!(
@@ -122,6 +138,7 @@ pub fn slow(rows: &[Row], row: &Row, yard: &Yardsticks) -> String {
     let why = match row.goal {
         Goal::NoSlower if row.sessions > 0 => of_sweeps(rows),
         Goal::NoSlower if fragments => Some(of_copies(row, yard)),
+        _ if row.name.contains("string") || row.name.contains("255-byte") => of_strings(rows),
         Goal::Parsing => of_parsing(rows, row, yard),
         _ => of_objects(rows, row).or_else(|| of_calls(rows, row, yard)),
     };

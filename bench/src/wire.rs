@@ -19,6 +19,9 @@ pub trait Wire {
     /// What `parse` reads, in one form for both: the header, then each submessage's id, number and data.
     fn described(&mut self, datagram: &[u8]) -> Vec<u8>;
 
+    /// Reads a string that stands at the start of these bytes.
+    fn string(&mut self, bytes: &[u8], sent: &mut impl FnMut(&[u8]));
+
     /// Writes the prepared message.
     fn write(&mut self, sent: &mut impl FnMut(&[u8]));
 

@@ -49,6 +49,11 @@ impl Wire for OriginalWire {
         all
     }
 
+    fn string(&mut self, bytes: &[u8], sent: &mut impl FnMut(&[u8])) {
+        let (text, _) = decode_string(black_box(bytes)).expect("the rows' strings are whole");
+        sent(text.as_bytes());
+    }
+
     fn write(&mut self, sent: &mut impl FnMut(&[u8])) {
         sent(&serialize_message(black_box(&self.message)));
     }

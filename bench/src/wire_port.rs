@@ -132,6 +132,12 @@ impl Wire for PortWire {
         all
     }
 
+    fn string(&mut self, bytes: &[u8], sent: &mut impl FnMut(&[u8])) {
+        // SAFETY: as in `read`.
+        let len = number(unsafe { xrce_wire_string(bytes.as_ptr(), bytes.len(), 0) });
+        sent(&bytes[2..2 + len]);
+    }
+
     fn write(&mut self, sent: &mut impl FnMut(&[u8])) {
         let (out, room) = (self.out.as_mut_ptr(), self.out.len());
         let (body, len) = (self.body.as_ptr(), self.body.len());

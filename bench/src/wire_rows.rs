@@ -1,6 +1,6 @@
-//! The rows of the wire layer: parsing, writing, cutting and reassembling.
+//! The rows of the wire layer: parsing, reading strings, writing, cutting and reassembling.
 
-use crate::datagrams::{data, datagram, delete, write_data};
+use crate::datagrams::{data, datagram, delete, letters, string, write_data};
 use crate::row::{Goal, Pair, Row};
 use crate::timed::Timed;
 use crate::wire::{Message, Wire};
@@ -15,6 +15,7 @@ const PAYLOAD: usize = 65536;
 #[derive(Clone)]
 enum Work {
     Parse(Rc<Vec<u8>>),
+    Read(Rc<Vec<u8>>),
     Write(Rc<Message>),
     Cut { payload: Rc<Vec<u8>>, size: usize },
     Reassemble { bodies: Rc<Vec<Vec<u8>>>, size: usize },
@@ -37,6 +38,7 @@ impl<W: Wire> Side<W> {
     fn turn(&mut self, sent: &mut impl FnMut(&[u8])) {
         match &self.work {
             Work::Parse(datagram) => self.wire.parse(datagram),
+            Work::Read(string) => self.wire.string(string, sent),
             Work::Write(_) => self.wire.write(sent),
             Work::Cut { payload, size } => self.wire.cut(payload, *size, sent),
             Work::Reassemble { bodies, size } => self.wire.reassemble(bodies, *size, sent),
@@ -78,6 +80,11 @@ fn parsing(name: &'static str, submessage: Vec<u8>, count: usize) -> Row {
     row(name, Goal::Parsing, Work::Parse(Rc::new(datagram(1, 0, &submessage.repeat(count)))))
 }
 
+/// A string of that text is read: the original gives a copy of it, the port how long it is.
+fn reading(name: &'static str, text: &[u8]) -> Row {
+    row(name, Goal::NoSlower, Work::Read(Rc::new(string(text))))
+}
+
 fn writing(name: &'static str, message: Message) -> Row {
     row(name, Goal::NoSlower, Work::Write(Rc::new(message)))
 }
@@ -100,6 +107,9 @@ pub fn rows() -> Vec<Row> {
         parsing("parse 1 WRITE_DATA of 16 bytes", write_data(3, 16), 1),
         parsing("parse 10 WRITE_DATA of 16 bytes", write_data(3, 16), 10),
         parsing("parse 100 WRITE_DATA of 16 bytes", write_data(3, 16), 100),
+        reading("read a string of 16 bytes", &letters(16)),
+        reading("read a string of 255 bytes", &letters(255)),
+        reading("read a string of 127 two-byte characters", "é".repeat(127).as_bytes()),
         writing("write STATUS", Message::Status { object: 3 }),
         writing("write DATA of 16 bytes", Message::Data { reader: 3, data: data(16) }),
         writing("write DATA of 1,024 bytes", Message::Data { reader: 3, data: data(1024) }),

@@ -16,7 +16,7 @@ use Rattle.sessions.specs.Dependants.{dependantIn, hasDependant}
 use Rattle.agent.specs.Local.{touched, full, entryHandle, handleAt}
 use Rattle.agent.specs.Parents.{handlesNamed}
 use Rattle.moves.specs.Calls.{Call, createWriter, createReader, readData, Answer, created, succeeded, sample, noSample, failed, Task, creating, deleting, writing, reading}
-use Rattle.agent.specs.RulesObjects.{Move, ifHandle, ifHandles, createWith, createFor, deleteFound}
+use Rattle.agent.specs.RulesObjects.{Move, ifHandle, ifHandles, createWith, createFor, deleteFound, Names, namesOf, createNamed}
 use Rattle.agent.specs.RulesAnswers.{sampleOn, answerOf, onAnswer}
 use Rattle.agent.specs.Brings.{In}
 use Rattle.agent.specs.RulesFragments.{Pending, Working, onSubmessage, plain, behind, onto, beganOnto, brought, gathering, handleBy, beganBy, resumed, beganBehind}
@@ -82,9 +82,14 @@ module _ (timeout : ℕ) where
         let named = find-held (b .objects) parent k (ap entryHandle (f .topic-named) ∙ f .topic-handle) in (kept, kept, λ x m. two-handles b h k above named x (rw (← u h k) m)))
         kept
 
+    -- a Topic's call has its parent's handle
+    named-fair : (x : Option Names) (stream number parent : ℕ) → Good b (createNamed x stream number parent l)
+    named-fair none stream number parent = kept
+    named-fair (some x) stream number parent = handle-fair (handleAt parent l) _ _ (λ h e. (kept, kept, one-handle b h (find-held (b .objects) parent h e))) kept
+
     create-fair : (kind : ObjectKind) (stream number parent : ℕ) (body : List ℕ) → Good b (createFor kind stream number parent body l)
     create-fair Participant stream number parent body = (kept, kept, no-handle b)
-    create-fair Topic stream number parent body = handle-fair (handleAt parent l) _ _ (λ h e. (kept, kept, one-handle b h (find-held (b .objects) parent h e))) kept
+    create-fair Topic stream number parent body = named-fair (namesOf body) stream number parent
     create-fair Publisher stream number parent body = λ y m. put-held (b .objects) (record { number = number; kind = 3; handle = none; parent = parent }) y m
     create-fair Subscriber stream number parent body = λ y m. put-held (b .objects) (record { number = number; kind = 4; handle = none; parent = parent }) y m
     create-fair DataWriter stream number parent body = with-fair DataWriter stream number parent createWriter (λ h k. refl)

@@ -2,6 +2,7 @@
 -- shut out; an ACKNACK repeats what was sent (W5); fragments rebuild their payload (W6); and the definitions over the lent tables do what the rules and the step over lists do.
 pub mod Held
 pub mod Parents
+pub mod Named
 pub mod MoveCases
 pub mod Honest
 pub mod InStep

@@ -23,7 +23,7 @@ use Rattle.moves.specs.Calls as moves
 use Rattle.moves.specs.Calls.{Call, createParticipant, readData, Answer, created, succeeded, sample, noSample, failed, Task, creating, writing, reading, deleting}
 use Rattle.agent.specs.Local.{withObjects, withStreams, listing, dropping, full, handleAt, opening}
 use Rattle.agent.specs.Parents.{handlesNamed}
-use Rattle.agent.specs.RulesObjects.{Move, says, asks, ifHandle, ifHandles, createFor, createUnless, deleteFound, readOn, readFrom, onRead}
+use Rattle.agent.specs.RulesObjects.{Move, says, asks, ifHandle, ifHandles, createFor, createUnless, deleteFound, readOn, readFrom, onRead, Names, namesOf, createNamed}
 use Rattle.agent.specs.RulesStreams.{onHeartbeat, onAcknack}
 use Rattle.agent.specs.RulesAnswers.{sampleOn, answerOf}
 use Rattle.agent.specs.Brings.{In}
@@ -83,9 +83,13 @@ module _ (P : Move → Type 0) (Q : Local → Type 0) (m : Submessage) (stream :
   handles none f other p q = q
   handles (some hs) f other p q = p (hs .0) (hs .1)
 
+  named : (x : Option Names) (number parent : ℕ) → full number l ≡ false → P (createNamed x stream number parent l)
+  named none number parent e = saying l number ErrInvalidData same
+  named (some x) number parent e = handle (handleAt parent l) _ _ (λ h. asking l number (creating (kindByte Topic) parent) _ same e) (saying l number ErrInvalidData same)
+
   create : (kind : ObjectKind) (number parent : ℕ) (body : List ℕ) → full number l ≡ false → P (createFor kind stream number parent body l)
   create Participant number parent body e = asking l number (creating (kindByte Participant) parent) (createParticipant parent) same e
-  create Topic number parent body e = handle (handleAt parent l) _ _ (λ h. asking l number (creating (kindByte Topic) parent) _ same e) (saying l number ErrInvalidData same)
+  create Topic number parent body e = named (namesOf body) number parent e
   create Publisher number parent body e = saying (listing number (kindByte Publisher) none parent l) number Ok (listed _)
   create Subscriber number parent body e = saying (listing number (kindByte Subscriber) none parent l) number Ok (listed _)
   create DataWriter number parent body e =

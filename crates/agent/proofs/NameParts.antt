@@ -2,22 +2,23 @@
 use Prim.Native.Nat.{ℕ, zero, suc, _+_, _≤_}
 use mathlib.Core.Path.{_≡_, refl, sym, ap, _∙_}
 use mathlib.Core.Bool.{Bool, true, false, cond}
+use mathlib.Core.Option.{Option, none, some}
 use mathlib.Core.List.{List, [], _∷_}
 use native.Mathlib.Omega.{arith}
-use borrow.Author.Tests.{le-leb, leb-true, ltb-false}
-use lib.Dec.{leb, ltb}
+use borrow.Author.Tests.{le-leb, leb-true}
+use lib.Dec.{leb}
 use lib.ListN.{length, take, drop, length-drop}
 use lib.Seq.{length-take-le, take-take, drop-drop}
-use Rattle.codec.specs.Bytes.{wordAt}
 use Rattle.codec.specs.Reading.{partOf}
 use Rattle.codec.specs.Strings.{stringAt}
 use Rattle.codec.specs.declared.layouts.Span.{Span}
-use Rattle.codec.specs.declared.refusals.Refusal.the-variants.{BufferTooShort}
 use Rattle.codec.specs.declared.strings.StringRead.{StringRead}
 use Rattle.codec.specs.declared.strings.StringRead.the-variants.{Text, Refused}
-use Rattle.moves.specs.Names.{noSpan, placedIn, typeAfter, nameThen, namesIn}
+use Rattle.moves.specs.Names.{placedIn, typeAfter, nameThen, namesIn}
 use Rattle.agent.specs.RulesObjects.{Names, typeBehind, namesFrom, namesOf}
 use Rattle.moves.specs.declared.names.Names as code
+use Rattle.moves.specs.declared.names.Names.the-variants as names
+use Rattle.moves.proofs.Strings.{string-within}
 
 -- ---- a part of a part
 
@@ -41,46 +42,23 @@ part-placed d body x low h = by (leb (body .start + body .len) (length d)) refl 
         (ap (take (x .len)) (sym (drop-drop (x .start) (body .start) d)) ∙ sym (take-within (x .len) (x .start) (body .len) (drop (body .start) d) in-body))
     by false e h = let z : ⊥ = omega arith in absurd z
 
-no-part : (d : List ℕ) → partOf d noSpan ≡ []
-unfolding partOf
-no-part d = rw (le-leb 0 (length d) (omega arith)) refl
-
--- ---- a string that is read lies within its bytes, behind its length
-
-text-in : (s : List ℕ) (at : ℕ) (x : Span) → stringAt s at ≡ Text x → (1 ≤ x .start) × (x .start + x .len ≤ length s)
-unfolding stringAt
-text-in s at x e = by (ltb (length s) (at + 2)) (ltb (length s) (at + 2 + wordAt s at)) refl e
-  where
-    by : (a b : Bool) → ltb (length s) (at + 2 + wordAt s at) ≡ b
-        → cond a (Refused BufferTooShort) (cond b (Refused BufferTooShort) (Text (record { start = at + 2; len = wordAt s at }))) ≡ Text x → (1 ≤ x .start) × (x .start + x .len ≤ length s)
-    by true b f e = let z : _≡_ {A = ℕ} 0 1 = cc in absurd (omega arith)
-    by false true f e = let z : _≡_ {A = ℕ} 0 1 = cc in absurd (omega arith)
-    by false false f e =
-        let q : _≡_ {A = Span} (record { start = at + 2; len = wordAt s at }) x = cc in
-        let a : at + 2 ≡ x .start = ap (λ (y : Span). y .start) q in
-        let b : wordAt s at ≡ x .len = ap (λ (y : Span). y .len) q in
-        let c : at + 2 + wordAt s at ≤ length s = ltb-false (length s) (at + 2 + wordAt s at) f in
-        (omega arith, omega arith)
-
 -- ---- the names
 
-abbrev pub bytesOf : List ℕ → code.Names → Names
-bytesOf d x = record { name = partOf d (x .name); type = partOf d (x .«type_name») }
+abbrev pub bytesOf : List ℕ → code.Names → Option Names
+bytesOf d (names.Both name type) = some (record { name = partOf d name; type = partOf d type })
+bytesOf d names.Unread = none
 
 pub names-same : (d : List ℕ) (body : Span) → bytesOf d (namesIn d body) ≡ namesOf (partOf d body)
 unfolding namesIn namesOf
 names-same d body = go (stringAt (partOf d body) 0) refl
   where
-    none-there : bytesOf d (record { name = noSpan; «type_name» = noSpan }) ≡ record { name = []; type = [] }
-    none-there = λ i. record { name = no-part d i; type = no-part d i }
-
     behind : (x : Span) → stringAt (partOf d body) 0 ≡ Text x → (r : StringRead) → stringAt (partOf d body) (x .start + x .len) ≡ r → bytesOf d (typeAfter body x r) ≡ typeBehind (partOf d body) x r
-    behind x e (Refused r) f = none-there
+    behind x e (Refused r) f = refl
     behind x e (Text y) f =
-        let a = text-in (partOf d body) 0 x e in
-        let b = text-in (partOf d body) (x .start + x .len) y f in
-        λ i. record { name = part-placed d body x (a .0) (a .1) i; type = part-placed d body y (b .0) (b .1) i }
+        let a = string-within (partOf d body) 0 x e in
+        let b = string-within (partOf d body) (x .start + x .len) y f in
+        λ i. some (record { name = part-placed d body x (omega (arith, a .0)) (a .1) i; type = part-placed d body y (omega (arith, b .0)) (b .1) i })
 
     go : (r : StringRead) → stringAt (partOf d body) 0 ≡ r → bytesOf d (nameThen d body r) ≡ namesFrom (partOf d body) r
-    go (Refused r) e = none-there
+    go (Refused r) e = refl
     go (Text x) e = behind x e (stringAt (partOf d body) (x .start + x .len)) refl

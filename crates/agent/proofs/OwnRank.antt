@@ -28,7 +28,7 @@ use Rattle.moves.specs.Calls as moves
 use Rattle.moves.specs.Calls.{Answer, created, succeeded, sample, noSample, failed, Task, creating, writing, reading as readingTask, deleting, fits}
 use Rattle.agent.specs.Local.{full, touched, handleAt}
 use Rattle.agent.specs.Parents.{handlesNamed}
-use Rattle.agent.specs.RulesObjects.{Move, ifHandle, ifHandles, createFor, deleteFound}
+use Rattle.agent.specs.RulesObjects.{Move, ifHandle, ifHandles, createFor, deleteFound, Names, namesOf, createNamed}
 use Rattle.agent.specs.RulesAnswers.{sampleOn, answerOf, onAnswer}
 use Rattle.agent.specs.Brings.{Opening, In, messageFrom}
 use Rattle.agent.specs.RulesFragments.{Pending, Working, onSubmessage, plain, handle, resumed}
@@ -126,9 +126,13 @@ if-handles none f other p q = q
 if-handles (some hs) f other p q = p (hs .0) (hs .1)
 
 module _ (l : Local) (g : Good l) (stream number : ℕ) where
+  named-good : (x : Option Names) (parent : ℕ) → MoveGood (createNamed x stream number parent l)
+  named-good none parent = g
+  named-good (some x) parent = if-handle (handleAt parent l) _ _ (λ h. (g, kind-own Topic)) g
+
   create-good : (k : ObjectKind) (parent : ℕ) (body : List ℕ) → MoveGood (createFor k stream number parent body l)
   create-good Participant parent body = (g, kind-own Participant)
-  create-good Topic parent body = if-handle (handleAt parent l) _ _ (λ h. (g, kind-own Topic)) g
+  create-good Topic parent body = named-good (namesOf body) parent
   create-good Publisher parent body = put-each (l .objects) _ g (kind-own Publisher)
   create-good Subscriber parent body = put-each (l .objects) _ g (kind-own Subscriber)
   create-good DataWriter parent body = if-handles (handlesNamed (l .objects) parent) _ _ (λ h k. (g, kind-own DataWriter)) g

@@ -45,17 +45,19 @@ use Rattle.sessions.proofs.ViewObjects.{entryFound, listed-length, listed-at, p
 use Rattle.sessions.proofs.ViewStores as stores
 use Rattle.sessions.proofs.ViewStores.{fits, find-view, put-here, put-elsewhere, drop-here, drop-elsewhere}
 use Rattle.sessions.proofs.session_objects.Laws.{found-is, taken-is, depended-is}
-use Rattle.moves.specs.Calls.{Call, createTopic, createWriter, createReader, writeData, deleteEntity, creating, writing, deleting}
+use Rattle.moves.specs.Calls.{Call, createWriter, createReader, writeData, deleteEntity, creating, writing, deleting}
 use Rattle.agent.specs.Local.{withObjects, noPlace, full, listing, dropping, entryHandle, handleAt}
 use Rattle.agent.specs.Parents.{ofKind, bothHandles, handlesAbove, handlesNamed}
 use Rattle.moves.specs.Names.{namesIn}
+use Rattle.moves.specs.declared.names.Names as read
+use Rattle.moves.specs.declared.names.Names.the-variants as names
 use Rattle.moves.specs.Moves.{foundHandle, handleOfKind, parentOf, topicBy, endpointCall, endpointFor, writeBy, writeMove, droppedMove, deleteMove}
 use Rattle.moves.specs.Proxy.{callAs}
 use Rattle.moves.specs.Rows.{endpointIn, createMove, createdSessions, createdObjects, roomMove, roomSessions, roomObjects}
-use Rattle.agent.specs.RulesObjects.{Move, Names, says, asks, ifHandle, ifHandles, namesOf, createWith, createFor, onCreate, drops, deleteFound, onDelete, onWrite}
+use Rattle.agent.specs.RulesObjects.{Move, Names, says, asks, ifHandle, ifHandles, namesOf, createNamed, createWith, createFor, onCreate, drops, deleteFound, onDelete, onWrite}
 use Rattle.moves.specs.declared.moves.Move as code
 use Rattle.moves.specs.declared.moves.Move.the-variants.{Status}
-use Rattle.agent.proofs.NameParts.{names-same}
+use Rattle.agent.proofs.NameParts.{bytesOf, names-same}
 use Rattle.agent.proofs.Square.{outcome, shownAt, Meets, Squares, shown-live, reach-objects}
 
 -- ---- handles
@@ -253,11 +255,17 @@ module _ {most : ℕ} (t : Tables) (sound : SoundTables SoundStream most t) (id 
       by (At i) h e = omega (arith, few)
       by Nowhere h e = let a : length (l .objects) < 32 = leb-false 32 (length (l .objects)) e in omega (arith, count-shown)
 
-  topic-moves : (number : ObjectNumber) (parent : ℕ) (h : ObjectHandle)
-      → ifHandle (handleShown h) (λ p. asks n (number .0) (creating 2 parent) (createTopic p (namesOf (partOf d body) .name) (namesOf (partOf d body) .type)) l) (says n (number .0) ErrInvalidData l)
-      ≡ outcome d t id n l (topicBy number parent (namesIn d body) h)
-  topic-moves number parent (Bridged p) = ap (λ (x : Names). asks n (number .0) (creating 2 parent) (createTopic (p .0) (x .name) (x .type)) l) (sym (names-same d body))
-  topic-moves number parent Implicit = refl
+  -- a Topic, by its names and its parent's handle
+  named-moves : (number : ObjectNumber) (parent : ℕ) (x : read.Names) (h : ObjectHandle) → handleAt parent l ≡ handleShown h
+      → createNamed (bytesOf d x) n (number .0) parent l ≡ outcome d t id n l (topicBy number parent x h)
+  named-moves number parent (names.Both name type) (Bridged p) e = rw e
+  named-moves number parent (names.Both name type) Implicit e = rw e
+  named-moves number parent names.Unread (Bridged p) e = refl
+  named-moves number parent names.Unread Implicit e = refl
+
+  topic-moves : (number : ObjectNumber) (parent : ℕ) (h : ObjectHandle) → handleAt parent l ≡ handleShown h
+      → createNamed (namesOf (partOf d body)) n (number .0) parent l ≡ outcome d t id n l (topicBy number parent (namesIn d body) h)
+  topic-moves number parent h e = ap (λ (x : Option Names). createNamed x n (number .0) parent l) (sym (names-same d body)) ∙ named-moves number parent (namesIn d body) h e
 
   -- a writer or a reader, whose call is made of the two handles
   with-moves : (number : ObjectNumber) (kind : ObjectKind) (parent : ℕ) (call : ℕ → ℕ → Call)
@@ -315,9 +323,7 @@ module _ {most : ℕ} (t : Tables) (sound : SoundTables SoundStream most t) (id 
     free-square Participant e = stays _ _ refl
     free-square Topic e =
         let parent : ObjectNumber = record { 0 = p .«parent_id» } in
-        stays _ _
-        (ap (λ (h : Option ℕ). ifHandle h (λ x. asks n (number .0) (creating 2 (p .«parent_id»)) (createTopic x (namesOf (partOf d body) .name) (namesOf (partOf d body) .type)) l) (says n (number .0) ErrInvalidData l)) (handle-view parent)
-        ∙ topic-moves number (p .«parent_id») (foundHandle (foundAt parent)))
+        stays _ _ (topic-moves number (p .«parent_id») (foundHandle (foundAt parent)) (handle-view parent))
     free-square Publisher e = lists number 3 (p .«parent_id») e
     free-square Subscriber e = lists number 4 (p .«parent_id») e
     free-square DataWriter e = stays _ _ (with-view number DataWriter (p .«parent_id») createWriter (λ p t. refl))

@@ -67,6 +67,7 @@ use Rattle.moves.specs.declared.handle.Opening.the-variants.{Client, Fragment, 
 use Rattle.moves.specs.declared.moves.Move.{Move}
 use Rattle.moves.specs.declared.moves.Move.the-variants.{Greets, Status, Acknack, Repeats, Calls, Silent}
 use Rattle.moves.specs.declared.names.Names.{Names}
+use Rattle.moves.specs.declared.names.Names.the-variants as names
 use Rattle.agent.specs.declared.turn.Frame.{Frame}
 use Rattle.agent.specs.declared.turn.Ran.{Ran}
 use Rattle.agent.specs.declared.turn.Taken.{Taken}
@@ -90,7 +91,8 @@ abbrev Brief : Move → Type 0
 Brief m = repeating m ≡ 0
 
 topic-brief : (number : ObjectNumber) (parent : ℕ) (names : Names) (h : ObjectHandle) → Brief (topicBy number parent names h)
-topic-brief number parent names (Bridged p) = refl
+topic-brief number parent (names.Both name type) (Bridged p) = refl
+topic-brief number parent names.Unread (Bridged p) = refl
 topic-brief number parent names Implicit = refl
 
 endpoint-brief : (number : ObjectNumber) (k parent : ℕ) (h t : ObjectHandle) → Brief (endpointFor number k parent h t)

@@ -3,6 +3,7 @@ pub mod Local
 pub mod Parents
 pub mod RulesObjects
 pub mod Follows
+pub mod Named
 pub mod TakeDown
 pub mod RulesStreams
 pub mod RulesAnswers

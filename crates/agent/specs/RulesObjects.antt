@@ -46,38 +46,40 @@ ifHandles none with without = without
 
 -- ---- CREATE
 
--- "Topic: name and type are two strings; if either is cut short, both become empty."
+-- "Topic: name and type are two strings"; W7: none where either is "cut short or ill-formed". Bytes behind them are ignored.
 pub record Names : Type 0 where
   pub name : List ℕ
   pub type : List ℕ
 
-abbrev pub noNames : Names
-noNames = record { name = []; type = [] }
+abbrev pub typeBehind : List ℕ → Span → StringRead → Option Names
+typeBehind body name (string.Text type) = some (record { name = partOf body name; type = partOf body type })
+typeBehind body name (string.Refused r) = none
 
-abbrev pub typeBehind : List ℕ → Span → StringRead → Names
-typeBehind body name (string.Text type) = record { name = partOf body name; type = partOf body type }
-typeBehind body name (string.Refused r) = noNames
-
-abbrev pub namesFrom : List ℕ → StringRead → Names
+abbrev pub namesFrom : List ℕ → StringRead → Option Names
 namesFrom body (string.Text name) = typeBehind body name (stringAt body (name .start + name .len))
-namesFrom body (string.Refused r) = noNames
+namesFrom body (string.Refused r) = none
 
-unfoldable pub namesOf : List ℕ → Names
+unfoldable pub namesOf : List ℕ → Option Names
 namesOf body = namesFrom body (stringAt body 0)
+
+-- W7: "A Topic whose strings are cut short or ill-formed answers ERR_INVALID_DATA without a call"; "The parent's handle comes from any object of
+-- that number."
+abbrev pub createNamed : Option Names → ℕ → ℕ → ℕ → Local → Move
+createNamed none stream number parent l = says stream number ErrInvalidData l
+createNamed (some x) stream number parent l =
+    ifHandle (handleAt parent l)
+    (λ p. asks stream number (creating (kindByte Topic) parent) (createTopic p (x .name) (x .type)) l)
+    (says stream number ErrInvalidData l)
 
 -- W1: "If either isn't held with that kind, the answer is ERR_INVALID_DATA without a call."
 abbrev pub createWith : ObjectKind → ℕ → ℕ → ℕ → (ℕ → ℕ → Call) → Local → Move
 createWith kind stream number parent call l =
     ifHandles (handlesNamed (l .objects) parent) (λ p t. asks stream number (creating (kindByte kind) parent) (call p t) l) (says stream number ErrInvalidData l)
 
--- A CREATE of each object kind: "The parent's handle comes from any object of that number."; "Publishers and Subscribers have no bridge
--- handle."; "Within the object limit every failed CREATE answers ERR_INVALID_DATA and keeps an older object of that number."
+-- A CREATE of each object kind: "Publishers and Subscribers have no bridge handle."; "Within the object limit every failed CREATE answers ERR_INVALID_DATA and keeps an older object of that number."
 abbrev pub createFor : ObjectKind → ℕ → ℕ → ℕ → List ℕ → Local → Move
 createFor Participant stream number parent body l = asks stream number (creating (kindByte Participant) parent) (createParticipant parent) l
-createFor Topic stream number parent body l =
-    ifHandle (handleAt parent l)
-    (λ p. asks stream number (creating (kindByte Topic) parent) (createTopic p (namesOf body .name) (namesOf body .type)) l)
-    (says stream number ErrInvalidData l)
+createFor Topic stream number parent body l = createNamed (namesOf body) stream number parent l
 createFor Publisher stream number parent body l = says stream number Ok (listing number (kindByte Publisher) none parent l)
 createFor Subscriber stream number parent body l = says stream number Ok (listing number (kindByte Subscriber) none parent l)
 createFor DataWriter stream number parent body l = createWith DataWriter stream number parent createWriter l

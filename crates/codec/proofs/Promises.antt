@@ -1,27 +1,24 @@
 -- The promises of `specs/Promises.antt`, proved.
-use Prim.Native.Nat.{ℕ, _+_, _≤_, _<_, _^_}
+use Prim.Native.Nat.{ℕ, _+_, _≤_}
 use mathlib.Core.Path.{_≡_, refl, sym, ap, _∙_}
 use mathlib.Core.List.{List, [], _∷_, _++_, map, append-nil}
 use native.Mathlib.Omega.{arith}
-use borrow.Author.Tests.{le-leb}
 use lib.ListN.{length, take, drop, length-append, length-map}
 use lib.Seq.{take-length, take-nil, drop-at}
 use Rattle.codec.specs.Answers.{gives, refusedAs, checkedAnswer, stringAnswer}
-use Rattle.codec.specs.Bytes.{AllBytes, le16, wordAt}
 use Rattle.codec.specs.Header.{headerBytes}
-use Rattle.codec.specs.Reading.{partOf, Item, Message, message, refused, messageOf, checkedOf, checkOf}
-use Rattle.codec.specs.Strings.{stringBytes, stringAt}
-use Rattle.codec.specs.Submessages.{idOf}
+use Rattle.codec.specs.Reading.{Item, Message, message, refused, messageOf, checkedOf, checkOf}
+use Rattle.codec.specs.Strings.{stringBytes, spanAt}
 use Rattle.codec.specs.Writing.{fixedBytes, bodyLen, carried, payloadBytes, subBytes}
-use Rattle.codec.specs.Grammar.{Said, Ranged, HeaderRanged, Bodied, Payload, bodied, plain, OneSub, one, Subs, none, next, IsMessage, whole, saidIn, reading, readingOf, says}
-use Rattle.codec.specs.Promises.{ReadsExactly, ChecksWhole, subsBytes, written, HeaderAlone, Writable, kept, ReadsBack, SaysTheSame, StringsReadBack}
+use Rattle.codec.specs.Grammar.{Said, Ranged, IsString, Bodied, Payload, bodied, plain, OneSub, one, Subs, none, next, IsMessage, whole, saidIn, reading, readingOf, says}
+use Rattle.codec.specs.Promises.{ReadsExactly, ChecksWhole, subsBytes, written, HeaderAlone, Writable, kept, ReadsBack, SaysTheSame, TextExactly, ReadsStrings, StringsReadBack}
 use Rattle.codec.specs.declared.header.MessageHeader.{MessageHeader}
 use Rattle.codec.specs.declared.submessages.Submessage.{Submessage}
 use Rattle.codec.specs.declared.submessages.Submessage.the-variants.{CreateClient, Create, Delete, Status, WriteData, ReadData, Data, Heartbeat, Acknack, Fragment}
-use Rattle.codec.proofs.Complete.{complete, part-is}
+use Rattle.codec.proofs.Complete.{complete}
 use Rattle.codec.proofs.Sound.{says-same, sound}
-use Rattle.codec.proofs.Pieces.{word-back, drop-behind}
-use Rattle.codec.proofs.strings.Laws.{string-whole}
+use Rattle.codec.proofs.strings.Theorems.{cut-short, part-there, read-there, behind-there, only-text, not-text}
+use Rattle.codec.proofs.text.Theorems.{text-well, well-text}
 
 pub reads-exactly : ReadsExactly
 reads-exactly s small h xs = (complete s h xs, sound s small h xs)
@@ -120,16 +117,21 @@ says-the-same s small h xs e = same-said h xs s (sound s small h xs e)
 
 -- ---- strings
 
+pub text-exactly : TextExactly
+text-exactly s = (text-well s, well-text s)
+
+pub reads-strings : ReadsStrings
+reads-strings s small at =
+    record {
+      accepts = λ text behind g. (ap stringAnswer (read-there s at text behind g), part-there s at text behind g, behind-there s at text behind g);
+      only = only-text s at small;
+      short = λ h. ap stringAnswer (sym (cut-short s at h));
+      ill = not-text s at;
+    }
+
 pub strings-read-back : StringsReadBack
-unfolding stringBytes le16
-strings-read-back before text behind h =
+strings-read-back before text behind h t =
     let at = length before in
-    let n = length text in
     let s = before ++ (stringBytes text ++ behind) in
-    let d : drop at s ≡ le16 n ++ (text ++ behind) = drop-at before (stringBytes text ++ behind) at refl in
-    let w : wordAt s at ≡ n = word-back s at n (text ++ behind) d (omega arith) in
-    let total : length s ≡ at + (2 + (n + length behind)) = omega (arith, length-append before (stringBytes text ++ behind), length-append text behind) in (
-      record { start = at + 2; len = n },
-      ap stringAnswer (sym (string-whole s at (omega (arith, w, total)))) ∙ rw w,
-      part-is s (at + 2) n text behind (drop-behind s at (le16 n) (text ++ behind) 2 d refl) refl (omega (arith, total)),
-    )
+    let g : IsString text behind (drop at s) = record { stands = drop-at before (stringBytes text ++ behind) at refl; long = omega arith; is-text = t } in
+    (spanAt s at, ap stringAnswer (read-there s at text behind g), part-there s at text behind g)

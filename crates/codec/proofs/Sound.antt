@@ -138,7 +138,7 @@ module _ (s : List ℕ) (small : AllBytes s) (p len : ℕ) (fits : p + len ≤ l
       either P (eqb id 15) _ _ (λ e. at 15 (layoutAt s 15 p len) e (right-fragment (long 15 e))) (λ _. tt))))))))))
 
 -- the part that a span marks off, where it is within the datagram
-part-taken : (s : List ℕ) (start len : ℕ) → start + len ≤ length s → partOf s (record { start = start; len = len }) ≡ take len (drop start s)
+pub part-taken : (s : List ℕ) (start len : ℕ) → start + len ≤ length s → partOf s (record { start = start; len = len }) ≡ take len (drop start s)
 unfolding partOf
 part-taken s start len h = rw (le-leb (start + len) (length s) h)
 

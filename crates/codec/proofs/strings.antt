@@ -1,2 +1,3 @@
--- Laws of strings.
+-- Laws and theorems of strings.
 pub mod Laws
+pub mod Theorems

@@ -1,11 +1,14 @@
 -- Document 01, "The wire", as a grammar: which bytes are a message, and what it says.
 use Prim.Native.Nat.{ℕ, _<_, _^_}
+use mathlib.Core.Path.{_≡_}
 use mathlib.Core.List.{List, [], _∷_, _++_, map}
 use lib.ListN.{length}
 use Rattle.codec.specs.Answers.{Answer, gives, refusal}
 use Rattle.codec.specs.Bytes.{le16}
 use Rattle.codec.specs.Header.{headerBytes}
 use Rattle.codec.specs.Submessages.{idOf}
+use Rattle.codec.specs.Strings.{stringBytes}
+use Rattle.codec.specs.Text.{IsText}
 use Rattle.codec.specs.Writing.{fixedBytes}
 use Rattle.codec.specs.Reading.{Item, Message, message, refused, messageOf, partOf}
 use Rattle.codec.specs.declared.header.MessageHeader.{MessageHeader}
@@ -50,6 +53,12 @@ Bodied (Acknack p) = ⊥
 pub data Payload : Submessage → List ℕ → List ℕ → Type 0 where
   bodied : (m : Submessage) (body : List ℕ) → Bodied m → Payload m body (fixedBytes m ++ body)
   plain : (m : Submessage) (ignored : List ℕ) → (Bodied m → ⊥) → Payload m [] (fixedBytes m ++ ignored)
+
+-- "A string is a length (2) and its bytes."; W7: they are text. Behind it stands something else, or nothing.
+pub record IsString (text behind bytes : List ℕ) : Type 0 where
+  pub stands : bytes ≡ stringBytes text ++ behind
+  pub long : length text < 2 ^ 16
+  pub is-text : IsText text
 
 -- "Submessage: id, flags (a byte each), length (2), payload."; "flags are read and dropped"
 pub data OneSub : Said → List ℕ → Type 0 where

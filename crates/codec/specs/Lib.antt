@@ -7,6 +7,7 @@ pub mod Header
 pub mod Layouts
 pub mod Reading
 pub mod Writing
+pub mod Text
 pub mod Strings
 pub mod Cutting
 pub mod Reassembly

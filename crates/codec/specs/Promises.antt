@@ -3,14 +3,15 @@ use Prim.Native.Nat.{ℕ, _≤_, _<_, _+_}
 use mathlib.Core.Path.{_≡_}
 use mathlib.Core.Bool.{Bool, true, false, _||_}
 use mathlib.Core.List.{List, [], _∷_, _++_, map}
-use lib.ListN.{length}
+use lib.ListN.{length, drop}
 use Rattle.codec.specs.Answers.{gives, refusedAs, checkedAnswer, rebuiltAnswer, stringAnswer}
-use Rattle.codec.specs.Bytes.{AllBytes}
+use Rattle.codec.specs.Bytes.{AllBytes, wordAt}
 use Rattle.codec.specs.Header.{headerBytes}
 use Rattle.codec.specs.Reading.{partOf, checkOf}
 use Rattle.codec.specs.Writing.{carried, payloadBytes, subBytes}
-use Rattle.codec.specs.Strings.{stringBytes, stringAt}
-use Rattle.codec.specs.Grammar.{Said, Ranged, HeaderRanged, Subs, IsMessage, reading, says}
+use Rattle.codec.specs.Strings.{stringBytes, spanAt, stringAt}
+use Rattle.codec.specs.Text.{IsText, wellFormed}
+use Rattle.codec.specs.Grammar.{Said, Ranged, HeaderRanged, IsString, Subs, IsMessage, reading, says}
 use Rattle.codec.specs.Rebuilt.{barred, rebuiltOf, rebuiltReading}
 use Rattle.codec.specs.declared.header.MessageHeader.{MessageHeader}
 use Rattle.codec.specs.declared.layouts.Span.{Span}
@@ -81,9 +82,24 @@ SaysTheSame =
     (s : List ℕ) → AllBytes s → (h : MessageHeader) (xs : List Said) → reading s ≡ says h xs
     → reading (written h xs) ≡ says h xs
 
--- a string that was written, wherever it stands, reads back: its span is found, and that part of the bytes is the string
+-- document 02, W7: the bytes that a string may have are RFC 3629's text, "overlong forms and surrogates" being in none of its rows
+abbrev pub TextExactly : Type 0
+TextExactly = (s : List ℕ) → (IsText s → wellFormed s ≡ true) × (wellFormed s ≡ true → IsText s)
+
+-- a string is read exactly if one stands there by the grammar, and it is given; else it is refused, as 1 if it is cut short, and as 18 "after 1"
+pub record StringExactly (s : List ℕ) (at : ℕ) : Type 0 where
+  pub accepts : (text behind : List ℕ) → IsString text behind (drop at s)
+      → (stringAnswer (stringAt s at) ≡ gives (spanAt s at)) × (partOf s (spanAt s at) ≡ text) × (drop (at + 2 + wordAt s at) s ≡ behind)
+  pub only : (x : Span) → stringAnswer (stringAt s at) ≡ gives x → (x ≡ spanAt s at) × IsString (partOf s x) (drop (x .start + x .len) s) (drop at s)
+  pub short : length s < at + 2 + wordAt s at → stringAnswer (stringAt s at) ≡ refusedAs 1 0
+  pub ill : at + 2 + wordAt s at ≤ length s → (IsText (partOf s (spanAt s at)) → ⊥) → stringAnswer (stringAt s at) ≡ refusedAs 18 0
+
+abbrev pub ReadsStrings : Type 0
+ReadsStrings = (s : List ℕ) → AllBytes s → (at : ℕ) → StringExactly s at
+
+-- a string that was written, wherever it stands, reads back if it is text: its span is found, and that part of the bytes is the string
 abbrev pub StringsReadBack : Type 0
 StringsReadBack =
-    (before text behind : List ℕ) → length text ≤ 65535
+    (before text behind : List ℕ) → length text ≤ 65535 → IsText text
     → (span : Span) × (stringAnswer (stringAt (before ++ (stringBytes text ++ behind)) (length before)) ≡ gives span)
     × (partOf (before ++ (stringBytes text ++ behind)) span ≡ text)

@@ -1,7 +1,7 @@
--- Document 01, "Refused", and document 02, W6: the number of each refusal, and the byte that 2, 3 and 4 give.
+-- Document 01, "Refused", and document 02, W6 and W7: the number of each refusal, and the byte that 2, 3 and 4 give.
 use Prim.Native.Nat.{ℕ}
 use Rattle.codec.specs.declared.refusals.Refusal.{Refusal}
-use Rattle.codec.specs.declared.refusals.Refusal.the-variants.{BufferTooShort, UnknownSubmessageId, UnknownObjectKind, UnknownStatusCode, PayloadLengthMismatch, SessionFull, FragmentSizeZero, EmptyPayload, TooManyFragments, FragmentNumber, MissingFragments, TooLong, OutputTooShort, StoreFull, OutOfTurn, OverLimit, NotInFragments}
+use Rattle.codec.specs.declared.refusals.Refusal.the-variants.{BufferTooShort, UnknownSubmessageId, UnknownObjectKind, UnknownStatusCode, PayloadLengthMismatch, SessionFull, FragmentSizeZero, EmptyPayload, TooManyFragments, FragmentNumber, MissingFragments, TooLong, OutputTooShort, StoreFull, OutOfTurn, OverLimit, NotInFragments, IllFormed}
 
 abbrev pub numberOf : Refusal → ℕ
 -- "bytes missing, no submessage"
@@ -38,6 +38,8 @@ numberOf OutOfTurn = 15
 numberOf OverLimit = 16
 -- "a FRAGMENT or CREATE_CLIENT among them"
 numberOf NotInFragments = 17
+-- "ill-formed UTF-8"
+numberOf IllFormed = 18
 
 -- the byte given with 2, 3 and 4; the others give none, written 0
 abbrev pub byteOf : Refusal → ℕ
@@ -58,3 +60,4 @@ byteOf StoreFull = 0
 byteOf OutOfTurn = 0
 byteOf OverLimit = 0
 byteOf NotInFragments = 0
+byteOf IllFormed = 0

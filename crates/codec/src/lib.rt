@@ -10,4 +10,5 @@ pub mod rebuilt;
 pub mod refusals;
 pub mod strings;
 pub mod submessages;
+pub mod text;
 pub mod writing;

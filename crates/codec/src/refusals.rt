@@ -1,4 +1,4 @@
-// Why a call is refused: document 01's table "Refused" and document 02's 17, one variant a number, for the whole project.
+// Why a call is refused: document 01's table "Refused" and document 02's 17 and 18, one variant a number, for the whole project.
 ghost use mathlib.Core.Path.{_≡_};
 ghost use Rattle.codec.specs.Refusals.{numberOf, byteOf};
 
@@ -20,6 +20,7 @@ pub enum Refusal {
     OutOfTurn,
     OverLimit,
     NotInFragments,
+    IllFormed,
 }
 
 impl Refusal {
@@ -45,6 +46,7 @@ impl Refusal {
             Refusal::OutOfTurn => 15,
             Refusal::OverLimit => 16,
             Refusal::NotInFragments => 17,
+            Refusal::IllFormed => 18,
         }
     }
 
@@ -70,6 +72,7 @@ impl Refusal {
             Refusal::OutOfTurn => 0,
             Refusal::OverLimit => 0,
             Refusal::NotInFragments => 0,
+            Refusal::IllFormed => 0,
         }
     }
 }

@@ -5,7 +5,9 @@ use crate::bytes::fits;
 use crate::bytes::put_word;
 use crate::bytes::word_at;
 use crate::layouts::Span;
+use crate::reading::part;
 use crate::refusals::Refusal;
+use crate::text::is_text;
 use crate::writing::MAX_PAYLOAD;
 ghost use mathlib.Core.Path.{_≡_};
 ghost use lib.ListN.{length};
@@ -36,7 +38,7 @@ pub fn encode_string(out: &mut [u8], at: usize, text: &[u8]) -> Written
     Written::Refused(Refusal::OutputTooShort)
 }
 
-// The string at `at`: 1 where its length or its bytes are cut short.
+// The string at `at`: 1 where its length or its bytes are cut short, then 18 where they are no text (document 02, W7).
 pub fn decode_string(s: &[u8], at: usize) -> StringRead
     ensures { λ r. ⌜ r ≡ stringAt (now (s .entry)) at ⌝ }
 {
@@ -44,7 +46,11 @@ pub fn decode_string(s: &[u8], at: usize) -> StringRead
         let start = at + 2;
         let len = word_at(s, at) as usize;
         if len <= s.len() - start {
-            return StringRead::Text(Span { start, len });
+            let span = Span { start, len };
+            if is_text(part(s, span)) {
+                return StringRead::Text(span);
+            }
+            return StringRead::Refused(Refusal::IllFormed);
         }
     }
     StringRead::Refused(Refusal::BufferTooShort)

@@ -6,4 +6,5 @@ pub mod parsing;
 mod rows;
 mod saying;
 pub mod stores;
+pub mod strings;
 pub mod writing;

@@ -25,6 +25,7 @@ use Rattle.sessions.specs.declared.session_streams.StreamRead.{StreamRead}
 use Rattle.streams.specs.declared.state.StreamState.{StreamState}
 use Rattle.moves.specs.Replies.{statusBytes, acknackBytes}
 use Rattle.moves.specs.declared.names.Names.{Names}
+use Rattle.moves.specs.declared.names.Names.the-variants.{Both, Unread}
 use Rattle.moves.specs.declared.moves.Move.{Move}
 use Rattle.moves.specs.declared.moves.Move.the-variants.{Greets, Status, Acknack, Repeats, Calls, Silent}
 use Rattle.moves.specs.declared.proxy.BridgeCall.{BridgeCall}
@@ -54,8 +55,13 @@ parentOf (Refused r) = record { 0 = 0 }
 abbrev pub participantMove : ObjectNumber → ℕ → Move
 participantMove number domain = Calls number (Creating 1 domain) (CreateParticipant domain)
 
+-- W7: "A Topic whose strings are cut short or ill-formed answers ERR_INVALID_DATA without a call"
+abbrev pub topicNamed : ObjectNumber → ℕ → Handle → Names → Move
+topicNamed number parent p (Both name type) = Calls number (Creating 2 parent) (CreateTopic p name type)
+topicNamed number parent p Unread = Status number ErrInvalidData
+
 abbrev pub topicBy : ObjectNumber → ℕ → Names → ObjectHandle → Move
-topicBy number parent names (Bridged p) = Calls number (Creating 2 parent) (CreateTopic p (names .name) (names .«type_name»))
+topicBy number parent names (Bridged p) = topicNamed number parent p names
 topicBy number parent names Implicit = Status number ErrInvalidData
 
 abbrev pub topicMove : ObjectNumber → ℕ → Names → Found → Move

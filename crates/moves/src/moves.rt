@@ -16,7 +16,7 @@ use sessions::session_streams::StreamRead;
 ghost use mathlib.Core.Path.{_≡_};
 ghost use mathlib.Core.Bool.{cond};
 ghost use lib.Dec.{eqb};
-ghost use Rattle.moves.specs.Moves.{foundHandle, handleOfKind, parentOf, participantMove, topicMove, endpointCall, endpointBy, endpointMove, writeMove, readCall, readOn, droppedMove, deleteMove, heartbeatMove, acknackOn};
+ghost use Rattle.moves.specs.Moves.{foundHandle, handleOfKind, parentOf, participantMove, topicNamed, topicMove, endpointCall, endpointBy, endpointMove, writeMove, readCall, readOn, droppedMove, deleteMove, heartbeatMove, acknackOn};
 
 // The STATUS that answers a CREATE_CLIENT, with its session's id; a STATUS for an object; an ACKNACK; the held messages that
 // an ACKNACK asks for; a call for an object; nothing.
@@ -80,19 +80,27 @@ pub(crate) fn participant_move(number: ObjectNumber, domain: u16) -> Move
     )
 }
 
+// With its parent's handle: "A Topic whose strings are cut short or ill-formed answers ERR_INVALID_DATA without a call" (document 02, W7).
+fn topic_named(number: ObjectNumber, parent: u16, names: Names, participant: Handle) -> Move
+    ensures { λ r. ⌜ r ≡ topicNamed number parent participant names ⌝ }
+{
+    match names {
+        Names::Both(name, type_name) => Move::Calls(
+            number,
+            Task::Creating(2, parent),
+            BridgeCall::CreateTopic(participant, name, type_name),
+        ),
+        Names::Unread => Move::Status(number, StatusCode::ErrInvalidData),
+    }
+}
+
 // CREATE of a Topic, by the object of its parent number.
 pub(crate) fn topic_move(number: ObjectNumber, parent: u16, names: Names, found: Found) -> Move
     ensures { λ r. ⌜ r ≡ topicMove number parent names found ⌝ }
 {
     let h = found_handle(found);
-    let name = names.name;
-    let type_name = names.type_name;
     match h {
-        ObjectHandle::Bridged(p) => Move::Calls(
-            number,
-            Task::Creating(2, parent),
-            BridgeCall::CreateTopic(p, name, type_name),
-        ),
+        ObjectHandle::Bridged(p) => topic_named(number, parent, names, p),
         ObjectHandle::Implicit => Move::Status(number, StatusCode::ErrInvalidData),
     }
 }

@@ -8,20 +8,12 @@ ghost use Prim.Native.Nat.{_+_, _≤_};
 ghost use lib.ListN.{length};
 ghost use Rattle.codec.specs.Reading.{partOf};
 ghost use Rattle.codec.specs.Strings.{stringAt};
-ghost use Rattle.moves.specs.Names.{noNames, placedIn, typeAfter, namesIn};
+ghost use Rattle.moves.specs.Names.{placedIn, typeAfter, namesIn};
 
-pub struct Names {
-    pub name: Span,
-    pub type_name: Span,
-}
-
-fn no_names() -> Names
-    ensures { λ r. ⌜ r ≡ noNames ⌝ }
-{
-    Names {
-        name: Span { start: 0, len: 0 },
-        type_name: Span { start: 0, len: 0 },
-    }
+// Name and type of a Topic; or they can't be read, being cut short or no text.
+pub enum Names {
+    Both(Span, Span),
+    Unread,
 }
 
 // A part of the body as a part of the datagram.
@@ -44,15 +36,12 @@ fn type_after(d: &[u8], body: Span, name: Span) -> Names
     let end = name.start + name.len;
     let t = decode_string(text, end);
     match t {
-        StringRead::Text(x) => Names {
-            name: placed_in(body, name),
-            type_name: placed_in(body, x),
-        },
-        StringRead::Refused(_) => no_names(),
+        StringRead::Text(x) => Names::Both(placed_in(body, name), placed_in(body, x)),
+        StringRead::Refused(_) => Names::Unread,
     }
 }
 
-// "Topic: name and type are two strings; if either is cut short, both become empty."
+// "Topic: name and type are two strings"; what stands behind them is ignored.
 pub(crate) fn names_in(d: &[u8], body: Span) -> Names
     ensures { λ r. ⌜ r ≡ namesIn (now (d .entry)) body ⌝ }
 {
@@ -60,6 +49,6 @@ pub(crate) fn names_in(d: &[u8], body: Span) -> Names
     let n = decode_string(text, 0);
     match n {
         StringRead::Text(x) => type_after(d, body, x),
-        StringRead::Refused(_) => no_names(),
+        StringRead::Refused(_) => Names::Unread,
     }
 }

@@ -9,7 +9,8 @@ use crate::replies::room;
 #[derive(Clone, Copy, Debug, PartialEq, Eq)]
 pub struct Failed;
 
-/// The seven calls of the original's bridge. Names are the client's bytes: they need not be UTF-8.
+/// The seven calls of the original's bridge. A Topic's name and type are the client's bytes, and well-formed UTF-8 (document 02, W7):
+/// `std::str::from_utf8` takes every one that the agent hands out. U+0000 may stand in them.
 #[allow(missing_docs)]
 pub trait Bridge {
     fn create_participant(&mut self, domain: u16) -> Result<Handle, Failed>;

@@ -14,7 +14,7 @@ impl fmt::Display for Handle {
 }
 
 /// A call that the host has to make now, and answer before anything else. Names and data are parts of the datagram, or of
-/// the message that its last fragment completed.
+/// the message that its last fragment completed. Names are well-formed UTF-8 (document 02, W7).
 #[derive(Clone, Copy, Debug, PartialEq, Eq)]
 #[allow(missing_docs)]
 pub enum Call<'a> {

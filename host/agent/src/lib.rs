@@ -51,6 +51,9 @@
 //! [`Answer`] in with [`Agent::answer`]. What can't be done is a [`Refusal`], and a refused call changed nothing.
 //! [`Agent::list`] has a session's objects in the order in which they can be deleted.
 //!
+//! A Topic's name and type reach the bridge as well-formed UTF-8 (RFC 3629). A CREATE with other bytes, or with strings that are
+//! cut short, is answered ERR_INVALID_DATA: the bridge isn't called, and an older object of that number stays.
+//!
 //! The archive is found by `XRCE_AGENT_LIB` (a folder with `libcabi.a`), or in the repository's `target/staticlib`.
 #![deny(unsafe_op_in_unsafe_fn)]
 #![warn(missing_docs)]

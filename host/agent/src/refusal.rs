@@ -1,4 +1,4 @@
-//! Why a call is refused: the numbers and words of document 01's table "Refused", and document 02's 17.
+//! Why a call is refused: the numbers and words of document 01's table "Refused", and document 02's 17 and 18.
 
 use std::error::Error;
 use std::fmt;
@@ -24,10 +24,11 @@ pub enum Refusal {
     OutOfTurn,
     OverLimit,
     NotInFragments,
+    IllFormed,
 }
 
 impl Refusal {
-    /// The refusal with that number, and that byte where it has one. There are 17.
+    /// The refusal with that number, and that byte where it has one. There are 18.
     pub fn numbered(number: u8, byte: u8) -> Option<Refusal> {
         Some(match number {
             1 => Refusal::BufferTooShort,
@@ -47,6 +48,7 @@ impl Refusal {
             15 => Refusal::OutOfTurn,
             16 => Refusal::OverLimit,
             17 => Refusal::NotInFragments,
+            18 => Refusal::IllFormed,
             _ => return None,
         })
     }
@@ -71,6 +73,7 @@ impl Refusal {
             Refusal::OutOfTurn => 15,
             Refusal::OverLimit => 16,
             Refusal::NotInFragments => 17,
+            Refusal::IllFormed => 18,
         }
     }
 
@@ -106,6 +109,7 @@ impl Refusal {
                 "max_clients over 255, lent store under its documented need, or tables altered past a limit"
             }
             Refusal::NotInFragments => "a FRAGMENT or CREATE_CLIENT among rebuilt submessages",
+            Refusal::IllFormed => "ill-formed UTF-8",
         }
     }
 }
@@ -126,6 +130,6 @@ pub fn read(answer: u64) -> Result<u64, Refusal> {
     let [number, byte, ..] = answer.to_le_bytes();
     match number {
         0 => Ok(answer / 65536),
-        _ => Err(Refusal::numbered(number, byte).expect("the agent's refusals are numbered 1 to 17")),
+        _ => Err(Refusal::numbered(number, byte).expect("the agent's refusals are numbered 1 to 18")),
     }
 }

@@ -44,6 +44,7 @@ fn lines() -> Vec<(String, (usize, usize))> {
     lines.push(("(size_t)XRCE_HELD, (size_t)XRCE_MAX_CLIENTS".into(), (HELD, 255)));
     lines.push(("(size_t)XRCE_PARTS, (size_t)XRCE_LENGTHS".into(), (PARTS, LENGTHS)));
     lines.push(("(size_t)XRCE_REBUILT, (size_t)XRCE_NOT_IN_FRAGMENTS".into(), (REBUILT, 17)));
+    lines.push(("(size_t)XRCE_OVER_LIMIT, (size_t)XRCE_ILL_FORMED".into(), (16, 18)));
     lines
 }
 
@@ -60,5 +61,5 @@ fn the_layout_is_the_headers() {
     let Some(printed) = c::output(&source, "layout") else { return };
     let wanted: Vec<String> = lines.iter().map(|(_, (a, b))| format!("{a} {b}")).collect();
     assert_eq!(printed.lines().collect::<Vec<_>>(), wanted);
-    assert_eq!(lines.len(), AgentRecord::NUMBERS + 5 + 2 + 6);
+    assert_eq!(lines.len(), AgentRecord::NUMBERS + 5 + 2 + 7);
 }

@@ -323,14 +323,15 @@ fn a_full_table_is_a_status() {
 
 #[test]
 fn refusals_have_numbers_words_and_bytes() {
-    for number in 1..=17 {
+    for number in 1..=18 {
         let refusal = Refusal::numbered(number, 0xAB).unwrap();
         assert_eq!(refusal.number(), number);
         assert_eq!(refusal.byte(), (2..=4).contains(&number).then_some(0xAB));
         assert_eq!(lent::read(u64::from(number) + 256 * 0xAB), Err(refusal));
     }
-    assert_eq!((Refusal::numbered(0, 0), Refusal::numbered(18, 0)), (None, None));
+    assert_eq!((Refusal::numbered(0, 0), Refusal::numbered(19, 0)), (None, None));
     assert_eq!(Refusal::UnknownSubmessageId(3).to_string(), "id not listed (0x03)");
     assert_eq!(Refusal::OutputTooShort.to_string(), "lent output shorter than the result");
+    assert_eq!(Refusal::IllFormed.to_string(), "ill-formed UTF-8");
     assert_eq!(lent::read(5 * 65_536), Ok(5));
 }

@@ -1,5 +1,6 @@
 //! The command line of `driver`.
 
+use std::ffi::OsString;
 use std::net::{SocketAddr, ToSocketAddrs};
 use std::str::FromStr;
 
@@ -10,7 +11,8 @@ driver [FLAG VALUE ..]   plays a client: opens a session, creates a participant,
   --host ADDR      where the host listens                                  (127.0.0.1:2019)
   --messages N     how many                                                (5)
   --rate N         a second; 0 for as fast as it goes                      (0)
-  --topic NAME     the topic's name; it should be no other client's        (driver- and a number)
+  --topic NAME     the topic's name, in UTF-8; it should be no other
+                   client's                                                (driver- and a number)
   --size N         bytes of each message, 8 to 65497                       (24)
   --datagram N     the longest datagram that it sends, 128 to 65507: a
                    message that needs a longer one goes in parts, and has
@@ -109,6 +111,12 @@ fn set(options: &mut Options, flag: &str, word: &str) -> Result<(), String> {
         _ => return Err(format!("there is no flag '{flag}'")),
     }
     Ok(())
+}
+
+/// The words of the command line as text: the agent makes no Topic whose name is anything else (document 02, W7).
+pub fn texts(words: impl Iterator<Item = OsString>) -> Result<Vec<String>, String> {
+    let wrong = |word: OsString| format!("'{}' isn't UTF-8", word.as_encoded_bytes().escape_ascii());
+    words.map(|word| word.into_string().map_err(wrong)).collect()
 }
 
 pub fn parse(words: &[String]) -> Result<Parsed, String> {

@@ -8,14 +8,13 @@ mod progress;
 mod reading;
 mod summary;
 
-use args::{parse, Options, Parsed, HELP};
+use args::{parse, texts, Options, Parsed, HELP};
 use client::{Client, Wrong};
 use messages::Messages;
 use std::process::ExitCode;
 
 fn main() -> ExitCode {
-    let words: Vec<String> = std::env::args().skip(1).collect();
-    let options = match parse(&words) {
+    let options = match texts(std::env::args_os().skip(1)).and_then(|words| parse(&words)) {
         Ok(Parsed::Run(options)) => options,
         Ok(Parsed::Help) => {
             print!("{HELP}");

@@ -3,7 +3,9 @@
 mod common;
 
 use common::{driver, host, told};
+use std::ffi::OsStr;
 use std::net::UdpSocket;
+use std::os::unix::ffi::OsStrExt;
 
 #[test]
 fn messages_come_back() {
@@ -40,6 +42,22 @@ fn wrong_replies_end_it() {
     let (code, _, error) = told(&driver(&["--host", &short]));
     assert_eq!(code, Some(1));
     assert!(error.starts_with("driver: the reply to CREATE_CLIENT isn't a reply"), "{error}");
+}
+
+// The name goes as it is typed, and one that isn't UTF-8 goes nowhere.
+#[test]
+fn a_topic_name_is_text() {
+    let address = host(|_, reply| Some(reply.to_vec()));
+    let (code, out, error) = told(&driver(&["--host", &address, "--topic", "Küche-\u{10FFFF}"]));
+    assert_eq!(code, Some(0), "{error}");
+    assert!(out.contains("topic 2 'Küche-\u{10FFFF}'"), "{out}");
+    for words in
+        [vec![OsStr::new("--topic"), OsStr::from_bytes(b"K\xFCche")], vec![OsStr::from_bytes(b"--topic=\xED\xA0\x80")]]
+    {
+        let (code, _, error) = told(&driver(&words));
+        assert_eq!(code, Some(2), "{error}");
+        assert!(error.contains("\\x") && error.contains(" isn't UTF-8\n"), "{error}");
+    }
 }
 
 #[test]

@@ -65,11 +65,15 @@ pub fn run(seed: u64) -> Result<String, String> {
     if stores.inside < CALLS / 1000 {
         return Err(format!("only {} calls came from rebuilt submessages", stores.inside));
     }
+    if stores.topics < CALLS / 1000 {
+        return Err(format!("only {} calls were for a Topic", stores.topics));
+    }
     Ok(format!(
-        "{}; {checked} compared whole, {} objects in listings, {} calls of rebuilt submessages, {} ms",
+        "{}; {checked} compared whole, {} objects in listings, {} calls of rebuilt submessages, {} for a Topic, {} ms",
         counts.shown(),
         stores.listed,
         stores.inside,
+        stores.topics,
         start.elapsed().as_millis()
     ))
 }

@@ -31,6 +31,20 @@ fn fragment(chance: &mut Chance, datagram: Datagram) -> Datagram {
     datagram.fragment(number, total, &body)
 }
 
+// A Topic's two strings: mostly text, in characters of one to four bytes; at times any bytes, or cut short, which come to no call
+// (document 02, W7).
+fn names(chance: &mut Chance) -> Vec<u8> {
+    const CHARACTERS: [&str; 8] = ["a", "z", "\0", "é", "\u{7FF}", "€", "\u{FFFD}", "\u{10FFFF}"];
+    let count = chance.below(6);
+    let text: String = (0..count).map(|_| chance.of(&CHARACTERS)).collect();
+    let name = if chance.once_in(8) { chance.bytes(1 + 2 * count) } else { text.into_bytes() };
+    let mut strings = strings(&name, b"type");
+    if chance.once_in(16) {
+        strings.truncate(chance.below(strings.len()));
+    }
+    strings
+}
+
 // A submessage of any of the ten kinds, its numbers small so that they meet again.
 fn add(chance: &mut Chance, datagram: Datagram) -> Datagram {
     if chance.once_in(5) {
@@ -45,9 +59,8 @@ fn plain(chance: &mut Chance, datagram: Datagram) -> Datagram {
         0 => datagram.create_client([1, 2, 3, chance.byte()]),
         1 => datagram.create(number(chance, &[0, 1]), 1, chance.below(3) as u16, &[]),
         2 => {
-            let name = chance.below(12);
             let (topic, participant) = (number(chance, &[2, 3]), number(chance, &[0, 1]));
-            datagram.create(topic, 2, participant, &strings(&chance.bytes(name), b"type"))
+            datagram.create(topic, 2, participant, &names(chance))
         }
         3 => datagram.create(object, 1 + chance.below(6) as u8, chance.below(8) as u16, &[]),
         4 => datagram.create(chance.below(40) as u16, chance.of(&[3, 4]), 0, &[]),

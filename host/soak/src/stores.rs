@@ -14,6 +14,8 @@ const CLIENTS: usize = 6;
 const OUT: usize = 8192;
 const NUMBERS: usize = 64;
 const BYTES: usize = 70_000;
+/// The call for a Topic (enum xrce_call).
+const CREATE_TOPIC: u64 = 2;
 const FILL: u8 = 0xA5;
 const FILL_NUMBER: u16 = 0xA5A5;
 
@@ -41,6 +43,8 @@ pub struct Stores {
     pub listed: u64,
     /// Calls that rebuilt submessages handed out.
     pub inside: u64,
+    /// Calls for a Topic, whose names were read.
+    pub topics: u64,
 }
 
 /// A copy of record, tables and stores.
@@ -123,6 +127,7 @@ impl Stores {
             kept: Vec::new(),
             listed: 0,
             inside: 0,
+            topics: 0,
         }
     }
 
@@ -233,8 +238,9 @@ impl Stores {
         output_kept(out, FILL, answer, records.first().map_or(0, |record| record.wrote))?;
         if went(answer) {
             let record = records.first().ok_or("a call without a record was answered")?;
-            told_whole(record, bytes.len())?;
+            told_whole(record, &bytes, self.rebuilt.slice(side, REBUILT))?;
             self.inside += u64::from(record.left_end != 0);
+            self.topics += u64::from(record.call == CREATE_TOPIC);
             self.kept = bytes;
         }
         Ok(answer)
@@ -316,15 +322,17 @@ impl Stores {
 }
 
 // A record after a call that was answered: numbers of an open call where one is open, and zeroes else. Names and data of a
-// call are parts of its datagram, or of the rebuilt bytes.
-fn told_whole(record: &AgentRecord, len: usize) -> Result<(), String> {
-    let len = if record.left_end == 0 { len as u64 } else { record.left_end };
+// call are parts of its datagram, or of the rebuilt bytes; a Topic's names are text (document 02, W7).
+fn told_whole(record: &AgentRecord, datagram: &[u8], rebuilt: &[u8]) -> Result<(), String> {
     if record.left_at > record.left_end || record.left_end > REBUILT as u64 {
         return Err(format!("rebuilt bytes wait from {} to {}", record.left_at, record.left_end));
     }
-    for (start, part) in [(record.start, record.len), (record.type_start, record.type_len)] {
-        if start.checked_add(part).is_none_or(|end| end > len) {
-            return Err(format!("a part at {start} of {part} bytes in {len}"));
+    let shown = if record.left_end == 0 { datagram } else { &rebuilt[..record.left_end as usize] };
+    for (start, len) in [(record.start, record.len), (record.type_start, record.type_len)] {
+        let part = shown.get(start as usize..).and_then(|rest| rest.get(..len as usize));
+        let part = part.ok_or_else(|| format!("a part at {start} of {len} bytes in {}", shown.len()))?;
+        if record.call == CREATE_TOPIC && std::str::from_utf8(part).is_err() {
+            return Err(format!("a Topic is named '{}'", part.escape_ascii()));
         }
     }
     let AgentRecord { max_clients, timeout_ms, next, wrote, .. } = *record;

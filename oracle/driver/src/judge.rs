@@ -1,6 +1,6 @@
 //! Holds the port's answers to the original's, command by command, and shows the first difference.
 
-use crate::words::{bytes, hex, silent};
+use crate::words::silent;
 use std::collections::BTreeMap;
 
 type Verdict = Result<String, String>;
@@ -28,15 +28,6 @@ impl<'a> Side<'a> {
 
 fn first_word(line: &str) -> &str {
     line.split(' ').next().unwrap_or("")
-}
-
-// The line with a word's bytes read as text, ill-formed parts replaced, as document 01 compares names.
-fn lossy(line: &str, places: &[usize]) -> String {
-    let words = line.split(' ').enumerate().map(|(at, word)| match bytes(word) {
-        Some(text) if places.contains(&at) => hex(String::from_utf8_lossy(&text).as_bytes()),
-        _ => word.to_string(),
-    });
-    words.collect::<Vec<_>>().join(" ")
 }
 
 // An object's line without its parent number, which the original's records lack.
@@ -167,9 +158,6 @@ fn raw_answer(word: &str, side: &mut Side) -> Vec<String> {
 fn layer_answer(word: &str, side: &mut Side) -> Vec<String> {
     let mut lines = raw_answer(word, side);
     sorted_runs(&mut lines);
-    if word == "decode" {
-        lines.iter_mut().for_each(|line| *line = lossy(line, &[1]));
-    }
     lines
 }
 
@@ -185,7 +173,6 @@ impl Outcome {
     fn add(&mut self, lines: Vec<String>) {
         for line in lines {
             match first_word(&line) {
-                "call" if line.starts_with("call create_topic ") => self.calls.push(lossy(&line, &[3, 4])),
                 "call" => self.calls.push(line),
                 "reply" => self.replies.push(line),
                 "object" => self.rest.push(without_parent(&line)),

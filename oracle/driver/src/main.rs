@@ -10,6 +10,7 @@ mod make_agent;
 mod make_layers;
 mod refusals;
 mod replay;
+mod texts;
 mod words;
 
 use std::io::{BufWriter, Read, Write};

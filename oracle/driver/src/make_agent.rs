@@ -7,6 +7,7 @@ use crate::clock;
 use crate::datagrams;
 use crate::listing::listing;
 use crate::replay::{address, agent, remove, Answer, Answers, Bridge};
+use crate::texts;
 use crate::words::hex;
 use hdds_xrce::agent::XrceAgent;
 use hdds_xrce::protocol::{parse_message, ObjectKind, StatusCode, Submessage};
@@ -118,7 +119,8 @@ impl Domain {
             Submessage::Create(p) => {
                 let free = !self.may_have_dependant(p.object_id);
                 let finds = match p.kind {
-                    ObjectKind::Topic => !self.may_be_implicit(p.parent_id),
+                    // Names that are cut short or ill-formed the port refuses (document 02, W7).
+                    ObjectKind::Topic => !self.may_be_implicit(p.parent_id) && texts::whole_names(&p.string_data),
                     ObjectKind::DataWriter | ObjectKind::DataReader => self.names_the_only_ones(p.parent_id),
                     _ => true,
                 };
@@ -193,7 +195,7 @@ impl Making {
             0 => self.round_the_ids(max),
             1 => self.fill_a_session(),
             2 => self.change_a_parent(),
-            _ => {}
+            _ => self.name_the_edges(),
         }
         for _ in 0..66 {
             self.event();
@@ -451,31 +453,32 @@ impl Making {
         };
         let mut payload = [number.to_le_bytes(), [kind, parent as u8]].concat();
         payload.push((parent >> 8) as u8);
-        if kind == 2 || self.chance.one_in(6) {
+        if kind == 2 {
             payload.extend(self.names());
+        } else if self.chance.one_in(6) {
+            payload.extend(self.no_names());
         }
         payload
     }
 
-    // Two strings, sometimes with bytes behind them, cut short, or not UTF-8.
+    // Name and type of a Topic, sometimes with any bytes behind them.
     fn names(&mut self) -> Vec<u8> {
-        let mut strings = Vec::new();
-        for _ in 0..2 {
-            let length = self.chance.pick(&[0, 1, 5, 20]);
-            let text = match self.chance.below(6) {
-                0 => self.chance.bytes(length),
-                1 => "Größe €𝄞".as_bytes().to_vec(),
-                _ => (0..length).map(|_| self.chance.within(0x61, 0x7a) as u8).collect(),
-            };
-            strings.extend((text.len() as u16).to_le_bytes());
-            strings.extend(text);
-        }
-        match self.chance.below(8) {
-            0 => strings.truncate(self.chance.below(strings.len() as u64 + 1) as usize),
-            1 => strings.extend(self.chance.bytes(3)),
-            _ => {}
+        let mut strings = texts::string(texts::name(&mut self.chance).as_bytes());
+        strings.extend(texts::string(texts::name(&mut self.chance).as_bytes()));
+        if self.chance.one_in(8) {
+            let behind = self.chance.pick(&[1, 3, 30]);
+            strings.extend(self.chance.bytes(behind));
         }
         strings
+    }
+
+    // What stands behind the parent number of another kind is no string and is not looked at.
+    fn no_names(&mut self) -> Vec<u8> {
+        let names = self.names();
+        if self.chance.one_in(4) {
+            return texts::string(self.chance.pick(&texts::ILL_FORMED));
+        }
+        datagrams::damaged(&mut self.chance, &names)
     }
 
     // Sessions opened and removed until the ids have gone past 255, at last with a full table.
@@ -537,8 +540,8 @@ impl Making {
         let steps = [
             self.submessage(&domain, 0x00),
             datagrams::create(old, 1, 0, &[]),
-            datagrams::create(changed, 2, old, &[]),
-            datagrams::create(topic, 2, changed, &[]),
+            datagrams::create(changed, 2, old, &self.names()),
+            datagrams::create(topic, 2, changed, &self.names()),
             datagrams::delete(changed),
             datagrams::delete(old),
             datagrams::create(changed, 1, 0, &[]),
@@ -549,6 +552,19 @@ impl Making {
         }
         self.list(1);
         self.take_down(1);
+    }
+
+    // A Topic for each character at an edge: alone and among others, as name and as type.
+    fn name_the_edges(&mut self) {
+        let domain = self.domain(1);
+        let opening =
+            [datagrams::header(1, 0, 0), self.submessage(&domain, 0x00), datagrams::create(0, 1, 0, &[])].concat();
+        self.send(&opening);
+        for edge in texts::EDGES {
+            let mut strings = [edge.to_string(), format!("a{edge}{edge}z")].map(|text| texts::string(text.as_bytes()));
+            strings.rotate_left(usize::from(self.chance.one_in(2)));
+            self.send(&[datagrams::header(1, 0, 0), datagrams::create(1, 2, 0, &strings.concat())].concat());
+        }
     }
 
     fn holds(&self, number: u16) -> bool {

@@ -4,6 +4,7 @@
 use crate::chance::Chance;
 use crate::datagrams;
 use crate::layers::Layers;
+use crate::texts;
 use crate::words::hex;
 
 pub struct Making {
@@ -61,30 +62,56 @@ impl Making {
         for length in 0..6u16 {
             for held in 0..8u16 {
                 let buf = [&length.to_le_bytes()[..], &vec![0x61; held as usize]].concat();
-                self.say(format!("decode {}", hex(&buf)));
+                self.decode(&buf);
             }
             self.say(format!("encode {}", hex(&vec![0x7a; length as usize])));
         }
-        self.say("decode -".into());
-        self.say("decode 00".into());
+        self.decode(&[]);
+        self.decode(&[0]);
         for length in [65_534, 65_535] {
-            let text = vec![0x62; length];
-            self.say(format!("encode {}", hex(&text)));
-            let buf = [&(length as u16).to_le_bytes()[..], &text].concat();
-            self.say(format!("decode {}", hex(&buf)));
-            self.say(format!("decode {}", hex(&buf[..buf.len() - 1])));
+            self.there_and_back(&"b".repeat(length));
         }
-        for text in ["", "a", "ä", "€", "𝄞", "\u{7f}", "\u{80}", "\u{7ff}", "\u{800}", "\u{ffff}", "\u{10ffff}", "\0"]
-        {
-            self.say(format!("encode {}", hex(text.as_bytes())));
-            let buf = [&(text.len() as u16).to_le_bytes()[..], text.as_bytes()].concat();
-            self.say(format!("decode {}", hex(&buf)));
+        self.there_and_back(&"\u{10FFFF}".repeat(16_383));
+        for edge in texts::EDGES {
+            self.there_and_back(&edge.to_string());
+            self.there_and_back(&format!("a{edge}{edge}z"));
         }
-        for ill in
-            [&b"\x80"[..], b"\xc0\x80", b"\xed\xa0\x80", b"\xf4\x90\x80\x80", b"\xf0\x9f\x92", b"a\xffb", b"\xe4"]
-        {
-            let buf = [&(ill.len() as u16).to_le_bytes()[..], ill].concat();
-            self.say(format!("decode {}", hex(&buf)));
+        self.short_texts();
+    }
+
+    // A text written, and read whole, with a byte missing, and with bytes behind it that are no text.
+    fn there_and_back(&mut self, text: &str) {
+        self.say(format!("encode {}", hex(text.as_bytes())));
+        let buf = texts::string(text.as_bytes());
+        self.decode(&buf);
+        self.decode(&buf[..buf.len() - 1]);
+        if text.len() < 16 {
+            self.decode(&[&buf[..], &[0xFF, 0xC0]].concat());
+        }
+    }
+
+    // Every text of a byte, and of two bytes that make one character; each ill-formed one cut short: 1 comes before 18.
+    fn short_texts(&mut self) {
+        for byte in 0..=255 {
+            self.decode(&texts::string(&[byte]));
+            self.decode(&[2, 0, byte]);
+        }
+        for first in 0xC0..=0xDF {
+            for second in 0x7F..=0xC0 {
+                self.decode(&texts::string(&[first, second]));
+            }
+        }
+        for ill in texts::ILL_FORMED {
+            let longer = [ill, b"a"].concat();
+            let buf = texts::string(&longer);
+            (0..longer.len()).for_each(|held| self.decode(&buf[..2 + held]));
+        }
+    }
+
+    // A string inside the domain.
+    fn decode(&mut self, buf: &[u8]) {
+        if texts::read_alike(buf) {
+            self.say(format!("decode {}", hex(buf)));
         }
     }
 
@@ -245,27 +272,24 @@ impl Making {
     }
 
     fn text(&mut self) -> String {
-        let length = self.chance.pick(&[0, 1, 2, 5, 12, 40]);
-        (0..length)
-            .map(|_| match self.chance.below(5) {
-                0 => char::from_u32(self.chance.within(0x80, 0xD7FF) as u32).unwrap(),
-                1 => char::from_u32(self.chance.within(0x1_0000, 0x10_FFFF) as u32).unwrap(),
-                _ => self.chance.below(128) as u8 as char,
-            })
-            .collect()
+        let characters = self.chance.pick(&[0, 1, 2, 5, 12, 40]);
+        texts::text(&mut self.chance, characters)
     }
 
     fn strings(&mut self, count: u64) {
         for _ in 0..count {
             let text = self.text();
             self.say(format!("encode {}", hex(text.as_bytes())));
-            let buf = [&(text.len() as u16).to_le_bytes()[..], text.as_bytes()].concat();
+            let buf = texts::string(text.as_bytes());
             let buf = match self.chance.below(4) {
-                0 => [&buf[..], &self.text().into_bytes()].concat(),
+                0 => {
+                    let behind = self.chance.within(1, 40);
+                    [&buf[..], &self.chance.bytes(behind)].concat()
+                }
                 1 => datagrams::damaged(&mut self.chance, &buf),
                 _ => buf,
             };
-            self.say(format!("decode {}", hex(&buf)));
+            self.decode(&buf);
         }
     }
 

@@ -2,6 +2,7 @@
 #![allow(dead_code)]
 
 use std::collections::VecDeque;
+use std::ffi::OsStr;
 use std::net::UdpSocket;
 use std::process::{Command, Output};
 use xrce_agent::{replies, Agent, Bridge, Failed, Handle};
@@ -79,7 +80,7 @@ pub fn behind(
     address
 }
 
-pub fn driver(words: &[&str]) -> Output {
+pub fn driver(words: &[impl AsRef<OsStr>]) -> Output {
     Command::new(env!("CARGO_BIN_EXE_driver")).args(words).output().unwrap()
 }
 

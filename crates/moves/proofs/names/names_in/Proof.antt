@@ -24,16 +24,13 @@ type-after-requires c κs =
 enum-told : tie.Need-enum-told
 enum-told c = search needs
 
-no-names-requires : tie.Need-no-names-requires
-no-names-requires c κs = search needs
-
 returns : tie.Need-returns
 unfolding namesIn
 returns c = rw (← c .before .before .before .before .before .part .ensures, ← c .before .before .before .before .decode-string .ensures, c .before .before .n .given .1) (c .type-after .ensures)
 
 returns-2 : tie.Need-returns-2
 unfolding namesIn
-returns-2 c = rw (← c .before .before .before .before .part .ensures, ← c .before .before .before .decode-string .ensures, c .before .enum-told .given .1) (c .no-names .ensures)
+returns-2 c = rw (← c .before .before .before .part .ensures, ← c .before .before .decode-string .ensures, c .enum-told .given .1)
 
 pub names-in-spec : {M : Type 1} → statement M
 names-in-spec =
@@ -44,6 +41,5 @@ names-in-spec =
     enum-known-n
     type-after-requires
     enum-told
-    no-names-requires
     returns
     returns-2)

@@ -40,14 +40,11 @@ placed-in-requires-2 c κs = let a = c .before .before .before .before .before .
 enum-told : tie.Need-enum-told
 enum-told c = search needs
 
-no-names-requires : tie.Need-no-names-requires
-no-names-requires c κs = search needs
-
 returns : tie.Need-returns
 returns c = rw (← c .before .before .before .before .before .before .before .part .ensures, ← c .before .before .before .before .before .decode-string .ensures, c .before .before .before .t .given .1, c .before .placed-in .ensures, c .placed-in2 .ensures)
 
 returns-2 : tie.Need-returns-2
-returns-2 c = rw (← c .before .before .before .before .before .part .ensures, ← c .before .before .before .decode-string .ensures, c .before .enum-told .given .1) (c .no-names .ensures)
+returns-2 c = rw (← c .before .before .before .before .part .ensures, ← c .before .before .decode-string .ensures, c .enum-told .given .1)
 
 pub type-after-spec : {M : Type 1} → statement M
 type-after-spec =
@@ -60,6 +57,5 @@ type-after-spec =
     placed-in-requires
     placed-in-requires-2
     enum-told
-    no-names-requires
     returns
     returns-2)

@@ -61,7 +61,7 @@ use Rattle.moves.specs.RowsStreams.{readMove, readSessions, readRows}
 use Rattle.moves.specs.Names.{namesIn}
 use Rattle.moves.specs.Rows.{okMove, endpointIn, createMove, createdSessions, createdObjects, isFree, noRoomMove, roomMove, roomSessions, roomObjects}
 use mathlib.Core.Bool.{cond}
-use Rattle.moves.specs.Moves.{handleOfKind, parentOf, participantMove, endpointCall, endpointBy, endpointMove, readCall, readOn, droppedMove, heartbeatMove, acknackOn}
+use Rattle.moves.specs.Moves.{handleOfKind, parentOf, participantMove, topicNamed, endpointCall, endpointBy, endpointMove, readCall, readOn, droppedMove, heartbeatMove, acknackOn}
 use types.Kit.{frees, prop}
 use Rattle.sessions.specs.declared.objects.Object.{Object}
 use Rattle.sessions.proofs.objects.Object as Object-t

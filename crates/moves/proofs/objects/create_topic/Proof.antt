@@ -64,9 +64,9 @@ use Rattle.sessions.specs.SessionObjects.{objectsNamed, usedOf, firstObject, co
 use Rattle.sessions.specs.Removal.{dependedObject}
 use Rattle.codec.specs.Reading.{partOf}
 use Rattle.codec.specs.Strings.{stringAt}
-use Rattle.moves.specs.Names.{noNames, placedIn, typeAfter}
+use Rattle.moves.specs.Names.{placedIn, typeAfter}
 use mathlib.Core.Bool.{cond}
-use Rattle.moves.specs.Moves.{handleOfKind, parentOf, participantMove, endpointCall, endpointBy, endpointMove, readCall, readOn, droppedMove, heartbeatMove, acknackOn}
+use Rattle.moves.specs.Moves.{handleOfKind, parentOf, participantMove, topicNamed, endpointCall, endpointBy, endpointMove, readCall, readOn, droppedMove, heartbeatMove, acknackOn}
 use Rattle.sessions.specs.declared.objects.Object.{Object}
 use Rattle.sessions.proofs.objects.Object as Object-t
 use Rattle.sessions.proofs.objects.Object.Laws as Object-l
@@ -101,6 +101,7 @@ use Rattle.sessions.proofs.objects.Handle.Laws as Handle-l
 use Rattle.moves.specs.declared.names.Names.{Names}
 use Rattle.moves.proofs.names.Names as Names-t
 use Rattle.moves.proofs.names.Names.Laws as Names-l
+use Rattle.moves.specs.declared.names.Names.the-variants.{Both as Names-Both, Unread as Names-Unread}
 use Rattle.sessions.specs.declared.objects.Found.{Found}
 use Rattle.sessions.proofs.objects.Found as Found-t
 use Rattle.sessions.proofs.objects.Found.Laws as Found-l
@@ -108,7 +109,7 @@ use Rattle.sessions.specs.declared.objects.Found.the-variants.{Held as Found-He
 use Rattle.codec.specs.declared.refusals.Refusal.{Refusal}
 use Rattle.codec.proofs.refusals.Refusal as Refusal-t
 use Rattle.codec.proofs.refusals.Refusal.Laws as Refusal-l
-use Rattle.codec.specs.declared.refusals.Refusal.the-variants.{BufferTooShort as Refusal-BufferTooShort, UnknownSubmessageId as Refusal-UnknownSubmessageId, UnknownObjectKind as Refusal-UnknownObjectKind, UnknownStatusCode as Refusal-UnknownStatusCode, PayloadLengthMismatch as Refusal-PayloadLengthMismatch, SessionFull as Refusal-SessionFull, FragmentSizeZero as Refusal-FragmentSizeZero, EmptyPayload as Refusal-EmptyPayload, TooManyFragments as Refusal-TooManyFragments, FragmentNumber as Refusal-FragmentNumber, MissingFragments as Refusal-MissingFragments, TooLong as Refusal-TooLong, OutputTooShort as Refusal-OutputTooShort, StoreFull as Refusal-StoreFull, OutOfTurn as Refusal-OutOfTurn, OverLimit as Refusal-OverLimit, NotInFragments as Refusal-NotInFragments}
+use Rattle.codec.specs.declared.refusals.Refusal.the-variants.{BufferTooShort as Refusal-BufferTooShort, UnknownSubmessageId as Refusal-UnknownSubmessageId, UnknownObjectKind as Refusal-UnknownObjectKind, UnknownStatusCode as Refusal-UnknownStatusCode, PayloadLengthMismatch as Refusal-PayloadLengthMismatch, SessionFull as Refusal-SessionFull, FragmentSizeZero as Refusal-FragmentSizeZero, EmptyPayload as Refusal-EmptyPayload, TooManyFragments as Refusal-TooManyFragments, FragmentNumber as Refusal-FragmentNumber, MissingFragments as Refusal-MissingFragments, TooLong as Refusal-TooLong, OutputTooShort as Refusal-OutputTooShort, StoreFull as Refusal-StoreFull, OutOfTurn as Refusal-OutOfTurn, OverLimit as Refusal-OverLimit, NotInFragments as Refusal-NotInFragments, IllFormed as Refusal-IllFormed}
 use Rattle.sessions.proofs.session_objects.find_object as session-objects-find-object
 use Rattle.sessions.proofs.session_objects.find_object.Symbol as session-objects-find-object-def
 use Rattle.sessions.proofs.session_objects.find_object.Symbol.{name as #session-objects-find-object}
@@ -169,11 +170,8 @@ Handle-of x0 = record { 0 = x0 }
 abbrev Handle-p : Plain
 Handle-p = record { row = Handle-t.the-row; val = LL.val Handle-t.the-type Handle-l.the-laws; tells = LL.tells Handle-t.the-type Handle-l.the-laws; makes = λ 𝓤 H A W. LL.makes Handle-t.the-type Handle-l.the-plain 𝓤 H A; ty = Handle-l.mir; typed = λ 𝓤 H A W x is. LL.lawful Handle-t.the-type Handle-l.the-laws 𝓤 H A W .typed x _ is .0; copies = λ 𝓤 H A W. LL.copy Handle-t.the-type Handle-l.the-copy 𝓤 H A W }
 
-abbrev Names-of : Span → Span → Names
-Names-of x0 x1 = record { name = x0; «type_name» = x1 }
-
 abbrev Names-p : Plain
-Names-p = record { row = Names-t.the-row; val = LL.val Names-t.the-type Names-l.the-laws; tells = LL.tells Names-t.the-type Names-l.the-laws; makes = λ 𝓤 H A W. LL.makes Names-t.the-type Names-l.the-plain 𝓤 H A; ty = Names-l.mir; typed = λ 𝓤 H A W x is. LL.lawful Names-t.the-type Names-l.the-laws 𝓤 H A W .typed x _ is .0; copies = λ 𝓤 H A W. LL.copy Names-t.the-type Names-l.the-copy 𝓤 H A W }
+Names-p = record { row = Names-t.the-row; val = EL.val Names-t.the-type Names-l.the-laws; tells = EL.tells Names-t.the-type Names-l.the-laws; makes = λ 𝓤 H A W. EL.makes Names-t.the-type Names-l.the-plain 𝓤 H A; ty = Names-l.mir; typed = λ 𝓤 H A W x is. EL.lawful Names-t.the-type Names-l.the-laws 𝓤 H A W tt .typed x _ is .0; copies = λ 𝓤 H A W. EL.copy Names-t.the-type Names-l.the-copy 𝓤 H A W }
 
 abbrev Found-p : Plain
 Found-p = record { row = Found-t.the-row; val = EL.val Found-t.the-type Found-l.the-laws; tells = EL.tells Found-t.the-type Found-l.the-laws; makes = λ 𝓤 H A W. EL.makes Found-t.the-type Found-l.the-plain 𝓤 H A; ty = Found-l.mir; typed = λ 𝓤 H A W x is. EL.lawful Found-t.the-type Found-l.the-laws 𝓤 H A W tt .typed x _ is .0; copies = λ 𝓤 H A W. EL.copy Found-t.the-type Found-l.the-copy 𝓤 H A W }

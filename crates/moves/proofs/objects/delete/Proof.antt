@@ -63,7 +63,7 @@ use Rattle.moves.specs.Rows.{okMove, endpointIn, createMove, createdSess
 use Rattle.sessions.specs.SessionObjects.{objectsNamed, usedOf, firstObject, countedSession, keepUsed}
 use Rattle.sessions.specs.Removal.{dependedObject}
 use mathlib.Core.Bool.{cond}
-use Rattle.moves.specs.Moves.{handleOfKind, parentOf, participantMove, endpointCall, endpointBy, endpointMove, readCall, readOn, droppedMove, heartbeatMove, acknackOn}
+use Rattle.moves.specs.Moves.{handleOfKind, parentOf, participantMove, topicNamed, endpointCall, endpointBy, endpointMove, readCall, readOn, droppedMove, heartbeatMove, acknackOn}
 use Rattle.sessions.specs.declared.objects.Object.{Object}
 use Rattle.sessions.proofs.objects.Object as Object-t
 use Rattle.sessions.proofs.objects.Object.Laws as Object-l
@@ -102,7 +102,7 @@ use Rattle.sessions.specs.declared.objects.Taken.the-variants.{Gone as Taken-Go
 use Rattle.codec.specs.declared.refusals.Refusal.{Refusal}
 use Rattle.codec.proofs.refusals.Refusal as Refusal-t
 use Rattle.codec.proofs.refusals.Refusal.Laws as Refusal-l
-use Rattle.codec.specs.declared.refusals.Refusal.the-variants.{BufferTooShort as Refusal-BufferTooShort, UnknownSubmessageId as Refusal-UnknownSubmessageId, UnknownObjectKind as Refusal-UnknownObjectKind, UnknownStatusCode as Refusal-UnknownStatusCode, PayloadLengthMismatch as Refusal-PayloadLengthMismatch, SessionFull as Refusal-SessionFull, FragmentSizeZero as Refusal-FragmentSizeZero, EmptyPayload as Refusal-EmptyPayload, TooManyFragments as Refusal-TooManyFragments, FragmentNumber as Refusal-FragmentNumber, MissingFragments as Refusal-MissingFragments, TooLong as Refusal-TooLong, OutputTooShort as Refusal-OutputTooShort, StoreFull as Refusal-StoreFull, OutOfTurn as Refusal-OutOfTurn, OverLimit as Refusal-OverLimit, NotInFragments as Refusal-NotInFragments}
+use Rattle.codec.specs.declared.refusals.Refusal.the-variants.{BufferTooShort as Refusal-BufferTooShort, UnknownSubmessageId as Refusal-UnknownSubmessageId, UnknownObjectKind as Refusal-UnknownObjectKind, UnknownStatusCode as Refusal-UnknownStatusCode, PayloadLengthMismatch as Refusal-PayloadLengthMismatch, SessionFull as Refusal-SessionFull, FragmentSizeZero as Refusal-FragmentSizeZero, EmptyPayload as Refusal-EmptyPayload, TooManyFragments as Refusal-TooManyFragments, FragmentNumber as Refusal-FragmentNumber, MissingFragments as Refusal-MissingFragments, TooLong as Refusal-TooLong, OutputTooShort as Refusal-OutputTooShort, StoreFull as Refusal-StoreFull, OutOfTurn as Refusal-OutOfTurn, OverLimit as Refusal-OverLimit, NotInFragments as Refusal-NotInFragments, IllFormed as Refusal-IllFormed}
 use Rattle.sessions.proofs.session_objects.remove_object as session-objects-remove-object
 use Rattle.sessions.proofs.session_objects.remove_object.Symbol as session-objects-remove-object-def
 use Rattle.sessions.proofs.session_objects.remove_object.Symbol.{name as #session-objects-remove-object}

@@ -74,7 +74,7 @@ use Rattle.sessions.specs.declared.object_list.Listed.the-variants.{Numbers as 
 use Rattle.codec.specs.declared.refusals.Refusal.{Refusal}
 use Rattle.codec.proofs.refusals.Refusal as Refusal-t
 use Rattle.codec.proofs.refusals.Refusal.Laws as Refusal-l
-use Rattle.codec.specs.declared.refusals.Refusal.the-variants.{BufferTooShort as Refusal-BufferTooShort, UnknownSubmessageId as Refusal-UnknownSubmessageId, UnknownObjectKind as Refusal-UnknownObjectKind, UnknownStatusCode as Refusal-UnknownStatusCode, PayloadLengthMismatch as Refusal-PayloadLengthMismatch, SessionFull as Refusal-SessionFull, FragmentSizeZero as Refusal-FragmentSizeZero, EmptyPayload as Refusal-EmptyPayload, TooManyFragments as Refusal-TooManyFragments, FragmentNumber as Refusal-FragmentNumber, MissingFragments as Refusal-MissingFragments, TooLong as Refusal-TooLong, OutputTooShort as Refusal-OutputTooShort, StoreFull as Refusal-StoreFull, OutOfTurn as Refusal-OutOfTurn, OverLimit as Refusal-OverLimit, NotInFragments as Refusal-NotInFragments}
+use Rattle.codec.specs.declared.refusals.Refusal.the-variants.{BufferTooShort as Refusal-BufferTooShort, UnknownSubmessageId as Refusal-UnknownSubmessageId, UnknownObjectKind as Refusal-UnknownObjectKind, UnknownStatusCode as Refusal-UnknownStatusCode, PayloadLengthMismatch as Refusal-PayloadLengthMismatch, SessionFull as Refusal-SessionFull, FragmentSizeZero as Refusal-FragmentSizeZero, EmptyPayload as Refusal-EmptyPayload, TooManyFragments as Refusal-TooManyFragments, FragmentNumber as Refusal-FragmentNumber, MissingFragments as Refusal-MissingFragments, TooLong as Refusal-TooLong, OutputTooShort as Refusal-OutputTooShort, StoreFull as Refusal-StoreFull, OutOfTurn as Refusal-OutOfTurn, OverLimit as Refusal-OverLimit, NotInFragments as Refusal-NotInFragments, IllFormed as Refusal-IllFormed}
 use Rattle.replay.proofs.events.low_8 as events-low-8
 use Rattle.replay.proofs.events.low_8.Symbol as events-low-8-def
 use Rattle.replay.proofs.events.low_8.Symbol.{name as #events-low-8}

@@ -54,6 +54,9 @@ enum-told-13 c = search needs
 enum-told-14 : tie.Need-enum-told-14
 enum-told-14 c = search needs
 
+enum-told-15 : tie.Need-enum-told-15
+enum-told-15 c = search needs
+
 returns : tie.Need-returns
 returns c = rw (c .before .self .given .1)
 
@@ -105,6 +108,9 @@ returns-16 c = rw (c .enum-told13 .given .1)
 returns-17 : tie.Need-returns-17
 returns-17 c = rw (c .enum-told14 .given .1)
 
+returns-18 : tie.Need-returns-18
+returns-18 c = rw (c .enum-told15 .given .1)
+
 pub byte-spec : {M : Type 1} → statement M
 byte-spec =
     tie.close
@@ -126,6 +132,7 @@ byte-spec =
     enum-told-12
     enum-told-13
     enum-told-14
+    enum-told-15
     returns
     returns-2
     returns-3
@@ -142,4 +149,5 @@ byte-spec =
     returns-14
     returns-15
     returns-16
-    returns-17)
+    returns-17
+    returns-18)

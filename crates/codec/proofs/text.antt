@@ -1,0 +1,4 @@
+-- Laws and theorems of text.
+pub mod Laws
+pub mod Fits
+pub mod Theorems
