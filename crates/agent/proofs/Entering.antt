@@ -19,7 +19,7 @@ use Rattle.moves.specs.declared.handle.Opening.{Opening}
 use Rattle.moves.specs.declared.handle.Opening.the-variants.{Client, Fragment, Other, Unread}
 use Rattle.agent.specs.Lent.{rowsOf, withRows, rebuiltPart}
 use Rattle.agent.specs.Step.{Reply}
-use Rattle.agent.specs.Run.{Turned, isLive, passed, touchedTables, takenOf, wholeLen, leftBy, withActed, wholeTurned, fragmentTurned, subTurned, turned, goesOn, before, runAt}
+use Rattle.agent.specs.Run.{Turned, isLive, passed, takenOf, wholeLen, leftBy, withActed, wholeTurned, fragmentTurned, subTurned, turned, goesOn, before, runAt}
 use Rattle.agent.specs.Legs.{stepOf, plainLeg, Led, ledBy, led, legIn, legAt, legTurned, enterAt, entered}
 use Rattle.agent.specs.declared.leg.Leg.{Leg}
 use Rattle.agent.specs.declared.leg.Mode.the-variants.{Entering}

@@ -21,7 +21,7 @@ use Rattle.agent.specs.Step.{Reply}
 use Rattle.agent.specs.Run.{Turned, Acted, countReplies, putReplies, isLive, passed, takenOf, delivered, insideBy, insideTurned, workIn, workAt, leftBy, withActed, fragmentTurned, subTurned, turned, goesOn, before, runAt}
 use Rattle.agent.specs.Legs.{stepOf, plainLeg, Led, ledBy, led, isKept, isEntering, leadsOn, legIn, legAt, legTurned, keptBy, keptIn}
 use Rattle.agent.specs.declared.leg.Mode.{Mode}
-use Rattle.agent.specs.declared.leg.Mode.the-variants.{Datagram, Rebuilt as RebuiltOnes, Entering}
+use Rattle.agent.specs.declared.leg.Mode.the-variants.{Datagram, Rebuilt as RebuiltOnes}
 use Rattle.agent.specs.declared.leg.Found.{Found}
 use Rattle.agent.specs.declared.leg.Found.the-variants as found
 use Rattle.agent.specs.declared.leg.Leg.{Leg}
@@ -32,7 +32,7 @@ use Rattle.agent.specs.declared.turn.Ran.{Ran}
 use Rattle.agent.specs.declared.turn.Taken.{Taken}
 use Rattle.agent.proofs.Acknacks.{read-says}
 use Rattle.agent.proofs.Counted.{count-behind, put-replies-behind}
-use Rattle.agent.proofs.Loops.{Loop, whole-end, whole-more, whole-told, whole-further, whole-ended, Steps, stepsOf, Left, left-again, left-end}
+use Rattle.agent.proofs.Loops.{Loop, whole-told, whole-further, whole-ended, Steps, stepsOf, Left, left-again, left-end}
 use Rattle.agent.proofs.Turns.{Leaves, passed-leaves, opening-leaves, delivered-leaves, fragment-leaves, goes-within}
 use Rattle.agent.proofs.Running.{idle, run-end, run-more, fragment-held}
 use Rattle.agent.proofs.Written.{gathers, gathered-len}

@@ -1,16 +1,14 @@
 -- A call without rebuilt submessages (W6): no FRAGMENT is among what it handles and none waits, so it is the answer's part and one leg.
-use Prim.Native.Nat.{ℕ, zero, suc, _+_, _-_, _≤_}
-use mathlib.Core.Path.{_≡_, refl, sym, ap, _∙_, subst}
+use Prim.Native.Nat.{ℕ, zero, suc, _+_, _-_}
+use mathlib.Core.Path.{_≡_, refl, sym, ap, _∙_}
 use mathlib.Core.Bool.{Bool, true, false, cond}
 use mathlib.Core.List.{List, [], _++_, append-nil}
 use native.Mathlib.Omega.{arith}
 use lib.ListN.{getD, length}
 use Rattle.codec.specs.Submessages.{idOf}
 use Rattle.codec.specs.Reading.{readAt}
-use Rattle.codec.specs.declared.layouts.Cursor.{Cursor}
 use Rattle.codec.specs.declared.layouts.Parsed.{Parsed}
 use Rattle.codec.specs.declared.layouts.Parsed.the-variants as parsed
-use Rattle.codec.specs.declared.layouts.Span.{Span}
 use Rattle.codec.specs.declared.submessages.Submessage.{Submessage}
 use Rattle.codec.specs.declared.submessages.Submessage.the-variants as sub
 use Rattle.sessions.specs.View.{Tables}
@@ -18,7 +16,7 @@ use Rattle.moves.specs.Rows.{Rows, asksOf}
 use Rattle.agent.specs.Lent.{rowsOf, withRows}
 use Rattle.agent.specs.Step.{Reply, joinedReplies}
 use Rattle.agent.specs.Run.{Turned, Acted, putReplies, takenOf, leftRan, withActed, goesOn, before, runAt}
-use Rattle.agent.specs.Host.{begunBy, rowsBegun, heldBegun, firstRan, withHeld, resumed, performed, oneOf, idsAt, unbound}
+use Rattle.agent.specs.Host.{begunBy, rowsBegun, heldBegun, firstRan, withHeld, performed, oneOf, idsAt, unbound}
 use Rattle.agent.specs.Legs.{stepOf, plainLeg, Led, ledBy, led, isKept, legIn, legAt, legTurned, keptBy, isAnswer, plainly}
 use Rattle.agent.specs.declared.judge.Resumes.{Resumes}
 use Rattle.agent.specs.declared.judge.Resumes.the-variants as resumes
@@ -30,7 +28,7 @@ use Rattle.agent.specs.declared.leg.Mode.the-variants.{Datagram}
 use Rattle.agent.specs.declared.turn.Frame.{Frame}
 use Rattle.agent.specs.declared.turn.Ran.{Ran}
 use Rattle.agent.specs.declared.turn.Taken.{Taken}
-use Rattle.agent.proofs.Acknacks.{Says, read-says, headers-end, ids-read, is-bound}
+use Rattle.agent.proofs.Acknacks.{read-says, headers-end, ids-read, is-bound}
 use Rattle.agent.proofs.Counted.{put-replies-behind}
 use Rattle.agent.proofs.Performed.{begun-counted}
 use Rattle.agent.proofs.Most.{none-waits}

@@ -8,7 +8,7 @@ use lib.ListN.{length}
 use Rattle.sessions.specs.View.{Tables}
 use Rattle.moves.specs.Rows.{Rows}
 use Rattle.agent.specs.Step.{Reply, joinedReplies}
-use Rattle.agent.specs.Lent.{lent, rowsOf, rebuiltEnd}
+use Rattle.agent.specs.Lent.{rowsOf, rebuiltEnd}
 use Rattle.agent.specs.Run.{Turned, Acted, putReplies, before, runAt, workAt, leftRan, leftActed}
 use Rattle.agent.specs.Legs.{Led, legAt, enterAt, entered}
 use Rattle.agent.specs.declared.leg.Mode.the-variants.{Rebuilt}

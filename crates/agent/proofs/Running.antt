@@ -1,43 +1,23 @@
 -- A run over the lent tables: one turn at a time, what it writes; the store of held messages stays.
-use Prim.Native.Nat.{ℕ, zero, suc, _+_, _-_, _*_, _≤_, _<_}
-use mathlib.Core.Path.{_≡_, refl, sym, ap, _∙_, subst}
-use mathlib.Core.Bool.{Bool, true, false, cond, true≢false}
-use mathlib.Core.List.{List, [], _∷_, _++_}
-use native.Mathlib.Omega.{arith}
-use borrow.Author.Tests.{eqb-true, le-ltb, lt-ltb, ltb-true, ltb-false}
-use lib.Dec.{eqb, ltb}
-use lib.ListN.{length, length-append}
-use Rattle.codec.specs.Bytes.{putAt, putBytes}
-use Rattle.codec.specs.Reading.{readAt, Item, items, onward, itemsAt}
-use Rattle.codec.specs.declared.layouts.Cursor.{Cursor}
-use Rattle.codec.specs.declared.layouts.Parsed.{Parsed}
+use Prim.Native.Nat.{ℕ, zero, suc, _+_, _-_}
+use mathlib.Core.Path.{_≡_, refl, _∙_}
+use mathlib.Core.Bool.{Bool, true, false, cond}
+use mathlib.Core.List.{List, [], _++_}
+use lib.ListN.{length}
+use Rattle.codec.specs.Reading.{readAt}
 use Rattle.codec.specs.declared.layouts.Parsed.the-variants as parsed
-use Rattle.codec.specs.declared.layouts.Span.{Span}
-use Rattle.codec.specs.declared.submessages.Submessage.{Submessage}
-use Rattle.codec.proofs.bytes.Laws.{put-fits, put-behind, put-nothing, length-put}
-use Rattle.codec.proofs.reading.Laws.{items-more}
-use Rattle.sessions.specs.Table.{gotOf, namedOf}
 use Rattle.sessions.specs.View.{Tables}
-use Rattle.sessions.specs.declared.table.Got.{Got}
 use Rattle.sessions.specs.declared.table.Got.the-variants as got
-use Rattle.sessions.specs.declared.table.Named.{Named}
 use Rattle.sessions.specs.declared.table.Named.the-variants as named
-use Rattle.agent.specs.Step.{Reply, bytesOf, joinedReplies}
-use Rattle.agent.specs.Lent.{lent}
-use Rattle.agent.specs.Run.{Turned, countReplies, putReplies, takenOf, fragmentTurned, subTurned, turned, goesOn, before, runIn, runAt}
-use Rattle.agent.specs.Answered.{sequenceOf, answeredBy}
-use Rattle.agent.specs.Host.{begunBy, firstRan, performed, asksIn}
+use Rattle.agent.specs.Run.{Turned, countReplies, takenOf, fragmentTurned, subTurned, turned, goesOn, before, runIn, runAt}
 use Rattle.moves.specs.declared.handle.Opening.{Opening}
 use Rattle.moves.specs.declared.handle.Opening.the-variants.{Client, Fragment, Other, Unread}
-use Rattle.agent.specs.declared.judge.Resumes.{Resumes}
 use Rattle.agent.specs.declared.judge.Resumes.the-variants as resumes
-use Rattle.agent.specs.declared.judge.Start.{Start}
 use Rattle.agent.specs.declared.turn.Frame.{Frame}
 use Rattle.agent.specs.declared.turn.Ran.{Ran}
 use Rattle.agent.specs.declared.turn.Taken.{Taken}
-use Rattle.agent.proofs.Counted.{joined-long, put-replies-behind, count-most, count-exact, count-told}
 use Rattle.agent.proofs.Loops.{Loop, whole-end, whole-more, whole-told}
-use Rattle.agent.proofs.Turns.{one-long, none-long, goes-within, turns, turned-at}
+use Rattle.agent.proofs.Turns.{goes-within, turns}
 
 -- ---- one turn at a time
 

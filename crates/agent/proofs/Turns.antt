@@ -57,7 +57,7 @@ use Rattle.moves.specs.Rows.{Rows, asksOf, endpointIn, createMove, roomMove, ha
 use Rattle.moves.specs.RowsStreams.{openedSessions, openedRows, readOf, streamMove, readMove}
 use Rattle.agent.specs.Host.{oneOf}
 use Rattle.agent.specs.Lent.{rowsOf, rebuiltPart}
-use Rattle.agent.specs.Run.{Turned, Acted, counted, countReplies, putReplies, greeting, greetingBytes, idOpened, opening, passed, repliesBy, touchedIn, touchedTables, acted, takenOf, delivered, insideBy, insideTurned, isCall, goesOn, workIn, workAt, enteredRan, leftBy, wholeLen, wholeTurned, fragmentTurned, subTurned, turnedBy, turned}
+use Rattle.agent.specs.Run.{Turned, Acted, counted, countReplies, greeting, greetingBytes, idOpened, opening, passed, repliesBy, touchedIn, touchedTables, takenOf, delivered, insideBy, insideTurned, isCall, goesOn, workIn, workAt, enteredRan, leftBy, wholeLen, fragmentTurned, subTurned, turnedBy, turned}
 use Rattle.agent.specs.Step.{Reply, opened, replied, bytesOf, joinedReplies}
 use Rattle.moves.specs.declared.handle.Asked.{Asked}
 use Rattle.moves.specs.declared.handle.Group.{Group}

@@ -55,7 +55,7 @@ fn is_answer(r: Resumes) -> bool
     }
 }
 
-// A call without rebuilt submessages: the answer's part, if it is one, and one leg. Nearly every call is such a one, so it goes no other way round.
+// A call without rebuilt submessages: the answer's part, if it is one, and one leg. Nearly every call is such a one, so no loop stands round its leg.
 pub(crate) fn perform_plain(
     sessions: &mut [SessionRow],
     streams: &mut [StreamRow],
