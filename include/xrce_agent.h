@@ -2,8 +2,8 @@
  * The C interface of the agent.
  *
  * The host owns everything: it lends the agent's record, the three tables, the stores of held messages and of fragments, the place of
- * rebuilt bytes and an output with each call, and keeps all but the output between calls as the last call left them. Every function answers for every argument. What
- * can't be done is refused with a number of enum xrce_refusal, and a refused call changes no byte of what was lent to it.
+ * rebuilt bytes, the week's minutes and an output with each call, and keeps all but the output between calls as the last call left them. Every function
+ * answers for every argument. What can't be done is refused with a number of enum xrce_refusal, and a refused call changes no byte of what was lent to it.
  *
  * A slice is a pointer and a number of elements. A pointer is never null, not even with 0 elements, and two slices that a function may
  * write share no byte. Nothing is kept of a pointer behind the call.
@@ -37,12 +37,14 @@ enum xrce_refusal {
     XRCE_OUT_OF_TURN = 15,            /* agent call out of turn, or answer of another kind */
     XRCE_OVER_LIMIT = 16,             /* max_clients over 255, lent store under its documented need, or tables altered past a limit */
     XRCE_NOT_IN_FRAGMENTS = 17,       /* a FRAGMENT or CREATE_CLIENT among rebuilt submessages: no call here is refused so */
-    XRCE_ILL_FORMED = 18              /* ill-formed UTF-8: no call here is refused so; a Topic with such names is answered ERR_INVALID_DATA */
+    XRCE_ILL_FORMED = 18,             /* ill-formed UTF-8: no call here is refused so; a Topic with such names is answered ERR_INVALID_DATA */
+    XRCE_WINDOW_FAULT = 19,           /* a window empty, outside the day, overlapping, out of order or a ninth */
+    XRCE_NO_SUCH_MINUTE = 20          /* weekday over 6 or minute over 1,439 */
 };
 
 /* What xrce_process is given. */
 enum xrce_input {
-    XRCE_DATAGRAM = 0,  /* a datagram, with its time */
+    XRCE_DATAGRAM = 0,  /* a datagram, with its time, weekday and minute */
     XRCE_CREATED = 1,   /* the bridge made the entity: its handle */
     XRCE_DONE = 2,      /* the bridge wrote, or deleted */
     XRCE_SAMPLE = 3,    /* the bridge read a sample: its bytes */
@@ -63,7 +65,7 @@ enum xrce_call {
     XRCE_DELETE_ENTITY = 7       /* entity: handle */
 };
 
-/* The agent's record. The first thirteen numbers are the agent between two calls; the others are what the last xrce_agent_process told.
+/* The agent's record. The first fourteen numbers are the agent between two calls; the others are what the last xrce_agent_process told.
  * The functions take a slice of records, and look at the first. */
 struct xrce_agent {
     uint64_t max_clients;
@@ -76,7 +78,8 @@ struct xrce_agent {
     uint64_t stream;
     uint64_t number;
     uint64_t at;       /* the place behind its submessage in the datagram, */
-    uint64_t time;     /* and that datagram's time; */
+    uint64_t time;     /* and that datagram's time, */
+    uint64_t is_open;  /* and 1 if its minute is open; */
     uint64_t left_at;  /* if it was rebuilt from fragments, the place behind it in the rebuilt bytes, */
     uint64_t left_end; /* and how many these are, else 0 */
     uint64_t wrote;    /* the bytes replied, at the start of the output */
@@ -120,6 +123,14 @@ enum { XRCE_PARTS = 32768, XRCE_LENGTHS = 64 };
 /* The place of rebuilt bytes, one for all clients: a call that a rebuilt submessage hands out shows parts of it. */
 enum { XRCE_REBUILT = 32768 };
 
+/* A window in which a weekday is open: the weekday, 0 to 6, and from and to in minutes of the day, 0 to 1,440. With 480 to 1,320, minute 480 is open and
+ * 1,320 closed. The host says which weekday is 0, and whose clock counts. */
+typedef uint16_t xrce_window[3];
+
+/* The week's minutes, a byte each, minute m of weekday d at 1,440 * d + m: 1 where it is open, else 0. xrce_agent_setup writes them, and every other call
+ * only reads them. */
+enum { XRCE_HOURS = 10080 };
+
 /* Of an answer: the refusal (0: none), its byte (with 2, 3 and 4), and the number that comes with "none". */
 static inline unsigned xrce_refused(uint64_t answer) { return (unsigned)(answer % 256); }
 static inline unsigned xrce_byte(uint64_t answer) { return (unsigned)(answer / 256 % 256); }
@@ -130,17 +141,27 @@ uint64_t xrce_need(uint64_t max_clients);
 
 /* Sets the agent up over the tables, whatever stood in them: no session, and every limit as given. The stores and the
  * place of rebuilt bytes are measured, and none of them is looked at or written. Refused: 16, also if they have fewer than
- * XRCE_HELD * max_clients and XRCE_PARTS * max_clients bytes, XRCE_LENGTHS * max_clients lengths and XRCE_REBUILT bytes. */
+ * XRCE_HELD * max_clients and XRCE_PARTS * max_clients bytes, XRCE_LENGTHS * max_clients lengths and XRCE_REBUILT bytes, or `hours` fewer
+ * than XRCE_HOURS bytes; then 19.
+ *
+ * The windows are up to 8 a weekday; those of several weekdays may come mixed. Each begins where the one before it of its weekday ends, or later. They stay
+ * until the next set-up, and are not looked at again: `hours` holds what they say. Without a window no minute is ever open; a host without quiet hours
+ * gives seven, from 0 to 1,440. A lent array of windows may be empty. */
 uint64_t xrce_agent_setup(struct xrce_agent *agent, size_t agents, xrce_session_row *sessions, size_t session_rows, xrce_stream_row *streams,
                           size_t stream_rows, struct xrce_object *objects, size_t object_records, const uint8_t *held, size_t held_bytes,
                           const uint8_t *parts, size_t part_bytes, const uint32_t *lengths, size_t length_count, const uint8_t *rebuilt,
-                          size_t rebuilt_bytes, uint64_t max_clients, uint64_t timeout_ms);
+                          size_t rebuilt_bytes, uint8_t *hours, size_t hours_bytes, const xrce_window *windows, size_t window_count,
+                          uint64_t max_clients, uint64_t timeout_ms);
 
 /*
- * A datagram (input XRCE_DATAGRAM, with its time), or the bridge's answer to the open call (any other input), with the call's datagram lent again,
- * the handle of XRCE_CREATED and the bytes of XRCE_SAMPLE. Replies stand one behind the other at the start of the output, agent->wrote bytes in all,
+ * A datagram (input XRCE_DATAGRAM, with its time, weekday and minute), or the bridge's answer to the open call (any other input), with the call's datagram
+ * lent again, the handle of XRCE_CREATED and the bytes of XRCE_SAMPLE. Replies stand one behind the other at the start of the output, agent->wrote bytes in all,
  * each to be sent to the address that the datagram came from. Where agent->call isn't XRCE_NO_CALL the host makes that call and hands in its answer
- * before anything else. Refused, in this order: 15, 16, 1 to 5, 12, 14, 13.
+ * before anything else. Refused, in this order: 15, 16, 20, 1 to 5, 12, 14, 13.
+ *
+ * WRITE_DATA to a known writer in a closed minute is answered ERR_INCOMPATIBLE, and no call is made; of an unknown writer it is ERR_UNKNOWN_REF at any time.
+ * The datagram's weekday and minute count for all of its submessages, those behind a call and those rebuilt from fragments too: with an answer `hours`,
+ * day and minute are not looked at.
  *
  * On a stream other than 0, DATA has the stream's next number as its sequence and is held: a sample of more than 1,014 bytes is refused as 14 there, and
  * the call stays open. An ACKNACK there is answered by the held messages that it lists. So an output of 2 * the datagram + the sample + 12 bytes is
@@ -154,8 +175,9 @@ uint64_t xrce_agent_setup(struct xrce_agent *agent, size_t agents, xrce_session_
 uint64_t xrce_agent_process(struct xrce_agent *agent, size_t agents, xrce_session_row *sessions, size_t session_rows, xrce_stream_row *streams,
                             size_t stream_rows, struct xrce_object *objects, size_t object_records, uint8_t *held, size_t held_bytes,
                             uint8_t *parts, size_t part_bytes, uint32_t *lengths, size_t length_count, uint8_t *rebuilt,
-                            size_t rebuilt_bytes, uint8_t *out, size_t room, const uint8_t *datagram, size_t datagram_len, const uint8_t *sample,
-                            size_t sample_len, uint8_t input, uint64_t time, uint32_t handle);
+                            size_t rebuilt_bytes, const uint8_t *hours, size_t hours_bytes, uint8_t *out, size_t room,
+                            const uint8_t *datagram, size_t datagram_len, const uint8_t *sample, size_t sample_len, uint8_t input,
+                            uint64_t time, uint8_t day, uint16_t minute, uint32_t handle);
 
 /* Ends a session; the answer's number is 1 if it was live, else 0. No bridge call is made for its objects. Refused: 15, 16. */
 uint64_t xrce_agent_remove(const struct xrce_agent *agent, size_t agents, xrce_session_row *sessions, size_t session_rows, uint8_t id);
@@ -172,13 +194,23 @@ uint64_t xrce_agent_sweep(const struct xrce_agent *agent, size_t agents, xrce_se
 uint64_t xrce_agent_list(const xrce_session_row *sessions, size_t session_rows, const struct xrce_object *objects, size_t object_records,
                          uint16_t *out, size_t room, uint8_t id);
 
+/* The first open minute at or after one, round the week: the answer's number is 0 if no minute is ever open, else 1 more than 1,440 * its weekday + its
+ * minute, which the three functions below take apart. It only reads, takes no agent's record, and is never out of turn: it answers while a call is open.
+ * Refused: 16, 20. */
+uint64_t xrce_agent_first_open(const uint8_t *hours, size_t hours_bytes, uint8_t day, uint16_t minute);
+
+/* Of its answer, where it isn't refused: whether a minute is ever open, and then the weekday and the minute of the first. */
+static inline int xrce_ever_open(uint64_t answer) { return xrce_number(answer) != 0; }
+static inline uint8_t xrce_open_day(uint64_t answer) { return (uint8_t)((xrce_number(answer) - 1) / 1440); }
+static inline uint16_t xrce_open_minute(uint64_t answer) { return (uint16_t)((xrce_number(answer) - 1) % 1440); }
+
 /* For how many clients struct xrce_tables has stores of held messages and of fragments, 1 to 255. A program that needs fewer defines it before it includes
  * this header; xrce_setup refuses a greater max_clients as 16. */
 #ifndef XRCE_MAX_CLIENTS
 #define XRCE_MAX_CLIENTS 255
 #endif
 
-/* Tables of the documented need, the stores and the place of rebuilt bytes: 290,816 bytes, and 147,712 for each of XRCE_MAX_CLIENTS. */
+/* Tables of the documented need, the stores, the place of rebuilt bytes and the week's minutes: 300,896 bytes, and 147,712 for each of XRCE_MAX_CLIENTS. */
 struct xrce_tables {
     xrce_session_row sessions[XRCE_SESSIONS];
     xrce_stream_row streams[XRCE_STREAMS];
@@ -187,28 +219,31 @@ struct xrce_tables {
     uint8_t parts[XRCE_PARTS * XRCE_MAX_CLIENTS];
     uint32_t lengths[XRCE_LENGTHS * XRCE_MAX_CLIENTS];
     uint8_t rebuilt[XRCE_REBUILT];
+    uint8_t hours[XRCE_HOURS];
 };
 
 /* The calls over such tables. */
-static inline uint64_t xrce_setup(struct xrce_agent *a, struct xrce_tables *t, uint64_t max_clients, uint64_t timeout_ms) {
+static inline uint64_t xrce_setup(struct xrce_agent *a, struct xrce_tables *t, const xrce_window *windows, size_t window_count,
+                                  uint64_t max_clients, uint64_t timeout_ms) {
     return xrce_agent_setup(a, 1, t->sessions, XRCE_SESSIONS, t->streams, XRCE_STREAMS, t->objects, XRCE_OBJECTS,
                             t->held, sizeof t->held, t->parts, sizeof t->parts, t->lengths, XRCE_LENGTHS * XRCE_MAX_CLIENTS,
-                            t->rebuilt, sizeof t->rebuilt, max_clients, timeout_ms);
+                            t->rebuilt, sizeof t->rebuilt, t->hours, sizeof t->hours, windows, window_count, max_clients, timeout_ms);
 }
 
 static inline uint64_t xrce_incoming(struct xrce_agent *a, struct xrce_tables *t, uint8_t *out, size_t room, const uint8_t *datagram,
-                                     size_t datagram_len, uint64_t time) {
+                                     size_t datagram_len, uint64_t time, uint8_t day, uint16_t minute) {
     return xrce_agent_process(a, 1, t->sessions, XRCE_SESSIONS, t->streams, XRCE_STREAMS, t->objects, XRCE_OBJECTS,
                               t->held, sizeof t->held, t->parts, sizeof t->parts, t->lengths, XRCE_LENGTHS * XRCE_MAX_CLIENTS,
-                              t->rebuilt, sizeof t->rebuilt, out, room, datagram, datagram_len, datagram, 0, XRCE_DATAGRAM, time, 0);
+                              t->rebuilt, sizeof t->rebuilt, t->hours, sizeof t->hours, out, room, datagram, datagram_len, datagram, 0,
+                              XRCE_DATAGRAM, time, day, minute, 0);
 }
 
 static inline uint64_t xrce_answer(struct xrce_agent *a, struct xrce_tables *t, uint8_t *out, size_t room, const uint8_t *datagram,
                                    size_t datagram_len, enum xrce_input told, uint32_t handle, const uint8_t *sample, size_t sample_len) {
     return xrce_agent_process(a, 1, t->sessions, XRCE_SESSIONS, t->streams, XRCE_STREAMS, t->objects, XRCE_OBJECTS,
                               t->held, sizeof t->held, t->parts, sizeof t->parts, t->lengths, XRCE_LENGTHS * XRCE_MAX_CLIENTS,
-                              t->rebuilt, sizeof t->rebuilt, out, room, datagram, datagram_len, sample, sample_len,
-                              (uint8_t)(told == XRCE_DATAGRAM ? 255 : told), 0, handle);
+                              t->rebuilt, sizeof t->rebuilt, t->hours, sizeof t->hours, out, room, datagram, datagram_len, sample, sample_len,
+                              (uint8_t)(told == XRCE_DATAGRAM ? 255 : told), 0, 0, 0, handle);
 }
 
 static inline uint64_t xrce_remove(const struct xrce_agent *a, struct xrce_tables *t, uint8_t id) {
@@ -226,6 +261,10 @@ static inline const uint8_t *xrce_shown(const struct xrce_agent *a, const struct
 
 static inline uint64_t xrce_list(const struct xrce_tables *t, uint16_t *out, size_t room, uint8_t id) {
     return xrce_agent_list(t->sessions, XRCE_SESSIONS, t->objects, XRCE_OBJECTS, out, room, id);
+}
+
+static inline uint64_t xrce_first_open(const struct xrce_tables *t, uint8_t day, uint16_t minute) {
+    return xrce_agent_first_open(t->hours, sizeof t->hours, day, minute);
 }
 
 #ifdef __cplusplus

@@ -53,7 +53,11 @@ fn accepted<A: Agent>(agent: &mut A, id: u8, object: u16, submessage: &[u8]) {
 
 /// An agent with that many sessions, last active `LATER`, and these objects in each.
 pub fn standing<A: Agent>(sessions: usize, objects: Option<Objects>) -> A {
-    let mut agent = A::new();
+    standing_in(A::new(), sessions, objects)
+}
+
+/// The same in an agent that is there.
+pub fn standing_in<A: Agent>(mut agent: A, sessions: usize, objects: Option<Objects>) -> A {
     agent.set_time(LATER);
     for id in 1..=sessions as u8 {
         accepted(&mut agent, id, 0, &create_client());

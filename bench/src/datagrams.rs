@@ -7,6 +7,8 @@ pub const SUBSCRIBER: u8 = 4;
 pub const WRITER: u8 = 5;
 pub const READER: u8 = 6;
 
+pub const OK: u8 = 0;
+
 /// A submessage: id, no flags, the payload's length, the payload.
 pub fn submessage(id: u8, payload: &[u8]) -> Vec<u8> {
     let mut bytes = vec![id, 0];
@@ -63,9 +65,13 @@ pub fn delete(object: u16) -> Vec<u8> {
     submessage(0x02, &object.to_le_bytes())
 }
 
-/// STATUS OK, as both agents reply it.
+/// STATUS, as both agents reply it.
+pub fn status(object: u16, code: u8) -> Vec<u8> {
+    submessage(0x05, &[&object.to_le_bytes()[..], &[code]].concat())
+}
+
 pub fn status_ok(object: u16) -> Vec<u8> {
-    submessage(0x05, &[&object.to_le_bytes()[..], &[0]].concat())
+    status(object, OK)
 }
 
 pub fn write_data(writer: u16, len: usize) -> Vec<u8> {

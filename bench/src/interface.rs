@@ -3,6 +3,8 @@
 
 pub type SessionRow = [u64; 8];
 pub type StreamRow = [u16; 35];
+/// A window: weekday, from and to.
+pub type Window = [u16; 3];
 
 /// The agent's record.
 #[repr(C)]
@@ -19,6 +21,7 @@ pub struct AgentRecord {
     pub number: u64,
     pub at: u64,
     pub time: u64,
+    pub is_open: u64,
     pub left_at: u64,
     pub left_end: u64,
     pub wrote: u64,
@@ -51,6 +54,12 @@ pub const HELD: usize = 114_688;
 pub const PARTS: usize = 32_768;
 pub const LENGTHS: usize = 64;
 pub const REBUILT: usize = 32_768;
+/// Bytes of the week's minutes.
+pub const HOURS: usize = 10_080;
+
+/// Every minute of the week is open.
+pub const ALL_WEEK: [Window; 7] =
+    [[0, 0, 1440], [1, 0, 1440], [2, 0, 1440], [3, 0, 1440], [4, 0, 1440], [5, 0, 1440], [6, 0, 1440]];
 
 /// What `xrce_agent_process` is given.
 pub const DATAGRAM: u8 = 0;
@@ -88,6 +97,10 @@ extern "C" {
         length_count: usize,
         rebuilt: *const u8,
         rebuilt_bytes: usize,
+        hours: *mut u8,
+        hours_bytes: usize,
+        windows: *const Window,
+        window_count: usize,
         max_clients: u64,
         timeout_ms: u64,
     ) -> u64;
@@ -109,6 +122,8 @@ extern "C" {
         length_count: usize,
         rebuilt: *mut u8,
         rebuilt_bytes: usize,
+        hours: *const u8,
+        hours_bytes: usize,
         out: *mut u8,
         room: usize,
         datagram: *const u8,
@@ -117,6 +132,8 @@ extern "C" {
         sample_len: usize,
         input: u8,
         time: u64,
+        day: u8,
+        minute: u16,
         handle: u32,
     ) -> u64;
 
@@ -147,6 +164,8 @@ extern "C" {
         room: usize,
         id: u8,
     ) -> u64;
+
+    pub fn xrce_agent_first_open(hours: *const u8, hours_bytes: usize, day: u8, minute: u16) -> u64;
 
     pub fn xrce_wire_header(datagram: *const u8, datagram_len: usize) -> u64;
 

@@ -6,6 +6,7 @@ mod clock;
 mod datagrams;
 mod fragments;
 mod goals;
+mod hours;
 mod interface;
 mod machine;
 mod measure;

@@ -34,8 +34,11 @@ pub struct Port {
     parts: Box<[u8]>,
     lengths: Box<[u32]>,
     rebuilt: Box<[u8]>,
+    hours: Box<[u8]>,
     out: Box<[u8; ROOM]>,
     time: u64,
+    /// The weekday and minute of each datagram.
+    minute: (u8, u16),
     /// Where the host reads the machine's clock for each datagram: since when.
     reads_clock: Option<Instant>,
     handles: u32,
@@ -63,6 +66,8 @@ impl Port {
                 self.lengths.len(),
                 self.rebuilt.as_mut_ptr(),
                 self.rebuilt.len(),
+                self.hours.as_ptr(),
+                self.hours.len(),
                 self.out.as_mut_ptr(),
                 ROOM,
                 datagram.as_ptr(),
@@ -71,6 +76,8 @@ impl Port {
                 sample.len(),
                 input,
                 time,
+                self.minute.0,
+                self.minute.1,
                 handle,
             )
         };
@@ -104,11 +111,22 @@ impl Port {
         number(unsafe { xrce_agent_list(sessions, rows, objects, records, out.as_mut_ptr(), out.len(), id) })
     }
 
+    /// From here on datagrams come in that minute.
+    pub fn set_minute(&mut self, day: u8, minute: u16) {
+        self.minute = (day, minute);
+    }
+
+    /// The number that answers the question for the first open minute.
+    pub fn first_open(&self, day: u8, minute: u16) -> usize {
+        // SAFETY: as in `process`; the week's minutes are read alone.
+        number(unsafe { xrce_agent_first_open(self.hours.as_ptr(), self.hours.len(), day, minute) })
+    }
+
     fn replied(&self) -> &[u8] {
         &self.out[..self.agent.wrote as usize]
     }
 
-    fn set_up(&mut self) {
+    fn set_up(&mut self, windows: &[Window]) {
         // SAFETY: as in `process`.
         let answer = unsafe {
             xrce_agent_setup(
@@ -128,16 +146,19 @@ impl Port {
                 self.lengths.len(),
                 self.rebuilt.as_ptr(),
                 self.rebuilt.len(),
+                self.hours.as_mut_ptr(),
+                self.hours.len(),
+                windows.as_ptr(),
+                windows.len(),
                 CLIENTS as u64,
                 TIMEOUT,
             )
         };
         number(answer);
     }
-}
 
-impl Agent for Port {
-    fn new() -> Self {
+    /// An agent without sessions that is open in these windows. Datagrams come in the middle of the week.
+    pub fn within(windows: &[Window]) -> Self {
         let mut port = Self {
             agent: AgentRecord::default(),
             tables: Box::new(Tables {
@@ -149,13 +170,21 @@ impl Agent for Port {
             parts: vec![0; PARTS * CLIENTS].into_boxed_slice(),
             lengths: vec![0; LENGTHS * CLIENTS].into_boxed_slice(),
             rebuilt: vec![0; REBUILT].into_boxed_slice(),
+            hours: vec![0; HOURS].into_boxed_slice(),
             out: Box::new([0; ROOM]),
             time: 0,
+            minute: (3, 720),
             reads_clock: None,
             handles: 0,
         };
-        port.set_up();
+        port.set_up(windows);
         port
+    }
+}
+
+impl Agent for Port {
+    fn new() -> Self {
+        Port::within(&ALL_WEEK)
     }
 
     fn set_time(&mut self, time: u64) {

@@ -59,7 +59,7 @@ fn steps(yard: &Yardsticks) -> String {
     )
 }
 
-/// What the port has alone: how a search differs by place, the listing, repeats, and messages in parts.
+/// What the port has alone: how a search differs by place, the listing, repeats, messages in parts, and quiet hours.
 fn alone(yard: &Yardsticks) -> String {
     yard.alone().join(".\n\n") + ".\n"
 }

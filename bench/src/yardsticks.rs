@@ -5,6 +5,7 @@ use crate::agent_rows::{standing, Objects, FEW, MANY};
 use crate::clock;
 use crate::datagrams::{datagram, status_ok, write_data, PUBLISHER, READER, SUBSCRIBER, WRITER};
 use crate::fragments::{all_of_many, one_of_many, BODY, TOTAL};
+use crate::hours;
 use crate::measure::{batch, turns, Plan};
 use crate::port::{shortest_call, Port};
 use crate::repeats::{read_and_acknowledge, repeat_all};
@@ -38,12 +39,26 @@ pub struct Yardsticks {
     pub message: f64,
     /// The port's WRITE_DATA to the object made last of one, to the last of many, and to the first of many.
     pub found: [f64; 3],
+    /// The port's WRITE_DATA where every minute is open, in the last minute of eight windows, and in a closed one.
+    pub writes: [f64; 3],
+    /// The port's question for the first open minute: the given one, and one that is a week away.
+    pub questions: [f64; 2],
 }
 
 impl Yardsticks {
     /// What the port has alone, a line each.
-    pub fn alone(&self) -> [String; 4] {
-        [self.search(), self.listing(), self.repeats(), self.parts()]
+    pub fn alone(&self) -> [String; 5] {
+        [self.search(), self.listing(), self.repeats(), self.parts(), self.hours()]
+    }
+
+    /// Quiet hours in a line.
+    fn hours(&self) -> String {
+        let ([open, eighth, closed], [here, around]) = (self.writes.map(nanoseconds), self.questions.map(nanoseconds));
+        format!(
+            "Quiet hours, seen in WRITE_DATA of 16 bytes: {open} ns where every minute is open, {eighth} ns in the last minute of eight \
+             windows a day, {closed} ns in a closed minute, where no call is made; the first open minute: {here} ns where it is the given \
+             one, {around} ns where it is a minute before it, and so sought round the week"
+        )
     }
 
     /// Messages in parts in a line. The last FRAGMENT is what the whole takes beyond the others.
@@ -132,8 +147,7 @@ fn writing(count: u16, number: u16) -> Side<Port, Datagrams> {
 }
 
 /// The three in turn, a batch of each, since what matters is how they differ.
-fn found_costs(plan: &Plan) -> [f64; 3] {
-    let mut sides = [writing(1, 1), writing(MANY, MANY), writing(MANY, 1)];
+fn in_turn(plan: &Plan, mut sides: [Side<Port, Datagrams>; 3]) -> [f64; 3] {
     let fills = sides.each_mut().map(|side| turns(side, plan.batch));
     let mut samples = [const { Vec::new() }; 3];
     for _ in 0..plan.passes * plan.rounds {
@@ -167,6 +181,8 @@ pub fn yardsticks(plan: &Plan) -> Yardsticks {
         repeated: cost(plan, repeat_all()),
         fragment: cost(plan, one_of_many()),
         message: cost(plan, all_of_many()),
-        found: found_costs(plan),
+        found: in_turn(plan, [writing(1, 1), writing(MANY, MANY), writing(MANY, 1)]),
+        writes: in_turn(plan, hours::writes()),
+        questions: hours::questions().map(|question| cost(plan, question)),
     }
 }

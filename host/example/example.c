@@ -1,6 +1,6 @@
 /*
- * The smallest host in C: sets an agent up, lets a client open a session and create a participant, lists its objects, and prints what
- * happened.
+ * The smallest host in C: sets an agent up with quiet hours, lets a client open a session and create a participant, lists its objects, asks when
+ * writing is open next, and prints what happened.
  *
  *   cc -Wall -Wextra -Werror -I../../include example.c ../../target/staticlib/libcabi.a -o example
  *
@@ -12,7 +12,7 @@
 #define XRCE_MAX_CLIENTS 4
 #include "xrce_agent.h"
 
-/* What the host owns: the record, the tables (284 KiB) with the stores, and an output. Static, so that nothing large stands on the stack. */
+/* What the host owns: the record, the tables (294 KiB) with the stores, and an output. Static, so that nothing large stands on the stack. */
 static struct xrce_agent agent;
 static struct xrce_tables tables;
 static uint8_t out[512];
@@ -46,9 +46,10 @@ static int make_calls(const uint8_t *datagram, size_t length) {
     return 0;
 }
 
+/* All datagrams here come on weekday 0 at minute 450, half past seven. */
 static int receive(const char *what, const uint8_t *datagram, size_t length, uint64_t time) {
     printf("%s\n", what);
-    uint64_t answer = xrce_incoming(&agent, &tables, out, sizeof out, datagram, length, time);
+    uint64_t answer = xrce_incoming(&agent, &tables, out, sizeof out, datagram, length, time, 0, 450);
     if (xrce_refused(answer) != 0) {
         /* A refused datagram changed nothing and gets no reply; the byte comes with 2, 3 and 4. */
         printf("refused %u, byte %u\n", xrce_refused(answer), xrce_byte(answer));
@@ -62,11 +63,12 @@ int main(void) {
     static const uint8_t open[] = {0, 0, 0, 0, 0x00, 0, 5, 0, 1, 2, 3, 4, 0};
     static const uint8_t create[] = {1, 0, 0, 0, 0x01, 0, 5, 0, 7, 0, 1, 0, 0}; /* object 7, a Participant, domain 0 */
     static const uint8_t unknown[] = {1, 0, 0, 0, 0x03, 0, 0, 0};
+    static const xrce_window windows[] = {{0, 480, 720}, {0, 840, 1320}}; /* weekday 0, eight to noon and two to ten; the others are closed */
     uint8_t ended[255];
     uint16_t numbers[32];
 
     /* A client that is silent for longer than 1,000 ms expires. */
-    if (xrce_refused(xrce_setup(&agent, &tables, XRCE_MAX_CLIENTS, 1000)) != 0) return 1;
+    if (xrce_refused(xrce_setup(&agent, &tables, windows, 2, XRCE_MAX_CLIENTS, 1000)) != 0) return 1;
     printf("set up; %u bytes of tables\n", (unsigned)xrce_number(xrce_need(XRCE_MAX_CLIENTS)));
     if (receive("CREATE_CLIENT at 0 ms", open, sizeof open, 0)) return 1;
     if (receive("CREATE of participant 7 at 5 ms", create, sizeof create, 5)) return 1;
@@ -76,6 +78,11 @@ int main(void) {
     uint64_t listed = xrce_list(&tables, numbers, 32, 1);
     if (xrce_refused(listed) != 0) return 1;
     printf("session 1 has %u object, number %u\n", (unsigned)xrce_number(listed), numbers[0]);
+
+    /* In a closed minute WRITE_DATA to a known writer is answered ERR_INCOMPATIBLE; this one is the next that is open. */
+    uint64_t next = xrce_first_open(&tables, 0, 450);
+    if (xrce_refused(next) != 0 || !xrce_ever_open(next)) return 1;
+    printf("writing is open next on weekday %u at minute %u\n", xrce_open_day(next), xrce_open_minute(next));
 
     uint64_t swept = xrce_sweep(&agent, &tables, ended, sizeof ended, 1006);
     printf("sweep at 1006 ms: %u ended, the first is %u\n", (unsigned)xrce_number(swept), ended[0]);

@@ -1,6 +1,9 @@
 -- W5 for the agent that a host calls, and for the step over lists: what an ACKNACK repeats is byte for byte what the DATA reply of that number was.
+use mathlib.Core.Bool.{Bool}
+use mathlib.Core.List.{List}
 use Prim.Native.Nat.{ℕ}
 use mathlib.Core.Path.{_≡_}
+use Rattle.hours.specs.Windows.{Window, isOpen}
 use Rattle.sessions.specs.View.{Tables}
 use Rattle.agent.specs.Rules.{handlesOf}
 use Rattle.agent.specs.Claim as lists
@@ -13,8 +16,8 @@ use Rattle.agent.proofs.RepeatLaws.{right-of}
 use Rattle.agent.proofs.Term3.{term3, term3-lists}
 
 -- whatever stood in the tables that set-up accepts, for every list of calls behind it
-pub repeats-right : (t : Tables) (max timeout : ℕ) (a : Agent) → setUpWith t max timeout ≡ Ready a → RepeatsRight timeout (whole.agent t max timeout a)
-repeats-right t max timeout a made = right-of timeout (whole.agent t max timeout a) (handlesOf timeout) (term3 t max timeout a made)
+pub repeats-right : (t : Tables) (hours : List ℕ) (ws : List Window) (max timeout : ℕ) (a : Agent) → setUpWith t hours ws max timeout ≡ Ready a → RepeatsRight (isOpen ws) timeout (whole.agent t hours ws max timeout a)
+repeats-right t hours ws max timeout a made = right-of (isOpen ws) timeout (whole.agent t hours ws max timeout a) (handlesOf (isOpen ws) timeout) (term3 t hours ws max timeout a made)
 
-pub repeats-right-lists : (max timeout : ℕ) → RepeatsRight timeout (lists.agent max timeout)
-repeats-right-lists max timeout = right-of timeout (lists.agent max timeout) (handlesOf timeout) (term3-lists max timeout)
+pub repeats-right-lists : (isOpen : ℕ → ℕ → Bool) (max timeout : ℕ) → RepeatsRight isOpen timeout (lists.agent isOpen max timeout)
+repeats-right-lists isOpen max timeout = right-of isOpen timeout (lists.agent isOpen max timeout) (handlesOf isOpen timeout) (term3-lists isOpen max timeout)

@@ -51,7 +51,7 @@ room-of deleting stream number l e = tt
 
 plain-room : (l : Local) (i : In) → Any l → MoveRoom (plain l i)
 plain-room l i e =
-    submessage-cases MoveRoom Any (i .fields) (i .stream) (touched (i .time) l) tt (λ es. tt) tt (λ l′ q. tt) (λ l′ n code q. tt)
+    submessage-cases MoveRoom Any (i .moment .«is_open») (i .fields) (i .stream) (touched (i .moment .time) l) tt (λ es. tt) tt (λ l′ q. tt) (λ l′ n code q. tt)
     (λ l′ n task call q r. (tt, room-of task (i .stream) n l′ r)) (λ first last. tt) (λ p e. tt) (i .body)
 
 handle-room : (l : Local) (i : In) → WorkRoom (handle l i)

@@ -58,7 +58,7 @@ module _ (f : Frame) (d : List ℕ) where
       let nr = x .asked .first in
       let total = x .asked .second in
       let body = partOf d (x .body) in
-      let q = ap (withSessions t) (not-live-touched (t .sessions) id (f .time) (namedOf (t .sessions) id) refl e) in
+      let q = ap (withSessions t) (not-live-touched (t .sessions) id (f .moment .time) (namedOf (t .sessions) id) refl e) in
       let w = not-live-takes (t .sessions) id nr total (length body) (namedOf (t .sessions) id) refl e in
       let g = gather-nothing t id nr total body w in
       ap (λ (u : Tables). wholeTurned f (gatherTables u id nr total body) (wholeLen (gathered (u .sessions) (u .parts) (u .lengths) (u .rebuilt) id nr total body)) r (x .at)) q

@@ -32,6 +32,7 @@ use Rattle.agent.specs.RulesObjects.{Move}
 use Rattle.agent.specs.RulesAnswers.{onAnswer}
 use Rattle.agent.specs.RulesFragments.{Pending, Working, plain, behind, onto, rebuiltFrom, broughtBy, handleBy, handle, resumed}
 use Rattle.agent.specs.Fragments.{Within, Fresh, fragmentOf, feeds, leaves, Missing, Waits, Completes, Fed, begins, other, answer, fragment, slotsFrom, keptAfter, RebuildsRight, RebuildsBodies, RebuildsCut}
+use Rattle.agent.specs.declared.state.Moment.{Moment}
 use Rattle.agent.proofs.MoveCases.{submessage-cases, answer-cases}
 
 -- ---- what leaves the store as it is
@@ -39,7 +40,7 @@ use Rattle.agent.proofs.MoveCases.{submessage-cases, answer-cases}
 -- a submessage as it stands, and an answer
 pub plain-store : (l : Local) (i : In) → leaves (plain l i) .store ≡ l .store
 plain-store l i =
-    submessage-cases (λ m. leaves m .store ≡ l .store) (λ l′. l′ .store ≡ l .store) (i .fields) (i .stream) (touched (i .time) l) refl (λ es. refl) refl (λ l′ q. q)
+    submessage-cases (λ m. leaves m .store ≡ l .store) (λ l′. l′ .store ≡ l .store) (i .moment .«is_open») (i .fields) (i .stream) (touched (i .moment .time) l) refl (λ es. refl) refl (λ l′ q. q)
     (λ l′ n code q. q) (λ l′ n task call q r. q) (λ first last. refl) (λ p e. refl) (i .body)
 
 pub answer-store : (l : Local) (p : moves.Pending) (a : Answer) → leaves (onAnswer l p a) .store ≡ l .store
@@ -81,13 +82,13 @@ other-store l i = by (i .fields)
     by (Acknack p) e = as-it-stands
 
 -- "with total 0, a total over 64, a number not below its total or a longer body it changes nothing but the touch"
-pub only-touched : (l : Local) (time stream : ℕ) (p : FragmentPayload) (body : List ℕ) → feeds (Fragment p) body ≡ false
-    → handle l (inOf time stream (Fragment p) body) ≡ done (touched time l) []
+pub only-touched : (l : Local) (moment : Moment) (stream : ℕ) (p : FragmentPayload) (body : List ℕ) → feeds (Fragment p) body ≡ false
+    → handle l (inOf moment stream (Fragment p) body) ≡ done (touched (moment .time) l) []
 unfolding onto
-only-touched l time stream p body e =
-    let i = inOf time stream (Fragment p) body in
+only-touched l moment stream p body e =
+    let i = inOf moment stream (Fragment p) body in
     let slots = slotsWith (l .store) (p .«fragment_nr») (p .«total_fragments») body in
-    ap (λ (b : Bool). onto (broughtBy i (cond b (wholeOf slots) none)) (done (withStore (touched time l) (cond b (storeBehind (p .«total_fragments») slots (wholeOf slots)) (l .store))) [])) e
+    ap (λ (b : Bool). onto (broughtBy i (cond b (wholeOf slots) none)) (done (withStore (touched (moment .time) l) (cond b (storeBehind (p .«total_fragments») slots (wholeOf slots)) (l .store))) [])) e
 
 pub resumed-store : (l : Local) (p : Pending) (a : Answer) → leaves (resumed l p a) .store ≡ l .store
 resumed-store l p a = onto-store (p .left) (onAnswer l (p .asked) a) ∙ answer-store l (p .asked) a
@@ -158,9 +159,9 @@ missing-or-all (suc n) nrs = by (came n nrs) refl (missing-or-all n nrs)
 -- ---- a fragment of the payload
 
 -- refused bytes bring nothing
-none-brought : (time stream : ℕ) (xs : List Said) (l : Local) → xs ≡ [] → onto (rebuiltFrom time stream xs) (done l []) ≡ done l []
+none-brought : (moment : Moment) (stream : ℕ) (xs : List Said) (l : Local) → xs ≡ [] → onto (rebuiltFrom moment stream xs) (done l []) ≡ done l []
 unfolding onto
-none-brought time stream xs l e = rw e
+none-brought moment stream xs l e = rw e
 
 module _ (bs : List (List ℕ)) (w : Within bs) (st : FragmentStore) (fresh : Fresh bs st) where
   another : Fresh bs st → st .total ≡ length bs → ⊥
@@ -194,23 +195,23 @@ module _ (bs : List (List ℕ)) (w : Within bs) (st : FragmentStore) (fresh : Fr
     bytes-now : gatheredBytes (keptAfter bs st nrs) k (length bs) (getD bs k []) ≡ wholeOf (slotsFrom 0 bs now)
     bytes-now = rw (lets, slots-now)
 
-    module _ (l : Local) (e : l .store ≡ keptAfter bs st nrs) (time stream : ℕ) where
+    module _ (l : Local) (e : l .store ≡ keptAfter bs st nrs) (moment : Moment) (stream : ℕ) where
       abbrev comes-to : Option (List ℕ) → FragmentStore → Working
-      comes-to bytes s = onto (broughtBy (fragmentOf bs k time stream) bytes) (done (withStore (touched time l) s) [])
+      comes-to bytes s = onto (broughtBy (fragmentOf bs k moment stream) bytes) (done (withStore (touched (moment .time) l) s) [])
 
       abbrev Comes : Option (List ℕ) → Type 0
-      Comes bytes = handle l (fragmentOf bs k time stream) ≡ comes-to bytes (storeBehind (length bs) (slotsFrom 0 bs now) bytes)
+      Comes bytes = handle l (fragmentOf bs k moment stream) ≡ comes-to bytes (storeBehind (length bs) (slotsFrom 0 bs now) bytes)
 
       comes-now : Comes (wholeOf (slotsFrom 0 bs now))
       comes-now =
           ap (λ (s : FragmentStore). comes-to (gatheredBytes s k (length bs) (getD bs k [])) (gatheredStore s k (length bs) (getD bs k []))) e
           ∙ (λ j. comes-to (bytes-now j) (store-now j))
 
-      waits-now : Missing (length bs) now → handle l (fragmentOf bs k time stream) ≡ done (withStore (touched time l) (keptAfter bs st now)) []
+      waits-now : Missing (length bs) now → handle l (fragmentOf bs k moment stream) ≡ done (withStore (touched (moment .time) l) (keptAfter bs st now)) []
       unfolding onto
       waits-now m =
           let c : Comes none = rw (whole-missing 0 (m .0) bs now (m .0) (omega arith) (m .1) (m .2)) at comes-now in
-          c ∙ ap (λ (s : FragmentStore). done (withStore (touched time l) s) []) (sym (kept-more nrs k))
+          c ∙ ap (λ (s : FragmentStore). done (withStore (touched (moment .time) l) s) []) (sym (kept-more nrs k))
 
       takes-now : AllCame (length bs) now → Comes (some (joined bs))
       takes-now all = rw (whole-all 0 bs now (λ j h h′. all j (omega arith))) at comes-now
@@ -221,15 +222,15 @@ module _ (bs : List (List ℕ)) (w : Within bs) (st : FragmentStore) (fresh : Fr
       record {
         kept = e;
         either = λ k h. ⊎-elim (λ m. inl (h, m)) (λ all. inr (h, all)) (missing-or-all (length bs) (nrs ++ (k ∷ [])));
-        waits = λ k time stream p. waits-now nrs k (p .0) l e time stream (p .1);
+        waits = λ k moment stream p. waits-now nrs k (p .0) l e moment stream (p .1);
         takes-effect = takes;
-        emptied = λ k time stream p. ap (λ (x : Working). leaves x .store) (takes k time stream p) ∙ onto-store _ _;
-        refused = λ k time stream p r f. takes k time stream p ∙ none-brought time stream (rebuiltReading (joined bs)) _ (reading-refused (joined bs) r f);
+        emptied = λ k moment stream p. ap (λ (x : Working). leaves x .store) (takes k moment stream p) ∙ onto-store _ _;
+        refused = λ k moment stream p r f. takes k moment stream p ∙ none-brought moment stream (rebuiltReading (joined bs)) _ (reading-refused (joined bs) r f);
       }
     where
-      takes : (k time stream : ℕ) → Completes bs nrs k
-          → handle l (fragmentOf bs k time stream) ≡ onto (rebuiltFrom time stream (rebuiltReading (joined bs))) (done (withStore (touched time l) emptyStore) [])
-      takes k time stream p = takes-now nrs k (p .0) l e time stream (p .1)
+      takes : (k : ℕ) (moment : Moment) (stream : ℕ) → Completes bs nrs k
+          → handle l (fragmentOf bs k moment stream) ≡ onto (rebuiltFrom moment stream (rebuiltReading (joined bs))) (done (withStore (touched (moment .time) l) emptyStore) [])
+      takes k moment stream p = takes-now nrs k (p .0) l e moment stream (p .1)
 
 -- ---- the life of a session
 
@@ -238,8 +239,8 @@ module _ (bs : List (List ℕ)) (l : Local) (w : Within bs) (fresh : Fresh bs (l
   fed-store nrs l′ begins = refl
   fed-store nrs l′ (other nrs₀ l₀ i f e) = other-store l₀ i e ∙ fed-store nrs₀ l₀ f
   fed-store nrs l′ (answer nrs₀ l₀ p a f) = resumed-store l₀ p a ∙ fed-store nrs₀ l₀ f
-  fed-store nrs l′ (fragment nrs₀ l₀ k time stream f p) =
-      ap (λ (x : Working). leaves x .store) (waits-now bs w (l .store) fresh nrs₀ k (p .0) l₀ (fed-store nrs₀ l₀ f) time stream (p .1))
+  fed-store nrs l′ (fragment nrs₀ l₀ k moment stream f p) =
+      ap (λ (x : Working). leaves x .store) (waits-now bs w (l .store) fresh nrs₀ k (p .0) l₀ (fed-store nrs₀ l₀ f) moment stream (p .1))
 
 -- "Term 2's sentence on fragments here holds"
 pub rebuilds-right : RebuildsBodies

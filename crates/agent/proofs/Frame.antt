@@ -540,11 +540,11 @@ module _ (f : Frame) (below : f .«session_id» < 256) where
       open-next (created.Opened j next) g = g .1
       open-next (created.Refused x) g = h
 
-      go : (c : Created) → CreatedFits (t .sessions) c → Goes named-id t (record { ran = greeted f r at c; tables = createTables c t key (f .time); replies = opened (idOpened c) ∷ [] })
-      go c g = record { tables-kept = create-kept named-id below c t key (f .time) g; next-low = open-next c g }
+      go : (c : Created) → CreatedFits (t .sessions) c → Goes named-id t (record { ran = greeted f r at c; tables = createTables c t key (f .moment .time); replies = opened (idOpened c) ∷ [] })
+      go c g = record { tables-kept = create-kept named-id below c t key (f .moment .time) g; next-low = open-next c g }
 
   touched-stores : (t : Stores) → StoresKept named-id t (touchedIn f t)
-  touched-stores t = record { own-kept = touched-kept named-id below (t .sessions) (f .time); streams-kept = streams-same named-id (t .streams); objects-kept = records-same named-id (t .objects) }
+  touched-stores t = record { own-kept = touched-kept named-id below (t .sessions) (f .moment .time); streams-kept = streams-same named-id (t .streams); objects-kept = records-same named-id (t .objects) }
 
   passed-acts : (t : Stores) (r : Ran) (a : Acted) → a .rows ≡ t → a .ran .next ≡ r .next → Acts named-id t r a
   passed-acts t r a e n = record { stores-kept = subst (StoresKept named-id t) (sym e) (same-stores named-id t); next-stays = n }
@@ -938,13 +938,13 @@ module _ (f : Frame) (below : f .«session_id» < 256) where
       let n = wholeLen (gathered (u .sessions) (u .parts) (u .lengths) (u .rebuilt) its nr total body) in
       let s = rebuiltPart (v .rebuilt) n in
       let a = left-acts f below (rebuiltOf s) (v .held) s n r (x .at) (rowsOf v) in
-      then-fragments its t u (wholeTurned f v n r (x .at) .tables) (only-sessions its t u refl refl refl (touched-kept its below (t .sessions) (f .time) .1))
+      then-fragments its t u (wholeTurned f v n r (x .at) .tables) (only-sessions its t u refl refl refl (touched-kept its below (t .sessions) (f .moment .time) .1))
       (then-fragments its u v (wholeTurned f v n r (x .at) .tables) (gather-kept its u nr total body) (only-sessions its v (wholeTurned f v n r (x .at) .tables) refl refl refl (a .stores-kept .own-kept .1)))
 
   sub-fragments : (o : Opening) (t : Tables) (d : List ℕ) (r : Ran) (x : Taken) → r .next < 256 → Lives t → FragmentsKept its t (subTurned o f t d r x .tables)
   sub-fragments Client t d r x h e =
       let c = createdOf (t .sessions) (t .streams) (f .«max_clients») (r .next) in
-      only-sessions its t _ refl refl refl (create-stays c t (x .asked .key) (f .time) (created-fits (t .sessions) (t .streams) (f .«max_clients») (r .next) h) e)
+      only-sessions its t _ refl refl refl (create-stays c t (x .asked .key) (f .moment .time) (created-fits (t .sessions) (t .streams) (f .«max_clients») (r .next) h) e)
   sub-fragments Fragment t d r x h e = fragment-fragments t d r x
   sub-fragments Other t d r x h e =
       only-sessions its t _ refl refl refl (delivered-acts f below (namedOf (t .sessions) its) (rowsOf t) (t .held) d r x .stores-kept .own-kept .1)

@@ -2,7 +2,7 @@
 use mathlib.Core.Path.{_≡_, refl, sym, ap}
 use Prim.Native.Nat.{ℕ, _<_, _≤_}
 use native.Mathlib.Omega.{arith}
-use mathlib.Core.Bool.{cond}
+use mathlib.Core.Bool.{Bool, true, cond}
 use mathlib.Core.Option.{Option, none, some, Option·map}
 use mathlib.Core.List.{List, [], _∷_, map}
 use borrow.Author.Tests.{lt-ltb, le-ltb}
@@ -23,10 +23,12 @@ use Rattle.isolation.specs.Claim as claim
 use Rattle.isolation.proofs.Simulation.{none-some}
 use Rattle.isolation.proofs.Refine.{stops}
 use Rattle.isolation.proofs.Theorem.{term3-of}
+use Rattle.hours.specs.Week.{isMinute}
 use Rattle.sessions.specs.Opening.{liveFrom}
 use Rattle.sessions.specs.View.{Local}
 use Rattle.moves.specs.Calls.{created}
 use Rattle.agent.specs.Brings.{Opening, In}
+use Rattle.agent.specs.declared.state.Given.{Given}
 use Rattle.agent.specs.RulesFragments.{onto}
 use Rattle.agent.specs.Rules.{rules, handlesOf}
 use Rattle.agent.specs.Step.{Open, Agent, emptyAgent, nextFree, chosen, opened, run, Event, datagram, answer, removal, sweep, Did, ran, joinedReplies, withTables, begin, step}
@@ -34,12 +36,15 @@ use Rattle.agent.specs.Claim.{Hosted, resultOf, agent}
 use Rattle.agent.proofs.Honest.{honest}
 use Rattle.agent.proofs.InStep.{D, stateOf}
 
--- one client at a time, and a timeout of 9
+-- one client at a time, a timeout of 9, and every minute open
+abbrev always : ℕ → ℕ → Bool
+always day minute = true
+
 abbrev R : iso.Rules
-R = rules 9
+R = rules always 9
 
 abbrev A : claim.Agent R
-A = agent 1 9
+A = agent always 1 9
 
 abbrev Stepped : Type 0
 Stepped = Agent × iso.Result R
@@ -48,7 +53,10 @@ Stepped = Agent × iso.Result R
 abbrev stepping : (Agent → Hosted → Stepped) → claim.Agent R
 stepping f = record { State = Agent; Event = Hosted; empty = A .empty; table = A .table; step = f; host-call = A .host-call }
 
--- ---- the host's calls: datagrams at time 100, and an answer, with room for 64 bytes
+-- ---- the host's calls: datagrams at time 100, on weekday 0 in minute 0, and an answer, with room for 64 bytes
+
+abbrev at-100 : Given
+at-100 = record { time = 100; day = 0; minute = 0 }
 
 abbrev hosted : Event → Hosted
 hosted e = record { event = e; out = replicate 64 0 }
@@ -58,11 +66,11 @@ client-bytes = 1 ∷ 0 ∷ 0 ∷ 0 ∷ 0 ∷ 0 ∷ 5 ∷ 0 ∷ 1 ∷ 2 ∷ 3 ∷
 
 -- CREATE_CLIENT: session 1
 abbrev client : Hosted
-client = hosted (datagram 100 client-bytes)
+client = hosted (datagram at-100 client-bytes)
 
 -- to session 1: the submessages' bytes
 abbrev to-1 : List ℕ → Hosted
-to-1 bytes = hosted (datagram 100 (1 ∷ 0 ∷ 0 ∷ 0 ∷ bytes))
+to-1 bytes = hosted (datagram at-100 (1 ∷ 0 ∷ 0 ∷ 0 ∷ bytes))
 
 -- WRITE_DATA to an object that isn't there
 abbrev write-7 : Hosted
@@ -121,14 +129,14 @@ first-of (gives m) = gives (m .0, take 1 (m .1))
 first-of (refusedAs number byte) = refusedAs number byte
 
 abbrev first-stepped : Option Open → Agent → Event → List ℕ → Did
-first-stepped none st (datagram time bytes) out = begin st out time (first-of (reading bytes))
+first-stepped none st (datagram given bytes) out = begin st out given (first-of (reading bytes))
 first-stepped none st (answer a) out = step st (answer a) out
 first-stepped none st (removal id) out = step st (removal id) out
 first-stepped none st (sweep now) out = step st (sweep now) out
 first-stepped (some w) st e out = step st e out
 
 abbrev first-only : Agent → Hosted → Stepped
-first-only st e = let d = first-stepped (st .waits) st (e .event) (e .out) in (d .agent, resultOf 1 9 (d .agent .waits) (d .result))
+first-only st e = let d = first-stepped (st .waits) st (e .event) (e .out) in (d .agent, resultOf always 1 9 (d .agent .waits) (d .result))
 
 -- it skips the others too: what stands behind a bridge call is forgotten
 abbrev forgot : Open → Open
@@ -156,10 +164,10 @@ pub record ShutOut : Type 0 where
   -- by `alone`: the machine replies to the DELETE too
   pub forgetful-stopped : Stopped forgetful (client ∷ create-1-delete-9 ∷ created-5 ∷ [])
   -- "Term 3 by itself would let the idle ones through": those that refuse, since a refused call feeds the machine nothing.
-  pub refusing-passes : claim.Term3 R (stepping refusing) (handlesOf 9)
+  pub refusing-passes : claim.Term3 R (stepping refusing) (handlesOf always 9)
   -- Term 2 stops them: the code's answer is that of `step`, which opens session 1 where the STATUS has room; nor is "table full" said to this first client.
-  pub client-granted : (max timeout time : ℕ) (out : List ℕ) → 0 < max → 11 ≤ length out
-      → step (emptyAgent max timeout) (datagram time client-bytes) out .result ≡ ran (opened (some 1) ∷ []) none
+  pub client-granted : (max timeout : ℕ) (isOpen : ℕ → ℕ → Bool) (given : Given) (out : List ℕ) → 0 < max → 11 ≤ length out → isMinute (given .day) (given .minute) ≡ true
+      → step (emptyAgent max timeout isOpen) (datagram given client-bytes) out .result ≡ ran (opened (some 1) ∷ []) none
 
 -- what the traces of an agent and of a machine are told apart by: whether the session is live; the code of a first STATUS; the number of replies
 abbrev liveness : Option Local → ℕ
@@ -178,14 +186,14 @@ frauds = record {
   pleased-stopped = λ v. let e : _≡_ {A = ℕ} 0 1 = ap (λ (t : Trace R). first-code (t .replies)) (v .alone (session pleased (write-7 ∷ []) refl refl)) in omega arith;
   first-only-stopped = λ v. let e : _≡_ {A = ℕ} 1 2 = ap (λ (t : Trace R). length (t .replies)) (v .alone (session first-only (delete-8-9 ∷ []) refl refl)) in omega arith;
   forgetful-stopped = λ v. let e : _≡_ {A = ℕ} 1 2 = ap (λ (t : Trace R). length (t .replies)) (v .alone (session forgetful (create-1-delete-9 ∷ created-5 ∷ []) refl refl)) in omega arith;
-  refusing-passes = term3-of R (handlesOf 9) (honest 9) (D 1 9) (stepping refusing) (record {
+  refusing-passes = term3-of R (handlesOf always 9) (honest always 9) (D always 1 9) (stepping refusing) (record {
     Inv = λ st. Unit {0};
     inv-empty = tt;
     inv-step = λ st e v. tt;
-    abs = stateOf 1 9;
+    abs = stateOf always 1 9;
     abs-empty = refl;
     abs-table = λ s st. refl;
     in-step = λ st e v. stops 1 refl refl;
   });
-  client-granted = λ max timeout time out g h. rw (lt-ltb 0 max g, le-ltb (length out) 11 h);
+  client-granted = λ max timeout isOpen given out g h m. rw (m, lt-ltb 0 max g, le-ltb (length out) 11 h);
 }

@@ -1,4 +1,5 @@
 -- The rules are honest about handles: a call has handles of the session's own objects only, and a handle is listed only where a CREATE got it.
+use mathlib.Core.Bool.{Bool}
 use mathlib.Core.Path.{_≡_, refl, ap, _∙_}
 use Prim.Native.Nat.{ℕ}
 use mathlib.Core.Option.{Option, none, some}
@@ -25,9 +26,9 @@ use Rattle.agent.proofs.Held.{put-held, drop-held, Holds, find-held}
 use Rattle.agent.proofs.Parents.{follows}
 use Rattle.agent.proofs.MoveCases.{either, read-cases}
 
-module _ (timeout : ℕ) where
+module _ (isOpen : ℕ → ℕ → Bool) (timeout : ℕ) where
   abbrev Inside : Local → List (ℕ × ℕ) → Type 0
-  Inside l g = Within (rules timeout) (handlesOf timeout) l g
+  Inside l g = Within (rules isOpen timeout) (handlesOf isOpen timeout) l g
 
   abbrev Uses : Local → Call → Type 0
   Uses b c = (x : ℕ) → List·Memᴰ x (handlesIn c) → Holds (b .objects) x
@@ -38,7 +39,7 @@ module _ (timeout : ℕ) where
   FairOne b g (calls l rs c p) = Inside l g × Inside b g × Uses b c
 
   abbrev FairAll : Local → List (ℕ × ℕ) → Working → Type 0
-  FairAll b g m = Fair (rules timeout) (handlesOf timeout) b g m
+  FairAll b g m = Fair (rules isOpen timeout) (handlesOf isOpen timeout) b g m
 
   -- on tables that hold what b holds
   abbrev Good : Local → Move → Type 0
@@ -102,22 +103,22 @@ module _ (timeout : ℕ) where
         (handle-fair (o .handle) _ _
         (λ h q. ((λ y m. drop-held (b .objects) number y m), kept, one-handle b h (find-held (b .objects) number h (rw e q)))) (λ y m. drop-held (b .objects) number y m))
 
-    submessage-fair : (m : Submessage) (body : List ℕ) (stream : ℕ) → Good b (onSubmessage m body stream l)
-    submessage-fair (CreateClient p) body stream = kept
-    submessage-fair (Create p) body stream =
+    submessage-fair : (may : Bool) (m : Submessage) (body : List ℕ) (stream : ℕ) → Good b (onSubmessage may m body stream l)
+    submessage-fair may (CreateClient p) body stream = kept
+    submessage-fair may (Create p) body stream =
         let n = p .«object_id» .0 in
         either (Good b) (full n l) _ _ kept (either (Good b) (hasDependant (b .objects) (findIn (b .objects) n)) _ _ kept (create-fair (p .kind) stream n (p .«parent_id») body))
-    submessage-fair (Delete p) body stream = delete-fair stream (p .«object_id» .0) (findIn (b .objects) (p .«object_id» .0)) refl
-    submessage-fair (Status p) body stream = kept
-    submessage-fair (WriteData p) body stream = let n = p .«writer_id» .0 in handle-fair (handleAt n l) _ _ (λ h e. (kept, kept, one-handle b h (find-held (b .objects) n h e))) kept
-    submessage-fair (ReadData p) body stream =
+    submessage-fair may (Delete p) body stream = delete-fair stream (p .«object_id» .0) (findIn (b .objects) (p .«object_id» .0)) refl
+    submessage-fair may (Status p) body stream = kept
+    submessage-fair may (WriteData p) body stream = let n = p .«writer_id» .0 in handle-fair (handleAt n l) _ _ (λ h e. either (Good b) may _ _ (kept, kept, one-handle b h (find-held (b .objects) n h e)) kept) kept
+    submessage-fair may (ReadData p) body stream =
         let n = p .«reader_id» .0 in
         let own : (h : ℕ) → handleAt n l ≡ some h → Uses b (readData h) = λ h e. one-handle b h (find-held (b .objects) n h e) in
         read-cases (Good b) stream n l kept (λ h e z. (kept, kept, own h e)) kept kept (λ h e k f. (kept, kept, own h e))
-    submessage-fair (Data p) body stream = kept
-    submessage-fair (Heartbeat p) body stream = kept
-    submessage-fair (Acknack p) body stream = kept
-    submessage-fair (Fragment p) body stream = kept
+    submessage-fair may (Data p) body stream = kept
+    submessage-fair may (Heartbeat p) body stream = kept
+    submessage-fair may (Acknack p) body stream = kept
+    submessage-fair may (Fragment p) body stream = kept
 
   -- a DATA reply that is held changes the streams alone
   sample-fair : (l : Local) (stream number : ℕ) (d : List ℕ) (x : Option KeptStream) → Good l (sampleOn stream number d x l)
@@ -150,7 +151,7 @@ module _ (timeout : ℕ) where
   -- ---- rebuilt submessages behind it
 
   plain-fair : (l : Local) (i : In) → Good l (plain l i)
-  plain-fair l i = submessage-fair l (i .time) (i .fields) (i .body) (i .stream)
+  plain-fair l i = submessage-fair l (i .moment .time) (i .moment .«is_open») (i .fields) (i .body) (i .stream)
 
   -- what may be held may be more
   widened : (l : Local) (g : List (ℕ × ℕ)) → Inside l g → (m : Move) → Good l m → FairOne l g m
@@ -191,7 +192,7 @@ module _ (timeout : ℕ) where
       onto-fair (p .left) l (grantedBy (p .asked .task) (p .asked .number) a ++ handlesHeld (l .objects)) (onAnswer l (p .asked) a)
       (answer-fair l (p .asked .stream) (p .asked .number) (p .asked .task) a)
 
-  pub honest : Honest (rules timeout) (handlesOf timeout)
+  pub honest : Honest (rules isOpen timeout) (handlesOf isOpen timeout)
   honest = record {
     starts = λ i o y m. m;
     on-submessages = λ l i. handle-all l i (i .fields);

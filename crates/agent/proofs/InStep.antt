@@ -1,4 +1,4 @@
--- The agent goes in step with `isolation`'s reference agent over the same rules: the same runs, and 15, 12, 14 and 13 refused besides.
+-- The agent goes in step with `isolation`'s reference agent over the same rules: the same runs, and 15, 20, 12, 14 and 13 refused besides.
 use mathlib.Core.Path.{_≡_, refl, sym, ap, _∙_, subst}
 use Prim.Native.Nat.{ℕ, zero, suc, _+_}
 use mathlib.Core.Bool.{Bool, true, false, cond}
@@ -16,26 +16,28 @@ use Rattle.isolation.specs.Rules as iso
 use Rattle.isolation.specs.Claim as claim
 use Rattle.isolation.proofs.Reference as ref
 use Rattle.isolation.proofs.Refine.{InStep, stops, goes, Refines}
+use Rattle.hours.specs.Week.{isMinute}
 use Rattle.sessions.specs.Opening.{after, liveFrom}
 use Rattle.sessions.specs.View.{Local, absent}
 use Rattle.moves.specs.Calls.{Call, Answer, fits}
 use Rattle.moves.specs.Replies.{clientBytes}
-use Rattle.agent.specs.Brings.{Opening, In, parsedAs, messageFrom}
+use Rattle.agent.specs.Brings.{Opening, In, momentOf, parsedAs, messageFrom}
 use Rattle.agent.specs.RulesFragments.{Working, handle, resumed}
 use Rattle.agent.specs.Rules.{rules}
 use Rattle.agent.specs.Step.{Tables, Open, Agent, nextFree, chosen, openAs, Reply, opened, replied, Ran, behind, keep, act, deliver, run, continued, Event, datagram, answer, removal, sweep, Result, refused, ran, removed, swept, Did, refuse, finish, joinedReplies, callOf, openOf, withTables, settle, begin, tooLong, overHeld, withId, isLive, stays, lapsedIds, withLocals, stepped, step}
+use Rattle.agent.specs.declared.state.Given.{Given}
 use Rattle.agent.specs.Claim.{Hosted, hostCall, outOf, askedOf, resultOf, agent}
 
-module _ (max timeout : ℕ) where
+module _ (isOpen : ℕ → ℕ → Bool) (max timeout : ℕ) where
   abbrev R : iso.Rules
-  R = rules timeout
+  R = rules isOpen timeout
 
   -- 255 ids, and "`max_clients` sessions live"
   abbrev pub D : ref.Admission R
   D = record { top = 255; admits = λ ls o. ltb (length ls) max }
 
   abbrev pub A : claim.Agent R
-  A = agent max timeout
+  A = agent isOpen max timeout
 
   abbrev pub B : claim.Agent R
   B = ref.reference R D
@@ -52,10 +54,10 @@ module _ (max timeout : ℕ) where
   stateOf st = record { tables = tablesOf (st .tables); wait = Option·map waitOf (st .waits) }
 
   abbrev outs : List Reply → List (iso.Out R)
-  outs rs = map (outOf max timeout) rs
+  outs rs = map (outOf isOpen max timeout) rs
 
   abbrev asked : Option (Call × Open) → Option (iso.Asked R)
-  asked x = askedOf max timeout (openOf x) (callOf x)
+  asked x = askedOf isOpen max timeout (openOf x) (callOf x)
 
   abbrev ranOf : Ran → ref.Ran R D
   ranOf r = record { tables = tablesOf (r .tables); wait = Option·map waitOf (openOf (r .stop)); outs = outs (r .replies); call = asked (r .stop) }
@@ -127,11 +129,11 @@ module _ (max timeout : ℕ) where
   -- ---- one call
 
   abbrev resultIn : Did → iso.Result R
-  resultIn d = resultOf max timeout (d .agent .waits) (d .result)
+  resultIn d = resultOf isOpen max timeout (d .agent .waits) (d .result)
 
-  -- the limits stay
+  -- the limits stay, and so does which minutes are open
   abbrev Limits : Agent → Agent → Type 0
-  Limits st st′ = (st′ .max ≡ st .max) × (st′ .timeout ≡ st .timeout)
+  Limits st st′ = (st′ .max ≡ st .max) × (st′ .timeout ≡ st .timeout) × (st′ .isOpen ≡ st .isOpen)
 
   -- refused, and nothing changed; or as the reference agent
   abbrev Goes : Agent → Did → ref.State R D × iso.Result R → Type 0
@@ -141,7 +143,7 @@ module _ (max timeout : ℕ) where
   refuse-goes st out number byte x = inl (number, refl, refl)
 
   finish-goes : (st : Agent) (out : List ℕ) (st′ : Agent) (bytes : List ℕ) (q : Result) (r : ref.State R D × iso.Result R)
-      → stateOf st′ ≡ r .0 → resultOf max timeout (st′ .waits) q ≡ r .1 → Limits st st′ → Goes st (finish st out st′ bytes q) r
+      → stateOf st′ ≡ r .0 → resultOf isOpen max timeout (st′ .waits) q ≡ r .1 → Limits st st′ → Goes st (finish st out st′ bytes q) r
   finish-goes st out st′ bytes q r e f z = go (ltb (length out) (length bytes))
     where
       go : (b : Bool) → Goes st (cond b (refuse st out 13 0) (record { agent = st′; out = putAt out 0 bytes; result = q })) r
@@ -151,31 +153,39 @@ module _ (max timeout : ℕ) where
   settle-goes : (st : Agent) (out : List ℕ) (r : Ran) (q : ref.Ran R D) → ranOf r ≡ q → Goes st (settle st out r) (ref.settle R D q)
   settle-goes st out r q e =
       finish-goes st out (withTables st (r .tables) (openOf (r .stop))) (joinedReplies (r .replies)) (ran (r .replies) (callOf (r .stop))) (ref.settle R D q)
-      (ap (λ (q : ref.Ran R D). ref.settle R D q .0) e) (ap (λ (q : ref.Ran R D). ref.settle R D q .1) e) (refl, refl)
+      (ap (λ (q : ref.Ran R D). ref.settle R D q .0) e) (ap (λ (q : ref.Ran R D). ref.settle R D q .1) e) (refl, refl, refl)
 
-  -- the state with this limit and this timeout
+  -- the state with this limit, this timeout and these open minutes
   abbrev made : Tables → Option Open → Agent
-  made t w = record { max = max; timeout = timeout; tables = t; waits = w }
+  made t w = record { max = max; timeout = timeout; isOpen = isOpen; tables = t; waits = w }
 
-  begin-goes : (t : Tables) (out : List ℕ) (time : ℕ) (x : Read (MessageHeader × List Said)) → let st = made t none in Goes st (begin st out time x) (ref.begin R D (stateOf st) (parsedAs time x))
-  begin-goes t out time (refusedAs number byte) = refuse-goes (made t none) out number byte (ref.begin R D (stateOf (made t none)) none)
-  begin-goes t out time (gives x) =
-      let m = messageFrom time (x .0) (x .1) in
+  begin-goes : (t : Tables) (out : List ℕ) (given : Given) (x : Read (MessageHeader × List Said))
+      → let st = made t none in Goes st (begin st out given x) (ref.begin R D (stateOf st) (parsedAs (momentOf isOpen given) x))
+  begin-goes t out given (refusedAs number byte) = refuse-goes (made t none) out number byte (ref.begin R D (stateOf (made t none)) none)
+  begin-goes t out given (gives x) =
+      let m = messageFrom (momentOf isOpen given) (x .0) (x .1) in
       settle-goes (made t none) out (run max (m .header) (m .subs) t) (ref.run R D (m .header) (m .subs) (tablesOf t)) (run-same (m .header) (m .subs) t)
 
   stays-same : (now : ℕ) (x : Option Local) → stays timeout now x ≡ ref.stays R D now x
   stays-same now none = refl
   stays-same now (some l) = refl
 
-  stepped-goes : (t : Tables) (w : Option Open) (e : Event) (out : List ℕ) → let st = made t w in Goes st (stepped w st e out) (ref.stepped R D (Option·map waitOf w) (stateOf st) (hostCall max timeout e))
-  stepped-goes t none (datagram time bytes) out = begin-goes t out time (reading bytes)
+  stepped-goes : (t : Tables) (w : Option Open) (e : Event) (out : List ℕ) → let st = made t w in Goes st (stepped w st e out) (ref.stepped R D (Option·map waitOf w) (stateOf st) (hostCall isOpen max timeout e))
+  stepped-goes t none (datagram given bytes) out = go (isMinute (given .day) (given .minute))
+    where
+      st : Agent
+      st = made t none
+
+      go : (b : Bool) → Goes st (cond b (begin st out given (reading bytes)) (refuse st out 20 0)) (ref.begin R D (stateOf st) (parsedAs (momentOf isOpen given) (reading bytes)))
+      go true = begin-goes t out given (reading bytes)
+      go false = refuse-goes st out 20 0 _
   stepped-goes t none (answer a) out = refuse-goes (made t none) out 15 0 _
-  stepped-goes t none (removal id) out = finish-goes (made t none) out (withLocals (made t none) (withId id none (t .at))) [] (removed (isLive (t .at id))) _ refl refl (refl, refl)
+  stepped-goes t none (removal id) out = finish-goes (made t none) out (withLocals (made t none) (withId id none (t .at))) [] (removed (isLive (t .at id))) _ refl refl (refl, refl, refl)
   stepped-goes t none (sweep now) out =
       let ids = lapsedIds timeout now (t .at) in
       finish-goes (made t none) out (withLocals (made t none) (λ i. stays timeout now (t .at i))) ids (swept ids)
-      (ref.stepped R D none (stateOf (made t none)) (iso.sweep now)) (λ j. record { tables = record { next = t .next; at = λ i. stays-same now (t .at i) j }; wait = none }) refl (refl, refl)
-  stepped-goes t (some w) (datagram time bytes) out = refuse-goes (made t (some w)) out 15 0 _
+      (ref.stepped R D none (stateOf (made t none)) (iso.sweep now)) (λ j. record { tables = record { next = t .next; at = λ i. stays-same now (t .at i) j }; wait = none }) refl (refl, refl, refl)
+  stepped-goes t (some w) (datagram given bytes) out = refuse-goes (made t (some w)) out 15 0 _
   stepped-goes t (some w) (answer a) out = go (fits (w .pending .asked .task) a) (tooLong (w .pending .asked) a) (overHeld w a t)
     where
       st : Agent
@@ -190,35 +200,37 @@ module _ (max timeout : ℕ) where
   stepped-goes t (some w) (sweep now) out = refuse-goes (made t (some w)) out 15 0 _
 
   abbrev pub Inv : Agent → Type 0
-  Inv st = (st .max ≡ max) × (st .timeout ≡ timeout)
+  Inv st = (st .max ≡ max) × (st .timeout ≡ timeout) × (st .isOpen ≡ isOpen)
 
-  step-goes : (st : Agent) (e : Event) (out : List ℕ) → Inv st → Goes st (step st e out) (B .step (stateOf st) (hostCall max timeout e))
+  step-goes : (st : Agent) (e : Event) (out : List ℕ) → Inv st → Goes st (step st e out) (B .step (stateOf st) (hostCall isOpen max timeout e))
   unfolding step ref.step
-  step-goes st e out (p, q) =
-      subst (λ (m : ℕ). let st′ : Agent = record { max = m; timeout = st .timeout; tables = st .tables; waits = st .waits } in
-      Goes st′ (stepped (st .waits) st′ e out) (ref.stepped R D (Option·map waitOf (st .waits)) (stateOf st) (hostCall max timeout e))) (sym p)
-      (subst (λ (s : ℕ). let st′ : Agent = record { max = max; timeout = s; tables = st .tables; waits = st .waits } in
-      Goes st′ (stepped (st .waits) st′ e out) (ref.stepped R D (Option·map waitOf (st .waits)) (stateOf st) (hostCall max timeout e))) (sym q)
-      (stepped-goes (st .tables) (st .waits) e out))
+  step-goes st e out (p, q, o) =
+      subst (λ (m : ℕ). let st′ : Agent = record { max = m; timeout = st .timeout; isOpen = st .isOpen; tables = st .tables; waits = st .waits } in
+      Goes st′ (stepped (st .waits) st′ e out) (ref.stepped R D (Option·map waitOf (st .waits)) (stateOf st) (hostCall isOpen max timeout e))) (sym p)
+      (subst (λ (s : ℕ). let st′ : Agent = record { max = max; timeout = s; isOpen = st .isOpen; tables = st .tables; waits = st .waits } in
+      Goes st′ (stepped (st .waits) st′ e out) (ref.stepped R D (Option·map waitOf (st .waits)) (stateOf st) (hostCall isOpen max timeout e))) (sym q)
+      (subst (λ (f : ℕ → ℕ → Bool). let st′ : Agent = record { max = max; timeout = timeout; isOpen = f; tables = st .tables; waits = st .waits } in
+      Goes st′ (stepped (st .waits) st′ e out) (ref.stepped R D (Option·map waitOf (st .waits)) (stateOf st) (hostCall isOpen max timeout e))) (sym o)
+      (stepped-goes (st .tables) (st .waits) e out)))
 
   pub in-step : (st : Agent) (e : Hosted) → Inv st → InStep R A B stateOf st e
   in-step st e v = go (step-goes st (e .event) (e .out) v)
     where
-      go : Goes st (step st (e .event) (e .out)) (B .step (stateOf st) (hostCall max timeout (e .event))) → InStep R A B stateOf st e
+      go : Goes st (step st (e .event) (e .out)) (B .step (stateOf st) (hostCall isOpen max timeout (e .event))) → InStep R A B stateOf st e
       go (inl (n, r, z)) = stops n r (ap stateOf z)
-      go (inr (s, r, z)) = goes (hostCall max timeout (e .event)) refl s r
+      go (inr (s, r, z)) = goes (hostCall isOpen max timeout (e .event)) refl s r
 
   pub inv-step : (st : Agent) (e : Hosted) → Inv st → Inv (A .step st e .0)
   inv-step st e v = go (step-goes st (e .event) (e .out) v)
     where
-      go : Goes st (step st (e .event) (e .out)) (B .step (stateOf st) (hostCall max timeout (e .event))) → Inv (step st (e .event) (e .out) .agent)
+      go : Goes st (step st (e .event) (e .out)) (B .step (stateOf st) (hostCall isOpen max timeout (e .event))) → Inv (step st (e .event) (e .out) .agent)
       go (inl (n, r, z)) = rw z v
-      go (inr (s, r, z)) = (z .0 ∙ v .0, z .1 ∙ v .1)
+      go (inr (s, r, z)) = (z .0 ∙ v .0, z .1 ∙ v .1, z .2 ∙ v .2)
 
   pub refines : Refines R A B
   refines = record {
     Inv = Inv;
-    inv-empty = (refl, refl);
+    inv-empty = (refl, refl, refl);
     inv-step = inv-step;
     abs = stateOf;
     abs-empty = refl;

@@ -19,7 +19,7 @@ use Rattle.codec.proofs.rebuilt.Laws.{rebuilt-reads}
 use Rattle.codec.specs.declared.header.MessageHeader.{MessageHeader}
 use Rattle.codec.specs.declared.reading.Checked.{Checked}
 use Rattle.codec.specs.declared.reading.Checked.the-variants as checked
-use Rattle.codec.specs.declared.refusals.Refusal.the-variants.{BufferTooShort, OverLimit, TooLong, OutOfTurn, StoreFull}
+use Rattle.codec.specs.declared.refusals.Refusal.the-variants.{BufferTooShort, OverLimit, TooLong, OutOfTurn, StoreFull, NoSuchMinute}
 use Rattle.streams.specs.declared.sent.Slot.{Slot}
 use Rattle.streams.specs.declared.sent.Slot.the-variants as slot
 use Rattle.sessions.specs.Limits.{limitsOf}
@@ -35,6 +35,11 @@ use Rattle.moves.specs.Proxy.{answerAs, taskAs}
 use Rattle.moves.specs.Answers.{saysOf}
 use Rattle.agent.specs.Answered.{saysFits}
 use Rattle.agent.specs.Lent.{rebuiltPart}
+use Rattle.hours.specs.Windows.{weekMinutes}
+use Rattle.hours.specs.Week.{isMinute, openIn}
+use Rattle.agent.specs.Brings.{momentOf}
+use Rattle.agent.specs.declared.state.Given.{Given}
+use Rattle.agent.specs.declared.state.Moment.{Moment}
 use Rattle.agent.specs.Judge.{answersOf, turnOf, sessionOf, streamOf, recordSound, datagramStart, checkedJudged, datagramJudged, tooLong, answerSlot, slotOf, answerStart, placedJudged, restJudged, headerOf, isRead, leftKept, answerJudged, judgedBy, judgeOf, partsOf}
 use Rattle.agent.specs.Host.{resumesFit}
 use Rattle.agent.specs.declared.judge.Input.{Input}
@@ -195,7 +200,7 @@ module _ (t : Tables) (p : Pending) (n : ℕ) where
   says-fits Deleting NoSample e k = refl
   says-fits Deleting Failed e k = refl
 
-module _ (t : Tables) (d : List ℕ) (a : Agent) (sample room : ℕ) where
+module _ (t : Tables) (hours d : List ℕ) (a : Agent) (given : Given) (sample room : ℕ) where
   abbrev Long : Type 0
   Long = stores.Long (length (t .sessions)) (length (t .streams)) (length (t .objects)) (length (t .held)) (length (t .parts)) (length (t .lengths)) (length (t .rebuilt)) (a .«max_clients»)
 
@@ -228,19 +233,25 @@ module _ (t : Tables) (d : List ℕ) (a : Agent) (sample room : ℕ) where
         room-is = r;
       }
 
-  checked-sound : Long → (time : ℕ) (c : Checked) → Counts d 4 c → Lets (checkedJudged a time room c)
-  checked-sound k time (checked.Message h n) e = sound-start k (datagramStart a time h room) n refl (none-wait (t .rebuilt)) refl tt e refl
-  checked-sound k time (checked.Refused r) e = tt
+  checked-sound : Long → (moment : Moment) (c : Checked) → Counts d 4 c → Lets (checkedJudged a moment room c)
+  checked-sound k moment (checked.Message h n) e = sound-start k (datagramStart a moment h room) n refl (none-wait (t .rebuilt)) refl tt e refl
+  checked-sound k moment (checked.Refused r) e = tt
 
-  datagram-sound : (time id n : ℕ) → Lets (datagramJudged d a (within-at id n) time room)
-  datagram-sound time id n = go (within-at id n) refl
+  datagram-sound : (id n : ℕ) → Lets (datagramJudged hours d a (within-at id n) given room)
+  datagram-sound id n = go (within-at id n) refl
     where
-      within : Long → (b : Bool) → Lets (cond b (checkedJudged a time room (checkOf d)) (judged.Refused OverLimit))
-      within k true = checked-sound k time (checkOf d) (counted-whole d)
-      within k false = tt
+      moment : Moment
+      moment = momentOf (openIn hours) given
 
-      go : (l : Limits) → within-at id n ≡ l → Lets (datagramJudged d a l time room)
-      go limits.Within e = within (long-of id n e) (recordSound a)
+      within : Long → (b w m : Bool)
+          → Lets (cond b (cond w (judged.Refused OverLimit) (cond m (checkedJudged a moment room (checkOf d)) (judged.Refused NoSuchMinute))) (judged.Refused OverLimit))
+      within k true true m = tt
+      within k true false true = checked-sound k moment (checkOf d) (counted-whole d)
+      within k true false false = tt
+      within k false w m = tt
+
+      go : (l : Limits) → within-at id n ≡ l → Lets (datagramJudged hours d a l given room)
+      go limits.Within e = within (long-of id n e) (recordSound a) (ltb (length hours) weekMinutes) (isMinute (given .day) (given .minute))
       go (limits.Refused r) e = tt
 
   module _ (p : Pending) (b : BridgeAnswer) (f : fits (taskAs (p .task)) (answerAs b []) ≡ true) where
@@ -278,7 +289,7 @@ module _ (t : Tables) (d : List ℕ) (a : Agent) (sample room : ℕ) where
         go (limits.Refused r) e = tt
 
   abbrev TurnSound : Turn → Type 0
-  TurnSound x = Lets (judgedBy d (t .rebuilt) a (within-at (sessionOf d x) (streamOf d x)) x sample (slotOf x (t .sessions) (t .streams) (length (t .held)) sample) room)
+  TurnSound x = Lets (judgedBy hours d (t .rebuilt) a (within-at (sessionOf d x) (streamOf d x)) x given sample (slotOf x (t .sessions) (t .streams) (length (t .held)) sample) room)
 
   answers-sound : (p : Pending) (b : BridgeAnswer) → TurnSound (answersOf p b)
   answers-sound p b = go (fits (taskAs (p .task)) (answerAs b [])) refl
@@ -288,14 +299,14 @@ module _ (t : Tables) (d : List ℕ) (a : Agent) (sample room : ℕ) where
       go false f = tt
 
   turn-sound : (w : Waiting) (i : Input) → TurnSound (turnOf w i)
-  turn-sound waiting.Nothing (input.Datagram time) = datagram-sound time (sessionOf d (turn.Datagram time)) (streamOf d (turn.Datagram time))
+  turn-sound waiting.Nothing input.Datagram = datagram-sound (sessionOf d turn.Datagram) (streamOf d turn.Datagram)
   turn-sound waiting.Nothing (input.Answer b) = tt
-  turn-sound (waiting.Call p) (input.Datagram time) = tt
+  turn-sound (waiting.Call p) input.Datagram = tt
   turn-sound (waiting.Call p) (input.Answer b) = answers-sound p b
 
-  judge-sound : (i : Input) → Lets (judgeOf t d a i sample room)
+  judge-sound : (i : Input) → Lets (judgeOf t hours d a i given sample room)
   unfolding judgeOf
   judge-sound i = turn-sound (a .waits) i
 
-  pub judged-goes : (i : Input) (x : Start) (n : ℕ) → judgeOf t d a i sample room ≡ judged.Goes x n → Sound t d sample room x n
+  pub judged-goes : (i : Input) (x : Start) (n : ℕ) → judgeOf t hours d a i given sample room ≡ judged.Goes x n → Sound t d sample room x n
   judged-goes i x n e = subst (JudgedSound t d sample room) e (judge-sound i)

@@ -17,7 +17,9 @@ use Rattle.codec.specs.declared.header.MessageHeader.{MessageHeader}
 use Rattle.codec.specs.declared.submessages.StatusCode.{StatusCode}
 use Rattle.moves.specs.Calls.{fits}
 use Rattle.moves.specs.Replies.{statusBytes, acknackBytes}
-use Rattle.agent.specs.Brings.{messageFrom}
+use Rattle.hours.specs.Week.{isMinute}
+use Rattle.agent.specs.declared.state.Given.{Given}
+use Rattle.agent.specs.Brings.{momentOf, messageFrom}
 use Rattle.agent.specs.Step.{Open, Agent, withId, Ran, run, continued, Event, datagram, answer, removal, sweep, Result, refused, ran, removed, swept, Did, refuse, finish, joinedReplies, callOf, openOf, withTables, settle, begin, tooLong, overHeld, isLive, stays, lapsedIds, withLocals, stepped, step}
 
 -- ---- a refused call changes nothing; the output keeps its length
@@ -60,18 +62,22 @@ finish-keeps st out st′ bytes q w = go (ltb (length out) (length bytes)) refl
 settle-keeps : (st : Agent) (out : List ℕ) (r : Ran) → Kept st out (settle st out r)
 settle-keeps st out r = finish-keeps st out (withTables st (r .tables) (openOf (r .stop))) (joinedReplies (r .replies)) (ran (r .replies) (callOf (r .stop))) refl
 
-begin-keeps : (st : Agent) (out : List ℕ) (time : ℕ) (x : Read (MessageHeader × List Said)) → Kept st out (begin st out time x)
-begin-keeps st out time (refusedAs number byte) = refuse-keeps st out number byte
-begin-keeps st out time (gives x) = let m = messageFrom time (x .0) (x .1) in settle-keeps st out (run (st .max) (m .header) (m .subs) (st .tables))
+begin-keeps : (st : Agent) (out : List ℕ) (given : Given) (x : Read (MessageHeader × List Said)) → Kept st out (begin st out given x)
+begin-keeps st out given (refusedAs number byte) = refuse-keeps st out number byte
+begin-keeps st out given (gives x) = let m = messageFrom (momentOf (st .isOpen) given) (x .0) (x .1) in settle-keeps st out (run (st .max) (m .header) (m .subs) (st .tables))
 
 stepped-keeps : (w : Option Open) (st : Agent) (e : Event) (out : List ℕ) → Kept st out (stepped w st e out)
-stepped-keeps none st (datagram time bytes) out = begin-keeps st out time (reading bytes)
+stepped-keeps none st (datagram given bytes) out = go (isMinute (given .day) (given .minute))
+  where
+    go : (b : Bool) → Kept st out (cond b (begin st out given (reading bytes)) (refuse st out 20 0))
+    go true = begin-keeps st out given (reading bytes)
+    go false = refuse-keeps st out 20 0
 stepped-keeps none st (answer a) out = refuse-keeps st out 15 0
 stepped-keeps none st (removal id) out = finish-keeps st out (withLocals st (withId id none (st .tables .at))) [] (removed (isLive (st .tables .at id))) refl
 stepped-keeps none st (sweep now) out =
     let ids = lapsedIds (st .timeout) now (st .tables .at) in
     finish-keeps st out (withLocals st (λ i. stays (st .timeout) now (st .tables .at i))) ids (swept ids) refl
-stepped-keeps (some w) st (datagram time bytes) out = refuse-keeps st out 15 0
+stepped-keeps (some w) st (datagram given bytes) out = refuse-keeps st out 15 0
 stepped-keeps (some w) st (answer a) out = go (fits (w .pending .asked .task) a) (tooLong (w .pending .asked) a) (overHeld w a (st .tables))
   where
     go : (b c d : Bool) → Kept st out (cond b (cond c (refuse st out 12 0) (cond d (refuse st out 14 0) (settle st out (continued (st .max) w a (st .tables))))) (refuse st out 15 0))

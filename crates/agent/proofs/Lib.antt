@@ -3,6 +3,7 @@
 pub mod Held
 pub mod Parents
 pub mod Named
+pub mod Hours
 pub mod MoveCases
 pub mod Honest
 pub mod InStep

@@ -68,7 +68,7 @@ module _ (P : Move → Type 0) where
         named (some h) e = from h e (eqb stream 0) refl
 
 -- Q is what holds of the tables that a rule leaves: as they were, with other objects, or with the stream opened
-module _ (P : Move → Type 0) (Q : Local → Type 0) (m : Submessage) (stream : ℕ) (l : Local)
+module _ (P : Move → Type 0) (Q : Local → Type 0) (isOpen : Bool) (m : Submessage) (stream : ℕ) (l : Local)
     (same : Q l) (listed : (es : List Entry) → Q (withObjects l es)) (opened : Q (opening stream l))
     (silent : (l′ : Local) → Q l′ → P (done l′ []))
     (saying : (l′ : Local) (number : ℕ) (code : StatusCode) → Q l′ → P (says stream number code l′))
@@ -109,17 +109,17 @@ module _ (P : Move → Type 0) (Q : Local → Type 0) (m : Submessage) (stream :
       either P (dependantIn (l .objects) e) _ _ (saying l number ErrIncompatible same)
       (handle (e .handle) _ _ (λ h. asking (dropping number l) number deleting _ q tt) (saying (dropping number l) number Ok q))
 
-  pub submessage-cases : (body : List ℕ) → P (onSubmessage m body stream l)
+  pub submessage-cases : (body : List ℕ) → P (onSubmessage isOpen m body stream l)
   submessage-cases body = by m refl
     where
-      by : (x : Submessage) → m ≡ x → P (onSubmessage x body stream l)
+      by : (x : Submessage) → m ≡ x → P (onSubmessage isOpen x body stream l)
       by (sub.CreateClient p) e = silent l same
       by (sub.Create p) e =
           let n = p .«object_id» .0 in limit (p .kind) n (p .«parent_id») body (full n l) (hasDependant (l .objects) (findIn (l .objects) n)) refl
       by (sub.Delete p) e = delete (p .«object_id» .0) (findIn (l .objects) (p .«object_id» .0))
       by (sub.Status p) e = silent l same
       by (sub.WriteData p) e =
-          let n = p .«writer_id» .0 in handle (handleAt n l) _ _ (λ h. asking l n writing _ same tt) (saying l n ErrUnknownRef same)
+          let n = p .«writer_id» .0 in handle (handleAt n l) _ _ (λ h. either P isOpen _ _ (asking l n writing _ same tt) (saying l n ErrIncompatible same)) (saying l n ErrUnknownRef same)
       by (sub.ReadData p) e =
           let n = p .«reader_id» .0 in
           read-cases P stream n l (saying l n ErrUnknownRef same) (λ h f z. asking l n reading (readData h) same (inl z))

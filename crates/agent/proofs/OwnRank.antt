@@ -18,6 +18,7 @@ use Rattle.codec.specs.declared.submessages.Submessage.{Submessage}
 use Rattle.codec.specs.declared.submessages.Submessage.the-variants as sub
 use Rattle.isolation.specs.Rules.{done, calls, Sub, opens, names}
 use Rattle.isolation.specs.Claim as claim
+use Rattle.hours.specs.Windows.{Window, isOpen}
 use Rattle.sessions.specs.View.{Tables as Stores, Entry, KeptStream, Local, blankEntry, placeIn, findIn, putEntry, putIn, dropAt, dropIn, streamIn, expired}
 use Rattle.sessions.specs.Dependants.{dependantIn, hasDependant}
 use Rattle.sessions.specs.ObjectList.{rankOf}
@@ -30,7 +31,9 @@ use Rattle.agent.specs.Local.{full, touched, handleAt}
 use Rattle.agent.specs.Parents.{handlesNamed}
 use Rattle.agent.specs.RulesObjects.{Move, ifHandle, ifHandles, createFor, deleteFound, Names, namesOf, createNamed}
 use Rattle.agent.specs.RulesAnswers.{sampleOn, answerOf, onAnswer}
-use Rattle.agent.specs.Brings.{Opening, In, messageFrom}
+use Rattle.hours.specs.Week.{isMinute}
+use Rattle.agent.specs.declared.state.Given.{Given}
+use Rattle.agent.specs.Brings.{Opening, In, momentOf, messageFrom}
 use Rattle.agent.specs.RulesFragments.{Pending, Working, onSubmessage, plain, handle, resumed}
 use Rattle.agent.specs.Rules.{rules}
 use Rattle.agent.specs.Step as step
@@ -168,22 +171,22 @@ module _ (l : Local) (g : Good l) (stream number : ℕ) where
   answer-good deleting o noSample = g
   answer-good deleting o failed = g
 
-submessage-good : (m : Submessage) (body : List ℕ) (stream : ℕ) (l : Local) → Good l → MoveGood (onSubmessage m body stream l)
-submessage-good (sub.Create p) body stream l g =
+submessage-good : (isOpen : Bool) (m : Submessage) (body : List ℕ) (stream : ℕ) (l : Local) → Good l → MoveGood (onSubmessage isOpen m body stream l)
+submessage-good isOpen (sub.Create p) body stream l g =
     let n = p .«object_id» .0 in
     either MoveGood (full n l) _ _ g (either MoveGood (hasDependant (l .objects) (findIn (l .objects) n)) _ _ g (create-good l g stream n (p .kind) (p .«parent_id») body))
-submessage-good (sub.Delete p) body stream l g = delete-good l g stream (p .«object_id» .0) (findIn (l .objects) (p .«object_id» .0))
-submessage-good (sub.WriteData p) body stream l g = if-handle (handleAt (p .«writer_id» .0) l) _ _ (λ h. (g, tt)) g
-submessage-good (sub.ReadData p) body stream l g = read-cases MoveGood stream (p .«reader_id» .0) l g (λ h e z. (g, tt)) g g (λ h e k f. (g, tt))
-submessage-good (sub.Heartbeat p) body stream l g = g
-submessage-good (sub.Acknack p) body stream l g = g
-submessage-good (sub.Data p) body stream l g = g
-submessage-good (sub.Status p) body stream l g = g
-submessage-good (sub.CreateClient p) body stream l g = g
-submessage-good (sub.Fragment p) body stream l g = g
+submessage-good isOpen (sub.Delete p) body stream l g = delete-good l g stream (p .«object_id» .0) (findIn (l .objects) (p .«object_id» .0))
+submessage-good isOpen (sub.WriteData p) body stream l g = if-handle (handleAt (p .«writer_id» .0) l) _ _ (λ h. either MoveGood isOpen _ _ (g, tt) g) g
+submessage-good isOpen (sub.ReadData p) body stream l g = read-cases MoveGood stream (p .«reader_id» .0) l g (λ h e z. (g, tt)) g g (λ h e k f. (g, tt))
+submessage-good isOpen (sub.Heartbeat p) body stream l g = g
+submessage-good isOpen (sub.Acknack p) body stream l g = g
+submessage-good isOpen (sub.Data p) body stream l g = g
+submessage-good isOpen (sub.Status p) body stream l g = g
+submessage-good isOpen (sub.CreateClient p) body stream l g = g
+submessage-good isOpen (sub.Fragment p) body stream l g = g
 
 plain-good : (l : Local) (i : In) → Good l → MoveGood (plain l i)
-plain-good l i g = submessage-good (i .fields) (i .body) (i .stream) (touched (i .time) l) g
+plain-good l i g = submessage-good (i .moment .«is_open») (i .fields) (i .body) (i .stream) (touched (i .moment .time) l) g
 
 resumed-good : (l : Local) (p : Pending) (a : Answer) → Good l → TaskOwn (p .asked .task) → WorkGood (resumed l p a)
 resumed-good l p a g o = onto-leaves Good Owns plain-good (p .left) (onAnswer l (p .asked) a) (answer-good l g (p .asked .stream) (p .asked .number) (p .asked .task) o a)
@@ -250,10 +253,10 @@ settle-good : (st : step.Agent) (out : List ℕ) (r : Ran) → AgentGood st → 
 settle-good st out r g h =
     finish-good st out (step.withTables st (r .tables) (step.openOf (r .stop))) (step.joinedReplies (r .replies)) (step.ran (r .replies) (step.callOf (r .stop))) g h
 
-begin-good : (st : step.Agent) (out : List ℕ) (time : ℕ) (x : Read (MessageHeader × List Said)) → AgentGood st → AgentGood (begin st out time x .agent)
-begin-good st out time (refusedAs number byte) g = g
-begin-good st out time (gives x) g =
-    let m = messageFrom time (x .0) (x .1) in settle-good st out (run (st .max) (m .header) (m .subs) (st .tables)) g (run-good (st .max) (m .header) (m .subs) (st .tables) (g .0))
+begin-good : (st : step.Agent) (out : List ℕ) (given : Given) (x : Read (MessageHeader × List Said)) → AgentGood st → AgentGood (begin st out given x .agent)
+begin-good st out given (refusedAs number byte) g = g
+begin-good st out given (gives x) g =
+    let m = messageFrom (momentOf (st .isOpen) given) (x .0) (x .1) in settle-good st out (run (st .max) (m .header) (m .subs) (st .tables)) g (run-good (st .max) (m .header) (m .subs) (st .tables) (g .0))
 
 stays-good : (timeout now : ℕ) (x : Option Local) → OptGood x → OptGood (stays timeout now x)
 stays-good timeout now none p = tt
@@ -264,14 +267,18 @@ stays-good timeout now (some l) p = by (expired l now timeout)
     by false = p
 
 stepped-good : (w : Option Open) (st : step.Agent) (e : step.Event) (out : List ℕ) → AgentGood st → WaitGood w → AgentGood (step.stepped w st e out .agent)
-stepped-good none st (step.datagram time bytes) out g o = begin-good st out time (reading bytes) g
+stepped-good none st (step.datagram given bytes) out g o = by (isMinute (given .day) (given .minute))
+  where
+    by : (b : Bool) → AgentGood ((cond b (begin st out given (reading bytes)) (step.refuse st out 20 0)) .agent)
+    by true = begin-good st out given (reading bytes) g
+    by false = g
 stepped-good none st (step.answer a) out g o = g
 stepped-good none st (step.removal id) out g o =
     finish-good st out (step.withLocals st (step.withId id none (st .tables .at))) [] (step.removed (step.isLive (st .tables .at id))) g (with-good id none (st .tables .at) tt (g .0), tt)
 stepped-good none st (step.sweep now) out g o =
     let is = step.lapsedIds (st .timeout) now (st .tables .at) in
     finish-good st out (step.withLocals st (λ i. stays (st .timeout) now (st .tables .at i))) is (step.swept is) g ((λ i. stays-good (st .timeout) now (st .tables .at i) (g .0 i)), tt)
-stepped-good (some w) st (step.datagram time bytes) out g o = g
+stepped-good (some w) st (step.datagram given bytes) out g o = g
 stepped-good (some w) st (step.answer a) out g o = by (fits (w .pending .asked .task) a) (step.tooLong (w .pending .asked) a) (step.overHeld w a (st .tables))
   where
     by : (b c d : Bool)
@@ -289,21 +296,21 @@ step-good st e out g = stepped-good (st .waits) st e out g (g .1)
 
 -- ---- after any list of calls
 
-module _ (t : Stores) (max timeout : ℕ) (a : Agent) (made : setUpWith t max timeout ≡ Ready a) where
-  abbrev A : claim.Agent (rules timeout)
-  A = whole.agent t max timeout a
+module _ (t : Stores) (hours : List ℕ) (ws : List Window) (max timeout : ℕ) (a : Agent) (made : setUpWith t hours ws max timeout ≡ Ready a) where
+  abbrev A : claim.Agent (rules (isOpen ws) timeout)
+  A = whole.agent t hours ws max timeout a
 
-  good-after : (H : List Hosted) (p : claim.Point (rules timeout) A) → Holds t max timeout a made (p .state) → AgentGood (agentOf (p .state)) → AgentGood (agentOf (claim.reached (rules timeout) A p H .state))
+  good-after : (H : List Hosted) (p : claim.Point (rules (isOpen ws) timeout) A) → Holds t hours ws max timeout a made (p .state) → AgentGood (agentOf (p .state)) → AgentGood (agentOf (claim.reached (rules (isOpen ws) timeout) A p H .state))
   good-after [] p v g = g
   good-after (e ∷ H) p v g =
-      good-after H (claim.next (rules timeout) A p e) (holds-step t max timeout a made (p .state) e v)
+      good-after H (claim.next (rules (isOpen ws) timeout) A p e) (holds-step t hours ws max timeout a made (p .state) e v)
       (subst AgentGood (sym (step-square (p .state) (v .0) (e .event) (e .out) .agent)) (step-good (agentOf (p .state)) (eventOf (e .event)) (e .out) g))
 
   empty-good : AgentGood (agentOf (A .empty))
-  empty-good = subst AgentGood (sym (empty-square t max timeout a made .agent)) ((λ id. tt), tt)
+  empty-good = subst AgentGood (sym (empty-square t hours ws max timeout a made .agent)) ((λ id. tt), tt)
 
-  pub own-rank : (H : List Hosted) (id : ℕ) (l : Local) → sessionIn (stateAfter t max timeout a made H .tables) id ≡ some l → (n : ℕ) (e : Entry) → findIn (l .objects) n ≡ some e → rankOf (e .kind) ≡ e .kind
+  pub own-rank : (H : List Hosted) (id : ℕ) (l : Local) → sessionIn (stateAfter t hours ws max timeout a made H .tables) id ≡ some l → (n : ℕ) (e : Entry) → findIn (l .objects) n ≡ some e → rankOf (e .kind) ≡ e .kind
   own-rank H id l q n e f =
       let m = found-among (l .objects) n e f .0 in
-      let g : Each (l .objects) = subst OptGood q (good-after H (claim.set-up (rules timeout) A) (holds-empty t max timeout a made) empty-good .0 id) in
+      let g : Each (l .objects) = subst OptGood q (good-after H (claim.set-up (rules (isOpen ws) timeout) A) (holds-empty t hours ws max timeout a made) empty-good .0 id) in
       subst Own (m .is) (each-at (l .objects) (m .at) (m .inside) g)

@@ -16,7 +16,7 @@ use Rattle.codec.specs.Refusals.{numberOf, byteOf}
 use Rattle.codec.specs.declared.bytes.Written.the-variants as written
 use Rattle.codec.specs.declared.reading.Checked.{Checked}
 use Rattle.codec.specs.declared.reading.Checked.the-variants as checked
-use Rattle.codec.specs.declared.refusals.Refusal.the-variants.{OutOfTurn, OverLimit, TooLong, StoreFull, OutputTooShort}
+use Rattle.codec.specs.declared.refusals.Refusal.the-variants.{OutOfTurn, OverLimit, TooLong, StoreFull, OutputTooShort, NoSuchMinute}
 use Rattle.streams.specs.Places.{firstFrom, inLimits, placeFor}
 use Rattle.streams.specs.Sent.{need, slotFor}
 use Rattle.streams.specs.declared.sent.Slot.{Slot}
@@ -38,10 +38,15 @@ use Rattle.moves.specs.declared.proxy.BridgeAnswer.the-variants.{Created, Done,
 use Rattle.agent.specs.Step as step
 use Rattle.agent.specs.Step.{Reply, joinedReplies}
 use Rattle.agent.specs.Run.{Turned}
+use Rattle.hours.specs.Windows.{weekMinutes}
+use Rattle.hours.specs.Week.{isMinute, openIn}
+use Rattle.agent.specs.Brings.{momentOf}
+use Rattle.agent.specs.declared.state.Given.{Given}
+use Rattle.agent.specs.declared.state.Moment.{Moment}
 use Rattle.agent.specs.Judge.{recordSound, soundOf, turnOf, sessionOf, streamOf, headerOf, tooLong, slotOf, answerStart, placedJudged, checkedJudged, leftKept, restJudged, judgedBy, judgeOf}
 use Rattle.agent.specs.Lent.{rebuiltPart}
 use Rattle.agent.specs.Host as host
-use Rattle.agent.specs.Host.{performed, finishedOf, finish, processedBy, processOf, idleOf, removedAs, removedBy, removedRows, sweptBy}
+use Rattle.agent.specs.Host.{performed, finishedOf, finish, processedBy, processOf, idleOf, removedAs, removedBy, removedRows, sweptBy, noGiven}
 use Rattle.agent.specs.Whole.{State, Event, datagram, answer, removal, sweep, Did, callBytes, didBy, removedResult, sweptResult, withRows, stepOf}
 use Rattle.agent.specs.declared.agent.Idle.{Idle}
 use Rattle.agent.specs.declared.agent.Idle.the-variants as idle
@@ -117,19 +122,19 @@ not-limit e = omega arith
 not-turn : numberOf OutOfTurn ≢ 13
 not-turn e = omega arith
 
-checked-not : (a : Agent) (time room : ℕ) (s : List ℕ) (m : Message) → InMessage s m → Not13 (checkedJudged a time room (checkedOf m))
-checked-not a time room s (message h xs) k = tt
-checked-not a time room s (refused r) k = let z = k .most in λ e. omega (arith, z, e)
+checked-not : (a : Agent) (moment : Moment) (room : ℕ) (s : List ℕ) (m : Message) → InMessage s m → Not13 (checkedJudged a moment room (checkedOf m))
+checked-not a moment room s (message h xs) k = tt
+checked-not a moment room s (refused r) k = let z = k .most in λ e. omega (arith, z, e)
 
 abbrev TurnNot : Turn → Type 0
-TurnNot (turn.Datagram time) = Unit {0}
+TurnNot turn.Datagram = Unit {0}
 TurnNot (turn.Answer p b) = Unit {0}
 TurnNot (turn.Refused r) = numberOf r ≢ 13
 
 in-turn : (w : Waiting) (i : Input) → TurnNot (turnOf w i)
-in-turn waiting.Nothing (input.Datagram time) = tt
+in-turn waiting.Nothing input.Datagram = tt
 in-turn waiting.Nothing (input.Answer b) = not-turn
-in-turn (waiting.Call p) (input.Datagram time) = not-turn
+in-turn (waiting.Call p) input.Datagram = not-turn
 in-turn (waiting.Call p) (input.Answer b) = by (fits (taskAs (p .task)) (answerAs b []))
   where
     by : (e : Bool) → TurnNot (cond e (turn.Answer p b) (turn.Refused OutOfTurn))
@@ -180,7 +185,7 @@ data-slot-not sessions streams held id n len =
     by true true false false false f l e h u = rw (f, l, e, h, u) tt
 
 slot-not : (x : Turn) (s y : List (List ℕ)) (held n : ℕ) → SlotNot (slotOf x s y held n)
-slot-not (turn.Datagram time) s y held n = tt
+slot-not turn.Datagram s y held n = tt
 slot-not (turn.Answer p Sample) s y held n =
     either-not (eqb (p .«stream_id») 0) _ _ tt (either-not (ltb 1014 n) _ _ not-full (data-slot-not s y held (p .«session_id») (p .«stream_id») (10 + n)))
 slot-not (turn.Answer p (Created h)) s y held n = tt
@@ -189,14 +194,20 @@ slot-not (turn.Answer p NoSample) s y held n = tt
 slot-not (turn.Answer p Failed) s y held n = tt
 slot-not (turn.Refused r) s y held n = tt
 
-turn-not : (d rebuilt : List ℕ) (a : Agent) (l : Limits) (x : Turn) (n : ℕ) (y : Slot) (room : ℕ) → TurnNot x → SlotNot y → Not13 (judgedBy d rebuilt a l x n y room)
+turn-not : (hours d rebuilt : List ℕ) (a : Agent) (l : Limits) (x : Turn) (given : Given) (n : ℕ) (y : Slot) (room : ℕ) → TurnNot x → SlotNot y → Not13 (judgedBy hours d rebuilt a l x given n y room)
 unfolding checkOf
-turn-not d rebuilt a l (turn.Datagram time) n y room h k = by (soundOf a l)
+turn-not hours d rebuilt a l turn.Datagram given n y room h k = by (soundOf a l) (ltb (length hours) weekMinutes) (isMinute (given .day) (given .minute))
   where
-    by : (b : Bool) → Not13 (cond b (checkedJudged a time room (checkOf d)) (judged.Refused OverLimit))
-    by true = checked-not a time room d (messageOf d) (message-wire d)
-    by false = not-limit
-turn-not d rebuilt a l (turn.Answer p b) n y room h k = by (soundOf a l) (leftKept (rebuiltPart rebuilt (p .«left_end»)) p) (ltb (length d) (p .at)) (countAt (headerOf p) d (p .at))
+    moment : Moment
+    moment = momentOf (openIn hours) given
+
+    by : (b c e : Bool)
+        → Not13 (cond b (cond c (judged.Refused OverLimit) (cond e (checkedJudged a moment room (checkOf d)) (judged.Refused NoSuchMinute))) (judged.Refused OverLimit))
+    by true true e = not-limit
+    by true false true = checked-not a moment room d (messageOf d) (message-wire d)
+    by true false false = λ z. omega arith
+    by false c e = not-limit
+turn-not hours d rebuilt a l (turn.Answer p b) given n y room h k = by (soundOf a l) (leftKept (rebuiltPart rebuilt (p .«left_end»)) p) (ltb (length d) (p .at)) (countAt (headerOf p) d (p .at))
   where
     placed : (y : Slot) → SlotNot y → (m : ℕ) → Not13 (placedJudged y (judged.Goes (answerStart a p b room) m))
     placed (slot.At i) k m = tt
@@ -217,21 +228,27 @@ turn-not d rebuilt a l (turn.Answer p b) n y room h k = by (soundOf a l) (leftKe
     by true true false c = rest c
     by true false e c = not-limit
     by false w e c = not-limit
-turn-not d rebuilt a l (turn.Refused r) n y room h k = h
+turn-not hours d rebuilt a l (turn.Refused r) given n y room h k = h
 
 -- and it does not look at the room
 abbrev atRoom : Judged → ℕ → Judged
 atRoom (judged.Goes x n) room = judged.Goes (startAt x room) n
 atRoom (judged.Refused r) room = judged.Refused r
 
-turn-room : (d rebuilt : List ℕ) (a : Agent) (l : Limits) (x : Turn) (n : ℕ) (y : Slot) (room : ℕ) → judgedBy d rebuilt a l x n y room ≡ atRoom (judgedBy d rebuilt a l x n y 0) room
-turn-room d rebuilt a l (turn.Datagram time) n y room = by (soundOf a l) (checkOf d)
+turn-room : (hours d rebuilt : List ℕ) (a : Agent) (l : Limits) (x : Turn) (given : Given) (n : ℕ) (y : Slot) (room : ℕ) → judgedBy hours d rebuilt a l x given n y room ≡ atRoom (judgedBy hours d rebuilt a l x given n y 0) room
+turn-room hours d rebuilt a l turn.Datagram given n y room = by (soundOf a l) (ltb (length hours) weekMinutes) (isMinute (given .day) (given .minute)) (checkOf d)
   where
-    by : (b : Bool) (c : Checked) → cond b (checkedJudged a time room c) (judged.Refused OverLimit) ≡ atRoom (cond b (checkedJudged a time 0 c) (judged.Refused OverLimit)) room
-    by true (checked.Message h m) = refl
-    by true (checked.Refused r) = refl
-    by false c = refl
-turn-room d rebuilt a l (turn.Answer p b) n y room = by (soundOf a l) (leftKept (rebuiltPart rebuilt (p .«left_end»)) p) (ltb (length d) (p .at)) (countAt (headerOf p) d (p .at))
+    at-room : ℕ → Bool → Bool → Bool → Checked → Judged
+    at-room r b w e c =
+        cond b (cond w (judged.Refused OverLimit) (cond e (checkedJudged a (momentOf (openIn hours) given) r c) (judged.Refused NoSuchMinute))) (judged.Refused OverLimit)
+
+    by : (b w e : Bool) (c : Checked) → at-room room b w e c ≡ atRoom (at-room 0 b w e c) room
+    by true true e c = refl
+    by true false true (checked.Message h m) = refl
+    by true false true (checked.Refused r) = refl
+    by true false false c = refl
+    by false w e c = refl
+turn-room hours d rebuilt a l (turn.Answer p b) given n y room = by (soundOf a l) (leftKept (rebuiltPart rebuilt (p .«left_end»)) p) (ltb (length d) (p .at)) (countAt (headerOf p) d (p .at))
   where
     placed : (y : Slot) (m : ℕ) → placedJudged y (judged.Goes (answerStart a p b room) m) ≡ atRoom (placedJudged y (judged.Goes (answerStart a p b 0) m)) room
     placed (slot.At i) m = refl
@@ -254,9 +271,9 @@ turn-room d rebuilt a l (turn.Answer p b) n y room = by (soundOf a l) (leftKept 
     by true true false c = rest c
     by true false e c = refl
     by false w e c = refl
-turn-room d rebuilt a l (turn.Refused r) n y room = refl
+turn-room hours d rebuilt a l (turn.Refused r) given n y room = refl
 
-module _ (t : Tables) (d : List ℕ) (a : Agent) (i : Input) (n : ℕ) where
+module _ (t : Tables) (hours d : List ℕ) (a : Agent) (i : Input) (given : Given) (n : ℕ) where
   abbrev inTurn : Turn
   inTurn = turnOf (a .waits) i
 
@@ -267,13 +284,13 @@ module _ (t : Tables) (d : List ℕ) (a : Agent) (i : Input) (n : ℕ) where
   abbrev holds : Slot
   holds = slotOf inTurn (t .sessions) (t .streams) (length (t .held)) n
 
-  judge-not : Not13 (judgeOf t d a i n 0)
+  judge-not : Not13 (judgeOf t hours d a i given n 0)
   unfolding judgeOf
-  judge-not = turn-not d (t .rebuilt) a within inTurn n holds 0 (in-turn (a .waits) i) (slot-not inTurn (t .sessions) (t .streams) (length (t .held)) n)
+  judge-not = turn-not hours d (t .rebuilt) a within inTurn given n holds 0 (in-turn (a .waits) i) (slot-not inTurn (t .sessions) (t .streams) (length (t .held)) n)
 
-  judge-room : (room : ℕ) → judgeOf t d a i n room ≡ atRoom (judgeOf t d a i n 0) room
+  judge-room : (room : ℕ) → judgeOf t hours d a i given n room ≡ atRoom (judgeOf t hours d a i given n 0) room
   unfolding judgeOf
-  judge-room room = turn-room d (t .rebuilt) a within inTurn n holds room
+  judge-room room = turn-room hours d (t .rebuilt) a within inTurn given n holds room
 
 module _ (st : State) (d sample : List ℕ) where
   module _ (x : Start) (next at : ℕ) (t : Tables) (rs : List Reply) where
@@ -282,7 +299,7 @@ module _ (st : State) (d sample : List ℕ) where
 
     -- a run that replied rs, of which so many bytes were counted
     abbrev finishes : Stop → ℕ → List ℕ → Did
-    finishes s wrote out = didBy d (st .lent) (finish (st .agent) (st .tables) out (startAt x (length out)) (turnedAs wrote s))
+    finishes s wrote out = didBy (st .hours) d (st .lent) (finish (st .agent) (st .tables) out (startAt x (length out)) (turnedAs wrote s))
 
     abbrev full : Stop → ℕ → List ℕ → host.Leaves
     full s wrote out = record { processed = finishedOf (st .agent) (startAt x (length out)) (turnedAs wrote s .ran); tables = t; out = putAt out 0 (joinedReplies rs); replies = rs }
@@ -291,41 +308,41 @@ module _ (st : State) (d sample : List ℕ) where
     abbrev Told : ℕ → List ℕ → Type 0
     Told wrote out = ltb (length out) wrote ≡ ltb (length out) (length (joinedReplies rs))
 
-    carried-as : (s : Stop) (wrote : ℕ) (out : List ℕ) (st′ : State) (q : step.Result) → didBy d (st .lent) (full s wrote out) ≡ record { state = st′; out = putAt out 0 (joinedReplies rs); result = q }
+    carried-as : (s : Stop) (wrote : ℕ) (out : List ℕ) (st′ : State) (q : step.Result) → didBy (st .hours) d (st .lent) (full s wrote out) ≡ record { state = st′; out = putAt out 0 (joinedReplies rs); result = q }
         → saidBy q ≡ joinedReplies rs → Told wrote out → finishes s wrote out ≡ carry st (goes st′ q) out
     carried-as s wrote out st′ q e f w =
-        ap (λ (b : Bool). didBy d (st .lent) (cond b (host.refuse (st .agent) (st .tables) out OutputTooShort) (full s wrote out))) w
+        ap (λ (b : Bool). didBy (st .hours) d (st .lent) (cond b (host.refuse (st .agent) (st .tables) out OutputTooShort) (full s wrote out))) w
         ∙ by (ltb (length out) (length (joinedReplies rs)))
         ∙ ap (λ (bs : List ℕ). cond (ltb (length out) (length bs)) (refusing st out 13 0) (record { state = st′; out = putAt out 0 bs; result = q })) (sym f)
       where
-        by : (b : Bool) → didBy d (st .lent) (cond b (host.refuse (st .agent) (st .tables) out OutputTooShort) (full s wrote out))
+        by : (b : Bool) → didBy (st .hours) d (st .lent) (cond b (host.refuse (st .agent) (st .tables) out OutputTooShort) (full s wrote out))
             ≡ cond b (refusing st out 13 0) (record { state = st′; out = putAt out 0 (joinedReplies rs); result = q })
         by true = refl
         by false = e
 
     finish-planned : (wrote : List ℕ → ℕ) → ((out : List ℕ) → Told (wrote out) out) → (s : Stop) → Planned st (λ out. finishes s (wrote out) out)
     finish-planned wrote w stop.Nothing =
-        let st′ = didBy d (st .lent) (full stop.Nothing 0 []) .state in
+        let st′ = didBy (st .hours) d (st .lent) (full stop.Nothing 0 []) .state in
         let q = step.ran rs none in
         record { plan = goes st′ q; good = refl; carries = λ out. carried-as stop.Nothing (wrote out) out st′ q refl refl (w out) }
     finish-planned wrote w (stop.Call number task call) =
         let s = stop.Call number task call in
-        let st′ = didBy d (st .lent) (full s 0 []) .state in
+        let st′ = didBy (st .hours) d (st .lent) (full s 0 []) .state in
         let q = step.ran rs (some (callAs d call)) in
         record { plan = goes st′ q; good = refl; carries = λ out. carried-as s (wrote out) out st′ q refl refl (w out) }
     finish-planned wrote w (stop.Inside number task call a e) =
         let s = stop.Inside number task call a e in
-        let st′ = didBy d (st .lent) (full s 0 []) .state in
+        let st′ = didBy (st .hours) d (st .lent) (full s 0 []) .state in
         let q = step.ran rs (some (callAs (callBytes (st′ .agent .waits) d (t .rebuilt)) call)) in
         record { plan = goes st′ q; good = refl; carries = λ out. carried-as s (wrote out) out st′ q refl refl (w out) }
 
   -- the same of any room, since that is told by the count alone
-  judged-planned : (j : Judged) → Not13 j → Planned st (λ out. didBy d (st .lent) (processedBy (atRoom j (length out)) (st .agent) (st .tables) out d sample))
+  judged-planned : (j : Judged) → Not13 j → Planned st (λ out. didBy (st .hours) d (st .lent) (processedBy (atRoom j (length out)) (st .agent) (st .tables) out d sample))
   judged-planned (judged.Refused r) h = refuses st (numberOf r) (byteOf r) h
   judged-planned (judged.Goes x n) h = record {
     plan = p .plan;
     good = p .good;
-    carries = λ out. ap (λ (z : Turned). didBy d (st .lent) (finish (st .agent) (st .tables) out (startAt x (length out)) z)) (performed-alike x (length out) (st .tables) d sample) ∙ p .carries out;
+    carries = λ out. ap (λ (z : Turned). didBy (st .hours) d (st .lent) (finish (st .agent) (st .tables) out (startAt x (length out)) z)) (performed-alike x (length out) (st .tables) d sample) ∙ p .carries out;
   }
     where
       y : Turned
@@ -444,20 +461,20 @@ module _ (st : State) where
     sweep-planned (idle.Refused r) h = refuses st (numberOf r) (byteOf r) h
 
 -- a datagram or an answer, judged in any room
-processed-planned : (st : State) (d sample : List ℕ) (i : Input)
-    → Planned st (λ out. didBy d (st .lent) (processedBy (judgeOf (st .tables) d (st .agent) i (length sample) (length out)) (st .agent) (st .tables) out d sample))
-processed-planned st d sample i =
-    let j = judgeOf (st .tables) d (st .agent) i (length sample) 0 in
-    let p = judged-planned st d sample j (judge-not (st .tables) d (st .agent) i (length sample)) in
+processed-planned : (st : State) (hours d sample : List ℕ) (i : Input) (given : Given)
+    → Planned st (λ out. didBy (st .hours) d (st .lent) (processedBy (judgeOf (st .tables) hours d (st .agent) i given (length sample) (length out)) (st .agent) (st .tables) out d sample))
+processed-planned st hours d sample i given =
+    let j = judgeOf (st .tables) hours d (st .agent) i given (length sample) 0 in
+    let p = judged-planned st d sample j (judge-not (st .tables) hours d (st .agent) i given (length sample)) in
     record {
       plan = p .plan;
       good = p .good;
-      carries = λ out. ap (λ (j : Judged). didBy d (st .lent) (processedBy j (st .agent) (st .tables) out d sample)) (judge-room (st .tables) d (st .agent) i (length sample) (length out)) ∙ p .carries out;
+      carries = λ out. ap (λ (j : Judged). didBy (st .hours) d (st .lent) (processedBy j (st .agent) (st .tables) out d sample)) (judge-room (st .tables) hours d (st .agent) i given (length sample) (length out)) ∙ p .carries out;
     }
 
 pub planned : (st : State) (e : Event) → Planned st (λ out. stepOf st e out)
 unfolding stepOf processOf
-planned st (datagram time bytes small) = processed-planned st bytes [] (input.Datagram time)
-planned st (answer b sample) = processed-planned st (st .lent) sample (input.Answer b)
+planned st (datagram given bytes small) = processed-planned st (st .hours) bytes [] input.Datagram given
+planned st (answer b sample) = processed-planned st [] (st .lent) sample (input.Answer b) noGiven
 planned st (removal id small) = removal-planned st id (idleOf (st .agent .waits) (st .agent)) (idle-not st (st .agent .waits))
 planned st (sweep now) = sweep-planned st now (idleOf (st .agent .waits) (st .agent)) (idle-not st (st .agent .waits))

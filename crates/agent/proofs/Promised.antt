@@ -7,7 +7,7 @@ use mathlib.Core.Option.{Option, none, some}
 use mathlib.Core.List.{List, [], _∷_, _++_, map, append-nil}
 use native.Mathlib.Omega.{arith}
 use borrow.Author.Tests.{ltb-true, ltb-false, le-ltb}
-use lib.Dec.{ltb}
+use lib.Dec.{leb, ltb}
 use lib.ListN.{length}
 use Rattle.codec.specs.Bytes.{putAt}
 use Rattle.codec.specs.Grammar.{Said, reading}
@@ -15,18 +15,22 @@ use Rattle.codec.specs.Answers.{Answer as Read, gives, refusedAs}
 use Rattle.codec.specs.Reading.{refused}
 use Rattle.codec.specs.declared.header.MessageHeader.{MessageHeader}
 use Rattle.isolation.specs.Claim as claim
-use Rattle.codec.specs.declared.refusals.Refusal.the-variants.{OverLimit}
+use Rattle.codec.specs.declared.refusals.Refusal.the-variants.{OverLimit, WindowFault}
+use Rattle.hours.specs.Windows.{Window, weekMinutes, isOpen, allFit, checkedOf}
+use Rattle.hours.specs.Week.{isMinute}
+use Rattle.hours.specs.declared.windows.Windows.the-variants as windows
 use Rattle.sessions.specs.Need.{storesFit}
 use Rattle.sessions.specs.Setup.{setUpOf}
 use Rattle.sessions.specs.View.{Tables}
 use Rattle.sessions.specs.declared.setup.SetUp.the-variants as setup
 use Rattle.moves.specs.Calls.{fits}
-use Rattle.agent.specs.Brings.{messageFrom}
+use Rattle.agent.specs.Brings.{momentOf, messageFrom}
+use Rattle.agent.specs.declared.state.Given.{Given}
 use Rattle.agent.specs.Rules.{rules}
 use Rattle.agent.specs.Step as step
 use Rattle.agent.specs.Step.{Open, joinedReplies, run, continued, settle, begin}
 use Rattle.agent.specs.Judge.{tooLong}
-use Rattle.agent.specs.Host.{finish, setUpAs}
+use Rattle.agent.specs.Host.{finish, setUpBy, setUpAs}
 use Rattle.agent.specs.Claim as lists
 use Rattle.agent.specs.Whole as whole
 use Rattle.agent.specs.Whole.{State, Event, datagram, answer, removal, sweep, Did, stepOf, opensAs, agentOf, eventOf, Hosted, setUpWith, setUpAnswer}
@@ -122,18 +126,18 @@ put-none : (out : List ℕ) → out ≡ putAt out 0 []
 unfolding putAt
 put-none out = refl
 
-module _ (t : Tables) (max timeout : ℕ) (a : Agent) where
-  abbrev A : claim.Agent (rules timeout)
-  A = whole.agent t max timeout a
+module _ (t : Tables) (hours : List ℕ) (ws : List Window) (max timeout : ℕ) (a : Agent) where
+  abbrev A : claim.Agent (rules (isOpen ws) timeout)
+  A = whole.agent t hours ws max timeout a
 
   -- what a call writes into the lent output: the bytes of its replies as term 3 has them, and the ids that a sweep lists
   abbrev pub writtenBy : State → Hosted → List ℕ
-  writtenBy st e = lists.outBytes max timeout (claim.outs-of (rules timeout) (A .step st e .1)) ++ lists.idsIn max timeout (stepOf st (e .event) (e .out) .result)
+  writtenBy st e = lists.outBytes (isOpen ws) max timeout (claim.outs-of (rules (isOpen ws) timeout) (A .step st e .1)) ++ lists.idsIn (isOpen ws) max timeout (stepOf st (e .event) (e .out) .result)
 
-  said-same : (w : Option Open) (q : step.Result) → saidBy q ≡ lists.outBytes max timeout (claim.outs-of (rules timeout) (lists.resultOf max timeout w q)) ++ lists.idsIn max timeout q
+  said-same : (w : Option Open) (q : step.Result) → saidBy q ≡ lists.outBytes (isOpen ws) max timeout (claim.outs-of (rules (isOpen ws) timeout) (lists.resultOf (isOpen ws) max timeout w q)) ++ lists.idsIn (isOpen ws) max timeout q
   unfolding lists.outBytes
   said-same w (step.refused number byte) = refl
-  said-same w (step.ran rs c) = joinedReplies-same max timeout rs ∙ sym (append-nil (lists.outBytes max timeout (map (lists.outOf max timeout) rs)))
+  said-same w (step.ran rs c) = joinedReplies-same (isOpen ws) max timeout rs ∙ sym (append-nil (lists.outBytes (isOpen ws) max timeout (map (lists.outOf (isOpen ws) max timeout) rs)))
   said-same w (step.removed b) = refl
   said-same w (step.swept ids) = refl
 
@@ -155,13 +159,14 @@ module _ (t : Tables) (max timeout : ℕ) (a : Agent) where
 
 -- ---- behind set-up
 
--- what a call may be refused with: 1 to 5, 12, 13, 14, 15
+-- what a call may be refused with: 1 to 5, 12, 13, 14, 15, 20
 pub data Listed : ℕ → Type 0 where
   wire : (number : ℕ) → OfWire number → Listed number
   too-long : Listed 12
   output-short : Listed 13
   store-full : Listed 14
   out-of-turn : Listed 15
+  no-such-minute : Listed 20
 
 abbrev ListedIn : step.Result → Type 0
 ListedIn (step.refused number byte) = Listed number
@@ -180,19 +185,23 @@ settle-listed : (st : step.Agent) (out : List ℕ) (r : step.Ran) → ListedIn (
 settle-listed st out r =
     finish-listed st out (step.withTables st (r .tables) (step.openOf (r .stop))) (joinedReplies (r .replies)) (step.ran (r .replies) (step.callOf (r .stop))) tt
 
-begin-listed : (st : step.Agent) (out : List ℕ) (time : ℕ) (bytes : List ℕ) (x : Read (MessageHeader × List Said)) → reading bytes ≡ x → ListedIn (begin st out time x .result)
-begin-listed st out time bytes (refusedAs number byte) e = wire number (reading-wire bytes number byte e)
-begin-listed st out time bytes (gives x) e = let m = messageFrom time (x .0) (x .1) in settle-listed st out (run (st .max) (m .header) (m .subs) (st .tables))
+begin-listed : (st : step.Agent) (out : List ℕ) (given : Given) (bytes : List ℕ) (x : Read (MessageHeader × List Said)) → reading bytes ≡ x → ListedIn (begin st out given x .result)
+begin-listed st out given bytes (refusedAs number byte) e = wire number (reading-wire bytes number byte e)
+begin-listed st out given bytes (gives x) e = let m = messageFrom (momentOf (st .isOpen) given) (x .0) (x .1) in settle-listed st out (run (st .max) (m .header) (m .subs) (st .tables))
 
 stepped-listed : (w : Option Open) (st : step.Agent) (e : step.Event) (out : List ℕ) → ListedIn (step.stepped w st e out .result)
-stepped-listed none st (step.datagram time bytes) out = begin-listed st out time bytes (reading bytes) refl
+stepped-listed none st (step.datagram given bytes) out = by (isMinute (given .day) (given .minute))
+  where
+    by : (b : Bool) → ListedIn ((cond b (begin st out given (reading bytes)) (step.refuse st out 20 0)) .result)
+    by true = begin-listed st out given bytes (reading bytes) refl
+    by false = no-such-minute
 stepped-listed none st (step.answer a) out = out-of-turn
 stepped-listed none st (step.removal id) out =
     finish-listed st out (step.withLocals st (step.withId id none (st .tables .at))) [] (step.removed (step.isLive (st .tables .at id))) tt
 stepped-listed none st (step.sweep now) out =
     let is = step.lapsedIds (st .timeout) now (st .tables .at) in
     finish-listed st out (step.withLocals st (λ i. step.stays (st .timeout) now (st .tables .at i))) is (step.swept is) tt
-stepped-listed (some w) st (step.datagram time bytes) out = out-of-turn
+stepped-listed (some w) st (step.datagram given bytes) out = out-of-turn
 stepped-listed (some w) st (step.answer a) out = by (fits (w .pending .asked .task) a) (step.tooLong (w .pending .asked) a) (step.overHeld w a (st .tables))
   where
     by : (b c d : Bool)
@@ -218,35 +227,45 @@ listed-16 number too-long e = omega (arith, e)
 listed-16 number output-short e = omega (arith, e)
 listed-16 number store-full e = omega (arith, e)
 listed-16 number out-of-turn e = omega (arith, e)
+listed-16 number no-such-minute e = omega (arith, e)
 
 -- whatever stood in the tables that set-up accepts, no call behind it is refused as 16
-module _ (t : Tables) (max timeout : ℕ) (a : Agent) (made : setUpWith t max timeout ≡ Ready a) where
-  abbrev whole-agent : claim.Agent (rules timeout)
-  whole-agent = whole.agent t max timeout a
+module _ (t : Tables) (hours : List ℕ) (ws : List Window) (max timeout : ℕ) (a : Agent) (made : setUpWith t hours ws max timeout ≡ Ready a) where
+  abbrev whole-agent : claim.Agent (rules (isOpen ws) timeout)
+  whole-agent = whole.agent t hours ws max timeout a
 
   -- the state that a list of calls leads to
   abbrev pub stateAfter : List Hosted → State
-  stateAfter H = claim.reached (rules timeout) whole-agent (claim.set-up (rules timeout) whole-agent) H .state
+  stateAfter H = claim.reached (rules (isOpen ws) timeout) whole-agent (claim.set-up (rules (isOpen ws) timeout) whole-agent) H .state
 
   pub inv-after : (H : List Hosted) → Inv (stateAfter H)
-  inv-after H = on H (claim.set-up (rules timeout) whole-agent) (holds-empty t max timeout a made) .0
+  inv-after H = on H (claim.set-up (rules (isOpen ws) timeout) whole-agent) (holds-empty t hours ws max timeout a made) .0
     where
-      on : (H : List Hosted) (p : claim.Point (rules timeout) whole-agent) → Holds t max timeout a made (p .state) → Holds t max timeout a made (claim.reached (rules timeout) whole-agent p H .state)
+      on : (H : List Hosted) (p : claim.Point (rules (isOpen ws) timeout) whole-agent) → Holds t hours ws max timeout a made (p .state) → Holds t hours ws max timeout a made (claim.reached (rules (isOpen ws) timeout) whole-agent p H .state)
       on [] p v = v
-      on (e ∷ H) p v = on H (claim.next (rules timeout) whole-agent p e) (holds-step t max timeout a made (p .state) e v)
+      on (e ∷ H) p v = on H (claim.next (rules (isOpen ws) timeout) whole-agent p e) (holds-step t hours ws max timeout a made (p .state) e v)
 
   pub never-16 : (H : List Hosted) (e : Hosted) (byte : ℕ) → stepOf (stateAfter H) (e .event) (e .out) .result ≡ step.refused 16 byte → ⊥
   never-16 H e byte z = listed-16 16 (listed (stateAfter H) (inv-after H) (e .event) (e .out) 16 byte z) refl
 
--- 16, "`max_clients` over 255, lent store under its documented need": set-up is refused exactly so, and else the agent is empty
-pub set-up-answers : (t : Tables) (max timeout : ℕ)
-    → setUpAnswer (setUpWith t max timeout)
-    ≡ cond (storesFit (length (t .sessions)) (length (t .streams)) (length (t .objects)) (length (t .held)) (length (t .parts)) (length (t .lengths)) (length (t .rebuilt)) max) (gives (record { «max_clients» = max; «timeout_ms» = timeout; next = 1; waits = waiting.Nothing })) (refusedAs 16 0)
-unfolding setUpOf
-set-up-answers t max timeout = by (storesFit (length (t .sessions)) (length (t .streams)) (length (t .objects)) (length (t .held)) (length (t .parts)) (length (t .lengths)) (length (t .rebuilt)) max)
+-- 16, "`max_clients` over 255, lent store under its documented need", then 19 of the windows: set-up is refused exactly so, and else the agent is empty
+pub set-up-answers : (t : Tables) (hours : List ℕ) (ws : List Window) (max timeout : ℕ)
+    → setUpAnswer (setUpWith t hours ws max timeout)
+    ≡ cond (storesFit (length (t .sessions)) (length (t .streams)) (length (t .objects)) (length (t .held)) (length (t .parts)) (length (t .lengths)) (length (t .rebuilt)) max)
+    (cond (leb weekMinutes (length hours)) (cond (allFit ws) (gives (record { «max_clients» = max; «timeout_ms» = timeout; next = 1; waits = waiting.Nothing })) (refusedAs 19 0)) (refusedAs 16 0))
+    (refusedAs 16 0)
+unfolding setUpOf checkedOf
+set-up-answers t hours ws max timeout =
+    by (storesFit (length (t .sessions)) (length (t .streams)) (length (t .objects)) (length (t .held)) (length (t .parts)) (length (t .lengths)) (length (t .rebuilt)) max)
+    (leb weekMinutes (length hours)) (allFit ws)
   where
-    by : (b : Bool)
-        → setUpAnswer (setUpAs (cond b (setup.Ready 1) (setup.Refused OverLimit)) max timeout)
-        ≡ cond b (gives (record { «max_clients» = max; «timeout_ms» = timeout; next = 1; waits = waiting.Nothing })) (refusedAs 16 0)
-    by true = refl
-    by false = refl
+    fresh : Agent
+    fresh = record { «max_clients» = max; «timeout_ms» = timeout; next = 1; waits = waiting.Nothing }
+
+    by : (b c f : Bool)
+        → setUpAnswer (setUpAs (setUpBy (cond b (setup.Ready 1) (setup.Refused OverLimit)) (cond c (cond f windows.Fit (windows.Refused WindowFault)) (windows.Refused OverLimit))) max timeout)
+        ≡ cond b (cond c (cond f (gives fresh) (refusedAs 19 0)) (refusedAs 16 0)) (refusedAs 16 0)
+    by true true true = refl
+    by true true false = refl
+    by true false f = refl
+    by false c f = refl

@@ -70,13 +70,13 @@ module _ (id : ℕ) where
 
   -- ---- a submessage
 
-  module _ (g : Came) (stream : ℕ) (l : Local) (v : Inv g l) where
+  module _ (g : Came) (isOpen : Bool) (stream : ℕ) (l : Local) (v : Inv g l) where
     opened : Inv g (opening stream l)
     opened = (v .0, λ n h. open-now (l .streams) stream n ∙ v .1 n h)
 
-    quiet : (m : Submessage) (body : List ℕ) → acknackOf m ≡ none → Next g (onSubmessage m body stream l)
+    quiet : (m : Submessage) (body : List ℕ) → acknackOf m ≡ none → Next g (onSubmessage isOpen m body stream l)
     quiet m body e =
-        submessage-cases (Next g) (Inv g) m stream l v (λ es. v) opened (λ l′ q. q) (λ l′ n code q. q) (λ l′ n task call q r. (q, r))
+        submessage-cases (Next g) (Inv g) isOpen m stream l v (λ es. v) opened (λ l′ q. q) (λ l′ n code q. q) (λ l′ n task call q r. (q, r))
         (λ first last. opened) (λ p f. absurd (none-some (sym e ∙ ap acknackOf f))) body
 
     module _ (first bitmap : ℕ) where
@@ -105,7 +105,7 @@ module _ (id : ℕ) where
     abbrev Fair : Submessage → Move → Type 0
     Fair m x = Next (adding stream (asksAgain (acknackOf m)) g) x × (stream ≢ 0 → Repeated (acknackOf m) stream (g stream) (repliesOf x))
 
-    submessage-fair : (m : Submessage) (body : List ℕ) → Fair m (onSubmessage m body stream l)
+    submessage-fair : (m : Submessage) (body : List ℕ) → Fair m (onSubmessage isOpen m body stream l)
     submessage-fair (CreateClient p) body = (quiet (CreateClient p) body refl, λ h. tt)
     submessage-fair (Create p) body = (quiet (Create p) body refl, λ h. tt)
     submessage-fair (Delete p) body = (quiet (Delete p) body refl, λ h. tt)
@@ -192,7 +192,7 @@ module _ (id : ℕ) where
     next : NextAll (grown g ws) x
 
   plain-fair : (g : Came) (l : Local) (i : In) → Inv g l → Next (behind (does l i) g) (plain l i) × Right id g (does l i)
-  plain-fair g l i v = submessage-fair g (i .stream) (touched (i .time) l) v (i .fields) (i .body)
+  plain-fair g l i v = submessage-fair g (i .moment .«is_open») (i .stream) (touched (i .moment .time) l) v (i .fields) (i .body)
 
   onto-worked : (is : List In) (m : Move) (g : Came) → Next g m → Worked g (worksOnto is m) (onto is m)
   unfolding onto worksOnto
@@ -215,20 +215,20 @@ module _ (id : ℕ) where
   handle-worked : (g : Came) (l : Local) (i : In) → Inv g l → Worked g (does l i ∷ rebuiltBy (i .fields) i l) (handle l i)
   handle-worked g l i v = by (i .fields)
     where
-      by : (m : Submessage) → let j = inOf (i .time) (i .stream) m (i .body) in Worked g (does l j ∷ rebuiltBy m j l) (handleBy m j l)
+      by : (m : Submessage) → let j = inOf (i .moment) (i .stream) m (i .body) in Worked g (does l j ∷ rebuiltBy m j l) (handleBy m j l)
       by (Fragment p) =
-          let j = inOf (i .time) (i .stream) (Fragment p) (i .body) in
+          let j = inOf (i .moment) (i .stream) (Fragment p) (i .body) in
           let r = onto-worked (brought p j l) (done (gathering p j l) []) g v in
           record { said = (tabled g l v, λ h. tt, r .said); next = r .next }
-      by (CreateClient p) = alone-worked g l (inOf (i .time) (i .stream) (CreateClient p) (i .body)) v
-      by (Create p) = alone-worked g l (inOf (i .time) (i .stream) (Create p) (i .body)) v
-      by (Delete p) = alone-worked g l (inOf (i .time) (i .stream) (Delete p) (i .body)) v
-      by (Status p) = alone-worked g l (inOf (i .time) (i .stream) (Status p) (i .body)) v
-      by (WriteData p) = alone-worked g l (inOf (i .time) (i .stream) (WriteData p) (i .body)) v
-      by (ReadData p) = alone-worked g l (inOf (i .time) (i .stream) (ReadData p) (i .body)) v
-      by (Data p) = alone-worked g l (inOf (i .time) (i .stream) (Data p) (i .body)) v
-      by (Heartbeat p) = alone-worked g l (inOf (i .time) (i .stream) (Heartbeat p) (i .body)) v
-      by (Acknack p) = alone-worked g l (inOf (i .time) (i .stream) (Acknack p) (i .body)) v
+      by (CreateClient p) = alone-worked g l (inOf (i .moment) (i .stream) (CreateClient p) (i .body)) v
+      by (Create p) = alone-worked g l (inOf (i .moment) (i .stream) (Create p) (i .body)) v
+      by (Delete p) = alone-worked g l (inOf (i .moment) (i .stream) (Delete p) (i .body)) v
+      by (Status p) = alone-worked g l (inOf (i .moment) (i .stream) (Status p) (i .body)) v
+      by (WriteData p) = alone-worked g l (inOf (i .moment) (i .stream) (WriteData p) (i .body)) v
+      by (ReadData p) = alone-worked g l (inOf (i .moment) (i .stream) (ReadData p) (i .body)) v
+      by (Data p) = alone-worked g l (inOf (i .moment) (i .stream) (Data p) (i .body)) v
+      by (Heartbeat p) = alone-worked g l (inOf (i .moment) (i .stream) (Heartbeat p) (i .body)) v
+      by (Acknack p) = alone-worked g l (inOf (i .moment) (i .stream) (Acknack p) (i .body)) v
 
   resume-worked : (g : Came) (l : Local) (p : fragments.Pending) (a : Answer) → Inv g l → Ready (p .asked .task) (p .asked .stream) (p .asked .number) l
       → Worked g (hears l (p .asked) a ∷ worksOnto (p .left) (onAnswer l (p .asked) a)) (resumed l p a)
@@ -237,16 +237,16 @@ module _ (id : ℕ) where
       let r = onto-worked (p .left) (onAnswer l (p .asked) a) (behind (hears l (p .asked) a) g) (f .0) in
       record { said = (tabled g l v, f .1, r .said); next = r .next }
 
-module _ (timeout : ℕ) where
+module _ (isOpen : ℕ → ℕ → Bool) (timeout : ℕ) where
   abbrev R : iso.Rules
-  R = rules timeout
+  R = rules isOpen timeout
 
   abbrev works : List (Action R) → List Work
-  works ds = worksIn timeout ds
+  works ds = worksIn isOpen timeout ds
 
   works-both : (xs ys : List (Action R)) → works (xs ++ ys) ≡ works xs ++ works ys
   works-both [] ys = refl
-  works-both (d ∷ xs) ys = ap (λ (ws : List Work). worksOf timeout d ++ ws) (works-both xs ys) ∙ sym (append-assoc (worksOf timeout d) (works xs) (works ys))
+  works-both (d ∷ xs) ys = ap (λ (ws : List Work). worksOf isOpen timeout d ++ ws) (works-both xs ys) ∙ sym (append-assoc (worksOf isOpen timeout d) (works xs) (works ys))
 
   -- ---- the machine
 
@@ -265,12 +265,12 @@ module _ (timeout : ℕ) where
     both g (w ∷ xs) ys m p q = let r = both (behind w g) xs ys m (p .2) q in record { said = (p .0, p .1, r .said); clean = r .clean }
 
     -- behind a rule at work
-    on-good : (g : Came) (d : Action R) (is : List In) (x : Working) → Worked id g (worksOf timeout d) x
+    on-good : (g : Came) (d : Action R) (is : List In) (x : Working) → Worked id g (worksOf isOpen timeout d) x
         → ((g′ : Came) (l : Local) → Inv id g′ l → Good g′ (works (work R l is .actions)) (work R l is .machine))
         → let m = on R d x is (λ l. work R l is) in Good g (works (m .actions)) (m .machine)
     on-good g d is (done l rs) r k =
-        both g (worksOf timeout d) (works (work R l is .actions)) (work R l is .machine) (r .said) (k (grown id g (worksOf timeout d)) l (r .next))
-    on-good g d is (calls l rs c p) r k = both g (worksOf timeout d) [] (waiting l p is) (r .said) (record { said = tt; clean = r .next })
+        both g (worksOf isOpen timeout d) (works (work R l is .actions)) (work R l is .machine) (r .said) (k (grown id g (worksOf isOpen timeout d)) l (r .next))
+    on-good g d is (calls l rs c p) r k = both g (worksOf isOpen timeout d) [] (waiting l p is) (r .said) (record { said = tt; clean = r .next })
 
     work-good : (is : List In) (g : Came) (l : Local) → Inv id g l → Good g (works (work R l is .actions)) (work R l is .machine)
     work-good [] g l v = record { said = tt; clean = v }
@@ -338,26 +338,26 @@ module _ (timeout : ℕ) where
   unfolding worksOnto
   alone-told m = onto-told [] m
 
-  handle-told : (l : Local) (i : In) → repliesAll (handle l i) ≡ allReplies (worksOf timeout (handles l i))
+  handle-told : (l : Local) (i : In) → repliesAll (handle l i) ≡ allReplies (worksOf isOpen timeout (handles l i))
   handle-told l i = by (i .fields)
     where
-      by : (m : Submessage) → let j = inOf (i .time) (i .stream) m (i .body) in repliesAll (handleBy m j l) ≡ allReplies (does l j ∷ rebuiltBy m j l)
-      by (Fragment p) = let j = inOf (i .time) (i .stream) (Fragment p) (i .body) in onto-told (brought p j l) (done (gathering p j l) [])
-      by (CreateClient p) = alone-told (plain l (inOf (i .time) (i .stream) (CreateClient p) (i .body)))
-      by (Create p) = alone-told (plain l (inOf (i .time) (i .stream) (Create p) (i .body)))
-      by (Delete p) = alone-told (plain l (inOf (i .time) (i .stream) (Delete p) (i .body)))
-      by (Status p) = alone-told (plain l (inOf (i .time) (i .stream) (Status p) (i .body)))
-      by (WriteData p) = alone-told (plain l (inOf (i .time) (i .stream) (WriteData p) (i .body)))
-      by (ReadData p) = alone-told (plain l (inOf (i .time) (i .stream) (ReadData p) (i .body)))
-      by (Data p) = alone-told (plain l (inOf (i .time) (i .stream) (Data p) (i .body)))
-      by (Heartbeat p) = alone-told (plain l (inOf (i .time) (i .stream) (Heartbeat p) (i .body)))
-      by (Acknack p) = alone-told (plain l (inOf (i .time) (i .stream) (Acknack p) (i .body)))
+      by : (m : Submessage) → let j = inOf (i .moment) (i .stream) m (i .body) in repliesAll (handleBy m j l) ≡ allReplies (does l j ∷ rebuiltBy m j l)
+      by (Fragment p) = let j = inOf (i .moment) (i .stream) (Fragment p) (i .body) in onto-told (brought p j l) (done (gathering p j l) [])
+      by (CreateClient p) = alone-told (plain l (inOf (i .moment) (i .stream) (CreateClient p) (i .body)))
+      by (Create p) = alone-told (plain l (inOf (i .moment) (i .stream) (Create p) (i .body)))
+      by (Delete p) = alone-told (plain l (inOf (i .moment) (i .stream) (Delete p) (i .body)))
+      by (Status p) = alone-told (plain l (inOf (i .moment) (i .stream) (Status p) (i .body)))
+      by (WriteData p) = alone-told (plain l (inOf (i .moment) (i .stream) (WriteData p) (i .body)))
+      by (ReadData p) = alone-told (plain l (inOf (i .moment) (i .stream) (ReadData p) (i .body)))
+      by (Data p) = alone-told (plain l (inOf (i .moment) (i .stream) (Data p) (i .body)))
+      by (Heartbeat p) = alone-told (plain l (inOf (i .moment) (i .stream) (Heartbeat p) (i .body)))
+      by (Acknack p) = alone-told (plain l (inOf (i .moment) (i .stream) (Acknack p) (i .body)))
 
-  on-told : (d : Action R) (x : Working) (is : List In) → repliesAll x ≡ allReplies (worksOf timeout d) → ((l : Local) → work R l is .replies ≡ told (work R l is .actions))
+  on-told : (d : Action R) (x : Working) (is : List In) → repliesAll x ≡ allReplies (worksOf isOpen timeout d) → ((l : Local) → work R l is .replies ≡ told (work R l is .actions))
       → let m = on R d x is (λ l. work R l is) in m .replies ≡ told (m .actions)
   on-told d (done l rs) is e k =
-      ap (λ (os : List Bytes). rs ++ os) (k l) ∙ ap (λ (os : List Bytes). os ++ told (work R l is .actions)) e ∙ sym (replies-both (worksOf timeout d) (works (work R l is .actions)))
-  on-told d (calls l rs c p) is e k = e ∙ ap allReplies (sym (append-nil (worksOf timeout d)))
+      ap (λ (os : List Bytes). rs ++ os) (k l) ∙ ap (λ (os : List Bytes). os ++ told (work R l is .actions)) e ∙ sym (replies-both (worksOf isOpen timeout d) (works (work R l is .actions)))
+  on-told d (calls l rs c p) is e k = e ∙ ap allReplies (sym (append-nil (worksOf isOpen timeout d)))
 
   work-told : (is : List In) (l : Local) → work R l is .replies ≡ told (work R l is .actions)
   work-told [] l = refl
@@ -385,7 +385,7 @@ module _ (timeout : ℕ) where
 
   -- ---- any agent with term 3
 
-  pub right-of : (A : claim.Agent R) (X : Handles R) → claim.Term3 R A X → RepeatsRight timeout A
+  pub right-of : (A : claim.Agent R) (X : Handles R) → claim.Term3 R A X → RepeatsRight isOpen timeout A
   right-of A X term = record {
     replies = λ H S. ap (λ (t : Trace R). t .replies) (term H .0 .alone S) ∙ takes-told (idle (start (S .id) (S .client))) (claim.fed R A S);
     repeated = λ H S. machine-repeats (S .id) (S .client) (claim.fed R A S);

@@ -39,7 +39,7 @@ use Rattle.agent.specs.declared.turn.Taken.{Taken}
 
 -- a frame and a start with another room
 abbrev pub frameAt : Frame → ℕ → Frame
-frameAt f room = record { «max_clients» = f .«max_clients»; time = f .time; «session_id» = f .«session_id»; «stream_id» = f .«stream_id»; room = room }
+frameAt f room = record { «max_clients» = f .«max_clients»; moment = f .moment; «session_id» = f .«session_id»; «stream_id» = f .«stream_id»; room = room }
 
 abbrev pub startAt : Start → ℕ → Start
 startAt x room = record { frame = frameAt (x .frame) room; next = x .next; at = x .at; «left_at» = x .«left_at»; «left_end» = x .«left_end»; resumes = x .resumes }
@@ -82,7 +82,7 @@ module _ (f : Frame) (room : ℕ) where
     delivered-alike : (w : Named) (t : Rows) (r : Ran) (wrote : ℕ) (x : Taken) → toldIn (delivered w f t h d r x) 0 ≡ toldIn (delivered w g t h d (counting r wrote) x) 0
     delivered-alike named.Live t r wrote x =
         let u = touchedIn f t in
-        acted-alike r wrote (x .at) (handledRows (x .asked) u (f .«session_id») (f .«stream_id»)) (handledMove (x .asked) u d (f .«session_id») (f .«stream_id») (x .body))
+        acted-alike r wrote (x .at) (handledRows (x .asked) u (f .«session_id») (f .«stream_id»)) (handledMove (f .moment .«is_open») (x .asked) u d (f .«session_id») (f .«stream_id») (x .body))
     delivered-alike named.NotLive t r wrote x = refl
     delivered-alike (named.Refused z) t r wrote x = refl
 

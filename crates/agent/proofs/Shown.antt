@@ -15,20 +15,22 @@ use Rattle.codec.specs.declared.header.MessageHeader.{MessageHeader}
 use Rattle.isolation.specs.Claim.{outs-of}
 use Rattle.moves.specs.Calls.{fits}
 use Rattle.moves.specs.Replies.{clientBytes}
-use Rattle.agent.specs.Brings.{messageFrom}
+use Rattle.hours.specs.Week.{isMinute}
+use Rattle.agent.specs.declared.state.Given.{Given}
+use Rattle.agent.specs.Brings.{momentOf, messageFrom}
 use Rattle.agent.specs.Rules.{rules}
 use Rattle.agent.specs.Step.{Open, Agent, Reply, opened, replied, Ran, run, continued, Event, datagram, answer, removal, sweep, Result, ran, removed, swept, Did, refuse, finish, joinedReplies, callOf, openOf, withTables, settle, begin, tooLong, overHeld, withId, isLive, stays, lapsedIds, withLocals, stepped, step}
 use Rattle.agent.specs.Claim.{outOf, resultOf, outBytes, idsIn, Shown}
 
-module _ (max timeout : ℕ) where
+module _ (isOpen : ℕ → ℕ → Bool) (max timeout : ℕ) where
   -- what a result says, beside the call then open
   abbrev said : Option Open → Result → List ℕ
-  said w q = outBytes max timeout (outs-of (rules timeout) (resultOf max timeout w q)) ++ idsIn max timeout q
+  said w q = outBytes isOpen max timeout (outs-of (rules isOpen timeout) (resultOf isOpen max timeout w q)) ++ idsIn isOpen max timeout q
 
   abbrev Shows : List ℕ → Did → Type 0
   Shows out d = let bytes = said (d .agent .waits) (d .result) in (length bytes ≤ length out) × (d .out ≡ putAt out 0 bytes)
 
-  pub joinedReplies-same : (rs : List Reply) → joinedReplies rs ≡ outBytes max timeout (map (outOf max timeout) rs)
+  pub joinedReplies-same : (rs : List Reply) → joinedReplies rs ≡ outBytes isOpen max timeout (map (outOf isOpen max timeout) rs)
   unfolding joinedReplies outBytes
   joinedReplies-same [] = refl
   joinedReplies-same (opened x ∷ rs) = ap (λ (bs : List ℕ). clientBytes x ++ bs) (joinedReplies-same rs)
@@ -48,21 +50,25 @@ module _ (max timeout : ℕ) where
   settle-shows : (st : Agent) (out : List ℕ) (r : Ran) → Shows out (settle st out r)
   settle-shows st out r =
       finish-shows st out (withTables st (r .tables) (openOf (r .stop))) (joinedReplies (r .replies)) (ran (r .replies) (callOf (r .stop)))
-      (joinedReplies-same (r .replies) ∙ sym (append-nil (outBytes max timeout (map (outOf max timeout) (r .replies)))))
+      (joinedReplies-same (r .replies) ∙ sym (append-nil (outBytes isOpen max timeout (map (outOf isOpen max timeout) (r .replies)))))
 
-  begin-shows : (st : Agent) (out : List ℕ) (time : ℕ) (x : Read (MessageHeader × List Said)) → Shows out (begin st out time x)
-  begin-shows st out time (refusedAs number byte) = refuse-shows st out number byte
-  begin-shows st out time (gives x) = let m = messageFrom time (x .0) (x .1) in settle-shows st out (run (st .max) (m .header) (m .subs) (st .tables))
+  begin-shows : (st : Agent) (out : List ℕ) (given : Given) (x : Read (MessageHeader × List Said)) → Shows out (begin st out given x)
+  begin-shows st out given (refusedAs number byte) = refuse-shows st out number byte
+  begin-shows st out given (gives x) = let m = messageFrom (momentOf (st .isOpen) given) (x .0) (x .1) in settle-shows st out (run (st .max) (m .header) (m .subs) (st .tables))
 
   stepped-shows : (w : Option Open) (st : Agent) (e : Event) (out : List ℕ) → Shows out (stepped w st e out)
   unfolding outBytes
-  stepped-shows none st (datagram time bytes) out = begin-shows st out time (reading bytes)
+  stepped-shows none st (datagram given bytes) out = go (isMinute (given .day) (given .minute))
+    where
+      go : (b : Bool) → Shows out (cond b (begin st out given (reading bytes)) (refuse st out 20 0))
+      go true = begin-shows st out given (reading bytes)
+      go false = refuse-shows st out 20 0
   stepped-shows none st (answer a) out = refuse-shows st out 15 0
   stepped-shows none st (removal id) out = finish-shows st out (withLocals st (withId id none (st .tables .at))) [] (removed (isLive (st .tables .at id))) refl
   stepped-shows none st (sweep now) out =
       let ids = lapsedIds (st .timeout) now (st .tables .at) in
       finish-shows st out (withLocals st (λ i. stays (st .timeout) now (st .tables .at i))) ids (swept ids) refl
-  stepped-shows (some w) st (datagram time bytes) out = refuse-shows st out 15 0
+  stepped-shows (some w) st (datagram given bytes) out = refuse-shows st out 15 0
   stepped-shows (some w) st (answer a) out = go (fits (w .pending .asked .task) a) (tooLong (w .pending .asked) a) (overHeld w a (st .tables))
     where
       go : (b c d : Bool) → Shows out (cond b (cond c (refuse st out 12 0) (cond d (refuse st out 14 0) (settle st out (continued (st .max) w a (st .tables))))) (refuse st out 15 0))
@@ -73,6 +79,6 @@ module _ (max timeout : ℕ) where
   stepped-shows (some w) st (removal id) out = refuse-shows st out 15 0
   stepped-shows (some w) st (sweep now) out = refuse-shows st out 15 0
 
-  pub shown : Shown max timeout
+  pub shown : Shown isOpen max timeout
   unfolding step
   shown st e = stepped-shows (st .waits) st (e .event) (e .out)

@@ -458,7 +458,7 @@ module _ (f : Frame) (d : List ℕ) where
       v = gatherTables u mine (x .asked .first) (x .asked .second) (partOf d (x .body))
 
       touched : received mine (u .sessions) ≤ received mine (t .sessions) + 0
-      touched = touched-grows mine (t .sessions) (f .time)
+      touched = touched-grows mine (t .sessions) (f .moment .time)
 
       grows : received mine (v .sessions) ≤ received mine (u .sessions) + 1
       grows = gathered-grows mine (u .sessions) (u .parts) (u .lengths) (u .rebuilt) (x .asked .first) (x .asked .second) (partOf d (x .body))
@@ -468,11 +468,11 @@ module _ (f : Frame) (d : List ℕ) where
 
   delivered-grows : (w : Named) (t : Rows) (h : List ℕ) (r : Ran) (x : Taken) → Grows mine 0 (t .sessions) (delivered w f t h d r x .rows .sessions)
   delivered-grows named.Live t h r x =
-      let a = touched-grows mine (t .sessions) (f .time) in
+      let a = touched-grows mine (t .sessions) (f .moment .time) in
       let b = handled-grows mine (x .asked .group) (x .asked) (touchedIn f t) (f .«stream_id») in
       omega (arith, a, b)
-  delivered-grows named.NotLive t h r x = touched-grows mine (t .sessions) (f .time)
-  delivered-grows (named.Refused y) t h r x = touched-grows mine (t .sessions) (f .time)
+  delivered-grows named.NotLive t h r x = touched-grows mine (t .sessions) (f .moment .time)
+  delivered-grows (named.Refused y) t h r x = touched-grows mine (t .sessions) (f .moment .time)
 
   module _ (t : Tables) (r : Ran) (z : Span) (c : Cursor) where
     abbrev took : Submessage → Taken
@@ -481,7 +481,7 @@ module _ (f : Frame) (d : List ℕ) where
     opening-goes : (m : Submessage) → Goes 0 t (subTurned Client f t d r (took m))
     opening-goes m =
         let c = createdOf (t .sessions) (t .streams) (f .«max_clients») (r .next) in
-        record { more = create-grows mine c t (asksOf m .key) (f .time); silent = λ h. absurd (omega (arith, h)) }
+        record { more = create-grows mine c t (asksOf m .key) (f .moment .time); silent = λ h. absurd (omega (arith, h)) }
 
     other-goes : (m : Submessage) → Goes 0 t (subTurned Other f t d r (took m))
     other-goes m = record { more = delivered-grows (namedOf (t .sessions) mine) (rowsOf t) (t .held) r (took m); silent = λ h. absurd (omega (arith, h)) }

@@ -2,7 +2,7 @@
 use Prim.Native.Nat.{ℕ, _<_}
 use mathlib.Core.Path.{_≡_, refl, sym, ap, _∙_}
 use mathlib.Core.Logic.{_≢_}
-use mathlib.Core.Bool.{false}
+use mathlib.Core.Bool.{Bool, false}
 use mathlib.Core.Option.{Option, none, some}
 use mathlib.Core.List.{List, [], _∷_}
 use lib.ListN.{length}
@@ -52,9 +52,9 @@ abbrev pub handledIn : Submessage → Tables → ℕ → ℕ → Tables
 handledIn m t id n = withRows t (handledRows (asksOf m) (rowsOf t) id n)
 
 -- a submessage, over tables in which the session was touched
-abbrev pub Squares : Submessage → Tables → List ℕ → ℕ → ℕ → Span → Type 0
-Squares m t d id n body =
-    Meets t d id n (onSubmessage m (partOf d body) n (shownAt t id)) (handledIn m t id n) (handledMove (asksOf m) (rowsOf t) d id n body)
+abbrev pub Squares : Bool → Submessage → Tables → List ℕ → ℕ → ℕ → Span → Type 0
+Squares isOpen m t d id n body =
+    Meets t d id n (onSubmessage isOpen m (partOf d body) n (shownAt t id)) (handledIn m t id n) (handledMove isOpen (asksOf m) (rowsOf t) d id n body)
 
 -- ---- a live session
 

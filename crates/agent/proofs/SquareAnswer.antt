@@ -198,7 +198,7 @@ module _ (t : Tables) (f : Frame) (sound : SoundTables SoundStream (f .«max_cli
   session = f .«session_id»
 
   abbrev waits : List In
-  waits = insAt (f .time) (f .«stream_id») (rebuiltPart (t .rebuilt) left-end) left-at
+  waits = insAt (f .moment) (f .«stream_id») (rebuiltPart (t .rebuilt) left-end) left-at
 
   abbrev kept-open : Pending
   kept-open = record { asked = pending t sound few f id< number sample task; left = waits }

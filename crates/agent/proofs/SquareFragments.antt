@@ -88,7 +88,7 @@ Moved f d rebuilt stop.Nothing l bs w = w ≡ done l bs
 Moved f d rebuilt (stop.Call number task call) l bs w = w ≡ calls l bs (callAs d call) (record { asked = askedAs f number task; left = [] })
 Moved f d rebuilt (stop.Inside number task call at end) l bs w =
     Kept rebuilt at end
-    × (w ≡ calls l bs (callAs (rebuiltPart rebuilt end) call) (record { asked = askedAs f number task; left = insAt (f .time) (f .«stream_id») (rebuiltPart rebuilt end) at }))
+    × (w ≡ calls l bs (callAs (rebuiltPart rebuilt end) call) (record { asked = askedAs f number task; left = insAt (f .moment) (f .«stream_id») (rebuiltPart rebuilt end) at }))
 
 -- a rule's outcome for the frame's session over t, against what is left: the pointer stays, and the place is the one behind its submessage
 pub record Acts (f : Frame) (d : List ℕ) (t : Tables) (next at : ℕ) (rule : Working) (x : Turned) : Type 0 where
@@ -122,14 +122,14 @@ module _ (f : Frame) (d : List ℕ) (t : Tables) (r : Ran) (from : Rows) (l : Lo
   left-moves (stop.Inside number task call a e) bs rule m = absurd m
 
   pub left-acts : (bs : List Bytes)
-      → Acts f d (withRows t from) (r .next) at (onto (insAt (f .time) (f .«stream_id») (rebuiltPart (t .rebuilt) end) (r .at)) (done l bs))
+      → Acts f d (withRows t from) (r .next) at (onto (insAt (f .moment) (f .«stream_id») (rebuiltPart (t .rebuilt) end) (r .at)) (done l bs))
       (record { ran = leftRan (y .ran) end at; tables = withRows t (y .rows); replies = map (replied (f .«session_id»)) bs ++ y .replies })
   left-acts bs = record {
     after = w .after;
     bytes = bs ++ w .bytes;
     replies = ap (λ (rs : List Reply). map (replied (f .«session_id»)) bs ++ rs) (w .replies) ∙ map-behind (f .«session_id») bs (w .bytes);
     shows = w .shows;
-    moves = left-moves (y .ran .stop) (bs ++ w .bytes) (onto (insAt (f .time) (f .«stream_id») bytesIn (r .at)) (done l bs)) (w .moves bs);
+    moves = left-moves (y .ran .stop) (bs ++ w .bytes) (onto (insAt (f .moment) (f .«stream_id») bytesIn (r .at)) (done l bs)) (w .moves bs);
     elsewhere = λ j k. w .elsewhere j;
     led = w .led;
     pointer = w .next;
@@ -151,7 +151,7 @@ module _ (f : Frame) (d : List ℕ) (max≤ : f .«max_clients» ≤ 255) (id< :
 
   module _ (l : Local) (is : localOf t id ≡ some l) (m : Submessage) (body : Span) where
     abbrev i : In
-    i = inOf (f .time) n m (partOf d body)
+    i = inOf (f .moment) n m (partOf d body)
 
     abbrev u : Rows
     u = touchedIn f (rowsOf t)
@@ -159,12 +159,12 @@ module _ (f : Frame) (d : List ℕ) (max≤ : f .«max_clients» ≤ 255) (id< :
     abbrev to : Rows
     to = handledRows (asksOf m) u id n
 
-    pub plain-acts : Acts f d t (r .next) at (onto [] (plain l i)) (withActed t (acted f r at (handledMove (asksOf m) u d id n body) to (t .held)))
+    pub plain-acts : Acts f d t (r .next) at (onto [] (plain l i)) (withActed t (acted f r at (handledMove (f .moment .«is_open») (asksOf m) u d id n body) to (t .held)))
     unfolding onto
-    plain-acts = by (handledMove (asksOf m) u d id n body) (q .moves)
+    plain-acts = by (handledMove (f .moment .«is_open») (asksOf m) u d id n body) (q .moves)
       where
-        q : Meets t d id n (plain l i) (withRows t to) (handledMove (asksOf m) u d id n body)
-        q = turn-square t sound max≤ id id< (f .time) l is n n< m d body
+        q : Meets t d id n (plain l i) (withRows t to) (handledMove (f .moment .«is_open») (asksOf m) u d id n body)
+        q = turn-square t sound max≤ id id< (f .moment) l is n n< m d body
 
         speaks : (wrote : ℕ) (bytes : List Bytes) → plain l i ≡ done (q .after) bytes
             → Acts f d t (r .next) at (onto [] (plain l i)) (record { ran = record { next = r .next; at = at; wrote = wrote; stop = stop.Nothing }; tables = withRows t to; replies = map (replied id) bytes })
@@ -175,7 +175,7 @@ module _ (f : Frame) (d : List ℕ) (max≤ : f .«max_clients» ≤ 255) (id< :
           shows = q .shows;
           moves = ap (onto []) e;
           elsewhere = λ j k. q .elsewhere j;
-          led = turn-led t sound max≤ id id< (f .time) l is n n< m;
+          led = turn-led t sound max≤ id id< (f .moment) l is n n< m;
           pointer = refl;
           place = refl;
         }
@@ -192,7 +192,7 @@ module _ (f : Frame) (d : List ℕ) (max≤ : f .«max_clients» ≤ 255) (id< :
           shows = q .shows;
           moves = ap (onto []) e;
           elsewhere = λ j k. q .elsewhere j;
-          led = turn-led t sound max≤ id id< (f .time) l is n n< m;
+          led = turn-led t sound max≤ id id< (f .moment) l is n n< m;
           pointer = refl;
           place = refl;
         }
@@ -220,7 +220,7 @@ module _ (f : Frame) (d : List ℕ) (max≤ : f .«max_clients» ≤ 255) (id< :
 
     module _ (l : Local) (is : localOf t id ≡ some l) where
       abbrev fragment : In
-      fragment = inOf (f .time) n (sub.Fragment p) bytes
+      fragment = inOf (f .moment) n (sub.Fragment p) bytes
 
       abbrev touchedOnes : Tables
       touchedOnes = touchedTables f t
@@ -232,19 +232,19 @@ module _ (f : Frame) (d : List ℕ) (max≤ : f .«max_clients» ≤ 255) (id< :
       after = gathering p fragment l
 
       led-touched : LeadsTo SoundStream max t touchedOnes
-      led-touched = touches-led t sound max≤ id id< (f .time)
+      led-touched = touches-led t sound max≤ id id< (f .moment)
 
       led-gathered : LeadsTo SoundStream max t g
       led-gathered = led-on led-touched (gather-led SoundStream stream-lasts max touchedOnes (led-touched .sound) id id< nr total bytes)
 
-      shown : localOf touchedOnes id ≡ some (touched (f .time) l)
-      shown = touch-shown t sound max≤ id id< (f .time) l is
+      shown : localOf touchedOnes id ≡ some (touched (f .moment .time) l)
+      shown = touch-shown t sound max≤ id id< (f .moment) l is
 
       live : isFree (touchedOnes .sessions) id ≡ false
-      live = touch-live t sound max≤ id id< (f .time) l is
+      live = touch-live t sound max≤ id id< (f .moment) l is
 
       store-is : storeOf touchedOnes id ≡ l .store
-      store-is = ap (λ (x : Local). x .store) (same-local touchedOnes id (touched (f .time) l) shown)
+      store-is = ap (λ (x : Local). x .store) (same-local touchedOnes id (touched (f .moment .time) l) shown)
 
       gathered-shown : localOf g id ≡ some after
       gathered-shown =
@@ -252,7 +252,7 @@ module _ (f : Frame) (d : List ℕ) (max≤ : f .«max_clients» ≤ 255) (id< :
           ∙ (λ i. fragments.withStore (gatheredStore (store-is i) nr total bytes) (shown i))
 
       others : (j : ℕ) → j < 256 → j ≢ id → localOf g j ≡ localOf t j
-      others j k h = gather-elsewhere SoundStream max touchedOnes (led-touched .sound) max≤ id id< nr total bytes j h k ∙ touch-elsewhere t id (sound .sessions-need) id< (f .time) j h
+      others j k h = gather-elsewhere SoundStream max touchedOnes (led-touched .sound) max≤ id id< nr total bytes j h k ∙ touch-elsewhere t id (sound .sessions-need) id< (f .moment .time) j h
 
       abbrev inBytes : ℕ → List ℕ
       inBytes k = rebuiltPart (g .rebuilt) k
@@ -284,10 +284,10 @@ module _ (f : Frame) (d : List ℕ) (max≤ : f .«max_clients» ≤ 255) (id< :
           let s = inBytes k in
           let q = rebuilt-reads s 0 m (whole-reads s m e) in
           let xs = q .0 in
-          let brings : broughtBy fragment (some s) ≡ insAt (f .time) n s 0 =
-          ap (λ (ys : List Said). map (λ (x : Said). inOf (f .time) n (x .fields) (x .body)) ys) (reading-passed s m xs e (q .1))
-          ∙ map-map (λ (x : Said). inOf (f .time) n (x .fields) (x .body)) (saidIn s) xs
-          ∙ ap (insFrom (f .time) n s) (sym (q .1)) in
+          let brings : broughtBy fragment (some s) ≡ insAt (f .moment) n s 0 =
+          ap (λ (ys : List Said). map (λ (x : Said). inOf (f .moment) n (x .fields) (x .body)) ys) (reading-passed s m xs e (q .1))
+          ∙ map-map (λ (x : Said). inOf (f .moment) n (x .fields) (x .body)) (saidIn s) xs
+          ∙ ap (insFrom (f .moment) n s) (sym (q .1)) in
           let w = work-square f s g max≤ id< n< (enteredRan r) (rowsOf g) after xs (led-gathered .sound) gathered-shown refl (omega arith) (q .1) (q .2) in
           let a = left-acts f d g (enteredRan r) (rowsOf g) after (workAt f (g .held) s (enteredRan r) (rowsOf g)) k at few w [] in
           subst (λ (y : Rebuilt). Acts f d t (r .next) at (onto (broughtBy fragment (some s)) (done after [])) (turnedBy k y)) (sym e)
@@ -311,7 +311,7 @@ module _ (f : Frame) (d : List ℕ) (max≤ : f .«max_clients» ≤ 255) (id< :
           subst (λ (w : Working). Acts f d t (r .next) at w (wholeTurned f g k r at)) (sym (none-brought x e)) (refused-acts k x e)
         where
           none-brought : (x : Refusal) → rebuiltOf (inBytes k) ≡ rebuilt.Refused x → onto (broughtBy fragment (some (inBytes k))) (done after []) ≡ done after []
-          none-brought x e = ap (λ (ys : List Said). onto (map (λ (x : Said). inOf (f .time) n (x .fields) (x .body)) ys) (done after [])) (reading-refused (inBytes k) x e)
+          none-brought x e = ap (λ (ys : List Said). onto (map (λ (x : Said). inOf (f .moment) n (x .fields) (x .body)) ys) (done after [])) (reading-refused (inBytes k) x e)
 
       abbrev answer : Gathered
       answer = gathered (touchedOnes .sessions) (touchedOnes .parts) (touchedOnes .lengths) (touchedOnes .rebuilt) id nr total bytes

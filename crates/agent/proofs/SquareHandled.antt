@@ -1,7 +1,7 @@
 -- The square of any submessage for a live session, with the touch before it; and the tables stay sound.
 use Prim.Native.Nat.{ℕ, _<_, _≤_}
 use mathlib.Core.Path.{_≡_, refl, sym, ap, _∙_}
-use mathlib.Core.Bool.{false}
+use mathlib.Core.Bool.{Bool, false}
 use mathlib.Core.Option.{some}
 use mathlib.Core.List.{List, []}
 use Rattle.codec.specs.Reading.{partOf}
@@ -29,6 +29,7 @@ use Rattle.agent.specs.RulesFragments.{onSubmessage, plain}
 use Rattle.moves.specs.Moves.{foundHandle}
 use Rattle.moves.specs.Rows.{rows, asksOf, createdSessions, createdObjects, roomSessions, roomObjects, handledMove}
 use Rattle.moves.specs.declared.moves.Move.the-variants.{Silent}
+use Rattle.agent.specs.declared.state.Moment.{Moment}
 use Rattle.agent.proofs.Square.{led-on, shownAt, handledIn, Meets, Squares, shown-live, live-shown, same-local}
 use Rattle.agent.proofs.SquareObjects.{create-square, delete-square, write-square}
 use Rattle.agent.proofs.SquareReads.{reads-led, read-square}
@@ -68,21 +69,21 @@ module _ {most : ℕ} (t : Tables) (sound : SoundTables SoundStream most t) (few
     handled-led (sub.Acknack p) = acks-led t sound few id id< live n n< p
     handled-led (sub.Fragment p) = stays-led
 
-    module _ (d : List ℕ) (body : Span) where
+    module _ (d : List ℕ) (body : Span) (isOpen : Bool) where
       -- "DATA and STATUS get no reply"
       nothing : Meets t d id n (done (shownAt t id) []) t Silent
       nothing = record { after = shownAt t id; shows = shown-live t id live; moves = refl; elsewhere = λ j h. refl }
 
-      pub handled-square : (m : Submessage) → Squares m t d id n body
+      pub handled-square : (m : Submessage) → Squares isOpen m t d id n body
       handled-square (sub.CreateClient p) = nothing
-      handled-square (sub.Create p) = create-square t sound id id< live d n body p
-      handled-square (sub.Delete p) = delete-square t sound id id< live d n body p
+      handled-square (sub.Create p) = create-square t sound id id< live d n body p isOpen
+      handled-square (sub.Delete p) = delete-square t sound id id< live d n body isOpen p
       handled-square (sub.Status p) = nothing
-      handled-square (sub.WriteData p) = write-square t sound id id< live d n body p
-      handled-square (sub.ReadData p) = read-square t sound few id id< live n n< d body p
+      handled-square (sub.WriteData p) = write-square t sound id id< live d n body isOpen p
+      handled-square (sub.ReadData p) = read-square t sound few id id< live n n< isOpen d body p
       handled-square (sub.Data p) = nothing
-      handled-square (sub.Heartbeat p) = heartbeat-square t sound few id id< live n n< d p body
-      handled-square (sub.Acknack p) = acknack-square t sound few id id< live n n< p d body
+      handled-square (sub.Heartbeat p) = heartbeat-square t sound few id id< live n n< d isOpen p body
+      handled-square (sub.Acknack p) = acknack-square t sound few id id< live n n< p d isOpen body
       handled-square (sub.Fragment p) = nothing
 
 -- ---- with the touch: "The time becomes the last activity; then the rules above work on its lists alone."
@@ -90,7 +91,10 @@ module _ {most : ℕ} (t : Tables) (sound : SoundTables SoundStream most t) (few
 abbrev pub touchedAt : Tables → ℕ → ℕ → Tables
 touchedAt t id time = withSessions t (touchedRows (t .sessions) id time)
 
-module _ {most : ℕ} (t : Tables) (sound : SoundTables SoundStream most t) (few : most ≤ 255) (id : ℕ) (id< : id < 256) (time : ℕ) where
+module _ {most : ℕ} (t : Tables) (sound : SoundTables SoundStream most t) (few : most ≤ 255) (id : ℕ) (id< : id < 256) (moment : Moment) where
+  abbrev time : ℕ
+  time = moment .time
+
   abbrev u : Tables
   u = touchedAt t id time
 
@@ -109,12 +113,12 @@ module _ {most : ℕ} (t : Tables) (sound : SoundTables SoundStream most t) (few
     turn-led = led-on touches-led (handled-led u (touches-led .sound) few id id< (touch-live l is) n n< m)
 
     pub turn-square : (d : List ℕ) (body : Span)
-        → Meets t d id n (plain l (record { time = time; stream = n; fields = m; body = partOf d body })) (handledIn m u id n) (handledMove (asksOf m) (rowsOf u) d id n body)
+        → Meets t d id n (plain l (record { moment = moment; stream = n; fields = m; body = partOf d body })) (handledIn m u id n) (handledMove (moment .«is_open») (asksOf m) (rowsOf u) d id n body)
     turn-square d body =
-        let q = handled-square u (touches-led .sound) few id id< (touch-live l is) n n< d body m in
+        let q = handled-square u (touches-led .sound) few id id< (touch-live l is) n n< d body (moment .«is_open») m in
         record {
           after = q .after;
           shows = q .shows;
-          moves = ap (onSubmessage m (partOf d body) n) (sym (same-local u id (touched time l) (touch-shown l is))) ∙ q .moves;
+          moves = ap (onSubmessage (moment .«is_open») m (partOf d body) n) (sym (same-local u id (touched time l) (touch-shown l is))) ∙ q .moves;
           elsewhere = λ j h. q .elsewhere j h ∙ touch-elsewhere t id (sound .sessions-need) id< time j h;
         }

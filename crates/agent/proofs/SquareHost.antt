@@ -23,8 +23,8 @@ free-none t id e = rw e refl
 
 -- ---- set-up
 
-pub empty-view : (t : Tables) (max timeout next : ℕ) → next ≡ 1 → viewOf next (setUpTables (Ready next) t) ≡ emptyAgent max timeout .tables
-empty-view t max timeout next e = λ i. record { next = e i; at = λ id. at-none id i }
+pub empty-view : (t : Tables) (max timeout : ℕ) (isOpen : ℕ → ℕ → Bool) (next : ℕ) → next ≡ 1 → viewOf next (setUpTables (Ready next) t) ≡ emptyAgent max timeout isOpen .tables
+empty-view t max timeout isOpen next e = λ i. record { next = e i; at = λ id. at-none id i }
   where
     at-none : (id : ℕ) → sessionIn (setUpTables (Ready next) t) id ≡ none
     at-none id = by (ltb id 256) refl

@@ -131,17 +131,21 @@ module _ {most : ℕ} (t : Tables) (sound : SoundTables SoundStream most t) (id 
 
   -- ---- WRITE_DATA
 
-  write-moves : (number : ObjectNumber) (h : ObjectHandle)
-      → ifHandle (handleShown h) (λ w. asks n (number .0) writing (writeData w (partOf d body)) l) (says n (number .0) ErrUnknownRef l) ≡ outcome d t id n l (writeBy number body h)
-  write-moves number (Bridged w) = refl
-  write-moves number Implicit = refl
+  -- with a handle's option, and whether the minute is open
+  abbrev writes : Bool → ObjectNumber → Option ℕ → Move
+  writes isOpen number h =
+      ifHandle h (λ w. cond isOpen (asks n (number .0) writing (writeData w (partOf d body)) l) (says n (number .0) ErrIncompatible l)) (says n (number .0) ErrUnknownRef l)
 
-  pub write-square : (p : WriteDataPayload) → Squares (sub.WriteData p) t d id n body
-  write-square p =
+  write-moves : (isOpen : Bool) (number : ObjectNumber) (h : ObjectHandle) → writes isOpen number (handleShown h) ≡ outcome d t id n l (writeBy isOpen number body h)
+  write-moves true number (Bridged w) = refl
+  write-moves false number (Bridged w) = refl
+  write-moves isOpen number Implicit = refl
+
+  pub write-square : (isOpen : Bool) (p : WriteDataPayload) → Squares isOpen (sub.WriteData p) t d id n body
+  write-square isOpen p =
       let number = p .«writer_id» in
-      stays (onWrite n (number .0) (partOf d body) l) (writeMove number body (foundAt number))
-      (ap (λ (h : Option ℕ). ifHandle h (λ w. asks n (number .0) writing (writeData w (partOf d body)) l) (says n (number .0) ErrUnknownRef l)) (handle-view number)
-      ∙ write-moves number (foundHandle (foundAt number)))
+      stays (onWrite isOpen n (number .0) (partOf d body) l) (writeMove isOpen number body (foundAt number))
+      (ap (writes isOpen number) (handle-view number) ∙ write-moves isOpen number (foundHandle (foundAt number)))
 
   -- ---- the row
 
@@ -207,8 +211,8 @@ module _ {most : ℕ} (t : Tables) (sound : SoundTables SoundStream most t) (id 
       ∙ ap (λ (p : Place). outcome d (gone number) id n (removing (number .0)) (deleteMove number (takenOf row used p))) (sym (place-view number))
       ∙ ap (λ (x : Taken). outcome d (gone number) id n (removing (number .0)) (deleteMove number x)) (taken-is (t .sessions) (t .objects) id number Live (reach-objects t sound id id< live))
 
-  pub delete-square : (p : DeletePayload) → Squares (sub.Delete p) t d id n body
-  delete-square p =
+  pub delete-square : (isOpen : Bool) (p : DeletePayload) → Squares isOpen (sub.Delete p) t d id n body
+  delete-square isOpen p =
       let number = p .«object_id» in
       let reached = reach-objects t sound id id< live in
       record {
@@ -341,8 +345,8 @@ module _ {most : ℕ} (t : Tables) (sound : SoundTables SoundStream most t) (id 
           rebuilt = t .rebuilt;
         }
 
-    pub create-square : Squares (sub.Create p) t d id n body
-    create-square =
+    pub create-square : (isOpen : Bool) → Squares isOpen (sub.Create p) t d id n body
+    create-square isOpen =
         subst (λ (r : Room). Meets t d id n (onCreate (p .kind) n (number .0) (p .«parent_id») (partOf d body) l) (roomTables r) (roomMove r (t .sessions) (t .objects) d id number (p .kind) (p .«parent_id») body))
         (sym (room-view number)) (by (full (number .0) l) (hasDependant (l .objects) (findIn (l .objects) (number .0))) refl)
       where

@@ -103,8 +103,8 @@ module _ {most : ℕ} (t : Tables) (sound : SoundTables SoundStream most t) (few
         }
     by-handle Implicit = record { after = l; shows = shown-live t id live; moves = refl; elsewhere = λ j h. refl }
 
-  pub read-square : (d : List ℕ) (body : Span) (p : ReadDataPayload) → Squares (sub.ReadData p) t d id n body
-  read-square d body p =
+  pub read-square : (isOpen : Bool) (d : List ℕ) (body : Span) (p : ReadDataPayload) → Squares isOpen (sub.ReadData p) t d id n body
+  read-square isOpen d body p =
       let number = p .«reader_id» in
       let q = by-handle d number (foundHandle (foundObject (t .sessions) (t .objects) id number)) in
       record { after = q .after; shows = q .shows; moves = ap (rule d number) (handle-view t sound id id< live d n body number) ∙ q .moves; elsewhere = q .elsewhere }

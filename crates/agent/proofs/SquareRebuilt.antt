@@ -70,7 +70,7 @@ askedAs f number task = record { stream = f .«stream_id»; number = number .0; 
 abbrev pub Worked : Frame → List ℕ → Stop → ℕ → Local → List Bytes → Working → Type 0
 Worked f s stop.Nothing at l bs w = w ≡ done l bs
 Worked f s (stop.Call number task call) at l bs w =
-    (0 < length s) × (w ≡ calls l bs (callAs s call) (record { asked = askedAs f number task; left = insAt (f .time) (f .«stream_id») s at }))
+    (0 < length s) × (w ≡ calls l bs (callAs s call) (record { asked = askedAs f number task; left = insAt (f .moment) (f .«stream_id») s at }))
 Worked f s (stop.Inside number task call a e) at l bs w = ⊥
 
 -- behind replies
@@ -85,7 +85,7 @@ pub record Works (f : Frame) (s : List ℕ) (t : Tables) (r : Ran) (from : Rows)
   pub bytes : List Bytes
   pub replies : y .replies ≡ map (replied (f .«session_id»)) bytes
   pub shows : localOf (withRows t (y .rows)) (f .«session_id») ≡ some after
-  pub moves : (bs : List Bytes) → Worked f s (y .ran .stop) (y .ran .at) after (bs ++ bytes) (onto (insAt (f .time) (f .«stream_id») s (r .at)) (done l bs))
+  pub moves : (bs : List Bytes) → Worked f s (y .ran .stop) (y .ran .at) after (bs ++ bytes) (onto (insAt (f .moment) (f .«stream_id») s (r .at)) (done l bs))
   pub elsewhere : (j : ℕ) → j ≢ f .«session_id» → localOf (withRows t (y .rows)) j ≡ localOf (withRows t from) j
   pub led : LeadsTo SoundStream (f .«max_clients») (withRows t from) (withRows t (y .rows))
   pub next : y .ran .next ≡ r .next
@@ -187,7 +187,7 @@ module _ (f : Frame) (s : List ℕ) (t : Tables) where
 
   module _ (max≤ : f .«max_clients» ≤ 255) (id< : id < 256) (n< : n < 256) where
     abbrev insFrom : ℕ → List In
-    insFrom at = insAt (f .time) n s at
+    insFrom at = insAt (f .moment) n s at
 
     -- at the end
     ended : (r : Ran) (from : Rows) (l : Local) → SoundTables SoundStream (f .«max_clients») (withRows t from) → localOf (withRows t from) id ≡ some l → r .stop ≡ stop.Nothing
@@ -199,7 +199,7 @@ module _ (f : Frame) (s : List ℕ) (t : Tables) where
       replies = refl;
       shows = is;
       moves = λ bs. subst (λ (x : Stop). Worked f s x (r .at) l (bs ++ []) (onto (insFrom (r .at)) (done l bs))) (sym quiet)
-          (ap (λ (xs : List In). onto xs (done l bs)) (ins-end (f .time) n s (r .at) past) ∙ ap (done l) (sym (append-nil bs)));
+          (ap (λ (xs : List In). onto xs (done l bs)) (ins-end (f .moment) n s (r .at) past) ∙ ap (done l) (sym (append-nil bs)));
       elsewhere = λ j k. refl;
       led = same-led SoundStream stream-lasts (f .«max_clients») (withRows t from) sound;
       next = refl;
@@ -272,7 +272,7 @@ module _ (f : Frame) (s : List ℕ) (t : Tables) where
 
     -- the first of them, as it is read
     inside-is : (r : Ran) (from : Rows) (m : Submessage) (x : Span) (c : Cursor) → namedOf (from .sessions) id ≡ Live → barred m ≡ false → readAt s (r .at) ≡ parsed.Sub m x c
-        → insideTurned f from h s r ≡ acted f r (c .at) (handledMove (asksOf m) (touchedIn f from) s id n x) (handledRows (asksOf m) (touchedIn f from) id n) h
+        → insideTurned f from h s r ≡ acted f r (c .at) (handledMove (f .moment .«is_open») (asksOf m) (touchedIn f from) s id n x) (handledRows (asksOf m) (touchedIn f from) id n) h
     unfolding insideTurned
     inside-is r from m x c live b e =
         let taken : Taken = record { asked = asksOf m; body = x; at = c .at } in
@@ -310,10 +310,10 @@ module _ (f : Frame) (s : List ℕ) (t : Tables) where
                 let p = read-placed s (r .at) m x c g in
                 let a = p .ahead in
                 let u = touchedIn f from in
-                let q = turn-square (withRows t from) sound max≤ id id< (f .time) l is n n< m s x in
+                let q = turn-square (withRows t from) sound max≤ id id< (f .moment) l is n n< m s x in
                 subst (λ (v : Acted). Works f s t r from l (then v (workIn left f h s (v .ran) (v .rows)))) (sym (inside-is r from m x c live (b .0) g))
-                (one left go r from (handledRows (asksOf m) u id n) l (q .after) (inOf (f .time) n m (partOf s x)) (c .at) zs (omega (arith, k)) (ins-more (f .time) n s (r .at) m x c zs k g j) (q .shows) (q .elsewhere)
-                (turn-led (withRows t from) sound max≤ id id< (f .time) l is n n< m) (p .within) j (b .1) (omega (arith, a, few)) (handledMove (asksOf m) u s id n x) (q .moves))
+                (one left go r from (handledRows (asksOf m) u id n) l (q .after) (inOf (f .moment) n m (partOf s x)) (c .at) zs (omega (arith, k)) (ins-more (f .moment) n s (r .at) m x c zs k g j) (q .shows) (q .elsewhere)
+                (turn-led (withRows t from) sound max≤ id id< (f .moment) l is n n< m) (p .within) j (b .1) (omega (arith, a, few)) (handledMove (f .moment .«is_open») (asksOf m) u s id n x) (q .moves))
 
         by : (b : Bool) → ltb (r .at) (length s) ≡ b → Goes left → Works f s t r from l (workIn (suc left) f h s r from)
         by true q go = subst (Works f s t r from l) (sym (work-more left r from (idle-goes r quiet ∙ q))) (inside (ltb-true (r .at) (length s) q) go (readAt s (r .at)) refl)

@@ -62,7 +62,7 @@ stopAs f d rebuilt (stop.Call number task call) at =
       record {
         session = f .«session_id»;
         pending = record { asked = askedAs f number task; left = [] };
-        rest = subsAt (f .time) (f .«stream_id») d at;
+        rest = subsAt (f .moment) (f .«stream_id») d at;
       },
     )
 stopAs f d rebuilt (stop.Inside number task call a e) at =
@@ -70,8 +70,8 @@ stopAs f d rebuilt (stop.Inside number task call a e) at =
       callAs (rebuiltPart rebuilt e) call,
       record {
         session = f .«session_id»;
-        pending = record { asked = askedAs f number task; left = insAt (f .time) (f .«stream_id») (rebuiltPart rebuilt e) a };
-        rest = subsAt (f .time) (f .«stream_id») d at;
+        pending = record { asked = askedAs f number task; left = insAt (f .moment) (f .«stream_id») (rebuiltPart rebuilt e) a };
+        rest = subsAt (f .moment) (f .«stream_id») d at;
       },
     )
 
@@ -104,7 +104,7 @@ module _ (f : Frame) (d : List ℕ) (max≤ : f .«max_clients» ≤ 255) (id< :
   n = f .«stream_id»
 
   abbrev restAt : ℕ → List (Sub Opening In)
-  restAt at = subsAt (f .time) n d at
+  restAt at = subsAt (f .moment) n d at
 
   abbrev runs : List (Sub Opening In) → agent.Tables → agent.Ran
   runs ss t = run max id ss t
@@ -186,7 +186,7 @@ module _ (f : Frame) (d : List ℕ) (max≤ : f .«max_clients» ≤ 255) (id< :
     -- CREATE_CLIENT
     module _ (key : ℕ) where
       abbrev o : Opening
-      o = record { time = f .time; key = key }
+      o = record { time = f .moment .time; key = key }
 
       abbrev c : Created
       c = createdOf (t .sessions) (t .streams) max (r .next)
@@ -195,18 +195,18 @@ module _ (f : Frame) (d : List ℕ) (max≤ : f .«max_clients» ≤ 255) (id< :
       greets-on (created.Opened i k) = refl
       greets-on (created.Refused x) = refl
 
-      client-goes : runs (opens o ∷ restAt at) v ≡ behind (opened (idOpened c) ∷ []) (runs (restAt at) (viewOf (opening f t r key at .ran .next) (createTables c t key (f .time))))
+      client-goes : runs (opens o ∷ restAt at) v ≡ behind (opened (idOpened c) ∷ []) (runs (restAt at) (viewOf (opening f t r key at .ran .next) (createTables c t key (f .moment .time))))
       unfolding run
       client-goes =
           ap (λ (x : Option ℕ). behind (opened x ∷ []) (runs (restAt at) (openAs o v x))) (sym (chosen-view t max sound (r .next) max≤ low high))
-          ∙ ap (λ (u : agent.Tables). behind (opened (idOpened c) ∷ []) (runs (restAt at) u)) (open-view t max sound (r .next) max≤ low high key (f .time))
+          ∙ ap (λ (u : agent.Tables). behind (opened (idOpened c) ∷ []) (runs (restAt at) u)) (open-view t max sound (r .next) max≤ low high key (f .moment .time))
 
       client-turns : Turns t (runs (opens o ∷ restAt at) v) at (opening f t r key at)
       client-turns =
           let p = pointer-in t max sound (r .next) max≤ low high in
           record {
             goes = client-goes ∙ ap (λ (s : Stop). onward-from s (opening f t r key at)) (sym (greets-on c));
-            led = creates-led t max sound (r .next) max≤ low high key (f .time);
+            led = creates-led t max sound (r .next) max≤ low high key (f .moment .time);
             low = p .0;
             high = p .1;
             place = refl;
@@ -218,11 +218,11 @@ module _ (f : Frame) (d : List ℕ) (max≤ : f .«max_clients» ≤ 255) (id< :
 
     -- a submessage as it stands
     plain-turns : (m : Submessage) (body : Span)
-        → Turns t (deliver id (restAt at) v (sessionIn t id) (λ l. onto [] (plain l (inOf (f .time) n m (partOf d body)))) (λ t′. runs (restAt at) t′)) at
+        → Turns t (deliver id (restAt at) v (sessionIn t id) (λ l. onto [] (plain l (inOf (f .moment) n m (partOf d body)))) (λ t′. runs (restAt at) t′)) at
         (withActed t (delivered (namedOf (t .sessions) id) f (rowsOf t) (t .held) d r (record { asked = asksOf m; body = body; at = at })))
     plain-turns m body =
-        session-turns t sound (r .next) low high at (λ l. onto [] (plain l (inOf (f .time) n m (partOf d body)))) (X (namedOf (t .sessions) id))
-        (λ l e. subst (λ (w : Named). Acts f d t (r .next) at (onto [] (plain l (inOf (f .time) n m (partOf d body)))) (X w)) (sym (named-free false (free-view t id ∙ ap absent e))) (plain-acts f d max≤ id< n< t sound r at l e m body))
+        session-turns t sound (r .next) low high at (λ l. onto [] (plain l (inOf (f .moment) n m (partOf d body)))) (X (namedOf (t .sessions) id))
+        (λ l e. subst (λ (w : Named). Acts f d t (r .next) at (onto [] (plain l (inOf (f .moment) n m (partOf d body)))) (X w)) (sym (named-free false (free-view t id ∙ ap absent e))) (plain-acts f d max≤ id< n< t sound r at l e m body))
         (λ e. let z = named-free true (free-view t id ∙ ap absent e) in
         subst (λ (w : Named). Quiet t (r .next) at (X w)) (sym z) (record { tables = ap (withRows t) (untouched f d t (rowsOf t) z); replies = refl; stop = idle; pointer = refl; place = refl }))
       where
@@ -230,10 +230,10 @@ module _ (f : Frame) (d : List ℕ) (max≤ : f .«max_clients» ≤ 255) (id< :
         X w = withActed t (delivered w f (rowsOf t) (t .held) d r (record { asked = asksOf m; body = body; at = at }))
 
     fragment-turns : (p : FragmentPayload) (body : Span)
-        → Turns t (deliver id (restAt at) v (sessionIn t id) (λ l. let i = inOf (f .time) n (sub.Fragment p) (partOf d body) in onto (brought p i l) (done (gathering p i l) [])) (λ t′. runs (restAt at) t′)) at
+        → Turns t (deliver id (restAt at) v (sessionIn t id) (λ l. let i = inOf (f .moment) n (sub.Fragment p) (partOf d body) in onto (brought p i l) (done (gathering p i l) [])) (λ t′. runs (restAt at) t′)) at
         (fragmentTurned f t d r (record { asked = asksOf (sub.Fragment p); body = body; at = at }))
     fragment-turns p body =
-        session-turns t sound (r .next) low high at (λ l. let i = inOf (f .time) n (sub.Fragment p) (partOf d body) in onto (brought p i l) (done (gathering p i l) []))
+        session-turns t sound (r .next) low high at (λ l. let i = inOf (f .moment) n (sub.Fragment p) (partOf d body) in onto (brought p i l) (done (gathering p i l) []))
         (fragmentTurned f t d r (record { asked = asksOf (sub.Fragment p); body = body; at = at }))
         (λ l e. fragment-acts f d max≤ id< n< t sound r at idle p body l e)
         (λ e. let b = free-view t id ∙ ap absent e in fragment-quiet f d max≤ id< n< t sound r at idle p body b (named-free true b))
@@ -241,7 +241,7 @@ module _ (f : Frame) (d : List ℕ) (max≤ : f .«max_clients» ≤ 255) (id< :
   module _ (t : Tables) (sound : SoundTables SoundStream max t) (r : Ran) (idle : r .stop ≡ stop.Nothing) (low : 1 ≤ r .next) (high : r .next ≤ 255) where
     -- each kind
     sub-turns : (m : Submessage) (body : Span) (k : Cursor)
-        → Turns t (runs (subFrom (f .time) n m (partOf d body) ∷ restAt (k .at)) (viewOf (r .next) t)) (k .at) (turnedBy (parsed.Sub m body k) f t d r)
+        → Turns t (runs (subFrom (f .moment) n m (partOf d body) ∷ restAt (k .at)) (viewOf (r .next) t)) (k .at) (turnedBy (parsed.Sub m body k) f t d r)
     unfolding run
     sub-turns (sub.CreateClient p) body k = client-turns t sound r idle low high (k .at) (p .«client_key»)
     sub-turns (sub.Create p) body k = plain-turns t sound r idle low high (k .at) (sub.Create p) body
@@ -255,7 +255,7 @@ module _ (f : Frame) (d : List ℕ) (max≤ : f .«max_clients» ≤ 255) (id< :
     sub-turns (sub.Fragment p) body k = fragment-turns t sound r idle low high (k .at) p body
 
     read-turns : (m : Submessage) (body : Span) (k : Cursor) → readAt d (r .at) ≡ parsed.Sub m body k
-        → Turns t (runs (subFrom (f .time) n m (partOf d body) ∷ restAt (k .at)) (viewOf (r .next) t)) (k .at) (turned f t d r)
+        → Turns t (runs (subFrom (f .moment) n m (partOf d body) ∷ restAt (k .at)) (viewOf (r .next) t)) (k .at) (turned f t d r)
     unfolding turned
     read-turns m body k e = rw e (sub-turns m body k)
 
@@ -282,7 +282,7 @@ module _ (f : Frame) (d : List ℕ) (max≤ : f .«max_clients» ≤ 255) (id< :
       → RunSquare f d t (runs (restAt (r .at)) (viewOf (r .next) t)) (idleRun r t)
   unfolding run
   ended r t sound idle low high within ys e h =
-      let z : runs (restAt (r .at)) (viewOf (r .next) t) ≡ record { tables = viewOf (r .next) t; replies = []; stop = none } = ap (λ (ss : List (Sub Opening In)). runs ss (viewOf (r .next) t)) (subs-end (f .time) n d (r .at) h) in
+      let z : runs (restAt (r .at)) (viewOf (r .next) t) ≡ record { tables = viewOf (r .next) t; replies = []; stop = none } = ap (λ (ss : List (Sub Opening In)). runs ss (viewOf (r .next) t)) (subs-end (f .moment) n d (r .at) h) in
       record {
         tables = ap (λ (y : agent.Ran). y .tables) z;
         replies = ap (λ (y : agent.Ran). y .replies) z;
@@ -359,8 +359,8 @@ module _ (f : Frame) (d : List ℕ) (max≤ : f .«max_clients» ≤ 255) (id< :
               let p = read-placed d (r .at) m x c g in
               let a = p .ahead in
               let q = read-turns t sound r idle low high m x c g in
-              subst (λ (ss : List (Sub Opening In)). RunSquare f d t (runs ss (viewOf (r .next) t)) (before (turned f t d r) (λ r′ t′. runIn left f d r′ t′))) (sym (subs-more (f .time) n d (r .at) m x c zs k g j))
-              (behind-one left go t (runs (subFrom (f .time) n m (partOf d x) ∷ restAt (c .at)) (viewOf (r .next) t)) (c .at) (turned f t d r) zs q (p .within) j (omega (arith, a, h)))
+              subst (λ (ss : List (Sub Opening In)). RunSquare f d t (runs ss (viewOf (r .next) t)) (before (turned f t d r) (λ r′ t′. runIn left f d r′ t′))) (sym (subs-more (f .moment) n d (r .at) m x c zs k g j))
+              (behind-one left go t (runs (subFrom (f .moment) n m (partOf d x) ∷ restAt (c .at)) (viewOf (r .next) t)) (c .at) (turned f t d r) zs q (p .within) j (omega (arith, a, h)))
 
       by : (b : Bool) → ltb (r .at) (length d) ≡ b → Goes left → RunSquare f d t (runs (restAt (r .at)) (viewOf (r .next) t)) (runIn (suc left) f d r t)
       by true q go = subst (λ (x : Turned). RunSquare f d t (runs (restAt (r .at)) (viewOf (r .next) t)) x) (sym (run-more left r t (idle-goes r idle ∙ q))) (inside (ltb-true (r .at) (length d) q) go (readAt d (r .at)) refl)
@@ -368,7 +368,7 @@ module _ (f : Frame) (d : List ℕ) (max≤ : f .«max_clients» ≤ 255) (id< :
 
   -- the run from a place of a datagram that was checked
   pub run-square : (r : Ran) (t : Tables) (ys : List Item) → SoundTables SoundStream max t → r .stop ≡ stop.Nothing → 1 ≤ r .next → r .next ≤ 255 → r .at ≤ length d → itemsAt d (r .at) ≡ items ys
-      → RunSquare f d t (run max (f .«session_id») (subsAt (f .time) (f .«stream_id») d (r .at)) (viewOf (r .next) t)) (runAt f d r t)
+      → RunSquare f d t (run max (f .«session_id») (subsAt (f .moment) (f .«stream_id») d (r .at)) (viewOf (r .next) t)) (runAt f d r t)
   unfolding runAt
   run-square r t ys sound idle low high within e = goes-on (length d - r .at) r t ys sound idle low high within e (omega arith)
 

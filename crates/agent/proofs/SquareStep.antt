@@ -5,7 +5,7 @@ use mathlib.Core.Bool.{Bool, true, false, cond}
 use mathlib.Core.Option.{Option, none, some}
 use mathlib.Core.List.{List, [], map}
 use native.Mathlib.Omega.{arith}
-use borrow.Author.Tests.{ltb-true, ltb-false, lt-ltb, le-ltb, le-leb, leb-false, ne-eqb}
+use borrow.Author.Tests.{ltb-true, ltb-false, lt-ltb, le-ltb, le-leb, leb-true, leb-false, ne-eqb}
 use lib.Dec.{leb, ltb}
 use lib.ListN.{length, getD}
 use Rattle.codec.specs.Bytes.{AllBytes, putAt}
@@ -16,13 +16,19 @@ use Rattle.codec.specs.Rebuilt.{rebuiltAt}
 use Rattle.codec.specs.Refusals.{numberOf, byteOf}
 use Rattle.codec.specs.declared.refusals.Refusal.{Refusal}
 use Rattle.codec.specs.declared.reading.Checked.{Checked}
-use Rattle.codec.specs.declared.refusals.Refusal.the-variants.{BufferTooShort, OutOfTurn, OverLimit, TooLong, StoreFull, OutputTooShort}
+use Rattle.codec.specs.declared.refusals.Refusal.the-variants.{BufferTooShort, OutOfTurn, OverLimit, TooLong, StoreFull, OutputTooShort, NoSuchMinute, WindowFault}
 use Rattle.codec.proofs.reading.Laws.{items-end}
 use Rattle.codec.proofs.rebuilt.Laws.{rebuilt-is}
 use Rattle.isolation.specs.Rules.{Sub}
 use Rattle.streams.specs.declared.sent.Slot.{Slot}
+use Rattle.hours.specs.Windows.{Window, weekMinutes, isOpen, allFit, checkedOf as checkedWindows}
+use Rattle.hours.specs.Week.{isMinute, keptHours, openIn}
+use Rattle.hours.specs.declared.windows.Windows.{Windows}
+use Rattle.hours.specs.declared.windows.Windows.the-variants as windows
+use Rattle.hours.proofs.Promises.{opens-same}
+use Rattle.hours.proofs.week.Laws.{length-kept, kept-week}
 use Rattle.sessions.specs.Limits.{limitsOf}
-use Rattle.sessions.specs.Setup.{setUpOf}
+use Rattle.sessions.specs.Setup.{setUpOf, leaves}
 use Rattle.sessions.specs.Sweep.{expiredIds, evictedRows, sweptRows}
 use Rattle.sessions.specs.Table.{isFree, endedRows}
 use Rattle.sessions.specs.View.{Tables, Local, localOf, absent}
@@ -42,7 +48,7 @@ use Rattle.sessions.proofs.Steps.{remove-led, sweep-led, ready-led}
 use Rattle.moves.specs.Calls as calls
 use Rattle.moves.specs.Calls.{fits}
 use Rattle.moves.specs.Proxy.{callAs, answerAs, taskAs}
-use Rattle.agent.specs.Brings.{Opening, In}
+use Rattle.agent.specs.Brings.{Opening, In, momentOf}
 use Rattle.agent.specs.Lent.{rebuiltPart}
 use Rattle.agent.specs.Place.{subsAt, insAt}
 use Rattle.agent.specs.RulesFragments.{resumed}
@@ -50,9 +56,9 @@ use Rattle.agent.specs.Step as step
 use Rattle.agent.specs.Step.{Reply, joinedReplies, withId, run, continued, settle, begin, stays, lapsedIds, isLive, emptyAgent, callOf, openOf, withTables, withLocals}
 use Rattle.agent.specs.Run.{Turned, workIn, workAt, runAt}
 use Rattle.agent.specs.Judge as judge
-use Rattle.agent.specs.Judge.{recordSound, datagramStart, answerStart, answerSlot, placedJudged, checkedJudged, datagramJudged, restJudged, answerJudged, sessionOf, streamOf, slotOf, leftKept, isRead, judgedBy, judgeOf}
+use Rattle.agent.specs.Judge.{recordSound, datagramStart, answerStart, answerSlot, placedJudged, checkedJudged, minuteJudged, datagramJudged, restJudged, answerJudged, sessionOf, streamOf, slotOf, leftKept, isRead, judgedBy, judgeOf}
 use Rattle.agent.specs.Host as host
-use Rattle.agent.specs.Host.{Leaves, performed, finishedOf, finish, processedBy, processOf, idleOf, removedAs, removedBy, removedRows, setUpAs}
+use Rattle.agent.specs.Host.{Leaves, performed, finishedOf, finish, processedBy, processOf, idleOf, removedAs, removedBy, removedRows, setUpBy, setUpAs, noGiven}
 use Rattle.agent.specs.Whole.{State, Event, datagram, answer, removal, sweep, Did, didBy, removedResult, withRows, stepOf, sessionIn, agentOf, eventOf, setUpWith, emptyOf}
 use Rattle.agent.specs.declared.agent.AgentSetUp.the-variants as ready
 use Rattle.agent.specs.declared.agent.Idle.{Idle}
@@ -68,6 +74,8 @@ use Rattle.moves.specs.declared.proxy.BridgeAnswer.the-variants.{Created, Done,
 use Rattle.moves.specs.declared.proxy.Task.{Task}
 use Rattle.moves.specs.declared.proxy.Task.the-variants.{Creating, Writing, Reading, Deleting}
 use Rattle.agent.specs.declared.state.Agent.{Agent}
+use Rattle.agent.specs.declared.state.Given.{Given}
+use Rattle.agent.specs.declared.state.Moment.{Moment}
 use Rattle.agent.specs.declared.state.Pending.{Pending}
 use Rattle.agent.specs.declared.state.Waiting.{Waiting}
 use Rattle.agent.specs.declared.state.Waiting.the-variants as waiting
@@ -110,6 +118,7 @@ pub record Inv (st : State) : Type 0 where
   pub low : 1 ≤ st .agent .next
   pub high : st .agent .next ≤ 255
   pub sound : SoundTables SoundStream (st .agent .«max_clients») (st .tables)
+  pub week : weekMinutes ≤ length (st .hours)
   pub waits : Waits (st .tables) (st .lent) (st .agent .waits)
 
 -- a call's result against the step's over lists, and the state that it leaves
@@ -119,7 +128,7 @@ pub record Same (c : Did) (d : step.Did) : Type 0 where
   pub result : c .result ≡ d .result
   pub inv : Inv (c .state)
 
-refuses : (st : State) (d out : List ℕ) (r : Refusal) → Inv st → Same (didBy d (st .lent) (host.refuse (st .agent) (st .tables) out r)) (step.refuse (agentOf st) out (numberOf r) (byteOf r))
+refuses : (st : State) (d out : List ℕ) (r : Refusal) → Inv st → Same (didBy (st .hours) d (st .lent) (host.refuse (st .agent) (st .tables) out r)) (step.refuse (agentOf st) out (numberOf r) (byteOf r))
 refuses st d out r v = record { agent = refl; out = refl; result = refl; inv = v }
 
 -- ---- behind a run: 13, or the replies and what is open then
@@ -148,37 +157,37 @@ module _ (st : State) (v : Inv st) (out d : List ℕ) (x : Start) (session-in : 
   module _ (next at wrote : ℕ) (t : Tables) (rs : List Reply) (low : 1 ≤ next) (high : next ≤ 255) (within : at ≤ length d) (reads : (ys : List Item) × (itemsAt d at ≡ items ys))
       (sound : SoundTables SoundStream (st .agent .«max_clients») t) where
     -- where no rebuilt submessage waits there is none
-    none-left : insAt (f .time) (f .«stream_id») (rebuiltPart (t .rebuilt) 0) 0 ≡ []
-    none-left = ins-end (f .time) (f .«stream_id») (rebuiltPart (t .rebuilt) 0) 0 (let z = ap length (none-part (t .rebuilt)) in omega (arith, z))
+    none-left : insAt (f .moment) (f .«stream_id») (rebuiltPart (t .rebuilt) 0) 0 ≡ []
+    none-left = ins-end (f .moment) (f .«stream_id») (rebuiltPart (t .rebuilt) 0) 0 (let z = ap length (none-part (t .rebuilt)) in omega (arith, z))
 
     none-reads : Left (t .rebuilt) 0 0
     none-reads = record { few = omega arith; within = omega arith; said = []; reads = items-end (rebuiltPart (t .rebuilt) 0) 0 (let z = ap length (none-part (t .rebuilt)) in omega (arith, z)); none-barred = refl }
 
-    finishes : (s : Stop) (b : Bool) → StopKept (t .rebuilt) s → StopRoom (stopAs f d (t .rebuilt) s at) (viewOf next t) → Same (didBy d (st .lent) (leavesAs b (turnedAs next at wrote s t rs))) (settledAs b (ranAs next at s t rs))
+    finishes : (s : Stop) (b : Bool) → StopKept (t .rebuilt) s → StopRoom (stopAs f d (t .rebuilt) s at) (viewOf next t) → Same (didBy (st .hours) d (st .lent) (leavesAs b (turnedAs next at wrote s t rs))) (settledAs b (ranAs next at s t rs))
     finishes s true k e = refuses st d out OutputTooShort v
     finishes stop.Nothing false k e =
-        record { agent = refl; out = refl; result = refl; inv = record { few = v .few; low = low; high = high; sound = sound; waits = tt } }
+        record { agent = refl; out = refl; result = refl; inv = record { few = v .few; low = low; high = high; sound = sound; week = v .week; waits = tt } }
     finishes (stop.Call number task call) false k e =
         record {
-          agent = ap (λ (left : List In). withTables (agentOf st) (viewOf next t) (some (record { session = f .«session_id»; pending = record { asked = askedAs f number task; left = left }; rest = subsAt (f .time) (f .«stream_id») d at }))) none-left;
+          agent = ap (λ (left : List In). withTables (agentOf st) (viewOf next t) (some (record { session = f .«session_id»; pending = record { asked = askedAs f number task; left = left }; rest = subsAt (f .moment) (f .«stream_id») d at }))) none-left;
           out = refl;
           result = refl;
-          inv = record { few = v .few; low = low; high = high; sound = sound; waits = record { session-in = session-in; stream-in = stream-in; within = within; reads = reads; left = none-reads; room = e } };
+          inv = record { few = v .few; low = low; high = high; sound = sound; week = v .week; waits = record { session-in = session-in; stream-in = stream-in; within = within; reads = reads; left = none-reads; room = e } };
         }
     finishes (stop.Inside number task call a c) false k e =
         record {
           agent = refl;
           out = refl;
           result = let h = k .0 in ap (λ (b : Bool). step.ran rs (some (callAs (cond b d (rebuiltPart (t .rebuilt) c)) call))) (ne-eqb c 0 (λ z. omega (arith, z, h)));
-          inv = record { few = v .few; low = low; high = high; sound = sound; waits = record { session-in = session-in; stream-in = stream-in; within = within; reads = reads; left = k .1; room = e } };
+          inv = record { few = v .few; low = low; high = high; sound = sound; week = v .week; waits = record { session-in = session-in; stream-in = stream-in; within = within; reads = reads; left = k .1; room = e } };
         }
 
   settles : (t : Tables) (y : Turned) (r : step.Ran) → ltb (length out) (y .ran .wrote) ≡ ltb (length out) (length (joinedReplies (y .replies))) → RunSquare f d t r y → StopRoom (r .stop) (r .tables)
-      → Same (didBy d (st .lent) (finish (st .agent) (st .tables) out x y)) (settle (agentOf st) out r)
+      → Same (didBy (st .hours) d (st .lent) (finish (st .agent) (st .tables) out x y)) (settle (agentOf st) out r)
   settles t y r w q e =
       let z : r ≡ ranAs (y .ran .next) (y .ran .at) (y .ran .stop) (y .tables) (y .replies) = λ i. record { tables = q .tables i; replies = q .replies i; stop = q .stop i } in
-      subst (λ (r : step.Ran). Same (didBy d (st .lent) (finish (st .agent) (st .tables) out x y)) (settle (agentOf st) out r)) (sym z)
-      (subst (λ (b : Bool). Same (didBy d (st .lent) (leavesAs b y)) (settle (agentOf st) out (ranAs (y .ran .next) (y .ran .at) (y .ran .stop) (y .tables) (y .replies)))) (sym w)
+      subst (λ (r : step.Ran). Same (didBy (st .hours) d (st .lent) (finish (st .agent) (st .tables) out x y)) (settle (agentOf st) out r)) (sym z)
+      (subst (λ (b : Bool). Same (didBy (st .hours) d (st .lent) (leavesAs b y)) (settle (agentOf st) out (ranAs (y .ran .next) (y .ran .at) (y .ran .stop) (y .tables) (y .replies)))) (sym w)
       (finishes (y .ran .next) (y .ran .at) (y .ran .wrote) (y .tables) (y .replies) (q .low) (q .high) (q .within) (q .reads) (subst (λ (m : ℕ). SoundTables SoundStream m (y .tables)) most-is (q .led .sound))
       (y .ran .stop) (ltb (length out) (length (joinedReplies (y .replies)))) (q .kept) (subst (λ (r : step.Ran). StopRoom (r .stop) (r .tables)) z e)))
 
@@ -207,12 +216,12 @@ long-same p Failed sample = refl
 
 -- ---- 16 is never answered
 
-module _ (t : Tables) (max : ℕ) (sound : SoundTables SoundStream max t) (timeout next : ℕ) (few : max ≤ 255) (low : 1 ≤ next) (high : next ≤ 255) (lent : List ℕ) where
+module _ (t : Tables) (max : ℕ) (sound : SoundTables SoundStream max t) (timeout next : ℕ) (few : max ≤ 255) (low : 1 ≤ next) (high : next ≤ 255) (hours : List ℕ) (week : weekMinutes ≤ length hours) (lent : List ℕ) where
   abbrev agentWith : Waiting → Agent
   agentWith w = record { «max_clients» = max; «timeout_ms» = timeout; next = next; waits = w }
 
   abbrev stateWith : Waiting → State
-  stateWith w = record { agent = agentWith w; tables = t; lent = lent }
+  stateWith w = record { agent = agentWith w; tables = t; hours = hours; lent = lent }
 
   record-sound : (w : Waiting) → recordSound (agentWith w) ≡ true
   record-sound w = rw (le-ltb 255 max few, ne-eqb next 0 (λ e. omega arith)) refl
@@ -225,7 +234,10 @@ module _ (t : Tables) (max : ℕ) (sound : SoundTables SoundStream max t) (timeo
 
   -- ---- a datagram
 
-  module _ (time : ℕ) (d out : List ℕ) (small : AllBytes d) where
+  module _ (given : Given) (d out : List ℕ) (small : AllBytes d) where
+    abbrev moment : Moment
+    moment = momentOf (openIn hours) given
+
     abbrev a : Agent
     a = agentWith waiting.Nothing
 
@@ -233,7 +245,7 @@ module _ (t : Tables) (max : ℕ) (sound : SoundTables SoundStream max t) (timeo
     st = stateWith waiting.Nothing
 
     v : Inv st
-    v = record { few = few; low = low; high = high; sound = sound; waits = tt }
+    v = record { few = few; low = low; high = high; sound = sound; week = week; waits = tt }
 
     first-in : getD d 0 0 < 256
     unfolding AllBytes
@@ -246,14 +258,15 @@ module _ (t : Tables) (max : ℕ) (sound : SoundTables SoundStream max t) (timeo
     abbrev room : ℕ
     room = length out
 
-    judge-datagram : judgeOf t d a (input.Datagram time) 0 room ≡ checkedJudged a time room (checkedOf (messageOf d))
-    unfolding judgeOf checkOf
+    judge-datagram : judgeOf t hours d a input.Datagram given 0 room ≡ minuteJudged hours d a given room
+    unfolding judgeOf
     judge-datagram =
-        ap (λ (l : Limits). datagramJudged d a l time room) (limits (getD d 0 0) (getD d 1 0) first-in)
-        ∙ ap (λ (b : Bool). cond b (checkedJudged a time room (checkOf d)) (judged.Refused OverLimit)) (record-sound waiting.Nothing)
+        ap (λ (l : Limits). datagramJudged hours d a l given room) (limits (getD d 0 0) (getD d 1 0) first-in)
+        ∙ ap (λ (b : Bool). cond b (cond (ltb (length hours) weekMinutes) (judged.Refused OverLimit) (minuteJudged hours d a given room)) (judged.Refused OverLimit)) (record-sound waiting.Nothing)
+        ∙ ap (λ (b : Bool). cond b (judged.Refused OverLimit) (minuteJudged hours d a given room)) (le-ltb (length hours) weekMinutes week)
 
     abbrev Goes : Message → Type 0
-    Goes m = Same (didBy d lent (processedBy (checkedJudged a time room (checkedOf m)) a t out d [])) (begin (agentOf st) out time (readingOf d m))
+    Goes m = Same (didBy hours d lent (processedBy (checkedJudged a moment room (checkedOf m)) a t out d [])) (begin (agentOf st) out given (readingOf d m))
 
     -- where no answer comes first and no rebuilt submessage waits, all of it is the run
     performed-is : (x : Start) → x .resumes ≡ resumes.Nothing → x .«left_at» ≡ 0 → x .«left_end» ≡ 0
@@ -265,15 +278,15 @@ module _ (t : Tables) (max : ℕ) (sound : SoundTables SoundStream max t) (timeo
     unfolding headerOf reading
     message-goes xs h e m =
         let head = headerOf d in
-        let x = datagramStart a time head room in
+        let x = datagramStart a moment head room in
         let r : Ran = record { next = next; at = 4; wrote = 0; stop = stop.Nothing } in
         let p = performed-is x refl refl refl in
         let q = run-square (x .frame) d few first-in second-in r t xs sound refl low high (omega arith) e in
-        subst (λ (ss : List (Sub Opening In)). Same (didBy d lent (finish a t out x (performed x t d []))) (settle (agentOf st) out (run max (head .«session_id») ss (viewOf next t))))
-        (sym (whole-as time d head (map (saidIn d) xs) (ap (readingOf d) m)))
-        (settles st v out d x first-in second-in refl t (performed x t d []) (run max (head .«session_id») (subsAt time (head .«stream_id») d 4) (viewOf next t))
-        (performed-told x t d []) (subst (RunSquare (x .frame) d t (run max (head .«session_id») (subsAt time (head .«stream_id») d 4) (viewOf next t))) (sym p) q)
-        (stop-room max (head .«session_id») (subsAt time (head .«stream_id») d 4) (viewOf next t)))
+        subst (λ (ss : List (Sub Opening In)). Same (didBy hours d lent (finish a t out x (performed x t d []))) (settle (agentOf st) out (run max (head .«session_id») ss (viewOf next t))))
+        (sym (whole-as moment d head (map (saidIn d) xs) (ap (readingOf d) m)))
+        (settles st v out d x first-in second-in refl t (performed x t d []) (run max (head .«session_id») (subsAt moment (head .«stream_id») d 4) (viewOf next t))
+        (performed-told x t d []) (subst (RunSquare (x .frame) d t (run max (head .«session_id») (subsAt moment (head .«stream_id») d 4) (viewOf next t))) (sym p) q)
+        (stop-room max (head .«session_id») (subsAt moment (head .«stream_id») d 4) (viewOf next t)))
 
     message-is : (b : Bool) → leb (length d) 4 ≡ b → (i : Items) → itemsAt d 4 ≡ i → messageOf d ≡ cond b (refused BufferTooShort) (under (headerOf d) i)
     unfolding messageOf
@@ -286,16 +299,24 @@ module _ (t : Tables) (max : ℕ) (sound : SoundTables SoundStream max t) (timeo
     goes false e (stopped r) q = subst Goes (sym (message-is false e (stopped r) q)) (refuses st d out r v)
     goes false e (items xs) q = let m = message-is false e (items xs) q in subst Goes (sym m) (message-goes xs (leb-false (length d) 4 e) q m)
 
-    datagram-same : Same (stepOf st (datagram time d small) out) (step.step (agentOf st) (step.datagram time d) out)
+    -- 20, or the datagram's bytes are looked at
+    minute-goes : (b : Bool)
+        → Same (didBy hours d lent (processedBy (cond b (checkedJudged a moment room (checkOf d)) (judged.Refused NoSuchMinute)) a t out d []))
+        (cond b (begin (agentOf st) out given (readingOf d (messageOf d))) (step.refuse (agentOf st) out 20 0))
+    unfolding checkOf
+    minute-goes true = goes (leb (length d) 4) refl (itemsAt d 4) refl
+    minute-goes false = refuses st d out NoSuchMinute v
+
+    datagram-same : Same (stepOf st (datagram given d small) out) (step.step (agentOf st) (step.datagram given d) out)
     unfolding stepOf processOf step.step reading
     datagram-same =
-        subst (λ (j : Judged). Same (didBy d lent (processedBy j a t out d [])) (begin (agentOf st) out time (readingOf d (messageOf d)))) (sym judge-datagram)
-        (goes (leb (length d) 4) refl (itemsAt d 4) refl)
+        subst (λ (j : Judged). Same (didBy hours d lent (processedBy j a t out d [])) (cond (isMinute (given .day) (given .minute)) (begin (agentOf st) out given (readingOf d (messageOf d))) (step.refuse (agentOf st) out 20 0)))
+        (sym judge-datagram) (minute-goes (isMinute (given .day) (given .minute)))
 
   -- ---- a removal and a sweep
 
-  idle-inv : (t′ : Tables) → SoundTables SoundStream max t′ → Inv (record { agent = agentWith waiting.Nothing; tables = t′; lent = lent })
-  idle-inv t′ s = record { few = few; low = low; high = high; sound = s; waits = tt }
+  idle-inv : (t′ : Tables) → SoundTables SoundStream max t′ → Inv (record { agent = agentWith waiting.Nothing; tables = t′; hours = hours; lent = lent })
+  idle-inv t′ s = record { few = few; low = low; high = high; sound = s; week = week; waits = tt }
 
   removal-same : (id : ℕ) (small : id < 256) (out : List ℕ) → Same (stepOf (stateWith waiting.Nothing) (removal id small) out) (step.step (agentOf (stateWith waiting.Nothing)) (step.removal id) out)
   unfolding stepOf step.step putAt
@@ -303,7 +324,7 @@ module _ (t : Tables) (max : ℕ) (sound : SoundTables SoundStream max t) (timeo
       subst (λ (i : Idle). Same (removes i) (lists (ltb (length out) 0))) (sym free)
       (subst (λ (b : Bool). Same (removes idle.Free) (lists b)) (sym (le-ltb (length out) 0 (omega arith)))
       record {
-        agent = ap (λ (u : step.Tables). record { max = max; timeout = timeout; tables = u; waits = none }) (remove-view t sound next id small);
+        agent = ap (λ (u : step.Tables). record { max = max; timeout = timeout; isOpen = openIn hours; tables = u; waits = none }) (remove-view t sound next id small);
         out = refl;
         result = ap (λ (w : Named). removedResult (removedAs w)) (named-when (t .sessions) id (sound .sessions-need)) ∙ live-is (isFree (t .sessions) id) refl;
         inv = idle-inv (withSessions t (endedRows (t .sessions) id)) (remove-led SoundStream stream-lasts max t sound id small .sound);
@@ -353,7 +374,7 @@ module _ (t : Tables) (max : ℕ) (sound : SoundTables SoundStream max t) (timeo
       by true e = record { agent = refl; out = refl; result = refl; inv = idle-inv t sound }
       by false e =
           record {
-            agent = ap (λ (u : step.Tables). record { max = max; timeout = timeout; tables = u; waits = none }) (swept-view t sound now timeout next);
+            agent = ap (λ (u : step.Tables). record { max = max; timeout = timeout; isOpen = openIn hours; tables = u; waits = none }) (swept-view t sound now timeout next);
             out = refl;
             result = refl;
             inv = idle-inv (withSessions t (sweptRows (t .sessions) now timeout)) (swept-sound now out need e);
@@ -366,7 +387,7 @@ module _ (t : Tables) (max : ℕ) (sound : SoundTables SoundStream max t) (timeo
     busy = stateWith (waiting.Call p)
 
     busy-inv : Inv busy
-    busy-inv = record { few = few; low = low; high = high; sound = sound; waits = w }
+    busy-inv = record { few = few; low = low; high = high; sound = sound; week = week; waits = w }
 
     module _ (b : BridgeAnswer) (sample out : List ℕ) where
       abbrev c : Agent
@@ -382,10 +403,10 @@ module _ (t : Tables) (max : ℕ) (sound : SoundTables SoundStream max t) (timeo
       session = p .«session_id»
 
       abbrev rest : List (Sub Opening In)
-      rest = subsAt (p .time) (p .«stream_id») lent (p .at)
+      rest = subsAt (p .moment) (p .«stream_id») lent (p .at)
 
       abbrev left : List In
-      left = insAt (p .time) (p .«stream_id») (rebuiltPart (t .rebuilt) (p .«left_end»)) (p .«left_at»)
+      left = insAt (p .moment) (p .«stream_id») (rebuiltPart (t .rebuilt) (p .«left_end»)) (p .«left_at»)
 
       abbrev waits : step.Open
       waits = record { session = session; pending = record { asked = record { stream = p .«stream_id»; number = p .number .0; task = taskAs (p .task) }; left = left }; rest = rest }
@@ -422,13 +443,13 @@ module _ (t : Tables) (max : ℕ) (sound : SoundTables SoundStream max t) (timeo
           judgesRest : Judged
           judgesRest = cond (ltb (length lent) (p .at)) (judged.Refused OverLimit) (judges (countAt (judge.headerOf p) lent (p .at)))
 
-      judge-answer : judgeOf t lent c (input.Answer b) n (length out) ≡ cond (fits (taskAs (p .task)) (answerAs b [])) restAs (judged.Refused OutOfTurn)
+      judge-answer : judgeOf t [] lent c (input.Answer b) noGiven n (length out) ≡ cond (fits (taskAs (p .task)) (answerAs b [])) restAs (judged.Refused OutOfTurn)
       unfolding judgeOf
       judge-answer = by (fits (taskAs (p .task)) (answerAs b []))
         where
           by : (e : Bool)
               → (let x = cond e (turn.Answer p b) (turn.Refused OutOfTurn) in
-              judgedBy lent (t .rebuilt) c (limitsOf (t .sessions) (t .streams) (t .objects) (length (t .held)) (length (t .parts)) (t .lengths) (length (t .rebuilt)) max (sessionOf lent x) (streamOf lent x)) x n (slotOf x (t .sessions) (t .streams) (length (t .held)) n) (length out))
+              judgedBy [] lent (t .rebuilt) c (limitsOf (t .sessions) (t .streams) (t .objects) (length (t .held)) (length (t .parts)) (t .lengths) (length (t .rebuilt)) max (sessionOf lent x) (streamOf lent x)) x noGiven n (slotOf x (t .sessions) (t .streams) (length (t .held)) n) (length out))
               ≡ cond e restAs (judged.Refused OutOfTurn)
           by true = ap (λ (l : Limits). answerJudged lent (t .rebuilt) c l p b n place (length out)) (limits session (p .«stream_id») (w .session-in)) ∙ rest-judged
           by false = refl
@@ -437,7 +458,7 @@ module _ (t : Tables) (max : ℕ) (sound : SoundTables SoundStream max t) (timeo
       abbrev over : Bool
       over = step.overHeld waits (answerAs b sample) (viewOf next t)
 
-      answer-goes : over ≡ false → Same (didBy lent lent (finish c t out x (performed x t lent sample))) (settle (agentOf busy) out (continued max waits (answerAs b sample) (viewOf next t)))
+      answer-goes : over ≡ false → Same (didBy hours lent lent (finish c t out x (performed x t lent sample))) (settle (agentOf busy) out (continued max waits (answerAs b sample) (viewOf next t)))
       unfolding performed
       answer-goes held =
           settles busy busy-inv out lent x (w .session-in) (w .stream-in) refl t (performed x t lent sample) (continued max waits (answerAs b sample) (viewOf next t)) (performed-told x t lent sample)
@@ -476,7 +497,7 @@ module _ (t : Tables) (max : ℕ) (sound : SoundTables SoundStream max t) (timeo
           long = step.tooLong (waits .pending .asked) (answerAs b sample)
 
           judges : Judged → Did
-          judges j = didBy lent lent (processedBy j c t out lent sample)
+          judges j = didBy hours lent lent (processedBy j c t out lent sample)
 
           steps : Bool → Bool → Bool → step.Did
           steps e z o =
@@ -493,14 +514,14 @@ module _ (t : Tables) (max : ℕ) (sound : SoundTables SoundStream max t) (timeo
 
     busy-same : (e : Event) (out : List ℕ) → Same (stepOf busy e out) (step.step (agentOf busy) (eventOf e) out)
     unfolding stepOf processOf judgeOf step.step
-    busy-same (datagram time bytes small) out = refuses busy bytes out OutOfTurn busy-inv
+    busy-same (datagram given bytes small) out = refuses busy bytes out OutOfTurn busy-inv
     busy-same (answer b sample) out = answer-same b sample out
     busy-same (removal id small) out = record { agent = refl; out = refl; result = refl; inv = busy-inv }
     busy-same (sweep now) out = record { agent = refl; out = refl; result = refl; inv = busy-inv }
 
   idle-same : (e : Event) (out : List ℕ) → Same (stepOf (stateWith waiting.Nothing) e out) (step.step (agentOf (stateWith waiting.Nothing)) (eventOf e) out)
   unfolding stepOf processOf judgeOf step.step
-  idle-same (datagram time bytes small) out = datagram-same time bytes out small
+  idle-same (datagram given bytes small) out = datagram-same given bytes out small
   idle-same (answer b sample) out = refuses (stateWith waiting.Nothing) lent out OutOfTurn (idle-inv t sound)
   idle-same (removal id small) out = removal-same id small out
   idle-same (sweep now) out = sweep-same now out
@@ -511,29 +532,52 @@ module _ (t : Tables) (max : ℕ) (sound : SoundTables SoundStream max t) (timeo
 
 -- every call of the host, in every state that calls lead to
 pub step-square : (st : State) → Inv st → (e : Event) (out : List ℕ) → Same (stepOf st e out) (step.step (agentOf st) (eventOf e) out)
-step-square st v e out = call-same (st .tables) (st .agent .«max_clients») (v .sound) (st .agent .«timeout_ms») (st .agent .next) (v .few) (v .low) (v .high) (st .lent) (st .agent .waits) (v .waits) e out
+step-square st v e out = call-same (st .tables) (st .agent .«max_clients») (v .sound) (st .agent .«timeout_ms») (st .agent .next) (v .few) (v .low) (v .high) (st .hours) (v .week) (st .lent) (st .agent .waits) (v .waits) e out
 
 -- ---- an agent just set up
 
-pub record Empty (t : Tables) (max timeout : ℕ) (a : Agent) : Type 0 where
-  pub agent : agentOf (emptyOf t max a) ≡ emptyAgent max timeout
-  pub inv : Inv (emptyOf t max a)
-
-pub empty-square : (t : Tables) (max timeout : ℕ) (a : Agent) → setUpWith t max timeout ≡ ready.Ready a → Empty t max timeout a
-empty-square t max timeout a e = by (setUpOf (length (t .sessions)) (length (t .streams)) (length (t .objects)) (length (t .held)) (length (t .parts)) (length (t .lengths)) (length (t .rebuilt)) max) refl e
+-- windows that set-up takes, over a store for the week's minutes
+checked-fit : (bytes : ℕ) (ws : List Window) → checkedWindows bytes ws ≡ windows.Fit → (leb weekMinutes bytes ≡ true) × (allFit ws ≡ true)
+unfolding checkedWindows
+checked-fit bytes ws e = by (leb weekMinutes bytes) (allFit ws) e
   where
-    states : SetUp → Agent → State
-    states r a = record { agent = a; tables = setUpTables r t; lent = [] }
+    by : (b c : Bool) → cond b (cond c windows.Fit (windows.Refused WindowFault)) (windows.Refused OverLimit) ≡ windows.Fit → (b ≡ true) × (c ≡ true)
+    by true true e = (refl, refl)
+    by true false e = let k : _≡_ {A = ℕ} 0 1 = cc in absurd (omega arith)
+    by false c e = let k : _≡_ {A = ℕ} 0 1 = cc in absurd (omega arith)
 
-    by : (r : SetUp) → setUpOf (length (t .sessions)) (length (t .streams)) (length (t .objects)) (length (t .held)) (length (t .parts)) (length (t .lengths)) (length (t .rebuilt)) max ≡ r → setUpAs r max timeout ≡ ready.Ready a → Empty t max timeout a
-    by (setup.Refused r) q z = let k : _≡_ {A = ℕ} 0 1 = cc in let n : ⊥ = omega arith in absurd n
-    by (setup.Ready next) q z =
+kept-week-long : (ws : List Window) (hours : List ℕ) → weekMinutes ≤ length hours → weekMinutes ≤ length (keptHours ws hours)
+kept-week-long ws hours h =
+    let k = length-kept ws weekMinutes hours h in
+    subst (λ (x : List ℕ). weekMinutes ≤ length x) (kept-week ws hours h) (omega (arith, k, h))
+
+pub record Empty (t : Tables) (hours : List ℕ) (ws : List Window) (max timeout : ℕ) (a : Agent) : Type 0 where
+  pub agent : agentOf (emptyOf t hours ws max a) ≡ emptyAgent max timeout (isOpen ws)
+  pub inv : Inv (emptyOf t hours ws max a)
+
+pub empty-square : (t : Tables) (hours : List ℕ) (ws : List Window) (max timeout : ℕ) (a : Agent) → setUpWith t hours ws max timeout ≡ ready.Ready a → Empty t hours ws max timeout a
+empty-square t hours ws max timeout a e = by made refl (checkedWindows (length hours) ws) refl e
+  where
+    made : SetUp
+    made = setUpOf (length (t .sessions)) (length (t .streams)) (length (t .objects)) (length (t .held)) (length (t .parts)) (length (t .lengths)) (length (t .rebuilt)) max
+
+    states : SetUp → Agent → State
+    states r a = record { agent = a; tables = setUpTables r t; hours = leaves r (keptHours ws hours) hours; lent = [] }
+
+    by : (r : SetUp) → made ≡ r → (w : Windows) → checkedWindows (length hours) ws ≡ w → setUpAs (setUpBy r w) max timeout ≡ ready.Ready a → Empty t hours ws max timeout a
+    by (setup.Refused r) q w k z = let k : _≡_ {A = ℕ} 0 1 = cc in let n : ⊥ = omega arith in absurd n
+    by (setup.Ready next) q (windows.Refused r) k z = let k : _≡_ {A = ℕ} 0 1 = cc in let n : ⊥ = omega arith in absurd n
+    by (setup.Ready next) q windows.Fit k z =
         let fresh : Agent = record { «max_clients» = max; «timeout_ms» = timeout; next = next; waits = waiting.Nothing } in
         let same : fresh ≡ a = cc in
         let first = first-is (t .sessions) (t .streams) (t .objects) (length (t .held)) (length (t .parts)) (length (t .lengths)) (length (t .rebuilt)) max next q in
         let kept = long (t .sessions) (t .streams) (t .objects) (length (t .held)) (length (t .parts)) (length (t .lengths)) (length (t .rebuilt)) max next q in
-        let st : states (setup.Ready next) fresh ≡ emptyOf t max a = λ i. states (sym q i) (same i) in
+        let fit = checked-fit (length hours) ws k in
+        let week = leb-true weekMinutes (length hours) (fit .0) in
+        let st : states (setup.Ready next) fresh ≡ emptyOf t hours ws max a = λ i. states (setUpBy (sym q i) (sym k i)) (same i) in
         record {
-          agent = sym (ap agentOf st) ∙ ap (λ (u : step.Tables). record { max = max; timeout = timeout; tables = u; waits = none }) (empty-view t max timeout next first);
-          inv = subst Inv st (record { few = kept .clients; low = omega (arith, first); high = omega (arith, first); sound = ready-led SoundStream stream-lasts max t max next kept (kept .held-long) (kept .parts-long) (kept .lengths-long) .sound; waits = tt });
+          agent = sym (ap agentOf st)
+              ∙ ap (λ (u : step.Tables). record { max = max; timeout = timeout; isOpen = openIn (keptHours ws hours); tables = u; waits = none }) (empty-view t max timeout (isOpen ws) next first)
+              ∙ ap (emptyAgent max timeout) (opens-same ws hours (fit .1) week);
+          inv = subst Inv st (record { few = kept .clients; low = omega (arith, first); high = omega (arith, first); sound = ready-led SoundStream stream-lasts max t max next kept (kept .held-long) (kept .parts-long) (kept .lengths-long) .sound; week = kept-week-long ws hours week; waits = tt });
         }

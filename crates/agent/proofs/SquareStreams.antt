@@ -130,8 +130,8 @@ module _ {most : ℕ} (t : Tables) (sound : SoundTables SoundStream most t) (few
         by stream.NotLive s e = absurd e
         by (stream.Refused x) s e = absurd e
 
-    pub heartbeat-square : (p : HeartbeatPayload) (body : Span) → Squares (sub.Heartbeat p) t d id n body
-    heartbeat-square p body = record { after = lu; shows = open-shown; moves = heartbeat-moves p; elsewhere = others }
+    pub heartbeat-square : (isOpen : Bool) (p : HeartbeatPayload) (body : Span) → Squares isOpen (sub.Heartbeat p) t d id n body
+    heartbeat-square isOpen p body = record { after = lu; shows = open-shown; moves = heartbeat-moves p; elsewhere = others }
 
   -- ---- what is read is sound
 
@@ -230,6 +230,6 @@ module _ {most : ℕ} (t : Tables) (sound : SoundTables SoundStream most t) (few
       acknack-moves stream.NotLive s e z = absurd e
       acknack-moves (stream.Refused x) s e z = absurd e
 
-      pub acknack-square : (body : Span) → Squares (sub.Acknack p) t d id n body
-      acknack-square body =
+      pub acknack-square : (isOpen : Bool) (body : Span) → Squares isOpen (sub.Acknack p) t d id n body
+      acknack-square isOpen body =
           record { after = la; shows = acked (r .answer) (r .state) read-as; moves = acknack-moves (r .answer) (r .state) read-as read-sound; elsewhere = acked-others (r .answer) (r .state) read-as }

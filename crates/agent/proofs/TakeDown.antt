@@ -13,6 +13,7 @@ use Rattle.codec.specs.declared.refusals.Refusal.the-variants.{OutputTooShort}
 use Rattle.codec.specs.declared.submessages.ObjectKind.{ObjectKind}
 use Rattle.codec.specs.declared.submessages.StatusCode.the-variants.{ErrIncompatible}
 use Rattle.isolation.proofs.Simulation.{none-some}
+use Rattle.hours.specs.Windows.{Window, isOpen}
 use Rattle.sessions.specs.Table.{isFree}
 use Rattle.sessions.specs.SessionObjects.{objectsNamed}
 use Rattle.sessions.specs.View.{Tables, Entry, Local, sessionShown, tablePart, findIn, dropIn, Distinct, objectNumbers}
@@ -99,14 +100,14 @@ module _ {most : ℕ} (t : Tables) (sound : SoundTables SoundStream most t) (id 
           DistinctIn (some m) = Distinct (objectNumbers (m .objects))
 
 -- whatever stood in the tables that set-up accepts
-module _ (t : Tables) (max timeout : ℕ) (a : Agent) (made : setUpWith t max timeout ≡ Ready a) (H : List Hosted) where
+module _ (t : Tables) (hours : List ℕ) (ws : List Window) (max timeout : ℕ) (a : Agent) (made : setUpWith t hours ws max timeout ≡ Ready a) (H : List Hosted) where
   abbrev now : Tables
-  now = stateAfter t max timeout a made H .tables
+  now = stateAfter t hours ws max timeout a made H .tables
 
   -- after any list of calls the listing of an id shows the session that term 3 speaks of
   pub listing-shows : (id : ℕ) → id < 256 → (out : List ℕ) → Shows now id out (numbersShown (sessionIn now id))
-  listing-shows id id< out = shows now (inv-after t max timeout a made H .sound) id id< out
+  listing-shows id id< out = shows now (inv-after t hours ws max timeout a made H .sound) id id< out
 
   -- with each of its objects once, dependants first
   pub listing-right : (id : ℕ) → id < 256 → (l : Local) → sessionIn now id ≡ some l → Right l
-  listing-right id id< l e = right l (differ now (inv-after t max timeout a made H .sound) id id< l e) (own-rank t max timeout a made H id l e)
+  listing-right id id< l e = right l (differ now (inv-after t hours ws max timeout a made H .sound) id id< l e) (own-rank t hours ws max timeout a made H id l e)

@@ -20,6 +20,7 @@ use Rattle.moves.specs.Proxy.{answerAs, taskAs}
 use Rattle.moves.specs.Answers.{saysOf}
 use Rattle.agent.specs.Answered.{saysFits, sequenceOf, saysBytes, answeredBy}
 use Rattle.agent.specs.Judge.{judgeOf}
+use Rattle.agent.specs.declared.state.Given.{Given}
 use Rattle.agent.specs.Host.{begunBy, performed, resumesFit, answerMost, firstMost, idsAt, asksIn, unbound, brings, bounded, roomy, neededOf, Leaves, finishedOf, refuse, finish, processedBy, processOf}
 use Rattle.moves.specs.declared.answers.Says.the-variants as says
 use Rattle.agent.specs.declared.judge.Input.{Input}
@@ -225,9 +226,9 @@ module _ (a : Agent) (t : Tables) (out d sample : List ℕ) (x : Start) where
   pub finish-sent : x .frame .room ≡ length out → ltb (length out) (y .ran .wrote) ≡ false → went (putReplies (x .frame .room) out 0 (y .replies)) ≡ finish a t out x y
   finish-sent long e = ap went (sent-out long e) ∙ finish-by false e
 
-pub process-by : (a : Agent) (t : Tables) (out d sample : List ℕ) (i : Input) (j : Judged) → judgeOf t d a i (length sample) (length out) ≡ j → processedBy j a t out d sample ≡ processOf a t out d sample i
+pub process-by : (a : Agent) (t : Tables) (hours out d sample : List ℕ) (i : Input) (given : Given) (j : Judged) → judgeOf t hours d a i given (length sample) (length out) ≡ j → processedBy j a t out d sample ≡ processOf a t hours out d sample i given
 unfolding processOf
-process-by a t out d sample i j e = ap (λ (k : Judged). processedBy k a t out d sample) (sym e)
+process-by a t hours out d sample i given j e = ap (λ (k : Judged). processedBy k a t out d sample) (sym e)
 
 -- all that a call leaves, the replies apart
 pub same-leaves : (x y : Leaves) → x ≡ y

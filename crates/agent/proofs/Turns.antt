@@ -129,9 +129,10 @@ delete-brief number removed.Depended = refl
 delete-brief number removed.Nothing = refl
 delete-brief number (removed.Refused r) = refl
 
-write-brief : (number : ObjectNumber) (body : Span) (h : ObjectHandle) → Brief (writeBy number body h)
-write-brief number body (Bridged w) = refl
-write-brief number body Implicit = refl
+write-brief : (isOpen : Bool) (number : ObjectNumber) (body : Span) (h : ObjectHandle) → Brief (writeBy isOpen number body h)
+write-brief true number body (Bridged w) = refl
+write-brief false number body (Bridged w) = refl
+write-brief isOpen number body Implicit = refl
 
 full-brief : (b : Bool) (number : ObjectNumber) (h : Handle) → Brief (cond b (Status number ErrResources) (readCall number h))
 full-brief true number h = refl
@@ -203,21 +204,21 @@ lists-own (sub.Heartbeat p) = refl
 lists-own (sub.Acknack p) = refl
 lists-own (sub.Fragment p) = refl
 
-handled-few : (g : Group) (q : Asked) (t : Rows) (d : List ℕ) (id n : ℕ) (body : Span) → Few n (lists g (q .hears)) (handledBy g q t d id n body)
-handled-few Creates q t d id n body =
-    brief-few n 0 (handledBy Creates q t d id n body)
+handled-few : (isOpen : Bool) (g : Group) (q : Asked) (t : Rows) (d : List ℕ) (id n : ℕ) (body : Span) → Few n (lists g (q .hears)) (handledBy isOpen g q t d id n body)
+handled-few isOpen Creates q t d id n body =
+    brief-few n 0 (handledBy isOpen Creates q t d id n body)
     (room-brief (roomOf (t .sessions) (t .objects) id (q .number)) (t .sessions) (t .objects) d id (q .number) (q .kind) (q .parent) body)
-handled-few Deletes q t d id n body = brief-few n 0 (handledBy Deletes q t d id n body) (delete-brief (q .number) (takenObject (t .sessions) (t .objects) id (q .number)))
-handled-few Writes q t d id n body =
-    brief-few n 0 (handledBy Writes q t d id n body) (write-brief (q .number) body (foundHandle (foundObject (t .sessions) (t .objects) id (q .number))))
-handled-few Reads q t d id n body =
-    brief-few n 0 (handledBy Reads q t d id n body)
+handled-few isOpen Deletes q t d id n body = brief-few n 0 (handledBy isOpen Deletes q t d id n body) (delete-brief (q .number) (takenObject (t .sessions) (t .objects) id (q .number)))
+handled-few isOpen Writes q t d id n body =
+    brief-few n 0 (handledBy isOpen Writes q t d id n body) (write-brief isOpen (q .number) body (foundHandle (foundObject (t .sessions) (t .objects) id (q .number))))
+handled-few isOpen Reads q t d id n body =
+    brief-few n 0 (handledBy isOpen Reads q t d id n body)
     (read-brief (q .number) (foundHandle (foundObject (t .sessions) (t .objects) id (q .number))) (t .sessions) (t .streams) id n)
-handled-few Streams q t d id n body =
+handled-few isOpen Streams q t d id n body =
     let s = openedSessions (t .sessions) (t .streams) id n in
     let x = openedRows (t .sessions) (t .streams) id n in
     stream-few (q .hears) (q .first) (q .second) n (readOf s x id n) (read-number s x id n)
-handled-few Neither q t d id n body = brief-few n 0 Silent refl
+handled-few isOpen Neither q t d id n body = brief-few n 0 Silent refl
 
 -- ---- how many bytes that is: 12 at most, and sixteen messages of 1,024 for each list
 
@@ -296,9 +297,9 @@ module _ (f : Frame) (t : Rows) (h d : List ℕ) (r : Ran) (took : Taken) where
   delivered-short named.Live =
       let u = touchedIn f t in
       let q = took .asked in
-      let m = handledMove q u d (f .«session_id») (f .«stream_id») (took .body) in
+      let m = handledMove (f .moment .«is_open») q u d (f .«session_id») (f .«stream_id») (took .body) in
       let a = replies-most f (left named.Live .rows .sessions) (left named.Live .rows .streams) h m in
-      let few = handled-few (q .group) q u d (f .«session_id») (f .«stream_id») (took .body) in
+      let few = handled-few (f .moment .«is_open») (q .group) q u d (f .«session_id») (f .«stream_id») (took .body) in
       let b = few .0 in
       record { short = omega (arith, a, b); zeroth = λ z. let c = few .1 z in omega (arith, a, c) }
   delivered-short named.NotLive = none-short f _

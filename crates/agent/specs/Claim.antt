@@ -1,6 +1,7 @@
 -- The agent as `isolation` speaks of one: the host's calls, and an answer's replies by session.
 use mathlib.Core.Path.{_≡_}
 use Prim.Native.Nat.{ℕ, _≤_}
+use mathlib.Core.Bool.{Bool}
 use mathlib.Core.Option.{Option, none, some}
 use mathlib.Core.List.{List, [], _∷_, _++_, map}
 use lib.ListN.{length}
@@ -17,34 +18,34 @@ pub record Hosted : Type 0 where
   pub event : Event
   pub out : List ℕ
 
-module _ (max timeout : ℕ) where
-  abbrev pub hostCall : Event → isolation.Host (rules timeout)
-  hostCall (datagram time bytes) = isolation.datagram (record { time = time; bytes = bytes })
+module _ (isOpen : ℕ → ℕ → Bool) (max timeout : ℕ) where
+  abbrev pub hostCall : Event → isolation.Host (rules isOpen timeout)
+  hostCall (datagram given bytes) = isolation.datagram (record { given = given; bytes = bytes })
   hostCall (answer a) = isolation.answer 0 a
   hostCall (removal id) = isolation.removal id
   hostCall (sweep now) = isolation.sweep now
 
-  abbrev pub outOf : Reply → isolation.Out (rules timeout)
+  abbrev pub outOf : Reply → isolation.Out (rules isOpen timeout)
   outOf (opened x) = isolation.opened x (clientBytes x)
   outOf (replied id bytes) = isolation.reply id bytes
 
   -- the session of the call handed out is that of the call then open
-  abbrev pub askedOf : Option Open → Option Call → Option (isolation.Asked (rules timeout))
+  abbrev pub askedOf : Option Open → Option Call → Option (isolation.Asked (rules isOpen timeout))
   askedOf none c = none
   askedOf (some w) none = none
   askedOf (some w) (some c) = some (record { tag = 0; session = w .session; call = c })
 
-  abbrev pub resultOf : Option Open → Result → isolation.Result (rules timeout)
+  abbrev pub resultOf : Option Open → Result → isolation.Result (rules isOpen timeout)
   resultOf w (refused number byte) = isolation.refused number
   resultOf w (ran rs c) = isolation.ran (map outOf rs) (askedOf w c)
   resultOf w (removed b) = isolation.ran [] none
   resultOf w (swept ids) = isolation.ran [] none
 
-  abbrev pub agent : claim.Agent (rules timeout)
+  abbrev pub agent : claim.Agent (rules isOpen timeout)
   agent = record {
     State = Agent;
     Event = Hosted;
-    empty = emptyAgent max timeout;
+    empty = emptyAgent max timeout isOpen;
     table = λ st. st .tables .at;
     step = λ st e. let d = step st (e .event) (e .out) in (d .agent, resultOf (d .agent .waits) (d .result));
     host-call = λ e. hostCall (e .event);
@@ -53,7 +54,7 @@ module _ (max timeout : ℕ) where
   -- ---- no reply is hidden
 
   -- the bytes of an answer's replies, in order, the STATUSes too
-  unfoldable pub outBytes : List (isolation.Out (rules timeout)) → List ℕ
+  unfoldable pub outBytes : List (isolation.Out (rules isOpen timeout)) → List ℕ
   outBytes [] = []
   outBytes (isolation.opened x bytes ∷ os) = bytes ++ outBytes os
   outBytes (isolation.reply id bytes ∷ os) = bytes ++ outBytes os
@@ -67,7 +68,7 @@ module _ (max timeout : ℕ) where
 
   -- what a call writes into the lent output
   abbrev pub writtenBy : Agent → Hosted → List ℕ
-  writtenBy st e = outBytes (claim.outs-of (rules timeout) (agent .step st e .1)) ++ idsIn (step st (e .event) (e .out) .result)
+  writtenBy st e = outBytes (claim.outs-of (rules isOpen timeout) (agent .step st e .1)) ++ idsIn (step st (e .event) (e .out) .result)
 
   -- The lent output after any call: the bytes of its replies in order, or a sweep's ids, for which it has room; then what stood there before.
   -- So each reply that term 3 speaks of is there whole, and nothing else is written. (A refused call has no replies.)

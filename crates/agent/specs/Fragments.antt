@@ -20,6 +20,7 @@ use Rattle.moves.specs.Calls.{Call, Answer}
 use Rattle.agent.specs.Local.{touched, withStore}
 use Rattle.agent.specs.Brings.{In, inOf}
 use Rattle.agent.specs.RulesFragments.{Pending, onto, rebuiltFrom, handle, resumed}
+use Rattle.agent.specs.declared.state.Moment.{Moment}
 
 -- "a payload within these limits", by its bodies: 1 to 64 of them, each up to 512 bytes
 pub record Within (bs : List (List ℕ)) : Type 0 where
@@ -31,9 +32,9 @@ pub record Within (bs : List (List ℕ)) : Type 0 where
 abbrev pub Fresh : List (List ℕ) → FragmentStore → Type 0
 Fresh bs st = (st ≡ emptyStore) ⊎ (st .total ≢ length bs)
 
--- its FRAGMENT of number k, at any time and on any stream
-abbrev pub fragmentOf : List (List ℕ) → ℕ → ℕ → ℕ → In
-fragmentOf bs k time stream = inOf time stream (Fragment (record { «fragment_nr» = k; «total_fragments» = length bs })) (getD bs k [])
+-- its FRAGMENT of number k, at any moment and on any stream
+abbrev pub fragmentOf : List (List ℕ) → ℕ → Moment → ℕ → In
+fragmentOf bs k moment stream = inOf moment stream (Fragment (record { «fragment_nr» = k; «total_fragments» = length bs })) (getD bs k [])
 
 -- ---- the life of a session until the payload is complete
 
@@ -72,8 +73,8 @@ pub data Fed (bs : List (List ℕ)) (l : Local) : List ℕ → Local → Type 0 
   begins : Fed bs l [] l
   other : (nrs : List ℕ) (l′ : Local) (i : In) → Fed bs l nrs l′ → feeds (i .fields) (i .body) ≡ false → Fed bs l nrs (leaves (handle l′ i))
   answer : (nrs : List ℕ) (l′ : Local) (p : Pending) (a : Answer) → Fed bs l nrs l′ → Fed bs l nrs (leaves (resumed l′ p a))
-  fragment : (nrs : List ℕ) (l′ : Local) (k time stream : ℕ) → Fed bs l nrs l′ → Waits bs nrs k
-      → Fed bs l (nrs ++ (k ∷ [])) (leaves (handle l′ (fragmentOf bs k time stream)))
+  fragment : (nrs : List ℕ) (l′ : Local) (k : ℕ) (moment : Moment) (stream : ℕ) → Fed bs l nrs l′ → Waits bs nrs k
+      → Fed bs l (nrs ++ (k ∷ [])) (leaves (handle l′ (fragmentOf bs k moment stream)))
 
 -- ---- what is right of such a life
 
@@ -93,16 +94,16 @@ pub record RebuildsRight (bs : List (List ℕ)) (payload : List ℕ) (st : Fragm
   -- a further fragment leaves a number missing, or with it every number has come
   pub either : (k : ℕ) → k < length bs → Waits bs nrs k ⊎ Completes bs nrs k
   -- "and not before all are there": there is no reply and no call, and nothing changes but last activity and store
-  pub waits : (k time stream : ℕ) → Waits bs nrs k
-      → handle l (fragmentOf bs k time stream) ≡ done (withStore (touched time l) (keptAfter bs st (nrs ++ (k ∷ [])))) []
+  pub waits : (k : ℕ) (moment : Moment) (stream : ℕ) → Waits bs nrs k
+      → handle l (fragmentOf bs k moment stream) ≡ done (withStore (touched (moment .time) l) (keptAfter bs st (nrs ++ (k ∷ [])))) []
   -- "When the last missing number comes, the store is emptied and the rebuilt bytes are read as submessages under the header of that datagram": these bytes are the payload
-  pub takes-effect : (k time stream : ℕ) → Completes bs nrs k
-      → handle l (fragmentOf bs k time stream) ≡ onto (rebuiltFrom time stream (rebuiltReading payload)) (done (withStore (touched time l) emptyStore) [])
+  pub takes-effect : (k : ℕ) (moment : Moment) (stream : ℕ) → Completes bs nrs k
+      → handle l (fragmentOf bs k moment stream) ≡ onto (rebuiltFrom moment stream (rebuiltReading payload)) (done (withStore (touched (moment .time) l) emptyStore) [])
   -- so the next payload finds the store empty, whatever the rebuilt submessages do
-  pub emptied : (k time stream : ℕ) → Completes bs nrs k → leaves (handle l (fragmentOf bs k time stream)) .store ≡ emptyStore
+  pub emptied : (k : ℕ) (moment : Moment) (stream : ℕ) → Completes bs nrs k → leaves (handle l (fragmentOf bs k moment stream)) .store ≡ emptyStore
   -- "On any of these no rebuilt submessage takes effect, none is answered"
-  pub refused : (k time stream : ℕ) → Completes bs nrs k → (r : Refusal) → rebuiltOf payload ≡ rebuilt.Refused r
-      → handle l (fragmentOf bs k time stream) ≡ done (withStore (touched time l) emptyStore) []
+  pub refused : (k : ℕ) (moment : Moment) (stream : ℕ) → Completes bs nrs k → (r : Refusal) → rebuiltOf payload ≡ rebuilt.Refused r
+      → handle l (fragmentOf bs k moment stream) ≡ done (withStore (touched (moment .time) l) emptyStore) []
 
 -- for every payload, by its bodies; and by its cut, of any size above 0
 abbrev pub RebuildsBodies : Type 0

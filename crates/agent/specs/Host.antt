@@ -1,4 +1,4 @@
--- The host's calls over the lent tables: what the contracts of the entry points are equal to. That of the listing cites sessions' `listOf` and `listOut`.
+-- The host's calls over the lent tables: what the contracts of the entry points are equal to. That of the listing cites sessions' `listOf` and `listOut`, that of the first open minute hours' `firstOpenOf`.
 use Prim.Native.Nat.{ℕ, zero, suc, _+_, _-_, _*_, _/_}
 use mathlib.Core.Bool.{Bool, true, false, cond, not}
 use mathlib.Core.List.{List, [], _++_}
@@ -15,6 +15,10 @@ use Rattle.sessions.specs.Sweep.{evictedOf, evictedOut, evictedRows}
 use Rattle.sessions.specs.View.{Tables}
 use Rattle.codec.specs.declared.submessages.ObjectNumber.{ObjectNumber}
 use Rattle.sessions.specs.declared.objects.Object.{Object}
+use Rattle.hours.specs.Windows.{Window, checkedOf}
+use Rattle.hours.specs.declared.windows.Windows.{Windows}
+use Rattle.hours.specs.declared.windows.Windows.the-variants as windows
+use Rattle.sessions.specs.Setup.{setUpOf}
 use Rattle.sessions.specs.declared.setup.SetUp.{SetUp}
 use Rattle.sessions.specs.declared.setup.SetUp.the-variants as setup
 use Rattle.sessions.specs.declared.table.Got.{Got}
@@ -38,6 +42,7 @@ use Rattle.moves.specs.declared.answers.Keeps.the-variants as keeps
 use Rattle.agent.specs.declared.answers.Told.{Told}
 use Rattle.moves.specs.declared.answers.Says.the-variants as says
 use Rattle.agent.specs.declared.state.Agent.{Agent}
+use Rattle.agent.specs.declared.state.Given.{Given}
 use Rattle.agent.specs.declared.judge.Input.{Input}
 use Rattle.agent.specs.declared.judge.Input.the-variants as input
 use Rattle.agent.specs.declared.judge.Judged.{Judged}
@@ -213,9 +218,9 @@ outcomeOf (stop.Inside number task call a e) wrote = Called call wrote
 abbrev pub waitsOf : Frame → Stop → ℕ → Waiting
 waitsOf f stop.Nothing at = waiting.Nothing
 waitsOf f (stop.Call number task call) at =
-    waiting.Call (record { «session_id» = f .«session_id»; «stream_id» = f .«stream_id»; number = number; task = task; at = at; time = f .time; «left_at» = 0; «left_end» = 0 })
+    waiting.Call (record { «session_id» = f .«session_id»; «stream_id» = f .«stream_id»; number = number; task = task; at = at; moment = f .moment; «left_at» = 0; «left_end» = 0 })
 waitsOf f (stop.Inside number task call a e) at =
-    waiting.Call (record { «session_id» = f .«session_id»; «stream_id» = f .«stream_id»; number = number; task = task; at = at; time = f .time; «left_at» = a; «left_end» = e })
+    waiting.Call (record { «session_id» = f .«session_id»; «stream_id» = f .«stream_id»; number = number; task = task; at = at; moment = f .moment; «left_at» = a; «left_end» = e })
 
 abbrev pub finishedOf : Agent → Start → Ran → Processed
 finishedOf a x r =
@@ -244,20 +249,34 @@ abbrev pub processedBy : Judged → Agent → Tables → List ℕ → List ℕ �
 processedBy (judged.Goes x n) a t out d sample = finish a t out x (performed x t d sample)
 processedBy (judged.Refused r) a t out d sample = refuse a t out r
 
-unfoldable pub processOf : Agent → Tables → List ℕ → List ℕ → List ℕ → Input → Leaves
-processOf a t out d sample i = processedBy (judgeOf t d a i (length sample) (length out)) a t out d sample
+unfoldable pub processOf : Agent → Tables → List ℕ → List ℕ → List ℕ → List ℕ → Input → Given → Leaves
+processOf a t hours out d sample i given = processedBy (judgeOf t hours d a i given (length sample) (length out)) a t out d sample
 
 -- ---- the entry points
+
+-- 16 of the sessions' stores, then 16 of the store of the week's minutes, then 19: "at set-up after 16"
+abbrev pub setUpBy : SetUp → Windows → SetUp
+setUpBy (setup.Ready next) windows.Fit = setup.Ready next
+setUpBy (setup.Ready next) (windows.Refused r) = setup.Refused r
+setUpBy (setup.Refused r) w = setup.Refused r
+
+abbrev pub setUpJudged : Tables → ℕ → List Window → ℕ → SetUp
+setUpJudged t hours ws max =
+    setUpBy (setUpOf (length (t .sessions)) (length (t .streams)) (length (t .objects)) (length (t .held)) (length (t .parts)) (length (t .lengths)) (length (t .rebuilt)) max) (checkedOf hours ws)
 
 abbrev pub setUpAs : SetUp → ℕ → ℕ → AgentSetUp
 setUpAs (setup.Ready next) max timeout = ready.Ready (record { «max_clients» = max; «timeout_ms» = timeout; next = next; waits = waiting.Nothing })
 setUpAs (setup.Refused r) max timeout = ready.Refused r
 
-abbrev pub incomingOf : Agent → Tables → List ℕ → List ℕ → ℕ → Leaves
-incomingOf a t out d time = processOf a t out d [] (input.Datagram time)
+abbrev pub incomingOf : Agent → Tables → List ℕ → List ℕ → List ℕ → Given → Leaves
+incomingOf a t hours out d given = processOf a t hours out d [] input.Datagram given
+
+-- an answer comes with nothing of the kind: its datagram's minute was looked up when it came
+abbrev pub noGiven : Given
+noGiven = record { time = 0; day = 0; minute = 0 }
 
 abbrev pub answerOf : Agent → Tables → List ℕ → List ℕ → List ℕ → BridgeAnswer → Leaves
-answerOf a t out d sample b = processOf a t out d sample (input.Answer b)
+answerOf a t out d sample b = processOf a t [] out d sample (input.Answer b) noGiven
 
 -- 15, then 16 of the record: whether a removal or a sweep may run
 abbrev pub idleOf : Waiting → Agent → Idle

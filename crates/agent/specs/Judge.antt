@@ -1,4 +1,4 @@
--- What refuses a datagram or an answer before it runs: "15 is checked first", 16 "right after 15", then 1 to 5, then 12, then 14.
+-- What refuses a datagram or an answer before it runs: "15 is checked first", 16 "right after 15", then W8's 20, then 1 to 5, then 12, then 14.
 use Prim.Native.Nat.{ℕ, _+_}
 use mathlib.Core.Bool.{Bool, true, false, cond, not}
 use mathlib.Core.List.{List, []}
@@ -11,7 +11,7 @@ use Rattle.codec.specs.declared.rebuilt.Rebuilt.the-variants as rebuilt
 use Rattle.codec.specs.declared.header.MessageHeader.{MessageHeader}
 use Rattle.codec.specs.declared.reading.Checked.{Checked}
 use Rattle.codec.specs.declared.reading.Checked.the-variants as checked
-use Rattle.codec.specs.declared.refusals.Refusal.the-variants.{OutOfTurn, OverLimit, TooLong, StoreFull}
+use Rattle.codec.specs.declared.refusals.Refusal.the-variants.{OutOfTurn, OverLimit, TooLong, StoreFull, NoSuchMinute}
 use Rattle.streams.specs.declared.sent.Slot.{Slot}
 use Rattle.streams.specs.declared.sent.Slot.the-variants as slot
 use Rattle.sessions.specs.Limits.{limitsOf}
@@ -19,6 +19,9 @@ use Rattle.sessions.specs.Sending.{dataSlot}
 use Rattle.sessions.specs.View.{Tables}
 use Rattle.sessions.specs.declared.limits.Limits.{Limits}
 use Rattle.sessions.specs.declared.limits.Limits.the-variants as limits
+use Rattle.hours.specs.Windows.{weekMinutes}
+use Rattle.hours.specs.Week.{isMinute, openIn}
+use Rattle.agent.specs.Brings.{momentOf}
 use Rattle.agent.specs.Lent.{rebuiltPart}
 use Rattle.moves.specs.Calls.{fits}
 use Rattle.moves.specs.Proxy.{answerAs, taskAs}
@@ -27,6 +30,8 @@ use Rattle.agent.specs.declared.judge.Input.{Input}
 use Rattle.agent.specs.declared.judge.Input.the-variants as input
 use Rattle.agent.specs.declared.judge.Judged.{Judged}
 use Rattle.agent.specs.declared.judge.Judged.the-variants.{Goes, Refused}
+use Rattle.agent.specs.declared.state.Given.{Given}
+use Rattle.agent.specs.declared.state.Moment.{Moment}
 use Rattle.agent.specs.declared.state.Pending.{Pending}
 use Rattle.agent.specs.declared.judge.Resumes.the-variants as resumes
 use Rattle.agent.specs.declared.judge.Parts.{Parts}
@@ -44,11 +49,11 @@ abbrev pub answersOf : Pending → BridgeAnswer → Turn
 answersOf p a = cond (fits (taskAs (p .task)) (answerAs a [])) (turn.Answer p a) (turn.Refused OutOfTurn)
 
 abbrev pub idleTurn : Input → Turn
-idleTurn (input.Datagram time) = turn.Datagram time
+idleTurn input.Datagram = turn.Datagram
 idleTurn (input.Answer a) = turn.Refused OutOfTurn
 
 abbrev pub busyTurn : Pending → Input → Turn
-busyTurn p (input.Datagram time) = turn.Refused OutOfTurn
+busyTurn p input.Datagram = turn.Refused OutOfTurn
 busyTurn p (input.Answer a) = answersOf p a
 
 abbrev pub turnOf : Waiting → Input → Turn
@@ -58,13 +63,13 @@ turnOf (waiting.Call p) i = busyTurn p i
 -- ---- 16: of the record, the stores, and the rows of the session that the call names
 
 abbrev pub sessionOf : List ℕ → Turn → ℕ
-sessionOf d (turn.Datagram time) = getD d 0 0
+sessionOf d turn.Datagram = getD d 0 0
 sessionOf d (turn.Answer p a) = p .«session_id»
 sessionOf d (turn.Refused r) = 0
 
 -- and its stream
 abbrev pub streamOf : List ℕ → Turn → ℕ
-streamOf d (turn.Datagram time) = getD d 1 0
+streamOf d turn.Datagram = getD d 1 0
 streamOf d (turn.Answer p a) = p .«stream_id»
 streamOf d (turn.Refused r) = 0
 
@@ -75,18 +80,23 @@ abbrev pub soundOf : Agent → Limits → Bool
 soundOf a limits.Within = recordSound a
 soundOf a (limits.Refused r) = false
 
--- ---- 1 to 5
+-- ---- 20: "weekday over 6 or minute over 1,439"; then 1 to 5. 16 comes before, of the store of the week's minutes too.
 
-abbrev pub datagramStart : Agent → ℕ → MessageHeader → ℕ → Start
-datagramStart a time h room =
-    record { frame = record { «max_clients» = a .«max_clients»; time = time; «session_id» = h .«session_id»; «stream_id» = h .«stream_id»; room = room }; next = a .next; at = 4; «left_at» = 0; «left_end» = 0; resumes = resumes.Nothing }
+abbrev pub datagramStart : Agent → Moment → MessageHeader → ℕ → Start
+datagramStart a moment h room =
+    record { frame = record { «max_clients» = a .«max_clients»; moment = moment; «session_id» = h .«session_id»; «stream_id» = h .«stream_id»; room = room }; next = a .next; at = 4; «left_at» = 0; «left_end» = 0; resumes = resumes.Nothing }
 
-abbrev pub checkedJudged : Agent → ℕ → ℕ → Checked → Judged
-checkedJudged a time room (checked.Message h n) = Goes (datagramStart a time h room) n
-checkedJudged a time room (checked.Refused r) = Refused r
+abbrev pub checkedJudged : Agent → Moment → ℕ → Checked → Judged
+checkedJudged a moment room (checked.Message h n) = Goes (datagramStart a moment h room) n
+checkedJudged a moment room (checked.Refused r) = Refused r
 
-abbrev pub datagramJudged : List ℕ → Agent → Limits → ℕ → ℕ → Judged
-datagramJudged d a l time room = cond (soundOf a l) (checkedJudged a time room (checkOf d)) (Refused OverLimit)
+abbrev pub minuteJudged : List ℕ → List ℕ → Agent → Given → ℕ → Judged
+minuteJudged hours d a given room =
+    cond (isMinute (given .day) (given .minute)) (checkedJudged a (momentOf (openIn hours) given) room (checkOf d)) (Refused NoSuchMinute)
+
+abbrev pub datagramJudged : List ℕ → List ℕ → Agent → Limits → Given → ℕ → Judged
+datagramJudged hours d a l given room =
+    cond (soundOf a l) (cond (ltb (length hours) weekMinutes) (Refused OverLimit) (minuteJudged hours d a given room)) (Refused OverLimit)
 
 -- ---- 12, "payload or string over 65,535 bytes": the DATA that a sample would need
 
@@ -113,13 +123,13 @@ answerSlot p Failed s x held n = slot.Nowhere
 
 abbrev pub slotOf : Turn → List (List ℕ) → List (List ℕ) → ℕ → ℕ → Slot
 slotOf (turn.Answer p b) s x held n = answerSlot p b s x held n
-slotOf (turn.Datagram time) s x held n = slot.Nowhere
+slotOf turn.Datagram s x held n = slot.Nowhere
 slotOf (turn.Refused r) s x held n = slot.Nowhere
 
--- the submessages behind the call's own, in the datagram lent again, with the time and the header that it had
+-- the submessages behind the call's own, in the datagram lent again, with the moment and the header that it had
 abbrev pub answerStart : Agent → Pending → BridgeAnswer → ℕ → Start
 answerStart a p b room =
-    record { frame = record { «max_clients» = a .«max_clients»; time = p .time; «session_id» = p .«session_id»; «stream_id» = p .«stream_id»; room = room }; next = a .next; at = p .at; «left_at» = p .«left_at»; «left_end» = p .«left_end»; resumes = resumes.Answer (p .number) (p .task) b }
+    record { frame = record { «max_clients» = a .«max_clients»; moment = p .moment; «session_id» = p .«session_id»; «stream_id» = p .«stream_id»; room = room }; next = a .next; at = p .at; «left_at» = p .«left_at»; «left_end» = p .«left_end»; resumes = resumes.Answer (p .number) (p .task) b }
 
 abbrev pub placedJudged : Slot → Judged → Judged
 placedJudged (slot.At i) j = j
@@ -150,20 +160,23 @@ answerJudged d rebuilt a l p b sample place room =
     (Refused OverLimit))
     (Refused OverLimit)
 
-abbrev pub judgedBy : List ℕ → List ℕ → Agent → Limits → Turn → ℕ → Slot → ℕ → Judged
-judgedBy d rebuilt a l (turn.Datagram time) sample place room = datagramJudged d a l time room
-judgedBy d rebuilt a l (turn.Answer p b) sample place room = answerJudged d rebuilt a l p b sample place room
-judgedBy d rebuilt a l (turn.Refused r) sample place room = Refused r
+abbrev pub judgedBy : List ℕ → List ℕ → List ℕ → Agent → Limits → Turn → Given → ℕ → Slot → ℕ → Judged
+judgedBy hours d rebuilt a l turn.Datagram given sample place room = datagramJudged hours d a l given room
+judgedBy hours d rebuilt a l (turn.Answer p b) given sample place room = answerJudged d rebuilt a l p b sample place room
+judgedBy hours d rebuilt a l (turn.Refused r) given sample place room = Refused r
 
--- with the length of a sample, and the output's
-unfoldable pub judgeOf : Tables → List ℕ → Agent → Input → ℕ → ℕ → Judged
-judgeOf t d a i sample room =
+-- with the store of the week's minutes, what the host gives with a datagram, the length of a sample, and the output's
+unfoldable pub judgeOf : Tables → List ℕ → List ℕ → Agent → Input → Given → ℕ → ℕ → Judged
+judgeOf t hours d a i given sample room =
     let x = turnOf (a .waits) i in
-    judgedBy d (t .rebuilt) a (limitsOf (t .sessions) (t .streams) (t .objects) (length (t .held)) (length (t .parts)) (t .lengths) (length (t .rebuilt)) (a .«max_clients») (sessionOf d x) (streamOf d x)) x sample (slotOf x (t .sessions) (t .streams) (length (t .held)) sample) room
+    judgedBy hours d (t .rebuilt) a (limitsOf (t .sessions) (t .streams) (t .objects) (length (t .held)) (length (t .parts)) (t .lengths) (length (t .rebuilt)) (a .«max_clients») (sessionOf d x) (streamOf d x)) x given sample (slotOf x (t .sessions) (t .streams) (length (t .held)) sample) room
 
 -- a start or a refusal, as the code takes them apart
+abbrev pub noMoment : Moment
+noMoment = record { time = 0; «is_open» = false }
+
 abbrev pub noStart : Start
-noStart = record { frame = record { «max_clients» = 0; time = 0; «session_id» = 0; «stream_id» = 0; room = 0 }; next = 0; at = 0; «left_at» = 0; «left_end» = 0; resumes = resumes.Nothing }
+noStart = record { frame = record { «max_clients» = 0; moment = noMoment; «session_id» = 0; «stream_id» = 0; room = 0 }; next = 0; at = 0; «left_at» = 0; «left_end» = 0; resumes = resumes.Nothing }
 
 abbrev pub partsOf : Judged → Parts
 partsOf (Goes x n) = record { goes = true; start = x; count = n; why = OverLimit }

@@ -63,7 +63,7 @@ pub record Led : Type 0 where
 abbrev pub ledBy : Step → Frame → Rows → List ℕ → List ℕ → Ran → Taken → Led
 ledBy Greets f t h s r x =
     let c = createdOf (t .sessions) (t .streams) (f .«max_clients») (r .next) in
-    record { leg = plainLeg (greeted f r (x .at) c); rows = rows (openedRows c (t .sessions) (x .asked .key) (f .time)) (openedStreams c (t .streams)) (t .objects); replies = opened (idOpened c) ∷ [] }
+    record { leg = plainLeg (greeted f r (x .at) c); rows = rows (openedRows c (t .sessions) (x .asked .key) (f .moment .time)) (openedStreams c (t .streams)) (t .objects); replies = opened (idOpened c) ∷ [] }
 ledBy Keeps f t h s r x = record { leg = record { ran = passed r (x .at); found = found.Fragment x }; rows = t; replies = [] }
 ledBy Delivers f t h s r x =
     let y = delivered (namedOf (t .sessions) (f .«session_id»)) f t h s r x in record { leg = plainLeg (y .ran); rows = y .rows; replies = y .replies }

@@ -10,6 +10,7 @@ pub mod RulesAnswers
 pub mod Brings
 pub mod RulesFragments
 pub mod Rules
+pub mod Hours
 pub mod Step
 pub mod Claim
 pub mod Repeats

@@ -2,7 +2,7 @@
 use Prim.Native.Nat.{ℕ}
 use mathlib.Core.Path.{_≡_}
 use mathlib.Core.Logic.{_≢_}
-use mathlib.Core.Bool.{cond}
+use mathlib.Core.Bool.{Bool, cond}
 use mathlib.Core.Option.{Option, none, some}
 use mathlib.Core.List.{List, [], _∷_, _++_, map, List·Memᴰ}
 use lib.Dec.{eqb}
@@ -57,13 +57,13 @@ rebuiltBy (Data p) i l = []
 rebuiltBy (Heartbeat p) i l = []
 rebuiltBy (Acknack p) i l = []
 
-module _ (timeout : ℕ) where
+module _ (isOpen : ℕ → ℕ → Bool) (timeout : ℕ) where
   -- the submessage or the answer, then the rebuilt ones behind it
-  abbrev pub worksOf : Action (rules timeout) → List Work
+  abbrev pub worksOf : Action (rules isOpen timeout) → List Work
   worksOf (handles l i) = does l i ∷ rebuiltBy (i .fields) i l
   worksOf (resumes l p a) = hears l (p .asked) a ∷ worksOnto (p .left) (onAnswer l (p .asked) a)
 
-  abbrev pub worksIn : List (Action (rules timeout)) → List Work
+  abbrev pub worksIn : List (Action (rules isOpen timeout)) → List Work
   worksIn [] = []
   worksIn (d ∷ ds) = worksOf d ++ worksIn ds
 
@@ -154,14 +154,14 @@ abbrev pub allReplies : List Work → List Bytes
 allReplies [] = []
 allReplies (w ∷ ws) = repliesOf (moveOf w) ++ allReplies ws
 
-module _ (timeout : ℕ) where
+module _ (isOpen : ℕ → ℕ → Bool) (timeout : ℕ) where
   -- W5 of an agent, for every list H of the host's calls and every session opened in H
-  pub record RepeatsRight (A : claim.Agent (rules timeout)) : Type 0 where
+  pub record RepeatsRight (A : claim.Agent (rules isOpen timeout)) : Type 0 where
     -- the agent's replies to the session are those of its rules at work, one behind the other, those of rebuilt submessages too
-    pub replies : (H : List (A .Event)) (S : claim.Session (rules timeout) A H)
-        → claim.of-agent (rules timeout) A S .replies ≡ allReplies (worksIn timeout (claim.of-machine (rules timeout) A S .actions))
+    pub replies : (H : List (A .Event)) (S : claim.Session (rules isOpen timeout) A H)
+        → claim.of-agent (rules isOpen timeout) A S .replies ≡ allReplies (worksIn isOpen timeout (claim.of-machine (rules isOpen timeout) A S .actions))
     -- of these each DATA reply and each answer to an ACKNACK is right
-    pub repeated : (H : List (A .Event)) (S : claim.Session (rules timeout) A H) → AllRepeated (S .id) nothingYet (worksIn timeout (claim.of-machine (rules timeout) A S .actions))
+    pub repeated : (H : List (A .Event)) (S : claim.Session (rules isOpen timeout) A H) → AllRepeated (S .id) nothingYet (worksIn isOpen timeout (claim.of-machine (rules isOpen timeout) A S .actions))
     -- `repeated` has a stream's tables as what came to it leaves; this, of any list es of what may come, says what that is: a message is held, and
     -- so repeated when it is asked for, as it was sent, until an ACKNACK acknowledges it or its number is taken again.
     pub as-sent : (n : ℕ) (es : List (Event Bytes)) → RepeatsAsSent n es

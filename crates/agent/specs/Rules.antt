@@ -1,5 +1,6 @@
 -- The rules of one session: document 01's one-session machine, as an instance of `isolation`'s rules; and its handles.
 use Prim.Native.Nat.{ℕ}
+use mathlib.Core.Bool.{Bool}
 use mathlib.Core.Option.{Option, none, some}
 use mathlib.Core.List.{List, [], _∷_}
 use Rattle.isolation.specs.Rules.{Rules}
@@ -15,8 +16,9 @@ use Rattle.agent.specs.RulesFragments.{Pending, handle, resumed, beganBy
 abbrev pub start : ℕ → Opening → Local
 start id o = startOf id (o .key) (o .time)
 
-abbrev pub rules : ℕ → Rules
-rules timeout = record {
+-- W8: "The windows are fixed at set-up": `isOpen` says of a weekday and a minute whether a window holds it
+abbrev pub rules : (ℕ → ℕ → Bool) → ℕ → Rules
+rules isOpen timeout = record {
   Datagram = Datagram;
   Opening = Opening;
   In = In;
@@ -24,7 +26,7 @@ rules timeout = record {
   Call = Call;
   Pending = Pending;
   Local = Local;
-  parse = parse;
+  parse = parse isOpen;
   status = clientBytes;
   start = start;
   handle = handle;
@@ -64,15 +66,15 @@ grantedBy writing number a = []
 grantedBy readingTask number a = []
 
 -- "the tables when the submessage at work began": of rebuilt ones, the one that hands out a call
-abbrev pub began : (timeout : ℕ) → Action (rules timeout) → Local
-began timeout (handles l i) = beganBy (i .fields) i l
-began timeout (resumes l p a) = beganBehind l p a
+abbrev pub began : (isOpen : ℕ → ℕ → Bool) (timeout : ℕ) → Action (rules isOpen timeout) → Local
+began isOpen timeout (handles l i) = beganBy (i .fields) i l
+began isOpen timeout (resumes l p a) = beganBehind l p a
 
-abbrev pub handlesOf : (timeout : ℕ) → Handles (rules timeout)
-handlesOf timeout = record {
+abbrev pub handlesOf : (isOpen : ℕ → ℕ → Bool) (timeout : ℕ) → Handles (rules isOpen timeout)
+handlesOf isOpen timeout = record {
   Handle = ℕ;
   uses = handlesIn;
   holds = λ l. handlesHeld (l .objects);
   grants = λ p a. grantedBy (p .asked .task) (p .asked .number) a;
-  began = began timeout;
+  began = began isOpen timeout;
 }

@@ -1,5 +1,6 @@
 -- Any submessage of a session: one as it stands in its datagram, or a FRAGMENT, whose rebuilt submessages are worked off one behind the other.
 use Prim.Native.Nat.{ℕ}
+use mathlib.Core.Bool.{Bool}
 use mathlib.Core.Option.{Option, none, some}
 use mathlib.Core.List.{List, [], _∷_, _++_, map}
 use Rattle.codec.specs.Grammar.{Said}
@@ -17,6 +18,7 @@ use Rattle.agent.specs.Brings.{In, inOf}
 use Rattle.agent.specs.RulesObjects.{Move, onCreate, onDelete, onWrite, onRead}
 use Rattle.agent.specs.RulesStreams.{onHeartbeat, onAcknack}
 use Rattle.agent.specs.RulesAnswers.{onAnswer}
+use Rattle.agent.specs.declared.state.Moment.{Moment}
 
 -- what is kept of a submessage whose call is open: what its answer needs, and the rebuilt submessages that wait behind it
 pub record Pending : Type 0 where
@@ -27,22 +29,22 @@ pub record Pending : Type 0 where
 abbrev pub Working : Type 0
 Working = Outcome Local Bytes Call Pending
 
--- one definition a submessage kind; "DATA and STATUS get no reply"; CREATE_CLIENT is no session's submessage, and a FRAGMENT comes below
-abbrev pub onSubmessage : Submessage → List ℕ → ℕ → Local → Move
-onSubmessage (Create p) body stream l = onCreate (p .kind) stream (p .«object_id» .0) (p .«parent_id») body l
-onSubmessage (Delete p) body stream l = onDelete stream (p .«object_id» .0) l
-onSubmessage (WriteData p) body stream l = onWrite stream (p .«writer_id» .0) body l
-onSubmessage (ReadData p) body stream l = onRead stream (p .«reader_id» .0) l
-onSubmessage (Heartbeat p) body stream l = onHeartbeat stream (p .«first_unacked_seq») (p .«last_seq») l
-onSubmessage (Acknack p) body stream l = onAcknack stream (p .«first_unacked_seq») (p .«nack_bitmap») l
-onSubmessage (Data p) body stream l = done l []
-onSubmessage (Status p) body stream l = done l []
-onSubmessage (CreateClient p) body stream l = done l []
-onSubmessage (Fragment p) body stream l = done l []
+-- one definition a submessage kind, by whether its datagram's minute is open (W8); "DATA and STATUS get no reply"; CREATE_CLIENT is no session's submessage, and a FRAGMENT comes below
+abbrev pub onSubmessage : Bool → Submessage → List ℕ → ℕ → Local → Move
+onSubmessage isOpen (Create p) body stream l = onCreate (p .kind) stream (p .«object_id» .0) (p .«parent_id») body l
+onSubmessage isOpen (Delete p) body stream l = onDelete stream (p .«object_id» .0) l
+onSubmessage isOpen (WriteData p) body stream l = onWrite isOpen stream (p .«writer_id» .0) body l
+onSubmessage isOpen (ReadData p) body stream l = onRead stream (p .«reader_id» .0) l
+onSubmessage isOpen (Heartbeat p) body stream l = onHeartbeat stream (p .«first_unacked_seq») (p .«last_seq») l
+onSubmessage isOpen (Acknack p) body stream l = onAcknack stream (p .«first_unacked_seq») (p .«nack_bitmap») l
+onSubmessage isOpen (Data p) body stream l = done l []
+onSubmessage isOpen (Status p) body stream l = done l []
+onSubmessage isOpen (CreateClient p) body stream l = done l []
+onSubmessage isOpen (Fragment p) body stream l = done l []
 
 -- "The time becomes the last activity; then the rules above work on its lists alone."
 abbrev pub plain : Local → In → Move
-plain l i = onSubmessage (i .fields) (i .body) (i .stream) (touched (i .time) l)
+plain l i = onSubmessage (i .moment .«is_open») (i .fields) (i .body) (i .stream) (touched (i .moment .time) l)
 
 -- ---- rebuilt submessages behind a move: "For term 3 each of these begins when the one before it has ended."
 
@@ -66,21 +68,21 @@ beganOnto (i ∷ is) b (calls l rs c p) = b
 
 -- ---- a FRAGMENT
 
--- "the rebuilt bytes are read as submessages under the header of that datagram", with its time
-abbrev pub rebuiltFrom : ℕ → ℕ → List Said → List In
-rebuiltFrom time stream xs = map (λ (x : Said). inOf time stream (x .fields) (x .body)) xs
+-- "the rebuilt bytes are read as submessages under the header of that datagram", with its moment
+abbrev pub rebuiltFrom : Moment → ℕ → List Said → List In
+rebuiltFrom moment stream xs = map (λ (x : Said). inOf moment stream (x .fields) (x .body)) xs
 
 -- "When the last missing number comes": the submessages that it brings; none if the rebuilt bytes are refused
 abbrev pub broughtBy : In → Option (List ℕ) → List In
 broughtBy i none = []
-broughtBy i (some bytes) = rebuiltFrom (i .time) (i .stream) (rebuiltReading bytes)
+broughtBy i (some bytes) = rebuiltFrom (i .moment) (i .stream) (rebuiltReading bytes)
 
 abbrev pub brought : FragmentPayload → In → Local → List In
 brought p i l = broughtBy i (gatheredBytes (l .store) (p .«fragment_nr») (p .«total_fragments») (i .body))
 
 -- the session behind it, before these
 abbrev pub gathering : FragmentPayload → In → Local → Local
-gathering p i l = withStore (touched (i .time) l) (gatheredStore (l .store) (p .«fragment_nr») (p .«total_fragments») (i .body))
+gathering p i l = withStore (touched (i .moment .time) l) (gatheredStore (l .store) (p .«fragment_nr») (p .«total_fragments») (i .body))
 
 -- ---- any submessage: "A FRAGMENT gets no reply of its own"
 

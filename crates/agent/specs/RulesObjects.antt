@@ -109,8 +109,12 @@ deleteFound stream number (some e) l = cond (dependantIn (l .objects) e) (says s
 abbrev pub onDelete : ℕ → ℕ → Local → Move
 onDelete stream number l = deleteFound stream number (findIn (l .objects) number) l
 
-abbrev pub onWrite : ℕ → ℕ → List ℕ → Local → Move
-onWrite stream number body l = ifHandle (handleAt number l) (λ h. asks stream number writing (writeData h body) l) (says stream number ErrUnknownRef l)
+-- W8: "WRITE_DATA to a known writer in a closed minute answers ERR_INCOMPATIBLE without a call"
+abbrev pub onWrite : Bool → ℕ → ℕ → List ℕ → Local → Move
+onWrite isOpen stream number body l =
+    ifHandle (handleAt number l)
+    (λ h. cond isOpen (asks stream number writing (writeData h body) l) (says stream number ErrIncompatible l))
+    (says stream number ErrUnknownRef l)
 
 -- W5: "With 16 held, it then answers ERR_RESOURCES before the bridge is called"; "a ninth stream gets no reply and no call"
 abbrev pub readOn : ℕ → ℕ → ℕ → Option KeptStream → Local → Move

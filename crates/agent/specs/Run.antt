@@ -98,7 +98,7 @@ greeted f r at c = settled (pointerOf c (r .next)) at (counted (f .room) (r .wro
 abbrev pub opening : Frame → Tables → Ran → ℕ → ℕ → Turned
 opening f t r key at =
     let c = createdOf (t .sessions) (t .streams) (f .«max_clients») (r .next) in
-    record { ran = greeted f r at c; tables = createTables c t key (f .time); replies = opened (idOpened c) ∷ [] }
+    record { ran = greeted f r at c; tables = createTables c t key (f .moment .time); replies = opened (idOpened c) ∷ [] }
 
 -- any other: "No such session: no reply. Otherwise the session is touched first with the datagram's time."
 abbrev pub passed : Ran → ℕ → Ran
@@ -123,7 +123,7 @@ pub record Acted : Type 0 where
   pub replies : List Reply
 
 abbrev pub touchedIn : Frame → Rows → Rows
-touchedIn f t = rows (touchedRows (t .sessions) (f .«session_id») (f .time)) (t .streams) (t .objects)
+touchedIn f t = rows (touchedRows (t .sessions) (f .«session_id») (f .moment .time)) (t .streams) (t .objects)
 
 -- h: what is held of the messages sent
 abbrev pub acted : Frame → Ran → ℕ → Move → Rows → List ℕ → Acted
@@ -145,7 +145,7 @@ abbrev pub delivered : Named → Frame → Rows → List ℕ → List ℕ → Ra
 delivered w f t h d r x =
     let u = touchedIn f t in
     cond (isLive w)
-    (acted f r (x .at) (handledMove (x .asked) u d (f .«session_id») (f .«stream_id») (x .body)) (handledRows (x .asked) u (f .«session_id») (f .«stream_id»)) h)
+    (acted f r (x .at) (handledMove (f .moment .«is_open») (x .asked) u d (f .«session_id») (f .«stream_id») (x .body)) (handledRows (x .asked) u (f .«session_id») (f .«stream_id»)) h)
     (record { ran = passed r (x .at); rows = u; replies = [] })
 
 -- ---- rebuilt submessages (W6), in bytes that the check of rebuilt bytes let through: none of them opens a session or is a FRAGMENT
@@ -213,7 +213,7 @@ abbrev pub wholeTurned : Frame → Tables → ℕ → Ran → ℕ → Turned
 wholeTurned f t n r at = let s = rebuiltPart (t .rebuilt) n in withActed t (leftBy (rebuiltOf s) f (t .held) s n r at (rowsOf t))
 
 abbrev pub touchedTables : Frame → Tables → Tables
-touchedTables f t = withSessions t (touchedRows (t .sessions) (f .«session_id») (f .time))
+touchedTables f t = withSessions t (touchedRows (t .sessions) (f .«session_id») (f .moment .time))
 
 unfoldable pub fragmentTurned : Frame → Tables → List ℕ → Ran → Taken → Turned
 fragmentTurned f t d r x =

@@ -10,6 +10,7 @@ use Rattle.codec.specs.Answers.{Answer as Read, gives, refusedAs}
 use Rattle.codec.specs.Grammar.{Said, reading}
 use Rattle.codec.specs.declared.header.MessageHeader.{MessageHeader}
 use Rattle.isolation.specs.Rules.{done, calls, Sub, opens, names}
+use Rattle.hours.specs.Week.{isMinute}
 use Rattle.sessions.specs.Opening.{after, liveFrom}
 use Rattle.sessions.specs.Sweep.{expiredFrom}
 use Rattle.streams.specs.View.{present, manyHeld}
@@ -17,9 +18,10 @@ use Rattle.sessions.specs.View.{KeptStream, Local, absent, expired, lapsed, str
 use Rattle.moves.specs.Calls as calls
 use Rattle.moves.specs.Calls.{Call, Answer, created, succeeded, sample, noSample, failed, fits}
 use Rattle.moves.specs.Replies.{clientBytes, dataBytes, dataPayload}
-use Rattle.agent.specs.Brings.{Opening, In, messageFrom}
+use Rattle.agent.specs.Brings.{Opening, In, momentOf, messageFrom}
 use Rattle.agent.specs.RulesFragments.{Pending, Working, handle, resumed}
 use Rattle.agent.specs.Rules.{start}
+use Rattle.agent.specs.declared.state.Given.{Given}
 
 -- ---- the state
 
@@ -34,17 +36,18 @@ pub record Open : Type 0 where
   pub pending : Pending
   pub rest : List (Sub Opening In)
 
--- "Only `max_clients` and `session_timeout_ms`"
+-- "Only `max_clients` and `session_timeout_ms`"; W8: which minutes of the week are open, "fixed at set-up"
 pub record Agent : Type 0 where
   pub max : ℕ
   pub timeout : ℕ
+  pub isOpen : ℕ → ℕ → Bool
   pub tables : Tables
   pub waits : Option Open
 
 -- ---- set-up: "An empty agent is one just set up."
 
-abbrev pub emptyAgent : ℕ → ℕ → Agent
-emptyAgent max timeout = record { max = max; timeout = timeout; tables = record { next = 1; at = λ id. none }; waits = none }
+abbrev pub emptyAgent : ℕ → ℕ → (ℕ → ℕ → Bool) → Agent
+emptyAgent max timeout isOpen = record { max = max; timeout = timeout; isOpen = isOpen; tables = record { next = 1; at = λ id. none }; waits = none }
 
 -- ---- opening a session
 
@@ -114,7 +117,7 @@ continued max w a t = deliver (w .session) (w .rest) t (t .at (w .session)) (λ 
 -- ---- one call of the host
 
 pub data Event : Type 0 where
-  datagram : (time : ℕ) (bytes : List ℕ) → Event
+  datagram : Given → (bytes : List ℕ) → Event
   answer : Answer → Event
   removal : (id : ℕ) → Event
   sweep : (time : ℕ) → Event
@@ -155,15 +158,15 @@ openOf none = none
 openOf (some x) = some (x .1)
 
 abbrev pub withTables : Agent → Tables → Option Open → Agent
-withTables st t w = record { max = st .max; timeout = st .timeout; tables = t; waits = w }
+withTables st t w = record { max = st .max; timeout = st .timeout; isOpen = st .isOpen; tables = t; waits = w }
 
 abbrev pub settle : Agent → List ℕ → Ran → Did
 settle st out r = finish st out (withTables st (r .tables) (openOf (r .stop))) (joinedReplies (r .replies)) (ran (r .replies) (callOf (r .stop)))
 
 -- 1 to 5; "The first failure refuses the whole datagram."
-abbrev pub begin : Agent → List ℕ → ℕ → Read (MessageHeader × List Said) → Did
-begin st out time (refusedAs number byte) = refuse st out number byte
-begin st out time (gives x) = let m = messageFrom time (x .0) (x .1) in settle st out (run (st .max) (m .header) (m .subs) (st .tables))
+abbrev pub begin : Agent → List ℕ → Given → Read (MessageHeader × List Said) → Did
+begin st out given (refusedAs number byte) = refuse st out number byte
+begin st out given (gives x) = let m = messageFrom (momentOf (st .isOpen) given) (x .0) (x .1) in settle st out (run (st .max) (m .header) (m .subs) (st .tables))
 
 -- 12, "payload or string over 65,535 bytes": the DATA that a sample would need
 abbrev pub tooLong : calls.Pending → Answer → Bool
@@ -209,15 +212,15 @@ lapsedIds timeout now at = expiredFrom (λ i. lapsed now timeout (at i)) 1 255
 abbrev pub withLocals : Agent → (ℕ → Option Local) → Agent
 withLocals st at = withTables st (record { next = st .tables .next; at = at }) none
 
--- 15, first: "While a bridge call is open, datagrams, removals and sweeps are out of turn"; "answer, no call open", "or answer of another kind"
+-- W8's 20, "weekday over 6 or minute over 1,439, after 15", and before 1 to 5. 15, first: "While a bridge call is open, datagrams, removals and sweeps are out of turn"; "answer, no call open", "or answer of another kind"
 abbrev pub stepped : Option Open → Agent → Event → List ℕ → Did
-stepped none st (datagram time bytes) out = begin st out time (reading bytes)
+stepped none st (datagram given bytes) out = cond (isMinute (given .day) (given .minute)) (begin st out given (reading bytes)) (refuse st out 20 0)
 stepped none st (answer a) out = refuse st out 15 0
 stepped none st (removal id) out = finish st out (withLocals st (withId id none (st .tables .at))) [] (removed (isLive (st .tables .at id)))
 stepped none st (sweep now) out =
     let ids = lapsedIds (st .timeout) now (st .tables .at) in
     finish st out (withLocals st (λ i. stays (st .timeout) now (st .tables .at i))) ids (swept ids)
-stepped (some w) st (datagram time bytes) out = refuse st out 15 0
+stepped (some w) st (datagram given bytes) out = refuse st out 15 0
 stepped (some w) st (answer a) out =
     cond (fits (w .pending .asked .task) a)
     (cond (tooLong (w .pending .asked) a) (refuse st out 12 0)

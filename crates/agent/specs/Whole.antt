@@ -1,4 +1,4 @@
--- The agent that a host calls, as `isolation` speaks of one: the record and the lent tables, and what the entry points do to them, but for the listing, which changes nothing,
+-- The agent that a host calls, as `isolation` speaks of one: the record and the lent tables, and what the entry points do to them, but for the listing and the question for the first open minute, which change nothing,
 -- by the very definitions that their contracts cite.
 use Prim.Native.Nat.{ℕ, _<_}
 use mathlib.Core.Bool.{true, false}
@@ -13,7 +13,9 @@ use Rattle.codec.specs.Refusals.{numberOf, byteOf}
 use Rattle.codec.specs.declared.bytes.Written.{Written}
 use Rattle.codec.specs.declared.bytes.Written.the-variants as written
 use Rattle.isolation.specs.Claim as claim
-use Rattle.sessions.specs.Setup.{setUpOf}
+use Rattle.hours.specs.Windows.{Window, isOpen}
+use Rattle.hours.specs.Week.{keptHours, openIn}
+use Rattle.sessions.specs.Setup.{leaves}
 use Rattle.sessions.specs.Calls.{withSessions, setUpTables}
 use Rattle.sessions.specs.View.{Tables, Local, localOf}
 use Rattle.moves.specs.Calls.{Pending as Asked}
@@ -24,7 +26,7 @@ use Rattle.agent.specs.Step.{Reply}
 use Rattle.agent.specs.Claim.{hostCall, resultOf}
 use Rattle.agent.specs.Lent.{rebuiltPart}
 use Rattle.agent.specs.Place.{subsAt, insAt}
-use Rattle.agent.specs.Host.{Leaves, setUpAs, incomingOf, answerOf, idleOf, removedBy, removedRows, sweptBy, sweptRows, sweptOut}
+use Rattle.agent.specs.Host.{Leaves, setUpJudged, setUpAs, incomingOf, answerOf, idleOf, removedBy, removedRows, sweptBy, sweptRows, sweptOut}
 use Rattle.agent.specs.declared.agent.AgentSetUp.{AgentSetUp}
 use Rattle.agent.specs.declared.agent.AgentSetUp.the-variants as set-up
 use Rattle.agent.specs.declared.agent.Removed.{Removed}
@@ -33,6 +35,7 @@ use Rattle.agent.specs.declared.process.Outcome.{Outcome}
 use Rattle.agent.specs.declared.process.Outcome.the-variants.{Replied, Called, Refused}
 use Rattle.moves.specs.declared.proxy.BridgeAnswer.{BridgeAnswer}
 use Rattle.agent.specs.declared.state.Agent.{Agent}
+use Rattle.agent.specs.declared.state.Given.{Given}
 use Rattle.agent.specs.declared.state.Waiting.{Waiting}
 use Rattle.agent.specs.declared.state.Waiting.the-variants as waiting
 
@@ -41,12 +44,13 @@ use Rattle.agent.specs.declared.state.Waiting.the-variants as waiting
 pub record State : Type 0 where
   pub agent : Agent
   pub tables : Tables
+  pub hours : List ℕ
   pub lent : List ℕ
 
 -- ---- the host's calls: a datagram is bytes, an id is a byte; an answer comes with any data
 
 pub data Event : Type 0 where
-  datagram : (time : ℕ) (bytes : List ℕ) → AllBytes bytes → Event
+  datagram : Given → (bytes : List ℕ) → AllBytes bytes → Event
   answer : BridgeAnswer → (sample : List ℕ) → Event
   removal : (id : ℕ) → id < 256 → Event
   sweep : (time : ℕ) → Event
@@ -75,10 +79,10 @@ abbrev pub callBytes : Waiting → List ℕ → List ℕ → List ℕ
 callBytes waiting.Nothing d rebuilt = d
 callBytes (waiting.Call p) d rebuilt = cond (eqb (p .«left_end») 0) d (rebuiltPart rebuilt (p .«left_end»))
 
-abbrev pub didBy : List ℕ → List ℕ → Leaves → Did
-didBy d old x =
+abbrev pub didBy : List ℕ → List ℕ → List ℕ → Leaves → Did
+didBy hours d old x =
     let shown = callBytes (x .processed .agent .waits) d (x .tables .rebuilt) in
-    record { state = record { agent = x .processed .agent; tables = x .tables; lent = lentAfter (x .processed .outcome) d old }; out = x .out; result = resultBy shown (x .replies) (x .processed .outcome) }
+    record { state = record { agent = x .processed .agent; tables = x .tables; hours = hours; lent = lentAfter (x .processed .outcome) d old }; out = x .out; result = resultBy shown (x .replies) (x .processed .outcome) }
 
 abbrev pub removedResult : Removed → step.Result
 removedResult removed.Session = step.removed true
@@ -91,11 +95,11 @@ sweptResult out (written.Bytes n) = step.swept (take n out)
 sweptResult out (written.Refused r) = step.refused (numberOf r) (byteOf r)
 
 abbrev pub withRows : State → List (List ℕ) → State
-withRows st rows = record { agent = st .agent; tables = withSessions (st .tables) rows; lent = st .lent }
+withRows st rows = record { agent = st .agent; tables = withSessions (st .tables) rows; hours = st .hours; lent = st .lent }
 
 unfoldable pub stepOf : State → Event → List ℕ → Did
-stepOf st (datagram time bytes small) out = didBy bytes (st .lent) (incomingOf (st .agent) (st .tables) out bytes time)
-stepOf st (answer b sample) out = didBy (st .lent) (st .lent) (answerOf (st .agent) (st .tables) out (st .lent) sample b)
+stepOf st (datagram given bytes small) out = didBy (st .hours) bytes (st .lent) (incomingOf (st .agent) (st .tables) (st .hours) out bytes given)
+stepOf st (answer b sample) out = didBy (st .hours) (st .lent) (st .lent) (answerOf (st .agent) (st .tables) out (st .lent) sample b)
 stepOf st (removal id small) out =
     let i = idleOf (st .agent .waits) (st .agent) in
     record { state = withRows st (removedRows i (st .tables .sessions) id); out = out; result = removedResult (removedBy i (st .tables .sessions) id) }
@@ -114,16 +118,16 @@ abbrev pub opensAs : List ℕ → List ℕ → Waiting → Option step.Open
 opensAs d rebuilt waiting.Nothing = none
 opensAs d rebuilt (waiting.Call p) =
     let asked : Asked = record { stream = p .«stream_id»; number = p .number .0; task = taskAs (p .task) } in
-    let left = insAt (p .time) (p .«stream_id») (rebuiltPart rebuilt (p .«left_end»)) (p .«left_at») in
-    some (record { session = p .«session_id»; pending = record { asked = asked; left = left }; rest = subsAt (p .time) (p .«stream_id») d (p .at) })
+    let left = insAt (p .moment) (p .«stream_id») (rebuiltPart rebuilt (p .«left_end»)) (p .«left_at») in
+    some (record { session = p .«session_id»; pending = record { asked = asked; left = left }; rest = subsAt (p .moment) (p .«stream_id») d (p .at) })
 
 -- the same state as the step over lists has it
 abbrev pub agentOf : State → step.Agent
 agentOf st =
-    record { max = st .agent .«max_clients»; timeout = st .agent .«timeout_ms»; tables = record { next = st .agent .next; at = sessionIn (st .tables) }; waits = opensAs (st .lent) (st .tables .rebuilt) (st .agent .waits) }
+    record { max = st .agent .«max_clients»; timeout = st .agent .«timeout_ms»; isOpen = openIn (st .hours); tables = record { next = st .agent .next; at = sessionIn (st .tables) }; waits = opensAs (st .lent) (st .tables .rebuilt) (st .agent .waits) }
 
 abbrev pub eventOf : Event → step.Event
-eventOf (datagram time bytes small) = step.datagram time bytes
+eventOf (datagram given bytes small) = step.datagram given bytes
 eventOf (answer b sample) = step.answer (answerAs b sample)
 eventOf (removal id small) = step.removal id
 eventOf (sweep time) = step.sweep time
@@ -132,25 +136,28 @@ pub record Hosted : Type 0 where
   pub event : Event
   pub out : List ℕ
 
--- what `setup` answers of tables, and what it leaves: "An empty agent is one just set up."
-abbrev pub setUpWith : Tables → ℕ → ℕ → AgentSetUp
-setUpWith t max timeout = setUpAs (setUpOf (length (t .sessions)) (length (t .streams)) (length (t .objects)) (length (t .held)) (length (t .parts)) (length (t .lengths)) (length (t .rebuilt)) max) max timeout
+-- what `setup` answers of tables, of the store of the week's minutes and of the windows that it takes, and what it leaves: "An empty agent is one just set up."
+abbrev pub setUpWith : Tables → List ℕ → List Window → ℕ → ℕ → AgentSetUp
+setUpWith t hours ws max timeout = setUpAs (setUpJudged t (length hours) ws max) max timeout
 
 -- its answer in document 01's numbers
 abbrev pub setUpAnswer : AgentSetUp → Answer Agent
 setUpAnswer (set-up.Ready a) = gives a
 setUpAnswer (set-up.Refused r) = refusal r
 
-abbrev pub emptyOf : Tables → ℕ → Agent → State
-emptyOf t max a = record { agent = a; tables = setUpTables (setUpOf (length (t .sessions)) (length (t .streams)) (length (t .objects)) (length (t .held)) (length (t .parts)) (length (t .lengths)) (length (t .rebuilt)) max) t; lent = [] }
+abbrev pub emptyOf : Tables → List ℕ → List Window → ℕ → Agent → State
+emptyOf t hours ws max a =
+    let s = setUpJudged t (length hours) ws max in
+    record { agent = a; tables = setUpTables s t; hours = leaves s (keptHours ws hours) hours; lent = [] }
 
-module _ (t : Tables) (max timeout : ℕ) (a : Agent) where
-  abbrev pub agent : claim.Agent (rules timeout)
+-- its rules go by the windows that set-up takes, as they are given
+module _ (t : Tables) (hours : List ℕ) (ws : List Window) (max timeout : ℕ) (a : Agent) where
+  abbrev pub agent : claim.Agent (rules (isOpen ws) timeout)
   agent = record {
     State = State;
     Event = Hosted;
-    empty = emptyOf t max a;
+    empty = emptyOf t hours ws max a;
     table = λ st. sessionIn (st .tables);
-    step = λ st e. let d = stepOf st (e .event) (e .out) in (d .state, resultOf max timeout (opensAs (d .state .lent) (d .state .tables .rebuilt) (d .state .agent .waits)) (d .result));
-    host-call = λ e. hostCall max timeout (eventOf (e .event));
+    step = λ st e. let d = stepOf st (e .event) (e .out) in (d .state, resultOf (isOpen ws) max timeout (opensAs (d .state .lent) (d .state .tables .rebuilt) (d .state .agent .waits)) (d .result));
+    host-call = λ e. hostCall (isOpen ws) max timeout (eventOf (e .event));
   }

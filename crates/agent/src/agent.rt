@@ -1,14 +1,22 @@
-// The host's six entry points. A datagram and an answer take the `Agent` by value and hand it back, a removal and a sweep leave
-// it as it is, a listing needs none; tables and output are lent, and a refused call changes neither.
+// The host's seven entry points. A datagram and an answer take the `Agent` by value and hand it back, a removal and a sweep leave
+// it as it is, a listing and the question for the first open minute need none; tables and output are lent, and a refused call changes neither.
 use crate::judge::Input;
 use crate::judge::sound_record;
 use crate::process::Processed;
 use crate::process::process;
 use crate::state::Agent;
+use crate::state::Given;
 use crate::state::Waiting;
 use codec::bytes::Written;
 use codec::refusals::Refusal;
+use hours::week;
+use hours::week::FirstOpen;
+use hours::week::keep_windows;
+use hours::windows::WindowRow;
+use hours::windows::Windows;
+use hours::windows::check_windows;
 use moves::proxy::BridgeAnswer;
+use sessions::need::stores_fit;
 use sessions::object_list;
 use sessions::object_list::Listed;
 use sessions::objects::Object;
@@ -20,21 +28,19 @@ use sessions::table;
 use sessions::table::Named;
 use sessions::table::SessionRow;
 ghost use mathlib.Core.Path.{_≡_};
+ghost use mathlib.Core.Bool.{cond};
 ghost use lib.ListN.{length};
-ghost use Rattle.sessions.specs.Setup.{setUpOf};
+ghost use Rattle.hours.specs.Windows.{windowsOf};
+ghost use Rattle.hours.specs.Week.{keptHours, firstOpenOf};
+ghost use Rattle.sessions.specs.Setup.{leaves};
 ghost use Rattle.sessions.specs.Calls.{setUpTables};
 ghost use Rattle.sessions.specs.ObjectList.{listOf, listOut};
 ghost use Rattle.agent.specs.Lent.{lent};
-ghost use Rattle.agent.specs.Host.{setUpAs, incomingOf, answerOf, idleOf, removedAs, removedBy, removedRows, sweptBy, sweptRows, sweptOut};
+ghost use Rattle.agent.specs.Host.{setUpJudged, setUpAs, incomingOf, answerOf, idleOf, removedAs, removedBy, removedRows, sweptBy, sweptRows, sweptOut};
 
 pub enum AgentSetUp {
     Ready(Agent),
     Refused(Refusal),
-}
-
-// What the host gives with a datagram.
-pub struct Given {
-    pub time: u64,
 }
 
 pub enum Removed {
@@ -57,8 +63,20 @@ fn ready(s: SetUp, max_clients: usize, timeout_ms: u64) -> AgentSetUp
     }
 }
 
+// 16 of every store, then 19.
+fn may_set_up(fit: bool, checked: Windows) -> Windows
+    ensures { λ r. ⌜ r ≡ cond fit checked (Windows.Refused Refusal.OverLimit) ⌝ }
+{
+    if fit {
+        checked
+    } else {
+        Windows::Refused(Refusal::OverLimit)
+    }
+}
+
 // An empty agent over the lent tables, whatever stood in them; of the stores of held messages and
-// fragments and of the place of rebuilt bytes only their lengths are asked.
+// fragments and of the place of rebuilt bytes only their lengths are asked. What the windows open is kept in `hours` until
+// the next set-up (document 02, W8).
 pub fn setup(
     sessions: &mut [SessionRow],
     streams: &mut [StreamRow],
@@ -67,25 +85,46 @@ pub fn setup(
     parts: &[u8],
     lengths: &[u32],
     rebuilt: &[u8],
+    hours: &mut [u8],
+    windows: &[WindowRow],
     max_clients: usize,
     timeout_ms: u64,
 ) -> AgentSetUp
-    ensures { λ a. ⌜ (a ≡ setUpAs (setUpOf (length (now (sessions .entry))) (length (now (streams .entry))) (length (now (objects .entry))) (length (now (held .entry))) (length (now (parts .entry))) (length (now (lengths .entry))) (length (now (rebuilt .entry))) «max_clients») «max_clients» «timeout_ms»)
-        × (now (sessions .exit) ≡ setUpTables (setUpOf (length (now (sessions .entry))) (length (now (streams .entry))) (length (now (objects .entry))) (length (now (held .entry))) (length (now (parts .entry))) (length (now (lengths .entry))) (length (now (rebuilt .entry))) «max_clients») (lent (now (sessions .entry)) (now (streams .entry)) (now (objects .entry)) (now (held .entry)) (now (parts .entry)) (now (lengths .entry)) (now (rebuilt .entry))) .sessions)
-        × (now (streams .exit) ≡ setUpTables (setUpOf (length (now (sessions .entry))) (length (now (streams .entry))) (length (now (objects .entry))) (length (now (held .entry))) (length (now (parts .entry))) (length (now (lengths .entry))) (length (now (rebuilt .entry))) «max_clients») (lent (now (sessions .entry)) (now (streams .entry)) (now (objects .entry)) (now (held .entry)) (now (parts .entry)) (now (lengths .entry)) (now (rebuilt .entry))) .streams)
-        × (now (objects .exit) ≡ setUpTables (setUpOf (length (now (sessions .entry))) (length (now (streams .entry))) (length (now (objects .entry))) (length (now (held .entry))) (length (now (parts .entry))) (length (now (lengths .entry))) (length (now (rebuilt .entry))) «max_clients») (lent (now (sessions .entry)) (now (streams .entry)) (now (objects .entry)) (now (held .entry)) (now (parts .entry)) (now (lengths .entry)) (now (rebuilt .entry))) .objects) ⌝ }
+    ensures { λ a. ⌜ (a ≡ setUpAs (setUpJudged (lent (now (sessions .entry)) (now (streams .entry)) (now (objects .entry)) (now (held .entry)) (now (parts .entry)) (now (lengths .entry)) (now (rebuilt .entry))) (length (now (hours .entry))) (windowsOf (now (windows .entry))) «max_clients») «max_clients» «timeout_ms»)
+        × (now (sessions .exit) ≡ setUpTables (setUpJudged (lent (now (sessions .entry)) (now (streams .entry)) (now (objects .entry)) (now (held .entry)) (now (parts .entry)) (now (lengths .entry)) (now (rebuilt .entry))) (length (now (hours .entry))) (windowsOf (now (windows .entry))) «max_clients») (lent (now (sessions .entry)) (now (streams .entry)) (now (objects .entry)) (now (held .entry)) (now (parts .entry)) (now (lengths .entry)) (now (rebuilt .entry))) .sessions)
+        × (now (streams .exit) ≡ setUpTables (setUpJudged (lent (now (sessions .entry)) (now (streams .entry)) (now (objects .entry)) (now (held .entry)) (now (parts .entry)) (now (lengths .entry)) (now (rebuilt .entry))) (length (now (hours .entry))) (windowsOf (now (windows .entry))) «max_clients») (lent (now (sessions .entry)) (now (streams .entry)) (now (objects .entry)) (now (held .entry)) (now (parts .entry)) (now (lengths .entry)) (now (rebuilt .entry))) .streams)
+        × (now (objects .exit) ≡ setUpTables (setUpJudged (lent (now (sessions .entry)) (now (streams .entry)) (now (objects .entry)) (now (held .entry)) (now (parts .entry)) (now (lengths .entry)) (now (rebuilt .entry))) (length (now (hours .entry))) (windowsOf (now (windows .entry))) «max_clients») (lent (now (sessions .entry)) (now (streams .entry)) (now (objects .entry)) (now (held .entry)) (now (parts .entry)) (now (lengths .entry)) (now (rebuilt .entry))) .objects)
+        × (now (hours .exit) ≡ leaves (setUpJudged (lent (now (sessions .entry)) (now (streams .entry)) (now (objects .entry)) (now (held .entry)) (now (parts .entry)) (now (lengths .entry)) (now (rebuilt .entry))) (length (now (hours .entry))) (windowsOf (now (windows .entry))) «max_clients») (keptHours (windowsOf (now (windows .entry))) (now (hours .entry))) (now (hours .entry))) ⌝ }
 {
-    let s = set_up(
-        sessions,
-        streams,
-        objects,
+    let fit = stores_fit(
+        sessions.len(),
+        streams.len(),
+        objects.len(),
         held.len(),
         parts.len(),
         lengths.len(),
         rebuilt.len(),
         max_clients,
     );
-    ready(s, max_clients, timeout_ms)
+    let checked = check_windows(windows, hours.len());
+    let may = may_set_up(fit, checked);
+    match may {
+        Windows::Fit => {
+            keep_windows(hours, windows);
+            let s = set_up(
+                sessions,
+                streams,
+                objects,
+                held.len(),
+                parts.len(),
+                lengths.len(),
+                rebuilt.len(),
+                max_clients,
+            );
+            ready(s, max_clients, timeout_ms)
+        }
+        Windows::Refused(x) => AgentSetUp::Refused(x),
+    }
 }
 
 // A datagram: its replies stand one behind the other at the start of the output.
@@ -97,20 +136,21 @@ pub fn process_incoming(
     parts: &mut [u8],
     lengths: &mut [u32],
     rebuilt: &mut [u8],
+    hours: &[u8],
     out: &mut [u8],
     datagram: &[u8],
     agent: Agent,
     given: Given,
 ) -> Processed
-    ensures { λ p. ⌜ (p ≡ incomingOf agent (lent (now (sessions .entry)) (now (streams .entry)) (now (objects .entry)) (now (held .entry)) (now (parts .entry)) (now (lengths .entry)) (now (rebuilt .entry))) (now (out .entry)) (now (datagram .entry)) (given .time) .processed)
-        × (now (sessions .exit) ≡ incomingOf agent (lent (now (sessions .entry)) (now (streams .entry)) (now (objects .entry)) (now (held .entry)) (now (parts .entry)) (now (lengths .entry)) (now (rebuilt .entry))) (now (out .entry)) (now (datagram .entry)) (given .time) .tables .sessions)
-        × (now (streams .exit) ≡ incomingOf agent (lent (now (sessions .entry)) (now (streams .entry)) (now (objects .entry)) (now (held .entry)) (now (parts .entry)) (now (lengths .entry)) (now (rebuilt .entry))) (now (out .entry)) (now (datagram .entry)) (given .time) .tables .streams)
-        × (now (objects .exit) ≡ incomingOf agent (lent (now (sessions .entry)) (now (streams .entry)) (now (objects .entry)) (now (held .entry)) (now (parts .entry)) (now (lengths .entry)) (now (rebuilt .entry))) (now (out .entry)) (now (datagram .entry)) (given .time) .tables .objects)
-        × (now (held .exit) ≡ incomingOf agent (lent (now (sessions .entry)) (now (streams .entry)) (now (objects .entry)) (now (held .entry)) (now (parts .entry)) (now (lengths .entry)) (now (rebuilt .entry))) (now (out .entry)) (now (datagram .entry)) (given .time) .tables .held)
-        × (now (parts .exit) ≡ incomingOf agent (lent (now (sessions .entry)) (now (streams .entry)) (now (objects .entry)) (now (held .entry)) (now (parts .entry)) (now (lengths .entry)) (now (rebuilt .entry))) (now (out .entry)) (now (datagram .entry)) (given .time) .tables .parts)
-        × (now (lengths .exit) ≡ incomingOf agent (lent (now (sessions .entry)) (now (streams .entry)) (now (objects .entry)) (now (held .entry)) (now (parts .entry)) (now (lengths .entry)) (now (rebuilt .entry))) (now (out .entry)) (now (datagram .entry)) (given .time) .tables .lengths)
-        × (now (rebuilt .exit) ≡ incomingOf agent (lent (now (sessions .entry)) (now (streams .entry)) (now (objects .entry)) (now (held .entry)) (now (parts .entry)) (now (lengths .entry)) (now (rebuilt .entry))) (now (out .entry)) (now (datagram .entry)) (given .time) .tables .rebuilt)
-        × (now (out .exit) ≡ incomingOf agent (lent (now (sessions .entry)) (now (streams .entry)) (now (objects .entry)) (now (held .entry)) (now (parts .entry)) (now (lengths .entry)) (now (rebuilt .entry))) (now (out .entry)) (now (datagram .entry)) (given .time) .out) ⌝ }
+    ensures { λ p. ⌜ (p ≡ incomingOf agent (lent (now (sessions .entry)) (now (streams .entry)) (now (objects .entry)) (now (held .entry)) (now (parts .entry)) (now (lengths .entry)) (now (rebuilt .entry))) (now (hours .entry)) (now (out .entry)) (now (datagram .entry)) given .processed)
+        × (now (sessions .exit) ≡ incomingOf agent (lent (now (sessions .entry)) (now (streams .entry)) (now (objects .entry)) (now (held .entry)) (now (parts .entry)) (now (lengths .entry)) (now (rebuilt .entry))) (now (hours .entry)) (now (out .entry)) (now (datagram .entry)) given .tables .sessions)
+        × (now (streams .exit) ≡ incomingOf agent (lent (now (sessions .entry)) (now (streams .entry)) (now (objects .entry)) (now (held .entry)) (now (parts .entry)) (now (lengths .entry)) (now (rebuilt .entry))) (now (hours .entry)) (now (out .entry)) (now (datagram .entry)) given .tables .streams)
+        × (now (objects .exit) ≡ incomingOf agent (lent (now (sessions .entry)) (now (streams .entry)) (now (objects .entry)) (now (held .entry)) (now (parts .entry)) (now (lengths .entry)) (now (rebuilt .entry))) (now (hours .entry)) (now (out .entry)) (now (datagram .entry)) given .tables .objects)
+        × (now (held .exit) ≡ incomingOf agent (lent (now (sessions .entry)) (now (streams .entry)) (now (objects .entry)) (now (held .entry)) (now (parts .entry)) (now (lengths .entry)) (now (rebuilt .entry))) (now (hours .entry)) (now (out .entry)) (now (datagram .entry)) given .tables .held)
+        × (now (parts .exit) ≡ incomingOf agent (lent (now (sessions .entry)) (now (streams .entry)) (now (objects .entry)) (now (held .entry)) (now (parts .entry)) (now (lengths .entry)) (now (rebuilt .entry))) (now (hours .entry)) (now (out .entry)) (now (datagram .entry)) given .tables .parts)
+        × (now (lengths .exit) ≡ incomingOf agent (lent (now (sessions .entry)) (now (streams .entry)) (now (objects .entry)) (now (held .entry)) (now (parts .entry)) (now (lengths .entry)) (now (rebuilt .entry))) (now (hours .entry)) (now (out .entry)) (now (datagram .entry)) given .tables .lengths)
+        × (now (rebuilt .exit) ≡ incomingOf agent (lent (now (sessions .entry)) (now (streams .entry)) (now (objects .entry)) (now (held .entry)) (now (parts .entry)) (now (lengths .entry)) (now (rebuilt .entry))) (now (hours .entry)) (now (out .entry)) (now (datagram .entry)) given .tables .rebuilt)
+        × (now (out .exit) ≡ incomingOf agent (lent (now (sessions .entry)) (now (streams .entry)) (now (objects .entry)) (now (held .entry)) (now (parts .entry)) (now (lengths .entry)) (now (rebuilt .entry))) (now (hours .entry)) (now (out .entry)) (now (datagram .entry)) given .out) ⌝ }
 {
     // A datagram is processed without a look at a sample.
     let none = [0u8; 2];
@@ -122,11 +162,13 @@ pub fn process_incoming(
         parts,
         lengths,
         rebuilt,
+        hours,
         out,
         datagram,
         &none,
         agent,
-        Input::Datagram(given.time),
+        Input::Datagram,
+        given,
     )
 }
 
@@ -155,6 +197,13 @@ pub fn process_answer(
         × (now (rebuilt .exit) ≡ answerOf agent (lent (now (sessions .entry)) (now (streams .entry)) (now (objects .entry)) (now (held .entry)) (now (parts .entry)) (now (lengths .entry)) (now (rebuilt .entry))) (now (out .entry)) (now (datagram .entry)) (now (sample .entry)) answer .tables .rebuilt)
         × (now (out .exit) ≡ answerOf agent (lent (now (sessions .entry)) (now (streams .entry)) (now (objects .entry)) (now (held .entry)) (now (parts .entry)) (now (lengths .entry)) (now (rebuilt .entry))) (now (out .entry)) (now (datagram .entry)) (now (sample .entry)) answer .out) ⌝ }
 {
+    // Its datagram's minute was looked up when it came.
+    let none = [0u8; 2];
+    let given = Given {
+        time: 0,
+        day: 0,
+        minute: 0,
+    };
     process(
         sessions,
         streams,
@@ -163,11 +212,13 @@ pub fn process_answer(
         parts,
         lengths,
         rebuilt,
+        &none,
         out,
         datagram,
         sample,
         agent,
         Input::Answer(answer),
+        given,
     )
 }
 
@@ -239,4 +290,11 @@ pub fn list_objects(sessions: &[SessionRow], objects: &[Object], out: &mut [u16]
         × (now (out .exit) ≡ listOut (now (sessions .entry)) (now (objects .entry)) id (now (out .entry))) ⌝ }
 {
     object_list::list_objects(sessions, objects, id, out)
+}
+
+// The first open minute at or after one, round the week (document 02, W8). It only reads, so that it is never out of turn.
+pub fn first_open(hours: &[u8], day: u8, minute: u16) -> FirstOpen
+    ensures { λ r. ⌜ r ≡ firstOpenOf (now (hours .entry)) day minute ⌝ }
+{
+    week::first_open(hours, day, minute)
 }

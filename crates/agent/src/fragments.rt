@@ -148,14 +148,14 @@ fn gather(
     f: Frame,
     took: Taken,
 ) -> usize
-    ensures { λ n. ⌜ (n ≡ wholeLen (gathered (touchedRows (now (sessions .entry)) (f .«session_id») (f .time)) (now (parts .entry)) (now (lengths .entry)) (now (rebuilt .entry)) (f .«session_id») (took .asked .first) (took .asked .second) (partOf (now (d .entry)) (took .body))))
-        × (now (sessions .exit) ≡ gatheredRows (touchedRows (now (sessions .entry)) (f .«session_id») (f .time)) (now (parts .entry)) (now (lengths .entry)) (now (rebuilt .entry)) (f .«session_id») (took .asked .first) (took .asked .second) (partOf (now (d .entry)) (took .body)))
-        × (now (parts .exit) ≡ gatheredParts (touchedRows (now (sessions .entry)) (f .«session_id») (f .time)) (now (parts .entry)) (now (lengths .entry)) (f .«session_id») (took .asked .first) (took .asked .second) (partOf (now (d .entry)) (took .body)))
-        × (now (lengths .exit) ≡ gatheredLengths (touchedRows (now (sessions .entry)) (f .«session_id») (f .time)) (now (parts .entry)) (now (lengths .entry)) (f .«session_id») (took .asked .first) (took .asked .second) (partOf (now (d .entry)) (took .body)))
-        × (now (rebuilt .exit) ≡ gatheredRebuilt (touchedRows (now (sessions .entry)) (f .«session_id») (f .time)) (now (parts .entry)) (now (lengths .entry)) (now (rebuilt .entry)) (f .«session_id») (took .asked .first) (took .asked .second) (partOf (now (d .entry)) (took .body))) ⌝ }
+    ensures { λ n. ⌜ (n ≡ wholeLen (gathered (touchedRows (now (sessions .entry)) (f .«session_id») (f .moment .time)) (now (parts .entry)) (now (lengths .entry)) (now (rebuilt .entry)) (f .«session_id») (took .asked .first) (took .asked .second) (partOf (now (d .entry)) (took .body))))
+        × (now (sessions .exit) ≡ gatheredRows (touchedRows (now (sessions .entry)) (f .«session_id») (f .moment .time)) (now (parts .entry)) (now (lengths .entry)) (now (rebuilt .entry)) (f .«session_id») (took .asked .first) (took .asked .second) (partOf (now (d .entry)) (took .body)))
+        × (now (parts .exit) ≡ gatheredParts (touchedRows (now (sessions .entry)) (f .«session_id») (f .moment .time)) (now (parts .entry)) (now (lengths .entry)) (f .«session_id») (took .asked .first) (took .asked .second) (partOf (now (d .entry)) (took .body)))
+        × (now (lengths .exit) ≡ gatheredLengths (touchedRows (now (sessions .entry)) (f .«session_id») (f .moment .time)) (now (parts .entry)) (now (lengths .entry)) (f .«session_id») (took .asked .first) (took .asked .second) (partOf (now (d .entry)) (took .body)))
+        × (now (rebuilt .exit) ≡ gatheredRebuilt (touchedRows (now (sessions .entry)) (f .«session_id») (f .moment .time)) (now (parts .entry)) (now (lengths .entry)) (now (rebuilt .entry)) (f .«session_id») (took .asked .first) (took .asked .second) (partOf (now (d .entry)) (took .body))) ⌝ }
 {
     let id = f.session_id;
-    touch(sessions, id, f.time);
+    touch(sessions, id, f.moment.time);
     let body = part(d, took.body);
     let q = took.asked;
     let g = keep_fragment(

@@ -1,7 +1,9 @@
-// What refuses a call before it runs, in document 01's order: 15, 16, 1 to 5, 12, 14.
+// What refuses a call before it runs, in document 01's order: 15, 16, 20 (document 02, W8), 1 to 5, 12, 14.
 use crate::fragments::is_read;
 use crate::fragments::rebuilt_part;
 use crate::state::Agent;
+use crate::state::Given;
+use crate::state::Moment;
 use crate::state::Pending;
 use crate::state::Waiting;
 use crate::turn::Frame;
@@ -12,6 +14,8 @@ use codec::reading::count_at;
 use codec::rebuilt::count_rebuilt;
 use codec::refusals::Refusal;
 use codec::submessages::ObjectNumber;
+use hours::week::is_minute;
+use hours::week::is_open;
 use moves::proxy::BridgeAnswer;
 use moves::proxy::Task;
 use moves::proxy::fits;
@@ -24,19 +28,21 @@ use sessions::table::SessionRow;
 use streams::sent::Slot;
 ghost use mathlib.Core.Path.{_≡_};
 ghost use lib.ListN.{getD, length};
+ghost use Rattle.hours.specs.Week.{openIn};
 ghost use Rattle.sessions.specs.Limits.{limitsOf};
+ghost use Rattle.agent.specs.Brings.{momentOf};
 ghost use Rattle.agent.specs.Lent.{lent};
-ghost use Rattle.agent.specs.Judge.{answersOf, idleTurn, busyTurn, turnOf, sessionOf, streamOf, recordSound, soundOf, tooLong, sampleSlot, answerSlot, slotOf, placedJudged, datagramStart, answerStart, leftKept, datagramJudged, restJudged, answerJudged, judgedBy, judgeOf, partsOf};
+ghost use Rattle.agent.specs.Judge.{answersOf, idleTurn, busyTurn, turnOf, sessionOf, streamOf, recordSound, soundOf, tooLong, sampleSlot, answerSlot, slotOf, placedJudged, datagramStart, answerStart, leftKept, minuteJudged, datagramJudged, restJudged, answerJudged, judgedBy, judgeOf, noMoment, partsOf};
 
-// A call of the host: a datagram with its time, or the bridge's answer.
+// A call of the host: a datagram, or the bridge's answer.
 pub enum Input {
-    Datagram(u64),
+    Datagram,
     Answer(BridgeAnswer),
 }
 
 // The call in its turn, with the submessage that it answers.
 enum Turn {
-    Datagram(u64),
+    Datagram,
     Answer(Pending, BridgeAnswer),
     Refused(Refusal),
 }
@@ -78,7 +84,7 @@ fn idle(input: Input) -> Turn
     ensures { λ r. ⌜ r ≡ idleTurn input ⌝ }
 {
     match input {
-        Input::Datagram(time) => Turn::Datagram(time),
+        Input::Datagram => Turn::Datagram,
         Input::Answer(_) => Turn::Refused(Refusal::OutOfTurn),
     }
 }
@@ -87,7 +93,7 @@ fn busy(p: Pending, input: Input) -> Turn
     ensures { λ r. ⌜ r ≡ busyTurn p input ⌝ }
 {
     match input {
-        Input::Datagram(_) => Turn::Refused(Refusal::OutOfTurn),
+        Input::Datagram => Turn::Refused(Refusal::OutOfTurn),
         Input::Answer(told) => answers(p, told),
     }
 }
@@ -108,7 +114,7 @@ fn session_of(d: &[u8], t: Turn) -> u8
     ensures { λ r. ⌜ r ≡ sessionOf (now (d .entry)) t ⌝ }
 {
     match t {
-        Turn::Datagram(_) => byte_at(d, 0),
+        Turn::Datagram => byte_at(d, 0),
         Turn::Answer(p, _) => p.session_id,
         Turn::Refused(_) => 0,
     }
@@ -119,7 +125,7 @@ fn stream_of(d: &[u8], t: Turn) -> u8
     ensures { λ r. ⌜ r ≡ streamOf (now (d .entry)) t ⌝ }
 {
     match t {
-        Turn::Datagram(_) => byte_at(d, 1),
+        Turn::Datagram => byte_at(d, 1),
         Turn::Answer(p, _) => p.stream_id,
         Turn::Refused(_) => 0,
     }
@@ -151,12 +157,12 @@ fn sound(a: Agent, limits: Limits) -> bool
     }
 }
 
-fn start_datagram(a: Agent, time: u64, header: MessageHeader, room: usize) -> Start
-    ensures { λ r. ⌜ r ≡ datagramStart a time header room ⌝ }
+fn start_datagram(a: Agent, moment: Moment, header: MessageHeader, room: usize) -> Start
+    ensures { λ r. ⌜ r ≡ datagramStart a moment header room ⌝ }
 {
     let frame = Frame {
         max_clients: a.max_clients,
-        time,
+        moment,
         session_id: header.session_id,
         stream_id: header.stream_id,
         room,
@@ -171,15 +177,48 @@ fn start_datagram(a: Agent, time: u64, header: MessageHeader, room: usize) -> St
     }
 }
 
-// 1 to 5
-fn judge_datagram(d: &[u8], a: Agent, limits: Limits, time: u64, room: usize) -> Judged
-    ensures { λ r. ⌜ r ≡ datagramJudged (now (d .entry)) a limits time room ⌝ }
+fn moment_of(hours: &[u8], given: Given) -> Moment
+    ensures { λ r. ⌜ r ≡ momentOf (openIn (now (hours .entry))) given ⌝ }
 {
-    if sound(a, limits) {
+    Moment {
+        time: given.time,
+        is_open: is_open(hours, given.day, given.minute),
+    }
+}
+
+// 20, then 1 to 5
+fn judge_minute(hours: &[u8], d: &[u8], a: Agent, given: Given, room: usize) -> Judged
+    ensures { λ r. ⌜ r ≡ minuteJudged (now (hours .entry)) (now (d .entry)) a given room ⌝ }
+{
+    if is_minute(given.day, given.minute) {
         match check(d) {
-            Checked::Message(header, n) => Judged::Goes(start_datagram(a, time, header, room), n),
+            Checked::Message(header, n) => Judged::Goes(
+                start_datagram(a, moment_of(hours, given), header, room),
+                n,
+            ),
             Checked::Refused(x) => Judged::Refused(x),
         }
+    } else {
+        Judged::Refused(Refusal::NoSuchMinute)
+    }
+}
+
+// 16, of the store of the week's minutes too
+fn judge_datagram(
+    hours: &[u8],
+    d: &[u8],
+    a: Agent,
+    limits: Limits,
+    given: Given,
+    room: usize,
+) -> Judged
+    ensures { λ r. ⌜ r ≡ datagramJudged (now (hours .entry)) (now (d .entry)) a limits given room ⌝ }
+{
+    if sound(a, limits) {
+        if hours.len() < 10080 {
+            return Judged::Refused(Refusal::OverLimit);
+        }
+        judge_minute(hours, d, a, given, room)
     } else {
         Judged::Refused(Refusal::OverLimit)
     }
@@ -188,9 +227,10 @@ fn judge_datagram(d: &[u8], a: Agent, limits: Limits, time: u64, room: usize) ->
 fn start_answer(a: Agent, p: Pending, told: BridgeAnswer, room: usize) -> Start
     ensures { λ r. ⌜ r ≡ answerStart a p told room ⌝ }
 {
+    let moment = p.moment;
     let frame = Frame {
         max_clients: a.max_clients,
-        time: p.time,
+        moment,
         session_id: p.session_id,
         stream_id: p.stream_id,
         room,
@@ -354,17 +394,19 @@ fn judged_by(
     streams: &[StreamRow],
     held: &[u8],
     rebuilt: &[u8],
+    hours: &[u8],
     d: &[u8],
     a: Agent,
     limits: Limits,
     t: Turn,
+    given: Given,
     sample: usize,
     room: usize,
 ) -> Judged
-    ensures { λ r. ⌜ r ≡ judgedBy (now (d .entry)) (now (rebuilt .entry)) a limits t sample (slotOf t (now (sessions .entry)) (now (streams .entry)) (length (now (held .entry))) sample) room ⌝ }
+    ensures { λ r. ⌜ r ≡ judgedBy (now (hours .entry)) (now (d .entry)) (now (rebuilt .entry)) a limits t given sample (slotOf t (now (sessions .entry)) (now (streams .entry)) (length (now (held .entry))) sample) room ⌝ }
 {
     match t {
-        Turn::Datagram(time) => judge_datagram(d, a, limits, time, room),
+        Turn::Datagram => judge_datagram(hours, d, a, limits, given, room),
         Turn::Answer(p, told) => judge_answer(
             sessions,
             streams,
@@ -390,13 +432,15 @@ pub(crate) fn judge(
     parts: &[u8],
     lengths: &[u32],
     rebuilt: &[u8],
+    hours: &[u8],
     d: &[u8],
     a: Agent,
     input: Input,
+    given: Given,
     sample: usize,
     room: usize,
 ) -> Judged
-    ensures { λ j. ⌜ j ≡ judgeOf (lent (now (sessions .entry)) (now (streams .entry)) (now (objects .entry)) (now (held .entry)) (now (parts .entry)) (now (lengths .entry)) (now (rebuilt .entry))) (now (d .entry)) a input sample room ⌝ }
+    ensures { λ j. ⌜ j ≡ judgeOf (lent (now (sessions .entry)) (now (streams .entry)) (now (objects .entry)) (now (held .entry)) (now (parts .entry)) (now (lengths .entry)) (now (rebuilt .entry))) (now (hours .entry)) (now (d .entry)) a input given sample room ⌝ }
 {
     let turn = whose_turn(a, input);
     let id = session_of(d, turn);
@@ -421,10 +465,12 @@ pub(crate) fn judge(
         streams,
         held,
         rebuilt,
+        hours,
         d,
         a,
         limits,
         turn,
+        given,
         sample,
         room,
     )
@@ -437,6 +483,15 @@ pub(crate) struct Parts {
     pub start: Start,
     pub count: usize,
     pub why: Refusal,
+}
+
+fn no_moment() -> Moment
+    ensures { λ r. ⌜ r ≡ noMoment ⌝ }
+{
+    Moment {
+        time: 0,
+        is_open: false,
+    }
 }
 
 pub(crate) fn parts_of(j: Judged) -> Parts
@@ -454,7 +509,7 @@ pub(crate) fn parts_of(j: Judged) -> Parts
             start: Start {
                 frame: Frame {
                     max_clients: 0,
-                    time: 0,
+                    moment: no_moment(),
                     session_id: 0,
                     stream_id: 0,
                     room: 0,

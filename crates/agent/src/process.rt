@@ -10,6 +10,7 @@ use crate::judge::parts_of;
 use crate::perform::perform;
 use crate::perform::perform_plain;
 use crate::state::Agent;
+use crate::state::Given;
 use crate::state::Pending;
 use crate::state::Waiting;
 use crate::turn::Ran;
@@ -64,6 +65,7 @@ fn waits_of(s: Start, ran: Ran) -> Waiting
     ensures { λ r. ⌜ r ≡ waitsOf (s .frame) (ran .stop) (ran .at) ⌝ }
 {
     let frame = s.frame;
+    let moment = frame.moment;
     let stop = ran.stop;
     match stop {
         Stop::Nothing => Waiting::Nothing,
@@ -73,7 +75,7 @@ fn waits_of(s: Start, ran: Ran) -> Waiting
             number,
             task,
             at: ran.at,
-            time: frame.time,
+            moment,
             left_at: 0,
             left_end: 0,
         }),
@@ -83,7 +85,7 @@ fn waits_of(s: Start, ran: Ran) -> Waiting
             number,
             task,
             at: ran.at,
-            time: frame.time,
+            moment,
             left_at,
             left_end,
         }),
@@ -350,6 +352,7 @@ fn go(
     }
 }
 
+// With a datagram `given` is what the host gives with it; an answer's was looked at when its datagram came.
 pub fn process(
     sessions: &mut [SessionRow],
     streams: &mut [StreamRow],
@@ -358,21 +361,23 @@ pub fn process(
     parts: &mut [u8],
     lengths: &mut [u32],
     rebuilt: &mut [u8],
+    hours: &[u8],
     out: &mut [u8],
     d: &[u8],
     sample: &[u8],
     agent: Agent,
     input: Input,
+    given: Given,
 ) -> Processed
-    ensures { λ p. ⌜ (p ≡ processOf agent (lent (now (sessions .entry)) (now (streams .entry)) (now (objects .entry)) (now (held .entry)) (now (parts .entry)) (now (lengths .entry)) (now (rebuilt .entry))) (now (out .entry)) (now (d .entry)) (now (sample .entry)) input .processed)
-        × (now (sessions .exit) ≡ processOf agent (lent (now (sessions .entry)) (now (streams .entry)) (now (objects .entry)) (now (held .entry)) (now (parts .entry)) (now (lengths .entry)) (now (rebuilt .entry))) (now (out .entry)) (now (d .entry)) (now (sample .entry)) input .tables .sessions)
-        × (now (streams .exit) ≡ processOf agent (lent (now (sessions .entry)) (now (streams .entry)) (now (objects .entry)) (now (held .entry)) (now (parts .entry)) (now (lengths .entry)) (now (rebuilt .entry))) (now (out .entry)) (now (d .entry)) (now (sample .entry)) input .tables .streams)
-        × (now (objects .exit) ≡ processOf agent (lent (now (sessions .entry)) (now (streams .entry)) (now (objects .entry)) (now (held .entry)) (now (parts .entry)) (now (lengths .entry)) (now (rebuilt .entry))) (now (out .entry)) (now (d .entry)) (now (sample .entry)) input .tables .objects)
-        × (now (held .exit) ≡ processOf agent (lent (now (sessions .entry)) (now (streams .entry)) (now (objects .entry)) (now (held .entry)) (now (parts .entry)) (now (lengths .entry)) (now (rebuilt .entry))) (now (out .entry)) (now (d .entry)) (now (sample .entry)) input .tables .held)
-        × (now (parts .exit) ≡ processOf agent (lent (now (sessions .entry)) (now (streams .entry)) (now (objects .entry)) (now (held .entry)) (now (parts .entry)) (now (lengths .entry)) (now (rebuilt .entry))) (now (out .entry)) (now (d .entry)) (now (sample .entry)) input .tables .parts)
-        × (now (lengths .exit) ≡ processOf agent (lent (now (sessions .entry)) (now (streams .entry)) (now (objects .entry)) (now (held .entry)) (now (parts .entry)) (now (lengths .entry)) (now (rebuilt .entry))) (now (out .entry)) (now (d .entry)) (now (sample .entry)) input .tables .lengths)
-        × (now (rebuilt .exit) ≡ processOf agent (lent (now (sessions .entry)) (now (streams .entry)) (now (objects .entry)) (now (held .entry)) (now (parts .entry)) (now (lengths .entry)) (now (rebuilt .entry))) (now (out .entry)) (now (d .entry)) (now (sample .entry)) input .tables .rebuilt)
-        × (now (out .exit) ≡ processOf agent (lent (now (sessions .entry)) (now (streams .entry)) (now (objects .entry)) (now (held .entry)) (now (parts .entry)) (now (lengths .entry)) (now (rebuilt .entry))) (now (out .entry)) (now (d .entry)) (now (sample .entry)) input .out) ⌝ }
+    ensures { λ p. ⌜ (p ≡ processOf agent (lent (now (sessions .entry)) (now (streams .entry)) (now (objects .entry)) (now (held .entry)) (now (parts .entry)) (now (lengths .entry)) (now (rebuilt .entry))) (now (hours .entry)) (now (out .entry)) (now (d .entry)) (now (sample .entry)) input given .processed)
+        × (now (sessions .exit) ≡ processOf agent (lent (now (sessions .entry)) (now (streams .entry)) (now (objects .entry)) (now (held .entry)) (now (parts .entry)) (now (lengths .entry)) (now (rebuilt .entry))) (now (hours .entry)) (now (out .entry)) (now (d .entry)) (now (sample .entry)) input given .tables .sessions)
+        × (now (streams .exit) ≡ processOf agent (lent (now (sessions .entry)) (now (streams .entry)) (now (objects .entry)) (now (held .entry)) (now (parts .entry)) (now (lengths .entry)) (now (rebuilt .entry))) (now (hours .entry)) (now (out .entry)) (now (d .entry)) (now (sample .entry)) input given .tables .streams)
+        × (now (objects .exit) ≡ processOf agent (lent (now (sessions .entry)) (now (streams .entry)) (now (objects .entry)) (now (held .entry)) (now (parts .entry)) (now (lengths .entry)) (now (rebuilt .entry))) (now (hours .entry)) (now (out .entry)) (now (d .entry)) (now (sample .entry)) input given .tables .objects)
+        × (now (held .exit) ≡ processOf agent (lent (now (sessions .entry)) (now (streams .entry)) (now (objects .entry)) (now (held .entry)) (now (parts .entry)) (now (lengths .entry)) (now (rebuilt .entry))) (now (hours .entry)) (now (out .entry)) (now (d .entry)) (now (sample .entry)) input given .tables .held)
+        × (now (parts .exit) ≡ processOf agent (lent (now (sessions .entry)) (now (streams .entry)) (now (objects .entry)) (now (held .entry)) (now (parts .entry)) (now (lengths .entry)) (now (rebuilt .entry))) (now (hours .entry)) (now (out .entry)) (now (d .entry)) (now (sample .entry)) input given .tables .parts)
+        × (now (lengths .exit) ≡ processOf agent (lent (now (sessions .entry)) (now (streams .entry)) (now (objects .entry)) (now (held .entry)) (now (parts .entry)) (now (lengths .entry)) (now (rebuilt .entry))) (now (hours .entry)) (now (out .entry)) (now (d .entry)) (now (sample .entry)) input given .tables .lengths)
+        × (now (rebuilt .exit) ≡ processOf agent (lent (now (sessions .entry)) (now (streams .entry)) (now (objects .entry)) (now (held .entry)) (now (parts .entry)) (now (lengths .entry)) (now (rebuilt .entry))) (now (hours .entry)) (now (out .entry)) (now (d .entry)) (now (sample .entry)) input given .tables .rebuilt)
+        × (now (out .exit) ≡ processOf agent (lent (now (sessions .entry)) (now (streams .entry)) (now (objects .entry)) (now (held .entry)) (now (parts .entry)) (now (lengths .entry)) (now (rebuilt .entry))) (now (hours .entry)) (now (out .entry)) (now (d .entry)) (now (sample .entry)) input given .out) ⌝ }
 {
     let long = sample.len();
     let room = out.len();
@@ -384,9 +389,11 @@ pub fn process(
         parts,
         lengths,
         rebuilt,
+        hours,
         d,
         agent,
         input,
+        given,
         long,
         room,
     );

@@ -3,6 +3,7 @@ use crate::clients::pointer;
 use crate::clients::put_greeting;
 use crate::repeats::answer;
 use crate::replies::count;
+use crate::state::Moment;
 use codec::layouts::Parsed;
 use codec::layouts::Span;
 use codec::submessages::ObjectNumber;
@@ -28,10 +29,10 @@ ghost use Rattle.sessions.specs.Opening.{createdOf, openedRows, openedStreams};
 ghost use Rattle.moves.specs.Rows.{rows};
 ghost use Rattle.agent.specs.Run.{putReplies, settled, stopOf, greetingBytes, greeted, passed, isLive, delivered, takenOf};
 
-// What a datagram's submessages have in common: the limit, the time, the header's session and stream, and the output's room.
+// What a datagram's submessages have in common: the limit, the moment, the header's session and stream, and the output's room.
 pub(crate) struct Frame {
     pub max_clients: usize,
-    pub time: u64,
+    pub moment: Moment,
     pub session_id: u8,
     pub stream_id: u8,
     pub room: usize,
@@ -91,11 +92,11 @@ pub(crate) fn greet(
 ) -> Ran
     requires { ⌜ f .room ≤ 9223372036854775807 ⌝ }
     ensures { λ x. ⌜ (x ≡ greeted f r at (createdOf (now (sessions .entry)) (now (streams .entry)) (f .«max_clients») (r .next)))
-        × (now (sessions .exit) ≡ openedRows (createdOf (now (sessions .entry)) (now (streams .entry)) (f .«max_clients») (r .next)) (now (sessions .entry)) key (f .time))
+        × (now (sessions .exit) ≡ openedRows (createdOf (now (sessions .entry)) (now (streams .entry)) (f .«max_clients») (r .next)) (now (sessions .entry)) key (f .moment .time))
         × (now (streams .exit) ≡ openedStreams (createdOf (now (sessions .entry)) (now (streams .entry)) (f .«max_clients») (r .next)) (now (streams .entry)))
         × (now (out .exit) ≡ putBytes (now (out .entry)) (r .wrote) (greetingBytes (createdOf (now (sessions .entry)) (now (streams .entry)) (f .«max_clients») (r .next)))) ⌝ }
 {
-    let c = create_session(sessions, streams, f.max_clients, r.next, key, f.time);
+    let c = create_session(sessions, streams, f.max_clients, r.next, key, f.moment.time);
     put_greeting(out, r.wrote, c);
     let wrote = count(f.room, r.wrote, 11);
     Ran {
@@ -175,9 +176,19 @@ pub(crate) fn deliver(
 {
     let id = f.session_id;
     let n = f.stream_id;
-    let named = touch(sessions, id, f.time);
+    let named = touch(sessions, id, f.moment.time);
     if is_live(named) {
-        let v = handle(sessions, streams, objects, d, id, n, took.asked, took.body);
+        let v = handle(
+            sessions,
+            streams,
+            objects,
+            d,
+            id,
+            n,
+            took.asked,
+            took.body,
+            f.moment.is_open,
+        );
         let w = answer(sessions, streams, held, out, f, r.wrote, v);
         settle(r.next, took.at, w, v)
     } else {

@@ -1,7 +1,7 @@
 -- A record is read back as it was written: what the host keeps between two calls is the agent.
 use Prim.Native.Nat.{ℕ, _%_, _<_, _≤_}
 use mathlib.Core.Path.{_≡_, refl, ap, _∙_}
-use mathlib.Core.Bool.{true, false}
+use mathlib.Core.Bool.{Bool, true, false}
 use mathlib.Core.List.{List, []}
 use native.Mathlib.Omega.{arith}
 use borrow.Author.Tests.{le-leb}
@@ -14,7 +14,7 @@ use Rattle.agent.specs.declared.state.Agent.{Agent}
 use Rattle.agent.specs.declared.state.Pending.{Pending}
 use Rattle.agent.specs.declared.state.Waiting.{Waiting}
 use Rattle.agent.specs.declared.state.Waiting.the-variants as waiting
-use Rattle.cabi.specs.Record.{recordOf, recordAt, taskIn, agentIn, taskNumber, taskKind, taskParent, recordBy, recordFor, rowOf, keptIn}
+use Rattle.cabi.specs.Record.{recordOf, recordAt, taskIn, agentIn, taskNumber, taskKind, taskParent, openNumber, recordBy, recordFor, rowOf, keptIn}
 use Rattle.cabi.specs.declared.record.Record.{Record}
 use Rattle.cabi.specs.declared.told.Told.{Told}
 
@@ -27,7 +27,8 @@ TaskFits Deleting = Unit {0}
 
 abbrev pub WaitsFit : Waiting → Type 0
 WaitsFit waiting.Nothing = Unit {0}
-WaitsFit (waiting.Call p) = (p .«session_id» ≤ 255) × (p .«stream_id» ≤ 255) × (p .number .0 ≤ 65535) × TaskFits (p .task)
+WaitsFit (waiting.Call p) =
+    (p .«session_id» ≤ 255) × (p .«stream_id» ≤ 255) × (p .number .0 ≤ 65535) × TaskFits (p .task)
 
 task-back : (t : Task) → TaskFits t → taskIn (taskNumber t) (taskKind t) (taskParent t) ≡ t
 task-back (Creating kind parent) h =
@@ -62,6 +63,10 @@ task-open Writing = refl
 task-open Reading = refl
 task-open Deleting = refl
 
+open-back : (b : Bool) → eqb (openNumber b) 1 ≡ b
+open-back true = refl
+open-back false = refl
+
 agent-back : (max timeout next : ℕ) (w : Waiting) → next ≤ 255 → WaitsFit w
     → agentIn (recordBy w max timeout next) ≡ record { «max_clients» = max; «timeout_ms» = timeout; next = next; waits = w }
 unfolding agentIn
@@ -76,7 +81,7 @@ agent-back max timeout next (waiting.Call p) h f =
     let b : p .«session_id» % 256 ≡ p .«session_id» = omega (arith, session) in
     let c : p .«stream_id» % 256 ≡ p .«stream_id» = omega (arith, stream) in
     let d : p .number .0 % 65536 ≡ p .number .0 = omega (arith, number) in
-    rw (le-leb next 255 h, task-low (p .task), kind-low (p .task) (f .3), le-leb (p .«session_id») 255 session, le-leb (p .«stream_id») 255 stream, le-leb (p .number .0) 65535 number, parent-low (p .task) (f .3), a, b, c, d, task-open (p .task), task-back (p .task) (f .3))
+    rw (le-leb next 255 h, task-low (p .task), kind-low (p .task) (f .3), le-leb (p .«session_id») 255 session, le-leb (p .«stream_id») 255 stream, le-leb (p .number .0) 65535 number, parent-low (p .task) (f .3), a, b, c, d, task-open (p .task), task-back (p .task) (f .3), open-back (p .moment .«is_open»))
 
 pub record-back : (rows : List (List ℕ)) (a : Agent) (t : Told) → 0 < length rows → a .next ≤ 255 → WaitsFit (a .waits) → agentIn (recordAt (keptIn rows (recordFor a) t)) ≡ a
 unfolding recordFor

@@ -4,6 +4,8 @@ use Rattle.codec.specs.Refusals.{numberOf, byteOf}
 use Rattle.codec.specs.declared.bytes.Written.{Written}
 use Rattle.codec.specs.declared.bytes.Written.the-variants as written
 use Rattle.codec.specs.declared.refusals.Refusal.{Refusal}
+use Rattle.hours.specs.declared.week.FirstOpen.{FirstOpen}
+use Rattle.hours.specs.declared.week.FirstOpen.the-variants as first
 use Rattle.sessions.specs.declared.object_list.Listed.{Listed}
 use Rattle.sessions.specs.declared.object_list.Listed.the-variants as listed
 use Rattle.sessions.specs.declared.need.Needed.{Needed}
@@ -36,6 +38,15 @@ sweptAs (written.Refused r) = refusedAs r
 abbrev pub listedAs : Listed → ℕ
 listedAs (listed.Numbers n) = 65536 * (n % 65536)
 listedAs (listed.Refused r) = refusedAs r
+
+-- 1 and the minute's place in the week, 1,440 to a day; 0 where no minute is open (W8)
+abbrev pub minuteAs : ℕ → ℕ → ℕ
+minuteAs day minute = 65536 * (1 + 1440 * day + minute)
+
+abbrev pub firstOpenAs : FirstOpen → ℕ
+firstOpenAs (first.At day minute) = minuteAs day minute
+firstOpenAs first.Never = 0
+firstOpenAs (first.Refused r) = refusedAs r
 
 -- the bytes of all tables and stores together, 1,048,576 × 256 at most
 abbrev pub neededAs : Needed → ℕ

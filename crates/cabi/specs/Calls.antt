@@ -4,29 +4,33 @@ use mathlib.Core.Bool.{cond}
 use mathlib.Core.List.{List, []}
 use lib.Dec.{eqb, leb}
 use lib.ListN.{length}
+use Rattle.hours.specs.Windows.{windowsOf}
+use Rattle.hours.specs.Week.{keptHours}
 use Rattle.sessions.specs.Calls.{setUpTables}
-use Rattle.sessions.specs.Setup.{setUpOf}
+use Rattle.sessions.specs.Setup.{leaves}
 use Rattle.sessions.specs.View.{Tables}
-use Rattle.agent.specs.Host.{Leaves, processOf, setUpAs, idleOf, removedBy, removedRows, sweptBy, sweptRows, sweptOut}
+use Rattle.agent.specs.Host.{Leaves, processOf, setUpJudged, setUpAs, idleOf, removedBy, removedRows, sweptBy, sweptRows, sweptOut}
 use Rattle.agent.specs.declared.agent.AgentSetUp.{AgentSetUp}
 use Rattle.agent.specs.declared.agent.AgentSetUp.the-variants as ready
 use Rattle.agent.specs.declared.judge.Input.{Input}
+use Rattle.agent.specs.declared.state.Given.{Given}
 use Rattle.agent.specs.declared.judge.Input.the-variants.{Datagram, Answer}
 use Rattle.moves.specs.declared.proxy.BridgeAnswer.{BridgeAnswer}
 use Rattle.moves.specs.declared.proxy.BridgeAnswer.the-variants.{Created, Done, Sample, NoSample, Failed}
 use Rattle.cabi.specs.Answers.{refusedAs, outcomeAs, removedAs, sweptAs}
 use Rattle.cabi.specs.Record.{recordAt, agentIn, recordFor, nothingTold, keptIn, recordsAfter}
 
--- what a call leaves: its answer, the agent's record, the tables with the stores, the lent output
+-- what a call leaves: its answer, the agent's record, the tables with the stores, the week's minutes, the lent output
 pub record Left : Type 0 where
   pub answer : ℕ
   pub records : List (List ℕ)
   pub tables : Tables
+  pub hours : List ℕ
   pub out : List ℕ
 
 -- "a refused call changes no table and no lent byte"
-abbrev pub refusedLeft : ℕ → List (List ℕ) → Tables → List ℕ → Left
-refusedLeft why w t out = record { answer = why; records = w; tables = t; out = out }
+abbrev pub refusedLeft : ℕ → List (List ℕ) → Tables → List ℕ → List ℕ → Left
+refusedLeft why w t hours out = record { answer = why; records = w; tables = t; hours = hours; out = out }
 
 -- ---- a datagram or an answer
 
@@ -39,16 +43,20 @@ abbrev pub answerIn : ℕ → ℕ → BridgeAnswer
 answerIn input handle =
     cond (eqb input 1) (Created (record { 0 = handle })) (cond (eqb input 2) Done (cond (eqb input 3) Sample (cond (eqb input 4) NoSample Failed)))
 
-abbrev pub inputIn : ℕ → ℕ → ℕ → Input
-inputIn input time handle = cond (eqb input 0) (Datagram time) (Answer (answerIn input handle))
+abbrev pub inputIn : ℕ → ℕ → Input
+inputIn input handle = cond (eqb input 0) Datagram (Answer (answerIn input handle))
 
-abbrev pub processedLeft : List (List ℕ) → Leaves → Left
-processedLeft w l = record { answer = outcomeAs (l .processed .outcome); records = recordsAfter w (l .processed); tables = l .tables; out = l .out }
+-- a datagram comes with its time, weekday and minute (W8)
+abbrev pub givenIn : ℕ → ℕ → ℕ → Given
+givenIn time day minute = record { time = time; day = day; minute = minute }
 
-unfoldable pub processLeft : List (List ℕ) → Tables → List ℕ → List ℕ → List ℕ → ℕ → ℕ → ℕ → Left
-processLeft w t out d sample input time handle =
+abbrev pub processedLeft : List (List ℕ) → List ℕ → Leaves → Left
+processedLeft w hours l = record { answer = outcomeAs (l .processed .outcome); records = recordsAfter w (l .processed); tables = l .tables; hours = hours; out = l .out }
+
+unfoldable pub processLeft : List (List ℕ) → Tables → List ℕ → List ℕ → List ℕ → List ℕ → ℕ → ℕ → ℕ → ℕ → ℕ → Left
+processLeft w t hours out d sample input time day minute handle =
     let why = badCall (length w) input in
-    cond (eqb why 0) (processedLeft w (processOf (agentIn (recordAt w)) t out d sample (inputIn input time handle))) (refusedLeft why w t out)
+    cond (eqb why 0) (processedLeft w hours (processOf (agentIn (recordAt w)) t hours out d sample (inputIn input handle) (givenIn time day minute))) (refusedLeft why w t hours out)
 
 -- ---- set-up
 
@@ -60,11 +68,12 @@ abbrev pub readyAs : AgentSetUp → ℕ
 readyAs (ready.Ready a) = 0
 readyAs (ready.Refused r) = refusedAs r
 
-unfoldable pub setUpLeft : List (List ℕ) → Tables → ℕ → ℕ → Left
-setUpLeft w t max timeout =
-    let s = setUpOf (length (t .sessions)) (length (t .streams)) (length (t .objects)) (length (t .held)) (length (t .parts)) (length (t .lengths)) (length (t .rebuilt)) max in
-    cond (eqb (length w) 0) (refusedLeft 16 w t [])
-    (record { answer = readyAs (setUpAs s max timeout); records = readyRecords w (setUpAs s max timeout); tables = setUpTables s t; out = [] })
+-- what the windows open is kept until the next set-up (W8)
+unfoldable pub setUpLeft : List (List ℕ) → Tables → List ℕ → List (List ℕ) → ℕ → ℕ → Left
+setUpLeft w t hours windows max timeout =
+    let s = setUpJudged t (length hours) (windowsOf windows) max in
+    cond (eqb (length w) 0) (refusedLeft 16 w t hours [])
+    (record { answer = readyAs (setUpAs s max timeout); records = readyRecords w (setUpAs s max timeout); tables = setUpTables s t; hours = leaves s (keptHours (windowsOf windows) hours) hours; out = [] })
 
 -- ---- a removal, and a sweep
 

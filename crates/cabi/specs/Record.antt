@@ -1,4 +1,4 @@
--- The agent's record as a C host keeps it: a row of twenty-one numbers, each in the place of its field of `struct xrce_agent`.
+-- The agent's record as a C host keeps it: a row of twenty-two numbers, each in the place of its field of `struct xrce_agent`.
 use Prim.Native.Nat.{ℕ, _%_}
 use mathlib.Core.Bool.{Bool, true, false, cond}
 use mathlib.Core.List.{List, [], _∷_}
@@ -12,13 +12,14 @@ use Rattle.moves.specs.declared.proxy.BridgeCall.the-variants.{CreateParticipan
 use Rattle.moves.specs.declared.proxy.Task.{Task}
 use Rattle.moves.specs.declared.proxy.Task.the-variants.{Creating, Writing, Reading, Deleting}
 use Rattle.agent.specs.declared.state.Agent.{Agent}
+use Rattle.agent.specs.declared.state.Moment.{Moment}
 use Rattle.agent.specs.declared.state.Pending.{Pending}
 use Rattle.agent.specs.declared.state.Waiting.{Waiting}
 use Rattle.agent.specs.declared.state.Waiting.the-variants as waiting
 use Rattle.cabi.specs.declared.record.Record.{Record}
 use Rattle.cabi.specs.declared.told.Told.{Told}
 
--- ---- the first thirteen numbers: the agent between two calls
+-- ---- the first fourteen numbers: the agent between two calls
 
 abbrev pub recordOf : List ℕ → Record
 recordOf w =
@@ -34,8 +35,9 @@ recordOf w =
       number = getD w 8 0;
       at = getD w 9 0;
       time = getD w 10 0;
-      «left_at» = getD w 11 0;
-      «left_end» = getD w 12 0;
+      «is_open» = getD w 11 0;
+      «left_at» = getD w 12 0;
+      «left_end» = getD w 13 0;
     }
 
 -- the host lends one record; past the end of the slice all is 0
@@ -46,6 +48,10 @@ recordAt rows = recordOf (getD rows 0 [])
 abbrev pub taskIn : ℕ → ℕ → ℕ → Task
 taskIn n kind parent = cond (eqb n 1) (Creating (kind % 256) (parent % 65536)) (cond (eqb n 2) Writing (cond (eqb n 3) Reading Deleting))
 
+-- its datagram's time, and whether that datagram's minute is open (W8): 1, and every other number is closed
+abbrev pub momentIn : Record → Moment
+momentIn r = record { time = r .time; «is_open» = eqb (r .«is_open») 1 }
+
 abbrev pub pendingIn : Record → Pending
 pendingIn r =
     record {
@@ -54,7 +60,7 @@ pendingIn r =
       number = record { 0 = r .number % 65536 };
       task = taskIn (r .task) (r .kind) (r .parent);
       at = r .at;
-      time = r .time;
+      moment = momentIn r;
       «left_at» = r .«left_at»;
       «left_end» = r .«left_end»;
     }
@@ -96,9 +102,12 @@ taskParent Writing = 0
 taskParent Reading = 0
 taskParent Deleting = 0
 
+abbrev pub openNumber : Bool → ℕ
+openNumber b = cond b 1 0
+
 abbrev pub idleRecord : ℕ → ℕ → ℕ → Record
 idleRecord max timeout next =
-    record { «max_clients» = max; «timeout_ms» = timeout; next = next; task = 0; kind = 0; parent = 0; session = 0; stream = 0; number = 0; at = 0; time = 0; «left_at» = 0; «left_end» = 0 }
+    record { «max_clients» = max; «timeout_ms» = timeout; next = next; task = 0; kind = 0; parent = 0; session = 0; stream = 0; number = 0; at = 0; time = 0; «is_open» = 0; «left_at» = 0; «left_end» = 0 }
 
 abbrev pub openRecord : ℕ → ℕ → ℕ → Pending → Record
 openRecord max timeout next p =
@@ -113,7 +122,8 @@ openRecord max timeout next p =
       stream = p .«stream_id»;
       number = p .number .0;
       at = p .at;
-      time = p .time;
+      time = p .moment .time;
+      «is_open» = openNumber (p .moment .«is_open»);
       «left_at» = p .«left_at»;
       «left_end» = p .«left_end»;
     }
@@ -154,7 +164,7 @@ toldOf (Refused r) = nothingTold 0
 abbrev pub rowOf : Record → Told → List ℕ
 rowOf r t =
     r .«max_clients» ∷ r .«timeout_ms» ∷ r .next ∷ r .task ∷ r .kind ∷ r .parent ∷ r .session ∷ r .stream ∷ r .number ∷ r .at ∷ r .time
-    ∷ r .«left_at» ∷ r .«left_end»
+    ∷ r .«is_open» ∷ r .«left_at» ∷ r .«left_end»
     ∷ t .wrote ∷ t .call ∷ t .handle ∷ t .topic ∷ t .start ∷ t .len ∷ t .«type_start» ∷ t .«type_len» ∷ []
 
 abbrev pub keptIn : List (List ℕ) → Record → Told → List (List ℕ)

@@ -4,10 +4,11 @@ use agent::agent::Removed;
 use agent::process::Outcome;
 use codec::bytes::Written;
 use codec::refusals::Refusal;
+use hours::week::FirstOpen;
 use sessions::need::Needed;
 use sessions::object_list::Listed;
 ghost use mathlib.Core.Path.{_≡_};
-ghost use Rattle.cabi.specs.Answers.{refusedAs, outcomeAs, removedAs, sweptAs, listedAs, neededAs};
+ghost use Rattle.cabi.specs.Answers.{refusedAs, outcomeAs, removedAs, sweptAs, listedAs, minuteAs, firstOpenAs, neededAs};
 
 pub(crate) fn refused_as(x: Refusal) -> u64
     ensures { λ r. ⌜ r ≡ refusedAs x ⌝ }
@@ -52,6 +53,22 @@ pub(crate) fn listed_as(x: Listed) -> u64
     match x {
         Listed::Numbers(n) => 65536 * ((n % 65536) as u64),
         Listed::Refused(r) => refused_as(r),
+    }
+}
+
+fn minute_as(day: u8, minute: u16) -> u64
+    ensures { λ r. ⌜ r ≡ minuteAs day minute ⌝ }
+{
+    65536 * (1 + 1440 * (day as u64) + (minute as u64))
+}
+
+pub(crate) fn first_open_as(x: FirstOpen) -> u64
+    ensures { λ r. ⌜ r ≡ firstOpenAs x ⌝ }
+{
+    match x {
+        FirstOpen::At(day, minute) => minute_as(day, minute),
+        FirstOpen::Never => 0,
+        FirstOpen::Refused(r) => refused_as(r),
     }
 }
 

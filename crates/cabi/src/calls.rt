@@ -1,5 +1,6 @@
 // The exported functions. Each is the agent's call on the agent that the record says; what can't be done is refused, and a
 // refused call changes no byte of what was lent to it.
+use crate::answers::first_open_as;
 use crate::answers::listed_as;
 use crate::answers::needed_as;
 use crate::answers::outcome_as;
@@ -7,6 +8,7 @@ use crate::answers::refused_as;
 use crate::answers::removed_as;
 use crate::answers::swept_as;
 use crate::inputs::bad_call;
+use crate::inputs::given_in;
 use crate::inputs::input_in;
 use crate::record::RecordRow;
 use crate::record::agent_in;
@@ -17,6 +19,7 @@ use crate::told::keep_record;
 use crate::told::nothing_told;
 use agent::agent::AgentSetUp;
 use agent::agent::evict_expired;
+use agent::agent::first_open;
 use agent::agent::list_objects;
 use agent::agent::remove_session;
 use agent::agent::setup;
@@ -28,7 +31,8 @@ ghost use mathlib.Core.Path.{_≡_};
 ghost use Rattle.sessions.specs.Need.{neededFor};
 ghost use Rattle.sessions.specs.ObjectList.{listOf, listOut};
 ghost use Rattle.agent.specs.Lent.{lent};
-ghost use Rattle.cabi.specs.Answers.{outcomeAs, listedAs, neededAs};
+ghost use Rattle.hours.specs.Week.{firstOpenOf};
+ghost use Rattle.cabi.specs.Answers.{outcomeAs, listedAs, firstOpenAs, neededAs};
 ghost use Rattle.cabi.specs.Record.{recordsAfter};
 ghost use Rattle.cabi.specs.Calls.{readyAs, readyRecords, processLeft, setUpLeft, removeAnswer, removeRows, sweepAnswer, sweepRows, sweepOut};
 
@@ -51,7 +55,7 @@ fn told(agent: &mut [RecordRow], p: Processed) -> u64
 
 #[no_mangle]
 pub extern "C" fn xrce_agent_process(
-    agent: &mut [[u64; 21]],
+    agent: &mut [[u64; 22]],
     sessions: &mut [[u64; 8]],
     streams: &mut [[u16; 35]],
     objects: &mut [Object],
@@ -59,29 +63,33 @@ pub extern "C" fn xrce_agent_process(
     parts: &mut [u8],
     lengths: &mut [u32],
     rebuilt: &mut [u8],
+    hours: &[u8],
     out: &mut [u8],
     datagram: &[u8],
     sample: &[u8],
     input: u8,
     time: u64,
+    day: u8,
+    minute: u16,
     handle: u32,
 ) -> u64
-    ensures { λ r. ⌜ (r ≡ processLeft (now (agent .entry)) (lent (now (sessions .entry)) (now (streams .entry)) (now (objects .entry)) (now (held .entry)) (now (parts .entry)) (now (lengths .entry)) (now (rebuilt .entry))) (now (out .entry)) (now (datagram .entry)) (now (sample .entry)) input time handle .answer)
-        × (now (agent .exit) ≡ processLeft (now (agent .entry)) (lent (now (sessions .entry)) (now (streams .entry)) (now (objects .entry)) (now (held .entry)) (now (parts .entry)) (now (lengths .entry)) (now (rebuilt .entry))) (now (out .entry)) (now (datagram .entry)) (now (sample .entry)) input time handle .records)
-        × (now (sessions .exit) ≡ processLeft (now (agent .entry)) (lent (now (sessions .entry)) (now (streams .entry)) (now (objects .entry)) (now (held .entry)) (now (parts .entry)) (now (lengths .entry)) (now (rebuilt .entry))) (now (out .entry)) (now (datagram .entry)) (now (sample .entry)) input time handle .tables .sessions)
-        × (now (streams .exit) ≡ processLeft (now (agent .entry)) (lent (now (sessions .entry)) (now (streams .entry)) (now (objects .entry)) (now (held .entry)) (now (parts .entry)) (now (lengths .entry)) (now (rebuilt .entry))) (now (out .entry)) (now (datagram .entry)) (now (sample .entry)) input time handle .tables .streams)
-        × (now (objects .exit) ≡ processLeft (now (agent .entry)) (lent (now (sessions .entry)) (now (streams .entry)) (now (objects .entry)) (now (held .entry)) (now (parts .entry)) (now (lengths .entry)) (now (rebuilt .entry))) (now (out .entry)) (now (datagram .entry)) (now (sample .entry)) input time handle .tables .objects)
-        × (now (held .exit) ≡ processLeft (now (agent .entry)) (lent (now (sessions .entry)) (now (streams .entry)) (now (objects .entry)) (now (held .entry)) (now (parts .entry)) (now (lengths .entry)) (now (rebuilt .entry))) (now (out .entry)) (now (datagram .entry)) (now (sample .entry)) input time handle .tables .held)
-        × (now (parts .exit) ≡ processLeft (now (agent .entry)) (lent (now (sessions .entry)) (now (streams .entry)) (now (objects .entry)) (now (held .entry)) (now (parts .entry)) (now (lengths .entry)) (now (rebuilt .entry))) (now (out .entry)) (now (datagram .entry)) (now (sample .entry)) input time handle .tables .parts)
-        × (now (lengths .exit) ≡ processLeft (now (agent .entry)) (lent (now (sessions .entry)) (now (streams .entry)) (now (objects .entry)) (now (held .entry)) (now (parts .entry)) (now (lengths .entry)) (now (rebuilt .entry))) (now (out .entry)) (now (datagram .entry)) (now (sample .entry)) input time handle .tables .lengths)
-        × (now (rebuilt .exit) ≡ processLeft (now (agent .entry)) (lent (now (sessions .entry)) (now (streams .entry)) (now (objects .entry)) (now (held .entry)) (now (parts .entry)) (now (lengths .entry)) (now (rebuilt .entry))) (now (out .entry)) (now (datagram .entry)) (now (sample .entry)) input time handle .tables .rebuilt)
-        × (now (out .exit) ≡ processLeft (now (agent .entry)) (lent (now (sessions .entry)) (now (streams .entry)) (now (objects .entry)) (now (held .entry)) (now (parts .entry)) (now (lengths .entry)) (now (rebuilt .entry))) (now (out .entry)) (now (datagram .entry)) (now (sample .entry)) input time handle .out) ⌝ }
+    ensures { λ r. ⌜ (r ≡ processLeft (now (agent .entry)) (lent (now (sessions .entry)) (now (streams .entry)) (now (objects .entry)) (now (held .entry)) (now (parts .entry)) (now (lengths .entry)) (now (rebuilt .entry))) (now (hours .entry)) (now (out .entry)) (now (datagram .entry)) (now (sample .entry)) input time day minute handle .answer)
+        × (now (agent .exit) ≡ processLeft (now (agent .entry)) (lent (now (sessions .entry)) (now (streams .entry)) (now (objects .entry)) (now (held .entry)) (now (parts .entry)) (now (lengths .entry)) (now (rebuilt .entry))) (now (hours .entry)) (now (out .entry)) (now (datagram .entry)) (now (sample .entry)) input time day minute handle .records)
+        × (now (sessions .exit) ≡ processLeft (now (agent .entry)) (lent (now (sessions .entry)) (now (streams .entry)) (now (objects .entry)) (now (held .entry)) (now (parts .entry)) (now (lengths .entry)) (now (rebuilt .entry))) (now (hours .entry)) (now (out .entry)) (now (datagram .entry)) (now (sample .entry)) input time day minute handle .tables .sessions)
+        × (now (streams .exit) ≡ processLeft (now (agent .entry)) (lent (now (sessions .entry)) (now (streams .entry)) (now (objects .entry)) (now (held .entry)) (now (parts .entry)) (now (lengths .entry)) (now (rebuilt .entry))) (now (hours .entry)) (now (out .entry)) (now (datagram .entry)) (now (sample .entry)) input time day minute handle .tables .streams)
+        × (now (objects .exit) ≡ processLeft (now (agent .entry)) (lent (now (sessions .entry)) (now (streams .entry)) (now (objects .entry)) (now (held .entry)) (now (parts .entry)) (now (lengths .entry)) (now (rebuilt .entry))) (now (hours .entry)) (now (out .entry)) (now (datagram .entry)) (now (sample .entry)) input time day minute handle .tables .objects)
+        × (now (held .exit) ≡ processLeft (now (agent .entry)) (lent (now (sessions .entry)) (now (streams .entry)) (now (objects .entry)) (now (held .entry)) (now (parts .entry)) (now (lengths .entry)) (now (rebuilt .entry))) (now (hours .entry)) (now (out .entry)) (now (datagram .entry)) (now (sample .entry)) input time day minute handle .tables .held)
+        × (now (parts .exit) ≡ processLeft (now (agent .entry)) (lent (now (sessions .entry)) (now (streams .entry)) (now (objects .entry)) (now (held .entry)) (now (parts .entry)) (now (lengths .entry)) (now (rebuilt .entry))) (now (hours .entry)) (now (out .entry)) (now (datagram .entry)) (now (sample .entry)) input time day minute handle .tables .parts)
+        × (now (lengths .exit) ≡ processLeft (now (agent .entry)) (lent (now (sessions .entry)) (now (streams .entry)) (now (objects .entry)) (now (held .entry)) (now (parts .entry)) (now (lengths .entry)) (now (rebuilt .entry))) (now (hours .entry)) (now (out .entry)) (now (datagram .entry)) (now (sample .entry)) input time day minute handle .tables .lengths)
+        × (now (rebuilt .exit) ≡ processLeft (now (agent .entry)) (lent (now (sessions .entry)) (now (streams .entry)) (now (objects .entry)) (now (held .entry)) (now (parts .entry)) (now (lengths .entry)) (now (rebuilt .entry))) (now (hours .entry)) (now (out .entry)) (now (datagram .entry)) (now (sample .entry)) input time day minute handle .tables .rebuilt)
+        × (now (out .exit) ≡ processLeft (now (agent .entry)) (lent (now (sessions .entry)) (now (streams .entry)) (now (objects .entry)) (now (held .entry)) (now (parts .entry)) (now (lengths .entry)) (now (rebuilt .entry))) (now (hours .entry)) (now (out .entry)) (now (datagram .entry)) (now (sample .entry)) input time day minute handle .out) ⌝ }
 {
     let why = bad_call(agent.len(), input);
     if why == 0 {
         let r = record_at(agent);
         let a = agent_in(r);
-        let i = input_in(input, time, handle);
+        let i = input_in(input, handle);
+        let given = given_in(time, day, minute);
         let p = process(
             sessions,
             streams,
@@ -90,11 +98,13 @@ pub extern "C" fn xrce_agent_process(
             parts,
             lengths,
             rebuilt,
+            hours,
             out,
             datagram,
             sample,
             a,
             i,
+            given,
         );
         told(agent, p)
     } else {
@@ -119,7 +129,7 @@ fn told_ready(agent: &mut [RecordRow], s: AgentSetUp) -> u64
 
 #[no_mangle]
 pub extern "C" fn xrce_agent_setup(
-    agent: &mut [[u64; 21]],
+    agent: &mut [[u64; 22]],
     sessions: &mut [[u64; 8]],
     streams: &mut [[u16; 35]],
     objects: &mut [Object],
@@ -127,14 +137,17 @@ pub extern "C" fn xrce_agent_setup(
     parts: &[u8],
     lengths: &[u32],
     rebuilt: &[u8],
+    hours: &mut [u8],
+    windows: &[[u16; 3]],
     max_clients: u64,
     timeout_ms: u64,
 ) -> u64
-    ensures { λ r. ⌜ (r ≡ setUpLeft (now (agent .entry)) (lent (now (sessions .entry)) (now (streams .entry)) (now (objects .entry)) (now (held .entry)) (now (parts .entry)) (now (lengths .entry)) (now (rebuilt .entry))) «max_clients» «timeout_ms» .answer)
-        × (now (agent .exit) ≡ setUpLeft (now (agent .entry)) (lent (now (sessions .entry)) (now (streams .entry)) (now (objects .entry)) (now (held .entry)) (now (parts .entry)) (now (lengths .entry)) (now (rebuilt .entry))) «max_clients» «timeout_ms» .records)
-        × (now (sessions .exit) ≡ setUpLeft (now (agent .entry)) (lent (now (sessions .entry)) (now (streams .entry)) (now (objects .entry)) (now (held .entry)) (now (parts .entry)) (now (lengths .entry)) (now (rebuilt .entry))) «max_clients» «timeout_ms» .tables .sessions)
-        × (now (streams .exit) ≡ setUpLeft (now (agent .entry)) (lent (now (sessions .entry)) (now (streams .entry)) (now (objects .entry)) (now (held .entry)) (now (parts .entry)) (now (lengths .entry)) (now (rebuilt .entry))) «max_clients» «timeout_ms» .tables .streams)
-        × (now (objects .exit) ≡ setUpLeft (now (agent .entry)) (lent (now (sessions .entry)) (now (streams .entry)) (now (objects .entry)) (now (held .entry)) (now (parts .entry)) (now (lengths .entry)) (now (rebuilt .entry))) «max_clients» «timeout_ms» .tables .objects) ⌝ }
+    ensures { λ r. ⌜ (r ≡ setUpLeft (now (agent .entry)) (lent (now (sessions .entry)) (now (streams .entry)) (now (objects .entry)) (now (held .entry)) (now (parts .entry)) (now (lengths .entry)) (now (rebuilt .entry))) (now (hours .entry)) (now (windows .entry)) «max_clients» «timeout_ms» .answer)
+        × (now (agent .exit) ≡ setUpLeft (now (agent .entry)) (lent (now (sessions .entry)) (now (streams .entry)) (now (objects .entry)) (now (held .entry)) (now (parts .entry)) (now (lengths .entry)) (now (rebuilt .entry))) (now (hours .entry)) (now (windows .entry)) «max_clients» «timeout_ms» .records)
+        × (now (sessions .exit) ≡ setUpLeft (now (agent .entry)) (lent (now (sessions .entry)) (now (streams .entry)) (now (objects .entry)) (now (held .entry)) (now (parts .entry)) (now (lengths .entry)) (now (rebuilt .entry))) (now (hours .entry)) (now (windows .entry)) «max_clients» «timeout_ms» .tables .sessions)
+        × (now (streams .exit) ≡ setUpLeft (now (agent .entry)) (lent (now (sessions .entry)) (now (streams .entry)) (now (objects .entry)) (now (held .entry)) (now (parts .entry)) (now (lengths .entry)) (now (rebuilt .entry))) (now (hours .entry)) (now (windows .entry)) «max_clients» «timeout_ms» .tables .streams)
+        × (now (objects .exit) ≡ setUpLeft (now (agent .entry)) (lent (now (sessions .entry)) (now (streams .entry)) (now (objects .entry)) (now (held .entry)) (now (parts .entry)) (now (lengths .entry)) (now (rebuilt .entry))) (now (hours .entry)) (now (windows .entry)) «max_clients» «timeout_ms» .tables .objects)
+        × (now (hours .exit) ≡ setUpLeft (now (agent .entry)) (lent (now (sessions .entry)) (now (streams .entry)) (now (objects .entry)) (now (held .entry)) (now (parts .entry)) (now (lengths .entry)) (now (rebuilt .entry))) (now (hours .entry)) (now (windows .entry)) «max_clients» «timeout_ms» .hours) ⌝ }
 {
     let records = agent.len();
     if records == 0 {
@@ -148,6 +161,8 @@ pub extern "C" fn xrce_agent_setup(
             parts,
             lengths,
             rebuilt,
+            hours,
+            windows,
             max_clients as usize,
             timeout_ms,
         );
@@ -156,7 +171,7 @@ pub extern "C" fn xrce_agent_setup(
 }
 
 #[no_mangle]
-pub extern "C" fn xrce_agent_remove(agent: &[[u64; 21]], sessions: &mut [[u64; 8]], id: u8) -> u64
+pub extern "C" fn xrce_agent_remove(agent: &[[u64; 22]], sessions: &mut [[u64; 8]], id: u8) -> u64
     ensures { λ r. ⌜ (r ≡ removeAnswer (now (agent .entry)) (now (sessions .entry)) id)
         × (now (sessions .exit) ≡ removeRows (now (agent .entry)) (now (sessions .entry)) id) ⌝ }
 {
@@ -169,7 +184,7 @@ pub extern "C" fn xrce_agent_remove(agent: &[[u64; 21]], sessions: &mut [[u64; 8
 
 #[no_mangle]
 pub extern "C" fn xrce_agent_sweep(
-    agent: &[[u64; 21]],
+    agent: &[[u64; 22]],
     sessions: &mut [[u64; 8]],
     out: &mut [u8],
     time: u64,
@@ -197,4 +212,13 @@ pub extern "C" fn xrce_agent_list(
         × (now (out .exit) ≡ listOut (now (sessions .entry)) (now (objects .entry)) id (now (out .entry))) ⌝ }
 {
     listed_as(list_objects(sessions, objects, out, id))
+}
+
+// The first open minute (document 02, W8) is found in what set-up left of the windows: this takes no record either, and
+// answers whether a call is open or not.
+#[no_mangle]
+pub extern "C" fn xrce_agent_first_open(hours: &[u8], day: u8, minute: u16) -> u64
+    ensures { λ r. ⌜ r ≡ firstOpenAs (firstOpenOf (now (hours .entry)) day minute) ⌝ }
+{
+    first_open_as(first_open(hours, day, minute))
 }

@@ -1,17 +1,19 @@
-// The agent's record as a C host keeps it: the first thirteen of its twenty-one numbers are the agent between two calls.
+// The agent's record as a C host keeps it: the first fourteen of its twenty-two numbers are the agent between two calls.
 use agent::state::Agent;
+use agent::state::Moment;
 use agent::state::Pending;
 use agent::state::Waiting;
 use codec::submessages::ObjectNumber;
 use moves::proxy::Task;
 ghost use mathlib.Core.Path.{_≡_};
-ghost use Rattle.cabi.specs.Record.{recordAt, taskIn, pendingIn, waitsIn, inRange, nextIn, agentIn, taskNumber, taskKind, taskParent, idleRecord, openRecord, recordBy, recordFor};
+ghost use Rattle.cabi.specs.Record.{recordAt, taskIn, momentIn, pendingIn, waitsIn, inRange, nextIn, agentIn, taskNumber, taskKind, taskParent, openNumber, idleRecord, openRecord, recordBy, recordFor};
 
-pub(crate) type RecordRow = [u64; 21];
+pub(crate) type RecordRow = [u64; 22];
 
-// The thirteen numbers; of the open call its task (0: none), the object kind and the parent number of a CREATE's, its
-// session, stream, object number, place and time, and, if its submessage was rebuilt from fragments, the place behind it in
-// the rebuilt bytes and how many these are.
+// The fourteen numbers; of the open call its task (0: none), the object kind and the parent number of a CREATE's, its
+// session, stream, object number and place, its datagram's time and whether that datagram's minute is open (document 02, W8: 1,
+// else closed), and, if its submessage was rebuilt from fragments, the place behind it in the rebuilt bytes and how many these
+// are.
 pub(crate) struct Record {
     pub max_clients: u64,
     pub timeout_ms: u64,
@@ -24,6 +26,7 @@ pub(crate) struct Record {
     pub number: u64,
     pub at: u64,
     pub time: u64,
+    pub is_open: u64,
     pub left_at: u64,
     pub left_end: u64,
 }
@@ -51,8 +54,9 @@ pub(crate) fn record_at(rows: &[RecordRow]) -> Record
             number: rows[0][8],
             at: rows[0][9],
             time: rows[0][10],
-            left_at: rows[0][11],
-            left_end: rows[0][12],
+            is_open: rows[0][11],
+            left_at: rows[0][12],
+            left_end: rows[0][13],
         }
     } else {
         no_record()
@@ -76,6 +80,16 @@ fn task_in(n: u64, kind: u64, parent: u64) -> Task
     Task::Deleting
 }
 
+// What its datagram came with.
+fn moment_in(r: Record) -> Moment
+    ensures { λ x. ⌜ x ≡ momentIn r ⌝ }
+{
+    Moment {
+        time: r.time,
+        is_open: r.is_open == 1,
+    }
+}
+
 fn pending_in(r: Record) -> Pending
     ensures { λ x. ⌜ x ≡ pendingIn r ⌝ }
 {
@@ -85,7 +99,7 @@ fn pending_in(r: Record) -> Pending
         number: ObjectNumber((r.number % 65536) as u16),
         task: task_in(r.task, r.kind, r.parent),
         at: r.at as usize,
-        time: r.time,
+        moment: moment_in(r),
         left_at: r.left_at as usize,
         left_end: r.left_end as usize,
     }
@@ -183,6 +197,12 @@ fn task_parent(t: Task) -> u64
     }
 }
 
+fn open_number(is_open: bool) -> u64
+    ensures { λ r. ⌜ r ≡ openNumber «is_open» ⌝ }
+{
+    if is_open { 1 } else { 0 }
+}
+
 fn idle_record(max_clients: u64, timeout_ms: u64, next: u64) -> Record
     ensures { λ r. ⌜ r ≡ idleRecord «max_clients» «timeout_ms» next ⌝ }
 {
@@ -198,6 +218,7 @@ fn idle_record(max_clients: u64, timeout_ms: u64, next: u64) -> Record
         number: 0,
         at: 0,
         time: 0,
+        is_open: 0,
         left_at: 0,
         left_end: 0,
     }
@@ -208,9 +229,11 @@ fn open_record(max_clients: u64, timeout_ms: u64, next: u64, p: Pending) -> Reco
 {
     let task = p.task;
     let number = p.number;
+    let moment = p.moment;
     let n = task_number(task);
     let kind = task_kind(task);
     let parent = task_parent(task);
+    let is_open = open_number(moment.is_open);
     Record {
         max_clients,
         timeout_ms,
@@ -222,7 +245,8 @@ fn open_record(max_clients: u64, timeout_ms: u64, next: u64, p: Pending) -> Reco
         stream: p.stream_id as u64,
         number: number.0 as u64,
         at: p.at as u64,
-        time: p.time,
+        time: moment.time,
+        is_open,
         left_at: p.left_at as u64,
         left_end: p.left_end as u64,
     }

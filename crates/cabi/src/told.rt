@@ -113,6 +113,7 @@ pub(crate) fn keep_record(rows: &mut [RecordRow], r: Record, t: Told)
         r.number,
         r.at,
         r.time,
+        r.is_open,
         r.left_at,
         r.left_end,
         t.wrote,

@@ -1,7 +1,7 @@
--- Document 01, "Refused", and document 02, W6 and W7: the number of each refusal, and the byte that 2, 3 and 4 give.
+-- Document 01, "Refused", and document 02, W6 to W8: the number of each refusal, and the byte that 2, 3 and 4 give.
 use Prim.Native.Nat.{ℕ}
 use Rattle.codec.specs.declared.refusals.Refusal.{Refusal}
-use Rattle.codec.specs.declared.refusals.Refusal.the-variants.{BufferTooShort, UnknownSubmessageId, UnknownObjectKind, UnknownStatusCode, PayloadLengthMismatch, SessionFull, FragmentSizeZero, EmptyPayload, TooManyFragments, FragmentNumber, MissingFragments, TooLong, OutputTooShort, StoreFull, OutOfTurn, OverLimit, NotInFragments, IllFormed}
+use Rattle.codec.specs.declared.refusals.Refusal.the-variants.{BufferTooShort, UnknownSubmessageId, UnknownObjectKind, UnknownStatusCode, PayloadLengthMismatch, SessionFull, FragmentSizeZero, EmptyPayload, TooManyFragments, FragmentNumber, MissingFragments, TooLong, OutputTooShort, StoreFull, OutOfTurn, OverLimit, NotInFragments, IllFormed, WindowFault, NoSuchMinute}
 
 abbrev pub numberOf : Refusal → ℕ
 -- "bytes missing, no submessage"
@@ -40,6 +40,10 @@ numberOf OverLimit = 16
 numberOf NotInFragments = 17
 -- "ill-formed UTF-8"
 numberOf IllFormed = 18
+-- "a window empty, outside the day, overlapping, out of order or a ninth"
+numberOf WindowFault = 19
+-- "weekday over 6 or minute over 1,439"
+numberOf NoSuchMinute = 20
 
 -- the byte given with 2, 3 and 4; the others give none, written 0
 abbrev pub byteOf : Refusal → ℕ
@@ -61,3 +65,5 @@ byteOf OutOfTurn = 0
 byteOf OverLimit = 0
 byteOf NotInFragments = 0
 byteOf IllFormed = 0
+byteOf WindowFault = 0
+byteOf NoSuchMinute = 0

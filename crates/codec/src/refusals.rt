@@ -1,4 +1,4 @@
-// Why a call is refused: document 01's table "Refused" and document 02's 17 and 18, one variant a number, for the whole project.
+// Why a call is refused: document 01's table "Refused" and document 02's 17 to 20, one variant a number, for the whole project.
 ghost use mathlib.Core.Path.{_≡_};
 ghost use Rattle.codec.specs.Refusals.{numberOf, byteOf};
 
@@ -21,6 +21,8 @@ pub enum Refusal {
     OverLimit,
     NotInFragments,
     IllFormed,
+    WindowFault,
+    NoSuchMinute,
 }
 
 impl Refusal {
@@ -47,6 +49,8 @@ impl Refusal {
             Refusal::OverLimit => 16,
             Refusal::NotInFragments => 17,
             Refusal::IllFormed => 18,
+            Refusal::WindowFault => 19,
+            Refusal::NoSuchMinute => 20,
         }
     }
 
@@ -73,6 +77,8 @@ impl Refusal {
             Refusal::OverLimit => 0,
             Refusal::NotInFragments => 0,
             Refusal::IllFormed => 0,
+            Refusal::WindowFault => 0,
+            Refusal::NoSuchMinute => 0,
         }
     }
 }

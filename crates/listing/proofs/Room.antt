@@ -17,7 +17,7 @@ use Rattle.codec.specs.Submessages.{idOf}
 use Rattle.codec.specs.Reading.{Item, Items, items, stopped, Message, message, refused, under, itemsAt, messageOf}
 use Rattle.codec.specs.declared.header.MessageHeader.{MessageHeader}
 use Rattle.codec.specs.declared.refusals.Refusal.{Refusal}
-use Rattle.codec.specs.declared.refusals.Refusal.the-variants.{BufferTooShort, UnknownSubmessageId, UnknownObjectKind, UnknownStatusCode, PayloadLengthMismatch, SessionFull, FragmentSizeZero, EmptyPayload, TooManyFragments, FragmentNumber, MissingFragments, TooLong, OutputTooShort, StoreFull, OutOfTurn, OverLimit, NotInFragments, IllFormed}
+use Rattle.codec.specs.declared.refusals.Refusal.the-variants.{BufferTooShort, UnknownSubmessageId, UnknownObjectKind, UnknownStatusCode, PayloadLengthMismatch, SessionFull, FragmentSizeZero, EmptyPayload, TooManyFragments, FragmentNumber, MissingFragments, TooLong, OutputTooShort, StoreFull, OutOfTurn, OverLimit, NotInFragments, IllFormed, WindowFault, NoSuchMinute}
 use Rattle.codec.specs.declared.submessages.Submessage.{Submessage}
 use Rattle.codec.specs.declared.submessages.Submessage.the-variants.{CreateClient, Create, Delete, Status, WriteData, ReadData, Data, Heartbeat, Acknack, Fragment}
 use Rattle.codec.proofs.Pieces.{byte-small, word-small}
@@ -95,6 +95,8 @@ number-small OutOfTurn = omega arith
 number-small OverLimit = omega arith
 number-small NotInFragments = omega arith
 number-small IllFormed = omega arith
+number-small WindowFault = omega arith
+number-small NoSuchMinute = omega arith
 
 -- a submessage has 4 bytes at least, and its line 22 at most
 subs-room : (s : List ℕ) → length s < 100000 → (at : ℕ) (xs : List Item) → at ≤ length s → InOrder s at xs

@@ -1,6 +1,6 @@
 -- What a submessage comes to, by value: from what the tables were found to hold.
 use Prim.Native.Nat.{ℕ}
-use mathlib.Core.Bool.{cond}
+use mathlib.Core.Bool.{Bool, cond}
 use mathlib.Core.List.{List, []}
 use lib.Dec.{eqb}
 use Rattle.codec.specs.declared.layouts.Span.{Span}
@@ -84,12 +84,13 @@ endpointMove number kind parent topic participant = endpointFor number kind pare
 
 -- ---- WRITE_DATA, READ_DATA, DELETE
 
-abbrev pub writeBy : ObjectNumber → Span → ObjectHandle → Move
-writeBy number body (Bridged w) = Calls number Writing (WriteData w body)
-writeBy number body Implicit = Status number ErrUnknownRef
+-- W8: "WRITE_DATA to a known writer in a closed minute answers ERR_INCOMPATIBLE without a call"; `isOpen`: whether its datagram's minute is open
+abbrev pub writeBy : Bool → ObjectNumber → Span → ObjectHandle → Move
+writeBy isOpen number body (Bridged w) = cond isOpen (Calls number Writing (WriteData w body)) (Status number ErrIncompatible)
+writeBy isOpen number body Implicit = Status number ErrUnknownRef
 
-abbrev pub writeMove : ObjectNumber → Span → Found → Move
-writeMove number body f = writeBy number body (foundHandle f)
+abbrev pub writeMove : Bool → ObjectNumber → Span → Found → Move
+writeMove isOpen number body f = writeBy isOpen number body (foundHandle f)
 
 abbrev pub readCall : ObjectNumber → Handle → Move
 readCall number h = Calls number Reading (ReadData h)

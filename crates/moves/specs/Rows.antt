@@ -132,21 +132,21 @@ asksOf (sub.Status p) = blankAsked Other
 asksOf (sub.Data p) = blankAsked Other
 asksOf (sub.Fragment p) = fragmentOf (p .«fragment_nr») (p .«total_fragments»)
 
--- ---- all submessages but CREATE_CLIENT, by what they are about
+-- ---- all submessages but CREATE_CLIENT, by what they are about; `isOpen`: whether their datagram's minute is open (W8)
 
-abbrev pub handledBy : Group → Asked → Rows → List ℕ → ℕ → ℕ → Span → Move
-handledBy Creates q t d id n body =
+abbrev pub handledBy : Bool → Group → Asked → Rows → List ℕ → ℕ → ℕ → Span → Move
+handledBy isOpen Creates q t d id n body =
     roomMove (roomOf (t .sessions) (t .objects) id (q .number)) (t .sessions) (t .objects) d id (q .number) (q .kind) (q .parent) body
-handledBy Deletes q t d id n body = deleteMove (q .number) (takenObject (t .sessions) (t .objects) id (q .number))
-handledBy Writes q t d id n body = writeMove (q .number) body (foundObject (t .sessions) (t .objects) id (q .number))
-handledBy Reads q t d id n body =
+handledBy isOpen Deletes q t d id n body = deleteMove (q .number) (takenObject (t .sessions) (t .objects) id (q .number))
+handledBy isOpen Writes q t d id n body = writeMove isOpen (q .number) body (foundObject (t .sessions) (t .objects) id (q .number))
+handledBy isOpen Reads q t d id n body =
     readMove (q .number) (foundHandle (foundObject (t .sessions) (t .objects) id (q .number))) (t .sessions) (t .streams) id n
-handledBy Streams q t d id n body =
+handledBy isOpen Streams q t d id n body =
     streamMove (q .hears) (q .first) (q .second) (readOf (openedSessions (t .sessions) (t .streams) id n) (openedRows (t .sessions) (t .streams) id n) id n)
-handledBy Neither q t d id n body = Silent
+handledBy isOpen Neither q t d id n body = Silent
 
-abbrev pub handledMove : Asked → Rows → List ℕ → ℕ → ℕ → Span → Move
-handledMove q t d id n body = handledBy (q .group) q t d id n body
+abbrev pub handledMove : Bool → Asked → Rows → List ℕ → ℕ → ℕ → Span → Move
+handledMove isOpen q t d id n body = handledBy isOpen (q .group) q t d id n body
 
 abbrev pub handledIn : Group → Asked → Rows → ℕ → ℕ → Rows
 handledIn Creates q t id n =

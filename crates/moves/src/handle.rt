@@ -166,7 +166,7 @@ pub fn asks(m: Submessage) -> Asked
     }
 }
 
-// By what it is about: its handler, over the session's rows. The session is live; CREATE_CLIENT is not for it, and a FRAGMENT
+// By what it is about: its handler, over the session's rows, and whether its datagram's minute is open. The session is live; CREATE_CLIENT is not for it, and a FRAGMENT
 // is handled before.
 pub fn handle(
     sessions: &mut [SessionRow],
@@ -177,8 +177,9 @@ pub fn handle(
     n: u8,
     q: Asked,
     body: Span,
+    may_write: bool,
 ) -> Move
-    ensures { λ r. ⌜ (r ≡ handledMove q (rows (now (sessions .entry)) (now (streams .entry)) (now (objects .entry))) (now (d .entry)) id n body)
+    ensures { λ r. ⌜ (r ≡ handledMove «may_write» q (rows (now (sessions .entry)) (now (streams .entry)) (now (objects .entry))) (now (d .entry)) id n body)
         × (now (sessions .exit) ≡ handledRows q (rows (now (sessions .entry)) (now (streams .entry)) (now (objects .entry))) id n .sessions)
         × (now (streams .exit) ≡ handledRows q (rows (now (sessions .entry)) (now (streams .entry)) (now (objects .entry))) id n .streams)
         × (now (objects .exit) ≡ handledRows q (rows (now (sessions .entry)) (now (streams .entry)) (now (objects .entry))) id n .objects) ⌝ }
@@ -187,7 +188,7 @@ pub fn handle(
     match group {
         Group::Creates => create(sessions, objects, d, id, q.number, q.kind, q.parent, body),
         Group::Deletes => delete(sessions, objects, id, q.number),
-        Group::Writes => write_data(sessions, objects, id, q.number, body),
+        Group::Writes => write_data(sessions, objects, id, q.number, body, may_write),
         Group::Reads => read_data(sessions, streams, objects, id, n, q.number),
         Group::Streams => handle_stream(sessions, streams, id, n, q.hears, q.first, q.second),
         Group::Neither => Move::Silent,

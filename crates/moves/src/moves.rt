@@ -153,16 +153,23 @@ pub(crate) fn endpoint_move(
     }
 }
 
-pub(crate) fn write_move(number: ObjectNumber, body: Span, writer: Found) -> Move
-    ensures { λ r. ⌜ r ≡ writeMove number body writer ⌝ }
+fn write_when(may_write: bool, number: ObjectNumber, body: Span, writer: Handle) -> Move
+    ensures { λ r. ⌜ r ≡ cond «may_write» (Move.Calls number Task.Writing (BridgeCall.WriteData writer body)) (Move.Status number StatusCode.ErrIncompatible) ⌝ }
+{
+    if may_write {
+        Move::Calls(number, Task::Writing, BridgeCall::WriteData(writer, body))
+    } else {
+        Move::Status(number, StatusCode::ErrIncompatible)
+    }
+}
+
+// WRITE_DATA: in a closed minute a known writer is not called (document 02, W8).
+pub(crate) fn write_move(may_write: bool, number: ObjectNumber, body: Span, writer: Found) -> Move
+    ensures { λ r. ⌜ r ≡ writeMove «may_write» number body writer ⌝ }
 {
     let h = found_handle(writer);
     match h {
-        ObjectHandle::Bridged(w) => Move::Calls(
-            number,
-            Task::Writing,
-            BridgeCall::WriteData(w, body),
-        ),
+        ObjectHandle::Bridged(w) => write_when(may_write, number, body, w),
         ObjectHandle::Implicit => Move::Status(number, StatusCode::ErrUnknownRef),
     }
 }

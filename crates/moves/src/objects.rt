@@ -40,11 +40,12 @@ pub(crate) fn write_data(
     id: u8,
     number: ObjectNumber,
     body: Span,
+    may_write: bool,
 ) -> Move
-    ensures { λ r. ⌜ r ≡ writeMove number body (foundObject (now (sessions .entry)) (now (objects .entry)) id number) ⌝ }
+    ensures { λ r. ⌜ r ≡ writeMove «may_write» number body (foundObject (now (sessions .entry)) (now (objects .entry)) id number) ⌝ }
 {
     let f = find_object(sessions, objects, id, number);
-    write_move(number, body, f)
+    write_move(may_write, number, body, f)
 }
 
 pub(crate) fn read_data(

@@ -19,22 +19,23 @@ use crate::output::within;
 use crate::print;
 use crate::words::between;
 use crate::words::least;
-use agent::agent::Given;
+use crate::words::low_8;
+use crate::words::low_16;
 use agent::agent::Removed;
 use agent::agent::evict_expired;
+use agent::agent::first_open;
 use agent::agent::list_objects;
 use agent::agent::process_answer;
 use agent::agent::process_incoming;
 use agent::agent::remove_session;
 use agent::agent::setup;
+use agent::state::Given;
 use codec::bytes::Written;
+use hours::week::FirstOpen;
+use hours::windows::WindowRow;
 use sessions::objects::Object;
 use sessions::stream_rows::StreamRow;
 use sessions::table::SessionRow;
-
-fn low_8(n: u64) -> u8 {
-    (n % 256) as u8
-}
 
 fn removed_said(r: Removed) {
     match r {
@@ -79,8 +80,27 @@ fn sweep(sessions: &mut [SessionRow], out: &mut [u8], host: Host, c: Command) {
     swept_said(out, room, w);
 }
 
+fn open_said(f: FirstOpen) {
+    match f {
+        FirstOpen::At(day, minute) => {
+            print::text(b"open");
+            print::number(day as u64);
+            print::number(minute as u64);
+            print::end_line()
+        }
+        FirstOpen::Never => print::line(b"never"),
+        FirstOpen::Refused(x) => print::refused(x),
+    }
+}
+
 // The events that need no objects.
-fn without_objects(sessions: &mut [SessionRow], out: &mut [u8], host: Host, c: Command) {
+fn without_objects(
+    sessions: &mut [SessionRow],
+    hours: &[u8],
+    out: &mut [u8],
+    host: Host,
+    c: Command,
+) {
     let name = c.name;
     match name {
         names::REMOVE => {
@@ -88,6 +108,7 @@ fn without_objects(sessions: &mut [SessionRow], out: &mut [u8], host: Host, c: C
             removed_said(remove_session(sessions, agent, low_8(c.first)))
         }
         names::SWEEP => sweep(sessions, out, host, c),
+        names::OPEN => open_said(first_open(hours, low_8(c.first), low_16(c.second))),
         names::BAD => print::line(b"bad line"),
         _ => (),
     }
@@ -101,6 +122,8 @@ fn set_up(
     parts: &[u8],
     lengths: &[u32],
     rebuilt: &[u8],
+    hours: &mut [u8],
+    windows: &mut [WindowRow],
     host: Host,
     c: Command,
 ) -> Host {
@@ -113,6 +136,8 @@ fn set_up(
         parts,
         lengths,
         rebuilt,
+        hours,
+        windows,
         max,
         c.second,
     );
@@ -127,6 +152,7 @@ fn datagram(
     parts: &mut [u8],
     lengths: &mut [u32],
     rebuilt: &mut [u8],
+    hours: &[u8],
     out: &mut [u8],
     line: &[u8],
     kept: &mut [u8],
@@ -137,7 +163,11 @@ fn datagram(
     let room = within(c.second, out.len());
     let count = least(c.count, line.len());
     let agent = host.agent;
-    let given = Given { time: c.first };
+    let given = Given {
+        time: c.first,
+        day: c.day,
+        minute: c.minute,
+    };
     let p = process_incoming(
         sessions,
         streams,
@@ -146,6 +176,7 @@ fn datagram(
         parts,
         lengths,
         rebuilt,
+        hours,
         &mut out[..room],
         &line[..count],
         agent,
@@ -232,6 +263,8 @@ pub fn event(
     parts: &mut [u8],
     lengths: &mut [u32],
     rebuilt: &mut [u8],
+    hours: &mut [u8],
+    windows: &mut [WindowRow],
     out: &mut [u8],
     line: &[u8],
     kept: &mut [u8],
@@ -241,17 +274,22 @@ pub fn event(
 ) -> Host {
     let g = group_of(c);
     match g {
-        Group::SetUp => set_up(
-            sessions,
-            streams,
-            objects,
-            held,
-            parts,
-            lengths,
-            rebuilt,
-            host,
-            c,
-        ),
+        Group::SetUp => {
+            let count = least(c.count, windows.len());
+            set_up(
+                sessions,
+                streams,
+                objects,
+                held,
+                parts,
+                lengths,
+                rebuilt,
+                hours,
+                &mut windows[..count],
+                host,
+                c,
+            )
+        }
         Group::Datagram => datagram(
             sessions,
             streams,
@@ -260,6 +298,7 @@ pub fn event(
             parts,
             lengths,
             rebuilt,
+            hours,
             out,
             line,
             kept,
@@ -290,7 +329,7 @@ pub fn event(
             host
         }
         Group::Other => {
-            without_objects(sessions, out, host, c);
+            without_objects(sessions, hours, out, host, c);
             host
         }
     }

@@ -5,6 +5,7 @@ mod command;
 mod dump;
 mod events;
 mod fragments;
+mod given;
 mod host;
 mod listing;
 mod names;
@@ -14,6 +15,7 @@ mod print;
 mod reading;
 mod serve;
 mod stores;
+mod windows;
 mod words;
 
 fn main() {

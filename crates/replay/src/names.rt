@@ -24,14 +24,16 @@ pub const DUMP: usize = 9;
 
 pub const LIST: usize = 10;
 
-// A line that isn't in the format, and a line that asks nothing.
-pub const BAD: usize = 11;
+pub const OPEN: usize = 11;
 
-pub const SILENT: usize = 12;
+// A line that isn't in the format, and a line that asks nothing.
+pub const BAD: usize = 12;
+
+pub const SILENT: usize = 13;
 
 // The event that a word names.
 pub fn name_of(first: &[u8]) -> usize {
-    let names = *b"setup datagram created done data none failed remove sweep dump list";
+    let names = *b"setup datagram created done data none failed remove sweep dump list open";
     let mut i = 0;
     while i < BAD {
         if same(word(&names, i), first) {

@@ -6,6 +6,7 @@ use crate::objects::Packed;
 use crate::reading::first_reading;
 use crate::reading::read_line;
 use codec::submessages::ObjectNumber;
+use hours::windows::WindowRow;
 use sessions::objects::Object;
 use sessions::stream_rows::StreamRow;
 use sessions::table::SessionRow;
@@ -28,6 +29,8 @@ fn serve(
     parts: &mut [u8],
     lengths: &mut [u32],
     rebuilt: &mut [u8],
+    hours: &mut [u8],
+    windows: &mut [WindowRow],
     packed: &mut [Packed],
 ) {
     let mut reading = first_reading();
@@ -40,7 +43,7 @@ fn serve(
             return;
         }
         let ready = host.ready;
-        let c = parse(line, reading, ready);
+        let c = parse(line, windows, reading, ready);
         host = event(
             sessions,
             streams,
@@ -49,6 +52,8 @@ fn serve(
             parts,
             lengths,
             rebuilt,
+            hours,
+            windows,
             out,
             line,
             kept,
@@ -72,6 +77,8 @@ pub fn own(
     parts: &mut [u8],
     lengths: &mut [u32],
     rebuilt: &mut [u8],
+    hours: &mut [u8],
+    windows: &mut [WindowRow],
     packed: &mut [Packed],
 ) {
     let number = ObjectNumber(0);
@@ -89,6 +96,8 @@ pub fn own(
         parts,
         lengths,
         rebuilt,
+        hours,
+        windows,
         packed,
     );
 }

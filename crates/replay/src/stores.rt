@@ -5,8 +5,8 @@ use crate::serve::own;
 use libc::_SC_ARG_MAX;
 use libc::sysconf;
 
-// What is read of the input, a line of it, the datagram of an open call, the output, the tables, the rebuilt bytes, and the
-// objects as words for `dump`. A line holds a datagram of seven longest payloads, and the output all that it can be answered with, 11 bytes for
+// What is read of the input, a line of it, the datagram of an open call, the output, the tables, the rebuilt bytes, the week's
+// minutes, the windows of a `setup` and the objects as words for `dump`. A line holds a datagram of seven longest payloads, and the output all that it can be answered with, 11 bytes for
 // every 6, but for repeats: those of 63 ACKNACKs, 16 messages of 1,024 bytes to each.
 fn lend(held: &mut [u8], parts: &mut [u8], lengths: &mut [u32]) {
     let mut input = io::buffer();
@@ -16,6 +16,8 @@ fn lend(held: &mut [u8], parts: &mut [u8], lengths: &mut [u32]) {
     let mut sessions = [[0u64; 8]; 256];
     let mut streams = [[0u16; 35]; 2048];
     let mut rebuilt = [0u8; 32768];
+    let mut hours = [0u8; 10080];
+    let mut windows = [[0u16; 3]; 64];
     let mut packed = [[0u64; 2]; 8192];
     own(
         &mut input,
@@ -28,6 +30,8 @@ fn lend(held: &mut [u8], parts: &mut [u8], lengths: &mut [u32]) {
         parts,
         lengths,
         &mut rebuilt,
+        &mut hours,
+        &mut windows,
         &mut packed,
     );
 }

@@ -18,18 +18,25 @@ pub fn least(a: usize, b: usize) -> usize
     if a < b { a } else { b }
 }
 
-// Where the word that begins at `from` ends: at a space or the end.
-fn word_end(line: &[u8], from: usize) -> usize
+// Where a byte first stands, from a place on: at the end where it doesn't.
+pub fn place_of(line: &[u8], from: usize, b: u8) -> usize
     ensures { λ r. ⌜ r ≤ length (now (line .entry)) ⌝ }
 {
     let mut i = from;
     while i < line.len() {
-        if line[i] == b' ' {
+        if line[i] == b {
             return i;
         }
         i += 1;
     }
     line.len()
+}
+
+// Where the word that begins at `from` ends: at a space or the end.
+pub fn word_end(line: &[u8], from: usize) -> usize
+    ensures { λ r. ⌜ r ≤ length (now (line .entry)) ⌝ }
+{
+    place_of(line, from, b' ')
 }
 
 // Where the word with that index begins; past the last word it is where that one ends.
@@ -49,9 +56,13 @@ pub fn word_start(line: &[u8], index: usize) -> usize
     from
 }
 
-pub fn word(line: &[u8], index: usize) -> &[u8] {
-    let from = word_start(line, index);
+// The word that begins at a place.
+pub fn word_at(line: &[u8], from: usize) -> &[u8] {
     between(line, from, word_end(line, from))
+}
+
+pub fn word(line: &[u8], index: usize) -> &[u8] {
+    word_at(line, word_start(line, index))
 }
 
 // One more word for each space.
@@ -64,7 +75,7 @@ fn more(words: usize, b: u8) -> usize {
     words
 }
 
-// How many words a line has; no line of the format has ten.
+// How many words a line has, ten at most: only a `setup` with windows has so many.
 pub fn words_in(line: &[u8]) -> usize {
     let mut n = 1;
     let mut i = 0;
@@ -89,6 +100,10 @@ pub fn same(a: &[u8], b: &[u8]) -> bool {
     true
 }
 
+pub fn begins(word: &[u8], first: &[u8]) -> bool {
+    same(between(word, 0, first.len()), first)
+}
+
 // A number that a word was read as; `fits` is false where the word isn't one, or is too great.
 pub struct Number {
     pub fits: bool,
@@ -104,6 +119,21 @@ pub fn no_number() -> Number {
         fits: false,
         value: 0,
     }
+}
+
+pub fn both_fit(a: Number, b: Number) -> bool {
+    if a.fits {
+        return b.fits;
+    }
+    false
+}
+
+pub fn low_8(n: u64) -> u8 {
+    (n % 256) as u8
+}
+
+pub fn low_16(n: u64) -> u16 {
+    (n % 65536) as u16
 }
 
 // The number so far with a decimal digit more.

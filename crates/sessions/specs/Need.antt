@@ -53,10 +53,14 @@ lengthsNeed max = mostFragments * max
 abbrev pub rebuiltNeed : ℕ
 rebuiltNeed = storeBytes
 
+-- W8: "Each weekday, 0 to 6" has "minutes of the day": a byte for each minute of the week
+abbrev pub hoursNeed : ℕ
+hoursNeed = 7 * 1440
+
 -- a session is eight numbers of 8 bytes, a stream 35 numbers of 2 bytes, an object 2 + 1 + 1 + 4 + 2 bytes
 abbrev pub needOf : ℕ → Need
 needOf max =
-    record { sessions = sessionsNeed; streams = streamsNeed; objects = objectsNeed; held = heldNeed max; parts = partsNeed max; lengths = lengthsNeed max; rebuilt = rebuiltNeed; bytes = sessionsNeed * (8 * 8) + streamsNeed * (35 * 2) + objectsNeed * (2 + 1 + 1 + 4 + 2) + rebuiltNeed + heldNeed max + partsNeed max + 4 * lengthsNeed max }
+    record { sessions = sessionsNeed; streams = streamsNeed; objects = objectsNeed; held = heldNeed max; parts = partsNeed max; lengths = lengthsNeed max; rebuilt = rebuiltNeed; hours = hoursNeed; bytes = sessionsNeed * (8 * 8) + streamsNeed * (35 * 2) + objectsNeed * (2 + 1 + 1 + 4 + 2) + rebuiltNeed + hoursNeed + heldNeed max + partsNeed max + 4 * lengthsNeed max }
 
 -- 16: "`max_clients` over 255"
 unfoldable pub neededFor : ℕ → Needed
@@ -65,7 +69,7 @@ neededFor max = cond (leb max 255) (Stores (needOf max)) (Refused OverLimit)
 abbrev pub fragmentsFit : ℕ → ℕ → ℕ → ℕ → Bool
 fragmentsFit parts lengths rebuilt max = cond (leb (partsNeed max) parts) (cond (leb (lengthsNeed max) lengths) (leb rebuiltNeed rebuilt) false) false
 
--- 16, "`max_clients` over 255, lent store under its documented need", of all seven stores
+-- 16, "`max_clients` over 255, lent store under its documented need", of all seven stores of the sessions
 unfoldable pub storesFit : ℕ → ℕ → ℕ → ℕ → ℕ → ℕ → ℕ → ℕ → Bool
 storesFit sessions streams objects held parts lengths rebuilt max =
     cond (leb max 255)

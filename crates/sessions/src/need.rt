@@ -27,6 +27,9 @@ pub(crate) const LENGTHS: usize = 64;
 // The place of rebuilt bytes: as many as a client's fragments may have.
 pub(crate) const REBUILT: usize = 32768;
 
+// The minutes of the week, a byte each (document 02, W8).
+pub(crate) const HOURS: usize = 10080;
+
 pub struct Need {
     pub sessions: usize,
     pub streams: usize,
@@ -35,6 +38,7 @@ pub struct Need {
     pub parts: usize,
     pub lengths: usize,
     pub rebuilt: usize,
+    pub hours: usize,
     pub bytes: usize,
 }
 
@@ -43,7 +47,7 @@ pub enum Needed {
     Refused(Refusal),
 }
 
-// Rows and records are by id, whatever `max_clients` is; held messages and fragments are by slot; rebuilt bytes have one place.
+// Rows and records are by id, whatever `max_clients` is; held messages and fragments are by slot; rebuilt bytes and the week's minutes have one place.
 pub(crate) fn stores_need(max_clients: usize) -> Need
     requires { ⌜ «max_clients» ≤ 255 ⌝ }
     ensures { λ r. ⌜ r ≡ needOf «max_clients» ⌝ }
@@ -59,7 +63,8 @@ pub(crate) fn stores_need(max_clients: usize) -> Need
         parts,
         lengths,
         rebuilt: REBUILT,
-        bytes: 274432 + held + parts + 4 * lengths,
+        hours: HOURS,
+        bytes: 284512 + held + parts + 4 * lengths,
     }
 }
 
@@ -74,8 +79,8 @@ pub fn documented_need(max_clients: usize) -> Needed
     Needed::Stores(need)
 }
 
-// Whether each of the seven lent stores has at least as many rows, records or bytes as it needs.
-pub(crate) fn stores_fit(
+// Whether each of the sessions' seven lent stores has at least as many rows, records or bytes as it needs; the week's minutes are the agent's to ask.
+pub fn stores_fit(
     sessions: usize,
     streams: usize,
     objects: usize,

@@ -2,13 +2,14 @@
 
 use crate::call::{Answer, Call};
 use crate::ffi;
+use crate::hours::{minute_of, Given, Window};
 use crate::records::{AgentRecord, Tables, Told};
 use crate::refusal::{read, Refusal};
 
-/// An agent. It holds 284 KiB of tables on the heap, and 144.25 KiB for each of `max_clients`.
+/// An agent. It holds 294 KiB of tables on the heap, and 144.25 KiB for each of `max_clients`.
 ///
 /// While a bridge call is open, [`Agent::answer`] is the only call in its turn: datagrams, removals and sweeps are
-/// refused as 15 (document 01, "Refused"). [`Agent::list`] only reads, and answers then too.
+/// refused as 15 (document 01, "Refused"). [`Agent::list`] and [`Agent::first_open`] only read, and answer then too.
 #[derive(Debug)]
 pub struct Agent {
     record: AgentRecord,
@@ -28,16 +29,18 @@ pub struct Outcome<'a> {
 }
 
 impl Agent {
-    /// An agent without sessions. Refused as 16 if `max_clients` is over 255.
-    pub fn new(max_clients: u64, timeout_ms: u64) -> Result<Agent, Refusal> {
+    /// An agent without sessions, in which writing is open in these windows: up to 8 a weekday, of which each begins where the one before
+    /// it ends, or later; those of several weekdays may come mixed. [`crate::ALL_WEEK`] opens every minute. Refused as 16 if
+    /// `max_clients` is over 255; then as 19.
+    pub fn new(max_clients: u64, timeout_ms: u64, windows: &[Window]) -> Result<Agent, Refusal> {
         let mut agent = Agent { record: AgentRecord::default(), tables: Tables::new(max_clients), kept: Vec::new() };
-        read(ffi::setup(agent.record.lend_mut(), agent.tables.lend(), max_clients, timeout_ms))?;
+        read(ffi::setup(agent.record.lend_mut(), agent.tables.lend(), windows, max_clients, timeout_ms))?;
         Ok(agent)
     }
 
-    /// A datagram and its time. Refused: 15, 16, 1 to 5, 12, 14, 13, in this order.
-    pub fn incoming(&mut self, datagram: &[u8], time_ms: u64, out: &mut [u8]) -> Result<Outcome<'_>, Refusal> {
-        let told = Told { datagram, time_ms, ..Told::default() };
+    /// A datagram with its time, weekday and minute. Refused: 15, 16, 20, 1 to 5, 12, 14, 13, in this order.
+    pub fn incoming(&mut self, datagram: &[u8], given: Given, out: &mut [u8]) -> Result<Outcome<'_>, Refusal> {
+        let told = Told { datagram, given, ..Told::default() };
         read(ffi::process(self.record.lend_mut(), self.tables.lend(), out, told))?;
         // The datagram is lent again with the answer; without a call nobody asks for it again.
         if self.record.call != 0 {
@@ -89,5 +92,10 @@ impl Agent {
     pub fn list<'a>(&self, id: u8, out: &'a mut [u16]) -> Result<&'a [u16], Refusal> {
         let count = read(ffi::list(&self.tables.sessions, &self.tables.objects, out, id))?;
         Ok(&out[..count as usize])
+    }
+
+    /// The first open minute at or after one, round the week: its weekday and minute, or `None` if none is ever open. Refused: 20.
+    pub fn first_open(&self, day: u8, minute: u16) -> Result<Option<(u8, u16)>, Refusal> {
+        Ok(minute_of(read(ffi::first_open(&self.tables.hours, day, minute))?))
     }
 }

@@ -2,6 +2,7 @@
 
 use crate::agent::Agent;
 use crate::call::{Answer, Call, Handle};
+use crate::hours::Given;
 use crate::refusal::Refusal;
 use crate::replies::room;
 
@@ -78,21 +79,21 @@ impl Call<'_> {
 
 impl Agent {
     /// A datagram with all its bridge calls; `out` then holds all replies and nothing else. It grows as they need, and
-    /// not again for a datagram that needs no more. Refused: 15 if a call was open, 1 to 5; then no bridge call was made.
+    /// not again for a datagram that needs no more. Refused: 15 if a call was open, 20, 1 to 5; then no bridge call was made.
     ///
     /// A sample over 65,533 bytes can't be replied (12), nor one over 1,014 on a stream other than 0 (14), where it would be
     /// held: it is lost, and the client is told that the read failed.
     pub fn serve(
         &mut self,
         datagram: &[u8],
-        time_ms: u64,
+        given: Given,
         out: &mut Vec<u8>,
         bridge: &mut dyn Bridge,
     ) -> Result<(), Refusal> {
         out.clear();
         out.resize(room(datagram, 0), 0);
         let mut wrote = loop {
-            match self.incoming(datagram, time_ms, out) {
+            match self.incoming(datagram, given, out) {
                 Ok(outcome) => break outcome.wrote,
                 // Rebuilt ACKNACKs ask for more than could be counted.
                 Err(Refusal::OutputTooShort) => out.resize(2 * out.len(), 0),

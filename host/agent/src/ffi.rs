@@ -2,6 +2,7 @@
 //! can be called with anything: the agent answers for every argument, and what can't be done is refused. The
 //! agent's record is a slice as well, and the first of it is looked at.
 
+use crate::hours::Window;
 use crate::records::{AgentRecord, Lent, ObjectRecord, SessionRow, StreamRow, Told};
 
 unsafe extern "C" {
@@ -24,6 +25,10 @@ unsafe extern "C" {
         length_count: usize,
         rebuilt: *const u8,
         rebuilt_bytes: usize,
+        hours: *mut u8,
+        hours_bytes: usize,
+        windows: *const Window,
+        window_count: usize,
         max_clients: u64,
         timeout_ms: u64,
     ) -> u64;
@@ -45,6 +50,8 @@ unsafe extern "C" {
         length_count: usize,
         rebuilt: *mut u8,
         rebuilt_bytes: usize,
+        hours: *const u8,
+        hours_bytes: usize,
         out: *mut u8,
         room: usize,
         datagram: *const u8,
@@ -53,6 +60,8 @@ unsafe extern "C" {
         sample_len: usize,
         input: u8,
         time: u64,
+        day: u8,
+        minute: u16,
         handle: u32,
     ) -> u64;
 
@@ -83,6 +92,8 @@ unsafe extern "C" {
         room: usize,
         id: u8,
     ) -> u64;
+
+    fn xrce_agent_first_open(hours: *const u8, hours_bytes: usize, day: u8, minute: u16) -> u64;
 }
 
 /// The documented need for `max_clients` in bytes; refused: 16.
@@ -91,11 +102,19 @@ pub fn need(max_clients: u64) -> u64 {
     unsafe { xrce_need(max_clients) }
 }
 
-/// Sets an agent up over lent tables and lent stores, of which nothing is looked at. Refused: 16.
-pub fn setup(agent: &mut [AgentRecord], tables: Lent<'_>, max_clients: u64, timeout_ms: u64) -> u64 {
-    let Lent { sessions, streams, objects, held, parts, lengths, rebuilt } = tables;
+/// Sets an agent up over lent tables and lent stores, of which nothing is looked at; what the windows open is kept in `hours`.
+/// Refused: 16, 19.
+pub fn setup(
+    agent: &mut [AgentRecord],
+    tables: Lent<'_>,
+    windows: &[Window],
+    max_clients: u64,
+    timeout_ms: u64,
+) -> u64 {
+    let Lent { sessions, streams, objects, held, parts, lengths, rebuilt, hours } = tables;
     // SAFETY: each pointer comes from a slice with its length, so it isn't null and all its elements may be written;
-    // mutable slices share no byte; every bit pattern is a value of the numbers in them; no pointer is kept.
+    // mutable slices share no byte; every bit pattern is a value of the numbers in them; no pointer is kept. The windows are
+    // read alone, and a shared slice shares no byte with a mutable one.
     unsafe {
         xrce_agent_setup(
             agent.as_mut_ptr(),
@@ -114,15 +133,19 @@ pub fn setup(agent: &mut [AgentRecord], tables: Lent<'_>, max_clients: u64, time
             lengths.len(),
             rebuilt.as_ptr(),
             rebuilt.len(),
+            hours.as_mut_ptr(),
+            hours.len(),
+            windows.as_ptr(),
+            windows.len(),
             max_clients,
             timeout_ms,
         )
     }
 }
 
-/// A datagram, or the bridge's answer. Refused, in this order: 15, 16, 1 to 5, 12, 14, 13.
+/// A datagram, or the bridge's answer. Refused, in this order: 15, 16, 20, 1 to 5, 12, 14, 13.
 pub fn process(agent: &mut [AgentRecord], tables: Lent<'_>, out: &mut [u8], told: Told<'_>) -> u64 {
-    let Lent { sessions, streams, objects, held, parts, lengths, rebuilt } = tables;
+    let Lent { sessions, streams, objects, held, parts, lengths, rebuilt, hours } = tables;
     // SAFETY: as in `setup`; the datagram and the sample are read alone, and shared slices share no byte with mutable ones.
     unsafe {
         xrce_agent_process(
@@ -142,6 +165,8 @@ pub fn process(agent: &mut [AgentRecord], tables: Lent<'_>, out: &mut [u8], told
             lengths.len(),
             rebuilt.as_mut_ptr(),
             rebuilt.len(),
+            hours.as_ptr(),
+            hours.len(),
             out.as_mut_ptr(),
             out.len(),
             told.datagram.as_ptr(),
@@ -149,7 +174,9 @@ pub fn process(agent: &mut [AgentRecord], tables: Lent<'_>, out: &mut [u8], told
             told.sample.as_ptr(),
             told.sample.len(),
             told.input,
-            told.time_ms,
+            told.given.time_ms,
+            told.given.day,
+            told.given.minute,
             told.handle,
         )
     }
@@ -192,4 +219,11 @@ pub fn list(sessions: &[SessionRow], objects: &[ObjectRecord], out: &mut [u16], 
             id,
         )
     }
+}
+
+/// The first open minute at or after one, round the week; the answer's number is 0 if there is none, else 1 more than its place in
+/// the week. Never out of turn. Refused: 16, 20.
+pub fn first_open(hours: &[u8], day: u8, minute: u16) -> u64 {
+    // SAFETY: as in `setup`; the week's minutes are read alone.
+    unsafe { xrce_agent_first_open(hours.as_ptr(), hours.len(), day, minute) }
 }

@@ -4,7 +4,7 @@
 //! With a [`Bridge`], a host is a few lines:
 //!
 //! ```
-//! use xrce_agent::{replies, Agent, Bridge, Failed, Handle};
+//! use xrce_agent::{replies, Agent, Bridge, Failed, Given, Handle, ALL_WEEK};
 //!
 //! struct Counting(u32); // a bridge that makes entities and holds no data
 //!
@@ -26,16 +26,16 @@
 //! }
 //!
 //! # fn main() -> Result<(), xrce_agent::Refusal> {
-//! let mut agent = Agent::new(16, 30_000)?; // at most 16 clients; idle ones expire after 30 s
+//! let mut agent = Agent::new(16, 30_000, &ALL_WEEK)?; // at most 16 clients; idle ones expire after 30 s; no quiet hours
 //! let mut bridge = Counting(0);
 //! let mut out = Vec::new();
 //!
 //! // CREATE_CLIENT with key 01 02 03 04, at 0 ms: session 1 is opened.
-//! agent.serve(&[1, 0, 0, 0, 0x00, 0, 5, 0, 1, 2, 3, 4, 0], 0, &mut out, &mut bridge)?;
+//! agent.serve(&[1, 0, 0, 0, 0x00, 0, 5, 0, 1, 2, 3, 4, 0], Given::at(0), &mut out, &mut bridge)?;
 //! assert_eq!(out, [1, 0, 0, 0, 0x05, 0, 3, 0, 0, 0, 0]); // STATUS of object 0: OK
 //!
 //! // CREATE of object 7, a Participant (kind 1) in domain 0, at 5 ms.
-//! agent.serve(&[1, 0, 0, 0, 0x01, 0, 5, 0, 7, 0, 1, 0, 0], 5, &mut out, &mut bridge)?;
+//! agent.serve(&[1, 0, 0, 0, 0x01, 0, 5, 0, 7, 0, 1, 0, 0], Given::at(5), &mut out, &mut bridge)?;
 //! for reply in replies(&out) {
 //!     assert_eq!(reply, [1, 0, 0, 0, 0x05, 0, 3, 0, 7, 0, 0]); // STATUS of object 7: OK
 //! }
@@ -54,6 +54,10 @@
 //! A Topic's name and type reach the bridge as well-formed UTF-8 (RFC 3629). A CREATE with other bytes, or with strings that are
 //! cut short, is answered ERR_INVALID_DATA: the bridge isn't called, and an older object of that number stays.
 //!
+//! A host with quiet hours sets its agent up with [`Window`]s, and gives weekday and minute with each datagram. WRITE_DATA to a
+//! known writer in a closed minute is answered ERR_INCOMPATIBLE, and the bridge isn't called. [`Agent::first_open`] has the first open
+//! minute at or after a given one.
+//!
 //! The archive is found by `XRCE_AGENT_LIB` (a folder with `libcabi.a`), or in the repository's `target/staticlib`.
 #![deny(unsafe_op_in_unsafe_fn)]
 #![warn(missing_docs)]
@@ -63,6 +67,7 @@ mod bridge;
 mod call;
 #[allow(missing_docs)]
 mod ffi;
+mod hours;
 pub mod lent;
 mod records;
 mod refusal;
@@ -72,5 +77,6 @@ mod shown;
 pub use agent::{Agent, Outcome};
 pub use bridge::{Answered, Bridge, Failed};
 pub use call::{Answer, Call, Handle};
+pub use hours::{Given, Window, ALL_WEEK};
 pub use refusal::Refusal;
 pub use replies::{replies, room, Replies};

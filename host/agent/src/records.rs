@@ -1,5 +1,6 @@
 //! The records that the host lends, laid out as in include/xrce_agent.h, and the documented need of document 01.
 
+use crate::hours::{Given, Window};
 use std::mem::{align_of, offset_of, size_of};
 
 /// Rows of the table of sessions, one for each id.
@@ -16,6 +17,8 @@ pub const PARTS: usize = 32_768;
 pub const LENGTHS: usize = 64;
 /// Bytes of the place of rebuilt messages, one for all clients.
 pub const REBUILT: usize = 32_768;
+/// Bytes of the week's minutes, one for all clients: a byte for each.
+pub const HOURS: usize = 7 * 1440;
 
 /// A row of the table of sessions: live, key, last activity, objects in use, streams in use, the session's slot, and the total of
 /// its fragments with how many there are.
@@ -39,6 +42,7 @@ pub struct AgentRecord {
     pub number: u64,
     pub at: u64,
     pub time: u64,
+    pub is_open: u64,
     pub left_at: u64,
     pub left_end: u64,
     pub wrote: u64,
@@ -53,7 +57,7 @@ pub struct AgentRecord {
 
 impl AgentRecord {
     /// How many numbers it has.
-    pub const NUMBERS: usize = 21;
+    pub const NUMBERS: usize = 22;
 
     /// The record as the functions take it: a slice of one.
     pub fn lend(&self) -> &[AgentRecord] {
@@ -73,6 +77,7 @@ impl AgentRecord {
             number,
             at,
             time,
+            is_open,
             left_at,
             left_end,
             wrote,
@@ -97,6 +102,7 @@ impl AgentRecord {
             number,
             at,
             time,
+            is_open,
             left_at,
             left_end,
             wrote,
@@ -123,7 +129,8 @@ pub struct ObjectRecord {
     pub parent: u16,
 }
 
-/// The three tables, the stores of held messages and of fragments, and the place of rebuilt messages, lent for one call.
+/// The three tables, the stores of held messages and of fragments, the place of rebuilt messages and the week's minutes, lent for one
+/// call.
 pub struct Lent<'a> {
     /// At least [`SESSIONS`] rows, else the call is refused as 16.
     pub sessions: &'a mut [SessionRow],
@@ -139,6 +146,8 @@ pub struct Lent<'a> {
     pub lengths: &'a mut [u32],
     /// At least [`REBUILT`] bytes. An open call may show parts of them.
     pub rebuilt: &'a mut [u8],
+    /// At least [`HOURS`] bytes, 1 for each minute of the week that is open. A set-up writes them, and no other call does.
+    pub hours: &'a mut [u8],
 }
 
 /// What `process` is told: `enum xrce_input` with what belongs to it.
@@ -146,8 +155,8 @@ pub struct Lent<'a> {
 pub struct Told<'a> {
     /// 0 a datagram, 1 created, 2 done, 3 a sample, 4 no sample, 5 failed; others are refused as 15.
     pub input: u8,
-    /// A datagram's time.
-    pub time_ms: u64,
+    /// What comes with a datagram, and isn't looked at with an answer.
+    pub given: Given,
     /// The handle of 1.
     pub handle: u32,
     /// The datagram, lent again with the answer to its call.
@@ -173,6 +182,8 @@ pub struct Tables {
     pub lengths: Box<[u32]>,
     /// The place of rebuilt messages.
     pub rebuilt: Box<[u8]>,
+    /// The week's minutes.
+    pub hours: Box<[u8]>,
 }
 
 impl Tables {
@@ -188,6 +199,7 @@ impl Tables {
             parts: vec![0; PARTS * clients].into_boxed_slice(),
             lengths: vec![0; LENGTHS * clients].into_boxed_slice(),
             rebuilt: vec![0; REBUILT].into_boxed_slice(),
+            hours: vec![0; HOURS].into_boxed_slice(),
         }
     }
 
@@ -201,6 +213,7 @@ impl Tables {
             parts: &mut self.parts,
             lengths: &mut self.lengths,
             rebuilt: &mut self.rebuilt,
+            hours: &mut self.hours,
         }
     }
 }
@@ -215,8 +228,8 @@ macro_rules! words_in_order {
 }
 
 const _: () = {
-    words_in_order!(0; max_clients timeout_ms next open kind parent session stream number at time left_at left_end
-        wrote call handle topic start len type_start type_len);
+    words_in_order!(0; max_clients timeout_ms next open kind parent session stream number at time is_open
+        left_at left_end wrote call handle topic start len type_start type_len);
     assert!(align_of::<AgentRecord>() == 8);
 };
 
@@ -228,4 +241,6 @@ const _: () = {
     assert!(offset_of!(ObjectRecord, parent) == 8);
     assert!(size_of::<ObjectRecord>() == 12 && align_of::<ObjectRecord>() == 4);
     assert!(size_of::<SessionRow>() == 64 && size_of::<StreamRow>() == 70);
+    assert!(offset_of!(Window, day) == 0 && offset_of!(Window, from) == 2 && offset_of!(Window, to) == 4);
+    assert!(size_of::<Window>() == 6 && align_of::<Window>() == 2);
 };

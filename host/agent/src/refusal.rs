@@ -1,4 +1,4 @@
-//! Why a call is refused: the numbers and words of document 01's table "Refused", and document 02's 17 and 18.
+//! Why a call is refused: the numbers and words of document 01's table "Refused", and document 02's 17 to 20.
 
 use std::error::Error;
 use std::fmt;
@@ -25,10 +25,12 @@ pub enum Refusal {
     OverLimit,
     NotInFragments,
     IllFormed,
+    WindowFault,
+    NoSuchMinute,
 }
 
 impl Refusal {
-    /// The refusal with that number, and that byte where it has one. There are 18.
+    /// The refusal with that number, and that byte where it has one. There are 20.
     pub fn numbered(number: u8, byte: u8) -> Option<Refusal> {
         Some(match number {
             1 => Refusal::BufferTooShort,
@@ -49,6 +51,8 @@ impl Refusal {
             16 => Refusal::OverLimit,
             17 => Refusal::NotInFragments,
             18 => Refusal::IllFormed,
+            19 => Refusal::WindowFault,
+            20 => Refusal::NoSuchMinute,
             _ => return None,
         })
     }
@@ -74,6 +78,8 @@ impl Refusal {
             Refusal::OverLimit => 16,
             Refusal::NotInFragments => 17,
             Refusal::IllFormed => 18,
+            Refusal::WindowFault => 19,
+            Refusal::NoSuchMinute => 20,
         }
     }
 
@@ -110,6 +116,8 @@ impl Refusal {
             }
             Refusal::NotInFragments => "a FRAGMENT or CREATE_CLIENT among rebuilt submessages",
             Refusal::IllFormed => "ill-formed UTF-8",
+            Refusal::WindowFault => "a window empty, outside the day, overlapping, out of order or a ninth",
+            Refusal::NoSuchMinute => "weekday over 6 or minute over 1,439",
         }
     }
 }
@@ -130,6 +138,6 @@ pub fn read(answer: u64) -> Result<u64, Refusal> {
     let [number, byte, ..] = answer.to_le_bytes();
     match number {
         0 => Ok(answer / 65536),
-        _ => Err(Refusal::numbered(number, byte).expect("the agent's refusals are numbered 1 to 18")),
+        _ => Err(Refusal::numbered(number, byte).expect("the agent's refusals are numbered 1 to 20")),
     }
 }

@@ -3,7 +3,7 @@
 use std::alloc::{GlobalAlloc, Layout, System};
 use std::sync::atomic::{AtomicU64, Ordering};
 use wire::{strings, Datagram};
-use xrce_agent::{Agent, Answer, Call, Handle};
+use xrce_agent::{Agent, Answer, Call, Given, Handle, ALL_WEEK};
 
 struct Counting;
 
@@ -28,7 +28,7 @@ static ALLOCATOR: Counting = Counting;
 
 fn serve(agent: &mut Agent, datagrams: &[Vec<u8>], out: &mut [u8]) {
     for datagram in datagrams {
-        agent.incoming(datagram, 1, out).unwrap();
+        agent.incoming(datagram, Given::at(1), out).unwrap();
         while let Some(call) = agent.open_call() {
             let reads = matches!(call, Call::ReadData { .. });
             let answer = if reads { Answer::Sample(b"sample") } else { Answer::Created(Handle(1)) };
@@ -37,11 +37,12 @@ fn serve(agent: &mut Agent, datagrams: &[Vec<u8>], out: &mut [u8]) {
     }
     agent.sweep(1, out).unwrap();
     assert_eq!(agent.list(1, &mut [0; 32]), Ok(&[3, 2, 1][..]));
+    assert_eq!(agent.first_open(6, 1439), Ok(Some((6, 1439))));
 }
 
 #[test]
 fn nothing_is_allocated_once_warm() {
-    let mut agent = Agent::new(200, 1000).unwrap();
+    let mut agent = Agent::new(200, 1000, &ALL_WEEK).unwrap();
     let datagrams = [
         Datagram::new(0, 0).create_client([1; 4]).bytes(),
         Datagram::new(1, 0).create(1, 1, 0, &[]).heartbeat(0, 1).bytes(),

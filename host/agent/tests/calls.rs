@@ -5,6 +5,7 @@ mod common;
 use common::*;
 use wire::{strings, Datagram};
 use xrce_agent::lent::{self, AgentRecord, ObjectRecord, Tables, Told};
+use xrce_agent::ALL_WEEK;
 
 // The last seven numbers of the record: what the call is and what it names.
 fn told(fixture: &Fixture) -> [u64; 7] {
@@ -185,7 +186,7 @@ fn of_two_records_the_first_is_the_agents() {
     let (mut tables, mut out) = (Tables::new(4), [FILL; 64]);
     let other = AgentRecord { max_clients: 256, open: 9, wrote: u64::MAX, ..AgentRecord::default() };
     let mut records = [other.clone(), other.clone()];
-    assert_eq!(lent::setup(&mut records, tables.lend(), 4, 1000), 0);
+    assert_eq!(lent::setup(&mut records, tables.lend(), &ALL_WEEK, 4, 1000), 0);
     let datagram = Datagram::new(0, 0).create_client([1, 2, 3, 4]).bytes();
     let told = Told { datagram: &datagram, ..Told::default() };
     assert_eq!(lent::process(&mut records, tables.lend(), &mut out, told), 0);

@@ -5,6 +5,7 @@ mod common;
 use common::*;
 use wire::{in_parts, strings, Datagram, DATA_WRITER, ERR_INCOMPATIBLE, ERR_RESOURCES, ERR_UNKNOWN_REF, OK, TOPIC};
 use xrce_agent::lent::{AgentRecord, Told, LENGTHS, PARTS};
+use xrce_agent::Given;
 
 const WRITER: u16 = 3;
 const READER: u16 = 4;
@@ -101,7 +102,7 @@ fn what_may_not_be_changes_nothing_but_the_touch() {
     ] {
         let mut before = fixture.clone();
         let datagram = Datagram::new(1, 0).fragment(number, total, body).bytes();
-        assert_eq!(fixture.process(WHOLE, Told { datagram: &datagram, time_ms: 900, ..Told::default() }), 0);
+        assert_eq!(fixture.process(WHOLE, Told { datagram: &datagram, given: Given::at(900), ..Told::default() }), 0);
         assert_eq!(fixture.tables.sessions[1][2], 900);
         before.tables.sessions[1][2] = 900;
         assert!(fixture.tables == before.tables, "{number} of {total}");

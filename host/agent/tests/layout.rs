@@ -7,8 +7,9 @@ use std::fs;
 use std::mem::{align_of, offset_of, size_of};
 use std::path::Path;
 use xrce_agent::lent::{
-    AgentRecord, ObjectRecord, SessionRow, StreamRow, HELD, LENGTHS, OBJECTS, PARTS, REBUILT, SESSIONS, STREAMS,
+    AgentRecord, ObjectRecord, SessionRow, StreamRow, HELD, HOURS, LENGTHS, OBJECTS, PARTS, REBUILT, SESSIONS, STREAMS,
 };
+use xrce_agent::Window;
 
 // A line of C and the same line from Rust for each field.
 macro_rules! fields {
@@ -32,19 +33,21 @@ fn field_size<T: Default>(size: impl Fn(&T) -> usize) -> usize {
 fn lines() -> Vec<(String, (usize, usize))> {
     let mut lines = Vec::new();
     fields!(lines, AgentRecord, "xrce_agent", max_clients timeout_ms next open kind parent session stream number at time
-        left_at left_end wrote call handle topic start len type_start type_len);
+        is_open left_at left_end wrote call handle topic start len type_start type_len);
     fields!(lines, ObjectRecord, "xrce_object", number kind bridged handle parent);
     lines.push((
         "sizeof(xrce_session_row), sizeof(xrce_stream_row)".into(),
         (size_of::<SessionRow>(), size_of::<StreamRow>()),
     ));
     lines.push(("(size_t)XRCE_SESSIONS, (size_t)XRCE_STREAMS".into(), (SESSIONS, STREAMS)));
-    let all = 290_816 + 255 * (HELD + PARTS + 4 * LENGTHS);
+    let all = 300_896 + 255 * (HELD + PARTS + 4 * LENGTHS);
     lines.push(("(size_t)XRCE_OBJECTS, sizeof(struct xrce_tables)".into(), (OBJECTS, all)));
     lines.push(("(size_t)XRCE_HELD, (size_t)XRCE_MAX_CLIENTS".into(), (HELD, 255)));
     lines.push(("(size_t)XRCE_PARTS, (size_t)XRCE_LENGTHS".into(), (PARTS, LENGTHS)));
     lines.push(("(size_t)XRCE_REBUILT, (size_t)XRCE_NOT_IN_FRAGMENTS".into(), (REBUILT, 17)));
     lines.push(("(size_t)XRCE_OVER_LIMIT, (size_t)XRCE_ILL_FORMED".into(), (16, 18)));
+    lines.push(("sizeof(xrce_window), (size_t)XRCE_HOURS".into(), (size_of::<Window>(), HOURS)));
+    lines.push(("(size_t)XRCE_WINDOW_FAULT, (size_t)XRCE_NO_SUCH_MINUTE".into(), (19, 20)));
     lines
 }
 
@@ -61,5 +64,5 @@ fn the_layout_is_the_headers() {
     let Some(printed) = c::output(&source, "layout") else { return };
     let wanted: Vec<String> = lines.iter().map(|(_, (a, b))| format!("{a} {b}")).collect();
     assert_eq!(printed.lines().collect::<Vec<_>>(), wanted);
-    assert_eq!(lines.len(), AgentRecord::NUMBERS + 5 + 2 + 7);
+    assert_eq!(lines.len(), AgentRecord::NUMBERS + 5 + 2 + 9);
 }

@@ -4,7 +4,7 @@ mod common;
 
 use common::*;
 use wire::Datagram;
-use xrce_agent::lent::{self, AgentRecord, Tables, Told, OBJECTS, REBUILT, SESSIONS, STREAMS};
+use xrce_agent::lent::{self, AgentRecord, Tables, Told, HOURS, OBJECTS, REBUILT, SESSIONS, STREAMS};
 use xrce_agent::Refusal;
 
 #[test]
@@ -114,6 +114,8 @@ fn stores_under_their_need() {
         Short { lengths: 0, ..WHOLE },
         Short { rebuilt: REBUILT - 1, ..WHOLE },
         Short { rebuilt: 0, ..WHOLE },
+        Short { hours: HOURS - 1, ..WHOLE },
+        Short { hours: 0, ..WHOLE },
     ];
     let mut fixture = Fixture::with_objects();
     let datagram = Datagram::new(1, 0).delete(4).bytes();
@@ -126,7 +128,7 @@ fn stores_under_their_need() {
         assert_eq!(fixture.sweep(*short, 255, 0), 16);
     }
     // A removal and a sweep take no store.
-    let none = Short { rebuilt: 0, ..for_clients(0) };
+    let none = Short { rebuilt: 0, hours: 0, ..for_clients(0) };
     assert_eq!(fixture.remove(none, 9), 0);
     assert_eq!(fixture.sweep(none, 255, 0), 0);
     // A listing looks at the sessions and the objects, and at no stream and no held message; 16 comes before 13.
@@ -137,10 +139,12 @@ fn stores_under_their_need() {
         assert_eq!(fixture.list(*short, 0, 1), Err(answer.unwrap_or(13)));
     }
     assert_eq!(fixture.datagram(&datagram), 0);
-    for short in &shorts[..] {
+    // With an answer the week's minutes aren't looked at.
+    let (all_but_hours, hours) = shorts.split_at(shorts.len() - 2);
+    for short in all_but_hours {
         assert_eq!(fixture.process(*short, Told { input: DONE, datagram: &datagram, ..Told::default() }), 16);
     }
-    assert_eq!(fixture.answer(DONE, 0, &[]), 0);
+    assert_eq!(fixture.process(hours[1], Told { input: DONE, datagram: &datagram, ..Told::default() }), 0);
 }
 
 #[test]
@@ -155,7 +159,7 @@ fn limits_of_the_set_up() {
         assert_eq!(fixture.setup(for_clients(max), max, 0), 0);
         let need = lent::read(lent::need(max)).unwrap();
         let store = 7 * 16 * 1024 + 64 * (512 + 4);
-        assert_eq!(need, 256 * 64 + 2048 * 70 + 8192 * 10 + 32_768 + store * max);
+        assert_eq!(need, 256 * 64 + 2048 * 70 + 8192 * 10 + 32_768 + 10_080 + store * max);
         // Document 01: "at most 1,048,576 × (max_clients + 1) bytes in all".
         assert!(need <= 1_048_576 * (max + 1));
     }
@@ -323,15 +327,16 @@ fn a_full_table_is_a_status() {
 
 #[test]
 fn refusals_have_numbers_words_and_bytes() {
-    for number in 1..=18 {
+    for number in 1..=20 {
         let refusal = Refusal::numbered(number, 0xAB).unwrap();
         assert_eq!(refusal.number(), number);
         assert_eq!(refusal.byte(), (2..=4).contains(&number).then_some(0xAB));
         assert_eq!(lent::read(u64::from(number) + 256 * 0xAB), Err(refusal));
     }
-    assert_eq!((Refusal::numbered(0, 0), Refusal::numbered(19, 0)), (None, None));
+    assert_eq!((Refusal::numbered(0, 0), Refusal::numbered(21, 0)), (None, None));
     assert_eq!(Refusal::UnknownSubmessageId(3).to_string(), "id not listed (0x03)");
     assert_eq!(Refusal::OutputTooShort.to_string(), "lent output shorter than the result");
     assert_eq!(Refusal::IllFormed.to_string(), "ill-formed UTF-8");
+    assert_eq!(Refusal::NoSuchMinute.to_string(), "weekday over 6 or minute over 1,439");
     assert_eq!(lent::read(5 * 65_536), Ok(5));
 }

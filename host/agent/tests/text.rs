@@ -9,7 +9,7 @@ use wire::{
     PARTICIPANT, PUBLISHER, TOPIC,
 };
 use xrce_agent::lent::{AgentRecord, ObjectRecord, Tables, Told};
-use xrce_agent::{Agent, Answer, Call, Handle};
+use xrce_agent::{Agent, Answer, Call, Given, Handle, ALL_WEEK};
 
 /// The number of the Topics that are made here, and one that names no object.
 const MADE: u16 = 9;
@@ -95,7 +95,7 @@ fn places(bytes: &[u8]) -> [Vec<u8>; 4] {
 fn answers(fixture: &mut Fixture, datagram: Datagram, object: u16, code: u8) {
     let bytes = datagram.bytes();
     let mut before = fixture.tables.clone();
-    assert_eq!(fixture.process(WHOLE, Told { datagram: &bytes, time_ms: 900, ..Told::default() }), 0);
+    assert_eq!(fixture.process(WHOLE, Told { datagram: &bytes, given: Given::at(900), ..Told::default() }), 0);
     assert_eq!(fixture.replied(), status(1, object, code), "{bytes:02x?}");
     assert_eq!((fixture.record.open, fixture.record.call), (0, 0), "{bytes:02x?}");
     before.sessions[1][2] = 900;
@@ -283,7 +283,7 @@ fn the_room_for_the_reply_is_exact() {
 /// Whether a Topic of that name comes to a call. The bridge fails, so the session stays as it was.
 fn comes_to_a_call(agent: &mut Agent, name: &[u8]) -> bool {
     let mut out = [0; 11];
-    let called = agent.incoming(&create(name, b"t").bytes(), 0, &mut out).unwrap().call.is_some();
+    let called = agent.incoming(&create(name, b"t").bytes(), Given::at(0), &mut out).unwrap().call.is_some();
     if called {
         agent.answer(Answer::Failed, &mut out).unwrap();
     }
@@ -302,9 +302,9 @@ fn names_are_taken_as_rust_takes_them() {
         0x00, 0x7F, 0x80, 0x8F, 0x90, 0x9F, 0xA0, 0xBF, 0xC0, 0xC1, 0xC2, 0xDF, 0xE0, 0xE1, 0xEC, 0xED, 0xEE, 0xEF,
         0xF0, 0xF3, 0xF4, 0xF5,
     ];
-    let (mut agent, mut out) = (Agent::new(1, 1000).unwrap(), [0; 11]);
-    agent.incoming(&Datagram::new(0, 0).create_client([1; 4]).bytes(), 0, &mut out).unwrap();
-    agent.incoming(&Datagram::new(1, 0).create(1, PARTICIPANT, 0, &[]).bytes(), 0, &mut out).unwrap();
+    let (mut agent, mut out) = (Agent::new(1, 1000, &ALL_WEEK).unwrap(), [0; 11]);
+    agent.incoming(&Datagram::new(0, 0).create_client([1; 4]).bytes(), Given::at(0), &mut out).unwrap();
+    agent.incoming(&Datagram::new(1, 0).create(1, PARTICIPANT, 0, &[]).bytes(), Given::at(0), &mut out).unwrap();
     agent.answer(Answer::Created(Handle(11)), &mut out).unwrap();
     let all: Vec<u8> = (0..=255).collect();
     let one = longer(&[vec![]], &all);

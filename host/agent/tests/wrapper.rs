@@ -1,23 +1,23 @@
 //! The safe wrapper: calls and answers over the datagram that it keeps, and datagrams served whole.
 
 use wire::{strings, Datagram};
-use xrce_agent::{replies, Agent, Answer, Bridge, Call, Failed, Handle, Outcome, Refusal};
+use xrce_agent::{replies, Agent, Answer, Bridge, Call, Failed, Given, Handle, Outcome, Refusal, ALL_WEEK};
 
 fn status(object: u16, code: u8) -> Vec<u8> {
     Datagram::new(1, 0).status(object, code).bytes()
 }
 
 fn opened() -> Agent {
-    let mut agent = Agent::new(2, 1000).unwrap();
+    let mut agent = Agent::new(2, 1000, &ALL_WEEK).unwrap();
     let open = Datagram::new(0, 0).create_client([9; 4]).bytes();
-    assert_eq!(agent.incoming(&open, 0, &mut [0; 11]), Ok(Outcome { wrote: 11, call: None }));
+    assert_eq!(agent.incoming(&open, Given::at(0), &mut [0; 11]), Ok(Outcome { wrote: 11, call: None }));
     agent
 }
 
 #[test]
 fn limits() {
-    assert_eq!(Agent::new(256, 1).err(), Some(Refusal::OverLimit));
-    assert!(Agent::new(255, 1).is_ok());
+    assert_eq!(Agent::new(256, 1, &ALL_WEEK).err(), Some(Refusal::OverLimit));
+    assert!(Agent::new(255, 1, &ALL_WEEK).is_ok());
 }
 
 #[test]
@@ -25,7 +25,7 @@ fn names_are_lent_until_the_answer_and_a_refused_answer_leaves_the_call_open() {
     let mut agent = opened();
     let mut out = [0; 64];
     let datagram = Datagram::new(1, 0).create(1, 1, 5, &[]).create(2, 2, 1, &strings(b"n", b"type")).delete(9).bytes();
-    let outcome = agent.incoming(&datagram, 1, &mut out).unwrap();
+    let outcome = agent.incoming(&datagram, Given::at(1), &mut out).unwrap();
     assert_eq!(outcome, Outcome { wrote: 0, call: Some(Call::CreateParticipant { domain: 5 }) });
     drop(datagram);
     let topic = Call::CreateTopic { participant: Handle(7), name: b"n", type_name: b"type" };
@@ -34,7 +34,7 @@ fn names_are_lent_until_the_answer_and_a_refused_answer_leaves_the_call_open() {
     assert_eq!(topic.to_string(), "create_topic 7 'n' 'type'");
     assert_eq!(agent.answer(Answer::Done, &mut out), Err(Refusal::OutOfTurn));
     assert_eq!(agent.answer(Answer::Created(Handle(8)), &mut [0; 21]), Err(Refusal::OutputTooShort));
-    assert_eq!(agent.incoming(&[], 1, &mut out), Err(Refusal::OutOfTurn));
+    assert_eq!(agent.incoming(&[], Given::at(1), &mut out), Err(Refusal::OutOfTurn));
     assert_eq!((agent.open_call(), agent.open_session()), (Some(topic), Some(1)));
     let outcome = agent.answer(Answer::Created(Handle(8)), &mut out).unwrap();
     assert_eq!(outcome, Outcome { wrote: 22, call: None });
@@ -56,7 +56,7 @@ fn removal_and_sweep() {
 fn the_listing_takes_a_session_down_in_order_and_answers_while_a_call_is_open() {
     let (mut agent, mut bridge, mut out, mut numbers) = (opened(), Noting::default(), Vec::new(), [7; 6]);
     assert_eq!(agent.list(1, &mut []), Ok(&[][..]));
-    agent.serve(&all_but_the_delete().bytes(), 1, &mut out, &mut bridge).unwrap();
+    agent.serve(&all_but_the_delete().bytes(), Given::at(1), &mut out, &mut bridge).unwrap();
     assert_eq!(agent.list(1, &mut numbers[..3]), Err(Refusal::OutputTooShort));
     assert_eq!(agent.list(2, &mut numbers), Ok(&[][..]));
     assert_eq!(numbers, [7; 6]);
@@ -64,10 +64,10 @@ fn the_listing_takes_a_session_down_in_order_and_answers_while_a_call_is_open() 
     assert_eq!(numbers, [4, 3, 2, 1, 7, 7]);
     // The other way round everything stays, and no call is made.
     bridge.calls.clear();
-    agent.serve(&Datagram::new(1, 0).delete(1).delete(2).bytes(), 1, &mut out, &mut bridge).unwrap();
+    agent.serve(&Datagram::new(1, 0).delete(1).delete(2).bytes(), Given::at(1), &mut out, &mut bridge).unwrap();
     assert_eq!((&out, bridge.calls.len()), (&[status(1, 3), status(2, 3)].concat(), 0));
     for (gone, number) in numbers[..4].iter().enumerate() {
-        agent.incoming(&Datagram::new(1, 0).delete(*number).bytes(), 1, &mut out).unwrap();
+        agent.incoming(&Datagram::new(1, 0).delete(*number).bytes(), Given::at(1), &mut out).unwrap();
         assert!(agent.open_call().is_some());
         assert_eq!(agent.list(1, &mut [0; 32]), Ok(&numbers[gone + 1..4]));
         assert_eq!(agent.answer(Answer::Done, &mut out), Ok(Outcome { wrote: 11, call: None }));
@@ -148,7 +148,7 @@ fn all_seven() -> Datagram {
 fn a_datagram_served_whole() {
     let (mut agent, mut bridge, mut out) =
         (opened(), Noting { sample: b"s".to_vec(), ..Noting::default() }, Vec::new());
-    agent.serve(&all_seven().bytes(), 1, &mut out, &mut bridge).unwrap();
+    agent.serve(&all_seven().bytes(), Given::at(1), &mut out, &mut bridge).unwrap();
     let calls = [
         "create_participant 3",
         "create_topic 11 'n' 't'",
@@ -163,7 +163,7 @@ fn a_datagram_served_whole() {
     let wanted = [status(1, 0), status(2, 0), status(3, 0), status(4, 0), status(3, 2), data, status(4, 0)];
     assert_eq!(replies(&out).collect::<Vec<_>>(), wanted);
     assert_eq!(out, wanted.concat());
-    assert_eq!(agent.serve(&[1, 0, 0, 0], 1, &mut out, &mut bridge), Err(Refusal::BufferTooShort));
+    assert_eq!(agent.serve(&[1, 0, 0, 0], Given::at(1), &mut out, &mut bridge), Err(Refusal::BufferTooShort));
     assert!(out.is_empty());
 }
 
@@ -173,9 +173,9 @@ fn a_sample_that_is_too_long_to_be_held_is_a_failed_read() {
     for (len, reply) in [(1014, 1024), (1015, 11)] {
         let (mut agent, mut bridge) = (opened(), Noting { sample: vec![1; len], ..Noting::default() });
         let mut out = Vec::new();
-        agent.serve(&all_but_the_delete().bytes(), 1, &mut out, &mut bridge).unwrap();
+        agent.serve(&all_but_the_delete().bytes(), Given::at(1), &mut out, &mut bridge).unwrap();
         let read = Datagram::new(1, 7).read_data(4).acknack(0, 0xFFFF).bytes();
-        agent.serve(&read, 1, &mut out, &mut bridge).unwrap();
+        agent.serve(&read, Given::at(1), &mut out, &mut bridge).unwrap();
         // What is held is repeated at once; a failed read holds nothing.
         let repeated = if reply == 1024 { 1024 } else { 0 };
         assert_eq!(out.len(), reply + repeated, "a sample of {len} bytes");
@@ -188,7 +188,7 @@ fn a_sample_that_is_too_long_is_a_failed_read() {
     for (len, wrote) in [(65_533, 65_543), (65_534, 11)] {
         let (mut agent, mut bridge) = (opened(), Noting { sample: vec![1; len], ..Noting::default() });
         let mut out = Vec::new();
-        agent.serve(&all_seven().bytes(), 1, &mut out, &mut bridge).unwrap();
+        agent.serve(&all_seven().bytes(), Given::at(1), &mut out, &mut bridge).unwrap();
         assert_eq!(replies(&out).nth(5).unwrap().len(), wrote);
         assert_eq!(bridge.calls.len(), 7);
     }

@@ -21,7 +21,8 @@ driver [FLAG VALUE ..]   plays a client: opens a session, creates a participant,
                    is asked for again, and has at most 1014 bytes          (1; 0 if the size is greater)
   --help           this text
 
-Up to 10 messages are shown one by one, more as a summary. A missing or wrong reply ends it with exit code 1.
+Up to 10 messages are shown one by one, more as a summary. A missing or wrong reply ends it with exit code 1,
+and so does the first write in quiet hours.
 ";
 
 /// The longest datagram of UDP, and the most that fits it behind the headers of document 01.

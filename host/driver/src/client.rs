@@ -26,7 +26,9 @@ impl fmt::Display for Wrong {
     fn fmt(&self, f: &mut fmt::Formatter<'_>) -> fmt::Result {
         match self {
             Wrong::Missing(what) => write!(f, "no reply to {what} within {} s: is the host running?", LIMIT.as_secs()),
-            Wrong::Status(what, code) => write!(f, "{what} was answered by status {code}, {}", code_name(*code)),
+            Wrong::Status(what, code) => {
+                write!(f, "{what} was answered by status {code}, {}{}", code_name(*code), reason(what, *code))
+            }
             Wrong::Unread(what, bytes) => write!(f, "the reply to {what} isn't a reply: {bytes:02x?}"),
             Wrong::Other(number, got) => {
                 write!(f, "another sample was read for message {number}: '{}'", got[..got.len().min(64)].escape_ascii())
@@ -50,6 +52,15 @@ fn code_name(code: u8) -> &'static str {
         3 => "ERR_INCOMPATIBLE",
         4 => "ERR_RESOURCES",
         _ => "which there isn't",
+    }
+}
+
+// ERR_INCOMPATIBLE has two meanings (document 02, W3 and W8): which one it is follows from what was asked.
+fn reason(what: &str, code: u8) -> &'static str {
+    match (code, what.starts_with("WRITE_DATA")) {
+        (wire::ERR_INCOMPATIBLE, true) => ": these are quiet hours, in which the agent lets nothing be written",
+        (wire::ERR_INCOMPATIBLE, false) => ": another object depends on that one",
+        _ => "",
     }
 }
 

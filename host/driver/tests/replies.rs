@@ -34,6 +34,11 @@ fn wrong_replies_end_it() {
     let failed = host(|count, reply| Some(if count == 6 { [&reply[..10], &[2]].concat() } else { reply.to_vec() }));
     let (code, _, error) = told(&driver(&["--host", &failed]));
     assert_eq!((code, error.trim_end()), (Some(1), "driver: WRITE_DATA was answered by status 2, ERR_INVALID_DATA"));
+    let closed = host(|count, reply| Some(if count == 6 { [&reply[..10], &[3]].concat() } else { reply.to_vec() }));
+    let (code, _, error) = told(&driver(&["--host", &closed]));
+    let wanted = "driver: WRITE_DATA was answered by status 3, ERR_INCOMPATIBLE: these are quiet hours, in which the agent lets \
+                  nothing be written";
+    assert_eq!((code, error.trim_end()), (Some(1), wanted));
     let other = host(|count, reply| Some(if count == 7 { [&reply[..33], b"!"].concat() } else { reply.to_vec() }));
     let (code, _, error) = told(&driver(&["--host", &other]));
     assert_eq!(code, Some(1));

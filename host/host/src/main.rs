@@ -6,6 +6,7 @@ mod memory;
 mod quota;
 mod signals;
 mod udp;
+mod week;
 
 use args::{parse, Parsed, HELP};
 use std::process::ExitCode;

@@ -4,10 +4,11 @@ use crate::args::Options;
 use crate::log;
 use crate::memory::Memory;
 use crate::signals;
+use crate::week;
 use std::io::{self, ErrorKind, Write};
 use std::net::{SocketAddr, UdpSocket};
 use std::time::{Duration, Instant};
-use xrce_agent::{replies, room, Agent, Answer, Answered, Refusal};
+use xrce_agent::{replies, room, Agent, Answer, Answered, Given, Refusal};
 
 /// A datagram whose replies may take more isn't served: 8 bytes of ACKNACK can ask for 16 messages of 1,024 bytes. What ACKNACKs
 /// among rebuilt submessages ask for shows only in a refusal, 13: so a datagram with a FRAGMENT gets that much room at once.
@@ -24,6 +25,7 @@ struct Host {
     out: Vec<u8>,
     inbox: Vec<u8>,
     start: Instant,
+    utc_offset: i64,
     sweep: Duration,
     next_sweep: Instant,
     served: u64,
@@ -32,12 +34,12 @@ struct Host {
 pub fn run(options: &Options) -> io::Result<()> {
     let told =
         |error: io::Error| io::Error::other(format!("can't listen on {}:{}: {error}", options.bind, options.port));
+    let agent = set_up(options)?;
     signals::listen();
     let socket = UdpSocket::bind((options.bind, options.port)).map_err(told)?;
     let sweep = Duration::from_millis(options.sweep_ms);
     socket.set_read_timeout(Some(LOOK.min(sweep)))?;
     announce(socket.local_addr()?)?;
-    let agent = Agent::new(options.max_clients, options.timeout_ms).map_err(io::Error::other)?;
     let start = Instant::now();
     let mut host = Host {
         socket,
@@ -46,6 +48,7 @@ pub fn run(options: &Options) -> io::Result<()> {
         out: Vec::new(),
         inbox: vec![0; 65_536],
         start,
+        utc_offset: options.utc_offset,
         sweep,
         next_sweep: start + sweep,
         served: 0,
@@ -53,6 +56,19 @@ pub fn run(options: &Options) -> io::Result<()> {
     host.until_asked()?;
     eprintln!("served {} datagrams", host.served);
     Ok(())
+}
+
+// Windows that don't fit together end it before it listens.
+fn set_up(options: &Options) -> io::Result<Agent> {
+    let refused = |refusal: Refusal| io::Error::other(format!("the agent can't be set up: {refusal}"));
+    let agent = Agent::new(options.max_clients, options.timeout_ms, &options.windows).map_err(refused)?;
+    let (day, minute) = week::now(options.utc_offset);
+    match agent.first_open(day, minute).map_err(refused)? {
+        Some(next) if next == (day, minute) => {}
+        Some((day, minute)) => log!(Info, "writing is closed until weekday {day}, minute {minute}"),
+        None => log!(Info, "writing is never open"),
+    }
+    Ok(agent)
 }
 
 fn announce(address: SocketAddr) -> io::Result<()> {
@@ -80,9 +96,15 @@ impl Host {
         self.start.elapsed().as_millis() as u64
     }
 
+    // What the agent is given with a datagram.
+    fn given(&self) -> Given {
+        let (day, minute) = week::now(self.utc_offset);
+        Given { time_ms: self.now(), day, minute }
+    }
+
     fn datagram(&mut self, len: usize, from: SocketAddr) -> io::Result<()> {
         self.served += 1;
-        let time = self.now();
+        let given = self.given();
         log!(Debug, "{from}: {len} bytes");
         let room = room(&self.inbox[..len], 0);
         if MOST_REPLIED < room {
@@ -91,7 +113,7 @@ impl Host {
         }
         self.out.resize(MOST_REPLIED, 0);
         self.out.shrink_to_fit();
-        match self.agent.incoming(&self.inbox[..len], time, &mut self.out) {
+        match self.agent.incoming(&self.inbox[..len], given, &mut self.out) {
             Ok(outcome) => send(&self.socket, from, &self.out[..outcome.wrote]),
             Err(refusal) => {
                 log!(Warn, "{from}: refused {}: {refusal}", refusal.number());

@@ -3,32 +3,18 @@
 
 mod common;
 
-use common::{ask, open, Running};
+use common::{ask, creates_all, open, Running, READER, WRITER};
 use std::net::UdpSocket;
-use wire::{strings, Body, Datagram, Received, Reply};
+use wire::{Body, Datagram, Received, Reply};
 
 const SAMPLES: usize = 60;
 const STREAM: u8 = 9;
-const WRITER: u16 = 3;
-const READER: u16 = 4;
 /// An object that there isn't. What is said about it ends the replies to a datagram.
 const NOTHING: u16 = 999;
 
 // Samples of every length from none to the most that is held, 1,014 bytes.
 fn sample(number: usize) -> Vec<u8> {
     (0..number * 1014 / (SAMPLES - 1)).map(|at| (number * 31 + at) as u8).collect()
-}
-
-fn creates_all(client: &UdpSocket, session: u8) {
-    for (object, kind, parent, text) in [
-        (1, wire::PARTICIPANT, 0, vec![]),
-        (2, wire::TOPIC, 1, strings(b"lossy", b"t")),
-        (WRITER, wire::DATA_WRITER, 2, vec![]),
-        (READER, wire::DATA_READER, 2, vec![]),
-    ] {
-        let reply = ask(client, Datagram::new(session, 0).create(object, kind, parent, &text));
-        assert_eq!(reply, Datagram::new(session, 0).status(object, wire::OK).bytes());
-    }
 }
 
 /// A client that throws every third DATA away, repeats included.
@@ -81,7 +67,7 @@ fn every_sample_comes_in_order_though_data_is_lost() {
     let socket = host.client();
     let (session, code) = open(&socket);
     assert_eq!(code, wire::OK);
-    creates_all(&socket, session);
+    creates_all(&socket, session, b"lossy");
     for number in 0..SAMPLES {
         let reply = ask(&socket, Datagram::new(session, 0).write_data(WRITER, &sample(number)));
         assert_eq!(reply, Datagram::new(session, 0).status(WRITER, wire::OK).bytes());

@@ -6,6 +6,7 @@ mod chance;
 mod crowd;
 mod datagrams;
 mod flood;
+mod hours;
 mod listing;
 mod repeats;
 mod stores;

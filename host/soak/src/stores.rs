@@ -1,18 +1,22 @@
 //! Everything that a host lends, each in memory of its own between guard pages.
 
 use crate::chance::Chance;
+use crate::hours;
 use crate::listing::{listing, Kept};
 use crate::sys::{Guarded, Side};
 use std::ops::Range;
 use xrce_agent::lent::{
-    self, AgentRecord, Lent, ObjectRecord, SessionRow, StreamRow, Told, HELD, LENGTHS, OBJECTS, PARTS, REBUILT,
+    self, AgentRecord, Lent, ObjectRecord, SessionRow, StreamRow, Told, HELD, HOURS, LENGTHS, OBJECTS, PARTS, REBUILT,
     SESSIONS, STREAMS,
 };
+use xrce_agent::{Given, Window};
 
 /// For so many clients there are stores of held messages and of fragments; a set-up for more is refused.
 const CLIENTS: usize = 6;
 const OUT: usize = 8192;
 const NUMBERS: usize = 64;
+/// The most windows that a set-up is given.
+const WINDOWS: usize = 64;
 const BYTES: usize = 70_000;
 /// The call for a Topic (enum xrce_call).
 const CREATE_TOPIC: u64 = 2;
@@ -28,6 +32,8 @@ pub struct Stores {
     parts: Guarded<u8>,
     lengths: Guarded<u32>,
     rebuilt: Guarded<u8>,
+    hours: Guarded<u8>,
+    windows: Guarded<Window>,
     out: Guarded<u8>,
     numbers: Guarded<u16>,
     datagram: Guarded<u8>,
@@ -45,6 +51,9 @@ pub struct Stores {
     pub inside: u64,
     /// Calls for a Topic, whose names were read.
     pub topics: u64,
+    /// Writes by themselves that went by their minute, and questions for the first open minute that were right.
+    pub writes: u64,
+    pub questions: u64,
 }
 
 /// A copy of record, tables and stores.
@@ -57,6 +66,7 @@ pub struct Copied {
     parts: Vec<u8>,
     lengths: Vec<u32>,
     rebuilt: Vec<u8>,
+    hours: Vec<u8>,
 }
 
 // Mostly the whole need, at times less.
@@ -117,6 +127,8 @@ impl Stores {
             parts: Guarded::new(PARTS * CLIENTS),
             lengths: Guarded::new(LENGTHS * CLIENTS),
             rebuilt: Guarded::new(REBUILT),
+            hours: Guarded::new(HOURS),
+            windows: Guarded::new(WINDOWS),
             out: Guarded::new(OUT),
             numbers: Guarded::new(NUMBERS),
             datagram: Guarded::new(BYTES),
@@ -128,6 +140,8 @@ impl Stores {
             listed: 0,
             inside: 0,
             topics: 0,
+            writes: 0,
+            questions: 0,
         }
     }
 
@@ -151,6 +165,7 @@ impl Stores {
             parts: self.parts.slice(side, PARTS * CLIENTS).to_vec(),
             lengths: self.lengths.slice(side, LENGTHS * CLIENTS).to_vec(),
             rebuilt: self.rebuilt.slice(side, REBUILT).to_vec(),
+            hours: self.hours.slice(side, HOURS).to_vec(),
         }
     }
 
@@ -165,10 +180,11 @@ impl Stores {
             && *self.parts.slice(side, PARTS * CLIENTS) == copied.parts
             && *self.lengths.slice(side, LENGTHS * CLIENTS) == copied.lengths
             && *self.rebuilt.slice(side, REBUILT) == copied.rebuilt
+            && *self.hours.slice(side, HOURS) == copied.hours
     }
 
-    /// Whether the last datagram or answer left the messages and fragments of every other session: only the parts of the named
-    /// session's slot may have changed since the copy.
+    /// Whether the last datagram or answer left the messages and fragments of every other session, and the week's minutes: only the
+    /// parts of the named session's slot may have changed since the copy.
     pub fn others_kept(&mut self, copied: &Copied) -> bool {
         let side = self.side;
         let [live, .., slot, _, _] = self.sessions.slice(side, SESSIONS)[usize::from(self.named)];
@@ -180,11 +196,15 @@ impl Stores {
         kept_outside(self.held.slice(side, HELD * CLIENTS), &copied.held, own(held, HELD))
             && kept_outside(self.parts.slice(side, PARTS * CLIENTS), &copied.parts, own(parts, PARTS))
             && kept_outside(self.lengths.slice(side, LENGTHS * CLIENTS), &copied.lengths, own(lengths, LENGTHS))
+            && *self.hours.slice(side, HOURS) == copied.hours
     }
 
-    pub fn setup(&mut self, chance: &mut Chance) -> u64 {
+    /// A set-up with windows by chance, of which it must take those that fit and keep what they open.
+    pub fn setup(&mut self, chance: &mut Chance) -> Result<u64, String> {
         let side = self.side;
         let records = length(chance, 1);
+        let windows = hours::windows(chance);
+        self.windows.slice(side, windows.len()).copy_from_slice(&windows);
         let tables = Lent {
             sessions: self.sessions.slice(side, length(chance, SESSIONS)),
             streams: self.streams.slice(side, length(chance, STREAMS)),
@@ -193,21 +213,27 @@ impl Stores {
             parts: self.parts.slice(side, store_length(chance, PARTS)),
             lengths: self.lengths.slice(side, store_length(chance, LENGTHS)),
             rebuilt: self.rebuilt.slice(side, length(chance, REBUILT)),
+            hours: self.hours.slice(side, length(chance, HOURS)),
         };
         let max = if chance.once_in(8) { chance.extreme() } else { 1 + chance.below(CLIENTS) as u64 };
-        lent::setup(self.record.slice(side, records), tables, max, chance.of(&[0, 10, 1000, u64::MAX]))
+        let (record, lent) = (self.record.slice(side, records), self.windows.slice(side, windows.len()));
+        let answer = lent::setup(record, tables, lent, max, chance.of(&[0, 10, 1000, u64::MAX]));
+        hours::set_up_right(&windows, answer, self.hours.slice(side, HOURS))?;
+        Ok(answer)
     }
 
     pub fn process(&mut self, chance: &mut Chance, datagram: &[u8]) -> Result<u64, String> {
         let side = self.side;
-        let open = self.record().open;
+        let AgentRecord { open, is_open, .. } = *self.record();
         let input = input(chance, open);
         let again = open != 0 && !chance.once_in(16);
         let bytes = if again { self.kept.clone() } else { datagram.to_vec() };
         let sample = sample(chance, input);
+        let (day, minute) = hours::minute(chance);
+        let given = Given { time_ms: chance.below(3000) as u64, day, minute };
         let told = Told {
             input,
-            time_ms: chance.below(3000) as u64,
+            given,
             handle: chance.extreme() as u32,
             datagram: put(&mut self.datagram, side, &bytes),
             sample: put(&mut self.sample, side, &sample),
@@ -224,6 +250,7 @@ impl Stores {
             parts: self.parts.slice(side, parts),
             lengths: self.lengths.slice(side, lengths),
             rebuilt: self.rebuilt.slice(side, length(chance, REBUILT)),
+            hours: self.hours.slice(side, length(chance, HOURS)),
         };
         let records = self.record.slice(side, records);
         self.named = match records.first() {
@@ -236,8 +263,14 @@ impl Stores {
         };
         let answer = lent::process(records, tables, out, told);
         output_kept(out, FILL, answer, records.first().map_or(0, |record| record.wrote))?;
+        let own = hours::is_open(self.hours.slice(side, HOURS), day, minute);
+        let is_open = if input == 0 { own } else { Some(is_open == 1) };
+        let wrote = records.first().filter(|_| went(answer)).map_or(0, |record| record.wrote as usize);
+        let told = hours::Told { input, given, datagram: &bytes, is_open, answer, replied: &out[..wrote] };
+        told.refused_right()?;
         if went(answer) {
             let record = records.first().ok_or("a call without a record was answered")?;
+            self.writes += u64::from(told.answered_right(record)?);
             told_whole(record, &bytes, self.rebuilt.slice(side, REBUILT))?;
             self.inside += u64::from(record.left_end != 0);
             self.topics += u64::from(record.call == CREATE_TOPIC);
@@ -290,12 +323,22 @@ impl Stores {
         Ok(answer)
     }
 
+    /// The question for the first open minute, which must be answered right.
+    pub fn first_open(&mut self, chance: &mut Chance) -> Result<u64, String> {
+        let (day, minute) = hours::minute(chance);
+        let hours = self.hours.slice(self.side, length(chance, HOURS));
+        let answer = lent::first_open(hours, day, minute);
+        hours::first_right(hours, day, minute, answer)?;
+        self.questions += 1;
+        Ok(answer)
+    }
+
     /// Sets some numbers of the record, of a table or of a store to others; the record as it was.
     pub fn alter(&mut self, chance: &mut Chance) -> AgentRecord {
         let (side, kept) = (self.side, self.record().clone());
         for _ in 0..=chance.below(4) {
             let row = 1 + chance.below(5);
-            match chance.below(10) {
+            match chance.below(11) {
                 0 | 1 => *self.record().numbers_mut()[chance.below(AgentRecord::NUMBERS)] = chance.extreme(),
                 2 => self.sessions.slice(side, SESSIONS)[row][chance.below(8)] = chance.extreme(),
                 3 => {
@@ -310,6 +353,7 @@ impl Stores {
                 }
                 7 => self.parts.slice(side, PARTS * CLIENTS)[chance.below(PARTS * CLIENTS)] = chance.byte(),
                 8 => self.rebuilt.slice(side, REBUILT)[chance.below(64)] = chance.below(18) as u8,
+                9 => self.hours.slice(side, HOURS)[chance.below(HOURS)] = chance.of(&[0, 1, 2, 255]),
                 _ => self.sessions.slice(side, SESSIONS)[chance.below(SESSIONS)][chance.below(8)] = chance.extreme(),
             }
         }

@@ -24,6 +24,7 @@ impl Plain for [u64; 8] {}
 impl Plain for [u16; 35] {}
 impl Plain for xrce_agent::lent::AgentRecord {}
 impl Plain for xrce_agent::lent::ObjectRecord {}
+impl Plain for xrce_agent::Window {}
 
 /// Room for a number of elements, zeroed; a read or write before or behind it ends the process by SIGSEGV.
 pub struct Guarded<T: Plain> {

@@ -195,15 +195,16 @@ pub fn replay(script: &str, original: &str, port: &str) -> Verdict {
     let mut at = 0;
     while at < events.len() {
         let first = at;
-        if first_word(events[at].1) == "setup" {
-            setup = at;
-        }
         let (mut ours, mut theirs) = (Outcome::default(), Outcome::default());
         while at == first || at < events.len() && goes_on(events[at].1) {
             ours.add(original.answer(ends_event));
             theirs.add(port.answer(ends_event));
             *counts.entry(first_word(events[at].1)).or_insert(0) += 1;
             at += 1;
+        }
+        // A refused set-up leaves what the ones before it made.
+        if first_word(events[first].1) == "setup" && ours.rest == ["ok"] {
+            setup = first;
         }
         if ours != theirs {
             let since: Vec<String> = events[setup..at].iter().map(|(_, line)| line.to_string()).collect();
@@ -220,9 +221,9 @@ pub fn replay(script: &str, original: &str, port: &str) -> Verdict {
     Ok(summary("events of replay scripts", &counts))
 }
 
-// Answers belong to their datagram, and so does a listing, which may stand between them.
+// Answers belong to their datagram, and so does a question, which may stand between them.
 fn goes_on(line: &str) -> bool {
-    matches!(first_word(line), "created" | "done" | "data" | "none" | "failed" | "list")
+    matches!(first_word(line), "created" | "done" | "data" | "none" | "failed" | "list" | "open")
 }
 
 fn ends_event(line: &str) -> bool {

@@ -3,10 +3,12 @@
 mod chance;
 mod clock;
 mod datagrams;
+mod hours;
 mod judge;
 mod layers;
 mod listing;
 mod make_agent;
+mod make_hours;
 mod make_layers;
 mod refusals;
 mod replay;

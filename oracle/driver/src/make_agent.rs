@@ -5,7 +5,9 @@
 use crate::chance::Chance;
 use crate::clock;
 use crate::datagrams;
+use crate::hours::{all_week, Window};
 use crate::listing::listing;
+use crate::make_hours;
 use crate::replay::{address, agent, remove, Answer, Answers, Bridge};
 use crate::texts;
 use crate::words::hex;
@@ -49,6 +51,7 @@ struct Making {
     agent: XrceAgent,
     /// The parent number of each session's objects: the original's records have none.
     parents: BTreeMap<(u8, u16), u16>,
+    windows: Vec<Window>,
     timeout: u64,
     time: u64,
     last_opened: u8,
@@ -71,6 +74,8 @@ pub fn scripts(seed: u64, count: u64) -> Vec<String> {
 struct Domain {
     objects: BTreeMap<u16, BTreeSet<(u8, u16)>>,
     streams: BTreeSet<u8>,
+    /// Whether any minute is open.
+    writes: bool,
 }
 
 fn implicit(kind: ObjectKind) -> bool {
@@ -136,7 +141,7 @@ impl Domain {
                 self.objects.remove(&p.object_id);
                 inside
             }
-            Submessage::WriteData(p) => !self.may_be_implicit(p.writer_id),
+            Submessage::WriteData(p) => self.writes && !self.may_be_implicit(p.writer_id),
             // On another stream the port numbers its DATA and holds it (document 02, W5).
             Submessage::ReadData(p) => stream == 0 && !self.may_be_implicit(p.reader_id),
             Submessage::Heartbeat(_) | Submessage::Acknack(_) => {
@@ -154,7 +159,8 @@ impl Making {
         let bridge = Arc::new(Bridge(Mutex::new(drawn)));
         let agent = agent(1, 1, bridge.clone()).expect("an agent for one client");
         let time = chance.pick(&[0, 3, 100_000, 1 << 45]);
-        Self { chance, bridge, agent, parents: BTreeMap::new(), timeout: 1, time, last_opened: 0, lines: Vec::new() }
+        let (parents, windows) = (BTreeMap::new(), all_week());
+        Self { chance, bridge, agent, parents, windows, timeout: 1, time, last_opened: 0, lines: Vec::new() }
     }
 
     fn domain(&self, session: u8) -> Domain {
@@ -166,6 +172,7 @@ impl Making {
         Domain {
             objects: objects.collect(),
             streams: held.map_or(BTreeSet::from([0]), |s| s.stream_states.keys().copied().collect()),
+            writes: !self.windows.is_empty(),
         }
     }
 
@@ -184,7 +191,11 @@ impl Making {
         self.agent = agent(max, timeout, self.bridge.clone()).expect("limits that the original takes");
         self.timeout = timeout;
         self.last_opened = 0;
-        self.lines.push(format!("setup {max} {timeout}"));
+        if self.chance.one_in(2) {
+            self.windows = make_hours::windows(&mut self.chance);
+        }
+        let words = make_hours::windows_words(&mut self.chance, &self.windows);
+        self.lines.push(format!("setup {max} {timeout}{words}"));
     }
 
     fn run(&mut self, script: u64) {
@@ -205,7 +216,7 @@ impl Making {
 
     fn event(&mut self) {
         self.pass_time();
-        match self.chance.below(24) {
+        match self.chance.below(28) {
             0 => self.sweep(),
             1 => {
                 let id = self.session();
@@ -229,6 +240,9 @@ impl Making {
                 let id = self.session();
                 self.take_down(id);
             }
+            9 | 10 => self.ask_for_minute(),
+            11 => self.send_in_no_minute(),
+            12 if self.chance.one_in(3) => self.set_up_wrongly(),
             _ => {
                 let whole = self.datagram();
                 self.send(&whole);
@@ -263,6 +277,43 @@ impl Making {
         self.lines.push(format!("list {id}"));
     }
 
+    fn ask_for_minute(&mut self) {
+        let (day, minute) = match self.chance.below(8) {
+            0 => make_hours::no_minute(&mut self.chance),
+            _ => make_hours::any_minute(&mut self.chance, &self.windows),
+        };
+        self.lines.push(format!("open {day} {minute}"));
+    }
+
+    /// A datagram, be it one that reads or not, that is refused as 20: the original never sees it.
+    fn send_in_no_minute(&mut self) {
+        let whole = self.datagram();
+        let bytes = if self.chance.one_in(3) { datagrams::damaged(&mut self.chance, &whole) } else { whole };
+        let minute = make_hours::no_minute(&mut self.chance);
+        self.hand_in(&bytes, 0, minute);
+    }
+
+    /// A set-up that is refused as 19, and leaves the agent that is there.
+    fn set_up_wrongly(&mut self) {
+        let wrong = make_hours::wrong_windows(&mut self.chance);
+        let words = make_hours::windows_words(&mut self.chance, &wrong);
+        self.lines.push(format!("setup {} {}{words}", self.chance.pick(&[1, 255]), self.timeout));
+    }
+
+    /// Writes a datagram down.
+    fn hand_in(&mut self, datagram: &[u8], room: u64, minute: (u8, u16)) {
+        let words = make_hours::minute_words(&mut self.chance, minute);
+        self.lines.push(format!("datagram {} {room} {}{words}", self.time, hex(datagram)));
+    }
+
+    // "The Rust is compared where the minute is open": there come the writes, and all else comes in any.
+    fn minute_for(&mut self, datagram: &[u8]) -> (u8, u16) {
+        if make_hours::writes(datagram) {
+            return make_hours::open_minute(&mut self.chance, &self.windows);
+        }
+        make_hours::any_minute(&mut self.chance, &self.windows)
+    }
+
     /// DELETE of a session's objects along its listing, a few in a datagram: of all, or of so few that some are left.
     /// Publishers and Subscribers stay, since a DELETE of one isn't compared.
     fn take_down(&mut self, session: u8) {
@@ -294,8 +345,12 @@ impl Making {
         let answers = std::mem::take(&mut self.bridge.0.lock().unwrap().answers);
         let need: usize = replies.iter().map(Vec::len).sum();
         let room = need as u64 + self.chance.pick(&[0, 0, 1, 12, 70_000]);
-        self.lines.push(format!("datagram {} {room} {}", self.time, hex(datagram)));
+        let minute = self.minute_for(datagram);
+        self.hand_in(datagram, room, minute);
         for answer in answers {
+            if self.chance.one_in(16) {
+                self.ask_for_minute();
+            }
             if self.chance.one_in(8) {
                 let id = if self.chance.one_in(4) { self.session() } else { datagram[0] };
                 self.list(id);

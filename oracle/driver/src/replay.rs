@@ -4,6 +4,7 @@
 //! between a datagram's answers is taken from another one that is led to the same place.
 
 use crate::clock;
+use crate::hours;
 use crate::layers::dump;
 use crate::listing::listing_line;
 use crate::refusals::refused;
@@ -152,6 +153,7 @@ pub struct Replay {
     bridge: Arc<Bridge<Ahead>>,
     agent: Option<XrceAgent>,
     timeout: u64,
+    windows: Vec<hours::Window>,
     /// The place of the set-up in the script.
     set_up_at: usize,
 }
@@ -175,9 +177,37 @@ fn asked(line: &str) -> Option<u8> {
     }
 }
 
+// The minute from which on a line asks for the first open one.
+fn asked_from(line: &str) -> Option<(u8, u16)> {
+    match *words(line) {
+        ["open", day, minute] => Some((number(day)?, number(minute)?)),
+        _ => None,
+    }
+}
+
+/// What a line hands in: a datagram with its time, weekday and minute.
+struct HandedIn {
+    time: u64,
+    bytes: Vec<u8>,
+    day: u8,
+    minute: u16,
+}
+
+fn handed_in(line: &str) -> Option<HandedIn> {
+    let ["datagram", time, room, datagram, ref rest @ ..] = words(line)[..] else { return None };
+    number::<u64>(room)?;
+    let (day, minute) = hours::minute_words(rest)?;
+    Some(HandedIn { time: number(time)?, bytes: bytes(datagram)?, day, minute })
+}
+
+// A line that only asks, and may stand between a datagram's answers.
+fn asks(line: &str) -> bool {
+    asked(line).is_some() || asked_from(line).is_some()
+}
+
 /// How many of the lines that follow a datagram belong to it: all up to the last answer.
 fn follows(lines: &[&str]) -> usize {
-    let all = lines.iter().take_while(|line| silent(line) || answer(line).is_some() || asked(line).is_some()).count();
+    let all = lines.iter().take_while(|line| silent(line) || answer(line).is_some() || asks(line)).count();
     lines[..all].iter().rposition(|line| answer(line).is_some()).map_or(0, |last| last + 1)
 }
 
@@ -199,7 +229,8 @@ fn apart(datagram: &[u8]) -> Vec<Vec<u8>> {
 impl Replay {
     pub fn new() -> Self {
         let ahead = Ahead { answers: VecDeque::new(), lines: Vec::new(), unanswered: false };
-        Self { bridge: Arc::new(Bridge(Mutex::new(ahead))), agent: None, timeout: 0, set_up_at: 0 }
+        let bridge = Arc::new(Bridge(Mutex::new(ahead)));
+        Self { bridge, agent: None, timeout: 0, windows: hours::all_week(), set_up_at: 0 }
     }
 
     /// What the whole script prints.
@@ -215,7 +246,7 @@ impl Replay {
             let behind = &script[at..at + follows(&script[at..])];
             match self.datagram(line, at, answers(behind)) {
                 Some(lines) => {
-                    printed.extend(self.with_listings(&script[self.set_up_at..at], behind, &lines));
+                    printed.extend(self.with_questions(&script[self.set_up_at..at], behind, &lines));
                     at += behind.len();
                 }
                 None => {
@@ -230,16 +261,17 @@ impl Replay {
         printed
     }
 
-    /// A datagram's lines with the listings that are asked for between its answers, each event's lines in its place. `since`
-    /// ends with the datagram, and `behind` follows it.
-    fn with_listings(&self, since: &[&str], behind: &[&str], lines: &[String]) -> Vec<String> {
+    /// A datagram's lines with what is asked between its answers, each event's lines in its place. `since` ends with the datagram,
+    /// and `behind` follows it.
+    fn with_questions(&self, since: &[&str], behind: &[&str], lines: &[String]) -> Vec<String> {
         let mut events = lines.split_inclusive(|line| !line.starts_with("reply "));
         let mut all = events.next().unwrap_or_default().to_vec();
         for (at, line) in behind.iter().enumerate() {
-            match asked(line) {
-                Some(id) => all.push(self.listed_between(since, &behind[..at], id)),
-                None if silent(line) => {}
-                None => all.extend_from_slice(events.next().unwrap_or_default()),
+            match (asked(line), asked_from(line)) {
+                (Some(id), _) => all.push(self.listed_between(since, &behind[..at], id)),
+                (_, Some((day, minute))) => all.push(hours::open_line(&self.windows, day, minute)),
+                _ if silent(line) => {}
+                _ => all.extend_from_slice(events.next().unwrap_or_default()),
             }
         }
         all.extend(events.flatten().cloned());
@@ -254,10 +286,11 @@ impl Replay {
     }
 
     fn datagram(&mut self, line: &str, count: usize, answers: VecDeque<Answer>) -> Option<Vec<String>> {
-        let ["datagram", time, room, datagram] = *words(line) else { return None };
+        let HandedIn { time, bytes: datagram, day, minute } = handed_in(line)?;
         let agent = self.agent.as_mut()?;
-        let (time, datagram) = (number(time)?, bytes(datagram)?);
-        number::<u64>(room)?;
+        if !hours::is_minute(day, minute) {
+            return Some([vec!["refused 20".into()], vec!["refused 15".into(); answers.len()]].concat());
+        }
         *self.bridge.0.lock().unwrap() = Ahead { answers, lines: Vec::new(), unanswered: false };
         clock::set(time);
         let replies = agent.process_incoming(&address(count), &datagram);
@@ -283,8 +316,8 @@ impl Replay {
 
     fn event(&mut self, line: &str) -> Option<Vec<String>> {
         let words = words(line);
-        if let ["setup", max, timeout] = *words {
-            return Some(vec![self.setup(number(max)?, number(timeout)?)]);
+        if let ["setup", max, timeout, ref rest @ ..] = words[..] {
+            return Some(vec![self.setup(number(max)?, number(timeout)?, set_up_windows(rest)?)]);
         }
         let agent = self.agent.as_mut()?;
         if answer(line).is_some() {
@@ -303,24 +336,38 @@ impl Replay {
                 gone.iter().fold("swept".to_string(), |line, id| format!("{line} {id}"))
             }
             ["list", id] => listing_line(agent.sessions(), number(id)?),
+            ["open", ..] => asked_from(line).map(|(day, minute)| hours::open_line(&self.windows, day, minute))?,
             ["dump"] => return Some(dump(agent.sessions())),
             _ => return None,
         };
         Some(vec![line])
     }
 
-    fn setup(&mut self, max: u64, timeout: u64) -> String {
+    fn setup(&mut self, max: u64, timeout: u64, windows: Vec<hours::Window>) -> String {
         if max > 255 {
             return "refused 16".into();
+        }
+        if !hours::fit(&windows) {
+            return "refused 19".into();
         }
         match agent(max as usize, timeout, self.bridge.clone()) {
             Ok(agent) => {
                 self.agent = Some(agent);
                 self.timeout = timeout;
+                self.windows = windows;
                 "ok".into()
             }
             Err(error) => format!("outside: {error}"),
         }
+    }
+}
+
+// The windows in the words behind a set-up's limits; without the word every minute is open.
+fn set_up_windows(words: &[&str]) -> Option<Vec<hours::Window>> {
+    match words {
+        [] => Some(hours::all_week()),
+        ["windows", all @ ..] => all.iter().map(|word| hours::Window::read(word)).collect(),
+        _ => None,
     }
 }
 
@@ -329,12 +376,11 @@ impl Replay {
 /// fails, which leaves the objects as they were when it was made: DELETE had dropped its own, and CREATE lists none.
 fn at_open_call(since: &[&str], answered: &[&str]) -> Option<Replay> {
     let (last, before) = since.split_last()?;
-    let ["datagram", time, _, datagram] = *words(last) else { return None };
-    let (time, datagram) = (number(time)?, bytes(datagram)?);
-    parse_message(&datagram).ok()?;
+    let HandedIn { time, bytes: datagram, day, minute } = handed_in(last)?;
+    parse_message(&datagram).ok().filter(|_| hours::is_minute(day, minute))?;
     let mut replay = Replay::new();
     // Neither prints to anyone here, nor changes anything.
-    let changing: Vec<&str> = before.iter().copied().filter(|line| asked(line).is_none() && *line != "dump").collect();
+    let changing: Vec<&str> = before.iter().copied().filter(|line| !asks(line) && *line != "dump").collect();
     replay.run(&changing);
     let agent = replay.agent.as_mut()?;
     let mut answers = answers(answered);

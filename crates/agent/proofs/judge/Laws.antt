@@ -19,6 +19,7 @@ use Rattle.agent.specs.declared.judge.Input.{Input}
 use Rattle.agent.specs.declared.judge.Judged.{Judged}
 use Rattle.agent.specs.declared.judge.Judged.the-variants.{Refused}
 use Rattle.agent.specs.declared.state.Agent.{Agent}
+use Rattle.agent.specs.declared.state.Given.{Given}
 use Rattle.agent.specs.declared.state.Pending.{Pending}
 
 -- an answer, by its three tests: the record and the limits, the rebuilt bytes, the datagram's length
@@ -38,9 +39,9 @@ pub turned-round : (b c : Bool) → not b ≡ c → not c ≡ b
 turned-round true c e = ap not (sym e)
 turned-round false c e = ap not (sym e)
 
-pub judged-whole : (sessions streams : List (List ℕ)) (objects : List Object) (held parts lengths rebuilt d : List ℕ) (a : Agent) (i : Input) (sample room : ℕ)
+pub judged-whole : (sessions streams : List (List ℕ)) (objects : List Object) (held parts lengths rebuilt hours d : List ℕ) (a : Agent) (i : Input) (given : Given) (sample room : ℕ)
     → let x = turnOf (a .waits) i in
-    judgedBy d rebuilt a (limitsOf sessions streams objects (length held) (length parts) lengths (length rebuilt) (a .«max_clients») (sessionOf d x) (streamOf d x)) x sample (slotOf x sessions streams (length held) sample) room
-    ≡ judgeOf (lent sessions streams objects held parts lengths rebuilt) d a i sample room
+    judgedBy hours d rebuilt a (limitsOf sessions streams objects (length held) (length parts) lengths (length rebuilt) (a .«max_clients») (sessionOf d x) (streamOf d x)) x given sample (slotOf x sessions streams (length held) sample) room
+    ≡ judgeOf (lent sessions streams objects held parts lengths rebuilt) hours d a i given sample room
 unfolding judgeOf
-judged-whole sessions streams objects held parts lengths rebuilt d a i sample room = refl
+judged-whole sessions streams objects held parts lengths rebuilt hours d a i given sample room = refl

@@ -3,6 +3,7 @@
 
 use wire::Datagram;
 use xrce_agent::lent::{self, AgentRecord, Lent, Tables, Told};
+use xrce_agent::{Given, Window, ALL_WEEK};
 
 pub const FILL: u8 = 0xA5;
 pub const FILL_NUMBER: u16 = 0xA5A5;
@@ -26,8 +27,8 @@ pub const DELETE_ENTITY: u64 = 7;
 /// For how many clients a fixture has stores of held messages and of fragments.
 pub const CLIENTS: u64 = 4;
 
-/// How many records of the agent, rows and records of each table, bytes and lengths of the stores, and rebuilt bytes
-/// are lent.
+/// How many records of the agent, rows and records of each table, bytes and lengths of the stores, rebuilt bytes and minutes of
+/// the week are lent.
 #[derive(Clone, Copy)]
 pub struct Short {
     pub agents: usize,
@@ -38,6 +39,7 @@ pub struct Short {
     pub parts: usize,
     pub lengths: usize,
     pub rebuilt: usize,
+    pub hours: usize,
 }
 
 pub const WHOLE: Short = Short {
@@ -49,6 +51,7 @@ pub const WHOLE: Short = Short {
     parts: lent::PARTS * CLIENTS as usize,
     lengths: lent::LENGTHS * CLIENTS as usize,
     rebuilt: lent::REBUILT,
+    hours: lent::HOURS,
 };
 
 /// The stores for that many clients.
@@ -120,23 +123,31 @@ impl Fixture {
             parts: &mut self.tables.parts[..short.parts],
             lengths: &mut self.tables.lengths[..short.lengths],
             rebuilt: &mut self.tables.rebuilt[..short.rebuilt],
+            hours: &mut self.tables.hours[..short.hours],
         };
         (&mut self.record.lend_mut()[..short.agents], tables, &mut self.out)
     }
 
+    /// Without quiet hours.
     pub fn setup(&mut self, short: Short, max_clients: u64, timeout_ms: u64) -> u64 {
+        self.setup_windows(short, &ALL_WEEK, max_clients, timeout_ms)
+    }
+
+    pub fn setup_windows(&mut self, short: Short, windows: &[Window], max_clients: u64, timeout_ms: u64) -> u64 {
         self.refused_changes_nothing(|fixture| {
             let (record, tables, _) = fixture.lend(short);
-            lent::setup(record, tables, max_clients, timeout_ms)
+            lent::setup(record, tables, windows, max_clients, timeout_ms)
         })
     }
 
     pub fn process(&mut self, short: Short, told: Told<'_>) -> u64 {
         self.out.fill(FILL);
+        let hours = self.tables.hours.clone();
         let answer = self.refused_changes_nothing(|fixture| {
             let (record, tables, out) = fixture.lend(short);
             lent::process(record, tables, out, told)
         });
+        assert!(self.tables.hours == hours, "a datagram or an answer changed the week's minutes");
         let wrote = if answer == 0 { self.record.wrote as usize } else { 0 };
         assert!(self.out[wrote..].iter().all(|byte| *byte == FILL), "bytes behind the replies changed");
         if answer == 0 {
@@ -145,15 +156,25 @@ impl Fixture {
         answer
     }
 
-    /// A datagram at 100 ms.
+    /// A datagram at 100 ms, in the first minute of the week.
     pub fn datagram(&mut self, datagram: &[u8]) -> u64 {
-        self.process(WHOLE, Told { datagram, time_ms: 100, ..Told::default() })
+        self.datagram_in(datagram, 0, 0)
+    }
+
+    /// One in that minute.
+    pub fn datagram_in(&mut self, datagram: &[u8], day: u8, minute: u16) -> u64 {
+        self.process(WHOLE, Told { datagram, given: Given { time_ms: 100, day, minute }, ..Told::default() })
     }
 
     /// An answer, with the open call's datagram lent again.
     pub fn answer(&mut self, input: u8, handle: u32, sample: &[u8]) -> u64 {
+        self.answer_given(WHOLE, Given::default(), input, handle, sample)
+    }
+
+    /// The same with a time, weekday and minute, at which nobody looks.
+    pub fn answer_given(&mut self, short: Short, given: Given, input: u8, handle: u32, sample: &[u8]) -> u64 {
         let datagram = self.kept.clone();
-        self.process(WHOLE, Told { input, handle, sample, datagram: &datagram, time_ms: 0 })
+        self.process(short, Told { input, handle, sample, datagram: &datagram, given })
     }
 
     pub fn remove(&mut self, short: Short, id: u8) -> u64 {
@@ -186,6 +207,18 @@ impl Fixture {
         } else {
             Err(answer)
         }
+    }
+
+    /// The first open minute at or after one, or the refusal.
+    pub fn first_open(&mut self, short: Short, day: u8, minute: u16) -> Result<Option<(u64, u64)>, u64> {
+        let before = self.clone();
+        let (_, tables, _) = self.lend(short);
+        let answer = lent::first_open(tables.hours, day, minute);
+        assert!(*self == before, "a question changed something");
+        if !answer.is_multiple_of(256) {
+            return Err(answer);
+        }
+        Ok((answer / 65_536).checked_sub(1).map(|place| (place / 1440, place % 1440)))
     }
 
     // "a refused call changes no byte of what was lent to it"

@@ -5,7 +5,7 @@ use std::collections::VecDeque;
 use std::ffi::OsStr;
 use std::net::UdpSocket;
 use std::process::{Command, Output};
-use xrce_agent::{replies, Agent, Bridge, Failed, Handle};
+use xrce_agent::{replies, Agent, Bridge, Failed, Given, Handle, ALL_WEEK};
 
 /// One queue for whoever writes and reads.
 #[derive(Default)]
@@ -62,12 +62,12 @@ pub fn behind(
     let socket = UdpSocket::bind("127.0.0.1:0").unwrap();
     let address = socket.local_addr().unwrap().to_string();
     std::thread::spawn(move || {
-        let (mut agent, mut bridge) = (Agent::new(8, 60_000).unwrap(), Queue::default());
+        let (mut agent, mut bridge) = (Agent::new(8, 60_000, &ALL_WEEK).unwrap(), Queue::default());
         let (mut inbox, mut out, mut count) = (vec![0; 65_536], Vec::new(), 0);
         loop {
             let (len, from) = socket.recv_from(&mut inbox).unwrap();
             for datagram in way(&inbox[..len]) {
-                agent.serve(&datagram, 0, &mut out, &mut bridge).unwrap();
+                agent.serve(&datagram, Given::at(0), &mut out, &mut bridge).unwrap();
                 for reply in replies(&out) {
                     count += 1;
                     if let Some(reply) = change(count, reply) {

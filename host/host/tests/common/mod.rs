@@ -5,9 +5,13 @@ use std::io::{BufRead, BufReader, Read};
 use std::net::UdpSocket;
 use std::process::{Child, Command, Stdio};
 use std::time::Duration;
-use wire::{Body, Datagram, Reply};
+use wire::{strings, Body, Datagram, Reply};
 
 pub const HOST: &str = env!("CARGO_BIN_EXE_host");
+
+/// Objects of `creates_all`.
+pub const WRITER: u16 = 3;
+pub const READER: u16 = 4;
 
 pub struct Running {
     pub child: Child,
@@ -64,5 +68,18 @@ pub fn open(client: &UdpSocket) -> (u8, u8) {
     match Reply::read(&ask(client, Datagram::new(0, 0).create_client([1; 4]))).unwrap() {
         Reply { session, body: Body::Status { object: 0, code }, .. } => (session, code),
         other => panic!("{other:?}"),
+    }
+}
+
+/// A participant, a topic of that name, a writer and a reader of it.
+pub fn creates_all(client: &UdpSocket, session: u8, topic: &[u8]) {
+    for (object, kind, parent, text) in [
+        (1, wire::PARTICIPANT, 0, vec![]),
+        (2, wire::TOPIC, 1, strings(topic, b"t")),
+        (WRITER, wire::DATA_WRITER, 2, vec![]),
+        (READER, wire::DATA_READER, 2, vec![]),
+    ] {
+        let reply = ask(client, Datagram::new(session, 0).create(object, kind, parent, &text));
+        assert_eq!(reply, Datagram::new(session, 0).status(object, wire::OK).bytes());
     }
 }

@@ -52,12 +52,14 @@ use Rattle.walk.proofs.Steps.{past, one, yes-of, no-of, in-block, arm-of, holds
 use borrow.Rule.Slice.PartMut.{midOf, putMid}
 use Rattle.walk.proofs.Parts.{part-len, lends-part, backs-part, parts-shr}
 use Rattle.walk.proofs.Arrays.{rep-is, lends-array, backs-array}
-use Rattle.sessions.specs.Setup.{setUpOf}
+use mathlib.Core.Bool.{cond}
+use Rattle.hours.specs.Windows.{windowsOf}
+use Rattle.hours.specs.Week.{keptHours, firstOpenOf}
+use Rattle.sessions.specs.Setup.{leaves}
 use Rattle.sessions.specs.Calls.{setUpTables}
 use Rattle.sessions.specs.ObjectList.{listOf, listOut}
 use Rattle.agent.specs.Lent.{lent}
-use Rattle.agent.specs.Host.{setUpAs, incomingOf, answerOf, idleOf, removedAs, removedBy, removedRows, sweptBy, sweptRows, sweptOut}
-use mathlib.Core.Bool.{cond}
+use Rattle.agent.specs.Host.{setUpJudged, setUpAs, incomingOf, answerOf, idleOf, removedAs, removedBy, removedRows, sweptBy, sweptRows, sweptOut}
 use lib.ListN.{take, drop as drop-of-object-list-list-objects}
 use Rattle.codec.specs.Bytes.{putAt, putBytes}
 use Rattle.sessions.specs.View.{listed}
@@ -75,7 +77,7 @@ use Rattle.sessions.specs.declared.object_list.Listed.the-variants.{Numbers as 
 use Rattle.codec.specs.declared.refusals.Refusal.{Refusal}
 use Rattle.codec.proofs.refusals.Refusal as Refusal-t
 use Rattle.codec.proofs.refusals.Refusal.Laws as Refusal-l
-use Rattle.codec.specs.declared.refusals.Refusal.the-variants.{BufferTooShort as Refusal-BufferTooShort, UnknownSubmessageId as Refusal-UnknownSubmessageId, UnknownObjectKind as Refusal-UnknownObjectKind, UnknownStatusCode as Refusal-UnknownStatusCode, PayloadLengthMismatch as Refusal-PayloadLengthMismatch, SessionFull as Refusal-SessionFull, FragmentSizeZero as Refusal-FragmentSizeZero, EmptyPayload as Refusal-EmptyPayload, TooManyFragments as Refusal-TooManyFragments, FragmentNumber as Refusal-FragmentNumber, MissingFragments as Refusal-MissingFragments, TooLong as Refusal-TooLong, OutputTooShort as Refusal-OutputTooShort, StoreFull as Refusal-StoreFull, OutOfTurn as Refusal-OutOfTurn, OverLimit as Refusal-OverLimit, NotInFragments as Refusal-NotInFragments, IllFormed as Refusal-IllFormed}
+use Rattle.codec.specs.declared.refusals.Refusal.the-variants.{BufferTooShort as Refusal-BufferTooShort, UnknownSubmessageId as Refusal-UnknownSubmessageId, UnknownObjectKind as Refusal-UnknownObjectKind, UnknownStatusCode as Refusal-UnknownStatusCode, PayloadLengthMismatch as Refusal-PayloadLengthMismatch, SessionFull as Refusal-SessionFull, FragmentSizeZero as Refusal-FragmentSizeZero, EmptyPayload as Refusal-EmptyPayload, TooManyFragments as Refusal-TooManyFragments, FragmentNumber as Refusal-FragmentNumber, MissingFragments as Refusal-MissingFragments, TooLong as Refusal-TooLong, OutputTooShort as Refusal-OutputTooShort, StoreFull as Refusal-StoreFull, OutOfTurn as Refusal-OutOfTurn, OverLimit as Refusal-OverLimit, NotInFragments as Refusal-NotInFragments, IllFormed as Refusal-IllFormed, WindowFault as Refusal-WindowFault, NoSuchMinute as Refusal-NoSuchMinute}
 use Rattle.sessions.proofs.object_list.list_objects as object-list-list-objects
 use Rattle.sessions.proofs.object_list.list_objects.Symbol as object-list-list-objects-def
 use Rattle.sessions.proofs.object_list.list_objects.Symbol.{name as #object-list-list-objects}

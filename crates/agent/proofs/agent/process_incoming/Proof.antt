@@ -52,11 +52,14 @@ use Rattle.walk.proofs.Steps.{past, one, yes-of, no-of, in-block, arm-of, holds
 use borrow.Rule.Slice.PartMut.{midOf, putMid}
 use Rattle.walk.proofs.Parts.{part-len, lends-part, backs-part, parts-shr}
 use Rattle.walk.proofs.Arrays.{rep-is, lends-array, backs-array}
-use Rattle.sessions.specs.Setup.{setUpOf}
+use mathlib.Core.Bool.{cond}
+use Rattle.hours.specs.Windows.{windowsOf}
+use Rattle.hours.specs.Week.{keptHours, firstOpenOf}
+use Rattle.sessions.specs.Setup.{leaves}
 use Rattle.sessions.specs.Calls.{setUpTables}
 use Rattle.sessions.specs.ObjectList.{listOf, listOut}
 use Rattle.agent.specs.Lent.{lent}
-use Rattle.agent.specs.Host.{setUpAs, incomingOf, answerOf, idleOf, removedAs, removedBy, removedRows, sweptBy, sweptRows, sweptOut}
+use Rattle.agent.specs.Host.{setUpJudged, setUpAs, incomingOf, answerOf, idleOf, removedAs, removedBy, removedRows, sweptBy, sweptRows, sweptOut}
 use Rattle.agent.specs.Host.{outcomeOf, waitsOf, finishedOf, refusedOf, bounded, roomy, unbound, neededOf, resumesFit, performed, finish, processOf}
 use denote.Plain.{uint-lawful}
 use Rattle.agent.proofs.agent.Laws.{any-sample}
@@ -81,9 +84,12 @@ use Rattle.moves.specs.declared.proxy.Task.{Task}
 use Rattle.moves.proofs.proxy.Task as Task-t
 use Rattle.moves.proofs.proxy.Task.Laws as Task-l
 use Rattle.moves.specs.declared.proxy.Task.the-variants.{Creating as Task-Creating, Writing as Task-Writing, Reading as Task-Reading, Deleting as Task-Deleting}
-use Rattle.agent.specs.declared.agent.Given.{Given as Given′}
-use Rattle.agent.proofs.agent.Given as Given′-t
-use Rattle.agent.proofs.agent.Given.Laws as Given′-l
+use Rattle.agent.specs.declared.state.Moment.{Moment}
+use Rattle.agent.proofs.state.Moment as Moment-t
+use Rattle.agent.proofs.state.Moment.Laws as Moment-l
+use Rattle.agent.specs.declared.state.Given.{Given as Given′}
+use Rattle.agent.proofs.state.Given as Given′-t
+use Rattle.agent.proofs.state.Given.Laws as Given′-l
 use Rattle.agent.specs.declared.process.Processed.{Processed}
 use Rattle.agent.proofs.process.Processed as Processed-t
 use Rattle.agent.proofs.process.Processed.Laws as Processed-l
@@ -104,7 +110,7 @@ use Rattle.codec.proofs.layouts.Span.Laws as Span-l
 use Rattle.codec.specs.declared.refusals.Refusal.{Refusal}
 use Rattle.codec.proofs.refusals.Refusal as Refusal-t
 use Rattle.codec.proofs.refusals.Refusal.Laws as Refusal-l
-use Rattle.codec.specs.declared.refusals.Refusal.the-variants.{BufferTooShort as Refusal-BufferTooShort, UnknownSubmessageId as Refusal-UnknownSubmessageId, UnknownObjectKind as Refusal-UnknownObjectKind, UnknownStatusCode as Refusal-UnknownStatusCode, PayloadLengthMismatch as Refusal-PayloadLengthMismatch, SessionFull as Refusal-SessionFull, FragmentSizeZero as Refusal-FragmentSizeZero, EmptyPayload as Refusal-EmptyPayload, TooManyFragments as Refusal-TooManyFragments, FragmentNumber as Refusal-FragmentNumber, MissingFragments as Refusal-MissingFragments, TooLong as Refusal-TooLong, OutputTooShort as Refusal-OutputTooShort, StoreFull as Refusal-StoreFull, OutOfTurn as Refusal-OutOfTurn, OverLimit as Refusal-OverLimit, NotInFragments as Refusal-NotInFragments, IllFormed as Refusal-IllFormed}
+use Rattle.codec.specs.declared.refusals.Refusal.the-variants.{BufferTooShort as Refusal-BufferTooShort, UnknownSubmessageId as Refusal-UnknownSubmessageId, UnknownObjectKind as Refusal-UnknownObjectKind, UnknownStatusCode as Refusal-UnknownStatusCode, PayloadLengthMismatch as Refusal-PayloadLengthMismatch, SessionFull as Refusal-SessionFull, FragmentSizeZero as Refusal-FragmentSizeZero, EmptyPayload as Refusal-EmptyPayload, TooManyFragments as Refusal-TooManyFragments, FragmentNumber as Refusal-FragmentNumber, MissingFragments as Refusal-MissingFragments, TooLong as Refusal-TooLong, OutputTooShort as Refusal-OutputTooShort, StoreFull as Refusal-StoreFull, OutOfTurn as Refusal-OutOfTurn, OverLimit as Refusal-OverLimit, NotInFragments as Refusal-NotInFragments, IllFormed as Refusal-IllFormed, WindowFault as Refusal-WindowFault, NoSuchMinute as Refusal-NoSuchMinute}
 use Rattle.agent.specs.declared.judge.Input.{Input}
 use Rattle.agent.proofs.judge.Input as Input-t
 use Rattle.agent.proofs.judge.Input.Laws as Input-l
@@ -144,8 +150,8 @@ Agent-p = record { row = Agent-t.the-row; val = LL.val Agent-t.the-type Agent-l.
 abbrev Waiting-p : Plain
 Waiting-p = record { row = Waiting-t.the-row; val = EL.val Waiting-t.the-type Waiting-l.the-laws; tells = EL.tells Waiting-t.the-type Waiting-l.the-laws; makes = λ 𝓤 H A W. EL.makes Waiting-t.the-type Waiting-l.the-plain 𝓤 H A; ty = Waiting-l.mir; typed = λ 𝓤 H A W x is. EL.lawful Waiting-t.the-type Waiting-l.the-laws 𝓤 H A W tt .typed x _ is .0; copies = λ 𝓤 H A W. EL.copy Waiting-t.the-type Waiting-l.the-copy 𝓤 H A W }
 
-abbrev Pending-of : ℕ → ℕ → ObjectNumber → Task → ℕ → ℕ → ℕ → ℕ → Pending
-Pending-of x0 x1 x2 x3 x4 x5 x6 x7 = record { «session_id» = x0; «stream_id» = x1; number = x2; task = x3; at = x4; time = x5; «left_at» = x6; «left_end» = x7 }
+abbrev Pending-of : ℕ → ℕ → ObjectNumber → Task → ℕ → Moment → ℕ → ℕ → Pending
+Pending-of x0 x1 x2 x3 x4 x5 x6 x7 = record { «session_id» = x0; «stream_id» = x1; number = x2; task = x3; at = x4; moment = x5; «left_at» = x6; «left_end» = x7 }
 
 abbrev Pending-p : Plain
 Pending-p = record { row = Pending-t.the-row; val = LL.val Pending-t.the-type Pending-l.the-laws; tells = LL.tells Pending-t.the-type Pending-l.the-laws; makes = λ 𝓤 H A W. LL.makes Pending-t.the-type Pending-l.the-plain 𝓤 H A; ty = Pending-l.mir; typed = λ 𝓤 H A W x is. LL.lawful Pending-t.the-type Pending-l.the-laws 𝓤 H A W .typed x _ is .0; copies = λ 𝓤 H A W. LL.copy Pending-t.the-type Pending-l.the-copy 𝓤 H A W }
@@ -153,8 +159,14 @@ Pending-p = record { row = Pending-t.the-row; val = LL.val Pending-t.the-type Pe
 abbrev Task-p : Plain
 Task-p = record { row = Task-t.the-row; val = EL.val Task-t.the-type Task-l.the-laws; tells = EL.tells Task-t.the-type Task-l.the-laws; makes = λ 𝓤 H A W. EL.makes Task-t.the-type Task-l.the-plain 𝓤 H A; ty = Task-l.mir; typed = λ 𝓤 H A W x is. EL.lawful Task-t.the-type Task-l.the-laws 𝓤 H A W tt .typed x _ is .0; copies = λ 𝓤 H A W. EL.copy Task-t.the-type Task-l.the-copy 𝓤 H A W }
 
-abbrev Given′-of : ℕ → Given′
-Given′-of x0 = record { time = x0 }
+abbrev Moment-of : ℕ → Bool → Moment
+Moment-of x0 x1 = record { time = x0; «is_open» = x1 }
+
+abbrev Moment-p : Plain
+Moment-p = record { row = Moment-t.the-row; val = LL.val Moment-t.the-type Moment-l.the-laws; tells = LL.tells Moment-t.the-type Moment-l.the-laws; makes = λ 𝓤 H A W. LL.makes Moment-t.the-type Moment-l.the-plain 𝓤 H A; ty = Moment-l.mir; typed = λ 𝓤 H A W x is. LL.lawful Moment-t.the-type Moment-l.the-laws 𝓤 H A W .typed x _ is .0; copies = λ 𝓤 H A W. LL.copy Moment-t.the-type Moment-l.the-copy 𝓤 H A W }
+
+abbrev Given′-of : ℕ → ℕ → ℕ → Given′
+Given′-of x0 x1 x2 = record { time = x0; day = x1; minute = x2 }
 
 abbrev Given′-p : Plain
 Given′-p = record { row = Given′-t.the-row; val = LL.val Given′-t.the-type Given′-l.the-laws; tells = LL.tells Given′-t.the-type Given′-l.the-laws; makes = λ 𝓤 H A W. LL.makes Given′-t.the-type Given′-l.the-plain 𝓤 H A; ty = Given′-l.mir; typed = λ 𝓤 H A W x is. LL.lawful Given′-t.the-type Given′-l.the-laws 𝓤 H A W .typed x _ is .0; copies = λ 𝓤 H A W. LL.copy Given′-t.the-type Given′-l.the-copy 𝓤 H A W }
@@ -193,14 +205,14 @@ abbrev BridgeAnswer-p : Plain
 BridgeAnswer-p = record { row = BridgeAnswer-t.the-row; val = EL.val BridgeAnswer-t.the-type BridgeAnswer-l.the-laws; tells = EL.tells BridgeAnswer-t.the-type BridgeAnswer-l.the-laws; makes = λ 𝓤 H A W. EL.makes BridgeAnswer-t.the-type BridgeAnswer-l.the-plain 𝓤 H A; ty = BridgeAnswer-l.mir; typed = λ 𝓤 H A W x is. EL.lawful BridgeAnswer-t.the-type BridgeAnswer-l.the-laws 𝓤 H A W tt .typed x _ is .0; copies = λ 𝓤 H A W. EL.copy BridgeAnswer-t.the-type BridgeAnswer-l.the-copy 𝓤 H A W }
 
 abbrev stayed : Stays (f.ended .signature .params) (f.ended .kept)
-stayed = (stay-slice (0 ∷ []) tt (plain (λ _. (Array u64 8))), (stay-slice (1 ∷ []) tt (plain (λ _. (Array u16 35))), (stay-slice (2 ∷ []) tt (plain (λ _. Object-t.the-row)), (stay-slice (3 ∷ []) tt (plain (λ _. u8)), (stay-slice (4 ∷ []) tt (plain (λ _. u8)), (stay-slice (5 ∷ []) tt (plain (λ _. u32)), (stay-slice (6 ∷ []) tt (plain (λ _. u8)), (stay-slice (7 ∷ []) tt (plain (λ _. u8)), (stay-none-slice (8 ∷ []) tt (plain (λ _. u8)) yes, (stay-none (λ _. Agent-p .row) yes, (stay-none (λ _. Given′-p .row) yes, tt)))))))))))
+stayed = (stay-slice (0 ∷ []) tt (plain (λ _. (Array u64 8))), (stay-slice (1 ∷ []) tt (plain (λ _. (Array u16 35))), (stay-slice (2 ∷ []) tt (plain (λ _. Object-t.the-row)), (stay-slice (3 ∷ []) tt (plain (λ _. u8)), (stay-slice (4 ∷ []) tt (plain (λ _. u8)), (stay-slice (5 ∷ []) tt (plain (λ _. u32)), (stay-slice (6 ∷ []) tt (plain (λ _. u8)), (stay-none-slice (7 ∷ []) tt (plain (λ _. u8)) yes, (stay-slice (8 ∷ []) tt (plain (λ _. u8)), (stay-none-slice (9 ∷ []) tt (plain (λ _. u8)) yes, (stay-none (λ _. Agent-p .row) yes, (stay-none (λ _. Given′-p .row) yes, tt))))))))))))
 
 module _ {M : Type 1} (𝓤 : URA M) (H : Heap 𝓤) (A : Atoms 𝓤) (mem : Memory → SProp 𝓤) (run : Routine → Fun 𝓤) where
   abbrev Of-process-process : Contract 𝓤
   Of-process-process = tripleOf 𝓤 H A process-process.signature (process-process.spec 𝓤 H A mem run)
 
-module _ {M : Type 1} (𝓤 : URA M) (H : Heap 𝓤) (A : Atoms 𝓤) (W : Given 𝓤 H A) (mem : Memory → SProp 𝓤) (run : Routine → Fun 𝓤) (κ₁ : Lft) (q₁ : Share) (b₁ o₁ : ℕ) (γ₁ : GName) (sessions : List (List ℕ)) (κ₂ : Lft) (q₂ : Share) (b₂ o₂ : ℕ) (γ₂ : GName) (streams : List (List ℕ)) (κ₃ : Lft) (q₃ : Share) (b₃ o₃ : ℕ) (γ₃ : GName) (objects : List Object) (κ₄ : Lft) (q₄ : Share) (b₄ o₄ : ℕ) (γ₄ : GName) (held : List ℕ) (κ₅ : Lft) (q₅ : Share) (b₅ o₅ : ℕ) (γ₅ : GName) (parts : List ℕ) (κ₆ : Lft) (q₆ : Share) (b₆ o₆ : ℕ) (γ₆ : GName) (lengths : List ℕ) (κ₇ : Lft) (q₇ : Share) (b₇ o₇ : ℕ) (γ₇ : GName) (rebuilt : List ℕ) (κ₈ : Lft) (q₈ : Share) (b₈ o₈ : ℕ) (γ₈ : GName) (out : List ℕ) (κ₉ : Lft) (q₉ : Share) (b₉ o₉ : ℕ) (γ₉ : GName) (datagram : List ℕ) (agent : Agent) (given : Given′)
-    (room₁ : Room (Array u64 8) (length sessions)) (room₂ : Room (Array u16 35) (length streams)) (room₃ : Room Object-t.the-row (length objects)) (room₄ : Room u8 (length held)) (room₅ : Room u8 (length parts)) (room₆ : Room u32 (length lengths)) (room₇ : Room u8 (length rebuilt)) (room₈ : Room u8 (length out)) (room₉ : Room u8 (length datagram)) (agent-is : Is (Agent-p .row) agent (Agent-p .val agent ∷ [])) (given-is : Is (Given′-p .row) given (Given′-p .val given ∷ [])) where
+module _ {M : Type 1} (𝓤 : URA M) (H : Heap 𝓤) (A : Atoms 𝓤) (W : Given 𝓤 H A) (mem : Memory → SProp 𝓤) (run : Routine → Fun 𝓤) (κ₁ : Lft) (q₁ : Share) (b₁ o₁ : ℕ) (γ₁ : GName) (sessions : List (List ℕ)) (κ₂ : Lft) (q₂ : Share) (b₂ o₂ : ℕ) (γ₂ : GName) (streams : List (List ℕ)) (κ₃ : Lft) (q₃ : Share) (b₃ o₃ : ℕ) (γ₃ : GName) (objects : List Object) (κ₄ : Lft) (q₄ : Share) (b₄ o₄ : ℕ) (γ₄ : GName) (held : List ℕ) (κ₅ : Lft) (q₅ : Share) (b₅ o₅ : ℕ) (γ₅ : GName) (parts : List ℕ) (κ₆ : Lft) (q₆ : Share) (b₆ o₆ : ℕ) (γ₆ : GName) (lengths : List ℕ) (κ₇ : Lft) (q₇ : Share) (b₇ o₇ : ℕ) (γ₇ : GName) (rebuilt : List ℕ) (κ₈ : Lft) (q₈ : Share) (b₈ o₈ : ℕ) (γ₈ : GName) (hours : List ℕ) (κ₉ : Lft) (q₉ : Share) (b₉ o₉ : ℕ) (γ₉ : GName) (out : List ℕ) (κ₁₀ : Lft) (q₁₀ : Share) (b₁₀ o₁₀ : ℕ) (γ₁₀ : GName) (datagram : List ℕ) (agent : Agent) (given : Given′)
+    (room₁ : Room (Array u64 8) (length sessions)) (room₂ : Room (Array u16 35) (length streams)) (room₃ : Room Object-t.the-row (length objects)) (room₄ : Room u8 (length held)) (room₅ : Room u8 (length parts)) (room₆ : Room u32 (length lengths)) (room₇ : Room u8 (length rebuilt)) (room₈ : Room u8 (length hours)) (room₉ : Room u8 (length out)) (room₁₀ : Room u8 (length datagram)) (agent-is : Is (Agent-p .row) agent (Agent-p .val agent ∷ [])) (given-is : Is (Given′-p .row) given (Given′-p .val given ∷ [])) where
   abbrev n₁ : ℕ
   n₁ = length sessions
 
@@ -223,31 +235,34 @@ module _ {M : Type 1} (𝓤 : URA M) (H : Heap 𝓤) (A : Atoms 𝓤) (W : Given
   n₇ = length rebuilt
 
   abbrev n₈ : ℕ
-  n₈ = length out
+  n₈ = length hours
 
   abbrev n₉ : ℕ
-  n₉ = length datagram
+  n₉ = length out
 
-  abbrev x : RefT (List (List ℕ)) × (RefT (List (List ℕ)) × (RefT (List Object) × (RefT (List ℕ) × (RefT (List ℕ) × (RefT (List ℕ) × (RefT (List ℕ) × (RefT (List ℕ) × (RefT (List ℕ) × (Agent-p .row .Denot × (Given′-p .row .Denot × (Unit {0})))))))))))
-  x = (at-list b₁ o₁ γ₁ sessions, (at-list b₂ o₂ γ₂ streams, (at-list b₃ o₃ γ₃ objects, (at-list b₄ o₄ γ₄ held, (at-list b₅ o₅ γ₅ parts, (at-list b₆ o₆ γ₆ lengths, (at-list b₇ o₇ γ₇ rebuilt, (at-list b₈ o₈ γ₈ out, (at-list b₉ o₉ γ₉ datagram, (agent, (given, tt)))))))))))
+  abbrev n₁₀ : ℕ
+  n₁₀ = length datagram
 
-  abbrev at : Vals f.signature (κ₁, (κ₂, (κ₃, (κ₄, (κ₅, (κ₆, (κ₇, (κ₈, (κ₉, tt)))))))))
-  at = (sliceVal (b₁, o₁) n₁ ∷ [], (sliceVal (b₂, o₂) n₂ ∷ [], (sliceVal (b₃, o₃) n₃ ∷ [], (sliceVal (b₄, o₄) n₄ ∷ [], (sliceVal (b₅, o₅) n₅ ∷ [], (sliceVal (b₆, o₆) n₆ ∷ [], (sliceVal (b₇, o₇) n₇ ∷ [], (sliceVal (b₈, o₈) n₈ ∷ [], (sliceVal (b₉, o₉) n₉ ∷ [], (Agent-p .val agent ∷ [], (Given′-p .val given ∷ [], tt)))))))))))
+  abbrev x : RefT (List (List ℕ)) × (RefT (List (List ℕ)) × (RefT (List Object) × (RefT (List ℕ) × (RefT (List ℕ) × (RefT (List ℕ) × (RefT (List ℕ) × (RefT (List ℕ) × (RefT (List ℕ) × (RefT (List ℕ) × (Agent-p .row .Denot × (Given′-p .row .Denot × (Unit {0}))))))))))))
+  x = (at-list b₁ o₁ γ₁ sessions, (at-list b₂ o₂ γ₂ streams, (at-list b₃ o₃ γ₃ objects, (at-list b₄ o₄ γ₄ held, (at-list b₅ o₅ γ₅ parts, (at-list b₆ o₆ γ₆ lengths, (at-list b₇ o₇ γ₇ rebuilt, (at-list b₈ o₈ γ₈ hours, (at-list b₉ o₉ γ₉ out, (at-list b₁₀ o₁₀ γ₁₀ datagram, (agent, (given, tt))))))))))))
+
+  abbrev at : Vals f.signature (κ₁, (κ₂, (κ₃, (κ₄, (κ₅, (κ₆, (κ₇, (κ₈, (κ₉, (κ₁₀, tt))))))))))
+  at = (sliceVal (b₁, o₁) n₁ ∷ [], (sliceVal (b₂, o₂) n₂ ∷ [], (sliceVal (b₃, o₃) n₃ ∷ [], (sliceVal (b₄, o₄) n₄ ∷ [], (sliceVal (b₅, o₅) n₅ ∷ [], (sliceVal (b₆, o₆) n₆ ∷ [], (sliceVal (b₇, o₇) n₇ ∷ [], (sliceVal (b₈, o₈) n₈ ∷ [], (sliceVal (b₉, o₉) n₉ ∷ [], (sliceVal (b₁₀, o₁₀) n₁₀ ∷ [], (Agent-p .val agent ∷ [], (Given′-p .val given ∷ [], tt))))))))))))
 
   abbrev Post : Val → SProp 𝓤
-  Post = walkOf 𝓤 H A f.ended stayed (f.clauses 𝓤 H A mem run) .post (((κ₁, (κ₂, (κ₃, (κ₄, (κ₅, (κ₆, (κ₇, (κ₈, (κ₉, tt))))))))), (q₁, (q₂, (q₃, (q₄, (q₅, (q₆, (q₇, (q₈, (q₉, tt))))))))), tt, x, at), tt)
+  Post = walkOf 𝓤 H A f.ended stayed (f.clauses 𝓤 H A mem run) .post (((κ₁, (κ₂, (κ₃, (κ₄, (κ₅, (κ₆, (κ₇, (κ₈, (κ₉, (κ₁₀, tt)))))))))), (q₁, (q₂, (q₃, (q₄, (q₅, (q₆, (q₇, (q₈, (q₉, (q₁₀, tt)))))))))), tt, x, at), tt)
 
-  exits : (r : Processed) (ws₁ : List (List ℕ)) (ws₂ : List (List ℕ)) (ws₃ : List Object) (ws₄ : List ℕ) (ws₅ : List ℕ) (ws₆ : List ℕ) (ws₇ : List ℕ) (ws₈ : List ℕ) → ((r ≡ incomingOf agent (lent (sessions) (streams) (objects) (held) (parts) (lengths) (rebuilt)) (out) (datagram) (given .time) .processed) × (ws₁ ≡ incomingOf agent (lent (sessions) (streams) (objects) (held) (parts) (lengths) (rebuilt)) (out) (datagram) (given .time) .tables .sessions) × (ws₂ ≡ incomingOf agent (lent (sessions) (streams) (objects) (held) (parts) (lengths) (rebuilt)) (out) (datagram) (given .time) .tables .streams) × (ws₃ ≡ incomingOf agent (lent (sessions) (streams) (objects) (held) (parts) (lengths) (rebuilt)) (out) (datagram) (given .time) .tables .objects) × (ws₄ ≡ incomingOf agent (lent (sessions) (streams) (objects) (held) (parts) (lengths) (rebuilt)) (out) (datagram) (given .time) .tables .held) × (ws₅ ≡ incomingOf agent (lent (sessions) (streams) (objects) (held) (parts) (lengths) (rebuilt)) (out) (datagram) (given .time) .tables .parts) × (ws₆ ≡ incomingOf agent (lent (sessions) (streams) (objects) (held) (parts) (lengths) (rebuilt)) (out) (datagram) (given .time) .tables .lengths) × (ws₇ ≡ incomingOf agent (lent (sessions) (streams) (objects) (held) (parts) (lengths) (rebuilt)) (out) (datagram) (given .time) .tables .rebuilt) × (ws₈ ≡ incomingOf agent (lent (sessions) (streams) (objects) (held) (parts) (lengths) (rebuilt)) (out) (datagram) (given .time) .out)) → Is (Processed-p .row) r (Processed-p .val r ∷ []) → length ws₁ ≡ n₁ → length ws₂ ≡ n₂ → length ws₃ ≡ n₃ → length ws₄ ≡ n₄ → length ws₅ ≡ n₅ → length ws₆ ≡ n₆ → length ws₇ ≡ n₇ → length ws₈ ≡ n₈ → ent 𝓤 (⋆ 𝓤 H A (‵ (MutSlice (named 0) κ₁ (Array u64 8) .own (at-list b₁ o₁ γ₁ ws₁) (sliceVal (b₁, o₁) n₁ ∷ [])) ∷ ‵ (flft κ₁ q₁) ∷ ‵ (MutSlice (named 1) κ₂ (Array u16 35) .own (at-list b₂ o₂ γ₂ ws₂) (sliceVal (b₂, o₂) n₂ ∷ [])) ∷ ‵ (flft κ₂ q₂) ∷ ‵ (MutSlice (named 2) κ₃ Object-t.the-row .own (at-list b₃ o₃ γ₃ ws₃) (sliceVal (b₃, o₃) n₃ ∷ [])) ∷ ‵ (flft κ₃ q₃) ∷ ‵ (MutSlice (named 3) κ₄ u8 .own (at-list b₄ o₄ γ₄ ws₄) (sliceVal (b₄, o₄) n₄ ∷ [])) ∷ ‵ (flft κ₄ q₄) ∷ ‵ (MutSlice (named 4) κ₅ u8 .own (at-list b₅ o₅ γ₅ ws₅) (sliceVal (b₅, o₅) n₅ ∷ [])) ∷ ‵ (flft κ₅ q₅) ∷ ‵ (MutSlice (named 5) κ₆ u32 .own (at-list b₆ o₆ γ₆ ws₆) (sliceVal (b₆, o₆) n₆ ∷ [])) ∷ ‵ (flft κ₆ q₆) ∷ ‵ (MutSlice (named 6) κ₇ u8 .own (at-list b₇ o₇ γ₇ ws₇) (sliceVal (b₇, o₇) n₇ ∷ [])) ∷ ‵ (flft κ₇ q₇) ∷ ‵ (MutSlice (named 7) κ₈ u8 .own (at-list b₈ o₈ γ₈ ws₈) (sliceVal (b₈, o₈) n₈ ∷ [])) ∷ ‵ (flft κ₈ q₈) ∷ ‵ (ShrSlice (named 8) κ₉ u8 .own (at-list b₉ o₉ γ₉ datagram) (sliceVal (b₉, o₉) n₉ ∷ [])) ∷ ‵ (flft κ₉ q₉) ∷ [])) (Post (Processed-p .val r))
-  exits r ws₁ ws₂ ws₃ ws₄ ws₅ ws₆ ws₇ ws₈ said r-is len₁ len₂ len₃ len₄ len₅ len₆ len₇ len₈ =
-      qed W (‵ (MutSlice (named 0) κ₁ (Array u64 8) .own (at-list b₁ o₁ γ₁ ws₁) (sliceVal (b₁, o₁) n₁ ∷ [])) ∷ ‵ (flft κ₁ q₁) ∷ ‵ (MutSlice (named 1) κ₂ (Array u16 35) .own (at-list b₂ o₂ γ₂ ws₂) (sliceVal (b₂, o₂) n₂ ∷ [])) ∷ ‵ (flft κ₂ q₂) ∷ ‵ (MutSlice (named 2) κ₃ Object-t.the-row .own (at-list b₃ o₃ γ₃ ws₃) (sliceVal (b₃, o₃) n₃ ∷ [])) ∷ ‵ (flft κ₃ q₃) ∷ ‵ (MutSlice (named 3) κ₄ u8 .own (at-list b₄ o₄ γ₄ ws₄) (sliceVal (b₄, o₄) n₄ ∷ [])) ∷ ‵ (flft κ₄ q₄) ∷ ‵ (MutSlice (named 4) κ₅ u8 .own (at-list b₅ o₅ γ₅ ws₅) (sliceVal (b₅, o₅) n₅ ∷ [])) ∷ ‵ (flft κ₅ q₅) ∷ ‵ (MutSlice (named 5) κ₆ u32 .own (at-list b₆ o₆ γ₆ ws₆) (sliceVal (b₆, o₆) n₆ ∷ [])) ∷ ‵ (flft κ₆ q₆) ∷ ‵ (MutSlice (named 6) κ₇ u8 .own (at-list b₇ o₇ γ₇ ws₇) (sliceVal (b₇, o₇) n₇ ∷ [])) ∷ ‵ (flft κ₇ q₇) ∷ ‵ (MutSlice (named 7) κ₈ u8 .own (at-list b₈ o₈ γ₈ ws₈) (sliceVal (b₈, o₈) n₈ ∷ [])) ∷ ‵ (flft κ₈ q₈) ∷ ‵ (ShrSlice (named 8) κ₉ u8 .own (at-list b₉ o₉ γ₉ datagram) (sliceVal (b₉, o₉) n₉ ∷ [])) ∷ ‵ (flft κ₉ q₉) ∷ []) ∵
-      suffices ! _ (ends-at 𝓤 H A f.ended stayed (f.clauses 𝓤 H A mem run) W (((κ₁, (κ₂, (κ₃, (κ₄, (κ₅, (κ₆, (κ₇, (κ₈, (κ₉, tt))))))))), (q₁, (q₂, (q₃, (q₄, (q₅, (q₆, (q₇, (q₈, (q₉, tt))))))))), tt, x, at), tt) (Processed-p .val r) r (ws₁, (ws₂, (ws₃, (ws₄, (ws₅, (ws₆, (ws₇, (ws₈, (tt, (tt, (tt, tt))))))))))) (len₁, (len₂, (len₃, (len₄, (len₅, (len₆, (len₇, (len₈, (tt, (tt, (tt, tt)))))))))))) $ says ! said $ nothing ! $ move ! (18 ∷ 0 ∷ []) $ join ! $ move ! (16 ∷ 0 ∷ []) $ join ! $ move ! (14 ∷ 0 ∷ []) $ join ! $ move ! (12 ∷ 0 ∷ []) $ join ! $ move ! (10 ∷ 0 ∷ []) $ join ! $ move ! (8 ∷ 0 ∷ []) $ join ! $ move ! (6 ∷ 0 ∷ []) $ join ! $ move ! (4 ∷ 0 ∷ []) $ join ! $ move ! (2 ∷ 0 ∷ []) $ join ! $
+  exits : (r : Processed) (ws₁ : List (List ℕ)) (ws₂ : List (List ℕ)) (ws₃ : List Object) (ws₄ : List ℕ) (ws₅ : List ℕ) (ws₆ : List ℕ) (ws₇ : List ℕ) (ws₉ : List ℕ) → ((r ≡ incomingOf agent (lent (sessions) (streams) (objects) (held) (parts) (lengths) (rebuilt)) (hours) (out) (datagram) given .processed) × (ws₁ ≡ incomingOf agent (lent (sessions) (streams) (objects) (held) (parts) (lengths) (rebuilt)) (hours) (out) (datagram) given .tables .sessions) × (ws₂ ≡ incomingOf agent (lent (sessions) (streams) (objects) (held) (parts) (lengths) (rebuilt)) (hours) (out) (datagram) given .tables .streams) × (ws₃ ≡ incomingOf agent (lent (sessions) (streams) (objects) (held) (parts) (lengths) (rebuilt)) (hours) (out) (datagram) given .tables .objects) × (ws₄ ≡ incomingOf agent (lent (sessions) (streams) (objects) (held) (parts) (lengths) (rebuilt)) (hours) (out) (datagram) given .tables .held) × (ws₅ ≡ incomingOf agent (lent (sessions) (streams) (objects) (held) (parts) (lengths) (rebuilt)) (hours) (out) (datagram) given .tables .parts) × (ws₆ ≡ incomingOf agent (lent (sessions) (streams) (objects) (held) (parts) (lengths) (rebuilt)) (hours) (out) (datagram) given .tables .lengths) × (ws₇ ≡ incomingOf agent (lent (sessions) (streams) (objects) (held) (parts) (lengths) (rebuilt)) (hours) (out) (datagram) given .tables .rebuilt) × (ws₉ ≡ incomingOf agent (lent (sessions) (streams) (objects) (held) (parts) (lengths) (rebuilt)) (hours) (out) (datagram) given .out)) → Is (Processed-p .row) r (Processed-p .val r ∷ []) → length ws₁ ≡ n₁ → length ws₂ ≡ n₂ → length ws₃ ≡ n₃ → length ws₄ ≡ n₄ → length ws₅ ≡ n₅ → length ws₆ ≡ n₆ → length ws₇ ≡ n₇ → length ws₉ ≡ n₉ → ent 𝓤 (⋆ 𝓤 H A (‵ (MutSlice (named 0) κ₁ (Array u64 8) .own (at-list b₁ o₁ γ₁ ws₁) (sliceVal (b₁, o₁) n₁ ∷ [])) ∷ ‵ (flft κ₁ q₁) ∷ ‵ (MutSlice (named 1) κ₂ (Array u16 35) .own (at-list b₂ o₂ γ₂ ws₂) (sliceVal (b₂, o₂) n₂ ∷ [])) ∷ ‵ (flft κ₂ q₂) ∷ ‵ (MutSlice (named 2) κ₃ Object-t.the-row .own (at-list b₃ o₃ γ₃ ws₃) (sliceVal (b₃, o₃) n₃ ∷ [])) ∷ ‵ (flft κ₃ q₃) ∷ ‵ (MutSlice (named 3) κ₄ u8 .own (at-list b₄ o₄ γ₄ ws₄) (sliceVal (b₄, o₄) n₄ ∷ [])) ∷ ‵ (flft κ₄ q₄) ∷ ‵ (MutSlice (named 4) κ₅ u8 .own (at-list b₅ o₅ γ₅ ws₅) (sliceVal (b₅, o₅) n₅ ∷ [])) ∷ ‵ (flft κ₅ q₅) ∷ ‵ (MutSlice (named 5) κ₆ u32 .own (at-list b₆ o₆ γ₆ ws₆) (sliceVal (b₆, o₆) n₆ ∷ [])) ∷ ‵ (flft κ₆ q₆) ∷ ‵ (MutSlice (named 6) κ₇ u8 .own (at-list b₇ o₇ γ₇ ws₇) (sliceVal (b₇, o₇) n₇ ∷ [])) ∷ ‵ (flft κ₇ q₇) ∷ ‵ (ShrSlice (named 7) κ₈ u8 .own (at-list b₈ o₈ γ₈ hours) (sliceVal (b₈, o₈) n₈ ∷ [])) ∷ ‵ (flft κ₈ q₈) ∷ ‵ (MutSlice (named 8) κ₉ u8 .own (at-list b₉ o₉ γ₉ ws₉) (sliceVal (b₉, o₉) n₉ ∷ [])) ∷ ‵ (flft κ₉ q₉) ∷ ‵ (ShrSlice (named 9) κ₁₀ u8 .own (at-list b₁₀ o₁₀ γ₁₀ datagram) (sliceVal (b₁₀, o₁₀) n₁₀ ∷ [])) ∷ ‵ (flft κ₁₀ q₁₀) ∷ [])) (Post (Processed-p .val r))
+  exits r ws₁ ws₂ ws₃ ws₄ ws₅ ws₆ ws₇ ws₉ said r-is len₁ len₂ len₃ len₄ len₅ len₆ len₇ len₉ =
+      qed W (‵ (MutSlice (named 0) κ₁ (Array u64 8) .own (at-list b₁ o₁ γ₁ ws₁) (sliceVal (b₁, o₁) n₁ ∷ [])) ∷ ‵ (flft κ₁ q₁) ∷ ‵ (MutSlice (named 1) κ₂ (Array u16 35) .own (at-list b₂ o₂ γ₂ ws₂) (sliceVal (b₂, o₂) n₂ ∷ [])) ∷ ‵ (flft κ₂ q₂) ∷ ‵ (MutSlice (named 2) κ₃ Object-t.the-row .own (at-list b₃ o₃ γ₃ ws₃) (sliceVal (b₃, o₃) n₃ ∷ [])) ∷ ‵ (flft κ₃ q₃) ∷ ‵ (MutSlice (named 3) κ₄ u8 .own (at-list b₄ o₄ γ₄ ws₄) (sliceVal (b₄, o₄) n₄ ∷ [])) ∷ ‵ (flft κ₄ q₄) ∷ ‵ (MutSlice (named 4) κ₅ u8 .own (at-list b₅ o₅ γ₅ ws₅) (sliceVal (b₅, o₅) n₅ ∷ [])) ∷ ‵ (flft κ₅ q₅) ∷ ‵ (MutSlice (named 5) κ₆ u32 .own (at-list b₆ o₆ γ₆ ws₆) (sliceVal (b₆, o₆) n₆ ∷ [])) ∷ ‵ (flft κ₆ q₆) ∷ ‵ (MutSlice (named 6) κ₇ u8 .own (at-list b₇ o₇ γ₇ ws₇) (sliceVal (b₇, o₇) n₇ ∷ [])) ∷ ‵ (flft κ₇ q₇) ∷ ‵ (ShrSlice (named 7) κ₈ u8 .own (at-list b₈ o₈ γ₈ hours) (sliceVal (b₈, o₈) n₈ ∷ [])) ∷ ‵ (flft κ₈ q₈) ∷ ‵ (MutSlice (named 8) κ₉ u8 .own (at-list b₉ o₉ γ₉ ws₉) (sliceVal (b₉, o₉) n₉ ∷ [])) ∷ ‵ (flft κ₉ q₉) ∷ ‵ (ShrSlice (named 9) κ₁₀ u8 .own (at-list b₁₀ o₁₀ γ₁₀ datagram) (sliceVal (b₁₀, o₁₀) n₁₀ ∷ [])) ∷ ‵ (flft κ₁₀ q₁₀) ∷ []) ∵
+      suffices ! _ (ends-at 𝓤 H A f.ended stayed (f.clauses 𝓤 H A mem run) W (((κ₁, (κ₂, (κ₃, (κ₄, (κ₅, (κ₆, (κ₇, (κ₈, (κ₉, (κ₁₀, tt)))))))))), (q₁, (q₂, (q₃, (q₄, (q₅, (q₆, (q₇, (q₈, (q₉, (q₁₀, tt)))))))))), tt, x, at), tt) (Processed-p .val r) r (ws₁, (ws₂, (ws₃, (ws₄, (ws₅, (ws₆, (ws₇, (tt, (ws₉, (tt, (tt, (tt, tt)))))))))))) (len₁, (len₂, (len₃, (len₄, (len₅, (len₆, (len₇, (tt, (len₉, (tt, (tt, (tt, tt))))))))))))) $ says ! said $ nothing ! $ move ! (20 ∷ 0 ∷ []) $ join ! $ move ! (18 ∷ 0 ∷ []) $ join ! $ move ! (16 ∷ 0 ∷ []) $ join ! $ move ! (14 ∷ 0 ∷ []) $ join ! $ move ! (12 ∷ 0 ∷ []) $ join ! $ move ! (10 ∷ 0 ∷ []) $ join ! $ move ! (8 ∷ 0 ∷ []) $ join ! $ move ! (6 ∷ 0 ∷ []) $ join ! $ move ! (4 ∷ 0 ∷ []) $ join ! $ move ! (2 ∷ 0 ∷ []) $ join ! $
       frame ! $ nothing ! $
       owned ! (Given′-p .row) (Is (Given′-p .row)) (Given′-p .makes 𝓤 H A W) given (Given′-p .val given ∷ []) given-is $ fjoin ! $
-      owned ! (Agent-p .row) (Is (Agent-p .row)) (Agent-p .makes 𝓤 H A W) agent (Agent-p .val agent ∷ []) agent-is $ fjoin ! $ move ! (9 ∷ 0 ∷ []) $ fjoin ! $ move ! (8 ∷ 0 ∷ []) $ fjoin ! $ move ! (7 ∷ 0 ∷ []) $ fjoin ! $ move ! (6 ∷ 0 ∷ []) $ fjoin ! $ move ! (5 ∷ 0 ∷ []) $ fjoin ! $ move ! (4 ∷ 0 ∷ []) $ fjoin ! $ move ! (3 ∷ 0 ∷ []) $ fjoin ! $ move ! (2 ∷ 0 ∷ []) $ fjoin ! $ move ! (1 ∷ 0 ∷ []) $ fjoin ! $
+      owned ! (Agent-p .row) (Is (Agent-p .row)) (Agent-p .makes 𝓤 H A W) agent (Agent-p .val agent ∷ []) agent-is $ fjoin ! $ move ! (10 ∷ 0 ∷ []) $ fjoin ! $ move ! (9 ∷ 0 ∷ []) $ fjoin ! $ move ! (8 ∷ 0 ∷ []) $ fjoin ! $ move ! (7 ∷ 0 ∷ []) $ fjoin ! $ move ! (6 ∷ 0 ∷ []) $ fjoin ! $ move ! (5 ∷ 0 ∷ []) $ fjoin ! $ move ! (4 ∷ 0 ∷ []) $ fjoin ! $ move ! (3 ∷ 0 ∷ []) $ fjoin ! $ move ! (2 ∷ 0 ∷ []) $ fjoin ! $ move ! (1 ∷ 0 ∷ []) $ fjoin ! $
       frame ! $
       owned ! (Processed-p .row) (Is (Processed-p .row)) (Processed-p .makes 𝓤 H A W) r _ r-is $ done !
 
-  module _ (𝓣 : Tables 𝓤 H) (known-process-process : Triple 𝓤 (𝓣 .C #process-process) (Of-process-process 𝓤 H A mem run)) (l₀ l₁ l₂ l₃ l₄ l₅ l₆ l₇ l₈ l₉ l₁₀ l₁₁ l₁₂ l₁₃ l₁₄ l₁₅ l₁₆ l₁₇ l₁₈ l₁₉ l₂₀ l₂₁ l₂₂ l₂₃ l₂₄ l₂₅ l₂₆ l₂₇ l₂₈ l₂₉ l₃₀ l₃₁ : ℕ) where
+  module _ (𝓣 : Tables 𝓤 H) (known-process-process : Triple 𝓤 (𝓣 .C #process-process) (Of-process-process 𝓤 H A mem run)) (l₀ l₁ l₂ l₃ l₄ l₅ l₆ l₇ l₈ l₉ l₁₀ l₁₁ l₁₂ l₁₃ l₁₄ l₁₅ l₁₆ l₁₇ l₁₈ l₁₉ l₂₀ l₂₁ l₂₂ l₂₃ l₂₄ l₂₅ l₂₆ l₂₇ l₂₈ l₂₉ l₃₀ l₃₁ l₃₂ : ℕ) where
     abbrev C : Calls 𝓤 H
     C = 𝓣 .C
 
@@ -258,30 +273,30 @@ module _ {M : Type 1} (𝓤 : URA M) (H : Heap 𝓤) (A : Atoms 𝓤) (W : Given
     fm = fmOf 𝓤 H (W .laws) 𝓣
 
     abbrev En : Env 𝓤 H
-    En = (Processed-l.mir, l₀) ∷ ((sliceTy (tyRef (named 0) mut (pointee ((Array u64 8) .written)))), l₁) ∷ ((sliceTy (tyRef (named 1) mut (pointee ((Array u16 35) .written)))), l₂) ∷ ((sliceTy (tyRef (named 2) mut (pointee (Object-t.the-row .written)))), l₃) ∷ ((sliceTy (tyRef (named 3) mut (pointee (u8 .written)))), l₄) ∷ ((sliceTy (tyRef (named 4) mut (pointee (u8 .written)))), l₅) ∷ ((sliceTy (tyRef (named 5) mut (pointee (u32 .written)))), l₆) ∷ ((sliceTy (tyRef (named 6) mut (pointee (u8 .written)))), l₇) ∷ ((sliceTy (tyRef (named 7) mut (pointee (u8 .written)))), l₈) ∷ ((sliceTy (tyRef (named 8) imm (pointee (u8 .written)))), l₉) ∷ (Agent-l.mir, l₁₀) ∷ (Given′-l.mir, l₁₁) ∷ ((tyArray (tyInt w8) 2), l₁₂) ∷ ((tyRef erased mut (pointee ((Array u64 8) .written))), l₁₃) ∷ ((sliceTy (tyRef erased mut (pointee ((Array u64 8) .written)))), l₁₄) ∷ ((tyRef erased mut (pointee ((Array u16 35) .written))), l₁₅) ∷ ((sliceTy (tyRef erased mut (pointee ((Array u16 35) .written)))), l₁₆) ∷ ((tyRef erased mut (pointee (Object-t.the-row .written))), l₁₇) ∷ ((sliceTy (tyRef erased mut (pointee (Object-t.the-row .written)))), l₁₈) ∷ ((tyRef erased mut (pointee (u8 .written))), l₁₉) ∷ ((sliceTy (tyRef erased mut (pointee (u8 .written)))), l₂₀) ∷ ((tyRef erased mut (pointee (u8 .written))), l₂₁) ∷ ((sliceTy (tyRef erased mut (pointee (u8 .written)))), l₂₂) ∷ ((tyRef erased mut (pointee (u32 .written))), l₂₃) ∷ ((sliceTy (tyRef erased mut (pointee (u32 .written)))), l₂₄) ∷ ((tyRef erased mut (pointee (u8 .written))), l₂₅) ∷ ((sliceTy (tyRef erased mut (pointee (u8 .written)))), l₂₆) ∷ ((tyRef erased mut (pointee (u8 .written))), l₂₇) ∷ ((sliceTy (tyRef erased mut (pointee (u8 .written)))), l₂₈) ∷ ((tyRef erased imm (pointee ((Array u8 2) .written))), l₂₉) ∷ ((sliceTy (tyRef erased imm (pointee (u8 .written)))), l₃₀) ∷ (Input-l.mir, l₃₁) ∷ []
+    En = (Processed-l.mir, l₀) ∷ ((sliceTy (tyRef (named 0) mut (pointee ((Array u64 8) .written)))), l₁) ∷ ((sliceTy (tyRef (named 1) mut (pointee ((Array u16 35) .written)))), l₂) ∷ ((sliceTy (tyRef (named 2) mut (pointee (Object-t.the-row .written)))), l₃) ∷ ((sliceTy (tyRef (named 3) mut (pointee (u8 .written)))), l₄) ∷ ((sliceTy (tyRef (named 4) mut (pointee (u8 .written)))), l₅) ∷ ((sliceTy (tyRef (named 5) mut (pointee (u32 .written)))), l₆) ∷ ((sliceTy (tyRef (named 6) mut (pointee (u8 .written)))), l₇) ∷ ((sliceTy (tyRef (named 7) imm (pointee (u8 .written)))), l₈) ∷ ((sliceTy (tyRef (named 8) mut (pointee (u8 .written)))), l₉) ∷ ((sliceTy (tyRef (named 9) imm (pointee (u8 .written)))), l₁₀) ∷ (Agent-l.mir, l₁₁) ∷ (Given′-l.mir, l₁₂) ∷ ((tyArray (tyInt w8) 2), l₁₃) ∷ ((tyRef erased mut (pointee ((Array u64 8) .written))), l₁₄) ∷ ((sliceTy (tyRef erased mut (pointee ((Array u64 8) .written)))), l₁₅) ∷ ((tyRef erased mut (pointee ((Array u16 35) .written))), l₁₆) ∷ ((sliceTy (tyRef erased mut (pointee ((Array u16 35) .written)))), l₁₇) ∷ ((tyRef erased mut (pointee (Object-t.the-row .written))), l₁₈) ∷ ((sliceTy (tyRef erased mut (pointee (Object-t.the-row .written)))), l₁₉) ∷ ((tyRef erased mut (pointee (u8 .written))), l₂₀) ∷ ((sliceTy (tyRef erased mut (pointee (u8 .written)))), l₂₁) ∷ ((tyRef erased mut (pointee (u8 .written))), l₂₂) ∷ ((sliceTy (tyRef erased mut (pointee (u8 .written)))), l₂₃) ∷ ((tyRef erased mut (pointee (u32 .written))), l₂₄) ∷ ((sliceTy (tyRef erased mut (pointee (u32 .written)))), l₂₅) ∷ ((tyRef erased mut (pointee (u8 .written))), l₂₆) ∷ ((sliceTy (tyRef erased mut (pointee (u8 .written)))), l₂₇) ∷ ((tyRef erased mut (pointee (u8 .written))), l₂₈) ∷ ((sliceTy (tyRef erased mut (pointee (u8 .written)))), l₂₉) ∷ ((tyRef erased imm (pointee ((Array u8 2) .written))), l₃₀) ∷ ((sliceTy (tyRef erased imm (pointee (u8 .written)))), l₃₁) ∷ (Input-l.mir, l₃₂) ∷ []
 
-    begins : Sq W (‵ (MutSlice (named 0) κ₁ (Array u64 8) .own (at-list b₁ o₁ γ₁ sessions) (sliceVal (b₁, o₁) n₁ ∷ [])) ∷ ‵ (flft κ₁ q₁) ∷ ‵ (MutSlice (named 0) κ₂ (Array u16 35) .own (at-list b₂ o₂ γ₂ streams) (sliceVal (b₂, o₂) n₂ ∷ [])) ∷ ‵ (flft κ₂ q₂) ∷ ‵ (MutSlice (named 0) κ₃ Object-t.the-row .own (at-list b₃ o₃ γ₃ objects) (sliceVal (b₃, o₃) n₃ ∷ [])) ∷ ‵ (flft κ₃ q₃) ∷ ‵ (MutSlice (named 0) κ₄ u8 .own (at-list b₄ o₄ γ₄ held) (sliceVal (b₄, o₄) n₄ ∷ [])) ∷ ‵ (flft κ₄ q₄) ∷ ‵ (MutSlice (named 0) κ₅ u8 .own (at-list b₅ o₅ γ₅ parts) (sliceVal (b₅, o₅) n₅ ∷ [])) ∷ ‵ (flft κ₅ q₅) ∷ ‵ (MutSlice (named 0) κ₆ u32 .own (at-list b₆ o₆ γ₆ lengths) (sliceVal (b₆, o₆) n₆ ∷ [])) ∷ ‵ (flft κ₆ q₆) ∷ ‵ (MutSlice (named 0) κ₇ u8 .own (at-list b₇ o₇ γ₇ rebuilt) (sliceVal (b₇, o₇) n₇ ∷ [])) ∷ ‵ (flft κ₇ q₇) ∷ ‵ (MutSlice (named 0) κ₈ u8 .own (at-list b₈ o₈ γ₈ out) (sliceVal (b₈, o₈) n₈ ∷ [])) ∷ ‵ (flft κ₈ q₈) ∷ ‵ (ShrSlice (named 0) κ₉ u8 .own (at-list b₉ o₉ γ₉ datagram) (sliceVal (b₉, o₉) n₉ ∷ [])) ∷ ‵ (flft κ₉ q₉) ∷ free 𝓤 Input-l.mir l₃₁ (free 𝓤 (sliceTy (tyRef erased imm (pointee (u8 .written)))) l₃₀ (free 𝓤 (tyRef erased imm (pointee ((Array u8 2) .written))) l₂₉ (free 𝓤 (sliceTy (tyRef erased mut (pointee (u8 .written)))) l₂₈ (free 𝓤 (tyRef erased mut (pointee (u8 .written))) l₂₇ (free 𝓤 (sliceTy (tyRef erased mut (pointee (u8 .written)))) l₂₆ (free 𝓤 (tyRef erased mut (pointee (u8 .written))) l₂₅ (free 𝓤 (sliceTy (tyRef erased mut (pointee (u32 .written)))) l₂₄ (free 𝓤 (tyRef erased mut (pointee (u32 .written))) l₂₃ (free 𝓤 (sliceTy (tyRef erased mut (pointee (u8 .written)))) l₂₂ (free 𝓤 (tyRef erased mut (pointee (u8 .written))) l₂₁ (free 𝓤 (sliceTy (tyRef erased mut (pointee (u8 .written)))) l₂₀ (free 𝓤 (tyRef erased mut (pointee (u8 .written))) l₁₉ (free 𝓤 (sliceTy (tyRef erased mut (pointee (Object-t.the-row .written)))) l₁₈ (free 𝓤 (tyRef erased mut (pointee (Object-t.the-row .written))) l₁₇ (free 𝓤 (sliceTy (tyRef erased mut (pointee ((Array u16 35) .written)))) l₁₆ (free 𝓤 (tyRef erased mut (pointee ((Array u16 35) .written))) l₁₅ (free 𝓤 (sliceTy (tyRef erased mut (pointee ((Array u64 8) .written)))) l₁₄ (free 𝓤 (tyRef erased mut (pointee ((Array u64 8) .written))) l₁₃ (free 𝓤 (tyArray (tyInt w8) 2) l₁₂ (full 𝓤 Given′-l.mir l₁₁ (Given′-p .val given) (full 𝓤 Agent-l.mir l₁₀ (Agent-p .val agent) (full 𝓤 (sliceTy (tyRef (named 8) imm (pointee (u8 .written)))) l₉ (sliceVal (b₉, o₉) n₉) (full 𝓤 (sliceTy (tyRef (named 7) mut (pointee (u8 .written)))) l₈ (sliceVal (b₈, o₈) n₈) (full 𝓤 (sliceTy (tyRef (named 6) mut (pointee (u8 .written)))) l₇ (sliceVal (b₇, o₇) n₇) (full 𝓤 (sliceTy (tyRef (named 5) mut (pointee (u32 .written)))) l₆ (sliceVal (b₆, o₆) n₆) (full 𝓤 (sliceTy (tyRef (named 4) mut (pointee (u8 .written)))) l₅ (sliceVal (b₅, o₅) n₅) (full 𝓤 (sliceTy (tyRef (named 3) mut (pointee (u8 .written)))) l₄ (sliceVal (b₄, o₄) n₄) (full 𝓤 (sliceTy (tyRef (named 2) mut (pointee (Object-t.the-row .written)))) l₃ (sliceVal (b₃, o₃) n₃) (full 𝓤 (sliceTy (tyRef (named 1) mut (pointee ((Array u16 35) .written)))) l₂ (sliceVal (b₂, o₂) n₂) (full 𝓤 (sliceTy (tyRef (named 0) mut (pointee ((Array u64 8) .written)))) l₁ (sliceVal (b₁, o₁) n₁) (free 𝓤 Processed-l.mir l₀ ([]))))))))))))))))))))))))))))))))) (runs C Λ En mir.t-1 (atRet En Post))
+    begins : Sq W (‵ (MutSlice (named 0) κ₁ (Array u64 8) .own (at-list b₁ o₁ γ₁ sessions) (sliceVal (b₁, o₁) n₁ ∷ [])) ∷ ‵ (flft κ₁ q₁) ∷ ‵ (MutSlice (named 0) κ₂ (Array u16 35) .own (at-list b₂ o₂ γ₂ streams) (sliceVal (b₂, o₂) n₂ ∷ [])) ∷ ‵ (flft κ₂ q₂) ∷ ‵ (MutSlice (named 0) κ₃ Object-t.the-row .own (at-list b₃ o₃ γ₃ objects) (sliceVal (b₃, o₃) n₃ ∷ [])) ∷ ‵ (flft κ₃ q₃) ∷ ‵ (MutSlice (named 0) κ₄ u8 .own (at-list b₄ o₄ γ₄ held) (sliceVal (b₄, o₄) n₄ ∷ [])) ∷ ‵ (flft κ₄ q₄) ∷ ‵ (MutSlice (named 0) κ₅ u8 .own (at-list b₅ o₅ γ₅ parts) (sliceVal (b₅, o₅) n₅ ∷ [])) ∷ ‵ (flft κ₅ q₅) ∷ ‵ (MutSlice (named 0) κ₆ u32 .own (at-list b₆ o₆ γ₆ lengths) (sliceVal (b₆, o₆) n₆ ∷ [])) ∷ ‵ (flft κ₆ q₆) ∷ ‵ (MutSlice (named 0) κ₇ u8 .own (at-list b₇ o₇ γ₇ rebuilt) (sliceVal (b₇, o₇) n₇ ∷ [])) ∷ ‵ (flft κ₇ q₇) ∷ ‵ (ShrSlice (named 0) κ₈ u8 .own (at-list b₈ o₈ γ₈ hours) (sliceVal (b₈, o₈) n₈ ∷ [])) ∷ ‵ (flft κ₈ q₈) ∷ ‵ (MutSlice (named 0) κ₉ u8 .own (at-list b₉ o₉ γ₉ out) (sliceVal (b₉, o₉) n₉ ∷ [])) ∷ ‵ (flft κ₉ q₉) ∷ ‵ (ShrSlice (named 0) κ₁₀ u8 .own (at-list b₁₀ o₁₀ γ₁₀ datagram) (sliceVal (b₁₀, o₁₀) n₁₀ ∷ [])) ∷ ‵ (flft κ₁₀ q₁₀) ∷ free 𝓤 Input-l.mir l₃₂ (free 𝓤 (sliceTy (tyRef erased imm (pointee (u8 .written)))) l₃₁ (free 𝓤 (tyRef erased imm (pointee ((Array u8 2) .written))) l₃₀ (free 𝓤 (sliceTy (tyRef erased mut (pointee (u8 .written)))) l₂₉ (free 𝓤 (tyRef erased mut (pointee (u8 .written))) l₂₈ (free 𝓤 (sliceTy (tyRef erased mut (pointee (u8 .written)))) l₂₇ (free 𝓤 (tyRef erased mut (pointee (u8 .written))) l₂₆ (free 𝓤 (sliceTy (tyRef erased mut (pointee (u32 .written)))) l₂₅ (free 𝓤 (tyRef erased mut (pointee (u32 .written))) l₂₄ (free 𝓤 (sliceTy (tyRef erased mut (pointee (u8 .written)))) l₂₃ (free 𝓤 (tyRef erased mut (pointee (u8 .written))) l₂₂ (free 𝓤 (sliceTy (tyRef erased mut (pointee (u8 .written)))) l₂₁ (free 𝓤 (tyRef erased mut (pointee (u8 .written))) l₂₀ (free 𝓤 (sliceTy (tyRef erased mut (pointee (Object-t.the-row .written)))) l₁₉ (free 𝓤 (tyRef erased mut (pointee (Object-t.the-row .written))) l₁₈ (free 𝓤 (sliceTy (tyRef erased mut (pointee ((Array u16 35) .written)))) l₁₇ (free 𝓤 (tyRef erased mut (pointee ((Array u16 35) .written))) l₁₆ (free 𝓤 (sliceTy (tyRef erased mut (pointee ((Array u64 8) .written)))) l₁₅ (free 𝓤 (tyRef erased mut (pointee ((Array u64 8) .written))) l₁₄ (free 𝓤 (tyArray (tyInt w8) 2) l₁₃ (full 𝓤 Given′-l.mir l₁₂ (Given′-p .val given) (full 𝓤 Agent-l.mir l₁₁ (Agent-p .val agent) (full 𝓤 (sliceTy (tyRef (named 9) imm (pointee (u8 .written)))) l₁₀ (sliceVal (b₁₀, o₁₀) n₁₀) (full 𝓤 (sliceTy (tyRef (named 8) mut (pointee (u8 .written)))) l₉ (sliceVal (b₉, o₉) n₉) (full 𝓤 (sliceTy (tyRef (named 7) imm (pointee (u8 .written)))) l₈ (sliceVal (b₈, o₈) n₈) (full 𝓤 (sliceTy (tyRef (named 6) mut (pointee (u8 .written)))) l₇ (sliceVal (b₇, o₇) n₇) (full 𝓤 (sliceTy (tyRef (named 5) mut (pointee (u32 .written)))) l₆ (sliceVal (b₆, o₆) n₆) (full 𝓤 (sliceTy (tyRef (named 4) mut (pointee (u8 .written)))) l₅ (sliceVal (b₅, o₅) n₅) (full 𝓤 (sliceTy (tyRef (named 3) mut (pointee (u8 .written)))) l₄ (sliceVal (b₄, o₄) n₄) (full 𝓤 (sliceTy (tyRef (named 2) mut (pointee (Object-t.the-row .written)))) l₃ (sliceVal (b₃, o₃) n₃) (full 𝓤 (sliceTy (tyRef (named 1) mut (pointee ((Array u16 35) .written)))) l₂ (sliceVal (b₂, o₂) n₂) (full 𝓤 (sliceTy (tyRef (named 0) mut (pointee ((Array u64 8) .written)))) l₁ (sliceVal (b₁, o₁) n₁) (free 𝓤 Processed-l.mir l₀ ([])))))))))))))))))))))))))))))))))) (runs C Λ En mir.t-1 (atRet En Post))
     begins =
-        assigns ! (rep ! 2 (lit ! tt)) (from ! (stop !)) (init ! 56 refl (array-typed u8 (λ x vs p. uint-lawful 𝓤 H A W w8 .typed x vs p) 2 (replicate {A = ℕ} 2 0) _ (rep-is u8 2 0 (u8-p .val 0) ((refl, lit< tt))) .0)) $
-        assigns ! (addr ! (from ! (fld ! refl (hop ! (look-in ! 78 (sub ! 0 refl (whole !))) (stop !))))) (from ! (stop !)) (init ! 54 refl (tt, tt)) $
-        assigns ! (agg ! (and-then ! (load ! (from ! (stop !)) (look ! 54 refl)) (and-then ! (load ! (from ! (fld ! refl (stop !))) (look-in ! 78 (sub ! 1 refl (whole !)))) (no-more !)))) (from ! (stop !)) (init ! 52 refl (tt, (tt, (record { fits = room₁ .0 }, tt)))) $
-        assigns ! (addr ! (from ! (fld ! refl (hop ! (look-in ! 76 (sub ! 0 refl (whole !))) (stop !))))) (from ! (stop !)) (init ! 50 refl (tt, tt)) $
-        assigns ! (agg ! (and-then ! (load ! (from ! (stop !)) (look ! 50 refl)) (and-then ! (load ! (from ! (fld ! refl (stop !))) (look-in ! 76 (sub ! 1 refl (whole !)))) (no-more !)))) (from ! (stop !)) (init ! 48 refl (tt, (tt, (record { fits = room₂ .0 }, tt)))) $
-        assigns ! (addr ! (from ! (fld ! refl (hop ! (look-in ! 74 (sub ! 0 refl (whole !))) (stop !))))) (from ! (stop !)) (init ! 46 refl (tt, tt)) $
-        assigns ! (agg ! (and-then ! (load ! (from ! (stop !)) (look ! 46 refl)) (and-then ! (load ! (from ! (fld ! refl (stop !))) (look-in ! 74 (sub ! 1 refl (whole !)))) (no-more !)))) (from ! (stop !)) (init ! 44 refl (tt, (tt, (record { fits = room₃ .0 }, tt)))) $
-        assigns ! (addr ! (from ! (fld ! refl (hop ! (look-in ! 72 (sub ! 0 refl (whole !))) (stop !))))) (from ! (stop !)) (init ! 42 refl (tt, tt)) $
-        assigns ! (agg ! (and-then ! (load ! (from ! (stop !)) (look ! 42 refl)) (and-then ! (load ! (from ! (fld ! refl (stop !))) (look-in ! 72 (sub ! 1 refl (whole !)))) (no-more !)))) (from ! (stop !)) (init ! 40 refl (tt, (tt, (record { fits = room₄ .0 }, tt)))) $
-        assigns ! (addr ! (from ! (fld ! refl (hop ! (look-in ! 70 (sub ! 0 refl (whole !))) (stop !))))) (from ! (stop !)) (init ! 38 refl (tt, tt)) $
-        assigns ! (agg ! (and-then ! (load ! (from ! (stop !)) (look ! 38 refl)) (and-then ! (load ! (from ! (fld ! refl (stop !))) (look-in ! 70 (sub ! 1 refl (whole !)))) (no-more !)))) (from ! (stop !)) (init ! 36 refl (tt, (tt, (record { fits = room₅ .0 }, tt)))) $
-        assigns ! (addr ! (from ! (fld ! refl (hop ! (look-in ! 68 (sub ! 0 refl (whole !))) (stop !))))) (from ! (stop !)) (init ! 34 refl (tt, tt)) $
-        assigns ! (agg ! (and-then ! (load ! (from ! (stop !)) (look ! 34 refl)) (and-then ! (load ! (from ! (fld ! refl (stop !))) (look-in ! 68 (sub ! 1 refl (whole !)))) (no-more !)))) (from ! (stop !)) (init ! 32 refl (tt, (tt, (record { fits = room₆ .0 }, tt)))) $
-        assigns ! (addr ! (from ! (fld ! refl (hop ! (look-in ! 66 (sub ! 0 refl (whole !))) (stop !))))) (from ! (stop !)) (init ! 30 refl (tt, tt)) $
-        assigns ! (agg ! (and-then ! (load ! (from ! (stop !)) (look ! 30 refl)) (and-then ! (load ! (from ! (fld ! refl (stop !))) (look-in ! 66 (sub ! 1 refl (whole !)))) (no-more !)))) (from ! (stop !)) (init ! 28 refl (tt, (tt, (record { fits = room₇ .0 }, tt)))) $
-        assigns ! (addr ! (from ! (fld ! refl (hop ! (look-in ! 64 (sub ! 0 refl (whole !))) (stop !))))) (from ! (stop !)) (init ! 26 refl (tt, tt)) $
-        assigns ! (agg ! (and-then ! (load ! (from ! (stop !)) (look ! 26 refl)) (and-then ! (load ! (from ! (fld ! refl (stop !))) (look-in ! 64 (sub ! 1 refl (whole !)))) (no-more !)))) (from ! (stop !)) (init ! 24 refl (tt, (tt, (record { fits = room₈ .0 }, tt)))) $
-        assigns ! (addr ! (from ! (stop !))) (from ! (stop !)) (init ! 22 refl (tt, tt)) $
-        assigns ! (agg ! (and-then ! (load ! (from ! (stop !)) (look ! 22 refl)) (and-then ! (lit ! tt) (no-more !)))) (from ! (stop !)) (init ! 20 refl (tt, (tt, (record { fits = lit< tt }, tt)))) $
-        assigns ! (agg ! (and-then ! (lit ! tt) (and-then ! (load ! (from ! (fld ! refl (stop !))) (look-in ! 58 (sub ! 0 refl (whole !)))) (no-more !)))) (from ! (stop !)) (init ! 18 refl (Input-p .typed 𝓤 H A W (Input-Datagram (given .time)) (EL.owes Input-t.the-type Input-l.the-laws (Input-Datagram (given .time)) (LL.owed Given′-t.the-type Given′-l.the-laws given _ given-is .0, tt)))) $
+        assigns ! (rep ! 2 (lit ! tt)) (from ! (stop !)) (init ! 58 refl (array-typed u8 (λ x vs p. uint-lawful 𝓤 H A W w8 .typed x vs p) 2 (replicate {A = ℕ} 2 0) _ (rep-is u8 2 0 (u8-p .val 0) ((refl, lit< tt))) .0)) $
+        assigns ! (addr ! (from ! (fld ! refl (hop ! (look-in ! 82 (sub ! 0 refl (whole !))) (stop !))))) (from ! (stop !)) (init ! 56 refl (tt, tt)) $
+        assigns ! (agg ! (and-then ! (load ! (from ! (stop !)) (look ! 56 refl)) (and-then ! (load ! (from ! (fld ! refl (stop !))) (look-in ! 82 (sub ! 1 refl (whole !)))) (no-more !)))) (from ! (stop !)) (init ! 54 refl (tt, (tt, (record { fits = room₁ .0 }, tt)))) $
+        assigns ! (addr ! (from ! (fld ! refl (hop ! (look-in ! 80 (sub ! 0 refl (whole !))) (stop !))))) (from ! (stop !)) (init ! 52 refl (tt, tt)) $
+        assigns ! (agg ! (and-then ! (load ! (from ! (stop !)) (look ! 52 refl)) (and-then ! (load ! (from ! (fld ! refl (stop !))) (look-in ! 80 (sub ! 1 refl (whole !)))) (no-more !)))) (from ! (stop !)) (init ! 50 refl (tt, (tt, (record { fits = room₂ .0 }, tt)))) $
+        assigns ! (addr ! (from ! (fld ! refl (hop ! (look-in ! 78 (sub ! 0 refl (whole !))) (stop !))))) (from ! (stop !)) (init ! 48 refl (tt, tt)) $
+        assigns ! (agg ! (and-then ! (load ! (from ! (stop !)) (look ! 48 refl)) (and-then ! (load ! (from ! (fld ! refl (stop !))) (look-in ! 78 (sub ! 1 refl (whole !)))) (no-more !)))) (from ! (stop !)) (init ! 46 refl (tt, (tt, (record { fits = room₃ .0 }, tt)))) $
+        assigns ! (addr ! (from ! (fld ! refl (hop ! (look-in ! 76 (sub ! 0 refl (whole !))) (stop !))))) (from ! (stop !)) (init ! 44 refl (tt, tt)) $
+        assigns ! (agg ! (and-then ! (load ! (from ! (stop !)) (look ! 44 refl)) (and-then ! (load ! (from ! (fld ! refl (stop !))) (look-in ! 76 (sub ! 1 refl (whole !)))) (no-more !)))) (from ! (stop !)) (init ! 42 refl (tt, (tt, (record { fits = room₄ .0 }, tt)))) $
+        assigns ! (addr ! (from ! (fld ! refl (hop ! (look-in ! 74 (sub ! 0 refl (whole !))) (stop !))))) (from ! (stop !)) (init ! 40 refl (tt, tt)) $
+        assigns ! (agg ! (and-then ! (load ! (from ! (stop !)) (look ! 40 refl)) (and-then ! (load ! (from ! (fld ! refl (stop !))) (look-in ! 74 (sub ! 1 refl (whole !)))) (no-more !)))) (from ! (stop !)) (init ! 38 refl (tt, (tt, (record { fits = room₅ .0 }, tt)))) $
+        assigns ! (addr ! (from ! (fld ! refl (hop ! (look-in ! 72 (sub ! 0 refl (whole !))) (stop !))))) (from ! (stop !)) (init ! 36 refl (tt, tt)) $
+        assigns ! (agg ! (and-then ! (load ! (from ! (stop !)) (look ! 36 refl)) (and-then ! (load ! (from ! (fld ! refl (stop !))) (look-in ! 72 (sub ! 1 refl (whole !)))) (no-more !)))) (from ! (stop !)) (init ! 34 refl (tt, (tt, (record { fits = room₆ .0 }, tt)))) $
+        assigns ! (addr ! (from ! (fld ! refl (hop ! (look-in ! 70 (sub ! 0 refl (whole !))) (stop !))))) (from ! (stop !)) (init ! 32 refl (tt, tt)) $
+        assigns ! (agg ! (and-then ! (load ! (from ! (stop !)) (look ! 32 refl)) (and-then ! (load ! (from ! (fld ! refl (stop !))) (look-in ! 70 (sub ! 1 refl (whole !)))) (no-more !)))) (from ! (stop !)) (init ! 30 refl (tt, (tt, (record { fits = room₇ .0 }, tt)))) $
+        assigns ! (addr ! (from ! (fld ! refl (hop ! (look-in ! 66 (sub ! 0 refl (whole !))) (stop !))))) (from ! (stop !)) (init ! 28 refl (tt, tt)) $
+        assigns ! (agg ! (and-then ! (load ! (from ! (stop !)) (look ! 28 refl)) (and-then ! (load ! (from ! (fld ! refl (stop !))) (look-in ! 66 (sub ! 1 refl (whole !)))) (no-more !)))) (from ! (stop !)) (init ! 26 refl (tt, (tt, (record { fits = room₉ .0 }, tt)))) $
+        assigns ! (addr ! (from ! (stop !))) (from ! (stop !)) (init ! 24 refl (tt, tt)) $
+        assigns ! (agg ! (and-then ! (load ! (from ! (stop !)) (look ! 24 refl)) (and-then ! (lit ! tt) (no-more !)))) (from ! (stop !)) (init ! 22 refl (tt, (tt, (record { fits = lit< tt }, tt)))) $
+        assigns ! (agg ! (and-then ! (lit ! tt) (no-more !))) (from ! (stop !)) (init ! 20 refl (Input-p .typed 𝓤 H A W Input-Datagram (EL.owes Input-t.the-type Input-l.the-laws Input-Datagram tt))) $
         -- 21: agent::process::process
         lends-mut ! tt (Array u64 8) b₁ o₁ sessions n₁ (refl) (λ ν-21-sessions δ-21-sessions.
         move ! (3 ∷ 4 ∷ []) $
@@ -297,18 +312,20 @@ module _ {M : Type 1} (𝓤 : URA M) (H : Heap 𝓤) (A : Atoms 𝓤) (W : Given
         move ! (18 ∷ 19 ∷ []) $
         lends-mut ! tt u8 b₇ o₇ rebuilt n₇ (refl) (λ ν-21-rebuilt δ-21-rebuilt.
         move ! (21 ∷ 22 ∷ []) $
-        lends-mut ! tt u8 b₈ o₈ out n₈ (refl) (λ ν-21-out δ-21-out.
-        move ! (24 ∷ 25 ∷ []) $
-        copies-shr ! u8 b₉ o₉ datagram n₉ $ move ! (65 ∷ []) $
-        lends-array ! tt u8 tt (u8-p .makes 𝓤 H A W) (u8-p .ty) 2 refl l₁₂ (replicate {A = ℕ} 2 0) _ (rep-is u8 2 0 (u8-p .val 0) ((refl, lit< tt))) (lit< tt, lit< tt) (λ ν-21-12 δ-21-12 llen-21-12.
+        copies-shr ! u8 b₈ o₈ hours n₈ $ move ! (24 ∷ 25 ∷ []) $
+        lends-mut ! tt u8 b₉ o₉ out n₉ (refl) (λ ν-21-out δ-21-out.
+        move ! (27 ∷ 28 ∷ []) $
+        copies-shr ! u8 b₁₀ o₁₀ datagram n₁₀ $ move ! (68 ∷ []) $
+        lends-array ! tt u8 tt (u8-p .makes 𝓤 H A W) (u8-p .ty) 2 refl l₁₃ (replicate {A = ℕ} 2 0) _ (rep-is u8 2 0 (u8-p .val 0) ((refl, lit< tt))) (lit< tt, lit< tt) (λ ν-21-13 δ-21-13 llen-21-13.
         move ! (1 ∷ 0 ∷ []) $
-        lends-view ! tt u8 l₁₂ 0 (replicate {A = ℕ} 2 0) 2 llen-21-12 (λ ν2-21-12 δ2-21-12.
-        nothing ! $ move ! (1 ∷ 0 ∷ []) $ join ! $ move ! (4 ∷ 0 ∷ []) $ join ! $ move ! (6 ∷ 0 ∷ []) $ join ! $ move ! (8 ∷ 0 ∷ []) $ join ! $ move ! (10 ∷ 0 ∷ []) $ join ! $ move ! (12 ∷ 0 ∷ []) $ join ! $ move ! (14 ∷ 0 ∷ []) $ join ! $ move ! (16 ∷ 0 ∷ []) $ join ! $ move ! (18 ∷ 0 ∷ []) $ join ! $ move ! (20 ∷ 0 ∷ []) $ join ! $
-        use1 W (raw (toks 𝓤 A 10 (((ν-21-sessions ∷ []), ((ν-21-streams ∷ []), ((ν-21-objects ∷ []), ((ν-21-held ∷ []), ((ν-21-parts ∷ []), ((ν-21-lengths ∷ []), ((ν-21-rebuilt ∷ []), ((ν-21-out ∷ []), (κ₉, ((ν2-21-12 ∷ []), tt))))))))))) ((fullShare, (fullShare, (fullShare, (fullShare, (fullShare, (fullShare, (fullShare, (fullShare, (q₉, (fullShare, tt))))))))))))) (id⊢ 𝓤 _) $ nothing ! $
-        owned ! (Input-p .row) (Is (Input-p .row)) (Input-p .makes 𝓤 H A W) (Input-Datagram (given .time)) (Input-p .val (Input-Datagram (given .time)) ∷ []) (EL.owes Input-t.the-type Input-l.the-laws (Input-Datagram (given .time)) (LL.owed Given′-t.the-type Given′-l.the-laws given _ given-is .0, tt)) $ fjoin ! $
-        owned ! (Agent-p .row) (Is (Agent-p .row)) (Agent-p .makes 𝓤 H A W) agent (Agent-p .val agent ∷ []) agent-is $ fjoin ! $ move ! (2 ∷ 0 ∷ []) $ fjoin ! $ move ! (4 ∷ 0 ∷ []) $ fjoin ! $ move ! (5 ∷ 0 ∷ []) $ fjoin ! $ move ! (6 ∷ 0 ∷ []) $ fjoin ! $ move ! (7 ∷ 0 ∷ []) $ fjoin ! $ move ! (8 ∷ 0 ∷ []) $ fjoin ! $ move ! (9 ∷ 0 ∷ []) $ fjoin ! $ move ! (10 ∷ 0 ∷ []) $ fjoin ! $ move ! (11 ∷ 0 ∷ []) $ fjoin ! $ move ! (12 ∷ 0 ∷ []) $ fjoin ! $ move ! (1 ∷ 0 ∷ []) $
-        calls-any ! fm 10 [] (process-process.signature .params) (process-process.ended .kept) Processed-p (process-process.clauses 𝓤 H A mem run) known-process-process ((ν-21-sessions ∷ []), ((ν-21-streams ∷ []), ((ν-21-objects ∷ []), ((ν-21-held ∷ []), ((ν-21-parts ∷ []), ((ν-21-lengths ∷ []), ((ν-21-rebuilt ∷ []), ((ν-21-out ∷ []), (κ₉, ((ν2-21-12 ∷ []), tt)))))))))) (fullShare, (fullShare, (fullShare, (fullShare, (fullShare, (fullShare, (fullShare, (fullShare, (q₉, (fullShare, tt)))))))))) tt (at-list b₁ o₁ δ-21-sessions sessions, (at-list b₂ o₂ δ-21-streams streams, (at-list b₃ o₃ δ-21-objects objects, (at-list b₄ o₄ δ-21-held held, (at-list b₅ o₅ δ-21-parts parts, (at-list b₆ o₆ δ-21-lengths lengths, (at-list b₇ o₇ δ-21-rebuilt rebuilt, (at-list b₈ o₈ δ-21-out out, (at-list b₉ o₉ γ₉ datagram, (at-list l₁₂ 0 δ2-21-12 (replicate {A = ℕ} 2 0), (agent, (Input-Datagram (given .time), tt)))))))))))) (sliceVal (b₁, o₁) n₁ ∷ [], (sliceVal (b₂, o₂) n₂ ∷ [], (sliceVal (b₃, o₃) n₃ ∷ [], (sliceVal (b₄, o₄) n₄ ∷ [], (sliceVal (b₅, o₅) n₅ ∷ [], (sliceVal (b₆, o₆) n₆ ∷ [], (sliceVal (b₇, o₇) n₇ ∷ [], (sliceVal (b₈, o₈) n₈ ∷ [], (sliceVal (b₉, o₉) n₉ ∷ [], (sliceVal (l₁₂, 0) 2 ∷ [], (Agent-p .val agent ∷ [], (Input-p .val (Input-Datagram (given .time)) ∷ [], tt)))))))))))) tt (processOf agent (lent (sessions) (streams) (objects) (held) (parts) (lengths) (rebuilt)) (out) (datagram) ((replicate {A = ℕ} 2 0)) (Input-Datagram (given .time)) .processed) (λ ws-21. (ws-21 .0 ≡ processOf agent (lent (sessions) (streams) (objects) (held) (parts) (lengths) (rebuilt)) (out) (datagram) ((replicate {A = ℕ} 2 0)) (Input-Datagram (given .time)) .tables .sessions) × (ws-21 .1 .0 ≡ processOf agent (lent (sessions) (streams) (objects) (held) (parts) (lengths) (rebuilt)) (out) (datagram) ((replicate {A = ℕ} 2 0)) (Input-Datagram (given .time)) .tables .streams) × (ws-21 .1 .1 .0 ≡ processOf agent (lent (sessions) (streams) (objects) (held) (parts) (lengths) (rebuilt)) (out) (datagram) ((replicate {A = ℕ} 2 0)) (Input-Datagram (given .time)) .tables .objects) × (ws-21 .1 .1 .1 .0 ≡ processOf agent (lent (sessions) (streams) (objects) (held) (parts) (lengths) (rebuilt)) (out) (datagram) ((replicate {A = ℕ} 2 0)) (Input-Datagram (given .time)) .tables .held) × (ws-21 .1 .1 .1 .1 .0 ≡ processOf agent (lent (sessions) (streams) (objects) (held) (parts) (lengths) (rebuilt)) (out) (datagram) ((replicate {A = ℕ} 2 0)) (Input-Datagram (given .time)) .tables .parts) × (ws-21 .1 .1 .1 .1 .1 .0 ≡ processOf agent (lent (sessions) (streams) (objects) (held) (parts) (lengths) (rebuilt)) (out) (datagram) ((replicate {A = ℕ} 2 0)) (Input-Datagram (given .time)) .tables .lengths) × (ws-21 .1 .1 .1 .1 .1 .1 .0 ≡ processOf agent (lent (sessions) (streams) (objects) (held) (parts) (lengths) (rebuilt)) (out) (datagram) ((replicate {A = ℕ} 2 0)) (Input-Datagram (given .time)) .tables .rebuilt) × (ws-21 .1 .1 .1 .1 .1 .1 .1 .0 ≡ processOf agent (lent (sessions) (streams) (objects) (held) (parts) (lengths) (rebuilt)) (out) (datagram) ((replicate {A = ℕ} 2 0)) (Input-Datagram (given .time)) .out)) (id⊢ 𝓤 _) (λ r ws-21. fact-mono 𝓤 ((r ≡ processOf agent (lent (sessions) (streams) (objects) (held) (parts) (lengths) (rebuilt)) (out) (datagram) ((replicate {A = ℕ} 2 0)) (Input-Datagram (given .time)) .processed) × ((ws-21 .0) ≡ processOf agent (lent (sessions) (streams) (objects) (held) (parts) (lengths) (rebuilt)) (out) (datagram) ((replicate {A = ℕ} 2 0)) (Input-Datagram (given .time)) .tables .sessions) × ((ws-21 .1 .0) ≡ processOf agent (lent (sessions) (streams) (objects) (held) (parts) (lengths) (rebuilt)) (out) (datagram) ((replicate {A = ℕ} 2 0)) (Input-Datagram (given .time)) .tables .streams) × ((ws-21 .1 .1 .0) ≡ processOf agent (lent (sessions) (streams) (objects) (held) (parts) (lengths) (rebuilt)) (out) (datagram) ((replicate {A = ℕ} 2 0)) (Input-Datagram (given .time)) .tables .objects) × ((ws-21 .1 .1 .1 .0) ≡ processOf agent (lent (sessions) (streams) (objects) (held) (parts) (lengths) (rebuilt)) (out) (datagram) ((replicate {A = ℕ} 2 0)) (Input-Datagram (given .time)) .tables .held) × ((ws-21 .1 .1 .1 .1 .0) ≡ processOf agent (lent (sessions) (streams) (objects) (held) (parts) (lengths) (rebuilt)) (out) (datagram) ((replicate {A = ℕ} 2 0)) (Input-Datagram (given .time)) .tables .parts) × ((ws-21 .1 .1 .1 .1 .1 .0) ≡ processOf agent (lent (sessions) (streams) (objects) (held) (parts) (lengths) (rebuilt)) (out) (datagram) ((replicate {A = ℕ} 2 0)) (Input-Datagram (given .time)) .tables .lengths) × ((ws-21 .1 .1 .1 .1 .1 .1 .0) ≡ processOf agent (lent (sessions) (streams) (objects) (held) (parts) (lengths) (rebuilt)) (out) (datagram) ((replicate {A = ℕ} 2 0)) (Input-Datagram (given .time)) .tables .rebuilt) × ((ws-21 .1 .1 .1 .1 .1 .1 .1 .0) ≡ processOf agent (lent (sessions) (streams) (objects) (held) (parts) (lengths) (rebuilt)) (out) (datagram) ((replicate {A = ℕ} 2 0)) (Input-Datagram (given .time)) .out)) ((r ≡ (processOf agent (lent (sessions) (streams) (objects) (held) (parts) (lengths) (rebuilt)) (out) (datagram) ((replicate {A = ℕ} 2 0)) (Input-Datagram (given .time)) .processed)) × ((ws-21 .0 ≡ processOf agent (lent (sessions) (streams) (objects) (held) (parts) (lengths) (rebuilt)) (out) (datagram) ((replicate {A = ℕ} 2 0)) (Input-Datagram (given .time)) .tables .sessions) × (ws-21 .1 .0 ≡ processOf agent (lent (sessions) (streams) (objects) (held) (parts) (lengths) (rebuilt)) (out) (datagram) ((replicate {A = ℕ} 2 0)) (Input-Datagram (given .time)) .tables .streams) × (ws-21 .1 .1 .0 ≡ processOf agent (lent (sessions) (streams) (objects) (held) (parts) (lengths) (rebuilt)) (out) (datagram) ((replicate {A = ℕ} 2 0)) (Input-Datagram (given .time)) .tables .objects) × (ws-21 .1 .1 .1 .0 ≡ processOf agent (lent (sessions) (streams) (objects) (held) (parts) (lengths) (rebuilt)) (out) (datagram) ((replicate {A = ℕ} 2 0)) (Input-Datagram (given .time)) .tables .held) × (ws-21 .1 .1 .1 .1 .0 ≡ processOf agent (lent (sessions) (streams) (objects) (held) (parts) (lengths) (rebuilt)) (out) (datagram) ((replicate {A = ℕ} 2 0)) (Input-Datagram (given .time)) .tables .parts) × (ws-21 .1 .1 .1 .1 .1 .0 ≡ processOf agent (lent (sessions) (streams) (objects) (held) (parts) (lengths) (rebuilt)) (out) (datagram) ((replicate {A = ℕ} 2 0)) (Input-Datagram (given .time)) .tables .lengths) × (ws-21 .1 .1 .1 .1 .1 .1 .0 ≡ processOf agent (lent (sessions) (streams) (objects) (held) (parts) (lengths) (rebuilt)) (out) (datagram) ((replicate {A = ℕ} 2 0)) (Input-Datagram (given .time)) .tables .rebuilt) × (ws-21 .1 .1 .1 .1 .1 .1 .1 .0 ≡ processOf agent (lent (sessions) (streams) (objects) (held) (parts) (lengths) (rebuilt)) (out) (datagram) ((replicate {A = ℕ} 2 0)) (Input-Datagram (given .time)) .out))) (λ e. (e .0, (e .1, e .2, e .3, e .4, e .5, e .6, e .7, e .8)))) (λ _. (and-then ! (load ! (from ! (stop !)) (look ! 46 refl)) (and-then ! (load ! (from ! (stop !)) (look ! 42 refl)) (and-then ! (load ! (from ! (stop !)) (look ! 38 refl)) (and-then ! (load ! (from ! (stop !)) (look ! 34 refl)) (and-then ! (load ! (from ! (stop !)) (look ! 30 refl)) (and-then ! (load ! (from ! (stop !)) (look ! 26 refl)) (and-then ! (load ! (from ! (stop !)) (look ! 22 refl)) (and-then ! (load ! (from ! (stop !)) (look ! 18 refl)) (and-then ! (load ! (from ! (stop !)) (look ! 55 refl)) (and-then ! (load ! (from ! (stop !)) (look ! 14 refl)) (and-then ! (load ! (from ! (stop !)) (look ! 53 refl)) (and-then ! (load ! (from ! (stop !)) (look ! 12 refl)) (no-more !)))))))))))))) (λ ws-21 said-21 is-21.
-        use1 W ((‵ (flft (ν-21-sessions ∷ []) fullShare) ⊛ (‵ (flft (ν-21-streams ∷ []) fullShare) ⊛ (‵ (flft (ν-21-objects ∷ []) fullShare) ⊛ (‵ (flft (ν-21-held ∷ []) fullShare) ⊛ (‵ (flft (ν-21-parts ∷ []) fullShare) ⊛ (‵ (flft (ν-21-lengths ∷ []) fullShare) ⊛ (‵ (flft (ν-21-rebuilt ∷ []) fullShare) ⊛ (‵ (flft (ν-21-out ∷ []) fullShare) ⊛ (‵ (flft κ₉ q₉) ⊛ (‵ (flft (ν2-21-12 ∷ []) fullShare) ⊛ ‵ ftrue))))))))))) (id⊢ 𝓤 _) $ split ! $ move ! (1 ∷ []) $ split ! $ move ! (1 ∷ []) $ split ! $ move ! (1 ∷ []) $ split ! $ move ! (1 ∷ []) $ split ! $ move ! (1 ∷ []) $ split ! $ move ! (1 ∷ []) $ split ! $ move ! (1 ∷ []) $ split ! $ move ! (1 ∷ []) $ split ! $ move ! (1 ∷ []) $ split ! $ move ! (11 ∷ []) $ fsplit ! $ fsplit ! $ move ! (1 ∷ []) $
+        lends-view ! tt u8 l₁₃ 0 (replicate {A = ℕ} 2 0) 2 llen-21-13 (λ ν2-21-13 δ2-21-13.
+        nothing ! $ move ! (1 ∷ 0 ∷ []) $ join ! $ move ! (4 ∷ 0 ∷ []) $ join ! $ move ! (6 ∷ 0 ∷ []) $ join ! $ move ! (8 ∷ 0 ∷ []) $ join ! $ move ! (10 ∷ 0 ∷ []) $ join ! $ move ! (12 ∷ 0 ∷ []) $ join ! $ move ! (14 ∷ 0 ∷ []) $ join ! $ move ! (16 ∷ 0 ∷ []) $ join ! $ move ! (18 ∷ 0 ∷ []) $ join ! $ move ! (20 ∷ 0 ∷ []) $ join ! $ move ! (22 ∷ 0 ∷ []) $ join ! $
+        use1 W (raw (toks 𝓤 A 11 (((ν-21-sessions ∷ []), ((ν-21-streams ∷ []), ((ν-21-objects ∷ []), ((ν-21-held ∷ []), ((ν-21-parts ∷ []), ((ν-21-lengths ∷ []), ((ν-21-rebuilt ∷ []), (κ₈, ((ν-21-out ∷ []), (κ₁₀, ((ν2-21-13 ∷ []), tt)))))))))))) ((fullShare, (fullShare, (fullShare, (fullShare, (fullShare, (fullShare, (fullShare, (q₈, (fullShare, (q₁₀, (fullShare, tt)))))))))))))) (id⊢ 𝓤 _) $ nothing ! $
+        owned ! (Given′-p .row) (Is (Given′-p .row)) (Given′-p .makes 𝓤 H A W) given (Given′-p .val given ∷ []) given-is $ fjoin ! $
+        owned ! (Input-p .row) (Is (Input-p .row)) (Input-p .makes 𝓤 H A W) Input-Datagram (Input-p .val Input-Datagram ∷ []) (EL.owes Input-t.the-type Input-l.the-laws Input-Datagram tt) $ fjoin ! $
+        owned ! (Agent-p .row) (Is (Agent-p .row)) (Agent-p .makes 𝓤 H A W) agent (Agent-p .val agent ∷ []) agent-is $ fjoin ! $ move ! (2 ∷ 0 ∷ []) $ fjoin ! $ move ! (4 ∷ 0 ∷ []) $ fjoin ! $ move ! (5 ∷ 0 ∷ []) $ fjoin ! $ move ! (6 ∷ 0 ∷ []) $ fjoin ! $ move ! (7 ∷ 0 ∷ []) $ fjoin ! $ move ! (8 ∷ 0 ∷ []) $ fjoin ! $ move ! (9 ∷ 0 ∷ []) $ fjoin ! $ move ! (10 ∷ 0 ∷ []) $ fjoin ! $ move ! (11 ∷ 0 ∷ []) $ fjoin ! $ move ! (12 ∷ 0 ∷ []) $ fjoin ! $ move ! (13 ∷ 0 ∷ []) $ fjoin ! $ move ! (1 ∷ 0 ∷ []) $
+        calls-any ! fm 11 [] (process-process.signature .params) (process-process.ended .kept) Processed-p (process-process.clauses 𝓤 H A mem run) known-process-process ((ν-21-sessions ∷ []), ((ν-21-streams ∷ []), ((ν-21-objects ∷ []), ((ν-21-held ∷ []), ((ν-21-parts ∷ []), ((ν-21-lengths ∷ []), ((ν-21-rebuilt ∷ []), (κ₈, ((ν-21-out ∷ []), (κ₁₀, ((ν2-21-13 ∷ []), tt))))))))))) (fullShare, (fullShare, (fullShare, (fullShare, (fullShare, (fullShare, (fullShare, (q₈, (fullShare, (q₁₀, (fullShare, tt))))))))))) tt (at-list b₁ o₁ δ-21-sessions sessions, (at-list b₂ o₂ δ-21-streams streams, (at-list b₃ o₃ δ-21-objects objects, (at-list b₄ o₄ δ-21-held held, (at-list b₅ o₅ δ-21-parts parts, (at-list b₆ o₆ δ-21-lengths lengths, (at-list b₇ o₇ δ-21-rebuilt rebuilt, (at-list b₈ o₈ γ₈ hours, (at-list b₉ o₉ δ-21-out out, (at-list b₁₀ o₁₀ γ₁₀ datagram, (at-list l₁₃ 0 δ2-21-13 (replicate {A = ℕ} 2 0), (agent, (Input-Datagram, (given, tt)))))))))))))) (sliceVal (b₁, o₁) n₁ ∷ [], (sliceVal (b₂, o₂) n₂ ∷ [], (sliceVal (b₃, o₃) n₃ ∷ [], (sliceVal (b₄, o₄) n₄ ∷ [], (sliceVal (b₅, o₅) n₅ ∷ [], (sliceVal (b₆, o₆) n₆ ∷ [], (sliceVal (b₇, o₇) n₇ ∷ [], (sliceVal (b₈, o₈) n₈ ∷ [], (sliceVal (b₉, o₉) n₉ ∷ [], (sliceVal (b₁₀, o₁₀) n₁₀ ∷ [], (sliceVal (l₁₃, 0) 2 ∷ [], (Agent-p .val agent ∷ [], (Input-p .val Input-Datagram ∷ [], (Given′-p .val given ∷ [], tt)))))))))))))) tt (processOf agent (lent (sessions) (streams) (objects) (held) (parts) (lengths) (rebuilt)) (hours) (out) (datagram) ((replicate {A = ℕ} 2 0)) Input-Datagram given .processed) (λ ws-21. (ws-21 .0 ≡ processOf agent (lent (sessions) (streams) (objects) (held) (parts) (lengths) (rebuilt)) (hours) (out) (datagram) ((replicate {A = ℕ} 2 0)) Input-Datagram given .tables .sessions) × (ws-21 .1 .0 ≡ processOf agent (lent (sessions) (streams) (objects) (held) (parts) (lengths) (rebuilt)) (hours) (out) (datagram) ((replicate {A = ℕ} 2 0)) Input-Datagram given .tables .streams) × (ws-21 .1 .1 .0 ≡ processOf agent (lent (sessions) (streams) (objects) (held) (parts) (lengths) (rebuilt)) (hours) (out) (datagram) ((replicate {A = ℕ} 2 0)) Input-Datagram given .tables .objects) × (ws-21 .1 .1 .1 .0 ≡ processOf agent (lent (sessions) (streams) (objects) (held) (parts) (lengths) (rebuilt)) (hours) (out) (datagram) ((replicate {A = ℕ} 2 0)) Input-Datagram given .tables .held) × (ws-21 .1 .1 .1 .1 .0 ≡ processOf agent (lent (sessions) (streams) (objects) (held) (parts) (lengths) (rebuilt)) (hours) (out) (datagram) ((replicate {A = ℕ} 2 0)) Input-Datagram given .tables .parts) × (ws-21 .1 .1 .1 .1 .1 .0 ≡ processOf agent (lent (sessions) (streams) (objects) (held) (parts) (lengths) (rebuilt)) (hours) (out) (datagram) ((replicate {A = ℕ} 2 0)) Input-Datagram given .tables .lengths) × (ws-21 .1 .1 .1 .1 .1 .1 .0 ≡ processOf agent (lent (sessions) (streams) (objects) (held) (parts) (lengths) (rebuilt)) (hours) (out) (datagram) ((replicate {A = ℕ} 2 0)) Input-Datagram given .tables .rebuilt) × (ws-21 .1 .1 .1 .1 .1 .1 .1 .1 .0 ≡ processOf agent (lent (sessions) (streams) (objects) (held) (parts) (lengths) (rebuilt)) (hours) (out) (datagram) ((replicate {A = ℕ} 2 0)) Input-Datagram given .out)) (id⊢ 𝓤 _) (λ r ws-21. fact-mono 𝓤 ((r ≡ processOf agent (lent (sessions) (streams) (objects) (held) (parts) (lengths) (rebuilt)) (hours) (out) (datagram) ((replicate {A = ℕ} 2 0)) Input-Datagram given .processed) × ((ws-21 .0) ≡ processOf agent (lent (sessions) (streams) (objects) (held) (parts) (lengths) (rebuilt)) (hours) (out) (datagram) ((replicate {A = ℕ} 2 0)) Input-Datagram given .tables .sessions) × ((ws-21 .1 .0) ≡ processOf agent (lent (sessions) (streams) (objects) (held) (parts) (lengths) (rebuilt)) (hours) (out) (datagram) ((replicate {A = ℕ} 2 0)) Input-Datagram given .tables .streams) × ((ws-21 .1 .1 .0) ≡ processOf agent (lent (sessions) (streams) (objects) (held) (parts) (lengths) (rebuilt)) (hours) (out) (datagram) ((replicate {A = ℕ} 2 0)) Input-Datagram given .tables .objects) × ((ws-21 .1 .1 .1 .0) ≡ processOf agent (lent (sessions) (streams) (objects) (held) (parts) (lengths) (rebuilt)) (hours) (out) (datagram) ((replicate {A = ℕ} 2 0)) Input-Datagram given .tables .held) × ((ws-21 .1 .1 .1 .1 .0) ≡ processOf agent (lent (sessions) (streams) (objects) (held) (parts) (lengths) (rebuilt)) (hours) (out) (datagram) ((replicate {A = ℕ} 2 0)) Input-Datagram given .tables .parts) × ((ws-21 .1 .1 .1 .1 .1 .0) ≡ processOf agent (lent (sessions) (streams) (objects) (held) (parts) (lengths) (rebuilt)) (hours) (out) (datagram) ((replicate {A = ℕ} 2 0)) Input-Datagram given .tables .lengths) × ((ws-21 .1 .1 .1 .1 .1 .1 .0) ≡ processOf agent (lent (sessions) (streams) (objects) (held) (parts) (lengths) (rebuilt)) (hours) (out) (datagram) ((replicate {A = ℕ} 2 0)) Input-Datagram given .tables .rebuilt) × ((ws-21 .1 .1 .1 .1 .1 .1 .1 .1 .0) ≡ processOf agent (lent (sessions) (streams) (objects) (held) (parts) (lengths) (rebuilt)) (hours) (out) (datagram) ((replicate {A = ℕ} 2 0)) Input-Datagram given .out)) ((r ≡ (processOf agent (lent (sessions) (streams) (objects) (held) (parts) (lengths) (rebuilt)) (hours) (out) (datagram) ((replicate {A = ℕ} 2 0)) Input-Datagram given .processed)) × ((ws-21 .0 ≡ processOf agent (lent (sessions) (streams) (objects) (held) (parts) (lengths) (rebuilt)) (hours) (out) (datagram) ((replicate {A = ℕ} 2 0)) Input-Datagram given .tables .sessions) × (ws-21 .1 .0 ≡ processOf agent (lent (sessions) (streams) (objects) (held) (parts) (lengths) (rebuilt)) (hours) (out) (datagram) ((replicate {A = ℕ} 2 0)) Input-Datagram given .tables .streams) × (ws-21 .1 .1 .0 ≡ processOf agent (lent (sessions) (streams) (objects) (held) (parts) (lengths) (rebuilt)) (hours) (out) (datagram) ((replicate {A = ℕ} 2 0)) Input-Datagram given .tables .objects) × (ws-21 .1 .1 .1 .0 ≡ processOf agent (lent (sessions) (streams) (objects) (held) (parts) (lengths) (rebuilt)) (hours) (out) (datagram) ((replicate {A = ℕ} 2 0)) Input-Datagram given .tables .held) × (ws-21 .1 .1 .1 .1 .0 ≡ processOf agent (lent (sessions) (streams) (objects) (held) (parts) (lengths) (rebuilt)) (hours) (out) (datagram) ((replicate {A = ℕ} 2 0)) Input-Datagram given .tables .parts) × (ws-21 .1 .1 .1 .1 .1 .0 ≡ processOf agent (lent (sessions) (streams) (objects) (held) (parts) (lengths) (rebuilt)) (hours) (out) (datagram) ((replicate {A = ℕ} 2 0)) Input-Datagram given .tables .lengths) × (ws-21 .1 .1 .1 .1 .1 .1 .0 ≡ processOf agent (lent (sessions) (streams) (objects) (held) (parts) (lengths) (rebuilt)) (hours) (out) (datagram) ((replicate {A = ℕ} 2 0)) Input-Datagram given .tables .rebuilt) × (ws-21 .1 .1 .1 .1 .1 .1 .1 .1 .0 ≡ processOf agent (lent (sessions) (streams) (objects) (held) (parts) (lengths) (rebuilt)) (hours) (out) (datagram) ((replicate {A = ℕ} 2 0)) Input-Datagram given .out))) (λ e. (e .0, (e .1, e .2, e .3, e .4, e .5, e .6, e .7, e .8)))) (λ _. (and-then ! (load ! (from ! (stop !)) (look ! 47 refl)) (and-then ! (load ! (from ! (stop !)) (look ! 43 refl)) (and-then ! (load ! (from ! (stop !)) (look ! 39 refl)) (and-then ! (load ! (from ! (stop !)) (look ! 35 refl)) (and-then ! (load ! (from ! (stop !)) (look ! 31 refl)) (and-then ! (load ! (from ! (stop !)) (look ! 27 refl)) (and-then ! (load ! (from ! (stop !)) (look ! 23 refl)) (and-then ! (load ! (from ! (stop !)) (look ! 60 refl)) (and-then ! (load ! (from ! (stop !)) (look ! 19 refl)) (and-then ! (load ! (from ! (stop !)) (look ! 56 refl)) (and-then ! (load ! (from ! (stop !)) (look ! 15 refl)) (and-then ! (load ! (from ! (stop !)) (look ! 54 refl)) (and-then ! (load ! (from ! (stop !)) (look ! 13 refl)) (and-then ! (load ! (from ! (stop !)) (look ! 52 refl)) (no-more !)))))))))))))))) (λ ws-21 said-21 is-21.
+        use1 W ((‵ (flft (ν-21-sessions ∷ []) fullShare) ⊛ (‵ (flft (ν-21-streams ∷ []) fullShare) ⊛ (‵ (flft (ν-21-objects ∷ []) fullShare) ⊛ (‵ (flft (ν-21-held ∷ []) fullShare) ⊛ (‵ (flft (ν-21-parts ∷ []) fullShare) ⊛ (‵ (flft (ν-21-lengths ∷ []) fullShare) ⊛ (‵ (flft (ν-21-rebuilt ∷ []) fullShare) ⊛ (‵ (flft κ₈ q₈) ⊛ (‵ (flft (ν-21-out ∷ []) fullShare) ⊛ (‵ (flft κ₁₀ q₁₀) ⊛ (‵ (flft (ν2-21-13 ∷ []) fullShare) ⊛ ‵ ftrue)))))))))))) (id⊢ 𝓤 _) $ split ! $ move ! (1 ∷ []) $ split ! $ move ! (1 ∷ []) $ split ! $ move ! (1 ∷ []) $ split ! $ move ! (1 ∷ []) $ split ! $ move ! (1 ∷ []) $ split ! $ move ! (1 ∷ []) $ split ! $ move ! (1 ∷ []) $ split ! $ move ! (1 ∷ []) $ split ! $ move ! (1 ∷ []) $ split ! $ move ! (1 ∷ []) $ split ! $ move ! (12 ∷ []) $ fsplit ! $ fsplit ! $ move ! (1 ∷ []) $
         feqL ! (λ wlen-21-0.
         move ! (1 ∷ []) $ fsplit ! $ fsplit ! $ move ! (1 ∷ []) $
         feqL ! (λ wlen-21-1.
@@ -322,47 +339,47 @@ module _ {M : Type 1} (𝓤 : URA M) (H : Heap 𝓤) (A : Atoms 𝓤) (W : Given
         feqL ! (λ wlen-21-5.
         move ! (1 ∷ []) $ fsplit ! $ fsplit ! $ move ! (1 ∷ []) $
         feqL ! (λ wlen-21-6.
-        move ! (1 ∷ []) $ fsplit ! $ fsplit ! $ move ! (1 ∷ []) $
-        feqL ! (λ wlen-21-7.
-        move ! (1 ∷ []) $ fsplit ! $ move ! (1 ∷ []) $ fsplit ! $ move ! (21 ∷ 32 ∷ 10 ∷ []) $
-        backs-mut ! tt (Array u64 8) b₁ o₁ sessions n₁ (refl) room₁ ν-21-sessions δ-21-sessions (ws-21 .0) (processOf agent (lent (sessions) (streams) (objects) (held) (parts) (lengths) (rebuilt)) (out) (datagram) ((replicate {A = ℕ} 2 0)) (Input-Datagram (given .time)) .tables .sessions) wlen-21-0 (said-21 .0) (λ len-21-sessions.
-        move ! (21 ∷ 31 ∷ 11 ∷ []) $
-        backs-mut ! tt (Array u16 35) b₂ o₂ streams n₂ (refl) room₂ ν-21-streams δ-21-streams (ws-21 .1 .0) (processOf agent (lent (sessions) (streams) (objects) (held) (parts) (lengths) (rebuilt)) (out) (datagram) ((replicate {A = ℕ} 2 0)) (Input-Datagram (given .time)) .tables .streams) wlen-21-1 (said-21 .1) (λ len-21-streams.
-        move ! (21 ∷ 30 ∷ 12 ∷ []) $
-        backs-mut ! tt Object-t.the-row b₃ o₃ objects n₃ (refl) room₃ ν-21-objects δ-21-objects (ws-21 .1 .1 .0) (processOf agent (lent (sessions) (streams) (objects) (held) (parts) (lengths) (rebuilt)) (out) (datagram) ((replicate {A = ℕ} 2 0)) (Input-Datagram (given .time)) .tables .objects) wlen-21-2 (said-21 .2) (λ len-21-objects.
-        move ! (21 ∷ 29 ∷ 13 ∷ []) $
-        backs-mut ! tt u8 b₄ o₄ held n₄ (refl) room₄ ν-21-held δ-21-held (ws-21 .1 .1 .1 .0) (processOf agent (lent (sessions) (streams) (objects) (held) (parts) (lengths) (rebuilt)) (out) (datagram) ((replicate {A = ℕ} 2 0)) (Input-Datagram (given .time)) .tables .held) wlen-21-3 (said-21 .3) (λ len-21-held.
-        move ! (21 ∷ 28 ∷ 14 ∷ []) $
-        backs-mut ! tt u8 b₅ o₅ parts n₅ (refl) room₅ ν-21-parts δ-21-parts (ws-21 .1 .1 .1 .1 .0) (processOf agent (lent (sessions) (streams) (objects) (held) (parts) (lengths) (rebuilt)) (out) (datagram) ((replicate {A = ℕ} 2 0)) (Input-Datagram (given .time)) .tables .parts) wlen-21-4 (said-21 .4) (λ len-21-parts.
-        move ! (21 ∷ 27 ∷ 15 ∷ []) $
-        backs-mut ! tt u32 b₆ o₆ lengths n₆ (refl) room₆ ν-21-lengths δ-21-lengths (ws-21 .1 .1 .1 .1 .1 .0) (processOf agent (lent (sessions) (streams) (objects) (held) (parts) (lengths) (rebuilt)) (out) (datagram) ((replicate {A = ℕ} 2 0)) (Input-Datagram (given .time)) .tables .lengths) wlen-21-5 (said-21 .5) (λ len-21-lengths.
-        move ! (21 ∷ 26 ∷ 16 ∷ []) $
-        backs-mut ! tt u8 b₇ o₇ rebuilt n₇ (refl) room₇ ν-21-rebuilt δ-21-rebuilt (ws-21 .1 .1 .1 .1 .1 .1 .0) (processOf agent (lent (sessions) (streams) (objects) (held) (parts) (lengths) (rebuilt)) (out) (datagram) ((replicate {A = ℕ} 2 0)) (Input-Datagram (given .time)) .tables .rebuilt) wlen-21-6 (said-21 .6) (λ len-21-rebuilt.
-        move ! (21 ∷ 25 ∷ 17 ∷ []) $
-        backs-mut ! tt u8 b₈ o₈ out n₈ (refl) room₈ ν-21-out δ-21-out (ws-21 .1 .1 .1 .1 .1 .1 .1 .0) (processOf agent (lent (sessions) (streams) (objects) (held) (parts) (lengths) (rebuilt)) (out) (datagram) ((replicate {A = ℕ} 2 0)) (Input-Datagram (given .time)) .out) wlen-21-7 (said-21 .7) (λ len-21-out.
-        move ! (19 ∷ 22 ∷ []) $
-        backs-view ! tt u8 l₁₂ 0 (replicate {A = ℕ} 2 0) 2 llen-21-12 ν2-21-12 $
-        ends-mut ! u8 l₁₂ 0 (replicate {A = ℕ} 2 0) 2 $ move ! (0 ∷ 23 ∷ 1 ∷ []) $
-        backs-array ! tt u8 (u8-p .ty) 2 refl l₁₂ ν-21-12 δ-21-12 (replicate {A = ℕ} 2 0) (λ v-21-12 vis-21-12.
-        move ! (17 ∷ []) $ drop ! $ move ! (17 ∷ []) $ drop ! $ move ! (17 ∷ []) $ drop ! $ move ! (17 ∷ []) $ drop ! $
-        land ! (from ! (stop !)) (init ! 80 refl (Processed-p .typed 𝓤 H A W (processOf agent (lent (sessions) (streams) (objects) (held) (parts) (lengths) (rebuilt)) (out) (datagram) ((replicate {A = ℕ} 2 0)) (Input-Datagram (given .time)) .processed) is-21)) $
-        returns ! (look ! 80 refl) $ forget ! 0 refl $ forget ! 19 refl $ forget ! 21 refl $ forget ! 23 refl $ forget ! 25 refl $ forget ! 27 refl $ forget ! 29 refl $ forget ! 31 refl $ forget ! 33 refl $ forget ! 35 refl $ forget ! 37 refl $ forget ! 39 refl $ forget ! 41 refl $ forget ! 43 refl $ forget ! 45 refl $ forget ! 47 refl $ forget ! 49 refl $ forget ! 51 refl $ forget ! 53 refl $ forget ! 55 refl $ forget ! 58 refl $ forget ! 60 refl $ forget ! 62 refl $ forget ! 64 refl $ forget ! 66 refl $ forget ! 68 refl $ forget ! 70 refl $ forget ! 72 refl $ forget ! 74 refl $ forget ! 76 refl $ forget ! 78 refl $ forget ! 80 refl $ move ! (80 ∷ 81 ∷ []) $ free1 ! $ move ! (78 ∷ 79 ∷ []) $ free1 ! $ move ! (76 ∷ 77 ∷ []) $ free1 ! $ move ! (74 ∷ 75 ∷ []) $ free1 ! $ move ! (72 ∷ 73 ∷ []) $ free1 ! $ move ! (70 ∷ 71 ∷ []) $ free1 ! $ move ! (68 ∷ 69 ∷ []) $ free1 ! $ move ! (66 ∷ 67 ∷ []) $ free1 ! $ move ! (64 ∷ 65 ∷ []) $ free1 ! $ move ! (62 ∷ 63 ∷ []) $ free1 ! $ move ! (60 ∷ 61 ∷ []) $ free1 ! $ move ! (58 ∷ 59 ∷ []) $ free1 ! $ move ! (0 ∷ 57 ∷ []) $ free1 ! $ move ! (54 ∷ 55 ∷ []) $ free1 ! $ move ! (52 ∷ 53 ∷ []) $ free1 ! $ move ! (50 ∷ 51 ∷ []) $ free1 ! $ move ! (48 ∷ 49 ∷ []) $ free1 ! $ move ! (46 ∷ 47 ∷ []) $ free1 ! $ move ! (44 ∷ 45 ∷ []) $ free1 ! $ move ! (42 ∷ 43 ∷ []) $ free1 ! $ move ! (40 ∷ 41 ∷ []) $ free1 ! $ move ! (38 ∷ 39 ∷ []) $ free1 ! $ move ! (36 ∷ 37 ∷ []) $ free1 ! $ move ! (34 ∷ 35 ∷ []) $ free1 ! $ move ! (32 ∷ 33 ∷ []) $ free1 ! $ move ! (30 ∷ 31 ∷ []) $ free1 ! $ move ! (28 ∷ 29 ∷ []) $ free1 ! $ move ! (26 ∷ 27 ∷ []) $ free1 ! $ move ! (24 ∷ 25 ∷ []) $ free1 ! $ move ! (22 ∷ 23 ∷ []) $ free1 ! $ move ! (20 ∷ 21 ∷ []) $ free1 ! $ move ! (18 ∷ 19 ∷ []) $ free1 ! $ free0 ! $ move ! (14 ∷ 15 ∷ 12 ∷ 13 ∷ 10 ∷ 11 ∷ 8 ∷ 9 ∷ 6 ∷ 7 ∷ 4 ∷ 5 ∷ 2 ∷ 3 ∷ 0 ∷ 1 ∷ 17 ∷ 16 ∷ []) $
-        by ! (exits (processOf agent (lent (sessions) (streams) (objects) (held) (parts) (lengths) (rebuilt)) (out) (datagram) ((replicate {A = ℕ} 2 0)) (Input-Datagram (given .time)) .processed) (processOf agent (lent (sessions) (streams) (objects) (held) (parts) (lengths) (rebuilt)) (out) (datagram) ((replicate {A = ℕ} 2 0)) (Input-Datagram (given .time)) .tables .sessions) (processOf agent (lent (sessions) (streams) (objects) (held) (parts) (lengths) (rebuilt)) (out) (datagram) ((replicate {A = ℕ} 2 0)) (Input-Datagram (given .time)) .tables .streams) (processOf agent (lent (sessions) (streams) (objects) (held) (parts) (lengths) (rebuilt)) (out) (datagram) ((replicate {A = ℕ} 2 0)) (Input-Datagram (given .time)) .tables .objects) (processOf agent (lent (sessions) (streams) (objects) (held) (parts) (lengths) (rebuilt)) (out) (datagram) ((replicate {A = ℕ} 2 0)) (Input-Datagram (given .time)) .tables .held) (processOf agent (lent (sessions) (streams) (objects) (held) (parts) (lengths) (rebuilt)) (out) (datagram) ((replicate {A = ℕ} 2 0)) (Input-Datagram (given .time)) .tables .parts) (processOf agent (lent (sessions) (streams) (objects) (held) (parts) (lengths) (rebuilt)) (out) (datagram) ((replicate {A = ℕ} 2 0)) (Input-Datagram (given .time)) .tables .lengths) (processOf agent (lent (sessions) (streams) (objects) (held) (parts) (lengths) (rebuilt)) (out) (datagram) ((replicate {A = ℕ} 2 0)) (Input-Datagram (given .time)) .tables .rebuilt) (processOf agent (lent (sessions) (streams) (objects) (held) (parts) (lengths) (rebuilt)) (out) (datagram) ((replicate {A = ℕ} 2 0)) (Input-Datagram (given .time)) .out) (same-leaves _ _ (any-sample agent (lent sessions streams objects held parts lengths rebuilt) out datagram (replicate 2 0) [] (given .time))) is-21 len-21-sessions len-21-streams len-21-objects len-21-held len-21-parts len-21-lengths len-21-rebuilt len-21-out)))))))))))))))))))))))))))))
+        move ! (1 ∷ []) $ fsplit ! $ move ! (1 ∷ []) $ fsplit ! $ fsplit ! $ move ! (1 ∷ []) $
+        feqL ! (λ wlen-21-8.
+        move ! (1 ∷ []) $ fsplit ! $ move ! (1 ∷ []) $ fsplit ! $ move ! (23 ∷ 35 ∷ 11 ∷ []) $
+        backs-mut ! tt (Array u64 8) b₁ o₁ sessions n₁ (refl) room₁ ν-21-sessions δ-21-sessions (ws-21 .0) (processOf agent (lent (sessions) (streams) (objects) (held) (parts) (lengths) (rebuilt)) (hours) (out) (datagram) ((replicate {A = ℕ} 2 0)) Input-Datagram given .tables .sessions) wlen-21-0 (said-21 .0) (λ len-21-sessions.
+        move ! (23 ∷ 34 ∷ 12 ∷ []) $
+        backs-mut ! tt (Array u16 35) b₂ o₂ streams n₂ (refl) room₂ ν-21-streams δ-21-streams (ws-21 .1 .0) (processOf agent (lent (sessions) (streams) (objects) (held) (parts) (lengths) (rebuilt)) (hours) (out) (datagram) ((replicate {A = ℕ} 2 0)) Input-Datagram given .tables .streams) wlen-21-1 (said-21 .1) (λ len-21-streams.
+        move ! (23 ∷ 33 ∷ 13 ∷ []) $
+        backs-mut ! tt Object-t.the-row b₃ o₃ objects n₃ (refl) room₃ ν-21-objects δ-21-objects (ws-21 .1 .1 .0) (processOf agent (lent (sessions) (streams) (objects) (held) (parts) (lengths) (rebuilt)) (hours) (out) (datagram) ((replicate {A = ℕ} 2 0)) Input-Datagram given .tables .objects) wlen-21-2 (said-21 .2) (λ len-21-objects.
+        move ! (23 ∷ 32 ∷ 14 ∷ []) $
+        backs-mut ! tt u8 b₄ o₄ held n₄ (refl) room₄ ν-21-held δ-21-held (ws-21 .1 .1 .1 .0) (processOf agent (lent (sessions) (streams) (objects) (held) (parts) (lengths) (rebuilt)) (hours) (out) (datagram) ((replicate {A = ℕ} 2 0)) Input-Datagram given .tables .held) wlen-21-3 (said-21 .3) (λ len-21-held.
+        move ! (23 ∷ 31 ∷ 15 ∷ []) $
+        backs-mut ! tt u8 b₅ o₅ parts n₅ (refl) room₅ ν-21-parts δ-21-parts (ws-21 .1 .1 .1 .1 .0) (processOf agent (lent (sessions) (streams) (objects) (held) (parts) (lengths) (rebuilt)) (hours) (out) (datagram) ((replicate {A = ℕ} 2 0)) Input-Datagram given .tables .parts) wlen-21-4 (said-21 .4) (λ len-21-parts.
+        move ! (23 ∷ 30 ∷ 16 ∷ []) $
+        backs-mut ! tt u32 b₆ o₆ lengths n₆ (refl) room₆ ν-21-lengths δ-21-lengths (ws-21 .1 .1 .1 .1 .1 .0) (processOf agent (lent (sessions) (streams) (objects) (held) (parts) (lengths) (rebuilt)) (hours) (out) (datagram) ((replicate {A = ℕ} 2 0)) Input-Datagram given .tables .lengths) wlen-21-5 (said-21 .5) (λ len-21-lengths.
+        move ! (23 ∷ 29 ∷ 17 ∷ []) $
+        backs-mut ! tt u8 b₇ o₇ rebuilt n₇ (refl) room₇ ν-21-rebuilt δ-21-rebuilt (ws-21 .1 .1 .1 .1 .1 .1 .0) (processOf agent (lent (sessions) (streams) (objects) (held) (parts) (lengths) (rebuilt)) (hours) (out) (datagram) ((replicate {A = ℕ} 2 0)) Input-Datagram given .tables .rebuilt) wlen-21-6 (said-21 .6) (λ len-21-rebuilt.
+        move ! (22 ∷ 27 ∷ 17 ∷ []) $
+        backs-mut ! tt u8 b₉ o₉ out n₉ (refl) room₉ ν-21-out δ-21-out (ws-21 .1 .1 .1 .1 .1 .1 .1 .1 .0) (processOf agent (lent (sessions) (streams) (objects) (held) (parts) (lengths) (rebuilt)) (hours) (out) (datagram) ((replicate {A = ℕ} 2 0)) Input-Datagram given .out) wlen-21-8 (said-21 .7) (λ len-21-out.
+        move ! (20 ∷ 24 ∷ []) $
+        backs-view ! tt u8 l₁₃ 0 (replicate {A = ℕ} 2 0) 2 llen-21-13 ν2-21-13 $
+        ends-mut ! u8 l₁₃ 0 (replicate {A = ℕ} 2 0) 2 $ move ! (0 ∷ 25 ∷ 1 ∷ []) $
+        backs-array ! tt u8 (u8-p .ty) 2 refl l₁₃ ν-21-13 δ-21-13 (replicate {A = ℕ} 2 0) (λ v-21-13 vis-21-13.
+        move ! (17 ∷ []) $ drop ! $ move ! (17 ∷ []) $ drop ! $ move ! (17 ∷ []) $ drop ! $ move ! (17 ∷ []) $ drop ! $ move ! (17 ∷ []) $ drop ! $
+        land ! (from ! (stop !)) (init ! 84 refl (Processed-p .typed 𝓤 H A W (processOf agent (lent (sessions) (streams) (objects) (held) (parts) (lengths) (rebuilt)) (hours) (out) (datagram) ((replicate {A = ℕ} 2 0)) Input-Datagram given .processed) is-21)) $
+        returns ! (look ! 84 refl) $ forget ! 0 refl $ forget ! 21 refl $ forget ! 23 refl $ forget ! 25 refl $ forget ! 27 refl $ forget ! 29 refl $ forget ! 31 refl $ forget ! 33 refl $ forget ! 35 refl $ forget ! 37 refl $ forget ! 39 refl $ forget ! 41 refl $ forget ! 43 refl $ forget ! 45 refl $ forget ! 47 refl $ forget ! 49 refl $ forget ! 51 refl $ forget ! 53 refl $ forget ! 55 refl $ forget ! 57 refl $ forget ! 60 refl $ forget ! 62 refl $ forget ! 64 refl $ forget ! 66 refl $ forget ! 68 refl $ forget ! 70 refl $ forget ! 72 refl $ forget ! 74 refl $ forget ! 76 refl $ forget ! 78 refl $ forget ! 80 refl $ forget ! 82 refl $ forget ! 84 refl $ move ! (84 ∷ 85 ∷ []) $ free1 ! $ move ! (82 ∷ 83 ∷ []) $ free1 ! $ move ! (80 ∷ 81 ∷ []) $ free1 ! $ move ! (78 ∷ 79 ∷ []) $ free1 ! $ move ! (76 ∷ 77 ∷ []) $ free1 ! $ move ! (74 ∷ 75 ∷ []) $ free1 ! $ move ! (72 ∷ 73 ∷ []) $ free1 ! $ move ! (70 ∷ 71 ∷ []) $ free1 ! $ move ! (68 ∷ 69 ∷ []) $ free1 ! $ move ! (66 ∷ 67 ∷ []) $ free1 ! $ move ! (64 ∷ 65 ∷ []) $ free1 ! $ move ! (62 ∷ 63 ∷ []) $ free1 ! $ move ! (60 ∷ 61 ∷ []) $ free1 ! $ move ! (0 ∷ 59 ∷ []) $ free1 ! $ move ! (56 ∷ 57 ∷ []) $ free1 ! $ move ! (54 ∷ 55 ∷ []) $ free1 ! $ move ! (52 ∷ 53 ∷ []) $ free1 ! $ move ! (50 ∷ 51 ∷ []) $ free1 ! $ move ! (48 ∷ 49 ∷ []) $ free1 ! $ move ! (46 ∷ 47 ∷ []) $ free1 ! $ move ! (44 ∷ 45 ∷ []) $ free1 ! $ move ! (42 ∷ 43 ∷ []) $ free1 ! $ move ! (40 ∷ 41 ∷ []) $ free1 ! $ move ! (38 ∷ 39 ∷ []) $ free1 ! $ move ! (36 ∷ 37 ∷ []) $ free1 ! $ move ! (34 ∷ 35 ∷ []) $ free1 ! $ move ! (32 ∷ 33 ∷ []) $ free1 ! $ move ! (30 ∷ 31 ∷ []) $ free1 ! $ move ! (28 ∷ 29 ∷ []) $ free1 ! $ move ! (26 ∷ 27 ∷ []) $ free1 ! $ move ! (24 ∷ 25 ∷ []) $ free1 ! $ move ! (22 ∷ 23 ∷ []) $ free1 ! $ move ! (20 ∷ 21 ∷ []) $ free1 ! $ free0 ! $ move ! (14 ∷ 15 ∷ 12 ∷ 13 ∷ 10 ∷ 11 ∷ 8 ∷ 9 ∷ 6 ∷ 7 ∷ 4 ∷ 5 ∷ 2 ∷ 3 ∷ 19 ∷ 17 ∷ 0 ∷ 1 ∷ 18 ∷ 16 ∷ []) $
+        by ! (exits (processOf agent (lent (sessions) (streams) (objects) (held) (parts) (lengths) (rebuilt)) (hours) (out) (datagram) ((replicate {A = ℕ} 2 0)) Input-Datagram given .processed) (processOf agent (lent (sessions) (streams) (objects) (held) (parts) (lengths) (rebuilt)) (hours) (out) (datagram) ((replicate {A = ℕ} 2 0)) Input-Datagram given .tables .sessions) (processOf agent (lent (sessions) (streams) (objects) (held) (parts) (lengths) (rebuilt)) (hours) (out) (datagram) ((replicate {A = ℕ} 2 0)) Input-Datagram given .tables .streams) (processOf agent (lent (sessions) (streams) (objects) (held) (parts) (lengths) (rebuilt)) (hours) (out) (datagram) ((replicate {A = ℕ} 2 0)) Input-Datagram given .tables .objects) (processOf agent (lent (sessions) (streams) (objects) (held) (parts) (lengths) (rebuilt)) (hours) (out) (datagram) ((replicate {A = ℕ} 2 0)) Input-Datagram given .tables .held) (processOf agent (lent (sessions) (streams) (objects) (held) (parts) (lengths) (rebuilt)) (hours) (out) (datagram) ((replicate {A = ℕ} 2 0)) Input-Datagram given .tables .parts) (processOf agent (lent (sessions) (streams) (objects) (held) (parts) (lengths) (rebuilt)) (hours) (out) (datagram) ((replicate {A = ℕ} 2 0)) Input-Datagram given .tables .lengths) (processOf agent (lent (sessions) (streams) (objects) (held) (parts) (lengths) (rebuilt)) (hours) (out) (datagram) ((replicate {A = ℕ} 2 0)) Input-Datagram given .tables .rebuilt) (processOf agent (lent (sessions) (streams) (objects) (held) (parts) (lengths) (rebuilt)) (hours) (out) (datagram) ((replicate {A = ℕ} 2 0)) Input-Datagram given .out) (same-leaves _ _ (any-sample agent (lent sessions streams objects held parts lengths rebuilt) out datagram (replicate 2 0) [] hours given)) is-21 len-21-sessions len-21-streams len-21-objects len-21-held len-21-parts len-21-lengths len-21-rebuilt len-21-out)))))))))))))))))))))))))))))
 
   module _ (𝓣 : Tables 𝓤 H) (known-process-process : Triple 𝓤 (𝓣 .C #process-process) (Of-process-process 𝓤 H A mem run)) where
-    walk : ent 𝓤 (onEntry 𝓤 H A f.signature (κ₁, (κ₂, (κ₃, (κ₄, (κ₅, (κ₆, (κ₇, (κ₈, (κ₉, tt))))))))) (q₁, (q₂, (q₃, (q₄, (q₅, (q₆, (q₇, (q₈, (q₉, tt))))))))) x at) (WpFn 𝓤 H (𝓣 .C) (𝓣 .Λ) code.function (sliceVal (b₁, o₁) n₁ ∷ sliceVal (b₂, o₂) n₂ ∷ sliceVal (b₃, o₃) n₃ ∷ sliceVal (b₄, o₄) n₄ ∷ sliceVal (b₅, o₅) n₅ ∷ sliceVal (b₆, o₆) n₆ ∷ sliceVal (b₇, o₇) n₇ ∷ sliceVal (b₈, o₈) n₈ ∷ sliceVal (b₉, o₉) n₉ ∷ Agent-p .val agent ∷ Given′-p .val given ∷ []) Post)
+    walk : ent 𝓤 (onEntry 𝓤 H A f.signature (κ₁, (κ₂, (κ₃, (κ₄, (κ₅, (κ₆, (κ₇, (κ₈, (κ₉, (κ₁₀, tt)))))))))) (q₁, (q₂, (q₃, (q₄, (q₅, (q₆, (q₇, (q₈, (q₉, (q₁₀, tt)))))))))) x at) (WpFn 𝓤 H (𝓣 .C) (𝓣 .Λ) code.function (sliceVal (b₁, o₁) n₁ ∷ sliceVal (b₂, o₂) n₂ ∷ sliceVal (b₃, o₃) n₃ ∷ sliceVal (b₄, o₄) n₄ ∷ sliceVal (b₅, o₅) n₅ ∷ sliceVal (b₆, o₆) n₆ ∷ sliceVal (b₇, o₇) n₇ ∷ sliceVal (b₈, o₈) n₈ ∷ sliceVal (b₉, o₉) n₉ ∷ sliceVal (b₁₀, o₁₀) n₁₀ ∷ Agent-p .val agent ∷ Given′-p .val given ∷ []) Post)
     walk =
-        qed W ((‵ (flft κ₁ q₁) ⊛ (‵ (flft κ₂ q₂) ⊛ (‵ (flft κ₃ q₃) ⊛ (‵ (flft κ₄ q₄) ⊛ (‵ (flft κ₅ q₅) ⊛ (‵ (flft κ₆ q₆) ⊛ (‵ (flft κ₇ q₇) ⊛ (‵ (flft κ₈ q₈) ⊛ (‵ (flft κ₉ q₉) ⊛ ‵ ftrue))))))))) ∷ ‵ (owns (MutSlice (named 0) κ₁ (Array u64 8) ∷ MutSlice (named 1) κ₂ (Array u16 35) ∷ MutSlice (named 2) κ₃ Object-t.the-row ∷ MutSlice (named 3) κ₄ u8 ∷ MutSlice (named 4) κ₅ u8 ∷ MutSlice (named 5) κ₆ u32 ∷ MutSlice (named 6) κ₇ u8 ∷ MutSlice (named 7) κ₈ u8 ∷ ShrSlice (named 8) κ₉ u8 ∷ Agent-p .row ∷ Given′-p .row ∷ []) x at) ∷ []) ∵ enter ! (𝓣 .C) (𝓣 .Λ) code.function (sliceVal (b₁, o₁) n₁ ∷ sliceVal (b₂, o₂) n₂ ∷ sliceVal (b₃, o₃) n₃ ∷ sliceVal (b₄, o₄) n₄ ∷ sliceVal (b₅, o₅) n₅ ∷ sliceVal (b₆, o₆) n₆ ∷ sliceVal (b₇, o₇) n₇ ∷ sliceVal (b₈, o₈) n₈ ∷ sliceVal (b₉, o₉) n₉ ∷ Agent-p .val agent ∷ Given′-p .val given ∷ []) _ $
-        alloc1 ! (λ l₀. alloc1 ! (λ l₁. alloc1 ! (λ l₂. alloc1 ! (λ l₃. alloc1 ! (λ l₄. alloc1 ! (λ l₅. alloc1 ! (λ l₆. alloc1 ! (λ l₇. alloc1 ! (λ l₈. alloc1 ! (λ l₉. alloc1 ! (λ l₁₀. alloc1 ! (λ l₁₁. alloc1 ! (λ l₁₂. alloc1 ! (λ l₁₃. alloc1 ! (λ l₁₄. alloc1 ! (λ l₁₅. alloc1 ! (λ l₁₆. alloc1 ! (λ l₁₇. alloc1 ! (λ l₁₈. alloc1 ! (λ l₁₉. alloc1 ! (λ l₂₀. alloc1 ! (λ l₂₁. alloc1 ! (λ l₂₂. alloc1 ! (λ l₂₃. alloc1 ! (λ l₂₄. alloc1 ! (λ l₂₅. alloc1 ! (λ l₂₆. alloc1 ! (λ l₂₇. alloc1 ! (λ l₂₈. alloc1 ! (λ l₂₉. alloc1 ! (λ l₃₀. alloc1 ! (λ l₃₁. alloc0 ! $ params1 ! $ pass1 ! (init ! 60 refl (tt, (tt, (record { fits = room₁ .0 }, tt)))) $ pass1 ! (init ! 58 refl (tt, (tt, (record { fits = room₂ .0 }, tt)))) $ pass1 ! (init ! 56 refl (tt, (tt, (record { fits = room₃ .0 }, tt)))) $ pass1 ! (init ! 54 refl (tt, (tt, (record { fits = room₄ .0 }, tt)))) $ pass1 ! (init ! 52 refl (tt, (tt, (record { fits = room₅ .0 }, tt)))) $ pass1 ! (init ! 50 refl (tt, (tt, (record { fits = room₆ .0 }, tt)))) $ pass1 ! (init ! 48 refl (tt, (tt, (record { fits = room₇ .0 }, tt)))) $ pass1 ! (init ! 46 refl (tt, (tt, (record { fits = room₈ .0 }, tt)))) $ pass1 ! (init ! 44 refl (tt, (tt, (record { fits = room₉ .0 }, tt)))) $ pass1 ! (init ! 42 refl (Agent-p .typed 𝓤 H A W agent agent-is)) $ pass1 ! (init ! 40 refl (Given′-p .typed 𝓤 H A W given given-is)) $ pass0 ! $ move ! (65 ∷ []) $ fsplit ! $ move ! (1 ∷ []) $ fsplit ! $ move ! (1 ∷ []) $ fsplit ! $ move ! (1 ∷ []) $ fsplit ! $ move ! (1 ∷ []) $ fsplit ! $ move ! (1 ∷ []) $ fsplit ! $ move ! (1 ∷ []) $ fsplit ! $ move ! (1 ∷ []) $ fsplit ! $ move ! (1 ∷ []) $ fsplit ! $ move ! (74 ∷ []) $ split ! $ move ! (1 ∷ []) $ split ! $ move ! (1 ∷ []) $ split ! $ move ! (1 ∷ []) $ split ! $ move ! (1 ∷ []) $ split ! $ move ! (1 ∷ []) $ split ! $ move ! (1 ∷ []) $ split ! $ move ! (1 ∷ []) $ split ! $ move ! (1 ∷ []) $ split ! $ move ! (1 ∷ []) $ drop ! $ move ! (10 ∷ []) $ drop ! $ move ! (17 ∷ 8 ∷ 16 ∷ 7 ∷ 15 ∷ 6 ∷ 14 ∷ 5 ∷ 13 ∷ 4 ∷ 12 ∷ 3 ∷ 11 ∷ 2 ∷ 10 ∷ 1 ∷ 9 ∷ 0 ∷ 18 ∷ 19 ∷ 20 ∷ 21 ∷ 22 ∷ 23 ∷ 24 ∷ 25 ∷ 26 ∷ 27 ∷ 28 ∷ 29 ∷ 30 ∷ 31 ∷ 32 ∷ 33 ∷ 34 ∷ 35 ∷ 36 ∷ 37 ∷ 38 ∷ 39 ∷ 40 ∷ 41 ∷ 42 ∷ 43 ∷ 44 ∷ 45 ∷ 46 ∷ 47 ∷ 48 ∷ 49 ∷ 50 ∷ 51 ∷ 52 ∷ 53 ∷ 54 ∷ 55 ∷ 56 ∷ 57 ∷ 58 ∷ 59 ∷ 60 ∷ 61 ∷ 62 ∷ 63 ∷ 64 ∷ 65 ∷ 66 ∷ 67 ∷ 68 ∷ 69 ∷ 70 ∷ 71 ∷ 72 ∷ 73 ∷ 74 ∷ 75 ∷ 76 ∷ 77 ∷ 78 ∷ 79 ∷ 80 ∷ 81 ∷ []) $
-        begins 𝓣 known-process-process l₀ l₁ l₂ l₃ l₄ l₅ l₆ l₇ l₈ l₉ l₁₀ l₁₁ l₁₂ l₁₃ l₁₄ l₁₅ l₁₆ l₁₇ l₁₈ l₁₉ l₂₀ l₂₁ l₂₂ l₂₃ l₂₄ l₂₅ l₂₆ l₂₇ l₂₈ l₂₉ l₃₀ l₃₁))))))))))))))))))))))))))))))))
+        qed W ((‵ (flft κ₁ q₁) ⊛ (‵ (flft κ₂ q₂) ⊛ (‵ (flft κ₃ q₃) ⊛ (‵ (flft κ₄ q₄) ⊛ (‵ (flft κ₅ q₅) ⊛ (‵ (flft κ₆ q₆) ⊛ (‵ (flft κ₇ q₇) ⊛ (‵ (flft κ₈ q₈) ⊛ (‵ (flft κ₉ q₉) ⊛ (‵ (flft κ₁₀ q₁₀) ⊛ ‵ ftrue)))))))))) ∷ ‵ (owns (MutSlice (named 0) κ₁ (Array u64 8) ∷ MutSlice (named 1) κ₂ (Array u16 35) ∷ MutSlice (named 2) κ₃ Object-t.the-row ∷ MutSlice (named 3) κ₄ u8 ∷ MutSlice (named 4) κ₅ u8 ∷ MutSlice (named 5) κ₆ u32 ∷ MutSlice (named 6) κ₇ u8 ∷ ShrSlice (named 7) κ₈ u8 ∷ MutSlice (named 8) κ₉ u8 ∷ ShrSlice (named 9) κ₁₀ u8 ∷ Agent-p .row ∷ Given′-p .row ∷ []) x at) ∷ []) ∵ enter ! (𝓣 .C) (𝓣 .Λ) code.function (sliceVal (b₁, o₁) n₁ ∷ sliceVal (b₂, o₂) n₂ ∷ sliceVal (b₃, o₃) n₃ ∷ sliceVal (b₄, o₄) n₄ ∷ sliceVal (b₅, o₅) n₅ ∷ sliceVal (b₆, o₆) n₆ ∷ sliceVal (b₇, o₇) n₇ ∷ sliceVal (b₈, o₈) n₈ ∷ sliceVal (b₉, o₉) n₉ ∷ sliceVal (b₁₀, o₁₀) n₁₀ ∷ Agent-p .val agent ∷ Given′-p .val given ∷ []) _ $
+        alloc1 ! (λ l₀. alloc1 ! (λ l₁. alloc1 ! (λ l₂. alloc1 ! (λ l₃. alloc1 ! (λ l₄. alloc1 ! (λ l₅. alloc1 ! (λ l₆. alloc1 ! (λ l₇. alloc1 ! (λ l₈. alloc1 ! (λ l₉. alloc1 ! (λ l₁₀. alloc1 ! (λ l₁₁. alloc1 ! (λ l₁₂. alloc1 ! (λ l₁₃. alloc1 ! (λ l₁₄. alloc1 ! (λ l₁₅. alloc1 ! (λ l₁₆. alloc1 ! (λ l₁₇. alloc1 ! (λ l₁₈. alloc1 ! (λ l₁₉. alloc1 ! (λ l₂₀. alloc1 ! (λ l₂₁. alloc1 ! (λ l₂₂. alloc1 ! (λ l₂₃. alloc1 ! (λ l₂₄. alloc1 ! (λ l₂₅. alloc1 ! (λ l₂₆. alloc1 ! (λ l₂₇. alloc1 ! (λ l₂₈. alloc1 ! (λ l₂₉. alloc1 ! (λ l₃₀. alloc1 ! (λ l₃₁. alloc1 ! (λ l₃₂. alloc0 ! $ params1 ! $ pass1 ! (init ! 62 refl (tt, (tt, (record { fits = room₁ .0 }, tt)))) $ pass1 ! (init ! 60 refl (tt, (tt, (record { fits = room₂ .0 }, tt)))) $ pass1 ! (init ! 58 refl (tt, (tt, (record { fits = room₃ .0 }, tt)))) $ pass1 ! (init ! 56 refl (tt, (tt, (record { fits = room₄ .0 }, tt)))) $ pass1 ! (init ! 54 refl (tt, (tt, (record { fits = room₅ .0 }, tt)))) $ pass1 ! (init ! 52 refl (tt, (tt, (record { fits = room₆ .0 }, tt)))) $ pass1 ! (init ! 50 refl (tt, (tt, (record { fits = room₇ .0 }, tt)))) $ pass1 ! (init ! 48 refl (tt, (tt, (record { fits = room₈ .0 }, tt)))) $ pass1 ! (init ! 46 refl (tt, (tt, (record { fits = room₉ .0 }, tt)))) $ pass1 ! (init ! 44 refl (tt, (tt, (record { fits = room₁₀ .0 }, tt)))) $ pass1 ! (init ! 42 refl (Agent-p .typed 𝓤 H A W agent agent-is)) $ pass1 ! (init ! 40 refl (Given′-p .typed 𝓤 H A W given given-is)) $ pass0 ! $ move ! (67 ∷ []) $ fsplit ! $ move ! (1 ∷ []) $ fsplit ! $ move ! (1 ∷ []) $ fsplit ! $ move ! (1 ∷ []) $ fsplit ! $ move ! (1 ∷ []) $ fsplit ! $ move ! (1 ∷ []) $ fsplit ! $ move ! (1 ∷ []) $ fsplit ! $ move ! (1 ∷ []) $ fsplit ! $ move ! (1 ∷ []) $ fsplit ! $ move ! (1 ∷ []) $ fsplit ! $ move ! (77 ∷ []) $ split ! $ move ! (1 ∷ []) $ split ! $ move ! (1 ∷ []) $ split ! $ move ! (1 ∷ []) $ split ! $ move ! (1 ∷ []) $ split ! $ move ! (1 ∷ []) $ split ! $ move ! (1 ∷ []) $ split ! $ move ! (1 ∷ []) $ split ! $ move ! (1 ∷ []) $ split ! $ move ! (1 ∷ []) $ split ! $ move ! (1 ∷ []) $ drop ! $ move ! (11 ∷ []) $ drop ! $ move ! (19 ∷ 9 ∷ 18 ∷ 8 ∷ 17 ∷ 7 ∷ 16 ∷ 6 ∷ 15 ∷ 5 ∷ 14 ∷ 4 ∷ 13 ∷ 3 ∷ 12 ∷ 2 ∷ 11 ∷ 1 ∷ 10 ∷ 0 ∷ 20 ∷ 21 ∷ 22 ∷ 23 ∷ 24 ∷ 25 ∷ 26 ∷ 27 ∷ 28 ∷ 29 ∷ 30 ∷ 31 ∷ 32 ∷ 33 ∷ 34 ∷ 35 ∷ 36 ∷ 37 ∷ 38 ∷ 39 ∷ 40 ∷ 41 ∷ 42 ∷ 43 ∷ 44 ∷ 45 ∷ 46 ∷ 47 ∷ 48 ∷ 49 ∷ 50 ∷ 51 ∷ 52 ∷ 53 ∷ 54 ∷ 55 ∷ 56 ∷ 57 ∷ 58 ∷ 59 ∷ 60 ∷ 61 ∷ 62 ∷ 63 ∷ 64 ∷ 65 ∷ 66 ∷ 67 ∷ 68 ∷ 69 ∷ 70 ∷ 71 ∷ 72 ∷ 73 ∷ 74 ∷ 75 ∷ 76 ∷ 77 ∷ 78 ∷ 79 ∷ 80 ∷ 81 ∷ 82 ∷ 83 ∷ 84 ∷ 85 ∷ []) $
+        begins 𝓣 known-process-process l₀ l₁ l₂ l₃ l₄ l₅ l₆ l₇ l₈ l₉ l₁₀ l₁₁ l₁₂ l₁₃ l₁₄ l₁₅ l₁₆ l₁₇ l₁₈ l₁₉ l₂₀ l₂₁ l₂₂ l₂₃ l₂₄ l₂₅ l₂₆ l₂₇ l₂₈ l₂₉ l₃₀ l₃₁ l₃₂)))))))))))))))))))))))))))))))))
 
 module _ {M : Type 1} (𝓤 : URA M) (H : Heap 𝓤) (A : Atoms 𝓤) (W : Given 𝓤 H A) (mem : Memory → SProp 𝓤) (run : Routine → Fun 𝓤) (𝓣 : Tables 𝓤 H) (known-process-process : Triple 𝓤 (𝓣 .C #process-process) (Of-process-process 𝓤 H A mem run)) where
   walks : Walks 𝓤 H A f.ended stayed (WpFn 𝓤 H (𝓣 .C) (𝓣 .Λ) code.function) (f.clauses 𝓤 H A mem run)
-  walks = walked 𝓤 H A f.ended stayed (f.clauses 𝓤 H A mem run) (WpFn 𝓤 H (𝓣 .C) (𝓣 .Λ) code.function) (λ κs. (slice-vals, (slice-vals, (slice-vals, (slice-vals, (slice-vals, (slice-vals, (slice-vals, (slice-vals, (slice-vals, ((λ y. Agent-p .val y ∷ []), ((λ y. Given′-p .val y ∷ []), tt)))))))))))) (λ κs. (mut-slice-tells (named 0) (κs .0) (Array u64 8), (mut-slice-tells (named 1) (κs .1 .0) (Array u16 35), (mut-slice-tells (named 2) (κs .1 .1 .0) Object-t.the-row, (mut-slice-tells (named 3) (κs .1 .1 .1 .0) u8, (mut-slice-tells (named 4) (κs .1 .1 .1 .1 .0) u8, (mut-slice-tells (named 5) (κs .1 .1 .1 .1 .1 .0) u32, (mut-slice-tells (named 6) (κs .1 .1 .1 .1 .1 .1 .0) u8, (mut-slice-tells (named 7) (κs .1 .1 .1 .1 .1 .1 .1 .0) u8, (shr-slice-tells (named 8) (κs .1 .1 .1 .1 .1 .1 .1 .1 .0) u8, (Agent-p .tells, (Given′-p .tells, tt))))))))))))
-      (λ κs qs bounds a g are. via 𝓤 _ (fst∗ 𝓤 _ (emp 𝓤)) (walk 𝓤 H A W mem run (κs .0) (qs .0) (a .0 .ptr .0) (a .0 .ptr .1) (a .0 .name) (a .0 .now) (κs .1 .0) (qs .1 .0) (a .1 .0 .ptr .0) (a .1 .0 .ptr .1) (a .1 .0 .name) (a .1 .0 .now) (κs .1 .1 .0) (qs .1 .1 .0) (a .1 .1 .0 .ptr .0) (a .1 .1 .0 .ptr .1) (a .1 .1 .0 .name) (a .1 .1 .0 .now) (κs .1 .1 .1 .0) (qs .1 .1 .1 .0) (a .1 .1 .1 .0 .ptr .0) (a .1 .1 .1 .0 .ptr .1) (a .1 .1 .1 .0 .name) (a .1 .1 .1 .0 .now) (κs .1 .1 .1 .1 .0) (qs .1 .1 .1 .1 .0) (a .1 .1 .1 .1 .0 .ptr .0) (a .1 .1 .1 .1 .0 .ptr .1) (a .1 .1 .1 .1 .0 .name) (a .1 .1 .1 .1 .0 .now) (κs .1 .1 .1 .1 .1 .0) (qs .1 .1 .1 .1 .1 .0) (a .1 .1 .1 .1 .1 .0 .ptr .0) (a .1 .1 .1 .1 .1 .0 .ptr .1) (a .1 .1 .1 .1 .1 .0 .name) (a .1 .1 .1 .1 .1 .0 .now) (κs .1 .1 .1 .1 .1 .1 .0) (qs .1 .1 .1 .1 .1 .1 .0) (a .1 .1 .1 .1 .1 .1 .0 .ptr .0) (a .1 .1 .1 .1 .1 .1 .0 .ptr .1) (a .1 .1 .1 .1 .1 .1 .0 .name) (a .1 .1 .1 .1 .1 .1 .0 .now) (κs .1 .1 .1 .1 .1 .1 .1 .0) (qs .1 .1 .1 .1 .1 .1 .1 .0) (a .1 .1 .1 .1 .1 .1 .1 .0 .ptr .0) (a .1 .1 .1 .1 .1 .1 .1 .0 .ptr .1) (a .1 .1 .1 .1 .1 .1 .1 .0 .name) (a .1 .1 .1 .1 .1 .1 .1 .0 .now) (κs .1 .1 .1 .1 .1 .1 .1 .1 .0) (qs .1 .1 .1 .1 .1 .1 .1 .1 .0) (a .1 .1 .1 .1 .1 .1 .1 .1 .0 .ptr .0) (a .1 .1 .1 .1 .1 .1 .1 .1 .0 .ptr .1) (a .1 .1 .1 .1 .1 .1 .1 .1 .0 .name) (a .1 .1 .1 .1 .1 .1 .1 .1 .0 .now) (a .1 .1 .1 .1 .1 .1 .1 .1 .1 .0) (a .1 .1 .1 .1 .1 .1 .1 .1 .1 .1 .0) (are .0 .0 .1) (are .1 .0 .0 .1) (are .1 .1 .0 .0 .1) (are .1 .1 .1 .0 .0 .1) (are .1 .1 .1 .1 .0 .0 .1) (are .1 .1 .1 .1 .1 .0 .0 .1) (are .1 .1 .1 .1 .1 .1 .0 .0 .1) (are .1 .1 .1 .1 .1 .1 .1 .0 .0 .1) (are .1 .1 .1 .1 .1 .1 .1 .1 .0 .0 .1) (are .1 .1 .1 .1 .1 .1 .1 .1 .1 .0) (are .1 .1 .1 .1 .1 .1 .1 .1 .1 .1 .0) 𝓣 known-process-process))
+  walks = walked 𝓤 H A f.ended stayed (f.clauses 𝓤 H A mem run) (WpFn 𝓤 H (𝓣 .C) (𝓣 .Λ) code.function) (λ κs. (slice-vals, (slice-vals, (slice-vals, (slice-vals, (slice-vals, (slice-vals, (slice-vals, (slice-vals, (slice-vals, (slice-vals, ((λ y. Agent-p .val y ∷ []), ((λ y. Given′-p .val y ∷ []), tt))))))))))))) (λ κs. (mut-slice-tells (named 0) (κs .0) (Array u64 8), (mut-slice-tells (named 1) (κs .1 .0) (Array u16 35), (mut-slice-tells (named 2) (κs .1 .1 .0) Object-t.the-row, (mut-slice-tells (named 3) (κs .1 .1 .1 .0) u8, (mut-slice-tells (named 4) (κs .1 .1 .1 .1 .0) u8, (mut-slice-tells (named 5) (κs .1 .1 .1 .1 .1 .0) u32, (mut-slice-tells (named 6) (κs .1 .1 .1 .1 .1 .1 .0) u8, (shr-slice-tells (named 7) (κs .1 .1 .1 .1 .1 .1 .1 .0) u8, (mut-slice-tells (named 8) (κs .1 .1 .1 .1 .1 .1 .1 .1 .0) u8, (shr-slice-tells (named 9) (κs .1 .1 .1 .1 .1 .1 .1 .1 .1 .0) u8, (Agent-p .tells, (Given′-p .tells, tt)))))))))))))
+      (λ κs qs bounds a g are. via 𝓤 _ (fst∗ 𝓤 _ (emp 𝓤)) (walk 𝓤 H A W mem run (κs .0) (qs .0) (a .0 .ptr .0) (a .0 .ptr .1) (a .0 .name) (a .0 .now) (κs .1 .0) (qs .1 .0) (a .1 .0 .ptr .0) (a .1 .0 .ptr .1) (a .1 .0 .name) (a .1 .0 .now) (κs .1 .1 .0) (qs .1 .1 .0) (a .1 .1 .0 .ptr .0) (a .1 .1 .0 .ptr .1) (a .1 .1 .0 .name) (a .1 .1 .0 .now) (κs .1 .1 .1 .0) (qs .1 .1 .1 .0) (a .1 .1 .1 .0 .ptr .0) (a .1 .1 .1 .0 .ptr .1) (a .1 .1 .1 .0 .name) (a .1 .1 .1 .0 .now) (κs .1 .1 .1 .1 .0) (qs .1 .1 .1 .1 .0) (a .1 .1 .1 .1 .0 .ptr .0) (a .1 .1 .1 .1 .0 .ptr .1) (a .1 .1 .1 .1 .0 .name) (a .1 .1 .1 .1 .0 .now) (κs .1 .1 .1 .1 .1 .0) (qs .1 .1 .1 .1 .1 .0) (a .1 .1 .1 .1 .1 .0 .ptr .0) (a .1 .1 .1 .1 .1 .0 .ptr .1) (a .1 .1 .1 .1 .1 .0 .name) (a .1 .1 .1 .1 .1 .0 .now) (κs .1 .1 .1 .1 .1 .1 .0) (qs .1 .1 .1 .1 .1 .1 .0) (a .1 .1 .1 .1 .1 .1 .0 .ptr .0) (a .1 .1 .1 .1 .1 .1 .0 .ptr .1) (a .1 .1 .1 .1 .1 .1 .0 .name) (a .1 .1 .1 .1 .1 .1 .0 .now) (κs .1 .1 .1 .1 .1 .1 .1 .0) (qs .1 .1 .1 .1 .1 .1 .1 .0) (a .1 .1 .1 .1 .1 .1 .1 .0 .ptr .0) (a .1 .1 .1 .1 .1 .1 .1 .0 .ptr .1) (a .1 .1 .1 .1 .1 .1 .1 .0 .name) (a .1 .1 .1 .1 .1 .1 .1 .0 .now) (κs .1 .1 .1 .1 .1 .1 .1 .1 .0) (qs .1 .1 .1 .1 .1 .1 .1 .1 .0) (a .1 .1 .1 .1 .1 .1 .1 .1 .0 .ptr .0) (a .1 .1 .1 .1 .1 .1 .1 .1 .0 .ptr .1) (a .1 .1 .1 .1 .1 .1 .1 .1 .0 .name) (a .1 .1 .1 .1 .1 .1 .1 .1 .0 .now) (κs .1 .1 .1 .1 .1 .1 .1 .1 .1 .0) (qs .1 .1 .1 .1 .1 .1 .1 .1 .1 .0) (a .1 .1 .1 .1 .1 .1 .1 .1 .1 .0 .ptr .0) (a .1 .1 .1 .1 .1 .1 .1 .1 .1 .0 .ptr .1) (a .1 .1 .1 .1 .1 .1 .1 .1 .1 .0 .name) (a .1 .1 .1 .1 .1 .1 .1 .1 .1 .0 .now) (a .1 .1 .1 .1 .1 .1 .1 .1 .1 .1 .0) (a .1 .1 .1 .1 .1 .1 .1 .1 .1 .1 .1 .0) (are .0 .0 .1) (are .1 .0 .0 .1) (are .1 .1 .0 .0 .1) (are .1 .1 .1 .0 .0 .1) (are .1 .1 .1 .1 .0 .0 .1) (are .1 .1 .1 .1 .1 .0 .0 .1) (are .1 .1 .1 .1 .1 .1 .0 .0 .1) (are .1 .1 .1 .1 .1 .1 .1 .0 .0 .1) (are .1 .1 .1 .1 .1 .1 .1 .1 .0 .0 .1) (are .1 .1 .1 .1 .1 .1 .1 .1 .1 .0 .0 .1) (are .1 .1 .1 .1 .1 .1 .1 .1 .1 .1 .0) (are .1 .1 .1 .1 .1 .1 .1 .1 .1 .1 .1 .0) 𝓣 known-process-process))
 
   meets : Meets 𝓤 H A f.signature (WpFn 𝓤 H (𝓣 .C) (𝓣 .Λ) code.function) (f.spec 𝓤 H A mem run)
-  meets = walk-meets 𝓤 H A f.ended stayed W (goes-slice 𝓤 H A W 9 0 tt (plain (λ _. (Array u64 8))), (goes-slice 𝓤 H A W 9 1 tt (plain (λ _. (Array u16 35))), (goes-slice 𝓤 H A W 9 2 tt (plain (λ _. Object-t.the-row)), (goes-slice 𝓤 H A W 9 3 tt (plain (λ _. u8)), (goes-slice 𝓤 H A W 9 4 tt (plain (λ _. u8)), (goes-slice 𝓤 H A W 9 5 tt (plain (λ _. u32)), (goes-slice 𝓤 H A W 9 6 tt (plain (λ _. u8)), (goes-slice 𝓤 H A W 9 7 tt (plain (λ _. u8)), (goes-none-slice 𝓤 H A W 9 (8 ∷ []) tt (plain (λ _. u8)) yes, (goes-none 𝓤 H A W 9 (λ _. Agent-p .row) yes (λ κs x f. refl), (goes-none 𝓤 H A W 9 (λ _. Given′-p .row) yes (λ κs x f. refl), tt))))))))))) (f.clauses 𝓤 H A mem run) (WpFn 𝓤 H (𝓣 .C) (𝓣 .Λ) code.function) (WpFn-mono 𝓤 H (W .laws) 𝓣 code.function) walks
+  meets = walk-meets 𝓤 H A f.ended stayed W (goes-slice 𝓤 H A W 10 0 tt (plain (λ _. (Array u64 8))), (goes-slice 𝓤 H A W 10 1 tt (plain (λ _. (Array u16 35))), (goes-slice 𝓤 H A W 10 2 tt (plain (λ _. Object-t.the-row)), (goes-slice 𝓤 H A W 10 3 tt (plain (λ _. u8)), (goes-slice 𝓤 H A W 10 4 tt (plain (λ _. u8)), (goes-slice 𝓤 H A W 10 5 tt (plain (λ _. u32)), (goes-slice 𝓤 H A W 10 6 tt (plain (λ _. u8)), (goes-none-slice 𝓤 H A W 10 (7 ∷ []) tt (plain (λ _. u8)) yes, (goes-slice 𝓤 H A W 10 8 tt (plain (λ _. u8)), (goes-none-slice 𝓤 H A W 10 (9 ∷ []) tt (plain (λ _. u8)) yes, (goes-none 𝓤 H A W 10 (λ _. Agent-p .row) yes (λ κs x f. refl), (goes-none 𝓤 H A W 10 (λ _. Given′-p .row) yes (λ κs x f. refl), tt)))))))))))) (f.clauses 𝓤 H A mem run) (WpFn 𝓤 H (𝓣 .C) (𝓣 .Λ) code.function) (WpFn-mono 𝓤 H (W .laws) 𝓣 code.function) walks
 
 pub process-incoming-spec : {M : Type 1} → stated.statement M
 unfolding code.routine tablesOf

@@ -73,6 +73,9 @@ use Rattle.codec.proofs.submessages.ObjectNumber.Laws as ObjectNumber-l
 use Rattle.agent.specs.declared.turn.Frame.{Frame}
 use Rattle.agent.proofs.turn.Frame as Frame-t
 use Rattle.agent.proofs.turn.Frame.Laws as Frame-l
+use Rattle.agent.specs.declared.state.Moment.{Moment}
+use Rattle.agent.proofs.state.Moment as Moment-t
+use Rattle.agent.proofs.state.Moment.Laws as Moment-l
 use Rattle.agent.specs.declared.judge.Resumes.{Resumes}
 use Rattle.agent.proofs.judge.Resumes as Resumes-t
 use Rattle.agent.proofs.judge.Resumes.Laws as Resumes-l
@@ -113,7 +116,7 @@ use Rattle.sessions.proofs.table.ClientSession.Laws as ClientSession-l
 use Rattle.codec.specs.declared.refusals.Refusal.{Refusal}
 use Rattle.codec.proofs.refusals.Refusal as Refusal-t
 use Rattle.codec.proofs.refusals.Refusal.Laws as Refusal-l
-use Rattle.codec.specs.declared.refusals.Refusal.the-variants.{BufferTooShort as Refusal-BufferTooShort, UnknownSubmessageId as Refusal-UnknownSubmessageId, UnknownObjectKind as Refusal-UnknownObjectKind, UnknownStatusCode as Refusal-UnknownStatusCode, PayloadLengthMismatch as Refusal-PayloadLengthMismatch, SessionFull as Refusal-SessionFull, FragmentSizeZero as Refusal-FragmentSizeZero, EmptyPayload as Refusal-EmptyPayload, TooManyFragments as Refusal-TooManyFragments, FragmentNumber as Refusal-FragmentNumber, MissingFragments as Refusal-MissingFragments, TooLong as Refusal-TooLong, OutputTooShort as Refusal-OutputTooShort, StoreFull as Refusal-StoreFull, OutOfTurn as Refusal-OutOfTurn, OverLimit as Refusal-OverLimit, NotInFragments as Refusal-NotInFragments, IllFormed as Refusal-IllFormed}
+use Rattle.codec.specs.declared.refusals.Refusal.the-variants.{BufferTooShort as Refusal-BufferTooShort, UnknownSubmessageId as Refusal-UnknownSubmessageId, UnknownObjectKind as Refusal-UnknownObjectKind, UnknownStatusCode as Refusal-UnknownStatusCode, PayloadLengthMismatch as Refusal-PayloadLengthMismatch, SessionFull as Refusal-SessionFull, FragmentSizeZero as Refusal-FragmentSizeZero, EmptyPayload as Refusal-EmptyPayload, TooManyFragments as Refusal-TooManyFragments, FragmentNumber as Refusal-FragmentNumber, MissingFragments as Refusal-MissingFragments, TooLong as Refusal-TooLong, OutputTooShort as Refusal-OutputTooShort, StoreFull as Refusal-StoreFull, OutOfTurn as Refusal-OutOfTurn, OverLimit as Refusal-OverLimit, NotInFragments as Refusal-NotInFragments, IllFormed as Refusal-IllFormed, WindowFault as Refusal-WindowFault, NoSuchMinute as Refusal-NoSuchMinute}
 use Rattle.sessions.proofs.table.get as table-get
 use Rattle.sessions.proofs.table.get.Symbol as table-get-def
 use Rattle.sessions.proofs.table.get.Symbol.{name as #table-get}
@@ -152,11 +155,17 @@ ObjectNumber-of x0 = record { 0 = x0 }
 abbrev ObjectNumber-p : Plain
 ObjectNumber-p = record { row = ObjectNumber-t.the-row; val = LL.val ObjectNumber-t.the-type ObjectNumber-l.the-laws; tells = LL.tells ObjectNumber-t.the-type ObjectNumber-l.the-laws; makes = λ 𝓤 H A W. LL.makes ObjectNumber-t.the-type ObjectNumber-l.the-plain 𝓤 H A; ty = ObjectNumber-l.mir; typed = λ 𝓤 H A W x is. LL.lawful ObjectNumber-t.the-type ObjectNumber-l.the-laws 𝓤 H A W .typed x _ is .0; copies = λ 𝓤 H A W. LL.copy ObjectNumber-t.the-type ObjectNumber-l.the-copy 𝓤 H A W }
 
-abbrev Frame-of : ℕ → ℕ → ℕ → ℕ → ℕ → Frame
-Frame-of x0 x1 x2 x3 x4 = record { «max_clients» = x0; time = x1; «session_id» = x2; «stream_id» = x3; room = x4 }
+abbrev Frame-of : ℕ → Moment → ℕ → ℕ → ℕ → Frame
+Frame-of x0 x1 x2 x3 x4 = record { «max_clients» = x0; moment = x1; «session_id» = x2; «stream_id» = x3; room = x4 }
 
 abbrev Frame-p : Plain
 Frame-p = record { row = Frame-t.the-row; val = LL.val Frame-t.the-type Frame-l.the-laws; tells = LL.tells Frame-t.the-type Frame-l.the-laws; makes = λ 𝓤 H A W. LL.makes Frame-t.the-type Frame-l.the-plain 𝓤 H A; ty = Frame-l.mir; typed = λ 𝓤 H A W x is. LL.lawful Frame-t.the-type Frame-l.the-laws 𝓤 H A W .typed x _ is .0; copies = λ 𝓤 H A W. LL.copy Frame-t.the-type Frame-l.the-copy 𝓤 H A W }
+
+abbrev Moment-of : ℕ → Bool → Moment
+Moment-of x0 x1 = record { time = x0; «is_open» = x1 }
+
+abbrev Moment-p : Plain
+Moment-p = record { row = Moment-t.the-row; val = LL.val Moment-t.the-type Moment-l.the-laws; tells = LL.tells Moment-t.the-type Moment-l.the-laws; makes = λ 𝓤 H A W. LL.makes Moment-t.the-type Moment-l.the-plain 𝓤 H A; ty = Moment-l.mir; typed = λ 𝓤 H A W x is. LL.lawful Moment-t.the-type Moment-l.the-laws 𝓤 H A W .typed x _ is .0; copies = λ 𝓤 H A W. LL.copy Moment-t.the-type Moment-l.the-copy 𝓤 H A W }
 
 abbrev Resumes-p : Plain
 Resumes-p = record { row = Resumes-t.the-row; val = EL.val Resumes-t.the-type Resumes-l.the-laws; tells = EL.tells Resumes-t.the-type Resumes-l.the-laws; makes = λ 𝓤 H A W. EL.makes Resumes-t.the-type Resumes-l.the-plain 𝓤 H A; ty = Resumes-l.mir; typed = λ 𝓤 H A W x is. EL.lawful Resumes-t.the-type Resumes-l.the-laws 𝓤 H A W tt .typed x _ is .0; copies = λ 𝓤 H A W. EL.copy Resumes-t.the-type Resumes-l.the-copy 𝓤 H A W }

@@ -78,6 +78,9 @@ use Rattle.agent.proofs.judge.Start.Laws as Start-l
 use Rattle.agent.specs.declared.turn.Frame.{Frame}
 use Rattle.agent.proofs.turn.Frame as Frame-t
 use Rattle.agent.proofs.turn.Frame.Laws as Frame-l
+use Rattle.agent.specs.declared.state.Moment.{Moment}
+use Rattle.agent.proofs.state.Moment as Moment-t
+use Rattle.agent.proofs.state.Moment.Laws as Moment-l
 use Rattle.agent.specs.declared.judge.Resumes.{Resumes}
 use Rattle.agent.proofs.judge.Resumes as Resumes-t
 use Rattle.agent.proofs.judge.Resumes.Laws as Resumes-l
@@ -136,11 +139,17 @@ Start-of x0 x1 x2 x3 x4 x5 = record { frame = x0; next = x1; at = x2; «left_at�
 abbrev Start-p : Plain
 Start-p = record { row = Start-t.the-row; val = LL.val Start-t.the-type Start-l.the-laws; tells = LL.tells Start-t.the-type Start-l.the-laws; makes = λ 𝓤 H A W. LL.makes Start-t.the-type Start-l.the-plain 𝓤 H A; ty = Start-l.mir; typed = λ 𝓤 H A W x is. LL.lawful Start-t.the-type Start-l.the-laws 𝓤 H A W .typed x _ is .0; copies = λ 𝓤 H A W. LL.copy Start-t.the-type Start-l.the-copy 𝓤 H A W }
 
-abbrev Frame-of : ℕ → ℕ → ℕ → ℕ → ℕ → Frame
-Frame-of x0 x1 x2 x3 x4 = record { «max_clients» = x0; time = x1; «session_id» = x2; «stream_id» = x3; room = x4 }
+abbrev Frame-of : ℕ → Moment → ℕ → ℕ → ℕ → Frame
+Frame-of x0 x1 x2 x3 x4 = record { «max_clients» = x0; moment = x1; «session_id» = x2; «stream_id» = x3; room = x4 }
 
 abbrev Frame-p : Plain
 Frame-p = record { row = Frame-t.the-row; val = LL.val Frame-t.the-type Frame-l.the-laws; tells = LL.tells Frame-t.the-type Frame-l.the-laws; makes = λ 𝓤 H A W. LL.makes Frame-t.the-type Frame-l.the-plain 𝓤 H A; ty = Frame-l.mir; typed = λ 𝓤 H A W x is. LL.lawful Frame-t.the-type Frame-l.the-laws 𝓤 H A W .typed x _ is .0; copies = λ 𝓤 H A W. LL.copy Frame-t.the-type Frame-l.the-copy 𝓤 H A W }
+
+abbrev Moment-of : ℕ → Bool → Moment
+Moment-of x0 x1 = record { time = x0; «is_open» = x1 }
+
+abbrev Moment-p : Plain
+Moment-p = record { row = Moment-t.the-row; val = LL.val Moment-t.the-type Moment-l.the-laws; tells = LL.tells Moment-t.the-type Moment-l.the-laws; makes = λ 𝓤 H A W. LL.makes Moment-t.the-type Moment-l.the-plain 𝓤 H A; ty = Moment-l.mir; typed = λ 𝓤 H A W x is. LL.lawful Moment-t.the-type Moment-l.the-laws 𝓤 H A W .typed x _ is .0; copies = λ 𝓤 H A W. LL.copy Moment-t.the-type Moment-l.the-copy 𝓤 H A W }
 
 abbrev Resumes-p : Plain
 Resumes-p = record { row = Resumes-t.the-row; val = EL.val Resumes-t.the-type Resumes-l.the-laws; tells = EL.tells Resumes-t.the-type Resumes-l.the-laws; makes = λ 𝓤 H A W. EL.makes Resumes-t.the-type Resumes-l.the-plain 𝓤 H A; ty = Resumes-l.mir; typed = λ 𝓤 H A W x is. EL.lawful Resumes-t.the-type Resumes-l.the-laws 𝓤 H A W tt .typed x _ is .0; copies = λ 𝓤 H A W. EL.copy Resumes-t.the-type Resumes-l.the-copy 𝓤 H A W }

@@ -71,6 +71,9 @@ use Rattle.codec.proofs.submessages.ObjectNumber.Laws as ObjectNumber-l
 use Rattle.agent.specs.declared.turn.Frame.{Frame}
 use Rattle.agent.proofs.turn.Frame as Frame-t
 use Rattle.agent.proofs.turn.Frame.Laws as Frame-l
+use Rattle.agent.specs.declared.state.Moment.{Moment}
+use Rattle.agent.proofs.state.Moment as Moment-t
+use Rattle.agent.proofs.state.Moment.Laws as Moment-l
 use Rattle.agent.specs.declared.turn.Ran.{Ran}
 use Rattle.agent.proofs.turn.Ran as Ran-t
 use Rattle.agent.proofs.turn.Ran.Laws as Ran-l
@@ -140,11 +143,17 @@ ObjectNumber-of x0 = record { 0 = x0 }
 abbrev ObjectNumber-p : Plain
 ObjectNumber-p = record { row = ObjectNumber-t.the-row; val = LL.val ObjectNumber-t.the-type ObjectNumber-l.the-laws; tells = LL.tells ObjectNumber-t.the-type ObjectNumber-l.the-laws; makes = λ 𝓤 H A W. LL.makes ObjectNumber-t.the-type ObjectNumber-l.the-plain 𝓤 H A; ty = ObjectNumber-l.mir; typed = λ 𝓤 H A W x is. LL.lawful ObjectNumber-t.the-type ObjectNumber-l.the-laws 𝓤 H A W .typed x _ is .0; copies = λ 𝓤 H A W. LL.copy ObjectNumber-t.the-type ObjectNumber-l.the-copy 𝓤 H A W }
 
-abbrev Frame-of : ℕ → ℕ → ℕ → ℕ → ℕ → Frame
-Frame-of x0 x1 x2 x3 x4 = record { «max_clients» = x0; time = x1; «session_id» = x2; «stream_id» = x3; room = x4 }
+abbrev Frame-of : ℕ → Moment → ℕ → ℕ → ℕ → Frame
+Frame-of x0 x1 x2 x3 x4 = record { «max_clients» = x0; moment = x1; «session_id» = x2; «stream_id» = x3; room = x4 }
 
 abbrev Frame-p : Plain
 Frame-p = record { row = Frame-t.the-row; val = LL.val Frame-t.the-type Frame-l.the-laws; tells = LL.tells Frame-t.the-type Frame-l.the-laws; makes = λ 𝓤 H A W. LL.makes Frame-t.the-type Frame-l.the-plain 𝓤 H A; ty = Frame-l.mir; typed = λ 𝓤 H A W x is. LL.lawful Frame-t.the-type Frame-l.the-laws 𝓤 H A W .typed x _ is .0; copies = λ 𝓤 H A W. LL.copy Frame-t.the-type Frame-l.the-copy 𝓤 H A W }
+
+abbrev Moment-of : ℕ → Bool → Moment
+Moment-of x0 x1 = record { time = x0; «is_open» = x1 }
+
+abbrev Moment-p : Plain
+Moment-p = record { row = Moment-t.the-row; val = LL.val Moment-t.the-type Moment-l.the-laws; tells = LL.tells Moment-t.the-type Moment-l.the-laws; makes = λ 𝓤 H A W. LL.makes Moment-t.the-type Moment-l.the-plain 𝓤 H A; ty = Moment-l.mir; typed = λ 𝓤 H A W x is. LL.lawful Moment-t.the-type Moment-l.the-laws 𝓤 H A W .typed x _ is .0; copies = λ 𝓤 H A W. LL.copy Moment-t.the-type Moment-l.the-copy 𝓤 H A W }
 
 abbrev Ran-of : ℕ → ℕ → ℕ → Stop → Ran
 Ran-of x0 x1 x2 x3 = record { next = x0; at = x1; wrote = x2; stop = x3 }
@@ -272,12 +281,12 @@ module _ {M : Type 1} (𝓤 : URA M) (H : Heap 𝓤) (A : Atoms 𝓤) (W : Given
     abbrev En : Env 𝓤 H
     En = (Ran-l.mir, l₀) ∷ ((sliceTy (tyRef (named 0) mut (pointee ((Array u64 8) .written)))), l₁) ∷ ((sliceTy (tyRef (named 1) mut (pointee ((Array u16 35) .written)))), l₂) ∷ ((sliceTy (tyRef (named 2) mut (pointee (Object-t.the-row .written)))), l₃) ∷ ((sliceTy (tyRef (named 3) imm (pointee (u8 .written)))), l₄) ∷ ((sliceTy (tyRef (named 4) mut (pointee (u8 .written)))), l₅) ∷ ((sliceTy (tyRef (named 5) mut (pointee (u32 .written)))), l₆) ∷ ((sliceTy (tyRef (named 6) mut (pointee (u8 .written)))), l₇) ∷ ((sliceTy (tyRef (named 7) mut (pointee (u8 .written)))), l₈) ∷ ((sliceTy (tyRef (named 8) imm (pointee (u8 .written)))), l₉) ∷ (Frame-l.mir, l₁₀) ∷ (Ran-l.mir, l₁₁) ∷ (Taken-l.mir, l₁₂) ∷ ((tyInt w64), l₁₃) ∷ ((tyInt w64), l₁₄) ∷ ((tyRef erased mut (pointee ((Array u64 8) .written))), l₁₅) ∷ ((sliceTy (tyRef erased mut (pointee ((Array u64 8) .written)))), l₁₆) ∷ ((tyRef erased mut (pointee (u8 .written))), l₁₇) ∷ ((sliceTy (tyRef erased mut (pointee (u8 .written)))), l₁₈) ∷ ((tyRef erased mut (pointee (u32 .written))), l₁₉) ∷ ((sliceTy (tyRef erased mut (pointee (u32 .written)))), l₂₀) ∷ ((tyRef erased mut (pointee (u8 .written))), l₂₁) ∷ ((sliceTy (tyRef erased mut (pointee (u8 .written)))), l₂₂) ∷ ((tyInt w64), l₂₃) ∷ ((tyRef erased mut (pointee ((Array u64 8) .written))), l₂₄) ∷ ((sliceTy (tyRef erased mut (pointee ((Array u64 8) .written)))), l₂₅) ∷ ((tyRef erased mut (pointee ((Array u16 35) .written))), l₂₆) ∷ ((sliceTy (tyRef erased mut (pointee ((Array u16 35) .written)))), l₂₇) ∷ ((tyRef erased mut (pointee (Object-t.the-row .written))), l₂₈) ∷ ((sliceTy (tyRef erased mut (pointee (Object-t.the-row .written)))), l₂₉) ∷ ((tyRef erased mut (pointee (u8 .written))), l₃₀) ∷ ((sliceTy (tyRef erased mut (pointee (u8 .written)))), l₃₁) ∷ ((tyRef erased imm (pointee (u8 .written))), l₃₂) ∷ ((sliceTy (tyRef erased imm (pointee (u8 .written)))), l₃₃) ∷ []
 
-    part-23-0 : (len-9-sessions : length (gatheredRows (touchedRows (sessions) (f′ .«session_id») (f′ .time)) (parts) (lengths) (rebuilt) (f′ .«session_id») (took .asked .first) (took .asked .second) (partOf (d) (took .body))) ≡ n₁) → (len-9-parts : length (gatheredParts (touchedRows (sessions) (f′ .«session_id») (f′ .time)) (parts) (lengths) (f′ .«session_id») (took .asked .first) (took .asked .second) (partOf (d) (took .body))) ≡ n₅) → (len-9-lengths : length (gatheredLengths (touchedRows (sessions) (f′ .«session_id») (f′ .time)) (parts) (lengths) (f′ .«session_id») (took .asked .first) (took .asked .second) (partOf (d) (took .body))) ≡ n₆) → (len-9-rebuilt : length (gatheredRebuilt (touchedRows (sessions) (f′ .«session_id») (f′ .time)) (parts) (lengths) (rebuilt) (f′ .«session_id») (took .asked .first) (took .asked .second) (partOf (d) (took .body))) ≡ n₇) → (is-9 : Is (u64-p .row) (wholeLen (gathered (touchedRows (sessions) (f′ .«session_id») (f′ .time)) (parts) (lengths) (rebuilt) (f′ .«session_id») (took .asked .first) (took .asked .second) (partOf (d) (took .body)))) (u64-p .val (wholeLen (gathered (touchedRows (sessions) (f′ .«session_id») (f′ .time)) (parts) (lengths) (rebuilt) (f′ .«session_id») (took .asked .first) (took .asked .second) (partOf (d) (took .body)))) ∷ [])) → (is-11 : Is (u64-p .row) (rebuiltEnd n₇ (wholeLen (gathered (touchedRows (sessions) (f′ .«session_id») (f′ .time)) (parts) (lengths) (rebuilt) (f′ .«session_id») (took .asked .first) (took .asked .second) (partOf (d) (took .body))))) (u64-p .val (rebuiltEnd n₇ (wholeLen (gathered (touchedRows (sessions) (f′ .«session_id») (f′ .time)) (parts) (lengths) (rebuilt) (f′ .«session_id») (took .asked .first) (took .asked .second) (partOf (d) (took .body))))) ∷ [])) → (part-22-rebuilt : 0 + (rebuiltEnd n₇ (wholeLen (gathered (touchedRows (sessions) (f′ .«session_id») (f′ .time)) (parts) (lengths) (rebuilt) (f′ .«session_id») (took .asked .first) (took .asked .second) (partOf (d) (took .body))))) ≤ length (gatheredRebuilt (touchedRows (sessions) (f′ .«session_id») (f′ .time)) (parts) (lengths) (rebuilt) (f′ .«session_id») (took .asked .first) (took .asked .second) (partOf (d) (took .body)))) → (ppart-22-rebuilt : length (midOf 0 (rebuiltEnd n₇ (wholeLen (gathered (touchedRows (sessions) (f′ .«session_id») (f′ .time)) (parts) (lengths) (rebuilt) (f′ .«session_id») (took .asked .first) (took .asked .second) (partOf (d) (took .body))))) (gatheredRebuilt (touchedRows (sessions) (f′ .«session_id») (f′ .time)) (parts) (lengths) (rebuilt) (f′ .«session_id») (took .asked .first) (took .asked .second) (partOf (d) (took .body)))) ≡ (rebuiltEnd n₇ (wholeLen (gathered (touchedRows (sessions) (f′ .«session_id») (f′ .time)) (parts) (lengths) (rebuilt) (f′ .«session_id») (took .asked .first) (took .asked .second) (partOf (d) (took .body)))))) → (asks-22 : f′ .room ≤ 9223372036854775807) → (len-22-sessions : length (leftBy (rebuiltOf ((midOf 0 (rebuiltEnd n₇ (wholeLen (gathered (touchedRows (sessions) (f′ .«session_id») (f′ .time)) (parts) (lengths) (rebuilt) (f′ .«session_id») (took .asked .first) (took .asked .second) (partOf (d) (took .body))))) (gatheredRebuilt (touchedRows (sessions) (f′ .«session_id») (f′ .time)) (parts) (lengths) (rebuilt) (f′ .«session_id») (took .asked .first) (took .asked .second) (partOf (d) (took .body)))))) f′ (held) ((midOf 0 (rebuiltEnd n₇ (wholeLen (gathered (touchedRows (sessions) (f′ .«session_id») (f′ .time)) (parts) (lengths) (rebuilt) (f′ .«session_id») (took .asked .first) (took .asked .second) (partOf (d) (took .body))))) (gatheredRebuilt (touchedRows (sessions) (f′ .«session_id») (f′ .time)) (parts) (lengths) (rebuilt) (f′ .«session_id») (took .asked .first) (took .asked .second) (partOf (d) (took .body))))) (wholeLen (gathered (touchedRows (sessions) (f′ .«session_id») (f′ .time)) (parts) (lengths) (rebuilt) (f′ .«session_id») (took .asked .first) (took .asked .second) (partOf (d) (took .body)))) r′ (took .at) (rows ((gatheredRows (touchedRows (sessions) (f′ .«session_id») (f′ .time)) (parts) (lengths) (rebuilt) (f′ .«session_id») (took .asked .first) (took .asked .second) (partOf (d) (took .body)))) (streams) (objects)) .rows .sessions) ≡ n₁) → (len-22-streams : length (leftBy (rebuiltOf ((midOf 0 (rebuiltEnd n₇ (wholeLen (gathered (touchedRows (sessions) (f′ .«session_id») (f′ .time)) (parts) (lengths) (rebuilt) (f′ .«session_id») (took .asked .first) (took .asked .second) (partOf (d) (took .body))))) (gatheredRebuilt (touchedRows (sessions) (f′ .«session_id») (f′ .time)) (parts) (lengths) (rebuilt) (f′ .«session_id») (took .asked .first) (took .asked .second) (partOf (d) (took .body)))))) f′ (held) ((midOf 0 (rebuiltEnd n₇ (wholeLen (gathered (touchedRows (sessions) (f′ .«session_id») (f′ .time)) (parts) (lengths) (rebuilt) (f′ .«session_id») (took .asked .first) (took .asked .second) (partOf (d) (took .body))))) (gatheredRebuilt (touchedRows (sessions) (f′ .«session_id») (f′ .time)) (parts) (lengths) (rebuilt) (f′ .«session_id») (took .asked .first) (took .asked .second) (partOf (d) (took .body))))) (wholeLen (gathered (touchedRows (sessions) (f′ .«session_id») (f′ .time)) (parts) (lengths) (rebuilt) (f′ .«session_id») (took .asked .first) (took .asked .second) (partOf (d) (took .body)))) r′ (took .at) (rows ((gatheredRows (touchedRows (sessions) (f′ .«session_id») (f′ .time)) (parts) (lengths) (rebuilt) (f′ .«session_id») (took .asked .first) (took .asked .second) (partOf (d) (took .body)))) (streams) (objects)) .rows .streams) ≡ n₂) → (len-22-objects : length (leftBy (rebuiltOf ((midOf 0 (rebuiltEnd n₇ (wholeLen (gathered (touchedRows (sessions) (f′ .«session_id») (f′ .time)) (parts) (lengths) (rebuilt) (f′ .«session_id») (took .asked .first) (took .asked .second) (partOf (d) (took .body))))) (gatheredRebuilt (touchedRows (sessions) (f′ .«session_id») (f′ .time)) (parts) (lengths) (rebuilt) (f′ .«session_id») (took .asked .first) (took .asked .second) (partOf (d) (took .body)))))) f′ (held) ((midOf 0 (rebuiltEnd n₇ (wholeLen (gathered (touchedRows (sessions) (f′ .«session_id») (f′ .time)) (parts) (lengths) (rebuilt) (f′ .«session_id») (took .asked .first) (took .asked .second) (partOf (d) (took .body))))) (gatheredRebuilt (touchedRows (sessions) (f′ .«session_id») (f′ .time)) (parts) (lengths) (rebuilt) (f′ .«session_id») (took .asked .first) (took .asked .second) (partOf (d) (took .body))))) (wholeLen (gathered (touchedRows (sessions) (f′ .«session_id») (f′ .time)) (parts) (lengths) (rebuilt) (f′ .«session_id») (took .asked .first) (took .asked .second) (partOf (d) (took .body)))) r′ (took .at) (rows ((gatheredRows (touchedRows (sessions) (f′ .«session_id») (f′ .time)) (parts) (lengths) (rebuilt) (f′ .«session_id») (took .asked .first) (took .asked .second) (partOf (d) (took .body)))) (streams) (objects)) .rows .objects) ≡ n₃) → (len-22-out : length (putReplies (f′ .room) (out) (r′ .wrote) (leftBy (rebuiltOf ((midOf 0 (rebuiltEnd n₇ (wholeLen (gathered (touchedRows (sessions) (f′ .«session_id») (f′ .time)) (parts) (lengths) (rebuilt) (f′ .«session_id») (took .asked .first) (took .asked .second) (partOf (d) (took .body))))) (gatheredRebuilt (touchedRows (sessions) (f′ .«session_id») (f′ .time)) (parts) (lengths) (rebuilt) (f′ .«session_id») (took .asked .first) (took .asked .second) (partOf (d) (took .body)))))) f′ (held) ((midOf 0 (rebuiltEnd n₇ (wholeLen (gathered (touchedRows (sessions) (f′ .«session_id») (f′ .time)) (parts) (lengths) (rebuilt) (f′ .«session_id») (took .asked .first) (took .asked .second) (partOf (d) (took .body))))) (gatheredRebuilt (touchedRows (sessions) (f′ .«session_id») (f′ .time)) (parts) (lengths) (rebuilt) (f′ .«session_id») (took .asked .first) (took .asked .second) (partOf (d) (took .body))))) (wholeLen (gathered (touchedRows (sessions) (f′ .«session_id») (f′ .time)) (parts) (lengths) (rebuilt) (f′ .«session_id») (took .asked .first) (took .asked .second) (partOf (d) (took .body)))) r′ (took .at) (rows ((gatheredRows (touchedRows (sessions) (f′ .«session_id») (f′ .time)) (parts) (lengths) (rebuilt) (f′ .«session_id») (took .asked .first) (took .asked .second) (partOf (d) (took .body)))) (streams) (objects)) .replies)) ≡ n₈) → (is-22 : Is (Ran-p .row) (leftBy (rebuiltOf ((midOf 0 (rebuiltEnd n₇ (wholeLen (gathered (touchedRows (sessions) (f′ .«session_id») (f′ .time)) (parts) (lengths) (rebuilt) (f′ .«session_id») (took .asked .first) (took .asked .second) (partOf (d) (took .body))))) (gatheredRebuilt (touchedRows (sessions) (f′ .«session_id») (f′ .time)) (parts) (lengths) (rebuilt) (f′ .«session_id») (took .asked .first) (took .asked .second) (partOf (d) (took .body)))))) f′ (held) ((midOf 0 (rebuiltEnd n₇ (wholeLen (gathered (touchedRows (sessions) (f′ .«session_id») (f′ .time)) (parts) (lengths) (rebuilt) (f′ .«session_id») (took .asked .first) (took .asked .second) (partOf (d) (took .body))))) (gatheredRebuilt (touchedRows (sessions) (f′ .«session_id») (f′ .time)) (parts) (lengths) (rebuilt) (f′ .«session_id») (took .asked .first) (took .asked .second) (partOf (d) (took .body))))) (wholeLen (gathered (touchedRows (sessions) (f′ .«session_id») (f′ .time)) (parts) (lengths) (rebuilt) (f′ .«session_id») (took .asked .first) (took .asked .second) (partOf (d) (took .body)))) r′ (took .at) (rows ((gatheredRows (touchedRows (sessions) (f′ .«session_id») (f′ .time)) (parts) (lengths) (rebuilt) (f′ .«session_id») (took .asked .first) (took .asked .second) (partOf (d) (took .body)))) (streams) (objects)) .ran) (Ran-p .val (leftBy (rebuiltOf ((midOf 0 (rebuiltEnd n₇ (wholeLen (gathered (touchedRows (sessions) (f′ .«session_id») (f′ .time)) (parts) (lengths) (rebuilt) (f′ .«session_id») (took .asked .first) (took .asked .second) (partOf (d) (took .body))))) (gatheredRebuilt (touchedRows (sessions) (f′ .«session_id») (f′ .time)) (parts) (lengths) (rebuilt) (f′ .«session_id») (took .asked .first) (took .asked .second) (partOf (d) (took .body)))))) f′ (held) ((midOf 0 (rebuiltEnd n₇ (wholeLen (gathered (touchedRows (sessions) (f′ .«session_id») (f′ .time)) (parts) (lengths) (rebuilt) (f′ .«session_id») (took .asked .first) (took .asked .second) (partOf (d) (took .body))))) (gatheredRebuilt (touchedRows (sessions) (f′ .«session_id») (f′ .time)) (parts) (lengths) (rebuilt) (f′ .«session_id») (took .asked .first) (took .asked .second) (partOf (d) (took .body))))) (wholeLen (gathered (touchedRows (sessions) (f′ .«session_id») (f′ .time)) (parts) (lengths) (rebuilt) (f′ .«session_id») (took .asked .first) (took .asked .second) (partOf (d) (took .body)))) r′ (took .at) (rows ((gatheredRows (touchedRows (sessions) (f′ .«session_id») (f′ .time)) (parts) (lengths) (rebuilt) (f′ .«session_id») (took .asked .first) (took .asked .second) (partOf (d) (took .body)))) (streams) (objects)) .ran) ∷ [])) → Sq W (‵ (MutSlice (named 0) κ₁ (Array u64 8) .own (at-list b₁ o₁ γ₁ (leftBy (rebuiltOf ((midOf 0 (rebuiltEnd n₇ (wholeLen (gathered (touchedRows (sessions) (f′ .«session_id») (f′ .time)) (parts) (lengths) (rebuilt) (f′ .«session_id») (took .asked .first) (took .asked .second) (partOf (d) (took .body))))) (gatheredRebuilt (touchedRows (sessions) (f′ .«session_id») (f′ .time)) (parts) (lengths) (rebuilt) (f′ .«session_id») (took .asked .first) (took .asked .second) (partOf (d) (took .body)))))) f′ (held) ((midOf 0 (rebuiltEnd n₇ (wholeLen (gathered (touchedRows (sessions) (f′ .«session_id») (f′ .time)) (parts) (lengths) (rebuilt) (f′ .«session_id») (took .asked .first) (took .asked .second) (partOf (d) (took .body))))) (gatheredRebuilt (touchedRows (sessions) (f′ .«session_id») (f′ .time)) (parts) (lengths) (rebuilt) (f′ .«session_id») (took .asked .first) (took .asked .second) (partOf (d) (took .body))))) (wholeLen (gathered (touchedRows (sessions) (f′ .«session_id») (f′ .time)) (parts) (lengths) (rebuilt) (f′ .«session_id») (took .asked .first) (took .asked .second) (partOf (d) (took .body)))) r′ (took .at) (rows ((gatheredRows (touchedRows (sessions) (f′ .«session_id») (f′ .time)) (parts) (lengths) (rebuilt) (f′ .«session_id») (took .asked .first) (took .asked .second) (partOf (d) (took .body)))) (streams) (objects)) .rows .sessions)) (sliceVal (b₁, o₁) n₁ ∷ [])) ∷ ‵ (flft κ₁ q₁) ∷ ‵ (MutSlice (named 0) κ₂ (Array u16 35) .own (at-list b₂ o₂ γ₂ (leftBy (rebuiltOf ((midOf 0 (rebuiltEnd n₇ (wholeLen (gathered (touchedRows (sessions) (f′ .«session_id») (f′ .time)) (parts) (lengths) (rebuilt) (f′ .«session_id») (took .asked .first) (took .asked .second) (partOf (d) (took .body))))) (gatheredRebuilt (touchedRows (sessions) (f′ .«session_id») (f′ .time)) (parts) (lengths) (rebuilt) (f′ .«session_id») (took .asked .first) (took .asked .second) (partOf (d) (took .body)))))) f′ (held) ((midOf 0 (rebuiltEnd n₇ (wholeLen (gathered (touchedRows (sessions) (f′ .«session_id») (f′ .time)) (parts) (lengths) (rebuilt) (f′ .«session_id») (took .asked .first) (took .asked .second) (partOf (d) (took .body))))) (gatheredRebuilt (touchedRows (sessions) (f′ .«session_id») (f′ .time)) (parts) (lengths) (rebuilt) (f′ .«session_id») (took .asked .first) (took .asked .second) (partOf (d) (took .body))))) (wholeLen (gathered (touchedRows (sessions) (f′ .«session_id») (f′ .time)) (parts) (lengths) (rebuilt) (f′ .«session_id») (took .asked .first) (took .asked .second) (partOf (d) (took .body)))) r′ (took .at) (rows ((gatheredRows (touchedRows (sessions) (f′ .«session_id») (f′ .time)) (parts) (lengths) (rebuilt) (f′ .«session_id») (took .asked .first) (took .asked .second) (partOf (d) (took .body)))) (streams) (objects)) .rows .streams)) (sliceVal (b₂, o₂) n₂ ∷ [])) ∷ ‵ (flft κ₂ q₂) ∷ ‵ (MutSlice (named 0) κ₃ Object-t.the-row .own (at-list b₃ o₃ γ₃ (leftBy (rebuiltOf ((midOf 0 (rebuiltEnd n₇ (wholeLen (gathered (touchedRows (sessions) (f′ .«session_id») (f′ .time)) (parts) (lengths) (rebuilt) (f′ .«session_id») (took .asked .first) (took .asked .second) (partOf (d) (took .body))))) (gatheredRebuilt (touchedRows (sessions) (f′ .«session_id») (f′ .time)) (parts) (lengths) (rebuilt) (f′ .«session_id») (took .asked .first) (took .asked .second) (partOf (d) (took .body)))))) f′ (held) ((midOf 0 (rebuiltEnd n₇ (wholeLen (gathered (touchedRows (sessions) (f′ .«session_id») (f′ .time)) (parts) (lengths) (rebuilt) (f′ .«session_id») (took .asked .first) (took .asked .second) (partOf (d) (took .body))))) (gatheredRebuilt (touchedRows (sessions) (f′ .«session_id») (f′ .time)) (parts) (lengths) (rebuilt) (f′ .«session_id») (took .asked .first) (took .asked .second) (partOf (d) (took .body))))) (wholeLen (gathered (touchedRows (sessions) (f′ .«session_id») (f′ .time)) (parts) (lengths) (rebuilt) (f′ .«session_id») (took .asked .first) (took .asked .second) (partOf (d) (took .body)))) r′ (took .at) (rows ((gatheredRows (touchedRows (sessions) (f′ .«session_id») (f′ .time)) (parts) (lengths) (rebuilt) (f′ .«session_id») (took .asked .first) (took .asked .second) (partOf (d) (took .body)))) (streams) (objects)) .rows .objects)) (sliceVal (b₃, o₃) n₃ ∷ [])) ∷ ‵ (flft κ₃ q₃) ∷ ‵ (ShrSlice (named 0) κ₄ u8 .own (at-list b₄ o₄ γ₄ held) (sliceVal (b₄, o₄) n₄ ∷ [])) ∷ ‵ (flft κ₄ q₄) ∷ ‵ (MutSlice (named 0) κ₅ u8 .own (at-list b₅ o₅ γ₅ (gatheredParts (touchedRows (sessions) (f′ .«session_id») (f′ .time)) (parts) (lengths) (f′ .«session_id») (took .asked .first) (took .asked .second) (partOf (d) (took .body)))) (sliceVal (b₅, o₅) n₅ ∷ [])) ∷ ‵ (flft κ₅ q₅) ∷ ‵ (MutSlice (named 0) κ₆ u32 .own (at-list b₆ o₆ γ₆ (gatheredLengths (touchedRows (sessions) (f′ .«session_id») (f′ .time)) (parts) (lengths) (f′ .«session_id») (took .asked .first) (took .asked .second) (partOf (d) (took .body)))) (sliceVal (b₆, o₆) n₆ ∷ [])) ∷ ‵ (flft κ₆ q₆) ∷ ‵ (MutSlice (named 0) κ₇ u8 .own (at-list b₇ o₇ γ₇ (gatheredRebuilt (touchedRows (sessions) (f′ .«session_id») (f′ .time)) (parts) (lengths) (rebuilt) (f′ .«session_id») (took .asked .first) (took .asked .second) (partOf (d) (took .body)))) (sliceVal (b₇, o₇) n₇ ∷ [])) ∷ ‵ (flft κ₇ q₇) ∷ ‵ (MutSlice (named 0) κ₈ u8 .own (at-list b₈ o₈ γ₈ (putReplies (f′ .room) (out) (r′ .wrote) (leftBy (rebuiltOf ((midOf 0 (rebuiltEnd n₇ (wholeLen (gathered (touchedRows (sessions) (f′ .«session_id») (f′ .time)) (parts) (lengths) (rebuilt) (f′ .«session_id») (took .asked .first) (took .asked .second) (partOf (d) (took .body))))) (gatheredRebuilt (touchedRows (sessions) (f′ .«session_id») (f′ .time)) (parts) (lengths) (rebuilt) (f′ .«session_id») (took .asked .first) (took .asked .second) (partOf (d) (took .body)))))) f′ (held) ((midOf 0 (rebuiltEnd n₇ (wholeLen (gathered (touchedRows (sessions) (f′ .«session_id») (f′ .time)) (parts) (lengths) (rebuilt) (f′ .«session_id») (took .asked .first) (took .asked .second) (partOf (d) (took .body))))) (gatheredRebuilt (touchedRows (sessions) (f′ .«session_id») (f′ .time)) (parts) (lengths) (rebuilt) (f′ .«session_id») (took .asked .first) (took .asked .second) (partOf (d) (took .body))))) (wholeLen (gathered (touchedRows (sessions) (f′ .«session_id») (f′ .time)) (parts) (lengths) (rebuilt) (f′ .«session_id») (took .asked .first) (took .asked .second) (partOf (d) (took .body)))) r′ (took .at) (rows ((gatheredRows (touchedRows (sessions) (f′ .«session_id») (f′ .time)) (parts) (lengths) (rebuilt) (f′ .«session_id») (took .asked .first) (took .asked .second) (partOf (d) (took .body)))) (streams) (objects)) .replies))) (sliceVal (b₈, o₈) n₈ ∷ [])) ∷ ‵ (flft κ₈ q₈) ∷ ‵ (ShrSlice (named 0) κ₉ u8 .own (at-list b₉ o₉ γ₉ d) (sliceVal (b₉, o₉) n₉ ∷ [])) ∷ ‵ (flft κ₉ q₉) ∷ full 𝓤 (sliceTy (tyRef erased imm (pointee (u8 .written)))) l₃₃ (sliceVal (b₇, place 1 o₇ 0) (rebuiltEnd n₇ (wholeLen (gathered (touchedRows (sessions) (f′ .«session_id») (f′ .time)) (parts) (lengths) (rebuilt) (f′ .«session_id») (took .asked .first) (took .asked .second) (partOf (d) (took .body)))))) (full 𝓤 (tyRef erased imm (pointee (u8 .written))) l₃₂ (vptr b₇ o₇) (full 𝓤 (sliceTy (tyRef erased mut (pointee (u8 .written)))) l₃₁ (sliceVal (b₈, o₈) n₈) (full 𝓤 (tyRef erased mut (pointee (u8 .written))) l₃₀ (vptr b₈ o₈) (full 𝓤 (sliceTy (tyRef erased mut (pointee (Object-t.the-row .written)))) l₂₉ (sliceVal (b₃, o₃) n₃) (full 𝓤 (tyRef erased mut (pointee (Object-t.the-row .written))) l₂₈ (vptr b₃ o₃) (full 𝓤 (sliceTy (tyRef erased mut (pointee ((Array u16 35) .written)))) l₂₇ (sliceVal (b₂, o₂) n₂) (full 𝓤 (tyRef erased mut (pointee ((Array u16 35) .written))) l₂₆ (vptr b₂ o₂) (full 𝓤 (sliceTy (tyRef erased mut (pointee ((Array u64 8) .written)))) l₂₅ (sliceVal (b₁, o₁) n₁) (full 𝓤 (tyRef erased mut (pointee ((Array u64 8) .written))) l₂₄ (vptr b₁ o₁) (full 𝓤 (tyInt w64) l₂₃ (u64-p .val n₇) (full 𝓤 (sliceTy (tyRef erased mut (pointee (u8 .written)))) l₂₂ (sliceVal (b₇, o₇) n₇) (full 𝓤 (tyRef erased mut (pointee (u8 .written))) l₂₁ (vptr b₇ o₇) (full 𝓤 (sliceTy (tyRef erased mut (pointee (u32 .written)))) l₂₀ (sliceVal (b₆, o₆) n₆) (full 𝓤 (tyRef erased mut (pointee (u32 .written))) l₁₉ (vptr b₆ o₆) (full 𝓤 (sliceTy (tyRef erased mut (pointee (u8 .written)))) l₁₈ (sliceVal (b₅, o₅) n₅) (full 𝓤 (tyRef erased mut (pointee (u8 .written))) l₁₇ (vptr b₅ o₅) (full 𝓤 (sliceTy (tyRef erased mut (pointee ((Array u64 8) .written)))) l₁₆ (sliceVal (b₁, o₁) n₁) (full 𝓤 (tyRef erased mut (pointee ((Array u64 8) .written))) l₁₅ (vptr b₁ o₁) (full 𝓤 (tyInt w64) l₁₄ (u64-p .val (rebuiltEnd n₇ (wholeLen (gathered (touchedRows (sessions) (f′ .«session_id») (f′ .time)) (parts) (lengths) (rebuilt) (f′ .«session_id») (took .asked .first) (took .asked .second) (partOf (d) (took .body)))))) (full 𝓤 (tyInt w64) l₁₃ (u64-p .val (wholeLen (gathered (touchedRows (sessions) (f′ .«session_id») (f′ .time)) (parts) (lengths) (rebuilt) (f′ .«session_id») (took .asked .first) (took .asked .second) (partOf (d) (took .body))))) (full 𝓤 Taken-l.mir l₁₂ (Taken-p .val took) (full 𝓤 Ran-l.mir l₁₁ (Ran-p .val r′) (full 𝓤 Frame-l.mir l₁₀ (Frame-p .val f′) (full 𝓤 (sliceTy (tyRef (named 8) imm (pointee (u8 .written)))) l₉ (sliceVal (b₉, o₉) n₉) (full 𝓤 (sliceTy (tyRef (named 7) mut (pointee (u8 .written)))) l₈ (sliceVal (b₈, o₈) n₈) (full 𝓤 (sliceTy (tyRef (named 6) mut (pointee (u8 .written)))) l₇ (sliceVal (b₇, o₇) n₇) (full 𝓤 (sliceTy (tyRef (named 5) mut (pointee (u32 .written)))) l₆ (sliceVal (b₆, o₆) n₆) (full 𝓤 (sliceTy (tyRef (named 4) mut (pointee (u8 .written)))) l₅ (sliceVal (b₅, o₅) n₅) (full 𝓤 (sliceTy (tyRef (named 3) imm (pointee (u8 .written)))) l₄ (sliceVal (b₄, o₄) n₄) (full 𝓤 (sliceTy (tyRef (named 2) mut (pointee (Object-t.the-row .written)))) l₃ (sliceVal (b₃, o₃) n₃) (full 𝓤 (sliceTy (tyRef (named 1) mut (pointee ((Array u16 35) .written)))) l₂ (sliceVal (b₂, o₂) n₂) (full 𝓤 (sliceTy (tyRef (named 0) mut (pointee ((Array u64 8) .written)))) l₁ (sliceVal (b₁, o₁) n₁) (full 𝓤 Ran-l.mir l₀ (Ran-p .val (leftBy (rebuiltOf ((midOf 0 (rebuiltEnd n₇ (wholeLen (gathered (touchedRows (sessions) (f′ .«session_id») (f′ .time)) (parts) (lengths) (rebuilt) (f′ .«session_id») (took .asked .first) (took .asked .second) (partOf (d) (took .body))))) (gatheredRebuilt (touchedRows (sessions) (f′ .«session_id») (f′ .time)) (parts) (lengths) (rebuilt) (f′ .«session_id») (took .asked .first) (took .asked .second) (partOf (d) (took .body)))))) f′ (held) ((midOf 0 (rebuiltEnd n₇ (wholeLen (gathered (touchedRows (sessions) (f′ .«session_id») (f′ .time)) (parts) (lengths) (rebuilt) (f′ .«session_id») (took .asked .first) (took .asked .second) (partOf (d) (took .body))))) (gatheredRebuilt (touchedRows (sessions) (f′ .«session_id») (f′ .time)) (parts) (lengths) (rebuilt) (f′ .«session_id») (took .asked .first) (took .asked .second) (partOf (d) (took .body))))) (wholeLen (gathered (touchedRows (sessions) (f′ .«session_id») (f′ .time)) (parts) (lengths) (rebuilt) (f′ .«session_id») (took .asked .first) (took .asked .second) (partOf (d) (took .body)))) r′ (took .at) (rows ((gatheredRows (touchedRows (sessions) (f′ .«session_id») (f′ .time)) (parts) (lengths) (rebuilt) (f′ .«session_id») (took .asked .first) (took .asked .second) (partOf (d) (took .body)))) (streams) (objects)) .ran)) ([]))))))))))))))))))))))))))))))))))) (runs C Λ En mir.t-23 (atRet En Post))
+    part-23-0 : (len-9-sessions : length (gatheredRows (touchedRows (sessions) (f′ .«session_id») (f′ .moment .time)) (parts) (lengths) (rebuilt) (f′ .«session_id») (took .asked .first) (took .asked .second) (partOf (d) (took .body))) ≡ n₁) → (len-9-parts : length (gatheredParts (touchedRows (sessions) (f′ .«session_id») (f′ .moment .time)) (parts) (lengths) (f′ .«session_id») (took .asked .first) (took .asked .second) (partOf (d) (took .body))) ≡ n₅) → (len-9-lengths : length (gatheredLengths (touchedRows (sessions) (f′ .«session_id») (f′ .moment .time)) (parts) (lengths) (f′ .«session_id») (took .asked .first) (took .asked .second) (partOf (d) (took .body))) ≡ n₆) → (len-9-rebuilt : length (gatheredRebuilt (touchedRows (sessions) (f′ .«session_id») (f′ .moment .time)) (parts) (lengths) (rebuilt) (f′ .«session_id») (took .asked .first) (took .asked .second) (partOf (d) (took .body))) ≡ n₇) → (is-9 : Is (u64-p .row) (wholeLen (gathered (touchedRows (sessions) (f′ .«session_id») (f′ .moment .time)) (parts) (lengths) (rebuilt) (f′ .«session_id») (took .asked .first) (took .asked .second) (partOf (d) (took .body)))) (u64-p .val (wholeLen (gathered (touchedRows (sessions) (f′ .«session_id») (f′ .moment .time)) (parts) (lengths) (rebuilt) (f′ .«session_id») (took .asked .first) (took .asked .second) (partOf (d) (took .body)))) ∷ [])) → (is-11 : Is (u64-p .row) (rebuiltEnd n₇ (wholeLen (gathered (touchedRows (sessions) (f′ .«session_id») (f′ .moment .time)) (parts) (lengths) (rebuilt) (f′ .«session_id») (took .asked .first) (took .asked .second) (partOf (d) (took .body))))) (u64-p .val (rebuiltEnd n₇ (wholeLen (gathered (touchedRows (sessions) (f′ .«session_id») (f′ .moment .time)) (parts) (lengths) (rebuilt) (f′ .«session_id») (took .asked .first) (took .asked .second) (partOf (d) (took .body))))) ∷ [])) → (part-22-rebuilt : 0 + (rebuiltEnd n₇ (wholeLen (gathered (touchedRows (sessions) (f′ .«session_id») (f′ .moment .time)) (parts) (lengths) (rebuilt) (f′ .«session_id») (took .asked .first) (took .asked .second) (partOf (d) (took .body))))) ≤ length (gatheredRebuilt (touchedRows (sessions) (f′ .«session_id») (f′ .moment .time)) (parts) (lengths) (rebuilt) (f′ .«session_id») (took .asked .first) (took .asked .second) (partOf (d) (took .body)))) → (ppart-22-rebuilt : length (midOf 0 (rebuiltEnd n₇ (wholeLen (gathered (touchedRows (sessions) (f′ .«session_id») (f′ .moment .time)) (parts) (lengths) (rebuilt) (f′ .«session_id») (took .asked .first) (took .asked .second) (partOf (d) (took .body))))) (gatheredRebuilt (touchedRows (sessions) (f′ .«session_id») (f′ .moment .time)) (parts) (lengths) (rebuilt) (f′ .«session_id») (took .asked .first) (took .asked .second) (partOf (d) (took .body)))) ≡ (rebuiltEnd n₇ (wholeLen (gathered (touchedRows (sessions) (f′ .«session_id») (f′ .moment .time)) (parts) (lengths) (rebuilt) (f′ .«session_id») (took .asked .first) (took .asked .second) (partOf (d) (took .body)))))) → (asks-22 : f′ .room ≤ 9223372036854775807) → (len-22-sessions : length (leftBy (rebuiltOf ((midOf 0 (rebuiltEnd n₇ (wholeLen (gathered (touchedRows (sessions) (f′ .«session_id») (f′ .moment .time)) (parts) (lengths) (rebuilt) (f′ .«session_id») (took .asked .first) (took .asked .second) (partOf (d) (took .body))))) (gatheredRebuilt (touchedRows (sessions) (f′ .«session_id») (f′ .moment .time)) (parts) (lengths) (rebuilt) (f′ .«session_id») (took .asked .first) (took .asked .second) (partOf (d) (took .body)))))) f′ (held) ((midOf 0 (rebuiltEnd n₇ (wholeLen (gathered (touchedRows (sessions) (f′ .«session_id») (f′ .moment .time)) (parts) (lengths) (rebuilt) (f′ .«session_id») (took .asked .first) (took .asked .second) (partOf (d) (took .body))))) (gatheredRebuilt (touchedRows (sessions) (f′ .«session_id») (f′ .moment .time)) (parts) (lengths) (rebuilt) (f′ .«session_id») (took .asked .first) (took .asked .second) (partOf (d) (took .body))))) (wholeLen (gathered (touchedRows (sessions) (f′ .«session_id») (f′ .moment .time)) (parts) (lengths) (rebuilt) (f′ .«session_id») (took .asked .first) (took .asked .second) (partOf (d) (took .body)))) r′ (took .at) (rows ((gatheredRows (touchedRows (sessions) (f′ .«session_id») (f′ .moment .time)) (parts) (lengths) (rebuilt) (f′ .«session_id») (took .asked .first) (took .asked .second) (partOf (d) (took .body)))) (streams) (objects)) .rows .sessions) ≡ n₁) → (len-22-streams : length (leftBy (rebuiltOf ((midOf 0 (rebuiltEnd n₇ (wholeLen (gathered (touchedRows (sessions) (f′ .«session_id») (f′ .moment .time)) (parts) (lengths) (rebuilt) (f′ .«session_id») (took .asked .first) (took .asked .second) (partOf (d) (took .body))))) (gatheredRebuilt (touchedRows (sessions) (f′ .«session_id») (f′ .moment .time)) (parts) (lengths) (rebuilt) (f′ .«session_id») (took .asked .first) (took .asked .second) (partOf (d) (took .body)))))) f′ (held) ((midOf 0 (rebuiltEnd n₇ (wholeLen (gathered (touchedRows (sessions) (f′ .«session_id») (f′ .moment .time)) (parts) (lengths) (rebuilt) (f′ .«session_id») (took .asked .first) (took .asked .second) (partOf (d) (took .body))))) (gatheredRebuilt (touchedRows (sessions) (f′ .«session_id») (f′ .moment .time)) (parts) (lengths) (rebuilt) (f′ .«session_id») (took .asked .first) (took .asked .second) (partOf (d) (took .body))))) (wholeLen (gathered (touchedRows (sessions) (f′ .«session_id») (f′ .moment .time)) (parts) (lengths) (rebuilt) (f′ .«session_id») (took .asked .first) (took .asked .second) (partOf (d) (took .body)))) r′ (took .at) (rows ((gatheredRows (touchedRows (sessions) (f′ .«session_id») (f′ .moment .time)) (parts) (lengths) (rebuilt) (f′ .«session_id») (took .asked .first) (took .asked .second) (partOf (d) (took .body)))) (streams) (objects)) .rows .streams) ≡ n₂) → (len-22-objects : length (leftBy (rebuiltOf ((midOf 0 (rebuiltEnd n₇ (wholeLen (gathered (touchedRows (sessions) (f′ .«session_id») (f′ .moment .time)) (parts) (lengths) (rebuilt) (f′ .«session_id») (took .asked .first) (took .asked .second) (partOf (d) (took .body))))) (gatheredRebuilt (touchedRows (sessions) (f′ .«session_id») (f′ .moment .time)) (parts) (lengths) (rebuilt) (f′ .«session_id») (took .asked .first) (took .asked .second) (partOf (d) (took .body)))))) f′ (held) ((midOf 0 (rebuiltEnd n₇ (wholeLen (gathered (touchedRows (sessions) (f′ .«session_id») (f′ .moment .time)) (parts) (lengths) (rebuilt) (f′ .«session_id») (took .asked .first) (took .asked .second) (partOf (d) (took .body))))) (gatheredRebuilt (touchedRows (sessions) (f′ .«session_id») (f′ .moment .time)) (parts) (lengths) (rebuilt) (f′ .«session_id») (took .asked .first) (took .asked .second) (partOf (d) (took .body))))) (wholeLen (gathered (touchedRows (sessions) (f′ .«session_id») (f′ .moment .time)) (parts) (lengths) (rebuilt) (f′ .«session_id») (took .asked .first) (took .asked .second) (partOf (d) (took .body)))) r′ (took .at) (rows ((gatheredRows (touchedRows (sessions) (f′ .«session_id») (f′ .moment .time)) (parts) (lengths) (rebuilt) (f′ .«session_id») (took .asked .first) (took .asked .second) (partOf (d) (took .body)))) (streams) (objects)) .rows .objects) ≡ n₃) → (len-22-out : length (putReplies (f′ .room) (out) (r′ .wrote) (leftBy (rebuiltOf ((midOf 0 (rebuiltEnd n₇ (wholeLen (gathered (touchedRows (sessions) (f′ .«session_id») (f′ .moment .time)) (parts) (lengths) (rebuilt) (f′ .«session_id») (took .asked .first) (took .asked .second) (partOf (d) (took .body))))) (gatheredRebuilt (touchedRows (sessions) (f′ .«session_id») (f′ .moment .time)) (parts) (lengths) (rebuilt) (f′ .«session_id») (took .asked .first) (took .asked .second) (partOf (d) (took .body)))))) f′ (held) ((midOf 0 (rebuiltEnd n₇ (wholeLen (gathered (touchedRows (sessions) (f′ .«session_id») (f′ .moment .time)) (parts) (lengths) (rebuilt) (f′ .«session_id») (took .asked .first) (took .asked .second) (partOf (d) (took .body))))) (gatheredRebuilt (touchedRows (sessions) (f′ .«session_id») (f′ .moment .time)) (parts) (lengths) (rebuilt) (f′ .«session_id») (took .asked .first) (took .asked .second) (partOf (d) (took .body))))) (wholeLen (gathered (touchedRows (sessions) (f′ .«session_id») (f′ .moment .time)) (parts) (lengths) (rebuilt) (f′ .«session_id») (took .asked .first) (took .asked .second) (partOf (d) (took .body)))) r′ (took .at) (rows ((gatheredRows (touchedRows (sessions) (f′ .«session_id») (f′ .moment .time)) (parts) (lengths) (rebuilt) (f′ .«session_id») (took .asked .first) (took .asked .second) (partOf (d) (took .body)))) (streams) (objects)) .replies)) ≡ n₈) → (is-22 : Is (Ran-p .row) (leftBy (rebuiltOf ((midOf 0 (rebuiltEnd n₇ (wholeLen (gathered (touchedRows (sessions) (f′ .«session_id») (f′ .moment .time)) (parts) (lengths) (rebuilt) (f′ .«session_id») (took .asked .first) (took .asked .second) (partOf (d) (took .body))))) (gatheredRebuilt (touchedRows (sessions) (f′ .«session_id») (f′ .moment .time)) (parts) (lengths) (rebuilt) (f′ .«session_id») (took .asked .first) (took .asked .second) (partOf (d) (took .body)))))) f′ (held) ((midOf 0 (rebuiltEnd n₇ (wholeLen (gathered (touchedRows (sessions) (f′ .«session_id») (f′ .moment .time)) (parts) (lengths) (rebuilt) (f′ .«session_id») (took .asked .first) (took .asked .second) (partOf (d) (took .body))))) (gatheredRebuilt (touchedRows (sessions) (f′ .«session_id») (f′ .moment .time)) (parts) (lengths) (rebuilt) (f′ .«session_id») (took .asked .first) (took .asked .second) (partOf (d) (took .body))))) (wholeLen (gathered (touchedRows (sessions) (f′ .«session_id») (f′ .moment .time)) (parts) (lengths) (rebuilt) (f′ .«session_id») (took .asked .first) (took .asked .second) (partOf (d) (took .body)))) r′ (took .at) (rows ((gatheredRows (touchedRows (sessions) (f′ .«session_id») (f′ .moment .time)) (parts) (lengths) (rebuilt) (f′ .«session_id») (took .asked .first) (took .asked .second) (partOf (d) (took .body)))) (streams) (objects)) .ran) (Ran-p .val (leftBy (rebuiltOf ((midOf 0 (rebuiltEnd n₇ (wholeLen (gathered (touchedRows (sessions) (f′ .«session_id») (f′ .moment .time)) (parts) (lengths) (rebuilt) (f′ .«session_id») (took .asked .first) (took .asked .second) (partOf (d) (took .body))))) (gatheredRebuilt (touchedRows (sessions) (f′ .«session_id») (f′ .moment .time)) (parts) (lengths) (rebuilt) (f′ .«session_id») (took .asked .first) (took .asked .second) (partOf (d) (took .body)))))) f′ (held) ((midOf 0 (rebuiltEnd n₇ (wholeLen (gathered (touchedRows (sessions) (f′ .«session_id») (f′ .moment .time)) (parts) (lengths) (rebuilt) (f′ .«session_id») (took .asked .first) (took .asked .second) (partOf (d) (took .body))))) (gatheredRebuilt (touchedRows (sessions) (f′ .«session_id») (f′ .moment .time)) (parts) (lengths) (rebuilt) (f′ .«session_id») (took .asked .first) (took .asked .second) (partOf (d) (took .body))))) (wholeLen (gathered (touchedRows (sessions) (f′ .«session_id») (f′ .moment .time)) (parts) (lengths) (rebuilt) (f′ .«session_id») (took .asked .first) (took .asked .second) (partOf (d) (took .body)))) r′ (took .at) (rows ((gatheredRows (touchedRows (sessions) (f′ .«session_id») (f′ .moment .time)) (parts) (lengths) (rebuilt) (f′ .«session_id») (took .asked .first) (took .asked .second) (partOf (d) (took .body)))) (streams) (objects)) .ran) ∷ [])) → Sq W (‵ (MutSlice (named 0) κ₁ (Array u64 8) .own (at-list b₁ o₁ γ₁ (leftBy (rebuiltOf ((midOf 0 (rebuiltEnd n₇ (wholeLen (gathered (touchedRows (sessions) (f′ .«session_id») (f′ .moment .time)) (parts) (lengths) (rebuilt) (f′ .«session_id») (took .asked .first) (took .asked .second) (partOf (d) (took .body))))) (gatheredRebuilt (touchedRows (sessions) (f′ .«session_id») (f′ .moment .time)) (parts) (lengths) (rebuilt) (f′ .«session_id») (took .asked .first) (took .asked .second) (partOf (d) (took .body)))))) f′ (held) ((midOf 0 (rebuiltEnd n₇ (wholeLen (gathered (touchedRows (sessions) (f′ .«session_id») (f′ .moment .time)) (parts) (lengths) (rebuilt) (f′ .«session_id») (took .asked .first) (took .asked .second) (partOf (d) (took .body))))) (gatheredRebuilt (touchedRows (sessions) (f′ .«session_id») (f′ .moment .time)) (parts) (lengths) (rebuilt) (f′ .«session_id») (took .asked .first) (took .asked .second) (partOf (d) (took .body))))) (wholeLen (gathered (touchedRows (sessions) (f′ .«session_id») (f′ .moment .time)) (parts) (lengths) (rebuilt) (f′ .«session_id») (took .asked .first) (took .asked .second) (partOf (d) (took .body)))) r′ (took .at) (rows ((gatheredRows (touchedRows (sessions) (f′ .«session_id») (f′ .moment .time)) (parts) (lengths) (rebuilt) (f′ .«session_id») (took .asked .first) (took .asked .second) (partOf (d) (took .body)))) (streams) (objects)) .rows .sessions)) (sliceVal (b₁, o₁) n₁ ∷ [])) ∷ ‵ (flft κ₁ q₁) ∷ ‵ (MutSlice (named 0) κ₂ (Array u16 35) .own (at-list b₂ o₂ γ₂ (leftBy (rebuiltOf ((midOf 0 (rebuiltEnd n₇ (wholeLen (gathered (touchedRows (sessions) (f′ .«session_id») (f′ .moment .time)) (parts) (lengths) (rebuilt) (f′ .«session_id») (took .asked .first) (took .asked .second) (partOf (d) (took .body))))) (gatheredRebuilt (touchedRows (sessions) (f′ .«session_id») (f′ .moment .time)) (parts) (lengths) (rebuilt) (f′ .«session_id») (took .asked .first) (took .asked .second) (partOf (d) (took .body)))))) f′ (held) ((midOf 0 (rebuiltEnd n₇ (wholeLen (gathered (touchedRows (sessions) (f′ .«session_id») (f′ .moment .time)) (parts) (lengths) (rebuilt) (f′ .«session_id») (took .asked .first) (took .asked .second) (partOf (d) (took .body))))) (gatheredRebuilt (touchedRows (sessions) (f′ .«session_id») (f′ .moment .time)) (parts) (lengths) (rebuilt) (f′ .«session_id») (took .asked .first) (took .asked .second) (partOf (d) (took .body))))) (wholeLen (gathered (touchedRows (sessions) (f′ .«session_id») (f′ .moment .time)) (parts) (lengths) (rebuilt) (f′ .«session_id») (took .asked .first) (took .asked .second) (partOf (d) (took .body)))) r′ (took .at) (rows ((gatheredRows (touchedRows (sessions) (f′ .«session_id») (f′ .moment .time)) (parts) (lengths) (rebuilt) (f′ .«session_id») (took .asked .first) (took .asked .second) (partOf (d) (took .body)))) (streams) (objects)) .rows .streams)) (sliceVal (b₂, o₂) n₂ ∷ [])) ∷ ‵ (flft κ₂ q₂) ∷ ‵ (MutSlice (named 0) κ₃ Object-t.the-row .own (at-list b₃ o₃ γ₃ (leftBy (rebuiltOf ((midOf 0 (rebuiltEnd n₇ (wholeLen (gathered (touchedRows (sessions) (f′ .«session_id») (f′ .moment .time)) (parts) (lengths) (rebuilt) (f′ .«session_id») (took .asked .first) (took .asked .second) (partOf (d) (took .body))))) (gatheredRebuilt (touchedRows (sessions) (f′ .«session_id») (f′ .moment .time)) (parts) (lengths) (rebuilt) (f′ .«session_id») (took .asked .first) (took .asked .second) (partOf (d) (took .body)))))) f′ (held) ((midOf 0 (rebuiltEnd n₇ (wholeLen (gathered (touchedRows (sessions) (f′ .«session_id») (f′ .moment .time)) (parts) (lengths) (rebuilt) (f′ .«session_id») (took .asked .first) (took .asked .second) (partOf (d) (took .body))))) (gatheredRebuilt (touchedRows (sessions) (f′ .«session_id») (f′ .moment .time)) (parts) (lengths) (rebuilt) (f′ .«session_id») (took .asked .first) (took .asked .second) (partOf (d) (took .body))))) (wholeLen (gathered (touchedRows (sessions) (f′ .«session_id») (f′ .moment .time)) (parts) (lengths) (rebuilt) (f′ .«session_id») (took .asked .first) (took .asked .second) (partOf (d) (took .body)))) r′ (took .at) (rows ((gatheredRows (touchedRows (sessions) (f′ .«session_id») (f′ .moment .time)) (parts) (lengths) (rebuilt) (f′ .«session_id») (took .asked .first) (took .asked .second) (partOf (d) (took .body)))) (streams) (objects)) .rows .objects)) (sliceVal (b₃, o₃) n₃ ∷ [])) ∷ ‵ (flft κ₃ q₃) ∷ ‵ (ShrSlice (named 0) κ₄ u8 .own (at-list b₄ o₄ γ₄ held) (sliceVal (b₄, o₄) n₄ ∷ [])) ∷ ‵ (flft κ₄ q₄) ∷ ‵ (MutSlice (named 0) κ₅ u8 .own (at-list b₅ o₅ γ₅ (gatheredParts (touchedRows (sessions) (f′ .«session_id») (f′ .moment .time)) (parts) (lengths) (f′ .«session_id») (took .asked .first) (took .asked .second) (partOf (d) (took .body)))) (sliceVal (b₅, o₅) n₅ ∷ [])) ∷ ‵ (flft κ₅ q₅) ∷ ‵ (MutSlice (named 0) κ₆ u32 .own (at-list b₆ o₆ γ₆ (gatheredLengths (touchedRows (sessions) (f′ .«session_id») (f′ .moment .time)) (parts) (lengths) (f′ .«session_id») (took .asked .first) (took .asked .second) (partOf (d) (took .body)))) (sliceVal (b₆, o₆) n₆ ∷ [])) ∷ ‵ (flft κ₆ q₆) ∷ ‵ (MutSlice (named 0) κ₇ u8 .own (at-list b₇ o₇ γ₇ (gatheredRebuilt (touchedRows (sessions) (f′ .«session_id») (f′ .moment .time)) (parts) (lengths) (rebuilt) (f′ .«session_id») (took .asked .first) (took .asked .second) (partOf (d) (took .body)))) (sliceVal (b₇, o₇) n₇ ∷ [])) ∷ ‵ (flft κ₇ q₇) ∷ ‵ (MutSlice (named 0) κ₈ u8 .own (at-list b₈ o₈ γ₈ (putReplies (f′ .room) (out) (r′ .wrote) (leftBy (rebuiltOf ((midOf 0 (rebuiltEnd n₇ (wholeLen (gathered (touchedRows (sessions) (f′ .«session_id») (f′ .moment .time)) (parts) (lengths) (rebuilt) (f′ .«session_id») (took .asked .first) (took .asked .second) (partOf (d) (took .body))))) (gatheredRebuilt (touchedRows (sessions) (f′ .«session_id») (f′ .moment .time)) (parts) (lengths) (rebuilt) (f′ .«session_id») (took .asked .first) (took .asked .second) (partOf (d) (took .body)))))) f′ (held) ((midOf 0 (rebuiltEnd n₇ (wholeLen (gathered (touchedRows (sessions) (f′ .«session_id») (f′ .moment .time)) (parts) (lengths) (rebuilt) (f′ .«session_id») (took .asked .first) (took .asked .second) (partOf (d) (took .body))))) (gatheredRebuilt (touchedRows (sessions) (f′ .«session_id») (f′ .moment .time)) (parts) (lengths) (rebuilt) (f′ .«session_id») (took .asked .first) (took .asked .second) (partOf (d) (took .body))))) (wholeLen (gathered (touchedRows (sessions) (f′ .«session_id») (f′ .moment .time)) (parts) (lengths) (rebuilt) (f′ .«session_id») (took .asked .first) (took .asked .second) (partOf (d) (took .body)))) r′ (took .at) (rows ((gatheredRows (touchedRows (sessions) (f′ .«session_id») (f′ .moment .time)) (parts) (lengths) (rebuilt) (f′ .«session_id») (took .asked .first) (took .asked .second) (partOf (d) (took .body)))) (streams) (objects)) .replies))) (sliceVal (b₈, o₈) n₈ ∷ [])) ∷ ‵ (flft κ₈ q₈) ∷ ‵ (ShrSlice (named 0) κ₉ u8 .own (at-list b₉ o₉ γ₉ d) (sliceVal (b₉, o₉) n₉ ∷ [])) ∷ ‵ (flft κ₉ q₉) ∷ full 𝓤 (sliceTy (tyRef erased imm (pointee (u8 .written)))) l₃₃ (sliceVal (b₇, place 1 o₇ 0) (rebuiltEnd n₇ (wholeLen (gathered (touchedRows (sessions) (f′ .«session_id») (f′ .moment .time)) (parts) (lengths) (rebuilt) (f′ .«session_id») (took .asked .first) (took .asked .second) (partOf (d) (took .body)))))) (full 𝓤 (tyRef erased imm (pointee (u8 .written))) l₃₂ (vptr b₇ o₇) (full 𝓤 (sliceTy (tyRef erased mut (pointee (u8 .written)))) l₃₁ (sliceVal (b₈, o₈) n₈) (full 𝓤 (tyRef erased mut (pointee (u8 .written))) l₃₀ (vptr b₈ o₈) (full 𝓤 (sliceTy (tyRef erased mut (pointee (Object-t.the-row .written)))) l₂₉ (sliceVal (b₃, o₃) n₃) (full 𝓤 (tyRef erased mut (pointee (Object-t.the-row .written))) l₂₈ (vptr b₃ o₃) (full 𝓤 (sliceTy (tyRef erased mut (pointee ((Array u16 35) .written)))) l₂₇ (sliceVal (b₂, o₂) n₂) (full 𝓤 (tyRef erased mut (pointee ((Array u16 35) .written))) l₂₆ (vptr b₂ o₂) (full 𝓤 (sliceTy (tyRef erased mut (pointee ((Array u64 8) .written)))) l₂₅ (sliceVal (b₁, o₁) n₁) (full 𝓤 (tyRef erased mut (pointee ((Array u64 8) .written))) l₂₄ (vptr b₁ o₁) (full 𝓤 (tyInt w64) l₂₃ (u64-p .val n₇) (full 𝓤 (sliceTy (tyRef erased mut (pointee (u8 .written)))) l₂₂ (sliceVal (b₇, o₇) n₇) (full 𝓤 (tyRef erased mut (pointee (u8 .written))) l₂₁ (vptr b₇ o₇) (full 𝓤 (sliceTy (tyRef erased mut (pointee (u32 .written)))) l₂₀ (sliceVal (b₆, o₆) n₆) (full 𝓤 (tyRef erased mut (pointee (u32 .written))) l₁₉ (vptr b₆ o₆) (full 𝓤 (sliceTy (tyRef erased mut (pointee (u8 .written)))) l₁₈ (sliceVal (b₅, o₅) n₅) (full 𝓤 (tyRef erased mut (pointee (u8 .written))) l₁₇ (vptr b₅ o₅) (full 𝓤 (sliceTy (tyRef erased mut (pointee ((Array u64 8) .written)))) l₁₆ (sliceVal (b₁, o₁) n₁) (full 𝓤 (tyRef erased mut (pointee ((Array u64 8) .written))) l₁₅ (vptr b₁ o₁) (full 𝓤 (tyInt w64) l₁₄ (u64-p .val (rebuiltEnd n₇ (wholeLen (gathered (touchedRows (sessions) (f′ .«session_id») (f′ .moment .time)) (parts) (lengths) (rebuilt) (f′ .«session_id») (took .asked .first) (took .asked .second) (partOf (d) (took .body)))))) (full 𝓤 (tyInt w64) l₁₃ (u64-p .val (wholeLen (gathered (touchedRows (sessions) (f′ .«session_id») (f′ .moment .time)) (parts) (lengths) (rebuilt) (f′ .«session_id») (took .asked .first) (took .asked .second) (partOf (d) (took .body))))) (full 𝓤 Taken-l.mir l₁₂ (Taken-p .val took) (full 𝓤 Ran-l.mir l₁₁ (Ran-p .val r′) (full 𝓤 Frame-l.mir l₁₀ (Frame-p .val f′) (full 𝓤 (sliceTy (tyRef (named 8) imm (pointee (u8 .written)))) l₉ (sliceVal (b₉, o₉) n₉) (full 𝓤 (sliceTy (tyRef (named 7) mut (pointee (u8 .written)))) l₈ (sliceVal (b₈, o₈) n₈) (full 𝓤 (sliceTy (tyRef (named 6) mut (pointee (u8 .written)))) l₇ (sliceVal (b₇, o₇) n₇) (full 𝓤 (sliceTy (tyRef (named 5) mut (pointee (u32 .written)))) l₆ (sliceVal (b₆, o₆) n₆) (full 𝓤 (sliceTy (tyRef (named 4) mut (pointee (u8 .written)))) l₅ (sliceVal (b₅, o₅) n₅) (full 𝓤 (sliceTy (tyRef (named 3) imm (pointee (u8 .written)))) l₄ (sliceVal (b₄, o₄) n₄) (full 𝓤 (sliceTy (tyRef (named 2) mut (pointee (Object-t.the-row .written)))) l₃ (sliceVal (b₃, o₃) n₃) (full 𝓤 (sliceTy (tyRef (named 1) mut (pointee ((Array u16 35) .written)))) l₂ (sliceVal (b₂, o₂) n₂) (full 𝓤 (sliceTy (tyRef (named 0) mut (pointee ((Array u64 8) .written)))) l₁ (sliceVal (b₁, o₁) n₁) (full 𝓤 Ran-l.mir l₀ (Ran-p .val (leftBy (rebuiltOf ((midOf 0 (rebuiltEnd n₇ (wholeLen (gathered (touchedRows (sessions) (f′ .«session_id») (f′ .moment .time)) (parts) (lengths) (rebuilt) (f′ .«session_id») (took .asked .first) (took .asked .second) (partOf (d) (took .body))))) (gatheredRebuilt (touchedRows (sessions) (f′ .«session_id») (f′ .moment .time)) (parts) (lengths) (rebuilt) (f′ .«session_id») (took .asked .first) (took .asked .second) (partOf (d) (took .body)))))) f′ (held) ((midOf 0 (rebuiltEnd n₇ (wholeLen (gathered (touchedRows (sessions) (f′ .«session_id») (f′ .moment .time)) (parts) (lengths) (rebuilt) (f′ .«session_id») (took .asked .first) (took .asked .second) (partOf (d) (took .body))))) (gatheredRebuilt (touchedRows (sessions) (f′ .«session_id») (f′ .moment .time)) (parts) (lengths) (rebuilt) (f′ .«session_id») (took .asked .first) (took .asked .second) (partOf (d) (took .body))))) (wholeLen (gathered (touchedRows (sessions) (f′ .«session_id») (f′ .moment .time)) (parts) (lengths) (rebuilt) (f′ .«session_id») (took .asked .first) (took .asked .second) (partOf (d) (took .body)))) r′ (took .at) (rows ((gatheredRows (touchedRows (sessions) (f′ .«session_id») (f′ .moment .time)) (parts) (lengths) (rebuilt) (f′ .«session_id») (took .asked .first) (took .asked .second) (partOf (d) (took .body)))) (streams) (objects)) .ran)) ([]))))))))))))))))))))))))))))))))))) (runs C Λ En mir.t-23 (atRet En Post))
     part-23-0 len-9-sessions len-9-parts len-9-lengths len-9-rebuilt is-9 is-11 part-22-rebuilt ppart-22-rebuilt asks-22 len-22-sessions len-22-streams len-22-objects len-22-out is-22 =
         returns ! (look ! 84 refl) $ forget ! 18 refl $ forget ! 20 refl $ forget ! 22 refl $ forget ! 24 refl $ forget ! 26 refl $ forget ! 28 refl $ forget ! 30 refl $ forget ! 32 refl $ forget ! 34 refl $ forget ! 36 refl $ forget ! 38 refl $ forget ! 40 refl $ forget ! 42 refl $ forget ! 44 refl $ forget ! 46 refl $ forget ! 48 refl $ forget ! 50 refl $ forget ! 52 refl $ forget ! 54 refl $ forget ! 56 refl $ forget ! 58 refl $ forget ! 60 refl $ forget ! 62 refl $ forget ! 64 refl $ forget ! 66 refl $ forget ! 68 refl $ forget ! 70 refl $ forget ! 72 refl $ forget ! 74 refl $ forget ! 76 refl $ forget ! 78 refl $ forget ! 80 refl $ forget ! 82 refl $ forget ! 84 refl $ move ! (84 ∷ 85 ∷ []) $ free1 ! $ move ! (82 ∷ 83 ∷ []) $ free1 ! $ move ! (80 ∷ 81 ∷ []) $ free1 ! $ move ! (78 ∷ 79 ∷ []) $ free1 ! $ move ! (76 ∷ 77 ∷ []) $ free1 ! $ move ! (74 ∷ 75 ∷ []) $ free1 ! $ move ! (72 ∷ 73 ∷ []) $ free1 ! $ move ! (70 ∷ 71 ∷ []) $ free1 ! $ move ! (68 ∷ 69 ∷ []) $ free1 ! $ move ! (66 ∷ 67 ∷ []) $ free1 ! $ move ! (64 ∷ 65 ∷ []) $ free1 ! $ move ! (62 ∷ 63 ∷ []) $ free1 ! $ move ! (60 ∷ 61 ∷ []) $ free1 ! $ move ! (58 ∷ 59 ∷ []) $ free1 ! $ move ! (56 ∷ 57 ∷ []) $ free1 ! $ move ! (54 ∷ 55 ∷ []) $ free1 ! $ move ! (52 ∷ 53 ∷ []) $ free1 ! $ move ! (50 ∷ 51 ∷ []) $ free1 ! $ move ! (48 ∷ 49 ∷ []) $ free1 ! $ move ! (46 ∷ 47 ∷ []) $ free1 ! $ move ! (44 ∷ 45 ∷ []) $ free1 ! $ move ! (42 ∷ 43 ∷ []) $ free1 ! $ move ! (40 ∷ 41 ∷ []) $ free1 ! $ move ! (38 ∷ 39 ∷ []) $ free1 ! $ move ! (36 ∷ 37 ∷ []) $ free1 ! $ move ! (34 ∷ 35 ∷ []) $ free1 ! $ move ! (32 ∷ 33 ∷ []) $ free1 ! $ move ! (30 ∷ 31 ∷ []) $ free1 ! $ move ! (28 ∷ 29 ∷ []) $ free1 ! $ move ! (26 ∷ 27 ∷ []) $ free1 ! $ move ! (24 ∷ 25 ∷ []) $ free1 ! $ move ! (22 ∷ 23 ∷ []) $ free1 ! $ move ! (20 ∷ 21 ∷ []) $ free1 ! $ move ! (18 ∷ 19 ∷ []) $ free1 ! $ free0 ! $
-        by ! (exits (leftBy (rebuiltOf ((midOf 0 (rebuiltEnd n₇ (wholeLen (gathered (touchedRows (sessions) (f′ .«session_id») (f′ .time)) (parts) (lengths) (rebuilt) (f′ .«session_id») (took .asked .first) (took .asked .second) (partOf (d) (took .body))))) (gatheredRebuilt (touchedRows (sessions) (f′ .«session_id») (f′ .time)) (parts) (lengths) (rebuilt) (f′ .«session_id») (took .asked .first) (took .asked .second) (partOf (d) (took .body)))))) f′ (held) ((midOf 0 (rebuiltEnd n₇ (wholeLen (gathered (touchedRows (sessions) (f′ .«session_id») (f′ .time)) (parts) (lengths) (rebuilt) (f′ .«session_id») (took .asked .first) (took .asked .second) (partOf (d) (took .body))))) (gatheredRebuilt (touchedRows (sessions) (f′ .«session_id») (f′ .time)) (parts) (lengths) (rebuilt) (f′ .«session_id») (took .asked .first) (took .asked .second) (partOf (d) (took .body))))) (wholeLen (gathered (touchedRows (sessions) (f′ .«session_id») (f′ .time)) (parts) (lengths) (rebuilt) (f′ .«session_id») (took .asked .first) (took .asked .second) (partOf (d) (took .body)))) r′ (took .at) (rows ((gatheredRows (touchedRows (sessions) (f′ .«session_id») (f′ .time)) (parts) (lengths) (rebuilt) (f′ .«session_id») (took .asked .first) (took .asked .second) (partOf (d) (took .body)))) (streams) (objects)) .ran) (leftBy (rebuiltOf ((midOf 0 (rebuiltEnd n₇ (wholeLen (gathered (touchedRows (sessions) (f′ .«session_id») (f′ .time)) (parts) (lengths) (rebuilt) (f′ .«session_id») (took .asked .first) (took .asked .second) (partOf (d) (took .body))))) (gatheredRebuilt (touchedRows (sessions) (f′ .«session_id») (f′ .time)) (parts) (lengths) (rebuilt) (f′ .«session_id») (took .asked .first) (took .asked .second) (partOf (d) (took .body)))))) f′ (held) ((midOf 0 (rebuiltEnd n₇ (wholeLen (gathered (touchedRows (sessions) (f′ .«session_id») (f′ .time)) (parts) (lengths) (rebuilt) (f′ .«session_id») (took .asked .first) (took .asked .second) (partOf (d) (took .body))))) (gatheredRebuilt (touchedRows (sessions) (f′ .«session_id») (f′ .time)) (parts) (lengths) (rebuilt) (f′ .«session_id») (took .asked .first) (took .asked .second) (partOf (d) (took .body))))) (wholeLen (gathered (touchedRows (sessions) (f′ .«session_id») (f′ .time)) (parts) (lengths) (rebuilt) (f′ .«session_id») (took .asked .first) (took .asked .second) (partOf (d) (took .body)))) r′ (took .at) (rows ((gatheredRows (touchedRows (sessions) (f′ .«session_id») (f′ .time)) (parts) (lengths) (rebuilt) (f′ .«session_id») (took .asked .first) (took .asked .second) (partOf (d) (took .body)))) (streams) (objects)) .rows .sessions) (leftBy (rebuiltOf ((midOf 0 (rebuiltEnd n₇ (wholeLen (gathered (touchedRows (sessions) (f′ .«session_id») (f′ .time)) (parts) (lengths) (rebuilt) (f′ .«session_id») (took .asked .first) (took .asked .second) (partOf (d) (took .body))))) (gatheredRebuilt (touchedRows (sessions) (f′ .«session_id») (f′ .time)) (parts) (lengths) (rebuilt) (f′ .«session_id») (took .asked .first) (took .asked .second) (partOf (d) (took .body)))))) f′ (held) ((midOf 0 (rebuiltEnd n₇ (wholeLen (gathered (touchedRows (sessions) (f′ .«session_id») (f′ .time)) (parts) (lengths) (rebuilt) (f′ .«session_id») (took .asked .first) (took .asked .second) (partOf (d) (took .body))))) (gatheredRebuilt (touchedRows (sessions) (f′ .«session_id») (f′ .time)) (parts) (lengths) (rebuilt) (f′ .«session_id») (took .asked .first) (took .asked .second) (partOf (d) (took .body))))) (wholeLen (gathered (touchedRows (sessions) (f′ .«session_id») (f′ .time)) (parts) (lengths) (rebuilt) (f′ .«session_id») (took .asked .first) (took .asked .second) (partOf (d) (took .body)))) r′ (took .at) (rows ((gatheredRows (touchedRows (sessions) (f′ .«session_id») (f′ .time)) (parts) (lengths) (rebuilt) (f′ .«session_id») (took .asked .first) (took .asked .second) (partOf (d) (took .body)))) (streams) (objects)) .rows .streams) (leftBy (rebuiltOf ((midOf 0 (rebuiltEnd n₇ (wholeLen (gathered (touchedRows (sessions) (f′ .«session_id») (f′ .time)) (parts) (lengths) (rebuilt) (f′ .«session_id») (took .asked .first) (took .asked .second) (partOf (d) (took .body))))) (gatheredRebuilt (touchedRows (sessions) (f′ .«session_id») (f′ .time)) (parts) (lengths) (rebuilt) (f′ .«session_id») (took .asked .first) (took .asked .second) (partOf (d) (took .body)))))) f′ (held) ((midOf 0 (rebuiltEnd n₇ (wholeLen (gathered (touchedRows (sessions) (f′ .«session_id») (f′ .time)) (parts) (lengths) (rebuilt) (f′ .«session_id») (took .asked .first) (took .asked .second) (partOf (d) (took .body))))) (gatheredRebuilt (touchedRows (sessions) (f′ .«session_id») (f′ .time)) (parts) (lengths) (rebuilt) (f′ .«session_id») (took .asked .first) (took .asked .second) (partOf (d) (took .body))))) (wholeLen (gathered (touchedRows (sessions) (f′ .«session_id») (f′ .time)) (parts) (lengths) (rebuilt) (f′ .«session_id») (took .asked .first) (took .asked .second) (partOf (d) (took .body)))) r′ (took .at) (rows ((gatheredRows (touchedRows (sessions) (f′ .«session_id») (f′ .time)) (parts) (lengths) (rebuilt) (f′ .«session_id») (took .asked .first) (took .asked .second) (partOf (d) (took .body)))) (streams) (objects)) .rows .objects) (gatheredParts (touchedRows (sessions) (f′ .«session_id») (f′ .time)) (parts) (lengths) (f′ .«session_id») (took .asked .first) (took .asked .second) (partOf (d) (took .body))) (gatheredLengths (touchedRows (sessions) (f′ .«session_id») (f′ .time)) (parts) (lengths) (f′ .«session_id») (took .asked .first) (took .asked .second) (partOf (d) (took .body))) (gatheredRebuilt (touchedRows (sessions) (f′ .«session_id») (f′ .time)) (parts) (lengths) (rebuilt) (f′ .«session_id») (took .asked .first) (took .asked .second) (partOf (d) (took .body))) (putReplies (f′ .room) (out) (r′ .wrote) (leftBy (rebuiltOf ((midOf 0 (rebuiltEnd n₇ (wholeLen (gathered (touchedRows (sessions) (f′ .«session_id») (f′ .time)) (parts) (lengths) (rebuilt) (f′ .«session_id») (took .asked .first) (took .asked .second) (partOf (d) (took .body))))) (gatheredRebuilt (touchedRows (sessions) (f′ .«session_id») (f′ .time)) (parts) (lengths) (rebuilt) (f′ .«session_id») (took .asked .first) (took .asked .second) (partOf (d) (took .body)))))) f′ (held) ((midOf 0 (rebuiltEnd n₇ (wholeLen (gathered (touchedRows (sessions) (f′ .«session_id») (f′ .time)) (parts) (lengths) (rebuilt) (f′ .«session_id») (took .asked .first) (took .asked .second) (partOf (d) (took .body))))) (gatheredRebuilt (touchedRows (sessions) (f′ .«session_id») (f′ .time)) (parts) (lengths) (rebuilt) (f′ .«session_id») (took .asked .first) (took .asked .second) (partOf (d) (took .body))))) (wholeLen (gathered (touchedRows (sessions) (f′ .«session_id») (f′ .time)) (parts) (lengths) (rebuilt) (f′ .«session_id») (took .asked .first) (took .asked .second) (partOf (d) (took .body)))) r′ (took .at) (rows ((gatheredRows (touchedRows (sessions) (f′ .«session_id») (f′ .time)) (parts) (lengths) (rebuilt) (f′ .«session_id») (took .asked .first) (took .asked .second) (partOf (d) (took .body)))) (streams) (objects)) .replies)) (as-left (f′ .room) out _ (r′ .wrote) (cutAt f′ stores d r′ took (midOf 0 (rebuiltEnd n₇ (gathered-len f′ stores d took)) (gathers f′ stores d took .rebuilt))) (fragmentTurned f′ stores d r′ took) (fragment-cut f′ stores d r′ took n₇ len-9-rebuilt) refl) is-22 len-22-sessions len-22-streams len-22-objects len-9-parts len-9-lengths len-9-rebuilt len-22-out)
+        by ! (exits (leftBy (rebuiltOf ((midOf 0 (rebuiltEnd n₇ (wholeLen (gathered (touchedRows (sessions) (f′ .«session_id») (f′ .moment .time)) (parts) (lengths) (rebuilt) (f′ .«session_id») (took .asked .first) (took .asked .second) (partOf (d) (took .body))))) (gatheredRebuilt (touchedRows (sessions) (f′ .«session_id») (f′ .moment .time)) (parts) (lengths) (rebuilt) (f′ .«session_id») (took .asked .first) (took .asked .second) (partOf (d) (took .body)))))) f′ (held) ((midOf 0 (rebuiltEnd n₇ (wholeLen (gathered (touchedRows (sessions) (f′ .«session_id») (f′ .moment .time)) (parts) (lengths) (rebuilt) (f′ .«session_id») (took .asked .first) (took .asked .second) (partOf (d) (took .body))))) (gatheredRebuilt (touchedRows (sessions) (f′ .«session_id») (f′ .moment .time)) (parts) (lengths) (rebuilt) (f′ .«session_id») (took .asked .first) (took .asked .second) (partOf (d) (took .body))))) (wholeLen (gathered (touchedRows (sessions) (f′ .«session_id») (f′ .moment .time)) (parts) (lengths) (rebuilt) (f′ .«session_id») (took .asked .first) (took .asked .second) (partOf (d) (took .body)))) r′ (took .at) (rows ((gatheredRows (touchedRows (sessions) (f′ .«session_id») (f′ .moment .time)) (parts) (lengths) (rebuilt) (f′ .«session_id») (took .asked .first) (took .asked .second) (partOf (d) (took .body)))) (streams) (objects)) .ran) (leftBy (rebuiltOf ((midOf 0 (rebuiltEnd n₇ (wholeLen (gathered (touchedRows (sessions) (f′ .«session_id») (f′ .moment .time)) (parts) (lengths) (rebuilt) (f′ .«session_id») (took .asked .first) (took .asked .second) (partOf (d) (took .body))))) (gatheredRebuilt (touchedRows (sessions) (f′ .«session_id») (f′ .moment .time)) (parts) (lengths) (rebuilt) (f′ .«session_id») (took .asked .first) (took .asked .second) (partOf (d) (took .body)))))) f′ (held) ((midOf 0 (rebuiltEnd n₇ (wholeLen (gathered (touchedRows (sessions) (f′ .«session_id») (f′ .moment .time)) (parts) (lengths) (rebuilt) (f′ .«session_id») (took .asked .first) (took .asked .second) (partOf (d) (took .body))))) (gatheredRebuilt (touchedRows (sessions) (f′ .«session_id») (f′ .moment .time)) (parts) (lengths) (rebuilt) (f′ .«session_id») (took .asked .first) (took .asked .second) (partOf (d) (took .body))))) (wholeLen (gathered (touchedRows (sessions) (f′ .«session_id») (f′ .moment .time)) (parts) (lengths) (rebuilt) (f′ .«session_id») (took .asked .first) (took .asked .second) (partOf (d) (took .body)))) r′ (took .at) (rows ((gatheredRows (touchedRows (sessions) (f′ .«session_id») (f′ .moment .time)) (parts) (lengths) (rebuilt) (f′ .«session_id») (took .asked .first) (took .asked .second) (partOf (d) (took .body)))) (streams) (objects)) .rows .sessions) (leftBy (rebuiltOf ((midOf 0 (rebuiltEnd n₇ (wholeLen (gathered (touchedRows (sessions) (f′ .«session_id») (f′ .moment .time)) (parts) (lengths) (rebuilt) (f′ .«session_id») (took .asked .first) (took .asked .second) (partOf (d) (took .body))))) (gatheredRebuilt (touchedRows (sessions) (f′ .«session_id») (f′ .moment .time)) (parts) (lengths) (rebuilt) (f′ .«session_id») (took .asked .first) (took .asked .second) (partOf (d) (took .body)))))) f′ (held) ((midOf 0 (rebuiltEnd n₇ (wholeLen (gathered (touchedRows (sessions) (f′ .«session_id») (f′ .moment .time)) (parts) (lengths) (rebuilt) (f′ .«session_id») (took .asked .first) (took .asked .second) (partOf (d) (took .body))))) (gatheredRebuilt (touchedRows (sessions) (f′ .«session_id») (f′ .moment .time)) (parts) (lengths) (rebuilt) (f′ .«session_id») (took .asked .first) (took .asked .second) (partOf (d) (took .body))))) (wholeLen (gathered (touchedRows (sessions) (f′ .«session_id») (f′ .moment .time)) (parts) (lengths) (rebuilt) (f′ .«session_id») (took .asked .first) (took .asked .second) (partOf (d) (took .body)))) r′ (took .at) (rows ((gatheredRows (touchedRows (sessions) (f′ .«session_id») (f′ .moment .time)) (parts) (lengths) (rebuilt) (f′ .«session_id») (took .asked .first) (took .asked .second) (partOf (d) (took .body)))) (streams) (objects)) .rows .streams) (leftBy (rebuiltOf ((midOf 0 (rebuiltEnd n₇ (wholeLen (gathered (touchedRows (sessions) (f′ .«session_id») (f′ .moment .time)) (parts) (lengths) (rebuilt) (f′ .«session_id») (took .asked .first) (took .asked .second) (partOf (d) (took .body))))) (gatheredRebuilt (touchedRows (sessions) (f′ .«session_id») (f′ .moment .time)) (parts) (lengths) (rebuilt) (f′ .«session_id») (took .asked .first) (took .asked .second) (partOf (d) (took .body)))))) f′ (held) ((midOf 0 (rebuiltEnd n₇ (wholeLen (gathered (touchedRows (sessions) (f′ .«session_id») (f′ .moment .time)) (parts) (lengths) (rebuilt) (f′ .«session_id») (took .asked .first) (took .asked .second) (partOf (d) (took .body))))) (gatheredRebuilt (touchedRows (sessions) (f′ .«session_id») (f′ .moment .time)) (parts) (lengths) (rebuilt) (f′ .«session_id») (took .asked .first) (took .asked .second) (partOf (d) (took .body))))) (wholeLen (gathered (touchedRows (sessions) (f′ .«session_id») (f′ .moment .time)) (parts) (lengths) (rebuilt) (f′ .«session_id») (took .asked .first) (took .asked .second) (partOf (d) (took .body)))) r′ (took .at) (rows ((gatheredRows (touchedRows (sessions) (f′ .«session_id») (f′ .moment .time)) (parts) (lengths) (rebuilt) (f′ .«session_id») (took .asked .first) (took .asked .second) (partOf (d) (took .body)))) (streams) (objects)) .rows .objects) (gatheredParts (touchedRows (sessions) (f′ .«session_id») (f′ .moment .time)) (parts) (lengths) (f′ .«session_id») (took .asked .first) (took .asked .second) (partOf (d) (took .body))) (gatheredLengths (touchedRows (sessions) (f′ .«session_id») (f′ .moment .time)) (parts) (lengths) (f′ .«session_id») (took .asked .first) (took .asked .second) (partOf (d) (took .body))) (gatheredRebuilt (touchedRows (sessions) (f′ .«session_id») (f′ .moment .time)) (parts) (lengths) (rebuilt) (f′ .«session_id») (took .asked .first) (took .asked .second) (partOf (d) (took .body))) (putReplies (f′ .room) (out) (r′ .wrote) (leftBy (rebuiltOf ((midOf 0 (rebuiltEnd n₇ (wholeLen (gathered (touchedRows (sessions) (f′ .«session_id») (f′ .moment .time)) (parts) (lengths) (rebuilt) (f′ .«session_id») (took .asked .first) (took .asked .second) (partOf (d) (took .body))))) (gatheredRebuilt (touchedRows (sessions) (f′ .«session_id») (f′ .moment .time)) (parts) (lengths) (rebuilt) (f′ .«session_id») (took .asked .first) (took .asked .second) (partOf (d) (took .body)))))) f′ (held) ((midOf 0 (rebuiltEnd n₇ (wholeLen (gathered (touchedRows (sessions) (f′ .«session_id») (f′ .moment .time)) (parts) (lengths) (rebuilt) (f′ .«session_id») (took .asked .first) (took .asked .second) (partOf (d) (took .body))))) (gatheredRebuilt (touchedRows (sessions) (f′ .«session_id») (f′ .moment .time)) (parts) (lengths) (rebuilt) (f′ .«session_id») (took .asked .first) (took .asked .second) (partOf (d) (took .body))))) (wholeLen (gathered (touchedRows (sessions) (f′ .«session_id») (f′ .moment .time)) (parts) (lengths) (rebuilt) (f′ .«session_id») (took .asked .first) (took .asked .second) (partOf (d) (took .body)))) r′ (took .at) (rows ((gatheredRows (touchedRows (sessions) (f′ .«session_id») (f′ .moment .time)) (parts) (lengths) (rebuilt) (f′ .«session_id») (took .asked .first) (took .asked .second) (partOf (d) (took .body)))) (streams) (objects)) .replies)) (as-left (f′ .room) out _ (r′ .wrote) (cutAt f′ stores d r′ took (midOf 0 (rebuiltEnd n₇ (gathered-len f′ stores d took)) (gathers f′ stores d took .rebuilt))) (fragmentTurned f′ stores d r′ took) (fragment-cut f′ stores d r′ took n₇ len-9-rebuilt) refl) is-22 len-22-sessions len-22-streams len-22-objects len-9-parts len-9-lengths len-9-rebuilt len-22-out)
 
-    part-12-0 : (len-9-sessions : length (gatheredRows (touchedRows (sessions) (f′ .«session_id») (f′ .time)) (parts) (lengths) (rebuilt) (f′ .«session_id») (took .asked .first) (took .asked .second) (partOf (d) (took .body))) ≡ n₁) → (len-9-parts : length (gatheredParts (touchedRows (sessions) (f′ .«session_id») (f′ .time)) (parts) (lengths) (f′ .«session_id») (took .asked .first) (took .asked .second) (partOf (d) (took .body))) ≡ n₅) → (len-9-lengths : length (gatheredLengths (touchedRows (sessions) (f′ .«session_id») (f′ .time)) (parts) (lengths) (f′ .«session_id») (took .asked .first) (took .asked .second) (partOf (d) (took .body))) ≡ n₆) → (len-9-rebuilt : length (gatheredRebuilt (touchedRows (sessions) (f′ .«session_id») (f′ .time)) (parts) (lengths) (rebuilt) (f′ .«session_id») (took .asked .first) (took .asked .second) (partOf (d) (took .body))) ≡ n₇) → (is-9 : Is (u64-p .row) (wholeLen (gathered (touchedRows (sessions) (f′ .«session_id») (f′ .time)) (parts) (lengths) (rebuilt) (f′ .«session_id») (took .asked .first) (took .asked .second) (partOf (d) (took .body)))) (u64-p .val (wholeLen (gathered (touchedRows (sessions) (f′ .«session_id») (f′ .time)) (parts) (lengths) (rebuilt) (f′ .«session_id») (took .asked .first) (took .asked .second) (partOf (d) (took .body)))) ∷ [])) → (is-11 : Is (u64-p .row) (rebuiltEnd n₇ (wholeLen (gathered (touchedRows (sessions) (f′ .«session_id») (f′ .time)) (parts) (lengths) (rebuilt) (f′ .«session_id») (took .asked .first) (took .asked .second) (partOf (d) (took .body))))) (u64-p .val (rebuiltEnd n₇ (wholeLen (gathered (touchedRows (sessions) (f′ .«session_id») (f′ .time)) (parts) (lengths) (rebuilt) (f′ .«session_id») (took .asked .first) (took .asked .second) (partOf (d) (took .body))))) ∷ [])) → Sq W (‵ (MutSlice (named 0) κ₁ (Array u64 8) .own (at-list b₁ o₁ γ₁ (gatheredRows (touchedRows (sessions) (f′ .«session_id») (f′ .time)) (parts) (lengths) (rebuilt) (f′ .«session_id») (took .asked .first) (took .asked .second) (partOf (d) (took .body)))) (sliceVal (b₁, o₁) n₁ ∷ [])) ∷ ‵ (flft κ₁ q₁) ∷ ‵ (MutSlice (named 0) κ₂ (Array u16 35) .own (at-list b₂ o₂ γ₂ streams) (sliceVal (b₂, o₂) n₂ ∷ [])) ∷ ‵ (flft κ₂ q₂) ∷ ‵ (MutSlice (named 0) κ₃ Object-t.the-row .own (at-list b₃ o₃ γ₃ objects) (sliceVal (b₃, o₃) n₃ ∷ [])) ∷ ‵ (flft κ₃ q₃) ∷ ‵ (ShrSlice (named 0) κ₄ u8 .own (at-list b₄ o₄ γ₄ held) (sliceVal (b₄, o₄) n₄ ∷ [])) ∷ ‵ (flft κ₄ q₄) ∷ ‵ (MutSlice (named 0) κ₅ u8 .own (at-list b₅ o₅ γ₅ (gatheredParts (touchedRows (sessions) (f′ .«session_id») (f′ .time)) (parts) (lengths) (f′ .«session_id») (took .asked .first) (took .asked .second) (partOf (d) (took .body)))) (sliceVal (b₅, o₅) n₅ ∷ [])) ∷ ‵ (flft κ₅ q₅) ∷ ‵ (MutSlice (named 0) κ₆ u32 .own (at-list b₆ o₆ γ₆ (gatheredLengths (touchedRows (sessions) (f′ .«session_id») (f′ .time)) (parts) (lengths) (f′ .«session_id») (took .asked .first) (took .asked .second) (partOf (d) (took .body)))) (sliceVal (b₆, o₆) n₆ ∷ [])) ∷ ‵ (flft κ₆ q₆) ∷ ‵ (MutSlice (named 0) κ₇ u8 .own (at-list b₇ o₇ γ₇ (gatheredRebuilt (touchedRows (sessions) (f′ .«session_id») (f′ .time)) (parts) (lengths) (rebuilt) (f′ .«session_id») (took .asked .first) (took .asked .second) (partOf (d) (took .body)))) (sliceVal (b₇, o₇) n₇ ∷ [])) ∷ ‵ (flft κ₇ q₇) ∷ ‵ (MutSlice (named 0) κ₈ u8 .own (at-list b₈ o₈ γ₈ out) (sliceVal (b₈, o₈) n₈ ∷ [])) ∷ ‵ (flft κ₈ q₈) ∷ ‵ (ShrSlice (named 0) κ₉ u8 .own (at-list b₉ o₉ γ₉ d) (sliceVal (b₉, o₉) n₉ ∷ [])) ∷ ‵ (flft κ₉ q₉) ∷ free 𝓤 (sliceTy (tyRef erased imm (pointee (u8 .written)))) l₃₃ (free 𝓤 (tyRef erased imm (pointee (u8 .written))) l₃₂ (free 𝓤 (sliceTy (tyRef erased mut (pointee (u8 .written)))) l₃₁ (free 𝓤 (tyRef erased mut (pointee (u8 .written))) l₃₀ (free 𝓤 (sliceTy (tyRef erased mut (pointee (Object-t.the-row .written)))) l₂₉ (free 𝓤 (tyRef erased mut (pointee (Object-t.the-row .written))) l₂₈ (free 𝓤 (sliceTy (tyRef erased mut (pointee ((Array u16 35) .written)))) l₂₇ (free 𝓤 (tyRef erased mut (pointee ((Array u16 35) .written))) l₂₆ (free 𝓤 (sliceTy (tyRef erased mut (pointee ((Array u64 8) .written)))) l₂₅ (free 𝓤 (tyRef erased mut (pointee ((Array u64 8) .written))) l₂₄ (full 𝓤 (tyInt w64) l₂₃ (u64-p .val n₇) (full 𝓤 (sliceTy (tyRef erased mut (pointee (u8 .written)))) l₂₂ (sliceVal (b₇, o₇) n₇) (full 𝓤 (tyRef erased mut (pointee (u8 .written))) l₂₁ (vptr b₇ o₇) (full 𝓤 (sliceTy (tyRef erased mut (pointee (u32 .written)))) l₂₀ (sliceVal (b₆, o₆) n₆) (full 𝓤 (tyRef erased mut (pointee (u32 .written))) l₁₉ (vptr b₆ o₆) (full 𝓤 (sliceTy (tyRef erased mut (pointee (u8 .written)))) l₁₈ (sliceVal (b₅, o₅) n₅) (full 𝓤 (tyRef erased mut (pointee (u8 .written))) l₁₇ (vptr b₅ o₅) (full 𝓤 (sliceTy (tyRef erased mut (pointee ((Array u64 8) .written)))) l₁₆ (sliceVal (b₁, o₁) n₁) (full 𝓤 (tyRef erased mut (pointee ((Array u64 8) .written))) l₁₅ (vptr b₁ o₁) (full 𝓤 (tyInt w64) l₁₄ (u64-p .val (rebuiltEnd n₇ (wholeLen (gathered (touchedRows (sessions) (f′ .«session_id») (f′ .time)) (parts) (lengths) (rebuilt) (f′ .«session_id») (took .asked .first) (took .asked .second) (partOf (d) (took .body)))))) (full 𝓤 (tyInt w64) l₁₃ (u64-p .val (wholeLen (gathered (touchedRows (sessions) (f′ .«session_id») (f′ .time)) (parts) (lengths) (rebuilt) (f′ .«session_id») (took .asked .first) (took .asked .second) (partOf (d) (took .body))))) (full 𝓤 Taken-l.mir l₁₂ (Taken-p .val took) (full 𝓤 Ran-l.mir l₁₁ (Ran-p .val r′) (full 𝓤 Frame-l.mir l₁₀ (Frame-p .val f′) (full 𝓤 (sliceTy (tyRef (named 8) imm (pointee (u8 .written)))) l₉ (sliceVal (b₉, o₉) n₉) (full 𝓤 (sliceTy (tyRef (named 7) mut (pointee (u8 .written)))) l₈ (sliceVal (b₈, o₈) n₈) (full 𝓤 (sliceTy (tyRef (named 6) mut (pointee (u8 .written)))) l₇ (sliceVal (b₇, o₇) n₇) (full 𝓤 (sliceTy (tyRef (named 5) mut (pointee (u32 .written)))) l₆ (sliceVal (b₆, o₆) n₆) (full 𝓤 (sliceTy (tyRef (named 4) mut (pointee (u8 .written)))) l₅ (sliceVal (b₅, o₅) n₅) (full 𝓤 (sliceTy (tyRef (named 3) imm (pointee (u8 .written)))) l₄ (sliceVal (b₄, o₄) n₄) (full 𝓤 (sliceTy (tyRef (named 2) mut (pointee (Object-t.the-row .written)))) l₃ (sliceVal (b₃, o₃) n₃) (full 𝓤 (sliceTy (tyRef (named 1) mut (pointee ((Array u16 35) .written)))) l₂ (sliceVal (b₂, o₂) n₂) (full 𝓤 (sliceTy (tyRef (named 0) mut (pointee ((Array u64 8) .written)))) l₁ (sliceVal (b₁, o₁) n₁) (free 𝓤 Ran-l.mir l₀ ([]))))))))))))))))))))))))))))))))))) (runs C Λ En mir.t-12 (atRet En Post))
+    part-12-0 : (len-9-sessions : length (gatheredRows (touchedRows (sessions) (f′ .«session_id») (f′ .moment .time)) (parts) (lengths) (rebuilt) (f′ .«session_id») (took .asked .first) (took .asked .second) (partOf (d) (took .body))) ≡ n₁) → (len-9-parts : length (gatheredParts (touchedRows (sessions) (f′ .«session_id») (f′ .moment .time)) (parts) (lengths) (f′ .«session_id») (took .asked .first) (took .asked .second) (partOf (d) (took .body))) ≡ n₅) → (len-9-lengths : length (gatheredLengths (touchedRows (sessions) (f′ .«session_id») (f′ .moment .time)) (parts) (lengths) (f′ .«session_id») (took .asked .first) (took .asked .second) (partOf (d) (took .body))) ≡ n₆) → (len-9-rebuilt : length (gatheredRebuilt (touchedRows (sessions) (f′ .«session_id») (f′ .moment .time)) (parts) (lengths) (rebuilt) (f′ .«session_id») (took .asked .first) (took .asked .second) (partOf (d) (took .body))) ≡ n₇) → (is-9 : Is (u64-p .row) (wholeLen (gathered (touchedRows (sessions) (f′ .«session_id») (f′ .moment .time)) (parts) (lengths) (rebuilt) (f′ .«session_id») (took .asked .first) (took .asked .second) (partOf (d) (took .body)))) (u64-p .val (wholeLen (gathered (touchedRows (sessions) (f′ .«session_id») (f′ .moment .time)) (parts) (lengths) (rebuilt) (f′ .«session_id») (took .asked .first) (took .asked .second) (partOf (d) (took .body)))) ∷ [])) → (is-11 : Is (u64-p .row) (rebuiltEnd n₇ (wholeLen (gathered (touchedRows (sessions) (f′ .«session_id») (f′ .moment .time)) (parts) (lengths) (rebuilt) (f′ .«session_id») (took .asked .first) (took .asked .second) (partOf (d) (took .body))))) (u64-p .val (rebuiltEnd n₇ (wholeLen (gathered (touchedRows (sessions) (f′ .«session_id») (f′ .moment .time)) (parts) (lengths) (rebuilt) (f′ .«session_id») (took .asked .first) (took .asked .second) (partOf (d) (took .body))))) ∷ [])) → Sq W (‵ (MutSlice (named 0) κ₁ (Array u64 8) .own (at-list b₁ o₁ γ₁ (gatheredRows (touchedRows (sessions) (f′ .«session_id») (f′ .moment .time)) (parts) (lengths) (rebuilt) (f′ .«session_id») (took .asked .first) (took .asked .second) (partOf (d) (took .body)))) (sliceVal (b₁, o₁) n₁ ∷ [])) ∷ ‵ (flft κ₁ q₁) ∷ ‵ (MutSlice (named 0) κ₂ (Array u16 35) .own (at-list b₂ o₂ γ₂ streams) (sliceVal (b₂, o₂) n₂ ∷ [])) ∷ ‵ (flft κ₂ q₂) ∷ ‵ (MutSlice (named 0) κ₃ Object-t.the-row .own (at-list b₃ o₃ γ₃ objects) (sliceVal (b₃, o₃) n₃ ∷ [])) ∷ ‵ (flft κ₃ q₃) ∷ ‵ (ShrSlice (named 0) κ₄ u8 .own (at-list b₄ o₄ γ₄ held) (sliceVal (b₄, o₄) n₄ ∷ [])) ∷ ‵ (flft κ₄ q₄) ∷ ‵ (MutSlice (named 0) κ₅ u8 .own (at-list b₅ o₅ γ₅ (gatheredParts (touchedRows (sessions) (f′ .«session_id») (f′ .moment .time)) (parts) (lengths) (f′ .«session_id») (took .asked .first) (took .asked .second) (partOf (d) (took .body)))) (sliceVal (b₅, o₅) n₅ ∷ [])) ∷ ‵ (flft κ₅ q₅) ∷ ‵ (MutSlice (named 0) κ₆ u32 .own (at-list b₆ o₆ γ₆ (gatheredLengths (touchedRows (sessions) (f′ .«session_id») (f′ .moment .time)) (parts) (lengths) (f′ .«session_id») (took .asked .first) (took .asked .second) (partOf (d) (took .body)))) (sliceVal (b₆, o₆) n₆ ∷ [])) ∷ ‵ (flft κ₆ q₆) ∷ ‵ (MutSlice (named 0) κ₇ u8 .own (at-list b₇ o₇ γ₇ (gatheredRebuilt (touchedRows (sessions) (f′ .«session_id») (f′ .moment .time)) (parts) (lengths) (rebuilt) (f′ .«session_id») (took .asked .first) (took .asked .second) (partOf (d) (took .body)))) (sliceVal (b₇, o₇) n₇ ∷ [])) ∷ ‵ (flft κ₇ q₇) ∷ ‵ (MutSlice (named 0) κ₈ u8 .own (at-list b₈ o₈ γ₈ out) (sliceVal (b₈, o₈) n₈ ∷ [])) ∷ ‵ (flft κ₈ q₈) ∷ ‵ (ShrSlice (named 0) κ₉ u8 .own (at-list b₉ o₉ γ₉ d) (sliceVal (b₉, o₉) n₉ ∷ [])) ∷ ‵ (flft κ₉ q₉) ∷ free 𝓤 (sliceTy (tyRef erased imm (pointee (u8 .written)))) l₃₃ (free 𝓤 (tyRef erased imm (pointee (u8 .written))) l₃₂ (free 𝓤 (sliceTy (tyRef erased mut (pointee (u8 .written)))) l₃₁ (free 𝓤 (tyRef erased mut (pointee (u8 .written))) l₃₀ (free 𝓤 (sliceTy (tyRef erased mut (pointee (Object-t.the-row .written)))) l₂₉ (free 𝓤 (tyRef erased mut (pointee (Object-t.the-row .written))) l₂₈ (free 𝓤 (sliceTy (tyRef erased mut (pointee ((Array u16 35) .written)))) l₂₇ (free 𝓤 (tyRef erased mut (pointee ((Array u16 35) .written))) l₂₆ (free 𝓤 (sliceTy (tyRef erased mut (pointee ((Array u64 8) .written)))) l₂₅ (free 𝓤 (tyRef erased mut (pointee ((Array u64 8) .written))) l₂₄ (full 𝓤 (tyInt w64) l₂₃ (u64-p .val n₇) (full 𝓤 (sliceTy (tyRef erased mut (pointee (u8 .written)))) l₂₂ (sliceVal (b₇, o₇) n₇) (full 𝓤 (tyRef erased mut (pointee (u8 .written))) l₂₁ (vptr b₇ o₇) (full 𝓤 (sliceTy (tyRef erased mut (pointee (u32 .written)))) l₂₀ (sliceVal (b₆, o₆) n₆) (full 𝓤 (tyRef erased mut (pointee (u32 .written))) l₁₉ (vptr b₆ o₆) (full 𝓤 (sliceTy (tyRef erased mut (pointee (u8 .written)))) l₁₈ (sliceVal (b₅, o₅) n₅) (full 𝓤 (tyRef erased mut (pointee (u8 .written))) l₁₇ (vptr b₅ o₅) (full 𝓤 (sliceTy (tyRef erased mut (pointee ((Array u64 8) .written)))) l₁₆ (sliceVal (b₁, o₁) n₁) (full 𝓤 (tyRef erased mut (pointee ((Array u64 8) .written))) l₁₅ (vptr b₁ o₁) (full 𝓤 (tyInt w64) l₁₄ (u64-p .val (rebuiltEnd n₇ (wholeLen (gathered (touchedRows (sessions) (f′ .«session_id») (f′ .moment .time)) (parts) (lengths) (rebuilt) (f′ .«session_id») (took .asked .first) (took .asked .second) (partOf (d) (took .body)))))) (full 𝓤 (tyInt w64) l₁₃ (u64-p .val (wholeLen (gathered (touchedRows (sessions) (f′ .«session_id») (f′ .moment .time)) (parts) (lengths) (rebuilt) (f′ .«session_id») (took .asked .first) (took .asked .second) (partOf (d) (took .body))))) (full 𝓤 Taken-l.mir l₁₂ (Taken-p .val took) (full 𝓤 Ran-l.mir l₁₁ (Ran-p .val r′) (full 𝓤 Frame-l.mir l₁₀ (Frame-p .val f′) (full 𝓤 (sliceTy (tyRef (named 8) imm (pointee (u8 .written)))) l₉ (sliceVal (b₉, o₉) n₉) (full 𝓤 (sliceTy (tyRef (named 7) mut (pointee (u8 .written)))) l₈ (sliceVal (b₈, o₈) n₈) (full 𝓤 (sliceTy (tyRef (named 6) mut (pointee (u8 .written)))) l₇ (sliceVal (b₇, o₇) n₇) (full 𝓤 (sliceTy (tyRef (named 5) mut (pointee (u32 .written)))) l₆ (sliceVal (b₆, o₆) n₆) (full 𝓤 (sliceTy (tyRef (named 4) mut (pointee (u8 .written)))) l₅ (sliceVal (b₅, o₅) n₅) (full 𝓤 (sliceTy (tyRef (named 3) imm (pointee (u8 .written)))) l₄ (sliceVal (b₄, o₄) n₄) (full 𝓤 (sliceTy (tyRef (named 2) mut (pointee (Object-t.the-row .written)))) l₃ (sliceVal (b₃, o₃) n₃) (full 𝓤 (sliceTy (tyRef (named 1) mut (pointee ((Array u16 35) .written)))) l₂ (sliceVal (b₂, o₂) n₂) (full 𝓤 (sliceTy (tyRef (named 0) mut (pointee ((Array u64 8) .written)))) l₁ (sliceVal (b₁, o₁) n₁) (free 𝓤 Ran-l.mir l₀ ([]))))))))))))))))))))))))))))))))))) (runs C Λ En mir.t-12 (atRet En Post))
     part-12-0 len-9-sessions len-9-parts len-9-lengths len-9-rebuilt is-9 is-11 =
         assigns ! (addr ! (from ! (fld ! refl (hop ! (look-in ! 82 (sub ! 0 refl (whole !))) (stop !))))) (from ! (stop !)) (init ! 36 refl (tt, tt)) $
         assigns ! (agg ! (and-then ! (load ! (from ! (stop !)) (look ! 36 refl)) (and-then ! (load ! (from ! (fld ! refl (stop !))) (look-in ! 82 (sub ! 1 refl (whole !)))) (no-more !)))) (from ! (stop !)) (init ! 34 refl (tt, (tt, (record { fits = room₁ .0 }, tt)))) $
@@ -289,11 +298,11 @@ module _ {M : Type 1} (𝓤 : URA M) (H : Heap 𝓤) (A : Atoms 𝓤) (W : Given
         assigns ! (agg ! (and-then ! (load ! (from ! (stop !)) (look ! 24 refl)) (and-then ! (load ! (from ! (fld ! refl (stop !))) (look-in ! 68 (sub ! 1 refl (whole !)))) (no-more !)))) (from ! (stop !)) (init ! 22 refl (tt, (tt, (record { fits = room₈ .0 }, tt)))) $
         assigns ! (addr ! (from ! (fld ! refl (hop ! (look-in ! 70 (sub ! 0 refl (whole !))) (stop !))))) (from ! (stop !)) (init ! 20 refl (tt, tt)) $
         assigns ! (agg ! (and-then ! (load ! (from ! (stop !)) (look ! 20 refl)) (and-then ! (load ! (from ! (stop !)) (look ! 56 refl)) (no-more !)))) (from ! (stop !)) (init ! 18 refl (tt, (tt, (record { fits = is-11 .1 }, tt)))) $
-        knows ! (0 + (rebuiltEnd n₇ (wholeLen (gathered (touchedRows (sessions) (f′ .«session_id») (f′ .time)) (parts) (lengths) (rebuilt) (f′ .«session_id») (took .asked .first) (took .asked .second) (partOf (d) (took .body))))) ≤ length (gatheredRebuilt (touchedRows (sessions) (f′ .«session_id») (f′ .time)) (parts) (lengths) (rebuilt) (f′ .«session_id») (took .asked .first) (took .asked .second) (partOf (d) (took .body)))) (rebuilt-fits (gathers f′ stores d took .rebuilt) (gathered-len f′ stores d took) n₇ len-9-rebuilt) (λ part-22-rebuilt.
-        knows ! (length (midOf 0 (rebuiltEnd n₇ (wholeLen (gathered (touchedRows (sessions) (f′ .«session_id») (f′ .time)) (parts) (lengths) (rebuilt) (f′ .«session_id») (took .asked .first) (took .asked .second) (partOf (d) (took .body))))) (gatheredRebuilt (touchedRows (sessions) (f′ .«session_id») (f′ .time)) (parts) (lengths) (rebuilt) (f′ .«session_id») (took .asked .first) (took .asked .second) (partOf (d) (took .body)))) ≡ (rebuiltEnd n₇ (wholeLen (gathered (touchedRows (sessions) (f′ .«session_id») (f′ .time)) (parts) (lengths) (rebuilt) (f′ .«session_id») (took .asked .first) (took .asked .second) (partOf (d) (took .body)))))) (part-len 0 (rebuiltEnd n₇ (wholeLen (gathered (touchedRows (sessions) (f′ .«session_id») (f′ .time)) (parts) (lengths) (rebuilt) (f′ .«session_id») (took .asked .first) (took .asked .second) (partOf (d) (took .body))))) (gatheredRebuilt (touchedRows (sessions) (f′ .«session_id») (f′ .time)) (parts) (lengths) (rebuilt) (f′ .«session_id») (took .asked .first) (took .asked .second) (partOf (d) (took .body))) part-22-rebuilt) (λ ppart-22-rebuilt.
+        knows ! (0 + (rebuiltEnd n₇ (wholeLen (gathered (touchedRows (sessions) (f′ .«session_id») (f′ .moment .time)) (parts) (lengths) (rebuilt) (f′ .«session_id») (took .asked .first) (took .asked .second) (partOf (d) (took .body))))) ≤ length (gatheredRebuilt (touchedRows (sessions) (f′ .«session_id») (f′ .moment .time)) (parts) (lengths) (rebuilt) (f′ .«session_id») (took .asked .first) (took .asked .second) (partOf (d) (took .body)))) (rebuilt-fits (gathers f′ stores d took .rebuilt) (gathered-len f′ stores d took) n₇ len-9-rebuilt) (λ part-22-rebuilt.
+        knows ! (length (midOf 0 (rebuiltEnd n₇ (wholeLen (gathered (touchedRows (sessions) (f′ .«session_id») (f′ .moment .time)) (parts) (lengths) (rebuilt) (f′ .«session_id») (took .asked .first) (took .asked .second) (partOf (d) (took .body))))) (gatheredRebuilt (touchedRows (sessions) (f′ .«session_id») (f′ .moment .time)) (parts) (lengths) (rebuilt) (f′ .«session_id») (took .asked .first) (took .asked .second) (partOf (d) (took .body)))) ≡ (rebuiltEnd n₇ (wholeLen (gathered (touchedRows (sessions) (f′ .«session_id») (f′ .moment .time)) (parts) (lengths) (rebuilt) (f′ .«session_id») (took .asked .first) (took .asked .second) (partOf (d) (took .body)))))) (part-len 0 (rebuiltEnd n₇ (wholeLen (gathered (touchedRows (sessions) (f′ .«session_id») (f′ .moment .time)) (parts) (lengths) (rebuilt) (f′ .«session_id») (took .asked .first) (took .asked .second) (partOf (d) (took .body))))) (gatheredRebuilt (touchedRows (sessions) (f′ .«session_id») (f′ .moment .time)) (parts) (lengths) (rebuilt) (f′ .«session_id») (took .asked .first) (took .asked .second) (partOf (d) (took .body))) part-22-rebuilt) (λ ppart-22-rebuilt.
         knows ! (f′ .room ≤ 9223372036854775807) (omega (arith, ltb-true, ltb-false, leb-true, leb-false, eqb-true, eqb-false)) (λ asks-22.
         -- 22: agent::fragments::work_off
-        lends-mut ! tt (Array u64 8) b₁ o₁ (gatheredRows (touchedRows (sessions) (f′ .«session_id») (f′ .time)) (parts) (lengths) (rebuilt) (f′ .«session_id») (took .asked .first) (took .asked .second) (partOf (d) (took .body))) n₁ (len-9-sessions) (λ ν-22-sessions δ-22-sessions.
+        lends-mut ! tt (Array u64 8) b₁ o₁ (gatheredRows (touchedRows (sessions) (f′ .«session_id») (f′ .moment .time)) (parts) (lengths) (rebuilt) (f′ .«session_id») (took .asked .first) (took .asked .second) (partOf (d) (took .body))) n₁ (len-9-sessions) (λ ν-22-sessions δ-22-sessions.
         move ! (3 ∷ 4 ∷ []) $
         lends-mut ! tt (Array u16 35) b₂ o₂ streams n₂ (refl) (λ ν-22-streams δ-22-streams.
         move ! (6 ∷ 7 ∷ []) $
@@ -302,16 +311,16 @@ module _ {M : Type 1} (𝓤 : URA M) (H : Heap 𝓤) (A : Atoms 𝓤) (W : Given
         copies-shr ! u8 b₄ o₄ held n₄ $ move ! (18 ∷ 19 ∷ []) $
         lends-mut ! tt u8 b₈ o₈ out n₈ (refl) (λ ν-22-out δ-22-out.
         move ! (19 ∷ 20 ∷ []) $
-        lends-view ! tt u8 b₇ o₇ (gatheredRebuilt (touchedRows (sessions) (f′ .«session_id») (f′ .time)) (parts) (lengths) (rebuilt) (f′ .«session_id») (took .asked .first) (took .asked .second) (partOf (d) (took .body))) n₇ (len-9-rebuilt) (λ ν-22-rebuilt δ-22-rebuilt.
+        lends-view ! tt u8 b₇ o₇ (gatheredRebuilt (touchedRows (sessions) (f′ .«session_id») (f′ .moment .time)) (parts) (lengths) (rebuilt) (f′ .«session_id») (took .asked .first) (took .asked .second) (partOf (d) (took .body))) n₇ (len-9-rebuilt) (λ ν-22-rebuilt δ-22-rebuilt.
         move ! (1 ∷ 0 ∷ []) $
-        parts-shr ! tt u8-p b₇ o₇ (gatheredRebuilt (touchedRows (sessions) (f′ .«session_id») (f′ .time)) (parts) (lengths) (rebuilt) (f′ .«session_id») (took .asked .first) (took .asked .second) (partOf (d) (took .body))) n₇ (len-9-rebuilt) 0 (rebuiltEnd n₇ (wholeLen (gathered (touchedRows (sessions) (f′ .«session_id») (f′ .time)) (parts) (lengths) (rebuilt) (f′ .«session_id») (took .asked .first) (took .asked .second) (partOf (d) (took .body))))) part-22-rebuilt (λ δp-22-rebuilt.
+        parts-shr ! tt u8-p b₇ o₇ (gatheredRebuilt (touchedRows (sessions) (f′ .«session_id») (f′ .moment .time)) (parts) (lengths) (rebuilt) (f′ .«session_id») (took .asked .first) (took .asked .second) (partOf (d) (took .body))) n₇ (len-9-rebuilt) 0 (rebuiltEnd n₇ (wholeLen (gathered (touchedRows (sessions) (f′ .«session_id») (f′ .moment .time)) (parts) (lengths) (rebuilt) (f′ .«session_id») (took .asked .first) (took .asked .second) (partOf (d) (took .body))))) part-22-rebuilt (λ δp-22-rebuilt.
         nothing ! $ move ! (2 ∷ 0 ∷ []) $ join ! $ move ! (3 ∷ 0 ∷ []) $ join ! $ move ! (5 ∷ 0 ∷ []) $ join ! $ move ! (7 ∷ 0 ∷ []) $ join ! $ move ! (9 ∷ 0 ∷ []) $ join ! $ move ! (11 ∷ 0 ∷ []) $ join ! $
         use1 W (raw (toks 𝓤 A 6 (((ν-22-sessions ∷ []), ((ν-22-streams ∷ []), ((ν-22-objects ∷ []), (κ₄, ((ν-22-out ∷ []), ((ν-22-rebuilt ∷ []), tt))))))) ((fullShare, (fullShare, (fullShare, (q₄, (fullShare, (fullShare, tt))))))))) (id⊢ 𝓤 _) $ nothing ! $
         owned ! (u64-p .row) (Is (u64-p .row)) (u64-p .makes 𝓤 H A W) (took .at) (u64-p .val (took .at) ∷ []) (LL.owed Taken-t.the-type Taken-l.the-laws took _ took-is .1 .1 .0) $ fjoin ! $
         owned ! (Ran-p .row) (Is (Ran-p .row)) (Ran-p .makes 𝓤 H A W) r′ (Ran-p .val r′ ∷ []) r′-is $ fjoin ! $
-        owned ! (u64-p .row) (Is (u64-p .row)) (u64-p .makes 𝓤 H A W) (wholeLen (gathered (touchedRows (sessions) (f′ .«session_id») (f′ .time)) (parts) (lengths) (rebuilt) (f′ .«session_id») (took .asked .first) (took .asked .second) (partOf (d) (took .body)))) (u64-p .val (wholeLen (gathered (touchedRows (sessions) (f′ .«session_id») (f′ .time)) (parts) (lengths) (rebuilt) (f′ .«session_id») (took .asked .first) (took .asked .second) (partOf (d) (took .body)))) ∷ []) is-9 $ fjoin ! $
+        owned ! (u64-p .row) (Is (u64-p .row)) (u64-p .makes 𝓤 H A W) (wholeLen (gathered (touchedRows (sessions) (f′ .«session_id») (f′ .moment .time)) (parts) (lengths) (rebuilt) (f′ .«session_id») (took .asked .first) (took .asked .second) (partOf (d) (took .body)))) (u64-p .val (wholeLen (gathered (touchedRows (sessions) (f′ .«session_id») (f′ .moment .time)) (parts) (lengths) (rebuilt) (f′ .«session_id») (took .asked .first) (took .asked .second) (partOf (d) (took .body)))) ∷ []) is-9 $ fjoin ! $
         owned ! (Frame-p .row) (Is (Frame-p .row)) (Frame-p .makes 𝓤 H A W) f′ (Frame-p .val f′ ∷ []) f′-is $ fjoin ! $ move ! (2 ∷ 0 ∷ []) $ fjoin ! $ move ! (3 ∷ 0 ∷ []) $ fjoin ! $ move ! (4 ∷ 0 ∷ []) $ fjoin ! $ move ! (5 ∷ 0 ∷ []) $ fjoin ! $ move ! (6 ∷ 0 ∷ []) $ fjoin ! $ move ! (7 ∷ 0 ∷ []) $ fjoin ! $ move ! (1 ∷ 0 ∷ []) $
-        calls-any ! fm 6 [] (fragments-work-off.signature .params) (fragments-work-off.ended .kept) Ran-p (fragments-work-off.clauses 𝓤 H A mem run) known-fragments-work-off ((ν-22-sessions ∷ []), ((ν-22-streams ∷ []), ((ν-22-objects ∷ []), (κ₄, ((ν-22-out ∷ []), ((ν-22-rebuilt ∷ []), tt)))))) (fullShare, (fullShare, (fullShare, (q₄, (fullShare, (fullShare, tt)))))) tt (at-list b₁ o₁ δ-22-sessions (gatheredRows (touchedRows (sessions) (f′ .«session_id») (f′ .time)) (parts) (lengths) (rebuilt) (f′ .«session_id») (took .asked .first) (took .asked .second) (partOf (d) (took .body))), (at-list b₂ o₂ δ-22-streams streams, (at-list b₃ o₃ δ-22-objects objects, (at-list b₄ o₄ γ₄ held, (at-list b₈ o₈ δ-22-out out, (at-list b₇ (place 1 o₇ 0) δp-22-rebuilt (midOf 0 (rebuiltEnd n₇ (wholeLen (gathered (touchedRows (sessions) (f′ .«session_id») (f′ .time)) (parts) (lengths) (rebuilt) (f′ .«session_id») (took .asked .first) (took .asked .second) (partOf (d) (took .body))))) (gatheredRebuilt (touchedRows (sessions) (f′ .«session_id») (f′ .time)) (parts) (lengths) (rebuilt) (f′ .«session_id») (took .asked .first) (took .asked .second) (partOf (d) (took .body)))), (f′, (wholeLen (gathered (touchedRows (sessions) (f′ .«session_id») (f′ .time)) (parts) (lengths) (rebuilt) (f′ .«session_id») (took .asked .first) (took .asked .second) (partOf (d) (took .body))), (r′, (took .at, tt)))))))))) (sliceVal (b₁, o₁) n₁ ∷ [], (sliceVal (b₂, o₂) n₂ ∷ [], (sliceVal (b₃, o₃) n₃ ∷ [], (sliceVal (b₄, o₄) n₄ ∷ [], (sliceVal (b₈, o₈) n₈ ∷ [], (sliceVal (b₇, (place 1 o₇ 0)) (rebuiltEnd n₇ (wholeLen (gathered (touchedRows (sessions) (f′ .«session_id») (f′ .time)) (parts) (lengths) (rebuilt) (f′ .«session_id») (took .asked .first) (took .asked .second) (partOf (d) (took .body))))) ∷ [], (Frame-p .val f′ ∷ [], (u64-p .val (wholeLen (gathered (touchedRows (sessions) (f′ .«session_id») (f′ .time)) (parts) (lengths) (rebuilt) (f′ .«session_id») (took .asked .first) (took .asked .second) (partOf (d) (took .body)))) ∷ [], (Ran-p .val r′ ∷ [], (u64-p .val (took .at) ∷ [], tt)))))))))) tt (leftBy (rebuiltOf ((midOf 0 (rebuiltEnd n₇ (wholeLen (gathered (touchedRows (sessions) (f′ .«session_id») (f′ .time)) (parts) (lengths) (rebuilt) (f′ .«session_id») (took .asked .first) (took .asked .second) (partOf (d) (took .body))))) (gatheredRebuilt (touchedRows (sessions) (f′ .«session_id») (f′ .time)) (parts) (lengths) (rebuilt) (f′ .«session_id») (took .asked .first) (took .asked .second) (partOf (d) (took .body)))))) f′ (held) ((midOf 0 (rebuiltEnd n₇ (wholeLen (gathered (touchedRows (sessions) (f′ .«session_id») (f′ .time)) (parts) (lengths) (rebuilt) (f′ .«session_id») (took .asked .first) (took .asked .second) (partOf (d) (took .body))))) (gatheredRebuilt (touchedRows (sessions) (f′ .«session_id») (f′ .time)) (parts) (lengths) (rebuilt) (f′ .«session_id») (took .asked .first) (took .asked .second) (partOf (d) (took .body))))) (wholeLen (gathered (touchedRows (sessions) (f′ .«session_id») (f′ .time)) (parts) (lengths) (rebuilt) (f′ .«session_id») (took .asked .first) (took .asked .second) (partOf (d) (took .body)))) r′ (took .at) (rows ((gatheredRows (touchedRows (sessions) (f′ .«session_id») (f′ .time)) (parts) (lengths) (rebuilt) (f′ .«session_id») (took .asked .first) (took .asked .second) (partOf (d) (took .body)))) (streams) (objects)) .ran) (λ ws-22. (ws-22 .0 ≡ leftBy (rebuiltOf ((midOf 0 (rebuiltEnd n₇ (wholeLen (gathered (touchedRows (sessions) (f′ .«session_id») (f′ .time)) (parts) (lengths) (rebuilt) (f′ .«session_id») (took .asked .first) (took .asked .second) (partOf (d) (took .body))))) (gatheredRebuilt (touchedRows (sessions) (f′ .«session_id») (f′ .time)) (parts) (lengths) (rebuilt) (f′ .«session_id») (took .asked .first) (took .asked .second) (partOf (d) (took .body)))))) f′ (held) ((midOf 0 (rebuiltEnd n₇ (wholeLen (gathered (touchedRows (sessions) (f′ .«session_id») (f′ .time)) (parts) (lengths) (rebuilt) (f′ .«session_id») (took .asked .first) (took .asked .second) (partOf (d) (took .body))))) (gatheredRebuilt (touchedRows (sessions) (f′ .«session_id») (f′ .time)) (parts) (lengths) (rebuilt) (f′ .«session_id») (took .asked .first) (took .asked .second) (partOf (d) (took .body))))) (wholeLen (gathered (touchedRows (sessions) (f′ .«session_id») (f′ .time)) (parts) (lengths) (rebuilt) (f′ .«session_id») (took .asked .first) (took .asked .second) (partOf (d) (took .body)))) r′ (took .at) (rows ((gatheredRows (touchedRows (sessions) (f′ .«session_id») (f′ .time)) (parts) (lengths) (rebuilt) (f′ .«session_id») (took .asked .first) (took .asked .second) (partOf (d) (took .body)))) (streams) (objects)) .rows .sessions) × (ws-22 .1 .0 ≡ leftBy (rebuiltOf ((midOf 0 (rebuiltEnd n₇ (wholeLen (gathered (touchedRows (sessions) (f′ .«session_id») (f′ .time)) (parts) (lengths) (rebuilt) (f′ .«session_id») (took .asked .first) (took .asked .second) (partOf (d) (took .body))))) (gatheredRebuilt (touchedRows (sessions) (f′ .«session_id») (f′ .time)) (parts) (lengths) (rebuilt) (f′ .«session_id») (took .asked .first) (took .asked .second) (partOf (d) (took .body)))))) f′ (held) ((midOf 0 (rebuiltEnd n₇ (wholeLen (gathered (touchedRows (sessions) (f′ .«session_id») (f′ .time)) (parts) (lengths) (rebuilt) (f′ .«session_id») (took .asked .first) (took .asked .second) (partOf (d) (took .body))))) (gatheredRebuilt (touchedRows (sessions) (f′ .«session_id») (f′ .time)) (parts) (lengths) (rebuilt) (f′ .«session_id») (took .asked .first) (took .asked .second) (partOf (d) (took .body))))) (wholeLen (gathered (touchedRows (sessions) (f′ .«session_id») (f′ .time)) (parts) (lengths) (rebuilt) (f′ .«session_id») (took .asked .first) (took .asked .second) (partOf (d) (took .body)))) r′ (took .at) (rows ((gatheredRows (touchedRows (sessions) (f′ .«session_id») (f′ .time)) (parts) (lengths) (rebuilt) (f′ .«session_id») (took .asked .first) (took .asked .second) (partOf (d) (took .body)))) (streams) (objects)) .rows .streams) × (ws-22 .1 .1 .0 ≡ leftBy (rebuiltOf ((midOf 0 (rebuiltEnd n₇ (wholeLen (gathered (touchedRows (sessions) (f′ .«session_id») (f′ .time)) (parts) (lengths) (rebuilt) (f′ .«session_id») (took .asked .first) (took .asked .second) (partOf (d) (took .body))))) (gatheredRebuilt (touchedRows (sessions) (f′ .«session_id») (f′ .time)) (parts) (lengths) (rebuilt) (f′ .«session_id») (took .asked .first) (took .asked .second) (partOf (d) (took .body)))))) f′ (held) ((midOf 0 (rebuiltEnd n₇ (wholeLen (gathered (touchedRows (sessions) (f′ .«session_id») (f′ .time)) (parts) (lengths) (rebuilt) (f′ .«session_id») (took .asked .first) (took .asked .second) (partOf (d) (took .body))))) (gatheredRebuilt (touchedRows (sessions) (f′ .«session_id») (f′ .time)) (parts) (lengths) (rebuilt) (f′ .«session_id») (took .asked .first) (took .asked .second) (partOf (d) (took .body))))) (wholeLen (gathered (touchedRows (sessions) (f′ .«session_id») (f′ .time)) (parts) (lengths) (rebuilt) (f′ .«session_id») (took .asked .first) (took .asked .second) (partOf (d) (took .body)))) r′ (took .at) (rows ((gatheredRows (touchedRows (sessions) (f′ .«session_id») (f′ .time)) (parts) (lengths) (rebuilt) (f′ .«session_id») (took .asked .first) (took .asked .second) (partOf (d) (took .body)))) (streams) (objects)) .rows .objects) × (ws-22 .1 .1 .1 .1 .0 ≡ putReplies (f′ .room) (out) (r′ .wrote) (leftBy (rebuiltOf ((midOf 0 (rebuiltEnd n₇ (wholeLen (gathered (touchedRows (sessions) (f′ .«session_id») (f′ .time)) (parts) (lengths) (rebuilt) (f′ .«session_id») (took .asked .first) (took .asked .second) (partOf (d) (took .body))))) (gatheredRebuilt (touchedRows (sessions) (f′ .«session_id») (f′ .time)) (parts) (lengths) (rebuilt) (f′ .«session_id») (took .asked .first) (took .asked .second) (partOf (d) (took .body)))))) f′ (held) ((midOf 0 (rebuiltEnd n₇ (wholeLen (gathered (touchedRows (sessions) (f′ .«session_id») (f′ .time)) (parts) (lengths) (rebuilt) (f′ .«session_id») (took .asked .first) (took .asked .second) (partOf (d) (took .body))))) (gatheredRebuilt (touchedRows (sessions) (f′ .«session_id») (f′ .time)) (parts) (lengths) (rebuilt) (f′ .«session_id») (took .asked .first) (took .asked .second) (partOf (d) (took .body))))) (wholeLen (gathered (touchedRows (sessions) (f′ .«session_id») (f′ .time)) (parts) (lengths) (rebuilt) (f′ .«session_id») (took .asked .first) (took .asked .second) (partOf (d) (took .body)))) r′ (took .at) (rows ((gatheredRows (touchedRows (sessions) (f′ .«session_id») (f′ .time)) (parts) (lengths) (rebuilt) (f′ .«session_id») (took .asked .first) (took .asked .second) (partOf (d) (took .body)))) (streams) (objects)) .replies))) (factI 𝓤 (f′ .room ≤ 9223372036854775807) _ asks-22) (λ r ws-22. fact-mono 𝓤 ((r ≡ leftBy (rebuiltOf ((midOf 0 (rebuiltEnd n₇ (wholeLen (gathered (touchedRows (sessions) (f′ .«session_id») (f′ .time)) (parts) (lengths) (rebuilt) (f′ .«session_id») (took .asked .first) (took .asked .second) (partOf (d) (took .body))))) (gatheredRebuilt (touchedRows (sessions) (f′ .«session_id») (f′ .time)) (parts) (lengths) (rebuilt) (f′ .«session_id») (took .asked .first) (took .asked .second) (partOf (d) (took .body)))))) f′ (held) ((midOf 0 (rebuiltEnd n₇ (wholeLen (gathered (touchedRows (sessions) (f′ .«session_id») (f′ .time)) (parts) (lengths) (rebuilt) (f′ .«session_id») (took .asked .first) (took .asked .second) (partOf (d) (took .body))))) (gatheredRebuilt (touchedRows (sessions) (f′ .«session_id») (f′ .time)) (parts) (lengths) (rebuilt) (f′ .«session_id») (took .asked .first) (took .asked .second) (partOf (d) (took .body))))) (wholeLen (gathered (touchedRows (sessions) (f′ .«session_id») (f′ .time)) (parts) (lengths) (rebuilt) (f′ .«session_id») (took .asked .first) (took .asked .second) (partOf (d) (took .body)))) r′ (took .at) (rows ((gatheredRows (touchedRows (sessions) (f′ .«session_id») (f′ .time)) (parts) (lengths) (rebuilt) (f′ .«session_id») (took .asked .first) (took .asked .second) (partOf (d) (took .body)))) (streams) (objects)) .ran) × ((ws-22 .0) ≡ leftBy (rebuiltOf ((midOf 0 (rebuiltEnd n₇ (wholeLen (gathered (touchedRows (sessions) (f′ .«session_id») (f′ .time)) (parts) (lengths) (rebuilt) (f′ .«session_id») (took .asked .first) (took .asked .second) (partOf (d) (took .body))))) (gatheredRebuilt (touchedRows (sessions) (f′ .«session_id») (f′ .time)) (parts) (lengths) (rebuilt) (f′ .«session_id») (took .asked .first) (took .asked .second) (partOf (d) (took .body)))))) f′ (held) ((midOf 0 (rebuiltEnd n₇ (wholeLen (gathered (touchedRows (sessions) (f′ .«session_id») (f′ .time)) (parts) (lengths) (rebuilt) (f′ .«session_id») (took .asked .first) (took .asked .second) (partOf (d) (took .body))))) (gatheredRebuilt (touchedRows (sessions) (f′ .«session_id») (f′ .time)) (parts) (lengths) (rebuilt) (f′ .«session_id») (took .asked .first) (took .asked .second) (partOf (d) (took .body))))) (wholeLen (gathered (touchedRows (sessions) (f′ .«session_id») (f′ .time)) (parts) (lengths) (rebuilt) (f′ .«session_id») (took .asked .first) (took .asked .second) (partOf (d) (took .body)))) r′ (took .at) (rows ((gatheredRows (touchedRows (sessions) (f′ .«session_id») (f′ .time)) (parts) (lengths) (rebuilt) (f′ .«session_id») (took .asked .first) (took .asked .second) (partOf (d) (took .body)))) (streams) (objects)) .rows .sessions) × ((ws-22 .1 .0) ≡ leftBy (rebuiltOf ((midOf 0 (rebuiltEnd n₇ (wholeLen (gathered (touchedRows (sessions) (f′ .«session_id») (f′ .time)) (parts) (lengths) (rebuilt) (f′ .«session_id») (took .asked .first) (took .asked .second) (partOf (d) (took .body))))) (gatheredRebuilt (touchedRows (sessions) (f′ .«session_id») (f′ .time)) (parts) (lengths) (rebuilt) (f′ .«session_id») (took .asked .first) (took .asked .second) (partOf (d) (took .body)))))) f′ (held) ((midOf 0 (rebuiltEnd n₇ (wholeLen (gathered (touchedRows (sessions) (f′ .«session_id») (f′ .time)) (parts) (lengths) (rebuilt) (f′ .«session_id») (took .asked .first) (took .asked .second) (partOf (d) (took .body))))) (gatheredRebuilt (touchedRows (sessions) (f′ .«session_id») (f′ .time)) (parts) (lengths) (rebuilt) (f′ .«session_id») (took .asked .first) (took .asked .second) (partOf (d) (took .body))))) (wholeLen (gathered (touchedRows (sessions) (f′ .«session_id») (f′ .time)) (parts) (lengths) (rebuilt) (f′ .«session_id») (took .asked .first) (took .asked .second) (partOf (d) (took .body)))) r′ (took .at) (rows ((gatheredRows (touchedRows (sessions) (f′ .«session_id») (f′ .time)) (parts) (lengths) (rebuilt) (f′ .«session_id») (took .asked .first) (took .asked .second) (partOf (d) (took .body)))) (streams) (objects)) .rows .streams) × ((ws-22 .1 .1 .0) ≡ leftBy (rebuiltOf ((midOf 0 (rebuiltEnd n₇ (wholeLen (gathered (touchedRows (sessions) (f′ .«session_id») (f′ .time)) (parts) (lengths) (rebuilt) (f′ .«session_id») (took .asked .first) (took .asked .second) (partOf (d) (took .body))))) (gatheredRebuilt (touchedRows (sessions) (f′ .«session_id») (f′ .time)) (parts) (lengths) (rebuilt) (f′ .«session_id») (took .asked .first) (took .asked .second) (partOf (d) (took .body)))))) f′ (held) ((midOf 0 (rebuiltEnd n₇ (wholeLen (gathered (touchedRows (sessions) (f′ .«session_id») (f′ .time)) (parts) (lengths) (rebuilt) (f′ .«session_id») (took .asked .first) (took .asked .second) (partOf (d) (took .body))))) (gatheredRebuilt (touchedRows (sessions) (f′ .«session_id») (f′ .time)) (parts) (lengths) (rebuilt) (f′ .«session_id») (took .asked .first) (took .asked .second) (partOf (d) (took .body))))) (wholeLen (gathered (touchedRows (sessions) (f′ .«session_id») (f′ .time)) (parts) (lengths) (rebuilt) (f′ .«session_id») (took .asked .first) (took .asked .second) (partOf (d) (took .body)))) r′ (took .at) (rows ((gatheredRows (touchedRows (sessions) (f′ .«session_id») (f′ .time)) (parts) (lengths) (rebuilt) (f′ .«session_id») (took .asked .first) (took .asked .second) (partOf (d) (took .body)))) (streams) (objects)) .rows .objects) × ((ws-22 .1 .1 .1 .1 .0) ≡ putReplies (f′ .room) (out) (r′ .wrote) (leftBy (rebuiltOf ((midOf 0 (rebuiltEnd n₇ (wholeLen (gathered (touchedRows (sessions) (f′ .«session_id») (f′ .time)) (parts) (lengths) (rebuilt) (f′ .«session_id») (took .asked .first) (took .asked .second) (partOf (d) (took .body))))) (gatheredRebuilt (touchedRows (sessions) (f′ .«session_id») (f′ .time)) (parts) (lengths) (rebuilt) (f′ .«session_id») (took .asked .first) (took .asked .second) (partOf (d) (took .body)))))) f′ (held) ((midOf 0 (rebuiltEnd n₇ (wholeLen (gathered (touchedRows (sessions) (f′ .«session_id») (f′ .time)) (parts) (lengths) (rebuilt) (f′ .«session_id») (took .asked .first) (took .asked .second) (partOf (d) (took .body))))) (gatheredRebuilt (touchedRows (sessions) (f′ .«session_id») (f′ .time)) (parts) (lengths) (rebuilt) (f′ .«session_id») (took .asked .first) (took .asked .second) (partOf (d) (took .body))))) (wholeLen (gathered (touchedRows (sessions) (f′ .«session_id») (f′ .time)) (parts) (lengths) (rebuilt) (f′ .«session_id») (took .asked .first) (took .asked .second) (partOf (d) (took .body)))) r′ (took .at) (rows ((gatheredRows (touchedRows (sessions) (f′ .«session_id») (f′ .time)) (parts) (lengths) (rebuilt) (f′ .«session_id») (took .asked .first) (took .asked .second) (partOf (d) (took .body)))) (streams) (objects)) .replies))) ((r ≡ (leftBy (rebuiltOf ((midOf 0 (rebuiltEnd n₇ (wholeLen (gathered (touchedRows (sessions) (f′ .«session_id») (f′ .time)) (parts) (lengths) (rebuilt) (f′ .«session_id») (took .asked .first) (took .asked .second) (partOf (d) (took .body))))) (gatheredRebuilt (touchedRows (sessions) (f′ .«session_id») (f′ .time)) (parts) (lengths) (rebuilt) (f′ .«session_id») (took .asked .first) (took .asked .second) (partOf (d) (took .body)))))) f′ (held) ((midOf 0 (rebuiltEnd n₇ (wholeLen (gathered (touchedRows (sessions) (f′ .«session_id») (f′ .time)) (parts) (lengths) (rebuilt) (f′ .«session_id») (took .asked .first) (took .asked .second) (partOf (d) (took .body))))) (gatheredRebuilt (touchedRows (sessions) (f′ .«session_id») (f′ .time)) (parts) (lengths) (rebuilt) (f′ .«session_id») (took .asked .first) (took .asked .second) (partOf (d) (took .body))))) (wholeLen (gathered (touchedRows (sessions) (f′ .«session_id») (f′ .time)) (parts) (lengths) (rebuilt) (f′ .«session_id») (took .asked .first) (took .asked .second) (partOf (d) (took .body)))) r′ (took .at) (rows ((gatheredRows (touchedRows (sessions) (f′ .«session_id») (f′ .time)) (parts) (lengths) (rebuilt) (f′ .«session_id») (took .asked .first) (took .asked .second) (partOf (d) (took .body)))) (streams) (objects)) .ran)) × ((ws-22 .0 ≡ leftBy (rebuiltOf ((midOf 0 (rebuiltEnd n₇ (wholeLen (gathered (touchedRows (sessions) (f′ .«session_id») (f′ .time)) (parts) (lengths) (rebuilt) (f′ .«session_id») (took .asked .first) (took .asked .second) (partOf (d) (took .body))))) (gatheredRebuilt (touchedRows (sessions) (f′ .«session_id») (f′ .time)) (parts) (lengths) (rebuilt) (f′ .«session_id») (took .asked .first) (took .asked .second) (partOf (d) (took .body)))))) f′ (held) ((midOf 0 (rebuiltEnd n₇ (wholeLen (gathered (touchedRows (sessions) (f′ .«session_id») (f′ .time)) (parts) (lengths) (rebuilt) (f′ .«session_id») (took .asked .first) (took .asked .second) (partOf (d) (took .body))))) (gatheredRebuilt (touchedRows (sessions) (f′ .«session_id») (f′ .time)) (parts) (lengths) (rebuilt) (f′ .«session_id») (took .asked .first) (took .asked .second) (partOf (d) (took .body))))) (wholeLen (gathered (touchedRows (sessions) (f′ .«session_id») (f′ .time)) (parts) (lengths) (rebuilt) (f′ .«session_id») (took .asked .first) (took .asked .second) (partOf (d) (took .body)))) r′ (took .at) (rows ((gatheredRows (touchedRows (sessions) (f′ .«session_id») (f′ .time)) (parts) (lengths) (rebuilt) (f′ .«session_id») (took .asked .first) (took .asked .second) (partOf (d) (took .body)))) (streams) (objects)) .rows .sessions) × (ws-22 .1 .0 ≡ leftBy (rebuiltOf ((midOf 0 (rebuiltEnd n₇ (wholeLen (gathered (touchedRows (sessions) (f′ .«session_id») (f′ .time)) (parts) (lengths) (rebuilt) (f′ .«session_id») (took .asked .first) (took .asked .second) (partOf (d) (took .body))))) (gatheredRebuilt (touchedRows (sessions) (f′ .«session_id») (f′ .time)) (parts) (lengths) (rebuilt) (f′ .«session_id») (took .asked .first) (took .asked .second) (partOf (d) (took .body)))))) f′ (held) ((midOf 0 (rebuiltEnd n₇ (wholeLen (gathered (touchedRows (sessions) (f′ .«session_id») (f′ .time)) (parts) (lengths) (rebuilt) (f′ .«session_id») (took .asked .first) (took .asked .second) (partOf (d) (took .body))))) (gatheredRebuilt (touchedRows (sessions) (f′ .«session_id») (f′ .time)) (parts) (lengths) (rebuilt) (f′ .«session_id») (took .asked .first) (took .asked .second) (partOf (d) (took .body))))) (wholeLen (gathered (touchedRows (sessions) (f′ .«session_id») (f′ .time)) (parts) (lengths) (rebuilt) (f′ .«session_id») (took .asked .first) (took .asked .second) (partOf (d) (took .body)))) r′ (took .at) (rows ((gatheredRows (touchedRows (sessions) (f′ .«session_id») (f′ .time)) (parts) (lengths) (rebuilt) (f′ .«session_id») (took .asked .first) (took .asked .second) (partOf (d) (took .body)))) (streams) (objects)) .rows .streams) × (ws-22 .1 .1 .0 ≡ leftBy (rebuiltOf ((midOf 0 (rebuiltEnd n₇ (wholeLen (gathered (touchedRows (sessions) (f′ .«session_id») (f′ .time)) (parts) (lengths) (rebuilt) (f′ .«session_id») (took .asked .first) (took .asked .second) (partOf (d) (took .body))))) (gatheredRebuilt (touchedRows (sessions) (f′ .«session_id») (f′ .time)) (parts) (lengths) (rebuilt) (f′ .«session_id») (took .asked .first) (took .asked .second) (partOf (d) (took .body)))))) f′ (held) ((midOf 0 (rebuiltEnd n₇ (wholeLen (gathered (touchedRows (sessions) (f′ .«session_id») (f′ .time)) (parts) (lengths) (rebuilt) (f′ .«session_id») (took .asked .first) (took .asked .second) (partOf (d) (took .body))))) (gatheredRebuilt (touchedRows (sessions) (f′ .«session_id») (f′ .time)) (parts) (lengths) (rebuilt) (f′ .«session_id») (took .asked .first) (took .asked .second) (partOf (d) (took .body))))) (wholeLen (gathered (touchedRows (sessions) (f′ .«session_id») (f′ .time)) (parts) (lengths) (rebuilt) (f′ .«session_id») (took .asked .first) (took .asked .second) (partOf (d) (took .body)))) r′ (took .at) (rows ((gatheredRows (touchedRows (sessions) (f′ .«session_id») (f′ .time)) (parts) (lengths) (rebuilt) (f′ .«session_id») (took .asked .first) (took .asked .second) (partOf (d) (took .body)))) (streams) (objects)) .rows .objects) × (ws-22 .1 .1 .1 .1 .0 ≡ putReplies (f′ .room) (out) (r′ .wrote) (leftBy (rebuiltOf ((midOf 0 (rebuiltEnd n₇ (wholeLen (gathered (touchedRows (sessions) (f′ .«session_id») (f′ .time)) (parts) (lengths) (rebuilt) (f′ .«session_id») (took .asked .first) (took .asked .second) (partOf (d) (took .body))))) (gatheredRebuilt (touchedRows (sessions) (f′ .«session_id») (f′ .time)) (parts) (lengths) (rebuilt) (f′ .«session_id») (took .asked .first) (took .asked .second) (partOf (d) (took .body)))))) f′ (held) ((midOf 0 (rebuiltEnd n₇ (wholeLen (gathered (touchedRows (sessions) (f′ .«session_id») (f′ .time)) (parts) (lengths) (rebuilt) (f′ .«session_id») (took .asked .first) (took .asked .second) (partOf (d) (took .body))))) (gatheredRebuilt (touchedRows (sessions) (f′ .«session_id») (f′ .time)) (parts) (lengths) (rebuilt) (f′ .«session_id») (took .asked .first) (took .asked .second) (partOf (d) (took .body))))) (wholeLen (gathered (touchedRows (sessions) (f′ .«session_id») (f′ .time)) (parts) (lengths) (rebuilt) (f′ .«session_id») (took .asked .first) (took .asked .second) (partOf (d) (took .body)))) r′ (took .at) (rows ((gatheredRows (touchedRows (sessions) (f′ .«session_id») (f′ .time)) (parts) (lengths) (rebuilt) (f′ .«session_id») (took .asked .first) (took .asked .second) (partOf (d) (took .body)))) (streams) (objects)) .replies)))) (λ e. (e .0, (e .1, e .2, e .3, e .4)))) (λ _. (and-then ! (load ! (from ! (stop !)) (look ! 29 refl)) (and-then ! (load ! (from ! (stop !)) (look ! 25 refl)) (and-then ! (load ! (from ! (stop !)) (look ! 21 refl)) (and-then ! (load ! (from ! (stop !)) (look ! 71 refl)) (and-then ! (load ! (from ! (stop !)) (look ! 17 refl)) (and-then ! (load ! (from ! (stop !)) (look ! 13 refl)) (and-then ! (load ! (from ! (stop !)) (look ! 59 refl)) (and-then ! (load ! (from ! (stop !)) (look ! 53 refl)) (and-then ! (load ! (from ! (stop !)) (look ! 57 refl)) (and-then ! (load ! (from ! (fld ! refl (stop !))) (look-in ! 55 (sub ! 2 refl (whole !)))) (no-more !)))))))))))) (λ ws-22 said-22 is-22.
+        calls-any ! fm 6 [] (fragments-work-off.signature .params) (fragments-work-off.ended .kept) Ran-p (fragments-work-off.clauses 𝓤 H A mem run) known-fragments-work-off ((ν-22-sessions ∷ []), ((ν-22-streams ∷ []), ((ν-22-objects ∷ []), (κ₄, ((ν-22-out ∷ []), ((ν-22-rebuilt ∷ []), tt)))))) (fullShare, (fullShare, (fullShare, (q₄, (fullShare, (fullShare, tt)))))) tt (at-list b₁ o₁ δ-22-sessions (gatheredRows (touchedRows (sessions) (f′ .«session_id») (f′ .moment .time)) (parts) (lengths) (rebuilt) (f′ .«session_id») (took .asked .first) (took .asked .second) (partOf (d) (took .body))), (at-list b₂ o₂ δ-22-streams streams, (at-list b₃ o₃ δ-22-objects objects, (at-list b₄ o₄ γ₄ held, (at-list b₈ o₈ δ-22-out out, (at-list b₇ (place 1 o₇ 0) δp-22-rebuilt (midOf 0 (rebuiltEnd n₇ (wholeLen (gathered (touchedRows (sessions) (f′ .«session_id») (f′ .moment .time)) (parts) (lengths) (rebuilt) (f′ .«session_id») (took .asked .first) (took .asked .second) (partOf (d) (took .body))))) (gatheredRebuilt (touchedRows (sessions) (f′ .«session_id») (f′ .moment .time)) (parts) (lengths) (rebuilt) (f′ .«session_id») (took .asked .first) (took .asked .second) (partOf (d) (took .body)))), (f′, (wholeLen (gathered (touchedRows (sessions) (f′ .«session_id») (f′ .moment .time)) (parts) (lengths) (rebuilt) (f′ .«session_id») (took .asked .first) (took .asked .second) (partOf (d) (took .body))), (r′, (took .at, tt)))))))))) (sliceVal (b₁, o₁) n₁ ∷ [], (sliceVal (b₂, o₂) n₂ ∷ [], (sliceVal (b₃, o₃) n₃ ∷ [], (sliceVal (b₄, o₄) n₄ ∷ [], (sliceVal (b₈, o₈) n₈ ∷ [], (sliceVal (b₇, (place 1 o₇ 0)) (rebuiltEnd n₇ (wholeLen (gathered (touchedRows (sessions) (f′ .«session_id») (f′ .moment .time)) (parts) (lengths) (rebuilt) (f′ .«session_id») (took .asked .first) (took .asked .second) (partOf (d) (took .body))))) ∷ [], (Frame-p .val f′ ∷ [], (u64-p .val (wholeLen (gathered (touchedRows (sessions) (f′ .«session_id») (f′ .moment .time)) (parts) (lengths) (rebuilt) (f′ .«session_id») (took .asked .first) (took .asked .second) (partOf (d) (took .body)))) ∷ [], (Ran-p .val r′ ∷ [], (u64-p .val (took .at) ∷ [], tt)))))))))) tt (leftBy (rebuiltOf ((midOf 0 (rebuiltEnd n₇ (wholeLen (gathered (touchedRows (sessions) (f′ .«session_id») (f′ .moment .time)) (parts) (lengths) (rebuilt) (f′ .«session_id») (took .asked .first) (took .asked .second) (partOf (d) (took .body))))) (gatheredRebuilt (touchedRows (sessions) (f′ .«session_id») (f′ .moment .time)) (parts) (lengths) (rebuilt) (f′ .«session_id») (took .asked .first) (took .asked .second) (partOf (d) (took .body)))))) f′ (held) ((midOf 0 (rebuiltEnd n₇ (wholeLen (gathered (touchedRows (sessions) (f′ .«session_id») (f′ .moment .time)) (parts) (lengths) (rebuilt) (f′ .«session_id») (took .asked .first) (took .asked .second) (partOf (d) (took .body))))) (gatheredRebuilt (touchedRows (sessions) (f′ .«session_id») (f′ .moment .time)) (parts) (lengths) (rebuilt) (f′ .«session_id») (took .asked .first) (took .asked .second) (partOf (d) (took .body))))) (wholeLen (gathered (touchedRows (sessions) (f′ .«session_id») (f′ .moment .time)) (parts) (lengths) (rebuilt) (f′ .«session_id») (took .asked .first) (took .asked .second) (partOf (d) (took .body)))) r′ (took .at) (rows ((gatheredRows (touchedRows (sessions) (f′ .«session_id») (f′ .moment .time)) (parts) (lengths) (rebuilt) (f′ .«session_id») (took .asked .first) (took .asked .second) (partOf (d) (took .body)))) (streams) (objects)) .ran) (λ ws-22. (ws-22 .0 ≡ leftBy (rebuiltOf ((midOf 0 (rebuiltEnd n₇ (wholeLen (gathered (touchedRows (sessions) (f′ .«session_id») (f′ .moment .time)) (parts) (lengths) (rebuilt) (f′ .«session_id») (took .asked .first) (took .asked .second) (partOf (d) (took .body))))) (gatheredRebuilt (touchedRows (sessions) (f′ .«session_id») (f′ .moment .time)) (parts) (lengths) (rebuilt) (f′ .«session_id») (took .asked .first) (took .asked .second) (partOf (d) (took .body)))))) f′ (held) ((midOf 0 (rebuiltEnd n₇ (wholeLen (gathered (touchedRows (sessions) (f′ .«session_id») (f′ .moment .time)) (parts) (lengths) (rebuilt) (f′ .«session_id») (took .asked .first) (took .asked .second) (partOf (d) (took .body))))) (gatheredRebuilt (touchedRows (sessions) (f′ .«session_id») (f′ .moment .time)) (parts) (lengths) (rebuilt) (f′ .«session_id») (took .asked .first) (took .asked .second) (partOf (d) (took .body))))) (wholeLen (gathered (touchedRows (sessions) (f′ .«session_id») (f′ .moment .time)) (parts) (lengths) (rebuilt) (f′ .«session_id») (took .asked .first) (took .asked .second) (partOf (d) (took .body)))) r′ (took .at) (rows ((gatheredRows (touchedRows (sessions) (f′ .«session_id») (f′ .moment .time)) (parts) (lengths) (rebuilt) (f′ .«session_id») (took .asked .first) (took .asked .second) (partOf (d) (took .body)))) (streams) (objects)) .rows .sessions) × (ws-22 .1 .0 ≡ leftBy (rebuiltOf ((midOf 0 (rebuiltEnd n₇ (wholeLen (gathered (touchedRows (sessions) (f′ .«session_id») (f′ .moment .time)) (parts) (lengths) (rebuilt) (f′ .«session_id») (took .asked .first) (took .asked .second) (partOf (d) (took .body))))) (gatheredRebuilt (touchedRows (sessions) (f′ .«session_id») (f′ .moment .time)) (parts) (lengths) (rebuilt) (f′ .«session_id») (took .asked .first) (took .asked .second) (partOf (d) (took .body)))))) f′ (held) ((midOf 0 (rebuiltEnd n₇ (wholeLen (gathered (touchedRows (sessions) (f′ .«session_id») (f′ .moment .time)) (parts) (lengths) (rebuilt) (f′ .«session_id») (took .asked .first) (took .asked .second) (partOf (d) (took .body))))) (gatheredRebuilt (touchedRows (sessions) (f′ .«session_id») (f′ .moment .time)) (parts) (lengths) (rebuilt) (f′ .«session_id») (took .asked .first) (took .asked .second) (partOf (d) (took .body))))) (wholeLen (gathered (touchedRows (sessions) (f′ .«session_id») (f′ .moment .time)) (parts) (lengths) (rebuilt) (f′ .«session_id») (took .asked .first) (took .asked .second) (partOf (d) (took .body)))) r′ (took .at) (rows ((gatheredRows (touchedRows (sessions) (f′ .«session_id») (f′ .moment .time)) (parts) (lengths) (rebuilt) (f′ .«session_id») (took .asked .first) (took .asked .second) (partOf (d) (took .body)))) (streams) (objects)) .rows .streams) × (ws-22 .1 .1 .0 ≡ leftBy (rebuiltOf ((midOf 0 (rebuiltEnd n₇ (wholeLen (gathered (touchedRows (sessions) (f′ .«session_id») (f′ .moment .time)) (parts) (lengths) (rebuilt) (f′ .«session_id») (took .asked .first) (took .asked .second) (partOf (d) (took .body))))) (gatheredRebuilt (touchedRows (sessions) (f′ .«session_id») (f′ .moment .time)) (parts) (lengths) (rebuilt) (f′ .«session_id») (took .asked .first) (took .asked .second) (partOf (d) (took .body)))))) f′ (held) ((midOf 0 (rebuiltEnd n₇ (wholeLen (gathered (touchedRows (sessions) (f′ .«session_id») (f′ .moment .time)) (parts) (lengths) (rebuilt) (f′ .«session_id») (took .asked .first) (took .asked .second) (partOf (d) (took .body))))) (gatheredRebuilt (touchedRows (sessions) (f′ .«session_id») (f′ .moment .time)) (parts) (lengths) (rebuilt) (f′ .«session_id») (took .asked .first) (took .asked .second) (partOf (d) (took .body))))) (wholeLen (gathered (touchedRows (sessions) (f′ .«session_id») (f′ .moment .time)) (parts) (lengths) (rebuilt) (f′ .«session_id») (took .asked .first) (took .asked .second) (partOf (d) (took .body)))) r′ (took .at) (rows ((gatheredRows (touchedRows (sessions) (f′ .«session_id») (f′ .moment .time)) (parts) (lengths) (rebuilt) (f′ .«session_id») (took .asked .first) (took .asked .second) (partOf (d) (took .body)))) (streams) (objects)) .rows .objects) × (ws-22 .1 .1 .1 .1 .0 ≡ putReplies (f′ .room) (out) (r′ .wrote) (leftBy (rebuiltOf ((midOf 0 (rebuiltEnd n₇ (wholeLen (gathered (touchedRows (sessions) (f′ .«session_id») (f′ .moment .time)) (parts) (lengths) (rebuilt) (f′ .«session_id») (took .asked .first) (took .asked .second) (partOf (d) (took .body))))) (gatheredRebuilt (touchedRows (sessions) (f′ .«session_id») (f′ .moment .time)) (parts) (lengths) (rebuilt) (f′ .«session_id») (took .asked .first) (took .asked .second) (partOf (d) (took .body)))))) f′ (held) ((midOf 0 (rebuiltEnd n₇ (wholeLen (gathered (touchedRows (sessions) (f′ .«session_id») (f′ .moment .time)) (parts) (lengths) (rebuilt) (f′ .«session_id») (took .asked .first) (took .asked .second) (partOf (d) (took .body))))) (gatheredRebuilt (touchedRows (sessions) (f′ .«session_id») (f′ .moment .time)) (parts) (lengths) (rebuilt) (f′ .«session_id») (took .asked .first) (took .asked .second) (partOf (d) (took .body))))) (wholeLen (gathered (touchedRows (sessions) (f′ .«session_id») (f′ .moment .time)) (parts) (lengths) (rebuilt) (f′ .«session_id») (took .asked .first) (took .asked .second) (partOf (d) (took .body)))) r′ (took .at) (rows ((gatheredRows (touchedRows (sessions) (f′ .«session_id») (f′ .moment .time)) (parts) (lengths) (rebuilt) (f′ .«session_id») (took .asked .first) (took .asked .second) (partOf (d) (took .body)))) (streams) (objects)) .replies))) (factI 𝓤 (f′ .room ≤ 9223372036854775807) _ asks-22) (λ r ws-22. fact-mono 𝓤 ((r ≡ leftBy (rebuiltOf ((midOf 0 (rebuiltEnd n₇ (wholeLen (gathered (touchedRows (sessions) (f′ .«session_id») (f′ .moment .time)) (parts) (lengths) (rebuilt) (f′ .«session_id») (took .asked .first) (took .asked .second) (partOf (d) (took .body))))) (gatheredRebuilt (touchedRows (sessions) (f′ .«session_id») (f′ .moment .time)) (parts) (lengths) (rebuilt) (f′ .«session_id») (took .asked .first) (took .asked .second) (partOf (d) (took .body)))))) f′ (held) ((midOf 0 (rebuiltEnd n₇ (wholeLen (gathered (touchedRows (sessions) (f′ .«session_id») (f′ .moment .time)) (parts) (lengths) (rebuilt) (f′ .«session_id») (took .asked .first) (took .asked .second) (partOf (d) (took .body))))) (gatheredRebuilt (touchedRows (sessions) (f′ .«session_id») (f′ .moment .time)) (parts) (lengths) (rebuilt) (f′ .«session_id») (took .asked .first) (took .asked .second) (partOf (d) (took .body))))) (wholeLen (gathered (touchedRows (sessions) (f′ .«session_id») (f′ .moment .time)) (parts) (lengths) (rebuilt) (f′ .«session_id») (took .asked .first) (took .asked .second) (partOf (d) (took .body)))) r′ (took .at) (rows ((gatheredRows (touchedRows (sessions) (f′ .«session_id») (f′ .moment .time)) (parts) (lengths) (rebuilt) (f′ .«session_id») (took .asked .first) (took .asked .second) (partOf (d) (took .body)))) (streams) (objects)) .ran) × ((ws-22 .0) ≡ leftBy (rebuiltOf ((midOf 0 (rebuiltEnd n₇ (wholeLen (gathered (touchedRows (sessions) (f′ .«session_id») (f′ .moment .time)) (parts) (lengths) (rebuilt) (f′ .«session_id») (took .asked .first) (took .asked .second) (partOf (d) (took .body))))) (gatheredRebuilt (touchedRows (sessions) (f′ .«session_id») (f′ .moment .time)) (parts) (lengths) (rebuilt) (f′ .«session_id») (took .asked .first) (took .asked .second) (partOf (d) (took .body)))))) f′ (held) ((midOf 0 (rebuiltEnd n₇ (wholeLen (gathered (touchedRows (sessions) (f′ .«session_id») (f′ .moment .time)) (parts) (lengths) (rebuilt) (f′ .«session_id») (took .asked .first) (took .asked .second) (partOf (d) (took .body))))) (gatheredRebuilt (touchedRows (sessions) (f′ .«session_id») (f′ .moment .time)) (parts) (lengths) (rebuilt) (f′ .«session_id») (took .asked .first) (took .asked .second) (partOf (d) (took .body))))) (wholeLen (gathered (touchedRows (sessions) (f′ .«session_id») (f′ .moment .time)) (parts) (lengths) (rebuilt) (f′ .«session_id») (took .asked .first) (took .asked .second) (partOf (d) (took .body)))) r′ (took .at) (rows ((gatheredRows (touchedRows (sessions) (f′ .«session_id») (f′ .moment .time)) (parts) (lengths) (rebuilt) (f′ .«session_id») (took .asked .first) (took .asked .second) (partOf (d) (took .body)))) (streams) (objects)) .rows .sessions) × ((ws-22 .1 .0) ≡ leftBy (rebuiltOf ((midOf 0 (rebuiltEnd n₇ (wholeLen (gathered (touchedRows (sessions) (f′ .«session_id») (f′ .moment .time)) (parts) (lengths) (rebuilt) (f′ .«session_id») (took .asked .first) (took .asked .second) (partOf (d) (took .body))))) (gatheredRebuilt (touchedRows (sessions) (f′ .«session_id») (f′ .moment .time)) (parts) (lengths) (rebuilt) (f′ .«session_id») (took .asked .first) (took .asked .second) (partOf (d) (took .body)))))) f′ (held) ((midOf 0 (rebuiltEnd n₇ (wholeLen (gathered (touchedRows (sessions) (f′ .«session_id») (f′ .moment .time)) (parts) (lengths) (rebuilt) (f′ .«session_id») (took .asked .first) (took .asked .second) (partOf (d) (took .body))))) (gatheredRebuilt (touchedRows (sessions) (f′ .«session_id») (f′ .moment .time)) (parts) (lengths) (rebuilt) (f′ .«session_id») (took .asked .first) (took .asked .second) (partOf (d) (took .body))))) (wholeLen (gathered (touchedRows (sessions) (f′ .«session_id») (f′ .moment .time)) (parts) (lengths) (rebuilt) (f′ .«session_id») (took .asked .first) (took .asked .second) (partOf (d) (took .body)))) r′ (took .at) (rows ((gatheredRows (touchedRows (sessions) (f′ .«session_id») (f′ .moment .time)) (parts) (lengths) (rebuilt) (f′ .«session_id») (took .asked .first) (took .asked .second) (partOf (d) (took .body)))) (streams) (objects)) .rows .streams) × ((ws-22 .1 .1 .0) ≡ leftBy (rebuiltOf ((midOf 0 (rebuiltEnd n₇ (wholeLen (gathered (touchedRows (sessions) (f′ .«session_id») (f′ .moment .time)) (parts) (lengths) (rebuilt) (f′ .«session_id») (took .asked .first) (took .asked .second) (partOf (d) (took .body))))) (gatheredRebuilt (touchedRows (sessions) (f′ .«session_id») (f′ .moment .time)) (parts) (lengths) (rebuilt) (f′ .«session_id») (took .asked .first) (took .asked .second) (partOf (d) (took .body)))))) f′ (held) ((midOf 0 (rebuiltEnd n₇ (wholeLen (gathered (touchedRows (sessions) (f′ .«session_id») (f′ .moment .time)) (parts) (lengths) (rebuilt) (f′ .«session_id») (took .asked .first) (took .asked .second) (partOf (d) (took .body))))) (gatheredRebuilt (touchedRows (sessions) (f′ .«session_id») (f′ .moment .time)) (parts) (lengths) (rebuilt) (f′ .«session_id») (took .asked .first) (took .asked .second) (partOf (d) (took .body))))) (wholeLen (gathered (touchedRows (sessions) (f′ .«session_id») (f′ .moment .time)) (parts) (lengths) (rebuilt) (f′ .«session_id») (took .asked .first) (took .asked .second) (partOf (d) (took .body)))) r′ (took .at) (rows ((gatheredRows (touchedRows (sessions) (f′ .«session_id») (f′ .moment .time)) (parts) (lengths) (rebuilt) (f′ .«session_id») (took .asked .first) (took .asked .second) (partOf (d) (took .body)))) (streams) (objects)) .rows .objects) × ((ws-22 .1 .1 .1 .1 .0) ≡ putReplies (f′ .room) (out) (r′ .wrote) (leftBy (rebuiltOf ((midOf 0 (rebuiltEnd n₇ (wholeLen (gathered (touchedRows (sessions) (f′ .«session_id») (f′ .moment .time)) (parts) (lengths) (rebuilt) (f′ .«session_id») (took .asked .first) (took .asked .second) (partOf (d) (took .body))))) (gatheredRebuilt (touchedRows (sessions) (f′ .«session_id») (f′ .moment .time)) (parts) (lengths) (rebuilt) (f′ .«session_id») (took .asked .first) (took .asked .second) (partOf (d) (took .body)))))) f′ (held) ((midOf 0 (rebuiltEnd n₇ (wholeLen (gathered (touchedRows (sessions) (f′ .«session_id») (f′ .moment .time)) (parts) (lengths) (rebuilt) (f′ .«session_id») (took .asked .first) (took .asked .second) (partOf (d) (took .body))))) (gatheredRebuilt (touchedRows (sessions) (f′ .«session_id») (f′ .moment .time)) (parts) (lengths) (rebuilt) (f′ .«session_id») (took .asked .first) (took .asked .second) (partOf (d) (took .body))))) (wholeLen (gathered (touchedRows (sessions) (f′ .«session_id») (f′ .moment .time)) (parts) (lengths) (rebuilt) (f′ .«session_id») (took .asked .first) (took .asked .second) (partOf (d) (took .body)))) r′ (took .at) (rows ((gatheredRows (touchedRows (sessions) (f′ .«session_id») (f′ .moment .time)) (parts) (lengths) (rebuilt) (f′ .«session_id») (took .asked .first) (took .asked .second) (partOf (d) (took .body)))) (streams) (objects)) .replies))) ((r ≡ (leftBy (rebuiltOf ((midOf 0 (rebuiltEnd n₇ (wholeLen (gathered (touchedRows (sessions) (f′ .«session_id») (f′ .moment .time)) (parts) (lengths) (rebuilt) (f′ .«session_id») (took .asked .first) (took .asked .second) (partOf (d) (took .body))))) (gatheredRebuilt (touchedRows (sessions) (f′ .«session_id») (f′ .moment .time)) (parts) (lengths) (rebuilt) (f′ .«session_id») (took .asked .first) (took .asked .second) (partOf (d) (took .body)))))) f′ (held) ((midOf 0 (rebuiltEnd n₇ (wholeLen (gathered (touchedRows (sessions) (f′ .«session_id») (f′ .moment .time)) (parts) (lengths) (rebuilt) (f′ .«session_id») (took .asked .first) (took .asked .second) (partOf (d) (took .body))))) (gatheredRebuilt (touchedRows (sessions) (f′ .«session_id») (f′ .moment .time)) (parts) (lengths) (rebuilt) (f′ .«session_id») (took .asked .first) (took .asked .second) (partOf (d) (took .body))))) (wholeLen (gathered (touchedRows (sessions) (f′ .«session_id») (f′ .moment .time)) (parts) (lengths) (rebuilt) (f′ .«session_id») (took .asked .first) (took .asked .second) (partOf (d) (took .body)))) r′ (took .at) (rows ((gatheredRows (touchedRows (sessions) (f′ .«session_id») (f′ .moment .time)) (parts) (lengths) (rebuilt) (f′ .«session_id») (took .asked .first) (took .asked .second) (partOf (d) (took .body)))) (streams) (objects)) .ran)) × ((ws-22 .0 ≡ leftBy (rebuiltOf ((midOf 0 (rebuiltEnd n₇ (wholeLen (gathered (touchedRows (sessions) (f′ .«session_id») (f′ .moment .time)) (parts) (lengths) (rebuilt) (f′ .«session_id») (took .asked .first) (took .asked .second) (partOf (d) (took .body))))) (gatheredRebuilt (touchedRows (sessions) (f′ .«session_id») (f′ .moment .time)) (parts) (lengths) (rebuilt) (f′ .«session_id») (took .asked .first) (took .asked .second) (partOf (d) (took .body)))))) f′ (held) ((midOf 0 (rebuiltEnd n₇ (wholeLen (gathered (touchedRows (sessions) (f′ .«session_id») (f′ .moment .time)) (parts) (lengths) (rebuilt) (f′ .«session_id») (took .asked .first) (took .asked .second) (partOf (d) (took .body))))) (gatheredRebuilt (touchedRows (sessions) (f′ .«session_id») (f′ .moment .time)) (parts) (lengths) (rebuilt) (f′ .«session_id») (took .asked .first) (took .asked .second) (partOf (d) (took .body))))) (wholeLen (gathered (touchedRows (sessions) (f′ .«session_id») (f′ .moment .time)) (parts) (lengths) (rebuilt) (f′ .«session_id») (took .asked .first) (took .asked .second) (partOf (d) (took .body)))) r′ (took .at) (rows ((gatheredRows (touchedRows (sessions) (f′ .«session_id») (f′ .moment .time)) (parts) (lengths) (rebuilt) (f′ .«session_id») (took .asked .first) (took .asked .second) (partOf (d) (took .body)))) (streams) (objects)) .rows .sessions) × (ws-22 .1 .0 ≡ leftBy (rebuiltOf ((midOf 0 (rebuiltEnd n₇ (wholeLen (gathered (touchedRows (sessions) (f′ .«session_id») (f′ .moment .time)) (parts) (lengths) (rebuilt) (f′ .«session_id») (took .asked .first) (took .asked .second) (partOf (d) (took .body))))) (gatheredRebuilt (touchedRows (sessions) (f′ .«session_id») (f′ .moment .time)) (parts) (lengths) (rebuilt) (f′ .«session_id») (took .asked .first) (took .asked .second) (partOf (d) (took .body)))))) f′ (held) ((midOf 0 (rebuiltEnd n₇ (wholeLen (gathered (touchedRows (sessions) (f′ .«session_id») (f′ .moment .time)) (parts) (lengths) (rebuilt) (f′ .«session_id») (took .asked .first) (took .asked .second) (partOf (d) (took .body))))) (gatheredRebuilt (touchedRows (sessions) (f′ .«session_id») (f′ .moment .time)) (parts) (lengths) (rebuilt) (f′ .«session_id») (took .asked .first) (took .asked .second) (partOf (d) (took .body))))) (wholeLen (gathered (touchedRows (sessions) (f′ .«session_id») (f′ .moment .time)) (parts) (lengths) (rebuilt) (f′ .«session_id») (took .asked .first) (took .asked .second) (partOf (d) (took .body)))) r′ (took .at) (rows ((gatheredRows (touchedRows (sessions) (f′ .«session_id») (f′ .moment .time)) (parts) (lengths) (rebuilt) (f′ .«session_id») (took .asked .first) (took .asked .second) (partOf (d) (took .body)))) (streams) (objects)) .rows .streams) × (ws-22 .1 .1 .0 ≡ leftBy (rebuiltOf ((midOf 0 (rebuiltEnd n₇ (wholeLen (gathered (touchedRows (sessions) (f′ .«session_id») (f′ .moment .time)) (parts) (lengths) (rebuilt) (f′ .«session_id») (took .asked .first) (took .asked .second) (partOf (d) (took .body))))) (gatheredRebuilt (touchedRows (sessions) (f′ .«session_id») (f′ .moment .time)) (parts) (lengths) (rebuilt) (f′ .«session_id») (took .asked .first) (took .asked .second) (partOf (d) (took .body)))))) f′ (held) ((midOf 0 (rebuiltEnd n₇ (wholeLen (gathered (touchedRows (sessions) (f′ .«session_id») (f′ .moment .time)) (parts) (lengths) (rebuilt) (f′ .«session_id») (took .asked .first) (took .asked .second) (partOf (d) (took .body))))) (gatheredRebuilt (touchedRows (sessions) (f′ .«session_id») (f′ .moment .time)) (parts) (lengths) (rebuilt) (f′ .«session_id») (took .asked .first) (took .asked .second) (partOf (d) (took .body))))) (wholeLen (gathered (touchedRows (sessions) (f′ .«session_id») (f′ .moment .time)) (parts) (lengths) (rebuilt) (f′ .«session_id») (took .asked .first) (took .asked .second) (partOf (d) (took .body)))) r′ (took .at) (rows ((gatheredRows (touchedRows (sessions) (f′ .«session_id») (f′ .moment .time)) (parts) (lengths) (rebuilt) (f′ .«session_id») (took .asked .first) (took .asked .second) (partOf (d) (took .body)))) (streams) (objects)) .rows .objects) × (ws-22 .1 .1 .1 .1 .0 ≡ putReplies (f′ .room) (out) (r′ .wrote) (leftBy (rebuiltOf ((midOf 0 (rebuiltEnd n₇ (wholeLen (gathered (touchedRows (sessions) (f′ .«session_id») (f′ .moment .time)) (parts) (lengths) (rebuilt) (f′ .«session_id») (took .asked .first) (took .asked .second) (partOf (d) (took .body))))) (gatheredRebuilt (touchedRows (sessions) (f′ .«session_id») (f′ .moment .time)) (parts) (lengths) (rebuilt) (f′ .«session_id») (took .asked .first) (took .asked .second) (partOf (d) (took .body)))))) f′ (held) ((midOf 0 (rebuiltEnd n₇ (wholeLen (gathered (touchedRows (sessions) (f′ .«session_id») (f′ .moment .time)) (parts) (lengths) (rebuilt) (f′ .«session_id») (took .asked .first) (took .asked .second) (partOf (d) (took .body))))) (gatheredRebuilt (touchedRows (sessions) (f′ .«session_id») (f′ .moment .time)) (parts) (lengths) (rebuilt) (f′ .«session_id») (took .asked .first) (took .asked .second) (partOf (d) (took .body))))) (wholeLen (gathered (touchedRows (sessions) (f′ .«session_id») (f′ .moment .time)) (parts) (lengths) (rebuilt) (f′ .«session_id») (took .asked .first) (took .asked .second) (partOf (d) (took .body)))) r′ (took .at) (rows ((gatheredRows (touchedRows (sessions) (f′ .«session_id») (f′ .moment .time)) (parts) (lengths) (rebuilt) (f′ .«session_id») (took .asked .first) (took .asked .second) (partOf (d) (took .body)))) (streams) (objects)) .replies)))) (λ e. (e .0, (e .1, e .2, e .3, e .4)))) (λ _. (and-then ! (load ! (from ! (stop !)) (look ! 29 refl)) (and-then ! (load ! (from ! (stop !)) (look ! 25 refl)) (and-then ! (load ! (from ! (stop !)) (look ! 21 refl)) (and-then ! (load ! (from ! (stop !)) (look ! 71 refl)) (and-then ! (load ! (from ! (stop !)) (look ! 17 refl)) (and-then ! (load ! (from ! (stop !)) (look ! 13 refl)) (and-then ! (load ! (from ! (stop !)) (look ! 59 refl)) (and-then ! (load ! (from ! (stop !)) (look ! 53 refl)) (and-then ! (load ! (from ! (stop !)) (look ! 57 refl)) (and-then ! (load ! (from ! (fld ! refl (stop !))) (look-in ! 55 (sub ! 2 refl (whole !)))) (no-more !)))))))))))) (λ ws-22 said-22 is-22.
         use1 W ((‵ (flft (ν-22-sessions ∷ []) fullShare) ⊛ (‵ (flft (ν-22-streams ∷ []) fullShare) ⊛ (‵ (flft (ν-22-objects ∷ []) fullShare) ⊛ (‵ (flft κ₄ q₄) ⊛ (‵ (flft (ν-22-out ∷ []) fullShare) ⊛ (‵ (flft (ν-22-rebuilt ∷ []) fullShare) ⊛ ‵ ftrue))))))) (id⊢ 𝓤 _) $ split ! $ move ! (1 ∷ []) $ split ! $ move ! (1 ∷ []) $ split ! $ move ! (1 ∷ []) $ split ! $ move ! (1 ∷ []) $ split ! $ move ! (1 ∷ []) $ split ! $ move ! (7 ∷ []) $ fsplit ! $ fsplit ! $ move ! (1 ∷ []) $
         feqL ! (λ wlen-22-0.
         move ! (1 ∷ []) $ fsplit ! $ fsplit ! $ move ! (1 ∷ []) $
@@ -321,29 +330,29 @@ module _ {M : Type 1} (𝓤 : URA M) (H : Heap 𝓤) (A : Atoms 𝓤) (W : Given
         move ! (1 ∷ []) $ fsplit ! $ move ! (1 ∷ []) $ fsplit ! $ fsplit ! $ move ! (1 ∷ []) $
         feqL ! (λ wlen-22-4.
         move ! (1 ∷ []) $ fsplit ! $ move ! (13 ∷ 19 ∷ 6 ∷ []) $
-        backs-mut ! tt (Array u64 8) b₁ o₁ (gatheredRows (touchedRows (sessions) (f′ .«session_id») (f′ .time)) (parts) (lengths) (rebuilt) (f′ .«session_id») (took .asked .first) (took .asked .second) (partOf (d) (took .body))) n₁ (len-9-sessions) room₁ ν-22-sessions δ-22-sessions (ws-22 .0) (leftBy (rebuiltOf ((midOf 0 (rebuiltEnd n₇ (wholeLen (gathered (touchedRows (sessions) (f′ .«session_id») (f′ .time)) (parts) (lengths) (rebuilt) (f′ .«session_id») (took .asked .first) (took .asked .second) (partOf (d) (took .body))))) (gatheredRebuilt (touchedRows (sessions) (f′ .«session_id») (f′ .time)) (parts) (lengths) (rebuilt) (f′ .«session_id») (took .asked .first) (took .asked .second) (partOf (d) (took .body)))))) f′ (held) ((midOf 0 (rebuiltEnd n₇ (wholeLen (gathered (touchedRows (sessions) (f′ .«session_id») (f′ .time)) (parts) (lengths) (rebuilt) (f′ .«session_id») (took .asked .first) (took .asked .second) (partOf (d) (took .body))))) (gatheredRebuilt (touchedRows (sessions) (f′ .«session_id») (f′ .time)) (parts) (lengths) (rebuilt) (f′ .«session_id») (took .asked .first) (took .asked .second) (partOf (d) (took .body))))) (wholeLen (gathered (touchedRows (sessions) (f′ .«session_id») (f′ .time)) (parts) (lengths) (rebuilt) (f′ .«session_id») (took .asked .first) (took .asked .second) (partOf (d) (took .body)))) r′ (took .at) (rows ((gatheredRows (touchedRows (sessions) (f′ .«session_id») (f′ .time)) (parts) (lengths) (rebuilt) (f′ .«session_id») (took .asked .first) (took .asked .second) (partOf (d) (took .body)))) (streams) (objects)) .rows .sessions) wlen-22-0 (said-22 .0) (λ len-22-sessions.
+        backs-mut ! tt (Array u64 8) b₁ o₁ (gatheredRows (touchedRows (sessions) (f′ .«session_id») (f′ .moment .time)) (parts) (lengths) (rebuilt) (f′ .«session_id») (took .asked .first) (took .asked .second) (partOf (d) (took .body))) n₁ (len-9-sessions) room₁ ν-22-sessions δ-22-sessions (ws-22 .0) (leftBy (rebuiltOf ((midOf 0 (rebuiltEnd n₇ (wholeLen (gathered (touchedRows (sessions) (f′ .«session_id») (f′ .moment .time)) (parts) (lengths) (rebuilt) (f′ .«session_id») (took .asked .first) (took .asked .second) (partOf (d) (took .body))))) (gatheredRebuilt (touchedRows (sessions) (f′ .«session_id») (f′ .moment .time)) (parts) (lengths) (rebuilt) (f′ .«session_id») (took .asked .first) (took .asked .second) (partOf (d) (took .body)))))) f′ (held) ((midOf 0 (rebuiltEnd n₇ (wholeLen (gathered (touchedRows (sessions) (f′ .«session_id») (f′ .moment .time)) (parts) (lengths) (rebuilt) (f′ .«session_id») (took .asked .first) (took .asked .second) (partOf (d) (took .body))))) (gatheredRebuilt (touchedRows (sessions) (f′ .«session_id») (f′ .moment .time)) (parts) (lengths) (rebuilt) (f′ .«session_id») (took .asked .first) (took .asked .second) (partOf (d) (took .body))))) (wholeLen (gathered (touchedRows (sessions) (f′ .«session_id») (f′ .moment .time)) (parts) (lengths) (rebuilt) (f′ .«session_id») (took .asked .first) (took .asked .second) (partOf (d) (took .body)))) r′ (took .at) (rows ((gatheredRows (touchedRows (sessions) (f′ .«session_id») (f′ .moment .time)) (parts) (lengths) (rebuilt) (f′ .«session_id») (took .asked .first) (took .asked .second) (partOf (d) (took .body)))) (streams) (objects)) .rows .sessions) wlen-22-0 (said-22 .0) (λ len-22-sessions.
         move ! (13 ∷ 18 ∷ 7 ∷ []) $
-        backs-mut ! tt (Array u16 35) b₂ o₂ streams n₂ (refl) room₂ ν-22-streams δ-22-streams (ws-22 .1 .0) (leftBy (rebuiltOf ((midOf 0 (rebuiltEnd n₇ (wholeLen (gathered (touchedRows (sessions) (f′ .«session_id») (f′ .time)) (parts) (lengths) (rebuilt) (f′ .«session_id») (took .asked .first) (took .asked .second) (partOf (d) (took .body))))) (gatheredRebuilt (touchedRows (sessions) (f′ .«session_id») (f′ .time)) (parts) (lengths) (rebuilt) (f′ .«session_id») (took .asked .first) (took .asked .second) (partOf (d) (took .body)))))) f′ (held) ((midOf 0 (rebuiltEnd n₇ (wholeLen (gathered (touchedRows (sessions) (f′ .«session_id») (f′ .time)) (parts) (lengths) (rebuilt) (f′ .«session_id») (took .asked .first) (took .asked .second) (partOf (d) (took .body))))) (gatheredRebuilt (touchedRows (sessions) (f′ .«session_id») (f′ .time)) (parts) (lengths) (rebuilt) (f′ .«session_id») (took .asked .first) (took .asked .second) (partOf (d) (took .body))))) (wholeLen (gathered (touchedRows (sessions) (f′ .«session_id») (f′ .time)) (parts) (lengths) (rebuilt) (f′ .«session_id») (took .asked .first) (took .asked .second) (partOf (d) (took .body)))) r′ (took .at) (rows ((gatheredRows (touchedRows (sessions) (f′ .«session_id») (f′ .time)) (parts) (lengths) (rebuilt) (f′ .«session_id») (took .asked .first) (took .asked .second) (partOf (d) (took .body)))) (streams) (objects)) .rows .streams) wlen-22-1 (said-22 .1) (λ len-22-streams.
+        backs-mut ! tt (Array u16 35) b₂ o₂ streams n₂ (refl) room₂ ν-22-streams δ-22-streams (ws-22 .1 .0) (leftBy (rebuiltOf ((midOf 0 (rebuiltEnd n₇ (wholeLen (gathered (touchedRows (sessions) (f′ .«session_id») (f′ .moment .time)) (parts) (lengths) (rebuilt) (f′ .«session_id») (took .asked .first) (took .asked .second) (partOf (d) (took .body))))) (gatheredRebuilt (touchedRows (sessions) (f′ .«session_id») (f′ .moment .time)) (parts) (lengths) (rebuilt) (f′ .«session_id») (took .asked .first) (took .asked .second) (partOf (d) (took .body)))))) f′ (held) ((midOf 0 (rebuiltEnd n₇ (wholeLen (gathered (touchedRows (sessions) (f′ .«session_id») (f′ .moment .time)) (parts) (lengths) (rebuilt) (f′ .«session_id») (took .asked .first) (took .asked .second) (partOf (d) (took .body))))) (gatheredRebuilt (touchedRows (sessions) (f′ .«session_id») (f′ .moment .time)) (parts) (lengths) (rebuilt) (f′ .«session_id») (took .asked .first) (took .asked .second) (partOf (d) (took .body))))) (wholeLen (gathered (touchedRows (sessions) (f′ .«session_id») (f′ .moment .time)) (parts) (lengths) (rebuilt) (f′ .«session_id») (took .asked .first) (took .asked .second) (partOf (d) (took .body)))) r′ (took .at) (rows ((gatheredRows (touchedRows (sessions) (f′ .«session_id») (f′ .moment .time)) (parts) (lengths) (rebuilt) (f′ .«session_id») (took .asked .first) (took .asked .second) (partOf (d) (took .body)))) (streams) (objects)) .rows .streams) wlen-22-1 (said-22 .1) (λ len-22-streams.
         move ! (13 ∷ 17 ∷ 8 ∷ []) $
-        backs-mut ! tt Object-t.the-row b₃ o₃ objects n₃ (refl) room₃ ν-22-objects δ-22-objects (ws-22 .1 .1 .0) (leftBy (rebuiltOf ((midOf 0 (rebuiltEnd n₇ (wholeLen (gathered (touchedRows (sessions) (f′ .«session_id») (f′ .time)) (parts) (lengths) (rebuilt) (f′ .«session_id») (took .asked .first) (took .asked .second) (partOf (d) (took .body))))) (gatheredRebuilt (touchedRows (sessions) (f′ .«session_id») (f′ .time)) (parts) (lengths) (rebuilt) (f′ .«session_id») (took .asked .first) (took .asked .second) (partOf (d) (took .body)))))) f′ (held) ((midOf 0 (rebuiltEnd n₇ (wholeLen (gathered (touchedRows (sessions) (f′ .«session_id») (f′ .time)) (parts) (lengths) (rebuilt) (f′ .«session_id») (took .asked .first) (took .asked .second) (partOf (d) (took .body))))) (gatheredRebuilt (touchedRows (sessions) (f′ .«session_id») (f′ .time)) (parts) (lengths) (rebuilt) (f′ .«session_id») (took .asked .first) (took .asked .second) (partOf (d) (took .body))))) (wholeLen (gathered (touchedRows (sessions) (f′ .«session_id») (f′ .time)) (parts) (lengths) (rebuilt) (f′ .«session_id») (took .asked .first) (took .asked .second) (partOf (d) (took .body)))) r′ (took .at) (rows ((gatheredRows (touchedRows (sessions) (f′ .«session_id») (f′ .time)) (parts) (lengths) (rebuilt) (f′ .«session_id») (took .asked .first) (took .asked .second) (partOf (d) (took .body)))) (streams) (objects)) .rows .objects) wlen-22-2 (said-22 .2) (λ len-22-objects.
+        backs-mut ! tt Object-t.the-row b₃ o₃ objects n₃ (refl) room₃ ν-22-objects δ-22-objects (ws-22 .1 .1 .0) (leftBy (rebuiltOf ((midOf 0 (rebuiltEnd n₇ (wholeLen (gathered (touchedRows (sessions) (f′ .«session_id») (f′ .moment .time)) (parts) (lengths) (rebuilt) (f′ .«session_id») (took .asked .first) (took .asked .second) (partOf (d) (took .body))))) (gatheredRebuilt (touchedRows (sessions) (f′ .«session_id») (f′ .moment .time)) (parts) (lengths) (rebuilt) (f′ .«session_id») (took .asked .first) (took .asked .second) (partOf (d) (took .body)))))) f′ (held) ((midOf 0 (rebuiltEnd n₇ (wholeLen (gathered (touchedRows (sessions) (f′ .«session_id») (f′ .moment .time)) (parts) (lengths) (rebuilt) (f′ .«session_id») (took .asked .first) (took .asked .second) (partOf (d) (took .body))))) (gatheredRebuilt (touchedRows (sessions) (f′ .«session_id») (f′ .moment .time)) (parts) (lengths) (rebuilt) (f′ .«session_id») (took .asked .first) (took .asked .second) (partOf (d) (took .body))))) (wholeLen (gathered (touchedRows (sessions) (f′ .«session_id») (f′ .moment .time)) (parts) (lengths) (rebuilt) (f′ .«session_id») (took .asked .first) (took .asked .second) (partOf (d) (took .body)))) r′ (took .at) (rows ((gatheredRows (touchedRows (sessions) (f′ .«session_id») (f′ .moment .time)) (parts) (lengths) (rebuilt) (f′ .«session_id») (took .asked .first) (took .asked .second) (partOf (d) (took .body)))) (streams) (objects)) .rows .objects) wlen-22-2 (said-22 .2) (λ len-22-objects.
         move ! (12 ∷ 15 ∷ 8 ∷ []) $
-        backs-mut ! tt u8 b₈ o₈ out n₈ (refl) room₈ ν-22-out δ-22-out (ws-22 .1 .1 .1 .1 .0) (putReplies (f′ .room) (out) (r′ .wrote) (leftBy (rebuiltOf ((midOf 0 (rebuiltEnd n₇ (wholeLen (gathered (touchedRows (sessions) (f′ .«session_id») (f′ .time)) (parts) (lengths) (rebuilt) (f′ .«session_id») (took .asked .first) (took .asked .second) (partOf (d) (took .body))))) (gatheredRebuilt (touchedRows (sessions) (f′ .«session_id») (f′ .time)) (parts) (lengths) (rebuilt) (f′ .«session_id») (took .asked .first) (took .asked .second) (partOf (d) (took .body)))))) f′ (held) ((midOf 0 (rebuiltEnd n₇ (wholeLen (gathered (touchedRows (sessions) (f′ .«session_id») (f′ .time)) (parts) (lengths) (rebuilt) (f′ .«session_id») (took .asked .first) (took .asked .second) (partOf (d) (took .body))))) (gatheredRebuilt (touchedRows (sessions) (f′ .«session_id») (f′ .time)) (parts) (lengths) (rebuilt) (f′ .«session_id») (took .asked .first) (took .asked .second) (partOf (d) (took .body))))) (wholeLen (gathered (touchedRows (sessions) (f′ .«session_id») (f′ .time)) (parts) (lengths) (rebuilt) (f′ .«session_id») (took .asked .first) (took .asked .second) (partOf (d) (took .body)))) r′ (took .at) (rows ((gatheredRows (touchedRows (sessions) (f′ .«session_id») (f′ .time)) (parts) (lengths) (rebuilt) (f′ .«session_id») (took .asked .first) (took .asked .second) (partOf (d) (took .body)))) (streams) (objects)) .replies)) wlen-22-4 (said-22 .3) (λ len-22-out.
+        backs-mut ! tt u8 b₈ o₈ out n₈ (refl) room₈ ν-22-out δ-22-out (ws-22 .1 .1 .1 .1 .0) (putReplies (f′ .room) (out) (r′ .wrote) (leftBy (rebuiltOf ((midOf 0 (rebuiltEnd n₇ (wholeLen (gathered (touchedRows (sessions) (f′ .«session_id») (f′ .moment .time)) (parts) (lengths) (rebuilt) (f′ .«session_id») (took .asked .first) (took .asked .second) (partOf (d) (took .body))))) (gatheredRebuilt (touchedRows (sessions) (f′ .«session_id») (f′ .moment .time)) (parts) (lengths) (rebuilt) (f′ .«session_id») (took .asked .first) (took .asked .second) (partOf (d) (took .body)))))) f′ (held) ((midOf 0 (rebuiltEnd n₇ (wholeLen (gathered (touchedRows (sessions) (f′ .«session_id») (f′ .moment .time)) (parts) (lengths) (rebuilt) (f′ .«session_id») (took .asked .first) (took .asked .second) (partOf (d) (took .body))))) (gatheredRebuilt (touchedRows (sessions) (f′ .«session_id») (f′ .moment .time)) (parts) (lengths) (rebuilt) (f′ .«session_id») (took .asked .first) (took .asked .second) (partOf (d) (took .body))))) (wholeLen (gathered (touchedRows (sessions) (f′ .«session_id») (f′ .moment .time)) (parts) (lengths) (rebuilt) (f′ .«session_id») (took .asked .first) (took .asked .second) (partOf (d) (took .body)))) r′ (took .at) (rows ((gatheredRows (touchedRows (sessions) (f′ .«session_id») (f′ .moment .time)) (parts) (lengths) (rebuilt) (f′ .«session_id») (took .asked .first) (took .asked .second) (partOf (d) (took .body)))) (streams) (objects)) .replies)) wlen-22-4 (said-22 .3) (λ len-22-out.
         move ! (11 ∷ 14 ∷ []) $
-        backs-view ! tt u8 b₇ o₇ (gatheredRebuilt (touchedRows (sessions) (f′ .«session_id») (f′ .time)) (parts) (lengths) (rebuilt) (f′ .«session_id») (took .asked .first) (took .asked .second) (partOf (d) (took .body))) n₇ (len-9-rebuilt) ν-22-rebuilt $ move ! (10 ∷ []) $ drop ! $ move ! (10 ∷ []) $ drop ! $ move ! (10 ∷ []) $ drop ! $ move ! (10 ∷ []) $ drop ! $
-        land ! (from ! (stop !)) (init ! 84 refl (Ran-p .typed 𝓤 H A W (leftBy (rebuiltOf ((midOf 0 (rebuiltEnd n₇ (wholeLen (gathered (touchedRows (sessions) (f′ .«session_id») (f′ .time)) (parts) (lengths) (rebuilt) (f′ .«session_id») (took .asked .first) (took .asked .second) (partOf (d) (took .body))))) (gatheredRebuilt (touchedRows (sessions) (f′ .«session_id») (f′ .time)) (parts) (lengths) (rebuilt) (f′ .«session_id») (took .asked .first) (took .asked .second) (partOf (d) (took .body)))))) f′ (held) ((midOf 0 (rebuiltEnd n₇ (wholeLen (gathered (touchedRows (sessions) (f′ .«session_id») (f′ .time)) (parts) (lengths) (rebuilt) (f′ .«session_id») (took .asked .first) (took .asked .second) (partOf (d) (took .body))))) (gatheredRebuilt (touchedRows (sessions) (f′ .«session_id») (f′ .time)) (parts) (lengths) (rebuilt) (f′ .«session_id») (took .asked .first) (took .asked .second) (partOf (d) (took .body))))) (wholeLen (gathered (touchedRows (sessions) (f′ .«session_id») (f′ .time)) (parts) (lengths) (rebuilt) (f′ .«session_id») (took .asked .first) (took .asked .second) (partOf (d) (took .body)))) r′ (took .at) (rows ((gatheredRows (touchedRows (sessions) (f′ .«session_id») (f′ .time)) (parts) (lengths) (rebuilt) (f′ .«session_id») (took .asked .first) (took .asked .second) (partOf (d) (took .body)))) (streams) (objects)) .ran) is-22)) $ move ! (8 ∷ 9 ∷ 6 ∷ 7 ∷ 4 ∷ 5 ∷ 11 ∷ 10 ∷ 12 ∷ 13 ∷ 14 ∷ 15 ∷ 0 ∷ 1 ∷ 2 ∷ 3 ∷ 16 ∷ 17 ∷ 18 ∷ 19 ∷ 20 ∷ 21 ∷ 22 ∷ 23 ∷ 24 ∷ 25 ∷ 26 ∷ 27 ∷ 28 ∷ 29 ∷ 30 ∷ 31 ∷ 32 ∷ 33 ∷ 34 ∷ 35 ∷ 36 ∷ 37 ∷ 38 ∷ 39 ∷ 40 ∷ 41 ∷ 42 ∷ 43 ∷ 44 ∷ 45 ∷ 46 ∷ 47 ∷ 48 ∷ 49 ∷ 50 ∷ 51 ∷ 52 ∷ 53 ∷ 54 ∷ 55 ∷ 56 ∷ 57 ∷ 58 ∷ 59 ∷ 60 ∷ 61 ∷ 62 ∷ 63 ∷ 64 ∷ 65 ∷ 66 ∷ 67 ∷ 68 ∷ 69 ∷ 70 ∷ 71 ∷ 72 ∷ 73 ∷ 74 ∷ 75 ∷ 76 ∷ 77 ∷ 78 ∷ 79 ∷ 80 ∷ 81 ∷ 82 ∷ 83 ∷ 84 ∷ 85 ∷ []) $
+        backs-view ! tt u8 b₇ o₇ (gatheredRebuilt (touchedRows (sessions) (f′ .«session_id») (f′ .moment .time)) (parts) (lengths) (rebuilt) (f′ .«session_id») (took .asked .first) (took .asked .second) (partOf (d) (took .body))) n₇ (len-9-rebuilt) ν-22-rebuilt $ move ! (10 ∷ []) $ drop ! $ move ! (10 ∷ []) $ drop ! $ move ! (10 ∷ []) $ drop ! $ move ! (10 ∷ []) $ drop ! $
+        land ! (from ! (stop !)) (init ! 84 refl (Ran-p .typed 𝓤 H A W (leftBy (rebuiltOf ((midOf 0 (rebuiltEnd n₇ (wholeLen (gathered (touchedRows (sessions) (f′ .«session_id») (f′ .moment .time)) (parts) (lengths) (rebuilt) (f′ .«session_id») (took .asked .first) (took .asked .second) (partOf (d) (took .body))))) (gatheredRebuilt (touchedRows (sessions) (f′ .«session_id») (f′ .moment .time)) (parts) (lengths) (rebuilt) (f′ .«session_id») (took .asked .first) (took .asked .second) (partOf (d) (took .body)))))) f′ (held) ((midOf 0 (rebuiltEnd n₇ (wholeLen (gathered (touchedRows (sessions) (f′ .«session_id») (f′ .moment .time)) (parts) (lengths) (rebuilt) (f′ .«session_id») (took .asked .first) (took .asked .second) (partOf (d) (took .body))))) (gatheredRebuilt (touchedRows (sessions) (f′ .«session_id») (f′ .moment .time)) (parts) (lengths) (rebuilt) (f′ .«session_id») (took .asked .first) (took .asked .second) (partOf (d) (took .body))))) (wholeLen (gathered (touchedRows (sessions) (f′ .«session_id») (f′ .moment .time)) (parts) (lengths) (rebuilt) (f′ .«session_id») (took .asked .first) (took .asked .second) (partOf (d) (took .body)))) r′ (took .at) (rows ((gatheredRows (touchedRows (sessions) (f′ .«session_id») (f′ .moment .time)) (parts) (lengths) (rebuilt) (f′ .«session_id») (took .asked .first) (took .asked .second) (partOf (d) (took .body)))) (streams) (objects)) .ran) is-22)) $ move ! (8 ∷ 9 ∷ 6 ∷ 7 ∷ 4 ∷ 5 ∷ 11 ∷ 10 ∷ 12 ∷ 13 ∷ 14 ∷ 15 ∷ 0 ∷ 1 ∷ 2 ∷ 3 ∷ 16 ∷ 17 ∷ 18 ∷ 19 ∷ 20 ∷ 21 ∷ 22 ∷ 23 ∷ 24 ∷ 25 ∷ 26 ∷ 27 ∷ 28 ∷ 29 ∷ 30 ∷ 31 ∷ 32 ∷ 33 ∷ 34 ∷ 35 ∷ 36 ∷ 37 ∷ 38 ∷ 39 ∷ 40 ∷ 41 ∷ 42 ∷ 43 ∷ 44 ∷ 45 ∷ 46 ∷ 47 ∷ 48 ∷ 49 ∷ 50 ∷ 51 ∷ 52 ∷ 53 ∷ 54 ∷ 55 ∷ 56 ∷ 57 ∷ 58 ∷ 59 ∷ 60 ∷ 61 ∷ 62 ∷ 63 ∷ 64 ∷ 65 ∷ 66 ∷ 67 ∷ 68 ∷ 69 ∷ 70 ∷ 71 ∷ 72 ∷ 73 ∷ 74 ∷ 75 ∷ 76 ∷ 77 ∷ 78 ∷ 79 ∷ 80 ∷ 81 ∷ 82 ∷ 83 ∷ 84 ∷ 85 ∷ []) $
         part-23-0 len-9-sessions len-9-parts len-9-lengths len-9-rebuilt is-9 is-11 part-22-rebuilt ppart-22-rebuilt asks-22 len-22-sessions len-22-streams len-22-objects len-22-out is-22))))))))))))))))))
 
-    part-10-0 : (len-9-sessions : length (gatheredRows (touchedRows (sessions) (f′ .«session_id») (f′ .time)) (parts) (lengths) (rebuilt) (f′ .«session_id») (took .asked .first) (took .asked .second) (partOf (d) (took .body))) ≡ n₁) → (len-9-parts : length (gatheredParts (touchedRows (sessions) (f′ .«session_id») (f′ .time)) (parts) (lengths) (f′ .«session_id») (took .asked .first) (took .asked .second) (partOf (d) (took .body))) ≡ n₅) → (len-9-lengths : length (gatheredLengths (touchedRows (sessions) (f′ .«session_id») (f′ .time)) (parts) (lengths) (f′ .«session_id») (took .asked .first) (took .asked .second) (partOf (d) (took .body))) ≡ n₆) → (len-9-rebuilt : length (gatheredRebuilt (touchedRows (sessions) (f′ .«session_id») (f′ .time)) (parts) (lengths) (rebuilt) (f′ .«session_id») (took .asked .first) (took .asked .second) (partOf (d) (took .body))) ≡ n₇) → (is-9 : Is (u64-p .row) (wholeLen (gathered (touchedRows (sessions) (f′ .«session_id») (f′ .time)) (parts) (lengths) (rebuilt) (f′ .«session_id») (took .asked .first) (took .asked .second) (partOf (d) (took .body)))) (u64-p .val (wholeLen (gathered (touchedRows (sessions) (f′ .«session_id») (f′ .time)) (parts) (lengths) (rebuilt) (f′ .«session_id») (took .asked .first) (took .asked .second) (partOf (d) (took .body)))) ∷ [])) → Sq W (‵ (MutSlice (named 0) κ₁ (Array u64 8) .own (at-list b₁ o₁ γ₁ (gatheredRows (touchedRows (sessions) (f′ .«session_id») (f′ .time)) (parts) (lengths) (rebuilt) (f′ .«session_id») (took .asked .first) (took .asked .second) (partOf (d) (took .body)))) (sliceVal (b₁, o₁) n₁ ∷ [])) ∷ ‵ (flft κ₁ q₁) ∷ ‵ (MutSlice (named 0) κ₂ (Array u16 35) .own (at-list b₂ o₂ γ₂ streams) (sliceVal (b₂, o₂) n₂ ∷ [])) ∷ ‵ (flft κ₂ q₂) ∷ ‵ (MutSlice (named 0) κ₃ Object-t.the-row .own (at-list b₃ o₃ γ₃ objects) (sliceVal (b₃, o₃) n₃ ∷ [])) ∷ ‵ (flft κ₃ q₃) ∷ ‵ (ShrSlice (named 0) κ₄ u8 .own (at-list b₄ o₄ γ₄ held) (sliceVal (b₄, o₄) n₄ ∷ [])) ∷ ‵ (flft κ₄ q₄) ∷ ‵ (MutSlice (named 0) κ₅ u8 .own (at-list b₅ o₅ γ₅ (gatheredParts (touchedRows (sessions) (f′ .«session_id») (f′ .time)) (parts) (lengths) (f′ .«session_id») (took .asked .first) (took .asked .second) (partOf (d) (took .body)))) (sliceVal (b₅, o₅) n₅ ∷ [])) ∷ ‵ (flft κ₅ q₅) ∷ ‵ (MutSlice (named 0) κ₆ u32 .own (at-list b₆ o₆ γ₆ (gatheredLengths (touchedRows (sessions) (f′ .«session_id») (f′ .time)) (parts) (lengths) (f′ .«session_id») (took .asked .first) (took .asked .second) (partOf (d) (took .body)))) (sliceVal (b₆, o₆) n₆ ∷ [])) ∷ ‵ (flft κ₆ q₆) ∷ ‵ (MutSlice (named 0) κ₇ u8 .own (at-list b₇ o₇ γ₇ (gatheredRebuilt (touchedRows (sessions) (f′ .«session_id») (f′ .time)) (parts) (lengths) (rebuilt) (f′ .«session_id») (took .asked .first) (took .asked .second) (partOf (d) (took .body)))) (sliceVal (b₇, o₇) n₇ ∷ [])) ∷ ‵ (flft κ₇ q₇) ∷ ‵ (MutSlice (named 0) κ₈ u8 .own (at-list b₈ o₈ γ₈ out) (sliceVal (b₈, o₈) n₈ ∷ [])) ∷ ‵ (flft κ₈ q₈) ∷ ‵ (ShrSlice (named 0) κ₉ u8 .own (at-list b₉ o₉ γ₉ d) (sliceVal (b₉, o₉) n₉ ∷ [])) ∷ ‵ (flft κ₉ q₉) ∷ free 𝓤 (sliceTy (tyRef erased imm (pointee (u8 .written)))) l₃₃ (free 𝓤 (tyRef erased imm (pointee (u8 .written))) l₃₂ (free 𝓤 (sliceTy (tyRef erased mut (pointee (u8 .written)))) l₃₁ (free 𝓤 (tyRef erased mut (pointee (u8 .written))) l₃₀ (free 𝓤 (sliceTy (tyRef erased mut (pointee (Object-t.the-row .written)))) l₂₉ (free 𝓤 (tyRef erased mut (pointee (Object-t.the-row .written))) l₂₈ (free 𝓤 (sliceTy (tyRef erased mut (pointee ((Array u16 35) .written)))) l₂₇ (free 𝓤 (tyRef erased mut (pointee ((Array u16 35) .written))) l₂₆ (free 𝓤 (sliceTy (tyRef erased mut (pointee ((Array u64 8) .written)))) l₂₅ (free 𝓤 (tyRef erased mut (pointee ((Array u64 8) .written))) l₂₄ (free 𝓤 (tyInt w64) l₂₃ (full 𝓤 (sliceTy (tyRef erased mut (pointee (u8 .written)))) l₂₂ (sliceVal (b₇, o₇) n₇) (full 𝓤 (tyRef erased mut (pointee (u8 .written))) l₂₁ (vptr b₇ o₇) (full 𝓤 (sliceTy (tyRef erased mut (pointee (u32 .written)))) l₂₀ (sliceVal (b₆, o₆) n₆) (full 𝓤 (tyRef erased mut (pointee (u32 .written))) l₁₉ (vptr b₆ o₆) (full 𝓤 (sliceTy (tyRef erased mut (pointee (u8 .written)))) l₁₈ (sliceVal (b₅, o₅) n₅) (full 𝓤 (tyRef erased mut (pointee (u8 .written))) l₁₇ (vptr b₅ o₅) (full 𝓤 (sliceTy (tyRef erased mut (pointee ((Array u64 8) .written)))) l₁₆ (sliceVal (b₁, o₁) n₁) (full 𝓤 (tyRef erased mut (pointee ((Array u64 8) .written))) l₁₅ (vptr b₁ o₁) (free 𝓤 (tyInt w64) l₁₄ (full 𝓤 (tyInt w64) l₁₃ (u64-p .val (wholeLen (gathered (touchedRows (sessions) (f′ .«session_id») (f′ .time)) (parts) (lengths) (rebuilt) (f′ .«session_id») (took .asked .first) (took .asked .second) (partOf (d) (took .body))))) (full 𝓤 Taken-l.mir l₁₂ (Taken-p .val took) (full 𝓤 Ran-l.mir l₁₁ (Ran-p .val r′) (full 𝓤 Frame-l.mir l₁₀ (Frame-p .val f′) (full 𝓤 (sliceTy (tyRef (named 8) imm (pointee (u8 .written)))) l₉ (sliceVal (b₉, o₉) n₉) (full 𝓤 (sliceTy (tyRef (named 7) mut (pointee (u8 .written)))) l₈ (sliceVal (b₈, o₈) n₈) (full 𝓤 (sliceTy (tyRef (named 6) mut (pointee (u8 .written)))) l₇ (sliceVal (b₇, o₇) n₇) (full 𝓤 (sliceTy (tyRef (named 5) mut (pointee (u32 .written)))) l₆ (sliceVal (b₆, o₆) n₆) (full 𝓤 (sliceTy (tyRef (named 4) mut (pointee (u8 .written)))) l₅ (sliceVal (b₅, o₅) n₅) (full 𝓤 (sliceTy (tyRef (named 3) imm (pointee (u8 .written)))) l₄ (sliceVal (b₄, o₄) n₄) (full 𝓤 (sliceTy (tyRef (named 2) mut (pointee (Object-t.the-row .written)))) l₃ (sliceVal (b₃, o₃) n₃) (full 𝓤 (sliceTy (tyRef (named 1) mut (pointee ((Array u16 35) .written)))) l₂ (sliceVal (b₂, o₂) n₂) (full 𝓤 (sliceTy (tyRef (named 0) mut (pointee ((Array u64 8) .written)))) l₁ (sliceVal (b₁, o₁) n₁) (free 𝓤 Ran-l.mir l₀ ([]))))))))))))))))))))))))))))))))))) (runs C Λ En mir.t-10 (atRet En Post))
+    part-10-0 : (len-9-sessions : length (gatheredRows (touchedRows (sessions) (f′ .«session_id») (f′ .moment .time)) (parts) (lengths) (rebuilt) (f′ .«session_id») (took .asked .first) (took .asked .second) (partOf (d) (took .body))) ≡ n₁) → (len-9-parts : length (gatheredParts (touchedRows (sessions) (f′ .«session_id») (f′ .moment .time)) (parts) (lengths) (f′ .«session_id») (took .asked .first) (took .asked .second) (partOf (d) (took .body))) ≡ n₅) → (len-9-lengths : length (gatheredLengths (touchedRows (sessions) (f′ .«session_id») (f′ .moment .time)) (parts) (lengths) (f′ .«session_id») (took .asked .first) (took .asked .second) (partOf (d) (took .body))) ≡ n₆) → (len-9-rebuilt : length (gatheredRebuilt (touchedRows (sessions) (f′ .«session_id») (f′ .moment .time)) (parts) (lengths) (rebuilt) (f′ .«session_id») (took .asked .first) (took .asked .second) (partOf (d) (took .body))) ≡ n₇) → (is-9 : Is (u64-p .row) (wholeLen (gathered (touchedRows (sessions) (f′ .«session_id») (f′ .moment .time)) (parts) (lengths) (rebuilt) (f′ .«session_id») (took .asked .first) (took .asked .second) (partOf (d) (took .body)))) (u64-p .val (wholeLen (gathered (touchedRows (sessions) (f′ .«session_id») (f′ .moment .time)) (parts) (lengths) (rebuilt) (f′ .«session_id») (took .asked .first) (took .asked .second) (partOf (d) (took .body)))) ∷ [])) → Sq W (‵ (MutSlice (named 0) κ₁ (Array u64 8) .own (at-list b₁ o₁ γ₁ (gatheredRows (touchedRows (sessions) (f′ .«session_id») (f′ .moment .time)) (parts) (lengths) (rebuilt) (f′ .«session_id») (took .asked .first) (took .asked .second) (partOf (d) (took .body)))) (sliceVal (b₁, o₁) n₁ ∷ [])) ∷ ‵ (flft κ₁ q₁) ∷ ‵ (MutSlice (named 0) κ₂ (Array u16 35) .own (at-list b₂ o₂ γ₂ streams) (sliceVal (b₂, o₂) n₂ ∷ [])) ∷ ‵ (flft κ₂ q₂) ∷ ‵ (MutSlice (named 0) κ₃ Object-t.the-row .own (at-list b₃ o₃ γ₃ objects) (sliceVal (b₃, o₃) n₃ ∷ [])) ∷ ‵ (flft κ₃ q₃) ∷ ‵ (ShrSlice (named 0) κ₄ u8 .own (at-list b₄ o₄ γ₄ held) (sliceVal (b₄, o₄) n₄ ∷ [])) ∷ ‵ (flft κ₄ q₄) ∷ ‵ (MutSlice (named 0) κ₅ u8 .own (at-list b₅ o₅ γ₅ (gatheredParts (touchedRows (sessions) (f′ .«session_id») (f′ .moment .time)) (parts) (lengths) (f′ .«session_id») (took .asked .first) (took .asked .second) (partOf (d) (took .body)))) (sliceVal (b₅, o₅) n₅ ∷ [])) ∷ ‵ (flft κ₅ q₅) ∷ ‵ (MutSlice (named 0) κ₆ u32 .own (at-list b₆ o₆ γ₆ (gatheredLengths (touchedRows (sessions) (f′ .«session_id») (f′ .moment .time)) (parts) (lengths) (f′ .«session_id») (took .asked .first) (took .asked .second) (partOf (d) (took .body)))) (sliceVal (b₆, o₆) n₆ ∷ [])) ∷ ‵ (flft κ₆ q₆) ∷ ‵ (MutSlice (named 0) κ₇ u8 .own (at-list b₇ o₇ γ₇ (gatheredRebuilt (touchedRows (sessions) (f′ .«session_id») (f′ .moment .time)) (parts) (lengths) (rebuilt) (f′ .«session_id») (took .asked .first) (took .asked .second) (partOf (d) (took .body)))) (sliceVal (b₇, o₇) n₇ ∷ [])) ∷ ‵ (flft κ₇ q₇) ∷ ‵ (MutSlice (named 0) κ₈ u8 .own (at-list b₈ o₈ γ₈ out) (sliceVal (b₈, o₈) n₈ ∷ [])) ∷ ‵ (flft κ₈ q₈) ∷ ‵ (ShrSlice (named 0) κ₉ u8 .own (at-list b₉ o₉ γ₉ d) (sliceVal (b₉, o₉) n₉ ∷ [])) ∷ ‵ (flft κ₉ q₉) ∷ free 𝓤 (sliceTy (tyRef erased imm (pointee (u8 .written)))) l₃₃ (free 𝓤 (tyRef erased imm (pointee (u8 .written))) l₃₂ (free 𝓤 (sliceTy (tyRef erased mut (pointee (u8 .written)))) l₃₁ (free 𝓤 (tyRef erased mut (pointee (u8 .written))) l₃₀ (free 𝓤 (sliceTy (tyRef erased mut (pointee (Object-t.the-row .written)))) l₂₉ (free 𝓤 (tyRef erased mut (pointee (Object-t.the-row .written))) l₂₈ (free 𝓤 (sliceTy (tyRef erased mut (pointee ((Array u16 35) .written)))) l₂₇ (free 𝓤 (tyRef erased mut (pointee ((Array u16 35) .written))) l₂₆ (free 𝓤 (sliceTy (tyRef erased mut (pointee ((Array u64 8) .written)))) l₂₅ (free 𝓤 (tyRef erased mut (pointee ((Array u64 8) .written))) l₂₄ (free 𝓤 (tyInt w64) l₂₃ (full 𝓤 (sliceTy (tyRef erased mut (pointee (u8 .written)))) l₂₂ (sliceVal (b₇, o₇) n₇) (full 𝓤 (tyRef erased mut (pointee (u8 .written))) l₂₁ (vptr b₇ o₇) (full 𝓤 (sliceTy (tyRef erased mut (pointee (u32 .written)))) l₂₀ (sliceVal (b₆, o₆) n₆) (full 𝓤 (tyRef erased mut (pointee (u32 .written))) l₁₉ (vptr b₆ o₆) (full 𝓤 (sliceTy (tyRef erased mut (pointee (u8 .written)))) l₁₈ (sliceVal (b₅, o₅) n₅) (full 𝓤 (tyRef erased mut (pointee (u8 .written))) l₁₇ (vptr b₅ o₅) (full 𝓤 (sliceTy (tyRef erased mut (pointee ((Array u64 8) .written)))) l₁₆ (sliceVal (b₁, o₁) n₁) (full 𝓤 (tyRef erased mut (pointee ((Array u64 8) .written))) l₁₅ (vptr b₁ o₁) (free 𝓤 (tyInt w64) l₁₄ (full 𝓤 (tyInt w64) l₁₃ (u64-p .val (wholeLen (gathered (touchedRows (sessions) (f′ .«session_id») (f′ .moment .time)) (parts) (lengths) (rebuilt) (f′ .«session_id») (took .asked .first) (took .asked .second) (partOf (d) (took .body))))) (full 𝓤 Taken-l.mir l₁₂ (Taken-p .val took) (full 𝓤 Ran-l.mir l₁₁ (Ran-p .val r′) (full 𝓤 Frame-l.mir l₁₀ (Frame-p .val f′) (full 𝓤 (sliceTy (tyRef (named 8) imm (pointee (u8 .written)))) l₉ (sliceVal (b₉, o₉) n₉) (full 𝓤 (sliceTy (tyRef (named 7) mut (pointee (u8 .written)))) l₈ (sliceVal (b₈, o₈) n₈) (full 𝓤 (sliceTy (tyRef (named 6) mut (pointee (u8 .written)))) l₇ (sliceVal (b₇, o₇) n₇) (full 𝓤 (sliceTy (tyRef (named 5) mut (pointee (u32 .written)))) l₆ (sliceVal (b₆, o₆) n₆) (full 𝓤 (sliceTy (tyRef (named 4) mut (pointee (u8 .written)))) l₅ (sliceVal (b₅, o₅) n₅) (full 𝓤 (sliceTy (tyRef (named 3) imm (pointee (u8 .written)))) l₄ (sliceVal (b₄, o₄) n₄) (full 𝓤 (sliceTy (tyRef (named 2) mut (pointee (Object-t.the-row .written)))) l₃ (sliceVal (b₃, o₃) n₃) (full 𝓤 (sliceTy (tyRef (named 1) mut (pointee ((Array u16 35) .written)))) l₂ (sliceVal (b₂, o₂) n₂) (full 𝓤 (sliceTy (tyRef (named 0) mut (pointee ((Array u64 8) .written)))) l₁ (sliceVal (b₁, o₁) n₁) (free 𝓤 Ran-l.mir l₀ ([]))))))))))))))))))))))))))))))))))) (runs C Λ En mir.t-10 (atRet En Post))
     part-10-0 len-9-sessions len-9-parts len-9-lengths len-9-rebuilt is-9 =
         assigns ! (of-opd ! (load ! (from ! (fld ! refl (stop !))) (look-in ! 70 (sub ! 1 refl (whole !))))) (from ! (stop !)) (init ! 38 refl (u64-p .typed 𝓤 H A W n₇ ((refl, room₇ .0)))) $
         -- 11: agent::fragments::rebuilt_end
         nothing ! $
         use1 W (raw (toks 𝓤 A 0 (tt) (tt))) (id⊢ 𝓤 _) $ nothing ! $
-        owned ! (u64-p .row) (Is (u64-p .row)) (u64-p .makes 𝓤 H A W) (wholeLen (gathered (touchedRows (sessions) (f′ .«session_id») (f′ .time)) (parts) (lengths) (rebuilt) (f′ .«session_id») (took .asked .first) (took .asked .second) (partOf (d) (took .body)))) (u64-p .val (wholeLen (gathered (touchedRows (sessions) (f′ .«session_id») (f′ .time)) (parts) (lengths) (rebuilt) (f′ .«session_id») (took .asked .first) (took .asked .second) (partOf (d) (took .body)))) ∷ []) is-9 $ fjoin ! $
+        owned ! (u64-p .row) (Is (u64-p .row)) (u64-p .makes 𝓤 H A W) (wholeLen (gathered (touchedRows (sessions) (f′ .«session_id») (f′ .moment .time)) (parts) (lengths) (rebuilt) (f′ .«session_id») (took .asked .first) (took .asked .second) (partOf (d) (took .body)))) (u64-p .val (wholeLen (gathered (touchedRows (sessions) (f′ .«session_id») (f′ .moment .time)) (parts) (lengths) (rebuilt) (f′ .«session_id») (took .asked .first) (took .asked .second) (partOf (d) (took .body)))) ∷ []) is-9 $ fjoin ! $
         owned ! (u64-p .row) (Is (u64-p .row)) (u64-p .makes 𝓤 H A W) n₇ (u64-p .val n₇ ∷ []) ((refl, room₇ .0)) $ fjoin ! $ move ! (1 ∷ 0 ∷ []) $
-        calls-any ! fm 0 [] (fragments-rebuilt-end.signature .params) (fragments-rebuilt-end.ended .kept) u64-p (fragments-rebuilt-end.clauses 𝓤 H A mem run) known-fragments-rebuilt-end tt tt tt (n₇, (wholeLen (gathered (touchedRows (sessions) (f′ .«session_id») (f′ .time)) (parts) (lengths) (rebuilt) (f′ .«session_id») (took .asked .first) (took .asked .second) (partOf (d) (took .body))), tt)) (u64-p .val n₇ ∷ [], (u64-p .val (wholeLen (gathered (touchedRows (sessions) (f′ .«session_id») (f′ .time)) (parts) (lengths) (rebuilt) (f′ .«session_id») (took .asked .first) (took .asked .second) (partOf (d) (took .body)))) ∷ [], tt)) tt (rebuiltEnd n₇ (wholeLen (gathered (touchedRows (sessions) (f′ .«session_id») (f′ .time)) (parts) (lengths) (rebuilt) (f′ .«session_id») (took .asked .first) (took .asked .second) (partOf (d) (took .body))))) (λ ws-11. Unit {0}) (id⊢ 𝓤 _) (λ r ws-11. fact-mono 𝓤 (r ≡ rebuiltEnd n₇ (wholeLen (gathered (touchedRows (sessions) (f′ .«session_id») (f′ .time)) (parts) (lengths) (rebuilt) (f′ .«session_id») (took .asked .first) (took .asked .second) (partOf (d) (took .body))))) ((r ≡ (rebuiltEnd n₇ (wholeLen (gathered (touchedRows (sessions) (f′ .«session_id») (f′ .time)) (parts) (lengths) (rebuilt) (f′ .«session_id») (took .asked .first) (took .asked .second) (partOf (d) (took .body)))))) × (Unit {0})) (λ e. (e, tt))) (λ _. (and-then ! (load ! (from ! (stop !)) (look ! 39 refl)) (and-then ! (load ! (from ! (stop !)) (look ! 59 refl)) (no-more !)))) (λ ws-11 said-11 is-11.
+        calls-any ! fm 0 [] (fragments-rebuilt-end.signature .params) (fragments-rebuilt-end.ended .kept) u64-p (fragments-rebuilt-end.clauses 𝓤 H A mem run) known-fragments-rebuilt-end tt tt tt (n₇, (wholeLen (gathered (touchedRows (sessions) (f′ .«session_id») (f′ .moment .time)) (parts) (lengths) (rebuilt) (f′ .«session_id») (took .asked .first) (took .asked .second) (partOf (d) (took .body))), tt)) (u64-p .val n₇ ∷ [], (u64-p .val (wholeLen (gathered (touchedRows (sessions) (f′ .«session_id») (f′ .moment .time)) (parts) (lengths) (rebuilt) (f′ .«session_id») (took .asked .first) (took .asked .second) (partOf (d) (took .body)))) ∷ [], tt)) tt (rebuiltEnd n₇ (wholeLen (gathered (touchedRows (sessions) (f′ .«session_id») (f′ .moment .time)) (parts) (lengths) (rebuilt) (f′ .«session_id») (took .asked .first) (took .asked .second) (partOf (d) (took .body))))) (λ ws-11. Unit {0}) (id⊢ 𝓤 _) (λ r ws-11. fact-mono 𝓤 (r ≡ rebuiltEnd n₇ (wholeLen (gathered (touchedRows (sessions) (f′ .«session_id») (f′ .moment .time)) (parts) (lengths) (rebuilt) (f′ .«session_id») (took .asked .first) (took .asked .second) (partOf (d) (took .body))))) ((r ≡ (rebuiltEnd n₇ (wholeLen (gathered (touchedRows (sessions) (f′ .«session_id») (f′ .moment .time)) (parts) (lengths) (rebuilt) (f′ .«session_id») (took .asked .first) (took .asked .second) (partOf (d) (took .body)))))) × (Unit {0})) (λ e. (e, tt))) (λ _. (and-then ! (load ! (from ! (stop !)) (look ! 39 refl)) (and-then ! (load ! (from ! (stop !)) (look ! 59 refl)) (no-more !)))) (λ ws-11 said-11 is-11.
         drop ! $ drop ! $
-        land ! (from ! (stop !)) (init ! 56 refl (u64-p .typed 𝓤 H A W (rebuiltEnd n₇ (wholeLen (gathered (touchedRows (sessions) (f′ .«session_id») (f′ .time)) (parts) (lengths) (rebuilt) (f′ .«session_id») (took .asked .first) (took .asked .second) (partOf (d) (took .body))))) is-11)) $
+        land ! (from ! (stop !)) (init ! 56 refl (u64-p .typed 𝓤 H A W (rebuiltEnd n₇ (wholeLen (gathered (touchedRows (sessions) (f′ .«session_id») (f′ .moment .time)) (parts) (lengths) (rebuilt) (f′ .«session_id») (took .asked .first) (took .asked .second) (partOf (d) (took .body))))) is-11)) $
         part-12-0 len-9-sessions len-9-parts len-9-lengths len-9-rebuilt is-9 is-11)
 
     begins : Sq W (‵ (MutSlice (named 0) κ₁ (Array u64 8) .own (at-list b₁ o₁ γ₁ sessions) (sliceVal (b₁, o₁) n₁ ∷ [])) ∷ ‵ (flft κ₁ q₁) ∷ ‵ (MutSlice (named 0) κ₂ (Array u16 35) .own (at-list b₂ o₂ γ₂ streams) (sliceVal (b₂, o₂) n₂ ∷ [])) ∷ ‵ (flft κ₂ q₂) ∷ ‵ (MutSlice (named 0) κ₃ Object-t.the-row .own (at-list b₃ o₃ γ₃ objects) (sliceVal (b₃, o₃) n₃ ∷ [])) ∷ ‵ (flft κ₃ q₃) ∷ ‵ (ShrSlice (named 0) κ₄ u8 .own (at-list b₄ o₄ γ₄ held) (sliceVal (b₄, o₄) n₄ ∷ [])) ∷ ‵ (flft κ₄ q₄) ∷ ‵ (MutSlice (named 0) κ₅ u8 .own (at-list b₅ o₅ γ₅ parts) (sliceVal (b₅, o₅) n₅ ∷ [])) ∷ ‵ (flft κ₅ q₅) ∷ ‵ (MutSlice (named 0) κ₆ u32 .own (at-list b₆ o₆ γ₆ lengths) (sliceVal (b₆, o₆) n₆ ∷ [])) ∷ ‵ (flft κ₆ q₆) ∷ ‵ (MutSlice (named 0) κ₇ u8 .own (at-list b₇ o₇ γ₇ rebuilt) (sliceVal (b₇, o₇) n₇ ∷ [])) ∷ ‵ (flft κ₇ q₇) ∷ ‵ (MutSlice (named 0) κ₈ u8 .own (at-list b₈ o₈ γ₈ out) (sliceVal (b₈, o₈) n₈ ∷ [])) ∷ ‵ (flft κ₈ q₈) ∷ ‵ (ShrSlice (named 0) κ₉ u8 .own (at-list b₉ o₉ γ₉ d) (sliceVal (b₉, o₉) n₉ ∷ [])) ∷ ‵ (flft κ₉ q₉) ∷ free 𝓤 (sliceTy (tyRef erased imm (pointee (u8 .written)))) l₃₃ (free 𝓤 (tyRef erased imm (pointee (u8 .written))) l₃₂ (free 𝓤 (sliceTy (tyRef erased mut (pointee (u8 .written)))) l₃₁ (free 𝓤 (tyRef erased mut (pointee (u8 .written))) l₃₀ (free 𝓤 (sliceTy (tyRef erased mut (pointee (Object-t.the-row .written)))) l₂₉ (free 𝓤 (tyRef erased mut (pointee (Object-t.the-row .written))) l₂₈ (free 𝓤 (sliceTy (tyRef erased mut (pointee ((Array u16 35) .written)))) l₂₇ (free 𝓤 (tyRef erased mut (pointee ((Array u16 35) .written))) l₂₆ (free 𝓤 (sliceTy (tyRef erased mut (pointee ((Array u64 8) .written)))) l₂₅ (free 𝓤 (tyRef erased mut (pointee ((Array u64 8) .written))) l₂₄ (free 𝓤 (tyInt w64) l₂₃ (free 𝓤 (sliceTy (tyRef erased mut (pointee (u8 .written)))) l₂₂ (free 𝓤 (tyRef erased mut (pointee (u8 .written))) l₂₁ (free 𝓤 (sliceTy (tyRef erased mut (pointee (u32 .written)))) l₂₀ (free 𝓤 (tyRef erased mut (pointee (u32 .written))) l₁₉ (free 𝓤 (sliceTy (tyRef erased mut (pointee (u8 .written)))) l₁₈ (free 𝓤 (tyRef erased mut (pointee (u8 .written))) l₁₇ (free 𝓤 (sliceTy (tyRef erased mut (pointee ((Array u64 8) .written)))) l₁₆ (free 𝓤 (tyRef erased mut (pointee ((Array u64 8) .written))) l₁₅ (free 𝓤 (tyInt w64) l₁₄ (free 𝓤 (tyInt w64) l₁₃ (full 𝓤 Taken-l.mir l₁₂ (Taken-p .val took) (full 𝓤 Ran-l.mir l₁₁ (Ran-p .val r′) (full 𝓤 Frame-l.mir l₁₀ (Frame-p .val f′) (full 𝓤 (sliceTy (tyRef (named 8) imm (pointee (u8 .written)))) l₉ (sliceVal (b₉, o₉) n₉) (full 𝓤 (sliceTy (tyRef (named 7) mut (pointee (u8 .written)))) l₈ (sliceVal (b₈, o₈) n₈) (full 𝓤 (sliceTy (tyRef (named 6) mut (pointee (u8 .written)))) l₇ (sliceVal (b₇, o₇) n₇) (full 𝓤 (sliceTy (tyRef (named 5) mut (pointee (u32 .written)))) l₆ (sliceVal (b₆, o₆) n₆) (full 𝓤 (sliceTy (tyRef (named 4) mut (pointee (u8 .written)))) l₅ (sliceVal (b₅, o₅) n₅) (full 𝓤 (sliceTy (tyRef (named 3) imm (pointee (u8 .written)))) l₄ (sliceVal (b₄, o₄) n₄) (full 𝓤 (sliceTy (tyRef (named 2) mut (pointee (Object-t.the-row .written)))) l₃ (sliceVal (b₃, o₃) n₃) (full 𝓤 (sliceTy (tyRef (named 1) mut (pointee ((Array u16 35) .written)))) l₂ (sliceVal (b₂, o₂) n₂) (full 𝓤 (sliceTy (tyRef (named 0) mut (pointee ((Array u64 8) .written)))) l₁ (sliceVal (b₁, o₁) n₁) (free 𝓤 Ran-l.mir l₀ ([]))))))))))))))))))))))))))))))))))) (runs C Λ En mir.t-1 (atRet En Post))
@@ -369,7 +378,7 @@ module _ {M : Type 1} (𝓤 : URA M) (H : Heap 𝓤) (A : Atoms 𝓤) (W : Given
         use1 W (raw (toks 𝓤 A 5 (((ν-9-sessions ∷ []), ((ν-9-parts ∷ []), ((ν-9-lengths ∷ []), ((ν-9-rebuilt ∷ []), (κ₉, tt)))))) ((fullShare, (fullShare, (fullShare, (fullShare, (q₉, tt)))))))) (id⊢ 𝓤 _) $ nothing ! $
         owned ! (Taken-p .row) (Is (Taken-p .row)) (Taken-p .makes 𝓤 H A W) took (Taken-p .val took ∷ []) took-is $ fjoin ! $
         owned ! (Frame-p .row) (Is (Frame-p .row)) (Frame-p .makes 𝓤 H A W) f′ (Frame-p .val f′ ∷ []) f′-is $ fjoin ! $ move ! (2 ∷ 0 ∷ []) $ fjoin ! $ move ! (3 ∷ 0 ∷ []) $ fjoin ! $ move ! (4 ∷ 0 ∷ []) $ fjoin ! $ move ! (5 ∷ 0 ∷ []) $ fjoin ! $ move ! (6 ∷ 0 ∷ []) $ fjoin ! $ move ! (1 ∷ 0 ∷ []) $
-        calls-any ! fm 5 [] (fragments-gather.signature .params) (fragments-gather.ended .kept) u64-p (fragments-gather.clauses 𝓤 H A mem run) known-fragments-gather ((ν-9-sessions ∷ []), ((ν-9-parts ∷ []), ((ν-9-lengths ∷ []), ((ν-9-rebuilt ∷ []), (κ₉, tt))))) (fullShare, (fullShare, (fullShare, (fullShare, (q₉, tt))))) tt (at-list b₁ o₁ δ-9-sessions sessions, (at-list b₅ o₅ δ-9-parts parts, (at-list b₆ o₆ δ-9-lengths lengths, (at-list b₇ o₇ δ-9-rebuilt rebuilt, (at-list b₉ o₉ γ₉ d, (f′, (took, tt))))))) (sliceVal (b₁, o₁) n₁ ∷ [], (sliceVal (b₅, o₅) n₅ ∷ [], (sliceVal (b₆, o₆) n₆ ∷ [], (sliceVal (b₇, o₇) n₇ ∷ [], (sliceVal (b₉, o₉) n₉ ∷ [], (Frame-p .val f′ ∷ [], (Taken-p .val took ∷ [], tt))))))) tt (wholeLen (gathered (touchedRows (sessions) (f′ .«session_id») (f′ .time)) (parts) (lengths) (rebuilt) (f′ .«session_id») (took .asked .first) (took .asked .second) (partOf (d) (took .body)))) (λ ws-9. (ws-9 .0 ≡ gatheredRows (touchedRows (sessions) (f′ .«session_id») (f′ .time)) (parts) (lengths) (rebuilt) (f′ .«session_id») (took .asked .first) (took .asked .second) (partOf (d) (took .body))) × (ws-9 .1 .0 ≡ gatheredParts (touchedRows (sessions) (f′ .«session_id») (f′ .time)) (parts) (lengths) (f′ .«session_id») (took .asked .first) (took .asked .second) (partOf (d) (took .body))) × (ws-9 .1 .1 .0 ≡ gatheredLengths (touchedRows (sessions) (f′ .«session_id») (f′ .time)) (parts) (lengths) (f′ .«session_id») (took .asked .first) (took .asked .second) (partOf (d) (took .body))) × (ws-9 .1 .1 .1 .0 ≡ gatheredRebuilt (touchedRows (sessions) (f′ .«session_id») (f′ .time)) (parts) (lengths) (rebuilt) (f′ .«session_id») (took .asked .first) (took .asked .second) (partOf (d) (took .body)))) (id⊢ 𝓤 _) (λ r ws-9. fact-mono 𝓤 ((r ≡ wholeLen (gathered (touchedRows (sessions) (f′ .«session_id») (f′ .time)) (parts) (lengths) (rebuilt) (f′ .«session_id») (took .asked .first) (took .asked .second) (partOf (d) (took .body)))) × ((ws-9 .0) ≡ gatheredRows (touchedRows (sessions) (f′ .«session_id») (f′ .time)) (parts) (lengths) (rebuilt) (f′ .«session_id») (took .asked .first) (took .asked .second) (partOf (d) (took .body))) × ((ws-9 .1 .0) ≡ gatheredParts (touchedRows (sessions) (f′ .«session_id») (f′ .time)) (parts) (lengths) (f′ .«session_id») (took .asked .first) (took .asked .second) (partOf (d) (took .body))) × ((ws-9 .1 .1 .0) ≡ gatheredLengths (touchedRows (sessions) (f′ .«session_id») (f′ .time)) (parts) (lengths) (f′ .«session_id») (took .asked .first) (took .asked .second) (partOf (d) (took .body))) × ((ws-9 .1 .1 .1 .0) ≡ gatheredRebuilt (touchedRows (sessions) (f′ .«session_id») (f′ .time)) (parts) (lengths) (rebuilt) (f′ .«session_id») (took .asked .first) (took .asked .second) (partOf (d) (took .body)))) ((r ≡ (wholeLen (gathered (touchedRows (sessions) (f′ .«session_id») (f′ .time)) (parts) (lengths) (rebuilt) (f′ .«session_id») (took .asked .first) (took .asked .second) (partOf (d) (took .body))))) × ((ws-9 .0 ≡ gatheredRows (touchedRows (sessions) (f′ .«session_id») (f′ .time)) (parts) (lengths) (rebuilt) (f′ .«session_id») (took .asked .first) (took .asked .second) (partOf (d) (took .body))) × (ws-9 .1 .0 ≡ gatheredParts (touchedRows (sessions) (f′ .«session_id») (f′ .time)) (parts) (lengths) (f′ .«session_id») (took .asked .first) (took .asked .second) (partOf (d) (took .body))) × (ws-9 .1 .1 .0 ≡ gatheredLengths (touchedRows (sessions) (f′ .«session_id») (f′ .time)) (parts) (lengths) (f′ .«session_id») (took .asked .first) (took .asked .second) (partOf (d) (took .body))) × (ws-9 .1 .1 .1 .0 ≡ gatheredRebuilt (touchedRows (sessions) (f′ .«session_id») (f′ .time)) (parts) (lengths) (rebuilt) (f′ .«session_id») (took .asked .first) (took .asked .second) (partOf (d) (took .body))))) (λ e. (e .0, (e .1, e .2, e .3, e .4)))) (λ _. (and-then ! (load ! (from ! (stop !)) (look ! 48 refl)) (and-then ! (load ! (from ! (stop !)) (look ! 44 refl)) (and-then ! (load ! (from ! (stop !)) (look ! 40 refl)) (and-then ! (load ! (from ! (stop !)) (look ! 36 refl)) (and-then ! (load ! (from ! (stop !)) (look ! 62 refl)) (and-then ! (load ! (from ! (stop !)) (look ! 60 refl)) (and-then ! (load ! (from ! (stop !)) (look ! 56 refl)) (no-more !))))))))) (λ ws-9 said-9 is-9.
+        calls-any ! fm 5 [] (fragments-gather.signature .params) (fragments-gather.ended .kept) u64-p (fragments-gather.clauses 𝓤 H A mem run) known-fragments-gather ((ν-9-sessions ∷ []), ((ν-9-parts ∷ []), ((ν-9-lengths ∷ []), ((ν-9-rebuilt ∷ []), (κ₉, tt))))) (fullShare, (fullShare, (fullShare, (fullShare, (q₉, tt))))) tt (at-list b₁ o₁ δ-9-sessions sessions, (at-list b₅ o₅ δ-9-parts parts, (at-list b₆ o₆ δ-9-lengths lengths, (at-list b₇ o₇ δ-9-rebuilt rebuilt, (at-list b₉ o₉ γ₉ d, (f′, (took, tt))))))) (sliceVal (b₁, o₁) n₁ ∷ [], (sliceVal (b₅, o₅) n₅ ∷ [], (sliceVal (b₆, o₆) n₆ ∷ [], (sliceVal (b₇, o₇) n₇ ∷ [], (sliceVal (b₉, o₉) n₉ ∷ [], (Frame-p .val f′ ∷ [], (Taken-p .val took ∷ [], tt))))))) tt (wholeLen (gathered (touchedRows (sessions) (f′ .«session_id») (f′ .moment .time)) (parts) (lengths) (rebuilt) (f′ .«session_id») (took .asked .first) (took .asked .second) (partOf (d) (took .body)))) (λ ws-9. (ws-9 .0 ≡ gatheredRows (touchedRows (sessions) (f′ .«session_id») (f′ .moment .time)) (parts) (lengths) (rebuilt) (f′ .«session_id») (took .asked .first) (took .asked .second) (partOf (d) (took .body))) × (ws-9 .1 .0 ≡ gatheredParts (touchedRows (sessions) (f′ .«session_id») (f′ .moment .time)) (parts) (lengths) (f′ .«session_id») (took .asked .first) (took .asked .second) (partOf (d) (took .body))) × (ws-9 .1 .1 .0 ≡ gatheredLengths (touchedRows (sessions) (f′ .«session_id») (f′ .moment .time)) (parts) (lengths) (f′ .«session_id») (took .asked .first) (took .asked .second) (partOf (d) (took .body))) × (ws-9 .1 .1 .1 .0 ≡ gatheredRebuilt (touchedRows (sessions) (f′ .«session_id») (f′ .moment .time)) (parts) (lengths) (rebuilt) (f′ .«session_id») (took .asked .first) (took .asked .second) (partOf (d) (took .body)))) (id⊢ 𝓤 _) (λ r ws-9. fact-mono 𝓤 ((r ≡ wholeLen (gathered (touchedRows (sessions) (f′ .«session_id») (f′ .moment .time)) (parts) (lengths) (rebuilt) (f′ .«session_id») (took .asked .first) (took .asked .second) (partOf (d) (took .body)))) × ((ws-9 .0) ≡ gatheredRows (touchedRows (sessions) (f′ .«session_id») (f′ .moment .time)) (parts) (lengths) (rebuilt) (f′ .«session_id») (took .asked .first) (took .asked .second) (partOf (d) (took .body))) × ((ws-9 .1 .0) ≡ gatheredParts (touchedRows (sessions) (f′ .«session_id») (f′ .moment .time)) (parts) (lengths) (f′ .«session_id») (took .asked .first) (took .asked .second) (partOf (d) (took .body))) × ((ws-9 .1 .1 .0) ≡ gatheredLengths (touchedRows (sessions) (f′ .«session_id») (f′ .moment .time)) (parts) (lengths) (f′ .«session_id») (took .asked .first) (took .asked .second) (partOf (d) (took .body))) × ((ws-9 .1 .1 .1 .0) ≡ gatheredRebuilt (touchedRows (sessions) (f′ .«session_id») (f′ .moment .time)) (parts) (lengths) (rebuilt) (f′ .«session_id») (took .asked .first) (took .asked .second) (partOf (d) (took .body)))) ((r ≡ (wholeLen (gathered (touchedRows (sessions) (f′ .«session_id») (f′ .moment .time)) (parts) (lengths) (rebuilt) (f′ .«session_id») (took .asked .first) (took .asked .second) (partOf (d) (took .body))))) × ((ws-9 .0 ≡ gatheredRows (touchedRows (sessions) (f′ .«session_id») (f′ .moment .time)) (parts) (lengths) (rebuilt) (f′ .«session_id») (took .asked .first) (took .asked .second) (partOf (d) (took .body))) × (ws-9 .1 .0 ≡ gatheredParts (touchedRows (sessions) (f′ .«session_id») (f′ .moment .time)) (parts) (lengths) (f′ .«session_id») (took .asked .first) (took .asked .second) (partOf (d) (took .body))) × (ws-9 .1 .1 .0 ≡ gatheredLengths (touchedRows (sessions) (f′ .«session_id») (f′ .moment .time)) (parts) (lengths) (f′ .«session_id») (took .asked .first) (took .asked .second) (partOf (d) (took .body))) × (ws-9 .1 .1 .1 .0 ≡ gatheredRebuilt (touchedRows (sessions) (f′ .«session_id») (f′ .moment .time)) (parts) (lengths) (rebuilt) (f′ .«session_id») (took .asked .first) (took .asked .second) (partOf (d) (took .body))))) (λ e. (e .0, (e .1, e .2, e .3, e .4)))) (λ _. (and-then ! (load ! (from ! (stop !)) (look ! 48 refl)) (and-then ! (load ! (from ! (stop !)) (look ! 44 refl)) (and-then ! (load ! (from ! (stop !)) (look ! 40 refl)) (and-then ! (load ! (from ! (stop !)) (look ! 36 refl)) (and-then ! (load ! (from ! (stop !)) (look ! 62 refl)) (and-then ! (load ! (from ! (stop !)) (look ! 60 refl)) (and-then ! (load ! (from ! (stop !)) (look ! 56 refl)) (no-more !))))))))) (λ ws-9 said-9 is-9.
         use1 W ((‵ (flft (ν-9-sessions ∷ []) fullShare) ⊛ (‵ (flft (ν-9-parts ∷ []) fullShare) ⊛ (‵ (flft (ν-9-lengths ∷ []) fullShare) ⊛ (‵ (flft (ν-9-rebuilt ∷ []) fullShare) ⊛ (‵ (flft κ₉ q₉) ⊛ ‵ ftrue)))))) (id⊢ 𝓤 _) $ split ! $ move ! (1 ∷ []) $ split ! $ move ! (1 ∷ []) $ split ! $ move ! (1 ∷ []) $ split ! $ move ! (1 ∷ []) $ split ! $ move ! (6 ∷ []) $ fsplit ! $ fsplit ! $ move ! (1 ∷ []) $
         feqL ! (λ wlen-9-0.
         move ! (1 ∷ []) $ fsplit ! $ fsplit ! $ move ! (1 ∷ []) $
@@ -379,15 +388,15 @@ module _ {M : Type 1} (𝓤 : URA M) (H : Heap 𝓤) (A : Atoms 𝓤) (W : Given
         move ! (1 ∷ []) $ fsplit ! $ fsplit ! $ move ! (1 ∷ []) $
         feqL ! (λ wlen-9-3.
         move ! (1 ∷ []) $ fsplit ! $ move ! (11 ∷ 16 ∷ 5 ∷ []) $
-        backs-mut ! tt (Array u64 8) b₁ o₁ sessions n₁ (refl) room₁ ν-9-sessions δ-9-sessions (ws-9 .0) (gatheredRows (touchedRows (sessions) (f′ .«session_id») (f′ .time)) (parts) (lengths) (rebuilt) (f′ .«session_id») (took .asked .first) (took .asked .second) (partOf (d) (took .body))) wlen-9-0 (said-9 .0) (λ len-9-sessions.
+        backs-mut ! tt (Array u64 8) b₁ o₁ sessions n₁ (refl) room₁ ν-9-sessions δ-9-sessions (ws-9 .0) (gatheredRows (touchedRows (sessions) (f′ .«session_id») (f′ .moment .time)) (parts) (lengths) (rebuilt) (f′ .«session_id») (took .asked .first) (took .asked .second) (partOf (d) (took .body))) wlen-9-0 (said-9 .0) (λ len-9-sessions.
         move ! (11 ∷ 15 ∷ 6 ∷ []) $
-        backs-mut ! tt u8 b₅ o₅ parts n₅ (refl) room₅ ν-9-parts δ-9-parts (ws-9 .1 .0) (gatheredParts (touchedRows (sessions) (f′ .«session_id») (f′ .time)) (parts) (lengths) (f′ .«session_id») (took .asked .first) (took .asked .second) (partOf (d) (took .body))) wlen-9-1 (said-9 .1) (λ len-9-parts.
+        backs-mut ! tt u8 b₅ o₅ parts n₅ (refl) room₅ ν-9-parts δ-9-parts (ws-9 .1 .0) (gatheredParts (touchedRows (sessions) (f′ .«session_id») (f′ .moment .time)) (parts) (lengths) (f′ .«session_id») (took .asked .first) (took .asked .second) (partOf (d) (took .body))) wlen-9-1 (said-9 .1) (λ len-9-parts.
         move ! (11 ∷ 14 ∷ 7 ∷ []) $
-        backs-mut ! tt u32 b₆ o₆ lengths n₆ (refl) room₆ ν-9-lengths δ-9-lengths (ws-9 .1 .1 .0) (gatheredLengths (touchedRows (sessions) (f′ .«session_id») (f′ .time)) (parts) (lengths) (f′ .«session_id») (took .asked .first) (took .asked .second) (partOf (d) (took .body))) wlen-9-2 (said-9 .2) (λ len-9-lengths.
+        backs-mut ! tt u32 b₆ o₆ lengths n₆ (refl) room₆ ν-9-lengths δ-9-lengths (ws-9 .1 .1 .0) (gatheredLengths (touchedRows (sessions) (f′ .«session_id») (f′ .moment .time)) (parts) (lengths) (f′ .«session_id») (took .asked .first) (took .asked .second) (partOf (d) (took .body))) wlen-9-2 (said-9 .2) (λ len-9-lengths.
         move ! (11 ∷ 13 ∷ 8 ∷ []) $
-        backs-mut ! tt u8 b₇ o₇ rebuilt n₇ (refl) room₇ ν-9-rebuilt δ-9-rebuilt (ws-9 .1 .1 .1 .0) (gatheredRebuilt (touchedRows (sessions) (f′ .«session_id») (f′ .time)) (parts) (lengths) (rebuilt) (f′ .«session_id») (took .asked .first) (took .asked .second) (partOf (d) (took .body))) wlen-9-3 (said-9 .3) (λ len-9-rebuilt.
+        backs-mut ! tt u8 b₇ o₇ rebuilt n₇ (refl) room₇ ν-9-rebuilt δ-9-rebuilt (ws-9 .1 .1 .1 .0) (gatheredRebuilt (touchedRows (sessions) (f′ .«session_id») (f′ .moment .time)) (parts) (lengths) (rebuilt) (f′ .«session_id») (took .asked .first) (took .asked .second) (partOf (d) (took .body))) wlen-9-3 (said-9 .3) (λ len-9-rebuilt.
         move ! (8 ∷ []) $ drop ! $ move ! (8 ∷ []) $ drop ! $ move ! (9 ∷ []) $ drop ! $
-        land ! (from ! (stop !)) (init ! 58 refl (u64-p .typed 𝓤 H A W (wholeLen (gathered (touchedRows (sessions) (f′ .«session_id») (f′ .time)) (parts) (lengths) (rebuilt) (f′ .«session_id») (took .asked .first) (took .asked .second) (partOf (d) (took .body)))) is-9)) $ move ! (6 ∷ 7 ∷ 10 ∷ 11 ∷ 12 ∷ 13 ∷ 14 ∷ 15 ∷ 4 ∷ 5 ∷ 2 ∷ 3 ∷ 0 ∷ 1 ∷ 16 ∷ 17 ∷ 9 ∷ 8 ∷ 18 ∷ 19 ∷ 20 ∷ 21 ∷ 22 ∷ 23 ∷ 24 ∷ 25 ∷ 26 ∷ 27 ∷ 28 ∷ 29 ∷ 30 ∷ 31 ∷ 32 ∷ 33 ∷ 34 ∷ 35 ∷ 36 ∷ 37 ∷ 38 ∷ 39 ∷ 40 ∷ 41 ∷ 42 ∷ 43 ∷ 44 ∷ 45 ∷ 46 ∷ 47 ∷ 48 ∷ 49 ∷ 50 ∷ 51 ∷ 52 ∷ 53 ∷ 54 ∷ 55 ∷ 56 ∷ 57 ∷ 58 ∷ 59 ∷ 60 ∷ 61 ∷ 62 ∷ 63 ∷ 64 ∷ 65 ∷ 66 ∷ 67 ∷ 68 ∷ 69 ∷ 70 ∷ 71 ∷ 72 ∷ 73 ∷ 74 ∷ 75 ∷ 76 ∷ 77 ∷ 78 ∷ 79 ∷ 80 ∷ 81 ∷ 82 ∷ 83 ∷ 84 ∷ 85 ∷ []) $
+        land ! (from ! (stop !)) (init ! 58 refl (u64-p .typed 𝓤 H A W (wholeLen (gathered (touchedRows (sessions) (f′ .«session_id») (f′ .moment .time)) (parts) (lengths) (rebuilt) (f′ .«session_id») (took .asked .first) (took .asked .second) (partOf (d) (took .body)))) is-9)) $ move ! (6 ∷ 7 ∷ 10 ∷ 11 ∷ 12 ∷ 13 ∷ 14 ∷ 15 ∷ 4 ∷ 5 ∷ 2 ∷ 3 ∷ 0 ∷ 1 ∷ 16 ∷ 17 ∷ 9 ∷ 8 ∷ 18 ∷ 19 ∷ 20 ∷ 21 ∷ 22 ∷ 23 ∷ 24 ∷ 25 ∷ 26 ∷ 27 ∷ 28 ∷ 29 ∷ 30 ∷ 31 ∷ 32 ∷ 33 ∷ 34 ∷ 35 ∷ 36 ∷ 37 ∷ 38 ∷ 39 ∷ 40 ∷ 41 ∷ 42 ∷ 43 ∷ 44 ∷ 45 ∷ 46 ∷ 47 ∷ 48 ∷ 49 ∷ 50 ∷ 51 ∷ 52 ∷ 53 ∷ 54 ∷ 55 ∷ 56 ∷ 57 ∷ 58 ∷ 59 ∷ 60 ∷ 61 ∷ 62 ∷ 63 ∷ 64 ∷ 65 ∷ 66 ∷ 67 ∷ 68 ∷ 69 ∷ 70 ∷ 71 ∷ 72 ∷ 73 ∷ 74 ∷ 75 ∷ 76 ∷ 77 ∷ 78 ∷ 79 ∷ 80 ∷ 81 ∷ 82 ∷ 83 ∷ 84 ∷ 85 ∷ []) $
         part-10-0 len-9-sessions len-9-parts len-9-lengths len-9-rebuilt is-9)))))))))))))
 
   module _ (𝓣 : Tables 𝓤 H) (known-fragments-gather : Triple 𝓤 (𝓣 .C #fragments-gather) (Of-fragments-gather 𝓤 H A mem run)) (known-fragments-rebuilt-end : Triple 𝓤 (𝓣 .C #fragments-rebuilt-end) (Of-fragments-rebuilt-end 𝓤 H A mem run)) (known-fragments-work-off : Triple 𝓤 (𝓣 .C #fragments-work-off) (Of-fragments-work-off 𝓤 H A mem run)) where

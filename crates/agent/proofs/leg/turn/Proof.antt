@@ -73,6 +73,9 @@ use Rattle.codec.proofs.submessages.ObjectNumber.Laws as ObjectNumber-l
 use Rattle.agent.specs.declared.turn.Frame.{Frame}
 use Rattle.agent.proofs.turn.Frame as Frame-t
 use Rattle.agent.proofs.turn.Frame.Laws as Frame-l
+use Rattle.agent.specs.declared.state.Moment.{Moment}
+use Rattle.agent.proofs.state.Moment as Moment-t
+use Rattle.agent.proofs.state.Moment.Laws as Moment-l
 use Rattle.agent.specs.declared.leg.Mode.{Mode}
 use Rattle.agent.proofs.leg.Mode as Mode-t
 use Rattle.agent.proofs.leg.Mode.Laws as Mode-l
@@ -175,7 +178,7 @@ use Rattle.codec.proofs.layouts.Cursor.Laws as Cursor-l
 use Rattle.codec.specs.declared.refusals.Refusal.{Refusal}
 use Rattle.codec.proofs.refusals.Refusal as Refusal-t
 use Rattle.codec.proofs.refusals.Refusal.Laws as Refusal-l
-use Rattle.codec.specs.declared.refusals.Refusal.the-variants.{BufferTooShort as Refusal-BufferTooShort, UnknownSubmessageId as Refusal-UnknownSubmessageId, UnknownObjectKind as Refusal-UnknownObjectKind, UnknownStatusCode as Refusal-UnknownStatusCode, PayloadLengthMismatch as Refusal-PayloadLengthMismatch, SessionFull as Refusal-SessionFull, FragmentSizeZero as Refusal-FragmentSizeZero, EmptyPayload as Refusal-EmptyPayload, TooManyFragments as Refusal-TooManyFragments, FragmentNumber as Refusal-FragmentNumber, MissingFragments as Refusal-MissingFragments, TooLong as Refusal-TooLong, OutputTooShort as Refusal-OutputTooShort, StoreFull as Refusal-StoreFull, OutOfTurn as Refusal-OutOfTurn, OverLimit as Refusal-OverLimit, NotInFragments as Refusal-NotInFragments, IllFormed as Refusal-IllFormed}
+use Rattle.codec.specs.declared.refusals.Refusal.the-variants.{BufferTooShort as Refusal-BufferTooShort, UnknownSubmessageId as Refusal-UnknownSubmessageId, UnknownObjectKind as Refusal-UnknownObjectKind, UnknownStatusCode as Refusal-UnknownStatusCode, PayloadLengthMismatch as Refusal-PayloadLengthMismatch, SessionFull as Refusal-SessionFull, FragmentSizeZero as Refusal-FragmentSizeZero, EmptyPayload as Refusal-EmptyPayload, TooManyFragments as Refusal-TooManyFragments, FragmentNumber as Refusal-FragmentNumber, MissingFragments as Refusal-MissingFragments, TooLong as Refusal-TooLong, OutputTooShort as Refusal-OutputTooShort, StoreFull as Refusal-StoreFull, OutOfTurn as Refusal-OutOfTurn, OverLimit as Refusal-OverLimit, NotInFragments as Refusal-NotInFragments, IllFormed as Refusal-IllFormed, WindowFault as Refusal-WindowFault, NoSuchMinute as Refusal-NoSuchMinute}
 use Rattle.codec.proofs.reading.read as reading-read
 use Rattle.codec.proofs.reading.read.Symbol as reading-read-def
 use Rattle.codec.proofs.reading.read.Symbol.{name as #reading-read}
@@ -222,11 +225,17 @@ ObjectNumber-of x0 = record { 0 = x0 }
 abbrev ObjectNumber-p : Plain
 ObjectNumber-p = record { row = ObjectNumber-t.the-row; val = LL.val ObjectNumber-t.the-type ObjectNumber-l.the-laws; tells = LL.tells ObjectNumber-t.the-type ObjectNumber-l.the-laws; makes = λ 𝓤 H A W. LL.makes ObjectNumber-t.the-type ObjectNumber-l.the-plain 𝓤 H A; ty = ObjectNumber-l.mir; typed = λ 𝓤 H A W x is. LL.lawful ObjectNumber-t.the-type ObjectNumber-l.the-laws 𝓤 H A W .typed x _ is .0; copies = λ 𝓤 H A W. LL.copy ObjectNumber-t.the-type ObjectNumber-l.the-copy 𝓤 H A W }
 
-abbrev Frame-of : ℕ → ℕ → ℕ → ℕ → ℕ → Frame
-Frame-of x0 x1 x2 x3 x4 = record { «max_clients» = x0; time = x1; «session_id» = x2; «stream_id» = x3; room = x4 }
+abbrev Frame-of : ℕ → Moment → ℕ → ℕ → ℕ → Frame
+Frame-of x0 x1 x2 x3 x4 = record { «max_clients» = x0; moment = x1; «session_id» = x2; «stream_id» = x3; room = x4 }
 
 abbrev Frame-p : Plain
 Frame-p = record { row = Frame-t.the-row; val = LL.val Frame-t.the-type Frame-l.the-laws; tells = LL.tells Frame-t.the-type Frame-l.the-laws; makes = λ 𝓤 H A W. LL.makes Frame-t.the-type Frame-l.the-plain 𝓤 H A; ty = Frame-l.mir; typed = λ 𝓤 H A W x is. LL.lawful Frame-t.the-type Frame-l.the-laws 𝓤 H A W .typed x _ is .0; copies = λ 𝓤 H A W. LL.copy Frame-t.the-type Frame-l.the-copy 𝓤 H A W }
+
+abbrev Moment-of : ℕ → Bool → Moment
+Moment-of x0 x1 = record { time = x0; «is_open» = x1 }
+
+abbrev Moment-p : Plain
+Moment-p = record { row = Moment-t.the-row; val = LL.val Moment-t.the-type Moment-l.the-laws; tells = LL.tells Moment-t.the-type Moment-l.the-laws; makes = λ 𝓤 H A W. LL.makes Moment-t.the-type Moment-l.the-plain 𝓤 H A; ty = Moment-l.mir; typed = λ 𝓤 H A W x is. LL.lawful Moment-t.the-type Moment-l.the-laws 𝓤 H A W .typed x _ is .0; copies = λ 𝓤 H A W. LL.copy Moment-t.the-type Moment-l.the-copy 𝓤 H A W }
 
 abbrev Mode-p : Plain
 Mode-p = record { row = Mode-t.the-row; val = EL.val Mode-t.the-type Mode-l.the-laws; tells = EL.tells Mode-t.the-type Mode-l.the-laws; makes = λ 𝓤 H A W. EL.makes Mode-t.the-type Mode-l.the-plain 𝓤 H A; ty = Mode-l.mir; typed = λ 𝓤 H A W x is. EL.lawful Mode-t.the-type Mode-l.the-laws 𝓤 H A W tt .typed x _ is .0; copies = λ 𝓤 H A W. EL.copy Mode-t.the-type Mode-l.the-copy 𝓤 H A W }
@@ -464,13 +473,13 @@ module _ {M : Type 1} (𝓤 : URA M) (H : Heap 𝓤) (A : Atoms 𝓤) (W : Given
         forget ! 66 refl $ forget ! 68 refl $ forget ! 70 refl $ forget ! 72 refl $ forget ! 74 refl $ forget ! 76 refl $ forget ! 78 refl $ forget ! 80 refl $ forget ! 82 refl $ forget ! 84 refl $ move ! (84 ∷ 85 ∷ []) $ free1 ! $ move ! (82 ∷ 83 ∷ []) $ free1 ! $ move ! (80 ∷ 81 ∷ []) $ free1 ! $ move ! (78 ∷ 79 ∷ []) $ free1 ! $ move ! (76 ∷ 77 ∷ []) $ free1 ! $ move ! (74 ∷ 75 ∷ []) $ free1 ! $ move ! (72 ∷ 73 ∷ []) $ free1 ! $ move ! (70 ∷ 71 ∷ []) $ free1 ! $ move ! (68 ∷ 69 ∷ []) $ free1 ! $ move ! (66 ∷ 67 ∷ []) $ free1 ! $ move ! (64 ∷ 65 ∷ []) $ free1 ! $ move ! (62 ∷ 63 ∷ []) $ free1 ! $ move ! (60 ∷ 61 ∷ []) $ free1 ! $ move ! (58 ∷ 59 ∷ []) $ free1 ! $ move ! (56 ∷ 57 ∷ []) $ free1 ! $ move ! (54 ∷ 55 ∷ []) $ free1 ! $ move ! (52 ∷ 53 ∷ []) $ free1 ! $ move ! (50 ∷ 51 ∷ []) $ free1 ! $ move ! (48 ∷ 49 ∷ []) $ free1 ! $ move ! (46 ∷ 47 ∷ []) $ free1 ! $ move ! (44 ∷ 45 ∷ []) $ free1 ! $ move ! (42 ∷ 43 ∷ []) $ free1 ! $ move ! (40 ∷ 41 ∷ []) $ free1 ! $ move ! (38 ∷ 39 ∷ []) $ free1 ! $ move ! (36 ∷ 37 ∷ []) $ free1 ! $ move ! (34 ∷ 35 ∷ []) $ free1 ! $ move ! (32 ∷ 33 ∷ []) $ free1 ! $ move ! (30 ∷ 31 ∷ []) $ free1 ! $ move ! (28 ∷ 29 ∷ []) $ free1 ! $ move ! (26 ∷ 27 ∷ []) $ free1 ! $ move ! (24 ∷ 25 ∷ []) $ free1 ! $ move ! (22 ∷ 23 ∷ []) $ free1 ! $ move ! (20 ∷ 21 ∷ []) $ free1 ! $ move ! (18 ∷ 19 ∷ []) $ free1 ! $ move ! (16 ∷ 17 ∷ []) $ free1 ! $ move ! (14 ∷ 15 ∷ []) $ free1 ! $ move ! (12 ∷ 13 ∷ []) $ free1 ! $ free0 ! $
         by ! ends
 
-    part-9-0 : (is-2 : Is (Parsed-p .row) (readAt (s) ((Cursor-of (r′ .at)) .at)) (Parsed-p .val (readAt (s) ((Cursor-of (r′ .at)) .at)) ∷ [])) → (is-4 : Is (Taken-p .row) (takenOf (readAt (s) ((Cursor-of (r′ .at)) .at)) n₆) (Taken-p .val (takenOf (readAt (s) ((Cursor-of (r′ .at)) .at)) n₆) ∷ [])) → (is-7 : Is (Step-p .row) (stepOf m (((takenOf (readAt (s) ((Cursor-of (r′ .at)) .at)) n₆) .asked) .opening)) (Step-p .val (stepOf m (((takenOf (readAt (s) ((Cursor-of (r′ .at)) .at)) n₆) .asked) .opening)) ∷ [])) → (e-8 : stepOf m (((takenOf (readAt (s) ((Cursor-of (r′ .at)) .at)) n₆) .asked) .opening) ≡ Step-Greets) → (good-8 : Is (Step-p .row) Step-Greets (Step-p .val Step-Greets ∷ [])) → (asks-8·Greets·7 : f′ .room ≤ 9223372036854775807) → (len-8·Greets·7-sessions : length (openedRows (createdOf (sessions) (streams) (f′ .«max_clients») (r′ .next)) (sessions) (((takenOf (readAt (s) ((Cursor-of (r′ .at)) .at)) n₆) .asked) .key) (f′ .time)) ≡ n₁) → (len-8·Greets·7-streams : length (openedStreams (createdOf (sessions) (streams) (f′ .«max_clients») (r′ .next)) (streams)) ≡ n₂) → (len-8·Greets·7-out : length (putBytes (out) (r′ .wrote) (greetingBytes (createdOf (sessions) (streams) (f′ .«max_clients») (r′ .next)))) ≡ n₅) → (is-8·Greets·7 : Is (Ran-p .row) (greeted f′ r′ ((takenOf (readAt (s) ((Cursor-of (r′ .at)) .at)) n₆) .at) (createdOf (sessions) (streams) (f′ .«max_clients») (r′ .next))) (Ran-p .val (greeted f′ r′ ((takenOf (readAt (s) ((Cursor-of (r′ .at)) .at)) n₆) .at) (createdOf (sessions) (streams) (f′ .«max_clients») (r′ .next))) ∷ [])) → (is-8·Greets·8 : Is (Leg-p .row) (plainLeg (greeted f′ r′ ((takenOf (readAt (s) ((Cursor-of (r′ .at)) .at)) n₆) .at) (createdOf (sessions) (streams) (f′ .«max_clients») (r′ .next)))) (Leg-p .val (plainLeg (greeted f′ r′ ((takenOf (readAt (s) ((Cursor-of (r′ .at)) .at)) n₆) .at) (createdOf (sessions) (streams) (f′ .«max_clients») (r′ .next)))) ∷ [])) → Sq W (‵ (MutSlice (named 0) κ₁ (Array u64 8) .own (at-list b₁ o₁ γ₁ (openedRows (createdOf (sessions) (streams) (f′ .«max_clients») (r′ .next)) (sessions) (((takenOf (readAt (s) ((Cursor-of (r′ .at)) .at)) n₆) .asked) .key) (f′ .time))) (sliceVal (b₁, o₁) n₁ ∷ [])) ∷ ‵ (flft κ₁ q₁) ∷ ‵ (MutSlice (named 0) κ₂ (Array u16 35) .own (at-list b₂ o₂ γ₂ (openedStreams (createdOf (sessions) (streams) (f′ .«max_clients») (r′ .next)) (streams))) (sliceVal (b₂, o₂) n₂ ∷ [])) ∷ ‵ (flft κ₂ q₂) ∷ ‵ (MutSlice (named 0) κ₃ Object-t.the-row .own (at-list b₃ o₃ γ₃ objects) (sliceVal (b₃, o₃) n₃ ∷ [])) ∷ ‵ (flft κ₃ q₃) ∷ ‵ (ShrSlice (named 0) κ₄ u8 .own (at-list b₄ o₄ γ₄ held) (sliceVal (b₄, o₄) n₄ ∷ [])) ∷ ‵ (flft κ₄ q₄) ∷ ‵ (MutSlice (named 0) κ₅ u8 .own (at-list b₅ o₅ γ₅ (putBytes (out) (r′ .wrote) (greetingBytes (createdOf (sessions) (streams) (f′ .«max_clients») (r′ .next))))) (sliceVal (b₅, o₅) n₅ ∷ [])) ∷ ‵ (flft κ₅ q₅) ∷ ‵ (ShrSlice (named 0) κ₆ u8 .own (at-list b₆ o₆ γ₆ s) (sliceVal (b₆, o₆) n₆ ∷ [])) ∷ ‵ (flft κ₆ q₆) ∷ free 𝓤 Ran-l.mir l₃₆ (free 𝓤 (sliceTy (tyRef erased mut (pointee (u8 .written)))) l₃₅ (free 𝓤 (tyRef erased mut (pointee (u8 .written))) l₃₄ (free 𝓤 (sliceTy (tyRef erased mut (pointee (Object-t.the-row .written)))) l₃₃ (free 𝓤 (tyRef erased mut (pointee (Object-t.the-row .written))) l₃₂ (free 𝓤 (sliceTy (tyRef erased mut (pointee ((Array u16 35) .written)))) l₃₁ (free 𝓤 (tyRef erased mut (pointee ((Array u16 35) .written))) l₃₀ (free 𝓤 (sliceTy (tyRef erased mut (pointee ((Array u64 8) .written)))) l₂₉ (free 𝓤 (tyRef erased mut (pointee ((Array u64 8) .written))) l₂₈ (free 𝓤 Ran-l.mir l₂₇ (free 𝓤 Found-l.mir l₂₆ (free 𝓤 Ran-l.mir l₂₅ (full 𝓤 (sliceTy (tyRef erased mut (pointee (u8 .written)))) l₂₄ (sliceVal (b₅, o₅) n₅) (full 𝓤 (tyRef erased mut (pointee (u8 .written))) l₂₃ (vptr b₅ o₅) (full 𝓤 (sliceTy (tyRef erased mut (pointee ((Array u16 35) .written)))) l₂₂ (sliceVal (b₂, o₂) n₂) (full 𝓤 (tyRef erased mut (pointee ((Array u16 35) .written))) l₂₁ (vptr b₂ o₂) (full 𝓤 (sliceTy (tyRef erased mut (pointee ((Array u64 8) .written)))) l₂₀ (sliceVal (b₁, o₁) n₁) (full 𝓤 (tyRef erased mut (pointee ((Array u64 8) .written))) l₁₉ (vptr b₁ o₁) (full 𝓤 Ran-l.mir l₁₈ (Ran-p .val (greeted f′ r′ ((takenOf (readAt (s) ((Cursor-of (r′ .at)) .at)) n₆) .at) (createdOf (sessions) (streams) (f′ .«max_clients») (r′ .next)))) (full 𝓤 Leg-l.mir l₁₇ (Leg-p .val (plainLeg (greeted f′ r′ ((takenOf (readAt (s) ((Cursor-of (r′ .at)) .at)) n₆) .at) (createdOf (sessions) (streams) (f′ .«max_clients») (r′ .next))))) (full 𝓤 (tyInt w64) l₁₆ (u64-p .val n₆) (full 𝓤 Step-l.mir l₁₅ (Step-p .val Step-Greets) (full 𝓤 Opening-l.mir l₁₄ (Opening-p .val (((takenOf (readAt (s) ((Cursor-of (r′ .at)) .at)) n₆) .asked) .opening)) (full 𝓤 Asked-l.mir l₁₃ (Asked-p .val ((takenOf (readAt (s) ((Cursor-of (r′ .at)) .at)) n₆) .asked)) (full 𝓤 Taken-l.mir l₁₂ (Taken-p .val (takenOf (readAt (s) ((Cursor-of (r′ .at)) .at)) n₆)) (full 𝓤 Parsed-l.mir l₁₁ (Parsed-p .val (readAt (s) ((Cursor-of (r′ .at)) .at))) (full 𝓤 Cursor-l.mir l₁₀ (Cursor-p .val (Cursor-of (r′ .at))) (full 𝓤 Ran-l.mir l₉ (Ran-p .val r′) (full 𝓤 Mode-l.mir l₈ (Mode-p .val m) (full 𝓤 Frame-l.mir l₇ (Frame-p .val f′) (full 𝓤 (sliceTy (tyRef (named 5) imm (pointee (u8 .written)))) l₆ (sliceVal (b₆, o₆) n₆) (full 𝓤 (sliceTy (tyRef (named 4) mut (pointee (u8 .written)))) l₅ (sliceVal (b₅, o₅) n₅) (full 𝓤 (sliceTy (tyRef (named 3) imm (pointee (u8 .written)))) l₄ (sliceVal (b₄, o₄) n₄) (full 𝓤 (sliceTy (tyRef (named 2) mut (pointee (Object-t.the-row .written)))) l₃ (sliceVal (b₃, o₃) n₃) (full 𝓤 (sliceTy (tyRef (named 1) mut (pointee ((Array u16 35) .written)))) l₂ (sliceVal (b₂, o₂) n₂) (full 𝓤 (sliceTy (tyRef (named 0) mut (pointee ((Array u64 8) .written)))) l₁ (sliceVal (b₁, o₁) n₁) (free 𝓤 Leg-l.mir l₀ ([])))))))))))))))))))))))))))))))))))))) (runs C Λ En mir.t-9 (atRet En Post))
+    part-9-0 : (is-2 : Is (Parsed-p .row) (readAt (s) ((Cursor-of (r′ .at)) .at)) (Parsed-p .val (readAt (s) ((Cursor-of (r′ .at)) .at)) ∷ [])) → (is-4 : Is (Taken-p .row) (takenOf (readAt (s) ((Cursor-of (r′ .at)) .at)) n₆) (Taken-p .val (takenOf (readAt (s) ((Cursor-of (r′ .at)) .at)) n₆) ∷ [])) → (is-7 : Is (Step-p .row) (stepOf m (((takenOf (readAt (s) ((Cursor-of (r′ .at)) .at)) n₆) .asked) .opening)) (Step-p .val (stepOf m (((takenOf (readAt (s) ((Cursor-of (r′ .at)) .at)) n₆) .asked) .opening)) ∷ [])) → (e-8 : stepOf m (((takenOf (readAt (s) ((Cursor-of (r′ .at)) .at)) n₆) .asked) .opening) ≡ Step-Greets) → (good-8 : Is (Step-p .row) Step-Greets (Step-p .val Step-Greets ∷ [])) → (asks-8·Greets·7 : f′ .room ≤ 9223372036854775807) → (len-8·Greets·7-sessions : length (openedRows (createdOf (sessions) (streams) (f′ .«max_clients») (r′ .next)) (sessions) (((takenOf (readAt (s) ((Cursor-of (r′ .at)) .at)) n₆) .asked) .key) (f′ .moment .time)) ≡ n₁) → (len-8·Greets·7-streams : length (openedStreams (createdOf (sessions) (streams) (f′ .«max_clients») (r′ .next)) (streams)) ≡ n₂) → (len-8·Greets·7-out : length (putBytes (out) (r′ .wrote) (greetingBytes (createdOf (sessions) (streams) (f′ .«max_clients») (r′ .next)))) ≡ n₅) → (is-8·Greets·7 : Is (Ran-p .row) (greeted f′ r′ ((takenOf (readAt (s) ((Cursor-of (r′ .at)) .at)) n₆) .at) (createdOf (sessions) (streams) (f′ .«max_clients») (r′ .next))) (Ran-p .val (greeted f′ r′ ((takenOf (readAt (s) ((Cursor-of (r′ .at)) .at)) n₆) .at) (createdOf (sessions) (streams) (f′ .«max_clients») (r′ .next))) ∷ [])) → (is-8·Greets·8 : Is (Leg-p .row) (plainLeg (greeted f′ r′ ((takenOf (readAt (s) ((Cursor-of (r′ .at)) .at)) n₆) .at) (createdOf (sessions) (streams) (f′ .«max_clients») (r′ .next)))) (Leg-p .val (plainLeg (greeted f′ r′ ((takenOf (readAt (s) ((Cursor-of (r′ .at)) .at)) n₆) .at) (createdOf (sessions) (streams) (f′ .«max_clients») (r′ .next)))) ∷ [])) → Sq W (‵ (MutSlice (named 0) κ₁ (Array u64 8) .own (at-list b₁ o₁ γ₁ (openedRows (createdOf (sessions) (streams) (f′ .«max_clients») (r′ .next)) (sessions) (((takenOf (readAt (s) ((Cursor-of (r′ .at)) .at)) n₆) .asked) .key) (f′ .moment .time))) (sliceVal (b₁, o₁) n₁ ∷ [])) ∷ ‵ (flft κ₁ q₁) ∷ ‵ (MutSlice (named 0) κ₂ (Array u16 35) .own (at-list b₂ o₂ γ₂ (openedStreams (createdOf (sessions) (streams) (f′ .«max_clients») (r′ .next)) (streams))) (sliceVal (b₂, o₂) n₂ ∷ [])) ∷ ‵ (flft κ₂ q₂) ∷ ‵ (MutSlice (named 0) κ₃ Object-t.the-row .own (at-list b₃ o₃ γ₃ objects) (sliceVal (b₃, o₃) n₃ ∷ [])) ∷ ‵ (flft κ₃ q₃) ∷ ‵ (ShrSlice (named 0) κ₄ u8 .own (at-list b₄ o₄ γ₄ held) (sliceVal (b₄, o₄) n₄ ∷ [])) ∷ ‵ (flft κ₄ q₄) ∷ ‵ (MutSlice (named 0) κ₅ u8 .own (at-list b₅ o₅ γ₅ (putBytes (out) (r′ .wrote) (greetingBytes (createdOf (sessions) (streams) (f′ .«max_clients») (r′ .next))))) (sliceVal (b₅, o₅) n₅ ∷ [])) ∷ ‵ (flft κ₅ q₅) ∷ ‵ (ShrSlice (named 0) κ₆ u8 .own (at-list b₆ o₆ γ₆ s) (sliceVal (b₆, o₆) n₆ ∷ [])) ∷ ‵ (flft κ₆ q₆) ∷ free 𝓤 Ran-l.mir l₃₆ (free 𝓤 (sliceTy (tyRef erased mut (pointee (u8 .written)))) l₃₅ (free 𝓤 (tyRef erased mut (pointee (u8 .written))) l₃₄ (free 𝓤 (sliceTy (tyRef erased mut (pointee (Object-t.the-row .written)))) l₃₃ (free 𝓤 (tyRef erased mut (pointee (Object-t.the-row .written))) l₃₂ (free 𝓤 (sliceTy (tyRef erased mut (pointee ((Array u16 35) .written)))) l₃₁ (free 𝓤 (tyRef erased mut (pointee ((Array u16 35) .written))) l₃₀ (free 𝓤 (sliceTy (tyRef erased mut (pointee ((Array u64 8) .written)))) l₂₉ (free 𝓤 (tyRef erased mut (pointee ((Array u64 8) .written))) l₂₈ (free 𝓤 Ran-l.mir l₂₇ (free 𝓤 Found-l.mir l₂₆ (free 𝓤 Ran-l.mir l₂₅ (full 𝓤 (sliceTy (tyRef erased mut (pointee (u8 .written)))) l₂₄ (sliceVal (b₅, o₅) n₅) (full 𝓤 (tyRef erased mut (pointee (u8 .written))) l₂₃ (vptr b₅ o₅) (full 𝓤 (sliceTy (tyRef erased mut (pointee ((Array u16 35) .written)))) l₂₂ (sliceVal (b₂, o₂) n₂) (full 𝓤 (tyRef erased mut (pointee ((Array u16 35) .written))) l₂₁ (vptr b₂ o₂) (full 𝓤 (sliceTy (tyRef erased mut (pointee ((Array u64 8) .written)))) l₂₀ (sliceVal (b₁, o₁) n₁) (full 𝓤 (tyRef erased mut (pointee ((Array u64 8) .written))) l₁₉ (vptr b₁ o₁) (full 𝓤 Ran-l.mir l₁₈ (Ran-p .val (greeted f′ r′ ((takenOf (readAt (s) ((Cursor-of (r′ .at)) .at)) n₆) .at) (createdOf (sessions) (streams) (f′ .«max_clients») (r′ .next)))) (full 𝓤 Leg-l.mir l₁₇ (Leg-p .val (plainLeg (greeted f′ r′ ((takenOf (readAt (s) ((Cursor-of (r′ .at)) .at)) n₆) .at) (createdOf (sessions) (streams) (f′ .«max_clients») (r′ .next))))) (full 𝓤 (tyInt w64) l₁₆ (u64-p .val n₆) (full 𝓤 Step-l.mir l₁₅ (Step-p .val Step-Greets) (full 𝓤 Opening-l.mir l₁₄ (Opening-p .val (((takenOf (readAt (s) ((Cursor-of (r′ .at)) .at)) n₆) .asked) .opening)) (full 𝓤 Asked-l.mir l₁₃ (Asked-p .val ((takenOf (readAt (s) ((Cursor-of (r′ .at)) .at)) n₆) .asked)) (full 𝓤 Taken-l.mir l₁₂ (Taken-p .val (takenOf (readAt (s) ((Cursor-of (r′ .at)) .at)) n₆)) (full 𝓤 Parsed-l.mir l₁₁ (Parsed-p .val (readAt (s) ((Cursor-of (r′ .at)) .at))) (full 𝓤 Cursor-l.mir l₁₀ (Cursor-p .val (Cursor-of (r′ .at))) (full 𝓤 Ran-l.mir l₉ (Ran-p .val r′) (full 𝓤 Mode-l.mir l₈ (Mode-p .val m) (full 𝓤 Frame-l.mir l₇ (Frame-p .val f′) (full 𝓤 (sliceTy (tyRef (named 5) imm (pointee (u8 .written)))) l₆ (sliceVal (b₆, o₆) n₆) (full 𝓤 (sliceTy (tyRef (named 4) mut (pointee (u8 .written)))) l₅ (sliceVal (b₅, o₅) n₅) (full 𝓤 (sliceTy (tyRef (named 3) imm (pointee (u8 .written)))) l₄ (sliceVal (b₄, o₄) n₄) (full 𝓤 (sliceTy (tyRef (named 2) mut (pointee (Object-t.the-row .written)))) l₃ (sliceVal (b₃, o₃) n₃) (full 𝓤 (sliceTy (tyRef (named 1) mut (pointee ((Array u16 35) .written)))) l₂ (sliceVal (b₂, o₂) n₂) (full 𝓤 (sliceTy (tyRef (named 0) mut (pointee ((Array u64 8) .written)))) l₁ (sliceVal (b₁, o₁) n₁) (free 𝓤 Leg-l.mir l₀ ([])))))))))))))))))))))))))))))))))))))) (runs C Λ En mir.t-9 (atRet En Post))
     part-9-0 is-2 is-4 is-7 e-8 good-8 asks-8·Greets·7 len-8·Greets·7-sessions len-8·Greets·7-streams len-8·Greets·7-out is-8·Greets·7 is-8·Greets·8 =
         assigns ! (of-opd ! (load ! (from ! (stop !)) (look ! 50 refl))) (from ! (stop !)) (init ! 84 refl (Leg-p .typed 𝓤 H A W (plainLeg (greeted f′ r′ ((takenOf (readAt (s) ((Cursor-of (r′ .at)) .at)) n₆) .at) (createdOf (sessions) (streams) (f′ .«max_clients») (r′ .next)))) is-8·Greets·8)) $
         returns ! (look ! 84 refl) $ forget ! 36 refl $ forget ! 38 refl $ forget ! 40 refl $ forget ! 42 refl $ forget ! 44 refl $ forget ! 46 refl $ forget ! 48 refl $ forget ! 50 refl $ forget ! 52 refl $ forget ! 54 refl $ forget ! 56 refl $ forget ! 58 refl $ forget ! 60 refl $ forget ! 62 refl $ forget ! 64 refl $
-        frees-all (plainLeg (greeted f′ r′ ((takenOf (readAt (s) ((Cursor-of (r′ .at)) .at)) n₆) .at) (createdOf (sessions) (streams) (f′ .«max_clients») (r′ .next)))) (openedRows (createdOf (sessions) (streams) (f′ .«max_clients») (r′ .next)) (sessions) (((takenOf (readAt (s) ((Cursor-of (r′ .at)) .at)) n₆) .asked) .key) (f′ .time)) (openedStreams (createdOf (sessions) (streams) (f′ .«max_clients») (r′ .next)) (streams)) objects (putBytes (out) (r′ .wrote) (greetingBytes (createdOf (sessions) (streams) (f′ .«max_clients») (r′ .next)))) (exits (plainLeg (greeted f′ r′ ((takenOf (readAt (s) ((Cursor-of (r′ .at)) .at)) n₆) .at) (createdOf (sessions) (streams) (f′ .«max_clients») (r′ .next)))) (openedRows (createdOf (sessions) (streams) (f′ .«max_clients») (r′ .next)) (sessions) (((takenOf (readAt (s) ((Cursor-of (r′ .at)) .at)) n₆) .asked) .key) (f′ .time)) (openedStreams (createdOf (sessions) (streams) (f′ .«max_clients») (r′ .next)) (streams)) objects (putBytes (out) (r′ .wrote) (greetingBytes (createdOf (sessions) (streams) (f′ .«max_clients») (r′ .next)))) (as-led (f′ .room) out _ (r′ .wrote) (left Step-Greets) leaves (ap left (sym e-8) ∙ left-is) (greeting-written (f′ .room) out (r′ .wrote) (createdOf sessions streams (f′ .«max_clients») (r′ .next)))) is-8·Greets·8 len-8·Greets·7-sessions len-8·Greets·7-streams refl len-8·Greets·7-out)
+        frees-all (plainLeg (greeted f′ r′ ((takenOf (readAt (s) ((Cursor-of (r′ .at)) .at)) n₆) .at) (createdOf (sessions) (streams) (f′ .«max_clients») (r′ .next)))) (openedRows (createdOf (sessions) (streams) (f′ .«max_clients») (r′ .next)) (sessions) (((takenOf (readAt (s) ((Cursor-of (r′ .at)) .at)) n₆) .asked) .key) (f′ .moment .time)) (openedStreams (createdOf (sessions) (streams) (f′ .«max_clients») (r′ .next)) (streams)) objects (putBytes (out) (r′ .wrote) (greetingBytes (createdOf (sessions) (streams) (f′ .«max_clients») (r′ .next)))) (exits (plainLeg (greeted f′ r′ ((takenOf (readAt (s) ((Cursor-of (r′ .at)) .at)) n₆) .at) (createdOf (sessions) (streams) (f′ .«max_clients») (r′ .next)))) (openedRows (createdOf (sessions) (streams) (f′ .«max_clients») (r′ .next)) (sessions) (((takenOf (readAt (s) ((Cursor-of (r′ .at)) .at)) n₆) .asked) .key) (f′ .moment .time)) (openedStreams (createdOf (sessions) (streams) (f′ .«max_clients») (r′ .next)) (streams)) objects (putBytes (out) (r′ .wrote) (greetingBytes (createdOf (sessions) (streams) (f′ .«max_clients») (r′ .next)))) (as-led (f′ .room) out _ (r′ .wrote) (left Step-Greets) leaves (ap left (sym e-8) ∙ left-is) (greeting-written (f′ .room) out (r′ .wrote) (createdOf sessions streams (f′ .«max_clients») (r′ .next)))) is-8·Greets·8 len-8·Greets·7-sessions len-8·Greets·7-streams refl len-8·Greets·7-out)
 
-    part-8·Greets·8-0 : (is-2 : Is (Parsed-p .row) (readAt (s) ((Cursor-of (r′ .at)) .at)) (Parsed-p .val (readAt (s) ((Cursor-of (r′ .at)) .at)) ∷ [])) → (is-4 : Is (Taken-p .row) (takenOf (readAt (s) ((Cursor-of (r′ .at)) .at)) n₆) (Taken-p .val (takenOf (readAt (s) ((Cursor-of (r′ .at)) .at)) n₆) ∷ [])) → (is-7 : Is (Step-p .row) (stepOf m (((takenOf (readAt (s) ((Cursor-of (r′ .at)) .at)) n₆) .asked) .opening)) (Step-p .val (stepOf m (((takenOf (readAt (s) ((Cursor-of (r′ .at)) .at)) n₆) .asked) .opening)) ∷ [])) → (e-8 : stepOf m (((takenOf (readAt (s) ((Cursor-of (r′ .at)) .at)) n₆) .asked) .opening) ≡ Step-Greets) → (good-8 : Is (Step-p .row) Step-Greets (Step-p .val Step-Greets ∷ [])) → (asks-8·Greets·7 : f′ .room ≤ 9223372036854775807) → (len-8·Greets·7-sessions : length (openedRows (createdOf (sessions) (streams) (f′ .«max_clients») (r′ .next)) (sessions) (((takenOf (readAt (s) ((Cursor-of (r′ .at)) .at)) n₆) .asked) .key) (f′ .time)) ≡ n₁) → (len-8·Greets·7-streams : length (openedStreams (createdOf (sessions) (streams) (f′ .«max_clients») (r′ .next)) (streams)) ≡ n₂) → (len-8·Greets·7-out : length (putBytes (out) (r′ .wrote) (greetingBytes (createdOf (sessions) (streams) (f′ .«max_clients») (r′ .next)))) ≡ n₅) → (is-8·Greets·7 : Is (Ran-p .row) (greeted f′ r′ ((takenOf (readAt (s) ((Cursor-of (r′ .at)) .at)) n₆) .at) (createdOf (sessions) (streams) (f′ .«max_clients») (r′ .next))) (Ran-p .val (greeted f′ r′ ((takenOf (readAt (s) ((Cursor-of (r′ .at)) .at)) n₆) .at) (createdOf (sessions) (streams) (f′ .«max_clients») (r′ .next))) ∷ [])) → Sq W (‵ (MutSlice (named 0) κ₁ (Array u64 8) .own (at-list b₁ o₁ γ₁ (openedRows (createdOf (sessions) (streams) (f′ .«max_clients») (r′ .next)) (sessions) (((takenOf (readAt (s) ((Cursor-of (r′ .at)) .at)) n₆) .asked) .key) (f′ .time))) (sliceVal (b₁, o₁) n₁ ∷ [])) ∷ ‵ (flft κ₁ q₁) ∷ ‵ (MutSlice (named 0) κ₂ (Array u16 35) .own (at-list b₂ o₂ γ₂ (openedStreams (createdOf (sessions) (streams) (f′ .«max_clients») (r′ .next)) (streams))) (sliceVal (b₂, o₂) n₂ ∷ [])) ∷ ‵ (flft κ₂ q₂) ∷ ‵ (MutSlice (named 0) κ₃ Object-t.the-row .own (at-list b₃ o₃ γ₃ objects) (sliceVal (b₃, o₃) n₃ ∷ [])) ∷ ‵ (flft κ₃ q₃) ∷ ‵ (ShrSlice (named 0) κ₄ u8 .own (at-list b₄ o₄ γ₄ held) (sliceVal (b₄, o₄) n₄ ∷ [])) ∷ ‵ (flft κ₄ q₄) ∷ ‵ (MutSlice (named 0) κ₅ u8 .own (at-list b₅ o₅ γ₅ (putBytes (out) (r′ .wrote) (greetingBytes (createdOf (sessions) (streams) (f′ .«max_clients») (r′ .next))))) (sliceVal (b₅, o₅) n₅ ∷ [])) ∷ ‵ (flft κ₅ q₅) ∷ ‵ (ShrSlice (named 0) κ₆ u8 .own (at-list b₆ o₆ γ₆ s) (sliceVal (b₆, o₆) n₆ ∷ [])) ∷ ‵ (flft κ₆ q₆) ∷ free 𝓤 Ran-l.mir l₃₆ (free 𝓤 (sliceTy (tyRef erased mut (pointee (u8 .written)))) l₃₅ (free 𝓤 (tyRef erased mut (pointee (u8 .written))) l₃₄ (free 𝓤 (sliceTy (tyRef erased mut (pointee (Object-t.the-row .written)))) l₃₃ (free 𝓤 (tyRef erased mut (pointee (Object-t.the-row .written))) l₃₂ (free 𝓤 (sliceTy (tyRef erased mut (pointee ((Array u16 35) .written)))) l₃₁ (free 𝓤 (tyRef erased mut (pointee ((Array u16 35) .written))) l₃₀ (free 𝓤 (sliceTy (tyRef erased mut (pointee ((Array u64 8) .written)))) l₂₉ (free 𝓤 (tyRef erased mut (pointee ((Array u64 8) .written))) l₂₈ (free 𝓤 Ran-l.mir l₂₇ (free 𝓤 Found-l.mir l₂₆ (free 𝓤 Ran-l.mir l₂₅ (full 𝓤 (sliceTy (tyRef erased mut (pointee (u8 .written)))) l₂₄ (sliceVal (b₅, o₅) n₅) (full 𝓤 (tyRef erased mut (pointee (u8 .written))) l₂₃ (vptr b₅ o₅) (full 𝓤 (sliceTy (tyRef erased mut (pointee ((Array u16 35) .written)))) l₂₂ (sliceVal (b₂, o₂) n₂) (full 𝓤 (tyRef erased mut (pointee ((Array u16 35) .written))) l₂₁ (vptr b₂ o₂) (full 𝓤 (sliceTy (tyRef erased mut (pointee ((Array u64 8) .written)))) l₂₀ (sliceVal (b₁, o₁) n₁) (full 𝓤 (tyRef erased mut (pointee ((Array u64 8) .written))) l₁₉ (vptr b₁ o₁) (full 𝓤 Ran-l.mir l₁₈ (Ran-p .val (greeted f′ r′ ((takenOf (readAt (s) ((Cursor-of (r′ .at)) .at)) n₆) .at) (createdOf (sessions) (streams) (f′ .«max_clients») (r′ .next)))) (free 𝓤 Leg-l.mir l₁₇ (full 𝓤 (tyInt w64) l₁₆ (u64-p .val n₆) (full 𝓤 Step-l.mir l₁₅ (Step-p .val Step-Greets) (full 𝓤 Opening-l.mir l₁₄ (Opening-p .val (((takenOf (readAt (s) ((Cursor-of (r′ .at)) .at)) n₆) .asked) .opening)) (full 𝓤 Asked-l.mir l₁₃ (Asked-p .val ((takenOf (readAt (s) ((Cursor-of (r′ .at)) .at)) n₆) .asked)) (full 𝓤 Taken-l.mir l₁₂ (Taken-p .val (takenOf (readAt (s) ((Cursor-of (r′ .at)) .at)) n₆)) (full 𝓤 Parsed-l.mir l₁₁ (Parsed-p .val (readAt (s) ((Cursor-of (r′ .at)) .at))) (full 𝓤 Cursor-l.mir l₁₀ (Cursor-p .val (Cursor-of (r′ .at))) (full 𝓤 Ran-l.mir l₉ (Ran-p .val r′) (full 𝓤 Mode-l.mir l₈ (Mode-p .val m) (full 𝓤 Frame-l.mir l₇ (Frame-p .val f′) (full 𝓤 (sliceTy (tyRef (named 5) imm (pointee (u8 .written)))) l₆ (sliceVal (b₆, o₆) n₆) (full 𝓤 (sliceTy (tyRef (named 4) mut (pointee (u8 .written)))) l₅ (sliceVal (b₅, o₅) n₅) (full 𝓤 (sliceTy (tyRef (named 3) imm (pointee (u8 .written)))) l₄ (sliceVal (b₄, o₄) n₄) (full 𝓤 (sliceTy (tyRef (named 2) mut (pointee (Object-t.the-row .written)))) l₃ (sliceVal (b₃, o₃) n₃) (full 𝓤 (sliceTy (tyRef (named 1) mut (pointee ((Array u16 35) .written)))) l₂ (sliceVal (b₂, o₂) n₂) (full 𝓤 (sliceTy (tyRef (named 0) mut (pointee ((Array u64 8) .written)))) l₁ (sliceVal (b₁, o₁) n₁) (free 𝓤 Leg-l.mir l₀ ([])))))))))))))))))))))))))))))))))))))) (runs C Λ En (past 7 (arm-of 0 (one mir.t-8))) (anyQ (afterSeq 𝓤 H (Wp 𝓤 H C Λ En mir.t-9 (atReturn 𝓤 H En Post)) (atReturn 𝓤 H En Post))))
+    part-8·Greets·8-0 : (is-2 : Is (Parsed-p .row) (readAt (s) ((Cursor-of (r′ .at)) .at)) (Parsed-p .val (readAt (s) ((Cursor-of (r′ .at)) .at)) ∷ [])) → (is-4 : Is (Taken-p .row) (takenOf (readAt (s) ((Cursor-of (r′ .at)) .at)) n₆) (Taken-p .val (takenOf (readAt (s) ((Cursor-of (r′ .at)) .at)) n₆) ∷ [])) → (is-7 : Is (Step-p .row) (stepOf m (((takenOf (readAt (s) ((Cursor-of (r′ .at)) .at)) n₆) .asked) .opening)) (Step-p .val (stepOf m (((takenOf (readAt (s) ((Cursor-of (r′ .at)) .at)) n₆) .asked) .opening)) ∷ [])) → (e-8 : stepOf m (((takenOf (readAt (s) ((Cursor-of (r′ .at)) .at)) n₆) .asked) .opening) ≡ Step-Greets) → (good-8 : Is (Step-p .row) Step-Greets (Step-p .val Step-Greets ∷ [])) → (asks-8·Greets·7 : f′ .room ≤ 9223372036854775807) → (len-8·Greets·7-sessions : length (openedRows (createdOf (sessions) (streams) (f′ .«max_clients») (r′ .next)) (sessions) (((takenOf (readAt (s) ((Cursor-of (r′ .at)) .at)) n₆) .asked) .key) (f′ .moment .time)) ≡ n₁) → (len-8·Greets·7-streams : length (openedStreams (createdOf (sessions) (streams) (f′ .«max_clients») (r′ .next)) (streams)) ≡ n₂) → (len-8·Greets·7-out : length (putBytes (out) (r′ .wrote) (greetingBytes (createdOf (sessions) (streams) (f′ .«max_clients») (r′ .next)))) ≡ n₅) → (is-8·Greets·7 : Is (Ran-p .row) (greeted f′ r′ ((takenOf (readAt (s) ((Cursor-of (r′ .at)) .at)) n₆) .at) (createdOf (sessions) (streams) (f′ .«max_clients») (r′ .next))) (Ran-p .val (greeted f′ r′ ((takenOf (readAt (s) ((Cursor-of (r′ .at)) .at)) n₆) .at) (createdOf (sessions) (streams) (f′ .«max_clients») (r′ .next))) ∷ [])) → Sq W (‵ (MutSlice (named 0) κ₁ (Array u64 8) .own (at-list b₁ o₁ γ₁ (openedRows (createdOf (sessions) (streams) (f′ .«max_clients») (r′ .next)) (sessions) (((takenOf (readAt (s) ((Cursor-of (r′ .at)) .at)) n₆) .asked) .key) (f′ .moment .time))) (sliceVal (b₁, o₁) n₁ ∷ [])) ∷ ‵ (flft κ₁ q₁) ∷ ‵ (MutSlice (named 0) κ₂ (Array u16 35) .own (at-list b₂ o₂ γ₂ (openedStreams (createdOf (sessions) (streams) (f′ .«max_clients») (r′ .next)) (streams))) (sliceVal (b₂, o₂) n₂ ∷ [])) ∷ ‵ (flft κ₂ q₂) ∷ ‵ (MutSlice (named 0) κ₃ Object-t.the-row .own (at-list b₃ o₃ γ₃ objects) (sliceVal (b₃, o₃) n₃ ∷ [])) ∷ ‵ (flft κ₃ q₃) ∷ ‵ (ShrSlice (named 0) κ₄ u8 .own (at-list b₄ o₄ γ₄ held) (sliceVal (b₄, o₄) n₄ ∷ [])) ∷ ‵ (flft κ₄ q₄) ∷ ‵ (MutSlice (named 0) κ₅ u8 .own (at-list b₅ o₅ γ₅ (putBytes (out) (r′ .wrote) (greetingBytes (createdOf (sessions) (streams) (f′ .«max_clients») (r′ .next))))) (sliceVal (b₅, o₅) n₅ ∷ [])) ∷ ‵ (flft κ₅ q₅) ∷ ‵ (ShrSlice (named 0) κ₆ u8 .own (at-list b₆ o₆ γ₆ s) (sliceVal (b₆, o₆) n₆ ∷ [])) ∷ ‵ (flft κ₆ q₆) ∷ free 𝓤 Ran-l.mir l₃₆ (free 𝓤 (sliceTy (tyRef erased mut (pointee (u8 .written)))) l₃₅ (free 𝓤 (tyRef erased mut (pointee (u8 .written))) l₃₄ (free 𝓤 (sliceTy (tyRef erased mut (pointee (Object-t.the-row .written)))) l₃₃ (free 𝓤 (tyRef erased mut (pointee (Object-t.the-row .written))) l₃₂ (free 𝓤 (sliceTy (tyRef erased mut (pointee ((Array u16 35) .written)))) l₃₁ (free 𝓤 (tyRef erased mut (pointee ((Array u16 35) .written))) l₃₀ (free 𝓤 (sliceTy (tyRef erased mut (pointee ((Array u64 8) .written)))) l₂₉ (free 𝓤 (tyRef erased mut (pointee ((Array u64 8) .written))) l₂₈ (free 𝓤 Ran-l.mir l₂₇ (free 𝓤 Found-l.mir l₂₆ (free 𝓤 Ran-l.mir l₂₅ (full 𝓤 (sliceTy (tyRef erased mut (pointee (u8 .written)))) l₂₄ (sliceVal (b₅, o₅) n₅) (full 𝓤 (tyRef erased mut (pointee (u8 .written))) l₂₃ (vptr b₅ o₅) (full 𝓤 (sliceTy (tyRef erased mut (pointee ((Array u16 35) .written)))) l₂₂ (sliceVal (b₂, o₂) n₂) (full 𝓤 (tyRef erased mut (pointee ((Array u16 35) .written))) l₂₁ (vptr b₂ o₂) (full 𝓤 (sliceTy (tyRef erased mut (pointee ((Array u64 8) .written)))) l₂₀ (sliceVal (b₁, o₁) n₁) (full 𝓤 (tyRef erased mut (pointee ((Array u64 8) .written))) l₁₉ (vptr b₁ o₁) (full 𝓤 Ran-l.mir l₁₈ (Ran-p .val (greeted f′ r′ ((takenOf (readAt (s) ((Cursor-of (r′ .at)) .at)) n₆) .at) (createdOf (sessions) (streams) (f′ .«max_clients») (r′ .next)))) (free 𝓤 Leg-l.mir l₁₇ (full 𝓤 (tyInt w64) l₁₆ (u64-p .val n₆) (full 𝓤 Step-l.mir l₁₅ (Step-p .val Step-Greets) (full 𝓤 Opening-l.mir l₁₄ (Opening-p .val (((takenOf (readAt (s) ((Cursor-of (r′ .at)) .at)) n₆) .asked) .opening)) (full 𝓤 Asked-l.mir l₁₃ (Asked-p .val ((takenOf (readAt (s) ((Cursor-of (r′ .at)) .at)) n₆) .asked)) (full 𝓤 Taken-l.mir l₁₂ (Taken-p .val (takenOf (readAt (s) ((Cursor-of (r′ .at)) .at)) n₆)) (full 𝓤 Parsed-l.mir l₁₁ (Parsed-p .val (readAt (s) ((Cursor-of (r′ .at)) .at))) (full 𝓤 Cursor-l.mir l₁₀ (Cursor-p .val (Cursor-of (r′ .at))) (full 𝓤 Ran-l.mir l₉ (Ran-p .val r′) (full 𝓤 Mode-l.mir l₈ (Mode-p .val m) (full 𝓤 Frame-l.mir l₇ (Frame-p .val f′) (full 𝓤 (sliceTy (tyRef (named 5) imm (pointee (u8 .written)))) l₆ (sliceVal (b₆, o₆) n₆) (full 𝓤 (sliceTy (tyRef (named 4) mut (pointee (u8 .written)))) l₅ (sliceVal (b₅, o₅) n₅) (full 𝓤 (sliceTy (tyRef (named 3) imm (pointee (u8 .written)))) l₄ (sliceVal (b₄, o₄) n₄) (full 𝓤 (sliceTy (tyRef (named 2) mut (pointee (Object-t.the-row .written)))) l₃ (sliceVal (b₃, o₃) n₃) (full 𝓤 (sliceTy (tyRef (named 1) mut (pointee ((Array u16 35) .written)))) l₂ (sliceVal (b₂, o₂) n₂) (full 𝓤 (sliceTy (tyRef (named 0) mut (pointee ((Array u64 8) .written)))) l₁ (sliceVal (b₁, o₁) n₁) (free 𝓤 Leg-l.mir l₀ ([])))))))))))))))))))))))))))))))))))))) (runs C Λ En (past 7 (arm-of 0 (one mir.t-8))) (anyQ (afterSeq 𝓤 H (Wp 𝓤 H C Λ En mir.t-9 (atReturn 𝓤 H En Post)) (atReturn 𝓤 H En Post))))
     part-8·Greets·8-0 is-2 is-4 is-7 e-8 good-8 asks-8·Greets·7 len-8·Greets·7-sessions len-8·Greets·7-streams len-8·Greets·7-out is-8·Greets·7 =
         -- 8.Greets.8: agent::leg::plain
         nothing ! $
@@ -504,7 +513,7 @@ module _ {M : Type 1} (𝓤 : URA M) (H : Heap 𝓤) (A : Atoms 𝓤) (W : Given
         owned ! (u32-p .row) (Is (u32-p .row)) (u32-p .makes 𝓤 H A W) (((takenOf (readAt (s) ((Cursor-of (r′ .at)) .at)) n₆) .asked) .key) (u32-p .val (((takenOf (readAt (s) ((Cursor-of (r′ .at)) .at)) n₆) .asked) .key) ∷ []) (LL.owed Asked-t.the-type Asked-l.the-laws ((takenOf (readAt (s) ((Cursor-of (r′ .at)) .at)) n₆) .asked) _ (LL.owed Taken-t.the-type Taken-l.the-laws (takenOf (readAt (s) ((Cursor-of (r′ .at)) .at)) n₆) _ is-4 .0) .1 .1 .0) $ fjoin ! $
         owned ! (Ran-p .row) (Is (Ran-p .row)) (Ran-p .makes 𝓤 H A W) r′ (Ran-p .val r′ ∷ []) r′-is $ fjoin ! $
         owned ! (Frame-p .row) (Is (Frame-p .row)) (Frame-p .makes 𝓤 H A W) f′ (Frame-p .val f′ ∷ []) f′-is $ fjoin ! $ move ! (2 ∷ 0 ∷ []) $ fjoin ! $ move ! (3 ∷ 0 ∷ []) $ fjoin ! $ move ! (4 ∷ 0 ∷ []) $ fjoin ! $ move ! (1 ∷ 0 ∷ []) $
-        calls-any ! fm 3 [] (turn-greet.signature .params) (turn-greet.ended .kept) Ran-p (turn-greet.clauses 𝓤 H A mem run) known-turn-greet ((ν-8·Greets·7-sessions ∷ []), ((ν-8·Greets·7-streams ∷ []), ((ν-8·Greets·7-out ∷ []), tt))) (fullShare, (fullShare, (fullShare, tt))) tt (at-list b₁ o₁ δ-8·Greets·7-sessions sessions, (at-list b₂ o₂ δ-8·Greets·7-streams streams, (at-list b₅ o₅ δ-8·Greets·7-out out, (f′, (r′, (((takenOf (readAt (s) ((Cursor-of (r′ .at)) .at)) n₆) .asked) .key, ((takenOf (readAt (s) ((Cursor-of (r′ .at)) .at)) n₆) .at, tt))))))) (sliceVal (b₁, o₁) n₁ ∷ [], (sliceVal (b₂, o₂) n₂ ∷ [], (sliceVal (b₅, o₅) n₅ ∷ [], (Frame-p .val f′ ∷ [], (Ran-p .val r′ ∷ [], (u32-p .val (((takenOf (readAt (s) ((Cursor-of (r′ .at)) .at)) n₆) .asked) .key) ∷ [], (u64-p .val ((takenOf (readAt (s) ((Cursor-of (r′ .at)) .at)) n₆) .at) ∷ [], tt))))))) tt (greeted f′ r′ ((takenOf (readAt (s) ((Cursor-of (r′ .at)) .at)) n₆) .at) (createdOf (sessions) (streams) (f′ .«max_clients») (r′ .next))) (λ ws-8·Greets·7. (ws-8·Greets·7 .0 ≡ openedRows (createdOf (sessions) (streams) (f′ .«max_clients») (r′ .next)) (sessions) (((takenOf (readAt (s) ((Cursor-of (r′ .at)) .at)) n₆) .asked) .key) (f′ .time)) × (ws-8·Greets·7 .1 .0 ≡ openedStreams (createdOf (sessions) (streams) (f′ .«max_clients») (r′ .next)) (streams)) × (ws-8·Greets·7 .1 .1 .0 ≡ putBytes (out) (r′ .wrote) (greetingBytes (createdOf (sessions) (streams) (f′ .«max_clients») (r′ .next))))) (factI 𝓤 (f′ .room ≤ 9223372036854775807) _ asks-8·Greets·7) (λ r ws-8·Greets·7. fact-mono 𝓤 ((r ≡ greeted f′ r′ ((takenOf (readAt (s) ((Cursor-of (r′ .at)) .at)) n₆) .at) (createdOf (sessions) (streams) (f′ .«max_clients») (r′ .next))) × ((ws-8·Greets·7 .0) ≡ openedRows (createdOf (sessions) (streams) (f′ .«max_clients») (r′ .next)) (sessions) (((takenOf (readAt (s) ((Cursor-of (r′ .at)) .at)) n₆) .asked) .key) (f′ .time)) × ((ws-8·Greets·7 .1 .0) ≡ openedStreams (createdOf (sessions) (streams) (f′ .«max_clients») (r′ .next)) (streams)) × ((ws-8·Greets·7 .1 .1 .0) ≡ putBytes (out) (r′ .wrote) (greetingBytes (createdOf (sessions) (streams) (f′ .«max_clients») (r′ .next))))) ((r ≡ (greeted f′ r′ ((takenOf (readAt (s) ((Cursor-of (r′ .at)) .at)) n₆) .at) (createdOf (sessions) (streams) (f′ .«max_clients») (r′ .next)))) × ((ws-8·Greets·7 .0 ≡ openedRows (createdOf (sessions) (streams) (f′ .«max_clients») (r′ .next)) (sessions) (((takenOf (readAt (s) ((Cursor-of (r′ .at)) .at)) n₆) .asked) .key) (f′ .time)) × (ws-8·Greets·7 .1 .0 ≡ openedStreams (createdOf (sessions) (streams) (f′ .«max_clients») (r′ .next)) (streams)) × (ws-8·Greets·7 .1 .1 .0 ≡ putBytes (out) (r′ .wrote) (greetingBytes (createdOf (sessions) (streams) (f′ .«max_clients») (r′ .next)))))) (λ e. (e .0, (e .1, e .2, e .3)))) (λ _. (and-then ! (load ! (from ! (stop !)) (look ! 42 refl)) (and-then ! (load ! (from ! (stop !)) (look ! 38 refl)) (and-then ! (load ! (from ! (stop !)) (look ! 34 refl)) (and-then ! (load ! (from ! (stop !)) (look ! 68 refl)) (and-then ! (load ! (from ! (stop !)) (look ! 64 refl)) (and-then ! (load ! (from ! (fld ! refl (stop !))) (look-in ! 56 (sub ! 2 refl (whole !)))) (and-then ! (load ! (from ! (fld ! refl (stop !))) (look-in ! 58 (sub ! 2 refl (whole !)))) (no-more !))))))))) (λ ws-8·Greets·7 said-8·Greets·7 is-8·Greets·7.
+        calls-any ! fm 3 [] (turn-greet.signature .params) (turn-greet.ended .kept) Ran-p (turn-greet.clauses 𝓤 H A mem run) known-turn-greet ((ν-8·Greets·7-sessions ∷ []), ((ν-8·Greets·7-streams ∷ []), ((ν-8·Greets·7-out ∷ []), tt))) (fullShare, (fullShare, (fullShare, tt))) tt (at-list b₁ o₁ δ-8·Greets·7-sessions sessions, (at-list b₂ o₂ δ-8·Greets·7-streams streams, (at-list b₅ o₅ δ-8·Greets·7-out out, (f′, (r′, (((takenOf (readAt (s) ((Cursor-of (r′ .at)) .at)) n₆) .asked) .key, ((takenOf (readAt (s) ((Cursor-of (r′ .at)) .at)) n₆) .at, tt))))))) (sliceVal (b₁, o₁) n₁ ∷ [], (sliceVal (b₂, o₂) n₂ ∷ [], (sliceVal (b₅, o₅) n₅ ∷ [], (Frame-p .val f′ ∷ [], (Ran-p .val r′ ∷ [], (u32-p .val (((takenOf (readAt (s) ((Cursor-of (r′ .at)) .at)) n₆) .asked) .key) ∷ [], (u64-p .val ((takenOf (readAt (s) ((Cursor-of (r′ .at)) .at)) n₆) .at) ∷ [], tt))))))) tt (greeted f′ r′ ((takenOf (readAt (s) ((Cursor-of (r′ .at)) .at)) n₆) .at) (createdOf (sessions) (streams) (f′ .«max_clients») (r′ .next))) (λ ws-8·Greets·7. (ws-8·Greets·7 .0 ≡ openedRows (createdOf (sessions) (streams) (f′ .«max_clients») (r′ .next)) (sessions) (((takenOf (readAt (s) ((Cursor-of (r′ .at)) .at)) n₆) .asked) .key) (f′ .moment .time)) × (ws-8·Greets·7 .1 .0 ≡ openedStreams (createdOf (sessions) (streams) (f′ .«max_clients») (r′ .next)) (streams)) × (ws-8·Greets·7 .1 .1 .0 ≡ putBytes (out) (r′ .wrote) (greetingBytes (createdOf (sessions) (streams) (f′ .«max_clients») (r′ .next))))) (factI 𝓤 (f′ .room ≤ 9223372036854775807) _ asks-8·Greets·7) (λ r ws-8·Greets·7. fact-mono 𝓤 ((r ≡ greeted f′ r′ ((takenOf (readAt (s) ((Cursor-of (r′ .at)) .at)) n₆) .at) (createdOf (sessions) (streams) (f′ .«max_clients») (r′ .next))) × ((ws-8·Greets·7 .0) ≡ openedRows (createdOf (sessions) (streams) (f′ .«max_clients») (r′ .next)) (sessions) (((takenOf (readAt (s) ((Cursor-of (r′ .at)) .at)) n₆) .asked) .key) (f′ .moment .time)) × ((ws-8·Greets·7 .1 .0) ≡ openedStreams (createdOf (sessions) (streams) (f′ .«max_clients») (r′ .next)) (streams)) × ((ws-8·Greets·7 .1 .1 .0) ≡ putBytes (out) (r′ .wrote) (greetingBytes (createdOf (sessions) (streams) (f′ .«max_clients») (r′ .next))))) ((r ≡ (greeted f′ r′ ((takenOf (readAt (s) ((Cursor-of (r′ .at)) .at)) n₆) .at) (createdOf (sessions) (streams) (f′ .«max_clients») (r′ .next)))) × ((ws-8·Greets·7 .0 ≡ openedRows (createdOf (sessions) (streams) (f′ .«max_clients») (r′ .next)) (sessions) (((takenOf (readAt (s) ((Cursor-of (r′ .at)) .at)) n₆) .asked) .key) (f′ .moment .time)) × (ws-8·Greets·7 .1 .0 ≡ openedStreams (createdOf (sessions) (streams) (f′ .«max_clients») (r′ .next)) (streams)) × (ws-8·Greets·7 .1 .1 .0 ≡ putBytes (out) (r′ .wrote) (greetingBytes (createdOf (sessions) (streams) (f′ .«max_clients») (r′ .next)))))) (λ e. (e .0, (e .1, e .2, e .3)))) (λ _. (and-then ! (load ! (from ! (stop !)) (look ! 42 refl)) (and-then ! (load ! (from ! (stop !)) (look ! 38 refl)) (and-then ! (load ! (from ! (stop !)) (look ! 34 refl)) (and-then ! (load ! (from ! (stop !)) (look ! 68 refl)) (and-then ! (load ! (from ! (stop !)) (look ! 64 refl)) (and-then ! (load ! (from ! (fld ! refl (stop !))) (look-in ! 56 (sub ! 2 refl (whole !)))) (and-then ! (load ! (from ! (fld ! refl (stop !))) (look-in ! 58 (sub ! 2 refl (whole !)))) (no-more !))))))))) (λ ws-8·Greets·7 said-8·Greets·7 is-8·Greets·7.
         use1 W ((‵ (flft (ν-8·Greets·7-sessions ∷ []) fullShare) ⊛ (‵ (flft (ν-8·Greets·7-streams ∷ []) fullShare) ⊛ (‵ (flft (ν-8·Greets·7-out ∷ []) fullShare) ⊛ ‵ ftrue)))) (id⊢ 𝓤 _) $ split ! $ move ! (1 ∷ []) $ split ! $ move ! (1 ∷ []) $ split ! $ move ! (4 ∷ []) $ fsplit ! $ fsplit ! $ move ! (1 ∷ []) $
         feqL ! (λ wlen-8·Greets·7-0.
         move ! (1 ∷ []) $ fsplit ! $ fsplit ! $ move ! (1 ∷ []) $
@@ -512,7 +521,7 @@ module _ {M : Type 1} (𝓤 : URA M) (H : Heap 𝓤) (A : Atoms 𝓤) (W : Given
         move ! (1 ∷ []) $ fsplit ! $ fsplit ! $ move ! (1 ∷ []) $
         feqL ! (λ wlen-8·Greets·7-2.
         move ! (7 ∷ 10 ∷ 3 ∷ []) $
-        backs-mut ! tt (Array u64 8) b₁ o₁ sessions n₁ (refl) room₁ ν-8·Greets·7-sessions δ-8·Greets·7-sessions (ws-8·Greets·7 .0) (openedRows (createdOf (sessions) (streams) (f′ .«max_clients») (r′ .next)) (sessions) (((takenOf (readAt (s) ((Cursor-of (r′ .at)) .at)) n₆) .asked) .key) (f′ .time)) wlen-8·Greets·7-0 (said-8·Greets·7 .0) (λ len-8·Greets·7-sessions.
+        backs-mut ! tt (Array u64 8) b₁ o₁ sessions n₁ (refl) room₁ ν-8·Greets·7-sessions δ-8·Greets·7-sessions (ws-8·Greets·7 .0) (openedRows (createdOf (sessions) (streams) (f′ .«max_clients») (r′ .next)) (sessions) (((takenOf (readAt (s) ((Cursor-of (r′ .at)) .at)) n₆) .asked) .key) (f′ .moment .time)) wlen-8·Greets·7-0 (said-8·Greets·7 .0) (λ len-8·Greets·7-sessions.
         move ! (7 ∷ 9 ∷ 4 ∷ []) $
         backs-mut ! tt (Array u16 35) b₂ o₂ streams n₂ (refl) room₂ ν-8·Greets·7-streams δ-8·Greets·7-streams (ws-8·Greets·7 .1 .0) (openedStreams (createdOf (sessions) (streams) (f′ .«max_clients») (r′ .next)) (streams)) wlen-8·Greets·7-1 (said-8·Greets·7 .1) (λ len-8·Greets·7-streams.
         move ! (6 ∷ 8 ∷ 4 ∷ []) $

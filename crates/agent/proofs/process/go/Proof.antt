@@ -87,6 +87,9 @@ use Rattle.moves.specs.declared.proxy.Task.{Task}
 use Rattle.moves.proofs.proxy.Task as Task-t
 use Rattle.moves.proofs.proxy.Task.Laws as Task-l
 use Rattle.moves.specs.declared.proxy.Task.the-variants.{Creating as Task-Creating, Writing as Task-Writing, Reading as Task-Reading, Deleting as Task-Deleting}
+use Rattle.agent.specs.declared.state.Moment.{Moment}
+use Rattle.agent.proofs.state.Moment as Moment-t
+use Rattle.agent.proofs.state.Moment.Laws as Moment-l
 use Rattle.agent.specs.declared.judge.Start.{Start}
 use Rattle.agent.proofs.judge.Start as Start-t
 use Rattle.agent.proofs.judge.Start.Laws as Start-l
@@ -121,7 +124,7 @@ use Rattle.codec.proofs.layouts.Span.Laws as Span-l
 use Rattle.codec.specs.declared.refusals.Refusal.{Refusal}
 use Rattle.codec.proofs.refusals.Refusal as Refusal-t
 use Rattle.codec.proofs.refusals.Refusal.Laws as Refusal-l
-use Rattle.codec.specs.declared.refusals.Refusal.the-variants.{BufferTooShort as Refusal-BufferTooShort, UnknownSubmessageId as Refusal-UnknownSubmessageId, UnknownObjectKind as Refusal-UnknownObjectKind, UnknownStatusCode as Refusal-UnknownStatusCode, PayloadLengthMismatch as Refusal-PayloadLengthMismatch, SessionFull as Refusal-SessionFull, FragmentSizeZero as Refusal-FragmentSizeZero, EmptyPayload as Refusal-EmptyPayload, TooManyFragments as Refusal-TooManyFragments, FragmentNumber as Refusal-FragmentNumber, MissingFragments as Refusal-MissingFragments, TooLong as Refusal-TooLong, OutputTooShort as Refusal-OutputTooShort, StoreFull as Refusal-StoreFull, OutOfTurn as Refusal-OutOfTurn, OverLimit as Refusal-OverLimit, NotInFragments as Refusal-NotInFragments, IllFormed as Refusal-IllFormed}
+use Rattle.codec.specs.declared.refusals.Refusal.the-variants.{BufferTooShort as Refusal-BufferTooShort, UnknownSubmessageId as Refusal-UnknownSubmessageId, UnknownObjectKind as Refusal-UnknownObjectKind, UnknownStatusCode as Refusal-UnknownStatusCode, PayloadLengthMismatch as Refusal-PayloadLengthMismatch, SessionFull as Refusal-SessionFull, FragmentSizeZero as Refusal-FragmentSizeZero, EmptyPayload as Refusal-EmptyPayload, TooManyFragments as Refusal-TooManyFragments, FragmentNumber as Refusal-FragmentNumber, MissingFragments as Refusal-MissingFragments, TooLong as Refusal-TooLong, OutputTooShort as Refusal-OutputTooShort, StoreFull as Refusal-StoreFull, OutOfTurn as Refusal-OutOfTurn, OverLimit as Refusal-OverLimit, NotInFragments as Refusal-NotInFragments, IllFormed as Refusal-IllFormed, WindowFault as Refusal-WindowFault, NoSuchMinute as Refusal-NoSuchMinute}
 use Rattle.agent.specs.declared.turn.Ran.{Ran}
 use Rattle.agent.proofs.turn.Ran as Ran-t
 use Rattle.agent.proofs.turn.Ran.Laws as Ran-l
@@ -180,8 +183,8 @@ Agent-p = record { row = Agent-t.the-row; val = LL.val Agent-t.the-type Agent-l.
 abbrev Waiting-p : Plain
 Waiting-p = record { row = Waiting-t.the-row; val = EL.val Waiting-t.the-type Waiting-l.the-laws; tells = EL.tells Waiting-t.the-type Waiting-l.the-laws; makes = λ 𝓤 H A W. EL.makes Waiting-t.the-type Waiting-l.the-plain 𝓤 H A; ty = Waiting-l.mir; typed = λ 𝓤 H A W x is. EL.lawful Waiting-t.the-type Waiting-l.the-laws 𝓤 H A W tt .typed x _ is .0; copies = λ 𝓤 H A W. EL.copy Waiting-t.the-type Waiting-l.the-copy 𝓤 H A W }
 
-abbrev Pending-of : ℕ → ℕ → ObjectNumber → Task → ℕ → ℕ → ℕ → ℕ → Pending
-Pending-of x0 x1 x2 x3 x4 x5 x6 x7 = record { «session_id» = x0; «stream_id» = x1; number = x2; task = x3; at = x4; time = x5; «left_at» = x6; «left_end» = x7 }
+abbrev Pending-of : ℕ → ℕ → ObjectNumber → Task → ℕ → Moment → ℕ → ℕ → Pending
+Pending-of x0 x1 x2 x3 x4 x5 x6 x7 = record { «session_id» = x0; «stream_id» = x1; number = x2; task = x3; at = x4; moment = x5; «left_at» = x6; «left_end» = x7 }
 
 abbrev Pending-p : Plain
 Pending-p = record { row = Pending-t.the-row; val = LL.val Pending-t.the-type Pending-l.the-laws; tells = LL.tells Pending-t.the-type Pending-l.the-laws; makes = λ 𝓤 H A W. LL.makes Pending-t.the-type Pending-l.the-plain 𝓤 H A; ty = Pending-l.mir; typed = λ 𝓤 H A W x is. LL.lawful Pending-t.the-type Pending-l.the-laws 𝓤 H A W .typed x _ is .0; copies = λ 𝓤 H A W. LL.copy Pending-t.the-type Pending-l.the-copy 𝓤 H A W }
@@ -189,14 +192,20 @@ Pending-p = record { row = Pending-t.the-row; val = LL.val Pending-t.the-type Pe
 abbrev Task-p : Plain
 Task-p = record { row = Task-t.the-row; val = EL.val Task-t.the-type Task-l.the-laws; tells = EL.tells Task-t.the-type Task-l.the-laws; makes = λ 𝓤 H A W. EL.makes Task-t.the-type Task-l.the-plain 𝓤 H A; ty = Task-l.mir; typed = λ 𝓤 H A W x is. EL.lawful Task-t.the-type Task-l.the-laws 𝓤 H A W tt .typed x _ is .0; copies = λ 𝓤 H A W. EL.copy Task-t.the-type Task-l.the-copy 𝓤 H A W }
 
+abbrev Moment-of : ℕ → Bool → Moment
+Moment-of x0 x1 = record { time = x0; «is_open» = x1 }
+
+abbrev Moment-p : Plain
+Moment-p = record { row = Moment-t.the-row; val = LL.val Moment-t.the-type Moment-l.the-laws; tells = LL.tells Moment-t.the-type Moment-l.the-laws; makes = λ 𝓤 H A W. LL.makes Moment-t.the-type Moment-l.the-plain 𝓤 H A; ty = Moment-l.mir; typed = λ 𝓤 H A W x is. LL.lawful Moment-t.the-type Moment-l.the-laws 𝓤 H A W .typed x _ is .0; copies = λ 𝓤 H A W. LL.copy Moment-t.the-type Moment-l.the-copy 𝓤 H A W }
+
 abbrev Start-of : Frame → ℕ → ℕ → ℕ → ℕ → Resumes → Start
 Start-of x0 x1 x2 x3 x4 x5 = record { frame = x0; next = x1; at = x2; «left_at» = x3; «left_end» = x4; resumes = x5 }
 
 abbrev Start-p : Plain
 Start-p = record { row = Start-t.the-row; val = LL.val Start-t.the-type Start-l.the-laws; tells = LL.tells Start-t.the-type Start-l.the-laws; makes = λ 𝓤 H A W. LL.makes Start-t.the-type Start-l.the-plain 𝓤 H A; ty = Start-l.mir; typed = λ 𝓤 H A W x is. LL.lawful Start-t.the-type Start-l.the-laws 𝓤 H A W .typed x _ is .0; copies = λ 𝓤 H A W. LL.copy Start-t.the-type Start-l.the-copy 𝓤 H A W }
 
-abbrev Frame-of : ℕ → ℕ → ℕ → ℕ → ℕ → Frame
-Frame-of x0 x1 x2 x3 x4 = record { «max_clients» = x0; time = x1; «session_id» = x2; «stream_id» = x3; room = x4 }
+abbrev Frame-of : ℕ → Moment → ℕ → ℕ → ℕ → Frame
+Frame-of x0 x1 x2 x3 x4 = record { «max_clients» = x0; moment = x1; «session_id» = x2; «stream_id» = x3; room = x4 }
 
 abbrev Frame-p : Plain
 Frame-p = record { row = Frame-t.the-row; val = LL.val Frame-t.the-type Frame-l.the-laws; tells = LL.tells Frame-t.the-type Frame-l.the-laws; makes = λ 𝓤 H A W. LL.makes Frame-t.the-type Frame-l.the-plain 𝓤 H A; ty = Frame-l.mir; typed = λ 𝓤 H A W x is. LL.lawful Frame-t.the-type Frame-l.the-laws 𝓤 H A W .typed x _ is .0; copies = λ 𝓤 H A W. LL.copy Frame-t.the-type Frame-l.the-copy 𝓤 H A W }

@@ -78,6 +78,9 @@ use Rattle.codec.proofs.submessages.ObjectNumber.Laws as ObjectNumber-l
 use Rattle.agent.specs.declared.turn.Frame.{Frame}
 use Rattle.agent.proofs.turn.Frame as Frame-t
 use Rattle.agent.proofs.turn.Frame.Laws as Frame-l
+use Rattle.agent.specs.declared.state.Moment.{Moment}
+use Rattle.agent.proofs.state.Moment as Moment-t
+use Rattle.agent.proofs.state.Moment.Laws as Moment-l
 use Rattle.agent.specs.declared.turn.Ran.{Ran}
 use Rattle.agent.proofs.turn.Ran as Ran-t
 use Rattle.agent.proofs.turn.Ran.Laws as Ran-l
@@ -135,7 +138,7 @@ use Rattle.sessions.specs.declared.table.Named.the-variants.{Live as Named-Live
 use Rattle.codec.specs.declared.refusals.Refusal.{Refusal}
 use Rattle.codec.proofs.refusals.Refusal as Refusal-t
 use Rattle.codec.proofs.refusals.Refusal.Laws as Refusal-l
-use Rattle.codec.specs.declared.refusals.Refusal.the-variants.{BufferTooShort as Refusal-BufferTooShort, UnknownSubmessageId as Refusal-UnknownSubmessageId, UnknownObjectKind as Refusal-UnknownObjectKind, UnknownStatusCode as Refusal-UnknownStatusCode, PayloadLengthMismatch as Refusal-PayloadLengthMismatch, SessionFull as Refusal-SessionFull, FragmentSizeZero as Refusal-FragmentSizeZero, EmptyPayload as Refusal-EmptyPayload, TooManyFragments as Refusal-TooManyFragments, FragmentNumber as Refusal-FragmentNumber, MissingFragments as Refusal-MissingFragments, TooLong as Refusal-TooLong, OutputTooShort as Refusal-OutputTooShort, StoreFull as Refusal-StoreFull, OutOfTurn as Refusal-OutOfTurn, OverLimit as Refusal-OverLimit, NotInFragments as Refusal-NotInFragments, IllFormed as Refusal-IllFormed}
+use Rattle.codec.specs.declared.refusals.Refusal.the-variants.{BufferTooShort as Refusal-BufferTooShort, UnknownSubmessageId as Refusal-UnknownSubmessageId, UnknownObjectKind as Refusal-UnknownObjectKind, UnknownStatusCode as Refusal-UnknownStatusCode, PayloadLengthMismatch as Refusal-PayloadLengthMismatch, SessionFull as Refusal-SessionFull, FragmentSizeZero as Refusal-FragmentSizeZero, EmptyPayload as Refusal-EmptyPayload, TooManyFragments as Refusal-TooManyFragments, FragmentNumber as Refusal-FragmentNumber, MissingFragments as Refusal-MissingFragments, TooLong as Refusal-TooLong, OutputTooShort as Refusal-OutputTooShort, StoreFull as Refusal-StoreFull, OutOfTurn as Refusal-OutOfTurn, OverLimit as Refusal-OverLimit, NotInFragments as Refusal-NotInFragments, IllFormed as Refusal-IllFormed, WindowFault as Refusal-WindowFault, NoSuchMinute as Refusal-NoSuchMinute}
 use Rattle.sessions.proofs.table.touch as table-touch
 use Rattle.sessions.proofs.table.touch.Symbol as table-touch-def
 use Rattle.sessions.proofs.table.touch.Symbol.{name as #table-touch}
@@ -178,11 +181,17 @@ ObjectNumber-of x0 = record { 0 = x0 }
 abbrev ObjectNumber-p : Plain
 ObjectNumber-p = record { row = ObjectNumber-t.the-row; val = LL.val ObjectNumber-t.the-type ObjectNumber-l.the-laws; tells = LL.tells ObjectNumber-t.the-type ObjectNumber-l.the-laws; makes = λ 𝓤 H A W. LL.makes ObjectNumber-t.the-type ObjectNumber-l.the-plain 𝓤 H A; ty = ObjectNumber-l.mir; typed = λ 𝓤 H A W x is. LL.lawful ObjectNumber-t.the-type ObjectNumber-l.the-laws 𝓤 H A W .typed x _ is .0; copies = λ 𝓤 H A W. LL.copy ObjectNumber-t.the-type ObjectNumber-l.the-copy 𝓤 H A W }
 
-abbrev Frame-of : ℕ → ℕ → ℕ → ℕ → ℕ → Frame
-Frame-of x0 x1 x2 x3 x4 = record { «max_clients» = x0; time = x1; «session_id» = x2; «stream_id» = x3; room = x4 }
+abbrev Frame-of : ℕ → Moment → ℕ → ℕ → ℕ → Frame
+Frame-of x0 x1 x2 x3 x4 = record { «max_clients» = x0; moment = x1; «session_id» = x2; «stream_id» = x3; room = x4 }
 
 abbrev Frame-p : Plain
 Frame-p = record { row = Frame-t.the-row; val = LL.val Frame-t.the-type Frame-l.the-laws; tells = LL.tells Frame-t.the-type Frame-l.the-laws; makes = λ 𝓤 H A W. LL.makes Frame-t.the-type Frame-l.the-plain 𝓤 H A; ty = Frame-l.mir; typed = λ 𝓤 H A W x is. LL.lawful Frame-t.the-type Frame-l.the-laws 𝓤 H A W .typed x _ is .0; copies = λ 𝓤 H A W. LL.copy Frame-t.the-type Frame-l.the-copy 𝓤 H A W }
+
+abbrev Moment-of : ℕ → Bool → Moment
+Moment-of x0 x1 = record { time = x0; «is_open» = x1 }
+
+abbrev Moment-p : Plain
+Moment-p = record { row = Moment-t.the-row; val = LL.val Moment-t.the-type Moment-l.the-laws; tells = LL.tells Moment-t.the-type Moment-l.the-laws; makes = λ 𝓤 H A W. LL.makes Moment-t.the-type Moment-l.the-plain 𝓤 H A; ty = Moment-l.mir; typed = λ 𝓤 H A W x is. LL.lawful Moment-t.the-type Moment-l.the-laws 𝓤 H A W .typed x _ is .0; copies = λ 𝓤 H A W. LL.copy Moment-t.the-type Moment-l.the-copy 𝓤 H A W }
 
 abbrev Ran-of : ℕ → ℕ → ℕ → Stop → Ran
 Ran-of x0 x1 x2 x3 = record { next = x0; at = x1; wrote = x2; stop = x3 }
@@ -307,7 +316,7 @@ module _ {M : Type 1} (𝓤 : URA M) (H : Heap 𝓤) (A : Atoms 𝓤) (W : Given
   abbrev left : Bool → Acted
   left b =
       cond b
-      (acted f′ r′ (took .at) (handledMove (took .asked) touched d (f′ .«session_id») (f′ .«stream_id») (took .body)) (handledRows (took .asked) touched (f′ .«session_id») (f′ .«stream_id»)) held)
+      (acted f′ r′ (took .at) (handledMove (f′ .moment .«is_open») (took .asked) touched d (f′ .«session_id») (f′ .«stream_id») (took .body)) (handledRows (took .asked) touched (f′ .«session_id») (f′ .«stream_id»)) held)
       (record { ran = passed r′ (took .at); rows = touched; replies = [] })
 
   abbrev live : Bool
@@ -342,28 +351,28 @@ module _ {M : Type 1} (𝓤 : URA M) (H : Heap 𝓤) (A : Atoms 𝓤) (W : Given
         forget ! 54 refl $ forget ! 56 refl $ forget ! 58 refl $ forget ! 60 refl $ forget ! 62 refl $ forget ! 64 refl $ forget ! 66 refl $ forget ! 68 refl $ forget ! 70 refl $ forget ! 72 refl $ move ! (72 ∷ 73 ∷ []) $ free1 ! $ move ! (70 ∷ 71 ∷ []) $ free1 ! $ move ! (68 ∷ 69 ∷ []) $ free1 ! $ move ! (66 ∷ 67 ∷ []) $ free1 ! $ move ! (64 ∷ 65 ∷ []) $ free1 ! $ move ! (62 ∷ 63 ∷ []) $ free1 ! $ move ! (60 ∷ 61 ∷ []) $ free1 ! $ move ! (58 ∷ 59 ∷ []) $ free1 ! $ move ! (56 ∷ 57 ∷ []) $ free1 ! $ move ! (54 ∷ 55 ∷ []) $ free1 ! $ move ! (52 ∷ 53 ∷ []) $ free1 ! $ move ! (50 ∷ 51 ∷ []) $ free1 ! $ move ! (48 ∷ 49 ∷ []) $ free1 ! $ move ! (46 ∷ 47 ∷ []) $ free1 ! $ move ! (44 ∷ 45 ∷ []) $ free1 ! $ move ! (42 ∷ 43 ∷ []) $ free1 ! $ move ! (40 ∷ 41 ∷ []) $ free1 ! $ move ! (38 ∷ 39 ∷ []) $ free1 ! $ move ! (36 ∷ 37 ∷ []) $ free1 ! $ move ! (34 ∷ 35 ∷ []) $ free1 ! $ move ! (32 ∷ 33 ∷ []) $ free1 ! $ move ! (30 ∷ 31 ∷ []) $ free1 ! $ move ! (28 ∷ 29 ∷ []) $ free1 ! $ move ! (26 ∷ 27 ∷ []) $ free1 ! $ move ! (24 ∷ 25 ∷ []) $ free1 ! $ move ! (22 ∷ 23 ∷ []) $ free1 ! $ move ! (20 ∷ 21 ∷ []) $ free1 ! $ move ! (18 ∷ 19 ∷ []) $ free1 ! $ move ! (16 ∷ 17 ∷ []) $ free1 ! $ move ! (14 ∷ 15 ∷ []) $ free1 ! $ move ! (12 ∷ 13 ∷ []) $ free1 ! $ free0 ! $
         by ! ends
 
-    part-8-0 : (len-5-sessions : length (touchedRows (sessions) (f′ .«session_id») (f′ .time)) ≡ n₁) → (is-5 : Is (Named-p .row) (namedOf (sessions) (f′ .«session_id»)) (Named-p .val (namedOf (sessions) (f′ .«session_id»)) ∷ [])) → (is-6 : Is (bool-p .row) (isLive (namedOf (sessions) (f′ .«session_id»))) (bool-p .val (isLive (namedOf (sessions) (f′ .«session_id»))) ∷ [])) → (c-7 : isLive (namedOf (sessions) (f′ .«session_id»)) ≡ true) → (len-7·yes·7-sessions : length (handledRows (took .asked) (rows ((touchedRows (sessions) (f′ .«session_id») (f′ .time))) (streams) (objects)) (f′ .«session_id») (f′ .«stream_id») .sessions) ≡ n₁) → (len-7·yes·7-streams : length (handledRows (took .asked) (rows ((touchedRows (sessions) (f′ .«session_id») (f′ .time))) (streams) (objects)) (f′ .«session_id») (f′ .«stream_id») .streams) ≡ n₂) → (len-7·yes·7-objects : length (handledRows (took .asked) (rows ((touchedRows (sessions) (f′ .«session_id») (f′ .time))) (streams) (objects)) (f′ .«session_id») (f′ .«stream_id») .objects) ≡ n₃) → (is-7·yes·7 : Is (Move-p .row) (handledMove (took .asked) (rows ((touchedRows (sessions) (f′ .«session_id») (f′ .time))) (streams) (objects)) (d) (f′ .«session_id») (f′ .«stream_id») (took .body)) (Move-p .val (handledMove (took .asked) (rows ((touchedRows (sessions) (f′ .«session_id») (f′ .time))) (streams) (objects)) (d) (f′ .«session_id») (f′ .«stream_id») (took .body)) ∷ [])) → (asks-7·yes·14 : f′ .room ≤ 9223372036854775807) → (len-7·yes·14-out : length (putReplies (f′ .room) (out) (r′ .wrote) (repliesBy f′ ((handledRows (took .asked) (rows ((touchedRows (sessions) (f′ .«session_id») (f′ .time))) (streams) (objects)) (f′ .«session_id») (f′ .«stream_id») .sessions)) ((handledRows (took .asked) (rows ((touchedRows (sessions) (f′ .«session_id») (f′ .time))) (streams) (objects)) (f′ .«session_id») (f′ .«stream_id») .streams)) (held) (handledMove (took .asked) (rows ((touchedRows (sessions) (f′ .«session_id») (f′ .time))) (streams) (objects)) (d) (f′ .«session_id») (f′ .«stream_id») (took .body)))) ≡ n₅) → (is-7·yes·14 : Is (u64-p .row) (countReplies (f′ .room) (r′ .wrote) (repliesBy f′ ((handledRows (took .asked) (rows ((touchedRows (sessions) (f′ .«session_id») (f′ .time))) (streams) (objects)) (f′ .«session_id») (f′ .«stream_id») .sessions)) ((handledRows (took .asked) (rows ((touchedRows (sessions) (f′ .«session_id») (f′ .time))) (streams) (objects)) (f′ .«session_id») (f′ .«stream_id») .streams)) (held) (handledMove (took .asked) (rows ((touchedRows (sessions) (f′ .«session_id») (f′ .time))) (streams) (objects)) (d) (f′ .«session_id») (f′ .«stream_id») (took .body)))) (u64-p .val (countReplies (f′ .room) (r′ .wrote) (repliesBy f′ ((handledRows (took .asked) (rows ((touchedRows (sessions) (f′ .«session_id») (f′ .time))) (streams) (objects)) (f′ .«session_id») (f′ .«stream_id») .sessions)) ((handledRows (took .asked) (rows ((touchedRows (sessions) (f′ .«session_id») (f′ .time))) (streams) (objects)) (f′ .«session_id») (f′ .«stream_id») .streams)) (held) (handledMove (took .asked) (rows ((touchedRows (sessions) (f′ .«session_id») (f′ .time))) (streams) (objects)) (d) (f′ .«session_id») (f′ .«stream_id») (took .body)))) ∷ [])) → (is-7·yes·15 : Is (Ran-p .row) (settled (r′ .next) (took .at) (countReplies (f′ .room) (r′ .wrote) (repliesBy f′ ((handledRows (took .asked) (rows ((touchedRows (sessions) (f′ .«session_id») (f′ .time))) (streams) (objects)) (f′ .«session_id») (f′ .«stream_id») .sessions)) ((handledRows (took .asked) (rows ((touchedRows (sessions) (f′ .«session_id») (f′ .time))) (streams) (objects)) (f′ .«session_id») (f′ .«stream_id») .streams)) (held) (handledMove (took .asked) (rows ((touchedRows (sessions) (f′ .«session_id») (f′ .time))) (streams) (objects)) (d) (f′ .«session_id») (f′ .«stream_id») (took .body)))) (handledMove (took .asked) (rows ((touchedRows (sessions) (f′ .«session_id») (f′ .time))) (streams) (objects)) (d) (f′ .«session_id») (f′ .«stream_id») (took .body))) (Ran-p .val (settled (r′ .next) (took .at) (countReplies (f′ .room) (r′ .wrote) (repliesBy f′ ((handledRows (took .asked) (rows ((touchedRows (sessions) (f′ .«session_id») (f′ .time))) (streams) (objects)) (f′ .«session_id») (f′ .«stream_id») .sessions)) ((handledRows (took .asked) (rows ((touchedRows (sessions) (f′ .«session_id») (f′ .time))) (streams) (objects)) (f′ .«session_id») (f′ .«stream_id») .streams)) (held) (handledMove (took .asked) (rows ((touchedRows (sessions) (f′ .«session_id») (f′ .time))) (streams) (objects)) (d) (f′ .«session_id») (f′ .«stream_id») (took .body)))) (handledMove (took .asked) (rows ((touchedRows (sessions) (f′ .«session_id») (f′ .time))) (streams) (objects)) (d) (f′ .«session_id») (f′ .«stream_id») (took .body))) ∷ [])) → Sq W (‵ (MutSlice (named 0) κ₁ (Array u64 8) .own (at-list b₁ o₁ γ₁ (handledRows (took .asked) (rows ((touchedRows (sessions) (f′ .«session_id») (f′ .time))) (streams) (objects)) (f′ .«session_id») (f′ .«stream_id») .sessions)) (sliceVal (b₁, o₁) n₁ ∷ [])) ∷ ‵ (flft κ₁ q₁) ∷ ‵ (MutSlice (named 0) κ₂ (Array u16 35) .own (at-list b₂ o₂ γ₂ (handledRows (took .asked) (rows ((touchedRows (sessions) (f′ .«session_id») (f′ .time))) (streams) (objects)) (f′ .«session_id») (f′ .«stream_id») .streams)) (sliceVal (b₂, o₂) n₂ ∷ [])) ∷ ‵ (flft κ₂ q₂) ∷ ‵ (MutSlice (named 0) κ₃ Object-t.the-row .own (at-list b₃ o₃ γ₃ (handledRows (took .asked) (rows ((touchedRows (sessions) (f′ .«session_id») (f′ .time))) (streams) (objects)) (f′ .«session_id») (f′ .«stream_id») .objects)) (sliceVal (b₃, o₃) n₃ ∷ [])) ∷ ‵ (flft κ₃ q₃) ∷ ‵ (ShrSlice (named 0) κ₄ u8 .own (at-list b₄ o₄ γ₄ held) (sliceVal (b₄, o₄) n₄ ∷ [])) ∷ ‵ (flft κ₄ q₄) ∷ ‵ (MutSlice (named 0) κ₅ u8 .own (at-list b₅ o₅ γ₅ (putReplies (f′ .room) (out) (r′ .wrote) (repliesBy f′ ((handledRows (took .asked) (rows ((touchedRows (sessions) (f′ .«session_id») (f′ .time))) (streams) (objects)) (f′ .«session_id») (f′ .«stream_id») .sessions)) ((handledRows (took .asked) (rows ((touchedRows (sessions) (f′ .«session_id») (f′ .time))) (streams) (objects)) (f′ .«session_id») (f′ .«stream_id») .streams)) (held) (handledMove (took .asked) (rows ((touchedRows (sessions) (f′ .«session_id») (f′ .time))) (streams) (objects)) (d) (f′ .«session_id») (f′ .«stream_id») (took .body))))) (sliceVal (b₅, o₅) n₅ ∷ [])) ∷ ‵ (flft κ₅ q₅) ∷ ‵ (ShrSlice (named 0) κ₆ u8 .own (at-list b₆ o₆ γ₆ d) (sliceVal (b₆, o₆) n₆ ∷ [])) ∷ ‵ (flft κ₆ q₆) ∷ full 𝓤 (sliceTy (tyRef erased mut (pointee (u8 .written)))) l₃₀ (sliceVal (b₅, o₅) n₅) (full 𝓤 (tyRef erased mut (pointee (u8 .written))) l₂₉ (vptr b₅ o₅) (full 𝓤 (sliceTy (tyRef erased imm (pointee ((Array u16 35) .written)))) l₂₈ (sliceVal (b₂, o₂) n₂) (full 𝓤 (tyRef erased imm (pointee ((Array u16 35) .written))) l₂₇ (vptr b₂ o₂) (full 𝓤 (sliceTy (tyRef erased imm (pointee ((Array u64 8) .written)))) l₂₆ (sliceVal (b₁, o₁) n₁) (full 𝓤 (tyRef erased imm (pointee ((Array u64 8) .written))) l₂₅ (vptr b₁ o₁) (full 𝓤 (sliceTy (tyRef erased mut (pointee (Object-t.the-row .written)))) l₂₄ (sliceVal (b₃, o₃) n₃) (full 𝓤 (tyRef erased mut (pointee (Object-t.the-row .written))) l₂₃ (vptr b₃ o₃) (full 𝓤 (sliceTy (tyRef erased mut (pointee ((Array u16 35) .written)))) l₂₂ (sliceVal (b₂, o₂) n₂) (full 𝓤 (tyRef erased mut (pointee ((Array u16 35) .written))) l₂₁ (vptr b₂ o₂) (full 𝓤 (sliceTy (tyRef erased mut (pointee ((Array u64 8) .written)))) l₂₀ (sliceVal (b₁, o₁) n₁) (full 𝓤 (tyRef erased mut (pointee ((Array u64 8) .written))) l₁₉ (vptr b₁ o₁) (full 𝓤 Ran-l.mir l₁₈ (Ran-p .val (settled (r′ .next) (took .at) (countReplies (f′ .room) (r′ .wrote) (repliesBy f′ ((handledRows (took .asked) (rows ((touchedRows (sessions) (f′ .«session_id») (f′ .time))) (streams) (objects)) (f′ .«session_id») (f′ .«stream_id») .sessions)) ((handledRows (took .asked) (rows ((touchedRows (sessions) (f′ .«session_id») (f′ .time))) (streams) (objects)) (f′ .«session_id») (f′ .«stream_id») .streams)) (held) (handledMove (took .asked) (rows ((touchedRows (sessions) (f′ .«session_id») (f′ .time))) (streams) (objects)) (d) (f′ .«session_id») (f′ .«stream_id») (took .body)))) (handledMove (took .asked) (rows ((touchedRows (sessions) (f′ .«session_id») (f′ .time))) (streams) (objects)) (d) (f′ .«session_id») (f′ .«stream_id») (took .body)))) (full 𝓤 tyBool l₁₇ (bool-p .val (isLive (namedOf (sessions) (f′ .«session_id»)))) (full 𝓤 (sliceTy (tyRef erased mut (pointee ((Array u64 8) .written)))) l₁₆ (sliceVal (b₁, o₁) n₁) (full 𝓤 (tyRef erased mut (pointee ((Array u64 8) .written))) l₁₅ (vptr b₁ o₁) (full 𝓤 (tyInt w64) l₁₄ (u64-p .val (countReplies (f′ .room) (r′ .wrote) (repliesBy f′ ((handledRows (took .asked) (rows ((touchedRows (sessions) (f′ .«session_id») (f′ .time))) (streams) (objects)) (f′ .«session_id») (f′ .«stream_id») .sessions)) ((handledRows (took .asked) (rows ((touchedRows (sessions) (f′ .«session_id») (f′ .time))) (streams) (objects)) (f′ .«session_id») (f′ .«stream_id») .streams)) (held) (handledMove (took .asked) (rows ((touchedRows (sessions) (f′ .«session_id») (f′ .time))) (streams) (objects)) (d) (f′ .«session_id») (f′ .«stream_id») (took .body))))) (full 𝓤 Move-l.mir l₁₃ (Move-p .val (handledMove (took .asked) (rows ((touchedRows (sessions) (f′ .«session_id») (f′ .time))) (streams) (objects)) (d) (f′ .«session_id») (f′ .«stream_id») (took .body))) (full 𝓤 Named-l.mir l₁₂ (Named-p .val (namedOf (sessions) (f′ .«session_id»))) (full 𝓤 (tyInt w8) l₁₁ (u8-p .val (f′ .«stream_id»)) (full 𝓤 (tyInt w8) l₁₀ (u8-p .val (f′ .«session_id»)) (full 𝓤 Taken-l.mir l₉ (Taken-p .val took) (full 𝓤 Ran-l.mir l₈ (Ran-p .val r′) (full 𝓤 Frame-l.mir l₇ (Frame-p .val f′) (full 𝓤 (sliceTy (tyRef (named 5) imm (pointee (u8 .written)))) l₆ (sliceVal (b₆, o₆) n₆) (full 𝓤 (sliceTy (tyRef (named 4) mut (pointee (u8 .written)))) l₅ (sliceVal (b₅, o₅) n₅) (full 𝓤 (sliceTy (tyRef (named 3) imm (pointee (u8 .written)))) l₄ (sliceVal (b₄, o₄) n₄) (full 𝓤 (sliceTy (tyRef (named 2) mut (pointee (Object-t.the-row .written)))) l₃ (sliceVal (b₃, o₃) n₃) (full 𝓤 (sliceTy (tyRef (named 1) mut (pointee ((Array u16 35) .written)))) l₂ (sliceVal (b₂, o₂) n₂) (full 𝓤 (sliceTy (tyRef (named 0) mut (pointee ((Array u64 8) .written)))) l₁ (sliceVal (b₁, o₁) n₁) (free 𝓤 Ran-l.mir l₀ ([])))))))))))))))))))))))))))))))) (runs C Λ En mir.t-8 (atRet En Post))
+    part-8-0 : (len-5-sessions : length (touchedRows (sessions) (f′ .«session_id») ((f′ .moment) .time)) ≡ n₁) → (is-5 : Is (Named-p .row) (namedOf (sessions) (f′ .«session_id»)) (Named-p .val (namedOf (sessions) (f′ .«session_id»)) ∷ [])) → (is-6 : Is (bool-p .row) (isLive (namedOf (sessions) (f′ .«session_id»))) (bool-p .val (isLive (namedOf (sessions) (f′ .«session_id»))) ∷ [])) → (c-7 : isLive (namedOf (sessions) (f′ .«session_id»)) ≡ true) → (len-7·yes·7-sessions : length (handledRows (took .asked) (rows ((touchedRows (sessions) (f′ .«session_id») ((f′ .moment) .time))) (streams) (objects)) (f′ .«session_id») (f′ .«stream_id») .sessions) ≡ n₁) → (len-7·yes·7-streams : length (handledRows (took .asked) (rows ((touchedRows (sessions) (f′ .«session_id») ((f′ .moment) .time))) (streams) (objects)) (f′ .«session_id») (f′ .«stream_id») .streams) ≡ n₂) → (len-7·yes·7-objects : length (handledRows (took .asked) (rows ((touchedRows (sessions) (f′ .«session_id») ((f′ .moment) .time))) (streams) (objects)) (f′ .«session_id») (f′ .«stream_id») .objects) ≡ n₃) → (is-7·yes·7 : Is (Move-p .row) (handledMove ((f′ .moment) .«is_open») (took .asked) (rows ((touchedRows (sessions) (f′ .«session_id») ((f′ .moment) .time))) (streams) (objects)) (d) (f′ .«session_id») (f′ .«stream_id») (took .body)) (Move-p .val (handledMove ((f′ .moment) .«is_open») (took .asked) (rows ((touchedRows (sessions) (f′ .«session_id») ((f′ .moment) .time))) (streams) (objects)) (d) (f′ .«session_id») (f′ .«stream_id») (took .body)) ∷ [])) → (asks-7·yes·14 : f′ .room ≤ 9223372036854775807) → (len-7·yes·14-out : length (putReplies (f′ .room) (out) (r′ .wrote) (repliesBy f′ ((handledRows (took .asked) (rows ((touchedRows (sessions) (f′ .«session_id») ((f′ .moment) .time))) (streams) (objects)) (f′ .«session_id») (f′ .«stream_id») .sessions)) ((handledRows (took .asked) (rows ((touchedRows (sessions) (f′ .«session_id») ((f′ .moment) .time))) (streams) (objects)) (f′ .«session_id») (f′ .«stream_id») .streams)) (held) (handledMove ((f′ .moment) .«is_open») (took .asked) (rows ((touchedRows (sessions) (f′ .«session_id») ((f′ .moment) .time))) (streams) (objects)) (d) (f′ .«session_id») (f′ .«stream_id») (took .body)))) ≡ n₅) → (is-7·yes·14 : Is (u64-p .row) (countReplies (f′ .room) (r′ .wrote) (repliesBy f′ ((handledRows (took .asked) (rows ((touchedRows (sessions) (f′ .«session_id») ((f′ .moment) .time))) (streams) (objects)) (f′ .«session_id») (f′ .«stream_id») .sessions)) ((handledRows (took .asked) (rows ((touchedRows (sessions) (f′ .«session_id») ((f′ .moment) .time))) (streams) (objects)) (f′ .«session_id») (f′ .«stream_id») .streams)) (held) (handledMove ((f′ .moment) .«is_open») (took .asked) (rows ((touchedRows (sessions) (f′ .«session_id») ((f′ .moment) .time))) (streams) (objects)) (d) (f′ .«session_id») (f′ .«stream_id») (took .body)))) (u64-p .val (countReplies (f′ .room) (r′ .wrote) (repliesBy f′ ((handledRows (took .asked) (rows ((touchedRows (sessions) (f′ .«session_id») ((f′ .moment) .time))) (streams) (objects)) (f′ .«session_id») (f′ .«stream_id») .sessions)) ((handledRows (took .asked) (rows ((touchedRows (sessions) (f′ .«session_id») ((f′ .moment) .time))) (streams) (objects)) (f′ .«session_id») (f′ .«stream_id») .streams)) (held) (handledMove ((f′ .moment) .«is_open») (took .asked) (rows ((touchedRows (sessions) (f′ .«session_id») ((f′ .moment) .time))) (streams) (objects)) (d) (f′ .«session_id») (f′ .«stream_id») (took .body)))) ∷ [])) → (is-7·yes·15 : Is (Ran-p .row) (settled (r′ .next) (took .at) (countReplies (f′ .room) (r′ .wrote) (repliesBy f′ ((handledRows (took .asked) (rows ((touchedRows (sessions) (f′ .«session_id») ((f′ .moment) .time))) (streams) (objects)) (f′ .«session_id») (f′ .«stream_id») .sessions)) ((handledRows (took .asked) (rows ((touchedRows (sessions) (f′ .«session_id») ((f′ .moment) .time))) (streams) (objects)) (f′ .«session_id») (f′ .«stream_id») .streams)) (held) (handledMove ((f′ .moment) .«is_open») (took .asked) (rows ((touchedRows (sessions) (f′ .«session_id») ((f′ .moment) .time))) (streams) (objects)) (d) (f′ .«session_id») (f′ .«stream_id») (took .body)))) (handledMove ((f′ .moment) .«is_open») (took .asked) (rows ((touchedRows (sessions) (f′ .«session_id») ((f′ .moment) .time))) (streams) (objects)) (d) (f′ .«session_id») (f′ .«stream_id») (took .body))) (Ran-p .val (settled (r′ .next) (took .at) (countReplies (f′ .room) (r′ .wrote) (repliesBy f′ ((handledRows (took .asked) (rows ((touchedRows (sessions) (f′ .«session_id») ((f′ .moment) .time))) (streams) (objects)) (f′ .«session_id») (f′ .«stream_id») .sessions)) ((handledRows (took .asked) (rows ((touchedRows (sessions) (f′ .«session_id») ((f′ .moment) .time))) (streams) (objects)) (f′ .«session_id») (f′ .«stream_id») .streams)) (held) (handledMove ((f′ .moment) .«is_open») (took .asked) (rows ((touchedRows (sessions) (f′ .«session_id») ((f′ .moment) .time))) (streams) (objects)) (d) (f′ .«session_id») (f′ .«stream_id») (took .body)))) (handledMove ((f′ .moment) .«is_open») (took .asked) (rows ((touchedRows (sessions) (f′ .«session_id») ((f′ .moment) .time))) (streams) (objects)) (d) (f′ .«session_id») (f′ .«stream_id») (took .body))) ∷ [])) → Sq W (‵ (MutSlice (named 0) κ₁ (Array u64 8) .own (at-list b₁ o₁ γ₁ (handledRows (took .asked) (rows ((touchedRows (sessions) (f′ .«session_id») ((f′ .moment) .time))) (streams) (objects)) (f′ .«session_id») (f′ .«stream_id») .sessions)) (sliceVal (b₁, o₁) n₁ ∷ [])) ∷ ‵ (flft κ₁ q₁) ∷ ‵ (MutSlice (named 0) κ₂ (Array u16 35) .own (at-list b₂ o₂ γ₂ (handledRows (took .asked) (rows ((touchedRows (sessions) (f′ .«session_id») ((f′ .moment) .time))) (streams) (objects)) (f′ .«session_id») (f′ .«stream_id») .streams)) (sliceVal (b₂, o₂) n₂ ∷ [])) ∷ ‵ (flft κ₂ q₂) ∷ ‵ (MutSlice (named 0) κ₃ Object-t.the-row .own (at-list b₃ o₃ γ₃ (handledRows (took .asked) (rows ((touchedRows (sessions) (f′ .«session_id») ((f′ .moment) .time))) (streams) (objects)) (f′ .«session_id») (f′ .«stream_id») .objects)) (sliceVal (b₃, o₃) n₃ ∷ [])) ∷ ‵ (flft κ₃ q₃) ∷ ‵ (ShrSlice (named 0) κ₄ u8 .own (at-list b₄ o₄ γ₄ held) (sliceVal (b₄, o₄) n₄ ∷ [])) ∷ ‵ (flft κ₄ q₄) ∷ ‵ (MutSlice (named 0) κ₅ u8 .own (at-list b₅ o₅ γ₅ (putReplies (f′ .room) (out) (r′ .wrote) (repliesBy f′ ((handledRows (took .asked) (rows ((touchedRows (sessions) (f′ .«session_id») ((f′ .moment) .time))) (streams) (objects)) (f′ .«session_id») (f′ .«stream_id») .sessions)) ((handledRows (took .asked) (rows ((touchedRows (sessions) (f′ .«session_id») ((f′ .moment) .time))) (streams) (objects)) (f′ .«session_id») (f′ .«stream_id») .streams)) (held) (handledMove ((f′ .moment) .«is_open») (took .asked) (rows ((touchedRows (sessions) (f′ .«session_id») ((f′ .moment) .time))) (streams) (objects)) (d) (f′ .«session_id») (f′ .«stream_id») (took .body))))) (sliceVal (b₅, o₅) n₅ ∷ [])) ∷ ‵ (flft κ₅ q₅) ∷ ‵ (ShrSlice (named 0) κ₆ u8 .own (at-list b₆ o₆ γ₆ d) (sliceVal (b₆, o₆) n₆ ∷ [])) ∷ ‵ (flft κ₆ q₆) ∷ full 𝓤 (sliceTy (tyRef erased mut (pointee (u8 .written)))) l₃₀ (sliceVal (b₅, o₅) n₅) (full 𝓤 (tyRef erased mut (pointee (u8 .written))) l₂₉ (vptr b₅ o₅) (full 𝓤 (sliceTy (tyRef erased imm (pointee ((Array u16 35) .written)))) l₂₈ (sliceVal (b₂, o₂) n₂) (full 𝓤 (tyRef erased imm (pointee ((Array u16 35) .written))) l₂₇ (vptr b₂ o₂) (full 𝓤 (sliceTy (tyRef erased imm (pointee ((Array u64 8) .written)))) l₂₆ (sliceVal (b₁, o₁) n₁) (full 𝓤 (tyRef erased imm (pointee ((Array u64 8) .written))) l₂₅ (vptr b₁ o₁) (full 𝓤 (sliceTy (tyRef erased mut (pointee (Object-t.the-row .written)))) l₂₄ (sliceVal (b₃, o₃) n₃) (full 𝓤 (tyRef erased mut (pointee (Object-t.the-row .written))) l₂₃ (vptr b₃ o₃) (full 𝓤 (sliceTy (tyRef erased mut (pointee ((Array u16 35) .written)))) l₂₂ (sliceVal (b₂, o₂) n₂) (full 𝓤 (tyRef erased mut (pointee ((Array u16 35) .written))) l₂₁ (vptr b₂ o₂) (full 𝓤 (sliceTy (tyRef erased mut (pointee ((Array u64 8) .written)))) l₂₀ (sliceVal (b₁, o₁) n₁) (full 𝓤 (tyRef erased mut (pointee ((Array u64 8) .written))) l₁₉ (vptr b₁ o₁) (full 𝓤 Ran-l.mir l₁₈ (Ran-p .val (settled (r′ .next) (took .at) (countReplies (f′ .room) (r′ .wrote) (repliesBy f′ ((handledRows (took .asked) (rows ((touchedRows (sessions) (f′ .«session_id») ((f′ .moment) .time))) (streams) (objects)) (f′ .«session_id») (f′ .«stream_id») .sessions)) ((handledRows (took .asked) (rows ((touchedRows (sessions) (f′ .«session_id») ((f′ .moment) .time))) (streams) (objects)) (f′ .«session_id») (f′ .«stream_id») .streams)) (held) (handledMove ((f′ .moment) .«is_open») (took .asked) (rows ((touchedRows (sessions) (f′ .«session_id») ((f′ .moment) .time))) (streams) (objects)) (d) (f′ .«session_id») (f′ .«stream_id») (took .body)))) (handledMove ((f′ .moment) .«is_open») (took .asked) (rows ((touchedRows (sessions) (f′ .«session_id») ((f′ .moment) .time))) (streams) (objects)) (d) (f′ .«session_id») (f′ .«stream_id») (took .body)))) (full 𝓤 tyBool l₁₇ (bool-p .val (isLive (namedOf (sessions) (f′ .«session_id»)))) (full 𝓤 (sliceTy (tyRef erased mut (pointee ((Array u64 8) .written)))) l₁₆ (sliceVal (b₁, o₁) n₁) (full 𝓤 (tyRef erased mut (pointee ((Array u64 8) .written))) l₁₅ (vptr b₁ o₁) (full 𝓤 (tyInt w64) l₁₄ (u64-p .val (countReplies (f′ .room) (r′ .wrote) (repliesBy f′ ((handledRows (took .asked) (rows ((touchedRows (sessions) (f′ .«session_id») ((f′ .moment) .time))) (streams) (objects)) (f′ .«session_id») (f′ .«stream_id») .sessions)) ((handledRows (took .asked) (rows ((touchedRows (sessions) (f′ .«session_id») ((f′ .moment) .time))) (streams) (objects)) (f′ .«session_id») (f′ .«stream_id») .streams)) (held) (handledMove ((f′ .moment) .«is_open») (took .asked) (rows ((touchedRows (sessions) (f′ .«session_id») ((f′ .moment) .time))) (streams) (objects)) (d) (f′ .«session_id») (f′ .«stream_id») (took .body))))) (full 𝓤 Move-l.mir l₁₃ (Move-p .val (handledMove ((f′ .moment) .«is_open») (took .asked) (rows ((touchedRows (sessions) (f′ .«session_id») ((f′ .moment) .time))) (streams) (objects)) (d) (f′ .«session_id») (f′ .«stream_id») (took .body))) (full 𝓤 Named-l.mir l₁₂ (Named-p .val (namedOf (sessions) (f′ .«session_id»))) (full 𝓤 (tyInt w8) l₁₁ (u8-p .val (f′ .«stream_id»)) (full 𝓤 (tyInt w8) l₁₀ (u8-p .val (f′ .«session_id»)) (full 𝓤 Taken-l.mir l₉ (Taken-p .val took) (full 𝓤 Ran-l.mir l₈ (Ran-p .val r′) (full 𝓤 Frame-l.mir l₇ (Frame-p .val f′) (full 𝓤 (sliceTy (tyRef (named 5) imm (pointee (u8 .written)))) l₆ (sliceVal (b₆, o₆) n₆) (full 𝓤 (sliceTy (tyRef (named 4) mut (pointee (u8 .written)))) l₅ (sliceVal (b₅, o₅) n₅) (full 𝓤 (sliceTy (tyRef (named 3) imm (pointee (u8 .written)))) l₄ (sliceVal (b₄, o₄) n₄) (full 𝓤 (sliceTy (tyRef (named 2) mut (pointee (Object-t.the-row .written)))) l₃ (sliceVal (b₃, o₃) n₃) (full 𝓤 (sliceTy (tyRef (named 1) mut (pointee ((Array u16 35) .written)))) l₂ (sliceVal (b₂, o₂) n₂) (full 𝓤 (sliceTy (tyRef (named 0) mut (pointee ((Array u64 8) .written)))) l₁ (sliceVal (b₁, o₁) n₁) (free 𝓤 Ran-l.mir l₀ ([])))))))))))))))))))))))))))))))) (runs C Λ En mir.t-8 (atRet En Post))
     part-8-0 len-5-sessions is-5 is-6 c-7 len-7·yes·7-sessions len-7·yes·7-streams len-7·yes·7-objects is-7·yes·7 asks-7·yes·14 len-7·yes·14-out is-7·yes·14 is-7·yes·15 =
-        assigns ! (of-opd ! (load ! (from ! (stop !)) (look ! 36 refl))) (from ! (stop !)) (init ! 72 refl (Ran-p .typed 𝓤 H A W (settled (r′ .next) (took .at) (countReplies (f′ .room) (r′ .wrote) (repliesBy f′ ((handledRows (took .asked) (rows ((touchedRows (sessions) (f′ .«session_id») (f′ .time))) (streams) (objects)) (f′ .«session_id») (f′ .«stream_id») .sessions)) ((handledRows (took .asked) (rows ((touchedRows (sessions) (f′ .«session_id») (f′ .time))) (streams) (objects)) (f′ .«session_id») (f′ .«stream_id») .streams)) (held) (handledMove (took .asked) (rows ((touchedRows (sessions) (f′ .«session_id») (f′ .time))) (streams) (objects)) (d) (f′ .«session_id») (f′ .«stream_id») (took .body)))) (handledMove (took .asked) (rows ((touchedRows (sessions) (f′ .«session_id») (f′ .time))) (streams) (objects)) (d) (f′ .«session_id») (f′ .«stream_id») (took .body))) is-7·yes·15)) $
+        assigns ! (of-opd ! (load ! (from ! (stop !)) (look ! 36 refl))) (from ! (stop !)) (init ! 72 refl (Ran-p .typed 𝓤 H A W (settled (r′ .next) (took .at) (countReplies (f′ .room) (r′ .wrote) (repliesBy f′ ((handledRows (took .asked) (rows ((touchedRows (sessions) (f′ .«session_id») ((f′ .moment) .time))) (streams) (objects)) (f′ .«session_id») (f′ .«stream_id») .sessions)) ((handledRows (took .asked) (rows ((touchedRows (sessions) (f′ .«session_id») ((f′ .moment) .time))) (streams) (objects)) (f′ .«session_id») (f′ .«stream_id») .streams)) (held) (handledMove ((f′ .moment) .«is_open») (took .asked) (rows ((touchedRows (sessions) (f′ .«session_id») ((f′ .moment) .time))) (streams) (objects)) (d) (f′ .«session_id») (f′ .«stream_id») (took .body)))) (handledMove ((f′ .moment) .«is_open») (took .asked) (rows ((touchedRows (sessions) (f′ .«session_id») ((f′ .moment) .time))) (streams) (objects)) (d) (f′ .«session_id») (f′ .«stream_id») (took .body))) is-7·yes·15)) $
         returns ! (look ! 72 refl) $ forget ! 12 refl $ forget ! 14 refl $ forget ! 16 refl $ forget ! 18 refl $ forget ! 20 refl $ forget ! 22 refl $ forget ! 24 refl $ forget ! 26 refl $ forget ! 28 refl $ forget ! 30 refl $ forget ! 32 refl $ forget ! 34 refl $ forget ! 36 refl $ forget ! 38 refl $ forget ! 40 refl $ forget ! 42 refl $ forget ! 44 refl $ forget ! 46 refl $ forget ! 48 refl $ forget ! 50 refl $ forget ! 52 refl $
-        frees-all (settled (r′ .next) (took .at) (countReplies (f′ .room) (r′ .wrote) (repliesBy f′ ((handledRows (took .asked) (rows ((touchedRows (sessions) (f′ .«session_id») (f′ .time))) (streams) (objects)) (f′ .«session_id») (f′ .«stream_id») .sessions)) ((handledRows (took .asked) (rows ((touchedRows (sessions) (f′ .«session_id») (f′ .time))) (streams) (objects)) (f′ .«session_id») (f′ .«stream_id») .streams)) (held) (handledMove (took .asked) (rows ((touchedRows (sessions) (f′ .«session_id») (f′ .time))) (streams) (objects)) (d) (f′ .«session_id») (f′ .«stream_id») (took .body)))) (handledMove (took .asked) (rows ((touchedRows (sessions) (f′ .«session_id») (f′ .time))) (streams) (objects)) (d) (f′ .«session_id») (f′ .«stream_id») (took .body))) (handledRows (took .asked) (rows ((touchedRows (sessions) (f′ .«session_id») (f′ .time))) (streams) (objects)) (f′ .«session_id») (f′ .«stream_id») .sessions) (handledRows (took .asked) (rows ((touchedRows (sessions) (f′ .«session_id») (f′ .time))) (streams) (objects)) (f′ .«session_id») (f′ .«stream_id») .streams) (handledRows (took .asked) (rows ((touchedRows (sessions) (f′ .«session_id») (f′ .time))) (streams) (objects)) (f′ .«session_id») (f′ .«stream_id») .objects) (putReplies (f′ .room) (out) (r′ .wrote) (repliesBy f′ ((handledRows (took .asked) (rows ((touchedRows (sessions) (f′ .«session_id») (f′ .time))) (streams) (objects)) (f′ .«session_id») (f′ .«stream_id») .sessions)) ((handledRows (took .asked) (rows ((touchedRows (sessions) (f′ .«session_id») (f′ .time))) (streams) (objects)) (f′ .«session_id») (f′ .«stream_id») .streams)) (held) (handledMove (took .asked) (rows ((touchedRows (sessions) (f′ .«session_id») (f′ .time))) (streams) (objects)) (d) (f′ .«session_id») (f′ .«stream_id») (took .body)))) (exits (settled (r′ .next) (took .at) (countReplies (f′ .room) (r′ .wrote) (repliesBy f′ ((handledRows (took .asked) (rows ((touchedRows (sessions) (f′ .«session_id») (f′ .time))) (streams) (objects)) (f′ .«session_id») (f′ .«stream_id») .sessions)) ((handledRows (took .asked) (rows ((touchedRows (sessions) (f′ .«session_id») (f′ .time))) (streams) (objects)) (f′ .«session_id») (f′ .«stream_id») .streams)) (held) (handledMove (took .asked) (rows ((touchedRows (sessions) (f′ .«session_id») (f′ .time))) (streams) (objects)) (d) (f′ .«session_id») (f′ .«stream_id») (took .body)))) (handledMove (took .asked) (rows ((touchedRows (sessions) (f′ .«session_id») (f′ .time))) (streams) (objects)) (d) (f′ .«session_id») (f′ .«stream_id») (took .body))) (handledRows (took .asked) (rows ((touchedRows (sessions) (f′ .«session_id») (f′ .time))) (streams) (objects)) (f′ .«session_id») (f′ .«stream_id») .sessions) (handledRows (took .asked) (rows ((touchedRows (sessions) (f′ .«session_id») (f′ .time))) (streams) (objects)) (f′ .«session_id») (f′ .«stream_id») .streams) (handledRows (took .asked) (rows ((touchedRows (sessions) (f′ .«session_id») (f′ .time))) (streams) (objects)) (f′ .«session_id») (f′ .«stream_id») .objects) (putReplies (f′ .room) (out) (r′ .wrote) (repliesBy f′ ((handledRows (took .asked) (rows ((touchedRows (sessions) (f′ .«session_id») (f′ .time))) (streams) (objects)) (f′ .«session_id») (f′ .«stream_id») .sessions)) ((handledRows (took .asked) (rows ((touchedRows (sessions) (f′ .«session_id») (f′ .time))) (streams) (objects)) (f′ .«session_id») (f′ .«stream_id») .streams)) (held) (handledMove (took .asked) (rows ((touchedRows (sessions) (f′ .«session_id») (f′ .time))) (streams) (objects)) (d) (f′ .«session_id») (f′ .«stream_id») (took .body)))) (as-acted (f′ .room) out _ (r′ .wrote) (left true) (left live) (if-true left _ c-7) refl) is-7·yes·15 len-7·yes·7-sessions len-7·yes·7-streams len-7·yes·7-objects len-7·yes·14-out)
+        frees-all (settled (r′ .next) (took .at) (countReplies (f′ .room) (r′ .wrote) (repliesBy f′ ((handledRows (took .asked) (rows ((touchedRows (sessions) (f′ .«session_id») ((f′ .moment) .time))) (streams) (objects)) (f′ .«session_id») (f′ .«stream_id») .sessions)) ((handledRows (took .asked) (rows ((touchedRows (sessions) (f′ .«session_id») ((f′ .moment) .time))) (streams) (objects)) (f′ .«session_id») (f′ .«stream_id») .streams)) (held) (handledMove ((f′ .moment) .«is_open») (took .asked) (rows ((touchedRows (sessions) (f′ .«session_id») ((f′ .moment) .time))) (streams) (objects)) (d) (f′ .«session_id») (f′ .«stream_id») (took .body)))) (handledMove ((f′ .moment) .«is_open») (took .asked) (rows ((touchedRows (sessions) (f′ .«session_id») ((f′ .moment) .time))) (streams) (objects)) (d) (f′ .«session_id») (f′ .«stream_id») (took .body))) (handledRows (took .asked) (rows ((touchedRows (sessions) (f′ .«session_id») ((f′ .moment) .time))) (streams) (objects)) (f′ .«session_id») (f′ .«stream_id») .sessions) (handledRows (took .asked) (rows ((touchedRows (sessions) (f′ .«session_id») ((f′ .moment) .time))) (streams) (objects)) (f′ .«session_id») (f′ .«stream_id») .streams) (handledRows (took .asked) (rows ((touchedRows (sessions) (f′ .«session_id») ((f′ .moment) .time))) (streams) (objects)) (f′ .«session_id») (f′ .«stream_id») .objects) (putReplies (f′ .room) (out) (r′ .wrote) (repliesBy f′ ((handledRows (took .asked) (rows ((touchedRows (sessions) (f′ .«session_id») ((f′ .moment) .time))) (streams) (objects)) (f′ .«session_id») (f′ .«stream_id») .sessions)) ((handledRows (took .asked) (rows ((touchedRows (sessions) (f′ .«session_id») ((f′ .moment) .time))) (streams) (objects)) (f′ .«session_id») (f′ .«stream_id») .streams)) (held) (handledMove ((f′ .moment) .«is_open») (took .asked) (rows ((touchedRows (sessions) (f′ .«session_id») ((f′ .moment) .time))) (streams) (objects)) (d) (f′ .«session_id») (f′ .«stream_id») (took .body)))) (exits (settled (r′ .next) (took .at) (countReplies (f′ .room) (r′ .wrote) (repliesBy f′ ((handledRows (took .asked) (rows ((touchedRows (sessions) (f′ .«session_id») ((f′ .moment) .time))) (streams) (objects)) (f′ .«session_id») (f′ .«stream_id») .sessions)) ((handledRows (took .asked) (rows ((touchedRows (sessions) (f′ .«session_id») ((f′ .moment) .time))) (streams) (objects)) (f′ .«session_id») (f′ .«stream_id») .streams)) (held) (handledMove ((f′ .moment) .«is_open») (took .asked) (rows ((touchedRows (sessions) (f′ .«session_id») ((f′ .moment) .time))) (streams) (objects)) (d) (f′ .«session_id») (f′ .«stream_id») (took .body)))) (handledMove ((f′ .moment) .«is_open») (took .asked) (rows ((touchedRows (sessions) (f′ .«session_id») ((f′ .moment) .time))) (streams) (objects)) (d) (f′ .«session_id») (f′ .«stream_id») (took .body))) (handledRows (took .asked) (rows ((touchedRows (sessions) (f′ .«session_id») ((f′ .moment) .time))) (streams) (objects)) (f′ .«session_id») (f′ .«stream_id») .sessions) (handledRows (took .asked) (rows ((touchedRows (sessions) (f′ .«session_id») ((f′ .moment) .time))) (streams) (objects)) (f′ .«session_id») (f′ .«stream_id») .streams) (handledRows (took .asked) (rows ((touchedRows (sessions) (f′ .«session_id») ((f′ .moment) .time))) (streams) (objects)) (f′ .«session_id») (f′ .«stream_id») .objects) (putReplies (f′ .room) (out) (r′ .wrote) (repliesBy f′ ((handledRows (took .asked) (rows ((touchedRows (sessions) (f′ .«session_id») ((f′ .moment) .time))) (streams) (objects)) (f′ .«session_id») (f′ .«stream_id») .sessions)) ((handledRows (took .asked) (rows ((touchedRows (sessions) (f′ .«session_id») ((f′ .moment) .time))) (streams) (objects)) (f′ .«session_id») (f′ .«stream_id») .streams)) (held) (handledMove ((f′ .moment) .«is_open») (took .asked) (rows ((touchedRows (sessions) (f′ .«session_id») ((f′ .moment) .time))) (streams) (objects)) (d) (f′ .«session_id») (f′ .«stream_id») (took .body)))) (as-acted (f′ .room) out _ (r′ .wrote) (left true) (left live) (if-true left _ c-7) refl) is-7·yes·15 len-7·yes·7-sessions len-7·yes·7-streams len-7·yes·7-objects len-7·yes·14-out)
 
-    part-7·yes·15-0 : (len-5-sessions : length (touchedRows (sessions) (f′ .«session_id») (f′ .time)) ≡ n₁) → (is-5 : Is (Named-p .row) (namedOf (sessions) (f′ .«session_id»)) (Named-p .val (namedOf (sessions) (f′ .«session_id»)) ∷ [])) → (is-6 : Is (bool-p .row) (isLive (namedOf (sessions) (f′ .«session_id»))) (bool-p .val (isLive (namedOf (sessions) (f′ .«session_id»))) ∷ [])) → (c-7 : isLive (namedOf (sessions) (f′ .«session_id»)) ≡ true) → (len-7·yes·7-sessions : length (handledRows (took .asked) (rows ((touchedRows (sessions) (f′ .«session_id») (f′ .time))) (streams) (objects)) (f′ .«session_id») (f′ .«stream_id») .sessions) ≡ n₁) → (len-7·yes·7-streams : length (handledRows (took .asked) (rows ((touchedRows (sessions) (f′ .«session_id») (f′ .time))) (streams) (objects)) (f′ .«session_id») (f′ .«stream_id») .streams) ≡ n₂) → (len-7·yes·7-objects : length (handledRows (took .asked) (rows ((touchedRows (sessions) (f′ .«session_id») (f′ .time))) (streams) (objects)) (f′ .«session_id») (f′ .«stream_id») .objects) ≡ n₃) → (is-7·yes·7 : Is (Move-p .row) (handledMove (took .asked) (rows ((touchedRows (sessions) (f′ .«session_id») (f′ .time))) (streams) (objects)) (d) (f′ .«session_id») (f′ .«stream_id») (took .body)) (Move-p .val (handledMove (took .asked) (rows ((touchedRows (sessions) (f′ .«session_id») (f′ .time))) (streams) (objects)) (d) (f′ .«session_id») (f′ .«stream_id») (took .body)) ∷ [])) → (asks-7·yes·14 : f′ .room ≤ 9223372036854775807) → (len-7·yes·14-out : length (putReplies (f′ .room) (out) (r′ .wrote) (repliesBy f′ ((handledRows (took .asked) (rows ((touchedRows (sessions) (f′ .«session_id») (f′ .time))) (streams) (objects)) (f′ .«session_id») (f′ .«stream_id») .sessions)) ((handledRows (took .asked) (rows ((touchedRows (sessions) (f′ .«session_id») (f′ .time))) (streams) (objects)) (f′ .«session_id») (f′ .«stream_id») .streams)) (held) (handledMove (took .asked) (rows ((touchedRows (sessions) (f′ .«session_id») (f′ .time))) (streams) (objects)) (d) (f′ .«session_id») (f′ .«stream_id») (took .body)))) ≡ n₅) → (is-7·yes·14 : Is (u64-p .row) (countReplies (f′ .room) (r′ .wrote) (repliesBy f′ ((handledRows (took .asked) (rows ((touchedRows (sessions) (f′ .«session_id») (f′ .time))) (streams) (objects)) (f′ .«session_id») (f′ .«stream_id») .sessions)) ((handledRows (took .asked) (rows ((touchedRows (sessions) (f′ .«session_id») (f′ .time))) (streams) (objects)) (f′ .«session_id») (f′ .«stream_id») .streams)) (held) (handledMove (took .asked) (rows ((touchedRows (sessions) (f′ .«session_id») (f′ .time))) (streams) (objects)) (d) (f′ .«session_id») (f′ .«stream_id») (took .body)))) (u64-p .val (countReplies (f′ .room) (r′ .wrote) (repliesBy f′ ((handledRows (took .asked) (rows ((touchedRows (sessions) (f′ .«session_id») (f′ .time))) (streams) (objects)) (f′ .«session_id») (f′ .«stream_id») .sessions)) ((handledRows (took .asked) (rows ((touchedRows (sessions) (f′ .«session_id») (f′ .time))) (streams) (objects)) (f′ .«session_id») (f′ .«stream_id») .streams)) (held) (handledMove (took .asked) (rows ((touchedRows (sessions) (f′ .«session_id») (f′ .time))) (streams) (objects)) (d) (f′ .«session_id») (f′ .«stream_id») (took .body)))) ∷ [])) → Sq W (‵ (MutSlice (named 0) κ₁ (Array u64 8) .own (at-list b₁ o₁ γ₁ (handledRows (took .asked) (rows ((touchedRows (sessions) (f′ .«session_id») (f′ .time))) (streams) (objects)) (f′ .«session_id») (f′ .«stream_id») .sessions)) (sliceVal (b₁, o₁) n₁ ∷ [])) ∷ ‵ (flft κ₁ q₁) ∷ ‵ (MutSlice (named 0) κ₂ (Array u16 35) .own (at-list b₂ o₂ γ₂ (handledRows (took .asked) (rows ((touchedRows (sessions) (f′ .«session_id») (f′ .time))) (streams) (objects)) (f′ .«session_id») (f′ .«stream_id») .streams)) (sliceVal (b₂, o₂) n₂ ∷ [])) ∷ ‵ (flft κ₂ q₂) ∷ ‵ (MutSlice (named 0) κ₃ Object-t.the-row .own (at-list b₃ o₃ γ₃ (handledRows (took .asked) (rows ((touchedRows (sessions) (f′ .«session_id») (f′ .time))) (streams) (objects)) (f′ .«session_id») (f′ .«stream_id») .objects)) (sliceVal (b₃, o₃) n₃ ∷ [])) ∷ ‵ (flft κ₃ q₃) ∷ ‵ (ShrSlice (named 0) κ₄ u8 .own (at-list b₄ o₄ γ₄ held) (sliceVal (b₄, o₄) n₄ ∷ [])) ∷ ‵ (flft κ₄ q₄) ∷ ‵ (MutSlice (named 0) κ₅ u8 .own (at-list b₅ o₅ γ₅ (putReplies (f′ .room) (out) (r′ .wrote) (repliesBy f′ ((handledRows (took .asked) (rows ((touchedRows (sessions) (f′ .«session_id») (f′ .time))) (streams) (objects)) (f′ .«session_id») (f′ .«stream_id») .sessions)) ((handledRows (took .asked) (rows ((touchedRows (sessions) (f′ .«session_id») (f′ .time))) (streams) (objects)) (f′ .«session_id») (f′ .«stream_id») .streams)) (held) (handledMove (took .asked) (rows ((touchedRows (sessions) (f′ .«session_id») (f′ .time))) (streams) (objects)) (d) (f′ .«session_id») (f′ .«stream_id») (took .body))))) (sliceVal (b₅, o₅) n₅ ∷ [])) ∷ ‵ (flft κ₅ q₅) ∷ ‵ (ShrSlice (named 0) κ₆ u8 .own (at-list b₆ o₆ γ₆ d) (sliceVal (b₆, o₆) n₆ ∷ [])) ∷ ‵ (flft κ₆ q₆) ∷ full 𝓤 (sliceTy (tyRef erased mut (pointee (u8 .written)))) l₃₀ (sliceVal (b₅, o₅) n₅) (full 𝓤 (tyRef erased mut (pointee (u8 .written))) l₂₉ (vptr b₅ o₅) (full 𝓤 (sliceTy (tyRef erased imm (pointee ((Array u16 35) .written)))) l₂₈ (sliceVal (b₂, o₂) n₂) (full 𝓤 (tyRef erased imm (pointee ((Array u16 35) .written))) l₂₇ (vptr b₂ o₂) (full 𝓤 (sliceTy (tyRef erased imm (pointee ((Array u64 8) .written)))) l₂₆ (sliceVal (b₁, o₁) n₁) (full 𝓤 (tyRef erased imm (pointee ((Array u64 8) .written))) l₂₅ (vptr b₁ o₁) (full 𝓤 (sliceTy (tyRef erased mut (pointee (Object-t.the-row .written)))) l₂₄ (sliceVal (b₃, o₃) n₃) (full 𝓤 (tyRef erased mut (pointee (Object-t.the-row .written))) l₂₃ (vptr b₃ o₃) (full 𝓤 (sliceTy (tyRef erased mut (pointee ((Array u16 35) .written)))) l₂₂ (sliceVal (b₂, o₂) n₂) (full 𝓤 (tyRef erased mut (pointee ((Array u16 35) .written))) l₂₁ (vptr b₂ o₂) (full 𝓤 (sliceTy (tyRef erased mut (pointee ((Array u64 8) .written)))) l₂₀ (sliceVal (b₁, o₁) n₁) (full 𝓤 (tyRef erased mut (pointee ((Array u64 8) .written))) l₁₉ (vptr b₁ o₁) (free 𝓤 Ran-l.mir l₁₈ (full 𝓤 tyBool l₁₇ (bool-p .val (isLive (namedOf (sessions) (f′ .«session_id»)))) (full 𝓤 (sliceTy (tyRef erased mut (pointee ((Array u64 8) .written)))) l₁₆ (sliceVal (b₁, o₁) n₁) (full 𝓤 (tyRef erased mut (pointee ((Array u64 8) .written))) l₁₅ (vptr b₁ o₁) (full 𝓤 (tyInt w64) l₁₄ (u64-p .val (countReplies (f′ .room) (r′ .wrote) (repliesBy f′ ((handledRows (took .asked) (rows ((touchedRows (sessions) (f′ .«session_id») (f′ .time))) (streams) (objects)) (f′ .«session_id») (f′ .«stream_id») .sessions)) ((handledRows (took .asked) (rows ((touchedRows (sessions) (f′ .«session_id») (f′ .time))) (streams) (objects)) (f′ .«session_id») (f′ .«stream_id») .streams)) (held) (handledMove (took .asked) (rows ((touchedRows (sessions) (f′ .«session_id») (f′ .time))) (streams) (objects)) (d) (f′ .«session_id») (f′ .«stream_id») (took .body))))) (full 𝓤 Move-l.mir l₁₃ (Move-p .val (handledMove (took .asked) (rows ((touchedRows (sessions) (f′ .«session_id») (f′ .time))) (streams) (objects)) (d) (f′ .«session_id») (f′ .«stream_id») (took .body))) (full 𝓤 Named-l.mir l₁₂ (Named-p .val (namedOf (sessions) (f′ .«session_id»))) (full 𝓤 (tyInt w8) l₁₁ (u8-p .val (f′ .«stream_id»)) (full 𝓤 (tyInt w8) l₁₀ (u8-p .val (f′ .«session_id»)) (full 𝓤 Taken-l.mir l₉ (Taken-p .val took) (full 𝓤 Ran-l.mir l₈ (Ran-p .val r′) (full 𝓤 Frame-l.mir l₇ (Frame-p .val f′) (full 𝓤 (sliceTy (tyRef (named 5) imm (pointee (u8 .written)))) l₆ (sliceVal (b₆, o₆) n₆) (full 𝓤 (sliceTy (tyRef (named 4) mut (pointee (u8 .written)))) l₅ (sliceVal (b₅, o₅) n₅) (full 𝓤 (sliceTy (tyRef (named 3) imm (pointee (u8 .written)))) l₄ (sliceVal (b₄, o₄) n₄) (full 𝓤 (sliceTy (tyRef (named 2) mut (pointee (Object-t.the-row .written)))) l₃ (sliceVal (b₃, o₃) n₃) (full 𝓤 (sliceTy (tyRef (named 1) mut (pointee ((Array u16 35) .written)))) l₂ (sliceVal (b₂, o₂) n₂) (full 𝓤 (sliceTy (tyRef (named 0) mut (pointee ((Array u64 8) .written)))) l₁ (sliceVal (b₁, o₁) n₁) (free 𝓤 Ran-l.mir l₀ ([])))))))))))))))))))))))))))))))) (runs C Λ En (past 14 (yes-of (one mir.t-7))) (anyQ (afterSeq 𝓤 H (Wp 𝓤 H C Λ En mir.t-8 (atReturn 𝓤 H En Post)) (atReturn 𝓤 H En Post))))
+    part-7·yes·15-0 : (len-5-sessions : length (touchedRows (sessions) (f′ .«session_id») ((f′ .moment) .time)) ≡ n₁) → (is-5 : Is (Named-p .row) (namedOf (sessions) (f′ .«session_id»)) (Named-p .val (namedOf (sessions) (f′ .«session_id»)) ∷ [])) → (is-6 : Is (bool-p .row) (isLive (namedOf (sessions) (f′ .«session_id»))) (bool-p .val (isLive (namedOf (sessions) (f′ .«session_id»))) ∷ [])) → (c-7 : isLive (namedOf (sessions) (f′ .«session_id»)) ≡ true) → (len-7·yes·7-sessions : length (handledRows (took .asked) (rows ((touchedRows (sessions) (f′ .«session_id») ((f′ .moment) .time))) (streams) (objects)) (f′ .«session_id») (f′ .«stream_id») .sessions) ≡ n₁) → (len-7·yes·7-streams : length (handledRows (took .asked) (rows ((touchedRows (sessions) (f′ .«session_id») ((f′ .moment) .time))) (streams) (objects)) (f′ .«session_id») (f′ .«stream_id») .streams) ≡ n₂) → (len-7·yes·7-objects : length (handledRows (took .asked) (rows ((touchedRows (sessions) (f′ .«session_id») ((f′ .moment) .time))) (streams) (objects)) (f′ .«session_id») (f′ .«stream_id») .objects) ≡ n₃) → (is-7·yes·7 : Is (Move-p .row) (handledMove ((f′ .moment) .«is_open») (took .asked) (rows ((touchedRows (sessions) (f′ .«session_id») ((f′ .moment) .time))) (streams) (objects)) (d) (f′ .«session_id») (f′ .«stream_id») (took .body)) (Move-p .val (handledMove ((f′ .moment) .«is_open») (took .asked) (rows ((touchedRows (sessions) (f′ .«session_id») ((f′ .moment) .time))) (streams) (objects)) (d) (f′ .«session_id») (f′ .«stream_id») (took .body)) ∷ [])) → (asks-7·yes·14 : f′ .room ≤ 9223372036854775807) → (len-7·yes·14-out : length (putReplies (f′ .room) (out) (r′ .wrote) (repliesBy f′ ((handledRows (took .asked) (rows ((touchedRows (sessions) (f′ .«session_id») ((f′ .moment) .time))) (streams) (objects)) (f′ .«session_id») (f′ .«stream_id») .sessions)) ((handledRows (took .asked) (rows ((touchedRows (sessions) (f′ .«session_id») ((f′ .moment) .time))) (streams) (objects)) (f′ .«session_id») (f′ .«stream_id») .streams)) (held) (handledMove ((f′ .moment) .«is_open») (took .asked) (rows ((touchedRows (sessions) (f′ .«session_id») ((f′ .moment) .time))) (streams) (objects)) (d) (f′ .«session_id») (f′ .«stream_id») (took .body)))) ≡ n₅) → (is-7·yes·14 : Is (u64-p .row) (countReplies (f′ .room) (r′ .wrote) (repliesBy f′ ((handledRows (took .asked) (rows ((touchedRows (sessions) (f′ .«session_id») ((f′ .moment) .time))) (streams) (objects)) (f′ .«session_id») (f′ .«stream_id») .sessions)) ((handledRows (took .asked) (rows ((touchedRows (sessions) (f′ .«session_id») ((f′ .moment) .time))) (streams) (objects)) (f′ .«session_id») (f′ .«stream_id») .streams)) (held) (handledMove ((f′ .moment) .«is_open») (took .asked) (rows ((touchedRows (sessions) (f′ .«session_id») ((f′ .moment) .time))) (streams) (objects)) (d) (f′ .«session_id») (f′ .«stream_id») (took .body)))) (u64-p .val (countReplies (f′ .room) (r′ .wrote) (repliesBy f′ ((handledRows (took .asked) (rows ((touchedRows (sessions) (f′ .«session_id») ((f′ .moment) .time))) (streams) (objects)) (f′ .«session_id») (f′ .«stream_id») .sessions)) ((handledRows (took .asked) (rows ((touchedRows (sessions) (f′ .«session_id») ((f′ .moment) .time))) (streams) (objects)) (f′ .«session_id») (f′ .«stream_id») .streams)) (held) (handledMove ((f′ .moment) .«is_open») (took .asked) (rows ((touchedRows (sessions) (f′ .«session_id») ((f′ .moment) .time))) (streams) (objects)) (d) (f′ .«session_id») (f′ .«stream_id») (took .body)))) ∷ [])) → Sq W (‵ (MutSlice (named 0) κ₁ (Array u64 8) .own (at-list b₁ o₁ γ₁ (handledRows (took .asked) (rows ((touchedRows (sessions) (f′ .«session_id») ((f′ .moment) .time))) (streams) (objects)) (f′ .«session_id») (f′ .«stream_id») .sessions)) (sliceVal (b₁, o₁) n₁ ∷ [])) ∷ ‵ (flft κ₁ q₁) ∷ ‵ (MutSlice (named 0) κ₂ (Array u16 35) .own (at-list b₂ o₂ γ₂ (handledRows (took .asked) (rows ((touchedRows (sessions) (f′ .«session_id») ((f′ .moment) .time))) (streams) (objects)) (f′ .«session_id») (f′ .«stream_id») .streams)) (sliceVal (b₂, o₂) n₂ ∷ [])) ∷ ‵ (flft κ₂ q₂) ∷ ‵ (MutSlice (named 0) κ₃ Object-t.the-row .own (at-list b₃ o₃ γ₃ (handledRows (took .asked) (rows ((touchedRows (sessions) (f′ .«session_id») ((f′ .moment) .time))) (streams) (objects)) (f′ .«session_id») (f′ .«stream_id») .objects)) (sliceVal (b₃, o₃) n₃ ∷ [])) ∷ ‵ (flft κ₃ q₃) ∷ ‵ (ShrSlice (named 0) κ₄ u8 .own (at-list b₄ o₄ γ₄ held) (sliceVal (b₄, o₄) n₄ ∷ [])) ∷ ‵ (flft κ₄ q₄) ∷ ‵ (MutSlice (named 0) κ₅ u8 .own (at-list b₅ o₅ γ₅ (putReplies (f′ .room) (out) (r′ .wrote) (repliesBy f′ ((handledRows (took .asked) (rows ((touchedRows (sessions) (f′ .«session_id») ((f′ .moment) .time))) (streams) (objects)) (f′ .«session_id») (f′ .«stream_id») .sessions)) ((handledRows (took .asked) (rows ((touchedRows (sessions) (f′ .«session_id») ((f′ .moment) .time))) (streams) (objects)) (f′ .«session_id») (f′ .«stream_id») .streams)) (held) (handledMove ((f′ .moment) .«is_open») (took .asked) (rows ((touchedRows (sessions) (f′ .«session_id») ((f′ .moment) .time))) (streams) (objects)) (d) (f′ .«session_id») (f′ .«stream_id») (took .body))))) (sliceVal (b₅, o₅) n₅ ∷ [])) ∷ ‵ (flft κ₅ q₅) ∷ ‵ (ShrSlice (named 0) κ₆ u8 .own (at-list b₆ o₆ γ₆ d) (sliceVal (b₆, o₆) n₆ ∷ [])) ∷ ‵ (flft κ₆ q₆) ∷ full 𝓤 (sliceTy (tyRef erased mut (pointee (u8 .written)))) l₃₀ (sliceVal (b₅, o₅) n₅) (full 𝓤 (tyRef erased mut (pointee (u8 .written))) l₂₉ (vptr b₅ o₅) (full 𝓤 (sliceTy (tyRef erased imm (pointee ((Array u16 35) .written)))) l₂₈ (sliceVal (b₂, o₂) n₂) (full 𝓤 (tyRef erased imm (pointee ((Array u16 35) .written))) l₂₇ (vptr b₂ o₂) (full 𝓤 (sliceTy (tyRef erased imm (pointee ((Array u64 8) .written)))) l₂₆ (sliceVal (b₁, o₁) n₁) (full 𝓤 (tyRef erased imm (pointee ((Array u64 8) .written))) l₂₅ (vptr b₁ o₁) (full 𝓤 (sliceTy (tyRef erased mut (pointee (Object-t.the-row .written)))) l₂₄ (sliceVal (b₃, o₃) n₃) (full 𝓤 (tyRef erased mut (pointee (Object-t.the-row .written))) l₂₃ (vptr b₃ o₃) (full 𝓤 (sliceTy (tyRef erased mut (pointee ((Array u16 35) .written)))) l₂₂ (sliceVal (b₂, o₂) n₂) (full 𝓤 (tyRef erased mut (pointee ((Array u16 35) .written))) l₂₁ (vptr b₂ o₂) (full 𝓤 (sliceTy (tyRef erased mut (pointee ((Array u64 8) .written)))) l₂₀ (sliceVal (b₁, o₁) n₁) (full 𝓤 (tyRef erased mut (pointee ((Array u64 8) .written))) l₁₉ (vptr b₁ o₁) (free 𝓤 Ran-l.mir l₁₈ (full 𝓤 tyBool l₁₇ (bool-p .val (isLive (namedOf (sessions) (f′ .«session_id»)))) (full 𝓤 (sliceTy (tyRef erased mut (pointee ((Array u64 8) .written)))) l₁₆ (sliceVal (b₁, o₁) n₁) (full 𝓤 (tyRef erased mut (pointee ((Array u64 8) .written))) l₁₅ (vptr b₁ o₁) (full 𝓤 (tyInt w64) l₁₄ (u64-p .val (countReplies (f′ .room) (r′ .wrote) (repliesBy f′ ((handledRows (took .asked) (rows ((touchedRows (sessions) (f′ .«session_id») ((f′ .moment) .time))) (streams) (objects)) (f′ .«session_id») (f′ .«stream_id») .sessions)) ((handledRows (took .asked) (rows ((touchedRows (sessions) (f′ .«session_id») ((f′ .moment) .time))) (streams) (objects)) (f′ .«session_id») (f′ .«stream_id») .streams)) (held) (handledMove ((f′ .moment) .«is_open») (took .asked) (rows ((touchedRows (sessions) (f′ .«session_id») ((f′ .moment) .time))) (streams) (objects)) (d) (f′ .«session_id») (f′ .«stream_id») (took .body))))) (full 𝓤 Move-l.mir l₁₃ (Move-p .val (handledMove ((f′ .moment) .«is_open») (took .asked) (rows ((touchedRows (sessions) (f′ .«session_id») ((f′ .moment) .time))) (streams) (objects)) (d) (f′ .«session_id») (f′ .«stream_id») (took .body))) (full 𝓤 Named-l.mir l₁₂ (Named-p .val (namedOf (sessions) (f′ .«session_id»))) (full 𝓤 (tyInt w8) l₁₁ (u8-p .val (f′ .«stream_id»)) (full 𝓤 (tyInt w8) l₁₀ (u8-p .val (f′ .«session_id»)) (full 𝓤 Taken-l.mir l₉ (Taken-p .val took) (full 𝓤 Ran-l.mir l₈ (Ran-p .val r′) (full 𝓤 Frame-l.mir l₇ (Frame-p .val f′) (full 𝓤 (sliceTy (tyRef (named 5) imm (pointee (u8 .written)))) l₆ (sliceVal (b₆, o₆) n₆) (full 𝓤 (sliceTy (tyRef (named 4) mut (pointee (u8 .written)))) l₅ (sliceVal (b₅, o₅) n₅) (full 𝓤 (sliceTy (tyRef (named 3) imm (pointee (u8 .written)))) l₄ (sliceVal (b₄, o₄) n₄) (full 𝓤 (sliceTy (tyRef (named 2) mut (pointee (Object-t.the-row .written)))) l₃ (sliceVal (b₃, o₃) n₃) (full 𝓤 (sliceTy (tyRef (named 1) mut (pointee ((Array u16 35) .written)))) l₂ (sliceVal (b₂, o₂) n₂) (full 𝓤 (sliceTy (tyRef (named 0) mut (pointee ((Array u64 8) .written)))) l₁ (sliceVal (b₁, o₁) n₁) (free 𝓤 Ran-l.mir l₀ ([])))))))))))))))))))))))))))))))) (runs C Λ En (past 14 (yes-of (one mir.t-7))) (anyQ (afterSeq 𝓤 H (Wp 𝓤 H C Λ En mir.t-8 (atReturn 𝓤 H En Post)) (atReturn 𝓤 H En Post))))
     part-7·yes·15-0 len-5-sessions is-5 is-6 c-7 len-7·yes·7-sessions len-7·yes·7-streams len-7·yes·7-objects is-7·yes·7 asks-7·yes·14 len-7·yes·14-out is-7·yes·14 =
         -- 7.yes.15: agent::turn::settle
         nothing ! $
         use1 W (raw (toks 𝓤 A 0 (tt) (tt))) (id⊢ 𝓤 _) $ nothing ! $
-        owned ! (Move-p .row) (Is (Move-p .row)) (Move-p .makes 𝓤 H A W) (handledMove (took .asked) (rows ((touchedRows (sessions) (f′ .«session_id») (f′ .time))) (streams) (objects)) (d) (f′ .«session_id») (f′ .«stream_id») (took .body)) (Move-p .val (handledMove (took .asked) (rows ((touchedRows (sessions) (f′ .«session_id») (f′ .time))) (streams) (objects)) (d) (f′ .«session_id») (f′ .«stream_id») (took .body)) ∷ []) is-7·yes·7 $ fjoin ! $
-        owned ! (u64-p .row) (Is (u64-p .row)) (u64-p .makes 𝓤 H A W) (countReplies (f′ .room) (r′ .wrote) (repliesBy f′ ((handledRows (took .asked) (rows ((touchedRows (sessions) (f′ .«session_id») (f′ .time))) (streams) (objects)) (f′ .«session_id») (f′ .«stream_id») .sessions)) ((handledRows (took .asked) (rows ((touchedRows (sessions) (f′ .«session_id») (f′ .time))) (streams) (objects)) (f′ .«session_id») (f′ .«stream_id») .streams)) (held) (handledMove (took .asked) (rows ((touchedRows (sessions) (f′ .«session_id») (f′ .time))) (streams) (objects)) (d) (f′ .«session_id») (f′ .«stream_id») (took .body)))) (u64-p .val (countReplies (f′ .room) (r′ .wrote) (repliesBy f′ ((handledRows (took .asked) (rows ((touchedRows (sessions) (f′ .«session_id») (f′ .time))) (streams) (objects)) (f′ .«session_id») (f′ .«stream_id») .sessions)) ((handledRows (took .asked) (rows ((touchedRows (sessions) (f′ .«session_id») (f′ .time))) (streams) (objects)) (f′ .«session_id») (f′ .«stream_id») .streams)) (held) (handledMove (took .asked) (rows ((touchedRows (sessions) (f′ .«session_id») (f′ .time))) (streams) (objects)) (d) (f′ .«session_id») (f′ .«stream_id») (took .body)))) ∷ []) is-7·yes·14 $ fjoin ! $
+        owned ! (Move-p .row) (Is (Move-p .row)) (Move-p .makes 𝓤 H A W) (handledMove ((f′ .moment) .«is_open») (took .asked) (rows ((touchedRows (sessions) (f′ .«session_id») ((f′ .moment) .time))) (streams) (objects)) (d) (f′ .«session_id») (f′ .«stream_id») (took .body)) (Move-p .val (handledMove ((f′ .moment) .«is_open») (took .asked) (rows ((touchedRows (sessions) (f′ .«session_id») ((f′ .moment) .time))) (streams) (objects)) (d) (f′ .«session_id») (f′ .«stream_id») (took .body)) ∷ []) is-7·yes·7 $ fjoin ! $
+        owned ! (u64-p .row) (Is (u64-p .row)) (u64-p .makes 𝓤 H A W) (countReplies (f′ .room) (r′ .wrote) (repliesBy f′ ((handledRows (took .asked) (rows ((touchedRows (sessions) (f′ .«session_id») ((f′ .moment) .time))) (streams) (objects)) (f′ .«session_id») (f′ .«stream_id») .sessions)) ((handledRows (took .asked) (rows ((touchedRows (sessions) (f′ .«session_id») ((f′ .moment) .time))) (streams) (objects)) (f′ .«session_id») (f′ .«stream_id») .streams)) (held) (handledMove ((f′ .moment) .«is_open») (took .asked) (rows ((touchedRows (sessions) (f′ .«session_id») ((f′ .moment) .time))) (streams) (objects)) (d) (f′ .«session_id») (f′ .«stream_id») (took .body)))) (u64-p .val (countReplies (f′ .room) (r′ .wrote) (repliesBy f′ ((handledRows (took .asked) (rows ((touchedRows (sessions) (f′ .«session_id») ((f′ .moment) .time))) (streams) (objects)) (f′ .«session_id») (f′ .«stream_id») .sessions)) ((handledRows (took .asked) (rows ((touchedRows (sessions) (f′ .«session_id») ((f′ .moment) .time))) (streams) (objects)) (f′ .«session_id») (f′ .«stream_id») .streams)) (held) (handledMove ((f′ .moment) .«is_open») (took .asked) (rows ((touchedRows (sessions) (f′ .«session_id») ((f′ .moment) .time))) (streams) (objects)) (d) (f′ .«session_id») (f′ .«stream_id») (took .body)))) ∷ []) is-7·yes·14 $ fjoin ! $
         owned ! (u64-p .row) (Is (u64-p .row)) (u64-p .makes 𝓤 H A W) (took .at) (u64-p .val (took .at) ∷ []) (LL.owed Taken-t.the-type Taken-l.the-laws took _ took-is .1 .1 .0) $ fjoin ! $
         owned ! (u8-p .row) (Is (u8-p .row)) (u8-p .makes 𝓤 H A W) (r′ .next) (u8-p .val (r′ .next) ∷ []) (LL.owed Ran-t.the-type Ran-l.the-laws r′ _ r′-is .0) $ fjoin ! $ move ! (1 ∷ 0 ∷ []) $
-        calls-any-last ! fm 0 [] (turn-settle.signature .params) (turn-settle.ended .kept) Ran-p (turn-settle.clauses 𝓤 H A mem run) known-turn-settle tt tt tt (r′ .next, (took .at, (countReplies (f′ .room) (r′ .wrote) (repliesBy f′ ((handledRows (took .asked) (rows ((touchedRows (sessions) (f′ .«session_id») (f′ .time))) (streams) (objects)) (f′ .«session_id») (f′ .«stream_id») .sessions)) ((handledRows (took .asked) (rows ((touchedRows (sessions) (f′ .«session_id») (f′ .time))) (streams) (objects)) (f′ .«session_id») (f′ .«stream_id») .streams)) (held) (handledMove (took .asked) (rows ((touchedRows (sessions) (f′ .«session_id») (f′ .time))) (streams) (objects)) (d) (f′ .«session_id») (f′ .«stream_id») (took .body))), (handledMove (took .asked) (rows ((touchedRows (sessions) (f′ .«session_id») (f′ .time))) (streams) (objects)) (d) (f′ .«session_id») (f′ .«stream_id») (took .body), tt)))) (u8-p .val (r′ .next) ∷ [], (u64-p .val (took .at) ∷ [], (u64-p .val (countReplies (f′ .room) (r′ .wrote) (repliesBy f′ ((handledRows (took .asked) (rows ((touchedRows (sessions) (f′ .«session_id») (f′ .time))) (streams) (objects)) (f′ .«session_id») (f′ .«stream_id») .sessions)) ((handledRows (took .asked) (rows ((touchedRows (sessions) (f′ .«session_id») (f′ .time))) (streams) (objects)) (f′ .«session_id») (f′ .«stream_id») .streams)) (held) (handledMove (took .asked) (rows ((touchedRows (sessions) (f′ .«session_id») (f′ .time))) (streams) (objects)) (d) (f′ .«session_id») (f′ .«stream_id») (took .body)))) ∷ [], (Move-p .val (handledMove (took .asked) (rows ((touchedRows (sessions) (f′ .«session_id») (f′ .time))) (streams) (objects)) (d) (f′ .«session_id») (f′ .«stream_id») (took .body)) ∷ [], tt)))) tt (settled (r′ .next) (took .at) (countReplies (f′ .room) (r′ .wrote) (repliesBy f′ ((handledRows (took .asked) (rows ((touchedRows (sessions) (f′ .«session_id») (f′ .time))) (streams) (objects)) (f′ .«session_id») (f′ .«stream_id») .sessions)) ((handledRows (took .asked) (rows ((touchedRows (sessions) (f′ .«session_id») (f′ .time))) (streams) (objects)) (f′ .«session_id») (f′ .«stream_id») .streams)) (held) (handledMove (took .asked) (rows ((touchedRows (sessions) (f′ .«session_id») (f′ .time))) (streams) (objects)) (d) (f′ .«session_id») (f′ .«stream_id») (took .body)))) (handledMove (took .asked) (rows ((touchedRows (sessions) (f′ .«session_id») (f′ .time))) (streams) (objects)) (d) (f′ .«session_id») (f′ .«stream_id») (took .body))) (λ ws-7·yes·15. Unit {0}) (id⊢ 𝓤 _) (λ r ws-7·yes·15. fact-mono 𝓤 (r ≡ settled (r′ .next) (took .at) (countReplies (f′ .room) (r′ .wrote) (repliesBy f′ ((handledRows (took .asked) (rows ((touchedRows (sessions) (f′ .«session_id») (f′ .time))) (streams) (objects)) (f′ .«session_id») (f′ .«stream_id») .sessions)) ((handledRows (took .asked) (rows ((touchedRows (sessions) (f′ .«session_id») (f′ .time))) (streams) (objects)) (f′ .«session_id») (f′ .«stream_id») .streams)) (held) (handledMove (took .asked) (rows ((touchedRows (sessions) (f′ .«session_id») (f′ .time))) (streams) (objects)) (d) (f′ .«session_id») (f′ .«stream_id») (took .body)))) (handledMove (took .asked) (rows ((touchedRows (sessions) (f′ .«session_id») (f′ .time))) (streams) (objects)) (d) (f′ .«session_id») (f′ .«stream_id») (took .body))) ((r ≡ (settled (r′ .next) (took .at) (countReplies (f′ .room) (r′ .wrote) (repliesBy f′ ((handledRows (took .asked) (rows ((touchedRows (sessions) (f′ .«session_id») (f′ .time))) (streams) (objects)) (f′ .«session_id») (f′ .«stream_id») .sessions)) ((handledRows (took .asked) (rows ((touchedRows (sessions) (f′ .«session_id») (f′ .time))) (streams) (objects)) (f′ .«session_id») (f′ .«stream_id») .streams)) (held) (handledMove (took .asked) (rows ((touchedRows (sessions) (f′ .«session_id») (f′ .time))) (streams) (objects)) (d) (f′ .«session_id») (f′ .«stream_id») (took .body)))) (handledMove (took .asked) (rows ((touchedRows (sessions) (f′ .«session_id») (f′ .time))) (streams) (objects)) (d) (f′ .«session_id») (f′ .«stream_id») (took .body)))) × (Unit {0})) (λ e. (e, tt))) (λ _. (and-then ! (load ! (from ! (fld ! refl (stop !))) (look-in ! 57 (sub ! 0 refl (whole !)))) (and-then ! (load ! (from ! (fld ! refl (stop !))) (look-in ! 55 (sub ! 2 refl (whole !)))) (and-then ! (load ! (from ! (stop !)) (look ! 45 refl)) (and-then ! (load ! (from ! (stop !)) (look ! 47 refl)) (no-more !)))))) (λ ws-7·yes·15 said-7·yes·15 is-7·yes·15.
+        calls-any-last ! fm 0 [] (turn-settle.signature .params) (turn-settle.ended .kept) Ran-p (turn-settle.clauses 𝓤 H A mem run) known-turn-settle tt tt tt (r′ .next, (took .at, (countReplies (f′ .room) (r′ .wrote) (repliesBy f′ ((handledRows (took .asked) (rows ((touchedRows (sessions) (f′ .«session_id») ((f′ .moment) .time))) (streams) (objects)) (f′ .«session_id») (f′ .«stream_id») .sessions)) ((handledRows (took .asked) (rows ((touchedRows (sessions) (f′ .«session_id») ((f′ .moment) .time))) (streams) (objects)) (f′ .«session_id») (f′ .«stream_id») .streams)) (held) (handledMove ((f′ .moment) .«is_open») (took .asked) (rows ((touchedRows (sessions) (f′ .«session_id») ((f′ .moment) .time))) (streams) (objects)) (d) (f′ .«session_id») (f′ .«stream_id») (took .body))), (handledMove ((f′ .moment) .«is_open») (took .asked) (rows ((touchedRows (sessions) (f′ .«session_id») ((f′ .moment) .time))) (streams) (objects)) (d) (f′ .«session_id») (f′ .«stream_id») (took .body), tt)))) (u8-p .val (r′ .next) ∷ [], (u64-p .val (took .at) ∷ [], (u64-p .val (countReplies (f′ .room) (r′ .wrote) (repliesBy f′ ((handledRows (took .asked) (rows ((touchedRows (sessions) (f′ .«session_id») ((f′ .moment) .time))) (streams) (objects)) (f′ .«session_id») (f′ .«stream_id») .sessions)) ((handledRows (took .asked) (rows ((touchedRows (sessions) (f′ .«session_id») ((f′ .moment) .time))) (streams) (objects)) (f′ .«session_id») (f′ .«stream_id») .streams)) (held) (handledMove ((f′ .moment) .«is_open») (took .asked) (rows ((touchedRows (sessions) (f′ .«session_id») ((f′ .moment) .time))) (streams) (objects)) (d) (f′ .«session_id») (f′ .«stream_id») (took .body)))) ∷ [], (Move-p .val (handledMove ((f′ .moment) .«is_open») (took .asked) (rows ((touchedRows (sessions) (f′ .«session_id») ((f′ .moment) .time))) (streams) (objects)) (d) (f′ .«session_id») (f′ .«stream_id») (took .body)) ∷ [], tt)))) tt (settled (r′ .next) (took .at) (countReplies (f′ .room) (r′ .wrote) (repliesBy f′ ((handledRows (took .asked) (rows ((touchedRows (sessions) (f′ .«session_id») ((f′ .moment) .time))) (streams) (objects)) (f′ .«session_id») (f′ .«stream_id») .sessions)) ((handledRows (took .asked) (rows ((touchedRows (sessions) (f′ .«session_id») ((f′ .moment) .time))) (streams) (objects)) (f′ .«session_id») (f′ .«stream_id») .streams)) (held) (handledMove ((f′ .moment) .«is_open») (took .asked) (rows ((touchedRows (sessions) (f′ .«session_id») ((f′ .moment) .time))) (streams) (objects)) (d) (f′ .«session_id») (f′ .«stream_id») (took .body)))) (handledMove ((f′ .moment) .«is_open») (took .asked) (rows ((touchedRows (sessions) (f′ .«session_id») ((f′ .moment) .time))) (streams) (objects)) (d) (f′ .«session_id») (f′ .«stream_id») (took .body))) (λ ws-7·yes·15. Unit {0}) (id⊢ 𝓤 _) (λ r ws-7·yes·15. fact-mono 𝓤 (r ≡ settled (r′ .next) (took .at) (countReplies (f′ .room) (r′ .wrote) (repliesBy f′ ((handledRows (took .asked) (rows ((touchedRows (sessions) (f′ .«session_id») ((f′ .moment) .time))) (streams) (objects)) (f′ .«session_id») (f′ .«stream_id») .sessions)) ((handledRows (took .asked) (rows ((touchedRows (sessions) (f′ .«session_id») ((f′ .moment) .time))) (streams) (objects)) (f′ .«session_id») (f′ .«stream_id») .streams)) (held) (handledMove ((f′ .moment) .«is_open») (took .asked) (rows ((touchedRows (sessions) (f′ .«session_id») ((f′ .moment) .time))) (streams) (objects)) (d) (f′ .«session_id») (f′ .«stream_id») (took .body)))) (handledMove ((f′ .moment) .«is_open») (took .asked) (rows ((touchedRows (sessions) (f′ .«session_id») ((f′ .moment) .time))) (streams) (objects)) (d) (f′ .«session_id») (f′ .«stream_id») (took .body))) ((r ≡ (settled (r′ .next) (took .at) (countReplies (f′ .room) (r′ .wrote) (repliesBy f′ ((handledRows (took .asked) (rows ((touchedRows (sessions) (f′ .«session_id») ((f′ .moment) .time))) (streams) (objects)) (f′ .«session_id») (f′ .«stream_id») .sessions)) ((handledRows (took .asked) (rows ((touchedRows (sessions) (f′ .«session_id») ((f′ .moment) .time))) (streams) (objects)) (f′ .«session_id») (f′ .«stream_id») .streams)) (held) (handledMove ((f′ .moment) .«is_open») (took .asked) (rows ((touchedRows (sessions) (f′ .«session_id») ((f′ .moment) .time))) (streams) (objects)) (d) (f′ .«session_id») (f′ .«stream_id») (took .body)))) (handledMove ((f′ .moment) .«is_open») (took .asked) (rows ((touchedRows (sessions) (f′ .«session_id») ((f′ .moment) .time))) (streams) (objects)) (d) (f′ .«session_id») (f′ .«stream_id») (took .body)))) × (Unit {0})) (λ e. (e, tt))) (λ _. (and-then ! (load ! (from ! (fld ! refl (stop !))) (look-in ! 57 (sub ! 0 refl (whole !)))) (and-then ! (load ! (from ! (fld ! refl (stop !))) (look-in ! 55 (sub ! 2 refl (whole !)))) (and-then ! (load ! (from ! (stop !)) (look ! 45 refl)) (and-then ! (load ! (from ! (stop !)) (look ! 47 refl)) (no-more !)))))) (λ ws-7·yes·15 said-7·yes·15 is-7·yes·15.
         drop ! $ drop ! $
-        land-last ! (from ! (stop !)) (init ! 36 refl (Ran-p .typed 𝓤 H A W (settled (r′ .next) (took .at) (countReplies (f′ .room) (r′ .wrote) (repliesBy f′ ((handledRows (took .asked) (rows ((touchedRows (sessions) (f′ .«session_id») (f′ .time))) (streams) (objects)) (f′ .«session_id») (f′ .«stream_id») .sessions)) ((handledRows (took .asked) (rows ((touchedRows (sessions) (f′ .«session_id») (f′ .time))) (streams) (objects)) (f′ .«session_id») (f′ .«stream_id») .streams)) (held) (handledMove (took .asked) (rows ((touchedRows (sessions) (f′ .«session_id») (f′ .time))) (streams) (objects)) (d) (f′ .«session_id») (f′ .«stream_id») (took .body)))) (handledMove (took .asked) (rows ((touchedRows (sessions) (f′ .«session_id») (f′ .time))) (streams) (objects)) (d) (f′ .«session_id») (f′ .«stream_id») (took .body))) is-7·yes·15)) $
+        land-last ! (from ! (stop !)) (init ! 36 refl (Ran-p .typed 𝓤 H A W (settled (r′ .next) (took .at) (countReplies (f′ .room) (r′ .wrote) (repliesBy f′ ((handledRows (took .asked) (rows ((touchedRows (sessions) (f′ .«session_id») ((f′ .moment) .time))) (streams) (objects)) (f′ .«session_id») (f′ .«stream_id») .sessions)) ((handledRows (took .asked) (rows ((touchedRows (sessions) (f′ .«session_id») ((f′ .moment) .time))) (streams) (objects)) (f′ .«session_id») (f′ .«stream_id») .streams)) (held) (handledMove ((f′ .moment) .«is_open») (took .asked) (rows ((touchedRows (sessions) (f′ .«session_id») ((f′ .moment) .time))) (streams) (objects)) (d) (f′ .«session_id») (f′ .«stream_id») (took .body)))) (handledMove ((f′ .moment) .«is_open») (took .asked) (rows ((touchedRows (sessions) (f′ .«session_id») ((f′ .moment) .time))) (streams) (objects)) (d) (f′ .«session_id») (f′ .«stream_id») (took .body))) is-7·yes·15)) $
         exec ! C Λ En mir.t-8 (atRet En Post) $
         part-8-0 len-5-sessions is-5 is-6 c-7 len-7·yes·7-sessions len-7·yes·7-streams len-7·yes·7-objects is-7·yes·7 asks-7·yes·14 len-7·yes·14-out is-7·yes·14 is-7·yes·15)
 
-    part-7·yes·8-0 : (len-5-sessions : length (touchedRows (sessions) (f′ .«session_id») (f′ .time)) ≡ n₁) → (is-5 : Is (Named-p .row) (namedOf (sessions) (f′ .«session_id»)) (Named-p .val (namedOf (sessions) (f′ .«session_id»)) ∷ [])) → (is-6 : Is (bool-p .row) (isLive (namedOf (sessions) (f′ .«session_id»))) (bool-p .val (isLive (namedOf (sessions) (f′ .«session_id»))) ∷ [])) → (c-7 : isLive (namedOf (sessions) (f′ .«session_id»)) ≡ true) → (len-7·yes·7-sessions : length (handledRows (took .asked) (rows ((touchedRows (sessions) (f′ .«session_id») (f′ .time))) (streams) (objects)) (f′ .«session_id») (f′ .«stream_id») .sessions) ≡ n₁) → (len-7·yes·7-streams : length (handledRows (took .asked) (rows ((touchedRows (sessions) (f′ .«session_id») (f′ .time))) (streams) (objects)) (f′ .«session_id») (f′ .«stream_id») .streams) ≡ n₂) → (len-7·yes·7-objects : length (handledRows (took .asked) (rows ((touchedRows (sessions) (f′ .«session_id») (f′ .time))) (streams) (objects)) (f′ .«session_id») (f′ .«stream_id») .objects) ≡ n₃) → (is-7·yes·7 : Is (Move-p .row) (handledMove (took .asked) (rows ((touchedRows (sessions) (f′ .«session_id») (f′ .time))) (streams) (objects)) (d) (f′ .«session_id») (f′ .«stream_id») (took .body)) (Move-p .val (handledMove (took .asked) (rows ((touchedRows (sessions) (f′ .«session_id») (f′ .time))) (streams) (objects)) (d) (f′ .«session_id») (f′ .«stream_id») (took .body)) ∷ [])) → Sq W (‵ (MutSlice (named 0) κ₁ (Array u64 8) .own (at-list b₁ o₁ γ₁ (handledRows (took .asked) (rows ((touchedRows (sessions) (f′ .«session_id») (f′ .time))) (streams) (objects)) (f′ .«session_id») (f′ .«stream_id») .sessions)) (sliceVal (b₁, o₁) n₁ ∷ [])) ∷ ‵ (flft κ₁ q₁) ∷ ‵ (MutSlice (named 0) κ₂ (Array u16 35) .own (at-list b₂ o₂ γ₂ (handledRows (took .asked) (rows ((touchedRows (sessions) (f′ .«session_id») (f′ .time))) (streams) (objects)) (f′ .«session_id») (f′ .«stream_id») .streams)) (sliceVal (b₂, o₂) n₂ ∷ [])) ∷ ‵ (flft κ₂ q₂) ∷ ‵ (MutSlice (named 0) κ₃ Object-t.the-row .own (at-list b₃ o₃ γ₃ (handledRows (took .asked) (rows ((touchedRows (sessions) (f′ .«session_id») (f′ .time))) (streams) (objects)) (f′ .«session_id») (f′ .«stream_id») .objects)) (sliceVal (b₃, o₃) n₃ ∷ [])) ∷ ‵ (flft κ₃ q₃) ∷ ‵ (ShrSlice (named 0) κ₄ u8 .own (at-list b₄ o₄ γ₄ held) (sliceVal (b₄, o₄) n₄ ∷ [])) ∷ ‵ (flft κ₄ q₄) ∷ ‵ (MutSlice (named 0) κ₅ u8 .own (at-list b₅ o₅ γ₅ out) (sliceVal (b₅, o₅) n₅ ∷ [])) ∷ ‵ (flft κ₅ q₅) ∷ ‵ (ShrSlice (named 0) κ₆ u8 .own (at-list b₆ o₆ γ₆ d) (sliceVal (b₆, o₆) n₆ ∷ [])) ∷ ‵ (flft κ₆ q₆) ∷ free 𝓤 (sliceTy (tyRef erased mut (pointee (u8 .written)))) l₃₀ (free 𝓤 (tyRef erased mut (pointee (u8 .written))) l₂₉ (free 𝓤 (sliceTy (tyRef erased imm (pointee ((Array u16 35) .written)))) l₂₈ (free 𝓤 (tyRef erased imm (pointee ((Array u16 35) .written))) l₂₇ (free 𝓤 (sliceTy (tyRef erased imm (pointee ((Array u64 8) .written)))) l₂₆ (free 𝓤 (tyRef erased imm (pointee ((Array u64 8) .written))) l₂₅ (full 𝓤 (sliceTy (tyRef erased mut (pointee (Object-t.the-row .written)))) l₂₄ (sliceVal (b₃, o₃) n₃) (full 𝓤 (tyRef erased mut (pointee (Object-t.the-row .written))) l₂₃ (vptr b₃ o₃) (full 𝓤 (sliceTy (tyRef erased mut (pointee ((Array u16 35) .written)))) l₂₂ (sliceVal (b₂, o₂) n₂) (full 𝓤 (tyRef erased mut (pointee ((Array u16 35) .written))) l₂₁ (vptr b₂ o₂) (full 𝓤 (sliceTy (tyRef erased mut (pointee ((Array u64 8) .written)))) l₂₀ (sliceVal (b₁, o₁) n₁) (full 𝓤 (tyRef erased mut (pointee ((Array u64 8) .written))) l₁₉ (vptr b₁ o₁) (free 𝓤 Ran-l.mir l₁₈ (full 𝓤 tyBool l₁₇ (bool-p .val (isLive (namedOf (sessions) (f′ .«session_id»)))) (full 𝓤 (sliceTy (tyRef erased mut (pointee ((Array u64 8) .written)))) l₁₆ (sliceVal (b₁, o₁) n₁) (full 𝓤 (tyRef erased mut (pointee ((Array u64 8) .written))) l₁₅ (vptr b₁ o₁) (free 𝓤 (tyInt w64) l₁₄ (full 𝓤 Move-l.mir l₁₃ (Move-p .val (handledMove (took .asked) (rows ((touchedRows (sessions) (f′ .«session_id») (f′ .time))) (streams) (objects)) (d) (f′ .«session_id») (f′ .«stream_id») (took .body))) (full 𝓤 Named-l.mir l₁₂ (Named-p .val (namedOf (sessions) (f′ .«session_id»))) (full 𝓤 (tyInt w8) l₁₁ (u8-p .val (f′ .«stream_id»)) (full 𝓤 (tyInt w8) l₁₀ (u8-p .val (f′ .«session_id»)) (full 𝓤 Taken-l.mir l₉ (Taken-p .val took) (full 𝓤 Ran-l.mir l₈ (Ran-p .val r′) (full 𝓤 Frame-l.mir l₇ (Frame-p .val f′) (full 𝓤 (sliceTy (tyRef (named 5) imm (pointee (u8 .written)))) l₆ (sliceVal (b₆, o₆) n₆) (full 𝓤 (sliceTy (tyRef (named 4) mut (pointee (u8 .written)))) l₅ (sliceVal (b₅, o₅) n₅) (full 𝓤 (sliceTy (tyRef (named 3) imm (pointee (u8 .written)))) l₄ (sliceVal (b₄, o₄) n₄) (full 𝓤 (sliceTy (tyRef (named 2) mut (pointee (Object-t.the-row .written)))) l₃ (sliceVal (b₃, o₃) n₃) (full 𝓤 (sliceTy (tyRef (named 1) mut (pointee ((Array u16 35) .written)))) l₂ (sliceVal (b₂, o₂) n₂) (full 𝓤 (sliceTy (tyRef (named 0) mut (pointee ((Array u64 8) .written)))) l₁ (sliceVal (b₁, o₁) n₁) (free 𝓤 Ran-l.mir l₀ ([])))))))))))))))))))))))))))))))) (runs C Λ En (past 7 (yes-of (one mir.t-7))) (anyQ (afterSeq 𝓤 H (Wp 𝓤 H C Λ En mir.t-8 (atReturn 𝓤 H En Post)) (atReturn 𝓤 H En Post))))
+    part-7·yes·8-0 : (len-5-sessions : length (touchedRows (sessions) (f′ .«session_id») ((f′ .moment) .time)) ≡ n₁) → (is-5 : Is (Named-p .row) (namedOf (sessions) (f′ .«session_id»)) (Named-p .val (namedOf (sessions) (f′ .«session_id»)) ∷ [])) → (is-6 : Is (bool-p .row) (isLive (namedOf (sessions) (f′ .«session_id»))) (bool-p .val (isLive (namedOf (sessions) (f′ .«session_id»))) ∷ [])) → (c-7 : isLive (namedOf (sessions) (f′ .«session_id»)) ≡ true) → (len-7·yes·7-sessions : length (handledRows (took .asked) (rows ((touchedRows (sessions) (f′ .«session_id») ((f′ .moment) .time))) (streams) (objects)) (f′ .«session_id») (f′ .«stream_id») .sessions) ≡ n₁) → (len-7·yes·7-streams : length (handledRows (took .asked) (rows ((touchedRows (sessions) (f′ .«session_id») ((f′ .moment) .time))) (streams) (objects)) (f′ .«session_id») (f′ .«stream_id») .streams) ≡ n₂) → (len-7·yes·7-objects : length (handledRows (took .asked) (rows ((touchedRows (sessions) (f′ .«session_id») ((f′ .moment) .time))) (streams) (objects)) (f′ .«session_id») (f′ .«stream_id») .objects) ≡ n₃) → (is-7·yes·7 : Is (Move-p .row) (handledMove ((f′ .moment) .«is_open») (took .asked) (rows ((touchedRows (sessions) (f′ .«session_id») ((f′ .moment) .time))) (streams) (objects)) (d) (f′ .«session_id») (f′ .«stream_id») (took .body)) (Move-p .val (handledMove ((f′ .moment) .«is_open») (took .asked) (rows ((touchedRows (sessions) (f′ .«session_id») ((f′ .moment) .time))) (streams) (objects)) (d) (f′ .«session_id») (f′ .«stream_id») (took .body)) ∷ [])) → Sq W (‵ (MutSlice (named 0) κ₁ (Array u64 8) .own (at-list b₁ o₁ γ₁ (handledRows (took .asked) (rows ((touchedRows (sessions) (f′ .«session_id») ((f′ .moment) .time))) (streams) (objects)) (f′ .«session_id») (f′ .«stream_id») .sessions)) (sliceVal (b₁, o₁) n₁ ∷ [])) ∷ ‵ (flft κ₁ q₁) ∷ ‵ (MutSlice (named 0) κ₂ (Array u16 35) .own (at-list b₂ o₂ γ₂ (handledRows (took .asked) (rows ((touchedRows (sessions) (f′ .«session_id») ((f′ .moment) .time))) (streams) (objects)) (f′ .«session_id») (f′ .«stream_id») .streams)) (sliceVal (b₂, o₂) n₂ ∷ [])) ∷ ‵ (flft κ₂ q₂) ∷ ‵ (MutSlice (named 0) κ₃ Object-t.the-row .own (at-list b₃ o₃ γ₃ (handledRows (took .asked) (rows ((touchedRows (sessions) (f′ .«session_id») ((f′ .moment) .time))) (streams) (objects)) (f′ .«session_id») (f′ .«stream_id») .objects)) (sliceVal (b₃, o₃) n₃ ∷ [])) ∷ ‵ (flft κ₃ q₃) ∷ ‵ (ShrSlice (named 0) κ₄ u8 .own (at-list b₄ o₄ γ₄ held) (sliceVal (b₄, o₄) n₄ ∷ [])) ∷ ‵ (flft κ₄ q₄) ∷ ‵ (MutSlice (named 0) κ₅ u8 .own (at-list b₅ o₅ γ₅ out) (sliceVal (b₅, o₅) n₅ ∷ [])) ∷ ‵ (flft κ₅ q₅) ∷ ‵ (ShrSlice (named 0) κ₆ u8 .own (at-list b₆ o₆ γ₆ d) (sliceVal (b₆, o₆) n₆ ∷ [])) ∷ ‵ (flft κ₆ q₆) ∷ free 𝓤 (sliceTy (tyRef erased mut (pointee (u8 .written)))) l₃₀ (free 𝓤 (tyRef erased mut (pointee (u8 .written))) l₂₉ (free 𝓤 (sliceTy (tyRef erased imm (pointee ((Array u16 35) .written)))) l₂₈ (free 𝓤 (tyRef erased imm (pointee ((Array u16 35) .written))) l₂₇ (free 𝓤 (sliceTy (tyRef erased imm (pointee ((Array u64 8) .written)))) l₂₆ (free 𝓤 (tyRef erased imm (pointee ((Array u64 8) .written))) l₂₅ (full 𝓤 (sliceTy (tyRef erased mut (pointee (Object-t.the-row .written)))) l₂₄ (sliceVal (b₃, o₃) n₃) (full 𝓤 (tyRef erased mut (pointee (Object-t.the-row .written))) l₂₃ (vptr b₃ o₃) (full 𝓤 (sliceTy (tyRef erased mut (pointee ((Array u16 35) .written)))) l₂₂ (sliceVal (b₂, o₂) n₂) (full 𝓤 (tyRef erased mut (pointee ((Array u16 35) .written))) l₂₁ (vptr b₂ o₂) (full 𝓤 (sliceTy (tyRef erased mut (pointee ((Array u64 8) .written)))) l₂₀ (sliceVal (b₁, o₁) n₁) (full 𝓤 (tyRef erased mut (pointee ((Array u64 8) .written))) l₁₉ (vptr b₁ o₁) (free 𝓤 Ran-l.mir l₁₈ (full 𝓤 tyBool l₁₇ (bool-p .val (isLive (namedOf (sessions) (f′ .«session_id»)))) (full 𝓤 (sliceTy (tyRef erased mut (pointee ((Array u64 8) .written)))) l₁₆ (sliceVal (b₁, o₁) n₁) (full 𝓤 (tyRef erased mut (pointee ((Array u64 8) .written))) l₁₅ (vptr b₁ o₁) (free 𝓤 (tyInt w64) l₁₄ (full 𝓤 Move-l.mir l₁₃ (Move-p .val (handledMove ((f′ .moment) .«is_open») (took .asked) (rows ((touchedRows (sessions) (f′ .«session_id») ((f′ .moment) .time))) (streams) (objects)) (d) (f′ .«session_id») (f′ .«stream_id») (took .body))) (full 𝓤 Named-l.mir l₁₂ (Named-p .val (namedOf (sessions) (f′ .«session_id»))) (full 𝓤 (tyInt w8) l₁₁ (u8-p .val (f′ .«stream_id»)) (full 𝓤 (tyInt w8) l₁₀ (u8-p .val (f′ .«session_id»)) (full 𝓤 Taken-l.mir l₉ (Taken-p .val took) (full 𝓤 Ran-l.mir l₈ (Ran-p .val r′) (full 𝓤 Frame-l.mir l₇ (Frame-p .val f′) (full 𝓤 (sliceTy (tyRef (named 5) imm (pointee (u8 .written)))) l₆ (sliceVal (b₆, o₆) n₆) (full 𝓤 (sliceTy (tyRef (named 4) mut (pointee (u8 .written)))) l₅ (sliceVal (b₅, o₅) n₅) (full 𝓤 (sliceTy (tyRef (named 3) imm (pointee (u8 .written)))) l₄ (sliceVal (b₄, o₄) n₄) (full 𝓤 (sliceTy (tyRef (named 2) mut (pointee (Object-t.the-row .written)))) l₃ (sliceVal (b₃, o₃) n₃) (full 𝓤 (sliceTy (tyRef (named 1) mut (pointee ((Array u16 35) .written)))) l₂ (sliceVal (b₂, o₂) n₂) (full 𝓤 (sliceTy (tyRef (named 0) mut (pointee ((Array u64 8) .written)))) l₁ (sliceVal (b₁, o₁) n₁) (free 𝓤 Ran-l.mir l₀ ([])))))))))))))))))))))))))))))))) (runs C Λ En (past 7 (yes-of (one mir.t-7))) (anyQ (afterSeq 𝓤 H (Wp 𝓤 H C Λ En mir.t-8 (atReturn 𝓤 H En Post)) (atReturn 𝓤 H En Post))))
     part-7·yes·8-0 len-5-sessions is-5 is-6 c-7 len-7·yes·7-sessions len-7·yes·7-streams len-7·yes·7-objects is-7·yes·7 =
         assigns ! (addr ! (from ! (fld ! refl (hop ! (look-in ! 70 (sub ! 0 refl (whole !))) (stop !))))) (from ! (stop !)) (init ! 22 refl (tt, tt)) $
         assigns ! (agg ! (and-then ! (load ! (from ! (stop !)) (look ! 22 refl)) (and-then ! (load ! (from ! (fld ! refl (stop !))) (look-in ! 70 (sub ! 1 refl (whole !)))) (no-more !)))) (from ! (stop !)) (init ! 20 refl (tt, (tt, (record { fits = room₁ .0 }, tt)))) $
@@ -373,35 +382,35 @@ module _ {M : Type 1} (𝓤 : URA M) (H : Heap 𝓤) (A : Atoms 𝓤) (W : Given
         assigns ! (agg ! (and-then ! (load ! (from ! (stop !)) (look ! 14 refl)) (and-then ! (load ! (from ! (fld ! refl (stop !))) (look-in ! 62 (sub ! 1 refl (whole !)))) (no-more !)))) (from ! (stop !)) (init ! 12 refl (tt, (tt, (record { fits = room₅ .0 }, tt)))) $
         knows ! (f′ .room ≤ 9223372036854775807) (omega (arith, ltb-true, ltb-false, leb-true, leb-false, eqb-true, eqb-false)) (λ asks-7·yes·14.
         -- 7.yes.14: agent::repeats::answer
-        lends-view ! tt (Array u64 8) b₁ o₁ (handledRows (took .asked) (rows ((touchedRows (sessions) (f′ .«session_id») (f′ .time))) (streams) (objects)) (f′ .«session_id») (f′ .«stream_id») .sessions) n₁ (len-7·yes·7-sessions) (λ ν-7·yes·14-sessions δ-7·yes·14-sessions.
+        lends-view ! tt (Array u64 8) b₁ o₁ (handledRows (took .asked) (rows ((touchedRows (sessions) (f′ .«session_id») ((f′ .moment) .time))) (streams) (objects)) (f′ .«session_id») (f′ .«stream_id») .sessions) n₁ (len-7·yes·7-sessions) (λ ν-7·yes·14-sessions δ-7·yes·14-sessions.
         move ! (3 ∷ 4 ∷ []) $
-        lends-view ! tt (Array u16 35) b₂ o₂ (handledRows (took .asked) (rows ((touchedRows (sessions) (f′ .«session_id») (f′ .time))) (streams) (objects)) (f′ .«session_id») (f′ .«stream_id») .streams) n₂ (len-7·yes·7-streams) (λ ν-7·yes·14-streams δ-7·yes·14-streams.
+        lends-view ! tt (Array u16 35) b₂ o₂ (handledRows (took .asked) (rows ((touchedRows (sessions) (f′ .«session_id») ((f′ .moment) .time))) (streams) (objects)) (f′ .«session_id») (f′ .«stream_id») .streams) n₂ (len-7·yes·7-streams) (λ ν-7·yes·14-streams δ-7·yes·14-streams.
         move ! (8 ∷ 9 ∷ []) $
         copies-shr ! u8 b₄ o₄ held n₄ $ move ! (11 ∷ 12 ∷ []) $
         lends-mut ! tt u8 b₅ o₅ out n₅ (refl) (λ ν-7·yes·14-out δ-7·yes·14-out.
         nothing ! $ move ! (1 ∷ 0 ∷ []) $ join ! $ move ! (3 ∷ 0 ∷ []) $ join ! $ move ! (5 ∷ 0 ∷ []) $ join ! $ move ! (7 ∷ 0 ∷ []) $ join ! $
         use1 W (raw (toks 𝓤 A 4 (((ν-7·yes·14-sessions ∷ []), ((ν-7·yes·14-streams ∷ []), (κ₄, ((ν-7·yes·14-out ∷ []), tt))))) ((fullShare, (fullShare, (q₄, (fullShare, tt))))))) (id⊢ 𝓤 _) $ nothing ! $
-        owned ! (Move-p .row) (Is (Move-p .row)) (Move-p .makes 𝓤 H A W) (handledMove (took .asked) (rows ((touchedRows (sessions) (f′ .«session_id») (f′ .time))) (streams) (objects)) (d) (f′ .«session_id») (f′ .«stream_id») (took .body)) (Move-p .val (handledMove (took .asked) (rows ((touchedRows (sessions) (f′ .«session_id») (f′ .time))) (streams) (objects)) (d) (f′ .«session_id») (f′ .«stream_id») (took .body)) ∷ []) is-7·yes·7 $ fjoin ! $
+        owned ! (Move-p .row) (Is (Move-p .row)) (Move-p .makes 𝓤 H A W) (handledMove ((f′ .moment) .«is_open») (took .asked) (rows ((touchedRows (sessions) (f′ .«session_id») ((f′ .moment) .time))) (streams) (objects)) (d) (f′ .«session_id») (f′ .«stream_id») (took .body)) (Move-p .val (handledMove ((f′ .moment) .«is_open») (took .asked) (rows ((touchedRows (sessions) (f′ .«session_id») ((f′ .moment) .time))) (streams) (objects)) (d) (f′ .«session_id») (f′ .«stream_id») (took .body)) ∷ []) is-7·yes·7 $ fjoin ! $
         owned ! (u64-p .row) (Is (u64-p .row)) (u64-p .makes 𝓤 H A W) (r′ .wrote) (u64-p .val (r′ .wrote) ∷ []) (LL.owed Ran-t.the-type Ran-l.the-laws r′ _ r′-is .1 .1 .0) $ fjoin ! $
         owned ! (Frame-p .row) (Is (Frame-p .row)) (Frame-p .makes 𝓤 H A W) f′ (Frame-p .val f′ ∷ []) f′-is $ fjoin ! $ move ! (2 ∷ 0 ∷ []) $ fjoin ! $ move ! (3 ∷ 0 ∷ []) $ fjoin ! $ move ! (4 ∷ 0 ∷ []) $ fjoin ! $ move ! (5 ∷ 0 ∷ []) $ fjoin ! $ move ! (1 ∷ 0 ∷ []) $
-        calls-any ! fm 4 [] (repeats-answer.signature .params) (repeats-answer.ended .kept) u64-p (repeats-answer.clauses 𝓤 H A mem run) known-repeats-answer ((ν-7·yes·14-sessions ∷ []), ((ν-7·yes·14-streams ∷ []), (κ₄, ((ν-7·yes·14-out ∷ []), tt)))) (fullShare, (fullShare, (q₄, (fullShare, tt)))) tt (at-list b₁ o₁ δ-7·yes·14-sessions (handledRows (took .asked) (rows ((touchedRows (sessions) (f′ .«session_id») (f′ .time))) (streams) (objects)) (f′ .«session_id») (f′ .«stream_id») .sessions), (at-list b₂ o₂ δ-7·yes·14-streams (handledRows (took .asked) (rows ((touchedRows (sessions) (f′ .«session_id») (f′ .time))) (streams) (objects)) (f′ .«session_id») (f′ .«stream_id») .streams), (at-list b₄ o₄ γ₄ held, (at-list b₅ o₅ δ-7·yes·14-out out, (f′, (r′ .wrote, (handledMove (took .asked) (rows ((touchedRows (sessions) (f′ .«session_id») (f′ .time))) (streams) (objects)) (d) (f′ .«session_id») (f′ .«stream_id») (took .body), tt))))))) (sliceVal (b₁, o₁) n₁ ∷ [], (sliceVal (b₂, o₂) n₂ ∷ [], (sliceVal (b₄, o₄) n₄ ∷ [], (sliceVal (b₅, o₅) n₅ ∷ [], (Frame-p .val f′ ∷ [], (u64-p .val (r′ .wrote) ∷ [], (Move-p .val (handledMove (took .asked) (rows ((touchedRows (sessions) (f′ .«session_id») (f′ .time))) (streams) (objects)) (d) (f′ .«session_id») (f′ .«stream_id») (took .body)) ∷ [], tt))))))) tt (countReplies (f′ .room) (r′ .wrote) (repliesBy f′ ((handledRows (took .asked) (rows ((touchedRows (sessions) (f′ .«session_id») (f′ .time))) (streams) (objects)) (f′ .«session_id») (f′ .«stream_id») .sessions)) ((handledRows (took .asked) (rows ((touchedRows (sessions) (f′ .«session_id») (f′ .time))) (streams) (objects)) (f′ .«session_id») (f′ .«stream_id») .streams)) (held) (handledMove (took .asked) (rows ((touchedRows (sessions) (f′ .«session_id») (f′ .time))) (streams) (objects)) (d) (f′ .«session_id») (f′ .«stream_id») (took .body)))) (λ ws-7·yes·14. (ws-7·yes·14 .1 .1 .1 .0 ≡ putReplies (f′ .room) (out) (r′ .wrote) (repliesBy f′ ((handledRows (took .asked) (rows ((touchedRows (sessions) (f′ .«session_id») (f′ .time))) (streams) (objects)) (f′ .«session_id») (f′ .«stream_id») .sessions)) ((handledRows (took .asked) (rows ((touchedRows (sessions) (f′ .«session_id») (f′ .time))) (streams) (objects)) (f′ .«session_id») (f′ .«stream_id») .streams)) (held) (handledMove (took .asked) (rows ((touchedRows (sessions) (f′ .«session_id») (f′ .time))) (streams) (objects)) (d) (f′ .«session_id») (f′ .«stream_id») (took .body))))) (factI 𝓤 (f′ .room ≤ 9223372036854775807) _ asks-7·yes·14) (λ r ws-7·yes·14. fact-mono 𝓤 ((r ≡ countReplies (f′ .room) (r′ .wrote) (repliesBy f′ ((handledRows (took .asked) (rows ((touchedRows (sessions) (f′ .«session_id») (f′ .time))) (streams) (objects)) (f′ .«session_id») (f′ .«stream_id») .sessions)) ((handledRows (took .asked) (rows ((touchedRows (sessions) (f′ .«session_id») (f′ .time))) (streams) (objects)) (f′ .«session_id») (f′ .«stream_id») .streams)) (held) (handledMove (took .asked) (rows ((touchedRows (sessions) (f′ .«session_id») (f′ .time))) (streams) (objects)) (d) (f′ .«session_id») (f′ .«stream_id») (took .body)))) × ((ws-7·yes·14 .1 .1 .1 .0) ≡ putReplies (f′ .room) (out) (r′ .wrote) (repliesBy f′ ((handledRows (took .asked) (rows ((touchedRows (sessions) (f′ .«session_id») (f′ .time))) (streams) (objects)) (f′ .«session_id») (f′ .«stream_id») .sessions)) ((handledRows (took .asked) (rows ((touchedRows (sessions) (f′ .«session_id») (f′ .time))) (streams) (objects)) (f′ .«session_id») (f′ .«stream_id») .streams)) (held) (handledMove (took .asked) (rows ((touchedRows (sessions) (f′ .«session_id») (f′ .time))) (streams) (objects)) (d) (f′ .«session_id») (f′ .«stream_id») (took .body))))) ((r ≡ (countReplies (f′ .room) (r′ .wrote) (repliesBy f′ ((handledRows (took .asked) (rows ((touchedRows (sessions) (f′ .«session_id») (f′ .time))) (streams) (objects)) (f′ .«session_id») (f′ .«stream_id») .sessions)) ((handledRows (took .asked) (rows ((touchedRows (sessions) (f′ .«session_id») (f′ .time))) (streams) (objects)) (f′ .«session_id») (f′ .«stream_id») .streams)) (held) (handledMove (took .asked) (rows ((touchedRows (sessions) (f′ .«session_id») (f′ .time))) (streams) (objects)) (d) (f′ .«session_id») (f′ .«stream_id») (took .body))))) × ((ws-7·yes·14 .1 .1 .1 .0 ≡ putReplies (f′ .room) (out) (r′ .wrote) (repliesBy f′ ((handledRows (took .asked) (rows ((touchedRows (sessions) (f′ .«session_id») (f′ .time))) (streams) (objects)) (f′ .«session_id») (f′ .«stream_id») .sessions)) ((handledRows (took .asked) (rows ((touchedRows (sessions) (f′ .«session_id») (f′ .time))) (streams) (objects)) (f′ .«session_id») (f′ .«stream_id») .streams)) (held) (handledMove (took .asked) (rows ((touchedRows (sessions) (f′ .«session_id») (f′ .time))) (streams) (objects)) (d) (f′ .«session_id») (f′ .«stream_id») (took .body)))))) (λ e. (e .0, e .1))) (λ _. (and-then ! (load ! (from ! (stop !)) (look ! 17 refl)) (and-then ! (load ! (from ! (stop !)) (look ! 13 refl)) (and-then ! (load ! (from ! (stop !)) (look ! 61 refl)) (and-then ! (load ! (from ! (stop !)) (look ! 9 refl)) (and-then ! (load ! (from ! (stop !)) (look ! 55 refl)) (and-then ! (load ! (from ! (fld ! refl (stop !))) (look-in ! 53 (sub ! 2 refl (whole !)))) (and-then ! (load ! (from ! (stop !)) (look ! 43 refl)) (no-more !))))))))) (λ ws-7·yes·14 said-7·yes·14 is-7·yes·14.
+        calls-any ! fm 4 [] (repeats-answer.signature .params) (repeats-answer.ended .kept) u64-p (repeats-answer.clauses 𝓤 H A mem run) known-repeats-answer ((ν-7·yes·14-sessions ∷ []), ((ν-7·yes·14-streams ∷ []), (κ₄, ((ν-7·yes·14-out ∷ []), tt)))) (fullShare, (fullShare, (q₄, (fullShare, tt)))) tt (at-list b₁ o₁ δ-7·yes·14-sessions (handledRows (took .asked) (rows ((touchedRows (sessions) (f′ .«session_id») ((f′ .moment) .time))) (streams) (objects)) (f′ .«session_id») (f′ .«stream_id») .sessions), (at-list b₂ o₂ δ-7·yes·14-streams (handledRows (took .asked) (rows ((touchedRows (sessions) (f′ .«session_id») ((f′ .moment) .time))) (streams) (objects)) (f′ .«session_id») (f′ .«stream_id») .streams), (at-list b₄ o₄ γ₄ held, (at-list b₅ o₅ δ-7·yes·14-out out, (f′, (r′ .wrote, (handledMove ((f′ .moment) .«is_open») (took .asked) (rows ((touchedRows (sessions) (f′ .«session_id») ((f′ .moment) .time))) (streams) (objects)) (d) (f′ .«session_id») (f′ .«stream_id») (took .body), tt))))))) (sliceVal (b₁, o₁) n₁ ∷ [], (sliceVal (b₂, o₂) n₂ ∷ [], (sliceVal (b₄, o₄) n₄ ∷ [], (sliceVal (b₅, o₅) n₅ ∷ [], (Frame-p .val f′ ∷ [], (u64-p .val (r′ .wrote) ∷ [], (Move-p .val (handledMove ((f′ .moment) .«is_open») (took .asked) (rows ((touchedRows (sessions) (f′ .«session_id») ((f′ .moment) .time))) (streams) (objects)) (d) (f′ .«session_id») (f′ .«stream_id») (took .body)) ∷ [], tt))))))) tt (countReplies (f′ .room) (r′ .wrote) (repliesBy f′ ((handledRows (took .asked) (rows ((touchedRows (sessions) (f′ .«session_id») ((f′ .moment) .time))) (streams) (objects)) (f′ .«session_id») (f′ .«stream_id») .sessions)) ((handledRows (took .asked) (rows ((touchedRows (sessions) (f′ .«session_id») ((f′ .moment) .time))) (streams) (objects)) (f′ .«session_id») (f′ .«stream_id») .streams)) (held) (handledMove ((f′ .moment) .«is_open») (took .asked) (rows ((touchedRows (sessions) (f′ .«session_id») ((f′ .moment) .time))) (streams) (objects)) (d) (f′ .«session_id») (f′ .«stream_id») (took .body)))) (λ ws-7·yes·14. (ws-7·yes·14 .1 .1 .1 .0 ≡ putReplies (f′ .room) (out) (r′ .wrote) (repliesBy f′ ((handledRows (took .asked) (rows ((touchedRows (sessions) (f′ .«session_id») ((f′ .moment) .time))) (streams) (objects)) (f′ .«session_id») (f′ .«stream_id») .sessions)) ((handledRows (took .asked) (rows ((touchedRows (sessions) (f′ .«session_id») ((f′ .moment) .time))) (streams) (objects)) (f′ .«session_id») (f′ .«stream_id») .streams)) (held) (handledMove ((f′ .moment) .«is_open») (took .asked) (rows ((touchedRows (sessions) (f′ .«session_id») ((f′ .moment) .time))) (streams) (objects)) (d) (f′ .«session_id») (f′ .«stream_id») (took .body))))) (factI 𝓤 (f′ .room ≤ 9223372036854775807) _ asks-7·yes·14) (λ r ws-7·yes·14. fact-mono 𝓤 ((r ≡ countReplies (f′ .room) (r′ .wrote) (repliesBy f′ ((handledRows (took .asked) (rows ((touchedRows (sessions) (f′ .«session_id») ((f′ .moment) .time))) (streams) (objects)) (f′ .«session_id») (f′ .«stream_id») .sessions)) ((handledRows (took .asked) (rows ((touchedRows (sessions) (f′ .«session_id») ((f′ .moment) .time))) (streams) (objects)) (f′ .«session_id») (f′ .«stream_id») .streams)) (held) (handledMove ((f′ .moment) .«is_open») (took .asked) (rows ((touchedRows (sessions) (f′ .«session_id») ((f′ .moment) .time))) (streams) (objects)) (d) (f′ .«session_id») (f′ .«stream_id») (took .body)))) × ((ws-7·yes·14 .1 .1 .1 .0) ≡ putReplies (f′ .room) (out) (r′ .wrote) (repliesBy f′ ((handledRows (took .asked) (rows ((touchedRows (sessions) (f′ .«session_id») ((f′ .moment) .time))) (streams) (objects)) (f′ .«session_id») (f′ .«stream_id») .sessions)) ((handledRows (took .asked) (rows ((touchedRows (sessions) (f′ .«session_id») ((f′ .moment) .time))) (streams) (objects)) (f′ .«session_id») (f′ .«stream_id») .streams)) (held) (handledMove ((f′ .moment) .«is_open») (took .asked) (rows ((touchedRows (sessions) (f′ .«session_id») ((f′ .moment) .time))) (streams) (objects)) (d) (f′ .«session_id») (f′ .«stream_id») (took .body))))) ((r ≡ (countReplies (f′ .room) (r′ .wrote) (repliesBy f′ ((handledRows (took .asked) (rows ((touchedRows (sessions) (f′ .«session_id») ((f′ .moment) .time))) (streams) (objects)) (f′ .«session_id») (f′ .«stream_id») .sessions)) ((handledRows (took .asked) (rows ((touchedRows (sessions) (f′ .«session_id») ((f′ .moment) .time))) (streams) (objects)) (f′ .«session_id») (f′ .«stream_id») .streams)) (held) (handledMove ((f′ .moment) .«is_open») (took .asked) (rows ((touchedRows (sessions) (f′ .«session_id») ((f′ .moment) .time))) (streams) (objects)) (d) (f′ .«session_id») (f′ .«stream_id») (took .body))))) × ((ws-7·yes·14 .1 .1 .1 .0 ≡ putReplies (f′ .room) (out) (r′ .wrote) (repliesBy f′ ((handledRows (took .asked) (rows ((touchedRows (sessions) (f′ .«session_id») ((f′ .moment) .time))) (streams) (objects)) (f′ .«session_id») (f′ .«stream_id») .sessions)) ((handledRows (took .asked) (rows ((touchedRows (sessions) (f′ .«session_id») ((f′ .moment) .time))) (streams) (objects)) (f′ .«session_id») (f′ .«stream_id») .streams)) (held) (handledMove ((f′ .moment) .«is_open») (took .asked) (rows ((touchedRows (sessions) (f′ .«session_id») ((f′ .moment) .time))) (streams) (objects)) (d) (f′ .«session_id») (f′ .«stream_id») (took .body)))))) (λ e. (e .0, e .1))) (λ _. (and-then ! (load ! (from ! (stop !)) (look ! 17 refl)) (and-then ! (load ! (from ! (stop !)) (look ! 13 refl)) (and-then ! (load ! (from ! (stop !)) (look ! 61 refl)) (and-then ! (load ! (from ! (stop !)) (look ! 9 refl)) (and-then ! (load ! (from ! (stop !)) (look ! 55 refl)) (and-then ! (load ! (from ! (fld ! refl (stop !))) (look-in ! 53 (sub ! 2 refl (whole !)))) (and-then ! (load ! (from ! (stop !)) (look ! 43 refl)) (no-more !))))))))) (λ ws-7·yes·14 said-7·yes·14 is-7·yes·14.
         use1 W ((‵ (flft (ν-7·yes·14-sessions ∷ []) fullShare) ⊛ (‵ (flft (ν-7·yes·14-streams ∷ []) fullShare) ⊛ (‵ (flft κ₄ q₄) ⊛ (‵ (flft (ν-7·yes·14-out ∷ []) fullShare) ⊛ ‵ ftrue))))) (id⊢ 𝓤 _) $ split ! $ move ! (1 ∷ []) $ split ! $ move ! (1 ∷ []) $ split ! $ move ! (1 ∷ []) $ split ! $ move ! (5 ∷ []) $ fsplit ! $ move ! (1 ∷ []) $ fsplit ! $ move ! (1 ∷ []) $ fsplit ! $ move ! (1 ∷ []) $ fsplit ! $ fsplit ! $ move ! (1 ∷ []) $
         feqL ! (λ wlen-7·yes·14-3.
         move ! (9 ∷ 13 ∷ []) $
-        backs-view ! tt (Array u64 8) b₁ o₁ (handledRows (took .asked) (rows ((touchedRows (sessions) (f′ .«session_id») (f′ .time))) (streams) (objects)) (f′ .«session_id») (f′ .«stream_id») .sessions) n₁ (len-7·yes·7-sessions) ν-7·yes·14-sessions $ move ! (10 ∷ 13 ∷ []) $
-        backs-view ! tt (Array u16 35) b₂ o₂ (handledRows (took .asked) (rows ((touchedRows (sessions) (f′ .«session_id») (f′ .time))) (streams) (objects)) (f′ .«session_id») (f′ .«stream_id») .streams) n₂ (len-7·yes·7-streams) ν-7·yes·14-streams $ move ! (9 ∷ 12 ∷ 4 ∷ []) $
-        backs-mut ! tt u8 b₅ o₅ out n₅ (refl) room₅ ν-7·yes·14-out δ-7·yes·14-out (ws-7·yes·14 .1 .1 .1 .0) (putReplies (f′ .room) (out) (r′ .wrote) (repliesBy f′ ((handledRows (took .asked) (rows ((touchedRows (sessions) (f′ .«session_id») (f′ .time))) (streams) (objects)) (f′ .«session_id») (f′ .«stream_id») .sessions)) ((handledRows (took .asked) (rows ((touchedRows (sessions) (f′ .«session_id») (f′ .time))) (streams) (objects)) (f′ .«session_id») (f′ .«stream_id») .streams)) (held) (handledMove (took .asked) (rows ((touchedRows (sessions) (f′ .«session_id») (f′ .time))) (streams) (objects)) (d) (f′ .«session_id») (f′ .«stream_id») (took .body)))) wlen-7·yes·14-3 (said-7·yes·14) (λ len-7·yes·14-out.
+        backs-view ! tt (Array u64 8) b₁ o₁ (handledRows (took .asked) (rows ((touchedRows (sessions) (f′ .«session_id») ((f′ .moment) .time))) (streams) (objects)) (f′ .«session_id») (f′ .«stream_id») .sessions) n₁ (len-7·yes·7-sessions) ν-7·yes·14-sessions $ move ! (10 ∷ 13 ∷ []) $
+        backs-view ! tt (Array u16 35) b₂ o₂ (handledRows (took .asked) (rows ((touchedRows (sessions) (f′ .«session_id») ((f′ .moment) .time))) (streams) (objects)) (f′ .«session_id») (f′ .«stream_id») .streams) n₂ (len-7·yes·7-streams) ν-7·yes·14-streams $ move ! (9 ∷ 12 ∷ 4 ∷ []) $
+        backs-mut ! tt u8 b₅ o₅ out n₅ (refl) room₅ ν-7·yes·14-out δ-7·yes·14-out (ws-7·yes·14 .1 .1 .1 .0) (putReplies (f′ .room) (out) (r′ .wrote) (repliesBy f′ ((handledRows (took .asked) (rows ((touchedRows (sessions) (f′ .«session_id») ((f′ .moment) .time))) (streams) (objects)) (f′ .«session_id») (f′ .«stream_id») .sessions)) ((handledRows (took .asked) (rows ((touchedRows (sessions) (f′ .«session_id») ((f′ .moment) .time))) (streams) (objects)) (f′ .«session_id») (f′ .«stream_id») .streams)) (held) (handledMove ((f′ .moment) .«is_open») (took .asked) (rows ((touchedRows (sessions) (f′ .«session_id») ((f′ .moment) .time))) (streams) (objects)) (d) (f′ .«session_id») (f′ .«stream_id») (took .body)))) wlen-7·yes·14-3 (said-7·yes·14) (λ len-7·yes·14-out.
         move ! (6 ∷ []) $ drop ! $ move ! (6 ∷ []) $ drop ! $ move ! (6 ∷ []) $ drop ! $ move ! (6 ∷ []) $ drop ! $ move ! (6 ∷ []) $ drop ! $
-        land ! (from ! (stop !)) (init ! 44 refl (u64-p .typed 𝓤 H A W (countReplies (f′ .room) (r′ .wrote) (repliesBy f′ ((handledRows (took .asked) (rows ((touchedRows (sessions) (f′ .«session_id») (f′ .time))) (streams) (objects)) (f′ .«session_id») (f′ .«stream_id») .sessions)) ((handledRows (took .asked) (rows ((touchedRows (sessions) (f′ .«session_id») (f′ .time))) (streams) (objects)) (f′ .«session_id») (f′ .«stream_id») .streams)) (held) (handledMove (took .asked) (rows ((touchedRows (sessions) (f′ .«session_id») (f′ .time))) (streams) (objects)) (d) (f′ .«session_id») (f′ .«stream_id») (took .body)))) is-7·yes·14)) $ move ! (4 ∷ 5 ∷ 2 ∷ 3 ∷ 8 ∷ 9 ∷ 7 ∷ 6 ∷ 0 ∷ 1 ∷ 10 ∷ 11 ∷ 12 ∷ 13 ∷ 14 ∷ 15 ∷ 16 ∷ 17 ∷ 18 ∷ 19 ∷ 20 ∷ 21 ∷ 22 ∷ 23 ∷ 24 ∷ 25 ∷ 26 ∷ 27 ∷ 28 ∷ 29 ∷ 30 ∷ 31 ∷ 32 ∷ 33 ∷ 34 ∷ 35 ∷ 36 ∷ 37 ∷ 38 ∷ 39 ∷ 40 ∷ 41 ∷ 42 ∷ 43 ∷ 44 ∷ 45 ∷ 46 ∷ 47 ∷ 48 ∷ 49 ∷ 50 ∷ 51 ∷ 52 ∷ 53 ∷ 54 ∷ 55 ∷ 56 ∷ 57 ∷ 58 ∷ 59 ∷ 60 ∷ 61 ∷ 62 ∷ 63 ∷ 64 ∷ 65 ∷ 66 ∷ 67 ∷ 68 ∷ 69 ∷ 70 ∷ 71 ∷ 72 ∷ 73 ∷ []) $
+        land ! (from ! (stop !)) (init ! 44 refl (u64-p .typed 𝓤 H A W (countReplies (f′ .room) (r′ .wrote) (repliesBy f′ ((handledRows (took .asked) (rows ((touchedRows (sessions) (f′ .«session_id») ((f′ .moment) .time))) (streams) (objects)) (f′ .«session_id») (f′ .«stream_id») .sessions)) ((handledRows (took .asked) (rows ((touchedRows (sessions) (f′ .«session_id») ((f′ .moment) .time))) (streams) (objects)) (f′ .«session_id») (f′ .«stream_id») .streams)) (held) (handledMove ((f′ .moment) .«is_open») (took .asked) (rows ((touchedRows (sessions) (f′ .«session_id») ((f′ .moment) .time))) (streams) (objects)) (d) (f′ .«session_id») (f′ .«stream_id») (took .body)))) is-7·yes·14)) $ move ! (4 ∷ 5 ∷ 2 ∷ 3 ∷ 8 ∷ 9 ∷ 7 ∷ 6 ∷ 0 ∷ 1 ∷ 10 ∷ 11 ∷ 12 ∷ 13 ∷ 14 ∷ 15 ∷ 16 ∷ 17 ∷ 18 ∷ 19 ∷ 20 ∷ 21 ∷ 22 ∷ 23 ∷ 24 ∷ 25 ∷ 26 ∷ 27 ∷ 28 ∷ 29 ∷ 30 ∷ 31 ∷ 32 ∷ 33 ∷ 34 ∷ 35 ∷ 36 ∷ 37 ∷ 38 ∷ 39 ∷ 40 ∷ 41 ∷ 42 ∷ 43 ∷ 44 ∷ 45 ∷ 46 ∷ 47 ∷ 48 ∷ 49 ∷ 50 ∷ 51 ∷ 52 ∷ 53 ∷ 54 ∷ 55 ∷ 56 ∷ 57 ∷ 58 ∷ 59 ∷ 60 ∷ 61 ∷ 62 ∷ 63 ∷ 64 ∷ 65 ∷ 66 ∷ 67 ∷ 68 ∷ 69 ∷ 70 ∷ 71 ∷ 72 ∷ 73 ∷ []) $
         part-7·yes·15-0 len-5-sessions is-5 is-6 c-7 len-7·yes·7-sessions len-7·yes·7-streams len-7·yes·7-objects is-7·yes·7 asks-7·yes·14 len-7·yes·14-out is-7·yes·14)))))))
 
-    part-8-4 : (len-5-sessions : length (touchedRows (sessions) (f′ .«session_id») (f′ .time)) ≡ n₁) → (is-5 : Is (Named-p .row) (namedOf (sessions) (f′ .«session_id»)) (Named-p .val (namedOf (sessions) (f′ .«session_id»)) ∷ [])) → (is-6 : Is (bool-p .row) (isLive (namedOf (sessions) (f′ .«session_id»))) (bool-p .val (isLive (namedOf (sessions) (f′ .«session_id»))) ∷ [])) → (c-7 : isLive (namedOf (sessions) (f′ .«session_id»)) ≡ false) → (is-7·no·1 : Is (Ran-p .row) (passed r′ (took .at)) (Ran-p .val (passed r′ (took .at)) ∷ [])) → Sq W (‵ (MutSlice (named 0) κ₁ (Array u64 8) .own (at-list b₁ o₁ γ₁ (touchedRows (sessions) (f′ .«session_id») (f′ .time))) (sliceVal (b₁, o₁) n₁ ∷ [])) ∷ ‵ (flft κ₁ q₁) ∷ ‵ (MutSlice (named 0) κ₂ (Array u16 35) .own (at-list b₂ o₂ γ₂ streams) (sliceVal (b₂, o₂) n₂ ∷ [])) ∷ ‵ (flft κ₂ q₂) ∷ ‵ (MutSlice (named 0) κ₃ Object-t.the-row .own (at-list b₃ o₃ γ₃ objects) (sliceVal (b₃, o₃) n₃ ∷ [])) ∷ ‵ (flft κ₃ q₃) ∷ ‵ (ShrSlice (named 0) κ₄ u8 .own (at-list b₄ o₄ γ₄ held) (sliceVal (b₄, o₄) n₄ ∷ [])) ∷ ‵ (flft κ₄ q₄) ∷ ‵ (MutSlice (named 0) κ₅ u8 .own (at-list b₅ o₅ γ₅ out) (sliceVal (b₅, o₅) n₅ ∷ [])) ∷ ‵ (flft κ₅ q₅) ∷ ‵ (ShrSlice (named 0) κ₆ u8 .own (at-list b₆ o₆ γ₆ d) (sliceVal (b₆, o₆) n₆ ∷ [])) ∷ ‵ (flft κ₆ q₆) ∷ free 𝓤 (sliceTy (tyRef erased mut (pointee (u8 .written)))) l₃₀ (free 𝓤 (tyRef erased mut (pointee (u8 .written))) l₂₉ (free 𝓤 (sliceTy (tyRef erased imm (pointee ((Array u16 35) .written)))) l₂₈ (free 𝓤 (tyRef erased imm (pointee ((Array u16 35) .written))) l₂₇ (free 𝓤 (sliceTy (tyRef erased imm (pointee ((Array u64 8) .written)))) l₂₆ (free 𝓤 (tyRef erased imm (pointee ((Array u64 8) .written))) l₂₅ (free 𝓤 (sliceTy (tyRef erased mut (pointee (Object-t.the-row .written)))) l₂₄ (free 𝓤 (tyRef erased mut (pointee (Object-t.the-row .written))) l₂₃ (free 𝓤 (sliceTy (tyRef erased mut (pointee ((Array u16 35) .written)))) l₂₂ (free 𝓤 (tyRef erased mut (pointee ((Array u16 35) .written))) l₂₁ (free 𝓤 (sliceTy (tyRef erased mut (pointee ((Array u64 8) .written)))) l₂₀ (free 𝓤 (tyRef erased mut (pointee ((Array u64 8) .written))) l₁₉ (full 𝓤 Ran-l.mir l₁₈ (Ran-p .val (passed r′ (took .at))) (full 𝓤 tyBool l₁₇ (bool-p .val (isLive (namedOf (sessions) (f′ .«session_id»)))) (full 𝓤 (sliceTy (tyRef erased mut (pointee ((Array u64 8) .written)))) l₁₆ (sliceVal (b₁, o₁) n₁) (full 𝓤 (tyRef erased mut (pointee ((Array u64 8) .written))) l₁₅ (vptr b₁ o₁) (free 𝓤 (tyInt w64) l₁₄ (free 𝓤 Move-l.mir l₁₃ (full 𝓤 Named-l.mir l₁₂ (Named-p .val (namedOf (sessions) (f′ .«session_id»))) (full 𝓤 (tyInt w8) l₁₁ (u8-p .val (f′ .«stream_id»)) (full 𝓤 (tyInt w8) l₁₀ (u8-p .val (f′ .«session_id»)) (full 𝓤 Taken-l.mir l₉ (Taken-p .val took) (full 𝓤 Ran-l.mir l₈ (Ran-p .val r′) (full 𝓤 Frame-l.mir l₇ (Frame-p .val f′) (full 𝓤 (sliceTy (tyRef (named 5) imm (pointee (u8 .written)))) l₆ (sliceVal (b₆, o₆) n₆) (full 𝓤 (sliceTy (tyRef (named 4) mut (pointee (u8 .written)))) l₅ (sliceVal (b₅, o₅) n₅) (full 𝓤 (sliceTy (tyRef (named 3) imm (pointee (u8 .written)))) l₄ (sliceVal (b₄, o₄) n₄) (full 𝓤 (sliceTy (tyRef (named 2) mut (pointee (Object-t.the-row .written)))) l₃ (sliceVal (b₃, o₃) n₃) (full 𝓤 (sliceTy (tyRef (named 1) mut (pointee ((Array u16 35) .written)))) l₂ (sliceVal (b₂, o₂) n₂) (full 𝓤 (sliceTy (tyRef (named 0) mut (pointee ((Array u64 8) .written)))) l₁ (sliceVal (b₁, o₁) n₁) (free 𝓤 Ran-l.mir l₀ ([])))))))))))))))))))))))))))))))) (runs C Λ En mir.t-8 (atRet En Post))
+    part-8-4 : (len-5-sessions : length (touchedRows (sessions) (f′ .«session_id») ((f′ .moment) .time)) ≡ n₁) → (is-5 : Is (Named-p .row) (namedOf (sessions) (f′ .«session_id»)) (Named-p .val (namedOf (sessions) (f′ .«session_id»)) ∷ [])) → (is-6 : Is (bool-p .row) (isLive (namedOf (sessions) (f′ .«session_id»))) (bool-p .val (isLive (namedOf (sessions) (f′ .«session_id»))) ∷ [])) → (c-7 : isLive (namedOf (sessions) (f′ .«session_id»)) ≡ false) → (is-7·no·1 : Is (Ran-p .row) (passed r′ (took .at)) (Ran-p .val (passed r′ (took .at)) ∷ [])) → Sq W (‵ (MutSlice (named 0) κ₁ (Array u64 8) .own (at-list b₁ o₁ γ₁ (touchedRows (sessions) (f′ .«session_id») ((f′ .moment) .time))) (sliceVal (b₁, o₁) n₁ ∷ [])) ∷ ‵ (flft κ₁ q₁) ∷ ‵ (MutSlice (named 0) κ₂ (Array u16 35) .own (at-list b₂ o₂ γ₂ streams) (sliceVal (b₂, o₂) n₂ ∷ [])) ∷ ‵ (flft κ₂ q₂) ∷ ‵ (MutSlice (named 0) κ₃ Object-t.the-row .own (at-list b₃ o₃ γ₃ objects) (sliceVal (b₃, o₃) n₃ ∷ [])) ∷ ‵ (flft κ₃ q₃) ∷ ‵ (ShrSlice (named 0) κ₄ u8 .own (at-list b₄ o₄ γ₄ held) (sliceVal (b₄, o₄) n₄ ∷ [])) ∷ ‵ (flft κ₄ q₄) ∷ ‵ (MutSlice (named 0) κ₅ u8 .own (at-list b₅ o₅ γ₅ out) (sliceVal (b₅, o₅) n₅ ∷ [])) ∷ ‵ (flft κ₅ q₅) ∷ ‵ (ShrSlice (named 0) κ₆ u8 .own (at-list b₆ o₆ γ₆ d) (sliceVal (b₆, o₆) n₆ ∷ [])) ∷ ‵ (flft κ₆ q₆) ∷ free 𝓤 (sliceTy (tyRef erased mut (pointee (u8 .written)))) l₃₀ (free 𝓤 (tyRef erased mut (pointee (u8 .written))) l₂₉ (free 𝓤 (sliceTy (tyRef erased imm (pointee ((Array u16 35) .written)))) l₂₈ (free 𝓤 (tyRef erased imm (pointee ((Array u16 35) .written))) l₂₇ (free 𝓤 (sliceTy (tyRef erased imm (pointee ((Array u64 8) .written)))) l₂₆ (free 𝓤 (tyRef erased imm (pointee ((Array u64 8) .written))) l₂₅ (free 𝓤 (sliceTy (tyRef erased mut (pointee (Object-t.the-row .written)))) l₂₄ (free 𝓤 (tyRef erased mut (pointee (Object-t.the-row .written))) l₂₃ (free 𝓤 (sliceTy (tyRef erased mut (pointee ((Array u16 35) .written)))) l₂₂ (free 𝓤 (tyRef erased mut (pointee ((Array u16 35) .written))) l₂₁ (free 𝓤 (sliceTy (tyRef erased mut (pointee ((Array u64 8) .written)))) l₂₀ (free 𝓤 (tyRef erased mut (pointee ((Array u64 8) .written))) l₁₉ (full 𝓤 Ran-l.mir l₁₈ (Ran-p .val (passed r′ (took .at))) (full 𝓤 tyBool l₁₇ (bool-p .val (isLive (namedOf (sessions) (f′ .«session_id»)))) (full 𝓤 (sliceTy (tyRef erased mut (pointee ((Array u64 8) .written)))) l₁₆ (sliceVal (b₁, o₁) n₁) (full 𝓤 (tyRef erased mut (pointee ((Array u64 8) .written))) l₁₅ (vptr b₁ o₁) (free 𝓤 (tyInt w64) l₁₄ (free 𝓤 Move-l.mir l₁₃ (full 𝓤 Named-l.mir l₁₂ (Named-p .val (namedOf (sessions) (f′ .«session_id»))) (full 𝓤 (tyInt w8) l₁₁ (u8-p .val (f′ .«stream_id»)) (full 𝓤 (tyInt w8) l₁₀ (u8-p .val (f′ .«session_id»)) (full 𝓤 Taken-l.mir l₉ (Taken-p .val took) (full 𝓤 Ran-l.mir l₈ (Ran-p .val r′) (full 𝓤 Frame-l.mir l₇ (Frame-p .val f′) (full 𝓤 (sliceTy (tyRef (named 5) imm (pointee (u8 .written)))) l₆ (sliceVal (b₆, o₆) n₆) (full 𝓤 (sliceTy (tyRef (named 4) mut (pointee (u8 .written)))) l₅ (sliceVal (b₅, o₅) n₅) (full 𝓤 (sliceTy (tyRef (named 3) imm (pointee (u8 .written)))) l₄ (sliceVal (b₄, o₄) n₄) (full 𝓤 (sliceTy (tyRef (named 2) mut (pointee (Object-t.the-row .written)))) l₃ (sliceVal (b₃, o₃) n₃) (full 𝓤 (sliceTy (tyRef (named 1) mut (pointee ((Array u16 35) .written)))) l₂ (sliceVal (b₂, o₂) n₂) (full 𝓤 (sliceTy (tyRef (named 0) mut (pointee ((Array u64 8) .written)))) l₁ (sliceVal (b₁, o₁) n₁) (free 𝓤 Ran-l.mir l₀ ([])))))))))))))))))))))))))))))))) (runs C Λ En mir.t-8 (atRet En Post))
     part-8-4 len-5-sessions is-5 is-6 c-7 is-7·no·1 =
         assigns ! (of-opd ! (load ! (from ! (stop !)) (look ! 36 refl))) (from ! (stop !)) (init ! 72 refl (Ran-p .typed 𝓤 H A W (passed r′ (took .at)) is-7·no·1)) $
         returns ! (look ! 72 refl) $ forget ! 36 refl $ forget ! 38 refl $ forget ! 40 refl $ forget ! 42 refl $ forget ! 48 refl $ forget ! 50 refl $ forget ! 52 refl $
-        frees-all (passed r′ (took .at)) (touchedRows (sessions) (f′ .«session_id») (f′ .time)) streams objects out (exits (passed r′ (took .at)) (touchedRows (sessions) (f′ .«session_id») (f′ .time)) streams objects out (as-acted (f′ .room) out _ (r′ .wrote) (left false) (left live) (if-false left _ c-7) (no-replies (f′ .room) out (r′ .wrote))) is-7·no·1 len-5-sessions refl refl refl)
+        frees-all (passed r′ (took .at)) (touchedRows (sessions) (f′ .«session_id») ((f′ .moment) .time)) streams objects out (exits (passed r′ (took .at)) (touchedRows (sessions) (f′ .«session_id») ((f′ .moment) .time)) streams objects out (as-acted (f′ .room) out _ (r′ .wrote) (left false) (left live) (if-false left _ c-7) (no-replies (f′ .room) out (r′ .wrote))) is-7·no·1 len-5-sessions refl refl refl)
 
-    part-7-0 : (len-5-sessions : length (touchedRows (sessions) (f′ .«session_id») (f′ .time)) ≡ n₁) → (is-5 : Is (Named-p .row) (namedOf (sessions) (f′ .«session_id»)) (Named-p .val (namedOf (sessions) (f′ .«session_id»)) ∷ [])) → (is-6 : Is (bool-p .row) (isLive (namedOf (sessions) (f′ .«session_id»))) (bool-p .val (isLive (namedOf (sessions) (f′ .«session_id»))) ∷ [])) → Sq W (‵ (MutSlice (named 0) κ₁ (Array u64 8) .own (at-list b₁ o₁ γ₁ (touchedRows (sessions) (f′ .«session_id») (f′ .time))) (sliceVal (b₁, o₁) n₁ ∷ [])) ∷ ‵ (flft κ₁ q₁) ∷ ‵ (MutSlice (named 0) κ₂ (Array u16 35) .own (at-list b₂ o₂ γ₂ streams) (sliceVal (b₂, o₂) n₂ ∷ [])) ∷ ‵ (flft κ₂ q₂) ∷ ‵ (MutSlice (named 0) κ₃ Object-t.the-row .own (at-list b₃ o₃ γ₃ objects) (sliceVal (b₃, o₃) n₃ ∷ [])) ∷ ‵ (flft κ₃ q₃) ∷ ‵ (ShrSlice (named 0) κ₄ u8 .own (at-list b₄ o₄ γ₄ held) (sliceVal (b₄, o₄) n₄ ∷ [])) ∷ ‵ (flft κ₄ q₄) ∷ ‵ (MutSlice (named 0) κ₅ u8 .own (at-list b₅ o₅ γ₅ out) (sliceVal (b₅, o₅) n₅ ∷ [])) ∷ ‵ (flft κ₅ q₅) ∷ ‵ (ShrSlice (named 0) κ₆ u8 .own (at-list b₆ o₆ γ₆ d) (sliceVal (b₆, o₆) n₆ ∷ [])) ∷ ‵ (flft κ₆ q₆) ∷ free 𝓤 (sliceTy (tyRef erased mut (pointee (u8 .written)))) l₃₀ (free 𝓤 (tyRef erased mut (pointee (u8 .written))) l₂₉ (free 𝓤 (sliceTy (tyRef erased imm (pointee ((Array u16 35) .written)))) l₂₈ (free 𝓤 (tyRef erased imm (pointee ((Array u16 35) .written))) l₂₇ (free 𝓤 (sliceTy (tyRef erased imm (pointee ((Array u64 8) .written)))) l₂₆ (free 𝓤 (tyRef erased imm (pointee ((Array u64 8) .written))) l₂₅ (free 𝓤 (sliceTy (tyRef erased mut (pointee (Object-t.the-row .written)))) l₂₄ (free 𝓤 (tyRef erased mut (pointee (Object-t.the-row .written))) l₂₃ (free 𝓤 (sliceTy (tyRef erased mut (pointee ((Array u16 35) .written)))) l₂₂ (free 𝓤 (tyRef erased mut (pointee ((Array u16 35) .written))) l₂₁ (free 𝓤 (sliceTy (tyRef erased mut (pointee ((Array u64 8) .written)))) l₂₀ (free 𝓤 (tyRef erased mut (pointee ((Array u64 8) .written))) l₁₉ (free 𝓤 Ran-l.mir l₁₈ (full 𝓤 tyBool l₁₇ (bool-p .val (isLive (namedOf (sessions) (f′ .«session_id»)))) (full 𝓤 (sliceTy (tyRef erased mut (pointee ((Array u64 8) .written)))) l₁₆ (sliceVal (b₁, o₁) n₁) (full 𝓤 (tyRef erased mut (pointee ((Array u64 8) .written))) l₁₅ (vptr b₁ o₁) (free 𝓤 (tyInt w64) l₁₄ (free 𝓤 Move-l.mir l₁₃ (full 𝓤 Named-l.mir l₁₂ (Named-p .val (namedOf (sessions) (f′ .«session_id»))) (full 𝓤 (tyInt w8) l₁₁ (u8-p .val (f′ .«stream_id»)) (full 𝓤 (tyInt w8) l₁₀ (u8-p .val (f′ .«session_id»)) (full 𝓤 Taken-l.mir l₉ (Taken-p .val took) (full 𝓤 Ran-l.mir l₈ (Ran-p .val r′) (full 𝓤 Frame-l.mir l₇ (Frame-p .val f′) (full 𝓤 (sliceTy (tyRef (named 5) imm (pointee (u8 .written)))) l₆ (sliceVal (b₆, o₆) n₆) (full 𝓤 (sliceTy (tyRef (named 4) mut (pointee (u8 .written)))) l₅ (sliceVal (b₅, o₅) n₅) (full 𝓤 (sliceTy (tyRef (named 3) imm (pointee (u8 .written)))) l₄ (sliceVal (b₄, o₄) n₄) (full 𝓤 (sliceTy (tyRef (named 2) mut (pointee (Object-t.the-row .written)))) l₃ (sliceVal (b₃, o₃) n₃) (full 𝓤 (sliceTy (tyRef (named 1) mut (pointee ((Array u16 35) .written)))) l₂ (sliceVal (b₂, o₂) n₂) (full 𝓤 (sliceTy (tyRef (named 0) mut (pointee ((Array u64 8) .written)))) l₁ (sliceVal (b₁, o₁) n₁) (free 𝓤 Ran-l.mir l₀ ([])))))))))))))))))))))))))))))))) (runs C Λ En mir.t-7 (atRet En Post))
+    part-7-0 : (len-5-sessions : length (touchedRows (sessions) (f′ .«session_id») ((f′ .moment) .time)) ≡ n₁) → (is-5 : Is (Named-p .row) (namedOf (sessions) (f′ .«session_id»)) (Named-p .val (namedOf (sessions) (f′ .«session_id»)) ∷ [])) → (is-6 : Is (bool-p .row) (isLive (namedOf (sessions) (f′ .«session_id»))) (bool-p .val (isLive (namedOf (sessions) (f′ .«session_id»))) ∷ [])) → Sq W (‵ (MutSlice (named 0) κ₁ (Array u64 8) .own (at-list b₁ o₁ γ₁ (touchedRows (sessions) (f′ .«session_id») ((f′ .moment) .time))) (sliceVal (b₁, o₁) n₁ ∷ [])) ∷ ‵ (flft κ₁ q₁) ∷ ‵ (MutSlice (named 0) κ₂ (Array u16 35) .own (at-list b₂ o₂ γ₂ streams) (sliceVal (b₂, o₂) n₂ ∷ [])) ∷ ‵ (flft κ₂ q₂) ∷ ‵ (MutSlice (named 0) κ₃ Object-t.the-row .own (at-list b₃ o₃ γ₃ objects) (sliceVal (b₃, o₃) n₃ ∷ [])) ∷ ‵ (flft κ₃ q₃) ∷ ‵ (ShrSlice (named 0) κ₄ u8 .own (at-list b₄ o₄ γ₄ held) (sliceVal (b₄, o₄) n₄ ∷ [])) ∷ ‵ (flft κ₄ q₄) ∷ ‵ (MutSlice (named 0) κ₅ u8 .own (at-list b₅ o₅ γ₅ out) (sliceVal (b₅, o₅) n₅ ∷ [])) ∷ ‵ (flft κ₅ q₅) ∷ ‵ (ShrSlice (named 0) κ₆ u8 .own (at-list b₆ o₆ γ₆ d) (sliceVal (b₆, o₆) n₆ ∷ [])) ∷ ‵ (flft κ₆ q₆) ∷ free 𝓤 (sliceTy (tyRef erased mut (pointee (u8 .written)))) l₃₀ (free 𝓤 (tyRef erased mut (pointee (u8 .written))) l₂₉ (free 𝓤 (sliceTy (tyRef erased imm (pointee ((Array u16 35) .written)))) l₂₈ (free 𝓤 (tyRef erased imm (pointee ((Array u16 35) .written))) l₂₇ (free 𝓤 (sliceTy (tyRef erased imm (pointee ((Array u64 8) .written)))) l₂₆ (free 𝓤 (tyRef erased imm (pointee ((Array u64 8) .written))) l₂₅ (free 𝓤 (sliceTy (tyRef erased mut (pointee (Object-t.the-row .written)))) l₂₄ (free 𝓤 (tyRef erased mut (pointee (Object-t.the-row .written))) l₂₃ (free 𝓤 (sliceTy (tyRef erased mut (pointee ((Array u16 35) .written)))) l₂₂ (free 𝓤 (tyRef erased mut (pointee ((Array u16 35) .written))) l₂₁ (free 𝓤 (sliceTy (tyRef erased mut (pointee ((Array u64 8) .written)))) l₂₀ (free 𝓤 (tyRef erased mut (pointee ((Array u64 8) .written))) l₁₉ (free 𝓤 Ran-l.mir l₁₈ (full 𝓤 tyBool l₁₇ (bool-p .val (isLive (namedOf (sessions) (f′ .«session_id»)))) (full 𝓤 (sliceTy (tyRef erased mut (pointee ((Array u64 8) .written)))) l₁₆ (sliceVal (b₁, o₁) n₁) (full 𝓤 (tyRef erased mut (pointee ((Array u64 8) .written))) l₁₅ (vptr b₁ o₁) (free 𝓤 (tyInt w64) l₁₄ (free 𝓤 Move-l.mir l₁₃ (full 𝓤 Named-l.mir l₁₂ (Named-p .val (namedOf (sessions) (f′ .«session_id»))) (full 𝓤 (tyInt w8) l₁₁ (u8-p .val (f′ .«stream_id»)) (full 𝓤 (tyInt w8) l₁₀ (u8-p .val (f′ .«session_id»)) (full 𝓤 Taken-l.mir l₉ (Taken-p .val took) (full 𝓤 Ran-l.mir l₈ (Ran-p .val r′) (full 𝓤 Frame-l.mir l₇ (Frame-p .val f′) (full 𝓤 (sliceTy (tyRef (named 5) imm (pointee (u8 .written)))) l₆ (sliceVal (b₆, o₆) n₆) (full 𝓤 (sliceTy (tyRef (named 4) mut (pointee (u8 .written)))) l₅ (sliceVal (b₅, o₅) n₅) (full 𝓤 (sliceTy (tyRef (named 3) imm (pointee (u8 .written)))) l₄ (sliceVal (b₄, o₄) n₄) (full 𝓤 (sliceTy (tyRef (named 2) mut (pointee (Object-t.the-row .written)))) l₃ (sliceVal (b₃, o₃) n₃) (full 𝓤 (sliceTy (tyRef (named 1) mut (pointee ((Array u16 35) .written)))) l₂ (sliceVal (b₂, o₂) n₂) (full 𝓤 (sliceTy (tyRef (named 0) mut (pointee ((Array u64 8) .written)))) l₁ (sliceVal (b₁, o₁) n₁) (free 𝓤 Ran-l.mir l₀ ([])))))))))))))))))))))))))))))))) (runs C Λ En mir.t-7 (atRet En Post))
     part-7-0 len-5-sessions is-5 is-6 =
         first ! $
         branches ! (load ! (from ! (stop !)) (look ! 38 refl))
@@ -414,7 +423,7 @@ module _ {M : Type 1} (𝓤 : URA M) (H : Heap 𝓤) (A : Atoms 𝓤) (W : Given
         assigns ! (addr ! (from ! (fld ! refl (hop ! (look-in ! 66 (sub ! 0 refl (whole !))) (stop !))))) (from ! (stop !)) (init ! 26 refl (tt, tt)) $
         assigns ! (agg ! (and-then ! (load ! (from ! (stop !)) (look ! 26 refl)) (and-then ! (load ! (from ! (fld ! refl (stop !))) (look-in ! 66 (sub ! 1 refl (whole !)))) (no-more !)))) (from ! (stop !)) (init ! 24 refl (tt, (tt, (record { fits = room₃ .0 }, tt)))) $
         -- 7.yes.7: moves::handle::handle
-        lends-mut ! tt (Array u64 8) b₁ o₁ (touchedRows (sessions) (f′ .«session_id») (f′ .time)) n₁ (len-5-sessions) (λ ν-7·yes·7-sessions δ-7·yes·7-sessions.
+        lends-mut ! tt (Array u64 8) b₁ o₁ (touchedRows (sessions) (f′ .«session_id») ((f′ .moment) .time)) n₁ (len-5-sessions) (λ ν-7·yes·7-sessions δ-7·yes·7-sessions.
         move ! (3 ∷ 4 ∷ []) $
         lends-mut ! tt (Array u16 35) b₂ o₂ streams n₂ (refl) (λ ν-7·yes·7-streams δ-7·yes·7-streams.
         move ! (6 ∷ 7 ∷ []) $
@@ -422,11 +431,12 @@ module _ {M : Type 1} (𝓤 : URA M) (H : Heap 𝓤) (A : Atoms 𝓤) (W : Given
         move ! (13 ∷ 14 ∷ []) $
         copies-shr ! u8 b₆ o₆ d n₆ $ nothing ! $ move ! (1 ∷ 0 ∷ []) $ join ! $ move ! (3 ∷ 0 ∷ []) $ join ! $ move ! (5 ∷ 0 ∷ []) $ join ! $ move ! (7 ∷ 0 ∷ []) $ join ! $
         use1 W (raw (toks 𝓤 A 4 (((ν-7·yes·7-sessions ∷ []), ((ν-7·yes·7-streams ∷ []), ((ν-7·yes·7-objects ∷ []), (κ₆, tt))))) ((fullShare, (fullShare, (fullShare, (q₆, tt))))))) (id⊢ 𝓤 _) $ nothing ! $
+        owned ! (bool-p .row) (Is (bool-p .row)) (bool-p .makes 𝓤 H A W) ((f′ .moment) .«is_open») (bool-p .val ((f′ .moment) .«is_open») ∷ []) (LL.owed Moment-t.the-type Moment-l.the-laws (f′ .moment) _ (LL.owed Frame-t.the-type Frame-l.the-laws f′ _ f′-is .1 .0) .1 .0) $ fjoin ! $
         owned ! (Span-p .row) (Is (Span-p .row)) (Span-p .makes 𝓤 H A W) (took .body) (Span-p .val (took .body) ∷ []) (LL.owed Taken-t.the-type Taken-l.the-laws took _ took-is .1 .0) $ fjoin ! $
         owned ! (Asked-p .row) (Is (Asked-p .row)) (Asked-p .makes 𝓤 H A W) (took .asked) (Asked-p .val (took .asked) ∷ []) (LL.owed Taken-t.the-type Taken-l.the-laws took _ took-is .0) $ fjoin ! $
         owned ! (u8-p .row) (Is (u8-p .row)) (u8-p .makes 𝓤 H A W) (f′ .«stream_id») (u8-p .val (f′ .«stream_id») ∷ []) (LL.owed Frame-t.the-type Frame-l.the-laws f′ _ f′-is .1 .1 .1 .0) $ fjoin ! $
         owned ! (u8-p .row) (Is (u8-p .row)) (u8-p .makes 𝓤 H A W) (f′ .«session_id») (u8-p .val (f′ .«session_id») ∷ []) (LL.owed Frame-t.the-type Frame-l.the-laws f′ _ f′-is .1 .1 .0) $ fjoin ! $ move ! (2 ∷ 0 ∷ []) $ fjoin ! $ move ! (3 ∷ 0 ∷ []) $ fjoin ! $ move ! (4 ∷ 0 ∷ []) $ fjoin ! $ move ! (5 ∷ 0 ∷ []) $ fjoin ! $ move ! (1 ∷ 0 ∷ []) $
-        calls-any ! fm 4 [] (handle-handle.signature .params) (handle-handle.ended .kept) Move-p (handle-handle.clauses 𝓤 H A mem run) known-handle-handle ((ν-7·yes·7-sessions ∷ []), ((ν-7·yes·7-streams ∷ []), ((ν-7·yes·7-objects ∷ []), (κ₆, tt)))) (fullShare, (fullShare, (fullShare, (q₆, tt)))) tt (at-list b₁ o₁ δ-7·yes·7-sessions (touchedRows (sessions) (f′ .«session_id») (f′ .time)), (at-list b₂ o₂ δ-7·yes·7-streams streams, (at-list b₃ o₃ δ-7·yes·7-objects objects, (at-list b₆ o₆ γ₆ d, (f′ .«session_id», (f′ .«stream_id», (took .asked, (took .body, tt)))))))) (sliceVal (b₁, o₁) n₁ ∷ [], (sliceVal (b₂, o₂) n₂ ∷ [], (sliceVal (b₃, o₃) n₃ ∷ [], (sliceVal (b₆, o₆) n₆ ∷ [], (u8-p .val (f′ .«session_id») ∷ [], (u8-p .val (f′ .«stream_id») ∷ [], (Asked-p .val (took .asked) ∷ [], (Span-p .val (took .body) ∷ [], tt)))))))) tt (handledMove (took .asked) (rows ((touchedRows (sessions) (f′ .«session_id») (f′ .time))) (streams) (objects)) (d) (f′ .«session_id») (f′ .«stream_id») (took .body)) (λ ws-7·yes·7. (ws-7·yes·7 .0 ≡ handledRows (took .asked) (rows ((touchedRows (sessions) (f′ .«session_id») (f′ .time))) (streams) (objects)) (f′ .«session_id») (f′ .«stream_id») .sessions) × (ws-7·yes·7 .1 .0 ≡ handledRows (took .asked) (rows ((touchedRows (sessions) (f′ .«session_id») (f′ .time))) (streams) (objects)) (f′ .«session_id») (f′ .«stream_id») .streams) × (ws-7·yes·7 .1 .1 .0 ≡ handledRows (took .asked) (rows ((touchedRows (sessions) (f′ .«session_id») (f′ .time))) (streams) (objects)) (f′ .«session_id») (f′ .«stream_id») .objects)) (id⊢ 𝓤 _) (λ r ws-7·yes·7. fact-mono 𝓤 ((r ≡ handledMove (took .asked) (rows ((touchedRows (sessions) (f′ .«session_id») (f′ .time))) (streams) (objects)) (d) (f′ .«session_id») (f′ .«stream_id») (took .body)) × ((ws-7·yes·7 .0) ≡ handledRows (took .asked) (rows ((touchedRows (sessions) (f′ .«session_id») (f′ .time))) (streams) (objects)) (f′ .«session_id») (f′ .«stream_id») .sessions) × ((ws-7·yes·7 .1 .0) ≡ handledRows (took .asked) (rows ((touchedRows (sessions) (f′ .«session_id») (f′ .time))) (streams) (objects)) (f′ .«session_id») (f′ .«stream_id») .streams) × ((ws-7·yes·7 .1 .1 .0) ≡ handledRows (took .asked) (rows ((touchedRows (sessions) (f′ .«session_id») (f′ .time))) (streams) (objects)) (f′ .«session_id») (f′ .«stream_id») .objects)) ((r ≡ (handledMove (took .asked) (rows ((touchedRows (sessions) (f′ .«session_id») (f′ .time))) (streams) (objects)) (d) (f′ .«session_id») (f′ .«stream_id») (took .body))) × ((ws-7·yes·7 .0 ≡ handledRows (took .asked) (rows ((touchedRows (sessions) (f′ .«session_id») (f′ .time))) (streams) (objects)) (f′ .«session_id») (f′ .«stream_id») .sessions) × (ws-7·yes·7 .1 .0 ≡ handledRows (took .asked) (rows ((touchedRows (sessions) (f′ .«session_id») (f′ .time))) (streams) (objects)) (f′ .«session_id») (f′ .«stream_id») .streams) × (ws-7·yes·7 .1 .1 .0 ≡ handledRows (took .asked) (rows ((touchedRows (sessions) (f′ .«session_id») (f′ .time))) (streams) (objects)) (f′ .«session_id») (f′ .«stream_id») .objects))) (λ e. (e .0, (e .1, e .2, e .3)))) (λ _. (and-then ! (load ! (from ! (stop !)) (look ! 29 refl)) (and-then ! (load ! (from ! (stop !)) (look ! 25 refl)) (and-then ! (load ! (from ! (stop !)) (look ! 21 refl)) (and-then ! (load ! (from ! (stop !)) (look ! 57 refl)) (and-then ! (load ! (from ! (stop !)) (look ! 49 refl)) (and-then ! (load ! (from ! (stop !)) (look ! 47 refl)) (and-then ! (load ! (from ! (fld ! refl (stop !))) (look-in ! 51 (sub ! 0 refl (whole !)))) (and-then ! (load ! (from ! (fld ! refl (stop !))) (look-in ! 51 (sub ! 1 refl (whole !)))) (no-more !)))))))))) (λ ws-7·yes·7 said-7·yes·7 is-7·yes·7.
+        calls-any ! fm 4 [] (handle-handle.signature .params) (handle-handle.ended .kept) Move-p (handle-handle.clauses 𝓤 H A mem run) known-handle-handle ((ν-7·yes·7-sessions ∷ []), ((ν-7·yes·7-streams ∷ []), ((ν-7·yes·7-objects ∷ []), (κ₆, tt)))) (fullShare, (fullShare, (fullShare, (q₆, tt)))) tt (at-list b₁ o₁ δ-7·yes·7-sessions (touchedRows (sessions) (f′ .«session_id») ((f′ .moment) .time)), (at-list b₂ o₂ δ-7·yes·7-streams streams, (at-list b₃ o₃ δ-7·yes·7-objects objects, (at-list b₆ o₆ γ₆ d, (f′ .«session_id», (f′ .«stream_id», (took .asked, (took .body, ((f′ .moment) .«is_open», tt))))))))) (sliceVal (b₁, o₁) n₁ ∷ [], (sliceVal (b₂, o₂) n₂ ∷ [], (sliceVal (b₃, o₃) n₃ ∷ [], (sliceVal (b₆, o₆) n₆ ∷ [], (u8-p .val (f′ .«session_id») ∷ [], (u8-p .val (f′ .«stream_id») ∷ [], (Asked-p .val (took .asked) ∷ [], (Span-p .val (took .body) ∷ [], (bool-p .val ((f′ .moment) .«is_open») ∷ [], tt))))))))) tt (handledMove ((f′ .moment) .«is_open») (took .asked) (rows ((touchedRows (sessions) (f′ .«session_id») ((f′ .moment) .time))) (streams) (objects)) (d) (f′ .«session_id») (f′ .«stream_id») (took .body)) (λ ws-7·yes·7. (ws-7·yes·7 .0 ≡ handledRows (took .asked) (rows ((touchedRows (sessions) (f′ .«session_id») ((f′ .moment) .time))) (streams) (objects)) (f′ .«session_id») (f′ .«stream_id») .sessions) × (ws-7·yes·7 .1 .0 ≡ handledRows (took .asked) (rows ((touchedRows (sessions) (f′ .«session_id») ((f′ .moment) .time))) (streams) (objects)) (f′ .«session_id») (f′ .«stream_id») .streams) × (ws-7·yes·7 .1 .1 .0 ≡ handledRows (took .asked) (rows ((touchedRows (sessions) (f′ .«session_id») ((f′ .moment) .time))) (streams) (objects)) (f′ .«session_id») (f′ .«stream_id») .objects)) (id⊢ 𝓤 _) (λ r ws-7·yes·7. fact-mono 𝓤 ((r ≡ handledMove ((f′ .moment) .«is_open») (took .asked) (rows ((touchedRows (sessions) (f′ .«session_id») ((f′ .moment) .time))) (streams) (objects)) (d) (f′ .«session_id») (f′ .«stream_id») (took .body)) × ((ws-7·yes·7 .0) ≡ handledRows (took .asked) (rows ((touchedRows (sessions) (f′ .«session_id») ((f′ .moment) .time))) (streams) (objects)) (f′ .«session_id») (f′ .«stream_id») .sessions) × ((ws-7·yes·7 .1 .0) ≡ handledRows (took .asked) (rows ((touchedRows (sessions) (f′ .«session_id») ((f′ .moment) .time))) (streams) (objects)) (f′ .«session_id») (f′ .«stream_id») .streams) × ((ws-7·yes·7 .1 .1 .0) ≡ handledRows (took .asked) (rows ((touchedRows (sessions) (f′ .«session_id») ((f′ .moment) .time))) (streams) (objects)) (f′ .«session_id») (f′ .«stream_id») .objects)) ((r ≡ (handledMove ((f′ .moment) .«is_open») (took .asked) (rows ((touchedRows (sessions) (f′ .«session_id») ((f′ .moment) .time))) (streams) (objects)) (d) (f′ .«session_id») (f′ .«stream_id») (took .body))) × ((ws-7·yes·7 .0 ≡ handledRows (took .asked) (rows ((touchedRows (sessions) (f′ .«session_id») ((f′ .moment) .time))) (streams) (objects)) (f′ .«session_id») (f′ .«stream_id») .sessions) × (ws-7·yes·7 .1 .0 ≡ handledRows (took .asked) (rows ((touchedRows (sessions) (f′ .«session_id») ((f′ .moment) .time))) (streams) (objects)) (f′ .«session_id») (f′ .«stream_id») .streams) × (ws-7·yes·7 .1 .1 .0 ≡ handledRows (took .asked) (rows ((touchedRows (sessions) (f′ .«session_id») ((f′ .moment) .time))) (streams) (objects)) (f′ .«session_id») (f′ .«stream_id») .objects))) (λ e. (e .0, (e .1, e .2, e .3)))) (λ _. (and-then ! (load ! (from ! (stop !)) (look ! 29 refl)) (and-then ! (load ! (from ! (stop !)) (look ! 25 refl)) (and-then ! (load ! (from ! (stop !)) (look ! 21 refl)) (and-then ! (load ! (from ! (stop !)) (look ! 57 refl)) (and-then ! (load ! (from ! (stop !)) (look ! 49 refl)) (and-then ! (load ! (from ! (stop !)) (look ! 47 refl)) (and-then ! (load ! (from ! (fld ! refl (stop !))) (look-in ! 51 (sub ! 0 refl (whole !)))) (and-then ! (load ! (from ! (fld ! refl (stop !))) (look-in ! 51 (sub ! 1 refl (whole !)))) (and-then ! (load ! (from ! (fld ! refl (fld ! refl (stop !)))) (look-in ! 55 (sub ! 1 refl (sub ! 1 refl (whole !))))) (no-more !))))))))))) (λ ws-7·yes·7 said-7·yes·7 is-7·yes·7.
         use1 W ((‵ (flft (ν-7·yes·7-sessions ∷ []) fullShare) ⊛ (‵ (flft (ν-7·yes·7-streams ∷ []) fullShare) ⊛ (‵ (flft (ν-7·yes·7-objects ∷ []) fullShare) ⊛ (‵ (flft κ₆ q₆) ⊛ ‵ ftrue))))) (id⊢ 𝓤 _) $ split ! $ move ! (1 ∷ []) $ split ! $ move ! (1 ∷ []) $ split ! $ move ! (1 ∷ []) $ split ! $ move ! (5 ∷ []) $ fsplit ! $ fsplit ! $ move ! (1 ∷ []) $
         feqL ! (λ wlen-7·yes·7-0.
         move ! (1 ∷ []) $ fsplit ! $ fsplit ! $ move ! (1 ∷ []) $
@@ -434,13 +444,13 @@ module _ {M : Type 1} (𝓤 : URA M) (H : Heap 𝓤) (A : Atoms 𝓤) (W : Given
         move ! (1 ∷ []) $ fsplit ! $ fsplit ! $ move ! (1 ∷ []) $
         feqL ! (λ wlen-7·yes·7-2.
         move ! (1 ∷ []) $ fsplit ! $ move ! (9 ∷ 13 ∷ 4 ∷ []) $
-        backs-mut ! tt (Array u64 8) b₁ o₁ (touchedRows (sessions) (f′ .«session_id») (f′ .time)) n₁ (len-5-sessions) room₁ ν-7·yes·7-sessions δ-7·yes·7-sessions (ws-7·yes·7 .0) (handledRows (took .asked) (rows ((touchedRows (sessions) (f′ .«session_id») (f′ .time))) (streams) (objects)) (f′ .«session_id») (f′ .«stream_id») .sessions) wlen-7·yes·7-0 (said-7·yes·7 .0) (λ len-7·yes·7-sessions.
+        backs-mut ! tt (Array u64 8) b₁ o₁ (touchedRows (sessions) (f′ .«session_id») ((f′ .moment) .time)) n₁ (len-5-sessions) room₁ ν-7·yes·7-sessions δ-7·yes·7-sessions (ws-7·yes·7 .0) (handledRows (took .asked) (rows ((touchedRows (sessions) (f′ .«session_id») ((f′ .moment) .time))) (streams) (objects)) (f′ .«session_id») (f′ .«stream_id») .sessions) wlen-7·yes·7-0 (said-7·yes·7 .0) (λ len-7·yes·7-sessions.
         move ! (9 ∷ 12 ∷ 5 ∷ []) $
-        backs-mut ! tt (Array u16 35) b₂ o₂ streams n₂ (refl) room₂ ν-7·yes·7-streams δ-7·yes·7-streams (ws-7·yes·7 .1 .0) (handledRows (took .asked) (rows ((touchedRows (sessions) (f′ .«session_id») (f′ .time))) (streams) (objects)) (f′ .«session_id») (f′ .«stream_id») .streams) wlen-7·yes·7-1 (said-7·yes·7 .1) (λ len-7·yes·7-streams.
+        backs-mut ! tt (Array u16 35) b₂ o₂ streams n₂ (refl) room₂ ν-7·yes·7-streams δ-7·yes·7-streams (ws-7·yes·7 .1 .0) (handledRows (took .asked) (rows ((touchedRows (sessions) (f′ .«session_id») ((f′ .moment) .time))) (streams) (objects)) (f′ .«session_id») (f′ .«stream_id») .streams) wlen-7·yes·7-1 (said-7·yes·7 .1) (λ len-7·yes·7-streams.
         move ! (9 ∷ 11 ∷ 6 ∷ []) $
-        backs-mut ! tt Object-t.the-row b₃ o₃ objects n₃ (refl) room₃ ν-7·yes·7-objects δ-7·yes·7-objects (ws-7·yes·7 .1 .1 .0) (handledRows (took .asked) (rows ((touchedRows (sessions) (f′ .«session_id») (f′ .time))) (streams) (objects)) (f′ .«session_id») (f′ .«stream_id») .objects) wlen-7·yes·7-2 (said-7·yes·7 .2) (λ len-7·yes·7-objects.
+        backs-mut ! tt Object-t.the-row b₃ o₃ objects n₃ (refl) room₃ ν-7·yes·7-objects δ-7·yes·7-objects (ws-7·yes·7 .1 .1 .0) (handledRows (took .asked) (rows ((touchedRows (sessions) (f′ .«session_id») ((f′ .moment) .time))) (streams) (objects)) (f′ .«session_id») (f′ .«stream_id») .objects) wlen-7·yes·7-2 (said-7·yes·7 .2) (λ len-7·yes·7-objects.
         move ! (6 ∷ []) $ drop ! $ move ! (6 ∷ []) $ drop ! $ move ! (7 ∷ []) $ drop ! $
-        land ! (from ! (stop !)) (init ! 46 refl (Move-p .typed 𝓤 H A W (handledMove (took .asked) (rows ((touchedRows (sessions) (f′ .«session_id») (f′ .time))) (streams) (objects)) (d) (f′ .«session_id») (f′ .«stream_id») (took .body)) is-7·yes·7)) $ move ! (4 ∷ 5 ∷ 2 ∷ 3 ∷ 0 ∷ 1 ∷ 8 ∷ 9 ∷ 10 ∷ 11 ∷ 7 ∷ 6 ∷ 12 ∷ 13 ∷ 14 ∷ 15 ∷ 16 ∷ 17 ∷ 18 ∷ 19 ∷ 20 ∷ 21 ∷ 22 ∷ 23 ∷ 24 ∷ 25 ∷ 26 ∷ 27 ∷ 28 ∷ 29 ∷ 30 ∷ 31 ∷ 32 ∷ 33 ∷ 34 ∷ 35 ∷ 36 ∷ 37 ∷ 38 ∷ 39 ∷ 40 ∷ 41 ∷ 42 ∷ 43 ∷ 44 ∷ 45 ∷ 46 ∷ 47 ∷ 48 ∷ 49 ∷ 50 ∷ 51 ∷ 52 ∷ 53 ∷ 54 ∷ 55 ∷ 56 ∷ 57 ∷ 58 ∷ 59 ∷ 60 ∷ 61 ∷ 62 ∷ 63 ∷ 64 ∷ 65 ∷ 66 ∷ 67 ∷ 68 ∷ 69 ∷ 70 ∷ 71 ∷ 72 ∷ 73 ∷ []) $
+        land ! (from ! (stop !)) (init ! 46 refl (Move-p .typed 𝓤 H A W (handledMove ((f′ .moment) .«is_open») (took .asked) (rows ((touchedRows (sessions) (f′ .«session_id») ((f′ .moment) .time))) (streams) (objects)) (d) (f′ .«session_id») (f′ .«stream_id») (took .body)) is-7·yes·7)) $ move ! (4 ∷ 5 ∷ 2 ∷ 3 ∷ 0 ∷ 1 ∷ 8 ∷ 9 ∷ 10 ∷ 11 ∷ 7 ∷ 6 ∷ 12 ∷ 13 ∷ 14 ∷ 15 ∷ 16 ∷ 17 ∷ 18 ∷ 19 ∷ 20 ∷ 21 ∷ 22 ∷ 23 ∷ 24 ∷ 25 ∷ 26 ∷ 27 ∷ 28 ∷ 29 ∷ 30 ∷ 31 ∷ 32 ∷ 33 ∷ 34 ∷ 35 ∷ 36 ∷ 37 ∷ 38 ∷ 39 ∷ 40 ∷ 41 ∷ 42 ∷ 43 ∷ 44 ∷ 45 ∷ 46 ∷ 47 ∷ 48 ∷ 49 ∷ 50 ∷ 51 ∷ 52 ∷ 53 ∷ 54 ∷ 55 ∷ 56 ∷ 57 ∷ 58 ∷ 59 ∷ 60 ∷ 61 ∷ 62 ∷ 63 ∷ 64 ∷ 65 ∷ 66 ∷ 67 ∷ 68 ∷ 69 ∷ 70 ∷ 71 ∷ 72 ∷ 73 ∷ []) $
         part-7·yes·8-0 len-5-sessions is-5 is-6 c-7 len-7·yes·7-sessions len-7·yes·7-streams len-7·yes·7-objects is-7·yes·7))))))))))))
         (λ h-7.
         knows ! (isLive (namedOf (sessions) (f′ .«session_id»)) ≡ false) (fails (isLive (namedOf (sessions) (f′ .«session_id»))) (T-not (isLive (namedOf (sessions) (f′ .«session_id»))) h-7)) (λ c-7.
@@ -455,7 +465,7 @@ module _ {M : Type 1} (𝓤 : URA M) (H : Heap 𝓤) (A : Atoms 𝓤) (W : Given
         exec ! C Λ En mir.t-8 (atRet En Post) $
         part-8-4 len-5-sessions is-5 is-6 c-7 is-7·no·1)))
 
-    part-6-0 : (len-5-sessions : length (touchedRows (sessions) (f′ .«session_id») (f′ .time)) ≡ n₁) → (is-5 : Is (Named-p .row) (namedOf (sessions) (f′ .«session_id»)) (Named-p .val (namedOf (sessions) (f′ .«session_id»)) ∷ [])) → Sq W (‵ (MutSlice (named 0) κ₁ (Array u64 8) .own (at-list b₁ o₁ γ₁ (touchedRows (sessions) (f′ .«session_id») (f′ .time))) (sliceVal (b₁, o₁) n₁ ∷ [])) ∷ ‵ (flft κ₁ q₁) ∷ ‵ (MutSlice (named 0) κ₂ (Array u16 35) .own (at-list b₂ o₂ γ₂ streams) (sliceVal (b₂, o₂) n₂ ∷ [])) ∷ ‵ (flft κ₂ q₂) ∷ ‵ (MutSlice (named 0) κ₃ Object-t.the-row .own (at-list b₃ o₃ γ₃ objects) (sliceVal (b₃, o₃) n₃ ∷ [])) ∷ ‵ (flft κ₃ q₃) ∷ ‵ (ShrSlice (named 0) κ₄ u8 .own (at-list b₄ o₄ γ₄ held) (sliceVal (b₄, o₄) n₄ ∷ [])) ∷ ‵ (flft κ₄ q₄) ∷ ‵ (MutSlice (named 0) κ₅ u8 .own (at-list b₅ o₅ γ₅ out) (sliceVal (b₅, o₅) n₅ ∷ [])) ∷ ‵ (flft κ₅ q₅) ∷ ‵ (ShrSlice (named 0) κ₆ u8 .own (at-list b₆ o₆ γ₆ d) (sliceVal (b₆, o₆) n₆ ∷ [])) ∷ ‵ (flft κ₆ q₆) ∷ free 𝓤 (sliceTy (tyRef erased mut (pointee (u8 .written)))) l₃₀ (free 𝓤 (tyRef erased mut (pointee (u8 .written))) l₂₉ (free 𝓤 (sliceTy (tyRef erased imm (pointee ((Array u16 35) .written)))) l₂₈ (free 𝓤 (tyRef erased imm (pointee ((Array u16 35) .written))) l₂₇ (free 𝓤 (sliceTy (tyRef erased imm (pointee ((Array u64 8) .written)))) l₂₆ (free 𝓤 (tyRef erased imm (pointee ((Array u64 8) .written))) l₂₅ (free 𝓤 (sliceTy (tyRef erased mut (pointee (Object-t.the-row .written)))) l₂₄ (free 𝓤 (tyRef erased mut (pointee (Object-t.the-row .written))) l₂₃ (free 𝓤 (sliceTy (tyRef erased mut (pointee ((Array u16 35) .written)))) l₂₂ (free 𝓤 (tyRef erased mut (pointee ((Array u16 35) .written))) l₂₁ (free 𝓤 (sliceTy (tyRef erased mut (pointee ((Array u64 8) .written)))) l₂₀ (free 𝓤 (tyRef erased mut (pointee ((Array u64 8) .written))) l₁₉ (free 𝓤 Ran-l.mir l₁₈ (free 𝓤 tyBool l₁₇ (full 𝓤 (sliceTy (tyRef erased mut (pointee ((Array u64 8) .written)))) l₁₆ (sliceVal (b₁, o₁) n₁) (full 𝓤 (tyRef erased mut (pointee ((Array u64 8) .written))) l₁₅ (vptr b₁ o₁) (free 𝓤 (tyInt w64) l₁₄ (free 𝓤 Move-l.mir l₁₃ (full 𝓤 Named-l.mir l₁₂ (Named-p .val (namedOf (sessions) (f′ .«session_id»))) (full 𝓤 (tyInt w8) l₁₁ (u8-p .val (f′ .«stream_id»)) (full 𝓤 (tyInt w8) l₁₀ (u8-p .val (f′ .«session_id»)) (full 𝓤 Taken-l.mir l₉ (Taken-p .val took) (full 𝓤 Ran-l.mir l₈ (Ran-p .val r′) (full 𝓤 Frame-l.mir l₇ (Frame-p .val f′) (full 𝓤 (sliceTy (tyRef (named 5) imm (pointee (u8 .written)))) l₆ (sliceVal (b₆, o₆) n₆) (full 𝓤 (sliceTy (tyRef (named 4) mut (pointee (u8 .written)))) l₅ (sliceVal (b₅, o₅) n₅) (full 𝓤 (sliceTy (tyRef (named 3) imm (pointee (u8 .written)))) l₄ (sliceVal (b₄, o₄) n₄) (full 𝓤 (sliceTy (tyRef (named 2) mut (pointee (Object-t.the-row .written)))) l₃ (sliceVal (b₃, o₃) n₃) (full 𝓤 (sliceTy (tyRef (named 1) mut (pointee ((Array u16 35) .written)))) l₂ (sliceVal (b₂, o₂) n₂) (full 𝓤 (sliceTy (tyRef (named 0) mut (pointee ((Array u64 8) .written)))) l₁ (sliceVal (b₁, o₁) n₁) (free 𝓤 Ran-l.mir l₀ ([])))))))))))))))))))))))))))))))) (runs C Λ En mir.t-6 (atRet En Post))
+    part-6-0 : (len-5-sessions : length (touchedRows (sessions) (f′ .«session_id») ((f′ .moment) .time)) ≡ n₁) → (is-5 : Is (Named-p .row) (namedOf (sessions) (f′ .«session_id»)) (Named-p .val (namedOf (sessions) (f′ .«session_id»)) ∷ [])) → Sq W (‵ (MutSlice (named 0) κ₁ (Array u64 8) .own (at-list b₁ o₁ γ₁ (touchedRows (sessions) (f′ .«session_id») ((f′ .moment) .time))) (sliceVal (b₁, o₁) n₁ ∷ [])) ∷ ‵ (flft κ₁ q₁) ∷ ‵ (MutSlice (named 0) κ₂ (Array u16 35) .own (at-list b₂ o₂ γ₂ streams) (sliceVal (b₂, o₂) n₂ ∷ [])) ∷ ‵ (flft κ₂ q₂) ∷ ‵ (MutSlice (named 0) κ₃ Object-t.the-row .own (at-list b₃ o₃ γ₃ objects) (sliceVal (b₃, o₃) n₃ ∷ [])) ∷ ‵ (flft κ₃ q₃) ∷ ‵ (ShrSlice (named 0) κ₄ u8 .own (at-list b₄ o₄ γ₄ held) (sliceVal (b₄, o₄) n₄ ∷ [])) ∷ ‵ (flft κ₄ q₄) ∷ ‵ (MutSlice (named 0) κ₅ u8 .own (at-list b₅ o₅ γ₅ out) (sliceVal (b₅, o₅) n₅ ∷ [])) ∷ ‵ (flft κ₅ q₅) ∷ ‵ (ShrSlice (named 0) κ₆ u8 .own (at-list b₆ o₆ γ₆ d) (sliceVal (b₆, o₆) n₆ ∷ [])) ∷ ‵ (flft κ₆ q₆) ∷ free 𝓤 (sliceTy (tyRef erased mut (pointee (u8 .written)))) l₃₀ (free 𝓤 (tyRef erased mut (pointee (u8 .written))) l₂₉ (free 𝓤 (sliceTy (tyRef erased imm (pointee ((Array u16 35) .written)))) l₂₈ (free 𝓤 (tyRef erased imm (pointee ((Array u16 35) .written))) l₂₇ (free 𝓤 (sliceTy (tyRef erased imm (pointee ((Array u64 8) .written)))) l₂₆ (free 𝓤 (tyRef erased imm (pointee ((Array u64 8) .written))) l₂₅ (free 𝓤 (sliceTy (tyRef erased mut (pointee (Object-t.the-row .written)))) l₂₄ (free 𝓤 (tyRef erased mut (pointee (Object-t.the-row .written))) l₂₃ (free 𝓤 (sliceTy (tyRef erased mut (pointee ((Array u16 35) .written)))) l₂₂ (free 𝓤 (tyRef erased mut (pointee ((Array u16 35) .written))) l₂₁ (free 𝓤 (sliceTy (tyRef erased mut (pointee ((Array u64 8) .written)))) l₂₀ (free 𝓤 (tyRef erased mut (pointee ((Array u64 8) .written))) l₁₉ (free 𝓤 Ran-l.mir l₁₈ (free 𝓤 tyBool l₁₇ (full 𝓤 (sliceTy (tyRef erased mut (pointee ((Array u64 8) .written)))) l₁₆ (sliceVal (b₁, o₁) n₁) (full 𝓤 (tyRef erased mut (pointee ((Array u64 8) .written))) l₁₅ (vptr b₁ o₁) (free 𝓤 (tyInt w64) l₁₄ (free 𝓤 Move-l.mir l₁₃ (full 𝓤 Named-l.mir l₁₂ (Named-p .val (namedOf (sessions) (f′ .«session_id»))) (full 𝓤 (tyInt w8) l₁₁ (u8-p .val (f′ .«stream_id»)) (full 𝓤 (tyInt w8) l₁₀ (u8-p .val (f′ .«session_id»)) (full 𝓤 Taken-l.mir l₉ (Taken-p .val took) (full 𝓤 Ran-l.mir l₈ (Ran-p .val r′) (full 𝓤 Frame-l.mir l₇ (Frame-p .val f′) (full 𝓤 (sliceTy (tyRef (named 5) imm (pointee (u8 .written)))) l₆ (sliceVal (b₆, o₆) n₆) (full 𝓤 (sliceTy (tyRef (named 4) mut (pointee (u8 .written)))) l₅ (sliceVal (b₅, o₅) n₅) (full 𝓤 (sliceTy (tyRef (named 3) imm (pointee (u8 .written)))) l₄ (sliceVal (b₄, o₄) n₄) (full 𝓤 (sliceTy (tyRef (named 2) mut (pointee (Object-t.the-row .written)))) l₃ (sliceVal (b₃, o₃) n₃) (full 𝓤 (sliceTy (tyRef (named 1) mut (pointee ((Array u16 35) .written)))) l₂ (sliceVal (b₂, o₂) n₂) (full 𝓤 (sliceTy (tyRef (named 0) mut (pointee ((Array u64 8) .written)))) l₁ (sliceVal (b₁, o₁) n₁) (free 𝓤 Ran-l.mir l₀ ([])))))))))))))))))))))))))))))))) (runs C Λ En mir.t-6 (atRet En Post))
     part-6-0 len-5-sessions is-5 =
         -- 6: agent::turn::is_live
         nothing ! $
@@ -476,13 +486,13 @@ module _ {M : Type 1} (𝓤 : URA M) (H : Heap 𝓤) (A : Atoms 𝓤) (W : Given
         lends-mut ! tt (Array u64 8) b₁ o₁ sessions n₁ (refl) (λ ν-5-sessions δ-5-sessions.
         nothing ! $ move ! (1 ∷ 0 ∷ []) $ join ! $
         use1 W (raw (toks 𝓤 A 1 (((ν-5-sessions ∷ []), tt)) ((fullShare, tt)))) (id⊢ 𝓤 _) $ nothing ! $
-        owned ! (u64-p .row) (Is (u64-p .row)) (u64-p .makes 𝓤 H A W) (f′ .time) (u64-p .val (f′ .time) ∷ []) (LL.owed Frame-t.the-type Frame-l.the-laws f′ _ f′-is .1 .0) $ fjoin ! $
+        owned ! (u64-p .row) (Is (u64-p .row)) (u64-p .makes 𝓤 H A W) ((f′ .moment) .time) (u64-p .val ((f′ .moment) .time) ∷ []) (LL.owed Moment-t.the-type Moment-l.the-laws (f′ .moment) _ (LL.owed Frame-t.the-type Frame-l.the-laws f′ _ f′-is .1 .0) .0) $ fjoin ! $
         owned ! (u8-p .row) (Is (u8-p .row)) (u8-p .makes 𝓤 H A W) (f′ .«session_id») (u8-p .val (f′ .«session_id») ∷ []) (LL.owed Frame-t.the-type Frame-l.the-laws f′ _ f′-is .1 .1 .0) $ fjoin ! $ move ! (2 ∷ 0 ∷ []) $ fjoin ! $ move ! (1 ∷ 0 ∷ []) $
-        calls-any ! fm 1 [] (table-touch.signature .params) (table-touch.ended .kept) Named-p (table-touch.clauses 𝓤 H A mem run) known-table-touch ((ν-5-sessions ∷ []), tt) (fullShare, tt) tt (at-list b₁ o₁ δ-5-sessions sessions, (f′ .«session_id», (f′ .time, tt))) (sliceVal (b₁, o₁) n₁ ∷ [], (u8-p .val (f′ .«session_id») ∷ [], (u64-p .val (f′ .time) ∷ [], tt))) tt (namedOf (sessions) (f′ .«session_id»)) (λ ws-5. (ws-5 .0 ≡ touchedRows (sessions) (f′ .«session_id») (f′ .time))) (id⊢ 𝓤 _) (λ r ws-5. fact-mono 𝓤 ((r ≡ namedOf (sessions) (f′ .«session_id»)) × ((ws-5 .0) ≡ touchedRows (sessions) (f′ .«session_id») (f′ .time))) ((r ≡ (namedOf (sessions) (f′ .«session_id»))) × ((ws-5 .0 ≡ touchedRows (sessions) (f′ .«session_id») (f′ .time)))) (λ e. (e .0, e .1))) (λ _. (and-then ! (load ! (from ! (stop !)) (look ! 40 refl)) (and-then ! (load ! (from ! (stop !)) (look ! 52 refl)) (and-then ! (load ! (from ! (fld ! refl (stop !))) (look-in ! 58 (sub ! 1 refl (whole !)))) (no-more !))))) (λ ws-5 said-5 is-5.
+        calls-any ! fm 1 [] (table-touch.signature .params) (table-touch.ended .kept) Named-p (table-touch.clauses 𝓤 H A mem run) known-table-touch ((ν-5-sessions ∷ []), tt) (fullShare, tt) tt (at-list b₁ o₁ δ-5-sessions sessions, (f′ .«session_id», ((f′ .moment) .time, tt))) (sliceVal (b₁, o₁) n₁ ∷ [], (u8-p .val (f′ .«session_id») ∷ [], (u64-p .val ((f′ .moment) .time) ∷ [], tt))) tt (namedOf (sessions) (f′ .«session_id»)) (λ ws-5. (ws-5 .0 ≡ touchedRows (sessions) (f′ .«session_id») ((f′ .moment) .time))) (id⊢ 𝓤 _) (λ r ws-5. fact-mono 𝓤 ((r ≡ namedOf (sessions) (f′ .«session_id»)) × ((ws-5 .0) ≡ touchedRows (sessions) (f′ .«session_id») ((f′ .moment) .time))) ((r ≡ (namedOf (sessions) (f′ .«session_id»))) × ((ws-5 .0 ≡ touchedRows (sessions) (f′ .«session_id») ((f′ .moment) .time)))) (λ e. (e .0, e .1))) (λ _. (and-then ! (load ! (from ! (stop !)) (look ! 40 refl)) (and-then ! (load ! (from ! (stop !)) (look ! 52 refl)) (and-then ! (load ! (from ! (fld ! refl (fld ! refl (stop !)))) (look-in ! 58 (sub ! 0 refl (sub ! 1 refl (whole !))))) (no-more !))))) (λ ws-5 said-5 is-5.
         use1 W ((‵ (flft (ν-5-sessions ∷ []) fullShare) ⊛ ‵ ftrue)) (id⊢ 𝓤 _) $ split ! $ move ! (2 ∷ []) $ fsplit ! $ fsplit ! $ move ! (1 ∷ []) $
         feqL ! (λ wlen-5-0.
         move ! (2 ∷ 4 ∷ 0 ∷ []) $
-        backs-mut ! tt (Array u64 8) b₁ o₁ sessions n₁ (refl) room₁ ν-5-sessions δ-5-sessions (ws-5 .0) (touchedRows (sessions) (f′ .«session_id») (f′ .time)) wlen-5-0 (said-5) (λ len-5-sessions.
+        backs-mut ! tt (Array u64 8) b₁ o₁ sessions n₁ (refl) room₁ ν-5-sessions δ-5-sessions (ws-5 .0) (touchedRows (sessions) (f′ .«session_id») ((f′ .moment) .time)) wlen-5-0 (said-5) (λ len-5-sessions.
         move ! (2 ∷ []) $ drop ! $ move ! (2 ∷ []) $ drop ! $
         land ! (from ! (stop !)) (init ! 48 refl (Named-p .typed 𝓤 H A W (namedOf (sessions) (f′ .«session_id»)) is-5)) $
         part-6-0 len-5-sessions is-5))))

@@ -12,17 +12,20 @@ task-kind-requires c κs = search needs
 task-parent-requires : tie.Need-task-parent-requires
 task-parent-requires c κs = search needs
 
-cast-t10 : tie.Need-cast-t10
-cast-t10 c = search needs
-
-cast-t11 : tie.Need-cast-t11
-cast-t11 c = search needs
+open-number-requires : tie.Need-open-number-requires
+open-number-requires c κs = search needs
 
 cast-t12 : tie.Need-cast-t12
 cast-t12 c = search needs
 
+cast-t13 : tie.Need-cast-t13
+cast-t13 c = search needs
+
+cast-t14 : tie.Need-cast-t14
+cast-t14 c = search needs
+
 returns : tie.Need-returns
-returns c = rw (c .before .before .before .before .before .task-number .ensures, c .before .before .before .before .task-kind .ensures, c .before .before .before .task-parent .ensures)
+returns c = rw (c .before .before .before .before .before .before .task-number .ensures, c .before .before .before .before .before .task-kind .ensures, c .before .before .before .before .task-parent .ensures, c .before .before .before .open-number .ensures)
 
 pub open-record-spec : {M : Type 1} → statement M
 open-record-spec =
@@ -31,7 +34,8 @@ open-record-spec =
     task-number-requires
     task-kind-requires
     task-parent-requires
-    cast-t10
-    cast-t11
+    open-number-requires
     cast-t12
+    cast-t13
+    cast-t14
     returns)

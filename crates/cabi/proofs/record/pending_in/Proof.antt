@@ -15,8 +15,11 @@ cast-t7 c = search needs
 task-in-requires : tie.Need-task-in-requires
 task-in-requires c κs = search needs
 
+moment-in-requires : tie.Need-moment-in-requires
+moment-in-requires c κs = search needs
+
 returns : tie.Need-returns
-returns c = rw (c .task-in .ensures)
+returns c = rw (c .before .task-in .ensures, c .moment-in .ensures)
 
 pub pending-in-spec : {M : Type 1} → statement M
-pending-in-spec = tie.close (tie.spec cast-t3 cast-t5 cast-t7 task-in-requires returns)
+pending-in-spec = tie.close (tie.spec cast-t3 cast-t5 cast-t7 task-in-requires moment-in-requires returns)

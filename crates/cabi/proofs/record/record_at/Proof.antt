@@ -83,6 +83,12 @@ index-1-t56 c = search needs
 index-2-t56 : tie.Need-index-2-t56
 index-2-t56 c = search needs
 
+index-1-t60 : tie.Need-index-1-t60
+index-1-t60 c = search needs
+
+index-2-t60 : tie.Need-index-2-t60
+index-2-t60 c = search needs
+
 no-record-requires : tie.Need-no-record-requires
 no-record-requires c κs = search needs
 
@@ -122,6 +128,8 @@ record-at-spec =
     index-2-t52
     index-1-t56
     index-2-t56
+    index-1-t60
+    index-2-t60
     no-record-requires
     returns
     returns-2)

@@ -102,7 +102,7 @@ use Rattle.sessions.specs.declared.objects.Found.the-variants.{Held as Found-He
 use Rattle.codec.specs.declared.refusals.Refusal.{Refusal}
 use Rattle.codec.proofs.refusals.Refusal as Refusal-t
 use Rattle.codec.proofs.refusals.Refusal.Laws as Refusal-l
-use Rattle.codec.specs.declared.refusals.Refusal.the-variants.{BufferTooShort as Refusal-BufferTooShort, UnknownSubmessageId as Refusal-UnknownSubmessageId, UnknownObjectKind as Refusal-UnknownObjectKind, UnknownStatusCode as Refusal-UnknownStatusCode, PayloadLengthMismatch as Refusal-PayloadLengthMismatch, SessionFull as Refusal-SessionFull, FragmentSizeZero as Refusal-FragmentSizeZero, EmptyPayload as Refusal-EmptyPayload, TooManyFragments as Refusal-TooManyFragments, FragmentNumber as Refusal-FragmentNumber, MissingFragments as Refusal-MissingFragments, TooLong as Refusal-TooLong, OutputTooShort as Refusal-OutputTooShort, StoreFull as Refusal-StoreFull, OutOfTurn as Refusal-OutOfTurn, OverLimit as Refusal-OverLimit, NotInFragments as Refusal-NotInFragments, IllFormed as Refusal-IllFormed}
+use Rattle.codec.specs.declared.refusals.Refusal.the-variants.{BufferTooShort as Refusal-BufferTooShort, UnknownSubmessageId as Refusal-UnknownSubmessageId, UnknownObjectKind as Refusal-UnknownObjectKind, UnknownStatusCode as Refusal-UnknownStatusCode, PayloadLengthMismatch as Refusal-PayloadLengthMismatch, SessionFull as Refusal-SessionFull, FragmentSizeZero as Refusal-FragmentSizeZero, EmptyPayload as Refusal-EmptyPayload, TooManyFragments as Refusal-TooManyFragments, FragmentNumber as Refusal-FragmentNumber, MissingFragments as Refusal-MissingFragments, TooLong as Refusal-TooLong, OutputTooShort as Refusal-OutputTooShort, StoreFull as Refusal-StoreFull, OutOfTurn as Refusal-OutOfTurn, OverLimit as Refusal-OverLimit, NotInFragments as Refusal-NotInFragments, IllFormed as Refusal-IllFormed, WindowFault as Refusal-WindowFault, NoSuchMinute as Refusal-NoSuchMinute}
 use Rattle.sessions.proofs.session_objects.find_object as session-objects-find-object
 use Rattle.sessions.proofs.session_objects.find_object.Symbol as session-objects-find-object-def
 use Rattle.sessions.proofs.session_objects.find_object.Symbol.{name as #session-objects-find-object}
@@ -166,7 +166,7 @@ abbrev Refusal-p : Plain
 Refusal-p = record { row = Refusal-t.the-row; val = EL.val Refusal-t.the-type Refusal-l.the-laws; tells = EL.tells Refusal-t.the-type Refusal-l.the-laws; makes = λ 𝓤 H A W. EL.makes Refusal-t.the-type Refusal-l.the-plain 𝓤 H A; ty = Refusal-l.mir; typed = λ 𝓤 H A W x is. EL.lawful Refusal-t.the-type Refusal-l.the-laws 𝓤 H A W tt .typed x _ is .0; copies = λ 𝓤 H A W. EL.copy Refusal-t.the-type Refusal-l.the-copy 𝓤 H A W }
 
 abbrev stayed : Stays (f.ended .signature .params) (f.ended .kept)
-stayed = (stay-none-slice (0 ∷ []) tt (plain (λ _. (Array u64 8))) yes, (stay-none-slice (1 ∷ []) tt (plain (λ _. Object-t.the-row)) yes, (stay-none (λ _. u8-p .row) yes, (stay-none (λ _. ObjectNumber-p .row) yes, (stay-none (λ _. Span-p .row) yes, tt)))))
+stayed = (stay-none-slice (0 ∷ []) tt (plain (λ _. (Array u64 8))) yes, (stay-none-slice (1 ∷ []) tt (plain (λ _. Object-t.the-row)) yes, (stay-none (λ _. u8-p .row) yes, (stay-none (λ _. ObjectNumber-p .row) yes, (stay-none (λ _. Span-p .row) yes, (stay-none (λ _. bool-p .row) yes, tt))))))
 
 module _ {M : Type 1} (𝓤 : URA M) (H : Heap 𝓤) (A : Atoms 𝓤) (mem : Memory → SProp 𝓤) (run : Routine → Fun 𝓤) where
   abbrev Of-session-objects-find-object : Contract 𝓤
@@ -175,35 +175,36 @@ module _ {M : Type 1} (𝓤 : URA M) (H : Heap 𝓤) (A : Atoms 𝓤) (mem : Mem
   abbrev Of-moves-write-move : Contract 𝓤
   Of-moves-write-move = tripleOf 𝓤 H A moves-write-move.signature (moves-write-move.spec 𝓤 H A mem run)
 
-module _ {M : Type 1} (𝓤 : URA M) (H : Heap 𝓤) (A : Atoms 𝓤) (W : Given 𝓤 H A) (mem : Memory → SProp 𝓤) (run : Routine → Fun 𝓤) (κ₁ : Lft) (q₁ : Share) (b₁ o₁ : ℕ) (γ₁ : GName) (sessions : List (List ℕ)) (κ₂ : Lft) (q₂ : Share) (b₂ o₂ : ℕ) (γ₂ : GName) (objects : List Object) (id : ℕ) (number : ObjectNumber) (body : Span)
-    (room₁ : Room (Array u64 8) (length sessions)) (room₂ : Room Object-t.the-row (length objects)) (id-is : Is (u8-p .row) id (u8-p .val id ∷ [])) (number-is : Is (ObjectNumber-p .row) number (ObjectNumber-p .val number ∷ [])) (body-is : Is (Span-p .row) body (Span-p .val body ∷ [])) where
+module _ {M : Type 1} (𝓤 : URA M) (H : Heap 𝓤) (A : Atoms 𝓤) (W : Given 𝓤 H A) (mem : Memory → SProp 𝓤) (run : Routine → Fun 𝓤) (κ₁ : Lft) (q₁ : Share) (b₁ o₁ : ℕ) (γ₁ : GName) (sessions : List (List ℕ)) (κ₂ : Lft) (q₂ : Share) (b₂ o₂ : ℕ) (γ₂ : GName) (objects : List Object) (id : ℕ) (number : ObjectNumber) (body : Span) (may_write : Bool)
+    (room₁ : Room (Array u64 8) (length sessions)) (room₂ : Room Object-t.the-row (length objects)) (id-is : Is (u8-p .row) id (u8-p .val id ∷ [])) (number-is : Is (ObjectNumber-p .row) number (ObjectNumber-p .val number ∷ [])) (body-is : Is (Span-p .row) body (Span-p .val body ∷ [])) (may_write-is : Is (bool-p .row) may_write (bool-p .val may_write ∷ [])) where
   abbrev n₁ : ℕ
   n₁ = length sessions
 
   abbrev n₂ : ℕ
   n₂ = length objects
 
-  abbrev x : RefT (List (List ℕ)) × (RefT (List Object) × (u8-p .row .Denot × (ObjectNumber-p .row .Denot × (Span-p .row .Denot × (Unit {0})))))
-  x = (at-list b₁ o₁ γ₁ sessions, (at-list b₂ o₂ γ₂ objects, (id, (number, (body, tt)))))
+  abbrev x : RefT (List (List ℕ)) × (RefT (List Object) × (u8-p .row .Denot × (ObjectNumber-p .row .Denot × (Span-p .row .Denot × (bool-p .row .Denot × (Unit {0}))))))
+  x = (at-list b₁ o₁ γ₁ sessions, (at-list b₂ o₂ γ₂ objects, (id, (number, (body, (may_write, tt))))))
 
   abbrev at : Vals f.signature (κ₁, (κ₂, tt))
-  at = (sliceVal (b₁, o₁) n₁ ∷ [], (sliceVal (b₂, o₂) n₂ ∷ [], (u8-p .val id ∷ [], (ObjectNumber-p .val number ∷ [], (Span-p .val body ∷ [], tt)))))
+  at = (sliceVal (b₁, o₁) n₁ ∷ [], (sliceVal (b₂, o₂) n₂ ∷ [], (u8-p .val id ∷ [], (ObjectNumber-p .val number ∷ [], (Span-p .val body ∷ [], (bool-p .val may_write ∷ [], tt))))))
 
   abbrev Post : Val → SProp 𝓤
   Post = walkOf 𝓤 H A f.ended stayed (f.clauses 𝓤 H A mem run) .post (((κ₁, (κ₂, tt)), (q₁, (q₂, tt)), tt, x, at), tt)
 
-  exits : (r : Move) → (r ≡ writeMove number body (foundObject (sessions) (objects) id number)) → Is (Move-p .row) r (Move-p .val r ∷ []) → ent 𝓤 (⋆ 𝓤 H A (‵ (ShrSlice (named 0) κ₁ (Array u64 8) .own (at-list b₁ o₁ γ₁ sessions) (sliceVal (b₁, o₁) n₁ ∷ [])) ∷ ‵ (flft κ₁ q₁) ∷ ‵ (ShrSlice (named 1) κ₂ Object-t.the-row .own (at-list b₂ o₂ γ₂ objects) (sliceVal (b₂, o₂) n₂ ∷ [])) ∷ ‵ (flft κ₂ q₂) ∷ [])) (Post (Move-p .val r))
+  exits : (r : Move) → (r ≡ writeMove may_write number body (foundObject (sessions) (objects) id number)) → Is (Move-p .row) r (Move-p .val r ∷ []) → ent 𝓤 (⋆ 𝓤 H A (‵ (ShrSlice (named 0) κ₁ (Array u64 8) .own (at-list b₁ o₁ γ₁ sessions) (sliceVal (b₁, o₁) n₁ ∷ [])) ∷ ‵ (flft κ₁ q₁) ∷ ‵ (ShrSlice (named 1) κ₂ Object-t.the-row .own (at-list b₂ o₂ γ₂ objects) (sliceVal (b₂, o₂) n₂ ∷ [])) ∷ ‵ (flft κ₂ q₂) ∷ [])) (Post (Move-p .val r))
   exits r said r-is =
       qed W (‵ (ShrSlice (named 0) κ₁ (Array u64 8) .own (at-list b₁ o₁ γ₁ sessions) (sliceVal (b₁, o₁) n₁ ∷ [])) ∷ ‵ (flft κ₁ q₁) ∷ ‵ (ShrSlice (named 1) κ₂ Object-t.the-row .own (at-list b₂ o₂ γ₂ objects) (sliceVal (b₂, o₂) n₂ ∷ [])) ∷ ‵ (flft κ₂ q₂) ∷ []) ∵
-      suffices ! _ (ends-at 𝓤 H A f.ended stayed (f.clauses 𝓤 H A mem run) W (((κ₁, (κ₂, tt)), (q₁, (q₂, tt)), tt, x, at), tt) (Move-p .val r) r (tt, (tt, (tt, (tt, (tt, tt))))) (tt, (tt, (tt, (tt, (tt, tt)))))) $ says ! said $ nothing ! $ move ! (4 ∷ 0 ∷ []) $ join ! $ move ! (2 ∷ 0 ∷ []) $ join ! $
+      suffices ! _ (ends-at 𝓤 H A f.ended stayed (f.clauses 𝓤 H A mem run) W (((κ₁, (κ₂, tt)), (q₁, (q₂, tt)), tt, x, at), tt) (Move-p .val r) r (tt, (tt, (tt, (tt, (tt, (tt, tt)))))) (tt, (tt, (tt, (tt, (tt, (tt, tt))))))) $ says ! said $ nothing ! $ move ! (4 ∷ 0 ∷ []) $ join ! $ move ! (2 ∷ 0 ∷ []) $ join ! $
       frame ! $ nothing ! $
+      owned ! (bool-p .row) (Is (bool-p .row)) (bool-p .makes 𝓤 H A W) may_write (bool-p .val may_write ∷ []) may_write-is $ fjoin ! $
       owned ! (Span-p .row) (Is (Span-p .row)) (Span-p .makes 𝓤 H A W) body (Span-p .val body ∷ []) body-is $ fjoin ! $
       owned ! (ObjectNumber-p .row) (Is (ObjectNumber-p .row)) (ObjectNumber-p .makes 𝓤 H A W) number (ObjectNumber-p .val number ∷ []) number-is $ fjoin ! $
       owned ! (u8-p .row) (Is (u8-p .row)) (u8-p .makes 𝓤 H A W) id (u8-p .val id ∷ []) id-is $ fjoin ! $ move ! (2 ∷ 0 ∷ []) $ fjoin ! $ move ! (1 ∷ 0 ∷ []) $ fjoin ! $
       frame ! $
       owned ! (Move-p .row) (Is (Move-p .row)) (Move-p .makes 𝓤 H A W) r _ r-is $ done !
 
-  module _ (𝓣 : Tables 𝓤 H) (known-session-objects-find-object : Triple 𝓤 (𝓣 .C #session-objects-find-object) (Of-session-objects-find-object 𝓤 H A mem run)) (known-moves-write-move : Triple 𝓤 (𝓣 .C #moves-write-move) (Of-moves-write-move 𝓤 H A mem run)) (l₀ l₁ l₂ l₃ l₄ l₅ l₆ : ℕ) where
+  module _ (𝓣 : Tables 𝓤 H) (known-session-objects-find-object : Triple 𝓤 (𝓣 .C #session-objects-find-object) (Of-session-objects-find-object 𝓤 H A mem run)) (known-moves-write-move : Triple 𝓤 (𝓣 .C #moves-write-move) (Of-moves-write-move 𝓤 H A mem run)) (l₀ l₁ l₂ l₃ l₄ l₅ l₆ l₇ : ℕ) where
     abbrev C : Calls 𝓤 H
     C = 𝓣 .C
 
@@ -214,9 +215,9 @@ module _ {M : Type 1} (𝓤 : URA M) (H : Heap 𝓤) (A : Atoms 𝓤) (W : Given
     fm = fmOf 𝓤 H (W .laws) 𝓣
 
     abbrev En : Env 𝓤 H
-    En = (Move-l.mir, l₀) ∷ ((sliceTy (tyRef (named 0) imm (pointee ((Array u64 8) .written)))), l₁) ∷ ((sliceTy (tyRef (named 1) imm (pointee (Object-t.the-row .written)))), l₂) ∷ ((tyInt w8), l₃) ∷ (ObjectNumber-l.mir, l₄) ∷ (Span-l.mir, l₅) ∷ (Found-l.mir, l₆) ∷ []
+    En = (Move-l.mir, l₀) ∷ ((sliceTy (tyRef (named 0) imm (pointee ((Array u64 8) .written)))), l₁) ∷ ((sliceTy (tyRef (named 1) imm (pointee (Object-t.the-row .written)))), l₂) ∷ ((tyInt w8), l₃) ∷ (ObjectNumber-l.mir, l₄) ∷ (Span-l.mir, l₅) ∷ (tyBool, l₆) ∷ (Found-l.mir, l₇) ∷ []
 
-    begins : Sq W (‵ (ShrSlice (named 0) κ₁ (Array u64 8) .own (at-list b₁ o₁ γ₁ sessions) (sliceVal (b₁, o₁) n₁ ∷ [])) ∷ ‵ (flft κ₁ q₁) ∷ ‵ (ShrSlice (named 0) κ₂ Object-t.the-row .own (at-list b₂ o₂ γ₂ objects) (sliceVal (b₂, o₂) n₂ ∷ [])) ∷ ‵ (flft κ₂ q₂) ∷ free 𝓤 Found-l.mir l₆ (full 𝓤 Span-l.mir l₅ (Span-p .val body) (full 𝓤 ObjectNumber-l.mir l₄ (ObjectNumber-p .val number) (full 𝓤 (tyInt w8) l₃ (u8-p .val id) (full 𝓤 (sliceTy (tyRef (named 1) imm (pointee (Object-t.the-row .written)))) l₂ (sliceVal (b₂, o₂) n₂) (full 𝓤 (sliceTy (tyRef (named 0) imm (pointee ((Array u64 8) .written)))) l₁ (sliceVal (b₁, o₁) n₁) (free 𝓤 Move-l.mir l₀ ([])))))))) (runs C Λ En mir.t-1 (atRet En Post))
+    begins : Sq W (‵ (ShrSlice (named 0) κ₁ (Array u64 8) .own (at-list b₁ o₁ γ₁ sessions) (sliceVal (b₁, o₁) n₁ ∷ [])) ∷ ‵ (flft κ₁ q₁) ∷ ‵ (ShrSlice (named 0) κ₂ Object-t.the-row .own (at-list b₂ o₂ γ₂ objects) (sliceVal (b₂, o₂) n₂ ∷ [])) ∷ ‵ (flft κ₂ q₂) ∷ free 𝓤 Found-l.mir l₇ (full 𝓤 tyBool l₆ (bool-p .val may_write) (full 𝓤 Span-l.mir l₅ (Span-p .val body) (full 𝓤 ObjectNumber-l.mir l₄ (ObjectNumber-p .val number) (full 𝓤 (tyInt w8) l₃ (u8-p .val id) (full 𝓤 (sliceTy (tyRef (named 1) imm (pointee (Object-t.the-row .written)))) l₂ (sliceVal (b₂, o₂) n₂) (full 𝓤 (sliceTy (tyRef (named 0) imm (pointee ((Array u64 8) .written)))) l₁ (sliceVal (b₁, o₁) n₁) (free 𝓤 Move-l.mir l₀ ([]))))))))) (runs C Λ En mir.t-1 (atRet En Post))
     begins =
         -- 1: sessions::session_objects::find_object
         copies-shr ! (Array u64 8) b₁ o₁ sessions n₁ $ move ! (3 ∷ 4 ∷ []) $
@@ -224,7 +225,7 @@ module _ {M : Type 1} (𝓤 : URA M) (H : Heap 𝓤) (A : Atoms 𝓤) (W : Given
         use1 W (raw (toks 𝓤 A 2 ((κ₁, (κ₂, tt))) ((q₁, (q₂, tt))))) (id⊢ 𝓤 _) $ nothing ! $
         owned ! (ObjectNumber-p .row) (Is (ObjectNumber-p .row)) (ObjectNumber-p .makes 𝓤 H A W) number (ObjectNumber-p .val number ∷ []) number-is $ fjoin ! $
         owned ! (u8-p .row) (Is (u8-p .row)) (u8-p .makes 𝓤 H A W) id (u8-p .val id ∷ []) id-is $ fjoin ! $ move ! (2 ∷ 0 ∷ []) $ fjoin ! $ move ! (3 ∷ 0 ∷ []) $ fjoin ! $ move ! (1 ∷ 0 ∷ []) $
-        calls-any ! fm 2 [] (session-objects-find-object.signature .params) (session-objects-find-object.ended .kept) Found-p (session-objects-find-object.clauses 𝓤 H A mem run) known-session-objects-find-object (κ₁, (κ₂, tt)) (q₁, (q₂, tt)) tt (at-list b₁ o₁ γ₁ sessions, (at-list b₂ o₂ γ₂ objects, (id, (number, tt)))) (sliceVal (b₁, o₁) n₁ ∷ [], (sliceVal (b₂, o₂) n₂ ∷ [], (u8-p .val id ∷ [], (ObjectNumber-p .val number ∷ [], tt)))) tt (foundObject (sessions) (objects) id number) (λ ws-1. Unit {0}) (id⊢ 𝓤 _) (λ r ws-1. fact-mono 𝓤 (r ≡ foundObject (sessions) (objects) id number) ((r ≡ (foundObject (sessions) (objects) id number)) × (Unit {0})) (λ e. (e, tt))) (λ _. (and-then ! (load ! (from ! (stop !)) (look ! 13 refl)) (and-then ! (load ! (from ! (stop !)) (look ! 11 refl)) (and-then ! (load ! (from ! (stop !)) (look ! 9 refl)) (and-then ! (load ! (from ! (stop !)) (look ! 7 refl)) (no-more !)))))) (λ ws-1 said-1 is-1.
+        calls-any ! fm 2 [] (session-objects-find-object.signature .params) (session-objects-find-object.ended .kept) Found-p (session-objects-find-object.clauses 𝓤 H A mem run) known-session-objects-find-object (κ₁, (κ₂, tt)) (q₁, (q₂, tt)) tt (at-list b₁ o₁ γ₁ sessions, (at-list b₂ o₂ γ₂ objects, (id, (number, tt)))) (sliceVal (b₁, o₁) n₁ ∷ [], (sliceVal (b₂, o₂) n₂ ∷ [], (u8-p .val id ∷ [], (ObjectNumber-p .val number ∷ [], tt)))) tt (foundObject (sessions) (objects) id number) (λ ws-1. Unit {0}) (id⊢ 𝓤 _) (λ r ws-1. fact-mono 𝓤 (r ≡ foundObject (sessions) (objects) id number) ((r ≡ (foundObject (sessions) (objects) id number)) × (Unit {0})) (λ e. (e, tt))) (λ _. (and-then ! (load ! (from ! (stop !)) (look ! 15 refl)) (and-then ! (load ! (from ! (stop !)) (look ! 13 refl)) (and-then ! (load ! (from ! (stop !)) (look ! 11 refl)) (and-then ! (load ! (from ! (stop !)) (look ! 9 refl)) (no-more !)))))) (λ ws-1 said-1 is-1.
         use1 W ((‵ (flft κ₁ q₁) ⊛ (‵ (flft κ₂ q₂) ⊛ ‵ ftrue))) (id⊢ 𝓤 _) $ split ! $ move ! (1 ∷ []) $ split ! $ move ! (3 ∷ []) $ fsplit ! $ move ! (1 ∷ []) $ fsplit ! $ drop ! $ drop ! $ drop ! $ move ! (1 ∷ []) $ drop ! $
         land ! (from ! (stop !)) (init ! 4 refl (Found-p .typed 𝓤 H A W (foundObject (sessions) (objects) id number) is-1)) $
         -- 2: moves::moves::write_move
@@ -232,27 +233,28 @@ module _ {M : Type 1} (𝓤 : URA M) (H : Heap 𝓤) (A : Atoms 𝓤) (W : Given
         use1 W (raw (toks 𝓤 A 0 (tt) (tt))) (id⊢ 𝓤 _) $ nothing ! $
         owned ! (Found-p .row) (Is (Found-p .row)) (Found-p .makes 𝓤 H A W) (foundObject (sessions) (objects) id number) (Found-p .val (foundObject (sessions) (objects) id number) ∷ []) is-1 $ fjoin ! $
         owned ! (Span-p .row) (Is (Span-p .row)) (Span-p .makes 𝓤 H A W) body (Span-p .val body ∷ []) body-is $ fjoin ! $
-        owned ! (ObjectNumber-p .row) (Is (ObjectNumber-p .row)) (ObjectNumber-p .makes 𝓤 H A W) number (ObjectNumber-p .val number ∷ []) number-is $ fjoin ! $ move ! (1 ∷ 0 ∷ []) $
-        calls-any ! fm 0 [] (moves-write-move.signature .params) (moves-write-move.ended .kept) Move-p (moves-write-move.clauses 𝓤 H A mem run) known-moves-write-move tt tt tt (number, (body, (foundObject (sessions) (objects) id number, tt))) (ObjectNumber-p .val number ∷ [], (Span-p .val body ∷ [], (Found-p .val (foundObject (sessions) (objects) id number) ∷ [], tt))) tt (writeMove number body (foundObject (sessions) (objects) id number)) (λ ws-2. Unit {0}) (id⊢ 𝓤 _) (λ r ws-2. fact-mono 𝓤 (r ≡ writeMove number body (foundObject (sessions) (objects) id number)) ((r ≡ (writeMove number body (foundObject (sessions) (objects) id number))) × (Unit {0})) (λ e. (e, tt))) (λ _. (and-then ! (load ! (from ! (stop !)) (look ! 9 refl)) (and-then ! (load ! (from ! (stop !)) (look ! 7 refl)) (and-then ! (load ! (from ! (stop !)) (look ! 5 refl)) (no-more !))))) (λ ws-2 said-2 is-2.
+        owned ! (ObjectNumber-p .row) (Is (ObjectNumber-p .row)) (ObjectNumber-p .makes 𝓤 H A W) number (ObjectNumber-p .val number ∷ []) number-is $ fjoin ! $
+        owned ! (bool-p .row) (Is (bool-p .row)) (bool-p .makes 𝓤 H A W) may_write (bool-p .val may_write ∷ []) may_write-is $ fjoin ! $ move ! (1 ∷ 0 ∷ []) $
+        calls-any ! fm 0 [] (moves-write-move.signature .params) (moves-write-move.ended .kept) Move-p (moves-write-move.clauses 𝓤 H A mem run) known-moves-write-move tt tt tt (may_write, (number, (body, (foundObject (sessions) (objects) id number, tt)))) (bool-p .val may_write ∷ [], (ObjectNumber-p .val number ∷ [], (Span-p .val body ∷ [], (Found-p .val (foundObject (sessions) (objects) id number) ∷ [], tt)))) tt (writeMove may_write number body (foundObject (sessions) (objects) id number)) (λ ws-2. Unit {0}) (id⊢ 𝓤 _) (λ r ws-2. fact-mono 𝓤 (r ≡ writeMove may_write number body (foundObject (sessions) (objects) id number)) ((r ≡ (writeMove may_write number body (foundObject (sessions) (objects) id number))) × (Unit {0})) (λ e. (e, tt))) (λ _. (and-then ! (load ! (from ! (stop !)) (look ! 7 refl)) (and-then ! (load ! (from ! (stop !)) (look ! 11 refl)) (and-then ! (load ! (from ! (stop !)) (look ! 9 refl)) (and-then ! (load ! (from ! (stop !)) (look ! 5 refl)) (no-more !)))))) (λ ws-2 said-2 is-2.
         drop ! $ drop ! $
-        land ! (from ! (stop !)) (init ! 16 refl (Move-p .typed 𝓤 H A W (writeMove number body (foundObject (sessions) (objects) id number)) is-2)) $
-        returns ! (look ! 16 refl) $ forget ! 4 refl $ forget ! 6 refl $ forget ! 8 refl $ forget ! 10 refl $ forget ! 12 refl $ forget ! 14 refl $ forget ! 16 refl $ move ! (16 ∷ 17 ∷ []) $ free1 ! $ move ! (14 ∷ 15 ∷ []) $ free1 ! $ move ! (12 ∷ 13 ∷ []) $ free1 ! $ move ! (10 ∷ 11 ∷ []) $ free1 ! $ move ! (8 ∷ 9 ∷ []) $ free1 ! $ move ! (6 ∷ 7 ∷ []) $ free1 ! $ move ! (4 ∷ 5 ∷ []) $ free1 ! $ free0 ! $ move ! (3 ∷ 1 ∷ 2 ∷ 0 ∷ []) $
-        by ! (exits (writeMove number body (foundObject (sessions) (objects) id number)) (refl) is-2)))
+        land ! (from ! (stop !)) (init ! 18 refl (Move-p .typed 𝓤 H A W (writeMove may_write number body (foundObject (sessions) (objects) id number)) is-2)) $
+        returns ! (look ! 18 refl) $ forget ! 4 refl $ forget ! 6 refl $ forget ! 8 refl $ forget ! 10 refl $ forget ! 12 refl $ forget ! 14 refl $ forget ! 16 refl $ forget ! 18 refl $ move ! (18 ∷ 19 ∷ []) $ free1 ! $ move ! (16 ∷ 17 ∷ []) $ free1 ! $ move ! (14 ∷ 15 ∷ []) $ free1 ! $ move ! (12 ∷ 13 ∷ []) $ free1 ! $ move ! (10 ∷ 11 ∷ []) $ free1 ! $ move ! (8 ∷ 9 ∷ []) $ free1 ! $ move ! (6 ∷ 7 ∷ []) $ free1 ! $ move ! (4 ∷ 5 ∷ []) $ free1 ! $ free0 ! $ move ! (3 ∷ 1 ∷ 2 ∷ 0 ∷ []) $
+        by ! (exits (writeMove may_write number body (foundObject (sessions) (objects) id number)) (refl) is-2)))
 
   module _ (𝓣 : Tables 𝓤 H) (known-session-objects-find-object : Triple 𝓤 (𝓣 .C #session-objects-find-object) (Of-session-objects-find-object 𝓤 H A mem run)) (known-moves-write-move : Triple 𝓤 (𝓣 .C #moves-write-move) (Of-moves-write-move 𝓤 H A mem run)) where
-    walk : ent 𝓤 (onEntry 𝓤 H A f.signature (κ₁, (κ₂, tt)) (q₁, (q₂, tt)) x at) (WpFn 𝓤 H (𝓣 .C) (𝓣 .Λ) code.function (sliceVal (b₁, o₁) n₁ ∷ sliceVal (b₂, o₂) n₂ ∷ u8-p .val id ∷ ObjectNumber-p .val number ∷ Span-p .val body ∷ []) Post)
+    walk : ent 𝓤 (onEntry 𝓤 H A f.signature (κ₁, (κ₂, tt)) (q₁, (q₂, tt)) x at) (WpFn 𝓤 H (𝓣 .C) (𝓣 .Λ) code.function (sliceVal (b₁, o₁) n₁ ∷ sliceVal (b₂, o₂) n₂ ∷ u8-p .val id ∷ ObjectNumber-p .val number ∷ Span-p .val body ∷ bool-p .val may_write ∷ []) Post)
     walk =
-        qed W ((‵ (flft κ₁ q₁) ⊛ (‵ (flft κ₂ q₂) ⊛ ‵ ftrue)) ∷ ‵ (owns (ShrSlice (named 0) κ₁ (Array u64 8) ∷ ShrSlice (named 1) κ₂ Object-t.the-row ∷ u8-p .row ∷ ObjectNumber-p .row ∷ Span-p .row ∷ []) x at) ∷ []) ∵ enter ! (𝓣 .C) (𝓣 .Λ) code.function (sliceVal (b₁, o₁) n₁ ∷ sliceVal (b₂, o₂) n₂ ∷ u8-p .val id ∷ ObjectNumber-p .val number ∷ Span-p .val body ∷ []) _ $
-        alloc1 ! (λ l₀. alloc1 ! (λ l₁. alloc1 ! (λ l₂. alloc1 ! (λ l₃. alloc1 ! (λ l₄. alloc1 ! (λ l₅. alloc1 ! (λ l₆. alloc0 ! $ params1 ! $ pass1 ! (init ! 10 refl (tt, (tt, (record { fits = room₁ .0 }, tt)))) $ pass1 ! (init ! 8 refl (tt, (tt, (record { fits = room₂ .0 }, tt)))) $ pass1 ! (init ! 6 refl (u8-p .typed 𝓤 H A W id id-is)) $ pass1 ! (init ! 4 refl (ObjectNumber-p .typed 𝓤 H A W number number-is)) $ pass1 ! (init ! 2 refl (Span-p .typed 𝓤 H A W body body-is)) $ pass0 ! $ move ! (15 ∷ []) $ fsplit ! $ move ! (1 ∷ []) $ fsplit ! $ move ! (17 ∷ []) $ split ! $ move ! (1 ∷ []) $ split ! $ move ! (1 ∷ []) $ drop ! $ move ! (3 ∷ []) $ drop ! $ move ! (3 ∷ 1 ∷ 2 ∷ 0 ∷ 4 ∷ 5 ∷ 6 ∷ 7 ∷ 8 ∷ 9 ∷ 10 ∷ 11 ∷ 12 ∷ 13 ∷ 14 ∷ 15 ∷ 16 ∷ 17 ∷ []) $
-        begins 𝓣 known-session-objects-find-object known-moves-write-move l₀ l₁ l₂ l₃ l₄ l₅ l₆)))))))
+        qed W ((‵ (flft κ₁ q₁) ⊛ (‵ (flft κ₂ q₂) ⊛ ‵ ftrue)) ∷ ‵ (owns (ShrSlice (named 0) κ₁ (Array u64 8) ∷ ShrSlice (named 1) κ₂ Object-t.the-row ∷ u8-p .row ∷ ObjectNumber-p .row ∷ Span-p .row ∷ bool-p .row ∷ []) x at) ∷ []) ∵ enter ! (𝓣 .C) (𝓣 .Λ) code.function (sliceVal (b₁, o₁) n₁ ∷ sliceVal (b₂, o₂) n₂ ∷ u8-p .val id ∷ ObjectNumber-p .val number ∷ Span-p .val body ∷ bool-p .val may_write ∷ []) _ $
+        alloc1 ! (λ l₀. alloc1 ! (λ l₁. alloc1 ! (λ l₂. alloc1 ! (λ l₃. alloc1 ! (λ l₄. alloc1 ! (λ l₅. alloc1 ! (λ l₆. alloc1 ! (λ l₇. alloc0 ! $ params1 ! $ pass1 ! (init ! 12 refl (tt, (tt, (record { fits = room₁ .0 }, tt)))) $ pass1 ! (init ! 10 refl (tt, (tt, (record { fits = room₂ .0 }, tt)))) $ pass1 ! (init ! 8 refl (u8-p .typed 𝓤 H A W id id-is)) $ pass1 ! (init ! 6 refl (ObjectNumber-p .typed 𝓤 H A W number number-is)) $ pass1 ! (init ! 4 refl (Span-p .typed 𝓤 H A W body body-is)) $ pass1 ! (init ! 2 refl (bool-p .typed 𝓤 H A W may_write may_write-is)) $ pass0 ! $ move ! (17 ∷ []) $ fsplit ! $ move ! (1 ∷ []) $ fsplit ! $ move ! (19 ∷ []) $ split ! $ move ! (1 ∷ []) $ split ! $ move ! (1 ∷ []) $ drop ! $ move ! (3 ∷ []) $ drop ! $ move ! (3 ∷ 1 ∷ 2 ∷ 0 ∷ 4 ∷ 5 ∷ 6 ∷ 7 ∷ 8 ∷ 9 ∷ 10 ∷ 11 ∷ 12 ∷ 13 ∷ 14 ∷ 15 ∷ 16 ∷ 17 ∷ 18 ∷ 19 ∷ []) $
+        begins 𝓣 known-session-objects-find-object known-moves-write-move l₀ l₁ l₂ l₃ l₄ l₅ l₆ l₇))))))))
 
 module _ {M : Type 1} (𝓤 : URA M) (H : Heap 𝓤) (A : Atoms 𝓤) (W : Given 𝓤 H A) (mem : Memory → SProp 𝓤) (run : Routine → Fun 𝓤) (𝓣 : Tables 𝓤 H) (known-session-objects-find-object : Triple 𝓤 (𝓣 .C #session-objects-find-object) (Of-session-objects-find-object 𝓤 H A mem run)) (known-moves-write-move : Triple 𝓤 (𝓣 .C #moves-write-move) (Of-moves-write-move 𝓤 H A mem run)) where
   walks : Walks 𝓤 H A f.ended stayed (WpFn 𝓤 H (𝓣 .C) (𝓣 .Λ) code.function) (f.clauses 𝓤 H A mem run)
-  walks = walked 𝓤 H A f.ended stayed (f.clauses 𝓤 H A mem run) (WpFn 𝓤 H (𝓣 .C) (𝓣 .Λ) code.function) (λ κs. (slice-vals, (slice-vals, ((λ y. u8-p .val y ∷ []), ((λ y. ObjectNumber-p .val y ∷ []), ((λ y. Span-p .val y ∷ []), tt)))))) (λ κs. (shr-slice-tells (named 0) (κs .0) (Array u64 8), (shr-slice-tells (named 1) (κs .1 .0) Object-t.the-row, (u8-p .tells, (ObjectNumber-p .tells, (Span-p .tells, tt))))))
-      (λ κs qs bounds a g are. via 𝓤 _ (fst∗ 𝓤 _ (emp 𝓤)) (walk 𝓤 H A W mem run (κs .0) (qs .0) (a .0 .ptr .0) (a .0 .ptr .1) (a .0 .name) (a .0 .now) (κs .1 .0) (qs .1 .0) (a .1 .0 .ptr .0) (a .1 .0 .ptr .1) (a .1 .0 .name) (a .1 .0 .now) (a .1 .1 .0) (a .1 .1 .1 .0) (a .1 .1 .1 .1 .0) (are .0 .0 .1) (are .1 .0 .0 .1) (are .1 .1 .0) (are .1 .1 .1 .0) (are .1 .1 .1 .1 .0) 𝓣 known-session-objects-find-object known-moves-write-move))
+  walks = walked 𝓤 H A f.ended stayed (f.clauses 𝓤 H A mem run) (WpFn 𝓤 H (𝓣 .C) (𝓣 .Λ) code.function) (λ κs. (slice-vals, (slice-vals, ((λ y. u8-p .val y ∷ []), ((λ y. ObjectNumber-p .val y ∷ []), ((λ y. Span-p .val y ∷ []), ((λ y. bool-p .val y ∷ []), tt))))))) (λ κs. (shr-slice-tells (named 0) (κs .0) (Array u64 8), (shr-slice-tells (named 1) (κs .1 .0) Object-t.the-row, (u8-p .tells, (ObjectNumber-p .tells, (Span-p .tells, (bool-p .tells, tt)))))))
+      (λ κs qs bounds a g are. via 𝓤 _ (fst∗ 𝓤 _ (emp 𝓤)) (walk 𝓤 H A W mem run (κs .0) (qs .0) (a .0 .ptr .0) (a .0 .ptr .1) (a .0 .name) (a .0 .now) (κs .1 .0) (qs .1 .0) (a .1 .0 .ptr .0) (a .1 .0 .ptr .1) (a .1 .0 .name) (a .1 .0 .now) (a .1 .1 .0) (a .1 .1 .1 .0) (a .1 .1 .1 .1 .0) (a .1 .1 .1 .1 .1 .0) (are .0 .0 .1) (are .1 .0 .0 .1) (are .1 .1 .0) (are .1 .1 .1 .0) (are .1 .1 .1 .1 .0) (are .1 .1 .1 .1 .1 .0) 𝓣 known-session-objects-find-object known-moves-write-move))
 
   meets : Meets 𝓤 H A f.signature (WpFn 𝓤 H (𝓣 .C) (𝓣 .Λ) code.function) (f.spec 𝓤 H A mem run)
-  meets = walk-meets 𝓤 H A f.ended stayed W (goes-none-slice 𝓤 H A W 2 (0 ∷ []) tt (plain (λ _. (Array u64 8))) yes, (goes-none-slice 𝓤 H A W 2 (1 ∷ []) tt (plain (λ _. Object-t.the-row)) yes, (goes-none 𝓤 H A W 2 (λ _. u8-p .row) yes (λ κs x f. refl), (goes-none 𝓤 H A W 2 (λ _. ObjectNumber-p .row) yes (λ κs x f. refl), (goes-none 𝓤 H A W 2 (λ _. Span-p .row) yes (λ κs x f. refl), tt))))) (f.clauses 𝓤 H A mem run) (WpFn 𝓤 H (𝓣 .C) (𝓣 .Λ) code.function) (WpFn-mono 𝓤 H (W .laws) 𝓣 code.function) walks
+  meets = walk-meets 𝓤 H A f.ended stayed W (goes-none-slice 𝓤 H A W 2 (0 ∷ []) tt (plain (λ _. (Array u64 8))) yes, (goes-none-slice 𝓤 H A W 2 (1 ∷ []) tt (plain (λ _. Object-t.the-row)) yes, (goes-none 𝓤 H A W 2 (λ _. u8-p .row) yes (λ κs x f. refl), (goes-none 𝓤 H A W 2 (λ _. ObjectNumber-p .row) yes (λ κs x f. refl), (goes-none 𝓤 H A W 2 (λ _. Span-p .row) yes (λ κs x f. refl), (goes-none 𝓤 H A W 2 (λ _. bool-p .row) yes (λ κs x f. refl), tt)))))) (f.clauses 𝓤 H A mem run) (WpFn 𝓤 H (𝓣 .C) (𝓣 .Λ) code.function) (WpFn-mono 𝓤 H (W .laws) 𝓣 code.function) walks
 
 pub write-data-spec : {M : Type 1} → stated.statement M
 unfolding code.routine tablesOf

@@ -52,11 +52,14 @@ use Rattle.walk.proofs.Steps.{past, one, yes-of, no-of, in-block, arm-of, holds
 use borrow.Rule.Slice.PartMut.{midOf, putMid}
 use Rattle.walk.proofs.Parts.{part-len, lends-part, backs-part, parts-shr}
 use Rattle.walk.proofs.Arrays.{rep-is, lends-array, backs-array}
-use Rattle.sessions.specs.Setup.{setUpOf}
+use mathlib.Core.Bool.{cond}
+use Rattle.hours.specs.Windows.{windowsOf}
+use Rattle.hours.specs.Week.{keptHours, firstOpenOf}
+use Rattle.sessions.specs.Setup.{leaves}
 use Rattle.sessions.specs.Calls.{setUpTables}
 use Rattle.sessions.specs.ObjectList.{listOf, listOut}
 use Rattle.agent.specs.Lent.{lent}
-use Rattle.agent.specs.Host.{setUpAs, incomingOf, answerOf, idleOf, removedAs, removedBy, removedRows, sweptBy, sweptRows, sweptOut}
+use Rattle.agent.specs.Host.{setUpJudged, setUpAs, incomingOf, answerOf, idleOf, removedAs, removedBy, removedRows, sweptBy, sweptRows, sweptOut}
 use Rattle.sessions.specs.declared.objects.Object.{Object}
 use Rattle.sessions.proofs.objects.Object as Object-t
 use Rattle.sessions.proofs.objects.Object.Laws as Object-l
@@ -80,6 +83,9 @@ use Rattle.moves.specs.declared.proxy.Task.{Task}
 use Rattle.moves.proofs.proxy.Task as Task-t
 use Rattle.moves.proofs.proxy.Task.Laws as Task-l
 use Rattle.moves.specs.declared.proxy.Task.the-variants.{Creating as Task-Creating, Writing as Task-Writing, Reading as Task-Reading, Deleting as Task-Deleting}
+use Rattle.agent.specs.declared.state.Moment.{Moment}
+use Rattle.agent.proofs.state.Moment as Moment-t
+use Rattle.agent.proofs.state.Moment.Laws as Moment-l
 use Rattle.replay.specs.declared.command.Command.{Command}
 use Rattle.replay.proofs.command.Command as Command-t
 use Rattle.replay.proofs.command.Command.Laws as Command-l
@@ -103,7 +109,7 @@ use Rattle.codec.proofs.layouts.Span.Laws as Span-l
 use Rattle.codec.specs.declared.refusals.Refusal.{Refusal}
 use Rattle.codec.proofs.refusals.Refusal as Refusal-t
 use Rattle.codec.proofs.refusals.Refusal.Laws as Refusal-l
-use Rattle.codec.specs.declared.refusals.Refusal.the-variants.{BufferTooShort as Refusal-BufferTooShort, UnknownSubmessageId as Refusal-UnknownSubmessageId, UnknownObjectKind as Refusal-UnknownObjectKind, UnknownStatusCode as Refusal-UnknownStatusCode, PayloadLengthMismatch as Refusal-PayloadLengthMismatch, SessionFull as Refusal-SessionFull, FragmentSizeZero as Refusal-FragmentSizeZero, EmptyPayload as Refusal-EmptyPayload, TooManyFragments as Refusal-TooManyFragments, FragmentNumber as Refusal-FragmentNumber, MissingFragments as Refusal-MissingFragments, TooLong as Refusal-TooLong, OutputTooShort as Refusal-OutputTooShort, StoreFull as Refusal-StoreFull, OutOfTurn as Refusal-OutOfTurn, OverLimit as Refusal-OverLimit, NotInFragments as Refusal-NotInFragments, IllFormed as Refusal-IllFormed}
+use Rattle.codec.specs.declared.refusals.Refusal.the-variants.{BufferTooShort as Refusal-BufferTooShort, UnknownSubmessageId as Refusal-UnknownSubmessageId, UnknownObjectKind as Refusal-UnknownObjectKind, UnknownStatusCode as Refusal-UnknownStatusCode, PayloadLengthMismatch as Refusal-PayloadLengthMismatch, SessionFull as Refusal-SessionFull, FragmentSizeZero as Refusal-FragmentSizeZero, EmptyPayload as Refusal-EmptyPayload, TooManyFragments as Refusal-TooManyFragments, FragmentNumber as Refusal-FragmentNumber, MissingFragments as Refusal-MissingFragments, TooLong as Refusal-TooLong, OutputTooShort as Refusal-OutputTooShort, StoreFull as Refusal-StoreFull, OutOfTurn as Refusal-OutOfTurn, OverLimit as Refusal-OverLimit, NotInFragments as Refusal-NotInFragments, IllFormed as Refusal-IllFormed, WindowFault as Refusal-WindowFault, NoSuchMinute as Refusal-NoSuchMinute}
 use Rattle.moves.specs.declared.proxy.BridgeAnswer.{BridgeAnswer}
 use Rattle.moves.proofs.proxy.BridgeAnswer as BridgeAnswer-t
 use Rattle.moves.proofs.proxy.BridgeAnswer.Laws as BridgeAnswer-l
@@ -169,8 +175,8 @@ Agent-p = record { row = Agent-t.the-row; val = LL.val Agent-t.the-type Agent-l.
 abbrev Waiting-p : Plain
 Waiting-p = record { row = Waiting-t.the-row; val = EL.val Waiting-t.the-type Waiting-l.the-laws; tells = EL.tells Waiting-t.the-type Waiting-l.the-laws; makes = λ 𝓤 H A W. EL.makes Waiting-t.the-type Waiting-l.the-plain 𝓤 H A; ty = Waiting-l.mir; typed = λ 𝓤 H A W x is. EL.lawful Waiting-t.the-type Waiting-l.the-laws 𝓤 H A W tt .typed x _ is .0; copies = λ 𝓤 H A W. EL.copy Waiting-t.the-type Waiting-l.the-copy 𝓤 H A W }
 
-abbrev Pending-of : ℕ → ℕ → ObjectNumber → Task → ℕ → ℕ → ℕ → ℕ → Pending
-Pending-of x0 x1 x2 x3 x4 x5 x6 x7 = record { «session_id» = x0; «stream_id» = x1; number = x2; task = x3; at = x4; time = x5; «left_at» = x6; «left_end» = x7 }
+abbrev Pending-of : ℕ → ℕ → ObjectNumber → Task → ℕ → Moment → ℕ → ℕ → Pending
+Pending-of x0 x1 x2 x3 x4 x5 x6 x7 = record { «session_id» = x0; «stream_id» = x1; number = x2; task = x3; at = x4; moment = x5; «left_at» = x6; «left_end» = x7 }
 
 abbrev Pending-p : Plain
 Pending-p = record { row = Pending-t.the-row; val = LL.val Pending-t.the-type Pending-l.the-laws; tells = LL.tells Pending-t.the-type Pending-l.the-laws; makes = λ 𝓤 H A W. LL.makes Pending-t.the-type Pending-l.the-plain 𝓤 H A; ty = Pending-l.mir; typed = λ 𝓤 H A W x is. LL.lawful Pending-t.the-type Pending-l.the-laws 𝓤 H A W .typed x _ is .0; copies = λ 𝓤 H A W. LL.copy Pending-t.the-type Pending-l.the-copy 𝓤 H A W }
@@ -178,8 +184,14 @@ Pending-p = record { row = Pending-t.the-row; val = LL.val Pending-t.the-type Pe
 abbrev Task-p : Plain
 Task-p = record { row = Task-t.the-row; val = EL.val Task-t.the-type Task-l.the-laws; tells = EL.tells Task-t.the-type Task-l.the-laws; makes = λ 𝓤 H A W. EL.makes Task-t.the-type Task-l.the-plain 𝓤 H A; ty = Task-l.mir; typed = λ 𝓤 H A W x is. EL.lawful Task-t.the-type Task-l.the-laws 𝓤 H A W tt .typed x _ is .0; copies = λ 𝓤 H A W. EL.copy Task-t.the-type Task-l.the-copy 𝓤 H A W }
 
-abbrev Command-of : ℕ → ℕ → ℕ → ℕ → Command
-Command-of x0 x1 x2 x3 = record { name = x0; first = x1; second = x2; count = x3 }
+abbrev Moment-of : ℕ → Bool → Moment
+Moment-of x0 x1 = record { time = x0; «is_open» = x1 }
+
+abbrev Moment-p : Plain
+Moment-p = record { row = Moment-t.the-row; val = LL.val Moment-t.the-type Moment-l.the-laws; tells = LL.tells Moment-t.the-type Moment-l.the-laws; makes = λ 𝓤 H A W. LL.makes Moment-t.the-type Moment-l.the-plain 𝓤 H A; ty = Moment-l.mir; typed = λ 𝓤 H A W x is. LL.lawful Moment-t.the-type Moment-l.the-laws 𝓤 H A W .typed x _ is .0; copies = λ 𝓤 H A W. LL.copy Moment-t.the-type Moment-l.the-copy 𝓤 H A W }
+
+abbrev Command-of : ℕ → ℕ → ℕ → ℕ → ℕ → ℕ → Command
+Command-of x0 x1 x2 x3 x4 x5 = record { name = x0; first = x1; second = x2; day = x3; minute = x4; count = x5 }
 
 abbrev Command-p : Plain
 Command-p = record { row = Command-t.the-row; val = LL.val Command-t.the-type Command-l.the-laws; tells = LL.tells Command-t.the-type Command-l.the-laws; makes = λ 𝓤 H A W. LL.makes Command-t.the-type Command-l.the-plain 𝓤 H A; ty = Command-l.mir; typed = λ 𝓤 H A W x is. LL.lawful Command-t.the-type Command-l.the-laws 𝓤 H A W .typed x _ is .0; copies = λ 𝓤 H A W. LL.copy Command-t.the-type Command-l.the-copy 𝓤 H A W }
@@ -453,8 +465,8 @@ module _ {M : Type 1} (𝓤 : URA M) (H : Heap 𝓤) (A : Atoms 𝓤) (W : Given
         nothing ! $
         use1 W (raw (toks 𝓤 A 0 (tt) (tt))) (id⊢ 𝓤 _) $ nothing ! $
         owned ! (u64-p .row) (Is (u64-p .row)) (u64-p .makes 𝓤 H A W) n₉ (u64-p .val n₉ ∷ []) ((refl, room₉ .0)) $ fjoin ! $
-        owned ! (u64-p .row) (Is (u64-p .row)) (u64-p .makes 𝓤 H A W) (c .count) (u64-p .val (c .count) ∷ []) (LL.owed Command-t.the-type Command-l.the-laws c _ c-is .1 .1 .1 .0) $ fjoin ! $ move ! (1 ∷ 0 ∷ []) $
-        calls-some ! fm 0 [] (words-least.signature .params) (words-least.ended .kept) u64-p (words-least.clauses 𝓤 H A mem run) known-words-least tt tt tt (c .count, (n₉, tt)) (u64-p .val (c .count) ∷ [], (u64-p .val n₉ ∷ [], tt)) tt (λ r ws-7. (r ≤ (c .count)) × (r ≤ n₉)) (id⊢ 𝓤 _) (λ r ws-7. fact-mono 𝓤 ((r ≤ (c .count)) × (r ≤ n₉)) ((r ≤ (c .count)) × (r ≤ n₉)) (λ e. (e .0, e .1))) (λ _. (and-then ! (load ! (from ! (fld ! refl (stop !))) (look-in ! 89 (sub ! 3 refl (whole !)))) (and-then ! (load ! (from ! (stop !)) (look ! 69 refl)) (no-more !)))) (λ r-7 ws-7 said-7 is-7.
+        owned ! (u64-p .row) (Is (u64-p .row)) (u64-p .makes 𝓤 H A W) (c .count) (u64-p .val (c .count) ∷ []) (LL.owed Command-t.the-type Command-l.the-laws c _ c-is .1 .1 .1 .1 .1 .0) $ fjoin ! $ move ! (1 ∷ 0 ∷ []) $
+        calls-some ! fm 0 [] (words-least.signature .params) (words-least.ended .kept) u64-p (words-least.clauses 𝓤 H A mem run) known-words-least tt tt tt (c .count, (n₉, tt)) (u64-p .val (c .count) ∷ [], (u64-p .val n₉ ∷ [], tt)) tt (λ r ws-7. (r ≤ (c .count)) × (r ≤ n₉)) (id⊢ 𝓤 _) (λ r ws-7. fact-mono 𝓤 ((r ≤ (c .count)) × (r ≤ n₉)) ((r ≤ (c .count)) × (r ≤ n₉)) (λ e. (e .0, e .1))) (λ _. (and-then ! (load ! (from ! (fld ! refl (stop !))) (look-in ! 89 (sub ! 5 refl (whole !)))) (and-then ! (load ! (from ! (stop !)) (look ! 69 refl)) (no-more !)))) (λ r-7 ws-7 said-7 is-7.
         knows ! ((r-7 ≤ (c .count)) × (r-7 ≤ n₉)) ((said-7 .0, said-7 .1)) (λ fact-7.
         drop ! $ drop ! $
         land ! (from ! (stop !)) (init ! 84 refl (u64-p .typed 𝓤 H A W r-7 is-7)) $

@@ -52,11 +52,14 @@ use Rattle.walk.proofs.Steps.{past, one, yes-of, no-of, in-block, arm-of, holds
 use borrow.Rule.Slice.PartMut.{midOf, putMid}
 use Rattle.walk.proofs.Parts.{part-len, lends-part, backs-part, parts-shr}
 use Rattle.walk.proofs.Arrays.{rep-is, lends-array, backs-array}
-use Rattle.sessions.specs.Setup.{setUpOf}
+use mathlib.Core.Bool.{cond}
+use Rattle.hours.specs.Windows.{windowsOf}
+use Rattle.hours.specs.Week.{keptHours, firstOpenOf}
+use Rattle.sessions.specs.Setup.{leaves}
 use Rattle.sessions.specs.Calls.{setUpTables}
 use Rattle.sessions.specs.ObjectList.{listOf, listOut}
 use Rattle.agent.specs.Lent.{lent}
-use Rattle.agent.specs.Host.{setUpAs, incomingOf, answerOf, idleOf, removedAs, removedBy, removedRows, sweptBy, sweptRows, sweptOut}
+use Rattle.agent.specs.Host.{setUpJudged, setUpAs, incomingOf, answerOf, idleOf, removedAs, removedBy, removedRows, sweptBy, sweptRows, sweptOut}
 use denote.Plain.{uint-lawful}
 use Rattle.sessions.specs.declared.objects.Object.{Object}
 use Rattle.sessions.proofs.objects.Object as Object-t
@@ -74,11 +77,11 @@ use Rattle.sessions.specs.declared.object_list.Listed.the-variants.{Numbers as 
 use Rattle.codec.specs.declared.refusals.Refusal.{Refusal}
 use Rattle.codec.proofs.refusals.Refusal as Refusal-t
 use Rattle.codec.proofs.refusals.Refusal.Laws as Refusal-l
-use Rattle.codec.specs.declared.refusals.Refusal.the-variants.{BufferTooShort as Refusal-BufferTooShort, UnknownSubmessageId as Refusal-UnknownSubmessageId, UnknownObjectKind as Refusal-UnknownObjectKind, UnknownStatusCode as Refusal-UnknownStatusCode, PayloadLengthMismatch as Refusal-PayloadLengthMismatch, SessionFull as Refusal-SessionFull, FragmentSizeZero as Refusal-FragmentSizeZero, EmptyPayload as Refusal-EmptyPayload, TooManyFragments as Refusal-TooManyFragments, FragmentNumber as Refusal-FragmentNumber, MissingFragments as Refusal-MissingFragments, TooLong as Refusal-TooLong, OutputTooShort as Refusal-OutputTooShort, StoreFull as Refusal-StoreFull, OutOfTurn as Refusal-OutOfTurn, OverLimit as Refusal-OverLimit, NotInFragments as Refusal-NotInFragments, IllFormed as Refusal-IllFormed}
-use Rattle.replay.proofs.events.low_8 as events-low-8
-use Rattle.replay.proofs.events.low_8.Symbol as events-low-8-def
-use Rattle.replay.proofs.events.low_8.Symbol.{name as #events-low-8}
-use Rattle.replay.proofs.events.low_8.Met as events-low-8-thm
+use Rattle.codec.specs.declared.refusals.Refusal.the-variants.{BufferTooShort as Refusal-BufferTooShort, UnknownSubmessageId as Refusal-UnknownSubmessageId, UnknownObjectKind as Refusal-UnknownObjectKind, UnknownStatusCode as Refusal-UnknownStatusCode, PayloadLengthMismatch as Refusal-PayloadLengthMismatch, SessionFull as Refusal-SessionFull, FragmentSizeZero as Refusal-FragmentSizeZero, EmptyPayload as Refusal-EmptyPayload, TooManyFragments as Refusal-TooManyFragments, FragmentNumber as Refusal-FragmentNumber, MissingFragments as Refusal-MissingFragments, TooLong as Refusal-TooLong, OutputTooShort as Refusal-OutputTooShort, StoreFull as Refusal-StoreFull, OutOfTurn as Refusal-OutOfTurn, OverLimit as Refusal-OverLimit, NotInFragments as Refusal-NotInFragments, IllFormed as Refusal-IllFormed, WindowFault as Refusal-WindowFault, NoSuchMinute as Refusal-NoSuchMinute}
+use Rattle.replay.proofs.words.low_8 as words-low-8
+use Rattle.replay.proofs.words.low_8.Symbol as words-low-8-def
+use Rattle.replay.proofs.words.low_8.Symbol.{name as #words-low-8}
+use Rattle.replay.proofs.words.low_8.Met as words-low-8-thm
 use Rattle.agent.proofs.agent.list_objects as agent-list-objects
 use Rattle.agent.proofs.agent.list_objects.Symbol as agent-list-objects-def
 use Rattle.agent.proofs.agent.list_objects.Symbol.{name as #agent-list-objects}
@@ -105,8 +108,8 @@ ObjectNumber-of x0 = record { 0 = x0 }
 abbrev ObjectNumber-p : Plain
 ObjectNumber-p = record { row = ObjectNumber-t.the-row; val = LL.val ObjectNumber-t.the-type ObjectNumber-l.the-laws; tells = LL.tells ObjectNumber-t.the-type ObjectNumber-l.the-laws; makes = λ 𝓤 H A W. LL.makes ObjectNumber-t.the-type ObjectNumber-l.the-plain 𝓤 H A; ty = ObjectNumber-l.mir; typed = λ 𝓤 H A W x is. LL.lawful ObjectNumber-t.the-type ObjectNumber-l.the-laws 𝓤 H A W .typed x _ is .0; copies = λ 𝓤 H A W. LL.copy ObjectNumber-t.the-type ObjectNumber-l.the-copy 𝓤 H A W }
 
-abbrev Command-of : ℕ → ℕ → ℕ → ℕ → Command
-Command-of x0 x1 x2 x3 = record { name = x0; first = x1; second = x2; count = x3 }
+abbrev Command-of : ℕ → ℕ → ℕ → ℕ → ℕ → ℕ → Command
+Command-of x0 x1 x2 x3 x4 x5 = record { name = x0; first = x1; second = x2; day = x3; minute = x4; count = x5 }
 
 abbrev Command-p : Plain
 Command-p = record { row = Command-t.the-row; val = LL.val Command-t.the-type Command-l.the-laws; tells = LL.tells Command-t.the-type Command-l.the-laws; makes = λ 𝓤 H A W. LL.makes Command-t.the-type Command-l.the-plain 𝓤 H A; ty = Command-l.mir; typed = λ 𝓤 H A W x is. LL.lawful Command-t.the-type Command-l.the-laws 𝓤 H A W .typed x _ is .0; copies = λ 𝓤 H A W. LL.copy Command-t.the-type Command-l.the-copy 𝓤 H A W }
@@ -121,8 +124,8 @@ abbrev stayed : Stays (f.ended .signature .params) (f.ended .kept)
 stayed = (stay-none-slice (0 ∷ []) tt (plain (λ _. (Array u64 8))) yes, (stay-none-slice (1 ∷ []) tt (plain (λ _. Object-t.the-row)) yes, (stay-none (λ _. Command-p .row) yes, tt)))
 
 module _ {M : Type 1} (𝓤 : URA M) (H : Heap 𝓤) (A : Atoms 𝓤) (mem : Memory → SProp 𝓤) (run : Routine → Fun 𝓤) where
-  abbrev Of-events-low-8 : Contract 𝓤
-  Of-events-low-8 = tripleOf 𝓤 H A events-low-8.signature (events-low-8.spec 𝓤 H A mem run)
+  abbrev Of-words-low-8 : Contract 𝓤
+  Of-words-low-8 = tripleOf 𝓤 H A words-low-8.signature (words-low-8.spec 𝓤 H A mem run)
 
   abbrev Of-agent-list-objects : Contract 𝓤
   Of-agent-list-objects = tripleOf 𝓤 H A agent-list-objects.signature (agent-list-objects.spec 𝓤 H A mem run)
@@ -156,7 +159,7 @@ module _ {M : Type 1} (𝓤 : URA M) (H : Heap 𝓤) (A : Atoms 𝓤) (W : Given
       frame ! $
       owned ! (unit-p .row) (Is (unit-p .row)) (unit-p .makes 𝓤 H A W) r _ r-is $ done !
 
-  module _ (𝓣 : Tables 𝓤 H) (known-events-low-8 : Triple 𝓤 (𝓣 .C #events-low-8) (Of-events-low-8 𝓤 H A mem run)) (known-agent-list-objects : Triple 𝓤 (𝓣 .C #agent-list-objects) (Of-agent-list-objects 𝓤 H A mem run)) (known-listing-listed-said : Triple 𝓤 (𝓣 .C #listing-listed-said) (Of-listing-listed-said 𝓤 H A mem run)) (l₀ l₁ l₂ l₃ l₄ l₅ l₆ l₇ l₈ l₉ l₁₀ l₁₁ : ℕ) where
+  module _ (𝓣 : Tables 𝓤 H) (known-words-low-8 : Triple 𝓤 (𝓣 .C #words-low-8) (Of-words-low-8 𝓤 H A mem run)) (known-agent-list-objects : Triple 𝓤 (𝓣 .C #agent-list-objects) (Of-agent-list-objects 𝓤 H A mem run)) (known-listing-listed-said : Triple 𝓤 (𝓣 .C #listing-listed-said) (Of-listing-listed-said 𝓤 H A mem run)) (l₀ l₁ l₂ l₃ l₄ l₅ l₆ l₇ l₈ l₉ l₁₀ l₁₁ : ℕ) where
     abbrev C : Calls 𝓤 H
     C = 𝓣 .C
 
@@ -171,11 +174,11 @@ module _ {M : Type 1} (𝓤 : URA M) (H : Heap 𝓤) (A : Atoms 𝓤) (W : Given
 
     begins : Sq W (‵ (ShrSlice (named 0) κ₁ (Array u64 8) .own (at-list b₁ o₁ γ₁ sessions) (sliceVal (b₁, o₁) n₁ ∷ [])) ∷ ‵ (flft κ₁ q₁) ∷ ‵ (ShrSlice (named 0) κ₂ Object-t.the-row .own (at-list b₂ o₂ γ₂ objects) (sliceVal (b₂, o₂) n₂ ∷ [])) ∷ ‵ (flft κ₂ q₂) ∷ free 𝓤 (sliceTy (tyRef erased imm (pointee (u16 .written)))) l₁₁ (free 𝓤 (tyRef erased imm (pointee ((Array u16 32) .written))) l₁₀ (free 𝓤 tyUnit l₉ (free 𝓤 (sliceTy (tyRef erased mut (pointee (u16 .written)))) l₈ (free 𝓤 (tyRef erased mut (pointee ((Array u16 32) .written))) l₇ (free 𝓤 Listed-l.mir l₆ (free 𝓤 (tyArray (tyInt w16) 32) l₅ (free 𝓤 (tyInt w8) l₄ (full 𝓤 Command-l.mir l₃ (Command-p .val c) (full 𝓤 (sliceTy (tyRef (named 1) imm (pointee (Object-t.the-row .written)))) l₂ (sliceVal (b₂, o₂) n₂) (full 𝓤 (sliceTy (tyRef (named 0) imm (pointee ((Array u64 8) .written)))) l₁ (sliceVal (b₁, o₁) n₁) (free 𝓤 tyUnit l₀ ([]))))))))))))) (runs C Λ En mir.t-1 (atRet En Post))
     begins =
-        -- 1: replay::events::low_8
+        -- 1: replay::words::low_8
         nothing ! $
         use1 W (raw (toks 𝓤 A 0 (tt) (tt))) (id⊢ 𝓤 _) $ nothing ! $
         owned ! (u64-p .row) (Is (u64-p .row)) (u64-p .makes 𝓤 H A W) (c .first) (u64-p .val (c .first) ∷ []) (LL.owed Command-t.the-type Command-l.the-laws c _ c-is .1 .0) $ fjoin ! $ move ! (1 ∷ 0 ∷ []) $
-        calls-some ! fm 0 [] (events-low-8.signature .params) (events-low-8.ended .kept) u8-p (events-low-8.clauses 𝓤 H A mem run) known-events-low-8 tt tt tt (c .first, tt) (u64-p .val (c .first) ∷ [], tt) tt (λ r ws-1. Unit {0}) (id⊢ 𝓤 _) (λ r ws-1. factI 𝓤 (Unit {0}) _ tt) (λ _. (and-then ! (load ! (from ! (fld ! refl (stop !))) (look-in ! 21 (sub ! 1 refl (whole !)))) (no-more !))) (λ r-1 ws-1 said-1 is-1.
+        calls-some ! fm 0 [] (words-low-8.signature .params) (words-low-8.ended .kept) u8-p (words-low-8.clauses 𝓤 H A mem run) known-words-low-8 tt tt tt (c .first, tt) (u64-p .val (c .first) ∷ [], tt) tt (λ r ws-1. Unit {0}) (id⊢ 𝓤 _) (λ r ws-1. factI 𝓤 (Unit {0}) _ tt) (λ _. (and-then ! (load ! (from ! (fld ! refl (stop !))) (look-in ! 21 (sub ! 1 refl (whole !)))) (no-more !))) (λ r-1 ws-1 said-1 is-1.
         drop ! $ drop ! $
         land ! (from ! (stop !)) (init ! 18 refl (u8-p .typed 𝓤 H A W r-1 is-1)) $
         assigns ! (rep ! 32 (lit ! tt)) (from ! (stop !)) (init ! 16 refl (array-typed u16 (λ x vs p. uint-lawful 𝓤 H A W w16 .typed x vs p) 32 (replicate {A = ℕ} 32 999) _ (rep-is u16 32 999 (u16-p .val 999) ((refl, lit< tt))) .0)) $
@@ -216,17 +219,17 @@ module _ {M : Type 1} (𝓤 : URA M) (H : Heap 𝓤) (A : Atoms 𝓤) (W : Given
         returns ! (look ! 26 refl) $ forget ! 0 refl $ forget ! 5 refl $ forget ! 7 refl $ forget ! 9 refl $ forget ! 11 refl $ forget ! 13 refl $ forget ! 15 refl $ forget ! 18 refl $ forget ! 20 refl $ forget ! 22 refl $ forget ! 24 refl $ forget ! 26 refl $ move ! (26 ∷ 27 ∷ []) $ free1 ! $ move ! (24 ∷ 25 ∷ []) $ free1 ! $ move ! (22 ∷ 23 ∷ []) $ free1 ! $ move ! (20 ∷ 21 ∷ []) $ free1 ! $ move ! (18 ∷ 19 ∷ []) $ free1 ! $ move ! (0 ∷ 17 ∷ []) $ free1 ! $ move ! (14 ∷ 15 ∷ []) $ free1 ! $ move ! (12 ∷ 13 ∷ []) $ free1 ! $ move ! (10 ∷ 11 ∷ []) $ free1 ! $ move ! (8 ∷ 9 ∷ []) $ free1 ! $ move ! (6 ∷ 7 ∷ []) $ free1 ! $ move ! (4 ∷ 5 ∷ []) $ free1 ! $ free0 ! $ move ! (3 ∷ 1 ∷ 2 ∷ 0 ∷ []) $
         by ! (exits tt refl)))))))))))
 
-  module _ (𝓣 : Tables 𝓤 H) (known-events-low-8 : Triple 𝓤 (𝓣 .C #events-low-8) (Of-events-low-8 𝓤 H A mem run)) (known-agent-list-objects : Triple 𝓤 (𝓣 .C #agent-list-objects) (Of-agent-list-objects 𝓤 H A mem run)) (known-listing-listed-said : Triple 𝓤 (𝓣 .C #listing-listed-said) (Of-listing-listed-said 𝓤 H A mem run)) where
+  module _ (𝓣 : Tables 𝓤 H) (known-words-low-8 : Triple 𝓤 (𝓣 .C #words-low-8) (Of-words-low-8 𝓤 H A mem run)) (known-agent-list-objects : Triple 𝓤 (𝓣 .C #agent-list-objects) (Of-agent-list-objects 𝓤 H A mem run)) (known-listing-listed-said : Triple 𝓤 (𝓣 .C #listing-listed-said) (Of-listing-listed-said 𝓤 H A mem run)) where
     walk : ent 𝓤 (onEntry 𝓤 H A f.signature (κ₁, (κ₂, tt)) (q₁, (q₂, tt)) x at) (WpFn 𝓤 H (𝓣 .C) (𝓣 .Λ) code.function (sliceVal (b₁, o₁) n₁ ∷ sliceVal (b₂, o₂) n₂ ∷ Command-p .val c ∷ []) Post)
     walk =
         qed W ((‵ (flft κ₁ q₁) ⊛ (‵ (flft κ₂ q₂) ⊛ ‵ ftrue)) ∷ ‵ (owns (ShrSlice (named 0) κ₁ (Array u64 8) ∷ ShrSlice (named 1) κ₂ Object-t.the-row ∷ Command-p .row ∷ []) x at) ∷ []) ∵ enter ! (𝓣 .C) (𝓣 .Λ) code.function (sliceVal (b₁, o₁) n₁ ∷ sliceVal (b₂, o₂) n₂ ∷ Command-p .val c ∷ []) _ $
         alloc1 ! (λ l₀. alloc1 ! (λ l₁. alloc1 ! (λ l₂. alloc1 ! (λ l₃. alloc1 ! (λ l₄. alloc1 ! (λ l₅. alloc1 ! (λ l₆. alloc1 ! (λ l₇. alloc1 ! (λ l₈. alloc1 ! (λ l₉. alloc1 ! (λ l₁₀. alloc1 ! (λ l₁₁. alloc0 ! $ params1 ! $ pass1 ! (init ! 20 refl (tt, (tt, (record { fits = room₁ .0 }, tt)))) $ pass1 ! (init ! 18 refl (tt, (tt, (record { fits = room₂ .0 }, tt)))) $ pass1 ! (init ! 16 refl (Command-p .typed 𝓤 H A W c c-is)) $ pass0 ! $ move ! (25 ∷ []) $ fsplit ! $ move ! (1 ∷ []) $ fsplit ! $ move ! (27 ∷ []) $ split ! $ move ! (1 ∷ []) $ split ! $ move ! (1 ∷ []) $ drop ! $ move ! (3 ∷ []) $ drop ! $ move ! (3 ∷ 1 ∷ 2 ∷ 0 ∷ 4 ∷ 5 ∷ 6 ∷ 7 ∷ 8 ∷ 9 ∷ 10 ∷ 11 ∷ 12 ∷ 13 ∷ 14 ∷ 15 ∷ 16 ∷ 17 ∷ 18 ∷ 19 ∷ 20 ∷ 21 ∷ 22 ∷ 23 ∷ 24 ∷ 25 ∷ 26 ∷ 27 ∷ []) $
-        begins 𝓣 known-events-low-8 known-agent-list-objects known-listing-listed-said l₀ l₁ l₂ l₃ l₄ l₅ l₆ l₇ l₈ l₉ l₁₀ l₁₁))))))))))))
+        begins 𝓣 known-words-low-8 known-agent-list-objects known-listing-listed-said l₀ l₁ l₂ l₃ l₄ l₅ l₆ l₇ l₈ l₉ l₁₀ l₁₁))))))))))))
 
-module _ {M : Type 1} (𝓤 : URA M) (H : Heap 𝓤) (A : Atoms 𝓤) (W : Given 𝓤 H A) (mem : Memory → SProp 𝓤) (run : Routine → Fun 𝓤) (𝓣 : Tables 𝓤 H) (known-events-low-8 : Triple 𝓤 (𝓣 .C #events-low-8) (Of-events-low-8 𝓤 H A mem run)) (known-agent-list-objects : Triple 𝓤 (𝓣 .C #agent-list-objects) (Of-agent-list-objects 𝓤 H A mem run)) (known-listing-listed-said : Triple 𝓤 (𝓣 .C #listing-listed-said) (Of-listing-listed-said 𝓤 H A mem run)) where
+module _ {M : Type 1} (𝓤 : URA M) (H : Heap 𝓤) (A : Atoms 𝓤) (W : Given 𝓤 H A) (mem : Memory → SProp 𝓤) (run : Routine → Fun 𝓤) (𝓣 : Tables 𝓤 H) (known-words-low-8 : Triple 𝓤 (𝓣 .C #words-low-8) (Of-words-low-8 𝓤 H A mem run)) (known-agent-list-objects : Triple 𝓤 (𝓣 .C #agent-list-objects) (Of-agent-list-objects 𝓤 H A mem run)) (known-listing-listed-said : Triple 𝓤 (𝓣 .C #listing-listed-said) (Of-listing-listed-said 𝓤 H A mem run)) where
   walks : Walks 𝓤 H A f.ended stayed (WpFn 𝓤 H (𝓣 .C) (𝓣 .Λ) code.function) (f.clauses 𝓤 H A mem run)
   walks = walked 𝓤 H A f.ended stayed (f.clauses 𝓤 H A mem run) (WpFn 𝓤 H (𝓣 .C) (𝓣 .Λ) code.function) (λ κs. (slice-vals, (slice-vals, ((λ y. Command-p .val y ∷ []), tt)))) (λ κs. (shr-slice-tells (named 0) (κs .0) (Array u64 8), (shr-slice-tells (named 1) (κs .1 .0) Object-t.the-row, (Command-p .tells, tt))))
-      (λ κs qs bounds a g are. via 𝓤 _ (fst∗ 𝓤 _ (emp 𝓤)) (walk 𝓤 H A W mem run (κs .0) (qs .0) (a .0 .ptr .0) (a .0 .ptr .1) (a .0 .name) (a .0 .now) (κs .1 .0) (qs .1 .0) (a .1 .0 .ptr .0) (a .1 .0 .ptr .1) (a .1 .0 .name) (a .1 .0 .now) (a .1 .1 .0) (are .0 .0 .1) (are .1 .0 .0 .1) (are .1 .1 .0) 𝓣 known-events-low-8 known-agent-list-objects known-listing-listed-said))
+      (λ κs qs bounds a g are. via 𝓤 _ (fst∗ 𝓤 _ (emp 𝓤)) (walk 𝓤 H A W mem run (κs .0) (qs .0) (a .0 .ptr .0) (a .0 .ptr .1) (a .0 .name) (a .0 .now) (κs .1 .0) (qs .1 .0) (a .1 .0 .ptr .0) (a .1 .0 .ptr .1) (a .1 .0 .name) (a .1 .0 .now) (a .1 .1 .0) (are .0 .0 .1) (are .1 .0 .0 .1) (are .1 .1 .0) 𝓣 known-words-low-8 known-agent-list-objects known-listing-listed-said))
 
   meets : Meets 𝓤 H A f.signature (WpFn 𝓤 H (𝓣 .C) (𝓣 .Λ) code.function) (f.spec 𝓤 H A mem run)
   meets = walk-meets 𝓤 H A f.ended stayed W (goes-none-slice 𝓤 H A W 2 (0 ∷ []) tt (plain (λ _. (Array u64 8))) yes, (goes-none-slice 𝓤 H A W 2 (1 ∷ []) tt (plain (λ _. Object-t.the-row)) yes, (goes-none 𝓤 H A W 2 (λ _. Command-p .row) yes (λ κs x f. refl), tt))) (f.clauses 𝓤 H A mem run) (WpFn 𝓤 H (𝓣 .C) (𝓣 .Λ) code.function) (WpFn-mono 𝓤 H (W .laws) 𝓣 code.function) walks
@@ -237,6 +240,6 @@ list-spec 𝓤 H 𝓜 𝓖 𝓡 =
     entered 𝓤 H (tripleOf 𝓤 H (𝓖 .A) f.signature (f.spec 𝓤 H (𝓖 .A) (𝓜 .mem) (𝓡 .run)))
     (tables 𝓤 H 𝓜 𝓡 code.env .C) (tables 𝓤 H 𝓜 𝓡 code.env .Λ) #f code.function (code.unfolded 𝓤 H 𝓜 𝓡)
     (meets 𝓤 H (𝓖 .A) (givenOf 𝓤 H 𝓜 𝓖) (𝓜 .mem) (𝓡 .run) (tablesOf 𝓤 H 𝓜 (tables 𝓤 H 𝓜 𝓡 code.env))
-    (cited 𝓤 H (Of-events-low-8 𝓤 H (𝓖 .A) (𝓜 .mem) (𝓡 .run)) 𝓜 𝓡 code.env #events-low-8 events-low-8-def.routine code.calls-replay·events·low-8 (events-low-8-thm.met 𝓤 H 𝓜 𝓖 𝓡))
+    (cited 𝓤 H (Of-words-low-8 𝓤 H (𝓖 .A) (𝓜 .mem) (𝓡 .run)) 𝓜 𝓡 code.env #words-low-8 words-low-8-def.routine code.calls-replay·words·low-8 (words-low-8-thm.met 𝓤 H 𝓜 𝓖 𝓡))
     (cited 𝓤 H (Of-agent-list-objects 𝓤 H (𝓖 .A) (𝓜 .mem) (𝓡 .run)) 𝓜 𝓡 code.env #agent-list-objects agent-list-objects-def.routine code.calls-agent·agent·list-objects (agent-list-objects-thm.met 𝓤 H 𝓜 𝓖 𝓡))
     (cited 𝓤 H (Of-listing-listed-said 𝓤 H (𝓖 .A) (𝓜 .mem) (𝓡 .run)) 𝓜 𝓡 code.env #listing-listed-said listing-listed-said-def.routine code.calls-replay·listing·listed-said (listing-listed-said-thm.met 𝓤 H 𝓜 𝓖 𝓡)))

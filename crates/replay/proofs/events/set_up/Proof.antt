@@ -52,11 +52,14 @@ use Rattle.walk.proofs.Steps.{past, one, yes-of, no-of, in-block, arm-of, holds
 use borrow.Rule.Slice.PartMut.{midOf, putMid}
 use Rattle.walk.proofs.Parts.{part-len, lends-part, backs-part, parts-shr}
 use Rattle.walk.proofs.Arrays.{rep-is, lends-array, backs-array}
-use Rattle.sessions.specs.Setup.{setUpOf}
+use mathlib.Core.Bool.{cond}
+use Rattle.hours.specs.Windows.{windowsOf}
+use Rattle.hours.specs.Week.{keptHours, firstOpenOf}
+use Rattle.sessions.specs.Setup.{leaves}
 use Rattle.sessions.specs.Calls.{setUpTables}
 use Rattle.sessions.specs.ObjectList.{listOf, listOut}
 use Rattle.agent.specs.Lent.{lent}
-use Rattle.agent.specs.Host.{setUpAs, incomingOf, answerOf, idleOf, removedAs, removedBy, removedRows, sweptBy, sweptRows, sweptOut}
+use Rattle.agent.specs.Host.{setUpJudged, setUpAs, incomingOf, answerOf, idleOf, removedAs, removedBy, removedRows, sweptBy, sweptRows, sweptOut}
 use Rattle.sessions.specs.declared.objects.Object.{Object}
 use Rattle.sessions.proofs.objects.Object as Object-t
 use Rattle.sessions.proofs.objects.Object.Laws as Object-l
@@ -80,6 +83,9 @@ use Rattle.moves.specs.declared.proxy.Task.{Task}
 use Rattle.moves.proofs.proxy.Task as Task-t
 use Rattle.moves.proofs.proxy.Task.Laws as Task-l
 use Rattle.moves.specs.declared.proxy.Task.the-variants.{Creating as Task-Creating, Writing as Task-Writing, Reading as Task-Reading, Deleting as Task-Deleting}
+use Rattle.agent.specs.declared.state.Moment.{Moment}
+use Rattle.agent.proofs.state.Moment as Moment-t
+use Rattle.agent.proofs.state.Moment.Laws as Moment-l
 use Rattle.replay.specs.declared.command.Command.{Command}
 use Rattle.replay.proofs.command.Command as Command-t
 use Rattle.replay.proofs.command.Command.Laws as Command-l
@@ -90,7 +96,7 @@ use Rattle.agent.specs.declared.agent.AgentSetUp.the-variants.{Ready as AgentSe
 use Rattle.codec.specs.declared.refusals.Refusal.{Refusal}
 use Rattle.codec.proofs.refusals.Refusal as Refusal-t
 use Rattle.codec.proofs.refusals.Refusal.Laws as Refusal-l
-use Rattle.codec.specs.declared.refusals.Refusal.the-variants.{BufferTooShort as Refusal-BufferTooShort, UnknownSubmessageId as Refusal-UnknownSubmessageId, UnknownObjectKind as Refusal-UnknownObjectKind, UnknownStatusCode as Refusal-UnknownStatusCode, PayloadLengthMismatch as Refusal-PayloadLengthMismatch, SessionFull as Refusal-SessionFull, FragmentSizeZero as Refusal-FragmentSizeZero, EmptyPayload as Refusal-EmptyPayload, TooManyFragments as Refusal-TooManyFragments, FragmentNumber as Refusal-FragmentNumber, MissingFragments as Refusal-MissingFragments, TooLong as Refusal-TooLong, OutputTooShort as Refusal-OutputTooShort, StoreFull as Refusal-StoreFull, OutOfTurn as Refusal-OutOfTurn, OverLimit as Refusal-OverLimit, NotInFragments as Refusal-NotInFragments, IllFormed as Refusal-IllFormed}
+use Rattle.codec.specs.declared.refusals.Refusal.the-variants.{BufferTooShort as Refusal-BufferTooShort, UnknownSubmessageId as Refusal-UnknownSubmessageId, UnknownObjectKind as Refusal-UnknownObjectKind, UnknownStatusCode as Refusal-UnknownStatusCode, PayloadLengthMismatch as Refusal-PayloadLengthMismatch, SessionFull as Refusal-SessionFull, FragmentSizeZero as Refusal-FragmentSizeZero, EmptyPayload as Refusal-EmptyPayload, TooManyFragments as Refusal-TooManyFragments, FragmentNumber as Refusal-FragmentNumber, MissingFragments as Refusal-MissingFragments, TooLong as Refusal-TooLong, OutputTooShort as Refusal-OutputTooShort, StoreFull as Refusal-StoreFull, OutOfTurn as Refusal-OutOfTurn, OverLimit as Refusal-OverLimit, NotInFragments as Refusal-NotInFragments, IllFormed as Refusal-IllFormed, WindowFault as Refusal-WindowFault, NoSuchMinute as Refusal-NoSuchMinute}
 use Rattle.replay.proofs.host.max_clients as host-max-clients
 use Rattle.replay.proofs.host.max_clients.Symbol as host-max-clients-def
 use Rattle.replay.proofs.host.max_clients.Symbol.{name as #host-max-clients}
@@ -136,8 +142,8 @@ Agent-p = record { row = Agent-t.the-row; val = LL.val Agent-t.the-type Agent-l.
 abbrev Waiting-p : Plain
 Waiting-p = record { row = Waiting-t.the-row; val = EL.val Waiting-t.the-type Waiting-l.the-laws; tells = EL.tells Waiting-t.the-type Waiting-l.the-laws; makes = λ 𝓤 H A W. EL.makes Waiting-t.the-type Waiting-l.the-plain 𝓤 H A; ty = Waiting-l.mir; typed = λ 𝓤 H A W x is. EL.lawful Waiting-t.the-type Waiting-l.the-laws 𝓤 H A W tt .typed x _ is .0; copies = λ 𝓤 H A W. EL.copy Waiting-t.the-type Waiting-l.the-copy 𝓤 H A W }
 
-abbrev Pending-of : ℕ → ℕ → ObjectNumber → Task → ℕ → ℕ → ℕ → ℕ → Pending
-Pending-of x0 x1 x2 x3 x4 x5 x6 x7 = record { «session_id» = x0; «stream_id» = x1; number = x2; task = x3; at = x4; time = x5; «left_at» = x6; «left_end» = x7 }
+abbrev Pending-of : ℕ → ℕ → ObjectNumber → Task → ℕ → Moment → ℕ → ℕ → Pending
+Pending-of x0 x1 x2 x3 x4 x5 x6 x7 = record { «session_id» = x0; «stream_id» = x1; number = x2; task = x3; at = x4; moment = x5; «left_at» = x6; «left_end» = x7 }
 
 abbrev Pending-p : Plain
 Pending-p = record { row = Pending-t.the-row; val = LL.val Pending-t.the-type Pending-l.the-laws; tells = LL.tells Pending-t.the-type Pending-l.the-laws; makes = λ 𝓤 H A W. LL.makes Pending-t.the-type Pending-l.the-plain 𝓤 H A; ty = Pending-l.mir; typed = λ 𝓤 H A W x is. LL.lawful Pending-t.the-type Pending-l.the-laws 𝓤 H A W .typed x _ is .0; copies = λ 𝓤 H A W. LL.copy Pending-t.the-type Pending-l.the-copy 𝓤 H A W }
@@ -145,8 +151,14 @@ Pending-p = record { row = Pending-t.the-row; val = LL.val Pending-t.the-type Pe
 abbrev Task-p : Plain
 Task-p = record { row = Task-t.the-row; val = EL.val Task-t.the-type Task-l.the-laws; tells = EL.tells Task-t.the-type Task-l.the-laws; makes = λ 𝓤 H A W. EL.makes Task-t.the-type Task-l.the-plain 𝓤 H A; ty = Task-l.mir; typed = λ 𝓤 H A W x is. EL.lawful Task-t.the-type Task-l.the-laws 𝓤 H A W tt .typed x _ is .0; copies = λ 𝓤 H A W. EL.copy Task-t.the-type Task-l.the-copy 𝓤 H A W }
 
-abbrev Command-of : ℕ → ℕ → ℕ → ℕ → Command
-Command-of x0 x1 x2 x3 = record { name = x0; first = x1; second = x2; count = x3 }
+abbrev Moment-of : ℕ → Bool → Moment
+Moment-of x0 x1 = record { time = x0; «is_open» = x1 }
+
+abbrev Moment-p : Plain
+Moment-p = record { row = Moment-t.the-row; val = LL.val Moment-t.the-type Moment-l.the-laws; tells = LL.tells Moment-t.the-type Moment-l.the-laws; makes = λ 𝓤 H A W. LL.makes Moment-t.the-type Moment-l.the-plain 𝓤 H A; ty = Moment-l.mir; typed = λ 𝓤 H A W x is. LL.lawful Moment-t.the-type Moment-l.the-laws 𝓤 H A W .typed x _ is .0; copies = λ 𝓤 H A W. LL.copy Moment-t.the-type Moment-l.the-copy 𝓤 H A W }
+
+abbrev Command-of : ℕ → ℕ → ℕ → ℕ → ℕ → ℕ → Command
+Command-of x0 x1 x2 x3 x4 x5 = record { name = x0; first = x1; second = x2; day = x3; minute = x4; count = x5 }
 
 abbrev Command-p : Plain
 Command-p = record { row = Command-t.the-row; val = LL.val Command-t.the-type Command-l.the-laws; tells = LL.tells Command-t.the-type Command-l.the-laws; makes = λ 𝓤 H A W. LL.makes Command-t.the-type Command-l.the-plain 𝓤 H A; ty = Command-l.mir; typed = λ 𝓤 H A W x is. LL.lawful Command-t.the-type Command-l.the-laws 𝓤 H A W .typed x _ is .0; copies = λ 𝓤 H A W. LL.copy Command-t.the-type Command-l.the-copy 𝓤 H A W }
@@ -158,7 +170,7 @@ abbrev Refusal-p : Plain
 Refusal-p = record { row = Refusal-t.the-row; val = EL.val Refusal-t.the-type Refusal-l.the-laws; tells = EL.tells Refusal-t.the-type Refusal-l.the-laws; makes = λ 𝓤 H A W. EL.makes Refusal-t.the-type Refusal-l.the-plain 𝓤 H A; ty = Refusal-l.mir; typed = λ 𝓤 H A W x is. EL.lawful Refusal-t.the-type Refusal-l.the-laws 𝓤 H A W tt .typed x _ is .0; copies = λ 𝓤 H A W. EL.copy Refusal-t.the-type Refusal-l.the-copy 𝓤 H A W }
 
 abbrev stayed : Stays (f.ended .signature .params) (f.ended .kept)
-stayed = (stay-slice (0 ∷ []) tt (plain (λ _. (Array u64 8))), (stay-slice (1 ∷ []) tt (plain (λ _. (Array u16 35))), (stay-slice (2 ∷ []) tt (plain (λ _. Object-t.the-row)), (stay-none-slice (3 ∷ []) tt (plain (λ _. u8)) yes, (stay-none-slice (4 ∷ []) tt (plain (λ _. u8)) yes, (stay-none-slice (5 ∷ []) tt (plain (λ _. u32)) yes, (stay-none-slice (6 ∷ []) tt (plain (λ _. u8)) yes, (stay-none (λ _. Host-p .row) yes, (stay-none (λ _. Command-p .row) yes, tt)))))))))
+stayed = (stay-slice (0 ∷ []) tt (plain (λ _. (Array u64 8))), (stay-slice (1 ∷ []) tt (plain (λ _. (Array u16 35))), (stay-slice (2 ∷ []) tt (plain (λ _. Object-t.the-row)), (stay-none-slice (3 ∷ []) tt (plain (λ _. u8)) yes, (stay-none-slice (4 ∷ []) tt (plain (λ _. u8)) yes, (stay-none-slice (5 ∷ []) tt (plain (λ _. u32)) yes, (stay-none-slice (6 ∷ []) tt (plain (λ _. u8)) yes, (stay-slice (7 ∷ []) tt (plain (λ _. u8)), (stay-slice (8 ∷ []) tt (plain (λ _. (Array u16 3))), (stay-none (λ _. Host-p .row) yes, (stay-none (λ _. Command-p .row) yes, tt)))))))))))
 
 module _ {M : Type 1} (𝓤 : URA M) (H : Heap 𝓤) (A : Atoms 𝓤) (mem : Memory → SProp 𝓤) (run : Routine → Fun 𝓤) where
   abbrev Of-host-max-clients : Contract 𝓤
@@ -170,8 +182,8 @@ module _ {M : Type 1} (𝓤 : URA M) (H : Heap 𝓤) (A : Atoms 𝓤) (mem : Mem
   abbrev Of-host-set-up-said : Contract 𝓤
   Of-host-set-up-said = tripleOf 𝓤 H A host-set-up-said.signature (host-set-up-said.spec 𝓤 H A mem run)
 
-module _ {M : Type 1} (𝓤 : URA M) (H : Heap 𝓤) (A : Atoms 𝓤) (W : Given 𝓤 H A) (mem : Memory → SProp 𝓤) (run : Routine → Fun 𝓤) (κ₁ : Lft) (q₁ : Share) (b₁ o₁ : ℕ) (γ₁ : GName) (sessions : List (List ℕ)) (κ₂ : Lft) (q₂ : Share) (b₂ o₂ : ℕ) (γ₂ : GName) (streams : List (List ℕ)) (κ₃ : Lft) (q₃ : Share) (b₃ o₃ : ℕ) (γ₃ : GName) (objects : List Object) (κ₄ : Lft) (q₄ : Share) (b₄ o₄ : ℕ) (γ₄ : GName) (held : List ℕ) (κ₅ : Lft) (q₅ : Share) (b₅ o₅ : ℕ) (γ₅ : GName) (parts : List ℕ) (κ₆ : Lft) (q₆ : Share) (b₆ o₆ : ℕ) (γ₆ : GName) (lengths : List ℕ) (κ₇ : Lft) (q₇ : Share) (b₇ o₇ : ℕ) (γ₇ : GName) (rebuilt : List ℕ) (host : Host) (c : Command)
-    (room₁ : Room (Array u64 8) (length sessions)) (room₂ : Room (Array u16 35) (length streams)) (room₃ : Room Object-t.the-row (length objects)) (room₄ : Room u8 (length held)) (room₅ : Room u8 (length parts)) (room₆ : Room u32 (length lengths)) (room₇ : Room u8 (length rebuilt)) (host-is : Is (Host-p .row) host (Host-p .val host ∷ [])) (c-is : Is (Command-p .row) c (Command-p .val c ∷ [])) where
+module _ {M : Type 1} (𝓤 : URA M) (H : Heap 𝓤) (A : Atoms 𝓤) (W : Given 𝓤 H A) (mem : Memory → SProp 𝓤) (run : Routine → Fun 𝓤) (κ₁ : Lft) (q₁ : Share) (b₁ o₁ : ℕ) (γ₁ : GName) (sessions : List (List ℕ)) (κ₂ : Lft) (q₂ : Share) (b₂ o₂ : ℕ) (γ₂ : GName) (streams : List (List ℕ)) (κ₃ : Lft) (q₃ : Share) (b₃ o₃ : ℕ) (γ₃ : GName) (objects : List Object) (κ₄ : Lft) (q₄ : Share) (b₄ o₄ : ℕ) (γ₄ : GName) (held : List ℕ) (κ₅ : Lft) (q₅ : Share) (b₅ o₅ : ℕ) (γ₅ : GName) (parts : List ℕ) (κ₆ : Lft) (q₆ : Share) (b₆ o₆ : ℕ) (γ₆ : GName) (lengths : List ℕ) (κ₇ : Lft) (q₇ : Share) (b₇ o₇ : ℕ) (γ₇ : GName) (rebuilt : List ℕ) (κ₈ : Lft) (q₈ : Share) (b₈ o₈ : ℕ) (γ₈ : GName) (hours : List ℕ) (κ₉ : Lft) (q₉ : Share) (b₉ o₉ : ℕ) (γ₉ : GName) (windows : List (List ℕ)) (host : Host) (c : Command)
+    (room₁ : Room (Array u64 8) (length sessions)) (room₂ : Room (Array u16 35) (length streams)) (room₃ : Room Object-t.the-row (length objects)) (room₄ : Room u8 (length held)) (room₅ : Room u8 (length parts)) (room₆ : Room u32 (length lengths)) (room₇ : Room u8 (length rebuilt)) (room₈ : Room u8 (length hours)) (room₉ : Room (Array u16 3) (length windows)) (host-is : Is (Host-p .row) host (Host-p .val host ∷ [])) (c-is : Is (Command-p .row) c (Command-p .val c ∷ [])) where
   abbrev n₁ : ℕ
   n₁ = length sessions
 
@@ -193,26 +205,32 @@ module _ {M : Type 1} (𝓤 : URA M) (H : Heap 𝓤) (A : Atoms 𝓤) (W : Given
   abbrev n₇ : ℕ
   n₇ = length rebuilt
 
-  abbrev x : RefT (List (List ℕ)) × (RefT (List (List ℕ)) × (RefT (List Object) × (RefT (List ℕ) × (RefT (List ℕ) × (RefT (List ℕ) × (RefT (List ℕ) × (Host-p .row .Denot × (Command-p .row .Denot × (Unit {0})))))))))
-  x = (at-list b₁ o₁ γ₁ sessions, (at-list b₂ o₂ γ₂ streams, (at-list b₃ o₃ γ₃ objects, (at-list b₄ o₄ γ₄ held, (at-list b₅ o₅ γ₅ parts, (at-list b₆ o₆ γ₆ lengths, (at-list b₇ o₇ γ₇ rebuilt, (host, (c, tt)))))))))
+  abbrev n₈ : ℕ
+  n₈ = length hours
 
-  abbrev at : Vals f.signature (κ₁, (κ₂, (κ₃, (κ₄, (κ₅, (κ₆, (κ₇, tt)))))))
-  at = (sliceVal (b₁, o₁) n₁ ∷ [], (sliceVal (b₂, o₂) n₂ ∷ [], (sliceVal (b₃, o₃) n₃ ∷ [], (sliceVal (b₄, o₄) n₄ ∷ [], (sliceVal (b₅, o₅) n₅ ∷ [], (sliceVal (b₆, o₆) n₆ ∷ [], (sliceVal (b₇, o₇) n₇ ∷ [], (Host-p .val host ∷ [], (Command-p .val c ∷ [], tt)))))))))
+  abbrev n₉ : ℕ
+  n₉ = length windows
+
+  abbrev x : RefT (List (List ℕ)) × (RefT (List (List ℕ)) × (RefT (List Object) × (RefT (List ℕ) × (RefT (List ℕ) × (RefT (List ℕ) × (RefT (List ℕ) × (RefT (List ℕ) × (RefT (List (List ℕ)) × (Host-p .row .Denot × (Command-p .row .Denot × (Unit {0})))))))))))
+  x = (at-list b₁ o₁ γ₁ sessions, (at-list b₂ o₂ γ₂ streams, (at-list b₃ o₃ γ₃ objects, (at-list b₄ o₄ γ₄ held, (at-list b₅ o₅ γ₅ parts, (at-list b₆ o₆ γ₆ lengths, (at-list b₇ o₇ γ₇ rebuilt, (at-list b₈ o₈ γ₈ hours, (at-list b₉ o₉ γ₉ windows, (host, (c, tt)))))))))))
+
+  abbrev at : Vals f.signature (κ₁, (κ₂, (κ₃, (κ₄, (κ₅, (κ₆, (κ₇, (κ₈, (κ₉, tt)))))))))
+  at = (sliceVal (b₁, o₁) n₁ ∷ [], (sliceVal (b₂, o₂) n₂ ∷ [], (sliceVal (b₃, o₃) n₃ ∷ [], (sliceVal (b₄, o₄) n₄ ∷ [], (sliceVal (b₅, o₅) n₅ ∷ [], (sliceVal (b₆, o₆) n₆ ∷ [], (sliceVal (b₇, o₇) n₇ ∷ [], (sliceVal (b₈, o₈) n₈ ∷ [], (sliceVal (b₉, o₉) n₉ ∷ [], (Host-p .val host ∷ [], (Command-p .val c ∷ [], tt)))))))))))
 
   abbrev Post : Val → SProp 𝓤
-  Post = walkOf 𝓤 H A f.ended stayed (f.clauses 𝓤 H A mem run) .post (((κ₁, (κ₂, (κ₃, (κ₄, (κ₅, (κ₆, (κ₇, tt))))))), (q₁, (q₂, (q₃, (q₄, (q₅, (q₆, (q₇, tt))))))), tt, x, at), tt)
+  Post = walkOf 𝓤 H A f.ended stayed (f.clauses 𝓤 H A mem run) .post (((κ₁, (κ₂, (κ₃, (κ₄, (κ₅, (κ₆, (κ₇, (κ₈, (κ₉, tt))))))))), (q₁, (q₂, (q₃, (q₄, (q₅, (q₆, (q₇, (q₈, (q₉, tt))))))))), tt, x, at), tt)
 
-  exits : (r : Host) (ws₁ : List (List ℕ)) (ws₂ : List (List ℕ)) (ws₃ : List Object) → Is (Host-p .row) r (Host-p .val r ∷ []) → length ws₁ ≡ n₁ → length ws₂ ≡ n₂ → length ws₃ ≡ n₃ → ent 𝓤 (⋆ 𝓤 H A (‵ (MutSlice (named 0) κ₁ (Array u64 8) .own (at-list b₁ o₁ γ₁ ws₁) (sliceVal (b₁, o₁) n₁ ∷ [])) ∷ ‵ (flft κ₁ q₁) ∷ ‵ (MutSlice (named 1) κ₂ (Array u16 35) .own (at-list b₂ o₂ γ₂ ws₂) (sliceVal (b₂, o₂) n₂ ∷ [])) ∷ ‵ (flft κ₂ q₂) ∷ ‵ (MutSlice (named 2) κ₃ Object-t.the-row .own (at-list b₃ o₃ γ₃ ws₃) (sliceVal (b₃, o₃) n₃ ∷ [])) ∷ ‵ (flft κ₃ q₃) ∷ ‵ (ShrSlice (named 3) κ₄ u8 .own (at-list b₄ o₄ γ₄ held) (sliceVal (b₄, o₄) n₄ ∷ [])) ∷ ‵ (flft κ₄ q₄) ∷ ‵ (ShrSlice (named 4) κ₅ u8 .own (at-list b₅ o₅ γ₅ parts) (sliceVal (b₅, o₅) n₅ ∷ [])) ∷ ‵ (flft κ₅ q₅) ∷ ‵ (ShrSlice (named 5) κ₆ u32 .own (at-list b₆ o₆ γ₆ lengths) (sliceVal (b₆, o₆) n₆ ∷ [])) ∷ ‵ (flft κ₆ q₆) ∷ ‵ (ShrSlice (named 6) κ₇ u8 .own (at-list b₇ o₇ γ₇ rebuilt) (sliceVal (b₇, o₇) n₇ ∷ [])) ∷ ‵ (flft κ₇ q₇) ∷ [])) (Post (Host-p .val r))
-  exits r ws₁ ws₂ ws₃ r-is len₁ len₂ len₃ =
-      qed W (‵ (MutSlice (named 0) κ₁ (Array u64 8) .own (at-list b₁ o₁ γ₁ ws₁) (sliceVal (b₁, o₁) n₁ ∷ [])) ∷ ‵ (flft κ₁ q₁) ∷ ‵ (MutSlice (named 1) κ₂ (Array u16 35) .own (at-list b₂ o₂ γ₂ ws₂) (sliceVal (b₂, o₂) n₂ ∷ [])) ∷ ‵ (flft κ₂ q₂) ∷ ‵ (MutSlice (named 2) κ₃ Object-t.the-row .own (at-list b₃ o₃ γ₃ ws₃) (sliceVal (b₃, o₃) n₃ ∷ [])) ∷ ‵ (flft κ₃ q₃) ∷ ‵ (ShrSlice (named 3) κ₄ u8 .own (at-list b₄ o₄ γ₄ held) (sliceVal (b₄, o₄) n₄ ∷ [])) ∷ ‵ (flft κ₄ q₄) ∷ ‵ (ShrSlice (named 4) κ₅ u8 .own (at-list b₅ o₅ γ₅ parts) (sliceVal (b₅, o₅) n₅ ∷ [])) ∷ ‵ (flft κ₅ q₅) ∷ ‵ (ShrSlice (named 5) κ₆ u32 .own (at-list b₆ o₆ γ₆ lengths) (sliceVal (b₆, o₆) n₆ ∷ [])) ∷ ‵ (flft κ₆ q₆) ∷ ‵ (ShrSlice (named 6) κ₇ u8 .own (at-list b₇ o₇ γ₇ rebuilt) (sliceVal (b₇, o₇) n₇ ∷ [])) ∷ ‵ (flft κ₇ q₇) ∷ []) ∵
-      suffices ! _ (ends-at 𝓤 H A f.ended stayed (f.clauses 𝓤 H A mem run) W (((κ₁, (κ₂, (κ₃, (κ₄, (κ₅, (κ₆, (κ₇, tt))))))), (q₁, (q₂, (q₃, (q₄, (q₅, (q₆, (q₇, tt))))))), tt, x, at), tt) (Host-p .val r) r (ws₁, (ws₂, (ws₃, (tt, (tt, (tt, (tt, (tt, (tt, tt))))))))) (len₁, (len₂, (len₃, (tt, (tt, (tt, (tt, (tt, (tt, tt)))))))))) $ says-nothing ! $ nothing ! $ move ! (14 ∷ 0 ∷ []) $ join ! $ move ! (12 ∷ 0 ∷ []) $ join ! $ move ! (10 ∷ 0 ∷ []) $ join ! $ move ! (8 ∷ 0 ∷ []) $ join ! $ move ! (6 ∷ 0 ∷ []) $ join ! $ move ! (4 ∷ 0 ∷ []) $ join ! $ move ! (2 ∷ 0 ∷ []) $ join ! $
+  exits : (r : Host) (ws₁ : List (List ℕ)) (ws₂ : List (List ℕ)) (ws₃ : List Object) (ws₈ : List ℕ) (ws₉ : List (List ℕ)) → Is (Host-p .row) r (Host-p .val r ∷ []) → length ws₁ ≡ n₁ → length ws₂ ≡ n₂ → length ws₃ ≡ n₃ → length ws₈ ≡ n₈ → length ws₉ ≡ n₉ → ent 𝓤 (⋆ 𝓤 H A (‵ (MutSlice (named 0) κ₁ (Array u64 8) .own (at-list b₁ o₁ γ₁ ws₁) (sliceVal (b₁, o₁) n₁ ∷ [])) ∷ ‵ (flft κ₁ q₁) ∷ ‵ (MutSlice (named 1) κ₂ (Array u16 35) .own (at-list b₂ o₂ γ₂ ws₂) (sliceVal (b₂, o₂) n₂ ∷ [])) ∷ ‵ (flft κ₂ q₂) ∷ ‵ (MutSlice (named 2) κ₃ Object-t.the-row .own (at-list b₃ o₃ γ₃ ws₃) (sliceVal (b₃, o₃) n₃ ∷ [])) ∷ ‵ (flft κ₃ q₃) ∷ ‵ (ShrSlice (named 3) κ₄ u8 .own (at-list b₄ o₄ γ₄ held) (sliceVal (b₄, o₄) n₄ ∷ [])) ∷ ‵ (flft κ₄ q₄) ∷ ‵ (ShrSlice (named 4) κ₅ u8 .own (at-list b₅ o₅ γ₅ parts) (sliceVal (b₅, o₅) n₅ ∷ [])) ∷ ‵ (flft κ₅ q₅) ∷ ‵ (ShrSlice (named 5) κ₆ u32 .own (at-list b₆ o₆ γ₆ lengths) (sliceVal (b₆, o₆) n₆ ∷ [])) ∷ ‵ (flft κ₆ q₆) ∷ ‵ (ShrSlice (named 6) κ₇ u8 .own (at-list b₇ o₇ γ₇ rebuilt) (sliceVal (b₇, o₇) n₇ ∷ [])) ∷ ‵ (flft κ₇ q₇) ∷ ‵ (MutSlice (named 7) κ₈ u8 .own (at-list b₈ o₈ γ₈ ws₈) (sliceVal (b₈, o₈) n₈ ∷ [])) ∷ ‵ (flft κ₈ q₈) ∷ ‵ (MutSlice (named 8) κ₉ (Array u16 3) .own (at-list b₉ o₉ γ₉ ws₉) (sliceVal (b₉, o₉) n₉ ∷ [])) ∷ ‵ (flft κ₉ q₉) ∷ [])) (Post (Host-p .val r))
+  exits r ws₁ ws₂ ws₃ ws₈ ws₉ r-is len₁ len₂ len₃ len₈ len₉ =
+      qed W (‵ (MutSlice (named 0) κ₁ (Array u64 8) .own (at-list b₁ o₁ γ₁ ws₁) (sliceVal (b₁, o₁) n₁ ∷ [])) ∷ ‵ (flft κ₁ q₁) ∷ ‵ (MutSlice (named 1) κ₂ (Array u16 35) .own (at-list b₂ o₂ γ₂ ws₂) (sliceVal (b₂, o₂) n₂ ∷ [])) ∷ ‵ (flft κ₂ q₂) ∷ ‵ (MutSlice (named 2) κ₃ Object-t.the-row .own (at-list b₃ o₃ γ₃ ws₃) (sliceVal (b₃, o₃) n₃ ∷ [])) ∷ ‵ (flft κ₃ q₃) ∷ ‵ (ShrSlice (named 3) κ₄ u8 .own (at-list b₄ o₄ γ₄ held) (sliceVal (b₄, o₄) n₄ ∷ [])) ∷ ‵ (flft κ₄ q₄) ∷ ‵ (ShrSlice (named 4) κ₅ u8 .own (at-list b₅ o₅ γ₅ parts) (sliceVal (b₅, o₅) n₅ ∷ [])) ∷ ‵ (flft κ₅ q₅) ∷ ‵ (ShrSlice (named 5) κ₆ u32 .own (at-list b₆ o₆ γ₆ lengths) (sliceVal (b₆, o₆) n₆ ∷ [])) ∷ ‵ (flft κ₆ q₆) ∷ ‵ (ShrSlice (named 6) κ₇ u8 .own (at-list b₇ o₇ γ₇ rebuilt) (sliceVal (b₇, o₇) n₇ ∷ [])) ∷ ‵ (flft κ₇ q₇) ∷ ‵ (MutSlice (named 7) κ₈ u8 .own (at-list b₈ o₈ γ₈ ws₈) (sliceVal (b₈, o₈) n₈ ∷ [])) ∷ ‵ (flft κ₈ q₈) ∷ ‵ (MutSlice (named 8) κ₉ (Array u16 3) .own (at-list b₉ o₉ γ₉ ws₉) (sliceVal (b₉, o₉) n₉ ∷ [])) ∷ ‵ (flft κ₉ q₉) ∷ []) ∵
+      suffices ! _ (ends-at 𝓤 H A f.ended stayed (f.clauses 𝓤 H A mem run) W (((κ₁, (κ₂, (κ₃, (κ₄, (κ₅, (κ₆, (κ₇, (κ₈, (κ₉, tt))))))))), (q₁, (q₂, (q₃, (q₄, (q₅, (q₆, (q₇, (q₈, (q₉, tt))))))))), tt, x, at), tt) (Host-p .val r) r (ws₁, (ws₂, (ws₃, (tt, (tt, (tt, (tt, (ws₈, (ws₉, (tt, (tt, tt))))))))))) (len₁, (len₂, (len₃, (tt, (tt, (tt, (tt, (len₈, (len₉, (tt, (tt, tt)))))))))))) $ says-nothing ! $ nothing ! $ move ! (18 ∷ 0 ∷ []) $ join ! $ move ! (16 ∷ 0 ∷ []) $ join ! $ move ! (14 ∷ 0 ∷ []) $ join ! $ move ! (12 ∷ 0 ∷ []) $ join ! $ move ! (10 ∷ 0 ∷ []) $ join ! $ move ! (8 ∷ 0 ∷ []) $ join ! $ move ! (6 ∷ 0 ∷ []) $ join ! $ move ! (4 ∷ 0 ∷ []) $ join ! $ move ! (2 ∷ 0 ∷ []) $ join ! $
       frame ! $ nothing ! $
       owned ! (Command-p .row) (Is (Command-p .row)) (Command-p .makes 𝓤 H A W) c (Command-p .val c ∷ []) c-is $ fjoin ! $
-      owned ! (Host-p .row) (Is (Host-p .row)) (Host-p .makes 𝓤 H A W) host (Host-p .val host ∷ []) host-is $ fjoin ! $ move ! (7 ∷ 0 ∷ []) $ fjoin ! $ move ! (6 ∷ 0 ∷ []) $ fjoin ! $ move ! (5 ∷ 0 ∷ []) $ fjoin ! $ move ! (4 ∷ 0 ∷ []) $ fjoin ! $ move ! (3 ∷ 0 ∷ []) $ fjoin ! $ move ! (2 ∷ 0 ∷ []) $ fjoin ! $ move ! (1 ∷ 0 ∷ []) $ fjoin ! $
+      owned ! (Host-p .row) (Is (Host-p .row)) (Host-p .makes 𝓤 H A W) host (Host-p .val host ∷ []) host-is $ fjoin ! $ move ! (9 ∷ 0 ∷ []) $ fjoin ! $ move ! (8 ∷ 0 ∷ []) $ fjoin ! $ move ! (7 ∷ 0 ∷ []) $ fjoin ! $ move ! (6 ∷ 0 ∷ []) $ fjoin ! $ move ! (5 ∷ 0 ∷ []) $ fjoin ! $ move ! (4 ∷ 0 ∷ []) $ fjoin ! $ move ! (3 ∷ 0 ∷ []) $ fjoin ! $ move ! (2 ∷ 0 ∷ []) $ fjoin ! $ move ! (1 ∷ 0 ∷ []) $ fjoin ! $
       frame ! $
       owned ! (Host-p .row) (Is (Host-p .row)) (Host-p .makes 𝓤 H A W) r _ r-is $ done !
 
-  module _ (𝓣 : Tables 𝓤 H) (known-host-max-clients : Triple 𝓤 (𝓣 .C #host-max-clients) (Of-host-max-clients 𝓤 H A mem run)) (known-agent-setup : Triple 𝓤 (𝓣 .C #agent-setup) (Of-agent-setup 𝓤 H A mem run)) (known-host-set-up-said : Triple 𝓤 (𝓣 .C #host-set-up-said) (Of-host-set-up-said 𝓤 H A mem run)) (l₀ l₁ l₂ l₃ l₄ l₅ l₆ l₇ l₈ l₉ l₁₀ l₁₁ l₁₂ l₁₃ l₁₄ l₁₅ l₁₆ l₁₇ : ℕ) where
+  module _ (𝓣 : Tables 𝓤 H) (known-host-max-clients : Triple 𝓤 (𝓣 .C #host-max-clients) (Of-host-max-clients 𝓤 H A mem run)) (known-agent-setup : Triple 𝓤 (𝓣 .C #agent-setup) (Of-agent-setup 𝓤 H A mem run)) (known-host-set-up-said : Triple 𝓤 (𝓣 .C #host-set-up-said) (Of-host-set-up-said 𝓤 H A mem run)) (l₀ l₁ l₂ l₃ l₄ l₅ l₆ l₇ l₈ l₉ l₁₀ l₁₁ l₁₂ l₁₃ l₁₄ l₁₅ l₁₆ l₁₇ l₁₈ l₁₉ l₂₀ l₂₁ l₂₂ l₂₃ : ℕ) where
     abbrev C : Calls 𝓤 H
     C = 𝓣 .C
 
@@ -223,77 +241,90 @@ module _ {M : Type 1} (𝓤 : URA M) (H : Heap 𝓤) (A : Atoms 𝓤) (W : Given
     fm = fmOf 𝓤 H (W .laws) 𝓣
 
     abbrev En : Env 𝓤 H
-    En = (Host-l.mir, l₀) ∷ ((sliceTy (tyRef (named 0) mut (pointee ((Array u64 8) .written)))), l₁) ∷ ((sliceTy (tyRef (named 1) mut (pointee ((Array u16 35) .written)))), l₂) ∷ ((sliceTy (tyRef (named 2) mut (pointee (Object-t.the-row .written)))), l₃) ∷ ((sliceTy (tyRef (named 3) imm (pointee (u8 .written)))), l₄) ∷ ((sliceTy (tyRef (named 4) imm (pointee (u8 .written)))), l₅) ∷ ((sliceTy (tyRef (named 5) imm (pointee (u32 .written)))), l₆) ∷ ((sliceTy (tyRef (named 6) imm (pointee (u8 .written)))), l₇) ∷ (Host-l.mir, l₈) ∷ (Command-l.mir, l₉) ∷ ((tyInt w64), l₁₀) ∷ (AgentSetUp-l.mir, l₁₁) ∷ ((tyRef erased mut (pointee ((Array u64 8) .written))), l₁₂) ∷ ((sliceTy (tyRef erased mut (pointee ((Array u64 8) .written)))), l₁₃) ∷ ((tyRef erased mut (pointee ((Array u16 35) .written))), l₁₄) ∷ ((sliceTy (tyRef erased mut (pointee ((Array u16 35) .written)))), l₁₅) ∷ ((tyRef erased mut (pointee (Object-t.the-row .written))), l₁₆) ∷ ((sliceTy (tyRef erased mut (pointee (Object-t.the-row .written)))), l₁₇) ∷ []
+    En = (Host-l.mir, l₀) ∷ ((sliceTy (tyRef (named 0) mut (pointee ((Array u64 8) .written)))), l₁) ∷ ((sliceTy (tyRef (named 1) mut (pointee ((Array u16 35) .written)))), l₂) ∷ ((sliceTy (tyRef (named 2) mut (pointee (Object-t.the-row .written)))), l₃) ∷ ((sliceTy (tyRef (named 3) imm (pointee (u8 .written)))), l₄) ∷ ((sliceTy (tyRef (named 4) imm (pointee (u8 .written)))), l₅) ∷ ((sliceTy (tyRef (named 5) imm (pointee (u32 .written)))), l₆) ∷ ((sliceTy (tyRef (named 6) imm (pointee (u8 .written)))), l₇) ∷ ((sliceTy (tyRef (named 7) mut (pointee (u8 .written)))), l₈) ∷ ((sliceTy (tyRef (named 8) mut (pointee ((Array u16 3) .written)))), l₉) ∷ (Host-l.mir, l₁₀) ∷ (Command-l.mir, l₁₁) ∷ ((tyInt w64), l₁₂) ∷ (AgentSetUp-l.mir, l₁₃) ∷ ((tyRef erased mut (pointee ((Array u64 8) .written))), l₁₄) ∷ ((sliceTy (tyRef erased mut (pointee ((Array u64 8) .written)))), l₁₅) ∷ ((tyRef erased mut (pointee ((Array u16 35) .written))), l₁₆) ∷ ((sliceTy (tyRef erased mut (pointee ((Array u16 35) .written)))), l₁₇) ∷ ((tyRef erased mut (pointee (Object-t.the-row .written))), l₁₈) ∷ ((sliceTy (tyRef erased mut (pointee (Object-t.the-row .written)))), l₁₉) ∷ ((tyRef erased mut (pointee (u8 .written))), l₂₀) ∷ ((sliceTy (tyRef erased mut (pointee (u8 .written)))), l₂₁) ∷ ((tyRef erased imm (pointee ((Array u16 3) .written))), l₂₂) ∷ ((sliceTy (tyRef erased imm (pointee ((Array u16 3) .written)))), l₂₃) ∷ []
 
-    begins : Sq W (‵ (MutSlice (named 0) κ₁ (Array u64 8) .own (at-list b₁ o₁ γ₁ sessions) (sliceVal (b₁, o₁) n₁ ∷ [])) ∷ ‵ (flft κ₁ q₁) ∷ ‵ (MutSlice (named 0) κ₂ (Array u16 35) .own (at-list b₂ o₂ γ₂ streams) (sliceVal (b₂, o₂) n₂ ∷ [])) ∷ ‵ (flft κ₂ q₂) ∷ ‵ (MutSlice (named 0) κ₃ Object-t.the-row .own (at-list b₃ o₃ γ₃ objects) (sliceVal (b₃, o₃) n₃ ∷ [])) ∷ ‵ (flft κ₃ q₃) ∷ ‵ (ShrSlice (named 0) κ₄ u8 .own (at-list b₄ o₄ γ₄ held) (sliceVal (b₄, o₄) n₄ ∷ [])) ∷ ‵ (flft κ₄ q₄) ∷ ‵ (ShrSlice (named 0) κ₅ u8 .own (at-list b₅ o₅ γ₅ parts) (sliceVal (b₅, o₅) n₅ ∷ [])) ∷ ‵ (flft κ₅ q₅) ∷ ‵ (ShrSlice (named 0) κ₆ u32 .own (at-list b₆ o₆ γ₆ lengths) (sliceVal (b₆, o₆) n₆ ∷ [])) ∷ ‵ (flft κ₆ q₆) ∷ ‵ (ShrSlice (named 0) κ₇ u8 .own (at-list b₇ o₇ γ₇ rebuilt) (sliceVal (b₇, o₇) n₇ ∷ [])) ∷ ‵ (flft κ₇ q₇) ∷ free 𝓤 (sliceTy (tyRef erased mut (pointee (Object-t.the-row .written)))) l₁₇ (free 𝓤 (tyRef erased mut (pointee (Object-t.the-row .written))) l₁₆ (free 𝓤 (sliceTy (tyRef erased mut (pointee ((Array u16 35) .written)))) l₁₅ (free 𝓤 (tyRef erased mut (pointee ((Array u16 35) .written))) l₁₄ (free 𝓤 (sliceTy (tyRef erased mut (pointee ((Array u64 8) .written)))) l₁₃ (free 𝓤 (tyRef erased mut (pointee ((Array u64 8) .written))) l₁₂ (free 𝓤 AgentSetUp-l.mir l₁₁ (free 𝓤 (tyInt w64) l₁₀ (full 𝓤 Command-l.mir l₉ (Command-p .val c) (full 𝓤 Host-l.mir l₈ (Host-p .val host) (full 𝓤 (sliceTy (tyRef (named 6) imm (pointee (u8 .written)))) l₇ (sliceVal (b₇, o₇) n₇) (full 𝓤 (sliceTy (tyRef (named 5) imm (pointee (u32 .written)))) l₆ (sliceVal (b₆, o₆) n₆) (full 𝓤 (sliceTy (tyRef (named 4) imm (pointee (u8 .written)))) l₅ (sliceVal (b₅, o₅) n₅) (full 𝓤 (sliceTy (tyRef (named 3) imm (pointee (u8 .written)))) l₄ (sliceVal (b₄, o₄) n₄) (full 𝓤 (sliceTy (tyRef (named 2) mut (pointee (Object-t.the-row .written)))) l₃ (sliceVal (b₃, o₃) n₃) (full 𝓤 (sliceTy (tyRef (named 1) mut (pointee ((Array u16 35) .written)))) l₂ (sliceVal (b₂, o₂) n₂) (full 𝓤 (sliceTy (tyRef (named 0) mut (pointee ((Array u64 8) .written)))) l₁ (sliceVal (b₁, o₁) n₁) (free 𝓤 Host-l.mir l₀ ([]))))))))))))))))))) (runs C Λ En mir.t-1 (atRet En Post))
+    begins : Sq W (‵ (MutSlice (named 0) κ₁ (Array u64 8) .own (at-list b₁ o₁ γ₁ sessions) (sliceVal (b₁, o₁) n₁ ∷ [])) ∷ ‵ (flft κ₁ q₁) ∷ ‵ (MutSlice (named 0) κ₂ (Array u16 35) .own (at-list b₂ o₂ γ₂ streams) (sliceVal (b₂, o₂) n₂ ∷ [])) ∷ ‵ (flft κ₂ q₂) ∷ ‵ (MutSlice (named 0) κ₃ Object-t.the-row .own (at-list b₃ o₃ γ₃ objects) (sliceVal (b₃, o₃) n₃ ∷ [])) ∷ ‵ (flft κ₃ q₃) ∷ ‵ (ShrSlice (named 0) κ₄ u8 .own (at-list b₄ o₄ γ₄ held) (sliceVal (b₄, o₄) n₄ ∷ [])) ∷ ‵ (flft κ₄ q₄) ∷ ‵ (ShrSlice (named 0) κ₅ u8 .own (at-list b₅ o₅ γ₅ parts) (sliceVal (b₅, o₅) n₅ ∷ [])) ∷ ‵ (flft κ₅ q₅) ∷ ‵ (ShrSlice (named 0) κ₆ u32 .own (at-list b₆ o₆ γ₆ lengths) (sliceVal (b₆, o₆) n₆ ∷ [])) ∷ ‵ (flft κ₆ q₆) ∷ ‵ (ShrSlice (named 0) κ₇ u8 .own (at-list b₇ o₇ γ₇ rebuilt) (sliceVal (b₇, o₇) n₇ ∷ [])) ∷ ‵ (flft κ₇ q₇) ∷ ‵ (MutSlice (named 0) κ₈ u8 .own (at-list b₈ o₈ γ₈ hours) (sliceVal (b₈, o₈) n₈ ∷ [])) ∷ ‵ (flft κ₈ q₈) ∷ ‵ (MutSlice (named 0) κ₉ (Array u16 3) .own (at-list b₉ o₉ γ₉ windows) (sliceVal (b₉, o₉) n₉ ∷ [])) ∷ ‵ (flft κ₉ q₉) ∷ free 𝓤 (sliceTy (tyRef erased imm (pointee ((Array u16 3) .written)))) l₂₃ (free 𝓤 (tyRef erased imm (pointee ((Array u16 3) .written))) l₂₂ (free 𝓤 (sliceTy (tyRef erased mut (pointee (u8 .written)))) l₂₁ (free 𝓤 (tyRef erased mut (pointee (u8 .written))) l₂₀ (free 𝓤 (sliceTy (tyRef erased mut (pointee (Object-t.the-row .written)))) l₁₉ (free 𝓤 (tyRef erased mut (pointee (Object-t.the-row .written))) l₁₈ (free 𝓤 (sliceTy (tyRef erased mut (pointee ((Array u16 35) .written)))) l₁₇ (free 𝓤 (tyRef erased mut (pointee ((Array u16 35) .written))) l₁₆ (free 𝓤 (sliceTy (tyRef erased mut (pointee ((Array u64 8) .written)))) l₁₅ (free 𝓤 (tyRef erased mut (pointee ((Array u64 8) .written))) l₁₄ (free 𝓤 AgentSetUp-l.mir l₁₃ (free 𝓤 (tyInt w64) l₁₂ (full 𝓤 Command-l.mir l₁₁ (Command-p .val c) (full 𝓤 Host-l.mir l₁₀ (Host-p .val host) (full 𝓤 (sliceTy (tyRef (named 8) mut (pointee ((Array u16 3) .written)))) l₉ (sliceVal (b₉, o₉) n₉) (full 𝓤 (sliceTy (tyRef (named 7) mut (pointee (u8 .written)))) l₈ (sliceVal (b₈, o₈) n₈) (full 𝓤 (sliceTy (tyRef (named 6) imm (pointee (u8 .written)))) l₇ (sliceVal (b₇, o₇) n₇) (full 𝓤 (sliceTy (tyRef (named 5) imm (pointee (u32 .written)))) l₆ (sliceVal (b₆, o₆) n₆) (full 𝓤 (sliceTy (tyRef (named 4) imm (pointee (u8 .written)))) l₅ (sliceVal (b₅, o₅) n₅) (full 𝓤 (sliceTy (tyRef (named 3) imm (pointee (u8 .written)))) l₄ (sliceVal (b₄, o₄) n₄) (full 𝓤 (sliceTy (tyRef (named 2) mut (pointee (Object-t.the-row .written)))) l₃ (sliceVal (b₃, o₃) n₃) (full 𝓤 (sliceTy (tyRef (named 1) mut (pointee ((Array u16 35) .written)))) l₂ (sliceVal (b₂, o₂) n₂) (full 𝓤 (sliceTy (tyRef (named 0) mut (pointee ((Array u64 8) .written)))) l₁ (sliceVal (b₁, o₁) n₁) (free 𝓤 Host-l.mir l₀ ([]))))))))))))))))))))))))) (runs C Λ En mir.t-1 (atRet En Post))
     begins =
         -- 1: replay::host::max_clients
         nothing ! $
         use1 W (raw (toks 𝓤 A 0 (tt) (tt))) (id⊢ 𝓤 _) $ nothing ! $
         owned ! (Command-p .row) (Is (Command-p .row)) (Command-p .makes 𝓤 H A W) c (Command-p .val c ∷ []) c-is $ fjoin ! $ move ! (1 ∷ 0 ∷ []) $
-        calls-some ! fm 0 [] (host-max-clients.signature .params) (host-max-clients.ended .kept) u64-p (host-max-clients.clauses 𝓤 H A mem run) known-host-max-clients tt tt tt (c, tt) (Command-p .val c ∷ [], tt) tt (λ r ws-1. Unit {0}) (id⊢ 𝓤 _) (λ r ws-1. factI 𝓤 (Unit {0}) _ tt) (λ _. (and-then ! (load ! (from ! (stop !)) (look ! 31 refl)) (no-more !))) (λ r-1 ws-1 said-1 is-1.
+        calls-some ! fm 0 [] (host-max-clients.signature .params) (host-max-clients.ended .kept) u64-p (host-max-clients.clauses 𝓤 H A mem run) known-host-max-clients tt tt tt (c, tt) (Command-p .val c ∷ [], tt) tt (λ r ws-1. Unit {0}) (id⊢ 𝓤 _) (λ r ws-1. factI 𝓤 (Unit {0}) _ tt) (λ _. (and-then ! (load ! (from ! (stop !)) (look ! 43 refl)) (no-more !))) (λ r-1 ws-1 said-1 is-1.
         drop ! $ drop ! $
-        land ! (from ! (stop !)) (init ! 28 refl (u64-p .typed 𝓤 H A W r-1 is-1)) $
-        assigns ! (addr ! (from ! (fld ! refl (hop ! (look-in ! 46 (sub ! 0 refl (whole !))) (stop !))))) (from ! (stop !)) (init ! 24 refl (tt, tt)) $
-        assigns ! (agg ! (and-then ! (load ! (from ! (stop !)) (look ! 24 refl)) (and-then ! (load ! (from ! (fld ! refl (stop !))) (look-in ! 46 (sub ! 1 refl (whole !)))) (no-more !)))) (from ! (stop !)) (init ! 22 refl (tt, (tt, (record { fits = room₁ .0 }, tt)))) $
-        assigns ! (addr ! (from ! (fld ! refl (hop ! (look-in ! 44 (sub ! 0 refl (whole !))) (stop !))))) (from ! (stop !)) (init ! 20 refl (tt, tt)) $
-        assigns ! (agg ! (and-then ! (load ! (from ! (stop !)) (look ! 20 refl)) (and-then ! (load ! (from ! (fld ! refl (stop !))) (look-in ! 44 (sub ! 1 refl (whole !)))) (no-more !)))) (from ! (stop !)) (init ! 18 refl (tt, (tt, (record { fits = room₂ .0 }, tt)))) $
-        assigns ! (addr ! (from ! (fld ! refl (hop ! (look-in ! 42 (sub ! 0 refl (whole !))) (stop !))))) (from ! (stop !)) (init ! 16 refl (tt, tt)) $
-        assigns ! (agg ! (and-then ! (load ! (from ! (stop !)) (look ! 16 refl)) (and-then ! (load ! (from ! (fld ! refl (stop !))) (look-in ! 42 (sub ! 1 refl (whole !)))) (no-more !)))) (from ! (stop !)) (init ! 14 refl (tt, (tt, (record { fits = room₃ .0 }, tt)))) $
-        -- 8: agent::agent::setup
-        lends-mut ! tt (Array u64 8) b₁ o₁ sessions n₁ (refl) (λ ν-8-sessions δ-8-sessions.
+        land ! (from ! (stop !)) (init ! 40 refl (u64-p .typed 𝓤 H A W r-1 is-1)) $
+        assigns ! (addr ! (from ! (fld ! refl (hop ! (look-in ! 62 (sub ! 0 refl (whole !))) (stop !))))) (from ! (stop !)) (init ! 36 refl (tt, tt)) $
+        assigns ! (agg ! (and-then ! (load ! (from ! (stop !)) (look ! 36 refl)) (and-then ! (load ! (from ! (fld ! refl (stop !))) (look-in ! 62 (sub ! 1 refl (whole !)))) (no-more !)))) (from ! (stop !)) (init ! 34 refl (tt, (tt, (record { fits = room₁ .0 }, tt)))) $
+        assigns ! (addr ! (from ! (fld ! refl (hop ! (look-in ! 60 (sub ! 0 refl (whole !))) (stop !))))) (from ! (stop !)) (init ! 32 refl (tt, tt)) $
+        assigns ! (agg ! (and-then ! (load ! (from ! (stop !)) (look ! 32 refl)) (and-then ! (load ! (from ! (fld ! refl (stop !))) (look-in ! 60 (sub ! 1 refl (whole !)))) (no-more !)))) (from ! (stop !)) (init ! 30 refl (tt, (tt, (record { fits = room₂ .0 }, tt)))) $
+        assigns ! (addr ! (from ! (fld ! refl (hop ! (look-in ! 58 (sub ! 0 refl (whole !))) (stop !))))) (from ! (stop !)) (init ! 28 refl (tt, tt)) $
+        assigns ! (agg ! (and-then ! (load ! (from ! (stop !)) (look ! 28 refl)) (and-then ! (load ! (from ! (fld ! refl (stop !))) (look-in ! 58 (sub ! 1 refl (whole !)))) (no-more !)))) (from ! (stop !)) (init ! 26 refl (tt, (tt, (record { fits = room₃ .0 }, tt)))) $
+        assigns ! (addr ! (from ! (fld ! refl (hop ! (look-in ! 48 (sub ! 0 refl (whole !))) (stop !))))) (from ! (stop !)) (init ! 24 refl (tt, tt)) $
+        assigns ! (agg ! (and-then ! (load ! (from ! (stop !)) (look ! 24 refl)) (and-then ! (load ! (from ! (fld ! refl (stop !))) (look-in ! 48 (sub ! 1 refl (whole !)))) (no-more !)))) (from ! (stop !)) (init ! 22 refl (tt, (tt, (record { fits = room₈ .0 }, tt)))) $
+        assigns ! (addr ! (from ! (fld ! refl (hop ! (look-in ! 46 (sub ! 0 refl (whole !))) (stop !))))) (from ! (stop !)) (init ! 20 refl (tt, tt)) $
+        assigns ! (agg ! (and-then ! (load ! (from ! (stop !)) (look ! 20 refl)) (and-then ! (load ! (from ! (fld ! refl (stop !))) (look-in ! 46 (sub ! 1 refl (whole !)))) (no-more !)))) (from ! (stop !)) (init ! 18 refl (tt, (tt, (record { fits = room₉ .0 }, tt)))) $
+        -- 12: agent::agent::setup
+        lends-mut ! tt (Array u64 8) b₁ o₁ sessions n₁ (refl) (λ ν-12-sessions δ-12-sessions.
         move ! (3 ∷ 4 ∷ []) $
-        lends-mut ! tt (Array u16 35) b₂ o₂ streams n₂ (refl) (λ ν-8-streams δ-8-streams.
+        lends-mut ! tt (Array u16 35) b₂ o₂ streams n₂ (refl) (λ ν-12-streams δ-12-streams.
         move ! (6 ∷ 7 ∷ []) $
-        lends-mut ! tt Object-t.the-row b₃ o₃ objects n₃ (refl) (λ ν-8-objects δ-8-objects.
+        lends-mut ! tt Object-t.the-row b₃ o₃ objects n₃ (refl) (λ ν-12-objects δ-12-objects.
         move ! (9 ∷ 10 ∷ []) $
         copies-shr ! u8 b₄ o₄ held n₄ $ move ! (12 ∷ 13 ∷ []) $
         copies-shr ! u8 b₅ o₅ parts n₅ $ move ! (15 ∷ 16 ∷ []) $
         copies-shr ! u32 b₆ o₆ lengths n₆ $ move ! (18 ∷ 19 ∷ []) $
-        copies-shr ! u8 b₇ o₇ rebuilt n₇ $ nothing ! $ move ! (1 ∷ 0 ∷ []) $ join ! $ move ! (3 ∷ 0 ∷ []) $ join ! $ move ! (5 ∷ 0 ∷ []) $ join ! $ move ! (7 ∷ 0 ∷ []) $ join ! $ move ! (9 ∷ 0 ∷ []) $ join ! $ move ! (11 ∷ 0 ∷ []) $ join ! $ move ! (13 ∷ 0 ∷ []) $ join ! $
-        use1 W (raw (toks 𝓤 A 7 (((ν-8-sessions ∷ []), ((ν-8-streams ∷ []), ((ν-8-objects ∷ []), (κ₄, (κ₅, (κ₆, (κ₇, tt)))))))) ((fullShare, (fullShare, (fullShare, (q₄, (q₅, (q₆, (q₇, tt)))))))))) (id⊢ 𝓤 _) $ nothing ! $
+        copies-shr ! u8 b₇ o₇ rebuilt n₇ $ move ! (21 ∷ 22 ∷ []) $
+        lends-mut ! tt u8 b₈ o₈ hours n₈ (refl) (λ ν-12-hours δ-12-hours.
+        move ! (24 ∷ 25 ∷ []) $
+        lends-view ! tt (Array u16 3) b₉ o₉ windows n₉ (refl) (λ ν-12-windows δ-12-windows.
+        nothing ! $ move ! (1 ∷ 0 ∷ []) $ join ! $ move ! (3 ∷ 0 ∷ []) $ join ! $ move ! (5 ∷ 0 ∷ []) $ join ! $ move ! (7 ∷ 0 ∷ []) $ join ! $ move ! (9 ∷ 0 ∷ []) $ join ! $ move ! (11 ∷ 0 ∷ []) $ join ! $ move ! (13 ∷ 0 ∷ []) $ join ! $ move ! (15 ∷ 0 ∷ []) $ join ! $ move ! (17 ∷ 0 ∷ []) $ join ! $
+        use1 W (raw (toks 𝓤 A 9 (((ν-12-sessions ∷ []), ((ν-12-streams ∷ []), ((ν-12-objects ∷ []), (κ₄, (κ₅, (κ₆, (κ₇, ((ν-12-hours ∷ []), ((ν-12-windows ∷ []), tt)))))))))) ((fullShare, (fullShare, (fullShare, (q₄, (q₅, (q₆, (q₇, (fullShare, (fullShare, tt)))))))))))) (id⊢ 𝓤 _) $ nothing ! $
         owned ! (u64-p .row) (Is (u64-p .row)) (u64-p .makes 𝓤 H A W) (c .second) (u64-p .val (c .second) ∷ []) (LL.owed Command-t.the-type Command-l.the-laws c _ c-is .1 .1 .0) $ fjoin ! $
-        owned ! (u64-p .row) (Is (u64-p .row)) (u64-p .makes 𝓤 H A W) r-1 (u64-p .val r-1 ∷ []) is-1 $ fjoin ! $ move ! (2 ∷ 0 ∷ []) $ fjoin ! $ move ! (3 ∷ 0 ∷ []) $ fjoin ! $ move ! (4 ∷ 0 ∷ []) $ fjoin ! $ move ! (5 ∷ 0 ∷ []) $ fjoin ! $ move ! (6 ∷ 0 ∷ []) $ fjoin ! $ move ! (7 ∷ 0 ∷ []) $ fjoin ! $ move ! (8 ∷ 0 ∷ []) $ fjoin ! $ move ! (1 ∷ 0 ∷ []) $
-        calls-any ! fm 7 [] (agent-setup.signature .params) (agent-setup.ended .kept) AgentSetUp-p (agent-setup.clauses 𝓤 H A mem run) known-agent-setup ((ν-8-sessions ∷ []), ((ν-8-streams ∷ []), ((ν-8-objects ∷ []), (κ₄, (κ₅, (κ₆, (κ₇, tt))))))) (fullShare, (fullShare, (fullShare, (q₄, (q₅, (q₆, (q₇, tt))))))) tt (at-list b₁ o₁ δ-8-sessions sessions, (at-list b₂ o₂ δ-8-streams streams, (at-list b₃ o₃ δ-8-objects objects, (at-list b₄ o₄ γ₄ held, (at-list b₅ o₅ γ₅ parts, (at-list b₆ o₆ γ₆ lengths, (at-list b₇ o₇ γ₇ rebuilt, (r-1, (c .second, tt))))))))) (sliceVal (b₁, o₁) n₁ ∷ [], (sliceVal (b₂, o₂) n₂ ∷ [], (sliceVal (b₃, o₃) n₃ ∷ [], (sliceVal (b₄, o₄) n₄ ∷ [], (sliceVal (b₅, o₅) n₅ ∷ [], (sliceVal (b₆, o₆) n₆ ∷ [], (sliceVal (b₇, o₇) n₇ ∷ [], (u64-p .val r-1 ∷ [], (u64-p .val (c .second) ∷ [], tt))))))))) tt (setUpAs (setUpOf (length (sessions)) (length (streams)) (length (objects)) (length (held)) (length (parts)) (length (lengths)) (length (rebuilt)) r-1) r-1 (c .second)) (λ ws-8. (ws-8 .0 ≡ setUpTables (setUpOf (length (sessions)) (length (streams)) (length (objects)) (length (held)) (length (parts)) (length (lengths)) (length (rebuilt)) r-1) (lent (sessions) (streams) (objects) (held) (parts) (lengths) (rebuilt)) .sessions) × (ws-8 .1 .0 ≡ setUpTables (setUpOf (length (sessions)) (length (streams)) (length (objects)) (length (held)) (length (parts)) (length (lengths)) (length (rebuilt)) r-1) (lent (sessions) (streams) (objects) (held) (parts) (lengths) (rebuilt)) .streams) × (ws-8 .1 .1 .0 ≡ setUpTables (setUpOf (length (sessions)) (length (streams)) (length (objects)) (length (held)) (length (parts)) (length (lengths)) (length (rebuilt)) r-1) (lent (sessions) (streams) (objects) (held) (parts) (lengths) (rebuilt)) .objects)) (id⊢ 𝓤 _) (λ r ws-8. fact-mono 𝓤 ((r ≡ setUpAs (setUpOf (length (sessions)) (length (streams)) (length (objects)) (length (held)) (length (parts)) (length (lengths)) (length (rebuilt)) r-1) r-1 (c .second)) × ((ws-8 .0) ≡ setUpTables (setUpOf (length (sessions)) (length (streams)) (length (objects)) (length (held)) (length (parts)) (length (lengths)) (length (rebuilt)) r-1) (lent (sessions) (streams) (objects) (held) (parts) (lengths) (rebuilt)) .sessions) × ((ws-8 .1 .0) ≡ setUpTables (setUpOf (length (sessions)) (length (streams)) (length (objects)) (length (held)) (length (parts)) (length (lengths)) (length (rebuilt)) r-1) (lent (sessions) (streams) (objects) (held) (parts) (lengths) (rebuilt)) .streams) × ((ws-8 .1 .1 .0) ≡ setUpTables (setUpOf (length (sessions)) (length (streams)) (length (objects)) (length (held)) (length (parts)) (length (lengths)) (length (rebuilt)) r-1) (lent (sessions) (streams) (objects) (held) (parts) (lengths) (rebuilt)) .objects)) ((r ≡ (setUpAs (setUpOf (length (sessions)) (length (streams)) (length (objects)) (length (held)) (length (parts)) (length (lengths)) (length (rebuilt)) r-1) r-1 (c .second))) × ((ws-8 .0 ≡ setUpTables (setUpOf (length (sessions)) (length (streams)) (length (objects)) (length (held)) (length (parts)) (length (lengths)) (length (rebuilt)) r-1) (lent (sessions) (streams) (objects) (held) (parts) (lengths) (rebuilt)) .sessions) × (ws-8 .1 .0 ≡ setUpTables (setUpOf (length (sessions)) (length (streams)) (length (objects)) (length (held)) (length (parts)) (length (lengths)) (length (rebuilt)) r-1) (lent (sessions) (streams) (objects) (held) (parts) (lengths) (rebuilt)) .streams) × (ws-8 .1 .1 .0 ≡ setUpTables (setUpOf (length (sessions)) (length (streams)) (length (objects)) (length (held)) (length (parts)) (length (lengths)) (length (rebuilt)) r-1) (lent (sessions) (streams) (objects) (held) (parts) (lengths) (rebuilt)) .objects))) (λ e. (e .0, (e .1, e .2, e .3)))) (λ _. (and-then ! (load ! (from ! (stop !)) (look ! 16 refl)) (and-then ! (load ! (from ! (stop !)) (look ! 12 refl)) (and-then ! (load ! (from ! (stop !)) (look ! 8 refl)) (and-then ! (load ! (from ! (stop !)) (look ! 34 refl)) (and-then ! (load ! (from ! (stop !)) (look ! 32 refl)) (and-then ! (load ! (from ! (stop !)) (look ! 30 refl)) (and-then ! (load ! (from ! (stop !)) (look ! 28 refl)) (and-then ! (load ! (from ! (stop !)) (look ! 22 refl)) (and-then ! (load ! (from ! (fld ! refl (stop !))) (look-in ! 24 (sub ! 2 refl (whole !)))) (no-more !))))))))))) (λ ws-8 said-8 is-8.
-        use1 W ((‵ (flft (ν-8-sessions ∷ []) fullShare) ⊛ (‵ (flft (ν-8-streams ∷ []) fullShare) ⊛ (‵ (flft (ν-8-objects ∷ []) fullShare) ⊛ (‵ (flft κ₄ q₄) ⊛ (‵ (flft κ₅ q₅) ⊛ (‵ (flft κ₆ q₆) ⊛ (‵ (flft κ₇ q₇) ⊛ ‵ ftrue)))))))) (id⊢ 𝓤 _) $ split ! $ move ! (1 ∷ []) $ split ! $ move ! (1 ∷ []) $ split ! $ move ! (1 ∷ []) $ split ! $ move ! (1 ∷ []) $ split ! $ move ! (1 ∷ []) $ split ! $ move ! (1 ∷ []) $ split ! $ move ! (8 ∷ []) $ fsplit ! $ fsplit ! $ move ! (1 ∷ []) $
-        feqL ! (λ wlen-8-0.
+        owned ! (u64-p .row) (Is (u64-p .row)) (u64-p .makes 𝓤 H A W) r-1 (u64-p .val r-1 ∷ []) is-1 $ fjoin ! $ move ! (2 ∷ 0 ∷ []) $ fjoin ! $ move ! (3 ∷ 0 ∷ []) $ fjoin ! $ move ! (4 ∷ 0 ∷ []) $ fjoin ! $ move ! (5 ∷ 0 ∷ []) $ fjoin ! $ move ! (6 ∷ 0 ∷ []) $ fjoin ! $ move ! (7 ∷ 0 ∷ []) $ fjoin ! $ move ! (8 ∷ 0 ∷ []) $ fjoin ! $ move ! (9 ∷ 0 ∷ []) $ fjoin ! $ move ! (10 ∷ 0 ∷ []) $ fjoin ! $ move ! (1 ∷ 0 ∷ []) $
+        calls-any ! fm 9 [] (agent-setup.signature .params) (agent-setup.ended .kept) AgentSetUp-p (agent-setup.clauses 𝓤 H A mem run) known-agent-setup ((ν-12-sessions ∷ []), ((ν-12-streams ∷ []), ((ν-12-objects ∷ []), (κ₄, (κ₅, (κ₆, (κ₇, ((ν-12-hours ∷ []), ((ν-12-windows ∷ []), tt))))))))) (fullShare, (fullShare, (fullShare, (q₄, (q₅, (q₆, (q₇, (fullShare, (fullShare, tt))))))))) tt (at-list b₁ o₁ δ-12-sessions sessions, (at-list b₂ o₂ δ-12-streams streams, (at-list b₃ o₃ δ-12-objects objects, (at-list b₄ o₄ γ₄ held, (at-list b₅ o₅ γ₅ parts, (at-list b₆ o₆ γ₆ lengths, (at-list b₇ o₇ γ₇ rebuilt, (at-list b₈ o₈ δ-12-hours hours, (at-list b₉ o₉ δ-12-windows windows, (r-1, (c .second, tt))))))))))) (sliceVal (b₁, o₁) n₁ ∷ [], (sliceVal (b₂, o₂) n₂ ∷ [], (sliceVal (b₃, o₃) n₃ ∷ [], (sliceVal (b₄, o₄) n₄ ∷ [], (sliceVal (b₅, o₅) n₅ ∷ [], (sliceVal (b₆, o₆) n₆ ∷ [], (sliceVal (b₇, o₇) n₇ ∷ [], (sliceVal (b₈, o₈) n₈ ∷ [], (sliceVal (b₉, o₉) n₉ ∷ [], (u64-p .val r-1 ∷ [], (u64-p .val (c .second) ∷ [], tt))))))))))) tt (setUpAs (setUpJudged (lent (sessions) (streams) (objects) (held) (parts) (lengths) (rebuilt)) (length (hours)) (windowsOf (windows)) r-1) r-1 (c .second)) (λ ws-12. (ws-12 .0 ≡ setUpTables (setUpJudged (lent (sessions) (streams) (objects) (held) (parts) (lengths) (rebuilt)) (length (hours)) (windowsOf (windows)) r-1) (lent (sessions) (streams) (objects) (held) (parts) (lengths) (rebuilt)) .sessions) × (ws-12 .1 .0 ≡ setUpTables (setUpJudged (lent (sessions) (streams) (objects) (held) (parts) (lengths) (rebuilt)) (length (hours)) (windowsOf (windows)) r-1) (lent (sessions) (streams) (objects) (held) (parts) (lengths) (rebuilt)) .streams) × (ws-12 .1 .1 .0 ≡ setUpTables (setUpJudged (lent (sessions) (streams) (objects) (held) (parts) (lengths) (rebuilt)) (length (hours)) (windowsOf (windows)) r-1) (lent (sessions) (streams) (objects) (held) (parts) (lengths) (rebuilt)) .objects) × (ws-12 .1 .1 .1 .1 .1 .1 .1 .0 ≡ leaves (setUpJudged (lent (sessions) (streams) (objects) (held) (parts) (lengths) (rebuilt)) (length (hours)) (windowsOf (windows)) r-1) (keptHours (windowsOf (windows)) (hours)) (hours))) (id⊢ 𝓤 _) (λ r ws-12. fact-mono 𝓤 ((r ≡ setUpAs (setUpJudged (lent (sessions) (streams) (objects) (held) (parts) (lengths) (rebuilt)) (length (hours)) (windowsOf (windows)) r-1) r-1 (c .second)) × ((ws-12 .0) ≡ setUpTables (setUpJudged (lent (sessions) (streams) (objects) (held) (parts) (lengths) (rebuilt)) (length (hours)) (windowsOf (windows)) r-1) (lent (sessions) (streams) (objects) (held) (parts) (lengths) (rebuilt)) .sessions) × ((ws-12 .1 .0) ≡ setUpTables (setUpJudged (lent (sessions) (streams) (objects) (held) (parts) (lengths) (rebuilt)) (length (hours)) (windowsOf (windows)) r-1) (lent (sessions) (streams) (objects) (held) (parts) (lengths) (rebuilt)) .streams) × ((ws-12 .1 .1 .0) ≡ setUpTables (setUpJudged (lent (sessions) (streams) (objects) (held) (parts) (lengths) (rebuilt)) (length (hours)) (windowsOf (windows)) r-1) (lent (sessions) (streams) (objects) (held) (parts) (lengths) (rebuilt)) .objects) × ((ws-12 .1 .1 .1 .1 .1 .1 .1 .0) ≡ leaves (setUpJudged (lent (sessions) (streams) (objects) (held) (parts) (lengths) (rebuilt)) (length (hours)) (windowsOf (windows)) r-1) (keptHours (windowsOf (windows)) (hours)) (hours))) ((r ≡ (setUpAs (setUpJudged (lent (sessions) (streams) (objects) (held) (parts) (lengths) (rebuilt)) (length (hours)) (windowsOf (windows)) r-1) r-1 (c .second))) × ((ws-12 .0 ≡ setUpTables (setUpJudged (lent (sessions) (streams) (objects) (held) (parts) (lengths) (rebuilt)) (length (hours)) (windowsOf (windows)) r-1) (lent (sessions) (streams) (objects) (held) (parts) (lengths) (rebuilt)) .sessions) × (ws-12 .1 .0 ≡ setUpTables (setUpJudged (lent (sessions) (streams) (objects) (held) (parts) (lengths) (rebuilt)) (length (hours)) (windowsOf (windows)) r-1) (lent (sessions) (streams) (objects) (held) (parts) (lengths) (rebuilt)) .streams) × (ws-12 .1 .1 .0 ≡ setUpTables (setUpJudged (lent (sessions) (streams) (objects) (held) (parts) (lengths) (rebuilt)) (length (hours)) (windowsOf (windows)) r-1) (lent (sessions) (streams) (objects) (held) (parts) (lengths) (rebuilt)) .objects) × (ws-12 .1 .1 .1 .1 .1 .1 .1 .0 ≡ leaves (setUpJudged (lent (sessions) (streams) (objects) (held) (parts) (lengths) (rebuilt)) (length (hours)) (windowsOf (windows)) r-1) (keptHours (windowsOf (windows)) (hours)) (hours)))) (λ e. (e .0, (e .1, e .2, e .3, e .4)))) (λ _. (and-then ! (load ! (from ! (stop !)) (look ! 26 refl)) (and-then ! (load ! (from ! (stop !)) (look ! 22 refl)) (and-then ! (load ! (from ! (stop !)) (look ! 18 refl)) (and-then ! (load ! (from ! (stop !)) (look ! 48 refl)) (and-then ! (load ! (from ! (stop !)) (look ! 46 refl)) (and-then ! (load ! (from ! (stop !)) (look ! 44 refl)) (and-then ! (load ! (from ! (stop !)) (look ! 42 refl)) (and-then ! (load ! (from ! (stop !)) (look ! 14 refl)) (and-then ! (load ! (from ! (stop !)) (look ! 10 refl)) (and-then ! (load ! (from ! (stop !)) (look ! 32 refl)) (and-then ! (load ! (from ! (fld ! refl (stop !))) (look-in ! 34 (sub ! 2 refl (whole !)))) (no-more !))))))))))))) (λ ws-12 said-12 is-12.
+        use1 W ((‵ (flft (ν-12-sessions ∷ []) fullShare) ⊛ (‵ (flft (ν-12-streams ∷ []) fullShare) ⊛ (‵ (flft (ν-12-objects ∷ []) fullShare) ⊛ (‵ (flft κ₄ q₄) ⊛ (‵ (flft κ₅ q₅) ⊛ (‵ (flft κ₆ q₆) ⊛ (‵ (flft κ₇ q₇) ⊛ (‵ (flft (ν-12-hours ∷ []) fullShare) ⊛ (‵ (flft (ν-12-windows ∷ []) fullShare) ⊛ ‵ ftrue)))))))))) (id⊢ 𝓤 _) $ split ! $ move ! (1 ∷ []) $ split ! $ move ! (1 ∷ []) $ split ! $ move ! (1 ∷ []) $ split ! $ move ! (1 ∷ []) $ split ! $ move ! (1 ∷ []) $ split ! $ move ! (1 ∷ []) $ split ! $ move ! (1 ∷ []) $ split ! $ move ! (1 ∷ []) $ split ! $ move ! (10 ∷ []) $ fsplit ! $ fsplit ! $ move ! (1 ∷ []) $
+        feqL ! (λ wlen-12-0.
         move ! (1 ∷ []) $ fsplit ! $ fsplit ! $ move ! (1 ∷ []) $
-        feqL ! (λ wlen-8-1.
+        feqL ! (λ wlen-12-1.
         move ! (1 ∷ []) $ fsplit ! $ fsplit ! $ move ! (1 ∷ []) $
-        feqL ! (λ wlen-8-2.
-        move ! (1 ∷ []) $ fsplit ! $ move ! (1 ∷ []) $ fsplit ! $ move ! (1 ∷ []) $ fsplit ! $ move ! (1 ∷ []) $ fsplit ! $ move ! (15 ∷ 22 ∷ 7 ∷ []) $
-        backs-mut ! tt (Array u64 8) b₁ o₁ sessions n₁ (refl) room₁ ν-8-sessions δ-8-sessions (ws-8 .0) (setUpTables (setUpOf (length (sessions)) (length (streams)) (length (objects)) (length (held)) (length (parts)) (length (lengths)) (length (rebuilt)) r-1) (lent (sessions) (streams) (objects) (held) (parts) (lengths) (rebuilt)) .sessions) wlen-8-0 (said-8 .0) (λ len-8-sessions.
+        feqL ! (λ wlen-12-2.
+        move ! (1 ∷ []) $ fsplit ! $ move ! (1 ∷ []) $ fsplit ! $ move ! (1 ∷ []) $ fsplit ! $ move ! (1 ∷ []) $ fsplit ! $ move ! (1 ∷ []) $ fsplit ! $ fsplit ! $ move ! (1 ∷ []) $
+        feqL ! (λ wlen-12-7.
+        move ! (1 ∷ []) $ fsplit ! $ move ! (19 ∷ 28 ∷ 9 ∷ []) $
+        backs-mut ! tt (Array u64 8) b₁ o₁ sessions n₁ (refl) room₁ ν-12-sessions δ-12-sessions (ws-12 .0) (setUpTables (setUpJudged (lent (sessions) (streams) (objects) (held) (parts) (lengths) (rebuilt)) (length (hours)) (windowsOf (windows)) r-1) (lent (sessions) (streams) (objects) (held) (parts) (lengths) (rebuilt)) .sessions) wlen-12-0 (said-12 .0) (λ len-12-sessions.
+        move ! (19 ∷ 27 ∷ 10 ∷ []) $
+        backs-mut ! tt (Array u16 35) b₂ o₂ streams n₂ (refl) room₂ ν-12-streams δ-12-streams (ws-12 .1 .0) (setUpTables (setUpJudged (lent (sessions) (streams) (objects) (held) (parts) (lengths) (rebuilt)) (length (hours)) (windowsOf (windows)) r-1) (lent (sessions) (streams) (objects) (held) (parts) (lengths) (rebuilt)) .streams) wlen-12-1 (said-12 .1) (λ len-12-streams.
+        move ! (19 ∷ 26 ∷ 11 ∷ []) $
+        backs-mut ! tt Object-t.the-row b₃ o₃ objects n₃ (refl) room₃ ν-12-objects δ-12-objects (ws-12 .1 .1 .0) (setUpTables (setUpJudged (lent (sessions) (streams) (objects) (held) (parts) (lengths) (rebuilt)) (length (hours)) (windowsOf (windows)) r-1) (lent (sessions) (streams) (objects) (held) (parts) (lengths) (rebuilt)) .objects) wlen-12-2 (said-12 .2) (λ len-12-objects.
         move ! (15 ∷ 21 ∷ 8 ∷ []) $
-        backs-mut ! tt (Array u16 35) b₂ o₂ streams n₂ (refl) room₂ ν-8-streams δ-8-streams (ws-8 .1 .0) (setUpTables (setUpOf (length (sessions)) (length (streams)) (length (objects)) (length (held)) (length (parts)) (length (lengths)) (length (rebuilt)) r-1) (lent (sessions) (streams) (objects) (held) (parts) (lengths) (rebuilt)) .streams) wlen-8-1 (said-8 .1) (λ len-8-streams.
-        move ! (15 ∷ 20 ∷ 9 ∷ []) $
-        backs-mut ! tt Object-t.the-row b₃ o₃ objects n₃ (refl) room₃ ν-8-objects δ-8-objects (ws-8 .1 .1 .0) (setUpTables (setUpOf (length (sessions)) (length (streams)) (length (objects)) (length (held)) (length (parts)) (length (lengths)) (length (rebuilt)) r-1) (lent (sessions) (streams) (objects) (held) (parts) (lengths) (rebuilt)) .objects) wlen-8-2 (said-8 .2) (λ len-8-objects.
-        move ! (6 ∷ []) $ drop ! $ move ! (6 ∷ []) $ drop ! $ move ! (6 ∷ []) $ drop ! $ move ! (6 ∷ []) $ drop ! $ move ! (6 ∷ []) $ drop ! $ move ! (7 ∷ []) $ drop ! $
-        land ! (from ! (stop !)) (init ! 26 refl (AgentSetUp-p .typed 𝓤 H A W (setUpAs (setUpOf (length (sessions)) (length (streams)) (length (objects)) (length (held)) (length (parts)) (length (lengths)) (length (rebuilt)) r-1) r-1 (c .second)) is-8)) $
-        -- 9: replay::host::set_up_said
+        backs-mut ! tt u8 b₈ o₈ hours n₈ (refl) room₈ ν-12-hours δ-12-hours (ws-12 .1 .1 .1 .1 .1 .1 .1 .0) (leaves (setUpJudged (lent (sessions) (streams) (objects) (held) (parts) (lengths) (rebuilt)) (length (hours)) (windowsOf (windows)) r-1) (keptHours (windowsOf (windows)) (hours)) (hours)) wlen-12-7 (said-12 .3) (λ len-12-hours.
+        move ! (14 ∷ 20 ∷ []) $
+        backs-view ! tt (Array u16 3) b₉ o₉ windows n₉ (refl) ν-12-windows $ move ! (10 ∷ []) $ drop ! $ move ! (10 ∷ []) $ drop ! $ move ! (10 ∷ []) $ drop ! $ move ! (10 ∷ []) $ drop ! $ move ! (10 ∷ []) $ drop ! $ move ! (10 ∷ []) $ drop ! $ move ! (10 ∷ []) $ drop ! $
+        land ! (from ! (stop !)) (init ! 38 refl (AgentSetUp-p .typed 𝓤 H A W (setUpAs (setUpJudged (lent (sessions) (streams) (objects) (held) (parts) (lengths) (rebuilt)) (length (hours)) (windowsOf (windows)) r-1) r-1 (c .second)) is-12)) $
+        -- 13: replay::host::set_up_said
         nothing ! $
         use1 W (raw (toks 𝓤 A 0 (tt) (tt))) (id⊢ 𝓤 _) $ nothing ! $
         owned ! (Host-p .row) (Is (Host-p .row)) (Host-p .makes 𝓤 H A W) host (Host-p .val host ∷ []) host-is $ fjoin ! $
-        owned ! (AgentSetUp-p .row) (Is (AgentSetUp-p .row)) (AgentSetUp-p .makes 𝓤 H A W) (setUpAs (setUpOf (length (sessions)) (length (streams)) (length (objects)) (length (held)) (length (parts)) (length (lengths)) (length (rebuilt)) r-1) r-1 (c .second)) (AgentSetUp-p .val (setUpAs (setUpOf (length (sessions)) (length (streams)) (length (objects)) (length (held)) (length (parts)) (length (lengths)) (length (rebuilt)) r-1) r-1 (c .second)) ∷ []) is-8 $ fjoin ! $ move ! (1 ∷ 0 ∷ []) $
-        calls-some ! fm 0 [] (host-set-up-said.signature .params) (host-set-up-said.ended .kept) Host-p (host-set-up-said.clauses 𝓤 H A mem run) known-host-set-up-said tt tt tt (setUpAs (setUpOf (length (sessions)) (length (streams)) (length (objects)) (length (held)) (length (parts)) (length (lengths)) (length (rebuilt)) r-1) r-1 (c .second), (host, tt)) (AgentSetUp-p .val (setUpAs (setUpOf (length (sessions)) (length (streams)) (length (objects)) (length (held)) (length (parts)) (length (lengths)) (length (rebuilt)) r-1) r-1 (c .second)) ∷ [], (Host-p .val host ∷ [], tt)) tt (λ r ws-9. Unit {0}) (id⊢ 𝓤 _) (λ r ws-9. factI 𝓤 (Unit {0}) _ tt) (λ _. (and-then ! (load ! (from ! (stop !)) (look ! 27 refl)) (and-then ! (load ! (from ! (stop !)) (look ! 33 refl)) (no-more !)))) (λ r-9 ws-9 said-9 is-9.
+        owned ! (AgentSetUp-p .row) (Is (AgentSetUp-p .row)) (AgentSetUp-p .makes 𝓤 H A W) (setUpAs (setUpJudged (lent (sessions) (streams) (objects) (held) (parts) (lengths) (rebuilt)) (length (hours)) (windowsOf (windows)) r-1) r-1 (c .second)) (AgentSetUp-p .val (setUpAs (setUpJudged (lent (sessions) (streams) (objects) (held) (parts) (lengths) (rebuilt)) (length (hours)) (windowsOf (windows)) r-1) r-1 (c .second)) ∷ []) is-12 $ fjoin ! $ move ! (1 ∷ 0 ∷ []) $
+        calls-some ! fm 0 [] (host-set-up-said.signature .params) (host-set-up-said.ended .kept) Host-p (host-set-up-said.clauses 𝓤 H A mem run) known-host-set-up-said tt tt tt (setUpAs (setUpJudged (lent (sessions) (streams) (objects) (held) (parts) (lengths) (rebuilt)) (length (hours)) (windowsOf (windows)) r-1) r-1 (c .second), (host, tt)) (AgentSetUp-p .val (setUpAs (setUpJudged (lent (sessions) (streams) (objects) (held) (parts) (lengths) (rebuilt)) (length (hours)) (windowsOf (windows)) r-1) r-1 (c .second)) ∷ [], (Host-p .val host ∷ [], tt)) tt (λ r ws-13. Unit {0}) (id⊢ 𝓤 _) (λ r ws-13. factI 𝓤 (Unit {0}) _ tt) (λ _. (and-then ! (load ! (from ! (stop !)) (look ! 39 refl)) (and-then ! (load ! (from ! (stop !)) (look ! 45 refl)) (no-more !)))) (λ r-13 ws-13 said-13 is-13.
         drop ! $ drop ! $
-        land ! (from ! (stop !)) (init ! 48 refl (Host-p .typed 𝓤 H A W r-9 is-9)) $
-        returns ! (look ! 48 refl) $ forget ! 14 refl $ forget ! 16 refl $ forget ! 18 refl $ forget ! 20 refl $ forget ! 22 refl $ forget ! 24 refl $ forget ! 26 refl $ forget ! 28 refl $ forget ! 30 refl $ forget ! 32 refl $ forget ! 34 refl $ forget ! 36 refl $ forget ! 38 refl $ forget ! 40 refl $ forget ! 42 refl $ forget ! 44 refl $ forget ! 46 refl $ forget ! 48 refl $ move ! (48 ∷ 49 ∷ []) $ free1 ! $ move ! (46 ∷ 47 ∷ []) $ free1 ! $ move ! (44 ∷ 45 ∷ []) $ free1 ! $ move ! (42 ∷ 43 ∷ []) $ free1 ! $ move ! (40 ∷ 41 ∷ []) $ free1 ! $ move ! (38 ∷ 39 ∷ []) $ free1 ! $ move ! (36 ∷ 37 ∷ []) $ free1 ! $ move ! (34 ∷ 35 ∷ []) $ free1 ! $ move ! (32 ∷ 33 ∷ []) $ free1 ! $ move ! (30 ∷ 31 ∷ []) $ free1 ! $ move ! (28 ∷ 29 ∷ []) $ free1 ! $ move ! (26 ∷ 27 ∷ []) $ free1 ! $ move ! (24 ∷ 25 ∷ []) $ free1 ! $ move ! (22 ∷ 23 ∷ []) $ free1 ! $ move ! (20 ∷ 21 ∷ []) $ free1 ! $ move ! (18 ∷ 19 ∷ []) $ free1 ! $ move ! (16 ∷ 17 ∷ []) $ free1 ! $ move ! (14 ∷ 15 ∷ []) $ free1 ! $ free0 ! $ move ! (4 ∷ 5 ∷ 2 ∷ 3 ∷ 0 ∷ 1 ∷ 13 ∷ 9 ∷ 12 ∷ 8 ∷ 11 ∷ 7 ∷ 10 ∷ 6 ∷ []) $
-        by ! (exits r-9 (setUpTables (setUpOf (length (sessions)) (length (streams)) (length (objects)) (length (held)) (length (parts)) (length (lengths)) (length (rebuilt)) r-1) (lent (sessions) (streams) (objects) (held) (parts) (lengths) (rebuilt)) .sessions) (setUpTables (setUpOf (length (sessions)) (length (streams)) (length (objects)) (length (held)) (length (parts)) (length (lengths)) (length (rebuilt)) r-1) (lent (sessions) (streams) (objects) (held) (parts) (lengths) (rebuilt)) .streams) (setUpTables (setUpOf (length (sessions)) (length (streams)) (length (objects)) (length (held)) (length (parts)) (length (lengths)) (length (rebuilt)) r-1) (lent (sessions) (streams) (objects) (held) (parts) (lengths) (rebuilt)) .objects) is-9 len-8-sessions len-8-streams len-8-objects)))))))))))))
+        land ! (from ! (stop !)) (init ! 64 refl (Host-p .typed 𝓤 H A W r-13 is-13)) $
+        returns ! (look ! 64 refl) $ forget ! 18 refl $ forget ! 20 refl $ forget ! 22 refl $ forget ! 24 refl $ forget ! 26 refl $ forget ! 28 refl $ forget ! 30 refl $ forget ! 32 refl $ forget ! 34 refl $ forget ! 36 refl $ forget ! 38 refl $ forget ! 40 refl $ forget ! 42 refl $ forget ! 44 refl $ forget ! 46 refl $ forget ! 48 refl $ forget ! 50 refl $ forget ! 52 refl $ forget ! 54 refl $ forget ! 56 refl $ forget ! 58 refl $ forget ! 60 refl $ forget ! 62 refl $ forget ! 64 refl $ move ! (64 ∷ 65 ∷ []) $ free1 ! $ move ! (62 ∷ 63 ∷ []) $ free1 ! $ move ! (60 ∷ 61 ∷ []) $ free1 ! $ move ! (58 ∷ 59 ∷ []) $ free1 ! $ move ! (56 ∷ 57 ∷ []) $ free1 ! $ move ! (54 ∷ 55 ∷ []) $ free1 ! $ move ! (52 ∷ 53 ∷ []) $ free1 ! $ move ! (50 ∷ 51 ∷ []) $ free1 ! $ move ! (48 ∷ 49 ∷ []) $ free1 ! $ move ! (46 ∷ 47 ∷ []) $ free1 ! $ move ! (44 ∷ 45 ∷ []) $ free1 ! $ move ! (42 ∷ 43 ∷ []) $ free1 ! $ move ! (40 ∷ 41 ∷ []) $ free1 ! $ move ! (38 ∷ 39 ∷ []) $ free1 ! $ move ! (36 ∷ 37 ∷ []) $ free1 ! $ move ! (34 ∷ 35 ∷ []) $ free1 ! $ move ! (32 ∷ 33 ∷ []) $ free1 ! $ move ! (30 ∷ 31 ∷ []) $ free1 ! $ move ! (28 ∷ 29 ∷ []) $ free1 ! $ move ! (26 ∷ 27 ∷ []) $ free1 ! $ move ! (24 ∷ 25 ∷ []) $ free1 ! $ move ! (22 ∷ 23 ∷ []) $ free1 ! $ move ! (20 ∷ 21 ∷ []) $ free1 ! $ move ! (18 ∷ 19 ∷ []) $ free1 ! $ free0 ! $ move ! (8 ∷ 9 ∷ 6 ∷ 7 ∷ 4 ∷ 5 ∷ 17 ∷ 13 ∷ 16 ∷ 12 ∷ 15 ∷ 11 ∷ 14 ∷ 10 ∷ 2 ∷ 3 ∷ 0 ∷ 1 ∷ []) $
+        by ! (exits r-13 (setUpTables (setUpJudged (lent (sessions) (streams) (objects) (held) (parts) (lengths) (rebuilt)) (length (hours)) (windowsOf (windows)) r-1) (lent (sessions) (streams) (objects) (held) (parts) (lengths) (rebuilt)) .sessions) (setUpTables (setUpJudged (lent (sessions) (streams) (objects) (held) (parts) (lengths) (rebuilt)) (length (hours)) (windowsOf (windows)) r-1) (lent (sessions) (streams) (objects) (held) (parts) (lengths) (rebuilt)) .streams) (setUpTables (setUpJudged (lent (sessions) (streams) (objects) (held) (parts) (lengths) (rebuilt)) (length (hours)) (windowsOf (windows)) r-1) (lent (sessions) (streams) (objects) (held) (parts) (lengths) (rebuilt)) .objects) (leaves (setUpJudged (lent (sessions) (streams) (objects) (held) (parts) (lengths) (rebuilt)) (length (hours)) (windowsOf (windows)) r-1) (keptHours (windowsOf (windows)) (hours)) (hours)) windows is-13 len-12-sessions len-12-streams len-12-objects len-12-hours refl)))))))))))))))))
 
   module _ (𝓣 : Tables 𝓤 H) (known-host-max-clients : Triple 𝓤 (𝓣 .C #host-max-clients) (Of-host-max-clients 𝓤 H A mem run)) (known-agent-setup : Triple 𝓤 (𝓣 .C #agent-setup) (Of-agent-setup 𝓤 H A mem run)) (known-host-set-up-said : Triple 𝓤 (𝓣 .C #host-set-up-said) (Of-host-set-up-said 𝓤 H A mem run)) where
-    walk : ent 𝓤 (onEntry 𝓤 H A f.signature (κ₁, (κ₂, (κ₃, (κ₄, (κ₅, (κ₆, (κ₇, tt))))))) (q₁, (q₂, (q₃, (q₄, (q₅, (q₆, (q₇, tt))))))) x at) (WpFn 𝓤 H (𝓣 .C) (𝓣 .Λ) code.function (sliceVal (b₁, o₁) n₁ ∷ sliceVal (b₂, o₂) n₂ ∷ sliceVal (b₃, o₃) n₃ ∷ sliceVal (b₄, o₄) n₄ ∷ sliceVal (b₅, o₅) n₅ ∷ sliceVal (b₆, o₆) n₆ ∷ sliceVal (b₇, o₇) n₇ ∷ Host-p .val host ∷ Command-p .val c ∷ []) Post)
+    walk : ent 𝓤 (onEntry 𝓤 H A f.signature (κ₁, (κ₂, (κ₃, (κ₄, (κ₅, (κ₆, (κ₇, (κ₈, (κ₉, tt))))))))) (q₁, (q₂, (q₃, (q₄, (q₅, (q₆, (q₇, (q₈, (q₉, tt))))))))) x at) (WpFn 𝓤 H (𝓣 .C) (𝓣 .Λ) code.function (sliceVal (b₁, o₁) n₁ ∷ sliceVal (b₂, o₂) n₂ ∷ sliceVal (b₃, o₃) n₃ ∷ sliceVal (b₄, o₄) n₄ ∷ sliceVal (b₅, o₅) n₅ ∷ sliceVal (b₆, o₆) n₆ ∷ sliceVal (b₇, o₇) n₇ ∷ sliceVal (b₈, o₈) n₈ ∷ sliceVal (b₉, o₉) n₉ ∷ Host-p .val host ∷ Command-p .val c ∷ []) Post)
     walk =
-        qed W ((‵ (flft κ₁ q₁) ⊛ (‵ (flft κ₂ q₂) ⊛ (‵ (flft κ₃ q₃) ⊛ (‵ (flft κ₄ q₄) ⊛ (‵ (flft κ₅ q₅) ⊛ (‵ (flft κ₆ q₆) ⊛ (‵ (flft κ₇ q₇) ⊛ ‵ ftrue))))))) ∷ ‵ (owns (MutSlice (named 0) κ₁ (Array u64 8) ∷ MutSlice (named 1) κ₂ (Array u16 35) ∷ MutSlice (named 2) κ₃ Object-t.the-row ∷ ShrSlice (named 3) κ₄ u8 ∷ ShrSlice (named 4) κ₅ u8 ∷ ShrSlice (named 5) κ₆ u32 ∷ ShrSlice (named 6) κ₇ u8 ∷ Host-p .row ∷ Command-p .row ∷ []) x at) ∷ []) ∵ enter ! (𝓣 .C) (𝓣 .Λ) code.function (sliceVal (b₁, o₁) n₁ ∷ sliceVal (b₂, o₂) n₂ ∷ sliceVal (b₃, o₃) n₃ ∷ sliceVal (b₄, o₄) n₄ ∷ sliceVal (b₅, o₅) n₅ ∷ sliceVal (b₆, o₆) n₆ ∷ sliceVal (b₇, o₇) n₇ ∷ Host-p .val host ∷ Command-p .val c ∷ []) _ $
-        alloc1 ! (λ l₀. alloc1 ! (λ l₁. alloc1 ! (λ l₂. alloc1 ! (λ l₃. alloc1 ! (λ l₄. alloc1 ! (λ l₅. alloc1 ! (λ l₆. alloc1 ! (λ l₇. alloc1 ! (λ l₈. alloc1 ! (λ l₉. alloc1 ! (λ l₁₀. alloc1 ! (λ l₁₁. alloc1 ! (λ l₁₂. alloc1 ! (λ l₁₃. alloc1 ! (λ l₁₄. alloc1 ! (λ l₁₅. alloc1 ! (λ l₁₆. alloc1 ! (λ l₁₇. alloc0 ! $ params1 ! $ pass1 ! (init ! 32 refl (tt, (tt, (record { fits = room₁ .0 }, tt)))) $ pass1 ! (init ! 30 refl (tt, (tt, (record { fits = room₂ .0 }, tt)))) $ pass1 ! (init ! 28 refl (tt, (tt, (record { fits = room₃ .0 }, tt)))) $ pass1 ! (init ! 26 refl (tt, (tt, (record { fits = room₄ .0 }, tt)))) $ pass1 ! (init ! 24 refl (tt, (tt, (record { fits = room₅ .0 }, tt)))) $ pass1 ! (init ! 22 refl (tt, (tt, (record { fits = room₆ .0 }, tt)))) $ pass1 ! (init ! 20 refl (tt, (tt, (record { fits = room₇ .0 }, tt)))) $ pass1 ! (init ! 18 refl (Host-p .typed 𝓤 H A W host host-is)) $ pass1 ! (init ! 16 refl (Command-p .typed 𝓤 H A W c c-is)) $ pass0 ! $ move ! (37 ∷ []) $ fsplit ! $ move ! (1 ∷ []) $ fsplit ! $ move ! (1 ∷ []) $ fsplit ! $ move ! (1 ∷ []) $ fsplit ! $ move ! (1 ∷ []) $ fsplit ! $ move ! (1 ∷ []) $ fsplit ! $ move ! (1 ∷ []) $ fsplit ! $ move ! (44 ∷ []) $ split ! $ move ! (1 ∷ []) $ split ! $ move ! (1 ∷ []) $ split ! $ move ! (1 ∷ []) $ split ! $ move ! (1 ∷ []) $ split ! $ move ! (1 ∷ []) $ split ! $ move ! (1 ∷ []) $ split ! $ move ! (1 ∷ []) $ drop ! $ move ! (8 ∷ []) $ drop ! $ move ! (13 ∷ 6 ∷ 12 ∷ 5 ∷ 11 ∷ 4 ∷ 10 ∷ 3 ∷ 9 ∷ 2 ∷ 8 ∷ 1 ∷ 7 ∷ 0 ∷ 14 ∷ 15 ∷ 16 ∷ 17 ∷ 18 ∷ 19 ∷ 20 ∷ 21 ∷ 22 ∷ 23 ∷ 24 ∷ 25 ∷ 26 ∷ 27 ∷ 28 ∷ 29 ∷ 30 ∷ 31 ∷ 32 ∷ 33 ∷ 34 ∷ 35 ∷ 36 ∷ 37 ∷ 38 ∷ 39 ∷ 40 ∷ 41 ∷ 42 ∷ 43 ∷ 44 ∷ 45 ∷ 46 ∷ 47 ∷ 48 ∷ 49 ∷ []) $
-        begins 𝓣 known-host-max-clients known-agent-setup known-host-set-up-said l₀ l₁ l₂ l₃ l₄ l₅ l₆ l₇ l₈ l₉ l₁₀ l₁₁ l₁₂ l₁₃ l₁₄ l₁₅ l₁₆ l₁₇))))))))))))))))))
+        qed W ((‵ (flft κ₁ q₁) ⊛ (‵ (flft κ₂ q₂) ⊛ (‵ (flft κ₃ q₃) ⊛ (‵ (flft κ₄ q₄) ⊛ (‵ (flft κ₅ q₅) ⊛ (‵ (flft κ₆ q₆) ⊛ (‵ (flft κ₇ q₇) ⊛ (‵ (flft κ₈ q₈) ⊛ (‵ (flft κ₉ q₉) ⊛ ‵ ftrue))))))))) ∷ ‵ (owns (MutSlice (named 0) κ₁ (Array u64 8) ∷ MutSlice (named 1) κ₂ (Array u16 35) ∷ MutSlice (named 2) κ₃ Object-t.the-row ∷ ShrSlice (named 3) κ₄ u8 ∷ ShrSlice (named 4) κ₅ u8 ∷ ShrSlice (named 5) κ₆ u32 ∷ ShrSlice (named 6) κ₇ u8 ∷ MutSlice (named 7) κ₈ u8 ∷ MutSlice (named 8) κ₉ (Array u16 3) ∷ Host-p .row ∷ Command-p .row ∷ []) x at) ∷ []) ∵ enter ! (𝓣 .C) (𝓣 .Λ) code.function (sliceVal (b₁, o₁) n₁ ∷ sliceVal (b₂, o₂) n₂ ∷ sliceVal (b₃, o₃) n₃ ∷ sliceVal (b₄, o₄) n₄ ∷ sliceVal (b₅, o₅) n₅ ∷ sliceVal (b₆, o₆) n₆ ∷ sliceVal (b₇, o₇) n₇ ∷ sliceVal (b₈, o₈) n₈ ∷ sliceVal (b₉, o₉) n₉ ∷ Host-p .val host ∷ Command-p .val c ∷ []) _ $
+        alloc1 ! (λ l₀. alloc1 ! (λ l₁. alloc1 ! (λ l₂. alloc1 ! (λ l₃. alloc1 ! (λ l₄. alloc1 ! (λ l₅. alloc1 ! (λ l₆. alloc1 ! (λ l₇. alloc1 ! (λ l₈. alloc1 ! (λ l₉. alloc1 ! (λ l₁₀. alloc1 ! (λ l₁₁. alloc1 ! (λ l₁₂. alloc1 ! (λ l₁₃. alloc1 ! (λ l₁₄. alloc1 ! (λ l₁₅. alloc1 ! (λ l₁₆. alloc1 ! (λ l₁₇. alloc1 ! (λ l₁₈. alloc1 ! (λ l₁₉. alloc1 ! (λ l₂₀. alloc1 ! (λ l₂₁. alloc1 ! (λ l₂₂. alloc1 ! (λ l₂₃. alloc0 ! $ params1 ! $ pass1 ! (init ! 44 refl (tt, (tt, (record { fits = room₁ .0 }, tt)))) $ pass1 ! (init ! 42 refl (tt, (tt, (record { fits = room₂ .0 }, tt)))) $ pass1 ! (init ! 40 refl (tt, (tt, (record { fits = room₃ .0 }, tt)))) $ pass1 ! (init ! 38 refl (tt, (tt, (record { fits = room₄ .0 }, tt)))) $ pass1 ! (init ! 36 refl (tt, (tt, (record { fits = room₅ .0 }, tt)))) $ pass1 ! (init ! 34 refl (tt, (tt, (record { fits = room₆ .0 }, tt)))) $ pass1 ! (init ! 32 refl (tt, (tt, (record { fits = room₇ .0 }, tt)))) $ pass1 ! (init ! 30 refl (tt, (tt, (record { fits = room₈ .0 }, tt)))) $ pass1 ! (init ! 28 refl (tt, (tt, (record { fits = room₉ .0 }, tt)))) $ pass1 ! (init ! 26 refl (Host-p .typed 𝓤 H A W host host-is)) $ pass1 ! (init ! 24 refl (Command-p .typed 𝓤 H A W c c-is)) $ pass0 ! $ move ! (49 ∷ []) $ fsplit ! $ move ! (1 ∷ []) $ fsplit ! $ move ! (1 ∷ []) $ fsplit ! $ move ! (1 ∷ []) $ fsplit ! $ move ! (1 ∷ []) $ fsplit ! $ move ! (1 ∷ []) $ fsplit ! $ move ! (1 ∷ []) $ fsplit ! $ move ! (1 ∷ []) $ fsplit ! $ move ! (1 ∷ []) $ fsplit ! $ move ! (58 ∷ []) $ split ! $ move ! (1 ∷ []) $ split ! $ move ! (1 ∷ []) $ split ! $ move ! (1 ∷ []) $ split ! $ move ! (1 ∷ []) $ split ! $ move ! (1 ∷ []) $ split ! $ move ! (1 ∷ []) $ split ! $ move ! (1 ∷ []) $ split ! $ move ! (1 ∷ []) $ split ! $ move ! (1 ∷ []) $ drop ! $ move ! (10 ∷ []) $ drop ! $ move ! (17 ∷ 8 ∷ 16 ∷ 7 ∷ 15 ∷ 6 ∷ 14 ∷ 5 ∷ 13 ∷ 4 ∷ 12 ∷ 3 ∷ 11 ∷ 2 ∷ 10 ∷ 1 ∷ 9 ∷ 0 ∷ 18 ∷ 19 ∷ 20 ∷ 21 ∷ 22 ∷ 23 ∷ 24 ∷ 25 ∷ 26 ∷ 27 ∷ 28 ∷ 29 ∷ 30 ∷ 31 ∷ 32 ∷ 33 ∷ 34 ∷ 35 ∷ 36 ∷ 37 ∷ 38 ∷ 39 ∷ 40 ∷ 41 ∷ 42 ∷ 43 ∷ 44 ∷ 45 ∷ 46 ∷ 47 ∷ 48 ∷ 49 ∷ 50 ∷ 51 ∷ 52 ∷ 53 ∷ 54 ∷ 55 ∷ 56 ∷ 57 ∷ 58 ∷ 59 ∷ 60 ∷ 61 ∷ 62 ∷ 63 ∷ 64 ∷ 65 ∷ []) $
+        begins 𝓣 known-host-max-clients known-agent-setup known-host-set-up-said l₀ l₁ l₂ l₃ l₄ l₅ l₆ l₇ l₈ l₉ l₁₀ l₁₁ l₁₂ l₁₃ l₁₄ l₁₅ l₁₆ l₁₇ l₁₈ l₁₉ l₂₀ l₂₁ l₂₂ l₂₃))))))))))))))))))))))))
 
 module _ {M : Type 1} (𝓤 : URA M) (H : Heap 𝓤) (A : Atoms 𝓤) (W : Given 𝓤 H A) (mem : Memory → SProp 𝓤) (run : Routine → Fun 𝓤) (𝓣 : Tables 𝓤 H) (known-host-max-clients : Triple 𝓤 (𝓣 .C #host-max-clients) (Of-host-max-clients 𝓤 H A mem run)) (known-agent-setup : Triple 𝓤 (𝓣 .C #agent-setup) (Of-agent-setup 𝓤 H A mem run)) (known-host-set-up-said : Triple 𝓤 (𝓣 .C #host-set-up-said) (Of-host-set-up-said 𝓤 H A mem run)) where
   walks : Walks 𝓤 H A f.ended stayed (WpFn 𝓤 H (𝓣 .C) (𝓣 .Λ) code.function) (f.clauses 𝓤 H A mem run)
-  walks = walked 𝓤 H A f.ended stayed (f.clauses 𝓤 H A mem run) (WpFn 𝓤 H (𝓣 .C) (𝓣 .Λ) code.function) (λ κs. (slice-vals, (slice-vals, (slice-vals, (slice-vals, (slice-vals, (slice-vals, (slice-vals, ((λ y. Host-p .val y ∷ []), ((λ y. Command-p .val y ∷ []), tt)))))))))) (λ κs. (mut-slice-tells (named 0) (κs .0) (Array u64 8), (mut-slice-tells (named 1) (κs .1 .0) (Array u16 35), (mut-slice-tells (named 2) (κs .1 .1 .0) Object-t.the-row, (shr-slice-tells (named 3) (κs .1 .1 .1 .0) u8, (shr-slice-tells (named 4) (κs .1 .1 .1 .1 .0) u8, (shr-slice-tells (named 5) (κs .1 .1 .1 .1 .1 .0) u32, (shr-slice-tells (named 6) (κs .1 .1 .1 .1 .1 .1 .0) u8, (Host-p .tells, (Command-p .tells, tt))))))))))
-      (λ κs qs bounds a g are. via 𝓤 _ (fst∗ 𝓤 _ (emp 𝓤)) (walk 𝓤 H A W mem run (κs .0) (qs .0) (a .0 .ptr .0) (a .0 .ptr .1) (a .0 .name) (a .0 .now) (κs .1 .0) (qs .1 .0) (a .1 .0 .ptr .0) (a .1 .0 .ptr .1) (a .1 .0 .name) (a .1 .0 .now) (κs .1 .1 .0) (qs .1 .1 .0) (a .1 .1 .0 .ptr .0) (a .1 .1 .0 .ptr .1) (a .1 .1 .0 .name) (a .1 .1 .0 .now) (κs .1 .1 .1 .0) (qs .1 .1 .1 .0) (a .1 .1 .1 .0 .ptr .0) (a .1 .1 .1 .0 .ptr .1) (a .1 .1 .1 .0 .name) (a .1 .1 .1 .0 .now) (κs .1 .1 .1 .1 .0) (qs .1 .1 .1 .1 .0) (a .1 .1 .1 .1 .0 .ptr .0) (a .1 .1 .1 .1 .0 .ptr .1) (a .1 .1 .1 .1 .0 .name) (a .1 .1 .1 .1 .0 .now) (κs .1 .1 .1 .1 .1 .0) (qs .1 .1 .1 .1 .1 .0) (a .1 .1 .1 .1 .1 .0 .ptr .0) (a .1 .1 .1 .1 .1 .0 .ptr .1) (a .1 .1 .1 .1 .1 .0 .name) (a .1 .1 .1 .1 .1 .0 .now) (κs .1 .1 .1 .1 .1 .1 .0) (qs .1 .1 .1 .1 .1 .1 .0) (a .1 .1 .1 .1 .1 .1 .0 .ptr .0) (a .1 .1 .1 .1 .1 .1 .0 .ptr .1) (a .1 .1 .1 .1 .1 .1 .0 .name) (a .1 .1 .1 .1 .1 .1 .0 .now) (a .1 .1 .1 .1 .1 .1 .1 .0) (a .1 .1 .1 .1 .1 .1 .1 .1 .0) (are .0 .0 .1) (are .1 .0 .0 .1) (are .1 .1 .0 .0 .1) (are .1 .1 .1 .0 .0 .1) (are .1 .1 .1 .1 .0 .0 .1) (are .1 .1 .1 .1 .1 .0 .0 .1) (are .1 .1 .1 .1 .1 .1 .0 .0 .1) (are .1 .1 .1 .1 .1 .1 .1 .0) (are .1 .1 .1 .1 .1 .1 .1 .1 .0) 𝓣 known-host-max-clients known-agent-setup known-host-set-up-said))
+  walks = walked 𝓤 H A f.ended stayed (f.clauses 𝓤 H A mem run) (WpFn 𝓤 H (𝓣 .C) (𝓣 .Λ) code.function) (λ κs. (slice-vals, (slice-vals, (slice-vals, (slice-vals, (slice-vals, (slice-vals, (slice-vals, (slice-vals, (slice-vals, ((λ y. Host-p .val y ∷ []), ((λ y. Command-p .val y ∷ []), tt)))))))))))) (λ κs. (mut-slice-tells (named 0) (κs .0) (Array u64 8), (mut-slice-tells (named 1) (κs .1 .0) (Array u16 35), (mut-slice-tells (named 2) (κs .1 .1 .0) Object-t.the-row, (shr-slice-tells (named 3) (κs .1 .1 .1 .0) u8, (shr-slice-tells (named 4) (κs .1 .1 .1 .1 .0) u8, (shr-slice-tells (named 5) (κs .1 .1 .1 .1 .1 .0) u32, (shr-slice-tells (named 6) (κs .1 .1 .1 .1 .1 .1 .0) u8, (mut-slice-tells (named 7) (κs .1 .1 .1 .1 .1 .1 .1 .0) u8, (mut-slice-tells (named 8) (κs .1 .1 .1 .1 .1 .1 .1 .1 .0) (Array u16 3), (Host-p .tells, (Command-p .tells, tt))))))))))))
+      (λ κs qs bounds a g are. via 𝓤 _ (fst∗ 𝓤 _ (emp 𝓤)) (walk 𝓤 H A W mem run (κs .0) (qs .0) (a .0 .ptr .0) (a .0 .ptr .1) (a .0 .name) (a .0 .now) (κs .1 .0) (qs .1 .0) (a .1 .0 .ptr .0) (a .1 .0 .ptr .1) (a .1 .0 .name) (a .1 .0 .now) (κs .1 .1 .0) (qs .1 .1 .0) (a .1 .1 .0 .ptr .0) (a .1 .1 .0 .ptr .1) (a .1 .1 .0 .name) (a .1 .1 .0 .now) (κs .1 .1 .1 .0) (qs .1 .1 .1 .0) (a .1 .1 .1 .0 .ptr .0) (a .1 .1 .1 .0 .ptr .1) (a .1 .1 .1 .0 .name) (a .1 .1 .1 .0 .now) (κs .1 .1 .1 .1 .0) (qs .1 .1 .1 .1 .0) (a .1 .1 .1 .1 .0 .ptr .0) (a .1 .1 .1 .1 .0 .ptr .1) (a .1 .1 .1 .1 .0 .name) (a .1 .1 .1 .1 .0 .now) (κs .1 .1 .1 .1 .1 .0) (qs .1 .1 .1 .1 .1 .0) (a .1 .1 .1 .1 .1 .0 .ptr .0) (a .1 .1 .1 .1 .1 .0 .ptr .1) (a .1 .1 .1 .1 .1 .0 .name) (a .1 .1 .1 .1 .1 .0 .now) (κs .1 .1 .1 .1 .1 .1 .0) (qs .1 .1 .1 .1 .1 .1 .0) (a .1 .1 .1 .1 .1 .1 .0 .ptr .0) (a .1 .1 .1 .1 .1 .1 .0 .ptr .1) (a .1 .1 .1 .1 .1 .1 .0 .name) (a .1 .1 .1 .1 .1 .1 .0 .now) (κs .1 .1 .1 .1 .1 .1 .1 .0) (qs .1 .1 .1 .1 .1 .1 .1 .0) (a .1 .1 .1 .1 .1 .1 .1 .0 .ptr .0) (a .1 .1 .1 .1 .1 .1 .1 .0 .ptr .1) (a .1 .1 .1 .1 .1 .1 .1 .0 .name) (a .1 .1 .1 .1 .1 .1 .1 .0 .now) (κs .1 .1 .1 .1 .1 .1 .1 .1 .0) (qs .1 .1 .1 .1 .1 .1 .1 .1 .0) (a .1 .1 .1 .1 .1 .1 .1 .1 .0 .ptr .0) (a .1 .1 .1 .1 .1 .1 .1 .1 .0 .ptr .1) (a .1 .1 .1 .1 .1 .1 .1 .1 .0 .name) (a .1 .1 .1 .1 .1 .1 .1 .1 .0 .now) (a .1 .1 .1 .1 .1 .1 .1 .1 .1 .0) (a .1 .1 .1 .1 .1 .1 .1 .1 .1 .1 .0) (are .0 .0 .1) (are .1 .0 .0 .1) (are .1 .1 .0 .0 .1) (are .1 .1 .1 .0 .0 .1) (are .1 .1 .1 .1 .0 .0 .1) (are .1 .1 .1 .1 .1 .0 .0 .1) (are .1 .1 .1 .1 .1 .1 .0 .0 .1) (are .1 .1 .1 .1 .1 .1 .1 .0 .0 .1) (are .1 .1 .1 .1 .1 .1 .1 .1 .0 .0 .1) (are .1 .1 .1 .1 .1 .1 .1 .1 .1 .0) (are .1 .1 .1 .1 .1 .1 .1 .1 .1 .1 .0) 𝓣 known-host-max-clients known-agent-setup known-host-set-up-said))
 
   meets : Meets 𝓤 H A f.signature (WpFn 𝓤 H (𝓣 .C) (𝓣 .Λ) code.function) (f.spec 𝓤 H A mem run)
-  meets = walk-meets 𝓤 H A f.ended stayed W (goes-slice 𝓤 H A W 7 0 tt (plain (λ _. (Array u64 8))), (goes-slice 𝓤 H A W 7 1 tt (plain (λ _. (Array u16 35))), (goes-slice 𝓤 H A W 7 2 tt (plain (λ _. Object-t.the-row)), (goes-none-slice 𝓤 H A W 7 (3 ∷ []) tt (plain (λ _. u8)) yes, (goes-none-slice 𝓤 H A W 7 (4 ∷ []) tt (plain (λ _. u8)) yes, (goes-none-slice 𝓤 H A W 7 (5 ∷ []) tt (plain (λ _. u32)) yes, (goes-none-slice 𝓤 H A W 7 (6 ∷ []) tt (plain (λ _. u8)) yes, (goes-none 𝓤 H A W 7 (λ _. Host-p .row) yes (λ κs x f. refl), (goes-none 𝓤 H A W 7 (λ _. Command-p .row) yes (λ κs x f. refl), tt))))))))) (f.clauses 𝓤 H A mem run) (WpFn 𝓤 H (𝓣 .C) (𝓣 .Λ) code.function) (WpFn-mono 𝓤 H (W .laws) 𝓣 code.function) walks
+  meets = walk-meets 𝓤 H A f.ended stayed W (goes-slice 𝓤 H A W 9 0 tt (plain (λ _. (Array u64 8))), (goes-slice 𝓤 H A W 9 1 tt (plain (λ _. (Array u16 35))), (goes-slice 𝓤 H A W 9 2 tt (plain (λ _. Object-t.the-row)), (goes-none-slice 𝓤 H A W 9 (3 ∷ []) tt (plain (λ _. u8)) yes, (goes-none-slice 𝓤 H A W 9 (4 ∷ []) tt (plain (λ _. u8)) yes, (goes-none-slice 𝓤 H A W 9 (5 ∷ []) tt (plain (λ _. u32)) yes, (goes-none-slice 𝓤 H A W 9 (6 ∷ []) tt (plain (λ _. u8)) yes, (goes-slice 𝓤 H A W 9 7 tt (plain (λ _. u8)), (goes-slice 𝓤 H A W 9 8 tt (plain (λ _. (Array u16 3))), (goes-none 𝓤 H A W 9 (λ _. Host-p .row) yes (λ κs x f. refl), (goes-none 𝓤 H A W 9 (λ _. Command-p .row) yes (λ κs x f. refl), tt))))))))))) (f.clauses 𝓤 H A mem run) (WpFn 𝓤 H (𝓣 .C) (𝓣 .Λ) code.function) (WpFn-mono 𝓤 H (W .laws) 𝓣 code.function) walks
 
 pub set-up-spec : {M : Type 1} → stated.statement M
 unfolding code.routine tablesOf

@@ -8,7 +8,7 @@ abbrev Inv-loop : tie.InvT-loop
 Inv-loop first names i₀ i = Unit {0}
 
 abbrev μ-loop : tie.MeasureT-loop
-μ-loop first names i₀ i = 11 - i
+μ-loop first names i₀ i = 12 - i
 
 loop-holds : tie.Need-loop-holds Inv-loop μ-loop
 loop-holds c = search needs

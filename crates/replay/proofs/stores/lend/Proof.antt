@@ -31,19 +31,25 @@ slice-aggregate-own-7 : tie.Need-slice-aggregate-own-7
 slice-aggregate-own-7 c = sym (length-replicate {0} {A = ℕ} 32768 0)
 
 slice-aggregate-own-8 : tie.Need-slice-aggregate-own-8
-slice-aggregate-own-8 c = search needs
+slice-aggregate-own-8 c = sym (length-replicate {0} {A = ℕ} 10080 0)
+
+slice-aggregate-own-9 : tie.Need-slice-aggregate-own-9
+slice-aggregate-own-9 c = search needs
+
+slice-aggregate-own-10 : tie.Need-slice-aggregate-own-10
+slice-aggregate-own-10 c = search needs
 
 own-requires : tie.Need-own-requires
 own-requires c κs = search needs
 
 same-length : tie.Need-same-length
-same-length c = c .before .before .before .before .before .before .before .before .before .before .before .before .before .before .own .kept .1 .1 .1 .1 .1 .1 .0
+same-length c = c .before .before .before .before .before .before .before .before .before .before .before .before .before .before .before .before .own .kept .1 .1 .1 .1 .1 .1 .0
 
 same-length-2 : tie.Need-same-length-2
-same-length-2 c = c .before .before .before .before .before .before .before .before .before .before .before .before .before .before .own .kept .1 .1 .1 .1 .1 .1 .1 .0
+same-length-2 c = c .before .before .before .before .before .before .before .before .before .before .before .before .before .before .before .before .own .kept .1 .1 .1 .1 .1 .1 .1 .0
 
 same-length-3 : tie.Need-same-length-3
-same-length-3 c = c .before .before .before .before .before .before .before .before .before .before .before .before .before .before .own .kept .1 .1 .1 .1 .1 .1 .1 .1 .0
+same-length-3 c = c .before .before .before .before .before .before .before .before .before .before .before .before .before .before .before .before .own .kept .1 .1 .1 .1 .1 .1 .1 .1 .0
 
 returns : tie.Need-returns
 returns c = search needs
@@ -61,6 +67,8 @@ lend-spec =
     slice-aggregate-own-6
     slice-aggregate-own-7
     slice-aggregate-own-8
+    slice-aggregate-own-9
+    slice-aggregate-own-10
     own-requires
     same-length
     same-length-2

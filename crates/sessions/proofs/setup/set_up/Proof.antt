@@ -70,7 +70,7 @@ use Rattle.sessions.specs.declared.setup.SetUp.the-variants.{Ready as Se
 use Rattle.codec.specs.declared.refusals.Refusal.{Refusal}
 use Rattle.codec.proofs.refusals.Refusal as Refusal-t
 use Rattle.codec.proofs.refusals.Refusal.Laws as Refusal-l
-use Rattle.codec.specs.declared.refusals.Refusal.the-variants.{BufferTooShort as Refusal-BufferTooShort, UnknownSubmessageId as Refusal-UnknownSubmessageId, UnknownObjectKind as Refusal-UnknownObjectKind, UnknownStatusCode as Refusal-UnknownStatusCode, PayloadLengthMismatch as Refusal-PayloadLengthMismatch, SessionFull as Refusal-SessionFull, FragmentSizeZero as Refusal-FragmentSizeZero, EmptyPayload as Refusal-EmptyPayload, TooManyFragments as Refusal-TooManyFragments, FragmentNumber as Refusal-FragmentNumber, MissingFragments as Refusal-MissingFragments, TooLong as Refusal-TooLong, OutputTooShort as Refusal-OutputTooShort, StoreFull as Refusal-StoreFull, OutOfTurn as Refusal-OutOfTurn, OverLimit as Refusal-OverLimit, NotInFragments as Refusal-NotInFragments, IllFormed as Refusal-IllFormed}
+use Rattle.codec.specs.declared.refusals.Refusal.the-variants.{BufferTooShort as Refusal-BufferTooShort, UnknownSubmessageId as Refusal-UnknownSubmessageId, UnknownObjectKind as Refusal-UnknownObjectKind, UnknownStatusCode as Refusal-UnknownStatusCode, PayloadLengthMismatch as Refusal-PayloadLengthMismatch, SessionFull as Refusal-SessionFull, FragmentSizeZero as Refusal-FragmentSizeZero, EmptyPayload as Refusal-EmptyPayload, TooManyFragments as Refusal-TooManyFragments, FragmentNumber as Refusal-FragmentNumber, MissingFragments as Refusal-MissingFragments, TooLong as Refusal-TooLong, OutputTooShort as Refusal-OutputTooShort, StoreFull as Refusal-StoreFull, OutOfTurn as Refusal-OutOfTurn, OverLimit as Refusal-OverLimit, NotInFragments as Refusal-NotInFragments, IllFormed as Refusal-IllFormed, WindowFault as Refusal-WindowFault, NoSuchMinute as Refusal-NoSuchMinute}
 use Rattle.sessions.specs.declared.need.Need.{Need}
 use Rattle.sessions.proofs.need.Need as Need-t
 use Rattle.sessions.proofs.need.Need.Laws as Need-l
@@ -118,8 +118,8 @@ SetUp-p = record { row = SetUp-t.the-row; val = EL.val SetUp-t.the-type SetUp-l.
 abbrev Refusal-p : Plain
 Refusal-p = record { row = Refusal-t.the-row; val = EL.val Refusal-t.the-type Refusal-l.the-laws; tells = EL.tells Refusal-t.the-type Refusal-l.the-laws; makes = λ 𝓤 H A W. EL.makes Refusal-t.the-type Refusal-l.the-plain 𝓤 H A; ty = Refusal-l.mir; typed = λ 𝓤 H A W x is. EL.lawful Refusal-t.the-type Refusal-l.the-laws 𝓤 H A W tt .typed x _ is .0; copies = λ 𝓤 H A W. EL.copy Refusal-t.the-type Refusal-l.the-copy 𝓤 H A W }
 
-abbrev Need-of : ℕ → ℕ → ℕ → ℕ → ℕ → ℕ → ℕ → ℕ → Need
-Need-of x0 x1 x2 x3 x4 x5 x6 x7 = record { sessions = x0; streams = x1; objects = x2; held = x3; parts = x4; lengths = x5; rebuilt = x6; bytes = x7 }
+abbrev Need-of : ℕ → ℕ → ℕ → ℕ → ℕ → ℕ → ℕ → ℕ → ℕ → Need
+Need-of x0 x1 x2 x3 x4 x5 x6 x7 x8 = record { sessions = x0; streams = x1; objects = x2; held = x3; parts = x4; lengths = x5; rebuilt = x6; hours = x7; bytes = x8 }
 
 abbrev Need-p : Plain
 Need-p = record { row = Need-t.the-row; val = LL.val Need-t.the-type Need-l.the-laws; tells = LL.tells Need-t.the-type Need-l.the-laws; makes = λ 𝓤 H A W. LL.makes Need-t.the-type Need-l.the-plain 𝓤 H A; ty = Need-l.mir; typed = λ 𝓤 H A W x is. LL.lawful Need-t.the-type Need-l.the-laws 𝓤 H A W .typed x _ is .0; copies = λ 𝓤 H A W. LL.copy Need-t.the-type Need-l.the-copy 𝓤 H A W }

@@ -57,6 +57,12 @@ enum-told-14 c = search needs
 enum-told-15 : tie.Need-enum-told-15
 enum-told-15 c = search needs
 
+enum-told-16 : tie.Need-enum-told-16
+enum-told-16 c = search needs
+
+enum-told-17 : tie.Need-enum-told-17
+enum-told-17 c = search needs
+
 returns : tie.Need-returns
 returns c = rw (c .before .self .given .1)
 
@@ -111,6 +117,12 @@ returns-17 c = rw (c .enum-told14 .given .1)
 returns-18 : tie.Need-returns-18
 returns-18 c = rw (c .enum-told15 .given .1)
 
+returns-19 : tie.Need-returns-19
+returns-19 c = rw (c .enum-told16 .given .1)
+
+returns-20 : tie.Need-returns-20
+returns-20 c = rw (c .enum-told17 .given .1)
+
 pub byte-spec : {M : Type 1} → statement M
 byte-spec =
     tie.close
@@ -133,6 +145,8 @@ byte-spec =
     enum-told-13
     enum-told-14
     enum-told-15
+    enum-told-16
+    enum-told-17
     returns
     returns-2
     returns-3
@@ -150,4 +164,6 @@ byte-spec =
     returns-15
     returns-16
     returns-17
-    returns-18)
+    returns-18
+    returns-19
+    returns-20)

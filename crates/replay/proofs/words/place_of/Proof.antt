@@ -1,15 +1,15 @@
--- `replay::words::word_end` is safe and ends. The measure is what is left of the line; nothing has to hold from turn to turn.
+-- `replay::words::place_of` is safe and ends. The measure is what is left of the line; nothing has to hold from turn to turn.
 use borrow.Author.Needs.{needs}
 use Prim.Native.Nat.{_-_}
 use lib.ListN.{length}
-use Rattle.replay.proofs.words.word_end.Statement.{statement}
-use Rattle.replay.proofs.words.word_end.Tie as tie
+use Rattle.replay.proofs.words.place_of.Statement.{statement}
+use Rattle.replay.proofs.words.place_of.Tie as tie
 
 abbrev Inv-loop : tie.InvT-loop
-Inv-loop line from i₀ i = Unit {0}
+Inv-loop line from b i₀ i = Unit {0}
 
 abbrev μ-loop : tie.MeasureT-loop
-μ-loop line from i₀ i = length line - i
+μ-loop line from b i₀ i = length line - i
 
 loop-holds : tie.Need-loop-holds Inv-loop μ-loop
 loop-holds c = search needs
@@ -32,8 +32,8 @@ loop-again c = search needs
 returns-2 : tie.Need-returns-2 Inv-loop μ-loop
 returns-2 c = search needs
 
-pub word-end-spec : {M : Type 1} → statement M
-word-end-spec =
+pub place-of-spec : {M : Type 1} → statement M
+place-of-spec =
     tie.close
     (tie.spec
     Inv-loop

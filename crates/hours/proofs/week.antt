@@ -1,0 +1,2 @@
+-- Laws of the week's minutes.
+pub mod Laws

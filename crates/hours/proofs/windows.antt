@@ -1,0 +1,2 @@
+-- Laws of the windows.
+pub mod Laws
