@@ -52,7 +52,7 @@ fn take(text: &[u8], index: usize, name: &[u8], most: u64) -> Taken
 }
 
 // What the words from an index on give; none may stand behind them.
-pub fn given_in(text: &[u8], index: usize) -> Words
+pub(crate) fn given_in(text: &[u8], index: usize) -> Words
     requires { ⌜ index < 8 ⌝ }
 {
     let first = take(text, index, b"day=", 255);
