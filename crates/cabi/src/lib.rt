@@ -1,4 +1,6 @@
 // The C interface of the agent: numbers, byte slices and records of numbers only. include/xrce_agent.h declares it.
+#![tactic(auto)]
+
 pub mod answers;
 pub mod calls;
 pub mod inputs;

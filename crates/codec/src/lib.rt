@@ -1,4 +1,6 @@
 // The wire of protocol.rs: what a datagram says, how one is written, strings and fragments.
+#![tactic(auto)]
+
 pub mod bytes;
 pub mod cutting;
 mod failures;

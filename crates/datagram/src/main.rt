@@ -1,4 +1,6 @@
 // Document 01's small program: the first 4,096 bytes of standard input as one datagram, and the lines that say what it says.
+#![tactic(auto)]
+
 use codec::bytes::Written;
 use libc::{STDIN_FILENO, STDOUT_FILENO};
 

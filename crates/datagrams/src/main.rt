@@ -1,5 +1,7 @@
 // The lines of many datagrams, one behind the other on standard input, each led by its length (4 bytes, low byte first).
 // tools/datagrams.py makes the input and, by its own reading of the layouts, what is to be printed.
+#![tactic(auto)]
+
 ghost use Rattle.std.specs.Prelude.{◌≡◌, ◌<◌, length};
 
 use codec::bytes::Written;

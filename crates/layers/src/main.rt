@@ -1,5 +1,7 @@
 // Answers commands for the layers below the agent: one command a line on standard input, one or more lines for each answer.
 // The format stands in oracle/README.md. It is the program that the original Rust is compared with.
+#![tactic(auto)]
+
 mod names;
 mod print;
 mod store;

@@ -1,4 +1,6 @@
 // What a submessage of a live session comes to, over the session's rows: the rules of proxy.rs and of agent.rs's handlers.
+#![tactic(auto)]
+
 pub mod answers;
 pub mod handle;
 pub mod moves;

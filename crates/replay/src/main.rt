@@ -1,5 +1,7 @@
 // Drives an agent from a script on standard input and prints what came back: oracle/REPLAY.md has the format. The bridge's
 // answers stand in the script too, so that the same script gives the same lines whoever answers it.
+#![tactic(auto)]
+
 mod calls;
 mod command;
 mod dump;

@@ -1,4 +1,6 @@
 // The sessions of session.rs: the table of sessions by id, and the objects and streams of each.
+#![tactic(auto)]
+
 pub mod fragments;
 pub mod limits;
 pub mod need;

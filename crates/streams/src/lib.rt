@@ -1,4 +1,6 @@
 // One stream of a session: session.rs's `StreamState` and its sequence numbers.
+#![tactic(auto)]
+
 pub mod acknowledged;
 pub mod places;
 pub mod received;
