@@ -19,7 +19,7 @@ use Rattle.codec.specs.declared.layouts.Parsed.{Parsed}
 use Rattle.codec.specs.declared.layouts.Parsed.TheVariants as parsed
 use Rattle.codec.specs.declared.layouts.Span.{Span}
 use Rattle.codec.specs.declared.submessages.CodeRead.{CodeRead}
-use Rattle.codec.specs.declared.submessages.CodeRead.TheVariants as code_read
+use Rattle.codec.specs.declared.submessages.CodeRead.TheVariants as code-read
 use Rattle.codec.specs.declared.submessages.KindRead.{KindRead}
 use Rattle.codec.specs.declared.submessages.KindRead.TheVariants as kind-read
 use Rattle.codec.specs.declared.submessages.Submessage.{Submessage}
@@ -40,8 +40,8 @@ module _ (s : List ℕ) (id p len : ℕ) where
   own_create e (kind-read.Refused r) = tt
 
   own_status : id ≡ 5 → (k : CodeRead) → Own id (status_of s p len k)
-  own_status e (code_read.Code k) = e
-  own_status e (code_read.Refused r) = tt
+  own_status e (code-read.Code k) = e
+  own_status e (code-read.Refused r) = tt
 
   own_layout : Own id (layout_at s id p len)
   unfolding layout_at create_at status_at

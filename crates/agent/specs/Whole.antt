@@ -23,7 +23,7 @@ use Rattle.agent.specs.Lent.{rebuilt_part}
 use Rattle.agent.specs.Place.{subs_at, ins_at}
 use Rattle.agent.specs.Host.{Leaves, set_up_judged, set_up_as, incoming_of, answer_of, idle_of, removed_by, removed_rows, swept_by, swept_rows, swept_out}
 use Rattle.agent.specs.declared.agent.AgentSetUp.{AgentSetUp}
-use Rattle.agent.specs.declared.agent.AgentSetUp.TheVariants as set_up_lem
+use Rattle.agent.specs.declared.agent.AgentSetUp.TheVariants as set-up
 use Rattle.agent.specs.declared.agent.Removed.{Removed}
 use Rattle.agent.specs.declared.agent.Removed.TheVariants as removed
 use Rattle.agent.specs.declared.process.Outcome.{Outcome}
@@ -137,8 +137,8 @@ set_up_with t hours ws max timeout = set_up_as (set_up_judged t (length hours) w
 
 -- its answer in document 01's numbers
 abbrev pub set_up_answer : AgentSetUp → Answer Agent
-set_up_answer (set_up_lem.Ready a) = gives a
-set_up_answer (set_up_lem.Refused r) = refusal r
+set_up_answer (set-up.Ready a) = gives a
+set_up_answer (set-up.Refused r) = refusal r
 
 abbrev pub empty_of : Tables → List ℕ → List Window → ℕ → Agent → State
 empty_of t hours ws max a =

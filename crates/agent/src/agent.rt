@@ -26,13 +26,13 @@ use sessions::stream_rows::StreamRow;
 use sessions::table::{Named, SessionRow};
 use sessions::{object_list, sweep, table};
 
-#[derive(Drop)]
+#[derive(Clone, Copy)]
 pub enum AgentSetUp {
     Ready(Agent),
     Refused(Refusal),
 }
 
-#[derive(Drop)]
+#[derive(Clone, Copy)]
 pub enum Removed {
     Session,
     NotLive,
@@ -213,7 +213,7 @@ pub fn process_answer(
 }
 
 // Whether a removal or a sweep may run.
-#[derive(Drop)]
+#[derive(Clone, Copy)]
 enum Idle {
     Free,
     Refused(Refusal),

@@ -127,7 +127,7 @@ fn answers_now(resumes: Resumes, got: Got) -> bool
 }
 
 // What the answer that a run begins with lists and says, and for which object.
-#[derive(Drop)]
+#[derive(Clone, Copy)]
 struct Told {
     pub keeps: Keeps,
     pub says: Says,

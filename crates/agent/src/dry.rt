@@ -25,10 +25,10 @@ use sessions::stream_rows::StreamRow;
 use sessions::table::SessionRow;
 
 // A row, as an element of a local array that is lent.
-#[derive(Drop)]
+#[derive(Clone, Copy)]
 pub struct SessionCopy(pub [u64; 8]);
 
-#[derive(Drop)]
+#[derive(Clone, Copy)]
 pub struct StreamCopy(pub [u16; 35]);
 
 fn no_session() -> SessionCopy
@@ -187,7 +187,7 @@ fn restore_lengths(from: &[u32], to: &mut [u32], first: usize, n: usize)
 }
 
 // A part of a store of bytes, as it was.
-#[derive(Drop)]
+#[derive(Clone, Copy)]
 pub struct BufferCopy(pub [u8; 32768]);
 
 fn copy_buffer(held: &[u8], b: Stretch) -> BufferCopy

@@ -24,14 +24,14 @@ use sessions::table::SessionRow;
 use streams::sent::Slot;
 
 // A call of the host: a datagram, or the bridge's answer.
-#[derive(Drop)]
+#[derive(Clone, Copy)]
 pub enum Input {
     Datagram,
     Answer(BridgeAnswer),
 }
 
 // The call in its turn, with the submessage that it answers.
-#[derive(Drop)]
+#[derive(Clone, Copy)]
 enum Turn {
     Datagram,
     Answer(Pending, BridgeAnswer),
@@ -39,14 +39,14 @@ enum Turn {
 }
 
 // The answer that a run begins with.
-#[derive(Drop)]
+#[derive(Clone, Copy)]
 pub(crate) enum Resumes {
     Nothing,
     Answer(ObjectNumber, Task, BridgeAnswer),
 }
 
 // Where a run starts: in its datagram, and before that in the rebuilt bytes whose submessages wait (document 02, W6).
-#[derive(Drop)]
+#[derive(Clone, Copy)]
 pub(crate) struct Start {
     pub frame: Frame,
     pub next: u8,
@@ -57,7 +57,7 @@ pub(crate) struct Start {
 }
 
 // A start with the number of submessages to run, or the refusal.
-#[derive(Drop)]
+#[derive(Clone, Copy)]
 pub(crate) enum Judged {
     Goes(Start, usize),
     Refused(Refusal),
@@ -451,7 +451,7 @@ pub(crate) fn judge(
 
 // What was judged, taken apart: whether the call goes on, where it starts, how many submessages there are to run, and why
 // not.
-#[derive(Drop)]
+#[derive(Clone, Copy)]
 pub(crate) struct Parts {
     pub goes: bool,
     pub start: Start,

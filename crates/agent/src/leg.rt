@@ -15,7 +15,7 @@ use sessions::table::{SessionRow, live_at};
 
 // What the bytes are: a datagram's; rebuilt ones (document 02, W6), which were checked to hold no CREATE_CLIENT and no FRAGMENT; or a
 // datagram's up to where the session that its header names is live.
-#[derive(Drop)]
+#[derive(Clone, Copy)]
 pub(crate) enum Mode {
     Datagram,
     Rebuilt,
@@ -23,20 +23,20 @@ pub(crate) enum Mode {
 }
 
 // The FRAGMENT that ended a leg, if one did.
-#[derive(Drop)]
+#[derive(Clone, Copy)]
 pub(crate) enum Found {
     Nothing,
     Fragment(Taken),
 }
 
-#[derive(Drop)]
+#[derive(Clone, Copy)]
 pub(crate) struct Leg {
     pub ran: Ran,
     pub found: Found,
 }
 
 // What is done with a submessage.
-#[derive(Drop)]
+#[derive(Clone, Copy)]
 pub(crate) enum Step {
     Greets,
     Keeps,

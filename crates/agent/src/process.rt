@@ -16,14 +16,14 @@ use sessions::stream_rows::StreamRow;
 use sessions::table::SessionRow;
 
 // The bytes replied, at the start of the output; the same with a call handed out; or why not.
-#[derive(Drop)]
+#[derive(Clone, Copy)]
 pub enum Outcome {
     Replied(usize),
     Called(BridgeCall, usize),
     Refused(Refusal),
 }
 
-#[derive(Drop)]
+#[derive(Clone, Copy)]
 pub struct Processed {
     pub agent: Agent,
     pub outcome: Outcome,

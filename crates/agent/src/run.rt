@@ -14,7 +14,7 @@ use sessions::stream_rows::StreamRow;
 use sessions::table::SessionRow;
 
 // Whether a FRAGMENT ended a leg, and which.
-#[derive(Drop)]
+#[derive(Clone, Copy)]
 pub(crate) struct Kept {
     pub kept: bool,
     pub took: Taken,

@@ -21,7 +21,7 @@ use sessions::stream_rows::StreamRow;
 use sessions::table::{Named, SessionRow, touch};
 
 // What a datagram's submessages have in common: the limit, the moment, the header's session and stream, and the output's room.
-#[derive(Drop)]
+#[derive(Clone, Copy)]
 pub(crate) struct Frame {
     pub max_clients: usize,
     pub moment: Moment,
@@ -32,7 +32,7 @@ pub(crate) struct Frame {
 
 // A call ends the run: of a submessage as it stands in its bytes; or of a rebuilt one, with the place behind it in the rebuilt
 // bytes, and how many these are.
-#[derive(Drop)]
+#[derive(Clone, Copy)]
 pub(crate) enum Stop {
     Nothing,
     Call(ObjectNumber, Task, BridgeCall),
@@ -40,7 +40,7 @@ pub(crate) enum Stop {
 }
 
 // A run so far: the id pointer, the place in the datagram, the bytes replied, and the call that ends it, if any.
-#[derive(Drop)]
+#[derive(Clone, Copy)]
 pub(crate) struct Ran {
     pub next: u8,
     pub at: usize,
@@ -126,7 +126,7 @@ pub(crate) fn is_live(named: Named) -> bool
 
 // What was read at a place of the datagram, taken apart: what it asks for, its body, and where the next one begins. Where
 // no submessage was read, the next place is the end.
-#[derive(Drop)]
+#[derive(Clone, Copy)]
 pub(crate) struct Taken {
     pub asked: Asked,
     pub body: Span,

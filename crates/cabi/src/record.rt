@@ -12,7 +12,7 @@ pub(crate) type RecordRow = [u64; 22];
 // session, stream, object number and place, its datagram's time and whether that datagram's minute is open (document 02, W8: 1,
 // else closed), and, if its submessage was rebuilt from fragments, the place behind it in the rebuilt bytes and how many these
 // are.
-#[derive(Drop)]
+#[derive(Clone, Copy)]
 pub(crate) struct Record {
     pub max_clients: u64,
     pub timeout_ms: u64,

@@ -8,7 +8,7 @@ use codec::layouts::Span;
 use moves::proxy::BridgeCall;
 
 // The bytes replied, and the bridge call, if there is one.
-#[derive(Drop)]
+#[derive(Clone, Copy)]
 pub(crate) struct Told {
     pub wrote: u64,
     pub call: u64,

@@ -28,7 +28,7 @@ use Rattle.codec.specs.declared.layouts.Cursor.{Cursor}
 use Rattle.codec.specs.declared.submessages.KindRead.{KindRead}
 use Rattle.codec.specs.declared.submessages.KindRead.TheVariants as kind-read
 use Rattle.codec.specs.declared.submessages.CodeRead.{CodeRead}
-use Rattle.codec.specs.declared.submessages.CodeRead.TheVariants as code_read
+use Rattle.codec.specs.declared.submessages.CodeRead.TheVariants as code-read
 use Rattle.codec.specs.declared.submessages.Submessage.{Submessage}
 use Rattle.codec.proofs.Either.{either}
 use Rattle.codec.proofs.submessages.Laws.{KindIs, kind_is, CodeIs, code_is}
@@ -90,10 +90,10 @@ module _ (s : List ℕ) (small : AllBytes s) (p len : ℕ) (fits : p + len ≤ l
 
   right_status : 3 ≤ len → (k : CodeRead) → CodeIs (get_or s (p + 2) 0) k → RightIf s 5 p len (status_of s p len k)
   unfolding Ranged fixed_bytes least_of
-  right_status h (code_read.Code k) e =
+  right_status h (code-read.Code k) e =
       let third : code_byte k ∷ [] ≡ take 1 (drop (p + 2) s) = rw e (byte_piece s (p + 2) (omega arith)) in
       record { own = refl; ranged = word_small s small p; fixed = piece_piece s p 2 1 _ _ (word_piece s small p (omega arith)) third; body = inr ((λ z. z), refl) }
-  right_status h (code_read.Refused r) e = tt
+  right_status h (code-read.Refused r) e = tt
 
   right_write : 2 ≤ len → RightIf s 7 p len (layout_at s 7 p len)
   unfolding layout_at Ranged fixed_bytes least_of

@@ -5,7 +5,7 @@ use Rattle.codec.specs.declared.refusals.Refusal.TheVariants.{BufferTooShort}
 use Rattle.codec.specs.declared.header.MessageHeader.{MessageHeader}
 use Rattle.codec.specs.declared.header.SubmessageHeader.{SubmessageHeader}
 use Rattle.codec.specs.declared.header.HeaderRead.{HeaderRead}
-use Rattle.codec.specs.declared.header.HeaderRead.TheVariants as header_read
+use Rattle.codec.specs.declared.header.HeaderRead.TheVariants as header-read
 use Rattle.codec.specs.declared.header.SubmessageHeaderRead.{SubmessageHeaderRead}
 use Rattle.codec.specs.declared.header.SubmessageHeaderRead.TheVariants as sub-header-read
 
@@ -18,7 +18,7 @@ header_bytes h = h.session_id ∷ h.stream_id ∷ le16 h.sequence_nr
 
 -- 1, "bytes missing"
 unfoldable pub header_read : List ℕ → HeaderRead
-header_read s = cond (ltb (length s) 4) (header_read.Refused BufferTooShort) (header_read.Header (header_of s))
+header_read s = cond (ltb (length s) 4) (header-read.Refused BufferTooShort) (header-read.Header (header_of s))
 
 -- "Submessage: id, flags (a byte each), length (2), payload."
 unfoldable pub sub_header_of : List ℕ → ℕ → SubmessageHeader

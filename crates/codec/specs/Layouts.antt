@@ -8,7 +8,7 @@ use Rattle.codec.specs.declared.refusals.Refusal.TheVariants.{UnknownSubmessageI
 use Rattle.codec.specs.declared.submessages.KindRead.{KindRead}
 use Rattle.codec.specs.declared.submessages.KindRead.TheVariants as kind-read
 use Rattle.codec.specs.declared.submessages.CodeRead.{CodeRead}
-use Rattle.codec.specs.declared.submessages.CodeRead.TheVariants as code_read
+use Rattle.codec.specs.declared.submessages.CodeRead.TheVariants as code-read
 use Rattle.codec.specs.declared.submessages.Submessage.{Submessage}
 use Rattle.codec.specs.declared.submessages.Submessage.TheVariants.{CreateClient, Create, Delete, Status, WriteData, ReadData, Data, Heartbeat, Acknack, Fragment}
 
@@ -47,8 +47,8 @@ delete_at s p = Delete (record { object_id = record { 0 = word_at s p } })
 
 -- 0x05 STATUS: object 2, code 1
 abbrev pub status_of : List ℕ → ℕ → ℕ → CodeRead → Parsed
-status_of s p len (code_read.Code k) = plain_at (Status (record { related_object_id = record { 0 = word_at s p }; status = k })) p len
-status_of s p len (code_read.Refused r) = Refused r
+status_of s p len (code-read.Code k) = plain_at (Status (record { related_object_id = record { 0 = word_at s p }; status = k })) p len
+status_of s p len (code-read.Refused r) = Refused r
 
 unfoldable pub status_at : List ℕ → ℕ → ℕ → Parsed
 status_at s p len = status_of s p len (code_of (get_or s (p + 2) 0))

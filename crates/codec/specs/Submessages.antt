@@ -8,7 +8,7 @@ use Rattle.codec.specs.declared.submessages.StatusCode.TheVariants.{Ok, ErrUnkno
 use Rattle.codec.specs.declared.submessages.KindRead.{KindRead}
 use Rattle.codec.specs.declared.submessages.KindRead.TheVariants as kind-read
 use Rattle.codec.specs.declared.submessages.CodeRead.{CodeRead}
-use Rattle.codec.specs.declared.submessages.CodeRead.TheVariants as code_read
+use Rattle.codec.specs.declared.submessages.CodeRead.TheVariants as code-read
 use Rattle.codec.specs.declared.submessages.Submessage.{Submessage}
 use Rattle.codec.specs.declared.submessages.Submessage.TheVariants.{CreateClient, Create, Delete, Status, WriteData, ReadData, Data, Heartbeat, Acknack, Fragment}
 
@@ -43,12 +43,12 @@ code_byte ErrResources = 4
 -- any other byte is refused as 4, with the byte
 unfoldable pub code_of : ℕ → CodeRead
 code_of b =
-    cond (eqb b 0) (code_read.Code Ok)
-    (cond (eqb b 1) (code_read.Code ErrUnknownRef)
-    (cond (eqb b 2) (code_read.Code ErrInvalidData)
-    (cond (eqb b 3) (code_read.Code ErrIncompatible)
-    (cond (eqb b 4) (code_read.Code ErrResources)
-    (code_read.Refused (UnknownStatusCode b))))))
+    cond (eqb b 0) (code-read.Code Ok)
+    (cond (eqb b 1) (code-read.Code ErrUnknownRef)
+    (cond (eqb b 2) (code-read.Code ErrInvalidData)
+    (cond (eqb b 3) (code-read.Code ErrIncompatible)
+    (cond (eqb b 4) (code-read.Code ErrResources)
+    (code-read.Refused (UnknownStatusCode b))))))
 
 -- the column "id" of the table of kinds, and document 02's "A FRAGMENT submessage, id 0x0F" (W6)
 abbrev pub id_of : Submessage → ℕ

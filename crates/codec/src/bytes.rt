@@ -5,7 +5,7 @@ ghost use Rattle.codec.specs.Bytes.{word_at, le16, put_at, put_of, put_bytes};
 use crate::refusals::Refusal;
 
 // What a call that writes comes to: the number of bytes written, or why nothing was.
-#[derive(Drop)]
+#[derive(Clone, Copy)]
 pub enum Written {
     Bytes(usize),
     Refused(Refusal),

@@ -6,20 +6,20 @@ ghost use Rattle.codec.specs.Cutting.{fragment_bytes, fragment_header_of, count_
 use crate::bytes::{Written, copy_long, put_two, word_at};
 use crate::refusals::Refusal;
 
-#[derive(Drop)]
+#[derive(Clone, Copy)]
 pub struct FragmentHeader {
     pub fragment_nr: u16,
     pub total_fragments: u16,
 }
 
-#[derive(Drop)]
+#[derive(Clone, Copy)]
 pub enum FragmentHeaderRead {
     Header(FragmentHeader),
     Refused(Refusal),
 }
 
 // How many fragments a payload is cut into, or why it isn't cut.
-#[derive(Drop)]
+#[derive(Clone, Copy)]
 pub enum FragmentCount {
     Fragments(u16),
     Refused(Refusal),

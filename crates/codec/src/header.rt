@@ -10,14 +10,14 @@ pub const MESSAGE_HEADER_SIZE: usize = 4;
 
 pub const SUBMESSAGE_HEADER_SIZE: usize = 4;
 
-#[derive(Drop)]
+#[derive(Clone, Copy)]
 pub struct MessageHeader {
     pub session_id: u8,
     pub stream_id: u8,
     pub sequence_nr: u16,
 }
 
-#[derive(Drop)]
+#[derive(Clone, Copy)]
 pub enum HeaderRead {
     Header(MessageHeader),
     Refused(Refusal),
@@ -61,14 +61,14 @@ pub(crate) fn put_head(out: &mut [u8], at: usize, a: u8, b: u8, n: u16)
     put_word(out, at + 2, n);
 }
 
-#[derive(Drop)]
+#[derive(Clone, Copy)]
 pub struct SubmessageHeader {
     pub submessage_id: u8,
     pub flags: u8,
     pub length: u16,
 }
 
-#[derive(Drop)]
+#[derive(Clone, Copy)]
 pub enum SubmessageHeaderRead {
     Header(SubmessageHeader),
     Refused(Refusal),

@@ -13,20 +13,20 @@ use crate::submessages::{
 };
 
 // A part of a datagram: `len` bytes from `start` on.
-#[derive(Drop)]
+#[derive(Clone, Copy)]
 pub struct Span {
     pub start: usize,
     pub len: usize,
 }
 
 // The place in a datagram at which the next submessage begins.
-#[derive(Drop)]
+#[derive(Clone, Copy)]
 pub struct Cursor {
     pub at: usize,
 }
 
 // One submessage with its variable part and the place behind it, or why there is none.
-#[derive(Drop)]
+#[derive(Clone, Copy)]
 pub enum Parsed {
     Sub(Submessage, Span, Cursor),
     Refused(Refusal),

@@ -10,7 +10,7 @@ use crate::layouts::{Cursor, Parsed, Span, layout_at};
 use crate::refusals::Refusal;
 
 // A whole datagram: its header and the number of its submessages, or why it is refused.
-#[derive(Drop)]
+#[derive(Clone, Copy)]
 pub enum Checked {
     Message(MessageHeader, usize),
     Refused(Refusal),

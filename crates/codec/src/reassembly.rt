@@ -9,28 +9,28 @@ ghost use Rattle.codec.specs.Reassembly.{under_need, new_of, new_lengths, grown,
 use crate::bytes::{Written, copy_in};
 use crate::refusals::Refusal;
 
-#[derive(Drop)]
+#[derive(Clone, Copy)]
 pub struct ReassemblyBuffer {
     pub total_fragments: u16,
     pub received_count: u16,
     pub width: u16,
 }
 
-#[derive(Drop)]
+#[derive(Clone, Copy)]
 pub enum StoreMade {
     Store(ReassemblyBuffer),
     Refused(Refusal),
 }
 
 // The store after an insert, and whether every fragment is there.
-#[derive(Drop)]
+#[derive(Clone, Copy)]
 pub enum Inserted {
     Held(ReassemblyBuffer, bool),
     Refused(Refusal),
 }
 
 // Whether a call on a store goes on.
-#[derive(Drop)]
+#[derive(Clone, Copy)]
 enum Check {
     Passes,
     Refused(Refusal),

@@ -8,7 +8,7 @@ use crate::header::SUBMESSAGE_HEADER_SIZE;
 use crate::refusals::Refusal;
 
 // The number of submessages in rebuilt bytes, or why they are refused.
-#[derive(Drop)]
+#[derive(Clone, Copy)]
 pub enum Rebuilt {
     Subs(usize),
     Refused(Refusal),

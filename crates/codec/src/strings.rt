@@ -11,7 +11,7 @@ use crate::text::is_text;
 use crate::writing::MAX_PAYLOAD;
 
 // Where the bytes of a string stand, or why there is none; the next string begins behind them.
-#[derive(Drop)]
+#[derive(Clone, Copy)]
 pub enum StringRead {
     Text(Span),
     Refused(Refusal),

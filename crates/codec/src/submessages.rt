@@ -7,10 +7,10 @@ use crate::refusals::Refusal;
 
 // The number by which a session names an object. It is never a bridge handle.
 #[repr(C)]
-#[derive(Drop)]
+#[derive(Clone, Copy)]
 pub struct ObjectNumber(pub u16);
 
-#[derive(Drop)]
+#[derive(Clone, Copy)]
 pub enum ObjectKind {
     Participant,
     Topic,
@@ -20,7 +20,7 @@ pub enum ObjectKind {
     DataReader,
 }
 
-#[derive(Drop)]
+#[derive(Clone, Copy)]
 pub enum KindRead {
     Kind(ObjectKind),
     Refused(Refusal),
@@ -55,7 +55,7 @@ impl ObjectKind {
     }
 }
 
-#[derive(Drop)]
+#[derive(Clone, Copy)]
 pub enum StatusCode {
     Ok,
     ErrUnknownRef,
@@ -64,7 +64,7 @@ pub enum StatusCode {
     ErrResources,
 }
 
-#[derive(Drop)]
+#[derive(Clone, Copy)]
 pub enum CodeRead {
     Code(StatusCode),
     Refused(Refusal),
@@ -98,67 +98,67 @@ impl StatusCode {
 }
 
 // The client's key is its four bytes read as one number, low byte first.
-#[derive(Drop)]
+#[derive(Clone, Copy)]
 pub struct CreateClientPayload {
     pub client_key: u32,
     pub properties: u8,
 }
 
 // The parent of a Participant is its domain; that of every other kind is an object's number.
-#[derive(Drop)]
+#[derive(Clone, Copy)]
 pub struct CreatePayload {
     pub object_id: ObjectNumber,
     pub kind: ObjectKind,
     pub parent_id: u16,
 }
 
-#[derive(Drop)]
+#[derive(Clone, Copy)]
 pub struct DeletePayload {
     pub object_id: ObjectNumber,
 }
 
-#[derive(Drop)]
+#[derive(Clone, Copy)]
 pub struct StatusPayload {
     pub related_object_id: ObjectNumber,
     pub status: StatusCode,
 }
 
-#[derive(Drop)]
+#[derive(Clone, Copy)]
 pub struct WriteDataPayload {
     pub writer_id: ObjectNumber,
 }
 
-#[derive(Drop)]
+#[derive(Clone, Copy)]
 pub struct ReadDataPayload {
     pub reader_id: ObjectNumber,
     pub max_samples: u16,
 }
 
-#[derive(Drop)]
+#[derive(Clone, Copy)]
 pub struct DataPayload {
     pub reader_id: ObjectNumber,
 }
 
-#[derive(Drop)]
+#[derive(Clone, Copy)]
 pub struct HeartbeatPayload {
     pub first_unacked_seq: u16,
     pub last_seq: u16,
 }
 
-#[derive(Drop)]
+#[derive(Clone, Copy)]
 pub struct AcknackPayload {
     pub first_unacked_seq: u16,
     pub nack_bitmap: u16,
 }
 
 // Which of a cut's fragments a submessage holds, and how many there are.
-#[derive(Drop)]
+#[derive(Clone, Copy)]
 pub struct FragmentPayload {
     pub fragment_nr: u16,
     pub total_fragments: u16,
 }
 
-#[derive(Drop)]
+#[derive(Clone, Copy)]
 pub enum Submessage {
     CreateClient(CreateClientPayload),
     Create(CreatePayload),

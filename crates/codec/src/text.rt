@@ -3,7 +3,7 @@ ghost use Rattle.std.specs.Prelude.{◌≡◌, ◌+◌, ◌≤◌, ◌<◌, leng
 ghost use Rattle.codec.specs.Text.{tail, table, in_range, behind_first, fits, character_len, well_formed, ranges_of};
 
 // What a character that has begun still needs: so many bytes, the next of them from `low` to `high`, the others from 0x80 to 0xBF.
-#[derive(Drop)]
+#[derive(Clone, Copy)]
 struct Wait {
     need: u8,
     low: u8,

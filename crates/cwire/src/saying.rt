@@ -10,7 +10,7 @@ use codec::submessages::{
 };
 
 // What a row says, or why it says nothing.
-#[derive(Drop)]
+#[derive(Clone, Copy)]
 pub enum Said {
     Sub(Submessage),
     Refused(Refusal),

@@ -7,7 +7,7 @@ use crate::windows::{DAY_MINUTES, WEEK_MINUTES, WindowRow, window_open};
 use codec::refusals::Refusal;
 
 // The weekday and minute, or that no minute is open.
-#[derive(Drop)]
+#[derive(Clone, Copy)]
 pub enum FirstOpen {
     At(u8, u16),
     Never,
@@ -68,7 +68,7 @@ pub fn is_open(hours: &[u8], day: u8, minute: u16) -> bool
 }
 
 // A minute of the week.
-#[derive(Drop)]
+#[derive(Clone, Copy)]
 struct Minute {
     day: u8,
     minute: u16,

@@ -11,7 +11,7 @@ pub(crate) const DAY_MINUTES: usize = 1440;
 pub(crate) const WEEK_MINUTES: usize = 7 * DAY_MINUTES;
 
 // Whether set-up takes the windows.
-#[derive(Drop)]
+#[derive(Clone, Copy)]
 pub enum Windows {
     Fit,
     Refused(Refusal),

@@ -20,7 +20,7 @@ use table::Limits;
 use words::{between, parse};
 
 // How far the input is read: `have` bytes of it are there, and the next one is at `at`.
-#[derive(Drop)]
+#[derive(Clone, Copy)]
 struct Reading {
     at: usize,
     have: usize,

@@ -14,7 +14,7 @@ use sessions::sweep::evict_expired;
 use sessions::table::{ClientSession, Got, Named, SessionRow, get, remove, touch};
 
 // What a table is set up with, and the id from which the next free one is looked for.
-#[derive(Drop)]
+#[derive(Clone, Copy)]
 pub struct Limits {
     pub max_clients: usize,
     pub timeout_ms: u64,

@@ -24,7 +24,7 @@ pub fn room() -> [u8; 66000]
 }
 
 // The place of the next submessage, and of the next byte that is written back.
-#[derive(Drop)]
+#[derive(Clone, Copy)]
 struct Step {
     place: usize,
     end: usize,

@@ -5,7 +5,7 @@ use crate::names;
 use crate::names::name_of;
 
 // A command: its name, its words read as numbers, and how many bytes it gives.
-#[derive(Drop)]
+#[derive(Clone, Copy)]
 pub struct Command {
     pub name: usize,
     pub first: u64,

@@ -9,14 +9,14 @@ use sessions::session_objects::put_object;
 use sessions::table::SessionRow;
 
 // What an answer lists: a CREATE that succeeds lists its object with the handle returned and its parent number.
-#[derive(Drop)]
+#[derive(Clone, Copy)]
 pub enum Keeps {
     Object(Object),
     Nothing,
 }
 
 // What it replies: a STATUS, or the sample as DATA.
-#[derive(Drop)]
+#[derive(Clone, Copy)]
 pub enum Says {
     Status(StatusCode),
     Data,

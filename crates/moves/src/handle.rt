@@ -12,7 +12,7 @@ use sessions::stream_rows::StreamRow;
 use sessions::table::SessionRow;
 
 // Whether a submessage opens a session, is a FRAGMENT, or goes to the session as it stands; `Unread` where none was read.
-#[derive(Drop)]
+#[derive(Clone, Copy)]
 pub enum Opening {
     Client,
     Fragment,
@@ -21,7 +21,7 @@ pub enum Opening {
 }
 
 // What it is about.
-#[derive(Drop)]
+#[derive(Clone, Copy)]
 pub enum Group {
     Creates,
     Deletes,
@@ -34,7 +34,7 @@ pub enum Group {
 // A submessage, taken apart: the key of a CREATE_CLIENT; the object that a CREATE, DELETE, WRITE_DATA or READ_DATA names, and
 // a CREATE's kind and parent; the two numbers of a HEARTBEAT, which hears, of an ACKNACK, or of a FRAGMENT. What it doesn't
 // have is zero.
-#[derive(Drop)]
+#[derive(Clone, Copy)]
 pub struct Asked {
     pub opening: Opening,
     pub group: Group,

@@ -11,7 +11,7 @@ use sessions::session_streams::{StreamNamed, StreamRead};
 
 // The STATUS that answers a CREATE_CLIENT, with its session's id; a STATUS for an object; an ACKNACK; the held messages that
 // an ACKNACK asks for; a call for an object; nothing.
-#[derive(Drop)]
+#[derive(Clone, Copy)]
 pub enum Move {
     Greets(u8, StatusCode),
     Status(ObjectNumber, StatusCode),

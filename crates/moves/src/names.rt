@@ -9,7 +9,7 @@ use codec::reading::part;
 use codec::strings::{StringRead, decode_string};
 
 // Name and type of a Topic; or they can't be read, being cut short or no text.
-#[derive(Drop)]
+#[derive(Clone, Copy)]
 pub enum Names {
     Both(Span, Span),
     Unread,

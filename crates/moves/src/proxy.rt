@@ -8,7 +8,7 @@ ghost use Rattle.moves.specs.Proxy.{answer_as, task_as};
 use codec::layouts::Span;
 use sessions::objects::Handle;
 
-#[derive(Drop)]
+#[derive(Clone, Copy)]
 pub enum BridgeCall {
     CreateParticipant(u16),
     CreateTopic(Handle, Span, Span),
@@ -20,7 +20,7 @@ pub enum BridgeCall {
 }
 
 // A handle; success without a value; a sample, whose bytes are lent beside; no sample; failure.
-#[derive(Drop)]
+#[derive(Clone, Copy)]
 pub enum BridgeAnswer {
     Created(Handle),
     Done,
@@ -30,7 +30,7 @@ pub enum BridgeAnswer {
 }
 
 // What an open call is for: a CREATE, of an object kind and with a parent number, a WRITE_DATA, a READ_DATA, a DELETE.
-#[derive(Drop)]
+#[derive(Clone, Copy)]
 pub enum Task {
     Creating(u8, u16),
     Writing,

@@ -12,7 +12,7 @@ use hours::windows::WindowRow;
 
 // An event: its name, its numbers, the weekday and minute that come with a datagram, and how many bytes it gives, which stand at
 // the line's start; of a `setup` it is how many windows stand in their places.
-#[derive(Drop)]
+#[derive(Clone, Copy)]
 pub struct Command {
     pub name: usize,
     pub first: u64,
@@ -24,7 +24,7 @@ pub struct Command {
 
 // What an event's line begins with: so many words, so many of them numbers, each with its greatest value; and which word is
 // its bytes, 0 where it has none.
-#[derive(Drop)]
+#[derive(Clone, Copy)]
 struct Shape {
     words: usize,
     numbers: usize,

@@ -206,7 +206,7 @@ fn list(sessions: &[SessionRow], objects: &[Object], c: Command) {
 }
 
 // Which stores an event needs.
-#[derive(Drop)]
+#[derive(Clone, Copy)]
 enum Group {
     SetUp,
     Datagram,

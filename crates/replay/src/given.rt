@@ -7,7 +7,7 @@ use crate::words::{
 };
 
 // The weekday and minute; `fits` is false where a word isn't in the format.
-#[derive(Drop)]
+#[derive(Clone, Copy)]
 pub struct Words {
     pub fits: bool,
     pub day: u8,
@@ -23,7 +23,7 @@ fn no_words() -> Words {
 }
 
 // A number, and the index of the word behind its own.
-#[derive(Drop)]
+#[derive(Clone, Copy)]
 struct Taken {
     number: Number,
     next: usize,

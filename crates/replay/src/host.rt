@@ -11,7 +11,7 @@ use moves::proxy::{BridgeAnswer, BridgeCall};
 use sessions::objects::Handle;
 
 // The agent, whether it was ever set up, and the length of the datagram that is kept for its open call.
-#[derive(Drop)]
+#[derive(Clone, Copy)]
 pub struct Host {
     pub ready: bool,
     pub agent: Agent,

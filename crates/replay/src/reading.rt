@@ -3,7 +3,7 @@ use libc::STDIN_FILENO;
 
 // How far the input is read: `have` bytes of it are there, the next one is at `at`. Then the line that was read last: its
 // length without the newline, whether it was longer than its room, and whether there was one at all.
-#[derive(Drop)]
+#[derive(Clone, Copy)]
 pub struct Reading {
     pub at: usize,
     pub have: usize,

@@ -6,7 +6,7 @@ use crate::words::{
 use hours::windows::WindowRow;
 
 // Whether a line's windows are in the format, and how many of them have a place.
-#[derive(Drop)]
+#[derive(Clone, Copy)]
 pub struct Windows {
     pub fits: bool,
     pub count: usize,
@@ -25,7 +25,7 @@ fn of_count(count: usize) -> Windows {
 
 // A window that a word was read as; `fits` is false where the word isn't one, or a number of it has more than 16 bits. Whether
 // there is such a day, and such a window, is for set-up to say.
-#[derive(Drop)]
+#[derive(Clone, Copy)]
 struct Window {
     fits: bool,
     day: u16,

@@ -104,7 +104,7 @@ pub fn begins(word: &[u8], first: &[u8]) -> bool {
 }
 
 // A number that a word was read as; `fits` is false where the word isn't one, or is too great.
-#[derive(Drop)]
+#[derive(Clone, Copy)]
 pub struct Number {
     pub fits: bool,
     pub value: u64,

@@ -15,7 +15,7 @@ use codec::refusals::Refusal;
 
 // What a fragment comes to: it changes nothing; it is held, in the store as it is then; or it was the last one missing, the
 // store is empty again, and so many rebuilt bytes stand at the start of their place.
-#[derive(Drop)]
+#[derive(Clone, Copy)]
 pub enum Gathered {
     Nothing,
     Held(ReassemblyBuffer),

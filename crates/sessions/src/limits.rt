@@ -11,7 +11,7 @@ use crate::table::{ClientSession, SessionRow, session_at};
 use codec::reassembly::ReassemblyBuffer;
 use codec::refusals::Refusal;
 
-#[derive(Drop)]
+#[derive(Clone, Copy)]
 pub enum Limits {
     Within,
     Refused(Refusal),

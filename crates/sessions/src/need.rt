@@ -30,7 +30,7 @@ pub(crate) const REBUILT: usize = 32768;
 // The minutes of the week, a byte each (document 02, W8).
 pub(crate) const HOURS: usize = 10080;
 
-#[derive(Drop)]
+#[derive(Clone, Copy)]
 pub struct Need {
     pub sessions: usize,
     pub streams: usize,
@@ -43,7 +43,7 @@ pub struct Need {
     pub bytes: usize,
 }
 
-#[derive(Drop)]
+#[derive(Clone, Copy)]
 pub enum Needed {
     Stores(Need),
     Refused(Refusal),

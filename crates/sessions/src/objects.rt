@@ -11,14 +11,14 @@ use codec::submessages::ObjectNumber;
 // What the bridge knows an entity by. One is made of a bridge's answer, or read out of a record that holds one: a bridge
 // call takes this struct alone, so an object number never stands where a handle is due.
 #[repr(C)]
-#[derive(Drop)]
+#[derive(Clone, Copy)]
 pub struct Handle(pub u32);
 
 // Numbers only, so that a C host can lend a row of these. `bridged` is 0 where the object has no handle; the number
 // `handle` becomes a `Handle` in `bridge_handle` alone, and only where there is one. `parent` is the parent number of the
 // object's CREATE, whatever its kind: a Participant's is its domain.
 #[repr(C)]
-#[derive(Drop)]
+#[derive(Clone, Copy)]
 pub struct Object {
     pub number: ObjectNumber,
     pub kind: u8,
@@ -27,7 +27,7 @@ pub struct Object {
     pub parent: u16,
 }
 
-#[derive(Drop)]
+#[derive(Clone, Copy)]
 pub enum ObjectHandle {
     Bridged(Handle),
     Implicit,
@@ -73,14 +73,14 @@ impl Object {
 }
 
 // The place of a record in a row.
-#[derive(Drop)]
+#[derive(Clone, Copy)]
 pub enum Place {
     At(usize),
     Nowhere,
 }
 
 // The record that was looked for.
-#[derive(Drop)]
+#[derive(Clone, Copy)]
 pub enum Found {
     Held(Object),
     Nothing,
@@ -88,7 +88,7 @@ pub enum Found {
 }
 
 // What taking a record out comes to: the record, or that another depends on it, which keeps it.
-#[derive(Drop)]
+#[derive(Clone, Copy)]
 pub enum Taken {
     Gone(Object),
     Depended,
@@ -97,7 +97,7 @@ pub enum Taken {
 }
 
 // What storing a record comes to: the number of records now in use, or that there is no place for another.
-#[derive(Drop)]
+#[derive(Clone, Copy)]
 pub enum Stored {
     Count(usize),
     Full,

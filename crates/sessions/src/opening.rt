@@ -10,14 +10,14 @@ use crate::table::{ClientSession, SessionRow, keep_session, session_at};
 use codec::refusals::Refusal;
 use streams::state::StreamState;
 
-#[derive(Drop)]
+#[derive(Clone, Copy)]
 pub enum Counted {
     Sessions(usize),
     Refused(Refusal),
 }
 
 // The id of the new session, and the id from which the next free one is looked for.
-#[derive(Drop)]
+#[derive(Clone, Copy)]
 pub enum Created {
     Opened { id: u8, next: u8 },
     Refused(Refusal),

@@ -12,7 +12,7 @@ use crate::table::{SessionRow, session_at};
 use codec::refusals::Refusal;
 use codec::submessages::ObjectNumber;
 
-#[derive(Drop)]
+#[derive(Clone, Copy)]
 pub enum Room {
     Free,
     Full,

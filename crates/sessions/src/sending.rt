@@ -13,7 +13,7 @@ use streams::sent::{Recorded, Slot};
 use streams::state::BUFFER_BYTES;
 
 // A part of the store of held messages.
-#[derive(Drop)]
+#[derive(Clone, Copy)]
 pub struct Stretch {
     pub start: usize,
     pub end: usize,

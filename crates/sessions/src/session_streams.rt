@@ -11,7 +11,7 @@ use codec::refusals::Refusal;
 use streams::state::StreamState;
 
 // The place that a stream has among its session's eight, or the place that it would get: there is none for a ninth.
-#[derive(Drop)]
+#[derive(Clone, Copy)]
 pub(crate) enum StreamPlace {
     Have(usize),
     Add(usize),
@@ -21,7 +21,7 @@ pub(crate) enum StreamPlace {
 }
 
 // What opening a stream comes to. It is open whether it was before or not; a ninth is not opened.
-#[derive(Drop)]
+#[derive(Clone, Copy)]
 pub enum StreamOpened {
     Open,
     Full,
@@ -30,7 +30,7 @@ pub enum StreamOpened {
 }
 
 // What a stream's number names.
-#[derive(Drop)]
+#[derive(Clone, Copy)]
 pub enum StreamNamed {
     Open,
     NotOpen,
@@ -39,7 +39,7 @@ pub enum StreamNamed {
 }
 
 // A stream that was read: where it is not open, a new stream 0 stands in its place.
-#[derive(Drop)]
+#[derive(Clone, Copy)]
 pub struct StreamRead {
     pub answer: StreamNamed,
     pub state: StreamState,

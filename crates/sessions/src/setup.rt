@@ -12,7 +12,7 @@ use codec::refusals::Refusal;
 use codec::submessages::ObjectNumber;
 
 // The stores are cleared, and `next` is the id from which the first free one is looked for.
-#[derive(Drop)]
+#[derive(Clone, Copy)]
 pub enum SetUp {
     Ready { next: u8 },
     Refused(Refusal),

@@ -48,7 +48,7 @@ fn count_five(sessions: &[SessionRow], id: u8, time: u64, timeout_ms: u64) -> us
 }
 
 // How many sessions go; none of them has an id below `first`.
-#[derive(Drop)]
+#[derive(Clone, Copy)]
 struct Gone {
     n: usize,
     first: usize,

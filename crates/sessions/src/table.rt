@@ -11,7 +11,7 @@ pub type SessionRow = [u64; 8];
 // What the table keeps of a session. `live` is 0 where the id is free; the counts say how many of the session's
 // object records and stream records are in use; the slot says which part of the stores by slot is the session's (document 02, W5);
 // `total` and `received` are those of its fragments, 0 while it has none (document 02, W6).
-#[derive(Drop)]
+#[derive(Clone, Copy)]
 pub struct ClientSession {
     pub live: u64,
     pub client_key: u64,
@@ -24,7 +24,7 @@ pub struct ClientSession {
 }
 
 // What an id names.
-#[derive(Drop)]
+#[derive(Clone, Copy)]
 pub enum Named {
     Live,
     NotLive,
@@ -32,7 +32,7 @@ pub enum Named {
 }
 
 // The session that an id names.
-#[derive(Drop)]
+#[derive(Clone, Copy)]
 pub enum Got {
     Session(ClientSession),
     NotLive,

@@ -8,7 +8,7 @@ use codec::submessages::HeartbeatPayload;
 
 // How many messages the bitmap asks for (document 02, W5), and the numbers to repeat, in the order of their bits: the
 // first `count` of the sixteen.
-#[derive(Drop)]
+#[derive(Clone, Copy)]
 pub struct Acknowledged {
     pub state: StreamState,
     pub asked: u32,

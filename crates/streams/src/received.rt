@@ -6,7 +6,7 @@ use crate::sequence::{seq_add, seq_lt};
 use crate::state::StreamState;
 use codec::submessages::AcknackPayload;
 
-#[derive(Drop)]
+#[derive(Clone, Copy)]
 pub struct Received {
     pub accepted: bool,
     pub state: StreamState,

@@ -7,14 +7,14 @@ use crate::state::{BUFFER_BYTES, LONGEST, PLACES, SLOT_BYTES, StreamState};
 use codec::bytes::put_bytes;
 use codec::refusals::Refusal;
 
-#[derive(Drop)]
+#[derive(Clone, Copy)]
 pub struct Allocated {
     pub seq: u16,
     pub state: StreamState,
 }
 
 // Where a message is held: at a place, or, on best effort, nowhere.
-#[derive(Drop)]
+#[derive(Clone, Copy)]
 pub enum Slot {
     At(usize),
     Nowhere,
@@ -22,14 +22,14 @@ pub enum Slot {
 }
 
 // On a refusal the state is the one that was handed in.
-#[derive(Drop)]
+#[derive(Clone, Copy)]
 pub struct Recorded {
     pub slot: Slot,
     pub state: StreamState,
 }
 
 // A held message's place and its number of bytes.
-#[derive(Drop)]
+#[derive(Clone, Copy)]
 pub enum Held {
     At(usize, usize),
     Nothing,

@@ -11,7 +11,7 @@ pub const BUFFER_BYTES: usize = 16384;
 // A message of SLOT_BYTES bytes, as `lengths` writes it.
 pub const LONGEST: u16 = 1025;
 
-#[derive(Drop)]
+#[derive(Clone, Copy)]
 pub enum StreamKind {
     BestEffort,
     Reliable,
@@ -32,7 +32,7 @@ impl StreamKind {
 // Numbers only, so that a row of numbers can hold one. Of the sixteen places, place i is free where
 // lengths[i] is 0; else it holds the message numbers[i], whose lengths[i] - 1 bytes lie from 1,024 * i on in
 // the lent buffer. A message is dropped by its length alone: no byte moves.
-#[derive(Drop)]
+#[derive(Clone, Copy)]
 pub struct StreamState {
     pub stream_id: u8,
     pub next_send_seq: u16,

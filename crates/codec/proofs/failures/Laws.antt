@@ -23,7 +23,7 @@ use Rattle.codec.specs.declared.refusals.Refusal.TheVariants.{BufferTooShort, Un
 use Rattle.codec.specs.declared.submessages.KindRead.{KindRead}
 use Rattle.codec.specs.declared.submessages.KindRead.TheVariants as kind-read
 use Rattle.codec.specs.declared.submessages.CodeRead.{CodeRead}
-use Rattle.codec.specs.declared.submessages.CodeRead.TheVariants as code_read
+use Rattle.codec.specs.declared.submessages.CodeRead.TheVariants as code-read
 use Rattle.codec.proofs.Either.{either}
 use Rattle.codec.proofs.layouts.Laws.{enough, least_rest}
 use Rattle.codec.proofs.reading.Laws.{payload_cut, payload_unlisted, payload_under, payload_laid, payload_ends, read_payload, read_short, Ends, counted, counted_sub}
@@ -55,8 +55,8 @@ module _ (s : List ℕ) (p len : ℕ) (room : p + len ≤ length s) where
   create_failure id e h (kind-read.Refused r) w = rw w (kind room h e)
 
   status_failure : (id : ℕ) → id ≡ 5 → 3 ≤ len → (k : CodeRead) → CodeIs (get_or s (p + 2) 0) k → FailureIf s id p len (status_of s p len k)
-  status_failure id e h (code_read.Code k) w = tt
-  status_failure id e h (code_read.Refused r) w = rw w (code room h e)
+  status_failure id e h (code-read.Code k) w = tt
+  status_failure id e h (code-read.Refused r) w = rw w (code room h e)
 
   layout_failure : (id : ℕ) → least_of id ≤ len → FailureIf s id p len (layout_at s id p len)
   unfolding layout_at create_at status_at least_of

@@ -12,14 +12,14 @@ use Rattle.codec.specs.declared.refusals.Refusal.{Refusal}
 use Rattle.codec.specs.declared.refusals.Refusal.TheVariants.{BufferTooShort}
 use Rattle.codec.specs.declared.header.MessageHeader.{MessageHeader}
 use Rattle.codec.specs.declared.header.SubmessageHeader.{SubmessageHeader}
-use Rattle.codec.specs.declared.header.HeaderRead.TheVariants as header_read
+use Rattle.codec.specs.declared.header.HeaderRead.TheVariants as header-read
 use Rattle.codec.specs.declared.header.SubmessageHeaderRead.TheVariants as sub-header-read
 
-pub header_short : (s : List ℕ) → length s < 4 → header_read.Refused BufferTooShort ≡ header_read s
+pub header_short : (s : List ℕ) → length s < 4 → header-read.Refused BufferTooShort ≡ header_read s
 unfolding header_read
 header_short s h = rw (lt-ltb (length s) 4 h)
 
-pub header_there : (s : List ℕ) → 4 ≤ length s → header_read.Header (header_of s) ≡ header_read s
+pub header_there : (s : List ℕ) → 4 ≤ length s → header-read.Header (header_of s) ≡ header_read s
 unfolding header_read
 header_there s h = rw (le-ltb (length s) 4 h)
 
@@ -32,14 +32,14 @@ unfolding sub_header_read
 sub_header_there s at h = rw (le-ltb (length s) (at + 4) h)
 
 -- an answer tells where the bytes end, and what it is
-pub header_is : (s : List ℕ) (h : MessageHeader) → header_read s ≡ header_read.Header h → (4 ≤ length s) × (h ≡ header_of s)
+pub header_is : (s : List ℕ) (h : MessageHeader) → header_read s ≡ header-read.Header h → (4 ≤ length s) × (h ≡ header_of s)
 header_is s h e =
     elim (dec_le 4 (length s)) [
       | yes k ↦ (k, cc (header_there s k))
       | no k ↦ let z : ◌≡◌ {A = ℕ} 0 1 = cc (header_short s (lt_of_not-le k)) in absurd (omega arith)
     ]
 
-pub header_none : (s : List ℕ) (r : Refusal) → header_read s ≡ header_read.Refused r → (length s < 4) × (r ≡ BufferTooShort)
+pub header_none : (s : List ℕ) (r : Refusal) → header_read s ≡ header-read.Refused r → (length s < 4) × (r ≡ BufferTooShort)
 header_none s r e =
     elim (dec_le 4 (length s)) [
       | yes k ↦ let z : ◌≡◌ {A = ℕ} 0 1 = cc (header_there s k) in absurd (omega arith)

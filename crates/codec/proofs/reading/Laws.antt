@@ -29,7 +29,7 @@ use Rattle.codec.specs.declared.refusals.Refusal.TheVariants.{BufferTooShort, Un
 use Rattle.codec.specs.declared.submessages.KindRead.{KindRead}
 use Rattle.codec.specs.declared.submessages.KindRead.TheVariants as kind-read
 use Rattle.codec.specs.declared.submessages.CodeRead.{CodeRead}
-use Rattle.codec.specs.declared.submessages.CodeRead.TheVariants as code_read
+use Rattle.codec.specs.declared.submessages.CodeRead.TheVariants as code-read
 use Rattle.codec.specs.declared.submessages.Submessage.{Submessage}
 use Rattle.codec.proofs.Either.{either}
 use Rattle.codec.proofs.header.Laws.{sub_header_there, sub_header_short}
@@ -66,8 +66,8 @@ module _ (s : List ℕ) (p len : ℕ) where
   ends_create h (kind-read.Refused r) = tt
 
   ends_status : (k : CodeRead) → Ends (p + len) (status_of s p len k)
-  ends_status (code_read.Code k) = (refl, omega arith)
-  ends_status (code_read.Refused r) = tt
+  ends_status (code-read.Code k) = (refl, omega arith)
+  ends_status (code-read.Refused r) = tt
 
   ends_layout : (id : ℕ) → least_of id ≤ len → Ends (p + len) (layout_at s id p len)
   unfolding layout_at least_of create_at status_at

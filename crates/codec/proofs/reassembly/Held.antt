@@ -4,7 +4,7 @@ use mathlib.Core.Path.{◌≡◌, refl, sym, ap, ◌∙◌}
 use mathlib.Core.Bool.{Bool, true, false, cond, or-true, true≢false}
 use mathlib.Core.List.{List, [], ◌∷◌}
 use native.Mathlib.Omega.{arith}
-use borrow.Author.Tests.{lt-ltb, le-ltb, eqb-true, eq-eqb, not_false}
+use borrow.Author.Tests.{lt-ltb, le-ltb, eqb-true, eq-eqb, not-false}
 use lib.Dec.{eqb, ltb}
 use lib.ListN.{get_or, length, take}
 use lib.Seq.{length-take-le}
@@ -73,7 +73,7 @@ module _ (st : Store) (sound : Sound st) where
 
   free_slot_lem : (k : ℕ) → k < st.buffer.total_fragments → holds_number st k ≡ false → is_free (get_or st.lengths k 0) ≡ true
   unfolding has_fragment
-  free_slot_lem k below e = not_false (is_free (get_or st.lengths k 0)) (rw (lt-ltb k st.buffer.total_fragments below) at e)
+  free_slot_lem k below e = not-false (is_free (get_or st.lengths k 0)) (rw (lt-ltb k st.buffer.total_fragments below) at e)
 
   held_slot : (k : ℕ) → k < st.buffer.total_fragments → is_free (get_or st.lengths k 0) ≡ false → holds_number st k ≡ true
   unfolding has_fragment

@@ -22,7 +22,7 @@ use Rattle.codec.specs.declared.rebuilt.Rebuilt.TheVariants as rebuilt
 use Rattle.codec.specs.declared.refusals.Refusal.{Refusal}
 use Rattle.codec.specs.declared.refusals.Refusal.TheVariants.{BufferTooShort, NotInFragments}
 use Rattle.codec.specs.declared.submessages.CodeRead.{CodeRead}
-use Rattle.codec.specs.declared.submessages.CodeRead.TheVariants as code_read
+use Rattle.codec.specs.declared.submessages.CodeRead.TheVariants as code-read
 use Rattle.codec.specs.declared.submessages.KindRead.{KindRead}
 use Rattle.codec.specs.declared.submessages.KindRead.TheVariants as kind-read
 use Rattle.codec.specs.declared.submessages.Submessage.{Submessage}
@@ -56,8 +56,8 @@ module _ (s : List ℕ) (p len : ℕ) where
   own_create id e (kind-read.Refused r) = tt
 
   own_status : (id : ℕ) → 5 ≡ id → (k : CodeRead) → Own id (status_of s p len k)
-  own_status id e (code_read.Code k) = e
-  own_status id e (code_read.Refused r) = tt
+  own_status id e (code-read.Code k) = e
+  own_status id e (code-read.Refused r) = tt
 
   own_layout : (id : ℕ) → Own id (layout_at s id p len)
   unfolding layout_at create_at status_at

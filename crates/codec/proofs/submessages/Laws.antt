@@ -9,7 +9,7 @@ use Rattle.codec.specs.declared.refusals.Refusal.TheVariants.{UnknownObjectKind,
 use Rattle.codec.specs.declared.submessages.KindRead.{KindRead}
 use Rattle.codec.specs.declared.submessages.KindRead.TheVariants as kind-read
 use Rattle.codec.specs.declared.submessages.CodeRead.{CodeRead}
-use Rattle.codec.specs.declared.submessages.CodeRead.TheVariants as code_read
+use Rattle.codec.specs.declared.submessages.CodeRead.TheVariants as code-read
 use Rattle.codec.proofs.Either.{either}
 
 abbrev pub KindIs : ℕ → KindRead → Type 0
@@ -29,8 +29,8 @@ kind_is b =
     either P (eqb b 6) _ _ (own 6) (λ _. refl))))))
 
 abbrev pub CodeIs : ℕ → CodeRead → Type 0
-CodeIs b (code_read.Code k) = code_byte k ≡ b
-CodeIs b (code_read.Refused r) = r ≡ UnknownStatusCode b
+CodeIs b (code-read.Code k) = code_byte k ≡ b
+CodeIs b (code-read.Refused r) = r ≡ UnknownStatusCode b
 
 pub code_is : (b : ℕ) → CodeIs b (code_of b)
 unfolding code_of

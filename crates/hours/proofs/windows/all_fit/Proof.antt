@@ -4,7 +4,7 @@ use mathlib.Core.Path.{◌≡◌, refl, sym, ◌∙◌}
 use mathlib.Core.Bool.{true, false}
 use lib.ListN.{length, take, drop, drop_of_length-le}
 use Rattle.hours.specs.Windows.{windows_of, all_fit_behind, all_fit}
-use borrow.Author.Tests.{not_true, not_false}
+use borrow.Author.Tests.{not_true, not-false}
 use Rattle.hours.proofs.windows.Laws.{fit_by}
 use native.Mathlib.Omega.{arith}
 use Rattle.hours.proofs.windows.all_fit.Statement.{statement}
@@ -36,7 +36,7 @@ loop-less c = omega arith
 loop-again : tie.Need-loop-preserved invariant_loop decreases_loop
 loop-again c =
     let l = c.before.before.before.loop in
-    sym (fit_by c.before.before.before.before.args.windows.now l.i (omega arith) true (sym c.before.fits_at.ensures ∙ not_false c.before.fits_at.result c.if1.false)) ∙ l.invariant
+    sym (fit_by c.before.before.before.before.args.windows.now l.i (omega arith) true (sym c.before.fits_at.ensures ∙ not-false c.before.fits_at.result c.if1.false)) ∙ l.invariant
 
 returns-2 : tie.Need-returns-2 invariant_loop decreases_loop
 unfolding all_fit_behind

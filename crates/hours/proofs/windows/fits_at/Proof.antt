@@ -3,7 +3,7 @@ use Prim.Native.Nat.{ℕ}
 use mathlib.Core.Path.{sym, ap, ◌∙◌}
 use mathlib.Core.Bool.{true, false}
 use mathlib.Core.List.{[]}
-use borrow.Author.Tests.{le-ltb, lt-ltb, le-leb, lt-leb, not_true, not_false}
+use borrow.Author.Tests.{le-ltb, lt-ltb, le-leb, lt-leb, not_true, not-false}
 use lib.Dec.{ltb}
 use lib.ListN.{get_or, take}
 use Rattle.hours.specs.Windows.{window_of, windows_of}
@@ -71,7 +71,7 @@ returns-5 c =
     let end = c.before.before.before.if3.false in
     let behind = c.before.before.is-behind in
     ap (λ (n : ℕ). ltb n 8) c.count_of.ensures
-    ∙ sym (fits_behind (windows_of (take a.i a.windows.now)) (window_of (get_or a.windows.now a.i [])) day some end true (sym behind.ensures ∙ not_false behind.result c.before.if4.false))
+    ∙ sym (fits_behind (windows_of (take a.i a.windows.now)) (window_of (get_or a.windows.now a.i [])) day some end true (sym behind.ensures ∙ not-false behind.result c.before.if4.false))
 
 pub fits_at_spec : {M : Type 1} → statement M
 fits_at_spec =

@@ -1,6 +1,6 @@
 -- `sessions::fragments::assemble_if` meets its contract.
 use mathlib.Core.Path.{refl, sym, ◌∙◌}
-use borrow.Author.Tests.{not_true, not_false}
+use borrow.Author.Tests.{not_true, not-false}
 use Rattle.sessions.proofs.fragments.Laws.{assemble_by_lem}
 use borrow.Author.Rules.{rules}
 use Rattle.sessions.proofs.fragments.assemble_if.Statement.{statement}
@@ -23,14 +23,14 @@ same_length c = search rules
 
 returns-2 : tie.Need-returns-2
 returns-2 c = let a = c.before.before.before.before.before.before.before.before.before.before.before.args in
-    assemble_by_lem a.all a.b a.parts.now a.lengths.now a.rebuilt.now _ _ (not_false a.all c.before.before.before.before.before.before.before.if1.false) (sym c.before.n.given.1 ∙ c.before.before.before.before.before.assemble.ensures.0) c.before.before.before.before.before.assemble.ensures.1
+    assemble_by_lem a.all a.b a.parts.now a.lengths.now a.rebuilt.now _ _ (not-false a.all c.before.before.before.before.before.before.before.if1.false) (sym c.before.n.given.1 ∙ c.before.before.before.before.before.assemble.ensures.0) c.before.before.before.before.before.assemble.ensures.1
 
 same-length-2 : tie.Need-same-length-2
 same-length-2 c = search rules
 
 returns-3 : tie.Need-returns-3
 returns-3 c = let a = c.before.before.before.before.before.before.before.before.before.before.args in
-    assemble_by_lem a.all a.b a.parts.now a.lengths.now a.rebuilt.now _ _ (not_false a.all c.before.before.before.before.before.before.if1.false) (sym c.enum_told.given.1 ∙ c.before.before.before.before.assemble.ensures.0) c.before.before.before.before.assemble.ensures.1
+    assemble_by_lem a.all a.b a.parts.now a.lengths.now a.rebuilt.now _ _ (not-false a.all c.before.before.before.before.before.before.if1.false) (sym c.enum_told.given.1 ∙ c.before.before.before.before.assemble.ensures.0) c.before.before.before.before.assemble.ensures.1
 
 pub assemble_if_spec : {M : Type 1} → statement M
 assemble_if_spec =

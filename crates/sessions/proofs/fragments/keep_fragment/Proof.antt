@@ -4,7 +4,7 @@ use native.Mathlib.Omega.{arith}
 use lib.ListN.{length}
 use Rattle.sessions.specs.Sending.{buffer_in, with_buffer}
 use Rattle.sessions.specs.Table.{session_at}
-use borrow.Author.Tests.{not_true, not_false}
+use borrow.Author.Tests.{not_true, not-false}
 use Rattle.sessions.proofs.fragments.Laws.{lengths_low, not_taken, taken}
 use borrow.Author.Rules.{rules}
 use Rattle.sessions.proofs.fragments.keep_fragment.Statement.{statement}
@@ -77,7 +77,7 @@ returns-2 c = let a = c.before.before.before.before.before.before.before.before.
     let g = c.before.before.before.before.before.before.before.before.before.before.gather-in in
     let w = c.before.before.before.before.before.before.before.before.before.before.before.before.before.before.before.before.parts-stretch in
     let v = c.before.before.before.before.before.before.before.before.before.before.before.before.before.before.lengths-stretch in
-    taken a.sessions.now a.parts.now a.lengths.now a.rebuilt.now a.id a.nr a.total a.body.now (sym c.before.before.before.before.before.before.before.before.before.before.before.before.before.before.before.before.before.before.before.before.before.is-taken.ensures ∙ not_false _ c.before.before.before.before.before.before.before.before.before.before.before.before.before.before.before.before.before.before.before.before.if1.false) _ c.before.before.before.before.before.before.before.before.before.before.before.before.before.before.before.before.before.before.session-at.ensures w.result v.result w.ensures.0 v.ensures.0 _ _ _ _ _ _ g.ensures.0 c.before.before.before.session-with.ensures c.before.keep-session.ensures g.ensures.1 g.ensures.2 g.ensures.3
+    taken a.sessions.now a.parts.now a.lengths.now a.rebuilt.now a.id a.nr a.total a.body.now (sym c.before.before.before.before.before.before.before.before.before.before.before.before.before.before.before.before.before.before.before.before.before.is-taken.ensures ∙ not-false _ c.before.before.before.before.before.before.before.before.before.before.before.before.before.before.before.before.before.before.before.before.if1.false) _ c.before.before.before.before.before.before.before.before.before.before.before.before.before.before.before.before.before.before.session-at.ensures w.result v.result w.ensures.0 v.ensures.0 _ _ _ _ _ _ g.ensures.0 c.before.before.before.session-with.ensures c.before.keep-session.ensures g.ensures.1 g.ensures.2 g.ensures.3
 
 pub keep_fragment_spec : {M : Type 1} → statement M
 keep_fragment_spec =

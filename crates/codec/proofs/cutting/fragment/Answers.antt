@@ -1,0 +1,26 @@
+-- `codec::cutting::fragment` meets its contract: 7, 8, 9, then 10, then 13, then the k-th fragment.
+use borrow.Author.Rules.{rules}
+use mathlib.Core.Path.{◌∙◌, sym}
+use native.Mathlib.Omega.{arith}
+use Rattle.codec.proofs.cutting.Laws.{count_tells, fragment_starts, fragment_refused, fragment_past, fragment_there}
+use Rattle.codec.proofs.cutting.fragment.Goals as goal
+
+pub returns-then-total-k : goal.returns-then-total-k
+returns-then-total-k c = fragment_past _ _ _ _ _ (sym c.fragment_count.ensures ∙ c.in-Fragments.is) c.if-total-k.true
+
+pub body_of-requires : goal.body_of-requires
+body_of-requires c =
+    let a = c.args in
+    let t = count_tells a.«max-payload» a.payload.now _ (sym c.fragment_count.ensures ∙ c.in-Fragments.is) in
+    fragment_starts a.«max-payload» t.0 a.payload.now a.k t.1 (omega (arith, c.if-total-k.false))
+
+pub returns-in-Refused : goal.returns-in-Refused
+returns-in-Refused c = fragment_refused _ _ _ _ _ (sym c.fragment_count.ensures ∙ c.in-Refused.is)
+
+pub returns-else-total-k : goal.returns-else-total-k
+returns-else-total-k c =
+    let n = sym c.fragment_count.ensures ∙ c.in-Fragments.is in
+    let f = fragment_there _ _ _ _ _ n c.if-total-k.false in
+    let p = c.put_with.ensures in
+    let b = c.body_of.ensures in
+    (rw b at p.0 ∙ f.0, rw b at p.1 ∙ f.1)

@@ -1,0 +1,6 @@
+-- `codec::layouts::delete_at` meets its contract.
+use borrow.Author.Rules.{rules}
+use Rattle.codec.proofs.layouts.delete_at.Goals as goal
+
+pub returns : goal.returns
+returns c = rw c.word_at.ensures

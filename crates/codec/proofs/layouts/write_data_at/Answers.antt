@@ -1,0 +1,6 @@
+-- `codec::layouts::write_data_at` meets its contract.
+use borrow.Author.Rules.{rules}
+use Rattle.codec.proofs.layouts.write_data_at.Goals as goal
+
+pub returns : goal.returns
+returns c = rw c.word_at.ensures

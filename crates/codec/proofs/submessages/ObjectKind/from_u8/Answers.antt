@@ -1,0 +1,32 @@
+-- `codec::submessages::ObjectKind::from_u8` meets its contract: each listed byte is its own arm, and the rest is refused.
+use borrow.Author.Tests.{ne_eqb}
+use Rattle.codec.specs.Submessages.{kind_of}
+use Rattle.codec.proofs.submessages.ObjectKind.from_u8.Goals as goal
+
+pub returns-in-1 : goal.returns-in-1
+unfolding kind_of
+returns-in-1 c = rw c.in-1.is
+
+pub returns-in-2 : goal.returns-in-2
+unfolding kind_of
+returns-in-2 c = rw c.in-2.is
+
+pub returns-in-3 : goal.returns-in-3
+unfolding kind_of
+returns-in-3 c = rw c.in-3.is
+
+pub returns-in-4 : goal.returns-in-4
+unfolding kind_of
+returns-in-4 c = rw c.in-4.is
+
+pub returns-in-5 : goal.returns-in-5
+unfolding kind_of
+returns-in-5 c = rw c.in-5.is
+
+pub returns-in-6 : goal.returns-in-6
+unfolding kind_of
+returns-in-6 c = rw c.in-6.is
+
+pub returns-in_default : goal.returns-in_default
+unfolding kind_of
+returns-in_default c = rw (ne_eqb _ 1 c.in_default.rest.0.0.0.0.0.1, ne_eqb _ 2 c.in_default.rest.0.0.0.0.1, ne_eqb _ 3 c.in_default.rest.0.0.0.1, ne_eqb _ 4 c.in_default.rest.0.0.1, ne_eqb _ 5 c.in_default.rest.0.1, ne_eqb _ 6 c.in_default.rest.1)
