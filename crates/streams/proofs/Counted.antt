@@ -1,6 +1,6 @@
 -- No place is free exactly where sixteen numbers are held: every place that isn't free holds a number of its own.
 use Rattle.std.proofs.Common.{◌≡◌, ℕ, zero, suc, ◌+◌, ◌<◌, ◌≤◌, Bool, true, false, cond, not, eqb, ltb, leb, get_or, sym, refl, ap, ◌∙◌, ⊎_elim, eq-or-lt_of_le, arith, ltb-true, lt-ltb, eq-eqb, ne_eqb, leb-false, leb-true}
-use borrow.Author.Tests.{not_true, not-false, lt-leb}
+use borrow.Author.Tests.{not-true, not-false, lt-leb}
 use Rattle.streams.specs.declared.state.StreamState.{StreamState}
 use Rattle.streams.specs.Places.{count_from, first_from, first_place, holds, within, holds_at, length_at, place_of, place_between, is_held, is_full}
 use Rattle.streams.specs.Oldest.{SixteenBits}
@@ -112,7 +112,7 @@ module _ (s : StreamState) where
 
   used_holds : (n i : ℕ) → used i ≡ true → holds_at s n i ≡ eqb (get_or s.numbers i 0) n
   unfolding used length_at holds_at within holds
-  used_holds n i e = rw (ne_eqb (get_or s.lengths i 0) 0 (λ z. never (ap (λ (len : ℕ). within len 0 0) z) (not_true (within (get_or s.lengths i 0) 0 0) e)))
+  used_holds n i e = rw (ne_eqb (get_or s.lengths i 0) 0 (λ z. never (ap (λ (len : ℕ). within len 0 0) z) (not-true (within (get_or s.lengths i 0) 0 0) e)))
 
   module _ (d : Sound s) (bits : SixteenBits s) where
     -- the number of a used place is held there and nowhere behind it, and is one of the 65,536

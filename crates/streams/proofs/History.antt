@@ -1,7 +1,7 @@
 -- A held message reads back byte for byte until it is replaced or acknowledged, whatever else is called.
 use Rattle.std.proofs.Common.{◌≡◌, ℕ, ◌-◌, ◌*◌, ◌≤◌, Bool, true, false, eqb, List, [], ◌∷◌, length, get_or, sym, refl, ap, ◌∙◌, arith, le-ltb, eq-eqb, ne_eqb}
 use mathlib.Core.Option.{none, some}
-use borrow.Author.Tests.{eqb-false, lt-leb, not_true}
+use borrow.Author.Tests.{eqb-false, lt-leb, not-true}
 use Rattle.streams.specs.declared.state.StreamState.{StreamState}
 use Rattle.streams.specs.declared.sent.Slot.{Slot}
 use Rattle.streams.specs.declared.sent.Slot.TheVariants as slot
@@ -62,8 +62,8 @@ module _ (x : Stream) (d : Sound x.state) where
   unfolding after record_of record_bytes acknowledge repeats_of spares
   step_kept n allocate e = ap (λ (k : Kept (List ℕ)). k.held n) (alloc_kept (bytes_in x.buffer) x.state)
   step_kept n (send m message) e =
-      sent_others x d m message n (λ q. eqb-false m n (not_true (eqb m n) e) (sym q)) (slot_for x.state m (length message) (length x.buffer)) refl
-  step_kept n (acknack first bitmap) e = acknowledged x.state first n (bytes_in x.buffer) ∙ rw (not_true (seq_lt n first) e)
+      sent_others x d m message n (λ q. eqb-false m n (not-true (eqb m n) e) (sym q)) (slot_for x.state m (length message) (length x.buffer)) refl
+  step_kept n (acknack first bitmap) e = acknowledged x.state first n (bytes_in x.buffer) ∙ rw (not-true (seq_lt n first) e)
   step_kept n (receive m) e = receive_held (bytes_in x.buffer) x.state m n
 
 -- a message that was just recorded is held

@@ -1,7 +1,7 @@
 -- `hours::week::is_open` meets its contract.
 use mathlib.Core.Path.{sym, ◌∙◌}
 use mathlib.Core.Bool.{true, false}
-use borrow.Author.Tests.{not_true, not-false}
+use borrow.Author.Tests.{not-true, not-false}
 use Rattle.hours.proofs.week.Laws.{look_up, look_past}
 use borrow.Author.Rules.{rules}
 use Rattle.hours.proofs.week.is_open.Statement.{statement}
@@ -13,7 +13,7 @@ is-minute-requires c κs = search rules
 returns : tie.Need-returns
 returns c =
     let a = c.before.before.before.args in
-    sym (look_up a.hours.now a.day a.minute false (sym c.before.is_minute_lem.ensures ∙ not_true c.before.is_minute_lem.result c.if1.true))
+    sym (look_up a.hours.now a.day a.minute false (sym c.before.is_minute_lem.ensures ∙ not-true c.before.is_minute_lem.result c.if1.true))
 
 mul_at : tie.Need-overflow-mul-at
 mul_at c = search rules

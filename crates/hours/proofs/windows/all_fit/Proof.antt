@@ -4,7 +4,7 @@ use mathlib.Core.Path.{◌≡◌, refl, sym, ◌∙◌}
 use mathlib.Core.Bool.{true, false}
 use lib.ListN.{length, take, drop, drop_of_length-le}
 use Rattle.hours.specs.Windows.{windows_of, all_fit_behind, all_fit}
-use borrow.Author.Tests.{not_true, not-false}
+use borrow.Author.Tests.{not-true, not-false}
 use Rattle.hours.proofs.windows.Laws.{fit_by}
 use native.Mathlib.Omega.{arith}
 use Rattle.hours.proofs.windows.all_fit.Statement.{statement}
@@ -25,7 +25,7 @@ fits-at-requires c κs = omega arith
 returns : tie.Need-returns invariant_loop decreases_loop
 returns c =
     let l = c.before.before.before.loop in
-    sym (fit_by c.before.before.before.before.args.windows.now l.i (omega arith) false (sym c.before.fits_at.ensures ∙ not_true c.before.fits_at.result c.if1.true)) ∙ l.invariant
+    sym (fit_by c.before.before.before.before.args.windows.now l.i (omega arith) false (sym c.before.fits_at.ensures ∙ not-true c.before.fits_at.result c.if1.true)) ∙ l.invariant
 
 add-i : tie.Need-overflow-add-i invariant_loop decreases_loop
 add-i c = omega arith

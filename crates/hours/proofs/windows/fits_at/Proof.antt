@@ -3,7 +3,7 @@ use Prim.Native.Nat.{ℕ}
 use mathlib.Core.Path.{sym, ap, ◌∙◌}
 use mathlib.Core.Bool.{true, false}
 use mathlib.Core.List.{[]}
-use borrow.Author.Tests.{le-ltb, lt-ltb, le-leb, lt-leb, not_true, not-false}
+use borrow.Author.Tests.{le-ltb, lt-ltb, le-leb, lt-leb, not-true, not-false}
 use lib.Dec.{ltb}
 use lib.ListN.{get_or, take}
 use Rattle.hours.specs.Windows.{window_of, windows_of}
@@ -58,7 +58,7 @@ returns-4 c =
     let some = c.before.before.before.if2.false in
     let end = c.before.before.if3.false in
     let behind = c.before.is-behind in
-    sym (fits_behind (windows_of (take a.i a.windows.now)) (window_of (get_or a.windows.now a.i [])) day some end false (sym behind.ensures ∙ not_true behind.result c.if4.true))
+    sym (fits_behind (windows_of (take a.i a.windows.now)) (window_of (get_or a.windows.now a.i [])) day some end false (sym behind.ensures ∙ not-true behind.result c.if4.true))
 
 count-of-requires : tie.Need-count-of-requires
 count-of-requires c κs = search rules

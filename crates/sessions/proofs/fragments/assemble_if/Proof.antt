@@ -1,13 +1,13 @@
 -- `sessions::fragments::assemble_if` meets its contract.
 use mathlib.Core.Path.{refl, sym, ◌∙◌}
-use borrow.Author.Tests.{not_true, not-false}
+use borrow.Author.Tests.{not-true, not-false}
 use Rattle.sessions.proofs.fragments.Laws.{assemble_by_lem}
 use borrow.Author.Rules.{rules}
 use Rattle.sessions.proofs.fragments.assemble_if.Statement.{statement}
 use Rattle.sessions.proofs.fragments.assemble_if.Tie as tie
 
 returns : tie.Need-returns
-returns c = rw (not_true c.before.before.before.before.args.all c.if1.true) (refl, refl)
+returns c = rw (not-true c.before.before.before.before.args.all c.if1.true) (refl, refl)
 
 assemble-requires : tie.Need-assemble-requires
 assemble-requires c κs = search rules

@@ -4,7 +4,7 @@ use native.Mathlib.Omega.{arith}
 use lib.ListN.{length}
 use Rattle.sessions.specs.Sending.{buffer_in, with_buffer}
 use Rattle.sessions.specs.Table.{session_at}
-use borrow.Author.Tests.{not_true, not-false}
+use borrow.Author.Tests.{not-true, not-false}
 use Rattle.sessions.proofs.fragments.Laws.{lengths_low, not_taken, taken}
 use borrow.Author.Rules.{rules}
 use Rattle.sessions.proofs.fragments.keep_fragment.Statement.{statement}
@@ -17,7 +17,7 @@ same_length : tie.Need-same-length
 same_length c = search rules
 
 returns : tie.Need-returns
-returns c = let a = c.before.before.before.before.before.before.before.args in not_taken a.sessions.now a.parts.now a.lengths.now a.rebuilt.now a.id a.nr a.total a.body.now (sym c.before.is-taken.ensures ∙ not_true _ c.if1.true)
+returns c = let a = c.before.before.before.before.before.before.before.args in not_taken a.sessions.now a.parts.now a.lengths.now a.rebuilt.now a.id a.nr a.total a.body.now (sym c.before.is-taken.ensures ∙ not-true _ c.if1.true)
 
 session-at-requires : tie.Need-session-at-requires
 session-at-requires c κs = search rules

@@ -2,7 +2,7 @@
 use borrow.Author.Rules.{rules}
 use mathlib.Core.Path.{refl, sym, ◌∙◌}
 use mathlib.Core.Bool.{true, false}
-use Rattle.sessions.proofs.Slots.{not_true, not-false}
+use Rattle.sessions.proofs.Slots.{not-true, not-false}
 use Rattle.sessions.proofs.limits.Laws.{rows_by}
 use Rattle.sessions.proofs.limits.rows_within.Statement.{statement}
 use Rattle.sessions.proofs.limits.rows_within.Tie as tie
@@ -16,7 +16,7 @@ counts-kept-requires c κs = search rules
 returns : tie.Need-returns
 returns c = let a = c.before.before.before.before.args in
     let s = c.before.before.session-at in
-    rows_by a.sessions.now a.streams.now a.parts a.lengths.now a.max-clients a.id a.n s.result s.ensures false _ _ _ (sym c.before.counts-kept.ensures ∙ not_true _ c.if1.true) refl refl refl
+    rows_by a.sessions.now a.streams.now a.parts a.lengths.now a.max-clients a.id a.n s.result s.ensures false _ _ _ (sym c.before.counts-kept.ensures ∙ not-true _ c.if1.true) refl refl refl
 
 slot-kept-requires : tie.Need-slot-kept-requires
 slot-kept-requires c κs = search rules
@@ -24,7 +24,7 @@ slot-kept-requires c κs = search rules
 returns-2 : tie.Need-returns-2
 returns-2 c = let a = c.before.before.before.before.before.before.args in
     let s = c.before.before.before.before.session-at in
-    rows_by a.sessions.now a.streams.now a.parts a.lengths.now a.max-clients a.id a.n s.result s.ensures true false _ _ (sym c.before.before.before.counts-kept.ensures ∙ not-false _ c.before.before.if1.false) (sym c.before.slot_kept_lem.ensures ∙ not_true _ c.if2.true) refl refl
+    rows_by a.sessions.now a.streams.now a.parts a.lengths.now a.max-clients a.id a.n s.result s.ensures true false _ _ (sym c.before.before.before.counts-kept.ensures ∙ not-false _ c.before.before.if1.false) (sym c.before.slot_kept_lem.ensures ∙ not-true _ c.if2.true) refl refl
 
 store-kept-requires : tie.Need-store-kept-requires
 store-kept-requires c κs = search rules
@@ -32,7 +32,7 @@ store-kept-requires c κs = search rules
 returns-3 : tie.Need-returns-3
 returns-3 c = let a = c.before.before.before.before.before.before.before.before.args in
     let s = c.before.before.before.before.before.before.session-at in
-    rows_by a.sessions.now a.streams.now a.parts a.lengths.now a.max-clients a.id a.n s.result s.ensures true true false _ (sym c.before.before.before.before.before.counts-kept.ensures ∙ not-false _ c.before.before.before.before.if1.false) (sym c.before.before.before.slot_kept_lem.ensures ∙ not-false _ c.before.before.if2.false) (sym c.before.store_kept_lem.ensures ∙ not_true _ c.if3.true) refl
+    rows_by a.sessions.now a.streams.now a.parts a.lengths.now a.max-clients a.id a.n s.result s.ensures true true false _ (sym c.before.before.before.before.before.counts-kept.ensures ∙ not-false _ c.before.before.before.before.if1.false) (sym c.before.before.before.slot_kept_lem.ensures ∙ not-false _ c.before.before.if2.false) (sym c.before.store_kept_lem.ensures ∙ not-true _ c.if3.true) refl
 
 lengths-kept-requires : tie.Need-lengths-kept-requires
 lengths-kept-requires c κs = search rules
