@@ -1,12 +1,11 @@
 -- Pieces of a datagram: a number's bytes against the bytes at a place, both ways, and pieces that follow each other.
-use Prim.Native.Nat.{ℕ, zero, suc, ◌+◌, ◌-◌, ◌*◌, ◌≤◌, ◌<◌, ◌/◌, ◌%◌, ◌^◌}
+use Prim.Native.Nat.{ℕ, ◌+◌, ◌*◌, ◌≤◌, ◌<◌, ◌/◌, ◌%◌, ◌^◌}
 use mathlib.Core.Path.{◌≡◌, refl, sym, ap, ◌∙◌}
 use mathlib.Core.List.{List, [], ◌∷◌, ◌++◌}
-use native.Mathlib.Numerals.{add-one}
 use native.Mathlib.Nat.{add-zero}
 use native.Mathlib.Omega.{arith}
-use lib.ListN.{get_or, length, take, drop, length-append, length-drop, get_or-append}
-use lib.Seq.{drop-cons, take-suc, take-add, drop-drop, get_or-drop, drop_at, take_at, get_or-append-add}
+use lib.ListN.{get_or, length, take, drop}
+use lib.Seq.{drop-cons, take-add, drop-drop, get_or-drop, drop_at}
 use Rattle.codec.specs.Bytes.{word_at, quad_at, le16, le32, AllBytes}
 
 -- ---- from bytes to numbers: what stands at a place is the number's own bytes

@@ -1,5 +1,5 @@
 -- Document 01, "The wire" and corners of protocol.rs: the bytes of what is written.
-use Rattle.std.specs.Prelude.{ℕ, ◌+◌, List, [], ◌∷◌, ◌++◌, length, take}
+use Rattle.std.specs.Prelude.{ℕ, List, [], ◌∷◌, ◌++◌, length, take}
 use Rattle.codec.specs.Bytes.{le16, le32}
 use Rattle.codec.specs.Header.{header_bytes}
 use Rattle.codec.specs.Submessages.{id_of, kind_byte, code_byte}

@@ -1,6 +1,6 @@
 -- Laws of rebuilt bytes: the check a submessage at a time, and what a check that passes says of the submessages.
 use Prim.Native.Nat.{ℕ, suc, ◌+◌, ◌≤◌, ◌<◌}
-use mathlib.Core.Path.{◌≡◌, refl, sym, ◌∙◌, ap}
+use mathlib.Core.Path.{◌≡◌, refl, sym, ◌∙◌}
 use mathlib.Core.Bool.{Bool, true, false, cond, ◌||◌}
 use mathlib.Core.List.{List, [], ◌∷◌, map}
 use native.Mathlib.Omega.{arith}
@@ -13,10 +13,8 @@ use Rattle.codec.specs.Submessages.{id_of, kind_of, code_of}
 use Rattle.codec.specs.Reading.{read_at, failure_at, Item, Items, items, stopped, before, items_at}
 use Rattle.codec.specs.Grammar.{said_in}
 use Rattle.codec.specs.Rebuilt.{barred, barred_id, any_barred, rebuilt_by, rebuilt_at, rebuilt_of, rebuilt_reading}
-use Rattle.codec.specs.declared.layouts.Cursor.{Cursor}
 use Rattle.codec.specs.declared.layouts.Parsed.{Parsed}
 use Rattle.codec.specs.declared.layouts.Parsed.TheVariants.{Sub, Refused}
-use Rattle.codec.specs.declared.layouts.Span.{Span}
 use Rattle.codec.specs.declared.rebuilt.Rebuilt.{Rebuilt}
 use Rattle.codec.specs.declared.rebuilt.Rebuilt.TheVariants as rebuilt
 use Rattle.codec.specs.declared.refusals.Refusal.{Refusal}
@@ -28,7 +26,7 @@ use Rattle.codec.specs.declared.submessages.KindRead.TheVariants as kind-read
 use Rattle.codec.specs.declared.submessages.Submessage.{Submessage}
 use Rattle.codec.specs.declared.submessages.Submessage.TheVariants.{CreateClient, Create, Delete, Status, WriteData, ReadData, Data, Heartbeat, Acknack, Fragment}
 use Rattle.codec.proofs.Either.{either}
-use Rattle.codec.proofs.failures.Laws.{FailureIf, MetAt, number, failure_some, read_failure, read_met}
+use Rattle.codec.proofs.failures.Laws.{FailureIf, number, failure_some, read_failure, read_met}
 use Rattle.codec.proofs.reading.Laws.{Ends, payload_ends, read_payload, items_end, items_more}
 
 -- ---- the id of a submessage that was read tells whether it is barred

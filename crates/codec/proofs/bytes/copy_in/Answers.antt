@@ -1,10 +1,9 @@
 -- `codec::bytes::copy_in` meets its contract. The invariant: the first `i` bytes are written, and nothing else has changed.
-use Prim.Native.Nat.{◌≤◌, ◌-◌, ◌+◌}
-use mathlib.Core.Path.{◌≡◌, ◌∙◌, ap, sym}
+use mathlib.Core.Path.{◌≡◌, ◌∙◌}
 use native.Mathlib.Numerals.{add-one}
 use native.Mathlib.Omega.{arith}
-use lib.ListN.{length, set, get_or}
-use lib.Seq.{paste, paste-zero, paste-suc, length-paste}
+use lib.ListN.{length}
+use lib.Seq.{paste-zero, paste-suc, length-paste}
 use Rattle.codec.proofs.bytes.Laws.{put_copied}
 use Rattle.codec.proofs.bytes.copy_in.Goals.{At-loop-i}
 use Rattle.codec.proofs.bytes.copy_in.Goals as goal

@@ -1,11 +1,8 @@
 -- `codec::bytes::copy_in` meets its contract. The invariant: the first `i` bytes are written, and nothing else has changed.
-use Prim.Native.Nat.{◌≤◌, ◌-◌, ◌+◌}
-use mathlib.Core.Path.{◌≡◌, ◌∙◌, ap, sym}
-use native.Mathlib.Numerals.{add-one}
-use native.Mathlib.Omega.{arith}
-use lib.ListN.{length, set, get_or}
-use lib.Seq.{paste, paste-zero, paste-suc, length-paste}
-use Rattle.codec.proofs.bytes.Laws.{put_copied}
+use Prim.Native.Nat.{◌≤◌, ◌-◌}
+use mathlib.Core.Path.{◌≡◌}
+use lib.ListN.{length}
+use lib.Seq.{paste}
 use Rattle.codec.proofs.bytes.copy_in.Given as goal
 
 abbrev pub invariant-loop-i : goal.invariant-loop-i

@@ -1,11 +1,9 @@
 -- `codec::bytes::copy_long` meets its contract. The invariant: the first `from` bytes are written, and nothing else has changed.
-use Prim.Native.Nat.{◌≤◌, ◌-◌, ◌+◌}
-use mathlib.Core.Path.{◌≡◌, ◌∙◌, refl, sym}
+use Prim.Native.Nat.{◌+◌}
+use mathlib.Core.Path.{◌∙◌, refl, sym}
 use native.Mathlib.Omega.{arith}
-use borrow.Author.Rules.{rules}
-use lib.ListN.{length, take}
+use lib.ListN.{length}
 use lib.Seq.{take-length}
-use Rattle.codec.specs.Bytes.{put_at}
 use Rattle.codec.proofs.bytes.Laws.{put_nothing, put_on}
 use Rattle.codec.proofs.bytes.copy_long.Goals as goal
 

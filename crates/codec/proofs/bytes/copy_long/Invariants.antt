@@ -1,12 +1,8 @@
 -- `codec::bytes::copy_long` meets its contract. The invariant: the first `from` bytes are written, and nothing else has changed.
-use Prim.Native.Nat.{◌≤◌, ◌-◌, ◌+◌}
-use mathlib.Core.Path.{◌≡◌, ◌∙◌, refl, sym}
-use native.Mathlib.Omega.{arith}
-use borrow.Author.Rules.{rules}
+use Prim.Native.Nat.{◌≤◌, ◌-◌}
+use mathlib.Core.Path.{◌≡◌}
 use lib.ListN.{length, take}
-use lib.Seq.{take-length}
 use Rattle.codec.specs.Bytes.{put_at}
-use Rattle.codec.proofs.bytes.Laws.{put_nothing, put_on}
 use Rattle.codec.proofs.bytes.copy_long.Given as goal
 
 abbrev pub invariant-loop-from : goal.invariant-loop-from

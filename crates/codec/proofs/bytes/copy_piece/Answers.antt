@@ -2,7 +2,6 @@
 use mathlib.Core.Path.{ap, ◌∙◌}
 use Rattle.codec.specs.Bytes.{put_at}
 use Rattle.codec.proofs.bytes.Laws.{put_over}
-use borrow.Author.Rules.{rules}
 use Rattle.codec.proofs.bytes.copy_piece.Goals as goal
 
 pub returns-then-piece-eq-LARGE : goal.returns-then-piece-eq-LARGE

@@ -1,7 +1,6 @@
 -- `codec::bytes::put_bytes` meets its contract.
 use mathlib.Core.Path.{◌∙◌}
 use Rattle.codec.proofs.bytes.Laws.{put_short, put_fits, fits_yes, fits_no}
-use borrow.Author.Rules.{rules}
 use Rattle.codec.proofs.bytes.put_bytes.Goals as goal
 
 pub copy_in-requires : goal.copy_in-requires

@@ -3,7 +3,6 @@ use mathlib.Core.Path.{◌∙◌}
 use native.Mathlib.Omega.{arith}
 use Rattle.codec.specs.Bytes.{le16}
 use Rattle.codec.proofs.bytes.Laws.{put_behind}
-use borrow.Author.Rules.{rules}
 use Rattle.codec.proofs.bytes.put_two.Goals as goal
 
 pub returns : goal.returns

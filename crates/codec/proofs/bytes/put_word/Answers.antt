@@ -1,5 +1,4 @@
 -- `codec::bytes::put_word` meets its contract: two stores are one write.
-use borrow.Author.Rules.{rules}
 use native.Mathlib.Omega.{arith}
 use lib.ListN.{length-set}
 use Rattle.codec.proofs.bytes.Laws.{word_sets}

@@ -1,5 +1,4 @@
 -- `codec::bytes::word_at` meets its contract: each byte read is below 256.
-use borrow.Author.Rules.{rules}
 use Prim.Native.Nat.{◌+◌}
 use mathlib.Core.Path.{refl}
 use native.Mathlib.Omega.{arith}

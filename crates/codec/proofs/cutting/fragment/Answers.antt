@@ -1,5 +1,4 @@
 -- `codec::cutting::fragment` meets its contract: 7, 8, 9, then 10, then 13, then the k-th fragment.
-use borrow.Author.Rules.{rules}
 use mathlib.Core.Path.{◌∙◌, sym}
 use native.Mathlib.Omega.{arith}
 use Rattle.codec.proofs.cutting.Laws.{count_tells, fragment_starts, fragment_refused, fragment_past, fragment_there}
@@ -11,8 +10,8 @@ returns-then-total-k c = fragment_past _ _ _ _ _ (sym c.fragment_count.ensures �
 pub body_of-requires : goal.body_of-requires
 body_of-requires c =
     let a = c.args in
-    let t = count_tells a.«max-payload» a.payload.now _ (sym c.fragment_count.ensures ∙ c.in-Fragments.is) in
-    fragment_starts a.«max-payload» t.0 a.payload.now a.k t.1 (omega (arith, c.if-total-k.false))
+    let t = count_tells a.max_payload a.payload.now _ (sym c.fragment_count.ensures ∙ c.in-Fragments.is) in
+    fragment_starts a.max_payload t.0 a.payload.now a.k t.1 (omega (arith, c.if-total-k.false))
 
 pub returns-in-Refused : goal.returns-in-Refused
 returns-in-Refused c = fragment_refused _ _ _ _ _ (sym c.fragment_count.ensures ∙ c.in-Refused.is)

@@ -1,5 +1,4 @@
 -- `codec::cutting::fragment_count` meets its contract: 7, 8, 9, or the number of fragments.
-use borrow.Author.Rules.{rules}
 use borrow.Author.Tests.{eq-eqb, ne_eqb}
 use native.Mathlib.Omega.{arith}
 use Rattle.codec.specs.Cutting.{count_of}

@@ -3,7 +3,6 @@ use mathlib.Core.Path.{sym, ◌∙◌}
 use native.Mathlib.Omega.{arith}
 use Rattle.codec.specs.Reading.{read_at, failure_at}
 use Rattle.codec.proofs.header.Laws.{sub_header_is}
-use borrow.Author.Rules.{rules}
 use Rattle.codec.proofs.failures.failure_at.Goals as goal
 
 pub overflow_add-at : goal.overflow_add-at

@@ -7,7 +7,6 @@ use Rattle.codec.specs.Reading.{payload_at}
 use Rattle.codec.proofs.failures.Laws.{same_number, unmarked}
 use Rattle.codec.proofs.layouts.Laws.{enough}
 use Rattle.codec.proofs.reading.Laws.{payload_cut, payload_unlisted, payload_under, payload_laid}
-use borrow.Author.Rules.{rules}
 use Rattle.codec.proofs.failures.payload_failure.Goals.{Else-len-least}
 use Rattle.codec.proofs.failures.payload_failure.Goals as goal
 
@@ -52,4 +51,4 @@ unfolding layout_at create_at status_at
 returns-in-Refused-from_u8 c = rw (c.number-in-Refused-from_u8.ensures, ← laid (goal.at.returns-in-Refused-from_u8 c).Else-len-least, c.in-5.is, ← c.from_u8-in-5.ensures, c.in-Refused-from_u8.is)
 
 pub returns-in_default : goal.returns-in_default
-returns-in_default c = unmarked _ _ _ _ (omega arith) (rw c.least_len-least.ensures at c.if-least.false) (rw c.least_len-least.ensures at c.if-len-least.false) c.in_default.rest.0.1 c.in_default.rest.1
+returns-in_default c = unmarked _ _ _ _ (omega arith) (rw c.least_len-least.ensures at c.if-least.false) (rw c.least_len-least.ensures at c.if-len-least.false) c.in_default.in_default-own.rest.0.1 c.in_default.in_default-own.rest.1

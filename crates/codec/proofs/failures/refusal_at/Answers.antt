@@ -43,5 +43,5 @@ returns-in-4 c = rw c.in-4.is at (told (goal.at.returns-in-4 c).Start).is
 
 pub returns-in_default : goal.returns-in_default
 returns-in_default c =
-    let rest = c.in_default.rest in
+    let rest = c.in_default.in_default-own.rest in
     rw (ne_eqb _ 1 rest.0.0.0.1, ne_eqb _ 2 rest.0.0.1, ne_eqb _ 3 rest.0.1, ne_eqb _ 4 rest.1) at (told (goal.at.returns-in_default c).Start).is

@@ -1,5 +1,4 @@
 -- `codec::header::put_head` meets its contract: two stores and a number behind them are one write.
-use Prim.Native.Nat.{◌+◌}
 use mathlib.Core.Path.{◌∙◌}
 use mathlib.Core.List.{[], ◌∷◌}
 use native.Mathlib.Numerals.{add-one}
@@ -7,7 +6,6 @@ use native.Mathlib.Omega.{arith}
 use lib.ListN.{length-set}
 use Rattle.codec.specs.Bytes.{le16}
 use Rattle.codec.proofs.bytes.Laws.{put_sets, put_behind}
-use borrow.Author.Rules.{rules}
 use Rattle.codec.proofs.header.put_head.Goals as goal
 
 pub bounds-out-at-2 : goal.bounds-out-at-2

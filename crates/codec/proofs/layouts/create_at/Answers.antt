@@ -1,6 +1,5 @@
 -- `codec::layouts::create_at` meets its contract: it goes by what the kind's byte says.
 use Rattle.codec.specs.Layouts.{create_at}
-use borrow.Author.Rules.{rules}
 use Rattle.codec.proofs.layouts.create_at.Goals as goal
 
 pub returns-in-Kind : goal.returns-in-Kind

@@ -1,6 +1,5 @@
 -- `codec::layouts::create_client_at` meets its contract.
 use Rattle.codec.specs.Bytes.{quad_at}
-use borrow.Author.Rules.{rules}
 use Rattle.codec.proofs.layouts.create_client_at.Goals as goal
 
 pub returns : goal.returns

@@ -1,5 +1,4 @@
 -- `codec::layouts::data_at` meets its contract.
-use borrow.Author.Rules.{rules}
 use Rattle.codec.proofs.layouts.data_at.Goals as goal
 
 pub returns : goal.returns

@@ -1,5 +1,4 @@
 -- `codec::layouts::fragment_at` meets its contract.
-use borrow.Author.Rules.{rules}
 use Rattle.codec.proofs.layouts.fragment_at.Goals as goal
 
 pub returns : goal.returns

@@ -1,12 +1,7 @@
 -- `codec::layouts::layout_at` meets its contract: each arm is a leaf's answer, and the ids between them are refused.
-use mathlib.Core.Path.{◌≡◌}
 use native.Mathlib.Omega.{arith}
 use Rattle.codec.specs.Layouts.{least_of, layout_at}
-use Rattle.codec.specs.declared.layouts.Parsed.TheVariants.{Refused}
-use Rattle.codec.specs.declared.refusals.Refusal.TheVariants.{UnknownSubmessageId}
 use Rattle.codec.proofs.layouts.Laws.{enough, unlisted}
-use borrow.Author.Rules.{rules}
-use Rattle.codec.proofs.layouts.layout_at.Goals.{In_default-1}
 use Rattle.codec.proofs.layouts.layout_at.Goals as goal
 
 pub create_client_at-requires : goal.create_client_at-requires
@@ -132,15 +127,17 @@ unfolding layout_at
 returns-in-15 c = rw (c.bodied_at-in-15.ensures, c.fragment_at.ensures, c.in-15.is)
 
 -- no arm with a number of its own: an id that is not listed
-rest : (c : In_default-1) → Refused (UnknownSubmessageId c.args.id) ≡ layout_at c.args.s.now c.args.id c.args.p c.args.len
-rest c =
-    unlisted _ _ _ _ c.in_default-1.rest.0.0.0.0.0.0.0.0.0.0.1 c.in_default-1.rest.0.0.0.0.0.0.0.0.0.1 c.in_default-1.rest.0.0.0.0.0.0.0.0.1 c.in_default-1.rest.0.0.0.0.0.0.0.1 c.in_default-1.rest.0.0.0.0.0.1 c.in_default-1.rest.0.0.0.0.1 c.in_default-1.rest.0.0.0.1 c.in_default-1.rest.0.0.1 c.in_default-1.rest.0.1 c.in_default-1.rest.1
-
 pub returns-in-3-to-4 : goal.returns-in-3-to-4
-returns-in-3-to-4 c = rest (goal.at.returns-in-3-to-4 c).In_default-1
+returns-in-3-to-4 c =
+    let r = c.in-3-to-4.in_default-own.rest in
+    unlisted _ _ _ _ r.0.0.0.0.0.0.0.0.0.0.1 r.0.0.0.0.0.0.0.0.0.1 r.0.0.0.0.0.0.0.0.1 r.0.0.0.0.0.0.0.1 r.0.0.0.0.0.1 r.0.0.0.0.1 r.0.0.0.1 r.0.0.1 r.0.1 r.1
 
 pub returns-in-10-to-12 : goal.returns-in-10-to-12
-returns-in-10-to-12 c = rest (goal.at.returns-in-10-to-12 c).In_default-1
+returns-in-10-to-12 c =
+    let r = c.in-10-to-12.in_default-own.rest in
+    unlisted _ _ _ _ r.0.0.0.0.0.0.0.0.0.0.1 r.0.0.0.0.0.0.0.0.0.1 r.0.0.0.0.0.0.0.0.1 r.0.0.0.0.0.0.0.1 r.0.0.0.0.0.1 r.0.0.0.0.1 r.0.0.0.1 r.0.0.1 r.0.1 r.1
 
 pub returns-in-16-to-255 : goal.returns-in-16-to-255
-returns-in-16-to-255 c = rest (goal.at.returns-in-16-to-255 c).In_default-1
+returns-in-16-to-255 c =
+    let r = c.in-16-to-255.in_default-own.rest in
+    unlisted _ _ _ _ r.0.0.0.0.0.0.0.0.0.0.1 r.0.0.0.0.0.0.0.0.0.1 r.0.0.0.0.0.0.0.0.1 r.0.0.0.0.0.0.0.1 r.0.0.0.0.0.1 r.0.0.0.0.1 r.0.0.0.1 r.0.0.1 r.0.1 r.1

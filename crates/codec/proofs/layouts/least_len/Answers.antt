@@ -3,7 +3,6 @@ use mathlib.Core.Path.{sym}
 use lib.ListN.{get_or-eq_default}
 use Rattle.codec.specs.Layouts.{least_of, least_table}
 use Rattle.codec.proofs.bytes.Laws.{get_d_any}
-use borrow.Author.Rules.{rules}
 use Rattle.codec.proofs.layouts.least_len.Goals as goal
 
 pub returns-then-id-lt16 : goal.returns-then-id-lt16

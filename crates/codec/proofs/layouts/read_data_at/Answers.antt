@@ -1,5 +1,4 @@
 -- `codec::layouts::read_data_at` meets its contract.
-use borrow.Author.Rules.{rules}
 use Rattle.codec.proofs.layouts.read_data_at.Goals as goal
 
 pub returns : goal.returns

@@ -1,6 +1,5 @@
 -- `codec::layouts::status_at` meets its contract: it goes by what the code's byte says.
 use Rattle.codec.specs.Layouts.{status_at}
-use borrow.Author.Rules.{rules}
 use Rattle.codec.proofs.layouts.status_at.Goals as goal
 
 pub returns-in-Code : goal.returns-in-Code

@@ -3,7 +3,6 @@ use mathlib.Core.Path.{sym, ◌∙◌}
 use native.Mathlib.Omega.{arith}
 use Rattle.codec.proofs.header.Laws.{header_is, header_none}
 use Rattle.codec.proofs.reading.Laws.{check_short, check_more}
-use borrow.Author.Rules.{rules}
 use Rattle.codec.proofs.reading.check.Goals as goal
 
 pub returns-then-s-eq-MESSAGE_HEADER_SIZE : goal.returns-then-s-eq-MESSAGE_HEADER_SIZE

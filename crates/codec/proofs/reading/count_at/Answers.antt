@@ -1,12 +1,11 @@
 -- `codec::reading::count_at` meets its contract. The invariant: what is left from here, added to what was counted, is the whole.
-use Prim.Native.Nat.{◌≤◌, ◌<◌, ◌-◌}
+use Prim.Native.Nat.{◌≤◌, ◌<◌}
 use mathlib.Core.Path.{◌≡◌, sym, ◌∙◌}
 use native.Mathlib.Omega.{arith}
-use borrow.Author.Rules.{rules}
 use lib.ListN.{length}
 use Rattle.codec.specs.Reading.{items_at, count_at, failure_at}
 use Rattle.codec.proofs.failures.Laws.{MetAt, read_met, counted_met}
-use Rattle.codec.proofs.reading.Laws.{counted, counted_none, counted_stopped, counted_end}
+use Rattle.codec.proofs.reading.Laws.{counted_none, counted_stopped, counted_end}
 use Rattle.codec.proofs.reading.count_at.Goals.{After-loop-at, Else-failure-ne0, In-loop-at}
 use Rattle.codec.proofs.reading.count_at.Goals as goal
 

@@ -2,7 +2,6 @@
 use mathlib.Core.Path.{sym, ◌∙◌}
 use native.Mathlib.Omega.{arith}
 use Rattle.codec.proofs.failures.Laws.{MetAt, read_met}
-use borrow.Author.Rules.{rules}
 use Rattle.codec.proofs.reading.read.Goals.{Else-failure-ne0}
 use Rattle.codec.proofs.reading.read.Goals as goal
 

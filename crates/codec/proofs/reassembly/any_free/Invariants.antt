@@ -1,11 +1,8 @@
 -- `codec::reassembly::any_free` meets its contract. The invariant: the answer from here on is the answer.
 use Prim.Native.Nat.{◌≤◌, ◌-◌}
-use mathlib.Core.Path.{◌≡◌, refl, sym, ◌∙◌}
-use native.Mathlib.Omega.{arith}
-use borrow.Author.Tests.{eq-eqb, ne_eqb}
+use mathlib.Core.Path.{◌≡◌}
 use lib.ListN.{take, drop}
 use Rattle.codec.specs.Reassembly.{any_of, is_free}
-use Rattle.codec.proofs.reassembly.Laws.{any_found, any_next, any_end}
 use Rattle.codec.proofs.reassembly.any_free.Given as goal
 
 abbrev pub invariant-loop-i : goal.invariant-loop-i

@@ -1,11 +1,8 @@
 -- `codec::reassembly::any_past` meets its contract. The invariant: the answer from here on is the answer.
 use Prim.Native.Nat.{◌≤◌, ◌-◌}
-use mathlib.Core.Path.{◌≡◌, refl, sym, ◌∙◌}
-use native.Mathlib.Omega.{arith}
-use borrow.Author.Tests.{lt-ltb, le-ltb}
+use mathlib.Core.Path.{◌≡◌}
 use lib.ListN.{take, drop}
 use Rattle.codec.specs.Reassembly.{any_of, is_past}
-use Rattle.codec.proofs.reassembly.Laws.{any_found, any_next, any_end}
 use Rattle.codec.proofs.reassembly.any_past.Given as goal
 
 abbrev pub invariant-loop-i : goal.invariant-loop-i

@@ -1,11 +1,8 @@
 -- `codec::reassembly::bytes_held` meets its contract. The invariant: the sum and the bytes held from here on are all that are held.
-use Prim.Native.Nat.{◌≤◌, ◌<◌, ◌+◌, ◌-◌, ◌*◌}
+use Prim.Native.Nat.{◌≤◌, ◌+◌, ◌-◌, ◌*◌}
 use mathlib.Core.Path.{◌≡◌}
-use native.Mathlib.Nat.{zero-add}
-use native.Mathlib.Omega.{arith}
-use lib.ListN.{get_or, take, drop}
+use lib.ListN.{take, drop}
 use Rattle.codec.specs.Reassembly.{bytes_held}
-use Rattle.codec.proofs.reassembly.Laws.{held_some, bytes_next, bytes_end}
 use Rattle.codec.proofs.reassembly.bytes_held.Given as goal
 
 abbrev pub invariant-loop-i : goal.invariant-loop-i

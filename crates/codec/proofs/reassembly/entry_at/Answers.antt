@@ -1,7 +1,6 @@
 -- `codec::reassembly::entry_at` meets its contract.
 use mathlib.Core.Path.{sym}
 use lib.ListN.{get_or-eq_default}
-use borrow.Author.Rules.{rules}
 use Rattle.codec.proofs.reassembly.entry_at.Goals as goal
 
 pub returns-else-nr-lengths : goal.returns-else-nr-lengths

@@ -1,10 +1,8 @@
 -- `codec::reassembly::free_all` meets its contract. The invariant: the first `i` entries are 0, and the others as they were.
-use Prim.Native.Nat.{◌≤◌, ◌-◌}
 use mathlib.Core.Path.{◌≡◌}
-use mathlib.Core.List.{◌++◌}
 use native.Mathlib.Omega.{arith}
 use borrow.Author.Fill.{fill_none, fill_more}
-use lib.ListN.{length, drop, replicate, length-append, length-drop, length-replicate}
+use lib.ListN.{length, length-append, length-drop, length-replicate}
 use Rattle.codec.proofs.reassembly.free_all.Goals.{At-loop-i}
 use Rattle.codec.proofs.reassembly.free_all.Goals as goal
 

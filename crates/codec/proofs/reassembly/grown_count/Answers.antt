@@ -1,7 +1,6 @@
 -- `codec::reassembly::grown_count` meets its contract.
 use borrow.Author.Tests.{eq-eqb, ne_eqb}
 use Rattle.codec.specs.Reassembly.{grown}
-use borrow.Author.Rules.{rules}
 use Rattle.codec.proofs.reassembly.grown_count.Goals as goal
 
 pub returns-then-held-eq0 : goal.returns-then-held-eq0

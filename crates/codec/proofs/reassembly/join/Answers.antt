@@ -1,31 +1,24 @@
 -- `codec::reassembly::join` meets its contract. The invariant: what is still to be written, written from here on, is the whole.
 use Prim.Native.Nat.{ℕ, ◌≤◌, ◌<◌, ◌+◌, ◌-◌, ◌*◌}
-use mathlib.Core.Path.{◌≡◌, refl, sym, ◌∙◌}
+use mathlib.Core.Path.{refl, sym, ◌∙◌}
 use native.Mathlib.Nat.{zero-add, zero-mul}
 use native.Mathlib.Omega.{arith}
-use lib.ListN.{length, get_or, take, drop}
-use Rattle.codec.specs.Bytes.{put_at}
-use Rattle.codec.specs.Cutting.{joined}
-use Rattle.codec.specs.Reassembly.{bytes_held, bodies_held}
+use lib.ListN.{length, get_or}
 use Rattle.codec.proofs.reassembly.Laws.{slot_ends, held_some, held_fits, bytes_next, join_next, join_end}
-use Rattle.codec.proofs.reassembly.join.Goals.{In-loop-i, Start}
+use Rattle.codec.proofs.reassembly.join.Goals.{In-loop-i}
 use Rattle.codec.proofs.reassembly.join.Goals as goal
 
--- the function's entry, and the entry of the slot that a turn looks at
-abbrev start : In-loop-i → Start
-start c = c.before.before.before.before.before
-
 abbrev held : In-loop-i → ℕ
-held c = get_or (start c).args.lengths.now c.loop-i.i 0
+held c = get_or c.args.lengths.now c.loop-i.i 0
 
 -- what a turn copies: a body that is held, within its slot, for which there is room
 turn : (c : In-loop-i)
     → (0 < held c)
-    × ((c.loop-i.i * (start c).args.width + (held c - 1) ≤ length (start c).args.slots.now)
+    × ((c.loop-i.i * c.args.width + (held c - 1) ≤ length c.args.slots.now)
     × (c.loop-i.at + (held c - 1) ≤ length c.loop-i.out))
 turn c =
-    let a = (start c).args in
-    let pre = (start c).requires in
+    let a = c.args in
+    let pre = c.requires in
     let l = c.loop-i in
     let some = held_some a.lengths.now a.total l.i pre.1.1.1.0 (omega arith) pre.1.0 in
     let fits = held_fits a.lengths.now a.total l.i a.width pre.1.1.0 (omega arith) pre.1.0 in
@@ -64,7 +57,7 @@ loop-i-preserved c =
     let next = bytes_next a.lengths.now a.total l.i (omega arith) pre.1.0 in (
       omega arith,
       (
-        c.copy_slot-at.auto.1.1.1.0 ∙ l.invariant.1.0,
+        c.copy_slot-at.auto.out ∙ l.invariant.1.0,
         (
           rw done.0 (omega (arith, l.invariant.1.1.0)),
           rw (done.1, done.0) (join_next l.out l.at a.width a.slots.now a.lengths.now a.total l.i (omega arith) pre.1.0 (omega arith) t.1.0) ∙ l.invariant.1.1.1,

@@ -1,13 +1,10 @@
 -- `codec::reassembly::join` meets its contract. The invariant: what is still to be written, written from here on, is the whole.
-use Prim.Native.Nat.{ℕ, ◌≤◌, ◌<◌, ◌+◌, ◌-◌, ◌*◌}
-use mathlib.Core.Path.{◌≡◌, refl, sym, ◌∙◌}
-use native.Mathlib.Nat.{zero-add, zero-mul}
-use native.Mathlib.Omega.{arith}
-use lib.ListN.{length, get_or, take, drop}
+use Prim.Native.Nat.{◌≤◌, ◌+◌, ◌-◌, ◌*◌}
+use mathlib.Core.Path.{◌≡◌}
+use lib.ListN.{length, take, drop}
 use Rattle.codec.specs.Bytes.{put_at}
 use Rattle.codec.specs.Cutting.{joined}
 use Rattle.codec.specs.Reassembly.{bytes_held, bodies_held}
-use Rattle.codec.proofs.reassembly.Laws.{slot_ends, held_some, held_fits, bytes_next, join_next, join_end}
 use Rattle.codec.proofs.reassembly.join.Given as goal
 
 abbrev pub invariant-loop-i : goal.invariant-loop-i

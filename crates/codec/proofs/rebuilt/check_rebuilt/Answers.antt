@@ -1,6 +1,5 @@
 -- `codec::rebuilt::check_rebuilt` meets its contract: no bytes at all, and some.
 use mathlib.Core.Path.{◌∙◌}
-use borrow.Author.Rules.{rules}
 use Rattle.codec.proofs.rebuilt.Laws.{whole_none, whole_some}
 use Rattle.codec.proofs.rebuilt.check_rebuilt.Goals as goal
 

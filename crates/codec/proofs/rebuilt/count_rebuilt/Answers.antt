@@ -1,13 +1,12 @@
 -- `codec::rebuilt::count_rebuilt` meets its contract. The invariant: what is left from here, with what was counted and met, is the whole.
-use Prim.Native.Nat.{◌≤◌, ◌<◌, ◌-◌}
+use Prim.Native.Nat.{◌≤◌, ◌<◌}
 use mathlib.Core.Path.{◌≡◌, sym, ◌∙◌}
 use native.Mathlib.Omega.{arith}
-use borrow.Author.Rules.{rules}
 use lib.ListN.{length}
 use Rattle.codec.specs.Reading.{items_at, failure_at}
 use Rattle.codec.specs.Rebuilt.{rebuilt_at}
 use Rattle.codec.proofs.failures.Laws.{MetAt, read_met}
-use Rattle.codec.proofs.rebuilt.Laws.{on_from, from_none, from_stopped, from_met, from_end}
+use Rattle.codec.proofs.rebuilt.Laws.{from_none, from_stopped, from_met, from_end}
 use Rattle.codec.proofs.rebuilt.count_rebuilt.Goals.{After-loop-at, Else-failure-ne0, In-loop-at}
 use Rattle.codec.proofs.rebuilt.count_rebuilt.Goals as goal
 

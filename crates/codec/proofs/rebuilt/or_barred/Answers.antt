@@ -1,5 +1,4 @@
 -- `codec::rebuilt::or_barred` meets its contract: one before, then each of the two ids, then none.
-use borrow.Author.Rules.{rules}
 use borrow.Author.Tests.{ne_eqb}
 use Rattle.codec.proofs.rebuilt.or_barred.Goals as goal
 
@@ -12,4 +11,4 @@ returns-in-15 c = rw (c.if-before.false, c.in-15.is)
 pub returns-in_default : goal.returns-in_default
 returns-in_default c =
     let id = c.args.id in
-    rw (c.if-before.false, ne_eqb id 0 c.in_default.rest.0.1, ne_eqb id 15 c.in_default.rest.1)
+    rw (c.if-before.false, ne_eqb id 0 c.in_default.in_default-own.rest.0.1, ne_eqb id 15 c.in_default.in_default-own.rest.1)

@@ -9,8 +9,7 @@ use Rattle.codec.specs.Strings.{span_at}
 use Rattle.codec.specs.Text.{well_formed}
 use Rattle.codec.proofs.bytes.Laws.{fits_yes, fits_no}
 use Rattle.codec.proofs.strings.Laws.{string_none, string_cut, string_text, string_ill}
-use borrow.Author.Rules.{rules}
-use Rattle.codec.proofs.strings.decode_string.Goals.{After-is_text, Then-fits, Then-len-s}
+use Rattle.codec.proofs.strings.decode_string.Goals.{After-is_text, Then-fits}
 use Rattle.codec.proofs.strings.decode_string.Goals as goal
 
 there : (c : Then-fits) → c.args.at + 2 ≤ length c.args.s.now
@@ -26,17 +25,17 @@ pub overflow_sub-s : goal.overflow_sub-s
 overflow_sub-s c = omega (arith, there (goal.at.overflow_sub-s c).Then-fits)
 
 -- the bytes are there, and what was looked at is they
-whole : (c : Then-len-s) → let a = c.args in a.at + 2 + word_at a.s.now a.at ≤ length a.s.now
-whole c = omega (arith, there c, c.word_at-len.ensures)
+whole : (c : After-is_text) → let a = c.args in a.at + 2 + word_at a.s.now a.at ≤ length a.s.now
+whole c = omega (arith, fits_yes _ _ _ c.fits.ensures c.if-fits.true, c.word_at-len.ensures)
 
 looked : (c : After-is_text) → let a = c.args in c.is_text.result ≡ well_formed (part_of a.s.now (span_at a.s.now a.at))
 looked c = c.is_text.ensures ∙ ap well_formed (c.part.ensures ∙ rw c.word_at-len.ensures)
 
 pub returns-then-is_text : goal.returns-then-is_text
-returns-then-is_text c = rw c.word_at-len.ensures (string_text _ _ (whole (goal.at.returns-then-is_text c).Then-len-s) (sym (looked (goal.at.returns-then-is_text c).After-is_text) ∙ c.if-is_text.true))
+returns-then-is_text c = rw c.word_at-len.ensures (string_text _ _ (whole (goal.at.returns-then-is_text c).After-is_text) (sym (looked (goal.at.returns-then-is_text c).After-is_text) ∙ c.if-is_text.true))
 
 pub returns-then-len-s : goal.returns-then-len-s
-returns-then-len-s c = string_ill _ _ (whole (goal.at.returns-then-len-s c).Then-len-s) (sym (looked (goal.at.returns-then-len-s c).After-is_text) ∙ c.if-is_text.false)
+returns-then-len-s c = string_ill _ _ (whole (goal.at.returns-then-len-s c).After-is_text) (sym (looked (goal.at.returns-then-len-s c).After-is_text) ∙ c.if-is_text.false)
 
 pub returns-else-len-s : goal.returns-else-len-s
 returns-else-len-s c = string_cut _ _ (there (goal.at.returns-else-len-s c).Then-fits) (omega (arith, c.word_at-len.ensures))

@@ -1,13 +1,12 @@
 -- `codec::strings::encode_string` meets its contract: 12, then 13, then the write.
-use Prim.Native.Nat.{◌+◌, ◌≤◌, ◌<◌}
-use mathlib.Core.Path.{◌≡◌, ◌∙◌, ap, sym}
+use Prim.Native.Nat.{◌+◌, ◌≤◌}
+use mathlib.Core.Path.{◌∙◌, ap, sym}
 use native.Mathlib.Omega.{arith}
 use lib.ListN.{length}
 use Rattle.codec.specs.Strings.{string_bytes}
 use Rattle.codec.specs.declared.bytes.Written.TheVariants.{Bytes}
 use Rattle.codec.proofs.bytes.Laws.{fits_yes, fits_no, write_over, write_short, write_fits}
 use Rattle.codec.proofs.strings.Laws.{length_string, string_put}
-use borrow.Author.Rules.{rules}
 use Rattle.codec.proofs.strings.encode_string.Goals.{Then-fits}
 use Rattle.codec.proofs.strings.encode_string.Goals as goal
 

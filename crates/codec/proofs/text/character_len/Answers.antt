@@ -6,7 +6,6 @@ use lib.ListN.{get_or, drop, length-drop}
 use Rattle.codec.specs.Text.{ranges_of}
 use Rattle.codec.proofs.text.Laws.{first_plain, ill_left, many_left}
 use Rattle.codec.proofs.text.Fits.{len_here, never_fits, fits_short}
-use borrow.Author.Rules.{rules}
 use Rattle.codec.proofs.text.character_len.Goals as goal
 
 pub returns-then-b-lt128 : goal.returns-then-b-lt128

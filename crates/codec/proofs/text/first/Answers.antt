@@ -1,9 +1,8 @@
 -- `codec::text::first` meets its contract: each arm is a row of the table.
-use mathlib.Core.Logic.{⊎_elim}
 use native.Mathlib.Omega.{arith}
 use Rattle.codec.specs.Text.{table, ranges_of}
 use Rattle.codec.proofs.text.Laws.{first_at, first_above}
-use borrow.Author.Rules.{rules}
+use Rattle.codec.proofs.text.first.Goals.{in_default-via-then-b-lt224-2, in_default-via-else-b-lt224-2+else-b-lt237+else-b-lt240+else-b-lt244}
 use Rattle.codec.proofs.text.first.Goals as goal
 
 pub returns-in-224 : goal.returns-in-224
@@ -37,4 +36,4 @@ returns-in-241-to-243 c = first_at c.args.b 7 c.waits-in-241-to-243.result (omeg
 pub returns-in_default : goal.returns-in_default
 returns-in_default c =
     let b = c.args.b in
-    rw c.waits-in_default.ensures (first_above b (⊎_elim (λ l. omega (arith, l.taken)) (λ r. omega (arith, r.3.left)) c.in_default.branch))
+    rw c.waits-in_default.ensures (first_above b (elim c.in_default.branch [ in_default-via-then-b-lt224-2 w ↦ omega arith | in_default-via-else-b-lt224-2+else-b-lt237+else-b-lt240+else-b-lt244 w ↦ omega arith ]))

@@ -2,7 +2,6 @@
 use native.Mathlib.Omega.{arith}
 use Rattle.codec.specs.Text.{table, ranges_of}
 use Rattle.codec.proofs.text.Laws.{first_at, first_between}
-use borrow.Author.Rules.{rules}
 use Rattle.codec.proofs.text.first_low.Goals as goal
 
 pub returns-then-b-lt128 : goal.returns-then-b-lt128

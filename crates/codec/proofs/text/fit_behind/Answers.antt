@@ -3,11 +3,9 @@ use Prim.Native.Nat.{◌+◌}
 use mathlib.Core.Path.{◌≡◌, sym, ◌∙◌}
 use mathlib.Core.Bool.{true}
 use native.Mathlib.Omega.{arith}
-use borrow.Author.Tests.{not-true, not-false}
 use lib.ListN.{get_or}
 use Rattle.codec.specs.Text.{tail, in_range}
 use Rattle.codec.proofs.text.Fits.{fits_none, fits_below, fits_above, fits_one, fits-two, fits-three}
-use borrow.Author.Rules.{rules}
 use Rattle.codec.proofs.text.fit_behind.Goals.{Else-not-is_tail}
 use Rattle.codec.proofs.text.fit_behind.Goals as goal
 
@@ -34,10 +32,10 @@ returns-then-w-eq1 c =
 pub returns-then-not-is_tail : goal.returns-then-not-is_tail
 returns-then-not-is_tail c =
     let f = c in
-    sym (fits-two f.args.text.now f.args.at f.args.w f.requires.0 f.requires.1 (omega arith) (omega arith) (omega arith) (omega arith) ∙ rw (sym c.is_tail.ensures ∙ not-true _ c.if-not-is_tail.true))
+    sym (fits-two f.args.text.now f.args.at f.args.w f.requires.0 f.requires.1 (omega arith) (omega arith) (omega arith) (omega arith) ∙ rw (sym c.is_tail.ensures ∙ c.if-not-is_tail.true))
 
 second : (c : Else-not-is_tail) → in_range tail (get_or c.args.text.now (c.args.at + 2) 0) ≡ true
-second c = sym c.is_tail.ensures ∙ not-false _ c.if-not-is_tail.false
+second c = sym c.is_tail.ensures ∙ c.if-not-is_tail.false
 
 pub returns-then-w-eq2 : goal.returns-then-w-eq2
 returns-then-w-eq2 c =

@@ -1,11 +1,9 @@
 -- `codec::text::is_text` meets its contract. The invariant: what is left is as well-formed as the whole.
-use Prim.Native.Nat.{◌+◌, ◌-◌, ◌≤◌, ◌<◌}
-use mathlib.Core.Path.{◌≡◌, refl, sym, ◌∙◌}
+use Prim.Native.Nat.{◌-◌}
+use mathlib.Core.Path.{◌≡◌}
 use mathlib.Core.List.{[]}
-use native.Mathlib.Omega.{arith}
-use lib.ListN.{length, drop, length-drop, drop_of_length-le}
+use lib.ListN.{length, drop}
 use Rattle.codec.specs.Text.{well_from, well_formed}
-use Rattle.codec.proofs.text.Fits.{len_within, well_stops, well_goes_on}
 use Rattle.codec.proofs.text.is_text.Given as goal
 
 abbrev pub invariant-loop-at : goal.invariant-loop-at

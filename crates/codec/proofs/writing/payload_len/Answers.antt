@@ -1,7 +1,6 @@
 -- `codec::writing::payload_len` meets its contract.
 use native.Mathlib.Omega.{arith}
 use Rattle.codec.proofs.writing.Laws.{least_small, body_within}
-use borrow.Author.Rules.{rules}
 use Rattle.codec.proofs.writing.payload_len.Goals as goal
 
 pub overflow_add-result : goal.overflow_add-result

@@ -6,7 +6,6 @@ use native.Mathlib.Omega.{arith}
 use lib.ListN.{length-set}
 use Rattle.codec.specs.Bytes.{le16, le32}
 use Rattle.codec.proofs.bytes.Laws.{put_behind, put_one}
-use borrow.Author.Rules.{rules}
 use Rattle.codec.proofs.writing.put_client.Goals as goal
 
 pub shape_of-out : goal.shape_of-out
@@ -20,6 +19,6 @@ returns c =
     let v = c.put_word-2 in
     let low = le16 (a.key % 65536) in
     let high = le16 (a.key / 65536) in
-    put_one v.new.0 (a.at + 4) a.properties (omega (arith, u.auto.out, v.auto.out))
+    put_one v.new.out (a.at + 4) a.properties (omega (arith, u.auto.out, v.auto.out))
     ∙ rw (v.ensures, u.ensures, put_behind a.out.now a.at low high (omega arith))
     (put_behind a.out.now a.at (low ++ high) (a.properties ∷ []) (omega arith))

@@ -6,7 +6,6 @@ use Rattle.codec.specs.Bytes.{le16, le32}
 use Rattle.codec.specs.Submessages.{kind_byte}
 use Rattle.codec.specs.Writing.{fixed_bytes}
 use Rattle.codec.proofs.bytes.Laws.{put_behind}
-use borrow.Author.Rules.{rules}
 use Rattle.codec.proofs.writing.put_fixed.Goals as goal
 
 pub put_client-requires : goal.put_client-requires

@@ -4,7 +4,6 @@ use native.Mathlib.Omega.{arith}
 use lib.ListN.{length}
 use lib.Seq.{length-take-le}
 use Rattle.codec.proofs.writing.Laws.{length_fixed, body_within, length_payload, payload_put}
-use borrow.Author.Rules.{rules}
 use Rattle.codec.proofs.writing.put_payload.Goals as goal
 
 pub put_fixed-requires : goal.put_fixed-requires

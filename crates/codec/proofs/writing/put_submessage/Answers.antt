@@ -2,7 +2,6 @@
 use mathlib.Core.Path.{◌∙◌}
 use native.Mathlib.Omega.{arith}
 use Rattle.codec.proofs.writing.Laws.{sub_put}
-use borrow.Author.Rules.{rules}
 use Rattle.codec.proofs.writing.put_submessage.Goals as goal
 
 pub returns : goal.returns

@@ -4,11 +4,10 @@ use mathlib.Core.Path.{◌≡◌, ◌∙◌, sym, ap}
 use native.Mathlib.Omega.{arith}
 use lib.ListN.{length}
 use Rattle.codec.specs.Header.{header_bytes}
-use Rattle.codec.specs.Writing.{payload_bytes, sub_bytes, message_bytes}
+use Rattle.codec.specs.Writing.{payload_bytes, message_bytes}
 use Rattle.codec.specs.declared.bytes.Written.TheVariants.{Bytes}
 use Rattle.codec.proofs.bytes.Laws.{fits_yes, fits_no, write_over, write_short, write_fits}
 use Rattle.codec.proofs.writing.Laws.{length_payload, length_sub, length_message, message_put}
-use borrow.Author.Rules.{rules}
 use Rattle.codec.proofs.writing.write_message.Goals.{After-payload_len-len, Else-fits, Then-fits}
 use Rattle.codec.proofs.writing.write_message.Goals as goal
 

@@ -7,7 +7,6 @@ use Rattle.codec.specs.Writing.{payload_bytes, sub_bytes}
 use Rattle.codec.specs.declared.bytes.Written.TheVariants.{Bytes}
 use Rattle.codec.proofs.bytes.Laws.{fits_yes, fits_no, write_over, write_short, write_fits}
 use Rattle.codec.proofs.writing.Laws.{length_payload, length_sub}
-use borrow.Author.Rules.{rules}
 use Rattle.codec.proofs.writing.write_submessage.Goals.{After-payload_len-len, Else-fits, Then-fits}
 use Rattle.codec.proofs.writing.write_submessage.Goals as goal
 

@@ -1,5 +1,4 @@
 -- `codec::cutting::FragmentHeader::parse` meets its contract: 1, or the two numbers.
-use borrow.Author.Rules.{rules}
 use borrow.Author.Tests.{lt-ltb, le-ltb}
 use Rattle.codec.specs.Cutting.{fragment_header_of}
 use Rattle.codec.proofs.cutting.FragmentHeader.parse.Goals as goal

@@ -1,5 +1,4 @@
 -- `codec::cutting::FragmentHeader::put_with` meets its contract: 13, or the header and the body behind it.
-use borrow.Author.Rules.{rules}
 use mathlib.Core.Path.{◌∙◌}
 use native.Mathlib.Omega.{arith}
 use Rattle.codec.specs.Cutting.{fragment_bytes}

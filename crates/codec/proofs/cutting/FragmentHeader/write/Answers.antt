@@ -1,5 +1,4 @@
 -- `codec::cutting::FragmentHeader::write` meets its contract: 13, or the header's four bytes.
-use borrow.Author.Rules.{rules}
 use mathlib.Core.Path.{ap, ◌∙◌}
 use mathlib.Core.List.{[]}
 use native.Mathlib.Omega.{arith}

@@ -1,8 +1,6 @@
 -- `codec::header::MessageHeader::parse` meets its contract.
-use native.Mathlib.Omega.{arith}
 use Rattle.codec.specs.Header.{header_of}
 use Rattle.codec.proofs.header.Laws.{header_short, header_there}
-use borrow.Author.Rules.{rules}
 use Rattle.codec.proofs.header.MessageHeader.parse.Goals as goal
 
 pub returns-then-s-lt-MESSAGE_HEADER_SIZE : goal.returns-then-s-lt-MESSAGE_HEADER_SIZE

@@ -3,7 +3,6 @@ use mathlib.Core.Path.{◌∙◌}
 use Rattle.codec.specs.Bytes.{le16}
 use Rattle.codec.specs.Header.{header_bytes}
 use Rattle.codec.proofs.bytes.Laws.{put_short, put_fits, fits_yes, fits_no}
-use borrow.Author.Rules.{rules}
 use Rattle.codec.proofs.header.MessageHeader.write.Goals as goal
 
 pub put_head-requires : goal.put_head-requires

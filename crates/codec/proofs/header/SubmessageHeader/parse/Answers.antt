@@ -2,7 +2,6 @@
 use native.Mathlib.Omega.{arith}
 use Rattle.codec.specs.Header.{sub_header_of}
 use Rattle.codec.proofs.header.Laws.{sub_header_short, sub_header_there}
-use borrow.Author.Rules.{rules}
 use Rattle.codec.proofs.header.SubmessageHeader.parse.Goals as goal
 
 pub returns-then-s-at : goal.returns-then-s-at

@@ -4,16 +4,11 @@ use lib.ListN.{length}
 use Rattle.codec.specs.Reassembly.{assemble_check, payload_of}
 use Rattle.codec.specs.declared.reassembly.Check.TheVariants as check
 use Rattle.codec.proofs.reassembly.Laws.{assemble_whole, assemble_refused, assemble_short, assemble_written}
-use borrow.Author.Rules.{rules}
-use Rattle.codec.proofs.reassembly.ReassemblyBuffer.assemble.Goals.{In-Passes, Start}
+use Rattle.codec.proofs.reassembly.ReassemblyBuffer.assemble.Goals.{In-Passes}
 use Rattle.codec.proofs.reassembly.ReassemblyBuffer.assemble.Goals as goal
 
--- the function's entry, from where its check has passed
-abbrev start : In-Passes → Start
-start c = c.before.before.before.before.before.before
-
 passed : (c : In-Passes)
-    → assemble_check (start c).args.self (length (start c).args.slots.now) (start c).args.lengths.now ≡ check.Passes
+    → assemble_check c.args.self (length c.args.slots.now) c.args.lengths.now ≡ check.Passes
 passed c = sym c.assemble_check.ensures ∙ c.in-Passes.is
 
 pub bytes_held-len-requires : goal.bytes_held-len-requires

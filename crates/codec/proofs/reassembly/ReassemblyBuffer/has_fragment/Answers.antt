@@ -1,7 +1,6 @@
 -- `codec::reassembly::ReassemblyBuffer::has_fragment` meets its contract.
 use borrow.Author.Tests.{lt-ltb, le-ltb}
 use Rattle.codec.specs.Reassembly.{has_fragment}
-use borrow.Author.Rules.{rules}
 use Rattle.codec.proofs.reassembly.ReassemblyBuffer.has_fragment.Goals as goal
 
 pub returns-then-self-fragment_nr : goal.returns-then-self-fragment_nr

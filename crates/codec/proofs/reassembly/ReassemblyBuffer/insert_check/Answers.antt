@@ -1,12 +1,11 @@
 -- `codec::reassembly::ReassemblyBuffer::insert_check` meets its contract: each answer by the tests that lead to it.
-use Prim.Native.Nat.{◌<◌, ◌≤◌}
+use Prim.Native.Nat.{◌≤◌}
 use mathlib.Core.Path.{◌≡◌, sym, ◌∙◌}
 use mathlib.Core.Bool.{false}
-use borrow.Author.Rules.{rules}
 use native.Mathlib.Omega.{arith}
 use Rattle.codec.specs.Reassembly.{under_need, grown}
 use Rattle.codec.proofs.reassembly.Laws.{insert_need, insert_count, insert-number, insert_entry, insert-grown, insert-long, insert-passes}
-use Rattle.codec.proofs.reassembly.ReassemblyBuffer.insert_check.Goals.{Else-self-grown_count, Else-under_need, Start}
+use Rattle.codec.proofs.reassembly.ReassemblyBuffer.insert_check.Goals.{Else-self-grown_count, Else-under_need}
 use Rattle.codec.proofs.reassembly.ReassemblyBuffer.insert_check.Goals as goal
 
 pub returns-then-under_need : goal.returns-then-under_need
@@ -31,11 +30,7 @@ returns-then-self-grown_count c =
     insert-grown _ _ _ _ _ _ (enough (goal.at.returns-then-self-grown_count c).Else-under_need) (omega arith) (omega arith) (omega arith)
     (rw c.grown_count.ensures at c.if-self-grown_count.true)
 
--- past the test of the count
-abbrev start : Else-self-grown_count → Start
-start c = c.before.before.before.before.before.before.before.before.before.before.before
-
-within : (c : Else-self-grown_count) → grown (start c).args.self.received_count (start c).args.held ≤ (start c).args.self.total_fragments
+within : (c : Else-self-grown_count) → grown c.args.self.received_count c.args.held ≤ c.args.self.total_fragments
 within c = rw c.grown_count.ensures at c.if-self-grown_count.false
 
 pub returns-then-self-len : goal.returns-then-self-len

@@ -1,23 +1,18 @@
 -- `codec::reassembly::ReassemblyBuffer::is_over` meets its contract: each answer by the tests that lead to it.
 use mathlib.Core.Path.{◌≡◌, sym, ◌∙◌}
 use mathlib.Core.Bool.{false}
-use borrow.Author.Rules.{rules}
 use native.Mathlib.Omega.{arith}
 use lib.ListN.{length}
 use Rattle.codec.specs.Reassembly.{under_need}
 use Rattle.codec.proofs.reassembly.Laws.{need_fits, over_need, over_count, over_past}
-use Rattle.codec.proofs.reassembly.ReassemblyBuffer.is_over.Goals.{Else-under_need, Start}
+use Rattle.codec.proofs.reassembly.ReassemblyBuffer.is_over.Goals.{Else-under_need}
 use Rattle.codec.proofs.reassembly.ReassemblyBuffer.is_over.Goals as goal
 
 pub returns-then-under_need : goal.returns-then-under_need
 returns-then-under_need c = over_need _ _ _ (sym c.under_need.ensures ∙ c.if-under_need.true)
 
--- past the first test
-abbrev start : Else-under_need → Start
-start c = c.before.before.before
-
 enough : (c : Else-under_need)
-    → under_need (start c).args.self.total_fragments (start c).args.self.width (start c).args.slots (length (start c).args.lengths.now)
+    → under_need c.args.self.total_fragments c.args.self.width c.args.slots (length c.args.lengths.now)
     ≡ false
 enough c = sym c.under_need.ensures ∙ c.if-under_need.false
 

@@ -1,7 +1,6 @@
 -- `codec::reassembly::ReassemblyBuffer::new` meets its contract.
 use mathlib.Core.Path.{sym, ◌∙◌}
 use Rattle.codec.proofs.reassembly.Laws.{need_fits, new_refused, new_made}
-use borrow.Author.Rules.{rules}
 use Rattle.codec.proofs.reassembly.ReassemblyBuffer.new.Goals as goal
 
 pub returns-then-under_need : goal.returns-then-under_need

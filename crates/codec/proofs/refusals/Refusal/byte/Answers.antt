@@ -1,5 +1,4 @@
 -- `codec::refusals::Refusal::byte` meets its contract: each arm is its variant's line of the definition.
-use borrow.Author.Rules.{rules}
 use Rattle.codec.proofs.refusals.Refusal.byte.Goals as goal
 
 pub returns-in-UnknownSubmessageId : goal.returns-in-UnknownSubmessageId

@@ -1,5 +1,4 @@
 -- `codec::refusals::Refusal::number` meets its contract: each arm is its variant's line of the definition.
-use borrow.Author.Rules.{rules}
 use Rattle.codec.proofs.refusals.Refusal.number.Goals as goal
 
 pub returns-in-BufferTooShort : goal.returns-in-BufferTooShort

@@ -25,4 +25,6 @@ returns-in-4 c = rw c.in-4.is
 
 pub returns-in_default : goal.returns-in_default
 unfolding code_of
-returns-in_default c = rw (ne_eqb _ 0 c.in_default.rest.0.0.0.0.1, ne_eqb _ 1 c.in_default.rest.0.0.0.1, ne_eqb _ 2 c.in_default.rest.0.0.1, ne_eqb _ 3 c.in_default.rest.0.1, ne_eqb _ 4 c.in_default.rest.1)
+returns-in_default c =
+    let r = c.in_default.in_default-own.rest in
+    rw (ne_eqb _ 0 r.0.0.0.0.1, ne_eqb _ 1 r.0.0.0.1, ne_eqb _ 2 r.0.0.1, ne_eqb _ 3 r.0.1, ne_eqb _ 4 r.1)
