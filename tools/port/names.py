@@ -1,7 +1,8 @@
 #!/usr/bin/env python3
 """Brings this repository's own definitions and lemmas to snake case.
 
-usage: tools/port/names.py [--check]     at the top, once, right after tools/port/spelling
+usage: tools/port/names.py [--nested [OLDER]] [--check]     at the top: once right after tools/port/spelling, and then with --nested,
+                                                            which takes the names that stand deeper in sections and where-blocks
 
 A name that a file of specs/ or proofs/ declares, a field or a constructor among them, gets `_` for each of its dashes and before each
 of its capitals, as `work_in` for `workIn` and `byte_small` for `byte-small`. Types keep their spelling, and so do functions of src/,
@@ -13,8 +14,9 @@ import os
 import re
 import sys
 
-DECLARED = re.compile(r"^ {0,4}(?:(?:abbrev|unfoldable) )?(?:pub )?(?:(?:record|data) )?([^\s:(){};,=.]+)(?: [({«a-z].*)?\s*:(?= |$)")
-GOAL = re.compile(r"^(\S+) : (?:tie|goal)\.", re.M)
+DEEP = 12 if "--nested" in sys.argv else 4
+DECLARED = re.compile(r"^ {0,%d}(?:(?:abbrev|unfoldable) )?(?:pub )?(?:(?:record|data) )?([^\s:(){};,=.]+)(?: [({«a-z].*)?\s*:(?= |$)" % DEEP)
+GOAL = re.compile(r"^(?:pub )?(\S+) : (?:tie|goal)\.", re.M)
 WORD = re.compile(r"(?:(?<=[\s(){};,.◌«»])|^)([^\s(){};,.◌«»]+)", re.M)
 GHOST = re.compile(r"ghost use [^;]*;|\b(?:requires|ensures|ghost)\*?(?: [a-z_0-9]+:?)? \{|//[^\n]*")
 
@@ -82,6 +84,17 @@ def kept_names(top):
     return found
 
 
+def library_names(top):
+    """The names that some file brings in from a library that isn't of this repository."""
+    own = "|".join(os.listdir(top))
+    found = set()
+    for path in files(top, ".antt"):
+        for module, names in re.findall(r"^use ([^\s{]+)\.\{([^}]*)\}", text_of(path), re.M):
+            if not re.match(rf"Rattle\.(?:{own})\.", module):
+                found.update(it.strip().split(" as ")[0] for it in names.split(","))
+    return found
+
+
 def crate_of(path):
     return re.search(r"crates/(\w+)/", path)[1]
 
@@ -119,6 +132,10 @@ def turned(text, new, left=()):
 def turn_antt(path, new):
     text = text_of(path)
     goals = set(GOAL.findall(text))
+    if re.search(r"/(Answers|Invariants|Proof)\.antt$", path) and " as goal" in text:
+        # Among the names that the check makes only what the file brings in or declares is this repository's.
+        brought = set(re.findall(r"[^\s{},]+", " ".join(re.findall(r"^use [^{\n]*\{([^}]*)\}", text, re.M))))
+        new = {old: now for old, now in new.items() if old in brought or old in declared_in(text)}
     for end, apart in APART.items():
         if path.endswith(end):
             new = {**new, **apart}
@@ -156,7 +173,11 @@ def turn_rt(path, new):
 def main():
     top = os.path.join(os.path.dirname(os.path.abspath(__file__)), "..", "..", "crates")
     top = os.path.normpath(top)
-    new, said = new_names(top)
+    from_here = [it for it in sys.argv[1:] if not it.startswith("--")]
+    new, said = new_names(from_here[0] if from_here else top)
+    if "--nested" in sys.argv:
+        for name in library_names(top):
+            new.pop(name, None)
     print("\n".join(said))
     print(f"{len(new)} names")
     if "--check" in sys.argv:

@@ -156,14 +156,14 @@ module _ {A B : Type 0} (copy : A → B) (back : B → A) (again : (x : A) → b
       x : A
       x = back (get_or (copied copy none spot m from blank) k past)
 
-      x-is : x ≡ get_or from (spot k) none
-      x-is = ap back (copied_at copy none spot from blank m k past w (omega (arith, h))) ∙ again (get_or from (spot k) none)
+      x_is : x ≡ get_or from (spot k) none
+      x_is = ap back (copied_at copy none spot from blank m k past w (omega (arith, h))) ∙ again (get_or from (spot k) none)
 
       go : get_or was p none ≡ cond (is_spot spot k p) (get_or from p none) (get_or to p none) → (b : Bool) → eqb (spot k) p ≡ b → get_or (set was (spot k) x) p none ≡ cond (cond b true (is_spot spot k p)) (get_or from p none) (get_or to p none)
       go before true q =
           let s = eqb-true (spot k) p q in
           let long = restored_length back past spot (copied copy none spot m from blank) to k in
-          ap (λ (j : ℕ). get_or (set was (spot k) x) j none) (sym s) ∙ (get_or-set_same was (spot k) x none (omega (arith, long, s, l, e)) ∙ (x-is ∙ ap (λ (j : ℕ). get_or from j none) s))
+          ap (λ (j : ℕ). get_or (set was (spot k) x) j none) (sym s) ∙ (get_or-set_same was (spot k) x none (omega (arith, long, s, l, e)) ∙ (x_is ∙ ap (λ (j : ℕ). get_or from j none) s))
       go before false q =
           let s = eqb-false (spot k) p q in
           get_or-set_other was (spot k) p x none (λ (z : p ≡ spot k). s (sym z)) ∙ before

@@ -202,19 +202,19 @@ module _ (bs : List (List ℕ)) (w : Within bs) (st : FragmentStore) (fresh : Fr
       abbrev Comes : Option (List ℕ) → Type 0
       Comes bytes = handle l (fragment_of bs k moment stream) ≡ comes_to bytes (store_behind (length bs) (slots_from 0 bs now) bytes)
 
-      comes-now : Comes (whole_of (slots_from 0 bs now))
-      comes-now =
+      comes_now : Comes (whole_of (slots_from 0 bs now))
+      comes_now =
           ap (λ (s : FragmentStore). comes_to (gathered_bytes s k (length bs) (get_or bs k [])) (gathered_store s k (length bs) (get_or bs k []))) e
           ∙ (λ j. comes_to (bytes_now j) (store_now j))
 
-      waits-now : Missing (length bs) now → handle l (fragment_of bs k moment stream) ≡ done (with_store (touched moment.time l) (kept_after bs st now)) []
+      waits_now : Missing (length bs) now → handle l (fragment_of bs k moment stream) ≡ done (with_store (touched moment.time l) (kept_after bs st now)) []
       unfolding onto
-      waits-now m =
-          let c : Comes none = rw (whole_missing 0 m.0 bs now m.0 (omega arith) m.1 m.2) at comes-now in
+      waits_now m =
+          let c : Comes none = rw (whole_missing 0 m.0 bs now m.0 (omega arith) m.1 m.2) at comes_now in
           c ∙ ap (λ (s : FragmentStore). done (with_store (touched moment.time l) s) []) (sym (kept_more nrs k))
 
-      takes-now : AllCame (length bs) now → Comes (some (joined bs))
-      takes-now all = rw (whole_all 0 bs now (λ j h h'. all j (omega arith))) at comes-now
+      takes_now : AllCame (length bs) now → Comes (some (joined bs))
+      takes_now all = rw (whole_all 0 bs now (λ j h h'. all j (omega arith))) at comes_now
 
   -- with what a session's store is, all of the promise
   right_of : (nrs : List ℕ) (l : Local) → l.store ≡ kept_after bs st nrs → RebuildsRight bs (joined bs) st nrs l
@@ -222,7 +222,7 @@ module _ (bs : List (List ℕ)) (w : Within bs) (st : FragmentStore) (fresh : Fr
       record {
         kept = e;
         either = λ k h. ⊎_elim (λ m. inl (h, m)) (λ all. inr (h, all)) (missing_or_all (length bs) (nrs ++ (k ∷ [])));
-        waits = λ k moment stream p. waits-now nrs k p.0 l e moment stream p.1;
+        waits = λ k moment stream p. waits_now nrs k p.0 l e moment stream p.1;
         takes_effect = takes;
         emptied = λ k moment stream p. ap (λ (x : Working). (leaves x).store) (takes k moment stream p) ∙ onto_store _ _;
         refused = λ k moment stream p r f. takes k moment stream p ∙ none_brought moment stream (rebuilt_reading (joined bs)) _ (reading_refused (joined bs) r f);
@@ -230,7 +230,7 @@ module _ (bs : List (List ℕ)) (w : Within bs) (st : FragmentStore) (fresh : Fr
     where
       takes : (k : ℕ) (moment : Moment) (stream : ℕ) → Completes bs nrs k
           → handle l (fragment_of bs k moment stream) ≡ onto (rebuilt_from moment stream (rebuilt_reading (joined bs))) (done (with_store (touched moment.time l) empty_store) [])
-      takes k moment stream p = takes-now nrs k p.0 l e moment stream p.1
+      takes k moment stream p = takes_now nrs k p.0 l e moment stream p.1
 
 -- ---- the life of a session
 
@@ -240,7 +240,7 @@ module _ (bs : List (List ℕ)) (l : Local) (w : Within bs) (fresh : Fresh bs l.
   fed_store nrs l' (other nrs₀ l₀ i f e) = other_store l₀ i e ∙ fed_store nrs₀ l₀ f
   fed_store nrs l' (answer nrs₀ l₀ p a f) = resumed_store l₀ p a ∙ fed_store nrs₀ l₀ f
   fed_store nrs l' (fragment nrs₀ l₀ k moment stream f p) =
-      ap (λ (x : Working). (leaves x).store) (waits-now bs w l.store fresh nrs₀ k p.0 l₀ (fed_store nrs₀ l₀ f) moment stream p.1)
+      ap (λ (x : Working). (leaves x).store) (waits_now bs w l.store fresh nrs₀ k p.0 l₀ (fed_store nrs₀ l₀ f) moment stream p.1)
 
 -- "Term 2's sentence on fragments here holds"
 pub rebuilds_right : RebuildsBodies

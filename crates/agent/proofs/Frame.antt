@@ -884,7 +884,7 @@ module _ (id : ℕ) where
   then_fragments : (t u v : Tables) → FragmentsKept t u → FragmentsKept u v → FragmentsKept t v
   then_fragments t u v a b = record {
     parts_kept = inside_then (its_parts t) t.parts u.parts v.parts a.parts_kept (subst (λ (b : Stretch). Inside b u.parts v.parts) parts_same b.parts_kept);
-    lengths_kept_lem = inside_then (its_lengths t) t.lengths u.lengths v.lengths a.lengths_kept_lem (subst (λ (b : Stretch). Inside b u.lengths v.lengths) lengths-same b.lengths_kept_lem);
+    lengths_kept_lem = inside_then (its_lengths t) t.lengths u.lengths v.lengths a.lengths_kept_lem (subst (λ (b : Stretch). Inside b u.lengths v.lengths) lengths_same b.lengths_kept_lem);
     rebuilt_kept = (b.rebuilt_kept.0 ∙ a.rebuilt_kept.0, b.rebuilt_kept.1 ∙ a.rebuilt_kept.1);
     stays = stays_then id t.sessions u.sessions v.sessions a.stays b.stays;
   }
@@ -892,8 +892,8 @@ module _ (id : ℕ) where
       parts_same : its_parts u ≡ its_parts t
       parts_same = λ i. slot_stretch store_bytes (a.stays.1 i) (a.parts_kept.0 i)
 
-      lengths-same : its_lengths u ≡ its_lengths t
-      lengths-same = λ i. slot_stretch most_fragments (a.stays.1 i) (a.lengths_kept_lem.0 i)
+      lengths_same : its_lengths u ≡ its_lengths t
+      lengths_same = λ i. slot_stretch most_fragments (a.stays.1 i) (a.lengths_kept_lem.0 i)
 
   gather_kept : (t : Tables) (nr total : ℕ) (body : List ℕ) → FragmentsKept t (gather_tables t id nr total body)
   gather_kept t nr total body =

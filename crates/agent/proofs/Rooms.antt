@@ -112,15 +112,15 @@ module _ (f : Frame) (room : ℕ) where
         e : told_in x 0 ≡ told_in y 0
         e = inside_alike t r wrote
 
-        inWork : Frame → Ran → Rows → Acted
-        inWork f r t = work_in left f h d r t
+        in_work : Frame → Ran → Rows → Acted
+        in_work f r t = work_in left f h d r t
 
-        by : (b : Bool) → ((r : Ran) (wrote : ℕ) (t : Rows) → told_in (inWork f r t) 0 ≡ told_in (inWork g (counting r wrote) t) 0)
-            → told_in (cond b (behind x.replies (inWork f x.ran x.rows)) (record { ran = r; rows = t; replies = [] })) 0
-            ≡ told_in (cond b (behind y.replies (inWork g y.ran y.rows)) (record { ran = counting r wrote; rows = t; replies = [] })) 0
+        by : (b : Bool) → ((r : Ran) (wrote : ℕ) (t : Rows) → told_in (in_work f r t) 0 ≡ told_in (in_work g (counting r wrote) t) 0)
+            → told_in (cond b (behind x.replies (in_work f x.ran x.rows)) (record { ran = r; rows = t; replies = [] })) 0
+            ≡ told_in (cond b (behind y.replies (in_work g y.ran y.rows)) (record { ran = counting r wrote; rows = t; replies = [] })) 0
         by true later =
             ap (behind x.replies) (later x.ran y.ran.wrote x.rows)
-            ∙ (λ i. behind (e i).replies (told_in (inWork g (counting (e i).ran y.ran.wrote) (e i).rows) 0))
+            ∙ (λ i. behind (e i).replies (told_in (in_work g (counting (e i).ran y.ran.wrote) (e i).rows) 0))
         by false later = refl
 
     work_alike : (r : Ran) (wrote : ℕ) (t : Rows) → told_in (work_at f h d r t) 0 ≡ told_in (work_at g h d (counting r wrote) t) 0
@@ -168,12 +168,12 @@ module _ (f : Frame) (room : ℕ) where
         y : Turned
         y = turned g t d (counting r wrote)
 
-        inRun : Frame → Ran → Tables → Turned
-        inRun f r t = run_in left f d r t
+        in_run : Frame → Ran → Tables → Turned
+        in_run f r t = run_in left f d r t
 
-        by : (b : Bool) → ((r : Ran) (wrote : ℕ) (t : Tables) → told (inRun f r t) 0 ≡ told (inRun g (counting r wrote) t) 0)
-            → told (cond b (before x (inRun f)) (record { ran = r; tables = t; replies = [] })) 0 ≡ told (cond b (before y (inRun g)) (record { ran = counting r wrote; tables = t; replies = [] })) 0
-        by true later = before_alike x y (turned_alike t r wrote) (inRun f) (inRun g) later
+        by : (b : Bool) → ((r : Ran) (wrote : ℕ) (t : Tables) → told (in_run f r t) 0 ≡ told (in_run g (counting r wrote) t) 0)
+            → told (cond b (before x (in_run f)) (record { ran = r; tables = t; replies = [] })) 0 ≡ told (cond b (before y (in_run g)) (record { ran = counting r wrote; tables = t; replies = [] })) 0
+        by true later = before_alike x y (turned_alike t r wrote) (in_run f) (in_run g) later
         by false later = refl
 
     run_alike : (r : Ran) (wrote : ℕ) (t : Tables) → told (run_at f d r t) 0 ≡ told (run_at g d (counting r wrote) t) 0

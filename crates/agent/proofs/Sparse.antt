@@ -446,7 +446,7 @@ module _ (f : Frame) (d : List ℕ) where
   fragment_goes : (t : Tables) (r : Ran) (x : Taken) → received mine t.sessions + 1 < x.asked.second → Goes 1 t (fragment_turned f t d r x)
   unfolding fragment_turned
   fragment_goes t r x low =
-      subst (λ (n : ℕ). Goes 1 t (whole_turned f v n r x.at)) (sym zero-long)
+      subst (λ (n : ℕ). Goes 1 t (whole_turned f v n r x.at)) (sym zero_long)
       (subst (λ (y : Rebuilt). Goes 1 t (with_acted v (left_by y f v.held (rebuilt_part v.rebuilt 0) 0 r x.at (rows_of v))))
       (whole_none (rebuilt_part v.rebuilt 0) (ap length (none_part v.rebuilt)))
       (record { more = omega (arith, touched, grows); silent = λ _. refl }))
@@ -463,8 +463,8 @@ module _ (f : Frame) (d : List ℕ) where
       grows : received mine v.sessions ≤ received mine u.sessions + 1
       grows = gathered_grows mine u.sessions u.parts u.lengths u.rebuilt x.asked.first x.asked.second (part_of d x.body)
 
-      zero-long : whole_len (gathered u.sessions u.parts u.lengths u.rebuilt mine x.asked.first x.asked.second (part_of d x.body)) ≡ 0
-      zero-long = (gathered_added mine u.sessions u.parts u.lengths u.rebuilt x.asked.first x.asked.second (part_of d x.body)).1 (omega (arith, touched, low))
+      zero_long : whole_len (gathered u.sessions u.parts u.lengths u.rebuilt mine x.asked.first x.asked.second (part_of d x.body)) ≡ 0
+      zero_long = (gathered_added mine u.sessions u.parts u.lengths u.rebuilt x.asked.first x.asked.second (part_of d x.body)).1 (omega (arith, touched, low))
 
   delivered_grows : (w : Named) (t : Rows) (h : List ℕ) (r : Ran) (x : Taken) → Grows mine 0 t.sessions (delivered w f t h d r x).rows.sessions
   delivered_grows named.Live t h r x =

@@ -25,7 +25,7 @@ use Rattle.sessions.specs.declared.table.Named.{Named}
 use Rattle.sessions.specs.declared.table.Named.TheVariants.{Live, NotLive}
 use Rattle.sessions.proofs.Reached.{named_when}
 use Rattle.sessions.proofs.SoundStreams.{stream_lasts}
-use Rattle.sessions.proofs.Steps.{same_led, put-led}
+use Rattle.sessions.proofs.Steps.{same_led, put_led}
 use Rattle.sessions.proofs.StepsSending.{send_led}
 use Rattle.sessions.proofs.ViewSending.{next_view, next_none, send_here, send_unopened, send_elsewhere}
 use Rattle.sessions.proofs.ViewStores as stores
@@ -120,7 +120,7 @@ module _ {most : ℕ} (t : Tables) (sound : SoundTables SoundStream most t) (few
           moves = refl;
           shows = put_here t id id< reached o slot (sound.each id id<).objects_differ ∙ ap (stores.with_objects (put_in l.objects (entry_of o))) (shown_live t id live);
           elsewhere = λ j q. put_elsewhere t id id< reached o slot j;
-          led = put-led SoundStream stream_lasts most t sound id id< o;
+          led = put_led SoundStream stream_lasts most t sound id id< o;
         }
 
     -- ---- a sample: on another stream than 0 it "takes the next send sequence in its header and is held" (W5)

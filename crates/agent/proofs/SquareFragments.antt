@@ -33,7 +33,7 @@ use Rattle.sessions.specs.declared.table.Named.TheVariants.{NotLive}
 use Rattle.sessions.proofs.SoundStreams.{stream_lasts}
 use Rattle.sessions.proofs.StepsFragments.{gather_led}
 use Rattle.sessions.proofs.ViewFragments as fragments
-use Rattle.sessions.proofs.ViewFragments.{store_of, whole_in, gather_still, gather-here, gather_elsewhere, gather-missing, gather-whole}
+use Rattle.sessions.proofs.ViewFragments.{store_of, whole_in, gather_still, gather_here, gather_elsewhere, gather_missing, gather_whole}
 use Rattle.sessions.proofs.ViewTable.{touch_elsewhere}
 use Rattle.moves.specs.Proxy.{call_as}
 use Rattle.moves.specs.Replies.{status_bytes, acknack_bytes}
@@ -222,73 +222,73 @@ module _ (f : Frame) (d : List ℕ) (max≤ : f.max_clients ≤ 255) (id< : f.se
       abbrev fragment : In
       fragment = in_of f.moment n (sub.Fragment p) bytes
 
-      abbrev touchedOnes : Tables
-      touchedOnes = touched_tables f t
+      abbrev touched_ones : Tables
+      touched_ones = touched_tables f t
 
       abbrev g : Tables
-      g = gather_tables touchedOnes id nr total bytes
+      g = gather_tables touched_ones id nr total bytes
 
       abbrev after : Local
       after = gathering p fragment l
 
-      led-touched : LeadsTo SoundStream max t touchedOnes
-      led-touched = touches_led t sound max≤ id id< f.moment
+      led_touched : LeadsTo SoundStream max t touched_ones
+      led_touched = touches_led t sound max≤ id id< f.moment
 
-      led-gathered : LeadsTo SoundStream max t g
-      led-gathered = led_on led-touched (gather_led SoundStream stream_lasts max touchedOnes led-touched.sound id id< nr total bytes)
+      led_gathered : LeadsTo SoundStream max t g
+      led_gathered = led_on led_touched (gather_led SoundStream stream_lasts max touched_ones led_touched.sound id id< nr total bytes)
 
-      shown : local_of touchedOnes id ≡ some (touched f.moment.time l)
+      shown : local_of touched_ones id ≡ some (touched f.moment.time l)
       shown = touch_shown t sound max≤ id id< f.moment l is
 
-      live : is_free touchedOnes.sessions id ≡ false
+      live : is_free touched_ones.sessions id ≡ false
       live = touch_live t sound max≤ id id< f.moment l is
 
-      store_is : store_of touchedOnes id ≡ l.store
-      store_is = ap (λ (x : Local). x.store) (same_local touchedOnes id (touched f.moment.time l) shown)
+      store_is : store_of touched_ones id ≡ l.store
+      store_is = ap (λ (x : Local). x.store) (same_local touched_ones id (touched f.moment.time l) shown)
 
-      gathered-shown : local_of g id ≡ some after
-      gathered-shown =
-          gather-here SoundStream max touchedOnes led-touched.sound max≤ id id< live nr total bytes
+      gathered_shown : local_of g id ≡ some after
+      gathered_shown =
+          gather_here SoundStream max touched_ones led_touched.sound max≤ id id< live nr total bytes
           ∙ (λ i. fragments.with_store (gathered_store (store_is i) nr total bytes) (shown i))
 
       others : (j : ℕ) → j < 256 → j ≢ id → local_of g j ≡ local_of t j
-      others j k h = gather_elsewhere SoundStream max touchedOnes led-touched.sound max≤ id id< nr total bytes j h k ∙ touch_elsewhere t id sound.sessions_need_lem id< f.moment.time j h
+      others j k h = gather_elsewhere SoundStream max touched_ones led_touched.sound max≤ id id< nr total bytes j h k ∙ touch_elsewhere t id sound.sessions_need_lem id< f.moment.time j h
 
-      abbrev inBytes : ℕ → List ℕ
-      inBytes k = rebuilt_part g.rebuilt k
+      abbrev in_bytes : ℕ → List ℕ
+      in_bytes k = rebuilt_part g.rebuilt k
 
       -- no rebuilt submessage takes effect
-      nothing-acts : Acts f d t r.next at (done after []) (record { ran = passed r at; tables = g; replies = [] })
-      nothing-acts = record {
+      nothing_acts : Acts f d t r.next at (done after []) (record { ran = passed r at; tables = g; replies = [] })
+      nothing_acts = record {
         after = after;
         bytes = [];
         replies = refl;
-        shows = gathered-shown;
+        shows = gathered_shown;
         moves = subst (λ (x : Stop). Moved f d g.rebuilt x after [] (done after [])) (sym idle) refl;
         elsewhere = others;
-        led = led-gathered;
+        led = led_gathered;
         pointer = refl;
         place = refl;
       }
 
       abbrev turned_by : ℕ → Rebuilt → Turned
-      turned_by k x = with_acted g (left_by x f g.held (inBytes k) k r at (rows_of g))
+      turned_by k x = with_acted g (left_by x f g.held (in_bytes k) k r at (rows_of g))
 
-      refused-acts : (k : ℕ) (x : Refusal) → rebuilt_of (inBytes k) ≡ rebuilt.Refused x → Acts f d t r.next at (done after []) (whole_turned f g k r at)
-      refused-acts k x e = subst (λ (y : Rebuilt). Acts f d t r.next at (done after []) (turned_by k y)) (sym e) nothing-acts
+      refused_acts : (k : ℕ) (x : Refusal) → rebuilt_of (in_bytes k) ≡ rebuilt.Refused x → Acts f d t r.next at (done after []) (whole_turned f g k r at)
+      refused_acts k x e = subst (λ (y : Rebuilt). Acts f d t r.next at (done after []) (turned_by k y)) (sym e) nothing_acts
 
       -- they are worked off, under the header of that datagram
-      passed_acts : (k m : ℕ) → k ≤ 32768 → rebuilt_of (inBytes k) ≡ rebuilt.Subs m
-          → Acts f d t r.next at (onto (brought_by fragment (some (inBytes k))) (done after [])) (whole_turned f g k r at)
+      passed_acts : (k m : ℕ) → k ≤ 32768 → rebuilt_of (in_bytes k) ≡ rebuilt.Subs m
+          → Acts f d t r.next at (onto (brought_by fragment (some (in_bytes k))) (done after [])) (whole_turned f g k r at)
       passed_acts k m few e =
-          let s = inBytes k in
+          let s = in_bytes k in
           let q = rebuilt_reads s 0 m (whole_reads s m e) in
           let xs = q.0 in
           let brings : brought_by fragment (some s) ≡ ins_at f.moment n s 0 =
           ap (λ (ys : List Said). map (λ (x : Said). in_of f.moment n x.fields x.body) ys) (reading_passed s m xs e q.1)
           ∙ map-map (λ (x : Said). in_of f.moment n x.fields x.body) (said_in s) xs
           ∙ ap (ins_from f.moment n s) (sym q.1) in
-          let w = work_square f s g max≤ id< n< (entered_ran r) (rows_of g) after xs led-gathered.sound gathered-shown refl (omega arith) q.1 q.2 in
+          let w = work_square f s g max≤ id< n< (entered_ran r) (rows_of g) after xs led_gathered.sound gathered_shown refl (omega arith) q.1 q.2 in
           let a = left_acts f d g (entered_ran r) (rows_of g) after (work_at f g.held s (entered_ran r) (rows_of g)) k at few w [] in
           subst (λ (y : Rebuilt). Acts f d t r.next at (onto (brought_by fragment (some s)) (done after [])) (turned_by k y)) (sym e)
           (subst (λ (js : List In). Acts f d t r.next at (onto js (done after [])) (turned_by k (rebuilt.Subs m))) (sym brings)
@@ -299,43 +299,43 @@ module _ (f : Frame) (d : List ℕ) (max≤ : f.max_clients ≤ 255) (id< : f.se
             shows = a.shows;
             moves = a.moves;
             elsewhere = λ j k h. a.elsewhere j k h ∙ others j k h;
-            led = led_on led-gathered a.led;
+            led = led_on led_gathered a.led;
             pointer = a.pointer;
             place = a.place;
           })
 
-      whole-acts : (k : ℕ) → k ≤ 32768 → (x : Rebuilt) → rebuilt_of (inBytes k) ≡ x → Acts f d t r.next at (onto (brought_by fragment (some (inBytes k))) (done after [])) (whole_turned f g k r at)
+      whole_acts : (k : ℕ) → k ≤ 32768 → (x : Rebuilt) → rebuilt_of (in_bytes k) ≡ x → Acts f d t r.next at (onto (brought_by fragment (some (in_bytes k))) (done after [])) (whole_turned f g k r at)
       unfolding onto
-      whole-acts k few (rebuilt.Subs m) e = passed_acts k m few e
-      whole-acts k few (rebuilt.Refused x) e =
-          subst (λ (w : Working). Acts f d t r.next at w (whole_turned f g k r at)) (sym (none_brought x e)) (refused-acts k x e)
+      whole_acts k few (rebuilt.Subs m) e = passed_acts k m few e
+      whole_acts k few (rebuilt.Refused x) e =
+          subst (λ (w : Working). Acts f d t r.next at w (whole_turned f g k r at)) (sym (none_brought x e)) (refused_acts k x e)
         where
-          none_brought : (x : Refusal) → rebuilt_of (inBytes k) ≡ rebuilt.Refused x → onto (brought_by fragment (some (inBytes k))) (done after []) ≡ done after []
-          none_brought x e = ap (λ (ys : List Said). onto (map (λ (x : Said). in_of f.moment n x.fields x.body) ys) (done after [])) (reading_refused (inBytes k) x e)
+          none_brought : (x : Refusal) → rebuilt_of (in_bytes k) ≡ rebuilt.Refused x → onto (brought_by fragment (some (in_bytes k))) (done after []) ≡ done after []
+          none_brought x e = ap (λ (ys : List Said). onto (map (λ (x : Said). in_of f.moment n x.fields x.body) ys) (done after [])) (reading_refused (in_bytes k) x e)
 
       abbrev answer : Gathered
-      answer = gathered touchedOnes.sessions touchedOnes.parts touchedOnes.lengths touchedOnes.rebuilt id nr total bytes
+      answer = gathered touched_ones.sessions touched_ones.parts touched_ones.lengths touched_ones.rebuilt id nr total bytes
 
-      answered-acts : (o : Option (List ℕ)) → gathered_bytes (store_of touchedOnes id) nr total bytes ≡ o → Acts f d t r.next at (onto (brought_by fragment o) (done after [])) (whole_turned f g (whole_len answer) r at)
+      answered_acts : (o : Option (List ℕ)) → gathered_bytes (store_of touched_ones id) nr total bytes ≡ o → Acts f d t r.next at (onto (brought_by fragment o) (done after [])) (whole_turned f g (whole_len answer) r at)
       unfolding onto
-      answered-acts none e =
-          let k = whole_missing answer (gather-missing SoundStream max touchedOnes led-touched.sound max≤ id id< live nr total bytes e) in
-          subst (λ (k : ℕ). Acts f d t r.next at (done after []) (whole_turned f g k r at)) (sym k) (refused-acts 0 BufferTooShort (no_bytes g.rebuilt))
-      answered-acts (some whole) e =
-          let w = gather-whole SoundStream max touchedOnes led-touched.sound max≤ id id< live nr total bytes whole e in
-          let long = led-gathered.sound.rebuilt_need_lem in
+      answered_acts none e =
+          let k = whole_missing answer (gather_missing SoundStream max touched_ones led_touched.sound max≤ id id< live nr total bytes e) in
+          subst (λ (k : ℕ). Acts f d t r.next at (done after []) (whole_turned f g k r at)) (sym k) (refused_acts 0 BufferTooShort (no_bytes g.rebuilt))
+      answered_acts (some whole) e =
+          let w = gather_whole SoundStream max touched_ones led_touched.sound max≤ id id< live nr total bytes whole e in
+          let long = led_gathered.sound.rebuilt_need_lem in
           let few = w.2 in
           let s = part_is g.rebuilt whole (omega (arith, long, few)) w.1 in
           subst (λ (k : ℕ). Acts f d t r.next at (onto (brought_by fragment (some whole)) (done after [])) (whole_turned f g k r at)) (sym (ap whole_len w.0))
           (subst (λ (s : List ℕ). Acts f d t r.next at (onto (brought_by fragment (some s)) (done after [])) (whole_turned f g (length whole) r at)) s
-          (whole-acts (length whole) few (rebuilt_of (inBytes (length whole))) refl))
+          (whole_acts (length whole) few (rebuilt_of (in_bytes (length whole))) refl))
 
       pub fragment_acts : Acts f d t r.next at (onto (brought p fragment l) (done (gathering p fragment l) [])) (fragment_turned f t d r taken)
       unfolding fragment_turned
       fragment_acts =
           subst (λ (o : Option (List ℕ)). Acts f d t r.next at (onto (brought_by fragment o) (done after [])) (whole_turned f g (whole_len answer) r at))
           (ap (λ (st : FragmentStore). gathered_bytes st nr total bytes) store_is)
-          (answered-acts (gathered_bytes (store_of touchedOnes id) nr total bytes) refl)
+          (answered_acts (gathered_bytes (store_of touched_ones id) nr total bytes) refl)
 
     -- a FRAGMENT of a session that is not live
     pub fragment_quiet : is_free t.sessions id ≡ true → named_of t.sessions id ≡ NotLive → Quiet t r.next at (fragment_turned f t d r taken)

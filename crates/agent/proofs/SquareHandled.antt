@@ -21,7 +21,7 @@ use Rattle.sessions.specs.Calls.{SoundStream, SoundTables, LeadsTo, with_session
 use Rattle.sessions.specs.declared.room.Room.{Room}
 use Rattle.sessions.specs.declared.room.Room.TheVariants as room
 use Rattle.sessions.proofs.SoundStreams.{stream_lasts}
-use Rattle.sessions.proofs.Steps.{same_led, touch_led, put-led, drop-led}
+use Rattle.sessions.proofs.Steps.{same_led, touch_led, put_led, drop_led}
 use Rattle.sessions.proofs.ViewTable.{touched_local, touch_here, touch_elsewhere}
 use Rattle.agent.specs.Lent.{rows_of, with_rows}
 use Rattle.agent.specs.Local.{touched}
@@ -33,7 +33,7 @@ use Rattle.agent.specs.declared.state.Moment.{Moment}
 use Rattle.agent.proofs.Square.{led_on, shown_at, handled_in, Meets, Squares, shown_live, live_shown, same_local}
 use Rattle.agent.proofs.SquareObjects.{create_square, delete_square, write_square}
 use Rattle.agent.proofs.SquareReads.{reads_led, read_square}
-use Rattle.agent.proofs.SquareStreams.{opens_led, acks_led, heartbeat_square, acknack-square}
+use Rattle.agent.proofs.SquareStreams.{opens_led, acks_led, heartbeat_square, acknack_square}
 
 module _ {most : ℕ} (t : Tables) (sound : SoundTables SoundStream most t) (few : most ≤ 255) (id : ℕ) (id< : id < 256) where
   abbrev stays_led : LeadsTo SoundStream most t t
@@ -47,8 +47,8 @@ module _ {most : ℕ} (t : Tables) (sound : SoundTables SoundStream most t) (few
           → LeadsTo SoundStream most t (with_rows t (rows (created_sessions k t.sessions t.objects id p.object_id p.parent_id) t.streams (created_objects k t.sessions t.objects id p.object_id p.parent_id)))
       by Participant = stays_led
       by Topic = stays_led
-      by Publisher = put-led SoundStream stream_lasts most t sound id id< (implicit_of p.object_id 3 p.parent_id)
-      by Subscriber = put-led SoundStream stream_lasts most t sound id id< (implicit_of p.object_id 4 p.parent_id)
+      by Publisher = put_led SoundStream stream_lasts most t sound id id< (implicit_of p.object_id 3 p.parent_id)
+      by Subscriber = put_led SoundStream stream_lasts most t sound id id< (implicit_of p.object_id 4 p.parent_id)
       by DataWriter = stays_led
       by DataReader = stays_led
   create_led p room.Full = stays_led
@@ -60,7 +60,7 @@ module _ {most : ℕ} (t : Tables) (sound : SoundTables SoundStream most t) (few
     pub handled_led : (m : Submessage) → LeadsTo SoundStream most t (handled_in m t id n)
     handled_led (sub.CreateClient p) = stays_led
     handled_led (sub.Create p) = create_led p (room_of t.sessions t.objects id p.object_id)
-    handled_led (sub.Delete p) = drop-led SoundStream stream_lasts most t sound id id< p.object_id
+    handled_led (sub.Delete p) = drop_led SoundStream stream_lasts most t sound id id< p.object_id
     handled_led (sub.Status p) = stays_led
     handled_led (sub.WriteData p) = stays_led
     handled_led (sub.ReadData p) = reads_led t sound few id id< live n n< (found_handle (found_object t.sessions t.objects id p.reader_id))
@@ -74,17 +74,17 @@ module _ {most : ℕ} (t : Tables) (sound : SoundTables SoundStream most t) (few
       nothing : Meets t d id n (done (shown_at t id) []) t Silent
       nothing = record { after = shown_at t id; shows = shown_live t id live; moves = refl; elsewhere = λ j h. refl }
 
-      pub handled-square : (m : Submessage) → Squares is_open m t d id n body
-      handled-square (sub.CreateClient p) = nothing
-      handled-square (sub.Create p) = create_square t sound id id< live d n body p is_open
-      handled-square (sub.Delete p) = delete_square t sound id id< live d n body is_open p
-      handled-square (sub.Status p) = nothing
-      handled-square (sub.WriteData p) = write_square t sound id id< live d n body is_open p
-      handled-square (sub.ReadData p) = read_square t sound few id id< live n n< is_open d body p
-      handled-square (sub.Data p) = nothing
-      handled-square (sub.Heartbeat p) = heartbeat_square t sound few id id< live n n< d is_open p body
-      handled-square (sub.Acknack p) = acknack-square t sound few id id< live n n< p d is_open body
-      handled-square (sub.Fragment p) = nothing
+      pub handled_square : (m : Submessage) → Squares is_open m t d id n body
+      handled_square (sub.CreateClient p) = nothing
+      handled_square (sub.Create p) = create_square t sound id id< live d n body p is_open
+      handled_square (sub.Delete p) = delete_square t sound id id< live d n body is_open p
+      handled_square (sub.Status p) = nothing
+      handled_square (sub.WriteData p) = write_square t sound id id< live d n body is_open p
+      handled_square (sub.ReadData p) = read_square t sound few id id< live n n< is_open d body p
+      handled_square (sub.Data p) = nothing
+      handled_square (sub.Heartbeat p) = heartbeat_square t sound few id id< live n n< d is_open p body
+      handled_square (sub.Acknack p) = acknack_square t sound few id id< live n n< p d is_open body
+      handled_square (sub.Fragment p) = nothing
 
 -- ---- with the touch: "The time becomes the last activity; then the rules above work on its lists alone."
 
@@ -115,7 +115,7 @@ module _ {most : ℕ} (t : Tables) (sound : SoundTables SoundStream most t) (few
     pub turn_square : (d : List ℕ) (body : Span)
         → Meets t d id n (plain l (record { moment = moment; stream = n; fields = m; body = part_of d body })) (handled_in m u id n) (handled_move moment.is_open (asks_of m) (rows_of u) d id n body)
     turn_square d body =
-        let q = handled-square u touches_led.sound few id id< (touch_live l is) n n< d body moment.is_open m in
+        let q = handled_square u touches_led.sound few id id< (touch_live l is) n n< d body moment.is_open m in
         record {
           after = q.after;
           shows = q.shows;

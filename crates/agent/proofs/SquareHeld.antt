@@ -53,9 +53,9 @@ module _ (most : ℕ) (t : Tables) (sound : SoundTables SoundStream most t) (few
     place = data_slot t.sessions t.streams (length t.held) id n len
 
     module _ (live : is_free t.sessions id ≡ false) where
-      in-stream : (x : Option KeptStream) → stream_in (shown_at t id).streams n ≡ x → placed_judged place j ≡ refused_if (crowded x)
-      in-stream none e = ap (λ (a : Slot). placed_judged a j) (slot_none most t sound few id id< live n len e)
-      in-stream (some k) e = by (crowded (some k)) refl
+      in_stream : (x : Option KeptStream) → stream_in (shown_at t id).streams n ≡ x → placed_judged place j ≡ refused_if (crowded x)
+      in_stream none e = ap (λ (a : Slot). placed_judged a j) (slot_none most t sound few id id< live n len e)
+      in_stream (some k) e = by (crowded (some k)) refl
         where
           by : (b : Bool) → crowded (some k) ≡ b → placed_judged place j ≡ refused_if b
           by true c = ap (λ (a : Slot). placed_judged a j) (slot_full most t sound few id id< live n len k other e short c)
@@ -75,7 +75,7 @@ module _ (most : ℕ) (t : Tables) (sound : SoundTables SoundStream most t) (few
         by true e =
             let z : local_of t id ≡ none = rw e refl in
             ap (λ (a : Slot). placed_judged a j) (gone_place e) ∙ sym (ap (λ x. refused_if (crowded_in n x)) (at_in t id id< ∙ z))
-        by false e = in-stream e (stream_in (shown_at t id).streams n) refl ∙ sym (ap (λ x. refused_if (crowded_in n x)) (at_in t id id< ∙ shown_live t id e))
+        by false e = in_stream e (stream_in (shown_at t id).streams n) refl ∙ sym (ap (λ x. refused_if (crowded_in n x)) (at_in t id id< ∙ shown_live t id e))
 
   -- ten bytes of headers and number are counted
   long_same : ltb 1024 (length (data_bytes id n 0 p.number.0 sample)) ≡ ltb 1014 (length sample)

@@ -63,10 +63,10 @@ module _ {most : ℕ} (t : Tables) (sound : SoundTables SoundStream most t) wher
     swept_local (suc j) h = sweep_view time timeout t (suc j) sound.sessions_need_lem (omega arith) h ∙ stays_as (local_of t (suc j))
 
     pub swept_view : (next : ℕ) → view_of next swept ≡ record { next = next; at = λ j. stays timeout time (session_in t j) }
-    swept_view next = λ i. record { next = next; at = λ j. at-swept j i }
+    swept_view next = λ i. record { next = next; at = λ j. at_swept j i }
       where
-        at-swept : (j : ℕ) → session_in swept j ≡ stays timeout time (session_in t j)
-        at-swept j = by (ltb j 256) refl
+        at_swept : (j : ℕ) → session_in swept j ≡ stays timeout time (session_in t j)
+        at_swept j = by (ltb j 256) refl
           where
             by : (b : Bool) → ltb j 256 ≡ b → cond b (local_of swept j) none ≡ stays timeout time (cond b (local_of t j) none)
             by true e = swept_local j (ltb-true j 256 e)

@@ -107,13 +107,13 @@ module _ {most : ℕ} (t : Tables) (sound : SoundTables SoundStream most t) (id 
   named_view : (parent : ℕ)
       → handles_named l.objects parent
       ≡ both_handles (handle_shown (handle_of_kind (found_at (parent_of (found_at (record { 0 = parent })))) 1)) (handle_shown (handle_of_kind (found_at (record { 0 = parent })) 2))
-  named_view parent = ap (λ (x : Option Entry). handles_above l.objects (of_kind Topic x)) (found-view (record { 0 = parent })) ∙ by (found_at (record { 0 = parent }))
+  named_view parent = ap (λ (x : Option Entry). handles_above l.objects (of_kind Topic x)) (found_view (record { 0 = parent })) ∙ by (found_at (record { 0 = parent }))
     where
-      found-view : (number : ObjectNumber) → find_in l.objects number.0 ≡ entry_found (found_at number)
-      found-view number = sym (find_view t id id< (reach_objects t sound id id< live) (sound.each id id<).objects_differ number)
+      found_view : (number : ObjectNumber) → find_in l.objects number.0 ≡ entry_found (found_at number)
+      found_view number = sym (find_view t id id< (reach_objects t sound id id< live) (sound.each id id<).objects_differ number)
 
       above : (number : ObjectNumber) → entry_handle (of_kind Participant (find_in l.objects number.0)) ≡ handle_shown (handle_of_kind (found_at number) 1)
-      above number = ap (λ (x : Option Entry). entry_handle (of_kind Participant x)) (found-view number) ∙ sym (kind_shown Participant (found_at number))
+      above number = ap (λ (x : Option Entry). entry_handle (of_kind Participant x)) (found_view number) ∙ sym (kind_shown Participant (found_at number))
 
       topic : (o : Object) (b : Bool)
           → handles_above l.objects (cond b (some (entry_of o)) none) ≡ both_handles (handle_shown (handle_of_kind (found_at (record { 0 = o.parent })) 1)) (handle_shown (cond b (handle_of o) Implicit))

@@ -43,7 +43,7 @@ use Rattle.agent.specs.Brings.{In, in_of}
 use Rattle.agent.specs.Lent.{with_rows}
 use Rattle.agent.specs.Place.{ins_at}
 use Rattle.agent.specs.RulesFragments.{Working, plain, behind, onto}
-use Rattle.agent.specs.Run.{Acted, acted, delivered, repeats_in, touched_in, taken_of, inside_by, inside_turned, is_call, goes_on, work_in, work_at}
+use Rattle.agent.specs.Run.{Acted, acted, delivered, repeats_in, touched_in, taken_of, inside_by, inside_turned, is_call, goes_on_lem, work_in, work_at}
 use Rattle.agent.specs.Step.{Reply, replied}
 use Rattle.agent.specs.declared.turn.Frame.{Frame}
 use Rattle.agent.specs.declared.turn.Ran.{Ran}
@@ -127,17 +127,17 @@ module _ (f : Frame) (s : List ℕ) (t : Tables) where
   abbrev then : Acted → Acted → Acted
   then x y = record { ran = y.ran; rows = y.rows; replies = x.replies ++ y.replies }
 
-  work_ends : (left : ℕ) (r : Ran) (from : Rows) → goes_on (length s) r ≡ false → work_in left f h s r from ≡ idle r from
+  work_ends : (left : ℕ) (r : Ran) (from : Rows) → goes_on_lem (length s) r ≡ false → work_in left f h s r from ≡ idle r from
   unfolding work_in
   work_ends zero r from e = refl
   work_ends (suc left) r from e = rw e refl
 
-  work_more : (left : ℕ) (r : Ran) (from : Rows) → goes_on (length s) r ≡ true
+  work_more : (left : ℕ) (r : Ran) (from : Rows) → goes_on_lem (length s) r ≡ true
       → work_in (suc left) f h s r from ≡ then (inside_turned f from h s r) (work_in left f h s (inside_turned f from h s r).ran (inside_turned f from h s r).rows)
   unfolding work_in
   work_more left r from e = rw e refl
 
-  idle_goes : (r : Ran) → r.stop ≡ stop.Nothing → goes_on (length s) r ≡ ltb r.at (length s)
+  idle_goes : (r : Ran) → r.stop ≡ stop.Nothing → goes_on_lem (length s) r ≡ ltb r.at (length s)
   idle_goes r e = ap (λ (x : Stop). cond (is_call x) false (ltb r.at (length s))) e
 
   -- ---- "No such session": nothing is done
@@ -166,7 +166,7 @@ module _ (f : Frame) (s : List ℕ) (t : Tables) where
     still_in : (left : ℕ) (r : Ran) → Still r from (work_in left f h s r from)
     unfolding work_in
     still_in zero r = record { rows = refl; replies = refl; next = refl; stop = refl }
-    still_in (suc left) r = by (goes_on (length s) r) (λ r'. still_in left r')
+    still_in (suc left) r = by (goes_on_lem (length s) r) (λ r'. still_in left r')
       where
         x : Acted
         x = inside_turned f from h s r
@@ -222,9 +222,9 @@ module _ (f : Frame) (s : List ℕ) (t : Tables) where
       abbrev spoke : ℕ → Stop → List Reply → Acted
       spoke wrote x rs = record { ran = record { next = r.next; at = at; wrote = wrote; stop = x }; rows = to; replies = rs }
 
-      next-is : (bs : List Bytes) → onto (ins_from r.at) (done l bs) ≡ behind bs (onto (ins_from at) (plain l i))
+      next_is : (bs : List Bytes) → onto (ins_from r.at) (done l bs) ≡ behind bs (onto (ins_from at) (plain l i))
       unfolding onto
-      next-is bs = ap (λ (xs : List In). onto xs (done l bs)) more
+      next_is bs = ap (λ (xs : List In). onto xs (done l bs)) more
 
       speaks : (wrote : ℕ) (bytes : List Bytes) → plain l i ≡ done after bytes → Works f s t r from l (then (spoke wrote stop.Nothing (map (replied id) bytes)) (work_in left f h s (spoke wrote stop.Nothing []).ran to))
       speaks wrote bytes e =
@@ -236,7 +236,7 @@ module _ (f : Frame) (s : List ℕ) (t : Tables) where
             replies = ap (λ (rs : List Reply). map (replied id) bytes ++ rs) y.replies ∙ map_behind id bytes y.bytes;
             shows = y.shows;
             moves = λ bs. subst (Worked f s z.ran.stop z.ran.at y.after (bs ++ (bytes ++ y.bytes)))
-                (sym (next-is bs ∙ ap (λ (m : _). behind bs (onto (ins_from at) m)) e))
+                (sym (next_is bs ∙ ap (λ (m : _). behind bs (onto (ins_from at) m)) e))
                 (worked_behind f s z.ran.stop z.ran.at y.after bs (bytes ++ y.bytes) (onto (ins_from at) (done after bytes)) (y.moves bytes));
             elsewhere = λ j k. y.elsewhere j k ∙ elsewhere j k;
             led = led_on led y.led;
@@ -254,7 +254,7 @@ module _ (f : Frame) (s : List ℕ) (t : Tables) where
             bytes = [];
             replies = refl;
             shows = shows;
-            moves = λ bs. (some_bytes, next-is bs ∙ ap (λ (m : _). behind bs (onto (ins_from at) m)) e ∙ ap (behind bs) (onto_calls (ins_from at) after [] (call_as s call) (asked_as f number task)));
+            moves = λ bs. (some_bytes, next_is bs ∙ ap (λ (m : _). behind bs (onto (ins_from at) m)) e ∙ ap (behind bs) (onto_calls (ins_from at) after [] (call_as s call) (asked_as f number task)));
             elsewhere = elsewhere;
             led = led;
             next = refl;

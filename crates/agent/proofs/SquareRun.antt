@@ -36,7 +36,7 @@ use Rattle.agent.specs.RulesFragments.{Working, plain, onto, brought, gathering}
 use Rattle.moves.specs.Rows.{asks_of}
 use Rattle.agent.specs.Lent.{rows_of, with_rows, rebuilt_part}
 use Rattle.agent.specs.Place.{subs_at, ins_at}
-use Rattle.agent.specs.Run.{Turned, stop_of, greeting, id_opened, opening, delivered, with_acted, fragment_turned, turned_by, turned, is_call, goes_on, before, run_in, run_at}
+use Rattle.agent.specs.Run.{Turned, stop_of, greeting, id_opened, opening, delivered, with_acted, fragment_turned, turned_by, turned, is_call, goes_on_lem, before, run_in, run_at}
 use Rattle.agent.specs.Step as agent
 use Rattle.agent.specs.Step.{Open, Reply, opened, behind, keep, act, deliver, run, open_as}
 use Rattle.agent.specs.Whole.{session_in}
@@ -191,26 +191,26 @@ module _ (f : Frame) (d : List ℕ) (max≤ : f.max_clients ≤ 255) (id< : f.se
       abbrev c : Created
       c = created_of t.sessions t.streams max r.next
 
-      greets-on : (c : Created) → stop_of (greeting c) ≡ stop.Nothing
-      greets-on (created.Opened i k) = refl
-      greets-on (created.Refused x) = refl
+      greets_on : (c : Created) → stop_of (greeting c) ≡ stop.Nothing
+      greets_on (created.Opened i k) = refl
+      greets_on (created.Refused x) = refl
 
-      client-goes : runs (opens o ∷ rest_at at) v ≡ behind (opened (id_opened c) ∷ []) (runs (rest_at at) (view_of (opening f t r key at).ran.next (create_tables c t key f.moment.time)))
+      client_goes : runs (opens o ∷ rest_at at) v ≡ behind (opened (id_opened c) ∷ []) (runs (rest_at at) (view_of (opening f t r key at).ran.next (create_tables c t key f.moment.time)))
       unfolding run
-      client-goes =
+      client_goes =
           ap (λ (x : Option ℕ). behind (opened x ∷ []) (runs (rest_at at) (open_as o v x))) (sym (chosen_view t max sound r.next max≤ low high))
           ∙ ap (λ (u : agent.Tables). behind (opened (id_opened c) ∷ []) (runs (rest_at at) u)) (open_view t max sound r.next max≤ low high key f.moment.time)
 
-      client-turns : Turns t (runs (opens o ∷ rest_at at) v) at (opening f t r key at)
-      client-turns =
+      client_turns : Turns t (runs (opens o ∷ rest_at at) v) at (opening f t r key at)
+      client_turns =
           let p = pointer_in t max sound r.next max≤ low high in
           record {
-            goes = client-goes ∙ ap (λ (s : Stop). onward_from s (opening f t r key at)) (sym (greets-on c));
+            goes = client_goes ∙ ap (λ (s : Stop). onward_from s (opening f t r key at)) (sym (greets_on c));
             led = creates_led t max sound r.next max≤ low high key f.moment.time;
             low = p.0;
             high = p.1;
             place = refl;
-            kept = subst (StopKept t.rebuilt) (sym (greets-on c)) tt;
+            kept = subst (StopKept t.rebuilt) (sym (greets_on c)) tt;
           }
 
     named_free : (b : Bool) → is_free t.sessions id ≡ b → named_of t.sessions id ≡ cond b NotLive Live
@@ -243,7 +243,7 @@ module _ (f : Frame) (d : List ℕ) (max≤ : f.max_clients ≤ 255) (id< : f.se
     sub_turns : (m : Submessage) (body : Span) (k : Cursor)
         → Turns t (runs (sub_from f.moment n m (part_of d body) ∷ rest_at k.at) (view_of r.next t)) k.at (turned_by (parsed.Sub m body k) f t d r)
     unfolding run
-    sub_turns (sub.CreateClient p) body k = client-turns t sound r idle low high k.at p.client_key
+    sub_turns (sub.CreateClient p) body k = client_turns t sound r idle low high k.at p.client_key
     sub_turns (sub.Create p) body k = plain_turns t sound r idle low high k.at (sub.Create p) body
     sub_turns (sub.Delete p) body k = plain_turns t sound r idle low high k.at (sub.Delete p) body
     sub_turns (sub.Status p) body k = plain_turns t sound r idle low high k.at (sub.Status p) body
@@ -265,16 +265,16 @@ module _ (f : Frame) (d : List ℕ) (max≤ : f.max_clients ≤ 255) (id< : f.se
   idle_run r t = record { ran = r; tables = t; replies = [] }
 
   -- a run that is at the end, or whose call is handed out
-  run_ends : (left : ℕ) (r : Ran) (t : Tables) → goes_on (length d) r ≡ false → run_in left f d r t ≡ idle_run r t
+  run_ends : (left : ℕ) (r : Ran) (t : Tables) → goes_on_lem (length d) r ≡ false → run_in left f d r t ≡ idle_run r t
   unfolding run_in
   run_ends zero r t e = refl
   run_ends (suc left) r t e = rw e refl
 
-  run_more : (left : ℕ) (r : Ran) (t : Tables) → goes_on (length d) r ≡ true → run_in (suc left) f d r t ≡ before (turned f t d r) (λ r' t'. run_in left f d r' t')
+  run_more : (left : ℕ) (r : Ran) (t : Tables) → goes_on_lem (length d) r ≡ true → run_in (suc left) f d r t ≡ before (turned f t d r) (λ r' t'. run_in left f d r' t')
   unfolding run_in
   run_more left r t e = rw e refl
 
-  idle_goes : (r : Ran) → r.stop ≡ stop.Nothing → goes_on (length d) r ≡ ltb r.at (length d)
+  idle_goes : (r : Ran) → r.stop ≡ stop.Nothing → goes_on_lem (length d) r ≡ ltb r.at (length d)
   idle_goes r idle = ap (λ (s : Stop). cond (is_call s) false (ltb r.at (length d))) idle
 
   -- at the end of the datagram

@@ -326,7 +326,7 @@ module _ (t : Tables) (max : ℕ) (sound : SoundTables SoundStream max t) (timeo
       record {
         agent = ap (λ (u : step.Tables). record { max = max; timeout = timeout; is_open = open_in hours; tables = u; waits = none }) (remove_view t sound next id small);
         out = refl;
-        result = ap (λ (w : Named). removed_result (removed_as w)) (named_when t.sessions id sound.sessions_need_lem) ∙ live-is (is_free t.sessions id) refl;
+        result = ap (λ (w : Named). removed_result (removed_as w)) (named_when t.sessions id sound.sessions_need_lem) ∙ live_is (is_free t.sessions id) refl;
         inv = idle_inv (with_sessions t (ended_rows t.sessions id)) (remove_led SoundStream stream_lasts max t sound id small).sound;
       })
     where
@@ -338,9 +338,9 @@ module _ (t : Tables) (max : ℕ) (sound : SoundTables SoundStream max t) (timeo
           cond b (step.refuse (agent_of (state_with waiting.Nothing)) out 13 0)
           (record { agent = with_locals (agent_of (state_with waiting.Nothing)) (with_id id none (session_in t)); out = put_at out 0 []; result = step.removed (is_live (session_in t id)) })
 
-      live-is : (b : Bool) → is_free t.sessions id ≡ b → removed_result (removed_as (cond b named.NotLive named.Live)) ≡ step.removed (is_live (session_in t id))
-      live-is true e = let z : local_of t id ≡ none = rw e refl in sym (ap (λ (x : Option Local). step.removed (is_live x)) (at_in t id small ∙ z))
-      live-is false e = sym (ap (λ (x : Option Local). step.removed (is_live x)) (at_in t id small ∙ shown_live t id e))
+      live_is : (b : Bool) → is_free t.sessions id ≡ b → removed_result (removed_as (cond b named.NotLive named.Live)) ≡ step.removed (is_live (session_in t id))
+      live_is true e = let z : local_of t id ≡ none = rw e refl in sym (ap (λ (x : Option Local). step.removed (is_live x)) (at_in t id small ∙ z))
+      live_is false e = sym (ap (λ (x : Option Local). step.removed (is_live x)) (at_in t id small ∙ shown_live t id e))
 
   swept_sound : (now : ℕ) (out : List ℕ) → leb 256 (length t.sessions) ≡ true → ltb (length out) (length (expired_ids t.sessions now timeout)) ≡ false → SoundTables SoundStream max (with_sessions t (swept_rows t.sessions now timeout))
   unfolding evicted_rows
@@ -365,12 +365,12 @@ module _ (t : Tables) (max : ℕ) (sound : SoundTables SoundStream max t) (timeo
       lists : List ℕ → step.Did
       lists is = step.finish (agent_of (state_with waiting.Nothing)) out (with_locals (agent_of (state_with waiting.Nothing)) (λ i. stays timeout now (session_in t i))) is (step.swept is)
 
-      listsIf : Bool → step.Did
-      listsIf b =
+      lists_if : Bool → step.Did
+      lists_if b =
           cond b (step.refuse (agent_of (state_with waiting.Nothing)) out 13 0)
           (record { agent = with_locals (agent_of (state_with waiting.Nothing)) (λ i. stays timeout now (session_in t i)); out = put_at out 0 ids; result = step.swept ids })
 
-      by : (b : Bool) → ltb (length out) (length ids) ≡ b → Same (sweep_to (state_with waiting.Nothing) now b out) (listsIf b)
+      by : (b : Bool) → ltb (length out) (length ids) ≡ b → Same (sweep_to (state_with waiting.Nothing) now b out) (lists_if b)
       by true e = record { agent = refl; out = refl; result = refl; inv = idle_inv t sound }
       by false e =
           record {
@@ -417,50 +417,50 @@ module _ (t : Tables) (max : ℕ) (sound : SoundTables SoundStream max t) (timeo
       abbrev place : Slot
       place = answer_slot p b t.sessions t.streams (length t.held) n
 
-      abbrev restAs : Judged
-      restAs = cond (judge.too_long b n) (judged.Refused TooLong) (placed_judged place goes_on)
+      abbrev rest_as : Judged
+      rest_as = cond (judge.too_long b n) (judged.Refused TooLong) (placed_judged place goes_on)
 
       -- rebuilt bytes are as they were when the call was handed out
-      left-kept : left_kept (rebuilt_part t.rebuilt p.left_end) p ≡ true
-      left-kept =
+      left_kept_lem : left_kept (rebuilt_part t.rebuilt p.left_end) p ≡ true
+      left_kept_lem =
           let s = rebuilt_part t.rebuilt p.left_end in
           let q = w.left in
           ap (λ (e : Bool). cond e false (cond (ltb (length s) p.left_at) false (is_read (rebuilt_at s p.left_at)))) (le-ltb 32768 p.left_end q.few)
           ∙ ap (λ (e : Bool). cond e false (is_read (rebuilt_at s p.left_at))) (le-ltb (length s) p.left_at q.within)
           ∙ ap is_read (rebuilt_is s p.left_at q.said q.reads q.none_barred)
 
-      rest-judged : answer_judged lent t.rebuilt c Within p b n place (length out) ≡ restAs
+      rest_judged_lem : answer_judged lent t.rebuilt c Within p b n place (length out) ≡ rest_as
       unfolding count_at
-      rest-judged =
-          ap (λ (e : Bool). cond e (cond (left_kept (rebuilt_part t.rebuilt p.left_end) p) judgesRest (judged.Refused OverLimit)) (judged.Refused OverLimit)) (record_sound_lem (waiting.Call p))
-          ∙ ap (λ (e : Bool). cond e judgesRest (judged.Refused OverLimit)) left-kept
+      rest_judged_lem =
+          ap (λ (e : Bool). cond e (cond (left_kept (rebuilt_part t.rebuilt p.left_end) p) judges_rest (judged.Refused OverLimit)) (judged.Refused OverLimit)) (record_sound_lem (waiting.Call p))
+          ∙ ap (λ (e : Bool). cond e judges_rest (judged.Refused OverLimit)) left_kept_lem
           ∙ ap (λ (e : Bool). cond e (judged.Refused OverLimit) (judges (count_at (judge.header_of p) lent p.at))) (le-ltb (length lent) p.at w.within)
           ∙ ap (λ (i : Items). judges (checked_of (under (judge.header_of p) i))) w.reads.1
         where
           judges : Checked → Judged
           judges k = rest_judged c p b n place (length out) k
 
-          judgesRest : Judged
-          judgesRest = cond (ltb (length lent) p.at) (judged.Refused OverLimit) (judges (count_at (judge.header_of p) lent p.at))
+          judges_rest : Judged
+          judges_rest = cond (ltb (length lent) p.at) (judged.Refused OverLimit) (judges (count_at (judge.header_of p) lent p.at))
 
-      judge-answer : judge_of t [] lent c (input.Answer b) no_given n (length out) ≡ cond (fits (task_as p.task) (answer_as b [])) restAs (judged.Refused OutOfTurn)
+      judge_answer : judge_of t [] lent c (input.Answer b) no_given n (length out) ≡ cond (fits (task_as p.task) (answer_as b [])) rest_as (judged.Refused OutOfTurn)
       unfolding judge_of
-      judge-answer = by (fits (task_as p.task) (answer_as b []))
+      judge_answer = by (fits (task_as p.task) (answer_as b []))
         where
           by : (e : Bool)
               → (let x = cond e (turn.Answer p b) (turn.Refused OutOfTurn) in
               judged_by [] lent t.rebuilt c (limits_of t.sessions t.streams t.objects (length t.held) (length t.parts) t.lengths (length t.rebuilt) max (session_of lent x) (stream_of lent x)) x no_given n (slot_of x t.sessions t.streams (length t.held) n) (length out))
-              ≡ cond e restAs (judged.Refused OutOfTurn)
-          by true = ap (λ (l : Limits). answer_judged lent t.rebuilt c l p b n place (length out)) (limits session p.stream_id w.session_in_lem) ∙ rest-judged
+              ≡ cond e rest_as (judged.Refused OutOfTurn)
+          by true = ap (λ (l : Limits). answer_judged lent t.rebuilt c l p b n place (length out)) (limits session p.stream_id w.session_in_lem) ∙ rest_judged_lem
           by false = refl
 
       -- 14
       abbrev over : Bool
       over = step.over_held waits (answer_as b sample) (view_of next t)
 
-      answer-goes : over ≡ false → Same (did_by hours lent lent (finish c t out x (performed x t lent sample))) (settle (agent_of busy) out (continued max waits (answer_as b sample) (view_of next t)))
+      answer_goes : over ≡ false → Same (did_by hours lent lent (finish c t out x (performed x t lent sample))) (settle (agent_of busy) out (continued max waits (answer_as b sample) (view_of next t)))
       unfolding performed
-      answer-goes held =
+      answer_goes held =
           settles busy busy_inv out lent x w.session_in_lem w.stream_in_lem refl t (performed x t lent sample) (continued max waits (answer_as b sample) (view_of next t)) (performed_told x t lent sample)
           (turns_on f lent few w.session_in_lem w.stream_in_lem t (continued max waits (answer_as b sample) (view_of next t)) p.at (host.resumed x t sample) w.reads.0 begins w.within w.reads.1)
           (continued_room max waits (answer_as b sample) (view_of next t))
@@ -477,12 +477,12 @@ module _ (t : Tables) (max : ℕ) (sound : SoundTables SoundStream max t) (timeo
               (subst (RoomAt (task_as p.task) p.number.0) (at_in t session w.session_in_lem ∙ shown_live t session live) w.room) held))
               (λ e. resumes_quiet t f sound few w.session_in_lem w.stream_in_lem p.number p.task b sample lent next p.at p.left_at p.left_end w.left (free_view t session ∙ ap absent e))
 
-      answer-same : Same (step_of busy (answer b sample) out) (step.step (agent_of busy) (step.answer (answer_as b sample)) out)
+      answer_same : Same (step_of busy (answer b sample) out) (step.step (agent_of busy) (step.answer (answer_as b sample)) out)
       unfolding step_of process_of step.step
-      answer-same =
-          subst (λ (j : Judged). Same (judges j) (steps fitting long over)) (sym judge-answer)
-          (subst (λ (e : Bool). Same (judges (cond fitted restAs (judged.Refused OutOfTurn))) (steps e long over)) (sym (fits_same p.task b sample))
-          (subst (λ (e : Bool). Same (judges (cond fitted restAs (judged.Refused OutOfTurn))) (steps fitted e over)) (sym (long_same waits.pending.asked b sample))
+      answer_same =
+          subst (λ (j : Judged). Same (judges j) (steps fitting long over)) (sym judge_answer)
+          (subst (λ (e : Bool). Same (judges (cond fitted rest_as (judged.Refused OutOfTurn))) (steps e long over)) (sym (fits_same p.task b sample))
+          (subst (λ (e : Bool). Same (judges (cond fitted rest_as (judged.Refused OutOfTurn))) (steps fitted e over)) (sym (long_same waits.pending.asked b sample))
           (subst (λ (j : Judged). Same (judges (cond fitted (cond (judge.too_long b n) (judged.Refused TooLong) j) (judged.Refused OutOfTurn))) (steps fitted (judge.too_long b n) over))
           (sym (held_same max t sound few p w.session_in_lem sample goes_on b left rest next))
           (by fitted (judge.too_long b n) over refl))))
@@ -509,13 +509,13 @@ module _ (t : Tables) (max : ℕ) (sound : SoundTables SoundStream max t) (timeo
           by : (e z o : Bool) → over ≡ o → Same (judges (cond e (cond z (judged.Refused TooLong) (cond o (judged.Refused StoreFull) goes_on)) (judged.Refused OutOfTurn))) (steps e z o)
           by true true o h = refuses busy lent out TooLong busy_inv
           by true false true h = refuses busy lent out StoreFull busy_inv
-          by true false false h = answer-goes h
+          by true false false h = answer_goes h
           by false z o h = refuses busy lent out OutOfTurn busy_inv
 
     busy_same : (e : Event) (out : List ℕ) → Same (step_of busy e out) (step.step (agent_of busy) (event_of e) out)
     unfolding step_of process_of judge_of step.step
     busy_same (datagram given bytes small) out = refuses busy bytes out OutOfTurn busy_inv
-    busy_same (answer b sample) out = answer-same b sample out
+    busy_same (answer b sample) out = answer_same b sample out
     busy_same (removal id small) out = record { agent = refl; out = refl; result = refl; inv = busy_inv }
     busy_same (sweep now) out = record { agent = refl; out = refl; result = refl; inv = busy_inv }
 

@@ -31,7 +31,7 @@ use Rattle.sessions.specs.declared.session_streams.StreamNamed.TheVariants as st
 use Rattle.sessions.specs.declared.session_streams.StreamRead.{StreamRead}
 use Rattle.sessions.specs.declared.table.Named.TheVariants.{Live}
 use Rattle.sessions.proofs.SoundStreams.{stream_lasts, acknack_stream}
-use Rattle.sessions.proofs.Steps.{open-led, write-led, same_led, read-lasts}
+use Rattle.sessions.proofs.Steps.{open_led, write_led, same_led, read_lasts}
 use Rattle.sessions.proofs.ViewSending.{repeats_view}
 use Rattle.sessions.proofs.ViewStreams as streams
 use Rattle.sessions.proofs.ViewStreams.{found_number, read_shown, buffer_by, read_view, write_here, write_elsewhere, open_here, open_elsewhere}
@@ -75,7 +75,7 @@ module _ {most : ℕ} (t : Tables) (sound : SoundTables SoundStream most t) (few
   others j h = open_elsewhere t id id< (reach_streams t sound id id< live) n n< j h
 
   pub opens_led : LeadsTo SoundStream most t u
-  opens_led = open-led SoundStream stream_lasts most t sound id id< n n<
+  opens_led = open_led SoundStream stream_lasts most t sound id id< n n<
 
   u_live : is_free u.sessions id ≡ false
   u_live = live_shown u id lu open_shown
@@ -136,7 +136,7 @@ module _ {most : ℕ} (t : Tables) (sound : SoundTables SoundStream most t) (few
   -- ---- what is read is sound
 
   pub read_sound : SoundStream r.state
-  read_sound = read-lasts SoundStream stream_lasts most u opens_led.sound id id< n
+  read_sound = read_lasts SoundStream stream_lasts most u opens_led.sound id id< n
 
   -- ---- ACKNACK
 
@@ -188,7 +188,7 @@ module _ {most : ℕ} (t : Tables) (sound : SoundTables SoundStream most t) (few
 
     -- what is written back is sound
     acknack_led : (a : StreamNamed) (s : StreamState) → Read a s → SoundStream s → LeadsTo SoundStream most u (ack_tables a s)
-    acknack_led stream.Open s e d = write-led SoundStream stream_lasts most u opens_led.sound id id< (left s) (left_small s e) (acknack_stream s first bitmap d)
+    acknack_led stream.Open s e d = write_led SoundStream stream_lasts most u opens_led.sound id id< (left s) (left_small s e) (acknack_stream s first bitmap d)
     acknack_led stream.NotOpen s e d = same_led SoundStream stream_lasts most u opens_led.sound
     acknack_led stream.NotLive s e d = absurd e
     acknack_led (stream.Refused x) s e d = absurd e
@@ -198,8 +198,8 @@ module _ {most : ℕ} (t : Tables) (sound : SoundTables SoundStream most t) (few
 
     -- W5: "An ACKNACK is answered by the listed messages": what is left of the stream tells them
     module _ (d : List ℕ) where
-      acknack-moves : (a : StreamNamed) (s : StreamState) → Read a s → SoundStream s → done la (repeats_from n first bitmap (stream_in la.streams n)) ≡ outcome d (ack_tables a s) id n la (acknack_on a s p)
-      acknack-moves stream.Open s e z =
+      acknack_moves : (a : StreamNamed) (s : StreamState) → Read a s → SoundStream s → done la (repeats_from n first bitmap (stream_in la.streams n)) ≡ outcome d (ack_tables a s) id n la (acknack_on a s p)
+      acknack_moves stream.Open s e z =
           ap (λ (x : Option KeptStream). done la (repeats_from n first bitmap x)) kept
           ∙ by (eqb n 0) refl
           ∙ ap (λ (m : ℕ). outcome d v id n la (cond (eqb m 0) Silent (Repeats p))) (sym (own_number s e))
@@ -225,11 +225,11 @@ module _ {most : ℕ} (t : Tables) (sound : SoundTables SoundStream most t) (few
           by : (b : Bool) → eqb n 0 ≡ b → done la (cond b [] (repeated_in k.held first bitmap)) ≡ outcome d v id n la (cond b Silent (Repeats p))
           by true h = refl
           by false h = ap (done la) (sym (repeats_view most v (acknack_led stream.Open s e z).sound few id id< (live_shown v id la shows) n first bitmap k (eqb-false n 0 h) seen))
-      acknack-moves stream.NotOpen s e z =
+      acknack_moves stream.NotOpen s e z =
           ap (λ (x : Option KeptStream). done la (repeats_from n first bitmap x)) (ap (λ (x : Option KeptStream). stream_in (acknowledged_by first x lu.streams) n) e ∙ e)
-      acknack-moves stream.NotLive s e z = absurd e
-      acknack-moves (stream.Refused x) s e z = absurd e
+      acknack_moves stream.NotLive s e z = absurd e
+      acknack_moves (stream.Refused x) s e z = absurd e
 
-      pub acknack-square : (is_open : Bool) (body : Span) → Squares is_open (sub.Acknack p) t d id n body
-      acknack-square is_open body =
-          record { after = la; shows = acked r.answer r.state read_as; moves = acknack-moves r.answer r.state read_as read_sound; elsewhere = acked_others r.answer r.state read_as }
+      pub acknack_square : (is_open : Bool) (body : Span) → Squares is_open (sub.Acknack p) t d id n body
+      acknack_square is_open body =
+          record { after = la; shows = acked r.answer r.state read_as; moves = acknack_moves r.answer r.state read_as read_sound; elsewhere = acked_others r.answer r.state read_as }

@@ -258,15 +258,15 @@ module _ (R : Rules) (D : Admission R) where
       nothing : (n : ℕ) → Silent R s (refused n)
       nothing n = (refl, refl)
 
-      ran-quiet : (os : List (Out R)) (c : Option (Asked R)) → Quiet R D s os c → Silent R s (ran os c)
-      ran-quiet os c k = (k.no_reply, calls_is R D s os c ∙ k.no_call)
+      ran_quiet : (os : List (Out R)) (c : Option (Asked R)) → Quiet R D s os c → Silent R s (ran os c)
+      ran_quiet os c k = (k.no_reply, calls_is R D s os c ∙ k.no_call)
 
       go : (x : Waits) (e : Host R) → (stepped R D x st e).0.tables.at s ≡ none → Silent R s (stepped R D x st e).1
       go none (datagram d) q = reads (parse d) q
         where
           reads : (y : Option Msg) → (begin R D st y).0.tables.at s ≡ none → Silent R s (begin R D st y).1
           reads none q = nothing 1
-          reads (some m) q = let r = run R D m.header m.subs st.tables in ran-quiet r.outs r.call (run_quiet R D s m.header m.subs st.tables q)
+          reads (some m) q = let r = run R D m.header m.subs st.tables in ran_quiet r.outs r.call (run_quiet R D s m.header m.subs st.tables q)
       go none (answer t a) q = nothing 15
       go none (removal i) q = (refl, refl)
       go none (sweep now) q = (refl, refl)
@@ -277,7 +277,7 @@ module _ (R : Rules) (D : Admission R) where
           tagged : (y : Bool) → let r : Stepped R D = cond y (settle R D (continue R D w a st.tables)) (refuse R D st 15) in r.0.tables.at s ≡ none → Silent R s r.1
           tagged true q =
               let r = continue R D w a st.tables in
-              ran-quiet r.outs r.call
+              ran_quiet r.outs r.call
               (deliver_quiet R D s w.header w.rest st.tables (λ t' q'. run_quiet R D s w.header w.rest t' q') (st.tables.at w.header) (λ l. resume l w.pending a) q)
           tagged false q = nothing 15
       go (some w) (removal i) q = nothing 15
@@ -403,7 +403,7 @@ module _ (R : Rules) (D : Admission R) where
     inv_step = step_noted;
     view = view;
     view_table = λ s st. view_table s (st.tables.at s) st.wait;
-    view-gone = λ s st e. rw e;
+    view_gone = λ s st e. rw e;
     live = step_live;
     birth = step_birth;
     born = step_born;

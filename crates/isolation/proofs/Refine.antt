@@ -128,7 +128,7 @@ module _ (R : Rules) (A B : Agent R) where
       inv_step = λ b st e v. (inv_step st e v.0, both_step b st e v.1 (in_step st e v.0));
       view = view;
       view_table = λ s st. sim.view_table s (abs st) ∙ sym (abs_table s st);
-      view-gone = λ s st t. sim.view-gone s (abs st) (sym (abs_table s st) ∙ t);
+      view_gone = λ s st t. sim.view_gone s (abs st) (sym (abs_table s st) ∙ t);
       live = live;
       birth = birth;
       born = born;

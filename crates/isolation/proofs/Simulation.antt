@@ -65,7 +65,7 @@ module _ (R : Rules) where
       -- what a state keeps of a session, as a machine
       pub view : ℕ → State → Machine R
       pub view_table : (s : ℕ) (st : State) → table_of R (view s st) ≡ table st s
-      pub view-gone : (s : ℕ) (st : State) → table st s ≡ none → view s st ≡ ended
+      pub view_gone : (s : ℕ) (st : State) → table st s ≡ none → view s st ≡ ended
       pub live : (s : ℕ) (b : OpenCalls R) (st : State) (e : Event) (l : Local) → Inv b st → table st s ≡ some l → Follows (view s) s b st e (step st e)
       -- the call that opens s leaves it as the machine that ran what names it behind its CREATE_CLIENT
       pub birth : (b : OpenCalls R) (st : State) (e : Event) (s : ℕ) (o : Opened s (works_on R b (host_call_lem e)).0 (step st e).1) → Inv b st
@@ -105,11 +105,11 @@ module _ (R : Rules) where
     fed_went (ran os c) f fs w = refl
 
     module _ (sim : Simulates) where
-      open sim use {Inv, inv_empty, inv_step, view, view_table, view-gone, live, birth, born, silent, greets, fresh, own_tag}
+      open sim use {Inv, inv_empty, inv_step, view, view_table, view_gone, live, birth, born, silent, greets, fresh, own_tag}
 
-      inv-reached : (H : List Event) (p : Point R A) → Inv p.open_calls p.state → Inv (reached R A p H).open_calls (reached R A p H).state
-      inv-reached [] p v = v
-      inv-reached (e ∷ H) p v = inv-reached H (next R A p e) (inv_step p.open_calls p.state e v)
+      inv_reached : (H : List Event) (p : Point R A) → Inv p.open_calls p.state → Inv (reached R A p H).open_calls (reached R A p H).state
+      inv_reached [] p v = v
+      inv_reached (e ∷ H) p v = inv_reached H (next R A p e) (inv_step p.open_calls p.state e v)
 
       -- ---- a session from where it is live
 
@@ -117,18 +117,18 @@ module _ (R : Rules) where
       Follow s p H t = Same (view s p.state) (feeds R A s p H) t
 
       -- where s may have gone
-      follow-until : (s : ℕ) (H : List Event) (p : Point R A) → ((l : Local) → table p.state s ≡ some l → Follow s p H (agent_trace R A s p H))
+      follow_until : (s : ℕ) (H : List Event) (p : Point R A) → ((l : Local) → table p.state s ≡ some l → Follow s p H (agent_trace R A s p H))
           → Follow s p H (until R A (table p.state s) (agent_trace R A s p H))
-      follow-until s H p k = go (table p.state s) refl
+      follow_until s H p k = go (table p.state s) refl
         where
           go : (x : Option Local) → table p.state s ≡ x → Follow s p H (until R A x (agent_trace R A s p H))
-          go none e = rw (view-gone s p.state e) (same_ended (feeds R A s p H))
+          go none e = rw (view_gone s p.state e) (same_ended (feeds R A s p H))
           go (some l) e = k l e
 
-      follow-step : (s : ℕ) (p : Point R A) (e : Event) (H : List Event) → Follows (view s) s p.open_calls p.state e (step p.state e)
+      follow_step : (s : ℕ) (p : Point R A) (e : Event) (H : List Event) → Follows (view s) s p.open_calls p.state e (step p.state e)
           → Follow s (next R A p e) H (until R A (table (next R A p e).state s) (agent_trace R A s (next R A p e) H)) → Follow s p (e ∷ H) (agent_trace R A s p (e ∷ H))
-      follow-step s p e H (refuses n q v) k = rw (q, ← v) (rw q at k)
-      follow-step s p e H (moves w a) k =
+      follow_step s p e H (refuses n q v) k = rw (q, ← v) (rw q at k)
+      follow_step s p e H (moves w a) k =
           rw (fed_went (step p.state e).1 (feed_of R s p.open_calls (host_call_lem e)) (feeds R A s (next R A p e) H) w)
           (same_more (view s) s (step p.state e) (view s p.state) (feed_of R s p.open_calls (host_call_lem e)) (feeds R A s (next R A p e) H)
           (until R A (table (next R A p e).state s) (agent_trace R A s (next R A p e) H)) a k)
@@ -136,21 +136,21 @@ module _ (R : Rules) where
       follow : (s : ℕ) (H : List Event) (p : Point R A) (l : Local) → Inv p.open_calls p.state → table p.state s ≡ some l → Follow s p H (agent_trace R A s p H)
       follow s [] p l v q = record { alike = λ i. record { calls = []; replies = []; table = sym (view_table s p.state) i }; turns = refl }
       follow s (e ∷ H) p l v q =
-          follow-step s p e H (live s p.open_calls p.state e l v q) (follow-until s H (next R A p e) (λ l q. follow s H (next R A p e) l (inv_step p.open_calls p.state e v) q))
+          follow_step s p e H (live s p.open_calls p.state e l v q) (follow_until s H (next R A p e) (λ l q. follow s H (next R A p e) l (inv_step p.open_calls p.state e v) q))
 
       -- ---- a session from its opening
 
       session : {H : List Event} (S : Session R A H) → Same (idle (start S.id S.client)) (fed R A S) (of_agent R A S)
       session {H} S =
           let p = reached R A (set_up_lem R A) S.before in
-          let v : Inv p.open_calls p.state = inv-reached S.before (set_up_lem R A) inv_empty in
+          let v : Inv p.open_calls p.state = inv_reached S.before (set_up_lem R A) inv_empty in
           let o : Opened S.id (works_on R p.open_calls (host_call_lem S.call)).0 (step p.state S.call).1 =
           record { message = S.message; number = S.number; client = S.client; behind = S.behind; brings = S.brings; asks = S.asks; granted = S.granted } in
           subst (λ (f : Feed R). Same (idle (start S.id S.client)) (f ∷ feeds R A S.id (next R A p S.call) S.later) (of_agent R A S)) (sym (for_is S.id S.message.header S.behind))
           (same_more (view S.id) S.id (step p.state S.call) (idle (start S.id S.client)) (submessages (for_it S.id S.message.header S.behind))
           (feeds R A S.id (next R A p S.call) S.later) (until R A (table (next R A p S.call).state S.id) (agent_trace R A S.id (next R A p S.call) S.later))
           (birth p.open_calls p.state S.call S.id o v)
-          (follow-until S.id S.later (next R A p S.call) (λ l q. follow S.id S.later (next R A p S.call) l (inv_step p.open_calls p.state S.call v) q)))
+          (follow_until S.id S.later (next R A p S.call) (λ l q. follow S.id S.later (next R A p S.call) l (inv_step p.open_calls p.state S.call v) q)))
 
       -- ---- no session escapes
 
@@ -165,21 +165,21 @@ module _ (R : Rules) where
 
       data Source (p : Point R A) (H : List Event) (s : ℕ) (l : Local) : Type 0 where
         from_start : (l₀ : Local) → table p.state s ≡ some l₀ → (agent_trace R A s p H).table ≡ some l → Source p H s l
-        from-call : From p H s l → Source p H s l
+        from_call : From p H s l → Source p H s l
 
       source : (H : List Event) (p : Point R A) (s : ℕ) (l : Local) → Inv p.open_calls p.state → table (reached R A p H).state s ≡ some l → Source p H s l
       source [] p s l v q = from_start l q q
       source (e ∷ H) p s l v q = go (source H (next R A p e) s l (inv_step p.open_calls p.state e v) q)
         where
           go : Source (next R A p e) H s l → Source p (e ∷ H) s l
-          go (from-call f) = from-call (record { before = e ∷ f.before; call = f.call; later = f.later; whole = ap (λ (z : List Event). e ∷ z) f.whole; opened = f.opened; stays = f.stays })
+          go (from_call f) = from_call (record { before = e ∷ f.before; call = f.call; later = f.later; whole = ap (λ (z : List Event). e ∷ z) f.whole; opened = f.opened; stays = f.stays })
           go (from_start l₁ z t) = was (table p.state s) refl
             where
               on : (agent_trace R A s p (e ∷ H)).table ≡ some l
               on = rw z t
 
               was : (x : Option Local) → table p.state s ≡ x → Source p (e ∷ H) s l
-              was none y = from-call (record { before = []; call = e; later = H; whole = refl; opened = born s p.open_calls p.state e l₁ v y z; stays = on })
+              was none y = from_call (record { before = []; call = e; later = H; whole = refl; opened = born s p.open_calls p.state e l₁ v y z; stays = on })
               was (some l₀) y = from_start l₀ y on
 
       covers : ((s : ℕ) → table empty s ≡ none) → (H : List Event) (s : ℕ) (l : Local) → table (reached R A (set_up_lem R A) H).state s ≡ some l
@@ -188,14 +188,14 @@ module _ (R : Rules) where
         where
           go : Source (set_up_lem R A) H s l → (S : Session R A H) × (S.id ≡ s) × ((of_agent R A S).table ≡ some l)
           go (from_start l₀ z t) = absurd (none_some (sym (bare s) ∙ z))
-          go (from-call f) =
+          go (from_call f) =
               let o = f.opened in
               (record { before = f.before; call = f.call; later = f.later; whole = f.whole; message = o.message; number = o.number; client = o.client; behind = o.behind; id = s; brings = o.brings; asks = o.asks; granted = o.granted }, refl, f.stays)
 
       -- ---- for every list of calls
 
-      pub isolated-of : (H : List Event) → Isolated R A H
-      isolated-of H = record {
+      pub isolated_of : (H : List Event) → Isolated R A H
+      isolated_of H = record {
         alone = λ S. (session S).alike;
         in_turn_lem = λ S. (session S).turns;
         covered = covers (Simulates.bare sim) H;
@@ -209,4 +209,4 @@ module _ (R : Rules) where
           now = reached R A (set_up_lem R A) H
 
           holds : Inv now.open_calls now.state
-          holds = inv-reached H (set_up_lem R A) inv_empty
+          holds = inv_reached H (set_up_lem R A) inv_empty

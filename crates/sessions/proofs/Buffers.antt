@@ -124,32 +124,32 @@ module _ (slot k : ℕ) (low : 1 ≤ k) (high : k ≤ 7) where
       abbrev pub refilled : List ℕ
       refilled = with_buffer held stretch buffer
 
-      put-there : refilled ≡ put_at held from buffer
-      put-there = with_put held buffer stretch (long ∙ sym stretch_room) ∙ ap (λ (b : Stretch). put_at held b.start buffer) stretch_is
+      put_there : refilled ≡ put_at held from buffer
+      put_there = with_put held buffer stretch (long ∙ sym stretch_room) ∙ ap (λ (b : Stretch). put_at held b.start buffer) stretch_is
 
       fits : from + length buffer ≤ length held
       fits = omega (arith, long)
 
-      pub refilled-length : length refilled ≡ length held
-      refilled-length = ap length put-there ∙ length_put held from buffer fits
+      pub refilled_length : length refilled ≡ length held
+      refilled_length = ap length put_there ∙ length_put held from buffer fits
 
       -- what is read before or behind it stays
       apart : (at n : ℕ) (t : Bool) → ltb at from ≡ t → (t ≡ true → at + n ≤ from) → (t ≡ false → from + stream_bytes ≤ at) → take n (drop at refilled) ≡ take n (drop at held)
-      apart at n true e before behind = ap (λ (l : List ℕ). take n (drop at l)) put-there ∙ read_before held from buffer fits at n (before refl)
-      apart at n false e before behind = ap (λ (l : List ℕ). take n (drop at l)) put-there ∙ ap (take n) (read_behind held from buffer fits at (omega (arith, behind refl, long)))
+      apart at n true e before behind = ap (λ (l : List ℕ). take n (drop at l)) put_there ∙ read_before held from buffer fits at n (before refl)
+      apart at n false e before behind = ap (λ (l : List ℕ). take n (drop at l)) put_there ∙ ap (take n) (read_behind held from buffer fits at (omega (arith, behind refl, long)))
 
-      pub slot-elsewhere : (j : ℕ) → j ≢ slot → slot_part refilled j ≡ slot_part held j
+      pub slot_elsewhere : (j : ℕ) → j ≢ slot → slot_part refilled j ≡ slot_part held j
       unfolding slot_part
-      slot-elsewhere j h =
+      slot_elsewhere j h =
           apart (slot_bytes * j) slot_bytes (ltb (slot_bytes * j) from) refl
           (λ e. omega (arith, ltb-true (slot_bytes * j) from e, h))
           (λ e. omega (arith, ltb-false (slot_bytes * j) from e, h))
 
-      pub buffer-here : buffer_at (slot_part refilled slot) k ≡ buffer
-      buffer-here =
+      pub buffer_here : buffer_at (slot_part refilled slot) k ≡ buffer
+      buffer_here =
           buffer_of refilled
           ∙ ap (λ (m : ℕ). take m (drop from refilled)) (sym long)
-          ∙ ap (λ (l : List ℕ). take (length buffer) (drop from l)) put-there
+          ∙ ap (λ (l : List ℕ). take (length buffer) (drop from l)) put_there
           ∙ read_same held from buffer fits
 
 -- the first place has none, whatever the part

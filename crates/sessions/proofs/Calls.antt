@@ -15,7 +15,7 @@ use Rattle.sessions.specs.Need.{held_need, parts_need, lengths_need, rebuilt_nee
 use Rattle.sessions.specs.SessionStreams.{stream_place, state_at}
 use Rattle.sessions.specs.Setup.{set_up_of}
 use Rattle.sessions.specs.Fragments.{parts_stretch, own_lengths}
-use Rattle.sessions.specs.Limits.{store_kept, limits_of}
+use Rattle.sessions.specs.Limits.{store_kept_lem, limits_of}
 use Rattle.sessions.specs.View.{Tables}
 use Rattle.sessions.specs.Calls.{set_up_tables, Call, set_up, create, touch, remove, sweep, put, delete, open_stream, write_stream, send, gather, after_call, after_calls, Given, AllGiven, Lasting, SoundTables, LeadsTo}
 use Rattle.sessions.specs.declared.limits.Limits.TheVariants.{Within}
@@ -37,10 +37,10 @@ module _ (P : StreamState → Type 0) (lasting : Lasting P) (most : ℕ) where
   call_leads (touch id time) g t d = steps.touch_led P lasting most t d id time g
   call_leads (remove id) g t d = steps.remove_led P lasting most t d id g
   call_leads (sweep time timeout out) g t d = steps.sweep_led P lasting most t d time timeout out
-  call_leads (put id o) g t d = steps.put-led P lasting most t d id g o
-  call_leads (delete id n) g t d = steps.drop-led P lasting most t d id g n
-  call_leads (open_stream id n) g t d = steps.open-led P lasting most t d id g.0 n g.1
-  call_leads (write_stream id s) g t d = steps.write-led P lasting most t d id g.0 s g.1 g.2
+  call_leads (put id o) g t d = steps.put_led P lasting most t d id g o
+  call_leads (delete id n) g t d = steps.drop_led P lasting most t d id g n
+  call_leads (open_stream id n) g t d = steps.open_led P lasting most t d id g.0 n g.1
+  call_leads (write_stream id s) g t d = steps.write_led P lasting most t d id g.0 s g.1 g.2
   call_leads (send id n message) g t d = send_led P lasting most t d id g.0 n message
   call_leads (gather id nr total body) g t d = gather_led P lasting most t d id g nr total body
 
@@ -99,14 +99,14 @@ module _ (P : StreamState → Type 0) (lasting : Lasting P) (most : ℕ) where
       slot_kept_lem true e = refl
       slot_kept_lem false e = lt-ltb (session_at t.sessions id).slot most (d.slots.under id h e)
 
-      store_kept_lem : store_kept t.sessions (length t.parts) t.lengths id ≡ true
+      store_kept_lem : store_kept_lem t.sessions (length t.parts) t.lengths id ≡ true
       store_kept_lem =
           let s = session_at t.sessions id in
           fragments_kept_lem s t.parts (parts_stretch s (length t.parts)) (own_lengths t.sessions t.lengths id) (d.each id h).few_fragments (d.each id h).fragments
 
       lengths_kept_lem : (b : Bool) → cond b true (in_limits (state_at (stream_place t.sessions t.streams id n) t.streams id)) ≡ true
       lengths_kept_lem true = refl
-      lengths_kept_lem false = short (state_at (stream_place t.sessions t.streams id n) t.streams id) (steps.read-lasts P lasting most t d id h n)
+      lengths_kept_lem false = short (state_at (stream_place t.sessions t.streams id n) t.streams id) (steps.read_lasts P lasting most t d id h n)
 
 -- ---- what lasts: streams' own soundness, and, of states of which nothing is known, nothing
 

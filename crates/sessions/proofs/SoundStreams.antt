@@ -71,7 +71,7 @@ module _ (s : StreamState) (bits : SixteenBits s) where
   sent_bits : Sound s → (len room : ℕ) → SixteenBits (alloc_of (record_of s s.next_send_seq len room).state).state
   sent_bits d len room =
       bits_by (alloc_of (record_of s n len room).state).state (behind (slot_for s n len room)).held (λ m. ap (λ (k : Kept ℕ). k.held m) is)
-      (let e = ap (λ (k : Kept ℕ). k.next) is in omega (arith, e, by_next (slot_for s n len room))) (by-held (slot_for s n len room))
+      (let e = ap (λ (k : Kept ℕ). k.next) is in omega (arith, e, by_next (slot_for s n len room))) (by_held (slot_for s n len room))
     where
       n : ℕ
       n = s.next_send_seq
@@ -87,14 +87,14 @@ module _ (s : StreamState) (bits : SixteenBits s) where
       by_next slot.Nowhere = omega arith
       by_next (slot.Refused r) = omega arith
 
-      by-held : (a : Slot) (m : ℕ) → present ((behind a).held m) ≡ true → m < 65536
-      by-held (slot.At p) m h = by (eqb m n) refl h
+      by_held : (a : Slot) (m : ℕ) → present ((behind a).held m) ≡ true → m < 65536
+      by_held (slot.At p) m h = by (eqb m n) refl h
         where
           by : (b : Bool) → eqb m n ≡ b → present (cond b (some len) (held_by length_in s m)) ≡ true → m < 65536
           by true e h = omega (arith, eqb-true m n e, bits.next)
           by false e h = low m h
-      by-held slot.Nowhere m h = low m h
-      by-held (slot.Refused r) m h = low m h
+      by_held slot.Nowhere m h = low m h
+      by_held (slot.Refused r) m h = low m h
 
 -- ---- both
 

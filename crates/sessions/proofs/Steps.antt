@@ -213,8 +213,8 @@ module _ (P : StreamState → Type 0) (lasting : Lasting P) (most : ℕ) where
     -- ---- a session that changes
 
     module _ (id : ℕ) (id< : id < 256) (s : ClientSession) where
-      session-changed : SoundPart P (table.with_session t s (table_part t id)) → is_free t.sessions id ≡ false → Changed t (table.changed t id d.sessions_need_lem id< s) id
-      session-changed g live = record {
+      session_changed : SoundPart P (table.with_session t s (table_part t id)) → is_free t.sessions id ≡ false → Changed t (table.changed t id d.sessions_need_lem id< s) id
+      session_changed g live = record {
         sessions_length = kept_length_lem (named_of t.sessions id) t.sessions id s;
         streams_length = refl;
         objects_length = refl;
@@ -226,8 +226,8 @@ module _ (P : StreamState → Type 0) (lasting : Lasting P) (most : ℕ) where
         here = subst (SoundPart P) (sym (table.changed_here t id d.sessions_need_lem id< s live)) g;
       }
 
-      session-led : SoundPart P (table.with_session t s (table_part t id)) → (eqb s.live 0 ≡ false → s.slot ≡ (session_at t.sessions id).slot) → LeadsTo P most t (table.changed t id d.sessions_need_lem id< s)
-      session-led g same = call_led (table.changed t id d.sessions_need_lem id< s) id (table.changed_free t id d.sessions_need_lem id< s) (λ e. (session-changed g e, slot_same e))
+      session_led : SoundPart P (table.with_session t s (table_part t id)) → (eqb s.live 0 ≡ false → s.slot ≡ (session_at t.sessions id).slot) → LeadsTo P most t (table.changed t id d.sessions_need_lem id< s)
+      session_led g same = call_led (table.changed t id d.sessions_need_lem id< s) id (table.changed_free t id d.sessions_need_lem id< s) (λ e. (session_changed g e, slot_same e))
         where
           slot_same : is_free t.sessions id ≡ false → SameSlot t (table.changed t id d.sessions_need_lem id< s) id
           slot_same e f =
@@ -238,13 +238,13 @@ module _ (P : StreamState → Type 0) (lasting : Lasting P) (most : ℕ) where
     unfolding touched_rows
     touch_led id time h =
         let g = d.each id h in
-        session-led id h (touched_session (session_at t.sessions id) time)
+        session_led id h (touched_session (session_at t.sessions id) time)
         (record { few_objects = g.few_objects; few_streams = g.few_streams; objects_differ = g.objects_differ; streams_differ = g.streams_differ; written = g.written; few_fragments = g.few_fragments; fragments = g.fragments; fragments_gone = g.fragments_gone; stream_zero = g.stream_zero })
         (λ e. refl)
 
     pub remove_led : (id : ℕ) → id < 256 → LeadsTo P most t (with_sessions t (ended_rows t.sessions id))
     unfolding ended_rows
-    remove_led id h = session-led id h ended_session (ended_sound t (table_part t id)) (λ e. absurd (never refl e))
+    remove_led id h = session_led id h ended_session (ended_sound t (table_part t id)) (λ e. absurd (never refl e))
 
     -- ---- a sweep
 
@@ -321,40 +321,40 @@ module _ (P : StreamState → Type 0) (lasting : Lasting P) (most : ℕ) where
 
     module _ (id : ℕ) (id< : id < 256) where
       module _ (free : is_free t.sessions id ≡ true) where
-        no-objects : objects_named t.sessions (length t.objects) id ≡ named.NotLive
-        no-objects = objects_named_lem id id< ∙ ap (λ (b : Bool). cond b named.NotLive named.Live) free
+        no_objects : objects_named t.sessions (length t.objects) id ≡ named.NotLive
+        no_objects = objects_named_lem id id< ∙ ap (λ (b : Bool). cond b named.NotLive named.Live) free
 
-        put-free : (o : Object) → put_tables t id o ≡ t
-        put-free o = λ i. record {
-          sessions = ap (keep_stored t.sessions id) (sym (stored_is t.sessions t.objects id o named.NotLive no-objects)) i;
+        put_free : (o : Object) → put_tables t id o ≡ t
+        put_free o = λ i. record {
+          sessions = ap (keep_stored t.sessions id) (sym (stored_is t.sessions t.objects id o named.NotLive no_objects)) i;
           streams = t.streams;
-          objects = sym (kept_is t.sessions t.objects id o named.NotLive no-objects) i;
+          objects = sym (kept_is t.sessions t.objects id o named.NotLive no_objects) i;
           held = t.held;
           parts = t.parts;
           lengths = t.lengths;
           rebuilt = t.rebuilt;
         }
 
-        drop-free : (n : ObjectNumber) → drop_tables t id n ≡ t
-        drop-free n = λ i. record {
-          sessions = ap (keep_removed t.sessions id) (sym (taken_is t.sessions t.objects id n named.NotLive no-objects)) i;
+        drop_free : (n : ObjectNumber) → drop_tables t id n ≡ t
+        drop_free n = λ i. record {
+          sessions = ap (keep_removed t.sessions id) (sym (taken_is t.sessions t.objects id n named.NotLive no_objects)) i;
           streams = t.streams;
-          objects = sym (removed_is t.sessions t.objects id n named.NotLive no-objects) i;
+          objects = sym (removed_is t.sessions t.objects id n named.NotLive no_objects) i;
           held = t.held;
           parts = t.parts;
           lengths = t.lengths;
           rebuilt = t.rebuilt;
         }
 
-        no-streams : streams_named t.sessions (length t.streams) id ≡ named.NotLive
-        no-streams = streams_named_lem id id< ∙ ap (λ (b : Bool). cond b named.NotLive named.Live) free
+        no_streams : streams_named t.sessions (length t.streams) id ≡ named.NotLive
+        no_streams = streams_named_lem id id< ∙ ap (λ (b : Bool). cond b named.NotLive named.Live) free
 
       module _ (live : is_free t.sessions id ≡ false) where
-        its-objects : objects_named t.sessions (length t.objects) id ≡ named.Live
-        its-objects = objects_named_lem id id< ∙ ap (λ (b : Bool). cond b named.NotLive named.Live) live
+        its_objects : objects_named t.sessions (length t.objects) id ≡ named.Live
+        its_objects = objects_named_lem id id< ∙ ap (λ (b : Bool). cond b named.NotLive named.Live) live
 
-        its-streams : streams_named t.sessions (length t.streams) id ≡ named.Live
-        its-streams = streams_named_lem id id< ∙ ap (λ (b : Bool). cond b named.NotLive named.Live) live
+        its_streams : streams_named t.sessions (length t.streams) id ≡ named.Live
+        its_streams = streams_named_lem id id< ∙ ap (λ (b : Bool). cond b named.NotLive named.Live) live
 
         g : SoundPart P (table_part t id)
         g = d.each id id<
@@ -366,10 +366,10 @@ module _ (P : StreamState → Type 0) (lasting : Lasting P) (most : ℕ) where
         used = used_of t.sessions id
 
         fits : used ≤ length row
-        fits = stores.fits t id id< its-objects
+        fits = stores.fits t id id< its_objects
 
-        put-changed : (o : Object) → Changed t (put_tables t id o) id
-        put-changed o = by (leb 32 (slot_of (object_place row used o.number) used)) refl
+        put_changed : (o : Object) → Changed t (put_tables t id o) id
+        put_changed o = by (leb 32 (slot_of (object_place row used o.number) used)) refl
           where
             few : (p : Place) → slot_of p used < 32 → used_after p used ≤ 32
             few (At k) h = g.few_objects
@@ -377,28 +377,28 @@ module _ (P : StreamState → Type 0) (lasting : Lasting P) (most : ℕ) where
 
             by : (b : Bool) → leb 32 (slot_of (object_place row used o.number) used) ≡ b → Changed t (put_tables t id o) id
             by true e =
-                subst (λ (u : Tables). Changed t u id) (sym (stores.put_nothing t id id< its-objects o (leb-true 32 (slot_of (object_place row used o.number) used) e)))
+                subst (λ (u : Tables). Changed t u id) (sym (stores.put_nothing t id id< its_objects o (leb-true 32 (slot_of (object_place row used o.number) used) e)))
                 (same_changed id id<)
             by false e =
                 let room : slot_of (object_place row used o.number) used < 32 = leb-false 32 (slot_of (object_place row used o.number) used) e in
                 record {
                   sessions_length =
-                      ap length (stores.put_rows t id id< its-objects o room)
+                      ap length (stores.put_rows t id id< its_objects o room)
                       ∙ length-set t.sessions id (row_of (counted_session (session_at t.sessions id) (used_after (object_place row used o.number) used)));
                   streams_length = refl;
-                  objects_length = ap length (stores.put_set t id id< its-objects o room) ∙ length-set t.objects _ o;
+                  objects_length = ap length (stores.put_set t id id< its_objects o room) ∙ length-set t.objects _ o;
                   held_length = refl;
                   parts_length = refl;
                   lengths_length = refl;
                   rebuilt_length = refl;
-                  elsewhere = stores.put_part_elsewhere t id id< its-objects o room;
+                  elsewhere = stores.put_part_elsewhere t id id< its_objects o room;
                   here =
-                      subst (SoundPart P) (sym (stores.put_part t id id< its-objects o room))
+                      subst (SoundPart P) (sym (stores.put_part t id id< its_objects o room))
                       (record {
                         few_objects = few (object_place row used o.number) room;
                         few_streams = g.few_streams;
                         objects_differ =
-                            subst (λ (es : List Entry). Distinct (object_numbers es)) (sym (put_shown row used fits g.objects_differ o (stores.in_row t id id< its-objects o room)))
+                            subst (λ (es : List Entry). Distinct (object_numbers es)) (sym (put_shown row used fits g.objects_differ o (stores.in_row t id id< its_objects o room)))
                             (put_distinct (listed used row) g.objects_differ (entry_of o));
                         streams_differ = g.streams_differ;
                         written = g.written;
@@ -409,8 +409,8 @@ module _ (P : StreamState → Type 0) (lasting : Lasting P) (most : ℕ) where
                       });
                 }
 
-        drop-changed : (n : ObjectNumber) → Changed t (drop_tables t id n) id
-        drop-changed n = subst (λ (u : Tables). Changed t u id) (sym (stores.by_place t id id< its-objects n)) changed
+        drop_changed : (n : ObjectNumber) → Changed t (drop_tables t id n) id
+        drop_changed n = subst (λ (u : Tables). Changed t u id) (sym (stores.by_place t id id< its_objects n)) changed
           where
             p : Place
             p = object_place row used n
@@ -419,10 +419,10 @@ module _ (P : StreamState → Type 0) (lasting : Lasting P) (most : ℕ) where
             under = place_under row n used
 
             -- a length that stays where the record goes
-            same : (long : Tables → ℕ) (q : Place) → Under used q → ((k : ℕ) → k < used → long (stores.gone t id id< its-objects k) ≡ long t) → long (stores.dropped t id id< its-objects q) ≡ long t
+            same : (long : Tables → ℕ) (q : Place) → Under used q → ((k : ℕ) → k < used → long (stores.gone t id id< its_objects k) ≡ long t) → long (stores.dropped t id id< its_objects q) ≡ long t
             same long (At k) h f = by (depended_at row used fits (At k))
               where
-                by : (b : Bool) → long (cond b t (stores.gone t id id< its-objects k)) ≡ long t
+                by : (b : Bool) → long (cond b t (stores.gone t id id< its_objects k)) ≡ long t
                 by true = refl
                 by false = f k h
             same long Nowhere h f = refl
@@ -435,18 +435,18 @@ module _ (P : StreamState → Type 0) (lasting : Lasting P) (most : ℕ) where
                 by false = let f : used ≤ 32 = g.few_objects in omega arith
             few Nowhere = g.few_objects
 
-            changed : Changed t (stores.dropped t id id< its-objects p) id
+            changed : Changed t (stores.dropped t id id< its_objects p) id
             changed = record {
               sessions_length = same (λ (u : Tables). length u.sessions) p under (λ k h. length-set t.sessions id (row_of (counted_session (session_at t.sessions id) (used - 1))));
               streams_length = same (λ (u : Tables). length u.streams) p under (λ k h. refl);
-              objects_length = same (λ (u : Tables). length u.objects) p under (λ k h. ap length (stores.gone_set t id id< its-objects k h) ∙ length-set t.objects _ _);
+              objects_length = same (λ (u : Tables). length u.objects) p under (λ k h. ap length (stores.gone_set t id id< its_objects k h) ∙ length-set t.objects _ _);
               held_length = same (λ (u : Tables). length u.held) p under (λ k h. refl);
               parts_length = same (λ (u : Tables). length u.parts) p under (λ k h. refl);
               lengths_length = same (λ (u : Tables). length u.lengths) p under (λ k h. refl);
               rebuilt_length = same (λ (u : Tables). length u.rebuilt) p under (λ k h. refl);
-              elsewhere = λ j h. stores.dropped_part_elsewhere t id id< its-objects j h p under;
+              elsewhere = λ j h. stores.dropped_part_elsewhere t id id< its_objects j h p under;
               here =
-                  subst (SoundPart P) (sym (stores.dropped_part t id id< its-objects p under))
+                  subst (SoundPart P) (sym (stores.dropped_part t id id< its_objects p under))
                   (record {
                     few_objects = few p;
                     few_streams = g.few_streams;
@@ -469,11 +469,11 @@ module _ (P : StreamState → Type 0) (lasting : Lasting P) (most : ℕ) where
         open_now = streams_used t.sessions id
 
         eight : length rows ≡ 8
-        eight = streams.eight t id id< its-streams
+        eight = streams.eight t id id< its_streams
 
         -- a row that is written at a place, and the others
-        set-written : (s : StreamState) → P s → (k : ℕ) → k < 8 → (i : ℕ) → (i ≢ k → P (stream_of (get_or rows i []))) → P (stream_of (get_or (set rows k (stream_row s)) i []))
-        set-written s w k h i other = by (eqb i k) refl
+        set_written : (s : StreamState) → P s → (k : ℕ) → k < 8 → (i : ℕ) → (i ≢ k → P (stream_of (get_or rows i []))) → P (stream_of (get_or (set rows k (stream_row s)) i []))
+        set_written s w k h i other = by (eqb i k) refl
           where
             by : (b : Bool) → eqb i k ≡ b → P (stream_of (get_or (set rows k (stream_row s)) i []))
             by true e =
@@ -482,8 +482,8 @@ module _ (P : StreamState → Type 0) (lasting : Lasting P) (most : ℕ) where
             by false e =
                 subst (λ (l : List ℕ). P (stream_of l)) (sym (get_or-set_other rows k i (stream_row s) [] (eqb-false i k e))) (other (eqb-false i k e))
 
-        add-changed : (n : ℕ) (n< : n < 256) → open_now < 8 → stream_in (streams.shown t id id< its-streams) n ≡ none → Changed t (streams.joined t id id< its-streams n n< (Add open_now)) id
-        add-changed n n< room absent = record {
+        add_changed : (n : ℕ) (n< : n < 256) → open_now < 8 → stream_in (streams.shown t id id< its_streams) n ≡ none → Changed t (streams.joined t id id< its_streams n n< (Add open_now)) id
+        add_changed n n< room absent = record {
           sessions_length = length-set t.sessions id (row_of (streamed_session (session_at t.sessions id) (open_now + 1)));
           streams_length = length-set t.streams (first_stream id + open_now) (stream_row (new_stream n));
           objects_length = refl;
@@ -491,17 +491,17 @@ module _ (P : StreamState → Type 0) (lasting : Lasting P) (most : ℕ) where
           parts_length = refl;
           lengths_length = refl;
           rebuilt_length = refl;
-          elsewhere = streams.added_elsewhere t id id< its-streams n n< room;
+          elsewhere = streams.added_elsewhere t id id< its_streams n n< room;
           here =
-              subst (SoundPart P) (sym (streams.added_part t id id< its-streams n n< room))
+              subst (SoundPart P) (sym (streams.added_part t id id< its_streams n n< room))
               (record {
                 few_objects = g.few_objects;
                 few_streams = omega arith;
                 objects_differ = g.objects_differ;
                 streams_differ =
-                    subst (λ (ks : List KeptStream). Distinct (stream_numbers ks)) (sym (streams.added_shown t id id< its-streams n n< room absent))
-                    (open_distinct (streams.shown t id id< its-streams) n g.streams_differ);
-                written = λ i h. set-written (new_stream n) (lasting.opens n) open_now room i (λ e. g.written i (omega (arith, e)));
+                    subst (λ (ks : List KeptStream). Distinct (stream_numbers ks)) (sym (streams.added_shown t id id< its_streams n n< room absent))
+                    (open_distinct (streams.shown t id id< its_streams) n g.streams_differ);
+                written = λ i h. set_written (new_stream n) (lasting.opens n) open_now room i (λ e. g.written i (omega (arith, e)));
                 few_fragments = g.few_fragments;
                 fragments = g.fragments;
                 fragments_gone = g.fragments_gone;
@@ -509,34 +509,34 @@ module _ (P : StreamState → Type 0) (lasting : Lasting P) (most : ℕ) where
               });
         }
 
-        open-changed : (n : ℕ) → n < 256 → Changed t (open_tables t id n) id
-        open-changed n n< = by (stream_place t.sessions t.streams id n) (streams.seen t id id< its-streams n)
+        open_changed : (n : ℕ) → n < 256 → Changed t (open_tables t id n) id
+        open_changed n n< = by (stream_place t.sessions t.streams id n) (streams.seen t id id< its_streams n)
           where
-            by : (p : StreamPlace) → streams.Seen t id id< its-streams n p → Changed t (streams.joined t id id< its-streams n n< p) id
+            by : (p : StreamPlace) → streams.Seen t id id< its_streams n p → Changed t (streams.joined t id id< its_streams n n< p) id
             by (Have k) s = same_changed id id<
             by (Add k) s =
-                subst (λ (m : ℕ). Changed t (streams.joined t id id< its-streams n n< (Add m)) id) (sym s.0) (add-changed n n< s.1 s.2)
+                subst (λ (m : ℕ). Changed t (streams.joined t id id< its_streams n n< (Add m)) id) (sym s.0) (add_changed n n< s.1 s.2)
             by Full s = same_changed id id<
             by NotLive s = absurd s
             by (Refused r) s = absurd s
 
-        write-changed : (s : StreamState) → s.stream_id < 256 → P s → Changed t (write_tables t id s) id
-        write-changed s s< w = by (stream_place t.sessions t.streams id s.stream_id) (streams.seen t id id< its-streams s.stream_id)
+        write_changed : (s : StreamState) → s.stream_id < 256 → P s → Changed t (write_tables t id s) id
+        write_changed s s< w = by (stream_place t.sessions t.streams id s.stream_id) (streams.seen t id id< its_streams s.stream_id)
           where
             -- what is written in the first place has the number that was there
-            first-number : (k : ℕ) → streams.Seen t id id< its-streams s.stream_id (Have k) → (1 ≤ open_now) × ((stream_of (get_or rows 0 [])).stream_id ≡ 0) → (b : Bool) → eqb 0 k ≡ b
+            first_number : (k : ℕ) → streams.Seen t id id< its_streams s.stream_id (Have k) → (1 ≤ open_now) × ((stream_of (get_or rows 0 [])).stream_id ≡ 0) → (b : Bool) → eqb 0 k ≡ b
                 → (stream_of (get_or (set rows k (stream_row s)) 0 [])).stream_id ≡ 0
-            first-number k e z true q =
+            first_number k e z true q =
                 let y : 0 ≡ k = eqb-true 0 k q in
-                let m = streams.place_number t id id< its-streams s.stream_id k e in
+                let m = streams.place_number t id id< its_streams s.stream_id k e in
                 let o : s.stream_id ≡ 0 = sym m ∙ ap (λ (j : ℕ). (stream_of (get_or rows j [])).stream_id) (sym y) ∙ z.1 in
                 ap (λ (j : ℕ). (stream_of (get_or (set rows j (stream_row s)) 0 [])).stream_id) (sym y)
                 ∙ ap (λ (l : List ℕ). (stream_of l).stream_id) (get_or-set_same rows 0 (stream_row s) [] (omega (arith, eight)))
                 ∙ ap (λ (x : KeptStream). x.number) (row_shown s [] s<)
                 ∙ o
-            first-number k e z false q = ap (λ (l : List ℕ). (stream_of l).stream_id) (get_or-set_other rows k 0 (stream_row s) [] (eqb-false 0 k q)) ∙ z.1
+            first_number k e z false q = ap (λ (l : List ℕ). (stream_of l).stream_id) (get_or-set_other rows k 0 (stream_row s) [] (eqb-false 0 k q)) ∙ z.1
 
-            over : (k : ℕ) → streams.Seen t id id< its-streams s.stream_id (Have k) → Changed t (streams.writing t id id< its-streams s s< (Have k)) id
+            over : (k : ℕ) → streams.Seen t id id< its_streams s.stream_id (Have k) → Changed t (streams.writing t id id< its_streams s s< (Have k)) id
             over k e = record {
               sessions_length = refl;
               streams_length = length-set t.streams (first_stream id + k) (stream_row s);
@@ -545,26 +545,26 @@ module _ (P : StreamState → Type 0) (lasting : Lasting P) (most : ℕ) where
               parts_length = refl;
               lengths_length = refl;
               rebuilt_length = refl;
-              elsewhere = streams.written_elsewhere t id id< its-streams s s< k e.0;
+              elsewhere = streams.written_elsewhere t id id< its_streams s s< k e.0;
               here =
-                  subst (SoundPart P) (sym (streams.written_part t id id< its-streams s s< k e.0))
+                  subst (SoundPart P) (sym (streams.written_part t id id< its_streams s s< k e.0))
                   (record {
                     few_objects = g.few_objects;
                     few_streams = g.few_streams;
                     objects_differ = g.objects_differ;
                     streams_differ =
                         subst Distinct
-                        (sym (ap stream_numbers (streams.written_shown t id id< its-streams s s< k e) ∙ write_numbers (streams.shown t id id< its-streams) (streams.with_buffer t id id< its-streams s s< (Have k))))
+                        (sym (ap stream_numbers (streams.written_shown t id id< its_streams s s< k e) ∙ write_numbers (streams.shown t id id< its_streams) (streams.with_buffer t id id< its_streams s s< (Have k))))
                         g.streams_differ;
-                    written = λ i h. set-written s w k (let f : open_now ≤ 8 = g.few_streams in let l : k < open_now = e.0 in omega arith) i (λ q. g.written i h);
+                    written = λ i h. set_written s w k (let f : open_now ≤ 8 = g.few_streams in let l : k < open_now = e.0 in omega arith) i (λ q. g.written i h);
                     few_fragments = g.few_fragments;
                     fragments = g.fragments;
                     fragments_gone = g.fragments_gone;
-                    stream_zero = λ q. let z = g.stream_zero q in (z.0, first-number k e z (eqb 0 k) refl);
+                    stream_zero = λ q. let z = g.stream_zero q in (z.0, first_number k e z (eqb 0 k) refl);
                   });
             }
 
-            by : (p : StreamPlace) → streams.Seen t id id< its-streams s.stream_id p → Changed t (streams.writing t id id< its-streams s s< p) id
+            by : (p : StreamPlace) → streams.Seen t id id< its_streams s.stream_id p → Changed t (streams.writing t id id< its_streams s s< p) id
             by (Have k) e = over k e
             by (Add k) e = same_changed id id<
             by Full e = same_changed id id<
@@ -575,8 +575,8 @@ module _ (P : StreamState → Type 0) (lasting : Lasting P) (most : ℕ) where
       kept_slot : (s : ClientSession) → s.slot ≡ (session_at t.sessions id).slot → (session_at (keep_session t.sessions id s) id).slot ≡ (session_at t.sessions id).slot
       kept_slot s e = ap (λ (x : ClientSession). x.slot) (table.kept_here t.sessions id s (let l = d.sessions_need_lem in omega (arith, l))) ∙ e
 
-      put-slot : (o : Object) → (session_at (put_tables t id o).sessions id).slot ≡ (session_at t.sessions id).slot
-      put-slot o = by (stored_object t.sessions t.objects id o)
+      put_slot : (o : Object) → (session_at (put_tables t id o).sessions id).slot ≡ (session_at t.sessions id).slot
+      put_slot o = by (stored_object t.sessions t.objects id o)
         where
           by : (r : Stored) → (session_at (keep_stored t.sessions id r) id).slot ≡ (session_at t.sessions id).slot
           by (stored.Count n) = kept_slot (counted_session (session_at t.sessions id) n) refl
@@ -584,8 +584,8 @@ module _ (P : StreamState → Type 0) (lasting : Lasting P) (most : ℕ) where
           by stored.NotLive = refl
           by (stored.Refused r) = refl
 
-      drop-slot : (n : ObjectNumber) → (session_at (drop_tables t id n).sessions id).slot ≡ (session_at t.sessions id).slot
-      drop-slot n = by (taken_object t.sessions t.objects id n)
+      drop_slot : (n : ObjectNumber) → (session_at (drop_tables t id n).sessions id).slot ≡ (session_at t.sessions id).slot
+      drop_slot n = by (taken_object t.sessions t.objects id n)
         where
           by : (r : Taken) → (session_at (keep_removed t.sessions id r) id).slot ≡ (session_at t.sessions id).slot
           by (taken.Gone o) = kept_slot (counted_session (session_at t.sessions id) _) refl
@@ -593,8 +593,8 @@ module _ (P : StreamState → Type 0) (lasting : Lasting P) (most : ℕ) where
           by taken.Nothing = refl
           by (taken.Refused r) = refl
 
-      open-slot : (n : ℕ) → (session_at (open_tables t id n).sessions id).slot ≡ (session_at t.sessions id).slot
-      open-slot n = by (stream_place t.sessions t.streams id n)
+      open_slot : (n : ℕ) → (session_at (open_tables t id n).sessions id).slot ≡ (session_at t.sessions id).slot
+      open_slot n = by (stream_place t.sessions t.streams id n)
         where
           by : (p : StreamPlace) → (session_at (opened_count p t.sessions id) id).slot ≡ (session_at t.sessions id).slot
           by (Have k) = refl
@@ -604,34 +604,34 @@ module _ (P : StreamState → Type 0) (lasting : Lasting P) (most : ℕ) where
           by (Refused r) = refl
 
       -- what `read_stream` hands back is known as what is written back is
-      pub read-lasts : (n : ℕ) → P (read_as (stream_place t.sessions t.streams id n) t.streams id).state
-      read-lasts n = by (is_free t.sessions id) refl
+      pub read_lasts : (n : ℕ) → P (read_as (stream_place t.sessions t.streams id n) t.streams id).state
+      read_lasts n = by (is_free t.sessions id) refl
         where
           at : is_free t.sessions id ≡ false → (p : StreamPlace) → ((k : ℕ) → p ≡ Have k → k < streams_used t.sessions id) → P (state_at p t.streams id)
           at e (Have k) f =
               let used< : streams_used t.sessions id ≤ 8 = (d.each id id<).few_streams in
               let l : k < streams_used t.sessions id = f k refl in
-              subst (λ (w : List ℕ). P (stream_of w)) (streams.row_at t id id< (its-streams e) k (omega arith)) ((d.each id id<).written k l)
+              subst (λ (w : List ℕ). P (stream_of w)) (streams.row_at t id id< (its_streams e) k (omega arith)) ((d.each id id<).written k l)
           at e (Add k) f = lasting.opens 0
           at e Full f = lasting.opens 0
           at e NotLive f = lasting.opens 0
           at e (Refused r) f = lasting.opens 0
 
           by : (b : Bool) → is_free t.sessions id ≡ b → P (read_as (stream_place t.sessions t.streams id n) t.streams id).state
-          by true e = subst (λ (r : StreamRead). P r.state) (sym (streams.read_gone t id (no-streams e) n)) (lasting.opens 0)
-          by false e = at e (stream_place t.sessions t.streams id n) (λ k q. (subst (streams.Seen t id id< (its-streams e) n) q (streams.seen t id id< (its-streams e) n)).0)
+          by true e = subst (λ (r : StreamRead). P r.state) (sym (streams.read_gone t id (no_streams e) n)) (lasting.opens 0)
+          by false e = at e (stream_place t.sessions t.streams id n) (λ k q. (subst (streams.Seen t id id< (its_streams e) n) q (streams.seen t id id< (its_streams e) n)).0)
 
-      pub put-led : (o : Object) → LeadsTo P most t (put_tables t id o)
-      put-led o = call_led (put_tables t id o) id (λ e. put-free e o) (λ e. (put-changed e o, λ f. put-slot o))
+      pub put_led : (o : Object) → LeadsTo P most t (put_tables t id o)
+      put_led o = call_led (put_tables t id o) id (λ e. put_free e o) (λ e. (put_changed e o, λ f. put_slot o))
 
-      pub drop-led : (n : ObjectNumber) → LeadsTo P most t (drop_tables t id n)
-      drop-led n = call_led (drop_tables t id n) id (λ e. drop-free e n) (λ e. (drop-changed e n, λ f. drop-slot n))
+      pub drop_led : (n : ObjectNumber) → LeadsTo P most t (drop_tables t id n)
+      drop_led n = call_led (drop_tables t id n) id (λ e. drop_free e n) (λ e. (drop_changed e n, λ f. drop_slot n))
 
-      pub open-led : (n : ℕ) → n < 256 → LeadsTo P most t (open_tables t id n)
-      open-led n h = call_led (open_tables t id n) id (λ e. (streams.open_gone t id (no-streams e) n).1) (λ e. (open-changed e n h, λ f. open-slot n))
+      pub open_led : (n : ℕ) → n < 256 → LeadsTo P most t (open_tables t id n)
+      open_led n h = call_led (open_tables t id n) id (λ e. (streams.open_gone t id (no_streams e) n).1) (λ e. (open_changed e n h, λ f. open_slot n))
 
-      pub write-led : (s : StreamState) → s.stream_id < 256 → P s → LeadsTo P most t (write_tables t id s)
-      write-led s h w = call_led (write_tables t id s) id (λ e. (streams.write_gone t id (no-streams e) s).1) (λ e. (write-changed e s h w, λ f. refl))
+      pub write_led : (s : StreamState) → s.stream_id < 256 → P s → LeadsTo P most t (write_tables t id s)
+      write_led s h w = call_led (write_tables t id s) id (λ e. (streams.write_gone t id (no_streams e) s).1) (λ e. (write_changed e s h w, λ f. refl))
 
     -- ---- a new session
 
@@ -639,31 +639,31 @@ module _ (P : StreamState → Type 0) (lasting : Lasting P) (most : ℕ) where
       abbrev made : ClientSession
       made = table.made t id next key time d.sessions_need_lem d.streams_need_lem id<
 
-      new-part : SoundPart P (record { session = made; objects = object_row t.objects id; streams = set (stream_rows t.streams id) 0 (stream_row (new_stream 0)); held = held_part t.held made; parts = table.parts_of t made; lengths = table.lengths_of t made })
+      new_part : SoundPart P (record { session = made; objects = object_row t.objects id; streams = set (stream_rows t.streams id) 0 (stream_row (new_stream 0)); held = held_part t.held made; parts = table.parts_of t made; lengths = table.lengths_of t made })
       unfolding listed
-      new-part = record {
+      new_part = record {
         few_objects = omega arith;
         few_streams = omega arith;
         objects_differ = none_distinct;
         streams_differ = subst (λ (ks : List KeptStream). Distinct (stream_numbers ks)) (sym (table.one_open t id next key time d.sessions_need_lem d.streams_need_lem id< (held_part t.held made))) (one_distinct 0);
-        written = λ k h. subst (λ (m : ℕ). P (stream_of (get_or (set (stream_rows t.streams id) 0 (stream_row (new_stream 0))) m []))) (let z : 0 ≡ k = omega arith in z) first-written;
+        written = λ k h. subst (λ (m : ℕ). P (stream_of (get_or (set (stream_rows t.streams id) 0 (stream_row (new_stream 0))) m []))) (let z : 0 ≡ k = omega arith in z) first_written;
         few_fragments = omega arith;
         fragments = no_fragments (table.parts_of t made) (table.lengths_of t made);
         fragments_gone = λ e. refl;
         stream_zero = λ e. (omega arith, ap (λ (l : List ℕ). (stream_of l).stream_id) first_row ∙ ap (λ (x : KeptStream). x.number) (new_shown [] 0 (omega arith)));
       }
         where
-          eight-rows : length (stream_rows t.streams id) ≡ 8
-          eight-rows = table.streams_length t.streams id d.streams_need_lem id<
+          eight_rows : length (stream_rows t.streams id) ≡ 8
+          eight_rows = table.streams_length t.streams id d.streams_need_lem id<
 
           first_row : get_or (set (stream_rows t.streams id) 0 (stream_row (new_stream 0))) 0 [] ≡ stream_row (new_stream 0)
-          first_row = get_or-set_same (stream_rows t.streams id) 0 (stream_row (new_stream 0)) [] (omega (arith, eight-rows))
+          first_row = get_or-set_same (stream_rows t.streams id) 0 (stream_row (new_stream 0)) [] (omega (arith, eight_rows))
 
-          first-written : P (stream_of (get_or (set (stream_rows t.streams id) 0 (stream_row (new_stream 0))) 0 []))
-          first-written = subst (λ (l : List ℕ). P (stream_of l)) (sym first_row) (lasting.reads (new_stream 0) (lasting.opens 0))
+          first_written : P (stream_of (get_or (set (stream_rows t.streams id) 0 (stream_row (new_stream 0))) 0 []))
+          first_written = subst (λ (l : List ℕ). P (stream_of l)) (sym first_row) (lasting.reads (new_stream 0) (lasting.opens 0))
 
-      new-changed : Changed t (table.opened_tables t id next key time) id
-      new-changed = record {
+      new_changed : Changed t (table.opened_tables t id next key time) id
+      new_changed = record {
         sessions_length = length-set t.sessions id (row_of made);
         streams_length = length-set t.streams (first_stream id) (stream_row (new_stream 0));
         objects_length = refl;
@@ -672,7 +672,7 @@ module _ (P : StreamState → Type 0) (lasting : Lasting P) (most : ℕ) where
         lengths_length = refl;
         rebuilt_length = refl;
         elsewhere = table.opened_elsewhere t id next key time d.sessions_need_lem d.streams_need_lem id<;
-        here = subst (SoundPart P) (sym (table.opened_here t id next key time d.sessions_need_lem d.streams_need_lem id<)) new-part;
+        here = subst (SoundPart P) (sym (table.opened_here t id next key time d.sessions_need_lem d.streams_need_lem id<)) new_part;
       }
 
       -- the new session's slot is below the limit, and no live session has it
@@ -680,52 +680,52 @@ module _ (P : StreamState → Type 0) (lasting : Lasting P) (most : ℕ) where
         abbrev slot : ℕ
         slot = free_slot t.sessions
 
-        here-slot : (session_at (table.opened_tables t id next key time).sessions id).slot ≡ slot
-        here-slot = ap (λ (p : Part). p.session.slot) (table.opened_here t id next key time d.sessions_need_lem d.streams_need_lem id<)
+        here_slot : (session_at (table.opened_tables t id next key time).sessions id).slot ≡ slot
+        here_slot = ap (λ (p : Part). p.session.slot) (table.opened_here t id next key time d.sessions_need_lem d.streams_need_lem id<)
 
         abbrev rows' : List (List ℕ)
         rows' = (table.opened_tables t id next key time).sessions
 
         -- of another session
-        other-live : (j : ℕ) → j ≢ id → is_free rows' j ≡ false → is_free t.sessions j ≡ false
-        other-live j n e = sym (ap (λ (s : ClientSession). eqb s.live 0) (session_elsewhere (table.opened_tables t id next key time) id new-changed j n)) ∙ e
+        other_live : (j : ℕ) → j ≢ id → is_free rows' j ≡ false → is_free t.sessions j ≡ false
+        other_live j n e = sym (ap (λ (s : ClientSession). eqb s.live 0) (session_elsewhere (table.opened_tables t id next key time) id new_changed j n)) ∙ e
 
-        other-slot : (j : ℕ) → j ≢ id → (session_at rows' j).slot ≡ (session_at t.sessions j).slot
-        other-slot j n = ap (λ (s : ClientSession). s.slot) (session_elsewhere (table.opened_tables t id next key time) id new-changed j n)
+        other_slot : (j : ℕ) → j ≢ id → (session_at rows' j).slot ≡ (session_at t.sessions j).slot
+        other_slot j n = ap (λ (s : ClientSession). s.slot) (session_elsewhere (table.opened_tables t id next key time) id new_changed j n)
 
         other_differs : (j : ℕ) → j < 256 → j ≢ id → is_free rows' j ≡ false → (session_at rows' j).slot ≢ slot
         other_differs j h n e q =
-            let l = other-live j n e in
-            slots.not_its t.sessions slot (slots.slot_free t.sessions max max≤ live) j (live_id j l) (omega arith) l (sym (other-slot j n) ∙ q)
+            let l = other_live j n e in
+            slots.not_its t.sessions slot (slots.slot_free t.sessions max max≤ live) j (live_id j l) (omega arith) l (sym (other_slot j n) ∙ q)
 
-        new-slots : SoundSlots most rows'
-        new-slots = record {
-          under = λ j h e. under-by j h e (eqb j id) refl;
-          differ = λ i j a b x y e. differ-by i j a b x y e (eqb i id) refl (eqb j id) refl;
+        new_slots : SoundSlots most rows'
+        new_slots = record {
+          under = λ j h e. under_by j h e (eqb j id) refl;
+          differ = λ i j a b x y e. differ_by i j a b x y e (eqb i id) refl (eqb j id) refl;
         }
           where
-            under-by : (j : ℕ) → j < 256 → is_free rows' j ≡ false → (b : Bool) → eqb j id ≡ b → (session_at rows' j).slot < most
-            under-by j h e true q =
+            under_by : (j : ℕ) → j < 256 → is_free rows' j ≡ false → (b : Bool) → eqb j id ≡ b → (session_at rows' j).slot < most
+            under_by j h e true q =
                 let z : j ≡ id = eqb-true j id q in
-                let s : (session_at rows' j).slot ≡ slot = ap (λ (k : ℕ). (session_at rows' k).slot) z ∙ here-slot in
+                let s : (session_at rows' j).slot ≡ slot = ap (λ (k : ℕ). (session_at rows' k).slot) z ∙ here_slot in
                 let w = slots.slot_under t.sessions max max≤ live in
                 omega (arith, s, w)
-            under-by j h e false q = let n = eqb-false j id q in rw (other-slot j n) (d.slots.under j h (other-live j n e))
+            under_by j h e false q = let n = eqb-false j id q in rw (other_slot j n) (d.slots.under j h (other_live j n e))
 
-            differ-by : (i j : ℕ) → i < 256 → j < 256 → is_free rows' i ≡ false → is_free rows' j ≡ false → (session_at rows' i).slot ≡ (session_at rows' j).slot
+            differ_by : (i j : ℕ) → i < 256 → j < 256 → is_free rows' i ≡ false → is_free rows' j ≡ false → (session_at rows' i).slot ≡ (session_at rows' j).slot
                 → (p : Bool) → eqb i id ≡ p → (q : Bool) → eqb j id ≡ q → i ≡ j
-            differ-by i j a b x y e true p true q = eqb-true i id p ∙ sym (eqb-true j id q)
-            differ-by i j a b x y e true p false q =
-                absurd (other_differs j b (eqb-false j id q) y (sym e ∙ ap (λ (k : ℕ). (session_at rows' k).slot) (eqb-true i id p) ∙ here-slot))
-            differ-by i j a b x y e false p true q =
-                absurd (other_differs i a (eqb-false i id p) x (e ∙ ap (λ (k : ℕ). (session_at rows' k).slot) (eqb-true j id q) ∙ here-slot))
-            differ-by i j a b x y e false p false q =
+            differ_by i j a b x y e true p true q = eqb-true i id p ∙ sym (eqb-true j id q)
+            differ_by i j a b x y e true p false q =
+                absurd (other_differs j b (eqb-false j id q) y (sym e ∙ ap (λ (k : ℕ). (session_at rows' k).slot) (eqb-true i id p) ∙ here_slot))
+            differ_by i j a b x y e false p true q =
+                absurd (other_differs i a (eqb-false i id p) x (e ∙ ap (λ (k : ℕ). (session_at rows' k).slot) (eqb-true j id q) ∙ here_slot))
+            differ_by i j a b x y e false p false q =
                 let m = eqb-false i id p in
                 let n = eqb-false j id q in
-                d.slots.differ i j a b (other-live i m x) (other-live j n y) (sym (other-slot i m) ∙ e ∙ other-slot j n)
+                d.slots.differ i j a b (other_live i m x) (other_live j n y) (sym (other_slot i m) ∙ e ∙ other_slot j n)
 
-        new-led : 1 ≤ id → LeadsTo P most t (table.opened_tables t id next key time)
-        new-led low = changed_led (table.opened_tables t id next key time) id low new-changed new-slots
+        new_led : 1 ≤ id → LeadsTo P most t (table.opened_tables t id next key time)
+        new_led low = changed_led (table.opened_tables t id next key time) id low new_changed new_slots
 
     pub create_led : (max next key time : ℕ) → next < 256 → max ≤ most → LeadsTo P most t (create_tables (created_of t.sessions t.streams max next) t key time)
     unfolding created_of chosen_of
@@ -741,7 +741,7 @@ module _ (P : StreamState → Type 0) (lasting : Lasting P) (most : ℕ) where
         by true e true l true z = same_led
         by true e true l false z =
             let i = fresh_id t.sessions t.streams max next h e (eqb-false (free_of t.sessions next) 0 z) in
-            new-led f (after f) key time i.1 max (fits_max t.sessions t.streams max next h e) m (ltb-true (live_of t.sessions) max l) i.0
+            new_led f (after f) key time i.1 max (fits_max t.sessions t.streams max next h e) m (ltb-true (live_of t.sessions) max l) i.0
         by true e false l c z = same_led
         by false e b l c z = same_led
 
@@ -771,25 +771,25 @@ module _ (P : StreamState → Type 0) (lasting : Lasting P) (most : ℕ) where
   pub ready_led : (t : Tables) (max next : ℕ) → Long (length t.sessions) (length t.streams) (length t.objects) (length t.held) (length t.parts) (length t.lengths) (length t.rebuilt) max
       → held_need most ≤ length t.held → parts_need most ≤ length t.parts → lengths_need most ≤ length t.lengths → LeadsTo P most t (set_up_tables (setup.Ready next) t)
   ready_led t max next long held-room parts-room lengths-room = record {
-    sound = empty_sound (set_up_tables (setup.Ready next) t) (rw sessions-same long.sessions_long) (rw streams_same long.streams_long) (rw objects-same long.objects_long) held-room parts-room lengths-room long.rebuilt_long
+    sound = empty_sound (set_up_tables (setup.Ready next) t) (rw sessions_same long.sessions_long) (rw streams_same long.streams_long) (rw objects_same long.objects_long) held-room parts-room lengths-room long.rebuilt_long
         (λ id h. ap session_of (cleared_at (row_of ended_session) 256 t.sessions id [] h));
-    sessions_length = sessions-same;
+    sessions_length = sessions_same;
     streams_length = streams_same;
-    objects_length = objects-same;
+    objects_length = objects_same;
     held_length = refl;
     parts_length = refl;
     lengths_length = refl;
     rebuilt_length = refl;
   }
     where
-      sessions-same : length (empty_sessions t.sessions) ≡ length t.sessions
-      sessions-same = cleared_length (row_of ended_session) 256 t.sessions long.sessions_long
+      sessions_same : length (empty_sessions t.sessions) ≡ length t.sessions
+      sessions_same = cleared_length (row_of ended_session) 256 t.sessions long.sessions_long
 
       streams_same : length (empty_streams t.streams) ≡ length t.streams
       streams_same = cleared_length no_stream 2048 t.streams long.streams_long
 
-      objects-same : length (empty_objects t.objects) ≡ length t.objects
-      objects-same = cleared_length blank 8192 t.objects long.objects_long
+      objects_same : length (empty_objects t.objects) ≡ length t.objects
+      objects_same = cleared_length blank 8192 t.objects long.objects_long
 
   pub set_up_led : (max : ℕ) (t : Tables) → SoundTables P most t → LeadsTo P most t (set_up_tables (set_up_of (length t.sessions) (length t.streams) (length t.objects) (length t.held) (length t.parts) (length t.lengths) (length t.rebuilt) max) t)
   unfolding set_up_of

@@ -86,24 +86,24 @@ module _ (P : StreamState → Type 0) (lasting : Lasting P) (most : ℕ) where
       behind = (alloc_of (record_of s s.next_send_seq (length message) room).state).state
 
       known : P s
-      known = subst (λ (p : StreamPlace). P (read_as p t.streams id).state) found (steps.read-lasts P lasting most t d id id< n)
+      known = subst (λ (p : StreamPlace). P (read_as p t.streams id).state) found (steps.read_lasts P lasting most t d id id< n)
 
       own : behind.stream_id ≡ n
       own = sent_number s s.next_send_seq (length message) room ∙ number
 
-      written-led : LeadsTo P most t (with_rows (written_in (Have k) t.streams id behind))
-      written-led =
+      written_led : LeadsTo P most t (with_rows (written_in (Have k) t.streams id behind))
+      written_led =
           subst (λ (p : StreamPlace). LeadsTo P most t (with_rows (written_in p t.streams id behind))) (ap (stream_place t.sessions t.streams id) own ∙ found)
-          (steps.write-led P lasting most t d id id< behind
+          (steps.write_led P lasting most t d id id< behind
           (rw (sent_number s s.next_send_seq (length message) room) (row_small _))
           (lasting.sends s (length message) room known))
 
-      rows-led : LeadsTo P most t (with_rows (sent_streams_at (Have k) t.sessions t.streams t.held id message))
+      rows_led : LeadsTo P most t (with_rows (sent_streams_at (Have k) t.sessions t.streams t.held id message))
       unfolding record_of
-      rows-led = by (slot_for s s.next_send_seq (length message) room)
+      rows_led = by (slot_for s s.next_send_seq (length message) room)
         where
           by : (a : Slot) → LeadsTo P most t (with_rows (sent_row a t.streams (first_stream id + k) (record_of s s.next_send_seq (length message) room).state))
-          by (slot.At p) = written-led
+          by (slot.At p) = written_led
           by slot.Nowhere = steps.same_led P lasting most t d
           by (slot.Refused r) = steps.same_led P lasting most t d
 
@@ -116,7 +116,7 @@ module _ (P : StreamState → Type 0) (lasting : Lasting P) (most : ℕ) where
 
         by : (live : streams_named t.sessions (length t.streams) id ≡ named.Live) (p : StreamPlace) → place ≡ p → streams.Seen t id id< live n p
             → LeadsTo P most t (with_rows (sent_streams_at p t.sessions t.streams t.held id message))
-        by live (Have k) e s = rows-led k e (streams.at_number t id id< live n k s)
+        by live (Have k) e s = rows_led k e (streams.at_number t id id< live n k s)
         by live (Add k) e s = steps.same_led P lasting most t d
         by live Full e s = steps.same_led P lasting most t d
         by live NotLive e s = absurd s

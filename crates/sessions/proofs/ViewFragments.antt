@@ -33,7 +33,7 @@ use Rattle.sessions.proofs.Buffers.{with_same, with_length, put_back}
 use Rattle.sessions.proofs.ViewTable.{kept_here, kept_elsewhere}
 use Rattle.sessions.proofs.sending.Laws.{buffer_length}
 use Rattle.sessions.proofs.fragments.Laws.{Stands, stretch_stands, has_slot_lem, part_here, slot_apart, not_taken, taken_is}
-use Rattle.sessions.proofs.fragments.Store.{Allowed, allowed_is, parts_length, lengths_length, rebuilt_keeps, ends, slots_left, fragment-ends}
+use Rattle.sessions.proofs.fragments.Store.{Allowed, allowed_is, parts_length, lengths_length, rebuilt_keeps, ends, slots_left, fragment_ends}
 
 -- ---- any tables
 
@@ -249,7 +249,7 @@ module _ (t : Tables) (id nr total : ℕ) (body : List ℕ) where
       streams = stream_rows t.streams id;
       held = held_same i;
       parts = parts_same i;
-      lengths = lengths-same i;
+      lengths = lengths_same i;
     }
       where
         row : session_at after.sessions id ≡ gathered_session session comes_to
@@ -272,8 +272,8 @@ module _ (t : Tables) (id nr total : ℕ) (body : List ℕ) where
             ∙ sym (ap (λ (l : List ℕ). buffer_in l (parts_stretch session (length t.parts))) parts_are)
             ∙ part_here t.parts (parts_stretch session (length t.parts)) (stretch_stands 32768 session.slot (length t.parts)).1 (stretch_stands 32768 session.slot (length t.parts)).2 (parts_after session own its nr total body) (after_parts t.sessions t.parts t.lengths t.rebuilt id nr total body)
 
-        lengths-same : own_lengths after.sessions after.lengths id ≡ lengths_after session own its nr total body
-        lengths-same =
+        lengths_same : own_lengths after.sessions after.lengths id ≡ lengths_after session own its nr total body
+        lengths_same =
             (λ i. buffer_in after.lengths (slot_stretch 64 (slot i) (lengths_long i)))
             ∙ sym (ap (λ (l : List ℕ). buffer_in l (lengths_stretch session (length t.lengths))) lengths_are)
             ∙ part_here t.lengths (lengths_stretch session (length t.lengths)) (stretch_stands 64 session.slot (length t.lengths)).1 (stretch_stands 64 session.slot (length t.lengths)).2 (lengths_after session own its nr total body) (after_lengths t.sessions t.parts t.lengths t.rebuilt id nr total body)
@@ -286,7 +286,7 @@ module _ (t : Tables) (id nr total : ℕ) (body : List ℕ) where
       streams = stream_rows t.streams j;
       held = held_part t.held (row i);
       parts = parts_same i;
-      lengths = lengths-same i;
+      lengths = lengths_same i;
     }
       where
         row : session_at after.sessions j ≡ session_at t.sessions j
@@ -298,8 +298,8 @@ module _ (t : Tables) (id nr total : ℕ) (body : List ℕ) where
             ∙ sym (ap (λ (l : List ℕ). buffer_in l (parts_stretch (session_at t.sessions j) (length t.parts))) parts_are)
             ∙ slot_apart 32768 session.slot (session_at t.sessions j).slot apart t.parts (parts_after session own its nr total body) (after_parts t.sessions t.parts t.lengths t.rebuilt id nr total body)
 
-        lengths-same : own_lengths after.sessions after.lengths j ≡ own_lengths t.sessions t.lengths j
-        lengths-same =
+        lengths_same : own_lengths after.sessions after.lengths j ≡ own_lengths t.sessions t.lengths j
+        lengths_same =
             (λ i. buffer_in after.lengths (lengths_stretch (row i) (lengths_long i)))
             ∙ sym (ap (λ (l : List ℕ). buffer_in l (lengths_stretch (session_at t.sessions j) (length t.lengths))) lengths_are)
             ∙ slot_apart 64 session.slot (session_at t.sessions j).slot apart t.lengths (lengths_after session own its nr total body) (after_lengths t.sessions t.parts t.lengths t.rebuilt id nr total body)
@@ -369,9 +369,9 @@ module _ (P : StreamState → Type 0) (most : ℕ) (t : Tables) (d : SoundTables
       abbrev ls : List ℕ
       ls = own_lengths t.sessions t.lengths id
 
-      takes-is : takes t.sessions id nr total (length body) ≡ allowed nr total (length body)
+      takes_is : takes t.sessions id nr total (length body) ≡ allowed nr total (length body)
       unfolding named_of
-      takes-is = rw (le-leb 256 (length t.sessions) d.sessions_need_lem, live)
+      takes_is = rw (le-leb 256 (length t.sessions) d.sessions_need_lem, live)
 
       enough : Allowed nr total (length body) → under_need total 512 (length ps) (length ls) ≡ false
       unfolding under_need
@@ -382,30 +382,30 @@ module _ (P : StreamState → Type 0) (most : ℕ) (t : Tables) (d : SoundTables
           rw (le-ltb (length ps) (total * 512) (omega (arith, h, p)), le-ltb (length ls) total (omega (arith, h, q)))
 
       ended : (ok : Allowed nr total (length body)) → ends here ps ls (d.each id id<).fragments nr total body ok t.rebuilt (whole_of (slots_with (store_of t id) nr total body))
-      ended ok = fragment-ends here ps ls (d.each id id<).fragments nr total body ok (enough ok) t.rebuilt d.rebuilt_need_lem
+      ended ok = fragment_ends here ps ls (d.each id id<).fragments nr total body ok (enough ok) t.rebuilt d.rebuilt_need_lem
 
       -- ---- what is shown of the session behind it: "A repeated fragment replaces the body held", and so on
 
-      abbrev shownWith : FragmentStore → Local
-      shownWith st =
+      abbrev shown_with : FragmentStore → Local
+      shown_with st =
           record { id = id; key = here.client_key; last = here.last_activity; objects = objects_shown (table_part t id); streams = streams_shown (table_part t id); store = st }
 
-      shown_live : (st : FragmentStore) → with_store st (local_of t id) ≡ some (shownWith st)
+      shown_live : (st : FragmentStore) → with_store st (local_of t id) ≡ some (shown_with st)
       shown_live st = ap (λ (x : Bool). with_store st (cond x none (some (session_shown id (table_part t id))))) live
 
-      shown-behind : (ok : Allowed nr total (length body)) (o : Option (List ℕ)) → ends here ps ls (d.each id id<).fragments nr total body ok t.rebuilt o
-          → local_shown id (part_with t id nr total body (comes_to t id nr total body)) ≡ some (shownWith (store_behind total (slots_with (store_of t id) nr total body) o))
+      shown_behind : (ok : Allowed nr total (length body)) (o : Option (List ℕ)) → ends here ps ls (d.each id id<).fragments nr total body ok t.rebuilt o
+          → local_shown id (part_with t id nr total body (comes_to t id nr total body)) ≡ some (shown_with (store_behind total (slots_with (store_of t id) nr total body) o))
       unfolding slots_of
-      shown-behind ok none e =
+      shown_behind ok none e =
           ap (λ (g : Gathered). local_shown id (part_with t id nr total body g)) e.1
           ∙ ap (λ (x : Bool). cond x none (some (session_shown id (part_with t id nr total body (Held (buffer_with total e.0)))))) live
-          ∙ ap (λ (v : List Slot). some (shownWith (record { total = total; slots = v }))) (slots_left here ps ls (d.each id id<).fragments nr total body ok (enough ok))
-      shown-behind ok (some bytes) e =
+          ∙ ap (λ (v : List Slot). some (shown_with (record { total = total; slots = v }))) (slots_left here ps ls (d.each id id<).fragments nr total body ok (enough ok))
+      shown_behind ok (some bytes) e =
           ap (λ (g : Gathered). local_shown id (part_with t id nr total body g)) e.0
           ∙ ap (λ (x : Bool). cond x none (some (session_shown id (part_with t id nr total body (Whole (length bytes)))))) live
 
-      pub gather-here : local_of (gather_tables t id nr total body) id ≡ with_store (gathered_store (store_of t id) nr total body) (local_of t id)
-      gather-here = by (allowed nr total (length body)) refl
+      pub gather_here : local_of (gather_tables t id nr total body) id ≡ with_store (gathered_store (store_of t id) nr total body) (local_of t id)
+      gather_here = by (allowed nr total (length body)) refl
         where
           behind : FragmentStore
           behind = store_behind total (slots_with (store_of t id) nr total body) (whole_of (slots_with (store_of t id) nr total body))
@@ -414,12 +414,12 @@ module _ (P : StreamState → Type 0) (most : ℕ) (t : Tables) (d : SoundTables
           by true e =
               let ok = allowed_is nr total (length body) e in
               let n = d.sessions_need_lem in
-              ap (local_shown id) (gather_part t id nr total body (takes-is ∙ e) (omega (arith, n, id<)))
-              ∙ shown-behind ok (whole_of (slots_with (store_of t id) nr total body)) (ended ok)
+              ap (local_shown id) (gather_part t id nr total body (takes_is ∙ e) (omega (arith, n, id<)))
+              ∙ shown_behind ok (whole_of (slots_with (store_of t id) nr total body)) (ended ok)
               ∙ sym (shown_live behind)
               ∙ sym (ap (λ (x : Bool). with_store (cond x behind (store_of t id)) (local_of t id)) e)
           by false e =
-              ap (λ (u : Tables). local_of u id) (gather_nothing t id nr total body (takes-is ∙ e)).0
+              ap (λ (u : Tables). local_of u id) (gather_nothing t id nr total body (takes_is ∙ e)).0
               ∙ ap (λ (x : Bool). cond x none (some (session_shown id (table_part t id)))) live
               ∙ sym (shown_live (store_of t id))
               ∙ sym (ap (λ (x : Bool). with_store (cond x behind (store_of t id)) (local_of t id)) e)
@@ -433,8 +433,8 @@ module _ (P : StreamState → Type 0) (most : ℕ) (t : Tables) (d : SoundTables
           × (take (length bytes) (gather_tables t id nr total body).rebuilt ≡ bytes)
           × (length bytes ≤ 32768)
 
-      pub gather-answer : Answered (gathered_bytes (store_of t id) nr total body)
-      gather-answer = by (allowed nr total (length body)) refl
+      pub gather_answer : Answered (gathered_bytes (store_of t id) nr total body)
+      gather_answer = by (allowed nr total (length body)) refl
         where
           told : (so : takes t.sessions id nr total (length body) ≡ true) (ok : Allowed nr total (length body)) (o : Option (List ℕ))
               → ends here ps ls (d.each id id<).fragments nr total body ok t.rebuilt o → Answered o
@@ -448,15 +448,15 @@ module _ (P : StreamState → Type 0) (most : ℕ) (t : Tables) (d : SoundTables
           by : (x : Bool) → allowed nr total (length body) ≡ x → Answered (gathered_bytes (store_of t id) nr total body)
           by true e =
               let ok = allowed_is nr total (length body) e in
-              subst Answered (sym (ap (λ (x : Bool). cond x (whole_of (slots_with (store_of t id) nr total body)) none) e)) (told (takes-is ∙ e) ok (whole_of (slots_with (store_of t id) nr total body)) (ended ok))
+              subst Answered (sym (ap (λ (x : Bool). cond x (whole_of (slots_with (store_of t id) nr total body)) none) e)) (told (takes_is ∙ e) ok (whole_of (slots_with (store_of t id) nr total body)) (ended ok))
           by false e =
-              subst Answered (sym (ap (λ (x : Bool). cond x (whole_of (slots_with (store_of t id) nr total body)) none) e)) (ap whole_in (gather_nothing t id nr total body (takes-is ∙ e)).1)
+              subst Answered (sym (ap (λ (x : Bool). cond x (whole_of (slots_with (store_of t id) nr total body)) none) e)) (ap whole_in (gather_nothing t id nr total body (takes_is ∙ e)).1)
 
-      pub gather-missing : gathered_bytes (store_of t id) nr total body ≡ none → whole_in (gathered t.sessions t.parts t.lengths t.rebuilt id nr total body) ≡ none
-      gather-missing e = subst Answered e gather-answer
+      pub gather_missing : gathered_bytes (store_of t id) nr total body ≡ none → whole_in (gathered t.sessions t.parts t.lengths t.rebuilt id nr total body) ≡ none
+      gather_missing e = subst Answered e gather_answer
 
-      pub gather-whole : (bytes : List ℕ) → gathered_bytes (store_of t id) nr total body ≡ some bytes
+      pub gather_whole : (bytes : List ℕ) → gathered_bytes (store_of t id) nr total body ≡ some bytes
           → (gathered t.sessions t.parts t.lengths t.rebuilt id nr total body ≡ Whole (length bytes))
           × (take (length bytes) (gather_tables t id nr total body).rebuilt ≡ bytes)
           × (length bytes ≤ 32768)
-      gather-whole bytes e = subst Answered e gather-answer
+      gather_whole bytes e = subst Answered e gather_answer

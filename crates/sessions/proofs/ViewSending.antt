@@ -39,7 +39,7 @@ use Rattle.sessions.specs.declared.sending.Stretch.{Stretch}
 use Rattle.sessions.specs.declared.session_streams.StreamPlace.{StreamPlace}
 use Rattle.sessions.specs.declared.session_streams.StreamPlace.TheVariants.{Have, Add, Full, NotLive, Refused}
 use Rattle.sessions.specs.declared.table.Named.TheVariants as named
-use Rattle.sessions.proofs.Buffers.{with_same, with_length, put_back, stretch_lies, stretch_room, buffer_there, buffer_full, slot-elsewhere, buffer-here, buffer_elsewhere}
+use Rattle.sessions.proofs.Buffers.{with_same, with_length, put_back, stretch_lies, stretch_room, buffer_there, buffer_full, slot_elsewhere, buffer_here, buffer_elsewhere}
 use Rattle.sessions.proofs.SoundStreams.{stream_lasts}
 use Rattle.sessions.proofs.Steps as steps
 use Rattle.sessions.proofs.StreamBack.{row_small, row_shown}
@@ -274,7 +274,7 @@ module _ (most : ℕ) (t : Tables) (d : SoundTables SoundStream most t) (few : m
 
         by : (b : Bool) → is_free t.sessions j ≡ b → cond b [] (slot_part sent.held its_slot) ≡ cond b [] (slot_part t.held its_slot)
         by true e = refl
-        by false e = slot-elsewhere own k low high t.held own_few own_room filled filled_long its_slot (λ q. h (d.slots.differ j id j< id< e live q))
+        by false e = slot_elsewhere own k low high t.held own_few own_room filled filled_long its_slot (λ q. h (d.slots.differ j id j< id< e live q))
 
     -- the session's own streams
     abbrev part' : List ℕ
@@ -290,7 +290,7 @@ module _ (most : ℕ) (t : Tables) (d : SoundTables SoundStream most t) (few : m
         ∙ ap (set (streams_of t id) k) (row_shown behind (buffer_at part' k) number_stays ∙ ap (λ (l : List ℕ). kept_of (bytes_in l) behind) here)
       where
         here : buffer_at part' k ≡ filled
-        here = ap (λ (l : List ℕ). buffer_at l k) (part_is sent.held) ∙ buffer-here own k low high t.held own_few own_room filled filled_long
+        here = ap (λ (l : List ℕ). buffer_at l k) (part_is sent.held) ∙ buffer_here own k low high t.held own_few own_room filled filled_long
 
         same : (j : ℕ) → j < streams_used t.sessions id → j ≢ k → buffer_at part' j ≡ buffer_at (streams.part t id id< its) j
         same j l n =
@@ -366,7 +366,7 @@ module _ (most : ℕ) (t : Tables) (d : SoundTables SoundStream most t) (few : m
     next_place = place_for s s.next_send_seq
 
     known : SoundStream s
-    known = subst (λ (p : StreamPlace). SoundStream (read_as p t.streams id).state) f.found (steps.read-lasts SoundStream stream_lasts most t d id id< n)
+    known = subst (λ (p : StreamPlace). SoundStream (read_as p t.streams id).state) f.found (steps.read_lasts SoundStream stream_lasts most t d id id< n)
 
     pub next_view : (read_as (stream_place t.sessions t.streams id n) t.streams id).state.next_send_seq ≡ x.next
     next_view = ap (λ (p : StreamPlace). (read_as p t.streams id).state.next_send_seq) f.found ∙ sym (ap (λ (y : KeptStream). y.next) f.kept)
@@ -416,15 +416,15 @@ module _ (most : ℕ) (t : Tables) (d : SoundTables SoundStream most t) (few : m
 
       -- ---- what `send_data` answers
 
-      answer-is : (len : ℕ) → len ≤ 1024 → next_slot s len (room_of (stretch f.index)) ≡ cond (no_place x) (slot.Refused StoreFull) (slot.At next_place)
-      answer-is len short =
+      answer_is : (len : ℕ) → len ≤ 1024 → next_slot s len (room_of (stretch f.index)) ≡ cond (no_place x) (slot.Refused StoreFull) (slot.At next_place)
+      answer_is len short =
           slot_told s known.sound (λ q. other (sym (streams.at_number t id id< its n f.index f.seen) ∙ q)) s.next_send_seq len (room_of (stretch f.index)) short
           (rw (stretch_room own f.index low high t.held own_few own_room) (omega arith))
           ∙ ap (λ (b : Bool). cond b (slot.Refused StoreFull) (slot.At next_place)) (sym place_is)
 
       slot_is : (len : ℕ) → len ≤ 1024 → data_slot t.sessions t.streams (length t.held) id n len ≡ cond (no_place x) (slot.Refused StoreFull) (slot.At next_place)
       unfolding data_slot
-      slot_is len short = ap (λ (p : StreamPlace). data_slot_at p t.sessions t.streams (length t.held) id len) f.found ∙ answer-is len short
+      slot_is len short = ap (λ (p : StreamPlace). data_slot_at p t.sessions t.streams (length t.held) id len) f.found ∙ answer_is len short
 
   pub slot_placed : (n len : ℕ) (x : KeptStream) → n ≢ 0 → stream_in (streams_of t id) n ≡ some x → len ≤ 1024 → no_place x ≡ false → (place : ℕ) × (data_slot t.sessions t.streams (length t.held) id n len ≡ slot.At place)
   slot_placed n len x other e short free = (next_place n x e, slot_is n x e other len short ∙ ap (λ (b : Bool). cond b (slot.Refused StoreFull) (slot.At (next_place n x e))) free)
@@ -453,7 +453,7 @@ module _ (most : ℕ) (t : Tables) (d : SoundTables SoundStream most t) (few : m
       let k = (f n x e).index in
       let l = low n x e other in
       let h = high n x e other in
-      let a = answer-is n x e other (length message) short ∙ ap (λ (b : Bool). cond b (slot.Refused StoreFull) (slot.At (next_place n x e))) free in
+      let a = answer_is n x e other (length message) short ∙ ap (λ (b : Bool). cond b (slot.Refused StoreFull) (slot.At (next_place n x e))) free in
       ap (λ (u : Tables). local_of u id) (sent_is message k l h n (next_place n x e) (f n x e).found a)
       ∙ sent_local message k l h (f n x e).seen.0
       ∙ ap (λ (y : KeptStream). streams.with_streams (set (streams_of t id) k y) (local_of t id))

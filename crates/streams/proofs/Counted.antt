@@ -160,16 +160,16 @@ module _ (s : StreamState) where
     -- document 02, W5: "With 16 held", whatever is read of a message
     pub full_held : {A : Type 0} → (read : ℕ → ℕ → A) → is_full s ≡ leb 16 (many_held (held_by read s))
     unfolding many_held any_from is_held place_of first_place is_full place_between used
-    full_held read = sym (many-used (is_full s) refl) ∙ ap (leb 16) (sym (count_places 16 0 (omega arith)) ∙ sym seen)
+    full_held read = sym (many_used (is_full s) refl) ∙ ap (leb 16) (sym (count_places 16 0 (omega arith)) ∙ sym seen)
       where
         seen : count_from (λ n. present (held_by read s n)) all_numbers 0 ≡ count_from (λ n. any_from (holds_at s n) 16 0) all_numbers 0
         seen = count_agree (λ n. present (held_by read s n)) (λ n. any_from (holds_at s n) 16 0) all_numbers 0 (λ n l x. read_present s n read)
 
-        many-used : (b : Bool) → is_full s ≡ b → leb 16 (count_from used 16 0) ≡ b
-        many-used true e =
+        many_used : (b : Bool) → is_full s ≡ b → leb 16 (count_from used 16 0) ≡ b
+        many_used true e =
             let all = leb-true 16 (first_place (length_at s 0 0)) e in
             rw (count_all used 16 0 (λ j l x. rw (first_before (length_at s 0 0) j (omega arith))))
-        many-used false e =
+        many_used false e =
             let p = first_place (length_at s 0 0) in
             let l : p < 16 = leb-false 16 p e in
             lt-leb 16 (count_from used 16 0) (count_less used 16 0 p (omega arith) l (rw (first_found (length_at s 0 0) l)))

@@ -14,11 +14,11 @@ module _ (a b : ℕ) (ha : a < 65536) (hb : b < 65536) where
   -- else it holds one way, and of equal numbers no way
   pub one_way : (minus a b ≡ 32768 → ⊥) → (a ≡ b → ⊥) → seq_lt b a ≡ not (seq_lt a b)
   unfolding seq_lt
-  one_way far other = one-way-of (ltb 32767 (minus a b)) refl
+  one_way far other = one_way_of (ltb 32767 (minus a b)) refl
     where
-      one-way-of : (t : Bool) → ltb 32767 (minus a b) ≡ t → ltb 32767 (minus b a) ≡ not t
-      one-way-of true e = le-ltb 32767 (minus b a) (omega (arith, ltb-true 32767 (minus a b) e))
-      one-way-of false e = lt-ltb 32767 (minus b a) (omega (arith, ltb-false 32767 (minus a b) e))
+      one_way_of : (t : Bool) → ltb 32767 (minus a b) ≡ t → ltb 32767 (minus b a) ≡ not t
+      one_way_of true e = le-ltb 32767 (minus b a) (omega (arith, ltb-true 32767 (minus a b) e))
+      one_way_of false e = lt-ltb 32767 (minus b a) (omega (arith, ltb-false 32767 (minus a b) e))
 
   pub no_way : a ≡ b → seq_lt a b ≡ false
   unfolding seq_lt

@@ -92,21 +92,21 @@ module _ (a : Agent) (t : Tables) (out d s u : List ℕ) where
     turned_any (turn.Refused r) e = refl
     turned_any turn.Datagram e = absurd (never a.waits e)
       where
-        isDatagram : Turn → ℕ
-        isDatagram turn.Datagram = 1
-        isDatagram (turn.Answer p c) = 0
-        isDatagram (turn.Refused r) = 0
+        is_datagram : Turn → ℕ
+        is_datagram turn.Datagram = 1
+        is_datagram (turn.Answer p c) = 0
+        is_datagram (turn.Refused r) = 0
 
-        fitted : (p : Pending) (f : Bool) → isDatagram (cond f (turn.Answer p b) (turn.Refused OutOfTurn)) ≡ 0
+        fitted : (p : Pending) (f : Bool) → is_datagram (cond f (turn.Answer p b) (turn.Refused OutOfTurn)) ≡ 0
         fitted p true = refl
         fitted p false = refl
 
-        told : (w : Waiting) → isDatagram (turn_of w (Told b)) ≡ 0
+        told : (w : Waiting) → is_datagram (turn_of w (Told b)) ≡ 0
         told waiting.Nothing = refl
         told (waiting.Call p) = fitted p (fits (task_as p.task) (answer_as b []))
 
         never : (w : Waiting) → turn.Datagram ≡ turn_of w (Told b) → ⊥
-        never w e = let z : ◌≡◌ {A = ℕ} 1 0 = ap isDatagram e ∙ told w in omega (arith, z)
+        never w e = let z : ◌≡◌ {A = ℕ} 1 0 = ap is_datagram e ∙ told w in omega (arith, z)
 
     pub any_hours : process_of a t h out d s (Told b) given ≡ process_of a t k out d s (Told b) given
     unfolding process_of judge_of

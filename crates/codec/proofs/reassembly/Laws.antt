@@ -183,9 +183,9 @@ module _ (b : ReassemblyBuffer) (slots lengths held nr len : ℕ) where
     insert_count h = rw (enough, lt-ltb _ _ h)
 
     module _ (counted : b.received_count ≤ b.total_fragments) where
-      pub insert-number : b.total_fragments ≤ nr → check.Refused FragmentNumber ≡ insert_check b slots lengths held nr len
+      pub insert_number : b.total_fragments ≤ nr → check.Refused FragmentNumber ≡ insert_check b slots lengths held nr len
       unfolding insert_check store_over
-      insert-number h = rw (enough, le-ltb _ _ counted, le-ltb _ _ h)
+      insert_number h = rw (enough, le-ltb _ _ counted, le-ltb _ _ h)
 
       module _ (below : nr < b.total_fragments) where
         pub insert_entry : b.width + 1 < held → check.Refused OverLimit ≡ insert_check b slots lengths held nr len
@@ -193,18 +193,18 @@ module _ (b : ReassemblyBuffer) (slots lengths held nr len : ℕ) where
         insert_entry h = rw (enough, le-ltb _ _ counted, lt-ltb _ _ below, lt-ltb _ _ h)
 
         module _ (entry : held ≤ b.width + 1) where
-          pub insert-grown : b.total_fragments < grown b.received_count held → check.Refused OverLimit ≡ insert_check b slots lengths held nr len
+          pub insert_grown : b.total_fragments < grown b.received_count held → check.Refused OverLimit ≡ insert_check b slots lengths held nr len
           unfolding insert_check store_over slot_over
-          insert-grown h = rw (enough, le-ltb _ _ counted, lt-ltb _ _ below, le-ltb _ _ entry, lt-ltb _ _ h)
+          insert_grown h = rw (enough, le-ltb _ _ counted, lt-ltb _ _ below, le-ltb _ _ entry, lt-ltb _ _ h)
 
           module _ (more : grown b.received_count held ≤ b.total_fragments) where
-            pub insert-long : b.width < len → check.Refused StoreFull ≡ insert_check b slots lengths held nr len
+            pub insert_long : b.width < len → check.Refused StoreFull ≡ insert_check b slots lengths held nr len
             unfolding insert_check store_over slot_over
-            insert-long h = rw (enough, le-ltb _ _ counted, lt-ltb _ _ below, le-ltb _ _ entry, le-ltb _ _ more, lt-ltb _ _ h)
+            insert_long h = rw (enough, le-ltb _ _ counted, lt-ltb _ _ below, le-ltb _ _ entry, le-ltb _ _ more, lt-ltb _ _ h)
 
-            pub insert-passes : len ≤ b.width → check.Passes ≡ insert_check b slots lengths held nr len
+            pub insert_passes : len ≤ b.width → check.Passes ≡ insert_check b slots lengths held nr len
             unfolding insert_check store_over slot_over
-            insert-passes h = rw (enough, le-ltb _ _ counted, lt-ltb _ _ below, le-ltb _ _ entry, le-ltb _ _ more, le-ltb _ _ h)
+            insert_passes h = rw (enough, le-ltb _ _ counted, lt-ltb _ _ below, le-ltb _ _ entry, le-ltb _ _ more, le-ltb _ _ h)
 
 -- each answer of the check of 16 alone
 module _ (b : ReassemblyBuffer) (slots : ℕ) (lengths : List ℕ) where
@@ -233,23 +233,23 @@ module _ (b : ReassemblyBuffer) (slots : ℕ) (lengths : List ℕ) where
     assemble_count h = rw (enough, lt-ltb _ _ h)
 
     module _ (counted : b.received_count ≤ b.total_fragments) where
-      pub assemble-past : any_of (is_past b.width) (take b.total_fragments lengths) ≡ true → check.Refused OverLimit ≡ assemble_check b slots lengths
+      pub assemble_past : any_of (is_past b.width) (take b.total_fragments lengths) ≡ true → check.Refused OverLimit ≡ assemble_check b slots lengths
       unfolding assemble_check over_limit store_over
-      assemble-past e = rw (enough, le-ltb _ _ counted, e)
+      assemble_past e = rw (enough, le-ltb _ _ counted, e)
 
       module _ (within : any_of (is_past b.width) (take b.total_fragments lengths) ≡ false) where
-        pub assemble-few : b.received_count < b.total_fragments → check.Refused MissingFragments ≡ assemble_check b slots lengths
+        pub assemble_few : b.received_count < b.total_fragments → check.Refused MissingFragments ≡ assemble_check b slots lengths
         unfolding assemble_check over_limit store_over
-        assemble-few h = rw (enough, le-ltb _ _ counted, within, lt-ltb _ _ h)
+        assemble_few h = rw (enough, le-ltb _ _ counted, within, lt-ltb _ _ h)
 
         module _ (full : b.total_fragments ≤ b.received_count) where
-          pub assemble-free : any_of is_free (take b.total_fragments lengths) ≡ true → check.Refused MissingFragments ≡ assemble_check b slots lengths
+          pub assemble_free : any_of is_free (take b.total_fragments lengths) ≡ true → check.Refused MissingFragments ≡ assemble_check b slots lengths
           unfolding assemble_check over_limit store_over
-          assemble-free e = rw (enough, le-ltb _ _ counted, within, le-ltb _ _ full, e)
+          assemble_free e = rw (enough, le-ltb _ _ counted, within, le-ltb _ _ full, e)
 
-          pub assemble-passes : any_of is_free (take b.total_fragments lengths) ≡ false → check.Passes ≡ assemble_check b slots lengths
+          pub assemble_passes : any_of is_free (take b.total_fragments lengths) ≡ false → check.Passes ≡ assemble_check b slots lengths
           unfolding assemble_check over_limit store_over
-          assemble-passes e = rw (enough, le-ltb _ _ counted, within, le-ltb _ _ full, e)
+          assemble_passes e = rw (enough, le-ltb _ _ counted, within, le-ltb _ _ full, e)
 
 -- what is known where an insert's check passes
 pub record Fits (b : ReassemblyBuffer) (slots lengths held nr len : ℕ) : Type 0 where

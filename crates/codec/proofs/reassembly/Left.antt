@@ -20,7 +20,7 @@ use Rattle.codec.specs.declared.reassembly.Inserted.TheVariants as inserted
 use Rattle.codec.specs.declared.reassembly.Check.{Check}
 use Rattle.codec.specs.declared.reassembly.Check.TheVariants as check
 use Rattle.codec.proofs.bytes.Laws.{length_put}
-use Rattle.codec.proofs.reassembly.Laws.{neither, slot_ends, need_fits, new_refused, new_made, insert_fits, insert_refused, insert_held, assemble_whole, assemble_refused, assemble_short, assemble_written, length_payload, assemble-passes}
+use Rattle.codec.proofs.reassembly.Laws.{neither, slot_ends, need_fits, new_refused, new_made, insert_fits, insert_refused, insert_held, assemble_whole, assemble_refused, assemble_short, assemble_written, length_payload, assemble_passes}
 use Rattle.codec.proofs.reassembly.View.{drop_put, body_in, bodies_of_slots, all_held}
 use Rattle.codec.proofs.reassembly.Inserts.{made, Good, check_good}
 
@@ -128,7 +128,7 @@ module _ (st : Store) (sound : Sound st) (full : st.buffer.received_count ≡ st
   unfolding under_need
   judged =
       let none = all_held st.buffer.width st.slots (take total st.lengths) (sym sound.counted ∙ full ∙ sym (length-take-le total st.lengths sound.entries)) in
-      sym (assemble-passes st.buffer (length st.slots) st.lengths
+      sym (assemble_passes st.buffer (length st.slots) st.lengths
       (rw (le-ltb (length st.slots) (total * st.buffer.width) sound.there, le-ltb (length st.lengths) total sound.entries))
       (omega (arith, full)) sound.within (omega (arith, full)) none)
 

@@ -40,20 +40,20 @@ module _ (s : List ℕ) (at : ℕ) (w : Wait) (high : w.need ≤ 3) (there : at 
 
     -- the next byte is within its range: the others are tails
     module _ (l : w.low ≤ get_or s (at + 1) 0) (h : get_or s (at + 1) 0 ≤ w.high) where
-      fits-tails : fits (ranges_of w) (drop (at + 1) s) ≡ fits (tails (w.need - 1)) (drop (at + 2) s)
-      fits-tails = fits_next ∙ rw (in_range_lem (bounds w) (get_or s (at + 1) 0) (l, h))
+      fits_tails : fits (ranges_of w) (drop (at + 1) s) ≡ fits (tails (w.need - 1)) (drop (at + 2) s)
+      fits_tails = fits_next ∙ rw (in_range_lem (bounds w) (get_or s (at + 1) 0) (l, h))
 
       pub fits_one : w.need ≡ 1 → true ≡ fits (ranges_of w) (drop (at + 1) s)
-      fits_one e = sym (fits-tails ∙ rw e)
+      fits_one e = sym (fits_tails ∙ rw e)
 
-      pub fits-two : 2 ≤ w.need → fits (ranges_of w) (drop (at + 1) s) ≡ (in_range tail (get_or s (at + 2) 0) && fits (tails (w.need - 2)) (drop (at + 3) s))
-      fits-two k =
+      pub fits_two : 2 ≤ w.need → fits (ranges_of w) (drop (at + 1) s) ≡ (in_range tail (get_or s (at + 2) 0) && fits (tails (w.need - 2)) (drop (at + 3) s))
+      fits_two k =
           let e : w.need - 1 ≡ suc (w.need - 2) = omega arith in
-          fits-tails ∙ rw e (fits_more s (at + 2) (at + 3) tail (tails (w.need - 2)) (omega arith) (omega arith))
+          fits_tails ∙ rw e (fits_more s (at + 2) (at + 3) tail (tails (w.need - 2)) (omega arith) (omega arith))
 
-      pub fits-three : w.need ≡ 3 → in_range tail (get_or s (at + 2) 0) ≡ true → fits (ranges_of w) (drop (at + 1) s) ≡ in_range tail (get_or s (at + 3) 0)
-      fits-three e t =
-          fits-two (omega arith) ∙ rw (t, e) (fits_more s (at + 3) (at + 4) tail [] (omega arith) (omega arith) ∙ and_true (in_range tail (get_or s (at + 3) 0)))
+      pub fits_three : w.need ≡ 3 → in_range tail (get_or s (at + 2) 0) ≡ true → fits (ranges_of w) (drop (at + 1) s) ≡ in_range tail (get_or s (at + 3) 0)
+      fits_three e t =
+          fits_two (omega arith) ∙ rw (t, e) (fits_more s (at + 3) (at + 4) tail [] (omega arith) (omega arith) ∙ and_true (in_range tail (get_or s (at + 3) 0)))
 
 -- ---- the first character of bytes
 

@@ -119,13 +119,13 @@ module _ (w : Wait) where
   unfolding ranges_of
   many_left h = rw (le-ltb 3 w.need h) (by w.need)
     where
-      many-tails : (n : ℕ) → length (tails n) ≡ n
-      many-tails zero = refl
-      many-tails (suc n) = ap suc (many-tails n)
+      many_tails : (n : ℕ) → length (tails n) ≡ n
+      many_tails zero = refl
+      many_tails (suc n) = ap suc (many_tails n)
 
       by : (n : ℕ) → length (waiting n bounds) ≡ n
       by zero = refl
-      by (suc n) = ap suc (many-tails n)
+      by (suc n) = ap suc (many_tails n)
 
   pub ill_left : 3 < w.need → ranges_of w ≡ never
   unfolding ranges_of

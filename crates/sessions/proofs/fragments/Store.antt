@@ -256,8 +256,8 @@ module _ (s : ClientSession) (ps ls : List ℕ) (sound : Sound (record { buffer 
     slots_left = sym (λ i. slots_of 512 (parts_are i) (take total (lengths_are i))) ∙ after_slots
 
     module _ (rebuilt : List ℕ) where
-      answer-is : gathered_in s ps ls rebuilt nr total body ≡ gathered_by (inserted.Held (buffer_with total count) (eqb count total)) slots' lengths' rebuilt
-      answer-is =
+      answer_is : gathered_in s ps ls rebuilt nr total body ≡ gathered_by (inserted.Held (buffer_with total count) (eqb count total)) slots' lengths' rebuilt
+      answer_is =
           sym (gather_by s total ps ls rebuilt nr body (made.Store b) r.lengths r.chosen).0
           ∙ sym (ap (λ (i : Inserted). gathered_by i slots' lengths' rebuilt) held)
 
@@ -269,7 +269,7 @@ module _ (s : ClientSession) (ps ls : List ℕ) (sound : Sound (record { buffer 
       lacks : eqb count total ≡ false → ends rebuilt none
       lacks e = (
         count,
-        answer-is ∙ ap (λ (x : Bool). gathered_by (inserted.Held (buffer_with total count) x) slots' lengths' rebuilt) e,
+        answer_is ∙ ap (λ (x : Bool). gathered_by (inserted.Held (buffer_with total count) x) slots' lengths' rebuilt) e,
         subst Sound (λ i. record { buffer = buffer_with total count; slots = parts_are i; lengths = lengths_are i }) after_sound,
       )
 
@@ -286,7 +286,7 @@ module _ (s : ClientSession) (ps ls : List ℕ) (sound : Sound (record { buffer 
             let h = payload_short in
             let w = assemble_good after after_sound full rebuilt (omega (arith, h, room)) in
             let e = eq-eqb count total full in (
-              answer-is
+              answer_is
                   ∙ ap (λ (x : Bool). gathered_by (inserted.Held (buffer_with total count) x) slots' lengths' rebuilt) e
                   ∙ ap (λ (x : Written). assembled_as x (buffer_with total count)) (sym w.0),
               rebuilt_is ∙ ap (λ (x : Bool). rebuilt_by (inserted.Held (buffer_with total count) x) slots' lengths' rebuilt) e ∙ sym w.1,
@@ -296,8 +296,8 @@ module _ (s : ClientSession) (ps ls : List ℕ) (sound : Sound (record { buffer 
         whole_told : whole_of (slots_in after) ≡ some payload
         whole_told = whole_held (slots_in after) (sym after_sound.counted ∙ full ∙ sym many) ∙ ap some (sym (payload_joined after after_sound full))
 
-      pub fragment-ends : 32768 ≤ length rebuilt → ends rebuilt (whole_of (slots_with before nr total body))
-      fragment-ends room = subst (λ (v : List Slot). ends rebuilt (whole_of v)) after_slots (by (eqb count total) refl)
+      pub fragment_ends : 32768 ≤ length rebuilt → ends rebuilt (whole_of (slots_with before nr total body))
+      fragment_ends room = subst (λ (v : List Slot). ends rebuilt (whole_of v)) after_slots (by (eqb count total) refl)
         where
           by : (x : Bool) → eqb count total ≡ x → ends rebuilt (whole_of (slots_in after))
           by true e = let z = eqb-true count total e in subst (ends rebuilt) (sym (whole_told room z)) (whole_is room z)
@@ -338,4 +338,4 @@ module _ (s : ClientSession) (ps ls : List ℕ) (sound : Sound (record { buffer 
         by true e =
             let n = short_ends e rebuilt in
             subst SoundLeft (sym n.0) (few, subst Sound (λ i. record { buffer = buffer_with s.total s.received; slots = sym n.1 i; lengths = sym n.2 i }) sound)
-        by false e = left (whole_of (slots_with before nr total body)) (fragment-ends e rebuilt room)
+        by false e = left (whole_of (slots_with before nr total body)) (fragment_ends e rebuilt room)

@@ -122,15 +122,15 @@ module _ (time timeout : ℕ) where
     module _ (i at : ℕ) (i< : i < 256) (out : List ℕ) (rows' : List (List ℕ)) (out' : List ℕ) (at' : ℕ)
         (a : at' ≡ cond (goes rows time timeout i) (at + 1) at) (r : rows' ≡ swept_at rows time timeout i)
         (o : out' ≡ cond (goes rows time timeout i) (set out at i) out) where
-      pub swept-turn : swept_from rows' time timeout (i + 1) (256 - (i + 1)) ≡ swept_from rows time timeout i (256 - i)
-      swept-turn = rw r (swept_step i i<)
+      pub swept_turn : swept_from rows' time timeout (i + 1) (256 - (i + 1)) ≡ swept_from rows time timeout i (256 - i)
+      swept_turn = rw r (swept_step i i<)
 
-      pub listed-turn : sets out' at' (expired_from (goes rows' time timeout) (i + 1) (256 - (i + 1))) ≡ sets out at (expired_from (goes rows time timeout) i (256 - i))
-      listed-turn = rw (a, r, o) (listed_step out i at i<)
+      pub listed_turn : sets out' at' (expired_from (goes rows' time timeout) (i + 1) (256 - (i + 1))) ≡ sets out at (expired_from (goes rows time timeout) i (256 - i))
+      listed_turn = rw (a, r, o) (listed_step out i at i<)
 
       -- what is listed and what is left come to the same number
-      pub left-turn : at' + length (expired_from (goes rows' time timeout) (i + 1) (256 - (i + 1))) ≡ at + length (expired_from (goes rows time timeout) i (256 - i))
-      left-turn = rw (a, r, add-one i, expired_swept rows i (256 - suc i))
+      pub left_turn : at' + length (expired_from (goes rows' time timeout) (i + 1) (256 - (i + 1))) ≡ at + length (expired_from (goes rows time timeout) i (256 - i))
+      left_turn = rw (a, r, add-one i, expired_swept rows i (256 - suc i))
           (omega (arith, more (goes rows time timeout i), count_step (goes rows time timeout) i (suc i) (256 - i) (256 - suc i) refl (omega arith)))
         where
           more : (b : Bool) → cond b (at + 1) at ≡ at + cond b 1 0

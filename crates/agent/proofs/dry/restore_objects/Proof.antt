@@ -146,15 +146,15 @@ module _ {M : Type 1} {𝓤 : Ura M} (𝓛 : Logic 𝓤) (mem : Memory → SProp
       abbrev Left-2 : Out → SProp 𝓤
       Left-2 = after_block 𝓤 H (after_seq 𝓤 H (Wp 𝓤 H C Λ En mir.t-3 (at_return 𝓤 H En Post)) (at_return 𝓤 H En Post))
 
-      inv-at-2 : (t : ℕ) → (i : ℕ) → (ys : List Object) → Facts-2 t i ys → ent 𝓤 (⋆ 𝓛 (At-2 i ys)) (Inv-2 t)
-      inv-at-2 t i ys fs = via 𝓤 (ex 𝓤 (λ (ys : List Object). guard 𝓤 (Facts-2 t i ys) (⋆ 𝓛 (At-2 i ys)))) (via 𝓤 (guard 𝓤 (Facts-2 t i ys) (⋆ 𝓛 (At-2 i ys))) (guard_i 𝓤 (Facts-2 t i ys) (⋆ 𝓛 (At-2 i ys)) fs) (ex_i 𝓤 (λ (ys : List Object). guard 𝓤 (Facts-2 t i ys) (⋆ 𝓛 (At-2 i ys))) ys)) (ex_i 𝓤 (λ (i : ℕ). ex 𝓤 (λ (ys : List Object). guard 𝓤 (Facts-2 t i ys) (⋆ 𝓛 (At-2 i ys)))) i)
+      inv_at_2 : (t : ℕ) → (i : ℕ) → (ys : List Object) → Facts-2 t i ys → ent 𝓤 (⋆ 𝓛 (At-2 i ys)) (Inv-2 t)
+      inv_at_2 t i ys fs = via 𝓤 (ex 𝓤 (λ (ys : List Object). guard 𝓤 (Facts-2 t i ys) (⋆ 𝓛 (At-2 i ys)))) (via 𝓤 (guard 𝓤 (Facts-2 t i ys) (⋆ 𝓛 (At-2 i ys))) (guard_i 𝓤 (Facts-2 t i ys) (⋆ 𝓛 (At-2 i ys)) fs) (ex_i 𝓤 (λ (ys : List Object). guard 𝓤 (Facts-2 t i ys) (⋆ 𝓛 (At-2 i ys))) ys)) (ex_i 𝓤 (λ (i : ℕ). ex 𝓤 (λ (ys : List Object). guard 𝓤 (Facts-2 t i ys) (⋆ 𝓛 (At-2 i ys)))) i)
 
-      again-2 : (t : ℕ) → (i : ℕ) → (ys : List Object) → (i-is : Is u64_p.row i (u64_p.val i ∷ [])) → (ys-len : length ys ≡ n₂) → ((i ≤ n') × (ys ≡ restored same blank (object_spot first') i from' to)) → ((n' - i) < t) → ent 𝓤 (⋆ 𝓛 (At-2 i ys)) (Below-2 t)
-      again-2 t i ys i-is ys-len inv less = via 𝓤 (Inv-2 (n' - i)) (inv-at-2 (n' - i) i ys (refl, i-is, ys-len, inv)) (via 𝓤 (guard 𝓤 ((n' - i) < t) (Inv-2 (n' - i))) (guard_i 𝓤 ((n' - i) < t) (Inv-2 (n' - i)) less) (ex_i 𝓤 (λ (u : ℕ). guard 𝓤 (u < t) (Inv-2 u)) (n' - i)))
+      again_2 : (t : ℕ) → (i : ℕ) → (ys : List Object) → (i-is : Is u64_p.row i (u64_p.val i ∷ [])) → (ys-len : length ys ≡ n₂) → ((i ≤ n') × (ys ≡ restored same blank (object_spot first') i from' to)) → ((n' - i) < t) → ent 𝓤 (⋆ 𝓛 (At-2 i ys)) (Below-2 t)
+      again_2 t i ys i-is ys-len inv less = via 𝓤 (Inv-2 (n' - i)) (inv_at_2 (n' - i) i ys (refl, i-is, ys-len, inv)) (via 𝓤 (guard 𝓤 ((n' - i) < t) (Inv-2 (n' - i))) (guard_i 𝓤 ((n' - i) < t) (Inv-2 (n' - i)) less) (ex_i 𝓤 (λ (u : ℕ). guard 𝓤 (u < t) (Inv-2 u)) (n' - i)))
 
-      turn-2 : (i : ℕ) → (ys : List Object) → (t-2 : ℕ) → (i-is : Is u64_p.row i (u64_p.val i ∷ [])) → (ys-len : length ys ≡ n₂) → (t-is-2 : t-2 ≡ n' - i) → (inv-2 : (i ≤ n') × (ys ≡ restored same blank (object_spot first') i from' to)) → ent 𝓤 (⋆ 𝓛 (At-2 i ys)) (Wp 𝓤 H C Λ En mir.turn-1 (after_turn 𝓤 H (Below-2 t-2) Left-2))
+      turn_2 : (i : ℕ) → (ys : List Object) → (t-2 : ℕ) → (i-is : Is u64_p.row i (u64_p.val i ∷ [])) → (ys-len : length ys ≡ n₂) → (t-is-2 : t-2 ≡ n' - i) → (inv-2 : (i ≤ n') × (ys ≡ restored same blank (object_spot first') i from' to)) → ent 𝓤 (⋆ 𝓛 (At-2 i ys)) (Wp 𝓤 H C Λ En mir.turn-1 (after_turn 𝓤 H (Below-2 t-2) Left-2))
       unfolding after_turn
-      turn-2 i ys t-2 i-is ys-len t-is-2 inv-2 =
+      turn_2 i ys t-2 i-is ys-len t-is-2 inv-2 =
           qed 𝓛 (At-2 i ys) ∵ exec ! C Λ En mir.turn-1 (any_q (after_turn 𝓤 H (Below-2 t-2) Left-2)) $
           assigns ! (bin ! (load ! (from ! (stop !)) (look ! 18 refl)) (load ! (from ! (stop !)) (look ! 20 refl)) (tt)) (from ! (stop !)) (init ! 14 refl (bool_p.typed 𝓛 (ltb i n') refl)) $
           first ! $
@@ -185,7 +185,7 @@ module _ {M : Type 1} {𝓤 : Ura M} (𝓛 : Logic 𝓤) (mem : Memory → SProp
           puts_elem ! tt Object-p b₂ o₂ ys n₂ (ys-len) room₂ (first' + i) ((Object-of (ObjectNumber-of 0) 0 0 0 0)) (get_or from' i ((Object-of (ObjectNumber-of 0) 0 0 0 0))) index-2·10 is-2·5 (λ len-2·10.
           knows ! (i + 1 < 2 ^ 64) (omega (arith, ltb-true, ltb-false, leb-true, leb-false, eqb-true, eqb-false)) (λ fits-2·11.
           assigns_last ! (bin ! (load ! (from ! (stop !)) (look ! 18 refl)) (lit ! tt) (record { fits = fits-2·11 })) (from ! (stop !)) (store ! 18 refl (u64_p.typed 𝓛 (i + 1) ((refl, fits-2·11)))) $ forget ! 4 refl $ forget ! 6 refl $ forget ! 8 refl $ forget ! 10 refl $ forget ! 12 refl $ forget ! 14 refl $ forget ! 16 refl $ move ! (2 ∷ 3 ∷ 0 ∷ 1 ∷ 4 ∷ 5 ∷ 6 ∷ 7 ∷ 8 ∷ 9 ∷ 10 ∷ 11 ∷ 12 ∷ 13 ∷ 14 ∷ 15 ∷ 16 ∷ 17 ∷ 18 ∷ 19 ∷ 20 ∷ 21 ∷ 22 ∷ 23 ∷ 24 ∷ 25 ∷ 26 ∷ 27 ∷ 28 ∷ 29 ∷ []) $
-          by ! (again-2 t-2 (i + 1) (set ys (first' + i) (get_or from' i ((Object-of (ObjectNumber-of 0) 0 0 0 0)))) ((refl, fits-2·11)) len-2·10 (((omega (arith, ltb-true, ltb-false, leb-true, leb-false, eqb-true, eqb-false)), ap (λ (zs : List Object). set zs (first' + i) (get_or from' i blank)) inv-2.1 ∙ restored_more same blank (object_spot first') from' to i)) (omega (arith, ltb-true, ltb-false, leb-true, leb-false, eqb-true, eqb-false))))))))))))))
+          by ! (again_2 t-2 (i + 1) (set ys (first' + i) (get_or from' i ((Object-of (ObjectNumber-of 0) 0 0 0 0)))) ((refl, fits-2·11)) len-2·10 (((omega (arith, ltb-true, ltb-false, leb-true, leb-false, eqb-true, eqb-false)), ap (λ (zs : List Object). set zs (first' + i) (get_or from' i blank)) inv-2.1 ∙ restored_more same blank (object_spot first') from' to i)) (omega (arith, ltb-true, ltb-false, leb-true, leb-false, eqb-true, eqb-false))))))))))))))
           (λ h-2·2.
           knows ! (ltb i n' ≡ false) (fails (ltb i n') (T_not (ltb i n') h-2·2)) (λ c-2·2.
           jumps ! $
@@ -194,18 +194,18 @@ module _ {M : Type 1} {𝓤 : Ura M} (𝓛 : Logic 𝓤) (mem : Memory → SProp
           returns ! (look ! 28 refl) $ forget ! 14 refl $ forget ! 18 refl $ forget ! 20 refl $ forget ! 22 refl $ forget ! 24 refl $ forget ! 26 refl $ forget ! 28 refl $ move ! (28 ∷ 29 ∷ []) $ free1 ! $ move ! (26 ∷ 27 ∷ []) $ free1 ! $ move ! (24 ∷ 25 ∷ []) $ free1 ! $ move ! (22 ∷ 23 ∷ []) $ free1 ! $ move ! (20 ∷ 21 ∷ []) $ free1 ! $ move ! (18 ∷ 19 ∷ []) $ free1 ! $ move ! (16 ∷ 17 ∷ []) $ free1 ! $ move ! (14 ∷ 15 ∷ []) $ free1 ! $ move ! (12 ∷ 13 ∷ []) $ free1 ! $ move ! (10 ∷ 11 ∷ []) $ free1 ! $ move ! (8 ∷ 9 ∷ []) $ free1 ! $ move ! (6 ∷ 7 ∷ []) $ free1 ! $ move ! (4 ∷ 5 ∷ []) $ free1 ! $ free0 ! $
           by ! (exits tt ys (inv-2.1 ∙ along (λ (m : ℕ). restored same blank (object_spot first') m from' to) i n' (omega (arith, ltb-true, ltb-false, leb-true, leb-false, eqb-true, eqb-false))) refl ys-len)))
 
-      turns-2 : (t : ℕ) → ent 𝓤 (Inv-2 t) (Wp 𝓤 H C Λ En mir.turn-1 (after_turn 𝓤 H (Below-2 t) Left-2))
-      turns-2 t = ex_e 𝓤 (λ (i : ℕ). ex 𝓤 (λ (ys : List Object). guard 𝓤 (Facts-2 t i ys) (⋆ 𝓛 (At-2 i ys)))) (λ i. ex_e 𝓤 (λ (ys : List Object). guard 𝓤 (Facts-2 t i ys) (⋆ 𝓛 (At-2 i ys))) (λ ys. guard_e 𝓤 (Facts-2 t i ys) (⋆ 𝓛 (At-2 i ys)) (λ fs. turn-2 i ys t fs.1 fs.2 fs.0 fs.3)))
+      turns_2 : (t : ℕ) → ent 𝓤 (Inv-2 t) (Wp 𝓤 H C Λ En mir.turn-1 (after_turn 𝓤 H (Below-2 t) Left-2))
+      turns_2 t = ex_e 𝓤 (λ (i : ℕ). ex 𝓤 (λ (ys : List Object). guard 𝓤 (Facts-2 t i ys) (⋆ 𝓛 (At-2 i ys)))) (λ i. ex_e 𝓤 (λ (ys : List Object). guard 𝓤 (Facts-2 t i ys) (⋆ 𝓛 (At-2 i ys))) (λ ys. guard_e 𝓤 (Facts-2 t i ys) (⋆ 𝓛 (At-2 i ys)) (λ fs. turn_2 i ys t fs.1 fs.2 fs.0 fs.3)))
 
-      loops-2 : (i : ℕ) (i-is : Is u64_p.row i (u64_p.val i ∷ [])) → (ys : List Object) (ys-len : length ys ≡ n₂) → ((i ≤ n') × (ys ≡ restored same blank (object_spot first') i from' to)) → ent 𝓤 (⋆ 𝓛 (At-2 i ys)) (Wp 𝓤 H C Λ En (loop mir.turn-1) Left-2)
-      loops-2 i i-is ys ys-len inv = via 𝓤 (Inv-2 (n' - i)) (inv-at-2 (n' - i) i ys (refl, i-is, ys-len, inv)) (loop_rule 𝓤 H 𝓛.laws 𝓣 ◌<◌ lt-wf_rel.wf En mir.turn-1 Left-2 Inv-2 turns-2 (n' - i))
+      loops_2 : (i : ℕ) (i-is : Is u64_p.row i (u64_p.val i ∷ [])) → (ys : List Object) (ys-len : length ys ≡ n₂) → ((i ≤ n') × (ys ≡ restored same blank (object_spot first') i from' to)) → ent 𝓤 (⋆ 𝓛 (At-2 i ys)) (Wp 𝓤 H C Λ En (loop mir.turn-1) Left-2)
+      loops_2 i i-is ys ys-len inv = via 𝓤 (Inv-2 (n' - i)) (inv_at_2 (n' - i) i ys (refl, i-is, ys-len, inv)) (loop_rule 𝓤 H 𝓛.laws 𝓣 ◌<◌ lt-wf_rel.wf En mir.turn-1 Left-2 Inv-2 turns_2 (n' - i))
 
     begins : Sq 𝓛 (‵ ((ShrSlice (named 0) κ₁ Object-t.the_row).own_val (at_list b₁ o₁ γ₁ from') (slice_val (b₁, o₁) n₁ ∷ [])) ∷ ‵ (flft κ₁ q₁) ∷ ‵ ((MutSlice (named 0) κ₂ Object-t.the_row).own_val (at_list b₂ o₂ γ₂ to) (slice_val (b₂, o₂) n₂ ∷ [])) ∷ ‵ (flft κ₂ q₂) ∷ free 𝓤 ty_ptr l₁₂ (free 𝓤 (ty_int w64) l₁₁ (free 𝓤 Object-l.mir l₁₀ (free 𝓤 ty_ptr l₉ (free 𝓤 (ty_int w64) l₈ (free 𝓤 ty_bool l₇ (free 𝓤 Object-l.mir l₆ (free 𝓤 (ty_int w64) l₅ (full 𝓤 (ty_int w64) l₄ (u64_p.val n') (full 𝓤 (ty_int w64) l₃ (u64_p.val first') (full 𝓤 (slice_ty (ty_ref (named 1) mut (pointee (Object-t.the_row).written))) l₂ (slice_val (b₂, o₂) n₂) (full 𝓤 (slice_ty (ty_ref (named 0) imm (pointee (Object-t.the_row).written))) l₁ (slice_val (b₁, o₁) n₁) (free 𝓤 ty_unit l₀ ([])))))))))))))) (runs C Λ En mir.t-1 (at_ret En Post))
     begins =
         assigns ! (of_opd ! (lit ! tt)) (from ! (stop !)) (init ! 18 refl (u64_p.typed 𝓛 0 ((refl, lit< tt)))) $
         first ! $
         blocks ! $
-        by ! (loops-2 0 ((refl, lit< tt)) to refl (((omega (arith, ltb-true, ltb-false, leb-true, leb-false, eqb-true, eqb-false)), restored_none same blank (object_spot first') from' to)))
+        by ! (loops_2 0 ((refl, lit< tt)) to refl (((omega (arith, ltb-true, ltb-false, leb-true, leb-false, eqb-true, eqb-false)), restored_none same blank (object_spot first') from' to)))
 
   module _ (𝓣 : Tables 𝓤 H) where
     walk : ent 𝓤 (on_entry 𝓛 f.signature (κ₁, (κ₂, tt)) (q₁, (q₂, tt)) x at) (WpFn 𝓤 H 𝓣.C 𝓣.Λ code.function (slice_val (b₁, o₁) n₁ ∷ slice_val (b₂, o₂) n₂ ∷ u64_p.val first' ∷ u64_p.val n' ∷ []) Post)

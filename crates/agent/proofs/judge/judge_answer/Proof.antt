@@ -25,7 +25,7 @@ returns c =
     let test = part.before.before in
     let a = test.before.before.before.before.args in
     answer_by a.d.now a.rebuilt.now a.a a.limits a.p a.told a.sample (answer_slot a.p a.told a.sessions.now a.streams.now (length a.held.now) a.sample) a.room true false _ part.rebuilt-part.result.now
-    (sym part.before.if1.true ∙ test.sound.ensures) part.rebuilt-part.ensures (turned_round kept.left-kept.result true c.if2.true ∙ kept.left-kept.ensures) refl
+    (sym part.before.if1.true ∙ test.sound.ensures) part.rebuilt-part.ensures (turned_round kept.left_kept_lem.result true c.if2.true ∙ kept.left_kept_lem.ensures) refl
 
 returns-2 : tie.Need-returns-2
 returns-2 c =
@@ -34,7 +34,7 @@ returns-2 c =
     let test = part.before.before in
     let a = test.before.before.before.before.args in
     answer_by a.d.now a.rebuilt.now a.a a.limits a.p a.told a.sample (answer_slot a.p a.told a.sessions.now a.streams.now (length a.held.now) a.sample) a.room true true true part.rebuilt-part.result.now
-    (sym part.before.if1.true ∙ test.sound.ensures) part.rebuilt-part.ensures (turned_round kept.left-kept.result false c.before.before.if2.false ∙ kept.left-kept.ensures) (lt-ltb _ _ c.if3.true)
+    (sym part.before.if1.true ∙ test.sound.ensures) part.rebuilt-part.ensures (turned_round kept.left_kept_lem.result false c.before.before.if2.false ∙ kept.left_kept_lem.ensures) (lt-ltb _ _ c.if3.true)
 
 count-at-requires : tie.Need-count-at-requires
 count-at-requires c κs = search rules
@@ -51,7 +51,7 @@ returns-3 c =
     let a = test.before.before.before.before.args in
     rw (c.judge-rest.ensures, c.before.count_at.ensures)
     (answer_by a.d.now a.rebuilt.now a.a a.limits a.p a.told a.sample (answer_slot a.p a.told a.sessions.now a.streams.now (length a.held.now) a.sample) a.room true true false part.rebuilt-part.result.now
-    (sym part.before.if1.true ∙ test.sound.ensures) part.rebuilt-part.ensures (turned_round kept.left-kept.result false short.before.before.if2.false ∙ kept.left-kept.ensures) (le-ltb _ _ short.if3.false))
+    (sym part.before.if1.true ∙ test.sound.ensures) part.rebuilt-part.ensures (turned_round kept.left_kept_lem.result false short.before.before.if2.false ∙ kept.left_kept_lem.ensures) (le-ltb _ _ short.if3.false))
 
 returns-4 : tie.Need-returns-4
 returns-4 c = rw (← c.before.sound.ensures, c.if1.false)

@@ -22,7 +22,7 @@ returns : tie.Need-returns
 returns c = rw c.before.enum_told.given.1 c.judge_datagram.ensures
 
 returns-2 : tie.Need-returns-2
-returns-2 c = rw c.before.before.t.given.1 c.judge-answer.ensures
+returns-2 c = rw c.before.before.t.given.1 c.judge_answer.ensures
 
 returns-3 : tie.Need-returns-3
 returns-3 c = rw c.before.t2.given.1

@@ -305,11 +305,11 @@ module _ {M : Type 1} {𝓤 : Ura M} (𝓛 : Logic 𝓤) (mem : Memory → SProp
       abbrev Left-3 : Out → SProp 𝓤
       Left-3 = after_block 𝓤 H (after_seq 𝓤 H (Wp 𝓤 H C Λ En mir.t-4 (at_return 𝓤 H En Post)) (at_return 𝓤 H En Post))
 
-      inv-at-3 : (t : ℕ) → (v : Leg) → (ss : List (List ℕ)) → (xs : List (List ℕ)) → (os : List Object) → (w : List ℕ) → Facts-3 t v ss xs os w → ent 𝓤 (⋆ 𝓛 (At-3 v ss xs os w)) (Inv-3 t)
-      inv-at-3 t v ss xs os w fs = via 𝓤 (ex 𝓤 (λ (ss : List (List ℕ)). ex 𝓤 (λ (xs : List (List ℕ)). ex 𝓤 (λ (os : List Object). ex 𝓤 (λ (w : List ℕ). guard 𝓤 (Facts-3 t v ss xs os w) (⋆ 𝓛 (At-3 v ss xs os w))))))) (via 𝓤 (ex 𝓤 (λ (xs : List (List ℕ)). ex 𝓤 (λ (os : List Object). ex 𝓤 (λ (w : List ℕ). guard 𝓤 (Facts-3 t v ss xs os w) (⋆ 𝓛 (At-3 v ss xs os w)))))) (via 𝓤 (ex 𝓤 (λ (os : List Object). ex 𝓤 (λ (w : List ℕ). guard 𝓤 (Facts-3 t v ss xs os w) (⋆ 𝓛 (At-3 v ss xs os w))))) (via 𝓤 (ex 𝓤 (λ (w : List ℕ). guard 𝓤 (Facts-3 t v ss xs os w) (⋆ 𝓛 (At-3 v ss xs os w)))) (via 𝓤 (guard 𝓤 (Facts-3 t v ss xs os w) (⋆ 𝓛 (At-3 v ss xs os w))) (guard_i 𝓤 (Facts-3 t v ss xs os w) (⋆ 𝓛 (At-3 v ss xs os w)) fs) (ex_i 𝓤 (λ (w : List ℕ). guard 𝓤 (Facts-3 t v ss xs os w) (⋆ 𝓛 (At-3 v ss xs os w))) w)) (ex_i 𝓤 (λ (os : List Object). ex 𝓤 (λ (w : List ℕ). guard 𝓤 (Facts-3 t v ss xs os w) (⋆ 𝓛 (At-3 v ss xs os w)))) os)) (ex_i 𝓤 (λ (xs : List (List ℕ)). ex 𝓤 (λ (os : List Object). ex 𝓤 (λ (w : List ℕ). guard 𝓤 (Facts-3 t v ss xs os w) (⋆ 𝓛 (At-3 v ss xs os w))))) xs)) (ex_i 𝓤 (λ (ss : List (List ℕ)). ex 𝓤 (λ (xs : List (List ℕ)). ex 𝓤 (λ (os : List Object). ex 𝓤 (λ (w : List ℕ). guard 𝓤 (Facts-3 t v ss xs os w) (⋆ 𝓛 (At-3 v ss xs os w)))))) ss)) (ex_i 𝓤 (λ (v : Leg). ex 𝓤 (λ (ss : List (List ℕ)). ex 𝓤 (λ (xs : List (List ℕ)). ex 𝓤 (λ (os : List Object). ex 𝓤 (λ (w : List ℕ). guard 𝓤 (Facts-3 t v ss xs os w) (⋆ 𝓛 (At-3 v ss xs os w))))))) v)
+      inv_at_3 : (t : ℕ) → (v : Leg) → (ss : List (List ℕ)) → (xs : List (List ℕ)) → (os : List Object) → (w : List ℕ) → Facts-3 t v ss xs os w → ent 𝓤 (⋆ 𝓛 (At-3 v ss xs os w)) (Inv-3 t)
+      inv_at_3 t v ss xs os w fs = via 𝓤 (ex 𝓤 (λ (ss : List (List ℕ)). ex 𝓤 (λ (xs : List (List ℕ)). ex 𝓤 (λ (os : List Object). ex 𝓤 (λ (w : List ℕ). guard 𝓤 (Facts-3 t v ss xs os w) (⋆ 𝓛 (At-3 v ss xs os w))))))) (via 𝓤 (ex 𝓤 (λ (xs : List (List ℕ)). ex 𝓤 (λ (os : List Object). ex 𝓤 (λ (w : List ℕ). guard 𝓤 (Facts-3 t v ss xs os w) (⋆ 𝓛 (At-3 v ss xs os w)))))) (via 𝓤 (ex 𝓤 (λ (os : List Object). ex 𝓤 (λ (w : List ℕ). guard 𝓤 (Facts-3 t v ss xs os w) (⋆ 𝓛 (At-3 v ss xs os w))))) (via 𝓤 (ex 𝓤 (λ (w : List ℕ). guard 𝓤 (Facts-3 t v ss xs os w) (⋆ 𝓛 (At-3 v ss xs os w)))) (via 𝓤 (guard 𝓤 (Facts-3 t v ss xs os w) (⋆ 𝓛 (At-3 v ss xs os w))) (guard_i 𝓤 (Facts-3 t v ss xs os w) (⋆ 𝓛 (At-3 v ss xs os w)) fs) (ex_i 𝓤 (λ (w : List ℕ). guard 𝓤 (Facts-3 t v ss xs os w) (⋆ 𝓛 (At-3 v ss xs os w))) w)) (ex_i 𝓤 (λ (os : List Object). ex 𝓤 (λ (w : List ℕ). guard 𝓤 (Facts-3 t v ss xs os w) (⋆ 𝓛 (At-3 v ss xs os w)))) os)) (ex_i 𝓤 (λ (xs : List (List ℕ)). ex 𝓤 (λ (os : List Object). ex 𝓤 (λ (w : List ℕ). guard 𝓤 (Facts-3 t v ss xs os w) (⋆ 𝓛 (At-3 v ss xs os w))))) xs)) (ex_i 𝓤 (λ (ss : List (List ℕ)). ex 𝓤 (λ (xs : List (List ℕ)). ex 𝓤 (λ (os : List Object). ex 𝓤 (λ (w : List ℕ). guard 𝓤 (Facts-3 t v ss xs os w) (⋆ 𝓛 (At-3 v ss xs os w)))))) ss)) (ex_i 𝓤 (λ (v : Leg). ex 𝓤 (λ (ss : List (List ℕ)). ex 𝓤 (λ (xs : List (List ℕ)). ex 𝓤 (λ (os : List Object). ex 𝓤 (λ (w : List ℕ). guard 𝓤 (Facts-3 t v ss xs os w) (⋆ 𝓛 (At-3 v ss xs os w))))))) v)
 
-      again-3 : (t : ℕ) → (v : Leg) → (ss : List (List ℕ)) → (xs : List (List ℕ)) → (os : List Object) → (w : List ℕ) → (v-is : Is Leg-p.row v (Leg-p.val v ∷ [])) → (ss-len : length ss ≡ n₁) → (xs-len : length xs ≡ n₂) → (os-len : length os ≡ n₃) → (w-len : length w ≡ n₅) → (Left (leg_steps m f' held s) start (staged (rows sessions streams objects)) out v.ran (record { rows = rows ss xs os; found = v.found }) w) → ((length s - v.ran.at) < t) → ent 𝓤 (⋆ 𝓛 (At-3 v ss xs os w)) (Below-3 t)
-      again-3 t v ss xs os w v-is ss-len xs-len os-len w-len inv less = via 𝓤 (Inv-3 (length s - v.ran.at)) (inv-at-3 (length s - v.ran.at) v ss xs os w (refl, v-is, ss-len, xs-len, os-len, w-len, inv)) (via 𝓤 (guard 𝓤 ((length s - v.ran.at) < t) (Inv-3 (length s - v.ran.at))) (guard_i 𝓤 ((length s - v.ran.at) < t) (Inv-3 (length s - v.ran.at)) less) (ex_i 𝓤 (λ (u : ℕ). guard 𝓤 (u < t) (Inv-3 u)) (length s - v.ran.at)))
+      again_3 : (t : ℕ) → (v : Leg) → (ss : List (List ℕ)) → (xs : List (List ℕ)) → (os : List Object) → (w : List ℕ) → (v-is : Is Leg-p.row v (Leg-p.val v ∷ [])) → (ss-len : length ss ≡ n₁) → (xs-len : length xs ≡ n₂) → (os-len : length os ≡ n₃) → (w-len : length w ≡ n₅) → (Left (leg_steps m f' held s) start (staged (rows sessions streams objects)) out v.ran (record { rows = rows ss xs os; found = v.found }) w) → ((length s - v.ran.at) < t) → ent 𝓤 (⋆ 𝓛 (At-3 v ss xs os w)) (Below-3 t)
+      again_3 t v ss xs os w v-is ss-len xs-len os-len w-len inv less = via 𝓤 (Inv-3 (length s - v.ran.at)) (inv_at_3 (length s - v.ran.at) v ss xs os w (refl, v-is, ss-len, xs-len, os-len, w-len, inv)) (via 𝓤 (guard 𝓤 ((length s - v.ran.at) < t) (Inv-3 (length s - v.ran.at))) (guard_i 𝓤 ((length s - v.ran.at) < t) (Inv-3 (length s - v.ran.at)) less) (ex_i 𝓤 (λ (u : ℕ). guard 𝓤 (u < t) (Inv-3 u)) (length s - v.ran.at)))
 
       part-3·4-8 : (v : Leg) → (ss : List (List ℕ)) → (xs : List (List ℕ)) → (os : List Object) → (w : List ℕ) → (t-3 : ℕ) → (v-is : Is Leg-p.row v (Leg-p.val v ∷ [])) → (ss-len : length ss ≡ n₁) → (xs-len : length xs ≡ n₂) → (os-len : length os ≡ n₃) → (w-len : length w ≡ n₅) → (t-is-3 : t-3 ≡ length s - v.ran.at) → (inv-3 : Left (leg_steps m f' held s) start (staged (rows sessions streams objects)) out v.ran (record { rows = rows ss xs os; found = v.found }) w) → (is-3·3 : Is bool_p.row (leads_on m (ss) f'.session_id n₆ v) (bool_p.val (leads_on m (ss) f'.session_id n₆ v) ∷ [])) → Sq 𝓛 (‵ ((MutSlice (named 0) κ₁ (Array u64 8)).own_val (at_list b₁ o₁ γ₁ ss) (slice_val (b₁, o₁) n₁ ∷ [])) ∷ ‵ (flft κ₁ q₁) ∷ ‵ ((MutSlice (named 0) κ₂ (Array u16 35)).own_val (at_list b₂ o₂ γ₂ xs) (slice_val (b₂, o₂) n₂ ∷ [])) ∷ ‵ (flft κ₂ q₂) ∷ ‵ ((MutSlice (named 0) κ₃ Object-t.the_row).own_val (at_list b₃ o₃ γ₃ os) (slice_val (b₃, o₃) n₃ ∷ [])) ∷ ‵ (flft κ₃ q₃) ∷ ‵ ((ShrSlice (named 0) κ₄ u8).own_val (at_list b₄ o₄ γ₄ held) (slice_val (b₄, o₄) n₄ ∷ [])) ∷ ‵ (flft κ₄ q₄) ∷ ‵ ((MutSlice (named 0) κ₅ u8).own_val (at_list b₅ o₅ γ₅ w) (slice_val (b₅, o₅) n₅ ∷ [])) ∷ ‵ (flft κ₅ q₅) ∷ ‵ ((ShrSlice (named 0) κ₆ u8).own_val (at_list b₆ o₆ γ₆ s) (slice_val (b₆, o₆) n₆ ∷ [])) ∷ ‵ (flft κ₆ q₆) ∷ free 𝓤 (slice_ty (ty_ref erased mut (pointee u8.written))) l₂₃ (free 𝓤 (ty_ref erased mut (pointee u8.written)) l₂₂ (free 𝓤 (slice_ty (ty_ref erased mut (pointee (Object-t.the_row).written))) l₂₁ (free 𝓤 (ty_ref erased mut (pointee (Object-t.the_row).written)) l₂₀ (free 𝓤 (slice_ty (ty_ref erased mut (pointee (Array u16 35).written))) l₁₉ (free 𝓤 (ty_ref erased mut (pointee (Array u16 35).written)) l₁₈ (free 𝓤 (slice_ty (ty_ref erased mut (pointee (Array u64 8).written))) l₁₇ (free 𝓤 (ty_ref erased mut (pointee (Array u64 8).written)) l₁₆ (full 𝓤 (slice_ty (ty_ref erased imm (pointee (Array u64 8).written))) l₁₅ (slice_val (b₁, o₁) n₁) (full 𝓤 (ty_ref erased imm (pointee (Array u64 8).written)) l₁₄ (vptr b₁ o₁) (full 𝓤 ty_bool l₁₃ (bool_p.val (leads_on m (ss) f'.session_id n₆ v)) (free 𝓤 Ran-l.mir l₁₂ (full 𝓤 Leg-l.mir l₁₁ (Leg-p.val v) (full 𝓤 (ty_int w64) l₁₀ (u64_p.val n₆) (full 𝓤 Ran-l.mir l₉ (Ran-p.val start) (full 𝓤 Mode-l.mir l₈ (Mode-p.val m) (full 𝓤 Frame-l.mir l₇ (Frame-p.val f') (full 𝓤 (slice_ty (ty_ref (named 5) imm (pointee u8.written))) l₆ (slice_val (b₆, o₆) n₆) (full 𝓤 (slice_ty (ty_ref (named 4) mut (pointee u8.written))) l₅ (slice_val (b₅, o₅) n₅) (full 𝓤 (slice_ty (ty_ref (named 3) imm (pointee u8.written))) l₄ (slice_val (b₄, o₄) n₄) (full 𝓤 (slice_ty (ty_ref (named 2) mut (pointee (Object-t.the_row).written))) l₃ (slice_val (b₃, o₃) n₃) (full 𝓤 (slice_ty (ty_ref (named 1) mut (pointee (Array u16 35).written))) l₂ (slice_val (b₂, o₂) n₂) (full 𝓤 (slice_ty (ty_ref (named 0) mut (pointee (Array u64 8).written))) l₁ (slice_val (b₁, o₁) n₁) (free 𝓤 Leg-l.mir l₀ ([]))))))))))))))))))))))))) (runs C Λ En (past 3 mir.turn-1) (any_q (after_turn 𝓤 H (Below-3 t-3) Left-3)))
       unfolding after_turn
@@ -364,7 +364,7 @@ module _ {M : Type 1} {𝓤 : Ura M} (𝓛 : Logic 𝓤) (mem : Memory → SProp
           backs_mut ! tt u8 b₅ o₅ w n₅ (w-len) room₅ ν-3·14-out δ-3·14-out ws-3·14.1.1.1.1.0 (put_replies f'.room (w) v.ran.wrote (led m f' (rows (ss) (xs) (os)) (held) (s) v.ran).replies) wlen-3·14-4 said-3·14.3 (λ len-3·14-out.
           move ! (8 ∷ []) $ drop ! $ move ! (8 ∷ []) $ drop ! $ move ! (8 ∷ []) $ drop ! $ move ! (9 ∷ []) $ drop ! $
           land_last ! (from ! (stop !)) (store ! 36 refl (Leg-p.typed 𝓛 (led m f' (rows (ss) (xs) (os)) (held) (s) v.ran).leg is-3·14)) $ forget ! 12 refl $ forget ! 14 refl $ forget ! 16 refl $ forget ! 18 refl $ forget ! 20 refl $ forget ! 22 refl $ forget ! 24 refl $ forget ! 26 refl $ forget ! 28 refl $ forget ! 30 refl $ forget ! 32 refl $ forget ! 34 refl $ move ! (6 ∷ 7 ∷ 4 ∷ 5 ∷ 2 ∷ 3 ∷ 11 ∷ 9 ∷ 0 ∷ 1 ∷ 10 ∷ 8 ∷ 12 ∷ 13 ∷ 14 ∷ 15 ∷ 16 ∷ 17 ∷ 18 ∷ 19 ∷ 20 ∷ 21 ∷ 22 ∷ 23 ∷ 24 ∷ 25 ∷ 26 ∷ 27 ∷ 28 ∷ 29 ∷ 30 ∷ 31 ∷ 32 ∷ 33 ∷ 34 ∷ 35 ∷ 36 ∷ 37 ∷ 38 ∷ 39 ∷ 40 ∷ 41 ∷ 42 ∷ 43 ∷ 44 ∷ 45 ∷ 46 ∷ 47 ∷ 48 ∷ 49 ∷ 50 ∷ 51 ∷ 52 ∷ 53 ∷ 54 ∷ 55 ∷ 56 ∷ 57 ∷ 58 ∷ 59 ∷ []) $
-          by ! (again-3 t-3 (led m f' (rows (ss) (xs) (os)) (held) (s) v.ran).leg (led m f' (rows (ss) (xs) (os)) (held) (s) v.ran).rows.sessions (led m f' (rows (ss) (xs) (os)) (held) (s) v.ran).rows.streams (led m f' (rows (ss) (xs) (os)) (held) (s) v.ran).rows.objects (put_replies f'.room (w) v.ran.wrote (led m f' (rows (ss) (xs) (os)) (held) (s) v.ran).replies) is-3·14 len-3·14-sessions len-3·14-streams len-3·14-objects len-3·14-out (left_again (leg_steps m f' held s) start (staged (rows sessions streams objects)) out v.ran (record { rows = rows ss xs os; found = v.found }) w inv-3 c-3·4) ((omega (arith, ltb-true, ltb-false, leb-true, leb-false, eqb-true, eqb-false, left_less (leg_steps m f' held s) start (staged (rows sessions streams objects)) out v.ran (record { rows = rows ss xs os; found = v.found }) w inv-3 c-3·4))))))))))))))))))))
+          by ! (again_3 t-3 (led m f' (rows (ss) (xs) (os)) (held) (s) v.ran).leg (led m f' (rows (ss) (xs) (os)) (held) (s) v.ran).rows.sessions (led m f' (rows (ss) (xs) (os)) (held) (s) v.ran).rows.streams (led m f' (rows (ss) (xs) (os)) (held) (s) v.ran).rows.objects (put_replies f'.room (w) v.ran.wrote (led m f' (rows (ss) (xs) (os)) (held) (s) v.ran).replies) is-3·14 len-3·14-sessions len-3·14-streams len-3·14-objects len-3·14-out (left_again (leg_steps m f' held s) start (staged (rows sessions streams objects)) out v.ran (record { rows = rows ss xs os; found = v.found }) w inv-3 c-3·4) ((omega (arith, ltb-true, ltb-false, leb-true, leb-false, eqb-true, eqb-false, left_less (leg_steps m f' held s) start (staged (rows sessions streams objects)) out v.ran (record { rows = rows ss xs os; found = v.found }) w inv-3 c-3·4))))))))))))))))))))
           (λ h-3·4.
           knows ! (leads_on m (ss) f'.session_id n₆ v ≡ false) (fails (leads_on m (ss) f'.session_id n₆ v) (T_not (leads_on m (ss) f'.session_id n₆ v) h-3·4)) (λ c-3·4.
           jumps ! $
@@ -373,9 +373,9 @@ module _ {M : Type 1} {𝓤 : Ura M} (𝓛 : Logic 𝓤) (mem : Memory → SProp
           returns ! (look ! 58 refl) $ forget ! 28 refl $ forget ! 30 refl $ forget ! 32 refl $ forget ! 36 refl $ forget ! 38 refl $ forget ! 40 refl $ forget ! 42 refl $ forget ! 44 refl $ forget ! 46 refl $ forget ! 48 refl $ forget ! 50 refl $ forget ! 52 refl $ forget ! 54 refl $ forget ! 56 refl $ forget ! 58 refl $ move ! (58 ∷ 59 ∷ []) $ free1 ! $ move ! (56 ∷ 57 ∷ []) $ free1 ! $ move ! (54 ∷ 55 ∷ []) $ free1 ! $ move ! (52 ∷ 53 ∷ []) $ free1 ! $ move ! (50 ∷ 51 ∷ []) $ free1 ! $ move ! (48 ∷ 49 ∷ []) $ free1 ! $ move ! (46 ∷ 47 ∷ []) $ free1 ! $ move ! (44 ∷ 45 ∷ []) $ free1 ! $ move ! (42 ∷ 43 ∷ []) $ free1 ! $ move ! (40 ∷ 41 ∷ []) $ free1 ! $ move ! (38 ∷ 39 ∷ []) $ free1 ! $ move ! (36 ∷ 37 ∷ []) $ free1 ! $ move ! (34 ∷ 35 ∷ []) $ free1 ! $ move ! (32 ∷ 33 ∷ []) $ free1 ! $ move ! (30 ∷ 31 ∷ []) $ free1 ! $ move ! (28 ∷ 29 ∷ []) $ free1 ! $ move ! (26 ∷ 27 ∷ []) $ free1 ! $ move ! (24 ∷ 25 ∷ []) $ free1 ! $ move ! (22 ∷ 23 ∷ []) $ free1 ! $ move ! (20 ∷ 21 ∷ []) $ free1 ! $ move ! (18 ∷ 19 ∷ []) $ free1 ! $ move ! (16 ∷ 17 ∷ []) $ free1 ! $ move ! (14 ∷ 15 ∷ []) $ free1 ! $ move ! (12 ∷ 13 ∷ []) $ free1 ! $ free0 ! $
           by ! (exits v ss xs os w (lead_done m f' held s start (rows sessions streams objects) out v (rows ss xs os) w inv-3 c-3·4) v-is ss-len xs-len os-len w-len)))
 
-      turn-3 : (v : Leg) → (ss : List (List ℕ)) → (xs : List (List ℕ)) → (os : List Object) → (w : List ℕ) → (t-3 : ℕ) → (v-is : Is Leg-p.row v (Leg-p.val v ∷ [])) → (ss-len : length ss ≡ n₁) → (xs-len : length xs ≡ n₂) → (os-len : length os ≡ n₃) → (w-len : length w ≡ n₅) → (t-is-3 : t-3 ≡ length s - v.ran.at) → (inv-3 : Left (leg_steps m f' held s) start (staged (rows sessions streams objects)) out v.ran (record { rows = rows ss xs os; found = v.found }) w) → ent 𝓤 (⋆ 𝓛 (At-3 v ss xs os w)) (Wp 𝓤 H C Λ En mir.turn-1 (after_turn 𝓤 H (Below-3 t-3) Left-3))
+      turn_3 : (v : Leg) → (ss : List (List ℕ)) → (xs : List (List ℕ)) → (os : List Object) → (w : List ℕ) → (t-3 : ℕ) → (v-is : Is Leg-p.row v (Leg-p.val v ∷ [])) → (ss-len : length ss ≡ n₁) → (xs-len : length xs ≡ n₂) → (os-len : length os ≡ n₃) → (w-len : length w ≡ n₅) → (t-is-3 : t-3 ≡ length s - v.ran.at) → (inv-3 : Left (leg_steps m f' held s) start (staged (rows sessions streams objects)) out v.ran (record { rows = rows ss xs os; found = v.found }) w) → ent 𝓤 (⋆ 𝓛 (At-3 v ss xs os w)) (Wp 𝓤 H C Λ En mir.turn-1 (after_turn 𝓤 H (Below-3 t-3) Left-3))
       unfolding after_turn
-      turn-3 v ss xs os w t-3 v-is ss-len xs-len os-len w-len t-is-3 inv-3 =
+      turn_3 v ss xs os w t-3 v-is ss-len xs-len os-len w-len t-is-3 inv-3 =
           qed 𝓛 (At-3 v ss xs os w) ∵ exec ! C Λ En mir.turn-1 (any_q (after_turn 𝓤 H (Below-3 t-3) Left-3)) $
           assigns ! (addr ! (from ! (fld ! refl (hop ! (look_in ! 56 (sub ! 0 refl (whole !))) (stop !))))) (from ! (stop !)) (init ! 30 refl (tt, tt)) $
           assigns ! (agg ! (and_then ! (load ! (from ! (stop !)) (look ! 30 refl)) (and_then ! (load ! (from ! (fld ! refl (stop !))) (look_in ! 56 (sub ! 1 refl (whole !)))) (no_more !)))) (from ! (stop !)) (init ! 28 refl (tt, (tt, (record { fits = room₁.0 }, tt)))) $
@@ -393,17 +393,17 @@ module _ {M : Type 1} {𝓤 : Ura M} (𝓛 : Logic 𝓤) (mem : Memory → SProp
           land ! (from ! (stop !)) (init ! 32 refl (bool_p.typed 𝓛 (leads_on m (ss) f'.session_id n₆ v) is-3·3)) $
           part-3·4-8 v ss xs os w t-3 v-is ss-len xs-len os-len w-len t-is-3 inv-3 is-3·3))
 
-      turns-3 : (t : ℕ) → ent 𝓤 (Inv-3 t) (Wp 𝓤 H C Λ En mir.turn-1 (after_turn 𝓤 H (Below-3 t) Left-3))
-      turns-3 t = ex_e 𝓤 (λ (v : Leg). ex 𝓤 (λ (ss : List (List ℕ)). ex 𝓤 (λ (xs : List (List ℕ)). ex 𝓤 (λ (os : List Object). ex 𝓤 (λ (w : List ℕ). guard 𝓤 (Facts-3 t v ss xs os w) (⋆ 𝓛 (At-3 v ss xs os w))))))) (λ v. ex_e 𝓤 (λ (ss : List (List ℕ)). ex 𝓤 (λ (xs : List (List ℕ)). ex 𝓤 (λ (os : List Object). ex 𝓤 (λ (w : List ℕ). guard 𝓤 (Facts-3 t v ss xs os w) (⋆ 𝓛 (At-3 v ss xs os w)))))) (λ ss. ex_e 𝓤 (λ (xs : List (List ℕ)). ex 𝓤 (λ (os : List Object). ex 𝓤 (λ (w : List ℕ). guard 𝓤 (Facts-3 t v ss xs os w) (⋆ 𝓛 (At-3 v ss xs os w))))) (λ xs. ex_e 𝓤 (λ (os : List Object). ex 𝓤 (λ (w : List ℕ). guard 𝓤 (Facts-3 t v ss xs os w) (⋆ 𝓛 (At-3 v ss xs os w)))) (λ os. ex_e 𝓤 (λ (w : List ℕ). guard 𝓤 (Facts-3 t v ss xs os w) (⋆ 𝓛 (At-3 v ss xs os w))) (λ w. guard_e 𝓤 (Facts-3 t v ss xs os w) (⋆ 𝓛 (At-3 v ss xs os w)) (λ fs. turn-3 v ss xs os w t fs.1 fs.2 fs.3 fs.4 fs.5 fs.0 fs.6))))))
+      turns_3 : (t : ℕ) → ent 𝓤 (Inv-3 t) (Wp 𝓤 H C Λ En mir.turn-1 (after_turn 𝓤 H (Below-3 t) Left-3))
+      turns_3 t = ex_e 𝓤 (λ (v : Leg). ex 𝓤 (λ (ss : List (List ℕ)). ex 𝓤 (λ (xs : List (List ℕ)). ex 𝓤 (λ (os : List Object). ex 𝓤 (λ (w : List ℕ). guard 𝓤 (Facts-3 t v ss xs os w) (⋆ 𝓛 (At-3 v ss xs os w))))))) (λ v. ex_e 𝓤 (λ (ss : List (List ℕ)). ex 𝓤 (λ (xs : List (List ℕ)). ex 𝓤 (λ (os : List Object). ex 𝓤 (λ (w : List ℕ). guard 𝓤 (Facts-3 t v ss xs os w) (⋆ 𝓛 (At-3 v ss xs os w)))))) (λ ss. ex_e 𝓤 (λ (xs : List (List ℕ)). ex 𝓤 (λ (os : List Object). ex 𝓤 (λ (w : List ℕ). guard 𝓤 (Facts-3 t v ss xs os w) (⋆ 𝓛 (At-3 v ss xs os w))))) (λ xs. ex_e 𝓤 (λ (os : List Object). ex 𝓤 (λ (w : List ℕ). guard 𝓤 (Facts-3 t v ss xs os w) (⋆ 𝓛 (At-3 v ss xs os w)))) (λ os. ex_e 𝓤 (λ (w : List ℕ). guard 𝓤 (Facts-3 t v ss xs os w) (⋆ 𝓛 (At-3 v ss xs os w))) (λ w. guard_e 𝓤 (Facts-3 t v ss xs os w) (⋆ 𝓛 (At-3 v ss xs os w)) (λ fs. turn_3 v ss xs os w t fs.1 fs.2 fs.3 fs.4 fs.5 fs.0 fs.6))))))
 
-      loops-3 : (v : Leg) (v-is : Is Leg-p.row v (Leg-p.val v ∷ [])) → (ss : List (List ℕ)) (ss-len : length ss ≡ n₁) → (xs : List (List ℕ)) (xs-len : length xs ≡ n₂) → (os : List Object) (os-len : length os ≡ n₃) → (w : List ℕ) (w-len : length w ≡ n₅) → (Left (leg_steps m f' held s) start (staged (rows sessions streams objects)) out v.ran (record { rows = rows ss xs os; found = v.found }) w) → ent 𝓤 (⋆ 𝓛 (At-3 v ss xs os w)) (Wp 𝓤 H C Λ En (loop mir.turn-1) Left-3)
-      loops-3 v v-is ss ss-len xs xs-len os os-len w w-len inv = via 𝓤 (Inv-3 (length s - v.ran.at)) (inv-at-3 (length s - v.ran.at) v ss xs os w (refl, v-is, ss-len, xs-len, os-len, w-len, inv)) (loop_rule 𝓤 H 𝓛.laws 𝓣 ◌<◌ lt-wf_rel.wf En mir.turn-1 Left-3 Inv-3 turns-3 (length s - v.ran.at))
+      loops_3 : (v : Leg) (v-is : Is Leg-p.row v (Leg-p.val v ∷ [])) → (ss : List (List ℕ)) (ss-len : length ss ≡ n₁) → (xs : List (List ℕ)) (xs-len : length xs ≡ n₂) → (os : List Object) (os-len : length os ≡ n₃) → (w : List ℕ) (w-len : length w ≡ n₅) → (Left (leg_steps m f' held s) start (staged (rows sessions streams objects)) out v.ran (record { rows = rows ss xs os; found = v.found }) w) → ent 𝓤 (⋆ 𝓛 (At-3 v ss xs os w)) (Wp 𝓤 H C Λ En (loop mir.turn-1) Left-3)
+      loops_3 v v-is ss ss-len xs xs-len os os-len w w-len inv = via 𝓤 (Inv-3 (length s - v.ran.at)) (inv_at_3 (length s - v.ran.at) v ss xs os w (refl, v-is, ss-len, xs-len, os-len, w-len, inv)) (loop_rule 𝓤 H 𝓛.laws 𝓣 ◌<◌ lt-wf_rel.wf En mir.turn-1 Left-3 Inv-3 turns_3 (length s - v.ran.at))
 
     part_3_0 : (is-2 : Is Leg-p.row (plain_leg start) (Leg-p.val (plain_leg start) ∷ [])) → Sq 𝓛 (‵ ((MutSlice (named 0) κ₁ (Array u64 8)).own_val (at_list b₁ o₁ γ₁ sessions) (slice_val (b₁, o₁) n₁ ∷ [])) ∷ ‵ (flft κ₁ q₁) ∷ ‵ ((MutSlice (named 0) κ₂ (Array u16 35)).own_val (at_list b₂ o₂ γ₂ streams) (slice_val (b₂, o₂) n₂ ∷ [])) ∷ ‵ (flft κ₂ q₂) ∷ ‵ ((MutSlice (named 0) κ₃ Object-t.the_row).own_val (at_list b₃ o₃ γ₃ objects) (slice_val (b₃, o₃) n₃ ∷ [])) ∷ ‵ (flft κ₃ q₃) ∷ ‵ ((ShrSlice (named 0) κ₄ u8).own_val (at_list b₄ o₄ γ₄ held) (slice_val (b₄, o₄) n₄ ∷ [])) ∷ ‵ (flft κ₄ q₄) ∷ ‵ ((MutSlice (named 0) κ₅ u8).own_val (at_list b₅ o₅ γ₅ out) (slice_val (b₅, o₅) n₅ ∷ [])) ∷ ‵ (flft κ₅ q₅) ∷ ‵ ((ShrSlice (named 0) κ₆ u8).own_val (at_list b₆ o₆ γ₆ s) (slice_val (b₆, o₆) n₆ ∷ [])) ∷ ‵ (flft κ₆ q₆) ∷ free 𝓤 (slice_ty (ty_ref erased mut (pointee u8.written))) l₂₃ (free 𝓤 (ty_ref erased mut (pointee u8.written)) l₂₂ (free 𝓤 (slice_ty (ty_ref erased mut (pointee (Object-t.the_row).written))) l₂₁ (free 𝓤 (ty_ref erased mut (pointee (Object-t.the_row).written)) l₂₀ (free 𝓤 (slice_ty (ty_ref erased mut (pointee (Array u16 35).written))) l₁₉ (free 𝓤 (ty_ref erased mut (pointee (Array u16 35).written)) l₁₈ (free 𝓤 (slice_ty (ty_ref erased mut (pointee (Array u64 8).written))) l₁₇ (free 𝓤 (ty_ref erased mut (pointee (Array u64 8).written)) l₁₆ (free 𝓤 (slice_ty (ty_ref erased imm (pointee (Array u64 8).written))) l₁₅ (free 𝓤 (ty_ref erased imm (pointee (Array u64 8).written)) l₁₄ (free 𝓤 ty_bool l₁₃ (free 𝓤 Ran-l.mir l₁₂ (full 𝓤 Leg-l.mir l₁₁ (Leg-p.val (plain_leg start)) (full 𝓤 (ty_int w64) l₁₀ (u64_p.val n₆) (full 𝓤 Ran-l.mir l₉ (Ran-p.val start) (full 𝓤 Mode-l.mir l₈ (Mode-p.val m) (full 𝓤 Frame-l.mir l₇ (Frame-p.val f') (full 𝓤 (slice_ty (ty_ref (named 5) imm (pointee u8.written))) l₆ (slice_val (b₆, o₆) n₆) (full 𝓤 (slice_ty (ty_ref (named 4) mut (pointee u8.written))) l₅ (slice_val (b₅, o₅) n₅) (full 𝓤 (slice_ty (ty_ref (named 3) imm (pointee u8.written))) l₄ (slice_val (b₄, o₄) n₄) (full 𝓤 (slice_ty (ty_ref (named 2) mut (pointee (Object-t.the_row).written))) l₃ (slice_val (b₃, o₃) n₃) (full 𝓤 (slice_ty (ty_ref (named 1) mut (pointee (Array u16 35).written))) l₂ (slice_val (b₂, o₂) n₂) (full 𝓤 (slice_ty (ty_ref (named 0) mut (pointee (Array u64 8).written))) l₁ (slice_val (b₁, o₁) n₁) (free 𝓤 Leg-l.mir l₀ ([]))))))))))))))))))))))))) (runs C Λ En mir.t-3 (at_ret En Post))
     part_3_0 is-2 =
         first ! $
         blocks ! $
-        by ! (loops-3 is-2 (plain_leg start) is-2 sessions refl streams refl objects refl out refl (left_start (leg_steps m f' held s) start (staged (rows sessions streams objects)) out))
+        by ! (loops_3 is-2 (plain_leg start) is-2 sessions refl streams refl objects refl out refl (left_start (leg_steps m f' held s) start (staged (rows sessions streams objects)) out))
 
     begins : Sq 𝓛 (‵ ((MutSlice (named 0) κ₁ (Array u64 8)).own_val (at_list b₁ o₁ γ₁ sessions) (slice_val (b₁, o₁) n₁ ∷ [])) ∷ ‵ (flft κ₁ q₁) ∷ ‵ ((MutSlice (named 0) κ₂ (Array u16 35)).own_val (at_list b₂ o₂ γ₂ streams) (slice_val (b₂, o₂) n₂ ∷ [])) ∷ ‵ (flft κ₂ q₂) ∷ ‵ ((MutSlice (named 0) κ₃ Object-t.the_row).own_val (at_list b₃ o₃ γ₃ objects) (slice_val (b₃, o₃) n₃ ∷ [])) ∷ ‵ (flft κ₃ q₃) ∷ ‵ ((ShrSlice (named 0) κ₄ u8).own_val (at_list b₄ o₄ γ₄ held) (slice_val (b₄, o₄) n₄ ∷ [])) ∷ ‵ (flft κ₄ q₄) ∷ ‵ ((MutSlice (named 0) κ₅ u8).own_val (at_list b₅ o₅ γ₅ out) (slice_val (b₅, o₅) n₅ ∷ [])) ∷ ‵ (flft κ₅ q₅) ∷ ‵ ((ShrSlice (named 0) κ₆ u8).own_val (at_list b₆ o₆ γ₆ s) (slice_val (b₆, o₆) n₆ ∷ [])) ∷ ‵ (flft κ₆ q₆) ∷ free 𝓤 (slice_ty (ty_ref erased mut (pointee u8.written))) l₂₃ (free 𝓤 (ty_ref erased mut (pointee u8.written)) l₂₂ (free 𝓤 (slice_ty (ty_ref erased mut (pointee (Object-t.the_row).written))) l₂₁ (free 𝓤 (ty_ref erased mut (pointee (Object-t.the_row).written)) l₂₀ (free 𝓤 (slice_ty (ty_ref erased mut (pointee (Array u16 35).written))) l₁₉ (free 𝓤 (ty_ref erased mut (pointee (Array u16 35).written)) l₁₈ (free 𝓤 (slice_ty (ty_ref erased mut (pointee (Array u64 8).written))) l₁₇ (free 𝓤 (ty_ref erased mut (pointee (Array u64 8).written)) l₁₆ (free 𝓤 (slice_ty (ty_ref erased imm (pointee (Array u64 8).written))) l₁₅ (free 𝓤 (ty_ref erased imm (pointee (Array u64 8).written)) l₁₄ (free 𝓤 ty_bool l₁₃ (free 𝓤 Ran-l.mir l₁₂ (free 𝓤 Leg-l.mir l₁₁ (free 𝓤 (ty_int w64) l₁₀ (full 𝓤 Ran-l.mir l₉ (Ran-p.val start) (full 𝓤 Mode-l.mir l₈ (Mode-p.val m) (full 𝓤 Frame-l.mir l₇ (Frame-p.val f') (full 𝓤 (slice_ty (ty_ref (named 5) imm (pointee u8.written))) l₆ (slice_val (b₆, o₆) n₆) (full 𝓤 (slice_ty (ty_ref (named 4) mut (pointee u8.written))) l₅ (slice_val (b₅, o₅) n₅) (full 𝓤 (slice_ty (ty_ref (named 3) imm (pointee u8.written))) l₄ (slice_val (b₄, o₄) n₄) (full 𝓤 (slice_ty (ty_ref (named 2) mut (pointee (Object-t.the_row).written))) l₃ (slice_val (b₃, o₃) n₃) (full 𝓤 (slice_ty (ty_ref (named 1) mut (pointee (Array u16 35).written))) l₂ (slice_val (b₂, o₂) n₂) (full 𝓤 (slice_ty (ty_ref (named 0) mut (pointee (Array u64 8).written))) l₁ (slice_val (b₁, o₁) n₁) (free 𝓤 Leg-l.mir l₀ ([]))))))))))))))))))))))))) (runs C Λ En mir.t-1 (at_ret En Post))
     begins =

@@ -316,11 +316,11 @@ module _ {M : Type 1} {𝓤 : Ura M} (𝓛 : Logic 𝓤) (mem : Memory → SProp
       abbrev Left-3 : Out → SProp 𝓤
       Left-3 = after_block 𝓤 H (after_seq 𝓤 H (Wp 𝓤 H C Λ En mir.t-4 (at_return 𝓤 H En Post)) (at_return 𝓤 H En Post))
 
-      inv-at-3 : (t : ℕ) → (v : Ran) → (ss : List (List ℕ)) → (xs : List (List ℕ)) → (os : List Object) → (ps : List ℕ) → (ls : List ℕ) → (bs : List ℕ) → (w : List ℕ) → Facts-3 t v ss xs os ps ls bs w → ent 𝓤 (⋆ 𝓛 (At-3 v ss xs os ps ls bs w)) (Inv-3 t)
-      inv-at-3 t v ss xs os ps ls bs w fs = via 𝓤 (ex 𝓤 (λ (ss : List (List ℕ)). ex 𝓤 (λ (xs : List (List ℕ)). ex 𝓤 (λ (os : List Object). ex 𝓤 (λ (ps : List ℕ). ex 𝓤 (λ (ls : List ℕ). ex 𝓤 (λ (bs : List ℕ). ex 𝓤 (λ (w : List ℕ). guard 𝓤 (Facts-3 t v ss xs os ps ls bs w) (⋆ 𝓛 (At-3 v ss xs os ps ls bs w)))))))))) (via 𝓤 (ex 𝓤 (λ (xs : List (List ℕ)). ex 𝓤 (λ (os : List Object). ex 𝓤 (λ (ps : List ℕ). ex 𝓤 (λ (ls : List ℕ). ex 𝓤 (λ (bs : List ℕ). ex 𝓤 (λ (w : List ℕ). guard 𝓤 (Facts-3 t v ss xs os ps ls bs w) (⋆ 𝓛 (At-3 v ss xs os ps ls bs w))))))))) (via 𝓤 (ex 𝓤 (λ (os : List Object). ex 𝓤 (λ (ps : List ℕ). ex 𝓤 (λ (ls : List ℕ). ex 𝓤 (λ (bs : List ℕ). ex 𝓤 (λ (w : List ℕ). guard 𝓤 (Facts-3 t v ss xs os ps ls bs w) (⋆ 𝓛 (At-3 v ss xs os ps ls bs w)))))))) (via 𝓤 (ex 𝓤 (λ (ps : List ℕ). ex 𝓤 (λ (ls : List ℕ). ex 𝓤 (λ (bs : List ℕ). ex 𝓤 (λ (w : List ℕ). guard 𝓤 (Facts-3 t v ss xs os ps ls bs w) (⋆ 𝓛 (At-3 v ss xs os ps ls bs w))))))) (via 𝓤 (ex 𝓤 (λ (ls : List ℕ). ex 𝓤 (λ (bs : List ℕ). ex 𝓤 (λ (w : List ℕ). guard 𝓤 (Facts-3 t v ss xs os ps ls bs w) (⋆ 𝓛 (At-3 v ss xs os ps ls bs w)))))) (via 𝓤 (ex 𝓤 (λ (bs : List ℕ). ex 𝓤 (λ (w : List ℕ). guard 𝓤 (Facts-3 t v ss xs os ps ls bs w) (⋆ 𝓛 (At-3 v ss xs os ps ls bs w))))) (via 𝓤 (ex 𝓤 (λ (w : List ℕ). guard 𝓤 (Facts-3 t v ss xs os ps ls bs w) (⋆ 𝓛 (At-3 v ss xs os ps ls bs w)))) (via 𝓤 (guard 𝓤 (Facts-3 t v ss xs os ps ls bs w) (⋆ 𝓛 (At-3 v ss xs os ps ls bs w))) (guard_i 𝓤 (Facts-3 t v ss xs os ps ls bs w) (⋆ 𝓛 (At-3 v ss xs os ps ls bs w)) fs) (ex_i 𝓤 (λ (w : List ℕ). guard 𝓤 (Facts-3 t v ss xs os ps ls bs w) (⋆ 𝓛 (At-3 v ss xs os ps ls bs w))) w)) (ex_i 𝓤 (λ (bs : List ℕ). ex 𝓤 (λ (w : List ℕ). guard 𝓤 (Facts-3 t v ss xs os ps ls bs w) (⋆ 𝓛 (At-3 v ss xs os ps ls bs w)))) bs)) (ex_i 𝓤 (λ (ls : List ℕ). ex 𝓤 (λ (bs : List ℕ). ex 𝓤 (λ (w : List ℕ). guard 𝓤 (Facts-3 t v ss xs os ps ls bs w) (⋆ 𝓛 (At-3 v ss xs os ps ls bs w))))) ls)) (ex_i 𝓤 (λ (ps : List ℕ). ex 𝓤 (λ (ls : List ℕ). ex 𝓤 (λ (bs : List ℕ). ex 𝓤 (λ (w : List ℕ). guard 𝓤 (Facts-3 t v ss xs os ps ls bs w) (⋆ 𝓛 (At-3 v ss xs os ps ls bs w)))))) ps)) (ex_i 𝓤 (λ (os : List Object). ex 𝓤 (λ (ps : List ℕ). ex 𝓤 (λ (ls : List ℕ). ex 𝓤 (λ (bs : List ℕ). ex 𝓤 (λ (w : List ℕ). guard 𝓤 (Facts-3 t v ss xs os ps ls bs w) (⋆ 𝓛 (At-3 v ss xs os ps ls bs w))))))) os)) (ex_i 𝓤 (λ (xs : List (List ℕ)). ex 𝓤 (λ (os : List Object). ex 𝓤 (λ (ps : List ℕ). ex 𝓤 (λ (ls : List ℕ). ex 𝓤 (λ (bs : List ℕ). ex 𝓤 (λ (w : List ℕ). guard 𝓤 (Facts-3 t v ss xs os ps ls bs w) (⋆ 𝓛 (At-3 v ss xs os ps ls bs w)))))))) xs)) (ex_i 𝓤 (λ (ss : List (List ℕ)). ex 𝓤 (λ (xs : List (List ℕ)). ex 𝓤 (λ (os : List Object). ex 𝓤 (λ (ps : List ℕ). ex 𝓤 (λ (ls : List ℕ). ex 𝓤 (λ (bs : List ℕ). ex 𝓤 (λ (w : List ℕ). guard 𝓤 (Facts-3 t v ss xs os ps ls bs w) (⋆ 𝓛 (At-3 v ss xs os ps ls bs w))))))))) ss)) (ex_i 𝓤 (λ (v : Ran). ex 𝓤 (λ (ss : List (List ℕ)). ex 𝓤 (λ (xs : List (List ℕ)). ex 𝓤 (λ (os : List Object). ex 𝓤 (λ (ps : List ℕ). ex 𝓤 (λ (ls : List ℕ). ex 𝓤 (λ (bs : List ℕ). ex 𝓤 (λ (w : List ℕ). guard 𝓤 (Facts-3 t v ss xs os ps ls bs w) (⋆ 𝓛 (At-3 v ss xs os ps ls bs w)))))))))) v)
+      inv_at_3 : (t : ℕ) → (v : Ran) → (ss : List (List ℕ)) → (xs : List (List ℕ)) → (os : List Object) → (ps : List ℕ) → (ls : List ℕ) → (bs : List ℕ) → (w : List ℕ) → Facts-3 t v ss xs os ps ls bs w → ent 𝓤 (⋆ 𝓛 (At-3 v ss xs os ps ls bs w)) (Inv-3 t)
+      inv_at_3 t v ss xs os ps ls bs w fs = via 𝓤 (ex 𝓤 (λ (ss : List (List ℕ)). ex 𝓤 (λ (xs : List (List ℕ)). ex 𝓤 (λ (os : List Object). ex 𝓤 (λ (ps : List ℕ). ex 𝓤 (λ (ls : List ℕ). ex 𝓤 (λ (bs : List ℕ). ex 𝓤 (λ (w : List ℕ). guard 𝓤 (Facts-3 t v ss xs os ps ls bs w) (⋆ 𝓛 (At-3 v ss xs os ps ls bs w)))))))))) (via 𝓤 (ex 𝓤 (λ (xs : List (List ℕ)). ex 𝓤 (λ (os : List Object). ex 𝓤 (λ (ps : List ℕ). ex 𝓤 (λ (ls : List ℕ). ex 𝓤 (λ (bs : List ℕ). ex 𝓤 (λ (w : List ℕ). guard 𝓤 (Facts-3 t v ss xs os ps ls bs w) (⋆ 𝓛 (At-3 v ss xs os ps ls bs w))))))))) (via 𝓤 (ex 𝓤 (λ (os : List Object). ex 𝓤 (λ (ps : List ℕ). ex 𝓤 (λ (ls : List ℕ). ex 𝓤 (λ (bs : List ℕ). ex 𝓤 (λ (w : List ℕ). guard 𝓤 (Facts-3 t v ss xs os ps ls bs w) (⋆ 𝓛 (At-3 v ss xs os ps ls bs w)))))))) (via 𝓤 (ex 𝓤 (λ (ps : List ℕ). ex 𝓤 (λ (ls : List ℕ). ex 𝓤 (λ (bs : List ℕ). ex 𝓤 (λ (w : List ℕ). guard 𝓤 (Facts-3 t v ss xs os ps ls bs w) (⋆ 𝓛 (At-3 v ss xs os ps ls bs w))))))) (via 𝓤 (ex 𝓤 (λ (ls : List ℕ). ex 𝓤 (λ (bs : List ℕ). ex 𝓤 (λ (w : List ℕ). guard 𝓤 (Facts-3 t v ss xs os ps ls bs w) (⋆ 𝓛 (At-3 v ss xs os ps ls bs w)))))) (via 𝓤 (ex 𝓤 (λ (bs : List ℕ). ex 𝓤 (λ (w : List ℕ). guard 𝓤 (Facts-3 t v ss xs os ps ls bs w) (⋆ 𝓛 (At-3 v ss xs os ps ls bs w))))) (via 𝓤 (ex 𝓤 (λ (w : List ℕ). guard 𝓤 (Facts-3 t v ss xs os ps ls bs w) (⋆ 𝓛 (At-3 v ss xs os ps ls bs w)))) (via 𝓤 (guard 𝓤 (Facts-3 t v ss xs os ps ls bs w) (⋆ 𝓛 (At-3 v ss xs os ps ls bs w))) (guard_i 𝓤 (Facts-3 t v ss xs os ps ls bs w) (⋆ 𝓛 (At-3 v ss xs os ps ls bs w)) fs) (ex_i 𝓤 (λ (w : List ℕ). guard 𝓤 (Facts-3 t v ss xs os ps ls bs w) (⋆ 𝓛 (At-3 v ss xs os ps ls bs w))) w)) (ex_i 𝓤 (λ (bs : List ℕ). ex 𝓤 (λ (w : List ℕ). guard 𝓤 (Facts-3 t v ss xs os ps ls bs w) (⋆ 𝓛 (At-3 v ss xs os ps ls bs w)))) bs)) (ex_i 𝓤 (λ (ls : List ℕ). ex 𝓤 (λ (bs : List ℕ). ex 𝓤 (λ (w : List ℕ). guard 𝓤 (Facts-3 t v ss xs os ps ls bs w) (⋆ 𝓛 (At-3 v ss xs os ps ls bs w))))) ls)) (ex_i 𝓤 (λ (ps : List ℕ). ex 𝓤 (λ (ls : List ℕ). ex 𝓤 (λ (bs : List ℕ). ex 𝓤 (λ (w : List ℕ). guard 𝓤 (Facts-3 t v ss xs os ps ls bs w) (⋆ 𝓛 (At-3 v ss xs os ps ls bs w)))))) ps)) (ex_i 𝓤 (λ (os : List Object). ex 𝓤 (λ (ps : List ℕ). ex 𝓤 (λ (ls : List ℕ). ex 𝓤 (λ (bs : List ℕ). ex 𝓤 (λ (w : List ℕ). guard 𝓤 (Facts-3 t v ss xs os ps ls bs w) (⋆ 𝓛 (At-3 v ss xs os ps ls bs w))))))) os)) (ex_i 𝓤 (λ (xs : List (List ℕ)). ex 𝓤 (λ (os : List Object). ex 𝓤 (λ (ps : List ℕ). ex 𝓤 (λ (ls : List ℕ). ex 𝓤 (λ (bs : List ℕ). ex 𝓤 (λ (w : List ℕ). guard 𝓤 (Facts-3 t v ss xs os ps ls bs w) (⋆ 𝓛 (At-3 v ss xs os ps ls bs w)))))))) xs)) (ex_i 𝓤 (λ (ss : List (List ℕ)). ex 𝓤 (λ (xs : List (List ℕ)). ex 𝓤 (λ (os : List Object). ex 𝓤 (λ (ps : List ℕ). ex 𝓤 (λ (ls : List ℕ). ex 𝓤 (λ (bs : List ℕ). ex 𝓤 (λ (w : List ℕ). guard 𝓤 (Facts-3 t v ss xs os ps ls bs w) (⋆ 𝓛 (At-3 v ss xs os ps ls bs w))))))))) ss)) (ex_i 𝓤 (λ (v : Ran). ex 𝓤 (λ (ss : List (List ℕ)). ex 𝓤 (λ (xs : List (List ℕ)). ex 𝓤 (λ (os : List Object). ex 𝓤 (λ (ps : List ℕ). ex 𝓤 (λ (ls : List ℕ). ex 𝓤 (λ (bs : List ℕ). ex 𝓤 (λ (w : List ℕ). guard 𝓤 (Facts-3 t v ss xs os ps ls bs w) (⋆ 𝓛 (At-3 v ss xs os ps ls bs w)))))))))) v)
 
-      again-3 : (t : ℕ) → (v : Ran) → (ss : List (List ℕ)) → (xs : List (List ℕ)) → (os : List Object) → (ps : List ℕ) → (ls : List ℕ) → (bs : List ℕ) → (w : List ℕ) → (v-is : Is Ran-p.row v (Ran-p.val v ∷ [])) → (ss-len : length ss ≡ n₁) → (xs-len : length xs ≡ n₂) → (os-len : length os ≡ n₃) → (ps_len : length ps ≡ n₅) → (ls-len : length ls ≡ n₆) → (bs-len : length bs ≡ n₇) → (w-len : length w ≡ n₈) → (Left (run_steps f' d) start (lent sessions streams objects held parts lengths rebuilt) out v (lent ss xs os held ps ls bs) w) → ((length d - v.at) < t) → ent 𝓤 (⋆ 𝓛 (At-3 v ss xs os ps ls bs w)) (Below-3 t)
-      again-3 t v ss xs os ps ls bs w v-is ss-len xs-len os-len ps_len ls-len bs-len w-len inv less = via 𝓤 (Inv-3 (length d - v.at)) (inv-at-3 (length d - v.at) v ss xs os ps ls bs w (refl, v-is, ss-len, xs-len, os-len, ps_len, ls-len, bs-len, w-len, inv)) (via 𝓤 (guard 𝓤 ((length d - v.at) < t) (Inv-3 (length d - v.at))) (guard_i 𝓤 ((length d - v.at) < t) (Inv-3 (length d - v.at)) less) (ex_i 𝓤 (λ (u : ℕ). guard 𝓤 (u < t) (Inv-3 u)) (length d - v.at)))
+      again_3 : (t : ℕ) → (v : Ran) → (ss : List (List ℕ)) → (xs : List (List ℕ)) → (os : List Object) → (ps : List ℕ) → (ls : List ℕ) → (bs : List ℕ) → (w : List ℕ) → (v-is : Is Ran-p.row v (Ran-p.val v ∷ [])) → (ss-len : length ss ≡ n₁) → (xs-len : length xs ≡ n₂) → (os-len : length os ≡ n₃) → (ps_len : length ps ≡ n₅) → (ls-len : length ls ≡ n₆) → (bs-len : length bs ≡ n₇) → (w-len : length w ≡ n₈) → (Left (run_steps f' d) start (lent sessions streams objects held parts lengths rebuilt) out v (lent ss xs os held ps ls bs) w) → ((length d - v.at) < t) → ent 𝓤 (⋆ 𝓛 (At-3 v ss xs os ps ls bs w)) (Below-3 t)
+      again_3 t v ss xs os ps ls bs w v-is ss-len xs-len os-len ps_len ls-len bs-len w-len inv less = via 𝓤 (Inv-3 (length d - v.at)) (inv_at_3 (length d - v.at) v ss xs os ps ls bs w (refl, v-is, ss-len, xs-len, os-len, ps_len, ls-len, bs-len, w-len, inv)) (via 𝓤 (guard 𝓤 ((length d - v.at) < t) (Inv-3 (length d - v.at))) (guard_i 𝓤 ((length d - v.at) < t) (Inv-3 (length d - v.at)) less) (ex_i 𝓤 (λ (u : ℕ). guard 𝓤 (u < t) (Inv-3 u)) (length d - v.at)))
 
       part-3·13-8 : (v : Ran) → (ss : List (List ℕ)) → (xs : List (List ℕ)) → (os : List Object) → (ps : List ℕ) → (ls : List ℕ) → (bs : List ℕ) → (w : List ℕ) → (t-3 : ℕ) → (v-is : Is Ran-p.row v (Ran-p.val v ∷ [])) → (ss-len : length ss ≡ n₁) → (xs-len : length xs ≡ n₂) → (os-len : length os ≡ n₃) → (ps_len : length ps ≡ n₅) → (ls-len : length ls ≡ n₆) → (bs-len : length bs ≡ n₇) → (w-len : length w ≡ n₈) → (t-is-3 : t-3 ≡ length d - v.at) → (inv-3 : Left (run_steps f' d) start (lent sessions streams objects held parts lengths rebuilt) out v (lent ss xs os held ps ls bs) w) → (is-3·1 : Is bool_p.row (goes_on n₉ v) (bool_p.val (goes_on n₉ v) ∷ [])) → (c-3·2 : goes_on n₉ v ≡ true) → (asks-3·12 : f'.room ≤ 9223372036854775807) → (len-3·12-sessions : length (leg_at Mode-Datagram f' (held) (d) v (rows (ss) (xs) (os))).rows.sessions ≡ n₁) → (len-3·12-streams : length (leg_at Mode-Datagram f' (held) (d) v (rows (ss) (xs) (os))).rows.streams ≡ n₂) → (len-3·12-objects : length (leg_at Mode-Datagram f' (held) (d) v (rows (ss) (xs) (os))).rows.objects ≡ n₃) → (len-3·12-out : length (put_replies f'.room (w) v.wrote (leg_at Mode-Datagram f' (held) (d) v (rows (ss) (xs) (os))).replies) ≡ n₈) → (is-3·12 : Is Leg-p.row (leg_at Mode-Datagram f' (held) (d) v (rows (ss) (xs) (os))).leg (Leg-p.val (leg_at Mode-Datagram f' (held) (d) v (rows (ss) (xs) (os))).leg ∷ [])) → Sq 𝓛 (‵ ((MutSlice (named 0) κ₁ (Array u64 8)).own_val (at_list b₁ o₁ γ₁ (leg_at Mode-Datagram f' (held) (d) v (rows (ss) (xs) (os))).rows.sessions) (slice_val (b₁, o₁) n₁ ∷ [])) ∷ ‵ (flft κ₁ q₁) ∷ ‵ ((MutSlice (named 0) κ₂ (Array u16 35)).own_val (at_list b₂ o₂ γ₂ (leg_at Mode-Datagram f' (held) (d) v (rows (ss) (xs) (os))).rows.streams) (slice_val (b₂, o₂) n₂ ∷ [])) ∷ ‵ (flft κ₂ q₂) ∷ ‵ ((MutSlice (named 0) κ₃ Object-t.the_row).own_val (at_list b₃ o₃ γ₃ (leg_at Mode-Datagram f' (held) (d) v (rows (ss) (xs) (os))).rows.objects) (slice_val (b₃, o₃) n₃ ∷ [])) ∷ ‵ (flft κ₃ q₃) ∷ ‵ ((ShrSlice (named 0) κ₄ u8).own_val (at_list b₄ o₄ γ₄ held) (slice_val (b₄, o₄) n₄ ∷ [])) ∷ ‵ (flft κ₄ q₄) ∷ ‵ ((MutSlice (named 0) κ₅ u8).own_val (at_list b₅ o₅ γ₅ ps) (slice_val (b₅, o₅) n₅ ∷ [])) ∷ ‵ (flft κ₅ q₅) ∷ ‵ ((MutSlice (named 0) κ₆ u32).own_val (at_list b₆ o₆ γ₆ ls) (slice_val (b₆, o₆) n₆ ∷ [])) ∷ ‵ (flft κ₆ q₆) ∷ ‵ ((MutSlice (named 0) κ₇ u8).own_val (at_list b₇ o₇ γ₇ bs) (slice_val (b₇, o₇) n₇ ∷ [])) ∷ ‵ (flft κ₇ q₇) ∷ ‵ ((MutSlice (named 0) κ₈ u8).own_val (at_list b₈ o₈ γ₈ (put_replies f'.room (w) v.wrote (leg_at Mode-Datagram f' (held) (d) v (rows (ss) (xs) (os))).replies)) (slice_val (b₈, o₈) n₈ ∷ [])) ∷ ‵ (flft κ₈ q₈) ∷ ‵ ((ShrSlice (named 0) κ₉ u8).own_val (at_list b₉ o₉ γ₉ d) (slice_val (b₉, o₉) n₉ ∷ [])) ∷ ‵ (flft κ₉ q₉) ∷ free 𝓤 (slice_ty (ty_ref erased mut (pointee u8.written))) l₃₈ (free 𝓤 (ty_ref erased mut (pointee u8.written)) l₃₇ (free 𝓤 (slice_ty (ty_ref erased mut (pointee u8.written))) l₃₆ (free 𝓤 (ty_ref erased mut (pointee u8.written)) l₃₅ (free 𝓤 (slice_ty (ty_ref erased mut (pointee u32.written))) l₃₄ (free 𝓤 (ty_ref erased mut (pointee u32.written)) l₃₃ (free 𝓤 (slice_ty (ty_ref erased mut (pointee u8.written))) l₃₂ (free 𝓤 (ty_ref erased mut (pointee u8.written)) l₃₁ (free 𝓤 (slice_ty (ty_ref erased mut (pointee (Object-t.the_row).written))) l₃₀ (free 𝓤 (ty_ref erased mut (pointee (Object-t.the_row).written)) l₂₉ (free 𝓤 (slice_ty (ty_ref erased mut (pointee (Array u16 35).written))) l₂₈ (free 𝓤 (ty_ref erased mut (pointee (Array u16 35).written)) l₂₇ (free 𝓤 (slice_ty (ty_ref erased mut (pointee (Array u64 8).written))) l₂₆ (free 𝓤 (ty_ref erased mut (pointee (Array u64 8).written)) l₂₅ (full 𝓤 Mode-l.mir l₂₄ (Mode-p.val Mode-Datagram) (full 𝓤 (slice_ty (ty_ref erased mut (pointee u8.written))) l₂₃ (slice_val (b₈, o₈) n₈) (full 𝓤 (ty_ref erased mut (pointee u8.written)) l₂₂ (vptr b₈ o₈) (full 𝓤 (slice_ty (ty_ref erased mut (pointee (Object-t.the_row).written))) l₂₁ (slice_val (b₃, o₃) n₃) (full 𝓤 (ty_ref erased mut (pointee (Object-t.the_row).written)) l₂₀ (vptr b₃ o₃) (full 𝓤 (slice_ty (ty_ref erased mut (pointee (Array u16 35).written))) l₁₉ (slice_val (b₂, o₂) n₂) (full 𝓤 (ty_ref erased mut (pointee (Array u16 35).written)) l₁₈ (vptr b₂ o₂) (full 𝓤 (slice_ty (ty_ref erased mut (pointee (Array u64 8).written))) l₁₇ (slice_val (b₁, o₁) n₁) (full 𝓤 (ty_ref erased mut (pointee (Array u64 8).written)) l₁₆ (vptr b₁ o₁) (full 𝓤 ty_bool l₁₅ (bool_p.val (goes_on n₉ v)) (full 𝓤 Leg-l.mir l₁₄ (Leg-p.val (leg_at Mode-Datagram f' (held) (d) v (rows (ss) (xs) (os))).leg) (full 𝓤 Ran-l.mir l₁₃ (Ran-p.val v) (full 𝓤 (ty_int w64) l₁₂ (u64_p.val n₉) (full 𝓤 Ran-l.mir l₁₁ (Ran-p.val start) (full 𝓤 Frame-l.mir l₁₀ (Frame-p.val f') (full 𝓤 (slice_ty (ty_ref (named 8) imm (pointee u8.written))) l₉ (slice_val (b₉, o₉) n₉) (full 𝓤 (slice_ty (ty_ref (named 7) mut (pointee u8.written))) l₈ (slice_val (b₈, o₈) n₈) (full 𝓤 (slice_ty (ty_ref (named 6) mut (pointee u8.written))) l₇ (slice_val (b₇, o₇) n₇) (full 𝓤 (slice_ty (ty_ref (named 5) mut (pointee u32.written))) l₆ (slice_val (b₆, o₆) n₆) (full 𝓤 (slice_ty (ty_ref (named 4) mut (pointee u8.written))) l₅ (slice_val (b₅, o₅) n₅) (full 𝓤 (slice_ty (ty_ref (named 3) imm (pointee u8.written))) l₄ (slice_val (b₄, o₄) n₄) (full 𝓤 (slice_ty (ty_ref (named 2) mut (pointee (Object-t.the_row).written))) l₃ (slice_val (b₃, o₃) n₃) (full 𝓤 (slice_ty (ty_ref (named 1) mut (pointee (Array u16 35).written))) l₂ (slice_val (b₂, o₂) n₂) (full 𝓤 (slice_ty (ty_ref (named 0) mut (pointee (Array u64 8).written))) l₁ (slice_val (b₁, o₁) n₁) (free 𝓤 Ran-l.mir l₀ ([])))))))))))))))))))))))))))))))))))))))) (runs C Λ En (past 12 mir.turn-1) (any_q (after_turn 𝓤 H (Below-3 t-3) Left-3)))
       unfolding after_turn
@@ -391,7 +391,7 @@ module _ {M : Type 1} {𝓤 : Ura M} (𝓛 : Logic 𝓤) (mem : Memory → SProp
           backs_mut ! tt u8 b₈ o₈ (put_replies f'.room (w) v.wrote (leg_at Mode-Datagram f' (held) (d) v (rows (ss) (xs) (os))).replies) n₈ (len-3·12-out) room₈ ν-3·27-out δ-3·27-out ws-3·27.1.1.1.1.1.1.1.0 (put_replies f'.room ((put_replies f'.room (w) v.wrote (leg_at Mode-Datagram f' (held) (d) v (rows (ss) (xs) (os))).replies)) (leg_at Mode-Datagram f' (held) (d) v (rows (ss) (xs) (os))).leg.ran.wrote (kept_by (leg_at Mode-Datagram f' (held) (d) v (rows (ss) (xs) (os))).leg.found f' (d) (leg_at Mode-Datagram f' (held) (d) v (rows (ss) (xs) (os))).leg.ran (lent ((leg_at Mode-Datagram f' (held) (d) v (rows (ss) (xs) (os))).rows.sessions) ((leg_at Mode-Datagram f' (held) (d) v (rows (ss) (xs) (os))).rows.streams) ((leg_at Mode-Datagram f' (held) (d) v (rows (ss) (xs) (os))).rows.objects) (held) (ps) (ls) (bs))).replies) wlen-3·27-7 said-3·27.6 (λ len-3·27-out.
           move ! (14 ∷ []) $ drop ! $ move ! (14 ∷ []) $ drop ! $ move ! (14 ∷ []) $ drop ! $ move ! (15 ∷ []) $ drop ! $
           land_last ! (from ! (stop !)) (store ! 68 refl (Ran-p.typed 𝓛 (kept_by (leg_at Mode-Datagram f' (held) (d) v (rows (ss) (xs) (os))).leg.found f' (d) (leg_at Mode-Datagram f' (held) (d) v (rows (ss) (xs) (os))).leg.ran (lent ((leg_at Mode-Datagram f' (held) (d) v (rows (ss) (xs) (os))).rows.sessions) ((leg_at Mode-Datagram f' (held) (d) v (rows (ss) (xs) (os))).rows.streams) ((leg_at Mode-Datagram f' (held) (d) v (rows (ss) (xs) (os))).rows.objects) (held) (ps) (ls) (bs))).ran is-3·27)) $ forget ! 18 refl $ forget ! 20 refl $ forget ! 22 refl $ forget ! 24 refl $ forget ! 26 refl $ forget ! 28 refl $ forget ! 30 refl $ forget ! 32 refl $ forget ! 34 refl $ forget ! 36 refl $ forget ! 38 refl $ forget ! 40 refl $ forget ! 42 refl $ forget ! 44 refl $ forget ! 46 refl $ forget ! 48 refl $ forget ! 50 refl $ forget ! 52 refl $ forget ! 54 refl $ forget ! 56 refl $ forget ! 58 refl $ forget ! 60 refl $ forget ! 62 refl $ forget ! 64 refl $ forget ! 66 refl $ move ! (12 ∷ 13 ∷ 10 ∷ 11 ∷ 8 ∷ 9 ∷ 17 ∷ 15 ∷ 6 ∷ 7 ∷ 4 ∷ 5 ∷ 2 ∷ 3 ∷ 0 ∷ 1 ∷ 16 ∷ 14 ∷ 18 ∷ 19 ∷ 20 ∷ 21 ∷ 22 ∷ 23 ∷ 24 ∷ 25 ∷ 26 ∷ 27 ∷ 28 ∷ 29 ∷ 30 ∷ 31 ∷ 32 ∷ 33 ∷ 34 ∷ 35 ∷ 36 ∷ 37 ∷ 38 ∷ 39 ∷ 40 ∷ 41 ∷ 42 ∷ 43 ∷ 44 ∷ 45 ∷ 46 ∷ 47 ∷ 48 ∷ 49 ∷ 50 ∷ 51 ∷ 52 ∷ 53 ∷ 54 ∷ 55 ∷ 56 ∷ 57 ∷ 58 ∷ 59 ∷ 60 ∷ 61 ∷ 62 ∷ 63 ∷ 64 ∷ 65 ∷ 66 ∷ 67 ∷ 68 ∷ 69 ∷ 70 ∷ 71 ∷ 72 ∷ 73 ∷ 74 ∷ 75 ∷ 76 ∷ 77 ∷ 78 ∷ 79 ∷ 80 ∷ 81 ∷ 82 ∷ 83 ∷ 84 ∷ 85 ∷ 86 ∷ 87 ∷ 88 ∷ 89 ∷ 90 ∷ 91 ∷ 92 ∷ 93 ∷ 94 ∷ 95 ∷ []) $
-          by ! (again-3 t-3 (kept_by (leg_at Mode-Datagram f' (held) (d) v (rows (ss) (xs) (os))).leg.found f' (d) (leg_at Mode-Datagram f' (held) (d) v (rows (ss) (xs) (os))).leg.ran (lent ((leg_at Mode-Datagram f' (held) (d) v (rows (ss) (xs) (os))).rows.sessions) ((leg_at Mode-Datagram f' (held) (d) v (rows (ss) (xs) (os))).rows.streams) ((leg_at Mode-Datagram f' (held) (d) v (rows (ss) (xs) (os))).rows.objects) (held) (ps) (ls) (bs))).ran (kept_by (leg_at Mode-Datagram f' (held) (d) v (rows (ss) (xs) (os))).leg.found f' (d) (leg_at Mode-Datagram f' (held) (d) v (rows (ss) (xs) (os))).leg.ran (lent ((leg_at Mode-Datagram f' (held) (d) v (rows (ss) (xs) (os))).rows.sessions) ((leg_at Mode-Datagram f' (held) (d) v (rows (ss) (xs) (os))).rows.streams) ((leg_at Mode-Datagram f' (held) (d) v (rows (ss) (xs) (os))).rows.objects) (held) (ps) (ls) (bs))).tables.sessions (kept_by (leg_at Mode-Datagram f' (held) (d) v (rows (ss) (xs) (os))).leg.found f' (d) (leg_at Mode-Datagram f' (held) (d) v (rows (ss) (xs) (os))).leg.ran (lent ((leg_at Mode-Datagram f' (held) (d) v (rows (ss) (xs) (os))).rows.sessions) ((leg_at Mode-Datagram f' (held) (d) v (rows (ss) (xs) (os))).rows.streams) ((leg_at Mode-Datagram f' (held) (d) v (rows (ss) (xs) (os))).rows.objects) (held) (ps) (ls) (bs))).tables.streams (kept_by (leg_at Mode-Datagram f' (held) (d) v (rows (ss) (xs) (os))).leg.found f' (d) (leg_at Mode-Datagram f' (held) (d) v (rows (ss) (xs) (os))).leg.ran (lent ((leg_at Mode-Datagram f' (held) (d) v (rows (ss) (xs) (os))).rows.sessions) ((leg_at Mode-Datagram f' (held) (d) v (rows (ss) (xs) (os))).rows.streams) ((leg_at Mode-Datagram f' (held) (d) v (rows (ss) (xs) (os))).rows.objects) (held) (ps) (ls) (bs))).tables.objects (kept_by (leg_at Mode-Datagram f' (held) (d) v (rows (ss) (xs) (os))).leg.found f' (d) (leg_at Mode-Datagram f' (held) (d) v (rows (ss) (xs) (os))).leg.ran (lent ((leg_at Mode-Datagram f' (held) (d) v (rows (ss) (xs) (os))).rows.sessions) ((leg_at Mode-Datagram f' (held) (d) v (rows (ss) (xs) (os))).rows.streams) ((leg_at Mode-Datagram f' (held) (d) v (rows (ss) (xs) (os))).rows.objects) (held) (ps) (ls) (bs))).tables.parts (kept_by (leg_at Mode-Datagram f' (held) (d) v (rows (ss) (xs) (os))).leg.found f' (d) (leg_at Mode-Datagram f' (held) (d) v (rows (ss) (xs) (os))).leg.ran (lent ((leg_at Mode-Datagram f' (held) (d) v (rows (ss) (xs) (os))).rows.sessions) ((leg_at Mode-Datagram f' (held) (d) v (rows (ss) (xs) (os))).rows.streams) ((leg_at Mode-Datagram f' (held) (d) v (rows (ss) (xs) (os))).rows.objects) (held) (ps) (ls) (bs))).tables.lengths (kept_by (leg_at Mode-Datagram f' (held) (d) v (rows (ss) (xs) (os))).leg.found f' (d) (leg_at Mode-Datagram f' (held) (d) v (rows (ss) (xs) (os))).leg.ran (lent ((leg_at Mode-Datagram f' (held) (d) v (rows (ss) (xs) (os))).rows.sessions) ((leg_at Mode-Datagram f' (held) (d) v (rows (ss) (xs) (os))).rows.streams) ((leg_at Mode-Datagram f' (held) (d) v (rows (ss) (xs) (os))).rows.objects) (held) (ps) (ls) (bs))).tables.rebuilt (put_replies f'.room ((put_replies f'.room (w) v.wrote (leg_at Mode-Datagram f' (held) (d) v (rows (ss) (xs) (os))).replies)) (leg_at Mode-Datagram f' (held) (d) v (rows (ss) (xs) (os))).leg.ran.wrote (kept_by (leg_at Mode-Datagram f' (held) (d) v (rows (ss) (xs) (os))).leg.found f' (d) (leg_at Mode-Datagram f' (held) (d) v (rows (ss) (xs) (os))).leg.ran (lent ((leg_at Mode-Datagram f' (held) (d) v (rows (ss) (xs) (os))).rows.sessions) ((leg_at Mode-Datagram f' (held) (d) v (rows (ss) (xs) (os))).rows.streams) ((leg_at Mode-Datagram f' (held) (d) v (rows (ss) (xs) (os))).rows.objects) (held) (ps) (ls) (bs))).replies) is-3·27 len-3·27-sessions len-3·27-streams len-3·27-objects len-3·27-parts len-3·27-lengths len-3·27-rebuilt len-3·27-out (run_again f' d start (lent sessions streams objects held parts lengths rebuilt) out v (lent ss xs os held ps ls bs) w inv-3 c-3·2) ((omega (arith, ltb-true, ltb-false, leb-true, leb-false, eqb-true, eqb-false, left_less (run_steps f' d) start (lent sessions streams objects held parts lengths rebuilt) out v (lent ss xs os held ps ls bs) w inv-3 c-3·2)))))))))))))))))))))))))))
+          by ! (again_3 t-3 (kept_by (leg_at Mode-Datagram f' (held) (d) v (rows (ss) (xs) (os))).leg.found f' (d) (leg_at Mode-Datagram f' (held) (d) v (rows (ss) (xs) (os))).leg.ran (lent ((leg_at Mode-Datagram f' (held) (d) v (rows (ss) (xs) (os))).rows.sessions) ((leg_at Mode-Datagram f' (held) (d) v (rows (ss) (xs) (os))).rows.streams) ((leg_at Mode-Datagram f' (held) (d) v (rows (ss) (xs) (os))).rows.objects) (held) (ps) (ls) (bs))).ran (kept_by (leg_at Mode-Datagram f' (held) (d) v (rows (ss) (xs) (os))).leg.found f' (d) (leg_at Mode-Datagram f' (held) (d) v (rows (ss) (xs) (os))).leg.ran (lent ((leg_at Mode-Datagram f' (held) (d) v (rows (ss) (xs) (os))).rows.sessions) ((leg_at Mode-Datagram f' (held) (d) v (rows (ss) (xs) (os))).rows.streams) ((leg_at Mode-Datagram f' (held) (d) v (rows (ss) (xs) (os))).rows.objects) (held) (ps) (ls) (bs))).tables.sessions (kept_by (leg_at Mode-Datagram f' (held) (d) v (rows (ss) (xs) (os))).leg.found f' (d) (leg_at Mode-Datagram f' (held) (d) v (rows (ss) (xs) (os))).leg.ran (lent ((leg_at Mode-Datagram f' (held) (d) v (rows (ss) (xs) (os))).rows.sessions) ((leg_at Mode-Datagram f' (held) (d) v (rows (ss) (xs) (os))).rows.streams) ((leg_at Mode-Datagram f' (held) (d) v (rows (ss) (xs) (os))).rows.objects) (held) (ps) (ls) (bs))).tables.streams (kept_by (leg_at Mode-Datagram f' (held) (d) v (rows (ss) (xs) (os))).leg.found f' (d) (leg_at Mode-Datagram f' (held) (d) v (rows (ss) (xs) (os))).leg.ran (lent ((leg_at Mode-Datagram f' (held) (d) v (rows (ss) (xs) (os))).rows.sessions) ((leg_at Mode-Datagram f' (held) (d) v (rows (ss) (xs) (os))).rows.streams) ((leg_at Mode-Datagram f' (held) (d) v (rows (ss) (xs) (os))).rows.objects) (held) (ps) (ls) (bs))).tables.objects (kept_by (leg_at Mode-Datagram f' (held) (d) v (rows (ss) (xs) (os))).leg.found f' (d) (leg_at Mode-Datagram f' (held) (d) v (rows (ss) (xs) (os))).leg.ran (lent ((leg_at Mode-Datagram f' (held) (d) v (rows (ss) (xs) (os))).rows.sessions) ((leg_at Mode-Datagram f' (held) (d) v (rows (ss) (xs) (os))).rows.streams) ((leg_at Mode-Datagram f' (held) (d) v (rows (ss) (xs) (os))).rows.objects) (held) (ps) (ls) (bs))).tables.parts (kept_by (leg_at Mode-Datagram f' (held) (d) v (rows (ss) (xs) (os))).leg.found f' (d) (leg_at Mode-Datagram f' (held) (d) v (rows (ss) (xs) (os))).leg.ran (lent ((leg_at Mode-Datagram f' (held) (d) v (rows (ss) (xs) (os))).rows.sessions) ((leg_at Mode-Datagram f' (held) (d) v (rows (ss) (xs) (os))).rows.streams) ((leg_at Mode-Datagram f' (held) (d) v (rows (ss) (xs) (os))).rows.objects) (held) (ps) (ls) (bs))).tables.lengths (kept_by (leg_at Mode-Datagram f' (held) (d) v (rows (ss) (xs) (os))).leg.found f' (d) (leg_at Mode-Datagram f' (held) (d) v (rows (ss) (xs) (os))).leg.ran (lent ((leg_at Mode-Datagram f' (held) (d) v (rows (ss) (xs) (os))).rows.sessions) ((leg_at Mode-Datagram f' (held) (d) v (rows (ss) (xs) (os))).rows.streams) ((leg_at Mode-Datagram f' (held) (d) v (rows (ss) (xs) (os))).rows.objects) (held) (ps) (ls) (bs))).tables.rebuilt (put_replies f'.room ((put_replies f'.room (w) v.wrote (leg_at Mode-Datagram f' (held) (d) v (rows (ss) (xs) (os))).replies)) (leg_at Mode-Datagram f' (held) (d) v (rows (ss) (xs) (os))).leg.ran.wrote (kept_by (leg_at Mode-Datagram f' (held) (d) v (rows (ss) (xs) (os))).leg.found f' (d) (leg_at Mode-Datagram f' (held) (d) v (rows (ss) (xs) (os))).leg.ran (lent ((leg_at Mode-Datagram f' (held) (d) v (rows (ss) (xs) (os))).rows.sessions) ((leg_at Mode-Datagram f' (held) (d) v (rows (ss) (xs) (os))).rows.streams) ((leg_at Mode-Datagram f' (held) (d) v (rows (ss) (xs) (os))).rows.objects) (held) (ps) (ls) (bs))).replies) is-3·27 len-3·27-sessions len-3·27-streams len-3·27-objects len-3·27-parts len-3·27-lengths len-3·27-rebuilt len-3·27-out (run_again f' d start (lent sessions streams objects held parts lengths rebuilt) out v (lent ss xs os held ps ls bs) w inv-3 c-3·2) ((omega (arith, ltb-true, ltb-false, leb-true, leb-false, eqb-true, eqb-false, left_less (run_steps f' d) start (lent sessions streams objects held parts lengths rebuilt) out v (lent ss xs os held ps ls bs) w inv-3 c-3·2)))))))))))))))))))))))))))
 
       part-3·2-8 : (v : Ran) → (ss : List (List ℕ)) → (xs : List (List ℕ)) → (os : List Object) → (ps : List ℕ) → (ls : List ℕ) → (bs : List ℕ) → (w : List ℕ) → (t-3 : ℕ) → (v-is : Is Ran-p.row v (Ran-p.val v ∷ [])) → (ss-len : length ss ≡ n₁) → (xs-len : length xs ≡ n₂) → (os-len : length os ≡ n₃) → (ps_len : length ps ≡ n₅) → (ls-len : length ls ≡ n₆) → (bs-len : length bs ≡ n₇) → (w-len : length w ≡ n₈) → (t-is-3 : t-3 ≡ length d - v.at) → (inv-3 : Left (run_steps f' d) start (lent sessions streams objects held parts lengths rebuilt) out v (lent ss xs os held ps ls bs) w) → (is-3·1 : Is bool_p.row (goes_on n₉ v) (bool_p.val (goes_on n₉ v) ∷ [])) → Sq 𝓛 (‵ ((MutSlice (named 0) κ₁ (Array u64 8)).own_val (at_list b₁ o₁ γ₁ ss) (slice_val (b₁, o₁) n₁ ∷ [])) ∷ ‵ (flft κ₁ q₁) ∷ ‵ ((MutSlice (named 0) κ₂ (Array u16 35)).own_val (at_list b₂ o₂ γ₂ xs) (slice_val (b₂, o₂) n₂ ∷ [])) ∷ ‵ (flft κ₂ q₂) ∷ ‵ ((MutSlice (named 0) κ₃ Object-t.the_row).own_val (at_list b₃ o₃ γ₃ os) (slice_val (b₃, o₃) n₃ ∷ [])) ∷ ‵ (flft κ₃ q₃) ∷ ‵ ((ShrSlice (named 0) κ₄ u8).own_val (at_list b₄ o₄ γ₄ held) (slice_val (b₄, o₄) n₄ ∷ [])) ∷ ‵ (flft κ₄ q₄) ∷ ‵ ((MutSlice (named 0) κ₅ u8).own_val (at_list b₅ o₅ γ₅ ps) (slice_val (b₅, o₅) n₅ ∷ [])) ∷ ‵ (flft κ₅ q₅) ∷ ‵ ((MutSlice (named 0) κ₆ u32).own_val (at_list b₆ o₆ γ₆ ls) (slice_val (b₆, o₆) n₆ ∷ [])) ∷ ‵ (flft κ₆ q₆) ∷ ‵ ((MutSlice (named 0) κ₇ u8).own_val (at_list b₇ o₇ γ₇ bs) (slice_val (b₇, o₇) n₇ ∷ [])) ∷ ‵ (flft κ₇ q₇) ∷ ‵ ((MutSlice (named 0) κ₈ u8).own_val (at_list b₈ o₈ γ₈ w) (slice_val (b₈, o₈) n₈ ∷ [])) ∷ ‵ (flft κ₈ q₈) ∷ ‵ ((ShrSlice (named 0) κ₉ u8).own_val (at_list b₉ o₉ γ₉ d) (slice_val (b₉, o₉) n₉ ∷ [])) ∷ ‵ (flft κ₉ q₉) ∷ free 𝓤 (slice_ty (ty_ref erased mut (pointee u8.written))) l₃₈ (free 𝓤 (ty_ref erased mut (pointee u8.written)) l₃₇ (free 𝓤 (slice_ty (ty_ref erased mut (pointee u8.written))) l₃₆ (free 𝓤 (ty_ref erased mut (pointee u8.written)) l₃₅ (free 𝓤 (slice_ty (ty_ref erased mut (pointee u32.written))) l₃₄ (free 𝓤 (ty_ref erased mut (pointee u32.written)) l₃₃ (free 𝓤 (slice_ty (ty_ref erased mut (pointee u8.written))) l₃₂ (free 𝓤 (ty_ref erased mut (pointee u8.written)) l₃₁ (free 𝓤 (slice_ty (ty_ref erased mut (pointee (Object-t.the_row).written))) l₃₀ (free 𝓤 (ty_ref erased mut (pointee (Object-t.the_row).written)) l₂₉ (free 𝓤 (slice_ty (ty_ref erased mut (pointee (Array u16 35).written))) l₂₈ (free 𝓤 (ty_ref erased mut (pointee (Array u16 35).written)) l₂₇ (free 𝓤 (slice_ty (ty_ref erased mut (pointee (Array u64 8).written))) l₂₆ (free 𝓤 (ty_ref erased mut (pointee (Array u64 8).written)) l₂₅ (free 𝓤 Mode-l.mir l₂₄ (free 𝓤 (slice_ty (ty_ref erased mut (pointee u8.written))) l₂₃ (free 𝓤 (ty_ref erased mut (pointee u8.written)) l₂₂ (free 𝓤 (slice_ty (ty_ref erased mut (pointee (Object-t.the_row).written))) l₂₁ (free 𝓤 (ty_ref erased mut (pointee (Object-t.the_row).written)) l₂₀ (free 𝓤 (slice_ty (ty_ref erased mut (pointee (Array u16 35).written))) l₁₉ (free 𝓤 (ty_ref erased mut (pointee (Array u16 35).written)) l₁₈ (free 𝓤 (slice_ty (ty_ref erased mut (pointee (Array u64 8).written))) l₁₇ (free 𝓤 (ty_ref erased mut (pointee (Array u64 8).written)) l₁₆ (full 𝓤 ty_bool l₁₅ (bool_p.val (goes_on n₉ v)) (free 𝓤 Leg-l.mir l₁₄ (full 𝓤 Ran-l.mir l₁₃ (Ran-p.val v) (full 𝓤 (ty_int w64) l₁₂ (u64_p.val n₉) (full 𝓤 Ran-l.mir l₁₁ (Ran-p.val start) (full 𝓤 Frame-l.mir l₁₀ (Frame-p.val f') (full 𝓤 (slice_ty (ty_ref (named 8) imm (pointee u8.written))) l₉ (slice_val (b₉, o₉) n₉) (full 𝓤 (slice_ty (ty_ref (named 7) mut (pointee u8.written))) l₈ (slice_val (b₈, o₈) n₈) (full 𝓤 (slice_ty (ty_ref (named 6) mut (pointee u8.written))) l₇ (slice_val (b₇, o₇) n₇) (full 𝓤 (slice_ty (ty_ref (named 5) mut (pointee u32.written))) l₆ (slice_val (b₆, o₆) n₆) (full 𝓤 (slice_ty (ty_ref (named 4) mut (pointee u8.written))) l₅ (slice_val (b₅, o₅) n₅) (full 𝓤 (slice_ty (ty_ref (named 3) imm (pointee u8.written))) l₄ (slice_val (b₄, o₄) n₄) (full 𝓤 (slice_ty (ty_ref (named 2) mut (pointee (Object-t.the_row).written))) l₃ (slice_val (b₃, o₃) n₃) (full 𝓤 (slice_ty (ty_ref (named 1) mut (pointee (Array u16 35).written))) l₂ (slice_val (b₂, o₂) n₂) (full 𝓤 (slice_ty (ty_ref (named 0) mut (pointee (Array u64 8).written))) l₁ (slice_val (b₁, o₁) n₁) (free 𝓤 Ran-l.mir l₀ ([])))))))))))))))))))))))))))))))))))))))) (runs C Λ En (past 1 mir.turn-1) (any_q (after_turn 𝓤 H (Below-3 t-3) Left-3)))
       unfolding after_turn
@@ -455,9 +455,9 @@ module _ {M : Type 1} {𝓤 : Ura M} (𝓛 : Logic 𝓤) (mem : Memory → SProp
           returns ! (look ! 94 refl) $ forget ! 64 refl $ forget ! 68 refl $ forget ! 70 refl $ forget ! 72 refl $ forget ! 74 refl $ forget ! 76 refl $ forget ! 78 refl $ forget ! 80 refl $ forget ! 82 refl $ forget ! 84 refl $ forget ! 86 refl $ forget ! 88 refl $ forget ! 90 refl $ forget ! 92 refl $ forget ! 94 refl $ move ! (94 ∷ 95 ∷ []) $ free1 ! $ move ! (92 ∷ 93 ∷ []) $ free1 ! $ move ! (90 ∷ 91 ∷ []) $ free1 ! $ move ! (88 ∷ 89 ∷ []) $ free1 ! $ move ! (86 ∷ 87 ∷ []) $ free1 ! $ move ! (84 ∷ 85 ∷ []) $ free1 ! $ move ! (82 ∷ 83 ∷ []) $ free1 ! $ move ! (80 ∷ 81 ∷ []) $ free1 ! $ move ! (78 ∷ 79 ∷ []) $ free1 ! $ move ! (76 ∷ 77 ∷ []) $ free1 ! $ move ! (74 ∷ 75 ∷ []) $ free1 ! $ move ! (72 ∷ 73 ∷ []) $ free1 ! $ move ! (70 ∷ 71 ∷ []) $ free1 ! $ move ! (68 ∷ 69 ∷ []) $ free1 ! $ move ! (66 ∷ 67 ∷ []) $ free1 ! $ move ! (64 ∷ 65 ∷ []) $ free1 ! $ move ! (62 ∷ 63 ∷ []) $ free1 ! $ move ! (60 ∷ 61 ∷ []) $ free1 ! $ move ! (58 ∷ 59 ∷ []) $ free1 ! $ move ! (56 ∷ 57 ∷ []) $ free1 ! $ move ! (54 ∷ 55 ∷ []) $ free1 ! $ move ! (52 ∷ 53 ∷ []) $ free1 ! $ move ! (50 ∷ 51 ∷ []) $ free1 ! $ move ! (48 ∷ 49 ∷ []) $ free1 ! $ move ! (46 ∷ 47 ∷ []) $ free1 ! $ move ! (44 ∷ 45 ∷ []) $ free1 ! $ move ! (42 ∷ 43 ∷ []) $ free1 ! $ move ! (40 ∷ 41 ∷ []) $ free1 ! $ move ! (38 ∷ 39 ∷ []) $ free1 ! $ move ! (36 ∷ 37 ∷ []) $ free1 ! $ move ! (34 ∷ 35 ∷ []) $ free1 ! $ move ! (32 ∷ 33 ∷ []) $ free1 ! $ move ! (30 ∷ 31 ∷ []) $ free1 ! $ move ! (28 ∷ 29 ∷ []) $ free1 ! $ move ! (26 ∷ 27 ∷ []) $ free1 ! $ move ! (24 ∷ 25 ∷ []) $ free1 ! $ move ! (22 ∷ 23 ∷ []) $ free1 ! $ move ! (20 ∷ 21 ∷ []) $ free1 ! $ move ! (18 ∷ 19 ∷ []) $ free1 ! $ free0 ! $
           by ! (exits v ss xs os ps ls bs w (run_done f' d start (lent sessions streams objects held parts lengths rebuilt) out v (lent ss xs os held ps ls bs) w inv-3 c-3·2) v-is ss-len xs-len os-len ps_len ls-len bs-len w-len)))
 
-      turn-3 : (v : Ran) → (ss : List (List ℕ)) → (xs : List (List ℕ)) → (os : List Object) → (ps : List ℕ) → (ls : List ℕ) → (bs : List ℕ) → (w : List ℕ) → (t-3 : ℕ) → (v-is : Is Ran-p.row v (Ran-p.val v ∷ [])) → (ss-len : length ss ≡ n₁) → (xs-len : length xs ≡ n₂) → (os-len : length os ≡ n₃) → (ps_len : length ps ≡ n₅) → (ls-len : length ls ≡ n₆) → (bs-len : length bs ≡ n₇) → (w-len : length w ≡ n₈) → (t-is-3 : t-3 ≡ length d - v.at) → (inv-3 : Left (run_steps f' d) start (lent sessions streams objects held parts lengths rebuilt) out v (lent ss xs os held ps ls bs) w) → ent 𝓤 (⋆ 𝓛 (At-3 v ss xs os ps ls bs w)) (Wp 𝓤 H C Λ En mir.turn-1 (after_turn 𝓤 H (Below-3 t-3) Left-3))
+      turn_3 : (v : Ran) → (ss : List (List ℕ)) → (xs : List (List ℕ)) → (os : List Object) → (ps : List ℕ) → (ls : List ℕ) → (bs : List ℕ) → (w : List ℕ) → (t-3 : ℕ) → (v-is : Is Ran-p.row v (Ran-p.val v ∷ [])) → (ss-len : length ss ≡ n₁) → (xs-len : length xs ≡ n₂) → (os-len : length os ≡ n₃) → (ps_len : length ps ≡ n₅) → (ls-len : length ls ≡ n₆) → (bs-len : length bs ≡ n₇) → (w-len : length w ≡ n₈) → (t-is-3 : t-3 ≡ length d - v.at) → (inv-3 : Left (run_steps f' d) start (lent sessions streams objects held parts lengths rebuilt) out v (lent ss xs os held ps ls bs) w) → ent 𝓤 (⋆ 𝓛 (At-3 v ss xs os ps ls bs w)) (Wp 𝓤 H C Λ En mir.turn-1 (after_turn 𝓤 H (Below-3 t-3) Left-3))
       unfolding after_turn
-      turn-3 v ss xs os ps ls bs w t-3 v-is ss-len xs-len os-len ps_len ls-len bs-len w-len t-is-3 inv-3 =
+      turn_3 v ss xs os ps ls bs w t-3 v-is ss-len xs-len os-len ps_len ls-len bs-len w-len t-is-3 inv-3 =
           qed 𝓛 (At-3 v ss xs os ps ls bs w) ∵ exec ! C Λ En mir.turn-1 (any_q (after_turn 𝓤 H (Below-3 t-3) Left-3)) $
           -- 3.1: agent::leg::goes_on
           nothing ! $
@@ -469,11 +469,11 @@ module _ {M : Type 1} {𝓤 : Ura M} (𝓛 : Logic 𝓤) (mem : Memory → SProp
           land ! (from ! (stop !)) (init ! 64 refl (bool_p.typed 𝓛 (goes_on n₉ v) is-3·1)) $
           part-3·2-8 v ss xs os ps ls bs w t-3 v-is ss-len xs-len os-len ps_len ls-len bs-len w-len t-is-3 inv-3 is-3·1)
 
-      turns-3 : (t : ℕ) → ent 𝓤 (Inv-3 t) (Wp 𝓤 H C Λ En mir.turn-1 (after_turn 𝓤 H (Below-3 t) Left-3))
-      turns-3 t = ex_e 𝓤 (λ (v : Ran). ex 𝓤 (λ (ss : List (List ℕ)). ex 𝓤 (λ (xs : List (List ℕ)). ex 𝓤 (λ (os : List Object). ex 𝓤 (λ (ps : List ℕ). ex 𝓤 (λ (ls : List ℕ). ex 𝓤 (λ (bs : List ℕ). ex 𝓤 (λ (w : List ℕ). guard 𝓤 (Facts-3 t v ss xs os ps ls bs w) (⋆ 𝓛 (At-3 v ss xs os ps ls bs w)))))))))) (λ v. ex_e 𝓤 (λ (ss : List (List ℕ)). ex 𝓤 (λ (xs : List (List ℕ)). ex 𝓤 (λ (os : List Object). ex 𝓤 (λ (ps : List ℕ). ex 𝓤 (λ (ls : List ℕ). ex 𝓤 (λ (bs : List ℕ). ex 𝓤 (λ (w : List ℕ). guard 𝓤 (Facts-3 t v ss xs os ps ls bs w) (⋆ 𝓛 (At-3 v ss xs os ps ls bs w))))))))) (λ ss. ex_e 𝓤 (λ (xs : List (List ℕ)). ex 𝓤 (λ (os : List Object). ex 𝓤 (λ (ps : List ℕ). ex 𝓤 (λ (ls : List ℕ). ex 𝓤 (λ (bs : List ℕ). ex 𝓤 (λ (w : List ℕ). guard 𝓤 (Facts-3 t v ss xs os ps ls bs w) (⋆ 𝓛 (At-3 v ss xs os ps ls bs w)))))))) (λ xs. ex_e 𝓤 (λ (os : List Object). ex 𝓤 (λ (ps : List ℕ). ex 𝓤 (λ (ls : List ℕ). ex 𝓤 (λ (bs : List ℕ). ex 𝓤 (λ (w : List ℕ). guard 𝓤 (Facts-3 t v ss xs os ps ls bs w) (⋆ 𝓛 (At-3 v ss xs os ps ls bs w))))))) (λ os. ex_e 𝓤 (λ (ps : List ℕ). ex 𝓤 (λ (ls : List ℕ). ex 𝓤 (λ (bs : List ℕ). ex 𝓤 (λ (w : List ℕ). guard 𝓤 (Facts-3 t v ss xs os ps ls bs w) (⋆ 𝓛 (At-3 v ss xs os ps ls bs w)))))) (λ ps. ex_e 𝓤 (λ (ls : List ℕ). ex 𝓤 (λ (bs : List ℕ). ex 𝓤 (λ (w : List ℕ). guard 𝓤 (Facts-3 t v ss xs os ps ls bs w) (⋆ 𝓛 (At-3 v ss xs os ps ls bs w))))) (λ ls. ex_e 𝓤 (λ (bs : List ℕ). ex 𝓤 (λ (w : List ℕ). guard 𝓤 (Facts-3 t v ss xs os ps ls bs w) (⋆ 𝓛 (At-3 v ss xs os ps ls bs w)))) (λ bs. ex_e 𝓤 (λ (w : List ℕ). guard 𝓤 (Facts-3 t v ss xs os ps ls bs w) (⋆ 𝓛 (At-3 v ss xs os ps ls bs w))) (λ w. guard_e 𝓤 (Facts-3 t v ss xs os ps ls bs w) (⋆ 𝓛 (At-3 v ss xs os ps ls bs w)) (λ fs. turn-3 v ss xs os ps ls bs w t fs.1 fs.2 fs.3 fs.4 fs.5 fs.6 fs.7 fs.8 fs.0 fs.9)))))))))
+      turns_3 : (t : ℕ) → ent 𝓤 (Inv-3 t) (Wp 𝓤 H C Λ En mir.turn-1 (after_turn 𝓤 H (Below-3 t) Left-3))
+      turns_3 t = ex_e 𝓤 (λ (v : Ran). ex 𝓤 (λ (ss : List (List ℕ)). ex 𝓤 (λ (xs : List (List ℕ)). ex 𝓤 (λ (os : List Object). ex 𝓤 (λ (ps : List ℕ). ex 𝓤 (λ (ls : List ℕ). ex 𝓤 (λ (bs : List ℕ). ex 𝓤 (λ (w : List ℕ). guard 𝓤 (Facts-3 t v ss xs os ps ls bs w) (⋆ 𝓛 (At-3 v ss xs os ps ls bs w)))))))))) (λ v. ex_e 𝓤 (λ (ss : List (List ℕ)). ex 𝓤 (λ (xs : List (List ℕ)). ex 𝓤 (λ (os : List Object). ex 𝓤 (λ (ps : List ℕ). ex 𝓤 (λ (ls : List ℕ). ex 𝓤 (λ (bs : List ℕ). ex 𝓤 (λ (w : List ℕ). guard 𝓤 (Facts-3 t v ss xs os ps ls bs w) (⋆ 𝓛 (At-3 v ss xs os ps ls bs w))))))))) (λ ss. ex_e 𝓤 (λ (xs : List (List ℕ)). ex 𝓤 (λ (os : List Object). ex 𝓤 (λ (ps : List ℕ). ex 𝓤 (λ (ls : List ℕ). ex 𝓤 (λ (bs : List ℕ). ex 𝓤 (λ (w : List ℕ). guard 𝓤 (Facts-3 t v ss xs os ps ls bs w) (⋆ 𝓛 (At-3 v ss xs os ps ls bs w)))))))) (λ xs. ex_e 𝓤 (λ (os : List Object). ex 𝓤 (λ (ps : List ℕ). ex 𝓤 (λ (ls : List ℕ). ex 𝓤 (λ (bs : List ℕ). ex 𝓤 (λ (w : List ℕ). guard 𝓤 (Facts-3 t v ss xs os ps ls bs w) (⋆ 𝓛 (At-3 v ss xs os ps ls bs w))))))) (λ os. ex_e 𝓤 (λ (ps : List ℕ). ex 𝓤 (λ (ls : List ℕ). ex 𝓤 (λ (bs : List ℕ). ex 𝓤 (λ (w : List ℕ). guard 𝓤 (Facts-3 t v ss xs os ps ls bs w) (⋆ 𝓛 (At-3 v ss xs os ps ls bs w)))))) (λ ps. ex_e 𝓤 (λ (ls : List ℕ). ex 𝓤 (λ (bs : List ℕ). ex 𝓤 (λ (w : List ℕ). guard 𝓤 (Facts-3 t v ss xs os ps ls bs w) (⋆ 𝓛 (At-3 v ss xs os ps ls bs w))))) (λ ls. ex_e 𝓤 (λ (bs : List ℕ). ex 𝓤 (λ (w : List ℕ). guard 𝓤 (Facts-3 t v ss xs os ps ls bs w) (⋆ 𝓛 (At-3 v ss xs os ps ls bs w)))) (λ bs. ex_e 𝓤 (λ (w : List ℕ). guard 𝓤 (Facts-3 t v ss xs os ps ls bs w) (⋆ 𝓛 (At-3 v ss xs os ps ls bs w))) (λ w. guard_e 𝓤 (Facts-3 t v ss xs os ps ls bs w) (⋆ 𝓛 (At-3 v ss xs os ps ls bs w)) (λ fs. turn_3 v ss xs os ps ls bs w t fs.1 fs.2 fs.3 fs.4 fs.5 fs.6 fs.7 fs.8 fs.0 fs.9)))))))))
 
-      loops-3 : (v : Ran) (v-is : Is Ran-p.row v (Ran-p.val v ∷ [])) → (ss : List (List ℕ)) (ss-len : length ss ≡ n₁) → (xs : List (List ℕ)) (xs-len : length xs ≡ n₂) → (os : List Object) (os-len : length os ≡ n₃) → (ps : List ℕ) (ps_len : length ps ≡ n₅) → (ls : List ℕ) (ls-len : length ls ≡ n₆) → (bs : List ℕ) (bs-len : length bs ≡ n₇) → (w : List ℕ) (w-len : length w ≡ n₈) → (Left (run_steps f' d) start (lent sessions streams objects held parts lengths rebuilt) out v (lent ss xs os held ps ls bs) w) → ent 𝓤 (⋆ 𝓛 (At-3 v ss xs os ps ls bs w)) (Wp 𝓤 H C Λ En (loop mir.turn-1) Left-3)
-      loops-3 v v-is ss ss-len xs xs-len os os-len ps ps_len ls ls-len bs bs-len w w-len inv = via 𝓤 (Inv-3 (length d - v.at)) (inv-at-3 (length d - v.at) v ss xs os ps ls bs w (refl, v-is, ss-len, xs-len, os-len, ps_len, ls-len, bs-len, w-len, inv)) (loop_rule 𝓤 H 𝓛.laws 𝓣 ◌<◌ lt-wf_rel.wf En mir.turn-1 Left-3 Inv-3 turns-3 (length d - v.at))
+      loops_3 : (v : Ran) (v-is : Is Ran-p.row v (Ran-p.val v ∷ [])) → (ss : List (List ℕ)) (ss-len : length ss ≡ n₁) → (xs : List (List ℕ)) (xs-len : length xs ≡ n₂) → (os : List Object) (os-len : length os ≡ n₃) → (ps : List ℕ) (ps_len : length ps ≡ n₅) → (ls : List ℕ) (ls-len : length ls ≡ n₆) → (bs : List ℕ) (bs-len : length bs ≡ n₇) → (w : List ℕ) (w-len : length w ≡ n₈) → (Left (run_steps f' d) start (lent sessions streams objects held parts lengths rebuilt) out v (lent ss xs os held ps ls bs) w) → ent 𝓤 (⋆ 𝓛 (At-3 v ss xs os ps ls bs w)) (Wp 𝓤 H C Λ En (loop mir.turn-1) Left-3)
+      loops_3 v v-is ss ss-len xs xs-len os os-len ps ps_len ls ls-len bs bs-len w w-len inv = via 𝓤 (Inv-3 (length d - v.at)) (inv_at_3 (length d - v.at) v ss xs os ps ls bs w (refl, v-is, ss-len, xs-len, os-len, ps_len, ls-len, bs-len, w-len, inv)) (loop_rule 𝓤 H 𝓛.laws 𝓣 ◌<◌ lt-wf_rel.wf En mir.turn-1 Left-3 Inv-3 turns_3 (length d - v.at))
 
     begins : Sq 𝓛 (‵ ((MutSlice (named 0) κ₁ (Array u64 8)).own_val (at_list b₁ o₁ γ₁ sessions) (slice_val (b₁, o₁) n₁ ∷ [])) ∷ ‵ (flft κ₁ q₁) ∷ ‵ ((MutSlice (named 0) κ₂ (Array u16 35)).own_val (at_list b₂ o₂ γ₂ streams) (slice_val (b₂, o₂) n₂ ∷ [])) ∷ ‵ (flft κ₂ q₂) ∷ ‵ ((MutSlice (named 0) κ₃ Object-t.the_row).own_val (at_list b₃ o₃ γ₃ objects) (slice_val (b₃, o₃) n₃ ∷ [])) ∷ ‵ (flft κ₃ q₃) ∷ ‵ ((ShrSlice (named 0) κ₄ u8).own_val (at_list b₄ o₄ γ₄ held) (slice_val (b₄, o₄) n₄ ∷ [])) ∷ ‵ (flft κ₄ q₄) ∷ ‵ ((MutSlice (named 0) κ₅ u8).own_val (at_list b₅ o₅ γ₅ parts) (slice_val (b₅, o₅) n₅ ∷ [])) ∷ ‵ (flft κ₅ q₅) ∷ ‵ ((MutSlice (named 0) κ₆ u32).own_val (at_list b₆ o₆ γ₆ lengths) (slice_val (b₆, o₆) n₆ ∷ [])) ∷ ‵ (flft κ₆ q₆) ∷ ‵ ((MutSlice (named 0) κ₇ u8).own_val (at_list b₇ o₇ γ₇ rebuilt) (slice_val (b₇, o₇) n₇ ∷ [])) ∷ ‵ (flft κ₇ q₇) ∷ ‵ ((MutSlice (named 0) κ₈ u8).own_val (at_list b₈ o₈ γ₈ out) (slice_val (b₈, o₈) n₈ ∷ [])) ∷ ‵ (flft κ₈ q₈) ∷ ‵ ((ShrSlice (named 0) κ₉ u8).own_val (at_list b₉ o₉ γ₉ d) (slice_val (b₉, o₉) n₉ ∷ [])) ∷ ‵ (flft κ₉ q₉) ∷ free 𝓤 (slice_ty (ty_ref erased mut (pointee u8.written))) l₃₈ (free 𝓤 (ty_ref erased mut (pointee u8.written)) l₃₇ (free 𝓤 (slice_ty (ty_ref erased mut (pointee u8.written))) l₃₆ (free 𝓤 (ty_ref erased mut (pointee u8.written)) l₃₅ (free 𝓤 (slice_ty (ty_ref erased mut (pointee u32.written))) l₃₄ (free 𝓤 (ty_ref erased mut (pointee u32.written)) l₃₃ (free 𝓤 (slice_ty (ty_ref erased mut (pointee u8.written))) l₃₂ (free 𝓤 (ty_ref erased mut (pointee u8.written)) l₃₁ (free 𝓤 (slice_ty (ty_ref erased mut (pointee (Object-t.the_row).written))) l₃₀ (free 𝓤 (ty_ref erased mut (pointee (Object-t.the_row).written)) l₂₉ (free 𝓤 (slice_ty (ty_ref erased mut (pointee (Array u16 35).written))) l₂₈ (free 𝓤 (ty_ref erased mut (pointee (Array u16 35).written)) l₂₇ (free 𝓤 (slice_ty (ty_ref erased mut (pointee (Array u64 8).written))) l₂₆ (free 𝓤 (ty_ref erased mut (pointee (Array u64 8).written)) l₂₅ (free 𝓤 Mode-l.mir l₂₄ (free 𝓤 (slice_ty (ty_ref erased mut (pointee u8.written))) l₂₃ (free 𝓤 (ty_ref erased mut (pointee u8.written)) l₂₂ (free 𝓤 (slice_ty (ty_ref erased mut (pointee (Object-t.the_row).written))) l₂₁ (free 𝓤 (ty_ref erased mut (pointee (Object-t.the_row).written)) l₂₀ (free 𝓤 (slice_ty (ty_ref erased mut (pointee (Array u16 35).written))) l₁₉ (free 𝓤 (ty_ref erased mut (pointee (Array u16 35).written)) l₁₈ (free 𝓤 (slice_ty (ty_ref erased mut (pointee (Array u64 8).written))) l₁₇ (free 𝓤 (ty_ref erased mut (pointee (Array u64 8).written)) l₁₆ (free 𝓤 ty_bool l₁₅ (free 𝓤 Leg-l.mir l₁₄ (free 𝓤 Ran-l.mir l₁₃ (free 𝓤 (ty_int w64) l₁₂ (full 𝓤 Ran-l.mir l₁₁ (Ran-p.val start) (full 𝓤 Frame-l.mir l₁₀ (Frame-p.val f') (full 𝓤 (slice_ty (ty_ref (named 8) imm (pointee u8.written))) l₉ (slice_val (b₉, o₉) n₉) (full 𝓤 (slice_ty (ty_ref (named 7) mut (pointee u8.written))) l₈ (slice_val (b₈, o₈) n₈) (full 𝓤 (slice_ty (ty_ref (named 6) mut (pointee u8.written))) l₇ (slice_val (b₇, o₇) n₇) (full 𝓤 (slice_ty (ty_ref (named 5) mut (pointee u32.written))) l₆ (slice_val (b₆, o₆) n₆) (full 𝓤 (slice_ty (ty_ref (named 4) mut (pointee u8.written))) l₅ (slice_val (b₅, o₅) n₅) (full 𝓤 (slice_ty (ty_ref (named 3) imm (pointee u8.written))) l₄ (slice_val (b₄, o₄) n₄) (full 𝓤 (slice_ty (ty_ref (named 2) mut (pointee (Object-t.the_row).written))) l₃ (slice_val (b₃, o₃) n₃) (full 𝓤 (slice_ty (ty_ref (named 1) mut (pointee (Array u16 35).written))) l₂ (slice_val (b₂, o₂) n₂) (full 𝓤 (slice_ty (ty_ref (named 0) mut (pointee (Array u64 8).written))) l₁ (slice_val (b₁, o₁) n₁) (free 𝓤 Ran-l.mir l₀ ([])))))))))))))))))))))))))))))))))))))))) (runs C Λ En mir.t-1 (at_ret En Post))
     begins =
@@ -481,7 +481,7 @@ module _ {M : Type 1} {𝓤 : Ura M} (𝓛 : Logic 𝓤) (mem : Memory → SProp
         assigns ! (of_opd ! (load ! (from ! (stop !)) (look ! 72 refl))) (from ! (stop !)) (init ! 68 refl (Ran-p.typed 𝓛 start start_is)) $
         first ! $
         blocks ! $
-        by ! (loops-3 start start_is sessions refl streams refl objects refl parts refl lengths refl rebuilt refl out refl (left_start (run_steps f' d) start (lent sessions streams objects held parts lengths rebuilt) out))
+        by ! (loops_3 start start_is sessions refl streams refl objects refl parts refl lengths refl rebuilt refl out refl (left_start (run_steps f' d) start (lent sessions streams objects held parts lengths rebuilt) out))
 
   module _ (𝓣 : Tables 𝓤 H) (known-leg-goes-on : Triple 𝓤 (𝓣.C #leg-goes-on) (Of-leg-goes-on 𝓛 mem run)) (known-leg-lead : Triple 𝓤 (𝓣.C #leg-lead) (Of-leg-lead 𝓛 mem run)) (known-run-keep : Triple 𝓤 (𝓣.C #run-keep) (Of-run-keep 𝓛 mem run)) where
     walk : ent 𝓤 (on_entry 𝓛 f.signature (κ₁, (κ₂, (κ₃, (κ₄, (κ₅, (κ₆, (κ₇, (κ₈, (κ₉, tt))))))))) (q₁, (q₂, (q₃, (q₄, (q₅, (q₆, (q₇, (q₈, (q₉, tt))))))))) x at) (WpFn 𝓤 H 𝓣.C 𝓣.Λ code.function (slice_val (b₁, o₁) n₁ ∷ slice_val (b₂, o₂) n₂ ∷ slice_val (b₃, o₃) n₃ ∷ slice_val (b₄, o₄) n₄ ∷ slice_val (b₅, o₅) n₅ ∷ slice_val (b₆, o₆) n₆ ∷ slice_val (b₇, o₇) n₇ ∷ slice_val (b₈, o₈) n₈ ∷ slice_val (b₉, o₉) n₉ ∷ Frame-p.val f' ∷ Ran-p.val start ∷ []) Post)

@@ -5,7 +5,7 @@ use mathlib.Core.Bool.{true}
 use native.Mathlib.Omega.{arith}
 use lib.ListN.{get_or}
 use Rattle.codec.specs.Text.{tail, in_range}
-use Rattle.codec.proofs.text.Fits.{fits_none, fits_below, fits_above, fits_one, fits-two, fits-three}
+use Rattle.codec.proofs.text.Fits.{fits_none, fits_below, fits_above, fits_one, fits_two, fits_three}
 use Rattle.codec.proofs.text.fit_behind.Goals.{Else-not-is_tail}
 use Rattle.codec.proofs.text.fit_behind.Goals as goal
 
@@ -32,7 +32,7 @@ returns-then-w-eq1 c =
 pub returns-then-not-is_tail : goal.returns-then-not-is_tail
 returns-then-not-is_tail c =
     let f = c in
-    sym (fits-two f.args.text.now f.args.at f.args.w f.requires.0 f.requires.1 (omega arith) (omega arith) (omega arith) (omega arith) ∙ rw (sym c.is_tail.ensures ∙ c.if-not-is_tail.true))
+    sym (fits_two f.args.text.now f.args.at f.args.w f.requires.0 f.requires.1 (omega arith) (omega arith) (omega arith) (omega arith) ∙ rw (sym c.is_tail.ensures ∙ c.if-not-is_tail.true))
 
 second : (c : Else-not-is_tail) → in_range tail (get_or c.args.text.now (c.args.at + 2) 0) ≡ true
 second c = sym c.is_tail.ensures ∙ c.if-not-is_tail.false
@@ -40,9 +40,9 @@ second c = sym c.is_tail.ensures ∙ c.if-not-is_tail.false
 pub returns-then-w-eq2 : goal.returns-then-w-eq2
 returns-then-w-eq2 c =
     let f = c in
-    sym (fits-two f.args.text.now f.args.at f.args.w f.requires.0 f.requires.1 (omega arith) (omega arith) (omega arith) (omega arith) ∙ rw (second (goal.at.returns-then-w-eq2 c).Else-not-is_tail, c.if-w-eq2.true))
+    sym (fits_two f.args.text.now f.args.at f.args.w f.requires.0 f.requires.1 (omega arith) (omega arith) (omega arith) (omega arith) ∙ rw (second (goal.at.returns-then-w-eq2 c).Else-not-is_tail, c.if-w-eq2.true))
 
 pub returns : goal.returns
 returns c =
     let f = c in
-    c.is_tail-2.ensures ∙ sym (fits-three f.args.text.now f.args.at f.args.w f.requires.0 f.requires.1 (omega arith) (omega arith) (omega arith) (omega arith) (second (goal.at.returns c).Else-not-is_tail))
+    c.is_tail-2.ensures ∙ sym (fits_three f.args.text.now f.args.at f.args.w f.requires.0 f.requires.1 (omega arith) (omega arith) (omega arith) (omega arith) (second (goal.at.returns c).Else-not-is_tail))

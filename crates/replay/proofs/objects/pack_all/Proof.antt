@@ -143,15 +143,15 @@ module _ {M : Type 1} {𝓤 : Ura M} (𝓛 : Logic 𝓤) (mem : Memory → SProp
       abbrev Left-3 : Out → SProp 𝓤
       Left-3 = after_block 𝓤 H (after_seq 𝓤 H (Wp 𝓤 H C Λ En mir.t-4 (at_return 𝓤 H En Post)) (at_return 𝓤 H En Post))
 
-      inv-at-3 : (t : ℕ) → (i : ℕ) → (ws : List (List ℕ)) → Facts-3 t i ws → ent 𝓤 (⋆ 𝓛 (At-3 i ws)) (Inv-3 t)
-      inv-at-3 t i ws fs = via 𝓤 (ex 𝓤 (λ (ws : List (List ℕ)). guard 𝓤 (Facts-3 t i ws) (⋆ 𝓛 (At-3 i ws)))) (via 𝓤 (guard 𝓤 (Facts-3 t i ws) (⋆ 𝓛 (At-3 i ws))) (guard_i 𝓤 (Facts-3 t i ws) (⋆ 𝓛 (At-3 i ws)) fs) (ex_i 𝓤 (λ (ws : List (List ℕ)). guard 𝓤 (Facts-3 t i ws) (⋆ 𝓛 (At-3 i ws))) ws)) (ex_i 𝓤 (λ (i : ℕ). ex 𝓤 (λ (ws : List (List ℕ)). guard 𝓤 (Facts-3 t i ws) (⋆ 𝓛 (At-3 i ws)))) i)
+      inv_at_3 : (t : ℕ) → (i : ℕ) → (ws : List (List ℕ)) → Facts-3 t i ws → ent 𝓤 (⋆ 𝓛 (At-3 i ws)) (Inv-3 t)
+      inv_at_3 t i ws fs = via 𝓤 (ex 𝓤 (λ (ws : List (List ℕ)). guard 𝓤 (Facts-3 t i ws) (⋆ 𝓛 (At-3 i ws)))) (via 𝓤 (guard 𝓤 (Facts-3 t i ws) (⋆ 𝓛 (At-3 i ws))) (guard_i 𝓤 (Facts-3 t i ws) (⋆ 𝓛 (At-3 i ws)) fs) (ex_i 𝓤 (λ (ws : List (List ℕ)). guard 𝓤 (Facts-3 t i ws) (⋆ 𝓛 (At-3 i ws))) ws)) (ex_i 𝓤 (λ (i : ℕ). ex 𝓤 (λ (ws : List (List ℕ)). guard 𝓤 (Facts-3 t i ws) (⋆ 𝓛 (At-3 i ws)))) i)
 
-      again-3 : (t : ℕ) → (i : ℕ) → (ws : List (List ℕ)) → (i-is : Is u64_p.row i (u64_p.val i ∷ [])) → (ws-len : length ws ≡ n₂) → (i ≤ n₁) → ((n₁ - i) < t) → ent 𝓤 (⋆ 𝓛 (At-3 i ws)) (Below-3 t)
-      again-3 t i ws i-is ws-len inv less = via 𝓤 (Inv-3 (n₁ - i)) (inv-at-3 (n₁ - i) i ws (refl, i-is, ws-len, inv)) (via 𝓤 (guard 𝓤 ((n₁ - i) < t) (Inv-3 (n₁ - i))) (guard_i 𝓤 ((n₁ - i) < t) (Inv-3 (n₁ - i)) less) (ex_i 𝓤 (λ (u : ℕ). guard 𝓤 (u < t) (Inv-3 u)) (n₁ - i)))
+      again_3 : (t : ℕ) → (i : ℕ) → (ws : List (List ℕ)) → (i-is : Is u64_p.row i (u64_p.val i ∷ [])) → (ws-len : length ws ≡ n₂) → (i ≤ n₁) → ((n₁ - i) < t) → ent 𝓤 (⋆ 𝓛 (At-3 i ws)) (Below-3 t)
+      again_3 t i ws i-is ws-len inv less = via 𝓤 (Inv-3 (n₁ - i)) (inv_at_3 (n₁ - i) i ws (refl, i-is, ws-len, inv)) (via 𝓤 (guard 𝓤 ((n₁ - i) < t) (Inv-3 (n₁ - i))) (guard_i 𝓤 ((n₁ - i) < t) (Inv-3 (n₁ - i)) less) (ex_i 𝓤 (λ (u : ℕ). guard 𝓤 (u < t) (Inv-3 u)) (n₁ - i)))
 
-      turn-3 : (i : ℕ) → (ws : List (List ℕ)) → (t-3 : ℕ) → (i-is : Is u64_p.row i (u64_p.val i ∷ [])) → (ws-len : length ws ≡ n₂) → (t-is-3 : t-3 ≡ n₁ - i) → (inv-3 : i ≤ n₁) → ent 𝓤 (⋆ 𝓛 (At-3 i ws)) (Wp 𝓤 H C Λ En mir.turn-1 (after_turn 𝓤 H (Below-3 t-3) Left-3))
+      turn_3 : (i : ℕ) → (ws : List (List ℕ)) → (t-3 : ℕ) → (i-is : Is u64_p.row i (u64_p.val i ∷ [])) → (ws-len : length ws ≡ n₂) → (t-is-3 : t-3 ≡ n₁ - i) → (inv-3 : i ≤ n₁) → ent 𝓤 (⋆ 𝓛 (At-3 i ws)) (Wp 𝓤 H C Λ En mir.turn-1 (after_turn 𝓤 H (Below-3 t-3) Left-3))
       unfolding after_turn
-      turn-3 i ws t-3 i-is ws-len t-is-3 inv-3 =
+      turn_3 i ws t-3 i-is ws-len t-is-3 inv-3 =
           qed 𝓛 (At-3 i ws) ∵ exec ! C Λ En mir.turn-1 (any_q (after_turn 𝓤 H (Below-3 t-3) Left-3)) $
           assigns ! (bin ! (load ! (from ! (stop !)) (look ! 20 refl)) (load ! (from ! (stop !)) (look ! 22 refl)) (tt)) (from ! (stop !)) (init ! 16 refl (bool_p.typed 𝓛 (ltb i n₁) refl)) $
           first ! $
@@ -187,7 +187,7 @@ module _ {M : Type 1} {𝓤 : Ura M} (𝓛 : Logic 𝓤) (mem : Memory → SProp
           land ! (from ! (stop !)) (init ! 8 refl (unit_p.typed 𝓛 tt is-3·9)) $
           knows ! (i + 1 < 2 ^ 64) (omega (arith, ltb-true, ltb-false, leb-true, leb-false, eqb-true, eqb-false)) (λ fits-3·10.
           assigns_last ! (bin ! (load ! (from ! (stop !)) (look ! 20 refl)) (lit ! tt) (record { fits = fits-3·10 })) (from ! (stop !)) (store ! 20 refl (u64_p.typed 𝓛 (i + 1) ((refl, fits-3·10)))) $ forget ! 4 refl $ forget ! 6 refl $ forget ! 8 refl $ forget ! 10 refl $ forget ! 12 refl $ forget ! 14 refl $ forget ! 16 refl $ forget ! 18 refl $ move ! (2 ∷ 3 ∷ 0 ∷ 1 ∷ 4 ∷ 5 ∷ 6 ∷ 7 ∷ 8 ∷ 9 ∷ 10 ∷ 11 ∷ 12 ∷ 13 ∷ 14 ∷ 15 ∷ 16 ∷ 17 ∷ 18 ∷ 19 ∷ 20 ∷ 21 ∷ 22 ∷ 23 ∷ 24 ∷ 25 ∷ 26 ∷ 27 ∷ 28 ∷ 29 ∷ []) $
-          by ! (again-3 t-3 (i + 1) ws-3·9.0 ((refl, fits-3·10)) len-3·9-packed (omega (arith, ltb-true, ltb-false, leb-true, leb-false, eqb-true, eqb-false)) (omega (arith, ltb-true, ltb-false, leb-true, leb-false, eqb-true, eqb-false)))))))))))))
+          by ! (again_3 t-3 (i + 1) ws-3·9.0 ((refl, fits-3·10)) len-3·9-packed (omega (arith, ltb-true, ltb-false, leb-true, leb-false, eqb-true, eqb-false)) (omega (arith, ltb-true, ltb-false, leb-true, leb-false, eqb-true, eqb-false)))))))))))))
           (λ h-3·2.
           knows ! (ltb i n₁ ≡ false) (fails (ltb i n₁) (T_not (ltb i n₁) h-3·2)) (λ c-3·2.
           jumps ! $
@@ -196,11 +196,11 @@ module _ {M : Type 1} {𝓤 : Ura M} (𝓛 : Logic 𝓤) (mem : Memory → SProp
           returns ! (look ! 28 refl) $ forget ! 16 refl $ forget ! 20 refl $ forget ! 22 refl $ forget ! 24 refl $ forget ! 26 refl $ forget ! 28 refl $ move ! (28 ∷ 29 ∷ []) $ free1 ! $ move ! (26 ∷ 27 ∷ []) $ free1 ! $ move ! (24 ∷ 25 ∷ []) $ free1 ! $ move ! (22 ∷ 23 ∷ []) $ free1 ! $ move ! (20 ∷ 21 ∷ []) $ free1 ! $ move ! (18 ∷ 19 ∷ []) $ free1 ! $ move ! (16 ∷ 17 ∷ []) $ free1 ! $ move ! (14 ∷ 15 ∷ []) $ free1 ! $ move ! (12 ∷ 13 ∷ []) $ free1 ! $ move ! (10 ∷ 11 ∷ []) $ free1 ! $ move ! (8 ∷ 9 ∷ []) $ free1 ! $ move ! (6 ∷ 7 ∷ []) $ free1 ! $ move ! (4 ∷ 5 ∷ []) $ free1 ! $ free0 ! $
           by ! (exits tt ws refl ws-len)))
 
-      turns-3 : (t : ℕ) → ent 𝓤 (Inv-3 t) (Wp 𝓤 H C Λ En mir.turn-1 (after_turn 𝓤 H (Below-3 t) Left-3))
-      turns-3 t = ex_e 𝓤 (λ (i : ℕ). ex 𝓤 (λ (ws : List (List ℕ)). guard 𝓤 (Facts-3 t i ws) (⋆ 𝓛 (At-3 i ws)))) (λ i. ex_e 𝓤 (λ (ws : List (List ℕ)). guard 𝓤 (Facts-3 t i ws) (⋆ 𝓛 (At-3 i ws))) (λ ws. guard_e 𝓤 (Facts-3 t i ws) (⋆ 𝓛 (At-3 i ws)) (λ fs. turn-3 i ws t fs.1 fs.2 fs.0 fs.3)))
+      turns_3 : (t : ℕ) → ent 𝓤 (Inv-3 t) (Wp 𝓤 H C Λ En mir.turn-1 (after_turn 𝓤 H (Below-3 t) Left-3))
+      turns_3 t = ex_e 𝓤 (λ (i : ℕ). ex 𝓤 (λ (ws : List (List ℕ)). guard 𝓤 (Facts-3 t i ws) (⋆ 𝓛 (At-3 i ws)))) (λ i. ex_e 𝓤 (λ (ws : List (List ℕ)). guard 𝓤 (Facts-3 t i ws) (⋆ 𝓛 (At-3 i ws))) (λ ws. guard_e 𝓤 (Facts-3 t i ws) (⋆ 𝓛 (At-3 i ws)) (λ fs. turn_3 i ws t fs.1 fs.2 fs.0 fs.3)))
 
-      loops-3 : (i : ℕ) (i-is : Is u64_p.row i (u64_p.val i ∷ [])) → (ws : List (List ℕ)) (ws-len : length ws ≡ n₂) → (i ≤ n₁) → ent 𝓤 (⋆ 𝓛 (At-3 i ws)) (Wp 𝓤 H C Λ En (loop mir.turn-1) Left-3)
-      loops-3 i i-is ws ws-len inv = via 𝓤 (Inv-3 (n₁ - i)) (inv-at-3 (n₁ - i) i ws (refl, i-is, ws-len, inv)) (loop_rule 𝓤 H 𝓛.laws 𝓣 ◌<◌ lt-wf_rel.wf En mir.turn-1 Left-3 Inv-3 turns-3 (n₁ - i))
+      loops_3 : (i : ℕ) (i-is : Is u64_p.row i (u64_p.val i ∷ [])) → (ws : List (List ℕ)) (ws-len : length ws ≡ n₂) → (i ≤ n₁) → ent 𝓤 (⋆ 𝓛 (At-3 i ws)) (Wp 𝓤 H C Λ En (loop mir.turn-1) Left-3)
+      loops_3 i i-is ws ws-len inv = via 𝓤 (Inv-3 (n₁ - i)) (inv_at_3 (n₁ - i) i ws (refl, i-is, ws-len, inv)) (loop_rule 𝓤 H 𝓛.laws 𝓣 ◌<◌ lt-wf_rel.wf En mir.turn-1 Left-3 Inv-3 turns_3 (n₁ - i))
 
     begins : Sq 𝓛 (‵ ((ShrSlice (named 0) κ₁ Object-t.the_row).own_val (at_list b₁ o₁ γ₁ objects) (slice_val (b₁, o₁) n₁ ∷ [])) ∷ ‵ (flft κ₁ q₁) ∷ ‵ ((MutSlice (named 0) κ₂ (Array u64 2)).own_val (at_list b₂ o₂ γ₂ packed) (slice_val (b₂, o₂) n₂ ∷ [])) ∷ ‵ (flft κ₂ q₂) ∷ free 𝓤 (slice_ty (ty_ref erased mut (pointee (Array u64 2).written))) l₁₂ (free 𝓤 (ty_ref erased mut (pointee (Array u64 2).written)) l₁₁ (free 𝓤 ty_unit l₁₀ (free 𝓤 Object-l.mir l₉ (free 𝓤 ty_ptr l₈ (free 𝓤 (ty_int w64) l₇ (free 𝓤 ty_bool l₆ (free 𝓤 Object-l.mir l₅ (free 𝓤 (ty_int w64) l₄ (free 𝓤 (ty_int w64) l₃ (full 𝓤 (slice_ty (ty_ref (named 1) mut (pointee (Array u64 2).written))) l₂ (slice_val (b₂, o₂) n₂) (full 𝓤 (slice_ty (ty_ref (named 0) imm (pointee (Object-t.the_row).written))) l₁ (slice_val (b₁, o₁) n₁) (free 𝓤 ty_unit l₀ ([])))))))))))))) (runs C Λ En mir.t-1 (at_ret En Post))
     begins =
@@ -208,7 +208,7 @@ module _ {M : Type 1} {𝓤 : Ura M} (𝓛 : Logic 𝓤) (mem : Memory → SProp
         assigns ! (of_opd ! (lit ! tt)) (from ! (stop !)) (init ! 20 refl (u64_p.typed 𝓛 0 ((refl, lit< tt)))) $
         first ! $
         blocks ! $
-        by ! (loops-3 0 ((refl, lit< tt)) packed refl (omega (arith, ltb-true, ltb-false, leb-true, leb-false, eqb-true, eqb-false)))
+        by ! (loops_3 0 ((refl, lit< tt)) packed refl (omega (arith, ltb-true, ltb-false, leb-true, leb-false, eqb-true, eqb-false)))
 
   module _ (𝓣 : Tables 𝓤 H) (known-objects-put : Triple 𝓤 (𝓣.C #objects-put) (Of-objects-put 𝓛 mem run)) where
     walk : ent 𝓤 (on_entry 𝓛 f.signature (κ₁, (κ₂, tt)) (q₁, (q₂, tt)) x at) (WpFn 𝓤 H 𝓣.C 𝓣.Λ code.function (slice_val (b₁, o₁) n₁ ∷ slice_val (b₂, o₂) n₂ ∷ []) Post)

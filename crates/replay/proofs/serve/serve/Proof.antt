@@ -282,11 +282,11 @@ module _ {M : Type 1} {𝓤 : Ura M} (𝓛 : Logic 𝓤) (mem : Memory → SProp
       abbrev Left-4 : Out → SProp 𝓤
       Left-4 = after_block 𝓤 H (after_seq 𝓤 H (Wp 𝓤 H C Λ En mir.t-5 (at_return 𝓤 H En Post)) (at_return 𝓤 H En Post))
 
-      inv-at-4 : (t : ℕ) → (reading : Reading) → (host : Host) → (turns : ℕ) → (input' : List ℕ) → (line' : List ℕ) → (kept' : List ℕ) → (out' : List ℕ) → (sessions' : List (List ℕ)) → (streams' : List (List ℕ)) → (objects' : List Object) → (held' : List ℕ) → (parts' : List ℕ) → (lengths' : List ℕ) → (rebuilt' : List ℕ) → (hours' : List ℕ) → (windows' : List (List ℕ)) → (packed' : List (List ℕ)) → Facts-4 t reading host turns input' line' kept' out' sessions' streams' objects' held' parts' lengths' rebuilt' hours' windows' packed' → ent 𝓤 (⋆ 𝓛 (At-4 reading host turns input' line' kept' out' sessions' streams' objects' held' parts' lengths' rebuilt' hours' windows' packed')) (Inv-4 t)
-      inv-at-4 t reading host turns input' line' kept' out' sessions' streams' objects' held' parts' lengths' rebuilt' hours' windows' packed' fs = via 𝓤 (ex 𝓤 (λ (host : Host). ex 𝓤 (λ (turns : ℕ). ex 𝓤 (λ (input' : List ℕ). ex 𝓤 (λ (line' : List ℕ). ex 𝓤 (λ (kept' : List ℕ). ex 𝓤 (λ (out' : List ℕ). ex 𝓤 (λ (sessions' : List (List ℕ)). ex 𝓤 (λ (streams' : List (List ℕ)). ex 𝓤 (λ (objects' : List Object). ex 𝓤 (λ (held' : List ℕ). ex 𝓤 (λ (parts' : List ℕ). ex 𝓤 (λ (lengths' : List ℕ). ex 𝓤 (λ (rebuilt' : List ℕ). ex 𝓤 (λ (hours' : List ℕ). ex 𝓤 (λ (windows' : List (List ℕ)). ex 𝓤 (λ (packed' : List (List ℕ)). guard 𝓤 (Facts-4 t reading host turns input' line' kept' out' sessions' streams' objects' held' parts' lengths' rebuilt' hours' windows' packed') (⋆ 𝓛 (At-4 reading host turns input' line' kept' out' sessions' streams' objects' held' parts' lengths' rebuilt' hours' windows' packed'))))))))))))))))))) (via 𝓤 (ex 𝓤 (λ (turns : ℕ). ex 𝓤 (λ (input' : List ℕ). ex 𝓤 (λ (line' : List ℕ). ex 𝓤 (λ (kept' : List ℕ). ex 𝓤 (λ (out' : List ℕ). ex 𝓤 (λ (sessions' : List (List ℕ)). ex 𝓤 (λ (streams' : List (List ℕ)). ex 𝓤 (λ (objects' : List Object). ex 𝓤 (λ (held' : List ℕ). ex 𝓤 (λ (parts' : List ℕ). ex 𝓤 (λ (lengths' : List ℕ). ex 𝓤 (λ (rebuilt' : List ℕ). ex 𝓤 (λ (hours' : List ℕ). ex 𝓤 (λ (windows' : List (List ℕ)). ex 𝓤 (λ (packed' : List (List ℕ)). guard 𝓤 (Facts-4 t reading host turns input' line' kept' out' sessions' streams' objects' held' parts' lengths' rebuilt' hours' windows' packed') (⋆ 𝓛 (At-4 reading host turns input' line' kept' out' sessions' streams' objects' held' parts' lengths' rebuilt' hours' windows' packed')))))))))))))))))) (via 𝓤 (ex 𝓤 (λ (input' : List ℕ). ex 𝓤 (λ (line' : List ℕ). ex 𝓤 (λ (kept' : List ℕ). ex 𝓤 (λ (out' : List ℕ). ex 𝓤 (λ (sessions' : List (List ℕ)). ex 𝓤 (λ (streams' : List (List ℕ)). ex 𝓤 (λ (objects' : List Object). ex 𝓤 (λ (held' : List ℕ). ex 𝓤 (λ (parts' : List ℕ). ex 𝓤 (λ (lengths' : List ℕ). ex 𝓤 (λ (rebuilt' : List ℕ). ex 𝓤 (λ (hours' : List ℕ). ex 𝓤 (λ (windows' : List (List ℕ)). ex 𝓤 (λ (packed' : List (List ℕ)). guard 𝓤 (Facts-4 t reading host turns input' line' kept' out' sessions' streams' objects' held' parts' lengths' rebuilt' hours' windows' packed') (⋆ 𝓛 (At-4 reading host turns input' line' kept' out' sessions' streams' objects' held' parts' lengths' rebuilt' hours' windows' packed'))))))))))))))))) (via 𝓤 (ex 𝓤 (λ (line' : List ℕ). ex 𝓤 (λ (kept' : List ℕ). ex 𝓤 (λ (out' : List ℕ). ex 𝓤 (λ (sessions' : List (List ℕ)). ex 𝓤 (λ (streams' : List (List ℕ)). ex 𝓤 (λ (objects' : List Object). ex 𝓤 (λ (held' : List ℕ). ex 𝓤 (λ (parts' : List ℕ). ex 𝓤 (λ (lengths' : List ℕ). ex 𝓤 (λ (rebuilt' : List ℕ). ex 𝓤 (λ (hours' : List ℕ). ex 𝓤 (λ (windows' : List (List ℕ)). ex 𝓤 (λ (packed' : List (List ℕ)). guard 𝓤 (Facts-4 t reading host turns input' line' kept' out' sessions' streams' objects' held' parts' lengths' rebuilt' hours' windows' packed') (⋆ 𝓛 (At-4 reading host turns input' line' kept' out' sessions' streams' objects' held' parts' lengths' rebuilt' hours' windows' packed')))))))))))))))) (via 𝓤 (ex 𝓤 (λ (kept' : List ℕ). ex 𝓤 (λ (out' : List ℕ). ex 𝓤 (λ (sessions' : List (List ℕ)). ex 𝓤 (λ (streams' : List (List ℕ)). ex 𝓤 (λ (objects' : List Object). ex 𝓤 (λ (held' : List ℕ). ex 𝓤 (λ (parts' : List ℕ). ex 𝓤 (λ (lengths' : List ℕ). ex 𝓤 (λ (rebuilt' : List ℕ). ex 𝓤 (λ (hours' : List ℕ). ex 𝓤 (λ (windows' : List (List ℕ)). ex 𝓤 (λ (packed' : List (List ℕ)). guard 𝓤 (Facts-4 t reading host turns input' line' kept' out' sessions' streams' objects' held' parts' lengths' rebuilt' hours' windows' packed') (⋆ 𝓛 (At-4 reading host turns input' line' kept' out' sessions' streams' objects' held' parts' lengths' rebuilt' hours' windows' packed'))))))))))))))) (via 𝓤 (ex 𝓤 (λ (out' : List ℕ). ex 𝓤 (λ (sessions' : List (List ℕ)). ex 𝓤 (λ (streams' : List (List ℕ)). ex 𝓤 (λ (objects' : List Object). ex 𝓤 (λ (held' : List ℕ). ex 𝓤 (λ (parts' : List ℕ). ex 𝓤 (λ (lengths' : List ℕ). ex 𝓤 (λ (rebuilt' : List ℕ). ex 𝓤 (λ (hours' : List ℕ). ex 𝓤 (λ (windows' : List (List ℕ)). ex 𝓤 (λ (packed' : List (List ℕ)). guard 𝓤 (Facts-4 t reading host turns input' line' kept' out' sessions' streams' objects' held' parts' lengths' rebuilt' hours' windows' packed') (⋆ 𝓛 (At-4 reading host turns input' line' kept' out' sessions' streams' objects' held' parts' lengths' rebuilt' hours' windows' packed')))))))))))))) (via 𝓤 (ex 𝓤 (λ (sessions' : List (List ℕ)). ex 𝓤 (λ (streams' : List (List ℕ)). ex 𝓤 (λ (objects' : List Object). ex 𝓤 (λ (held' : List ℕ). ex 𝓤 (λ (parts' : List ℕ). ex 𝓤 (λ (lengths' : List ℕ). ex 𝓤 (λ (rebuilt' : List ℕ). ex 𝓤 (λ (hours' : List ℕ). ex 𝓤 (λ (windows' : List (List ℕ)). ex 𝓤 (λ (packed' : List (List ℕ)). guard 𝓤 (Facts-4 t reading host turns input' line' kept' out' sessions' streams' objects' held' parts' lengths' rebuilt' hours' windows' packed') (⋆ 𝓛 (At-4 reading host turns input' line' kept' out' sessions' streams' objects' held' parts' lengths' rebuilt' hours' windows' packed'))))))))))))) (via 𝓤 (ex 𝓤 (λ (streams' : List (List ℕ)). ex 𝓤 (λ (objects' : List Object). ex 𝓤 (λ (held' : List ℕ). ex 𝓤 (λ (parts' : List ℕ). ex 𝓤 (λ (lengths' : List ℕ). ex 𝓤 (λ (rebuilt' : List ℕ). ex 𝓤 (λ (hours' : List ℕ). ex 𝓤 (λ (windows' : List (List ℕ)). ex 𝓤 (λ (packed' : List (List ℕ)). guard 𝓤 (Facts-4 t reading host turns input' line' kept' out' sessions' streams' objects' held' parts' lengths' rebuilt' hours' windows' packed') (⋆ 𝓛 (At-4 reading host turns input' line' kept' out' sessions' streams' objects' held' parts' lengths' rebuilt' hours' windows' packed')))))))))))) (via 𝓤 (ex 𝓤 (λ (objects' : List Object). ex 𝓤 (λ (held' : List ℕ). ex 𝓤 (λ (parts' : List ℕ). ex 𝓤 (λ (lengths' : List ℕ). ex 𝓤 (λ (rebuilt' : List ℕ). ex 𝓤 (λ (hours' : List ℕ). ex 𝓤 (λ (windows' : List (List ℕ)). ex 𝓤 (λ (packed' : List (List ℕ)). guard 𝓤 (Facts-4 t reading host turns input' line' kept' out' sessions' streams' objects' held' parts' lengths' rebuilt' hours' windows' packed') (⋆ 𝓛 (At-4 reading host turns input' line' kept' out' sessions' streams' objects' held' parts' lengths' rebuilt' hours' windows' packed'))))))))))) (via 𝓤 (ex 𝓤 (λ (held' : List ℕ). ex 𝓤 (λ (parts' : List ℕ). ex 𝓤 (λ (lengths' : List ℕ). ex 𝓤 (λ (rebuilt' : List ℕ). ex 𝓤 (λ (hours' : List ℕ). ex 𝓤 (λ (windows' : List (List ℕ)). ex 𝓤 (λ (packed' : List (List ℕ)). guard 𝓤 (Facts-4 t reading host turns input' line' kept' out' sessions' streams' objects' held' parts' lengths' rebuilt' hours' windows' packed') (⋆ 𝓛 (At-4 reading host turns input' line' kept' out' sessions' streams' objects' held' parts' lengths' rebuilt' hours' windows' packed')))))))))) (via 𝓤 (ex 𝓤 (λ (parts' : List ℕ). ex 𝓤 (λ (lengths' : List ℕ). ex 𝓤 (λ (rebuilt' : List ℕ). ex 𝓤 (λ (hours' : List ℕ). ex 𝓤 (λ (windows' : List (List ℕ)). ex 𝓤 (λ (packed' : List (List ℕ)). guard 𝓤 (Facts-4 t reading host turns input' line' kept' out' sessions' streams' objects' held' parts' lengths' rebuilt' hours' windows' packed') (⋆ 𝓛 (At-4 reading host turns input' line' kept' out' sessions' streams' objects' held' parts' lengths' rebuilt' hours' windows' packed'))))))))) (via 𝓤 (ex 𝓤 (λ (lengths' : List ℕ). ex 𝓤 (λ (rebuilt' : List ℕ). ex 𝓤 (λ (hours' : List ℕ). ex 𝓤 (λ (windows' : List (List ℕ)). ex 𝓤 (λ (packed' : List (List ℕ)). guard 𝓤 (Facts-4 t reading host turns input' line' kept' out' sessions' streams' objects' held' parts' lengths' rebuilt' hours' windows' packed') (⋆ 𝓛 (At-4 reading host turns input' line' kept' out' sessions' streams' objects' held' parts' lengths' rebuilt' hours' windows' packed')))))))) (via 𝓤 (ex 𝓤 (λ (rebuilt' : List ℕ). ex 𝓤 (λ (hours' : List ℕ). ex 𝓤 (λ (windows' : List (List ℕ)). ex 𝓤 (λ (packed' : List (List ℕ)). guard 𝓤 (Facts-4 t reading host turns input' line' kept' out' sessions' streams' objects' held' parts' lengths' rebuilt' hours' windows' packed') (⋆ 𝓛 (At-4 reading host turns input' line' kept' out' sessions' streams' objects' held' parts' lengths' rebuilt' hours' windows' packed'))))))) (via 𝓤 (ex 𝓤 (λ (hours' : List ℕ). ex 𝓤 (λ (windows' : List (List ℕ)). ex 𝓤 (λ (packed' : List (List ℕ)). guard 𝓤 (Facts-4 t reading host turns input' line' kept' out' sessions' streams' objects' held' parts' lengths' rebuilt' hours' windows' packed') (⋆ 𝓛 (At-4 reading host turns input' line' kept' out' sessions' streams' objects' held' parts' lengths' rebuilt' hours' windows' packed')))))) (via 𝓤 (ex 𝓤 (λ (windows' : List (List ℕ)). ex 𝓤 (λ (packed' : List (List ℕ)). guard 𝓤 (Facts-4 t reading host turns input' line' kept' out' sessions' streams' objects' held' parts' lengths' rebuilt' hours' windows' packed') (⋆ 𝓛 (At-4 reading host turns input' line' kept' out' sessions' streams' objects' held' parts' lengths' rebuilt' hours' windows' packed'))))) (via 𝓤 (ex 𝓤 (λ (packed' : List (List ℕ)). guard 𝓤 (Facts-4 t reading host turns input' line' kept' out' sessions' streams' objects' held' parts' lengths' rebuilt' hours' windows' packed') (⋆ 𝓛 (At-4 reading host turns input' line' kept' out' sessions' streams' objects' held' parts' lengths' rebuilt' hours' windows' packed')))) (via 𝓤 (guard 𝓤 (Facts-4 t reading host turns input' line' kept' out' sessions' streams' objects' held' parts' lengths' rebuilt' hours' windows' packed') (⋆ 𝓛 (At-4 reading host turns input' line' kept' out' sessions' streams' objects' held' parts' lengths' rebuilt' hours' windows' packed'))) (guard_i 𝓤 (Facts-4 t reading host turns input' line' kept' out' sessions' streams' objects' held' parts' lengths' rebuilt' hours' windows' packed') (⋆ 𝓛 (At-4 reading host turns input' line' kept' out' sessions' streams' objects' held' parts' lengths' rebuilt' hours' windows' packed')) fs) (ex_i 𝓤 (λ (packed' : List (List ℕ)). guard 𝓤 (Facts-4 t reading host turns input' line' kept' out' sessions' streams' objects' held' parts' lengths' rebuilt' hours' windows' packed') (⋆ 𝓛 (At-4 reading host turns input' line' kept' out' sessions' streams' objects' held' parts' lengths' rebuilt' hours' windows' packed'))) packed')) (ex_i 𝓤 (λ (windows' : List (List ℕ)). ex 𝓤 (λ (packed' : List (List ℕ)). guard 𝓤 (Facts-4 t reading host turns input' line' kept' out' sessions' streams' objects' held' parts' lengths' rebuilt' hours' windows' packed') (⋆ 𝓛 (At-4 reading host turns input' line' kept' out' sessions' streams' objects' held' parts' lengths' rebuilt' hours' windows' packed')))) windows')) (ex_i 𝓤 (λ (hours' : List ℕ). ex 𝓤 (λ (windows' : List (List ℕ)). ex 𝓤 (λ (packed' : List (List ℕ)). guard 𝓤 (Facts-4 t reading host turns input' line' kept' out' sessions' streams' objects' held' parts' lengths' rebuilt' hours' windows' packed') (⋆ 𝓛 (At-4 reading host turns input' line' kept' out' sessions' streams' objects' held' parts' lengths' rebuilt' hours' windows' packed'))))) hours')) (ex_i 𝓤 (λ (rebuilt' : List ℕ). ex 𝓤 (λ (hours' : List ℕ). ex 𝓤 (λ (windows' : List (List ℕ)). ex 𝓤 (λ (packed' : List (List ℕ)). guard 𝓤 (Facts-4 t reading host turns input' line' kept' out' sessions' streams' objects' held' parts' lengths' rebuilt' hours' windows' packed') (⋆ 𝓛 (At-4 reading host turns input' line' kept' out' sessions' streams' objects' held' parts' lengths' rebuilt' hours' windows' packed')))))) rebuilt')) (ex_i 𝓤 (λ (lengths' : List ℕ). ex 𝓤 (λ (rebuilt' : List ℕ). ex 𝓤 (λ (hours' : List ℕ). ex 𝓤 (λ (windows' : List (List ℕ)). ex 𝓤 (λ (packed' : List (List ℕ)). guard 𝓤 (Facts-4 t reading host turns input' line' kept' out' sessions' streams' objects' held' parts' lengths' rebuilt' hours' windows' packed') (⋆ 𝓛 (At-4 reading host turns input' line' kept' out' sessions' streams' objects' held' parts' lengths' rebuilt' hours' windows' packed'))))))) lengths')) (ex_i 𝓤 (λ (parts' : List ℕ). ex 𝓤 (λ (lengths' : List ℕ). ex 𝓤 (λ (rebuilt' : List ℕ). ex 𝓤 (λ (hours' : List ℕ). ex 𝓤 (λ (windows' : List (List ℕ)). ex 𝓤 (λ (packed' : List (List ℕ)). guard 𝓤 (Facts-4 t reading host turns input' line' kept' out' sessions' streams' objects' held' parts' lengths' rebuilt' hours' windows' packed') (⋆ 𝓛 (At-4 reading host turns input' line' kept' out' sessions' streams' objects' held' parts' lengths' rebuilt' hours' windows' packed')))))))) parts')) (ex_i 𝓤 (λ (held' : List ℕ). ex 𝓤 (λ (parts' : List ℕ). ex 𝓤 (λ (lengths' : List ℕ). ex 𝓤 (λ (rebuilt' : List ℕ). ex 𝓤 (λ (hours' : List ℕ). ex 𝓤 (λ (windows' : List (List ℕ)). ex 𝓤 (λ (packed' : List (List ℕ)). guard 𝓤 (Facts-4 t reading host turns input' line' kept' out' sessions' streams' objects' held' parts' lengths' rebuilt' hours' windows' packed') (⋆ 𝓛 (At-4 reading host turns input' line' kept' out' sessions' streams' objects' held' parts' lengths' rebuilt' hours' windows' packed'))))))))) held')) (ex_i 𝓤 (λ (objects' : List Object). ex 𝓤 (λ (held' : List ℕ). ex 𝓤 (λ (parts' : List ℕ). ex 𝓤 (λ (lengths' : List ℕ). ex 𝓤 (λ (rebuilt' : List ℕ). ex 𝓤 (λ (hours' : List ℕ). ex 𝓤 (λ (windows' : List (List ℕ)). ex 𝓤 (λ (packed' : List (List ℕ)). guard 𝓤 (Facts-4 t reading host turns input' line' kept' out' sessions' streams' objects' held' parts' lengths' rebuilt' hours' windows' packed') (⋆ 𝓛 (At-4 reading host turns input' line' kept' out' sessions' streams' objects' held' parts' lengths' rebuilt' hours' windows' packed')))))))))) objects')) (ex_i 𝓤 (λ (streams' : List (List ℕ)). ex 𝓤 (λ (objects' : List Object). ex 𝓤 (λ (held' : List ℕ). ex 𝓤 (λ (parts' : List ℕ). ex 𝓤 (λ (lengths' : List ℕ). ex 𝓤 (λ (rebuilt' : List ℕ). ex 𝓤 (λ (hours' : List ℕ). ex 𝓤 (λ (windows' : List (List ℕ)). ex 𝓤 (λ (packed' : List (List ℕ)). guard 𝓤 (Facts-4 t reading host turns input' line' kept' out' sessions' streams' objects' held' parts' lengths' rebuilt' hours' windows' packed') (⋆ 𝓛 (At-4 reading host turns input' line' kept' out' sessions' streams' objects' held' parts' lengths' rebuilt' hours' windows' packed'))))))))))) streams')) (ex_i 𝓤 (λ (sessions' : List (List ℕ)). ex 𝓤 (λ (streams' : List (List ℕ)). ex 𝓤 (λ (objects' : List Object). ex 𝓤 (λ (held' : List ℕ). ex 𝓤 (λ (parts' : List ℕ). ex 𝓤 (λ (lengths' : List ℕ). ex 𝓤 (λ (rebuilt' : List ℕ). ex 𝓤 (λ (hours' : List ℕ). ex 𝓤 (λ (windows' : List (List ℕ)). ex 𝓤 (λ (packed' : List (List ℕ)). guard 𝓤 (Facts-4 t reading host turns input' line' kept' out' sessions' streams' objects' held' parts' lengths' rebuilt' hours' windows' packed') (⋆ 𝓛 (At-4 reading host turns input' line' kept' out' sessions' streams' objects' held' parts' lengths' rebuilt' hours' windows' packed')))))))))))) sessions')) (ex_i 𝓤 (λ (out' : List ℕ). ex 𝓤 (λ (sessions' : List (List ℕ)). ex 𝓤 (λ (streams' : List (List ℕ)). ex 𝓤 (λ (objects' : List Object). ex 𝓤 (λ (held' : List ℕ). ex 𝓤 (λ (parts' : List ℕ). ex 𝓤 (λ (lengths' : List ℕ). ex 𝓤 (λ (rebuilt' : List ℕ). ex 𝓤 (λ (hours' : List ℕ). ex 𝓤 (λ (windows' : List (List ℕ)). ex 𝓤 (λ (packed' : List (List ℕ)). guard 𝓤 (Facts-4 t reading host turns input' line' kept' out' sessions' streams' objects' held' parts' lengths' rebuilt' hours' windows' packed') (⋆ 𝓛 (At-4 reading host turns input' line' kept' out' sessions' streams' objects' held' parts' lengths' rebuilt' hours' windows' packed'))))))))))))) out')) (ex_i 𝓤 (λ (kept' : List ℕ). ex 𝓤 (λ (out' : List ℕ). ex 𝓤 (λ (sessions' : List (List ℕ)). ex 𝓤 (λ (streams' : List (List ℕ)). ex 𝓤 (λ (objects' : List Object). ex 𝓤 (λ (held' : List ℕ). ex 𝓤 (λ (parts' : List ℕ). ex 𝓤 (λ (lengths' : List ℕ). ex 𝓤 (λ (rebuilt' : List ℕ). ex 𝓤 (λ (hours' : List ℕ). ex 𝓤 (λ (windows' : List (List ℕ)). ex 𝓤 (λ (packed' : List (List ℕ)). guard 𝓤 (Facts-4 t reading host turns input' line' kept' out' sessions' streams' objects' held' parts' lengths' rebuilt' hours' windows' packed') (⋆ 𝓛 (At-4 reading host turns input' line' kept' out' sessions' streams' objects' held' parts' lengths' rebuilt' hours' windows' packed')))))))))))))) kept')) (ex_i 𝓤 (λ (line' : List ℕ). ex 𝓤 (λ (kept' : List ℕ). ex 𝓤 (λ (out' : List ℕ). ex 𝓤 (λ (sessions' : List (List ℕ)). ex 𝓤 (λ (streams' : List (List ℕ)). ex 𝓤 (λ (objects' : List Object). ex 𝓤 (λ (held' : List ℕ). ex 𝓤 (λ (parts' : List ℕ). ex 𝓤 (λ (lengths' : List ℕ). ex 𝓤 (λ (rebuilt' : List ℕ). ex 𝓤 (λ (hours' : List ℕ). ex 𝓤 (λ (windows' : List (List ℕ)). ex 𝓤 (λ (packed' : List (List ℕ)). guard 𝓤 (Facts-4 t reading host turns input' line' kept' out' sessions' streams' objects' held' parts' lengths' rebuilt' hours' windows' packed') (⋆ 𝓛 (At-4 reading host turns input' line' kept' out' sessions' streams' objects' held' parts' lengths' rebuilt' hours' windows' packed'))))))))))))))) line')) (ex_i 𝓤 (λ (input' : List ℕ). ex 𝓤 (λ (line' : List ℕ). ex 𝓤 (λ (kept' : List ℕ). ex 𝓤 (λ (out' : List ℕ). ex 𝓤 (λ (sessions' : List (List ℕ)). ex 𝓤 (λ (streams' : List (List ℕ)). ex 𝓤 (λ (objects' : List Object). ex 𝓤 (λ (held' : List ℕ). ex 𝓤 (λ (parts' : List ℕ). ex 𝓤 (λ (lengths' : List ℕ). ex 𝓤 (λ (rebuilt' : List ℕ). ex 𝓤 (λ (hours' : List ℕ). ex 𝓤 (λ (windows' : List (List ℕ)). ex 𝓤 (λ (packed' : List (List ℕ)). guard 𝓤 (Facts-4 t reading host turns input' line' kept' out' sessions' streams' objects' held' parts' lengths' rebuilt' hours' windows' packed') (⋆ 𝓛 (At-4 reading host turns input' line' kept' out' sessions' streams' objects' held' parts' lengths' rebuilt' hours' windows' packed')))))))))))))))) input')) (ex_i 𝓤 (λ (turns : ℕ). ex 𝓤 (λ (input' : List ℕ). ex 𝓤 (λ (line' : List ℕ). ex 𝓤 (λ (kept' : List ℕ). ex 𝓤 (λ (out' : List ℕ). ex 𝓤 (λ (sessions' : List (List ℕ)). ex 𝓤 (λ (streams' : List (List ℕ)). ex 𝓤 (λ (objects' : List Object). ex 𝓤 (λ (held' : List ℕ). ex 𝓤 (λ (parts' : List ℕ). ex 𝓤 (λ (lengths' : List ℕ). ex 𝓤 (λ (rebuilt' : List ℕ). ex 𝓤 (λ (hours' : List ℕ). ex 𝓤 (λ (windows' : List (List ℕ)). ex 𝓤 (λ (packed' : List (List ℕ)). guard 𝓤 (Facts-4 t reading host turns input' line' kept' out' sessions' streams' objects' held' parts' lengths' rebuilt' hours' windows' packed') (⋆ 𝓛 (At-4 reading host turns input' line' kept' out' sessions' streams' objects' held' parts' lengths' rebuilt' hours' windows' packed'))))))))))))))))) turns)) (ex_i 𝓤 (λ (host : Host). ex 𝓤 (λ (turns : ℕ). ex 𝓤 (λ (input' : List ℕ). ex 𝓤 (λ (line' : List ℕ). ex 𝓤 (λ (kept' : List ℕ). ex 𝓤 (λ (out' : List ℕ). ex 𝓤 (λ (sessions' : List (List ℕ)). ex 𝓤 (λ (streams' : List (List ℕ)). ex 𝓤 (λ (objects' : List Object). ex 𝓤 (λ (held' : List ℕ). ex 𝓤 (λ (parts' : List ℕ). ex 𝓤 (λ (lengths' : List ℕ). ex 𝓤 (λ (rebuilt' : List ℕ). ex 𝓤 (λ (hours' : List ℕ). ex 𝓤 (λ (windows' : List (List ℕ)). ex 𝓤 (λ (packed' : List (List ℕ)). guard 𝓤 (Facts-4 t reading host turns input' line' kept' out' sessions' streams' objects' held' parts' lengths' rebuilt' hours' windows' packed') (⋆ 𝓛 (At-4 reading host turns input' line' kept' out' sessions' streams' objects' held' parts' lengths' rebuilt' hours' windows' packed')))))))))))))))))) host)) (ex_i 𝓤 (λ (reading : Reading). ex 𝓤 (λ (host : Host). ex 𝓤 (λ (turns : ℕ). ex 𝓤 (λ (input' : List ℕ). ex 𝓤 (λ (line' : List ℕ). ex 𝓤 (λ (kept' : List ℕ). ex 𝓤 (λ (out' : List ℕ). ex 𝓤 (λ (sessions' : List (List ℕ)). ex 𝓤 (λ (streams' : List (List ℕ)). ex 𝓤 (λ (objects' : List Object). ex 𝓤 (λ (held' : List ℕ). ex 𝓤 (λ (parts' : List ℕ). ex 𝓤 (λ (lengths' : List ℕ). ex 𝓤 (λ (rebuilt' : List ℕ). ex 𝓤 (λ (hours' : List ℕ). ex 𝓤 (λ (windows' : List (List ℕ)). ex 𝓤 (λ (packed' : List (List ℕ)). guard 𝓤 (Facts-4 t reading host turns input' line' kept' out' sessions' streams' objects' held' parts' lengths' rebuilt' hours' windows' packed') (⋆ 𝓛 (At-4 reading host turns input' line' kept' out' sessions' streams' objects' held' parts' lengths' rebuilt' hours' windows' packed'))))))))))))))))))) reading)
+      inv_at_4 : (t : ℕ) → (reading : Reading) → (host : Host) → (turns : ℕ) → (input' : List ℕ) → (line' : List ℕ) → (kept' : List ℕ) → (out' : List ℕ) → (sessions' : List (List ℕ)) → (streams' : List (List ℕ)) → (objects' : List Object) → (held' : List ℕ) → (parts' : List ℕ) → (lengths' : List ℕ) → (rebuilt' : List ℕ) → (hours' : List ℕ) → (windows' : List (List ℕ)) → (packed' : List (List ℕ)) → Facts-4 t reading host turns input' line' kept' out' sessions' streams' objects' held' parts' lengths' rebuilt' hours' windows' packed' → ent 𝓤 (⋆ 𝓛 (At-4 reading host turns input' line' kept' out' sessions' streams' objects' held' parts' lengths' rebuilt' hours' windows' packed')) (Inv-4 t)
+      inv_at_4 t reading host turns input' line' kept' out' sessions' streams' objects' held' parts' lengths' rebuilt' hours' windows' packed' fs = via 𝓤 (ex 𝓤 (λ (host : Host). ex 𝓤 (λ (turns : ℕ). ex 𝓤 (λ (input' : List ℕ). ex 𝓤 (λ (line' : List ℕ). ex 𝓤 (λ (kept' : List ℕ). ex 𝓤 (λ (out' : List ℕ). ex 𝓤 (λ (sessions' : List (List ℕ)). ex 𝓤 (λ (streams' : List (List ℕ)). ex 𝓤 (λ (objects' : List Object). ex 𝓤 (λ (held' : List ℕ). ex 𝓤 (λ (parts' : List ℕ). ex 𝓤 (λ (lengths' : List ℕ). ex 𝓤 (λ (rebuilt' : List ℕ). ex 𝓤 (λ (hours' : List ℕ). ex 𝓤 (λ (windows' : List (List ℕ)). ex 𝓤 (λ (packed' : List (List ℕ)). guard 𝓤 (Facts-4 t reading host turns input' line' kept' out' sessions' streams' objects' held' parts' lengths' rebuilt' hours' windows' packed') (⋆ 𝓛 (At-4 reading host turns input' line' kept' out' sessions' streams' objects' held' parts' lengths' rebuilt' hours' windows' packed'))))))))))))))))))) (via 𝓤 (ex 𝓤 (λ (turns : ℕ). ex 𝓤 (λ (input' : List ℕ). ex 𝓤 (λ (line' : List ℕ). ex 𝓤 (λ (kept' : List ℕ). ex 𝓤 (λ (out' : List ℕ). ex 𝓤 (λ (sessions' : List (List ℕ)). ex 𝓤 (λ (streams' : List (List ℕ)). ex 𝓤 (λ (objects' : List Object). ex 𝓤 (λ (held' : List ℕ). ex 𝓤 (λ (parts' : List ℕ). ex 𝓤 (λ (lengths' : List ℕ). ex 𝓤 (λ (rebuilt' : List ℕ). ex 𝓤 (λ (hours' : List ℕ). ex 𝓤 (λ (windows' : List (List ℕ)). ex 𝓤 (λ (packed' : List (List ℕ)). guard 𝓤 (Facts-4 t reading host turns input' line' kept' out' sessions' streams' objects' held' parts' lengths' rebuilt' hours' windows' packed') (⋆ 𝓛 (At-4 reading host turns input' line' kept' out' sessions' streams' objects' held' parts' lengths' rebuilt' hours' windows' packed')))))))))))))))))) (via 𝓤 (ex 𝓤 (λ (input' : List ℕ). ex 𝓤 (λ (line' : List ℕ). ex 𝓤 (λ (kept' : List ℕ). ex 𝓤 (λ (out' : List ℕ). ex 𝓤 (λ (sessions' : List (List ℕ)). ex 𝓤 (λ (streams' : List (List ℕ)). ex 𝓤 (λ (objects' : List Object). ex 𝓤 (λ (held' : List ℕ). ex 𝓤 (λ (parts' : List ℕ). ex 𝓤 (λ (lengths' : List ℕ). ex 𝓤 (λ (rebuilt' : List ℕ). ex 𝓤 (λ (hours' : List ℕ). ex 𝓤 (λ (windows' : List (List ℕ)). ex 𝓤 (λ (packed' : List (List ℕ)). guard 𝓤 (Facts-4 t reading host turns input' line' kept' out' sessions' streams' objects' held' parts' lengths' rebuilt' hours' windows' packed') (⋆ 𝓛 (At-4 reading host turns input' line' kept' out' sessions' streams' objects' held' parts' lengths' rebuilt' hours' windows' packed'))))))))))))))))) (via 𝓤 (ex 𝓤 (λ (line' : List ℕ). ex 𝓤 (λ (kept' : List ℕ). ex 𝓤 (λ (out' : List ℕ). ex 𝓤 (λ (sessions' : List (List ℕ)). ex 𝓤 (λ (streams' : List (List ℕ)). ex 𝓤 (λ (objects' : List Object). ex 𝓤 (λ (held' : List ℕ). ex 𝓤 (λ (parts' : List ℕ). ex 𝓤 (λ (lengths' : List ℕ). ex 𝓤 (λ (rebuilt' : List ℕ). ex 𝓤 (λ (hours' : List ℕ). ex 𝓤 (λ (windows' : List (List ℕ)). ex 𝓤 (λ (packed' : List (List ℕ)). guard 𝓤 (Facts-4 t reading host turns input' line' kept' out' sessions' streams' objects' held' parts' lengths' rebuilt' hours' windows' packed') (⋆ 𝓛 (At-4 reading host turns input' line' kept' out' sessions' streams' objects' held' parts' lengths' rebuilt' hours' windows' packed')))))))))))))))) (via 𝓤 (ex 𝓤 (λ (kept' : List ℕ). ex 𝓤 (λ (out' : List ℕ). ex 𝓤 (λ (sessions' : List (List ℕ)). ex 𝓤 (λ (streams' : List (List ℕ)). ex 𝓤 (λ (objects' : List Object). ex 𝓤 (λ (held' : List ℕ). ex 𝓤 (λ (parts' : List ℕ). ex 𝓤 (λ (lengths' : List ℕ). ex 𝓤 (λ (rebuilt' : List ℕ). ex 𝓤 (λ (hours' : List ℕ). ex 𝓤 (λ (windows' : List (List ℕ)). ex 𝓤 (λ (packed' : List (List ℕ)). guard 𝓤 (Facts-4 t reading host turns input' line' kept' out' sessions' streams' objects' held' parts' lengths' rebuilt' hours' windows' packed') (⋆ 𝓛 (At-4 reading host turns input' line' kept' out' sessions' streams' objects' held' parts' lengths' rebuilt' hours' windows' packed'))))))))))))))) (via 𝓤 (ex 𝓤 (λ (out' : List ℕ). ex 𝓤 (λ (sessions' : List (List ℕ)). ex 𝓤 (λ (streams' : List (List ℕ)). ex 𝓤 (λ (objects' : List Object). ex 𝓤 (λ (held' : List ℕ). ex 𝓤 (λ (parts' : List ℕ). ex 𝓤 (λ (lengths' : List ℕ). ex 𝓤 (λ (rebuilt' : List ℕ). ex 𝓤 (λ (hours' : List ℕ). ex 𝓤 (λ (windows' : List (List ℕ)). ex 𝓤 (λ (packed' : List (List ℕ)). guard 𝓤 (Facts-4 t reading host turns input' line' kept' out' sessions' streams' objects' held' parts' lengths' rebuilt' hours' windows' packed') (⋆ 𝓛 (At-4 reading host turns input' line' kept' out' sessions' streams' objects' held' parts' lengths' rebuilt' hours' windows' packed')))))))))))))) (via 𝓤 (ex 𝓤 (λ (sessions' : List (List ℕ)). ex 𝓤 (λ (streams' : List (List ℕ)). ex 𝓤 (λ (objects' : List Object). ex 𝓤 (λ (held' : List ℕ). ex 𝓤 (λ (parts' : List ℕ). ex 𝓤 (λ (lengths' : List ℕ). ex 𝓤 (λ (rebuilt' : List ℕ). ex 𝓤 (λ (hours' : List ℕ). ex 𝓤 (λ (windows' : List (List ℕ)). ex 𝓤 (λ (packed' : List (List ℕ)). guard 𝓤 (Facts-4 t reading host turns input' line' kept' out' sessions' streams' objects' held' parts' lengths' rebuilt' hours' windows' packed') (⋆ 𝓛 (At-4 reading host turns input' line' kept' out' sessions' streams' objects' held' parts' lengths' rebuilt' hours' windows' packed'))))))))))))) (via 𝓤 (ex 𝓤 (λ (streams' : List (List ℕ)). ex 𝓤 (λ (objects' : List Object). ex 𝓤 (λ (held' : List ℕ). ex 𝓤 (λ (parts' : List ℕ). ex 𝓤 (λ (lengths' : List ℕ). ex 𝓤 (λ (rebuilt' : List ℕ). ex 𝓤 (λ (hours' : List ℕ). ex 𝓤 (λ (windows' : List (List ℕ)). ex 𝓤 (λ (packed' : List (List ℕ)). guard 𝓤 (Facts-4 t reading host turns input' line' kept' out' sessions' streams' objects' held' parts' lengths' rebuilt' hours' windows' packed') (⋆ 𝓛 (At-4 reading host turns input' line' kept' out' sessions' streams' objects' held' parts' lengths' rebuilt' hours' windows' packed')))))))))))) (via 𝓤 (ex 𝓤 (λ (objects' : List Object). ex 𝓤 (λ (held' : List ℕ). ex 𝓤 (λ (parts' : List ℕ). ex 𝓤 (λ (lengths' : List ℕ). ex 𝓤 (λ (rebuilt' : List ℕ). ex 𝓤 (λ (hours' : List ℕ). ex 𝓤 (λ (windows' : List (List ℕ)). ex 𝓤 (λ (packed' : List (List ℕ)). guard 𝓤 (Facts-4 t reading host turns input' line' kept' out' sessions' streams' objects' held' parts' lengths' rebuilt' hours' windows' packed') (⋆ 𝓛 (At-4 reading host turns input' line' kept' out' sessions' streams' objects' held' parts' lengths' rebuilt' hours' windows' packed'))))))))))) (via 𝓤 (ex 𝓤 (λ (held' : List ℕ). ex 𝓤 (λ (parts' : List ℕ). ex 𝓤 (λ (lengths' : List ℕ). ex 𝓤 (λ (rebuilt' : List ℕ). ex 𝓤 (λ (hours' : List ℕ). ex 𝓤 (λ (windows' : List (List ℕ)). ex 𝓤 (λ (packed' : List (List ℕ)). guard 𝓤 (Facts-4 t reading host turns input' line' kept' out' sessions' streams' objects' held' parts' lengths' rebuilt' hours' windows' packed') (⋆ 𝓛 (At-4 reading host turns input' line' kept' out' sessions' streams' objects' held' parts' lengths' rebuilt' hours' windows' packed')))))))))) (via 𝓤 (ex 𝓤 (λ (parts' : List ℕ). ex 𝓤 (λ (lengths' : List ℕ). ex 𝓤 (λ (rebuilt' : List ℕ). ex 𝓤 (λ (hours' : List ℕ). ex 𝓤 (λ (windows' : List (List ℕ)). ex 𝓤 (λ (packed' : List (List ℕ)). guard 𝓤 (Facts-4 t reading host turns input' line' kept' out' sessions' streams' objects' held' parts' lengths' rebuilt' hours' windows' packed') (⋆ 𝓛 (At-4 reading host turns input' line' kept' out' sessions' streams' objects' held' parts' lengths' rebuilt' hours' windows' packed'))))))))) (via 𝓤 (ex 𝓤 (λ (lengths' : List ℕ). ex 𝓤 (λ (rebuilt' : List ℕ). ex 𝓤 (λ (hours' : List ℕ). ex 𝓤 (λ (windows' : List (List ℕ)). ex 𝓤 (λ (packed' : List (List ℕ)). guard 𝓤 (Facts-4 t reading host turns input' line' kept' out' sessions' streams' objects' held' parts' lengths' rebuilt' hours' windows' packed') (⋆ 𝓛 (At-4 reading host turns input' line' kept' out' sessions' streams' objects' held' parts' lengths' rebuilt' hours' windows' packed')))))))) (via 𝓤 (ex 𝓤 (λ (rebuilt' : List ℕ). ex 𝓤 (λ (hours' : List ℕ). ex 𝓤 (λ (windows' : List (List ℕ)). ex 𝓤 (λ (packed' : List (List ℕ)). guard 𝓤 (Facts-4 t reading host turns input' line' kept' out' sessions' streams' objects' held' parts' lengths' rebuilt' hours' windows' packed') (⋆ 𝓛 (At-4 reading host turns input' line' kept' out' sessions' streams' objects' held' parts' lengths' rebuilt' hours' windows' packed'))))))) (via 𝓤 (ex 𝓤 (λ (hours' : List ℕ). ex 𝓤 (λ (windows' : List (List ℕ)). ex 𝓤 (λ (packed' : List (List ℕ)). guard 𝓤 (Facts-4 t reading host turns input' line' kept' out' sessions' streams' objects' held' parts' lengths' rebuilt' hours' windows' packed') (⋆ 𝓛 (At-4 reading host turns input' line' kept' out' sessions' streams' objects' held' parts' lengths' rebuilt' hours' windows' packed')))))) (via 𝓤 (ex 𝓤 (λ (windows' : List (List ℕ)). ex 𝓤 (λ (packed' : List (List ℕ)). guard 𝓤 (Facts-4 t reading host turns input' line' kept' out' sessions' streams' objects' held' parts' lengths' rebuilt' hours' windows' packed') (⋆ 𝓛 (At-4 reading host turns input' line' kept' out' sessions' streams' objects' held' parts' lengths' rebuilt' hours' windows' packed'))))) (via 𝓤 (ex 𝓤 (λ (packed' : List (List ℕ)). guard 𝓤 (Facts-4 t reading host turns input' line' kept' out' sessions' streams' objects' held' parts' lengths' rebuilt' hours' windows' packed') (⋆ 𝓛 (At-4 reading host turns input' line' kept' out' sessions' streams' objects' held' parts' lengths' rebuilt' hours' windows' packed')))) (via 𝓤 (guard 𝓤 (Facts-4 t reading host turns input' line' kept' out' sessions' streams' objects' held' parts' lengths' rebuilt' hours' windows' packed') (⋆ 𝓛 (At-4 reading host turns input' line' kept' out' sessions' streams' objects' held' parts' lengths' rebuilt' hours' windows' packed'))) (guard_i 𝓤 (Facts-4 t reading host turns input' line' kept' out' sessions' streams' objects' held' parts' lengths' rebuilt' hours' windows' packed') (⋆ 𝓛 (At-4 reading host turns input' line' kept' out' sessions' streams' objects' held' parts' lengths' rebuilt' hours' windows' packed')) fs) (ex_i 𝓤 (λ (packed' : List (List ℕ)). guard 𝓤 (Facts-4 t reading host turns input' line' kept' out' sessions' streams' objects' held' parts' lengths' rebuilt' hours' windows' packed') (⋆ 𝓛 (At-4 reading host turns input' line' kept' out' sessions' streams' objects' held' parts' lengths' rebuilt' hours' windows' packed'))) packed')) (ex_i 𝓤 (λ (windows' : List (List ℕ)). ex 𝓤 (λ (packed' : List (List ℕ)). guard 𝓤 (Facts-4 t reading host turns input' line' kept' out' sessions' streams' objects' held' parts' lengths' rebuilt' hours' windows' packed') (⋆ 𝓛 (At-4 reading host turns input' line' kept' out' sessions' streams' objects' held' parts' lengths' rebuilt' hours' windows' packed')))) windows')) (ex_i 𝓤 (λ (hours' : List ℕ). ex 𝓤 (λ (windows' : List (List ℕ)). ex 𝓤 (λ (packed' : List (List ℕ)). guard 𝓤 (Facts-4 t reading host turns input' line' kept' out' sessions' streams' objects' held' parts' lengths' rebuilt' hours' windows' packed') (⋆ 𝓛 (At-4 reading host turns input' line' kept' out' sessions' streams' objects' held' parts' lengths' rebuilt' hours' windows' packed'))))) hours')) (ex_i 𝓤 (λ (rebuilt' : List ℕ). ex 𝓤 (λ (hours' : List ℕ). ex 𝓤 (λ (windows' : List (List ℕ)). ex 𝓤 (λ (packed' : List (List ℕ)). guard 𝓤 (Facts-4 t reading host turns input' line' kept' out' sessions' streams' objects' held' parts' lengths' rebuilt' hours' windows' packed') (⋆ 𝓛 (At-4 reading host turns input' line' kept' out' sessions' streams' objects' held' parts' lengths' rebuilt' hours' windows' packed')))))) rebuilt')) (ex_i 𝓤 (λ (lengths' : List ℕ). ex 𝓤 (λ (rebuilt' : List ℕ). ex 𝓤 (λ (hours' : List ℕ). ex 𝓤 (λ (windows' : List (List ℕ)). ex 𝓤 (λ (packed' : List (List ℕ)). guard 𝓤 (Facts-4 t reading host turns input' line' kept' out' sessions' streams' objects' held' parts' lengths' rebuilt' hours' windows' packed') (⋆ 𝓛 (At-4 reading host turns input' line' kept' out' sessions' streams' objects' held' parts' lengths' rebuilt' hours' windows' packed'))))))) lengths')) (ex_i 𝓤 (λ (parts' : List ℕ). ex 𝓤 (λ (lengths' : List ℕ). ex 𝓤 (λ (rebuilt' : List ℕ). ex 𝓤 (λ (hours' : List ℕ). ex 𝓤 (λ (windows' : List (List ℕ)). ex 𝓤 (λ (packed' : List (List ℕ)). guard 𝓤 (Facts-4 t reading host turns input' line' kept' out' sessions' streams' objects' held' parts' lengths' rebuilt' hours' windows' packed') (⋆ 𝓛 (At-4 reading host turns input' line' kept' out' sessions' streams' objects' held' parts' lengths' rebuilt' hours' windows' packed')))))))) parts')) (ex_i 𝓤 (λ (held' : List ℕ). ex 𝓤 (λ (parts' : List ℕ). ex 𝓤 (λ (lengths' : List ℕ). ex 𝓤 (λ (rebuilt' : List ℕ). ex 𝓤 (λ (hours' : List ℕ). ex 𝓤 (λ (windows' : List (List ℕ)). ex 𝓤 (λ (packed' : List (List ℕ)). guard 𝓤 (Facts-4 t reading host turns input' line' kept' out' sessions' streams' objects' held' parts' lengths' rebuilt' hours' windows' packed') (⋆ 𝓛 (At-4 reading host turns input' line' kept' out' sessions' streams' objects' held' parts' lengths' rebuilt' hours' windows' packed'))))))))) held')) (ex_i 𝓤 (λ (objects' : List Object). ex 𝓤 (λ (held' : List ℕ). ex 𝓤 (λ (parts' : List ℕ). ex 𝓤 (λ (lengths' : List ℕ). ex 𝓤 (λ (rebuilt' : List ℕ). ex 𝓤 (λ (hours' : List ℕ). ex 𝓤 (λ (windows' : List (List ℕ)). ex 𝓤 (λ (packed' : List (List ℕ)). guard 𝓤 (Facts-4 t reading host turns input' line' kept' out' sessions' streams' objects' held' parts' lengths' rebuilt' hours' windows' packed') (⋆ 𝓛 (At-4 reading host turns input' line' kept' out' sessions' streams' objects' held' parts' lengths' rebuilt' hours' windows' packed')))))))))) objects')) (ex_i 𝓤 (λ (streams' : List (List ℕ)). ex 𝓤 (λ (objects' : List Object). ex 𝓤 (λ (held' : List ℕ). ex 𝓤 (λ (parts' : List ℕ). ex 𝓤 (λ (lengths' : List ℕ). ex 𝓤 (λ (rebuilt' : List ℕ). ex 𝓤 (λ (hours' : List ℕ). ex 𝓤 (λ (windows' : List (List ℕ)). ex 𝓤 (λ (packed' : List (List ℕ)). guard 𝓤 (Facts-4 t reading host turns input' line' kept' out' sessions' streams' objects' held' parts' lengths' rebuilt' hours' windows' packed') (⋆ 𝓛 (At-4 reading host turns input' line' kept' out' sessions' streams' objects' held' parts' lengths' rebuilt' hours' windows' packed'))))))))))) streams')) (ex_i 𝓤 (λ (sessions' : List (List ℕ)). ex 𝓤 (λ (streams' : List (List ℕ)). ex 𝓤 (λ (objects' : List Object). ex 𝓤 (λ (held' : List ℕ). ex 𝓤 (λ (parts' : List ℕ). ex 𝓤 (λ (lengths' : List ℕ). ex 𝓤 (λ (rebuilt' : List ℕ). ex 𝓤 (λ (hours' : List ℕ). ex 𝓤 (λ (windows' : List (List ℕ)). ex 𝓤 (λ (packed' : List (List ℕ)). guard 𝓤 (Facts-4 t reading host turns input' line' kept' out' sessions' streams' objects' held' parts' lengths' rebuilt' hours' windows' packed') (⋆ 𝓛 (At-4 reading host turns input' line' kept' out' sessions' streams' objects' held' parts' lengths' rebuilt' hours' windows' packed')))))))))))) sessions')) (ex_i 𝓤 (λ (out' : List ℕ). ex 𝓤 (λ (sessions' : List (List ℕ)). ex 𝓤 (λ (streams' : List (List ℕ)). ex 𝓤 (λ (objects' : List Object). ex 𝓤 (λ (held' : List ℕ). ex 𝓤 (λ (parts' : List ℕ). ex 𝓤 (λ (lengths' : List ℕ). ex 𝓤 (λ (rebuilt' : List ℕ). ex 𝓤 (λ (hours' : List ℕ). ex 𝓤 (λ (windows' : List (List ℕ)). ex 𝓤 (λ (packed' : List (List ℕ)). guard 𝓤 (Facts-4 t reading host turns input' line' kept' out' sessions' streams' objects' held' parts' lengths' rebuilt' hours' windows' packed') (⋆ 𝓛 (At-4 reading host turns input' line' kept' out' sessions' streams' objects' held' parts' lengths' rebuilt' hours' windows' packed'))))))))))))) out')) (ex_i 𝓤 (λ (kept' : List ℕ). ex 𝓤 (λ (out' : List ℕ). ex 𝓤 (λ (sessions' : List (List ℕ)). ex 𝓤 (λ (streams' : List (List ℕ)). ex 𝓤 (λ (objects' : List Object). ex 𝓤 (λ (held' : List ℕ). ex 𝓤 (λ (parts' : List ℕ). ex 𝓤 (λ (lengths' : List ℕ). ex 𝓤 (λ (rebuilt' : List ℕ). ex 𝓤 (λ (hours' : List ℕ). ex 𝓤 (λ (windows' : List (List ℕ)). ex 𝓤 (λ (packed' : List (List ℕ)). guard 𝓤 (Facts-4 t reading host turns input' line' kept' out' sessions' streams' objects' held' parts' lengths' rebuilt' hours' windows' packed') (⋆ 𝓛 (At-4 reading host turns input' line' kept' out' sessions' streams' objects' held' parts' lengths' rebuilt' hours' windows' packed')))))))))))))) kept')) (ex_i 𝓤 (λ (line' : List ℕ). ex 𝓤 (λ (kept' : List ℕ). ex 𝓤 (λ (out' : List ℕ). ex 𝓤 (λ (sessions' : List (List ℕ)). ex 𝓤 (λ (streams' : List (List ℕ)). ex 𝓤 (λ (objects' : List Object). ex 𝓤 (λ (held' : List ℕ). ex 𝓤 (λ (parts' : List ℕ). ex 𝓤 (λ (lengths' : List ℕ). ex 𝓤 (λ (rebuilt' : List ℕ). ex 𝓤 (λ (hours' : List ℕ). ex 𝓤 (λ (windows' : List (List ℕ)). ex 𝓤 (λ (packed' : List (List ℕ)). guard 𝓤 (Facts-4 t reading host turns input' line' kept' out' sessions' streams' objects' held' parts' lengths' rebuilt' hours' windows' packed') (⋆ 𝓛 (At-4 reading host turns input' line' kept' out' sessions' streams' objects' held' parts' lengths' rebuilt' hours' windows' packed'))))))))))))))) line')) (ex_i 𝓤 (λ (input' : List ℕ). ex 𝓤 (λ (line' : List ℕ). ex 𝓤 (λ (kept' : List ℕ). ex 𝓤 (λ (out' : List ℕ). ex 𝓤 (λ (sessions' : List (List ℕ)). ex 𝓤 (λ (streams' : List (List ℕ)). ex 𝓤 (λ (objects' : List Object). ex 𝓤 (λ (held' : List ℕ). ex 𝓤 (λ (parts' : List ℕ). ex 𝓤 (λ (lengths' : List ℕ). ex 𝓤 (λ (rebuilt' : List ℕ). ex 𝓤 (λ (hours' : List ℕ). ex 𝓤 (λ (windows' : List (List ℕ)). ex 𝓤 (λ (packed' : List (List ℕ)). guard 𝓤 (Facts-4 t reading host turns input' line' kept' out' sessions' streams' objects' held' parts' lengths' rebuilt' hours' windows' packed') (⋆ 𝓛 (At-4 reading host turns input' line' kept' out' sessions' streams' objects' held' parts' lengths' rebuilt' hours' windows' packed')))))))))))))))) input')) (ex_i 𝓤 (λ (turns : ℕ). ex 𝓤 (λ (input' : List ℕ). ex 𝓤 (λ (line' : List ℕ). ex 𝓤 (λ (kept' : List ℕ). ex 𝓤 (λ (out' : List ℕ). ex 𝓤 (λ (sessions' : List (List ℕ)). ex 𝓤 (λ (streams' : List (List ℕ)). ex 𝓤 (λ (objects' : List Object). ex 𝓤 (λ (held' : List ℕ). ex 𝓤 (λ (parts' : List ℕ). ex 𝓤 (λ (lengths' : List ℕ). ex 𝓤 (λ (rebuilt' : List ℕ). ex 𝓤 (λ (hours' : List ℕ). ex 𝓤 (λ (windows' : List (List ℕ)). ex 𝓤 (λ (packed' : List (List ℕ)). guard 𝓤 (Facts-4 t reading host turns input' line' kept' out' sessions' streams' objects' held' parts' lengths' rebuilt' hours' windows' packed') (⋆ 𝓛 (At-4 reading host turns input' line' kept' out' sessions' streams' objects' held' parts' lengths' rebuilt' hours' windows' packed'))))))))))))))))) turns)) (ex_i 𝓤 (λ (host : Host). ex 𝓤 (λ (turns : ℕ). ex 𝓤 (λ (input' : List ℕ). ex 𝓤 (λ (line' : List ℕ). ex 𝓤 (λ (kept' : List ℕ). ex 𝓤 (λ (out' : List ℕ). ex 𝓤 (λ (sessions' : List (List ℕ)). ex 𝓤 (λ (streams' : List (List ℕ)). ex 𝓤 (λ (objects' : List Object). ex 𝓤 (λ (held' : List ℕ). ex 𝓤 (λ (parts' : List ℕ). ex 𝓤 (λ (lengths' : List ℕ). ex 𝓤 (λ (rebuilt' : List ℕ). ex 𝓤 (λ (hours' : List ℕ). ex 𝓤 (λ (windows' : List (List ℕ)). ex 𝓤 (λ (packed' : List (List ℕ)). guard 𝓤 (Facts-4 t reading host turns input' line' kept' out' sessions' streams' objects' held' parts' lengths' rebuilt' hours' windows' packed') (⋆ 𝓛 (At-4 reading host turns input' line' kept' out' sessions' streams' objects' held' parts' lengths' rebuilt' hours' windows' packed')))))))))))))))))) host)) (ex_i 𝓤 (λ (reading : Reading). ex 𝓤 (λ (host : Host). ex 𝓤 (λ (turns : ℕ). ex 𝓤 (λ (input' : List ℕ). ex 𝓤 (λ (line' : List ℕ). ex 𝓤 (λ (kept' : List ℕ). ex 𝓤 (λ (out' : List ℕ). ex 𝓤 (λ (sessions' : List (List ℕ)). ex 𝓤 (λ (streams' : List (List ℕ)). ex 𝓤 (λ (objects' : List Object). ex 𝓤 (λ (held' : List ℕ). ex 𝓤 (λ (parts' : List ℕ). ex 𝓤 (λ (lengths' : List ℕ). ex 𝓤 (λ (rebuilt' : List ℕ). ex 𝓤 (λ (hours' : List ℕ). ex 𝓤 (λ (windows' : List (List ℕ)). ex 𝓤 (λ (packed' : List (List ℕ)). guard 𝓤 (Facts-4 t reading host turns input' line' kept' out' sessions' streams' objects' held' parts' lengths' rebuilt' hours' windows' packed') (⋆ 𝓛 (At-4 reading host turns input' line' kept' out' sessions' streams' objects' held' parts' lengths' rebuilt' hours' windows' packed'))))))))))))))))))) reading)
 
-      again-4 : (t : ℕ) → (reading : Reading) → (host : Host) → (turns : ℕ) → (input' : List ℕ) → (line' : List ℕ) → (kept' : List ℕ) → (out' : List ℕ) → (sessions' : List (List ℕ)) → (streams' : List (List ℕ)) → (objects' : List Object) → (held' : List ℕ) → (parts' : List ℕ) → (lengths' : List ℕ) → (rebuilt' : List ℕ) → (hours' : List ℕ) → (windows' : List (List ℕ)) → (packed' : List (List ℕ)) → (reading-is : Is Reading-p.row reading (Reading-p.val reading ∷ [])) → (host-is : Is Host-p.row host (Host-p.val host ∷ [])) → (turns-is : Is u64_p.row turns (u64_p.val turns ∷ [])) → (input'-len : length input' ≡ n₁) → (line'-len : length line' ≡ n₂) → (kept'-len : length kept' ≡ n₃) → (out'-len : length out' ≡ n₄) → (sessions'-len : length sessions' ≡ n₅) → (streams'-len : length streams' ≡ n₆) → (objects'-len : length objects' ≡ n₇) → (held'-len : length held' ≡ n₈) → (parts'-len : length parts' ≡ n₉) → (lengths'-len : length lengths' ≡ n₁₀) → (rebuilt'-len : length rebuilt' ≡ n₁₁) → (hours'-len : length hours' ≡ n₁₂) → (windows'-len : length windows' ≡ n₁₃) → (packed'-len : length packed' ≡ n₁₄) → (Unit {0}) → (turns < t) → ent 𝓤 (⋆ 𝓛 (At-4 reading host turns input' line' kept' out' sessions' streams' objects' held' parts' lengths' rebuilt' hours' windows' packed')) (Below-4 t)
-      again-4 t reading host turns input' line' kept' out' sessions' streams' objects' held' parts' lengths' rebuilt' hours' windows' packed' reading-is host-is turns-is input'-len line'-len kept'-len out'-len sessions'-len streams'-len objects'-len held'-len parts'-len lengths'-len rebuilt'-len hours'-len windows'-len packed'-len inv less = via 𝓤 (Inv-4 turns) (inv-at-4 turns reading host turns input' line' kept' out' sessions' streams' objects' held' parts' lengths' rebuilt' hours' windows' packed' (refl, reading-is, host-is, turns-is, input'-len, line'-len, kept'-len, out'-len, sessions'-len, streams'-len, objects'-len, held'-len, parts'-len, lengths'-len, rebuilt'-len, hours'-len, windows'-len, packed'-len, inv)) (via 𝓤 (guard 𝓤 (turns < t) (Inv-4 turns)) (guard_i 𝓤 (turns < t) (Inv-4 turns) less) (ex_i 𝓤 (λ (u : ℕ). guard 𝓤 (u < t) (Inv-4 u)) turns))
+      again_4 : (t : ℕ) → (reading : Reading) → (host : Host) → (turns : ℕ) → (input' : List ℕ) → (line' : List ℕ) → (kept' : List ℕ) → (out' : List ℕ) → (sessions' : List (List ℕ)) → (streams' : List (List ℕ)) → (objects' : List Object) → (held' : List ℕ) → (parts' : List ℕ) → (lengths' : List ℕ) → (rebuilt' : List ℕ) → (hours' : List ℕ) → (windows' : List (List ℕ)) → (packed' : List (List ℕ)) → (reading-is : Is Reading-p.row reading (Reading-p.val reading ∷ [])) → (host-is : Is Host-p.row host (Host-p.val host ∷ [])) → (turns-is : Is u64_p.row turns (u64_p.val turns ∷ [])) → (input'-len : length input' ≡ n₁) → (line'-len : length line' ≡ n₂) → (kept'-len : length kept' ≡ n₃) → (out'-len : length out' ≡ n₄) → (sessions'-len : length sessions' ≡ n₅) → (streams'-len : length streams' ≡ n₆) → (objects'-len : length objects' ≡ n₇) → (held'-len : length held' ≡ n₈) → (parts'-len : length parts' ≡ n₉) → (lengths'-len : length lengths' ≡ n₁₀) → (rebuilt'-len : length rebuilt' ≡ n₁₁) → (hours'-len : length hours' ≡ n₁₂) → (windows'-len : length windows' ≡ n₁₃) → (packed'-len : length packed' ≡ n₁₄) → (Unit {0}) → (turns < t) → ent 𝓤 (⋆ 𝓛 (At-4 reading host turns input' line' kept' out' sessions' streams' objects' held' parts' lengths' rebuilt' hours' windows' packed')) (Below-4 t)
+      again_4 t reading host turns input' line' kept' out' sessions' streams' objects' held' parts' lengths' rebuilt' hours' windows' packed' reading-is host-is turns-is input'-len line'-len kept'-len out'-len sessions'-len streams'-len objects'-len held'-len parts'-len lengths'-len rebuilt'-len hours'-len windows'-len packed'-len inv less = via 𝓤 (Inv-4 turns) (inv_at_4 turns reading host turns input' line' kept' out' sessions' streams' objects' held' parts' lengths' rebuilt' hours' windows' packed' (refl, reading-is, host-is, turns-is, input'-len, line'-len, kept'-len, out'-len, sessions'-len, streams'-len, objects'-len, held'-len, parts'-len, lengths'-len, rebuilt'-len, hours'-len, windows'-len, packed'-len, inv)) (via 𝓤 (guard 𝓤 (turns < t) (Inv-4 turns)) (guard_i 𝓤 (turns < t) (Inv-4 turns) less) (ex_i 𝓤 (λ (u : ℕ). guard 𝓤 (u < t) (Inv-4 u)) turns))
 
       part-4·44-8 : (reading : Reading) → (host : Host) → (turns : ℕ) → (input' : List ℕ) → (line' : List ℕ) → (kept' : List ℕ) → (out' : List ℕ) → (sessions' : List (List ℕ)) → (streams' : List (List ℕ)) → (objects' : List Object) → (held' : List ℕ) → (parts' : List ℕ) → (lengths' : List ℕ) → (rebuilt' : List ℕ) → (hours' : List ℕ) → (windows' : List (List ℕ)) → (packed' : List (List ℕ)) → (t-4 : ℕ) → (reading-is : Is Reading-p.row reading (Reading-p.val reading ∷ [])) → (host-is : Is Host-p.row host (Host-p.val host ∷ [])) → (turns-is : Is u64_p.row turns (u64_p.val turns ∷ [])) → (input'-len : length input' ≡ n₁) → (line'-len : length line' ≡ n₂) → (kept'-len : length kept' ≡ n₃) → (out'-len : length out' ≡ n₄) → (sessions'-len : length sessions' ≡ n₅) → (streams'-len : length streams' ≡ n₆) → (objects'-len : length objects' ≡ n₇) → (held'-len : length held' ≡ n₈) → (parts'-len : length parts' ≡ n₉) → (lengths'-len : length lengths' ≡ n₁₀) → (rebuilt'-len : length rebuilt' ≡ n₁₁) → (hours'-len : length hours' ≡ n₁₂) → (windows'-len : length windows' ≡ n₁₃) → (packed'-len : length packed' ≡ n₁₄) → (t-is-4 : t-4 ≡ turns) → (inv-4 : Unit {0}) → (c-4·2 : ltb 0 turns ≡ true) → (r-4·7 : Reading-p.row.Denot) → (ν-4·7-input : ℕ) → (δ-4·7-input : GName) → (ν-4·7-line : ℕ) → (δ-4·7-line : GName) → (ws-4·7 : Fins ((ν-4·7-input ∷ []), ((ν-4·7-line ∷ []), tt)) (reading-read-line.signature).params (reading-read-line.ended).kept (at_list b₁ o₁ δ-4·7-input input', (at_list b₂ o₂ δ-4·7-line line', (reading, tt)))) → (len-4·7-input : length ws-4·7.0 ≡ n₁) → (len-4·7-line : length ws-4·7.1.0 ≡ n₂) → (is-4·7 : Is Reading-p.row r-4·7 (Reading-p.val r-4·7 ∷ [])) → (c-4·10 : not r-4·7.any ≡ false) → (r-4·16 : Command-p.row.Denot) → (ν-4·16-line : ℕ) → (δ-4·16-line : GName) → (ν-4·16-windows : ℕ) → (δ-4·16-windows : GName) → (ws-4·16 : Fins ((ν-4·16-line ∷ []), ((ν-4·16-windows ∷ []), tt)) (command-parse.signature).params (command-parse.ended).kept (at_list b₂ o₂ δ-4·16-line ws-4·7.1.0, (at_list b₁₃ o₁₃ δ-4·16-windows windows', (r-4·7, (host.ready, tt))))) → (len-4·16-line : length ws-4·16.0 ≡ n₂) → (len-4·16-windows : length ws-4·16.1.0 ≡ n₁₃) → (is-4·16 : Is Command-p.row r-4·16 (Command-p.val r-4·16 ∷ [])) → (r-4·43 : Host-p.row.Denot) → (ν-4·43-sessions : ℕ) → (δ-4·43-sessions : GName) → (ν-4·43-streams : ℕ) → (δ-4·43-streams : GName) → (ν-4·43-objects : ℕ) → (δ-4·43-objects : GName) → (ν-4·43-held : ℕ) → (δ-4·43-held : GName) → (ν-4·43-parts : ℕ) → (δ-4·43-parts : GName) → (ν-4·43-lengths : ℕ) → (δ-4·43-lengths : GName) → (ν-4·43-rebuilt : ℕ) → (δ-4·43-rebuilt : GName) → (ν-4·43-hours : ℕ) → (δ-4·43-hours : GName) → (ν-4·43-windows : ℕ) → (δ-4·43-windows : GName) → (ν-4·43-out : ℕ) → (δ-4·43-out : GName) → (ν-4·43-line : ℕ) → (δ-4·43-line : GName) → (ν-4·43-kept : ℕ) → (δ-4·43-kept : GName) → (ν-4·43-packed : ℕ) → (δ-4·43-packed : GName) → (ws-4·43 : Fins ((ν-4·43-sessions ∷ []), ((ν-4·43-streams ∷ []), ((ν-4·43-objects ∷ []), ((ν-4·43-held ∷ []), ((ν-4·43-parts ∷ []), ((ν-4·43-lengths ∷ []), ((ν-4·43-rebuilt ∷ []), ((ν-4·43-hours ∷ []), ((ν-4·43-windows ∷ []), ((ν-4·43-out ∷ []), ((ν-4·43-line ∷ []), ((ν-4·43-kept ∷ []), ((ν-4·43-packed ∷ []), tt))))))))))))) (events-event.signature).params (events-event.ended).kept (at_list b₅ o₅ δ-4·43-sessions sessions', (at_list b₆ o₆ δ-4·43-streams streams', (at_list b₇ o₇ δ-4·43-objects objects', (at_list b₈ o₈ δ-4·43-held held', (at_list b₉ o₉ δ-4·43-parts parts', (at_list b₁₀ o₁₀ δ-4·43-lengths lengths', (at_list b₁₁ o₁₁ δ-4·43-rebuilt rebuilt', (at_list b₁₂ o₁₂ δ-4·43-hours hours', (at_list b₁₃ o₁₃ δ-4·43-windows ws-4·16.1.0, (at_list b₄ o₄ δ-4·43-out out', (at_list b₂ o₂ δ-4·43-line ws-4·16.0, (at_list b₃ o₃ δ-4·43-kept kept', (at_list b₁₄ o₁₄ δ-4·43-packed packed', (host, (r-4·16, tt)))))))))))))))) → (len-4·43-sessions : length ws-4·43.0 ≡ n₅) → (len-4·43-streams : length ws-4·43.1.0 ≡ n₆) → (len-4·43-objects : length ws-4·43.1.1.0 ≡ n₇) → (len-4·43-held : length ws-4·43.1.1.1.0 ≡ n₈) → (len-4·43-parts : length ws-4·43.1.1.1.1.0 ≡ n₉) → (len-4·43-lengths : length ws-4·43.1.1.1.1.1.0 ≡ n₁₀) → (len-4·43-rebuilt : length ws-4·43.1.1.1.1.1.1.0 ≡ n₁₁) → (len-4·43-hours : length ws-4·43.1.1.1.1.1.1.1.0 ≡ n₁₂) → (len-4·43-windows : length ws-4·43.1.1.1.1.1.1.1.1.0 ≡ n₁₃) → (len-4·43-out : length ws-4·43.1.1.1.1.1.1.1.1.1.0 ≡ n₄) → (len-4·43-kept : length ws-4·43.1.1.1.1.1.1.1.1.1.1.1.0 ≡ n₃) → (len-4·43-packed : length ws-4·43.1.1.1.1.1.1.1.1.1.1.1.1.0 ≡ n₁₄) → (is-4·43 : Is Host-p.row r-4·43 (Host-p.val r-4·43 ∷ [])) → Sq 𝓛 (‵ ((MutSlice (named 0) κ₁ u8).own_val (at_list b₁ o₁ γ₁ ws-4·7.0) (slice_val (b₁, o₁) n₁ ∷ [])) ∷ ‵ (flft κ₁ q₁) ∷ ‵ ((MutSlice (named 0) κ₂ u8).own_val (at_list b₂ o₂ γ₂ ws-4·16.0) (slice_val (b₂, o₂) n₂ ∷ [])) ∷ ‵ (flft κ₂ q₂) ∷ ‵ ((MutSlice (named 0) κ₃ u8).own_val (at_list b₃ o₃ γ₃ ws-4·43.1.1.1.1.1.1.1.1.1.1.1.0) (slice_val (b₃, o₃) n₃ ∷ [])) ∷ ‵ (flft κ₃ q₃) ∷ ‵ ((MutSlice (named 0) κ₄ u8).own_val (at_list b₄ o₄ γ₄ ws-4·43.1.1.1.1.1.1.1.1.1.0) (slice_val (b₄, o₄) n₄ ∷ [])) ∷ ‵ (flft κ₄ q₄) ∷ ‵ ((MutSlice (named 0) κ₅ (Array u64 8)).own_val (at_list b₅ o₅ γ₅ ws-4·43.0) (slice_val (b₅, o₅) n₅ ∷ [])) ∷ ‵ (flft κ₅ q₅) ∷ ‵ ((MutSlice (named 0) κ₆ (Array u16 35)).own_val (at_list b₆ o₆ γ₆ ws-4·43.1.0) (slice_val (b₆, o₆) n₆ ∷ [])) ∷ ‵ (flft κ₆ q₆) ∷ ‵ ((MutSlice (named 0) κ₇ Object-t.the_row).own_val (at_list b₇ o₇ γ₇ ws-4·43.1.1.0) (slice_val (b₇, o₇) n₇ ∷ [])) ∷ ‵ (flft κ₇ q₇) ∷ ‵ ((MutSlice (named 0) κ₈ u8).own_val (at_list b₈ o₈ γ₈ ws-4·43.1.1.1.0) (slice_val (b₈, o₈) n₈ ∷ [])) ∷ ‵ (flft κ₈ q₈) ∷ ‵ ((MutSlice (named 0) κ₉ u8).own_val (at_list b₉ o₉ γ₉ ws-4·43.1.1.1.1.0) (slice_val (b₉, o₉) n₉ ∷ [])) ∷ ‵ (flft κ₉ q₉) ∷ ‵ ((MutSlice (named 0) κ₁₀ u32).own_val (at_list b₁₀ o₁₀ γ₁₀ ws-4·43.1.1.1.1.1.0) (slice_val (b₁₀, o₁₀) n₁₀ ∷ [])) ∷ ‵ (flft κ₁₀ q₁₀) ∷ ‵ ((MutSlice (named 0) κ₁₁ u8).own_val (at_list b₁₁ o₁₁ γ₁₁ ws-4·43.1.1.1.1.1.1.0) (slice_val (b₁₁, o₁₁) n₁₁ ∷ [])) ∷ ‵ (flft κ₁₁ q₁₁) ∷ ‵ ((MutSlice (named 0) κ₁₂ u8).own_val (at_list b₁₂ o₁₂ γ₁₂ ws-4·43.1.1.1.1.1.1.1.0) (slice_val (b₁₂, o₁₂) n₁₂ ∷ [])) ∷ ‵ (flft κ₁₂ q₁₂) ∷ ‵ ((MutSlice (named 0) κ₁₃ (Array u16 3)).own_val (at_list b₁₃ o₁₃ γ₁₃ ws-4·43.1.1.1.1.1.1.1.1.0) (slice_val (b₁₃, o₁₃) n₁₃ ∷ [])) ∷ ‵ (flft κ₁₃ q₁₃) ∷ ‵ ((MutSlice (named 0) κ₁₄ (Array u64 2)).own_val (at_list b₁₄ o₁₄ γ₁₄ ws-4·43.1.1.1.1.1.1.1.1.1.1.1.1.0) (slice_val (b₁₄, o₁₄) n₁₄ ∷ [])) ∷ ‵ (flft κ₁₄ q₁₄) ∷ full 𝓤 (slice_ty (ty_ref erased mut (pointee (Array u64 2).written))) l₅₅ (slice_val (b₁₄, o₁₄) n₁₄) (full 𝓤 (ty_ref erased mut (pointee (Array u64 2).written)) l₅₄ (vptr b₁₄ o₁₄) (full 𝓤 (slice_ty (ty_ref erased mut (pointee u8.written))) l₅₃ (slice_val (b₃, o₃) n₃) (full 𝓤 (ty_ref erased mut (pointee u8.written)) l₅₂ (vptr b₃ o₃) (full 𝓤 (slice_ty (ty_ref erased imm (pointee u8.written))) l₅₁ (slice_val (b₂, o₂) n₂) (full 𝓤 (ty_ref erased imm (pointee u8.written)) l₅₀ (vptr b₂ o₂) (full 𝓤 (slice_ty (ty_ref erased mut (pointee u8.written))) l₄₉ (slice_val (b₄, o₄) n₄) (full 𝓤 (ty_ref erased mut (pointee u8.written)) l₄₈ (vptr b₄ o₄) (full 𝓤 (slice_ty (ty_ref erased mut (pointee (Array u16 3).written))) l₄₇ (slice_val (b₁₃, o₁₃) n₁₃) (full 𝓤 (ty_ref erased mut (pointee (Array u16 3).written)) l₄₆ (vptr b₁₃ o₁₃) (full 𝓤 (slice_ty (ty_ref erased mut (pointee u8.written))) l₄₅ (slice_val (b₁₂, o₁₂) n₁₂) (full 𝓤 (ty_ref erased mut (pointee u8.written)) l₄₄ (vptr b₁₂ o₁₂) (full 𝓤 (slice_ty (ty_ref erased mut (pointee u8.written))) l₄₃ (slice_val (b₁₁, o₁₁) n₁₁) (full 𝓤 (ty_ref erased mut (pointee u8.written)) l₄₂ (vptr b₁₁ o₁₁) (full 𝓤 (slice_ty (ty_ref erased mut (pointee u32.written))) l₄₁ (slice_val (b₁₀, o₁₀) n₁₀) (full 𝓤 (ty_ref erased mut (pointee u32.written)) l₄₀ (vptr b₁₀ o₁₀) (full 𝓤 (slice_ty (ty_ref erased mut (pointee u8.written))) l₃₉ (slice_val (b₉, o₉) n₉) (full 𝓤 (ty_ref erased mut (pointee u8.written)) l₃₈ (vptr b₉ o₉) (full 𝓤 (slice_ty (ty_ref erased mut (pointee u8.written))) l₃₇ (slice_val (b₈, o₈) n₈) (full 𝓤 (ty_ref erased mut (pointee u8.written)) l₃₆ (vptr b₈ o₈) (full 𝓤 (slice_ty (ty_ref erased mut (pointee (Object-t.the_row).written))) l₃₅ (slice_val (b₇, o₇) n₇) (full 𝓤 (ty_ref erased mut (pointee (Object-t.the_row).written)) l₃₄ (vptr b₇ o₇) (full 𝓤 (slice_ty (ty_ref erased mut (pointee (Array u16 35).written))) l₃₃ (slice_val (b₆, o₆) n₆) (full 𝓤 (ty_ref erased mut (pointee (Array u16 35).written)) l₃₂ (vptr b₆ o₆) (full 𝓤 (slice_ty (ty_ref erased mut (pointee (Array u64 8).written))) l₃₁ (slice_val (b₅, o₅) n₅) (full 𝓤 (ty_ref erased mut (pointee (Array u64 8).written)) l₃₀ (vptr b₅ o₅) (full 𝓤 (slice_ty (ty_ref erased mut (pointee (Array u16 3).written))) l₂₉ (slice_val (b₁₃, o₁₃) n₁₃) (full 𝓤 (ty_ref erased mut (pointee (Array u16 3).written)) l₂₈ (vptr b₁₃ o₁₃) (full 𝓤 (slice_ty (ty_ref erased mut (pointee u8.written))) l₂₇ (slice_val (b₂, o₂) n₂) (full 𝓤 (ty_ref erased mut (pointee u8.written)) l₂₆ (vptr b₂ o₂) (full 𝓤 (slice_ty (ty_ref erased mut (pointee u8.written))) l₂₅ (slice_val (b₂, o₂) n₂) (full 𝓤 (ty_ref erased mut (pointee u8.written)) l₂₄ (vptr b₂ o₂) (full 𝓤 (slice_ty (ty_ref erased mut (pointee u8.written))) l₂₃ (slice_val (b₁, o₁) n₁) (full 𝓤 (ty_ref erased mut (pointee u8.written)) l₂₂ (vptr b₁ o₁) (full 𝓤 ty_bool l₂₁ (bool_p.val (not r-4·7.any)) (full 𝓤 Command-l.mir l₂₀ (Command-p.val r-4·16) (full 𝓤 ty_bool l₁₉ (bool_p.val host.ready) (full 𝓤 ty_bool l₁₈ (bool_p.val r-4·7.any) (full 𝓤 (ty_int w64) l₁₇ (u64_p.val turns) (full 𝓤 Host-l.mir l₁₆ (Host-p.val r-4·43) (full 𝓤 Reading-l.mir l₁₅ (Reading-p.val r-4·7) (full 𝓤 (slice_ty (ty_ref (named 13) mut (pointee (Array u64 2).written))) l₁₄ (slice_val (b₁₄, o₁₄) n₁₄) (full 𝓤 (slice_ty (ty_ref (named 12) mut (pointee (Array u16 3).written))) l₁₃ (slice_val (b₁₃, o₁₃) n₁₃) (full 𝓤 (slice_ty (ty_ref (named 11) mut (pointee u8.written))) l₁₂ (slice_val (b₁₂, o₁₂) n₁₂) (full 𝓤 (slice_ty (ty_ref (named 10) mut (pointee u8.written))) l₁₁ (slice_val (b₁₁, o₁₁) n₁₁) (full 𝓤 (slice_ty (ty_ref (named 9) mut (pointee u32.written))) l₁₀ (slice_val (b₁₀, o₁₀) n₁₀) (full 𝓤 (slice_ty (ty_ref (named 8) mut (pointee u8.written))) l₉ (slice_val (b₉, o₉) n₉) (full 𝓤 (slice_ty (ty_ref (named 7) mut (pointee u8.written))) l₈ (slice_val (b₈, o₈) n₈) (full 𝓤 (slice_ty (ty_ref (named 6) mut (pointee (Object-t.the_row).written))) l₇ (slice_val (b₇, o₇) n₇) (full 𝓤 (slice_ty (ty_ref (named 5) mut (pointee (Array u16 35).written))) l₆ (slice_val (b₆, o₆) n₆) (full 𝓤 (slice_ty (ty_ref (named 4) mut (pointee (Array u64 8).written))) l₅ (slice_val (b₅, o₅) n₅) (full 𝓤 (slice_ty (ty_ref (named 3) mut (pointee u8.written))) l₄ (slice_val (b₄, o₄) n₄) (full 𝓤 (slice_ty (ty_ref (named 2) mut (pointee u8.written))) l₃ (slice_val (b₃, o₃) n₃) (full 𝓤 (slice_ty (ty_ref (named 1) mut (pointee u8.written))) l₂ (slice_val (b₂, o₂) n₂) (full 𝓤 (slice_ty (ty_ref (named 0) mut (pointee u8.written))) l₁ (slice_val (b₁, o₁) n₁) (free 𝓤 ty_unit l₀ ([]))))))))))))))))))))))))))))))))))))))))))))))))))))))))) (runs C Λ En (past 43 mir.turn-1) (any_q (after_turn 𝓤 H (Below-4 t-4) Left-4)))
       unfolding after_turn
@@ -294,7 +294,7 @@ module _ {M : Type 1} {𝓤 : Ura M} (𝓛 : Logic 𝓤) (mem : Memory → SProp
           knows ! (1 ≤ turns) (omega (arith, ltb-true, ltb-false, leb-true, leb-false, eqb-true, eqb-false)) (λ le-4·44.
           knows ! (turns - 1 < 2 ^ 64) (omega (arith, turns-is.1)) (λ fits-4·44.
           assigns_last ! (bin ! (load ! (from ! (stop !)) (look ! 104 refl)) (lit ! tt) (le-4·44)) (from ! (stop !)) (store ! 104 refl (u64_p.typed 𝓛 (turns - 1) ((refl, fits-4·44)))) $ forget ! 28 refl $ forget ! 30 refl $ forget ! 32 refl $ forget ! 34 refl $ forget ! 36 refl $ forget ! 38 refl $ forget ! 40 refl $ forget ! 42 refl $ forget ! 44 refl $ forget ! 46 refl $ forget ! 48 refl $ forget ! 50 refl $ forget ! 52 refl $ forget ! 54 refl $ forget ! 56 refl $ forget ! 58 refl $ forget ! 60 refl $ forget ! 62 refl $ forget ! 64 refl $ forget ! 66 refl $ forget ! 68 refl $ forget ! 70 refl $ forget ! 72 refl $ forget ! 74 refl $ forget ! 76 refl $ forget ! 78 refl $ forget ! 80 refl $ forget ! 82 refl $ forget ! 84 refl $ forget ! 86 refl $ forget ! 88 refl $ forget ! 90 refl $ forget ! 92 refl $ forget ! 94 refl $ forget ! 96 refl $ forget ! 98 refl $ forget ! 100 refl $ forget ! 102 refl $
-          by ! (again-4 t-4 r-4·7 r-4·43 (turns - 1) ws-4·7.0 ws-4·16.0 ws-4·43.1.1.1.1.1.1.1.1.1.1.1.0 ws-4·43.1.1.1.1.1.1.1.1.1.0 ws-4·43.0 ws-4·43.1.0 ws-4·43.1.1.0 ws-4·43.1.1.1.0 ws-4·43.1.1.1.1.0 ws-4·43.1.1.1.1.1.0 ws-4·43.1.1.1.1.1.1.0 ws-4·43.1.1.1.1.1.1.1.0 ws-4·43.1.1.1.1.1.1.1.1.0 ws-4·43.1.1.1.1.1.1.1.1.1.1.1.1.0 is-4·7 is-4·43 ((refl, fits-4·44)) len-4·7-input len-4·16-line len-4·43-kept len-4·43-out len-4·43-sessions len-4·43-streams len-4·43-objects len-4·43-held len-4·43-parts len-4·43-lengths len-4·43-rebuilt len-4·43-hours len-4·43-windows len-4·43-packed (tt) (omega (arith, ltb-true, ltb-false, leb-true, leb-false, eqb-true, eqb-false)))))
+          by ! (again_4 t-4 r-4·7 r-4·43 (turns - 1) ws-4·7.0 ws-4·16.0 ws-4·43.1.1.1.1.1.1.1.1.1.1.1.0 ws-4·43.1.1.1.1.1.1.1.1.1.0 ws-4·43.0 ws-4·43.1.0 ws-4·43.1.1.0 ws-4·43.1.1.1.0 ws-4·43.1.1.1.1.0 ws-4·43.1.1.1.1.1.0 ws-4·43.1.1.1.1.1.1.0 ws-4·43.1.1.1.1.1.1.1.0 ws-4·43.1.1.1.1.1.1.1.1.0 ws-4·43.1.1.1.1.1.1.1.1.1.1.1.1.0 is-4·7 is-4·43 ((refl, fits-4·44)) len-4·7-input len-4·16-line len-4·43-kept len-4·43-out len-4·43-sessions len-4·43-streams len-4·43-objects len-4·43-held len-4·43-parts len-4·43-lengths len-4·43-rebuilt len-4·43-hours len-4·43-windows len-4·43-packed (tt) (omega (arith, ltb-true, ltb-false, leb-true, leb-false, eqb-true, eqb-false)))))
 
       part-4·17-8 : (reading : Reading) → (host : Host) → (turns : ℕ) → (input' : List ℕ) → (line' : List ℕ) → (kept' : List ℕ) → (out' : List ℕ) → (sessions' : List (List ℕ)) → (streams' : List (List ℕ)) → (objects' : List Object) → (held' : List ℕ) → (parts' : List ℕ) → (lengths' : List ℕ) → (rebuilt' : List ℕ) → (hours' : List ℕ) → (windows' : List (List ℕ)) → (packed' : List (List ℕ)) → (t-4 : ℕ) → (reading-is : Is Reading-p.row reading (Reading-p.val reading ∷ [])) → (host-is : Is Host-p.row host (Host-p.val host ∷ [])) → (turns-is : Is u64_p.row turns (u64_p.val turns ∷ [])) → (input'-len : length input' ≡ n₁) → (line'-len : length line' ≡ n₂) → (kept'-len : length kept' ≡ n₃) → (out'-len : length out' ≡ n₄) → (sessions'-len : length sessions' ≡ n₅) → (streams'-len : length streams' ≡ n₆) → (objects'-len : length objects' ≡ n₇) → (held'-len : length held' ≡ n₈) → (parts'-len : length parts' ≡ n₉) → (lengths'-len : length lengths' ≡ n₁₀) → (rebuilt'-len : length rebuilt' ≡ n₁₁) → (hours'-len : length hours' ≡ n₁₂) → (windows'-len : length windows' ≡ n₁₃) → (packed'-len : length packed' ≡ n₁₄) → (t-is-4 : t-4 ≡ turns) → (inv-4 : Unit {0}) → (c-4·2 : ltb 0 turns ≡ true) → (r-4·7 : Reading-p.row.Denot) → (ν-4·7-input : ℕ) → (δ-4·7-input : GName) → (ν-4·7-line : ℕ) → (δ-4·7-line : GName) → (ws-4·7 : Fins ((ν-4·7-input ∷ []), ((ν-4·7-line ∷ []), tt)) (reading-read-line.signature).params (reading-read-line.ended).kept (at_list b₁ o₁ δ-4·7-input input', (at_list b₂ o₂ δ-4·7-line line', (reading, tt)))) → (len-4·7-input : length ws-4·7.0 ≡ n₁) → (len-4·7-line : length ws-4·7.1.0 ≡ n₂) → (is-4·7 : Is Reading-p.row r-4·7 (Reading-p.val r-4·7 ∷ [])) → (c-4·10 : not r-4·7.any ≡ false) → (r-4·16 : Command-p.row.Denot) → (ν-4·16-line : ℕ) → (δ-4·16-line : GName) → (ν-4·16-windows : ℕ) → (δ-4·16-windows : GName) → (ws-4·16 : Fins ((ν-4·16-line ∷ []), ((ν-4·16-windows ∷ []), tt)) (command-parse.signature).params (command-parse.ended).kept (at_list b₂ o₂ δ-4·16-line ws-4·7.1.0, (at_list b₁₃ o₁₃ δ-4·16-windows windows', (r-4·7, (host.ready, tt))))) → (len-4·16-line : length ws-4·16.0 ≡ n₂) → (len-4·16-windows : length ws-4·16.1.0 ≡ n₁₃) → (is-4·16 : Is Command-p.row r-4·16 (Command-p.val r-4·16 ∷ [])) → Sq 𝓛 (‵ ((MutSlice (named 0) κ₁ u8).own_val (at_list b₁ o₁ γ₁ ws-4·7.0) (slice_val (b₁, o₁) n₁ ∷ [])) ∷ ‵ (flft κ₁ q₁) ∷ ‵ ((MutSlice (named 0) κ₂ u8).own_val (at_list b₂ o₂ γ₂ ws-4·16.0) (slice_val (b₂, o₂) n₂ ∷ [])) ∷ ‵ (flft κ₂ q₂) ∷ ‵ ((MutSlice (named 0) κ₃ u8).own_val (at_list b₃ o₃ γ₃ kept') (slice_val (b₃, o₃) n₃ ∷ [])) ∷ ‵ (flft κ₃ q₃) ∷ ‵ ((MutSlice (named 0) κ₄ u8).own_val (at_list b₄ o₄ γ₄ out') (slice_val (b₄, o₄) n₄ ∷ [])) ∷ ‵ (flft κ₄ q₄) ∷ ‵ ((MutSlice (named 0) κ₅ (Array u64 8)).own_val (at_list b₅ o₅ γ₅ sessions') (slice_val (b₅, o₅) n₅ ∷ [])) ∷ ‵ (flft κ₅ q₅) ∷ ‵ ((MutSlice (named 0) κ₆ (Array u16 35)).own_val (at_list b₆ o₆ γ₆ streams') (slice_val (b₆, o₆) n₆ ∷ [])) ∷ ‵ (flft κ₆ q₆) ∷ ‵ ((MutSlice (named 0) κ₇ Object-t.the_row).own_val (at_list b₇ o₇ γ₇ objects') (slice_val (b₇, o₇) n₇ ∷ [])) ∷ ‵ (flft κ₇ q₇) ∷ ‵ ((MutSlice (named 0) κ₈ u8).own_val (at_list b₈ o₈ γ₈ held') (slice_val (b₈, o₈) n₈ ∷ [])) ∷ ‵ (flft κ₈ q₈) ∷ ‵ ((MutSlice (named 0) κ₉ u8).own_val (at_list b₉ o₉ γ₉ parts') (slice_val (b₉, o₉) n₉ ∷ [])) ∷ ‵ (flft κ₉ q₉) ∷ ‵ ((MutSlice (named 0) κ₁₀ u32).own_val (at_list b₁₀ o₁₀ γ₁₀ lengths') (slice_val (b₁₀, o₁₀) n₁₀ ∷ [])) ∷ ‵ (flft κ₁₀ q₁₀) ∷ ‵ ((MutSlice (named 0) κ₁₁ u8).own_val (at_list b₁₁ o₁₁ γ₁₁ rebuilt') (slice_val (b₁₁, o₁₁) n₁₁ ∷ [])) ∷ ‵ (flft κ₁₁ q₁₁) ∷ ‵ ((MutSlice (named 0) κ₁₂ u8).own_val (at_list b₁₂ o₁₂ γ₁₂ hours') (slice_val (b₁₂, o₁₂) n₁₂ ∷ [])) ∷ ‵ (flft κ₁₂ q₁₂) ∷ ‵ ((MutSlice (named 0) κ₁₃ (Array u16 3)).own_val (at_list b₁₃ o₁₃ γ₁₃ ws-4·16.1.0) (slice_val (b₁₃, o₁₃) n₁₃ ∷ [])) ∷ ‵ (flft κ₁₃ q₁₃) ∷ ‵ ((MutSlice (named 0) κ₁₄ (Array u64 2)).own_val (at_list b₁₄ o₁₄ γ₁₄ packed') (slice_val (b₁₄, o₁₄) n₁₄ ∷ [])) ∷ ‵ (flft κ₁₄ q₁₄) ∷ free 𝓤 (slice_ty (ty_ref erased mut (pointee (Array u64 2).written))) l₅₅ (free 𝓤 (ty_ref erased mut (pointee (Array u64 2).written)) l₅₄ (free 𝓤 (slice_ty (ty_ref erased mut (pointee u8.written))) l₅₃ (free 𝓤 (ty_ref erased mut (pointee u8.written)) l₅₂ (free 𝓤 (slice_ty (ty_ref erased imm (pointee u8.written))) l₅₁ (free 𝓤 (ty_ref erased imm (pointee u8.written)) l₅₀ (free 𝓤 (slice_ty (ty_ref erased mut (pointee u8.written))) l₄₉ (free 𝓤 (ty_ref erased mut (pointee u8.written)) l₄₈ (free 𝓤 (slice_ty (ty_ref erased mut (pointee (Array u16 3).written))) l₄₇ (free 𝓤 (ty_ref erased mut (pointee (Array u16 3).written)) l₄₆ (free 𝓤 (slice_ty (ty_ref erased mut (pointee u8.written))) l₄₅ (free 𝓤 (ty_ref erased mut (pointee u8.written)) l₄₄ (free 𝓤 (slice_ty (ty_ref erased mut (pointee u8.written))) l₄₃ (free 𝓤 (ty_ref erased mut (pointee u8.written)) l₄₂ (free 𝓤 (slice_ty (ty_ref erased mut (pointee u32.written))) l₄₁ (free 𝓤 (ty_ref erased mut (pointee u32.written)) l₄₀ (free 𝓤 (slice_ty (ty_ref erased mut (pointee u8.written))) l₃₉ (free 𝓤 (ty_ref erased mut (pointee u8.written)) l₃₈ (free 𝓤 (slice_ty (ty_ref erased mut (pointee u8.written))) l₃₇ (free 𝓤 (ty_ref erased mut (pointee u8.written)) l₃₆ (free 𝓤 (slice_ty (ty_ref erased mut (pointee (Object-t.the_row).written))) l₃₅ (free 𝓤 (ty_ref erased mut (pointee (Object-t.the_row).written)) l₃₄ (free 𝓤 (slice_ty (ty_ref erased mut (pointee (Array u16 35).written))) l₃₃ (free 𝓤 (ty_ref erased mut (pointee (Array u16 35).written)) l₃₂ (free 𝓤 (slice_ty (ty_ref erased mut (pointee (Array u64 8).written))) l₃₁ (free 𝓤 (ty_ref erased mut (pointee (Array u64 8).written)) l₃₀ (full 𝓤 (slice_ty (ty_ref erased mut (pointee (Array u16 3).written))) l₂₉ (slice_val (b₁₃, o₁₃) n₁₃) (full 𝓤 (ty_ref erased mut (pointee (Array u16 3).written)) l₂₈ (vptr b₁₃ o₁₃) (full 𝓤 (slice_ty (ty_ref erased mut (pointee u8.written))) l₂₇ (slice_val (b₂, o₂) n₂) (full 𝓤 (ty_ref erased mut (pointee u8.written)) l₂₆ (vptr b₂ o₂) (full 𝓤 (slice_ty (ty_ref erased mut (pointee u8.written))) l₂₅ (slice_val (b₂, o₂) n₂) (full 𝓤 (ty_ref erased mut (pointee u8.written)) l₂₄ (vptr b₂ o₂) (full 𝓤 (slice_ty (ty_ref erased mut (pointee u8.written))) l₂₃ (slice_val (b₁, o₁) n₁) (full 𝓤 (ty_ref erased mut (pointee u8.written)) l₂₂ (vptr b₁ o₁) (full 𝓤 ty_bool l₂₁ (bool_p.val (not r-4·7.any)) (full 𝓤 Command-l.mir l₂₀ (Command-p.val r-4·16) (full 𝓤 ty_bool l₁₉ (bool_p.val host.ready) (full 𝓤 ty_bool l₁₈ (bool_p.val r-4·7.any) (full 𝓤 (ty_int w64) l₁₇ (u64_p.val turns) (full 𝓤 Host-l.mir l₁₆ (Host-p.val host) (full 𝓤 Reading-l.mir l₁₅ (Reading-p.val r-4·7) (full 𝓤 (slice_ty (ty_ref (named 13) mut (pointee (Array u64 2).written))) l₁₄ (slice_val (b₁₄, o₁₄) n₁₄) (full 𝓤 (slice_ty (ty_ref (named 12) mut (pointee (Array u16 3).written))) l₁₃ (slice_val (b₁₃, o₁₃) n₁₃) (full 𝓤 (slice_ty (ty_ref (named 11) mut (pointee u8.written))) l₁₂ (slice_val (b₁₂, o₁₂) n₁₂) (full 𝓤 (slice_ty (ty_ref (named 10) mut (pointee u8.written))) l₁₁ (slice_val (b₁₁, o₁₁) n₁₁) (full 𝓤 (slice_ty (ty_ref (named 9) mut (pointee u32.written))) l₁₀ (slice_val (b₁₀, o₁₀) n₁₀) (full 𝓤 (slice_ty (ty_ref (named 8) mut (pointee u8.written))) l₉ (slice_val (b₉, o₉) n₉) (full 𝓤 (slice_ty (ty_ref (named 7) mut (pointee u8.written))) l₈ (slice_val (b₈, o₈) n₈) (full 𝓤 (slice_ty (ty_ref (named 6) mut (pointee (Object-t.the_row).written))) l₇ (slice_val (b₇, o₇) n₇) (full 𝓤 (slice_ty (ty_ref (named 5) mut (pointee (Array u16 35).written))) l₆ (slice_val (b₆, o₆) n₆) (full 𝓤 (slice_ty (ty_ref (named 4) mut (pointee (Array u64 8).written))) l₅ (slice_val (b₅, o₅) n₅) (full 𝓤 (slice_ty (ty_ref (named 3) mut (pointee u8.written))) l₄ (slice_val (b₄, o₄) n₄) (full 𝓤 (slice_ty (ty_ref (named 2) mut (pointee u8.written))) l₃ (slice_val (b₃, o₃) n₃) (full 𝓤 (slice_ty (ty_ref (named 1) mut (pointee u8.written))) l₂ (slice_val (b₂, o₂) n₂) (full 𝓤 (slice_ty (ty_ref (named 0) mut (pointee u8.written))) l₁ (slice_val (b₁, o₁) n₁) (free 𝓤 ty_unit l₀ ([]))))))))))))))))))))))))))))))))))))))))))))))))))))))))) (runs C Λ En (past 16 mir.turn-1) (any_q (after_turn 𝓤 H (Below-4 t-4) Left-4)))
       unfolding after_turn
@@ -453,9 +453,9 @@ module _ {M : Type 1} {𝓤 : Ura M} (𝓛 : Logic 𝓤) (mem : Memory → SProp
           land ! (from ! (stop !)) (init ! 98 refl (Command-p.typed 𝓛 r-4·16 is-4·16)) $ move ! (4 ∷ 5 ∷ 2 ∷ 3 ∷ 6 ∷ 7 ∷ 8 ∷ 9 ∷ 10 ∷ 11 ∷ 12 ∷ 13 ∷ 14 ∷ 15 ∷ 16 ∷ 17 ∷ 18 ∷ 19 ∷ 20 ∷ 21 ∷ 22 ∷ 23 ∷ 24 ∷ 25 ∷ 0 ∷ 1 ∷ 26 ∷ 27 ∷ 28 ∷ 29 ∷ 30 ∷ 31 ∷ 32 ∷ 33 ∷ 34 ∷ 35 ∷ 36 ∷ 37 ∷ 38 ∷ 39 ∷ 40 ∷ 41 ∷ 42 ∷ 43 ∷ 44 ∷ 45 ∷ 46 ∷ 47 ∷ 48 ∷ 49 ∷ 50 ∷ 51 ∷ 52 ∷ 53 ∷ 54 ∷ 55 ∷ 56 ∷ 57 ∷ 58 ∷ 59 ∷ 60 ∷ 61 ∷ 62 ∷ 63 ∷ 64 ∷ 65 ∷ 66 ∷ 67 ∷ 68 ∷ 69 ∷ 70 ∷ 71 ∷ 72 ∷ 73 ∷ 74 ∷ 75 ∷ 76 ∷ 77 ∷ 78 ∷ 79 ∷ 80 ∷ 81 ∷ 82 ∷ 83 ∷ 84 ∷ 85 ∷ 86 ∷ 87 ∷ 88 ∷ 89 ∷ 90 ∷ 91 ∷ 92 ∷ 93 ∷ 94 ∷ 95 ∷ 96 ∷ 97 ∷ 98 ∷ 99 ∷ 100 ∷ 101 ∷ 102 ∷ 103 ∷ 104 ∷ 105 ∷ 106 ∷ 107 ∷ 108 ∷ 109 ∷ 110 ∷ 111 ∷ 112 ∷ 113 ∷ 114 ∷ 115 ∷ 116 ∷ 117 ∷ 118 ∷ 119 ∷ 120 ∷ 121 ∷ 122 ∷ 123 ∷ 124 ∷ 125 ∷ 126 ∷ 127 ∷ 128 ∷ 129 ∷ 130 ∷ 131 ∷ 132 ∷ 133 ∷ 134 ∷ 135 ∷ 136 ∷ 137 ∷ 138 ∷ 139 ∷ []) $
           part-4·17-8 reading host turns input' line' kept' out' sessions' streams' objects' held' parts' lengths' rebuilt' hours' windows' packed' t-4 reading-is host-is turns-is input'-len line'-len kept'-len out'-len sessions'-len streams'-len objects'-len held'-len parts'-len lengths'-len rebuilt'-len hours'-len windows'-len packed'-len t-is-4 inv-4 c-4·2 r-4·7 ν-4·7-input δ-4·7-input ν-4·7-line δ-4·7-line ws-4·7 len-4·7-input len-4·7-line is-4·7 c-4·10 r-4·16 ν-4·16-line δ-4·16-line ν-4·16-windows δ-4·16-windows ws-4·16 len-4·16-line len-4·16-windows is-4·16)))))))))
 
-      turn-4 : (reading : Reading) → (host : Host) → (turns : ℕ) → (input' : List ℕ) → (line' : List ℕ) → (kept' : List ℕ) → (out' : List ℕ) → (sessions' : List (List ℕ)) → (streams' : List (List ℕ)) → (objects' : List Object) → (held' : List ℕ) → (parts' : List ℕ) → (lengths' : List ℕ) → (rebuilt' : List ℕ) → (hours' : List ℕ) → (windows' : List (List ℕ)) → (packed' : List (List ℕ)) → (t-4 : ℕ) → (reading-is : Is Reading-p.row reading (Reading-p.val reading ∷ [])) → (host-is : Is Host-p.row host (Host-p.val host ∷ [])) → (turns-is : Is u64_p.row turns (u64_p.val turns ∷ [])) → (input'-len : length input' ≡ n₁) → (line'-len : length line' ≡ n₂) → (kept'-len : length kept' ≡ n₃) → (out'-len : length out' ≡ n₄) → (sessions'-len : length sessions' ≡ n₅) → (streams'-len : length streams' ≡ n₆) → (objects'-len : length objects' ≡ n₇) → (held'-len : length held' ≡ n₈) → (parts'-len : length parts' ≡ n₉) → (lengths'-len : length lengths' ≡ n₁₀) → (rebuilt'-len : length rebuilt' ≡ n₁₁) → (hours'-len : length hours' ≡ n₁₂) → (windows'-len : length windows' ≡ n₁₃) → (packed'-len : length packed' ≡ n₁₄) → (t-is-4 : t-4 ≡ turns) → (inv-4 : Unit {0}) → ent 𝓤 (⋆ 𝓛 (At-4 reading host turns input' line' kept' out' sessions' streams' objects' held' parts' lengths' rebuilt' hours' windows' packed')) (Wp 𝓤 H C Λ En mir.turn-1 (after_turn 𝓤 H (Below-4 t-4) Left-4))
+      turn_4 : (reading : Reading) → (host : Host) → (turns : ℕ) → (input' : List ℕ) → (line' : List ℕ) → (kept' : List ℕ) → (out' : List ℕ) → (sessions' : List (List ℕ)) → (streams' : List (List ℕ)) → (objects' : List Object) → (held' : List ℕ) → (parts' : List ℕ) → (lengths' : List ℕ) → (rebuilt' : List ℕ) → (hours' : List ℕ) → (windows' : List (List ℕ)) → (packed' : List (List ℕ)) → (t-4 : ℕ) → (reading-is : Is Reading-p.row reading (Reading-p.val reading ∷ [])) → (host-is : Is Host-p.row host (Host-p.val host ∷ [])) → (turns-is : Is u64_p.row turns (u64_p.val turns ∷ [])) → (input'-len : length input' ≡ n₁) → (line'-len : length line' ≡ n₂) → (kept'-len : length kept' ≡ n₃) → (out'-len : length out' ≡ n₄) → (sessions'-len : length sessions' ≡ n₅) → (streams'-len : length streams' ≡ n₆) → (objects'-len : length objects' ≡ n₇) → (held'-len : length held' ≡ n₈) → (parts'-len : length parts' ≡ n₉) → (lengths'-len : length lengths' ≡ n₁₀) → (rebuilt'-len : length rebuilt' ≡ n₁₁) → (hours'-len : length hours' ≡ n₁₂) → (windows'-len : length windows' ≡ n₁₃) → (packed'-len : length packed' ≡ n₁₄) → (t-is-4 : t-4 ≡ turns) → (inv-4 : Unit {0}) → ent 𝓤 (⋆ 𝓛 (At-4 reading host turns input' line' kept' out' sessions' streams' objects' held' parts' lengths' rebuilt' hours' windows' packed')) (Wp 𝓤 H C Λ En mir.turn-1 (after_turn 𝓤 H (Below-4 t-4) Left-4))
       unfolding after_turn
-      turn-4 reading host turns input' line' kept' out' sessions' streams' objects' held' parts' lengths' rebuilt' hours' windows' packed' t-4 reading-is host-is turns-is input'-len line'-len kept'-len out'-len sessions'-len streams'-len objects'-len held'-len parts'-len lengths'-len rebuilt'-len hours'-len windows'-len packed'-len t-is-4 inv-4 =
+      turn_4 reading host turns input' line' kept' out' sessions' streams' objects' held' parts' lengths' rebuilt' hours' windows' packed' t-4 reading-is host-is turns-is input'-len line'-len kept'-len out'-len sessions'-len streams'-len objects'-len held'-len parts'-len lengths'-len rebuilt'-len hours'-len windows'-len packed'-len t-is-4 inv-4 =
           qed 𝓛 (At-4 reading host turns input' line' kept' out' sessions' streams' objects' held' parts' lengths' rebuilt' hours' windows' packed') ∵ exec ! C Λ En mir.turn-1 (any_q (after_turn 𝓤 H (Below-4 t-4) Left-4)) $
           assigns ! (bin ! (lit ! tt) (load ! (from ! (stop !)) (look ! 104 refl)) (tt)) (from ! (stop !)) (init ! 96 refl (bool_p.typed 𝓛 (ltb 0 turns) refl)) $
           first ! $
@@ -495,17 +495,17 @@ module _ {M : Type 1} {𝓤 : Ura M} (𝓛 : Logic 𝓤) (mem : Memory → SProp
           returns ! (look ! 138 refl) $ forget ! 96 refl $ forget ! 104 refl $ forget ! 106 refl $ forget ! 108 refl $ forget ! 110 refl $ forget ! 112 refl $ forget ! 114 refl $ forget ! 116 refl $ forget ! 118 refl $ forget ! 120 refl $ forget ! 122 refl $ forget ! 124 refl $ forget ! 126 refl $ forget ! 128 refl $ forget ! 130 refl $ forget ! 132 refl $ forget ! 134 refl $ forget ! 136 refl $ forget ! 138 refl $ move ! (138 ∷ 139 ∷ []) $ free1 ! $ move ! (136 ∷ 137 ∷ []) $ free1 ! $ move ! (134 ∷ 135 ∷ []) $ free1 ! $ move ! (132 ∷ 133 ∷ []) $ free1 ! $ move ! (130 ∷ 131 ∷ []) $ free1 ! $ move ! (128 ∷ 129 ∷ []) $ free1 ! $ move ! (126 ∷ 127 ∷ []) $ free1 ! $ move ! (124 ∷ 125 ∷ []) $ free1 ! $ move ! (122 ∷ 123 ∷ []) $ free1 ! $ move ! (120 ∷ 121 ∷ []) $ free1 ! $ move ! (118 ∷ 119 ∷ []) $ free1 ! $ move ! (116 ∷ 117 ∷ []) $ free1 ! $ move ! (114 ∷ 115 ∷ []) $ free1 ! $ move ! (112 ∷ 113 ∷ []) $ free1 ! $ move ! (110 ∷ 111 ∷ []) $ free1 ! $ move ! (108 ∷ 109 ∷ []) $ free1 ! $ move ! (106 ∷ 107 ∷ []) $ free1 ! $ move ! (104 ∷ 105 ∷ []) $ free1 ! $ move ! (102 ∷ 103 ∷ []) $ free1 ! $ move ! (100 ∷ 101 ∷ []) $ free1 ! $ move ! (98 ∷ 99 ∷ []) $ free1 ! $ move ! (96 ∷ 97 ∷ []) $ free1 ! $ move ! (94 ∷ 95 ∷ []) $ free1 ! $ move ! (92 ∷ 93 ∷ []) $ free1 ! $ move ! (90 ∷ 91 ∷ []) $ free1 ! $ move ! (88 ∷ 89 ∷ []) $ free1 ! $ move ! (86 ∷ 87 ∷ []) $ free1 ! $ move ! (84 ∷ 85 ∷ []) $ free1 ! $ move ! (82 ∷ 83 ∷ []) $ free1 ! $ move ! (80 ∷ 81 ∷ []) $ free1 ! $ move ! (78 ∷ 79 ∷ []) $ free1 ! $ move ! (76 ∷ 77 ∷ []) $ free1 ! $ move ! (74 ∷ 75 ∷ []) $ free1 ! $ move ! (72 ∷ 73 ∷ []) $ free1 ! $ move ! (70 ∷ 71 ∷ []) $ free1 ! $ move ! (68 ∷ 69 ∷ []) $ free1 ! $ move ! (66 ∷ 67 ∷ []) $ free1 ! $ move ! (64 ∷ 65 ∷ []) $ free1 ! $ move ! (62 ∷ 63 ∷ []) $ free1 ! $ move ! (60 ∷ 61 ∷ []) $ free1 ! $ move ! (58 ∷ 59 ∷ []) $ free1 ! $ move ! (56 ∷ 57 ∷ []) $ free1 ! $ move ! (54 ∷ 55 ∷ []) $ free1 ! $ move ! (52 ∷ 53 ∷ []) $ free1 ! $ move ! (50 ∷ 51 ∷ []) $ free1 ! $ move ! (48 ∷ 49 ∷ []) $ free1 ! $ move ! (46 ∷ 47 ∷ []) $ free1 ! $ move ! (44 ∷ 45 ∷ []) $ free1 ! $ move ! (42 ∷ 43 ∷ []) $ free1 ! $ move ! (40 ∷ 41 ∷ []) $ free1 ! $ move ! (38 ∷ 39 ∷ []) $ free1 ! $ move ! (36 ∷ 37 ∷ []) $ free1 ! $ move ! (34 ∷ 35 ∷ []) $ free1 ! $ move ! (32 ∷ 33 ∷ []) $ free1 ! $ move ! (30 ∷ 31 ∷ []) $ free1 ! $ move ! (28 ∷ 29 ∷ []) $ free1 ! $ free0 ! $
           by ! (exits tt input' line' kept' out' sessions' streams' objects' held' parts' lengths' rebuilt' hours' windows' packed' refl input'-len line'-len kept'-len out'-len sessions'-len streams'-len objects'-len held'-len parts'-len lengths'-len rebuilt'-len hours'-len windows'-len packed'-len)))
 
-      turns-4 : (t : ℕ) → ent 𝓤 (Inv-4 t) (Wp 𝓤 H C Λ En mir.turn-1 (after_turn 𝓤 H (Below-4 t) Left-4))
-      turns-4 t = ex_e 𝓤 (λ (reading : Reading). ex 𝓤 (λ (host : Host). ex 𝓤 (λ (turns : ℕ). ex 𝓤 (λ (input' : List ℕ). ex 𝓤 (λ (line' : List ℕ). ex 𝓤 (λ (kept' : List ℕ). ex 𝓤 (λ (out' : List ℕ). ex 𝓤 (λ (sessions' : List (List ℕ)). ex 𝓤 (λ (streams' : List (List ℕ)). ex 𝓤 (λ (objects' : List Object). ex 𝓤 (λ (held' : List ℕ). ex 𝓤 (λ (parts' : List ℕ). ex 𝓤 (λ (lengths' : List ℕ). ex 𝓤 (λ (rebuilt' : List ℕ). ex 𝓤 (λ (hours' : List ℕ). ex 𝓤 (λ (windows' : List (List ℕ)). ex 𝓤 (λ (packed' : List (List ℕ)). guard 𝓤 (Facts-4 t reading host turns input' line' kept' out' sessions' streams' objects' held' parts' lengths' rebuilt' hours' windows' packed') (⋆ 𝓛 (At-4 reading host turns input' line' kept' out' sessions' streams' objects' held' parts' lengths' rebuilt' hours' windows' packed'))))))))))))))))))) (λ reading. ex_e 𝓤 (λ (host : Host). ex 𝓤 (λ (turns : ℕ). ex 𝓤 (λ (input' : List ℕ). ex 𝓤 (λ (line' : List ℕ). ex 𝓤 (λ (kept' : List ℕ). ex 𝓤 (λ (out' : List ℕ). ex 𝓤 (λ (sessions' : List (List ℕ)). ex 𝓤 (λ (streams' : List (List ℕ)). ex 𝓤 (λ (objects' : List Object). ex 𝓤 (λ (held' : List ℕ). ex 𝓤 (λ (parts' : List ℕ). ex 𝓤 (λ (lengths' : List ℕ). ex 𝓤 (λ (rebuilt' : List ℕ). ex 𝓤 (λ (hours' : List ℕ). ex 𝓤 (λ (windows' : List (List ℕ)). ex 𝓤 (λ (packed' : List (List ℕ)). guard 𝓤 (Facts-4 t reading host turns input' line' kept' out' sessions' streams' objects' held' parts' lengths' rebuilt' hours' windows' packed') (⋆ 𝓛 (At-4 reading host turns input' line' kept' out' sessions' streams' objects' held' parts' lengths' rebuilt' hours' windows' packed')))))))))))))))))) (λ host. ex_e 𝓤 (λ (turns : ℕ). ex 𝓤 (λ (input' : List ℕ). ex 𝓤 (λ (line' : List ℕ). ex 𝓤 (λ (kept' : List ℕ). ex 𝓤 (λ (out' : List ℕ). ex 𝓤 (λ (sessions' : List (List ℕ)). ex 𝓤 (λ (streams' : List (List ℕ)). ex 𝓤 (λ (objects' : List Object). ex 𝓤 (λ (held' : List ℕ). ex 𝓤 (λ (parts' : List ℕ). ex 𝓤 (λ (lengths' : List ℕ). ex 𝓤 (λ (rebuilt' : List ℕ). ex 𝓤 (λ (hours' : List ℕ). ex 𝓤 (λ (windows' : List (List ℕ)). ex 𝓤 (λ (packed' : List (List ℕ)). guard 𝓤 (Facts-4 t reading host turns input' line' kept' out' sessions' streams' objects' held' parts' lengths' rebuilt' hours' windows' packed') (⋆ 𝓛 (At-4 reading host turns input' line' kept' out' sessions' streams' objects' held' parts' lengths' rebuilt' hours' windows' packed'))))))))))))))))) (λ turns. ex_e 𝓤 (λ (input' : List ℕ). ex 𝓤 (λ (line' : List ℕ). ex 𝓤 (λ (kept' : List ℕ). ex 𝓤 (λ (out' : List ℕ). ex 𝓤 (λ (sessions' : List (List ℕ)). ex 𝓤 (λ (streams' : List (List ℕ)). ex 𝓤 (λ (objects' : List Object). ex 𝓤 (λ (held' : List ℕ). ex 𝓤 (λ (parts' : List ℕ). ex 𝓤 (λ (lengths' : List ℕ). ex 𝓤 (λ (rebuilt' : List ℕ). ex 𝓤 (λ (hours' : List ℕ). ex 𝓤 (λ (windows' : List (List ℕ)). ex 𝓤 (λ (packed' : List (List ℕ)). guard 𝓤 (Facts-4 t reading host turns input' line' kept' out' sessions' streams' objects' held' parts' lengths' rebuilt' hours' windows' packed') (⋆ 𝓛 (At-4 reading host turns input' line' kept' out' sessions' streams' objects' held' parts' lengths' rebuilt' hours' windows' packed')))))))))))))))) (λ input'. ex_e 𝓤 (λ (line' : List ℕ). ex 𝓤 (λ (kept' : List ℕ). ex 𝓤 (λ (out' : List ℕ). ex 𝓤 (λ (sessions' : List (List ℕ)). ex 𝓤 (λ (streams' : List (List ℕ)). ex 𝓤 (λ (objects' : List Object). ex 𝓤 (λ (held' : List ℕ). ex 𝓤 (λ (parts' : List ℕ). ex 𝓤 (λ (lengths' : List ℕ). ex 𝓤 (λ (rebuilt' : List ℕ). ex 𝓤 (λ (hours' : List ℕ). ex 𝓤 (λ (windows' : List (List ℕ)). ex 𝓤 (λ (packed' : List (List ℕ)). guard 𝓤 (Facts-4 t reading host turns input' line' kept' out' sessions' streams' objects' held' parts' lengths' rebuilt' hours' windows' packed') (⋆ 𝓛 (At-4 reading host turns input' line' kept' out' sessions' streams' objects' held' parts' lengths' rebuilt' hours' windows' packed'))))))))))))))) (λ line'. ex_e 𝓤 (λ (kept' : List ℕ). ex 𝓤 (λ (out' : List ℕ). ex 𝓤 (λ (sessions' : List (List ℕ)). ex 𝓤 (λ (streams' : List (List ℕ)). ex 𝓤 (λ (objects' : List Object). ex 𝓤 (λ (held' : List ℕ). ex 𝓤 (λ (parts' : List ℕ). ex 𝓤 (λ (lengths' : List ℕ). ex 𝓤 (λ (rebuilt' : List ℕ). ex 𝓤 (λ (hours' : List ℕ). ex 𝓤 (λ (windows' : List (List ℕ)). ex 𝓤 (λ (packed' : List (List ℕ)). guard 𝓤 (Facts-4 t reading host turns input' line' kept' out' sessions' streams' objects' held' parts' lengths' rebuilt' hours' windows' packed') (⋆ 𝓛 (At-4 reading host turns input' line' kept' out' sessions' streams' objects' held' parts' lengths' rebuilt' hours' windows' packed')))))))))))))) (λ kept'. ex_e 𝓤 (λ (out' : List ℕ). ex 𝓤 (λ (sessions' : List (List ℕ)). ex 𝓤 (λ (streams' : List (List ℕ)). ex 𝓤 (λ (objects' : List Object). ex 𝓤 (λ (held' : List ℕ). ex 𝓤 (λ (parts' : List ℕ). ex 𝓤 (λ (lengths' : List ℕ). ex 𝓤 (λ (rebuilt' : List ℕ). ex 𝓤 (λ (hours' : List ℕ). ex 𝓤 (λ (windows' : List (List ℕ)). ex 𝓤 (λ (packed' : List (List ℕ)). guard 𝓤 (Facts-4 t reading host turns input' line' kept' out' sessions' streams' objects' held' parts' lengths' rebuilt' hours' windows' packed') (⋆ 𝓛 (At-4 reading host turns input' line' kept' out' sessions' streams' objects' held' parts' lengths' rebuilt' hours' windows' packed'))))))))))))) (λ out'. ex_e 𝓤 (λ (sessions' : List (List ℕ)). ex 𝓤 (λ (streams' : List (List ℕ)). ex 𝓤 (λ (objects' : List Object). ex 𝓤 (λ (held' : List ℕ). ex 𝓤 (λ (parts' : List ℕ). ex 𝓤 (λ (lengths' : List ℕ). ex 𝓤 (λ (rebuilt' : List ℕ). ex 𝓤 (λ (hours' : List ℕ). ex 𝓤 (λ (windows' : List (List ℕ)). ex 𝓤 (λ (packed' : List (List ℕ)). guard 𝓤 (Facts-4 t reading host turns input' line' kept' out' sessions' streams' objects' held' parts' lengths' rebuilt' hours' windows' packed') (⋆ 𝓛 (At-4 reading host turns input' line' kept' out' sessions' streams' objects' held' parts' lengths' rebuilt' hours' windows' packed')))))))))))) (λ sessions'. ex_e 𝓤 (λ (streams' : List (List ℕ)). ex 𝓤 (λ (objects' : List Object). ex 𝓤 (λ (held' : List ℕ). ex 𝓤 (λ (parts' : List ℕ). ex 𝓤 (λ (lengths' : List ℕ). ex 𝓤 (λ (rebuilt' : List ℕ). ex 𝓤 (λ (hours' : List ℕ). ex 𝓤 (λ (windows' : List (List ℕ)). ex 𝓤 (λ (packed' : List (List ℕ)). guard 𝓤 (Facts-4 t reading host turns input' line' kept' out' sessions' streams' objects' held' parts' lengths' rebuilt' hours' windows' packed') (⋆ 𝓛 (At-4 reading host turns input' line' kept' out' sessions' streams' objects' held' parts' lengths' rebuilt' hours' windows' packed'))))))))))) (λ streams'. ex_e 𝓤 (λ (objects' : List Object). ex 𝓤 (λ (held' : List ℕ). ex 𝓤 (λ (parts' : List ℕ). ex 𝓤 (λ (lengths' : List ℕ). ex 𝓤 (λ (rebuilt' : List ℕ). ex 𝓤 (λ (hours' : List ℕ). ex 𝓤 (λ (windows' : List (List ℕ)). ex 𝓤 (λ (packed' : List (List ℕ)). guard 𝓤 (Facts-4 t reading host turns input' line' kept' out' sessions' streams' objects' held' parts' lengths' rebuilt' hours' windows' packed') (⋆ 𝓛 (At-4 reading host turns input' line' kept' out' sessions' streams' objects' held' parts' lengths' rebuilt' hours' windows' packed')))))))))) (λ objects'. ex_e 𝓤 (λ (held' : List ℕ). ex 𝓤 (λ (parts' : List ℕ). ex 𝓤 (λ (lengths' : List ℕ). ex 𝓤 (λ (rebuilt' : List ℕ). ex 𝓤 (λ (hours' : List ℕ). ex 𝓤 (λ (windows' : List (List ℕ)). ex 𝓤 (λ (packed' : List (List ℕ)). guard 𝓤 (Facts-4 t reading host turns input' line' kept' out' sessions' streams' objects' held' parts' lengths' rebuilt' hours' windows' packed') (⋆ 𝓛 (At-4 reading host turns input' line' kept' out' sessions' streams' objects' held' parts' lengths' rebuilt' hours' windows' packed'))))))))) (λ held'. ex_e 𝓤 (λ (parts' : List ℕ). ex 𝓤 (λ (lengths' : List ℕ). ex 𝓤 (λ (rebuilt' : List ℕ). ex 𝓤 (λ (hours' : List ℕ). ex 𝓤 (λ (windows' : List (List ℕ)). ex 𝓤 (λ (packed' : List (List ℕ)). guard 𝓤 (Facts-4 t reading host turns input' line' kept' out' sessions' streams' objects' held' parts' lengths' rebuilt' hours' windows' packed') (⋆ 𝓛 (At-4 reading host turns input' line' kept' out' sessions' streams' objects' held' parts' lengths' rebuilt' hours' windows' packed')))))))) (λ parts'. ex_e 𝓤 (λ (lengths' : List ℕ). ex 𝓤 (λ (rebuilt' : List ℕ). ex 𝓤 (λ (hours' : List ℕ). ex 𝓤 (λ (windows' : List (List ℕ)). ex 𝓤 (λ (packed' : List (List ℕ)). guard 𝓤 (Facts-4 t reading host turns input' line' kept' out' sessions' streams' objects' held' parts' lengths' rebuilt' hours' windows' packed') (⋆ 𝓛 (At-4 reading host turns input' line' kept' out' sessions' streams' objects' held' parts' lengths' rebuilt' hours' windows' packed'))))))) (λ lengths'. ex_e 𝓤 (λ (rebuilt' : List ℕ). ex 𝓤 (λ (hours' : List ℕ). ex 𝓤 (λ (windows' : List (List ℕ)). ex 𝓤 (λ (packed' : List (List ℕ)). guard 𝓤 (Facts-4 t reading host turns input' line' kept' out' sessions' streams' objects' held' parts' lengths' rebuilt' hours' windows' packed') (⋆ 𝓛 (At-4 reading host turns input' line' kept' out' sessions' streams' objects' held' parts' lengths' rebuilt' hours' windows' packed')))))) (λ rebuilt'. ex_e 𝓤 (λ (hours' : List ℕ). ex 𝓤 (λ (windows' : List (List ℕ)). ex 𝓤 (λ (packed' : List (List ℕ)). guard 𝓤 (Facts-4 t reading host turns input' line' kept' out' sessions' streams' objects' held' parts' lengths' rebuilt' hours' windows' packed') (⋆ 𝓛 (At-4 reading host turns input' line' kept' out' sessions' streams' objects' held' parts' lengths' rebuilt' hours' windows' packed'))))) (λ hours'. ex_e 𝓤 (λ (windows' : List (List ℕ)). ex 𝓤 (λ (packed' : List (List ℕ)). guard 𝓤 (Facts-4 t reading host turns input' line' kept' out' sessions' streams' objects' held' parts' lengths' rebuilt' hours' windows' packed') (⋆ 𝓛 (At-4 reading host turns input' line' kept' out' sessions' streams' objects' held' parts' lengths' rebuilt' hours' windows' packed')))) (λ windows'. ex_e 𝓤 (λ (packed' : List (List ℕ)). guard 𝓤 (Facts-4 t reading host turns input' line' kept' out' sessions' streams' objects' held' parts' lengths' rebuilt' hours' windows' packed') (⋆ 𝓛 (At-4 reading host turns input' line' kept' out' sessions' streams' objects' held' parts' lengths' rebuilt' hours' windows' packed'))) (λ packed'. guard_e 𝓤 (Facts-4 t reading host turns input' line' kept' out' sessions' streams' objects' held' parts' lengths' rebuilt' hours' windows' packed') (⋆ 𝓛 (At-4 reading host turns input' line' kept' out' sessions' streams' objects' held' parts' lengths' rebuilt' hours' windows' packed')) (λ fs. turn-4 reading host turns input' line' kept' out' sessions' streams' objects' held' parts' lengths' rebuilt' hours' windows' packed' t fs.1 fs.2 fs.3 fs.4 fs.5 fs.6 fs.7 fs.8 fs.9 fs.10 fs.11 fs.12 fs.13 fs.14 fs.15 fs.16 fs.17 fs.0 fs.18))))))))))))))))))
+      turns_4 : (t : ℕ) → ent 𝓤 (Inv-4 t) (Wp 𝓤 H C Λ En mir.turn-1 (after_turn 𝓤 H (Below-4 t) Left-4))
+      turns_4 t = ex_e 𝓤 (λ (reading : Reading). ex 𝓤 (λ (host : Host). ex 𝓤 (λ (turns : ℕ). ex 𝓤 (λ (input' : List ℕ). ex 𝓤 (λ (line' : List ℕ). ex 𝓤 (λ (kept' : List ℕ). ex 𝓤 (λ (out' : List ℕ). ex 𝓤 (λ (sessions' : List (List ℕ)). ex 𝓤 (λ (streams' : List (List ℕ)). ex 𝓤 (λ (objects' : List Object). ex 𝓤 (λ (held' : List ℕ). ex 𝓤 (λ (parts' : List ℕ). ex 𝓤 (λ (lengths' : List ℕ). ex 𝓤 (λ (rebuilt' : List ℕ). ex 𝓤 (λ (hours' : List ℕ). ex 𝓤 (λ (windows' : List (List ℕ)). ex 𝓤 (λ (packed' : List (List ℕ)). guard 𝓤 (Facts-4 t reading host turns input' line' kept' out' sessions' streams' objects' held' parts' lengths' rebuilt' hours' windows' packed') (⋆ 𝓛 (At-4 reading host turns input' line' kept' out' sessions' streams' objects' held' parts' lengths' rebuilt' hours' windows' packed'))))))))))))))))))) (λ reading. ex_e 𝓤 (λ (host : Host). ex 𝓤 (λ (turns : ℕ). ex 𝓤 (λ (input' : List ℕ). ex 𝓤 (λ (line' : List ℕ). ex 𝓤 (λ (kept' : List ℕ). ex 𝓤 (λ (out' : List ℕ). ex 𝓤 (λ (sessions' : List (List ℕ)). ex 𝓤 (λ (streams' : List (List ℕ)). ex 𝓤 (λ (objects' : List Object). ex 𝓤 (λ (held' : List ℕ). ex 𝓤 (λ (parts' : List ℕ). ex 𝓤 (λ (lengths' : List ℕ). ex 𝓤 (λ (rebuilt' : List ℕ). ex 𝓤 (λ (hours' : List ℕ). ex 𝓤 (λ (windows' : List (List ℕ)). ex 𝓤 (λ (packed' : List (List ℕ)). guard 𝓤 (Facts-4 t reading host turns input' line' kept' out' sessions' streams' objects' held' parts' lengths' rebuilt' hours' windows' packed') (⋆ 𝓛 (At-4 reading host turns input' line' kept' out' sessions' streams' objects' held' parts' lengths' rebuilt' hours' windows' packed')))))))))))))))))) (λ host. ex_e 𝓤 (λ (turns : ℕ). ex 𝓤 (λ (input' : List ℕ). ex 𝓤 (λ (line' : List ℕ). ex 𝓤 (λ (kept' : List ℕ). ex 𝓤 (λ (out' : List ℕ). ex 𝓤 (λ (sessions' : List (List ℕ)). ex 𝓤 (λ (streams' : List (List ℕ)). ex 𝓤 (λ (objects' : List Object). ex 𝓤 (λ (held' : List ℕ). ex 𝓤 (λ (parts' : List ℕ). ex 𝓤 (λ (lengths' : List ℕ). ex 𝓤 (λ (rebuilt' : List ℕ). ex 𝓤 (λ (hours' : List ℕ). ex 𝓤 (λ (windows' : List (List ℕ)). ex 𝓤 (λ (packed' : List (List ℕ)). guard 𝓤 (Facts-4 t reading host turns input' line' kept' out' sessions' streams' objects' held' parts' lengths' rebuilt' hours' windows' packed') (⋆ 𝓛 (At-4 reading host turns input' line' kept' out' sessions' streams' objects' held' parts' lengths' rebuilt' hours' windows' packed'))))))))))))))))) (λ turns. ex_e 𝓤 (λ (input' : List ℕ). ex 𝓤 (λ (line' : List ℕ). ex 𝓤 (λ (kept' : List ℕ). ex 𝓤 (λ (out' : List ℕ). ex 𝓤 (λ (sessions' : List (List ℕ)). ex 𝓤 (λ (streams' : List (List ℕ)). ex 𝓤 (λ (objects' : List Object). ex 𝓤 (λ (held' : List ℕ). ex 𝓤 (λ (parts' : List ℕ). ex 𝓤 (λ (lengths' : List ℕ). ex 𝓤 (λ (rebuilt' : List ℕ). ex 𝓤 (λ (hours' : List ℕ). ex 𝓤 (λ (windows' : List (List ℕ)). ex 𝓤 (λ (packed' : List (List ℕ)). guard 𝓤 (Facts-4 t reading host turns input' line' kept' out' sessions' streams' objects' held' parts' lengths' rebuilt' hours' windows' packed') (⋆ 𝓛 (At-4 reading host turns input' line' kept' out' sessions' streams' objects' held' parts' lengths' rebuilt' hours' windows' packed')))))))))))))))) (λ input'. ex_e 𝓤 (λ (line' : List ℕ). ex 𝓤 (λ (kept' : List ℕ). ex 𝓤 (λ (out' : List ℕ). ex 𝓤 (λ (sessions' : List (List ℕ)). ex 𝓤 (λ (streams' : List (List ℕ)). ex 𝓤 (λ (objects' : List Object). ex 𝓤 (λ (held' : List ℕ). ex 𝓤 (λ (parts' : List ℕ). ex 𝓤 (λ (lengths' : List ℕ). ex 𝓤 (λ (rebuilt' : List ℕ). ex 𝓤 (λ (hours' : List ℕ). ex 𝓤 (λ (windows' : List (List ℕ)). ex 𝓤 (λ (packed' : List (List ℕ)). guard 𝓤 (Facts-4 t reading host turns input' line' kept' out' sessions' streams' objects' held' parts' lengths' rebuilt' hours' windows' packed') (⋆ 𝓛 (At-4 reading host turns input' line' kept' out' sessions' streams' objects' held' parts' lengths' rebuilt' hours' windows' packed'))))))))))))))) (λ line'. ex_e 𝓤 (λ (kept' : List ℕ). ex 𝓤 (λ (out' : List ℕ). ex 𝓤 (λ (sessions' : List (List ℕ)). ex 𝓤 (λ (streams' : List (List ℕ)). ex 𝓤 (λ (objects' : List Object). ex 𝓤 (λ (held' : List ℕ). ex 𝓤 (λ (parts' : List ℕ). ex 𝓤 (λ (lengths' : List ℕ). ex 𝓤 (λ (rebuilt' : List ℕ). ex 𝓤 (λ (hours' : List ℕ). ex 𝓤 (λ (windows' : List (List ℕ)). ex 𝓤 (λ (packed' : List (List ℕ)). guard 𝓤 (Facts-4 t reading host turns input' line' kept' out' sessions' streams' objects' held' parts' lengths' rebuilt' hours' windows' packed') (⋆ 𝓛 (At-4 reading host turns input' line' kept' out' sessions' streams' objects' held' parts' lengths' rebuilt' hours' windows' packed')))))))))))))) (λ kept'. ex_e 𝓤 (λ (out' : List ℕ). ex 𝓤 (λ (sessions' : List (List ℕ)). ex 𝓤 (λ (streams' : List (List ℕ)). ex 𝓤 (λ (objects' : List Object). ex 𝓤 (λ (held' : List ℕ). ex 𝓤 (λ (parts' : List ℕ). ex 𝓤 (λ (lengths' : List ℕ). ex 𝓤 (λ (rebuilt' : List ℕ). ex 𝓤 (λ (hours' : List ℕ). ex 𝓤 (λ (windows' : List (List ℕ)). ex 𝓤 (λ (packed' : List (List ℕ)). guard 𝓤 (Facts-4 t reading host turns input' line' kept' out' sessions' streams' objects' held' parts' lengths' rebuilt' hours' windows' packed') (⋆ 𝓛 (At-4 reading host turns input' line' kept' out' sessions' streams' objects' held' parts' lengths' rebuilt' hours' windows' packed'))))))))))))) (λ out'. ex_e 𝓤 (λ (sessions' : List (List ℕ)). ex 𝓤 (λ (streams' : List (List ℕ)). ex 𝓤 (λ (objects' : List Object). ex 𝓤 (λ (held' : List ℕ). ex 𝓤 (λ (parts' : List ℕ). ex 𝓤 (λ (lengths' : List ℕ). ex 𝓤 (λ (rebuilt' : List ℕ). ex 𝓤 (λ (hours' : List ℕ). ex 𝓤 (λ (windows' : List (List ℕ)). ex 𝓤 (λ (packed' : List (List ℕ)). guard 𝓤 (Facts-4 t reading host turns input' line' kept' out' sessions' streams' objects' held' parts' lengths' rebuilt' hours' windows' packed') (⋆ 𝓛 (At-4 reading host turns input' line' kept' out' sessions' streams' objects' held' parts' lengths' rebuilt' hours' windows' packed')))))))))))) (λ sessions'. ex_e 𝓤 (λ (streams' : List (List ℕ)). ex 𝓤 (λ (objects' : List Object). ex 𝓤 (λ (held' : List ℕ). ex 𝓤 (λ (parts' : List ℕ). ex 𝓤 (λ (lengths' : List ℕ). ex 𝓤 (λ (rebuilt' : List ℕ). ex 𝓤 (λ (hours' : List ℕ). ex 𝓤 (λ (windows' : List (List ℕ)). ex 𝓤 (λ (packed' : List (List ℕ)). guard 𝓤 (Facts-4 t reading host turns input' line' kept' out' sessions' streams' objects' held' parts' lengths' rebuilt' hours' windows' packed') (⋆ 𝓛 (At-4 reading host turns input' line' kept' out' sessions' streams' objects' held' parts' lengths' rebuilt' hours' windows' packed'))))))))))) (λ streams'. ex_e 𝓤 (λ (objects' : List Object). ex 𝓤 (λ (held' : List ℕ). ex 𝓤 (λ (parts' : List ℕ). ex 𝓤 (λ (lengths' : List ℕ). ex 𝓤 (λ (rebuilt' : List ℕ). ex 𝓤 (λ (hours' : List ℕ). ex 𝓤 (λ (windows' : List (List ℕ)). ex 𝓤 (λ (packed' : List (List ℕ)). guard 𝓤 (Facts-4 t reading host turns input' line' kept' out' sessions' streams' objects' held' parts' lengths' rebuilt' hours' windows' packed') (⋆ 𝓛 (At-4 reading host turns input' line' kept' out' sessions' streams' objects' held' parts' lengths' rebuilt' hours' windows' packed')))))))))) (λ objects'. ex_e 𝓤 (λ (held' : List ℕ). ex 𝓤 (λ (parts' : List ℕ). ex 𝓤 (λ (lengths' : List ℕ). ex 𝓤 (λ (rebuilt' : List ℕ). ex 𝓤 (λ (hours' : List ℕ). ex 𝓤 (λ (windows' : List (List ℕ)). ex 𝓤 (λ (packed' : List (List ℕ)). guard 𝓤 (Facts-4 t reading host turns input' line' kept' out' sessions' streams' objects' held' parts' lengths' rebuilt' hours' windows' packed') (⋆ 𝓛 (At-4 reading host turns input' line' kept' out' sessions' streams' objects' held' parts' lengths' rebuilt' hours' windows' packed'))))))))) (λ held'. ex_e 𝓤 (λ (parts' : List ℕ). ex 𝓤 (λ (lengths' : List ℕ). ex 𝓤 (λ (rebuilt' : List ℕ). ex 𝓤 (λ (hours' : List ℕ). ex 𝓤 (λ (windows' : List (List ℕ)). ex 𝓤 (λ (packed' : List (List ℕ)). guard 𝓤 (Facts-4 t reading host turns input' line' kept' out' sessions' streams' objects' held' parts' lengths' rebuilt' hours' windows' packed') (⋆ 𝓛 (At-4 reading host turns input' line' kept' out' sessions' streams' objects' held' parts' lengths' rebuilt' hours' windows' packed')))))))) (λ parts'. ex_e 𝓤 (λ (lengths' : List ℕ). ex 𝓤 (λ (rebuilt' : List ℕ). ex 𝓤 (λ (hours' : List ℕ). ex 𝓤 (λ (windows' : List (List ℕ)). ex 𝓤 (λ (packed' : List (List ℕ)). guard 𝓤 (Facts-4 t reading host turns input' line' kept' out' sessions' streams' objects' held' parts' lengths' rebuilt' hours' windows' packed') (⋆ 𝓛 (At-4 reading host turns input' line' kept' out' sessions' streams' objects' held' parts' lengths' rebuilt' hours' windows' packed'))))))) (λ lengths'. ex_e 𝓤 (λ (rebuilt' : List ℕ). ex 𝓤 (λ (hours' : List ℕ). ex 𝓤 (λ (windows' : List (List ℕ)). ex 𝓤 (λ (packed' : List (List ℕ)). guard 𝓤 (Facts-4 t reading host turns input' line' kept' out' sessions' streams' objects' held' parts' lengths' rebuilt' hours' windows' packed') (⋆ 𝓛 (At-4 reading host turns input' line' kept' out' sessions' streams' objects' held' parts' lengths' rebuilt' hours' windows' packed')))))) (λ rebuilt'. ex_e 𝓤 (λ (hours' : List ℕ). ex 𝓤 (λ (windows' : List (List ℕ)). ex 𝓤 (λ (packed' : List (List ℕ)). guard 𝓤 (Facts-4 t reading host turns input' line' kept' out' sessions' streams' objects' held' parts' lengths' rebuilt' hours' windows' packed') (⋆ 𝓛 (At-4 reading host turns input' line' kept' out' sessions' streams' objects' held' parts' lengths' rebuilt' hours' windows' packed'))))) (λ hours'. ex_e 𝓤 (λ (windows' : List (List ℕ)). ex 𝓤 (λ (packed' : List (List ℕ)). guard 𝓤 (Facts-4 t reading host turns input' line' kept' out' sessions' streams' objects' held' parts' lengths' rebuilt' hours' windows' packed') (⋆ 𝓛 (At-4 reading host turns input' line' kept' out' sessions' streams' objects' held' parts' lengths' rebuilt' hours' windows' packed')))) (λ windows'. ex_e 𝓤 (λ (packed' : List (List ℕ)). guard 𝓤 (Facts-4 t reading host turns input' line' kept' out' sessions' streams' objects' held' parts' lengths' rebuilt' hours' windows' packed') (⋆ 𝓛 (At-4 reading host turns input' line' kept' out' sessions' streams' objects' held' parts' lengths' rebuilt' hours' windows' packed'))) (λ packed'. guard_e 𝓤 (Facts-4 t reading host turns input' line' kept' out' sessions' streams' objects' held' parts' lengths' rebuilt' hours' windows' packed') (⋆ 𝓛 (At-4 reading host turns input' line' kept' out' sessions' streams' objects' held' parts' lengths' rebuilt' hours' windows' packed')) (λ fs. turn_4 reading host turns input' line' kept' out' sessions' streams' objects' held' parts' lengths' rebuilt' hours' windows' packed' t fs.1 fs.2 fs.3 fs.4 fs.5 fs.6 fs.7 fs.8 fs.9 fs.10 fs.11 fs.12 fs.13 fs.14 fs.15 fs.16 fs.17 fs.0 fs.18))))))))))))))))))
 
-      loops-4 : (reading : Reading) (reading-is : Is Reading-p.row reading (Reading-p.val reading ∷ [])) → (host : Host) (host-is : Is Host-p.row host (Host-p.val host ∷ [])) → (turns : ℕ) (turns-is : Is u64_p.row turns (u64_p.val turns ∷ [])) → (input' : List ℕ) (input'-len : length input' ≡ n₁) → (line' : List ℕ) (line'-len : length line' ≡ n₂) → (kept' : List ℕ) (kept'-len : length kept' ≡ n₃) → (out' : List ℕ) (out'-len : length out' ≡ n₄) → (sessions' : List (List ℕ)) (sessions'-len : length sessions' ≡ n₅) → (streams' : List (List ℕ)) (streams'-len : length streams' ≡ n₆) → (objects' : List Object) (objects'-len : length objects' ≡ n₇) → (held' : List ℕ) (held'-len : length held' ≡ n₈) → (parts' : List ℕ) (parts'-len : length parts' ≡ n₉) → (lengths' : List ℕ) (lengths'-len : length lengths' ≡ n₁₀) → (rebuilt' : List ℕ) (rebuilt'-len : length rebuilt' ≡ n₁₁) → (hours' : List ℕ) (hours'-len : length hours' ≡ n₁₂) → (windows' : List (List ℕ)) (windows'-len : length windows' ≡ n₁₃) → (packed' : List (List ℕ)) (packed'-len : length packed' ≡ n₁₄) → (Unit {0}) → ent 𝓤 (⋆ 𝓛 (At-4 reading host turns input' line' kept' out' sessions' streams' objects' held' parts' lengths' rebuilt' hours' windows' packed')) (Wp 𝓤 H C Λ En (loop mir.turn-1) Left-4)
-      loops-4 reading reading-is host host-is turns turns-is input' input'-len line' line'-len kept' kept'-len out' out'-len sessions' sessions'-len streams' streams'-len objects' objects'-len held' held'-len parts' parts'-len lengths' lengths'-len rebuilt' rebuilt'-len hours' hours'-len windows' windows'-len packed' packed'-len inv = via 𝓤 (Inv-4 turns) (inv-at-4 turns reading host turns input' line' kept' out' sessions' streams' objects' held' parts' lengths' rebuilt' hours' windows' packed' (refl, reading-is, host-is, turns-is, input'-len, line'-len, kept'-len, out'-len, sessions'-len, streams'-len, objects'-len, held'-len, parts'-len, lengths'-len, rebuilt'-len, hours'-len, windows'-len, packed'-len, inv)) (loop_rule 𝓤 H 𝓛.laws 𝓣 ◌<◌ lt-wf_rel.wf En mir.turn-1 Left-4 Inv-4 turns-4 turns)
+      loops_4 : (reading : Reading) (reading-is : Is Reading-p.row reading (Reading-p.val reading ∷ [])) → (host : Host) (host-is : Is Host-p.row host (Host-p.val host ∷ [])) → (turns : ℕ) (turns-is : Is u64_p.row turns (u64_p.val turns ∷ [])) → (input' : List ℕ) (input'-len : length input' ≡ n₁) → (line' : List ℕ) (line'-len : length line' ≡ n₂) → (kept' : List ℕ) (kept'-len : length kept' ≡ n₃) → (out' : List ℕ) (out'-len : length out' ≡ n₄) → (sessions' : List (List ℕ)) (sessions'-len : length sessions' ≡ n₅) → (streams' : List (List ℕ)) (streams'-len : length streams' ≡ n₆) → (objects' : List Object) (objects'-len : length objects' ≡ n₇) → (held' : List ℕ) (held'-len : length held' ≡ n₈) → (parts' : List ℕ) (parts'-len : length parts' ≡ n₉) → (lengths' : List ℕ) (lengths'-len : length lengths' ≡ n₁₀) → (rebuilt' : List ℕ) (rebuilt'-len : length rebuilt' ≡ n₁₁) → (hours' : List ℕ) (hours'-len : length hours' ≡ n₁₂) → (windows' : List (List ℕ)) (windows'-len : length windows' ≡ n₁₃) → (packed' : List (List ℕ)) (packed'-len : length packed' ≡ n₁₄) → (Unit {0}) → ent 𝓤 (⋆ 𝓛 (At-4 reading host turns input' line' kept' out' sessions' streams' objects' held' parts' lengths' rebuilt' hours' windows' packed')) (Wp 𝓤 H C Λ En (loop mir.turn-1) Left-4)
+      loops_4 reading reading-is host host-is turns turns-is input' input'-len line' line'-len kept' kept'-len out' out'-len sessions' sessions'-len streams' streams'-len objects' objects'-len held' held'-len parts' parts'-len lengths' lengths'-len rebuilt' rebuilt'-len hours' hours'-len windows' windows'-len packed' packed'-len inv = via 𝓤 (Inv-4 turns) (inv_at_4 turns reading host turns input' line' kept' out' sessions' streams' objects' held' parts' lengths' rebuilt' hours' windows' packed' (refl, reading-is, host-is, turns-is, input'-len, line'-len, kept'-len, out'-len, sessions'-len, streams'-len, objects'-len, held'-len, parts'-len, lengths'-len, rebuilt'-len, hours'-len, windows'-len, packed'-len, inv)) (loop_rule 𝓤 H 𝓛.laws 𝓣 ◌<◌ lt-wf_rel.wf En mir.turn-1 Left-4 Inv-4 turns_4 turns)
 
     part_4_0 : (r-1 : Reading-p.row.Denot) → (is-1 : Is Reading-p.row r-1 (Reading-p.val r-1 ∷ [])) → (r-2 : Host-p.row.Denot) → (is-2 : Is Host-p.row r-2 (Host-p.val r-2 ∷ [])) → (r-3 : u64_p.row.Denot) → (is-3 : Is u64_p.row r-3 (u64_p.val r-3 ∷ [])) → Sq 𝓛 (‵ ((MutSlice (named 0) κ₁ u8).own_val (at_list b₁ o₁ γ₁ input) (slice_val (b₁, o₁) n₁ ∷ [])) ∷ ‵ (flft κ₁ q₁) ∷ ‵ ((MutSlice (named 0) κ₂ u8).own_val (at_list b₂ o₂ γ₂ line) (slice_val (b₂, o₂) n₂ ∷ [])) ∷ ‵ (flft κ₂ q₂) ∷ ‵ ((MutSlice (named 0) κ₃ u8).own_val (at_list b₃ o₃ γ₃ kept) (slice_val (b₃, o₃) n₃ ∷ [])) ∷ ‵ (flft κ₃ q₃) ∷ ‵ ((MutSlice (named 0) κ₄ u8).own_val (at_list b₄ o₄ γ₄ out) (slice_val (b₄, o₄) n₄ ∷ [])) ∷ ‵ (flft κ₄ q₄) ∷ ‵ ((MutSlice (named 0) κ₅ (Array u64 8)).own_val (at_list b₅ o₅ γ₅ sessions) (slice_val (b₅, o₅) n₅ ∷ [])) ∷ ‵ (flft κ₅ q₅) ∷ ‵ ((MutSlice (named 0) κ₆ (Array u16 35)).own_val (at_list b₆ o₆ γ₆ streams) (slice_val (b₆, o₆) n₆ ∷ [])) ∷ ‵ (flft κ₆ q₆) ∷ ‵ ((MutSlice (named 0) κ₇ Object-t.the_row).own_val (at_list b₇ o₇ γ₇ objects) (slice_val (b₇, o₇) n₇ ∷ [])) ∷ ‵ (flft κ₇ q₇) ∷ ‵ ((MutSlice (named 0) κ₈ u8).own_val (at_list b₈ o₈ γ₈ held) (slice_val (b₈, o₈) n₈ ∷ [])) ∷ ‵ (flft κ₈ q₈) ∷ ‵ ((MutSlice (named 0) κ₉ u8).own_val (at_list b₉ o₉ γ₉ parts) (slice_val (b₉, o₉) n₉ ∷ [])) ∷ ‵ (flft κ₉ q₉) ∷ ‵ ((MutSlice (named 0) κ₁₀ u32).own_val (at_list b₁₀ o₁₀ γ₁₀ lengths) (slice_val (b₁₀, o₁₀) n₁₀ ∷ [])) ∷ ‵ (flft κ₁₀ q₁₀) ∷ ‵ ((MutSlice (named 0) κ₁₁ u8).own_val (at_list b₁₁ o₁₁ γ₁₁ rebuilt) (slice_val (b₁₁, o₁₁) n₁₁ ∷ [])) ∷ ‵ (flft κ₁₁ q₁₁) ∷ ‵ ((MutSlice (named 0) κ₁₂ u8).own_val (at_list b₁₂ o₁₂ γ₁₂ hours) (slice_val (b₁₂, o₁₂) n₁₂ ∷ [])) ∷ ‵ (flft κ₁₂ q₁₂) ∷ ‵ ((MutSlice (named 0) κ₁₃ (Array u16 3)).own_val (at_list b₁₃ o₁₃ γ₁₃ windows) (slice_val (b₁₃, o₁₃) n₁₃ ∷ [])) ∷ ‵ (flft κ₁₃ q₁₃) ∷ ‵ ((MutSlice (named 0) κ₁₄ (Array u64 2)).own_val (at_list b₁₄ o₁₄ γ₁₄ packed) (slice_val (b₁₄, o₁₄) n₁₄ ∷ [])) ∷ ‵ (flft κ₁₄ q₁₄) ∷ free 𝓤 (slice_ty (ty_ref erased mut (pointee (Array u64 2).written))) l₅₅ (free 𝓤 (ty_ref erased mut (pointee (Array u64 2).written)) l₅₄ (free 𝓤 (slice_ty (ty_ref erased mut (pointee u8.written))) l₅₃ (free 𝓤 (ty_ref erased mut (pointee u8.written)) l₅₂ (free 𝓤 (slice_ty (ty_ref erased imm (pointee u8.written))) l₅₁ (free 𝓤 (ty_ref erased imm (pointee u8.written)) l₅₀ (free 𝓤 (slice_ty (ty_ref erased mut (pointee u8.written))) l₄₉ (free 𝓤 (ty_ref erased mut (pointee u8.written)) l₄₈ (free 𝓤 (slice_ty (ty_ref erased mut (pointee (Array u16 3).written))) l₄₇ (free 𝓤 (ty_ref erased mut (pointee (Array u16 3).written)) l₄₆ (free 𝓤 (slice_ty (ty_ref erased mut (pointee u8.written))) l₄₅ (free 𝓤 (ty_ref erased mut (pointee u8.written)) l₄₄ (free 𝓤 (slice_ty (ty_ref erased mut (pointee u8.written))) l₄₃ (free 𝓤 (ty_ref erased mut (pointee u8.written)) l₄₂ (free 𝓤 (slice_ty (ty_ref erased mut (pointee u32.written))) l₄₁ (free 𝓤 (ty_ref erased mut (pointee u32.written)) l₄₀ (free 𝓤 (slice_ty (ty_ref erased mut (pointee u8.written))) l₃₉ (free 𝓤 (ty_ref erased mut (pointee u8.written)) l₃₈ (free 𝓤 (slice_ty (ty_ref erased mut (pointee u8.written))) l₃₇ (free 𝓤 (ty_ref erased mut (pointee u8.written)) l₃₆ (free 𝓤 (slice_ty (ty_ref erased mut (pointee (Object-t.the_row).written))) l₃₅ (free 𝓤 (ty_ref erased mut (pointee (Object-t.the_row).written)) l₃₄ (free 𝓤 (slice_ty (ty_ref erased mut (pointee (Array u16 35).written))) l₃₃ (free 𝓤 (ty_ref erased mut (pointee (Array u16 35).written)) l₃₂ (free 𝓤 (slice_ty (ty_ref erased mut (pointee (Array u64 8).written))) l₃₁ (free 𝓤 (ty_ref erased mut (pointee (Array u64 8).written)) l₃₀ (free 𝓤 (slice_ty (ty_ref erased mut (pointee (Array u16 3).written))) l₂₉ (free 𝓤 (ty_ref erased mut (pointee (Array u16 3).written)) l₂₈ (free 𝓤 (slice_ty (ty_ref erased mut (pointee u8.written))) l₂₇ (free 𝓤 (ty_ref erased mut (pointee u8.written)) l₂₆ (free 𝓤 (slice_ty (ty_ref erased mut (pointee u8.written))) l₂₅ (free 𝓤 (ty_ref erased mut (pointee u8.written)) l₂₄ (free 𝓤 (slice_ty (ty_ref erased mut (pointee u8.written))) l₂₃ (free 𝓤 (ty_ref erased mut (pointee u8.written)) l₂₂ (free 𝓤 ty_bool l₂₁ (free 𝓤 Command-l.mir l₂₀ (free 𝓤 ty_bool l₁₉ (free 𝓤 ty_bool l₁₈ (full 𝓤 (ty_int w64) l₁₇ (u64_p.val r-3) (full 𝓤 Host-l.mir l₁₆ (Host-p.val r-2) (full 𝓤 Reading-l.mir l₁₅ (Reading-p.val r-1) (full 𝓤 (slice_ty (ty_ref (named 13) mut (pointee (Array u64 2).written))) l₁₄ (slice_val (b₁₄, o₁₄) n₁₄) (full 𝓤 (slice_ty (ty_ref (named 12) mut (pointee (Array u16 3).written))) l₁₃ (slice_val (b₁₃, o₁₃) n₁₃) (full 𝓤 (slice_ty (ty_ref (named 11) mut (pointee u8.written))) l₁₂ (slice_val (b₁₂, o₁₂) n₁₂) (full 𝓤 (slice_ty (ty_ref (named 10) mut (pointee u8.written))) l₁₁ (slice_val (b₁₁, o₁₁) n₁₁) (full 𝓤 (slice_ty (ty_ref (named 9) mut (pointee u32.written))) l₁₀ (slice_val (b₁₀, o₁₀) n₁₀) (full 𝓤 (slice_ty (ty_ref (named 8) mut (pointee u8.written))) l₉ (slice_val (b₉, o₉) n₉) (full 𝓤 (slice_ty (ty_ref (named 7) mut (pointee u8.written))) l₈ (slice_val (b₈, o₈) n₈) (full 𝓤 (slice_ty (ty_ref (named 6) mut (pointee (Object-t.the_row).written))) l₇ (slice_val (b₇, o₇) n₇) (full 𝓤 (slice_ty (ty_ref (named 5) mut (pointee (Array u16 35).written))) l₆ (slice_val (b₆, o₆) n₆) (full 𝓤 (slice_ty (ty_ref (named 4) mut (pointee (Array u64 8).written))) l₅ (slice_val (b₅, o₅) n₅) (full 𝓤 (slice_ty (ty_ref (named 3) mut (pointee u8.written))) l₄ (slice_val (b₄, o₄) n₄) (full 𝓤 (slice_ty (ty_ref (named 2) mut (pointee u8.written))) l₃ (slice_val (b₃, o₃) n₃) (full 𝓤 (slice_ty (ty_ref (named 1) mut (pointee u8.written))) l₂ (slice_val (b₂, o₂) n₂) (full 𝓤 (slice_ty (ty_ref (named 0) mut (pointee u8.written))) l₁ (slice_val (b₁, o₁) n₁) (free 𝓤 ty_unit l₀ ([]))))))))))))))))))))))))))))))))))))))))))))))))))))))))) (runs C Λ En mir.t-4 (at_ret En Post))
     part_4_0 r-1 is-1 r-2 is-2 r-3 is-3 =
         first ! $
         blocks ! $
-        by ! (loops-4 r-1 is-1 r-2 is-2 r-3 is-3 r-1 is-1 r-2 is-2 r-3 is-3 input refl line refl kept refl out refl sessions refl streams refl objects refl held refl parts refl lengths refl rebuilt refl hours refl windows refl packed refl (tt))
+        by ! (loops_4 r-1 is-1 r-2 is-2 r-3 is-3 r-1 is-1 r-2 is-2 r-3 is-3 input refl line refl kept refl out refl sessions refl streams refl objects refl held refl parts refl lengths refl rebuilt refl hours refl windows refl packed refl (tt))
 
     part_3_0 : (r-1 : Reading-p.row.Denot) → (is-1 : Is Reading-p.row r-1 (Reading-p.val r-1 ∷ [])) → (r-2 : Host-p.row.Denot) → (is-2 : Is Host-p.row r-2 (Host-p.val r-2 ∷ [])) → Sq 𝓛 (‵ ((MutSlice (named 0) κ₁ u8).own_val (at_list b₁ o₁ γ₁ input) (slice_val (b₁, o₁) n₁ ∷ [])) ∷ ‵ (flft κ₁ q₁) ∷ ‵ ((MutSlice (named 0) κ₂ u8).own_val (at_list b₂ o₂ γ₂ line) (slice_val (b₂, o₂) n₂ ∷ [])) ∷ ‵ (flft κ₂ q₂) ∷ ‵ ((MutSlice (named 0) κ₃ u8).own_val (at_list b₃ o₃ γ₃ kept) (slice_val (b₃, o₃) n₃ ∷ [])) ∷ ‵ (flft κ₃ q₃) ∷ ‵ ((MutSlice (named 0) κ₄ u8).own_val (at_list b₄ o₄ γ₄ out) (slice_val (b₄, o₄) n₄ ∷ [])) ∷ ‵ (flft κ₄ q₄) ∷ ‵ ((MutSlice (named 0) κ₅ (Array u64 8)).own_val (at_list b₅ o₅ γ₅ sessions) (slice_val (b₅, o₅) n₅ ∷ [])) ∷ ‵ (flft κ₅ q₅) ∷ ‵ ((MutSlice (named 0) κ₆ (Array u16 35)).own_val (at_list b₆ o₆ γ₆ streams) (slice_val (b₆, o₆) n₆ ∷ [])) ∷ ‵ (flft κ₆ q₆) ∷ ‵ ((MutSlice (named 0) κ₇ Object-t.the_row).own_val (at_list b₇ o₇ γ₇ objects) (slice_val (b₇, o₇) n₇ ∷ [])) ∷ ‵ (flft κ₇ q₇) ∷ ‵ ((MutSlice (named 0) κ₈ u8).own_val (at_list b₈ o₈ γ₈ held) (slice_val (b₈, o₈) n₈ ∷ [])) ∷ ‵ (flft κ₈ q₈) ∷ ‵ ((MutSlice (named 0) κ₉ u8).own_val (at_list b₉ o₉ γ₉ parts) (slice_val (b₉, o₉) n₉ ∷ [])) ∷ ‵ (flft κ₉ q₉) ∷ ‵ ((MutSlice (named 0) κ₁₀ u32).own_val (at_list b₁₀ o₁₀ γ₁₀ lengths) (slice_val (b₁₀, o₁₀) n₁₀ ∷ [])) ∷ ‵ (flft κ₁₀ q₁₀) ∷ ‵ ((MutSlice (named 0) κ₁₁ u8).own_val (at_list b₁₁ o₁₁ γ₁₁ rebuilt) (slice_val (b₁₁, o₁₁) n₁₁ ∷ [])) ∷ ‵ (flft κ₁₁ q₁₁) ∷ ‵ ((MutSlice (named 0) κ₁₂ u8).own_val (at_list b₁₂ o₁₂ γ₁₂ hours) (slice_val (b₁₂, o₁₂) n₁₂ ∷ [])) ∷ ‵ (flft κ₁₂ q₁₂) ∷ ‵ ((MutSlice (named 0) κ₁₃ (Array u16 3)).own_val (at_list b₁₃ o₁₃ γ₁₃ windows) (slice_val (b₁₃, o₁₃) n₁₃ ∷ [])) ∷ ‵ (flft κ₁₃ q₁₃) ∷ ‵ ((MutSlice (named 0) κ₁₄ (Array u64 2)).own_val (at_list b₁₄ o₁₄ γ₁₄ packed) (slice_val (b₁₄, o₁₄) n₁₄ ∷ [])) ∷ ‵ (flft κ₁₄ q₁₄) ∷ free 𝓤 (slice_ty (ty_ref erased mut (pointee (Array u64 2).written))) l₅₅ (free 𝓤 (ty_ref erased mut (pointee (Array u64 2).written)) l₅₄ (free 𝓤 (slice_ty (ty_ref erased mut (pointee u8.written))) l₅₃ (free 𝓤 (ty_ref erased mut (pointee u8.written)) l₅₂ (free 𝓤 (slice_ty (ty_ref erased imm (pointee u8.written))) l₅₁ (free 𝓤 (ty_ref erased imm (pointee u8.written)) l₅₀ (free 𝓤 (slice_ty (ty_ref erased mut (pointee u8.written))) l₄₉ (free 𝓤 (ty_ref erased mut (pointee u8.written)) l₄₈ (free 𝓤 (slice_ty (ty_ref erased mut (pointee (Array u16 3).written))) l₄₇ (free 𝓤 (ty_ref erased mut (pointee (Array u16 3).written)) l₄₆ (free 𝓤 (slice_ty (ty_ref erased mut (pointee u8.written))) l₄₅ (free 𝓤 (ty_ref erased mut (pointee u8.written)) l₄₄ (free 𝓤 (slice_ty (ty_ref erased mut (pointee u8.written))) l₄₃ (free 𝓤 (ty_ref erased mut (pointee u8.written)) l₄₂ (free 𝓤 (slice_ty (ty_ref erased mut (pointee u32.written))) l₄₁ (free 𝓤 (ty_ref erased mut (pointee u32.written)) l₄₀ (free 𝓤 (slice_ty (ty_ref erased mut (pointee u8.written))) l₃₉ (free 𝓤 (ty_ref erased mut (pointee u8.written)) l₃₈ (free 𝓤 (slice_ty (ty_ref erased mut (pointee u8.written))) l₃₇ (free 𝓤 (ty_ref erased mut (pointee u8.written)) l₃₆ (free 𝓤 (slice_ty (ty_ref erased mut (pointee (Object-t.the_row).written))) l₃₅ (free 𝓤 (ty_ref erased mut (pointee (Object-t.the_row).written)) l₃₄ (free 𝓤 (slice_ty (ty_ref erased mut (pointee (Array u16 35).written))) l₃₃ (free 𝓤 (ty_ref erased mut (pointee (Array u16 35).written)) l₃₂ (free 𝓤 (slice_ty (ty_ref erased mut (pointee (Array u64 8).written))) l₃₁ (free 𝓤 (ty_ref erased mut (pointee (Array u64 8).written)) l₃₀ (free 𝓤 (slice_ty (ty_ref erased mut (pointee (Array u16 3).written))) l₂₉ (free 𝓤 (ty_ref erased mut (pointee (Array u16 3).written)) l₂₈ (free 𝓤 (slice_ty (ty_ref erased mut (pointee u8.written))) l₂₇ (free 𝓤 (ty_ref erased mut (pointee u8.written)) l₂₆ (free 𝓤 (slice_ty (ty_ref erased mut (pointee u8.written))) l₂₅ (free 𝓤 (ty_ref erased mut (pointee u8.written)) l₂₄ (free 𝓤 (slice_ty (ty_ref erased mut (pointee u8.written))) l₂₃ (free 𝓤 (ty_ref erased mut (pointee u8.written)) l₂₂ (free 𝓤 ty_bool l₂₁ (free 𝓤 Command-l.mir l₂₀ (free 𝓤 ty_bool l₁₉ (free 𝓤 ty_bool l₁₈ (free 𝓤 (ty_int w64) l₁₇ (full 𝓤 Host-l.mir l₁₆ (Host-p.val r-2) (full 𝓤 Reading-l.mir l₁₅ (Reading-p.val r-1) (full 𝓤 (slice_ty (ty_ref (named 13) mut (pointee (Array u64 2).written))) l₁₄ (slice_val (b₁₄, o₁₄) n₁₄) (full 𝓤 (slice_ty (ty_ref (named 12) mut (pointee (Array u16 3).written))) l₁₃ (slice_val (b₁₃, o₁₃) n₁₃) (full 𝓤 (slice_ty (ty_ref (named 11) mut (pointee u8.written))) l₁₂ (slice_val (b₁₂, o₁₂) n₁₂) (full 𝓤 (slice_ty (ty_ref (named 10) mut (pointee u8.written))) l₁₁ (slice_val (b₁₁, o₁₁) n₁₁) (full 𝓤 (slice_ty (ty_ref (named 9) mut (pointee u32.written))) l₁₀ (slice_val (b₁₀, o₁₀) n₁₀) (full 𝓤 (slice_ty (ty_ref (named 8) mut (pointee u8.written))) l₉ (slice_val (b₉, o₉) n₉) (full 𝓤 (slice_ty (ty_ref (named 7) mut (pointee u8.written))) l₈ (slice_val (b₈, o₈) n₈) (full 𝓤 (slice_ty (ty_ref (named 6) mut (pointee (Object-t.the_row).written))) l₇ (slice_val (b₇, o₇) n₇) (full 𝓤 (slice_ty (ty_ref (named 5) mut (pointee (Array u16 35).written))) l₆ (slice_val (b₆, o₆) n₆) (full 𝓤 (slice_ty (ty_ref (named 4) mut (pointee (Array u64 8).written))) l₅ (slice_val (b₅, o₅) n₅) (full 𝓤 (slice_ty (ty_ref (named 3) mut (pointee u8.written))) l₄ (slice_val (b₄, o₄) n₄) (full 𝓤 (slice_ty (ty_ref (named 2) mut (pointee u8.written))) l₃ (slice_val (b₃, o₃) n₃) (full 𝓤 (slice_ty (ty_ref (named 1) mut (pointee u8.written))) l₂ (slice_val (b₂, o₂) n₂) (full 𝓤 (slice_ty (ty_ref (named 0) mut (pointee u8.written))) l₁ (slice_val (b₁, o₁) n₁) (free 𝓤 ty_unit l₀ ([]))))))))))))))))))))))))))))))))))))))))))))))))))))))))) (runs C Λ En mir.t-3 (at_ret En Post))
     part_3_0 r-1 is-1 r-2 is-2 =

@@ -149,15 +149,15 @@ module _ {M : Type 1} {𝓤 : Ura M} (𝓛 : Logic 𝓤) (mem : Memory → SProp
       abbrev Left-2 : Out → SProp 𝓤
       Left-2 = after_block 𝓤 H (after_seq 𝓤 H (Wp 𝓤 H C Λ En mir.t-3 (at_return 𝓤 H En Post)) (at_return 𝓤 H En Post))
 
-      inv-at-2 : (t : ℕ) → (i : ℕ) → Facts-2 t i → ent 𝓤 (⋆ 𝓛 (At-2 i)) (Inv-2 t)
-      inv-at-2 t i fs = via 𝓤 (guard 𝓤 (Facts-2 t i) (⋆ 𝓛 (At-2 i))) (guard_i 𝓤 (Facts-2 t i) (⋆ 𝓛 (At-2 i)) fs) (ex_i 𝓤 (λ (i : ℕ). guard 𝓤 (Facts-2 t i) (⋆ 𝓛 (At-2 i))) i)
+      inv_at_2 : (t : ℕ) → (i : ℕ) → Facts-2 t i → ent 𝓤 (⋆ 𝓛 (At-2 i)) (Inv-2 t)
+      inv_at_2 t i fs = via 𝓤 (guard 𝓤 (Facts-2 t i) (⋆ 𝓛 (At-2 i))) (guard_i 𝓤 (Facts-2 t i) (⋆ 𝓛 (At-2 i)) fs) (ex_i 𝓤 (λ (i : ℕ). guard 𝓤 (Facts-2 t i) (⋆ 𝓛 (At-2 i))) i)
 
-      again-2 : (t : ℕ) → (i : ℕ) → (i-is : Is u64_p.row i (u64_p.val i ∷ [])) → ((i ≤ used) × (search.from row used within o i ≡ depended_in row used o)) → ((used - i) < t) → ent 𝓤 (⋆ 𝓛 (At-2 i)) (Below-2 t)
-      again-2 t i i-is inv less = via 𝓤 (Inv-2 (used - i)) (inv-at-2 (used - i) i (refl, i-is, inv)) (via 𝓤 (guard 𝓤 ((used - i) < t) (Inv-2 (used - i))) (guard_i 𝓤 ((used - i) < t) (Inv-2 (used - i)) less) (ex_i 𝓤 (λ (u : ℕ). guard 𝓤 (u < t) (Inv-2 u)) (used - i)))
+      again_2 : (t : ℕ) → (i : ℕ) → (i-is : Is u64_p.row i (u64_p.val i ∷ [])) → ((i ≤ used) × (search.from row used within o i ≡ depended_in row used o)) → ((used - i) < t) → ent 𝓤 (⋆ 𝓛 (At-2 i)) (Below-2 t)
+      again_2 t i i-is inv less = via 𝓤 (Inv-2 (used - i)) (inv_at_2 (used - i) i (refl, i-is, inv)) (via 𝓤 (guard 𝓤 ((used - i) < t) (Inv-2 (used - i))) (guard_i 𝓤 ((used - i) < t) (Inv-2 (used - i)) less) (ex_i 𝓤 (λ (u : ℕ). guard 𝓤 (u < t) (Inv-2 u)) (used - i)))
 
-      turn-2 : (i : ℕ) → (t-2 : ℕ) → (i-is : Is u64_p.row i (u64_p.val i ∷ [])) → (t-is-2 : t-2 ≡ used - i) → (inv-2 : (i ≤ used) × (search.from row used within o i ≡ depended_in row used o)) → ent 𝓤 (⋆ 𝓛 (At-2 i)) (Wp 𝓤 H C Λ En mir.turn-1 (after_turn 𝓤 H (Below-2 t-2) Left-2))
+      turn_2 : (i : ℕ) → (t-2 : ℕ) → (i-is : Is u64_p.row i (u64_p.val i ∷ [])) → (t-is-2 : t-2 ≡ used - i) → (inv-2 : (i ≤ used) × (search.from row used within o i ≡ depended_in row used o)) → ent 𝓤 (⋆ 𝓛 (At-2 i)) (Wp 𝓤 H C Λ En mir.turn-1 (after_turn 𝓤 H (Below-2 t-2) Left-2))
       unfolding after_turn
-      turn-2 i t-2 i-is t-is-2 inv-2 =
+      turn_2 i t-2 i-is t-is-2 inv-2 =
           qed 𝓛 (At-2 i) ∵ exec ! C Λ En mir.turn-1 (any_q (after_turn 𝓤 H (Below-2 t-2) Left-2)) $
           assigns ! (bin ! (load ! (from ! (stop !)) (look ! 14 refl)) (load ! (from ! (stop !)) (look ! 18 refl)) (tt)) (from ! (stop !)) (init ! 8 refl (bool_p.typed 𝓛 (ltb i used) refl)) $
           first ! $
@@ -197,7 +197,7 @@ module _ {M : Type 1} {𝓤 : Ura M} (𝓛 : Logic 𝓤) (mem : Memory → SProp
           exec ! C Λ En (past 9 mir.turn-1) (any_q (after_turn 𝓤 H (Below-2 t-2) Left-2)) $
           knows ! (i + 1 < 2 ^ 64) (omega (arith, ltb-true, ltb-false, leb-true, leb-false, eqb-true, eqb-false)) (λ fits-2·10.
           assigns_last ! (bin ! (load ! (from ! (stop !)) (look ! 14 refl)) (lit ! tt) (record { fits = fits-2·10 })) (from ! (stop !)) (store ! 14 refl (u64_p.typed 𝓛 (i + 1) ((refl, fits-2·10)))) $ forget ! 2 refl $ forget ! 4 refl $ forget ! 6 refl $ forget ! 8 refl $ forget ! 10 refl $ forget ! 12 refl $
-          by ! (again-2 t-2 (i + 1) ((refl, fits-2·10)) (((omega (arith, ltb-true, ltb-false, leb-true, leb-false, eqb-true, eqb-false)), search.past_miss row used within o i (omega (arith, ltb-true, ltb-false, leb-true, leb-false, eqb-true, eqb-false)) c-2·9 ∙ inv-2.1)) (omega (arith, ltb-true, ltb-false, leb-true, leb-false, eqb-true, eqb-false))))))))))))
+          by ! (again_2 t-2 (i + 1) ((refl, fits-2·10)) (((omega (arith, ltb-true, ltb-false, leb-true, leb-false, eqb-true, eqb-false)), search.past_miss row used within o i (omega (arith, ltb-true, ltb-false, leb-true, leb-false, eqb-true, eqb-false)) c-2·9 ∙ inv-2.1)) (omega (arith, ltb-true, ltb-false, leb-true, leb-false, eqb-true, eqb-false))))))))))))
           (λ h-2·2.
           knows ! (ltb i used ≡ false) (fails (ltb i used) (T_not (ltb i used) h-2·2)) (λ c-2·2.
           jumps ! $
@@ -206,18 +206,18 @@ module _ {M : Type 1} {𝓤 : Ura M} (𝓛 : Logic 𝓤) (mem : Memory → SProp
           returns ! (look ! 22 refl) $ forget ! 8 refl $ forget ! 14 refl $ forget ! 16 refl $ forget ! 18 refl $ forget ! 20 refl $ forget ! 22 refl $ move ! (22 ∷ 23 ∷ []) $ free1 ! $ move ! (20 ∷ 21 ∷ []) $ free1 ! $ move ! (18 ∷ 19 ∷ []) $ free1 ! $ move ! (16 ∷ 17 ∷ []) $ free1 ! $ move ! (14 ∷ 15 ∷ []) $ free1 ! $ move ! (12 ∷ 13 ∷ []) $ free1 ! $ move ! (10 ∷ 11 ∷ []) $ free1 ! $ move ! (8 ∷ 9 ∷ []) $ free1 ! $ move ! (6 ∷ 7 ∷ []) $ free1 ! $ move ! (4 ∷ 5 ∷ []) $ free1 ! $ move ! (2 ∷ 3 ∷ []) $ free1 ! $ free0 ! $
           by ! (exits false (search.at_end row used within o i (omega (arith, ltb-true, ltb-false, leb-true, leb-false, eqb-true, eqb-false)) ∙ inv-2.1) refl)))
 
-      turns-2 : (t : ℕ) → ent 𝓤 (Inv-2 t) (Wp 𝓤 H C Λ En mir.turn-1 (after_turn 𝓤 H (Below-2 t) Left-2))
-      turns-2 t = ex_e 𝓤 (λ (i : ℕ). guard 𝓤 (Facts-2 t i) (⋆ 𝓛 (At-2 i))) (λ i. guard_e 𝓤 (Facts-2 t i) (⋆ 𝓛 (At-2 i)) (λ fs. turn-2 i t fs.1 fs.0 fs.2))
+      turns_2 : (t : ℕ) → ent 𝓤 (Inv-2 t) (Wp 𝓤 H C Λ En mir.turn-1 (after_turn 𝓤 H (Below-2 t) Left-2))
+      turns_2 t = ex_e 𝓤 (λ (i : ℕ). guard 𝓤 (Facts-2 t i) (⋆ 𝓛 (At-2 i))) (λ i. guard_e 𝓤 (Facts-2 t i) (⋆ 𝓛 (At-2 i)) (λ fs. turn_2 i t fs.1 fs.0 fs.2))
 
-      loops-2 : (i : ℕ) (i-is : Is u64_p.row i (u64_p.val i ∷ [])) → ((i ≤ used) × (search.from row used within o i ≡ depended_in row used o)) → ent 𝓤 (⋆ 𝓛 (At-2 i)) (Wp 𝓤 H C Λ En (loop mir.turn-1) Left-2)
-      loops-2 i i-is inv = via 𝓤 (Inv-2 (used - i)) (inv-at-2 (used - i) i (refl, i-is, inv)) (loop_rule 𝓤 H 𝓛.laws 𝓣 ◌<◌ lt-wf_rel.wf En mir.turn-1 Left-2 Inv-2 turns-2 (used - i))
+      loops_2 : (i : ℕ) (i-is : Is u64_p.row i (u64_p.val i ∷ [])) → ((i ≤ used) × (search.from row used within o i ≡ depended_in row used o)) → ent 𝓤 (⋆ 𝓛 (At-2 i)) (Wp 𝓤 H C Λ En (loop mir.turn-1) Left-2)
+      loops_2 i i-is inv = via 𝓤 (Inv-2 (used - i)) (inv_at_2 (used - i) i (refl, i-is, inv)) (loop_rule 𝓤 H 𝓛.laws 𝓣 ◌<◌ lt-wf_rel.wf En mir.turn-1 Left-2 Inv-2 turns_2 (used - i))
 
     begins : Sq 𝓛 (‵ ((ShrSlice (named 0) κ₁ Object-t.the_row).own_val (at_list b₁ o₁ γ₁ row) (slice_val (b₁, o₁) n₁ ∷ [])) ∷ ‵ (flft κ₁ q₁) ∷ free 𝓤 Object-l.mir l₁₀ (free 𝓤 ty_ptr l₉ (free 𝓤 (ty_int w64) l₈ (free 𝓤 ty_bool l₇ (free 𝓤 ty_bool l₆ (free 𝓤 Object-l.mir l₅ (free 𝓤 (ty_int w64) l₄ (full 𝓤 Object-l.mir l₃ (Object-p.val o) (full 𝓤 (ty_int w64) l₂ (u64_p.val used) (full 𝓤 (slice_ty (ty_ref (named 0) imm (pointee (Object-t.the_row).written))) l₁ (slice_val (b₁, o₁) n₁) (free 𝓤 ty_bool l₀ ([])))))))))))) (runs C Λ En mir.t-1 (at_ret En Post))
     begins =
         assigns ! (of_opd ! (lit ! tt)) (from ! (stop !)) (init ! 14 refl (u64_p.typed 𝓛 0 ((refl, lit< tt)))) $
         first ! $
         blocks ! $
-        by ! (loops-2 0 ((refl, lit< tt)) (((omega (arith, ltb-true, ltb-false, leb-true, leb-false, eqb-true, eqb-false)), refl)))
+        by ! (loops_2 0 ((refl, lit< tt)) (((omega (arith, ltb-true, ltb-false, leb-true, leb-false, eqb-true, eqb-false)), refl)))
 
   module _ (𝓣 : Tables 𝓤 H) (known-objects-depends : Triple 𝓤 (𝓣.C #objects-depends) (Of-objects-depends 𝓛 mem run)) where
     walk : ent 𝓤 (on_entry 𝓛 f.signature (κ₁, tt) (q₁, tt) x at) (WpFn 𝓤 H 𝓣.C 𝓣.Λ code.function (slice_val (b₁, o₁) n₁ ∷ u64_p.val used ∷ Object-p.val o ∷ []) Post)

@@ -156,15 +156,15 @@ module _ {M : Type 1} {𝓤 : Ura M} (𝓛 : Logic 𝓤) (mem : Memory → SProp
       abbrev Left-2 : Out → SProp 𝓤
       Left-2 = after_block 𝓤 H (after_seq 𝓤 H (Wp 𝓤 H C Λ En mir.t-3 (at_return 𝓤 H En Post)) (at_return 𝓤 H En Post))
 
-      inv-at-2 : (t : ℕ) → (seen : ℕ) → Facts-2 t seen → ent 𝓤 (⋆ 𝓛 (At-2 seen)) (Inv-2 t)
-      inv-at-2 t seen fs = via 𝓤 (guard 𝓤 (Facts-2 t seen) (⋆ 𝓛 (At-2 seen))) (guard_i 𝓤 (Facts-2 t seen) (⋆ 𝓛 (At-2 seen)) fs) (ex_i 𝓤 (λ (seen : ℕ). guard 𝓤 (Facts-2 t seen) (⋆ 𝓛 (At-2 seen))) seen)
+      inv_at_2 : (t : ℕ) → (seen : ℕ) → Facts-2 t seen → ent 𝓤 (⋆ 𝓛 (At-2 seen)) (Inv-2 t)
+      inv_at_2 t seen fs = via 𝓤 (guard 𝓤 (Facts-2 t seen) (⋆ 𝓛 (At-2 seen))) (guard_i 𝓤 (Facts-2 t seen) (⋆ 𝓛 (At-2 seen)) fs) (ex_i 𝓤 (λ (seen : ℕ). guard 𝓤 (Facts-2 t seen) (⋆ 𝓛 (At-2 seen))) seen)
 
-      again-2 : (t : ℕ) → (seen : ℕ) → (seen-is : Is u64_p.row seen (u64_p.val seen ∷ [])) → ((seen ≤ used) × (object_place row (used - seen) number ≡ object_place row used number)) → ((used - seen) < t) → ent 𝓤 (⋆ 𝓛 (At-2 seen)) (Below-2 t)
-      again-2 t seen seen-is inv less = via 𝓤 (Inv-2 (used - seen)) (inv-at-2 (used - seen) seen (refl, seen-is, inv)) (via 𝓤 (guard 𝓤 ((used - seen) < t) (Inv-2 (used - seen))) (guard_i 𝓤 ((used - seen) < t) (Inv-2 (used - seen)) less) (ex_i 𝓤 (λ (u : ℕ). guard 𝓤 (u < t) (Inv-2 u)) (used - seen)))
+      again_2 : (t : ℕ) → (seen : ℕ) → (seen-is : Is u64_p.row seen (u64_p.val seen ∷ [])) → ((seen ≤ used) × (object_place row (used - seen) number ≡ object_place row used number)) → ((used - seen) < t) → ent 𝓤 (⋆ 𝓛 (At-2 seen)) (Below-2 t)
+      again_2 t seen seen-is inv less = via 𝓤 (Inv-2 (used - seen)) (inv_at_2 (used - seen) seen (refl, seen-is, inv)) (via 𝓤 (guard 𝓤 ((used - seen) < t) (Inv-2 (used - seen))) (guard_i 𝓤 ((used - seen) < t) (Inv-2 (used - seen)) less) (ex_i 𝓤 (λ (u : ℕ). guard 𝓤 (u < t) (Inv-2 u)) (used - seen)))
 
-      turn-2 : (seen : ℕ) → (t-2 : ℕ) → (seen-is : Is u64_p.row seen (u64_p.val seen ∷ [])) → (t-is-2 : t-2 ≡ used - seen) → (inv-2 : (seen ≤ used) × (object_place row (used - seen) number ≡ object_place row used number)) → ent 𝓤 (⋆ 𝓛 (At-2 seen)) (Wp 𝓤 H C Λ En mir.turn-1 (after_turn 𝓤 H (Below-2 t-2) Left-2))
+      turn_2 : (seen : ℕ) → (t-2 : ℕ) → (seen-is : Is u64_p.row seen (u64_p.val seen ∷ [])) → (t-is-2 : t-2 ≡ used - seen) → (inv-2 : (seen ≤ used) × (object_place row (used - seen) number ≡ object_place row used number)) → ent 𝓤 (⋆ 𝓛 (At-2 seen)) (Wp 𝓤 H C Λ En mir.turn-1 (after_turn 𝓤 H (Below-2 t-2) Left-2))
       unfolding after_turn
-      turn-2 seen t-2 seen-is t-is-2 inv-2 =
+      turn_2 seen t-2 seen-is t-is-2 inv-2 =
           qed 𝓛 (At-2 seen) ∵ exec ! C Λ En mir.turn-1 (any_q (after_turn 𝓤 H (Below-2 t-2) Left-2)) $
           assigns ! (bin ! (load ! (from ! (stop !)) (look ! 16 refl)) (load ! (from ! (stop !)) (look ! 20 refl)) (tt)) (from ! (stop !)) (init ! 8 refl (bool_p.typed 𝓛 (ltb seen used) refl)) $
           first ! $
@@ -210,7 +210,7 @@ module _ {M : Type 1} {𝓤 : Ura M} (𝓛 : Logic 𝓤) (mem : Memory → SProp
           exec ! C Λ En (past 11 mir.turn-1) (any_q (after_turn 𝓤 H (Below-2 t-2) Left-2)) $
           knows ! (seen + 1 < 2 ^ 64) (omega (arith, ltb-true, ltb-false, leb-true, leb-false, eqb-true, eqb-false)) (λ fits-2·12.
           assigns_last ! (bin ! (load ! (from ! (stop !)) (look ! 16 refl)) (lit ! tt) (record { fits = fits-2·12 })) (from ! (stop !)) (store ! 16 refl (u64_p.typed 𝓛 (seen + 1) ((refl, fits-2·12)))) $ forget ! 2 refl $ forget ! 4 refl $ forget ! 6 refl $ forget ! 8 refl $ forget ! 10 refl $ forget ! 12 refl $ forget ! 14 refl $
-          by ! (again-2 t-2 (seen + 1) ((refl, fits-2·12)) (((omega (arith, ltb-true, ltb-false, leb-true, leb-false, eqb-true, eqb-false)), past_miss row number used seen (omega (arith, ltb-true, ltb-false, leb-true, leb-false, eqb-true, eqb-false)) c-2·11 ∙ inv-2.1)) (omega (arith, ltb-true, ltb-false, leb-true, leb-false, eqb-true, eqb-false))))))))))))))))
+          by ! (again_2 t-2 (seen + 1) ((refl, fits-2·12)) (((omega (arith, ltb-true, ltb-false, leb-true, leb-false, eqb-true, eqb-false)), past_miss row number used seen (omega (arith, ltb-true, ltb-false, leb-true, leb-false, eqb-true, eqb-false)) c-2·11 ∙ inv-2.1)) (omega (arith, ltb-true, ltb-false, leb-true, leb-false, eqb-true, eqb-false))))))))))))))))
           (λ h-2·2.
           knows ! (ltb seen used ≡ false) (fails (ltb seen used) (T_not (ltb seen used) h-2·2)) (λ c-2·2.
           jumps ! $
@@ -219,18 +219,18 @@ module _ {M : Type 1} {𝓤 : Ura M} (𝓛 : Logic 𝓤) (mem : Memory → SProp
           returns ! (look ! 24 refl) $ forget ! 8 refl $ forget ! 16 refl $ forget ! 18 refl $ forget ! 20 refl $ forget ! 22 refl $ forget ! 24 refl $ move ! (24 ∷ 25 ∷ []) $ free1 ! $ move ! (22 ∷ 23 ∷ []) $ free1 ! $ move ! (20 ∷ 21 ∷ []) $ free1 ! $ move ! (18 ∷ 19 ∷ []) $ free1 ! $ move ! (16 ∷ 17 ∷ []) $ free1 ! $ move ! (14 ∷ 15 ∷ []) $ free1 ! $ move ! (12 ∷ 13 ∷ []) $ free1 ! $ move ! (10 ∷ 11 ∷ []) $ free1 ! $ move ! (8 ∷ 9 ∷ []) $ free1 ! $ move ! (6 ∷ 7 ∷ []) $ free1 ! $ move ! (4 ∷ 5 ∷ []) $ free1 ! $ move ! (2 ∷ 3 ∷ []) $ free1 ! $ free0 ! $
           by ! (exits Place-Nowhere (at_end row number used seen (omega (arith, ltb-true, ltb-false, leb-true, leb-false, eqb-true, eqb-false)) ∙ inv-2.1) (EL.owes Place-t.the_type Place-l.the_laws Place-Nowhere tt))))
 
-      turns-2 : (t : ℕ) → ent 𝓤 (Inv-2 t) (Wp 𝓤 H C Λ En mir.turn-1 (after_turn 𝓤 H (Below-2 t) Left-2))
-      turns-2 t = ex_e 𝓤 (λ (seen : ℕ). guard 𝓤 (Facts-2 t seen) (⋆ 𝓛 (At-2 seen))) (λ seen. guard_e 𝓤 (Facts-2 t seen) (⋆ 𝓛 (At-2 seen)) (λ fs. turn-2 seen t fs.1 fs.0 fs.2))
+      turns_2 : (t : ℕ) → ent 𝓤 (Inv-2 t) (Wp 𝓤 H C Λ En mir.turn-1 (after_turn 𝓤 H (Below-2 t) Left-2))
+      turns_2 t = ex_e 𝓤 (λ (seen : ℕ). guard 𝓤 (Facts-2 t seen) (⋆ 𝓛 (At-2 seen))) (λ seen. guard_e 𝓤 (Facts-2 t seen) (⋆ 𝓛 (At-2 seen)) (λ fs. turn_2 seen t fs.1 fs.0 fs.2))
 
-      loops-2 : (seen : ℕ) (seen-is : Is u64_p.row seen (u64_p.val seen ∷ [])) → ((seen ≤ used) × (object_place row (used - seen) number ≡ object_place row used number)) → ent 𝓤 (⋆ 𝓛 (At-2 seen)) (Wp 𝓤 H C Λ En (loop mir.turn-1) Left-2)
-      loops-2 seen seen-is inv = via 𝓤 (Inv-2 (used - seen)) (inv-at-2 (used - seen) seen (refl, seen-is, inv)) (loop_rule 𝓤 H 𝓛.laws 𝓣 ◌<◌ lt-wf_rel.wf En mir.turn-1 Left-2 Inv-2 turns-2 (used - seen))
+      loops_2 : (seen : ℕ) (seen-is : Is u64_p.row seen (u64_p.val seen ∷ [])) → ((seen ≤ used) × (object_place row (used - seen) number ≡ object_place row used number)) → ent 𝓤 (⋆ 𝓛 (At-2 seen)) (Wp 𝓤 H C Λ En (loop mir.turn-1) Left-2)
+      loops_2 seen seen-is inv = via 𝓤 (Inv-2 (used - seen)) (inv_at_2 (used - seen) seen (refl, seen-is, inv)) (loop_rule 𝓤 H 𝓛.laws 𝓣 ◌<◌ lt-wf_rel.wf En mir.turn-1 Left-2 Inv-2 turns_2 (used - seen))
 
     begins : Sq 𝓛 (‵ ((ShrSlice (named 0) κ₁ Object-t.the_row).own_val (at_list b₁ o₁ γ₁ row) (slice_val (b₁, o₁) n₁ ∷ [])) ∷ ‵ (flft κ₁ q₁) ∷ free 𝓤 Object-l.mir l₁₁ (free 𝓤 ty_ptr l₁₀ (free 𝓤 (ty_int w64) l₉ (free 𝓤 ty_bool l₈ (free 𝓤 ty_bool l₇ (free 𝓤 Object-l.mir l₆ (free 𝓤 (ty_int w64) l₅ (free 𝓤 (ty_int w64) l₄ (full 𝓤 ObjectNumber-l.mir l₃ (ObjectNumber-p.val number) (full 𝓤 (ty_int w64) l₂ (u64_p.val used) (full 𝓤 (slice_ty (ty_ref (named 0) imm (pointee (Object-t.the_row).written))) l₁ (slice_val (b₁, o₁) n₁) (free 𝓤 Place-l.mir l₀ ([]))))))))))))) (runs C Λ En mir.t-1 (at_ret En Post))
     begins =
         assigns ! (of_opd ! (lit ! tt)) (from ! (stop !)) (init ! 16 refl (u64_p.typed 𝓛 0 ((refl, lit< tt)))) $
         first ! $
         blocks ! $
-        by ! (loops-2 0 ((refl, lit< tt)) (((omega (arith, ltb-true, ltb-false, leb-true, leb-false, eqb-true, eqb-false)), at_start row number used)))
+        by ! (loops_2 0 ((refl, lit< tt)) (((omega (arith, ltb-true, ltb-false, leb-true, leb-false, eqb-true, eqb-false)), at_start row number used)))
 
   module _ (𝓣 : Tables 𝓤 H) (known-objects-is-numbered : Triple 𝓤 (𝓣.C #objects-is-numbered) (Of-objects-is-numbered 𝓛 mem run)) where
     walk : ent 𝓤 (on_entry 𝓛 f.signature (κ₁, tt) (q₁, tt) x at) (WpFn 𝓤 H 𝓣.C 𝓣.Λ code.function (slice_val (b₁, o₁) n₁ ∷ u64_p.val used ∷ ObjectNumber-p.val number ∷ []) Post)

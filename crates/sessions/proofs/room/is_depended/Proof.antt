@@ -174,7 +174,7 @@ module _ {M : Type 1} {𝓤 : Ura M} (𝓛 : Logic 𝓤) (mem : Memory → SProp
         returns ! (look ! 16 refl) $ forget ! 4 refl $ forget ! 8 refl $ forget ! 10 refl $ forget ! 12 refl $ forget ! 14 refl $ forget ! 16 refl $ move ! (16 ∷ 17 ∷ []) $ free1 ! $ move ! (14 ∷ 15 ∷ []) $ free1 ! $ move ! (12 ∷ 13 ∷ []) $ free1 ! $ move ! (10 ∷ 11 ∷ []) $ free1 ! $ move ! (8 ∷ 9 ∷ []) $ free1 ! $ move ! (6 ∷ 7 ∷ []) $ free1 ! $ move ! (4 ∷ 5 ∷ []) $ free1 ! $ free0 ! $
         by ! (exits false (ap (depended_found sessions objects id) (sym e_1)) refl)
     matched_1_0 (Found-Refused x) e_1 good-1 =
-        knows ! (Is Refusal-p.row x (Refusal-p.val x ∷ [])) (EL.owed Found-t.the_type Found-l.the_laws (Found-Refused x) _ good-1).0 (λ x-is.
+        knows ! (Is Refusal-p.row x (Refusal-p.val x ∷ [])) (EL.owed Found-t.the_type Found-l.the_laws (Found-Refused x) _ good-1).0 (λ x_is.
         switches_on ! (load ! (from ! (vrt ! refl (fld ! refl (stop !)))) (look_tag ! 8 (whole !))) $ exec ! C Λ En (arm_of 2 (one mir.t-1)) (any_q (after_seq 𝓤 H (Wp 𝓤 H C Λ En mir.t-2 (at_return 𝓤 H En Post)) (at_return 𝓤 H En Post))) $
         assigns_last ! (of_opd ! (false_lit !)) (from ! (stop !)) (init ! 4 refl (bool_p.typed 𝓛 false refl)) $
         exec ! C Λ En mir.t-2 (at_ret En Post) $

@@ -246,14 +246,14 @@ module _ {M : Type 1} {𝓤 : Ura M} (𝓛 : Logic 𝓤) (mem : Memory → SProp
         returns ! (look ! 36 refl) $ forget ! 14 refl $ forget ! 24 refl $ forget ! 26 refl $ forget ! 28 refl $ forget ! 30 refl $ forget ! 32 refl $ forget ! 34 refl $ forget ! 36 refl $ move ! (36 ∷ 37 ∷ []) $ free1 ! $ move ! (34 ∷ 35 ∷ []) $ free1 ! $ move ! (32 ∷ 33 ∷ []) $ free1 ! $ move ! (30 ∷ 31 ∷ []) $ free1 ! $ move ! (28 ∷ 29 ∷ []) $ free1 ! $ move ! (26 ∷ 27 ∷ []) $ free1 ! $ move ! (24 ∷ 25 ∷ []) $ free1 ! $ move ! (22 ∷ 23 ∷ []) $ free1 ! $ move ! (20 ∷ 21 ∷ []) $ free1 ! $ move ! (18 ∷ 19 ∷ []) $ free1 ! $ move ! (16 ∷ 17 ∷ []) $ free1 ! $ move ! (14 ∷ 15 ∷ []) $ free1 ! $ move ! (12 ∷ 13 ∷ []) $ free1 ! $ move ! (10 ∷ 11 ∷ []) $ free1 ! $ move ! (8 ∷ 9 ∷ []) $ free1 ! $ move ! (6 ∷ 7 ∷ []) $ free1 ! $ move ! (4 ∷ 5 ∷ []) $ free1 ! $ free0 ! $
         by ! (exits Found-Nothing (found_is sessions objects id number Named-NotLive e_3) (EL.owes Found-t.the_type Found-l.the_laws Found-Nothing tt))
     matched_3_0 is-2 (Named-Refused x) e_3 good-3 =
-        knows ! (Is Refusal-p.row x (Refusal-p.val x ∷ [])) (EL.owed Named-t.the_type Named-l.the_laws (Named-Refused x) _ good-3).0 (λ x-is.
+        knows ! (Is Refusal-p.row x (Refusal-p.val x ∷ [])) (EL.owed Named-t.the_type Named-l.the_laws (Named-Refused x) _ good-3).0 (λ x_is.
         switches_on ! (load ! (from ! (vrt ! refl (fld ! refl (stop !)))) (look_tag ! 24 (whole !))) $ exec ! C Λ En (arm_of 2 (one mir.t-3)) (any_q (after_seq 𝓤 H (Wp 𝓤 H C Λ En mir.t-4 (at_return 𝓤 H En Post)) (at_return 𝓤 H En Post))) $
-        assigns ! (of_opd ! (load ! (from ! (vrt ! refl (fld ! refl (stop !)))) (look_in ! 24 (in_variant ! 2 0 refl refl (whole !))))) (from ! (stop !)) (init ! 16 refl (Refusal-p.typed 𝓛 x x-is)) $
-        assigns_last ! (agg ! (and_then ! (lit ! tt) (and_then ! (load ! (from ! (stop !)) (look ! 16 refl)) (no_more !)))) (from ! (stop !)) (init ! 14 refl (Found-p.typed 𝓛 (Found-Refused x) (EL.owes Found-t.the_type Found-l.the_laws (Found-Refused x) (x-is, tt)))) $
+        assigns ! (of_opd ! (load ! (from ! (vrt ! refl (fld ! refl (stop !)))) (look_in ! 24 (in_variant ! 2 0 refl refl (whole !))))) (from ! (stop !)) (init ! 16 refl (Refusal-p.typed 𝓛 x x_is)) $
+        assigns_last ! (agg ! (and_then ! (lit ! tt) (and_then ! (load ! (from ! (stop !)) (look ! 16 refl)) (no_more !)))) (from ! (stop !)) (init ! 14 refl (Found-p.typed 𝓛 (Found-Refused x) (EL.owes Found-t.the_type Found-l.the_laws (Found-Refused x) (x_is, tt)))) $
         exec ! C Λ En mir.t-4 (at_ret En Post) $
-        assigns ! (of_opd ! (load ! (from ! (stop !)) (look ! 14 refl))) (from ! (stop !)) (init ! 36 refl (Found-p.typed 𝓛 (Found-Refused x) (EL.owes Found-t.the_type Found-l.the_laws (Found-Refused x) (x-is, tt)))) $
+        assigns ! (of_opd ! (load ! (from ! (stop !)) (look ! 14 refl))) (from ! (stop !)) (init ! 36 refl (Found-p.typed 𝓛 (Found-Refused x) (EL.owes Found-t.the_type Found-l.the_laws (Found-Refused x) (x_is, tt)))) $
         returns ! (look ! 36 refl) $ forget ! 14 refl $ forget ! 16 refl $ forget ! 24 refl $ forget ! 26 refl $ forget ! 28 refl $ forget ! 30 refl $ forget ! 32 refl $ forget ! 34 refl $ forget ! 36 refl $ move ! (36 ∷ 37 ∷ []) $ free1 ! $ move ! (34 ∷ 35 ∷ []) $ free1 ! $ move ! (32 ∷ 33 ∷ []) $ free1 ! $ move ! (30 ∷ 31 ∷ []) $ free1 ! $ move ! (28 ∷ 29 ∷ []) $ free1 ! $ move ! (26 ∷ 27 ∷ []) $ free1 ! $ move ! (24 ∷ 25 ∷ []) $ free1 ! $ move ! (22 ∷ 23 ∷ []) $ free1 ! $ move ! (20 ∷ 21 ∷ []) $ free1 ! $ move ! (18 ∷ 19 ∷ []) $ free1 ! $ move ! (16 ∷ 17 ∷ []) $ free1 ! $ move ! (14 ∷ 15 ∷ []) $ free1 ! $ move ! (12 ∷ 13 ∷ []) $ free1 ! $ move ! (10 ∷ 11 ∷ []) $ free1 ! $ move ! (8 ∷ 9 ∷ []) $ free1 ! $ move ! (6 ∷ 7 ∷ []) $ free1 ! $ move ! (4 ∷ 5 ∷ []) $ free1 ! $ free0 ! $
-        by ! (exits (Found-Refused x) (found_is sessions objects id number (Named-Refused x) e_3) (EL.owes Found-t.the_type Found-l.the_laws (Found-Refused x) (x-is, tt))))
+        by ! (exits (Found-Refused x) (found_is sessions objects id number (Named-Refused x) e_3) (EL.owes Found-t.the_type Found-l.the_laws (Found-Refused x) (x_is, tt))))
 
     begins : Sq 𝓛 (‵ ((ShrSlice (named 0) κ₁ (Array u64 8)).own_val (at_list b₁ o₁ γ₁ sessions) (slice_val (b₁, o₁) n₁ ∷ [])) ∷ ‵ (flft κ₁ q₁) ∷ ‵ ((ShrSlice (named 0) κ₂ Object-t.the_row).own_val (at_list b₂ o₂ γ₂ objects) (slice_val (b₂, o₂) n₂ ∷ [])) ∷ ‵ (flft κ₂ q₂) ∷ free 𝓤 (slice_ty (ty_ref erased imm (pointee (Object-t.the_row).written))) l₁₆ (free 𝓤 (ty_ref erased imm (pointee (Object-t.the_row).written)) l₁₅ (free 𝓤 (ty_int w64) l₁₄ (free 𝓤 ty_ptr l₁₃ (free 𝓤 (ty_int w64) l₁₂ (free 𝓤 Found-l.mir l₁₁ (free 𝓤 Refusal-l.mir l₁₀ (free 𝓤 (ty_int w64) l₉ (free 𝓤 (ty_int w64) l₈ (free 𝓤 (ty_int w64) l₇ (free 𝓤 Named-l.mir l₆ (free 𝓤 (ty_int w64) l₅ (full 𝓤 ObjectNumber-l.mir l₄ (ObjectNumber-p.val number) (full 𝓤 (ty_int w8) l₃ (u8_p.val id) (full 𝓤 (slice_ty (ty_ref (named 1) imm (pointee (Object-t.the_row).written))) l₂ (slice_val (b₂, o₂) n₂) (full 𝓤 (slice_ty (ty_ref (named 0) imm (pointee (Array u64 8).written))) l₁ (slice_val (b₁, o₁) n₁) (free 𝓤 Found-l.mir l₀ ([])))))))))))))))))) (runs C Λ En mir.t-1 (at_ret En Post))
     begins =

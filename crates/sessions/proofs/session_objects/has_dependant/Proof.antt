@@ -239,7 +239,7 @@ module _ {M : Type 1} {𝓤 : Ura M} (𝓛 : Logic 𝓤) (mem : Memory → SProp
         returns ! (look ! 34 refl) $ forget ! 14 refl $ forget ! 22 refl $ forget ! 24 refl $ forget ! 26 refl $ forget ! 28 refl $ forget ! 30 refl $ forget ! 32 refl $ forget ! 34 refl $ move ! (34 ∷ 35 ∷ []) $ free1 ! $ move ! (32 ∷ 33 ∷ []) $ free1 ! $ move ! (30 ∷ 31 ∷ []) $ free1 ! $ move ! (28 ∷ 29 ∷ []) $ free1 ! $ move ! (26 ∷ 27 ∷ []) $ free1 ! $ move ! (24 ∷ 25 ∷ []) $ free1 ! $ move ! (22 ∷ 23 ∷ []) $ free1 ! $ move ! (20 ∷ 21 ∷ []) $ free1 ! $ move ! (18 ∷ 19 ∷ []) $ free1 ! $ move ! (16 ∷ 17 ∷ []) $ free1 ! $ move ! (14 ∷ 15 ∷ []) $ free1 ! $ move ! (12 ∷ 13 ∷ []) $ free1 ! $ move ! (10 ∷ 11 ∷ []) $ free1 ! $ move ! (8 ∷ 9 ∷ []) $ free1 ! $ move ! (6 ∷ 7 ∷ []) $ free1 ! $ move ! (4 ∷ 5 ∷ []) $ free1 ! $ free0 ! $
         by ! (exits false (depended_is sessions objects id o Named-NotLive e_3) refl)
     matched_3_0 is-2 (Named-Refused x) e_3 good-3 =
-        knows ! (Is Refusal-p.row x (Refusal-p.val x ∷ [])) (EL.owed Named-t.the_type Named-l.the_laws (Named-Refused x) _ good-3).0 (λ x-is.
+        knows ! (Is Refusal-p.row x (Refusal-p.val x ∷ [])) (EL.owed Named-t.the_type Named-l.the_laws (Named-Refused x) _ good-3).0 (λ x_is.
         switches_on ! (load ! (from ! (vrt ! refl (fld ! refl (stop !)))) (look_tag ! 22 (whole !))) $ exec ! C Λ En (arm_of 2 (one mir.t-3)) (any_q (after_seq 𝓤 H (Wp 𝓤 H C Λ En mir.t-4 (at_return 𝓤 H En Post)) (at_return 𝓤 H En Post))) $
         assigns_last ! (of_opd ! (false_lit !)) (from ! (stop !)) (init ! 14 refl (bool_p.typed 𝓛 false refl)) $
         exec ! C Λ En mir.t-4 (at_ret En Post) $

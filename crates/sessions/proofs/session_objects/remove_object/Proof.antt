@@ -276,14 +276,14 @@ module _ {M : Type 1} {𝓤 : Ura M} (𝓛 : Logic 𝓤) (mem : Memory → SProp
         returns ! (look ! 52 refl) $ forget ! 24 refl $ forget ! 26 refl $ forget ! 28 refl $ forget ! 40 refl $ forget ! 42 refl $ forget ! 44 refl $ forget ! 46 refl $ forget ! 48 refl $ forget ! 50 refl $ forget ! 52 refl $ move ! (52 ∷ 53 ∷ []) $ free1 ! $ move ! (50 ∷ 51 ∷ []) $ free1 ! $ move ! (48 ∷ 49 ∷ []) $ free1 ! $ move ! (46 ∷ 47 ∷ []) $ free1 ! $ move ! (44 ∷ 45 ∷ []) $ free1 ! $ move ! (42 ∷ 43 ∷ []) $ free1 ! $ move ! (40 ∷ 41 ∷ []) $ free1 ! $ move ! (38 ∷ 39 ∷ []) $ free1 ! $ move ! (36 ∷ 37 ∷ []) $ free1 ! $ move ! (34 ∷ 35 ∷ []) $ free1 ! $ move ! (32 ∷ 33 ∷ []) $ free1 ! $ move ! (30 ∷ 31 ∷ []) $ free1 ! $ move ! (28 ∷ 29 ∷ []) $ free1 ! $ move ! (26 ∷ 27 ∷ []) $ free1 ! $ move ! (24 ∷ 25 ∷ []) $ free1 ! $ move ! (22 ∷ 23 ∷ []) $ free1 ! $ move ! (20 ∷ 21 ∷ []) $ free1 ! $ move ! (18 ∷ 19 ∷ []) $ free1 ! $ move ! (16 ∷ 17 ∷ []) $ free1 ! $ move ! (14 ∷ 15 ∷ []) $ free1 ! $ move ! (12 ∷ 13 ∷ []) $ free1 ! $ move ! (10 ∷ 11 ∷ []) $ free1 ! $ move ! (8 ∷ 9 ∷ []) $ free1 ! $ move ! (6 ∷ 7 ∷ []) $ free1 ! $ move ! (4 ∷ 5 ∷ []) $ free1 ! $ free0 ! $
         by ! (exits Taken-Nothing sessions objects ((taken_is sessions objects id number Named-NotLive e_5, refl, removed_is sessions objects id number Named-NotLive e_5)) (EL.owes Taken-t.the_type Taken-l.the_laws Taken-Nothing tt) refl refl)
     matched_5_0 is-4 (Named-Refused x) e_5 good-5 =
-        knows ! (Is Refusal-p.row x (Refusal-p.val x ∷ [])) (EL.owed Named-t.the_type Named-l.the_laws (Named-Refused x) _ good-5).0 (λ x-is.
+        knows ! (Is Refusal-p.row x (Refusal-p.val x ∷ [])) (EL.owed Named-t.the_type Named-l.the_laws (Named-Refused x) _ good-5).0 (λ x_is.
         switches_on ! (load ! (from ! (vrt ! refl (fld ! refl (stop !)))) (look_tag ! 40 (whole !))) $ exec ! C Λ En (arm_of 2 (one mir.t-5)) (any_q (after_seq 𝓤 H (Wp 𝓤 H C Λ En mir.t-6 (at_return 𝓤 H En Post)) (at_return 𝓤 H En Post))) $
-        assigns ! (of_opd ! (load ! (from ! (vrt ! refl (fld ! refl (stop !)))) (look_in ! 40 (in_variant ! 2 0 refl refl (whole !))))) (from ! (stop !)) (init ! 30 refl (Refusal-p.typed 𝓛 x x-is)) $
-        assigns_last ! (agg ! (and_then ! (lit ! tt) (and_then ! (load ! (from ! (stop !)) (look ! 30 refl)) (no_more !)))) (from ! (stop !)) (init ! 24 refl (Taken-p.typed 𝓛 (Taken-Refused x) (EL.owes Taken-t.the_type Taken-l.the_laws (Taken-Refused x) (x-is, tt)))) $
+        assigns ! (of_opd ! (load ! (from ! (vrt ! refl (fld ! refl (stop !)))) (look_in ! 40 (in_variant ! 2 0 refl refl (whole !))))) (from ! (stop !)) (init ! 30 refl (Refusal-p.typed 𝓛 x x_is)) $
+        assigns_last ! (agg ! (and_then ! (lit ! tt) (and_then ! (load ! (from ! (stop !)) (look ! 30 refl)) (no_more !)))) (from ! (stop !)) (init ! 24 refl (Taken-p.typed 𝓛 (Taken-Refused x) (EL.owes Taken-t.the_type Taken-l.the_laws (Taken-Refused x) (x_is, tt)))) $
         exec ! C Λ En mir.t-6 (at_ret En Post) $
-        assigns ! (of_opd ! (load ! (from ! (stop !)) (look ! 24 refl))) (from ! (stop !)) (init ! 52 refl (Taken-p.typed 𝓛 (Taken-Refused x) (EL.owes Taken-t.the_type Taken-l.the_laws (Taken-Refused x) (x-is, tt)))) $
+        assigns ! (of_opd ! (load ! (from ! (stop !)) (look ! 24 refl))) (from ! (stop !)) (init ! 52 refl (Taken-p.typed 𝓛 (Taken-Refused x) (EL.owes Taken-t.the_type Taken-l.the_laws (Taken-Refused x) (x_is, tt)))) $
         returns ! (look ! 52 refl) $ forget ! 24 refl $ forget ! 26 refl $ forget ! 28 refl $ forget ! 30 refl $ forget ! 40 refl $ forget ! 42 refl $ forget ! 44 refl $ forget ! 46 refl $ forget ! 48 refl $ forget ! 50 refl $ forget ! 52 refl $ move ! (52 ∷ 53 ∷ []) $ free1 ! $ move ! (50 ∷ 51 ∷ []) $ free1 ! $ move ! (48 ∷ 49 ∷ []) $ free1 ! $ move ! (46 ∷ 47 ∷ []) $ free1 ! $ move ! (44 ∷ 45 ∷ []) $ free1 ! $ move ! (42 ∷ 43 ∷ []) $ free1 ! $ move ! (40 ∷ 41 ∷ []) $ free1 ! $ move ! (38 ∷ 39 ∷ []) $ free1 ! $ move ! (36 ∷ 37 ∷ []) $ free1 ! $ move ! (34 ∷ 35 ∷ []) $ free1 ! $ move ! (32 ∷ 33 ∷ []) $ free1 ! $ move ! (30 ∷ 31 ∷ []) $ free1 ! $ move ! (28 ∷ 29 ∷ []) $ free1 ! $ move ! (26 ∷ 27 ∷ []) $ free1 ! $ move ! (24 ∷ 25 ∷ []) $ free1 ! $ move ! (22 ∷ 23 ∷ []) $ free1 ! $ move ! (20 ∷ 21 ∷ []) $ free1 ! $ move ! (18 ∷ 19 ∷ []) $ free1 ! $ move ! (16 ∷ 17 ∷ []) $ free1 ! $ move ! (14 ∷ 15 ∷ []) $ free1 ! $ move ! (12 ∷ 13 ∷ []) $ free1 ! $ move ! (10 ∷ 11 ∷ []) $ free1 ! $ move ! (8 ∷ 9 ∷ []) $ free1 ! $ move ! (6 ∷ 7 ∷ []) $ free1 ! $ move ! (4 ∷ 5 ∷ []) $ free1 ! $ free0 ! $
-        by ! (exits (Taken-Refused x) sessions objects ((taken_is sessions objects id number (Named-Refused x) e_5, refl, removed_is sessions objects id number (Named-Refused x) e_5)) (EL.owes Taken-t.the_type Taken-l.the_laws (Taken-Refused x) (x-is, tt)) refl refl))
+        by ! (exits (Taken-Refused x) sessions objects ((taken_is sessions objects id number (Named-Refused x) e_5, refl, removed_is sessions objects id number (Named-Refused x) e_5)) (EL.owes Taken-t.the_type Taken-l.the_laws (Taken-Refused x) (x_is, tt)) refl refl))
 
     begins : Sq 𝓛 (‵ ((MutSlice (named 0) κ₁ (Array u64 8)).own_val (at_list b₁ o₁ γ₁ sessions) (slice_val (b₁, o₁) n₁ ∷ [])) ∷ ‵ (flft κ₁ q₁) ∷ ‵ ((MutSlice (named 0) κ₂ Object-t.the_row).own_val (at_list b₂ o₂ γ₂ objects) (slice_val (b₂, o₂) n₂ ∷ [])) ∷ ‵ (flft κ₂ q₂) ∷ free 𝓤 (slice_ty (ty_ref erased mut (pointee (Array u64 8).written))) l₂₄ (free 𝓤 (ty_ref erased mut (pointee (Array u64 8).written)) l₂₃ (free 𝓤 ty_unit l₂₂ (free 𝓤 (slice_ty (ty_ref erased mut (pointee (Object-t.the_row).written))) l₂₁ (free 𝓤 (ty_ref erased mut (pointee (Object-t.the_row).written)) l₂₀ (free 𝓤 (ty_int w64) l₁₉ (free 𝓤 ty_ptr l₁₈ (free 𝓤 (ty_int w64) l₁₇ (free 𝓤 (slice_ty (ty_ref erased imm (pointee (Array u64 8).written))) l₁₆ (free 𝓤 (ty_ref erased imm (pointee (Array u64 8).written)) l₁₅ (free 𝓤 Taken-l.mir l₁₄ (free 𝓤 (slice_ty (ty_ref erased imm (pointee (Array u64 8).written))) l₁₃ (free 𝓤 (ty_ref erased imm (pointee (Array u64 8).written)) l₁₂ (free 𝓤 Refusal-l.mir l₁₁ (free 𝓤 Taken-l.mir l₁₀ (free 𝓤 (ty_int w64) l₉ (free 𝓤 (ty_int w64) l₈ (free 𝓤 (ty_int w64) l₇ (free 𝓤 Named-l.mir l₆ (free 𝓤 (ty_int w64) l₅ (full 𝓤 ObjectNumber-l.mir l₄ (ObjectNumber-p.val number) (full 𝓤 (ty_int w8) l₃ (u8_p.val id) (full 𝓤 (slice_ty (ty_ref (named 1) mut (pointee (Object-t.the_row).written))) l₂ (slice_val (b₂, o₂) n₂) (full 𝓤 (slice_ty (ty_ref (named 0) mut (pointee (Array u64 8).written))) l₁ (slice_val (b₁, o₁) n₁) (free 𝓤 Taken-l.mir l₀ ([])))))))))))))))))))))))))) (runs C Λ En mir.t-1 (at_ret En Post))
     begins =

@@ -149,15 +149,15 @@ module _ {M : Type 1} {𝓤 : Ura M} (𝓛 : Logic 𝓤) (mem : Memory → SProp
       abbrev Left-4 : Out → SProp 𝓤
       Left-4 = after_block 𝓤 H (after_seq 𝓤 H (Wp 𝓤 H C Λ En mir.t-5 (at_return 𝓤 H En Post)) (at_return 𝓤 H En Post))
 
-      inv-at-4 : (t : ℕ) → (i : ℕ) → (ys : List Object) → Facts-4 t i ys → ent 𝓤 (⋆ 𝓛 (At-4 i ys)) (Inv-4 t)
-      inv-at-4 t i ys fs = via 𝓤 (ex 𝓤 (λ (ys : List Object). guard 𝓤 (Facts-4 t i ys) (⋆ 𝓛 (At-4 i ys)))) (via 𝓤 (guard 𝓤 (Facts-4 t i ys) (⋆ 𝓛 (At-4 i ys))) (guard_i 𝓤 (Facts-4 t i ys) (⋆ 𝓛 (At-4 i ys)) fs) (ex_i 𝓤 (λ (ys : List Object). guard 𝓤 (Facts-4 t i ys) (⋆ 𝓛 (At-4 i ys))) ys)) (ex_i 𝓤 (λ (i : ℕ). ex 𝓤 (λ (ys : List Object). guard 𝓤 (Facts-4 t i ys) (⋆ 𝓛 (At-4 i ys)))) i)
+      inv_at_4 : (t : ℕ) → (i : ℕ) → (ys : List Object) → Facts-4 t i ys → ent 𝓤 (⋆ 𝓛 (At-4 i ys)) (Inv-4 t)
+      inv_at_4 t i ys fs = via 𝓤 (ex 𝓤 (λ (ys : List Object). guard 𝓤 (Facts-4 t i ys) (⋆ 𝓛 (At-4 i ys)))) (via 𝓤 (guard 𝓤 (Facts-4 t i ys) (⋆ 𝓛 (At-4 i ys))) (guard_i 𝓤 (Facts-4 t i ys) (⋆ 𝓛 (At-4 i ys)) fs) (ex_i 𝓤 (λ (ys : List Object). guard 𝓤 (Facts-4 t i ys) (⋆ 𝓛 (At-4 i ys))) ys)) (ex_i 𝓤 (λ (i : ℕ). ex 𝓤 (λ (ys : List Object). guard 𝓤 (Facts-4 t i ys) (⋆ 𝓛 (At-4 i ys)))) i)
 
-      again-4 : (t : ℕ) → (i : ℕ) → (ys : List Object) → (i-is : Is u64_p.row i (u64_p.val i ∷ [])) → (ys-len : length ys ≡ n₁) → ((i ≤ n') × (ys ≡ cleared i blank objects)) → ((n' - i) < t) → ent 𝓤 (⋆ 𝓛 (At-4 i ys)) (Below-4 t)
-      again-4 t i ys i-is ys-len inv less = via 𝓤 (Inv-4 (n' - i)) (inv-at-4 (n' - i) i ys (refl, i-is, ys-len, inv)) (via 𝓤 (guard 𝓤 ((n' - i) < t) (Inv-4 (n' - i))) (guard_i 𝓤 ((n' - i) < t) (Inv-4 (n' - i)) less) (ex_i 𝓤 (λ (u : ℕ). guard 𝓤 (u < t) (Inv-4 u)) (n' - i)))
+      again_4 : (t : ℕ) → (i : ℕ) → (ys : List Object) → (i-is : Is u64_p.row i (u64_p.val i ∷ [])) → (ys-len : length ys ≡ n₁) → ((i ≤ n') × (ys ≡ cleared i blank objects)) → ((n' - i) < t) → ent 𝓤 (⋆ 𝓛 (At-4 i ys)) (Below-4 t)
+      again_4 t i ys i-is ys-len inv less = via 𝓤 (Inv-4 (n' - i)) (inv_at_4 (n' - i) i ys (refl, i-is, ys-len, inv)) (via 𝓤 (guard 𝓤 ((n' - i) < t) (Inv-4 (n' - i))) (guard_i 𝓤 ((n' - i) < t) (Inv-4 (n' - i)) less) (ex_i 𝓤 (λ (u : ℕ). guard 𝓤 (u < t) (Inv-4 u)) (n' - i)))
 
-      turn-4 : (i : ℕ) → (ys : List Object) → (t-4 : ℕ) → (i-is : Is u64_p.row i (u64_p.val i ∷ [])) → (ys-len : length ys ≡ n₁) → (t-is-4 : t-4 ≡ n' - i) → (inv-4 : (i ≤ n') × (ys ≡ cleared i blank objects)) → ent 𝓤 (⋆ 𝓛 (At-4 i ys)) (Wp 𝓤 H C Λ En mir.turn-1 (after_turn 𝓤 H (Below-4 t-4) Left-4))
+      turn_4 : (i : ℕ) → (ys : List Object) → (t-4 : ℕ) → (i-is : Is u64_p.row i (u64_p.val i ∷ [])) → (ys-len : length ys ≡ n₁) → (t-is-4 : t-4 ≡ n' - i) → (inv-4 : (i ≤ n') × (ys ≡ cleared i blank objects)) → ent 𝓤 (⋆ 𝓛 (At-4 i ys)) (Wp 𝓤 H C Λ En mir.turn-1 (after_turn 𝓤 H (Below-4 t-4) Left-4))
       unfolding after_turn
-      turn-4 i ys t-4 i-is ys-len t-is-4 inv-4 =
+      turn_4 i ys t-4 i-is ys-len t-is-4 inv-4 =
           qed 𝓛 (At-4 i ys) ∵ exec ! C Λ En mir.turn-1 (any_q (after_turn 𝓤 H (Below-4 t-4) Left-4)) $
           assigns ! (bin ! (load ! (from ! (stop !)) (look ! 8 refl)) (load ! (from ! (stop !)) (look ! 14 refl)) (tt)) (from ! (stop !)) (init ! 6 refl (bool_p.typed 𝓛 (ltb i n') refl)) $
           first ! $
@@ -176,7 +176,7 @@ module _ {M : Type 1} {𝓤 : Ura M} (𝓛 : Logic 𝓤) (mem : Memory → SProp
           puts_elem ! tt Object-p b₁ o₁ ys n₁ (ys-len) room₁ i ((Object-of (ObjectNumber-of 0) 0 0 0 0)) (implicit_of (ObjectNumber-of 0) 0 0) index-4·5 is-2 (λ len-4·5.
           knows ! (i + 1 < 2 ^ 64) (omega (arith, ltb-true, ltb-false, leb-true, leb-false, eqb-true, eqb-false)) (λ fits-4·6.
           assigns_last ! (bin ! (load ! (from ! (stop !)) (look ! 8 refl)) (lit ! tt) (record { fits = fits-4·6 })) (from ! (stop !)) (store ! 8 refl (u64_p.typed 𝓛 (i + 1) ((refl, fits-4·6)))) $ forget ! 2 refl $ forget ! 4 refl $ forget ! 6 refl $
-          by ! (again-4 t-4 (i + 1) (set ys i (implicit_of (ObjectNumber-of 0) 0 0)) ((refl, fits-4·6)) len-4·5 (((omega (arith, ltb-true, ltb-false, leb-true, leb-false, eqb-true, eqb-false)), ap (λ (zs : List Object). set zs i blank) inv-4.1 ∙ cleared_more blank i objects (omega (arith, ltb-true, ltb-false, leb-true, leb-false, eqb-true, eqb-false)))) (omega (arith, ltb-true, ltb-false, leb-true, leb-false, eqb-true, eqb-false))))))))))
+          by ! (again_4 t-4 (i + 1) (set ys i (implicit_of (ObjectNumber-of 0) 0 0)) ((refl, fits-4·6)) len-4·5 (((omega (arith, ltb-true, ltb-false, leb-true, leb-false, eqb-true, eqb-false)), ap (λ (zs : List Object). set zs i blank) inv-4.1 ∙ cleared_more blank i objects (omega (arith, ltb-true, ltb-false, leb-true, leb-false, eqb-true, eqb-false)))) (omega (arith, ltb-true, ltb-false, leb-true, leb-false, eqb-true, eqb-false))))))))))
           (λ h-4·2.
           knows ! (ltb i n' ≡ false) (fails (ltb i n') (T_not (ltb i n') h-4·2)) (λ c-4·2.
           jumps ! $
@@ -185,11 +185,11 @@ module _ {M : Type 1} {𝓤 : Ura M} (𝓛 : Logic 𝓤) (mem : Memory → SProp
           returns ! (look ! 18 refl) $ forget ! 6 refl $ forget ! 8 refl $ forget ! 10 refl $ forget ! 12 refl $ forget ! 14 refl $ forget ! 16 refl $ forget ! 18 refl $ move ! (18 ∷ 19 ∷ []) $ free1 ! $ move ! (16 ∷ 17 ∷ []) $ free1 ! $ move ! (14 ∷ 15 ∷ []) $ free1 ! $ move ! (12 ∷ 13 ∷ []) $ free1 ! $ move ! (10 ∷ 11 ∷ []) $ free1 ! $ move ! (8 ∷ 9 ∷ []) $ free1 ! $ move ! (6 ∷ 7 ∷ []) $ free1 ! $ move ! (4 ∷ 5 ∷ []) $ free1 ! $ move ! (2 ∷ 3 ∷ []) $ free1 ! $ free0 ! $
           by ! (exits tt ys (inv-4.1 ∙ along (λ (m : ℕ). cleared m blank objects) i n' (omega (arith, ltb-true, ltb-false, leb-true, leb-false, eqb-true, eqb-false))) refl ys-len)))
 
-      turns-4 : (t : ℕ) → ent 𝓤 (Inv-4 t) (Wp 𝓤 H C Λ En mir.turn-1 (after_turn 𝓤 H (Below-4 t) Left-4))
-      turns-4 t = ex_e 𝓤 (λ (i : ℕ). ex 𝓤 (λ (ys : List Object). guard 𝓤 (Facts-4 t i ys) (⋆ 𝓛 (At-4 i ys)))) (λ i. ex_e 𝓤 (λ (ys : List Object). guard 𝓤 (Facts-4 t i ys) (⋆ 𝓛 (At-4 i ys))) (λ ys. guard_e 𝓤 (Facts-4 t i ys) (⋆ 𝓛 (At-4 i ys)) (λ fs. turn-4 i ys t fs.1 fs.2 fs.0 fs.3)))
+      turns_4 : (t : ℕ) → ent 𝓤 (Inv-4 t) (Wp 𝓤 H C Λ En mir.turn-1 (after_turn 𝓤 H (Below-4 t) Left-4))
+      turns_4 t = ex_e 𝓤 (λ (i : ℕ). ex 𝓤 (λ (ys : List Object). guard 𝓤 (Facts-4 t i ys) (⋆ 𝓛 (At-4 i ys)))) (λ i. ex_e 𝓤 (λ (ys : List Object). guard 𝓤 (Facts-4 t i ys) (⋆ 𝓛 (At-4 i ys))) (λ ys. guard_e 𝓤 (Facts-4 t i ys) (⋆ 𝓛 (At-4 i ys)) (λ fs. turn_4 i ys t fs.1 fs.2 fs.0 fs.3)))
 
-      loops-4 : (i : ℕ) (i-is : Is u64_p.row i (u64_p.val i ∷ [])) → (ys : List Object) (ys-len : length ys ≡ n₁) → ((i ≤ n') × (ys ≡ cleared i blank objects)) → ent 𝓤 (⋆ 𝓛 (At-4 i ys)) (Wp 𝓤 H C Λ En (loop mir.turn-1) Left-4)
-      loops-4 i i-is ys ys-len inv = via 𝓤 (Inv-4 (n' - i)) (inv-at-4 (n' - i) i ys (refl, i-is, ys-len, inv)) (loop_rule 𝓤 H 𝓛.laws 𝓣 ◌<◌ lt-wf_rel.wf En mir.turn-1 Left-4 Inv-4 turns-4 (n' - i))
+      loops_4 : (i : ℕ) (i-is : Is u64_p.row i (u64_p.val i ∷ [])) → (ys : List Object) (ys-len : length ys ≡ n₁) → ((i ≤ n') × (ys ≡ cleared i blank objects)) → ent 𝓤 (⋆ 𝓛 (At-4 i ys)) (Wp 𝓤 H C Λ En (loop mir.turn-1) Left-4)
+      loops_4 i i-is ys ys-len inv = via 𝓤 (Inv-4 (n' - i)) (inv_at_4 (n' - i) i ys (refl, i-is, ys-len, inv)) (loop_rule 𝓤 H 𝓛.laws 𝓣 ◌<◌ lt-wf_rel.wf En mir.turn-1 Left-4 Inv-4 turns_4 (n' - i))
 
     begins : Sq 𝓛 (‵ ((MutSlice (named 0) κ₁ Object-t.the_row).own_val (at_list b₁ o₁ γ₁ objects) (slice_val (b₁, o₁) n₁ ∷ [])) ∷ ‵ (flft κ₁ q₁) ∷ free 𝓤 ty_ptr l₈ (free 𝓤 (ty_int w64) l₇ (free 𝓤 ty_bool l₆ (free 𝓤 (ty_int w64) l₅ (free 𝓤 Object-l.mir l₄ (free 𝓤 ObjectNumber-l.mir l₃ (full 𝓤 (ty_int w64) l₂ (u64_p.val n') (full 𝓤 (slice_ty (ty_ref (named 0) mut (pointee (Object-t.the_row).written))) l₁ (slice_val (b₁, o₁) n₁) (free 𝓤 ty_unit l₀ ([])))))))))) (runs C Λ En mir.t-1 (at_ret En Post))
     begins =
@@ -206,7 +206,7 @@ module _ {M : Type 1} {𝓤 : Ura M} (𝓛 : Logic 𝓤) (mem : Memory → SProp
         assigns ! (of_opd ! (lit ! tt)) (from ! (stop !)) (init ! 8 refl (u64_p.typed 𝓛 0 ((refl, lit< tt)))) $
         first ! $
         blocks ! $
-        by ! (loops-4 is-2 0 ((refl, lit< tt)) objects refl (((omega (arith, ltb-true, ltb-false, leb-true, leb-false, eqb-true, eqb-false)), cleared_none blank objects))))
+        by ! (loops_4 is-2 0 ((refl, lit< tt)) objects refl (((omega (arith, ltb-true, ltb-false, leb-true, leb-false, eqb-true, eqb-false)), cleared_none blank objects))))
 
   module _ (𝓣 : Tables 𝓤 H) (known-objects-Object-implicit : Triple 𝓤 (𝓣.C #objects-Object-implicit) (Of-objects-Object-implicit 𝓛 mem run)) where
     walk : ent 𝓤 (on_entry 𝓛 f.signature (κ₁, tt) (q₁, tt) x at) (WpFn 𝓤 H 𝓣.C 𝓣.Λ code.function (slice_val (b₁, o₁) n₁ ∷ u64_p.val n' ∷ []) Post)

@@ -6,7 +6,7 @@ use native.Mathlib.Omega.{arith}
 use borrow.Author.Rules.{rules}
 use lib.ListN.{length}
 use lib.Seq.{sets}
-use Rattle.sessions.proofs.sweep.Laws.{count_some, swept-turn, listed-turn, left-turn, at_turn, first_passed, swept_end, stores_none, listed_all}
+use Rattle.sessions.proofs.sweep.Laws.{count_some, swept_turn, listed_turn, left_turn, at_turn, first_passed, swept_end, stores_none, listed_all}
 use Rattle.sessions.specs.Sweep.{goes, expired_from, expired_ids, swept_from, swept_rows}
 use Rattle.sessions.proofs.sweep.sweep.Statement.{statement}
 use Rattle.sessions.proofs.sweep.sweep.Tie as tie
@@ -55,9 +55,9 @@ loop-again c = let a = c.before.before.before.before.before.before.before.before
       at_turn a.time a.timeout-ms l.sessions l.i l.at i< l.out o.new.0 o.new.1.0 o.result o.ensures.0 o.ensures.1 o.ensures.2 l.invariant.2,
       o.auto.0 ∙ l.invariant.3,
       o.auto.1.0 ∙ l.invariant.4,
-      left-turn a.time a.timeout-ms l.sessions l.i l.at i< l.out o.new.0 o.new.1.0 o.result o.ensures.0 o.ensures.1 o.ensures.2 ∙ l.invariant.5,
-      swept-turn a.time a.timeout-ms l.sessions l.i l.at i< l.out o.new.0 o.new.1.0 o.result o.ensures.0 o.ensures.1 o.ensures.2 ∙ l.invariant.6,
-      listed-turn a.time a.timeout-ms l.sessions l.i l.at i< l.out o.new.0 o.new.1.0 o.result o.ensures.0 o.ensures.1 o.ensures.2 ∙ l.invariant.7,
+      left_turn a.time a.timeout-ms l.sessions l.i l.at i< l.out o.new.0 o.new.1.0 o.result o.ensures.0 o.ensures.1 o.ensures.2 ∙ l.invariant.5,
+      swept_turn a.time a.timeout-ms l.sessions l.i l.at i< l.out o.new.0 o.new.1.0 o.result o.ensures.0 o.ensures.1 o.ensures.2 ∙ l.invariant.6,
+      listed_turn a.time a.timeout-ms l.sessions l.i l.at i< l.out o.new.0 o.new.1.0 o.result o.ensures.0 o.ensures.1 o.ensures.2 ∙ l.invariant.7,
     )
 
 same_length : tie.Need-same-length invariant_loop decreases_loop

@@ -4,7 +4,7 @@ use mathlib.Core.Bool.{false}
 use native.Mathlib.Omega.{arith}
 use lib.ListN.{length}
 use Rattle.codec.specs.Reassembly.{under_need}
-use Rattle.codec.proofs.reassembly.Laws.{need_fits, assemble_need, assemble_count, assemble-past, assemble-few, assemble-free, assemble-passes}
+use Rattle.codec.proofs.reassembly.Laws.{need_fits, assemble_need, assemble_count, assemble_past, assemble_few, assemble_free, assemble_passes}
 use Rattle.codec.proofs.reassembly.ReassemblyBuffer.assemble_check.Goals.{Else-under_need}
 use Rattle.codec.proofs.reassembly.ReassemblyBuffer.assemble_check.Goals as goal
 
@@ -23,12 +23,12 @@ pub any_past-requires : goal.any_past-requires
 any_past-requires c = (need_fits _ _ _ _ (enough (goal.at.any_past-requires c).Else-under_need)).1
 
 pub returns-then-any_past : goal.returns-then-any_past
-returns-then-any_past c = assemble-past _ _ _ (enough (goal.at.returns-then-any_past c).Else-under_need) (omega arith) (sym c.any_past.ensures ∙ c.if-any_past.true)
+returns-then-any_past c = assemble_past _ _ _ (enough (goal.at.returns-then-any_past c).Else-under_need) (omega arith) (sym c.any_past.ensures ∙ c.if-any_past.true)
 
 pub returns-then-self-2 : goal.returns-then-self-2
 returns-then-self-2 c =
     let past = sym c.any_past.ensures ∙ c.if-any_past.false in
-    assemble-few _ _ _ (enough (goal.at.returns-then-self-2 c).Else-under_need) (omega arith) past (omega arith)
+    assemble_few _ _ _ (enough (goal.at.returns-then-self-2 c).Else-under_need) (omega arith) past (omega arith)
 
 pub any_free-requires : goal.any_free-requires
 any_free-requires c = (need_fits _ _ _ _ (enough (goal.at.any_free-requires c).Else-under_need)).1
@@ -36,11 +36,11 @@ any_free-requires c = (need_fits _ _ _ _ (enough (goal.at.any_free-requires c).E
 pub returns-then-any_free : goal.returns-then-any_free
 returns-then-any_free c =
     let past = sym c.any_past.ensures ∙ c.if-any_past.false in
-    assemble-free _ _ _ (enough (goal.at.returns-then-any_free c).Else-under_need) (omega arith) past
+    assemble_free _ _ _ (enough (goal.at.returns-then-any_free c).Else-under_need) (omega arith) past
     (omega arith) (sym c.any_free.ensures ∙ c.if-any_free.true)
 
 pub returns : goal.returns
 returns c =
     let past = sym c.any_past.ensures ∙ c.if-any_past.false in
-    assemble-passes _ _ _ (enough (goal.at.returns c).Else-under_need) (omega arith) past
+    assemble_passes _ _ _ (enough (goal.at.returns c).Else-under_need) (omega arith) past
     (omega arith) (sym c.any_free.ensures ∙ c.if-any_free.false)
