@@ -110,6 +110,9 @@ def new_names(top):
     for name in own:
         rivals = taken[snake(name)]
         others = {c for it, ps in rivals.items() if it != name for c in map(crate_of, ps)}
+        if any("/specs/" in it for it in paths):
+            # What a reader must believe keeps its plain name, but beside another of its own crate.
+            others &= {crate_of(it) for it in paths}
         # A definition keeps the plain name, and the lemma on it gets the ending.
         is_lemma = "-" in name and not re.search(r"[a-z][A-Z]", name)
         if others and is_lemma:

@@ -52,7 +52,7 @@ Stepped = Agent × iso.Result R
 
 -- the agent with another step
 abbrev stepping : (Agent → Hosted → Stepped) → claim.Agent R
-stepping f = record { State = Agent; Event = Hosted; empty = A.empty; table = A.table; step = f; host_call_lem = A.host_call_lem }
+stepping f = record { State = Agent; Event = Hosted; empty = A.empty; table = A.table; step = f; host_call = A.host_call }
 
 -- ---- the host's calls: datagrams at time 100, on weekday 0 in minute 0, and an answer, with room for 64 bytes
 
@@ -97,7 +97,7 @@ abbrev message : iso.Message Opening In
 message = record { header = 1; subs = iso.opens asking ∷ [] }
 
 abbrev session : (f : Agent → Hosted → Stepped) (later : List Hosted)
-    → (claim.works_on R (λ t. none) (A.host_call_lem client)).0 ≡ some message → claim.status_at_lem R 0 (claim.outs_of R (f A.empty client).1) ≡ some 1
+    → (claim.works_on R (λ t. none) (A.host_call client)).0 ≡ some message → claim.status_at R 0 (claim.outs_of R (f A.empty client).1) ≡ some 1
     → claim.Session R (stepping f) (client ∷ later)
 session f later b g =
     record { before = []; call = client; later = later; whole = refl; message = message; number = 0; client = asking; behind = []; id = 1; brings = b; asks = refl; granted = g }

@@ -81,7 +81,7 @@ module _ (is_open : ℕ → ℕ → Bool) (timeout : ℕ) where
         (λ h k e.
         let f = follows b.objects parent h k e in
         let above = find_held b.objects f.topic.parent h (ap entry_handle f.participant_named ∙ f.participant_handle) in
-        let named = find_held b.objects parent k (ap entry_handle f.topic_named_lem ∙ f.topic_handle) in (kept, kept, λ x m. two_handles b h k above named x (rw (← u h k) m)))
+        let named = find_held b.objects parent k (ap entry_handle f.topic_named ∙ f.topic_handle) in (kept, kept, λ x m. two_handles b h k above named x (rw (← u h k) m)))
         kept
 
     -- a Topic's call has its parent's handle

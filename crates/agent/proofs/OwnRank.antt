@@ -312,5 +312,5 @@ module _ (t : Stores) (hours : List ℕ) (ws : List Window) (max timeout : ℕ) 
   pub own_rank : (H : List Hosted) (id : ℕ) (l : Local) → session_in (state_after t hours ws max timeout a made H).tables id ≡ some l → (n : ℕ) (e : Entry) → find_in l.objects n ≡ some e → rank_of e.kind ≡ e.kind
   own_rank H id l q n e f =
       let m = (found_among l.objects n e f).0 in
-      let g : Each l.objects = subst OptGood q ((good_after H (claim.set_up_lem (rules (is_open ws) timeout) A) (holds_empty t hours ws max timeout a made) empty_good).0 id) in
+      let g : Each l.objects = subst OptGood q ((good_after H (claim.set_up (rules (is_open ws) timeout) A) (holds_empty t hours ws max timeout a made) empty_good).0 id) in
       subst Own m.is (each_at l.objects m.at m.inside g)

@@ -64,7 +64,7 @@ module _ (es : List Entry) (parent p t : ℕ) where
           let u = held_from Participant (find_in es a.parent) p hs.0 in
           record {
             topic = a;
-            topic_named_lem = q;
+            topic_named = q;
             topic_kind = eqb-true a.kind (kind_byte Topic) k;
             topic_handle = hs.1;
             participant = u.entry;
@@ -80,7 +80,7 @@ module _ (es : List Entry) (parent p t : ℕ) where
   pub handles : Follows es parent p t → handles_named es parent ≡ some (p, t)
   handles f =
       let above = of_kind_lem Participant (find_in es f.topic.parent) f.participant f.participant_named f.participant_kind in
-      ap (handles_above es) (of_kind_lem Topic (find_in es parent) f.topic f.topic_named_lem f.topic_kind)
+      ap (handles_above es) (of_kind_lem Topic (find_in es parent) f.topic f.topic_named f.topic_kind)
       ∙ (λ i. both_handles ((ap entry_handle above ∙ f.participant_handle) i) (f.topic_handle i))
 
 -- ---- the rule

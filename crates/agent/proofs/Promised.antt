@@ -236,10 +236,10 @@ module _ (t : Tables) (hours : List ℕ) (ws : List Window) (max timeout : ℕ) 
 
   -- the state that a list of calls leads to
   abbrev pub state_after : List Hosted → State
-  state_after H = (claim.reached (rules (is_open ws) timeout) whole_agent (claim.set_up_lem (rules (is_open ws) timeout) whole_agent) H).state
+  state_after H = (claim.reached (rules (is_open ws) timeout) whole_agent (claim.set_up (rules (is_open ws) timeout) whole_agent) H).state
 
   pub inv_after : (H : List Hosted) → Inv (state_after H)
-  inv_after H = (on H (claim.set_up_lem (rules (is_open ws) timeout) whole_agent) (holds_empty t hours ws max timeout a made)).0
+  inv_after H = (on H (claim.set_up (rules (is_open ws) timeout) whole_agent) (holds_empty t hours ws max timeout a made)).0
     where
       on : (H : List Hosted) (p : claim.Point (rules (is_open ws) timeout) whole_agent) → Holds t hours ws max timeout a made p.state → Holds t hours ws max timeout a made (claim.reached (rules (is_open ws) timeout) whole_agent p H).state
       on [] p v = v

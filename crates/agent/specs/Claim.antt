@@ -44,7 +44,7 @@ module _ (is_open : ℕ → ℕ → Bool) (max timeout : ℕ) where
     empty = empty_agent max timeout is_open;
     table = λ st. st.tables.at;
     step = λ st e. let d = step st e.event e.out in (d.agent, result_of d.agent.waits d.result);
-    host_call_lem = λ e. host_call e.event;
+    host_call = λ e. host_call e.event;
   }
 
   -- ---- no reply is hidden

@@ -14,7 +14,7 @@ use Rattle.agent.specs.RulesObjects.{says, asks, on_create}
 -- "the Topic that its parent number names, and the Participant that this Topic's parent names", both "held with that kind", and their handles
 pub record Follows (es : List Entry) (parent participantHandle topicHandle : ℕ) : Type 0 where
   pub topic : Entry
-  pub topic_named_lem : find_in es parent ≡ some topic
+  pub topic_named : find_in es parent ≡ some topic
   pub topic_kind : topic.kind ≡ kind_byte Topic
   pub topic_handle : topic.handle ≡ some topicHandle
   pub participant : Entry

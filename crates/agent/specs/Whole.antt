@@ -154,5 +154,5 @@ module _ (t : Tables) (hours : List ℕ) (ws : List Window) (max timeout : ℕ) 
     empty = empty_of t hours ws max a;
     table = λ st. session_in st.tables;
     step = λ st e. let d = step_of st e.event e.out in (d.state, result_of (is_open ws) max timeout (opens_as d.state.lent d.state.tables.rebuilt d.state.agent.waits) d.result);
-    host_call_lem = λ e. host_call (is_open ws) max timeout (event_of e.event);
+    host_call = λ e. host_call (is_open ws) max timeout (event_of e.event);
   }

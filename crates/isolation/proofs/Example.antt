@@ -7,7 +7,7 @@ use mathlib.Core.Option.{Option, none, some}
 use mathlib.Core.List.{List, [], ◌∷◌, ◌++◌}
 use Rattle.isolation.specs.Rules.{Sub, opens, names, Message, Rules, Host, datagram, answer, removal, sweep, opened, reply, Asked, Result, refused, ran}
 use Rattle.isolation.specs.Machine.{Trace, trace}
-use Rattle.isolation.specs.Claim.{Agent, works_on, outs_of, client_at, status_at_lem, set_up_lem, reached, Session, of_agent, of_machine}
+use Rattle.isolation.specs.Claim.{Agent, works_on, outs_of, client_at, status_at, set_up, reached, Session, of_agent, of_machine}
 use Rattle.isolation.proofs.Reference.{run, step, ids, live, free, chosen}
 use Rattle.isolation.proofs.Small.{small, small_agent, Handle, bridge, Local, In, Act, create, write, beat, rebuilt, Call, make, put, Ans, made, finished}
 
@@ -99,8 +99,8 @@ answers = refl
 
 -- opened by the first CREATE_CLIENT of the message that a call works on
 unfoldable pub opened_by : (A : Agent R) (before : List A.Event) (call : A.Event) (later : List A.Event) (m : Message (ℕ × ℕ) In) (o : ℕ × ℕ) (behind : List (Sub (ℕ × ℕ) In)) (id : ℕ)
-    → let p = reached R A (set_up_lem R A) before in
-    (works_on R p.open_calls (A.host_call_lem call)).0 ≡ some m → client_at R 0 m.subs ≡ some (o, behind) → status_at_lem R 0 (outs_of R (A.step p.state call).1) ≡ some id
+    → let p = reached R A (set_up R A) before in
+    (works_on R p.open_calls (A.host_call call)).0 ≡ some m → client_at R 0 m.subs ≡ some (o, behind) → status_at R 0 (outs_of R (A.step p.state call).1) ≡ some id
     → Session R A (before ++ call ∷ later)
 opened_by A before call later m o behind id b c g =
     record { before = before; call = call; later = later; whole = refl; message = m; number = 0; client = o; behind = behind; id = id; brings = b; asks = c; granted = g }
@@ -127,7 +127,7 @@ fourth = opened_by A (opens₁ ++ (to 2 opens₂ ∷ (traffic ++ (gets finished 
 -- ---- their traces, of the agent and of the machine, which was fed in turn
 
 Both : Session R A H → Trace R → Type 0
-Both S t = (of_agent R A S ≡ t) × (trace R (of_machine R A S) ≡ t) × ((of_machine R A S).in_turn_lem ≡ true)
+Both S t = (of_agent R A S ≡ t) × (trace R (of_machine R A S) ≡ t) × ((of_machine R A S).in_turn ≡ true)
 
 first_trace : Both first (record { calls = make ∷ []; replies = (1 ∷ 0 ∷ []) ∷ (1 ∷ 5 ∷ []) ∷ (1 ∷ 6 ∷ []) ∷ []; table = none })
 unfolding Both opened_by first run step ids live free chosen

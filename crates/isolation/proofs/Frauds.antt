@@ -11,7 +11,7 @@ use mathlib.Core.List.Memᴰ
 use mathlib.Core.List.{List, [], ◌∷◌, ◌++◌}
 use Rattle.isolation.specs.Rules.{Rules, Host, datagram, answer, removal, sweep, other, Out, opened, reply, Result, refused, ran}
 use Rattle.isolation.specs.Machine.{Trace, handles, AllOwned}
-use Rattle.isolation.specs.Claim.{Agent, works_on, set_up_lem, reached, Session, Isolated}
+use Rattle.isolation.specs.Claim.{Agent, works_on, set_up, reached, Session, Isolated}
 use Rattle.isolation.proofs.Simulation.{none_some}
 use Rattle.isolation.proofs.Reference.{State, Wait, put, run, step, ids, live, free, chosen}
 use Rattle.isolation.proofs.Small.{small, small_agent, small_handles, D, Local, bridge, create, write, make}
@@ -22,7 +22,7 @@ St = State R (D 1000 3 3)
 
 -- the small agent with something done to each answer
 abbrev spoilt : (St × Result R → St × Result R) → Agent R
-spoilt f = record { State = St; Event = Event; empty = A.empty; table = A.table; step = λ st e. f (A.step st e); host_call_lem = A.host_call_lem }
+spoilt f = record { State = St; Event = Event; empty = A.empty; table = A.table; step = λ st e. f (A.step st e); host_call = A.host_call }
 
 -- a CREATE_CLIENT with key 7, which `opens₁` has too, and one with key 8
 abbrev open_7 : Event
@@ -106,7 +106,7 @@ forging_refuted isolated = let e : ◌≡◌ {A = ℕ} 7 1 = ap first_byte (isol
 -- ---- no call does anything
 
 abbrev deaf : Agent R
-deaf = record { State = St; Event = Event; empty = A.empty; table = A.table; step = λ st e. (st, ran [] none); host_call_lem = A.host_call_lem }
+deaf = record { State = St; Event = Event; empty = A.empty; table = A.table; step = λ st e. (st, ran [] none); host_call = A.host_call }
 
 deaf_refuted : Isolated R deaf [] → ⊥
 deaf_refuted isolated = none_some (sym (isolated.greets open_7))
@@ -145,7 +145,7 @@ crossed st (sweep now) = st
 crossed st other = st
 
 abbrev crossing : Agent R
-crossing = record { State = St; Event = Event; empty = A.empty; table = A.table; step = λ st e. A.step (crossed st e.0) e; host_call_lem = A.host_call_lem }
+crossing = record { State = St; Event = Event; empty = A.empty; table = A.table; step = λ st e. A.step (crossed st e.0) e; host_call = A.host_call }
 
 abbrev create_in : ℕ → Event
 create_in s = to s (at 200 (create 5) ∷ [])
@@ -165,7 +165,7 @@ dropped st (some w) (sweep now) r = r
 dropped st (some w) other r = r
 
 abbrev dropping : Agent R
-dropping = record { State = St; Event = Event; empty = A.empty; table = A.table; step = λ st e. dropped st st.wait e.0 (A.step st e); host_call_lem = A.host_call_lem }
+dropping = record { State = St; Event = Event; empty = A.empty; table = A.table; step = λ st e. dropped st st.wait e.0 (A.step st e); host_call = A.host_call }
 
 caller : Session R dropping (open_7 ∷ create_in 1 ∷ create_in 1 ∷ [])
 unfolding run step ids live free chosen
@@ -173,7 +173,7 @@ caller = opened_by dropping [] open_7 (create_in 1 ∷ create_in 1 ∷ []) (reco
 
 dropping_refuted : Isolated R dropping (open_7 ∷ create_in 1 ∷ create_in 1 ∷ []) → ⊥
 unfolding caller opened_by run step ids live free chosen
-dropping_refuted isolated = true≢false (sym (isolated.in_turn_lem caller))
+dropping_refuted isolated = true≢false (sym (isolated.in_turn caller))
 
 -- ---- every call leaves a session with id 3
 
@@ -200,7 +200,7 @@ none_opened : Session R haunted (quiet ∷ []) → ⊥
 none_opened S = go S.before S.whole S.brings
   where
     go : (before : List Event) → quiet ∷ [] ≡ before ++ S.call ∷ S.later
-        → (works_on R (reached R haunted (set_up_lem R haunted) before).open_calls S.call.0).0 ≡ some S.message → ⊥
+        → (works_on R (reached R haunted (set_up R haunted) before).open_calls S.call.0).0 ≡ some S.message → ⊥
     go [] e b = let c : S.call ≡ quiet = sym (ap (head quiet) e) in none_some {b = S.message} (rw c at b)
     go (x ∷ xs) e b = not_empty xs S.call S.later (ap tail e)
 
@@ -218,7 +218,7 @@ copied r (sweep now) = r
 copied r other = (record { tables = record { next = r.0.tables.next; at = put R (D 1000 3 3) 2 (r.0.tables.at 1) r.0.tables.at }; wait = r.0.wait }, ran [] none)
 
 abbrev copying : Agent R
-copying = record { State = St; Event = Event; empty = A.empty; table = A.table; step = λ st e. copied (A.step st e) e.0; host_call_lem = A.host_call_lem }
+copying = record { State = St; Event = Event; empty = A.empty; table = A.table; step = λ st e. copied (A.step st e) e.0; host_call = A.host_call }
 
 victim : Session R copying (opens₁ ++ (open_8 ∷ (other, 0) ∷ []))
 unfolding run step ids live free chosen

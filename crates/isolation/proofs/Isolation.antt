@@ -7,7 +7,7 @@ use mathlib.Core.List.{List, [], ◌∷◌, ◌++◌}
 use lib.Dec.{eqb}
 use Rattle.isolation.specs.Rules.{Bytes, Outcome, Sub, opens, names, Message, Rules, Host, datagram, answer, removal, sweep, other, Out, opened, reply, Asked, Result, refused, ran}
 use Rattle.isolation.specs.Machine.{Machine, ended, idle, waiting, Feed, submessages, answered, swept_at, removal_of_it, Moved, still, work, take, table_of}
-use Rattle.isolation.specs.Claim.{OpenCalls, update, works_on, behind_client, past, Greeted, subs_of, Silent, Fresh, OwnTag, open_after, but_clients, if_names, feed_of, outs_of, call_of_lem, replies_of_lem, calls_of, client_at, status_at_lem}
+use Rattle.isolation.specs.Claim.{OpenCalls, update, works_on, behind_client, past, Greeted, subs_of, Silent, Fresh, OwnTag, open_after, but_clients, if_names, feed_of, outs_of, call_of, replies_of, calls_of, client_at, status_at}
 use Rattle.isolation.proofs.Simulation.{none_some, for_it, for_is, Opened, Agrees, Follows, refuses, moves, Simulates}
 use Rattle.isolation.proofs.Reference.{Admission, Wait, State, Ran, put, run, continue, Stepped, refuse, settle, begin, stays, with_sessions_lem, stepped, step, empty, reference}
 use Rattle.isolation.proofs.Runs.{eqb_same, same, apart, calls_is, seen, Match, work_turns, resume_turns, run_live, continue_mine, continue_other, run_birth, deliver_birth, deliver_never, never, deliver_once, run_once, Leaves, leaves_tag, run_leaves, deliver_leaves, behind_same, greets_same, deliver_greets, run_greets}
@@ -97,7 +97,7 @@ module _ (R : Rules) (D : Admission R) where
   abbrev Agree : ℕ → Stepped R D → Moved R → Type 0
   Agree s r m = Agrees R (reference R D) (view s) s r m
 
-  settled : (s : ℕ) (r : Ran R D) (m : Moved R) → Match R D s r m → m.in_turn_lem ≡ true → Agree s (settle R D r) m
+  settled : (s : ℕ) (r : Ran R D) (m : Moved R) → Match R D s r m → m.in_turn ≡ true → Agree s (settle R D r) m
   settled s r m k t = record { sees = k.sees; says = k.says; asks = calls_is R D s r.outs r.call ∙ k.asks; turns = t }
 
   step_live : (s : ℕ) (b : OpenCalls R) (st : St) (e : Host R) (l : Local) → Noted (b 0) st.wait → st.tables.at s ≡ some l → Follows R (reference R D) (view s) s b st e (step R D st e)
@@ -168,14 +168,14 @@ module _ (R : Rules) (D : Admission R) where
       m : Moved R
       m = work R (start s o.client) (for_it R s o.message.header o.behind)
 
-      fine : m.in_turn_lem ≡ true
+      fine : m.in_turn ≡ true
       fine = work_turns R D (start s o.client) (for_it R s o.message.header o.behind)
 
       Given : Option (Msg) → Type 0
       Given x = x ≡ some o.message
 
       Gets : Stepped R D → Type 0
-      Gets r = status_at_lem R o.number (outs_of R r.1) ≡ some s
+      Gets r = status_at R o.number (outs_of R r.1) ≡ some s
 
       go : (x : Waits) → st.wait ≡ x → (e : Host R) → Given (works_on R b e).0 → Gets (stepped R D x st e) → Agree s (stepped R D x st e) m
       go none q (datagram d) g y = reads (parse d) g y
@@ -364,10 +364,10 @@ module _ (R : Rules) (D : Admission R) where
   unfolding step
   step_tag b st e v c y = go st.wait refl e y
     where
-      go : (x : Waits) → st.wait ≡ x → (e : Host R) → call_of_lem R (stepped R D x st e).1 ≡ some c → (works_on R b e).1 c.tag ≡ none
+      go : (x : Waits) → st.wait ≡ x → (e : Host R) → call_of R (stepped R D x st e).1 ≡ some c → (works_on R b e).1 c.tag ≡ none
       go none q (datagram d) y = reads (parse d) y
         where
-          reads : (z : Option Msg) → call_of_lem R (begin R D st z).1 ≡ some c → b c.tag ≡ none
+          reads : (z : Option Msg) → call_of R (begin R D st z).1 ≡ some c → b c.tag ≡ none
           reads none y = absurd (none_some y)
           reads (some m) y =
               let r = run R D m.header m.subs st.tables in
@@ -381,7 +381,7 @@ module _ (R : Rules) (D : Admission R) where
       go (some w) q (answer t a) y = tagged (eqb t 0) refl y
         where
           tagged : (z : Bool) → eqb t 0 ≡ z → let r : Stepped R D = cond z (settle R D (continue R D w a st.tables)) (refuse R D st 15) in
-              call_of_lem R r.1 ≡ some c → update R t none b c.tag ≡ none
+              call_of R r.1 ≡ some c → update R t none b c.tag ≡ none
           tagged true z y =
               let r = continue R D w a st.tables in
               let l = deliver_leaves R D w.header w.rest st.tables (λ t'. run_leaves R D w.header w.rest t') (st.tables.at w.header) (λ l. resume l w.pending a) in

@@ -151,4 +151,4 @@ module _ (R : Rules) (D : Admission R) where
   empty = record { tables = record { next = 1; at = λ i. none }; wait = none }
 
   abbrev pub reference : Agent R
-  reference = record { State = State; Event = Host R; empty = empty; table = λ st. st.tables.at; step = step; host_call_lem = λ e. e }
+  reference = record { State = State; Event = Host R; empty = empty; table = λ st. st.tables.at; step = step; host_call = λ e. e }

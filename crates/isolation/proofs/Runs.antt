@@ -8,7 +8,7 @@ use mathlib.Core.List.{List, [], ◌∷◌, ◌++◌, map}
 use lib.Dec.{eqb, T, eqb→eq, eqb_refl}
 use Rattle.isolation.specs.Rules.{Bytes, Outcome, done, calls, Sub, opens, names, Message, Rules, Out, opened, reply, Asked, ran}
 use Rattle.isolation.specs.Machine.{Machine, ended, idle, waiting, Action, handles, resumes, Moved, still, on, work}
-use Rattle.isolation.specs.Claim.{behind_client, past, Greets, but_clients, replies_of_lem, calls_of, client_at, status_at_lem}
+use Rattle.isolation.specs.Claim.{behind_client, past, Greets, but_clients, replies_of, calls_of, client_at, status_at}
 use Rattle.isolation.proofs.Simulation.{none_some, for_it}
 use Rattle.isolation.proofs.Reference.{Admission, Tables, Wait, Ran, put, after, free, chosen, open_as_lem, keep_as, tell, act, deliver, run, continue}
 
@@ -44,19 +44,19 @@ module _ (R : Rules) (D : Admission R) where
   calls_is s os none = refl
   calls_is s os (some a) = refl
 
-  replies_mine : (s : ℕ) (rs : List Bytes) (os : List (Out R)) → replies_of_lem R s (map (reply s) rs ++ os) ≡ rs ++ replies_of_lem R s os
+  replies_mine : (s : ℕ) (rs : List Bytes) (os : List (Out R)) → replies_of R s (map (reply s) rs ++ os) ≡ rs ++ replies_of R s os
   replies_mine s [] os = refl
   replies_mine s (r ∷ rs) os = rw eqb_same (ap (λ (l : List Bytes). r ∷ l) (replies_mine s rs os))
 
-  replies_mine_all : (s : ℕ) (rs : List Bytes) → replies_of_lem R s (map (reply s) rs) ≡ rs
+  replies_mine_all : (s : ℕ) (rs : List Bytes) → replies_of R s (map (reply s) rs) ≡ rs
   replies_mine_all s [] = refl
   replies_mine_all s (r ∷ rs) = rw eqb_same (ap (λ (l : List Bytes). r ∷ l) (replies_mine_all s rs))
 
-  pub replies_other : (s h : ℕ) → eqb h s ≡ false → (rs : List Bytes) (os : List (Out R)) → replies_of_lem R s (map (reply h) rs ++ os) ≡ replies_of_lem R s os
+  pub replies_other : (s h : ℕ) → eqb h s ≡ false → (rs : List Bytes) (os : List (Out R)) → replies_of R s (map (reply h) rs ++ os) ≡ replies_of R s os
   replies_other s h e [] os = refl
   replies_other s h e (r ∷ rs) os = rw e (replies_other s h e rs os)
 
-  pub replies_other_all : (s h : ℕ) → eqb h s ≡ false → (rs : List Bytes) → replies_of_lem R s (map (reply h) rs) ≡ []
+  pub replies_other_all : (s h : ℕ) → eqb h s ≡ false → (rs : List Bytes) → replies_of R s (map (reply h) rs) ≡ []
   replies_other_all s h e [] = refl
   replies_other_all s h e (r ∷ rs) = rw e (replies_other_all s h e rs)
 
@@ -71,19 +71,19 @@ module _ (R : Rules) (D : Admission R) where
   -- a run of the agent is, for session s, a move of the machine
   pub record Match (s : ℕ) (r : Ran R D) (m : Moved R) : Type 0 where
     pub sees : seen s (r.tables.at s) r.wait ≡ m.machine
-    pub says : replies_of_lem R s r.outs ≡ m.replies
+    pub says : replies_of R s r.outs ≡ m.replies
     pub asks : call_for s r.call ≡ m.calls
 
   -- what a machine works on comes in turn
-  on_turns : (d : Action R) (x : Outcome Local Bytes Call Pending) (is : List In) → ((l : Local) → (work R l is).in_turn_lem ≡ true) → (on R d x is (λ l. work R l is)).in_turn_lem ≡ true
+  on_turns : (d : Action R) (x : Outcome Local Bytes Call Pending) (is : List In) → ((l : Local) → (work R l is).in_turn ≡ true) → (on R d x is (λ l. work R l is)).in_turn ≡ true
   on_turns d (done l rs) is k = k l
   on_turns d (calls l rs c p) is k = refl
 
-  pub work_turns : (l : Local) (is : List In) → (work R l is).in_turn_lem ≡ true
+  pub work_turns : (l : Local) (is : List In) → (work R l is).in_turn ≡ true
   work_turns l [] = refl
   work_turns l (i ∷ is) = on_turns (handles l i) (handle l i) is (λ l'. work_turns l' is)
 
-  pub resume_turns : (l : Local) (p : Pending) (a : Ans) (is : List In) → (on R (resumes l p a) (resume l p a) is (λ l. work R l is)).in_turn_lem ≡ true
+  pub resume_turns : (l : Local) (p : Pending) (a : Ans) (is : List In) → (on R (resumes l p a) (resume l p a) is (λ l. work R l is)).in_turn ≡ true
   resume_turns l p a is = on_turns (resumes l p a) (resume l p a) is (λ l'. work_turns l' is)
 
   -- ---- an id that is chosen was not live
@@ -202,13 +202,13 @@ module _ (R : Rules) (D : Admission R) where
   -- ---- STATUSes
 
   -- the replies of sessions are passed over in the count of STATUSes
-  pub opening_past : (j h : ℕ) (rs : List Bytes) (os : List (Out R)) → status_at_lem R j (map (reply h) rs ++ os) ≡ status_at_lem R j os
+  pub opening_past : (j h : ℕ) (rs : List Bytes) (os : List (Out R)) → status_at R j (map (reply h) rs ++ os) ≡ status_at R j os
   opening_past zero h [] os = refl
   opening_past (suc j) h [] os = refl
   opening_past zero h (r ∷ rs) os = opening_past zero h rs os
   opening_past (suc j) h (r ∷ rs) os = opening_past (suc j) h rs os
 
-  pub opening_none : (j h : ℕ) (rs : List Bytes) → status_at_lem R j (map (reply h) rs) ≡ none
+  pub opening_none : (j h : ℕ) (rs : List Bytes) → status_at R j (map (reply h) rs) ≡ none
   opening_none zero h [] = refl
   opening_none (suc j) h [] = refl
   opening_none zero h (r ∷ rs) = opening_none zero h rs
@@ -216,16 +216,16 @@ module _ (R : Rules) (D : Admission R) where
 
   -- no CREATE_CLIENT opens an id that is live: behind the rules at work, and in a run
   pub deliver_never : (s h : ℕ) (ss : List (Sub Opening In)) (j : ℕ) (t : Tables R D) (l : Local) → t.at s ≡ some l
-      → ((t' : Tables R D) (l : Local) → t'.at s ≡ some l → status_at_lem R j (run R D h ss t').outs ≡ some s → ⊥)
-      → (x : Option Local) (f : Local → Outcome Local Bytes Call Pending) → status_at_lem R j (deliver R D h ss t x f (λ t'. run R D h ss t')).outs ≡ some s → ⊥
+      → ((t' : Tables R D) (l : Local) → t'.at s ≡ some l → status_at R j (run R D h ss t').outs ≡ some s → ⊥)
+      → (x : Option Local) (f : Local → Outcome Local Bytes Call Pending) → status_at R j (deliver R D h ss t x f (λ t'. run R D h ss t')).outs ≡ some s → ⊥
   deliver_never s h ss j t l e k none f q = k t l e q
   deliver_never s h ss j t l e k (some l₀) f q = go (f l₀) q
     where
-      go : (x : Outcome Local Bytes Call Pending) → status_at_lem R j (act R D h ss t x (λ t'. run R D h ss t')).outs ≡ some s → ⊥
+      go : (x : Outcome Local Bytes Call Pending) → status_at R j (act R D h ss t x (λ t'. run R D h ss t')).outs ≡ some s → ⊥
       go (done l' rs) q = let (l'', e'') = kept_live s h l l' t e in k (keep_as R D h l' t) l'' e'' (sym (opening_past j h rs _) ∙ q)
       go (calls l' rs c p) q = none_some (sym (opening_none j h rs) ∙ q)
 
-  pub never : (s h : ℕ) (ss : List (Sub Opening In)) (j : ℕ) (t : Tables R D) (l : Local) → t.at s ≡ some l → status_at_lem R j (run R D h ss t).outs ≡ some s → ⊥
+  pub never : (s h : ℕ) (ss : List (Sub Opening In)) (j : ℕ) (t : Tables R D) (l : Local) → t.at s ≡ some l → status_at R j (run R D h ss t).outs ≡ some s → ⊥
   unfolding run
   never s h [] j t l e p = none_some p
   never s h (opens o ∷ ss) zero t l e p = none_some (sym (chosen_is o t s p) ∙ e)
@@ -234,17 +234,17 @@ module _ (R : Rules) (D : Admission R) where
 
   -- no id is in two STATUSes of a run
   pub deliver_once : (s h : ℕ) (ss : List (Sub Opening In)) (j k : ℕ) (t : Tables R D)
-      → ((t' : Tables R D) → status_at_lem R j (run R D h ss t').outs ≡ some s → status_at_lem R k (run R D h ss t').outs ≡ some s → k ≡ j)
+      → ((t' : Tables R D) → status_at R j (run R D h ss t').outs ≡ some s → status_at R k (run R D h ss t').outs ≡ some s → k ≡ j)
       → (x : Option Local) (f : Local → Outcome Local Bytes Call Pending) → let os = (deliver R D h ss t x f (λ t'. run R D h ss t')).outs in
-      status_at_lem R j os ≡ some s → status_at_lem R k os ≡ some s → k ≡ j
+      status_at R j os ≡ some s → status_at R k os ≡ some s → k ≡ j
   deliver_once s h ss j k t once none f p q = once t p q
   deliver_once s h ss j k t once (some l) f p q = go (f l) p q
     where
-      go : (x : Outcome Local Bytes Call Pending) → let os = (act R D h ss t x (λ t'. run R D h ss t')).outs in status_at_lem R j os ≡ some s → status_at_lem R k os ≡ some s → k ≡ j
+      go : (x : Outcome Local Bytes Call Pending) → let os = (act R D h ss t x (λ t'. run R D h ss t')).outs in status_at R j os ≡ some s → status_at R k os ≡ some s → k ≡ j
       go (done l' rs) p q = once (keep_as R D h l' t) (sym (opening_past j h rs _) ∙ p) (sym (opening_past k h rs _) ∙ q)
       go (calls l' rs c y) p q = absurd (none_some (sym (opening_none j h rs) ∙ p))
 
-  pub run_once : (s h : ℕ) (ss : List (Sub Opening In)) (j k : ℕ) (t : Tables R D) → let os = (run R D h ss t).outs in status_at_lem R j os ≡ some s → status_at_lem R k os ≡ some s → k ≡ j
+  pub run_once : (s h : ℕ) (ss : List (Sub Opening In)) (j k : ℕ) (t : Tables R D) → let os = (run R D h ss t).outs in status_at R j os ≡ some s → status_at R k os ≡ some s → k ≡ j
   unfolding run
   run_once s h [] j k t p q = absurd (none_some p)
   run_once s h (opens o ∷ ss) zero zero t p q = refl
@@ -257,18 +257,18 @@ module _ (R : Rules) (D : Admission R) where
 
   -- the rules at work before s is opened in the same call
   pub deliver_birth : (s h : ℕ) (ss : List (Sub Opening In)) (j : ℕ) (t : Tables R D) (m : Moved R)
-      → ((t' : Tables R D) → status_at_lem R j (run R D h ss t').outs ≡ some s → Match s (run R D h ss t') m)
+      → ((t' : Tables R D) → status_at R j (run R D h ss t').outs ≡ some s → Match s (run R D h ss t') m)
       → (x : Option Local) (f : Local → Outcome Local Bytes Call Pending)
-      → status_at_lem R j (deliver R D h ss t x f (λ t'. run R D h ss t')).outs ≡ some s
+      → status_at R j (deliver R D h ss t x f (λ t'. run R D h ss t')).outs ≡ some s
       → Match s (deliver R D h ss t x f (λ t'. run R D h ss t')) m
   deliver_birth s h ss j t m k none f q = k t q
   deliver_birth s h ss j t m k (some l) f q = acts (f l) q
     where
-      acts : (x : Outcome Local Bytes Call Pending) → status_at_lem R j (act R D h ss t x (λ t'. run R D h ss t')).outs ≡ some s
+      acts : (x : Outcome Local Bytes Call Pending) → status_at R j (act R D h ss t x (λ t'. run R D h ss t')).outs ≡ some s
           → Match s (act R D h ss t x (λ t'. run R D h ss t')) m
       acts (done l' rs) q = apartness (eqb h s) refl
         where
-          q' : status_at_lem R j (run R D h ss (keep_as R D h l' t)).outs ≡ some s
+          q' : status_at R j (run R D h ss (keep_as R D h l' t)).outs ≡ some s
           q' = sym (opening_past j h rs _) ∙ q
 
           apartness : (b : Bool) → eqb h s ≡ b → Match s (tell R D (map (reply h) rs) (run R D h ss (keep_as R D h l' t))) m
@@ -277,7 +277,7 @@ module _ (R : Rules) (D : Admission R) where
       acts (calls l' rs c p) q = absurd (none_some (sym (opening_none j h rs) ∙ q))
 
   pub run_birth : (s h : ℕ) (ss : List (Sub Opening In)) (j : ℕ) (o : Opening) (behind : List (Sub Opening In)) (t : Tables R D)
-      → client_at R j ss ≡ some (o, behind) → status_at_lem R j (run R D h ss t).outs ≡ some s
+      → client_at R j ss ≡ some (o, behind) → status_at R j (run R D h ss t).outs ≡ some s
       → Match s (run R D h ss t) (work R (start s o) (for_it R s h behind))
   unfolding run
   run_birth s h [] j o behind t a q = absurd (none_some q)

@@ -8,7 +8,7 @@ use mathlib.Core.List.{List, [], ◌∷◌, ◌++◌}
 use lib.Dec.{eqb}
 use Rattle.isolation.specs.Rules.{Sub, Message, Rules, Host, Result, refused, ran}
 use Rattle.isolation.specs.Machine.{Machine, ended, idle, Feed, submessages, Moved, take, takes, work, Trace, table_of, trace}
-use Rattle.isolation.specs.Claim.{Agent, OpenCalls, works_on, open_after, but_clients, if_names, feed_of, unless_refused, outs_of, replies_of_lem, calls_of, client_at, status_at_lem, subs_of, Greeted, Silent, Fresh, OwnTag, Point, set_up_lem, next, reached, Session, until, agent_trace, of_agent, feeds, fed, Isolated}
+use Rattle.isolation.specs.Claim.{Agent, OpenCalls, works_on, open_after, but_clients, if_names, feed_of, unless_refused, outs_of, replies_of, calls_of, client_at, status_at, subs_of, Greeted, Silent, Fresh, OwnTag, Point, set_up, next, reached, Session, until, agent_trace, of_agent, feeds, fed, Isolated}
 
 pub none_some : {B : Type 0} {b : B} → ◌≡◌ {A = Option B} none (some b) → ⊥
 none_some {B} {b} e = let z : ◌≡◌ {A = ℕ} 0 1 = cc in omega arith
@@ -40,48 +40,48 @@ module _ (R : Rules) where
     pub behind : List (Sub Opening In)
     pub brings : x ≡ some message
     pub asks : client_at R number message.subs ≡ some (client, behind)
-    pub granted : status_at_lem R number (outs_of R r) ≡ some s
+    pub granted : status_at R number (outs_of R r) ≡ some s
 
   module _ (A : Agent R) where
-    open A use {State, Event, empty, table, step, host_call_lem}
+    open A use {State, Event, empty, table, step, host_call}
 
     -- session s after a call, and what it got in it, is what the machine makes of a feed, which came in turn
     pub record Agrees (view : State → Machine R) (s : ℕ) (r : State × Result R) (m : Moved R) : Type 0 where
       pub sees : view r.0 ≡ m.machine
-      pub says : replies_of_lem R s (outs_of R r.1) ≡ m.replies
+      pub says : replies_of R s (outs_of R r.1) ≡ m.replies
       pub asks : calls_of R s r.1 ≡ m.calls
-      pub turns : m.in_turn_lem ≡ true
+      pub turns : m.in_turn ≡ true
 
     -- with s live, a call is refused and leaves s as it was, or s moves as the machine that is fed its part of the call
     pub data Follows (view : State → Machine R) (s : ℕ) (b : OpenCalls R) (st : State) (e : Event) (r : State × Result R) : Type 0 where
       refuses : (n : ℕ) → r.1 ≡ refused n → view r.0 ≡ view st → Follows view s b st e r
-      moves : went r.1 ≡ true → Agrees view s r (take R (view st) (feed_of R s b (host_call_lem e))) → Follows view s b st e r
+      moves : went r.1 ≡ true → Agrees view s r (take R (view st) (feed_of R s b (host_call e))) → Follows view s b st e r
 
     pub record Simulates : Type 1 where
       pub Inv : OpenCalls R → State → Type 0
       pub bare : (s : ℕ) → table empty s ≡ none
       pub inv_empty : Inv (λ t. none) empty
-      pub inv_step : (b : OpenCalls R) (st : State) (e : Event) → Inv b st → Inv (open_after R b (host_call_lem e) (step st e).1) (step st e).0
+      pub inv_step : (b : OpenCalls R) (st : State) (e : Event) → Inv b st → Inv (open_after R b (host_call e) (step st e).1) (step st e).0
       -- what a state keeps of a session, as a machine
       pub view : ℕ → State → Machine R
       pub view_table : (s : ℕ) (st : State) → table_of R (view s st) ≡ table st s
       pub view_gone : (s : ℕ) (st : State) → table st s ≡ none → view s st ≡ ended
       pub live : (s : ℕ) (b : OpenCalls R) (st : State) (e : Event) (l : Local) → Inv b st → table st s ≡ some l → Follows (view s) s b st e (step st e)
       -- the call that opens s leaves it as the machine that ran what names it behind its CREATE_CLIENT
-      pub birth : (b : OpenCalls R) (st : State) (e : Event) (s : ℕ) (o : Opened s (works_on R b (host_call_lem e)).0 (step st e).1) → Inv b st
+      pub birth : (b : OpenCalls R) (st : State) (e : Event) (s : ℕ) (o : Opened s (works_on R b (host_call e)).0 (step st e).1) → Inv b st
           → Agrees (view s) s (step st e) (work R (start s o.client) (for_it s o.message.header o.behind))
       pub born : (s : ℕ) (b : OpenCalls R) (st : State) (e : Event) (l : Local) → Inv b st → table st s ≡ none → table (step st e).0 s ≡ some l
-          → Opened s (works_on R b (host_call_lem e)).0 (step st e).1
+          → Opened s (works_on R b (host_call e)).0 (step st e).1
       pub silent : (s : ℕ) (b : OpenCalls R) (st : State) (e : Event) → Inv b st → table (step st e).0 s ≡ none → Silent R s (step st e).1
-      pub greets : (b : OpenCalls R) (st : State) (e : Event) → Inv b st → Greeted R (subs_of R (works_on R b (host_call_lem e)).0) (step st e).1
+      pub greets : (b : OpenCalls R) (st : State) (e : Event) → Inv b st → Greeted R (subs_of R (works_on R b (host_call e)).0) (step st e).1
       pub fresh : (b : OpenCalls R) (st : State) (e : Event) → Inv b st → Fresh R (table st) (step st e).1
-      pub own_tag : (b : OpenCalls R) (st : State) (e : Event) → Inv b st → OwnTag R (works_on R b (host_call_lem e)).1 (step st e).1
+      pub own_tag : (b : OpenCalls R) (st : State) (e : Event) → Inv b st → OwnTag R (works_on R b (host_call e)).1 (step st e).1
 
     -- ---- a trace is that of a machine that lives through what it is fed, all in turn
 
     pub record Same (m : Machine R) (fs : List (Feed R)) (t : Trace R) : Type 0 where
       pub alike : t ≡ trace R (takes R m fs)
-      pub turns : (takes R m fs).in_turn_lem ≡ true
+      pub turns : (takes R m fs).in_turn ≡ true
 
     -- an ended machine does nothing more
     same_ended : (fs : List (Feed R)) → Same ended fs (record { calls = []; replies = []; table = none })
@@ -91,7 +91,7 @@ module _ (R : Rules) where
     -- one call in front
     same_more : (view : State → Machine R) (s : ℕ) (r : State × Result R) (m : Machine R) (f : Feed R) (fs : List (Feed R)) (t : Trace R)
         → Agrees view s r (take R m f) → Same (view r.0) fs t
-        → Same m (f ∷ fs) (record { calls = calls_of R s r.1 ++ t.calls; replies = replies_of_lem R s (outs_of R r.1) ++ t.replies; table = t.table })
+        → Same m (f ∷ fs) (record { calls = calls_of R s r.1 ++ t.calls; replies = replies_of R s (outs_of R r.1) ++ t.replies; table = t.table })
     same_more view s r m f fs t a k =
         let k' : Same (take R m f).machine fs t = subst (λ (m : Machine R). Same m fs t) a.sees k in
         rw (a.asks, a.says)
@@ -129,8 +129,8 @@ module _ (R : Rules) where
           → Follow s (next R A p e) H (until R A (table (next R A p e).state s) (agent_trace R A s (next R A p e) H)) → Follow s p (e ∷ H) (agent_trace R A s p (e ∷ H))
       follow_step s p e H (refuses n q v) k = rw (q, ← v) (rw q at k)
       follow_step s p e H (moves w a) k =
-          rw (fed_went (step p.state e).1 (feed_of R s p.open_calls (host_call_lem e)) (feeds R A s (next R A p e) H) w)
-          (same_more (view s) s (step p.state e) (view s p.state) (feed_of R s p.open_calls (host_call_lem e)) (feeds R A s (next R A p e) H)
+          rw (fed_went (step p.state e).1 (feed_of R s p.open_calls (host_call e)) (feeds R A s (next R A p e) H) w)
+          (same_more (view s) s (step p.state e) (view s p.state) (feed_of R s p.open_calls (host_call e)) (feeds R A s (next R A p e) H)
           (until R A (table (next R A p e).state s) (agent_trace R A s (next R A p e) H)) a k)
 
       follow : (s : ℕ) (H : List Event) (p : Point R A) (l : Local) → Inv p.open_calls p.state → table p.state s ≡ some l → Follow s p H (agent_trace R A s p H)
@@ -142,9 +142,9 @@ module _ (R : Rules) where
 
       session : {H : List Event} (S : Session R A H) → Same (idle (start S.id S.client)) (fed R A S) (of_agent R A S)
       session {H} S =
-          let p = reached R A (set_up_lem R A) S.before in
-          let v : Inv p.open_calls p.state = inv_reached S.before (set_up_lem R A) inv_empty in
-          let o : Opened S.id (works_on R p.open_calls (host_call_lem S.call)).0 (step p.state S.call).1 =
+          let p = reached R A (set_up R A) S.before in
+          let v : Inv p.open_calls p.state = inv_reached S.before (set_up R A) inv_empty in
+          let o : Opened S.id (works_on R p.open_calls (host_call S.call)).0 (step p.state S.call).1 =
           record { message = S.message; number = S.number; client = S.client; behind = S.behind; brings = S.brings; asks = S.asks; granted = S.granted } in
           subst (λ (f : Feed R). Same (idle (start S.id S.client)) (f ∷ feeds R A S.id (next R A p S.call) S.later) (of_agent R A S)) (sym (for_is S.id S.message.header S.behind))
           (same_more (view S.id) S.id (step p.state S.call) (idle (start S.id S.client)) (submessages (for_it S.id S.message.header S.behind))
@@ -160,7 +160,7 @@ module _ (R : Rules) where
         call : Event
         later : List Event
         whole : H ≡ before ++ call ∷ later
-        opened : Opened s (works_on R (reached R A p before).open_calls (host_call_lem call)).0 (step (reached R A p before).state call).1
+        opened : Opened s (works_on R (reached R A p before).open_calls (host_call call)).0 (step (reached R A p before).state call).1
         stays : (agent_trace R A s (reached R A p before) (call ∷ later)).table ≡ some l
 
       data Source (p : Point R A) (H : List Event) (s : ℕ) (l : Local) : Type 0 where
@@ -182,11 +182,11 @@ module _ (R : Rules) where
               was none y = from_call (record { before = []; call = e; later = H; whole = refl; opened = born s p.open_calls p.state e l₁ v y z; stays = on })
               was (some l₀) y = from_start l₀ y on
 
-      covers : ((s : ℕ) → table empty s ≡ none) → (H : List Event) (s : ℕ) (l : Local) → table (reached R A (set_up_lem R A) H).state s ≡ some l
+      covers : ((s : ℕ) → table empty s ≡ none) → (H : List Event) (s : ℕ) (l : Local) → table (reached R A (set_up R A) H).state s ≡ some l
           → (S : Session R A H) × (S.id ≡ s) × ((of_agent R A S).table ≡ some l)
-      covers bare H s l q = go (source H (set_up_lem R A) s l inv_empty q)
+      covers bare H s l q = go (source H (set_up R A) s l inv_empty q)
         where
-          go : Source (set_up_lem R A) H s l → (S : Session R A H) × (S.id ≡ s) × ((of_agent R A S).table ≡ some l)
+          go : Source (set_up R A) H s l → (S : Session R A H) × (S.id ≡ s) × ((of_agent R A S).table ≡ some l)
           go (from_start l₀ z t) = absurd (none_some (sym (bare s) ∙ z))
           go (from_call f) =
               let o = f.opened in
@@ -197,7 +197,7 @@ module _ (R : Rules) where
       pub isolated_of : (H : List Event) → Isolated R A H
       isolated_of H = record {
         alone = λ S. (session S).alike;
-        in_turn_lem = λ S. (session S).turns;
+        in_turn = λ S. (session S).turns;
         covered = covers (Simulates.bare sim) H;
         silent = λ e s q. silent s now.open_calls now.state e holds q;
         greets = λ e. greets now.open_calls now.state e holds;
@@ -206,7 +206,7 @@ module _ (R : Rules) where
       }
         where
           now : Point R A
-          now = reached R A (set_up_lem R A) H
+          now = reached R A (set_up R A) H
 
           holds : Inv now.open_calls now.state
-          holds = inv_reached H (set_up_lem R A) inv_empty
+          holds = inv_reached H (set_up R A) inv_empty

@@ -11,7 +11,7 @@ pub record Agent (R : Rules) : Type 1 where
   pub empty : State  -- "An empty agent is one just set up."
   pub table : State → ℕ → Option R.Local  -- the tables of an id's session, if it is live
   pub step : State → Event → State × Result R
-  pub host_call_lem : Event → Host R  -- which of the host's calls that is: it looks at no state, so it has nothing that the host did not bring
+  pub host_call : Event → Host R  -- which of the host's calls that is: it looks at no state, so it has nothing that the host did not bring
 
 module _ (R : Rules) where
   open R use {Opening, In, Call, Local, parse, status, start}
@@ -83,15 +83,15 @@ module _ (R : Rules) where
   outs_of (refused n) = []
   outs_of (ran os c) = os
 
-  abbrev pub call_of_lem : Result R → Option (Asked R)
-  call_of_lem (refused n) = none
-  call_of_lem (ran os c) = c
+  abbrev pub call_of : Result R → Option (Asked R)
+  call_of (refused n) = none
+  call_of (ran os c) = c
 
   -- "The STATUS that answers a CREATE_CLIENT is among no session's replies."
-  abbrev pub replies_of_lem : ℕ → List (Out R) → List Bytes
-  replies_of_lem s [] = []
-  replies_of_lem s (opened x r ∷ os) = replies_of_lem s os
-  replies_of_lem s (reply h r ∷ os) = cond (eqb h s) (r ∷ replies_of_lem s os) (replies_of_lem s os)
+  abbrev pub replies_of : ℕ → List (Out R) → List Bytes
+  replies_of s [] = []
+  replies_of s (opened x r ∷ os) = replies_of s os
+  replies_of s (reply h r ∷ os) = cond (eqb h s) (r ∷ replies_of s os) (replies_of s os)
 
   -- "Calls are compared whole": the one for session s
   abbrev pub calls_of : ℕ → Result R → List Call
@@ -106,11 +106,11 @@ module _ (R : Rules) where
   client_at (suc j) (opens o ∷ ss) = client_at j ss
   client_at j (names i ∷ ss) = client_at j ss
 
-  abbrev pub status_at_lem : ℕ → List (Out R) → Option ℕ
-  status_at_lem j [] = none
-  status_at_lem zero (opened x r ∷ os) = x
-  status_at_lem (suc j) (opened x r ∷ os) = status_at_lem j os
-  status_at_lem j (reply h r ∷ os) = status_at_lem j os
+  abbrev pub status_at : ℕ → List (Out R) → Option ℕ
+  status_at j [] = none
+  status_at zero (opened x r ∷ os) = x
+  status_at (suc j) (opened x r ∷ os) = status_at j os
+  status_at j (reply h r ∷ os) = status_at j os
 
   -- the submessages of the datagram at work, if there is one
   abbrev pub subs_of : Option (Message Opening In) → List (Sub Opening In)
@@ -132,18 +132,18 @@ module _ (R : Rules) where
 
   -- "No such session: no reply", and no bridge call: nothing for s
   abbrev pub Silent : ℕ → Result R → Type 0
-  Silent s r = (replies_of_lem s (outs_of r) ≡ []) × (calls_of s r ≡ [])
+  Silent s r = (replies_of s (outs_of r) ≡ []) × (calls_of s r ≡ [])
 
   -- "CREATE_CLIENT always opens a new session, whatever the key": an id in a STATUS is that of no session live before, and of no other STATUS
   abbrev pub Fresh : (ℕ → Option Local) → Result R → Type 0
-  Fresh live r = (j s : ℕ) → status_at_lem j (outs_of r) ≡ some s → (live s ≡ none) × ((k : ℕ) → status_at_lem k (outs_of r) ≡ some s → k ≡ j)
+  Fresh live r = (j s : ℕ) → status_at j (outs_of r) ≡ some s → (live s ≡ none) × ((k : ℕ) → status_at k (outs_of r) ≡ some s → k ≡ j)
 
   -- "the answer to its call": a call is handed out under a tag that no other open call has, so that no answer can be another's
   abbrev pub OwnTag : OpenCalls → Result R → Type 0
-  OwnTag others r = (a : Asked R) → call_of_lem r ≡ some a → others a.tag ≡ none
+  OwnTag others r = (a : Asked R) → call_of r ≡ some a → others a.tag ≡ none
 
   module _ (A : Agent R) where
-    open A use {State, Event, empty, table, step, host_call_lem}
+    open A use {State, Event, empty, table, step, host_call}
 
     -- where a list of calls has led: the agent's state, and the open calls
     pub record Point : Type 0 where
@@ -151,12 +151,12 @@ module _ (R : Rules) where
       pub open_calls : OpenCalls
 
     -- "An empty agent is one just set up."
-    abbrev pub set_up_lem : Point
-    set_up_lem = record { state = empty; open_calls = λ t. none }
+    abbrev pub set_up : Point
+    set_up = record { state = empty; open_calls = λ t. none }
 
     -- one call on, and all calls of a list
     abbrev pub next : Point → Event → Point
-    next p e = let r = step p.state e in record { state = r.0; open_calls = open_after p.open_calls (host_call_lem e) r.1 }
+    next p e = let r = step p.state e in record { state = r.0; open_calls = open_after p.open_calls (host_call e) r.1 }
 
     abbrev pub reached : Point → List Event → Point
     reached p [] = p
@@ -174,9 +174,9 @@ module _ (R : Rules) where
       pub client : Opening
       pub behind : List (Sub Opening In)
       pub id : ℕ
-      pub brings : (works_on (reached set_up_lem before).open_calls (host_call_lem call)).0 ≡ some message
+      pub brings : (works_on (reached set_up before).open_calls (host_call call)).0 ≡ some message
       pub asks : client_at number message.subs ≡ some (client, behind)
-      pub granted : status_at_lem number (outs_of (step (reached set_up_lem before).state call).1) ≡ some id
+      pub granted : status_at number (outs_of (step (reached set_up before).state call).1) ≡ some id
 
     -- the agent's side: the session's calls, replies and tables from its opening to its end or the end of H
     abbrev pub until : Option Local → Trace R → Trace R
@@ -188,20 +188,20 @@ module _ (R : Rules) where
     agent_trace s p (e ∷ H) =
         let r = (step p.state e).1 in
         let t = until (table (next p e).state s) (agent_trace s (next p e) H) in
-        record { calls = calls_of s r ++ t.calls; replies = replies_of_lem s (outs_of r) ++ t.replies; table = t.table }
+        record { calls = calls_of s r ++ t.calls; replies = replies_of s (outs_of r) ++ t.replies; table = t.table }
 
     abbrev pub of_agent : {H : List Event} → Session H → Trace R
-    of_agent S = agent_trace S.id (reached set_up_lem S.before) (S.call ∷ S.later)
+    of_agent S = agent_trace S.id (reached set_up S.before) (S.call ∷ S.later)
 
     -- the machine's side: what names it, "those in the rest of the opening datagram included", then its feeds of the later calls
     abbrev pub feeds : ℕ → Point → List Event → List (Feed R)
     feeds s p [] = []
-    feeds s p (e ∷ H) = unless_refused (step p.state e).1 (feed_of s p.open_calls (host_call_lem e)) (feeds s (next p e) H)
+    feeds s p (e ∷ H) = unless_refused (step p.state e).1 (feed_of s p.open_calls (host_call e)) (feeds s (next p e) H)
 
     abbrev pub fed : {H : List Event} → Session H → List (Feed R)
     fed S =
         if_names S.id (some (record { header = S.message.header; subs = S.behind })) (λ ss. submessages (but_clients ss))
-        ∷ feeds S.id (next (reached set_up_lem S.before) S.call) S.later
+        ∷ feeds S.id (next (reached set_up S.before) S.call) S.later
 
     abbrev pub of_machine : {H : List Event} → Session H → Moved R
     of_machine S = takes R (idle (start S.id S.client)) (fed S)
@@ -210,17 +210,17 @@ module _ (R : Rules) where
       -- Each session opened in H behaves as the machine fed alone; "every beginning of H is such a list too", so after each call.
       pub alone : (S : Session H) → of_agent S ≡ trace R (of_machine S)
       -- The machine was fed so: "in order; while its call is open, only the answer".
-      pub in_turn_lem : (S : Session H) → (of_machine S).in_turn_lem ≡ true
+      pub in_turn : (S : Session H) → (of_machine S).in_turn ≡ true
       -- No session escapes: what is live after H is a session opened in H, followed to the end of H.
-      pub covered : (s : ℕ) (l : Local) → table (reached set_up_lem H).state s ≡ some l → (S : Session H) × (S.id ≡ s) × ((of_agent S).table ≡ some l)
+      pub covered : (s : ℕ) (l : Local) → table (reached set_up H).state s ≡ some l → (S : Session H) × (S.id ≡ s) × ((of_agent S).table ≡ some l)
       -- In one call more: an id that is not live after it gets no reply and no bridge call.
-      pub silent : (e : Event) (s : ℕ) → let r = step (reached set_up_lem H).state e in table r.0 s ≡ none → Silent s r.1
+      pub silent : (e : Event) (s : ℕ) → let r = step (reached set_up H).state e in table r.0 s ≡ none → Silent s r.1
       -- No reply hides as a STATUS, and no CREATE_CLIENT is passed over.
-      pub greets : (e : Event) → let p = reached set_up_lem H in Greeted (subs_of (works_on p.open_calls (host_call_lem e)).0) (step p.state e).1
+      pub greets : (e : Event) → let p = reached set_up H in Greeted (subs_of (works_on p.open_calls (host_call e)).0) (step p.state e).1
       -- No two live sessions are one.
-      pub fresh : (e : Event) → let p = reached set_up_lem H in Fresh (table p.state) (step p.state e).1
+      pub fresh : (e : Event) → let p = reached set_up H in Fresh (table p.state) (step p.state e).1
       -- No answer is taken for another's.
-      pub own_tag : (e : Event) → let p = reached set_up_lem H in OwnTag (works_on p.open_calls (host_call_lem e)).1 (step p.state e).1
+      pub own_tag : (e : Event) → let p = reached set_up H in OwnTag (works_on p.open_calls (host_call e)).1 (step p.state e).1
 
     -- Term 3. The agent's calls for a session are the machine's (`alone`), so the handles in them are those of the machine's actions.
     abbrev pub Term3 : Handles R → Type 0
