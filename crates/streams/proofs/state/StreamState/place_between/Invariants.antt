@@ -1,0 +1,11 @@
+-- `streams::state::StreamState::place_between` meets its contract: the search that has come to `i` has still the answer of the whole.
+use Rattle.std.proofs.Common.{◌-◌}
+use Rattle.streams.specs.Places.{length_at}
+use Rattle.streams.proofs.places.Laws.{Open}
+use Rattle.streams.proofs.state.StreamState.place_between.Given as goal
+
+abbrev pub invariant-loop-i : goal.invariant-loop-i
+invariant-loop-i l = Open (length_at l.self l.least l.most) 16 l.i
+
+abbrev pub decreases-loop-i : goal.decreases-loop-i
+decreases-loop-i l = 16 - l.i
