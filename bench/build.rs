@@ -18,7 +18,7 @@ fn link(folder: &Path, library: &str) {
     println!("cargo:rerun-if-changed={}", archive.display());
     // The linker asks for an absolute folder: it isn't run from here.
     let Ok(found) = archive.canonicalize() else {
-        eprintln!("no {}: `rt staticlib {library}` makes it, or set XRCE_AGENT_LIB to its folder", archive.display());
+        eprintln!("no {}: `tools/archives {library}` makes it, or set XRCE_AGENT_LIB to its folder", archive.display());
         std::process::exit(1);
     };
     println!("cargo:rustc-link-search=native={}", found.parent().unwrap_or(folder).display());

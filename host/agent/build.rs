@@ -15,7 +15,7 @@ fn folder() -> PathBuf {
 
 fn missing(archive: &Path) -> ! {
     eprintln!("The agent's archive isn't there: {}", archive.display());
-    eprintln!("Run `rt staticlib cabi` in the repository's root, which makes target/staticlib/libcabi.a,");
+    eprintln!("Run `tools/archives cabi` in the repository's root, which makes target/staticlib/libcabi.a,");
     eprintln!("or set XRCE_AGENT_LIB to the (absolute) folder that has libcabi.a.");
     exit(1)
 }
