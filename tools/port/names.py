@@ -140,7 +140,7 @@ def turn_antt(path, new):
         brought = set(re.findall(r"[^\s{},]+", " ".join(re.findall(r"^use [^{\n]*\{([^}]*)\}", text, re.M))))
         new = {old: now for old, now in new.items() if old in brought or old in declared_in(text)}
     for end, apart in APART.items():
-        if path.endswith(end):
+        if path.endswith(end) and "--nested" not in sys.argv:
             new = {**new, **apart}
     out = []
     for line in text.split("\n"):

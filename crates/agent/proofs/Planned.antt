@@ -231,18 +231,18 @@ turn_not hours d rebuilt a l (turn.Answer p b) given n y room h k = by (sound_of
 turn_not hours d rebuilt a l (turn.Refused r) given n y room h k = h
 
 -- and it does not look at the room
-abbrev at_room_lem : Judged → ℕ → Judged
-at_room_lem (judged.Goes x n) room = judged.Goes (start_at x room) n
-at_room_lem (judged.Refused r) room = judged.Refused r
+abbrev at_room : Judged → ℕ → Judged
+at_room (judged.Goes x n) room = judged.Goes (start_at x room) n
+at_room (judged.Refused r) room = judged.Refused r
 
-turn_room : (hours d rebuilt : List ℕ) (a : Agent) (l : Limits) (x : Turn) (given : Given) (n : ℕ) (y : Slot) (room : ℕ) → judged_by hours d rebuilt a l x given n y room ≡ at_room_lem (judged_by hours d rebuilt a l x given n y 0) room
+turn_room : (hours d rebuilt : List ℕ) (a : Agent) (l : Limits) (x : Turn) (given : Given) (n : ℕ) (y : Slot) (room : ℕ) → judged_by hours d rebuilt a l x given n y room ≡ at_room (judged_by hours d rebuilt a l x given n y 0) room
 turn_room hours d rebuilt a l turn.Datagram given n y room = by (sound_of a l) (ltb (length hours) week_minutes) (is_minute given.day given.minute) (check_of d)
   where
     at_room_lem : ℕ → Bool → Bool → Bool → Checked → Judged
     at_room_lem r b w e c =
         cond b (cond w (judged.Refused OverLimit) (cond e (checked_judged a (moment_of (open_in hours) given) r c) (judged.Refused NoSuchMinute))) (judged.Refused OverLimit)
 
-    by : (b w e : Bool) (c : Checked) → at_room_lem room b w e c ≡ at_room_lem (at_room_lem 0 b w e c) room
+    by : (b w e : Bool) (c : Checked) → at_room_lem room b w e c ≡ at_room (at_room_lem 0 b w e c) room
     by true true e c = refl
     by true false true (checked.Message h m) = refl
     by true false true (checked.Refused r) = refl
@@ -250,23 +250,23 @@ turn_room hours d rebuilt a l turn.Datagram given n y room = by (sound_of a l) (
     by false w e c = refl
 turn_room hours d rebuilt a l (turn.Answer p b) given n y room = by (sound_of a l) (left_kept (rebuilt_part rebuilt p.left_end) p) (ltb (length d) p.at) (count_at (header_of p) d p.at)
   where
-    placed : (y : Slot) (m : ℕ) → placed_judged y (judged.Goes (answer_start a p b room) m) ≡ at_room_lem (placed_judged y (judged.Goes (answer_start a p b 0) m)) room
+    placed : (y : Slot) (m : ℕ) → placed_judged y (judged.Goes (answer_start a p b room) m) ≡ at_room (placed_judged y (judged.Goes (answer_start a p b 0) m)) room
     placed (slot.At i) m = refl
     placed slot.Nowhere m = refl
     placed (slot.Refused r) m = refl
 
     long : (c : Bool) (m : ℕ)
-        → cond c (judged.Refused TooLong) (placed_judged y (judged.Goes (answer_start a p b room) m)) ≡ at_room_lem (cond c (judged.Refused TooLong) (placed_judged y (judged.Goes (answer_start a p b 0) m))) room
+        → cond c (judged.Refused TooLong) (placed_judged y (judged.Goes (answer_start a p b room) m)) ≡ at_room (cond c (judged.Refused TooLong) (placed_judged y (judged.Goes (answer_start a p b 0) m))) room
     long true m = refl
     long false m = placed y m
 
-    rest : (c : Checked) → rest_judged a p b n y room c ≡ at_room_lem (rest_judged a p b n y 0 c) room
+    rest : (c : Checked) → rest_judged a p b n y room c ≡ at_room (rest_judged a p b n y 0 c) room
     rest (checked.Message h m) = long (too_long b n) m
     rest (checked.Refused r) = refl
 
     by : (s w e : Bool) (c : Checked)
         → cond s (cond w (cond e (judged.Refused OverLimit) (rest_judged a p b n y room c)) (judged.Refused OverLimit)) (judged.Refused OverLimit)
-        ≡ at_room_lem (cond s (cond w (cond e (judged.Refused OverLimit) (rest_judged a p b n y 0 c)) (judged.Refused OverLimit)) (judged.Refused OverLimit)) room
+        ≡ at_room (cond s (cond w (cond e (judged.Refused OverLimit) (rest_judged a p b n y 0 c)) (judged.Refused OverLimit)) (judged.Refused OverLimit)) room
     by true true true c = refl
     by true true false c = rest c
     by true false e c = refl
@@ -288,7 +288,7 @@ module _ (t : Tables) (hours d : List ℕ) (a : Agent) (i : Input) (given : Give
   unfolding judge_of
   judge_not = turn_not hours d t.rebuilt a within in_turn given n holds 0 (in_turn_lem a.waits i) (slot_not in_turn t.sessions t.streams (length t.held) n)
 
-  judge_room : (room : ℕ) → judge_of t hours d a i given n room ≡ at_room_lem (judge_of t hours d a i given n 0) room
+  judge_room : (room : ℕ) → judge_of t hours d a i given n room ≡ at_room (judge_of t hours d a i given n 0) room
   unfolding judge_of
   judge_room room = turn_room hours d t.rebuilt a within in_turn given n holds room
 
@@ -337,7 +337,7 @@ module _ (st : State) (d sample : List ℕ) where
         record { plan = goes st' q; good = refl; carries = λ out. carried_as s (wrote out) out st' q refl refl (w out) }
 
   -- the same of any room, since that is told by the count alone
-  judged_planned : (j : Judged) → Not13 j → Planned st (λ out. did_by st.hours d st.lent (processed_by (at_room_lem j (length out)) st.agent st.tables out d sample))
+  judged_planned : (j : Judged) → Not13 j → Planned st (λ out. did_by st.hours d st.lent (processed_by (at_room j (length out)) st.agent st.tables out d sample))
   judged_planned (judged.Refused r) h = refuses st (number_of r) (byte_of r) h
   judged_planned (judged.Goes x n) h = record {
     plan = p.plan;

@@ -29,7 +29,7 @@ use Rattle.agent.specs.declared.state.Given.{Given}
 use Rattle.agent.specs.Rules.{rules}
 use Rattle.agent.specs.Step as step
 use Rattle.agent.specs.Step.{Open, joined_replies, run, continued, settle, begin}
-use Rattle.agent.specs.Judge.{too_long_lem}
+use Rattle.agent.specs.Judge.{too_long}
 use Rattle.agent.specs.Host.{finish, set_up_by, set_up_as}
 use Rattle.agent.specs.Claim as lists
 use Rattle.agent.specs.Whole as whole
@@ -202,7 +202,7 @@ stepped_listed none st (step.sweep now) out =
     let is = step.lapsed_ids st.timeout now st.tables.at in
     finish_listed st out (step.with_locals st (λ i. step.stays st.timeout now (st.tables.at i))) is (step.swept is) tt
 stepped_listed (some w) st (step.datagram given bytes) out = out_of_turn
-stepped_listed (some w) st (step.answer a) out = by (fits w.pending.asked.task a) (step.too_long_lem w.pending.asked a) (step.over_held w a st.tables)
+stepped_listed (some w) st (step.answer a) out = by (fits w.pending.asked.task a) (step.too_long w.pending.asked a) (step.over_held w a st.tables)
   where
     by : (b c d : Bool)
         → ListedIn (cond b (cond c (step.refuse st out 12 0) (cond d (step.refuse st out 14 0) (settle st out (continued st.max w a st.tables)))) (step.refuse st out 15 0)).result

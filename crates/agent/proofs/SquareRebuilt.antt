@@ -43,7 +43,7 @@ use Rattle.agent.specs.Brings.{In, in_of}
 use Rattle.agent.specs.Lent.{with_rows}
 use Rattle.agent.specs.Place.{ins_at}
 use Rattle.agent.specs.RulesFragments.{Working, plain, behind, onto}
-use Rattle.agent.specs.Run.{Acted, acted, delivered, repeats_in, touched_in, taken_of, inside_by, inside_turned, is_call, goes_on_lem, work_in, work_at}
+use Rattle.agent.specs.Run.{Acted, acted, delivered, repeats_in, touched_in, taken_of, inside_by, inside_turned, is_call, goes_on, work_in, work_at}
 use Rattle.agent.specs.Step.{Reply, replied}
 use Rattle.agent.specs.declared.turn.Frame.{Frame}
 use Rattle.agent.specs.declared.turn.Ran.{Ran}
@@ -127,17 +127,17 @@ module _ (f : Frame) (s : List ℕ) (t : Tables) where
   abbrev then : Acted → Acted → Acted
   then x y = record { ran = y.ran; rows = y.rows; replies = x.replies ++ y.replies }
 
-  work_ends : (left : ℕ) (r : Ran) (from : Rows) → goes_on_lem (length s) r ≡ false → work_in left f h s r from ≡ idle r from
+  work_ends : (left : ℕ) (r : Ran) (from : Rows) → goes_on (length s) r ≡ false → work_in left f h s r from ≡ idle r from
   unfolding work_in
   work_ends zero r from e = refl
   work_ends (suc left) r from e = rw e refl
 
-  work_more : (left : ℕ) (r : Ran) (from : Rows) → goes_on_lem (length s) r ≡ true
+  work_more : (left : ℕ) (r : Ran) (from : Rows) → goes_on (length s) r ≡ true
       → work_in (suc left) f h s r from ≡ then (inside_turned f from h s r) (work_in left f h s (inside_turned f from h s r).ran (inside_turned f from h s r).rows)
   unfolding work_in
   work_more left r from e = rw e refl
 
-  idle_goes : (r : Ran) → r.stop ≡ stop.Nothing → goes_on_lem (length s) r ≡ ltb r.at (length s)
+  idle_goes : (r : Ran) → r.stop ≡ stop.Nothing → goes_on (length s) r ≡ ltb r.at (length s)
   idle_goes r e = ap (λ (x : Stop). cond (is_call x) false (ltb r.at (length s))) e
 
   -- ---- "No such session": nothing is done
@@ -166,7 +166,7 @@ module _ (f : Frame) (s : List ℕ) (t : Tables) where
     still_in : (left : ℕ) (r : Ran) → Still r from (work_in left f h s r from)
     unfolding work_in
     still_in zero r = record { rows = refl; replies = refl; next = refl; stop = refl }
-    still_in (suc left) r = by (goes_on_lem (length s) r) (λ r'. still_in left r')
+    still_in (suc left) r = by (goes_on (length s) r) (λ r'. still_in left r')
       where
         x : Acted
         x = inside_turned f from h s r

@@ -36,7 +36,7 @@ use Rattle.agent.specs.RulesFragments.{Working, plain, onto, brought, gathering}
 use Rattle.moves.specs.Rows.{asks_of}
 use Rattle.agent.specs.Lent.{rows_of, with_rows, rebuilt_part}
 use Rattle.agent.specs.Place.{subs_at, ins_at}
-use Rattle.agent.specs.Run.{Turned, stop_of, greeting, id_opened, opening, delivered, with_acted, fragment_turned, turned_by, turned, is_call, goes_on_lem, before, run_in, run_at}
+use Rattle.agent.specs.Run.{Turned, stop_of, greeting, id_opened, opening, delivered, with_acted, fragment_turned, turned_by, turned, is_call, goes_on, before, run_in, run_at}
 use Rattle.agent.specs.Step as agent
 use Rattle.agent.specs.Step.{Open, Reply, opened, behind, keep, act, deliver, run, open_as}
 use Rattle.agent.specs.Whole.{session_in}
@@ -265,16 +265,16 @@ module _ (f : Frame) (d : List ℕ) (max≤ : f.max_clients ≤ 255) (id< : f.se
   idle_run r t = record { ran = r; tables = t; replies = [] }
 
   -- a run that is at the end, or whose call is handed out
-  run_ends : (left : ℕ) (r : Ran) (t : Tables) → goes_on_lem (length d) r ≡ false → run_in left f d r t ≡ idle_run r t
+  run_ends : (left : ℕ) (r : Ran) (t : Tables) → goes_on (length d) r ≡ false → run_in left f d r t ≡ idle_run r t
   unfolding run_in
   run_ends zero r t e = refl
   run_ends (suc left) r t e = rw e refl
 
-  run_more : (left : ℕ) (r : Ran) (t : Tables) → goes_on_lem (length d) r ≡ true → run_in (suc left) f d r t ≡ before (turned f t d r) (λ r' t'. run_in left f d r' t')
+  run_more : (left : ℕ) (r : Ran) (t : Tables) → goes_on (length d) r ≡ true → run_in (suc left) f d r t ≡ before (turned f t d r) (λ r' t'. run_in left f d r' t')
   unfolding run_in
   run_more left r t e = rw e refl
 
-  idle_goes : (r : Ran) → r.stop ≡ stop.Nothing → goes_on_lem (length d) r ≡ ltb r.at (length d)
+  idle_goes : (r : Ran) → r.stop ≡ stop.Nothing → goes_on (length d) r ≡ ltb r.at (length d)
   idle_goes r idle = ap (λ (s : Stop). cond (is_call s) false (ltb r.at (length d))) idle
 
   -- at the end of the datagram

@@ -15,7 +15,7 @@ use Rattle.sessions.specs.Need.{held_need, parts_need, lengths_need, rebuilt_nee
 use Rattle.sessions.specs.SessionStreams.{stream_place, state_at}
 use Rattle.sessions.specs.Setup.{set_up_of}
 use Rattle.sessions.specs.Fragments.{parts_stretch, own_lengths}
-use Rattle.sessions.specs.Limits.{store_kept_lem, limits_of}
+use Rattle.sessions.specs.Limits.{store_kept, limits_of}
 use Rattle.sessions.specs.View.{Tables}
 use Rattle.sessions.specs.Calls.{set_up_tables, Call, set_up, create, touch, remove, sweep, put, delete, open_stream, write_stream, send, gather, after_call, after_calls, Given, AllGiven, Lasting, SoundTables, LeadsTo}
 use Rattle.sessions.specs.declared.limits.Limits.TheVariants.{Within}
@@ -99,7 +99,7 @@ module _ (P : StreamState → Type 0) (lasting : Lasting P) (most : ℕ) where
       slot_kept_lem true e = refl
       slot_kept_lem false e = lt-ltb (session_at t.sessions id).slot most (d.slots.under id h e)
 
-      store_kept_lem : store_kept_lem t.sessions (length t.parts) t.lengths id ≡ true
+      store_kept_lem : store_kept t.sessions (length t.parts) t.lengths id ≡ true
       store_kept_lem =
           let s = session_at t.sessions id in
           fragments_kept_lem s t.parts (parts_stretch s (length t.parts)) (own_lengths t.sessions t.lengths id) (d.each id h).few_fragments (d.each id h).fragments

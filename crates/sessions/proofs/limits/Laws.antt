@@ -23,7 +23,7 @@ use Rattle.sessions.specs.declared.sending.Stretch.{Stretch}
 use Rattle.sessions.specs.SessionStreams.{stream_place, state_at}
 use Rattle.sessions.specs.declared.session_streams.StreamPlace.{StreamPlace}
 use Rattle.sessions.specs.Table.{session_at}
-use Rattle.sessions.specs.Limits.{slot_kept_lem, lengths_short, lengths_kept, counts_kept, fragments_kept, store_kept_lem, rows_kept, limits_from, limits_of}
+use Rattle.sessions.specs.Limits.{slot_kept, lengths_short, lengths_kept, counts_kept, fragments_kept, store_kept, rows_kept, limits_from, limits_of}
 use Rattle.sessions.specs.declared.objects.Object.{Object}
 use Rattle.sessions.specs.declared.table.ClientSession.{ClientSession}
 use Rattle.sessions.specs.declared.limits.Limits.{Limits}
@@ -125,15 +125,15 @@ module _ (s : ClientSession) (parts : List ℕ) (b : Stretch) (lengths : List �
 -- the same of the stretches that were found
 pub store_by : (sessions : List (List ℕ)) (parts : ℕ) (lengths : List ℕ) (id : ℕ) (s : ClientSession) (a b : Stretch) → s ≡ session_at sessions id
     → a ≡ parts_stretch (session_at sessions id) parts → b ≡ lengths_stretch (session_at sessions id) (length lengths)
-    → fragments_kept s (room_of a) (buffer_in lengths b) ≡ store_kept_lem sessions parts lengths id
+    → fragments_kept s (room_of a) (buffer_in lengths b) ≡ store_kept sessions parts lengths id
 store_by sessions parts lengths id s a b e p q = λ i. fragments_kept (e i) (room_of (p i)) (buffer_in lengths (q i))
 
 -- the rows of a session, by its four tests
 module _ (sessions streams : List (List ℕ)) (parts : ℕ) (lengths : List ℕ) (max id n : ℕ) (s : ClientSession) (e : s ≡ session_at sessions id) where
   abbrev tested : ClientSession → Bool → Bool → Limits
-  tested x y z = cond (cond (counts_kept x) (cond (slot_kept_lem x max) (cond y z false) false) false) Within (Refused OverLimit)
+  tested x y z = cond (cond (counts_kept x) (cond (slot_kept x max) (cond y z false) false) false) Within (Refused OverLimit)
 
-  pub rows_by : (a b c d : Bool) → counts_kept s ≡ a → slot_kept_lem s max ≡ b → store_kept_lem sessions parts lengths id ≡ c → lengths_kept sessions streams id n ≡ d
+  pub rows_by : (a b c d : Bool) → counts_kept s ≡ a → slot_kept s max ≡ b → store_kept sessions parts lengths id ≡ c → lengths_kept sessions streams id n ≡ d
       → cond (cond a (cond b (cond c d false) false) false) Within (Refused OverLimit) ≡ limits_from sessions streams parts lengths max id n
   rows_by a b c d p q r z =
       (λ i. cond (cond (sym p i) (cond (sym q i) (cond c d false) false) false) Within (Refused OverLimit))
@@ -154,8 +154,8 @@ module _ (sessions streams : List (List ℕ)) (objects : List Object) (held part
     pub stores : Long (length sessions) (length streams) (length objects) held parts (length lengths) rebuilt max
     pub objects_few : (session_at sessions id).objects ≤ 32
     pub streams_few : (session_at sessions id).streams ≤ 8
-    pub slot_kept_lem : slot_kept_lem (session_at sessions id) max ≡ true
-    pub store_kept_lem : store_kept_lem sessions parts lengths id ≡ true
+    pub slot_kept_lem : slot_kept (session_at sessions id) max ≡ true
+    pub store_kept_lem : store_kept sessions parts lengths id ≡ true
     pub lengths_kept_lem : lengths_kept sessions streams id n ≡ true
 
   pub kept_limits : limits_of sessions streams objects held parts lengths rebuilt max id n ≡ Within → Kept
@@ -165,8 +165,8 @@ module _ (sessions streams : List (List ℕ)) (objects : List Object) (held part
       let a = within_by fit (limits_from sessions streams parts lengths max id n) e in
       let b = within_by (rows_kept sessions streams parts lengths max id n) Within a.1 in
       let c = both (counts_kept s) _ b.0 in
-      let d = both (slot_kept_lem s max) _ c.1 in
-      let g = both (store_kept_lem sessions parts lengths id) (lengths_kept sessions streams id n) d.1 in
+      let d = both (slot_kept s max) _ c.1 in
+      let g = both (store_kept sessions parts lengths id) (lengths_kept sessions streams id n) d.1 in
       let f = both (leb s.objects 32) (leb s.streams 8) c.0 in
       record {
         stores = accepts (length sessions) (length streams) (length objects) held parts (length lengths) rebuilt max a.0;
