@@ -11,11 +11,9 @@ use lib.Seq.{get_or-set_same}
 use Rattle.moves.specs.declared.proxy.Task.{Task}
 use Rattle.moves.specs.declared.proxy.Task.TheVariants.{Creating, Writing, Reading, Deleting}
 use Rattle.agent.specs.declared.state.Agent.{Agent}
-use Rattle.agent.specs.declared.state.Pending.{Pending}
 use Rattle.agent.specs.declared.state.Waiting.{Waiting}
 use Rattle.agent.specs.declared.state.Waiting.TheVariants as waiting
 use Rattle.cabi.specs.Record.{record_of, record_at, task_in, agent_in, task_number, task_kind, task_parent, open_number, record_by, record_for, row_of, kept_in}
-use Rattle.cabi.specs.declared.record.Record.{Record}
 use Rattle.cabi.specs.declared.told.Told.{Told}
 
 -- the numbers of an open call, as the types of the code have them

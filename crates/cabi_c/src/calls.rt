@@ -47,7 +47,10 @@ pub extern "C" fn xrce_agent_process(
         × (rebuilt.new ≡ (process_left agent.old (lent sessions.old streams.old objects.old held.old parts.old lengths.old rebuilt.old) hours.now out.old datagram.now sample.now input time day minute handle).tables.rebuilt)
         × (out.new ≡ (process_left agent.old (lent sessions.old streams.old objects.old held.old parts.old lengths.old rebuilt.old) hours.now out.old datagram.now sample.now input time day minute handle).out) }
 {
-    cabi::calls::xrce_agent_process(agent, sessions, streams, objects, held, parts, lengths, rebuilt, hours, out, datagram, sample, input, time, day, minute, handle)
+    cabi::calls::xrce_agent_process(
+        agent, sessions, streams, objects, held, parts, lengths, rebuilt, hours, out, datagram,
+        sample, input, time, day, minute, handle,
+    )
 }
 
 #[unsafe(no_mangle)]
@@ -72,7 +75,20 @@ pub extern "C" fn xrce_agent_setup(
         × (objects.new ≡ (set_up_left agent.old (lent sessions.old streams.old objects.old held.now parts.now lengths.now rebuilt.now) hours.old windows.now max_clients timeout_ms).tables.objects)
         × (hours.new ≡ (set_up_left agent.old (lent sessions.old streams.old objects.old held.now parts.now lengths.now rebuilt.now) hours.old windows.now max_clients timeout_ms).hours) }
 {
-    cabi::calls::xrce_agent_setup(agent, sessions, streams, objects, held, parts, lengths, rebuilt, hours, windows, max_clients, timeout_ms)
+    cabi::calls::xrce_agent_setup(
+        agent,
+        sessions,
+        streams,
+        objects,
+        held,
+        parts,
+        lengths,
+        rebuilt,
+        hours,
+        windows,
+        max_clients,
+        timeout_ms,
+    )
 }
 
 #[unsafe(no_mangle)]

@@ -1,6 +1,6 @@
 -- The `sub` lines of a datagram are those of the submessages that the codec reads: one for each, in their order, as many as `end` says.
-use Prim.Native.Nat.{ℕ, ◌≤◌, ◌<◌}
-use mathlib.Core.Path.{◌≡◌, refl, sym, ap, ◌∙◌}
+use Prim.Native.Nat.{ℕ, ◌<◌}
+use mathlib.Core.Path.{◌≡◌, refl, sym, ◌∙◌}
 use mathlib.Core.Bool.{Bool, true, false, cond}
 use mathlib.Core.List.{List, [], ◌∷◌}
 use native.Mathlib.Decide.{dec_le}
@@ -9,13 +9,13 @@ use native.Mathlib.Omega.{arith}
 use lib.Dec.{leb}
 use lib.ListN.{length}
 use Rattle.codec.specs.Header.{header_of}
-use Rattle.codec.specs.Reading.{Item, Items, items, stopped, onward, items_at, read_at, Message, message, refused, under, message_of}
+use Rattle.codec.specs.Reading.{Item, Items, items, stopped, onward, items_at, read_at, message, refused, under, message_of}
 use Rattle.codec.specs.declared.header.MessageHeader.{MessageHeader}
 use Rattle.codec.specs.declared.layouts.Parsed.{Parsed}
 use Rattle.codec.specs.declared.layouts.Parsed.TheVariants.{Sub, Refused}
 use Rattle.codec.specs.declared.refusals.Refusal.TheVariants.{BufferTooShort}
 use Rattle.codec.proofs.reading.Laws.{items_more, items_end, read_placed}
-use Rattle.listing.specs.Lines.{end_of, lines_of, shown, listed, InOrder}
+use Rattle.listing.specs.Lines.{end_of, lines_of, listed, InOrder}
 use Rattle.listing.proofs.message.Laws.{before_items, message_lines}
 
 -- the first of the submessages from `at` on

@@ -11,7 +11,7 @@ use lib.ListN.{length, take, drop, set, length-set, take-append-drop}
 use lib.Seq.{take-suc-set, drop-set-lt}
 use Rattle.codec.specs.Answers.{gives, refused_as, refusal}
 use Rattle.codec.specs.Header.{header_of}
-use Rattle.codec.specs.Reading.{Item, Items, items, stopped, before, items_at, read_at, Message, message, refused, under, message_of, checked_of, check_of}
+use Rattle.codec.specs.Reading.{Item, Items, items, stopped, before, items_at, read_at, message, refused, under, message_of, checked_of, check_of}
 use Rattle.codec.specs.declared.header.MessageHeader.{MessageHeader}
 use Rattle.codec.specs.declared.layouts.Span.{Span}
 use Rattle.codec.specs.declared.layouts.Cursor.{Cursor}

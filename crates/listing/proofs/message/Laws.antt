@@ -9,7 +9,7 @@ use lib.ListN.{length}
 use Rattle.codec.specs.Header.{header_of}
 use Rattle.codec.specs.Refusals.{number_of}
 use Rattle.codec.specs.Submessages.{id_of}
-use Rattle.codec.specs.Reading.{Item, Items, items, stopped, before, items_at, read_at, Message, message, refused, under, message_of, checked_of, check_of}
+use Rattle.codec.specs.Reading.{Item, Items, items, stopped, before, items_at, read_at, refused, under, message_of, checked_of, check_of}
 use Rattle.codec.specs.declared.header.MessageHeader.{MessageHeader}
 use Rattle.codec.specs.declared.layouts.Span.{Span}
 use Rattle.codec.specs.declared.layouts.Cursor.{Cursor}

@@ -1,0 +1,15 @@
+-- `cabi::record::task_in` meets its contract.
+use borrow.Author.Tests.{eq-eqb, ne_eqb}
+use Rattle.cabi.proofs.record.task_in.Goals as goal
+
+pub returns-then-n-eq1 : goal.returns-then-n-eq1
+returns-then-n-eq1 c = rw (eq-eqb _ _ c.if-n-eq1.true)
+
+pub returns-then-n-eq2 : goal.returns-then-n-eq2
+returns-then-n-eq2 c = rw (ne_eqb _ _ c.if-n-eq1.false, eq-eqb _ _ c.if-n-eq2.true)
+
+pub returns-then-n-eq3 : goal.returns-then-n-eq3
+returns-then-n-eq3 c = rw (ne_eqb _ _ c.if-n-eq1.false, ne_eqb _ _ c.if-n-eq2.false, eq-eqb _ _ c.if-n-eq3.true)
+
+pub returns : goal.returns
+returns c = rw (ne_eqb _ _ c.if-n-eq1.false, ne_eqb _ _ c.if-n-eq2.false, ne_eqb _ _ c.if-n-eq3.false)
