@@ -2,14 +2,15 @@
 #![tactic(auto)]
 
 use codec::bytes::Written;
-use libc::{STDIN_FILENO, STDOUT_FILENO};
+use std::io;
+use std::io::Read;
 
-fn main() {
-    let mut datagram = io::buffer();
-    let n = io::read_full(STDIN_FILENO, &mut datagram);
-    let mut out = io::large_buffer();
-    match listing::lines(&datagram[..n], &mut out) {
-        Written::Bytes(k) => io::write_all(STDOUT_FILENO, &out[..k]),
-        Written::Refused(_) => io::write_all(STDOUT_FILENO, b"refused 13\n"),
-    };
+fn main(rt: HostRuntime) -> io::Result<()> {
+    let mut datagram = Vec::new(rt.alloc());
+    rt.reader().take(4096).read_to_end(&mut datagram)?;
+    let mut out = [0u8; 65536];
+    match listing::lines(&datagram, &mut out) {
+        Written::Bytes(k) => rt.write_all(&out[..k]),
+        Written::Refused(_) => rt.write_all(b"refused 13\n"),
+    }
 }

@@ -5,7 +5,8 @@
 ghost use Rattle.std.specs.Prelude.{◌≡◌, ◌<◌, length};
 
 use codec::bytes::Written;
-use libc::{STDIN_FILENO, STDOUT_FILENO};
+use std::io;
+use std::io::{ErrorKind, Read};
 
 // The most datagrams of a file, and the most bytes of one.
 const MOST: usize = 1000;
@@ -28,45 +29,67 @@ fn wide(x: u8) -> usize
 }
 
 // Prints the lines of the first `n` bytes.
-fn show(datagram: &[u8], n: usize, out: &mut [u8]) {
+fn show(rt: &impl Print, datagram: &[u8], n: usize, out: &mut [u8]) -> io::Result<()> {
     if n <= datagram.len() {
         match listing::lines(&datagram[..n], out) {
-            Written::Bytes(k) => io::write_all(STDOUT_FILENO, &out[..k]),
-            Written::Refused(_) => io::write_all(STDOUT_FILENO, b"refused 13\n"),
+            Written::Bytes(k) => rt.write_all(&out[..k])?,
+            Written::Refused(_) => rt.write_all(b"refused 13\n")?,
         };
+    }
+    Ok(())
+}
+
+// Fills `place` with what is read; false where the input ends before.
+fn read_full(input: &mut impl Read, place: &mut [u8]) -> io::Result<bool> {
+    match input.read_exact(place) {
+        Ok(()) => Ok(true),
+        Err(e) => if e.kind() == ErrorKind::UnexpectedEof {
+            Ok(false)
+        } else {
+            Err(e)
+        },
     }
 }
 
 // Reads one datagram and prints its lines; false at the end of the input.
-fn one(datagram: &mut [u8], out: &mut [u8]) -> bool {
+fn one(
+    rt: &impl Print,
+    input: &mut impl Read,
+    datagram: &mut [u8],
+    out: &mut [u8],
+) -> io::Result<bool> {
     let mut lead = [0u8; 4];
-    if io::read_full(STDIN_FILENO, &mut lead) < 4 {
-        return false;
+    if !read_full(input, &mut lead)? {
+        return Ok(false);
     }
     let n = length_of(&lead);
     if datagram.len() < n {
-        return false;
+        return Ok(false);
     }
-    if io::read_full(STDIN_FILENO, &mut datagram[..n]) < n {
-        return false;
+    if !read_full(input, &mut datagram[..n])? {
+        return Ok(false);
     }
-    show(datagram, n, out);
-    true
+    show(rt, datagram, n, out)?;
+    Ok(true)
 }
 
 // Each datagram of the file.
-fn all(datagram: &mut [u8], out: &mut [u8]) {
-    let mut i = 0;
-    while i < MOST {
-        if !one(datagram, out) {
-            return;
+fn all(
+    rt: &impl Print,
+    input: &mut impl Read,
+    datagram: &mut [u8],
+    out: &mut [u8],
+) -> io::Result<()> {
+    for _ in 0..MOST {
+        if !one(rt, input, datagram, out)? {
+            return Ok(());
         }
-        i += 1;
     }
+    Ok(())
 }
 
-fn main() {
+fn main(rt: HostRuntime) -> io::Result<()> {
     let mut datagram = [0u8; ROOM];
     let mut out = [0u8; LINES];
-    all(&mut datagram, &mut out);
+    all(&rt, &mut rt.reader(), &mut datagram, &mut out)
 }

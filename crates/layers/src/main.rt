@@ -12,9 +12,10 @@ mod wire;
 mod words;
 
 use codec::reassembly::ReassemblyBuffer;
-use libc::STDIN_FILENO;
 use sessions::stream_rows::StreamRow;
 use sessions::table::SessionRow;
+use std::io;
+use std::io::{BufWriter, Read, Write};
 use streams::state::StreamState;
 use table::Limits;
 use words::{between, parse};
@@ -27,14 +28,12 @@ struct Reading {
 }
 
 // Reads on where every byte was looked at. At the end of the input it has none.
-fn fill(input: &mut [u8], r: Reading) -> Reading {
+fn fill(from: &mut impl Read, input: &mut [u8], r: Reading) -> io::Result<Reading> {
     if r.at < r.have {
-        return r;
+        return Ok(r);
     }
-    Reading {
-        at: 0,
-        have: io::read_full(STDIN_FILENO, input),
-    }
+    let have = from.read(input)?;
+    Ok(Reading { at: 0, have })
 }
 
 fn byte_at(input: &[u8], at: usize) -> u8 {
@@ -42,27 +41,34 @@ fn byte_at(input: &[u8], at: usize) -> u8 {
 }
 
 // Puts the next line with its newline at the start of `line`; what is past its room is the next line.
-fn read_line(input: &mut [u8], line: &mut [u8], start: Reading) -> Reading {
+fn read_line(
+    from: &mut impl Read,
+    input: &mut [u8],
+    line: &mut [u8],
+    start: Reading,
+) -> io::Result<Reading> {
     let mut r = start;
     let mut len = 0;
     while len < line.len() {
-        r = fill(input, r);
+        r = fill(from, input, r)?;
         let at = r.at;
         if r.have <= at {
-            return r;
+            return Ok(r);
         }
         r.at = at + 1;
         line[len] = byte_at(input, at);
         if line[len] == b'\n' {
-            return r;
+            return Ok(r);
         }
         len += 1;
     }
-    r
+    Ok(r)
 }
 
 // Reads and answers until the input ends. A proved loop has to end, so its turns are counted.
 fn run(
+    from: &mut impl Read,
+    to: &mut impl Write,
     input: &mut [u8],
     line: &mut [u8],
     messages: &mut [u8],
@@ -70,7 +76,7 @@ fn run(
     lengths: &mut [u32],
     sessions: &mut [SessionRow],
     streams: &mut [StreamRow],
-) {
+) -> io::Result<()> {
     let mut reading = Reading { at: 0, have: 0 };
     let mut store = ReassemblyBuffer {
         total_fragments: 0,
@@ -83,33 +89,35 @@ fn run(
         timeout_ms: 0,
         next: 1,
     };
-    let mut turns = u64::MAX;
-    while 0 < turns {
-        turns -= 1;
-        reading = read_line(input, line, reading);
+    for _ in 0..u64::MAX {
+        reading = read_line(from, input, line, reading)?;
         if reading.have == 0 {
-            return;
+            return Ok(());
         }
         let c = parse(line);
         let given = between(line, 0, c.count);
-        wire::answer(c, given);
-        store = store::answer(c, given, store, slots, lengths);
-        stream = stream::answer(c, given, stream, messages);
-        limits = table::answer(c, given, limits, sessions, streams);
+        wire::answer(to, c, given)?;
+        store = store::answer(to, c, given, store, slots, lengths)?;
+        stream = stream::answer(to, c, given, stream, messages)?;
+        limits = table::answer(to, c, given, limits, sessions, streams)?;
     }
+    Ok(())
 }
 
 // The lent stores: what is read of the input, one line (a datagram of 65,543 bytes takes twice as many digits), the stream's held
 // messages, the fragments with their lengths, and the tables as set-up leaves them.
-fn main() {
-    let mut input = io::buffer();
+fn main(rt: HostRuntime) -> io::Result<()> {
+    let mut input = [0u8; 4096];
     let mut line = [0u8; 140000];
     let mut messages = [0u8; 16384];
-    let mut slots = io::large_buffer();
+    let mut slots = [0u8; 65536];
     let mut lengths = [0u32; 65536];
     let mut sessions = [[0u64; 8]; 256];
     let mut streams = [[0u16; 35]; 2048];
+    let mut to = BufWriter::new(rt.alloc(), io::writer(&rt))?;
     run(
+        &mut rt.reader(),
+        &mut to,
         &mut input,
         &mut line,
         &mut messages,
@@ -117,5 +125,6 @@ fn main() {
         &mut lengths,
         &mut sessions,
         &mut streams,
-    );
+    )?;
+    to.flush()
 }

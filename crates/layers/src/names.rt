@@ -1,6 +1,7 @@
 // The names of the commands and of the lines that answer them: a name is its place in one list.
 use crate::words::{same, word};
-use libc::STDOUT_FILENO;
+use std::io;
+use std::io::Write;
 
 pub const MESSAGE: usize = 0;
 
@@ -141,7 +142,7 @@ pub fn name_of(line: &[u8]) -> usize {
 }
 
 // Prints a name.
-pub fn say(name: usize) {
+pub fn say(to: &mut impl Write, name: usize) -> io::Result<()> {
     let names = list();
-    io::write_all(STDOUT_FILENO, word(&names, name));
+    to.write_all(word(&names, name))
 }

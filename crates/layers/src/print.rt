@@ -2,16 +2,16 @@
 use crate::names;
 use crate::names::say;
 use codec::refusals::Refusal;
-use libc::STDOUT_FILENO;
+use std::io;
+use std::io::Write;
 
-pub fn end_line() {
-    io::write_all(STDOUT_FILENO, b"\n");
+pub fn end_line(to: &mut impl Write) -> io::Result<()> {
+    to.write_all(b"\n")
 }
 
 // A space and the number.
-pub fn number(n: u64) {
-    io::write_all(STDOUT_FILENO, b" ");
-    io::print_decimal(STDOUT_FILENO, n);
+pub fn number(to: &mut impl Write, n: u64) -> io::Result<()> {
+    write!(to, " {n}")
 }
 
 pub fn wide(b: u8) -> u64 {
@@ -19,82 +19,80 @@ pub fn wide(b: u8) -> u64 {
 }
 
 // A space and the bytes, `-` where there are none.
-pub fn bytes(bytes: &[u8]) {
+pub fn bytes(to: &mut impl Write, bytes: &[u8]) -> io::Result<()> {
     if bytes.len() == 0 {
-        io::write_all(STDOUT_FILENO, b" -");
-        return;
+        return to.write_all(b" -");
     }
-    io::write_all(STDOUT_FILENO, b" ");
-    let mut i = 0;
-    while i < bytes.len() {
-        io::print_hex(STDOUT_FILENO, wide(bytes[i]), 2);
-        i += 1;
+    to.write_all(b" ")?;
+    for b in bytes {
+        write!(to, "{b:02x}")?;
     }
+    Ok(())
 }
 
 // A client's key: its four bytes in the order of the wire.
-pub fn key(key: u64) {
+pub fn key(to: &mut impl Write, key: u64) -> io::Result<()> {
     let wire = [
         (key % 256) as u8,
         (key / 256 % 256) as u8,
         (key / 65536 % 256) as u8,
         (key / 16777216 % 256) as u8,
     ];
-    bytes(&wire);
+    bytes(to, &wire)
 }
 
-pub fn line(name: usize) {
-    say(name);
-    end_line();
+pub fn line(to: &mut impl Write, name: usize) -> io::Result<()> {
+    say(to, name)?;
+    end_line(to)
 }
 
-pub fn line_1(name: usize, a: u64) {
-    say(name);
-    number(a);
-    end_line();
+pub fn line_1(to: &mut impl Write, name: usize, a: u64) -> io::Result<()> {
+    say(to, name)?;
+    number(to, a)?;
+    end_line(to)
 }
 
-pub fn line_2(name: usize, a: u64, b: u64) {
-    say(name);
-    number(a);
-    number(b);
-    end_line();
+pub fn line_2(to: &mut impl Write, name: usize, a: u64, b: u64) -> io::Result<()> {
+    say(to, name)?;
+    number(to, a)?;
+    number(to, b)?;
+    end_line(to)
 }
 
-pub fn line_3(name: usize, a: u64, b: u64, c: u64) {
-    say(name);
-    number(a);
-    number(b);
-    number(c);
-    end_line();
+pub fn line_3(to: &mut impl Write, name: usize, a: u64, b: u64, c: u64) -> io::Result<()> {
+    say(to, name)?;
+    number(to, a)?;
+    number(to, b)?;
+    number(to, c)?;
+    end_line(to)
 }
 
-pub fn line_bytes(name: usize, last: &[u8]) {
-    say(name);
-    bytes(last);
-    end_line();
+pub fn line_bytes(to: &mut impl Write, name: usize, last: &[u8]) -> io::Result<()> {
+    say(to, name)?;
+    bytes(to, last)?;
+    end_line(to)
 }
 
-pub fn line_1_bytes(name: usize, a: u64, last: &[u8]) {
-    say(name);
-    number(a);
-    bytes(last);
-    end_line();
+pub fn line_1_bytes(to: &mut impl Write, name: usize, a: u64, last: &[u8]) -> io::Result<()> {
+    say(to, name)?;
+    number(to, a)?;
+    bytes(to, last)?;
+    end_line(to)
 }
 
-pub fn yes(holds: bool) {
+pub fn yes(to: &mut impl Write, holds: bool) -> io::Result<()> {
     if holds {
-        line(names::YES);
+        line(to, names::YES)
     } else {
-        line(names::NO);
+        line(to, names::NO)
     }
 }
 
 // A refusal's number, and its byte with 2, 3 and 4.
-pub fn refused(r: Refusal) {
+pub fn refused(to: &mut impl Write, r: Refusal) -> io::Result<()> {
     let n = r.number();
     match n {
-        2..=4 => line_2(names::REFUSED, n as u64, r.byte() as u64),
-        _ => line_1(names::REFUSED, n as u64),
+        2..=4 => line_2(to, names::REFUSED, n as u64, r.byte() as u64),
+        _ => line_1(to, names::REFUSED, n as u64),
     }
 }

@@ -3,35 +3,41 @@ use crate::names;
 use crate::names::say;
 use crate::print::{end_line, line, line_1, line_1_bytes, line_2, line_3, number, refused, yes};
 use crate::words::{Command, low_8, low_16};
+use std::io;
+use std::io::Write;
 use streams::sent::Slot;
 use streams::state::StreamState;
 
 // A stream with nothing held and these two counters.
-fn fresh(c: Command) -> StreamState {
-    line(names::OK);
+fn fresh(to: &mut impl Write, c: Command) -> io::Result<StreamState> {
+    line(to, names::OK)?;
     let mut s = StreamState::new(low_8(c.first));
     s.next_send_seq = low_16(c.second);
     s.next_recv_seq = low_16(c.third);
-    s
+    Ok(s)
 }
 
-fn alloc(s: StreamState) -> StreamState {
+fn alloc(to: &mut impl Write, s: StreamState) -> io::Result<StreamState> {
     let r = s.alloc_send_seq();
-    line_1(names::SEQUENCE, r.seq as u64);
-    let stream = r.state;
-    stream
+    line_1(to, names::SEQUENCE, r.seq as u64)?;
+    Ok(r.state)
 }
 
-fn record(c: Command, s: StreamState, message: &[u8], buffer: &mut [u8]) -> StreamState {
+fn record(
+    to: &mut impl Write,
+    c: Command,
+    s: StreamState,
+    message: &[u8],
+    buffer: &mut [u8],
+) -> io::Result<StreamState> {
     let r = s.record_sent(low_16(c.first), message, buffer);
     let slot = r.slot;
     match slot {
-        Slot::At(_) => line(names::OK),
-        Slot::Nowhere => line(names::OK),
-        Slot::Refused(x) => refused(x),
+        Slot::At(_) => line(to, names::OK)?,
+        Slot::Nowhere => line(to, names::OK)?,
+        Slot::Refused(x) => refused(to, x)?,
     }
-    let stream = r.state;
-    stream
+    Ok(r.state)
 }
 
 fn wide(n: u16) -> u64 {
@@ -39,79 +45,74 @@ fn wide(n: u16) -> u64 {
 }
 
 // The first `count` numbers, to the end of their line.
-fn repeats(numbers: &[u16; 16], count: usize) {
-    let mut i = 0;
-    while i < 16 {
+fn repeats(to: &mut impl Write, numbers: &[u16; 16], count: usize) -> io::Result<()> {
+    for i in 0..16 {
         if count <= i {
-            end_line();
-            return;
+            return end_line(to);
         }
-        number(wide(numbers[i]));
-        i += 1;
+        number(to, wide(numbers[i]))?;
     }
-    end_line();
+    end_line(to)
 }
 
 // How many messages the bitmap asks for, how many are repeated (document 02, W5), and their numbers.
-fn acknowledge(c: Command, s: StreamState) -> StreamState {
+fn acknowledge(to: &mut impl Write, c: Command, s: StreamState) -> io::Result<StreamState> {
     let r = s.process_acknack(low_16(c.first), low_16(c.second));
-    say(names::REPEAT);
-    number(r.asked as u64);
-    number(r.count as u64);
+    say(to, names::REPEAT)?;
+    number(to, r.asked as u64)?;
+    number(to, r.count as u64)?;
     let numbers = r.repeats;
-    repeats(&numbers, r.count);
-    let stream = r.state;
-    stream
+    repeats(to, &numbers, r.count)?;
+    Ok(r.state)
 }
 
-fn receive(c: Command, s: StreamState) -> StreamState {
+fn receive(to: &mut impl Write, c: Command, s: StreamState) -> io::Result<StreamState> {
     let r = s.check_recv_seq(low_16(c.first));
-    yes(r.accepted);
-    let stream = r.state;
-    stream
+    yes(to, r.accepted)?;
+    Ok(r.state)
 }
 
 // A stream's number, the next to send and the one expected.
-pub fn counters(s: StreamState) {
+pub fn counters(to: &mut impl Write, s: StreamState) -> io::Result<()> {
     line_3(
+        to,
         names::STREAM,
         s.stream_id as u64,
         s.next_send_seq as u64,
         s.next_recv_seq as u64,
-    );
+    )
 }
 
 // The message at a place, and how many there are: 1 or 0.
-fn held_at(s: StreamState, place: usize, buffer: &[u8]) -> u64 {
+fn held_at(to: &mut impl Write, s: StreamState, place: usize, buffer: &[u8]) -> io::Result<u64> {
     if 16 <= place {
-        return 0;
+        return Ok(0);
     }
     if s.lengths[place] == 0 {
-        return 0;
+        return Ok(0);
     }
     let seq = s.numbers[place];
-    line_1_bytes(names::HELD, seq as u64, s.held_message(seq, buffer));
-    1
+    line_1_bytes(to, names::HELD, seq as u64, s.held_message(seq, buffer))?;
+    Ok(1)
 }
 
-fn held(s: StreamState, buffer: &[u8]) {
-    counters(s);
+fn held(to: &mut impl Write, s: StreamState, buffer: &[u8]) -> io::Result<()> {
+    counters(to, s)?;
     let mut count: u64 = 0;
-    let mut i = 0;
-    while i < 16 {
-        count = std::num::wrapping_add_u64(count, held_at(s, i, buffer));
-        i += 1;
+    for i in 0..16 {
+        count = count.wrapping_add(held_at(to, s, i, buffer)?);
     }
-    line_1(names::END, count);
+    line_1(to, names::END, count)
 }
 
 // Commands that leave the stream as it is.
-fn asked(c: Command, s: StreamState, buffer: &[u8]) {
+fn asked(to: &mut impl Write, c: Command, s: StreamState, buffer: &[u8]) -> io::Result<()> {
     let name = c.name;
     match name {
         names::HEARTBEAT => {
             let h = s.make_heartbeat();
             line_2(
+                to,
                 names::HEARTBEAT,
                 h.first_unacked_seq as u64,
                 h.last_seq as u64,
@@ -120,27 +121,34 @@ fn asked(c: Command, s: StreamState, buffer: &[u8]) {
         names::MAKE_ACKNACK => {
             let a = s.make_acknack(low_16(c.first), low_16(c.second));
             line_2(
+                to,
                 names::ACKNACK,
                 a.first_unacked_seq as u64,
                 a.nack_bitmap as u64,
             )
         }
-        names::HELD => held(s, buffer),
-        _ => (),
+        names::HELD => held(to, s, buffer),
+        _ => Ok(()),
     }
 }
 
-pub fn answer(c: Command, message: &[u8], s: StreamState, buffer: &mut [u8]) -> StreamState {
+pub fn answer(
+    to: &mut impl Write,
+    c: Command,
+    message: &[u8],
+    s: StreamState,
+    buffer: &mut [u8],
+) -> io::Result<StreamState> {
     let name = c.name;
     match name {
-        names::STREAM => fresh(c),
-        names::ALLOC => alloc(s),
-        names::RECORD => record(c, s, message, buffer),
-        names::ACKNACK => acknowledge(c, s),
-        names::RECEIVE => receive(c, s),
+        names::STREAM => fresh(to, c),
+        names::ALLOC => alloc(to, s),
+        names::RECORD => record(to, c, s, message, buffer),
+        names::ACKNACK => acknowledge(to, c, s),
+        names::RECEIVE => receive(to, c, s),
         _ => {
-            asked(c, s, buffer);
-            s
+            asked(to, c, s, buffer)?;
+            Ok(s)
         }
     }
 }

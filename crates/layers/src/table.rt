@@ -12,6 +12,8 @@ use sessions::session_streams::{StreamNamed, StreamOpened, StreamRead, open_stre
 use sessions::stream_rows::StreamRow;
 use sessions::sweep::evict_expired;
 use sessions::table::{ClientSession, Got, Named, SessionRow, get, remove, touch};
+use std::io;
+use std::io::Write;
 
 // What a table is set up with, and the id from which the next free one is looked for.
 #[derive(Clone, Copy)]
@@ -30,14 +32,14 @@ fn clear(sessions: &mut [SessionRow]) {
     }
 }
 
-fn new_table(c: Command, sessions: &mut [SessionRow]) -> Limits {
+fn new_table(to: &mut impl Write, c: Command, sessions: &mut [SessionRow]) -> io::Result<Limits> {
     clear(sessions);
-    line(names::OK);
-    Limits {
+    line(to, names::OK)?;
+    Ok(Limits {
         max_clients: c.first as usize,
         timeout_ms: c.second,
         next: 1,
-    }
+    })
 }
 
 fn wide_32(b: u8) -> u32
@@ -56,12 +58,13 @@ fn key_of(bytes: &[u8]) -> u32 {
 }
 
 fn create(
+    to: &mut impl Write,
     c: Command,
     given: &[u8],
     limits: Limits,
     sessions: &mut [SessionRow],
     streams: &mut [StreamRow],
-) -> Limits {
+) -> io::Result<Limits> {
     let client_key = key_of(given);
     match create_session(
         sessions,
@@ -72,162 +75,179 @@ fn create(
         c.second,
     ) {
         Created::Opened { id, next } => {
-            line_1(names::SESSION, id as u64);
-            Limits {
+            line_1(to, names::SESSION, id as u64)?;
+            Ok(Limits {
                 max_clients: limits.max_clients,
                 timeout_ms: limits.timeout_ms,
                 next,
-            }
+            })
         }
         Created::Refused(r) => {
-            refused(r);
-            limits
+            refused(to, r)?;
+            Ok(limits)
         }
     }
 }
 
 // The name where the session is live.
-fn named(n: Named, name: usize) {
+fn named(to: &mut impl Write, n: Named, name: usize) -> io::Result<()> {
     match n {
-        Named::Live => line(name),
-        Named::NotLive => line(names::ABSENT),
-        Named::Refused(r) => refused(r),
+        Named::Live => line(to, name),
+        Named::NotLive => line(to, names::ABSENT),
+        Named::Refused(r) => refused(to, r),
     }
 }
 
-fn touch_session(c: Command, sessions: &mut [SessionRow]) {
-    named(touch(sessions, low_8(c.first), c.second), names::OK);
+fn touch_session(to: &mut impl Write, c: Command, sessions: &mut [SessionRow]) -> io::Result<()> {
+    named(to, touch(sessions, low_8(c.first), c.second), names::OK)
 }
 
-fn remove_session(c: Command, sessions: &mut [SessionRow]) {
-    named(remove(sessions, low_8(c.first)), names::REMOVED);
+fn remove_session(to: &mut impl Write, c: Command, sessions: &mut [SessionRow]) -> io::Result<()> {
+    named(to, remove(sessions, low_8(c.first)), names::REMOVED)
 }
 
-fn expired(c: Command, sessions: &[SessionRow]) {
+fn expired(to: &mut impl Write, c: Command, sessions: &[SessionRow]) -> io::Result<()> {
     match get(sessions, low_8(c.first)) {
-        Got::Session(s) => yes(s.is_expired(c.third, c.second)),
-        Got::NotLive => line(names::ABSENT),
-        Got::Refused(r) => refused(r),
+        Got::Session(s) => yes(to, s.is_expired(c.third, c.second)),
+        Got::NotLive => line(to, names::ABSENT),
+        Got::Refused(r) => refused(to, r),
     }
 }
 
-fn swept(ids: &[u8]) {
-    say(names::SWEPT);
-    let mut i = 0;
-    while i < ids.len() {
-        number(wide(ids[i]));
-        i += 1;
+fn swept(to: &mut impl Write, ids: &[u8]) -> io::Result<()> {
+    say(to, names::SWEPT)?;
+    for id in ids {
+        number(to, wide(*id))?;
     }
-    end_line();
+    end_line(to)
 }
 
-fn sweep(c: Command, timeout_ms: u64, sessions: &mut [SessionRow]) {
+fn sweep(
+    to: &mut impl Write,
+    c: Command,
+    timeout_ms: u64,
+    sessions: &mut [SessionRow],
+) -> io::Result<()> {
     let mut ids = [0u8; 255];
     match evict_expired(sessions, c.first, timeout_ms, &mut ids) {
-        Written::Bytes(n) => swept(between(&ids, 0, n)),
-        Written::Refused(r) => refused(r),
+        Written::Bytes(n) => swept(to, between(&ids, 0, n)),
+        Written::Refused(r) => refused(to, r),
     }
 }
 
-fn live(sessions: &[SessionRow]) {
+fn live(to: &mut impl Write, sessions: &[SessionRow]) -> io::Result<()> {
     match len(sessions) {
-        Counted::Sessions(n) => line_1(names::LIVE, n as u64),
-        Counted::Refused(r) => refused(r),
+        Counted::Sessions(n) => line_1(to, names::LIVE, n as u64),
+        Counted::Refused(r) => refused(to, r),
     }
 }
 
-fn open_one(c: Command, sessions: &mut [SessionRow], streams: &mut [StreamRow]) {
+fn open_one(
+    to: &mut impl Write,
+    c: Command,
+    sessions: &mut [SessionRow],
+    streams: &mut [StreamRow],
+) -> io::Result<()> {
     match open_stream(sessions, streams, low_8(c.first), low_8(c.second)) {
-        StreamOpened::Open => line(names::OK),
-        StreamOpened::Full => line(names::FULL),
-        StreamOpened::NotLive => line(names::ABSENT),
-        StreamOpened::Refused(r) => refused(r),
+        StreamOpened::Open => line(to, names::OK),
+        StreamOpened::Full => line(to, names::FULL),
+        StreamOpened::NotLive => line(to, names::ABSENT),
+        StreamOpened::Refused(r) => refused(to, r),
     }
 }
 
-fn stream_line(r: StreamRead) {
+fn stream_line(to: &mut impl Write, r: StreamRead) -> io::Result<()> {
     let answer = r.answer;
     match answer {
         StreamNamed::Open => {
             let s = r.state;
-            counters(s)
+            counters(to, s)
         }
-        _ => (),
+        _ => Ok(()),
     }
 }
 
 // A line for each of a session's streams: it has those whose numbers are open.
-fn stream_lines(id: u8, sessions: &[SessionRow], streams: &[StreamRow]) {
-    let mut n: u16 = 0;
-    while n < 256 {
-        stream_line(read_stream(sessions, streams, id, n as u8));
-        n += 1;
+fn stream_lines(
+    to: &mut impl Write,
+    id: u8,
+    sessions: &[SessionRow],
+    streams: &[StreamRow],
+) -> io::Result<()> {
+    for n in 0..=255 {
+        stream_line(to, read_stream(sessions, streams, id, n))?;
     }
+    Ok(())
 }
 
-fn session_line(id: u8, s: ClientSession) {
-    say(names::SESSION);
-    number(id as u64);
-    key(s.client_key);
-    number(s.last_activity);
-    end_line();
+fn session_line(to: &mut impl Write, id: u8, s: ClientSession) -> io::Result<()> {
+    say(to, names::SESSION)?;
+    number(to, id as u64)?;
+    key(to, s.client_key)?;
+    number(to, s.last_activity)?;
+    end_line(to)
 }
 
-fn session_lines(id: u8, sessions: &[SessionRow], streams: &[StreamRow]) {
+fn session_lines(
+    to: &mut impl Write,
+    id: u8,
+    sessions: &[SessionRow],
+    streams: &[StreamRow],
+) -> io::Result<()> {
     match get(sessions, id) {
         Got::Session(s) => {
-            session_line(id, s);
-            stream_lines(id, sessions, streams)
+            session_line(to, id, s)?;
+            stream_lines(to, id, sessions, streams)
         }
-        Got::NotLive => (),
-        Got::Refused(r) => refused(r),
+        Got::NotLive => Ok(()),
+        Got::Refused(r) => refused(to, r),
     }
 }
 
 // Each live session with what it holds, ids ascending.
-fn dump(sessions: &[SessionRow], streams: &[StreamRow]) {
-    let mut id: u8 = 0;
-    while id < 255 {
-        id += 1;
-        session_lines(id, sessions, streams);
+fn dump(to: &mut impl Write, sessions: &[SessionRow], streams: &[StreamRow]) -> io::Result<()> {
+    for id in 1..=255 {
+        session_lines(to, id, sessions, streams)?;
     }
-    line(names::DUMPED);
+    line(to, names::DUMPED)
 }
 
 // Commands for the sessions that there are.
 fn on_sessions(
+    to: &mut impl Write,
     c: Command,
     timeout_ms: u64,
     sessions: &mut [SessionRow],
     streams: &mut [StreamRow],
-) {
+) -> io::Result<()> {
     let name = c.name;
     match name {
-        names::TOUCH => touch_session(c, sessions),
-        names::EXPIRED => expired(c, sessions),
-        names::SWEEP => sweep(c, timeout_ms, sessions),
-        names::REMOVE => remove_session(c, sessions),
-        names::LIVE => live(sessions),
-        names::OPEN => open_one(c, sessions, streams),
-        names::DUMP => dump(sessions, streams),
-        _ => (),
+        names::TOUCH => touch_session(to, c, sessions),
+        names::EXPIRED => expired(to, c, sessions),
+        names::SWEEP => sweep(to, c, timeout_ms, sessions),
+        names::REMOVE => remove_session(to, c, sessions),
+        names::LIVE => live(to, sessions),
+        names::OPEN => open_one(to, c, sessions, streams),
+        names::DUMP => dump(to, sessions, streams),
+        _ => Ok(()),
     }
 }
 
 pub fn answer(
+    to: &mut impl Write,
     c: Command,
     given: &[u8],
     limits: Limits,
     sessions: &mut [SessionRow],
     streams: &mut [StreamRow],
-) -> Limits {
+) -> io::Result<Limits> {
     let name = c.name;
     match name {
-        names::TABLE => new_table(c, sessions),
-        names::CREATE => create(c, given, limits, sessions, streams),
+        names::TABLE => new_table(to, c, sessions),
+        names::CREATE => create(to, c, given, limits, sessions, streams),
         _ => {
-            on_sessions(c, limits.timeout_ms, sessions, streams);
-            limits
+            on_sessions(to, c, limits.timeout_ms, sessions, streams)?;
+            Ok(limits)
         }
     }
 }
