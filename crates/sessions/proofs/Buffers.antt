@@ -1,5 +1,5 @@
 -- The buffers of held messages in the store: each lies in its session's slot at its stream's place, and another put there changes nothing else.
-use Prim.Native.Nat.{ℕ, zero, suc, ◌+◌, ◌-◌, ◌*◌, ◌<◌, ◌≤◌}
+use Prim.Native.Nat.{ℕ, zero, suc, ◌+◌, ◌-◌, ◌*◌, ◌≤◌}
 use mathlib.Core.Path.{◌≡◌, refl, sym, ap, ◌∙◌}
 use mathlib.Core.Logic.{◌≢◌}
 use mathlib.Core.Bool.{Bool, true, false, cond}
@@ -14,7 +14,7 @@ use Rattle.codec.proofs.bytes.Laws.{length_put, put_fits}
 use Rattle.streams.proofs.Slots.{read_same, read_before, read_behind}
 use Rattle.sessions.specs.Need.{stream_bytes, slot_bytes}
 use Rattle.sessions.specs.Held.{slot_part, buffer_at}
-use Rattle.sessions.specs.Sending.{has_buffer, stretch_of, room_of, buffer_in, with_buffer}
+use Rattle.sessions.specs.Sending.{stretch_of, room_of, buffer_in, with_buffer}
 use Rattle.sessions.specs.declared.sending.Stretch.{Stretch}
 use Rattle.sessions.proofs.sending.Laws.{has_buffer_lem, buffer_length}
 

@@ -1,6 +1,6 @@
 -- The search for an object's number in any row, duplicates included: step by step, and that it ends at the last record in use.
 use Prim.Native.Nat.{ℕ, zero, suc, ◌+◌, ◌-◌, ◌<◌, ◌≤◌}
-use mathlib.Core.Path.{◌≡◌, refl, sym, ap, ◌∙◌}
+use mathlib.Core.Path.{◌≡◌, refl, sym, ap, ◌∙◌, subst}
 use mathlib.Core.Logic.{◌≢◌}
 use mathlib.Core.Bool.{Bool, true, false, cond}
 use mathlib.Core.List.{List}
@@ -85,3 +85,6 @@ module _ (row : List Object) (n : ObjectNumber) where
       by : (p : Place) → LastOf row used n p → Under used p
       by (At i) l = l.0
       by Nowhere l = tt
+
+  pub in_use : (used i : ℕ) → At i ≡ object_place row used n → i < used
+  in_use used i e = subst (Under used) (sym e) (place_under used)

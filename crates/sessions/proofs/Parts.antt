@@ -1,9 +1,9 @@
 -- One element of a list is stored, and what a part of the list shows of it.
 use Prim.Native.Nat.{ℕ, zero, suc, ◌+◌, ◌-◌, ◌<◌, ◌≤◌}
-use mathlib.Core.Path.{◌≡◌, refl, sym, ap, ◌∙◌}
+use mathlib.Core.Path.{◌≡◌, refl, ap, ◌∙◌}
 use mathlib.Core.List.{List, [], ◌∷◌, map}
 use native.Mathlib.Omega.{arith}
-use lib.ListN.{take, drop, set, get_or, length}
+use lib.ListN.{take, drop, set}
 use lib.Seq.{drop-set-add, drop-set-lt, take-set-lt, take-set-le}
 
 module _ {A : Type 0} (l : List A) (a w k : ℕ) (x : A) where

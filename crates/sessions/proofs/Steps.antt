@@ -17,7 +17,7 @@ use Rattle.codec.specs.declared.refusals.Refusal.TheVariants.{SessionFull, OverL
 use Rattle.codec.specs.declared.submessages.ObjectNumber.{ObjectNumber}
 use Rattle.streams.specs.State.{new_stream}
 use Rattle.streams.specs.declared.state.StreamState.{StreamState}
-use Rattle.sessions.specs.Table.{row_of, session_of, session_at, keep_session, table_fits, is_free, named_of, kept_rows, touched_session, touched_rows, ended_session, ended_rows, new_session}
+use Rattle.sessions.specs.Table.{row_of, session_of, session_at, keep_session, table_fits, is_free, named_of, kept_rows, touched_session, touched_rows, ended_session, ended_rows}
 use Rattle.sessions.specs.Need.{held_need, parts_need, lengths_need, rebuilt_need, stores_fit}
 use Rattle.sessions.specs.Opening.{after, live_of, free_of, open_fits, chosen_of, created_of, free_slot}
 use Rattle.sessions.specs.Held.{held_part}

@@ -26,7 +26,7 @@ use Rattle.sessions.specs.Fragments.{slot_stretch, parts_stretch, lengths_stretc
 use Rattle.sessions.specs.Sending.{room_of, buffer_in, with_buffer}
 use Rattle.sessions.specs.Table.{session_at, keep_session, named_of}
 use Rattle.sessions.specs.declared.fragments.Gathered.{Gathered}
-use Rattle.sessions.specs.declared.fragments.Gathered.TheVariants.{Nothing, Held}
+use Rattle.sessions.specs.declared.fragments.Gathered.TheVariants.{Nothing}
 use Rattle.sessions.specs.declared.sending.Stretch.{Stretch}
 use Rattle.sessions.specs.declared.table.ClientSession.{ClientSession}
 use Rattle.sessions.specs.declared.table.Named.{Named}

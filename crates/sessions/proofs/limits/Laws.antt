@@ -4,9 +4,9 @@ use mathlib.Core.Path.{◌≡◌, refl, sym, ap, ◌∙◌}
 use mathlib.Core.Bool.{Bool, true, false, cond, not}
 use mathlib.Core.List.{List, [], ◌∷◌}
 use native.Mathlib.Omega.{arith}
-use borrow.Author.Tests.{leb-true, lt-leb, le-leb, le-ltb, eq-eqb, ne_eqb, eqb-true, eqb-false}
-use lib.Dec.{eqb, leb, ltb}
-use lib.ListN.{length, take, drop}
+use borrow.Author.Tests.{leb-true, lt-leb, le-leb, le-ltb, eq-eqb, ne_eqb, eqb-true}
+use lib.Dec.{eqb, leb}
+use lib.ListN.{length, get_or, take, drop}
 use lib.Seq.{length-take-le}
 use Rattle.codec.specs.Reassembly.{under_need}
 use Rattle.codec.specs.Inserts as codec
@@ -23,7 +23,7 @@ use Rattle.sessions.specs.declared.sending.Stretch.{Stretch}
 use Rattle.sessions.specs.SessionStreams.{stream_place, state_at}
 use Rattle.sessions.specs.declared.session_streams.StreamPlace.{StreamPlace}
 use Rattle.sessions.specs.Table.{session_at}
-use Rattle.sessions.specs.Limits.{slot_kept, lengths_short, lengths_kept, counts_kept, fragments_kept, store_kept, rows_kept, limits_from, limits_of}
+use Rattle.sessions.specs.Limits.{over_long, slot_kept, lengths_short, lengths_kept, counts_kept, fragments_kept, store_kept, rows_kept, limits_from, limits_of}
 use Rattle.sessions.specs.declared.objects.Object.{Object}
 use Rattle.sessions.specs.declared.table.ClientSession.{ClientSession}
 use Rattle.sessions.specs.declared.limits.Limits.{Limits}
@@ -36,6 +36,9 @@ within_by true x e = (refl, e)
 within_by false x e = let z : ◌≡◌ {A = ℕ} 0 1 = cc in absurd (omega arith)
 
 -- ---- the sixteen lengths of a stream, by a test that says which are past the limit
+
+abbrev pub long_at : List ℕ → ℕ → Bool
+long_at lengths i = over_long (get_or lengths i 0)
 
 module _ (long : ℕ → Bool) where
   -- whether those from i on are within it, and none before them is over

@@ -1,5 +1,5 @@
 -- One step of counting the live sessions and of looking for a free id; five ids that are free together.
-use Prim.Native.Nat.{ℕ, zero, suc, ◌+◌, ◌-◌, ◌<◌, ◌≤◌}
+use Prim.Native.Nat.{ℕ, suc, ◌+◌, ◌-◌, ◌<◌, ◌≤◌}
 use mathlib.Core.Path.{◌≡◌, refl, sym, ap, ◌∙◌}
 use mathlib.Core.Bool.{Bool, true, false, cond}
 use mathlib.Core.List.{List}
@@ -7,9 +7,9 @@ use native.Mathlib.Omega.{arith}
 use borrow.Author.Tests.{leb-true, eq-eqb, ne_eqb}
 use lib.Bits.{bit_or, or_add_and, and_le_l, and_le_r}
 use lib.Dec.{leb, ltb}
-use lib.ListN.{get_or, length}
+use lib.ListN.{length}
 use Rattle.sessions.specs.Table.{session_at, is_free}
-use Rattle.sessions.specs.Opening.{after, live_from, live_of, free_from, free_of, open_fits}
+use Rattle.sessions.specs.Opening.{after, live_from, live_of, free_from, open_fits}
 use Rattle.sessions.specs.Streams.{streams_fit}
 use Rattle.sessions.specs.declared.table.ClientSession.{ClientSession}
 

@@ -1,10 +1,10 @@
 -- Laws of a session's row in the store of objects.
-use Prim.Native.Nat.{ℕ, zero, suc, ◌+◌, ◌-◌, ◌*◌, ◌<◌, ◌≤◌}
+use Prim.Native.Nat.{ℕ, ◌+◌, ◌-◌, ◌<◌, ◌≤◌}
 use mathlib.Core.Path.{◌≡◌, refl, sym, ap, ◌∙◌}
-use mathlib.Core.List.{List, ◌++◌}
+use mathlib.Core.List.{List}
 use native.Mathlib.Omega.{arith}
 use borrow.Rule.Slice.PartMut.{mid_of, put_mid}
-use lib.ListN.{length, take, drop}
+use lib.ListN.{length}
 use lib.Seq.{drop-drop}
 use Rattle.sessions.specs.Table.{reached_of}
 use Rattle.sessions.proofs.table.Laws.{live_fits}
@@ -18,7 +18,7 @@ use Rattle.sessions.specs.View.{listed}
 use Rattle.codec.specs.Bytes.{put_bytes}
 use Rattle.sessions.specs.declared.objects.Object.{Object}
 use Rattle.sessions.specs.declared.table.Named.{Named}
-use Rattle.sessions.specs.declared.table.Named.TheVariants.{Live, NotLive, Refused}
+use Rattle.sessions.specs.declared.table.Named.TheVariants.{Live}
 
 -- ---- the part that is lent is the session's row
 

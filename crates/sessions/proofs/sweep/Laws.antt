@@ -8,7 +8,7 @@ use native.Mathlib.Omega.{arith}
 use native.Mathlib.Decide.{dec_le}
 use borrow.Author.Tests.{lt-leb, le-leb, lt-ltb, le-ltb, eq-eqb, ne_eqb}
 use lib.Dec.{eqb}
-use lib.ListN.{get_or, set, length}
+use lib.ListN.{set, length}
 use lib.Seq.{sets, get_or-set_other}
 use Rattle.codec.specs.Bytes.{put_at}
 use Rattle.codec.proofs.bytes.Laws.{put_sets, put_short, put_fits}

@@ -1,12 +1,12 @@
 -- Laws of what an id names.
-use Prim.Native.Nat.{ℕ, zero, suc, ◌+◌, ◌-◌, ◌<◌, ◌≤◌}
+use Prim.Native.Nat.{ℕ, ◌<◌, ◌≤◌}
 use mathlib.Core.Path.{◌≡◌, refl, sym, ap, ◌∙◌}
 use mathlib.Core.List.{List}
 use native.Mathlib.Omega.{arith}
 use mathlib.Core.Bool.{Bool, true, false, cond}
 use lib.Dec.{leb}
 use borrow.Author.Tests.{lt-leb, le-leb, leb-true, eq-eqb, ne_eqb}
-use lib.ListN.{get_or, length}
+use lib.ListN.{length}
 use Rattle.codec.specs.declared.refusals.Refusal.TheVariants.{OverLimit}
 use Rattle.sessions.specs.Table.{session_at, is_free, named_of, got_by, got_of, records_fit, reached_of}
 use Rattle.sessions.specs.declared.table.ClientSession.{ClientSession}
