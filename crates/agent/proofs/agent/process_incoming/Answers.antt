@@ -1,0 +1,13 @@
+-- `agent::agent::process_incoming` meets its contract.
+use Rattle.std.proofs.Common.{[], replicate}
+use Rattle.agent.specs.Lent.{lent}
+use Rattle.agent.proofs.agent.Laws.{any_sample}
+use Rattle.agent.proofs.Thirteen.{same_leaves}
+use Rattle.agent.proofs.agent.process_incoming.Goals as goal
+
+pub returns : goal.returns
+returns c =
+    let a = c.args in
+    let t = lent a.sessions.now a.streams.now a.objects.now a.held.now a.parts.now a.lengths.now a.rebuilt.now in
+    let p = c.process.ensures in
+    rw (p.0, p.1, p.2, p.3, p.4, p.5, p.6, p.7, p.8) (same_leaves _ _ (any_sample a.agent t a.out.now a.datagram.now (replicate 2 0) [] a.hours.now a.given))

@@ -1,0 +1,6 @@
+-- `agent::bound::first_most` meets its contract.
+use borrow.Author.Rules.{rules}
+use Rattle.agent.proofs.bound.first_most.Goals as goal
+
+pub returns-in-Answer : goal.returns-in-Answer
+returns-in-Answer c = rw (c.in-Answer.is, c.answer_most.ensures)

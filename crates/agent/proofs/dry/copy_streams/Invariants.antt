@@ -1,0 +1,10 @@
+-- `agent::dry::copy_streams` meets its contract. The invariant: the first `i` copies are made.
+use Rattle.std.proofs.Common.{[], ◌≡◌, ◌≤◌, ◌-◌}
+use Rattle.agent.specs.Dry.{stream_copy, stream_spot, copied}
+use Rattle.agent.proofs.dry.copy_streams.Given as goal
+
+abbrev pub invariant-loop-i : goal.invariant-loop-i
+invariant-loop-i l = (l.i ≤ l.n) × (l.to ≡ copied stream_copy [] (stream_spot l.id) l.i l.from l.initial.to)
+
+abbrev pub decreases-loop-i : goal.decreases-loop-i
+decreases-loop-i l = l.n - l.i

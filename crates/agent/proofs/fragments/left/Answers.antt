@@ -1,0 +1,6 @@
+-- `agent::fragments::left` meets its contract.
+use borrow.Author.Rules.{rules}
+use Rattle.agent.proofs.fragments.left.Goals as goal
+
+pub returns : goal.returns
+returns c = rw c.inside_stop-stop.ensures

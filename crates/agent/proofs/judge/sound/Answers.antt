@@ -1,0 +1,6 @@
+-- `agent::judge::sound` meets its contract.
+use borrow.Author.Rules.{rules}
+use Rattle.agent.proofs.judge.sound.Goals as goal
+
+pub returns-in-Within : goal.returns-in-Within
+returns-in-Within c = rw c.in-Within.is c.sound_record.ensures
