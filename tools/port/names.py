@@ -173,6 +173,37 @@ def turn_rt(path, new):
         at = end
 
 
+# Names of isolation's claim, and one of the agent's specs/, that stand beside others of another crate alone: they stay plain.
+PLAIN = {
+    "isolation": ["host_call", "status_at", "set_up", "call_of", "replies_of", "in_turn"],
+    "agent": ["host_call", "status_at", "set_up", "call_of", "replies_of", "topic_named"],
+}
+
+
+def made_plain(top):
+    for crate, names in PLAIN.items():
+        words = "|".join(names)
+        for path in files(os.path.join(top, crate), ".antt"):
+            old = text_of(path)
+            now = re.sub(rf"(?<![\w'-])({words})_lem(?![\w'-])", r"\1", old)
+            if now != old:
+                with open(path, "w", encoding="utf-8") as f:
+                    f.write(now)
+
+
+def aliases_apart(top):
+    """The short name of an enum's variants has a dash, since a definition may have that name with `_`."""
+    for path in files(top, ".antt"):
+        old = now = text_of(path)
+        for alias in re.findall(r"TheVariants as (\w+_\w+)$", old, re.M):
+            dashed = re.sub(r"_lem$", "", alias).replace("_", "-")
+            now = re.sub(rf"TheVariants as {alias}$", f"TheVariants as {dashed}", now, flags=re.M)
+            now = re.sub(rf"(?<![\w.'-]){alias}\.(?=[A-Z])", f"{dashed}.", now)
+        if now != old:
+            with open(path, "w", encoding="utf-8") as f:
+                f.write(now)
+
+
 def main():
     top = os.path.join(os.path.dirname(os.path.abspath(__file__)), "..", "..", "crates")
     top = os.path.normpath(top)
@@ -191,6 +222,9 @@ def main():
         if now != old:
             with open(path, "w", encoding="utf-8") as f:
                 f.write(now)
+    if "--nested" not in sys.argv:
+        aliases_apart(top)
+        made_plain(top)
 
 
 main()

@@ -4,43 +4,51 @@ use codec::layouts::Span;
 use codec::reading::part;
 use moves::proxy::BridgeCall;
 use sessions::objects::Handle;
+use std::io;
+use std::io::Write;
 
-fn handle(h: Handle) {
-    number(h.0 as u64);
+fn handle(to: &mut impl Write, h: Handle) -> io::Result<()> {
+    number(to, h.0 as u64)
 }
 
-fn two(name: &[u8], a: Handle, b: Handle) {
-    text(name);
-    handle(a);
-    handle(b);
+fn two(to: &mut impl Write, name: &[u8], a: Handle, b: Handle) -> io::Result<()> {
+    text(to, name)?;
+    handle(to, a)?;
+    handle(to, b)
 }
 
-fn one(name: &[u8], a: Handle) {
-    text(name);
-    handle(a);
+fn one(to: &mut impl Write, name: &[u8], a: Handle) -> io::Result<()> {
+    text(to, name)?;
+    handle(to, a)
 }
 
-fn topic(d: &[u8], parent: Handle, name: Span, type_name: Span) {
-    one(b"call create_topic", parent);
-    bytes(part(d, name));
-    bytes(part(d, type_name));
+fn topic(
+    to: &mut impl Write,
+    d: &[u8],
+    parent: Handle,
+    name: Span,
+    type_name: Span,
+) -> io::Result<()> {
+    one(to, b"call create_topic", parent)?;
+    bytes(to, part(d, name))?;
+    bytes(to, part(d, type_name))
 }
 
-pub fn say_call(d: &[u8], call: BridgeCall) {
+pub fn say_call(to: &mut impl Write, d: &[u8], call: BridgeCall) -> io::Result<()> {
     match call {
         BridgeCall::CreateParticipant(domain) => {
-            text(b"call create_participant");
-            number(domain as u64)
+            text(to, b"call create_participant")?;
+            number(to, domain as u64)?;
         }
-        BridgeCall::CreateTopic(parent, name, type_name) => topic(d, parent, name, type_name),
-        BridgeCall::CreateWriter(p, t) => two(b"call create_writer", p, t),
-        BridgeCall::CreateReader(p, t) => two(b"call create_reader", p, t),
+        BridgeCall::CreateTopic(parent, name, type_name) => topic(to, d, parent, name, type_name)?,
+        BridgeCall::CreateWriter(p, t) => two(to, b"call create_writer", p, t)?,
+        BridgeCall::CreateReader(p, t) => two(to, b"call create_reader", p, t)?,
         BridgeCall::WriteData(w, data) => {
-            one(b"call write_data", w);
-            bytes(part(d, data))
+            one(to, b"call write_data", w)?;
+            bytes(to, part(d, data))?;
         }
-        BridgeCall::ReadData(r) => one(b"call read_data", r),
-        BridgeCall::DeleteEntity(h) => one(b"call delete_entity", h),
+        BridgeCall::ReadData(r) => one(to, b"call read_data", r)?,
+        BridgeCall::DeleteEntity(h) => one(to, b"call delete_entity", h)?,
     }
-    end_line();
+    end_line(to)
 }

@@ -18,12 +18,14 @@ use hours::windows::WindowRow;
 use sessions::objects::Object;
 use sessions::stream_rows::StreamRow;
 use sessions::table::SessionRow;
+use std::io;
+use std::io::Write;
 
-fn removed_said(r: Removed) {
+fn removed_said(to: &mut impl Write, r: Removed) -> io::Result<()> {
     match r {
-        Removed::Session => print::line(b"removed"),
-        Removed::NotLive => print::line(b"absent"),
-        Removed::Refused(x) => print::refused(x),
+        Removed::Session => print::line(to, b"removed"),
+        Removed::NotLive => print::line(to, b"absent"),
+        Removed::Refused(x) => print::refused(to, x),
     }
 }
 
@@ -31,72 +33,78 @@ fn wide(b: u8) -> u64 {
     b as u64
 }
 
-fn swept(ids: &[u8]) {
-    print::text(b"swept");
-    let mut i = 0;
-    while i < ids.len() {
-        print::number(wide(ids[i]));
-        i += 1;
+fn swept(to: &mut impl Write, ids: &[u8]) -> io::Result<()> {
+    print::text(to, b"swept")?;
+    for id in ids {
+        print::number(to, wide(*id))?;
     }
-    print::end_line();
+    print::end_line(to)
 }
 
-fn swept_said(out: &[u8], room: usize, w: Written) {
+fn swept_said(to: &mut impl Write, out: &[u8], room: usize, w: Written) -> io::Result<()> {
     match w {
         Written::Bytes(n) => {
-            moved(out, n, room);
-            swept(between(out, 0, n))
+            moved(to, out, n, room)?;
+            swept(to, between(out, 0, n))
         }
         Written::Refused(x) => {
-            moved(out, 0, room);
-            print::refused(x)
+            moved(to, out, 0, room)?;
+            print::refused(to, x)
         }
     }
 }
 
-fn sweep(sessions: &mut [SessionRow], out: &mut [u8], host: Host, c: Command) {
+fn sweep(
+    to: &mut impl Write,
+    sessions: &mut [SessionRow],
+    out: &mut [u8],
+    host: Host,
+    c: Command,
+) -> io::Result<()> {
     cover(out, c.second);
     let room = within(c.second, out.len());
     let agent = host.agent;
     let w = evict_expired(sessions, &mut out[..room], agent, c.first);
-    swept_said(out, room, w);
+    swept_said(to, out, room, w)
 }
 
-fn open_said(f: FirstOpen) {
+fn open_said(to: &mut impl Write, f: FirstOpen) -> io::Result<()> {
     match f {
         FirstOpen::At(day, minute) => {
-            print::text(b"open");
-            print::number(day as u64);
-            print::number(minute as u64);
-            print::end_line()
+            print::text(to, b"open")?;
+            print::number(to, day as u64)?;
+            print::number(to, minute as u64)?;
+            print::end_line(to)
         }
-        FirstOpen::Never => print::line(b"never"),
-        FirstOpen::Refused(x) => print::refused(x),
+        FirstOpen::Never => print::line(to, b"never"),
+        FirstOpen::Refused(x) => print::refused(to, x),
     }
 }
 
 // The events that need no objects.
 fn without_objects(
+    to: &mut impl Write,
     sessions: &mut [SessionRow],
     hours: &[u8],
     out: &mut [u8],
     host: Host,
     c: Command,
-) {
+) -> io::Result<()> {
     let name = c.name;
     match name {
         names::REMOVE => {
             let agent = host.agent;
-            removed_said(remove_session(sessions, agent, low_8(c.first)))
+            removed_said(to, remove_session(sessions, agent, low_8(c.first)))
         }
-        names::SWEEP => sweep(sessions, out, host, c),
-        names::OPEN => open_said(first_open(hours, low_8(c.first), low_16(c.second))),
-        names::BAD => print::line(b"bad line"),
-        _ => (),
+        names::SWEEP => sweep(to, sessions, out, host, c),
+        names::OPEN => open_said(to, first_open(hours, low_8(c.first), low_16(c.second))),
+        names::BAD => print::line(to, b"bad line"),
+        _ => Ok(()),
     }
 }
 
 fn set_up(
+    to: &mut impl Write,
     sessions: &mut [SessionRow],
     streams: &mut [StreamRow],
     objects: &mut [Object],
@@ -108,15 +116,16 @@ fn set_up(
     windows: &mut [WindowRow],
     host: Host,
     c: Command,
-) -> Host {
+) -> io::Result<Host> {
     let max = max_clients(c);
     let made = setup(
         sessions, streams, objects, held, parts, lengths, rebuilt, hours, windows, max, c.second,
     );
-    set_up_said(made, host)
+    set_up_said(to, made, host)
 }
 
 fn datagram(
+    to: &mut impl Write,
     sessions: &mut [SessionRow],
     streams: &mut [StreamRow],
     objects: &mut [Object],
@@ -130,7 +139,7 @@ fn datagram(
     kept: &mut [u8],
     host: Host,
     c: Command,
-) -> Host {
+) -> io::Result<Host> {
     cover(out, c.second);
     let room = within(c.second, out.len());
     let count = least(c.count, line.len());
@@ -154,12 +163,13 @@ fn datagram(
         agent,
         given,
     );
-    say(out, room, line, rebuilt, p);
+    say(to, out, room, line, rebuilt, p)?;
     let older = host.kept;
-    after_datagram(kept, line, count, p, older)
+    Ok(after_datagram(kept, line, count, p, older))
 }
 
 fn answer(
+    to: &mut impl Write,
     sessions: &mut [SessionRow],
     streams: &mut [StreamRow],
     objects: &mut [Object],
@@ -172,7 +182,7 @@ fn answer(
     kept: &[u8],
     host: Host,
     c: Command,
-) -> Host {
+) -> io::Result<Host> {
     cover(out, c.first);
     let room = within(c.first, out.len());
     let count = least(c.count, line.len());
@@ -193,16 +203,21 @@ fn answer(
         agent,
         told,
     );
-    say(out, room, kept, rebuilt, p);
-    after(p, length)
+    say(to, out, room, kept, rebuilt, p)?;
+    Ok(after(p, length))
 }
 
 // No session has more than 32 objects.
-fn list(sessions: &[SessionRow], objects: &[Object], c: Command) {
+fn list(
+    to: &mut impl Write,
+    sessions: &[SessionRow],
+    objects: &[Object],
+    c: Command,
+) -> io::Result<()> {
     let id = low_8(c.first);
     let mut numbers = [MARK; 32];
     let l = list_objects(sessions, objects, &mut numbers, id);
-    listed_said(&numbers, l);
+    listed_said(to, &numbers, l)
 }
 
 // Which stores an event needs.
@@ -229,6 +244,7 @@ fn group_of(c: Command) -> Group {
 }
 
 pub fn event(
+    to: &mut impl Write,
     sessions: &mut [SessionRow],
     streams: &mut [StreamRow],
     objects: &mut [Object],
@@ -244,12 +260,13 @@ pub fn event(
     packed: &mut [Packed],
     host: Host,
     c: Command,
-) -> Host {
+) -> io::Result<Host> {
     let g = group_of(c);
     match g {
         Group::SetUp => {
             let count = least(c.count, windows.len());
             set_up(
+                to,
                 sessions,
                 streams,
                 objects,
@@ -264,24 +281,24 @@ pub fn event(
             )
         }
         Group::Datagram => datagram(
-            sessions, streams, objects, held, parts, lengths, rebuilt, hours, out, line, kept,
+            to, sessions, streams, objects, held, parts, lengths, rebuilt, hours, out, line, kept,
             host, c,
         ),
         Group::Answer => answer(
-            sessions, streams, objects, held, parts, lengths, rebuilt, out, line, kept, host, c,
+            to, sessions, streams, objects, held, parts, lengths, rebuilt, out, line, kept, host, c,
         ),
         Group::Dump => {
             pack_all(objects, packed);
-            dump(sessions, streams, held, parts, lengths, packed);
-            host
+            dump(to, sessions, streams, held, parts, lengths, packed)?;
+            Ok(host)
         }
         Group::List => {
-            list(sessions, objects, c);
-            host
+            list(to, sessions, objects, c)?;
+            Ok(host)
         }
         Group::Other => {
-            without_objects(sessions, hours, out, host, c);
-            host
+            without_objects(to, sessions, hours, out, host, c)?;
+            Ok(host)
         }
     }
 }

@@ -9,6 +9,8 @@ use agent::process::{Outcome, Processed};
 use agent::state::{Agent, Waiting};
 use moves::proxy::{BridgeAnswer, BridgeCall};
 use sessions::objects::Handle;
+use std::io;
+use std::io::Write;
 
 // The agent, whether it was ever set up, and the length of the datagram that is kept for its open call.
 #[derive(Clone, Copy)]
@@ -36,19 +38,19 @@ pub fn max_clients(c: Command) -> usize {
 }
 
 // A refused `setup` keeps the agent that was there.
-pub fn set_up_said(made: AgentSetUp, host: Host) -> Host {
+pub fn set_up_said(to: &mut impl Write, made: AgentSetUp, host: Host) -> io::Result<Host> {
     match made {
         AgentSetUp::Ready(agent) => {
-            print::line(b"ok");
-            Host {
+            print::line(to, b"ok")?;
+            Ok(Host {
                 ready: true,
                 agent,
                 kept: 0,
-            }
+            })
         }
         AgentSetUp::Refused(x) => {
-            print::refused(x);
-            host
+            print::refused(to, x)?;
+            Ok(host)
         }
     }
 }
@@ -84,36 +86,49 @@ fn copy(kept: &mut [u8], d: &[u8], count: usize) {
 }
 
 // A call shows parts of the datagram, or of the rebuilt bytes that its submessage stands in (document 02, W6).
-fn say_shown(d: &[u8], rebuilt: &[u8], waits: Waiting, call: BridgeCall) {
+fn say_shown(
+    to: &mut impl Write,
+    d: &[u8],
+    rebuilt: &[u8],
+    waits: Waiting,
+    call: BridgeCall,
+) -> io::Result<()> {
     match waits {
-        Waiting::Nothing => say_call(d, call),
+        Waiting::Nothing => say_call(to, d, call),
         Waiting::Call(p) => if p.left_end == 0 {
-            say_call(d, call)
+            say_call(to, d, call)
         } else {
-            say_call(between(rebuilt, 0, p.left_end), call)
+            say_call(to, between(rebuilt, 0, p.left_end), call)
         },
     }
 }
 
 // The replies, then the call or the end; or the refusal. `d` begins with the datagram.
-pub fn say(out: &[u8], room: usize, d: &[u8], rebuilt: &[u8], p: Processed) {
+pub fn say(
+    to: &mut impl Write,
+    out: &[u8],
+    room: usize,
+    d: &[u8],
+    rebuilt: &[u8],
+    p: Processed,
+) -> io::Result<()> {
     let outcome = p.outcome;
     let agent = p.agent;
     let waits = agent.waits;
     match outcome {
         Outcome::Replied(n) => {
-            moved(out, n, room);
-            replies(between(out, 0, n));
-            print::line(b"end")
+            moved(to, out, n, room)?;
+            replies(to, between(out, 0, n))?;
+            print::line(to, b"end")
         }
         Outcome::Called(call, n) => {
-            moved(out, n, room);
-            replies(between(out, 0, n));
-            say_shown(d, rebuilt, waits, call)
+            moved(to, out, n, room)?;
+            replies(to, between(out, 0, n))?;
+            say_shown(to, d, rebuilt, waits, call)
         }
         Outcome::Refused(x) => {
-            moved(out, 0, room);
-            print::refused(x)
+            moved(to, out, 0, room)?;
+            print::refused(to, x)
         }
     }
 }

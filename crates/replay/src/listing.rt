@@ -2,6 +2,8 @@
 use crate::print;
 use crate::words::least;
 use sessions::object_list::Listed;
+use std::io;
+use std::io::Write;
 
 // What the lent numbers are filled with.
 pub const MARK: u16 = 999;
@@ -18,36 +20,35 @@ fn is_marked(numbers: &[u16], from: usize) -> bool {
 }
 
 // Says so if a number changed behind the result.
-fn moved(numbers: &[u16], wrote: usize) {
+fn moved(to: &mut impl Write, numbers: &[u16], wrote: usize) -> io::Result<()> {
     if !is_marked(numbers, wrote) {
-        print::line(b"moved");
+        print::line(to, b"moved")?;
     }
+    Ok(())
 }
 
 fn wide(n: u16) -> u64 {
     n as u64
 }
 
-fn listed(numbers: &[u16], count: usize) {
-    print::text(b"listed");
+fn listed(to: &mut impl Write, numbers: &[u16], count: usize) -> io::Result<()> {
+    print::text(to, b"listed")?;
     let end = least(count, numbers.len());
-    let mut i = 0;
-    while i < end {
-        print::number(wide(numbers[i]));
-        i += 1;
+    for i in 0..end {
+        print::number(to, wide(numbers[i]))?;
     }
-    print::end_line();
+    print::end_line(to)
 }
 
-pub fn listed_said(numbers: &[u16], l: Listed) {
+pub fn listed_said(to: &mut impl Write, numbers: &[u16], l: Listed) -> io::Result<()> {
     match l {
         Listed::Numbers(n) => {
-            moved(numbers, n);
-            listed(numbers, n)
+            moved(to, numbers, n)?;
+            listed(to, numbers, n)
         }
         Listed::Refused(x) => {
-            moved(numbers, 0);
-            print::refused(x)
+            moved(to, numbers, 0)?;
+            print::refused(to, x)
         }
     }
 }

@@ -20,6 +20,8 @@ mod stores;
 mod windows;
 mod words;
 
-fn main() {
-    stores::serve();
+use std::io;
+
+fn main(rt: HostRuntime) -> io::Result<()> {
+    stores::serve(&rt)
 }

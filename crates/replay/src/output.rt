@@ -3,6 +3,8 @@ ghost use Rattle.std.specs.Prelude.{◌≤◌, ◌<◌, length};
 
 use crate::print;
 use crate::words::between;
+use std::io;
+use std::io::Write;
 
 // How much of a store a script's number asks for, at most all of it: a longer result is refused as 13.
 pub fn within(asked: u64, have: usize) -> usize
@@ -45,10 +47,11 @@ fn is_covered(out: &[u8], from: usize, room: usize) -> bool {
 }
 
 // Says so if a byte changed behind the result.
-pub fn moved(out: &[u8], wrote: usize, room: usize) {
+pub fn moved(to: &mut impl Write, out: &[u8], wrote: usize, room: usize) -> io::Result<()> {
     if !is_covered(out, wrote, room) {
-        print::line(b"moved");
+        print::line(to, b"moved")?;
     }
+    Ok(())
 }
 
 fn wide(b: u8) -> usize
@@ -74,13 +77,14 @@ fn reply_end(out: &[u8], at: usize) -> usize
 }
 
 // A line for each reply.
-pub fn replies(out: &[u8]) {
+pub fn replies(to: &mut impl Write, out: &[u8]) -> io::Result<()> {
     let mut at = 0;
     while at < out.len() {
         let end = reply_end(out, at);
-        print::text(b"reply");
-        print::bytes(between(out, at, end));
-        print::end_line();
+        print::text(to, b"reply")?;
+        print::bytes(to, between(out, at, end))?;
+        print::end_line(to)?;
         at = end;
     }
+    Ok(())
 }

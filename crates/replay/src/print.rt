@@ -3,25 +3,25 @@ ghost use Rattle.std.specs.Prelude.{◌≤◌, ◌<◌};
 
 use crate::words::between;
 use codec::refusals::Refusal;
-use libc::STDOUT_FILENO;
+use std::io;
+use std::io::Write;
 
-pub fn text(t: &[u8]) {
-    io::write_all(STDOUT_FILENO, t);
+pub fn text(to: &mut impl Write, t: &[u8]) -> io::Result<()> {
+    to.write_all(t)
 }
 
-pub fn end_line() {
-    io::write_all(STDOUT_FILENO, b"\n");
+pub fn end_line(to: &mut impl Write) -> io::Result<()> {
+    to.write_all(b"\n")
 }
 
-pub fn line(t: &[u8]) {
-    text(t);
-    end_line();
+pub fn line(to: &mut impl Write, t: &[u8]) -> io::Result<()> {
+    text(to, t)?;
+    end_line(to)
 }
 
 // A space and the number.
-pub fn number(n: u64) {
-    io::write_all(STDOUT_FILENO, b" ");
-    io::print_decimal(STDOUT_FILENO, n);
+pub fn number(to: &mut impl Write, n: u64) -> io::Result<()> {
+    write!(to, " {n}")
 }
 
 fn glyph(d: u8) -> u8
@@ -53,16 +53,14 @@ fn portion(left: usize) -> usize
 }
 
 // Writes up to 2,048 bytes from `at` on.
-fn some_bytes(bytes: &[u8], at: usize, n: usize)
+fn some_bytes(to: &mut impl Write, bytes: &[u8], at: usize, n: usize) -> io::Result<()>
     requires { n ≤ 2048 }
 {
-    let mut t = io::buffer();
-    let mut i = 0;
-    while i < n {
+    let mut t = [0u8; 4096];
+    for i in 0..n {
         spell(&mut t, 2 * i, byte_at(bytes, at, i));
-        i += 1;
     }
-    text(between(&t, 0, 2 * n));
+    text(to, between(&t, 0, 2 * n))
 }
 
 fn byte_at(bytes: &[u8], at: usize, i: usize) -> u8 {
@@ -75,51 +73,51 @@ fn byte_at(bytes: &[u8], at: usize, i: usize) -> u8 {
 }
 
 // A space and the bytes.
-pub fn bytes(bytes: &[u8]) {
-    text(b" ");
-    digits(bytes);
+pub fn bytes(to: &mut impl Write, bytes: &[u8]) -> io::Result<()> {
+    text(to, b" ")?;
+    digits(to, bytes)
 }
 
 // The bytes as digits, `-` where there are none.
-fn digits(bytes: &[u8]) {
+fn digits(to: &mut impl Write, bytes: &[u8]) -> io::Result<()> {
     if bytes.len() == 0 {
-        text(b"-");
-        return;
+        return text(to, b"-");
     }
     let mut at = 0;
     while at < bytes.len() {
         let n = portion(bytes.len() - at);
-        some_bytes(bytes, at, n);
+        some_bytes(to, bytes, at, n)?;
         at += n;
     }
+    Ok(())
 }
 
 // A held message or a fragment: its number and its bytes.
-pub fn message(n: u16, bytes: &[u8]) {
-    number(n as u64);
-    text(b":");
-    digits(bytes);
+pub fn message(to: &mut impl Write, n: u16, bytes: &[u8]) -> io::Result<()> {
+    number(to, n as u64)?;
+    text(to, b":")?;
+    digits(to, bytes)
 }
 
 // A client's key: its four bytes in the order of the wire.
-pub fn key(key: u64) {
+pub fn key(to: &mut impl Write, key: u64) -> io::Result<()> {
     let wire = [
         (key % 256) as u8,
         (key / 256 % 256) as u8,
         (key / 65536 % 256) as u8,
         (key / 16777216 % 256) as u8,
     ];
-    bytes(&wire);
+    bytes(to, &wire)
 }
 
 // A refusal's number, and its byte with 2, 3 and 4.
-pub fn refused(r: Refusal) {
+pub fn refused(to: &mut impl Write, r: Refusal) -> io::Result<()> {
     let n = r.number();
-    text(b"refused");
-    number(n as u64);
+    text(to, b"refused")?;
+    number(to, n as u64)?;
     match n {
-        2..=4 => number(r.byte() as u64),
+        2..=4 => number(to, r.byte() as u64)?,
         _ => (),
     }
-    end_line();
+    end_line(to)
 }

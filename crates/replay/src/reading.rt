@@ -1,5 +1,6 @@
 // The lines of the input.
-use libc::STDIN_FILENO;
+use std::io;
+use std::io::Read;
 
 // How far the input is read: `have` bytes of it are there, the next one is at `at`. Then the line that was read last: its
 // length without the newline, whether it was longer than its room, and whether there was one at all.
@@ -34,14 +35,14 @@ fn fresh(r: Reading) -> Reading {
 }
 
 // Reads on where every byte was looked at. At the end of the input it has none.
-fn fill(input: &mut [u8], r: Reading) -> Reading {
+fn fill(from: &mut impl Read, input: &mut [u8], r: Reading) -> io::Result<Reading> {
     if r.at < r.have {
-        return r;
+        return Ok(r);
     }
     let mut next = r;
     next.at = 0;
-    next.have = io::read_full(STDIN_FILENO, input);
-    next
+    next.have = from.read(input)?;
+    Ok(next)
 }
 
 fn byte_at(input: &[u8], at: usize) -> u8 {
@@ -62,23 +63,26 @@ fn put(line: &mut [u8], r: Reading, b: u8) -> Reading {
 }
 
 // Puts the next line at the start of `line`. A proved loop has to end, so its turns are counted.
-pub fn read_line(input: &mut [u8], line: &mut [u8], start: Reading) -> Reading {
+pub fn read_line(
+    from: &mut impl Read,
+    input: &mut [u8],
+    line: &mut [u8],
+    start: Reading,
+) -> io::Result<Reading> {
     let mut r = fresh(start);
-    let mut turns = u64::MAX;
-    while 0 < turns {
-        turns -= 1;
-        r = fill(input, r);
+    for _ in 0..u64::MAX {
+        r = fill(from, input, r)?;
         let at = r.at;
         if r.have <= at {
-            return r;
+            return Ok(r);
         }
         r.at = at + 1;
         r.any = true;
         let b = byte_at(input, at);
         if b == b'\n' {
-            return r;
+            return Ok(r);
         }
         r = put(line, r, b);
     }
-    r
+    Ok(r)
 }

@@ -9,14 +9,13 @@ use hours::windows::WindowRow;
 use sessions::objects::Object;
 use sessions::stream_rows::StreamRow;
 use sessions::table::SessionRow;
+use std::io;
+use std::io::{Read, Write};
 
-// A proved loop has to end, so its turns are counted.
-fn all_turns() -> u64 {
-    u64::MAX
-}
-
-// Reads and answers until the input ends.
+// Reads and answers until the input ends. A proved loop has to end, so its turns are counted.
 fn serve(
+    from: &mut impl Read,
+    to: &mut impl Write,
     input: &mut [u8],
     line: &mut [u8],
     kept: &mut [u8],
@@ -31,28 +30,29 @@ fn serve(
     hours: &mut [u8],
     windows: &mut [WindowRow],
     packed: &mut [Packed],
-) {
+) -> io::Result<()> {
     let mut reading = first_reading();
     let mut host = nobody();
-    let mut turns = all_turns();
-    while 0 < turns {
-        reading = read_line(input, line, reading);
+    for _ in 0..u64::MAX {
+        reading = read_line(from, input, line, reading)?;
         let any = reading.any;
         if !any {
-            return;
+            return Ok(());
         }
         let ready = host.ready;
         let c = parse(line, windows, reading, ready);
         host = event(
-            sessions, streams, objects, held, parts, lengths, rebuilt, hours, windows, out, line,
-            kept, packed, host, c,
-        );
-        turns = turns - 1;
+            to, sessions, streams, objects, held, parts, lengths, rebuilt, hours, windows, out,
+            line, kept, packed, host, c,
+        )?;
     }
+    Ok(())
 }
 
 // Owns the objects.
 pub fn own(
+    from: &mut impl Read,
+    to: &mut impl Write,
     input: &mut [u8],
     line: &mut [u8],
     kept: &mut [u8],
@@ -66,11 +66,13 @@ pub fn own(
     hours: &mut [u8],
     windows: &mut [WindowRow],
     packed: &mut [Packed],
-) {
+) -> io::Result<()> {
     let number = ObjectNumber(0);
     let o = Object::implicit(number, 0, 0);
     let mut objects = [o; 8192];
     serve(
+        from,
+        to,
         input,
         line,
         kept,
@@ -85,5 +87,5 @@ pub fn own(
         hours,
         windows,
         packed,
-    );
+    )
 }
