@@ -3,7 +3,7 @@ use Prim.Native.Nat.{ℕ, zero, suc, ◌+◌, ◌-◌, ◌*◌, ◌/◌, ◌<◌
 use mathlib.Core.Path.{◌≡◌, refl, sym, ap, ◌∙◌}
 use mathlib.Core.Logic.{◌≢◌, ◌⊎◌, inl, inr, ⊎_elim}
 use mathlib.Core.Bool.{Bool, true, false, cond, or-true, or-false}
-use mathlib.Core.Option.{Option, none, some, map}
+use mathlib.Core.Option.{Option, none, some}
 use mathlib.Core.List.{List, [], ◌∷◌, ◌++◌}
 use native.Mathlib.Nat.{div-lt_iff_lt-mul}
 use native.Mathlib.Omega.{arith}
@@ -31,7 +31,7 @@ use Rattle.agent.specs.Brings.{In, in_of}
 use Rattle.agent.specs.RulesObjects.{Move}
 use Rattle.agent.specs.RulesAnswers.{on_answer}
 use Rattle.agent.specs.RulesFragments.{Pending, Working, plain, behind, onto, rebuilt_from, brought_by, handle_by, handle, resumed}
-use Rattle.agent.specs.Fragments.{Within, Fresh, fragment_of, feeds, leaves, Missing, Waits, Completes, Fed, begins, other, answer, fragment, slots_from, kept_after, RebuildsRight, RebuildsBodies, RebuildsCut}
+use Rattle.agent.specs.Fragments.{Within, Fresh, fragment_of, feeds, leaves, Missing, Completes, Fed, begins, other, answer, fragment, slots_from, kept_after, RebuildsRight, RebuildsBodies, RebuildsCut}
 use Rattle.agent.specs.declared.state.Moment.{Moment}
 use Rattle.agent.proofs.MoveCases.{submessage_cases, answer_cases}
 

@@ -1,6 +1,6 @@
 -- W8's promise, proved: WRITE_DATA reaches the bridge exactly in an open minute.
 use Prim.Native.Nat.{ℕ}
-use mathlib.Core.Path.{◌≡◌, refl, sym, ap, ◌∙◌}
+use mathlib.Core.Path.{◌≡◌, refl}
 use mathlib.Core.Bool.{Bool, true, false, cond}
 use mathlib.Core.Option.{Option, none, some}
 use mathlib.Core.List.{List, []}
@@ -13,7 +13,7 @@ use Rattle.sessions.specs.View.{Local}
 use Rattle.moves.specs.Calls.{write_data, writing}
 use Rattle.agent.specs.Local.{touched, handle_at}
 use Rattle.agent.specs.RulesObjects.{Move, says, asks, if_handle}
-use Rattle.agent.specs.RulesFragments.{Working, onto, handle}
+use Rattle.agent.specs.RulesFragments.{onto, handle}
 use Rattle.agent.specs.Hours.{write_in, QuietHours}
 use Rattle.agent.specs.declared.state.Given.{Given}
 

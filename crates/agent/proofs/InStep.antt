@@ -25,7 +25,7 @@ use Rattle.moves.specs.Replies.{client_bytes}
 use Rattle.agent.specs.Brings.{Opening, In, moment_of, parsed_as, message_from}
 use Rattle.agent.specs.RulesFragments.{Working, handle, resumed}
 use Rattle.agent.specs.Rules.{rules}
-use Rattle.agent.specs.Step.{Tables, Open, Agent, next_free, chosen, open_as, Reply, opened, replied, Ran, behind, keep, act, deliver, run, continued, Event, datagram, answer, removal, sweep, Result, refused, ran, removed, swept, Did, refuse, finish, joined_replies, call_of, open_of, with_tables, settle, begin, too_long, over_held, with_id, is_live, stays, lapsed_ids, with_locals, stepped, step}
+use Rattle.agent.specs.Step.{Tables, Open, Agent, next_free, chosen, open_as, Reply, opened, replied, Ran, behind, keep, act, deliver, run, continued, Event, datagram, answer, removal, sweep, Result, ran, removed, swept, Did, refuse, finish, joined_replies, call_of, open_of, with_tables, settle, begin, too_long, over_held, with_id, is_live, stays, lapsed_ids, with_locals, stepped, step}
 use Rattle.agent.specs.declared.state.Given.{Given}
 use Rattle.agent.specs.Claim.{Hosted, host_call, out_of, asked_of, result_of, agent}
 

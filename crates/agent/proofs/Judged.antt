@@ -1,7 +1,7 @@
 -- What the judge lets through: the stores are long enough, the answer fits its call, and the submessages to run are counted; the
 -- rebuilt submessages that wait (document 02, W6) stand in their place as they were read.
 use Prim.Native.Nat.{ℕ, ◌+◌, ◌≤◌}
-use mathlib.Core.Path.{◌≡◌, refl, sym, subst, ap, ◌∙◌}
+use mathlib.Core.Path.{◌≡◌, refl, sym, subst}
 use mathlib.Core.Bool.{Bool, true, false, cond, true≢false}
 use mathlib.Core.List.{List, []}
 use native.Mathlib.Omega.{arith}
@@ -9,7 +9,7 @@ use borrow.Author.Tests.{ltb-false, le-leb}
 use lib.Dec.{eqb, leb, ltb}
 use lib.ListN.{length}
 use lib.Seq.{length-take-le}
-use Rattle.codec.specs.Reading.{part_of, Item, Items, items, stopped, items_at, Message, refused, under, message_of, checked_of, count_at, check_of}
+use Rattle.codec.specs.Reading.{part_of, Item, Items, items, stopped, items_at, refused, under, message_of, checked_of, count_at, check_of}
 use Rattle.codec.specs.Header.{header_of as headerIn}
 use Rattle.codec.specs.Rebuilt.{any_barred, rebuilt_at}
 use Rattle.codec.specs.declared.rebuilt.Rebuilt.{Rebuilt}

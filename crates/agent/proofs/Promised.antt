@@ -12,7 +12,6 @@ use lib.ListN.{length}
 use Rattle.codec.specs.Bytes.{put_at}
 use Rattle.codec.specs.Grammar.{Said, reading}
 use Rattle.codec.specs.Answers.{Answer as Read, gives, refused_as}
-use Rattle.codec.specs.Reading.{refused}
 use Rattle.codec.specs.declared.header.MessageHeader.{MessageHeader}
 use Rattle.isolation.specs.Claim as claim
 use Rattle.codec.specs.declared.refusals.Refusal.TheVariants.{OverLimit, WindowFault}
@@ -29,8 +28,7 @@ use Rattle.agent.specs.declared.state.Given.{Given}
 use Rattle.agent.specs.Rules.{rules}
 use Rattle.agent.specs.Step as step
 use Rattle.agent.specs.Step.{Open, joined_replies, run, continued, settle, begin}
-use Rattle.agent.specs.Judge.{too_long}
-use Rattle.agent.specs.Host.{finish, set_up_by, set_up_as}
+use Rattle.agent.specs.Host.{set_up_by, set_up_as}
 use Rattle.agent.specs.Claim as lists
 use Rattle.agent.specs.Whole as whole
 use Rattle.agent.specs.Whole.{State, Event, datagram, answer, removal, sweep, Did, step_of, opens_as, agent_of, event_of, Hosted, set_up_with, set_up_answer}

@@ -1,18 +1,14 @@
 -- A run over the lent tables: one turn at a time, what it writes; the store of held messages stays.
-use Prim.Native.Nat.{ℕ, zero, suc, ◌+◌, ◌-◌}
+use Prim.Native.Nat.{ℕ, zero, suc, ◌-◌}
 use mathlib.Core.Path.{◌≡◌, refl, ◌∙◌}
 use mathlib.Core.Bool.{Bool, true, false, cond}
 use mathlib.Core.List.{List, [], ◌++◌}
 use lib.ListN.{length}
 use Rattle.codec.specs.Reading.{read_at}
-use Rattle.codec.specs.declared.layouts.Parsed.TheVariants as parsed
 use Rattle.sessions.specs.View.{Tables}
-use Rattle.sessions.specs.declared.table.Got.TheVariants as got
-use Rattle.sessions.specs.declared.table.Named.TheVariants as named
 use Rattle.agent.specs.Run.{Turned, count_replies, taken_of, fragment_turned, sub_turned, turned, goes_on, before, run_in, run_at}
 use Rattle.moves.specs.declared.handle.Opening.{Opening}
 use Rattle.moves.specs.declared.handle.Opening.TheVariants.{Client, Fragment, Other, Unread}
-use Rattle.agent.specs.declared.judge.Resumes.TheVariants as resumes
 use Rattle.agent.specs.declared.turn.Frame.{Frame}
 use Rattle.agent.specs.declared.turn.Ran.{Ran}
 use Rattle.agent.specs.declared.turn.Taken.{Taken}

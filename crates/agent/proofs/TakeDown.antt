@@ -13,7 +13,7 @@ use Rattle.codec.specs.declared.refusals.Refusal.TheVariants.{OutputTooShort}
 use Rattle.codec.specs.declared.submessages.ObjectKind.{ObjectKind}
 use Rattle.codec.specs.declared.submessages.StatusCode.TheVariants.{ErrIncompatible}
 use Rattle.isolation.proofs.Simulation.{none_some}
-use Rattle.hours.specs.Windows.{Window, is_open}
+use Rattle.hours.specs.Windows.{Window}
 use Rattle.sessions.specs.Table.{is_free}
 use Rattle.sessions.specs.SessionObjects.{objects_named}
 use Rattle.sessions.specs.View.{Tables, Entry, Local, session_shown, table_part, find_in, drop_in, Distinct, object_numbers}

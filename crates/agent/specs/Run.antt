@@ -1,5 +1,5 @@
 -- A run over the lent tables: the submessages from a place of the datagram on, until a bridge call is handed out or the end.
-use Rattle.std.specs.Prelude.{ℕ, zero, suc, ◌+◌, ◌-◌, Bool, true, false, cond, not, List, [], ◌∷◌, ◌++◌, map, ltb, length}
+use Rattle.std.specs.Prelude.{ℕ, zero, suc, ◌+◌, ◌-◌, Bool, true, false, cond, List, [], ◌∷◌, ◌++◌, map, ltb, length}
 use Rattle.std.proofs.Math.Option.{Option, none, some}
 use Rattle.codec.specs.Bytes.{put_bytes}
 use Rattle.codec.specs.Reading.{read_at, part_of}

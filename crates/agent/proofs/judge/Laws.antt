@@ -6,7 +6,6 @@ use mathlib.Core.List.{List}
 use lib.Dec.{ltb}
 use lib.ListN.{length}
 use Rattle.codec.specs.Reading.{count_at}
-use Rattle.codec.specs.declared.reading.Checked.{Checked}
 use Rattle.codec.specs.declared.refusals.Refusal.TheVariants.{OverLimit}
 use Rattle.streams.specs.declared.sent.Slot.{Slot}
 use Rattle.sessions.specs.Limits.{limits_of}

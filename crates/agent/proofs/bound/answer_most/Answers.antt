@@ -1,5 +1,4 @@
 -- `agent::bound::answer_most` meets its contract.
-use borrow.Author.Rules.{rules}
 use Rattle.agent.proofs.Thirteen.{sample_within, sample_over}
 use Rattle.agent.proofs.bound.answer_most.Goals as goal
 

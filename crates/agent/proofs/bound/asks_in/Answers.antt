@@ -1,5 +1,4 @@
 -- `agent::bound::asks_in` meets its contract.
-use borrow.Author.Rules.{rules}
 use mathlib.Core.Path.{◌∙◌}
 use Rattle.agent.proofs.Acknacks.{asks_none, asks_all}
 use Rattle.agent.proofs.bound.asks_in.Goals as goal

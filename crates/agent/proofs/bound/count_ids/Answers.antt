@@ -1,10 +1,5 @@
 -- `agent::bound::count_ids` meets its contract: those counted so far and those from here on are all.
-use Prim.Native.Nat.{◌+◌, ◌-◌, ◌≤◌}
-use mathlib.Core.Path.{◌≡◌}
 use native.Mathlib.Omega.{arith}
-use borrow.Author.Rules.{rules}
-use lib.ListN.{length}
-use Rattle.agent.specs.Host.{ids_at}
 use Rattle.agent.proofs.Acknacks.{ids_again, ids_done}
 use Rattle.agent.proofs.bound.count_ids.Goals as goal
 

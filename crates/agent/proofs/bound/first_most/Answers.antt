@@ -1,5 +1,4 @@
 -- `agent::bound::first_most` meets its contract.
-use borrow.Author.Rules.{rules}
 use Rattle.agent.proofs.bound.first_most.Goals as goal
 
 pub returns-in-Answer : goal.returns-in-Answer

@@ -2,7 +2,6 @@
 use Prim.Native.Nat.{ℕ, ◌-◌, ◌*◌, ◌/◌}
 use mathlib.Core.Path.{ap, ◌∙◌}
 use native.Mathlib.Omega.{arith}
-use borrow.Author.Rules.{rules}
 use lib.Dec.{leb}
 use Rattle.agent.proofs.Thirteen.{no_room, few_bytes, for_all, for_acknacks}
 use Rattle.agent.proofs.bound.is_roomy.Goals as goal

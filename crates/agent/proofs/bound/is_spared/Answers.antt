@@ -1,6 +1,5 @@
 -- `agent::bound::is_spared` meets its contract.
 use mathlib.Core.Path.{sym, ◌∙◌}
-use borrow.Author.Rules.{rules}
 use Rattle.agent.proofs.Sparse.{waits_run, dense_run, by_bounded}
 use Rattle.agent.proofs.bound.is_spared.Goals as goal
 

@@ -1,6 +1,5 @@
 -- `agent::bound::is_sparse` meets its contract.
 use mathlib.Core.Path.{sym, ◌∙◌}
-use borrow.Author.Rules.{rules}
 use Rattle.agent.proofs.Sparse.{none_sparse, least_short, least_over}
 use Rattle.agent.proofs.bound.is_sparse.Goals as goal
 

@@ -1,7 +1,6 @@
 -- `agent::bound::is_unbound` meets its contract.
 use Prim.Native.Nat.{ℕ}
 use mathlib.Core.Path.{ap, ◌∙◌}
-use borrow.Author.Rules.{rules}
 use lib.Dec.{ltb}
 use Rattle.agent.proofs.Acknacks.{waits_unbound, brings_unbound}
 use Rattle.agent.proofs.bound.is_unbound.Goals as goal

@@ -1,10 +1,5 @@
 -- `agent::bound::least_total` meets its contract: the least so far and the least from here on are the least of all.
-use Prim.Native.Nat.{◌-◌, ◌≤◌}
-use mathlib.Core.Path.{◌≡◌}
 use native.Mathlib.Omega.{arith}
-use borrow.Author.Rules.{rules}
-use lib.ListN.{length}
-use Rattle.agent.specs.Host.{lesser, least_at}
 use Rattle.agent.proofs.Sparse.{least_all, least_again, least_done, lesser_few}
 use Rattle.agent.proofs.bound.least_total.Goals as goal
 

@@ -1,6 +1,5 @@
 -- `agent::bound::received_at` meets its contract: past the end every number is 0.
 use mathlib.Core.List.{[]}
-use borrow.Author.Rules.{rules}
 use lib.ListN.{get_or-eq_default}
 use Rattle.agent.proofs.bound.received_at.Goals as goal
 

@@ -1,6 +1,5 @@
 -- `agent::bound::total_at` meets its contract.
 use native.Mathlib.Omega.{arith}
-use borrow.Author.Rules.{rules}
 use Rattle.agent.proofs.Sparse.{total_other, total_cut, total_there}
 use Rattle.agent.proofs.bound.total_at.Goals as goal
 

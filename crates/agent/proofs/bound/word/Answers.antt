@@ -1,7 +1,6 @@
 -- `agent::bound::word` meets its contract: each byte read is below 256.
 use Prim.Native.Nat.{◌+◌}
 use native.Mathlib.Omega.{arith}
-use borrow.Author.Rules.{rules}
 use mathlib.Core.Path.{refl}
 use Rattle.codec.specs.Bytes.{word_at}
 use Rattle.agent.proofs.bound.word.Goals as goal

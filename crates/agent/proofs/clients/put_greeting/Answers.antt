@@ -1,5 +1,4 @@
 -- `agent::clients::put_greeting` meets its contract.
-use borrow.Author.Rules.{rules}
 use Rattle.agent.proofs.clients.put_greeting.Goals as goal
 
 pub returns-in-Opened : goal.returns-in-Opened

@@ -1,7 +1,6 @@
 -- `agent::fragments::gather` meets its contract.
 use mathlib.Core.Path.{◌∙◌, ap}
 use Rattle.agent.specs.Run.{whole_len}
-use borrow.Author.Rules.{rules}
 use Rattle.agent.proofs.fragments.gather.Goals as goal
 
 pub returns : goal.returns

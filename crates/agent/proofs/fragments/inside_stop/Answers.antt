@@ -1,5 +1,4 @@
 -- `agent::fragments::inside_stop` meets its contract.
-use borrow.Author.Rules.{rules}
 use Rattle.agent.proofs.fragments.inside_stop.Goals as goal
 
 pub returns-in-Call : goal.returns-in-Call

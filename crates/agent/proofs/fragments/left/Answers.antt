@@ -1,5 +1,4 @@
 -- `agent::fragments::left` meets its contract.
-use borrow.Author.Rules.{rules}
 use Rattle.agent.proofs.fragments.left.Goals as goal
 
 pub returns : goal.returns

@@ -1,5 +1,4 @@
 -- `agent::judge::answer_slot` meets its contract.
-use borrow.Author.Rules.{rules}
 use Rattle.agent.proofs.judge.answer_slot.Goals as goal
 
 pub returns-in-Sample : goal.returns-in-Sample

@@ -1,5 +1,4 @@
 -- `agent::judge::answers` meets its contract.
-use borrow.Author.Rules.{rules}
 use Rattle.agent.proofs.judge.answers.Goals as goal
 
 pub returns-then-fits : goal.returns-then-fits

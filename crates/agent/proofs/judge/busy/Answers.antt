@@ -1,5 +1,4 @@
 -- `agent::judge::busy` meets its contract.
-use borrow.Author.Rules.{rules}
 use Rattle.agent.proofs.judge.busy.Goals as goal
 
 pub returns-in-Datagram : goal.returns-in-Datagram

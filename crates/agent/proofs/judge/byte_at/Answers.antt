@@ -1,5 +1,4 @@
 -- `agent::judge::byte_at` meets its contract.
-use borrow.Author.Rules.{rules}
 use lib.ListN.{get_or-eq_default}
 use mathlib.Core.Path.{sym}
 use Rattle.agent.proofs.judge.byte_at.Goals as goal

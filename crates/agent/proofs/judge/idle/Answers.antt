@@ -1,5 +1,4 @@
 -- `agent::judge::idle` meets its contract.
-use borrow.Author.Rules.{rules}
 use Rattle.agent.proofs.judge.idle.Goals as goal
 
 pub returns-in-Datagram : goal.returns-in-Datagram

@@ -1,5 +1,4 @@
 -- `agent::judge::judge_datagram` meets its contract.
-use borrow.Author.Rules.{rules}
 use borrow.Author.Tests.{lt-ltb, le-ltb}
 use Rattle.agent.proofs.judge.judge_datagram.Goals as goal
 

@@ -1,5 +1,4 @@
 -- `agent::judge::judge_minute` meets its contract.
-use borrow.Author.Rules.{rules}
 use Rattle.agent.proofs.judge.judge_minute.Goals as goal
 
 pub returns-in-Message : goal.returns-in-Message

@@ -1,5 +1,4 @@
 -- `agent::judge::judge_rest` meets its contract.
-use borrow.Author.Rules.{rules}
 use Rattle.agent.proofs.judge.judge_rest.Goals as goal
 
 pub returns-then-too_long : goal.returns-then-too_long

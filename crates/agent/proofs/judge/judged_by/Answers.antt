@@ -1,5 +1,4 @@
 -- `agent::judge::judged_by` meets its contract.
-use borrow.Author.Rules.{rules}
 use Rattle.agent.proofs.judge.judged_by.Goals as goal
 
 pub returns-in-Datagram : goal.returns-in-Datagram

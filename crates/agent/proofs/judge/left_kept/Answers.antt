@@ -1,5 +1,4 @@
 -- `agent::judge::left_kept` meets its contract.
-use borrow.Author.Rules.{rules}
 use borrow.Author.Tests.{lt-ltb, le-ltb}
 use Rattle.agent.proofs.judge.left_kept.Goals as goal
 

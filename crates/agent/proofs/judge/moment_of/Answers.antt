@@ -1,5 +1,4 @@
 -- `agent::judge::moment_of` meets its contract.
-use borrow.Author.Rules.{rules}
 use Rattle.agent.proofs.judge.moment_of.Goals as goal
 
 pub returns : goal.returns

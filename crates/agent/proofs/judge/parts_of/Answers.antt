@@ -1,5 +1,4 @@
 -- `agent::judge::parts_of` meets its contract.
-use borrow.Author.Rules.{rules}
 use Rattle.agent.proofs.judge.parts_of.Goals as goal
 
 pub returns-in-Goes : goal.returns-in-Goes

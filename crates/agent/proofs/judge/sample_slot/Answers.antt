@@ -1,5 +1,4 @@
 -- `agent::judge::sample_slot` meets its contract.
-use borrow.Author.Rules.{rules}
 use borrow.Author.Tests.{eq-eqb, ne_eqb, lt-ltb, le-ltb}
 use Rattle.agent.proofs.judge.sample_slot.Goals as goal
 

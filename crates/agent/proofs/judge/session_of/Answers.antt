@@ -1,5 +1,4 @@
 -- `agent::judge::session_of` meets its contract.
-use borrow.Author.Rules.{rules}
 use Rattle.agent.proofs.judge.session_of.Goals as goal
 
 pub returns-in-Datagram : goal.returns-in-Datagram

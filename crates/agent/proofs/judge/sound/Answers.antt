@@ -1,5 +1,4 @@
 -- `agent::judge::sound` meets its contract.
-use borrow.Author.Rules.{rules}
 use Rattle.agent.proofs.judge.sound.Goals as goal
 
 pub returns-in-Within : goal.returns-in-Within

@@ -1,5 +1,4 @@
 -- `agent::judge::stream_of` meets its contract.
-use borrow.Author.Rules.{rules}
 use Rattle.agent.proofs.judge.stream_of.Goals as goal
 
 pub returns-in-Datagram : goal.returns-in-Datagram

@@ -1,5 +1,4 @@
 -- `agent::judge::whose_turn` meets its contract.
-use borrow.Author.Rules.{rules}
 use Rattle.agent.proofs.judge.whose_turn.Goals as goal
 
 pub returns-in-Call : goal.returns-in-Call

@@ -1,5 +1,4 @@
 -- `agent::leg::goes_on` meets its contract.
-use borrow.Author.Rules.{rules}
 use Rattle.agent.proofs.leg.goes_on.Goals as goal
 
 pub returns : goal.returns

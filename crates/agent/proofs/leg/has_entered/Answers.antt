@@ -1,5 +1,4 @@
 -- `agent::leg::has_entered` meets its contract.
-use borrow.Author.Rules.{rules}
 use Rattle.agent.proofs.leg.has_entered.Goals as goal
 
 pub returns-then-is_entering : goal.returns-then-is_entering

@@ -1,5 +1,4 @@
 -- `agent::leg::leads_on` meets its contract.
-use borrow.Author.Rules.{rules}
 use Rattle.agent.proofs.leg.leads_on.Goals as goal
 
 pub returns-then-has_entered : goal.returns-then-has_entered

@@ -1,5 +1,4 @@
 -- `agent::repeats::answer` meets its contract.
-use borrow.Author.Rules.{rules}
 use mathlib.Core.Path.{◌∙◌}
 use Rattle.agent.proofs.Written.{status_answered, acknack_answered, unanswered}
 use Rattle.agent.proofs.repeats.answer.Goals as goal

@@ -1,5 +1,4 @@
 -- `agent::repeats::repeat` meets its contract.
-use borrow.Author.Rules.{rules}
 use mathlib.Core.Path.{ap, ◌∙◌}
 use mathlib.Core.List.{List}
 use Rattle.streams.specs.Acknowledged.{repeats}

@@ -1,5 +1,4 @@
 -- `agent::replies::count` meets its contract.
-use borrow.Author.Rules.{rules}
 use borrow.Author.Tests.{lt-ltb, le-ltb}
 use Rattle.agent.proofs.replies.count.Goals as goal
 

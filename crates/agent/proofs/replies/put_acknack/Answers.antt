@@ -1,6 +1,5 @@
 -- `agent::replies::put_acknack` meets its contract.
 use Rattle.agent.proofs.MoveBytes.{acknack_line}
-use borrow.Author.Rules.{rules}
 use Rattle.agent.proofs.replies.put_acknack.Goals as goal
 
 pub returns : goal.returns

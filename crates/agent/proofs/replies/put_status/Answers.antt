@@ -1,6 +1,5 @@
 -- `agent::replies::put_status` meets its contract.
 use Rattle.agent.proofs.MoveBytes.{status_line}
-use borrow.Author.Rules.{rules}
 use Rattle.agent.proofs.replies.put_status.Goals as goal
 
 pub returns : goal.returns

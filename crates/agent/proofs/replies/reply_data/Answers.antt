@@ -1,5 +1,4 @@
 -- `agent::replies::reply_data` meets its contract.
-use borrow.Author.Rules.{rules}
 use mathlib.Core.Path.{sym, ◌∙◌}
 use Rattle.agent.proofs.MoveBytes.{write_put, data_short, data_long}
 use Rattle.agent.proofs.replies.reply_data.Goals as goal

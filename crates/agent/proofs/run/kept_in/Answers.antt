@@ -1,5 +1,4 @@
 -- `agent::run::kept_in` meets its contract.
-use borrow.Author.Rules.{rules}
 use Rattle.agent.proofs.run.kept_in.Goals as goal
 
 pub returns-in-Nothing : goal.returns-in-Nothing

@@ -1,5 +1,4 @@
 -- `agent::turn::greet` meets its contract.
-use borrow.Author.Rules.{rules}
 use Rattle.agent.proofs.MoveBytes.{greeted_so}
 use Rattle.agent.proofs.turn.greet.Goals as goal
 

@@ -1,5 +1,4 @@
 -- `agent::turn::settle` meets its contract.
-use borrow.Author.Rules.{rules}
 use Rattle.agent.proofs.turn.settle.Goals as goal
 
 pub returns : goal.returns

@@ -1,5 +1,4 @@
 -- `agent::turn::stop_of` meets its contract.
-use borrow.Author.Rules.{rules}
 use Rattle.agent.proofs.turn.stop_of.Goals as goal
 
 pub returns-in-Calls : goal.returns-in-Calls

@@ -1,5 +1,4 @@
 -- `agent::turn::take_apart` meets its contract.
-use borrow.Author.Rules.{rules}
 use Rattle.agent.proofs.turn.take_apart.Goals as goal
 
 pub returns-in-Sub : goal.returns-in-Sub
