@@ -2,12 +2,14 @@
 """Brings this repository's own definitions and lemmas to snake case.
 
 usage: tools/port/names.py [--nested [OLDER]] [--check]     at the top: once right after tools/port/spelling, and then with --nested,
-                                                            which takes the names that stand deeper in sections and where-blocks
+                                                            which takes the names that stand deeper in sections and where-blocks;
+                                                            OLDER is a folder crates/ from which it takes the names in place of this one's
 
 A name that a file of specs/ or proofs/ declares, a field or a constructor among them, gets `_` for each of its dashes and before each
 of its capitals, as `work_in` for `workIn` and `byte_small` for `byte-small`. Types keep their spelling, and so do functions of src/,
-the names that the check makes (the goals that a Proof.antt answers) and the library's. Of two names of one crate that fall together
-the lemma gets `_lem`. It prints each pair of names that it tells apart so.
+the names that the check makes (the goals that a Proof.antt answers) and, with --nested, what some file brings in from a library. (Without,
+the library's `not-true` and `not-false` get `_` too, since sessions has lemmas of these names: three imports to mend by hand.) Of two names
+that fall together, in whichever crates, the lemma gets `_lem`. It prints each pair of names that it tells apart so.
 """
 
 import os

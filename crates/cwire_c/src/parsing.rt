@@ -1,5 +1,5 @@
 // The exports of cwire's `parsing`: each is that function, with its clauses.
-ghost use Rattle.std.specs.Prelude.{◌≡◌, ◌≤◌};
+ghost use Rattle.std.specs.Prelude.{◌≡◌};
 ghost use Rattle.codec.specs.Header.{header_read};
 ghost use Rattle.cwire.specs.Answer.{packed};
 ghost use Rattle.cwire.specs.Rows.{header_number, parse_of, parse_rows};

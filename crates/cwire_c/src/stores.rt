@@ -1,5 +1,5 @@
 // The exports of cwire's `stores`: each is that function, with its clauses.
-ghost use Rattle.std.specs.Prelude.{◌≡◌, ◌≤◌};
+ghost use Rattle.std.specs.Prelude.{◌≡◌};
 ghost use Rattle.codec.specs.Answers.{written_answer};
 ghost use Rattle.cwire.specs.Answer.{packed};
 ghost use Rattle.cwire.specs.Stores.{store_in, new_by, new_answer, new_store, new_entries};

@@ -1,15 +1,32 @@
 // Document 01's small program: the first 4,096 bytes of standard input as one datagram, and the lines that say what it says.
 #![tactic(auto)]
 
+ghost use Rattle.std.specs.Prelude.{◌≤◌, length, IfOk};
+
 use codec::bytes::Written;
 use std::io;
 use std::io::Read;
 
+// Fills `place` with what is read, and says how much of it: less than the whole at the end of the input alone.
+fn read_full(input: &mut impl Read, place: &mut [u8]) -> io::Result<usize>
+    ensures { IfOk result (λ n. n ≤ length place.old) }
+{
+    let mut n = 0;
+    for _ in 0..place.len() {
+        let more = input.read(&mut place[n..])?;
+        if more == 0 {
+            return Ok(n);
+        }
+        n += more;
+    }
+    Ok(n)
+}
+
 fn main(rt: HostRuntime) -> io::Result<()> {
-    let mut datagram = Vec::new(rt.alloc());
-    rt.reader().take(4096).read_to_end(&mut datagram)?;
+    let mut datagram = [0u8; 4096];
+    let n = read_full(&mut rt.reader(), &mut datagram)?;
     let mut out = [0u8; 65536];
-    match listing::lines(&datagram, &mut out) {
+    match listing::lines(&datagram[..n], &mut out) {
         Written::Bytes(k) => rt.write_all(&out[..k]),
         Written::Refused(_) => rt.write_all(b"refused 13\n"),
     }

@@ -15,7 +15,7 @@ use codec::reassembly::ReassemblyBuffer;
 use sessions::stream_rows::StreamRow;
 use sessions::table::SessionRow;
 use std::io;
-use std::io::{BufWriter, Read, Write};
+use std::io::{Read, Write};
 use streams::state::StreamState;
 use table::Limits;
 use words::{between, parse};
@@ -114,10 +114,9 @@ fn main(rt: HostRuntime) -> io::Result<()> {
     let mut lengths = [0u32; 65536];
     let mut sessions = [[0u64; 8]; 256];
     let mut streams = [[0u16; 35]; 2048];
-    let mut to = BufWriter::new(rt.alloc(), io::writer(&rt))?;
     run(
         &mut rt.reader(),
-        &mut to,
+        &mut io::writer(&rt),
         &mut input,
         &mut line,
         &mut messages,
@@ -125,6 +124,5 @@ fn main(rt: HostRuntime) -> io::Result<()> {
         &mut lengths,
         &mut sessions,
         &mut streams,
-    )?;
-    to.flush()
+    )
 }

@@ -3,7 +3,7 @@
 use crate::serve::own;
 use std::alloc::Global;
 use std::io;
-use std::io::{BufWriter, Read, Write};
+use std::io::{Read, Write};
 
 // What is read of the input, a line of it, the datagram of an open call, the output, the tables, the rebuilt bytes, the week's
 // minutes, the windows of a `setup` and the objects as words for `dump`. A line holds a datagram of seven longest payloads, and the output all that it can be answered with, 11 bytes for
@@ -45,20 +45,17 @@ fn lend(
     )
 }
 
-// What is printed is written out in large pieces, and the last of it here.
 pub fn serve(rt: &(impl Input + Print + AllocGlobal)) -> io::Result<()> {
     let alloc = rt.alloc();
     let mut held = vec![in alloc; 0u8; 29245440]?;
     let mut parts = vec![in alloc; 0u8; 8355840]?;
     let mut lengths = vec![in alloc; 0u32; 16320]?;
-    let mut to = BufWriter::new(alloc, io::writer(rt))?;
     lend(
         alloc,
         &mut rt.reader(),
-        &mut to,
+        &mut io::writer(rt),
         &mut held,
         &mut parts,
         &mut lengths,
-    )?;
-    to.flush()
+    )
 }
