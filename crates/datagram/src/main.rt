@@ -1,18 +1,21 @@
 // Document 01's small program: the first 4,096 bytes of standard input as one datagram, and the lines that say what it says.
 #![tactic(auto)]
 
-ghost use Rattle.std.specs.Prelude.{◌≤◌, length, IfOk};
+ghost use Rattle.std.specs.Prelude.{◌<◌, ◌≤◌, length, take, IfOk};
+ghost use Rattle.std.specs.Io.KnownBytes.{Consumes, IsAtEnd};
 
 use codec::bytes::Written;
 use std::io;
 use std::io::Read;
 
 // Fills `place` with what is read, and says how much of it: less than the whole at the end of the input alone.
-fn read_full(input: &mut impl Read, place: &mut [u8]) -> io::Result<usize>
-    ensures { IfOk result (λ n. n ≤ length place.old) }
+fn read_full<R: Read>(input: &mut R, place: &mut [u8]) -> io::Result<usize>
+    ensures within { IfOk result (λ n. n ≤ length place.new) }
+    ensures bytes { IfOk result (λ n. Consumes (R.remaining input.old) (R.remaining input.new) (take n place.new)) }
+    ensures end { IfOk result (λ n. n < length place.new → IsAtEnd (R.remaining input.new)) }
 {
     let mut n = 0;
-    for _ in 0..place.len() {
+    for i in 0..place.len() {
         let more = input.read(&mut place[n..])?;
         if more == 0 {
             return Ok(n);

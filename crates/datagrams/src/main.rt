@@ -2,7 +2,8 @@
 // tools/datagrams.py makes the input and, by its own reading of the layouts, what is to be printed.
 #![tactic(auto)]
 
-ghost use Rattle.std.specs.Prelude.{◌≡◌, ◌<◌, length};
+ghost use Rattle.std.specs.Prelude.{◌<◌, IfOk, IsTrue};
+ghost use Rattle.std.specs.Io.KnownBytes.{Consumes};
 
 use codec::bytes::Written;
 use std::io;
@@ -40,7 +41,9 @@ fn show(rt: &impl Print, datagram: &[u8], n: usize, out: &mut [u8]) -> io::Resul
 }
 
 // Fills `place` with what is read; false where the input ends before.
-fn read_full(input: &mut impl Read, place: &mut [u8]) -> io::Result<bool> {
+fn read_full<R: Read>(input: &mut R, place: &mut [u8]) -> io::Result<bool>
+    ensures { IfOk result (λ whole. IsTrue whole → Consumes (R.remaining input.old) (R.remaining input.new) place.new) }
+{
     match input.read_exact(place) {
         Ok(()) => Ok(true),
         Err(e) => if e.kind() == ErrorKind::UnexpectedEof {
