@@ -5,7 +5,7 @@ use mathlib.Core.Logic.{◌≢◌}
 use mathlib.Core.Bool.{Bool, true, false, cond, not}
 use mathlib.Core.List.{List}
 use native.Mathlib.Omega.{arith}
-use borrow.Author.Tests.{eqb-true, eqb-false, leb-true, leb-false, ltb-true, ltb-false, eq-eqb}
+use borrow.Author.Tests.{eqb-true, eqb-false, leb-true, leb-false, ltb-true, ltb-false, eq-eqb, not-true, not-false}
 use lib.Dec.{eqb, leb, ltb}
 use lib.ListN.{length, get_or, set, replicate, length-replicate, get_or-replicate, length-set}
 use lib.Seq.{get_or-set_same, get_or-set_other}
@@ -14,14 +14,6 @@ use Rattle.streams.proofs.places.Laws.{found_from, before_from}
 use Rattle.sessions.specs.Table.{session_at, is_free}
 use Rattle.sessions.specs.declared.table.ClientSession.{ClientSession}
 use Rattle.sessions.specs.Opening.{live_from, live_of, has_slot, taken_from, slot_taken, free_slot, marked_at, marked_from, unmarked}
-
-pub not_true : (b : Bool) → not b ≡ true → b ≡ false
-not_true true e = let z : ◌≡◌ {A = ℕ} 0 1 = cc in absurd (omega arith)
-not_true false e = refl
-
-pub not_false : (b : Bool) → not b ≡ false → b ≡ true
-not_false true e = refl
-not_false false e = let z : ◌≡◌ {A = ℕ} 0 1 = cc in absurd (omega arith)
 
 module _ (rows : List (List ℕ)) where
   abbrev slot : ℕ → ℕ
@@ -92,7 +84,7 @@ module _ (rows : List (List ℕ)) where
 
   taken_below : (k : ℕ) → k < free_slot rows → slot_taken rows k ≡ true
   unfolding free_slot
-  taken_below k h = not_false (slot_taken rows k) (before_from (λ k. not (slot_taken rows k)) 255 0 k (omega arith) h)
+  taken_below k h = not-false (slot_taken rows k) (before_from (λ k. not (slot_taken rows k)) 255 0 k (omega arith) h)
 
   -- with fewer than max live, the lowest free slot is below max, and it is free
   module _ (max : ℕ) (max≤ : max ≤ 255) (live : live_of rows < max) where
@@ -112,7 +104,7 @@ module _ (rows : List (List ℕ)) where
 
     pub slot_free : slot_taken rows (free_slot rows) ≡ false
     unfolding free_slot
-    slot_free = let h = slot_under in not_true (slot_taken rows (free_slot rows)) (found_from (λ k. not (slot_taken rows k)) 255 0 (omega (arith, h)))
+    slot_free = let h = slot_under in not-true (slot_taken rows (free_slot rows)) (found_from (λ k. not (slot_taken rows k)) 255 0 (omega (arith, h)))
 
   -- ---- as the code finds it: the slots of live sessions are marked
 
